@@ -1,0 +1,4 @@
+pub mod Point
+pub mod PointOf
+pub mod PointOrder
+pub mod PointOrderLaws

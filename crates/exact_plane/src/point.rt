@@ -1,0 +1,163 @@
+ghost use Rattle.std.specs.Prelude.{◌≡◌, ◌≢◌, ◌↔◌, ◌<◌, pos, ◌*ℤ◌, unsigned_abs, IsTrue, IsErrOf, IfOk, refl};
+ghost use Rattle.std.specs.Cmp.{po};
+ghost use Rattle.std.specs.Ordering.{as_partial_cmp};
+ghost use Rattle.exact_plane.specs.declared.bounds.TheConstants.{NUMERATOR_LIMIT, PRODUCT_LIMIT};
+ghost use Rattle.integers.specs.Lowest.{IsLowest};
+ghost use Rattle.integers.specs.Ratio.{ratio_cmp};
+ghost use Rattle.exact_plane.specs.Point.{in_range, reduced, IsInRange, IsRatio};
+ghost use Rattle.exact_plane.specs.PointOf.{point_of};
+ghost use Rattle.exact_plane.specs.PointOrder.{point_cmp};
+ghost use Rattle.exact_plane.specs.PointOrderLaws.{point_cmp_total, point_cmp_ties};
+
+use crate::bounds::{MAX_COORDINATE, WEIGHT_LIMIT};
+use integers::{greatest_common_divisor, quotient};
+use std::cmp::Ordering;
+use std::marker::Model;
+
+/// Why three numbers are no point.
+#[derive(Clone, Copy, Debug, PartialEq, Eq)]
+pub enum PointError {
+    /// The weight is 0.
+    ZeroWeight,
+    /// The weight or a coordinate is out of its range.
+    Range,
+}
+
+/// The point (x/w, y/w), in lowest terms: no number but 1 divides all three.
+///
+/// Points are ordered by x, then by y, and equal points have equal numbers.
+#[derive(Clone, Copy, Debug, PartialEq, Eq, Hash)]
+pub struct Point {
+    x: i128,
+    y: i128,
+    w: i128,
+}
+
+impl Model for Point {
+    ghost use Rattle.exact_plane.specs.Point.{Point as Coordinates, IsPoint};
+
+    ghost Value = { Coordinates };
+
+    ghost view = { λ p. record { x = p.x; y = p.y; w = p.w } };
+
+    ghost invariant = { λ p. IsPoint (record { x = p.x; y = p.y; w = p.w }) };
+
+    ghost inverse = { λ p. record { x = p.x; y = p.y; w = p.w } };
+}
+
+fn is_in_range(x: i128, y: i128, w: i128) -> bool
+    ensures { result ≡ in_range x y w }
+{
+    0 < w
+        && w.unsigned_abs() < WEIGHT_LIMIT
+        && x.unsigned_abs() <= MAX_COORDINATE * w.unsigned_abs()
+        && y.unsigned_abs() <= MAX_COORDINATE * w.unsigned_abs()
+}
+
+// The same place in lowest terms.
+fn lowest(x: i128, y: i128, w: i128) -> Point
+    requires { IsTrue (in_range x y w) }
+    ensures { result ≡ reduced x y w }
+{
+    let of_both = greatest_common_divisor(x.unsigned_abs(), y.unsigned_abs());
+    let divisor = greatest_common_divisor(of_both, w.unsigned_abs());
+    Point {
+        x: quotient(x, divisor),
+        y: quotient(y, divisor),
+        w: quotient(w, divisor),
+    }
+}
+
+impl Point {
+    /// The point (x/w, y/w).
+    ///
+    /// The weight w is at least 1 and below `WEIGHT_LIMIT`, and x and y are at most `MAX_COORDINATE` times w in
+    /// size. The three numbers need not be in lowest terms.
+    pub fn new(x: i128, y: i128, w: i128) -> Result<Point, PointError>
+        ensures value { result ≡ point_of x y w }
+
+        ensures zero_weight { IsErrOf result PointError.ZeroWeight ↔ (w ≡ pos 0) }
+        ensures range { IsErrOf result PointError.Range ↔ ((w ≢ pos 0) × ¬ IsInRange x y w) }
+
+        ensures same_place { IfOk result (λ p. (p.x *ℤ w ≡ x *ℤ p.w) × (p.y *ℤ w ≡ y *ℤ p.w)) }
+        ensures in_range { IfOk result (λ p. IsInRange p.x p.y p.w) }
+        ensures lowest { IfOk result (λ p. IsLowest p.x p.y p.w) }
+    {
+        if w == 0 {
+            return Err(PointError::ZeroWeight);
+        }
+        if !is_in_range(x, y, w) {
+            return Err(PointError::Range);
+        }
+        Ok(lowest(x, y, w))
+    }
+
+    /// The abscissa times the weight.
+    pub fn x(&self) -> i128
+        ensures { result ≡ self.now.x }
+    {
+        self.x
+    }
+
+    /// The ordinate times the weight.
+    pub fn y(&self) -> i128
+        ensures { result ≡ self.now.y }
+    {
+        self.y
+    }
+
+    /// The weight, which is at least 1.
+    pub fn w(&self) -> i128
+        ensures { result ≡ self.now.w }
+    {
+        self.w
+    }
+}
+
+// A number of a point times a weight.
+fn product(number: i128, weight: i128) -> i128
+    requires number { unsigned_abs number < NUMERATOR_LIMIT }
+    requires weight { unsigned_abs weight < WEIGHT_LIMIT }
+    ensures value { result ≡ number *ℤ weight }
+    ensures small { unsigned_abs result < PRODUCT_LIMIT }
+{
+    number * weight
+}
+
+// The order of a/v and b/w.
+fn compare_ratios(a: i128, v: i128, b: i128, w: i128) -> Ordering
+    requires first { IsRatio a v }
+    requires second { IsRatio b w }
+    ensures { result ≡ ratio_cmp a v b w }
+{
+    let left = product(a, w);
+    let right = product(b, v);
+    left.cmp(&right)
+}
+
+impl Ord for Point {
+    ghost cmp = { point_cmp };
+
+    ghost total = { point_cmp_total };
+
+    ghost matches_partial_cmp = { λ _ _. refl };
+
+    ghost matches_eq = { point_cmp_ties };
+
+    // In lowest terms two points at one place have one weight, by which the order of all triples goes last.
+    fn cmp(&self, other: &Point) -> Ordering {
+        let by_x = compare_ratios(self.x, self.w, other.x, other.w);
+        let by_y = compare_ratios(self.y, self.w, other.y, other.w);
+        by_x.then(by_y)
+    }
+}
+
+impl PartialOrd for Point {
+    ghost partial_cmp = { as_partial_cmp point_cmp };
+
+    ghost laws = { po point_cmp_total point_cmp_ties };
+
+    fn partial_cmp(&self, other: &Point) -> Option<Ordering> {
+        Some(self.cmp(other))
+    }
+}

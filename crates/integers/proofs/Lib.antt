@@ -1,0 +1,11 @@
+pub mod Bezout
+pub mod Classes
+pub mod Compare
+pub mod Gcd
+pub mod Laws
+pub mod Machine
+pub mod Reduce
+pub mod Reify
+pub mod Signs
+pub mod Sizes
+pub mod Solver

@@ -1,0 +1,62 @@
+//! The one error for want of memory, which every crate shares.
+#![tactic(auto)]
+
+ghost use Rattle.std.specs.Prelude.{Some, codes};
+
+use std::alloc::{AllocError, AllocFailed};
+use std::error::Error;
+use std::fmt;
+
+/// There was no memory.
+#[derive(Clone, Copy, Debug, PartialEq, Eq)]
+pub struct NoMemory;
+
+impl fmt::Display for NoMemory {
+    ghost output = { λ _. Some (codes "no memory") };
+
+    fn fmt<W: fmt::Write>(&self, f: &mut fmt::Formatter<W>) -> fmt::Result {
+        write!(f, "no memory")
+    }
+}
+
+impl Error for NoMemory {}
+
+impl From<AllocError> for NoMemory {
+    fn from(_error: AllocError) -> NoMemory {
+        NoMemory
+    }
+}
+
+impl<T: Drop> From<AllocFailed<T>> for NoMemory {
+    fn from(_error: AllocFailed<T>) -> NoMemory {
+        NoMemory
+    }
+}
+
+#[cfg(test)]
+mod tests {
+    use super::*;
+    use std::test::Fail;
+
+    fn push_two(bytes: &mut Vec<u8>) -> Result<(), NoMemory> {
+        bytes.push(1)?;
+        bytes.extend_from_slice(&[2])?;
+        Ok(())
+    }
+
+    #[test]
+    fn both_errors_of_the_allocator_become_it(rt: HostRuntime) -> Result<(), Fail> {
+        let mut bytes = Vec::new(rt.alloc());
+        assert_eq!(rt; push_two(&mut bytes), Ok(()));
+        assert_eq!(rt; NoMemory::from(AllocError), NoMemory);
+        assert_eq!(rt;
+            format!(in rt.alloc(); "{}", NoMemory)?.as_str(),
+            "no memory"
+        );
+        assert_eq!(rt;
+            format!(in rt.alloc(); "{NoMemory:?}")?.as_str(),
+            "NoMemory"
+        );
+        Ok(())
+    }
+}

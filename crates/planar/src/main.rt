@@ -1,0 +1,40 @@
+//! The program `planar`: a script on standard input, its replies on standard output.
+#![tactic(auto)]
+
+use no_memory::NoMemory;
+use outside::{StdSink, StdSource};
+use planar_run::{Status, planar};
+use std::env;
+use std::io::ErrorKind;
+use std::process::ExitCode;
+
+// The words of the command line. Where one of them isn't text there are none at all, which is outside every grammar.
+fn words(rt: &HostRuntime) -> Result<Vec<String>, NoMemory> {
+    let mut words = Vec::new(rt.alloc());
+    match env::args(rt) {
+        Ok(args) => {
+            for word in args {
+                words.push(word)?;
+            }
+        }
+        Err(error) => {
+            if error.kind() == ErrorKind::OutOfMemory {
+                return Err(NoMemory);
+            }
+        }
+    }
+    Ok(words)
+}
+
+fn run(rt: &HostRuntime) -> Status {
+    let mut source = StdSource::new(rt.stdin());
+    let mut sink = StdSink::new(rt.stdout());
+    match words(rt) {
+        Ok(words) => planar(rt.alloc(), &words, &mut source, &mut sink),
+        Err(_) => Status::NoMemory,
+    }
+}
+
+fn main(rt: HostRuntime) -> ExitCode {
+    ExitCode::from(run(&rt).exit_code())
+}

@@ -1,0 +1,180 @@
+-- What was used and what was written, where the source and the sink tell their bytes.
+use Rattle.std.proofs.Common.{◌≡◌, ℕ, ◌+◌, ◌≤◌, List, [], ◌∷◌, ◌++◌, length, take, Option, Some, None, refl, sym, ap, subst, ◌∙◌, append_assoc, arith, inl, inr}
+use Rattle.std.specs.Prelude.{◌⊎◌, ◌≢◌, IfSome}
+use Rattle.std.proofs.lemmas.List.{length-append, take-append-le, take_all}
+use Rattle.std.proofs.lemmas.Bool.{cases_eq}
+use Rattle.outside.specs.Bytes.{Loses, Gains, IsSpent}
+use Rattle.planar_run.specs.declared.run.TheConstants.{SCRIPT_LIMIT}
+use Rattle.planar_run.specs.declared.status.Status.{Status}
+use Rattle.planar_run.specs.declared.status.Status.TheVariants.{Done, Usage, ReadFault, WriteFault, NoMemory, TooLong}
+use Rattle.planar_run.specs.Lines.{lines, ended_lines}
+use Rattle.planar_run.specs.World.{World, first_world}
+use Rattle.planar_run.specs.Run.{IsRun, BeginsRun}
+use Rattle.planar_run.specs.Engine.{Answers, AnswersPart, Takes}
+use Rattle.planar_run.specs.Clauses.{Used, UsedAndWritten, ReadToEnd, Ends, Finishes}
+use Rattle.planar_run.proofs.Script.{Stands, read, Stands-first, Stands-end, Stands-byte, Stands-ended, Stands-done, Stands-last, Stands-part, lines-last, lines-next}
+
+-- ---- what is told
+
+lost : (rest bytes : List ℕ) (next : Option (List ℕ)) → Loses (Some rest) next bytes → (more : List ℕ) × (rest ≡ bytes ++ more) × (next ≡ Some more)
+lost rest bytes None l = absurd l
+lost rest bytes (Some more) l = (more, l, refl)
+
+gained : (had text : List ℕ) (next : Option (List ℕ)) → Gains (Some had) next text → next ≡ Some (had ++ text)
+gained had text None g = absurd g
+gained had text (Some now) g = ap Some g
+
+-- ---- the bytes that were used
+
+pub Used-map : (P Q : List ℕ → Type 0) (left left' : Option (List ℕ)) → ((used : List ℕ) → P used → Q used) → Used left left' P → Used left left' Q
+Used-map P Q None left' f u = tt
+Used-map P Q (Some script) left' f u = (u.0, u.1, u.2, u.3, f u.0 u.4)
+
+pub Used-none : (left : Option (List ℕ)) → Used left left (λ used. length used ≡ 0)
+Used-none None = tt
+Used-none (Some script) = ([], script, refl, refl, refl)
+
+pub Used-more : (left now next : Option (List ℕ)) (bytes : List ℕ) (count : ℕ) → Used left now (λ used. length used ≡ count) → Loses now next bytes → Used left next (λ used. length used ≡ count + length bytes)
+Used-more None now next bytes count u l = tt
+Used-more (Some script) now next bytes count u l =
+    let m = lost u.1 bytes next (subst (λ (o : Option (List ℕ)). Loses o next bytes) u.3 l) in
+    (u.0 ++ bytes, m.0, u.2 ∙ ap (λ (xs : List ℕ). u.0 ++ xs) m.1 ∙ sym (append_assoc u.0 bytes m.0), m.2, length-append u.0 bytes ∙ ap (λ (n : ℕ). n + length bytes) u.4)
+
+-- ---- the replies to them
+
+-- where both are told, the script stands so
+abbrev pub HasSaid : Option (List ℕ) → Option (List ℕ) → Option (List ℕ) → Option (List ℕ) → ℕ → World → List ℕ → Type 0
+HasSaid left left' taken taken' count world line =
+    IfSome left (λ script. IfSome taken (λ before.
+    (rest : List ℕ) × (had : List ℕ) × (left' ≡ Some rest) × (taken' ≡ Some had) × Stands count script rest before had world line))
+
+pub HasSaid-first : (left taken : Option (List ℕ)) (world : World) (line : List ℕ) → world ≡ first_world → line ≡ [] → HasSaid left left taken taken 0 world line
+HasSaid-first None taken world line e f = tt
+HasSaid-first (Some script) None world line e f = tt
+HasSaid-first (Some script) (Some before) world line e f = (script, before, refl, refl, Stands-first script before world line e f)
+
+took : (script more before had : List ℕ) (next had' : Option (List ℕ)) (b count : ℕ) (world world' : World) (line line' : List ℕ) → (b ≡ 10) ⊎ (b ≡ 10 → ⊥) → next ≡ Some more → Stands count script (b ∷ more) before had world line → Takes b (Some had) had' world line world' line'
+    → (rest : List ℕ) × (now : List ℕ) × (next ≡ Some rest) × (had' ≡ Some now) × Stands (count + 1) script rest before now world' line'
+took script more before had next had' b count world world' line line' (inl e) n s t =
+    let a = t.0 e in
+    let stood : Stands count script (10 ∷ more) before had world line = subst (λ (x : ℕ). Stands count script (x ∷ more) before had world line) e s in
+    (more, had ++ a.0.0, n, gained had a.0.0 had' a.0.2, Stands-end count script more before had (had ++ a.0.0) world world' line a.0.0 line' stood a.0.1 refl a.1)
+took script more before had next had' b count world world' line line' (inr ne) n s t =
+    let a = t.1 ne in
+    (more, had, n, a.2, subst (λ (w : World). Stands (count + 1) script more before had w line') (sym a.0) (Stands-byte count script more before had b world line line' s ne a.1))
+
+pub HasSaid-took : (left now next taken had had' : Option (List ℕ)) (b count : ℕ) (world world' : World) (line line' : List ℕ) → HasSaid left now taken had count world line → Loses now next (b ∷ []) → Takes b had had' world line world' line' → HasSaid left next taken had' (count + 1) world' line'
+HasSaid-took None now next taken had had' b count world world' line line' h l t = tt
+HasSaid-took (Some script) now next None had had' b count world world' line line' h l t = tt
+HasSaid-took (Some script) now next (Some before) had had' b count world world' line line' h l t =
+    let m = lost h.0 (b ∷ []) next (subst (λ (o : Option (List ℕ)). Loses o next (b ∷ [])) h.2 l) in
+    took script m.0 before h.1 next had' b count world world' line line' (cases_eq b 10) m.2
+    (subst (λ (xs : List ℕ). Stands count script xs before h.1 world line) m.1 h.4)
+    (subst (λ (o : Option (List ℕ)). Takes b o had' world line world' line') h.3 t)
+
+-- ---- ends
+
+written : (before had out text : List ℕ) (had' : Option (List ℕ)) → had' ≡ Some (had ++ text) → had ≡ before ++ out → had' ≡ Some (before ++ (out ++ text))
+written before had out text had' e f = e ∙ ap Some (ap (λ (xs : List ℕ). xs ++ text) f ∙ append_assoc before out text)
+
+pub said-ended : (left now taken had : Option (List ℕ)) (count : ℕ) (world : World) (line : List ℕ) → HasSaid left now taken had count world line → UsedAndWritten left now taken had (λ used out. IsRun (ended_lines used) out)
+said-ended None now taken had count world line h = tt
+said-ended (Some script) now None had count world line h = tt
+said-ended (Some script) now (Some before) had count world line h =
+    let s = h.4 in (read s, h.0, s.out, s.split, h.2, h.3 ∙ ap Some s.told, Stands-ended s)
+
+front : (n : ℕ) (xs ys : List ℕ) → length xs ≡ n → take n (xs ++ ys) ≡ xs
+front n xs ys e = take-append-le n xs ys (omega arith) ∙ take_all n xs (omega arith)
+
+pub said-to_limit : (left now next taken had : Option (List ℕ)) (b count limit : ℕ) (world : World) (line : List ℕ) → HasSaid left now taken had count world line → count ≡ limit → Loses now next (b ∷ []) → UsedAndWritten left next taken had (λ used out. IsRun (ended_lines (take limit used)) out)
+said-to_limit None now next taken had b count limit world line h e l = tt
+said-to_limit (Some script) now next None had b count limit world line h e l = tt
+said-to_limit (Some script) now next (Some before) had b count limit world line h e l =
+    let s = h.4 in
+    let m = lost h.0 (b ∷ []) next (subst (λ (o : Option (List ℕ)). Loses o next (b ∷ [])) h.2 l) in (
+      read s ++ b ∷ [],
+      m.0,
+      s.out,
+      s.split ∙ ap (λ (xs : List ℕ). read s ++ xs) m.1 ∙ sym (append_assoc (read s) (b ∷ []) m.0),
+      m.2,
+      h.3 ∙ ap Some s.told,
+      subst (λ (xs : List ℕ). IsRun (ended_lines xs) s.out) (sym (front limit (read s) (b ∷ []) (s.size ∙ e))) (Stands-ended s),
+    )
+
+-- a part of the reply to a line that was just ended was written
+pub said-part : (left now next taken had had' : Option (List ℕ)) (b count : ℕ) (world : World) (line : List ℕ) → HasSaid left now taken had count world line → Loses now next (b ∷ []) → b ≡ 10 → AnswersPart had had' world line → UsedAndWritten left next taken had' (λ used out. BeginsRun (lines used) out)
+said-part None now next taken had had' b count world line h l e a = tt
+said-part (Some script) now next None had had' b count world line h l e a = tt
+said-part (Some script) now next (Some before) had had' b count world line h l e a =
+    let s = h.4 in
+    let m = lost h.0 (b ∷ []) next (subst (λ (o : Option (List ℕ)). Loses o next (b ∷ [])) h.2 l) in
+    let g : had' ≡ Some (h.1 ++ a.3.0) = gained h.1 a.3.0 had' (subst (λ (o : Option (List ℕ)). Gains o had' a.3.0) h.3 a.3.3) in (
+      read s ++ b ∷ [],
+      m.0,
+      s.out ++ a.3.0,
+      s.split ∙ ap (λ (xs : List ℕ). read s ++ xs) m.1 ∙ sym (append_assoc (read s) (b ∷ []) m.0),
+      m.2,
+      written before h.1 s.out a.3.0 had' g s.told,
+      Stands-part s (lines (read s ++ b ∷ [])) [] a.0 a.3.0 a.3.1 a.1 (ap (λ (x : ℕ). lines (read s ++ x ∷ [])) e ∙ lines-next s []) a.2 a.3.2,
+    )
+
+-- the script was read to its end
+finished : (script before had : List ℕ) (had' : Option (List ℕ)) (count : ℕ) (world : World) (line : List ℕ) (s : Stands count script [] before had world line)
+    → ((line ≡ []) × (had' ≡ Some had)) ⊎ ((line ≢ []) × ((after : World) × Answers (Some had) had' world line after))
+    → (out : List ℕ) × (had' ≡ Some (before ++ out)) × IsRun (lines (read s)) out
+finished script before had had' count world line s (inl e) = (s.out, e.1 ∙ ap Some s.told, Stands-done s e.0)
+finished script before had had' count world line s (inr e) =
+    let a = e.1.1 in
+    (s.out ++ a.0, written before had s.out a.0 had' (gained had a.0 had' a.2) s.told, Stands-last s a.0 e.1.0 e.0 a.1)
+
+said-finished : (left now taken had had' : Option (List ℕ)) (count : ℕ) (world : World) (line : List ℕ) → HasSaid left now taken had count world line → IsSpent now → Finishes Done had had' world line → UsedAndWritten left now taken had' (λ used out. IsRun (lines used) out)
+said-finished None now taken had had' count world line h z f = tt
+said-finished (Some script) now None had had' count world line h z f = tt
+said-finished (Some script) now (Some before) had had' count world line h z f =
+    let none : h.0 ≡ [] = subst IsSpent h.2 z in
+    let s : Stands count script [] before h.1 world line = subst (λ (xs : List ℕ). Stands count script xs before h.1 world line) none h.4 in
+    let r = finished script before h.1 had' count world line s (subst (λ (o : Option (List ℕ)). Finishes Done o had' world line) h.3 f) in
+    (read s, [], r.0, s.split, h.2 ∙ ap Some none, r.1, r.2)
+
+said-broken : (left now taken had had' : Option (List ℕ)) (count : ℕ) (world : World) (line : List ℕ) → HasSaid left now taken had count world line → Finishes WriteFault had had' world line → UsedAndWritten left now taken had' (λ used out. BeginsRun (lines used) out)
+said-broken None now taken had had' count world line h f = tt
+said-broken (Some script) now None had had' count world line h f = tt
+said-broken (Some script) now (Some before) had had' count world line h f =
+    let s = h.4 in
+    let a = f.1 in
+    let g : had' ≡ Some (h.1 ++ a.3.0) = gained h.1 a.3.0 had' (subst (λ (o : Option (List ℕ)). Gains o had' a.3.0) h.3 a.3.3) in (
+      read s,
+      h.0,
+      s.out ++ a.3.0,
+      s.split,
+      h.2,
+      written before h.1 s.out a.3.0 had' g s.told,
+      Stands-part s (lines (read s)) [] a.0 a.3.0 a.3.1 a.1 (lines-last s f.0) a.2 a.3.2,
+    )
+
+to_end : (left now : Option (List ℕ)) (P : List ℕ → Type 0) → Used left now P → IsSpent now → ReadToEnd left now
+to_end None now P u z = tt
+to_end (Some script) now P u z = u.3 ∙ ap Some (subst IsSpent u.3 z)
+
+-- the source has no more bytes, and the line that was begun was answered
+pub Ends-finished : (status : Status) (left now taken had had' : Option (List ℕ)) (count : ℕ) (world : World) (line : List ℕ) → Used left now (λ used. length used ≡ count) → count ≤ SCRIPT_LIMIT → HasSaid left now taken had count world line → IsSpent now → Finishes status had had' world line → Ends status left now taken had'
+Ends-finished Done left now taken had had' count world line u le h z f =
+    (to_end left now (λ used. length used ≡ count) u z, Used-map (λ used. length used ≡ count) (λ used. length used ≤ SCRIPT_LIMIT) left now (λ used e. omega arith) u, said-finished left now taken had had' count world line h z f)
+Ends-finished WriteFault left now taken had had' count world line u le h z f =
+    (Used-map (λ used. length used ≡ count) (λ used. length used ≤ SCRIPT_LIMIT) left now (λ used e. omega arith) u, said-broken left now taken had had' count world line h f)
+Ends-finished Usage left now taken had had' count world line u le h z f = absurd f
+Ends-finished ReadFault left now taken had had' count world line u le h z f = absurd f
+Ends-finished NoMemory left now taken had had' count world line u le h z f = absurd f
+Ends-finished TooLong left now taken had had' count world line u le h z f = absurd f
+
+pub Ends-read_fault : (left now taken had : Option (List ℕ)) (count : ℕ) (world : World) (line : List ℕ) → Used left now (λ used. length used ≡ count) → count ≤ SCRIPT_LIMIT → HasSaid left now taken had count world line → Ends ReadFault left now taken had
+Ends-read_fault left now taken had count world line u le h =
+    (Used-map (λ used. length used ≡ count) (λ used. length used ≤ SCRIPT_LIMIT) left now (λ used e. omega arith) u, said-ended left now taken had count world line h)
+
+pub Ends-write_fault : (left now next taken had had' : Option (List ℕ)) (b count : ℕ) (world : World) (line : List ℕ) → Used left now (λ used. length used ≡ count) → count + 1 ≤ SCRIPT_LIMIT → HasSaid left now taken had count world line → Loses now next (b ∷ []) → b ≡ 10 → AnswersPart had had' world line → Ends WriteFault left next taken had'
+Ends-write_fault left now next taken had had' b count world line u le h l e a =
+    (Used-map (λ used. length used ≡ count + 1) (λ used. length used ≤ SCRIPT_LIMIT) left next (λ used e. omega arith) (Used-more left now next (b ∷ []) count u l), said-part left now next taken had had' b count world line h l e a)
+
+pub Ends-too_long : (left now next taken had : Option (List ℕ)) (b count : ℕ) (world : World) (line : List ℕ) → Used left now (λ used. length used ≡ count) → count ≡ SCRIPT_LIMIT → HasSaid left now taken had count world line → Loses now next (b ∷ []) → Ends TooLong left next taken had
+Ends-too_long left now next taken had b count world line u e h l =
+    (Used-map (λ used. length used ≡ count + 1) (λ used. length used ≡ SCRIPT_LIMIT + 1) left next (λ used f. omega arith) (Used-more left now next (b ∷ []) count u l), said-to_limit left now next taken had b count SCRIPT_LIMIT world line h e l)

@@ -1,0 +1,20 @@
+-- What bytes of a script do to a world, to the line that was begun, and to what a sink took.
+use Rattle.std.specs.Prelude.{◌≡◌, ◌≢◌, ℕ, List, [], ◌∷◌, ◌++◌, take, Option}
+use Rattle.outside.specs.Bytes.{Gains, GainsPrefix}
+use Rattle.planar_run.specs.declared.line.TheConstants.{KEPT}
+use Rattle.planar_run.specs.World.{World}
+use Rattle.planar_run.specs.Answer.{Replies}
+
+-- the sink took the whole reply to a line
+abbrev pub Answers : Option (List ℕ) → Option (List ℕ) → World → List ℕ → World → Type 0
+Answers old new world line after = (text : List ℕ) × Replies world line text after × Gains old new text
+
+-- the sink took a part of the reply to a line, from its front
+abbrev pub AnswersPart : Option (List ℕ) → Option (List ℕ) → World → List ℕ → Type 0
+AnswersPart old new world line = (text : List ℕ) × (after : World) × Replies world line text after × GainsPrefix old new text
+
+-- byte 10 ends the line, which is answered; another byte is kept as far as the limit needs
+abbrev pub Takes : ℕ → Option (List ℕ) → Option (List ℕ) → World → List ℕ → World → List ℕ → Type 0
+Takes b old new world line after line' =
+    (b ≡ 10 → Answers old new world line after × (line' ≡ []))
+    × (b ≢ 10 → (after ≡ world) × (line' ≡ take KEPT (line ++ b ∷ [])) × (new ≡ old))

@@ -1,0 +1,10 @@
+pub mod Lines
+pub mod Pins
+pub mod World
+pub mod Subdivision
+pub mod Text
+pub mod Answer
+pub mod Run
+pub mod Status
+pub mod Engine
+pub mod Clauses

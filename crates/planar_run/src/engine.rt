@@ -1,0 +1,74 @@
+ghost use Rattle.std.specs.Prelude.{◌≡◌, ◌≢◌, [], IfOk, OnOk, OnErr};
+ghost use Rattle.outside.specs.Counts.{HasCause};
+ghost use Rattle.planar_run.specs.World.{first_world};
+ghost use Rattle.planar_run.specs.Engine.{Answers, AnswersPart, Takes};
+ghost use Rattle.planar_run.specs.Clauses.{Causes, Finishes};
+
+use crate::answer::answer;
+use crate::line::Line;
+use crate::reply::Reply;
+use crate::status::Status;
+use crate::world::World;
+use no_memory::NoMemory;
+use outside::{Failed, Sink, write_all};
+use std::alloc::Global;
+
+/// The world, what has come of the line that was begun, and the room of its reply.
+#[derive(Drop)]
+pub struct Engine {
+    world: World,
+    line: Line,
+    reply: Reply,
+}
+
+impl Engine {
+    /// Before the first byte. This is the memory that every run needs.
+    pub fn new(alloc: Global) -> Result<Engine, NoMemory>
+        ensures { IfOk result (λ e. (e.world ≡ first_world) × (e.line ≡ [])) }
+    {
+        Ok(Engine {
+            world: World::new(alloc),
+            line: Line::new(alloc)?,
+            reply: Reply::new(alloc)?,
+        })
+    }
+
+    // Answers the line that was begun, and begins the next.
+    fn end_line<K: Sink>(&mut self, sink: &mut K) -> Result<(), Failed>
+        ensures answered { OnOk result (Answers (K.taken sink.old) (K.taken sink.new) self.old.world self.old.line self.new.world) }
+        ensures cleared { OnOk result (self.new.line ≡ []) }
+        ensures broken { OnErr result (AnswersPart (K.taken sink.old) (K.taken sink.new) self.old.world self.old.line) }
+        ensures cause { HasCause (K.faults sink.old) (K.faults sink.new) result }
+    {
+        answer(&mut self.world, self.line.as_slice(), &mut self.reply);
+        self.line.clear();
+        write_all(sink, self.reply.as_slice())
+    }
+
+    /// One byte more of the script.
+    pub fn take<K: Sink>(&mut self, byte: u8, sink: &mut K) -> Result<(), Failed>
+        ensures taken { OnOk result (Takes byte (K.taken sink.old) (K.taken sink.new) self.old.world self.old.line self.new.world self.new.line) }
+        ensures broken { OnErr result ((byte ≡ 10) × AnswersPart (K.taken sink.old) (K.taken sink.new) self.old.world self.old.line) }
+        ensures cause { HasCause (K.faults sink.old) (K.faults sink.new) result }
+    {
+        if byte == b'\n' {
+            return self.end_line(sink);
+        }
+        self.line.push(byte);
+        Ok(())
+    }
+
+    /// The end of the script.
+    pub fn finish<K: Sink>(&mut self, sink: &mut K) -> Status
+        ensures finishes { Finishes result (K.taken sink.old) (K.taken sink.new) self.old.world self.old.line }
+        ensures causes { Causes result 0 0 (K.faults sink.old) (K.faults sink.new) }
+    {
+        if self.line.is_empty() {
+            return Status::Done;
+        }
+        match self.end_line(sink) {
+            Ok(()) => Status::Done,
+            Err(_) => Status::WriteFault,
+        }
+    }
+}

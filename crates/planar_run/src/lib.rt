@@ -1,0 +1,20 @@
+//! The program `planar` without its edges: a script of bytes in, replies out.
+//!
+//! [`planar`] is the top call. It reads the script from a [`Source`](outside::Source), answers each line when its end
+//! was read, and hands each reply whole to a [`Sink`](outside::Sink).
+#![tactic(auto)]
+
+mod answer;
+mod engine;
+mod line;
+mod reply;
+mod run;
+mod status;
+mod text;
+mod world;
+
+pub use run::planar;
+pub use status::Status;
+
+#[cfg(test)]
+mod tests;

@@ -1,0 +1,96 @@
+ghost use Rattle.std.specs.Prelude.{◌≡◌, ◌≢◌, ◌⊎◌, ◌+◌, ◌≤◌, [], length, take, IfSome, OnOk};
+ghost use Rattle.outside.specs.Bytes.{Gains, GainsPrefix};
+ghost use Rattle.outside.specs.Counts.{Rose};
+ghost use Rattle.planar_run.specs.Lines.{lines, ended_lines};
+ghost use Rattle.planar_run.specs.Run.{IsRun, BeginsRun};
+ghost use Rattle.planar_run.specs.Clauses.{usage_line, Used, UsedAndWritten, ReadToEnd, Ends, Causes};
+
+use crate::engine::Engine;
+use crate::status::Status;
+use outside::{Sink, Source, read_byte, write_all};
+use std::alloc::Global;
+
+/// How many bytes a script may have.
+pub const SCRIPT_LIMIT: u64 = 1 << 26;
+
+// Reads the script and answers its lines.
+fn run<S: Source, K: Sink>(alloc: Global, source: &mut S, sink: &mut K) -> Status
+    ensures ends { Ends result (S.left source.old) (S.left source.new) (K.taken sink.old) (K.taken sink.new) }
+    ensures causes { Causes result (S.faults source.old) (S.faults source.new) (K.faults sink.old) (K.faults sink.new) }
+{
+    let mut engine = match Engine::new(alloc) {
+        Ok(engine) => engine,
+        Err(_) => return Status::NoMemory,
+    };
+    'bytes: for _ in 0..SCRIPT_LIMIT {
+        match read_byte(source) {
+            Err(_) => return Status::ReadFault,
+            Ok(None) => return engine.finish(sink),
+            Ok(Some(byte)) => match engine.take(byte, sink) {
+                Ok(()) => {}
+                Err(_) => return Status::WriteFault,
+            },
+        }
+    }
+    match read_byte(source) {
+        Err(_) => Status::ReadFault,
+        Ok(None) => engine.finish(sink),
+        Ok(Some(_)) => Status::TooLong,
+    }
+}
+
+// The usage line in place of a run.
+fn refuse_words<K: Sink>(sink: &mut K) -> Status
+    ensures usage { result ≡ Status.Usage → Gains (K.taken sink.old) (K.taken sink.new) usage_line }
+    ensures broken { result ≡ Status.WriteFault → GainsPrefix (K.taken sink.old) (K.taken sink.new) usage_line }
+    ensures only { (result ≡ Status.Usage) ⊎ (result ≡ Status.WriteFault) }
+    ensures causes { Causes result 0 0 (K.faults sink.old) (K.faults sink.new) }
+{
+    match write_all(sink, b"usage: planar\n") {
+        Ok(()) => Status::Usage,
+        Err(_) => Status::WriteFault,
+    }
+}
+
+/// Runs the script that the source gives, and hands the replies to the sink.
+///
+/// `words` are those of the command line, the program's name first; its name alone is the whole grammar. Each line is
+/// answered when its end was read. A line that was begun isn't answered after a failed read, and the first failed read
+/// or write ends the run. Lines and scripts of any length take bounded memory.
+pub fn planar<S: Source, K: Sink>(
+    alloc: Global,
+    words: &[String],
+    source: &mut S,
+    sink: &mut K,
+) -> Status
+    // What the sink took is a run of the lines of the script, whose end was reached.
+    ensures read_to_end { result ≡ Status.Done → ReadToEnd (S.left source.old) (S.left source.new) }
+    ensures answered { result ≡ Status.Done → UsedAndWritten (S.left source.old) (S.left source.new) (K.taken sink.old) (K.taken sink.new) (λ used out. IsRun (lines used) out) }
+
+    // After a fault, or past the limit, the lines whose end was read are answered.
+    ensures answered_to_read_fault { result ≡ Status.ReadFault → UsedAndWritten (S.left source.old) (S.left source.new) (K.taken sink.old) (K.taken sink.new) (λ used out. IsRun (ended_lines used) out) }
+    ensures answered_to_limit { result ≡ Status.TooLong → UsedAndWritten (S.left source.old) (S.left source.new) (K.taken sink.old) (K.taken sink.new) (λ used out. IsRun (ended_lines (take SCRIPT_LIMIT used)) out) }
+    ensures answered_to_write_fault { length words.now ≡ 1 → result ≡ Status.WriteFault → UsedAndWritten (S.left source.old) (S.left source.new) (K.taken sink.old) (K.taken sink.new) (λ used out. BeginsRun (lines used) out) }
+
+    // The program's name alone is the grammar of the words. Other words are answered by the usage line, and nothing is read.
+    ensures usage { result ≡ Status.Usage → (length words.now ≢ 1) × Gains (K.taken sink.old) (K.taken sink.new) usage_line }
+    ensures usage_broken { length words.now ≢ 1 → result ≡ Status.WriteFault → GainsPrefix (K.taken sink.old) (K.taken sink.new) usage_line }
+    ensures other_words { length words.now ≢ 1 → (result ≢ Status.Done) × (result ≢ Status.ReadFault) × (result ≢ Status.TooLong) × (S.left source.new ≡ S.left source.old) }
+
+    ensures no_memory { result ≡ Status.NoMemory → (S.left source.new ≡ S.left source.old) × (K.taken sink.new ≡ K.taken sink.old) }
+
+    // It is too long exactly where one byte past the limit was read.
+    ensures too_long { result ≡ Status.TooLong → Used (S.left source.old) (S.left source.new) (λ used. length used ≡ SCRIPT_LIMIT + 1) }
+    ensures not_too_long { result ≢ Status.TooLong → Used (S.left source.old) (S.left source.new) (λ used. length used ≤ SCRIPT_LIMIT) }
+
+    // A fault is answered only where its count rose, and nothing else is where one rose.
+    ensures read_fault { result ≡ Status.ReadFault → Rose (S.faults source.old) (S.faults source.new) }
+    ensures write_fault { result ≡ Status.WriteFault → Rose (K.faults sink.old) (K.faults sink.new) }
+    ensures no_read_fault { result ≢ Status.ReadFault → S.faults source.new ≡ S.faults source.old }
+    ensures no_write_fault { result ≢ Status.WriteFault → K.faults sink.new ≡ K.faults sink.old }
+{
+    if words.len() != 1 {
+        return refuse_words(sink);
+    }
+    run(alloc, source, sink)
+}

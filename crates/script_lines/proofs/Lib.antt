@@ -1,0 +1,4 @@
+pub mod FirstWord
+pub mod Digits
+pub mod Clamp
+pub mod LongLine

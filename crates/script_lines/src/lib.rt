@@ -1,0 +1,14 @@
+//! Lines of a script, read as commands.
+//!
+//! A script is a list of lines, and each line is one command with its numbers. [`read_line`] says
+//! which command a line is; what a command does isn't known here. No call takes memory.
+#![tactic(auto)]
+
+mod command;
+mod number;
+mod words;
+
+pub use command::{Command, LineError, MAX_LINE, read_line};
+
+#[cfg(test)]
+mod tests;
