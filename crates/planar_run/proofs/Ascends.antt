@@ -1,6 +1,6 @@
 -- Searching points that ascend.
 use Rattle.std.proofs.Common.{◌≡◌, ℕ, zero, suc, ◌<◌, ◌≤◌, Bool, true, false, cond, List, [], ◌∷◌, length, get_or, Result, Ok, Err, refl, sym, ap, ◌∙◌, arith}
-use Rattle.std.specs.Prelude.{◌||◌, MatchResult}
+use Rattle.std.specs.Prelude.{◌||◌, MatchResult, remove}
 use Rattle.std.specs.Ordering.{is_eq, is_lt, ordering_index, ordering_reverse}
 use Rattle.std.specs.declared.cmp.Ordering.{Ordering}
 use Rattle.std.specs.declared.cmp.Ordering.TheVariants.{Less, Equal, Greater}
@@ -10,7 +10,7 @@ use Rattle.std.specs.Cmp.{alike_right, tied_back}
 use Rattle.exact_plane.specs.Point.{Point}
 use Rattle.exact_plane.specs.PointOrder.{point_cmp}
 use Rattle.exact_plane.specs.PointOrderLaws.{point_cmp_total}
-use Rattle.planar_run.specs.Pins.{is_pinned, with_pin, place_in}
+use Rattle.planar_run.specs.Pins.{is_pinned, with_pin, without_pin, place_in}
 use Rattle.planar_run.specs.Pins.{IsAscending}
 
 below_by : (p q x : Point) (r : Ordering) → point_cmp q x ≡ r → point_cmp p q ≡ Less → ordering_index (point_cmp p x) ≤ ordering_index r
@@ -96,3 +96,39 @@ put x q qs Greater e n h ih = (all_more q x qs (turned x q Greater e) h.0, ih n)
 pub ascends : (x : Point) (ps : List Point) → IsAscending ps → is_pinned x ps ≡ false → IsAscending (with_pin x ps)
 ascends x [] h n = (tt, tt)
 ascends x (q ∷ qs) h n = put x q qs (point_cmp x q) refl n h (ascends x qs h.1)
+
+-- ---- one pin less
+
+all_without : (p x : Point) (qs : List Point) → AllByRecursion (λ q. point_cmp p q ≡ Less) qs → AllByRecursion (λ q. point_cmp p q ≡ Less) (without_pin x qs)
+all_without p x [] h = tt
+all_without p x (q ∷ qs) h = one (is_eq (point_cmp x q)) (all_without p x qs h.1)
+  where
+    one : (b : Bool) → AllByRecursion (λ q. point_cmp p q ≡ Less) (without_pin x qs) → AllByRecursion (λ q. point_cmp p q ≡ Less) (cond b qs (q ∷ without_pin x qs))
+    one true ih = h.1
+    one false ih = (h.0, ih)
+
+pub ascends_without : (x : Point) (ps : List Point) → IsAscending ps → IsAscending (without_pin x ps)
+ascends_without x [] h = tt
+ascends_without x (q ∷ qs) h = one (is_eq (point_cmp x q)) (ascends_without x qs h.1)
+  where
+    one : (b : Bool) → IsAscending (without_pin x qs) → IsAscending (cond b qs (q ∷ without_pin x qs))
+    one true ih = h.1
+    one false ih = (all_without q x qs h.0, ih)
+
+-- what a search found is what is taken away
+pub removed : (x : Point) (ps : List Point) (i : ℕ) → IsAscending ps → i < length ps → point_cmp (get_or ps i x) x ≡ Equal → remove ps i ≡ without_pin x ps
+removed x [] i h lt e = absurd (omega arith)
+removed x (p ∷ ps) zero h lt e = rw (tied_back point_cmp_total p x e) refl
+removed x (p ∷ ps) (suc i) h lt e =
+    let before : point_cmp p (get_or ps i x) ≡ Less = at_each (λ q. point_cmp p q ≡ Less) ps i x h.0 (omega arith) in
+    let less : point_cmp p x ≡ Less = sym (alike_right point_cmp_total (get_or ps i x) x p e) ∙ before in
+    rw (turned p x Less less, removed x ps i h.1 (omega arith) e) refl
+
+-- and where it found none nothing is
+pub unchanged : (x : Point) (ps : List Point) → is_pinned x ps ≡ false → without_pin x ps ≡ ps
+unchanged x [] n = refl
+unchanged x (p ∷ ps) n = one (is_eq (point_cmp x p)) n (unchanged x ps)
+  where
+    one : (b : Bool) → (b || is_pinned x ps) ≡ false → (is_pinned x ps ≡ false → without_pin x ps ≡ ps) → cond b ps (p ∷ without_pin x ps) ≡ p ∷ ps
+    one true n ih = absurd cc
+    one false n ih = ap (λ (qs : List Point). p ∷ qs) (ih n)

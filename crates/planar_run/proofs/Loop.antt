@@ -1,17 +1,18 @@
 -- What was used and what was written, where the source and the sink tell their bytes.
-use Rattle.std.proofs.Common.{◌≡◌, ℕ, ◌+◌, ◌≤◌, List, [], ◌∷◌, ◌++◌, length, take, Option, Some, None, refl, sym, ap, subst, ◌∙◌, append_assoc, arith, inl, inr}
-use Rattle.std.specs.Prelude.{◌⊎◌, ◌≢◌, IfSome}
+use Rattle.std.proofs.Common.{◌≡◌, ℕ, suc, ◌+◌, ◌≤◌, List, [], ◌∷◌, ◌++◌, length, take, Option, Some, None, refl, sym, ap, subst, ◌∙◌, append_assoc, arith, inl, inr}
+use Rattle.std.specs.Prelude.{◌⊎◌, ◌≢◌, IfSome, IsSomeAnd}
 use Rattle.std.proofs.lemmas.List.{length-append, take-append-le, take_all}
 use Rattle.std.proofs.lemmas.Bool.{cases_eq}
 use Rattle.outside.specs.Bytes.{Loses, Gains, IsSpent}
+use Rattle.outside.specs.Counts.{Rose}
 use Rattle.planar_run.specs.declared.run.TheConstants.{SCRIPT_LIMIT}
 use Rattle.planar_run.specs.declared.status.Status.{Status}
 use Rattle.planar_run.specs.declared.status.Status.TheVariants.{Done, Usage, ReadFault, WriteFault, NoMemory, TooLong}
 use Rattle.planar_run.specs.Lines.{lines, ended_lines}
 use Rattle.planar_run.specs.World.{World, first_world}
 use Rattle.planar_run.specs.Run.{IsRun, BeginsRun}
-use Rattle.planar_run.specs.Engine.{Answers, AnswersPart, Takes}
-use Rattle.planar_run.specs.Clauses.{Used, UsedAndWritten, ReadToEnd, Ends, Finishes}
+use Rattle.planar_run.specs.Engine.{Answers, AnswersPart, Takes, Feeds, FeedsPart}
+use Rattle.planar_run.specs.Clauses.{Used, UsedAndWritten, ReadToEnd, Ends, Causes, Finishes}
 use Rattle.planar_run.proofs.Script.{Stands, read, Stands-first, Stands-end, Stands-byte, Stands-ended, Stands-done, Stands-last, Stands-part, lines-last, lines-next}
 
 -- ---- what is told
@@ -72,6 +73,43 @@ HasSaid-took (Some script) now next (Some before) had had' b count world world' 
     (subst (λ (xs : List ℕ). Stands count script xs before h.1 world line) m.1 h.4)
     (subst (λ (o : Option (List ℕ)). Takes b o had' world line world' line') h.3 t)
 
+-- ---- several bytes
+
+pub Feeds-push : (bytes : List ℕ) (b : ℕ) (old mid new : Option (List ℕ)) (p q r : World) (k l m : List ℕ) → Feeds bytes old mid p k q l → Takes b mid new q l r m → Feeds (bytes ++ b ∷ []) old new p k r m
+Feeds-push [] b old mid new p q r k l m f t =
+    let a : Takes b old new q l r m = subst (λ (o : Option (List ℕ)). Takes b o new q l r m) f.0 t in
+    let a' : Takes b old new p l r m = subst (λ (w : World). Takes b old new w l r m) f.1 a in
+    (new, r, m, subst (λ (xs : List ℕ). Takes b old new p xs r m) f.2 a', (refl, refl, refl))
+Feeds-push (x ∷ bytes) b old mid new p q r k l m f t = (f.0, f.1, f.2, f.3, Feeds-push bytes b f.0 mid new f.1 q r f.2 l m f.4 t)
+
+pub Feeds-break : (bytes : List ℕ) (b : ℕ) (back : List ℕ) (old mid new : Option (List ℕ)) (p q : World) (k l : List ℕ) → Feeds bytes old mid p k q l → b ≡ 10 → AnswersPart mid new q l → FeedsPart (bytes ++ b ∷ back) old new p k
+Feeds-break [] b back old mid new p q k l f e a =
+    let a' : AnswersPart old new q l = subst (λ (o : Option (List ℕ)). AnswersPart o new q l) f.0 a in
+    let a'' : AnswersPart old new p l = subst (λ (w : World). AnswersPart old new w l) f.1 a' in
+    inl (e, subst (λ (xs : List ℕ). AnswersPart old new p xs) f.2 a'')
+Feeds-break (x ∷ bytes) b back old mid new p q k l f e a = inr (f.0, f.1, f.2, f.3, Feeds-break bytes b back f.0 mid new f.1 q f.2 l f.4 e a)
+
+one_more : (count n : ℕ) → count + 1 + n ≡ count + suc n
+one_more count n = omega arith
+
+fed : (left taken had had' : Option (List ℕ)) (more bytes : List ℕ) (count : ℕ) (world world' : World) (line line' : List ℕ) → HasSaid left (Some (bytes ++ more)) taken had count world line → Feeds bytes had had' world line world' line' → HasSaid left (Some more) taken had' (count + length bytes) world' line'
+fed left taken had had' more [] count world world' line line' h f =
+    let a : HasSaid left (Some more) taken had' count world line = subst (λ (o : Option (List ℕ)). HasSaid left (Some more) taken o count world line) (sym f.0) h in
+    let b : HasSaid left (Some more) taken had' count world' line = subst (λ (w : World). HasSaid left (Some more) taken had' count w line) (sym f.1) a in
+    subst (λ (n : ℕ). HasSaid left (Some more) taken had' n world' line') (omega arith) (subst (λ (xs : List ℕ). HasSaid left (Some more) taken had' count world' xs) (sym f.2) b)
+fed left taken had had' more (b ∷ bytes) count world world' line line' h f =
+    subst (λ (n : ℕ). HasSaid left (Some more) taken had' n world' line') (one_more count (length bytes))
+    (fed left taken f.0 had' more bytes (count + 1) f.1 world' f.2 line' (HasSaid-took left (Some (b ∷ (bytes ++ more))) (Some (bytes ++ more)) taken had f.0 b count world f.1 line f.2 h refl f.3) f.4)
+
+pub HasSaid-fed : (left now next taken had had' : Option (List ℕ)) (bytes : List ℕ) (count : ℕ) (world world' : World) (line line' : List ℕ) → HasSaid left now taken had count world line → Loses now next bytes → Feeds bytes had had' world line world' line' → HasSaid left next taken had' (count + length bytes) world' line'
+HasSaid-fed None now next taken had had' bytes count world world' line line' h l f = tt
+HasSaid-fed (Some script) now next None had had' bytes count world world' line line' h l f = tt
+HasSaid-fed (Some script) now next (Some before) had had' bytes count world world' line line' h l f =
+    let m = lost h.0 bytes next (subst (λ (o : Option (List ℕ)). Loses o next bytes) h.2 l) in
+    let h' : HasSaid (Some script) (Some (bytes ++ m.0)) (Some before) had count world line = (bytes ++ m.0, h.1, refl, h.3, subst (λ (xs : List ℕ). Stands count script xs before h.1 world line) m.1 h.4) in
+    subst (λ (o : Option (List ℕ)). HasSaid (Some script) o (Some before) had' (count + length bytes) world' line') (sym m.2)
+    (fed (Some script) (Some before) had had' m.0 bytes count world world' line line' h' f)
+
 -- ---- ends
 
 written : (before had out text : List ℕ) (had' : Option (List ℕ)) → had' ≡ Some (had ++ text) → had ≡ before ++ out → had' ≡ Some (before ++ (out ++ text))
@@ -101,22 +139,32 @@ said-to_limit (Some script) now next (Some before) had b count limit world line 
       subst (λ (xs : List ℕ). IsRun (ended_lines xs) s.out) (sym (front limit (read s) (b ∷ []) (s.size ∙ e))) (Stands-ended s),
     )
 
--- a part of the reply to a line that was just ended was written
-pub said-part : (left now next taken had had' : Option (List ℕ)) (b count : ℕ) (world : World) (line : List ℕ) → HasSaid left now taken had count world line → Loses now next (b ∷ []) → b ≡ 10 → AnswersPart had had' world line → UsedAndWritten left next taken had' (λ used out. BeginsRun (lines used) out)
-said-part None now next taken had had' b count world line h l e a = tt
-said-part (Some script) now next None had had' b count world line h l e a = tt
-said-part (Some script) now next (Some before) had had' b count world line h l e a =
+-- of the bytes that came last some were fed, and of the reply to the line that they ended a part was written
+part : (script before : List ℕ) (had had' : Option (List ℕ)) (more bytes : List ℕ) (count : ℕ) (world : World) (line : List ℕ) → HasSaid (Some script) (Some (bytes ++ more)) (Some before) had count world line → FeedsPart bytes had had' world line
+    → (used : List ℕ) × (out : List ℕ) × (script ≡ used ++ more) × (had' ≡ Some (before ++ out)) × BeginsRun (lines used) out
+part script before had had' more [] count world line h f = absurd f
+part script before had had' more (b ∷ bytes) count world line h (inl f) =
     let s = h.4 in
-    let m = lost h.0 (b ∷ []) next (subst (λ (o : Option (List ℕ)). Loses o next (b ∷ [])) h.2 l) in
+    let a = f.1 in
+    let same : h.0 ≡ b ∷ (bytes ++ more) = cc (h.2) in
     let g : had' ≡ Some (h.1 ++ a.3.0) = gained h.1 a.3.0 had' (subst (λ (o : Option (List ℕ)). Gains o had' a.3.0) h.3 a.3.3) in (
-      read s ++ b ∷ [],
-      m.0,
+      read s ++ b ∷ bytes,
       s.out ++ a.3.0,
-      s.split ∙ ap (λ (xs : List ℕ). read s ++ xs) m.1 ∙ sym (append_assoc (read s) (b ∷ []) m.0),
-      m.2,
+      s.split ∙ ap (λ (xs : List ℕ). read s ++ xs) same ∙ sym (append_assoc (read s) (b ∷ bytes) more),
       written before h.1 s.out a.3.0 had' g s.told,
-      Stands-part s (lines (read s ++ b ∷ [])) [] a.0 a.3.0 a.3.1 a.1 (ap (λ (x : ℕ). lines (read s ++ x ∷ [])) e ∙ lines-next s []) a.2 a.3.2,
+      Stands-part s (lines (read s ++ b ∷ bytes)) (lines bytes) a.0 a.3.0 a.3.1 a.1 (ap (λ (x : ℕ). lines (read s ++ x ∷ bytes)) f.0 ∙ lines-next s bytes) a.2 a.3.2,
     )
+part script before had had' more (b ∷ bytes) count world line h (inr f) =
+    part script before f.0 had' more bytes (count + 1) f.1 f.2 (HasSaid-took (Some script) (Some (b ∷ (bytes ++ more))) (Some (bytes ++ more)) (Some before) had f.0 b count world f.1 line f.2 h refl f.3) f.4
+
+pub said-part : (left now next taken had had' : Option (List ℕ)) (bytes : List ℕ) (count : ℕ) (world : World) (line : List ℕ) → HasSaid left now taken had count world line → Loses now next bytes → FeedsPart bytes had had' world line → UsedAndWritten left next taken had' (λ used out. BeginsRun (lines used) out)
+said-part None now next taken had had' bytes count world line h l f = tt
+said-part (Some script) now next None had had' bytes count world line h l f = tt
+said-part (Some script) now next (Some before) had had' bytes count world line h l f =
+    let m = lost h.0 bytes next (subst (λ (o : Option (List ℕ)). Loses o next bytes) h.2 l) in
+    let h' : HasSaid (Some script) (Some (bytes ++ m.0)) (Some before) had count world line = (bytes ++ m.0, h.1, refl, h.3, subst (λ (xs : List ℕ). Stands count script xs before h.1 world line) m.1 h.4) in
+    let r = part script before had had' m.0 bytes count world line h' f in
+    (r.0, m.0, r.1, r.2, m.2, r.3, r.4)
 
 -- the script was read to its end
 finished : (script before had : List ℕ) (had' : Option (List ℕ)) (count : ℕ) (world : World) (line : List ℕ) (s : Stands count script [] before had world line)
@@ -171,10 +219,28 @@ pub Ends-read_fault : (left now taken had : Option (List ℕ)) (count : ℕ) (wo
 Ends-read_fault left now taken had count world line u le h =
     (Used-map (λ used. length used ≡ count) (λ used. length used ≤ SCRIPT_LIMIT) left now (λ used e. omega arith) u, said-ended left now taken had count world line h)
 
-pub Ends-write_fault : (left now next taken had had' : Option (List ℕ)) (b count : ℕ) (world : World) (line : List ℕ) → Used left now (λ used. length used ≡ count) → count + 1 ≤ SCRIPT_LIMIT → HasSaid left now taken had count world line → Loses now next (b ∷ []) → b ≡ 10 → AnswersPart had had' world line → Ends WriteFault left next taken had'
-Ends-write_fault left now next taken had had' b count world line u le h l e a =
-    (Used-map (λ used. length used ≡ count + 1) (λ used. length used ≤ SCRIPT_LIMIT) left next (λ used e. omega arith) (Used-more left now next (b ∷ []) count u l), said-part left now next taken had had' b count world line h l e a)
+pub Ends-write_fault : (left now next taken had had' : Option (List ℕ)) (bytes : List ℕ) (count : ℕ) (world : World) (line : List ℕ) → Used left now (λ used. length used ≡ count) → count + length bytes ≤ SCRIPT_LIMIT → HasSaid left now taken had count world line → Loses now next bytes → FeedsPart bytes had had' world line → Ends WriteFault left next taken had'
+Ends-write_fault left now next taken had had' bytes count world line u le h l f =
+    (Used-map (λ used. length used ≡ count + length bytes) (λ used. length used ≤ SCRIPT_LIMIT) left next (λ used e. omega arith) (Used-more left now next bytes count u l), said-part left now next taken had had' bytes count world line h l f)
 
 pub Ends-too_long : (left now next taken had : Option (List ℕ)) (b count : ℕ) (world : World) (line : List ℕ) → Used left now (λ used. length used ≡ count) → count ≡ SCRIPT_LIMIT → HasSaid left now taken had count world line → Loses now next (b ∷ []) → Ends TooLong left next taken had
 Ends-too_long left now next taken had b count world line u e h l =
     (Used-map (λ used. length used ≡ count + 1) (λ used. length used ≡ SCRIPT_LIMIT + 1) left next (λ used f. omega arith) (Used-more left now next (b ∷ []) count u l), said-to_limit left now next taken had b count SCRIPT_LIMIT world line h e l)
+
+pub Loses-none : (old new : Option (List ℕ)) → Loses old new [] → new ≡ old
+Loses-none None new h = h
+Loses-none (Some xs) None h = absurd h
+Loses-none (Some xs) (Some ys) h = ap Some (sym h)
+
+-- a run that meets no fault within the limit is done, or found no memory
+pub completes : (status : Status) (left left' taken taken' : Option (List ℕ)) (source source' sink sink' : ℕ) → Ends status left left' taken taken' → Causes status source source' sink sink' → (Rose source source' → ⊥) → (Rose sink sink' → ⊥) → IsSomeAnd left (λ script. length script ≤ SCRIPT_LIMIT)
+    → (status ≡ Done) ⊎ (status ≡ NoMemory)
+completes Done left left' taken taken' source source' sink sink' e c f g s = inl refl
+completes NoMemory left left' taken taken' source source' sink sink' e c f g s = inr refl
+completes Usage left left' taken taken' source source' sink sink' e c f g s = absurd e
+completes ReadFault left left' taken taken' source source' sink sink' e c f g s = absurd (f c.0)
+completes WriteFault left left' taken taken' source source' sink sink' e c f g s = absurd (g c.1)
+completes TooLong None left' taken taken' source source' sink sink' e c f g s = absurd s
+completes TooLong (Some script) left' taken taken' source source' sink sink' e c f g s =
+    let u = e.0 in
+    absurd (omega (arith, ap length u.2, length-append u.0 u.1, u.4, s))

@@ -4,7 +4,7 @@ use Rattle.std.proofs.lemmas.Bool.{ne_eqb}
 use Rattle.std.proofs.lemmas.List.{append-nil, length-append}
 use Rattle.script_lines.specs.Command.{command_of}
 use Rattle.script_lines.specs.declared.command.Command.{Command}
-use Rattle.script_lines.specs.declared.command.LineError.{LineError}
+use Rattle.script_lines.specs.declared.error.LineError.{LineError}
 use Rattle.script_lines.proofs.LongLine.{cut_command}
 use Rattle.planar_run.specs.declared.line.TheConstants.{KEPT}
 use Rattle.planar_run.specs.Lines.{lines, ended_lines}

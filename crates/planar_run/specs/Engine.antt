@@ -1,5 +1,5 @@
 -- What bytes of a script do to a world, to the line that was begun, and to what a sink took.
-use Rattle.std.specs.Prelude.{◌≡◌, ◌≢◌, ℕ, List, [], ◌∷◌, ◌++◌, take, Option}
+use Rattle.std.specs.Prelude.{◌≡◌, ◌≢◌, ◌⊎◌, ℕ, List, [], ◌∷◌, ◌++◌, take, Option}
 use Rattle.outside.specs.Bytes.{Gains, GainsPrefix}
 use Rattle.planar_run.specs.declared.line.TheConstants.{KEPT}
 use Rattle.planar_run.specs.World.{World}
@@ -18,3 +18,16 @@ abbrev pub Takes : ℕ → Option (List ℕ) → Option (List ℕ) → World →
 Takes b old new world line after line' =
     (b ≡ 10 → Answers old new world line after × (line' ≡ []))
     × (b ≢ 10 → (after ≡ world) × (line' ≡ take KEPT (line ++ b ∷ [])) × (new ≡ old))
+
+-- several bytes, one after the other
+abbrev pub Feeds : List ℕ → Option (List ℕ) → Option (List ℕ) → World → List ℕ → World → List ℕ → Type 0
+Feeds [] old new world line after line' = (new ≡ old) × (after ≡ world) × (line' ≡ line)
+Feeds (b ∷ bytes) old new world line after line' =
+    (mid : Option (List ℕ)) × (w : World) × (l : List ℕ) × Takes b old mid world line w l × Feeds bytes mid new w l after line'
+
+-- several bytes up to a byte 10; of the reply to the line that it ends the sink took a part
+abbrev pub FeedsPart : List ℕ → Option (List ℕ) → Option (List ℕ) → World → List ℕ → Type 0
+FeedsPart [] old new world line = ⊥
+FeedsPart (b ∷ bytes) old new world line =
+    ((b ≡ 10) × AnswersPart old new world line)
+    ⊎ ((mid : Option (List ℕ)) × (w : World) × (l : List ℕ) × Takes b old mid world line w l × FeedsPart bytes mid new w l)

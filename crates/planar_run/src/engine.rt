@@ -1,7 +1,7 @@
 ghost use Rattle.std.specs.Prelude.{◌≡◌, ◌≢◌, [], IfOk, OnOk, OnErr};
 ghost use Rattle.outside.specs.Counts.{HasCause};
 ghost use Rattle.planar_run.specs.World.{first_world};
-ghost use Rattle.planar_run.specs.Engine.{Answers, AnswersPart, Takes};
+ghost use Rattle.planar_run.specs.Engine.{Answers, AnswersPart, Takes, Feeds, FeedsPart};
 ghost use Rattle.planar_run.specs.Clauses.{Causes, Finishes};
 
 use crate::answer::answer;
@@ -45,8 +45,8 @@ impl Engine {
         write_all(sink, self.reply.as_slice())
     }
 
-    /// One byte more of the script.
-    pub fn take<K: Sink>(&mut self, byte: u8, sink: &mut K) -> Result<(), Failed>
+    // One byte more of the script.
+    fn take<K: Sink>(&mut self, byte: u8, sink: &mut K) -> Result<(), Failed>
         ensures taken { OnOk result (Takes byte (K.taken sink.old) (K.taken sink.new) self.old.world self.old.line self.new.world self.new.line) }
         ensures broken { OnErr result ((byte ≡ 10) × AnswersPart (K.taken sink.old) (K.taken sink.new) self.old.world self.old.line) }
         ensures cause { HasCause (K.faults sink.old) (K.faults sink.new) result }
@@ -55,6 +55,18 @@ impl Engine {
             return self.end_line(sink);
         }
         self.line.push(byte);
+        Ok(())
+    }
+
+    /// More bytes of the script. Each line is answered when its end comes.
+    pub fn feed<K: Sink>(&mut self, bytes: &[u8], sink: &mut K) -> Result<(), Failed>
+        ensures fed { OnOk result (Feeds bytes.now (K.taken sink.old) (K.taken sink.new) self.old.world self.old.line self.new.world self.new.line) }
+        ensures broken { OnErr result (FeedsPart bytes.now (K.taken sink.old) (K.taken sink.new) self.old.world self.old.line) }
+        ensures cause { HasCause (K.faults sink.old) (K.faults sink.new) result }
+    {
+        for byte in bytes {
+            self.take(*byte, sink)?;
+        }
         Ok(())
     }
 

@@ -1,4 +1,4 @@
-ghost use Rattle.std.specs.Prelude.{◌≡◌, ◌≢◌, ◌⊎◌, ◌+◌, ◌≤◌, [], length, take, IfSome, OnOk};
+ghost use Rattle.std.specs.Prelude.{◌≡◌, ◌≢◌, ◌⊎◌, ◌+◌, ◌≤◌, [], length, take, IsSomeAnd};
 ghost use Rattle.outside.specs.Bytes.{Gains, GainsPrefix};
 ghost use Rattle.outside.specs.Counts.{Rose};
 ghost use Rattle.planar_run.specs.Lines.{lines, ended_lines};
@@ -11,25 +11,36 @@ use outside::{Sink, Source, read_byte, write_all};
 use std::alloc::Global;
 
 /// How many bytes a script may have.
-pub const SCRIPT_LIMIT: u64 = 1 << 26;
+pub const SCRIPT_LIMIT: usize = 1 << 26;
+
+// How many bytes a call of `read` asks for, as long as the limit leaves so many.
+const BUFFER: usize = 4096;
 
 // Reads the script and answers its lines.
 fn run<S: Source, K: Sink>(alloc: Global, source: &mut S, sink: &mut K) -> Status
     ensures ends { Ends result (S.left source.old) (S.left source.new) (K.taken sink.old) (K.taken sink.new) }
     ensures causes { Causes result (S.faults source.old) (S.faults source.new) (K.faults sink.old) (K.faults sink.new) }
+    ensures reads { S.calls source.new ≤ S.calls source.old + (SCRIPT_LIMIT + 1) }
 {
     let mut engine = match Engine::new(alloc) {
         Ok(engine) => engine,
         Err(_) => return Status::NoMemory,
     };
-    'bytes: for _ in 0..SCRIPT_LIMIT {
-        match read_byte(source) {
+    let mut buffer = [0u8; BUFFER];
+    let mut room = SCRIPT_LIMIT;
+    'reads: while room > 0 {
+        let (part, _) = buffer.split_at_mut(room.min(BUFFER));
+        let count = match source.read(part) {
+            Ok(count) => count,
             Err(_) => return Status::ReadFault,
-            Ok(None) => return engine.finish(sink),
-            Ok(Some(byte)) => match engine.take(byte, sink) {
-                Ok(()) => {}
-                Err(_) => return Status::WriteFault,
-            },
+        };
+        if count == 0 {
+            return engine.finish(sink);
+        }
+        let (bytes, _) = buffer.split_at(count);
+        match engine.feed(bytes, sink) {
+            Ok(()) => room -= count,
+            Err(_) => return Status::WriteFault,
         }
     }
     match read_byte(source) {
@@ -88,6 +99,12 @@ pub fn planar<S: Source, K: Sink>(
     ensures write_fault { result ≡ Status.WriteFault → Rose (K.faults sink.old) (K.faults sink.new) }
     ensures no_read_fault { result ≢ Status.ReadFault → S.faults source.new ≡ S.faults source.old }
     ensures no_write_fault { result ≢ Status.WriteFault → K.faults sink.new ≡ K.faults sink.old }
+
+    // A script within the limit, over a source and a sink whose faults don't rise, is run to its end.
+    ensures complete { length words.now ≡ 1 → ¬ Rose (S.faults source.old) (S.faults source.new) → ¬ Rose (K.faults sink.old) (K.faults sink.new) → IsSomeAnd (S.left source.old) (λ script. length script ≤ SCRIPT_LIMIT) → (result ≡ Status.Done) ⊎ (result ≡ Status.NoMemory) }
+
+    // No byte is asked for one at a time but the one past the limit.
+    ensures reads { S.calls source.new ≤ S.calls source.old + (SCRIPT_LIMIT + 1) }
 {
     if words.len() != 1 {
         return refuse_words(sink);

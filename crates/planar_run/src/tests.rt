@@ -34,16 +34,38 @@ fn scripts_are_answered(rt: HostRuntime) -> Result<(), Fail> {
         ("show\n", "arrangement 0 0 1\nf 0\nend\n"),
         ("pin 0 0 1\nlocate 0 0 2", "ok\nvertex 0 0 1\n"),
         (
-            "paint\n\n# note\npin 1 1 0\npin -0 0 1\npin 2 4 6\npin 1 2 3\nlocate 1 1 3\n",
-            "refused 1\nrefused 1\nrefused 1\nrefused 1\nrefused 1\nok\nrefused 13\nface 0\n",
+            "pin 3 0 2\npin -1 5 1\n\npin 4 -1 3\nshow\n# note\n",
+            "ok\nok\nok\narrangement 3 0 1\nv 1 -1 5 1 pin :\nv 2 4 -1 3 pin :\nv 3 3 0 2 pin :\nf 0\np 1\np 2\np 3\nend\n",
         ),
         (
-            "pin 3 0 2\npin -1 5 1\npin 4 -1 3\nshow\n",
-            "ok\nok\nok\narrangement 3 0 1\nv 1 -1 5 1 pin :\nv 2 4 -1 3 pin :\nv 3 3 0 2 pin :\nf 0\np 1\np 2\np 3\nend\n",
+            "pin 2 4 6\npin 1 2 3\nlocate 1 1 3\nunpin 2 4 6\nlocate 1 2 3\nunpin 1 2 3\nshow",
+            "ok\nrefused 13\nface 0\nok\nface 0\nrefused 10\narrangement 0 0 1\nf 0\nend\n",
         ),
     ];
     for (script, replies) in rows {
         let (status, taken) = run(rt.alloc(), script, 3, 0)?;
+        assert!(rt; status == Status::Done, "at {script}");
+        assert_eq!(rt; taken.as_slice(), replies.as_bytes(), "at {script}");
+    }
+    Ok(())
+}
+
+#[test]
+fn odd_lines_are_refused_by_their_number(rt: HostRuntime) -> Result<(), Fail> {
+    let rows: [(&str, &str); 10] = [
+        ("paint", "refused 1\n"),
+        ("segment 0 0 1", "refused 1\n"),
+        ("pin 0 0", "refused 2\n"),
+        ("pin -0 0 1", "refused 3\n"),
+        ("pin 1 1 0", "refused 4\n"),
+        ("pin 0 0 8796093022208", "refused 4\n"),
+        ("pin 1048576 0 1", "refused 4\n"),
+        ("# note", ""),
+        ("unpin 1 1 1", "refused 10\n"),
+        ("pin\t0 0 1", "refused 6\n"),
+    ];
+    for (script, replies) in rows {
+        let (status, taken) = run(rt.alloc(), script, 4096, 0)?;
         assert!(rt; status == Status::Done, "at {script}");
         assert_eq!(rt; taken.as_slice(), replies.as_bytes(), "at {script}");
     }
@@ -68,17 +90,13 @@ fn ten_thousand_pins_are_the_limit(rt: HostRuntime) -> Result<(), Fail> {
 #[test]
 fn a_read_that_fails_ends_the_run(rt: HostRuntime) -> Result<(), Fail> {
     let script = "pin 0 0 1\npin 1 0 1\nshow\n";
-    let shown = "arrangement 2 0 1\nv 1 0 0 1 pin :\nv 2 1 0 1 pin :\nf 0\np 1\np 2\nend\n";
-    // A call hands over one byte: the lines end at calls 10, 20 and 25.
-    for (fail, replies) in [(1, ""), (10, ""), (11, "ok\n"), (21, "ok\nok\n")] {
+    let shown = "ok\nok\narrangement 2 0 1\nv 1 0 0 1 pin :\nv 2 1 0 1 pin :\nf 0\np 1\np 2\nend\n";
+    // A call hands over ten bytes: a line, a line, and the last five bytes.
+    for (fail, replies) in [(1, ""), (2, "ok\n"), (3, "ok\nok\n"), (4, shown)] {
         let (status, taken) = run(rt.alloc(), script, 10, fail)?;
         assert!(rt; status == Status::ReadFault, "at call {fail}");
         assert_eq!(rt; taken.as_slice(), replies.as_bytes(), "at call {fail}");
     }
-    let (status, taken) = run(rt.alloc(), script, 10, 26)?;
-    assert!(rt; status == Status::ReadFault);
-    assert_eq!(rt; taken.len(), 6 + shown.len());
-    assert!(rt; taken.as_slice().ends_with(shown.as_bytes()));
     Ok(())
 }
 
@@ -107,22 +125,33 @@ fn other_words_are_answered_by_the_usage_line(rt: HostRuntime) -> Result<(), Fai
     Ok(())
 }
 
-// The status and the replies of so many letters in one line.
-fn run_letters(alloc: Global, count: u64) -> Result<(Status, Vec<u8>), Fail> {
-    let mut source = RepeatSource::new(b'a', count);
+// The status and the replies of one byte, again and again.
+fn run_repeated(alloc: Global, byte: u8, count: u64) -> Result<(Status, Vec<u8>), Fail> {
+    let mut source = RepeatSource::new(byte, count);
     let mut sink = MemorySink::new(alloc, 100, 100, Vec::new(alloc))?;
     let status = planar(alloc, &words(alloc, &[])?, &mut source, &mut sink);
     Ok((status, Vec::from_slice(alloc, sink.taken())?))
 }
 
 #[test]
-fn a_script_has_at_most_the_limit(rt: HostRuntime) -> Result<(), Fail> {
-    let (status, taken) = run_letters(rt.alloc(), 1 << 26)?;
-    assert!(rt; status == Status::Done);
-    assert_eq!(rt; taken.as_slice(), b"refused 1\n".as_slice());
-    let (status, taken) = run_letters(rt.alloc(), (1 << 26) + 1)?;
-    assert!(rt; status == Status::TooLong);
-    assert_eq!(rt; taken.len(), 0);
+fn limits_are_kept(rt: HostRuntime) -> Result<(), Fail> {
+    let rows: [(u8, u64, Status, &str); 6] = [
+        (b'a', 200, Status::Done, "refused 1\n"),
+        (b'a', 201, Status::Done, "refused 5\n"),
+        (200, 4, Status::Done, "refused 6\n"),
+        (b'a', 1 << 26, Status::Done, "refused 5\n"),
+        (b'\n', 1 << 26, Status::Done, ""),
+        (b'\n', (1 << 26) + 1, Status::TooLong, ""),
+    ];
+    for (byte, count, status, replies) in rows {
+        let (ended, taken) = run_repeated(rt.alloc(), byte, count)?;
+        assert!(rt; ended == status, "at {count} times {byte}");
+        assert_eq!(rt;
+            taken.as_slice(),
+            replies.as_bytes(),
+            "at {count} times {byte}"
+        );
+    }
     Ok(())
 }
 

@@ -1,5 +1,5 @@
-ghost use Rattle.std.specs.Prelude.{◌≡◌, ◌≤◌, false, [], length, OnOk, OnErr};
-ghost use Rattle.planar_run.specs.Pins.{is_pinned, with_pin, place_in, IsAscending};
+ghost use Rattle.std.specs.Prelude.{◌≡◌, ◌≤◌, false, [], length, OnOk, OnErr, MatchOption};
+ghost use Rattle.planar_run.specs.Pins.{is_pinned, with_pin, without_pin, place_in, IsAscending, IsFound};
 ghost use Rattle.planar_run.specs.World.{first_world};
 
 use exact_plane::Point;
@@ -45,6 +45,17 @@ fn place_of(pins: &[Point], point: &Point) -> usize
     }
 }
 
+// Where a point stands among the pins.
+fn found(pins: &[Point], point: &Point) -> Option<usize>
+    requires { IsAscending pins.now }
+    ensures { MatchOption result (is_pinned point.now pins.now ≡ false) (λ i. IsFound point.now pins.now i) }
+{
+    match pins.binary_search(point) {
+        Ok(place) => Some(place),
+        Err(_) => None,
+    }
+}
+
 impl World {
     /// The world before the first line.
     pub fn new(alloc: Global) -> World
@@ -78,5 +89,20 @@ impl World {
         let place = place_of(&self.pins, &point);
         self.pins.insert(place, point)?;
         Ok(())
+    }
+
+    /// Unpins a point, and says whether it was pinned.
+    pub fn unpin(&mut self, point: &Point) -> bool
+        ensures found { result ≡ is_pinned point.now self.old.pins }
+        ensures pins { self.new.pins ≡ without_pin point.now self.old.pins }
+        ensures same { is_pinned point.now self.old.pins ≡ false → self.new ≡ self.old }
+    {
+        match found(&self.pins, point) {
+            Some(place) => {
+                self.pins.remove(place);
+                true
+            }
+            None => false,
+        }
     }
 }

@@ -1,4 +1,12 @@
 pub mod FirstWord
+pub mod WordCount
 pub mod Digits
+pub mod Numbers
+pub mod FormNumbers
 pub mod Clamp
+pub mod FormMaps
 pub mod LongLine
+pub mod ListTests
+pub mod FormAnswers
+pub mod CommandTable
+pub mod LineAnswers

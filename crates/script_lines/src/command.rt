@@ -1,8 +1,13 @@
-ghost use Rattle.std.specs.Prelude.{◌≡◌, bytes_eq};
+ghost use Rattle.std.specs.Prelude.{◌≡◌, ◌<◌, ◌≤◌, ◌⊎◌, ◌↔◌, length, Any, IsErrOf};
+ghost use Rattle.std.specs.List.{list_all};
 ghost use Rattle.script_lines.specs.Words.{words};
-ghost use Rattle.script_lines.specs.Command.{command_of, command_spelt, point_spelt};
+ghost use Rattle.script_lines.specs.Form.{forms_reading};
+ghost use Rattle.script_lines.specs.Command.{command_of, row_of, words_reading, is_printable};
+ghost use Rattle.script_lines.specs.Refusals.{IsOtherByte, IsText, IsSilent, IsNoCommand, HasWrongWord, HasWrongCount, HasNoNumber, IsOutOfRange};
 
-use crate::number::number;
+use crate::error::LineError;
+use crate::form::{bare_command, point};
+use crate::name::Name;
 use crate::words::next_word;
 use exact_plane::Point;
 
@@ -12,74 +17,84 @@ pub const MAX_LINE: usize = 200;
 /// What a line asks for.
 #[derive(Clone, Copy, Debug, PartialEq, Eq)]
 pub enum Command {
-    /// `pin X Y W`: the point becomes a vertex, and stays one.
+    /// A comment, or a line without words: nothing is asked for, and nothing is replied.
+    Nothing,
+    /// `pin X Y W`: the point becomes a vertex, and stays one until it is unpinned.
     Pin(Point),
+    /// `unpin X Y W`: the point needn't be a vertex any more.
+    Unpin(Point),
     /// `locate X Y W`: which cell holds the point.
     Locate(Point),
     /// `show`: the text of the arrangement.
     Show,
 }
 
-/// Why a line is no command.
-#[derive(Clone, Copy, Debug, PartialEq, Eq)]
-pub enum LineError {
-    /// It isn't spelt as a command.
-    Word,
-}
-
-// The point of a line of three numbers, which needn't be in lowest terms.
-fn point(line: &[u8]) -> Option<Point>
-    ensures { result ≡ point_spelt (words line.now) }
+// The command of a name and the words behind it.
+fn read_named(name: Name, rest: &[u8]) -> Result<Command, LineError>
+    ensures { result ≡ forms_reading (row_of name).forms (words rest.now) }
 {
-    let (x, line) = next_word(line)?;
-    let (y, line) = next_word(line)?;
-    let (w, line) = next_word(line)?;
-    if next_word(line).is_some() {
-        return None;
+    match name {
+        Name::Pin => point(rest).map(Command::Pin),
+        Name::Unpin => point(rest).map(Command::Unpin),
+        Name::Locate => point(rest).map(Command::Locate),
+        Name::Show => bare_command(rest, Command::Show),
     }
-    let x = number(x)?;
-    let y = number(y)?;
-    let w = number(w)?;
-    Point::new(x, y, w).ok()
 }
 
-// Whether a word is this text.
-fn is_spelt(word: &[u8], text: &str) -> bool
-    ensures { result ≡ bytes_eq word.now text.now }
+// The command of a line that is text.
+fn read_words(line: &[u8]) -> Result<Command, LineError>
+    ensures { result ≡ words_reading (words line.now) }
 {
-    word == text.as_bytes()
-}
-
-// The command of a line, however long it is.
-fn spelt(line: &[u8]) -> Option<Command>
-    ensures { result ≡ command_spelt (words line.now) }
-{
-    let (name, rest) = next_word(line)?;
-    if is_spelt(name, "show") {
-        match next_word(rest) {
-            None => Some(Command::Show),
-            Some(_) => None,
+    match next_word(line) {
+        None | Some(([b'#', ..], _)) => Ok(Command::Nothing),
+        Some((word, rest)) => {
+            let name = Name::of(word).ok_or(LineError::Word)?;
+            read_named(name, rest)
         }
-    } else if is_spelt(name, "pin") {
-        Some(Command::Pin(point(rest)?))
-    } else if is_spelt(name, "locate") {
-        Some(Command::Locate(point(rest)?))
-    } else {
-        None
     }
+}
+
+// Whether every byte is one that prints.
+fn is_text(line: &[u8]) -> bool
+    ensures { result ≡ list_all is_printable line.now }
+{
+    line.iter().all(|byte| (b' '..=b'~').contains(byte))
+}
+
+// The command of any line, by the one equation from which `read_line` tells when each error comes.
+fn read(line: &[u8]) -> Result<Command, LineError>
+    ensures { result ≡ command_of line.now }
+{
+    if line.len() > MAX_LINE {
+        return Err(LineError::Long);
+    }
+    if !is_text(line) {
+        return Err(LineError::Byte);
+    }
+    read_words(line)
 }
 
 /// The command of a line, given without the byte that ends it.
 ///
-/// Words are parted by one or more spaces, and spaces at either end don't matter. A point is three
-/// numbers `X Y W`. Every line that isn't one of the commands with just its numbers is refused: one
-/// that is empty or longer than [`MAX_LINE`], a word more or less, a number that isn't spelt as one
-/// (`0`, or an optional `-`, a digit 1 to 9 and any digits), numbers that are no point's.
+/// Words are parted by one or more spaces, and spaces at either end don't matter. A number is `0`,
+/// or an optional `-`, a digit 1 to 9 and any digits, however many. A point is three numbers
+/// `X Y W`, which needn't be in lowest terms. A line without words, or whose first word begins with
+/// `#`, is [`Command::Nothing`]. Where a line is refused for several reasons, [`LineError`] says
+/// which one is given.
 pub fn read_line(line: &[u8]) -> Result<Command, LineError>
     ensures value { result ≡ command_of line.now }
+
+    // What the bytes alone decide.
+    ensures long { IsErrOf result LineError.Long ↔ (MAX_LINE < length line.now) }
+    ensures byte { IsErrOf result LineError.Byte ↔ ((length line.now ≤ MAX_LINE) × Any IsOtherByte line.now) }
+
+    // What the words of a line decide that is text.
+    ensures word { IsErrOf result LineError.Word
+        ↔ (IsText line.now × (IsNoCommand (words line.now) ⊎ HasWrongWord (words line.now))) }
+    ensures count { IsErrOf result LineError.Count ↔ (IsText line.now × HasWrongCount (words line.now)) }
+    ensures number { IsErrOf result LineError.Number ↔ (IsText line.now × HasNoNumber (words line.now)) }
+    ensures range { IsErrOf result LineError.Range ↔ (IsText line.now × IsOutOfRange (words line.now)) }
+    ensures nothing { (result ≡ Ok Command.Nothing) ↔ (IsText line.now × IsSilent (words line.now)) }
 {
-    if line.len() > MAX_LINE {
-        return Err(LineError::Word);
-    }
-    spelt(line).ok_or(LineError::Word)
+    read(line)
 }

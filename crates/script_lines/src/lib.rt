@@ -5,10 +5,14 @@
 #![tactic(auto)]
 
 mod command;
+mod error;
+mod form;
+mod name;
 mod number;
 mod words;
 
-pub use command::{Command, LineError, MAX_LINE, read_line};
+pub use command::{Command, MAX_LINE, read_line};
+pub use error::LineError;
 
 #[cfg(test)]
 mod tests;

@@ -1,19 +1,18 @@
 ghost use Rattle.std.specs.Prelude.{◌≡◌, option_map};
-ghost use Rattle.script_lines.specs.Number.{positive_of, number_of, capped, clamped, digits_after};
+ghost use Rattle.script_lines.specs.Number.{positive_of, number_of, limited_size, limited_number};
 
-// No number past this limit is in any range, so what is past it is kept as the limit.
+// No number past this limit is in any range, so that one is kept as the limit, however long it is.
 const LIMIT: u128 = 1 << 64;
 
 // The size of a number above 0, of digits without a leading 0.
 fn positive(digits: &[u8]) -> Option<u128>
-    ensures { result ≡ option_map capped (positive_of digits.now) }
+    ensures { result ≡ option_map limited_size (positive_of digits.now) }
 {
-    let (first, rest) = digits.split_first()?;
-    if !(b'1'..=b'9').contains(first) {
+    if !matches!(digits, [b'1'..=b'9', ..]) {
         return None;
     }
-    let mut number = u128::from(*first - b'0');
-    for digit in rest {
+    let mut number = 0;
+    for digit in digits {
         if !digit.is_ascii_digit() {
             return None;
         }
@@ -22,11 +21,11 @@ fn positive(digits: &[u8]) -> Option<u128>
     Some(number)
 }
 
-/// The number that a word spells, or the limit with its sign where it is past it.
+/// The number that a word is, or the limit with its sign where it is past it.
 ///
 /// A number is `0`, or an optional `-`, a digit 1 to 9 and any digits; `None` is for any other word.
 pub fn number(word: &[u8]) -> Option<i128>
-    ensures { result ≡ option_map clamped (number_of word.now) }
+    ensures { result ≡ option_map limited_number (number_of word.now) }
 {
     match word {
         b"0" => Some(0),

@@ -2,22 +2,23 @@ use super::*;
 use exact_plane::Point;
 
 #[test]
-fn lines_are_read(rt: HostRuntime) {
+fn commands_are_read(rt: HostRuntime) {
     let point = |x, y, w| Point::new(x, y, w).ok();
-    let pin = |x, y, w| point(x, y, w).map(Command::Pin);
-    let locate = |x, y, w| point(x, y, w).map(Command::Locate);
-    let rows: [(&[u8], Option<Command>); 8] = [
+    let rows: [(&[u8], Option<Command>); 11] = [
         (b"show", Some(Command::Show)),
         (b"  show ", Some(Command::Show)),
-        (b"pin 0 0 1", pin(0, 0, 1)),
-        (b"pin -1 1 5", pin(-1, 1, 5)),
-        (b" pin  4 2   6 ", pin(2, 1, 3)),
-        (b"locate 0 0 2", locate(0, 0, 1)),
+        (b"pin -1 1 5", point(-1, 1, 5).map(Command::Pin)),
+        (b"pin 4 2 6", point(2, 1, 3).map(Command::Pin)),
+        (b" unpin  1 1   1 ", point(1, 1, 1).map(Command::Unpin)),
+        (b"locate 0 0 2", point(0, 0, 1).map(Command::Locate)),
         (
             b"locate -1048575 -4398037073925 8796072050701",
-            locate(-1048575, -4398037073925, 8796072050701),
+            point(-1048575, -4398037073925, 8796072050701).map(Command::Locate),
         ),
-        (b"pin 1048575 -1048575 1", pin(1048575, -1048575, 1)),
+        (b"# note", Some(Command::Nothing)),
+        (b"  #pin 0 0", Some(Command::Nothing)),
+        (b"   ", Some(Command::Nothing)),
+        (b"", Some(Command::Nothing)),
     ];
     for (line, wanted) in rows {
         assert!(rt;
@@ -28,41 +29,71 @@ fn lines_are_read(rt: HostRuntime) {
 }
 
 #[test]
-fn other_lines_are_refused(rt: HostRuntime) {
-    let rows: [&[u8]; 20] = [
-        b"",
-        b"   ",
-        b"# note",
-        b"paint",
-        b"Show",
-        b"show 1",
-        b"pin",
-        b"pin 0 0",
-        b"pin 0 0 1 1",
-        b"pin 0 0 x",
-        b"pin 0 0 01",
-        b"pin -0 0 1",
-        b"pin +1 0 1",
-        b"pin - 0 1",
-        b"pin\t0 0 1",
-        b"pin 1 1 0",
-        b"pin 1 1 -1",
-        b"pin 1048576 0 1",
-        b"pin 0 0 8796093022208",
-        b"pin 0 0 18446744073709551617",
+fn errors_come_in_their_order(rt: HostRuntime) {
+    let rows: [(&[u8], LineError); 22] = [
+        (b"paint", LineError::Word),
+        (b"segment 0 0 1", LineError::Word),
+        (b"Show", LineError::Word),
+        (b"pinn 0 0 1", LineError::Word),
+        (b"pin", LineError::Count),
+        (b"pin 0 0", LineError::Count),
+        (b"pin 0 x", LineError::Count),
+        (b"pin 0 0 1 1", LineError::Count),
+        (b"show 1", LineError::Count),
+        (b"pin -0 0 1", LineError::Number),
+        (b"pin 0 0 01", LineError::Number),
+        (b"pin +1 0 1", LineError::Number),
+        (b"pin - 0 1", LineError::Number),
+        (b"pin x 0 0", LineError::Number),
+        (b"pin 1 1 0", LineError::Range),
+        (b"pin 1 1 -1", LineError::Range),
+        (b"pin 0 0 8796093022208", LineError::Range),
+        (b"pin 1048576 0 1", LineError::Range),
+        (b"pin 0 0 18446744073709551617", LineError::Range),
+        (b"pin\xc8", LineError::Byte),
+        (b"pin\t0 0 1", LineError::Byte),
+        (b"# a\tb", LineError::Byte),
     ];
-    for line in rows {
-        assert!(rt; read_line(line) == Err(LineError::Word), "{line:?}");
+    for (line, wanted) in rows {
+        assert!(rt; read_line(line) == Err(wanted), "{line:?}");
     }
 }
 
 #[test]
 fn long_lines_are_refused(rt: HostRuntime) {
-    let mut line = [b' '; 201];
-    line[196] = b's';
-    line[197] = b'h';
-    line[198] = b'o';
-    line[199] = b'w';
-    assert!(rt; read_line(&line[..200]) == Ok(Command::Show));
-    assert!(rt; read_line(&line) == Err(LineError::Word));
+    let letters = [b'a'; 201];
+    assert!(rt; read_line(&letters) == Err(LineError::Long));
+    assert!(rt; read_line(&letters[..200]) == Err(LineError::Word));
+
+    let spaces = [b' '; 201];
+    assert!(rt; read_line(&spaces) == Err(LineError::Long));
+    assert!(rt; read_line(&spaces[..200]) == Ok(Command::Nothing));
+
+    let comment = [b'#'; 201];
+    assert!(rt; read_line(&comment) == Err(LineError::Long));
+    assert!(rt; read_line(&comment[..200]) == Ok(Command::Nothing));
+
+    let other_bytes = [b'\t'; 201];
+    assert!(rt; read_line(&other_bytes) == Err(LineError::Long));
+    assert!(rt; read_line(&other_bytes[..200]) == Err(LineError::Byte));
+
+    // A number of 190 digits.
+    let mut digits = [b'1'; 198];
+    digits[..8].copy_from_slice(b"pin 0 0 ");
+    assert!(rt; read_line(&digits) == Err(LineError::Range));
+}
+
+#[test]
+fn errors_have_their_numbers(rt: HostRuntime) {
+    let rows = [
+        (LineError::Word, 1),
+        (LineError::Count, 2),
+        (LineError::Number, 3),
+        (LineError::Range, 4),
+        (LineError::Long, 5),
+        (LineError::Byte, 6),
+    ];
+    for (error, number) in rows {
+        assert!(rt; error.number() == number);
+    }
 }

@@ -1,12 +1,19 @@
-use Rattle.std.proofs.Common.{◌≡◌, length}
+use Rattle.std.proofs.Common.{◌≡◌, ◌+◌, ◌-◌, ◌≤◌, length}
+use Rattle.planar_run.specs.declared.run.TheConstants.{SCRIPT_LIMIT, BUFFER}
 use Rattle.planar_run.specs.Clauses.{Used}
 use Rattle.planar_run.proofs.Loop.{HasSaid}
 use Rattle.planar_run.proofs.run.run.Given as goal
 
-abbrev pub invariant-bytes : goal.invariant-bytes
-invariant-bytes g l = record {
-  used : Used (g.S.Source.left l.fn.source) (g.S.Source.left l.source) (λ used. length used ≡ l.counter);
-  said : HasSaid (g.S.Source.left l.fn.source) (g.S.Source.left l.source) (g.K.Sink.taken l.fn.sink) (g.K.Sink.taken l.sink) l.counter l.engine.world l.engine.line;
+abbrev pub invariant-reads : goal.invariant-reads
+invariant-reads g l = record {
+  used : Used (g.S.Source.left l.fn.source) (g.S.Source.left l.source) (λ used. length used ≡ SCRIPT_LIMIT - l.room);
+  said : HasSaid (g.S.Source.left l.fn.source) (g.S.Source.left l.source) (g.K.Sink.taken l.fn.sink) (g.K.Sink.taken l.sink) (SCRIPT_LIMIT - l.room) l.engine.world l.engine.line;
+  within : l.room ≤ SCRIPT_LIMIT;
+  size : length l.buffer ≡ BUFFER;
   read_faults : g.S.Source.faults l.source ≡ g.S.Source.faults l.fn.source;
+  calls : g.S.Source.calls l.source ≤ g.S.Source.calls l.fn.source + (SCRIPT_LIMIT - l.room);
   write_faults : g.K.Sink.faults l.sink ≡ g.K.Sink.faults l.fn.sink;
 }
+
+abbrev pub decreases-reads : goal.decreases-reads
+decreases-reads g l = l.room

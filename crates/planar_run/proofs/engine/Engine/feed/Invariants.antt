@@ -1,0 +1,9 @@
+use Rattle.std.proofs.Common.{◌≡◌, take}
+use Rattle.planar_run.specs.Engine.{Feeds}
+use Rattle.planar_run.proofs.engine.Engine.feed.Given as goal
+
+abbrev pub invariant-loop-byte : goal.invariant-loop-byte
+invariant-loop-byte g l = record {
+  fed : Feeds (take l.byte-index l.bytes) (g.K.Sink.taken l.fn.sink) (g.K.Sink.taken l.sink) l.fn.self.world l.fn.self.line l.self.world l.self.line;
+  faults : g.K.Sink.faults l.sink ≡ g.K.Sink.faults l.fn.sink;
+}

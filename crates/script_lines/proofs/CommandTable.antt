@@ -1,0 +1,68 @@
+-- The table of commands: its names, and what its forms make.
+use Rattle.std.proofs.Common.{◌≡◌, ℕ, Bool, true, false, ℤ, cond, List, [], ◌∷◌, Option, Some, None, refl, sym, subst}
+use Rattle.std.specs.Prelude.{◌≢◌, option_map, bytes_eq, find}
+use Rattle.std.proofs.lemmas.Slice.Eq.{bytes_eq-Decides}
+use Rattle.script_lines.specs.declared.command.Command.{Command}
+use Rattle.script_lines.specs.declared.command.Command.TheVariants.{Nothing, Pin, Unpin, Locate}
+use Rattle.script_lines.specs.declared.name.Name.{Name}
+use Rattle.script_lines.specs.declared.name.Name.TheVariants as name
+use Rattle.script_lines.specs.Form.{Form}
+use Rattle.script_lines.specs.Command.{point_form, row_of, names, name_of, is_comment}
+use Rattle.script_lines.proofs.ListTests.{find-passes}
+
+-- each name is found by how it is spelt
+pub name_of-name : (n : Name) → name_of (row_of n).name ≡ Some n
+name_of-name name.Pin = refl
+name_of-name name.Unpin = refl
+name_of-name name.Locate = refl
+name_of-name name.Show = refl
+
+-- none begins a comment
+pub no_comment : (n : Name) → is_comment (row_of n).name ≡ false
+no_comment name.Pin = refl
+no_comment name.Unpin = refl
+no_comment name.Locate = refl
+no_comment name.Show = refl
+
+-- no form makes nothing
+abbrev pub AskFor : List (Form Command) → Type 0
+AskFor [] = Unit {0}
+AskFor (form ∷ forms) = ((numbers : List ℤ) → form.made numbers ≡ Some Nothing → ⊥) × AskFor forms
+
+mapped : {A : Type 0} (f : A → Command) → ((x : A) → f x ≡ Nothing → ⊥) → (o : Option A) → option_map f o ≡ Some Nothing → ⊥
+mapped f other None e = absurd cc
+mapped f other (Some x) e = other x cc
+
+pub ask_for : (n : Name) → AskFor (row_of n).forms
+ask_for name.Pin = (λ numbers e. mapped Pin (λ p h. cc) (point_form.made numbers) e, tt)
+ask_for name.Unpin = (λ numbers e. mapped Unpin (λ p h. cc) (point_form.made numbers) e, tt)
+ask_for name.Locate = (λ numbers e. mapped Locate (λ p h. cc) (point_form.made numbers) e, tt)
+ask_for name.Show = (λ numbers e. cc, tt)
+
+asks_by : (p : Form Command → Bool) (here : Bool) (first form : Form Command) (later : Option (Form Command)) → cond here (Some first) later ≡ Some form
+    → ((numbers : List ℤ) → first.made numbers ≡ Some Nothing → ⊥) → (later ≡ Some form → (numbers : List ℤ) → form.made numbers ≡ Some Nothing → ⊥)
+    → (numbers : List ℤ) → form.made numbers ≡ Some Nothing → ⊥
+asks_by p true first form later e f g =
+    let same : first ≡ form = cc in
+    subst (λ (x : Form Command). (numbers : List ℤ) → x.made numbers ≡ Some Nothing → ⊥) same f
+asks_by p false first form later e f g = g e
+
+pub found_asks : (p : Form Command → Bool) (forms : List (Form Command)) (form : Form Command) → AskFor forms → find p forms ≡ Some form → (numbers : List ℤ) → form.made numbers ≡ Some Nothing → ⊥
+found_asks p [] form h e = absurd cc
+found_asks p (first ∷ forms) form h e = asks_by p (p first) first form (find p forms) e h.0 (found_asks p forms form h.1)
+
+-- a word is found only where it is spelt so
+pub name-from_name_of : (word : List ℕ) (n : Name) → name_of word ≡ Some n → word ≡ (row_of n).name
+name-from_name_of word n e = sym ((bytes_eq-Decides (row_of n).name word).0 (find-passes (λ m. bytes_eq (row_of m).name word) names n e))
+
+unnamed : (word : List ℕ) → ((n : Name) → word ≢ (row_of n).name) → (o : Option Name) → name_of word ≡ o → o ≡ None
+unnamed word other None e = refl
+unnamed word other (Some n) e = absurd (other n (name-from_name_of word n e))
+
+pub name_of-unknown : (word : List ℕ) → ((n : Name) → word ≢ (row_of n).name) → name_of word ≡ None
+name_of-unknown word other = unnamed word other (name_of word) refl
+
+pub unknown-from_name_of : (word : List ℕ) → name_of word ≡ None → (n : Name) → word ≢ (row_of n).name
+unknown-from_name_of word e n same =
+    let found : name_of word ≡ Some n = rw same (name_of-name n) in
+    cc
