@@ -1,0 +1,4 @@
+pub mod Allowed
+pub mod Edits
+pub mod Laws
+pub mod Steps

@@ -1,0 +1,4 @@
+pub mod Laws
+pub mod ComputedLaws
+pub mod GraphLaws
+pub mod CycleLaws

@@ -1,0 +1,208 @@
+-- The model computed on small presents. What it must give was found by another program, which works with exact fractions.
+use Rattle.std.proofs.Common.{◌≡◌, ℕ, ℤ, pos, negsuc, [], ◌∷◌, codes, refl}
+use Rattle.std.specs.Fmt.{digits}
+use Rattle.integers.specs.Divisor.{gcd_within, gcd}
+use Rattle.exact_plane.specs.Point.{Point}
+use Rattle.plane_graphs.specs.Ascending.{place, ascending}
+use Rattle.plane_graphs.specs.Line as line
+use Rattle.plane_graphs.specs.Piece.{Piece, Present, along, on}
+use Rattle.plane_graphs.specs.Graph as graphs
+use Rattle.plane_graphs.specs.Graph.{graph}
+use Rattle.slab_laws.specs.declared.cell.Cell.{Cell}
+use Rattle.slab_laws.specs.declared.cell.Cell.TheVariants.{Vertex, Edge as OnEdge, Face}
+use Rattle.slab_laws.specs.Listed.{distinct}
+use Rattle.slab_laws.specs.Skeleton as plane
+use Rattle.slab_laws.specs.Slabs as slabs
+use Rattle.slab_laws.specs.Faces as faces
+use Rattle.slab_laws.specs.Classes as classes
+use Rattle.slab_laws.specs.Rotation as rotation
+use Rattle.slab_laws.specs.Cycles as cycles
+use Rattle.slab_laws.specs.Subdivision as whole
+use Rattle.slab_laws.specs.Subdivision.{subdivision, holds}
+use Rattle.slab_laws.specs.Text as text
+use Rattle.slab_laws.specs.Text.{present_text, skeleton}
+
+-- opens all that the examples compute with
+unfoldable opened : Unit {0}
+unfolding gcd_within gcd digits place ascending distinct line.homogeneous_point line.crossing along on
+    graphs.mark_cmp graphs.ends graphs.common_points graphs.vertices graphs.is_parted graphs.are_neighbours graphs.marks_on graphs.marks graphs.graph graphs.edge_cmp graphs.edges graphs.curves
+    plane.left_of plane.lower_than plane.run plane.side plane.steep plane.shift plane.foot plane.over plane.gap plane.crosses plane.same_edge plane.under slabs.width
+    faces.is_lowest faces.walls faces.is_open faces.corner_links faces.foot_links faces.wall_links faces.links faces.face_labels faces.slab_cells faces.cells
+    classes.class_of classes.merged classes.joined classes.with_link classes.classes
+    rotation.same_dart rotation.earlier rotation.turn_cmp rotation.ring rotation.after_in rotation.after rotation.next rotation.rotation
+    cycles.trail cycles.dart_labels cycles.leads cycles.darts_on cycles.odd
+    whole.cycle whole.cycles whole.has_dart whole.ranked whole.subdivision whole.rank whole.spot_on whole.holds_in
+    text.word text.number text.index text.triple text.ended text.vertex_line text.edge_line text.cycle_line text.face_lines text.numbered text.text_by text.text text.marks text.graph_text text.present_text
+opened = tt
+
+-- the whole point (x, y)
+abbrev at : ℤ → ℤ → Point
+at x y = record { x = x; y = y; w = pos 1 }
+
+-- the point (x / w, y / w)
+abbrev over : ℤ → ℤ → ℕ → Point
+over x y w = record { x = x; y = y; w = pos w }
+
+-- a whole segment, of the curve c
+abbrev piece : ℕ → Point → Point → Piece
+piece c p q = record { curve = c; segment = record { lower = p; upper = q }; from = p; to = q }
+
+-- the cell that holds a point
+abbrev located : Present → Point → Cell
+located p q = holds (subdivision (skeleton (graph p))) q
+
+-- nothing at all
+abbrev empty : Present
+empty = record { pieces = []; pins = [] }
+
+empty-text : present_text empty ≡ codes "arrangement 0 0 1\nf 0\nend\n"
+unfolding opened
+empty-text = refl
+
+-- two segments that cross at a fraction
+abbrev fraction : Present
+fraction = record { pieces = piece 1 (at (pos 0) (pos 0)) (at (pos 2) (pos 1)) ∷ piece 2 (at (pos 0) (pos 1)) (at (pos 1) (pos 0)) ∷ []; pins = [] }
+
+fraction-text : present_text fraction ≡ codes "arrangement 5 4 1\nv 1 0 0 1 : 3\nv 2 0 1 1 : 3\nv 3 2 1 3 : 1 2 5 4\nv 4 1 0 1 : 3\nv 5 2 1 1 : 3\ne 1 3 : 1\ne 2 3 : 2\ne 3 4 : 2\ne 3 5 : 1\nf 0\nh 1 3 2 3 5 3 4 3\nend\n"
+unfolding opened
+fraction-text = refl
+
+fraction-located_1 : located fraction (over (pos 2) (pos 1) 3) ≡ Vertex (over (pos 2) (pos 1) 3)
+unfolding opened
+fraction-located_1 = refl
+
+fraction-located_2 : located fraction (over (pos 2) (pos 1) 2) ≡ OnEdge (over (pos 2) (pos 1) 3) (at (pos 2) (pos 1))
+unfolding opened
+fraction-located_2 = refl
+
+fraction-located_3 : located fraction (over (pos 1) (pos 1) 4) ≡ Face 0
+unfolding opened
+fraction-located_3 = refl
+
+-- a square with both diagonals
+abbrev diagonals : Present
+diagonals = record { pieces = piece 1 (at (pos 0) (pos 0)) (at (pos 4) (pos 0)) ∷ piece 2 (at (pos 4) (pos 0)) (at (pos 4) (pos 4)) ∷ piece 3 (at (pos 0) (pos 4)) (at (pos 4) (pos 4)) ∷ piece 4 (at (pos 0) (pos 0)) (at (pos 0) (pos 4)) ∷ piece 5 (at (pos 0) (pos 0)) (at (pos 4) (pos 4)) ∷ piece 6 (at (pos 0) (pos 4)) (at (pos 4) (pos 0)) ∷ []; pins = [] }
+
+diagonals-text : present_text diagonals ≡ codes "arrangement 5 8 5\nv 1 0 0 1 : 2 3 4\nv 2 0 4 1 : 1 5 3\nv 3 2 2 1 : 1 2 5 4\nv 4 4 0 1 : 1 3 5\nv 5 4 4 1 : 2 4 3\ne 1 2 : 4\ne 1 3 : 5\ne 1 4 : 1\ne 2 3 : 6\ne 2 5 : 3\ne 3 4 : 6\ne 3 5 : 5\ne 4 5 : 2\nf 0\nh 1 2 5 4\nf 1\no 1 3 2\nf 2\no 1 4 3\nf 3\no 2 3 5\nf 4\no 3 4 5\nend\n"
+unfolding opened
+diagonals-text = refl
+
+diagonals-located_1 : located diagonals (at (pos 2) (pos 1)) ≡ Face 2
+unfolding opened
+diagonals-located_1 = refl
+
+diagonals-located_2 : located diagonals (at (pos 1) (pos 1)) ≡ OnEdge (at (pos 0) (pos 0)) (at (pos 2) (pos 2))
+unfolding opened
+diagonals-located_2 = refl
+
+diagonals-located_3 : located diagonals (at (pos 2) (pos 2)) ≡ Vertex (at (pos 2) (pos 2))
+unfolding opened
+diagonals-located_3 = refl
+
+diagonals-located_4 : located diagonals (at (pos 4) (pos 2)) ≡ OnEdge (at (pos 4) (pos 0)) (at (pos 4) (pos 4))
+unfolding opened
+diagonals-located_4 = refl
+
+diagonals-located_5 : located diagonals (at (pos 5) (pos 2)) ≡ Face 0
+unfolding opened
+diagonals-located_5 = refl
+
+diagonals-located_6 : located diagonals (at (pos 2) (pos 5)) ≡ Face 0
+unfolding opened
+diagonals-located_6 = refl
+
+-- a segment that ends inside another
+abbrev contact : Present
+contact = record { pieces = piece 1 (at (pos 0) (pos 0)) (at (pos 4) (pos 0)) ∷ piece 2 (at (pos 2) (pos 0)) (at (pos 2) (pos 3)) ∷ []; pins = [] }
+
+contact-text : present_text contact ≡ codes "arrangement 4 3 1\nv 1 0 0 1 : 2\nv 2 2 0 1 : 1 3 4\nv 3 2 3 1 : 2\nv 4 4 0 1 : 2\ne 1 2 : 1\ne 2 3 : 2\ne 2 4 : 1\nf 0\nh 1 2 3 2 4 2\nend\n"
+unfolding opened
+contact-text = refl
+
+contact-located_1 : located contact (at (pos 2) (pos 1)) ≡ OnEdge (at (pos 2) (pos 0)) (at (pos 2) (pos 3))
+unfolding opened
+contact-located_1 = refl
+
+contact-located_2 : located contact (at (pos 2) (negsuc 0)) ≡ Face 0
+unfolding opened
+contact-located_2 = refl
+
+-- five segments from one point
+abbrev star : Present
+star = record { pieces = piece 1 (at (negsuc 1) (pos 1)) (at (pos 0) (pos 0)) ∷ piece 2 (at (negsuc 0) (negsuc 1)) (at (pos 0) (pos 0)) ∷ piece 3 (at (pos 0) (pos 0)) (at (pos 0) (pos 3)) ∷ piece 4 (at (pos 0) (pos 0)) (at (pos 2) (pos 1)) ∷ piece 5 (at (pos 0) (pos 0)) (at (pos 2) (negsuc 0)) ∷ []; pins = [] }
+
+star-text : present_text star ≡ codes "arrangement 6 5 1\nv 1 -2 1 1 : 3\nv 2 -1 -2 1 : 3\nv 3 0 0 1 : 1 4 6 5 2\nv 4 0 3 1 : 3\nv 5 2 -1 1 : 3\nv 6 2 1 1 : 3\ne 1 3 : 1\ne 2 3 : 2\ne 3 4 : 3\ne 3 5 : 5\ne 3 6 : 4\nf 0\nh 1 3 4 3 6 3 5 3 2 3\nend\n"
+unfolding opened
+star-text = refl
+
+-- two segments that overlap
+abbrev overlap : Present
+overlap = record { pieces = piece 1 (at (pos 2) (pos 0)) (at (pos 4) (pos 0)) ∷ piece 2 (at (pos 0) (pos 0)) (at (pos 6) (pos 0)) ∷ []; pins = [] }
+
+overlap-text : present_text overlap ≡ codes "arrangement 4 3 1\nv 1 0 0 1 : 2\nv 2 2 0 1 : 1 3\nv 3 4 0 1 : 2 4\nv 4 6 0 1 : 3\ne 1 2 : 2\ne 2 3 : 1 2\ne 3 4 : 2\nf 0\nh 1 2 3 4 3 2\nend\n"
+unfolding opened
+overlap-text = refl
+
+overlap-located_1 : located overlap (at (pos 3) (pos 0)) ≡ OnEdge (at (pos 2) (pos 0)) (at (pos 4) (pos 0))
+unfolding opened
+overlap-located_1 = refl
+
+overlap-located_2 : located overlap (at (pos 3) (pos 1)) ≡ Face 0
+unfolding opened
+overlap-located_2 = refl
+
+-- a square with a triangle and a pinned point in it
+abbrev nested : Present
+nested = record { pieces = piece 1 (at (pos 0) (pos 0)) (at (pos 12) (pos 0)) ∷ piece 2 (at (pos 12) (pos 0)) (at (pos 12) (pos 12)) ∷ piece 3 (at (pos 0) (pos 12)) (at (pos 12) (pos 12)) ∷ piece 4 (at (pos 0) (pos 0)) (at (pos 0) (pos 12)) ∷ piece 5 (at (pos 1) (pos 1)) (at (pos 3) (pos 1)) ∷ piece 6 (at (pos 2) (pos 3)) (at (pos 3) (pos 1)) ∷ piece 7 (at (pos 1) (pos 1)) (at (pos 2) (pos 3)) ∷ []; pins = at (pos 3) (pos 9) ∷ [] }
+
+nested-text : present_text nested ≡ codes "arrangement 8 7 3\nv 1 0 0 1 : 2 7\nv 2 0 12 1 : 1 8\nv 3 1 1 1 : 4 5\nv 4 2 3 1 : 3 5\nv 5 3 1 1 : 3 4\nv 6 3 9 1 pin :\nv 7 12 0 1 : 1 8\nv 8 12 12 1 : 2 7\ne 1 2 : 4\ne 1 7 : 1\ne 2 8 : 3\ne 3 4 : 7\ne 3 5 : 5\ne 4 5 : 6\ne 7 8 : 2\nf 0\nh 1 2 8 7\nf 1\no 1 7 8 2\nh 3 4 5\np 6\nf 2\no 3 5 4\nend\n"
+unfolding opened
+nested-text = refl
+
+nested-located_1 : located nested (at (pos 2) (pos 2)) ≡ Face 2
+unfolding opened
+nested-located_1 = refl
+
+nested-located_2 : located nested (at (pos 2) (pos 1)) ≡ OnEdge (at (pos 1) (pos 1)) (at (pos 3) (pos 1))
+unfolding opened
+nested-located_2 = refl
+
+nested-located_3 : located nested (at (pos 3) (pos 9)) ≡ Vertex (at (pos 3) (pos 9))
+unfolding opened
+nested-located_3 = refl
+
+nested-located_4 : located nested (at (pos 3) (pos 5)) ≡ Face 1
+unfolding opened
+nested-located_4 = refl
+
+nested-located_5 : located nested (at (pos 12) (pos 6)) ≡ OnEdge (at (pos 12) (pos 0)) (at (pos 12) (pos 12))
+unfolding opened
+nested-located_5 = refl
+
+nested-located_6 : located nested (at (pos 13) (pos 0)) ≡ Face 0
+unfolding opened
+nested-located_6 = refl
+
+-- a vertical edge between two stops of a wall
+abbrev upright : Present
+upright = record { pieces = piece 1 (at (pos 0) (pos 0)) (at (pos 4) (pos 0)) ∷ piece 2 (at (pos 0) (pos 3)) (at (pos 4) (pos 3)) ∷ piece 3 (at (pos 2) (pos 0)) (at (pos 2) (pos 3)) ∷ []; pins = [] }
+
+upright-text : present_text upright ≡ codes "arrangement 6 5 1\nv 1 0 0 1 : 3\nv 2 0 3 1 : 4\nv 3 2 0 1 : 1 4 5\nv 4 2 3 1 : 2 6 3\nv 5 4 0 1 : 3\nv 6 4 3 1 : 4\ne 1 3 : 1\ne 2 4 : 2\ne 3 4 : 3\ne 3 5 : 1\ne 4 6 : 2\nf 0\nh 1 3 4 2 4 6 4 3 5 3\nend\n"
+unfolding opened
+upright-text = refl
+
+upright-located_1 : located upright (at (pos 2) (pos 1)) ≡ OnEdge (at (pos 2) (pos 0)) (at (pos 2) (pos 3))
+unfolding opened
+upright-located_1 = refl
+
+upright-located_2 : located upright (at (pos 2) (pos 4)) ≡ Face 0
+unfolding opened
+upright-located_2 = refl
+
+upright-located_3 : located upright (at (pos 1) (pos 3)) ≡ OnEdge (at (pos 0) (pos 3)) (at (pos 2) (pos 3))
+unfolding opened
+upright-located_3 = refl
+
+upright-located_4 : located upright (at (pos 2) (pos 3)) ≡ Vertex (at (pos 2) (pos 3))
+unfolding opened
+upright-located_4 = refl

@@ -1,0 +1,13 @@
+pub mod Skeleton
+pub mod Slabs
+pub mod Weights
+pub mod Meets
+pub mod Darts
+pub mod Changes
+pub mod Listed
+pub mod Classes
+pub mod Faces
+pub mod Rotation
+pub mod Cycles
+pub mod Subdivision
+pub mod Text

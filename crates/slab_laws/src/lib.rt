@@ -1,0 +1,16 @@
+//! The slab model of planar subdivisions: what vertices, edges, cells, faces, cycles, locations and texts are.
+//!
+//! The definitions stand in `specs/`. They know no linked records: slabs are the strips between walls, the vertical lines
+//! through vertices; a cell is told by its slab and by how many of the slab's edges lie below it; a face is a class of
+//! cells that meet across walls. Here are the types that contracts and crates share.
+#![tactic(auto)]
+
+mod cell;
+mod classes;
+mod names;
+mod slab_cell;
+
+pub use cell::Cell;
+pub use classes::{Label, Link};
+pub use names::{CurveId, CycleId, CycleKind, DartId, FaceId, Strategy, VertexId};
+pub use slab_cell::SlabCell;

@@ -1,0 +1,8 @@
+/// The part of a slab that has so many of the slab's edges below it.
+#[derive(Clone, Copy, Debug, PartialEq, Eq)]
+pub struct SlabCell {
+    /// How many vertices lie to the left of the slab.
+    pub slab: usize,
+    /// How many of its edges lie below the cell.
+    pub place: usize,
+}
