@@ -4,7 +4,7 @@ use Rattle.plane_graphs.specs.Graph.{collinear}
 use Rattle.std.specs.List.{flat_map, filter}
 use Rattle.exact_plane.specs.Point.{Point}
 use Rattle.plane_graphs.specs.Line.{precedes, same_point, are_parallel, crossing, IsProper}
-use Rattle.plane_graphs.specs.Segment.{line_of_segment}
+use Rattle.exact_plane.specs.Segment.{line_of_segment}
 use Rattle.plane_graphs.specs.Piece.{Piece, Present, along, on}
 use Rattle.plane_graphs.specs.Graph.{Mark, mark_cmp, is_at, marks, vertices}
 use Rattle.edit_steps.specs.Steps.{cut_piece, with_cut}

@@ -4,7 +4,7 @@ use Rattle.integers.specs.Divisor.{gcd_within, gcd}
 use Rattle.exact_plane.specs.Point.{Point}
 use Rattle.plane_graphs.specs.Ascending.{place, ascending}
 use Rattle.plane_graphs.specs.Line.{homogeneous_point, crossing}
-use Rattle.plane_graphs.specs.Segment.{Segment}
+use Rattle.exact_plane.specs.Segment.{Segment}
 use Rattle.plane_graphs.specs.Piece.{Piece, Present, along, on}
 use Rattle.plane_graphs.specs.Graph.{mark_cmp, ends, common_points, vertices, is_parted, are_neighbours, marks_on, marks, graph, det, collinear, inside}
 use Rattle.edit_steps.specs.Steps.{AddVertex, RemoveVertex, SplitEdge, MergeEdge, AddEdge, RemoveEdge, AddCurve, RemoveCurve, SetPin, ClearPin, apply, run, vertex_step_by, vertex_steps, tidy_step, tidy_steps, missing_points, more_step, less_step, segment_steps, with_tidying, drop_steps, cut_piece, cut_steps, pin_steps, unpin_steps, split_steps, merge_steps}

@@ -4,7 +4,7 @@ use Rattle.exact_plane.specs.Point.{Point}
 use Rattle.exact_plane.specs.PointOrder.{point_cmp}
 use Rattle.exact_plane.specs.PointOrderLaws.{point_cmp_total, same_point as point_cmp_exact}
 use Rattle.plane_graphs.specs.Line.{precedes, same_point, IsProper}
-use Rattle.plane_graphs.specs.Segment.{Segment}
+use Rattle.exact_plane.specs.Segment.{Segment}
 use Rattle.plane_graphs.specs.Piece.{Piece, Present}
 use Rattle.plane_graphs.specs.Graph.{graph, same_curve}
 use Rattle.edit_steps.specs.Steps.{with_piece, with_pin}

@@ -7,7 +7,7 @@ use Rattle.std.specs.List.{list_any}
 use Rattle.exact_plane.specs.Point.{Point}
 use Rattle.exact_plane.specs.PointOrder.{point_cmp}
 use Rattle.plane_graphs.specs.Line.{precedes, same_point, are_parallel, IsProper}
-use Rattle.plane_graphs.specs.Segment.{line_of_segment}
+use Rattle.exact_plane.specs.Segment.{line_of_segment}
 use Rattle.plane_graphs.specs.Ascending.{place, Member, IsAscending}
 use Rattle.plane_graphs.specs.Piece.{Piece, Present, along, on}
 use Rattle.plane_graphs.specs.Graph.{Mark, Graph, graph, graph_over, marks, vertices, mark}

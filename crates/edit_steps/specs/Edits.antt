@@ -3,7 +3,7 @@ use Rattle.std.specs.Prelude.{◌≡◌, ℕ, List, [], ◌∷◌, true, false, 
 use Rattle.std.specs.List.{list_any}
 use Rattle.exact_plane.specs.Point.{Point}
 use Rattle.plane_graphs.specs.Line.{IsProper, IsWhole, precedes, same_point}
-use Rattle.plane_graphs.specs.Segment.{Segment}
+use Rattle.exact_plane.specs.Segment.{Segment}
 use Rattle.plane_graphs.specs.Piece.{Piece, Present, on}
 use Rattle.plane_graphs.specs.Graph.{graph, vertices, same_curve, is_at, inside}
 use Rattle.edit_steps.specs.Steps.{Step, Clear, with_piece, segment_steps, without_curve, drop_steps, with_cut, cut_steps, with_pin, pin_steps, without_pin, unpin_steps, split_steps, merge_steps}

@@ -1,20 +1,17 @@
 -- Three numbers in range, brought to lowest terms, are a point's.
-use Rattle.std.proofs.Common.{◌≡◌, ℕ, ◌*◌, ◌<◌, ◌≤◌, Bool, true, false, ◌&&◌, ltb, leb, ℤ, pos, negsuc, ◌*ℤ◌, Ok, refl, sym, subst, arith}
+use Rattle.std.proofs.Common.{◌≡◌, ℕ, ◌*◌, ◌<◌, ◌≤◌, true, false, ◌&&◌, ltb, leb, ℤ, pos, negsuc, ◌*ℤ◌, Ok, refl, sym, subst, arith}
 use Rattle.std.specs.Prelude.{unsigned_abs, int_div}
 use Rattle.std.specs.Int.{◌∣◌}
 use Rattle.std.specs.Ordering.{int_eq}
 use Rattle.std.proofs.lemmas.Bool.{leb-true, le-leb, lt-ltb, le-ltb, ltb-true}
 use Rattle.std.proofs.lemmas.Int.{ints}
 use Rattle.integers.specs.Lowest.{common_divisor}
+use Rattle.integers.proofs.Decisions.{both}
 use Rattle.integers.proofs.Gcd.{common_divisor-first, common_divisor-second, common_divisor-third, common_divisor-positive}
 use Rattle.integers.proofs.Reduce.{divided, divided_pos, divided_le, divided_within, same_ratio, reduced_lowest}
 use Rattle.exact_plane.specs.declared.bounds.TheConstants.{MAX_COORDINATE, WEIGHT_LIMIT}
 use Rattle.exact_plane.specs.Point.{Point, in_range, reduced, IsInRange, IsPoint}
 use Rattle.exact_plane.specs.PointOf.{point_of}
-
-both : (a b : Bool) → (a && b) ≡ true → (a ≡ true) × (b ≡ true)
-both true b h = (refl, h)
-both false b h = absurd cc
 
 -- what being in range says of the sizes
 pub record Sizes (x y n : ℕ) : Type 0 where

@@ -1,4 +1,15 @@
+pub mod Direction
+pub mod Height
+pub mod Line
+pub mod Meet
+pub mod MeetOf
+pub mod Plane
 pub mod Point
 pub mod PointOf
 pub mod PointOrder
 pub mod PointOrderLaws
+pub mod Segment
+pub mod SegmentOf
+pub mod Sign
+pub mod Span
+pub mod SpanOf

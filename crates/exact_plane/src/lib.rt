@@ -1,11 +1,27 @@
-//! Points of the plane with exact homogeneous coordinates.
+//! The exact plane: points, segments, lines, spans and directions, with predicates that are exact in 128 bits.
+//!
+//! A point has homogeneous coordinates; a segment has whole ends, and its crossings with others are points. The
+//! predicates are those of an exact geometry kernel (Fogel, Halperin and Wein): on which side of a line a point is, which
+//! of two lines is higher at an abscissa, what two segments have in common, which of two directions is met first.
 #![tactic(auto)]
 
 mod bounds;
+mod direction;
+mod line;
+mod meets;
 mod point;
+mod segment;
+mod sides;
+mod spans;
 
 pub use bounds::{MAX_COORDINATE, WEIGHT_LIMIT};
+pub use direction::{Direction, turn_order};
+pub use line::{Line, line_of};
+pub use meets::{Meet, meeting, span_meeting};
 pub use point::{Point, PointError};
+pub use segment::{Segment, SegmentError};
+pub use sides::{Sign, above_at, side};
+pub use spans::Span;
 
 #[cfg(test)]
 mod tests;

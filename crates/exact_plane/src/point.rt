@@ -4,10 +4,11 @@ ghost use Rattle.std.specs.Ordering.{as_partial_cmp};
 ghost use Rattle.exact_plane.specs.declared.bounds.TheConstants.{NUMERATOR_LIMIT, PRODUCT_LIMIT};
 ghost use Rattle.integers.specs.Lowest.{IsLowest};
 ghost use Rattle.integers.specs.Ratio.{ratio_cmp};
-ghost use Rattle.exact_plane.specs.Point.{in_range, reduced, IsInRange, IsRatio};
+ghost use Rattle.exact_plane.specs.Point.{in_range, reduced, IsInRange, IsPoint, IsRatio};
 ghost use Rattle.exact_plane.specs.PointOf.{point_of};
 ghost use Rattle.exact_plane.specs.PointOrder.{point_cmp};
 ghost use Rattle.exact_plane.specs.PointOrderLaws.{point_cmp_total, point_cmp_ties};
+ghost use Rattle.exact_plane.specs.Segment.{whole_point, IsCoordinate};
 
 use crate::bounds::{MAX_COORDINATE, WEIGHT_LIMIT};
 use integers::{greatest_common_divisor, quotient};
@@ -28,9 +29,9 @@ pub enum PointError {
 /// Points are ordered by x, then by y, and equal points have equal numbers.
 #[derive(Clone, Copy, Debug, PartialEq, Eq, Hash)]
 pub struct Point {
-    x: i128,
-    y: i128,
-    w: i128,
+    pub(crate) x: i128,
+    pub(crate) y: i128,
+    pub(crate) w: i128,
 }
 
 impl Model for Point {
@@ -45,7 +46,7 @@ impl Model for Point {
     ghost inverse = { λ p. record { x = p.x; y = p.y; w = p.w } };
 }
 
-fn is_in_range(x: i128, y: i128, w: i128) -> bool
+pub(crate) fn is_in_range(x: i128, y: i128, w: i128) -> bool
     ensures { result ≡ in_range x y w }
 {
     0 < w
@@ -55,7 +56,7 @@ fn is_in_range(x: i128, y: i128, w: i128) -> bool
 }
 
 // The same place in lowest terms.
-fn lowest(x: i128, y: i128, w: i128) -> Point
+pub(crate) fn lowest(x: i128, y: i128, w: i128) -> Point
     requires { IsTrue (in_range x y w) }
     ensures { result ≡ reduced x y w }
 {
@@ -92,6 +93,19 @@ impl Point {
         Ok(lowest(x, y, w))
     }
 
+    // The point with these coordinates.
+    pub(crate) fn whole(x: i64, y: i64) -> Point
+        requires x_within { IsCoordinate x }
+        requires y_within { IsCoordinate y }
+        ensures { result ≡ whole_point x y }
+    {
+        Point {
+            x: x as i128,
+            y: y as i128,
+            w: 1,
+        }
+    }
+
     /// The abscissa times the weight.
     pub fn x(&self) -> i128
         ensures { result ≡ self.now.x }
@@ -108,7 +122,8 @@ impl Point {
 
     /// The weight, which is at least 1.
     pub fn w(&self) -> i128
-        ensures { result ≡ self.now.w }
+        ensures value { result ≡ self.now.w }
+        ensures point { IsPoint self.now }
     {
         self.w
     }
@@ -125,7 +140,7 @@ fn product(number: i128, weight: i128) -> i128
 }
 
 // The order of a/v and b/w.
-fn compare_ratios(a: i128, v: i128, b: i128, w: i128) -> Ordering
+pub(crate) fn compare_ratios(a: i128, v: i128, b: i128, w: i128) -> Ordering
     requires first { IsRatio a v }
     requires second { IsRatio b w }
     ensures { result ≡ ratio_cmp a v b w }

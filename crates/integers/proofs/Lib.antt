@@ -1,6 +1,7 @@
 pub mod Bezout
 pub mod Classes
 pub mod Compare
+pub mod Decisions
 pub mod Gcd
 pub mod Laws
 pub mod Machine

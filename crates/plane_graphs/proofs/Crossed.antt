@@ -15,7 +15,7 @@ use Rattle.plane_graphs.specs.Line.{IsProper}
 use Rattle.plane_graphs.specs.Plane.{IsPlane}
 use Rattle.plane_graphs.specs.Laws.{NoneCross}
 use Rattle.plane_graphs.specs.Ascending.{Member}
-use Rattle.plane_graphs.specs.Segment.{side}
+use Rattle.exact_plane.specs.Plane.{side}
 use Rattle.plane_graphs.proofs.Crossings.{Runs}
 use Rattle.plane_graphs.proofs.Lists.{both, and_in, not_true}
 use Rattle.plane_graphs.proofs.Order.{Lt, lt_out, lt_never}

@@ -6,7 +6,7 @@ use Rattle.integers.specs.Lowest.{IsLowest}
 use Rattle.integers.proofs.Bezout.{lowest_same}
 use Rattle.integers.proofs.Gcd.{divisor_of_lowest, lowest_by_divisors}
 use Rattle.integers.proofs.Reify.{ring, sides}
-use Rattle.plane_graphs.specs.Segment.{side}
+use Rattle.exact_plane.specs.Plane.{side}
 use Rattle.integers.proofs.Signs.{mul_pos, cancel_zero, same_by, diff_zero}
 
 -- the numbers of a line that goes from a lesser point to a greater one

@@ -14,14 +14,15 @@ use Rattle.exact_plane.specs.Point.{Point, IsPoint, reduced}
 use Rattle.exact_plane.specs.PointOrder.{by_x, by_y}
 use Rattle.exact_plane.proofs.Places.{ratio_cmp-is}
 use Rattle.plane_graphs.specs.Line.{IsWhole, IsProper, homogeneous_point, crossing, are_parallel}
-use Rattle.plane_graphs.specs.Segment.{Line, Segment, side_of, reduced_line, line_of_segment}
+use Rattle.exact_plane.specs.Line.{Line, side_of, reduced_line}
+use Rattle.exact_plane.specs.Segment.{Segment, line_of_segment}
 use Rattle.plane_graphs.specs.Piece.{Piece, along}
 use Rattle.plane_graphs.specs.Graph.{det, collinear}
 use Rattle.plane_graphs.proofs.Order.{Lt, lt_never}
 use Rattle.plane_graphs.proofs.Lists.{both_ways, clash}
 use Rattle.plane_graphs.proofs.Closed.{IsStraight, SameLine}
 use Rattle.plane_graphs.proofs.Vertices.{Geometry, IsProperPiece}
-use Rattle.plane_graphs.specs.Segment.{side}
+use Rattle.exact_plane.specs.Plane.{side}
 use Rattle.plane_graphs.proofs.Crossings.{Runs, crossing_only, parallel_share, same_over, zero_too, spans_w, spans_x, spans_y, turned, minus_times, scaled, first_end, last_end, same_line}
 
 gcd_one : (n : ℕ) → gcd n 1 ≡ 1

@@ -10,7 +10,8 @@ use Rattle.exact_plane.specs.PointOrder.{point_cmp}
 use Rattle.exact_plane.specs.PointOrderLaws.{point_cmp_total, same_point as point_cmp_exact, then_equal}
 use Rattle.plane_graphs.specs.Ascending.{Member, IsAscending}
 use Rattle.plane_graphs.specs.Line.{are_parallel, precedes}
-use Rattle.plane_graphs.specs.Segment.{Line, line_of_segment}
+use Rattle.exact_plane.specs.Line.{Line}
+use Rattle.exact_plane.specs.Segment.{line_of_segment}
 use Rattle.plane_graphs.specs.Piece.{Present, on}
 use Rattle.plane_graphs.specs.Graph.{Graph, Mark, Edge, mark, edge_cmp, edge_of, graph, vertices, edges, curves, between, spans, inside, on_edge}
 use Rattle.plane_graphs.specs.Fit.{IsFit}

@@ -5,7 +5,7 @@ use Rattle.exact_plane.specs.Point.{Point}
 use Rattle.exact_plane.specs.PointOrder.{point_cmp}
 use Rattle.exact_plane.specs.PointOrderLaws.{point_cmp_total, same_point as point_cmp_exact}
 use Rattle.plane_graphs.specs.Line.{IsWhole, are_parallel, crossing, IsProper}
-use Rattle.plane_graphs.specs.Segment.{line_of_segment}
+use Rattle.exact_plane.specs.Segment.{line_of_segment}
 use Rattle.plane_graphs.specs.Piece.{Piece, Present, along, on}
 use Rattle.plane_graphs.specs.Graph.{vertices, ends, common_points}
 use Rattle.plane_graphs.specs.Fit.{IsFit, IsFitPiece}

@@ -7,7 +7,8 @@ use Rattle.exact_plane.specs.Point.{Point}
 use Rattle.exact_plane.specs.PointOrder.{point_cmp}
 use Rattle.plane_graphs.specs.Ascending.{ascending}
 use Rattle.plane_graphs.specs.Line.{precedes, same_point, are_parallel, crossing}
-use Rattle.plane_graphs.specs.Segment.{Line, line_of_segment}
+use Rattle.exact_plane.specs.Line.{Line}
+use Rattle.exact_plane.specs.Segment.{line_of_segment}
 use Rattle.plane_graphs.specs.Piece.{Piece, Present, along, on}
 
 -- one curve along the edge from low to high: an edge with n curves is n marks (this project; edges with their originating curves: CGAL manual, arrangements with history)

@@ -6,4 +6,3 @@ pub mod Line
 pub mod Meaning
 pub mod Piece
 pub mod Plane
-pub mod Segment

@@ -4,7 +4,7 @@ use Rattle.std.specs.Ordering.{is_lt, is_eq, int_eq}
 use Rattle.integers.specs.Lowest.{IsLowest}
 use Rattle.exact_plane.specs.Point.{Point, reduced}
 use Rattle.exact_plane.specs.PointOrder.{point_cmp}
-use Rattle.plane_graphs.specs.Segment.{Line, side_of}
+use Rattle.exact_plane.specs.Line.{Line, side_of}
 
 -- three numbers that name a place of the plane, as the exact kernel has it: a positive weight, and lowest terms (Fogel, Halperin and Wein); a point without its bounds
 pub record IsProper (p : Point) : Type 0 where

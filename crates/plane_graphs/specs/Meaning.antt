@@ -6,7 +6,7 @@ use Rattle.exact_plane.specs.Point.{Point}
 use Rattle.exact_plane.specs.PointOrder.{point_cmp}
 use Rattle.plane_graphs.specs.Ascending.{Member, IsAscending}
 use Rattle.plane_graphs.specs.Line.{IsProper, precedes}
-use Rattle.plane_graphs.specs.Segment.{line_of_segment}
+use Rattle.exact_plane.specs.Segment.{line_of_segment}
 use Rattle.plane_graphs.specs.Piece.{Piece, Present, on}
 use Rattle.plane_graphs.specs.Graph.{Graph, Edge, mark_cmp, edge_cmp, vertices, between, spans}
 

@@ -2,7 +2,7 @@
 use Rattle.std.specs.Prelude.{ℕ, List, Bool, not, ◌&&◌}
 use Rattle.exact_plane.specs.Point.{Point}
 use Rattle.plane_graphs.specs.Line.{is_on, precedes}
-use Rattle.plane_graphs.specs.Segment.{Segment, line_of_segment}
+use Rattle.exact_plane.specs.Segment.{Segment, line_of_segment}
 
 -- the part of a segment from one of its points to a later one, of the curve with this number (this project; curves with history: CGAL manual)
 pub record Piece : Type 0 where

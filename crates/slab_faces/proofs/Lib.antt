@@ -30,3 +30,7 @@ pub mod AscendingLemmas
 pub mod PlaneGraphs
 pub mod CyclesOfFaces
 pub mod OuterCycles
+pub mod Searches
+pub mod WallsLemmas
+pub mod OneEdge
+pub mod Located

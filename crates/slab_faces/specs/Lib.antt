@@ -2,3 +2,4 @@ pub mod Laws
 pub mod ComputedLaws
 pub mod GraphLaws
 pub mod CycleLaws
+pub mod LocationLaws

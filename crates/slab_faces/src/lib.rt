@@ -4,6 +4,7 @@
 ghost use Rattle.slab_faces.specs.Laws.{ParityOfFaces, StepOverEdge, OddEdgeParts, TurnKeepsFace, OneEdgeMore, RoundVertex, StepOverUpright, OneUprightMore, WeightOfFaces, NextKeepsFace};
 ghost use Rattle.slab_faces.specs.CycleLaws.{NextStartsThere, CycleAcrossEdge, OuterCyclesOfFaces};
 ghost use Rattle.slab_faces.specs.GraphLaws.{GraphIsPlaneSkeleton};
+ghost use Rattle.slab_faces.specs.LocationLaws.{LocationIsOne, OneEdgeAtMost, OffWalls, WallsTellSlabs};
 ghost use Rattle.slab_faces.specs.ComputedLaws.{LabelsAreFaces, LabelsAreLeast, NextKeepsFace as ComputedNextKeepsFace, NextIsOneToOne, CycleParity};
 
 /// Where the weights of the edges at each vertex come to an even number, the weight above is even or odd on a whole face.
@@ -100,4 +101,24 @@ pub fn cycle_across_edge()
 /// A bounded face has an odd number of outer cycles, the unbounded one an even number.
 pub fn outer_cycles_of_faces()
     ensures { OuterCyclesOfFaces }
+{}
+
+/// What location answers for a point is so: an equal vertex, else an edge that it is inside of, else a face.
+pub fn location_is_one()
+    ensures { LocationIsOne }
+{}
+
+/// No two edges have one point inside.
+pub fn one_edge_at_most()
+    ensures { OneEdgeAtMost }
+{}
+
+/// A point off all walls is in one cell.
+pub fn off_walls()
+    ensures { OffWalls }
+{}
+
+/// Slabs are the same, and in the same order, by the vertices to their left and by the walls to their left.
+pub fn walls_tell_slabs()
+    ensures { WallsTellSlabs }
 {}

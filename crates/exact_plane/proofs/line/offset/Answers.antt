@@ -1,0 +1,20 @@
+use Rattle.std.specs.Int.{w128}
+use Rattle.integers.proofs.Machine.{Sized, machine, fits, comes_to}
+use Rattle.exact_plane.specs.declared.bounds.TheConstants.{MAX_COORDINATE}
+use Rattle.exact_plane.proofs.line.offset.Goals as goal
+
+pub overflow_sub-result : goal.overflow_sub-result
+overflow_sub-result c =
+    let x1 : Sized c.args.x1 = record { bound = MAX_COORDINATE; small = c.requires.first_x } in
+    let y1 : Sized c.args.y1 = record { bound = MAX_COORDINATE; small = c.requires.first_y } in
+    let x2 : Sized c.args.x2 = record { bound = MAX_COORDINATE; small = c.requires.second_x } in
+    let y2 : Sized c.args.y2 = record { bound = MAX_COORDINATE; small = c.requires.second_y } in
+    fits (search (machine, x1, y1, x2, y2) depth 20 fits 5000) tt
+
+pub returns : goal.returns
+returns c =
+    let x1 : Sized c.args.x1 = record { bound = MAX_COORDINATE; small = c.requires.first_x } in
+    let y1 : Sized c.args.y1 = record { bound = MAX_COORDINATE; small = c.requires.first_y } in
+    let x2 : Sized c.args.x2 = record { bound = MAX_COORDINATE; small = c.requires.second_x } in
+    let y2 : Sized c.args.y2 = record { bound = MAX_COORDINATE; small = c.requires.second_y } in
+    comes_to w128 (search (machine, x1, y1, x2, y2) depth 20 fits 5000) tt

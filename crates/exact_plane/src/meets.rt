@@ -1,0 +1,177 @@
+ghost use Rattle.std.specs.Prelude.{◌≡◌, ◌<◌, ◌≤◌, pos, ◌-ℤ◌, ◌*ℤ◌, ◌<ℤ◌, unsigned_abs};
+ghost use Rattle.std.specs.Ordering.{is_le};
+ghost use Rattle.exact_plane.specs.declared.bounds.TheConstants.{MAX_DIFFERENCE, MAX_OFFSET, WEIGHT_LIMIT, NUMERATOR_LIMIT};
+ghost use Rattle.exact_plane.specs.Meet.{IsMeeting};
+ghost use Rattle.exact_plane.specs.MeetOf.{later as later_point, earlier as earlier_point, part_of, same_line, weight_of, place_cmp, is_between as is_place_between, is_common_place, crossing_meet};
+ghost use Rattle.exact_plane.specs.Point.{IsRatio};
+ghost use Rattle.exact_plane.specs.Span.{span_of_segment};
+
+use crate::line::Line;
+use crate::point::{Point, compare_ratios, is_in_range, lowest};
+use crate::segment::Segment;
+use crate::spans::Span;
+use std::cmp::Ordering;
+
+/// What two segments or spans have in common.
+#[derive(Clone, Copy, Debug, PartialEq, Eq)]
+pub enum Meet {
+    /// No point.
+    Apart,
+    /// One point.
+    At(Point),
+    /// The points from the first, the lesser, to the second, on the line of both.
+    Along(Point, Point),
+}
+
+fn later(first: Point, second: Point) -> Point
+    ensures { result ≡ later_point first second }
+{
+    match first.cmp(&second) {
+        Ordering::Less => second,
+        Ordering::Equal | Ordering::Greater => first,
+    }
+}
+
+fn earlier(first: Point, second: Point) -> Point
+    ensures { result ≡ earlier_point first second }
+{
+    match first.cmp(&second) {
+        Ordering::Less | Ordering::Equal => first,
+        Ordering::Greater => second,
+    }
+}
+
+// What two spans of one line have in common.
+fn part(first: &Span, second: &Span) -> Meet
+    ensures { result ≡ part_of first.now second.now }
+{
+    let lower = later(first.lower, second.lower);
+    let upper = earlier(first.upper, second.upper);
+    match lower.cmp(&upper) {
+        Ordering::Less => Meet::Along(lower, upper),
+        Ordering::Equal => Meet::At(lower),
+        Ordering::Greater => Meet::Apart,
+    }
+}
+
+fn is_one_line(first: &Line, second: &Line) -> bool
+    ensures { result ≡ same_line first.now second.now }
+{
+    first == second
+}
+
+// The weight of the crossing of two lines: 0 where they are parallel.
+fn cross_weight(a1: i128, b1: i128, a2: i128, b2: i128) -> i128
+    requires a1 { unsigned_abs a1 ≤ MAX_DIFFERENCE }
+    requires b1 { unsigned_abs b1 ≤ MAX_DIFFERENCE }
+    requires a2 { unsigned_abs a2 ≤ MAX_DIFFERENCE }
+    requires b2 { unsigned_abs b2 ≤ MAX_DIFFERENCE }
+    ensures value { result ≡ a1 *ℤ b2 -ℤ a2 *ℤ b1 }
+    ensures small { unsigned_abs result < WEIGHT_LIMIT }
+{
+    a1 * b2 - a2 * b1
+}
+
+// The number x of the crossing.
+fn cross_abscissa(b1: i128, c1: i128, b2: i128, c2: i128) -> i128
+    requires b1 { unsigned_abs b1 ≤ MAX_DIFFERENCE }
+    requires c1 { unsigned_abs c1 ≤ MAX_OFFSET }
+    requires b2 { unsigned_abs b2 ≤ MAX_DIFFERENCE }
+    requires c2 { unsigned_abs c2 ≤ MAX_OFFSET }
+    ensures value { result ≡ b1 *ℤ c2 -ℤ b2 *ℤ c1 }
+    ensures small { unsigned_abs result < NUMERATOR_LIMIT }
+{
+    b1 * c2 - b2 * c1
+}
+
+// The number y of the crossing.
+fn cross_ordinate(c1: i128, a1: i128, c2: i128, a2: i128) -> i128
+    requires c1 { unsigned_abs c1 ≤ MAX_OFFSET }
+    requires a1 { unsigned_abs a1 ≤ MAX_DIFFERENCE }
+    requires c2 { unsigned_abs c2 ≤ MAX_OFFSET }
+    requires a2 { unsigned_abs a2 ≤ MAX_DIFFERENCE }
+    ensures value { result ≡ c1 *ℤ a2 -ℤ c2 *ℤ a1 }
+    ensures small { unsigned_abs result < NUMERATOR_LIMIT }
+{
+    c1 * a2 - c2 * a1
+}
+
+// Whether a span's lower end comes before the place (x/w, y/w) or is there.
+fn starts_by(lower: &Point, x: i128, y: i128, w: i128) -> bool
+    requires x { IsRatio x w }
+    requires y { IsRatio y w }
+    ensures { result ≡ is_le (place_cmp lower.now (record { x = x; y = y; w = w })) }
+{
+    let by_x = compare_ratios(lower.x, lower.w, x, w);
+    let by_y = compare_ratios(lower.y, lower.w, y, w);
+    by_x.then(by_y).is_le()
+}
+
+// Whether a span's upper end comes after the place (x/w, y/w) or is there.
+fn ends_from(upper: &Point, x: i128, y: i128, w: i128) -> bool
+    requires x { IsRatio x w }
+    requires y { IsRatio y w }
+    ensures { result ≡ is_le (place_cmp (record { x = x; y = y; w = w }) upper.now) }
+{
+    let by_x = compare_ratios(x, w, upper.x, upper.w);
+    let by_y = compare_ratios(y, w, upper.y, upper.w);
+    by_x.then(by_y).is_le()
+}
+
+fn is_between(span: &Span, x: i128, y: i128, w: i128) -> bool
+    requires x { IsRatio x w }
+    requires y { IsRatio y w }
+    ensures { result ≡ is_place_between span.now (record { x = x; y = y; w = w }) }
+{
+    starts_by(&span.lower, x, y, w) && ends_from(&span.upper, x, y, w)
+}
+
+fn is_on_both(first: &Span, second: &Span, x: i128, y: i128, w: i128) -> bool
+    requires x { IsRatio x w }
+    requires y { IsRatio y w }
+    ensures { result ≡ is_common_place first.now second.now (record { x = x; y = y; w = w }) }
+{
+    if !is_between(first, x, y, w) {
+        return false;
+    }
+    is_between(second, x, y, w) && is_in_range(x, y, w)
+}
+
+// What two spans have in common, where the weight of their lines' crossing is positive.
+fn crossing(first: &Span, second: &Span) -> Meet
+    requires { pos 0 <ℤ weight_of first.now.line second.now.line }
+    ensures { result ≡ crossing_meet first.now second.now }
+{
+    let (l, m) = (first.line, second.line);
+    let x = cross_abscissa(l.b, l.c, m.b, m.c);
+    let y = cross_ordinate(l.c, l.a, m.c, m.a);
+    let w = cross_weight(l.a, l.b, m.a, m.b);
+    if is_on_both(first, second, x, y, w) {
+        Meet::At(lowest(x, y, w))
+    } else {
+        Meet::Apart
+    }
+}
+
+/// What two spans have in common.
+pub fn span_meeting(first: &Span, second: &Span) -> Meet
+    ensures { IsMeeting first.now second.now result }
+{
+    let (l, m) = (first.line, second.line);
+    if is_one_line(&l, &m) {
+        return part(first, second);
+    }
+    let weight = cross_weight(l.a, l.b, m.a, m.b);
+    match weight.cmp(&0) {
+        Ordering::Less => crossing(second, first),
+        Ordering::Equal => Meet::Apart,
+        Ordering::Greater => crossing(first, second),
+    }
+}
+
+/// What two segments have in common.
+pub fn meeting(first: &Segment, second: &Segment) -> Meet
+    ensures { IsMeeting (span_of_segment first.now) (span_of_segment second.now) result }
+{
+    span_meeting(&Span::of(first), &Span::of(second))
+}

@@ -1,0 +1,80 @@
+ghost use Rattle.std.specs.Prelude.{◌≡◌, ◌<◌, ◌≤◌, pos, ◌+ℤ◌, ◌*ℤ◌, ◌<ℤ◌, unsigned_abs};
+ghost use Rattle.std.specs.Ordering.{int_eq};
+ghost use Rattle.exact_plane.specs.declared.bounds.TheConstants.{MAX_DIFFERENCE, MAX_OFFSET, SIDE_LIMIT, HEIGHT_LIMIT};
+ghost use Rattle.exact_plane.specs.Height.{height_cmp};
+ghost use Rattle.exact_plane.specs.Line.{side_of, IsLine};
+ghost use Rattle.exact_plane.specs.Plane.{side as side_number};
+ghost use Rattle.exact_plane.specs.Point.{IsPoint, IsRatio};
+ghost use Rattle.exact_plane.specs.Sign.{sign_of};
+
+use crate::line::Line;
+use crate::point::Point;
+use std::cmp::Ordering;
+
+/// The sign of a number, or the side of a line on which a point is.
+#[derive(Clone, Copy, Debug, PartialEq, Eq)]
+pub enum Sign {
+    /// Negative: on the right of the line.
+    Minus,
+    /// 0: on the line.
+    Zero,
+    /// Positive: on the left of the line.
+    Plus,
+}
+
+fn side_value(a: i128, b: i128, c: i128, x: i128, y: i128, w: i128) -> i128
+    requires line { IsLine (record { a = a; b = b; c = c }) }
+    requires point { IsPoint (record { x = x; y = y; w = w }) }
+    ensures value { result ≡ side_number a b c x y w }
+    ensures small { unsigned_abs result < SIDE_LIMIT }
+{
+    a * x + b * y + c * w
+}
+
+/// The side of a line on which a point is.
+///
+/// It is the sign of a X + b Y + c W for the line's numbers a, b, c and the point's X, Y, W.
+pub fn side(line: &Line, point: &Point) -> Sign
+    ensures { result ≡ sign_of (side_of line.now point.now) }
+{
+    let value = side_value(line.a, line.b, line.c, point.x, point.y, point.w);
+    match value.cmp(&0) {
+        Ordering::Less => Sign::Minus,
+        Ordering::Equal => Sign::Zero,
+        Ordering::Greater => Sign::Plus,
+    }
+}
+
+// Whether a point is on a line.
+pub(crate) fn is_on(line: &Line, point: &Point) -> bool
+    ensures { result ≡ int_eq (side_of line.now point.now) (pos 0) }
+{
+    let value = side_value(line.a, line.b, line.c, point.x, point.y, point.w);
+    value.cmp(&0).is_eq()
+}
+
+// How far a line is below 0, at the abscissa x / w, times its own b, another line's b and the weight.
+fn depth(a: i128, c: i128, x: i128, w: i128, by: i128) -> i128
+    requires a { unsigned_abs a ≤ MAX_DIFFERENCE }
+    requires c { unsigned_abs c ≤ MAX_OFFSET }
+    requires ratio { IsRatio x w }
+    requires by { unsigned_abs by ≤ MAX_DIFFERENCE }
+    ensures value { result ≡ (a *ℤ x +ℤ c *ℤ w) *ℤ by }
+    ensures small { unsigned_abs result < HEIGHT_LIMIT }
+{
+    (a * x + c * w) * by
+}
+
+/// Compares the heights of two lines at the abscissa of a point: `Greater` where the first is above the second.
+///
+/// Neither line is vertical. The height of a line with the numbers a, b, c at the abscissa X/W is
+/// -(a X + c W) / (b W).
+pub fn above_at(first: &Line, second: &Line, point: &Point) -> Ordering
+    requires first_not_vertical { pos 0 <ℤ first.now.b }
+    requires second_not_vertical { pos 0 <ℤ second.now.b }
+    ensures { result ≡ height_cmp first.now second.now point.now }
+{
+    let of_first = depth(first.a, first.c, point.x, point.w, second.b);
+    let of_second = depth(second.a, second.c, point.x, point.w, first.b);
+    of_second.cmp(&of_first)
+}

@@ -1,0 +1,67 @@
+ghost use Rattle.std.specs.Prelude.{◌≡◌, ◌↔◌, pos, IfSome, IsNone};
+ghost use Rattle.std.specs.Ordering.{int_eq};
+ghost use Rattle.exact_plane.specs.Line.{side_of};
+ghost use Rattle.exact_plane.specs.Span.{are_on_way, span_of_segment, AreOnWay};
+ghost use Rattle.exact_plane.specs.SpanOf.{span_of};
+
+use crate::line::{Line, line_of};
+use crate::point::Point;
+use crate::segment::Segment;
+use crate::sides::is_on;
+use std::marker::Model;
+
+/// The part of a line between two of its points, which it includes.
+#[derive(Clone, Copy, Debug)]
+pub struct Span {
+    pub(crate) lower: Point,
+    pub(crate) upper: Point,
+    pub(crate) line: Line,
+}
+
+impl Model for Span {
+    ghost use Rattle.exact_plane.specs.Span.{Span as Ends, IsSpan};
+
+    ghost Value = { Ends };
+
+    ghost view = { λ s. record { lower = s.lower; upper = s.upper; line = s.line } };
+
+    ghost invariant = { λ s. IsSpan (record { lower = s.lower; upper = s.upper; line = s.line }) };
+
+    ghost inverse = { λ s. record { lower = s.lower; upper = s.upper; line = s.line } };
+}
+
+fn on_way(lower: &Point, upper: &Point, line: &Line) -> bool
+    ensures { result ≡ are_on_way lower.now upper.now line.now }
+{
+    lower.cmp(upper).is_lt() && is_on(line, lower) && is_on(line, upper)
+}
+
+impl Span {
+    /// The part of a line from its lower point to its upper point.
+    ///
+    /// `None` where the two don't ascend in point order, or one isn't on the line.
+    pub fn new(lower: Point, upper: Point, line: Line) -> Option<Span>
+        ensures value { result ≡ span_of lower upper line }
+        ensures span { IfSome result (λ s. s ≡ record { lower = lower; upper = upper; line = line }) }
+        ensures none { IsNone result ↔ ¬ AreOnWay lower upper line }
+    {
+        if !on_way(&lower, &upper, &line) {
+            return None;
+        }
+        // Looks into both, so that what is known of their fields is at hand for the span.
+        let _ = (lower.x, line.a);
+        Some(Span { lower, upper, line })
+    }
+
+    // All of a segment.
+    pub(crate) fn of(segment: &Segment) -> Span
+        ensures { result ≡ span_of_segment segment.now }
+    {
+        let lower = segment.lower();
+        let upper = segment.upper();
+        let line = line_of(segment);
+        // As in `new`.
+        let _ = (lower.x, upper.x);
+        Span { lower, upper, line }
+    }
+}

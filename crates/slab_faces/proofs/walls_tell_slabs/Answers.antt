@@ -1,0 +1,5 @@
+use Rattle.slab_faces.proofs.WallsLemmas.{walls_tell_slabs}
+use Rattle.slab_faces.proofs.walls_tell_slabs.Goals as goal
+
+pub returns : goal.returns
+returns c = walls_tell_slabs
