@@ -34,3 +34,7 @@ pub mod Searches
 pub mod WallsLemmas
 pub mod OneEdge
 pub mod Located
+pub mod LocationLemmas
+pub mod PointLemmas
+pub mod EveryFace
+pub mod FaceOfPoint

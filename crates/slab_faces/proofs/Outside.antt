@@ -265,7 +265,7 @@ good_step g inn m e plane s E long h =
     omega arith
 
 -- beside e in any slab on the right of a vertex
-to_first : (g : Skeleton) (e : Edge) (w : Point) → IsPlane g → Contains g.vertices w → Contains g.edges e → spans g (slab_right g w) e ≡ true → (left_of e.low e.high ≡ true) × SameFace g (forward_cell g e) (above_e g e (slab_right g w)) × SameFace g (backward_cell g e) (below_e g e (slab_right g w))
+pub to_first : (g : Skeleton) (e : Edge) (w : Point) → IsPlane g → Contains g.vertices w → Contains g.edges e → spans g (slab_right g w) e ≡ true → (left_of e.low e.high ≡ true) × SameFace g (forward_cell g e) (above_e g e (slab_right g w)) × SameFace g (backward_cell g e) (below_e g e (slab_right g w))
 to_first g e w plane in' E h =
     let wall = on_own_wall g w plane in' in
     let r : reaches_right e w ≡ true = sym (spans_right g w e plane wall E) ∙ h in

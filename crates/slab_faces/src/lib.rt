@@ -4,6 +4,9 @@
 ghost use Rattle.slab_faces.specs.Laws.{ParityOfFaces, StepOverEdge, OddEdgeParts, TurnKeepsFace, OneEdgeMore, RoundVertex, StepOverUpright, OneUprightMore, WeightOfFaces, NextKeepsFace};
 ghost use Rattle.slab_faces.specs.CycleLaws.{NextStartsThere, CycleAcrossEdge, OuterCyclesOfFaces};
 ghost use Rattle.slab_faces.specs.GraphLaws.{GraphIsPlaneSkeleton};
+ghost use Rattle.slab_faces.specs.Locations.{LocationIs, CellsHaveFaces};
+ghost use Rattle.slab_faces.specs.PointLaws.{PointsHaveOneFace};
+ghost use Rattle.slab_faces.specs.EveryFaceLaws.{OuterCyclesOfEveryFace, FaceIsTheCells};
 ghost use Rattle.slab_faces.specs.LocationLaws.{LocationIsOne, OneEdgeAtMost, OffWalls, WallsTellSlabs};
 ghost use Rattle.slab_faces.specs.ComputedLaws.{LabelsAreFaces, LabelsAreLeast, NextKeepsFace as ComputedNextKeepsFace, NextIsOneToOne, CycleParity};
 
@@ -121,4 +124,29 @@ pub fn off_walls()
 /// Slabs are the same, and in the same order, by the vertices to their left and by the walls to their left.
 pub fn walls_tell_slabs()
     ensures { WallsTellSlabs }
+{}
+
+/// A vertex lies on itself, a point inside an edge on such an edge, and any other point in the face of its cell.
+pub fn location_is()
+    ensures { LocationIs }
+{}
+
+/// Each cell is in exactly one of the ranked faces.
+pub fn cells_have_faces()
+    ensures { CellsHaveFaces }
+{}
+
+/// A point off all vertices and edges has one face, looked at from its left or from its right.
+pub fn points_have_one_face()
+    ensures { PointsHaveOneFace }
+{}
+
+/// Of every face, with an edge beside it or not: a bounded one has an odd number of outer cycles, the unbounded one an even number.
+pub fn outer_cycles_of_every_face()
+    ensures { OuterCyclesOfEveryFace }
+{}
+
+/// The rank that location answers for a point is that of the face of the point's cell.
+pub fn face_is_the_cells()
+    ensures { FaceIsTheCells }
 {}

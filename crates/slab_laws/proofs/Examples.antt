@@ -1,5 +1,5 @@
 -- The model computed on small presents. What it must give was found by another program, which works with exact fractions.
-use Rattle.std.proofs.Common.{◌≡◌, ℕ, ℤ, pos, negsuc, [], ◌∷◌, codes, refl}
+use Rattle.std.proofs.Common.{◌≡◌, ℕ, ℤ, pos, negsuc, [], ◌∷◌, codes, map, true, false, refl}
 use Rattle.std.specs.Fmt.{digits}
 use Rattle.integers.specs.Divisor.{gcd_within, gcd}
 use Rattle.exact_plane.specs.Point.{Point}
@@ -10,7 +10,9 @@ use Rattle.plane_graphs.specs.Graph as graphs
 use Rattle.plane_graphs.specs.Graph.{graph}
 use Rattle.slab_laws.specs.declared.cell.Cell.{Cell}
 use Rattle.slab_laws.specs.declared.cell.Cell.TheVariants.{Vertex, Edge as OnEdge, Face}
+use Rattle.slab_laws.specs.declared.slab_cell.SlabCell.{SlabCell}
 use Rattle.slab_laws.specs.Listed.{distinct}
+use Rattle.slab_laws.specs.Darts.{darts}
 use Rattle.slab_laws.specs.Skeleton as plane
 use Rattle.slab_laws.specs.Slabs as slabs
 use Rattle.slab_laws.specs.Faces as faces
@@ -206,3 +208,32 @@ upright-located_3 = refl
 upright-located_4 : located upright (at (pos 2) (pos 3)) ≡ Vertex (at (pos 2) (pos 3))
 unfolding opened
 upright-located_4 = refl
+
+-- four points on four walls, with a triangle beside the edge that passes under it: the picture of the model's description
+abbrev pictured : Present
+pictured = record { pieces = piece 1 (at (pos 0) (pos 4)) (at (pos 6) (pos 8)) ∷ piece 2 (at (pos 2) (pos 4)) (at (pos 6) (pos 8)) ∷ piece 3 (at (pos 6) (pos 8)) (at (pos 10) (pos 0)) ∷ piece 4 (at (pos 0) (pos 4)) (at (pos 10) (pos 0)) ∷ []; pins = [] }
+
+abbrev cell : ℕ → ℕ → SlabCell
+cell i j = record { slab = i; place = j }
+
+pictured-text : present_text pictured ≡ codes "arrangement 4 4 2\nv 1 0 4 1 : 3 4\nv 2 2 4 1 : 3\nv 3 6 8 1 : 1 4 2\nv 4 10 0 1 : 1 3\ne 1 3 : 1\ne 1 4 : 4\ne 2 3 : 2\ne 3 4 : 3\nf 0\nh 1 3 4\nf 1\no 1 4 3 2 3\nend\n"
+unfolding opened
+pictured-text = refl
+
+pictured-cells : faces.cells (skeleton (graph pictured)) ≡ cell 0 0 ∷ cell 1 0 ∷ cell 1 1 ∷ cell 1 2 ∷ cell 2 0 ∷ cell 2 1 ∷ cell 2 2 ∷ cell 2 3 ∷ cell 3 0 ∷ cell 3 1 ∷ cell 3 2 ∷ cell 4 0 ∷ []
+unfolding opened
+pictured-cells = refl
+
+-- the bounded face goes round the end of the edge in it
+pictured-round : map (faces.face_of (faces.face_labels (skeleton (graph pictured)))) (cell 1 1 ∷ cell 2 1 ∷ cell 2 2 ∷ cell 3 1 ∷ []) ≡ cell 1 1 ∷ cell 1 1 ∷ cell 1 1 ∷ cell 1 1 ∷ []
+unfolding opened
+pictured-round = refl
+
+pictured-outside : map (faces.face_of (faces.face_labels (skeleton (graph pictured)))) (cell 1 0 ∷ cell 1 2 ∷ cell 2 3 ∷ cell 3 2 ∷ cell 4 0 ∷ []) ≡ cell 0 0 ∷ cell 0 0 ∷ cell 0 0 ∷ cell 0 0 ∷ cell 0 0 ∷ []
+unfolding opened
+pictured-outside = refl
+
+-- what follows a dart, at its lone end and at a vertex with three
+pictured-next : map (λ d. rotation.next (darts (skeleton (graph pictured))) d) ((record { edge = record { low = at (pos 2) (pos 4); high = at (pos 6) (pos 8) }; forward = false }) ∷ (record { edge = record { low = at (pos 2) (pos 4); high = at (pos 6) (pos 8) }; forward = true }) ∷ []) ≡ (record { edge = record { low = at (pos 2) (pos 4); high = at (pos 6) (pos 8) }; forward = true }) ∷ (record { edge = record { low = at (pos 0) (pos 4); high = at (pos 6) (pos 8) }; forward = false }) ∷ []
+unfolding opened
+pictured-next = refl

@@ -6,6 +6,7 @@ use Rattle.std.specs.Prelude.{List, [], ◌∷◌, map, Bool, cond}
 pub use Rattle.slab_laws.specs.declared.classes.Label.{Label}
 pub use Rattle.slab_laws.specs.declared.classes.Link.{Link}
 
+-- the least element of the class of x (this project)
 unfoldable pub class_of : {X : Type 0} → (X → X → Bool) → List (Label X) → X → X
 class_of same [] x = x
 class_of same (l ∷ ls) x = cond (same l.item x) l.least (class_of same ls x)
@@ -15,6 +16,7 @@ module _ {X : Type 0} (same below : X → X → Bool) where
   unfoldable pub merged : X → X → X → X
   merged a b x = cond (below a b) (cond (same x b) a x) (cond (same x a) b x)
 
+  -- the labels, where the classes of a and b become one (this project)
   unfoldable pub joined : List (Label X) → X → X → List (Label X)
   joined ls a b = map (λ l. record { item = l.item; least = merged a b l.least }) ls
 
@@ -22,6 +24,7 @@ module _ {X : Type 0} (same below : X → X → Bool) where
   unfoldable pub with_link : List (Label X) → Link X → List (Label X)
   with_link ls m = record { item = m.one; least = class_of same ls m.one } ∷ record { item = m.other; least = class_of same ls m.other } ∷ ls
 
+  -- the labels of the classes that the links make (this project)
   unfoldable pub classes : List (Link X) → List (Label X)
   classes [] = []
   classes (m ∷ ms) = let ls : List (Label X) = classes ms in joined (with_link ls m) (class_of same ls m.one) (class_of same ls m.other)

@@ -10,6 +10,7 @@ use Rattle.slab_laws.specs.Slabs.{slab_left, slab_right, left_cell, right_cell, 
 use Rattle.slab_laws.specs.declared.slab_cell.SlabCell.{SlabCell}
 use Rattle.slab_laws.specs.Classes.{Label, Link, classes, class_of}
 
+-- the same slab and the same place (this project)
 abbrev pub same_cell : SlabCell → SlabCell → Bool
 same_cell c d = (c.slab == d.slab) && (c.place == d.place)
 
@@ -25,6 +26,7 @@ is_lowest vs v = not (list_any (λ u. on_wall u v && lower_than u v) vs)
 unfoldable pub walls : Skeleton → List Point
 walls g = filter (is_lowest g.vertices) g.vertices
 
+-- the edge passes through the wall of v (this project)
 abbrev pub passes : Point → Edge → Bool
 passes v e = left_of e.low v && left_of v e.high
 
@@ -47,12 +49,15 @@ corner_links g v = map (link_at g) (filter (λ u. on_wall u v && is_open g u) g.
 unfoldable pub foot_links : Skeleton → Point → List (Link SlabCell)
 foot_links g v = map (λ e. link_at g (foot e v)) (filter (passes v) g.edges)
 
+-- all meets across the wall of v (this project)
 unfoldable pub wall_links : Skeleton → Point → List (Link SlabCell)
 wall_links g v = lowest_link g v ∷ (corner_links g v ++ foot_links g v)
 
+-- all meets across all walls (this project)
 unfoldable pub links : Skeleton → List (Link SlabCell)
 links g = flat_map (wall_links g) (walls g)
 
+-- each cell of a link with the least cell of its face (this project)
 unfoldable pub face_labels : Skeleton → List (Label SlabCell)
 face_labels g = classes same_cell cell_below (links g)
 
@@ -60,8 +65,10 @@ face_labels g = classes same_cell cell_below (links g)
 abbrev pub face_of : List (Label SlabCell) → SlabCell → SlabCell
 face_of ls c = class_of same_cell ls c
 
+-- the cells of a slab from bottom to top (this project)
 unfoldable pub slab_cells : Skeleton → ℕ → List SlabCell
 slab_cells g i = map (λ j. record { slab = i; place = j }) (range_with_len 0 (suc (width g i)))
 
+-- the cells of all slabs from left to right (this project)
 unfoldable pub cells : Skeleton → List SlabCell
 cells g = flat_map (slab_cells g) (0 ∷ map (slab_right g) (walls g))

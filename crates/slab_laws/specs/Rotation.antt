@@ -11,22 +11,28 @@ use Rattle.slab_laws.specs.Skeleton.{same_point, same_edge, below}
 use Rattle.exact_plane.specs.PointOrder.{point_cmp}
 use Rattle.plane_graphs.specs.Ascending.{ascending}
 
+-- the other way along the same edge (manual, halfedge)
 abbrev pub twin : Dart → Dart
 twin d = record { edge = d.edge; forward = not d.forward }
 
+-- by source, then by target (this project)
 abbrev pub dart_cmp : Dart → Dart → Ordering
 dart_cmp d e = ordering_then (point_cmp (source d) (source e)) (point_cmp (target d) (target e))
 
+-- both forward or both backward
 abbrev pub same_way : Bool → Bool → Bool
 same_way true b = b
 same_way false b = not b
 
+-- the same edge, gone the same way
 unfoldable pub same_dart : Dart → Dart → Bool
 same_dart d e = same_edge d.edge e.edge && same_way d.forward e.forward
 
+-- comes before, by source, then by target (this project)
 abbrev pub dart_below : Dart → Dart → Bool
 dart_below d e = is_lt (dart_cmp d e)
 
+-- in which quarter of the way round a vertex it goes out (this project)
 abbrev pub turn : Dart → ℕ
 turn d = class d.edge d.forward
 
@@ -34,6 +40,7 @@ turn d = class d.edge d.forward
 unfoldable pub earlier : Dart → Dart → Bool
 earlier d e = ltb (turn d) (turn e) || ((turn d == turn e) && (((turn d == 0) && below d.edge e.edge) || ((turn d == 2) && below e.edge d.edge)))
 
+-- the order of darts round a vertex (manual, circulator around a vertex)
 unfoldable pub turn_cmp : Dart → Dart → Ordering
 turn_cmp d e = cond (earlier d e) Less (cond (earlier e d) Greater Equal)
 
@@ -47,10 +54,12 @@ after_in f d [] = f
 after_in f d (x ∷ []) = f
 after_in f d (x ∷ y ∷ ys) = cond (same_dart d x) y (after_in f d (y ∷ ys))
 
+-- the follower of d in the list, the first after the last (this project)
 unfoldable pub after : Dart → List Dart → Dart
 after d [] = d
 after d (x ∷ xs) = after_in x d (x ∷ xs)
 
+-- the dart out of the target that is first clockwise after the twin (manual, next halfedge of a boundary)
 unfoldable pub next : List Dart → Dart → Dart
 next ds d = after (twin d) (ring ds (target d))
 

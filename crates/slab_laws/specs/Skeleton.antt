@@ -6,10 +6,12 @@ use Rattle.std.specs.Ordering.{int_eq as same_z}
 use Rattle.exact_plane.specs.Point.{Point}
 use Rattle.plane_graphs.specs.Graph.{Edge}
 
+-- the vertices and edges of a plane graph, without curves and pins (this project)
 pub record Skeleton : Type 0 where
   pub vertices : List Point
   pub edges : List Edge
 
+-- a positive weight (book, exact kernel)
 abbrev pub HasWeight : Point → Type 0
 HasWeight p = pos 0 <ℤ p.w
 
@@ -21,6 +23,7 @@ left_of p q = lt_z (p.x *ℤ q.w) (q.x *ℤ p.w)
 unfoldable pub lower_than : Point → Point → Bool
 lower_than p q = lt_z (p.y *ℤ q.w) (q.y *ℤ p.w)
 
+-- two points of one abscissa (this project)
 abbrev pub on_wall : Point → Point → Bool
 on_wall v t = not (left_of v t) && not (left_of t v)
 
@@ -35,9 +38,11 @@ side e t =
     +ℤ (e.high.x *ℤ e.low.w -ℤ e.low.x *ℤ e.high.w) *ℤ t.y
     +ℤ (e.low.x *ℤ e.high.y -ℤ e.high.x *ℤ e.low.y) *ℤ t.w
 
+-- the first number of the edge's line, steep * x + run * y + shift * w = 0 (book)
 unfoldable pub steep : Edge → ℤ
 steep e = e.low.y *ℤ e.high.w -ℤ e.high.y *ℤ e.low.w
 
+-- the last number of the edge's line (book)
 unfoldable pub shift : Edge → ℤ
 shift e = e.low.x *ℤ e.high.y -ℤ e.high.x *ℤ e.low.y
 
@@ -66,6 +71,8 @@ below f e =
     higher_at f e f.low || (higher_at f e f.high || (higher_at f e e.low || higher_at f e e.high))
 
 -- ---- what is asked of a graph, and of the weights
+
+-- the three numbers are the same (book, exact kernel)
 abbrev pub same_point : Point → Point → Bool
 same_point p q = same_z p.x q.x && same_z p.y q.y && same_z p.w q.w
 
@@ -74,6 +81,7 @@ unfoldable pub crosses : Edge → Edge → Bool
 crosses e f =
     lt_z (pos 0) (side f e.low) && (lt_z (side f e.high) (pos 0) && (lt_z (side e f.low) (pos 0) && lt_z (pos 0) (side e f.high)))
 
+-- the ends are the same (manual)
 unfoldable pub same_edge : Edge → Edge → Bool
 same_edge e f = same_point e.low f.low && same_point e.high f.high
 
@@ -85,6 +93,7 @@ precedes p q = left_of p q || (not (left_of q p) && lower_than p q)
 abbrev pub inside : Edge → Point → Bool
 inside e v = (precedes e.low v && precedes v e.high) && (not (lt_z (side e v) (pos 0)) && not (lt_z (pos 0) (side e v)))
 
+-- a plane graph by signs and counts: ends are vertices, vertices and edges stand once, no vertex inside an edge, no edges cross (book, straight-line embedding)
 pub record IsPlane (g : Skeleton) : Type 0 where
   pub proper : (v : Point) → Contains g.vertices v → HasWeight v
   pub lower_in : (e : Edge) → Contains g.edges e → Contains g.vertices e.low

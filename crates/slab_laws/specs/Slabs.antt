@@ -11,6 +11,7 @@ use Rattle.slab_laws.specs.Skeleton.{Skeleton, left_of, over, under, below}
 abbrev pub reaches_left : Edge → Point → Bool
 reaches_left e t = left_of e.low t && not (left_of e.high t)
 
+-- it is in the slab directly to the right (this project)
 abbrev pub reaches_right : Edge → Point → Bool
 reaches_right e t = not (left_of t e.low) && left_of t e.high
 
@@ -18,24 +19,31 @@ reaches_right e t = not (left_of t e.low) && left_of t e.high
 abbrev pub slab_left : Skeleton → Point → ℕ
 slab_left g t = count_by (λ v. left_of v t) g.vertices
 
+-- the slab directly to the right of the wall of t (this project)
 abbrev pub slab_right : Skeleton → Point → ℕ
 slab_right g t = count_by (λ v. not (left_of t v)) g.vertices
 
+-- the edge reaches from wall to wall of the slab (this project)
 abbrev pub spans : Skeleton → ℕ → Edge → Bool
 spans g i e = leb (slab_right g e.low) i && ltb i (slab_right g e.high)
 
+-- how many of the slab's edges are below the edge (book, status order of the sweep)
 abbrev pub place : Skeleton → ℕ → Edge → ℕ
 place g i e = count_by (λ f. spans g i f && below f e) g.edges
 
+-- how many edges reach the wall of t from the left at t or below it (this project)
 abbrev pub left_count : Skeleton → Point → ℕ
 left_count g t = count_by (λ e. reaches_left e t && not (over e t)) g.edges
 
+-- how many reach it from the right (this project)
 abbrev pub right_count : Skeleton → Point → ℕ
 right_count g t = count_by (λ e. reaches_right e t && not (over e t)) g.edges
 
+-- the cell directly to the left of t (this project)
 abbrev pub left_cell : Skeleton → Point → SlabCell
 left_cell g t = record { slab = slab_left g t; place = left_count g t }
 
+-- the cell directly to the right of t (this project)
 abbrev pub right_cell : Skeleton → Point → SlabCell
 right_cell g t = record { slab = slab_right g t; place = right_count g t }
 
@@ -43,9 +51,11 @@ right_cell g t = record { slab = slab_right g t; place = right_count g t }
 abbrev pub forward_cell : Skeleton → Edge → SlabCell
 forward_cell g e = record { slab = slab_right g e.low; place = place g (slab_right g e.low) e + 1 }
 
+-- below the edge (this project)
 abbrev pub backward_cell : Skeleton → Edge → SlabCell
 backward_cell g e = record { slab = slab_right g e.low; place = place g (slab_right g e.low) e }
 
+-- how many edges reach the wall of t from the left, or from the right, strictly below t (this project)
 abbrev pub left_below : Skeleton → Point → ℕ
 left_below g t = count_by (λ e. reaches_left e t && under e t) g.edges
 

@@ -1,0 +1,3 @@
+pub mod TriangleLemmas
+pub mod TriangleSound
+pub mod TriangleExample
