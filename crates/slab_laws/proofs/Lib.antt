@@ -1,1 +1,4 @@
 pub mod Examples
+pub mod TriangleLemmas
+pub mod TriangleSound
+pub mod TriangleExample

@@ -11,3 +11,10 @@ pub mod Rotation
 pub mod Cycles
 pub mod Subdivision
 pub mod Text
+pub mod Pieces
+pub mod Tables
+pub mod View
+pub mod Sound
+pub mod FacesSound
+pub mod Triangle
+pub mod TriangleRows

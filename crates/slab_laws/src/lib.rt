@@ -2,15 +2,26 @@
 //!
 //! The definitions stand in `specs/`. They know no linked records: slabs are the strips between walls, the vertical lines
 //! through vertices; a cell is told by its slab and by how many of the slab's edges lie below it; a face is a class of
-//! cells that meet across walls. Here are the types that contracts and crates share.
+//! cells that meet across walls. Here are the types that contracts and crates share, and the traits of what
+//! is read by name, with what records mean and when they are sound.
 #![tactic(auto)]
 
 mod cell;
 mod classes;
+mod curved;
+mod darts;
+mod faced;
 mod names;
+mod present;
 mod slab_cell;
+mod triangle;
 
 pub use cell::Cell;
 pub use classes::{Label, Link};
+pub use curved::Curved;
+pub use darts::Darts;
+pub use faced::Faced;
 pub use names::{CurveId, CycleId, CycleKind, DartId, FaceId, Strategy, VertexId};
+pub use present::{Piece, Present};
 pub use slab_cell::SlabCell;
+pub use triangle::Triangle;

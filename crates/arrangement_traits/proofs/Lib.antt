@@ -1,3 +1,0 @@
-pub mod TriangleLemmas
-pub mod TriangleSound
-pub mod TriangleExample

@@ -1,0 +1,18 @@
+use crate::names::CurveId;
+use exact_plane::{Point, Segment};
+
+/// A part of a segment, from one of its points to a later one, of a numbered curve.
+#[derive(Clone, Copy, Debug, PartialEq, Eq)]
+pub struct Piece {
+    pub curve: CurveId,
+    pub segment: Segment,
+    pub from: Point,
+    pub to: Point,
+}
+
+/// What a layer has at a moment: pieces, and the pinned points, ascending.
+#[derive(Drop, Debug)]
+pub struct Present {
+    pub pieces: Vec<Piece>,
+    pub pins: Vec<Point>,
+}
