@@ -127,6 +127,20 @@ impl Point {
     {
         self.w
     }
+
+    /// The order of the abscissas (CGAL, `Compare_x_2`).
+    pub fn compare_x(&self, other: &Point) -> Ordering
+        ensures { result ≡ ratio_cmp self.now.x self.now.w other.now.x other.now.w }
+    {
+        compare_ratios(self.x, self.w, other.x, other.w)
+    }
+
+    /// The order of the ordinates (CGAL, `Compare_y_2`).
+    pub fn compare_y(&self, other: &Point) -> Ordering
+        ensures { result ≡ ratio_cmp self.now.y self.now.w other.now.y other.now.w }
+    {
+        compare_ratios(self.y, self.w, other.y, other.w)
+    }
 }
 
 // A number of a point times a weight.

@@ -1,7 +1,7 @@
 ghost use Rattle.std.specs.Prelude.{◌≡◌, ◌↔◌, pos, IfSome, IsNone};
 ghost use Rattle.std.specs.Ordering.{int_eq};
 ghost use Rattle.exact_plane.specs.Line.{side_of};
-ghost use Rattle.exact_plane.specs.Span.{are_on_way, span_of_segment, AreOnWay};
+ghost use Rattle.exact_plane.specs.Span.{are_on_way, span_of_segment, AreOnWay, IsSpan};
 ghost use Rattle.exact_plane.specs.SpanOf.{span_of};
 
 use crate::line::{Line, line_of};
@@ -51,6 +51,28 @@ impl Span {
         // Looks into both, so that what is known of their fields is at hand for the span.
         let _ = (lower.x, line.a);
         Some(Span { lower, upper, line })
+    }
+
+    /// Its lesser end.
+    pub fn lower(&self) -> Point
+        ensures value { result ≡ self.now.lower }
+        ensures span { IsSpan self.now }
+    {
+        self.lower
+    }
+
+    /// Its greater end.
+    pub fn upper(&self) -> Point
+        ensures { result ≡ self.now.upper }
+    {
+        self.upper
+    }
+
+    /// The line that it is a part of.
+    pub fn line(&self) -> Line
+        ensures { result ≡ self.now.line }
+    {
+        self.line
     }
 
     // All of a segment.

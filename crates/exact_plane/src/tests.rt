@@ -80,6 +80,23 @@ fn points_are_ordered_by_x_then_y(rt: HostRuntime) -> Result<(), Fail> {
     Ok(())
 }
 
+#[test]
+fn coordinates_compare_one_by_one(rt: HostRuntime) -> Result<(), Fail> {
+    let (first, second) = (Point::new(1, 5, 3)?, Point::new(1, 0, 2)?);
+    assert!(rt; first.compare_x(&second) == Ordering::Less, "1/3 and 1/2");
+    assert!(rt; first.compare_y(&second) == Ordering::Greater, "5/3 and 0");
+    let third = Point::new(2, 10, 12)?;
+    assert!(rt;
+        second.compare_x(&third) == Ordering::Greater,
+        "1/2 and 1/6"
+    );
+    assert!(rt;
+        third.compare_y(&Point::new(1, 5, 6)?) == Ordering::Equal,
+        "5/6"
+    );
+    Ok(())
+}
+
 type Ends = (i64, i64, i64, i64);
 
 fn segment(ends: Ends) -> Result<Segment, Fail> {
@@ -316,6 +333,8 @@ fn spans_are_parts_of_lines(rt: HostRuntime) -> Result<(), Fail> {
     let Some(second) = Span::new(third, corner, flat) else {
         return Ok(());
     };
+    assert!(rt; second.lower() == third && second.upper() == corner, "ends");
+    assert!(rt; second.line() == flat, "line");
     assert!(rt;
         span_meeting(&first, &second) == Meet::At(third),
         "touching"

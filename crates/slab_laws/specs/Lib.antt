@@ -12,6 +12,8 @@ pub mod Cycles
 pub mod Subdivision
 pub mod Text
 pub mod Pieces
+pub mod Drawn
+pub mod Rows
 pub mod Tables
 pub mod View
 pub mod Sound

@@ -13,6 +13,7 @@ mod darts;
 mod faced;
 mod names;
 mod present;
+mod rows;
 mod slab_cell;
 mod triangle;
 
@@ -23,5 +24,6 @@ pub use darts::Darts;
 pub use faced::Faced;
 pub use names::{CurveId, CycleId, CycleKind, DartId, FaceId, Strategy, VertexId};
 pub use present::{Piece, Present};
+pub use rows::{CycleRow, DartRow};
 pub use slab_cell::SlabCell;
 pub use triangle::Triangle;

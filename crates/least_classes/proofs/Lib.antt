@@ -1,0 +1,4 @@
+pub mod Transport
+pub mod Tables
+pub mod CellOrder
+pub mod Labelled

@@ -1,0 +1,14 @@
+pub mod Rows
+pub mod Places
+pub mod Darts
+pub mod Records
+pub mod Drawn
+pub mod GraphSound
+pub mod CellList
+pub mod CellOrder
+pub mod RankedFaces
+pub mod FaceRecords
+pub mod Complete
+pub mod Cycled
+pub mod Faced
+pub mod Standing

@@ -1,0 +1,164 @@
+-- Faces that are added one by one are the faces of the model, each once.
+use Rattle.std.proofs.Common.{◌≡◌, ℕ, ◌+◌, ◌<◌, ◌≤◌, Bool, true, false, cond, refl, sym, ap, subst, ◌∙◌, inl, inr, List, [], ◌∷◌, ◌++◌, map, length, fold, take, get_or}
+use Rattle.std.specs.Prelude.{filter, not, ◌&&◌, ◌||◌}
+use Rattle.std.specs.List.{list_any}
+use Rattle.std.proofs.lemmas.Bool.{cases_Bool}
+use Rattle.std.proofs.lemmas.List.{append-nil, append_assoc, map-append, take_all}
+use Rattle.std.proofs.lemmas.List.Elements.{filter_more}
+use Rattle.std.proofs.lemmas.List.Folds.{list_any-append}
+use Rattle.std.proofs.lemmas.List.Sums.{fold-append}
+use Rattle.slab_laws.specs.declared.slab_cell.SlabCell.{SlabCell}
+use Rattle.slab_laws.specs.declared.rows.CycleRow.{CycleRow}
+use Rattle.slab_laws.specs.Skeleton.{Skeleton}
+use Rattle.slab_laws.specs.Faces.{same_cell, face_labels, face_of, cells}
+use Rattle.slab_laws.specs.Listed.{distinct}
+use Rattle.slab_laws.specs.Rows.{cycle_row, cycle_rows}
+use Rattle.slab_laws.specs.Subdivision.{Cycle, subdivision, first_cell}
+use Rattle.slab_faces.proofs.FacesLemmas.{cells_exact}
+use Rattle.listed_views.proofs.RankedFaces.{cycles_are, outer_faces, all_faces, faces_are}
+use Rattle.present_graphs.proofs.Loops.{take_next}
+use Rattle.plain_slabs.specs.Faces.{added}
+
+-- a filter after a filter
+twice : {X : Type 0} (p q r : X → Bool) (xs : List X) → ((x : X) → r x ≡ (q x && p x)) → filter p (filter q xs) ≡ filter r xs
+twice p q r [] h = refl
+twice {X} p q r (x ∷ xs) h = step (q x) (h x) (twice p q r xs h)
+  where
+    step : (b : Bool) → r x ≡ (b && p x) → filter p (filter q xs) ≡ filter r xs → filter p (cond b (x ∷ filter q xs) (filter q xs)) ≡ cond (r x) (x ∷ filter r xs) (filter r xs)
+    step true e f = rw e (ap (λ ys. cond (p x) (x ∷ ys) ys) f)
+    step false e f = rw e f
+
+all_kept : {X : Type 0} (p : X → Bool) (xs : List X) → ((x : X) → p x ≡ true) → filter p xs ≡ xs
+all_kept p [] h = refl
+all_kept p (x ∷ xs) h = rw (h x) (ap (λ ys. x ∷ ys) (all_kept p xs h))
+
+-- the faces have no such one
+abbrev is_new : List SlabCell → SlabCell → Bool
+is_new fs f = not (list_any (same_cell f) fs)
+
+abbrev differs : SlabCell → SlabCell → Bool
+differs f g = not (same_cell f g)
+
+stands : (fs : List SlabCell) (f : SlabCell) → list_any (same_cell f) fs ≡ true → added fs f ≡ fs
+stands fs f e = rw e refl
+
+stands_not : (fs : List SlabCell) (f : SlabCell) → list_any (same_cell f) fs ≡ false → added fs f ≡ fs ++ f ∷ []
+stands_not fs f e = rw e refl
+
+passed_over : (fs : List SlabCell) (f g : SlabCell) → list_any (same_cell f) fs ≡ true → is_new fs g ≡ (differs f g && is_new fs g)
+passed_over fs f g e =
+    elim (cases_Bool (same_cell f g)) [
+      | inl s ↦ rw (s, subst (λ h. list_any (same_cell h) fs ≡ true) (cells_exact.path f g s) e) refl
+      | inr s ↦ rw s refl
+    ]
+
+turned : (f g : SlabCell) → same_cell f g ≡ same_cell g f
+turned f g =
+    elim (cases_Bool (same_cell f g)) [
+      | inl s ↦ s ∙ sym (subst (λ h. same_cell h f ≡ true) (cells_exact.path f g s) (cells_exact.itself f))
+      | inr s ↦ elim (cases_Bool (same_cell g f)) [
+        | inl t ↦ let a : same_cell f g ≡ true = subst (λ h. same_cell h g ≡ true) (cells_exact.path g f t) (cells_exact.itself g) in a ∙ sym t
+        | inr t ↦ s ∙ sym t
+      ]
+    ]
+
+either : (a b : Bool) → not (a || (b || false)) ≡ (not b && not a)
+either true true = refl
+either true false = refl
+either false true = refl
+either false false = refl
+
+new_after : (fs : List SlabCell) (f g : SlabCell) → is_new (fs ++ f ∷ []) g ≡ (differs f g && is_new fs g)
+new_after fs f g =
+    ap not (list_any-append (same_cell g) fs (f ∷ []))
+    ∙ either (list_any (same_cell g) fs) (same_cell g f)
+    ∙ ap (λ b. not b && is_new fs g) (turned g f)
+
+folded : (fs xs : List SlabCell) → fold added fs xs ≡ fs ++ filter (is_new fs) (distinct same_cell xs)
+unfolding distinct
+folded fs [] = sym (append-nil fs)
+folded fs (x ∷ xs) =
+    elim (cases_Bool (list_any (same_cell x) fs)) [
+      | inl e ↦
+          ap (λ gs. fold added gs xs) (stands fs x e)
+          ∙ folded fs xs
+          ∙ ap (λ ys. fs ++ ys) (sym (twice (is_new fs) (differs x) (is_new fs) (distinct same_cell xs) (λ y. passed_over fs x y e)))
+          ∙ sym (ap (λ b. fs ++ cond (not b) (x ∷ filter (is_new fs) (filter (differs x) (distinct same_cell xs))) (filter (is_new fs) (filter (differs x) (distinct same_cell xs)))) e)
+      | inr e ↦
+          ap (λ gs. fold added gs xs) (stands_not fs x e)
+          ∙ folded (fs ++ x ∷ []) xs
+          ∙ append_assoc fs (x ∷ []) (filter (is_new (fs ++ x ∷ [])) (distinct same_cell xs))
+          ∙ ap (λ ys. fs ++ x ∷ ys) (sym (twice (is_new fs) (differs x) (is_new (fs ++ x ∷ [])) (distinct same_cell xs) (λ y. new_after fs x y)))
+          ∙ sym (ap (λ b. fs ++ cond (not b) (x ∷ filter (is_new fs) (filter (differs x) (distinct same_cell xs))) (filter (is_new fs) (filter (differs x) (distinct same_cell xs)))) e)
+    ]
+
+-- ---- the faces of outer cycles
+abbrev pub outer_of : List CycleRow → List SlabCell
+outer_of cs = map (λ c. c.face) (filter (λ c. c.outer) cs)
+
+rows_outer : (g : Skeleton) (cs : List Cycle) → outer_of (map (cycle_row g) cs) ≡ map (λ c. c.face) (filter (λ c. c.outer) cs)
+rows_outer g [] = refl
+rows_outer g (c ∷ cs) = step c.outer (rows_outer g cs)
+  where
+    step : (b : Bool) → outer_of (map (cycle_row g) cs) ≡ map (λ c. c.face) (filter (λ c. c.outer) cs) → map (λ (c : CycleRow). c.face) (cond b (cycle_row g c ∷ filter (λ c. c.outer) (map (cycle_row g) cs)) (filter (λ c. c.outer) (map (cycle_row g) cs))) ≡ map (λ (c : Cycle). c.face) (cond b (c ∷ filter (λ c. c.outer) cs) (filter (λ c. c.outer) cs))
+    step true e = ap (λ fs. c.face ∷ fs) e
+    step false e = e
+
+outer_are : (g : Skeleton) → outer_of (cycle_rows g) ≡ outer_faces g
+unfolding cycle_rows
+outer_are g = rows_outer g (subdivision g).cycles ∙ ap (λ cs. map (λ (c : Cycle). c.face) (filter (λ c. c.outer) cs)) (cycles_are g)
+
+-- ---- the faces after each loop
+-- the unbounded face
+abbrev pub first_faces : Skeleton → List SlabCell
+first_faces g = added [] (face_of (face_labels g) first_cell)
+
+module _ (g : Skeleton) where
+  -- those, and those of the cycles
+  abbrev pub with_cycles : List CycleRow → List SlabCell
+  with_cycles cs = fold added (first_faces g) (outer_of cs)
+
+  -- those, and those of the cells
+  abbrev pub with_cells : List SlabCell → List SlabCell
+  with_cells ds = fold added (with_cycles (cycle_rows g)) (map (face_of (face_labels g)) ds)
+
+  pub all_are : with_cells (cells g) ≡ (subdivision g).faces
+  unfolding distinct
+  all_are =
+      ap (λ os. fold added (fold added (first_faces g) os) (map (face_of (face_labels g)) (cells g))) (outer_are g)
+      ∙ sym (fold-append added (first_faces g) (outer_faces g) (map (face_of (face_labels g)) (cells g)))
+      ∙ folded [] (all_faces g)
+      ∙ all_kept (is_new []) (distinct same_cell (all_faces g)) (λ f. refl)
+      ∙ sym (faces_are g)
+
+  module _ (cs : List CycleRow) (i : ℕ) (c : CycleRow) (below : i < length cs) (reads : c ≡ get_or cs i c) where
+    next_outer : (b : Bool) → c.outer ≡ b → outer_of (take (i + 1) cs) ≡ outer_of (take i cs) ++ cond b (c.face ∷ []) []
+    next_outer b e =
+        ap (map (λ (c : CycleRow). c.face)) (filter_more (λ (c : CycleRow). c.outer) cs i c below ∙ (λ k. filter (λ c. c.outer) (take i cs) ++ cond ((ap (λ (c : CycleRow). c.outer) (sym reads) ∙ e) k) (sym reads k ∷ []) []))
+        ∙ map-append (λ (c : CycleRow). c.face) (filter (λ c. c.outer) (take i cs)) (cond b (c ∷ []) [])
+        ∙ ap (λ fs. outer_of (take i cs) ++ fs) (one b)
+      where
+        one : (b : Bool) → map (λ (c : CycleRow). c.face) (cond b (c ∷ []) []) ≡ cond b (c.face ∷ []) []
+        one true = refl
+        one false = refl
+
+    pub cycle_added : (now new : List SlabCell) → c.outer ≡ true → now ≡ with_cycles (take i cs) → new ≡ added now c.face → new ≡ with_cycles (take (i + 1) cs)
+    cycle_added now new e n a =
+        a ∙ ap (λ fs. added fs c.face) n
+        ∙ sym (fold-append added (first_faces g) (outer_of (take i cs)) (c.face ∷ []))
+        ∙ ap (fold added (first_faces g)) (sym (next_outer true e))
+
+    pub cycle_passed : (now : List SlabCell) → c.outer ≡ false → now ≡ with_cycles (take i cs) → now ≡ with_cycles (take (i + 1) cs)
+    cycle_passed now e n = n ∙ ap (fold added (first_faces g)) (sym (next_outer false e ∙ append-nil (outer_of (take i cs))))
+
+  pub cycles_done : (cs : List CycleRow) (i : ℕ) (now : List SlabCell) → length cs ≤ i → now ≡ with_cycles (take i cs) → cs ≡ cycle_rows g → now ≡ with_cells []
+  cycles_done cs i now h n e = n ∙ ap with_cycles (take_all i cs h ∙ e)
+
+  pub cell_added : (ds : List SlabCell) (i : ℕ) (d f : SlabCell) (now new : List SlabCell) → i < length ds → d ≡ get_or ds i d → f ≡ face_of (face_labels g) d → now ≡ with_cells (take i ds) → new ≡ added now f → new ≡ with_cells (take (i + 1) ds)
+  cell_added ds i d f now new below reads e n a =
+      a ∙ (λ k. added (n k) (e k))
+      ∙ sym (fold-append added (with_cycles (cycle_rows g)) (map (face_of (face_labels g)) (take i ds)) (face_of (face_labels g) d ∷ []))
+      ∙ ap (fold added (with_cycles (cycle_rows g))) (sym (ap (map (face_of (face_labels g))) (take_next ds i d below reads) ∙ map-append (face_of (face_labels g)) (take i ds) (d ∷ [])))
+
+  pub cells_done : (ds : List SlabCell) (i : ℕ) (now : List SlabCell) → length ds ≤ i → now ≡ with_cells (take i ds) → ds ≡ cells g → now ≡ (subdivision g).faces
+  cells_done ds i now h n e = n ∙ ap with_cells (take_all i ds h ∙ e) ∙ all_are

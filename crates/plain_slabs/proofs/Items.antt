@@ -1,0 +1,33 @@
+-- Items of lists by their numbers.
+use Rattle.std.proofs.Common.{◌≡◌, ℕ, ◌<◌, arith, sym, ap, ◌∙◌, List, map, length, Some, get_or, false}
+use Rattle.std.specs.Prelude.{slice_get, vec_len, Vec}
+use Rattle.std.specs.Option.{option_map}
+use Rattle.slab_laws.specs.declared.rows.DartRow.{DartRow}
+use Rattle.std.proofs.lemmas.Option.{slice_get-map, slice_get_within, get_or_from_slice_get, slice_get-get_or}
+
+-- the list of the values of the elements of another
+module _ {X Y : Type 0} (f : X → Y) (xs : List X) (items : List Y) (are : items ≡ map f xs) (k : ℕ) (x : X) (at : slice_get xs k ≡ Some x) where
+  pub there : slice_get items k ≡ Some (f x)
+  there = ap (λ (ys : List Y). slice_get ys k) are ∙ slice_get-map f xs k ∙ ap (option_map f) at
+
+  pub within : k < length items
+  within = slice_get_within items k (f x) there
+
+  pub item_is : (y d : Y) → y ≡ get_or items k d → y ≡ f x
+  item_is y d e = e ∙ get_or_from_slice_get items k (f x) d there
+
+-- what a list has at a number below its length
+pub read : {X : Type 0} (xs : List X) (k : ℕ) (x : X) → k < length xs → x ≡ get_or xs k x → slice_get xs k ≡ Some x
+read xs k x h e = slice_get-get_or xs k x h ∙ ap Some (sym e)
+
+-- a number below the length of a list is one of the Vec's places
+pub place : {X A : Type 0} (v : Vec X A) (k : ℕ) → k < length v.items → k < vec_len v
+place v k h = let n = v.ok.0 in omega arith
+
+-- a row for the places where there is none
+abbrev pub no_row : DartRow
+no_row = record { source = 0; target = 0; edge = 0; forward = false }
+
+-- within the list the default doesn't matter
+pub get_or_default : {X : Type 0} (xs : List X) (k : ℕ) (d e : X) → k < length xs → get_or xs k d ≡ get_or xs k e
+get_or_default xs k d e h = sym (get_or_from_slice_get xs k (get_or xs k d) e (slice_get-get_or xs k d h))

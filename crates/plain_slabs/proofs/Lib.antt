@@ -1,0 +1,11 @@
+pub mod Items
+pub mod DartLists
+pub mod VertexLists
+pub mod CycleLists
+pub mod Numbers
+pub mod Finds
+pub mod CurveLists
+pub mod FaceLists
+pub mod LeadRows
+pub mod Building
+pub mod Named

@@ -1,0 +1,19 @@
+use Rattle.std.proofs.Common.{sym, subst}
+use Rattle.slab_laws.specs.declared.names.FaceId.{FaceId}
+use Rattle.slab_laws.specs.View.{HasFace}
+use Rattle.listed_views.specs.Listed.{faces_of}
+use Rattle.plain_slabs.proofs.Items.{place}
+use Rattle.plain_slabs.proofs.DartLists.{stands}
+use Rattle.plain_slabs.proofs.CycleLists.{rank_within, face_reads}
+use Rattle.plain_slabs.proofs.records.PlainFaced.face.Goals as goal
+
+pub index-requires : goal.index-requires
+index-requires c = place c.self.inside.cycle_ranks c.args.c.0 (rank_within c.self.inside c.args.self.now c.self.invariant c.self.view_is c.args.c c.requires)
+
+pub returns-clause-face : goal.returns-clause-face
+returns-clause-face c = face_reads c.self.inside c.args.self.now c.self.invariant c.self.view_is c.args.c c.index.result.now c.requires c.index.ensures
+
+pub returns-clause-has : goal.returns-clause-has
+returns-clause-has c =
+    subst (λ (n : FaceId). HasFace (faces_of c.args.self.now) n) (sym (face_reads c.self.inside c.args.self.now c.self.invariant c.self.view_is c.args.c c.index.result.now c.requires c.index.ensures))
+    ((stands c.self.inside c.args.self.now c.self.invariant c.self.view_is).complete.face_has c.args.c c.requires)

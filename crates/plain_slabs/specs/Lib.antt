@@ -1,0 +1,5 @@
+pub mod Drawn
+pub mod Curves
+pub mod Kept
+pub mod Faces
+pub mod Orbits

@@ -1,0 +1,22 @@
+//! The slab engine: the subdivision of the plane by a present, computed from scratch, and where a point lies in it.
+//!
+//! It is slow and plain: every part of the answer is computed by the definition. Slabs, cells and faces are those of the
+//! slab model; what is answered is proved to be the model's subdivision and the model's location. It is the yardstick of
+//! every faster engine.
+#![tactic(auto)]
+
+mod build;
+mod faces;
+mod locate;
+mod orbits;
+mod plain;
+mod ranks;
+mod records;
+mod regions;
+
+pub use build::subdivide;
+pub use locate::hold;
+pub use plain::Plain;
+
+#[cfg(test)]
+mod tests;

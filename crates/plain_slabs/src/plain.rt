@@ -1,0 +1,37 @@
+use exact_plane::{Point, Span};
+use least_classes::CellLabels;
+use present_graphs::Mark;
+use slab_laws::{CycleRow, DartRow, SlabCell};
+use std::marker::Model;
+
+/// The subdivision of the plane by a present, in ascending lists: anything's name is its place in its list, a face's is its
+/// rank.
+#[derive(Drop)]
+pub struct Plain {
+    pub(crate) points: Vec<Point>,
+    pub(crate) pins: Vec<Point>,
+    pub(crate) pinned: Vec<bool>,
+    pub(crate) marks: Vec<Mark>,
+    pub(crate) edges: Vec<Span>,
+    pub(crate) darts: Vec<DartRow>,
+    pub(crate) twins: Vec<usize>,
+    pub(crate) nexts: Vec<usize>,
+    pub(crate) in_cycles: Vec<usize>,
+    pub(crate) cycles: Vec<CycleRow>,
+    pub(crate) cycle_ranks: Vec<usize>,
+    pub(crate) bare_ranks: Vec<usize>,
+    pub(crate) labels: CellLabels,
+    pub(crate) faces: Vec<SlabCell>,
+}
+
+impl Model for Plain {
+    ghost use Rattle.listed_views.specs.Listed.{Drawing};
+
+    ghost Value = { Drawing };
+
+    ghost use Rattle.plain_slabs.specs.Kept.{drawing_of, IsKept};
+
+    ghost view = { drawing_of };
+
+    ghost invariant = { IsKept };
+}

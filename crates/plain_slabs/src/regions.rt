@@ -1,0 +1,69 @@
+ghost use Rattle.std.specs.Prelude.{◌≡◌, IfOk};
+ghost use Rattle.slab_laws.specs.Drawn.{drawn};
+ghost use Rattle.slab_laws.specs.Skeleton.{IsPlane};
+ghost use Rattle.plain_slabs.specs.Faces.{AreLabelsOf};
+ghost use Rattle.plain_slabs.specs.Orbits.{AreOrbits, AreRegions};
+
+use crate::faces::{bare_ranks, cycles_of, faces_of};
+use crate::orbits::Orbits;
+use crate::ranks::cycle_ranks;
+use exact_plane::{Point, Span};
+use least_classes::CellLabels;
+use no_memory::NoMemory;
+use slab_laws::{CycleRow, SlabCell};
+use slab_links::{link_cells, list_cells};
+use std::alloc::Global;
+
+/// The faces of a graph by rank, and of which cycles and bare vertices they are.
+#[derive(Drop)]
+pub(crate) struct Regions {
+    pub(crate) labels: CellLabels,
+    pub(crate) cycles: Vec<CycleRow>,
+    pub(crate) faces: Vec<SlabCell>,
+    pub(crate) cycle_ranks: Vec<usize>,
+    pub(crate) bare_ranks: Vec<usize>,
+}
+
+// The labels of the cells.
+fn labels_of(alloc: Global, points: &[Point], edges: &[Span]) -> Result<CellLabels, NoMemory>
+    requires { IsPlane (drawn points.now edges.now) }
+    ensures { IfOk result (AreLabelsOf (drawn points.now edges.now)) }
+{
+    let links = link_cells(alloc, points, edges)?;
+    let labels = CellLabels::of_links(alloc, &links)?;
+    Ok(labels)
+}
+
+// The faces, their cycles and bare vertices.
+pub(crate) fn regions_of(
+    alloc: Global,
+    points: &[Point],
+    edges: &[Span],
+    orbits: &Orbits,
+) -> Result<Regions, NoMemory>
+    requires plane { IsPlane (drawn points.now edges.now) }
+    requires orbits { AreOrbits (drawn points.now edges.now) orbits.now }
+    ensures { IfOk result (AreRegions (drawn points.now edges.now)) }
+{
+    let labels = labels_of(alloc, points, edges)?;
+    let cycles = cycles_of(
+        alloc,
+        points,
+        edges,
+        &orbits.darts,
+        &orbits.leads,
+        &labels,
+        &orbits.cycles,
+    )?;
+    let cells = list_cells(alloc, points, edges)?;
+    let faces = faces_of(alloc, points, edges, &cells, &cycles, &labels)?;
+    let cycle_ranks = cycle_ranks(alloc, &faces, &cycles)?;
+    let bare_ranks = bare_ranks(alloc, points, edges, &labels, &faces)?;
+    Ok(Regions {
+        labels,
+        cycles,
+        faces,
+        cycle_ranks,
+        bare_ranks,
+    })
+}

@@ -1,0 +1,13 @@
+pub mod Arranged
+pub mod Chains
+pub mod Crossed
+pub mod Drawings
+pub mod Fit
+pub mod Grown
+pub mod HoldingSpan
+pub mod InRange
+pub mod LastEdge
+pub mod Loops
+pub mod Meets
+pub mod OnSpans
+pub mod Ties

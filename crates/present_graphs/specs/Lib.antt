@@ -1,0 +1,4 @@
+pub mod Edges
+pub mod Marks
+pub mod Shared
+pub mod Spans

@@ -1,0 +1,6 @@
+pub mod Counts
+pub mod Feet
+pub mod Gathered
+pub mod Loops
+pub mod PlaneTests
+pub mod Reached
