@@ -1,15 +1,13 @@
 -- The order of two edges at an abscissa, by the heights of their lines.
-use Rattle.std.proofs.Common.{◌≡◌, true, arith, refl, sym, ap, ◌∙◌, [], ◌∷◌, Ordering}
+use Rattle.std.proofs.Common.{◌≡◌, true, ap, ◌∙◌, [], ◌∷◌, Ordering}
 use Rattle.std.specs.Prelude.{ℤ, pos, ◌+ℤ◌, ◌-ℤ◌, ◌*ℤ◌, ◌<ℤ◌, neg_ℤ}
-use Rattle.std.specs.Ordering.{int_cmp, is_gt}
-use Rattle.std.proofs.lemmas.Int.{ints}
+use Rattle.std.specs.Ordering.{is_gt}
 use lib.Signed.{lt_z}
 use Rattle.integers.proofs.Compare.{same_cmp}
 use Rattle.integers.proofs.Reify.{ring, sides}
 use Rattle.integers.proofs.Signs.{mul_pos}
 use Rattle.exact_plane.specs.Point.{Point}
 use Rattle.exact_plane.specs.Height.{height_cmp, height_over, height_under}
-use Rattle.exact_plane.specs.Line.{side_of}
 use Rattle.exact_plane.specs.Span.{Span, IsSpan}
 use Rattle.plane_graphs.proofs.Crossings.{spans_w, spans_x}
 use Rattle.plane_graphs.proofs.Lines.{span_a, span_b, span_c}

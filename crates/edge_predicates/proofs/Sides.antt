@@ -1,5 +1,5 @@
 -- The side of a point by an edge's ends and by the edge's line.
-use Rattle.std.proofs.Common.{◌≡◌, Bool, true, false, arith, refl, sym, ap, ◌∙◌, ◌⊎◌, inl, inr, ⊎_elim, [], ◌∷◌, Ordering, Less, Equal, Greater}
+use Rattle.std.proofs.Common.{◌≡◌, Bool, true, false, arith, refl, sym, ap, ◌∙◌, inl, inr, [], ◌∷◌, Ordering, Less, Equal, Greater}
 use Rattle.std.specs.Prelude.{ℤ, pos, ◌+ℤ◌, ◌-ℤ◌, ◌*ℤ◌, ◌<ℤ◌, neg_ℤ, not, ◌&&◌}
 use Rattle.std.specs.Ordering.{int_cmp, is_lt, is_gt}
 use Rattle.std.proofs.lemmas.Int.{ints, by_lt_z}
@@ -7,14 +7,13 @@ use lib.Signed.{lt_z}
 use Rattle.integers.proofs.Compare.{less_out, equal_out, greater_out, same_cmp}
 use Rattle.integers.proofs.Reify.{ring, sides}
 use Rattle.exact_plane.specs.Point.{Point}
-use Rattle.exact_plane.specs.Line.{Line, side_of}
+use Rattle.exact_plane.specs.Line.{side_of}
 use Rattle.exact_plane.specs.Sign.{sign_by, sign_of}
 use Rattle.exact_plane.specs.Span.{Span, IsSpan}
 use Rattle.exact_plane.specs.declared.sides.Sign.{Sign}
 use Rattle.exact_plane.specs.declared.sides.Sign.TheVariants.{Minus, Zero, Plus}
 use Rattle.plane_graphs.proofs.Crossings.{Runs, spans_w, spans_x, spans_y}
 use Rattle.plane_graphs.proofs.Lines.{point_is_proper, span_a, span_b, span_c, span_runs}
-use Rattle.plane_graphs.proofs.Order.{Lt}
 use Rattle.slab_laws.specs.Skeleton.{left_of, lower_than, precedes, run, side, over, under, inside}
 use Rattle.slab_laws.specs.Drawn.{edge_of}
 use Rattle.slab_faces.proofs.Ints.{times_mixed}

@@ -1,4 +1,4 @@
-use Rattle.std.proofs.Common.{◌≡◌, ap, sym, subst, ◌∙◌}
+use Rattle.std.proofs.Common.{sym, subst, ◌∙◌}
 use Rattle.std.specs.Prelude.{pos, ◌<ℤ◌}
 use Rattle.exact_plane.specs.Height.{height_cmp}
 use Rattle.edge_predicates.proofs.Heights.{higher_is, not_vertical}
