@@ -66,7 +66,7 @@ fit_pin p r fit pr = record {
   one_piece = fit.one_piece;
 }
 
-fit_empty : IsFit (record { pieces = []; pins = [] })
+pub fit_empty : IsFit (record { pieces = []; pins = [] })
 fit_empty = record {
   piece = λ k m. absurd m;
   pin = λ r m. absurd m;

@@ -4,6 +4,7 @@ pub mod Edits
 mod Examples
 pub mod Folds
 pub mod Laws
+pub mod Layers
 pub mod Removals
 pub mod Seen
 pub mod Sound

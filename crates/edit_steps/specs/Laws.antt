@@ -1,5 +1,5 @@
 -- The laws of edits and their steps.
-use Rattle.std.specs.Prelude.{◌≡◌, ◌⊎◌, ℕ, List, true, false, ◌&&◌, ◌||◌}
+use Rattle.std.specs.Prelude.{◌≡◌, ◌⊎◌, ℕ, ◌≤◌, List, true, false, ◌&&◌, ◌||◌}
 use Rattle.std.specs.List.{list_any}
 use Rattle.exact_plane.specs.Point.{Point}
 use Rattle.exact_plane.specs.PointOrder.{point_cmp}
@@ -11,6 +11,7 @@ use Rattle.plane_graphs.specs.Fit.{IsFit}
 use Rattle.edit_steps.specs.Steps.{run, with_piece, without_curve, with_cut}
 use Rattle.edit_steps.specs.Allowed.{AreSound, IsPassed}
 use Rattle.edit_steps.specs.Edits.{Edit, after, steps, IsAccepted}
+use Rattle.edit_steps.specs.Layer.{Layer, layer_after, IsAcceptedBy, IsLawful, empty_layer}
 
 -- an accepted edit keeps a present fit
 abbrev pub EditsKeepFit : Type 0
@@ -53,3 +54,9 @@ pub record PassesThrough (g : Graph) (k : Piece) (x : Point) : Type 0 where
 pub record MeetingPoints : Type 0 where
   pub are : (p : Present) (k : Piece) (x : Point) → IsFit (with_piece p k) → Member x (vertices (with_piece p k)) → on k x ≡ true → (x ≡ k.from) ⊎ ((x ≡ k.to) ⊎ (Member x (vertices p) ⊎ PassesThrough (graph p) k x))
   pub all : (p : Present) (k : Piece) (x : Point) → IsFit (with_piece p k) → (x ≡ k.from) ⊎ ((x ≡ k.to) ⊎ (Member x (vertices p) ⊎ PassesThrough (graph p) k x)) → Member x (vertices (with_piece p k))
+
+-- layers: `empty`, the layer before the first edit is lawful; `accepted`, what a lawful layer accepts, its present does; `stay`, it stays lawful
+pub record LayersAreLawful : Type 0 where
+  pub empty : (first : ℕ) → 1 ≤ first → IsLawful (empty_layer first)
+  pub accepted : (e : Edit) (l : Layer) → IsLawful l → IsAcceptedBy e l → IsAccepted e l.present
+  pub stay : (e : Edit) (l : Layer) → IsLawful l → IsAcceptedBy e l → IsLawful (layer_after e l)

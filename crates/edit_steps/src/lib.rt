@@ -4,7 +4,7 @@
 //! being empty, does not compute.
 #![tactic(auto)]
 
-ghost use Rattle.edit_steps.specs.Laws.{EditsKeepFit, StepsMakeGraph, StepsAreSound, VerticesChange, LooseIsNoVertex, MeetingPoints};
+ghost use Rattle.edit_steps.specs.Laws.{EditsKeepFit, StepsMakeGraph, StepsAreSound, VerticesChange, LooseIsNoVertex, MeetingPoints, LayersAreLawful};
 
 /// An accepted edit keeps a present fit.
 pub fn edits_keep_fit()
@@ -37,4 +37,9 @@ pub fn loose_is_no_vertex()
 /// of another line.
 pub fn meeting_points()
     ensures { MeetingPoints }
+{}
+
+/// The layer before the first edit is lawful, and an accepted edit keeps it so.
+pub fn layers_are_lawful()
+    ensures { LayersAreLawful }
 {}

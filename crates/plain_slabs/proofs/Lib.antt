@@ -9,3 +9,4 @@ pub mod FaceLists
 pub mod LeadRows
 pub mod Building
 pub mod Named
+pub mod Counted

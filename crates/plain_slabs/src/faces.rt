@@ -86,7 +86,7 @@ pub(crate) fn cycles_of(
 }
 
 // Whether a point is an end of an edge.
-fn has_dart(edges: &[Span], point: &Point) -> bool
+pub(crate) fn has_dart(edges: &[Span], point: &Point) -> bool
     ensures { result ≡ list_any (λ s. same_point s.lower point.now || same_point s.upper point.now) edges.now }
 {
     edges.iter().any(|e| is_same(&e.lower(), point) || is_same(&e.upper(), point))

@@ -6,6 +6,7 @@
 #![tactic(auto)]
 
 mod build;
+mod counts;
 mod faces;
 mod locate;
 mod orbits;
@@ -15,6 +16,7 @@ mod records;
 mod regions;
 
 pub use build::subdivide;
+pub use counts::{Counts, count};
 pub use locate::hold;
 pub use plain::Plain;
 

@@ -4,7 +4,7 @@ ghost use Rattle.slab_laws.specs.Pieces.{present_of};
 ghost use Rattle.slab_laws.specs.View.{HasDart};
 ghost use Rattle.listed_views.specs.Listed.{view_of};
 
-use crate::{Plain, hold, subdivide};
+use crate::{Counts, Plain, count, hold, subdivide};
 use exact_plane::{Point, Segment};
 use no_memory::NoMemory;
 use slab_laws::{Cell, CurveId, Curved, CycleKind, DartId, Darts, Faced, Piece, Present};
@@ -158,6 +158,14 @@ fn a_square_with_its_diagonals_has_four_faces_inside(rt: HostRuntime) -> Result<
         plain.bare_ranks.as_slice() == [0, 0, 2, 0, 0, 0].as_slice(),
         "pin"
     );
+    let wanted = Counts {
+        vertices: 6,
+        edges: 8,
+        faces: 5,
+        inner: 1,
+        isolated: 1,
+    };
+    assert!(rt; count(&plain) == wanted, "counts");
     Ok(())
 }
 

@@ -1,7 +1,7 @@
 pub mod Takes
-pub mod Vertices
-pub mod Isolated
-pub mod Places
-pub mod Ascends
+pub mod PinPlaces
+pub mod Layers
+pub mod Answered
+pub mod Printed
 pub mod Script
 pub mod Loop

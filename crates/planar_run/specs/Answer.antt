@@ -1,15 +1,25 @@
 -- What a line is answered, and the world that the next line meets.
-use Rattle.std.specs.Prelude.{◌≡◌, ℕ, ◌<◌, false, ◌⊎◌, List, [], ◌++◌, length, nat_lt, Result, Ok, Err, codes, decimal, if◌then◌else◌, ⊤}
+use Rattle.std.specs.Prelude.{◌≡◌, ℕ, ◌<◌, ◌≤◌, Bool, true, false, not, ◌&&◌, ◌⊎◌, List, [], ◌∷◌, ◌++◌, length, nat_lt, nat_le, Result, Ok, Err, codes, decimal, if◌then◌else◌, ⊤}
+use Rattle.std.specs.List.{count_by, list_any}
+use Rattle.exact_plane.specs.Point.{Point}
+use Rattle.exact_plane.specs.Segment.{Segment}
+use Rattle.exact_plane.specs.SegmentOf.{segment_of}
+use Rattle.exact_plane.specs.declared.segment.SegmentError.{SegmentError}
+use Rattle.exact_plane.specs.declared.segment.SegmentError.TheVariants.{Range, Equal}
+use Rattle.plane_graphs.specs.Line.{same_point}
+use Rattle.plane_graphs.specs.Graph.{graph}
+use Rattle.edit_steps.specs.Edits.{Edit, Insert, Pin as PinPoint, Unpin as UnpinPoint}
+use Rattle.edit_steps.specs.Layer.{Layer, layer_after}
+use Rattle.slab_laws.specs.Subdivision.{Subdivision, subdivision, holds}
+use Rattle.slab_laws.specs.Text.{skeleton, present_text}
 use Rattle.script_lines.specs.declared.command.Command.{Command}
-use Rattle.script_lines.specs.declared.command.Command.TheVariants.{Nothing, Pin, Unpin, Locate, Show}
+use Rattle.script_lines.specs.declared.command.Command.TheVariants.{Nothing, Segment as AddSegment, Pin, Unpin, Locate, Count, Show}
 use Rattle.script_lines.specs.declared.error.LineError.{LineError}
 use Rattle.script_lines.specs.LineError.{refusal_number}
 use Rattle.script_lines.specs.Command.{command_of}
-use Rattle.planar_run.specs.declared.world.TheConstants.{MAX_PINS}
-use Rattle.planar_run.specs.Pins.{is_pinned, with_pin, without_pin}
+use Rattle.planar_run.specs.declared.world.TheConstants.{MAX_CURVES, MAX_PIECES, MAX_PINS, LAST_CURVE}
 use Rattle.planar_run.specs.World.{World}
-use Rattle.planar_run.specs.Subdivision.{subdivision, cell_of}
-use Rattle.planar_run.specs.Text.{line_of, cell_text, text_of}
+use Rattle.planar_run.specs.Text.{line_of, cell_text, spaced}
 
 pub record Answer : Type 0 where
   -- the bytes of the reply
@@ -17,30 +27,85 @@ pub record Answer : Type 0 where
   -- the world after the line
   pub world : World
 
-abbrev pub refused : List ℕ → World → Answer
-refused number world = record { text = line_of number; world = world }
+-- the line isn't done, and the world stays
+abbrev pub refused : ℕ → World → Answer
+refused number world = record { text = line_of (codes "refused " ++ decimal number); world = world }
+
+-- a question, which leaves the world as it is
+abbrev pub said : List ℕ → World → Answer
+said text world = record { text = text; world = world }
+
+-- an edit
+abbrev pub done : List ℕ → Edit → World → Answer
+done text edit world = record { text = line_of text; world = record { layer = layer_after edit world.layer } }
+
+abbrev pub is_pinned : Point → World → Bool
+is_pinned p world = list_any (same_point p) world.layer.present.pins
+
+-- the subdivision of the plane by the present segments and points, built afresh
+abbrev pub subdivision_of : World → Subdivision
+subdivision_of world = subdivision (skeleton (graph world.layer.present))
+
+-- why a pin is refused: 13, the point is pinned; 17, as many as may be are
+abbrev pub pinning : Point → World → Answer
+pinning p world =
+    if is_pinned p world then refused 13 world
+    else (if nat_lt (length world.layer.present.pins) MAX_PINS then done (codes "ok") (PinPoint p) world
+    else refused 17 world)
+
+-- 10, the point isn't pinned
+abbrev pub unpinning : Point → World → Answer
+unpinning p world = if is_pinned p world then done (codes "ok") (UnpinPoint p) world else refused 10 world
+
+-- 17, as many curves have a name as may, or there are as many pieces as may be; 18, the last number was drawn
+abbrev pub room_for_a_curve : Layer → Bool
+room_for_a_curve layer = nat_lt (length layer.names) MAX_CURVES && nat_lt (length layer.present.pieces) MAX_PIECES
+
+abbrev pub insertion : Segment → World → Answer
+insertion s world =
+    if room_for_a_curve world.layer then (if nat_le world.layer.next LAST_CURVE then done (codes "ok " ++ decimal world.layer.next) (Insert world.layer.next s) world
+    else refused 18 world)
+    else refused 17 world
+
+-- 7, the ends are equal; 4, a coordinate is out of its range, which no line that was read has
+abbrev pub segment_refusal : SegmentError → ℕ
+segment_refusal Range = 4
+segment_refusal Equal = 7
+
+abbrev pub drawing : Result Segment SegmentError → World → Answer
+drawing (Err error) world = refused (segment_refusal error) world
+drawing (Ok s) world = insertion s world
+
+-- vertices, edges, faces, inner cycles, isolated vertices, and the curves that have a name
+abbrev pub counted : Subdivision → ℕ → List ℕ
+counted s curves =
+    length s.graph.vertices ∷ length s.graph.edges ∷ length s.faces ∷ count_by (λ c. not c.outer) s.cycles ∷ length s.bare ∷ curves ∷ []
 
 -- what a line that says this is answered with ample memory
 abbrev pub answer_to : World → Result Command LineError → Answer
-answer_to world (Err error) = refused (codes "refused " ++ decimal (refusal_number error)) world
-answer_to world (Ok Nothing) = record { text = []; world = world }
-answer_to world (Ok (Pin p)) =
-    if is_pinned p world.pins then refused (codes "refused 13") world
-    else (if nat_lt (length world.pins) MAX_PINS then record { text = line_of (codes "ok"); world = record { pins = with_pin p world.pins } }
-    else refused (codes "refused 17") world)
-answer_to world (Ok (Unpin p)) =
-    if is_pinned p world.pins then record { text = line_of (codes "ok"); world = record { pins = without_pin p world.pins } }
-    else refused (codes "refused 10") world
-answer_to world (Ok (Locate p)) = record { text = line_of (cell_text (cell_of world.pins p)); world = world }
-answer_to world (Ok Show) = record { text = text_of (subdivision world.pins); world = world }
+answer_to world (Err error) = refused (refusal_number error) world
+answer_to world (Ok Nothing) = said [] world
+answer_to world (Ok (AddSegment x1 y1 x2 y2)) = drawing (segment_of x1 y1 x2 y2) world
+answer_to world (Ok (Pin p)) = pinning p world
+answer_to world (Ok (Unpin p)) = unpinning p world
+answer_to world (Ok (Locate p)) = said (line_of (cell_text (holds (subdivision_of world) p))) world
+answer_to world (Ok Count) = said (line_of (codes "counts" ++ spaced (counted (subdivision_of world) (length world.layer.names)))) world
+answer_to world (Ok Show) = said (present_text world.layer.present) world
+
+-- a segment may need memory where it isn't refused
+abbrev pub MayDraw : Result Segment SegmentError → World → Type 0
+MayDraw (Err error) world = ⊥
+MayDraw (Ok s) world = (room_for_a_curve world.layer ≡ true) × (world.layer.next ≤ LAST_CURVE)
 
 -- the line may need memory: it isn't refused, and what it says needs some
 abbrev pub MayTake : World → Result Command LineError → Type 0
 MayTake world (Err error) = ⊥
 MayTake world (Ok Nothing) = ⊥
-MayTake world (Ok (Pin p)) = (is_pinned p world.pins ≡ false) × (length world.pins < MAX_PINS)
+MayTake world (Ok (AddSegment x1 y1 x2 y2)) = MayDraw (segment_of x1 y1 x2 y2) world
+MayTake world (Ok (Pin p)) = (is_pinned p world ≡ false) × (length world.layer.present.pins < MAX_PINS)
 MayTake world (Ok (Unpin p)) = ⊥
 MayTake world (Ok (Locate p)) = ⊤
+MayTake world (Ok Count) = ⊤
 MayTake world (Ok Show) = ⊤
 
 -- a line that says this is answered as the world demands; or, where it may need memory, that there is none, and then

@@ -1,7 +1,5 @@
 pub mod Lines
-pub mod Pins
 pub mod World
-pub mod Subdivision
 pub mod Text
 pub mod Answer
 pub mod Run

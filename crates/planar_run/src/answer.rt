@@ -1,14 +1,15 @@
 ghost use Rattle.std.specs.Prelude.{◌≡◌, ◌≤◌, ◌++◌, [], length, Ok, codes, decimal, OnOk, OnErr};
-ghost use Rattle.script_lines.specs.declared.command.Command.TheVariants.{Pin, Unpin, Locate};
+ghost use Rattle.script_lines.specs.declared.command.Command.TheVariants.{Segment as AddSegment, Pin, Unpin, Locate, Count, Show};
 ghost use Rattle.script_lines.specs.LineError.{refusal_number};
 ghost use Rattle.planar_run.specs.Text.{line_of};
-ghost use Rattle.planar_run.specs.Answer.{answer_to, MayTake, Replies};
+ghost use Rattle.planar_run.specs.Answer.{answer_to, insertion, MayDraw, MayTake, Replies};
 
 use crate::reply::{REPLY_ROOM, Reply};
-use crate::text::{put_labelled, put_point, put_subdivision};
+use crate::text::{put_cell, put_counts};
 use crate::world::{MAX_PINS, World};
-use exact_plane::Point;
+use exact_plane::{Point, Segment, SegmentError};
 use no_memory::NoMemory;
+use plain_slabs::{count as count_cells, hold};
 use script_lines::{Command, LineError, read_line};
 
 fn pin(world: &mut World, point: Point, reply: &mut Reply) -> Result<(), NoMemory>
@@ -18,7 +19,7 @@ fn pin(world: &mut World, point: Point, reply: &mut Reply) -> Result<(), NoMemor
 {
     if world.is_pinned(&point) {
         reply.set("refused 13\n");
-    } else if world.pins().len() >= MAX_PINS {
+    } else if world.count_pins() >= MAX_PINS {
         reply.set("refused 17\n");
     } else {
         world.pin(point)?;
@@ -38,17 +39,72 @@ fn unpin(world: &mut World, point: &Point, reply: &mut Reply)
     }
 }
 
+// Makes a segment a new curve where there is room for one more and a number left. The reply comes first: where there is no
+// memory for it, nothing is changed.
+fn insert(world: &mut World, segment: Segment, reply: &mut Reply) -> Result<(), NoMemory>
+    requires { reply.old ≡ [] }
+    ensures text { OnOk result (reply.new ≡ (insertion segment world.old).text) }
+    ensures world { OnOk result (world.new ≡ (insertion segment world.old).world) }
+    ensures err { OnErr result (MayDraw (Ok segment) world.old × (world.new ≡ world.old)) }
+{
+    if !world.has_room_for_a_curve() {
+        reply.set("refused 17\n");
+        return Ok(());
+    }
+    let Some(curve) = world.next_curve() else {
+        reply.set("refused 18\n");
+        return Ok(());
+    };
+    reply.put_text("ok ")?;
+    reply.put_number(curve.0)?;
+    reply.put_text("\n")?;
+    world.insert(curve, segment)
+}
+
+fn segment(
+    world: &mut World,
+    x1: i64,
+    y1: i64,
+    x2: i64,
+    y2: i64,
+    reply: &mut Reply,
+) -> Result<(), NoMemory>
+    requires { reply.old ≡ [] }
+    ensures text { OnOk result (reply.new ≡ (answer_to world.old (Ok (AddSegment x1 y1 x2 y2))).text) }
+    ensures world { OnOk result (world.new ≡ (answer_to world.old (Ok (AddSegment x1 y1 x2 y2))).world) }
+    ensures err { OnErr result (MayTake world.old (Ok (AddSegment x1 y1 x2 y2)) × (world.new ≡ world.old)) }
+{
+    match Segment::new(x1, y1, x2, y2) {
+        Ok(segment) => return insert(world, segment, reply),
+        Err(SegmentError::Range) => reply.set("refused 4\n"),
+        Err(SegmentError::Equal) => reply.set("refused 7\n"),
+    }
+    Ok(())
+}
+
 fn locate(world: &World, point: &Point, reply: &mut Reply) -> Result<(), NoMemory>
     requires { reply.old ≡ [] }
     ensures { OnOk result (reply.new ≡ (answer_to world.now (Ok (Locate point.now))).text) }
 {
-    if world.is_pinned(point) {
-        reply.put_text("vertex ")?;
-        put_point(reply, point)?;
-    } else {
-        put_labelled(reply, "face ", 0)?;
-    }
+    let subdivision = world.subdivide()?;
+    put_cell(reply, hold(&subdivision, point))?;
     reply.put_text("\n")
+}
+
+fn count(world: &World, reply: &mut Reply) -> Result<(), NoMemory>
+    requires { reply.old ≡ [] }
+    ensures { OnOk result (reply.new ≡ (answer_to world.now (Ok Count)).text) }
+{
+    let subdivision = world.subdivide()?;
+    put_counts(reply, &count_cells(&subdivision), world.count_curves())
+}
+
+fn show(world: &World, reply: &mut Reply) -> Result<(), NoMemory>
+    requires { reply.old ≡ [] }
+    ensures { OnOk result (reply.new ≡ (answer_to world.now (Ok Show)).text) }
+{
+    let text = world.text()?;
+    reply.put_bytes(&text)
 }
 
 // Does what a command says, and makes its reply in place of nothing.
@@ -60,13 +116,15 @@ fn obey(world: &mut World, command: Command, reply: &mut Reply) -> Result<(), No
 {
     match command {
         Command::Nothing => Ok(()),
+        Command::Segment(x1, y1, x2, y2) => segment(world, x1, y1, x2, y2, reply),
         Command::Pin(point) => pin(world, point, reply),
         Command::Unpin(point) => {
             unpin(world, &point, reply);
             Ok(())
         }
         Command::Locate(point) => locate(world, &point, reply),
-        Command::Show => put_subdivision(reply, world.pins()),
+        Command::Count => count(world, reply),
+        Command::Show => show(world, reply),
     }
 }
 

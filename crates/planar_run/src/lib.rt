@@ -17,4 +17,6 @@ pub use run::planar;
 pub use status::Status;
 
 #[cfg(test)]
+mod rows;
+#[cfg(test)]
 mod tests;

@@ -58,12 +58,19 @@ impl Reply {
         self.bytes.extend_from_slice(text.as_bytes()).unwrap();
     }
 
+    /// Puts bytes behind what is there.
+    pub fn put_bytes(&mut self, bytes: &[u8]) -> Result<(), NoMemory>
+        ensures { OnOk result (self.new ≡ self.old ++ bytes.now) }
+    {
+        self.bytes.extend_from_slice(bytes)?;
+        Ok(())
+    }
+
     /// Puts a text behind what is there.
     pub fn put_text(&mut self, text: &str) -> Result<(), NoMemory>
         ensures { OnOk result (self.new ≡ self.old ++ text.now) }
     {
-        self.bytes.extend_from_slice(text.as_bytes())?;
-        Ok(())
+        self.put_bytes(text.as_bytes())
     }
 
     /// Puts a number in decimal behind what is there.

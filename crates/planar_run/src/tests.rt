@@ -1,6 +1,7 @@
 ghost use Rattle.std.specs.Prelude.{◌<◌};
 
 use super::*;
+use crate::rows::ROWS;
 use outside::{MemorySink, MemorySource, RepeatSource};
 use std::alloc::Global;
 use std::fmt::Write;
@@ -51,10 +52,37 @@ fn scripts_are_answered(rt: HostRuntime) -> Result<(), Fail> {
 }
 
 #[test]
+fn segments_are_answered(rt: HostRuntime) -> Result<(), Fail> {
+    for (script, replies) in ROWS {
+        let (status, taken) = run(rt.alloc(), script, 4096, 0)?;
+        assert!(rt; status == Status::Done, "at {script}");
+        assert_eq!(rt; taken.as_slice(), replies.as_bytes(), "at {script}");
+    }
+    Ok(())
+}
+
+#[test]
+fn two_thousand_curves_are_the_limit(rt: HostRuntime) -> Result<(), Fail> {
+    let alloc = rt.alloc();
+    let mut script = String::new(alloc);
+    let mut replies = String::new(alloc);
+    for k in 0..2_000u32 {
+        write!(script, "segment {k} 0 {k} 1\n")?;
+        write!(replies, "ok {}\n", k + 1)?;
+    }
+    write!(script, "segment 2000 0 2000 1\n")?;
+    write!(replies, "refused 17\n")?;
+    let (status, taken) = run(alloc, script.as_str(), 4096, 0)?;
+    assert!(rt; status == Status::Done);
+    assert!(rt; taken.as_slice() == replies.as_str().as_bytes());
+    Ok(())
+}
+
+#[test]
 fn odd_lines_are_refused_by_their_number(rt: HostRuntime) -> Result<(), Fail> {
     let rows: [(&str, &str); 10] = [
         ("paint", "refused 1\n"),
-        ("segment 0 0 1", "refused 1\n"),
+        ("segment 0 0 1", "refused 2\n"),
         ("pin 0 0", "refused 2\n"),
         ("pin -0 0 1", "refused 3\n"),
         ("pin 1 1 0", "refused 4\n"),

@@ -1,10 +1,11 @@
 ghost use Rattle.std.specs.Prelude.{◌≡◌, ◌++◌, ◌∷◌, [], codes, decimal, OnOk};
-ghost use Rattle.planar_run.specs.Subdivision.{subdivision, up_to};
-ghost use Rattle.planar_run.specs.Text.{text_of, line_of, vertex_line, vertex_lines, isolated_lines, face_lines, point_text};
+ghost use Rattle.planar_run.specs.Text.{line_of, point_text, cell_text, spaced};
 
 use crate::reply::Reply;
 use exact_plane::Point;
 use no_memory::NoMemory;
+use plain_slabs::Counts;
+use slab_laws::Cell;
 
 /// Puts the three numbers of a point behind what is there.
 pub fn put_point(reply: &mut Reply, point: &Point) -> Result<(), NoMemory>
@@ -25,69 +26,48 @@ pub fn put_labelled(reply: &mut Reply, label: &str, number: usize) -> Result<(),
     reply.put_number(number)
 }
 
-// The line of the vertex with this number.
-fn put_vertex(reply: &mut Reply, number: usize, point: &Point) -> Result<(), NoMemory>
-    ensures { OnOk result (reply.new ≡ reply.old ++ vertex_line number point.now) }
+// Puts the two ends of an edge behind what is there.
+fn put_ends(reply: &mut Reply, low: &Point, high: &Point) -> Result<(), NoMemory>
+    ensures { OnOk result (reply.new ≡ reply.old ++ (codes "edge " ++ point_text low.now ++ 32 ∷ point_text high.now)) }
 {
-    put_labelled(reply, "v ", number)?;
+    reply.put_text("edge ")?;
+    put_point(reply, low)?;
     reply.put_text(" ")?;
-    put_point(reply, point)?;
-    reply.put_text(" pin :\n")
+    put_point(reply, high)
 }
 
-fn put_vertices(reply: &mut Reply, pins: &[Point]) -> Result<(), NoMemory>
-    ensures { OnOk result (reply.new ≡ reply.old ++ vertex_lines 0 pins.now) }
+/// Puts what holds a point behind what is there.
+pub fn put_cell(reply: &mut Reply, cell: Cell) -> Result<(), NoMemory>
+    ensures { OnOk result (reply.new ≡ reply.old ++ cell_text cell) }
 {
-    for (i, point) in pins.iter().enumerate() {
-        put_vertex(reply, i + 1, point)?;
+    match cell {
+        Cell::Vertex(point) => {
+            reply.put_text("vertex ")?;
+            put_point(reply, &point)
+        }
+        Cell::Edge(low, high) => put_ends(reply, &low, &high),
+        Cell::Face(rank) => put_labelled(reply, "face ", rank),
     }
-    Ok(())
 }
 
-// The line of an isolated vertex with this number.
-fn put_bare(reply: &mut Reply, number: usize) -> Result<(), NoMemory>
-    ensures { OnOk result (reply.new ≡ reply.old ++ line_of (codes "p " ++ decimal number)) }
+// Puts a space and a number behind what is there.
+fn put_spaced(reply: &mut Reply, number: usize) -> Result<(), NoMemory>
+    ensures { OnOk result (reply.new ≡ reply.old ++ 32 ∷ decimal number) }
 {
-    put_labelled(reply, "p ", number)?;
-    reply.put_text("\n")
+    put_labelled(reply, " ", number)
 }
 
-// The lines of the vertices that are isolated in the unbounded face: all of them.
-fn put_isolated(reply: &mut Reply, count: usize) -> Result<(), NoMemory>
-    ensures { OnOk result (reply.new ≡ reply.old ++ isolated_lines (up_to count)) }
+/// Puts the line of counts, those of a subdivision and that of curves, behind what is there.
+pub fn put_counts(reply: &mut Reply, counts: &Counts, curves: usize) -> Result<(), NoMemory>
+    ensures { OnOk result (reply.new ≡ reply.old ++ line_of (codes "counts" ++ spaced (counts.now.vertices ∷ counts.now.edges ∷ counts.now.faces ∷ counts.now.inner ∷ counts.now.isolated ∷ curves ∷ []))) }
 {
-    for before in 0..count {
-        put_bare(reply, before + 1)?;
-    }
-    Ok(())
-}
-
-// The first line: so many vertices, no edge, so many faces.
-fn put_counts(reply: &mut Reply, vertices: usize, faces: usize) -> Result<(), NoMemory>
-    ensures { OnOk result (reply.new ≡ reply.old ++ line_of (codes "arrangement " ++ decimal vertices ++ codes " 0 " ++ decimal faces)) }
-{
-    put_labelled(reply, "arrangement ", vertices)?;
-    put_labelled(reply, " 0 ", faces)?;
+    reply.put_text("counts")?;
+    put_spaced(reply, counts.vertices)?;
+    put_spaced(reply, counts.edges)?;
+    put_spaced(reply, counts.faces)?;
+    put_spaced(reply, counts.inner)?;
+    put_spaced(reply, counts.isolated)?;
+    put_spaced(reply, curves)?;
     reply.put_text("\n")?;
     Ok(())
-}
-
-// The unbounded face, with so many isolated vertices.
-fn put_face(reply: &mut Reply, count: usize) -> Result<(), NoMemory>
-    ensures { OnOk result (reply.new ≡ reply.old ++ face_lines 0 (up_to count ∷ [])) }
-{
-    put_labelled(reply, "f ", 0)?;
-    reply.put_text("\n")?;
-    put_isolated(reply, count)
-}
-
-/// Puts the text of the subdivision that pinned points induce behind what is there.
-#[tactic(auto, unfolding(crate::specs::Text::text_of))]
-pub fn put_subdivision(reply: &mut Reply, pins: &[Point]) -> Result<(), NoMemory>
-    ensures { OnOk result (reply.new ≡ reply.old ++ text_of (subdivision pins.now)) }
-{
-    put_counts(reply, pins.len(), 1)?;
-    put_vertices(reply, pins)?;
-    put_face(reply, pins.len())?;
-    reply.put_text("end\n")
 }

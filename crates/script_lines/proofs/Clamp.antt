@@ -1,14 +1,18 @@
--- Three numbers make the same point whether or not they are kept at the limit.
-use Rattle.std.proofs.Common.{◌≡◌, ℕ, zero, suc, ◌^◌, ◌<◌, Bool, true, false, cond, ℤ, pos, negsuc, List, [], ◌∷◌, None, Ok, Err, refl, sym, ap, ◌∙◌, arith}
+-- Numbers make the same point, or the same segment, whether or not they are kept at the limit.
+use Rattle.std.proofs.Common.{◌≡◌, ℕ, zero, suc, ◌^◌, ◌<◌, Bool, true, false, cond, leb, ℤ, pos, negsuc, List, [], ◌∷◌, None, Ok, Err, refl, sym, ap, ◌∙◌, arith}
 use Rattle.std.specs.Prelude.{map, unsigned_abs, neg_ℤ}
+use Rattle.std.proofs.lemmas.Bool.{leb-true, le-leb, leb-false, lt-leb}
 use Rattle.std.specs.Ordering.{int_eq}
 use Rattle.std.specs.Result.{result_ok}
 use Rattle.exact_plane.specs.Point.{Point, in_range}
 use Rattle.exact_plane.specs.declared.point.PointError.{PointError}
 use Rattle.exact_plane.specs.PointOf.{point_of}
+use Rattle.exact_plane.specs.declared.bounds.TheConstants.{MAX_COORDINATE}
+use Rattle.exact_plane.specs.Segment.{AreCoordinates, is_coordinate, are_coordinates}
 use Rattle.exact_plane.proofs.Lowest.{Sizes, sizes, from_sizes}
+use Rattle.exact_plane.proofs.Wholes.{are_coordinates-is}
 use Rattle.script_lines.specs.Number.{limited_size, limited_number}
-use Rattle.script_lines.specs.Command.{point_from}
+use Rattle.script_lines.specs.Command.{point_from, segment_from}
 
 size-neg : (n : ℕ) → unsigned_abs (neg_ℤ (pos n)) ≡ n
 size-neg zero = refl
@@ -70,3 +74,30 @@ point_from-limited_number (x ∷ []) = refl
 point_from-limited_number (x ∷ y ∷ []) = refl
 point_from-limited_number (x ∷ y ∷ w ∷ []) = same_point x y w
 point_from-limited_number (x ∷ y ∷ w ∷ z ∷ zs) = refl
+
+coordinate_by : (n : ℕ) (t : Bool) → leb n MAX_COORDINATE ≡ t → leb (limited_size n) MAX_COORDINATE ≡ t
+coordinate_by n true e = le-leb (limited_size n) MAX_COORDINATE (let h = leb-true n MAX_COORDINATE e in omega arith)
+coordinate_by n false e = lt-leb (limited_size n) MAX_COORDINATE (let h = leb-false n MAX_COORDINATE e in omega arith)
+
+is_coordinate-limited_number : (z : ℤ) → is_coordinate (limited_number z) ≡ is_coordinate z
+is_coordinate-limited_number z = rw (size-limited_number z) (coordinate_by (unsigned_abs z) (is_coordinate z) refl)
+
+same_segment : (x1 y1 x2 y2 : ℤ) (t : Bool) → are_coordinates x1 y1 x2 y2 ≡ t
+    → segment_from (limited_number x1 ∷ limited_number y1 ∷ limited_number x2 ∷ limited_number y2 ∷ []) ≡ segment_from (x1 ∷ y1 ∷ x2 ∷ y2 ∷ [])
+same_segment x1 y1 x2 y2 true e =
+    let a : AreCoordinates x1 y1 x2 y2 = are_coordinates-is x1 y1 x2 y2 e in
+    let b = a.first_x in let d = a.first_y in let g = a.second_x in let h = a.second_y in
+    let k : limited_number x1 ≡ x1 = small-limited_number x1 (omega arith) in
+    let l : limited_number y1 ≡ y1 = small-limited_number y1 (omega arith) in
+    let m : limited_number x2 ≡ x2 = small-limited_number x2 (omega arith) in
+    let n : limited_number y2 ≡ y2 = small-limited_number y2 (omega arith) in
+    rw (k, l, m, n) refl
+same_segment x1 y1 x2 y2 false e =
+    let f : are_coordinates (limited_number x1) (limited_number y1) (limited_number x2) (limited_number y2) ≡ false =
+    rw (is_coordinate-limited_number x1, is_coordinate-limited_number y1, is_coordinate-limited_number x2, is_coordinate-limited_number y2) e in
+    rw (e, f) refl
+
+-- the segment of numbers that were kept at the limit
+pub segment_from-limited_number : (zs : List ℤ) → segment_from (map limited_number zs) ≡ segment_from zs
+segment_from-limited_number (x1 ∷ y1 ∷ x2 ∷ y2 ∷ []) = same_segment x1 y1 x2 y2 (are_coordinates x1 y1 x2 y2) refl
+segment_from-limited_number other = refl

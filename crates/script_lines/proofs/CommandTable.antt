@@ -2,26 +2,31 @@
 use Rattle.std.proofs.Common.{◌≡◌, ℕ, Bool, true, false, ℤ, cond, List, [], ◌∷◌, Option, Some, None, refl, sym, subst}
 use Rattle.std.specs.Prelude.{◌≢◌, option_map, bytes_eq, find}
 use Rattle.std.proofs.lemmas.Slice.Eq.{bytes_eq-Decides}
+use Rattle.exact_plane.specs.Segment.{are_coordinates}
 use Rattle.script_lines.specs.declared.command.Command.{Command}
-use Rattle.script_lines.specs.declared.command.Command.TheVariants.{Nothing, Pin, Unpin, Locate}
+use Rattle.script_lines.specs.declared.command.Command.TheVariants.{Nothing, Segment, Pin, Unpin, Locate}
 use Rattle.script_lines.specs.declared.name.Name.{Name}
 use Rattle.script_lines.specs.declared.name.Name.TheVariants as name
 use Rattle.script_lines.specs.Form.{Form}
-use Rattle.script_lines.specs.Command.{point_form, row_of, names, name_of, is_comment}
+use Rattle.script_lines.specs.Command.{segment_from, point_form, row_of, names, name_of, is_comment}
 use Rattle.script_lines.proofs.ListTests.{find-passes}
 
 -- each name is found by how it is spelt
 pub name_of-name : (n : Name) → name_of (row_of n).name ≡ Some n
+name_of-name name.Segment = refl
 name_of-name name.Pin = refl
 name_of-name name.Unpin = refl
 name_of-name name.Locate = refl
+name_of-name name.Count = refl
 name_of-name name.Show = refl
 
 -- none begins a comment
 pub no_comment : (n : Name) → is_comment (row_of n).name ≡ false
+no_comment name.Segment = refl
 no_comment name.Pin = refl
 no_comment name.Unpin = refl
 no_comment name.Locate = refl
+no_comment name.Count = refl
 no_comment name.Show = refl
 
 -- no form makes nothing
@@ -33,10 +38,20 @@ mapped : {A : Type 0} (f : A → Command) → ((x : A) → f x ≡ Nothing → �
 mapped f other None e = absurd cc
 mapped f other (Some x) e = other x cc
 
+segment_by : (within : Bool) (x1 y1 x2 y2 : ℤ) → cond within (Some (Segment x1 y1 x2 y2)) None ≡ Some Nothing → ⊥
+segment_by true x1 y1 x2 y2 e = cc
+segment_by false x1 y1 x2 y2 e = cc
+
+segment_asks : (numbers : List ℤ) → segment_from numbers ≡ Some Nothing → ⊥
+segment_asks (x1 ∷ y1 ∷ x2 ∷ y2 ∷ []) e = segment_by (are_coordinates x1 y1 x2 y2) x1 y1 x2 y2 e
+segment_asks other e = cc
+
 pub ask_for : (n : Name) → AskFor (row_of n).forms
+ask_for name.Segment = (segment_asks, tt)
 ask_for name.Pin = (λ numbers e. mapped Pin (λ p h. cc) (point_form.made numbers) e, tt)
 ask_for name.Unpin = (λ numbers e. mapped Unpin (λ p h. cc) (point_form.made numbers) e, tt)
 ask_for name.Locate = (λ numbers e. mapped Locate (λ p h. cc) (point_form.made numbers) e, tt)
+ask_for name.Count = (λ numbers e. cc, tt)
 ask_for name.Show = (λ numbers e. cc, tt)
 
 asks_by : (p : Form Command → Bool) (here : Bool) (first form : Form Command) (later : Option (Form Command)) → cond here (Some first) later ≡ Some form

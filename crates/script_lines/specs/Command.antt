@@ -4,11 +4,12 @@ use Rattle.std.specs.List.{list_all}
 use Rattle.std.specs.Result.{result_ok}
 use Rattle.exact_plane.specs.Point.{Point}
 use Rattle.exact_plane.specs.PointOf.{point_of}
+use Rattle.exact_plane.specs.Segment.{are_coordinates}
 use Rattle.script_lines.specs.declared.command.TheConstants.{MAX_LINE}
 use Rattle.script_lines.specs.declared.error.LineError.{LineError}
 use Rattle.script_lines.specs.declared.error.LineError.TheVariants.{Word, Long, Byte}
 use Rattle.script_lines.specs.declared.command.Command.{Command}
-use Rattle.script_lines.specs.declared.command.Command.TheVariants.{Nothing, Pin, Unpin, Locate, Show}
+use Rattle.script_lines.specs.declared.command.Command.TheVariants.{Nothing, Segment, Pin, Unpin, Locate, Count, Show}
 use Rattle.script_lines.specs.declared.name.Name.{Name}
 use Rattle.script_lines.specs.declared.name.Name.TheVariants as name
 use Rattle.script_lines.specs.Words.{words}
@@ -27,6 +28,15 @@ point_from other = None
 abbrev pub point_form : Form Point
 point_form = record { places = replicate 3 Numeral; made = point_from }
 
+-- the four coordinates of two ends, where all are in range
+abbrev pub segment_from : List ℤ → Option Command
+segment_from (x1 ∷ y1 ∷ x2 ∷ y2 ∷ []) = if are_coordinates x1 y1 x2 y2 then Some (Segment x1 y1 x2 y2) else None
+segment_from other = None
+
+-- two ends, `x1 y1 x2 y2`
+abbrev pub segment_form : Form Command
+segment_form = record { places = replicate 4 Numeral; made = segment_from }
+
 -- a row of the table of commands: a name, and the forms of the words behind it
 pub record Row : Type 0 where
   pub name : List ℕ
@@ -37,13 +47,15 @@ row text forms = record { name = text; forms = forms }
 
 -- the table of commands
 abbrev pub row_of : Name → Row
+row_of name.Segment = row (codes "segment") (segment_form ∷ [])
 row_of name.Pin = row (codes "pin") (form_map Pin point_form ∷ [])
 row_of name.Unpin = row (codes "unpin") (form_map Unpin point_form ∷ [])
 row_of name.Locate = row (codes "locate") (form_map Locate point_form ∷ [])
+row_of name.Count = row (codes "count") (empty_form Count ∷ [])
 row_of name.Show = row (codes "show") (empty_form Show ∷ [])
 
 abbrev pub names : List Name
-names = name.Pin ∷ name.Unpin ∷ name.Locate ∷ name.Show ∷ []
+names = name.Segment ∷ name.Pin ∷ name.Unpin ∷ name.Locate ∷ name.Count ∷ name.Show ∷ []
 
 -- the name that a word spells
 abbrev pub name_of : List ℕ → Option Name

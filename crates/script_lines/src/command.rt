@@ -6,7 +6,7 @@ ghost use Rattle.script_lines.specs.Command.{command_of, row_of, words_reading, 
 ghost use Rattle.script_lines.specs.Refusals.{IsOtherByte, IsText, IsSilent, IsNoCommand, HasWrongWord, HasWrongCount, HasNoNumber, IsOutOfRange};
 
 use crate::error::LineError;
-use crate::form::{bare_command, point};
+use crate::form::{bare_command, point, segment};
 use crate::name::Name;
 use crate::words::next_word;
 use exact_plane::Point;
@@ -19,12 +19,16 @@ pub const MAX_LINE: usize = 200;
 pub enum Command {
     /// A comment, or a line without words: nothing is asked for, and nothing is replied.
     Nothing,
+    /// `segment x1 y1 x2 y2`: the segment between two points with whole coordinates becomes a curve.
+    Segment(i64, i64, i64, i64),
     /// `pin X Y W`: the point becomes a vertex, and stays one until it is unpinned.
     Pin(Point),
     /// `unpin X Y W`: the point needn't be a vertex any more.
     Unpin(Point),
     /// `locate X Y W`: which cell holds the point.
     Locate(Point),
+    /// `count`: how many vertices, edges, faces, inner cycles, isolated vertices and curves there are.
+    Count,
     /// `show`: the text of the arrangement.
     Show,
 }
@@ -34,9 +38,11 @@ fn read_named(name: Name, rest: &[u8]) -> Result<Command, LineError>
     ensures { result ≡ forms_reading (row_of name).forms (words rest.now) }
 {
     match name {
+        Name::Segment => segment(rest),
         Name::Pin => point(rest).map(Command::Pin),
         Name::Unpin => point(rest).map(Command::Unpin),
         Name::Locate => point(rest).map(Command::Locate),
+        Name::Count => bare_command(rest, Command::Count),
         Name::Show => bare_command(rest, Command::Show),
     }
 }
@@ -78,9 +84,10 @@ fn read(line: &[u8]) -> Result<Command, LineError>
 ///
 /// Words are parted by one or more spaces, and spaces at either end don't matter. A number is `0`,
 /// or an optional `-`, a digit 1 to 9 and any digits, however many. A point is three numbers
-/// `X Y W`, which needn't be in lowest terms. A line without words, or whose first word begins with
-/// `#`, is [`Command::Nothing`]. Where a line is refused for several reasons, [`LineError`] says
-/// which one is given.
+/// `X Y W`, which needn't be in lowest terms. A segment is four numbers `x1 y1 x2 y2`, and its two
+/// ends may be one point. A line without words, or whose first word begins with `#`, is
+/// [`Command::Nothing`]. Where a line is refused for several reasons, [`LineError`] says which one
+/// is given.
 pub fn read_line(line: &[u8]) -> Result<Command, LineError>
     ensures value { result ≡ command_of line.now }
 

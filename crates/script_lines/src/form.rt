@@ -1,13 +1,14 @@
 ghost use Rattle.std.specs.Prelude.{◌≡◌, [], ◌∷◌};
+ghost use Rattle.exact_plane.specs.Segment.{is_coordinate, are_coordinates};
 ghost use Rattle.script_lines.specs.Words.{words};
 ghost use Rattle.script_lines.specs.Form.{forms_reading, numbers_of};
-ghost use Rattle.script_lines.specs.Command.{empty_form, point_form, point_from};
+ghost use Rattle.script_lines.specs.Command.{empty_form, point_form, point_from, segment_form, segment_from};
 
 use crate::command::Command;
 use crate::error::LineError;
 use crate::number::number;
 use crate::words::{count_words, next_word};
-use exact_plane::Point;
+use exact_plane::{MAX_COORDINATE, Point};
 
 // The numbers of a line of so many words, each within the limit of `number`.
 fn numbers<const N: usize>(line: &[u8]) -> Result<[i128; N], LineError>
@@ -43,6 +44,37 @@ pub fn point(line: &[u8]) -> Result<Point, LineError>
 {
     let numbers = numbers(line)?;
     point_from(numbers).ok_or(LineError::Range)
+}
+
+fn is_coordinate(number: i128) -> bool
+    ensures { result ≡ is_coordinate number }
+{
+    number.unsigned_abs() <= MAX_COORDINATE
+}
+
+fn are_coordinates(x1: i128, y1: i128, x2: i128, y2: i128) -> bool
+    ensures { result ≡ are_coordinates x1 y1 x2 y2 }
+{
+    is_coordinate(x1) && is_coordinate(y1) && is_coordinate(x2) && is_coordinate(y2)
+}
+
+// The segment command of the numbers of two ends, where they are in range.
+fn segment_from(numbers: [i128; 4]) -> Option<Command>
+    ensures { result ≡ segment_from numbers }
+{
+    let [x1, y1, x2, y2] = numbers;
+    if !are_coordinates(x1, y1, x2, y2) {
+        return None;
+    }
+    Some(Command::Segment(x1 as i64, y1 as i64, x2 as i64, y2 as i64))
+}
+
+/// The command of a line `x1 y1 x2 y2`, whose two ends may be one point.
+pub fn segment(line: &[u8]) -> Result<Command, LineError>
+    ensures { result ≡ forms_reading (segment_form ∷ []) (words line.now) }
+{
+    let numbers = numbers(line)?;
+    segment_from(numbers).ok_or(LineError::Range)
 }
 
 /// The command, where no word stands in the line.

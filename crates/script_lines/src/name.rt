@@ -4,14 +4,23 @@ ghost use Rattle.script_lines.specs.Command.{row_of, name_of};
 /// The name of a command, its first word.
 #[derive(Clone, Copy, Debug, PartialEq, Eq)]
 pub enum Name {
+    Segment,
     Pin,
     Unpin,
     Locate,
+    Count,
     Show,
 }
 
 // Every name.
-const NAMES: [Name; 4] = [Name::Pin, Name::Unpin, Name::Locate, Name::Show];
+const NAMES: [Name; 6] = [
+    Name::Segment,
+    Name::Pin,
+    Name::Unpin,
+    Name::Locate,
+    Name::Count,
+    Name::Show,
+];
 
 impl Name {
     /// How it is spelt.
@@ -19,9 +28,11 @@ impl Name {
         ensures { result.now ≡ (row_of self).name }
     {
         match self {
+            Name::Segment => "segment",
             Name::Pin => "pin",
             Name::Unpin => "unpin",
             Name::Locate => "locate",
+            Name::Count => "count",
             Name::Show => "show",
         }
     }

@@ -4,9 +4,16 @@ use exact_plane::Point;
 #[test]
 fn commands_are_read(rt: HostRuntime) {
     let point = |x, y, w| Point::new(x, y, w).ok();
-    let rows: [(&[u8], Option<Command>); 11] = [
+    let rows: [(&[u8], Option<Command>); 15] = [
         (b"show", Some(Command::Show)),
         (b"  show ", Some(Command::Show)),
+        (b"count", Some(Command::Count)),
+        (b"segment 0 0 4 0", Some(Command::Segment(0, 0, 4, 0))),
+        (
+            b" segment  -1048575 1 2  1048575 ",
+            Some(Command::Segment(-1048575, 1, 2, 1048575)),
+        ),
+        (b"segment 3 3 3 3", Some(Command::Segment(3, 3, 3, 3))),
         (b"pin -1 1 5", point(-1, 1, 5).map(Command::Pin)),
         (b"pin 4 2 6", point(2, 1, 3).map(Command::Pin)),
         (b" unpin  1 1   1 ", point(1, 1, 1).map(Command::Unpin)),
@@ -30,9 +37,9 @@ fn commands_are_read(rt: HostRuntime) {
 
 #[test]
 fn errors_come_in_their_order(rt: HostRuntime) {
-    let rows: [(&[u8], LineError); 22] = [
+    let rows: [(&[u8], LineError); 29] = [
         (b"paint", LineError::Word),
-        (b"segment 0 0 1", LineError::Word),
+        (b"segments 0 0 1 1", LineError::Word),
         (b"Show", LineError::Word),
         (b"pinn 0 0 1", LineError::Word),
         (b"pin", LineError::Count),
@@ -40,16 +47,26 @@ fn errors_come_in_their_order(rt: HostRuntime) {
         (b"pin 0 x", LineError::Count),
         (b"pin 0 0 1 1", LineError::Count),
         (b"show 1", LineError::Count),
+        (b"count 1", LineError::Count),
+        (b"segment 0 0 1", LineError::Count),
         (b"pin -0 0 1", LineError::Number),
         (b"pin 0 0 01", LineError::Number),
         (b"pin +1 0 1", LineError::Number),
         (b"pin - 0 1", LineError::Number),
         (b"pin x 0 0", LineError::Number),
+        (b"segment 0 0 1 01", LineError::Number),
+        (b"segment 0 x 1048576 0", LineError::Number),
         (b"pin 1 1 0", LineError::Range),
         (b"pin 1 1 -1", LineError::Range),
         (b"pin 0 0 8796093022208", LineError::Range),
         (b"pin 1048576 0 1", LineError::Range),
         (b"pin 0 0 18446744073709551617", LineError::Range),
+        (b"segment 0 0 1048576 0", LineError::Range),
+        (b"segment 0 0 0 -1048576", LineError::Range),
+        (
+            b"segment 0 0 0 170141183460469231731687303715884105728",
+            LineError::Range,
+        ),
         (b"pin\xc8", LineError::Byte),
         (b"pin\t0 0 1", LineError::Byte),
         (b"# a\tb", LineError::Byte),

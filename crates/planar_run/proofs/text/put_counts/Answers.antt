@@ -1,10 +1,17 @@
-use Rattle.std.proofs.Common.{◌≡◌, ℕ, List, [], ◌∷◌, ◌++◌, ap, ◌∙◌, append_assoc}
+use Rattle.std.proofs.Common.{[], ◌∷◌, ◌++◌, ap, ◌∙◌}
 use Rattle.std.specs.Prelude.{codes, decimal}
+use Rattle.planar_run.proofs.Printed.{then_put, eight}
 use Rattle.planar_run.proofs.text.put_counts.Goals as goal
 
-parts : (r r' r'' r''' a v b f n : List ℕ) → r' ≡ r ++ (a ++ v) → r'' ≡ r' ++ (b ++ f) → r''' ≡ r'' ++ n → r''' ≡ r ++ (a ++ v ++ b ++ f ++ n)
-parts r r' r'' r''' a v b f n first second third =
-    third ∙ ap (λ (xs : List ℕ). xs ++ n) (second ∙ ap (λ (xs : List ℕ). xs ++ (b ++ f)) first) ∙ simp append_assoc
-
 pub returns : goal.returns
-returns c = parts _ _ _ _ (codes "arrangement ") (decimal c.args.vertices) (codes " 0 ") (decimal c.args.faces) (10 ∷ []) c.in_ok-put_labelled.ensures c.in_ok-put_labelled-2.ensures c.in_ok-put_text.ensures
+returns c =
+    let n = c.args.counts.now in
+    let start = c.args.reply.now in
+    let one = then_put start _ _ _ (32 ∷ decimal n.vertices) c.in_ok-put_text.ensures c.in_ok-put_spaced.ensures in
+    let two = then_put start _ _ _ (32 ∷ decimal n.edges) one c.in_ok-put_spaced-2.ensures in
+    let three = then_put start _ _ _ (32 ∷ decimal n.faces) two c.in_ok-put_spaced-3.ensures in
+    let four = then_put start _ _ _ (32 ∷ decimal n.inner) three c.in_ok-put_spaced-4.ensures in
+    let five = then_put start _ _ _ (32 ∷ decimal n.isolated) four c.in_ok-put_spaced-5.ensures in
+    let six = then_put start _ _ _ (32 ∷ decimal c.args.curves) five c.in_ok-put_spaced-6.ensures in
+    let seven = then_put start _ _ _ (10 ∷ []) six c.in_ok-put_text-2.ensures in
+    seven ∙ ap (λ xs. start ++ xs) (eight (codes "counts") (32 ∷ decimal n.vertices) (32 ∷ decimal n.edges) (32 ∷ decimal n.faces) (32 ∷ decimal n.inner) (32 ∷ decimal n.isolated) (32 ∷ decimal c.args.curves) (10 ∷ []))

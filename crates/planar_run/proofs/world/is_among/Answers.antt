@@ -1,6 +1,6 @@
 use Rattle.std.proofs.Common.{◌≡◌, Bool, true, false, sym, ◌∙◌, Ok, Err, Result, ℕ}
 use Rattle.std.specs.Prelude.{MatchResult, is_ok}
-use Rattle.planar_run.proofs.Ascends.{searched}
+use Rattle.planar_run.proofs.PinPlaces.{searched}
 use Rattle.planar_run.proofs.world.is_among.Goals as goal
 
 told : (r : Result ℕ ℕ) (b : Bool) (P : ℕ → Type 0) → MatchResult r (λ _. b ≡ true) (λ i. (b ≡ false) × P i) → is_ok r ≡ b

@@ -1,0 +1,116 @@
+-- The parts of a text, one behind the other.
+use Rattle.std.proofs.Common.{◌≡◌, ℕ, ◌+◌, ◌/◌, List, [], ◌∷◌, ◌++◌, map, length, Result, refl, sym, ap, ◌∙◌, append_assoc, arith}
+use Rattle.std.specs.Prelude.{OnOk, codes, flat_map, zip}
+use Rattle.std.specs.List.{AllByRecursion}
+use Rattle.std.proofs.lemmas.List.{length-map, length-append}
+use Rattle.exact_plane.specs.Point.{Point}
+use Rattle.slab_laws.specs.declared.names.CurveId.{CurveId}
+use Rattle.slab_laws.specs.declared.names.DartId.{DartId}
+use Rattle.slab_laws.specs.declared.names.VertexId.{VertexId}
+use Rattle.slab_laws.specs.Darts.{Dart, darts, ahead, back}
+use Rattle.slab_laws.specs.Sound.{skeleton_of, IsGraphSound}
+use Rattle.slab_laws.specs.Skeleton.{Skeleton}
+use Rattle.slab_laws.specs.Subdivision.{Subdivision, subdivision}
+use Rattle.slab_laws.specs.Text.{number, ended, vertex_line, edge_line, face_lines, numbered, text, text_by}
+use Rattle.slab_laws.specs.View.{View, HasDart, point_in}
+use Rattle.sound_views.specs.Orders.{vertex_order, dart_order}
+use Rattle.sound_views.proofs.Ordered.{points_in_order, ordered_dart}
+use Rattle.record_orders.specs.Keys.{vertex_key, vertex_keys, dart_key, dart_keys}
+use Rattle.record_orders.specs.declared.vertices.VertexKey.{VertexKey}
+use Rattle.record_orders.specs.declared.darts.DartKey.{DartKey}
+use Rattle.record_orders.proofs.Sorting.{all_members}
+use Rattle.arr_text.specs.Reading.{pins_in, words_in, marks_in, text_in, title}
+use Rattle.arr_text.proofs.Neighbours.{count}
+use Rattle.arr_text.proofs.Joined.{more, joined}
+
+pub title_put : {T E : Type 0} (r : Result T E) (n m k : ℕ) (s a b c d z : List ℕ) → a ≡ s ++ codes "arrangement" → b ≡ a ++ number n → c ≡ b ++ number m → d ≡ c ++ number k → OnOk r (z ≡ d ++ 10 ∷ []) → OnOk r (z ≡ s ++ title n m k)
+unfolding title ended
+title_put r n m k s a b c d z e f g h i =
+    let two = more s a b (codes "arrangement") (number n) e f in
+    let three = more s b c (codes "arrangement" ++ number n) (number m) two g in
+    let four = more s c d ((codes "arrangement" ++ number n) ++ number m) (number k) three h in
+    joined r s d z (((codes "arrangement" ++ number n) ++ number m) ++ number k) (10 ∷ []) ((codes "arrangement" ++ (number n ++ (number m ++ number k))) ++ 10 ∷ []) four i (ap (λ (t : List ℕ). t ++ 10 ∷ []) (turned (codes "arrangement") (number n) (number m) (number k)))
+  where
+    turned : (w x y t : List ℕ) → ((w ++ x) ++ y) ++ t ≡ w ++ (x ++ (y ++ t))
+    turned w x y t = simp append_assoc
+
+module _ (v : View) (s : IsGraphSound v) where
+  points_of_keys : (us : List VertexId) → map (λ (k : VertexKey). k.point) (map (vertex_key v) us) ≡ map (point_in v) us
+  points_of_keys [] = refl
+  points_of_keys (u ∷ us) = ap (λ (ps : List Point). point_in v u ∷ ps) (points_of_keys us)
+
+  pub points_are : map (λ (k : VertexKey). k.point) (vertex_keys v) ≡ (skeleton_of v).vertices
+  points_are = points_of_keys (vertex_order v) ∙ points_in_order v s
+
+  names_of_keys : (ds : List DartId) → map (λ (k : DartKey). k.name) (map (dart_key v) ds) ≡ ds
+  names_of_keys [] = refl
+  names_of_keys (d ∷ ds) = ap (λ (es : List DartId). d ∷ es) (names_of_keys ds)
+
+  pub names_are : map (λ (k : DartKey). k.name) (dart_keys v) ≡ dart_order v
+  names_are = names_of_keys (dart_order v)
+
+  pub names_have : AllByRecursion (λ d. HasDart v d) (dart_order v)
+  names_have = all_members (λ d. HasDart v d) (dart_order v) (λ d m. ordered_dart v s d m)
+
+  pub vertices_counted : length (vertex_keys v) ≡ length (skeleton_of v).vertices
+  vertices_counted = length-map (vertex_order v) (vertex_key v) ∙ sym (length-map (vertex_order v) (point_in v)) ∙ ap (λ (ps : List Point). length ps) (points_in_order v s)
+
+  pub edges_counted : length (dart_keys v) / 2 ≡ length (skeleton_of v).edges
+  edges_counted =
+      let g = skeleton_of v in
+      let a : length (darts g) ≡ length (map ahead g.edges) + length (map back g.edges) = length-append (map ahead g.edges) (map back g.edges) in
+      let b = length-map g.edges ahead in
+      let c = length-map g.edges back in
+      let d = count v s in
+      omega (arith, a, b, c, d)
+
+  abbrev x_of : Skeleton → List Dart → List ℕ
+  x_of h ds = flat_map (vertex_line h ds (pins_in v)) h.vertices
+
+  abbrev y_of : (DartId → List CurveId) → Skeleton → List ℕ
+  y_of curves h = flat_map (edge_line h) (zip h.edges (words_in v curves))
+
+  -- the text by its parts, for the graph and the darts that it is of
+  abbrev by_parts : (DartId → List CurveId) → Subdivision → Skeleton → List Dart → List ℕ
+  by_parts curves S h ds = title (length h.vertices) (length h.edges) (length S.faces) ++ (x_of h ds ++ (y_of curves h ++ (flat_map (face_lines S (λ f. [])) (numbered 0 S.faces) ++ codes "end\n")))
+
+  text_by_parts : (curves : DartId → List CurveId) (S : Subdivision) → text S (marks_in v curves) ≡ by_parts curves S S.graph S.darts
+  unfolding text text_by marks_in title ended
+  text_by_parts curves S = refl
+
+  graph_of : (g : Skeleton) → (subdivision g).graph ≡ g
+  unfolding subdivision
+  graph_of g = refl
+
+  darts_of : (g : Skeleton) → (subdivision g).darts ≡ darts g
+  unfolding subdivision
+  darts_of g = refl
+
+  turned : (t x y u e : List ℕ) → (((t ++ x) ++ y) ++ u) ++ e ≡ t ++ (x ++ (y ++ (u ++ e)))
+  turned t x y u e = simp append_assoc
+
+  in_all : (curves : DartId → List CurveId) →
+      (((title (length (skeleton_of v).vertices) (length (skeleton_of v).edges) (length (subdivision (skeleton_of v)).faces) ++ x_of (skeleton_of v) (darts (skeleton_of v)))
+      ++ y_of curves (skeleton_of v)) ++ flat_map (face_lines (subdivision (skeleton_of v)) (λ f. [])) (numbered 0 (subdivision (skeleton_of v)).faces)) ++ codes "end\n" ≡ text_in v curves
+  unfolding text_in
+  in_all curves =
+      let S : Subdivision = subdivision (skeleton_of v) in
+      turned (title (length (skeleton_of v).vertices) (length (skeleton_of v).edges) (length S.faces)) (x_of (skeleton_of v) (darts (skeleton_of v))) (y_of curves (skeleton_of v)) (flat_map (face_lines S (λ f. [])) (numbered 0 S.faces)) (codes "end\n")
+      ∙ ap (λ (h : Skeleton). by_parts curves S h (darts (skeleton_of v))) (sym (graph_of (skeleton_of v)))
+      ∙ ap (λ (ds : List Dart). by_parts curves S S.graph ds) (sym (darts_of (skeleton_of v)))
+      ∙ sym (text_by_parts curves S)
+
+  pub assembled : {T E : Type 0} (r : Result T E) (curves : DartId → List CurveId) (n m k : ℕ) (from a b c d z : List ℕ) → n ≡ length (skeleton_of v).vertices → m ≡ length (skeleton_of v).edges → k ≡ length (subdivision (skeleton_of v)).faces
+      → a ≡ from ++ title n m k → b ≡ a ++ flat_map (vertex_line (skeleton_of v) (darts (skeleton_of v)) (pins_in v)) (skeleton_of v).vertices → c ≡ b ++ flat_map (edge_line (skeleton_of v)) (zip (skeleton_of v).edges (words_in v curves))
+      → d ≡ c ++ flat_map (face_lines (subdivision (skeleton_of v)) (λ f. [])) (numbered 0 (subdivision (skeleton_of v)).faces) → OnOk r (z ≡ d ++ codes "end\n") → OnOk r (z ≡ from ++ text_in v curves)
+  assembled r curves n m k from a b c d z e f g h i j l p =
+      let S : Subdivision = subdivision (skeleton_of v) in
+      let t : List ℕ = title (length (skeleton_of v).vertices) (length (skeleton_of v).edges) (length S.faces) in
+      let x : List ℕ = flat_map (vertex_line (skeleton_of v) (darts (skeleton_of v)) (pins_in v)) (skeleton_of v).vertices in
+      let y : List ℕ = flat_map (edge_line (skeleton_of v)) (zip (skeleton_of v).edges (words_in v curves)) in
+      let w : List ℕ = flat_map (face_lines S (λ f. [])) (numbered 0 S.faces) in
+      let first : a ≡ from ++ t = h ∙ ap (λ (q : ℕ). from ++ title q m k) e ∙ ap (λ (q : ℕ). from ++ title (length (skeleton_of v).vertices) q k) f ∙ ap (λ (q : ℕ). from ++ title (length (skeleton_of v).vertices) (length (skeleton_of v).edges) q) g in
+      let two = more from a b t x first i in
+      let three = more from b c (t ++ x) y two j in
+      let four = more from c d ((t ++ x) ++ y) w three l in
+      joined r from d z (((t ++ x) ++ y) ++ w) (codes "end\n") (text_in v curves) four p (in_all curves)

@@ -1,0 +1,9 @@
+pub mod Joined
+pub mod Found
+pub mod Walks
+pub mod Neighbours
+pub mod Lines
+pub mod FaceBodies
+pub mod FaceNames
+pub mod FaceLines
+pub mod Assembly

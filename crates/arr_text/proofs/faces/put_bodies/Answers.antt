@@ -1,0 +1,20 @@
+use Rattle.std.proofs.Common.{◌<◌, ◌++◌, ap, ◌∙◌, length, List, ℕ, get_or, [], arith}
+use Rattle.std.specs.Prelude.{codes}
+use Rattle.std.proofs.lemmas.List.{drop_all}
+use Rattle.slab_laws.specs.Text.{ended, number}
+use Rattle.arr_text.proofs.Joined.{more}
+use Rattle.arr_text.proofs.FaceBodies.{next_body, no_body}
+use Rattle.arr_text.proofs.faces.put_bodies.Goals as goal
+
+pub loop-rank-preserved : goal.loop-rank-preserved
+loop-rank-preserved c =
+    let i = c.loop-rank.rank in
+    let bs = c.args.bodies.now in
+    let head : List ℕ = ended (codes "f" ++ number i) in
+    let below : i < length bs = omega (arith, c.loop-rank-test.true, c.len-rank-end.ensures) in
+    next_body (λ b. ended (codes "f" ++ number b.0) ++ b.1) c.args.out.now.items c.loop-rank.out.items c.extend_from_slice.new.self.items bs i below c.loop-rank.invariant
+    (more c.loop-rank.out.items c.put_rank.new.out.items c.extend_from_slice.new.self.items head (get_or bs i []) c.in_ok-put_rank.ensures
+    (c.in_ok-extend_from_slice.ensures.items ∙ ap (λ (t : List ℕ). c.put_rank.new.out.items ++ t) c.text.ensures))
+
+pub returns : goal.returns
+returns c = no_body (λ b. ended (codes "f" ++ number b.0) ++ b.1) c.args.out.now.items c.loop-rank.out.items c.args.bodies.now c.loop-rank.rank (drop_all c.loop-rank.rank c.args.bodies.now (omega (arith, c.loop-rank-test.false, c.len-rank-end.ensures))) c.loop-rank.invariant

@@ -1,0 +1,19 @@
+use Rattle.std.proofs.Common.{◌≡◌, ◌-◌, ◌++◌}
+use Rattle.std.specs.Prelude.{flat_map}
+use Rattle.slab_laws.specs.Darts.{Dart, source, darts}
+use Rattle.slab_laws.specs.Sound.{skeleton_of, dart_in}
+use Rattle.slab_laws.specs.Text.{number, index}
+use Rattle.slab_laws.specs.View.{HasDart}
+use Rattle.slab_laws.specs.Cycles.{trail}
+use Rattle.arr_text.proofs.rounds.put_trail.Given as goal
+
+abbrev pub invariant-trail : goal.invariant-trail
+invariant-trail g l =
+    let v = g.R.Darts.graph l.records in
+    let ds = darts (skeleton_of v) in
+    let write = λ (h : Dart). number (index (skeleton_of v) (source h)) in
+    let d = dart_in v l.first in
+    record {
+      has : HasDart v l.dart;
+      same : l.fn.out.items ++ flat_map write (trail ds l.darts d d) ≡ l.out.items ++ flat_map write (trail ds (l.darts - l.counter) d (dart_in v l.dart));
+    }

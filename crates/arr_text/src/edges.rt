@@ -1,0 +1,85 @@
+ghost use Rattle.std.specs.Prelude.{◌≡◌, ◌++◌, flat_map, zip, true, OnOk};
+ghost use Rattle.std.specs.Ordering.{is_lt};
+ghost use Rattle.exact_plane.specs.PointOrder.{point_cmp};
+ghost use Rattle.plane_graphs.specs.Ascending.{IsAscending};
+ghost use Rattle.slab_laws.specs.Sound.{skeleton_of, dart_in, IsGraphSound};
+ghost use Rattle.slab_laws.specs.Text.{word, edge_line};
+ghost use Rattle.slab_laws.specs.View.{HasDart};
+ghost use Rattle.record_orders.specs.Keys.{dart_key, dart_keys};
+ghost use Rattle.arr_text.specs.Reading.{curve_words, words_in, edge_ends};
+
+use crate::put::{put_index, put_number, put_text};
+use exact_plane::Point;
+use no_memory::NoMemory;
+use record_orders::DartKey;
+use slab_laws::{CurveId, Curved};
+use std::alloc::Global;
+
+// Puts the numbers of curves.
+fn put_curves(out: &mut Vec<u8>, curves: &[CurveId]) -> Result<(), NoMemory>
+    ensures { OnOk result (out.new.items ≡ out.old.items ++ flat_map word (curve_words curves.now)) }
+{
+    for curve in curves {
+        put_number(out, curve.0)?;
+    }
+    Ok(())
+}
+
+// Puts what stands in front of the curves: the numbers of the edge's two ends.
+fn put_ends(out: &mut Vec<u8>, points: &[Point], dart: &DartKey) -> Result<(), NoMemory>
+    requires { IsAscending point_cmp points.now }
+    ensures { OnOk result (out.new.items ≡ out.old.items ++ edge_ends points.now dart.now.source dart.now.target) }
+{
+    put_text(out, "e")?;
+    put_index(out, points, &dart.source)?;
+    put_index(out, points, &dart.target)?;
+    put_text(out, " :")
+}
+
+// Puts the line of the edge of a dart that goes from the lesser end.
+fn put_edge<R: Curved>(
+    alloc: Global,
+    out: &mut Vec<u8>,
+    records: &R,
+    points: &[Point],
+    dart: &DartKey,
+) -> Result<(), NoMemory>
+    requires points { points.now ≡ (skeleton_of (R.graph records.now)).vertices }
+    requires has { HasDart (R.graph records.now) dart.now.name }
+    requires key { dart.now ≡ dart_key (R.graph records.now) dart.now.name }
+    requires forward { is_lt (point_cmp dart.now.source dart.now.target) ≡ true }
+    ensures { OnOk result (let v = R.graph records.now in out.new.items ≡ out.old.items ++ edge_line (skeleton_of v) ((dart_in v dart.now.name).edge, curve_words (R.curve_list records.now dart.now.name))) }
+{
+    put_ends(out, points, dart)?;
+    let curves = records.curves(alloc, dart.name)?;
+    put_curves(out, &curves)?;
+    put_text(out, "\n")
+}
+
+// Whether a dart goes from the lesser end of its edge.
+fn is_forward(dart: &DartKey) -> bool
+    ensures { result ≡ is_lt (point_cmp dart.now.source dart.now.target) }
+{
+    dart.source < dart.target
+}
+
+// Puts the lines of all edges, in their order.
+pub(crate) fn put_edges<R: Curved>(
+    alloc: Global,
+    out: &mut Vec<u8>,
+    records: &R,
+    points: &[Point],
+    darts: &[DartKey],
+) -> Result<(), NoMemory>
+    requires sound { IsGraphSound (R.graph records.now) }
+    requires points { points.now ≡ (skeleton_of (R.graph records.now)).vertices }
+    requires darts { darts.now ≡ dart_keys (R.graph records.now) }
+    ensures { OnOk result (let v = R.graph records.now in out.new.items ≡ out.old.items ++ flat_map (edge_line (skeleton_of v)) (zip (skeleton_of v).edges (words_in v (R.curve_list records.now)))) }
+{
+    for dart in darts {
+        if is_forward(dart) {
+            put_edge(alloc, out, records, points, dart)?;
+        }
+    }
+    Ok(())
+}

@@ -1,0 +1,15 @@
+//! The text of a subdivision, for anything that is read by name: its vertices with their neighbours clockwise, its edges with
+//! their curves, its faces with their boundary cycles and isolated vertices.
+//!
+//! The format is this project's; the names are those of the field (CGAL manual, 2D Arrangements). Vertices are numbered from
+//! 1 in the order of their points, faces from 0 by rank.
+#![tactic(auto)]
+
+mod edges;
+mod faces;
+mod put;
+mod rounds;
+mod vertices;
+mod whole;
+
+pub use whole::text;

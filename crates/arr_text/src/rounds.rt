@@ -1,0 +1,60 @@
+ghost use Rattle.std.specs.Prelude.{◌≡◌, ◌++◌, flat_map, length, OnOk};
+ghost use Rattle.slab_laws.specs.Cycles.{trail};
+ghost use Rattle.slab_laws.specs.Darts.{source, target, darts as darts_in};
+ghost use Rattle.slab_laws.specs.Sound.{skeleton_of, dart_in, IsGraphSound};
+ghost use Rattle.slab_laws.specs.Text.{number, index};
+ghost use Rattle.slab_laws.specs.View.{HasDart};
+ghost use Rattle.vertex_rounds.specs.Rounds.{round};
+
+use crate::put::put_index;
+use exact_plane::Point;
+use no_memory::NoMemory;
+use slab_laws::{DartId, Darts};
+
+// Puts the neighbours of a vertex clockwise, from the target of one of its darts on. There are so many darts in all.
+pub(crate) fn put_round<R: Darts>(
+    out: &mut Vec<u8>,
+    records: &R,
+    points: &[Point],
+    first: DartId,
+    darts: usize,
+) -> Result<(), NoMemory>
+    requires sound { IsGraphSound (R.graph records.now) }
+    requires points { points.now ≡ (skeleton_of (R.graph records.now)).vertices }
+    requires first { HasDart (R.graph records.now) first }
+    ensures { OnOk result (let g = skeleton_of (R.graph records.now) in let d = dart_in (R.graph records.now) first in out.new.items ≡ out.old.items ++ flat_map (λ h. number (index g (target h))) (round (darts_in g) darts d d)) }
+{
+    let mut dart = first;
+    'round: for _ in 0..darts {
+        put_index(out, points, &records.point(records.target(dart)))?;
+        dart = records.next(records.twin(dart));
+        if dart == first {
+            return Ok(());
+        }
+    }
+    Ok(())
+}
+
+// Puts the vertices of a boundary cycle, from the source of one of its darts on. There are so many darts in all.
+pub(crate) fn put_trail<R: Darts>(
+    out: &mut Vec<u8>,
+    records: &R,
+    points: &[Point],
+    first: DartId,
+    darts: usize,
+) -> Result<(), NoMemory>
+    requires sound { IsGraphSound (R.graph records.now) }
+    requires points { points.now ≡ (skeleton_of (R.graph records.now)).vertices }
+    requires first { HasDart (R.graph records.now) first }
+    ensures { OnOk result (let g = skeleton_of (R.graph records.now) in let d = dart_in (R.graph records.now) first in out.new.items ≡ out.old.items ++ flat_map (λ h. number (index g (source h))) (trail (darts_in g) darts d d)) }
+{
+    let mut dart = first;
+    'trail: for _ in 0..darts {
+        put_index(out, points, &records.point(records.source(dart)))?;
+        dart = records.next(dart);
+        if dart == first {
+            return Ok(());
+        }
+    }
+    Ok(())
+}

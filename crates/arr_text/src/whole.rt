@@ -1,0 +1,103 @@
+ghost use Rattle.std.specs.Prelude.{◌≡◌, ◌++◌, map, codes, IfOk, OnOk};
+ghost use Rattle.slab_laws.specs.Sound.{skeleton_of};
+ghost use Rattle.listed_views.specs.Standing.{IsStanding};
+ghost use Rattle.sound_views.specs.Orders.{dart_order};
+ghost use Rattle.record_orders.specs.Keys.{vertex_keys, dart_keys};
+ghost use Rattle.record_cycles.specs.Keys.{cycle_keys, ranked_faces};
+ghost use Rattle.arr_text.specs.Reading.{text_in, title};
+
+use crate::edges::put_edges;
+use crate::faces::put_faces;
+use crate::put::{put_number, put_text};
+use crate::vertices::put_vertices;
+use exact_plane::Point;
+use no_memory::NoMemory;
+use record_cycles::{CycleKey, Ranks, cycles_of, ranks_of};
+use record_orders::{DartKey, VertexKey, darts_in_order, vertices_in_order};
+use slab_laws::{Curved, DartId, Faced};
+use std::alloc::{AllocError, Global};
+
+fn points_of(alloc: Global, vertices: &[VertexKey]) -> Result<Vec<Point>, AllocError>
+    ensures { IfOk result (λ v. v.items ≡ map (λ k. k.point) vertices.now) }
+{
+    vertices.iter().map(|vertex| vertex.point).collect(alloc)
+}
+
+fn names_of(alloc: Global, darts: &[DartKey]) -> Result<Vec<DartId>, AllocError>
+    ensures { IfOk result (λ v. v.items ≡ map (λ k. k.name) darts.now) }
+{
+    darts.iter().map(|dart| dart.name).collect(alloc)
+}
+
+// Puts the first line: how many vertices, edges and faces there are.
+fn put_title(out: &mut Vec<u8>, vertices: usize, edges: usize, faces: usize) -> Result<(), NoMemory>
+    ensures { OnOk result (out.new.items ≡ out.old.items ++ title vertices edges faces) }
+{
+    put_text(out, "arrangement")?;
+    put_number(out, vertices)?;
+    put_number(out, edges)?;
+    put_number(out, faces)?;
+    put_text(out, "\n")
+}
+
+// Puts all lines of a text.
+fn put_lines<R: Curved + Faced>(
+    alloc: Global,
+    out: &mut Vec<u8>,
+    records: &R,
+    points: &[Point],
+    vertices: &[VertexKey],
+    darts: &[DartKey],
+    cycles: &[CycleKey],
+    ranks: &Ranks,
+) -> Result<(), NoMemory>
+    requires stands { IsStanding (R.graph records.now) (R.faces records.now) }
+    requires points { points.now ≡ (skeleton_of (R.graph records.now)).vertices }
+    requires vertices { vertices.now ≡ vertex_keys (R.graph records.now) }
+    requires darts { darts.now ≡ dart_keys (R.graph records.now) }
+    requires cycles { cycles.now ≡ cycle_keys (R.faces records.now) (dart_order (R.graph records.now)) }
+    requires ranks { ranks.now ≡ ranked_faces (R.faces records.now) cycles.now }
+    ensures { OnOk result (out.new.items ≡ out.old.items ++ text_in (R.graph records.now) (R.curve_list records.now)) }
+{
+    put_title(out, vertices.len(), darts.len() / 2, ranks.len())?;
+    put_vertices(out, records, points, vertices, darts)?;
+    put_edges(alloc, out, records, points, darts)?;
+    put_faces(
+        alloc,
+        out,
+        records,
+        points,
+        vertices,
+        cycles,
+        ranks,
+        darts.len(),
+    )?;
+    put_text(out, "end\n")
+}
+
+/// The text of a subdivision that is read by name.
+///
+/// Its lines, each with byte 10 at its end: `arrangement V E F`; for each vertex in point order `v i X Y W`, ` pin` where it is
+/// pinned, ` :` and the numbers of its neighbours clockwise from the least; for each edge `e i j :` and its curves; for each
+/// face by rank `f k`, `o` and the vertices of its outer cycle, `h` and those of each inner cycle, `p i` for each
+/// vertex that is isolated in it; `end`. For n vertices and edges it takes some n log n steps beside reading.
+///
+/// # Errors
+///
+/// There was no memory for the text or for a table on the way.
+pub fn text<R: Curved + Faced>(alloc: Global, records: &R) -> Result<Vec<u8>, NoMemory>
+    requires { IsStanding (R.graph records.now) (R.faces records.now) }
+    ensures { IfOk result (λ bytes. bytes.items ≡ text_in (R.graph records.now) (R.curve_list records.now)) }
+{
+    let vertices = vertices_in_order(alloc, records)?;
+    let points = points_of(alloc, &vertices)?;
+    let darts = darts_in_order(alloc, records)?;
+    let names = names_of(alloc, &darts)?;
+    let cycles = cycles_of(alloc, records, &names)?;
+    let ranks = ranks_of(alloc, records, &cycles)?;
+    let mut out = Vec::new(alloc);
+    put_lines(
+        alloc, &mut out, records, &points, &vertices, &darts, &cycles, &ranks,
+    )?;
+    Ok(out)
+}

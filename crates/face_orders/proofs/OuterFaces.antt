@@ -1,0 +1,88 @@
+-- Each face but the unbounded one has an outer cycle, so no face is ranked by its cells alone.
+use Rattle.std.proofs.Common.{◌≡◌, ℕ, ◌<◌, Bool, true, false, cond, arith, refl, sym, ap, ◌∙◌, subst, inl, inr, List, ◌∷◌, ◌++◌, map}
+use Rattle.std.specs.Prelude.{not, filter}
+use Rattle.std.specs.List.{Contains, count_by, list_any}
+use Rattle.std.proofs.lemmas.Bool.{false≢true, and_parts, false_from_ne_true, cases_Bool, leb-true}
+use lib.Dec.{ltb, leb}
+use Rattle.plane_graphs.specs.Ascending.{Member as In}
+use Rattle.plane_graphs.proofs.Ascending.{to_member, from_member}
+use Rattle.plane_graphs.proofs.Lists.{in_filter, in_map, of_map, any_in}
+use Rattle.slab_laws.specs.declared.slab_cell.SlabCell.{SlabCell}
+use Rattle.slab_laws.specs.Skeleton.{Skeleton, left_of, IsPlane}
+use Rattle.slab_laws.specs.Slabs.{slab_right, spans, width, top_cell}
+use Rattle.slab_laws.specs.Faces.{face_labels, face_of, same_cell, cells}
+use Rattle.slab_laws.specs.Listed.{distinct}
+use Rattle.slab_laws.specs.Subdivision.{Cycle, subdivision, ranked, first_cell}
+use Rattle.slab_faces.specs.CycleLaws.{bounds}
+use Rattle.slab_faces.proofs.Found.{found}
+use Rattle.slab_faces.proofs.Sums.{each, sum_by-same, sum_by-none, fewer_than}
+use Rattle.slab_faces.proofs.Walls.{left_of-irrefl}
+use Rattle.slab_faces.proofs.FacesLemmas.{cells_exact}
+use Rattle.slab_faces.proofs.EveryFace.{outer_cycles_of_every_face}
+use Rattle.face_orders.specs.Laws.{FacesAreRanked}
+use Rattle.face_orders.proofs.Firsts.{distinct-known}
+
+-- ---- the first slab has one cell
+passing : {X : Type 0} (p : X → Bool) (xs : List X) (x : X) → Contains xs x → p x ≡ true → 0 < count_by p xs
+passing p xs x in' h = let k = fewer_than (λ y. false) p xs x in' refl h (λ z _ n. absurd (false≢true n)) in omega arith
+
+none_counted : {X : Type 0} (p : X → Bool) (xs : List X) → ((x : X) → Contains xs x → p x ≡ false) → count_by p xs ≡ 0
+none_counted p xs h = sum_by-same (λ x. cond (p x) 1 0) (λ x. 0) xs (each (λ x. cond {A = ℕ} (p x) 1 0 ≡ 0) xs (λ x in'. ap (λ b. cond {A = ℕ} b 1 0) (h x in'))) ∙ sum_by-none xs
+
+-- no edge spans it, since the lower end of each is a vertex on the left of what it spans
+pub first_width : (g : Skeleton) → IsPlane g → width g 0 ≡ 0
+unfolding width
+first_width g plane = none_counted (spans g 0) g.edges (λ e E. false_from_ne_true _ (λ h.
+    let a = and_parts (leb (slab_right g e.low) 0) (ltb 0 (slab_right g e.high)) h in
+    let b = leb-true _ _ a.0 in
+    let c = passing (λ v. not (left_of e.low v)) g.vertices e.low (plane.lower_in e E) (ap not (left_of-irrefl e.low)) in
+    absurd (omega arith)))
+
+pub top_is_first : (g : Skeleton) → IsPlane g → top_cell g 0 ≡ first_cell
+unfolding top_cell
+top_is_first g plane = λ i. record { slab = 0; place = first_width g plane i }
+
+-- ---- the faces
+-- those of outer cycles
+abbrev pub outer_faces : Skeleton → List SlabCell
+outer_faces g = map (λ c. c.face) (filter (λ c. c.outer) (subdivision g).cycles)
+
+-- those and the unbounded one
+abbrev pub cycle_faces : Skeleton → List SlabCell
+cycle_faces g = face_of (face_labels g) first_cell ∷ outer_faces g
+
+pub faces_are : (g : Skeleton) → (subdivision g).faces ≡ distinct same_cell (cycle_faces g ++ map (face_of (face_labels g)) (cells g))
+unfolding subdivision ranked
+faces_are g = refl
+
+module _ (g : Skeleton) (plane : IsPlane g) where
+  -- a face that isn't the unbounded one has an odd number of outer cycles, so it has one
+  pub bounded_there : (c : SlabCell) → Contains (cells g) c → same_cell (face_of (face_labels g) (top_cell g 0)) (face_of (face_labels g) c) ≡ false → In (face_of (face_labels g) c) (outer_faces g)
+  bounded_there c C h =
+      let f = face_of (face_labels g) c in
+      let e = outer_cycles_of_every_face g c plane C in
+      let z : cond {A = ℕ} (same_cell (face_of (face_labels g) (top_cell g 0)) f) 1 0 ≡ 0 = ap (λ b. cond {A = ℕ} b 1 0) h in
+      let some : 0 < count_by (bounds f) (subdivision g).cycles = omega arith in
+      let w = found (bounds f) (subdivision g).cycles some in
+      let b = and_parts w.0.outer (same_cell w.0.face f) w.2 in
+      subst (λ x. In x (outer_faces g)) (cells_exact.path w.0.face f b.1)
+      (in_map (λ (c : Cycle). c.face) w.0 (filter (λ c. c.outer) (subdivision g).cycles) (in_filter (λ (c : Cycle). c.outer) w.0 (subdivision g).cycles (to_member (subdivision g).cycles w.0 w.1) b.0))
+
+  -- the face of each cell is the unbounded one, or that of an outer cycle
+  pub face_there : (c : SlabCell) → Contains (cells g) c → In (face_of (face_labels g) c) (cycle_faces g)
+  face_there c C =
+      elim (cases_Bool (same_cell (face_of (face_labels g) (top_cell g 0)) (face_of (face_labels g) c))) [
+        | inl e ↦ inl (sym (cells_exact.path _ _ e) ∙ ap (face_of (face_labels g)) (top_is_first g plane))
+        | inr e ↦ inr (bounded_there c C e)
+      ]
+
+  known : (f : SlabCell) → In f (map (face_of (face_labels g)) (cells g)) → list_any (λ x. same_cell x f) (cycle_faces g) ≡ true
+  known f m =
+      let w = of_map (face_of (face_labels g)) f (cells g) m in
+      any_in (λ x. same_cell x f) f (cycle_faces g) (subst (λ x. In x (cycle_faces g)) (sym w.2) (face_there w.0 (from_member (cells g) w.0 w.1))) (cells_exact.itself f)
+
+  ranked_faces : (subdivision g).faces ≡ distinct same_cell (cycle_faces g)
+  ranked_faces = faces_are g ∙ distinct-known same_cell (cycle_faces g) (map (face_of (face_labels g)) (cells g)) known
+
+pub faces_are_ranked : FacesAreRanked
+faces_are_ranked g plane = ranked_faces g plane

@@ -1,0 +1,59 @@
+-- How many cells of each kind the lists of a subdivision have.
+use Rattle.std.proofs.Common.{◌≡◌, ℕ, ◌+◌, Bool, cond, refl, sym, ap, ◌∙◌, List, [], ◌∷◌, map, length, fold}
+use Rattle.std.specs.Prelude.{not, ◌||◌, filter}
+use Rattle.std.specs.List.{count_by, list_any}
+use Rattle.std.proofs.lemmas.List.{length-map}
+use Rattle.std.proofs.lemmas.List.Sums.{length-filter}
+use Rattle.exact_plane.specs.Span.{Span}
+use Rattle.slab_laws.specs.Drawn.{edge_of, drawn}
+use Rattle.slab_laws.specs.Faces.{face_labels, face_of}
+use Rattle.slab_laws.specs.Rows.{cycle_row, cycle_rows}
+use Rattle.slab_laws.specs.Skeleton.{Skeleton, same_point}
+use Rattle.slab_laws.specs.Slabs.{left_cell}
+use Rattle.slab_laws.specs.Subdivision.{Cycle, subdivision, has_dart}
+use Rattle.slab_laws.specs.declared.rows.CycleRow.{CycleRow}
+use Rattle.listed_views.specs.Listed.{Drawing, skeleton_in, subdivision_in}
+use Rattle.plain_slabs.specs.declared.plain.Plain.TheInside.{Inside}
+use Rattle.plain_slabs.specs.Kept.{drawing_of, IsKept}
+use Rattle.plain_slabs.proofs.LeadRows.{dart_told}
+
+graph_is : (g : Skeleton) → (subdivision g).graph ≡ g
+unfolding subdivision
+graph_is g = refl
+
+rows_from : (g : Skeleton) (n : ℕ) (cs : List Cycle) → fold (λ m (r : CycleRow). m + cond (not r.outer) 1 0) n (map (cycle_row g) cs) ≡ fold (λ m (c : Cycle). m + cond (not c.outer) 1 0) n cs
+rows_from g n [] = refl
+rows_from g n (c ∷ cs) = rows_from g (n + cond (not c.outer) 1 0) cs
+
+rows_inner : (g : Skeleton) (cs : List Cycle) → count_by (λ (r : CycleRow). not r.outer) (map (cycle_row g) cs) ≡ count_by (λ (c : Cycle). not c.outer) cs
+rows_inner g cs = rows_from g 0 cs
+
+same_tests : {X : Type 0} (p q : X → Bool) (xs : List X) → ((x : X) → p x ≡ q x) → count_by p xs ≡ count_by q xs
+same_tests p q xs f = λ i. count_by (λ x. f x i) xs
+
+bare_are : (g : Skeleton) → length (subdivision g).bare ≡ count_by (λ p. not (has_dart g p)) g.vertices
+unfolding subdivision
+bare_are g = length-map (filter (λ p. not (has_dart g p)) g.vertices) (λ p. record { point = p; face = face_of (face_labels g) (left_cell g p) }) ∙ length-filter (λ p. not (has_dart g p)) g.vertices
+
+module _ (a : Inside) (d : Drawing) (k : IsKept a) (is : drawing_of a ≡ d) where
+  -- the lists draw the graph
+  same_graph : drawn a.points.items a.edges.items ≡ skeleton_in d
+  same_graph = (λ i. record { vertices = a.points.items; edges = k.edges_are i }) ∙ ap skeleton_in is
+
+  pub vertices_many : (n : ℕ) → n ≡ length a.points.items → n ≡ length (subdivision_in d).graph.vertices
+  vertices_many n e = e ∙ ap (λ g. length g.vertices) (same_graph ∙ sym (graph_is (skeleton_in d)))
+
+  pub edges_many : (n : ℕ) → n ≡ length a.edges.items → n ≡ length (subdivision_in d).graph.edges
+  edges_many n e = e ∙ sym (length-map a.edges.items edge_of) ∙ ap (λ g. length g.edges) (same_graph ∙ sym (graph_is (skeleton_in d)))
+
+  pub inner_many : (n : ℕ) → n ≡ count_by (λ (r : CycleRow). not r.outer) a.cycles.items → n ≡ count_by (λ (c : Cycle). not c.outer) (subdivision_in d).cycles
+  unfolding cycle_rows
+  inner_many n e = e ∙ ap (count_by (λ (r : CycleRow). not r.outer)) (k.cycles ∙ ap (λ (d : Drawing). cycle_rows (skeleton_in d)) is) ∙ rows_inner (skeleton_in d) (subdivision_in d).cycles
+
+  pub isolated_many : (n : ℕ) → n ≡ count_by (λ p. not (list_any (λ (s : Span). same_point s.lower p || same_point s.upper p) a.edges.items)) a.points.items → n ≡ length (subdivision_in d).bare
+  isolated_many n e =
+      let g : Skeleton = drawn a.points.items a.edges.items in
+      e
+      ∙ same_tests (λ p. not (list_any (λ (s : Span). same_point s.lower p || same_point s.upper p) a.edges.items)) (λ p. not (has_dart g p)) a.points.items (λ p. ap not (dart_told a.points.items a.edges.items p))
+      ∙ sym (bare_are g)
+      ∙ ap (λ g. length (subdivision g).bare) same_graph

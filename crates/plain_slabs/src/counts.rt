@@ -1,0 +1,55 @@
+ghost use Rattle.std.specs.Prelude.{◌≡◌, ◌||◌, not, length};
+ghost use Rattle.std.specs.List.{count_by, list_any};
+ghost use Rattle.slab_laws.specs.Skeleton.{same_point};
+ghost use Rattle.listed_views.specs.Listed.{subdivision_in};
+
+use crate::faces::has_dart;
+use crate::plain::Plain;
+use exact_plane::{Point, Span};
+use slab_laws::CycleRow;
+
+/// How many cells of each kind a subdivision has.
+#[derive(Clone, Copy, Debug, PartialEq, Eq)]
+pub struct Counts {
+    pub vertices: usize,
+    pub edges: usize,
+    pub faces: usize,
+    /// Boundary cycles that bound their face from inside: its holes.
+    pub inner: usize,
+    /// Vertices that are no end of an edge.
+    pub isolated: usize,
+}
+
+fn count_inner(cycles: &[CycleRow]) -> usize
+    ensures { result ≡ count_by (λ c. not c.outer) cycles.now }
+{
+    cycles.iter().filter(|cycle| !cycle.outer).count()
+}
+
+fn count_isolated(points: &[Point], edges: &[Span]) -> usize
+    ensures { result ≡ count_by (λ p. not (list_any (λ s. same_point s.lower p || same_point s.upper p) edges.now)) points.now }
+{
+    points
+        .iter()
+        .filter(|point| !has_dart(edges, point))
+        .count()
+}
+
+/// The counts of a subdivision.
+///
+/// It looks at all edges for each vertex, and takes no memory.
+pub fn count(plain: &Plain) -> Counts
+    ensures vertices { result.vertices ≡ length (subdivision_in plain.now).graph.vertices }
+    ensures edges { result.edges ≡ length (subdivision_in plain.now).graph.edges }
+    ensures faces { result.faces ≡ length (subdivision_in plain.now).faces }
+    ensures inner { result.inner ≡ count_by (λ c. not c.outer) (subdivision_in plain.now).cycles }
+    ensures isolated { result.isolated ≡ length (subdivision_in plain.now).bare }
+{
+    Counts {
+        vertices: plain.points.len(),
+        edges: plain.edges.len(),
+        faces: plain.faces.len(),
+        inner: count_inner(&plain.cycles),
+        isolated: count_isolated(&plain.points, &plain.edges),
+    }
+}

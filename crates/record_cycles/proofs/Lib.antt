@@ -1,0 +1,4 @@
+pub mod Firsts
+pub mod Grown
+pub mod Places
+pub mod Texts

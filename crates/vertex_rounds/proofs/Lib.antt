@@ -1,0 +1,3 @@
+pub mod Following
+pub mod Rings
+pub mod Turned
