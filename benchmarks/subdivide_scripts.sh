@@ -1,10 +1,11 @@
 #!/usr/bin/env bash
-# What the built program takes for one `show` of made scripts: time and the most memory.
+# What the built program takes for a `count` and a `show` of made scripts: processor time and the most memory.
 #
 #   cd crates/planar && rt run < /dev/null && cd ../.. && benchmarks/subdivide_scripts.sh [PROGRAM [SEGMENTS..]]
 #
 # Three kinds of scripts: `crossing`, random segments with ends up to 1000; `grid`, half of them from left to right and half
-# from bottom to top; `nested`, squares of four segments each, one inside the other. Each script ends with `count` and `show`.
+# from bottom to top; `nested`, squares of four segments each, one inside the other. Each script ends
+# with `count` and `show`, which subdivide the plane once each.
 set -eu
 program=${1:-crates/planar/out/planar}
 shift || true
@@ -33,7 +34,7 @@ for ends in segments:
 print('count')
 print('show')
 PYTHON
-      taken=$( { /usr/bin/time -f '%e s, %M KiB' "$program" < "$folder/script" > "$folder/replies"; } 2>&1 )
+      taken=$( { /usr/bin/time -f '%U s of processor time, %M KiB' "$program" < "$folder/script" > "$folder/replies"; } 2>&1 )
       echo "$kind $count: $(grep '^counts' "$folder/replies"): $taken"
     done
   done
