@@ -24,7 +24,13 @@ pub record SinkState : Type 0 where
   pub calls : ℕ
   pub faults : ℕ
 
--- a source over a stream, of whose bytes nothing is told
-pub record StreamState : Type 0 where
+-- a source over a stream: the reader, of whose bytes no more is told than it tells itself
+pub record StreamState (R : Type 0) : Type 0 where
+  pub inner : R
   pub calls : ℕ
+  pub faults : ℕ
+
+-- a sink over a stream: the writer, of whose bytes no more is told than it tells itself
+pub record OutletState (W : Type 0) : Type 0 where
+  pub inner : W
   pub faults : ℕ

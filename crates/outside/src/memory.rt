@@ -78,6 +78,7 @@ impl Source for MemorySource {
         ensures chunk { IfOk result (λ n.
             n ≡ min (min (length self.old.rest) self.old.chunk) (length buf.old)) }
         ensures fault { OnErr result (self.new.faults ≡ next self.old.faults) }
+        ensures untouched { OnErr result (buf.new ≡ buf.old) }
         ensures kept { (self.new.fail ≡ self.old.fail) × (self.new.chunk ≡ self.old.chunk) }
     {
         self.calls = self.calls.saturating_add(1);

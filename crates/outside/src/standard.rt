@@ -1,12 +1,14 @@
-ghost use Rattle.std.specs.Prelude.{◌≡◌, [], None};
-ghost use Rattle.outside.specs.Bytes.{Takes};
-ghost use Rattle.outside.specs.Counts.{HasCause};
+ghost use Rattle.std.specs.Prelude.{◌≡◌, [], None, OnErr};
+ghost use Rattle.std.specs.Io.KnownBytes.{ReadConsumes, WriteAppends};
+ghost use Rattle.outside.specs.Bytes.{Gives, Takes};
+ghost use Rattle.outside.specs.Counts.{next, HasCause};
 
 use crate::traits::{Failed, Sink, Source};
 use std::io::{Read, Write};
 use std::marker::Model;
 
-/// A source over a reader, as standard input. It tells nothing of its bytes.
+/// A source over a reader, as standard input. It tells nothing of its bytes as a source; what it
+/// hands over is what the reader gave, where the reader tells that.
 #[derive(Drop)]
 pub struct StdSource<R> {
     inner: R,
@@ -17,14 +19,15 @@ pub struct StdSource<R> {
 impl<R> Model for StdSource<R> {
     ghost use Rattle.outside.specs.States.{StreamState};
 
-    ghost Value = { StreamState };
+    ghost Value = { StreamState R };
 
-    ghost view = { λ s. record { calls = s.calls; faults = s.faults } };
+    ghost view = { λ s. record { inner = s.inner; calls = s.calls; faults = s.faults } };
 }
 
 impl<R> StdSource<R> {
     /// A source over this reader.
     pub fn new(inner: R) -> StdSource<R>
+        ensures inner { result.inner ≡ inner }
         ensures calls { result.calls ≡ 0 }
         ensures faults { result.faults ≡ 0 }
     {
@@ -43,7 +46,17 @@ impl<R: Read> Source for StdSource<R> {
 
     ghost calls = { λ s. s.calls };
 
-    fn read(&mut self, buf: &mut [u8]) -> Result<usize, Failed> {
+    fn read(&mut self, buf: &mut [u8]) -> Result<usize, Failed>
+        ensures bytes { Gives None None result buf.new }
+        ensures cause { HasCause self.old.faults self.new.faults result }
+        ensures counted { self.new.calls ≡ next self.old.calls }
+
+        // It hands over what the reader gave, where the reader tells it, and counts each failure
+        // once.
+        ensures stream { ReadConsumes (R.remaining self.old.inner) (R.remaining self.new.inner)
+            result buf.new }
+        ensures fault { OnErr result (self.new.faults ≡ next self.old.faults) }
+    {
         self.calls = self.calls.saturating_add(1);
         match self.inner.read(buf) {
             Ok(count) => Ok(count),
@@ -55,8 +68,8 @@ impl<R: Read> Source for StdSource<R> {
     }
 }
 
-/// A sink over a writer, as standard output. It tells nothing of its bytes. Contracts see it as
-/// the count of its faults.
+/// A sink over a writer, as standard output. It tells nothing of its bytes as a sink; what it takes
+/// went to the writer, where the writer tells that.
 #[derive(Drop)]
 pub struct StdSink<W> {
     inner: W,
@@ -64,17 +77,18 @@ pub struct StdSink<W> {
 }
 
 impl<W> Model for StdSink<W> {
-    ghost use Rattle.std.specs.Prelude.{ℕ};
+    ghost use Rattle.outside.specs.States.{OutletState};
 
-    ghost Value = { ℕ };
+    ghost Value = { OutletState W };
 
-    ghost view = { λ s. s.faults };
+    ghost view = { λ s. record { inner = s.inner; faults = s.faults } };
 }
 
 impl<W> StdSink<W> {
     /// A sink over this writer.
     pub fn new(inner: W) -> StdSink<W>
-        ensures faults { result ≡ 0 }
+        ensures inner { result.inner ≡ inner }
+        ensures faults { result.faults ≡ 0 }
     {
         StdSink { inner, faults: 0 }
     }
@@ -83,13 +97,18 @@ impl<W> StdSink<W> {
 impl<W: Write> Sink for StdSink<W> {
     ghost taken = { λ _. None };
 
-    ghost faults = { λ s. s };
+    ghost faults = { λ s. s.faults };
 
     /// An empty piece isn't handed to the writer. A writer that takes none of a piece has failed.
     fn write(&mut self, piece: &[u8]) -> Result<usize, Failed>
         ensures bytes { Takes None None result piece.now }
-        ensures cause { HasCause self.old self.new result }
+        ensures cause { HasCause self.old.faults self.new.faults result }
         ensures empty { piece.now ≡ [] → result ≡ Ok 0 }
+
+        // What it takes went to the writer, where the writer tells it. It counts each failure once.
+        ensures stream { WriteAppends (W.contents self.old.inner) (W.contents self.new.inner)
+            result piece.now }
+        ensures fault { OnErr result (self.new.faults ≡ next self.old.faults) }
     {
         if piece.is_empty() {
             return Ok(0);

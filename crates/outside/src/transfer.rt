@@ -1,4 +1,4 @@
-ghost use Rattle.std.specs.Prelude.{◌≡◌, IfOk, OnOk, OnErr};
+ghost use Rattle.std.specs.Prelude.{◌≡◌, [], IfOk, IsOk, OnOk, OnErr};
 ghost use Rattle.outside.specs.Bytes.{GivesByte, Gains, GainsPrefix};
 ghost use Rattle.outside.specs.Counts.{next, HasCause};
 
@@ -20,11 +20,12 @@ pub fn read_byte<S: Source>(source: &mut S) -> Result<Option<u8>, Failed>
 }
 
 /// Hands over all of the bytes, the rest again after a short write. At a failure the sink has
-/// taken some of them, from the first on.
+/// taken some of them, from the first on. Where there are none it asks the sink for nothing.
 pub fn write_all<K: Sink>(sink: &mut K, bytes: &[u8]) -> Result<(), Failed>
     ensures ok { OnOk result (Gains (K.taken sink.old) (K.taken sink.new) bytes.now) }
     ensures err { OnErr result (GainsPrefix (K.taken sink.old) (K.taken sink.new) bytes.now) }
     ensures cause { HasCause (K.faults sink.old) (K.faults sink.new) result }
+    ensures empty { bytes.now ≡ [] → IsOk result × (sink.new ≡ sink.old) }
 {
     let mut rest = bytes;
     // A write takes at least one byte, so this ends.
