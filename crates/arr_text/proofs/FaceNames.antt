@@ -21,7 +21,7 @@ use Rattle.slab_laws.specs.Darts.{Dart, darts, source}
 use Rattle.slab_laws.specs.Faces.{face_labels, face_of, same_cell, cells, slab_cells}
 use Rattle.slab_laws.specs.Listed.{distinct}
 use Rattle.slab_laws.specs.Rows.{lead_list}
-use Rattle.slab_laws.specs.Skeleton.{Skeleton, IsPlane}
+use Rattle.slab_laws.specs.Skeleton.{Skeleton, IsPlaneSkeleton}
 use Rattle.slab_laws.specs.Rotation.{same_dart}
 use Rattle.slab_laws.specs.Slabs.{width}
 use Rattle.slab_laws.specs.Sound.{skeleton_of, dart_in, IsGraphSound}
@@ -107,7 +107,7 @@ first_there g = from_member (cells g) first_cell (in_left first_cell (slab_cells
 
 -- ---- cycles
 module _ (v : View) (f : Faces) (s : IsStanding v f) where
-  abbrev plane : IsPlane (skeleton_of v)
+  abbrev plane : IsPlaneSkeleton (skeleton_of v)
   plane = s.graph.plane
 
   -- the cycle with its least dart

@@ -9,7 +9,7 @@ use Rattle.exact_plane.specs.Point.{Point}
 use Rattle.exact_plane.specs.Span.{Span}
 use Rattle.plane_graphs.specs.Graph.{Edge}
 use Rattle.slab_laws.specs.declared.slab_cell.SlabCell.{SlabCell}
-use Rattle.slab_laws.specs.Skeleton.{Skeleton, HasWeight, left_of, below, below as is_lower, IsPlane}
+use Rattle.slab_laws.specs.Skeleton.{Skeleton, HasWeight, left_of, below, below as is_lower, IsPlaneSkeleton}
 use Rattle.slab_laws.specs.Slabs.{reaches_left, reaches_right, slab_left, slab_right, spans, place, left_cell, right_cell}
 use Rattle.slab_laws.specs.Meets.{IsOnWall}
 use Rattle.slab_laws.specs.Weights.{weight_above}
@@ -35,7 +35,7 @@ and_same : (x y r o : Bool) → x ≡ r → (r ≡ true → y ≡ o) → (x && y
 and_same x y true o e h = rw e (h refl)
 and_same x y false o e h = rw e refl
 
-module _ (g : Skeleton) (plane : IsPlane g) (e : Edge) (E : Contains g.edges e) where
+module _ (g : Skeleton) (plane : IsPlaneSkeleton g) (e : Edge) (E : Contains g.edges e) where
   wall : IsOnWall g e.low
   wall = on_own_wall g e.low plane (plane.lower_in e E)
 
@@ -121,20 +121,20 @@ module _ (g : Skeleton) (plane : IsPlane g) (e : Edge) (E : Contains g.edges e) 
   weight_is m forward = weight_by m (left_of e.low e.high) forward refl
 
 -- ---- the edges of spans
-pub place_of_spans : (vs : List Point) (ss : List Span) (s : Span) → IsPlane (drawn vs ss) → Contains (map edge_of ss) (edge_of s) → place (drawn vs ss) (slab_right (drawn vs ss) s.lower) (edge_of s) ≡ count_by (λ f. reaches_right (edge_of f) s.lower && below (edge_of f) (edge_of s)) ss
+pub place_of_spans : (vs : List Point) (ss : List Span) (s : Span) → IsPlaneSkeleton (drawn vs ss) → Contains (map edge_of ss) (edge_of s) → place (drawn vs ss) (slab_right (drawn vs ss) s.lower) (edge_of s) ≡ count_by (λ f. reaches_right (edge_of f) s.lower && below (edge_of f) (edge_of s)) ss
 place_of_spans vs ss s plane in' =
     place_is_count (drawn vs ss) plane (edge_of s) in'
     ∙ sum_by-map (λ f. cond (reaches_right f s.lower && below f (edge_of s)) 1 0) edge_of ss
 
 -- the cells on the left of the two darts of a span, from what is counted
 module _ (vs : List Point) (ss : List Span) (s : Span) (forward : Bool) where
-  pub cell_above : IsPlane (drawn vs ss) → Contains (map edge_of ss) (edge_of s) → left_of s.lower s.upper ≡ true → forward ≡ true → (slab below : ℕ) → slab ≡ slab_right (drawn vs ss) s.lower → below ≡ count_by (λ f. reaches_right (edge_of f) s.lower && is_lower (edge_of f) (edge_of s)) ss → ◌≡◌ {A = SlabCell} (record { slab = slab; place = below + 1 }) (cell_of (drawn vs ss) (edge_of s) forward)
+  pub cell_above : IsPlaneSkeleton (drawn vs ss) → Contains (map edge_of ss) (edge_of s) → left_of s.lower s.upper ≡ true → forward ≡ true → (slab below : ℕ) → slab ≡ slab_right (drawn vs ss) s.lower → below ≡ count_by (λ f. reaches_right (edge_of f) s.lower && is_lower (edge_of f) (edge_of s)) ss → ◌≡◌ {A = SlabCell} (record { slab = slab; place = below + 1 }) (cell_of (drawn vs ss) (edge_of s) forward)
   cell_above plane in' h k slab below a b =
       let p = b ∙ sym (place_of_spans vs ss s plane in') in
       let q : ◌≡◌ {A = SlabCell} (record { slab = slab; place = below + 1 }) (cell_by (drawn vs ss) (edge_of s) true true) = λ i. record { slab = a i; place = p i + 1 } in
       q ∙ (λ i. cell_by (drawn vs ss) (edge_of s) (sym h i) (sym k i))
 
-  pub cell_below : IsPlane (drawn vs ss) → Contains (map edge_of ss) (edge_of s) → left_of s.lower s.upper ≡ true → forward ≡ false → (slab below : ℕ) → slab ≡ slab_right (drawn vs ss) s.lower → below ≡ count_by (λ f. reaches_right (edge_of f) s.lower && is_lower (edge_of f) (edge_of s)) ss → ◌≡◌ {A = SlabCell} (record { slab = slab; place = below }) (cell_of (drawn vs ss) (edge_of s) forward)
+  pub cell_below : IsPlaneSkeleton (drawn vs ss) → Contains (map edge_of ss) (edge_of s) → left_of s.lower s.upper ≡ true → forward ≡ false → (slab below : ℕ) → slab ≡ slab_right (drawn vs ss) s.lower → below ≡ count_by (λ f. reaches_right (edge_of f) s.lower && is_lower (edge_of f) (edge_of s)) ss → ◌≡◌ {A = SlabCell} (record { slab = slab; place = below }) (cell_of (drawn vs ss) (edge_of s) forward)
   cell_below plane in' h k slab below a b =
       let p = b ∙ sym (place_of_spans vs ss s plane in') in
       let q : ◌≡◌ {A = SlabCell} (record { slab = slab; place = below }) (cell_by (drawn vs ss) (edge_of s) true false) = λ i. record { slab = a i; place = p i } in

@@ -13,14 +13,15 @@ use Rattle.std.proofs.lemmas.List.Sums.{position_or_len_is}
 use Rattle.plane_graphs.specs.Ascending.{IsAscending, Member as In}
 use Rattle.plane_graphs.proofs.Ascending.{ascending_is, to_member, from_member}
 use Rattle.plane_graphs.proofs.Lists.{not_true, both_ways, of_filter, in_filter, IsAscending-filter}
-use Rattle.slab_laws.specs.Skeleton.{Skeleton, IsPlane}
+use Rattle.slab_laws.specs.Skeleton.{Skeleton, IsPlaneSkeleton}
 use Rattle.slab_laws.specs.Darts.{Dart, darts}
 use Rattle.slab_laws.specs.Rotation.{same_dart, dart_cmp}
 use Rattle.slab_laws.specs.Cycles.{leads}
 use Rattle.slab_laws.specs.Rows.{dart_list, dart_at, no_dart, dart_place, lead_of, lead_list, cycle_place, cycle_places, lead_places}
 use Rattle.slab_faces.proofs.NextLemmas.{darts_exact}
-use Rattle.cycle_kinds.proofs.Places.{rises, place_before}
-use Rattle.cycle_kinds.proofs.Darts.{dart_cmp_total, tied_darts, list_ascends, listed_in, listed_out, lead_there, place_of_dart, same_dart_place}
+use Rattle.slab_faces.proofs.Places.{rises, place_before}
+use Rattle.slab_faces.proofs.DartOrder.{dart_cmp_total, tied_darts, list_ascends}
+use Rattle.cycle_kinds.proofs.Darts.{listed_in, listed_out, lead_there, place_of_dart, same_dart_place}
 
 -- ---- lists
 module _ {X : Type 0} where
@@ -58,7 +59,7 @@ module _ (xs : List ℕ) (rising : IsStrictlyIncreasing xs) (n : ℕ) where
 abbrev pub is_least : Skeleton → Dart → Bool
 is_least g d = same_dart d (lead_of g d)
 
-module _ (g : Skeleton) (plane : IsPlane g) where
+module _ (g : Skeleton) (plane : IsPlaneSkeleton g) where
   -- they are the listed darts that lead themselves
   pub least_listed : filter (is_least g) (dart_list g) ≡ lead_list g
   unfolding leads
@@ -78,7 +79,7 @@ module _ (g : Skeleton) (plane : IsPlane g) where
       let n = length-map (lead_list g) (dart_place g) in
       let asc : IsAscending dart_cmp (lead_list g) = subst (IsAscending dart_cmp) least_listed (IsAscending-filter dart_cmp (is_least g) (dart_list g) (list_ascends g plane)) in
       let at : (j : ℕ) → j < length (lead_list g) → Contains (dart_list g) (get_or (lead_list g) j no_dart) = λ j l. least_there _ (to_member (lead_list g) _ (Contains-get_or (lead_list g) j no_dart l)) in
-      let up = place_before dart_cmp dart_cmp_total same_dart darts_exact (dart_list g) (list_ascends g plane) (get_or (lead_list g) k no_dart) (get_or (lead_list g) (k + 1) no_dart) (at k (omega arith)) (at (k + 1) (omega arith)) (rises dart_cmp dart_cmp_total same_dart darts_exact (lead_list g) asc k (k + 1) no_dart (omega arith) (omega arith)) in
+      let up = place_before dart_cmp dart_cmp_total same_dart darts_exact (dart_list g) (list_ascends g plane) (get_or (lead_list g) k no_dart) (get_or (lead_list g) (k + 1) no_dart) (at k (omega arith)) (at (k + 1) (omega arith)) (rises dart_cmp (lead_list g) asc k (k + 1) no_dart (omega arith) (omega arith)) in
       let a = get_or-map (dart_place g) (lead_list g) k no_dart 0 (omega arith) in
       let b = get_or-map (dart_place g) (lead_list g) (k + 1) no_dart 0 (omega arith) in
       omega arith

@@ -1,7 +1,5 @@
-pub mod Places
 pub mod Darts
 pub mod Rows
 pub mod Beside
 pub mod Oddness
 pub mod LeastDarts
-pub mod TriangleDrawn

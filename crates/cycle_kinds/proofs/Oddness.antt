@@ -7,7 +7,7 @@ use Rattle.std.proofs.lemmas.List.Sums.{sum_by-append, count_by_more_yes, count_
 use Rattle.plane_graphs.specs.Graph.{Edge}
 use Rattle.plane_graphs.proofs.Ascending.{to_member}
 use Rattle.plane_graphs.proofs.Lists.{not_true, clash}
-use Rattle.slab_laws.specs.Skeleton.{Skeleton, IsPlane}
+use Rattle.slab_laws.specs.Skeleton.{Skeleton, IsPlaneSkeleton}
 use Rattle.slab_laws.specs.Darts.{Dart, darts, ahead, back}
 use Rattle.slab_laws.specs.Rotation.{same_dart, dart_cmp}
 use Rattle.slab_laws.specs.Cycles.{dart_labels, darts_on, odd, left_of_dart}
@@ -20,7 +20,8 @@ use Rattle.slab_faces.proofs.CyclesLemmas.{is_set}
 use Rattle.slab_faces.proofs.PlaneGraphs.{once}
 use Rattle.cycle_kinds.specs.Above.{is_above}
 use Rattle.cycle_kinds.proofs.Beside.{weight_is}
-use Rattle.cycle_kinds.proofs.Darts.{dart_cmp_total, list_ascends, listed_in, listed_out, edge_there}
+use Rattle.slab_faces.proofs.DartOrder.{dart_cmp_total, list_ascends}
+use Rattle.cycle_kinds.proofs.Darts.{listed_in, listed_out, edge_there}
 
 -- ---- a sum over a list, and over the same elements in another order
 module _ {X : Type 0} (same : X → X → Bool) (exact : IsExact same) where
@@ -70,7 +71,7 @@ cond_both true false = refl
 cond_both false true = refl
 cond_both false false = refl
 
-module _ (g : Skeleton) (plane : IsPlane g) where
+module _ (g : Skeleton) (plane : IsPlaneSkeleton g) where
   pub listed_sum : (F : Dart → ℕ) → sum_by F (darts g) ≡ sum_by F (dart_list g)
   listed_sum F =
       same_sum same_dart darts_exact F (darts g) (dart_list g) (is_set g plane).once

@@ -10,7 +10,7 @@ use Rattle.exact_plane.specs.Span.{Span}
 use Rattle.plane_graphs.specs.Graph.{Edge}
 use Rattle.plane_graphs.proofs.Lists.{not_true}
 use Rattle.slab_laws.specs.Drawn.{edge_of, drawn}
-use Rattle.slab_laws.specs.Skeleton.{Skeleton, IsPlane, same_edge}
+use Rattle.slab_laws.specs.Skeleton.{Skeleton, IsPlaneSkeleton, same_edge}
 use Rattle.slab_laws.specs.Rows.{dart_list, dart_at, no_dart, dart_place, lead_of, dart_row, dart_rows, lead_places}
 use Rattle.slab_laws.specs.declared.rows.DartRow.{DartRow}
 use Rattle.slab_laws.specs.Rotation.{same_dart}
@@ -37,7 +37,7 @@ module _ (g : Skeleton) where
   lead_at k n h = get_or-map (λ d. dart_place g (lead_of g d)) (dart_list g) k no_dart n h
 
 -- the cycle of the dart at one place is that of the least dart at another
-module _ (g : Skeleton) (plane : IsPlane g) (leads : List ℕ) (all : leads ≡ lead_places g) (k l : ℕ) (h : k < length (dart_list g)) (m : l < length (dart_list g)) where
+module _ (g : Skeleton) (plane : IsPlaneSkeleton g) (leads : List ℕ) (all : leads ≡ lead_places g) (k l : ℕ) (h : k < length (dart_list g)) (m : l < length (dart_list g)) where
   pub lead_is : (get_or leads k 0 == l) ≡ same_dart (lead_of g (dart_at g k)) (dart_at g l)
   lead_is =
       (λ i. (ap (λ (xs : List ℕ). get_or xs k 0) all ∙ lead_at g k 0 h) i == sym (place_of_dart g plane l m) i)
@@ -60,7 +60,7 @@ module _ (ss : List Span) (e : Edge) (there : Contains (map edge_of ss) e) where
       sym (get_or-map edge_of ss _ s e edge_within) ∙ sym (same_edge_is e _ (passes_at_first (same_edge e) (map edge_of ss) e k))
 
 -- ---- a row of darts, and the edge that it names
-module _ (vs : List Point) (ss : List Span) (plane : IsPlane (drawn vs ss)) (rows : List DartRow) (all : rows ≡ dart_rows (drawn vs ss)) where
+module _ (vs : List Point) (ss : List Span) (plane : IsPlaneSkeleton (drawn vs ss)) (rows : List DartRow) (all : rows ≡ dart_rows (drawn vs ss)) where
   pub listed : (k : ℕ) → k < length rows → k < length (dart_list (drawn vs ss))
   listed k h = subst (λ n. k < n) (ap length all ∙ rows_length (drawn vs ss)) h
 

@@ -11,6 +11,6 @@ above_by true false e f = reaches_right f e.low && not (below f e)
 above_by false true e f = reaches_left f e.low && over f e.low
 above_by false false e f = reaches_right f e.low && over f e.low
 
--- the edge f spans the slab of the cell on the left of a dart on e, and is above the cell (book, ray shooting)
+-- the edge f spans the slab of the cell on the left of a dart on e, and is above the cell (Fogel, Halperin and Wein: ray shooting)
 abbrev pub is_above : Edge → Bool → Edge → Bool
 is_above e forward f = above_by (left_of e.low e.high) forward e f

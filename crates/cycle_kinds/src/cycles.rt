@@ -3,7 +3,7 @@ ghost use Rattle.std.specs.List.{position_or_len};
 ghost use Rattle.std.specs.List.Sorted.{IsStrictlyIncreasing};
 ghost use Rattle.slab_laws.specs.Drawn.{drawn};
 ghost use Rattle.slab_laws.specs.Rows.{cycle_places, dart_place, lead_list, lead_places};
-ghost use Rattle.slab_laws.specs.Skeleton.{IsPlane};
+ghost use Rattle.slab_laws.specs.Skeleton.{IsPlaneSkeleton};
 
 use exact_plane::{Point, Span};
 use no_memory::NoMemory;
@@ -20,7 +20,7 @@ pub fn leads_among(
     edges: &[Span],
     leads: &[usize],
 ) -> Result<Vec<usize>, NoMemory>
-    requires plane { IsPlane (drawn points.now edges.now) }
+    requires plane { IsPlaneSkeleton (drawn points.now edges.now) }
     requires leads { leads.now ≡ lead_places (drawn points.now edges.now) }
     ensures { let g = drawn points.now edges.now in
         IfOk result (λ v. v.items ≡ map (dart_place g) (lead_list g)) }
@@ -71,7 +71,7 @@ pub fn cycles_at(
     leads: &[usize],
     cycles: &[usize],
 ) -> Result<Vec<usize>, NoMemory>
-    requires plane { IsPlane (drawn points.now edges.now) }
+    requires plane { IsPlaneSkeleton (drawn points.now edges.now) }
     requires leads { leads.now ≡ lead_places (drawn points.now edges.now) }
     requires cycles { let g = drawn points.now edges.now in cycles.now ≡ map (dart_place g) (lead_list g) }
     ensures { IfOk result (λ v. v.items ≡ cycle_places (drawn points.now edges.now)) }

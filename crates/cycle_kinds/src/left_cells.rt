@@ -4,7 +4,7 @@ ghost use Rattle.slab_laws.specs.Cycles.{left_of_dart};
 ghost use Rattle.slab_laws.specs.Darts.{cell_of};
 ghost use Rattle.slab_laws.specs.Drawn.{edge_of, drawn};
 ghost use Rattle.slab_laws.specs.Rows.{dart_at, dart_rows};
-ghost use Rattle.slab_laws.specs.Skeleton.{left_of, below, IsPlane};
+ghost use Rattle.slab_laws.specs.Skeleton.{left_of, below, IsPlaneSkeleton};
 ghost use Rattle.slab_laws.specs.Slabs.{reaches_right as is_reached_right};
 
 use edge_predicates::{cell_after, cell_before, is_below, is_slanted, reaches_right, slab_after};
@@ -33,7 +33,7 @@ fn place_beside(edges: &[Span], edge: &Span) -> usize
 
 // The cell on the left of the way forward along an edge, or of the way back.
 fn cell_beside(points: &[Point], edges: &[Span], edge: &Span, forward: bool) -> SlabCell
-    requires plane { IsPlane (drawn points.now edges.now) }
+    requires plane { IsPlaneSkeleton (drawn points.now edges.now) }
     requires among { Contains (map edge_of edges.now) (edge_of edge.now) }
     ensures { result ≡ cell_of (drawn points.now edges.now) (edge_of edge.now) forward }
 {
@@ -56,7 +56,7 @@ fn cell_beside(points: &[Point], edges: &[Span], edge: &Span, forward: bool) -> 
 ///
 /// It takes time linear in the number of points and edges.
 pub fn left_cell_at(points: &[Point], edges: &[Span], darts: &[DartRow], place: usize) -> SlabCell
-    requires plane { IsPlane (drawn points.now edges.now) }
+    requires plane { IsPlaneSkeleton (drawn points.now edges.now) }
     requires darts { darts.now ≡ dart_rows (drawn points.now edges.now) }
     requires place { place < length darts.now }
     ensures { result ≡ left_of_dart (drawn points.now edges.now) (dart_at (drawn points.now edges.now) place) }

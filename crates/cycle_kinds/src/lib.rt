@@ -11,6 +11,3 @@ mod outer;
 pub use cycles::{cycles_at, leads_among};
 pub use left_cells::left_cell_at;
 pub use outer::is_outer;
-
-#[cfg(test)]
-mod tests;

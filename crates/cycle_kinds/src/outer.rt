@@ -3,7 +3,7 @@ ghost use Rattle.slab_laws.specs.Cycles.{dart_labels, left_of_dart, odd};
 ghost use Rattle.slab_laws.specs.Darts.{darts as all_darts};
 ghost use Rattle.slab_laws.specs.Drawn.{edge_of, drawn};
 ghost use Rattle.slab_laws.specs.Rows.{dart_at, dart_rows, lead_places};
-ghost use Rattle.slab_laws.specs.Skeleton.{left_of, IsPlane};
+ghost use Rattle.slab_laws.specs.Skeleton.{left_of, IsPlaneSkeleton};
 ghost use Rattle.cycle_kinds.specs.Above.{above_by, is_above};
 
 use edge_predicates::{is_below, is_over, is_slanted, reaches_left, reaches_right};
@@ -52,7 +52,7 @@ fn is_above_dart(edge: &Span, own: &Span, forward: bool) -> bool
 }
 
 /// Whether the cycle of a least dart bounds its face from outside: whether the edges above the dart's left cell, each
-/// counted once for each dart of the cycle on it, are odd in number (book, ray shooting).
+/// counted once for each dart of the cycle on it, are odd in number (Fogel, Halperin and Wein: ray shooting).
 ///
 /// It takes time linear in the number of darts. Of the points only the contract speaks.
 pub fn is_outer(
@@ -62,7 +62,7 @@ pub fn is_outer(
     leads: &[usize],
     lead: usize,
 ) -> bool
-    requires plane { IsPlane (drawn points.now edges.now) }
+    requires plane { IsPlaneSkeleton (drawn points.now edges.now) }
     requires darts { darts.now ≡ dart_rows (drawn points.now edges.now) }
     requires leads { leads.now ≡ lead_places (drawn points.now edges.now) }
     requires lead { lead < length darts.now }

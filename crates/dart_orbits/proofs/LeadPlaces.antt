@@ -9,7 +9,7 @@ use Rattle.std.proofs.lemmas.List.{get_or-map, length-map, ext_get_or}
 use Rattle.std.proofs.lemmas.List.FromFn.{get_or-range_with_len, length-range_with_len}
 use Rattle.std.proofs.lemmas.List.Elements.{Contains-get_or}
 use Rattle.slab_laws.specs.declared.classes.Link.{Link}
-use Rattle.slab_laws.specs.Skeleton.{Skeleton, IsPlane}
+use Rattle.slab_laws.specs.Skeleton.{Skeleton, IsPlaneSkeleton}
 use Rattle.slab_laws.specs.Darts.{Dart, darts}
 use Rattle.slab_laws.specs.Cycles.{dart_labels}
 use Rattle.slab_laws.specs.Rotation.{dart_cmp, dart_below, same_dart, next}
@@ -21,9 +21,10 @@ use Rattle.slab_faces.proofs.NextLemmas.{darts_exact, dart_in, dart_out, next_fr
 use Rattle.least_classes.specs.Numbers.{is_less, AreBelow}
 use Rattle.least_classes.proofs.Transport.{StandsFor, transported, least_number, least_number-le}
 use Rattle.dart_orbits.specs.Orbits.{link_at, place_links}
-use Rattle.least_classes.proofs.CellOrder.{ascends}
+use Rattle.slab_faces.proofs.DartOrder.{dart_cmp_total, list_ascends}
+use Rattle.slab_faces.proofs.Places.{rises as ascends}
 use Rattle.dart_orbits.proofs.Pushed.{pushed, all_pushed}
-use Rattle.dart_orbits.proofs.Listed.{dart_cmp_total, list_ascends, dart_there, place_of_dart, dart_within, dart_at_place}
+use Rattle.dart_orbits.proofs.Listed.{dart_there, place_of_dart, dart_within, dart_at_place}
 
 -- ---- what comes before, by a total order
 module _ {X : Type 0} (cmp : X → X → Ordering) (o : IsTotalOrder cmp) where
@@ -54,7 +55,7 @@ dart_order = is_order dart_cmp dart_cmp_total
 abbrev dart_link : Skeleton → Dart → Link Dart
 dart_link g d = record { one = d; other = next (darts g) d }
 
-module _ (g : Skeleton) (plane : IsPlane g) (nexts : List ℕ) (e : nexts ≡ next_places g) where
+module _ (g : Skeleton) (plane : IsPlaneSkeleton g) (nexts : List ℕ) (e : nexts ≡ next_places g) where
   nexts_length : length nexts ≡ length (dart_list g)
   unfolding next_places
   nexts_length = ap length e ∙ length-map (dart_list g) (λ d. dart_place g (next (darts g) d))
@@ -76,8 +77,8 @@ module _ (g : Skeleton) (plane : IsPlane g) (nexts : List ℕ) (e : nexts ≡ ne
   rises j k J K =
       elim (cases_order j k) [
         | inl same ↦ ap is_lt (ap (λ i. dart_cmp (dart_at g j) (dart_at g i)) (sym same) ∙ tied_itself dart_cmp_total (dart_at g j)) ∙ sym (le-ltb j k (omega arith))
-        | inr (inl l) ↦ ap is_lt (ascends dart_cmp dart_cmp_total (dart_list g) (list_ascends g plane) j k no_dart l K) ∙ sym (lt-ltb j k l)
-        | inr (inr l) ↦ less_greater dart_cmp dart_cmp_total (dart_at g j) (dart_at g k) ∙ ap is_gt (ascends dart_cmp dart_cmp_total (dart_list g) (list_ascends g plane) k j no_dart l J) ∙ sym (le-ltb j k (omega arith))
+        | inr (inl l) ↦ ap is_lt (ascends dart_cmp (dart_list g) (list_ascends g plane) j k no_dart l K) ∙ sym (lt-ltb j k l)
+        | inr (inr l) ↦ less_greater dart_cmp dart_cmp_total (dart_at g j) (dart_at g k) ∙ ap is_gt (ascends dart_cmp (dart_list g) (list_ascends g plane) k j no_dart l J) ∙ sym (le-ltb j k (omega arith))
       ]
 
   -- ---- links

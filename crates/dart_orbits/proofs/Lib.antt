@@ -8,4 +8,3 @@ pub mod TurnCases
 pub mod Rounds
 pub mod NextPlaces
 pub mod LeadPlaces
-pub mod Checked

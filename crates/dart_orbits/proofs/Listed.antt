@@ -4,8 +4,7 @@ use Rattle.std.specs.Prelude.{flat_map}
 use Rattle.std.specs.List.{AllByRecursion, IsDistinct, position_or_len}
 use Rattle.std.specs.List.Sorted.{IsPermutation, IsSorted}
 use Rattle.std.specs.Ordering.{ordering_then, nat_cmp, bool_cmp, eq_by_cmp}
-use Rattle.std.specs.Cmp.{IsTotalOrder, then_total, on_total, nat_cmp_total}
-use Rattle.std.proofs.lemmas.Int.{ints}
+use Rattle.std.specs.Cmp.{nat_cmp_total}
 use Rattle.std.proofs.lemmas.Cmp.{tied_itself}
 use Rattle.std.proofs.lemmas.Grind.{flat_map-append}
 use Rattle.std.proofs.lemmas.List.{get_or-map, take_more, append_assoc, append-nil, length-map}
@@ -16,10 +15,10 @@ use Rattle.exact_plane.specs.PointOrder.{point_cmp}
 use Rattle.exact_plane.specs.PointOrderLaws.{point_cmp_total, same_point as one_point}
 use Rattle.plane_graphs.specs.Ascending.{Member, IsAscending}
 use Rattle.plane_graphs.specs.Graph.{Edge}
-use Rattle.plane_graphs.proofs.Ascending.{to_member, from_member, ascending-Member, Member-ascending, IsAscending-ascending, ascending_unique}
+use Rattle.plane_graphs.proofs.Ascending.{to_member, from_member, ascending_unique}
 use Rattle.plane_graphs.proofs.Lists.{in_map, of_map, in_flat_map, of_flat_map}
 use Rattle.slab_laws.specs.declared.rows.DartRow.{DartRow}
-use Rattle.slab_laws.specs.Skeleton.{Skeleton, IsPlane, same_point, same_edge, left_of, lower_than, on_wall}
+use Rattle.slab_laws.specs.Skeleton.{Skeleton, IsPlaneSkeleton, same_point, same_edge}
 use Rattle.slab_laws.specs.Darts.{Dart, source, target, start, darts, ahead, back}
 use Rattle.slab_laws.specs.Drawn.{drawn, edge_of}
 use Rattle.slab_laws.specs.Rotation.{dart_cmp, same_dart, twin}
@@ -28,16 +27,14 @@ use Rattle.slab_faces.proofs.Member.{member_in, in_member}
 use Rattle.slab_faces.proofs.Slabs.{same_edge_is, same_edge_refl}
 use Rattle.slab_faces.proofs.ClassesLemmas.{IsExact}
 use Rattle.slab_faces.proofs.NextLemmas.{darts_exact, dart_out, dart_in}
+use Rattle.slab_faces.proofs.DartOrder.{dart_cmp_total, list_ascends, listed_out, listed_in}
 use Rattle.dart_orbits.specs.Rows.{edge_rows, row_dart}
 use Rattle.dart_orbits.proofs.Placed.{AreApart, member_at, one_place, place_at, place_within, at_place, counted_apart, ascending_apart, lower}
 use Rattle.dart_orbits.proofs.Points.{points_exact}
-use Rattle.dart_orbits.proofs.RowOrder.{row_cmp, row_cmp_total, then_both, nat_less, untied, sorted_ascends}
+use Rattle.dart_orbits.proofs.RowOrder.{row_cmp, row_cmp_total, nat_less, untied, sorted_ascends}
 
 pub edges_exact : IsExact same_edge
 edges_exact = record { itself = same_edge_refl; path = same_edge_is }
-
-pub dart_cmp_total : IsTotalOrder dart_cmp
-dart_cmp_total = then_total (on_total source point_cmp_total) (on_total target point_cmp_total)
 
 -- a list whose order a map keeps
 module _ {X Y : Type 0} (cmp : X → X → Ordering) (cmp' : Y → Y → Ordering) (f : X → Y) where
@@ -49,15 +46,11 @@ module _ {X Y : Type 0} (cmp : X → X → Ordering) (cmp' : Y → Y → Orderin
   IsAscending-map [] h a = tt
   IsAscending-map (x ∷ xs) h a = (All-map x xs (λ y m. h x y (inl refl) (inr m)) a.0, IsAscending-map xs (λ y z m n. h y z (inr m) (inr n)) a.1)
 
-lower_both : (p q : Point) → lower_than p q ≡ true → lower_than q p ≡ true → ⊥
-unfolding lower_than
-lower_both p q h k = omega (arith, ints)
-
 pub turned_twice : (b : Bool) → not (not b) ≡ b
 turned_twice true = refl
 turned_twice false = refl
 
-module _ (g : Skeleton) (plane : IsPlane g) where
+module _ (g : Skeleton) (plane : IsPlaneSkeleton g) where
   -- ---- edges
   edges_apart : AreApart g.edges
   edges_apart = counted_apart same_edge g.edges edges_exact plane.edge_once
@@ -72,46 +65,18 @@ module _ (g : Skeleton) (plane : IsPlane g) where
   pub row_dart_is : (d : Dart) → Contains g.edges d.edge → row_dart g.edges (dart_row g d) ≡ d
   row_dart_is d E = let e = at_place same_edge edges_exact g.edges d.edge no_dart.edge (to_member g.edges d.edge E) in λ i. record { edge = e i; forward = d.forward }
 
-  -- ---- two darts from one point to another are one
-  opposite : (d e : Edge) → Contains g.edges d → Contains g.edges e → d.low ≡ e.high → d.high ≡ e.low → ⊥
-  opposite d e D E a b =
-      let left : left_of d.low d.high ≡ false = subst (λ z. left_of z d.high ≡ false) (sym a) (subst (λ z. left_of e.high z ≡ false) (sym b) (plane.forward e E)) in
-      let right : left_of d.high d.low ≡ false = plane.forward d D in
-      let up : lower_than d.low d.high ≡ true = plane.upright d D (rw (left, right) refl) in
-      let down : lower_than e.low e.high ≡ true = plane.upright e E (subst (λ z. on_wall z e.high ≡ true) b (subst (λ z. on_wall d.high z ≡ true) a (rw (left, right) refl))) in
-      lower_both d.low d.high up (subst (λ z. lower_than z d.low ≡ true) (sym b) (subst (λ z. lower_than e.low z ≡ true) (sym a) down))
-
-  one_dart : (d e : Edge) (p q : Bool) → Contains g.edges d → Contains g.edges e → start d p ≡ start e q → start d (not p) ≡ start e (not q) → ◌≡◌ {A = Dart} (record { edge = d; forward = p }) (record { edge = e; forward = q })
-  one_dart d e true true D E a b = λ i. record { edge = record { low = a i; high = b i }; forward = true }
-  one_dart d e false false D E a b = λ i. record { edge = record { low = b i; high = a i }; forward = false }
-  one_dart d e true false D E a b = absurd (opposite d e D E a b)
-  one_dart d e false true D E a b = absurd (opposite d e D E b a)
-
-  dart_tied : (d e : Dart) → Contains g.edges d.edge → Contains g.edges e.edge → dart_cmp d e ≡ Equal → d ≡ e
-  dart_tied d e D E h =
-      let t = then_both (point_cmp (source d) (source e)) (point_cmp (target d) (target e)) h in
-      one_dart d.edge e.edge d.forward e.forward D E (one_point (source d) (source e) t.0) (one_point (target d) (target e) t.1)
-
   -- ---- the list
   dart_of : (d : Dart) → Member d (darts g) → Contains g.edges d.edge
   dart_of d m = dart_out g d (in_member (darts g) d (from_member (darts g) d m))
 
   pub of_list : (d : Dart) → Member d (dart_list g) → Contains g.edges d.edge
-  unfolding dart_list
-  of_list d m = dart_of d (Member-ascending dart_cmp dart_cmp_total d (darts g) m)
+  of_list d m = dart_of d (listed_out g plane d m)
 
   pub in_list : (d : Dart) → Contains g.edges d.edge → Member d (dart_list g)
-  unfolding dart_list
-  in_list d E =
-      ascending-Member dart_cmp dart_cmp_total d (darts g) (λ x y m n e. dart_tied x y (dart_of x m) (dart_of y n) e)
-      (to_member (darts g) d (member_in (darts g) d (dart_in g d.edge d.forward E)))
-
-  pub list_ascends : IsAscending dart_cmp (dart_list g)
-  unfolding dart_list
-  list_ascends = IsAscending-ascending dart_cmp dart_cmp_total (darts g)
+  in_list d E = listed_in g plane d (to_member (darts g) d (member_in (darts g) d (dart_in g d.edge d.forward E)))
 
   pub list_apart : AreApart (dart_list g)
-  list_apart = ascending_apart dart_cmp dart_cmp_total (dart_list g) list_ascends
+  list_apart = ascending_apart dart_cmp dart_cmp_total (dart_list g) (list_ascends g plane)
 
   pub dart_there : (k : ℕ) → k < length (dart_list g) → Contains g.edges (dart_at g k).edge
   dart_there k l = of_list (dart_at g k) (member_at (dart_list g) k no_dart l)
@@ -171,7 +136,7 @@ module _ (g : Skeleton) (plane : IsPlane g) where
 
     pub rows_ascend : IsAscending row_cmp (dart_rows g)
     unfolding dart_rows
-    rows_ascend = IsAscending-map dart_cmp row_cmp (dart_row g) (dart_list g) (λ d e m n h. rows_rise d e (of_list d m) (of_list e n) h) list_ascends
+    rows_ascend = IsAscending-map dart_cmp row_cmp (dart_row g) (dart_list g) (λ d e m n h. rows_rise d e (of_list d m) (of_list e n) h) (list_ascends g plane)
 
     -- where a dart's row stands
     pub place_of_row : (d : Dart) (k : ℕ) (r : DartRow) → Contains g.edges d.edge → k < length (dart_rows g) → get_or (dart_rows g) k r ≡ dart_row g d → k ≡ dart_place g d
@@ -227,7 +192,7 @@ module _ (g : Skeleton) (plane : IsPlane g) where
 
 -- ---- the rows of one edge more
 pub edge_added : (points : List Point) (edges : List Span) (i : ℕ) (span : Span) (p q : Point) (low high : ℕ) (a b c : List DartRow) →
-    IsPlane (drawn points edges) → i < length edges → span ≡ get_or edges i span → p ≡ span.lower → q ≡ span.upper →
+    IsPlaneSkeleton (drawn points edges) → i < length edges → span ≡ get_or edges i span → p ≡ span.lower → q ≡ span.upper →
     low ≡ position_or_len (same_point p) points → high ≡ position_or_len (same_point q) points →
     a ≡ flat_map (edge_rows (drawn points edges)) (take i (map edge_of edges)) →
     b ≡ a ++ (record { source = low; target = high; edge = i; forward = true } ∷ []) →

@@ -7,7 +7,7 @@ use Rattle.std.proofs.lemmas.List.{length-map, get_or-map}
 use Rattle.exact_plane.specs.Point.{Point}
 use Rattle.exact_plane.specs.Span.{Span}
 use Rattle.slab_laws.specs.declared.rows.DartRow.{DartRow}
-use Rattle.slab_laws.specs.Skeleton.{Skeleton, IsPlane}
+use Rattle.slab_laws.specs.Skeleton.{Skeleton, IsPlaneSkeleton}
 use Rattle.slab_laws.specs.Darts.{Dart, source, darts}
 use Rattle.slab_laws.specs.Drawn.{drawn, edge_of}
 use Rattle.slab_laws.specs.Rotation.{twin, after, ring, next}
@@ -28,7 +28,7 @@ pub record IsFirstOf (g : Skeleton) (from best i : ℕ) : Type 0 where
   pub out : source (dart_at g best) ≡ source (dart_at g from)
   pub none : (j : ℕ) → j < i → j < length (dart_list g) → source (dart_at g j) ≡ source (dart_at g from) → sooner (dart_at g from) (dart_at g j) (dart_at g best) ≡ false
 
-module _ (points : List Point) (edges : List Span) (rows : List DartRow) (plane : IsPlane (drawn points edges)) (e : rows ≡ dart_rows (drawn points edges)) where
+module _ (points : List Point) (edges : List Span) (rows : List DartRow) (plane : IsPlaneSkeleton (drawn points edges)) (e : rows ≡ dart_rows (drawn points edges)) where
   abbrev G : Skeleton
   G = drawn points edges
 

@@ -4,15 +4,16 @@ use Rattle.std.specs.List.{count_by, position_or_len}
 use Rattle.std.specs.List.Sorted.{IsBinarySearchResult, IsSearchInRange}
 use Rattle.std.specs.Result.{result_unwrap_or}
 use Rattle.std.specs.Cmp.{IsTotalOrder}
-use Rattle.std.proofs.lemmas.Bool.{false_from_ne_true, cases_order, false≢true, cases_lt}
+use Rattle.std.proofs.lemmas.Bool.{false_from_ne_true, cases_order}
 use Rattle.std.proofs.lemmas.Cmp.{tied_itself}
 use Rattle.std.proofs.lemmas.List.{get_or_default}
 use Rattle.std.proofs.lemmas.List.Elements.{Contains-get_or}
-use Rattle.std.proofs.lemmas.List.Sums.{position_or_len_is, passes_at_first, fails_before_first, sum_by-cons}
+use Rattle.std.proofs.lemmas.List.Sums.{position_or_len_is, sum_by-cons}
 use Rattle.plane_graphs.specs.Ascending.{Member, IsAscending}
 use Rattle.plane_graphs.proofs.Ascending.{to_member, from_member}
 use Rattle.slab_faces.proofs.ClassesLemmas.{IsExact}
-use Rattle.least_classes.proofs.CellOrder.{ascends, absent}
+use Rattle.slab_faces.proofs.Places.{rises, place_is, found_at}
+use Rattle.least_classes.proofs.CellOrder.{absent}
 
 module _ {X : Type 0} where
   -- no element stands at two places
@@ -43,16 +44,11 @@ module _ {X : Type 0} where
         (λ _. exact.itself (get_or xs k d))
 
     pub place_within : (xs : List X) (x : X) → Member x xs → position_or_len (same x) xs < length xs
-    place_within xs x m =
-        let c = from_member xs x m in
-        elim (cases_lt (position_or_len (same x) xs) (length xs)) [
-          | inl l ↦ l
-          | inr l ↦ absurd (false≢true (sym (fails_before_first (same x) xs c.0 x (let k = c.1 in omega arith)) ∙ ap (same x) c.2 ∙ exact.itself x))
-        ]
+    place_within xs x m = place_is same exact xs x (from_member xs x m)
 
     -- what stands at an element's place
     pub at_place : (xs : List X) (x d : X) → Member x xs → get_or xs (position_or_len (same x) xs) d ≡ x
-    at_place xs x d m = sym (exact.path x _ (passes_at_first (same x) xs d (place_within xs x m)))
+    at_place xs x d m = found_at same exact xs x d (from_member xs x m)
 
   -- ---- elements that count once
   one_more : (p : X → Bool) (x : X) (xs : List X) → p x ≡ true → count_by p (x ∷ xs) ≡ 1 + count_by p xs
@@ -85,7 +81,7 @@ module _ {X : Type 0} where
 module _ {X : Type 0} (cmp : X → X → Ordering) (o : IsTotalOrder cmp) where
   pub ascending_apart : (xs : List X) → IsAscending cmp xs → AreApart xs
   ascending_apart xs h = record {
-    differ = λ j k d l m e. let a = ascends cmp o xs h j k d l m in let b = tied_itself o (get_or xs k d) in let c : cmp (get_or xs k d) (get_or xs k d) ≡ Less = subst (λ x. cmp x (get_or xs k d) ≡ Less) e a in absurd cc;
+    differ = λ j k d l m e. let a = rises cmp xs h j k d l m in let b = tied_itself o (get_or xs k d) in let c : cmp (get_or xs k d) (get_or xs k d) ≡ Less = subst (λ x. cmp x (get_or xs k d) ≡ Less) e a in absurd cc;
   }
 
   -- lesser elements stand at lower places
@@ -94,7 +90,7 @@ module _ {X : Type 0} (cmp : X → X → Ordering) (o : IsTotalOrder cmp) where
       elim (cases_order j k) [
         | inl same ↦ absurd (let t = tied_itself o (get_or xs k d) in let u = subst (λ i. cmp (get_or xs i d) (get_or xs k d) ≡ Less) same e in cc)
         | inr (inl l) ↦ l
-        | inr (inr l) ↦ absurd (let a = ascends cmp o xs h k j d l J in let b = o.trans (get_or xs j d) (get_or xs k d) (get_or xs j d) e a in let t = tied_itself o (get_or xs j d) in cc)
+        | inr (inr l) ↦ absurd (let a = rises cmp xs h k j d l J in let b = o.trans (get_or xs j d) (get_or xs k d) (get_or xs j d) e a in let t = tied_itself o (get_or xs j d) in cc)
       ]
 
   -- where a search finds an element

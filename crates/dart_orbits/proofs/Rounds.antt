@@ -3,7 +3,7 @@ use Rattle.std.proofs.Common.{◌≡◌, Bool, true, false, cond, refl, sym, ap,
 use Rattle.std.specs.List.{Contains}
 use Rattle.std.proofs.lemmas.Bool.{false≢true}
 use Rattle.exact_plane.specs.Point.{Point}
-use Rattle.slab_laws.specs.Skeleton.{Skeleton, IsPlane}
+use Rattle.slab_laws.specs.Skeleton.{Skeleton, IsPlaneSkeleton}
 use Rattle.slab_laws.specs.Darts.{Dart}
 use Rattle.slab_laws.specs.Rotation.{earlier}
 use Rattle.slab_faces.proofs.RingLemmas.{IsRound}
@@ -54,7 +54,7 @@ module _ (P : Dart → Type 0) (o : IsRound earlier P) (d : Dart) where
       go false false e f = o.total x y p q e f
 
 -- ---- what follows a dart
-module _ (g : Skeleton) (v : Point) (plane : IsPlane g) (in' : Contains g.vertices v) where
+module _ (g : Skeleton) (v : Point) (plane : IsPlaneSkeleton g) (in' : Contains g.vertices v) where
   not_true : (b : Bool) → (b ≡ true → ⊥) → b ≡ false
   not_true true h = absurd (h refl)
   not_true false h = refl

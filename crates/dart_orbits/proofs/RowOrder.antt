@@ -9,6 +9,7 @@ use Rattle.std.proofs.lemmas.Bool.Decides.{nat_tests}
 use Rattle.std.proofs.lemmas.Cmp.{eq_by_cmp_equiv}
 use Rattle.std.proofs.lemmas.List.Kept.{IsStrictlySortedBy-dedup}
 use Rattle.std.proofs.lemmas.Map.Keys.{IsDistinct-IsPermutation}
+use Rattle.integers.proofs.Classes.{then_equal}
 use Rattle.plane_graphs.specs.Ascending.{IsAscending}
 use Rattle.plane_graphs.proofs.Ascending.{from_std}
 use Rattle.slab_laws.specs.declared.rows.DartRow.{DartRow}
@@ -20,11 +21,6 @@ pub row_cmp_total : IsTotalOrder row_cmp
 row_cmp_total = then_total (on_total (λ r. r.source) nat_cmp_total) (then_total (on_total (λ r. r.target) nat_cmp_total) (then_total (on_total (λ r. r.edge) nat_cmp_total) (on_total (λ r. r.forward) bool_cmp_total)))
 
 -- ---- what an order says
-pub then_both : (r s : Ordering) → ordering_then r s ≡ Equal → (r ≡ Equal) × (s ≡ Equal)
-then_both Less s e = cc
-then_both Equal s e = (refl, e)
-then_both Greater s e = cc
-
 nat_tied : (m n : ℕ) → nat_cmp m n ≡ Equal → m ≡ n
 nat_tied m n e = grind (arith, nat_tests)
 
@@ -39,9 +35,9 @@ bool_tied false false e = refl
 
 pub row_tied : (r s : DartRow) → row_cmp r s ≡ Equal → r ≡ s
 row_tied r s e =
-    let a = then_both (nat_cmp r.source s.source) _ e in
-    let b = then_both (nat_cmp r.target s.target) _ a.1 in
-    let c = then_both (nat_cmp r.edge s.edge) _ b.1 in
+    let a = then_equal (nat_cmp r.source s.source) _ e in
+    let b = then_equal (nat_cmp r.target s.target) _ a.1 in
+    let c = then_equal (nat_cmp r.edge s.edge) _ b.1 in
     let p = nat_tied r.source s.source a.0 in
     let q = nat_tied r.target s.target b.0 in
     let t = nat_tied r.edge s.edge c.0 in

@@ -5,7 +5,7 @@ use Rattle.std.specs.Result.{result_unwrap_or}
 use Rattle.exact_plane.specs.PointOrder.{point_cmp}
 use Rattle.plane_graphs.specs.Ascending.{Member, IsAscending}
 use Rattle.slab_laws.specs.declared.rows.DartRow.{DartRow}
-use Rattle.slab_laws.specs.Skeleton.{Skeleton, IsPlane}
+use Rattle.slab_laws.specs.Skeleton.{Skeleton, IsPlaneSkeleton}
 use Rattle.slab_laws.specs.Darts.{Dart, start, target}
 use Rattle.slab_laws.specs.Rotation.{twin}
 use Rattle.slab_laws.specs.Rows.{dart_list, no_dart, dart_at, vertex_place, edge_place, dart_place, dart_row, dart_rows, twin_places}
@@ -24,7 +24,7 @@ turned_row r = record { source = r.target; target = r.source; edge = r.edge; for
 turned_is : (g : Skeleton) (d : Dart) → turned_row (dart_row g d) ≡ dart_row g (twin d)
 turned_is g d = λ i. record { source = vertex_place g (target d); target = vertex_place g (start d.edge (sym (turned_twice d.forward) i)); edge = edge_place g d.edge; forward = not d.forward }
 
-module _ (g : Skeleton) (plane : IsPlane g) (ascend : IsAscending point_cmp g.vertices) where
+module _ (g : Skeleton) (plane : IsPlaneSkeleton g) (ascend : IsAscending point_cmp g.vertices) where
   abbrev FindsIn : List DartRow → Type 0
   FindsIn rows = (k : ℕ) (row : DartRow) (r : Result ℕ ℕ) (u : ℕ) → k < length rows → row ≡ turned_row (get_or rows k no_row) → IsSearchInRange r (length rows) → IsBinarySearchResult (λ y. row_cmp y row) rows r → u ≡ result_unwrap_or r (length rows) → u ≡ dart_place g (twin (dart_at g k))
 

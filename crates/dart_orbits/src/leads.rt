@@ -1,7 +1,7 @@
 ghost use Rattle.std.specs.Prelude.{◌≡◌, IfOk};
 ghost use Rattle.exact_plane.specs.PointOrder.{point_cmp};
 ghost use Rattle.plane_graphs.specs.Ascending.{IsAscending};
-ghost use Rattle.slab_laws.specs.Skeleton.{IsPlane};
+ghost use Rattle.slab_laws.specs.Skeleton.{IsPlaneSkeleton};
 ghost use Rattle.slab_laws.specs.Drawn.{drawn};
 ghost use Rattle.slab_laws.specs.Rows.{next_places, lead_places};
 ghost use Rattle.dart_orbits.specs.Orbits.{place_links};
@@ -37,7 +37,7 @@ pub fn leads_of(
     edges: &[Span],
     nexts: &[usize],
 ) -> Result<Vec<usize>, NoMemory>
-    requires plane { IsPlane (drawn points.now edges.now) }
+    requires plane { IsPlaneSkeleton (drawn points.now edges.now) }
     requires ascend { IsAscending point_cmp points.now }
     requires nexts { nexts.now ≡ next_places (drawn points.now edges.now) }
     ensures { IfOk result (λ ls. ls.items ≡ lead_places (drawn points.now edges.now)) }

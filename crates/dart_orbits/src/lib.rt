@@ -14,6 +14,3 @@ pub use leads::leads_of;
 pub use nexts::nexts_of;
 pub use rows::darts_of;
 pub use twins::twins_of;
-
-#[cfg(test)]
-mod tests;

@@ -1,7 +1,7 @@
 ghost use Rattle.std.specs.Prelude.{◌≡◌, ◌<◌, ◌==◌, ◌&&◌, IfOk, length, map};
 ghost use Rattle.exact_plane.specs.PointOrder.{point_cmp};
 ghost use Rattle.plane_graphs.specs.Ascending.{IsAscending};
-ghost use Rattle.slab_laws.specs.Skeleton.{IsPlane};
+ghost use Rattle.slab_laws.specs.Skeleton.{IsPlaneSkeleton};
 ghost use Rattle.slab_laws.specs.Drawn.{drawn, edge_of};
 ghost use Rattle.slab_laws.specs.Rotation.{after, ring};
 ghost use Rattle.slab_laws.specs.Darts.{source, darts as darts_in};
@@ -30,7 +30,7 @@ fn is_nearer(edges: &[Span], from: &DartRow, dart: &DartRow, other: &DartRow) ->
 // The place of the dart that is met first on the way clockwise round a dart's source, from just after it on: itself where
 // no other dart leaves that vertex.
 fn first_after(points: &[Point], edges: &[Span], darts: &[DartRow], from: usize) -> usize
-    requires plane { IsPlane (drawn points.now edges.now) }
+    requires plane { IsPlaneSkeleton (drawn points.now edges.now) }
     requires ascend { IsAscending point_cmp points.now }
     requires darts { darts.now ≡ dart_rows (drawn points.now edges.now) }
     requires from { from < length darts.now }
@@ -61,7 +61,7 @@ pub fn nexts_of(
     edges: &[Span],
     darts: &[DartRow],
 ) -> Result<Vec<usize>, NoMemory>
-    requires plane { IsPlane (drawn points.now edges.now) }
+    requires plane { IsPlaneSkeleton (drawn points.now edges.now) }
     requires ascend { IsAscending point_cmp points.now }
     requires darts { darts.now ≡ dart_rows (drawn points.now edges.now) }
     ensures { IfOk result (λ ns. ns.items ≡ next_places (drawn points.now edges.now)) }

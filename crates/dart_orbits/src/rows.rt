@@ -2,7 +2,7 @@ ghost use Rattle.std.specs.Prelude.{◌≡◌, IfOk, flat_map};
 ghost use Rattle.std.specs.List.{position_or_len};
 ghost use Rattle.exact_plane.specs.PointOrder.{point_cmp};
 ghost use Rattle.plane_graphs.specs.Ascending.{IsAscending};
-ghost use Rattle.slab_laws.specs.Skeleton.{IsPlane, same_point};
+ghost use Rattle.slab_laws.specs.Skeleton.{IsPlaneSkeleton, same_point};
 ghost use Rattle.slab_laws.specs.Drawn.{drawn};
 ghost use Rattle.slab_laws.specs.Rows.{dart_rows};
 ghost use Rattle.dart_orbits.specs.Rows.{edge_rows};
@@ -22,7 +22,7 @@ fn place_of(points: &[Point], point: &Point) -> usize
 
 // Both darts of each edge, in the order of the edges.
 fn rows_of_edges(alloc: Global, points: &[Point], edges: &[Span]) -> Result<Vec<DartRow>, NoMemory>
-    requires plane { IsPlane (drawn points.now edges.now) }
+    requires plane { IsPlaneSkeleton (drawn points.now edges.now) }
     requires ascend { IsAscending point_cmp points.now }
     ensures { IfOk result (λ rs. let g = drawn points.now edges.now in rs.items ≡ flat_map (edge_rows g) g.edges) }
 {
@@ -55,7 +55,7 @@ fn rows_of_edges(alloc: Global, points: &[Point], edges: &[Span]) -> Result<Vec<
 ///
 /// `NoMemory` where there is no memory for the list.
 pub fn darts_of(alloc: Global, points: &[Point], edges: &[Span]) -> Result<Vec<DartRow>, NoMemory>
-    requires plane { IsPlane (drawn points.now edges.now) }
+    requires plane { IsPlaneSkeleton (drawn points.now edges.now) }
     requires ascend { IsAscending point_cmp points.now }
     ensures { IfOk result (λ rs. rs.items ≡ dart_rows (drawn points.now edges.now)) }
 {

@@ -1,7 +1,7 @@
 ghost use Rattle.std.specs.Prelude.{◌≡◌, IfOk, not};
 ghost use Rattle.exact_plane.specs.PointOrder.{point_cmp};
 ghost use Rattle.plane_graphs.specs.Ascending.{IsAscending};
-ghost use Rattle.slab_laws.specs.Skeleton.{IsPlane};
+ghost use Rattle.slab_laws.specs.Skeleton.{IsPlaneSkeleton};
 ghost use Rattle.slab_laws.specs.Drawn.{drawn};
 ghost use Rattle.slab_laws.specs.Rows.{dart_rows, twin_places};
 
@@ -36,7 +36,7 @@ pub fn twins_of(
     edges: &[Span],
     darts: &[DartRow],
 ) -> Result<Vec<usize>, NoMemory>
-    requires plane { IsPlane (drawn points.now edges.now) }
+    requires plane { IsPlaneSkeleton (drawn points.now edges.now) }
     requires ascend { IsAscending point_cmp points.now }
     requires darts { darts.now ≡ dart_rows (drawn points.now edges.now) }
     ensures { IfOk result (λ ts. ts.items ≡ twin_places (drawn points.now edges.now)) }

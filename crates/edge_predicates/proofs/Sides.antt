@@ -12,7 +12,8 @@ use Rattle.exact_plane.specs.Sign.{sign_by, sign_of}
 use Rattle.exact_plane.specs.Span.{Span, IsSpan}
 use Rattle.exact_plane.specs.declared.sides.Sign.{Sign}
 use Rattle.exact_plane.specs.declared.sides.Sign.TheVariants.{Minus, Zero, Plus}
-use Rattle.plane_graphs.proofs.Crossings.{Runs, spans_w, spans_x, spans_y}
+use Rattle.plane_graphs.proofs.Crossings.{spans_w, spans_x, spans_y}
+use Rattle.exact_plane.specs.Plane.{Runs}
 use Rattle.plane_graphs.proofs.Lines.{point_is_proper, span_a, span_b, span_c, span_runs}
 use Rattle.slab_laws.specs.Skeleton.{left_of, lower_than, precedes, run, side, over, under, inside}
 use Rattle.slab_laws.specs.Drawn.{edge_of}

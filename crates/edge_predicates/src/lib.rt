@@ -15,6 +15,3 @@ pub use edges::{
 };
 pub use order::is_below;
 pub use points::{is_left_of, is_lower_than, is_on_wall, is_same, precedes};
-
-#[cfg(test)]
-mod tests;

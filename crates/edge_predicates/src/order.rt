@@ -33,7 +33,7 @@ fn is_lower_at(edge: &Span, other: &Span, point: &Point) -> bool
     has_in_range(edge, point) && has_in_range(other, point) && is_line_below(edge, other, point)
 }
 
-/// Whether the edge is below the other at an end of one of them that both pass: the order of the edges of a slab (book,
+/// Whether the edge is below the other at an end of one of them that both pass: the order of the edges of a slab (Fogel, Halperin and Wein:
 /// status order of the sweep).
 pub fn is_below(edge: &Span, other: &Span) -> bool
     requires own { left_of edge.now.lower edge.now.upper ≡ true }

@@ -11,7 +11,7 @@ use Rattle.integers.proofs.Gcd.{divisor_of_lowest, lowest_by_divisors}
 use Rattle.exact_plane.proofs.Geometry.{cross_only}
 
 -- a factor that both sides have goes
-same_over : (X Y U V g : ℤ) → pos 0 <ℤ g → X *ℤ (V *ℤ g) ≡ (U *ℤ g) *ℤ Y → X *ℤ V ≡ U *ℤ Y
+pub same_over : (X Y U V g : ℤ) → pos 0 <ℤ g → X *ℤ (V *ℤ g) ≡ (U *ℤ g) *ℤ Y → X *ℤ V ≡ U *ℤ Y
 same_over X Y U V g hg e = same_by hg (diff_zero {a = X *ℤ (V *ℤ g)} {b = (U *ℤ g) *ℤ Y} e) (ring (X ∷ Y ∷ U ∷ V ∷ g ∷ []) (search sides depth 40 fits 20000) tt)
 
 -- the crossing, in lowest terms, is the one point on both lines (where cross_w is negative, swap the lines)

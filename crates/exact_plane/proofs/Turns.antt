@@ -9,7 +9,7 @@ use Rattle.integers.proofs.Compare.{less_out, equal_out, equal_in, greater_out, 
 use Rattle.integers.proofs.Reify.{ring, sides}
 use Rattle.integers.proofs.Signs.{mul_pos, cancel_pos}
 use Rattle.exact_plane.specs.Direction.{Direction, IsDirection, IsOneDirection, turn, along, quarter, place, by_turn, turn_cmp}
-use Rattle.exact_plane.specs.PointOrderLaws.{then_equal}
+use Rattle.integers.proofs.Classes.{then_equal}
 use Rattle.exact_plane.proofs.TurnLaws.{same_side}
 
 square : Direction → ℤ

@@ -78,7 +78,3 @@ last_place f a = last_quarter (int_cmp (turn f a) (pos 0)) (int_cmp (along f a) 
 -- the order in which two are met clockwise from just after a first one, which comes after all others
 abbrev pub next_cmp : Direction → Direction → Direction → Ordering
 next_cmp f = then_cmp (on (last_place f) nat_cmp) by_turn
-
--- clockwise from just after d, a is met before b
-abbrev pub Sooner : Direction → Direction → Direction → Type 0
-Sooner d a b = next_cmp d a b ≡ Less

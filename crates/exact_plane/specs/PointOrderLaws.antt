@@ -2,10 +2,10 @@
 use Rattle.std.specs.Prelude.{◌≡◌, zero, suc, Bool, true, false, ◌&&◌, [], ◌∷◌, ℤ, pos, negsuc, ◌*ℤ◌, ◌<ℤ◌, refl}
 use Rattle.std.proofs.Common.{arith, ap, ap₂, sym, ◌∙◌}
 use Rattle.std.proofs.lemmas.Int.{ints}
-use Rattle.std.specs.declared.cmp.Ordering.{Ordering}
-use Rattle.std.specs.declared.cmp.Ordering.TheVariants.{Less, Equal, Greater}
+use Rattle.std.specs.declared.cmp.Ordering.TheVariants.{Equal}
 use Rattle.std.specs.Ordering.{ordering_then, int_cmp, int_eq, is_eq, eq_by_cmp}
 use Rattle.std.specs.Cmp.{IsTotalOrder, int_cmp_total, then_total, on_total, both_ways, Equal-is}
+use Rattle.integers.proofs.Classes.{then_equal}
 use Rattle.integers.proofs.Compare.{ratio_total, equal_out, equal_in}
 use Rattle.integers.proofs.Reify.{ring, sides}
 use Rattle.integers.proofs.Signs.{same_by, diff_zero}
@@ -19,11 +19,6 @@ weight-positive (negsuc n) = omega (arith, ints)
 
 pub point_cmp_total : IsTotalOrder point_cmp
 point_cmp_total = then_total (ratio_total (λ p. p.x) (λ p. weight p.w) (λ p. weight-positive p.w)) (then_total (ratio_total (λ p. p.y) (λ p. weight p.w) (λ p. weight-positive p.w)) (on_total (λ p. p.w) int_cmp_total))
-
-pub then_equal : (r s : Ordering) → ordering_then r s ≡ Equal → (r ≡ Equal) × (s ≡ Equal)
-then_equal Less s e = cc
-then_equal Equal s e = (refl, e)
-then_equal Greater s e = cc
 
 -- over one weight equal ratios are equal numbers
 same_numerator : (a b v w : ℤ) → v ≡ w → a *ℤ weight w ≡ b *ℤ weight v → a ≡ b

@@ -22,6 +22,3 @@ pub use point::{Point, PointError};
 pub use segment::{Segment, SegmentError};
 pub use sides::{Sign, above_at, side};
 pub use spans::Span;
-
-#[cfg(test)]
-mod tests;

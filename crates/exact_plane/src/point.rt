@@ -1,7 +1,7 @@
-ghost use Rattle.std.specs.Prelude.{◌≡◌, ◌≢◌, ◌↔◌, ◌<◌, pos, ◌*ℤ◌, unsigned_abs, IsTrue, IsErrOf, IfOk, refl};
+ghost use Rattle.std.specs.Prelude.{◌≡◌, ◌≢◌, ◌↔◌, ◌<◌, ◌-◌, ◌^◌, pos, ◌*ℤ◌, unsigned_abs, IsTrue, IsErrOf, IfOk, refl};
 ghost use Rattle.std.specs.Cmp.{po};
 ghost use Rattle.std.specs.Ordering.{as_partial_cmp};
-ghost use Rattle.exact_plane.specs.declared.bounds.TheConstants.{NUMERATOR_LIMIT, PRODUCT_LIMIT};
+ghost use Rattle.exact_plane.specs.declared.bounds.TheConstants.{MAX_COORDINATE, WEIGHT_LIMIT, NUMERATOR_LIMIT, PRODUCT_LIMIT};
 ghost use Rattle.integers.specs.Lowest.{IsLowest};
 ghost use Rattle.integers.specs.Ratio.{ratio_cmp};
 ghost use Rattle.exact_plane.specs.Point.{in_range, reduced, IsInRange, IsPoint, IsRatio};
@@ -83,6 +83,7 @@ impl Point {
         ensures same_place { IfOk result (λ p. (p.x *ℤ w ≡ x *ℤ p.w) × (p.y *ℤ w ≡ y *ℤ p.w)) }
         ensures in_range { IfOk result (λ p. IsInRange p.x p.y p.w) }
         ensures lowest { IfOk result (λ p. IsLowest p.x p.y p.w) }
+        ensures limits { (MAX_COORDINATE ≡ 2 ^ 20 - 1) × (WEIGHT_LIMIT ≡ 2 ^ 43) }
     {
         if w == 0 {
             return Err(PointError::ZeroWeight);

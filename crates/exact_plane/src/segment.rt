@@ -1,6 +1,7 @@
-ghost use Rattle.std.specs.Prelude.{◌≡◌, ◌⊎◌, ◌↔◌, ◌&&◌, IsErrOf, IfOk};
+ghost use Rattle.std.specs.Prelude.{◌≡◌, ◌⊎◌, ◌↔◌, ◌-◌, ◌^◌, ◌&&◌, IsErrOf, IfOk};
 ghost use Rattle.std.specs.Ordering.{int_eq};
 ghost use Rattle.std.specs.declared.cmp.Ordering.TheVariants.{Less};
+ghost use Rattle.exact_plane.specs.declared.bounds.TheConstants.{MAX_COORDINATE};
 ghost use Rattle.exact_plane.specs.PointOrder.{point_cmp};
 ghost use Rattle.exact_plane.specs.Segment.{segment, whole_point, is_coordinate, are_coordinates, is_before, AreCoordinates, AreEnds};
 ghost use Rattle.exact_plane.specs.SegmentOf.{segment_of};
@@ -75,6 +76,7 @@ impl Segment {
         ensures equal { IsErrOf result SegmentError.Equal ↔ (AreCoordinates x1 y1 x2 y2 × (x1 ≡ x2) × (y1 ≡ y2)) }
         ensures ends { IfOk result (λ s. (s ≡ segment x1 y1 x2 y2) ⊎ (s ≡ segment x2 y2 x1 y1)) }
         ensures ascending { IfOk result (λ s. point_cmp s.lower s.upper ≡ Less) }
+        ensures limit { MAX_COORDINATE ≡ 2 ^ 20 - 1 }
     {
         if !all_within(x1, y1, x2, y2) {
             return Err(SegmentError::Range);

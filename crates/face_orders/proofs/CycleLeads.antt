@@ -5,7 +5,7 @@ use Rattle.std.specs.Ordering.{ordering_reverse}
 use Rattle.plane_graphs.specs.Ascending.{Member as In}
 use Rattle.plane_graphs.proofs.Ascending.{ascending_is}
 use Rattle.plane_graphs.proofs.Lists.{of_filter, in_filter, clash}
-use Rattle.slab_laws.specs.Skeleton.{Skeleton, IsPlane}
+use Rattle.slab_laws.specs.Skeleton.{Skeleton, IsPlaneSkeleton}
 use Rattle.slab_laws.specs.Darts.{Dart, darts}
 use Rattle.slab_laws.specs.Rotation.{dart_cmp, dart_below, same_dart}
 use Rattle.slab_laws.specs.Cycles.{leads}
@@ -15,9 +15,10 @@ use Rattle.slab_faces.proofs.NextLemmas.{darts_exact}
 use Rattle.face_orders.specs.Laws.{same_cycle, LeadsAreFirst}
 use Rattle.face_orders.proofs.Firsts.{of_distinct}
 use Rattle.face_orders.proofs.Ascended.{distinct_ascends, none_before, first_there}
-use Rattle.face_orders.proofs.DartOrder.{dart_cmp_total, lead_not_after, tied_darts, list_ascends, listed_out, listed_in, lead_lead, lead_in}
+use Rattle.slab_faces.proofs.DartOrder.{dart_cmp_total, tied_darts, list_ascends, listed_out, listed_in, lead_lead}
+use Rattle.face_orders.proofs.DartOrder.{lead_not_after, lead_in}
 
-module _ (g : Skeleton) (plane : IsPlane g) where
+module _ (g : Skeleton) (plane : IsPlaneSkeleton g) where
   -- the dart is the least of its cycle
   abbrev is_lead : Dart → Bool
   is_lead d = same_dart d (lead_of g d)
@@ -28,7 +29,7 @@ module _ (g : Skeleton) (plane : IsPlane g) where
       let l = lead_of g d in
       let D = listed_out g plane d (of_distinct (same_cycle g) d (dart_list g) m) in
       let L = lead_in g plane d D in
-      let same : same_cycle g l d ≡ true = subst (λ k. same_dart k l ≡ true) (sym (lead_lead g plane d)) (darts_exact.itself l) in
+      let same : same_cycle g l d ≡ true = subst (λ k. same_dart k l ≡ true) (sym (lead_lead g d)) (darts_exact.itself l) in
       step (dart_cmp d l) refl
       (λ e. subst (λ k. same_dart d k ≡ true) (tied_darts g plane d l D L e) (darts_exact.itself d))
       (λ e. absurd (none_before dart_cmp dart_cmp_total (same_cycle g) (dart_list g) (list_ascends g plane) d l m (listed_in g plane l L) same e))

@@ -1,44 +1,26 @@
 -- Each face but the unbounded one has an outer cycle, so no face is ranked by its cells alone.
-use Rattle.std.proofs.Common.{◌≡◌, ℕ, ◌<◌, Bool, true, false, cond, arith, refl, sym, ap, ◌∙◌, subst, inl, inr, List, ◌∷◌, ◌++◌, map}
-use Rattle.std.specs.Prelude.{not, filter}
+use Rattle.std.proofs.Common.{◌≡◌, ℕ, ◌<◌, true, false, cond, arith, refl, sym, ap, ◌∙◌, subst, inl, inr, List, ◌∷◌, ◌++◌, map}
+use Rattle.std.specs.Prelude.{filter}
 use Rattle.std.specs.List.{Contains, count_by, list_any}
-use Rattle.std.proofs.lemmas.Bool.{false≢true, and_parts, false_from_ne_true, cases_Bool, leb-true}
-use lib.Dec.{ltb, leb}
+use Rattle.std.proofs.lemmas.Bool.{and_parts, cases_Bool}
 use Rattle.plane_graphs.specs.Ascending.{Member as In}
 use Rattle.plane_graphs.proofs.Ascending.{to_member, from_member}
 use Rattle.plane_graphs.proofs.Lists.{in_filter, in_map, of_map, any_in}
 use Rattle.slab_laws.specs.declared.slab_cell.SlabCell.{SlabCell}
-use Rattle.slab_laws.specs.Skeleton.{Skeleton, left_of, IsPlane}
-use Rattle.slab_laws.specs.Slabs.{slab_right, spans, width, top_cell}
+use Rattle.slab_laws.specs.Skeleton.{Skeleton, IsPlaneSkeleton}
+use Rattle.slab_laws.specs.Slabs.{top_cell}
 use Rattle.slab_laws.specs.Faces.{face_labels, face_of, same_cell, cells}
 use Rattle.slab_laws.specs.Listed.{distinct}
 use Rattle.slab_laws.specs.Subdivision.{Cycle, subdivision, ranked, first_cell}
 use Rattle.slab_faces.specs.CycleLaws.{bounds}
 use Rattle.slab_faces.proofs.Found.{found}
-use Rattle.slab_faces.proofs.Sums.{each, sum_by-same, sum_by-none, fewer_than}
-use Rattle.slab_faces.proofs.Walls.{left_of-irrefl}
 use Rattle.slab_faces.proofs.FacesLemmas.{cells_exact}
-use Rattle.slab_faces.proofs.EveryFace.{outer_cycles_of_every_face}
+use Rattle.slab_faces.proofs.EveryFace.{first_width, outer_cycles_of_every_face}
 use Rattle.face_orders.specs.Laws.{FacesAreRanked}
 use Rattle.face_orders.proofs.Firsts.{distinct-known}
 
 -- ---- the first slab has one cell
-passing : {X : Type 0} (p : X → Bool) (xs : List X) (x : X) → Contains xs x → p x ≡ true → 0 < count_by p xs
-passing p xs x in' h = let k = fewer_than (λ y. false) p xs x in' refl h (λ z _ n. absurd (false≢true n)) in omega arith
-
-none_counted : {X : Type 0} (p : X → Bool) (xs : List X) → ((x : X) → Contains xs x → p x ≡ false) → count_by p xs ≡ 0
-none_counted p xs h = sum_by-same (λ x. cond (p x) 1 0) (λ x. 0) xs (each (λ x. cond {A = ℕ} (p x) 1 0 ≡ 0) xs (λ x in'. ap (λ b. cond {A = ℕ} b 1 0) (h x in'))) ∙ sum_by-none xs
-
--- no edge spans it, since the lower end of each is a vertex on the left of what it spans
-pub first_width : (g : Skeleton) → IsPlane g → width g 0 ≡ 0
-unfolding width
-first_width g plane = none_counted (spans g 0) g.edges (λ e E. false_from_ne_true _ (λ h.
-    let a = and_parts (leb (slab_right g e.low) 0) (ltb 0 (slab_right g e.high)) h in
-    let b = leb-true _ _ a.0 in
-    let c = passing (λ v. not (left_of e.low v)) g.vertices e.low (plane.lower_in e E) (ap not (left_of-irrefl e.low)) in
-    absurd (omega arith)))
-
-pub top_is_first : (g : Skeleton) → IsPlane g → top_cell g 0 ≡ first_cell
+pub top_is_first : (g : Skeleton) → IsPlaneSkeleton g → top_cell g 0 ≡ first_cell
 unfolding top_cell
 top_is_first g plane = λ i. record { slab = 0; place = first_width g plane i }
 
@@ -55,7 +37,7 @@ pub faces_are : (g : Skeleton) → (subdivision g).faces ≡ distinct same_cell 
 unfolding subdivision ranked
 faces_are g = refl
 
-module _ (g : Skeleton) (plane : IsPlane g) where
+module _ (g : Skeleton) (plane : IsPlaneSkeleton g) where
   -- a face that isn't the unbounded one has an odd number of outer cycles, so it has one
   pub bounded_there : (c : SlabCell) → Contains (cells g) c → same_cell (face_of (face_labels g) (top_cell g 0)) (face_of (face_labels g) c) ≡ false → In (face_of (face_labels g) c) (outer_faces g)
   bounded_there c C h =

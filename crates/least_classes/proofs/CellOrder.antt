@@ -54,13 +54,6 @@ module _ {X : Type 0} (cmp : X → X → Ordering) (o : IsTotalOrder cmp) where
   rises x (y ∷ ys) h (suc i) zero d le lt = absurd (omega arith)
   rises x (y ∷ ys) h (suc i) (suc j) d le lt = rises x ys h.1 i j d (omega arith) (omega arith)
 
-  -- of two places the lower one has the lesser element
-  pub ascends : (ys : List X) → IsAscending cmp ys → (i j : ℕ) (d : X) → i < j → j < length ys → cmp (get_or ys i d) (get_or ys j d) ≡ Less
-  ascends [] h i j d lt le = absurd (omega arith)
-  ascends (y ∷ ys) h i zero d lt le = absurd (omega arith)
-  ascends (y ∷ ys) h zero (suc j) d lt le = at_each (λ z. cmp y z ≡ Less) ys j d h.0 (omega arith)
-  ascends (y ∷ ys) h (suc i) (suc j) d lt le = ascends ys h.1 i j d (omega arith) (omega arith)
-
   -- where a search finds nothing the element isn't there
   pub absent : (x : X) (ys : List X) (i : ℕ) → IsAscending cmp ys → IsBinarySearchResult (λ y. cmp y x) ys (Err i) → Contains ys x → ⊥
   absent x ys i h s (k, lt, e) =

@@ -19,7 +19,8 @@ use Rattle.least_classes.specs.Numbers.{is_less, AreBelow}
 use Rattle.least_classes.specs.Cells.{cell_cmp, ends, cell_at, link_at, labels}
 use Rattle.least_classes.proofs.Transport.{least_number, least_number-le, StandsFor, transported, unlinked}
 use Rattle.least_classes.proofs.Tables.{each_of, all_of}
-use Rattle.least_classes.proofs.CellOrder.{cell_cmp_total, tied_is, less_below, less_differs, at_each, ascends, absent}
+use Rattle.least_classes.proofs.CellOrder.{cell_cmp_total, tied_is, less_below, less_differs, at_each, absent}
+use Rattle.slab_faces.proofs.Places.{rises}
 
 -- ---- a list of labels
 -- the label of the cell at k stands at k
@@ -78,7 +79,7 @@ module _ (ms : List (Link SlabCell)) (cs : List SlabCell) (is : cs ≡ cells_in 
   up = subst (IsAscending cell_cmp) (sym is) (cells_ascend ms)
 
   in_order : (j k : ℕ) → j < k → k < length cs → cell_below (cell_at cs j) (cell_at cs k) ≡ true
-  in_order j k h lt = less_below (cell_at cs j) (cell_at cs k) (ascends cell_cmp cell_cmp_total cs up j k (record { slab = 0; place = 0 }) h lt)
+  in_order j k h lt = less_below (cell_at cs j) (cell_at cs k) (rises cell_cmp cs up j k (record { slab = 0; place = 0 }) h lt)
 
   rise : (j k : ℕ) → j < length cs → k < length cs → cell_below (cell_at cs j) (cell_at cs k) ≡ is_less j k
   rise j k a b =

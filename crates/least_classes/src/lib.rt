@@ -6,6 +6,3 @@ mod numbers;
 
 pub use cells::CellLabels;
 pub use numbers::least_of_classes;
-
-#[cfg(test)]
-mod tests;

@@ -7,7 +7,7 @@ use Rattle.exact_plane.specs.Point.{Point}
 use Rattle.plane_graphs.specs.Graph.{Edge}
 use Rattle.slab_laws.specs.declared.slab_cell.SlabCell.{SlabCell}
 use Rattle.slab_laws.specs.declared.classes.Link.{Link}
-use Rattle.slab_laws.specs.Skeleton.{Skeleton, left_of, on_wall, over, below, foot, IsPlane}
+use Rattle.slab_laws.specs.Skeleton.{Skeleton, left_of, on_wall, over, below, foot, IsPlaneSkeleton}
 use Rattle.slab_laws.specs.Meets.{IsOnWall}
 use Rattle.slab_laws.specs.Slabs.{slab_left, slab_right, spans, place, reaches_right, right_count, left_cell, right_cell, width}
 use Rattle.slab_laws.specs.Darts.{cell_by, cell_of}
@@ -44,7 +44,7 @@ cell_out g c h =
     let l = range_below 0 (suc (width g r.0)) j.0 j.1 in
     subst (IsListed g) j.2 (record { slab = r.1; place = omega arith })
 
-module _ (g : Skeleton) (plane : IsPlane g) where
+module _ (g : Skeleton) (plane : IsPlaneSkeleton g) where
   -- ---- the cells on both sides of a point on a wall
   vertex_slab : (v : Point) → Contains g.vertices v → Member (0 ∷ map (slab_right g) (walls g)) (slab_right g v)
   vertex_slab v V =

@@ -27,7 +27,8 @@ use Rattle.slab_faces.proofs.NextLemmas.{darts_exact}
 use Rattle.listed_views.specs.Listed.{Drawing, skeleton_in, subdivision_in, kind_by, cycle_record, faces_of}
 use Rattle.listed_views.proofs.Rows.{is_some_by, numbered_row, slice_get_member, range_below, keyed_in, keyed_out}
 use Rattle.listed_views.proofs.Places.{at_place, place_at, apart_ascending}
-use Rattle.listed_views.proofs.Darts.{dart_cmp_total, lead_listed, leads_ascend}
+use Rattle.slab_faces.proofs.DartOrder.{dart_cmp_total}
+use Rattle.listed_views.proofs.Darts.{lead_listed, leads_ascend}
 use Rattle.listed_views.proofs.Records.{IsDart, IsVertex, mapped_value, plane, is_vertex, vertex_name, of_darts}
 use Rattle.listed_views.proofs.RankedFaces.{cycle_of, cycles_are, outer_is, face_is}
 

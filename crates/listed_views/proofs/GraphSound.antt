@@ -4,6 +4,7 @@ use Rattle.std.specs.Prelude.{Some, slice_get, not, pos, map}
 use Rattle.std.specs.List.{Contains}
 use Rattle.std.proofs.lemmas.Bool.{false≢true}
 use Rattle.exact_plane.specs.Line.{side_of}
+use Rattle.plane_graphs.specs.Line.{IsProper, IsProperLine}
 use Rattle.plane_graphs.specs.Graph.{Edge, edges}
 use Rattle.plane_graphs.specs.Plane.{IsPlane}
 use Rattle.slab_laws.specs.declared.names.DartId.{DartId}
@@ -20,8 +21,8 @@ use Rattle.slab_faces.proofs.ClassesLemmas.{IsExact}
 use Rattle.slab_faces.proofs.NextLemmas.{next_from, next_one}
 use Rattle.listed_views.specs.Listed.{Drawing, skeleton_in, line_at, vertex_record, dart_record, view_of}
 use Rattle.listed_views.specs.Standing.{AreLinesOf}
-use Rattle.listed_views.proofs.Rows.{numbered_ascend}
-use Rattle.listed_views.proofs.Places.{at_place}
+use Rattle.listed_views.proofs.Rows.{numbered_ascend, slice_get_member}
+use Rattle.listed_views.proofs.Places.{at_place, to_in}
 use Rattle.listed_views.proofs.Records.{IsDart, vertex_of, has_vertex, dart_of, has_dart, point_of, source_of, line_of, plane, of_edges, dart_name, vertex_name, source_is, twin_is, next_is, source_point, target_point, dart_is}
 use Rattle.listed_views.proofs.Drawn.{view_draws}
 
@@ -91,8 +92,13 @@ module _ (d : Drawing) (pl : IsPlane d.graph) where
     end_on e true E = lines.lower_on (edge_place (skeleton_in d) e) e (at_place same_edge edges_exact (edges d.graph) e (in_member (edges d.graph) e E))
     end_on e false E = lines.upper_on (edge_place (skeleton_in d) e) e (at_place same_edge edges_exact (edges d.graph) e (in_member (edges d.graph) e E))
 
+    is_line : (e : Edge) → Contains (edges d.graph) e → IsProperLine (line_at d (edge_place (skeleton_in d) e))
+    is_line e E = lines.is_line (edge_place (skeleton_in d) e) e (at_place same_edge edges_exact (edges d.graph) e (in_member (edges d.graph) e E))
+
     drawn : IsDrawn (view_of d)
     drawn = record {
+      proper = λ u has. let p = vertex_of d u has in subst IsProper (sym (point_of d u p.0 p.1)) (pl.proper p.0 (to_in d.graph.points p.0 (slice_get_member d.graph.points u.0 p.0 p.1)));
+      line = λ e has. let h = dart_of d e has in subst IsProperLine (sym (line_of d e h.0 h.1)) (is_line h.0.edge (of_edges d pl e h.0 h.1));
       points = λ u w has has' same.
           let p = vertex_of d u has in
           let q = vertex_of d w has' in
@@ -125,5 +131,5 @@ module _ (d : Drawing) (pl : IsPlane d.graph) where
     linked = linked;
     drawn = drawn lines;
     turned = turned;
-    plane = subst counted.IsPlane (sym (view_draws d pl)) (plane d pl);
+    plane = subst counted.IsPlaneSkeleton (sym (view_draws d pl)) (plane d pl);
   }

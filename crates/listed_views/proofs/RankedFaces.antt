@@ -3,7 +3,7 @@ use Rattle.std.proofs.Common.{◌≡◌, ◌<◌, true, refl, sym, ap, ◌∙◌
 use Rattle.std.specs.Prelude.{Some, slice_get, filter}
 use Rattle.exact_plane.specs.Point.{Point}
 use Rattle.slab_laws.specs.declared.slab_cell.SlabCell.{SlabCell}
-use Rattle.slab_laws.specs.Skeleton.{Skeleton, IsPlane}
+use Rattle.slab_laws.specs.Skeleton.{Skeleton, IsPlaneSkeleton}
 use Rattle.slab_laws.specs.Slabs.{left_cell}
 use Rattle.slab_laws.specs.Darts.{Dart, darts}
 use Rattle.slab_laws.specs.Cycles.{dart_labels, odd, left_of_dart}
@@ -77,7 +77,7 @@ module _ (g : Skeleton) where
       let l = map_out (cycle_of g) (lead_list g) c.0 o.0 in
       (l.0, l.1, sym (outer_is l.0) ∙ ap (λ c. c.outer) l.2 ∙ o.1, sym (face_is l.0) ∙ ap (λ c. c.face) l.2 ∙ c.2)
 
-  module _ (plane : IsPlane g) where
+  module _ (plane : IsPlaneSkeleton g) where
     pub face_face : (c : SlabCell) → face_of (face_labels g) (face_of (face_labels g) c) ≡ face_of (face_labels g) c
     face_face c = one_label g _ _ plane (face_sym g _ _ (in_its_face g c plane))
 

@@ -33,7 +33,8 @@ use Rattle.slab_faces.proofs.PlaneGraphs.{counts}
 use Rattle.listed_views.specs.Listed.{Drawing, skeleton_in, line_at, vertex_record, dart_record, view_of}
 use Rattle.listed_views.proofs.Rows.{is_some_by, numbered_row, slice_get_member}
 use Rattle.listed_views.proofs.Places.{at_place, place_at, apart_ascending}
-use Rattle.listed_views.proofs.Darts.{dart_cmp_total, darts_ascend, dart_listed, listed_dart, next_dart}
+use Rattle.slab_faces.proofs.DartOrder.{dart_cmp_total, list_ascends}
+use Rattle.listed_views.proofs.Darts.{dart_listed, listed_dart, next_dart}
 
 pub points_exact : IsExact same_point
 points_exact = record { itself = same_point_refl; path = same_point_is }
@@ -114,7 +115,7 @@ module _ (d : Drawing) where
 
 -- ---- of a plane graph
 module _ (d : Drawing) (pl : IsPlane d.graph) where
-  pub plane : counted.IsPlane (skeleton_in d)
+  pub plane : counted.IsPlaneSkeleton (skeleton_in d)
   plane = counts d.graph pl
 
   pub forward : (e : Edge) → Contains (edges d.graph) e → precedes e.low e.high ≡ true
@@ -131,7 +132,7 @@ module _ (d : Drawing) (pl : IsPlane d.graph) where
   of_edges e h i = dart_out (skeleton_in d) h (of_darts e h i)
 
   pub dart_name : (e : DartId) (h : Dart) → IsDart d e h → dart_id (dart_place (skeleton_in d) h) ≡ e
-  dart_name e h i = ap dart_id (place_at same_dart darts_exact (dart_list (skeleton_in d)) e.0 h (apart_ascending same_dart darts_exact _ dart_cmp_total (dart_list (skeleton_in d)) (darts_ascend (skeleton_in d) plane)) i)
+  dart_name e h i = ap dart_id (place_at same_dart darts_exact (dart_list (skeleton_in d)) e.0 h (apart_ascending same_dart darts_exact _ dart_cmp_total (dart_list (skeleton_in d)) (list_ascends (skeleton_in d) plane)) i)
 
   pub is_vertex : (p : Point) → Member d.graph.points p → IsVertex d (vertex_id (vertex_place (skeleton_in d) p)) p
   is_vertex p m = at_place same_point points_exact d.graph.points p m

@@ -1,6 +1,7 @@
 -- When records stand for the subdivision that their graph makes, as far as it is known of every plane graph: a face may have any number of outer cycles.
 use Rattle.std.specs.Prelude.{◌≡◌, ℕ, ◌<◌, true, Contains, length, Some, slice_get}
 use Rattle.exact_plane.specs.Line.{IsOn}
+use Rattle.plane_graphs.specs.Line.{IsProperLine}
 use Rattle.plane_graphs.specs.Graph.{Edge, edges}
 use Rattle.slab_laws.specs.declared.names.CycleId.{CycleId}
 use Rattle.slab_laws.specs.declared.names.DartId.{DartId}
@@ -38,8 +39,9 @@ pub record IsStanding (v : View) (f : Faces) : Type 0 where
 abbrev pub IsEdgeAt : Drawing → ℕ → Edge → Type 0
 IsEdgeAt d k e = slice_get (edges d.graph) k ≡ Some e
 
--- there is a line for each edge, which holds both its ends
+-- there are three numbers for each edge, which are a line's, and the line holds both its ends
 pub record AreLinesOf (d : Drawing) : Type 0 where
   pub as_many : length d.lines ≡ length (edges d.graph)
+  pub is_line : (k : ℕ) (e : Edge) → IsEdgeAt d k e → IsProperLine (line_at d k)
   pub lower_on : (k : ℕ) (e : Edge) → IsEdgeAt d k e → IsOn (line_at d k) e.low
   pub upper_on : (k : ℕ) (e : Edge) → IsEdgeAt d k e → IsOn (line_at d k) e.high

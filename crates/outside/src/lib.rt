@@ -3,8 +3,6 @@
 
 mod memory;
 mod standard;
-#[cfg(test)]
-mod tests;
 mod traits;
 mod transfer;
 

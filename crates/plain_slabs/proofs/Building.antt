@@ -10,13 +10,16 @@ use Rattle.exact_plane.specs.Point.{Point}
 use Rattle.exact_plane.specs.Segment.{line_of_segment}
 use Rattle.exact_plane.specs.Span.{Span}
 use Rattle.plane_graphs.specs.Ascending.{Member}
+use Rattle.plane_graphs.specs.Fit.{IsFit}
 use Rattle.plane_graphs.specs.Graph.{Graph, Edge, graph, vertices, edges}
+use Rattle.plane_graphs.specs.Line.{IsProperLine}
 use Rattle.plane_graphs.specs.Meaning.{IsEdgeOf}
 use Rattle.plane_graphs.specs.Piece.{Piece, Present, on, along}
 use Rattle.plane_graphs.specs.Plane.{IsPlane}
-use Rattle.plane_graphs.proofs.Lines.{zero_out}
+use Rattle.plane_graphs.proofs.Lines.{zero_out, segment_line}
 use Rattle.plane_graphs.proofs.Lists.{both}
 use Rattle.plane_graphs.proofs.Meaning.{edges_are}
+use Rattle.plane_graphs.proofs.Vertices.{proper_piece}
 use Rattle.slab_laws.specs.Drawn.{edge_of, drawn}
 use Rattle.slab_laws.specs.Skeleton as counted
 use Rattle.slab_laws.specs.Skeleton.{Skeleton, same_point}
@@ -46,8 +49,8 @@ use Rattle.plain_slabs.specs.declared.regions.Regions.{Regions}
 pub drawn_is : (vs : List Point) (ms : List Mark) (ps : List Point) (ss : List Span) → map edge_of ss ≡ edges (graph_in vs ms ps) → drawn vs ss ≡ skeleton (graph_in vs ms ps)
 drawn_is vs ms ps ss e = λ i. record { vertices = vs; edges = e i }
 
-pub plane_is : (vs : List Point) (ms : List Mark) (ps : List Point) (ss : List Span) → IsPlane (graph_in vs ms ps) → map edge_of ss ≡ edges (graph_in vs ms ps) → counted.IsPlane (drawn vs ss)
-plane_is vs ms ps ss pl e = subst counted.IsPlane (sym (drawn_is vs ms ps ss e)) (counts (graph_in vs ms ps) pl)
+pub plane_is : (vs : List Point) (ms : List Mark) (ps : List Point) (ss : List Span) → IsPlane (graph_in vs ms ps) → map edge_of ss ≡ edges (graph_in vs ms ps) → counted.IsPlaneSkeleton (drawn vs ss)
+plane_is vs ms ps ss pl e = subst counted.IsPlaneSkeleton (sym (drawn_is vs ms ps ss e)) (counts (graph_in vs ms ps) pl)
 
 -- ---- lines
 on_line : (k : Piece) (x : Point) → on k x ≡ true → IsOn (line_of_segment k.segment) x
@@ -60,7 +63,7 @@ map_at f [] k y h = absurd (cc)
 map_at f (x ∷ xs) zero y h = (x, refl, (let e : f x ≡ y = cc in e))
 map_at f (x ∷ xs) (suc k) y h = map_at f xs k y h
 
-module _ (p : Present) (vs : List Point) (ms : List Mark) (ps : List Point) (ss : List Span) (is : graph_in vs ms ps ≡ graph p) (are : map edge_of ss ≡ edges (graph p)) (along : AreAlongPieces p ss) where
+module _ (p : Present) (vs : List Point) (ms : List Mark) (ps : List Point) (ss : List Span) (is : graph_in vs ms ps ≡ graph p) (are : map edge_of ss ≡ edges (graph p)) (along : AreAlongPieces p ss) (fit : IsFit p) where
   abbrev D : Drawing
   D = drawing_in vs ms ps ss
 
@@ -69,6 +72,7 @@ module _ (p : Present) (vs : List Point) (ms : List Mark) (ps : List Point) (ss 
     span : Span
     edge : edge_of span ≡ e
     line : line_at D k ≡ span.line
+    is_line : IsProperLine span.line
     lower_on : IsOn span.line span.lower
     upper_on : IsOn span.line span.upper
 
@@ -85,6 +89,7 @@ module _ (p : Present) (vs : List Point) (ms : List Mark) (ps : List Point) (ss 
         span = s;
         edge = w.2;
         line = get_or_from_slice_get D.lines k s.line (record { a = pos 0; b = pos 0; c = pos 0 }) (slice_get-map (λ (s : Span). s.line) ss k ∙ ap (option_map (λ (s : Span). s.line)) w.1);
+        is_line = subst IsProperLine (sym l) (segment_line i.piece (proper_piece i.piece (fit.piece i.piece i.piece_in)));
         lower_on = subst (λ l. IsOn l s.lower) (sym l) (on_line i.piece s.lower i.on_first);
         upper_on = subst (λ l. IsOn l s.upper) (sym l) (on_line i.piece s.upper i.on_last);
       }
@@ -92,6 +97,7 @@ module _ (p : Present) (vs : List Point) (ms : List Mark) (ps : List Point) (ss 
   pub lines_are : AreLinesOf D
   lines_are = record {
     as_many = length-map ss (λ (s : Span). s.line) ∙ sym (length-map ss edge_of) ∙ ap length are ∙ ap (λ (g : Graph). length (edges g)) (sym is);
+    is_line = λ k e at. let w = span_of k e at in subst IsProperLine (sym w.line) w.is_line;
     lower_on = λ k e at. let w = span_of k e at in subst (λ (d : Edge). IsOn (line_at D k) d.low) w.edge (subst (λ l. IsOn l w.span.lower) (sym w.line) w.lower_on);
     upper_on = λ k e at. let w = span_of k e at in subst (λ (d : Edge). IsOn (line_at D k) d.high) w.edge (subst (λ l. IsOn l w.span.upper) (sym w.line) w.upper_on);
   }

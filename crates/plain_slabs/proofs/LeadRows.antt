@@ -12,7 +12,7 @@ use Rattle.slab_laws.specs.Drawn.{edge_of, drawn}
 use Rattle.slab_laws.specs.Faces.{face_labels, face_of}
 use Rattle.slab_laws.specs.Rotation.{same_dart}
 use Rattle.slab_laws.specs.Rows.{no_dart, dart_at, dart_list, dart_place, dart_row, dart_rows, lead_list, cycle_row, cycle_rows}
-use Rattle.slab_laws.specs.Skeleton.{Skeleton, IsPlane, same_point}
+use Rattle.slab_laws.specs.Skeleton.{Skeleton, IsPlaneSkeleton, same_point}
 use Rattle.slab_laws.specs.Subdivision.{cycle, has_dart}
 use Rattle.slab_laws.specs.declared.rows.DartRow.{DartRow}
 use Rattle.slab_faces.proofs.Member.{Member, map_out}
@@ -24,7 +24,7 @@ use Rattle.present_graphs.proofs.Loops.{read_in}
 use Rattle.plain_slabs.specs.Faces.{lead_row}
 use Rattle.plain_slabs.proofs.Items.{get_or_default}
 
-module _ (g : Skeleton) (plane : IsPlane g) where
+module _ (g : Skeleton) (plane : IsPlaneSkeleton g) where
   lead_there : (l : Dart) → Member (lead_list g) l → Member (dart_list g) l
   lead_there l h = dart_listed g plane l (listed_lead g plane l h).0
 

@@ -14,6 +14,6 @@ curve_id n = record { 0 = n }
 abbrev pub edge_at : Drawing → ℕ → Edge
 edge_at d k = (dart_at (skeleton_in d) k).edge
 
--- the curves of its edge, ascending (manual, originating curves)
+-- the curves of its edge, ascending (CGAL manual, originating curves)
 abbrev pub curves_at : Drawing → DartId → List CurveId
 curves_at d h = map curve_id (curves d.graph (edge_at d h.0).low (edge_at d h.0).high)

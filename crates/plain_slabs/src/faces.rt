@@ -3,7 +3,7 @@ ghost use Rattle.std.specs.List.{All, list_any};
 ghost use Rattle.slab_laws.specs.Drawn.{drawn};
 ghost use Rattle.slab_laws.specs.Faces.{cells as cells_in};
 ghost use Rattle.slab_laws.specs.Rows.{dart_rows, dart_place, lead_places, lead_list, cycle_rows};
-ghost use Rattle.slab_laws.specs.Skeleton.{same_point, IsPlane};
+ghost use Rattle.slab_laws.specs.Skeleton.{same_point, IsPlaneSkeleton};
 ghost use Rattle.slab_laws.specs.Subdivision.{subdivision};
 ghost use Rattle.plain_slabs.specs.Faces.{lead_row, rank_round, added, AreLabelsOf, AreSeen};
 
@@ -26,7 +26,7 @@ fn cycle_at(
     labels: &CellLabels,
     lead: usize,
 ) -> CycleRow
-    requires plane { IsPlane (drawn points.now edges.now) }
+    requires plane { IsPlaneSkeleton (drawn points.now edges.now) }
     requires darts { darts.now ≡ dart_rows (drawn points.now edges.now) }
     requires leads { leads.now ≡ lead_places (drawn points.now edges.now) }
     requires labels { AreLabelsOf (drawn points.now edges.now) labels.now }
@@ -51,7 +51,7 @@ fn cycles_at_leads(
     labels: &CellLabels,
     places: &[usize],
 ) -> Result<Vec<CycleRow>, AllocError>
-    requires plane { IsPlane (drawn points.now edges.now) }
+    requires plane { IsPlaneSkeleton (drawn points.now edges.now) }
     requires darts { darts.now ≡ dart_rows (drawn points.now edges.now) }
     requires leads { leads.now ≡ lead_places (drawn points.now edges.now) }
     requires labels { AreLabelsOf (drawn points.now edges.now) labels.now }
@@ -74,7 +74,7 @@ pub(crate) fn cycles_of(
     labels: &CellLabels,
     places: &[usize],
 ) -> Result<Vec<CycleRow>, NoMemory>
-    requires plane { IsPlane (drawn points.now edges.now) }
+    requires plane { IsPlaneSkeleton (drawn points.now edges.now) }
     requires darts { darts.now ≡ dart_rows (drawn points.now edges.now) }
     requires leads { leads.now ≡ lead_places (drawn points.now edges.now) }
     requires labels { AreLabelsOf (drawn points.now edges.now) labels.now }

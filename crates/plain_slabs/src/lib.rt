@@ -19,6 +19,3 @@ pub use build::subdivide;
 pub use counts::{Counts, count};
 pub use locate::hold;
 pub use plain::Plain;
-
-#[cfg(test)]
-mod tests;

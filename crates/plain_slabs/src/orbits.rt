@@ -2,7 +2,7 @@ ghost use Rattle.std.specs.Prelude.{◌≡◌, IfOk};
 ghost use Rattle.exact_plane.specs.PointOrder.{point_cmp};
 ghost use Rattle.plane_graphs.specs.Ascending.{IsAscending};
 ghost use Rattle.slab_laws.specs.Drawn.{drawn};
-ghost use Rattle.slab_laws.specs.Skeleton.{IsPlane};
+ghost use Rattle.slab_laws.specs.Skeleton.{IsPlaneSkeleton};
 ghost use Rattle.plain_slabs.specs.Orbits.{AreOrbits};
 
 use cycle_kinds::{cycles_at, leads_among};
@@ -28,7 +28,7 @@ pub(crate) struct Orbits {
 
 // The darts and their cycles.
 pub(crate) fn orbits_of(alloc: Global, points: &[Point], edges: &[Span]) -> Result<Orbits, NoMemory>
-    requires plane { IsPlane (drawn points.now edges.now) }
+    requires plane { IsPlaneSkeleton (drawn points.now edges.now) }
     requires ascend { IsAscending point_cmp points.now }
     ensures { IfOk result (AreOrbits (drawn points.now edges.now)) }
 {

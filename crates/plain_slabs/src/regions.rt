@@ -1,6 +1,6 @@
 ghost use Rattle.std.specs.Prelude.{◌≡◌, IfOk};
 ghost use Rattle.slab_laws.specs.Drawn.{drawn};
-ghost use Rattle.slab_laws.specs.Skeleton.{IsPlane};
+ghost use Rattle.slab_laws.specs.Skeleton.{IsPlaneSkeleton};
 ghost use Rattle.plain_slabs.specs.Faces.{AreLabelsOf};
 ghost use Rattle.plain_slabs.specs.Orbits.{AreOrbits, AreRegions};
 
@@ -26,7 +26,7 @@ pub(crate) struct Regions {
 
 // The labels of the cells.
 fn labels_of(alloc: Global, points: &[Point], edges: &[Span]) -> Result<CellLabels, NoMemory>
-    requires { IsPlane (drawn points.now edges.now) }
+    requires { IsPlaneSkeleton (drawn points.now edges.now) }
     ensures { IfOk result (AreLabelsOf (drawn points.now edges.now)) }
 {
     let links = link_cells(alloc, points, edges)?;
@@ -41,7 +41,7 @@ pub(crate) fn regions_of(
     edges: &[Span],
     orbits: &Orbits,
 ) -> Result<Regions, NoMemory>
-    requires plane { IsPlane (drawn points.now edges.now) }
+    requires plane { IsPlaneSkeleton (drawn points.now edges.now) }
     requires orbits { AreOrbits (drawn points.now edges.now) orbits.now }
     ensures { IfOk result (AreRegions (drawn points.now edges.now)) }
 {

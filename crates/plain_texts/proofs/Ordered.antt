@@ -27,7 +27,8 @@ use Rattle.sound_views.proofs.Named.{named_vertex, named_dart}
 use Rattle.listed_views.specs.Listed.{Drawing, skeleton_in, vertex_record, dart_record, view_of}
 use Rattle.listed_views.proofs.Rows.{numbered_ascend}
 use Rattle.listed_views.proofs.Places.{to_in, from_in}
-use Rattle.listed_views.proofs.Darts.{dart_cmp_total, darts_ascend, dart_listed, listed_dart}
+use Rattle.slab_faces.proofs.DartOrder.{dart_cmp_total, list_ascends}
+use Rattle.listed_views.proofs.Darts.{dart_listed, listed_dart}
 use Rattle.listed_views.proofs.Records.{plane, dart_is}
 use Rattle.listed_views.proofs.Drawn.{view_draws}
 use Rattle.plain_texts.proofs.Lists.{map_map, ascending_itself, numbered_map}
@@ -91,7 +92,7 @@ module _ (d : Drawing) (pl : IsPlane d.graph) where
   darts_in_order =
       map_ascending (dart_in (view_of d)) dart_cmp (dart_names d)
       ∙ ap (ascending dart_cmp) named_darts
-      ∙ ascending_itself dart_cmp (dart_list (skeleton_in d)) (darts_ascend (skeleton_in d) (plane d pl))
+      ∙ ascending_itself dart_cmp (dart_list (skeleton_in d)) (list_ascends (skeleton_in d) (plane d pl))
 
   -- ---- edges
   abbrev forwards : List Dart
@@ -101,7 +102,7 @@ module _ (d : Drawing) (pl : IsPlane d.graph) where
   forwards_ascend =
       IsAscending-map dart_cmp edge_cmp (λ h. h.edge) forwards
       (λ h k a b l. ahead_keeps h.edge k.edge h.forward k.forward (of_filter (λ h. h.forward) h (dart_list (skeleton_in d)) a).1 (of_filter (λ h. h.forward) k (dart_list (skeleton_in d)) b).1 l)
-      (IsAscending-filter dart_cmp (λ h. h.forward) (dart_list (skeleton_in d)) (darts_ascend (skeleton_in d) (plane d pl)))
+      (IsAscending-filter dart_cmp (λ h. h.forward) (dart_list (skeleton_in d)) (list_ascends (skeleton_in d) (plane d pl)))
 
   edge_known : (e : Edge) → Member e (map (λ h. h.edge) forwards) → Member e (edges d.graph)
   edge_known e m =

@@ -15,8 +15,3 @@ mod world;
 
 pub use run::planar;
 pub use status::Status;
-
-#[cfg(test)]
-mod rows;
-#[cfg(test)]
-mod tests;

@@ -16,7 +16,7 @@ use Rattle.plane_graphs.specs.Plane.{IsPlane}
 use Rattle.plane_graphs.specs.Laws.{NoneCross}
 use Rattle.plane_graphs.specs.Ascending.{Member}
 use Rattle.exact_plane.specs.Plane.{side}
-use Rattle.plane_graphs.proofs.Crossings.{Runs}
+use Rattle.exact_plane.specs.Plane.{Runs}
 use Rattle.plane_graphs.proofs.Lists.{both, and_in, not_true}
 use Rattle.plane_graphs.proofs.Order.{Lt, lt_out, lt_never}
 use Rattle.plane_graphs.proofs.Marks.{le_lt, le_in}

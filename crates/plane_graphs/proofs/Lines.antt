@@ -13,7 +13,7 @@ use Rattle.integers.proofs.Reify.{ring, sides}
 use Rattle.exact_plane.specs.Point.{Point, IsPoint, reduced}
 use Rattle.exact_plane.specs.PointOrder.{by_x, by_y}
 use Rattle.exact_plane.proofs.Places.{ratio_cmp-is}
-use Rattle.plane_graphs.specs.Line.{IsWhole, IsProper, homogeneous_point, crossing, are_parallel}
+use Rattle.plane_graphs.specs.Line.{IsWhole, IsProper, IsProperLine, homogeneous_point, crossing, are_parallel}
 use Rattle.exact_plane.specs.Line.{Line, side_of, reduced_line}
 use Rattle.exact_plane.specs.Segment.{Segment, line_of_segment}
 use Rattle.plane_graphs.specs.Piece.{Piece, along}
@@ -23,7 +23,10 @@ use Rattle.plane_graphs.proofs.Lists.{both_ways, clash}
 use Rattle.plane_graphs.proofs.Closed.{IsStraight, SameLine}
 use Rattle.plane_graphs.proofs.Vertices.{Geometry, IsProperPiece}
 use Rattle.exact_plane.specs.Plane.{side}
-use Rattle.plane_graphs.proofs.Crossings.{Runs, crossing_only, parallel_share, same_over, zero_too, spans_w, spans_x, spans_y, turned, minus_times, scaled, first_end, last_end, same_line}
+use Rattle.exact_plane.specs.Plane.{Runs}
+use Rattle.exact_plane.proofs.Geometry.{cross_only}
+use Rattle.exact_plane.proofs.Crossings.{parallel_share, same_over, same_line}
+use Rattle.plane_graphs.proofs.Crossings.{zero_too, spans_w, spans_x, spans_y, turned, minus_times, scaled, first_end, last_end}
 
 gcd_one : (n : ℕ) → gcd n 1 ≡ 1
 unfolding gcd gcd_within
@@ -180,6 +183,9 @@ module _ (s : Segment) (lower : IsWhole s.lower) (upper : IsWhole s.upper) (ahea
 pub segment_runs : (k : Piece) → IsProperPiece k → Runs (line_of_segment k.segment).a (line_of_segment k.segment).b
 segment_runs k h = line_of_segment-runs k.segment h.lower h.upper h.ahead
 
+pub segment_line : (k : Piece) → IsProperPiece k → IsProperLine (line_of_segment k.segment)
+segment_line k h = record { lowest = line_of_segment-lowest k.segment h.lower h.upper h.ahead; runs = segment_runs k h }
+
 pub along_out : (k : Piece) (t : Point) → along k t ≡ true → side_of (line_of_segment k.segment) t ≡ pos 0
 unfolding along
 along_out k t h = zero_out (side_of (line_of_segment k.segment) t) h
@@ -307,7 +313,7 @@ unfolding crossing
 crossing_is k m hk hm e t pt s1 s2 =
     let L : Line = line_of_segment k.segment in
     let M : Line = line_of_segment m.segment in
-    let o = crossing_only L.a L.b L.c M.a M.b M.c t.x t.y t.w (along_out k t s1) (along_out m t s2) in
+    let o = cross_only L.a L.b L.c M.a M.b M.c t.x t.y t.w (along_out k t s1) (along_out m t s2) in
     is_at_w (L.b *ℤ M.c -ℤ M.b *ℤ L.c) (L.c *ℤ M.a -ℤ M.c *ℤ L.a) (L.a *ℤ M.b -ℤ M.a *ℤ L.b) (not_zero (L.a *ℤ M.b) (M.a *ℤ L.b) e) t pt o.0 o.1
 
 pub geometry : Geometry

@@ -14,6 +14,3 @@ mod vertices;
 pub use edges::edges_of;
 pub use marks::{Mark, marks_of};
 pub use vertices::vertices_of;
-
-#[cfg(test)]
-mod tests;

@@ -11,6 +11,3 @@ mod ranks;
 pub use bodies::Bodies;
 pub use cycles::{CycleKey, cycles_of};
 pub use ranks::{Ranks, ranks_of};
-
-#[cfg(test)]
-mod tests;

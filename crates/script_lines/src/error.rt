@@ -4,10 +4,10 @@ ghost use Rattle.script_lines.specs.LineError.{refusal_number};
 /// Why a line is no command.
 ///
 /// Where several fit, the first in this order is meant: `Long`, `Byte`, `Word` for the first word,
-/// `Count`, `Word` for a fixed word, `Number`, `Range`.
+/// `Count`, `Word` for a fixed word (no command has one yet), `Number`, `Range`.
 #[derive(Clone, Copy, Debug, PartialEq, Eq)]
 pub enum LineError {
-    /// The first word isn't a command, or a fixed word isn't spelt as it must be.
+    /// The first word isn't a command; or, once commands have fixed words, one of these isn't spelt as it must be.
     Word,
     /// The command has no form of this count of words.
     Count,

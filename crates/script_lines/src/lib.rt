@@ -13,6 +13,3 @@ mod words;
 
 pub use command::{Command, MAX_LINE, read_line};
 pub use error::LineError;
-
-#[cfg(test)]
-mod tests;

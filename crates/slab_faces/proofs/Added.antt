@@ -8,7 +8,7 @@ use Rattle.std.proofs.lemmas.List.Elements.{Contains-append_left, Contains-appen
 use lib.Dec.{ltb}
 use Rattle.exact_plane.specs.Point.{Point}
 use Rattle.plane_graphs.specs.Graph.{Edge}
-use Rattle.slab_laws.specs.Skeleton.{Skeleton, HasWeight, left_of, over, below, IsPlane, with_edge}
+use Rattle.slab_laws.specs.Skeleton.{Skeleton, HasWeight, left_of, over, below, IsPlaneSkeleton, with_edge}
 use Rattle.slab_laws.specs.Meets.{IsOnWall, IsOpenAbove, covers_above, Meets, SameFace, across, here, right, left}
 use Rattle.slab_laws.specs.Slabs.{spans, place, slab_left, slab_right, reaches_left, reaches_right, left_cell, right_cell, forward_cell, backward_cell}
 use Rattle.slab_laws.specs.declared.slab_cell.SlabCell.{SlabCell}
@@ -25,7 +25,7 @@ first g e = Contains-append_left (e ∷ []) g.edges e (Contains-push [] e)
 pub rest : (g : Skeleton) (e f : Edge) → Contains g.edges f → Contains (with_edge g e).edges f
 rest g e f h = Contains-append_right (e ∷ []) g.edges f h
 
-same_place : (g : Skeleton) (e : Edge) (i : ℕ) → IsPlane (with_edge g e) → place (with_edge g e) i e ≡ place g i e
+same_place : (g : Skeleton) (e : Edge) (i : ℕ) → IsPlaneSkeleton (with_edge g e) → place (with_edge g e) i e ≡ place g i e
 same_place g e i plane =
     let a : place (with_edge g e) i e ≡ cond (spans g i e && below e e) 1 0 + place g i e = sum_by-cons (λ f. cond (spans g i f && below f e) 1 0) e g.edges in
     a ∙ ap (λ n. n + place g i e) (none (spans g i e) (below e e) (below_self (with_edge g e) e plane (first g e))) ∙ omega arith
@@ -35,7 +35,7 @@ same_place g e i plane =
     none false b h = refl
 
 -- a point's cell, with e and without
-merged_side : (g : Skeleton) (e : Edge) (t : Point) (i : ℕ) (reach : Edge → Bool) → IsPlane (with_edge g e) → IsSideOf (with_edge g e) t i reach → cond (spans g i e && ltb (place g i e) (count_by (λ f. reach f && not (over f t)) (with_edge g e).edges)) (count_by (λ f. reach f && not (over f t)) (with_edge g e).edges - 1) (count_by (λ f. reach f && not (over f t)) (with_edge g e).edges) ≡ count_by (λ f. reach f && not (over f t)) g.edges
+merged_side : (g : Skeleton) (e : Edge) (t : Point) (i : ℕ) (reach : Edge → Bool) → IsPlaneSkeleton (with_edge g e) → IsSideOf (with_edge g e) t i reach → cond (spans g i e && ltb (place g i e) (count_by (λ f. reach f && not (over f t)) (with_edge g e).edges)) (count_by (λ f. reach f && not (over f t)) (with_edge g e).edges - 1) (count_by (λ f. reach f && not (over f t)) (with_edge g e).edges) ≡ count_by (λ f. reach f && not (over f t)) g.edges
 merged_side g e t i reach plane s =
     let j = count_by (λ f. reach f && not (over f t)) (with_edge g e).edges in
     let k = count_by (λ f. reach f && not (over f t)) g.edges in
@@ -50,12 +50,12 @@ merged_side g e t i reach plane s =
     drop s true false p j k e a up down = rw (e, lt-ltb p j (down refl refl)) (omega arith)
     drop s false o p j k e a up down = rw e (omega arith)
 
-merged_left : (g : Skeleton) (e : Edge) (t : Point) → IsPlane (with_edge g e) → IsOnWall (with_edge g e) t → merged g e (left_cell (with_edge g e) t) ≡ left_cell g t
+merged_left : (g : Skeleton) (e : Edge) (t : Point) → IsPlaneSkeleton (with_edge g e) → IsOnWall (with_edge g e) t → merged g e (left_cell (with_edge g e) t) ≡ left_cell g t
 merged_left g e t plane wall =
     let a = merged_side g e t (slab_left g t) (λ f. reaches_left f t) plane (left_side (with_edge g e) t plane wall) in
     λ i. record { slab = slab_left g t; place = a i }
 
-merged_right : (g : Skeleton) (e : Edge) (t : Point) → IsPlane (with_edge g e) → IsOnWall (with_edge g e) t → merged g e (right_cell (with_edge g e) t) ≡ right_cell g t
+merged_right : (g : Skeleton) (e : Edge) (t : Point) → IsPlaneSkeleton (with_edge g e) → IsOnWall (with_edge g e) t → merged g e (right_cell (with_edge g e) t) ≡ right_cell g t
 merged_right g e t plane wall =
     let a = merged_side g e t (slab_right g t) (λ f. reaches_right f t) plane (right_side (with_edge g e) t plane wall) in
     λ i. record { slab = slab_right g t; place = a i }
@@ -70,7 +70,7 @@ wall_up g e t w = record { proper = w.proper; vertex = w.vertex; is_vertex = w.i
 pub open_down : (g : Skeleton) (e : Edge) (t : Point) → IsOpenAbove (with_edge g e) t → IsOpenAbove g t
 open_down g e t o = record { open_at = λ f F. o.open_at f (rest g e f F) }
 
-open_up : (g : Skeleton) (e : Edge) (t : Point) → IsPlane (with_edge g e) → HasWeight t → left_of e.low e.high ≡ true → IsOpenAbove g t → IsOpenAbove (with_edge g e) t
+open_up : (g : Skeleton) (e : Edge) (t : Point) → IsPlaneSkeleton (with_edge g e) → HasWeight t → left_of e.low e.high ≡ true → IsOpenAbove g t → IsOpenAbove (with_edge g e) t
 open_up g e t plane T h o = record {
   open_at = λ f F. elim (member_cases e g.edges f F) [
     | inl k ↦ subst (λ x. covers_above x t ≡ false) k (false_from_ne_true _ (λ c.
@@ -81,12 +81,12 @@ open_up g e t plane T h o = record {
   ];
 }
 
-pub meets_down : (g : Skeleton) (e : Edge) (c d : SlabCell) → IsPlane (with_edge g e) → Meets (with_edge g e) c d → Meets g (merged g e c) (merged g e d)
+pub meets_down : (g : Skeleton) (e : Edge) (c d : SlabCell) → IsPlaneSkeleton (with_edge g e) → Meets (with_edge g e) c d → Meets g (merged g e c) (merged g e d)
 meets_down g e c d plane (across t wall free) =
     let m : Meets g (left_cell g t) (right_cell g t) = across t (wall_down g e t wall) (open_down g e t free) in
     subst (λ (p : SlabCell × SlabCell). Meets g p.0 p.1) (λ i. (sym (merged_left g e t plane wall) i, sym (merged_right g e t plane wall) i)) m
 
-pub face_down : (g : Skeleton) (e : Edge) (c d : SlabCell) → IsPlane (with_edge g e) → SameFace (with_edge g e) c d → SameFace g (merged g e c) (merged g e d)
+pub face_down : (g : Skeleton) (e : Edge) (c d : SlabCell) → IsPlaneSkeleton (with_edge g e) → SameFace (with_edge g e) c d → SameFace g (merged g e c) (merged g e d)
 face_down g e c d plane (here c') = here _
 face_down g e c d plane (right b x d' s m) = right _ _ _ (face_down g e b x plane s) (meets_down g e x d' plane m)
 face_down g e c d plane (left b x d' s m) = left _ _ _ (face_down g e b x plane s) (meets_down g e d' x plane m)
@@ -109,7 +109,7 @@ split_trans h a b c x d (under_over c' x' s t) (under_over x'' d' k l) =
     whole _ _ (face_trans h _ _ _ s (face_trans h _ _ _ (face_sym h _ _ k) (face_trans h _ _ _ (face_sym h _ _ t) l)))
 
 -- a cell beside e, in any slab that e spans
-beside_above : (g : Skeleton) (e : Edge) (i : ℕ) → IsPlane (with_edge g e) → spans g i e ≡ true → ((w : Point) × Contains g.vertices w × (slab_right g w ≡ i)) → SameFace (with_edge g e) (forward_cell (with_edge g e) e) (above_e (with_edge g e) e i)
+beside_above : (g : Skeleton) (e : Edge) (i : ℕ) → IsPlaneSkeleton (with_edge g e) → spans g i e ≡ true → ((w : Point) × Contains g.vertices w × (slab_right g w ≡ i)) → SameFace (with_edge g e) (forward_cell (with_edge g e) e) (above_e (with_edge g e) e i)
 beside_above g e i plane h w =
     let h' : spans g (slab_right g w.0) e ≡ true = subst (λ n. spans g n e ≡ true) (sym w.2) h in
     let r : reaches_right e w.0 ≡ true = sym (spans_right (with_edge g e) w.0 e plane (on_own_wall (with_edge g e) w.0 plane w.1) (first g e)) ∙ h' in
@@ -117,7 +117,7 @@ beside_above g e i plane h w =
     subst (λ n. SameFace (with_edge g e) (forward_cell (with_edge g e) e) (above_e (with_edge g e) e n)) w.2
     (chain (with_edge g e) e (above_e (with_edge g e) e) plane (first g e) (λ t wall th. over_wall (with_edge g e) e t plane wall (first g e) th) (slab_right g w.0) w.0 w.1 (not-true _ a.0) a.1 (omega arith))
 
-beside_below : (g : Skeleton) (e : Edge) (i : ℕ) → IsPlane (with_edge g e) → spans g i e ≡ true → ((w : Point) × Contains g.vertices w × (slab_right g w ≡ i)) → SameFace (with_edge g e) (backward_cell (with_edge g e) e) (below_e (with_edge g e) e i)
+beside_below : (g : Skeleton) (e : Edge) (i : ℕ) → IsPlaneSkeleton (with_edge g e) → spans g i e ≡ true → ((w : Point) × Contains g.vertices w × (slab_right g w ≡ i)) → SameFace (with_edge g e) (backward_cell (with_edge g e) e) (below_e (with_edge g e) e i)
 beside_below g e i plane h w =
     let h' : spans g (slab_right g w.0) e ≡ true = subst (λ n. spans g n e ≡ true) (sym w.2) h in
     let r : reaches_right e w.0 ≡ true = sym (spans_right (with_edge g e) w.0 e plane (on_own_wall (with_edge g e) w.0 plane w.1) (first g e)) ∙ h' in
@@ -150,7 +150,7 @@ twins p j k h =
       ]
     ]
 
-fiber_at : (g : Skeleton) (e : Edge) (i j k : ℕ) → IsPlane (with_edge g e) → (spans g i e ≡ true → (w : Point) × Contains g.vertices w × (slab_right g w ≡ i)) → cond (spans g i e && ltb (place g i e) j) (j - 1) j ≡ cond (spans g i e && ltb (place g i e) k) (k - 1) k → IsSplit g e (cell_at i j) (cell_at i k)
+fiber_at : (g : Skeleton) (e : Edge) (i j k : ℕ) → IsPlaneSkeleton (with_edge g e) → (spans g i e ≡ true → (w : Point) × Contains g.vertices w × (slab_right g w ≡ i)) → cond (spans g i e && ltb (place g i e) j) (j - 1) j ≡ cond (spans g i e && ltb (place g i e) k) (k - 1) k → IsSplit g e (cell_at i j) (cell_at i k)
 fiber_at g e i j k plane real h =
     elim (cases_Bool (spans g i e)) [
       | inl s ↦
@@ -172,7 +172,7 @@ fiber_at g e i j k plane real h =
           subst (λ n. IsSplit g e (cell_at i j) (cell_at i n)) h' (whole _ _ (here _))
     ]
 
-fiber : (g : Skeleton) (e : Edge) (c d : SlabCell) → IsPlane (with_edge g e) → IsCell g e c → merged g e c ≡ merged g e d → IsSplit g e c d
+fiber : (g : Skeleton) (e : Edge) (c d : SlabCell) → IsPlaneSkeleton (with_edge g e) → IsCell g e c → merged g e c ≡ merged g e d → IsSplit g e c d
 fiber g e c d plane real h =
     let s : c.slab ≡ d.slab = ap (λ (x : SlabCell). x.slab) h in
     let d' : d ≡ cell_at c.slab d.place = λ i. record { slab = sym s i; place = d.place } in
@@ -189,7 +189,7 @@ record Lift (g : Skeleton) (e : Edge) (c d : SlabCell) : Type 0 where
   to_cell : IsCell g e to
   meet : Meets (with_edge g e) from to
 
-lift : (g : Skeleton) (e : Edge) (c d : SlabCell) → IsPlane (with_edge g e) → left_of e.low e.high ≡ true → Meets g c d → Lift g e c d
+lift : (g : Skeleton) (e : Edge) (c d : SlabCell) → IsPlaneSkeleton (with_edge g e) → left_of e.low e.high ≡ true → Meets g c d → Lift g e c d
 lift g e c d plane long (across t wall free) =
     let w = wall_up g e t wall in
     let E = first g e in
@@ -214,7 +214,7 @@ lift g e c d plane long (across t wall free) =
       meet = across t w (open_up g e t plane T long free);
     }
 
-pub face_up : (g : Skeleton) (e : Edge) (c d : SlabCell) → IsPlane (with_edge g e) → left_of e.low e.high ≡ true → SameFace g c d → (x y : SlabCell) → IsCell g e x → IsCell g e y → merged g e x ≡ c → merged g e y ≡ d → IsSplit g e x y
+pub face_up : (g : Skeleton) (e : Edge) (c d : SlabCell) → IsPlaneSkeleton (with_edge g e) → left_of e.low e.high ≡ true → SameFace g c d → (x y : SlabCell) → IsCell g e x → IsCell g e y → merged g e x ≡ c → merged g e y ≡ d → IsSplit g e x y
 face_up g e c d plane long (here c') x y X Y p q = fiber g e x y plane X (p ∙ sym q)
 face_up g e c d plane long (right b c' d' s m) x y X Y p q =
     let l = lift g e c' d' plane long m in

@@ -8,7 +8,7 @@ use lib.IntN.{*ℤ-zero, zero-*ℤ}
 use lib.Signed.{lt_z}
 use Rattle.exact_plane.specs.Point.{Point}
 use Rattle.plane_graphs.specs.Graph.{Edge}
-use Rattle.slab_laws.specs.Skeleton.{Skeleton, HasWeight, left_of, lower_than, on_wall, run, side, over, below, crosses, IsPlane, same_edge}
+use Rattle.slab_laws.specs.Skeleton.{Skeleton, HasWeight, left_of, lower_than, on_wall, run, side, over, below, crosses, IsPlaneSkeleton, same_edge}
 use Rattle.slab_laws.specs.Meets.{IsOnWall, IsOpenAbove, covers_above, Meets, SameFace, across, here, right}
 use Rattle.slab_laws.specs.Slabs.{spans, place, slab_left, slab_right, reaches_left, reaches_right, left_count, right_count}
 use Rattle.slab_faces.proofs.Ints.{as_dif, dif_add, dif_sub, dif_mul, dif_same, times_up, times_less, less_back, zero_back, times_negatives, times_mixed}
@@ -20,7 +20,7 @@ use Rattle.slab_faces.proofs.Slabs.{IsThrough, same_edge_from_touch, same_edge_i
 
 -- t lies on e, strictly between its ends, and on a wall
 pub record IsOn (g : Skeleton) (e : Edge) (t : Point) : Type 0 where
-  pub plane : IsPlane g
+  pub plane : IsPlaneSkeleton g
   pub wall : IsOnWall g t
   pub E : Contains g.edges e
   pub on : side e t ≡ pos 0
@@ -186,7 +186,7 @@ pub record IsReach (g : Skeleton) (t : Point) (i : ℕ) (reach : Edge → Bool) 
   pub reaches : (e : Edge) → IsThrough e t → reach e ≡ true
   pub ends_at : (f : Edge) → Contains g.edges f → reach f ≡ true → IsThrough f t ⊎ ((v : Point) × Contains g.vertices v × (left_of v t ≡ false) × (left_of t v ≡ false) × (side f v ≡ pos 0))
 
-pub left_reach : (g : Skeleton) (t : Point) → IsPlane g → IsOnWall g t → IsReach g t (slab_left g t) (λ e. reaches_left e t)
+pub left_reach : (g : Skeleton) (t : Point) → IsPlaneSkeleton g → IsOnWall g t → IsReach g t (slab_left g t) (λ e. reaches_left e t)
 left_reach g t plane wall = record {
   sided = left_side g t plane wall;
   reaches = λ e h. and_from _ _ h.from (ap not (left_of-asym _ _ h.to));
@@ -198,7 +198,7 @@ left_reach g t plane wall = record {
       ];
 }
 
-pub right_reach : (g : Skeleton) (t : Point) → IsPlane g → IsOnWall g t → IsReach g t (slab_right g t) (λ e. reaches_right e t)
+pub right_reach : (g : Skeleton) (t : Point) → IsPlaneSkeleton g → IsOnWall g t → IsReach g t (slab_right g t) (λ e. reaches_right e t)
 right_reach g t plane wall = record {
   sided = right_side g t plane wall;
   reaches = λ e h. and_from _ _ (ap not (left_of-asym _ _ h.from)) h.to;
@@ -253,7 +253,7 @@ pub zero_not_over : (f : Edge) (t : Point) → side f t ≡ pos 0 → over f t �
 unfolding over
 zero_not_over f t h = rw h refl
 
-pub below_self : (g : Skeleton) (e : Edge) → IsPlane g → Contains g.edges e → below e e ≡ false
+pub below_self : (g : Skeleton) (e : Edge) → IsPlaneSkeleton g → Contains g.edges e → below e e ≡ false
 below_self g e plane E = false_from_ne_true _ (λ h. below_asym g e e plane E E h h)
 
 pub count_above : (g : Skeleton) (e : Edge) (t : Point) (i : ℕ) (reach : Edge → Bool) → IsOn g e t → IsReach g t i reach → count_by (λ f. reach f && not (over f t)) g.edges ≡ place g i e + 1

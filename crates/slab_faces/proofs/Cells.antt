@@ -6,7 +6,7 @@ use Rattle.std.proofs.lemmas.Bool.{false≢true, and_parts, and_from, not-true, 
 use lib.Dec.{leb, ltb}
 use Rattle.exact_plane.specs.Point.{Point}
 use Rattle.plane_graphs.specs.Graph.{Edge}
-use Rattle.slab_laws.specs.Skeleton.{Skeleton, HasWeight, left_of, over, IsPlane, below}
+use Rattle.slab_laws.specs.Skeleton.{Skeleton, HasWeight, left_of, over, IsPlaneSkeleton, below}
 use Rattle.slab_laws.specs.Slabs.{reaches_left, reaches_right, slab_left, slab_right, spans, place, left_count, right_count}
 use Rattle.slab_laws.specs.Meets.{IsOnWall, Meets, SameFace, across, here, right, left}
 use Rattle.slab_laws.specs.Weights.{Even, IsEvenAtVertices, weight_above, left_weight, right_weight}
@@ -21,11 +21,11 @@ pub not_right_trans : (p q r : Point) → HasWeight p → HasWeight q → HasWei
 not_right_trans p q r P Q R a b = false_from_ne_true _ (λ h. false≢true (sym a ∙ left_of-after q r p Q R P b h))
 
 -- ---- how many vertices are to the left
-pub left_few : (g : Skeleton) (p t : Point) → IsPlane g → HasWeight p → HasWeight t → left_of p t ≡ true → slab_right g p ≤ slab_left g t
+pub left_few : (g : Skeleton) (p t : Point) → IsPlaneSkeleton g → HasWeight p → HasWeight t → left_of p t ≡ true → slab_right g p ≤ slab_left g t
 left_few g p t plane P T h =
     fewer (λ v. not (left_of p v)) (λ v. left_of v t) g.vertices (λ v in' k. left_of-after v p t (plane.proper v in') P T (not-true _ k) h)
 
-left_many : (g : Skeleton) (p t : Point) → IsPlane g → IsOnWall g t → HasWeight p → left_of p t ≡ false → slab_left g t < slab_right g p
+left_many : (g : Skeleton) (p t : Point) → IsPlaneSkeleton g → IsOnWall g t → HasWeight p → left_of p t ≡ false → slab_left g t < slab_right g p
 left_many g p t plane wall P h =
     let w = on_wall_parts wall.vertex t wall.same in
     let W = plane.proper wall.vertex wall.is_vertex in
@@ -34,11 +34,11 @@ left_many g p t plane wall P h =
     (ap not (not_right_trans wall.vertex t p W T P w.1 h))
     (λ v in' k. ap not (left_of-asym v p (left_of-before v t p (plane.proper v in') T P k h)))
 
-pub right_few : (g : Skeleton) (p t : Point) → IsPlane g → HasWeight p → HasWeight t → left_of t p ≡ false → slab_right g p ≤ slab_right g t
+pub right_few : (g : Skeleton) (p t : Point) → IsPlaneSkeleton g → HasWeight p → HasWeight t → left_of t p ≡ false → slab_right g p ≤ slab_right g t
 right_few g p t plane P T h =
     fewer (λ v. not (left_of p v)) (λ v. not (left_of t v)) g.vertices (λ v in' k. ap not (not_right_trans v p t (plane.proper v in') P T (not-true _ k) h))
 
-pub right_many : (g : Skeleton) (p t : Point) → IsPlane g → Contains g.vertices p → HasWeight t → left_of t p ≡ true → slab_right g t < slab_right g p
+pub right_many : (g : Skeleton) (p t : Point) → IsPlaneSkeleton g → Contains g.vertices p → HasWeight t → left_of t p ≡ true → slab_right g t < slab_right g p
 right_many g p t plane in' T h =
     let P = plane.proper p in' in
     fewer_than (λ v. not (left_of t v)) (λ v. not (left_of p v)) g.vertices p in' (ap not h) (ap not (left_of-irrefl p))
@@ -64,14 +64,14 @@ ltb_yes : (m n : ℕ) (b : Bool) → (b ≡ false → n ≤ m) → (b ≡ true �
 ltb_yes m n true h k = lt-ltb m n (k refl)
 ltb_yes m n false h k = le-ltb m n (h refl)
 
-pub spans_left : (g : Skeleton) (t : Point) (e : Edge) → IsPlane g → IsOnWall g t → Contains g.edges e → spans g (slab_left g t) e ≡ reaches_left e t
+pub spans_left : (g : Skeleton) (t : Point) (e : Edge) → IsPlaneSkeleton g → IsOnWall g t → Contains g.edges e → spans g (slab_left g t) e ≡ reaches_left e t
 spans_left g t e plane wall in' =
     let p = plane.proper_edge e in' in
     both _ _ _ _
     (leb_by _ _ _ (λ h. left_few g e.low t plane p.0 wall.proper h) (λ h. left_many g e.low t plane wall p.0 h))
     (ltb_by _ _ _ (λ h. left_few g e.high t plane p.1 wall.proper h) (λ h. left_many g e.high t plane wall p.1 h))
 
-pub spans_right : (g : Skeleton) (t : Point) (e : Edge) → IsPlane g → IsOnWall g t → Contains g.edges e → spans g (slab_right g t) e ≡ reaches_right e t
+pub spans_right : (g : Skeleton) (t : Point) (e : Edge) → IsPlaneSkeleton g → IsOnWall g t → Contains g.edges e → spans g (slab_right g t) e ≡ reaches_right e t
 spans_right g t e plane wall in' =
     let p = plane.proper_edge e in' in
     both _ _ _ _
@@ -84,7 +84,7 @@ pub record IsSideOf (g : Skeleton) (t : Point) (i : ℕ) (reach : Edge → Bool)
   pub spanned : (e : Edge) → Contains g.edges e → spans g i e ≡ reach e
   pub passes : (f e : Edge) → Contains g.edges f → Contains g.edges e → reach f ≡ true → reach e ≡ true → Passes f e t
 
-pub left_side : (g : Skeleton) (t : Point) → IsPlane g → IsOnWall g t → IsSideOf g t (slab_left g t) (λ e. reaches_left e t)
+pub left_side : (g : Skeleton) (t : Point) → IsPlaneSkeleton g → IsOnWall g t → IsSideOf g t (slab_left g t) (λ e. reaches_left e t)
 left_side g t plane wall = record {
   spanned = λ e in'. spans_left g t e plane wall in';
   passes = λ f e F E rf re.
@@ -107,7 +107,7 @@ left_side g t plane wall = record {
       };
 }
 
-pub right_side : (g : Skeleton) (t : Point) → IsPlane g → IsOnWall g t → IsSideOf g t (slab_right g t) (λ e. reaches_right e t)
+pub right_side : (g : Skeleton) (t : Point) → IsPlaneSkeleton g → IsOnWall g t → IsSideOf g t (slab_right g t) (λ e. reaches_right e t)
 right_side g t plane wall = record {
   spanned = λ e in'. spans_right g t e plane wall in';
   passes = λ f e F E rf re.
@@ -144,7 +144,7 @@ place_over g t i reach e s E re o =
     and_from _ _ (s.spanned f F ∙ a.0) (ordered g t i reach f e s F E a.0 re (not-true _ a.1) o))
 
 -- one that isn't has fewer
-pub place_under : (g : Skeleton) (t : Point) (i : ℕ) (reach : Edge → Bool) (e : Edge) → IsPlane g → IsSideOf g t i reach → Contains g.edges e → reach e ≡ true → over e t ≡ false → place g i e < count_by (λ f. reach f && not (over f t)) g.edges
+pub place_under : (g : Skeleton) (t : Point) (i : ℕ) (reach : Edge → Bool) (e : Edge) → IsPlaneSkeleton g → IsSideOf g t i reach → Contains g.edges e → reach e ≡ true → over e t ≡ false → place g i e < count_by (λ f. reach f && not (over f t)) g.edges
 place_under g t i reach e plane s E re o =
     fewer_than (λ f. spans g i f && below f e) (λ f. reach f && not (over f t)) g.edges e E
     (false_from_ne_true _ (λ h. let a = and_parts (spans g i e) (below e e) h in below_asym g e e plane E E a.1 a.1))
@@ -158,21 +158,21 @@ on_side : (x y r o : Bool) → x ≡ r → (r ≡ true → y ≡ o) → (x && y)
 on_side x y true o e h = rw e (h refl)
 on_side x y false o e h = rw e refl
 
-pub cell_weight : (g : Skeleton) (m : Edge → ℕ) (t : Point) (i : ℕ) (reach : Edge → Bool) → IsPlane g → IsSideOf g t i reach → weight_above g m i (count_by (λ f. reach f && not (over f t)) g.edges) ≡ sum_by (λ e. cond (reach e && over e t) (m e) 0) g.edges
+pub cell_weight : (g : Skeleton) (m : Edge → ℕ) (t : Point) (i : ℕ) (reach : Edge → Bool) → IsPlaneSkeleton g → IsSideOf g t i reach → weight_above g m i (count_by (λ f. reach f && not (over f t)) g.edges) ≡ sum_by (λ e. cond (reach e && over e t) (m e) 0) g.edges
 cell_weight g m t i reach plane s =
     sum_by-same _ _ g.edges (each _ g.edges (λ e E.
     ap (λ b. cond b (m e) 0) (on_side (spans g i e) _ (reach e) (over e t) (s.spanned e E) (λ re.
     leb_by _ _ (over e t) (λ o. place_over g t i reach e s E re o) (λ o. place_under g t i reach e plane s E re o)))))
 
 -- ---- parity is the same on cells that meet
-pub parity_meets : (g : Skeleton) (m : Edge → ℕ) (c d : SlabCell) → IsPlane g → IsEvenAtVertices g m → Meets g c d → Even (weight_above g m c.slab c.place + weight_above g m d.slab d.place)
+pub parity_meets : (g : Skeleton) (m : Edge → ℕ) (c d : SlabCell) → IsPlaneSkeleton g → IsEvenAtVertices g m → Meets g c d → Even (weight_above g m c.slab c.place + weight_above g m d.slab d.place)
 parity_meets g m c d plane even (across t wall free) =
     let a : weight_above g m (slab_left g t) (left_count g t) ≡ left_weight g m t = cell_weight g m t (slab_left g t) (λ e. reaches_left e t) plane (left_side g t plane wall) in
     let b : weight_above g m (slab_right g t) (right_count g t) ≡ right_weight g m t = cell_weight g m t (slab_right g t) (λ e. reaches_right e t) plane (right_side g t plane wall) in
     let p : Even (left_weight g m t + right_weight g m t) = parity_across g m t plane even wall.proper free in
     rw (a, b) p
 
-pub parity_face : (g : Skeleton) (m : Edge → ℕ) (c d : SlabCell) → IsPlane g → IsEvenAtVertices g m → SameFace g c d → Even (weight_above g m c.slab c.place + weight_above g m d.slab d.place)
+pub parity_face : (g : Skeleton) (m : Edge → ℕ) (c d : SlabCell) → IsPlaneSkeleton g → IsEvenAtVertices g m → SameFace g c d → Even (weight_above g m c.slab c.place + weight_above g m d.slab d.place)
 parity_face g m c d plane even (here c') = omega arith
 parity_face g m c d plane even (right b c' d' s h) =
     let x = parity_face g m b c' plane even s in

@@ -5,7 +5,7 @@ use Rattle.std.specs.List.{count_by, Contains}
 use Rattle.std.proofs.lemmas.Int.{ints, by_lt_z}
 use Rattle.std.proofs.lemmas.Bool.{false≢true, false_from_ne_true, cases_Bool}
 use lib.IntN.{*ℤ-zero}
-use Rattle.slab_laws.specs.Skeleton.{foot, Skeleton, HasWeight, left_of, lower_than, run, side, over, under, below, same_edge, IsPlane}
+use Rattle.slab_laws.specs.Skeleton.{foot, Skeleton, HasWeight, left_of, lower_than, run, side, over, under, below, same_edge, IsPlaneSkeleton}
 use Rattle.exact_plane.specs.Point.{Point}
 use Rattle.plane_graphs.specs.Graph.{Edge}
 use Rattle.slab_laws.specs.Slabs.{spans, place, slab_left, slab_right, left_count, right_count, left_below, right_below, reaches_left, reaches_right}
@@ -25,15 +25,15 @@ use Rattle.slab_faces.proofs.Upright.{not_inside}
 
 -- one side of the wall through t, with a point inside its slab
 pub record IsFan (g : Skeleton) (t : Point) (i : ℕ) (M : Point) (reach : Edge → Bool) : Type 0 where
-  pub plane : IsPlane g
+  pub plane : IsPlaneSkeleton g
   pub wall : IsOnWall g t
   pub reaching : IsReach g t i reach
   pub slab : IsSlab g i M
 
-pub left_fan : (g : Skeleton) (t : Point) → IsPlane g → IsOnWall g t → IsFan g t (slab_left g t) (left_inside g t) (λ e. reaches_left e t)
+pub left_fan : (g : Skeleton) (t : Point) → IsPlaneSkeleton g → IsOnWall g t → IsFan g t (slab_left g t) (left_inside g t) (λ e. reaches_left e t)
 left_fan g t plane wall = record { plane = plane; wall = wall; reaching = left_reach g t plane wall; slab = is_slab_left g t plane wall }
 
-pub right_fan : (g : Skeleton) (t : Point) → IsPlane g → IsOnWall g t → IsFan g t (slab_right g t) (right_inside g t) (λ e. reaches_right e t)
+pub right_fan : (g : Skeleton) (t : Point) → IsPlaneSkeleton g → IsOnWall g t → IsFan g t (slab_right g t) (right_inside g t) (λ e. reaches_right e t)
 right_fan g t plane wall = record { plane = plane; wall = wall; reaching = right_reach g t plane wall; slab = is_slab_right g t plane wall }
 
 -- an edge that reaches the wall at t
@@ -206,7 +206,7 @@ lower_point e t v T R z a b h =
 
 -- a point from s's lower end on, below its upper end
 pub record IsAlong (g : Skeleton) (s : Edge) (u : Point) : Type 0 where
-  pub plane : IsPlane g
+  pub plane : IsPlaneSkeleton g
   pub S : Contains g.edges s
   pub wall : IsOnWall g u
   pub upright : IsUpright s u
@@ -309,7 +309,7 @@ unfolding under
 not_positive f v h = sym (omega (arith, ints))
 
 -- ---- below a vertex that ends no vertical edge from below, the cells on both sides meet
-pub meets_below : (g : Skeleton) (v : Point) → IsPlane g → Contains g.vertices v → IsOnWall g v → ((f : Edge) → Contains g.edges f → IsUpright f v → lower_than f.low v ≡ true → lower_than f.high v ≡ false → ⊥) → SameFace g (record { slab = slab_left g v; place = left_below g v }) (record { slab = slab_right g v; place = right_below g v })
+pub meets_below : (g : Skeleton) (v : Point) → IsPlaneSkeleton g → Contains g.vertices v → IsOnWall g v → ((f : Edge) → Contains g.edges f → IsUpright f v → lower_than f.low v ≡ true → lower_than f.high v ≡ false → ⊥) → SameFace g (record { slab = slab_left g v; place = left_below g v }) (record { slab = slab_right g v; place = right_below g v })
 meets_below g v plane in' wall none =
     let K = deep_up g in
     let M = beneath (deep g) v in

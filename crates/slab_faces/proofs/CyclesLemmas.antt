@@ -4,7 +4,7 @@ use Rattle.std.specs.Prelude.{◌&&◌}
 use Rattle.std.specs.List.{Contains, count_by, sum_by}
 use Rattle.std.proofs.lemmas.List.Sums.{sum_by-append}
 use Rattle.plane_graphs.specs.Graph.{Edge}
-use Rattle.slab_laws.specs.Skeleton.{Skeleton, same_edge, IsPlane}
+use Rattle.slab_laws.specs.Skeleton.{Skeleton, same_edge, IsPlaneSkeleton}
 use Rattle.slab_laws.specs.Darts.{Dart, ahead, back, darts}
 use Rattle.slab_laws.specs.Weights.{IsEvenAtVertices, Even, weight_above}
 use Rattle.slab_laws.specs.Meets.{SameFace}
@@ -23,7 +23,7 @@ use Rattle.slab_faces.proofs.NextLemmas.{darts_exact, dart_out, dart_in, next_fr
 abbrev tally : Bool → ℕ
 tally b = cond b 1 0
 
-once : (g : Skeleton) (d : Dart) → IsPlane g → Contains g.edges d.edge → count_by (same_dart d) (darts g) ≡ 1
+once : (g : Skeleton) (d : Dart) → IsPlaneSkeleton g → Contains g.edges d.edge → count_by (same_dart d) (darts g) ≡ 1
 unfolding same_dart
 once g d plane E =
     let F : Dart → ℕ = λ x. tally (same_dart d x) in
@@ -51,10 +51,10 @@ once g d plane E =
     go true n = let a = yes_sum g.edges in let b = no_sum g.edges in omega arith
     go false n = let a = no_sum g.edges in let b = yes_sum g.edges in omega arith
 
-pub is_set : (g : Skeleton) → IsPlane g → IsSetBy same_dart (darts g)
+pub is_set : (g : Skeleton) → IsPlaneSkeleton g → IsSetBy same_dart (darts g)
 is_set g plane = record { sound = darts_exact.path; self = darts_exact.itself; once = λ d h. once g d plane (dart_out g d (in_member (darts g) d h)) }
 
-pub one_to_one : (g : Skeleton) → IsPlane g → IsOneToOne (next (darts g)) (darts g)
+pub one_to_one : (g : Skeleton) → IsPlaneSkeleton g → IsOneToOne (next (darts g)) (darts g)
 one_to_one g plane = record {
   inside = λ d h. let E = dart_out g d (in_member (darts g) d h) in let f = next_from g d plane E in member_in (darts g) _ (dart_in g (next (darts g) d).edge (next (darts g) d).forward f.in');
   one = λ d d' h h' e. next_one g d d' plane (dart_out g d (in_member (darts g) d h)) (dart_out g d' (in_member (darts g) d' h')) e;
@@ -65,7 +65,7 @@ pub one_cycle : (g : Skeleton) (d : Dart) → Member (darts g) d → class_of sa
 unfolding dart_labels
 one_cycle g d h = along_link same_dart dart_below darts_exact (map (λ d. record { one = d; other = next (darts g) d }) (darts g)) (record { one = d; other = next (darts g) d }) (map_in (λ d. record { one = d; other = next (darts g) d }) (darts g) d h)
 
-pub cycle_even : (g : Skeleton) (lead : Dart) → IsPlane g → IsEvenAtVertices g (darts_on (dart_labels (darts g)) lead)
+pub cycle_even : (g : Skeleton) (lead : Dart) → IsPlaneSkeleton g → IsEvenAtVertices g (darts_on (dart_labels (darts g)) lead)
 unfolding darts_on
 cycle_even g lead plane =
     let o : Dart → Bool = λ d. same_dart (class_of same_dart (dart_labels (darts g)) d) lead in
@@ -73,5 +73,5 @@ cycle_even g lead plane =
     (λ d h. ((next_from g d plane (dart_out g d (in_member (darts g) d h))).at, ap (λ l. same_dart l lead) (sym (one_cycle g d (in_member (darts g) d h)))))
 
 -- the parity of a cycle is the same on a whole face
-pub cycle_parity : (g : Skeleton) (lead : Dart) (c d : SlabCell) → IsPlane g → SameFace g c d → Even (weight_above g (darts_on (dart_labels (darts g)) lead) c.slab c.place + weight_above g (darts_on (dart_labels (darts g)) lead) d.slab d.place)
+pub cycle_parity : (g : Skeleton) (lead : Dart) (c d : SlabCell) → IsPlaneSkeleton g → SameFace g c d → Even (weight_above g (darts_on (dart_labels (darts g)) lead) c.slab c.place + weight_above g (darts_on (dart_labels (darts g)) lead) d.slab d.place)
 cycle_parity g lead c d plane h = parity_face g (darts_on (dart_labels (darts g)) lead) c d plane (cycle_even g lead plane) h

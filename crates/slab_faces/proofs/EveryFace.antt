@@ -8,7 +8,7 @@ use lib.Dec.{ltb, leb}
 use Rattle.exact_plane.specs.Point.{Point}
 use Rattle.plane_graphs.specs.Graph.{Edge}
 use Rattle.slab_laws.specs.declared.slab_cell.SlabCell.{SlabCell}
-use Rattle.slab_laws.specs.Skeleton.{Skeleton, left_of, below, same_edge, IsPlane}
+use Rattle.slab_laws.specs.Skeleton.{Skeleton, left_of, below, same_edge, IsPlaneSkeleton}
 use Rattle.slab_laws.specs.Slabs.{slab_right, spans, place, forward_cell, width, top_cell}
 use Rattle.slab_laws.specs.Weights.{Even, weight_above}
 use Rattle.slab_laws.specs.Meets.{SameFace}
@@ -51,7 +51,7 @@ place_step : (s : Bool) (p j : ℕ) → cond {A = ℕ} (s && ltb p (suc j)) 1 0 
 place_step true p j = grind (arith, nat_tests)
 place_step false p j = refl
 
-module _ (g : Skeleton) (i : ℕ) (M : Point) (plane : IsPlane g) (slab : IsSlab g i M) where
+module _ (g : Skeleton) (i : ℕ) (M : Point) (plane : IsPlaneSkeleton g) (slab : IsSlab g i M) where
   one_there : (j : ℕ) → count_by (λ e. spans g i e && (place g i e == j)) g.edges ≤ 1
   one_there j =
       let p : Edge → Bool = λ e. spans g i e && (place g i e == j) in
@@ -124,14 +124,14 @@ module _ (g : Skeleton) (i : ℕ) (M : Point) (plane : IsPlane g) (slab : IsSlab
 abbrev IsCounted : Skeleton → SlabCell → Type 0
 IsCounted g c = Even (count_by (bounds (face_of (face_labels g) c)) (subdivision g).cycles + 1 + cond (same_cell (face_of (face_labels g) (top_cell g 0)) (face_of (face_labels g) c)) 1 0)
 
-same_count : (g : Skeleton) (c d : SlabCell) → IsPlane g → SameFace g c d → IsCounted g d → IsCounted g c
+same_count : (g : Skeleton) (c d : SlabCell) → IsPlaneSkeleton g → SameFace g c d → IsCounted g d → IsCounted g c
 same_count g c d plane h k = subst (λ f. Even (count_by (bounds f) (subdivision g).cycles + 1 + cond (same_cell (face_of (face_labels g) (top_cell g 0)) f) 1 0)) (sym (one_label g c d plane h)) k
 
-beside_edge : (g : Skeleton) (e : Edge) (fw : Bool) → IsPlane g → Contains g.edges e → left_of e.low e.high ≡ true → IsCounted g (cell_by g e true fw)
+beside_edge : (g : Skeleton) (e : Edge) (fw : Bool) → IsPlaneSkeleton g → Contains g.edges e → left_of e.low e.high ≡ true → IsCounted g (cell_by g e true fw)
 beside_edge g e fw plane E long = subst (λ b. IsCounted g (cell_by g e b fw)) long (outer_cycles_of_faces g (record { edge = e; forward = fw }) plane E long)
 
 -- ---- below the topmost cell
-under_edge : (g : Skeleton) (w : Point) (j : ℕ) → IsPlane g → Contains g.vertices w → j < width g (slab_right g w) → IsCounted g (record { slab = slab_right g w; place = j })
+under_edge : (g : Skeleton) (w : Point) (j : ℕ) → IsPlaneSkeleton g → Contains g.vertices w → j < width g (slab_right g w) → IsCounted g (record { slab = slab_right g w; place = j })
 under_edge g w j plane W h =
     let i = slab_right g w in
     let e = edge_at g i (right_inside g w) plane (is_slab_right g w plane (on_own_wall g w plane W)) j h in
@@ -140,7 +140,7 @@ under_edge g w j plane W h =
     subst (λ n. IsCounted g (record { slab = i; place = n })) e.3 k
 
 -- ---- the unbounded face
-beside_top : (g : Skeleton) (e : Edge) → IsPlane g → Contains g.edges e → left_of e.low e.high ≡ true → IsCounted g (top_cell g 0)
+beside_top : (g : Skeleton) (e : Edge) → IsPlaneSkeleton g → Contains g.edges e → left_of e.low e.high ≡ true → IsCounted g (top_cell g 0)
 unfolding width top_cell
 beside_top g e plane E long =
     let w = e.low in
@@ -156,7 +156,7 @@ beside_top g e plane E long =
     same_count g _ (forward_cell g d.0) plane (face_trans g _ _ _ (unbounded g w plane W) (face_sym g _ _ k)) (beside_edge g d.0 true plane d.1 t.0)
 
 -- where all edges are vertical, none is above a cell
-no_weight : (g : Skeleton) (m : Edge → ℕ) (i j : ℕ) → IsPlane g → ((e : Edge) → Contains g.edges e → left_of e.low e.high ≡ false) → weight_above g m i j ≡ 0
+no_weight : (g : Skeleton) (m : Edge → ℕ) (i j : ℕ) → IsPlaneSkeleton g → ((e : Edge) → Contains g.edges e → left_of e.low e.high ≡ false) → weight_above g m i j ≡ 0
 no_weight g m i j plane none =
     sum_by-same (λ e. cond (spans g i e && leb j (place g i e)) (m e) 0) (λ e. 0) g.edges (each (λ e. cond (spans g i e && leb j (place g i e)) (m e) 0 ≡ 0) g.edges (λ e E.
     let p = plane.proper_edge e E in
@@ -168,7 +168,7 @@ no_weight g m i j plane none =
     absurd (omega arith)) in
     ap (λ b. cond (b && leb j (place g i e)) (m e) 0) s)) ∙ sum_by-none g.edges
 
-no_outer : (g : Skeleton) (f : SlabCell) → IsPlane g → ((e : Edge) → Contains g.edges e → left_of e.low e.high ≡ false) → count_by (bounds f) (subdivision g).cycles ≡ 0
+no_outer : (g : Skeleton) (f : SlabCell) → IsPlaneSkeleton g → ((e : Edge) → Contains g.edges e → left_of e.low e.high ≡ false) → count_by (bounds f) (subdivision g).cycles ≡ 0
 unfolding subdivision cycles cycle odd
 no_outer g f plane none =
     let orbits = dart_labels (darts g) in
@@ -176,7 +176,7 @@ no_outer g f plane none =
     ∙ none_counted (λ d. odd g orbits d (left_of_dart g d) && same_cell (face_of (face_labels g) (left_of_dart g d)) f) (leads (darts g) orbits) (λ d _.
     ap (λ n. (n % 2 == 1) && same_cell (face_of (face_labels g) (left_of_dart g d)) f) (no_weight g (darts_on orbits d) (left_of_dart g d).slab (left_of_dart g d).place plane none))
 
-counted_top : (g : Skeleton) → IsPlane g → IsCounted g (top_cell g 0)
+counted_top : (g : Skeleton) → IsPlaneSkeleton g → IsCounted g (top_cell g 0)
 counted_top g plane =
     elim (some_or_none (λ e. left_of e.low e.high) g.edges) [
       | inl w ↦ beside_top g w.0 plane w.1 w.2
@@ -188,7 +188,7 @@ counted_top g plane =
     ]
 
 -- ---- the cells of the first slab, and of those on the right of vertices
-first_width : (g : Skeleton) → IsPlane g → width g 0 ≡ 0
+pub first_width : (g : Skeleton) → IsPlaneSkeleton g → width g 0 ≡ 0
 unfolding width
 first_width g plane = none_counted (spans g 0) g.edges (λ e E. false_from_ne_true _ (λ h.
     let a = and_parts (leb (slab_right g e.low) 0) (ltb 0 (slab_right g e.high)) h in
@@ -201,7 +201,7 @@ out_range a zero j h = absurd h
 out_range a (suc n) j (inl e) = omega arith
 out_range a (suc n) j (inr h) = let k = out_range (a + 1) n j h in omega arith
 
-in_slab : (g : Skeleton) (w : Point) (j : ℕ) → IsPlane g → Contains g.vertices w → j ≤ width g (slab_right g w) → IsCounted g (record { slab = slab_right g w; place = j })
+in_slab : (g : Skeleton) (w : Point) (j : ℕ) → IsPlaneSkeleton g → Contains g.vertices w → j ≤ width g (slab_right g w) → IsCounted g (record { slab = slab_right g w; place = j })
 unfolding top_cell
 in_slab g w j plane W h =
     elim (cases_lt j (width g (slab_right g w))) [
@@ -211,14 +211,14 @@ in_slab g w j plane W h =
           subst (λ n. IsCounted g (record { slab = slab_right g w; place = n })) e (same_count g _ _ plane (face_sym g _ _ (unbounded g w plane W)) (counted_top g plane))
     ]
 
-in_first : (g : Skeleton) (j : ℕ) → IsPlane g → j ≤ width g 0 → IsCounted g (record { slab = 0; place = j })
+in_first : (g : Skeleton) (j : ℕ) → IsPlaneSkeleton g → j ≤ width g 0 → IsCounted g (record { slab = 0; place = j })
 unfolding top_cell
 in_first g j plane h =
     let z = first_width g plane in
     let e : width g 0 ≡ j = omega arith in
     subst (λ n. IsCounted g (record { slab = 0; place = n })) e (counted_top g plane)
 
-any_slab : (g : Skeleton) (i j : ℕ) → IsPlane g → Member (0 ∷ map (slab_right g) (walls g)) i → j ≤ width g i → IsCounted g (record { slab = i; place = j })
+any_slab : (g : Skeleton) (i j : ℕ) → IsPlaneSkeleton g → Member (0 ∷ map (slab_right g) (walls g)) i → j ≤ width g i → IsCounted g (record { slab = i; place = j })
 any_slab g i j plane (inl e) h = subst (λ n. j ≤ width g n → IsCounted g (record { slab = n; place = j })) e (in_first g j plane) h
 any_slab g i j plane (inr m) h =
     let w = map_out (slab_right g) (walls g) i m in

@@ -8,7 +8,7 @@ use Rattle.std.proofs.lemmas.Bool.Decides.{nat_tests}
 use borrow.Author.Differences.{up}
 use Rattle.exact_plane.specs.Point.{Point}
 use Rattle.plane_graphs.specs.Graph.{Edge}
-use Rattle.slab_laws.specs.Skeleton.{Skeleton, HasWeight, left_of, lower_than, on_wall, run, side, over, foot, IsPlane}
+use Rattle.slab_laws.specs.Skeleton.{Skeleton, HasWeight, left_of, lower_than, on_wall, run, side, over, foot, IsPlaneSkeleton}
 use Rattle.slab_laws.specs.Meets.{IsOnWall, IsOpenAbove, Meets, SameFace, across, here, right, left}
 use Rattle.slab_laws.specs.Slabs.{slab_left, slab_right, reaches_left, reaches_right, left_count, right_count}
 use Rattle.slab_laws.specs.declared.slab_cell.SlabCell.{SlabCell}
@@ -80,7 +80,7 @@ none_at g t reach r =
     none true o f = ap (λ b. cond {A = ℕ} (not b) 1 0) (f refl)
     none false o f = refl
 
-lowest_meets : (g : Skeleton) (t : Point) → IsPlane g → IsOnWall g t → Meets g (record { slab = slab_left g t; place = 0 }) (record { slab = slab_right g t; place = 0 })
+lowest_meets : (g : Skeleton) (t : Point) → IsPlaneSkeleton g → IsOnWall g t → Meets g (record { slab = slab_left g t; place = 0 }) (record { slab = slab_right g t; place = 0 })
 unfolding low left_of
 lowest_meets g t plane wall =
     let u = low g t in
@@ -92,7 +92,7 @@ lowest_meets g t plane wall =
     subst (λ (p : ℕ × ℕ). Meets g (record { slab = slab_left g t; place = p.0 }) (record { slab = slab_right g t; place = p.1 })) (λ i. (a i, b i)) m
 
 -- ---- each link is a meet
-corner_meets : (g : Skeleton) (v : Point) (m : Link SlabCell) → IsPlane g → Member (corner_links g v) m → Meets g m.one m.other
+corner_meets : (g : Skeleton) (v : Point) (m : Link SlabCell) → IsPlaneSkeleton g → Member (corner_links g v) m → Meets g m.one m.other
 unfolding corner_links
 corner_meets g v m plane h =
     let s = map_out (link_at g) (filter (λ u. on_wall u v && is_open g u) g.vertices) m h in
@@ -100,7 +100,7 @@ corner_meets g v m plane h =
     let o = and_parts (on_wall s.0 v) (is_open g s.0) f.1 in
     subst (λ (m : Link SlabCell). Meets g m.one m.other) s.2 (across s.0 (on_own_wall g s.0 plane (member_in g.vertices s.0 f.0)) (open_from g s.0 o.1))
 
-foot_meets : (g : Skeleton) (v : Point) (m : Link SlabCell) → IsPlane g → Contains g.vertices v → Member (foot_links g v) m → Meets g m.one m.other
+foot_meets : (g : Skeleton) (v : Point) (m : Link SlabCell) → IsPlaneSkeleton g → Contains g.vertices v → Member (foot_links g v) m → Meets g m.one m.other
 unfolding foot_links
 foot_meets g v m plane V h =
     let s = map_out (λ e. link_at g (foot e v)) (filter (passes v) g.edges) m h in
@@ -110,7 +110,7 @@ foot_meets g v m plane V h =
     let on = foot_is_on g s.0 v plane (on_own_wall g v plane V) E (record { from = p.0; to = p.1 }) in
     subst (λ (m : Link SlabCell). Meets g m.one m.other) s.2 (across (foot s.0 v) on.wall (open_above g s.0 (foot s.0 v) on))
 
-pub link_is_meet : (g : Skeleton) (m : Link SlabCell) → IsPlane g → Member (links g) m → Meets g m.one m.other
+pub link_is_meet : (g : Skeleton) (m : Link SlabCell) → IsPlaneSkeleton g → Member (links g) m → Meets g m.one m.other
 unfolding links wall_links walls
 link_is_meet g m plane h =
     let r = flat_out (wall_links g) (walls g) m h in
@@ -150,23 +150,23 @@ face_equivalence : (g : Skeleton) → IsEquivalence (SameFace g)
 face_equivalence g = record { itself = here; back = face_sym g; on = face_trans g }
 
 -- a cell is in the face that it is labelled with
-pub in_its_face : (g : Skeleton) (c : SlabCell) → IsPlane g → SameFace g c (face_of (face_labels g) c)
+pub in_its_face : (g : Skeleton) (c : SlabCell) → IsPlaneSkeleton g → SameFace g c (face_of (face_labels g) c)
 unfolding face_labels
 in_its_face g c plane = connected same_cell cell_below cells_exact (SameFace g) (face_equivalence g) (links g) (λ m h. right _ _ _ (here m.one) (link_is_meet g m plane h)) c
 
 -- the cells of one face have one label
-pub one_label : (g : Skeleton) (c d : SlabCell) → IsPlane g → SameFace g c d → face_of (face_labels g) c ≡ face_of (face_labels g) d
+pub one_label : (g : Skeleton) (c d : SlabCell) → IsPlaneSkeleton g → SameFace g c d → face_of (face_labels g) c ≡ face_of (face_labels g) d
 unfolding face_labels
 one_label g c d plane (here c') = refl
 one_label g c d plane (right c' x d' h m) = one_label g c x plane h ∙ along_link same_cell cell_below cells_exact (links g) (record { one = x; other = d }) (meet_is_link g x d plane m)
 one_label g c d plane (left c' x d' h m) = one_label g c x plane h ∙ sym (along_link same_cell cell_below cells_exact (links g) (record { one = d; other = x }) (meet_is_link g d x plane m))
 
 -- and cells of one label are in one face
-pub one_face : (g : Skeleton) (c d : SlabCell) → IsPlane g → face_of (face_labels g) c ≡ face_of (face_labels g) d → SameFace g c d
+pub one_face : (g : Skeleton) (c d : SlabCell) → IsPlaneSkeleton g → face_of (face_labels g) c ≡ face_of (face_labels g) d → SameFace g c d
 one_face g c d plane e = face_trans g c _ d (in_its_face g c plane) (subst (λ x. SameFace g x d) (sym e) (face_sym g d _ (in_its_face g d plane)))
 
 -- the label is the least cell of its face
-pub least_label : (g : Skeleton) (c d : SlabCell) → IsPlane g → SameFace g c d → cell_below d (face_of (face_labels g) c) ≡ false
+pub least_label : (g : Skeleton) (c d : SlabCell) → IsPlaneSkeleton g → SameFace g c d → cell_below d (face_of (face_labels g) c) ≡ false
 least_label g c d plane h = subst (λ x. cell_below d x ≡ false) (sym (one_label g c d plane h)) (lowest g d)
   where
     lowest : (g : Skeleton) (d : SlabCell) → cell_below d (face_of (face_labels g) d) ≡ false

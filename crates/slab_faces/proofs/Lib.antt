@@ -29,8 +29,10 @@ pub mod CyclesLemmas
 pub mod AscendingLemmas
 pub mod PlaneGraphs
 pub mod CyclesOfFaces
+pub mod DartOrder
 pub mod OuterCycles
 pub mod Searches
+pub mod Places
 pub mod WallsLemmas
 pub mod OneEdge
 pub mod Located

@@ -4,7 +4,7 @@ use Rattle.std.specs.Prelude.{Option, Some, None, find, filter}
 use Rattle.std.specs.List.{Contains, position_or_len}
 use Rattle.exact_plane.specs.Point.{Point}
 use Rattle.plane_graphs.specs.Graph.{Edge}
-use Rattle.slab_laws.specs.Skeleton.{Skeleton, HasWeight, same_point, inside, IsPlane}
+use Rattle.slab_laws.specs.Skeleton.{Skeleton, HasWeight, same_point, inside, IsPlaneSkeleton}
 use Rattle.slab_laws.specs.Slabs.{left_cell}
 use Rattle.slab_laws.specs.declared.slab_cell.SlabCell.{SlabCell}
 use Rattle.slab_laws.specs.declared.classes.Label.{Label}
@@ -60,7 +60,7 @@ module _ (g : Skeleton) (q : Point) where
   unfolding holds_in subdivision place
   from = refl
 
-  place_there : IsPlane g → HasWeight q → place < length (subdivision g).faces
+  place_there : IsPlaneSkeleton g → HasWeight q → place < length (subdivision g).faces
   unfolding subdivision place
   place_there plane Q =
       let f = face_of (face_labels g) (left_cell g q) in

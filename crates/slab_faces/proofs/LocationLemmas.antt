@@ -9,7 +9,7 @@ use Rattle.plane_graphs.specs.Graph.{Edge}
 use Rattle.slab_laws.specs.declared.slab_cell.SlabCell.{SlabCell}
 use Rattle.slab_laws.specs.declared.cell.Cell.TheVariants.{Vertex, Edge as OnEdge, Face}
 use Rattle.slab_laws.specs.Listed.{distinct}
-use Rattle.slab_laws.specs.Skeleton.{Skeleton, same_point, inside, IsPlane}
+use Rattle.slab_laws.specs.Skeleton.{Skeleton, same_point, inside, IsPlaneSkeleton}
 use Rattle.slab_laws.specs.Slabs.{left_cell}
 use Rattle.slab_laws.specs.Faces.{face_labels, face_of, same_cell, cells}
 use Rattle.slab_laws.specs.Subdivision.{Cycle, subdivision, cycles, ranked, holds, rank, spot_on, holds_in, first_cell}
@@ -59,7 +59,7 @@ face_spot : (o : Option Point) (e : Option Edge) (k : ℕ) → o ≡ None → e 
 unfolding spot_on
 face_spot o e k h i = rw (h, i) refl
 
-no_vertex : (g : Skeleton) (e : Edge) (q : Point) → IsPlane g → Contains g.edges e → inside e q ≡ true → IsNoVertex g q
+no_vertex : (g : Skeleton) (e : Edge) (q : Point) → IsPlaneSkeleton g → Contains g.edges e → inside e q ≡ true → IsNoVertex g q
 no_vertex g e q plane E h v V = false_from_ne_true (same_point q v) (λ s. false≢true (sym (plane.clear e v E V) ∙ subst (λ z. inside e z ≡ true) (same_point_is q v s) h))
 
 none_found : (g : Skeleton) (q : Point) → IsNoVertex g q → find (same_point q) g.vertices ≡ None

@@ -8,7 +8,7 @@ use Rattle.std.proofs.lemmas.Int.{ints}
 use Rattle.std.specs.Prelude.{◌<ℤ◌}
 use Rattle.exact_plane.specs.Point.{Point}
 use Rattle.plane_graphs.specs.Graph.{Edge}
-use Rattle.slab_laws.specs.Skeleton.{Skeleton, HasWeight, left_of, lower_than, run, side, below, IsPlane}
+use Rattle.slab_laws.specs.Skeleton.{Skeleton, HasWeight, left_of, lower_than, run, side, below, IsPlaneSkeleton}
 use Rattle.slab_laws.specs.Slabs.{slab_left, slab_right, reaches_left, reaches_right, place, left_cell, right_cell, left_bottom, left_top, right_top, right_bottom, forward_cell, backward_cell}
 use Rattle.slab_laws.specs.declared.slab_cell.SlabCell.{SlabCell}
 use Rattle.slab_laws.specs.Meets.{SameFace, here}
@@ -22,7 +22,7 @@ use Rattle.slab_faces.proofs.AddedUpright.{one_slab_left, one_slab_right}
 use Rattle.slab_faces.proofs.Round.{left_empty, right_empty, top_open, bottom_open}
 
 -- an edge that leaves the wall to the right at v's height begins at v
-level_at_lower : (g : Skeleton) (f : Edge) (v : Point) → IsPlane g → Contains g.edges f → Contains g.vertices v → reaches_right f v ≡ true → side f v ≡ pos 0 → f.low ≡ v
+level_at_lower : (g : Skeleton) (f : Edge) (v : Point) → IsPlaneSkeleton g → Contains g.edges f → Contains g.vertices v → reaches_right f v ≡ true → side f v ≡ pos 0 → f.low ≡ v
 level_at_lower g f v plane F in' r z =
     let a = and_parts (not (left_of v f.low)) (left_of v f.high) r in
     let a' = not-true _ a.0 in
@@ -51,14 +51,14 @@ corner g v (suc (suc (suc zero))) = right_bottom g v
 corner g v (suc (suc (suc (suc n)))) = left_bottom g v
 
 -- an edge that reaches v from the left ends there: a dart of the first kind; to the right, one of the third
-left_dart : (g : Skeleton) (v : Point) (f : Edge) → IsPlane g → Contains g.vertices v → IsAt g v (λ e. reaches_left e v) f → IsOut g v f false × (class f false ≡ 0)
+left_dart : (g : Skeleton) (v : Point) (f : Edge) → IsPlaneSkeleton g → Contains g.vertices v → IsAt g v (λ e. reaches_left e v) f → IsOut g v f false × (class f false ≡ 0)
 left_dart g v f plane in' a =
     let e = level_at g f v plane a.in' in' a.reaches a.on in
     let r = and_parts (left_of f.low v) (not (left_of f.high v)) a.reaches in
     let long : left_of f.low f.high ≡ true = subst (λ x. left_of f.low x ≡ true) (sym e) r.0 in
     (record { in' = a.in'; at = e }, ap (λ l. kind l false) long)
 
-right_dart : (g : Skeleton) (v : Point) (f : Edge) → IsPlane g → Contains g.vertices v → IsAt g v (λ e. reaches_right e v) f → IsOut g v f true × (class f true ≡ 2)
+right_dart : (g : Skeleton) (v : Point) (f : Edge) → IsPlaneSkeleton g → Contains g.vertices v → IsAt g v (λ e. reaches_right e v) f → IsOut g v f true × (class f true ≡ 2)
 right_dart g v f plane in' a =
     let e = level_at_lower g f v plane a.in' in' a.reaches a.on in
     let r = and_parts (not (left_of v f.low)) (left_of v f.high) a.reaches in
@@ -69,7 +69,7 @@ right_dart g v f plane in' a =
 abbrev IsEmpty : Skeleton → Point → ℕ → Type 0
 IsEmpty g v k = (c : Edge) (r : Bool) → IsOut g v c r → class c r ≡ k → ⊥
 
-corner_step : (g : Skeleton) (v : Point) (k : ℕ) → IsPlane g → Contains g.vertices v → k < 4 → IsEmpty g v k → SameFace g (corner g v k) (corner g v (suc k))
+corner_step : (g : Skeleton) (v : Point) (k : ℕ) → IsPlaneSkeleton g → Contains g.vertices v → k < 4 → IsEmpty g v k → SameFace g (corner g v k) (corner g v (suc k))
 corner_step g v zero plane in' l none = left_empty g v plane in' (λ f a. let d = left_dart g v f plane in' a in none f false d.0 d.1)
 corner_step g v (suc zero) plane in' l none =
     top_open g v plane in' (λ f F e u. none f true (record { in' = F; at = e }) (ap (λ l. kind l true) (subst (λ x. left_of x f.high ≡ false) (sym e) u.upper_2)))
@@ -79,7 +79,7 @@ corner_step g v (suc (suc (suc zero))) plane in' l none =
 corner_step g v (suc (suc (suc (suc n)))) plane in' l none = absurd (omega arith)
 
 -- and so along several kinds
-walk : (g : Skeleton) (v : Point) (k n : ℕ) → IsPlane g → Contains g.vertices v → k + n ≤ 4 → ((j : ℕ) → k ≤ j → j < k + n → IsEmpty g v j) → SameFace g (corner g v k) (corner g v (k + n))
+walk : (g : Skeleton) (v : Point) (k n : ℕ) → IsPlaneSkeleton g → Contains g.vertices v → k + n ≤ 4 → ((j : ℕ) → k ≤ j → j < k + n → IsEmpty g v j) → SameFace g (corner g v k) (corner g v (k + n))
 walk g v k zero plane in' l none = subst (λ j. SameFace g (corner g v k) (corner g v j)) (omega arith) (here _)
 walk g v k (suc n) plane in' l none =
     let a = walk g v k n plane in' (omega arith) (λ j x y. none j x (omega arith)) in
@@ -105,13 +105,13 @@ kind_few true false = omega arith
 kind_few false true = omega arith
 kind_few false false = omega arith
 
-pub at_upper : (g : Skeleton) (e : Edge) → IsPlane g → Contains g.edges e → left_of e.low e.high ≡ true → IsAt g e.high (λ x. reaches_left x e.high) e
+pub at_upper : (g : Skeleton) (e : Edge) → IsPlaneSkeleton g → Contains g.edges e → left_of e.low e.high ≡ true → IsAt g e.high (λ x. reaches_left x e.high) e
 at_upper g e plane E l = record { in' = E; reaches = and_from _ _ l (ap not (left_of-irrefl e.high)); on = side-upper e }
 
-pub at_lower : (g : Skeleton) (e : Edge) → IsPlane g → Contains g.edges e → left_of e.low e.high ≡ true → IsAt g e.low (λ x. reaches_right x e.low) e
+pub at_lower : (g : Skeleton) (e : Edge) → IsPlaneSkeleton g → Contains g.edges e → left_of e.low e.high ≡ true → IsAt g e.low (λ x. reaches_right x e.low) e
 at_lower g e plane E l = record { in' = E; reaches = and_from _ _ (ap not (left_of-irrefl e.low)) l; on = side-lower e }
 
-whole_upright : (g : Skeleton) (e : Edge) → IsPlane g → Contains g.edges e → left_of e.low e.high ≡ false → IsAlong g e e.low
+whole_upright : (g : Skeleton) (e : Edge) → IsPlaneSkeleton g → Contains g.edges e → left_of e.low e.high ≡ false → IsAlong g e e.low
 whole_upright g e plane E h =
     let b = plane.forward e E in
     record { plane = plane; S = E; wall = on_own_wall g e.low plane (plane.lower_in e E); upright = record { lower_1 = left_of-irrefl e.low; lower_2 = left_of-irrefl e.low; upper_1 = b; upper_2 = h }; from = lower_than-irrefl e.low; to = plane.upright e E (rw (h, b) refl) }
@@ -123,7 +123,7 @@ IsLast g v e f = (c : Edge) (r : Bool) → IsOut g v c r → class c r ≡ class
 abbrev IsFirst : Skeleton → Point → Edge → Bool → Type 0
 IsFirst g v e f = (c : Edge) (r : Bool) → IsOut g v c r → class c r ≡ class e f → Earlier c e r f → ⊥
 
-last_left : (g : Skeleton) (e : Edge) → IsPlane g → Contains g.edges e → left_of e.low e.high ≡ true → IsLast g e.high e false → SameFace g (forward_cell g e) (left_top g e.high)
+last_left : (g : Skeleton) (e : Edge) → IsPlaneSkeleton g → Contains g.edges e → left_of e.low e.high ≡ true → IsLast g e.high e false → SameFace g (forward_cell g e) (left_top g e.high)
 last_left g e plane E l none =
     let v = e.high in
     let in' = plane.upper_in e E in
@@ -133,7 +133,7 @@ last_left g e plane E l none =
     let d = left_dart g v f plane in' a in none f false d.0 (d.1 ∙ sym z) (on_left z d.1 b)) in
     subst (λ k. SameFace g (forward_cell g e) (record { slab = slab_left g v; place = k })) (sym p) (above_to_last g e plane E l)
 
-first_left : (g : Skeleton) (e : Edge) → IsPlane g → Contains g.edges e → left_of e.low e.high ≡ true → IsFirst g e.high e false → SameFace g (left_bottom g e.high) (backward_cell g e)
+first_left : (g : Skeleton) (e : Edge) → IsPlaneSkeleton g → Contains g.edges e → left_of e.low e.high ≡ true → IsFirst g e.high e false → SameFace g (left_bottom g e.high) (backward_cell g e)
 first_left g e plane E l none =
     let v = e.high in
     let in' = plane.upper_in e E in
@@ -143,7 +143,7 @@ first_left g e plane E l none =
     let d = left_dart g v f plane in' a in none f false d.0 (d.1 ∙ sym z) (on_left d.1 z b)) in
     subst (λ k. SameFace g (record { slab = slab_left g v; place = k }) (backward_cell g e)) (sym p) (face_sym g _ _ (below_to_last g e plane E l))
 
-last_right : (g : Skeleton) (e : Edge) → IsPlane g → Contains g.edges e → left_of e.low e.high ≡ true → IsLast g e.low e true → SameFace g (backward_cell g e) (right_bottom g e.low)
+last_right : (g : Skeleton) (e : Edge) → IsPlaneSkeleton g → Contains g.edges e → left_of e.low e.high ≡ true → IsLast g e.low e true → SameFace g (backward_cell g e) (right_bottom g e.low)
 last_right g e plane E l none =
     let v = e.low in
     let in' = plane.lower_in e E in
@@ -153,7 +153,7 @@ last_right g e plane E l none =
     let d = right_dart g v f plane in' a in none f true d.0 (d.1 ∙ sym z) (on_right z d.1 b)) in
     subst (λ k. SameFace g (backward_cell g e) (record { slab = slab_right g v; place = k })) (sym p) (here _)
 
-first_right : (g : Skeleton) (e : Edge) → IsPlane g → Contains g.edges e → left_of e.low e.high ≡ true → IsFirst g e.low e true → SameFace g (right_top g e.low) (forward_cell g e)
+first_right : (g : Skeleton) (e : Edge) → IsPlaneSkeleton g → Contains g.edges e → left_of e.low e.high ≡ true → IsFirst g e.low e true → SameFace g (right_top g e.low) (forward_cell g e)
 first_right g e plane E l none =
     let v = e.low in
     let in' = plane.lower_in e E in
@@ -163,45 +163,45 @@ first_right g e plane E l none =
     let d = right_dart g v f plane in' a in none f true d.0 (d.1 ∙ sym z) (on_right d.1 z b)) in
     subst (λ k. SameFace g (record { slab = slab_right g v; place = k }) (forward_cell g e)) (sym p) (here _)
 
-down_left : (g : Skeleton) (e : Edge) → IsPlane g → Contains g.edges e → left_of e.low e.high ≡ false → left_cell g e.low ≡ left_bottom g e.high
+down_left : (g : Skeleton) (e : Edge) → IsPlaneSkeleton g → Contains g.edges e → left_of e.low e.high ≡ false → left_cell g e.low ≡ left_bottom g e.high
 down_left g e plane E h =
     let p = plane.proper_edge e E in
     let s = one_slab_left g e.low e.high plane.proper p.0 p.1 h (plane.forward e E) in
     let k = along_left g e e.low (whole_upright g e plane E h) in
     λ i. record { slab = s i; place = k i }
 
-down_right : (g : Skeleton) (e : Edge) → IsPlane g → Contains g.edges e → left_of e.low e.high ≡ false → right_cell g e.low ≡ right_bottom g e.high
+down_right : (g : Skeleton) (e : Edge) → IsPlaneSkeleton g → Contains g.edges e → left_of e.low e.high ≡ false → right_cell g e.low ≡ right_bottom g e.high
 down_right g e plane E h =
     let p = plane.proper_edge e E in
     let s = one_slab_right g e.low e.high plane.proper p.0 p.1 h (plane.forward e E) in
     let k = along_right g e e.low (whole_upright g e plane E h) in
     λ i. record { slab = s i; place = k i }
 
-last_in : (g : Skeleton) (e : Edge) (f l : Bool) → IsPlane g → Contains g.edges e → left_of e.low e.high ≡ l → IsLast g (start e f) e f → SameFace g (cell_by g e l (not f)) (corner g (start e f) (suc (kind l f)))
+last_in : (g : Skeleton) (e : Edge) (f l : Bool) → IsPlaneSkeleton g → Contains g.edges e → left_of e.low e.high ≡ l → IsLast g (start e f) e f → SameFace g (cell_by g e l (not f)) (corner g (start e f) (suc (kind l f)))
 last_in g e false true plane E q none = last_left g e plane E q none
 last_in g e true false plane E q none = here _
 last_in g e true true plane E q none = last_right g e plane E q none
 last_in g e false false plane E q none = subst (λ c. SameFace g (left_cell g e.low) c) (down_left g e plane E q) (here _)
 
-first_in : (g : Skeleton) (e : Edge) (f l : Bool) → IsPlane g → Contains g.edges e → left_of e.low e.high ≡ l → IsFirst g (start e f) e f → SameFace g (corner g (start e f) (kind l f)) (cell_by g e l f)
+first_in : (g : Skeleton) (e : Edge) (f l : Bool) → IsPlaneSkeleton g → Contains g.edges e → left_of e.low e.high ≡ l → IsFirst g (start e f) e f → SameFace g (corner g (start e f) (kind l f)) (cell_by g e l f)
 first_in g e false true plane E q none = first_left g e plane E q none
 first_in g e true false plane E q none = here _
 first_in g e true true plane E q none = first_right g e plane E q none
 first_in g e false false plane E q none = subst (λ c. SameFace g c (right_cell g e.low)) (down_right g e plane E q) (here _)
 
-leaves : (g : Skeleton) (v : Point) (e : Edge) (f : Bool) → IsPlane g → IsOut g v e f → IsLast g v e f → SameFace g (cell_of g e (not f)) (corner g v (suc (class e f)))
+leaves : (g : Skeleton) (v : Point) (e : Edge) (f : Bool) → IsPlaneSkeleton g → IsOut g v e f → IsLast g v e f → SameFace g (cell_of g e (not f)) (corner g v (suc (class e f)))
 leaves g v e f plane o none =
     let P : Point → Type 0 = λ u. IsLast g u e f → SameFace g (cell_of g e (not f)) (corner g u (suc (class e f))) in
     let a : P (start e f) = λ none. last_in g e f (left_of e.low e.high) plane o.in' refl none in
     subst P o.at a none
 
-enters : (g : Skeleton) (v : Point) (e : Edge) (f : Bool) → IsPlane g → IsOut g v e f → IsFirst g v e f → SameFace g (corner g v (class e f)) (cell_of g e f)
+enters : (g : Skeleton) (v : Point) (e : Edge) (f : Bool) → IsPlaneSkeleton g → IsOut g v e f → IsFirst g v e f → SameFace g (corner g v (class e f)) (cell_of g e f)
 enters g v e f plane o none =
     let P : Point → Type 0 = λ u. IsFirst g u e f → SameFace g (corner g u (class e f)) (cell_of g e f) in
     let a : P (start e f) = λ none. first_in g e f (left_of e.low e.high) plane o.in' refl none in
     subst P o.at a none
 
-is_vertex : (g : Skeleton) (v : Point) (e : Edge) (f : Bool) → IsPlane g → IsOut g v e f → Contains g.vertices v
+is_vertex : (g : Skeleton) (v : Point) (e : Edge) (f : Bool) → IsPlaneSkeleton g → IsOut g v e f → Contains g.vertices v
 is_vertex g v e f plane o = subst (Contains g.vertices) o.at (ends f)
   where
     ends : (f : Bool) → Contains g.vertices (start e f)
@@ -212,7 +212,7 @@ is_vertex g v e f plane o = subst (Contains g.vertices) o.at (ends f)
 abbrev IsAdjacent : Skeleton → Point → Edge → Edge → Bool → Bool → Type 0
 IsAdjacent g v d e p q = (c : Edge) (r : Bool) → IsOut g v c r → Earlier d c p r → Earlier c e r q → ⊥
 
-pair_left : (g : Skeleton) (d e : Edge) → IsPlane g → Contains g.edges d → Contains g.edges e → left_of d.low d.high ≡ true → left_of e.low e.high ≡ true → e.high ≡ d.high → below d e ≡ true → IsAdjacent g d.high d e false false → SameFace g (forward_cell g d) (backward_cell g e)
+pair_left : (g : Skeleton) (d e : Edge) → IsPlaneSkeleton g → Contains g.edges d → Contains g.edges e → left_of d.low d.high ≡ true → left_of e.low e.high ≡ true → e.high ≡ d.high → below d e ≡ true → IsAdjacent g d.high d e false false → SameFace g (forward_cell g d) (backward_cell g e)
 pair_left g d e plane D E l l' u b none =
     let v = d.high in
     let in' = plane.upper_in d D in
@@ -227,7 +227,7 @@ pair_left g d e plane D E l l' u b none =
     let t' = subst (λ k. SameFace g (backward_cell g e) (record { slab = slab_left g v; place = k })) p t in
     face_trans g _ _ _ s (face_sym g _ _ t')
 
-pair_right : (g : Skeleton) (d e : Edge) → IsPlane g → Contains g.edges d → Contains g.edges e → left_of d.low d.high ≡ true → left_of e.low e.high ≡ true → e.low ≡ d.low → below e d ≡ true → IsAdjacent g d.low d e true true → SameFace g (backward_cell g d) (forward_cell g e)
+pair_right : (g : Skeleton) (d e : Edge) → IsPlaneSkeleton g → Contains g.edges d → Contains g.edges e → left_of d.low d.high ≡ true → left_of e.low e.high ≡ true → e.low ≡ d.low → below e d ≡ true → IsAdjacent g d.low d e true true → SameFace g (backward_cell g d) (forward_cell g e)
 pair_right g d e plane D E l l' u b none =
     let v = d.low in
     let in' = plane.lower_in d D in
@@ -248,13 +248,13 @@ cells_right : (g : Skeleton) (d e : Edge) (p q l l' : Bool) → l ≡ true → l
 cells_right g d e p q l l' a b c x s = rw (a, b, c, x) s
 
 -- ---- from class to class
-between_kinds : (g : Skeleton) (v : Point) (k n : ℕ) → IsPlane g → Contains g.vertices v → k ≤ n → n ≤ 4 → ((j : ℕ) → k ≤ j → j < n → IsEmpty g v j) → SameFace g (corner g v k) (corner g v n)
+between_kinds : (g : Skeleton) (v : Point) (k n : ℕ) → IsPlaneSkeleton g → Contains g.vertices v → k ≤ n → n ≤ 4 → ((j : ℕ) → k ≤ j → j < n → IsEmpty g v j) → SameFace g (corner g v k) (corner g v n)
 between_kinds g v k n plane in' l m none =
     let e : k + (n - k) ≡ n = omega arith in
     subst (λ j. SameFace g (corner g v k) (corner g v j)) e (walk g v k (n - k) plane in' (omega arith) (λ j x y. none j x (omega arith)))
 
 -- the dart (e, q) out of v follows (d, p) clockwise: it has the face of the dart that comes in along (d, p)
-pub turn_keeps : (g : Skeleton) (v : Point) (d e : Edge) (p q : Bool) → IsPlane g → IsOut g v d p → IsOut g v e q → IsTurn g v d e p q → SameFace g (cell_of g d (not p)) (cell_of g e q)
+pub turn_keeps : (g : Skeleton) (v : Point) (d e : Edge) (p q : Bool) → IsPlaneSkeleton g → IsOut g v d p → IsOut g v e q → IsTurn g v d e p q → SameFace g (cell_of g d (not p)) (cell_of g e q)
 turn_keeps g v d e p q plane o o' (on (by_class l) none) =
     let in' = is_vertex g v d p plane o in
     let a = leaves g v d p plane o (λ c r k s x. none c r k x (by_class (omega arith))) in

@@ -6,7 +6,7 @@ use Rattle.std.proofs.lemmas.Bool.{false≢true, and_parts, and_from}
 use Rattle.slab_laws.specs.Darts.{ahead, back, start, IsOut, IsTurn, on, round, cell_of}
 use Rattle.exact_plane.specs.Point.{Point}
 use Rattle.plane_graphs.specs.Graph.{Edge}
-use Rattle.slab_laws.specs.Skeleton.{Skeleton, same_point, same_edge, IsPlane}
+use Rattle.slab_laws.specs.Skeleton.{Skeleton, same_point, same_edge, IsPlaneSkeleton}
 use Rattle.slab_laws.specs.Meets.{SameFace}
 use Rattle.slab_faces.proofs.Parity.{same_point_is, same_point_refl}
 use Rattle.slab_faces.proofs.Slabs.{same_edge_is, same_edge_refl}
@@ -86,7 +86,7 @@ module _ (P : Dart → Type 0) (o : IsRound earlier P) where
           ]
 
 -- ---- the ring of a vertex
-module _ (g : Skeleton) (v : Point) (plane : IsPlane g) (in' : Contains g.vertices v) where
+module _ (g : Skeleton) (v : Point) (plane : IsPlaneSkeleton g) (in' : Contains g.vertices v) where
   pub o : IsRound earlier (OutOf g v)
   o = round_at g v plane in'
 
@@ -151,7 +151,7 @@ module _ (g : Skeleton) (v : Point) (plane : IsPlane g) (in' : Contains g.vertic
   one_before d d' e m m' (first l k f) (first l' k' f') = one_last earlier (OutOf g v) o (ring (darts g) v) d d' ring_all m m' l l'
 
 -- ---- next
-pub start_in : (g : Skeleton) (e : Edge) (f : Bool) → IsPlane g → Contains g.edges e → Contains g.vertices (start e f)
+pub start_in : (g : Skeleton) (e : Edge) (f : Bool) → IsPlaneSkeleton g → Contains g.edges e → Contains g.vertices (start e f)
 start_in g e true plane E = plane.lower_in e E
 start_in g e false plane E = plane.upper_in e E
 
@@ -159,18 +159,18 @@ twice : (b : Bool) → not (not b) ≡ b
 twice true = refl
 twice false = refl
 
-twin_in : (g : Skeleton) (d : Dart) → IsPlane g → (E : Contains g.edges d.edge) → Member (ring (darts g) (target d)) (twin d)
+twin_in : (g : Skeleton) (d : Dart) → IsPlaneSkeleton g → (E : Contains g.edges d.edge) → Member (ring (darts g) (target d)) (twin d)
 twin_in g d plane E = ring_in g (target d) plane (start_in g d.edge (not d.forward) plane E) d.edge (not d.forward) (record { in' = E; at = refl })
 
-pub next_follows : (g : Skeleton) (d : Dart) → (plane : IsPlane g) → (E : Contains g.edges d.edge) → Follows g (target d) plane (start_in g d.edge (not d.forward) plane E) (twin d) (next (darts g) d)
+pub next_follows : (g : Skeleton) (d : Dart) → (plane : IsPlaneSkeleton g) → (E : Contains g.edges d.edge) → Follows g (target d) plane (start_in g d.edge (not d.forward) plane E) (twin d) (next (darts g) d)
 unfolding next
 next_follows g d plane E = after_follows g (target d) plane (start_in g d.edge (not d.forward) plane E) (twin d) (twin_in g d plane E)
 
-pub next_from : (g : Skeleton) (d : Dart) → IsPlane g → Contains g.edges d.edge → IsOut g (target d) (next (darts g) d).edge (next (darts g) d).forward
+pub next_from : (g : Skeleton) (d : Dart) → IsPlaneSkeleton g → Contains g.edges d.edge → IsOut g (target d) (next (darts g) d).edge (next (darts g) d).forward
 next_from g d plane E = follower_out g (target d) plane (start_in g d.edge (not d.forward) plane E) (twin d) (next (darts g) d) (next_follows g d plane E)
 
 -- the next dart has the face
-pub next_keeps_face : (g : Skeleton) (d : Dart) → IsPlane g → Contains g.edges d.edge → SameFace g (cell_of g d.edge d.forward) (cell_of g (next (darts g) d).edge (next (darts g) d).forward)
+pub next_keeps_face : (g : Skeleton) (d : Dart) → IsPlaneSkeleton g → Contains g.edges d.edge → SameFace g (cell_of g d.edge d.forward) (cell_of g (next (darts g) d).edge (next (darts g) d).forward)
 next_keeps_face g d plane E =
     let V = start_in g d.edge (not d.forward) plane E in
     let k = turn_keeps g (target d) d.edge (next (darts g) d).edge (not d.forward) (next (darts g) d).forward plane (record { in' = E; at = refl }) (next_from g d plane E) (turn_of g (target d) plane V (twin d) (next (darts g) d) (next_follows g d plane E)) in
@@ -180,7 +180,7 @@ next_is : (g : Skeleton) (d : Dart) → next (darts g) d ≡ after (twin d) (rin
 unfolding next
 next_is g d = refl
 
-pub next_one : (g : Skeleton) (d d' : Dart) → IsPlane g → Contains g.edges d.edge → Contains g.edges d'.edge → next (darts g) d ≡ next (darts g) d' → d ≡ d'
+pub next_one : (g : Skeleton) (d d' : Dart) → IsPlaneSkeleton g → Contains g.edges d.edge → Contains g.edges d'.edge → next (darts g) d ≡ next (darts g) d' → d ≡ d'
 next_one g d d' plane E E' e =
     let V = start_in g d.edge (not d.forward) plane E in
     let f = next_from g d plane E in

@@ -6,7 +6,7 @@ use Rattle.std.proofs.lemmas.Int.{ints}
 use Rattle.std.proofs.lemmas.List.Sums.{get_or-le-sum_by}
 use borrow.Author.Differences.{up}
 use Rattle.exact_plane.specs.Point.{Point}
-use Rattle.slab_laws.specs.Skeleton.{Skeleton, HasWeight, left_of, IsPlane}
+use Rattle.slab_laws.specs.Skeleton.{Skeleton, HasWeight, left_of, IsPlaneSkeleton}
 use Rattle.slab_laws.specs.Meets.{IsOnWall}
 use Rattle.slab_laws.specs.Slabs.{slab_left, slab_right}
 use Rattle.slab_faces.proofs.Ints.{as_dif, dif_add, dif_sub, dif_mul, dif_same, pos_dif, times_up, times_at_most}
@@ -123,7 +123,7 @@ other_test false b c f h k = sym (k refl)
 both : (a b c d : Bool) → a ≡ c → b ≡ d → (a && b) ≡ (c && d)
 both a b c d e f = rw (e, f) refl
 
-pub is_slab_left : (g : Skeleton) (t : Point) → IsPlane g → IsOnWall g t → IsSlab g (slab_left g t) (left_inside g t)
+pub is_slab_left : (g : Skeleton) (t : Point) → IsPlaneSkeleton g → IsOnWall g t → IsSlab g (slab_left g t) (left_inside g t)
 unfolding left_inside
 is_slab_left g t plane wall = record {
   proper = moved_proper (fine g) _ _ t (fine_up g) wall.proper;
@@ -140,7 +140,7 @@ is_slab_left g t plane wall = record {
       (other_test (left_of q t) (left_of M q) (left_of q M) (λ h. before_left _ _ t q (fine_up g) (fine_over g q inq) h) (λ h. left_of-asym q M h) (λ h. after_left _ _ t q (fine_up g) Q h));
 }
 
-pub is_slab_right : (g : Skeleton) (t : Point) → IsPlane g → IsOnWall g t → IsSlab g (slab_right g t) (right_inside g t)
+pub is_slab_right : (g : Skeleton) (t : Point) → IsPlaneSkeleton g → IsOnWall g t → IsSlab g (slab_right g t) (right_inside g t)
 unfolding right_inside
 is_slab_right g t plane wall = record {
   proper = moved_proper (fine g) _ _ t (fine_up g) wall.proper;

@@ -8,7 +8,7 @@ use lib.IntN.{*ℤ-zero}
 use lib.Signed.{lt_z}
 use Rattle.exact_plane.specs.Point.{Point}
 use Rattle.plane_graphs.specs.Graph.{Edge}
-use Rattle.slab_laws.specs.Skeleton.{Skeleton, HasWeight, left_of, lower_than, on_wall, run, side, gap, precedes, inside, IsPlane}
+use Rattle.slab_laws.specs.Skeleton.{Skeleton, HasWeight, left_of, lower_than, on_wall, run, side, gap, precedes, inside, IsPlaneSkeleton}
 use Rattle.slab_laws.specs.Meets.{IsOnWall, covers_above}
 use Rattle.slab_faces.specs.LocationLaws.{OneEdgeAtMost}
 use Rattle.slab_faces.proofs.Walls.{left_of-before, left_of-after, lower_than-asym, lower_than-before, run_positive, side-lower, side-upper}
@@ -69,7 +69,7 @@ no_gap : (f e : Edge) (q : Point) → side f q ≡ pos 0 → side e q ≡ pos 0 
 unfolding gap
 no_gap f e q a b = let k = *ℤ-zero (run e) in let l = *ℤ-zero (run f) in rw (a, b, k, l) refl
 
-module _ (g : Skeleton) (q : Point) (plane : IsPlane g) (Q : HasWeight q) where
+module _ (g : Skeleton) (q : Point) (plane : IsPlaneSkeleton g) (Q : HasWeight q) where
   -- one passes, the other is vertical
   crossing : (e f : Edge) → Contains g.edges e → Contains g.edges f → side e q ≡ pos 0 → IsThrough e q → IsUpright f q → lower_than f.low q ≡ true → lower_than q f.high ≡ true → ⊥
   crossing e f E F z th u l k =

@@ -8,7 +8,7 @@ use lib.IntN.{*ℤ-zero}
 use lib.Signed.{lt_z}
 use Rattle.exact_plane.specs.Point.{Point}
 use Rattle.plane_graphs.specs.Graph.{Edge}
-use Rattle.slab_laws.specs.Skeleton.{Skeleton, HasWeight, left_of, run, side, over, in_range, gap, higher_at, below, crosses, IsPlane}
+use Rattle.slab_laws.specs.Skeleton.{Skeleton, HasWeight, left_of, run, side, over, in_range, gap, higher_at, below, crosses, IsPlaneSkeleton}
 use Rattle.slab_faces.proofs.Ints.{as_dif, dif_add, dif_sub, dif_mul, dif_same, times_up, times_less, times_at_most, less_back, mean_up, mean_first, mean_last}
 use Rattle.slab_faces.proofs.Walls.{left_of-irrefl, left_of-asym, left_of-before, left_of-after, run_positive, side-upper, side-lower}
 
@@ -131,7 +131,7 @@ at_point f e u P h =
     let d = and_parts (not (left_of u e.low)) (not (left_of e.high u)) b.1 in
     record { proper = P; f_from = not-true _ c.0; f_to = not-true _ c.1; e_from = not-true _ d.0; e_to = not-true _ d.1; gap_up = omega (arith, ints, a.1) }
 
-pub witness : (g : Skeleton) (f e : Edge) → IsPlane g → Contains g.edges f → Contains g.edges e → below f e ≡ true → (u : Point) × IsHigherAt f e u
+pub witness : (g : Skeleton) (f e : Edge) → IsPlaneSkeleton g → Contains g.edges f → Contains g.edges e → below f e ≡ true → (u : Point) × IsHigherAt f e u
 witness g f e plane F E h =
     let p = plane.proper_edge f F in
     let q = plane.proper_edge e E in
@@ -207,7 +207,7 @@ gap_level f e u v U V a b h k =
     let z = *ℤ-zero u.w in
     omega (arith, ints)
 
-pub below_asym : (g : Skeleton) (f e : Edge) → IsPlane g → Contains g.edges f → Contains g.edges e → below f e ≡ true → below e f ≡ true → ⊥
+pub below_asym : (g : Skeleton) (f e : Edge) → IsPlaneSkeleton g → Contains g.edges f → Contains g.edges e → below f e ≡ true → below e f ≡ true → ⊥
 below_asym g f e plane F E h k =
     let w = witness g f e plane F E h in
     let w' = witness g e f plane E F k in

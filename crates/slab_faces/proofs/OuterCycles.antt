@@ -1,29 +1,20 @@
 -- How many outer cycles a face has.
-use Rattle.std.proofs.Common.{◌≡◌, ℕ, ◌+◌, Bool, true, false, cond, arith, refl, sym, ap, ap₂, ◌∙◌, subst, List, map}
+use Rattle.std.proofs.Common.{◌≡◌, ℕ, ◌+◌, Bool, true, false, cond, arith, refl, sym, ap, ap₂, ◌∙◌, subst, List}
 use Rattle.std.specs.Prelude.{◌&&◌, ◌==◌, ◌%◌}
 use Rattle.std.specs.List.{Contains, count_by, sum_by, filter}
-use Rattle.std.specs.Cmp.{IsTotalOrder}
-use Rattle.std.specs.Ordering.{ordering_then}
-use Rattle.std.specs.declared.cmp.Ordering.{Ordering}
-use Rattle.std.specs.declared.cmp.Ordering.TheVariants.{Less, Equal, Greater}
-use Rattle.std.proofs.lemmas.Cmp.{then_total, on_total}
 use Rattle.std.proofs.lemmas.Bool.{eqb-true, eqb-false}
 use lib.Dec.{leb}
-use Rattle.exact_plane.specs.Point.{Point}
-use Rattle.exact_plane.specs.PointOrder.{point_cmp}
-use Rattle.exact_plane.specs.PointOrderLaws.{point_cmp_total, same_point}
 use Rattle.plane_graphs.specs.Ascending.{IsAscending, Member as In}
 use Rattle.plane_graphs.specs.Graph.{Edge}
 use Rattle.plane_graphs.proofs.Ascending.{IsAscending-ascending, ascending-Member, to_member, from_member}
 use Rattle.slab_laws.specs.declared.slab_cell.SlabCell.{SlabCell}
-use Rattle.std.proofs.lemmas.Int.{ints}
-use Rattle.slab_laws.specs.Skeleton.{Skeleton, left_of, lower_than, on_wall, IsPlane}
+use Rattle.slab_laws.specs.Skeleton.{Skeleton, left_of, IsPlaneSkeleton}
 use Rattle.slab_laws.specs.Slabs.{spans, place, top_cell, forward_cell, backward_cell}
 use Rattle.slab_laws.specs.Weights.{Even, weight_above, IsEvenAtVertices}
 use Rattle.slab_laws.specs.Meets.{SameFace}
 use Rattle.slab_laws.specs.Changes.{IsFaceSet}
-use Rattle.slab_laws.specs.Darts.{Dart, darts, source, target, cell_of, ahead, back}
-use Rattle.slab_laws.specs.Rotation.{next, same_dart, dart_below, dart_cmp}
+use Rattle.slab_laws.specs.Darts.{Dart, darts, cell_of, ahead, back}
+use Rattle.slab_laws.specs.Rotation.{next, same_dart, dart_cmp}
 use Rattle.slab_laws.specs.Classes.{class_of}
 use Rattle.slab_laws.specs.Cycles.{dart_labels, darts_on, leads, odd, left_of_dart}
 use Rattle.slab_laws.specs.Faces.{face_labels, face_of, same_cell}
@@ -31,12 +22,12 @@ use Rattle.slab_laws.specs.Subdivision.{cycle, cycles, subdivision}
 use Rattle.slab_faces.specs.CycleLaws.{bounds, OuterCyclesOfFaces}
 use Rattle.slab_faces.proofs.Sums.{each, even_sum, sum_by-same, sum_by-plus, sum_by-swap, cond-sum_by, sum_by-once}
 use Rattle.slab_faces.proofs.Shift.{sum_by-map, handshake}
-use Rattle.slab_laws.specs.declared.classes.Link.{Link}
-use Rattle.slab_faces.proofs.Member.{member_in, in_member, filter_in, filter_out, map_out, Member}
-use Rattle.slab_faces.proofs.ClassesLemmas.{connected, IsEquivalence}
+use Rattle.slab_faces.proofs.Member.{member_in, in_member, filter_in, filter_out, Member}
+use Rattle.slab_faces.proofs.ClassesLemmas.{IsEquivalence}
 use Rattle.slab_faces.proofs.FacesLemmas.{cells_exact, one_label, one_face}
 use Rattle.slab_faces.proofs.NextLemmas.{darts_exact, dart_out, dart_in, next_keeps_face, next_from}
-use Rattle.slab_faces.proofs.CyclesLemmas.{is_set, one_to_one, one_cycle, cycle_parity}
+use Rattle.slab_faces.proofs.CyclesLemmas.{is_set, one_to_one, cycle_parity}
+use Rattle.slab_faces.proofs.DartOrder.{dart_cmp_total, tied_edges, along, lead_lead}
 use Rattle.slab_faces.proofs.Outside.{good_forward, good_backward}
 use Rattle.slab_faces.proofs.PlaneGraphs.{once}
 
@@ -69,46 +60,29 @@ weights g a m xs i j =
     (each (λ x. cond (a x) (cond (spans g i e && leb j (place g i e)) (m x e) 0) 0 ≡ cond (spans g i e && leb j (place g i e)) (cond (a x) (m x e) 0) 0) xs (λ x _. cond_turn (a x) (spans g i e && leb j (place g i e)) (m x e)))
     ∙ sym (cond-sum_by (spans g i e && leb j (place g i e)) (λ x. cond (a x) (m x e) 0) xs)))
 
--- ---- the order of darts
-abbrev dart_of : Edge → Bool → Dart
-dart_of e f = record { edge = e; forward = f }
-
-dart_cmp_total : IsTotalOrder dart_cmp
-dart_cmp_total = then_total (on_total source point_cmp_total) (on_total target point_cmp_total)
-
-then_both : (r s : Ordering) → ordering_then r s ≡ Equal → (r ≡ Equal) × (s ≡ Equal)
-then_both Less s e = cc
-then_both Equal s e = (refl, e)
-then_both Greater s e = cc
-
-module _ (g : Skeleton) (plane : IsPlane g) where
+-- ---- the cycles of a plane skeleton
+module _ (g : Skeleton) (plane : IsPlaneSkeleton g) where
   ds : List Dart
   ds = darts g
 
   label : Dart → Dart
   label d = class_of same_dart (dart_labels (darts g)) d
 
-  -- what holds along next holds from a dart to the least one of its cycle
-  along : (R : Dart → Dart → Type 0) → IsEquivalence R → ((d : Dart) → Member (darts g) d → R d (next (darts g) d)) → (d : Dart) → R d (label d)
-  unfolding dart_labels label
-  along R q step d = connected same_dart dart_below darts_exact R q (map (λ d. record { one = d; other = next (darts g) d }) (darts g)) (λ m h. go m (map_out (λ d. record { one = d; other = next (darts g) d }) (darts g) m h)) d
-    where
-      go : (m : Link Dart) → ((d : Dart) × Member (darts g) d × (record { one = d; other = next (darts g) d } ≡ m)) → R m.one m.other
-      go m w = subst (λ k. R k.one k.other) w.2 (step w.0 w.1)
-
   -- the label of a dart has its own label
   label_label : (d : Dart) → label (label d) ≡ label d
   unfolding label
-  label_label d = sym (along (λ x y. label x ≡ label y) (record { itself = λ x. refl; back = λ x y h. sym h; on = λ x y z h k. h ∙ k }) (λ x h. one_cycle g x h) d)
+  label_label d = lead_lead g d
 
   -- it is a dart of the skeleton
   label_in : (d : Dart) → Member (darts g) d → Member (darts g) (label d)
-  label_in d h = (along (λ x y. (Member (darts g) x → Member (darts g) y) × (Member (darts g) y → Member (darts g) x)) (record { itself = λ x. (λ k. k, λ k. k); back = λ x y k. (k.1, k.0); on = λ x y z k l. (λ m. l.0 (k.0 m), λ m. k.1 (l.1 m)) })
+  unfolding label
+  label_in d h = (along g (λ x y. (Member (darts g) x → Member (darts g) y) × (Member (darts g) y → Member (darts g) x)) (record { itself = λ x. (λ k. k, λ k. k); back = λ x y k. (k.1, k.0); on = λ x y z k l. (λ m. l.0 (k.0 m), λ m. k.1 (l.1 m)) })
       (λ x k. (λ _. in_member (darts g) _ ((one_to_one g plane).inside x (member_in (darts g) x k)), λ _. k)) d).0 h
 
   -- and has the dart's face
   label_face : (d : Dart) → Member (darts g) d → face_of (face_labels g) (left_of_dart g (label d)) ≡ face_of (face_labels g) (left_of_dart g d)
-  label_face d h = sym ((along (λ x y. (Member (darts g) x → Member (darts g) y) × (Member (darts g) y → Member (darts g) x) × (Member (darts g) x → face_of (face_labels g) (left_of_dart g x) ≡ face_of (face_labels g) (left_of_dart g y))) q step d).2 h)
+  unfolding label
+  label_face d h = sym ((along g (λ x y. (Member (darts g) x → Member (darts g) y) × (Member (darts g) y → Member (darts g) x) × (Member (darts g) x → face_of (face_labels g) (left_of_dart g x) ≡ face_of (face_labels g) (left_of_dart g y))) q step d).2 h)
     where
       R : Dart → Dart → Type 0
       R x y = (Member (darts g) x → Member (darts g) y) × (Member (darts g) y → Member (darts g) x) × (Member (darts g) x → face_of (face_labels g) (left_of_dart g x) ≡ face_of (face_labels g) (left_of_dart g y))
@@ -121,30 +95,6 @@ module _ (g : Skeleton) (plane : IsPlane g) where
 
   lead_list : List Dart
   lead_list = leads (darts g) (dart_labels (darts g))
-
-  lower_both : (p q : Point) → lower_than p q ≡ true → lower_than q p ≡ true → ⊥
-  unfolding lower_than
-  lower_both p q h k = omega (arith, ints)
-
-  -- two darts from one point to another are one
-  opposite : (d e : Edge) → Contains g.edges d → Contains g.edges e → d.low ≡ e.high → d.high ≡ e.low → ⊥
-  opposite d e D E a b =
-      let left : left_of d.low d.high ≡ false = subst (λ z. left_of z d.high ≡ false) (sym a) (subst (λ z. left_of e.high z ≡ false) (sym b) (plane.forward e E)) in
-      let right : left_of d.high d.low ≡ false = plane.forward d D in
-      let up : lower_than d.low d.high ≡ true = plane.upright d D (rw (left, right) refl) in
-      let down : lower_than e.low e.high ≡ true = plane.upright e E (subst (λ z. on_wall z e.high ≡ true) b (subst (λ z. on_wall d.high z ≡ true) a (rw (left, right) refl))) in
-      lower_both d.low d.high up (subst (λ z. lower_than z d.low ≡ true) (sym b) (subst (λ z. lower_than e.low z ≡ true) (sym a) down))
-
-  one_dart : (d e : Edge) (p q : Bool) → Contains g.edges d → Contains g.edges e → source (dart_of d p) ≡ source (dart_of e q) → target (dart_of d p) ≡ target (dart_of e q) → dart_of d p ≡ dart_of e q
-  one_dart d e true true D E a b = λ i. record { edge = record { low = a i; high = b i }; forward = true }
-  one_dart d e false false D E a b = λ i. record { edge = record { low = b i; high = a i }; forward = false }
-  one_dart d e true false D E a b = absurd (opposite d e D E a b)
-  one_dart d e false true D E a b = absurd (opposite d e D E b a)
-
-  exact : (x y : Dart) → Member (darts g) x → Member (darts g) y → dart_cmp x y ≡ Equal → x ≡ y
-  exact x y h k e =
-      let t = then_both (point_cmp (source x) (source y)) (point_cmp (target x) (target y)) e in
-      one_dart x.edge y.edge x.forward y.forward (dart_out g x h) (dart_out g y k) (same_point (source x) (source y) t.0) (same_point (target x) (target y) t.1)
 
   is_lead : Dart → Bool
   is_lead d = same_dart d (class_of same_dart (dart_labels (darts g)) d)
@@ -159,7 +109,7 @@ module _ (g : Skeleton) (plane : IsPlane g) where
   lead_there : (d : Dart) → Member (darts g) d → In (label d) lead_list
   unfolding leads lead_list label is_lead
   lead_there d h =
-      ascending-Member dart_cmp dart_cmp_total (label d) (filter is_lead (darts g)) (λ x y a b e. exact x y (of_leads x a) (of_leads y b) e)
+      ascending-Member dart_cmp dart_cmp_total (label d) (filter is_lead (darts g)) (λ x y a b e. tied_edges g plane x y (dart_out g x (of_leads x a)) (dart_out g y (of_leads y b)) e)
       (to_member (filter is_lead (darts g)) (label d) (member_in (filter is_lead (darts g)) (label d) (filter_in is_lead (darts g) (label d) (label_in d h) (subst (λ z. same_dart (label d) z ≡ true) (sym (label_label d)) (darts_exact.itself (label d))))))
 
   lead_once : (d : Dart) → Member (darts g) d → count_by (same_dart (label d)) lead_list ≡ 1

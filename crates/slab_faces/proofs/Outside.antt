@@ -8,7 +8,7 @@ use borrow.Author.Differences.{up}
 use lib.Dec.{leb}
 use Rattle.exact_plane.specs.Point.{Point}
 use Rattle.plane_graphs.specs.Graph.{Edge}
-use Rattle.slab_laws.specs.Skeleton.{Skeleton, HasWeight, left_of, lower_than, run, side, over, below, same_edge, IsPlane}
+use Rattle.slab_laws.specs.Skeleton.{Skeleton, HasWeight, left_of, lower_than, run, side, over, below, same_edge, IsPlaneSkeleton}
 use Rattle.slab_laws.specs.Slabs.{spans, place, slab_left, slab_right, left_count, right_count, reaches_left, reaches_right, forward_cell, backward_cell, width, top_cell}
 use Rattle.slab_laws.specs.Weights.{weight_above, Even, IsEvenAtVertices}
 use Rattle.slab_laws.specs.Meets.{IsOnWall, IsOpenAbove, Meets, SameFace, across, here, right}
@@ -95,7 +95,7 @@ all_reach g t i reach s r =
     drop true o h = ap not (h refl)
     drop false o h = refl
 
-pub top_meets : (g : Skeleton) (t : Point) → IsPlane g → IsOnWall g t → SameFace g (top_cell g (slab_left g t)) (top_cell g (slab_right g t))
+pub top_meets : (g : Skeleton) (t : Point) → IsPlaneSkeleton g → IsOnWall g t → SameFace g (top_cell g (slab_left g t)) (top_cell g (slab_right g t))
 unfolding high left_of top_cell
 top_meets g t plane wall =
     let u = high g t in
@@ -107,7 +107,7 @@ top_meets g t plane wall =
     right _ _ _ (here _) (subst (λ (p : ℕ × ℕ). Meets g (record { slab = slab_left g t; place = p.0 }) (record { slab = slab_right g t; place = p.1 })) (λ i. (a i, b i)) m)
 
 -- all in one face
-top_step : (g : Skeleton) (w : Point) → IsPlane g → Contains g.vertices w → ((x : Point) → Contains g.vertices x → slab_right g x < slab_right g w → SameFace g (top_cell g 0) (top_cell g (slab_right g x))) → SameFace g (top_cell g 0) (top_cell g (slab_right g w))
+top_step : (g : Skeleton) (w : Point) → IsPlaneSkeleton g → Contains g.vertices w → ((x : Point) → Contains g.vertices x → slab_right g x < slab_right g w → SameFace g (top_cell g 0) (top_cell g (slab_right g x))) → SameFace g (top_cell g 0) (top_cell g (slab_right g w))
 top_step g w plane in' before =
     let s = top_meets g w plane (on_own_wall g w plane in') in
     let W = plane.proper w in' in
@@ -122,11 +122,11 @@ top_step g w plane in' before =
           face_trans g _ _ _ (subst (λ n. SameFace g (top_cell g 0) (top_cell g n)) (sym k.next) (before r.0 k.is_vertex less)) s
     ]
 
-top_all : (g : Skeleton) (n : ℕ) (w : Point) → IsPlane g → Contains g.vertices w → slab_right g w ≤ n → SameFace g (top_cell g 0) (top_cell g (slab_right g w))
+top_all : (g : Skeleton) (n : ℕ) (w : Point) → IsPlaneSkeleton g → Contains g.vertices w → slab_right g w ≤ n → SameFace g (top_cell g 0) (top_cell g (slab_right g w))
 top_all g zero w plane in' h = top_step g w plane in' (λ x i l. absurd (omega arith))
 top_all g (suc n) w plane in' h = top_step g w plane in' (λ x i l. top_all g n x plane i (omega arith))
 
-pub unbounded : (g : Skeleton) (w : Point) → IsPlane g → Contains g.vertices w → SameFace g (top_cell g 0) (top_cell g (slab_right g w))
+pub unbounded : (g : Skeleton) (w : Point) → IsPlaneSkeleton g → Contains g.vertices w → SameFace g (top_cell g 0) (top_cell g (slab_right g w))
 unbounded g w plane in' = top_all g (slab_right g w) w plane in' (omega arith)
 
 -- ---- above each edge of a slab stands another, or nothing
@@ -136,7 +136,7 @@ data Above (g : Skeleton) (i : ℕ) (e : Edge) : Type 0 where
 
 -- the order of a slab, and its edges
 record Column (g : Skeleton) (i : ℕ) (M : Point) : Type 0 where
-  plane : IsPlane g
+  plane : IsPlaneSkeleton g
   slab : IsSlab g i M
 
 -- of three edges
@@ -249,14 +249,14 @@ top_weight g m i M c =
 abbrev IsGood : Skeleton → (SlabCell → Bool) → (Edge → ℕ) → SlabCell → Type 0
 IsGood g inn m c = Even (weight_above g m c.slab c.place + cond (inn c) 1 0 + cond (inn (top_cell g 0)) 1 0)
 
-good_same : (g : Skeleton) (inn : SlabCell → Bool) (m : Edge → ℕ) (c d : SlabCell) → IsPlane g → IsEvenAtVertices g m → IsFaceSet g inn m → SameFace g c d → IsGood g inn m c → IsGood g inn m d
+good_same : (g : Skeleton) (inn : SlabCell → Bool) (m : Edge → ℕ) (c d : SlabCell) → IsPlaneSkeleton g → IsEvenAtVertices g m → IsFaceSet g inn m → SameFace g c d → IsGood g inn m c → IsGood g inn m d
 good_same g inn m c d plane even s f h =
     let a = parity_face g m c d plane even f in
     let b : cond {A = ℕ} (inn c) 1 0 ≡ cond (inn d) 1 0 = ap (λ x. cond x 1 0) (s.respects c d f) in
     omega arith
 
 -- over an edge, in its first slab
-good_step : (g : Skeleton) (inn : SlabCell → Bool) (m : Edge → ℕ) (e : Edge) → IsPlane g → IsFaceSet g inn m → Contains g.edges e → left_of e.low e.high ≡ true → IsGood g inn m (forward_cell g e) → IsGood g inn m (backward_cell g e)
+good_step : (g : Skeleton) (inn : SlabCell → Bool) (m : Edge → ℕ) (e : Edge) → IsPlaneSkeleton g → IsFaceSet g inn m → Contains g.edges e → left_of e.low e.high ≡ true → IsGood g inn m (forward_cell g e) → IsGood g inn m (backward_cell g e)
 good_step g inn m e plane s E long h =
     let wall = on_own_wall g e.low plane (plane.lower_in e E) in
     let se : spans g (slab_right g e.low) e ≡ true = spans_right g e.low e plane wall E ∙ and_from _ _ (ap not (left_of-irrefl e.low)) long in
@@ -265,7 +265,7 @@ good_step g inn m e plane s E long h =
     omega arith
 
 -- beside e in any slab on the right of a vertex
-pub to_first : (g : Skeleton) (e : Edge) (w : Point) → IsPlane g → Contains g.vertices w → Contains g.edges e → spans g (slab_right g w) e ≡ true → (left_of e.low e.high ≡ true) × SameFace g (forward_cell g e) (above_e g e (slab_right g w)) × SameFace g (backward_cell g e) (below_e g e (slab_right g w))
+pub to_first : (g : Skeleton) (e : Edge) (w : Point) → IsPlaneSkeleton g → Contains g.vertices w → Contains g.edges e → spans g (slab_right g w) e ≡ true → (left_of e.low e.high ≡ true) × SameFace g (forward_cell g e) (above_e g e (slab_right g w)) × SameFace g (backward_cell g e) (below_e g e (slab_right g w))
 to_first g e w plane in' E h =
     let wall = on_own_wall g w plane in' in
     let r : reaches_right e w ≡ true = sym (spans_right g w e plane wall E) ∙ h in
@@ -276,23 +276,23 @@ to_first g e w plane in' E h =
       chain g e (below_e g e) plane E (λ t wall th. under_wall g e t plane wall E th) (slab_right g w) w in' (not-true _ a.0) a.1 (omega arith),
     )
 
-place_in : (g : Skeleton) (i : ℕ) (e : Edge) → IsPlane g → Contains g.edges e → spans g i e ≡ true → place g i e < width g i
+place_in : (g : Skeleton) (i : ℕ) (e : Edge) → IsPlaneSkeleton g → Contains g.edges e → spans g i e ≡ true → place g i e < width g i
 unfolding width
 place_in g i e plane E se =
     fewer_than (λ f. spans g i f && below f e) (spans g i) g.edges e E
     (false_from_ne_true _ (λ x. let y = and_parts (spans g i e) (below e e) x in below_asym g e e plane E E y.1 y.1)) se
     (λ f _ x. (and_parts (spans g i f) (below f e) x).0)
 
-good_top : (g : Skeleton) (inn : SlabCell → Bool) (m : Edge → ℕ) (w : Point) → IsPlane g → IsFaceSet g inn m → Contains g.vertices w → Column g (slab_right g w) (right_inside g w) → IsGood g inn m (record { slab = slab_right g w; place = width g (slab_right g w) })
+good_top : (g : Skeleton) (inn : SlabCell → Bool) (m : Edge → ℕ) (w : Point) → IsPlaneSkeleton g → IsFaceSet g inn m → Contains g.vertices w → Column g (slab_right g w) (right_inside g w) → IsGood g inn m (record { slab = slab_right g w; place = width g (slab_right g w) })
 good_top g inn m w plane s in' c =
     let a = top_weight g m (slab_right g w) (right_inside g w) c in
     let b : cond {A = ℕ} (inn (record { slab = slab_right g w; place = width g (slab_right g w) })) 1 0 ≡ cond (inn (top_cell g 0)) 1 0 = sym (ap (λ x. cond x 1 0) (top_same g inn m w plane s in')) in
     omega arith
   where
-    top_same : (g : Skeleton) (inn : SlabCell → Bool) (m : Edge → ℕ) (w : Point) → IsPlane g → IsFaceSet g inn m → Contains g.vertices w → inn (top_cell g 0) ≡ inn (record { slab = slab_right g w; place = width g (slab_right g w) })
+    top_same : (g : Skeleton) (inn : SlabCell → Bool) (m : Edge → ℕ) (w : Point) → IsPlaneSkeleton g → IsFaceSet g inn m → Contains g.vertices w → inn (top_cell g 0) ≡ inn (record { slab = slab_right g w; place = width g (slab_right g w) })
     top_same g inn m w plane s in' = unfold top_cell in s.respects _ _ (unbounded g w plane in')
 
-good_one : (g : Skeleton) (inn : SlabCell → Bool) (m : Edge → ℕ) (w : Point) (e : Edge) → IsPlane g → IsEvenAtVertices g m → IsFaceSet g inn m → Contains g.vertices w → Contains g.edges e → spans g (slab_right g w) e ≡ true → ((d : Edge) → Contains g.edges d → spans g (slab_right g w) d ≡ true → place g (slab_right g w) d ≡ place g (slab_right g w) e + 1 → IsGood g inn m (above_e g d (slab_right g w))) → IsGood g inn m (above_e g e (slab_right g w))
+good_one : (g : Skeleton) (inn : SlabCell → Bool) (m : Edge → ℕ) (w : Point) (e : Edge) → IsPlaneSkeleton g → IsEvenAtVertices g m → IsFaceSet g inn m → Contains g.vertices w → Contains g.edges e → spans g (slab_right g w) e ≡ true → ((d : Edge) → Contains g.edges d → spans g (slab_right g w) d ≡ true → place g (slab_right g w) d ≡ place g (slab_right g w) e + 1 → IsGood g inn m (above_e g d (slab_right g w))) → IsGood g inn m (above_e g e (slab_right g w))
 good_one g inn m w e plane even s in' E se on =
     let i = slab_right g w in
     let c : Column g i (right_inside g w) = record { plane = plane; slab = is_slab_right g w plane (on_own_wall g w plane in') } in
@@ -307,16 +307,16 @@ good_one g inn m w e plane even s in' E se on =
       | nothing p ↦ subst P p (good_top g inn m w plane s in' c)
     ]
 
-good_down : (g : Skeleton) (inn : SlabCell → Bool) (m : Edge → ℕ) (w : Point) (n : ℕ) (e : Edge) → IsPlane g → IsEvenAtVertices g m → IsFaceSet g inn m → Contains g.vertices w → Contains g.edges e → spans g (slab_right g w) e ≡ true → width g (slab_right g w) ≤ place g (slab_right g w) e + n → IsGood g inn m (above_e g e (slab_right g w))
+good_down : (g : Skeleton) (inn : SlabCell → Bool) (m : Edge → ℕ) (w : Point) (n : ℕ) (e : Edge) → IsPlaneSkeleton g → IsEvenAtVertices g m → IsFaceSet g inn m → Contains g.vertices w → Contains g.edges e → spans g (slab_right g w) e ≡ true → width g (slab_right g w) ≤ place g (slab_right g w) e + n → IsGood g inn m (above_e g e (slab_right g w))
 good_down g inn m w zero e plane even s in' E se l = good_one g inn m w e plane even s in' E se (λ d D sd p. let k = place_in g (slab_right g w) e plane E se in absurd (omega arith))
 good_down g inn m w (suc n) e plane even s in' E se l = good_one g inn m w e plane even s in' E se (λ d D sd p. good_down g inn m w n d plane even s in' D sd (omega arith))
 
 -- the weight above each of an edge's two cells is odd exactly where one of that cell and the unbounded cell is in the set
-pub good_forward : (g : Skeleton) (inn : SlabCell → Bool) (m : Edge → ℕ) (e : Edge) → IsPlane g → IsEvenAtVertices g m → IsFaceSet g inn m → Contains g.edges e → left_of e.low e.high ≡ true → IsGood g inn m (forward_cell g e)
+pub good_forward : (g : Skeleton) (inn : SlabCell → Bool) (m : Edge → ℕ) (e : Edge) → IsPlaneSkeleton g → IsEvenAtVertices g m → IsFaceSet g inn m → Contains g.edges e → left_of e.low e.high ≡ true → IsGood g inn m (forward_cell g e)
 good_forward g inn m e plane even s E long =
     let in' = plane.lower_in e E in
     let se : spans g (slab_right g e.low) e ≡ true = spans_right g e.low e plane (on_own_wall g e.low plane in') E ∙ and_from _ _ (ap not (left_of-irrefl e.low)) long in
     good_down g inn m e.low (width g (slab_right g e.low)) e plane even s in' E se (omega arith)
 
-pub good_backward : (g : Skeleton) (inn : SlabCell → Bool) (m : Edge → ℕ) (e : Edge) → IsPlane g → IsEvenAtVertices g m → IsFaceSet g inn m → Contains g.edges e → left_of e.low e.high ≡ true → IsGood g inn m (backward_cell g e)
+pub good_backward : (g : Skeleton) (inn : SlabCell → Bool) (m : Edge → ℕ) (e : Edge) → IsPlaneSkeleton g → IsEvenAtVertices g m → IsFaceSet g inn m → Contains g.edges e → left_of e.low e.high ≡ true → IsGood g inn m (backward_cell g e)
 good_backward g inn m e plane even s E long = good_step g inn m e plane s E long (good_forward g inn m e plane even s E long)

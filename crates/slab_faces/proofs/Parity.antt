@@ -6,7 +6,7 @@ use Rattle.std.proofs.lemmas.Bool.{true≢false, false≢true, and_parts, and_fr
 use Rattle.std.proofs.lemmas.Bool.Decides.{Decides-int_eq}
 use Rattle.exact_plane.specs.Point.{Point}
 use Rattle.plane_graphs.specs.Graph.{Edge}
-use Rattle.slab_laws.specs.Skeleton.{Skeleton, HasWeight, left_of, lower_than, on_wall, over, same_point, IsPlane}
+use Rattle.slab_laws.specs.Skeleton.{Skeleton, HasWeight, left_of, lower_than, on_wall, over, same_point, IsPlaneSkeleton}
 use Rattle.slab_laws.specs.Slabs.{reaches_left, reaches_right}
 use Rattle.slab_laws.specs.Meets.{covers_above, IsOpenAbove}
 use Rattle.slab_laws.specs.Weights.{Even, at_end, IsEvenAtVertices, left_weight, right_weight, cover_weight}
@@ -58,7 +58,7 @@ even_vertices g m t even =
     at b f es h = rw (← cond-sum_by b f es) (either b (sum_by f es) h)
 
 -- the vertices above t count, for an edge, its ends among them
-ends_above : (g : Skeleton) (m : Edge → ℕ) (t : Point) (e : Edge) → IsPlane g → Contains g.edges e → sum_by (λ v. cond (is_over t v) (at_end m v e) 0) g.vertices ≡ cond (is_over t e.low) (m e) 0 + cond (is_over t e.high) (m e) 0
+ends_above : (g : Skeleton) (m : Edge → ℕ) (t : Point) (e : Edge) → IsPlaneSkeleton g → Contains g.edges e → sum_by (λ v. cond (is_over t v) (at_end m v e) 0) g.vertices ≡ cond (is_over t e.low) (m e) 0 + cond (is_over t e.high) (m e) 0
 ends_above g m t e plane in' =
     let a : sum_by (λ v. cond (is_over t v) (cond (same_point e.low v) (m e) 0) 0) g.vertices ≡ cond (is_over t e.low) (m e) 0 =
     sum_by-once (is_over t) (same_point e.low) e.low (m e) g.vertices (λ v h. ap (is_over t) (sym (same_point_is e.low v h))) (plane.lower_once e in') in
@@ -74,7 +74,7 @@ ends_above g m t e plane in' =
     split false x y = refl
 
 -- a vertical edge whose lower end is above t is above t
-upright_over : (g : Skeleton) (t : Point) (e : Edge) → IsPlane g → HasWeight t → Contains g.edges e → left_of e.low t ≡ false → left_of t e.high ≡ false → lower_than t e.low ≡ true → lower_than t e.high ≡ true
+upright_over : (g : Skeleton) (t : Point) (e : Edge) → IsPlaneSkeleton g → HasWeight t → Contains g.edges e → left_of e.low t ≡ false → left_of t e.high ≡ false → lower_than t e.low ≡ true → lower_than t e.high ≡ true
 upright_over g t e plane T in' a d h =
     let P = (plane.proper_edge e in').0 in
     let Q = (plane.proper_edge e in').1 in
@@ -84,7 +84,7 @@ upright_over g t e plane T in' a d h =
     lower_than-before t e.low e.high T P Q h (lower_than-asym e.low e.high (plane.upright e in' w))
 
 -- what one edge adds to the sums
-edge_even : (g : Skeleton) (m : Edge → ℕ) (t : Point) (e : Edge) → IsPlane g → HasWeight t → Contains g.edges e → Even (cond (reaches_left e t && over e t) (m e) 0 + cond (reaches_right e t && over e t) (m e) 0 + cond (covers_above e t) (m e) 0 + (cond (is_over t e.low) (m e) 0 + cond (is_over t e.high) (m e) 0))
+edge_even : (g : Skeleton) (m : Edge → ℕ) (t : Point) (e : Edge) → IsPlaneSkeleton g → HasWeight t → Contains g.edges e → Even (cond (reaches_left e t && over e t) (m e) 0 + cond (reaches_right e t && over e t) (m e) 0 + cond (covers_above e t) (m e) 0 + (cond (is_over t e.low) (m e) 0 + cond (is_over t e.high) (m e) 0))
 edge_even g m t e plane T in' =
     let P = (plane.proper_edge e in').0 in
     let Q = (plane.proper_edge e in').1 in
@@ -99,7 +99,7 @@ edge_even g m t e plane T in' =
     (λ a b c d h. upright_over g t e plane T in' a d h)
 
 -- above any point: the edges that reach its wall from the left and from the right, and the vertical one just above it
-pub parity_wall : (g : Skeleton) (m : Edge → ℕ) (t : Point) → IsPlane g → IsEvenAtVertices g m → HasWeight t → Even (left_weight g m t + right_weight g m t + cover_weight g m t)
+pub parity_wall : (g : Skeleton) (m : Edge → ℕ) (t : Point) → IsPlaneSkeleton g → IsEvenAtVertices g m → HasWeight t → Even (left_weight g m t + right_weight g m t + cover_weight g m t)
 parity_wall g m t plane even T =
     let L : Edge → ℕ = λ e. cond (reaches_left e t && over e t) (m e) 0 in
     let R : Edge → ℕ = λ e. cond (reaches_right e t && over e t) (m e) 0 in
@@ -115,7 +115,7 @@ parity_wall g m t plane even T =
     omega arith
 
 -- where no vertical edge covers the wall just above t
-pub parity_across : (g : Skeleton) (m : Edge → ℕ) (t : Point) → IsPlane g → IsEvenAtVertices g m → HasWeight t → IsOpenAbove g t → Even (left_weight g m t + right_weight g m t)
+pub parity_across : (g : Skeleton) (m : Edge → ℕ) (t : Point) → IsPlaneSkeleton g → IsEvenAtVertices g m → HasWeight t → IsOpenAbove g t → Even (left_weight g m t + right_weight g m t)
 parity_across g m t plane even T free =
     let a = parity_wall g m t plane even T in
     let b : cover_weight g m t ≡ sum_by (λ (e : Edge). 0) g.edges =

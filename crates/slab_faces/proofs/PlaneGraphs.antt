@@ -21,7 +21,7 @@ use Rattle.plane_graphs.proofs.Lists.{both, and_in, not_out, not_in, not_true, c
 use Rattle.plane_graphs.proofs.Order.{Tri, tri, lt_out}
 use Rattle.plane_graphs.proofs.Order.Tri.{less, same, more}
 use Rattle.plane_graphs.proofs.Closed.{inside_in}
-use Rattle.plane_graphs.proofs.Crossings.{Runs}
+use Rattle.exact_plane.specs.Plane.{Runs}
 use Rattle.plane_graphs.proofs.Lines.{span_a, span_b, span_runs, zero_in}
 use Rattle.plane_graphs.proofs.Crossed.{runs_lt, none_cross}
 use Rattle.plane_graphs.proofs.Meaning.{edge_cmp_total, edges_ascend, edge_out, edge_in}
@@ -176,7 +176,7 @@ module _ (g : Graph) (pl : IsPlane g) where
   proper_at : (p : Point) → Member p g.points → counted.HasWeight p
   proper_at p m = (pl.proper p m).positive
 
-  pub counts : counted.IsPlane (skeleton g)
+  pub counts : counted.IsPlaneSkeleton (skeleton g)
   counts = record {
     proper = λ v c. proper_at v (vertex_of v c);
     lower_in = λ e c. let a = origin e c in subst (λ z. Contains g.points z.low) (sym a.2) (has_vertex a.0.low (pl.low_in a.0 a.1));

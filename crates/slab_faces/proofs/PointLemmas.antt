@@ -8,7 +8,7 @@ use lib.Signed.{lt_z}
 use lib.IntN.{*ℤ-zero}
 use Rattle.exact_plane.specs.Point.{Point}
 use Rattle.plane_graphs.specs.Graph.{Edge}
-use Rattle.slab_laws.specs.Skeleton.{Skeleton, HasWeight, left_of, lower_than, on_wall, side, over, precedes, inside, IsPlane}
+use Rattle.slab_laws.specs.Skeleton.{Skeleton, HasWeight, left_of, lower_than, on_wall, side, over, precedes, inside, IsPlaneSkeleton}
 use Rattle.slab_laws.specs.Meets.{covers_above, SameFace, across, here, right}
 use Rattle.slab_laws.specs.Slabs.{slab_left, slab_right, reaches_left, reaches_right, left_count, right_count, left_cell, right_cell}
 use Rattle.slab_faces.specs.PointLaws.{IsApart, PointsHaveOneFace}
@@ -50,7 +50,7 @@ not_negative s e = rw e refl
 first_false : (a b : Bool) → a ≡ false → b ≡ true → (a || b) ≡ true
 first_false a b h k = rw (h, k) refl
 
-is_inside : (g : Skeleton) (f : Edge) (q : Point) → IsPlane g → Contains g.edges f → IsUpright f q → left_of f.low f.high ≡ false → left_of f.high f.low ≡ false → lower_than f.low q ≡ true → lower_than q f.high ≡ true → inside f q ≡ true
+is_inside : (g : Skeleton) (f : Edge) (q : Point) → IsPlaneSkeleton g → Contains g.edges f → IsUpright f q → left_of f.low f.high ≡ false → left_of f.high f.low ≡ false → lower_than f.low q ≡ true → lower_than q f.high ≡ true → inside f q ≡ true
 is_inside g f q plane F u a b h k =
     and_from (precedes f.low q && precedes q f.high) (not (lt_z (side f q) (pos 0)) && not (lt_z (pos 0) (side f q)))
     (and_from (precedes f.low q) (precedes q f.high)
@@ -65,7 +65,7 @@ and_none : (a b : Bool) → b ≡ false → (a && b) ≡ false
 and_none true b h = h
 and_none false b h = refl
 
-open_at : (g : Skeleton) (q : Point) → IsPlane g → HasWeight q → IsApart g q → (f : Edge) → Contains g.edges f → covers_above f q ≡ false
+open_at : (g : Skeleton) (q : Point) → IsPlaneSkeleton g → HasWeight q → IsApart g q → (f : Edge) → Contains g.edges f → covers_above f q ≡ false
 open_at g q plane Q a f F = false_from_ne_true (covers_above f q) (λ h.
     let c = covers_parts f q h in
     let u = c.0 in
@@ -92,7 +92,7 @@ one_slab g q f =
     let r : Point → ℕ = λ v. cond (not (left_of q v)) 1 0 in
     sum_by-same l r g.vertices (each (λ v. l v ≡ r v) g.vertices (λ v V. ap (λ b. cond b 1 0) (turned_round v q (f v (in_member g.vertices v V)))))
 
-one_count : (g : Skeleton) (q : Point) → IsPlane g → ((v : Point) → Member g.vertices v → on_wall v q ≡ false) → left_count g q ≡ right_count g q
+one_count : (g : Skeleton) (q : Point) → IsPlaneSkeleton g → ((v : Point) → Member g.vertices v → on_wall v q ≡ false) → left_count g q ≡ right_count g q
 one_count g q plane f =
     let l : Edge → ℕ = λ e. cond (reaches_left e q && not (over e q)) 1 0 in
     let r : Edge → ℕ = λ e. cond (reaches_right e q && not (over e q)) 1 0 in

@@ -7,7 +7,7 @@ use Rattle.std.proofs.lemmas.Bool.{false≢true, and_parts, and_from, or_left, o
 use lib.Dec.{ltb}
 use Rattle.exact_plane.specs.Point.{Point}
 use Rattle.plane_graphs.specs.Graph.{Edge}
-use Rattle.slab_laws.specs.Skeleton.{Skeleton, left_of, lower_than, on_wall, below, IsPlane}
+use Rattle.slab_laws.specs.Skeleton.{Skeleton, left_of, lower_than, on_wall, below, IsPlaneSkeleton}
 use Rattle.slab_laws.specs.Meets.{covers_above}
 use Rattle.slab_laws.specs.Slabs.{reaches_left, reaches_right}
 use Rattle.slab_laws.specs.Darts.{start, kind, Earlier, by_class, on_left, on_right, IsOut}
@@ -54,11 +54,11 @@ below_total g t i M reach e f n a b h k =
 edge_path : (e f : Edge) → e.low ≡ f.low → e.high ≡ f.high → e ≡ f
 edge_path e f a b = λ i. record { low = a i; high = b i }
 
-same_up : (g : Skeleton) (e f : Edge) → IsPlane g → Contains g.edges e → Contains g.edges f → e.low ≡ f.low → on_wall e.low e.high ≡ true → on_wall f.low f.high ≡ true → e ≡ f
+same_up : (g : Skeleton) (e f : Edge) → IsPlaneSkeleton g → Contains g.edges e → Contains g.edges f → e.low ≡ f.low → on_wall e.low e.high ≡ true → on_wall f.low f.high ≡ true → e ≡ f
 same_up g e f plane E F a h k = one_cover g e f plane E F h (subst (λ p. covers_above f p ≡ true) (sym a) (covers_self g f plane F k))
 
 -- the lower end of one is not strictly inside the other
-not_longer : (g : Skeleton) (e f : Edge) → IsPlane g → Contains g.edges e → Contains g.edges f → e.high ≡ f.high → on_wall e.low e.high ≡ true → on_wall f.low f.high ≡ true → lower_than e.low f.low ≡ false
+not_longer : (g : Skeleton) (e f : Edge) → IsPlaneSkeleton g → Contains g.edges e → Contains g.edges f → e.high ≡ f.high → on_wall e.low e.high ≡ true → on_wall f.low f.high ≡ true → lower_than e.low f.low ≡ false
 not_longer g e f plane E F a h k =
     let P = plane.lower_in f F in
     let p = on_wall_parts e.low e.high h in
@@ -75,7 +75,7 @@ not_longer g e f plane E F a h k =
     } in
     false_from_ne_true _ (λ l. not_inside g e f.low plane E P u l (subst (λ w. lower_than f.low w ≡ true) (sym a) (plane.upright f F k)))
 
-same_down : (g : Skeleton) (e f : Edge) → IsPlane g → Contains g.edges e → Contains g.edges f → e.high ≡ f.high → on_wall e.low e.high ≡ true → on_wall f.low f.high ≡ true → e ≡ f
+same_down : (g : Skeleton) (e f : Edge) → IsPlaneSkeleton g → Contains g.edges e → Contains g.edges f → e.high ≡ f.high → on_wall e.low e.high ≡ true → on_wall f.low f.high ≡ true → e ≡ f
 same_down g e f plane E F a h k =
     let EP = plane.proper_edge e E in
     let FP = plane.proper_edge f F in
@@ -104,19 +104,19 @@ kind_three false false h = (refl, refl)
 abbrev pub OutOf : Skeleton → Point → Dart → Type 0
 OutOf g v d = IsOut g v d.edge d.forward
 
-left_at : (g : Skeleton) (v : Point) (d : Dart) → IsPlane g → OutOf g v d → turn d ≡ 0 → IsAt g v (λ e. reaches_left e v) d.edge
+left_at : (g : Skeleton) (v : Point) (d : Dart) → IsPlaneSkeleton g → OutOf g v d → turn d ≡ 0 → IsAt g v (λ e. reaches_left e v) d.edge
 left_at g v d plane out z =
     let k = kind_zero (left_of d.edge.low d.edge.high) d.forward z in
     let e : d.edge.high ≡ v = sym (ap (start d.edge) k.1) ∙ out.at in
     subst (λ p. IsAt g p (λ e. reaches_left e p) d.edge) e (at_upper g d.edge plane out.in' k.0)
 
-right_at : (g : Skeleton) (v : Point) (d : Dart) → IsPlane g → OutOf g v d → turn d ≡ 2 → IsAt g v (λ e. reaches_right e v) d.edge
+right_at : (g : Skeleton) (v : Point) (d : Dart) → IsPlaneSkeleton g → OutOf g v d → turn d ≡ 2 → IsAt g v (λ e. reaches_right e v) d.edge
 right_at g v d plane out z =
     let k = kind_two (left_of d.edge.low d.edge.high) d.forward z in
     let e : d.edge.low ≡ v = sym (ap (start d.edge) k.1) ∙ out.at in
     subst (λ p. IsAt g p (λ e. reaches_right e p) d.edge) e (at_lower g d.edge plane out.in' k.0)
 
-upright_of : (g : Skeleton) (e : Edge) → IsPlane g → Contains g.edges e → left_of e.low e.high ≡ false → on_wall e.low e.high ≡ true
+upright_of : (g : Skeleton) (e : Edge) → IsPlaneSkeleton g → Contains g.edges e → left_of e.low e.high ≡ false → on_wall e.low e.high ≡ true
 upright_of g e plane E h = rw (h, plane.forward e E) refl
 
 abbrev pub Early : Dart → Dart → Type 0
@@ -142,7 +142,7 @@ earlier_in d e (by_class l) = or_left _ _ (lt-ltb (turn d) (turn e) l)
 earlier_in d e (on_left z z' b) = or_right (ltb (turn d) (turn e)) _ (and_from (turn d == turn e) _ (eq-eqb _ _ (z ∙ sym z')) (or_left _ _ (and_from (turn d == 0) _ (eq-eqb _ _ z) b)))
 earlier_in d e (on_right z z' b) = or_right (ltb (turn d) (turn e)) _ (and_from (turn d == turn e) _ (eq-eqb _ _ (z ∙ sym z')) (or_right ((turn d == 0) && below d.edge e.edge) _ (and_from (turn d == 2) _ (eq-eqb _ _ z) b)))
 
-module _ (g : Skeleton) (v : Point) (plane : IsPlane g) (in' : Contains g.vertices v) where
+module _ (g : Skeleton) (v : Point) (plane : IsPlaneSkeleton g) (in' : Contains g.vertices v) where
   itself : (d : Dart) → OutOf g v d → Early d d → ⊥
   itself d D (by_class l) = absurd (omega arith)
   itself d D (on_left z z' b) = below_asym g d.edge d.edge plane D.in' D.in' b b

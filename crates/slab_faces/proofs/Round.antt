@@ -8,7 +8,7 @@ use Rattle.std.proofs.lemmas.Bool.{false_from_ne_true, cases_Bool}
 use lib.IntN.{*ℤ-zero, zero-*ℤ}
 use Rattle.exact_plane.specs.Point.{Point}
 use Rattle.plane_graphs.specs.Graph.{Edge}
-use Rattle.slab_laws.specs.Skeleton.{Skeleton, left_of, lower_than, run, side, over, under, gap, IsPlane}
+use Rattle.slab_laws.specs.Skeleton.{Skeleton, left_of, lower_than, run, side, over, under, gap, IsPlaneSkeleton}
 use Rattle.slab_laws.specs.Meets.{IsOpenAbove, SameFace, across, here, right}
 use Rattle.slab_laws.specs.Slabs.{slab_left, slab_right, reaches_left, reaches_right, left_bottom, left_top, right_top, right_bottom}
 use Rattle.slab_faces.proofs.Ints.{times_up, less_back, swapped}
@@ -32,18 +32,18 @@ empty_side g t i M reach n none =
     (λ l. negative_not_under f t l ∙ sym (ap not (negative f t l)))
     (λ l. absurd (none f (record { in' = F; reaches = h; on = omega (arith, ints) })))))))
 
-pub left_empty : (g : Skeleton) (v : Point) → IsPlane g → Contains g.vertices v → ((f : Edge) → IsAt g v (λ e. reaches_left e v) f → ⊥) → SameFace g (left_bottom g v) (left_top g v)
+pub left_empty : (g : Skeleton) (v : Point) → IsPlaneSkeleton g → Contains g.vertices v → ((f : Edge) → IsAt g v (λ e. reaches_left e v) f → ⊥) → SameFace g (left_bottom g v) (left_top g v)
 left_empty g v plane in' none =
     let e = empty_side g v (slab_left g v) _ (λ e. reaches_left e v) (left_fan g v plane (on_own_wall g v plane in')) none in
     subst (λ n. SameFace g (left_bottom g v) (record { slab = slab_left g v; place = n })) e (here _)
 
-pub right_empty : (g : Skeleton) (v : Point) → IsPlane g → Contains g.vertices v → ((f : Edge) → IsAt g v (λ e. reaches_right e v) f → ⊥) → SameFace g (right_bottom g v) (right_top g v)
+pub right_empty : (g : Skeleton) (v : Point) → IsPlaneSkeleton g → Contains g.vertices v → ((f : Edge) → IsAt g v (λ e. reaches_right e v) f → ⊥) → SameFace g (right_bottom g v) (right_top g v)
 right_empty g v plane in' none =
     let e = empty_side g v (slab_right g v) _ (λ e. reaches_right e v) (right_fan g v plane (on_own_wall g v plane in')) none in
     subst (λ n. SameFace g (right_bottom g v) (record { slab = slab_right g v; place = n })) e (here _)
 
 -- no vertical edge up from v
-pub top_open : (g : Skeleton) (v : Point) → IsPlane g → Contains g.vertices v → ((f : Edge) → Contains g.edges f → f.low ≡ v → IsUpright f v → ⊥) → SameFace g (left_top g v) (right_top g v)
+pub top_open : (g : Skeleton) (v : Point) → IsPlaneSkeleton g → Contains g.vertices v → ((f : Edge) → Contains g.edges f → f.low ≡ v → IsUpright f v → ⊥) → SameFace g (left_top g v) (right_top g v)
 top_open g v plane in' none =
     let free : IsOpenAbove g v = record {
       open_at = λ f F. false_from_ne_true _ (λ h.
@@ -55,7 +55,7 @@ top_open g v plane in' none =
     right _ _ _ (here _) (across v (on_own_wall g v plane in') free)
 
 -- no vertical edge down from v
-pub bottom_open : (g : Skeleton) (v : Point) → IsPlane g → Contains g.vertices v → ((f : Edge) → Contains g.edges f → f.high ≡ v → IsUpright f v → ⊥) → SameFace g (left_bottom g v) (right_bottom g v)
+pub bottom_open : (g : Skeleton) (v : Point) → IsPlaneSkeleton g → Contains g.vertices v → ((f : Edge) → Contains g.edges f → f.high ≡ v → IsUpright f v → ⊥) → SameFace g (left_bottom g v) (right_bottom g v)
 bottom_open g v plane in' none =
     meets_below g v plane in' (on_own_wall g v plane in') (λ f F u a b.
     elim (cases_Bool (lower_than v f.high)) [

@@ -11,7 +11,7 @@ use lib.IntN.{*ℤ-zero}
 use lib.Signed.{lt_z}
 use Rattle.exact_plane.specs.Point.{Point}
 use Rattle.plane_graphs.specs.Graph.{Edge}
-use Rattle.slab_laws.specs.Skeleton.{Skeleton, HasWeight, left_of, lower_than, run, side, over, gap, below, IsPlane, precedes, same_edge}
+use Rattle.slab_laws.specs.Skeleton.{Skeleton, HasWeight, left_of, lower_than, run, side, over, gap, below, IsPlaneSkeleton, precedes, same_edge}
 use Rattle.slab_laws.specs.Slabs.{spans, place}
 use Rattle.slab_laws.specs.Weights.{weight_above}
 use Rattle.slab_faces.proofs.Ints.{as_dif, dif_add, dif_sub, dif_mul, dif_same, times_up, less_back, mean_zero, zero_back}
@@ -39,7 +39,7 @@ sunk : (f e : Edge) (u : Point) → IsCommon f e u → gap f e u <ℤ pos 0 → 
 sunk f e u c h = let s = gap-swap f e u in record { proper = c.proper; f_from = c.e_from; f_to = c.e_to; e_from = c.f_from; e_to = c.f_to; gap_up = omega (arith, ints) }
 
 -- where two edges touch at M inside both, they have no gap on either side of M
-flat : (g : Skeleton) (f e : Edge) (M u v : Point) → IsPlane g → Contains g.edges f → Contains g.edges e → HasWeight M → gap f e M ≡ pos 0 → IsCommon f e u → IsCommon f e v → left_of u M ≡ true → left_of M v ≡ true → (gap f e u ≡ pos 0) × (gap f e v ≡ pos 0)
+flat : (g : Skeleton) (f e : Edge) (M u v : Point) → IsPlaneSkeleton g → Contains g.edges f → Contains g.edges e → HasWeight M → gap f e M ≡ pos 0 → IsCommon f e u → IsCommon f e v → left_of u M ≡ true → left_of M v ≡ true → (gap f e u ≡ pos 0) × (gap f e v ≡ pos 0)
 flat g f e M u v plane F E P z cu cv a b =
     let p = plane.proper_edge f F in
     let q = plane.proper_edge e E in
@@ -50,7 +50,7 @@ flat g f e M u v plane F E P z cu cv a b =
 
 -- all that is said of two edges that touch at M
 pub record Touch (g : Skeleton) (f e : Edge) (M : Point) : Type 0 where
-  pub plane : IsPlane g
+  pub plane : IsPlaneSkeleton g
   pub F : Contains g.edges f
   pub E : Contains g.edges e
   pub P : HasWeight M
@@ -179,7 +179,7 @@ pub record IsSlab (g : Skeleton) (i : ℕ) (M : Point) : Type 0 where
 pub through : (g : Skeleton) (i : ℕ) (M : Point) (e : Edge) → IsSlab g i M → Contains g.edges e → spans g i e ≡ true → IsThrough e M
 through g i M e s E h = let a = and_parts (left_of e.low M) (left_of M e.high) (sym (s.spanned e E) ∙ h) in record { from = a.0; to = a.1 }
 
-pub passes : (g : Skeleton) (f e : Edge) (M : Point) → IsPlane g → Contains g.edges f → Contains g.edges e → HasWeight M → IsThrough f M → IsThrough e M → Passes f e M
+pub passes : (g : Skeleton) (f e : Edge) (M : Point) → IsPlaneSkeleton g → Contains g.edges f → Contains g.edges e → HasWeight M → IsThrough f M → IsThrough e M → Passes f e M
 passes g f e M plane F E P a b =
     let p = plane.proper_edge f F in
     let q = plane.proper_edge e E in
@@ -199,16 +199,16 @@ passes g f e M plane F E P a b =
     }
 
 -- the three cases of two edges at M
-pub by_gap : {X : Type 0} (g : Skeleton) (f e : Edge) (M : Point) → IsPlane g → Contains g.edges f → Contains g.edges e → HasWeight M → IsThrough f M → IsThrough e M → (pos 0 <ℤ gap f e M → X) → (gap f e M <ℤ pos 0 → X) → (f ≡ e → X) → X
+pub by_gap : {X : Type 0} (g : Skeleton) (f e : Edge) (M : Point) → IsPlaneSkeleton g → Contains g.edges f → Contains g.edges e → HasWeight M → IsThrough f M → IsThrough e M → (pos 0 <ℤ gap f e M → X) → (gap f e M <ℤ pos 0 → X) → (f ≡ e → X) → X
 by_gap g f e M plane F E P a b up down same =
     by_lt_z (pos 0) (gap f e M) up (λ h.
     by_lt_z (gap f e M) (pos 0) down (λ k.
     same (same_edge_from_touch g f e M (record { plane = plane; F = F; E = E; P = P; f_through = a; e_through = b; z = omega (arith, ints) }))))
 
-pub below_at : (g : Skeleton) (f e : Edge) (M : Point) → IsPlane g → Contains g.edges f → Contains g.edges e → HasWeight M → IsThrough f M → IsThrough e M → pos 0 <ℤ gap f e M → below f e ≡ true
+pub below_at : (g : Skeleton) (f e : Edge) (M : Point) → IsPlaneSkeleton g → Contains g.edges f → Contains g.edges e → HasWeight M → IsThrough f M → IsThrough e M → pos 0 <ℤ gap f e M → below f e ≡ true
 below_at g f e M plane F E P a b h = below_from f e M (passes g f e M plane F E P a b) h
 
-pub gap_at : (g : Skeleton) (f e : Edge) (M : Point) → IsPlane g → Contains g.edges f → Contains g.edges e → HasWeight M → IsThrough f M → IsThrough e M → below f e ≡ true → pos 0 <ℤ gap f e M
+pub gap_at : (g : Skeleton) (f e : Edge) (M : Point) → IsPlaneSkeleton g → Contains g.edges f → Contains g.edges e → HasWeight M → IsThrough f M → IsThrough e M → below f e ≡ true → pos 0 <ℤ gap f e M
 gap_at g f e M plane F E P a b h =
     by_gap g f e M plane F E P a b (λ k. k)
     (λ k. let s = gap-swap f e M in absurd (below_asym g f e plane F E h (below_at g e f M plane E F P b a (omega (arith, ints)))))
@@ -227,10 +227,10 @@ gap_trans f e d M F E D h k =
     let z = *ℤ-zero (run e) in
     less_back (run e) (pos 0) _ E (omega (arith, ints))
 
-pub run_through : (g : Skeleton) (e : Edge) (M : Point) → IsPlane g → Contains g.edges e → HasWeight M → IsThrough e M → pos 0 <ℤ run e
+pub run_through : (g : Skeleton) (e : Edge) (M : Point) → IsPlaneSkeleton g → Contains g.edges e → HasWeight M → IsThrough e M → pos 0 <ℤ run e
 run_through g e M plane E P t = let q = plane.proper_edge e E in run_positive e (left_of-before e.low M e.high q.0 P q.1 t.from (left_of-asym _ _ t.to))
 
-pub place_less : (g : Skeleton) (i : ℕ) (M : Point) (f e : Edge) → IsPlane g → IsSlab g i M → Contains g.edges f → Contains g.edges e → spans g i f ≡ true → spans g i e ≡ true → below f e ≡ true → place g i f < place g i e
+pub place_less : (g : Skeleton) (i : ℕ) (M : Point) (f e : Edge) → IsPlaneSkeleton g → IsSlab g i M → Contains g.edges f → Contains g.edges e → spans g i f ≡ true → spans g i e ≡ true → below f e ≡ true → place g i f < place g i e
 place_less g i M f e plane s F E sf se h =
     let tf = through g i M f s F sf in
     let te = through g i M e s E se in
@@ -246,7 +246,7 @@ place_less g i M f e plane s F E sf se h =
     and_from _ _ y.0 (below_at g d e M plane D E P td te (gap_trans d f e M (run_through g d M plane D P td) (run_through g f M plane F P tf) (run_through g e M plane E P te) l k)))
 
 -- one edge a place
-pub place_same : (g : Skeleton) (i : ℕ) (M : Point) (f e : Edge) → IsPlane g → IsSlab g i M → Contains g.edges f → Contains g.edges e → spans g i f ≡ true → spans g i e ≡ true → place g i f ≡ place g i e → f ≡ e
+pub place_same : (g : Skeleton) (i : ℕ) (M : Point) (f e : Edge) → IsPlaneSkeleton g → IsSlab g i M → Contains g.edges f → Contains g.edges e → spans g i f ≡ true → spans g i e ≡ true → place g i f ≡ place g i e → f ≡ e
 place_same g i M f e plane s F E sf se h =
     let tf = through g i M f s F sf in
     let te = through g i M e s E se in
@@ -285,7 +285,7 @@ step_self : (j n : ℕ) → cond (true && leb j j) n 0 ≡ n + cond (true && leb
 step_self j n = rw (le-leb j j (omega arith), lt-leb (j + 1) j (omega arith)) (omega arith)
 
 -- what the weight above an edge's place holds beyond the weight above the next place: the edge's own
-pub weight_step : (g : Skeleton) (m : Edge → ℕ) (i : ℕ) (M : Point) (e : Edge) → IsPlane g → IsSlab g i M → Contains g.edges e → spans g i e ≡ true → weight_above g m i (place g i e) ≡ m e + weight_above g m i (place g i e + 1)
+pub weight_step : (g : Skeleton) (m : Edge → ℕ) (i : ℕ) (M : Point) (e : Edge) → IsPlaneSkeleton g → IsSlab g i M → Contains g.edges e → spans g i e ≡ true → weight_above g m i (place g i e) ≡ m e + weight_above g m i (place g i e + 1)
 weight_step g m i M e plane s E se =
     let j = place g i e in
     let own : Edge → ℕ = λ f. cond (same_edge e f) (m e) 0 in

@@ -7,7 +7,7 @@ use Rattle.std.proofs.lemmas.Bool.{false≢true, and_parts, and_from, not-true, 
 use lib.Signed.{lt_z}
 use Rattle.exact_plane.specs.Point.{Point}
 use Rattle.plane_graphs.specs.Graph.{Edge}
-use Rattle.slab_laws.specs.Skeleton.{Skeleton, HasWeight, left_of, lower_than, on_wall, run, side, over, foot, IsPlane}
+use Rattle.slab_laws.specs.Skeleton.{Skeleton, HasWeight, left_of, lower_than, on_wall, run, side, over, foot, IsPlaneSkeleton}
 use Rattle.slab_laws.specs.Meets.{IsOnWall, IsOpenAbove, covers_above, Meets, across}
 use Rattle.slab_laws.specs.Slabs.{slab_left, slab_right, reaches_left, reaches_right, left_count, right_count, left_cell, right_cell}
 use Rattle.slab_laws.specs.declared.slab_cell.SlabCell.{SlabCell}
@@ -70,13 +70,13 @@ a_foot g v e in' th =
     append_right (filter (λ u. on_wall u v) g.vertices) _ (foot e v)
     (map_in (λ e. foot e v) (filter (passes v) g.edges) e (filter_in (passes v) g.edges e (in_member g.edges e in') (and_from _ _ th.from th.to)))
 
-pub on_its_wall : (g : Skeleton) (v t : Point) → IsPlane g → Contains g.vertices v → Stop g v t → IsOnWall g t × OneWall t v
+pub on_its_wall : (g : Skeleton) (v t : Point) → IsPlaneSkeleton g → Contains g.vertices v → Stop g v t → IsOnWall g t × OneWall t v
 on_its_wall g v t plane V (corner u U w) = (on_own_wall g u plane U, w)
 on_its_wall g v t plane V (crossed e E th) =
     let o = foot_is_on g e v plane (on_own_wall g v plane V) E th in
     (o.wall, wall_swap v (foot e v) (at_foot g e v plane V E th))
   where
-    at_foot : (g : Skeleton) (e : Edge) (v : Point) → IsPlane g → Contains g.vertices v → Contains g.edges e → IsThrough e v → OneWall v (foot e v)
+    at_foot : (g : Skeleton) (e : Edge) (v : Point) → IsPlaneSkeleton g → Contains g.vertices v → Contains g.edges e → IsThrough e v → OneWall v (foot e v)
     at_foot g e v plane V E th =
         let q = plane.proper_edge e E in
         let R = run_positive e (left_of-before e.low v e.high q.0 (plane.proper v V) q.1 th.from (left_of-asym _ _ th.to)) in
@@ -162,7 +162,7 @@ record Under (g : Skeleton) (v t : Point) (e : Edge) : Type 0 where
 
 -- v and t are on one wall
 record Site (g : Skeleton) (v t : Point) : Type 0 where
-  plane : IsPlane g
+  plane : IsPlaneSkeleton g
   V : Contains g.vertices v
   T : HasWeight t
   one : OneWall v t
@@ -210,11 +210,11 @@ same_over g v t s e reach i site S w high E r h =
       | inr a ↦ isnt_over e t (side_keeps e s t S site.T R w.there w.back high.low (not_over e s a)) ∙ sym a
     ]
 
-same_slab_left : (g : Skeleton) (s t : Point) → IsPlane g → HasWeight s → HasWeight t → OneWall s t → slab_left g t ≡ slab_left g s
+same_slab_left : (g : Skeleton) (s t : Point) → IsPlaneSkeleton g → HasWeight s → HasWeight t → OneWall s t → slab_left g t ≡ slab_left g s
 same_slab_left g s t plane S T w =
     sum_by-same (λ v. cond (left_of v t) 1 0) (λ v. cond (left_of v s) 1 0) g.vertices (each (λ v. cond {A = ℕ} (left_of v t) 1 0 ≡ cond (left_of v s) 1 0) g.vertices (λ v i. ap (λ b. cond b 1 0) (same_before v t s (plane.proper v i) T S w.back w.there)))
 
-same_slab_right : (g : Skeleton) (s t : Point) → IsPlane g → HasWeight s → HasWeight t → OneWall s t → slab_right g t ≡ slab_right g s
+same_slab_right : (g : Skeleton) (s t : Point) → IsPlaneSkeleton g → HasWeight s → HasWeight t → OneWall s t → slab_right g t ≡ slab_right g s
 same_slab_right g s t plane S T w =
     sum_by-same (λ v. cond (not (left_of t v)) 1 0) (λ v. cond (not (left_of s v)) 1 0) g.vertices (each (λ v. cond {A = ℕ} (not (left_of t v)) 1 0 ≡ cond (not (left_of s v)) 1 0) g.vertices (λ v i. ap (λ b. cond (not b) 1 0) (same_after v t s (plane.proper v i) T S w.back w.there)))
 
@@ -291,7 +291,7 @@ record IsLow (g : Skeleton) (vs : List Point) (t v : Point) : Type 0 where
   in' : Member g.vertices v
   least : (u : Point) → Member vs u → OneWall u t → lower_than u v ≡ false
 
-lowest_of : (g : Skeleton) (t v : Point) (vs : List Point) → IsPlane g → HasWeight t → Member g.vertices v → OneWall v t → ((u : Point) → Member vs u → Member g.vertices u) → (w : Point) × IsLow g vs t w
+lowest_of : (g : Skeleton) (t v : Point) (vs : List Point) → IsPlaneSkeleton g → HasWeight t → Member g.vertices v → OneWall v t → ((u : Point) → Member vs u → Member g.vertices u) → (w : Point) × IsLow g vs t w
 lowest_of g t v [] plane T V w sub = (v, record { one = w; in' = V; least = λ u h k. absurd h })
 lowest_of g t v (x ∷ xs) plane T V w sub =
     let ih = lowest_of g t v xs plane T V w (λ u h. sub u (inr h)) in
@@ -323,7 +323,7 @@ lowest_of g t v (x ∷ xs) plane T V w sub =
       )
     ]
 
-wall_of : (g : Skeleton) (t : Point) → IsPlane g → IsOnWall g t → (v : Point) × Member (walls g) v × Site g v t
+wall_of : (g : Skeleton) (t : Point) → IsPlaneSkeleton g → IsOnWall g t → (v : Point) × Member (walls g) v × Site g v t
 unfolding walls is_lowest
 wall_of g t plane wall =
     let W = plane.proper wall.vertex wall.is_vertex in
@@ -347,7 +347,7 @@ stop_link g v s (crossed e E th) o =
     (map_in (λ e. link_at g (foot e v)) (filter (passes v) g.edges) e (filter_in (passes v) g.edges e (in_member g.edges e E) (and_from _ _ th.from th.to)))
 
 -- ---- each meet is a link
-pub meet_is_link : (g : Skeleton) (c d : SlabCell) → IsPlane g → Meets g c d → Member (links g) (record { one = c; other = d })
+pub meet_is_link : (g : Skeleton) (c d : SlabCell) → IsPlaneSkeleton g → Meets g c d → Member (links g) (record { one = c; other = d })
 unfolding links wall_links
 meet_is_link g c d plane (across t wall open') =
     let r = wall_of g t plane wall in

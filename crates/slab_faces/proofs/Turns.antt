@@ -9,7 +9,7 @@ use lib.IntN.{*ℤ-zero}
 use lib.Signed.{lt_z}
 use Rattle.exact_plane.specs.Point.{Point}
 use Rattle.plane_graphs.specs.Graph.{Edge}
-use Rattle.slab_laws.specs.Skeleton.{Skeleton, HasWeight, left_of, lower_than, run, side, steep, shift, foot, over, below, IsPlane, same_edge}
+use Rattle.slab_laws.specs.Skeleton.{Skeleton, HasWeight, left_of, lower_than, run, side, steep, shift, foot, over, below, IsPlaneSkeleton, same_edge}
 use Rattle.slab_laws.specs.Meets.{IsOnWall, SameFace, here, right, left}
 use Rattle.slab_laws.specs.Slabs.{spans, place, slab_left, slab_right, reaches_left, forward_cell, backward_cell}
 use Rattle.slab_laws.specs.declared.slab_cell.SlabCell.{SlabCell}
@@ -73,7 +73,7 @@ foot_on e t = vanish (steep e) (run e) (shift e) t.x t.w
     vanish : (a b c x w : ℤ) → a *ℤ (b *ℤ x) +ℤ b *ℤ (pos 0 -ℤ (a *ℤ x +ℤ c *ℤ w)) +ℤ c *ℤ (b *ℤ w) ≡ pos 0
     vanish a b c x w = rw (zero_sub (a *ℤ x +ℤ c *ℤ w)) (rw (as_dif a, as_dif b, as_dif c, as_dif x, as_dif w) (simp (dif_add, dif_sub, dif_mul) (dif_zero _ _ (omega arith))))
 
-pub foot_is_on : (g : Skeleton) (e : Edge) (t : Point) → IsPlane g → IsOnWall g t → Contains g.edges e → IsThrough e t → IsOn g e (foot e t)
+pub foot_is_on : (g : Skeleton) (e : Edge) (t : Point) → IsPlaneSkeleton g → IsOnWall g t → Contains g.edges e → IsThrough e t → IsOn g e (foot e t)
 foot_is_on g e t plane wall E th =
     let q = plane.proper_edge e E in
     let R = run_positive e (left_of-before e.low t e.high q.0 wall.proper q.1 th.from (left_of-asym _ _ th.to)) in
@@ -94,7 +94,7 @@ foot_is_on g e t plane wall E th =
     foot_proper e t R T = unfold foot in times_up (run e) t.w R T
 
 -- at each wall that the edge passes
-pub over_wall : (g : Skeleton) (e : Edge) (t : Point) → IsPlane g → IsOnWall g t → Contains g.edges e → IsThrough e t → SameFace g (record { slab = slab_left g t; place = place g (slab_left g t) e + 1 }) (record { slab = slab_right g t; place = place g (slab_right g t) e + 1 })
+pub over_wall : (g : Skeleton) (e : Edge) (t : Point) → IsPlaneSkeleton g → IsOnWall g t → Contains g.edges e → IsThrough e t → SameFace g (record { slab = slab_left g t; place = place g (slab_left g t) e + 1 }) (record { slab = slab_right g t; place = place g (slab_right g t) e + 1 })
 over_wall g e t plane wall E th =
     let o = foot_is_on g e t plane wall E th in
     let q = plane.proper_edge e E in
@@ -105,7 +105,7 @@ over_wall g e t plane wall E th =
     let a : P (slab_left g (foot e t)) (slab_right g (foot e t)) = along_above g e (foot e t) o in
     subst (λ x. P x (slab_right g t)) sl (subst (λ y. P (slab_left g (foot e t)) y) sr a)
 
-pub under_wall : (g : Skeleton) (e : Edge) (t : Point) → IsPlane g → IsOnWall g t → Contains g.edges e → IsThrough e t → SameFace g (record { slab = slab_left g t; place = place g (slab_left g t) e }) (record { slab = slab_right g t; place = place g (slab_right g t) e })
+pub under_wall : (g : Skeleton) (e : Edge) (t : Point) → IsPlaneSkeleton g → IsOnWall g t → Contains g.edges e → IsThrough e t → SameFace g (record { slab = slab_left g t; place = place g (slab_left g t) e }) (record { slab = slab_right g t; place = place g (slab_right g t) e })
 under_wall g e t plane wall E th =
     let o = foot_is_on g e t plane wall E th in
     let q = plane.proper_edge e E in
@@ -180,7 +180,7 @@ pub record IsBefore (g : Skeleton) (w t : Point) : Type 0 where
 pub le_antisym : (a b : ℕ) → a ≤ b → b ≤ a → a ≡ b
 le_antisym a b h k = omega arith
 
-pub wall_before : (g : Skeleton) (p t : Point) → IsPlane g → HasWeight t → Contains g.vertices p → left_of p t ≡ true → (w : Point) × IsBefore g w t × (left_of w p ≡ false)
+pub wall_before : (g : Skeleton) (p t : Point) → IsPlaneSkeleton g → HasWeight t → Contains g.vertices p → left_of p t ≡ true → (w : Point) × IsBefore g w t × (left_of w p ≡ false)
 wall_before g p t plane T in' h =
     elim (greatest t g.vertices plane.proper) [
       | inl none ↦ absurd (false≢true (sym (none p in') ∙ h))
@@ -198,7 +198,7 @@ wall_before g p t plane T in' h =
           )
     ]
 
-pub on_own_wall : (g : Skeleton) (v : Point) → IsPlane g → Contains g.vertices v → IsOnWall g v
+pub on_own_wall : (g : Skeleton) (v : Point) → IsPlaneSkeleton g → Contains g.vertices v → IsOnWall g v
 on_own_wall g v plane in' = record { proper = plane.proper v in'; vertex = v; is_vertex = in'; same = rw (left_of-irrefl v) refl }
 
 -- a cell beside e in the slab on the right of each wall, as far as e goes
@@ -212,7 +212,7 @@ below_e g e i = record { slab = i; place = place g i e }
 abbrev pub IsGoingOn : (g : Skeleton) (e : Edge) (C : ℕ → SlabCell) → Type 0
 IsGoingOn g e C = (t : Point) → IsOnWall g t → IsThrough e t → SameFace g (C (slab_left g t)) (C (slab_right g t))
 
-chain_step : (g : Skeleton) (e : Edge) (C : ℕ → SlabCell) → IsPlane g → Contains g.edges e → IsGoingOn g e C → (w : Point) → Contains g.vertices w → left_of w e.low ≡ false → left_of w e.high ≡ true → ((x : Point) → Contains g.vertices x → left_of x e.low ≡ false → left_of x e.high ≡ true → slab_right g x < slab_right g w → SameFace g (C (slab_right g e.low)) (C (slab_right g x))) → SameFace g (C (slab_right g e.low)) (C (slab_right g w))
+chain_step : (g : Skeleton) (e : Edge) (C : ℕ → SlabCell) → IsPlaneSkeleton g → Contains g.edges e → IsGoingOn g e C → (w : Point) → Contains g.vertices w → left_of w e.low ≡ false → left_of w e.high ≡ true → ((x : Point) → Contains g.vertices x → left_of x e.low ≡ false → left_of x e.high ≡ true → slab_right g x < slab_right g w → SameFace g (C (slab_right g e.low)) (C (slab_right g x))) → SameFace g (C (slab_right g e.low)) (C (slab_right g w))
 chain_step g e C plane E on w in' a b before =
     elim (cases_Bool (left_of e.low w)) [
       | inl h ↦
@@ -229,21 +229,21 @@ chain_step g e C plane E on w in' a b before =
           subst (λ i. SameFace g (C (slab_right g e.low)) (C i)) e' (here _)
     ]
 
-pub chain : (g : Skeleton) (e : Edge) (C : ℕ → SlabCell) → IsPlane g → Contains g.edges e → IsGoingOn g e C → (n : ℕ) (w : Point) → Contains g.vertices w → left_of w e.low ≡ false → left_of w e.high ≡ true → slab_right g w ≤ n → SameFace g (C (slab_right g e.low)) (C (slab_right g w))
+pub chain : (g : Skeleton) (e : Edge) (C : ℕ → SlabCell) → IsPlaneSkeleton g → Contains g.edges e → IsGoingOn g e C → (n : ℕ) (w : Point) → Contains g.vertices w → left_of w e.low ≡ false → left_of w e.high ≡ true → slab_right g w ≤ n → SameFace g (C (slab_right g e.low)) (C (slab_right g w))
 chain g e C plane E on zero w in' a b s = chain_step g e C plane E on w in' a b (λ x i c d l. absurd (omega arith))
 chain g e C plane E on (suc m) w in' a b s = chain_step g e C plane E on w in' a b (λ x i c d l. chain g e C plane E on m x i c d (omega arith))
 
 -- and so to e's last slab
-to_last : (g : Skeleton) (e : Edge) (C : ℕ → SlabCell) → IsPlane g → Contains g.edges e → IsGoingOn g e C → left_of e.low e.high ≡ true → SameFace g (C (slab_right g e.low)) (C (slab_left g e.high))
+to_last : (g : Skeleton) (e : Edge) (C : ℕ → SlabCell) → IsPlaneSkeleton g → Contains g.edges e → IsGoingOn g e C → left_of e.low e.high ≡ true → SameFace g (C (slab_right g e.low)) (C (slab_left g e.high))
 to_last g e C plane E on h =
     let r = wall_before g e.low e.high plane (plane.proper_edge e E).1 (plane.lower_in e E) h in
     let k = r.1 in
     subst (λ i. SameFace g (C (slab_right g e.low)) (C i)) (sym k.next) (chain g e C plane E on (slab_right g r.0) r.0 k.is_vertex r.2 k.earlier (omega arith))
 
-pub above_to_last : (g : Skeleton) (e : Edge) → IsPlane g → Contains g.edges e → left_of e.low e.high ≡ true → SameFace g (forward_cell g e) (record { slab = slab_left g e.high; place = place g (slab_left g e.high) e + 1 })
+pub above_to_last : (g : Skeleton) (e : Edge) → IsPlaneSkeleton g → Contains g.edges e → left_of e.low e.high ≡ true → SameFace g (forward_cell g e) (record { slab = slab_left g e.high; place = place g (slab_left g e.high) e + 1 })
 above_to_last g e plane E h = to_last g e (above_e g e) plane E (λ t wall th. over_wall g e t plane wall E th) h
 
-pub below_to_last : (g : Skeleton) (e : Edge) → IsPlane g → Contains g.edges e → left_of e.low e.high ≡ true → SameFace g (backward_cell g e) (record { slab = slab_left g e.high; place = place g (slab_left g e.high) e })
+pub below_to_last : (g : Skeleton) (e : Edge) → IsPlaneSkeleton g → Contains g.edges e → left_of e.low e.high ≡ true → SameFace g (backward_cell g e) (record { slab = slab_left g e.high; place = place g (slab_left g e.high) e })
 below_to_last g e plane E h = to_last g e (below_e g e) plane E (λ t wall th. under_wall g e t plane wall E th) h
 
 -- ---- round an edge's upper end, to the edge above it on the left
@@ -263,7 +263,7 @@ one_more true b c false h k = rw (k refl refl) (plus_none c)
 one_more false b c false h k = refl
 
 -- f between e and d, which both end at v, has no side there
-pub between : (g : Skeleton) (e f d : Edge) (v : Point) → IsPlane g → Contains g.edges e → Contains g.edges f → Contains g.edges d → IsOnWall g v → reaches_left e v ≡ true → reaches_left f v ≡ true → reaches_left d v ≡ true → side e v ≡ pos 0 → side d v ≡ pos 0 → below e f ≡ true → below f d ≡ true → side f v ≡ pos 0
+pub between : (g : Skeleton) (e f d : Edge) (v : Point) → IsPlaneSkeleton g → Contains g.edges e → Contains g.edges f → Contains g.edges d → IsOnWall g v → reaches_left e v ≡ true → reaches_left f v ≡ true → reaches_left d v ≡ true → side e v ≡ pos 0 → side d v ≡ pos 0 → below e f ≡ true → below f d ≡ true → side f v ≡ pos 0
 between g e f d v plane E F D wall re rf rd ze zd h k =
     let r = left_side g v plane wall in
     let p = r.passes f e F E rf re in
@@ -281,7 +281,7 @@ between g e f d v plane E F D wall re rf rd ze zd h k =
     (λ o. omega (arith, ints)))
 
 -- an edge that passes between two others that end at v, at the height of v, ends there too
-pub level_at : (g : Skeleton) (f : Edge) (v : Point) → IsPlane g → Contains g.edges f → Contains g.vertices v → reaches_left f v ≡ true → side f v ≡ pos 0 → f.high ≡ v
+pub level_at : (g : Skeleton) (f : Edge) (v : Point) → IsPlaneSkeleton g → Contains g.edges f → Contains g.vertices v → reaches_left f v ≡ true → side f v ≡ pos 0 → f.high ≡ v
 level_at g f v plane F in' r z =
     let a = and_parts (left_of f.low v) (not (left_of f.high v)) r in
     let a' = not-true _ a.1 in
@@ -297,7 +297,7 @@ level_at g f v plane F in' r z =
     let k : lower_than f.high v ≡ false = level_back f v V p.1 (run_positive f long) a' b z in
     plane.distinct f.high v (plane.upper_in f F) in' (no_order f.high v a' b k) (no_order v f.high b a' d)
 
-pub next_place : (g : Skeleton) (e d : Edge) → IsPlane g → Contains g.edges e → Contains g.edges d → left_of e.low e.high ≡ true → left_of d.low d.high ≡ true → IsNextAbove g e d → place g (slab_left g e.high) d ≡ place g (slab_left g e.high) e + 1
+pub next_place : (g : Skeleton) (e d : Edge) → IsPlaneSkeleton g → Contains g.edges e → Contains g.edges d → left_of e.low e.high ≡ true → left_of d.low d.high ≡ true → IsNextAbove g e d → place g (slab_left g e.high) d ≡ place g (slab_left g e.high) e + 1
 next_place g e d plane E D le ld n =
     let v = e.high in
     let in' = plane.upper_in e E in
@@ -339,7 +339,7 @@ next_place g e d plane E D le ld n =
     a ∙ b ∙ ap (λ m. place g i e + m) c
 
 -- dart (p, v) along e, and dart (v, p') along d, the first clockwise after (v, p): one face
-pub turn_left : (g : Skeleton) (e d : Edge) → IsPlane g → Contains g.edges e → Contains g.edges d → left_of e.low e.high ≡ true → left_of d.low d.high ≡ true → IsNextAbove g e d → SameFace g (forward_cell g e) (backward_cell g d)
+pub turn_left : (g : Skeleton) (e d : Edge) → IsPlaneSkeleton g → Contains g.edges e → Contains g.edges d → left_of e.low e.high ≡ true → left_of d.low d.high ≡ true → IsNextAbove g e d → SameFace g (forward_cell g e) (backward_cell g d)
 turn_left g e d plane E D le ld n =
     let a = above_to_last g e plane E le in
     let b = below_to_last g d plane D ld in
@@ -350,13 +350,13 @@ turn_left g e d plane E D le ld n =
     face_trans g _ _ _ a (face_sym g _ _ b'')
 
 -- ---- an edge of odd weight parts two faces
-pub step_left : (g : Skeleton) (m : Edge → ℕ) (t : Point) (e : Edge) → IsPlane g → IsOnWall g t → Contains g.edges e → spans g (slab_left g t) e ≡ true → weight_above g m (slab_left g t) (place g (slab_left g t) e) ≡ m e + weight_above g m (slab_left g t) (place g (slab_left g t) e + 1)
+pub step_left : (g : Skeleton) (m : Edge → ℕ) (t : Point) (e : Edge) → IsPlaneSkeleton g → IsOnWall g t → Contains g.edges e → spans g (slab_left g t) e ≡ true → weight_above g m (slab_left g t) (place g (slab_left g t) e) ≡ m e + weight_above g m (slab_left g t) (place g (slab_left g t) e + 1)
 step_left g m t e plane wall E h = weight_step g m (slab_left g t) (left_inside g t) e plane (is_slab_left g t plane wall) E h
 
-pub step_right : (g : Skeleton) (m : Edge → ℕ) (t : Point) (e : Edge) → IsPlane g → IsOnWall g t → Contains g.edges e → spans g (slab_right g t) e ≡ true → weight_above g m (slab_right g t) (place g (slab_right g t) e) ≡ m e + weight_above g m (slab_right g t) (place g (slab_right g t) e + 1)
+pub step_right : (g : Skeleton) (m : Edge → ℕ) (t : Point) (e : Edge) → IsPlaneSkeleton g → IsOnWall g t → Contains g.edges e → spans g (slab_right g t) e ≡ true → weight_above g m (slab_right g t) (place g (slab_right g t) e) ≡ m e + weight_above g m (slab_right g t) (place g (slab_right g t) e + 1)
 step_right g m t e plane wall E h = weight_step g m (slab_right g t) (right_inside g t) e plane (is_slab_right g t plane wall) E h
 
-pub odd_parts : (g : Skeleton) (m : Edge → ℕ) (e : Edge) → IsPlane g → IsEvenAtVertices g m → Contains g.edges e → left_of e.low e.high ≡ true → m e % 2 ≡ 1 → SameFace g (forward_cell g e) (backward_cell g e) → ⊥
+pub odd_parts : (g : Skeleton) (m : Edge → ℕ) (e : Edge) → IsPlaneSkeleton g → IsEvenAtVertices g m → Contains g.edges e → left_of e.low e.high ≡ true → m e % 2 ≡ 1 → SameFace g (forward_cell g e) (backward_cell g e) → ⊥
 odd_parts g m e plane even E h odd face =
     let wall = on_own_wall g e.low plane (plane.lower_in e E) in
     let s : spans g (slab_right g e.low) e ≡ true = spans_right g e.low e plane wall E ∙ and_from _ _ (ap not (left_of-irrefl e.low)) h in

@@ -7,7 +7,7 @@ use lib.IntN.{*ℤ-zero}
 use lib.Signed.{lt_z}
 use Rattle.exact_plane.specs.Point.{Point}
 use Rattle.plane_graphs.specs.Graph.{Edge}
-use Rattle.slab_laws.specs.Skeleton.{Skeleton, HasWeight, left_of, lower_than, on_wall, side, same_edge, IsPlane, precedes}
+use Rattle.slab_laws.specs.Skeleton.{Skeleton, HasWeight, left_of, lower_than, on_wall, side, same_edge, IsPlaneSkeleton, precedes}
 use Rattle.slab_laws.specs.Meets.{covers_above}
 use Rattle.slab_laws.specs.Weights.{Even, IsEvenAtVertices, weight_above, left_weight, right_weight, cover_weight}
 use Rattle.slab_laws.specs.Slabs.{slab_left, slab_right, left_count, right_count, reaches_left, reaches_right}
@@ -30,7 +30,7 @@ upright_on f v P a b c d =
 higher : (p q : Point) → left_of q p ≡ false → lower_than p q ≡ true → precedes p q ≡ true
 higher p q a b = or_right (left_of p q) _ (and_from _ _ (ap not a) b)
 
-pub not_inside : (g : Skeleton) (f : Edge) (v : Point) → IsPlane g → Contains g.edges f → Contains g.vertices v → IsUpright f v → lower_than f.low v ≡ true → lower_than v f.high ≡ true → ⊥
+pub not_inside : (g : Skeleton) (f : Edge) (v : Point) → IsPlaneSkeleton g → Contains g.edges f → Contains g.vertices v → IsUpright f v → lower_than f.low v ≡ true → lower_than v f.high ≡ true → ⊥
 not_inside g f v plane F in' u h k =
     let p = plane.proper_edge f F in
     let V = plane.proper v in' in
@@ -40,13 +40,13 @@ not_inside g f v plane F in' u h k =
     let line : (not (lt_z (side f v) (pos 0)) && not (lt_z (pos 0) (side f v))) ≡ true = rw z refl in
     false≢true (sym (plane.clear f v F in') ∙ and_from _ _ (and_from _ _ (higher f.low v u.lower_2 h) (higher v f.high u.upper_1 k)) line)
 
-pub covers_self : (g : Skeleton) (e : Edge) → IsPlane g → Contains g.edges e → on_wall e.low e.high ≡ true → covers_above e e.low ≡ true
+pub covers_self : (g : Skeleton) (e : Edge) → IsPlaneSkeleton g → Contains g.edges e → on_wall e.low e.high ≡ true → covers_above e e.low ≡ true
 covers_self g e plane E h =
     let a = on_wall_parts e.low e.high h in
     and_from _ _ (and_from _ _ (and_from _ _ (and_from _ _ (ap not (left_of-irrefl e.low)) (ap not (left_of-irrefl e.low))) (and_from _ _ (ap not a.1) (ap not a.0))) (ap not (lower_than-irrefl e.low))) (plane.upright e E h)
 
 -- only one edge covers the wall above a vertical edge's lower end
-pub one_cover : (g : Skeleton) (e f : Edge) → IsPlane g → Contains g.edges e → Contains g.edges f → on_wall e.low e.high ≡ true → covers_above f e.low ≡ true → e ≡ f
+pub one_cover : (g : Skeleton) (e f : Edge) → IsPlaneSkeleton g → Contains g.edges e → Contains g.edges f → on_wall e.low e.high ≡ true → covers_above f e.low ≡ true → e ≡ f
 one_cover g e f plane E F h k =
     let a = on_wall_parts e.low e.high h in
     let c = covers_parts f e.low k in
@@ -67,7 +67,7 @@ one_cover g e f plane E F h k =
     let y : e.high ≡ f.high = plane.distinct e.high f.high inq (plane.upper_in f F) (no_order _ _ m2 m1 n2) (no_order _ _ m1 m2 n1) in
     λ i. record { low = x i; high = y i }
 
-cover_of : (g : Skeleton) (m : Edge → ℕ) (e : Edge) → IsPlane g → Contains g.edges e → on_wall e.low e.high ≡ true → cover_weight g m e.low ≡ m e
+cover_of : (g : Skeleton) (m : Edge → ℕ) (e : Edge) → IsPlaneSkeleton g → Contains g.edges e → on_wall e.low e.high ≡ true → cover_weight g m e.low ≡ m e
 cover_of g m e plane E h =
     let now : Edge → ℕ = λ f. cond (covers_above f e.low) (m f) 0 in
     let own : Edge → ℕ = λ f. cond (same_edge e f) (m e) 0 in
@@ -83,7 +83,7 @@ cover_of g m e plane E h =
     let c' = rw (plane.edge_once e E) at c in
     a ∙ c' ∙ omega arith
 
-pub parity_upright : (g : Skeleton) (m : Edge → ℕ) (e : Edge) → IsPlane g → IsEvenAtVertices g m → Contains g.edges e → on_wall e.low e.high ≡ true → Even (weight_above g m (slab_left g e.low) (left_count g e.low) + weight_above g m (slab_right g e.low) (right_count g e.low) + m e)
+pub parity_upright : (g : Skeleton) (m : Edge → ℕ) (e : Edge) → IsPlaneSkeleton g → IsEvenAtVertices g m → Contains g.edges e → on_wall e.low e.high ≡ true → Even (weight_above g m (slab_left g e.low) (left_count g e.low) + weight_above g m (slab_right g e.low) (right_count g e.low) + m e)
 parity_upright g m e plane even E h =
     let t = e.low in
     let wall = on_own_wall g t plane (plane.lower_in e E) in

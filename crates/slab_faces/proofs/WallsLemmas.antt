@@ -5,7 +5,7 @@ use Rattle.std.specs.List.{Contains, list_any, range_with_len}
 use Rattle.std.proofs.lemmas.Bool.{false≢true, and_parts, and_from, not-true, false_from_ne_true, cases_Bool, le-leb, lt-ltb}
 use Rattle.exact_plane.specs.Point.{Point}
 use Rattle.plane_graphs.specs.Graph.{Edge}
-use Rattle.slab_laws.specs.Skeleton.{Skeleton, HasWeight, left_of, lower_than, on_wall, over, IsPlane}
+use Rattle.slab_laws.specs.Skeleton.{Skeleton, HasWeight, left_of, lower_than, on_wall, over, IsPlaneSkeleton}
 use Rattle.slab_laws.specs.Slabs.{slab_left, slab_right, spans, reaches_left, reaches_right, left_count, left_cell, right_count, width}
 use Rattle.slab_laws.specs.Faces.{is_lowest, walls, cells, slab_cells}
 use Rattle.slab_faces.specs.LocationLaws.{walls_left, OffWalls, WallsTellSlabs}
@@ -26,7 +26,7 @@ pub wall_vertex : (g : Skeleton) (v : Point) → Member (walls g) v → Contains
 unfolding walls
 wall_vertex g v m = member_in g.vertices v (filter_out (is_lowest g.vertices) g.vertices v m).0
 
-pub wall_of_vertex : (g : Skeleton) (w : Point) → IsPlane g → Contains g.vertices w → (v : Point) × IsWallOf g w v
+pub wall_of_vertex : (g : Skeleton) (w : Point) → IsPlaneSkeleton g → Contains g.vertices w → (v : Point) × IsWallOf g w v
 unfolding walls is_lowest
 wall_of_vertex g w plane W =
     let P : (u : Point) → Member g.vertices u → HasWeight u = λ u m. plane.proper u (member_in g.vertices u m) in
@@ -52,7 +52,7 @@ wall_of_vertex g w plane W =
     ]
 
 -- ---- the slab to the left of t is the first one, or begins at a wall
-begins_at : (g : Skeleton) (t : Point) → IsPlane g → HasWeight t → (slab_left g t ≡ 0) ⊎ ((w : Point) × Contains g.vertices w × (slab_right g w ≡ slab_left g t))
+begins_at : (g : Skeleton) (t : Point) → IsPlaneSkeleton g → HasWeight t → (slab_left g t ≡ 0) ⊎ ((w : Point) × Contains g.vertices w × (slab_right g w ≡ slab_left g t))
 begins_at g t plane T =
     let P : (u : Point) → Member g.vertices u → HasWeight u = λ u m. plane.proper u (member_in g.vertices u m) in
     elim (best_of (λ u. left_of u t) (λ x y. left_of y x) g.vertices left_of-irrefl (λ x y z a b c h k. left_of-before z y x (P z c) (P y b) (P x a) k (left_of-asym y x h))) [
@@ -68,7 +68,7 @@ begins_at g t plane T =
           inr (w, member_in g.vertices w b.1.in', sum_by-same (λ v. cond (not (left_of w v)) 1 0) (λ v. cond (left_of v t) 1 0) g.vertices (each (λ v. cond {A = ℕ} (not (left_of w v)) 1 0 ≡ cond (left_of v t) 1 0) g.vertices (λ v V. ap (λ b. cond {A = ℕ} b 1 0) (same v V))))
     ]
 
-same_right : (g : Skeleton) (v w : Point) → IsPlane g → HasWeight v → HasWeight w → left_of v w ≡ false → left_of w v ≡ false → slab_right g v ≡ slab_right g w
+same_right : (g : Skeleton) (v w : Point) → IsPlaneSkeleton g → HasWeight v → HasWeight w → left_of v w ≡ false → left_of w v ≡ false → slab_right g v ≡ slab_right g w
 same_right g v w plane V W a b =
     sum_by-same (λ u. cond (not (left_of v u)) 1 0) (λ u. cond (not (left_of w u)) 1 0) g.vertices (each (λ u. cond {A = ℕ} (not (left_of v u)) 1 0 ≡ cond (not (left_of w u)) 1 0) g.vertices (λ u U. ap (λ b. cond {A = ℕ} (not b) 1 0) (same u (plane.proper u U))))
   where
@@ -79,7 +79,7 @@ same_right g v w plane V W a b =
     ]
 
 -- ---- the cell of each point is among the cells
-spanned : (g : Skeleton) (t : Point) (e : Edge) → IsPlane g → HasWeight t → Contains g.edges e → reaches_left e t ≡ true → spans g (slab_left g t) e ≡ true
+spanned : (g : Skeleton) (t : Point) (e : Edge) → IsPlaneSkeleton g → HasWeight t → Contains g.edges e → reaches_left e t ≡ true → spans g (slab_left g t) e ≡ true
 spanned g t e plane T E h =
     let p = plane.proper_edge e E in
     let a = and_parts (left_of e.low t) (not (left_of e.high t)) h in
@@ -90,11 +90,11 @@ spanned g t e plane T E h =
     (λ v V k. ap not (left_of-asym v e.high (left_of-before v t e.high (plane.proper v V) T p.1 k r))) in
     and_from _ _ (le-leb _ _ few) (lt-ltb _ _ many)
 
-in_width : (g : Skeleton) (t : Point) → IsPlane g → HasWeight t → left_count g t ≤ width g (slab_left g t)
+in_width : (g : Skeleton) (t : Point) → IsPlaneSkeleton g → HasWeight t → left_count g t ≤ width g (slab_left g t)
 unfolding width
 in_width g t plane T = fewer (λ e. reaches_left e t && not (over e t)) (spans g (slab_left g t)) g.edges (λ e E h. spanned g t e plane T E (and_parts (reaches_left e t) (not (over e t)) h).0)
 
-slab_there : (g : Skeleton) (t : Point) → IsPlane g → HasWeight t → Member (0 ∷ map (slab_right g) (walls g)) (slab_left g t)
+slab_there : (g : Skeleton) (t : Point) → IsPlaneSkeleton g → HasWeight t → Member (0 ∷ map (slab_right g) (walls g)) (slab_left g t)
 slab_there g t plane T =
     elim (begins_at g t plane T) [
       | inl e ↦ inl (sym e)
@@ -104,7 +104,7 @@ slab_there g t plane T =
           inr (subst (Member (map (slab_right g) (walls g))) (e ∙ b.2) (map_in (slab_right g) (walls g) w.0 w.1.wall))
     ]
 
-pub cell_there : (g : Skeleton) (t : Point) → IsPlane g → HasWeight t → Member (cells g) (left_cell g t)
+pub cell_there : (g : Skeleton) (t : Point) → IsPlaneSkeleton g → HasWeight t → Member (cells g) (left_cell g t)
 unfolding cells slab_cells
 cell_there g t plane T =
     let i = slab_left g t in
@@ -144,7 +144,7 @@ pub record IsLess (g : Skeleton) (t u : Point) : Type 0 where
   pub vertices : slab_left g u ≤ slab_left g t
   pub walls : walls_left g u ≤ walls_left g t
 
-more_or_less : (g : Skeleton) (t u : Point) → IsPlane g → HasWeight t → HasWeight u → IsMore g t u ⊎ IsLess g t u
+more_or_less : (g : Skeleton) (t u : Point) → IsPlaneSkeleton g → HasWeight t → HasWeight u → IsMore g t u ⊎ IsLess g t u
 more_or_less g t u plane T U =
     elim (best_of (λ v. left_of v u && not (left_of v t)) (λ x y. false) g.vertices (λ x. refl) (λ x y z a b c h k. absurd (false≢true h))) [
       | inl none ↦

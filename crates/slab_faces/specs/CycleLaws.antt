@@ -3,7 +3,7 @@ use Rattle.std.specs.Prelude.{◌≡◌, ◌+◌, Bool, cond, ◌&&◌, true, fa
 use Rattle.std.specs.List.{Contains, count_by}
 use Rattle.plane_graphs.specs.Graph.{Edge}
 use Rattle.slab_laws.specs.declared.slab_cell.SlabCell.{SlabCell}
-use Rattle.slab_laws.specs.Skeleton.{Skeleton, left_of, IsPlane}
+use Rattle.slab_laws.specs.Skeleton.{Skeleton, left_of, IsPlaneSkeleton}
 use Rattle.slab_laws.specs.Slabs.{top_cell}
 use Rattle.slab_laws.specs.Weights.{Even, weight_above}
 use Rattle.slab_laws.specs.Darts.{Dart, darts, source, target, cell_of}
@@ -14,12 +14,12 @@ use Rattle.slab_laws.specs.Subdivision.{Cycle, subdivision}
 
 -- the next dart starts where the dart ends
 abbrev pub NextStartsThere : Type 0
-NextStartsThere = (g : Skeleton) (d : Dart) → IsPlane g → Contains g.edges d.edge → source (next (darts g) d) ≡ target d
+NextStartsThere = (g : Skeleton) (d : Dart) → IsPlaneSkeleton g → Contains g.edges d.edge → source (next (darts g) d) ≡ target d
 
 -- the parities of a cycle on both sides of an edge differ where the edge has one dart of the cycle, and else are the same
 abbrev pub CycleAcrossEdge : Type 0
 CycleAcrossEdge =
-    (g : Skeleton) (lead : Dart) (e : Edge) → IsPlane g → Contains g.edges e → Even (weight_above g (darts_on (dart_labels (darts g)) lead) (cell_of g e true).slab (cell_of g e true).place + weight_above g (darts_on (dart_labels (darts g)) lead) (cell_of g e false).slab (cell_of g e false).place + darts_on (dart_labels (darts g)) lead e)
+    (g : Skeleton) (lead : Dart) (e : Edge) → IsPlaneSkeleton g → Contains g.edges e → Even (weight_above g (darts_on (dart_labels (darts g)) lead) (cell_of g e true).slab (cell_of g e true).place + weight_above g (darts_on (dart_labels (darts g)) lead) (cell_of g e false).slab (cell_of g e false).place + darts_on (dart_labels (darts g)) lead e)
 
 -- the cycle bounds the face f from outside
 abbrev pub bounds : SlabCell → Cycle → Bool
@@ -29,4 +29,4 @@ bounds f c = c.outer && same_cell c.face f
 -- whose edge isn't vertical
 abbrev pub OuterCyclesOfFaces : Type 0
 OuterCyclesOfFaces =
-    (g : Skeleton) (d : Dart) → IsPlane g → Contains g.edges d.edge → left_of d.edge.low d.edge.high ≡ true → Even (count_by (bounds (face_of (face_labels g) (left_of_dart g d))) (subdivision g).cycles + 1 + cond (same_cell (face_of (face_labels g) (top_cell g 0)) (face_of (face_labels g) (left_of_dart g d))) 1 0)
+    (g : Skeleton) (d : Dart) → IsPlaneSkeleton g → Contains g.edges d.edge → left_of d.edge.low d.edge.high ≡ true → Even (count_by (bounds (face_of (face_labels g) (left_of_dart g d))) (subdivision g).cycles + 1 + cond (same_cell (face_of (face_labels g) (top_cell g 0)) (face_of (face_labels g) (left_of_dart g d))) 1 0)

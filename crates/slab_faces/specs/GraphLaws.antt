@@ -6,4 +6,4 @@ use Rattle.slab_laws.specs.Text.{skeleton}
 
 -- the skeleton of a plane graph is plane, so every law of faces holds for it
 abbrev pub GraphIsPlaneSkeleton : Type 0
-GraphIsPlaneSkeleton = (g : Graph) → IsPlane g → counted.IsPlane (skeleton g)
+GraphIsPlaneSkeleton = (g : Graph) → IsPlane g → counted.IsPlaneSkeleton (skeleton g)

@@ -5,7 +5,7 @@ use Rattle.exact_plane.specs.Point.{Point}
 use Rattle.plane_graphs.specs.Graph.{Edge}
 use Rattle.slab_laws.specs.declared.slab_cell.SlabCell.{SlabCell}
 use Rattle.slab_laws.specs.declared.cell.Cell.TheVariants.{Vertex, Edge as OnEdge, Face}
-use Rattle.slab_laws.specs.Skeleton.{Skeleton, inside, IsPlane}
+use Rattle.slab_laws.specs.Skeleton.{Skeleton, inside, IsPlaneSkeleton}
 use Rattle.slab_laws.specs.Slabs.{left_cell}
 use Rattle.slab_laws.specs.Faces.{face_labels, face_of, same_cell, cells}
 use Rattle.slab_laws.specs.Subdivision.{subdivision, holds, rank}
@@ -26,8 +26,8 @@ pub record IsLocatedOn (g : Skeleton) (q : Point) : Type 0 where
 -- its cell
 pub record LocationIs : Type 0 where
   pub on_vertex : (g : Skeleton) (v : Point) → Contains g.vertices v → holds (subdivision g) v ≡ Vertex v
-  pub no_vertex : (g : Skeleton) (e : Edge) (q : Point) → IsPlane g → Contains g.edges e → inside e q ≡ true → IsNoVertex g q
-  pub on_edge : (g : Skeleton) (e : Edge) (q : Point) → IsPlane g → Contains g.edges e → inside e q ≡ true → IsLocatedOn g q
+  pub no_vertex : (g : Skeleton) (e : Edge) (q : Point) → IsPlaneSkeleton g → Contains g.edges e → inside e q ≡ true → IsNoVertex g q
+  pub on_edge : (g : Skeleton) (e : Edge) (q : Point) → IsPlaneSkeleton g → Contains g.edges e → inside e q ≡ true → IsLocatedOn g q
   pub in_face : (g : Skeleton) (q : Point) → IsNoVertex g q → IsOnNoEdge g q → holds (subdivision g) q ≡ Face (rank (subdivision g) (face_of (face_labels g) (left_cell g q)))
 
 -- each cell is in exactly one of the ranked faces, and that one has its rank below their number

@@ -8,7 +8,7 @@ ghost use Rattle.slab_faces.specs.Locations.{LocationIs, CellsHaveFaces};
 ghost use Rattle.slab_faces.specs.PointLaws.{PointsHaveOneFace};
 ghost use Rattle.slab_faces.specs.EveryFaceLaws.{OuterCyclesOfEveryFace, FaceIsTheCells};
 ghost use Rattle.slab_faces.specs.LocationLaws.{LocationIsOne, OneEdgeAtMost, OffWalls, WallsTellSlabs};
-ghost use Rattle.slab_faces.specs.ComputedLaws.{LabelsAreFaces, LabelsAreLeast, NextKeepsFace as ComputedNextKeepsFace, NextIsOneToOne, CycleParity};
+ghost use Rattle.slab_faces.specs.ComputedLaws.{LabelsAreFaces, LabelsAreLeast, ComputedNextKeepsFace, NextIsOneToOne, CycleParity};
 
 /// Where the weights of the edges at each vertex come to an even number, the weight above is even or odd on a whole face.
 pub fn parity_of_faces()

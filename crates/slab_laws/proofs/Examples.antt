@@ -14,6 +14,7 @@ use Rattle.slab_laws.specs.declared.slab_cell.SlabCell.{SlabCell}
 use Rattle.slab_laws.specs.Listed.{distinct}
 use Rattle.slab_laws.specs.Darts.{darts}
 use Rattle.slab_laws.specs.Skeleton as plane
+use Rattle.slab_laws.specs.Meets.{covers_above}
 use Rattle.slab_laws.specs.Slabs as slabs
 use Rattle.slab_laws.specs.Faces as faces
 use Rattle.slab_laws.specs.Classes as classes
@@ -129,6 +130,11 @@ contact-located_2 : located contact (at (pos 2) (negsuc 0)) ≡ Face 0
 unfolding opened
 contact-located_2 = refl
 
+-- a fraction on an upright edge
+contact-located_3 : located contact (over (pos 4) (pos 5) 2) ≡ OnEdge (at (pos 2) (pos 0)) (at (pos 2) (pos 3))
+unfolding opened
+contact-located_3 = refl
+
 -- five segments from one point
 abbrev star : Present
 star = record { pieces = piece 1 (at (negsuc 1) (pos 1)) (at (pos 0) (pos 0)) ∷ piece 2 (at (negsuc 0) (negsuc 1)) (at (pos 0) (pos 0)) ∷ piece 3 (at (pos 0) (pos 0)) (at (pos 0) (pos 3)) ∷ piece 4 (at (pos 0) (pos 0)) (at (pos 2) (pos 1)) ∷ piece 5 (at (pos 0) (pos 0)) (at (pos 2) (negsuc 0)) ∷ []; pins = [] }
@@ -237,3 +243,67 @@ pictured-outside = refl
 pictured-next : map (λ d. rotation.next (darts (skeleton (graph pictured))) d) ((record { edge = record { low = at (pos 2) (pos 4); high = at (pos 6) (pos 8) }; forward = false }) ∷ (record { edge = record { low = at (pos 2) (pos 4); high = at (pos 6) (pos 8) }; forward = true }) ∷ []) ≡ (record { edge = record { low = at (pos 2) (pos 4); high = at (pos 6) (pos 8) }; forward = true }) ∷ (record { edge = record { low = at (pos 0) (pos 4); high = at (pos 6) (pos 8) }; forward = false }) ∷ []
 unfolding opened
 pictured-next = refl
+
+-- the cells on the left of all darts of the square with both diagonals: in the first slab of the edge, or beside its lower end
+diagonals-left : map (cycles.left_of_dart (skeleton (graph diagonals))) (darts (skeleton (graph diagonals))) ≡ cell 0 0 ∷ cell 2 2 ∷ cell 2 1 ∷ cell 2 3 ∷ cell 2 4 ∷ cell 3 2 ∷ cell 3 3 ∷ cell 3 2 ∷ cell 2 2 ∷ cell 2 1 ∷ cell 2 0 ∷ cell 2 2 ∷ cell 2 3 ∷ cell 3 1 ∷ cell 3 2 ∷ cell 5 0 ∷ []
+unfolding opened
+diagonals-left = refl
+
+-- a face with two cells in its first slab, on a wall with two vertices, and an edge under it that ends before the face does
+abbrev notched : Present
+notched = record { pieces = piece 1 (at (pos 0) (pos 0)) (at (pos 6) (pos 3)) ∷ piece 2 (at (pos 0) (pos 6)) (at (pos 6) (pos 3)) ∷ piece 3 (at (pos 0) (pos 6)) (at (pos 3) (pos 3)) ∷ piece 4 (at (pos 0) (pos 0)) (at (pos 3) (pos 3)) ∷ piece 5 (at (negsuc 0) (negsuc 1)) (at (pos 1) (negsuc 0)) ∷ []; pins = [] }
+
+notched-text : present_text notched ≡ codes "arrangement 6 5 2\nv 1 -1 -2 1 : 4\nv 2 0 0 1 : 5 6\nv 3 0 6 1 : 5 6\nv 4 1 -1 1 : 1\nv 5 3 3 1 : 2 3\nv 6 6 3 1 : 2 3\ne 1 4 : 5\ne 2 5 : 4\ne 2 6 : 1\ne 3 5 : 3\ne 3 6 : 2\nf 0\nh 1 4\nh 2 5 3 6\nf 1\no 2 6 3 5\nend\n"
+unfolding opened
+notched-text = refl
+
+notched-cells : faces.cells (skeleton (graph notched)) ≡ cell 0 0 ∷ cell 1 0 ∷ cell 1 1 ∷ cell 3 0 ∷ cell 3 1 ∷ cell 3 2 ∷ cell 3 3 ∷ cell 3 4 ∷ cell 3 5 ∷ cell 4 0 ∷ cell 4 1 ∷ cell 4 2 ∷ cell 4 3 ∷ cell 4 4 ∷ cell 5 0 ∷ cell 5 1 ∷ cell 5 2 ∷ cell 6 0 ∷ []
+unfolding opened
+notched-cells = refl
+
+notched-least : map (faces.face_of (faces.face_labels (skeleton (graph notched)))) (faces.cells (skeleton (graph notched))) ≡ cell 0 0 ∷ cell 0 0 ∷ cell 0 0 ∷ cell 0 0 ∷ cell 0 0 ∷ cell 3 2 ∷ cell 0 0 ∷ cell 3 2 ∷ cell 0 0 ∷ cell 0 0 ∷ cell 3 2 ∷ cell 0 0 ∷ cell 3 2 ∷ cell 0 0 ∷ cell 0 0 ∷ cell 3 2 ∷ cell 0 0 ∷ cell 0 0 ∷ []
+unfolding opened
+notched-least = refl
+
+-- a face whose two sides meet only under an upright edge that hangs into it
+abbrev hanging : Present
+hanging = record { pieces = piece 1 (at (pos 0) (pos 0)) (at (pos 2) (pos 0)) ∷ piece 2 (at (pos 2) (pos 0)) (at (pos 4) (pos 0)) ∷ piece 3 (at (pos 4) (pos 0)) (at (pos 4) (pos 4)) ∷ piece 4 (at (pos 0) (pos 4)) (at (pos 4) (pos 4)) ∷ piece 5 (at (pos 0) (pos 0)) (at (pos 0) (pos 4)) ∷ piece 6 (at (pos 2) (pos 2)) (at (pos 2) (pos 4)) ∷ []; pins = [] }
+
+hanging-text : present_text hanging ≡ codes "arrangement 7 7 2\nv 1 0 0 1 : 2 3\nv 2 0 4 1 : 1 5\nv 3 2 0 1 : 1 6\nv 4 2 2 1 : 5\nv 5 2 4 1 : 2 7 4\nv 6 4 0 1 : 3 7\nv 7 4 4 1 : 5 6\ne 1 2 : 5\ne 1 3 : 1\ne 2 5 : 4\ne 3 6 : 2\ne 4 5 : 6\ne 5 7 : 4\ne 6 7 : 3\nf 0\nh 1 2 5 7 6 3\nf 1\no 1 3 6 7 5 4 5 2\nend\n"
+unfolding opened
+hanging-text = refl
+
+-- ---- points and edges, as the tests of the model see them
+abbrev edge : Point → Point → graphs.Edge
+edge p q = record { low = p; high = q }
+
+points-seen : plane.left_of (at (pos 1) (pos 5)) (at (pos 2) (pos 0)) ∷ plane.left_of (at (pos 1) (pos 5)) (at (pos 1) (pos 7))
+    ∷ plane.lower_than (at (pos 2) (pos 0)) (at (pos 1) (pos 5)) ∷ plane.lower_than (at (pos 1) (pos 7)) (at (pos 1) (pos 5))
+    ∷ plane.on_wall (at (pos 1) (pos 7)) (at (pos 1) (pos 5)) ∷ plane.on_wall (at (pos 1) (pos 5)) (at (pos 2) (pos 0))
+    ∷ plane.precedes (at (pos 1) (pos 5)) (at (pos 1) (pos 7)) ∷ plane.precedes (at (pos 1) (pos 7)) (at (pos 2) (pos 0)) ∷ plane.precedes (over (pos 1) (pos 1) 2) (over (pos 1) (pos 0) 3)
+    ∷ plane.same_point (over (pos 1) (pos 5) 2) (over (pos 1) (pos 5) 2) ∷ plane.same_point (over (pos 1) (pos 5) 2) (over (pos 1) (pos 5) 3) ∷ []
+    ≡ true ∷ false ∷ true ∷ false ∷ true ∷ false ∷ true ∷ true ∷ false ∷ true ∷ false ∷ []
+unfolding opened
+points-seen = refl
+
+-- a slanted edge, and an upright one on its upper end
+abbrev slanted : graphs.Edge
+slanted = edge (at (pos 0) (pos 0)) (at (pos 4) (pos 2))
+
+abbrev upright-edge : graphs.Edge
+upright-edge = edge (at (pos 4) (pos 0)) (at (pos 4) (pos 6))
+
+edges-seen : plane.over slanted (at (pos 2) (pos 0)) ∷ plane.over slanted (at (pos 2) (pos 1)) ∷ plane.under slanted (at (pos 2) (pos 3)) ∷ plane.under slanted (at (pos 2) (pos 1))
+    ∷ plane.over upright-edge (at (pos 5) (pos 0)) ∷ plane.under upright-edge (at (pos 3) (pos 0))
+    ∷ plane.inside slanted (at (pos 2) (pos 1)) ∷ plane.inside slanted (at (pos 4) (pos 2)) ∷ plane.inside upright-edge (at (pos 4) (pos 2))
+    ∷ covers_above upright-edge (at (pos 4) (pos 0)) ∷ covers_above upright-edge (at (pos 4) (pos 6)) ∷ []
+    ≡ true ∷ false ∷ true ∷ false ∷ true ∷ true ∷ true ∷ false ∷ true ∷ true ∷ false ∷ []
+unfolding opened
+edges-seen = refl
+
+-- edges from one vertex, and edges without a common abscissa
+edges-in-order : plane.below slanted (edge (at (pos 0) (pos 0)) (at (pos 6) (pos 6))) ∷ plane.below (edge (at (pos 0) (pos 0)) (at (pos 6) (pos 6))) slanted
+    ∷ plane.below slanted (edge (at (pos 7) (pos 0)) (at (pos 9) (pos 9))) ∷ plane.below (edge (at (pos 7) (pos 0)) (at (pos 9) (pos 9))) slanted ∷ []
+    ≡ true ∷ false ∷ false ∷ false ∷ []
+unfolding opened
+edges-in-order = refl

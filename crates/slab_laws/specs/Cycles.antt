@@ -30,7 +30,7 @@ darts_on ls lead e = one (record { edge = e; forward = true }) + one (record { e
     one : Dart → ℕ
     one d = cond (same_dart (class_of same_dart ls d) lead) 1 0
 
--- the edges above the cell, each counted once for each dart of the cycle on it, are odd in number (book, ray shooting; this project)
+-- the edges above the cell, each counted once for each dart of the cycle on it, are odd in number (Fogel, Halperin and Wein: ray shooting; this project)
 unfoldable pub odd : Skeleton → List (Label Dart) → Dart → SlabCell → Bool
 odd g ls lead c = weight_above g (darts_on ls lead) c.slab c.place % 2 == 1
 

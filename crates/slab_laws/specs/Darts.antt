@@ -9,7 +9,7 @@ use Rattle.slab_laws.specs.Slabs.{left_cell, right_cell, forward_cell, backward_
 
 -- ---- darts (an edge, and whether it is gone forward), and the turn round a vertex
 
--- where an edge begins, gone forward or backward (manual, source)
+-- where an edge begins, gone forward or backward (CGAL manual, source)
 abbrev pub start : Edge → Bool → Point
 start e true = e.low
 start e false = e.high
@@ -19,11 +19,11 @@ pub record Dart : Type 0 where
   pub edge : Edge
   pub forward : Bool
 
--- where a dart begins (manual)
+-- where a dart begins (CGAL manual)
 abbrev pub source : Dart → Point
 source d = start d.edge d.forward
 
--- where it ends (manual)
+-- where it ends (CGAL manual)
 abbrev pub target : Dart → Point
 target d = start d.edge (not d.forward)
 
@@ -57,7 +57,7 @@ cell_by g e true false = backward_cell g e
 cell_by g e false true = left_cell g e.low
 cell_by g e false false = right_cell g e.low
 
--- the cell on the left of a dart: above a forward one, below a backward one; left of a vertical one that goes up, right of one that goes down (manual, incident face)
+-- the cell on the left of a dart: above a forward one, below a backward one; left of a vertical one that goes up, right of one that goes down (CGAL manual, incident face)
 abbrev pub cell_of : Skeleton → Edge → Bool → SlabCell
 cell_of g e f = cell_by g e (left_of e.low e.high) f
 
@@ -67,7 +67,7 @@ pub data Earlier (d e : Edge) (p q : Bool) : Type 0 where
   on_left : class d p ≡ 0 → class e q ≡ 0 → below d e ≡ true → Earlier d e p q
   on_right : class d p ≡ 2 → class e q ≡ 2 → below e d ≡ true → Earlier d e p q
 
--- the dart goes out of v (manual)
+-- the dart goes out of v (CGAL manual)
 pub record IsOut (g : Skeleton) (v : Point) (e : Edge) (f : Bool) : Type 0 where
   pub in' : Contains g.edges e
   pub at : start e f ≡ v

@@ -23,11 +23,11 @@ pub record IsOnWall (g : Skeleton) (t : Point) : Type 0 where
   pub is_vertex : Contains g.vertices vertex
   pub same : on_wall vertex t ≡ true
 
--- two cells beside one point of a wall that is open there (book, trapezoids that share a vertical side)
+-- two cells beside one point of a wall that is open there (Fogel, Halperin and Wein: trapezoids that share a vertical side)
 pub data Meets (g : Skeleton) : SlabCell → SlabCell → Type 0 where
   across : (t : Point) → IsOnWall g t → IsOpenAbove g t → Meets g (left_cell g t) (right_cell g t)
 
--- cells joined by a chain of meets: a face is a class of them (book, connected open components)
+-- cells joined by a chain of meets: a face is a class of them (Fogel, Halperin and Wein: connected open components)
 pub data SameFace (g : Skeleton) : SlabCell → SlabCell → Type 0 where
   here : (c : SlabCell) → SameFace g c c
   right : (b c d : SlabCell) → SameFace g b c → Meets g c d → SameFace g b d

@@ -11,7 +11,7 @@ use Rattle.slab_laws.specs.Skeleton.{same_point, same_edge, below}
 use Rattle.exact_plane.specs.PointOrder.{point_cmp}
 use Rattle.plane_graphs.specs.Ascending.{ascending}
 
--- the other way along the same edge (manual, halfedge)
+-- the other way along the same edge (CGAL manual, halfedge)
 abbrev pub twin : Dart → Dart
 twin d = record { edge = d.edge; forward = not d.forward }
 
@@ -40,7 +40,7 @@ turn d = class d.edge d.forward
 unfoldable pub earlier : Dart → Dart → Bool
 earlier d e = ltb (turn d) (turn e) || ((turn d == turn e) && (((turn d == 0) && below d.edge e.edge) || ((turn d == 2) && below e.edge d.edge)))
 
--- the order of darts round a vertex (manual, circulator around a vertex)
+-- the order of darts round a vertex (CGAL manual, circulator around a vertex)
 unfoldable pub turn_cmp : Dart → Dart → Ordering
 turn_cmp d e = cond (earlier d e) Less (cond (earlier e d) Greater Equal)
 
@@ -59,7 +59,7 @@ unfoldable pub after : Dart → List Dart → Dart
 after d [] = d
 after d (x ∷ xs) = after_in x d (x ∷ xs)
 
--- the dart out of the target that is first clockwise after the twin (manual, next halfedge of a boundary)
+-- the dart out of the target that is first clockwise after the twin (CGAL manual, next halfedge of a boundary)
 unfoldable pub next : List Dart → Dart → Dart
 next ds d = after (twin d) (ring ds (target d))
 

@@ -11,7 +11,7 @@ pub record Skeleton : Type 0 where
   pub vertices : List Point
   pub edges : List Edge
 
--- a positive weight (book, exact kernel)
+-- a positive weight (Fogel, Halperin and Wein: exact kernel)
 abbrev pub HasWeight : Point → Type 0
 HasWeight p = pos 0 <ℤ p.w
 
@@ -38,11 +38,11 @@ side e t =
     +ℤ (e.high.x *ℤ e.low.w -ℤ e.low.x *ℤ e.high.w) *ℤ t.y
     +ℤ (e.low.x *ℤ e.high.y -ℤ e.high.x *ℤ e.low.y) *ℤ t.w
 
--- the first number of the edge's line, steep * x + run * y + shift * w = 0 (book)
+-- the first number of the edge's line, steep * x + run * y + shift * w = 0 (Fogel, Halperin and Wein)
 unfoldable pub steep : Edge → ℤ
 steep e = e.low.y *ℤ e.high.w -ℤ e.high.y *ℤ e.low.w
 
--- the last number of the edge's line (book)
+-- the last number of the edge's line (Fogel, Halperin and Wein)
 unfoldable pub shift : Edge → ℤ
 shift e = e.low.x *ℤ e.high.y -ℤ e.high.x *ℤ e.low.y
 
@@ -72,7 +72,7 @@ below f e =
 
 -- ---- what is asked of a graph, and of the weights
 
--- the three numbers are the same (book, exact kernel)
+-- the three numbers are the same (Fogel, Halperin and Wein: exact kernel)
 abbrev pub same_point : Point → Point → Bool
 same_point p q = same_z p.x q.x && same_z p.y q.y && same_z p.w q.w
 
@@ -81,7 +81,7 @@ unfoldable pub crosses : Edge → Edge → Bool
 crosses e f =
     lt_z (pos 0) (side f e.low) && (lt_z (side f e.high) (pos 0) && (lt_z (side e f.low) (pos 0) && lt_z (pos 0) (side e f.high)))
 
--- the ends are the same (manual)
+-- the ends are the same (CGAL manual)
 unfoldable pub same_edge : Edge → Edge → Bool
 same_edge e f = same_point e.low f.low && same_point e.high f.high
 
@@ -93,8 +93,8 @@ precedes p q = left_of p q || (not (left_of q p) && lower_than p q)
 abbrev pub inside : Edge → Point → Bool
 inside e v = (precedes e.low v && precedes v e.high) && (not (lt_z (side e v) (pos 0)) && not (lt_z (pos 0) (side e v)))
 
--- a plane graph by signs and counts: ends are vertices, vertices and edges stand once, no vertex inside an edge, no edges cross (book, straight-line embedding)
-pub record IsPlane (g : Skeleton) : Type 0 where
+-- a plane graph by signs and counts: ends are vertices, vertices and edges stand once, no vertex inside an edge, no edges cross (Fogel, Halperin and Wein: straight-line embedding)
+pub record IsPlaneSkeleton (g : Skeleton) : Type 0 where
   pub proper : (v : Point) → Contains g.vertices v → HasWeight v
   pub lower_in : (e : Edge) → Contains g.edges e → Contains g.vertices e.low
   pub upper_in : (e : Edge) → Contains g.edges e → Contains g.vertices e.high

@@ -27,7 +27,7 @@ slab_right g t = count_by (λ v. not (left_of t v)) g.vertices
 abbrev pub spans : Skeleton → ℕ → Edge → Bool
 spans g i e = leb (slab_right g e.low) i && ltb i (slab_right g e.high)
 
--- how many of the slab's edges are below the edge (book, status order of the sweep)
+-- how many of the slab's edges are below the edge (Fogel, Halperin and Wein: status order of the sweep)
 abbrev pub place : Skeleton → ℕ → Edge → ℕ
 place g i e = count_by (λ f. spans g i f && below f e) g.edges
 

@@ -3,14 +3,14 @@ use Rattle.std.specs.Prelude.{◌≡◌, ◌≢◌, pos, List, map}
 use Rattle.exact_plane.specs.Point.{Point}
 use Rattle.exact_plane.specs.PointOrder.{point_cmp}
 use Rattle.plane_graphs.specs.Ascending.{ascending}
-use Rattle.plane_graphs.specs.Line.{precedes}
+use Rattle.plane_graphs.specs.Line.{IsProper, IsProperLine, precedes}
 use Rattle.plane_graphs.specs.Graph.{Edge, edge_cmp}
 use Rattle.exact_plane.specs.Line.{side_of}
 use Rattle.slab_laws.specs.declared.names.DartId.{DartId}
 use Rattle.slab_laws.specs.declared.names.VertexId.{VertexId}
 use Rattle.slab_laws.specs.Darts.{Dart, darts}
 use Rattle.slab_laws.specs.Rotation.{next}
-use Rattle.slab_laws.specs.Skeleton.{Skeleton, IsPlane}
+use Rattle.slab_laws.specs.Skeleton.{Skeleton, IsPlaneSkeleton}
 use Rattle.slab_laws.specs.Tables.{names, NamesAscend}
 use Rattle.slab_laws.specs.View.{View, dart_id, HasVertex, HasDart, point_in, source_in, twin_in, next_in, target_in, line_in}
 use Rattle.std.specs.Prelude.{if◌then◌else◌}
@@ -54,9 +54,11 @@ pub record IsLinked (v : View) : Type 0 where
   pub joins : (d : DartId) → HasDart v d → source_in v (next_in v d) ≡ target_in v d
   pub once : (d e : DartId) → HasDart v d → HasDart v e → next_in v d ≡ next_in v e → d ≡ e
 
--- different vertices have different points, and a dart's line holds both its ends
+-- vertices have points of the plane, different ones different points; a dart's three numbers are a line's, and the line holds both its ends
 pub record IsDrawn (v : View) : Type 0 where
+  pub proper : (u : VertexId) → HasVertex v u → IsProper (point_in v u)
   pub points : (u w : VertexId) → HasVertex v u → HasVertex v w → point_in v u ≡ point_in v w → u ≡ w
+  pub line : (d : DartId) → HasDart v d → IsProperLine (line_in v d)
   pub starts : (d : DartId) → HasDart v d → side_of (line_in v d) (point_in v (source_in v d)) ≡ pos 0
   pub ends : (d : DartId) → HasDart v d → side_of (line_in v d) (point_in v (target_in v d)) ≡ pos 0
 
@@ -72,4 +74,4 @@ pub record IsGraphSound (v : View) : Type 0 where
   pub linked : IsLinked v
   pub drawn : IsDrawn v
   pub turned : IsTurned v
-  pub plane : IsPlane (skeleton_of v)
+  pub plane : IsPlaneSkeleton (skeleton_of v)

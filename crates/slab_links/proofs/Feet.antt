@@ -8,7 +8,7 @@ use Rattle.exact_plane.specs.Point.{Point}
 use Rattle.exact_plane.specs.Span.{Span}
 use Rattle.plane_graphs.specs.Graph.{Edge}
 use Rattle.slab_laws.specs.Drawn.{edge_of, drawn}
-use Rattle.slab_laws.specs.Skeleton.{Skeleton, IsPlane, left_of, foot}
+use Rattle.slab_laws.specs.Skeleton.{Skeleton, IsPlaneSkeleton, left_of, foot}
 use Rattle.slab_laws.specs.Faces.{passes, link_at}
 use Rattle.slab_laws.specs.Slabs.{spans, place, slab_left, slab_right, left_count, right_count, reaches_left, reaches_right}
 use Rattle.slab_faces.proofs.Along.{count_above, left_reach, right_reach}
@@ -26,7 +26,7 @@ pub record IsFoot (g : Skeleton) (e : Edge) (v : Point) : Type 0 where
   pub spans_before : spans g (slab_left g v) e ≡ true
   pub spans_after : spans g (slab_right g v) e ≡ true
 
-pub foot_is : (g : Skeleton) (e : Edge) (v : Point) → IsPlane g → Contains g.vertices v → Contains g.edges e → passes v e ≡ true → IsFoot g e v
+pub foot_is : (g : Skeleton) (e : Edge) (v : Point) → IsPlaneSkeleton g → Contains g.vertices v → Contains g.edges e → passes v e ≡ true → IsFoot g e v
 foot_is g e v plane V E h =
     let a = and_parts (left_of e.low v) (left_of v e.high) h in
     let th : IsThrough e v = record { from = a.0; to = a.1 } in
@@ -61,7 +61,7 @@ pub reach_there : (vs : List Point) (ss : List Span) (s : Span) (k : ℕ) → k 
 reach_there vs ss s k h e = (omega (arith, length-map ss (reach_in vs)), ap (reach_in vs) e ∙ sym (get_or-map (reach_in vs) ss k s (reach_in vs s) h))
 
 -- the link of such an edge, from the tables of the slabs on the left and on the right
-pub foot_added : (vs : List Point) (ss : List Span) (v : Point) (s : Span) (k i j m n c d : ℕ) (ls rs : List ℕ) → IsPlane (drawn vs ss) → Contains vs v → k < length ss → s ≡ slice_index_or ss k s → passes v (edge_of s) ≡ true → i ≡ slab_left (drawn vs ss) v → j ≡ slab_right (drawn vs ss) v → ls ≡ places_in (table vs ss) i → rs ≡ places_in (table vs ss) j → m ≡ slice_index_or ls k c → n ≡ slice_index_or rs k d → record { one = record { slab = i; place = m + 1 }; other = record { slab = j; place = n + 1 } } ≡ link_at (drawn vs ss) (foot (edge_of s) v)
+pub foot_added : (vs : List Point) (ss : List Span) (v : Point) (s : Span) (k i j m n c d : ℕ) (ls rs : List ℕ) → IsPlaneSkeleton (drawn vs ss) → Contains vs v → k < length ss → s ≡ slice_index_or ss k s → passes v (edge_of s) ≡ true → i ≡ slab_left (drawn vs ss) v → j ≡ slab_right (drawn vs ss) v → ls ≡ places_in (table vs ss) i → rs ≡ places_in (table vs ss) j → m ≡ slice_index_or ls k c → n ≡ slice_index_or rs k d → record { one = record { slab = i; place = m + 1 }; other = record { slab = j; place = n + 1 } } ≡ link_at (drawn vs ss) (foot (edge_of s) v)
 foot_added vs ss v s k i j m n c d ls rs plane V h e p a b x y q r =
     let g : Skeleton = drawn vs ss in
     let f : IsFoot g (edge_of s) v = foot_is g (edge_of s) v plane V (edge_there ss s k h e) p in

@@ -2,5 +2,4 @@ pub mod Counts
 pub mod Feet
 pub mod Gathered
 pub mod Loops
-pub mod PlaneTests
 pub mod Reached

@@ -10,7 +10,7 @@ use Rattle.exact_plane.specs.Point.{Point}
 use Rattle.exact_plane.specs.Span.{Span}
 use Rattle.plane_graphs.specs.Graph.{Edge}
 use Rattle.slab_laws.specs.Drawn.{edge_of, drawn}
-use Rattle.slab_laws.specs.Skeleton.{Skeleton, IsPlane, left_of, below}
+use Rattle.slab_laws.specs.Skeleton.{Skeleton, IsPlaneSkeleton, left_of, below}
 use Rattle.slab_laws.specs.Slabs.{spans, place, width}
 use Rattle.slab_faces.proofs.Cells.{right_few}
 use Rattle.slab_faces.proofs.Shift.{sum_by-map}
@@ -92,7 +92,7 @@ none_among rs i p qs v h e = record {
 pub new_across : (i j : ℕ) (r : Reach) → is_new i j r ≡ true → is_across j r ≡ true
 new_across i j r h = (and_parts (is_across j r) (not (is_across i r)) h).0
 
-slanting : (g : Skeleton) (i : ℕ) (e : Edge) → IsPlane g → Contains g.edges e → spans g i e ≡ true → left_of e.low e.high ≡ true
+slanting : (g : Skeleton) (i : ℕ) (e : Edge) → IsPlaneSkeleton g → Contains g.edges e → spans g i e ≡ true → left_of e.low e.high ≡ true
 slanting g i e plane E h =
     let q = plane.proper_edge e E in
     elim (cases_Bool (left_of e.low e.high)) [
@@ -107,7 +107,7 @@ slanting g i e plane E h =
         let c = ltb-true i n a.1 in
         omega arith
 
-pub none_vertical : (vs : List Point) (ss : List Span) (rs : List Reach) → IsPlane (drawn vs ss) → rs ≡ table vs ss → HasNoVerticalAcross rs
+pub none_vertical : (vs : List Point) (ss : List Span) (rs : List Reach) → IsPlaneSkeleton (drawn vs ss) → rs ≡ table vs ss → HasNoVerticalAcross rs
 none_vertical vs ss rs plane e = record {
   slanted = λ i r q a.
       let m = map_out (reach_in vs) ss r (in_member _ r (subst (λ l. Contains l r) e q)) in

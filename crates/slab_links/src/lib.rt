@@ -8,11 +8,7 @@
 mod cells;
 mod links;
 mod places;
-#[cfg(test)]
-mod planes;
 mod reaches;
-#[cfg(test)]
-mod tests;
 mod walls;
 
 pub use cells::list_cells;

@@ -1,7 +1,7 @@
 ghost use Rattle.std.specs.Prelude.{◌≡◌, ◌++◌, IfOk};
 ghost use Rattle.std.specs.List.{Contains};
 ghost use Rattle.slab_laws.specs.Drawn.{drawn};
-ghost use Rattle.slab_laws.specs.Skeleton.{IsPlane};
+ghost use Rattle.slab_laws.specs.Skeleton.{IsPlaneSkeleton};
 ghost use Rattle.slab_laws.specs.Slabs.{slab_left, slab_right};
 ghost use Rattle.slab_laws.specs.Faces.{corner_links, foot_links, links};
 ghost use Rattle.slab_links.specs.Tables.{table, places_in};
@@ -44,7 +44,7 @@ fn add_feet(
     left: &Places,
     right: &Places,
 ) -> Result<(), NoMemory>
-    requires plane { IsPlane (drawn points.now edges.now) }
+    requires plane { IsPlaneSkeleton (drawn points.now edges.now) }
     requires wall { Contains points.now wall.now }
     requires left_slab { left.now.slab ≡ slab_left (drawn points.now edges.now) wall.now }
     requires left { left.now.below.items ≡ places_in (table points.now edges.now) left.now.slab }
@@ -69,7 +69,7 @@ fn add_feet(
     Ok(())
 }
 
-/// The links of the cells that meet across all walls (book, vertical decomposition).
+/// The links of the cells that meet across all walls (Fogel, Halperin and Wein: vertical decomposition).
 ///
 /// They come wall by wall: first that of the interval below all stops, then those above the vertices, in their order, then
 /// those above the edges that pass, in theirs. It takes about (V + E)^2 steps for V vertices, in their order, and E edges.
@@ -79,7 +79,7 @@ pub fn link_cells(
     points: &[Point],
     edges: &[Span],
 ) -> Result<Vec<Link<SlabCell>>, NoMemory>
-    requires { IsPlane (drawn points.now edges.now) }
+    requires { IsPlaneSkeleton (drawn points.now edges.now) }
     ensures { IfOk result (λ ls. ls.items ≡ links (drawn points.now edges.now)) }
 {
     let reaches = list_reaches(alloc, points, edges)?;

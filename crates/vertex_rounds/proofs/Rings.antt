@@ -9,7 +9,7 @@ use Rattle.std.proofs.lemmas.List.Sums.{length-filter, count_by-le-length}
 use Rattle.exact_plane.specs.Point.{Point}
 use Rattle.plane_graphs.specs.Ascending.{place, ascending}
 use Rattle.plane_graphs.specs.Graph.{Edge}
-use Rattle.slab_laws.specs.Skeleton.{Skeleton, same_point, left_of, lower_than, on_wall, IsPlane}
+use Rattle.slab_laws.specs.Skeleton.{Skeleton, same_point, left_of, lower_than, on_wall, IsPlaneSkeleton}
 use Rattle.slab_laws.specs.Darts.{Dart, start, source, target, darts}
 use Rattle.slab_laws.specs.Rotation.{earlier, turn_cmp, ring}
 use Rattle.slab_laws.specs.Subdivision.{has_dart}
@@ -25,7 +25,7 @@ lower_both : (p q : Point) → lower_than p q ≡ true → lower_than q p ≡ tr
 unfolding lower_than
 lower_both p q h k = omega (arith, ints)
 
-module _ (g : Skeleton) (plane : IsPlane g) where
+module _ (g : Skeleton) (plane : IsPlaneSkeleton g) where
   -- no edge goes back along another
   opposite : (d e : Edge) → Contains g.edges d → Contains g.edges e → d.low ≡ e.high → d.high ≡ e.low → ⊥
   opposite d e D E a b =
@@ -77,7 +77,7 @@ module _ {X : Type 0} (early : X → X → Bool) (P : X → Type 0) (o : IsRound
   sorted_apart (x ∷ xs) q s =
       (λ y m e. o.itself x (q x (inl refl)) (subst (λ z. early x z ≡ true) (sym e) (s.0 y m)), sorted_apart xs (λ z m. q z (inr m)) s.1)
 
-module _ (g : Skeleton) (p : Point) (plane : IsPlane g) (in' : Contains g.vertices p) where
+module _ (g : Skeleton) (p : Point) (plane : IsPlaneSkeleton g) (in' : Contains g.vertices p) where
   outs : List Dart
   outs = filter (λ d. same_point (source d) p) (darts g)
 

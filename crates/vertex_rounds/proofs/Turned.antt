@@ -7,7 +7,7 @@ use Rattle.std.proofs.Math.Seq.{drop-append_seam, take-append_seam}
 use Rattle.exact_plane.specs.Point.{Point}
 use Rattle.exact_plane.specs.PointOrder.{point_cmp}
 use Rattle.exact_plane.specs.PointOrderLaws.{point_cmp_total, same_point as one_point}
-use Rattle.slab_laws.specs.Skeleton.{Skeleton, IsPlane}
+use Rattle.slab_laws.specs.Skeleton.{Skeleton, IsPlaneSkeleton}
 use Rattle.slab_laws.specs.Darts.{Dart, source, target, darts}
 use Rattle.slab_laws.specs.Rotation.{twin, after, ring, next, rotation}
 use Rattle.slab_faces.proofs.Member.{Member, member_in, in_member, append_left, none_passes, none_passing}
@@ -61,7 +61,7 @@ neither p q h k = one_point p q (go (point_cmp p q) h (sym (ap is_lt (point_cmp_
     go Greater h k = absurd cc
 
 -- ---- the round of a vertex
-module _ (g : Skeleton) (d : Dart) (plane : IsPlane g) (there : Contains (darts g) d) where
+module _ (g : Skeleton) (d : Dart) (plane : IsPlaneSkeleton g) (there : Contains (darts g) d) where
   edge_there : Contains g.edges d.edge
   edge_there = dart_out g d (in_member (darts g) d there)
 

@@ -1,18 +1,18 @@
 use Rattle.std.proofs.Common.{sym, subst, ◌∙◌, map}
 use Rattle.std.specs.List.{list_any}
 use Rattle.slab_laws.specs.Drawn.{drawn}
-use Rattle.slab_laws.specs.Skeleton.{IsPlane, same_point}
+use Rattle.slab_laws.specs.Skeleton.{IsPlaneSkeleton, same_point}
 use Rattle.plain_slabs.specs.Orbits.{AreOrbits, AreRegions}
 use Rattle.plain_slabs.proofs.Building.{drawn_is, plane_is, kept}
 use Rattle.plain_slabs.proofs.build.plain_of.Goals as goal
 
 pub orbits_of-requires-clause-plane : goal.orbits_of-requires-clause-plane
 orbits_of-requires-clause-plane c =
-    subst IsPlane (λ i. drawn (sym c.deref-3.ensures.value i) (sym c.deref-4.ensures.value i)) (plane_is c.args.points.items c.args.marks.items c.args.pins.items c.args.edges.items c.requires.plane c.requires.edges)
+    subst IsPlaneSkeleton (λ i. drawn (sym c.deref-3.ensures.value i) (sym c.deref-4.ensures.value i)) (plane_is c.args.points.items c.args.marks.items c.args.pins.items c.args.edges.items c.requires.plane c.requires.edges)
 
 pub regions_of-requires-clause-plane : goal.regions_of-requires-clause-plane
 regions_of-requires-clause-plane c =
-    subst IsPlane (λ i. drawn (sym c.deref-5.ensures.value i) (sym c.deref-6.ensures.value i)) (plane_is c.args.points.items c.args.marks.items c.args.pins.items c.args.edges.items c.requires.plane c.requires.edges)
+    subst IsPlaneSkeleton (λ i. drawn (sym c.deref-5.ensures.value i) (sym c.deref-6.ensures.value i)) (plane_is c.args.points.items c.args.marks.items c.args.pins.items c.args.edges.items c.requires.plane c.requires.edges)
 
 pub invariant_of-result : goal.invariant_of-result
 invariant_of-result c =

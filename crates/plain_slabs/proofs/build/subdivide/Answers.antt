@@ -22,7 +22,7 @@ pub plain_of-requires-clause-lines : goal.plain_of-requires-clause-lines
 plain_of-requires-clause-lines c =
     let p = present_of c.args.present.now in
     let is = graph_is p c.in_ok-points.points.items c.in_ok-marks.marks.items c.in_ok-pins.pins.items c.in_ok-points.ensures c.in_ok-marks.ensures (c.in_ok-pins.ensures ∙ c.deref-3.ensures.value) in
-    lines_are p c.in_ok-points.points.items c.in_ok-marks.marks.items c.in_ok-pins.pins.items c.in_ok-edges.edges.items is c.in_ok-edges.ensures.edges c.in_ok-edges.ensures.lines
+    lines_are p c.in_ok-points.points.items c.in_ok-marks.marks.items c.in_ok-pins.pins.items c.in_ok-edges.edges.items is c.in_ok-edges.ensures.edges c.in_ok-edges.ensures.lines c.requires
 
 pub plain_of-requires-clause-edges : goal.plain_of-requires-clause-edges
 plain_of-requires-clause-edges c =
@@ -47,5 +47,5 @@ returns-clause-stands c =
     let p = present_of c.args.present.now in
     let is = graph_is p c.in_ok-points.points.items c.in_ok-marks.marks.items c.in_ok-pins.pins.items c.in_ok-points.ensures c.in_ok-marks.ensures (c.in_ok-pins.ensures ∙ c.deref-3.ensures.value) in
     let d : Drawing = drawing_in c.in_ok-points.points.items c.in_ok-marks.marks.items c.in_ok-pins.pins.items c.in_ok-edges.edges.items in
-    let lines = lines_are p c.in_ok-points.points.items c.in_ok-marks.marks.items c.in_ok-pins.pins.items c.in_ok-edges.edges.items is c.in_ok-edges.ensures.edges c.in_ok-edges.ensures.lines in
+    let lines = lines_are p c.in_ok-points.points.items c.in_ok-marks.marks.items c.in_ok-pins.pins.items c.in_ok-edges.edges.items is c.in_ok-edges.ensures.edges c.in_ok-edges.ensures.lines c.requires in
     subst (λ (d : Drawing). IsStanding (view_of d) (faces_of d)) (sym c.in_ok-plain.ensures) (lists_stand d (subst IsPlane (sym is) (graph_is_plane p c.requires)) lines)

@@ -1,0 +1,13 @@
+//! Tests of the crates above the exact plane: replies, subdivisions, lines and streams, with values from outside.
+#![tactic(auto)]
+
+#[cfg(test)]
+mod lines;
+#[cfg(test)]
+mod memory;
+#[cfg(test)]
+mod rows;
+#[cfg(test)]
+mod runs;
+#[cfg(test)]
+mod streams;

@@ -1,0 +1,116 @@
+use exact_plane::Point;
+use script_lines::{Command, LineError, read_line};
+
+#[test]
+fn commands_are_read(rt: HostRuntime) {
+    let point = |x, y, w| Point::new(x, y, w).ok();
+    let rows: [(&[u8], Option<Command>); 15] = [
+        (b"show", Some(Command::Show)),
+        (b"  show ", Some(Command::Show)),
+        (b"count", Some(Command::Count)),
+        (b"segment 0 0 4 0", Some(Command::Segment(0, 0, 4, 0))),
+        (
+            b" segment  -1048575 1 2  1048575 ",
+            Some(Command::Segment(-1048575, 1, 2, 1048575)),
+        ),
+        (b"segment 3 3 3 3", Some(Command::Segment(3, 3, 3, 3))),
+        (b"pin -1 1 5", point(-1, 1, 5).map(Command::Pin)),
+        (b"pin 4 2 6", point(2, 1, 3).map(Command::Pin)),
+        (b" unpin  1 1   1 ", point(1, 1, 1).map(Command::Unpin)),
+        (b"locate 0 0 2", point(0, 0, 1).map(Command::Locate)),
+        (
+            b"locate -1048575 -4398037073925 8796072050701",
+            point(-1048575, -4398037073925, 8796072050701).map(Command::Locate),
+        ),
+        (b"# note", Some(Command::Nothing)),
+        (b"  #pin 0 0", Some(Command::Nothing)),
+        (b"   ", Some(Command::Nothing)),
+        (b"", Some(Command::Nothing)),
+    ];
+    for (line, wanted) in rows {
+        assert!(rt;
+            wanted.is_some() && read_line(line).ok() == wanted,
+            "{line:?}"
+        );
+    }
+}
+
+#[test]
+fn errors_come_in_their_order(rt: HostRuntime) {
+    let rows: [(&[u8], LineError); 29] = [
+        (b"paint", LineError::Word),
+        (b"segments 0 0 1 1", LineError::Word),
+        (b"Show", LineError::Word),
+        (b"pinn 0 0 1", LineError::Word),
+        (b"pin", LineError::Count),
+        (b"pin 0 0", LineError::Count),
+        (b"pin 0 x", LineError::Count),
+        (b"pin 0 0 1 1", LineError::Count),
+        (b"show 1", LineError::Count),
+        (b"count 1", LineError::Count),
+        (b"segment 0 0 1", LineError::Count),
+        (b"pin -0 0 1", LineError::Number),
+        (b"pin 0 0 01", LineError::Number),
+        (b"pin +1 0 1", LineError::Number),
+        (b"pin - 0 1", LineError::Number),
+        (b"pin x 0 0", LineError::Number),
+        (b"segment 0 0 1 01", LineError::Number),
+        (b"segment 0 x 1048576 0", LineError::Number),
+        (b"pin 1 1 0", LineError::Range),
+        (b"pin 1 1 -1", LineError::Range),
+        (b"pin 0 0 8796093022208", LineError::Range),
+        (b"pin 1048576 0 1", LineError::Range),
+        (b"pin 0 0 18446744073709551617", LineError::Range),
+        (b"segment 0 0 1048576 0", LineError::Range),
+        (b"segment 0 0 0 -1048576", LineError::Range),
+        (
+            b"segment 0 0 0 170141183460469231731687303715884105728",
+            LineError::Range,
+        ),
+        (b"pin\xc8", LineError::Byte),
+        (b"pin\t0 0 1", LineError::Byte),
+        (b"# a\tb", LineError::Byte),
+    ];
+    for (line, wanted) in rows {
+        assert!(rt; read_line(line) == Err(wanted), "{line:?}");
+    }
+}
+
+#[test]
+fn long_lines_are_refused(rt: HostRuntime) {
+    let letters = [b'a'; 201];
+    assert!(rt; read_line(&letters) == Err(LineError::Long));
+    assert!(rt; read_line(&letters[..200]) == Err(LineError::Word));
+
+    let spaces = [b' '; 201];
+    assert!(rt; read_line(&spaces) == Err(LineError::Long));
+    assert!(rt; read_line(&spaces[..200]) == Ok(Command::Nothing));
+
+    let comment = [b'#'; 201];
+    assert!(rt; read_line(&comment) == Err(LineError::Long));
+    assert!(rt; read_line(&comment[..200]) == Ok(Command::Nothing));
+
+    let other_bytes = [b'\t'; 201];
+    assert!(rt; read_line(&other_bytes) == Err(LineError::Long));
+    assert!(rt; read_line(&other_bytes[..200]) == Err(LineError::Byte));
+
+    // A number of 190 digits.
+    let mut digits = [b'1'; 198];
+    digits[..8].copy_from_slice(b"pin 0 0 ");
+    assert!(rt; read_line(&digits) == Err(LineError::Range));
+}
+
+#[test]
+fn errors_have_their_numbers(rt: HostRuntime) {
+    let rows = [
+        (LineError::Word, 1),
+        (LineError::Count, 2),
+        (LineError::Number, 3),
+        (LineError::Range, 4),
+        (LineError::Long, 5),
+        (LineError::Byte, 6),
+    ];
+    for (error, number) in rows {
+        assert!(rt; error.number() == number);
+    }
+}

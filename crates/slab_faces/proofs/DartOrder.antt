@@ -1,0 +1,87 @@
+-- The darts of a plane skeleton in their order: the order tells them apart, and what holds along `next` holds of a cycle's least dart.
+use Rattle.std.proofs.Common.{◌≡◌, Bool, true, false, refl, sym, ◌∙◌, subst, map, arith, Contains, Equal}
+use Rattle.std.specs.Cmp.{IsTotalOrder}
+use Rattle.std.proofs.lemmas.Cmp.{then_total, on_total}
+use Rattle.std.proofs.lemmas.Int.{ints}
+use Rattle.integers.proofs.Classes.{then_equal}
+use Rattle.exact_plane.specs.Point.{Point}
+use Rattle.exact_plane.specs.PointOrder.{point_cmp}
+use Rattle.exact_plane.specs.PointOrderLaws.{point_cmp_total, same_point}
+use Rattle.plane_graphs.specs.Ascending.{IsAscending, Member as In}
+use Rattle.plane_graphs.specs.Graph.{Edge}
+use Rattle.plane_graphs.proofs.Ascending.{IsAscending-ascending, Member-ascending, ascending-Member, from_member}
+use Rattle.slab_laws.specs.declared.classes.Link.{Link}
+use Rattle.slab_laws.specs.Skeleton.{Skeleton, left_of, lower_than, on_wall, IsPlaneSkeleton}
+use Rattle.slab_laws.specs.Darts.{Dart, darts, source, target}
+use Rattle.slab_laws.specs.Rotation.{dart_cmp, dart_below, same_dart, next}
+use Rattle.slab_laws.specs.Cycles.{dart_labels}
+use Rattle.slab_laws.specs.Rows.{dart_list, lead_of}
+use Rattle.slab_faces.proofs.Member.{Member, in_member, map_out}
+use Rattle.slab_faces.proofs.ClassesLemmas.{connected, IsEquivalence}
+use Rattle.slab_faces.proofs.NextLemmas.{darts_exact, dart_out}
+use Rattle.slab_faces.proofs.CyclesLemmas.{one_cycle}
+
+pub dart_cmp_total : IsTotalOrder dart_cmp
+dart_cmp_total = then_total (on_total source point_cmp_total) (on_total target point_cmp_total)
+
+lower_both : (p q : Point) → lower_than p q ≡ true → lower_than q p ≡ true → ⊥
+unfolding lower_than
+lower_both p q h k = omega (arith, ints)
+
+-- a dart and the one that follows
+abbrev pub link : Skeleton → Dart → Link Dart
+link g d = record { one = d; other = next (darts g) d }
+
+module _ (g : Skeleton) (plane : IsPlaneSkeleton g) where
+  -- ---- source and target tell darts apart, since no edge goes back along another
+  opposite : (d e : Edge) → Contains g.edges d → Contains g.edges e → d.low ≡ e.high → d.high ≡ e.low → ⊥
+  opposite d e D E a b =
+      let left : left_of d.low d.high ≡ false = subst (λ z. left_of z d.high ≡ false) (sym a) (subst (λ z. left_of e.high z ≡ false) (sym b) (plane.forward e E)) in
+      let right : left_of d.high d.low ≡ false = plane.forward d D in
+      let up : lower_than d.low d.high ≡ true = plane.upright d D (rw (left, right) refl) in
+      let down : lower_than e.low e.high ≡ true = plane.upright e E (subst (λ z. on_wall z e.high ≡ true) b (subst (λ z. on_wall d.high z ≡ true) a (rw (left, right) refl))) in
+      lower_both d.low d.high up (subst (λ z. lower_than z d.low ≡ true) (sym b) (subst (λ z. lower_than e.low z ≡ true) (sym a) down))
+
+  one_dart : (d e : Edge) (p q : Bool) → Contains g.edges d → Contains g.edges e → source (record { edge = d; forward = p }) ≡ source (record { edge = e; forward = q }) → target (record { edge = d; forward = p }) ≡ target (record { edge = e; forward = q }) → ◌≡◌ {A = Dart} (record { edge = d; forward = p }) (record { edge = e; forward = q })
+  one_dart d e true true D E a b = λ i. record { edge = record { low = a i; high = b i }; forward = true }
+  one_dart d e false false D E a b = λ i. record { edge = record { low = b i; high = a i }; forward = false }
+  one_dart d e true false D E a b = absurd (opposite d e D E a b)
+  one_dart d e false true D E a b = absurd (opposite d e D E b a)
+
+  -- darts that the order doesn't tell apart are one
+  pub tied_edges : (d e : Dart) → Contains g.edges d.edge → Contains g.edges e.edge → dart_cmp d e ≡ Equal → d ≡ e
+  tied_edges d e D E h =
+      let t = then_equal (point_cmp (source d) (source e)) (point_cmp (target d) (target e)) h in
+      one_dart d.edge e.edge d.forward e.forward D E (same_point (source d) (source e) t.0) (same_point (target d) (target e) t.1)
+
+  pub tied_darts : (x y : Dart) → In x (darts g) → In y (darts g) → dart_cmp x y ≡ Equal → x ≡ y
+  tied_darts x y h k e = tied_edges x y (there x h) (there y k) e
+    where
+      there : (z : Dart) → In z (darts g) → Contains g.edges z.edge
+      there z m = dart_out g z (in_member (darts g) z (from_member (darts g) z m))
+
+  -- ---- the list
+  pub list_ascends : IsAscending dart_cmp (dart_list g)
+  unfolding dart_list
+  list_ascends = IsAscending-ascending dart_cmp dart_cmp_total (darts g)
+
+  pub listed_out : (d : Dart) → In d (dart_list g) → In d (darts g)
+  unfolding dart_list
+  listed_out d m = Member-ascending dart_cmp dart_cmp_total d (darts g) m
+
+  pub listed_in : (d : Dart) → In d (darts g) → In d (dart_list g)
+  unfolding dart_list
+  listed_in d m = ascending-Member dart_cmp dart_cmp_total d (darts g) tied_darts m
+
+-- ---- the least dart of a cycle
+module _ (g : Skeleton) where
+  -- what holds along `next` holds of a dart and the least one of its cycle
+  pub along : (R : Dart → Dart → Type 0) → IsEquivalence R → ((d : Dart) → Member (darts g) d → R d (next (darts g) d)) → (d : Dart) → R d (lead_of g d)
+  unfolding dart_labels
+  along R q step d = connected same_dart dart_below darts_exact R q (map (link g) (darts g)) (λ m h. go m (map_out (link g) (darts g) m h)) d
+    where
+      go : (m : Link Dart) → ((d : Dart) × Member (darts g) d × (link g d ≡ m)) → R m.one m.other
+      go m w = subst (λ k. R k.one k.other) w.2 (step w.0 w.1)
+
+  pub lead_lead : (d : Dart) → lead_of g (lead_of g d) ≡ lead_of g d
+  lead_lead d = sym (along (λ x y. lead_of g x ≡ lead_of g y) (record { itself = λ x. refl; back = λ x y h. sym h; on = λ x y z h k. h ∙ k }) (λ x h. one_cycle g x h) d)
