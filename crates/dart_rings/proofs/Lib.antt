@@ -1,0 +1,5 @@
+pub mod Linear
+pub mod Best
+pub mod Rings
+pub mod Between
+pub mod Edits

@@ -1,0 +1,3 @@
+pub mod Order
+pub mod Ring
+pub mod Laws

@@ -1,0 +1,9 @@
+pub mod Tabled
+pub mod Twins
+pub mod Leaving
+pub mod Holding
+pub mod Writing
+pub mod Adding
+pub mod Removing
+pub mod Whole
+pub mod After

@@ -1,0 +1,8 @@
+use Rattle.dcel_records.proofs.Holding.{dart_key, next_is}
+use Rattle.dcel_records.proofs.reading.RecordsDarts.next.Goals as goal
+
+pub index-requires : goal.index-requires
+index-requires c = dart_key c.self.inside.vertices c.self.inside.darts _ c.self.view_is c.args.d c.requires
+
+pub returns : goal.returns
+returns c = next_is c.self.inside.vertices c.self.inside.darts _ c.self.view_is c.args.d _ c.index.ensures

@@ -1,0 +1,8 @@
+use Rattle.dcel_records.proofs.Holding.{vertex_key, point_is}
+use Rattle.dcel_records.proofs.reading.RecordsDarts.point.Goals as goal
+
+pub index-requires : goal.index-requires
+index-requires c = vertex_key c.self.inside.vertices c.self.inside.darts _ c.self.view_is c.args.v c.requires
+
+pub returns : goal.returns
+returns c = point_is c.self.inside.vertices c.self.inside.darts _ c.self.view_is c.args.v _ c.index.ensures

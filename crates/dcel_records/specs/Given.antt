@@ -1,0 +1,9 @@
+-- What the writers do to a row (this project).
+use Rattle.std.specs.Prelude.{Some}
+use Rattle.std.specs.Option.{option_or}
+use Rattle.slab_laws.specs.declared.names.DartId.{DartId}
+use Rattle.dcel_records.specs.declared.rows.VertexRow.{VertexRow}
+
+-- a vertex that keeps no dart out keeps d
+abbrev pub given : DartId → VertexRow → VertexRow
+given d r = record { point = r.point; pinned = r.pinned; out = option_or r.out (Some d) }

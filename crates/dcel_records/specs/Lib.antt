@@ -1,0 +1,5 @@
+pub mod Held
+pub mod Kept
+pub mod Outs
+pub mod Edges
+pub mod Given

@@ -1,0 +1,14 @@
+//! The records of a doubly-connected edge list: vertices and darts (halfedges) by name, with the writers of edges.
+//!
+//! Twins stay twins at every call, and each vertex knows one of the darts out of it. The crates above keep the order of
+//! darts round vertices, the cycles and the faces.
+#![tactic(auto)]
+
+mod keys;
+mod pairs;
+mod reading;
+mod records;
+mod rows;
+mod vertices;
+
+pub use records::{Records, Room};

@@ -1,0 +1,106 @@
+ghost use Rattle.std.specs.Prelude.{◌≡◌, ◌≢◌, ◌≤◌, option_map};
+ghost use Rattle.slab.specs.Slab.{get, slab_len, ContainsKey, Updates};
+ghost use Rattle.slab_laws.specs.View.{HasVertex, HasDart, IsOutOf, source_in, twin_in, target_in};
+ghost use Rattle.view_changes.specs.Writers.{without_pair, with_next, with_source};
+ghost use Rattle.dcel_records.specs.Edges.{with_edge};
+ghost use Rattle.dcel_records.specs.Held.{ends_found, IsSpare};
+ghost use Rattle.dcel_records.specs.Outs.{IsRest};
+ghost use Rattle.dcel_records.specs.Given.{given};
+
+use crate::records::Records;
+use crate::rows::{DartRow, VertexRow};
+use exact_plane::Line;
+use slab::Slab;
+use slab_laws::{DartId, VertexId};
+
+// A vertex that no dart leaves gets a dart out.
+fn give_out(vertices: &mut Slab<VertexRow>, v: VertexId, d: DartId)
+    requires { ContainsKey vertices.old v.0 }
+    ensures row { Updates vertices.old vertices.new v.0 (option_map (given d) (get vertices.old v.0)) }
+    ensures len { slab_len vertices.new ≡ slab_len vertices.old }
+    ensures capacity { vertices.new.capacity ≡ vertices.old.capacity }
+{
+    let out = vertices[v.0].out.or(Some(d));
+    vertices[v.0].out = out;
+}
+
+impl Records {
+    /// The source and the target of the dart, or `None` for a name without a record.
+    pub fn ends_of(&self, d: DartId) -> Option<(VertexId, VertexId)>
+        ensures { result ≡ ends_found self.now.graph d }
+    {
+        match self.darts.get(d.0) {
+            None => None,
+            Some(dart) => Some((dart.source, self.darts[dart.twin.0].source)),
+        }
+    }
+
+    /// Two new darts, from `u` to `v` and back, each the other's twin and followed by the other, in room that is there.
+    pub fn add_pair(&mut self, u: VertexId, v: VertexId, line: Line) -> (DartId, DartId)
+        requires room { 2 ≤ self.old.spare_darts }
+        requires u { HasVertex self.old.graph u }
+        requires v { HasVertex self.old.graph v }
+        ensures dart { ¬ HasDart self.old.graph result.0 }
+        ensures twin { ¬ HasDart self.old.graph result.1 }
+        ensures two { result.0 ≢ result.1 }
+        ensures graph { self.new.graph ≡ with_edge self.old.graph result.0 result.1 u v line }
+        ensures spare { IsSpare self.new self.old 0 2 }
+    {
+        let d = self.darts.insert_reserved(DartRow {
+            source: u,
+            twin: DartId(0),
+            next: DartId(0),
+            line,
+        });
+        let m = self.darts.insert_reserved(DartRow {
+            source: v,
+            twin: DartId(d),
+            next: DartId(d),
+            line,
+        });
+        let dart = &mut self.darts[d];
+        dart.twin = DartId(m);
+        dart.next = DartId(m);
+        give_out(&mut self.vertices, u, DartId(d));
+        give_out(&mut self.vertices, v, DartId(m));
+        (DartId(d), DartId(m))
+    }
+
+    /// The dart and its twin go; `rest_u` and `rest_v` are other darts out of their sources, `None` where none is left.
+    pub fn remove_pair(&mut self, d: DartId, rest_u: Option<DartId>, rest_v: Option<DartId>)
+        requires dart { HasDart self.old.graph d }
+        requires ends { source_in self.old.graph d ≢ target_in self.old.graph d }
+        requires rest_u { IsRest self.old.graph d rest_u }
+        requires rest_v { IsRest self.old.graph (twin_in self.old.graph d) rest_v }
+        ensures graph { self.new.graph ≡ without_pair self.old.graph d (twin_in self.old.graph d) }
+        ensures spare { IsSpare self.old self.new 0 2 }
+    {
+        let dart = self.darts.remove(d.0);
+        let twin = self.darts.remove(dart.twin.0);
+        self.vertices[dart.source.0].out = rest_u;
+        self.vertices[twin.source.0].out = rest_v;
+    }
+
+    /// The dart `n` follows `d`.
+    pub fn set_next(&mut self, d: DartId, n: DartId)
+        requires { HasDart self.old.graph d }
+        ensures graph { self.new.graph ≡ with_next self.old.graph d n }
+        ensures spare { IsSpare self.old self.new 0 0 }
+    {
+        self.darts[d.0].next = n;
+    }
+
+    /// The dart leaves `w`, which a dart leaves already; `rest` is another dart out of the vertex that it left.
+    pub fn move_source(&mut self, d: DartId, w: VertexId, rest: DartId)
+        requires dart { HasDart self.old.graph d }
+        requires rest { IsOutOf self.old.graph (source_in self.old.graph d) rest × (rest ≢ d) }
+        requires vertex { HasVertex self.old.graph w }
+        requires out { (e : _) × IsOutOf self.old.graph w e }
+        ensures graph { self.new.graph ≡ with_source self.old.graph d w }
+        ensures spare { IsSpare self.old self.new 0 0 }
+    {
+        let u = self.darts[d.0].source;
+        self.darts[d.0].source = w;
+        self.vertices[u.0].out = Some(rest);
+    }
+}

@@ -1,0 +1,90 @@
+ghost use Rattle.std.specs.Prelude.{◌≡◌, ◌*◌, ◌+◌, ◌≤◌, length, IsOk, IfOk, OnOk};
+ghost use Rattle.slab_laws.specs.Sound.{IsNamed, IsTwinned};
+ghost use Rattle.slab_laws.specs.View.{HasVertex, HasDart, source_in};
+ghost use Rattle.view_changes.specs.Writers.{no_rows};
+
+use crate::rows::{DartRow, VertexRow};
+use no_memory::NoMemory;
+use slab::Slab;
+use std::alloc::Global;
+use std::marker::Model;
+
+/// Vertices and darts by name, each dart with its twin, its follower and its line.
+#[derive(Drop)]
+pub struct Records {
+    pub(crate) vertices: Slab<VertexRow>,
+    pub(crate) darts: Slab<DartRow>,
+}
+
+impl Model for Records {
+    ghost use Rattle.dcel_records.specs.Held.{Held};
+
+    ghost Value = { Held };
+
+    ghost use Rattle.dcel_records.specs.Kept.{held, IsKept};
+
+    ghost view = { λ r. held r.vertices r.darts };
+
+    ghost invariant = { λ r. IsKept r.vertices r.darts };
+}
+
+/// How many vertices and edges more are to fit.
+#[derive(Clone, Copy, Debug, PartialEq, Eq)]
+pub struct Room {
+    pub vertices: usize,
+    pub edges: usize,
+}
+
+impl Records {
+    /// Records of nothing, without room.
+    pub fn new(alloc: Global) -> Result<Records, NoMemory>
+        ensures succeeds { IsOk result }
+        ensures empty { IfOk result (λ r. r.graph ≡ no_rows) }
+    {
+        Ok(Records {
+            vertices: Slab::new(alloc),
+            darts: Slab::new(alloc),
+        })
+    }
+
+    /// What is true of all records: names ascend, twins are twins, and a dart leaves a vertex that has a record.
+    pub fn laws(&self)
+        ensures named { IsNamed self.now.graph }
+        ensures twinned { IsTwinned self.now.graph }
+        ensures sources { (d : _) → HasDart self.now.graph d → HasVertex self.now.graph (source_in self.now.graph d) }
+    {
+        // Any use of a field tells what is kept.
+        let _vertices = &self.vertices;
+    }
+
+    /// Makes room for so many vertices and edges more; the graph stays, whatever comes.
+    pub fn reserve(&mut self, room: Room) -> Result<(), NoMemory>
+        ensures vertices { OnOk result (room.vertices ≤ self.new.spare_vertices) }
+        ensures darts { OnOk result (2 * room.edges ≤ self.new.spare_darts) }
+        ensures graph { self.new.graph ≡ self.old.graph }
+        ensures keeps_vertices { self.old.spare_vertices ≤ self.new.spare_vertices }
+        ensures keeps_darts { self.old.spare_darts ≤ self.new.spare_darts }
+    {
+        match room.edges.checked_mul(2) {
+            None => Err(NoMemory),
+            Some(darts) => {
+                self.vertices.reserve(room.vertices)?;
+                self.darts.reserve(darts)?;
+                Ok(())
+            }
+        }
+    }
+
+    /// All records go; their room stays.
+    pub fn clear(&mut self)
+        ensures graph { self.new.graph ≡ no_rows }
+        ensures vertices { self.old.spare_vertices + length self.old.graph.vertices ≤ self.new.spare_vertices }
+        ensures darts { self.old.spare_darts + length self.old.graph.darts ≤ self.new.spare_darts }
+    {
+        // What is spare then is all that the slabs can hold, which is no less than what they held.
+        let _vertices = self.vertices.capacity();
+        let _darts = self.darts.capacity();
+        self.vertices.clear();
+        self.darts.clear();
+    }
+}

@@ -1,0 +1,65 @@
+ghost use Rattle.std.specs.Prelude.{◌≡◌, ◌≤◌, true, false};
+ghost use Rattle.slab_laws.specs.View.{HasVertex, IsOutOf};
+ghost use Rattle.view_changes.specs.Writers.{with_vertex, without_vertex, with_pin};
+ghost use Rattle.dcel_records.specs.Held.{point_found, IsSpare};
+
+use crate::records::Records;
+use crate::rows::VertexRow;
+use exact_plane::Point;
+use slab_laws::VertexId;
+
+impl Records {
+    /// The point of the vertex, or `None` for a name without a record.
+    pub fn point_of(&self, v: VertexId) -> Option<Point>
+        ensures { result ≡ point_found self.now.graph v }
+    {
+        match self.vertices.get(v.0) {
+            None => None,
+            Some(vertex) => Some(vertex.point),
+        }
+    }
+
+    /// A new vertex, not pinned, without a dart, in room that is there.
+    pub fn add_vertex(&mut self, point: Point) -> VertexId
+        requires { 1 ≤ self.old.spare_vertices }
+        ensures name { ¬ HasVertex self.old.graph result }
+        ensures graph { self.new.graph ≡ with_vertex self.old.graph result point }
+        ensures spare { IsSpare self.new self.old 1 0 }
+    {
+        VertexId(
+            self.vertices.insert_reserved(VertexRow {
+                point,
+                pinned: false,
+                out: None,
+            }),
+        )
+    }
+
+    /// A vertex that no dart leaves goes.
+    pub fn remove_vertex(&mut self, v: VertexId)
+        requires vertex { HasVertex self.old.graph v }
+        requires bare { (d : _) → ¬ IsOutOf self.old.graph v d }
+        ensures graph { self.new.graph ≡ without_vertex self.old.graph v }
+        ensures spare { IsSpare self.old self.new 1 0 }
+    {
+        let _vertex = self.vertices.remove(v.0);
+    }
+
+    /// The vertex is pinned.
+    pub fn set_pin(&mut self, v: VertexId)
+        requires { HasVertex self.old.graph v }
+        ensures graph { self.new.graph ≡ with_pin self.old.graph v true }
+        ensures spare { IsSpare self.old self.new 0 0 }
+    {
+        self.vertices[v.0].pinned = true;
+    }
+
+    /// The vertex is not pinned.
+    pub fn clear_pin(&mut self, v: VertexId)
+        requires { HasVertex self.old.graph v }
+        ensures graph { self.new.graph ≡ with_pin self.old.graph v false }
+        ensures spare { IsSpare self.old self.new 0 0 }
+    {
+        self.vertices[v.0].pinned = false;
+    }
+}

@@ -1,0 +1,59 @@
+-- When an edge may come between two vertices, and the change that tells of it.
+use Rattle.std.specs.Prelude.{◌≡◌, ◌≢◌, pos, ◌∷◌, Option, Some, None}
+use Rattle.exact_plane.specs.Line.{Line, side_of}
+use Rattle.plane_graphs.specs.Ascending.{ascending}
+use Rattle.plane_graphs.specs.Graph.{edge_cmp}
+use Rattle.slab_laws.specs.declared.names.CurveId.{CurveId}
+use Rattle.slab_laws.specs.declared.names.DartId.{DartId}
+use Rattle.slab_laws.specs.declared.names.VertexId.{VertexId}
+use Rattle.slab_laws.specs.Skeleton.{Skeleton, IsPlaneSkeleton}
+use Rattle.slab_laws.specs.Sound.{skeleton_of, edge_between}
+use Rattle.slab_laws.specs.View.{View, HasVertex, HasDart, point_in}
+use Rattle.view_changes.specs.Writers.{with_next}
+use Rattle.arr_notes.specs.declared.change.Change.{Change}
+use Rattle.arr_notes.specs.declared.change.Change.TheVariants.{AddEdge}
+use Rattle.sound_links.specs.Links.{dart_between, IsPlaceFor}
+
+-- what is drawn with an edge more between two vertices (CGAL manual, `insert_at_vertices`)
+abbrev pub with_edge_between : View → VertexId → VertexId → Skeleton
+with_edge_between v u w = record { vertices = (skeleton_of v).vertices; edges = ascending edge_cmp (edge_between (point_in v u) (point_in v w) ∷ (skeleton_of v).edges) }
+
+-- two vertices, a line through both, the place of the new edge round each, and a plane graph with it (CGAL manual, `insert_at_vertices`)
+pub record CanLink (v : View) (u w : VertexId) (at_u at_w : Option DartId) (l : Line) : Type 0 where
+  pub start : HasVertex v u
+  pub end : HasVertex v w
+  pub two_ends : u ≢ w
+  pub through_start : side_of l (point_in v u) ≡ pos 0
+  pub through_end : side_of l (point_in v w) ≡ pos 0
+  pub place_at_start : IsPlaceFor v u at_u (dart_between (point_in v u) (point_in v w))
+  pub place_at_end : IsPlaceFor v w at_w (dart_between (point_in v w) (point_in v u))
+  pub plane : IsPlaneSkeleton (with_edge_between v u w)
+
+-- the change tells of an edge more with these ends, places, line and curve, by two names (this project)
+abbrev pub TellsOfLink : Change → VertexId → VertexId → Option DartId → Option DartId → Line → CurveId → Type 0
+TellsOfLink c u w at_u at_w l k = (d : DartId) × (m : DartId) × (c ≡ AddEdge d m u w at_u at_w l k)
+
+-- two names of which no dart has one (this project)
+pub record AreNewDarts (v : View) (d m : DartId) : Type 0 where
+  pub first : ¬ HasDart v d
+  pub second : ¬ HasDart v m
+  pub two : d ≢ m
+
+-- the change tells of an edge more, whose darts have new names (this project)
+abbrev pub NamesNewDarts : View → Change → Type 0
+NamesNewDarts v (AddEdge d m u w at_u at_w l k) = AreNewDarts v d m
+NamesNewDarts v c = ⊥
+
+-- the dart, if there is one, has a record (this project)
+abbrev pub AreKnown : View → Option DartId → Type 0
+AreKnown v o = (d : DartId) → o ≡ Some d → HasDart v d
+
+-- the first dart, if there is one, is followed by the second (this project)
+abbrev pub led_by : View → Option DartId → DartId → View
+led_by v None x = v
+led_by v (Some d) x = with_next v d x
+
+-- the first dart is followed by the second, if there is one (this project)
+abbrev pub led_to : View → DartId → Option DartId → View
+led_to v d None = v
+led_to v d (Some x) = with_next v d x

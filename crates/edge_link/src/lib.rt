@@ -1,0 +1,9 @@
+//! An edge more between two vertices of the records, in its place round both of them.
+//!
+//! Memory was reserved before, so that a link can't fail; the order of darts round a vertex is told by the dart that comes
+//! before the new one.
+#![tactic(auto)]
+
+mod links;
+
+pub use links::{link_at_one, link_at_two, link_in_face};

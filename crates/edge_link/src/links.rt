@@ -1,0 +1,167 @@
+ghost use Rattle.std.specs.Prelude.{◌≡◌, ◌⊎◌, ◌≤◌, Some, None, option_map};
+ghost use Rattle.slab_laws.specs.Sound.{IsGraphSound};
+ghost use Rattle.slab_laws.specs.View.{HasDart, twin_in};
+ghost use Rattle.dcel_records.specs.Held.{IsSpare};
+ghost use Rattle.arr_notes.specs.Step.{step};
+ghost use Rattle.view_changes.specs.Around.{after_in};
+ghost use Rattle.edge_link.specs.Links.{CanLink, TellsOfLink, NamesNewDarts, AreKnown, led_by, led_to};
+
+use arr_notes::Change;
+use dcel_records::Records;
+use exact_plane::Line;
+use slab_laws::{CurveId, DartId, Darts, VertexId};
+
+// The dart that comes in before a place: the twin of the dart after which the new one comes.
+fn behind(records: &Records, at: Option<DartId>) -> Option<DartId>
+    requires { AreKnown records.now.graph at }
+    ensures { result ≡ option_map (twin_in records.now.graph) at }
+{
+    match at {
+        None => None,
+        Some(dart) => Some(records.twin(dart)),
+    }
+}
+
+// The dart that comes after a place clockwise.
+fn ahead(records: &Records, at: Option<DartId>) -> Option<DartId>
+    requires { AreKnown records.now.graph at }
+    ensures { result ≡ option_map (after_in records.now.graph) at }
+{
+    match at {
+        None => None,
+        Some(dart) => Some(records.next(records.twin(dart))),
+    }
+}
+
+// Where there is such a dart, the other follows it.
+fn lead(records: &mut Records, from: Option<DartId>, to: DartId)
+    requires { AreKnown records.old.graph from }
+    ensures graph { records.new.graph ≡ led_by records.old.graph from to }
+    ensures spare { IsSpare records.old records.new 0 0 }
+{
+    if let Some(dart) = from {
+        records.set_next(dart, to);
+    }
+}
+
+// Where there is such a dart, it follows the other.
+fn follow(records: &mut Records, dart: DartId, next: Option<DartId>)
+    requires { HasDart records.old.graph dart }
+    ensures graph { records.new.graph ≡ led_to records.old.graph dart next }
+    ensures spare { IsSpare records.old records.new 0 0 }
+{
+    if let Some(next) = next {
+        records.set_next(dart, next);
+    }
+}
+
+// An edge more from `u` to `v`, each bare or with the dart after which the new one comes clockwise.
+fn link(
+    records: &mut Records,
+    u: VertexId,
+    v: VertexId,
+    at_u: Option<DartId>,
+    at_v: Option<DartId>,
+    line: Line,
+    curve: CurveId,
+) -> Change
+    requires sound { IsGraphSound records.old.graph }
+    requires room { 2 ≤ records.old.spare_darts }
+    requires fits { CanLink records.old.graph u v at_u at_v line }
+    ensures change { TellsOfLink result u v at_u at_v line curve }
+    ensures new_darts { NamesNewDarts records.old.graph result }
+    ensures graph { records.new.graph ≡ step records.old.graph result }
+    ensures sound { IsGraphSound records.new.graph }
+    ensures spare { IsSpare records.new records.old 0 2 }
+{
+    // A call on the line tells that its numbers are a line's.
+    let _vertical = line.is_vertical();
+    // Both places are read before anything is written, since the new darts change what follows there.
+    let behind_u = behind(records, at_u);
+    let behind_v = behind(records, at_v);
+    let ahead_u = ahead(records, at_u);
+    let ahead_v = ahead(records, at_v);
+    let (d, m) = records.add_pair(u, v, line);
+    follow(records, d, ahead_v);
+    follow(records, m, ahead_u);
+    lead(records, behind_u, d);
+    lead(records, behind_v, m);
+    Change::AddEdge {
+        d,
+        m,
+        u,
+        v,
+        at_u,
+        at_v,
+        line,
+        curve,
+    }
+}
+
+/// An edge more between two bare vertices, inside a face.
+pub fn link_in_face(
+    records: &mut Records,
+    u: VertexId,
+    v: VertexId,
+    line: Line,
+    curve: CurveId,
+) -> Change
+    requires sound { IsGraphSound records.old.graph }
+    requires room { 2 ≤ records.old.spare_darts }
+    requires fits { CanLink records.old.graph u v None None line }
+    ensures change { TellsOfLink result u v None None line curve }
+    ensures new_darts { NamesNewDarts records.old.graph result }
+    ensures graph { records.new.graph ≡ step records.old.graph result }
+    ensures sound { IsGraphSound records.new.graph }
+    ensures spare { IsSpare records.new records.old 0 2 }
+{
+    link(records, u, v, None, None, line, curve)
+}
+
+/// An edge more between two vertices of which one is bare: at the other it comes directly after `at` clockwise.
+pub fn link_at_one(
+    records: &mut Records,
+    u: VertexId,
+    v: VertexId,
+    at: DartId,
+    line: Line,
+    curve: CurveId,
+) -> Change
+    requires sound { IsGraphSound records.old.graph }
+    requires room { 2 ≤ records.old.spare_darts }
+    requires fits { CanLink records.old.graph u v (Some at) None line ⊎ CanLink records.old.graph u v None (Some at) line }
+    ensures at_u { CanLink records.old.graph u v (Some at) None line → TellsOfLink result u v (Some at) None line curve }
+    ensures at_v { CanLink records.old.graph u v None (Some at) line → TellsOfLink result u v None (Some at) line curve }
+    ensures new_darts { NamesNewDarts records.old.graph result }
+    ensures graph { records.new.graph ≡ step records.old.graph result }
+    ensures sound { IsGraphSound records.new.graph }
+    ensures spare { IsSpare records.new records.old 0 2 }
+{
+    if records.source(at) == u {
+        link(records, u, v, Some(at), None, line, curve)
+    } else {
+        link(records, u, v, None, Some(at), line, curve)
+    }
+}
+
+/// An edge more between two vertices that have darts: it comes directly after `at_u` and `at_v` clockwise.
+pub fn link_at_two(
+    records: &mut Records,
+    u: VertexId,
+    v: VertexId,
+    at_u: DartId,
+    at_v: DartId,
+    line: Line,
+    curve: CurveId,
+) -> Change
+    requires sound { IsGraphSound records.old.graph }
+    requires room { 2 ≤ records.old.spare_darts }
+    requires fits { CanLink records.old.graph u v (Some at_u) (Some at_v) line }
+    ensures change { TellsOfLink result u v (Some at_u) (Some at_v) line curve }
+    ensures new_darts { NamesNewDarts records.old.graph result }
+    ensures graph { records.new.graph ≡ step records.old.graph result }
+    ensures sound { IsGraphSound records.new.graph }
+    ensures spare { IsSpare records.new records.old 0 2 }
+{
+    link(records, u, v, Some(at_u), Some(at_v), line, curve)
+}

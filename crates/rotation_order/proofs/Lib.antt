@@ -1,0 +1,6 @@
+pub mod Turning
+pub mod Ways
+pub mod Down
+pub mod Around
+pub mod Found
+pub mod Walks

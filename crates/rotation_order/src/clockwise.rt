@@ -1,0 +1,41 @@
+ghost use Rattle.std.specs.Prelude.{◌≡◌};
+ghost use Rattle.edge_fans.specs.Ways.{straight_down, way_before};
+ghost use Rattle.rotation_order.specs.Place.{sooner_way};
+
+use exact_plane::{Direction, Segment, line_of, turn_order};
+
+// The direction straight down.
+pub(crate) fn down() -> Direction
+    ensures { result ≡ straight_down }
+{
+    let Ok(upright) = Segment::new(0, 0, 0, 1) else {
+        unreachable!()
+    };
+    Direction::along(&line_of(&upright)).back()
+}
+
+// Whether a is met before b, clockwise from just after straight down, which is met last.
+fn is_before(down: Direction, a: Direction, b: Direction) -> bool
+    requires { down ≡ straight_down }
+    ensures { result ≡ way_before a b }
+{
+    if turn_order(down, a, down).is_eq() {
+        return false;
+    }
+    if turn_order(down, b, down).is_eq() {
+        return true;
+    }
+    turn_order(down, a, b).is_lt()
+}
+
+// Whether a is met before b, clockwise from just after first, which is met last.
+pub(crate) fn is_sooner(down: Direction, first: Direction, a: Direction, b: Direction) -> bool
+    requires { down ≡ straight_down }
+    ensures { result ≡ sooner_way first a b }
+{
+    if is_before(down, first, a) {
+        !is_before(down, first, b) || is_before(down, a, b)
+    } else {
+        !is_before(down, first, b) && is_before(down, a, b)
+    }
+}

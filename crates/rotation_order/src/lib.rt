@@ -1,0 +1,22 @@
+//! The rotation at a vertex: where a direction stands, clockwise, among the darts that leave it.
+//!
+//! Directions are those of lines, compared exactly. The place of a direction tells an insertion after which dart the
+//! first dart of a new edge comes, or along which edge it would run.
+#![tactic(auto)]
+
+ghost use Rattle.rotation_order.specs.Laws.{NeighboursHaveNoDartBetween, OnePlace};
+
+mod clockwise;
+mod places;
+
+pub use places::{Place, place_at};
+
+/// Clockwise from a dart, a direction between it and its neighbour is met before every other dart out of the vertex.
+pub fn neighbours_have_no_dart_between()
+    ensures { NeighboursHaveNoDartBetween }
+{}
+
+/// A direction has one place at a vertex.
+pub fn one_place()
+    ensures { OnePlace }
+{}

@@ -1,0 +1,6 @@
+pub mod RowLaws
+pub mod Reading
+pub mod Vertices
+pub mod Darts
+pub mod Pairs
+pub mod Redirected

@@ -1,0 +1,5 @@
+pub mod Rows
+pub mod Writers
+pub mod Reads
+pub mod Laws
+pub mod Around
