@@ -1,0 +1,4 @@
+pub mod Walks
+pub mod Closing
+pub mod Fewer
+pub mod Unlinked

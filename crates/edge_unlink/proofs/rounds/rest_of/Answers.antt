@@ -1,0 +1,18 @@
+use Rattle.std.proofs.Common.{◌≡◌, sym, ◌∙◌}
+use Rattle.slab_laws.specs.View.{View}
+use Rattle.view_changes.specs.Around.{after_in}
+use Rattle.edge_unlink.proofs.Walks.{rest_there, rest_none, read_after, names_same, names_other}
+use Rattle.edge_unlink.proofs.rounds.rest_of.Goals as goal
+
+pub returns-then-eq : goal.returns-then-eq
+returns-then-eq g c =
+    let v : View = g.R.Darts.graph c.args.records.now in
+    let e : c.next-after.result ≡ after_in v c.args.d = read_after v c.args.d c.twin.result c.next-after.result c.twin.ensures.twin c.next-after.ensures in
+    rest_none v c.requires.sound c.args.d c.requires.dart (sym e ∙ names_same c.next-after.result c.args.d c.eq.result c.eq.ensures c.if-eq.true)
+
+pub returns-else-eq : goal.returns-else-eq
+returns-else-eq g c =
+    let v : View = g.R.Darts.graph c.args.records.now in
+    rest_there v c.requires.sound c.args.d c.requires.dart c.next-after.result
+    (read_after v c.args.d c.twin.result c.next-after.result c.twin.ensures.twin c.next-after.ensures)
+    (names_other c.next-after.result c.args.d c.eq.result c.eq.ensures c.if-eq.false)

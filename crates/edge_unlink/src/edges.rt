@@ -1,0 +1,36 @@
+ghost use Rattle.std.specs.Prelude.{◌≡◌};
+ghost use Rattle.slab_laws.specs.Sound.{IsGraphSound};
+ghost use Rattle.slab_laws.specs.View.{HasDart, twin_in};
+ghost use Rattle.dcel_records.specs.Held.{IsSpare};
+ghost use Rattle.arr_notes.specs.declared.change.Change.TheVariants.{RemoveEdge};
+ghost use Rattle.arr_notes.specs.Step.{step};
+
+use crate::rounds::{before, rest_of};
+use arr_notes::Change;
+use dcel_records::Records;
+use slab_laws::{DartId, Darts};
+
+/// The edge of the dart goes, and the darts round both its ends close up (CGAL manual, `remove_edge`).
+pub fn unlink(records: &mut Records, d: DartId) -> Change
+    requires sound { IsGraphSound records.old.graph }
+    requires dart { HasDart records.old.graph d }
+    ensures change { result ≡ RemoveEdge d (twin_in records.old.graph d) }
+    ensures graph { records.new.graph ≡ step records.old.graph result }
+    ensures sound { IsGraphSound records.new.graph }
+    ensures spare { IsSpare records.old records.new 0 2 }
+{
+    let m = records.twin(d);
+    // A dart that is alone at its end is the dart before itself; what is written there is then what stood there.
+    let before_d = before(records, d);
+    let before_m = before(records, m);
+    let into_d = records.twin(before_d);
+    let into_m = records.twin(before_m);
+    let after_d = records.next(m);
+    let after_m = records.next(d);
+    let rest_d = rest_of(records, d);
+    let rest_m = rest_of(records, m);
+    records.set_next(into_d, after_d);
+    records.set_next(into_m, after_m);
+    records.remove_pair(d, rest_d, rest_m);
+    Change::RemoveEdge { d, m }
+}

@@ -1,0 +1,13 @@
+pub mod Alike
+pub mod Vertices
+pub mod Cases
+pub mod Known
+pub mod Halves
+pub mod Ways
+pub mod Parted
+pub mod Splits
+pub mod Drawn
+pub mod Collinear
+pub mod Joined
+pub mod Merges
+pub mod Fewer
