@@ -1,0 +1,59 @@
+ghost use Rattle.std.specs.Prelude.{◌≡◌};
+ghost use Rattle.slab_laws.specs.Sound.{IsGraphSound};
+ghost use Rattle.dcel_records.specs.Held.{IsSpare};
+ghost use Rattle.arr_notes.specs.Step.{step};
+ghost use Rattle.edge_split_merge.specs.Merges.{CanMerge, IsMeeting, TellsOfMerge};
+
+use crate::parting::onward;
+use arr_notes::Change;
+use dcel_records::Records;
+use edge_unlink::before;
+use slab_laws::{DartId, Darts, VertexId};
+
+// The dart that comes into the vertex from the lower end of one edge, and the dart that goes on to the upper end of the other.
+fn meeting(records: &Records, v: VertexId) -> (DartId, DartId)
+    requires sound { IsGraphSound records.now.graph }
+    requires fits { CanMerge records.now.graph v }
+    ensures { IsMeeting records.now.graph v result.0 result.1 }
+{
+    let Some(first) = records.out_of(v) else {
+        unreachable!()
+    };
+    let into_first = records.twin(first);
+    let second = records.next(into_first);
+    let into_second = records.twin(second);
+    let here = records.point(v);
+    let there = records.point(records.target(first));
+    if here < there {
+        (into_second, first)
+    } else {
+        (into_first, second)
+    }
+}
+
+/// The two edges that end at the vertex become one, and the vertex goes: the edge from the lower end keeps its darts (CGAL
+/// manual, `merge_edge`).
+pub fn merge(records: &mut Records, v: VertexId) -> Change
+    requires sound { IsGraphSound records.old.graph }
+    requires fits { CanMerge records.old.graph v }
+    ensures change { TellsOfMerge records.old.graph result v }
+    ensures graph { records.new.graph ≡ step records.old.graph result }
+    ensures sound { IsGraphSound records.new.graph }
+    ensures spare { IsSpare records.old records.new 1 2 }
+{
+    let (d, n) = meeting(records, v);
+    let t = records.twin(d);
+    let m = records.twin(n);
+    // Where m is alone at its end, n itself comes in before it; what is written there goes with n.
+    let before_m = before(records, m);
+    let into_m = records.twin(before_m);
+    let follower = records.next(n);
+    let beyond = onward(follower, m, t);
+    let end = records.source(m);
+    records.set_next(into_m, t);
+    records.move_source(t, end, n);
+    records.set_next(d, beyond);
+    records.remove_pair(n, None, Some(t));
+    records.remove_vertex(v);
+    Change::MergeEdge { v, d, n }
+}

@@ -1,0 +1,57 @@
+ghost use Rattle.std.specs.Prelude.{◌≡◌, ◌≤◌, ◌==◌, cond};
+ghost use Rattle.slab_laws.specs.Sound.{IsGraphSound};
+ghost use Rattle.dcel_records.specs.Held.{IsSpare};
+ghost use Rattle.arr_notes.specs.Step.{step};
+ghost use Rattle.edge_split_merge.specs.Splits.{CanSplit, TellsOfSplit, NamesNewPlace};
+
+use arr_notes::Change;
+use dcel_records::Records;
+use edge_unlink::before;
+use exact_plane::Point;
+use slab_laws::{DartId, Darts};
+
+// What follows a dart that ends where another did: what followed that one, or, where this was its twin, the twin's new name.
+pub(crate) fn onward(follower: DartId, twin: DartId, new_twin: DartId) -> DartId
+    ensures { result ≡ cond (follower.0 == twin.0) new_twin follower }
+{
+    if follower == twin { new_twin } else { follower }
+}
+
+/// The edge of the dart, which goes from its lower to its upper end, goes in two at a new vertex at the point: the dart and
+/// its twin keep the lower part (CGAL manual, `split_edge`).
+pub fn split(records: &mut Records, d: DartId, p: Point) -> Change
+    requires sound { IsGraphSound records.old.graph }
+    requires fits { CanSplit records.old.graph d p }
+    requires vertices { 1 ≤ records.old.spare_vertices }
+    requires darts { 2 ≤ records.old.spare_darts }
+    ensures change { TellsOfSplit result d p }
+    ensures new_names { NamesNewPlace records.old.graph result }
+    ensures graph { records.new.graph ≡ step records.old.graph result }
+    ensures sound { IsGraphSound records.new.graph }
+    ensures spare { IsSpare records.new records.old 1 2 }
+{
+    // A call on the point tells that its numbers are a point's.
+    let _weight = p.w();
+    let t = records.twin(d);
+    // Where the twin is alone at its end, the dart itself comes in before it, and its follower is written last.
+    let before_t = before(records, t);
+    let into_t = records.twin(before_t);
+    let follower = records.next(d);
+    let end = records.source(t);
+    let line = records.line(d);
+    let v = records.add_vertex(p);
+    let (n, m) = records.add_pair(v, end, line);
+    let beyond = onward(follower, t, m);
+    records.set_next(into_t, m);
+    records.set_next(n, beyond);
+    records.set_next(m, t);
+    records.move_source(t, v, m);
+    records.set_next(d, n);
+    Change::SplitEdge {
+        d,
+        v,
+        point: p,
+        n,
+        m,
+    }
+}
