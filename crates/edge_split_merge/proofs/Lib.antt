@@ -1,4 +1,3 @@
-pub mod Tables
 pub mod Compared
 pub mod Parted
 pub mod Written

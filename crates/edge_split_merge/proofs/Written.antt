@@ -14,7 +14,7 @@ use Rattle.view_changes.proofs.Redirected.{one_is_redirected}
 use Rattle.view_changes.proofs.Vertices.{vertex_is_added}
 use Rattle.dcel_records.specs.Edges.{lone_dart, with_edge}
 use Rattle.arr_notes.specs.Step.{split_edge}
-use Rattle.edge_split_merge.proofs.Tables.{first_follows, second_follows, beside_follows}
+use Rattle.view_changes.proofs.Written.{first_follows, second_follows, beside_follows}
 
 -- ---- a vertex more
 module _ (v g : View) (w : VertexId) (p : Point) (e : g ≡ with_vertex v w p) where

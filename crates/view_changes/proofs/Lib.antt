@@ -4,3 +4,4 @@ pub mod Vertices
 pub mod Darts
 pub mod Pairs
 pub mod Redirected
+pub mod Written
