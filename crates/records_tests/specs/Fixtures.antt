@@ -1,0 +1,20 @@
+-- What the builder's lists hold.
+use Rattle.std.specs.Prelude.{List, map}
+use Rattle.exact_plane.specs.Point.{Point}
+use Rattle.plane_graphs.specs.Graph.{Edge}
+use Rattle.slab_laws.specs.Sound.{edge_between}
+use Rattle.slab_laws.specs.View.{View}
+use Rattle.record_orders.specs.declared.darts.DartKey.{DartKey}
+use Rattle.record_orders.specs.Keys.{vertex_keys, dart_keys}
+
+-- the edge of a dart with the points of its ends (this project)
+abbrev pub key_edge : DartKey → Edge
+key_edge k = edge_between k.source k.target
+
+-- the points of all vertices, in point order (this project)
+abbrev pub listed_points : View → List Point
+listed_points v = map (λ k. k.point) (vertex_keys v)
+
+-- the edges of all darts, so each edge twice (this project)
+abbrev pub listed_edges : View → List Edge
+listed_edges v = map key_edge (dart_keys v)

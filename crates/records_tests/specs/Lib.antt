@@ -1,0 +1,2 @@
+pub mod PlaneTests
+pub mod Fixtures

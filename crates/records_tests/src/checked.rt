@@ -1,0 +1,144 @@
+ghost use Rattle.std.specs.Prelude.{◌≡◌, None, IfOk, IfSome};
+ghost use Rattle.slab_laws.specs.View.{IsOutOf, dart_after_in, twin_in, next_in};
+ghost use Rattle.arr_notes.specs.declared.change.Change.TheVariants.{RemoveEdge};
+ghost use Rattle.arr_notes.specs.Step.{step};
+ghost use Rattle.dcel_records.specs.Held.{ends_found, point_found};
+ghost use Rattle.rotation_order.specs.Place.{IsPlaceOf};
+ghost use Rattle.view_changes.specs.Around.{after_in};
+ghost use Rattle.view_changes.specs.Writers.{no_rows, with_vertex};
+
+use crate::changes;
+use crate::lists::{has_dart, has_vertex};
+use arr_notes::Change;
+use dcel_records::Records;
+use edge_unlink::unlink;
+use exact_plane::{Direction, Line, Point};
+use no_memory::NoMemory;
+use rotation_order::{Place, place_at};
+use slab_laws::{CurveId, DartId, Darts, VertexId};
+use std::alloc::Global;
+use std::marker::Model;
+
+/// Records of a plane graph, changed only where what a change asks was tested before.
+#[derive(Drop)]
+pub struct Checked {
+    records: Records,
+}
+
+impl Model for Checked {
+    ghost use Rattle.dcel_records.specs.Held.{Held};
+    ghost use Rattle.slab_laws.specs.Sound.{IsGraphSound};
+
+    ghost Value = { Held };
+
+    ghost view = { λ c. c.records };
+
+    ghost invariant = { λ c. IsGraphSound c.records.graph };
+}
+
+impl Checked {
+    /// Records of nothing.
+    pub fn new(alloc: Global) -> Result<Checked, NoMemory>
+        ensures { IfOk result (λ c. c.graph ≡ no_rows) }
+    {
+        Ok(Checked {
+            records: Records::new(alloc)?,
+        })
+    }
+
+    /// A vertex more; `None` where one has the point, where the graph with it isn't plane, or for want of memory.
+    pub fn add_vertex(&mut self, alloc: Global, point: Point) -> Option<VertexId>
+        ensures { IfSome result (λ w. self.new.graph ≡ with_vertex self.old.graph w point) }
+    {
+        changes::add_vertex(alloc, &mut self.records, point)
+    }
+
+    /// An edge more; `None` where it has no place, where the graph with it isn't plane, or for want of memory.
+    pub fn join(
+        &mut self,
+        alloc: Global,
+        u: VertexId,
+        v: VertexId,
+        line: Line,
+        curve: CurveId,
+    ) -> Option<Change>
+        ensures { IfSome result (λ c. self.new.graph ≡ step self.old.graph c) }
+    {
+        if u == v || !has_vertex(&self.records, u) || !has_vertex(&self.records, v) {
+            return None;
+        }
+        changes::join(alloc, &mut self.records, u, v, line, curve)
+    }
+
+    /// An edge fewer; `None` for a name without a record.
+    pub fn cut(&mut self, d: DartId) -> Option<Change>
+        ensures change { IfSome result (λ c. c ≡ RemoveEdge d (twin_in self.old.graph d)) }
+        ensures graph { IfSome result (λ c. self.new.graph ≡ step self.old.graph c) }
+    {
+        if !has_dart(&self.records, d) {
+            return None;
+        }
+        Some(unlink(&mut self.records, d))
+    }
+
+    /// The place of a direction at a vertex; `None` for a name without a record.
+    pub fn place(&self, v: VertexId, direction: Direction) -> Option<Place>
+        ensures { IfSome result (IsPlaceOf self.now.graph v direction) }
+    {
+        if !has_vertex(&self.records, v) {
+            return None;
+        }
+        Some(place_at(&self.records, v, direction))
+    }
+
+    /// The dart that follows; `None` for a name without a record.
+    pub fn next(&self, d: DartId) -> Option<DartId>
+        ensures { IfSome result (λ n. n ≡ next_in self.now.graph d) }
+    {
+        if !has_dart(&self.records, d) {
+            return None;
+        }
+        Some(self.records.next(d))
+    }
+
+    /// The dart that comes next out of the same vertex, clockwise; `None` for a name without a record.
+    pub fn around(&self, d: DartId) -> Option<DartId>
+        ensures { IfSome result (λ n. n ≡ after_in self.now.graph d) }
+    {
+        if !has_dart(&self.records, d) {
+            return None;
+        }
+        Some(self.records.next(self.records.twin(d)))
+    }
+
+    /// The source and the target of a dart; `None` for a name without a record.
+    pub fn ends_of(&self, d: DartId) -> Option<(VertexId, VertexId)>
+        ensures { result ≡ ends_found self.now.graph d }
+    {
+        self.records.ends_of(d)
+    }
+
+    /// The point of a vertex; `None` for a name without a record.
+    pub fn point_of(&self, v: VertexId) -> Option<Point>
+        ensures { result ≡ point_found self.now.graph v }
+    {
+        self.records.point_of(v)
+    }
+
+    /// A dart out of the vertex, if there is one.
+    pub fn out_of(&self, v: VertexId) -> Option<DartId>
+        ensures { IfSome result (IsOutOf self.now.graph v) }
+    {
+        if !has_vertex(&self.records, v) {
+            return None;
+        }
+        self.records.out_of(v)
+    }
+
+    /// The least name of a dart.
+    pub fn first_dart(&self) -> Option<DartId>
+        ensures { result ≡ dart_after_in self.now.graph None }
+    {
+        self.records.dart_after(None)
+    }
+}

@@ -1,0 +1,163 @@
+use crate::checked::Checked;
+use arr_notes::Change;
+use dcel_records::{Records, Room};
+use exact_plane::{Direction, Line, Point, Segment, line_of};
+use rotation_order::Place;
+use slab_laws::{CurveId, DartId, VertexId};
+use std::alloc::Global;
+use std::test::Fail;
+
+fn at(x: i128, y: i128) -> Result<Point, Fail> {
+    Ok(Point::new(x, y, 1)?)
+}
+
+fn line(x1: i64, y1: i64, x2: i64, y2: i64) -> Result<Line, Fail> {
+    Ok(line_of(&Segment::new(x1, y1, x2, y2)?))
+}
+
+// Five edges from the origin, to vertices named 1 to 5; the n-th edge has the darts 2n - 2 and 2n - 1.
+fn star(alloc: Global) -> Result<Checked, Fail> {
+    let mut checked = Checked::new(alloc)?;
+    let middle = checked.add_vertex(alloc, at(0, 0)?).ok_or("middle")?;
+    let ends: [(i64, i64); 5] = [(-2, 1), (-1, -2), (0, 3), (2, 1), (2, -1)];
+    for (x, y) in ends {
+        let end = checked
+            .add_vertex(alloc, at(i128::from(x), i128::from(y))?)
+            .ok_or("end")?;
+        let line = line(0, 0, x, y)?;
+        let _change = checked
+            .join(alloc, middle, end, line, CurveId(1))
+            .ok_or("edge")?;
+    }
+    Ok(checked)
+}
+
+#[test]
+fn darts_go_clockwise_round_a_vertex(rt: HostRuntime) -> Result<(), Fail> {
+    let checked = star(rt.alloc())?;
+    // From (-2, 1) over (0, 3), (2, 1) and (2, -1) to (-1, -2).
+    let rows: [(usize, usize, usize); 5] = [(0, 1, 4), (4, 3, 6), (6, 4, 8), (8, 5, 2), (2, 2, 0)];
+    for (dart, end, after) in rows {
+        assert!(rt;
+            checked.ends_of(DartId(dart)) == Some((VertexId(0), VertexId(end))),
+            "{dart}"
+        );
+        assert!(rt;
+            checked.around(DartId(dart)) == Some(DartId(after)),
+            "{dart}"
+        );
+    }
+    assert!(rt; checked.point_of(VertexId(3)) == Some(at(0, 3)?));
+    assert!(rt; checked.ends_of(DartId(10)).is_none() && checked.point_of(VertexId(6)).is_none());
+    Ok(())
+}
+
+#[test]
+fn directions_have_places(rt: HostRuntime) -> Result<(), Fail> {
+    let mut checked = star(rt.alloc())?;
+    let slope = Direction::along(&line(0, 0, 4, 2)?);
+    let between = Place::Between(DartId(4), DartId(6));
+    let low = Place::Between(DartId(8), DartId(2));
+    let alone = Place::Between(DartId(5), DartId(5));
+    assert!(rt; checked.place(VertexId(0), Direction::along(&line(0, 0, 1, 1)?)) == Some(between));
+    assert!(rt;
+        checked.place(VertexId(0), Direction::along(&line(0, 0, 0, 2)?).back()) == Some(low)
+    );
+    assert!(rt; checked.place(VertexId(0), slope) == Some(Place::Along(DartId(6))));
+    assert!(rt; checked.place(VertexId(3), slope) == Some(alone));
+    let apart = checked.add_vertex(rt.alloc(), at(10, 10)?).ok_or("apart")?;
+    assert!(rt; checked.place(apart, slope) == Some(Place::Bare));
+    assert!(rt; checked.place(VertexId(7), slope).is_none());
+    Ok(())
+}
+
+#[test]
+fn edges_are_linked_and_unlinked(rt: HostRuntime) -> Result<(), Fail> {
+    let mut checked = star(rt.alloc())?;
+    // Both ends have darts: from (-2, 1) to (0, 3).
+    let change = checked
+        .join(
+            rt.alloc(),
+            VertexId(1),
+            VertexId(3),
+            line(-2, 1, 0, 3)?,
+            CurveId(2),
+        )
+        .ok_or("edge")?;
+    let (d, m) = match change {
+        Change::AddEdge { d, m, .. } => (d, m),
+        _ => return Err("change")?,
+    };
+    let outside = [(DartId(0), d), (d, DartId(5)), (DartId(5), DartId(6))];
+    let inside = [(m, DartId(1)), (DartId(1), DartId(4)), (DartId(4), m)];
+    for (dart, next) in outside {
+        assert!(rt; checked.next(dart) == Some(next), "outside");
+    }
+    for (dart, next) in inside {
+        assert!(rt; checked.next(dart) == Some(next), "inside");
+    }
+    // Both ends keep darts.
+    assert!(rt; checked.cut(m) == Some(Change::RemoveEdge { d: m, m: d }));
+    assert!(rt; checked.ends_of(d).is_none() && checked.ends_of(m).is_none());
+    assert!(rt;
+        checked.next(DartId(0)) == Some(DartId(1)) && checked.next(DartId(5)) == Some(DartId(6))
+    );
+    // One end becomes bare, then both.
+    assert!(rt;
+        checked.cut(DartId(5))
+            == Some(Change::RemoveEdge {
+                d: DartId(5),
+                m: DartId(4)
+            })
+    );
+    assert!(rt;
+        checked.out_of(VertexId(3)).is_none() && checked.next(DartId(1)) == Some(DartId(6))
+    );
+    for dart in [0usize, 2, 6, 9] {
+        assert!(rt; checked.cut(DartId(dart)).is_some(), "{dart}");
+    }
+    assert!(rt; checked.out_of(VertexId(0)).is_none() && checked.first_dart().is_none());
+    assert!(rt; checked.cut(DartId(9)).is_none());
+    Ok(())
+}
+
+#[test]
+fn refuses_what_is_not_plane(rt: HostRuntime) -> Result<(), Fail> {
+    let mut checked = star(rt.alloc())?;
+    let edges: [(usize, usize, i64, i64, i64, i64); 3] = [
+        (0, 4, 0, 0, 2, 1),
+        (1, 4, -2, 1, 2, 1),
+        (1, 1, 0, 0, 1, 0),
+    ];
+    for (u, v, x1, y1, x2, y2) in edges {
+        let change = checked.join(
+            rt.alloc(),
+            VertexId(u),
+            VertexId(v),
+            line(x1, y1, x2, y2)?,
+            CurveId(2),
+        );
+        assert!(rt; change.is_none(), "{u} {v}");
+    }
+    for (x, y) in [(0, 0), (0, 1), (2, -1)] {
+        assert!(rt;
+            checked.add_vertex(rt.alloc(), at(x, y)?).is_none(),
+            "{x} {y}"
+        );
+    }
+    Ok(())
+}
+
+#[test]
+fn makes_room(rt: HostRuntime) -> Result<(), Fail> {
+    let mut records = Records::new(rt.alloc())?;
+    records.reserve(Room {
+        vertices: 7,
+        edges: 9,
+    })?;
+    let vertex = records.add_vertex(at(1, 2)?);
+    assert!(rt; records.point_of(vertex) == Some(at(1, 2)?));
+    records.clear();
+    assert!(rt; records.point_of(vertex).is_none());
+    Ok(())
+}
