@@ -3,3 +3,4 @@ pub mod Kept
 pub mod Outs
 pub mod Edges
 pub mod Given
+pub mod Spots

@@ -9,6 +9,8 @@ mod pairs;
 mod reading;
 mod records;
 mod rows;
+mod spot;
 mod vertices;
 
 pub use records::{Records, Room};
+pub use spot::Spot;

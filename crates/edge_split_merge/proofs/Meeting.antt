@@ -8,33 +8,33 @@ use Rattle.slab_laws.specs.declared.names.VertexId.{VertexId}
 use Rattle.slab_laws.specs.Sound.{IsGraphSound}
 use Rattle.slab_laws.specs.View.{View, HasVertex, HasDart, IsOutOf, point_in, source_in, twin_in, target_in}
 use Rattle.view_changes.specs.Around.{after_in}
-use Rattle.edge_unlink.proofs.Walks.{alone, after_out}
-use Rattle.edge_split_merge.specs.Merges.{IsMeeting}
+use Rattle.rotation_order.proofs.Circuits.{alone, after_out}
+use Rattle.sound_splits.specs.Fits.{FitsMerge}
 
-module _ (v : View) (w : VertexId) (s : IsGraphSound v) (d n : DartId) (f : IsMeeting v w d n) where
+module _ (v : View) (w : VertexId) (s : IsGraphSound v) (d n : DartId) (f : FitsMerge v w d n) where
   abbrev t : DartId
   t = twin_in v d
 
   t_has : HasDart v t
-  t_has = s.twinned.has d f.fits.first
+  t_has = s.twinned.has d f.first
 
   pub vertex_has : HasVertex v w
-  vertex_has = subst (HasVertex v) f.fits.leaves (s.linked.source n f.fits.second)
+  vertex_has = subst (HasVertex v) f.leaves (s.linked.source n f.second)
 
   n_out : IsOutOf v w n
-  n_out = (f.fits.second, f.fits.leaves)
+  n_out = (f.second, f.leaves)
 
   t_out : IsOutOf v w t
-  t_out = (t_has, f.fits.arrives)
+  t_out = (t_has, f.arrives)
 
   t_reaches : target_in v t ≡ source_in v d
-  t_reaches = ap (source_in v) (s.twinned.back d f.fits.first)
+  t_reaches = ap (source_in v) (s.twinned.back d f.first)
 
   before : precedes (point_in v (source_in v d)) (point_in v w) ≡ true
-  before = subst (λ z. precedes (point_in v (source_in v d)) (point_in v z) ≡ true) f.fits.arrives f.fits.first_forward
+  before = subst (λ z. precedes (point_in v (source_in v d)) (point_in v z) ≡ true) f.arrives f.first_forward
 
   behind : precedes (point_in v w) (point_in v (target_in v n)) ≡ true
-  behind = subst (λ z. precedes (point_in v z) (point_in v (target_in v n)) ≡ true) f.fits.leaves f.fits.second_forward
+  behind = subst (λ z. precedes (point_in v z) (point_in v (target_in v n)) ≡ true) f.leaves f.second_forward
 
   not_up : precedes (point_in v w) (point_in v (target_in v t)) ≡ true → ⊥
   not_up q = lt_both (lt_out (point_in v (source_in v d)) (point_in v w) before) (lt_out (point_in v w) (point_in v (source_in v d)) (subst (λ z. precedes (point_in v w) (point_in v z) ≡ true) t_reaches q))
@@ -45,50 +45,50 @@ module _ (v : View) (w : VertexId) (s : IsGraphSound v) (d n : DartId) (f : IsMe
   -- each comes after the other
   after_n : after_in v n ≡ t
   after_n =
-      let o = after_out v s n f.fits.second n (f.fits.second, refl) in
-      elim (f.fits.only (after_in v n) o.0 (o.1 ∙ f.fits.leaves)) [
-        | inl q ↦ absurd (t_n (alone v s n f.fits.second q t (t_has, f.fits.arrives ∙ sym f.fits.leaves)))
+      let o = after_out v s n f.second n (f.second, refl) in
+      elim (f.only (after_in v n) o.0 (o.1 ∙ f.leaves)) [
+        | inl q ↦ absurd (t_n (alone v s n f.second q t (t_has, f.arrives ∙ sym f.leaves)))
         | inr q ↦ q
       ]
 
   after_t : after_in v t ≡ n
   after_t =
       let o = after_out v s t t_has t (t_has, refl) in
-      elim (f.fits.only (after_in v t) o.0 (o.1 ∙ f.fits.arrives)) [
+      elim (f.only (after_in v t) o.0 (o.1 ∙ f.arrives)) [
         | inl q ↦ q
-        | inr q ↦ absurd (t_n (sym (alone v s t t_has q n (f.fits.second, f.fits.leaves ∙ sym f.fits.arrives))))
+        | inr q ↦ absurd (t_n (sym (alone v s t t_has q n (f.second, f.leaves ∙ sym f.arrives))))
       ]
 
   pub after_has : (x : DartId) → IsOutOf v w x → HasDart v (after_in v x)
-  after_has x o = elim (f.fits.only x o.0 o.1) [
+  after_has x o = elim (f.only x o.0 o.1) [
     | inl q ↦ subst (λ z. HasDart v z) (sym (ap (after_in v) q ∙ after_n)) t_has
-    | inr q ↦ subst (λ z. HasDart v z) (sym (ap (after_in v) q ∙ after_t)) f.fits.second
+    | inr q ↦ subst (λ z. HasDart v z) (sym (ap (after_in v) q ∙ after_t)) f.second
   ]
 
-  pub found_up : (x y z : DartId) → IsOutOf v w x → precedes (point_in v w) (point_in v (target_in v x)) ≡ true → y ≡ after_in v x → z ≡ twin_in v y → IsMeeting v w z x
-  found_up x y z o b qy qz = elim (f.fits.only x o.0 o.1) [
+  pub found_up : (x y z : DartId) → IsOutOf v w x → precedes (point_in v w) (point_in v (target_in v x)) ≡ true → y ≡ after_in v x → z ≡ twin_in v y → FitsMerge v w z x
+  found_up x y z o b qy qz = elim (f.only x o.0 o.1) [
     | inl q ↦
-        let e : z ≡ d = qz ∙ ap (twin_in v) (qy ∙ ap (after_in v) q ∙ after_n) ∙ s.twinned.back d f.fits.first in
-        subst (λ a. IsMeeting v w a x) (sym e) (subst (λ a. IsMeeting v w d a) (sym q) f)
+        let e : z ≡ d = qz ∙ ap (twin_in v) (qy ∙ ap (after_in v) q ∙ after_n) ∙ s.twinned.back d f.first in
+        subst (λ a. FitsMerge v w a x) (sym e) (subst (λ a. FitsMerge v w d a) (sym q) f)
     | inr q ↦ absurd (not_up (subst (λ a. precedes (point_in v w) (point_in v (target_in v a)) ≡ true) q b))
   ]
 
-  pub found_down : (x y z : DartId) → IsOutOf v w x → precedes (point_in v w) (point_in v (target_in v x)) ≡ false → y ≡ after_in v x → z ≡ twin_in v x → IsMeeting v w z y
-  found_down x y z o b qy qz = elim (f.fits.only x o.0 o.1) [
+  pub found_down : (x y z : DartId) → IsOutOf v w x → precedes (point_in v w) (point_in v (target_in v x)) ≡ false → y ≡ after_in v x → z ≡ twin_in v x → FitsMerge v w z y
+  found_down x y z o b qy qz = elim (f.only x o.0 o.1) [
     | inl q ↦ clash behind (subst (λ a. precedes (point_in v w) (point_in v (target_in v a)) ≡ false) q b)
     | inr q ↦
-        let e : z ≡ d = qz ∙ ap (twin_in v) q ∙ s.twinned.back d f.fits.first in
-        subst (λ a. IsMeeting v w a y) (sym e) (subst (λ a. IsMeeting v w d a) (sym (qy ∙ ap (after_in v) q ∙ after_t)) f)
+        let e : z ≡ d = qz ∙ ap (twin_in v) q ∙ s.twinned.back d f.first in
+        subst (λ a. FitsMerge v w a y) (sym e) (subst (λ a. FitsMerge v w d a) (sym (qy ∙ ap (after_in v) q ∙ after_t)) f)
   ]
 
   -- ---- what the writers need
   pub ends_apart : source_in v n ≢ target_in v n
   ends_apart q =
-      let k : precedes (point_in v w) (point_in v w) ≡ true = subst (λ z. precedes (point_in v w) (point_in v z) ≡ true) (sym q ∙ f.fits.leaves) behind in
+      let k : precedes (point_in v w) (point_in v w) ≡ true = subst (λ z. precedes (point_in v w) (point_in v z) ≡ true) (sym q ∙ f.leaves) behind in
       lt_both (lt_out (point_in v w) (point_in v w) k) (lt_out (point_in v w) (point_in v w) k)
 
   pub two_out : t ≢ n
   two_out = t_n
 
   pub far_apart : target_in v n ≢ w
-  far_apart q = ends_apart (f.fits.leaves ∙ sym q)
+  far_apart q = ends_apart (f.leaves ∙ sym q)

@@ -12,7 +12,7 @@ use Rattle.view_changes.proofs.Pairs.{pair_is_removed, names_stay}
 use Rattle.view_changes.proofs.Redirected.{one_is_redirected}
 use Rattle.dcel_records.specs.Outs.{IsRest}
 use Rattle.arr_notes.specs.Step.{merge_edge}
-use Rattle.edge_split_merge.specs.Merges.{IsMeeting}
+use Rattle.sound_splits.specs.Fits.{FitsMerge}
 use Rattle.edge_split_merge.proofs.Meeting.{vertex_has, two_out, far_apart}
 
 -- but for followers, h is v where t leaves u
@@ -61,12 +61,12 @@ abbrev one_of : Option DartId → DartId → DartId
 one_of None y = y
 one_of (Some x) y = x
 
-module _ (v : View) (w : VertexId) (d n : DartId) (s : IsGraphSound v) (f : IsMeeting v w d n) (t m : DartId) (u : VertexId) (qt : t ≡ twin_in v d) (qm : m ≡ twin_in v n) (qu : u ≡ source_in v m) where
+module _ (v : View) (w : VertexId) (d n : DartId) (s : IsGraphSound v) (f : FitsMerge v w d n) (t m : DartId) (u : VertexId) (qt : t ≡ twin_in v d) (qm : m ≡ twin_in v n) (qu : u ≡ source_in v m) where
   pub twin_out : IsOutOf v w t
-  twin_out = (subst (HasDart v) (sym qt) (s.twinned.has d f.fits.first), ap (source_in v) qt ∙ f.fits.arrives)
+  twin_out = (subst (HasDart v) (sym qt) (s.twinned.has d f.first), ap (source_in v) qt ∙ f.arrives)
 
   pub far_out : IsOutOf v u m
-  far_out = (subst (HasDart v) (sym qm) (s.twinned.has n f.fits.second), sym qu)
+  far_out = (subst (HasDart v) (sym qm) (s.twinned.has n f.second), sym qu)
 
   pub far_there : HasVertex v u
   far_there = subst (HasVertex v) (sym qu) (s.linked.source m far_out.0)
@@ -82,7 +82,7 @@ module _ (v : View) (w : VertexId) (d n : DartId) (s : IsGraphSound v) (f : IsMe
 
   module _ (h : View) (i : IsMoved v h t u) where
     n_source : source_in h n ≡ w
-    n_source = i.others n not_twin ∙ f.fits.leaves
+    n_source = i.others n not_twin ∙ f.leaves
 
     m_is : twin_in h n ≡ m
     m_is = i.twin n ∙ sym qm
@@ -97,7 +97,7 @@ module _ (v : View) (w : VertexId) (d n : DartId) (s : IsGraphSound v) (f : IsMe
     only_n : (k : DartId) → HasDart h k → source_in h k ≡ w → k ≡ n
     only_n k o q = elim (either k t) [
       | inl e ↦ absurd (u_w (sym i.source ∙ ap (source_in h) (sym e) ∙ q))
-      | inr ne ↦ elim (f.fits.only k (i.had k o) (sym (i.others k ne) ∙ q)) [ inl e ↦ e | inr e ↦ absurd (ne (e ∙ sym qt)) ]
+      | inr ne ↦ elim (f.only k (i.had k o) (sym (i.others k ne) ∙ q)) [ inl e ↦ e | inr e ↦ absurd (ne (e ∙ sym qt)) ]
     ]
 
     pub none_left : IsRest h n None

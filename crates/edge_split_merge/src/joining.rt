@@ -2,19 +2,20 @@ ghost use Rattle.std.specs.Prelude.{◌≡◌};
 ghost use Rattle.slab_laws.specs.Sound.{IsGraphSound};
 ghost use Rattle.dcel_records.specs.Held.{IsSpare};
 ghost use Rattle.arr_notes.specs.Step.{step};
-ghost use Rattle.edge_split_merge.specs.Merges.{CanMerge, IsMeeting, TellsOfMerge};
+ghost use Rattle.sound_splits.specs.Fits.{FitsMerge};
+ghost use Rattle.edge_split_merge.specs.Merges.{CanMerge, TellsOfMerge};
 
 use crate::parting::onward;
 use arr_notes::Change;
 use dcel_records::Records;
-use edge_unlink::before;
+use rotation_order::before;
 use slab_laws::{DartId, Darts, VertexId};
 
 // The dart that comes into the vertex from the lower end of one edge, and the dart that goes on to the upper end of the other.
 fn meeting(records: &Records, v: VertexId) -> (DartId, DartId)
     requires sound { IsGraphSound records.now.graph }
     requires fits { CanMerge records.now.graph v }
-    ensures { IsMeeting records.now.graph v result.0 result.1 }
+    ensures { FitsMerge records.now.graph v result.0 result.1 }
 {
     let Some(first) = records.out_of(v) else {
         unreachable!()

@@ -6,8 +6,8 @@ ghost use Rattle.edge_split_merge.specs.Splits.{CanSplit, TellsOfSplit, NamesNew
 
 use arr_notes::Change;
 use dcel_records::Records;
-use edge_unlink::before;
 use exact_plane::Point;
+use rotation_order::before;
 use slab_laws::{DartId, Darts};
 
 // What follows a dart that ends where another did: what followed that one, or, where this was its twin, the twin's new name.

@@ -1,4 +1,2 @@
-pub mod Walks
+pub mod Rests
 pub mod Closing
-pub mod Fewer
-pub mod Unlinked

@@ -5,9 +5,10 @@ ghost use Rattle.dcel_records.specs.Held.{IsSpare};
 ghost use Rattle.arr_notes.specs.declared.change.Change.TheVariants.{RemoveEdge};
 ghost use Rattle.arr_notes.specs.Step.{step};
 
-use crate::rounds::{before, rest_of};
+use crate::rounds::rest_of;
 use arr_notes::Change;
 use dcel_records::Records;
+use rotation_order::before;
 use slab_laws::{DartId, Darts};
 
 /// The edge of the dart goes, and the darts round both its ends close up (CGAL manual, `remove_edge`).

@@ -5,4 +5,3 @@ mod edges;
 mod rounds;
 
 pub use edges::unlink;
-pub use rounds::before;

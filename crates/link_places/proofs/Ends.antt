@@ -8,31 +8,22 @@ use Rattle.slab_laws.specs.declared.names.DartId.{DartId}
 use Rattle.slab_laws.specs.declared.names.VertexId.{VertexId}
 use Rattle.slab_laws.specs.Darts.{Dart, source}
 use Rattle.slab_laws.specs.Rotation.{earlier}
-use Rattle.slab_laws.specs.Sound.{edge_in, dart_in, IsGraphSound}
-use Rattle.slab_laws.specs.View.{View, HasVertex, HasDart, IsOutOf, point_in, source_in, target_in, line_in}
+use Rattle.slab_laws.specs.Sound.{dart_in, IsGraphSound}
+use Rattle.slab_laws.specs.View.{View, HasVertex, IsOutOf, point_in, source_in, target_in, line_in}
 use Rattle.edge_fans.specs.Ways.{way_before, way_of, IsAlong}
 use Rattle.edge_fans.proofs.Rounds.{by_directions, one_way}
 use Rattle.view_changes.specs.Around.{after_in}
 use Rattle.sound_views.proofs.Named.{source_by}
-use Rattle.sound_rings.proofs.Named.{edge_known}
 use Rattle.rotation_order.specs.declared.places.Place.{Place}
 use Rattle.rotation_order.specs.declared.places.Place.TheVariants.{Between, Along, Bare}
 use Rattle.rotation_order.specs.Place.{way_in, sooner_way, IsPlaceOf}
 use Rattle.rotation_order.proofs.Turning.{soon}
-use Rattle.rotation_order.proofs.Around.{after_out}
+use Rattle.rotation_order.proofs.Around.{along_line, same_order, after_out}
 use Rattle.sound_links.specs.Links.{dart_between}
 use Rattle.link_places.specs.Edges.{IsPlaceOfEdge}
 use Rattle.link_places.proofs.Lines.{dart_along, forward_edge}
 
 module _ (v : View) (s : IsGraphSound v) where
-  along_line : (d : DartId) → HasDart v d → IsAlong (dart_in v d) (line_in v d)
-  along_line d has =
-      let E = edge_known v s.twinned s.plane d has in
-      let W = s.plane.proper_edge (edge_in v d) E in
-      dart_along (line_in v d) (point_in v (source_in v d)) (point_in v (target_in v d))
-      (record { low_weight = W.0; high_weight = W.1; forward = s.plane.forward (edge_in v d) E; upright = s.plane.upright (edge_in v d) E })
-      (s.drawn.line d has) (s.drawn.starts d has) (s.drawn.ends d has)
-
   source_at : (u : VertexId) (d : DartId) → IsOutOf v u d → source (dart_in v d) ≡ point_in v u
   source_at u d o = source_by (point_in v (source_in v d)) (point_in v (target_in v d)) ∙ ap (point_in v) o.1
 
@@ -54,19 +45,16 @@ module _ (v : View) (s : IsGraphSound v) where
 
     -- ---- the order of darts out of the vertex, the new one among them, is the order of their directions
     before_new : (d : DartId) → IsOutOf v u d → earlier (dart_in v d) new_dart ≡ way_before (way_in v d) new_way
-    before_new d o = by_directions (dart_in v d) new_dart (line_in v d) l (along_line d o.0) new_along (source_at u d o ∙ sym new_source)
+    before_new d o = by_directions (dart_in v d) new_dart (line_in v d) l (along_line v s d o.0) new_along (source_at u d o ∙ sym new_source)
 
     new_before : (d : DartId) → IsOutOf v u d → earlier new_dart (dart_in v d) ≡ way_before new_way (way_in v d)
-    new_before d o = by_directions new_dart (dart_in v d) l (line_in v d) new_along (along_line d o.0) (new_source ∙ sym (source_at u d o))
-
-    before_old : (c d : DartId) → IsOutOf v u c → IsOutOf v u d → earlier (dart_in v c) (dart_in v d) ≡ way_before (way_in v c) (way_in v d)
-    before_old c d a b = by_directions (dart_in v c) (dart_in v d) (line_in v c) (line_in v d) (along_line c a.0) (along_line d b.0) (source_at u c a ∙ sym (source_at u d b))
+    new_before d o = by_directions new_dart (dart_in v d) l (line_in v d) new_along (along_line v s d o.0) (new_source ∙ sym (source_at u d o))
 
     comes_after : (a : DartId) → IsOutOf v u a → sooner_way (way_in v a) new_way (way_in v (after_in v a)) ≡ true → sooner_by earlier (dart_in v a) new_dart (dart_in v (after_in v a)) ≡ true
     comes_after a oa met =
         let n = after_in v a in
         let on = after_out v s u start a oa in
-        (λ i. soon (before_new a oa i) (before_old a n oa on i) (new_before n on i)) ∙ met
+        (λ i. soon (before_new a oa i) (same_order v s u start a n oa on i) (new_before n on i)) ∙ met
 
     pub place_of_edge : (p : Place) → IsPlaceOf v u new_way p → IsPlaceOfEdge v u l new_dart p
     place_of_edge Bare h = h

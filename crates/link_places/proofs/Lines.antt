@@ -1,10 +1,8 @@
 -- A dart between two points lies on each line that holds both.
 use Rattle.std.proofs.Common.{◌≡◌, ◌≢◌, Bool, true, false, refl, sym, ◌∙◌}
-use Rattle.std.specs.Prelude.{if◌then◌else◌}
 use Rattle.std.proofs.lemmas.Bool.{false≢true}
 use Rattle.exact_plane.specs.Line.{Line, IsOn}
 use Rattle.exact_plane.specs.Point.{Point}
-use Rattle.plane_graphs.specs.Graph.{Edge}
 use Rattle.plane_graphs.specs.Line.{IsProper, IsProperLine, precedes}
 use Rattle.plane_graphs.proofs.Order.{Lt, Tri, less, same, more, tri, lt_out, lt_in}
 use Rattle.slab_laws.specs.Sound.{edge_between}
@@ -14,14 +12,7 @@ use Rattle.edge_fans.specs.Parts.{IsForwardEdge}
 use Rattle.edge_fans.specs.Ways.{IsAlong}
 use Rattle.edge_fans.proofs.Cuts.{edge_before}
 use Rattle.sound_links.specs.Links.{dart_between}
-
--- the edge between two points, once it is known which is the lesser
-abbrev edge_by : Bool → Point → Point → Edge
-edge_by b p q = if b then record { low = p; high = q } else record { low = q; high = p }
-
-ends_on : (l : Line) (b : Bool) (p q : Point) → IsOn l p → IsOn l q → IsOn l (edge_by b p q).low × IsOn l (edge_by b p q).high
-ends_on l true p q x y = (x, y)
-ends_on l false p q x y = (y, x)
+use Rattle.rotation_order.proofs.Around.{edge_by, ends_on}
 
 pub dart_along : (l : Line) (p q : Point) → IsForwardEdge (edge_between p q) → IsProperLine l → IsOn l p → IsOn l q → IsAlong (dart_between p q) l
 dart_along l p q e L x y =

@@ -1,23 +1,19 @@
 -- What is built from a present: its graph, the lines of its edges, and the tables.
-use Rattle.std.proofs.Common.{◌≡◌, ℕ, Bool, true, Vec, Global, refl, sym, ap, subst, ◌∙◌, List, [], ◌∷◌, map, length, zero, suc}
-use Rattle.std.specs.Prelude.{Some, slice_get, pos}
+use Rattle.std.proofs.Common.{◌≡◌, Bool, true, Vec, Global, refl, sym, ap, subst, ◌∙◌, List, [], ◌∷◌, map}
 use Rattle.std.specs.List.{list_any, position_or_len}
-use Rattle.std.specs.Option.{option_map}
-use Rattle.std.proofs.lemmas.List.{length-map}
-use Rattle.std.proofs.lemmas.Option.{slice_get-map, get_or_from_slice_get}
 use Rattle.exact_plane.specs.Line.{IsOn}
 use Rattle.exact_plane.specs.Point.{Point}
 use Rattle.exact_plane.specs.Segment.{line_of_segment}
 use Rattle.exact_plane.specs.Span.{Span}
 use Rattle.plane_graphs.specs.Ascending.{Member}
 use Rattle.plane_graphs.specs.Fit.{IsFit}
-use Rattle.plane_graphs.specs.Graph.{Graph, Edge, graph, vertices, edges}
+use Rattle.plane_graphs.specs.Graph.{graph, vertices, edges}
 use Rattle.plane_graphs.specs.Line.{IsProperLine}
 use Rattle.plane_graphs.specs.Meaning.{IsEdgeOf}
 use Rattle.plane_graphs.specs.Piece.{Piece, Present, on, along}
 use Rattle.plane_graphs.specs.Plane.{IsPlane}
 use Rattle.plane_graphs.proofs.Lines.{zero_out, segment_line}
-use Rattle.plane_graphs.proofs.Lists.{both}
+use Rattle.plane_graphs.proofs.Lists.{both, in_map}
 use Rattle.plane_graphs.proofs.Meaning.{edges_are}
 use Rattle.plane_graphs.proofs.Vertices.{proper_piece}
 use Rattle.slab_laws.specs.Drawn.{edge_of, drawn}
@@ -30,17 +26,16 @@ use Rattle.slab_laws.specs.declared.rows.CycleRow.{CycleRow}
 use Rattle.slab_laws.specs.declared.slab_cell.SlabCell.{SlabCell}
 use Rattle.slab_laws.specs.Text.{skeleton}
 use Rattle.slab_faces.proofs.PlaneGraphs.{counts}
-use Rattle.listed_views.specs.Listed.{Drawing, skeleton_in, line_at}
-use Rattle.listed_views.specs.Standing.{AreLinesOf, IsEdgeAt}
+use Rattle.listed_views.specs.Listed.{skeleton_in}
+use Rattle.listed_views.specs.Standing.{AreLinesOf}
 use Rattle.present_graphs.specs.Edges.{AreAlongPieces}
 use Rattle.present_graphs.specs.declared.marks.Mark.{Mark}
-use Rattle.listed_views.proofs.Places.{to_in}
-use Rattle.listed_views.proofs.Rows.{slice_get_member}
 use Rattle.present_graphs.specs.Marks.{mark_of}
 use Rattle.plain_slabs.specs.Drawn.{graph_in, drawing_in}
 use Rattle.plain_slabs.specs.Faces.{rank_round}
 use Rattle.plain_slabs.specs.Kept.{drawing_of, bare_rank, IsKept}
 use Rattle.plain_slabs.specs.Orbits.{AreOrbits, AreRegions}
+use Rattle.plain_slabs.proofs.SpanLines.{IsAlongLine, lines_by_spans}
 use Rattle.plain_slabs.specs.declared.orbits.Orbits.{Orbits}
 use Rattle.plain_slabs.specs.declared.plain.Plain.TheInside.{Inside}
 use Rattle.plain_slabs.specs.declared.regions.Regions.{Regions}
@@ -57,50 +52,20 @@ on_line : (k : Piece) (x : Point) → on k x ≡ true → IsOn (line_of_segment 
 unfolding on along
 on_line k x h = zero_out _ (both (along k x) _ h).0
 
--- the element that a value in the list is of
-map_at : {X Y : Type 0} (f : X → Y) (xs : List X) (k : ℕ) (y : Y) → slice_get (map f xs) k ≡ Some y → (x : X) × (slice_get xs k ≡ Some x) × (f x ≡ y)
-map_at f [] k y h = absurd (cc)
-map_at f (x ∷ xs) zero y h = (x, refl, (let e : f x ≡ y = cc in e))
-map_at f (x ∷ xs) (suc k) y h = map_at f xs k y h
-
 module _ (p : Present) (vs : List Point) (ms : List Mark) (ps : List Point) (ss : List Span) (is : graph_in vs ms ps ≡ graph p) (are : map edge_of ss ≡ edges (graph p)) (along : AreAlongPieces p ss) (fit : IsFit p) where
-  abbrev D : Drawing
-  D = drawing_in vs ms ps ss
-
-  -- the span of an edge, and where it lies
-  record IsSpanOf (k : ℕ) (e : Edge) : Type 0 where
-    span : Span
-    edge : edge_of span ≡ e
-    line : line_at D k ≡ span.line
-    is_line : IsProperLine span.line
-    lower_on : IsOn span.line span.lower
-    upper_on : IsOn span.line span.upper
-
-  span_of : (k : ℕ) (e : Edge) → IsEdgeAt D k e → IsSpanOf k e
-  span_of k e at =
-      let here : slice_get (edges (graph p)) k ≡ Some e = ap (λ (g : Graph). slice_get (edges g) k) (sym is) ∙ at in
-      let w = map_at edge_of ss k e (ap (λ (es : List Edge). slice_get es k) are ∙ here) in
-      let s : Span = w.0 in
-      let m : Member s ss = to_in ss s (slice_get_member ss k s w.1) in
-      let n : Member (edge_of s) (edges (graph p)) = subst (λ (d : Edge). Member d (edges (graph p))) (sym w.2) (to_in (edges (graph p)) e (slice_get_member (edges (graph p)) k e here)) in
-      let i : IsEdgeOf p s.lower s.upper = (edges_are p (edge_of s)).0 n in
+  -- it lies on the line of the piece that holds its edge
+  span_line : (s : Span) → Member s ss → IsAlongLine s
+  span_line s m =
+      let i : IsEdgeOf p s.lower s.upper = (edges_are p (edge_of s)).0 (subst (Member (edge_of s)) are (in_map edge_of s ss m)) in
       let l : s.line ≡ line_of_segment i.piece.segment = along s m i.piece i.piece_in i.on_first i.on_last in
       record {
-        span = s;
-        edge = w.2;
-        line = get_or_from_slice_get D.lines k s.line (record { a = pos 0; b = pos 0; c = pos 0 }) (slice_get-map (λ (s : Span). s.line) ss k ∙ ap (option_map (λ (s : Span). s.line)) w.1);
         is_line = subst IsProperLine (sym l) (segment_line i.piece (proper_piece i.piece (fit.piece i.piece i.piece_in)));
         lower_on = subst (λ l. IsOn l s.lower) (sym l) (on_line i.piece s.lower i.on_first);
         upper_on = subst (λ l. IsOn l s.upper) (sym l) (on_line i.piece s.upper i.on_last);
       }
 
-  pub lines_are : AreLinesOf D
-  lines_are = record {
-    as_many = length-map ss (λ (s : Span). s.line) ∙ sym (length-map ss edge_of) ∙ ap length are ∙ ap (λ (g : Graph). length (edges g)) (sym is);
-    is_line = λ k e at. let w = span_of k e at in subst IsProperLine (sym w.line) w.is_line;
-    lower_on = λ k e at. let w = span_of k e at in subst (λ (d : Edge). IsOn (line_at D k) d.low) w.edge (subst (λ l. IsOn l w.span.lower) (sym w.line) w.lower_on);
-    upper_on = λ k e at. let w = span_of k e at in subst (λ (d : Edge). IsOn (line_at D k) d.high) w.edge (subst (λ l. IsOn l w.span.upper) (sym w.line) w.upper_on);
-  }
+  pub lines_are : AreLinesOf (drawing_in vs ms ps ss)
+  lines_are = lines_by_spans (graph_in vs ms ps) ss (are ∙ ap edges (sym is)) span_line
 
 -- ---- the graph of a present
 pub graph_is : (p : Present) (vs : List Point) (ms : List Mark) (ps : List Point) → vs ≡ vertices p → map mark_of ms ≡ (graph p).marks → ps ≡ p.pins → graph_in vs ms ps ≡ graph p

@@ -60,7 +60,7 @@ filter_same : {X : Type 0} (p q : X → Bool) (xs : List X) → ((x : X) → p x
 filter_same p q [] f = refl
 filter_same p q (x ∷ xs) f = λ i. cond (f x i) (x ∷ filter_same p q xs f i) (filter_same p q xs f i)
 
-filter_map : {X Y : Type 0} (f : X → Y) (p : Y → Bool) (xs : List X) → filter p (map f xs) ≡ map f (filter (λ x. p (f x)) xs)
+pub filter_map : {X Y : Type 0} (f : X → Y) (p : Y → Bool) (xs : List X) → filter p (map f xs) ≡ map f (filter (λ x. p (f x)) xs)
 filter_map f p [] = refl
 filter_map f p (x ∷ xs) = step (p (f x)) (filter_map f p xs)
   where
@@ -68,7 +68,7 @@ filter_map f p (x ∷ xs) = step (p (f x)) (filter_map f p xs)
     step true e = ap (λ ys. f x ∷ ys) e
     step false e = e
 
-map_map : {X Y Z : Type 0} (f : X → Y) (g : Y → Z) (xs : List X) → map g (map f xs) ≡ map (λ x. g (f x)) xs
+pub map_map : {X Y Z : Type 0} (f : X → Y) (g : Y → Z) (xs : List X) → map g (map f xs) ≡ map (λ x. g (f x)) xs
 map_map f g [] = refl
 map_map f g (x ∷ xs) = ap (λ ys. g (f x) ∷ ys) (map_map f g xs)
 

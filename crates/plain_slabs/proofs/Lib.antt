@@ -10,3 +10,9 @@ pub mod LeadRows
 pub mod Building
 pub mod Named
 pub mod Counted
+pub mod ReadKeys
+pub mod SpanLines
+pub mod FlatLists
+pub mod NamedEdges
+pub mod NamedMarks
+pub mod NamedGraph

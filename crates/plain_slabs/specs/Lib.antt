@@ -3,3 +3,4 @@ pub mod Curves
 pub mod Kept
 pub mod Faces
 pub mod Orbits
+pub mod ByName

@@ -45,7 +45,7 @@ fn copy_points(alloc: Global, points: &[Point]) -> Result<Vec<Point>, AllocError
 }
 
 // The subdivision by a graph.
-fn plain_of(
+pub(crate) fn plain_of(
     alloc: Global,
     points: Vec<Point>,
     marks: Vec<Mark>,

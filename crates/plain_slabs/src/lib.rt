@@ -1,4 +1,5 @@
-//! The slab engine: the subdivision of the plane by a present, computed from scratch, and where a point lies in it.
+//! The slab engine: the subdivision of the plane by a present, or by the graph of records that are read by name, computed
+//! from scratch, and where a point lies in it.
 //!
 //! It is slow and plain: every part of the answer is computed by the definition. Slabs, cells and faces are those of the
 //! slab model; what is answered is proved to be the model's subdivision and the model's location. It is the yardstick of
@@ -9,6 +10,7 @@ mod build;
 mod counts;
 mod faces;
 mod locate;
+mod names;
 mod orbits;
 mod plain;
 mod ranks;
@@ -18,4 +20,5 @@ mod regions;
 pub use build::subdivide;
 pub use counts::{Counts, count};
 pub use locate::hold;
+pub use names::subdivide_of;
 pub use plain::Plain;

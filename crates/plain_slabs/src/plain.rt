@@ -4,7 +4,7 @@ use present_graphs::Mark;
 use slab_laws::{CycleRow, DartRow, SlabCell};
 use std::marker::Model;
 
-/// The subdivision of the plane by a present, in ascending lists: anything's name is its place in its list, a face's is its
+/// The subdivision of the plane by a graph, in ascending lists: anything's name is its place in its list, a face's is its
 /// rank.
 #[derive(Drop)]
 pub struct Plain {

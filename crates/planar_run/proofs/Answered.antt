@@ -6,7 +6,8 @@ use Rattle.exact_plane.specs.Point.{Point}
 use Rattle.exact_plane.specs.Segment.{Segment}
 use Rattle.exact_plane.specs.SegmentOf.{segment_of}
 use Rattle.edit_steps.specs.Edits.{Insert, Pin, Unpin}
-use Rattle.planar_run.specs.declared.world.TheConstants.{MAX_PINS, LAST_CURVE}
+use Rattle.arrangement.specs.declared.limits.TheConstants.{MAX_PINS}
+use Rattle.curve_history.specs.declared.history.TheConstants.{LAST_CURVE}
 use Rattle.std.specs.Fmt.{digits}
 use Rattle.planar_run.specs.Text.{line_of}
 use Rattle.planar_run.specs.World.{World}

@@ -1,6 +1,5 @@
 pub mod Takes
-pub mod PinPlaces
-pub mod Layers
+pub mod Refused
 pub mod Answered
 pub mod Printed
 pub mod Script

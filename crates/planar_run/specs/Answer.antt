@@ -17,7 +17,8 @@ use Rattle.script_lines.specs.declared.command.Command.TheVariants.{Nothing, Seg
 use Rattle.script_lines.specs.declared.error.LineError.{LineError}
 use Rattle.script_lines.specs.LineError.{refusal_number}
 use Rattle.script_lines.specs.Command.{command_of}
-use Rattle.planar_run.specs.declared.world.TheConstants.{MAX_CURVES, MAX_PIECES, MAX_PINS, LAST_CURVE}
+use Rattle.arrangement.specs.declared.limits.TheConstants.{MAX_CURVES, MAX_PIECES, MAX_PINS}
+use Rattle.curve_history.specs.declared.history.TheConstants.{LAST_CURVE}
 use Rattle.planar_run.specs.World.{World}
 use Rattle.planar_run.specs.Text.{line_of, cell_text, spaced}
 

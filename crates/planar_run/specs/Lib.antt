@@ -2,6 +2,7 @@ pub mod Lines
 pub mod World
 pub mod Text
 pub mod Answer
+pub mod Refusals
 pub mod Run
 pub mod Status
 pub mod Engine

@@ -6,24 +6,24 @@ ghost use Rattle.planar_run.specs.Answer.{answer_to, insertion, MayDraw, MayTake
 
 use crate::reply::{REPLY_ROOM, Reply};
 use crate::text::{put_cell, put_counts};
-use crate::world::{MAX_PINS, World};
+use crate::world::World;
 use exact_plane::{Point, Segment, SegmentError};
 use no_memory::NoMemory;
-use plain_slabs::{count as count_cells, hold};
+use pin_points::PinError;
 use script_lines::{Command, LineError, read_line};
+use segment_insert::InsertError;
+use slab_laws::CurveId;
 
-fn pin(world: &mut World, point: Point, reply: &mut Reply) -> Result<(), NoMemory>
-    ensures text { OnOk result (reply.new ≡ (answer_to world.old (Ok (Pin point))).text) }
-    ensures world { OnOk result (world.new ≡ (answer_to world.old (Ok (Pin point))).world) }
-    ensures err { OnErr result (MayTake world.old (Ok (Pin point)) × (world.new ≡ world.old)) }
+fn pin(world: &mut World, point: &Point, reply: &mut Reply) -> Result<(), NoMemory>
+    ensures text { OnOk result (reply.new ≡ (answer_to world.old (Ok (Pin point.now))).text) }
+    ensures world { OnOk result (world.new ≡ (answer_to world.old (Ok (Pin point.now))).world) }
+    ensures err { OnErr result (MayTake world.old (Ok (Pin point.now)) × (world.new ≡ world.old)) }
 {
-    if world.is_pinned(&point) {
-        reply.set("refused 13\n");
-    } else if world.count_pins() >= MAX_PINS {
-        reply.set("refused 17\n");
-    } else {
-        world.pin(point)?;
-        reply.set("ok\n");
+    match world.pin(point) {
+        Ok(()) => reply.set("ok\n"),
+        Err(PinError::Pinned) => reply.set("refused 13\n"),
+        Err(PinError::Full(_)) => reply.set("refused 17\n"),
+        Err(PinError::NoMemory) => return Err(NoMemory),
     }
     Ok(())
 }
@@ -32,33 +32,36 @@ fn unpin(world: &mut World, point: &Point, reply: &mut Reply)
     ensures text { reply.new ≡ (answer_to world.old (Ok (Unpin point.now))).text }
     ensures world { world.new ≡ (answer_to world.old (Ok (Unpin point.now))).world }
 {
-    if world.unpin(point) {
-        reply.set("ok\n");
-    } else {
-        reply.set("refused 10\n");
+    match world.unpin(point) {
+        Ok(()) => reply.set("ok\n"),
+        Err(_) => reply.set("refused 10\n"),
     }
 }
 
-// Makes a segment a new curve where there is room for one more and a number left. The reply comes first: where there is no
-// memory for it, nothing is changed.
+// The reply to a new curve. It takes no memory, since the curve is there already.
+fn tell_curve(curve: CurveId, reply: &mut Reply)
+    requires { reply.old ≡ [] }
+    ensures { reply.new ≡ line_of (codes "ok " ++ decimal curve.0) }
+{
+    reply.add_text("ok ");
+    reply.add_number(curve.0);
+    reply.add_text("\n");
+}
+
+// Makes a segment a new curve where there is room for one more and a number left.
 fn insert(world: &mut World, segment: Segment, reply: &mut Reply) -> Result<(), NoMemory>
     requires { reply.old ≡ [] }
     ensures text { OnOk result (reply.new ≡ (insertion segment world.old).text) }
     ensures world { OnOk result (world.new ≡ (insertion segment world.old).world) }
     ensures err { OnErr result (MayDraw (Ok segment) world.old × (world.new ≡ world.old)) }
 {
-    if !world.has_room_for_a_curve() {
-        reply.set("refused 17\n");
-        return Ok(());
+    match world.insert(segment) {
+        Ok(curve) => tell_curve(curve, reply),
+        Err(InsertError::Full(_)) => reply.set("refused 17\n"),
+        Err(InsertError::Spent) => reply.set("refused 18\n"),
+        Err(InsertError::NoMemory) => return Err(NoMemory),
     }
-    let Some(curve) = world.next_curve() else {
-        reply.set("refused 18\n");
-        return Ok(());
-    };
-    reply.put_text("ok ")?;
-    reply.put_number(curve.0)?;
-    reply.put_text("\n")?;
-    world.insert(curve, segment)
+    Ok(())
 }
 
 fn segment(
@@ -82,12 +85,12 @@ fn segment(
     Ok(())
 }
 
-fn locate(world: &World, point: &Point, reply: &mut Reply) -> Result<(), NoMemory>
+fn locate(world: &mut World, point: &Point, reply: &mut Reply) -> Result<(), NoMemory>
     requires { reply.old ≡ [] }
-    ensures { OnOk result (reply.new ≡ (answer_to world.now (Ok (Locate point.now))).text) }
+    ensures text { OnOk result (reply.new ≡ (answer_to world.old (Ok (Locate point.now))).text) }
+    ensures world { world.new ≡ world.old }
 {
-    let subdivision = world.subdivide()?;
-    put_cell(reply, hold(&subdivision, point))?;
+    put_cell(reply, world.locate(point)?)?;
     reply.put_text("\n")
 }
 
@@ -95,8 +98,7 @@ fn count(world: &World, reply: &mut Reply) -> Result<(), NoMemory>
     requires { reply.old ≡ [] }
     ensures { OnOk result (reply.new ≡ (answer_to world.now (Ok Count)).text) }
 {
-    let subdivision = world.subdivide()?;
-    put_counts(reply, &count_cells(&subdivision), world.count_curves())
+    put_counts(reply, &world.counts()?)
 }
 
 fn show(world: &World, reply: &mut Reply) -> Result<(), NoMemory>
@@ -117,7 +119,7 @@ fn obey(world: &mut World, command: Command, reply: &mut Reply) -> Result<(), No
     match command {
         Command::Nothing => Ok(()),
         Command::Segment(x1, y1, x2, y2) => segment(world, x1, y1, x2, y2, reply),
-        Command::Pin(point) => pin(world, point, reply),
+        Command::Pin(point) => pin(world, &point, reply),
         Command::Unpin(point) => {
             unpin(world, &point, reply);
             Ok(())

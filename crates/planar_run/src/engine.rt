@@ -27,7 +27,7 @@ impl Engine {
         ensures { IfOk result (λ e. (e.world ≡ first_world) × (e.line ≡ [])) }
     {
         Ok(Engine {
-            world: World::new(alloc),
+            world: World::new(alloc)?,
             line: Line::new(alloc)?,
             reply: Reply::new(alloc)?,
         })

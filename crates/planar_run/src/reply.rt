@@ -1,4 +1,4 @@
-ghost use Rattle.std.specs.Prelude.{◌≡◌, ◌++◌, ◌≤◌, [], length, IfOk, OnOk};
+ghost use Rattle.std.specs.Prelude.{◌≡◌, ◌+◌, ◌++◌, ◌≤◌, [], length, decimal, IfOk, OnOk};
 
 use itoa::{Buffer, Integer};
 use no_memory::NoMemory;
@@ -55,7 +55,25 @@ impl Reply {
         ensures { self.new ≡ text.now }
     {
         self.bytes.clear();
+        self.add_text(text);
+    }
+
+    /// Puts a text behind what is there, within the room that was made at the start. It takes no memory.
+    pub fn add_text(&mut self, text: &str)
+        requires { length self.old + length text.now ≤ REPLY_ROOM }
+        ensures { self.new ≡ self.old ++ text.now }
+    {
         self.bytes.extend_from_slice(text.as_bytes()).unwrap();
+    }
+
+    /// Puts a number in decimal, of at most 10 digits, behind what is there, within that room. It takes no memory.
+    pub fn add_number(&mut self, number: u32)
+        requires { length self.old + 10 ≤ REPLY_ROOM }
+        ensures put { self.new ≡ self.old ++ decimal number }
+        ensures short { length self.new ≤ length self.old + 10 }
+    {
+        let mut digits = Buffer::new();
+        self.add_text(digits.format(number));
     }
 
     /// Puts bytes behind what is there.

@@ -1,10 +1,11 @@
-ghost use Rattle.std.specs.Prelude.{◌≡◌, ◌++◌, ◌∷◌, [], codes, decimal, OnOk};
+ghost use Rattle.std.specs.Prelude.{◌≡◌, ◌++◌, ◌∷◌, [], codes, OnOk};
 ghost use Rattle.planar_run.specs.Text.{line_of, point_text, cell_text, spaced};
 
 use crate::reply::Reply;
+use arrangement::Counts;
 use exact_plane::Point;
+use itoa::Integer;
 use no_memory::NoMemory;
-use plain_slabs::Counts;
 use slab_laws::Cell;
 
 /// Puts the three numbers of a point behind what is there.
@@ -18,9 +19,9 @@ pub fn put_point(reply: &mut Reply, point: &Point) -> Result<(), NoMemory>
     reply.put_number(point.w())
 }
 
-/// Puts a text and a number behind what is there.
-pub fn put_labelled(reply: &mut Reply, label: &str, number: usize) -> Result<(), NoMemory>
-    ensures { OnOk result (reply.new ≡ reply.old ++ (label.now ++ decimal number)) }
+// Puts a text and a number behind what is there.
+fn put_labelled<I: Integer>(reply: &mut Reply, label: &str, number: I) -> Result<(), NoMemory>
+    ensures { OnOk result (reply.new ≡ reply.old ++ (label.now ++ I.text number)) }
 {
     reply.put_text(label)?;
     reply.put_number(number)
@@ -51,15 +52,15 @@ pub fn put_cell(reply: &mut Reply, cell: Cell) -> Result<(), NoMemory>
 }
 
 // Puts a space and a number behind what is there.
-fn put_spaced(reply: &mut Reply, number: usize) -> Result<(), NoMemory>
-    ensures { OnOk result (reply.new ≡ reply.old ++ 32 ∷ decimal number) }
+fn put_spaced<I: Integer>(reply: &mut Reply, number: I) -> Result<(), NoMemory>
+    ensures { OnOk result (reply.new ≡ reply.old ++ 32 ∷ I.text number) }
 {
     put_labelled(reply, " ", number)
 }
 
-/// Puts the line of counts, those of a subdivision and that of curves, behind what is there.
-pub fn put_counts(reply: &mut Reply, counts: &Counts, curves: usize) -> Result<(), NoMemory>
-    ensures { OnOk result (reply.new ≡ reply.old ++ line_of (codes "counts" ++ spaced (counts.now.vertices ∷ counts.now.edges ∷ counts.now.faces ∷ counts.now.inner ∷ counts.now.isolated ∷ curves ∷ []))) }
+/// Puts the line of counts behind what is there.
+pub fn put_counts(reply: &mut Reply, counts: &Counts) -> Result<(), NoMemory>
+    ensures { OnOk result (reply.new ≡ reply.old ++ line_of (codes "counts" ++ spaced (counts.now.vertices ∷ counts.now.edges ∷ counts.now.faces ∷ counts.now.inner ∷ counts.now.isolated ∷ counts.now.curves ∷ []))) }
 {
     reply.put_text("counts")?;
     put_spaced(reply, counts.vertices)?;
@@ -67,7 +68,7 @@ pub fn put_counts(reply: &mut Reply, counts: &Counts, curves: usize) -> Result<(
     put_spaced(reply, counts.faces)?;
     put_spaced(reply, counts.inner)?;
     put_spaced(reply, counts.isolated)?;
-    put_spaced(reply, curves)?;
+    put_spaced(reply, counts.curves)?;
     reply.put_text("\n")?;
     Ok(())
 }

@@ -1,2 +1,3 @@
 pub mod PlaneTests
 pub mod Grown
+pub mod TwoOut

@@ -1,16 +1,18 @@
-ghost use Rattle.std.specs.Prelude.{◌≡◌, None, IfOk, IfSome};
+ghost use Rattle.std.specs.Prelude.{◌≡◌, ◌≤◌, ◌*◌, None, IfOk, OnOk, IfSome};
 ghost use Rattle.slab_laws.specs.View.{IsOutOf, dart_after_in, twin_in, next_in};
 ghost use Rattle.arr_notes.specs.declared.change.Change.TheVariants.{RemoveEdge};
 ghost use Rattle.arr_notes.specs.Step.{step};
+ghost use Rattle.edge_split_merge.specs.Merges.{TellsOfMerge};
+ghost use Rattle.edge_split_merge.specs.Splits.{TellsOfSplit};
 ghost use Rattle.dcel_records.specs.Held.{ends_found, point_found};
 ghost use Rattle.rotation_order.specs.Place.{IsPlaceOf};
 ghost use Rattle.view_changes.specs.Around.{after_in};
 ghost use Rattle.view_changes.specs.Writers.{no_rows, with_vertex};
 
-use crate::changes;
 use crate::lists::{has_dart, has_vertex};
+use crate::{changes, merges, splits};
 use arr_notes::Change;
-use dcel_records::Records;
+use dcel_records::{Records, Room};
 use edge_unlink::unlink;
 use exact_plane::{Direction, Line, Point};
 use no_memory::NoMemory;
@@ -46,6 +48,15 @@ impl Checked {
         })
     }
 
+    /// Room for so many vertices and edges more; the graph stays, whatever comes.
+    pub fn reserve(&mut self, room: Room) -> Result<(), NoMemory>
+        ensures graph { self.new.graph ≡ self.old.graph }
+        ensures vertices { OnOk result (room.vertices ≤ self.new.spare_vertices) }
+        ensures darts { OnOk result (2 * room.edges ≤ self.new.spare_darts) }
+    {
+        self.records.reserve(room)
+    }
+
     /// A vertex more; `None` where one has the point, where the graph with it isn't plane, or for want of memory.
     pub fn add_vertex(&mut self, alloc: Global, point: Point) -> Option<VertexId>
         ensures { IfSome result (λ w. self.new.graph ≡ with_vertex self.old.graph w point) }
@@ -79,6 +90,30 @@ impl Checked {
             return None;
         }
         Some(unlink(&mut self.records, d))
+    }
+
+    /// An edge in two at a point inside it; `None` for a name without a record, where the dart goes from its upper to its lower
+    /// end, where the point isn't inside, or for want of memory.
+    pub fn split(&mut self, d: DartId, point: Point) -> Option<Change>
+        ensures change { IfSome result (λ c. TellsOfSplit c d point) }
+        ensures graph { IfSome result (λ c. self.new.graph ≡ step self.old.graph c) }
+    {
+        if !has_dart(&self.records, d) {
+            return None;
+        }
+        splits::split(&mut self.records, d, point)
+    }
+
+    /// Two edges in one; `None` for a name without a record, where more or fewer edges end at the vertex, or where the two go
+    /// on different lines or the same way.
+    pub fn merge(&mut self, v: VertexId) -> Option<Change>
+        ensures change { IfSome result (λ c. TellsOfMerge self.old.graph c v) }
+        ensures graph { IfSome result (λ c. self.new.graph ≡ step self.old.graph c) }
+    {
+        if !has_vertex(&self.records, v) {
+            return None;
+        }
+        merges::merge(&mut self.records, v)
     }
 
     /// The place of a direction at a vertex; `None` for a name without a record.

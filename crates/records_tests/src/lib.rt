@@ -4,7 +4,9 @@
 mod changes;
 mod checked;
 mod lists;
+mod merges;
 mod planes;
+mod splits;
 #[cfg(test)]
 mod tests;
 

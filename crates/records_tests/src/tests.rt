@@ -2,6 +2,7 @@ use crate::checked::Checked;
 use arr_notes::Change;
 use dcel_records::{Records, Room};
 use exact_plane::{Direction, Line, Point, Segment, line_of};
+use no_memory::NoMemory;
 use rotation_order::Place;
 use slab_laws::{CurveId, DartId, VertexId};
 use std::alloc::Global;
@@ -30,6 +31,41 @@ fn star(alloc: Global) -> Result<Checked, Fail> {
             .ok_or("edge")?;
     }
     Ok(checked)
+}
+
+// Each dart with its source, its target and the dart that follows.
+const STAR: [(usize, usize, usize, usize); 10] = [
+    (0, 0, 1, 1),
+    (1, 1, 0, 4),
+    (2, 0, 2, 3),
+    (3, 2, 0, 0),
+    (4, 0, 3, 5),
+    (5, 3, 0, 6),
+    (6, 0, 4, 7),
+    (7, 4, 0, 8),
+    (8, 0, 5, 9),
+    (9, 5, 0, 2),
+];
+
+fn has_rows(checked: &Checked, rows: &[(usize, usize, usize, usize)]) -> bool {
+    for (dart, source, target, next) in rows {
+        let ends = checked.ends_of(DartId(*dart));
+        if ends != Some((VertexId(*source), VertexId(*target))) {
+            return false;
+        }
+        if checked.next(DartId(*dart)) != Some(DartId(*next)) {
+            return false;
+        }
+    }
+    true
+}
+
+// The names of the new vertex and of the two new darts.
+fn part(checked: &mut Checked, dart: usize, point: Point) -> Result<(usize, usize, usize), Fail> {
+    match checked.split(DartId(dart), point) {
+        Some(Change::SplitEdge { v, n, m, .. }) => Ok((v.0, n.0, m.0)),
+        _ => Err("split")?,
+    }
 }
 
 #[test]
@@ -159,5 +195,112 @@ fn makes_room(rt: HostRuntime) -> Result<(), Fail> {
     assert!(rt; records.point_of(vertex) == Some(at(1, 2)?));
     records.clear();
     assert!(rt; records.point_of(vertex).is_none());
+    Ok(())
+}
+
+#[test]
+fn edges_are_split_and_merged_back(rt: HostRuntime) -> Result<(), Fail> {
+    let mut checked = star(rt.alloc())?;
+    let half = Point::new(-1, -2, 2)?;
+    // The dart up to (0, 3) keeps the part from the origin; the dart from (-1, -2) keeps the part that it leaves.
+    let (v, n, m) = part(&mut checked, 4, at(0, 1)?)?;
+    let (w, j, k) = part(&mut checked, 3, half)?;
+    let split = [
+        (0, 0, 1, 1),
+        (1, 1, 0, 4),
+        (2, w, 2, 3),
+        (3, 2, w, j),
+        (4, 0, v, n),
+        (5, v, 0, 6),
+        (6, 0, 4, 7),
+        (7, 4, 0, 8),
+        (8, 0, 5, 9),
+        (9, 5, 0, k),
+        (n, v, 3, m),
+        (m, 3, v, 5),
+        (j, w, 0, 0),
+        (k, 0, w, 2),
+    ];
+    assert!(rt; has_rows(&checked, &split));
+    assert!(rt; checked.point_of(VertexId(v)) == Some(at(0, 1)?));
+    assert!(rt; checked.point_of(VertexId(w)) == Some(half));
+    // Merged back, every dart has its name and its follower as before.
+    let (up, down) = (VertexId(v), VertexId(w));
+    assert!(rt;
+        checked.merge(up)
+            == Some(Change::MergeEdge {
+                v: up,
+                d: DartId(4),
+                n: DartId(n)
+            })
+    );
+    assert!(rt;
+        checked.merge(down)
+            == Some(Change::MergeEdge {
+                v: down,
+                d: DartId(3),
+                n: DartId(j)
+            })
+    );
+    assert!(rt; has_rows(&checked, &STAR));
+    for dart in [n, m, j, k] {
+        assert!(rt; checked.ends_of(DartId(dart)).is_none(), "{dart}");
+    }
+    assert!(rt; checked.point_of(up).is_none() && checked.point_of(down).is_none());
+    Ok(())
+}
+
+#[test]
+fn refuses_splits_off_the_edge(rt: HostRuntime) -> Result<(), Fail> {
+    let mut checked = star(rt.alloc())?;
+    // At an end, off the edge, along the line beyond it, by the dart that comes down, and by a name without a record.
+    for (dart, x, y) in [
+        (4usize, 0, 3),
+        (4, 0, 0),
+        (4, 1, 1),
+        (4, 0, 4),
+        (5, 0, 1),
+        (10, 0, 1),
+    ] {
+        let change = checked.split(DartId(dart), at(x, y)?);
+        assert!(rt; change.is_none(), "{dart} {x} {y}");
+    }
+    assert!(rt; has_rows(&checked, &STAR));
+    Ok(())
+}
+
+#[test]
+fn refuses_merges_that_leave_a_bend(rt: HostRuntime) -> Result<(), Fail> {
+    let mut checked = star(rt.alloc())?;
+    let middle = VertexId(0);
+    // Five edges, then three, then two that go on by another line, then one, then none.
+    assert!(rt; checked.merge(middle).is_none());
+    for dart in [0usize, 6] {
+        assert!(rt; checked.cut(DartId(dart)).is_some());
+    }
+    for dart in [4usize, 8, 2] {
+        assert!(rt; checked.merge(middle).is_none(), "{dart}");
+        assert!(rt; checked.cut(DartId(dart)).is_some(), "{dart}");
+    }
+    assert!(rt; checked.merge(middle).is_none());
+    assert!(rt; checked.merge(VertexId(6)).is_none());
+    Ok(())
+}
+
+#[test]
+fn stays_as_it_was_without_memory(rt: HostRuntime) -> Result<(), Fail> {
+    let mut checked = star(rt.alloc())?;
+    let most = usize::MAX;
+    for (vertices, edges) in [(most, 0), (0, most), (0, most / 2), (most, most)] {
+        let answer = checked.reserve(Room { vertices, edges });
+        assert!(rt; answer == Err(NoMemory), "{vertices} {edges}");
+        assert!(rt; has_rows(&checked, &STAR));
+    }
+    assert!(rt; checked.point_of(VertexId(3)) == Some(at(0, 3)?));
+    assert!(rt; checked.point_of(VertexId(6)).is_none() && checked.ends_of(DartId(10)).is_none());
+    // And it can go on.
+    let (v, ..) = part(&mut checked, 4, at(0, 1)?)?;
+    assert!(rt; checked.merge(VertexId(v)).is_some());
+    assert!(rt; has_rows(&checked, &STAR));
     Ok(())
 }

@@ -41,10 +41,10 @@ line_way l false (inl h) = more (neg_ℤ l.b *ℤ neg_ℤ l.b) (neg_ℤ (neg_ℤ
 line_way l false (inr h) = more_right (neg_ℤ l.b *ℤ neg_ℤ l.b) (neg_ℤ (neg_ℤ l.a) *ℤ neg_ℤ (neg_ℤ l.a)) (square_nonneg (neg_ℤ l.b)) (square_up (neg_ℤ (neg_ℤ l.a)) (falling (neg_ℤ l.a) (rising l.a h.1)))
 
 -- ---- an edge lies on a line that holds its ends
-abbrev edge_by : Bool → Point → Point → Edge
+abbrev pub edge_by : Bool → Point → Point → Edge
 edge_by b p q = if b then record { low = p; high = q } else record { low = q; high = p }
 
-ends_on : (l : Line) (b : Bool) (p q : Point) → IsOn l p → IsOn l q → IsOn l (edge_by b p q).low × IsOn l (edge_by b p q).high
+pub ends_on : (l : Line) (b : Bool) (p q : Point) → IsOn l p → IsOn l q → IsOn l (edge_by b p q).low × IsOn l (edge_by b p q).high
 ends_on l true p q x y = (x, y)
 ends_on l false p q x y = (y, x)
 
@@ -52,7 +52,7 @@ module _ (v : View) (s : IsGraphSound v) where
   pub some_way : (d : DartId) → HasDart v d → IsWay (way_in v d)
   some_way d has = let p = s.drawn.line d has in line_way (line_in v d) (dart_in v d).forward p.runs
 
-  along_line : (d : DartId) → HasDart v d → IsAlong (dart_in v d) (line_in v d)
+  pub along_line : (d : DartId) → HasDart v d → IsAlong (dart_in v d) (line_in v d)
   along_line d has =
       let E = edge_known v s.twinned s.plane d has in
       let p = point_in v (source_in v d) in
@@ -76,7 +76,7 @@ module _ (v : View) (s : IsGraphSound v) where
     in_graph : (d : DartId) → IsOutOf v w d → OutOf (skeleton_of v) (point_in v w) (dart_in v d)
     in_graph d o = out_of v s.twinned s.plane w d.0 (by_name d o)
 
-    same_order : (c d : DartId) → IsOutOf v w c → IsOutOf v w d → earlier (dart_in v c) (dart_in v d) ≡ way_before (way_in v c) (way_in v d)
+    pub same_order : (c d : DartId) → IsOutOf v w c → IsOutOf v w d → earlier (dart_in v c) (dart_in v d) ≡ way_before (way_in v c) (way_in v d)
     same_order c d oc od =
         let a = in_graph c oc in
         let b = in_graph d od in

@@ -4,3 +4,5 @@ pub mod Down
 pub mod Around
 pub mod Found
 pub mod Walks
+pub mod Circuits
+pub mod Searches

@@ -28,7 +28,7 @@ at_most p q f (r ∷ rs) =
     elim (cases_Bool (p r.0)) [ inl y ↦ rw (y, f r.0 y) (omega arith) | inr n ↦ rw n (omega arith) ]
 
 -- one that has a row passes only the second
-fewer : {X : Type 0} (p q : ℕ → Bool) → ((n : ℕ) → p n ≡ true → q n ≡ true) → (rs : List (ℕ × X)) (k : ℕ) → is_some (row_at rs k) ≡ true → p k ≡ false → q k ≡ true → count p rs < count q rs
+pub fewer : {X : Type 0} (p q : ℕ → Bool) → ((n : ℕ) → p n ≡ true → q n ≡ true) → (rs : List (ℕ × X)) (k : ℕ) → is_some (row_at rs k) ≡ true → p k ≡ false → q k ≡ true → count p rs < count q rs
 unfolding count row_at
 fewer p q f [] k h n y = absurd (false≢true h)
 fewer p q f (r ∷ rs) k h n y =

@@ -8,6 +8,7 @@ use Rattle.slab_laws.specs.Sound.{dart_in}
 use Rattle.slab_laws.specs.View.{View, line_in, IsOutOf}
 use Rattle.edge_fans.specs.Ways.{way_before, way_of}
 use Rattle.view_changes.specs.Around.{after_in}
+use Rattle.sound_rings.specs.Rings.{IsBare}
 use Rattle.rotation_order.specs.declared.places.Place.{Place}
 use Rattle.rotation_order.specs.declared.places.Place.TheVariants.{Between, Along, Bare}
 
@@ -18,10 +19,6 @@ way_in v d = way_of (line_in v d) (dart_in v d).forward
 -- clockwise from just after d, a is met before b; d itself is met last (CGAL manual, circulator around a vertex)
 abbrev pub sooner_way : Direction → Direction → Direction → Bool
 sooner_way d a b = sooner_by way_before d a b
-
--- no dart leaves w (CGAL manual, isolated vertex)
-abbrev pub IsBare : View → VertexId → Type 0
-IsBare v w = (d : DartId) → ¬ IsOutOf v w d
 
 -- d leaves w in the direction x (this project)
 pub record IsAlongDart (v : View) (w : VertexId) (x : Direction) (d : DartId) : Type 0 where

@@ -1,15 +1,20 @@
 //! The rotation at a vertex: where a direction stands, clockwise, among the darts that leave it.
 //!
 //! Directions are those of lines, compared exactly. The place of a direction tells an insertion after which dart the
-//! first dart of a new edge comes, or along which edge it would run.
+//! first dart of a new edge comes, or along which edge it would run; the dart that one comes directly after tells a removal
+//! where the vertex closes up. Going round a vertex also finds the edge that joins it to another.
 #![tactic(auto)]
 
 ghost use Rattle.rotation_order.specs.Laws.{NeighboursHaveNoDartBetween, OnePlace};
 
 mod clockwise;
+mod neighbours;
 mod places;
+mod rounds;
 
+pub use neighbours::dart_to;
 pub use places::{Place, place_at};
+pub use rounds::before;
 
 /// Clockwise from a dart, a direction between it and its neighbour is met before every other dart out of the vertex.
 pub fn neighbours_have_no_dart_between()

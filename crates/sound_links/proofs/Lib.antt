@@ -5,4 +5,7 @@ pub mod Added
 pub mod Fresh
 pub mod Drawn
 pub mod Shrunk
+pub mod Fewer
 pub mod Removed
+pub mod Clockwise
+pub mod Next

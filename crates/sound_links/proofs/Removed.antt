@@ -1,14 +1,15 @@
 -- What is read of a view after an edge was removed.
-use Rattle.std.proofs.Common.{◌≡◌, ◌≢◌, inl, inr, Bool, true, false, not, refl, sym, ap, ap₂, ◌∙◌}
+use Rattle.std.proofs.Common.{◌≡◌, ◌≢◌, inl, inr, Bool, true, false, not, map, refl, sym, ap, ap₂, ◌∙◌}
 use Rattle.exact_plane.specs.Line.{Line}
 use Rattle.plane_graphs.specs.Ascending.{Member}
-use Rattle.plane_graphs.specs.Graph.{Edge}
-use Rattle.plane_graphs.proofs.Ascending.{to_member, from_member}
+use Rattle.plane_graphs.specs.Graph.{Edge, edge_cmp}
+use Rattle.plane_graphs.proofs.Ascending.{to_member, from_member, IsAscending-ascending}
+use Rattle.plane_graphs.proofs.Meaning.{edge_cmp_total}
 use Rattle.slab_laws.specs.declared.names.DartId.{DartId}
 use Rattle.slab_laws.specs.declared.names.VertexId.{VertexId}
 use Rattle.slab_laws.specs.Skeleton.{IsPlaneSkeleton}
 use Rattle.slab_laws.specs.Sound.{skeleton_of, edge_in, dart_in, IsNamed, IsTwinned, IsGraphSound}
-use Rattle.slab_laws.specs.View.{View, HasDart, point_in, source_in, twin_in, next_in, target_in, line_in}
+use Rattle.slab_laws.specs.View.{View, HasDart, dart_id, point_in, source_in, twin_in, next_in, target_in, line_in}
 use Rattle.view_changes.specs.Reads.{IsRedirected, IsPairLess}
 use Rattle.view_changes.specs.Writers.{redirect}
 use Rattle.view_changes.proofs.Darts.{darts_are_redirected}
@@ -18,6 +19,7 @@ use Rattle.sound_views.proofs.Named.{by_points, twin_dart}
 use Rattle.sound_rings.proofs.Sound.{rings_make_sound_views}
 use Rattle.sound_links.specs.Links.{IsEdgeMore, IsDrawnLess}
 use Rattle.sound_links.proofs.Kept.{not_first, not_second, up, twin_old, twinned_down, sourced_down, drawn_down}
+use Rattle.sound_links.proofs.Fewer.{fewer_plane}
 use Rattle.sound_links.proofs.Drawn.{edge_drawn, edge_old, split, stays, drawn_more}
 use Rattle.sound_links.proofs.Shrunk.{IsShrunk, rings_shrink}
 
@@ -137,14 +139,6 @@ module _ (v : View) (d : DartId) (s : IsGraphSound v) (has : HasDart v d) where
   named : IsNamed less
   named = (names_stay closed named_closed).pair_less d opposite
 
-  pub removed : IsPlaneSkeleton (skeleton_of less) → IsGraphSound less
-  removed plane =
-      rings_make_sound_views less named twinned
-      (sourced_down less v d opposite u w l fewer s.linked.source)
-      (drawn_down less v d opposite u w l fewer twinned s.drawn)
-      plane
-      (rings_shrink less v d opposite u w l fewer s shrunk plane)
-
   -- ---- what is drawn
   -- along the edge of d go d and its twin alone
   along : (k : DartId) → HasDart v k → edge_in v k ≡ edge_in v d → k ≢ d → k ≢ opposite → ⊥
@@ -187,3 +181,17 @@ module _ (v : View) (d : DartId) (s : IsGraphSound v) (has : HasDart v d) where
     );
     listed = (drawn_more less v d opposite u w l fewer twinned apart (λ k. not_drawn (edge_in v d) k refl)).listed;
   }
+
+  -- ---- and that is plane
+  plane : IsPlaneSkeleton (skeleton_of less)
+  plane =
+      fewer_plane (skeleton_of v).vertices (skeleton_of v).edges (skeleton_of less).edges s.plane
+      (IsAscending-ascending edge_cmp edge_cmp_total (map (λ r. edge_in less (dart_id r.0)) less.darts)) (λ e m. ((drawn_less.edges e).0 m).0)
+
+  pub removed : IsGraphSound less
+  removed =
+      rings_make_sound_views less named twinned
+      (sourced_down less v d opposite u w l fewer s.linked.source)
+      (drawn_down less v d opposite u w l fewer twinned s.drawn)
+      plane
+      (rings_shrink less v d opposite u w l fewer s shrunk plane)

@@ -1,2 +1,3 @@
 pub mod Links
+pub mod Next
 pub mod Laws

@@ -14,6 +14,7 @@ use Rattle.slab_laws.specs.Rotation.{earlier}
 use Rattle.slab_laws.specs.Sound.{skeleton_of, edge_between, dart_in}
 use Rattle.slab_laws.specs.View.{View, HasVertex, HasDart, IsOutOf, point_in, source_in, twin_in, line_in}
 use Rattle.view_changes.specs.Around.{after_in}
+use Rattle.sound_rings.specs.Rings.{IsBare}
 
 -- the dart from one point to another (CGAL manual, halfedge)
 abbrev pub dart_between : Point → Point → Dart
@@ -21,7 +22,7 @@ dart_between p q = record { edge = edge_between p q; forward = precedes p q }
 
 -- a dart that goes the way of x out of w comes directly after this one clockwise; with none, w has no dart (CGAL manual, `insert_at_vertices`)
 abbrev pub IsPlaceFor : View → VertexId → Option DartId → Dart → Type 0
-IsPlaceFor v w None x = (d : DartId) → ¬ IsOutOf v w d
+IsPlaceFor v w None x = IsBare v w
 IsPlaceFor v w (Some a) x = IsOutOf v w a × (sooner_by earlier (dart_in v a) x (dart_in v (after_in v a)) ≡ true)
 
 -- two new names, two vertices, a line through both their points, and a place at each end (CGAL manual, `insert_at_vertices`)

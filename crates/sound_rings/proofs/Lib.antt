@@ -1,3 +1,4 @@
 pub mod Named
 pub mod Turned
 pub mod Sound
+pub mod Once

@@ -12,7 +12,7 @@ use Rattle.slab_laws.specs.declared.names.DartId.{DartId}
 use Rattle.slab_laws.specs.declared.names.VertexId.{VertexId}
 use Rattle.slab_laws.specs.Darts.{Dart, start}
 use Rattle.slab_laws.specs.Rotation.{twin}
-use Rattle.slab_laws.specs.Skeleton.{left_of, lower_than, IsPlaneSkeleton}
+use Rattle.slab_laws.specs.Skeleton.{Skeleton, left_of, lower_than, IsPlaneSkeleton}
 use Rattle.slab_laws.specs.Sound.{skeleton_of, edge_in, dart_in, IsTwinned, IsDrawn}
 use Rattle.slab_laws.specs.View.{View, HasVertex, HasDart, vertex_id, dart_id, point_in, source_in, twin_in, target_in}
 use Rattle.sound_views.proofs.Named.{by_points, source_by, target_by, twin_by, row_edges, edge_row, row_edge}
@@ -23,20 +23,20 @@ unfolding lower_than
 lower_both p q h k = omega (arith, ints)
 
 -- an edge whose two ends, taken either way round, are one point has one end
-ends_meet : (e : Edge) (f : Bool) → start e f ≡ start e (not f) → e.low ≡ e.high
+pub ends_meet : (e : Edge) (f : Bool) → start e f ≡ start e (not f) → e.low ≡ e.high
 ends_meet e true q = q
 ends_meet e false q = sym q
 
-module _ (v : View) (twinned : IsTwinned v) (plane : IsPlaneSkeleton (skeleton_of v)) where
-  -- an edge of a plane graph has two ends
-  two_ends : (e : Edge) → Contains (skeleton_of v).edges e → e.low ≡ e.high → ⊥
-  two_ends e E q =
-      let here : left_of e.low e.low ≡ false = subst (λ z. left_of z e.low ≡ false) (sym q) (plane.forward e E) in
-      let there : left_of e.low e.high ≡ false = subst (λ z. left_of e.low z ≡ false) q here in
-      let back : left_of e.high e.low ≡ false = plane.forward e E in
-      let up : lower_than e.low e.high ≡ true = plane.upright e E (rw (there, back) refl) in
-      lower_both e.low e.high up (subst (λ z. lower_than z e.low ≡ true) q (subst (λ z. lower_than e.low z ≡ true) (sym q) up))
+-- an edge of a plane graph has two ends
+pub edge_has_two_ends : (g : Skeleton) → IsPlaneSkeleton g → (e : Edge) → Contains g.edges e → e.low ≡ e.high → ⊥
+edge_has_two_ends g plane e E q =
+    let here : left_of e.low e.low ≡ false = subst (λ z. left_of z e.low ≡ false) (sym q) (plane.forward e E) in
+    let there : left_of e.low e.high ≡ false = subst (λ z. left_of e.low z ≡ false) q here in
+    let back : left_of e.high e.low ≡ false = plane.forward e E in
+    let up : lower_than e.low e.high ≡ true = plane.upright e E (rw (there, back) refl) in
+    lower_both e.low e.high up (subst (λ z. lower_than z e.low ≡ true) q (subst (λ z. lower_than e.low z ≡ true) (sym q) up))
 
+module _ (v : View) (twinned : IsTwinned v) (plane : IsPlaneSkeleton (skeleton_of v)) where
   pub edge_known : (d : DartId) → HasDart v d → Contains (skeleton_of v).edges (edge_in v d)
   edge_known d has = from_member (skeleton_of v).edges (edge_in v d) (in_ascending edge_cmp edge_cmp_total edge_cmp_exact (edge_in v d) (row_edges v) (edge_row v d has))
 
@@ -44,7 +44,7 @@ module _ (v : View) (twinned : IsTwinned v) (plane : IsPlaneSkeleton (skeleton_o
   ends_differ d has q =
       let a = point_in v (source_in v d) in
       let b = point_in v (target_in v d) in
-      two_ends (edge_in v d) (edge_known d has) (ends_meet (edge_in v d) (dart_in v d).forward (source_by a b ∙ q ∙ sym (target_by a b)))
+      edge_has_two_ends (skeleton_of v) plane (edge_in v d) (edge_known d has) (ends_meet (edge_in v d) (dart_in v d).forward (source_by a b ∙ q ∙ sym (target_by a b)))
 
   pub twin_dart : (d : DartId) → HasDart v d → dart_in v (twin_in v d) ≡ twin (dart_in v d)
   twin_dart d has =

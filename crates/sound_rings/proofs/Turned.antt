@@ -20,7 +20,7 @@ twice : (b : Bool) → not (not b) ≡ b
 twice true = refl
 twice false = refl
 
-twin_twice : (e : Dart) → twin (twin e) ≡ e
+pub twin_twice : (e : Dart) → twin (twin e) ≡ e
 twin_twice e = λ i. record { edge = e.edge; forward = twice e.forward i }
 
 -- what follows the twin is the next dart of the ring

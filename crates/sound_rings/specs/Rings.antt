@@ -2,13 +2,14 @@
 use Rattle.std.specs.Prelude.{is_some}
 use Rattle.exact_plane.specs.Point.{Point}
 use Rattle.dart_rings.specs.Ring.{Turns, IsRing}
+use Rattle.slab_laws.specs.declared.names.DartId.{DartId}
 use Rattle.slab_laws.specs.declared.names.VertexId.{VertexId}
 use Rattle.slab_laws.specs.Darts.{Dart, IsOut}
 use Rattle.slab_laws.specs.Rotation.{earlier}
 use Rattle.slab_laws.specs.Skeleton.{Skeleton}
 use Rattle.slab_laws.specs.Sound.{skeleton_of, dart_in}
 use Rattle.slab_laws.specs.Tables.{row_at}
-use Rattle.slab_laws.specs.View.{View, dart_id, point_in, source_in, twin_in, next_in}
+use Rattle.slab_laws.specs.View.{View, IsOutOf, dart_id, point_in, source_in, twin_in, next_in}
 
 -- the dart goes out of p along an edge of the graph (CGAL manual, source)
 abbrev pub OutOf : Skeleton → Point → Dart → Type 0
@@ -26,3 +27,7 @@ turns_in v = record {
 -- the darts named out of w are a ring, clockwise by the order of the graph that the view draws (this project)
 abbrev pub RingOf : View → VertexId → Type 0
 RingOf v w = IsRing earlier (OutOf (skeleton_of v) (point_in v w)) (turns_in v) w.0
+
+-- no dart leaves w (CGAL manual, isolated vertex)
+abbrev pub IsBare : View → VertexId → Type 0
+IsBare v w = (d : DartId) → ¬ IsOutOf v w d

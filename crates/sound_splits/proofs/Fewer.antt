@@ -22,7 +22,7 @@ use Rattle.view_changes.specs.Reads.{IsSameVertex}
 use Rattle.view_changes.specs.Writers.{without_vertex}
 use Rattle.view_changes.proofs.Pairs.{names_stay}
 use Rattle.view_changes.proofs.Vertices.{vertex_is_removed}
-use Rattle.sound_splits.specs.Fits.{IsBare}
+use Rattle.sound_rings.specs.Rings.{IsBare}
 use Rattle.sound_splits.specs.Laws.{VertexFewerKeepsViewsSound}
 use Rattle.sound_splits.proofs.Alike.{alike_sound}
 use Rattle.sound_splits.proofs.Known.{point_known, known_point, known_edge, mapped_alike}
@@ -45,7 +45,7 @@ plane_fewer g ps pl up old ends = record {
 }
 
 -- what holds of two points holds of the ends of their edge
-both_ends : (P : Point → Type 0) (b : Bool) (p q : Point) → P p → P q → (e : Edge) → e ≡ (if b then record { low = p; high = q } else record { low = q; high = p }) → P e.low × P e.high
+pub both_ends : (P : Point → Type 0) (b : Bool) (p q : Point) → P p → P q → (e : Edge) → e ≡ (if b then record { low = p; high = q } else record { low = q; high = p }) → P e.low × P e.high
 both_ends P true p q x y e k = (subst P (ap (λ z. z.low) (sym k)) x, subst P (ap (λ z. z.high) (sym k)) y)
 both_ends P false p q x y e k = (subst P (ap (λ z. z.low) (sym k)) y, subst P (ap (λ z. z.high) (sym k)) x)
 
@@ -60,7 +60,7 @@ module _ (v : View) (w : VertexId) (s : IsGraphSound v) (bare : IsBare v w) wher
   left u hu = (vertex_is_removed v w s.named).others u (λ q. (vertex_is_removed v w s.named).gone (subst (HasVertex h) q hu))
 
   at_source : (d : DartId) → HasDart v d → IsSameVertex v h (source_in v d)
-  at_source d has = (vertex_is_removed v w s.named).others (source_in v d) (bare d has)
+  at_source d has = (vertex_is_removed v w s.named).others (source_in v d) (λ q. bare d (has, q))
 
   at_target : (d : DartId) → HasDart v d → IsSameVertex v h (target_in v d)
   at_target d has = at_source (twin_in v d) (s.twinned.has d has)

@@ -4,15 +4,16 @@ use Rattle.std.specs.List.{Contains}
 use Rattle.exact_plane.specs.Point.{Point}
 use Rattle.exact_plane.specs.PointOrder.{point_cmp}
 use Rattle.exact_plane.specs.PointOrderLaws.{point_cmp_total, same_point as point_cmp_exact}
-use Rattle.plane_graphs.specs.Ascending.{Member}
+use Rattle.plane_graphs.specs.Ascending.{Member, IsAscending}
 use Rattle.plane_graphs.specs.Graph.{Edge, edge_cmp}
-use Rattle.plane_graphs.proofs.Ascending.{to_member, from_member}
+use Rattle.plane_graphs.specs.Line.{IsProper}
+use Rattle.plane_graphs.proofs.Ascending.{to_member, from_member, IsAscending-ascending}
 use Rattle.plane_graphs.proofs.Lists.{in_map, of_map, in_ascending, of_ascending}
 use Rattle.plane_graphs.proofs.Meaning.{edge_cmp_total, edge_cmp_exact}
 use Rattle.slab_laws.specs.declared.names.DartId.{DartId}
 use Rattle.slab_laws.specs.declared.names.VertexId.{VertexId}
-use Rattle.slab_laws.specs.Sound.{skeleton_of, edge_in, IsNamed}
-use Rattle.slab_laws.specs.View.{View, VertexRecord, HasVertex, HasDart, vertex_id, point_in, point_or}
+use Rattle.slab_laws.specs.Sound.{skeleton_of, edge_in, IsNamed, IsGraphSound}
+use Rattle.slab_laws.specs.View.{View, VertexRecord, HasVertex, HasDart, vertex_id, dart_id, point_in, point_or}
 use Rattle.sound_views.proofs.Named.{row_edges, edge_row, row_edge}
 use Rattle.sound_views.proofs.Tabled.{has_name, name_has, row_found}
 
@@ -42,3 +43,14 @@ known_edge v e c = row_edge v e (of_ascending edge_cmp edge_cmp_total edge_cmp_e
 pub mapped_alike : {A B : Type 0} (f g : A → B) (xs : List A) → ((x : A) → Member x xs → f x ≡ g x) → map f xs ≡ map g xs
 mapped_alike f g [] e = refl
 mapped_alike {A} {B} f g (x ∷ xs) e = ap₂ (λ (y : B) (ys : List B). y ∷ ys) (e x (inl refl)) (mapped_alike f g xs (λ z m. e z (inr m)))
+
+-- the points of a sound view are points of the plane
+pub points_proper : (v : View) → IsGraphSound v → (q : Point) → Contains (skeleton_of v).vertices q → IsProper q
+points_proper v s q c = let r = known_point v s.named q c in subst IsProper (sym r.2) (s.drawn.proper r.0 r.1)
+
+-- its points ascend, and its edges do
+pub points_ascend : (v : View) → IsAscending point_cmp (skeleton_of v).vertices
+points_ascend v = IsAscending-ascending point_cmp point_cmp_total (map (λ r. r.1.point) v.vertices)
+
+pub edges_ascend : (v : View) → IsAscending edge_cmp (skeleton_of v).edges
+edges_ascend v = IsAscending-ascending edge_cmp edge_cmp_total (map (λ r. edge_in v (dart_id r.0)) v.darts)

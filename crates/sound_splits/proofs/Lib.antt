@@ -11,3 +11,6 @@ pub mod Collinear
 pub mod Joined
 pub mod Merges
 pub mod Fewer
+pub mod Inside
+pub mod PartsCross
+pub mod PlaneParts

@@ -8,14 +8,14 @@ use Rattle.plane_graphs.specs.Graph.{Edge}
 use Rattle.plane_graphs.specs.Line.{IsProper, precedes}
 use Rattle.plane_graphs.proofs.Lines.{span_runs}
 use Rattle.plane_graphs.proofs.Lists.{and_in}
-use Rattle.plane_graphs.proofs.Order.{lt_out, lt_trans, lt_never}
-use Rattle.edge_fans.specs.Parts.{IsParted}
+use Rattle.plane_graphs.proofs.Order.{lt_in, lt_out, lt_trans, lt_never}
+use Rattle.edge_fans.specs.Parts.{lower_part, upper_part, IsParted}
 use Rattle.edge_fans.proofs.Cuts.{parted}
 use Rattle.slab_laws.specs.declared.names.DartId.{DartId}
 use Rattle.slab_laws.specs.declared.names.VertexId.{VertexId}
 use Rattle.slab_laws.specs.Skeleton.{IsPlaneSkeleton, inside, side}
 use Rattle.slab_laws.specs.Sound.{skeleton_of, edge_in, edge_between, IsNamed, IsTwinned, IsGraphSound}
-use Rattle.slab_laws.specs.View.{View, HasVertex, HasDart, point_in, source_in, twin_in, next_in, line_in}
+use Rattle.slab_laws.specs.View.{View, HasVertex, HasDart, point_in, source_in, twin_in, next_in, target_in, line_in}
 use Rattle.slab_faces.proofs.PlaneGraphs.{comes_before}
 use Rattle.view_changes.specs.Reads.{IsSameVertex, IsRedirected, IsSourceSet, IsNextSet, IsPairLess, IsVertexLess}
 use Rattle.view_changes.specs.Writers.{without_pair, with_next, with_source, redirect}
@@ -30,8 +30,11 @@ use Rattle.sound_splits.specs.Laws.{TwoEdgesInOneKeepViewsSound, TwoEdgesInOneAr
 use Rattle.sound_splits.proofs.Cases.{edge_of_ends, ahead_by}
 use Rattle.sound_splits.proofs.Collinear.{flat_on_line}
 use Rattle.sound_splits.proofs.Drawn.{points_joined, edges_joined}
+use Rattle.sound_splits.proofs.Fewer.{both_ends}
 use Rattle.sound_splits.proofs.Halves.{IsHalved}
 use Rattle.sound_splits.proofs.Joined.{IsRejoined, twinned_back, sourced_back, joined_sound}
+use Rattle.sound_splits.proofs.Known.{point_known, edge_known, known_edge, points_proper, points_ascend, edges_ascend}
+use Rattle.sound_splits.proofs.PlaneParts.{joined_plane}
 use Rattle.sound_splits.proofs.Splits.{then_vertex}
 use Rattle.sound_splits.proofs.Ways as ways
 
@@ -292,8 +295,35 @@ module _ (v : View) (w : VertexId) (d n : DartId) (s : IsGraphSound v) (c : Fits
       (subst (λ (x : Edge). Contains (skeleton_of g).edges e ↔ ((Contains (skeleton_of v).edges e × (e ≢ edge_of_ends (point_in g (source_in g d)) P) × (e ≢ edge_of_ends P (point_in g (source_in g t)))) ⊎ (e ≡ x))) (sym whole_is)
       (edges_joined g v d t n m w halved twinned_g sourced_g P refl before_g behind_g s.turned.differ e)))
 
+  -- ---- and that is plane
+  lower_is : edge_in v d ≡ lower_part (edge_of_ends A B) P
+  lower_is = near_is ∙ ap (λ z. edge_of_ends z P) (sym same_a)
+
+  upper_is : edge_in v n ≡ upper_part (edge_of_ends A B) P
+  upper_is = far_is ∙ ap (edge_of_ends P) (sym same_b)
+
+  straight : edge_between A B ≡ edge_of_ends A B
+  straight = ap (λ x. x.edge) (ahead_by A B (lt_in (lt_trans (lt_out A P before) (lt_out P B behind))))
+
+  ends_known : (e : Edge) → Contains (skeleton_of g).edges e → Contains (skeleton_of g).vertices e.low × Contains (skeleton_of g).vertices e.high
+  ends_known e k =
+      let r = known_edge g e k in
+      both_ends (Contains (skeleton_of g).vertices) (precedes (point_in g (source_in g r.0)) (point_in g (target_in g r.0))) (point_in g (source_in g r.0)) (point_in g (target_in g r.0))
+      (point_known g named (source_in g r.0) (sourced_g r.0 r.1)) (point_known g named (target_in g r.0) (sourced_g (twin_in g r.0) (twinned_g.has r.0 r.1))) e r.2
+
+  plane : IsPlaneSkeleton (skeleton_of g)
+  plane =
+      joined_plane (skeleton_of v) (skeleton_of g) (edge_of_ends A B) P s.plane (points_proper v s) (points_ascend g) (edges_ascend g)
+      (subst (Contains (skeleton_of v).edges) lower_is (edge_known v d c.first)) (subst (Contains (skeleton_of v).edges) upper_is (edge_known v n c.second))
+      (record { after = lt_out A P before; before = lt_out P B behind; on = flat })
+      points_drawn
+      (λ e. subst (λ (x : Edge). Contains (skeleton_of g).edges e ↔ ((Contains (skeleton_of v).edges e × (e ≢ x) × (e ≢ upper_part (edge_of_ends A B) P)) ⊎ (e ≡ edge_of_ends A B))) lower_is
+      (subst (λ (x : Edge). Contains (skeleton_of g).edges e ↔ ((Contains (skeleton_of v).edges e × (e ≢ edge_in v d) × (e ≢ x)) ⊎ (e ≡ edge_of_ends A B))) upper_is
+      (subst (λ (x : Edge). Contains (skeleton_of g).edges e ↔ ((Contains (skeleton_of v).edges e × (e ≢ edge_in v d) × (e ≢ edge_in v n)) ⊎ (e ≡ x))) straight (edges_drawn e))))
+      ends_known
+
 pub merge_sound : TwoEdgesInOneKeepViewsSound
-merge_sound v w d n s c plane = merged v w d n s c plane
+merge_sound v w d n s c = merged v w d n s c (plane v w d n s c)
 
 pub merge_drawn : TwoEdgesInOneAreDrawn
 merge_drawn v w d n s c = (points_drawn v w d n s c, edges_drawn v w d n s c)

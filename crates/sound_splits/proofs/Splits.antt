@@ -32,8 +32,10 @@ use Rattle.sound_splits.proofs.Cases.{edge_of_ends, ahead_by}
 use Rattle.sound_splits.proofs.Collinear.{on_line_of_ends}
 use Rattle.sound_splits.proofs.Drawn.{points_parted, edges_parted}
 use Rattle.sound_splits.proofs.Halves.{IsHalved}
-use Rattle.sound_splits.proofs.Known.{point_known, edge_known}
+use Rattle.sound_splits.proofs.Inside.{inside_out}
+use Rattle.sound_splits.proofs.Known.{point_known, edge_known, points_proper, points_ascend, edges_ascend}
 use Rattle.sound_splits.proofs.Parted.{IsFollowed, IsCut, parted_sound}
+use Rattle.sound_splits.proofs.PlaneParts.{parted_plane}
 
 pub then_vertex : (a b c : View) (u : VertexId) → IsSameVertex a b u → IsSameVertex b c u → IsSameVertex a c u
 then_vertex a b c u x y = record { has = λ k. y.has (x.has k); had = λ k. x.had (y.had k); point = y.point ∙ x.point; pinned = y.pinned ∙ x.pinned }
@@ -202,9 +204,6 @@ module _ (v : View) (d : DartId) (w : VertexId) (p : Point) (n m : DartId) (s : 
   sound_by : IsPlaneSkeleton (skeleton_of h) → IsGraphSound h
   sound_by plane = parted_sound v h d t n m w halved followed s p at_w cut plane named
 
-pub split_sound : EdgeInTwoKeepsViewsSound
-split_sound v d w p n m s c plane = sound_by v d w p n m s c plane
-
 -- ---- what is drawn
 pub split_drawn : EdgeInTwoIsDrawn
 split_drawn v d w p n m s c =
@@ -215,3 +214,13 @@ split_drawn v d w p n m s c =
       λ e. subst (λ (x : Edge). Contains (skeleton_of (split_edge v d w p n m)).edges e ↔ ((Contains (skeleton_of v).edges e × (e ≢ x)) ⊎ ((e ≡ lower_part x p) ⊎ (e ≡ upper_part x p)))) (sym u)
           (edges_parted v (split_edge v d w p n m) d (twin_in v d) n m w i s.twinned s.linked.source p (at_w v d w p n m s c) k.before k.behind s.turned.differ e),
     )
+
+-- ---- and that is plane
+pub split_sound : EdgeInTwoKeepsViewsSound
+split_sound v d w p n m s c =
+    let drawn = split_drawn v d w p n m s c in
+    let E = edge_known v d c.dart in
+    let fine = points_proper v s in
+    let i = inside_out (edge_in v d) p (fine (edge_in v d).low (s.plane.lower_in (edge_in v d) E)) (fine (edge_in v d).high (s.plane.upper_in (edge_in v d) E)) c.proper c.inside_edge in
+    sound_by v d w p n m s c
+    (parted_plane (skeleton_of v) (skeleton_of (split_edge v d w p n m)) (edge_in v d) p s.plane fine (points_ascend (split_edge v d w p n m)) (edges_ascend (split_edge v d w p n m)) E c.proper i drawn.0 drawn.1)

@@ -14,10 +14,6 @@ pub record IsNewVertex (v : View) (w : VertexId) (p : Point) : Type 0 where
   pub proper : IsProper p
   pub free : (u : VertexId) → HasVertex v u → point_in v u ≢ p
 
--- no dart leaves w (CGAL manual, isolated vertex)
-abbrev pub IsBare : View → VertexId → Type 0
-IsBare v w = (d : DartId) → HasDart v d → source_in v d ≢ w
-
 -- d goes forward along an edge, p lies inside it, and w, n and m are names without records (CGAL manual, splitting an edge)
 pub record FitsSplit (v : View) (d : DartId) (w : VertexId) (p : Point) (n m : DartId) : Type 0 where
   pub dart : HasDart v d

@@ -11,7 +11,8 @@ use Rattle.slab_laws.specs.Sound.{skeleton_of, edge_in, edge_between, IsGraphSou
 use Rattle.slab_laws.specs.View.{View, point_in, source_in, target_in}
 use Rattle.view_changes.specs.Writers.{no_rows, with_vertex, without_vertex, with_pin}
 use Rattle.arr_notes.specs.Step.{merge_edge}
-use Rattle.sound_splits.specs.Fits.{IsNewVertex, IsBare, FitsSplit, FitsMerge}
+use Rattle.sound_rings.specs.Rings.{IsBare}
+use Rattle.sound_splits.specs.Fits.{IsNewVertex, FitsSplit, FitsMerge}
 use Rattle.arr_notes.specs.Step.{split_edge}
 
 -- a view without rows is sound (this project)
@@ -30,19 +31,19 @@ VertexFewerKeepsViewsSound = (v : View) (w : VertexId) → IsGraphSound v → Is
 abbrev pub PinsKeepViewsSound : Type 0
 PinsKeepViewsSound = (v : View) (w : VertexId) (b : Bool) → IsGraphSound v → IsGraphSound (with_pin v w b)
 
--- an edge in two keeps a view sound where the graph stays plane (this project)
+-- an edge in two keeps a view sound (this project)
 abbrev pub EdgeInTwoKeepsViewsSound : Type 0
 EdgeInTwoKeepsViewsSound =
-    (v : View) (d : DartId) (w : VertexId) (p : Point) (n m : DartId) → IsGraphSound v → FitsSplit v d w p n m → IsPlaneSkeleton (skeleton_of (split_edge v d w p n m)) → IsGraphSound (split_edge v d w p n m)
+    (v : View) (d : DartId) (w : VertexId) (p : Point) (n m : DartId) → IsGraphSound v → FitsSplit v d w p n m → IsGraphSound (split_edge v d w p n m)
 
 -- the vertices are the old ones and p, the edges the old ones but the edge of d, and its two parts (CGAL manual, splitting an edge)
 abbrev pub EdgeInTwoIsDrawn : Type 0
 EdgeInTwoIsDrawn =
     (v : View) (d : DartId) (w : VertexId) (p : Point) (n m : DartId) → IsGraphSound v → FitsSplit v d w p n m → ((q : Point) → Contains (skeleton_of (split_edge v d w p n m)).vertices q ↔ (Contains (skeleton_of v).vertices q ⊎ (q ≡ p))) × ((e : Edge) → Contains (skeleton_of (split_edge v d w p n m)).edges e ↔ ((Contains (skeleton_of v).edges e × (e ≢ edge_in v d)) ⊎ ((e ≡ lower_part (edge_in v d) p) ⊎ (e ≡ upper_part (edge_in v d) p))))
 
--- two edges in one keep a view sound where the graph stays plane (this project)
+-- two edges in one keep a view sound (this project)
 abbrev pub TwoEdgesInOneKeepViewsSound : Type 0
-TwoEdgesInOneKeepViewsSound = (v : View) (w : VertexId) (d n : DartId) → IsGraphSound v → FitsMerge v w d n → IsPlaneSkeleton (skeleton_of (merge_edge v w d n)) → IsGraphSound (merge_edge v w d n)
+TwoEdgesInOneKeepViewsSound = (v : View) (w : VertexId) (d n : DartId) → IsGraphSound v → FitsMerge v w d n → IsGraphSound (merge_edge v w d n)
 
 -- the vertices are the old ones but the point of w, the edges the old ones but the two, and the edge between their far ends (CGAL manual, merging two edges)
 abbrev pub TwoEdgesInOneAreDrawn : Type 0

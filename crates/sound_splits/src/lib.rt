@@ -25,7 +25,7 @@ pub fn pins_keep_views_sound()
     ensures { PinsKeepViewsSound }
 {}
 
-/// An edge in two keeps a view sound where the graph stays plane.
+/// An edge in two at a point inside it keeps a view sound: the graph stays plane.
 pub fn an_edge_in_two_keeps_views_sound()
     ensures { EdgeInTwoKeepsViewsSound }
 {}
@@ -35,7 +35,7 @@ pub fn an_edge_in_two_is_drawn()
     ensures { EdgeInTwoIsDrawn }
 {}
 
-/// Two edges in one keep a view sound where the graph stays plane.
+/// Two edges of one line in one, where no other edge ends, keep a view sound: the graph stays plane.
 pub fn two_edges_in_one_keep_views_sound()
     ensures { TwoEdgesInOneKeepViewsSound }
 {}

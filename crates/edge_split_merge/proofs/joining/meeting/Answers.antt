@@ -9,7 +9,7 @@ pub out_of-requires : goal.out_of-requires
 out_of-requires c = vertex_has c.args.records.now.graph c.args.v c.requires.sound c.requires.fits.0 c.requires.fits.1 c.requires.fits.2
 
 pub unreachable-requires : goal.unreachable-requires
-unreachable-requires c = c.in_default.ensures.none c.requires.fits.1 (c.requires.fits.2.fits.second, c.requires.fits.2.fits.leaves)
+unreachable-requires c = c.in_default.ensures.none c.requires.fits.1 (c.requires.fits.2.second, c.requires.fits.2.leaves)
 
 pub twin-into_second-requires : goal.twin-into_second-requires
 twin-into_second-requires c =

@@ -3,7 +3,7 @@ use Rattle.slab_laws.specs.Sound.{IsGraphSound}
 use Rattle.slab_laws.specs.View.{View, next_in}
 use Rattle.view_changes.specs.Reads.{IsRelinked}
 use Rattle.arr_notes.specs.Step.{merge_edge}
-use Rattle.edge_split_merge.proofs.Joined.{merge_is_sound}
+use Rattle.sound_splits.proofs.Merges.{merge_sound}
 use Rattle.edge_split_merge.proofs.Removed.{IsMoved, moved, relinked, still_out, source_kept, twin_out, far_out, far_there, not_twin, ends_apart, none_left, twin_left, vertex_still, bare, made}
 use Rattle.edge_split_merge.proofs.joining.merge.Goals as goal
 
@@ -16,7 +16,7 @@ move_source-requires-clause-dart c = (one_write c).has c.twin-t.result c.twin-t.
 
 pub move_source-requires-clause-rest : goal.move_source-requires-clause-rest
 move_source-requires-clause-rest c =
-    let o = still_out c.args.records.now.graph c.set_next.new.self.graph (one_write c) c.args.v c.meeting.result.1 (c.meeting.ensures.fits.second, c.meeting.ensures.fits.leaves) in
+    let o = still_out c.args.records.now.graph c.set_next.new.self.graph (one_write c) c.args.v c.meeting.result.1 (c.meeting.ensures.second, c.meeting.ensures.leaves) in
     let t = still_out c.args.records.now.graph c.set_next.new.self.graph (one_write c) c.args.v c.twin-t.result (twin_out c.args.records.now.graph c.args.v c.meeting.result.0 c.meeting.result.1 c.requires.sound c.meeting.ensures c.twin-t.result c.twin-m.result c.source-end.result c.twin-t.ensures.twin c.twin-m.ensures.twin c.source-end.ensures) in
     ((o.0, o.1 ∙ sym t.1), not_twin c.args.records.now.graph c.args.v c.meeting.result.0 c.meeting.result.1 c.requires.sound c.meeting.ensures c.twin-t.result c.twin-m.result c.source-end.result c.twin-t.ensures.twin c.twin-m.ensures.twin c.source-end.ensures)
 
@@ -29,14 +29,14 @@ move_source-requires-clause-out c = (c.twin-m.result, still_out c.args.records.n
 pub set_next-requires-2 : goal.set_next-requires-2
 set_next-requires-2 c =
     let r : IsRelinked c.args.records.now.graph c.set_next.new.self.graph = relinked c.args.records.now.graph c.set_next.new.self.graph c.twin-into_m.result c.twin-t.result c.set_next.ensures.graph in
-    source_kept c.args.records.now.graph c.set_next.new.self.graph c.move_source.new.self.graph c.twin-t.result c.meeting.result.0 c.source-end.result r c.move_source.ensures.graph c.meeting.ensures.fits.first
+    source_kept c.args.records.now.graph c.set_next.new.self.graph c.move_source.new.self.graph c.twin-t.result c.meeting.result.0 c.source-end.result r c.move_source.ensures.graph c.meeting.ensures.first
 
 -- the twin leaves the far end
 twin_moved : (c : goal.After-remove_pair-arg-1) → IsMoved c.args.records.now.graph c.set_next-2.new.self.graph c.twin-t.result c.source-end.result
 twin_moved c = moved c.args.records.now.graph c.set_next.new.self.graph c.move_source.new.self.graph c.set_next-2.new.self.graph c.twin-into_m.result c.twin-t.result c.meeting.result.0 c.onward-beyond.result c.source-end.result c.requires.sound.named c.twin-t.ensures.has c.set_next.ensures.graph c.move_source.ensures.graph c.set_next-2.ensures.graph
 
 pub remove_pair-requires-clause-dart : goal.remove_pair-requires-clause-dart
-remove_pair-requires-clause-dart c = (twin_moved c).has c.meeting.result.1 c.meeting.ensures.fits.second
+remove_pair-requires-clause-dart c = (twin_moved c).has c.meeting.result.1 c.meeting.ensures.second
 
 pub remove_pair-requires-clause-ends : goal.remove_pair-requires-clause-ends
 remove_pair-requires-clause-ends c = ends_apart c.args.records.now.graph c.args.v c.meeting.result.0 c.meeting.result.1 c.requires.sound c.meeting.ensures c.twin-t.result c.twin-m.result c.source-end.result c.twin-t.ensures.twin c.twin-m.ensures.twin c.source-end.ensures c.set_next-2.new.self.graph (twin_moved c)
@@ -69,4 +69,4 @@ pub returns-clause-graph : goal.returns-clause-graph
 returns-clause-graph c = joined c
 
 pub returns-clause-sound : goal.returns-clause-sound
-returns-clause-sound c = subst (λ (g : View). IsGraphSound g) (sym (joined c)) (merge_is_sound c.args.records.now.graph c.args.v c.meeting.result.0 c.meeting.result.1 c.requires.sound c.meeting.ensures)
+returns-clause-sound c = subst (λ (g : View). IsGraphSound g) (sym (joined c)) (merge_sound c.args.records.now.graph c.args.v c.meeting.result.0 c.meeting.result.1 c.requires.sound c.meeting.ensures)

@@ -5,8 +5,8 @@ use Rattle.slab_laws.specs.View.{View, twin_in}
 use Rattle.view_changes.specs.Reads.{IsRelinked}
 use Rattle.dcel_records.specs.Outs.{IsRest}
 use Rattle.arr_notes.specs.Step.{remove_edge}
+use Rattle.sound_links.proofs.Removed.{fewer, removed}
 use Rattle.edge_unlink.proofs.Closing.{once_kept, kept, written, comes_in, edge_gone, rest_kept, ends_kept}
-use Rattle.edge_unlink.proofs.Unlinked.{two_ends, sound}
 use Rattle.edge_unlink.proofs.edges.unlink.Goals as goal
 
 pub set_next-requires-2 : goal.set_next-requires-2
@@ -21,7 +21,7 @@ remove_pair-requires-clause-dart c = (relinked c).has c.args.d c.requires.dart
 
 pub remove_pair-requires-clause-ends : goal.remove_pair-requires-clause-ends
 remove_pair-requires-clause-ends c =
-    ends_kept c.args.records.now.graph c.set_next-2.new.self.graph (relinked c) c.args.d (two_ends c.args.records.now.graph c.args.d c.requires.sound c.requires.dart)
+    ends_kept c.args.records.now.graph c.set_next-2.new.self.graph (relinked c) c.args.d (fewer c.args.records.now.graph c.args.d c.requires.sound c.requires.dart).two_ends
 
 pub remove_pair-requires-clause-rest_u : goal.remove_pair-requires-clause-rest_u
 remove_pair-requires-clause-rest_u c = rest_kept c.args.records.now.graph c.set_next-2.new.self.graph (relinked c) c.args.d c.rest_of-rest_d.result c.rest_of-rest_d.ensures
@@ -34,7 +34,7 @@ remove_pair-requires-clause-rest_v c =
 pub returns-clause-graph : goal.returns-clause-graph
 returns-clause-graph c =
     let v : View = c.args.records.now.graph in
-    edge_gone v c.args.d c.twin-into_d.result c.twin-into_m.result c.requires.sound c.requires.dart (two_ends v c.args.d c.requires.sound c.requires.dart)
+    edge_gone v c.args.d c.twin-into_d.result c.twin-into_m.result c.requires.sound c.requires.dart (fewer v c.args.d c.requires.sound c.requires.dart).two_ends
     c.twin-into_d.ensures.has (comes_in v c.before-before_d.result c.twin-into_d.result c.args.d c.twin-into_d.ensures.twin c.before-before_d.ensures.after)
     c.twin-into_m.ensures.has (comes_in v c.before-before_m.result c.twin-into_m.result (twin_in v c.args.d) c.twin-into_m.ensures.twin (c.before-before_m.ensures.after ∙ c.twin-m.ensures.twin))
     c.set_next-2.new.self.graph c.remove_pair.new.self.graph
@@ -46,4 +46,4 @@ returns-clause-graph c =
 pub returns-clause-sound : goal.returns-clause-sound
 returns-clause-sound c =
     let v : View = c.args.records.now.graph in
-    subst (λ (g : View). IsGraphSound g) (sym (returns-clause-graph c ∙ ap (λ (z : DartId). remove_edge v c.args.d z) c.twin-m.ensures.twin)) (sound v c.args.d c.requires.sound c.requires.dart)
+    subst (λ (g : View). IsGraphSound g) (sym (returns-clause-graph c ∙ ap (λ (z : DartId). remove_edge v c.args.d z) c.twin-m.ensures.twin)) (removed v c.args.d c.requires.sound c.requires.dart)

@@ -1,7 +1,8 @@
 use Rattle.std.proofs.Common.{◌≡◌, sym, ◌∙◌}
 use Rattle.slab_laws.specs.View.{View}
 use Rattle.view_changes.specs.Around.{after_in}
-use Rattle.edge_unlink.proofs.Walks.{rest_there, rest_none, read_after, names_same, names_other}
+use Rattle.rotation_order.proofs.Circuits.{read_after, names_same, names_other}
+use Rattle.edge_unlink.proofs.Rests.{rest_there, rest_none}
 use Rattle.edge_unlink.proofs.rounds.rest_of.Goals as goal
 
 pub returns-then-eq : goal.returns-then-eq

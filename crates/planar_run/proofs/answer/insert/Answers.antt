@@ -3,10 +3,12 @@ use Rattle.planar_run.specs.Answer.{Answer}
 use Rattle.planar_run.proofs.Answered.{no_room, no_number, seventeen, eighteen}
 use Rattle.planar_run.proofs.answer.insert.Goals as goal
 
-pub returns-then-not-has_room_for_a_curve-clause-text : goal.returns-then-not-has_room_for_a_curve-clause-text
-returns-then-not-has_room_for_a_curve-clause-text c =
-    c.set.ensures ∙ seventeen ∙ sym (ap (λ (a : Answer). a.text) (no_room c.args.segment c.args.world.now (sym c.has_room_for_a_curve.ensures ∙ c.if-not-has_room_for_a_curve.true)))
+pub returns-in-Err-Full-clause-text : goal.returns-in-Err-Full-clause-text
+returns-in-Err-Full-clause-text c =
+    let barred = rw c.in-Err-Full.field-0-is at c.in-Err-Full.ensures.barred in
+    c.set.ensures ∙ seventeen ∙ sym (ap (λ (a : Answer). a.text) (no_room c.args.segment c.args.world.now barred))
 
-pub returns-in_default-clause-text : goal.returns-in_default-clause-text
-returns-in_default-clause-text c =
-    c.set-in_default.ensures ∙ eighteen ∙ sym (ap (λ (a : Answer). a.text) (no_number c.args.segment c.args.world.now (sym c.has_room_for_a_curve.ensures ∙ c.if-not-has_room_for_a_curve.false) c.in_default.ensures))
+pub returns-in-Err-Spent-clause-text : goal.returns-in-Err-Spent-clause-text
+returns-in-Err-Spent-clause-text c =
+    let barred = rw c.in-Err-Spent.field-0-is at c.in-Err-Spent.ensures.barred in
+    c.set-in-Err-Spent.ensures ∙ eighteen ∙ sym (ap (λ (a : Answer). a.text) (no_number c.args.segment c.args.world.now barred.0 barred.1))

@@ -12,6 +12,6 @@ returns c =
     let three = then_put start _ _ _ (32 ∷ decimal n.faces) two c.in_ok-put_spaced-3.ensures in
     let four = then_put start _ _ _ (32 ∷ decimal n.inner) three c.in_ok-put_spaced-4.ensures in
     let five = then_put start _ _ _ (32 ∷ decimal n.isolated) four c.in_ok-put_spaced-5.ensures in
-    let six = then_put start _ _ _ (32 ∷ decimal c.args.curves) five c.in_ok-put_spaced-6.ensures in
+    let six = then_put start _ _ _ (32 ∷ decimal n.curves) five c.in_ok-put_spaced-6.ensures in
     let seven = then_put start _ _ _ (10 ∷ []) six c.in_ok-put_text-2.ensures in
-    seven ∙ ap (λ xs. start ++ xs) (eight (codes "counts") (32 ∷ decimal n.vertices) (32 ∷ decimal n.edges) (32 ∷ decimal n.faces) (32 ∷ decimal n.inner) (32 ∷ decimal n.isolated) (32 ∷ decimal c.args.curves) (10 ∷ []))
+    seven ∙ ap (λ xs. start ++ xs) (eight (codes "counts") (32 ∷ decimal n.vertices) (32 ∷ decimal n.edges) (32 ∷ decimal n.faces) (32 ∷ decimal n.inner) (32 ∷ decimal n.isolated) (32 ∷ decimal n.curves) (10 ∷ []))

@@ -1,25 +1,30 @@
-use Rattle.std.proofs.Common.{◌≡◌, sym, ap, ◌∙◌, refl}
+use Rattle.std.proofs.Common.{◌≡◌, subst, ◌∙◌}
+use Rattle.std.specs.Prelude.{IfOk}
 use Rattle.edit_steps.specs.Edits.{Insert}
 use Rattle.edit_steps.specs.Layer.{layer_after}
-use Rattle.slab_laws.specs.declared.present.Present.{Present}
-use Rattle.planar_run.specs.World.{World, layer_in}
-use Rattle.planar_run.proofs.Layers.{insert_accepted, inserted, stays}
+use Rattle.arrangement.specs.Arranged.{layer_in}
+use Rattle.planar_run.specs.World.{World}
+use Rattle.planar_run.proofs.Refused.{new_curve, if_refused}
 use Rattle.planar_run.proofs.world.World.insert.Goals as goal
 
-pub invariant_of-self-2 : goal.invariant_of-self-2
-invariant_of-self-2 c =
-    let i = c.self.inside in
-    let now : Present = record { pieces = c.push_reserved.new.self; pins = i.present.pins } in
-    let old = layer_in i.present i.names.items i.next in
-    let is : c.args.curve.0 ≡ old.next = c.requires.0 ∙ ap (λ (w : World). w.layer.next) (sym c.self.view_is) in
-    stays (Insert c.args.curve.0 c.args.segment) old (layer_in now c.push_reserved-2.new.self.items c.checked_add-self-inside.result) c.self.invariant (insert_accepted c.args.curve.0 c.args.segment old is c.lower.ensures.ends)
-    (inserted i.present now i.names.items c.push_reserved-2.new.self.items i.next c.checked_add-self-inside.result c.args.curve c.args.segment c.lower.result c.upper.result _ _ c.push_reserved.ensures.items c.in_ok-reserve.ensures.items refl c.lower.ensures.value c.upper.ensures c.push_reserved-2.ensures.items c.in_ok-reserve-2.ensures.items c.checked_add-self-inside.ensures is c.requires.1)
+pub invariant_of-self : goal.invariant_of-self
+invariant_of-self c = c.insert.ensures.limits ∙ c.self.invariant
 
-pub returns-clause-ok : goal.returns-clause-ok
-returns-clause-ok c =
-    let i = c.self.inside in
-    let now : Present = record { pieces = c.push_reserved.new.self; pins = i.present.pins } in
-    let old = layer_in i.present i.names.items i.next in
-    let is : c.args.curve.0 ≡ old.next = c.requires.0 ∙ ap (λ (w : World). w.layer.next) (sym c.self.view_is) in
-    inserted i.present now i.names.items c.push_reserved-2.new.self.items i.next c.checked_add-self-inside.result c.args.curve c.args.segment c.lower.result c.upper.result _ _ c.push_reserved.ensures.items c.in_ok-reserve.ensures.items refl c.lower.ensures.value c.upper.ensures c.push_reserved-2.ensures.items c.in_ok-reserve-2.ensures.items c.checked_add-self-inside.ensures is c.requires.1
-    ∙ ap (λ (w : World). layer_after (Insert c.args.curve.0 c.args.segment) w.layer) c.self.view_is
+pub returns-clause-number : goal.returns-clause-number
+returns-clause-number c = subst (λ (w : World). IfOk c.insert.result (λ k. k.0 ≡ w.layer.next)) c.self.view_is c.insert.ensures.number
+
+pub returns-clause-edit : goal.returns-clause-edit
+returns-clause-edit c = subst (λ (w : World). IfOk c.insert.result (λ k. layer_in c.insert.new.self ≡ layer_after (Insert k.0 c.args.segment) w.layer)) c.self.view_is c.insert.ensures.edit
+
+pub returns-clause-allowed : goal.returns-clause-allowed
+returns-clause-allowed c =
+    let a = c.self.inside.arrangement in
+    (new_curve c.insert.result c.args.segment a.limits (layer_in a) c.args.self.now c.self.invariant c.self.view_is c.insert.ensures.refused).0
+
+pub returns-clause-barred : goal.returns-clause-barred
+returns-clause-barred c =
+    let a = c.self.inside.arrangement in
+    (new_curve c.insert.result c.args.segment a.limits (layer_in a) c.args.self.now c.self.invariant c.self.view_is c.insert.ensures.refused).1
+
+pub returns-clause-err : goal.returns-clause-err
+returns-clause-err c = if_refused c.insert.result _ (layer_in c.self.inside.arrangement) (layer_in c.insert.new.self) c.args.self.now c.self.view_is c.insert.ensures.err

@@ -1,0 +1,13 @@
+use Rattle.std.proofs.Common.{◌≤◌, subst, sym}
+use Rattle.arrangement.proofs.Layers.{first_layer, first_is_empty}
+use Rattle.arrangement.proofs.arrangement.Arrangement.new.Goals as goal
+
+pub invariant_of-result : goal.invariant_of-result
+invariant_of-result c =
+    let h = c.in_ok-new-2.ensures in
+    first_layer c.in_ok-new.field-0.graph c.in_ok-new-2.field-0 c.in_ok-new.ensures.empty h.nothing h.names h.pieces (subst (λ n. 1 ≤ n) (sym h.next) c.requires.first)
+
+pub returns-clause-empty : goal.returns-clause-empty
+returns-clause-empty c =
+    let h = c.in_ok-new-2.ensures in
+    first_is_empty c.in_ok-new.field-0.graph c.in_ok-new-2.field-0 c.args.limits.first c.in_ok-new.ensures.empty h.names h.pieces h.next

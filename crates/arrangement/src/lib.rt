@@ -1,0 +1,12 @@
+//! An arrangement of segments with history: the subdivision of the plane that they induce, kept in linked records and changed
+//! locally (CGAL manual, `Arrangement_with_history_2`).
+#![tactic(auto)]
+
+mod arrangement;
+mod edges;
+mod limits;
+mod questions;
+
+pub use arrangement::Arrangement;
+pub use limits::{Limits, MAX_CURVES, MAX_PIECES, MAX_PINS};
+pub use questions::{Counts, EdgeError};

@@ -1,0 +1,153 @@
+ghost use Rattle.std.specs.Prelude.{◌≡◌, ◌↔◌, ◌≢◌, not, map, length, true, false, IfOk, IsErrOf, Contains};
+ghost use Rattle.std.specs.List.{count_by, list_any};
+ghost use Rattle.exact_plane.specs.Point.{Point};
+ghost use Rattle.plane_graphs.specs.Ascending.{Member, IsAscending};
+ghost use Rattle.plane_graphs.specs.Graph.{graph, edges, curves, edge_cmp, is_at};
+ghost use Rattle.slab_laws.specs.Sound.{edge_between};
+ghost use Rattle.slab_laws.specs.Subdivision.{holds};
+ghost use Rattle.slab_laws.specs.Text.{present_text};
+ghost use Rattle.listed_views.specs.Listed.{subdivision_in, view_of, faces_of};
+ghost use Rattle.listed_views.specs.Standing.{IsStanding, AreLinesOf};
+ghost use Rattle.arrangement.specs.Arranged.{layer_in, subdivision_by};
+
+use crate::arrangement::Arrangement;
+use crate::edges::{edge_dart, ends_in_order};
+use arr_text::text;
+use curve_history::{Drawn, HistoryError};
+use exact_plane::Point;
+use no_memory::NoMemory;
+use plain_slabs::{Plain, count, hold, subdivide_of};
+use slab_laws::{Cell, CurveId, DartId, Darts, Strategy};
+
+/// How many cells of each kind an arrangement has, and how many named curves.
+#[derive(Clone, Copy, Debug, PartialEq, Eq)]
+pub struct Counts {
+    pub vertices: usize,
+    pub edges: usize,
+    pub faces: usize,
+    /// Boundary cycles that bound their face from inside: its holes.
+    pub inner: usize,
+    /// Vertices that are no end of an edge.
+    pub isolated: usize,
+    pub curves: u32,
+}
+
+/// Why the curves of an edge can't be told.
+#[derive(Clone, Copy, Debug, PartialEq, Eq)]
+pub enum EdgeError {
+    /// No edge has these two ends.
+    NoEdge,
+    /// There was no memory for the answer.
+    NoMemory,
+}
+
+impl From<NoMemory> for EdgeError {
+    ghost use Rattle.std.specs.Prelude.{◌≡◌};
+    ghost use Rattle.arrangement.specs.declared.questions.EdgeError.TheVariants.{NoMemory as OutOfMemory};
+
+    ghost from_gives = { λ _ e. e ≡ OutOfMemory };
+
+    fn from(_error: NoMemory) -> EdgeError {
+        EdgeError::NoMemory
+    }
+}
+
+impl Arrangement {
+    // The subdivision of the plane by the present segments and points, built afresh.
+    fn subdivide(&self) -> Result<Plain, NoMemory>
+        ensures graph { IfOk result (λ s. s.graph ≡ graph (layer_in self.now).present) }
+        ensures subdivision { IfOk result (λ s. subdivision_in s ≡ subdivision_by self.now) }
+        ensures lines { IfOk result AreLinesOf }
+        ensures stands { IfOk result (λ s. IsStanding (view_of s) (faces_of s)) }
+    {
+        let drawn = Drawn::new(&self.records, &self.history);
+        subdivide_of(self.alloc, &drawn)
+    }
+
+    /// Where a point lies: at a vertex, on an edge, or in a face, told by its rank (CGAL manual, point location).
+    ///
+    /// The answer is the same under every strategy.
+    ///
+    /// # Errors
+    ///
+    /// There was no memory for the subdivision.
+    pub fn locate(&mut self, _strategy: Strategy, p: &Point) -> Result<Cell, NoMemory>
+        ensures cell { IfOk result (λ c. c ≡ holds (subdivision_by self.old) p.now) }
+        ensures same { self.new ≡ self.old }
+    {
+        let subdivision = self.subdivide()?;
+        Ok(hold(&subdivision, p))
+    }
+
+    /// How many vertices, edges, faces, inner cycles, isolated vertices and named curves there are.
+    ///
+    /// # Errors
+    ///
+    /// There was no memory for the subdivision.
+    pub fn counts(&self) -> Result<Counts, NoMemory>
+        ensures vertices { IfOk result (λ c. c.vertices ≡ length (subdivision_by self.now).graph.vertices) }
+        ensures edges { IfOk result (λ c. c.edges ≡ length (subdivision_by self.now).graph.edges) }
+        ensures faces { IfOk result (λ c. c.faces ≡ length (subdivision_by self.now).faces) }
+        ensures inner { IfOk result (λ c. c.inner ≡ count_by (λ k. not k.outer) (subdivision_by self.now).cycles) }
+        ensures isolated { IfOk result (λ c. c.isolated ≡ length (subdivision_by self.now).bare) }
+        ensures curves { IfOk result (λ c. c.curves ≡ length (layer_in self.now).names) }
+    {
+        let subdivision = self.subdivide()?;
+        let cells = count(&subdivision);
+        Ok(Counts {
+            vertices: cells.vertices,
+            edges: cells.edges,
+            faces: cells.faces,
+            inner: cells.inner,
+            isolated: cells.isolated,
+            curves: self.history.named(),
+        })
+    }
+
+    /// The text of the subdivision.
+    ///
+    /// # Errors
+    ///
+    /// There was no memory for the subdivision or for the text.
+    pub fn text(&self) -> Result<Vec<u8>, NoMemory>
+        ensures { IfOk result (λ bytes. bytes.items ≡ present_text (layer_in self.now).present) }
+    {
+        let subdivision = self.subdivide()?;
+        text(self.alloc, &subdivision)
+    }
+
+    /// The curves along the edge between two points, which come in either order; their numbers ascend (CGAL manual,
+    /// originating curves).
+    ///
+    /// # Errors
+    ///
+    /// No edge has these two ends, whatever memory there is; or there was no memory for the list.
+    pub fn curves_of(&self, p: &Point, q: &Point) -> Result<Vec<CurveId>, EdgeError>
+        ensures curves { IfOk result (λ v. map (λ c. c.0) v.items ≡ curves (graph (layer_in self.now).present) (edge_between p.now q.now).low (edge_between p.now q.now).high) }
+        ensures no_edge { IsErrOf result EdgeError.NoEdge ↔ ¬ Member (edge_between p.now q.now) (edges (graph (layer_in self.now).present)) }
+    {
+        // Whether there is such an edge takes no memory to tell.
+        let Some(edge) = edge_dart(&self.records, p, q) else {
+            return Err(EdgeError::NoEdge);
+        };
+        Ok(self.history.curves_of(self.alloc, edge)?)
+    }
+
+    /// The edges along which a curve runs, each by its lower and its upper end, in the order of these (CGAL manual, induced
+    /// edges).
+    ///
+    /// # Errors
+    ///
+    /// No curve has this number, whatever memory there is; or there was no memory for the list.
+    pub fn edges_of(&self, curve: CurveId) -> Result<Vec<(Point, Point)>, HistoryError>
+        ensures edges { IfOk result (λ v. (e : _) → Member e (map (λ p. record { low = p.0; high = p.1 }) v.items) ↔ (Member e (edges (graph (layer_in self.now).present)) × Member curve.0 (curves (graph (layer_in self.now).present) e.low e.high))) }
+        ensures ascend { IfOk result (λ v. IsAscending edge_cmp (map (λ p. record { low = p.0; high = p.1 }) v.items)) }
+        ensures unknown { IsErrOf result HistoryError.Unknown ↔ ¬ Member curve.0 (layer_in self.now).names }
+    {
+        let darts = self.history.edges_of(self.alloc, curve)?;
+        match ends_in_order(self.alloc, &self.records, &darts) {
+            Ok(ends) => Ok(ends),
+            Err(NoMemory) => Err(HistoryError::NoMemory),
+        }
+    }
+}

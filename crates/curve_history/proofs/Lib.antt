@@ -1,0 +1,10 @@
+pub mod Copying
+pub mod Emptying
+pub mod Facing
+pub mod Histories
+pub mod Naming
+pub mod Numbers
+pub mod Reading
+pub mod Sorting
+pub mod Twins
+pub mod Walking

@@ -1,0 +1,269 @@
+-- Names of curves, their pieces, and what is read of a history.
+use Rattle.std.proofs.Common.{◌≡◌, ◌≢◌, ◌⊎◌, ◌↔◌, ⊎_elim, inl, inr, ℕ, suc, ◌+◌, ◌≤◌, ◌<◌, ◌^◌, ◌==◌, cond, not, Bool, true, false, List, [], ◌∷◌, ◌++◌, length, map, Option, Some, None, option_map, IfSome, IsSome, is_some, Contains, refl, sym, ap, subst, ◌∙◌, Less, arith, Fits, w32}
+use Rattle.std.specs.List.{filter, AllByRecursion, IsDistinct}
+use Rattle.std.specs.Ordering.{nat_cmp}
+use Rattle.std.proofs.lemmas.Bool.{false≢true}
+use Rattle.std.specs.Cmp.{nat_cmp_is}
+use Rattle.std.proofs.lemmas.Cmp.{ranked}
+use Rattle.std.proofs.lemmas.List.{length-map}
+use Rattle.plane_graphs.specs.Ascending.{ascending, Member, IsAscending}
+use Rattle.plane_graphs.specs.Graph.{same_curve}
+use Rattle.plane_graphs.proofs.Ascending.{All-member, to_member, from_member}
+use Rattle.plane_graphs.proofs.Lists.{in_filter, of_filter, in_map, of_map, in_left, in_right, in_either, IsAscending-filter, not_in, not_out, clash}
+use Rattle.plane_graphs.proofs.Order.{curve_out, curve_in}
+use Rattle.std.specs.declared.vec.Vec.{Vec}
+use Rattle.slab_laws.specs.declared.present.Piece.{Piece as PieceInMemory}
+use Rattle.slab_laws.specs.declared.names.DartId.{DartId}
+use Rattle.slab_laws.specs.Tables.{row_at, names}
+use Rattle.slab_laws.specs.View.{dart_id}
+use Rattle.slab_laws.specs.declared.names.CurveId.{CurveId}
+use Rattle.slab_laws.specs.Pieces.{piece_of}
+use Rattle.std.specs.List.Sorted.{IsPermutation, IsSorted}
+use Rattle.curve_history.proofs.Sorting.{sorted_curves}
+use Rattle.curve_history.proofs.Numbers.{fits}
+use Rattle.linked_chains.specs.Chains.{Chained, Link, IsWhole, HasKey, entry_at, chain}
+use Rattle.linked_chains.specs.declared.node.Entry.{Entry}
+use Rattle.curve_history.specs.declared.history.History.TheInside.{Inside}
+use Rattle.curve_history.specs.Past.{Past, held}
+use Rattle.curve_history.specs.Kept.{entry, item_in, Says, ArePairs, AreFilled, number_of, named_in, pairs_in, IsKept}
+use Rattle.curve_history.proofs.Reading.{listed_from, held_is}
+use Rattle.curve_history.proofs.Histories.{IsSeen, has_name, has_of_named, named_of_has, named_from, named_ascend, says_held, held_says, same_length, items_differ, listed_is}
+use Rattle.curve_history.proofs.Twins.{one_entry}
+use Rattle.view_changes.proofs.RowLaws.{other}
+use Rattle.curve_history.proofs.Walking.{AreApart, apart, node_at, item_is}
+
+-- ---- lists of numbers
+below : (x y : ℕ) → nat_cmp x y ≡ Less → x < y
+below x y e = ranked x y Less (sym e)
+
+above : (x y : ℕ) → x < y → nat_cmp x y ≡ Less
+above x y h = sym (nat_cmp_is x y Less h)
+
+-- a greater number at the end
+all_snoc : (x : ℕ) (xs : List ℕ) (n : ℕ) → AllByRecursion (λ y. nat_cmp x y ≡ Less) xs → nat_cmp x n ≡ Less → AllByRecursion (λ y. nat_cmp x y ≡ Less) (xs ++ n ∷ [])
+all_snoc x [] n a h = (h, tt)
+all_snoc x (y ∷ ys) n a h = (a.0, all_snoc x ys n a.1 h)
+
+pub ascends_snoc : (xs : List ℕ) (n : ℕ) → IsAscending nat_cmp xs → ((x : ℕ) → Member x xs → x < n) → IsAscending nat_cmp (xs ++ n ∷ [])
+ascends_snoc [] n a f = (tt, tt)
+ascends_snoc (x ∷ xs) n a f = (all_snoc x xs n a.0 (above x n (f x (inl refl))), ascends_snoc xs n a.1 (λ y m. f y (inr m)))
+
+-- numbers that ascend from one bound to another are no more than there is room for
+within : (low high : ℕ) (xs : List ℕ) → low ≤ high → IsAscending nat_cmp xs → ((x : ℕ) → Member x xs → (low ≤ x) × (x < high)) → low + length xs ≤ high
+within low high [] l a f = omega arith
+within low high (x ∷ xs) l a f =
+    let b : (low ≤ x) × (x < high) = f x (inl refl) in
+    let r : suc x + length xs ≤ high = within (suc x) high xs (omega (arith, b.1)) a.1 (λ y m. (above_suc y (All-member (λ z. nat_cmp x z ≡ Less) y xs a.0 m), (f y (inr m)).1)) in
+    omega (arith, b.0, r)
+  where
+    above_suc : (y : ℕ) → nat_cmp x y ≡ Less → suc x ≤ y
+    above_suc y e = let h = below x y e in omega arith
+
+-- ---- names
+-- one name more, past all others
+pub named_snoc : (c c' : Chained) (n : ℕ) → ((k : ℕ) → HasKey c k → k < n) → ((k : ℕ) → HasKey c' k ↔ (HasKey c k ⊎ (k ≡ n))) → named_in c' ≡ named_in c ++ n ∷ []
+named_snoc c c' n f h = named_from c' (named_in c ++ n ∷ []) (ascends_snoc (named_in c) n (named_ascend c) (λ k m. f k (has_of_named c k m)))
+    (λ k m. (h k).1 (⊎_elim (λ g. inl (has_of_named c k g)) last (in_either k (named_in c) (n ∷ []) m)))
+    (λ k g. ⊎_elim (λ o. in_left k (named_in c) (n ∷ []) (named_of_has c k o)) (λ e. in_right k (named_in c) (n ∷ []) (inl e)) ((h k).0 g))
+  where
+    last : {k : ℕ} → Member k (n ∷ []) → HasKey c k ⊎ (k ≡ n)
+    last (inl e) = inr e
+    last (inr m) = absurd m
+
+-- one name fewer
+pub named_less : (c c' : Chained) (n : ℕ) → ((k : ℕ) → HasKey c' k ↔ (HasKey c k × (k ≢ n))) → named_in c' ≡ filter (λ k. not (same_curve k n)) (named_in c)
+named_less c c' n h = named_from c' (filter (λ k. not (same_curve k n)) (named_in c)) (IsAscending-filter nat_cmp (λ k. not (same_curve k n)) (named_in c) (named_ascend c))
+    (λ k m. let f = of_filter (λ k. not (same_curve k n)) k (named_in c) m in (h k).1 (has_of_named c k f.0, λ e. clash (curve_in k n e) (not_out (same_curve k n) f.1)))
+    (λ k g. let o = (h k).0 g in in_filter (λ k. not (same_curve k n)) k (named_in c) (named_of_has c k o.0) (not_in (same_curve k n) (λ q. o.1 (curve_out k n q))))
+
+pub named_none : (c : Chained) → c.heads ≡ [] → named_in c ≡ []
+unfolding ascending
+named_none c h = ap (λ (hs : List (ℕ × Option ℕ)). ascending nat_cmp (names hs)) h
+
+-- how many there are
+pub named_length : (c : Chained) → IsDistinct ◌==◌ (names c.heads) → length (named_in c) ≡ length c.heads
+named_length c d = same_length (names c.heads) (apart (names c.heads) d) ∙ length-map c.heads (λ r. r.0)
+
+pub few_named : (c : Chained) (n : Option ℕ) → IfSome n (λ n. (1 ≤ n) × (n < 2 ^ 32)) → ((k : ℕ) → HasKey c k → (1 ≤ k) × (k < number_of n)) → length (named_in c) < 2 ^ 32
+few_named c n l f =
+    let b : (1 ≤ number_of n) × (number_of n ≤ 2 ^ 32) = bounds n l in
+    let w : 1 + length (named_in c) ≤ number_of n = within 1 (number_of n) (named_in c) b.0 (named_ascend c) (λ k m. f k (has_of_named c k m)) in
+    omega (arith, b.1, w)
+  where
+    bounds : (n : Option ℕ) → IfSome n (λ n. (1 ≤ n) × (n < 2 ^ 32)) → (1 ≤ number_of n) × (number_of n ≤ 2 ^ 32)
+    bounds None l = (omega arith, omega arith)
+    bounds (Some n) l = (l.0, omega (arith, l.1))
+
+-- every number that has a name fits
+pub number_fits : (n : Option ℕ) (k : ℕ) → IfSome n (λ n. (1 ≤ n) × (n < 2 ^ 32)) → k < number_of n → k < 2 ^ 32
+number_fits None k l h = h
+number_fits (Some n) k l h = omega (arith, l.1)
+
+-- ---- a curve that runs along no edge
+none_there : (xs : List ℕ) → ((n : ℕ) → Member n xs → ⊥) → xs ≡ []
+none_there [] f = refl
+none_there (x ∷ xs) f = absurd (f x (inl refl))
+
+pub chain_free : (i : Inside) (old : Past) (k : ℕ) → IsSeen i old → ArePairs i.by_edge i.by_curve → IsWhole i.by_curve k → ((d : DartId) → ¬ Member k (held old d)) → chain i.by_curve k ≡ []
+chain_free i old k v t w f = none_there (chain i.by_curve k) each
+  where
+    each : (n : ℕ) → Member n (chain i.by_curve k) → ⊥
+    each n m =
+        let u = node_at i.by_curve k n w m in
+        let s : Says i.by_edge (item_in i.by_curve n) k = record { node = u.0; twin = n; is = t.back.twin n k (item_in i.by_curve n) u.0 u.1 } in
+        f (dart_id (item_in i.by_curve n)) (says_held i old v (dart_id (item_in i.by_curve n)) k s)
+
+-- what a filter leaves of what is read
+pub filter_map : {X Y : Type 0} (f : X → Y) (p : Y → Bool) (xs : List X) → map f (filter (λ x. p (f x)) xs) ≡ filter p (map f xs)
+filter_map f p [] = refl
+filter_map f p (x ∷ xs) = step (p (f x)) (filter_map f p xs)
+  where
+    step : (b : Bool) → map f (filter (λ x. p (f x)) xs) ≡ filter p (map f xs) → map f (cond b (x ∷ filter (λ x. p (f x)) xs) (filter (λ x. p (f x)) xs)) ≡ cond b (f x ∷ filter p (map f xs)) (filter p (map f xs))
+    step true h = ap (λ ys. f x ∷ ys) h
+    step false h = h
+
+-- ---- nothing
+none_at : (c : Chained) (n : ℕ) (e : Entry) → c.nodes ≡ [] → entry_at c n ≡ Some e → ⊥
+unfolding row_at
+none_at c n e h g = never (sym (ap (λ (rs : List (ℕ × Link)). option_map (λ (l : Link). l.entry) (row_at rs n)) h) ∙ g)
+  where
+    never : None ≡ Some e → ⊥
+    never q = absurd cc
+
+no_key : (c : Chained) (k : ℕ) → c.heads ≡ [] → ¬ HasKey c k
+unfolding row_at
+no_key c k h g = false≢true (subst (λ (hs : List (ℕ × Option ℕ)). IsSome (row_at hs k)) h g)
+
+pub kept_none : {Z : Type 0} (e c : Chained) (p : Vec PieceInMemory Z) (n : Option ℕ) → e.nodes ≡ [] → c.nodes ≡ [] → e.heads ≡ [] → c.heads ≡ [] → p.items ≡ [] → IfSome n (λ n. (1 ≤ n) × (n < 2 ^ 32)) → IsKept e c p n
+kept_none e c p n en cn eh ch pe l = record {
+  pairs = record {
+    forth = record { twin = λ x k i s h. absurd (none_at e x (entry k i s) en h) };
+    back = record { twin = λ x k i s h. absurd (none_at c x (entry k i s) cn h) };
+    once = λ x y k i s t h g. absurd (none_at e x (entry k i s) en h);
+  };
+  filled = record { key = λ k h. absurd (no_key e k eh h) };
+  numbers = λ k h. absurd (no_key c k ch h);
+  last = l;
+  few = let q : length p.items ≡ 0 = ap length pe in omega arith;
+}
+
+pub held_nothing : (new : Past) (e : Chained) → new.pairs ≡ pairs_in e → e.nodes ≡ [] → (d : DartId) → held new d ≡ []
+held_nothing new e h n d = held_is new e d h ∙ listed_from e d.0 [] tt (λ k m. absurd m) (λ k s. absurd (none_at e s.node (entry d.0 k s.twin) n s.is))
+
+-- ---- read from both sides
+pub flip_pairs : (e c : Chained) → ArePairs e c → ArePairs c e
+flip_pairs e c t = record { forth = t.back; back = t.forth; once = one }
+  where
+    one : (m n k i s r : ℕ) → entry_at c m ≡ Some (entry k i s) → entry_at c n ≡ Some (entry k i r) → m ≡ n
+    one m n k i s r h g =
+        let a : entry_at e s ≡ Some (entry i k m) = t.back.twin m k i s h in
+        let b : entry_at e r ≡ Some (entry i k n) = t.back.twin n k i r g in
+        let q : s ≡ r = t.once s r i k m n a b in
+        (one_entry (entry_at e r) i k m i k n (ap (entry_at e) (sym q) ∙ a) b).twin
+
+-- a curve along an edge fits
+pub curve_fits : (i : Inside) → ArePairs i.by_edge i.by_curve → ((n : ℕ) (x : Entry) → entry_at i.by_curve n ≡ Some x → HasKey i.by_curve x.key) → ((k : ℕ) → HasKey i.by_curve k → (1 ≤ k) × (k < number_of i.next)) → IfSome i.next (λ n. (1 ≤ n) × (n < 2 ^ 32)) → (d k : ℕ) → Says i.by_edge d k → k < 2 ^ 32
+curve_fits i t keys numbers l d k s = number_fits i.next k l (numbers k (keys s.twin (entry k d s.node) (t.forth.twin s.node d k s.twin s.is))).1
+
+same_number : {X : Type 0} (f : X → ℕ) (x : X) (ys : List X) → (Member (f x) (map f ys) → ⊥) → AllByRecursion (λ y. (f x == f y) ≡ false) ys
+same_number f x [] g = tt
+same_number f x (y ∷ ys) g = (other (f x) (f y) (λ e. g (inl e)), same_number f x ys (λ m. g (inr m)))
+
+pub differ_by : {X : Type 0} (f : X → ℕ) (xs : List X) → AreApart (map f xs) → IsDistinct (λ a b. f a == f b) xs
+unfolding IsDistinct
+differ_by f [] a = tt
+differ_by f (x ∷ xs) a = (same_number f x xs a.0, differ_by f xs a.1)
+
+-- the edges that a curve's nodes say
+module _ (i : Inside) (old : Past) (v : IsSeen i old) (t : ArePairs i.by_edge i.by_curve) (k : ℕ) (w : IsWhole i.by_curve k) (ds : List DartId) (h : map (λ (d : DartId). d.0) ds ≡ map (item_in i.by_curve) (chain i.by_curve k)) where
+  pub edges_once : IsDistinct (λ a b. a.0 == b.0) ds
+  edges_once = differ_by (λ (d : DartId). d.0) ds (subst AreApart (sym h) (items_differ i.by_curve i.by_edge (flip_pairs i.by_edge i.by_curve t) k w))
+
+  runs : (d : DartId) → Contains ds d → Member k (held old d)
+  runs d m =
+      let a : Member d.0 (map (item_in i.by_curve) (chain i.by_curve k)) = subst (λ ns. Member d.0 ns) h (in_map (λ (d : DartId). d.0) d ds (to_member ds d m)) in
+      let n = of_map (item_in i.by_curve) d.0 (chain i.by_curve k) a in
+      let u = node_at i.by_curve k n.0 w n.1 in
+      let s : entry_at i.by_curve n.0 ≡ Some (entry k d.0 u.0) = subst (λ j. entry_at i.by_curve n.0 ≡ Some (entry k j u.0)) (sym n.2) u.1 in
+      says_held i old v d k (record { node = u.0; twin = n.0; is = t.back.twin n.0 k d.0 u.0 s })
+
+  along : (d : DartId) → Member k (held old d) → Contains ds d
+  along d m =
+      let s = held_says i old v d k m in
+      let g : entry_at i.by_curve s.twin ≡ Some (entry k d.0 s.node) = t.forth.twin s.node d.0 k s.twin s.is in
+      let c : Contains (chain i.by_curve k) s.twin = (w.members s.twin).1 (entry k d.0 s.node, g, refl) in
+      let a : Member (item_in i.by_curve s.twin) (map (item_in i.by_curve) (chain i.by_curve k)) = in_map (item_in i.by_curve) s.twin (chain i.by_curve k) (to_member (chain i.by_curve k) s.twin c) in
+      let b : Member d.0 (map (λ (d : DartId). d.0) ds) = subst (λ ns. Member d.0 ns) (sym h) (subst (λ j. Member j (map (item_in i.by_curve) (chain i.by_curve k))) (item_is i.by_curve s.twin (entry k d.0 s.node) g) a) in
+      let x = of_map (λ (d : DartId). d.0) d.0 ds b in
+      from_member ds d (subst (λ (y : DartId). Member y ds) (sym (ap dart_id x.2)) x.1)
+
+  pub edges_are : (d : DartId) → Contains ds d ↔ Member k (held old d)
+  edges_are d = (runs d, along d)
+
+-- ---- in the history's words
+module _ (i : Inside) (old : Past) (v : IsSeen i old) where
+  pub drawn_names : (c' : Chained) (n : ℕ) → i.next ≡ Some n → ((k : ℕ) → HasKey i.by_curve k → (1 ≤ k) × (k < number_of i.next)) → ((k : ℕ) → HasKey c' k ↔ (HasKey i.by_curve k ⊎ (k ≡ n))) → named_in c' ≡ old.names ++ old.next ∷ []
+  drawn_names c' n e f h =
+      let q : old.next ≡ n = v.next ∙ ap number_of e in
+      rw (v.names, q) (named_snoc i.by_curve c' n (λ k g. subst (λ m. k < m) (ap number_of e) (f k g).1) h)
+
+  pub less_names : (c' : Chained) (n : ℕ) → ((k : ℕ) → HasKey c' k ↔ (HasKey i.by_curve k × (k ≢ n))) → named_in c' ≡ filter (λ k. not (same_curve k n)) old.names
+  less_names c' n h = rw v.names (named_less i.by_curve c' n h)
+
+  pub less_pieces : (n : ℕ) (ks : List PieceInMemory) → ks ≡ filter (λ k. not (same_curve k.curve.0 n)) i.pieces.items → map piece_of ks ≡ filter (λ k. not (same_curve k.curve n)) old.pieces
+  less_pieces n ks e = rw v.pieces (ap (map piece_of) e ∙ filter_map piece_of (λ k. not (same_curve k.curve n)) i.pieces.items)
+
+  pub counted : (count : ℕ) → IsDistinct ◌==◌ (names i.by_curve.heads) → count ≡ length i.by_curve.heads → count ≡ length old.names
+  counted count d e = e ∙ sym (named_length i.by_curve d) ∙ ap length (sym v.names)
+
+  -- sorted, an edge's curves are those of its nodes
+  pub curves_are : ArePairs i.by_edge i.by_curve → (d : DartId) → IsWhole i.by_edge d.0 → (us vs : List CurveId) → map (λ (c : CurveId). c.0) us ≡ map (item_in i.by_edge) (chain i.by_edge d.0) → IsPermutation us vs → IsSorted (λ (x y : CurveId). nat_cmp x.0 y.0) vs → map (λ (c : CurveId). c.0) vs ≡ held old d
+  curves_are t d w us vs h p s =
+      sorted_curves us vs (subst AreApart (sym h) (items_differ i.by_edge i.by_curve t d.0 w)) p s
+      ∙ ap (ascending nat_cmp) h ∙ sym (listed_is i.by_edge i.by_curve t d.0 w) ∙ sym (held_is old i.by_edge d v.pairs)
+
+pub count_fits : (c : Chained) (n : Option ℕ) (count : ℕ) → IsDistinct ◌==◌ (names c.heads) → count ≡ length c.heads → IfSome n (λ n. (1 ≤ n) × (n < 2 ^ 32)) → ((k : ℕ) → HasKey c k → (1 ≤ k) × (k < number_of n)) → Fits w32 count
+count_fits c n count d e l f = fits count (subst (λ m. m < 2 ^ 32) (named_length c d ∙ sym e) (few_named c n l f))
+
+-- whether a curve has a name, as the code asks
+module _ (i : Inside) (old : Past) (v : IsSeen i old) (k : ℕ) (b : Bool) (h : b ≡ is_some (row_at i.by_curve.heads k)) where
+  pub without_name : b ≡ false → ¬ Member k old.names
+  without_name f m = false≢true (sym f ∙ h ∙ has_name i old v k m)
+
+  pub with_name : b ≡ true → Member k old.names
+  with_name t = subst (Member k) (sym v.names) (named_of_has i.by_curve k (sym h ∙ t))
+
+-- ---- whether there are curves along an edge
+some_member : (xs : List ℕ) → xs ≢ [] → (x : ℕ) × Member x xs
+some_member [] f = absurd (f refl)
+some_member (x ∷ xs) f = (x, inl refl)
+
+module _ (i : Inside) (old : Past) (v : IsSeen i old) (d : DartId) (b : Bool) (h : b ≡ is_some (row_at i.by_edge.heads d.0)) where
+  pub told_by_key : AreFilled i.by_edge → ((n : ℕ) (x : Entry) → entry_at i.by_edge n ≡ Some x → HasKey i.by_edge x.key) → (b ≡ true) ↔ (held old d ≢ [])
+  told_by_key f keys = (
+    λ t e. let s = f.key d.0 (sym h ∙ t) in subst (Member s.0) e (says_held i old v d s.0 s.1),
+    λ g. let m = some_member (held old d) g in let s = held_says i old v d m.0 m.1 in h ∙ keys s.node (entry d.0 m.0 s.twin) s.is,
+  )
+
+-- ---- what is true of all histories
+module _ (i : Inside) (old : Past) (v : IsSeen i old) where
+  pub held_named : ArePairs i.by_edge i.by_curve → ((n : ℕ) (x : Entry) → entry_at i.by_curve n ≡ Some x → HasKey i.by_curve x.key) → (d : DartId) (k : ℕ) → Member k (held old d) → Member k old.names
+  held_named t keys d k m =
+      let s = held_says i old v d k m in
+      subst (Member k) (sym v.names) (named_of_has i.by_curve k (keys s.twin (entry k d.0 s.node) (t.forth.twin s.node d.0 k s.twin s.is)))
+
+  pub names_ascend : IsAscending nat_cmp old.names
+  names_ascend = subst (IsAscending nat_cmp) (sym v.names) (named_ascend i.by_curve)
+
+  pub names_within : ((k : ℕ) → HasKey i.by_curve k → (1 ≤ k) × (k < number_of i.next)) → (k : ℕ) → Member k old.names → (1 ≤ k) × (k < old.next)
+  names_within f k m = subst (λ n. (1 ≤ k) × (k < n)) (sym v.next) (f k (has_name i old v k m))
+
+  pub next_within : IfSome i.next (λ n. (1 ≤ n) × (n < 2 ^ 32)) → old.next ≤ 2 ^ 32
+  next_within l = subst (λ n. n ≤ 2 ^ 32) (sym v.next) (most i.next l)
+    where
+      most : (n : Option ℕ) → IfSome n (λ n. (1 ≤ n) × (n < 2 ^ 32)) → number_of n ≤ 2 ^ 32
+      most None l = omega arith
+      most (Some n) l = omega (arith, l.1)
+
+  pub pieces_few : length i.pieces.items < 2 ^ 32 → length old.pieces < 2 ^ 32
+  pieces_few h = subst (λ n. n < 2 ^ 32) (sym (ap length v.pieces ∙ length-map i.pieces.items piece_of)) h

@@ -1,0 +1,22 @@
+use Rattle.std.proofs.Common.{not, refl, rules}
+use Rattle.std.proofs.lemmas.Fn.{filter_same}
+use Rattle.plane_graphs.specs.Graph.{same_curve}
+use Rattle.slab_laws.specs.declared.present.Piece.{Piece}
+use Rattle.curve_history.proofs.Histories.{sees, has_name, held_same}
+use Rattle.curve_history.proofs.Naming.{chain_free, less_names, less_pieces}
+use Rattle.curve_history.proofs.history.History.drop_name.Goals as goal
+
+pub remove_key-requires-clause-has : goal.remove_key-requires-clause-has
+remove_key-requires-clause-has c = has_name _ _ (sees c.self.inside _ c.self.view_is) _ c.requires.named
+
+pub remove_key-requires-clause-empty : goal.remove_key-requires-clause-empty
+remove_key-requires-clause-empty c = chain_free _ _ _ (sees c.self.inside _ c.self.view_is) c.self.invariant.pairs (c.laws.ensures.whole _) c.requires.free
+
+pub returns-clause-names : goal.returns-clause-names
+returns-clause-names c = less_names _ _ (sees c.self.inside _ c.self.view_is) c.remove_key.new.self _ c.remove_key.ensures.keys
+
+pub returns-clause-pieces : goal.returns-clause-pieces
+returns-clause-pieces c = less_pieces _ _ (sees c.self.inside _ c.self.view_is) _ _ (filter_same _ (λ (k : Piece). not (same_curve k.curve.0 c.args.curve.0)) _ (λ x b f h. search rules) _ _ c.retain.ensures.filtered)
+
+pub returns-clause-curves : goal.returns-clause-curves
+returns-clause-curves c = held_same _ _ (sees c.self.inside _ c.self.view_is) _ c.self.inside.by_edge refl refl

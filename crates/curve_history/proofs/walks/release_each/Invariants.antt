@@ -1,0 +1,16 @@
+use Rattle.std.proofs.Common.{◌≤◌, length}
+use Rattle.curve_history.specs.Changed.{AreSameKeys, IsEmptied}
+use Rattle.linked_chains.specs.Chains.{chain}
+use Rattle.curve_history.specs.Kept.{ArePairs, pair_room}
+use Rattle.curve_history.proofs.walks.release_each.Given as goal
+
+abbrev pub invariant-each : goal.invariant-each
+invariant-each l = record {
+  pairs : ArePairs l.edges l.curves;
+  less : IsEmptied l.fn.edges l.edges l.edge;
+  named : AreSameKeys l.fn.curves l.curves;
+  room : pair_room l.fn.edges l.fn.curves ≤ pair_room l.edges l.curves;
+}
+
+abbrev pub decreases-each : goal.decreases-each
+decreases-each l = length (chain l.edges l.edge)

@@ -1,0 +1,55 @@
+-- What one pair of an edge and a curve more, or fewer, changes in chains by edge and by curve (this project).
+use Rattle.std.specs.Prelude.{◌≡◌, ◌≢◌, ◌⊎◌, ◌↔◌, ◌≤◌, ◌==◌, ℕ, not, Some}
+use Rattle.std.specs.List.{filter}
+use Rattle.linked_chains.specs.Chains.{Chained, HasKey, entry_at, chain}
+use Rattle.linked_chains.specs.declared.node.Entry.{Entry}
+use Rattle.curve_history.specs.Kept.{Says}
+
+-- both have the same keys, and the new ones no less room for more
+pub record AreSameKeys (old new : Chained) : Type 0 where
+  pub keys : (k : ℕ) → HasKey old k ↔ HasKey new k
+  pub room : old.spare_keys ≤ new.spare_keys
+
+-- one more pair is said, and every old node stays
+pub record IsPairMore (old new : Chained) (edge curve : ℕ) : Type 0 where
+  pub said : Says new edge curve
+  pub stays : (n : ℕ) (e : Entry) → entry_at old n ≡ Some e → entry_at new n ≡ Some e
+  pub others : (k i : ℕ) → Says new k i → Says old k i ⊎ ((k ≡ edge) × (i ≡ curve))
+  pub chains : (k : ℕ) → k ≢ edge → chain new k ≡ chain old k
+  pub keys : (k : ℕ) → HasKey new k → HasKey old k ⊎ (k ≡ edge)
+
+-- one pair fewer is said, that of the node; keys stay
+pub record IsPairLess (old new : Chained) (node edge curve : ℕ) : Type 0 where
+  pub was : Says old edge curve
+  pub gone : ¬ Says new edge curve
+  pub stays : (k i : ℕ) → Says new k i → Says old k i
+  pub others : (k i : ℕ) → Says old k i → Says new k i ⊎ ((k ≡ edge) × (i ≡ curve))
+  pub chains : (k : ℕ) → chain new k ≡ filter (λ n. not (n == node)) (chain old k)
+  pub keys : (k : ℕ) → HasKey new k → HasKey old k
+
+-- at most the pair of an edge and a curve is gone; keys stay
+pub record IsOneLess (old new : Chained) (edge curve : ℕ) : Type 0 where
+  pub gone : ¬ Says new edge curve
+  pub stays : (k i : ℕ) → Says new k i → Says old k i
+  pub others : (k i : ℕ) → Says old k i → Says new k i ⊎ ((k ≡ edge) × (i ≡ curve))
+  pub keys : (k : ℕ) → HasKey new k → HasKey old k
+
+-- at most pairs of an edge are gone; keys stay
+pub record IsEmptied (old new : Chained) (edge : ℕ) : Type 0 where
+  pub stays : (k i : ℕ) → Says new k i → Says old k i
+  pub others : (k i : ℕ) → Says old k i → k ≢ edge → Says new k i
+  pub keys : (k : ℕ) → HasKey new k → HasKey old k
+
+-- the pairs of an edge are those of a part of it too, which has a key only if it has some
+pub record IsCopied (old new : Chained) (edge part : ℕ) : Type 0 where
+  pub said : (i : ℕ) → Says old edge i → Says new part i
+  pub stays : (k i : ℕ) → Says old k i → Says new k i
+  pub others : (k i : ℕ) → Says new k i → Says old k i ⊎ ((k ≡ part) × Says old edge i)
+  pub keys : (k : ℕ) → HasKey new k → HasKey old k ⊎ ((i : ℕ) × Says new k i)
+
+-- the chains stay, with no less room
+pub record IsRoomier (old new : Chained) : Type 0 where
+  pub heads : new.heads ≡ old.heads
+  pub nodes : new.nodes ≡ old.nodes
+  pub keys : old.spare_keys ≤ new.spare_keys
+  pub room : old.spare_nodes ≤ new.spare_nodes

@@ -1,0 +1,4 @@
+pub mod Past
+pub mod Kept
+pub mod Changed
+pub mod Drawn

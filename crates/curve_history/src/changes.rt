@@ -1,0 +1,70 @@
+ghost use Rattle.std.specs.Prelude.{◌≡◌, ◌≢◌, ◌==◌, ◌≤◌, ◌+◌, [], cond, not, length};
+ghost use Rattle.std.specs.List.{filter};
+ghost use Rattle.std.specs.Ordering.{nat_cmp};
+ghost use Rattle.plane_graphs.specs.Ascending.{Member, place};
+ghost use Rattle.plane_graphs.specs.Graph.{same_curve};
+ghost use Rattle.curve_history.specs.Past.{held, SameLayer, IsSpare};
+
+use crate::history::History;
+use crate::pairs::{hold_pair, tidy};
+use crate::walks::{copy_pairs, release_each, release_one};
+use slab_laws::{CurveId, DartId};
+
+impl History {
+    /// One more curve along an edge, new or not, in room that is there.
+    pub fn hold(&mut self, d: DartId, curve: CurveId)
+        requires named { Member curve.0 self.old.names }
+        requires new { ¬ Member curve.0 (held self.old d) }
+        requires room { 1 ≤ self.old.spare_pairs }
+        ensures curves { (x : _) → held self.new x ≡ cond (x.0 == d.0) (place nat_cmp curve.0 (held self.old x)) (held self.old x) }
+        ensures layer { SameLayer self.old self.new }
+        ensures spare { IsSpare self.old (record self.new { spare_pairs = self.new.spare_pairs + 1 }) 0 0 0 }
+    {
+        hold_pair(&mut self.by_edge, &mut self.by_curve, d.0, curve.0 as usize);
+    }
+
+    /// One curve fewer along an edge.
+    pub fn release(&mut self, d: DartId, curve: CurveId)
+        requires { Member curve.0 (held self.old d) }
+        ensures curves { (x : _) → held self.new x ≡ cond (x.0 == d.0) (filter (λ k. not (same_curve k curve.0)) (held self.old x)) (held self.old x) }
+        ensures layer { SameLayer self.old self.new }
+        ensures spare { IsSpare self.old self.new 0 0 0 }
+    {
+        release_one(&mut self.by_edge, &mut self.by_curve, d.0, curve.0 as usize);
+        tidy(&mut self.by_edge, d.0);
+    }
+
+    /// No curve is left along an edge.
+    pub fn release_all(&mut self, d: DartId)
+        ensures curves { (x : _) → held self.new x ≡ cond (x.0 == d.0) [] (held self.old x) }
+        ensures layer { SameLayer self.old self.new }
+        ensures spare { IsSpare self.old self.new 0 0 0 }
+    {
+        release_each(&mut self.by_edge, &mut self.by_curve, d.0);
+        tidy(&mut self.by_edge, d.0);
+    }
+
+    /// The edge of d went in two: the part n has its curves too, in room that is there.
+    pub fn part(&mut self, d: DartId, n: DartId)
+        requires two { d ≢ n }
+        requires new { held self.old n ≡ [] }
+        requires room { length (held self.old d) ≤ self.old.spare_pairs }
+        ensures curves { (x : _) → held self.new x ≡ cond (x.0 == n.0) (held self.old d) (held self.old x) }
+        ensures layer { SameLayer self.old self.new }
+        ensures spare { IsSpare self.old (record self.new { spare_pairs = self.new.spare_pairs + length (held self.old d) }) 0 0 0 }
+    {
+        // Each curve is one node.
+        self.by_edge.laws();
+        copy_pairs(&mut self.by_edge, &mut self.by_curve, d.0, n.0);
+    }
+
+    /// The edges of d and n, which have the same curves, are one, that of d.
+    pub fn join(&mut self, d: DartId, n: DartId)
+        requires { held self.old d ≡ held self.old n }
+        ensures curves { (x : _) → held self.new x ≡ cond (x.0 == n.0) [] (held self.old x) }
+        ensures layer { SameLayer self.old self.new }
+        ensures spare { IsSpare self.old self.new 0 0 0 }
+    {
+        self.release_all(n);
+    }
+}

@@ -1,0 +1,40 @@
+use linked_chains::Chains;
+use slab_laws::Piece;
+use std::marker::Model;
+
+/// The last number that a curve can get.
+pub const LAST_CURVE: u32 = u32::MAX;
+
+/// Which curves run along which edges, the named curves, their pieces, and the number of the next curve.
+///
+/// Each pair of an edge and a curve along it is two nodes that know each other, one in the chain of its edge and one in the
+/// chain of its curve.
+#[derive(Drop)]
+pub struct History {
+    pub(crate) by_edge: Chains,
+    pub(crate) by_curve: Chains,
+    pub(crate) pieces: Vec<Piece>,
+    // The number of the next curve, or `None` after the last one.
+    pub(crate) next: Option<u32>,
+}
+
+/// Why the edges of a curve can't be told.
+#[derive(Clone, Copy, Debug, PartialEq, Eq)]
+pub enum HistoryError {
+    /// No curve has this number.
+    Unknown,
+    /// There was no memory for the answer.
+    NoMemory,
+}
+
+impl Model for History {
+    ghost use Rattle.curve_history.specs.Past.{Past};
+
+    ghost Value = { Past };
+
+    ghost use Rattle.curve_history.specs.Kept.{past, IsKept};
+
+    ghost view = { λ h. past h.by_edge h.by_curve h.pieces h.next };
+
+    ghost invariant = { λ h. IsKept h.by_edge h.by_curve h.pieces h.next };
+}

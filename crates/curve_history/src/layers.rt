@@ -1,0 +1,246 @@
+ghost use Rattle.std.specs.Prelude.{◌≡◌, ◌≢◌, ◌<◌, ◌≤◌, ◌+◌, ◌^◌, ◌↔◌, ◌==◌, ◌∷◌, ◌++◌, [], not, true, false, map, length, nat_lt, IsOk, IfOk, IfSome, IfNone, IsErrOf, OnOk, Contains, option_copied, option_map, slice_get};
+ghost use Rattle.std.specs.List.{filter, IsDistinct};
+ghost use Rattle.std.specs.Ordering.{nat_cmp};
+ghost use Rattle.plane_graphs.specs.Ascending.{Member, IsAscending};
+ghost use Rattle.plane_graphs.specs.Graph.{same_curve};
+ghost use Rattle.slab_laws.specs.Pieces.{piece_of};
+ghost use Rattle.curve_history.specs.Changed.{IsRoomier};
+ghost use Rattle.curve_history.specs.Kept.{number_of, pair_room};
+ghost use Rattle.curve_history.specs.Past.{held, SameCurves, SameLayer, IsSpare};
+
+use crate::history::{History, HistoryError, LAST_CURVE};
+use crate::walks::{count_along, curves_along, edges_along, has_all};
+use linked_chains::Chains;
+use no_memory::NoMemory;
+use slab_laws::{CurveId, DartId, Piece};
+use std::alloc::Global;
+
+// Room for so many pairs and names more, in both chains.
+fn reserve_pairs(
+    edges: &mut Chains,
+    curves: &mut Chains,
+    names: usize,
+    pairs: usize,
+) -> Result<(), NoMemory>
+    ensures names { OnOk result (names ≤ curves.new.spare_keys) }
+    ensures pairs { OnOk result (pairs ≤ pair_room edges.new curves.new) }
+    ensures by_edge { IsRoomier edges.old edges.new }
+    ensures by_curve { IsRoomier curves.old curves.new }
+{
+    edges.reserve(pairs, pairs)?;
+    curves.reserve(names, pairs)?;
+    Ok(())
+}
+
+// The number after one, or `None` after the last.
+fn number_after(number: u32) -> Option<u32>
+    ensures after { number_of result ≡ number + 1 }
+    ensures fits { IfSome result (λ n. (1 ≤ n) × (n < 2 ^ 32)) }
+{
+    number.checked_add(1)
+}
+
+fn is_of_another(piece: &Piece, curve: CurveId) -> bool
+    ensures { result ≡ not (same_curve piece.now.curve.0 curve.0) }
+{
+    piece.curve.0 != curve.0
+}
+
+impl History {
+    /// No curves, of which the first gets this number.
+    pub fn new(alloc: Global, first: u32) -> Result<History, NoMemory>
+        requires { 1 ≤ first }
+        ensures succeeds { IsOk result }
+        ensures nothing { IfOk result (λ h. (d : _) → held h d ≡ []) }
+        ensures names { IfOk result (λ h. h.names ≡ []) }
+        ensures pieces { IfOk result (λ h. h.pieces ≡ []) }
+        ensures next { IfOk result (λ h. h.next ≡ first) }
+    {
+        Ok(History {
+            by_edge: Chains::new(alloc),
+            by_curve: Chains::new(alloc),
+            pieces: Vec::new(alloc),
+            next: Some(first),
+        })
+    }
+
+    /// Makes room for so many names, pieces and pairs of an edge and a curve more; the history stays, whatever comes.
+    ///
+    /// # Errors
+    ///
+    /// There was no memory for them.
+    pub fn reserve(&mut self, names: u32, pieces: u32, nodes: usize) -> Result<(), NoMemory>
+        ensures names { OnOk result (names ≤ self.new.spare_names) }
+        ensures pieces { OnOk result (pieces ≤ self.new.spare_pieces) }
+        ensures nodes { OnOk result (nodes ≤ self.new.spare_pairs) }
+        ensures layer { SameLayer self.old self.new }
+        ensures curves { SameCurves self.old self.new }
+        ensures keeps { IsSpare self.old self.new 0 0 0 }
+    {
+        reserve_pairs(&mut self.by_edge, &mut self.by_curve, names as usize, nodes)?;
+        self.pieces.reserve(pieces as usize)?;
+        Ok(())
+    }
+
+    /// What is true of all histories: curves along edges have names, which ascend and are below the next number.
+    pub fn laws(&self)
+        ensures named { (d : _) (k : _) → Member k (held self.now d) → Member k self.now.names }
+        ensures ascend { IsAscending nat_cmp self.now.names }
+        ensures numbers { (k : _) → Member k self.now.names → (1 ≤ k) × (k < self.now.next) }
+        ensures next { self.now.next ≤ LAST_CURVE + 1 }
+        ensures few { length self.now.pieces < 2 ^ 32 }
+    {
+        self.by_curve.laws();
+    }
+
+    /// Whether the last number was drawn.
+    pub fn spent(&self) -> bool
+        ensures { result ≡ nat_lt LAST_CURVE self.now.next }
+    {
+        self.next.is_none()
+    }
+
+    /// A new curve gets the next number, in room that is there.
+    pub fn draw(&mut self) -> CurveId
+        requires unspent { self.old.next ≤ LAST_CURVE }
+        requires room { 1 ≤ self.old.spare_names }
+        ensures number { result.0 ≡ self.old.next }
+        ensures names { self.new.names ≡ self.old.names ++ self.old.next ∷ [] }
+        ensures next { self.new.next ≡ self.old.next + 1 }
+        ensures pieces { self.new.pieces ≡ self.old.pieces }
+        ensures curves { SameCurves self.old self.new }
+        ensures spare { (self.old.spare_pieces ≤ self.new.spare_pieces) × (self.old.spare_pairs ≤ self.new.spare_pairs) }
+    {
+        let number = self.next.unwrap();
+        self.by_curve.add_key(number as usize);
+        self.next = number_after(number);
+        CurveId(number)
+    }
+
+    /// A piece more, in room that is there.
+    pub fn add_piece(&mut self, piece: Piece)
+        requires few { length self.old.pieces + 1 < 2 ^ 32 }
+        requires room { 1 ≤ self.old.spare_pieces }
+        ensures pieces { self.new.pieces ≡ self.old.pieces ++ piece_of piece ∷ [] }
+        ensures names { self.new.names ≡ self.old.names }
+        ensures next { self.new.next ≡ self.old.next }
+        ensures curves { SameCurves self.old self.new }
+        ensures spare { (self.old.spare_names ≤ self.new.spare_names) × (self.old.spare_pairs ≤ self.new.spare_pairs) }
+    {
+        self.pieces.push_reserved(piece);
+    }
+
+    /// The name of a curve that runs along no edge goes, and its pieces.
+    pub fn drop_name(&mut self, curve: CurveId)
+        requires named { Member curve.0 self.old.names }
+        requires free { (d : _) → ¬ Member curve.0 (held self.old d) }
+        ensures names { self.new.names ≡ filter (λ n. not (same_curve n curve.0)) self.old.names }
+        ensures pieces { self.new.pieces ≡ filter (λ k. not (same_curve k.curve curve.0)) self.old.pieces }
+        ensures next { self.new.next ≡ self.old.next }
+        ensures curves { SameCurves self.old self.new }
+        ensures keeps { IsSpare self.old self.new 0 0 0 }
+    {
+        // No node is left in its chain.
+        self.by_curve.laws();
+        self.by_curve.remove_key(curve.0 as usize);
+        self.pieces.retain(|piece| is_of_another(piece, curve));
+    }
+
+    /// The curves along an edge, ascending.
+    ///
+    /// # Errors
+    ///
+    /// There was no memory for the list.
+    pub fn curves_of(&self, alloc: Global, d: DartId) -> Result<Vec<CurveId>, NoMemory>
+        ensures { IfOk result (λ v. map (λ c. c.0) v.items ≡ held self.now d) }
+    {
+        // Each curve stands once, with a number that fits.
+        self.by_edge.laws();
+        self.by_curve.laws();
+        let mut curves = curves_along(&self.by_edge, alloc, d.0)?;
+        curves.sort_unstable();
+        Ok(curves)
+    }
+
+    /// Whether a curve runs along an edge.
+    pub fn has_curves(&self, d: DartId) -> bool
+        ensures { result ≡ true ↔ held self.now d ≢ [] }
+    {
+        self.by_edge.laws();
+        self.by_edge.has_key(d.0)
+    }
+
+    /// How many curves run along an edge. It takes no memory; the error stands for a number past `usize`.
+    pub fn count_on(&self, d: DartId) -> Result<usize, NoMemory>
+        ensures { IfOk result (λ n. n ≡ length (held self.now d)) }
+    {
+        // Each curve is one node.
+        self.by_edge.laws();
+        count_along(&self.by_edge, d.0)
+    }
+
+    /// Whether the same curves run along both edges. It takes no memory.
+    pub fn same_curves(&self, d: DartId, n: DartId) -> bool
+        ensures same { result ≡ true → held self.now d ≡ held self.now n }
+        ensures differ { result ≡ false → held self.now d ≢ held self.now n }
+    {
+        has_all(&self.by_edge, d.0, n.0) && has_all(&self.by_edge, n.0, d.0)
+    }
+
+    /// The edges along which a curve runs, each once, in no particular order.
+    ///
+    /// # Errors
+    ///
+    /// No curve has the number, or there was no memory for the list.
+    pub fn edges_of(&self, alloc: Global, curve: CurveId) -> Result<Vec<DartId>, HistoryError>
+        ensures edges { IfOk result (λ v. (d : _) → Contains v.items d ↔ Member curve.0 (held self.now d)) }
+        ensures once { IfOk result (λ v. IsDistinct (λ a b. a.0 == b.0) v.items) }
+        ensures unknown { IsErrOf result HistoryError.Unknown ↔ ¬ Member curve.0 self.now.names }
+    {
+        if !self.by_curve.has_key(curve.0 as usize) {
+            return Err(HistoryError::Unknown);
+        }
+        // Each edge stands once.
+        self.by_curve.laws();
+        match edges_along(&self.by_curve, alloc, curve.0 as usize) {
+            Ok(edges) => Ok(edges),
+            Err(NoMemory) => Err(HistoryError::NoMemory),
+        }
+    }
+
+    /// How many pieces there are.
+    pub fn pieces(&self) -> u32
+        ensures { result ≡ length self.now.pieces }
+    {
+        self.pieces.len() as u32
+    }
+
+    /// How many curves have a name.
+    pub fn named(&self) -> u32
+        ensures { result ≡ length self.now.names }
+    {
+        // No name stands twice.
+        self.by_curve.laws();
+        self.by_curve.count_keys() as u32
+    }
+
+    /// The piece at a place; `None` exactly from `pieces()` on.
+    pub fn piece(&self, i: u32) -> Option<&Piece>
+        ensures { option_map piece_of (option_copied result) ≡ slice_get self.now.pieces i }
+    {
+        self.pieces.get(i as usize)
+    }
+
+    /// No curve has a name, and no piece is left; the next number stays.
+    pub fn clear(&mut self)
+        ensures curves { (d : _) → held self.new d ≡ [] }
+        ensures names { self.new.names ≡ [] }
+        ensures pieces { self.new.pieces ≡ [] }
+        ensures next { self.new.next ≡ self.old.next }
+        ensures keeps { IsSpare self.old self.new 0 0 0 }
+    {
+        self.by_edge.clear();
+        self.by_curve.clear();
+        self.pieces.clear();
+    }
+}

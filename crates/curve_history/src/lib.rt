@@ -1,0 +1,15 @@
+//! The history of an arrangement's curves: which curves run along which edges, seen from both, the named curves and their
+//! pieces.
+//!
+//! An edge is told by the name of its dart from the lower to the upper end. After `reserve` the changes take no memory.
+#![tactic(auto)]
+
+mod changes;
+mod drawn;
+mod history;
+mod layers;
+mod pairs;
+mod walks;
+
+pub use drawn::Drawn;
+pub use history::{History, HistoryError, LAST_CURVE};

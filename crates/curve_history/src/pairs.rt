@@ -1,0 +1,97 @@
+ghost use Rattle.std.specs.Prelude.{◌≡◌, ◌≢◌, ◌⊎◌, ◌≤◌, ◌+◌, [], Some};
+ghost use Rattle.linked_chains.specs.Chains.{chain, entry_at, HasKey, HasNode};
+ghost use Rattle.curve_history.specs.Changed.{AreSameKeys, IsPairLess, IsPairMore};
+ghost use Rattle.curve_history.specs.Kept.{entry, pair_room, ArePairs, AreFilled, Says};
+
+use linked_chains::Chains;
+
+// A chain for an edge, which may be there.
+fn make_key(edges: &mut Chains, edge: usize)
+    requires { 1 ≤ edges.old.spare_keys }
+    ensures has { HasKey edges.new edge }
+    ensures keys { (k : _) → HasKey edges.new k → HasKey edges.old k ⊎ (k ≡ edge) }
+    ensures nodes { edges.new.nodes ≡ edges.old.nodes }
+    ensures chains { (k : _) → chain edges.new k ≡ chain edges.old k }
+    ensures spare_keys { edges.old.spare_keys ≤ edges.new.spare_keys + 1 }
+    ensures spare_nodes { edges.new.spare_nodes ≡ edges.old.spare_nodes }
+{
+    if !edges.has_key(edge) {
+        edges.add_key(edge);
+    }
+}
+
+// Two nodes that are each other's twin, in the chain of an edge and in that of a curve.
+fn push_twins(edges: &mut Chains, curves: &mut Chains, edge: usize, curve: usize)
+    requires pairs { ArePairs edges.old curves.old }
+    requires edge { HasKey edges.old edge }
+    requires named { HasKey curves.old curve }
+    requires new { ¬ Says edges.old edge curve }
+    requires room_by_edge { 1 ≤ edges.old.spare_nodes }
+    requires room_by_curve { 1 ≤ curves.old.spare_nodes }
+    ensures pairs { ArePairs edges.new curves.new }
+    ensures more { IsPairMore edges.old edges.new edge curve }
+    ensures named { AreSameKeys curves.old curves.new }
+    ensures spare_keys { edges.old.spare_keys ≤ edges.new.spare_keys }
+    ensures nodes_by_edge { edges.old.spare_nodes ≡ edges.new.spare_nodes + 1 }
+    ensures nodes_by_curve { curves.old.spare_nodes ≡ curves.new.spare_nodes + 1 }
+{
+    let node = edges.push(edge, curve, 0);
+    let twin = curves.push(curve, edge, node);
+    edges.set_twin(node, twin);
+}
+
+/// A pair more, in room that is there.
+pub(crate) fn hold_pair(edges: &mut Chains, curves: &mut Chains, edge: usize, curve: usize)
+    requires pairs { ArePairs edges.old curves.old }
+    requires named { HasKey curves.old curve }
+    requires new { ¬ Says edges.old edge curve }
+    requires room { 1 ≤ pair_room edges.old curves.old }
+    ensures pairs { ArePairs edges.new curves.new }
+    ensures more { IsPairMore edges.old edges.new edge curve }
+    ensures named { AreSameKeys curves.old curves.new }
+    ensures room { pair_room edges.old curves.old ≤ pair_room edges.new curves.new + 1 }
+{
+    make_key(edges, edge);
+    push_twins(edges, curves, edge, curve);
+}
+
+/// A pair fewer, that of a node.
+pub(crate) fn release_pair(edges: &mut Chains, curves: &mut Chains, node: usize)
+    requires has { HasNode edges.old node }
+    requires pairs { ArePairs edges.old curves.old }
+    ensures pairs { ArePairs edges.new curves.new }
+    ensures less { (k i t : _) → entry_at edges.old node ≡ Some (entry k i t) → IsPairLess edges.old edges.new node k i }
+    ensures named { AreSameKeys curves.old curves.new }
+    ensures room { pair_room edges.old curves.old ≤ pair_room edges.new curves.new }
+{
+    let twin = edges.entry(node).twin;
+    edges.remove(node);
+    curves.remove(twin);
+}
+
+// An edge without nodes has no chain then.
+fn drop_key(edges: &mut Chains, edge: usize)
+    requires { chain edges.old edge ≡ [] }
+    ensures keys { (k : _) → HasKey edges.new k → HasKey edges.old k × (k ≢ edge) }
+    ensures nodes { edges.new.nodes ≡ edges.old.nodes }
+    ensures spare_keys { edges.old.spare_keys ≤ edges.new.spare_keys }
+    ensures spare_nodes { edges.new.spare_nodes ≡ edges.old.spare_nodes }
+{
+    if edges.has_key(edge) {
+        edges.remove_key(edge);
+    }
+}
+
+/// An edge that may have lost its last curve has no chain then.
+pub(crate) fn tidy(edges: &mut Chains, edge: usize)
+    requires { (k : _) → k ≢ edge → HasKey edges.old k → (i : _) × Says edges.old k i }
+    ensures filled { AreFilled edges.new }
+    ensures nodes { edges.new.nodes ≡ edges.old.nodes }
+    ensures spare_keys { edges.old.spare_keys ≤ edges.new.spare_keys }
+    ensures spare_nodes { edges.new.spare_nodes ≡ edges.old.spare_nodes }
+{
+    edges.laws();
+    if edges.first(edge).is_none() {
+        drop_key(edges, edge);
+    }
+}

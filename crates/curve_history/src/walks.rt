@@ -1,0 +1,147 @@
+ghost use Rattle.std.specs.Prelude.{◌≡◌, ◌≢◌, ◌<◌, ◌≤◌, ◌+◌, ◌^◌, true, false, Some, IfOk, IfSome, IfNone, length, map};
+ghost use Rattle.linked_chains.specs.Chains.{chain, entry_at};
+ghost use Rattle.curve_history.specs.Changed.{AreSameKeys, IsCopied, IsEmptied, IsOneLess};
+ghost use Rattle.curve_history.specs.Kept.{entry, item_in, pair_room, ArePairs, AreFilled, HasAll, Says};
+
+use crate::pairs::{hold_pair, release_pair};
+use linked_chains::Chains;
+use no_memory::NoMemory;
+use slab_laws::{CurveId, DartId};
+use std::alloc::Global;
+
+// The node that says an edge and a curve.
+fn find(edges: &Chains, edge: usize, curve: usize) -> Option<usize>
+    ensures some { IfSome result (λ n. (t : _) × (entry_at edges.now n ≡ Some (entry edge curve t))) }
+    ensures none { IfNone result (¬ Says edges.now edge curve) }
+{
+    edges.laws();
+    let mut at = edges.first(edge);
+    'walk: while let Some(node) = at {
+        if edges.entry(node).item == curve {
+            return Some(node);
+        }
+        at = edges.after(node);
+    }
+    None
+}
+
+/// Whether every curve of an edge runs along another one too.
+pub(crate) fn has_all(edges: &Chains, edge: usize, other: usize) -> bool
+    ensures all { result ≡ true → HasAll edges.now edge other }
+    ensures missing { result ≡ false → ¬ HasAll edges.now edge other }
+{
+    edges.laws();
+    let mut at = edges.first(edge);
+    'walk: while let Some(node) = at {
+        let curve = edges.entry(node).item;
+        if find(edges, other, curve).is_none() {
+            return false;
+        }
+        at = edges.after(node);
+    }
+    true
+}
+
+/// How many curves run along an edge; no number is large enough only where no memory is.
+pub(crate) fn count_along(edges: &Chains, edge: usize) -> Result<usize, NoMemory>
+    ensures { IfOk result (λ n. n ≡ length (chain edges.now edge)) }
+{
+    edges.laws();
+    let mut count: usize = 0;
+    let mut at = edges.first(edge);
+    'walk: while let Some(node) = at {
+        let Some(more) = count.checked_add(1) else {
+            return Err(NoMemory);
+        };
+        count = more;
+        at = edges.after(node);
+    }
+    Ok(count)
+}
+
+/// One pair fewer.
+pub(crate) fn release_one(edges: &mut Chains, curves: &mut Chains, edge: usize, curve: usize)
+    requires pairs { ArePairs edges.old curves.old }
+    ensures pairs { ArePairs edges.new curves.new }
+    ensures less { IsOneLess edges.old edges.new edge curve }
+    ensures named { AreSameKeys curves.old curves.new }
+    ensures room { pair_room edges.old curves.old ≤ pair_room edges.new curves.new }
+{
+    if let Some(node) = find(edges, edge, curve) {
+        release_pair(edges, curves, node);
+    }
+}
+
+/// No pair is left of an edge.
+pub(crate) fn release_each(edges: &mut Chains, curves: &mut Chains, edge: usize)
+    requires pairs { ArePairs edges.old curves.old }
+    ensures pairs { ArePairs edges.new curves.new }
+    ensures none { (i : _) → ¬ Says edges.new edge i }
+    ensures less { IsEmptied edges.old edges.new edge }
+    ensures named { AreSameKeys curves.old curves.new }
+    ensures room { pair_room edges.old curves.old ≤ pair_room edges.new curves.new }
+{
+    'each: while let Some(node) = edges.first(edge) {
+        edges.laws();
+        release_pair(edges, curves, node);
+    }
+    edges.laws();
+}
+
+/// Another edge, which has no curves, gets those of an edge, in room that is there.
+pub(crate) fn copy_pairs(edges: &mut Chains, curves: &mut Chains, edge: usize, part: usize)
+    requires pairs { ArePairs edges.old curves.old }
+    requires two { edge ≢ part }
+    requires new { (i : _) → ¬ Says edges.old part i }
+    requires room { length (chain edges.old edge) ≤ pair_room edges.old curves.old }
+    ensures pairs { ArePairs edges.new curves.new }
+    ensures copied { IsCopied edges.old edges.new edge part }
+    ensures named { AreSameKeys curves.old curves.new }
+    ensures room { pair_room edges.old curves.old ≤ pair_room edges.new curves.new + length (chain edges.old edge) }
+{
+    edges.laws();
+    curves.laws();
+    let mut at = edges.first(edge);
+    'walk: while let Some(node) = at {
+        let curve = edges.entry(node).item;
+        hold_pair(edges, curves, part, curve);
+        at = edges.after(node);
+    }
+}
+
+/// The curves along an edge, in the order of its chain.
+pub(crate) fn curves_along(
+    edges: &Chains,
+    alloc: Global,
+    edge: usize,
+) -> Result<Vec<CurveId>, NoMemory>
+    requires { (i : _) → Says edges.now edge i → i < 2 ^ 32 }
+    ensures { IfOk result (λ v. map (λ c. c.0) v.items ≡ map (item_in edges.now) (chain edges.now edge)) }
+{
+    edges.laws();
+    let mut curves = Vec::new(alloc);
+    let mut at = edges.first(edge);
+    'walk: while let Some(node) = at {
+        curves.push(CurveId(edges.entry(node).item as u32))?;
+        at = edges.after(node);
+    }
+    Ok(curves)
+}
+
+/// The edges along which a curve runs, in the order of its chain.
+pub(crate) fn edges_along(
+    curves: &Chains,
+    alloc: Global,
+    curve: usize,
+) -> Result<Vec<DartId>, NoMemory>
+    ensures { IfOk result (λ v. map (λ d. d.0) v.items ≡ map (item_in curves.now) (chain curves.now curve)) }
+{
+    curves.laws();
+    let mut edges = Vec::new(alloc);
+    let mut at = curves.first(curve);
+    'walk: while let Some(node) = at {
+        edges.push(DartId(curves.entry(node).item))?;
+        at = curves.after(node);
+    }
+    Ok(edges)
+}

@@ -1,0 +1,52 @@
+-- What writes of single links make of the nodes.
+use Rattle.std.proofs.Common.{◌≡◌, ◌≢◌, inl, inr, ℕ, ◌==◌, Bool, true, false, cond, Option, Some, None, is_some, IsSome, option_map, refl, sym, ap, ◌∙◌}
+use Rattle.std.proofs.lemmas.Bool.{cases_eq}
+use Rattle.slab.specs.Slab.{Slab, get, Updates}
+use Rattle.linked_chains.specs.declared.node.Node.{Node}
+use Rattle.linked_chains.specs.Writes.{is_at}
+use Rattle.linked_chains.proofs.Distinct.{same, other}
+
+pub at_hit : (at : Option ℕ) (m : ℕ) → at ≡ Some m → is_at at m ≡ true
+at_hit at m e = ap (λ o. is_at o m) e ∙ same m
+
+pub at_miss : (at : Option ℕ) (m : ℕ) → at ≢ Some m → is_at at m ≡ false
+at_miss None m h = refl
+at_miss (Some n) m h = other m n (λ e. h (ap Some (sym e)))
+
+-- what a slab has after a write of one key
+pub updated : (old new : Slab Node) (n : ℕ) (o : Option Node) → Updates old new n o → (m : ℕ) → get new m ≡ cond (m == n) o (get old m)
+updated old new n o u m = elim (cases_eq m n) [
+  | inl q ↦ rw (q, same n) u.changed
+  | inr ne ↦ rw (other m n ne) (u.others m ne)
+]
+
+some_is : {X : Type 0} (o : Option X) → IsSome o → (x : X) × (o ≡ Some x)
+some_is None h = absurd (cc)
+some_is (Some x) h = (x, refl)
+
+-- the node that there may be is changed, and no other
+abbrev pub AreChanged : (Node → Node) → Option ℕ → (ℕ → Option Node) → (ℕ → Option Node) → Type 0
+AreChanged f at old new = (n : ℕ) → new n ≡ cond (is_at at n) (option_map f (old n)) (old n)
+
+-- a change leaves what it doesn't write
+pub unwritten : {Y : Type 0} (g : Node → Y) (f : Node → Node) → ((x : Node) → g (f x) ≡ g x) → (at : Option ℕ) (old new : ℕ → Option Node) → AreChanged f at old new → (n : ℕ) → option_map g (new n) ≡ option_map g (old n)
+unwritten {Y} g f leaves at old new c n = ap (option_map g) (c n) ∙ by (is_at at n) (old n)
+  where
+    by : (b : Bool) (o : Option Node) → option_map g (cond b (option_map f o) o) ≡ option_map g o
+    by false o = refl
+    by true None = refl
+    by true (Some x) = ap Some (leaves x)
+
+pub elsewhere : (f : Node → Node) (at : Option ℕ) (old new : ℕ → Option Node) → AreChanged f at old new → (n : ℕ) → at ≢ Some n → new n ≡ old n
+elsewhere f at old new c n h = c n ∙ ap (λ b. cond b (option_map f (old n)) (old n)) (at_miss at n h)
+
+pub written : (f : Node → Node) (at : Option ℕ) (old new : ℕ → Option Node) → AreChanged f at old new → (n : ℕ) (x : Node) → at ≡ Some n → old n ≡ Some x → new n ≡ Some (f x)
+written f at old new c n x h e = c n ∙ ap (λ b. cond b (option_map f (old n)) (old n)) (at_hit at n h) ∙ ap (option_map f) e
+
+pub still_some : (f : Node → Node) (at : Option ℕ) (old new : ℕ → Option Node) → AreChanged f at old new → (n : ℕ) → is_some (new n) ≡ is_some (old n)
+still_some f at old new c n = ap is_some (c n) ∙ by (is_at at n) (old n)
+  where
+    by : (b : Bool) (o : Option Node) → is_some (cond b (option_map f o) o) ≡ is_some o
+    by false o = refl
+    by true None = refl
+    by true (Some x) = refl

@@ -1,0 +1,85 @@
+-- What a map of heads is after each change of a key.
+use Rattle.std.proofs.Common.{◌≡◌, ◌≢◌, ◌⊎◌, ◌↔◌, inl, inr, ℕ, ◌==◌, ◌&&◌, nat_eq, Bool, true, false, cond, [], ◌∷◌, ◌++◌, Option, Some, None, is_some, IsSome, refl, sym, ap, subst, ◌∙◌}
+use Rattle.std.specs.Prelude.{is_none}
+use Rattle.std.specs.HashMap.{WritesThrough, Updates}
+use Rattle.std.specs.Map.{lookup}
+use Rattle.std.proofs.lemmas.Bool.{cases_eq}
+use Rattle.indexmap.specs.IndexMap.{IndexMap, insert_entry}
+use Rattle.indexmap.proofs.CallerLemmas.{insert_entry-new}
+use Rattle.slab_laws.specs.Tables.{row_at}
+use Rattle.linked_chains.specs.Chains.{first_or}
+use Rattle.linked_chains.specs.Writes.{IsHeaded}
+use Rattle.linked_chains.proofs.Distinct.{same, other}
+use Rattle.linked_chains.proofs.Reading.{row_lookup}
+
+turned : (m n : ℕ) → (m == n) ≡ (n == m)
+turned m n = elim (cases_eq m n) [
+  | inl q ↦ ap (λ k. k == n) q ∙ ap (λ k. n == k) (sym q)
+  | inr ne ↦ other m n ne ∙ sym (other n m (λ e. ne (sym e)))
+]
+
+module _ {S : Type 0} (old new : IndexMap ℕ (Option ℕ) S) (key : ℕ) where
+  -- what an update finds
+  pub updated : (o : Option (Option ℕ)) → Updates nat_eq old new key o → (k : ℕ) → row_at new.entries k ≡ cond (k == key) o (row_at old.entries k)
+  updated o u k = row_lookup new.entries k ∙ u.0 k ∙ ap (λ b. cond b o (lookup (nat_eq k) old.entries)) (turned key k) ∙ ap (λ r. cond (k == key) o r) (sym (row_lookup old.entries k))
+
+  found : (o : Option (Option ℕ)) → Updates nat_eq old new key o → row_at new.entries key ≡ o
+  found o u = updated o u key ∙ ap (λ b. cond b o (row_at old.entries key)) (same key)
+
+  beside : (o : Option (Option ℕ)) → Updates nat_eq old new key o → (k : ℕ) → k ≢ key → row_at new.entries k ≡ row_at old.entries k
+  beside o u k h = updated o u k ∙ ap (λ b. cond b o (row_at old.entries k)) (other k key h)
+
+  -- a new head, where no node is before
+  pub head_written : (before first : Option ℕ) → is_none before ≡ true → IsSome (row_at old.entries key) → WritesThrough nat_eq (nat_eq key) old first new → IsHeaded key before first old new
+  head_written before first n there w = record {
+    heads = λ k. updated (Some first) (w.3 (ap is_some (sym (row_lookup old.entries key)) ∙ there)) k ∙ ap (λ b. cond b (Some first) (row_at old.entries k)) (none (k == key));
+    len = w.2;
+    spare = w.6;
+  }
+    where
+      none : (b : Bool) → b ≡ b && is_none before
+      none true = sym n
+      none false = refl
+
+  -- an empty chain more
+  pub key_more : Updates nat_eq old new key (Some None) → (k : ℕ) → IsSome (row_at new.entries k) ↔ (IsSome (row_at old.entries k) ⊎ (k ≡ key))
+  key_more u k = elim (cases_eq k key) [
+    | inl q ↦ (λ s. inr q, λ s. subst (λ z. IsSome (row_at new.entries z)) (sym q) (ap is_some (found (Some None) u)))
+    | inr ne ↦ (
+      λ s. inl (sym (ap is_some (beside (Some None) u k ne)) ∙ s),
+      λ s. elim s [
+        | inl t ↦ ap is_some (beside (Some None) u k ne) ∙ t
+        | inr q ↦ absurd (ne q)
+      ],
+    )
+  ]
+
+  pub first_more : Updates nat_eq old new key (Some None) → ¬ IsSome (row_at old.entries key) → (k : ℕ) → first_or (row_at new.entries k) ≡ first_or (row_at old.entries k)
+  first_more u h k = elim (cases_eq k key) [
+    | inl q ↦ subst (λ z. first_or (row_at new.entries z) ≡ first_or (row_at old.entries z)) (sym q) (ap first_or (found (Some None) u) ∙ sym (nothing (row_at old.entries key) h))
+    | inr ne ↦ ap first_or (beside (Some None) u k ne)
+  ]
+    where
+      nothing : (o : Option (Option ℕ)) → ¬ IsSome o → first_or o ≡ None
+      nothing None h = refl
+      nothing (Some x) h = absurd (h refl)
+
+  pub entries_more : ¬ IsSome (row_at old.entries key) → new.entries ≡ insert_entry nat_eq old.entries key None → new.entries ≡ old.entries ++ (key, None) ∷ []
+  entries_more h e = e ∙ insert_entry-new nat_eq old key None (sym (row_lookup old.entries key) ∙ nothing (row_at old.entries key) h)
+    where
+      nothing : (o : Option (Option ℕ)) → ¬ IsSome o → o ≡ None
+      nothing None h = refl
+      nothing (Some x) h = absurd (h refl)
+
+  -- an empty chain fewer
+  pub key_fewer : Updates nat_eq old new key None → (k : ℕ) → IsSome (row_at new.entries k) ↔ (IsSome (row_at old.entries k) × (k ≢ key))
+  key_fewer u k = elim (cases_eq k key) [
+    | inl q ↦ (λ s. let z : IsSome (row_at new.entries key) = subst (λ y. IsSome (row_at new.entries y)) q s in absurd (cc (z, found None u)), λ s. absurd (s.1 q))
+    | inr ne ↦ (λ s. (sym (ap is_some (beside None u k ne)) ∙ s, ne), λ s. ap is_some (beside None u k ne) ∙ s.0)
+  ]
+
+  pub first_fewer : Updates nat_eq old new key None → first_or (row_at old.entries key) ≡ None → (k : ℕ) → first_or (row_at new.entries k) ≡ first_or (row_at old.entries k)
+  first_fewer u h k = elim (cases_eq k key) [
+    | inl q ↦ subst (λ z. first_or (row_at new.entries z) ≡ first_or (row_at old.entries z)) (sym q) (ap first_or (found None u) ∙ sym h)
+    | inr ne ↦ ap first_or (beside None u k ne)
+  ]

@@ -1,0 +1,11 @@
+pub mod Distinct
+pub mod Linked
+pub mod Joined
+pub mod Reading
+pub mod Changes
+pub mod Listed
+pub mod Pushed
+pub mod Removed
+pub mod Heads
+pub mod Seen
+pub mod Writing

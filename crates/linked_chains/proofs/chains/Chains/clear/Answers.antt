@@ -1,0 +1,9 @@
+use Rattle.linked_chains.proofs.Reading.{nodes_empty}
+use Rattle.linked_chains.proofs.Seen.{kept_empty}
+use Rattle.linked_chains.proofs.chains.Chains.clear.Goals as goal
+
+pub invariant_of-self : goal.invariant_of-self
+invariant_of-self c = kept_empty _ _ c.clear.ensures.empty c.clear-2.ensures.empty
+
+pub returns-clause-nodes : goal.returns-clause-nodes
+returns-clause-nodes c = nodes_empty c.clear-2.new.self c.clear-2.ensures.empty

@@ -1,0 +1,14 @@
+use Rattle.std.proofs.Common.{subst}
+use Rattle.slab_laws.specs.Tables.{names, NamesAscend}
+use Rattle.linked_chains.proofs.Reading.{ascend_nodes}
+use Rattle.linked_chains.proofs.Seen.{whole_seen, keys_seen}
+use Rattle.linked_chains.proofs.chains.Chains.laws.Goals as goal
+
+pub returns-clause-whole : goal.returns-clause-whole
+returns-clause-whole c = whole_seen c.self.inside.heads c.self.inside.nodes _ c.self.view_is c.self.invariant
+
+pub returns-clause-keys : goal.returns-clause-keys
+returns-clause-keys c = keys_seen c.self.inside.heads c.self.inside.nodes _ c.self.view_is c.self.invariant
+
+pub returns-clause-ascend : goal.returns-clause-ascend
+returns-clause-ascend c = subst (λ h. NamesAscend (names h.nodes)) c.self.view_is (ascend_nodes c.self.inside.nodes)

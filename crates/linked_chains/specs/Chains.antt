@@ -1,0 +1,76 @@
+-- What a caller sees of chains: keys, nodes by name, and the order of each chain.
+use Rattle.std.specs.Prelude.{◌≡◌, ◌↔◌, ◌==◌, ℕ, zero, suc, ◌+◌, List, [], ◌∷◌, cond, Option, Some, None, option_map, IsSome, Contains, length, ◌≤◌}
+use Rattle.std.specs.List.{IsDistinct}
+use Rattle.slab_laws.specs.Tables.{row_at}
+use Rattle.linked_chains.specs.declared.node.Entry.{Entry}
+
+-- a node: what it says, and the node after it in its chain
+pub record Link : Type 0 where
+  pub entry : Entry
+  pub after : Option ℕ
+
+-- each key with the first node of its chain, the nodes by name, and how many more of each fit with no memory (this project)
+pub record Chained : Type 0 where
+  pub heads : List (ℕ × Option ℕ)
+  pub nodes : List (ℕ × Link)
+  pub spare_keys : ℕ
+  pub spare_nodes : ℕ
+
+-- the key has a chain, which may be empty
+abbrev pub HasKey : Chained → ℕ → Type 0
+HasKey c k = IsSome (row_at c.heads k)
+
+-- the name is that of a node
+abbrev pub HasNode : Chained → ℕ → Type 0
+HasNode c n = IsSome (row_at c.nodes n)
+
+-- what the node says, if there is one
+abbrev pub entry_at : Chained → ℕ → Option Entry
+entry_at c n = option_map (λ l. l.entry) (row_at c.nodes n)
+
+abbrev pub first_or : Option (Option ℕ) → Option ℕ
+first_or None = None
+first_or (Some n) = n
+
+-- the first node in the chain of the key
+abbrev pub first_in : Chained → ℕ → Option ℕ
+first_in c k = first_or (row_at c.heads k)
+
+-- the node after one in its chain
+abbrev pub after_in : Chained → ℕ → Option ℕ
+after_in c n = first_or (option_map (λ l. l.after) (row_at c.nodes n))
+
+-- the nodes from one on, as far as so many steps go
+unfoldable pub trail : (ℕ → Option ℕ) → ℕ → Option ℕ → List ℕ
+trail after steps None = []
+trail after zero (Some n) = []
+trail after (suc steps) (Some n) = n ∷ trail after steps (after n)
+
+-- the nodes in the chain of the key, in order
+unfoldable pub chain : Chained → ℕ → List ℕ
+chain c k = trail (after_in c) (length c.nodes) (first_in c k)
+
+-- the nodes of the chain are the nodes with the key, each once
+pub record IsWhole (c : Chained) (k : ℕ) : Type 0 where
+  pub members : (n : ℕ) → Contains (chain c k) n ↔ ((e : Entry) × (entry_at c n ≡ Some e) × (e.key ≡ k))
+  pub once : IsDistinct ◌==◌ (chain c k)
+
+-- the first of a list, if there is one
+abbrev pub head_of : List ℕ → Option ℕ
+head_of [] = None
+head_of (n ∷ ns) = Some n
+
+-- n comes directly after m in the list, and None after its last
+unfoldable pub comes_after : List ℕ → ℕ → Option ℕ
+comes_after [] m = None
+comes_after (n ∷ ns) m = cond (n == m) (head_of ns) (comes_after ns m)
+
+-- chain by chain both have the same nodes, and both have the same keys
+pub record SameChains (old new : Chained) : Type 0 where
+  pub keys : (k : ℕ) → HasKey old k ↔ HasKey new k
+  pub chains : (k : ℕ) → chain new k ≡ chain old k
+
+-- the second has room for so many keys and nodes more than the first
+pub record IsSpare (less more : Chained) (keys nodes : ℕ) : Type 0 where
+  pub of_keys : less.spare_keys + keys ≤ more.spare_keys
+  pub of_nodes : more.spare_nodes ≡ less.spare_nodes + nodes

@@ -1,0 +1,44 @@
+//! Writes of single links: a node's neighbours, and the first node of a chain.
+ghost use Rattle.std.specs.Prelude.{◌≡◌, Some, IsSome};
+ghost use Rattle.slab.specs.Slab.{ContainsKey};
+ghost use Rattle.slab_laws.specs.Tables.{row_at};
+ghost use Rattle.linked_chains.specs.Writes.{followed_by, led_by, IsChanged, IsHeaded};
+
+use crate::node::Node;
+use indexmap::IndexMap;
+use slab::Slab;
+
+// The node, if there is one, has this one after it.
+pub(crate) fn set_after(nodes: &mut Slab<Node>, node: Option<usize>, after: Option<usize>)
+    requires { (n : _) → node ≡ Some n → ContainsKey nodes.old n }
+    ensures { IsChanged (followed_by after) node nodes.old nodes.new }
+{
+    if let Some(node) = node {
+        nodes[node].after = after;
+    }
+}
+
+// The node, if there is one, has this one before it.
+pub(crate) fn set_before(nodes: &mut Slab<Node>, node: Option<usize>, before: Option<usize>)
+    requires { (n : _) → node ≡ Some n → ContainsKey nodes.old n }
+    ensures { IsChanged (led_by before) node nodes.old nodes.new }
+{
+    if let Some(node) = node {
+        nodes[node].before = before;
+    }
+}
+
+// The chain of the key has this first node, unless a node is before it.
+pub(crate) fn set_head(
+    heads: &mut IndexMap<usize, Option<usize>>,
+    key: usize,
+    before: Option<usize>,
+    first: Option<usize>,
+)
+    requires { IsSome (row_at heads.old.entries key) }
+    ensures { IsHeaded key before first heads.old heads.new }
+{
+    if before.is_none() {
+        *heads.get_mut(&key).unwrap() = first;
+    }
+}

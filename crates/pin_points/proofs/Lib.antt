@@ -1,0 +1,14 @@
+pub mod Made
+pub mod Counted
+pub mod Straight
+pub mod Told
+pub mod Twice
+pub mod Lines
+pub mod Passed
+pub mod Loosened
+pub mod Spotted
+pub mod Parted
+pub mod Kept
+pub mod Pinning
+pub mod Unpinning
+pub mod Fullness

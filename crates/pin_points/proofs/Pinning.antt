@@ -1,0 +1,96 @@
+-- A pin more: its steps, and the layer after it.
+use Rattle.std.proofs.Common.{◌≡◌, ℕ, ◌≤◌, ◌<◌, Bool, true, false, List, [], ◌∷◌, ◌++◌, length, refl, sym, ap, ◌∙◌, subst}
+use Rattle.std.specs.Prelude.{nat_le, Some, None, MatchOption, if◌then◌else◌, Result, Ok, Err, IsErrAnd}
+use Rattle.std.specs.List.{list_any, filter}
+use Rattle.std.proofs.lemmas.Bool.{le-leb, lt-leb}
+use Rattle.exact_plane.specs.Point.{Point}
+use Rattle.plane_graphs.specs.Graph.{graph}
+use Rattle.plane_graphs.specs.Line.{IsProper, same_point}
+use Rattle.plane_graphs.specs.Piece.{Present}
+use Rattle.edit_steps.specs.Allowed.{AreSound}
+use Rattle.edit_steps.specs.Edits.{Pin, IsAccepted, after, steps}
+use Rattle.edit_steps.specs.Layer.{Layer, IsAcceptedBy, layer_after}
+use Rattle.edit_steps.specs.Steps.{SetPin as SetPinAt, missing_points, pin_steps, vertex_steps}
+use Rattle.edit_steps.proofs.Laws.{are_sound}
+use Rattle.slab_laws.specs.declared.names.VertexId.{VertexId}
+use Rattle.slab_laws.specs.Sound.{IsGraphSound}
+use Rattle.slab_laws.specs.View.{View}
+use Rattle.view_changes.specs.Writers.{with_pin}
+use Rattle.arr_notes.specs.declared.change.Change.TheVariants.{SetPin}
+use Rattle.arr_notes.specs.Curves.{Curves}
+use Rattle.curve_history.specs.Past.{Past, held, SameLayer}
+use Rattle.record_graphs.specs.Graph.{drawn_graph}
+use Rattle.record_graphs.specs.Laws.{IsVertexAt}
+use Rattle.record_layers.specs.Kept.{IsLayer, layer_of, Makes}
+use Rattle.record_layers.proofs.Layers.{steps_make_layers}
+use Rattle.record_layers.proofs.Runs.{made_in_turn, made_is_run}
+use Rattle.sound_splits.proofs.Vertices.{pinned}
+use Rattle.pin_points.specs.declared.pins.PinError.{PinError}
+use Rattle.pin_points.specs.declared.pins.PinError.TheVariants.{Pinned, Full, NoMemory}
+use Rattle.pin_points.specs.Pins.{refusal, new_vertex_steps}
+use Rattle.pin_points.proofs.Counted.{pins_counted}
+use Rattle.pin_points.proofs.Made.{made_by, first_sound, graph_points}
+
+-- ---- why it is refused
+module _ (limit : ℕ) (pins : List Point) (p : Point) (A : Type 0) (B : PinError → Type 0) where
+  refused_by : (a b : Bool) → list_any (same_point p) pins ≡ a → nat_le limit (length pins) ≡ b → MatchOption (if a then Some Pinned else (if b then Some (Full limit) else None)) A B → MatchOption (refusal limit pins p) A B
+  refused_by a b e f m = subst (λ z. MatchOption (if z then Some Pinned else (if nat_le limit (length pins) then Some (Full limit) else None)) A B) (sym e) (subst (λ z. MatchOption (if a then Some Pinned else (if z then Some (Full limit) else None)) A B) (sym f) m)
+
+  pub refused_pinned : list_any (same_point p) pins ≡ true → B Pinned → MatchOption (refusal limit pins p) A B
+  refused_pinned e m = refused_by true (nat_le limit (length pins)) e refl m
+
+  pub refused_full : list_any (same_point p) pins ≡ false → limit ≤ length pins → B (Full limit) → MatchOption (refusal limit pins p) A B
+  refused_full e f m = refused_by false true e (le-leb limit (length pins) f) m
+
+  pub not_refused : list_any (same_point p) pins ≡ false → length pins < limit → A → MatchOption (refusal limit pins p) A B
+  not_refused e f m = refused_by false false e (lt-leb limit (length pins) f) m
+
+pub no_memory : {A : Type 0} (r : Result A PinError) → IsErrAnd r (λ e. e ≡ NoMemory) → r ≡ Err NoMemory
+no_memory (Err e) m = ap Err m
+no_memory (Ok a) m = absurd m
+
+-- ---- its steps
+pin_steps_are : (o : Present) (p : Point) → steps (Pin p) o ≡ new_vertex_steps p (graph o) ++ (SetPinAt p ∷ [])
+unfolding steps pin_steps
+pin_steps_are o p = ap (λ vs. vertex_steps (missing_points (p ∷ []) vs) (graph o) ++ (SetPinAt p ∷ [])) (sym (graph_points o))
+
+module _ (v : View) (q : Past) (l : IsLayer v q) (p : Point) (proper : IsProper p) where
+  abbrev h : Curves
+  h = held q
+
+  abbrev o : Layer
+  o = layer_of v q
+
+  steps_are : steps (Pin p) o.present ≡ new_vertex_steps p (drawn_graph v h) ++ (SetPinAt p ∷ [])
+  steps_are = pin_steps_are o.present p ∙ ap (λ g. new_vertex_steps p g ++ (SetPinAt p ∷ [])) (sym l.stands)
+
+  module _ (bare : list_any (same_point p) o.present.pins ≡ false) where
+    accepted : IsAcceptedBy (Pin p) o
+    unfolding IsAccepted
+    accepted = (proper, bare)
+
+    -- the graph stays plane while the point becomes a vertex
+    pub stays_plane : AreSound (new_vertex_steps p (drawn_graph v h)) (drawn_graph v h)
+    stays_plane =
+        let k = are_sound (Pin p) o.present l.lawful.fit accepted in
+        subst (λ g. AreSound (new_vertex_steps p g) g) (sym l.stands) (first_sound (new_vertex_steps p (graph o.present)) (SetPinAt p ∷ []) (graph o.present) (subst (λ ss. AreSound ss (graph o.present)) (pin_steps_are o.present p) k))
+
+    module _ (x : View) (k : Curves) (made : Makes v h (new_vertex_steps p (drawn_graph v h)) x k) (w : VertexId) (at : IsVertexAt x p w) (y : View) (set : y ≡ with_pin x w true) where
+      x_sound : IsGraphSound x
+      x_sound = (made_is_run v h (new_vertex_steps p (drawn_graph v h)) x k l.sound l.curves made).sound
+
+      y_sound : IsGraphSound y
+      y_sound = subst IsGraphSound (sym set) (pinned x w true x_sound)
+
+      pub pin_made : Makes v h (steps (Pin p) o.present) y k
+      pin_made =
+          subst (λ ss. Makes v h ss y k) (sym steps_are)
+          (made_in_turn v h (new_vertex_steps p (drawn_graph v h)) (SetPinAt p ∷ []) x k y k made (made_by x k (SetPinAt p) (SetPin w) y k at.has (ap SetPinAt at.at) y_sound set (λ d. refl)))
+
+    pub pin_layer : (y : View) (r : Past) → Makes v h (steps (Pin p) o.present) y (held r) → SameLayer q r → IsLayer y r × (layer_of y r ≡ layer_after (Pin p) o)
+    unfolding after
+    pin_layer y r made n = steps_make_layers (Pin p) v q y r l accepted made n.pieces n.names n.next
+
+  -- ---- how many pins there are
+  pub counted : length o.present.pins ≡ length (filter (λ r. r.1.pinned) v.vertices)
+  counted = pins_counted v h l.sound

@@ -1,0 +1,198 @@
+-- A pin fewer: its steps, and the layer after it.
+use Rattle.std.proofs.Common.{◌≡◌, ◌≢◌, true, false, not, List, [], ◌∷◌, refl, sym, ap, ◌∙◌, subst, inl, inr}
+use Rattle.std.specs.List.{list_any}
+use Rattle.exact_plane.specs.Point.{Point}
+use Rattle.exact_plane.specs.PointOrder.{point_cmp}
+use Rattle.exact_plane.specs.PointOrderLaws.{point_cmp_total}
+use Rattle.plane_graphs.specs.Ascending.{Member}
+use Rattle.plane_graphs.specs.Fit.{IsFit}
+use Rattle.plane_graphs.specs.Graph.{Graph, graph, graph_over, vertices}
+use Rattle.plane_graphs.specs.Line.{IsProper, same_point}
+use Rattle.plane_graphs.specs.Piece.{Present}
+use Rattle.plane_graphs.proofs.Ascending.{ascending_unique}
+use Rattle.plane_graphs.proofs.Lists.{IsAscending-filter, any_out, any_none, clash, decide, in_filter, of_filter, not_in, not_out}
+use Rattle.plane_graphs.proofs.Lines.{geometry}
+use Rattle.plane_graphs.proofs.Order.{same_in, same_out, same_itself}
+use Rattle.plane_graphs.proofs.Vertices.{IsVertex, vertex_in, vertex_out, vertices_ascend, vertices_closed}
+use Rattle.plane_graphs.proofs.Vertices.IsVertex.{begins, finishes, pinned, crossed}
+use Rattle.edit_steps.specs.Edits.{Unpin, IsAccepted, after, steps}
+use Rattle.edit_steps.specs.Laws.{IsLoose}
+use Rattle.edit_steps.specs.Layer.{Layer, IsAcceptedBy, layer_after}
+use Rattle.edit_steps.specs.Steps.{ClearPin as ClearPinAt, apply, run, missing_points, tidy_step, tidy_steps, unpin_steps, with_tidying, without_pin}
+use Rattle.edit_steps.proofs.Edits.{fit_unpin, unpin_sub}
+use Rattle.edit_steps.proofs.Seen.{loose_is_no_vertex}
+use Rattle.slab_laws.specs.declared.names.VertexId.{VertexId}
+use Rattle.slab_laws.specs.Sound.{IsGraphSound}
+use Rattle.slab_laws.specs.View.{View, HasVertex, point_in, pinned_in}
+use Rattle.view_changes.specs.Reads.{IsPinSet}
+use Rattle.view_changes.specs.Writers.{with_pin}
+use Rattle.view_changes.proofs.Vertices.{pin_is_set}
+use Rattle.arr_notes.specs.declared.change.Change.TheVariants.{ClearPin}
+use Rattle.arr_notes.specs.Curves.{Curves, AreCurvesOf}
+use Rattle.curve_history.specs.Past.{Past, held, SameLayer}
+use Rattle.record_graphs.specs.Graph.{drawn_graph}
+use Rattle.graph_steps.specs.Laws.{IsApplied}
+use Rattle.graph_steps.proofs.Changes.{changes_are_steps}
+use Rattle.record_layers.specs.Kept.{IsLayer, layer_of, Makes}
+use Rattle.record_layers.proofs.Layers.{steps_make_layers}
+use Rattle.sound_splits.proofs.Vertices.{pinned as pin_sound}
+use Rattle.pin_points.specs.Tidied.{IsTidied}
+use Rattle.pin_points.proofs.Spotted.{pinned_vertex}
+
+empty : (xs : List Point) → ((x : Point) → Member x xs → ⊥) → xs ≡ []
+empty [] f = refl
+empty (x ∷ xs) f = absurd (f x (inl refl))
+
+-- ---- which vertices a present loses with a pin: none but its point
+module _ (o : Present) (fit : IsFit o) (p : Point) (there : Member p o.pins) where
+  abbrev q : Present
+  q = without_pin o p
+
+  abbrev vs : List Point
+  vs = vertices o
+
+  abbrev ws : List Point
+  ws = vertices q
+
+  kept_by : (x : Point) → x ≢ p → IsVertex o x → Member x ws
+  kept_by x ne (begins k h e) = vertex_in q x (begins k h e)
+  kept_by x ne (finishes k h e) = vertex_in q x (finishes k h e)
+  kept_by x ne (pinned h) = vertex_in q x (pinned (in_filter (λ z. not (same_point z p)) x o.pins h (not_in (same_point x p) (λ e. ne (same_out x p e)))))
+  kept_by x ne (crossed c) = vertex_in q x (crossed (record { one = c.one; other = c.other; one_here = c.one_here; other_here = c.other_here; apart = c.apart; on_one = c.on_one; on_other = c.on_other; is = c.is }))
+
+  is_vertex : Member p vs
+  is_vertex = vertex_in o p (pinned there)
+
+  not_member : (x : Point) → (Member x ws → ⊥) → not (list_any (same_point x) ws) ≡ true
+  not_member x none = not_in (list_any (same_point x) ws) (λ t. let y = any_out (same_point x) ws t in none (subst (λ z. Member z ws) (sym (same_out x y.0 y.2)) y.1))
+
+  -- a missing point is no new vertex
+  missing_out : (x : Point) → Member x (missing_points vs ws) → Member x vs × (Member x ws → ⊥)
+  unfolding missing_points
+  missing_out x m =
+      let k = of_filter (λ y. not (list_any (same_point y) ws)) x vs m in
+      (k.0, λ n. any_none (same_point x) x ws (not_out (list_any (same_point x) ws) k.1) n (same_itself x))
+
+  missing_in : (x : Point) → Member x vs → (Member x ws → ⊥) → Member x (missing_points vs ws)
+  unfolding missing_points
+  missing_in x m none = in_filter (λ y. not (list_any (same_point y) ws)) x vs m (not_member x none)
+
+  is_it : (x : Point) → Member x (missing_points vs ws) → x ≡ p
+  is_it x m =
+      let k = missing_out x m in
+      elim (decide (same_point x p)) [
+        | inl e ↦ same_out x p e
+        | inr e ↦ absurd (k.1 (kept_by x (λ i. clash (same_in x p i) e) (vertex_out o x k.0)))
+      ]
+
+  one_lost : (Member p ws → ⊥) → missing_points vs ws ≡ p ∷ []
+  unfolding missing_points
+  one_lost none =
+      ascending_unique point_cmp point_cmp_total (missing_points vs ws) (p ∷ []) (IsAscending-filter point_cmp (λ y. not (list_any (same_point y) ws)) vs (vertices_ascend o)) (tt, tt)
+      (λ x m. inl (is_it x m))
+      (λ x m. elim m [ inl e ↦ subst (λ z. Member z (missing_points vs ws)) (sym e) (missing_in p is_vertex none) | inr n ↦ absurd n ])
+
+  none_lost : Member p ws → missing_points vs ws ≡ []
+  none_lost here = empty (missing_points vs ws) (λ x m. (missing_out x m).1 (subst (λ z. Member z ws) (sym (is_it x m)) here))
+
+  -- ---- that is told by the graph without the pin
+  abbrev G : Graph
+  G = graph_over vs o.pieces q.pins
+
+  unpinned : Member p q.pins → ⊥
+  unpinned m = clash (same_itself p) (not_out (same_point p p) (of_filter (λ z. not (same_point z p)) p o.pins m).1)
+
+  vertices_proper : (x : Point) → Member x vs → IsProper x
+  vertices_proper x m = (vertices_closed geometry o fit).proper x m
+
+  goes : IsLoose G p → Member p ws → ⊥
+  goes l m = loose_is_no_vertex.go q vs p (fit_unpin geometry o p fit) (vertices_ascend o) vertices_proper (λ x n. unpin_sub geometry o p x n) is_vertex unpinned l m
+
+  stays : (IsLoose G p → ⊥) → Member p ws
+  stays n = elim (decide (list_any (same_point p) ws)) [
+    | inl e ↦ let y = any_out (same_point p) ws e in subst (λ z. Member z ws) (sym (same_out p y.0 y.2)) y.1
+    | inr e ↦ absurd (n (loose_is_no_vertex.stay q vs p (fit_unpin geometry o p fit) (vertices_ascend o) vertices_proper (λ x n. unpin_sub geometry o p x n) is_vertex (λ m. any_none (same_point p) p ws e m (same_itself p))).0)
+  ]
+
+  -- the steps: none, or the one that takes the vertex away
+  pub loose_steps : IsLoose G p → tidy_steps (missing_points vs ws) G ≡ tidy_step p G ∷ []
+  unfolding tidy_steps
+  loose_steps l = ap (λ ps. tidy_steps ps G) (one_lost (goes l))
+
+  pub held_steps : (IsLoose G p → ⊥) → tidy_steps (missing_points vs ws) G ≡ []
+  unfolding tidy_steps
+  held_steps n = ap (λ ps. tidy_steps ps G) (none_lost (stays n))
+
+  pub all_steps : steps (Unpin p) o ≡ ClearPinAt p ∷ tidy_steps (missing_points vs ws) G
+  unfolding steps unpin_steps with_tidying run graph apply
+  all_steps = refl
+
+cleared_graph : (o : Present) (p : Point) → apply (ClearPinAt p) (graph o) ≡ graph_over (vertices o) o.pieces (without_pin o p).pins
+unfolding apply graph
+cleared_graph o p = refl
+
+module _ (v : View) (r : Past) (l : IsLayer v r) (w : VertexId) (has : HasVertex v w) (pin : pinned_in v w ≡ true) where
+  abbrev h : Curves
+  h = held r
+
+  abbrev o : Layer
+  o = layer_of v r
+
+  abbrev p : Point
+  p = point_in v w
+
+  was_pinned : list_any (same_point p) o.present.pins ≡ true
+  was_pinned = pinned_vertex v h l.sound p w has refl ∙ pin
+
+  there : Member p o.present.pins
+  there = let y = any_out (same_point p) o.present.pins was_pinned in subst (λ z. Member z o.present.pins) (sym (same_out p y.0 y.2)) y.1
+
+  accepted : IsAcceptedBy (Unpin p) o
+  unfolding IsAccepted
+  accepted = was_pinned
+
+  -- ---- without the pin
+  abbrev v1 : View
+  v1 = with_pin v w false
+
+  set : IsPinSet v v1 w false
+  set = pin_is_set v w false
+
+  cleared : IsApplied v h (ClearPin w)
+  cleared = changes_are_steps v h (ClearPin w) l.sound l.curves has
+
+  pub clear_sound : IsGraphSound v1
+  clear_sound = pin_sound v w false l.sound
+
+  pub clear_curves : AreCurvesOf v1 h
+  clear_curves = cleared.curves
+
+  pub clear_has : HasVertex v1 w
+  clear_has = set.has w has
+
+  pub clear_unpinned : pinned_in v1 w ≡ false
+  clear_unpinned = set.pinned has
+
+  abbrev rest : Graph
+  rest = graph_over (vertices o.present) o.present.pieces (without_pin o.present p).pins
+
+  drawn : drawn_graph v1 h ≡ rest
+  drawn = cleared.graph ∙ ap (apply (ClearPinAt p)) l.stands ∙ cleared_graph o.present p
+
+  -- ---- and tidied
+  module _ (x : View) (k : Curves) (t : IsTidied v1 h (point_in v1 w) x k) where
+    tidied : IsTidied v1 h p x k
+    tidied = subst (λ z. IsTidied v1 h z x k) (set.point w) t
+
+    tidy_made : Makes v1 h (tidy_steps (missing_points (vertices o.present) (vertices (without_pin o.present p))) rest) x k
+    tidy_made = elim tidied [
+      | inl e ↦ subst (λ ss. Makes v1 h ss x k) (sym (loose_steps o.present l.lawful.fit p there (subst (λ g. IsLoose g p) drawn e.0))) (subst (λ g. Makes v1 h (tidy_step p g ∷ []) x k) drawn e.1)
+      | inr e ↦ subst (λ ss. Makes v1 h ss x k) (sym (held_steps o.present l.lawful.fit p there (λ i. e.0 (subst (λ g. IsLoose g p) (sym drawn) i)))) e.1
+    ]
+
+    pub unpin_made : Makes v h (steps (Unpin p) o.present) x k
+    unpin_made = subst (λ ss. Makes v h ss x k) (sym (all_steps o.present l.lawful.fit p there)) (ClearPin w, record { fits = has; tells = refl; sound = clear_sound }, tidy_made)
+
+  pub unpin_layer : (y : View) (q : Past) → Makes v h (steps (Unpin p) o.present) y (held q) → SameLayer r q → IsLayer y q × (layer_of y q ≡ layer_after (Unpin p) o)
+  unfolding after
+  unpin_layer y q made n = steps_make_layers (Unpin p) v r y q l accepted made n.pieces n.names n.next

@@ -1,0 +1,192 @@
+ghost use Rattle.std.specs.Prelude.{◌≡◌, ◌⊎◌, ◌≤◌, true, false, [], ◌∷◌, length, MatchOption, Ok, Err, IsOk, IfOk, OnOk, OnErr};
+ghost use Rattle.std.specs.List.{list_any};
+ghost use Rattle.plane_graphs.specs.Line.{IsProper, same_point};
+ghost use Rattle.edit_steps.specs.Allowed.{AreSound};
+ghost use Rattle.edit_steps.specs.Edits.{Pin, Unpin, steps};
+ghost use Rattle.edit_steps.specs.Layer.{layer_after};
+ghost use Rattle.edit_steps.specs.Steps.{SplitEdge, missing_points, vertex_steps};
+ghost use Rattle.slab_laws.specs.Sound.{IsGraphSound};
+ghost use Rattle.slab_laws.specs.View.{HasVertex, point_in, source_in, target_in};
+ghost use Rattle.dcel_records.specs.Spots.{IsSpotOf};
+ghost use Rattle.arr_notes.specs.Curves.{AreCurvesOf};
+ghost use Rattle.edge_split_merge.specs.Splits.{CanSplit};
+ghost use Rattle.record_graphs.specs.Graph.{drawn_graph};
+ghost use Rattle.record_graphs.specs.Laws.{IsVertexAt};
+ghost use Rattle.curve_history.specs.Past.{held, SameLayer, SameCurves};
+ghost use Rattle.record_layers.specs.Kept.{IsLayer, layer_of, Makes};
+ghost use Rattle.pin_points.specs.Pins.{refusal, is_pinned_spot, pairs_parted, new_vertex_steps};
+
+use crate::full::is_full;
+use crate::tidy::tidy;
+use arr_notes::Change;
+use curve_history::History;
+use dcel_records::{Records, Room, Spot};
+use edge_split_merge::split;
+use exact_plane::Point;
+use locate_naive::vertex_at;
+use no_memory::NoMemory;
+use slab_laws::{DartId, Darts, VertexId};
+use std::alloc::Global;
+
+/// Why a point isn't pinned.
+#[derive(Clone, Copy, Debug, PartialEq, Eq)]
+pub enum PinError {
+    /// It is pinned already.
+    Pinned,
+    /// One pin more would pass this limit.
+    Full(u32),
+    /// There was no memory for a vertex there.
+    NoMemory,
+}
+
+impl From<NoMemory> for PinError {
+    ghost use Rattle.pin_points.specs.declared.pins.PinError.TheVariants.{NoMemory as OutOfMemory};
+
+    ghost from_gives = { λ _ e. e ≡ OutOfMemory };
+
+    fn from(_error: NoMemory) -> PinError {
+        PinError::NoMemory
+    }
+}
+
+/// The point isn't pinned.
+#[derive(Clone, Copy, Debug, PartialEq, Eq)]
+pub struct NotPinned;
+
+// Whether the spot is a pinned vertex.
+fn is_pinned(records: &Records, at: Spot) -> bool
+    requires { (p : _) × IsSpotOf records.now.graph p at }
+    ensures { result ≡ is_pinned_spot records.now.graph at }
+{
+    match at {
+        Spot::Vertex(vertex) => records.pinned(vertex),
+        Spot::Edge(_) | Spot::Face => false,
+    }
+}
+
+// How many curves run along the edge that goes in two at the spot.
+fn count_parted(history: &History, at: Spot) -> Result<usize, NoMemory>
+    ensures { IfOk result (λ n. n ≡ pairs_parted history.now at) }
+{
+    match at {
+        Spot::Edge(d) => history.count_on(d),
+        Spot::Vertex(_) | Spot::Face => Ok(0),
+    }
+}
+
+// Makes room for a vertex at the spot.
+fn make_room(records: &mut Records, history: &mut History, at: Spot) -> Result<(), NoMemory>
+    ensures vertices { OnOk result (1 ≤ records.new.spare_vertices) }
+    ensures darts { OnOk result (2 ≤ records.new.spare_darts) }
+    ensures pairs { OnOk result (pairs_parted history.new at ≤ history.new.spare_pairs) }
+    ensures graph { records.new.graph ≡ records.old.graph }
+    ensures layer { SameLayer history.old history.new }
+    ensures curves { SameCurves history.old history.new }
+{
+    records.reserve(Room {
+        vertices: 1,
+        edges: 1,
+    })?;
+    let pairs = count_parted(&*history, at)?;
+    history.reserve(0, 0, pairs)
+}
+
+// The edge of the dart goes in two at the point, and both parts have its curves.
+fn part_edge(records: &mut Records, history: &mut History, d: DartId, p: Point) -> VertexId
+    requires sound { IsGraphSound records.old.graph }
+    requires curves { AreCurvesOf records.old.graph (held history.old) }
+    requires point { IsProper p }
+    requires fits { CanSplit records.old.graph d p }
+    requires vertices { 1 ≤ records.old.spare_vertices }
+    requires darts { 2 ≤ records.old.spare_darts }
+    requires pairs { length (held history.old d) ≤ history.old.spare_pairs }
+    ensures made { Makes records.old.graph (held history.old) (SplitEdge (point_in records.old.graph (source_in records.old.graph d)) (point_in records.old.graph (target_in records.old.graph d)) p ∷ []) records.new.graph (held history.new) }
+    ensures vertex { IsVertexAt records.new.graph p result }
+    ensures layer { SameLayer history.old history.new }
+{
+    let change = split(records, d, p);
+    let Change::SplitEdge { v, n, .. } = change else {
+        unreachable!()
+    };
+    history.part(d, n);
+    v
+}
+
+// The point becomes a vertex where it is none, in room that is there.
+fn make_vertex(records: &mut Records, history: &mut History, at: Spot, p: Point) -> VertexId
+    requires sound { IsGraphSound records.old.graph }
+    requires curves { AreCurvesOf records.old.graph (held history.old) }
+    requires point { IsProper p }
+    requires spot { IsSpotOf records.old.graph p at }
+    requires plane { AreSound (new_vertex_steps p (drawn_graph records.old.graph (held history.old))) (drawn_graph records.old.graph (held history.old)) }
+    requires vertices { 1 ≤ records.old.spare_vertices }
+    requires darts { 2 ≤ records.old.spare_darts }
+    requires pairs { pairs_parted history.old at ≤ history.old.spare_pairs }
+    ensures made { Makes records.old.graph (held history.old) (new_vertex_steps p (drawn_graph records.old.graph (held history.old))) records.new.graph (held history.new) }
+    ensures vertex { IsVertexAt records.new.graph p result }
+    ensures layer { SameLayer history.old history.new }
+{
+    match at {
+        Spot::Vertex(vertex) => vertex,
+        Spot::Edge(d) => part_edge(records, history, d, p),
+        Spot::Face => records.add_vertex(p),
+    }
+}
+
+/// The point becomes a vertex where it is none, and is pinned; `at` is its spot, `pins` the limit of pins. All memory is taken
+/// before the first change.
+pub fn pin(
+    alloc: Global,
+    records: &mut Records,
+    history: &mut History,
+    pins: u32,
+    at: Spot,
+    p: &Point,
+) -> Result<(), PinError>
+    requires layer { IsLayer records.old.graph history.old }
+    requires spot { IsSpotOf records.old.graph p.now at }
+    ensures layer { IsLayer records.new.graph history.new }
+    ensures edit { OnOk result (layer_of records.new.graph history.new ≡ layer_after (Pin p.now) (layer_of records.old.graph history.old)) }
+    ensures steps { OnOk result (Makes records.old.graph (held history.old) (steps (Pin p.now) (layer_of records.old.graph history.old).present) records.new.graph (held history.new)) }
+    ensures refused { MatchOption (refusal pins (layer_of records.old.graph history.old).present.pins p.now) (IsOk result ⊎ (result ≡ Err PinError.NoMemory)) (λ e. result ≡ Err e) }
+    ensures graph { OnErr result (records.new.graph ≡ records.old.graph) }
+    ensures same_layer { OnErr result (SameLayer history.old history.new) }
+    ensures same_curves { OnErr result (SameCurves history.old history.new) }
+{
+    // A call on the point tells that its numbers are a point's.
+    let _weight = p.w();
+    if is_pinned(&*records, at) {
+        return Err(PinError::Pinned);
+    }
+    if is_full(&*records, pins) {
+        return Err(PinError::Full(pins));
+    }
+    make_room(records, history, at)?;
+    let vertex = make_vertex(records, history, at, *p);
+    records.set_pin(vertex);
+    Ok(())
+}
+
+/// The point isn't pinned any more; where nothing else calls for the vertex, its two edges become one, or, without edges, it
+/// goes. It takes no memory.
+pub fn unpin(records: &mut Records, history: &mut History, p: &Point) -> Result<(), NotPinned>
+    requires layer { IsLayer records.old.graph history.old }
+    ensures layer { IsLayer records.new.graph history.new }
+    ensures edit { OnOk result (layer_of records.new.graph history.new ≡ layer_after (Unpin p.now) (layer_of records.old.graph history.old)) }
+    ensures steps { OnOk result (Makes records.old.graph (held history.old) (steps (Unpin p.now) (layer_of records.old.graph history.old).present) records.new.graph (held history.new)) }
+    ensures done { OnOk result (list_any (same_point p.now) (layer_of records.old.graph history.old).present.pins ≡ true) }
+    ensures graph { OnErr result (records.new.graph ≡ records.old.graph) }
+    ensures same_layer { OnErr result (SameLayer history.old history.new) }
+    ensures same_curves { OnErr result (SameCurves history.old history.new) }
+    ensures refused { OnErr result (list_any (same_point p.now) (layer_of records.old.graph history.old).present.pins ≡ false) }
+{
+    let Some(vertex) = vertex_at(&*records, p) else {
+        return Err(NotPinned);
+    };
+    if !records.pinned(vertex) {
+        return Err(NotPinned);
+    }
+    records.clear_pin(vertex);
+    tidy(records, history, vertex);
+    Ok(())
+}

@@ -1,0 +1,16 @@
+use Rattle.std.proofs.Common.{◌++◌, map, sym, ap, ◌∙◌}
+use Rattle.std.proofs.lemmas.List.{take_all}
+use Rattle.plane_graphs.specs.Graph.{mark}
+use Rattle.slab_laws.specs.declared.names.CurveId.{CurveId}
+use Rattle.present_graphs.specs.Marks.{mark_of}
+use Rattle.plain_slabs.proofs.CurveLists.{map_map}
+use Rattle.plain_slabs.proofs.names.add_marks.Goals as goal
+
+pub returns-clause-marks : goal.returns-clause-marks
+returns-clause-marks g c =
+    let k = c.args.dart.now in
+    let old = map mark_of c.args.marks.now.items in
+    let read = take_all c.loop-curve.curve-index c.deref-curve-items.result.now c.loop-curve-test.false ∙ c.deref-curve-items.ensures.value ∙ c.in_ok-curves.ensures.curves in
+    c.loop-curve.invariant
+    ∙ ap (λ cs. old ++ map (λ (x : CurveId). mark k.source k.target x.0) cs) read
+    ∙ ap (λ ms. old ++ ms) (sym (map_map (λ x. x.0) (mark k.source k.target) (g.R.Curved.curve_list c.args.records.now c.args.dart.now.name)))

@@ -1,0 +1,18 @@
+use Rattle.std.proofs.Common.{sym, ap, subst, ◌∙◌}
+use Rattle.plane_graphs.specs.Graph.{Graph}
+use Rattle.slab_laws.specs.Subdivision.{subdivision}
+use Rattle.slab_laws.specs.Text.{skeleton}
+use Rattle.listed_views.specs.Listed.{Drawing, view_of, faces_of}
+use Rattle.listed_views.specs.Standing.{IsStanding}
+use Rattle.listed_views.proofs.Standing.{lists_stand}
+use Rattle.plain_slabs.proofs.names.subdivide_of.Goals as goal
+
+pub returns-clause-graph : goal.returns-clause-graph
+returns-clause-graph g c = ap (λ (d : Drawing). d.graph) c.in_ok-plain.ensures ∙ c.in_ok-parts.ensures.graph
+
+pub returns-clause-subdivision : goal.returns-clause-subdivision
+returns-clause-subdivision g c = ap (λ (d : Drawing). subdivision (skeleton d.graph)) c.in_ok-plain.ensures ∙ ap (λ (g : Graph). subdivision (skeleton g)) c.in_ok-parts.ensures.graph
+
+pub returns-clause-stands : goal.returns-clause-stands
+returns-clause-stands g c =
+    subst (λ (d : Drawing). IsStanding (view_of d) (faces_of d)) (sym c.in_ok-plain.ensures) (lists_stand _ c.in_ok-parts.ensures.plane c.in_ok-parts.ensures.lines)

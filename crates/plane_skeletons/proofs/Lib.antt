@@ -1,0 +1,4 @@
+pub mod Inner
+pub mod Ends
+pub mod Marked
+pub mod Drawn

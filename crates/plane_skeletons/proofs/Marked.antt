@@ -1,0 +1,54 @@
+-- The graph with the vertices and edges of a skeleton, each edge with one curve.
+use Rattle.std.proofs.Common.{◌≡◌, List, [], ◌∷◌, map, refl, sym, ap, ◌∙◌, Ordering, Less, Equal, Greater}
+use Rattle.std.specs.List.{AllByRecursion}
+use Rattle.std.specs.Ordering.{ordering_then}
+use Rattle.exact_plane.specs.Point.{Point}
+use Rattle.exact_plane.specs.PointOrder.{point_cmp}
+use Rattle.plane_graphs.specs.Ascending.{Member, IsAscending, ascending}
+use Rattle.plane_graphs.specs.Line.{IsProper}
+use Rattle.plane_graphs.specs.Graph.{Graph, Mark, Edge, mark, mark_cmp, edge_cmp, edge_of, edges}
+use Rattle.plane_graphs.specs.Meaning.{IsListed}
+use Rattle.plane_graphs.proofs.Ascending.{ascending_is}
+use Rattle.plane_graphs.proofs.Meaning.{edge_cmp_total, edge_cmp_exact}
+use Rattle.slab_laws.specs.Skeleton.{Skeleton}
+
+abbrev marked : Edge → Mark
+marked e = mark e.low e.high 0
+
+abbrev pub graph_of : Skeleton → Graph
+graph_of g = record { points = g.vertices; marks = map marked g.edges; pins = [] }
+
+-- ---- the marks ascend
+less_still : (s t u : Ordering) → ordering_then s t ≡ Less → ordering_then s (ordering_then t u) ≡ Less
+less_still Less t u e = refl
+less_still Equal Less u e = refl
+less_still Equal Equal u e = cc
+less_still Equal Greater u e = cc
+less_still Greater t u e = cc
+
+marked_less : (e f : Edge) → edge_cmp e f ≡ Less → mark_cmp (marked e) (marked f) ≡ Less
+unfolding edge_cmp mark_cmp
+marked_less e f h = less_still (point_cmp e.low f.low) (point_cmp e.high f.high) _ h
+
+All-marked : (e : Edge) (es : List Edge) → AllByRecursion (λ f. edge_cmp e f ≡ Less) es → AllByRecursion (λ n. mark_cmp (marked e) n ≡ Less) (map marked es)
+All-marked e [] a = tt
+All-marked e (f ∷ es) a = (marked_less e f a.0, All-marked e es a.1)
+
+marks_ascend : (es : List Edge) → IsAscending edge_cmp es → IsAscending mark_cmp (map marked es)
+marks_ascend [] a = tt
+marks_ascend (e ∷ es) a = (All-marked e es a.0, marks_ascend es a.1)
+
+-- ---- its edges are those of the skeleton
+edges_of_marks : (es : List Edge) → map edge_of (map marked es) ≡ es
+edges_of_marks [] = refl
+edges_of_marks (e ∷ es) = ap (λ fs. e ∷ fs) (edges_of_marks es)
+
+module _ (g : Skeleton) (edges_ascend : IsAscending edge_cmp g.edges) where
+  pub same_edges : g.edges ≡ edges (graph_of g)
+  unfolding edges
+  same_edges =
+      ascending_is edge_cmp edge_cmp_total g.edges g.edges (λ e f m n. edge_cmp_exact e f) edges_ascend (λ e m. m) (λ e m. m)
+      ∙ ap (ascending edge_cmp) (sym (edges_of_marks g.edges))
+
+  pub listed : IsAscending point_cmp g.vertices → ((x : Point) → Member x g.vertices → IsProper x) → IsListed (graph_of g)
+  listed points proper = record { points_ascend = points; marks_ascend = marks_ascend g.edges edges_ascend; proper = proper }

@@ -1,0 +1,149 @@
+-- What the plan of an insertion gives to each of its parts.
+use Rattle.std.proofs.Common.{◌≡◌, ℕ, ◌+◌, ◌*◌, ◌≤◌, List, [], ◌∷◌, ◌++◌, true, map, length, Contains, is_lt, sym, ap, ap₂, ◌∙◌, subst, arith}
+use Rattle.std.proofs.lemmas.List.{length-map}
+use Rattle.exact_plane.specs.Point.{Point}
+use Rattle.exact_plane.specs.PointOrder.{point_cmp}
+use Rattle.exact_plane.specs.Segment.{Segment, AreEnds}
+use Rattle.plane_graphs.specs.Ascending.{Member, IsAscending}
+use Rattle.plane_graphs.specs.Fit.{IsFit}
+use Rattle.plane_graphs.specs.Graph.{chain}
+use Rattle.plane_graphs.specs.Line.{precedes}
+use Rattle.plane_graphs.specs.Piece.{Piece, Present}
+use Rattle.plane_graphs.proofs.Ascending.{to_member}
+use Rattle.plane_graphs.proofs.Lists.{in_map}
+use Rattle.edit_steps.specs.Allowed.{AreSound}
+use Rattle.edit_steps.specs.Edits.{Insert, after, steps, whole_piece, IsAccepted}
+use Rattle.edit_steps.specs.Layer.{Layer, layer_after, IsAcceptedBy}
+use Rattle.edit_steps.specs.Steps.{Step, with_piece, vertex_steps, missing_points, more_step}
+use Rattle.edit_steps.proofs.Laws.{keeps_fit}
+use Rattle.edit_steps.proofs.Layers.{layers_lawful}
+use Rattle.slab_laws.specs.Sound.{IsGraphSound}
+use Rattle.slab_laws.specs.View.{View}
+use Rattle.dcel_records.specs.declared.spot.Spot.{Spot}
+use Rattle.arr_notes.specs.Curves.{Curves, AreCurvesOf}
+use Rattle.curve_history.specs.Past.{Past, held}
+use Rattle.record_graphs.specs.Graph.{drawn_graph}
+use Rattle.record_layers.specs.Kept.{IsLayer, layer_of, Makes}
+use Rattle.zone_walk.specs.declared.plan.Meeting.{Meeting}
+use Rattle.zone_walk.specs.declared.plan.ZonePlan.{ZonePlan}
+use Rattle.zone_walk.specs.Zone.{IsZoneOf, AreSpotsBetween, is_on_segment, meeting_points, splits_needed}
+use Rattle.segment_insert.specs.Insertion.{points_of_meetings, AreMeetings, AreAllOn}
+use Rattle.record_layers.proofs.Layers.{steps_make_layers}
+use Rattle.segment_insert.proofs.Passing.{points_ascend}
+use Rattle.segment_insert.proofs.Whole as whole
+
+-- the steps of the two parts, by the points that they go along
+abbrev pub vertices_first : View → Curves → List Point → List Step
+vertices_first v b ps = vertex_steps (missing_points ps (drawn_graph v b).points) (drawn_graph v b)
+
+abbrev pub edges_then : View → Curves → ℕ → List Point → List Step
+edges_then w d c ps = map (more_step (drawn_graph w d)) (chain c ps)
+
+-- there is one point more than open parts
+parts_fewer : (v : View) (s : Segment) (ps : List Point) (spots : List Spot) → AreSpotsBetween v s ps spots → length ps ≡ length spots + 1
+parts_fewer v s [] spots b = absurd b
+parts_fewer v s (p ∷ []) [] b = omega arith
+parts_fewer v s (p ∷ []) (x ∷ spots) b = absurd b
+parts_fewer v s (p ∷ q ∷ ps) [] b = absurd b
+parts_fewer v s (p ∷ q ∷ ps) (x ∷ spots) b = let k = parts_fewer v s (q ∷ ps) spots b.1 in omega arith
+
+same_length : (ms ns : List Meeting) → points_of_meetings ns ≡ points_of_meetings ms → length ns ≡ length ms
+same_length ms ns e = sym (length-map ns (λ (m : Meeting). m.point)) ∙ ap length e ∙ length-map ms (λ (m : Meeting). m.point)
+
+-- the pieces and names of a history with one more of each
+pub one_piece : (old ps : List Piece) (c : ℕ) (g : Segment) (a b : Point) → ps ≡ old → a ≡ g.lower → b ≡ g.upper → ps ++ (record { curve = c; segment = g; from = a; to = b } ∷ []) ≡ old ++ (whole_piece c g ∷ [])
+one_piece old ps c g a b q e f = λ i. q i ++ (record { curve = c; segment = g; from = e i; to = f i } ∷ [])
+
+pub one_name : (old : List ℕ) (c n : ℕ) → c ≡ n → old ++ (n ∷ []) ≡ old ++ (c ∷ [])
+one_name old c n e = ap (λ k. old ++ (k ∷ [])) (sym e)
+
+-- records and history that are a layer, and the plan of a segment that gets the next number
+pub record IsPlanned (v : View) (past : Past) (g : Segment) (plan : ZonePlan) (c : ℕ) : Type 0 where
+  pub layer : IsLayer v past
+  pub ends : AreEnds g
+  pub zone : IsZoneOf v g plan
+  pub number : c ≡ past.next
+
+-- the meetings are vertices now; b are the history's curves before that
+pub record IsHalfMade (v : View) (past : Past) (plan : ZonePlan) (b : Curves) (w : View) (d : Curves) (ns : List Meeting) : Type 0 where
+  pub same : b ≡ held past
+  pub made : Makes v b (vertices_first v b (points_of_meetings plan.vertices.items)) w d
+  pub kept : points_of_meetings ns ≡ points_of_meetings plan.vertices.items
+
+module _ {v : View} {past : Past} {g : Segment} {plan : ZonePlan} {c : ℕ} (planned : IsPlanned v past g plan c) where
+  abbrev l : Layer
+  l = layer_of v past
+
+  abbrev p : Present
+  p = l.present
+
+  abbrev ms : List Meeting
+  ms = plan.vertices.items
+
+  pub accepted_by : IsAcceptedBy (Insert c g) l
+  accepted_by = (planned.number, ap (λ z. z.lower.w) planned.ends.whole, ap (λ z. z.upper.w) planned.ends.whole, (λ i. precedes (planned.ends.whole i).lower (planned.ends.whole i).upper) ∙ ap is_lt planned.ends.is.ascending)
+
+  accepted : IsAccepted (Insert c g) p
+  accepted = layers_lawful.accepted (Insert c g) l planned.layer.lawful accepted_by
+
+  fit : IsFit (with_piece p (whole_piece c g))
+  unfolding after
+  fit = keeps_fit (Insert c g) p planned.layer.lawful.fit accepted
+
+  pub meetings : AreMeetings v ms
+  meetings = record {
+    ascend = subst (IsAscending point_cmp) (sym planned.zone.points) (points_ascend v (held past) planned.layer.sound planned.layer.curves p g c planned.layer.stands fit);
+    spots = planned.zone.spots;
+  }
+
+  -- there are two darts for each open part
+  pub room_left : (ns : List Meeting) (before left : ℕ) → points_of_meetings ns ≡ points_of_meetings ms → 2 * plan.room.edges ≤ before → before ≤ left + 2 * splits_needed ms → 2 * length ns ≤ left + 2
+  room_left ns before left e fits uses =
+      let a = same_length ms ns e in
+      let b : length ms ≡ length plan.between.items + 1 = sym (length-map ms (λ (m : Meeting). m.point)) ∙ ap length planned.zone.points ∙ parts_fewer v g (meeting_points v g) plan.between.items planned.zone.between in
+      let d = planned.zone.edges in
+      omega arith
+
+  pub pairs_left : (ns : List Meeting) (before left parted : ℕ) → points_of_meetings ns ≡ points_of_meetings ms → length ms + parted ≤ before → before ≤ left + parted → length ns ≤ left
+  pairs_left ns before left parted e fits uses = let a = same_length ms ns e in omega arith
+
+  -- ---- by curves that are the history's
+  module _ (b : Curves) (same : b ≡ held past) where
+    pub curves_first : AreCurvesOf v b
+    curves_first = subst (AreCurvesOf v) (sym same) planned.layer.curves
+
+    first_is : vertices_first v b (points_of_meetings ms) ≡ vertices_first v (held past) (meeting_points v g)
+    first_is = ap₂ (vertices_first v) same planned.zone.points
+
+    pub sound_first : AreSound (vertices_first v b (points_of_meetings ms)) (drawn_graph v b)
+    sound_first = subst (λ z. AreSound z (drawn_graph v b)) (sym first_is) (subst (λ z. AreSound (vertices_first v (held past) (meeting_points v g)) (drawn_graph v z)) (sym same) (whole.first_sound v (held past) planned.layer.sound planned.layer.curves p g c planned.layer.stands fit accepted))
+
+  module _ {b : Curves} {w : View} {d : Curves} {ns : List Meeting} (half : IsHalfMade v past plan b w d ns) where
+    made_here : Makes v (held past) (vertices_first v (held past) (meeting_points v g)) w d
+    made_here = subst (λ z. Makes v z (vertices_first v (held past) (meeting_points v g)) w d) half.same (subst (λ z. Makes v b z w d) (first_is b half.same) half.made)
+
+    points : points_of_meetings ns ≡ meeting_points v g
+    points = half.kept ∙ planned.zone.points
+
+    pub sound_then : IsGraphSound w
+    sound_then = whole.sound_there v (held past) planned.layer.sound planned.layer.curves p g c planned.layer.stands fit accepted w d made_here
+
+    pub curves_then : AreCurvesOf w d
+    curves_then = whole.curves_there v (held past) planned.layer.sound planned.layer.curves p g c planned.layer.stands fit accepted w d made_here
+
+    pub all_on : AreAllOn w g (points_of_meetings ns)
+    all_on = subst (AreAllOn w g) (sym points) (whole.all_on v (held past) planned.layer.sound planned.layer.curves p g c planned.layer.stands fit accepted w d made_here)
+
+    pub each_on : (m : Meeting) → Contains ns m → is_on_segment g m.point ≡ true
+    each_on m k = whole.on_segment v (held past) planned.layer.sound planned.layer.curves p g c planned.layer.stands fit accepted m.point (subst (Member m.point) points (in_map (λ m. m.point) m ns (to_member ns m k)))
+
+    pub plane_then : AreSound (edges_then w d c (points_of_meetings ns)) (drawn_graph w d)
+    plane_then = subst (λ z. AreSound (edges_then w d c z) (drawn_graph w d)) (sym points) (whole.last_sound v (held past) planned.layer.sound planned.layer.curves p g c planned.layer.stands fit accepted w d made_here)
+
+    module _ (x : View) (q : Past) (then : Makes w d (edges_then w d c (points_of_meetings ns)) x (held q)) where
+      pub all_made : Makes v (held past) (steps (Insert c g) p) x (held q)
+      all_made = whole.made_whole v (held past) planned.layer.sound planned.layer.curves p g c planned.layer.stands fit accepted w d made_here x (held q) (subst (λ z. Makes w d (edges_then w d c z) x (held q)) points then)
+
+      pub layer_made : q.pieces ≡ past.pieces ++ (whole_piece c g ∷ []) → q.names ≡ past.names ++ (c ∷ []) → q.next ≡ past.next + 1 → IsLayer x q × (layer_of x q ≡ layer_after (Insert c g) l)
+      unfolding after
+      layer_made pieces names next = steps_make_layers (Insert c g) v past x q planned.layer accepted_by all_made pieces names next

@@ -1,0 +1,195 @@
+-- What holds while meetings become vertices, one after the other.
+use Rattle.std.proofs.Common.{arith, ◌≡◌, cond, not, ℕ, ◌+◌, ◌*◌, ◌<◌, ◌≤◌, add-one, get_or, take, drop, set, List, [], ◌∷◌, ◌++◌, length, refl, sym, ap, ap₂, ◌∙◌, subst, inl, inr, Less, is_lt}
+use Rattle.std.proofs.Math.Seq.{drop-cons, map-set_same}
+use Rattle.std.proofs.lemmas.Grind.{take-set_at}
+use Rattle.std.proofs.lemmas.List.{length-map, drop-set-lt, drop_all, take_all}
+use Rattle.std.proofs.lemmas.List.Sums.{sum_by-cons}
+use Rattle.exact_plane.specs.Point.{Point}
+use Rattle.exact_plane.specs.PointOrder.{point_cmp}
+use Rattle.plane_graphs.specs.Ascending.{Member, IsAscending}
+use Rattle.plane_graphs.specs.Line.{IsProper}
+use Rattle.plane_graphs.proofs.Ascending.{All-member, to_member, from_member}
+use Rattle.plane_graphs.proofs.Lists.{in_map, in_either}
+use Rattle.edit_steps.specs.Allowed.{AreSound}
+use Rattle.slab_laws.specs.declared.names.VertexId.{VertexId}
+use Rattle.slab_laws.specs.Sound.{IsGraphSound}
+use Rattle.slab_laws.specs.View.{View}
+use Rattle.arr_notes.specs.Curves.{Curves, AreCurvesOf}
+use Rattle.dcel_records.specs.declared.spot.Spot.{Spot}
+use Rattle.dcel_records.specs.declared.spot.Spot.TheVariants.{Vertex, Edge, Face}
+use Rattle.dcel_records.specs.Spots.{IsSpotOf}
+use Rattle.record_graphs.specs.Graph.{drawn_graph}
+use Rattle.record_layers.specs.Kept.{Makes}
+use Rattle.zone_walk.specs.Zone.{is_vertex, is_edge, vertices_needed, splits_needed}
+use Rattle.zone_walk.specs.declared.plan.Meeting.{Meeting}
+use Rattle.segment_insert.specs.Coming.{steps_at, IsSpotStill, IsMadeAt}
+use Rattle.segment_insert.specs.Coming.LeadsTo.{here}
+use Rattle.segment_insert.specs.Insertion.{points_of_meetings, AreMeetings, IsNamedVertex, AreVertices, pairs_at, pairs_to_part}
+use Rattle.segment_insert.proofs.VerticesFound.{face_new, edge_new}
+use Rattle.segment_insert.proofs.VerticesTurns.{IsTurn, turn, none_left, first_sound, missing_in, proper_by_steps}
+use Rattle.segment_insert.proofs.VerticesWalk.{leads_forward, leads_inside}
+
+-- the meetings that are still to come
+pub record IsComing (v : View) (h : Curves) (ms : List Meeting) : Type 0 where
+  pub sound : IsGraphSound v
+  pub curves : AreCurvesOf v h
+  pub ascend : IsAscending point_cmp (points_of_meetings ms)
+  pub spots : (m : Meeting) → Member m ms → IsSpotStill v h m.point m.spot
+  pub plane : AreSound (steps_at v h (points_of_meetings ms)) (drawn_graph v h)
+
+-- a spot that is right says where the point lies
+spot_still : (v : View) (h : Curves) (p : Point) (s : Spot) → IsSpotOf v p s → IsSpotStill v h p s
+spot_still v h p (Vertex w) k = k
+spot_still v h p (Edge d) k = (d, here k, refl)
+spot_still v h p Face k = k
+
+-- all are to come before the first
+pub all_coming : (v : View) (h : Curves) (ms : List Meeting) → IsGraphSound v → AreCurvesOf v h → AreMeetings v ms → AreSound (steps_at v h (points_of_meetings ms)) (drawn_graph v h) → IsComing v h ms
+all_coming v h ms s a k y = record { sound = s; curves = a; ascend = k.ascend; spots = λ m n. spot_still v h m.point m.spot (k.spots m (from_member ms m n)); plane = y }
+
+-- a point with a spot is a point of the plane: it is a vertex, or its step is sound
+proper_by_spot : (v : View) (h : Curves) (ps : List Point) (p : Point) (s : Spot) → IsGraphSound v → AreSound (steps_at v h ps) (drawn_graph v h) → Member p ps → IsSpotStill v h p s → IsProper p
+proper_by_spot v h ps p (Vertex w) s y m k = subst IsProper k.1 (s.drawn.proper w k.0)
+proper_by_spot v h ps p (Edge d) s y m k =
+    let i = leads_inside v p k.0 d k.1 in
+    proper_by_steps p _ (drawn_graph v h) y (missing_in p ps (drawn_graph v h).points m (edge_new v h s p k.0 i.0.0 i.1))
+proper_by_spot v h ps p Face s y m k = proper_by_steps p _ (drawn_graph v h) y (missing_in p ps (drawn_graph v h).points m (face_new v h s p k))
+
+-- ---- the next one
+module _ (v : View) (h : Curves) (m : Meeting) (ms : List Meeting) (c : IsComing v h (m ∷ ms)) where
+  pub next_spot : IsSpotStill v h m.point m.spot
+  next_spot = c.spots m (inl refl)
+
+  pub next_sound : AreSound (steps_at v h (m.point ∷ [])) (drawn_graph v h)
+  next_sound = first_sound v h c.sound c.curves m.point (points_of_meetings ms) c.ascend.0 c.plane
+
+  module _ (w : View) (k : Curves) (x : VertexId) (y : IsMadeAt v h w k m x) where
+    after : IsTurn v h m.point (points_of_meetings ms) w k
+    after = turn v h c.sound c.curves m.point (points_of_meetings ms) c.ascend.0 w k y.made
+
+    spots_after : (n : Meeting) → Member n ms → IsSpotStill w k n.point n.spot
+    spots_after n i =
+        let j : Member n.point (points_of_meetings ms) = in_map (λ o. o.point) n ms i in
+        let l : point_cmp m.point n.point ≡ Less = All-member (λ q. point_cmp m.point q ≡ Less) n.point (points_of_meetings ms) c.ascend.0 j in
+        y.later n.point n.spot (proper_by_spot v h (points_of_meetings (m ∷ ms)) n.point n.spot c.sound c.plane (inr j) (c.spots n (inr i))) (ap is_lt l) (c.spots n (inr i))
+
+    pub rest_coming : IsComing w k ms
+    rest_coming = record { sound = after.sound; curves = after.curves; ascend = c.ascend.1; spots = spots_after; plane = after.plane c.plane }
+
+    pub rest_made : (u : View) (l : Curves) → Makes w k (steps_at w k (points_of_meetings ms)) u l → Makes v h (steps_at v h (points_of_meetings (m ∷ ms))) u l
+    rest_made = after.made
+
+    pairs_still : (s : Spot) (p : Point) → IsSpotStill v h p s → pairs_at k s ≡ pairs_at h s
+    pairs_still (Vertex u) p z = refl
+    pairs_still (Edge d) p z = ap length (y.curves d (leads_forward v p z.0 d z.1).0)
+    pairs_still Face p z = refl
+
+    same_pairs : (ns : List Meeting) → ((n : Meeting) → Member n ns → IsSpotStill v h n.point n.spot) → pairs_to_part k ns ≡ pairs_to_part h ns
+    same_pairs [] f = refl
+    same_pairs (n ∷ ns) f = ap₂ (λ a b. a + b) (pairs_still n.spot n.point (f n (inl refl))) (same_pairs ns (λ o i. f o (inr i)))
+
+    pub rest_pairs : pairs_to_part k ms ≡ pairs_to_part h ms
+    rest_pairs = same_pairs ms (λ n i. c.spots n (inr i))
+
+-- ---- those that have come
+pub record AreNamed (v : View) (ms : List Meeting) : Type 0 where
+  pub each : (m : Meeting) → Member m ms → IsNamedVertex v m
+
+-- the meeting is told its vertex
+abbrev pub told_at : Meeting → VertexId → Meeting
+told_at m x = record { point = m.point; spot = Vertex x }
+
+pub named_more : (v : View) (h : Curves) (w : View) (k : Curves) (m : Meeting) (x : VertexId) (ms : List Meeting) → AreNamed v ms → IsMadeAt v h w k m x → AreNamed w (ms ++ told_at m x ∷ [])
+named_more v h w k m x ms a y = record {
+  each = λ n i. elim (in_either n ms (told_at m x ∷ []) i) [
+    | inl o ↦ let r = a.each n o in let z = y.vertices r.0 r.2 in (r.0, r.1, z.0, z.1 ∙ r.3)
+    | inr o ↦ elim o [
+      | inl e ↦ subst (IsNamedVertex w) (sym e) (x, refl, y.has, y.point)
+      | inr b ↦ absurd b
+    ]
+  ];
+}
+
+-- ---- what the first of some meetings needs
+pub vertices_first : (m : Meeting) (ms : List Meeting) → vertices_needed (m ∷ ms) ≡ vertices_needed (m ∷ []) + vertices_needed ms
+vertices_first m ms =
+    let f : Meeting → ℕ = λ n. cond (not (is_vertex n.spot)) 1 0 in
+    omega (arith, sum_by-cons f m ms, sum_by-cons f m [])
+
+pub darts_first : (m : Meeting) (ms : List Meeting) → 2 * splits_needed (m ∷ ms) ≡ 2 * splits_needed (m ∷ []) + 2 * splits_needed ms
+darts_first m ms =
+    let f : Meeting → ℕ = λ n. cond (is_edge n.spot) 1 0 in
+    omega (arith, sum_by-cons f m ms, sum_by-cons f m [])
+
+-- ---- a list and its next element
+tail_of : {X : Type 0} → List X → List X
+tail_of [] = []
+tail_of (x ∷ xs) = xs
+
+module _ {X : Type 0} where
+  pub first_left : (xs : List X) (i : ℕ) (x : X) → i < length xs → x ≡ get_or xs i x → drop i xs ≡ x ∷ drop (i + 1) xs
+  first_left xs i x l e = drop-cons xs i x l ∙ ap₂ (λ y n. y ∷ drop n xs) (sym e) (sym (add-one i))
+
+  left_after : (xs ys : List X) (i : ℕ) (x : X) → i < length xs → i < length ys → drop i xs ≡ drop i ys → drop (i + 1) xs ≡ drop (i + 1) ys
+  unfolding tail_of
+  left_after xs ys i x l k e =
+      ap (λ n. drop n xs) (add-one i) ∙ ap tail_of (sym (drop-cons xs i x l) ∙ e ∙ drop-cons ys i x k) ∙ sym (ap (λ n. drop n ys) (add-one i))
+
+-- ---- midway: the first i meetings are named vertices, the others are to come, and what is made of the records so far leaves the steps of these
+pub record IsMidway (v : View) (h : Curves) (ms : List Meeting) (w : View) (k : Curves) (ns : List Meeting) (i : ℕ) : Type 0 where
+  pub coming : IsComing w k (drop i ms)
+  pub then_made : (u : View) (l : Curves) → Makes w k (steps_at w k (points_of_meetings (drop i ms))) u l → Makes v h (steps_at v h (points_of_meetings ms)) u l
+  pub points : points_of_meetings ns ≡ points_of_meetings ms
+  pub rest : drop i ns ≡ drop i ms
+  pub named : AreNamed w (take i ns)
+
+pub at_start : (v : View) (h : Curves) (ms : List Meeting) → IsComing v h ms → IsMidway v h ms v h ms 0
+at_start v h ms c = record { coming = c; then_made = λ u l y. y; points = refl; rest = refl; named = record { each = λ m i. absurd i } }
+
+module _ (v : View) (h : Curves) (ms : List Meeting) (w : View) (k : Curves) (ns : List Meeting) (i : ℕ) (c : IsMidway v h ms w k ns i) where
+  pub same_length : length ns ≡ length ms
+  same_length = sym (length-map ns (λ m. m.point)) ∙ ap length c.points ∙ length-map ms (λ m. m.point)
+
+  module _ (m : Meeting) (l : i < length ns) (e : m ≡ get_or ns i m) where
+    -- the next one is the first of those to come
+    pub next_first : drop i ms ≡ m ∷ drop (i + 1) ms
+    next_first = sym c.rest ∙ first_left ns i m l e ∙ ap (λ ys. m ∷ ys) (left_after ns ms i m l (subst (λ n. i < n) same_length l) c.rest)
+
+    now_coming : IsComing w k (m ∷ drop (i + 1) ms)
+    now_coming = subst (IsComing w k) next_first c.coming
+
+    pub spot_now : IsSpotStill w k m.point m.spot
+    spot_now = next_spot w k m (drop (i + 1) ms) now_coming
+
+    pub sound_now : AreSound (steps_at w k (m.point ∷ [])) (drawn_graph w k)
+    sound_now = next_sound w k m (drop (i + 1) ms) now_coming
+
+    -- once it is a vertex, and is told so
+    module _ (u : View) (q : Curves) (x : VertexId) (y : IsMadeAt w k u q m x) where
+      pub onwards : (o : Meeting) → o ≡ told_at m x → IsMidway v h ms u q (set ns i o) (i + 1)
+      onwards o same = record {
+        coming = rest_coming w k m (drop (i + 1) ms) now_coming u q x y;
+        then_made = λ t j z. c.then_made t j (subst (λ ls. Makes w k (steps_at w k (points_of_meetings ls)) t j) (sym next_first) (rest_made w k m (drop (i + 1) ms) now_coming u q x y t j z));
+        points = map-set_same (λ n. n.point) ns i o m (ap (λ n. n.point) same ∙ ap (λ n. n.point) e) ∙ c.points;
+        rest = drop-set-lt (i + 1) ns i o (omega arith) ∙ left_after ns ms i m l (subst (λ n. i < n) same_length l) c.rest;
+        named = subst (AreNamed u) (sym (ap (λ z. take (i + 1) (set ns i z)) same ∙ take-set_at ns i (i + 1) (told_at m x) refl l)) (named_more w k u q m x (take i ns) c.named y);
+      }
+
+      -- the others' edges have as many curves
+      pub same_pairs_left : pairs_to_part q (drop (i + 1) ms) ≡ pairs_to_part k (drop (i + 1) ms)
+      same_pairs_left = rest_pairs w k m (drop (i + 1) ms) now_coming u q x y
+
+  module _ (done : length ns ≤ i) where
+    nothing_left : drop i ms ≡ []
+    nothing_left = drop_all i ms (subst (λ n. n ≤ i) same_length done)
+
+    -- at the end all steps are made
+    pub all_made : Makes v h (steps_at v h (points_of_meetings ms)) w k
+    all_made = c.then_made w k (subst (λ ss. Makes w k ss w k) (sym (ap (λ ls. steps_at w k (points_of_meetings ls)) nothing_left ∙ none_left (drawn_graph w k) (drawn_graph w k))) (refl, λ d. refl))
+
+    -- and all meetings are named
+    pub all_named : IsAscending point_cmp (points_of_meetings ms) → AreVertices w ns
+    all_named a = record {
+      ascend = subst (IsAscending point_cmp) (sym c.points) a;
+      named = λ m j. c.named.each m (subst (Member m) (sym (take_all i ns done)) (to_member ns m j));
+    }

@@ -1,0 +1,66 @@
+use Rattle.std.proofs.Common.{◌≡◌, ℕ, suc, ◌+◌, ◌-◌, arith, sym, ◌∙◌, subst}
+use Rattle.exact_plane.specs.Segment.{line_of_segment}
+use Rattle.plane_graphs.specs.Ascending.{Member}
+use Rattle.plane_graphs.specs.Line.{IsProperLine}
+use Rattle.curve_history.specs.Past.{held}
+use Rattle.edge_link.proofs.Placed.{line_is_proper}
+use Rattle.segment_insert.specs.Parts.{IsOpenPart}
+use Rattle.segment_insert.proofs.Going.{AreMet, AreNext, IsGoing, vertex_here, open_part, chain_here, part_stays, part_sound, goes_on, ends}
+use Rattle.segment_insert.proofs.edges.make_edges.Goals as goal
+
+pub vertex_of-u-requires : goal.vertex_of-u-requires
+vertex_of-u-requires c =
+    let met : AreMet c.args.records.now.graph c.args.segment.now c.args.meetings.now = record { named = c.requires.named; on = c.requires.on; all = c.requires.all_on; line = subst IsProperLine c.line_of-line.ensures.value (line_is_proper c.line_of-line.result c.line_of-line.ensures.line) } in
+    vertex_here c.args.records.now.graph c.args.segment.now c.args.meetings.now met (c.loop-i.i - 1) c.index-meetings-i.result (omega arith) c.index-meetings-i.is
+
+pub vertex_of-w-requires : goal.vertex_of-w-requires
+vertex_of-w-requires c =
+    let met : AreMet c.args.records.now.graph c.args.segment.now c.args.meetings.now = record { named = c.requires.named; on = c.requires.on; all = c.requires.all_on; line = subst IsProperLine c.line_of-line.ensures.value (line_is_proper c.line_of-line.result c.line_of-line.ensures.line) } in
+    vertex_here c.args.records.now.graph c.args.segment.now c.args.meetings.now met c.loop-i.i c.index-meetings-i-in-loop-i.result c.loop-i-test.true c.index-meetings-i-in-loop-i.is
+
+pub make_edge-requires-clause-part : goal.make_edge-requires-clause-part
+make_edge-requires-clause-part c =
+    let v = c.args.records.now.graph in
+    let k : ℕ = c.loop-i.i - 1 in
+    let u = c.vertex_of-u.result in
+    let w = c.vertex_of-w.result in
+    let met : AreMet c.args.records.now.graph c.args.segment.now c.args.meetings.now = record { named = c.requires.named; on = c.requires.on; all = c.requires.all_on; line = subst IsProperLine c.line_of-line.ensures.value (line_is_proper c.line_of-line.result c.line_of-line.ensures.line) } in
+    let next : AreNext c.args.meetings.now k c.loop-i.i u w = record { first = c.index-meetings-i.result; second = c.index-meetings-i-in-loop-i.result; next = omega arith; below = c.loop-i-test.true; at_first = c.index-meetings-i.is; at_second = c.index-meetings-i-in-loop-i.is; is_first = c.vertex_of-u.ensures; is_second = c.vertex_of-w.ensures } in
+    let part = open_part v c.args.segment.now c.args.meetings.now met k c.loop-i.i u w next in
+    subst (λ l. IsOpenPart c.loop-i.records.graph l u w) (sym c.line_of-line.ensures.value) (part_stays v c.loop-i.records.graph (line_of_segment c.args.segment.now) u w c.loop-i.invariant.going.vertices part)
+
+pub make_edge-requires-clause-plane : goal.make_edge-requires-clause-plane
+make_edge-requires-clause-plane c =
+    let v = c.args.records.now.graph in
+    let k : ℕ = c.loop-i.i - 1 in
+    let u = c.vertex_of-u.result in
+    let w = c.vertex_of-w.result in
+    let met : AreMet c.args.records.now.graph c.args.segment.now c.args.meetings.now = record { named = c.requires.named; on = c.requires.on; all = c.requires.all_on; line = subst IsProperLine c.line_of-line.ensures.value (line_is_proper c.line_of-line.result c.line_of-line.ensures.line) } in
+    let next : AreNext c.args.meetings.now k c.loop-i.i u w = record { first = c.index-meetings-i.result; second = c.index-meetings-i-in-loop-i.result; next = omega arith; below = c.loop-i-test.true; at_first = c.index-meetings-i.is; at_second = c.index-meetings-i-in-loop-i.is; is_first = c.vertex_of-u.ensures; is_second = c.vertex_of-w.ensures } in
+    let chain = chain_here v c.args.segment.now c.args.meetings.now met k c.loop-i.i u w next c.args.curve.0 in
+    part_sound v (held c.args.history.now) c.args.curve.0 c.args.meetings.now k c.loop-i.records.graph (held c.loop-i.history) c.loop-i.invariant.going u w chain
+
+pub loop-i-preserved : goal.loop-i-preserved
+loop-i-preserved c =
+    let v = c.args.records.now.graph in
+    let k : ℕ = c.loop-i.i - 1 in
+    let u = c.vertex_of-u.result in
+    let w = c.vertex_of-w.result in
+    let met : AreMet c.args.records.now.graph c.args.segment.now c.args.meetings.now = record { named = c.requires.named; on = c.requires.on; all = c.requires.all_on; line = subst IsProperLine c.line_of-line.ensures.value (line_is_proper c.line_of-line.result c.line_of-line.ensures.line) } in
+    let next : AreNext c.args.meetings.now k c.loop-i.i u w = record { first = c.index-meetings-i.result; second = c.index-meetings-i-in-loop-i.result; next = omega arith; below = c.loop-i-test.true; at_first = c.index-meetings-i.is; at_second = c.index-meetings-i-in-loop-i.is; is_first = c.vertex_of-u.ensures; is_second = c.vertex_of-w.ensures } in
+    let chain = chain_here v c.args.segment.now c.args.meetings.now met k c.loop-i.i u w next c.args.curve.0 in
+    let i = c.loop-i.invariant in
+    let e = c.make_edge.ensures in
+    let more : suc k ≡ c.loop-i.i + 1 - 1 = omega arith in
+    record {
+      going = subst (λ z. IsGoing v (held c.args.history.now) c.args.curve.0 c.args.meetings.now z c.make_edge.new.records.graph (held c.make_edge.new.history)) more
+          (goes_on v (held c.args.history.now) c.args.curve.0 c.args.meetings.now k c.loop-i.records.graph (held c.loop-i.history) i.going u w chain c.make_edge.new.records.graph (held c.make_edge.new.history) e.made e.vertices);
+      layer = record { names = e.layer.names ∙ i.layer.names; pieces = e.layer.pieces ∙ i.layer.pieces; next = e.layer.next ∙ i.layer.next };
+      named = subst (Member c.args.curve.0) (sym e.layer.names) i.named;
+      darts = omega arith;
+      pairs = omega arith;
+    }
+
+pub returns-clause-made : goal.returns-clause-made
+returns-clause-made c =
+    ends c.args.records.now.graph (held c.args.history.now) c.args.curve.0 c.args.meetings.now (c.loop-i.i - 1) c.loop-i.records.graph (held c.loop-i.history) c.loop-i.invariant.going (omega arith)

@@ -1,0 +1,54 @@
+-- Meeting points that become vertices one after the other: what a spot says that was told before the first of them came.
+use Rattle.std.specs.Prelude.{◌≡◌, List, [], ◌∷◌, true}
+use Rattle.exact_plane.specs.Point.{Point}
+use Rattle.plane_graphs.specs.Line.{IsProper, precedes}
+use Rattle.edit_steps.specs.Steps.{Step, vertex_steps, missing_points}
+use Rattle.slab_laws.specs.declared.names.DartId.{DartId}
+use Rattle.slab_laws.specs.declared.names.VertexId.{VertexId}
+use Rattle.slab_laws.specs.View.{View, HasVertex, HasDart, point_in, target_in, next_in}
+use Rattle.arr_notes.specs.declared.change.Change.TheVariants.{SplitEdge}
+use Rattle.arr_notes.specs.Curves.{Curves, IsForward, step_curves}
+use Rattle.arr_notes.specs.Step.{split_edge}
+use Rattle.dcel_records.specs.declared.spot.Spot.{Spot}
+use Rattle.dcel_records.specs.declared.spot.Spot.TheVariants.{Vertex, Edge, Face}
+use Rattle.dcel_records.specs.Spots.{IsSpotOf}
+use Rattle.edge_split_merge.specs.Splits.{IsNewPlace}
+use Rattle.record_graphs.specs.Graph.{drawn_graph}
+use Rattle.record_layers.specs.Kept.{Makes}
+use Rattle.zone_walk.specs.declared.plan.Meeting.{Meeting}
+
+-- the steps that make vertices of those points that are none
+abbrev pub steps_at : View → Curves → List Point → List Step
+steps_at v h ps = vertex_steps (missing_points ps (drawn_graph v h).points) (drawn_graph v h)
+
+-- from a dart, over the parts of its edge that end below the point, to the part e that has the point inside (this project)
+pub data LeadsTo (v : View) (p : Point) (e : DartId) : DartId → Type 0 where
+  here : IsSpotOf v p (Edge e) → LeadsTo v p e e
+  onward : (d : DartId) → IsForward v d → precedes (point_in v (target_in v d)) p ≡ true → LeadsTo v p e (next_in v d) → LeadsTo v p e d
+
+-- the edge of the dart has the point inside, or went in several parts of which one has
+abbrev pub HasPart : View → Point → DartId → Type 0
+HasPart v p d = (e : DartId) × LeadsTo v p e d
+
+-- the spot says where the point lies, where edges went in several since it was told: the part that has the point inside has the curves of the edge (this project)
+abbrev pub IsSpotStill : View → Curves → Point → Spot → Type 0
+IsSpotStill v h p (Vertex w) = IsSpotOf v p (Vertex w)
+IsSpotStill v h p (Edge d) = (e : DartId) × LeadsTo v p e d × (h e ≡ h d)
+IsSpotStill v h p Face = IsSpotOf v p Face
+
+-- the edge of d goes in two at the new vertex x, which is at p, and the upper part has its curves (CGAL manual, `split_edge`)
+pub record IsSplitAt (v : View) (h : Curves) (w : View) (k : Curves) (d : DartId) (x : VertexId) (p : Point) : Type 0 where
+  pub upper : DartId
+  pub back : DartId
+  pub place : IsNewPlace v x upper back
+  pub graph : w ≡ split_edge v d x p upper back
+  pub curves : (e : DartId) → k e ≡ step_curves h (SplitEdge d x p upper back) e
+
+-- the meeting's point is the vertex x after its step, if it was none before; names of vertices stay, the curves of the old edges stay, and what was told of later points still says where they lie (this project)
+pub record IsMadeAt (v : View) (h : Curves) (w : View) (k : Curves) (m : Meeting) (x : VertexId) : Type 0 where
+  pub made : Makes v h (steps_at v h (m.point ∷ [])) w k
+  pub has : HasVertex w x
+  pub point : point_in w x ≡ m.point
+  pub vertices : (u : VertexId) → HasVertex v u → HasVertex w u × (point_in w u ≡ point_in v u)
+  pub curves : (d : DartId) → HasDart v d → k d ≡ h d
+  pub later : (p : Point) (s : Spot) → IsProper p → precedes m.point p ≡ true → IsSpotStill v h p s → IsSpotStill w k p s

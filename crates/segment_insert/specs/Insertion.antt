@@ -1,0 +1,54 @@
+-- When an insertion is refused, and what its parts ask and do.
+use Rattle.std.specs.Prelude.{◌≡◌, ◌+◌, ℕ, List, [], ◌∷◌, map, length, nat_le, nat_lt, Option, Some, None, if◌then◌else◌, true, Contains}
+use Rattle.exact_plane.specs.Point.{Point}
+use Rattle.exact_plane.specs.PointOrder.{point_cmp}
+use Rattle.exact_plane.specs.Segment.{Segment}
+use Rattle.plane_graphs.specs.Ascending.{Member, IsAscending}
+use Rattle.slab_laws.specs.View.{View, HasVertex, point_in}
+use Rattle.arr_notes.specs.Curves.{Curves}
+use Rattle.curve_history.specs.Past.{Past}
+use Rattle.dcel_records.specs.declared.spot.Spot.{Spot}
+use Rattle.dcel_records.specs.declared.spot.Spot.TheVariants.{Vertex, Edge}
+use Rattle.dcel_records.specs.Spots.{IsSpotOf}
+use Rattle.zone_walk.specs.declared.plan.Meeting.{Meeting}
+use Rattle.zone_walk.specs.Zone.{is_on_segment}
+use Rattle.segment_insert.specs.declared.insertion.InsertError.{InsertError}
+use Rattle.segment_insert.specs.declared.insertion.InsertError.TheVariants.{Full, Spent}
+
+-- why an insertion is refused, first reason first: one curve more passes its limit, one piece more passes its limit, the last number was drawn (this project)
+abbrev pub refusal : ℕ → ℕ → ℕ → Past → Option InsertError
+refusal curves pieces last p =
+    if nat_le curves (length p.names) then Some (Full curves)
+    else (if nat_le pieces (length p.pieces) then Some (Full pieces)
+    else (if nat_lt last p.next then Some Spent else None))
+
+-- the points of meetings
+abbrev pub points_of_meetings : List Meeting → List Point
+points_of_meetings ms = map (λ m. m.point) ms
+
+-- the meetings ascend, each with its spot (this project)
+pub record AreMeetings (v : View) (ms : List Meeting) : Type 0 where
+  pub ascend : IsAscending point_cmp (points_of_meetings ms)
+  pub spots : (m : Meeting) → Contains ms m → IsSpotOf v m.point m.spot
+
+-- each meeting is a vertex, told by its name (this project)
+abbrev pub IsNamedVertex : View → Meeting → Type 0
+IsNamedVertex v m = (w : _) × (m.spot ≡ Vertex w) × HasVertex v w × (point_in v w ≡ m.point)
+
+pub record AreVertices (v : View) (ms : List Meeting) : Type 0 where
+  pub ascend : IsAscending point_cmp (points_of_meetings ms)
+  pub named : (m : Meeting) → Contains ms m → IsNamedVertex v m
+
+-- every vertex on the segment is among the points (this project)
+abbrev pub AreAllOn : View → Segment → List Point → Type 0
+AreAllOn v s ps = (w : _) → HasVertex v w → is_on_segment s (point_in v w) ≡ true → Member (point_in v w) ps
+
+-- the curves of an edge that is split
+abbrev pub pairs_at : Curves → Spot → ℕ
+pairs_at h (Edge d) = length (h d)
+pairs_at h other = 0
+
+-- how many pairs of an edge and a curve more there are once the meetings are vertices
+abbrev pub pairs_to_part : Curves → List Meeting → ℕ
+pairs_to_part h [] = 0
+pairs_to_part h (m ∷ ms) = pairs_at h m.spot + pairs_to_part h ms

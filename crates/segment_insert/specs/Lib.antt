@@ -1,0 +1,3 @@
+pub mod Insertion
+pub mod Coming
+pub mod Parts

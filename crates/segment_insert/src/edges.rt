@@ -1,0 +1,170 @@
+ghost use Rattle.std.specs.Prelude.{◌≡◌, ◌≢◌, ◌≤◌, ◌+◌, ◌*◌, true, map, length, [], ◌∷◌, Contains};
+ghost use Rattle.plane_graphs.specs.Ascending.{Member};
+ghost use Rattle.plane_graphs.specs.Graph.{chain};
+ghost use Rattle.edit_steps.specs.Allowed.{IsSound, AreSound};
+ghost use Rattle.edit_steps.specs.Steps.{AddEdge, more_step};
+ghost use Rattle.slab_laws.specs.Sound.{IsGraphSound};
+ghost use Rattle.slab_laws.specs.View.{IsOutOf, point_in, target_in};
+ghost use Rattle.arr_notes.specs.Curves.{AreCurvesOf};
+ghost use Rattle.arr_notes.specs.Step.{step};
+ghost use Rattle.curve_history.specs.Past.{held, SameLayer};
+ghost use Rattle.dcel_records.specs.declared.spot.Spot.TheVariants.{Vertex};
+ghost use Rattle.dcel_records.specs.Held.{IsSpare};
+ghost use Rattle.record_graphs.specs.Graph.{drawn_graph};
+ghost use Rattle.record_layers.specs.Kept.{Makes};
+ghost use Rattle.sound_links.specs.Links.{dart_between, IsPlaceFor};
+ghost use Rattle.edge_link.specs.Links.{CanLink, TellsOfLink, NamesNewDarts};
+ghost use Rattle.zone_walk.specs.Zone.{is_on_segment, is_vertex};
+ghost use Rattle.segment_insert.specs.Parts.{IsOpenPart, part_step};
+ghost use Rattle.segment_insert.specs.Insertion.{points_of_meetings, AreVertices, AreAllOn};
+
+use arr_notes::Change;
+use curve_history::History;
+use dcel_records::{Records, Spot};
+use edge_link::{link_at_one, link_at_two, link_in_face};
+use exact_plane::{Direction, Line, Segment, line_of};
+use rotation_order::{Place, place_at};
+use slab_laws::{CurveId, DartId, VertexId};
+use zone_walk::Meeting;
+
+// The vertex that a meeting point is.
+fn vertex_of(meeting: &Meeting) -> VertexId
+    requires { is_vertex meeting.now.spot ≡ true }
+    ensures { meeting.now.spot ≡ Vertex result }
+{
+    match meeting.spot {
+        Spot::Vertex(vertex) => vertex,
+        Spot::Edge(_) | Spot::Face => unreachable!(),
+    }
+}
+
+// The place at `w` of a new edge from `u`, where none runs between them: the way back from `w` leads along no edge.
+fn place_back(records: &Records, line: &Line, u: VertexId, w: VertexId) -> Option<DartId>
+    requires sound { IsGraphSound records.now.graph }
+    requires part { IsOpenPart records.now.graph line.now u w }
+    requires no_edge { (d : _) → IsOutOf records.now.graph u d → target_in records.now.graph d ≢ w }
+    ensures { IsPlaceFor records.now.graph w result (dart_between (point_in records.now.graph w) (point_in records.now.graph u)) }
+{
+    match place_at(records, w, Direction::along(line).back()) {
+        Place::Bare => None,
+        Place::Between(a, _) => Some(a),
+        Place::Along(_) => unreachable!(),
+    }
+}
+
+// Links with the places that were found, in room that is there.
+fn link_at(
+    records: &mut Records,
+    u: VertexId,
+    w: VertexId,
+    places: (Option<DartId>, Option<DartId>),
+    line: Line,
+    curve: CurveId,
+) -> Change
+    requires sound { IsGraphSound records.old.graph }
+    requires room { 2 ≤ records.old.spare_darts }
+    requires fits { CanLink records.old.graph u w places.0 places.1 line }
+    ensures change { TellsOfLink result u w places.0 places.1 line curve }
+    ensures new_darts { NamesNewDarts records.old.graph result }
+    ensures graph { records.new.graph ≡ step records.old.graph result }
+    ensures sound { IsGraphSound records.new.graph }
+    ensures spare { IsSpare records.new records.old 0 2 }
+{
+    match places {
+        (None, None) => link_in_face(records, u, w, line, curve),
+        (Some(a), None) => link_at_one(records, u, w, a, line, curve),
+        (None, Some(b)) => link_at_one(records, u, w, b, line, curve),
+        (Some(a), Some(b)) => link_at_two(records, u, w, a, b, line, curve),
+    }
+}
+
+// A new edge of the curve from `u` to `w`, where none runs between them, in its places round both.
+fn new_edge(
+    records: &mut Records,
+    history: &mut History,
+    line: &Line,
+    curve: CurveId,
+    u: VertexId,
+    w: VertexId,
+    at_u: Option<DartId>,
+)
+    requires sound { IsGraphSound records.old.graph }
+    requires curves { AreCurvesOf records.old.graph (held history.old) }
+    requires part { IsOpenPart records.old.graph line.now u w }
+    requires place { IsPlaceFor records.old.graph u at_u (dart_between (point_in records.old.graph u) (point_in records.old.graph w)) }
+    requires no_edge { (d : _) → IsOutOf records.old.graph u d → target_in records.old.graph d ≢ w }
+    requires curve_named { Member curve.0 history.old.names }
+    requires plane { IsSound (part_step (drawn_graph records.old.graph (held history.old)) records.old.graph u w curve.0) (drawn_graph records.old.graph (held history.old)) }
+    requires darts { 2 ≤ records.old.spare_darts }
+    requires pairs { 1 ≤ history.old.spare_pairs }
+    ensures made { Makes records.old.graph (held history.old) (part_step (drawn_graph records.old.graph (held history.old)) records.old.graph u w curve.0 ∷ []) records.new.graph (held history.new) }
+    ensures vertices { records.new.graph.vertices ≡ records.old.graph.vertices }
+    ensures layer { SameLayer history.old history.new }
+    ensures spare_darts { records.old.spare_darts ≤ records.new.spare_darts + 2 }
+    ensures spare_pairs { history.old.spare_pairs ≤ history.new.spare_pairs + 1 }
+{
+    let at_w = place_back(&*records, line, u, w);
+    let change = link_at(records, u, w, (at_u, at_w), *line, curve);
+    let Change::AddEdge { d, .. } = change else {
+        unreachable!()
+    };
+    history.hold(d, curve);
+}
+
+// The open part from `u` to `w` becomes an edge of the curve: an edge that runs there gets it, and else a new one comes.
+fn make_edge(
+    records: &mut Records,
+    history: &mut History,
+    line: &Line,
+    curve: CurveId,
+    u: VertexId,
+    w: VertexId,
+)
+    requires sound { IsGraphSound records.old.graph }
+    requires curves { AreCurvesOf records.old.graph (held history.old) }
+    requires part { IsOpenPart records.old.graph line.now u w }
+    requires curve_named { Member curve.0 history.old.names }
+    requires plane { IsSound (part_step (drawn_graph records.old.graph (held history.old)) records.old.graph u w curve.0) (drawn_graph records.old.graph (held history.old)) }
+    requires darts { 2 ≤ records.old.spare_darts }
+    requires pairs { 1 ≤ history.old.spare_pairs }
+    ensures made { Makes records.old.graph (held history.old) (part_step (drawn_graph records.old.graph (held history.old)) records.old.graph u w curve.0 ∷ []) records.new.graph (held history.new) }
+    ensures vertices { records.new.graph.vertices ≡ records.old.graph.vertices }
+    ensures layer { SameLayer history.old history.new }
+    ensures spare_darts { records.old.spare_darts ≤ records.new.spare_darts + 2 }
+    ensures spare_pairs { history.old.spare_pairs ≤ history.new.spare_pairs + 1 }
+{
+    match place_at(&*records, u, Direction::along(line)) {
+        Place::Along(d) => history.hold(d, curve),
+        Place::Bare => new_edge(records, history, line, curve, u, w, None),
+        Place::Between(a, _) => new_edge(records, history, line, curve, u, w, Some(a)),
+    }
+}
+
+/// Makes every open part between two neighbouring meeting points an edge of the curve, in room that is there: an edge that
+/// runs there gets one curve more, and else a new one comes.
+pub(crate) fn make_edges(
+    records: &mut Records,
+    history: &mut History,
+    segment: &Segment,
+    curve: CurveId,
+    meetings: &[Meeting],
+)
+    requires sound { IsGraphSound records.old.graph }
+    requires curves { AreCurvesOf records.old.graph (held history.old) }
+    requires named { AreVertices records.old.graph meetings.now }
+    requires on { (m : _) → Contains meetings.now m → is_on_segment segment.now m.point ≡ true }
+    requires all_on { AreAllOn records.old.graph segment.now (points_of_meetings meetings.now) }
+    requires curve_named { Member curve.0 history.old.names }
+    requires plane { AreSound (map (more_step (drawn_graph records.old.graph (held history.old))) (chain curve.0 (points_of_meetings meetings.now))) (drawn_graph records.old.graph (held history.old)) }
+    requires darts { 2 * length meetings.now ≤ records.old.spare_darts + 2 }
+    requires pairs { length meetings.now ≤ history.old.spare_pairs }
+    ensures made { Makes records.old.graph (held history.old) (map (more_step (drawn_graph records.old.graph (held history.old))) (chain curve.0 (points_of_meetings meetings.now))) records.new.graph (held history.new) }
+    ensures layer { SameLayer history.old history.new }
+{
+    let line = line_of(segment);
+    for i in 1..meetings.len() {
+        let u = vertex_of(&meetings[i - 1]);
+        let w = vertex_of(&meetings[i]);
+        make_edge(records, history, &line, curve, u, w);
+    }
+}

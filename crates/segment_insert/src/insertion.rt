@@ -1,0 +1,159 @@
+ghost use Rattle.std.specs.Prelude.{◌≡◌, ◌⊎◌, ◌≤◌, ◌<◌, ◌+◌, ◌*◌, ◌^◌, ◌++◌, ◌∷◌, [], length, MatchOption, Ok, Err, IsOk, IfOk, OnOk, OnErr};
+ghost use Rattle.edit_steps.specs.Edits.{Insert, steps};
+ghost use Rattle.edit_steps.specs.Layer.{layer_after};
+ghost use Rattle.slab_laws.specs.Sound.{IsGraphSound};
+ghost use Rattle.dcel_records.specs.Spots.{IsSpotOf};
+ghost use Rattle.curve_history.specs.Past.{held, SameLayer, SameCurves};
+ghost use Rattle.curve_history.specs.declared.history.TheConstants.{LAST_CURVE};
+ghost use Rattle.record_layers.specs.Kept.{IsLayer, layer_of, Makes};
+ghost use Rattle.zone_walk.specs.Zone.{IsZoneOf};
+ghost use Rattle.segment_insert.specs.Insertion.{refusal, pairs_to_part};
+
+use crate::edges::make_edges;
+use crate::vertices::make_vertices;
+use curve_history::History;
+use dcel_records::{Records, Spot};
+use exact_plane::Segment;
+use no_memory::NoMemory;
+use slab_laws::{CurveId, Piece};
+use std::alloc::Global;
+use zone_walk::{Meeting, ZonePlan, zone};
+
+/// Why a segment isn't inserted.
+#[derive(Clone, Copy, Debug, PartialEq, Eq)]
+pub enum InsertError {
+    /// One curve more, or one piece more, would pass this limit.
+    Full(u32),
+    /// The last number that a curve can get was drawn.
+    Spent,
+    /// There was no memory for the plan or for what it makes.
+    NoMemory,
+}
+
+// Why one curve more is refused, the first reason first.
+fn refusal_of(history: &History, curves: u32, pieces: u32) -> Option<InsertError>
+    ensures { result ≡ refusal curves pieces LAST_CURVE history.now }
+{
+    if curves <= history.named() {
+        Some(InsertError::Full(curves))
+    } else if pieces <= history.pieces() {
+        Some(InsertError::Full(pieces))
+    } else if history.spent() {
+        Some(InsertError::Spent)
+    } else {
+        None
+    }
+}
+
+// How many pairs of an edge and a curve come: the curves of each edge that is parted, and the new one on each open part.
+fn pairs_needed(history: &History, meetings: &[Meeting]) -> Result<usize, NoMemory>
+    ensures { IfOk result (λ n. n ≡ length meetings.now + pairs_to_part (held history.now) meetings.now) }
+{
+    let mut pairs = meetings.len();
+    for meeting in meetings {
+        if let Spot::Edge(dart) = meeting.spot {
+            let curves = history.count_on(dart)?;
+            match pairs.checked_add(curves) {
+                Some(more) => pairs = more,
+                None => return Err(NoMemory),
+            }
+        }
+    }
+    Ok(pairs)
+}
+
+// The plan of the insertion, and room for all that it makes; only the room changes.
+fn prepare(
+    alloc: Global,
+    records: &mut Records,
+    history: &mut History,
+    segment: &Segment,
+    start: Spot,
+) -> Result<ZonePlan, NoMemory>
+    requires sound { IsGraphSound records.old.graph }
+    requires start { IsSpotOf records.old.graph segment.now.lower start }
+    ensures zone { IfOk result (IsZoneOf records.old.graph segment.now) }
+    ensures vertices { IfOk result (λ z. z.room.vertices ≤ records.new.spare_vertices) }
+    ensures darts { IfOk result (λ z. 2 * z.room.edges ≤ records.new.spare_darts) }
+    ensures names { OnOk result (1 ≤ history.new.spare_names) }
+    ensures pieces { OnOk result (1 ≤ history.new.spare_pieces) }
+    ensures pairs { IfOk result (λ z. length z.vertices.items + pairs_to_part (held history.old) z.vertices.items ≤ history.new.spare_pairs) }
+    ensures graph { records.new.graph ≡ records.old.graph }
+    ensures same_layer { SameLayer history.old history.new }
+    ensures same_curves { SameCurves history.old history.new }
+{
+    let plan = zone(alloc, &*records, segment, start)?;
+    records.reserve(plan.room)?;
+    let pairs = pairs_needed(&*history, &plan.vertices)?;
+    history.reserve(1, 1, pairs)?;
+    Ok(plan)
+}
+
+// The steps of the insertion, in room that is there.
+fn insert_by_plan(
+    records: &mut Records,
+    history: &mut History,
+    segment: &Segment,
+    mut plan: ZonePlan,
+) -> CurveId
+    requires layer { IsLayer records.old.graph history.old }
+    requires zone { IsZoneOf records.old.graph segment.now plan }
+    requires unspent { history.old.next ≤ LAST_CURVE }
+    requires few { length history.old.pieces + 1 < 2 ^ 32 }
+    requires vertices { plan.room.vertices ≤ records.old.spare_vertices }
+    requires darts { 2 * plan.room.edges ≤ records.old.spare_darts }
+    requires names { 1 ≤ history.old.spare_names }
+    requires pieces { 1 ≤ history.old.spare_pieces }
+    requires pairs { length plan.vertices.items + pairs_to_part (held history.old) plan.vertices.items ≤ history.old.spare_pairs }
+    ensures layer { IsLayer records.new.graph history.new }
+    ensures number { result.0 ≡ history.old.next }
+    ensures edit { layer_of records.new.graph history.new ≡ layer_after (Insert result.0 segment.now) (layer_of records.old.graph history.old) }
+    ensures steps { Makes records.old.graph (held history.old) (steps (Insert result.0 segment.now) (layer_of records.old.graph history.old).present) records.new.graph (held history.new) }
+{
+    let lower = segment.lower();
+    let upper = segment.upper();
+    let curve = history.draw();
+    history.add_piece(Piece {
+        curve,
+        segment: *segment,
+        from: lower,
+        to: upper,
+    });
+    make_vertices(records, history, &mut plan.vertices);
+    make_edges(records, history, segment, curve, &plan.vertices);
+    curve
+}
+
+/// The segment becomes a new curve of the layer that records and history are, by the steps of an insertion; all of it, or, at
+/// a refusal or for want of memory, nothing (CGAL manual, `insert`).
+///
+/// `curves` and `pieces` are the limits of named curves and of pieces; `start` is the spot of the segment's lower end. All
+/// memory is taken before the first change.
+pub fn insert(
+    alloc: Global,
+    records: &mut Records,
+    history: &mut History,
+    curves: u32,
+    pieces: u32,
+    start: Spot,
+    segment: &Segment,
+) -> Result<CurveId, InsertError>
+    requires layer { IsLayer records.old.graph history.old }
+    requires start { IsSpotOf records.old.graph segment.now.lower start }
+    ensures layer { IsLayer records.new.graph history.new }
+    ensures number { IfOk result (λ c. c.0 ≡ history.old.next) }
+    ensures edit { IfOk result (λ c. layer_of records.new.graph history.new ≡ layer_after (Insert c.0 segment.now) (layer_of records.old.graph history.old)) }
+    ensures steps { IfOk result (λ c. Makes records.old.graph (held history.old) (steps (Insert c.0 segment.now) (layer_of records.old.graph history.old).present) records.new.graph (held history.new)) }
+    ensures refused { MatchOption (refusal curves pieces LAST_CURVE history.old) (IsOk result ⊎ (result ≡ Err InsertError.NoMemory)) (λ e. result ≡ Err e) }
+    ensures graph { OnErr result (records.new.graph ≡ records.old.graph) }
+    ensures same_layer { OnErr result (SameLayer history.old history.new) }
+    ensures same_curves { OnErr result (SameCurves history.old history.new) }
+{
+    if let Some(error) = refusal_of(&*history, curves, pieces) {
+        return Err(error);
+    }
+    let Ok(plan) = prepare(alloc, records, history, segment, start) else {
+        return Err(InsertError::NoMemory);
+    };
+    Ok(insert_by_plan(records, history, segment, plan))
+}

@@ -1,0 +1,10 @@
+pub mod MeetingPoints
+pub mod LineCrossings
+pub mod InPlane
+pub mod Passing
+pub mod Nearer
+pub mod BothWays
+pub mod Courses
+pub mod Aheads
+pub mod Stretches
+pub mod Walked

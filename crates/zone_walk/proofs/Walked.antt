@@ -1,0 +1,273 @@
+-- What the walk has when it stands at a meeting point, and the zone that it has at the upper end.
+use Rattle.std.proofs.Common.{◌≡◌, ◌<◌, ◌≤◌, Bool, true, false, not, List, [], ◌∷◌, ◌++◌, map, length, Contains, refl, sym, ap, ◌∙◌, subst, append_assoc, arith, inl, inr, ⊎_elim}
+use Rattle.std.specs.List.{filter, AllByRecursion}
+use Rattle.std.proofs.lemmas.List.{append-nil, length-map}
+use Rattle.std.proofs.lemmas.List.Sums.{count_by-le-length}
+use Rattle.exact_plane.specs.Line.{Line, IsOn}
+use Rattle.exact_plane.specs.Point.{Point}
+use Rattle.exact_plane.specs.PointOrder.{point_cmp}
+use Rattle.exact_plane.specs.PointOrderLaws.{point_cmp_total}
+use Rattle.exact_plane.specs.Segment.{Segment, line_of_segment}
+use Rattle.std.specs.declared.cmp.Ordering.TheVariants.{Less}
+use Rattle.plane_graphs.specs.Ascending.{Member, IsAscending}
+use Rattle.plane_graphs.specs.Line.{precedes}
+use Rattle.plane_graphs.proofs.Ascending.{ascending_unique, to_member, from_member}
+use Rattle.plane_graphs.proofs.Lists.{clash, in_left, in_right, in_either, in_filter, of_filter, IsAscending-filter}
+use Rattle.plane_graphs.proofs.Marks.{Le, le_lt, le_both, le_lt_lt, lt_le_lt}
+use Rattle.plane_graphs.proofs.Order.{Lt, lt_out, lt_in, lt_trans, lt_never, Tri, tri}
+use Rattle.plane_graphs.proofs.Order.Tri.{less, same, more}
+use Rattle.slab_laws.specs.declared.names.DartId.{DartId}
+use Rattle.slab_laws.specs.Sound.{IsGraphSound}
+use Rattle.slab_laws.specs.View.{View, point_in, source_in, target_in}
+use Rattle.dcel_records.specs.declared.spot.Spot.{Spot}
+use Rattle.dcel_records.specs.declared.spot.Spot.TheVariants.{Vertex, Edge, Face}
+use Rattle.dcel_records.specs.Spots.{IsSpotOf}
+use Rattle.zone_walk.specs.declared.plan.Meeting.{Meeting}
+use Rattle.zone_walk.specs.declared.plan.ZonePlan.{ZonePlan}
+use Rattle.zone_walk.specs.Walk.{IsAhead, IsSpotAhead, IsStretch}
+use Rattle.zone_walk.specs.Zone.{meeting_points, AreSpotsBetween, IsOverlapped, IsZoneOf, IsNextMeeting, is_vertex, is_edge, vertices_needed, edges_needed, darts_among, later_points}
+use Rattle.zone_walk.proofs.Aheads.{at_most, one_ahead}
+use Rattle.zone_walk.proofs.Courses.{IsCourse, LiesOn, lies_in}
+use Rattle.zone_walk.proofs.MeetingPoints.{MeetsAt, lower, vertex, meetings_ascend}
+use Rattle.zone_walk.proofs.Stretches.{told, listed, meets_lies, meets_proper}
+
+-- ---- an ascending list, cut after an element
+all_of : (P : Point → Type 0) (xs : List Point) → ((x : Point) → Member x xs → P x) → AllByRecursion P xs
+all_of P [] f = tt
+all_of P (x ∷ xs) f = (f x (inl refl), all_of P xs (λ y m. f y (inr m)))
+
+none_of : (xs : List Point) → ((x : Point) → Member x xs → ⊥) → xs ≡ []
+none_of [] f = refl
+none_of (x ∷ xs) f = absurd (f x (inl refl))
+
+module _ (ps : List Point) (a : IsAscending point_cmp ps) where
+  abbrev after : Point → List Point
+  after p = filter (precedes p) ps
+
+  ascends : (p : Point) → IsAscending point_cmp (p ∷ after p)
+  ascends p = (all_of (λ x. point_cmp p x ≡ Less) (after p) (λ x m. (lt_out p x (of_filter (precedes p) x ps m).1).is), IsAscending-filter point_cmp (precedes p) ps a)
+
+  pub cut : (p q : Point) → Member q ps → Lt p q → ((r : Point) → Member r ps → Lt p r → Lt r q → ⊥) → after p ≡ q ∷ after q
+  cut p q m l none = ascending_unique point_cmp point_cmp_total (after p) (q ∷ after q) (IsAscending-filter point_cmp (precedes p) ps a) (ascends q) there back
+    where
+      by : (x : Point) → Member x ps → Lt p x → Tri q x → Member x (q ∷ after q)
+      by x n k (less h) = inr (in_filter (precedes q) x ps n (lt_in h))
+      by x n k (same e) = inl (sym e)
+      by x n k (more h) = absurd (none x n k h)
+
+      there : (x : Point) → Member x (after p) → Member x (q ∷ after q)
+      there x n = let w = of_filter (precedes p) x ps n in by x w.0 (lt_out p x w.1) (tri q x)
+
+      back : (x : Point) → Member x (q ∷ after q) → Member x (after p)
+      back x (inl e) = subst (λ (y : Point). Member y (after p)) (sym e) (in_filter (precedes p) q ps m (lt_in l))
+      back x (inr n) = let w = of_filter (precedes q) x ps n in in_filter (precedes p) x ps w.0 (lt_in (lt_trans l (lt_out q x w.1)))
+
+  pub first : (p : Point) → Member p ps → ((r : Point) → Member r ps → Lt r p → ⊥) → p ∷ after p ≡ ps
+  first p m none = ascending_unique point_cmp point_cmp_total (p ∷ after p) ps (ascends p) a there back
+    where
+      there : (x : Point) → Member x (p ∷ after p) → Member x ps
+      there x (inl e) = subst (λ (y : Point). Member y ps) (sym e) m
+      there x (inr n) = (of_filter (precedes p) x ps n).0
+
+      by : (x : Point) → Member x ps → Tri p x → Member x (p ∷ after p)
+      by x n (less h) = inr (in_filter (precedes p) x ps n (lt_in h))
+      by x n (same e) = inl (sym e)
+      by x n (more h) = absurd (none x n h)
+
+      back : (x : Point) → Member x ps → Member x (p ∷ after p)
+      back x n = by x n (tri p x)
+
+  pub last : (p : Point) → ((r : Point) → Member r ps → Lt p r → ⊥) → after p ≡ []
+  last p none = none_of (after p) (λ x m. let w = of_filter (precedes p) x ps m in none x w.0 (lt_out p x w.1))
+
+-- ---- the walk so far
+abbrev pub points_met : List Meeting → List Point
+points_met ms = map (λ m. m.point) ms
+
+-- the one meeting point at which the walk begins
+abbrev pub alone : Point → Spot → List Meeting
+alone p at = record { point = p; spot = at } ∷ []
+
+pub record IsWalked (v : View) (g : Segment) (ms : List Meeting) (spots : List Spot) (ds : List DartId) (here : Point) (at : Spot) : Type 0 where
+  pub meets : Contains (meeting_points v g) here
+  pub here_spot : IsSpotOf v here at
+  pub points : points_met ms ++ later_points v g here ≡ meeting_points v g
+  pub spots_met : (m : Meeting) → Member m ms → IsSpotOf v m.point m.spot
+  pub between : (qs : List Point) (rest : List Spot) → AreSpotsBetween v g (here ∷ qs) rest → AreSpotsBetween v g (points_met ms ++ qs) (spots ++ rest)
+  pub darts : ds ≡ darts_among spots
+  pub overlapped : (d : DartId) → Member d ds → IsOverlapped v g d
+  pub all_overlapped : (d : DartId) → IsOverlapped v g d → Lt (point_in v (source_in v d)) here → Lt g.lower here → Member d ds
+
+map_more : (ms : List Meeting) (m : Meeting) (qs : List Point) → points_met (ms ++ (m ∷ [])) ++ qs ≡ points_met ms ++ (m.point ∷ qs)
+map_more [] m qs = refl
+map_more (n ∷ ms) m qs = ap (λ (ps : List Point). n.point ∷ ps) (map_more ms m qs)
+
+darts_more : (spots : List Spot) (spot : Spot) → darts_among (spots ++ (spot ∷ [])) ≡ darts_among spots ++ darts_among (spot ∷ [])
+darts_more [] spot = refl
+darts_more (Edge d ∷ spots) spot = ap (λ (ds : List DartId). d ∷ ds) (darts_more spots spot)
+darts_more (Vertex w ∷ spots) spot = darts_more spots spot
+darts_more (Face ∷ spots) spot = darts_more spots spot
+
+module _ (v : View) (s : IsGraphSound v) (g : Segment) (c : IsCourse g) where
+  on_segment : (p : Point) → Contains (meeting_points v g) p → LiesOn g p
+  on_segment p m = meets_lies v s g c p (told v s g c p m)
+
+  lower_meets : Contains (meeting_points v g) g.lower
+  lower_meets = listed v s g c g.lower (lower refl)
+
+  -- ---- at the lower end
+  pub begun : (at : Spot) → IsSpotOf v g.lower at → IsWalked v g (alone g.lower at) [] [] g.lower at
+  begun at h = record {
+    meets = lower_meets;
+    here_spot = h;
+    points = first (meeting_points v g) (meetings_ascend v g) g.lower (to_member (meeting_points v g) g.lower lower_meets) (λ r m l. (on_segment r (from_member (meeting_points v g) r m)).from.never l);
+    spots_met = only;
+    between = λ qs rest k. k;
+    darts = refl;
+    overlapped = λ d m. absurd m;
+    all_overlapped = λ d o l k. absurd (lt_never k);
+  }
+    where
+      only : (m : Meeting) → Member m (alone g.lower at) → IsSpotOf v m.point m.spot
+      only m (inl e) = subst (λ (n : Meeting). IsSpotOf v n.point n.spot) (sym e) h
+      only m (inr k) = absurd k
+
+  pub starts : (at : Spot) → IsSpotOf v g.lower at → (p q : Point) → p ≡ g.lower → q ≡ g.lower → (ms : List Meeting) (spots : List Spot) (ds : List DartId) → ms ≡ alone p at → spots ≡ [] → ds ≡ [] → IsWalked v g ms spots ds q at
+  starts at h p q ep eq ms spots ds em es ed =
+      subst (λ (x : Point). IsWalked v g ms spots ds x at) (sym eq)
+      (subst (λ (xs : List DartId). IsWalked v g ms spots xs g.lower at) (sym ed)
+      (subst (λ (xs : List Spot). IsWalked v g ms xs [] g.lower at) (sym es)
+      (subst (λ (xs : List Meeting). IsWalked v g xs [] [] g.lower at) (sym (em ∙ ap (λ (x : Point). alone x at) ep)) (begun at h))))
+
+  -- ---- one stretch more
+  module _ (p q : Point) (n : IsNextMeeting v g p q) where
+    pub fewer_later : later_points v g p ≡ q ∷ later_points v g q
+    fewer_later =
+        cut (meeting_points v g) (meetings_ascend v g) p q (to_member (meeting_points v g) q n.meets) (lt_out p q n.later)
+        (λ r m l k. clash (lt_in k) (n.none_between r (from_member (meeting_points v g) r m) (lt_in l)))
+
+    pub measure_falls : length (later_points v g q) < length (later_points v g p)
+    measure_falls = let e = ap (λ (ps : List Point). length ps) fewer_later in omega arith
+
+  module _ (p q : Point) (spot : Spot) (here : MeetsAt v g p) (on : LiesOn g p) (before : Lt p g.upper) (k : IsStretch v g p spot q) where
+    -- the lower end of an overlapped edge doesn't lie between
+    begins_by : (d : DartId) → IsOverlapped v g d → Lt (point_in v (source_in v d)) q → (b : Bool) → precedes p (point_in v (source_in v d)) ≡ b → b ≡ false
+    begins_by d o l false e = refl
+    begins_by d o l true e =
+        let x = point_in v (source_in v d) in
+        let on_line : IsOn (line_of_segment g) x = subst (λ (n : Line). IsOn n x) o.line (s.drawn.starts d o.forward.0) in
+        let m = listed v s g c x (vertex (source_in v d) (s.linked.source d o.forward.0) refl (lies_in g x (record { on = on_line; from = le_lt (le_lt_lt on.from (lt_out p x e)); upto = le_lt (lt_out x g.upper o.begins) }))) in
+        clash (lt_in l) (k.next.none_between x m e)
+
+    -- what goes on from p is the one edge that does
+    listed_there : (x : Spot) → IsSpotAhead v (line_of_segment g) p x → (d : DartId) → IsAhead v (line_of_segment g) p d → Member d (darts_among (x ∷ []))
+    listed_there (Vertex w) h d a = absurd h
+    listed_there Face h d a = absurd (h d a)
+    listed_there (Edge e) h d a = inl (one_ahead v s (line_of_segment g) p (meets_proper v s g c p here) on.on d e a h)
+
+    -- an overlapped edge that begins before q is there already, or it goes on from p
+    there_by : (ds : List DartId) → ((d : DartId) → IsOverlapped v g d → Lt (point_in v (source_in v d)) p → Lt g.lower p → Member d ds)
+        → (d : DartId) → IsOverlapped v g d → precedes p (point_in v (source_in v d)) ≡ false → (b : Bool) → precedes p (point_in v (target_in v d)) ≡ b → Member d (ds ++ darts_among (spot ∷ []))
+    there_by ds had d o f true e = in_right d ds (darts_among (spot ∷ [])) (listed_there spot k.ahead d (record { forward = o.forward; line = o.line; begins = f; ends = e }))
+    there_by ds had d o f false e =
+        let x = point_in v (target_in v d) in
+        let u : Le x p = at_most x p e in
+        in_left d ds (darts_among (spot ∷ [])) (had d o (lt_le_lt (lt_out (point_in v (source_in v d)) x o.forward.1) u) (lt_le_lt (lt_out g.lower x o.ends) u))
+
+    -- what goes on from p is overlapped
+    ahead_overlapped : (x : Spot) → IsSpotAhead v (line_of_segment g) p x → (d : DartId) → Member d (darts_among (x ∷ [])) → IsOverlapped v g d
+    ahead_overlapped (Vertex w) h d m = absurd h
+    ahead_overlapped Face h d m = absurd m
+    ahead_overlapped (Edge e) h d (inr m) = absurd m
+    ahead_overlapped (Edge e) h d (inl i) =
+        subst (IsOverlapped v g) (sym i)
+        (record {
+          forward = h.forward;
+          line = h.line;
+          begins = lt_in (le_lt_lt (at_most (point_in v (source_in v e)) p h.begins) before);
+          ends = lt_in (le_lt_lt on.from (lt_out p (point_in v (target_in v e)) h.ends));
+        })
+
+  module _ (ms : List Meeting) (spots : List Spot) (ds : List DartId) (p : Point) (at : Spot) (w : IsWalked v g ms spots ds p at) (before : Lt p g.upper) (spot : Spot) (next : Meeting) (k : IsStretch v g p spot next.point) (there : IsSpotOf v next.point next.spot) where
+    on : LiesOn g p
+    on = on_segment p w.meets
+
+    more_points : points_met (ms ++ (next ∷ [])) ++ later_points v g next.point ≡ meeting_points v g
+    more_points = map_more ms next (later_points v g next.point) ∙ ap (λ (ps : List Point). points_met ms ++ ps) (sym (fewer_later p next.point k.next)) ∙ w.points
+
+    more_spots : (m : Meeting) → Member m (ms ++ (next ∷ [])) → IsSpotOf v m.point m.spot
+    more_spots m n = ⊎_elim (λ a. w.spots_met m a) (λ b. ⊎_elim (λ e. subst (λ (o : Meeting). IsSpotOf v o.point o.spot) (sym e) there) (λ z. absurd z) b) (in_either m ms (next ∷ []) n)
+
+    more_between : (qs : List Point) (rest : List Spot) → AreSpotsBetween v g (next.point ∷ qs) rest → AreSpotsBetween v g (points_met (ms ++ (next ∷ [])) ++ qs) ((spots ++ (spot ∷ [])) ++ rest)
+    more_between qs rest h =
+        subst (λ (ps : List Point). AreSpotsBetween v g ps ((spots ++ (spot ∷ [])) ++ rest)) (sym (map_more ms next qs))
+        (subst (AreSpotsBetween v g (points_met ms ++ (next.point ∷ qs))) (sym (append_assoc spots (spot ∷ []) rest)) (w.between (next.point ∷ qs) (spot ∷ rest) (k.between, h)))
+
+    more_overlapped : (d : DartId) → Member d (ds ++ darts_among (spot ∷ [])) → IsOverlapped v g d
+    more_overlapped d m = ⊎_elim (λ a. w.overlapped d a) (λ b. ahead_overlapped p next.point spot (told v s g c p w.meets) on before k spot k.ahead d b) (in_either d ds (darts_among (spot ∷ [])) m)
+
+    pub walked_on : IsWalked v g (ms ++ (next ∷ [])) (spots ++ (spot ∷ [])) (ds ++ darts_among (spot ∷ [])) next.point next.spot
+    walked_on = record {
+      meets = k.next.meets;
+      here_spot = there;
+      points = more_points;
+      spots_met = more_spots;
+      between = more_between;
+      darts = ap (λ (es : List DartId). es ++ darts_among (spot ∷ [])) w.darts ∙ sym (darts_more spots spot);
+      overlapped = more_overlapped;
+      all_overlapped = λ d o l m.
+          there_by p next.point spot (told v s g c p w.meets) on before k ds w.all_overlapped d o (begins_false d o l) (precedes p (point_in v (target_in v d))) refl;
+    }
+      where
+        begins_false : (d : DartId) → IsOverlapped v g d → Lt (point_in v (source_in v d)) next.point → precedes p (point_in v (source_in v d)) ≡ false
+        begins_false d o l = by (precedes p (point_in v (source_in v d))) refl
+          where
+            by : (b : Bool) → precedes p (point_in v (source_in v d)) ≡ b → precedes p (point_in v (source_in v d)) ≡ false
+            by b e = e ∙ begins_by p next.point spot (told v s g c p w.meets) on before k d o l b e
+
+    pub continues : (grown : List Meeting) (parts : List Spot) (darts : List DartId) → grown ≡ ms ++ (next ∷ []) → parts ≡ spots ++ (spot ∷ []) → darts ≡ ds ++ darts_among (spot ∷ []) → IsWalked v g grown parts darts next.point next.spot
+    continues grown parts darts em es ed =
+        subst (λ (xs : List DartId). IsWalked v g grown parts xs next.point next.spot) (sym ed)
+        (subst (λ (xs : List Spot). IsWalked v g grown xs (ds ++ darts_among (spot ∷ [])) next.point next.spot) (sym es)
+        (subst (λ (xs : List Meeting). IsWalked v g xs (spots ++ (spot ∷ [])) (ds ++ darts_among (spot ∷ [])) next.point next.spot) (sym em) walked_on))
+
+  -- ---- at the upper end
+  few_between : (ps : List Point) (spots : List Spot) → AreSpotsBetween v g ps spots → length spots ≤ length ps
+  few_between [] [] h = absurd h
+  few_between [] (x ∷ spots) h = absurd h
+  few_between (p ∷ []) [] h = omega arith
+  few_between (p ∷ []) (x ∷ spots) h = absurd h
+  few_between (p ∷ q ∷ ps) [] h = absurd h
+  few_between (p ∷ q ∷ ps) (x ∷ spots) h = let k = few_between (q ∷ ps) spots h.1 in omega arith
+
+  module _ (z : ZonePlan) (p : Point) (at : Spot) (w : IsWalked v g z.vertices.items z.between.items z.overlapped.items p at) (past : precedes p g.upper ≡ false) (vertices : z.room.vertices ≡ vertices_needed z.vertices.items) (edges : z.room.edges ≡ edges_needed z.vertices.items z.between.items) where
+    at_upper : p ≡ g.upper
+    at_upper = le_both (on_segment p w.meets).upto (at_most g.upper p past)
+
+    none_later : later_points v g p ≡ []
+    none_later = last (meeting_points v g) (meetings_ascend v g) p (λ r m l. (on_segment r (from_member (meeting_points v g) r m)).upto.never (subst (λ (x : Point). Lt x r) at_upper l))
+
+    all_points : points_met z.vertices.items ≡ meeting_points v g
+    all_points = sym (append-nil (points_met z.vertices.items)) ∙ ap (λ (ps : List Point). points_met z.vertices.items ++ ps) (sym none_later) ∙ w.points
+
+    all_between : AreSpotsBetween v g (meeting_points v g) z.between.items
+    all_between =
+        subst (λ (ps : List Point). AreSpotsBetween v g ps z.between.items) (append-nil (points_met z.vertices.items) ∙ all_points)
+        (subst (AreSpotsBetween v g (points_met z.vertices.items ++ [])) (append-nil z.between.items) (w.between [] [] tt))
+
+    as_many : length z.vertices.items ≡ length (meeting_points v g)
+    as_many = sym (length-map z.vertices.items (λ (m : Meeting). m.point)) ∙ ap (λ (ps : List Point). length ps) all_points
+
+    pub zone_done : IsZoneOf v g z
+    zone_done = record {
+      points = all_points;
+      spots = λ m n. w.spots_met m (to_member z.vertices.items m n);
+      between = all_between;
+      listed = w.darts;
+      overlapped = λ d m. w.overlapped d (to_member z.overlapped.items d m);
+      all_overlapped = λ d o. from_member z.overlapped.items d (w.all_overlapped d o (subst (Lt (point_in v (source_in v d))) (sym at_upper) (lt_out (point_in v (source_in v d)) g.upper o.begins)) (subst (Lt g.lower) (sym at_upper) c.ahead));
+      vertices = vertices;
+      edges = edges;
+      vertices_fit = let a = count_by-le-length (λ (m : Meeting). not (is_vertex m.spot)) z.vertices.items in omega (arith, vertices, as_many);
+      edges_fit = let a = count_by-le-length (λ (m : Meeting). is_edge m.spot) z.vertices.items in let b = few_between (meeting_points v g) z.between.items all_between in omega (arith, edges, as_many);
+    }

@@ -1,0 +1,3 @@
+pub mod Zone
+pub mod Found
+pub mod Walk
