@@ -8,18 +8,21 @@ ghost use Rattle.dcel_records.specs.Held.{ends_found, point_found};
 ghost use Rattle.rotation_order.specs.Place.{IsPlaceOf};
 ghost use Rattle.view_changes.specs.Around.{after_in};
 ghost use Rattle.view_changes.specs.Writers.{no_rows, with_vertex};
+ghost use Rattle.zone_walk.specs.Zone.{IsZoneOf};
 
 use crate::lists::{has_dart, has_vertex};
 use crate::{changes, merges, splits};
 use arr_notes::Change;
 use dcel_records::{Records, Room};
 use edge_unlink::unlink;
-use exact_plane::{Direction, Line, Point};
+use exact_plane::{Direction, Line, Point, Segment};
+use locate_naive::locate;
 use no_memory::NoMemory;
 use rotation_order::{Place, place_at};
 use slab_laws::{CurveId, DartId, Darts, VertexId};
 use std::alloc::Global;
 use std::marker::Model;
+use zone_walk::{ZonePlan, zone};
 
 /// Records of a plane graph, changed only where what a change asks was tested before.
 #[derive(Drop)]
@@ -124,6 +127,14 @@ impl Checked {
             return None;
         }
         Some(place_at(&self.records, v, direction))
+    }
+
+    /// The plan of an insertion, from the spot of the segment's lower end.
+    pub fn zone(&self, alloc: Global, segment: &Segment) -> Result<ZonePlan, NoMemory>
+        ensures { IfOk result (IsZoneOf self.now.graph segment.now) }
+    {
+        let lower = segment.lower();
+        zone(alloc, &self.records, segment, locate(&self.records, &lower))
     }
 
     /// The dart that follows; `None` for a name without a record.

@@ -1,6 +1,6 @@
 use crate::checked::Checked;
 use arr_notes::Change;
-use dcel_records::{Records, Room};
+use dcel_records::{Records, Room, Spot};
 use exact_plane::{Direction, Line, Point, Segment, line_of};
 use no_memory::NoMemory;
 use rotation_order::Place;
@@ -302,5 +302,44 @@ fn stays_as_it_was_without_memory(rt: HostRuntime) -> Result<(), Fail> {
     let (v, ..) = part(&mut checked, 4, at(0, 1)?)?;
     assert!(rt; checked.merge(VertexId(v)).is_some());
     assert!(rt; has_rows(&checked, &STAR));
+    Ok(())
+}
+
+// The edges of (2, 0) to (4, 0) and of (0, 0) to (6, 0), which overlap.
+fn overlapping(alloc: Global) -> Result<Checked, Fail> {
+    let mut checked = Checked::new(alloc)?;
+    for x in [0, 2, 4, 6] {
+        let _vertex = checked.add_vertex(alloc, at(x, 0)?).ok_or("vertex")?;
+    }
+    let line = line(0, 0, 6, 0)?;
+    for name in 0..3 {
+        let _change = checked
+            .join(alloc, VertexId(name), VertexId(name + 1), line, CurveId(1))
+            .ok_or("edge")?;
+    }
+    Ok(checked)
+}
+
+#[test]
+fn a_zone_goes_along_what_it_overlaps(rt: HostRuntime) -> Result<(), Fail> {
+    let checked = overlapping(rt.alloc())?;
+    let plan = checked.zone(rt.alloc(), &Segment::new(1, 0, 5, 0)?)?;
+    let wanted: [(i128, Spot); 4] = [
+        (1, Spot::Edge(DartId(0))),
+        (2, Spot::Vertex(VertexId(1))),
+        (4, Spot::Vertex(VertexId(2))),
+        (5, Spot::Edge(DartId(4))),
+    ];
+    assert!(rt; plan.vertices.len() == 4 && plan.between.len() == 3);
+    for (meeting, (x, spot)) in plan.vertices.iter().zip(wanted) {
+        assert!(rt; meeting.point == at(x, 0)? && meeting.spot == spot);
+    }
+    for (spot, dart) in plan.between.iter().zip([0, 2, 4]) {
+        assert!(rt; *spot == Spot::Edge(DartId(dart)));
+    }
+    assert!(rt; plan.overlapped.as_slice() == [DartId(0), DartId(2), DartId(4)].as_slice());
+    assert!(rt; plan.room.vertices == 2 && plan.room.edges == 5);
+    let crossing = checked.zone(rt.alloc(), &Segment::new(3, -1, 3, 1)?)?;
+    assert!(rt; crossing.vertices.len() == 3 && crossing.overlapped.is_empty());
     Ok(())
 }
