@@ -105,7 +105,10 @@ if [ $# -eq 0 ]; then
   printf '%s\n' 'segment 0 0 4 0' 'segment 4 0 4 4' 'segment 4 4 0 4' 'segment 0 4 0 0' 'segment 0 0 4 4' 'segment 0 4 4 0' \
     'pin 9 9 1' 'pin 1 1 1' 'locate 2 1 1' 'locate 9 9 1' 'unpin 1 1 1' 'count' 'show' 'segment 1 1 1 1' 'pin 9 9 1' > "$folder/square"
   printf '%s\n' 'show' '# empty' 'pin 1 0 1' 'pin 0 0 1' 'locate 0 0 1' 'show' > "$folder/pins"
-  set -- "$folder/square" "$folder/pins"
+  printf '%s\n' 'segment 0 0 9 0' 'segment 9 0 0 0' 'segment 2 -1 2 1' 'split 9 0 1 2 0 1 6 0 1' 'edge 2 0 1 6 0 1' 'cut 2 0 1 6 0 1' 'curve 1' \
+    'merge 6 0 1' 'unpin 6 0 1' 'drop 2' 'drop 2' 'pin 1 0 1' 'merge 1 0 1' 'drop 1' 'curve 3' 'show' 'clear' 'segment 0 0 1 0' 'drop 4' 'count' \
+    > "$folder/removals"
+  set -- "$folder/square" "$folder/pins" "$folder/removals"
 fi
 
 python3 - "$program" "$folder/calls.so" "$@" <<'PYTHON'
@@ -128,10 +131,10 @@ def run(script, **variables):
 
 
 def replies(output):
-    """The replies, each whole: that of `show` has many lines."""
+    """The replies, each whole: those of `show` and `curve` have many lines."""
     found, lines = [], output.split(b'\n')[:-1]
     while lines:
-        last = lines.index(b'end') + 1 if lines[0].startswith(b'arrangement') else 1
+        last = lines.index(b'end') + 1 if lines[0].startswith((b'arrangement', b'curve ')) else 1
         found.append(lines[:last])
         lines = lines[last:]
     return found

@@ -1,198 +1,66 @@
--- Edges of records by the points of their ends.
-use Rattle.std.proofs.Common.{◌≡◌, ◌≢◌, ℕ, List, [], ◌∷◌, map, Bool, true, false, not, nat_eq, refl, sym, ap, ap₂, ◌∙◌, subst, inl, inr, Option, Some, None, Ordering, Equal}
-use Rattle.std.specs.Prelude.{◌↔◌, MatchOption, is_some, if◌then◌else◌}
-use Rattle.std.specs.List.{Contains, AllByRecursion, IsDistinct}
-use Rattle.std.specs.List.Sorted.{IsPermutation, IsSorted}
-use Rattle.std.specs.Ordering.{ordering_then, eq_by_cmp}
-use Rattle.std.proofs.lemmas.Bool.{eq-eqb}
-use Rattle.std.specs.Cmp.{IsTotalOrder, then_total, on_total}
+-- Edges of a curve, by their ends.
+use Rattle.std.proofs.Common.{◌≡◌, List, [], ◌∷◌, map, refl, sym, ap, ◌∙◌, subst, Result, Ok, Err, inl, inr}
+use Rattle.std.specs.Prelude.{◌↔◌, IfOk}
+use Rattle.std.specs.List.{AllByRecursion}
 use Rattle.exact_plane.specs.Point.{Point}
-use Rattle.exact_plane.specs.PointOrder.{point_cmp}
-use Rattle.exact_plane.specs.PointOrderLaws.{point_cmp_total}
-use Rattle.plane_graphs.specs.Ascending.{Member, IsAscending, ascending}
-use Rattle.plane_graphs.specs.Graph.{Edge, edge_cmp, graph, edges, curves}
-use Rattle.plane_graphs.specs.Line.{precedes}
-use Rattle.plane_graphs.proofs.Ascending.{to_member, from_member, IsAscending-ascending}
-use Rattle.plane_graphs.proofs.Lists.{decide, clash, in_map, of_map, in_ascending, of_ascending}
-use Rattle.plane_graphs.proofs.Meaning.{edge_cmp_total, edge_cmp_exact}
+use Rattle.plane_graphs.specs.Ascending.{Member, IsAscending}
+use Rattle.plane_graphs.specs.Graph.{Edge, edge_cmp}
+use Rattle.plane_graphs.proofs.Lists.{in_map, of_map}
 use Rattle.slab_laws.specs.declared.names.DartId.{DartId}
-use Rattle.slab_laws.specs.declared.names.VertexId.{VertexId}
-use Rattle.slab_laws.specs.Sound.{edge_between, edge_in, skeleton_of, IsGraphSound}
-use Rattle.slab_laws.specs.Tables.{row_at}
-use Rattle.slab_laws.specs.View.{View, HasVertex, HasDart, IsOutOf, point_in, source_in, target_in, twin_in}
-use Rattle.sound_views.proofs.Named.{twin_dart, edge_known, row_edge, row_edges, by_points}
-use Rattle.sound_views.proofs.Pulled.{IsAscending-map}
-use Rattle.record_orders.proofs.Sorting.{all_members, untied, sorted_is}
-use Rattle.arr_notes.specs.Curves.{is_forward, IsForward}
-use Rattle.record_graphs.proofs.Along.{curves_of_darts}
-use Rattle.record_graphs.proofs.Drawn.{graphs_are_drawn, twins_are_directed}
-use Rattle.curve_history.specs.Past.{Past, held}
-use Rattle.record_layers.specs.Kept.{IsLayer, layer_of}
-use Rattle.arrangement.specs.Edges.{RunsBetween, IsDartAlong, ends_in, edge_of}
+use Rattle.slab_laws.specs.Sound.{edge_in}
+use Rattle.slab_laws.specs.View.{View, point_in, source_in, target_in}
+use Rattle.arr_notes.specs.Curves.{IsForward}
+use Rattle.record_orders.specs.declared.darts.DartKey.{DartKey}
+use Rattle.record_orders.specs.Keys.{dart_key}
+use Rattle.edges_by_ends.specs.Edges.{edge_of, edge_of_key}
+use Rattle.edges_by_ends.proofs.Ends.{ahead}
 
-pub option_alike : {A : Type 0} (o : Option A) (N M : Type 0) (P Q : A → Type 0) → (N → M) → ((x : A) → P x → Q x) → MatchOption o N P → MatchOption o M Q
-option_alike None N M P Q f g h = f h
-option_alike (Some x) N M P Q f g h = g x h
+pub if_ok : {T E : Type 0} → (r : Result T E) (P Q : T → Type 0) → ((x : T) → P x → Q x) → IfOk r P → IfOk r Q
+if_ok (Ok x) P Q f h = f x h
+if_ok (Err e) P Q f h = tt
 
--- ---- the edge between two points
-abbrev pub edge_of_ends : Point → Point → Edge
-edge_of_ends p q = record { low = p; high = q }
+abbrev pub two : DartKey → Point × Point
+two k = (k.source, k.target)
 
-pub ahead : (p q : Point) → precedes p q ≡ true → edge_between p q ≡ edge_of_ends p q
-ahead p q f = ap (λ b. if b then edge_of_ends p q else edge_of_ends q p) f
+same_edges : (ks : List DartKey) → map edge_of (map two ks) ≡ map edge_of_key ks
+same_edges [] = refl
+same_edges (k ∷ ks) = ap (λ (es : List Edge). edge_of_key k ∷ es) (same_edges ks)
 
-pub behind : (p q : Point) → precedes p q ≡ false → edge_between p q ≡ edge_of_ends q p
-behind p q f = ap (λ b. if b then edge_of_ends p q else edge_of_ends q p) f
+module _ (v : View) where
+  key_is : (ks : List DartKey) → AllByRecursion (λ k. k ≡ dart_key v k.name) ks → (k : DartKey) → Member k ks → k ≡ dart_key v k.name
+  key_is [] a k m = absurd m
+  key_is (x ∷ ks) a k (inl e) = subst (λ (z : DartKey). z ≡ dart_key v z.name) (sym e) a.0
+  key_is (x ∷ ks) a k (inr m) = key_is ks a.1 k m
 
-module _ (v : View) (s : IsGraphSound v) (e : Edge) (low high : Point) (same : e ≡ edge_of_ends low high) where
-  -- the points of the ends of its forward dart
-  pub along_runs : (d : DartId) → IsDartAlong v e d → RunsBetween v low high d
-  along_runs d a =
-      let ends = sym (ahead (point_in v (source_in v d)) (point_in v (target_in v d)) a.forward.1) ∙ a.edge ∙ same in
-      record { has = a.forward.0; starts = ap (λ x. x.low) ends; ends = ap (λ x. x.high) ends }
+  forward_is : (ds : List DartId) → AllByRecursion (λ d. IsForward v d) ds → (d : DartId) → Member d ds → IsForward v d
+  forward_is [] f d m = absurd m
+  forward_is (x ∷ ds) f d (inl e) = subst (IsForward v) (sym e) f.0
+  forward_is (x ∷ ds) f d (inr m) = forward_is ds f.1 d m
 
-  turned : (b : Bool) → not b ≡ false → b ≡ true
-  turned true x = refl
-  turned false x = sym x
+  module _ (ks : List DartKey) (ds : List DartId) (forward : AllByRecursion (λ d. IsForward v d) ds) (keys : AllByRecursion (λ k. k ≡ dart_key v k.name) ks) (names : (d : DartId) → Member d (map (λ (k : DartKey). k.name) ks) ↔ Member d ds) where
+    there : (k : DartKey) → Member k ks → Member k.name ds
+    there k m = (names k.name).0 (in_map (λ (k : DartKey). k.name) k ks m)
 
-  -- and a dart with these ends goes forward, since one of two twins does
-  pub runs_along : precedes high low ≡ false → (d : DartId) → RunsBetween v low high d → IsDartAlong v e d
-  runs_along f d r =
-      let back : is_forward v (twin_in v d) ≡ false = ap₂ precedes r.ends (ap (λ x. point_in v (source_in v x)) (s.twinned.back d r.has) ∙ r.starts) ∙ f in
-      let forward : is_forward v d ≡ true = turned (is_forward v d) (sym (twins_are_directed v s d r.has) ∙ back) in
-      record {
-        forward = (r.has, forward);
-        edge = ahead (point_in v (source_in v d)) (point_in v (target_in v d)) forward ∙ ap₂ edge_of_ends r.starts r.ends ∙ sym same;
-      }
+    its_edge : (k : DartKey) → Member k ks → edge_of_key k ≡ edge_in v k.name
+    its_edge k m = ap edge_of_key (key_is ks keys k m) ∙ sym (ahead (point_in v (source_in v k.name)) (point_in v (target_in v k.name)) (forward_is ds forward k.name (there k m)).1)
 
--- ---- a dart from a vertex to a vertex
-module _ (v : View) (s : IsGraphSound v) (a b : VertexId) (p q : Point) (has_a : HasVertex v a) (has_b : HasVertex v b) (at_a : point_in v a ≡ p) (at_b : point_in v b ≡ q) where
-  pub out_runs : (d : DartId) → IsOutOf v a d × (target_in v d ≡ b) → RunsBetween v p q d
-  out_runs d o = record { has = o.0.0; starts = ap (point_in v) o.0.1 ∙ at_a; ends = ap (point_in v) o.1 ∙ at_b }
-
-  pub none_runs : ((d : DartId) → IsOutOf v a d → target_in v d ≢ b) → (d : DartId) → ¬ RunsBetween v p q d
-  none_runs none d r =
-      let starts : source_in v d ≡ a = s.drawn.points (source_in v d) a (s.linked.source d r.has) has_a (r.starts ∙ sym at_a) in
-      let ends : target_in v d ≡ b = s.drawn.points (target_in v d) b (s.linked.source (twin_in v d) (s.twinned.has d r.has)) has_b (r.ends ∙ sym at_b) in
-      none d (r.has, starts) ends
-
--- ---- edges of the graph that records and history draw
-module _ (v : View) (h : Past) (l : IsLayer v h) where
-  same_edges : edges (graph (layer_of v h).present) ≡ (skeleton_of v).edges
-  same_edges = ap edges (sym l.stands) ∙ ap (λ g. g.edges) (graphs_are_drawn v (held h) l.sound l.curves)
-
-  pub along_drawn : (e : Edge) (d : DartId) → IsDartAlong v e d → Member e (edges (graph (layer_of v h).present))
-  along_drawn e d a =
-      subst (Member e) (sym same_edges)
-      (subst (λ x. Member x (skeleton_of v).edges) a.edge (to_member (skeleton_of v).edges (edge_in v d) (edge_known v l.sound d a.forward.0)))
-
-  -- of the dart of an edge and its twin one goes forward
-  forward_one : (e : Edge) (d : DartId) → HasDart v d → e ≡ edge_in v d → (d : DartId) × IsDartAlong v e d
-  forward_one e d has is =
-      elim (decide (is_forward v d)) [
-        | inl f ↦ (d, record { forward = (has, f); edge = sym is })
-        | inr f ↦ (twin_in v d, record { forward = (l.sound.twinned.has d has, twins_are_directed v l.sound d has ∙ ap not f); edge = ap (λ k. k.edge) (twin_dart v l.sound d has) ∙ sym is })
-      ]
-
-  pub drawn_along : (e : Edge) → Member e (edges (graph (layer_of v h).present)) → (d : DartId) × IsDartAlong v e d
-  drawn_along e m =
-      let k = row_edge v e (of_ascending edge_cmp edge_cmp_total edge_cmp_exact e (row_edges v) (subst (Member e) same_edges m)) in
-      forward_one e k.0 k.1 k.2
-
-  pub curves_along : (e : Edge) (d : DartId) → IsDartAlong v e d → held h d ≡ curves (graph (layer_of v h).present) e.low e.high
-  curves_along e d a =
-      let same : edge_of_ends (point_in v (source_in v d)) (point_in v (target_in v d)) ≡ e = sym (ahead (point_in v (source_in v d)) (point_in v (target_in v d)) a.forward.1) ∙ a.edge in
-      sym (curves_of_darts v (held h) d l.sound l.curves a.forward) ∙ ap₂ (λ g x. curves g x.low x.high) l.stands same
-
-  -- ---- the edges of a curve
-  nothing_in : (k : ℕ) (ns : List ℕ) → ns ≡ [] → ¬ Member k ns
-  nothing_in k ns e m = subst (Member k) e m
-
-  -- only forward darts have curves
-  pub curved_forward : (k : ℕ) (d : DartId) → Member k (held h d) → IsForward v d
-  curved_forward k d m = (
-    elim (decide (is_some (row_at v.darts d.0))) [ inl o ↦ o | inr n ↦ absurd (nothing_in k (held h d) (l.curves.without_dart d (λ o. clash o n)) m) ],
-    elim (decide (is_forward v d)) [ inl f ↦ f | inr f ↦ absurd (nothing_in k (held h d) (l.curves.backward d f) m) ],
-  )
-
-  module _ (k : ℕ) (ds : List DartId) (are : (d : DartId) → Contains ds d ↔ Member k (held h d)) where
-    pub all_forward : (es : List DartId) → ((d : DartId) → Member d es → Member d ds) → AllByRecursion (λ d. IsForward v d) es
-    all_forward es there = all_members (λ d. IsForward v d) es (λ d m. curved_forward k d ((are d).0 (from_member ds d (there d m))))
-
-    pub curve_edge : (e : Edge) → Member e (map (edge_in v) ds) → Member e (edges (graph (layer_of v h).present)) × Member k (curves (graph (layer_of v h).present) e.low e.high)
-    curve_edge e m =
-        let d = of_map (edge_in v) e ds m in
-        let held_here = (are d.0).0 (from_member ds d.0 d.1) in
-        let a : IsDartAlong v e d.0 = record { forward = curved_forward k d.0 held_here; edge = sym d.2 } in
-        (along_drawn e d.0 a, subst (Member k) (curves_along e d.0 a) held_here)
-
-    pub edge_curve : (e : Edge) → Member e (edges (graph (layer_of v h).present)) × Member k (curves (graph (layer_of v h).present) e.low e.high) → Member e (map (edge_in v) ds)
-    edge_curve e m =
-        let d = drawn_along e m.0 in
-        let held_here = subst (Member k) (sym (curves_along e d.0 d.1)) m.1 in
-        subst (λ x. Member x (map (edge_in v) ds)) d.1.edge (in_map (edge_in v) d.0 ds (to_member ds d.0 ((are d.0).1 held_here)))
-
--- ---- the order of edges
-abbrev pub pair_cmp : Point × Point → Point × Point → Ordering
-pair_cmp x y = ordering_then (point_cmp x.0 y.0) (point_cmp x.1 y.1)
-
-pair_cmp_total : IsTotalOrder pair_cmp
-pair_cmp_total = then_total (on_total (λ x. x.0) point_cmp_total) (on_total (λ x. x.1) point_cmp_total)
-
-pair_cmp_exact : (x y : Point × Point) → pair_cmp x y ≡ Equal → x ≡ y
-unfolding edge_cmp
-pair_cmp_exact x y h = let e = edge_cmp_exact (edge_of x) (edge_of y) h in ap (λ z. (z.low, z.high)) e
-
-same_number : (n : ℕ) → nat_eq n n ≡ true
-same_number n = eq-eqb n n refl
-
-module _ (v : View) (s : IsGraphSound v) where
-  told_apart : (d e : DartId) → HasDart v d → HasDart v e → nat_eq d.0 e.0 ≡ false → eq_by_cmp pair_cmp (ends_in v d) (ends_in v e) ≡ false
-  told_apart d e has_d has_e n =
-      untied pair_cmp pair_cmp_total (ends_in v d) (ends_in v e) (λ t.
-      let ends = pair_cmp_exact (ends_in v d) (ends_in v e) t in
-      let same : d ≡ e = s.turned.differ d e has_d has_e (ap₂ by_points (ap (λ z. z.0) ends) (ap (λ z. z.1) ends)) in
-      clash (ap (λ x. nat_eq d.0 x.0) (sym same) ∙ same_number d.0) n)
-
-  differs : (d : DartId) (ds : List DartId) → HasDart v d → AllByRecursion (λ x. IsForward v x) ds → AllByRecursion (λ x. nat_eq d.0 x.0 ≡ false) ds → AllByRecursion (λ y. eq_by_cmp pair_cmp (ends_in v d) y ≡ false) (map (ends_in v) ds)
-  differs d [] has f a = tt
-  differs d (e ∷ es) has f a = (told_apart d e has f.0.0 a.0, differs d es has f.1 a.1)
-
-  distinct : (ds : List DartId) → AllByRecursion (λ x. IsForward v x) ds → IsDistinct (λ a b. nat_eq a.0 b.0) ds → IsDistinct (eq_by_cmp pair_cmp) (map (ends_in v) ds)
-  unfolding IsDistinct
-  distinct [] f a = tt
-  distinct (d ∷ ds) f a = (differs d ds f.0.0 f.1 a.0, distinct ds f.1 a.1)
-
-  pub have : (ds : List DartId) → AllByRecursion (λ x. IsForward v x) ds → AllByRecursion (λ x. HasDart v x) ds
-  have [] f = tt
-  have (d ∷ ds) f = (f.0.0, have ds f.1)
-
-  edges_of_darts : (ds : List DartId) → AllByRecursion (λ x. IsForward v x) ds → map edge_of (map (ends_in v) ds) ≡ map (edge_in v) ds
-  edges_of_darts [] f = refl
-  edges_of_darts (d ∷ ds) f = ap₂ (λ (x : Edge) (xs : List Edge). x ∷ xs) (sym (ahead (point_in v (source_in v d)) (point_in v (target_in v d)) f.0.1)) (edges_of_darts ds f.1)
-
-  module _ (ds : List DartId) (forward : AllByRecursion (λ x. IsForward v x) ds) (once : IsDistinct (λ a b. nat_eq a.0 b.0) ds) (us ms : List (Point × Point)) (is : us ≡ map (ends_in v) ds) (p : IsPermutation us ms) (o : IsSorted pair_cmp ms) where
-    sorted : ms ≡ ascending pair_cmp (map (ends_in v) ds)
-    sorted =
-        sorted_is pair_cmp pair_cmp_total (map (ends_in v) ds) ms (ascending pair_cmp (map (ends_in v) ds)) (distinct ds forward once) (subst (λ xs. IsPermutation xs ms) is p) o
-        (IsAscending-ascending pair_cmp pair_cmp_total (map (ends_in v) ds))
-        (λ x m. in_ascending pair_cmp pair_cmp_total pair_cmp_exact x (map (ends_in v) ds) m)
-        (λ x m. of_ascending pair_cmp pair_cmp_total pair_cmp_exact x (map (ends_in v) ds) m)
-
-    pub edges_ascend : IsAscending edge_cmp (map edge_of ms)
-    unfolding edge_cmp
-    edges_ascend =
-        IsAscending-map pair_cmp edge_cmp edge_of ms (λ x y m n h. h)
-        (subst (λ xs. IsAscending pair_cmp xs) (sym sorted) (IsAscending-ascending pair_cmp pair_cmp_total (map (ends_in v) ds)))
-
-    pub edges_are : (e : Edge) → Member e (map edge_of ms) ↔ Member e (map (edge_in v) ds)
-    edges_are e = (
+    key_edges : (e : Edge) → Member e (map edge_of_key ks) ↔ Member e (map (edge_in v) ds)
+    key_edges e = (
       λ m.
-          let x = of_map edge_of e ms m in
-          let there = of_ascending pair_cmp pair_cmp_total pair_cmp_exact x.0 (map (ends_in v) ds) (subst (Member x.0) sorted x.1) in
-          subst (λ z. Member z (map (edge_in v) ds)) (sym x.2) (subst (Member (edge_of x.0)) (edges_of_darts ds forward) (in_map edge_of x.0 (map (ends_in v) ds) there)),
+          let k = of_map edge_of_key e ks m in
+          subst (λ z. Member z (map (edge_in v) ds)) (sym (k.2 ∙ its_edge k.0 k.1)) (in_map (edge_in v) k.0.name ds (there k.0 k.1)),
       λ m.
-          let x = of_map edge_of e (map (ends_in v) ds) (subst (Member e) (sym (edges_of_darts ds forward)) m) in
-          let there = in_ascending pair_cmp pair_cmp_total pair_cmp_exact x.0 (map (ends_in v) ds) x.1 in
-          subst (λ z. Member z (map edge_of ms)) (sym x.2) (in_map edge_of x.0 ms (subst (Member x.0) (sym sorted) there)),
+          let d = of_map (edge_in v) e ds m in
+          let k = of_map (λ (k : DartKey). k.name) d.0 ks ((names d.0).1 d.1) in
+          subst (λ z. Member z (map edge_of_key ks)) (its_edge k.0 k.1 ∙ ap (edge_in v) (sym k.2) ∙ sym d.2) (in_map edge_of_key k.0 ks k.1),
     )
+
+    module _ (us : List (Point × Point)) (is : us ≡ map two ks) where
+      same : map edge_of us ≡ map edge_of_key ks
+      same = ap (map edge_of) is ∙ same_edges ks
+
+      pub edges_are : (e : Edge) → Member e (map edge_of us) ↔ Member e (map (edge_in v) ds)
+      edges_are e = subst (λ (es : List Edge). Member e es ↔ Member e (map (edge_in v) ds)) (sym same) (key_edges e)
+
+pub edges_ascend : (ks : List DartKey) (us : List (Point × Point)) → us ≡ map two ks → IsAscending edge_cmp (map edge_of_key ks) → IsAscending edge_cmp (map edge_of us)
+edges_ascend ks us is a = subst (λ (es : List Edge). IsAscending edge_cmp es) (sym (ap (map edge_of) is ∙ same_edges ks)) a

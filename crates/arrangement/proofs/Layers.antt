@@ -6,7 +6,7 @@ use Rattle.exact_plane.specs.PointOrder.{point_cmp}
 use Rattle.plane_graphs.specs.Ascending.{ascending}
 use Rattle.plane_graphs.specs.Graph.{Mark, graph, mark, mark_cmp}
 use Rattle.edit_steps.specs.Edits.{Edit, steps}
-use Rattle.edit_steps.specs.Layer.{empty_layer}
+use Rattle.edit_steps.specs.Layer.{empty_layer, layer_after}
 use Rattle.slab_laws.specs.declared.names.CurveId.{CurveId}
 use Rattle.slab_laws.specs.declared.names.DartId.{DartId}
 use Rattle.slab_laws.specs.Sound.{points_of}
@@ -23,6 +23,8 @@ use Rattle.record_layers.proofs.Edits.{edits_grow_or_shrink}
 use Rattle.record_layers.proofs.Layers.{nothing_is_a_layer}
 use Rattle.record_layers.proofs.Names.{grown_names_stay, shrunk_names_stay}
 use Rattle.plain_slabs.specs.ByName.{numbers_of}
+use Rattle.arrangement.specs.declared.limits.Limits.{Limits}
+use Rattle.arrangement.specs.Edited.{IsEdited, IsAsBefore}
 
 -- ---- nothing
 nothing_pinned : (h : Curves) → (drawn_graph no_rows h).pins ≡ []
@@ -39,7 +41,7 @@ first_is_empty v p n rows names pieces next =
 
 -- ---- edits that are done, and edits that are not
 module _ (v : View) (p : Past) (w : View) (q : Past) where
-  pub unchanged : w ≡ v → SameLayer p q → SameCurves p q → layer_of w q ≡ layer_of v p
+  unchanged : w ≡ v → SameLayer p q → SameCurves p q → layer_of w q ≡ layer_of v p
   unchanged e l c =
       let curves : held q ≡ held p = λ i d. c d i in
       λ i. record { present = record { pieces = l.pieces i; pins = (drawn_graph (e i) (curves i)).pins }; names = l.names i; next = l.next i }
@@ -51,16 +53,16 @@ module _ (v : View) (p : Past) (w : View) (q : Past) where
         | inr g ↦ shrunk_names_stay v (held p) (steps e (layer_of v p).present) w (held q) l.sound l.curves m g
       ]
 
-  same_names_stay : w ≡ v → NamesStay v w (held p) (held q)
-  same_names_stay e = subst (λ z. NamesStay v z (held p) (held q)) (sym e) (record { vertex = λ u o m. (o, refl); dart = λ d o m. (o, refl) })
+  pub edited_so : (m : Limits) (e : Edit) → IsLayer v p → layer_of w q ≡ layer_after e (layer_of v p) → Makes v (held p) (steps e (layer_of v p).present) w (held q) → IsEdited (record { graph = v; past = p; limits = m }) (record { graph = w; past = q; limits = m }) e
+  edited_so m e l after made = record { layer = after; steps = made; names = done_names_stay e l made }
 
-  pub names_stay : {T E : Type 0} (r : Result T E) (e : T → Edit) → IsLayer v p → IfOk r (λ c. Makes v (held p) (steps (e c) (layer_of v p).present) w (held q)) → OnErr r (w ≡ v) → NamesStay v w (held p) (held q)
-  names_stay (Ok c) e l m same = done_names_stay (e c) l m
-  names_stay (Err x) e l m same = same_names_stay same
+  pub edited : {T E : Type 0} (m : Limits) (r : Result T E) (e : T → Edit) → IsLayer v p → IfOk r (λ c. layer_of w q ≡ layer_after (e c) (layer_of v p)) → IfOk r (λ c. Makes v (held p) (steps (e c) (layer_of v p).present) w (held q)) → IfOk r (λ c. IsEdited (record { graph = v; past = p; limits = m }) (record { graph = w; past = q; limits = m }) (e c))
+  edited m (Ok c) e l after made = edited_so m (e c) l after made
+  edited m (Err x) e l after made = tt
 
-  pub stays : {T E : Type 0} (r : Result T E) → OnErr r (w ≡ v) → OnErr r (SameLayer p q) → OnErr r (SameCurves p q) → OnErr r ((layer_of w q ≡ layer_of v p) × (w ≡ v))
-  stays (Ok c) e l s = tt
-  stays (Err x) e l s = (unchanged e l s, e)
+  pub as_before : {T E : Type 0} (m : Limits) (r : Result T E) → OnErr r (w ≡ v) → OnErr r (SameLayer p q) → OnErr r (SameCurves p q) → OnErr r (IsAsBefore (record { graph = v; past = p; limits = m }) (record { graph = w; past = q; limits = m }))
+  as_before m (Ok c) e l s = tt
+  as_before m (Err x) e l s = record { layer = unchanged e l s; graph = e; curves = s }
 
 -- ---- the graph that both draw
 numbers : (ns : List ℕ) → map (λ (c : CurveId). c.0) (map curve_id ns) ≡ ns

@@ -1,2 +1,2 @@
 pub mod Arranged
-pub mod Edges
+pub mod Edited

@@ -1,15 +1,17 @@
 ghost use Rattle.std.specs.Prelude.{◌≡◌, ◌⊎◌, MatchOption, Ok, Err, IsOk, IfOk, OnOk, OnErr, true, false};
 ghost use Rattle.std.specs.List.{list_any};
 ghost use Rattle.plane_graphs.specs.Line.{same_point};
-ghost use Rattle.edit_steps.specs.Edits.{Insert, Pin, Unpin, steps};
-ghost use Rattle.edit_steps.specs.Layer.{layer_after, empty_layer};
-ghost use Rattle.curve_history.specs.Past.{held};
+ghost use Rattle.edit_steps.specs.Edits.{Insert, Drop, Pin, Unpin, Split, Merge, ClearAll};
+ghost use Rattle.edit_steps.specs.Layer.{empty_layer};
 ghost use Rattle.curve_history.specs.declared.history.TheConstants.{LAST_CURVE};
-ghost use Rattle.record_layers.specs.Kept.{Makes};
-ghost use Rattle.record_layers.specs.Laws.{NamesStay};
 ghost use Rattle.segment_insert.specs.Insertion.{refusal};
+ghost use Rattle.segment_remove.specs.Refused.{cut_between, cut_refusal, drop_refusal};
 ghost use Rattle.pin_points.specs.Pins.{refusal as pin_refusal};
+ghost use Rattle.pin_points.specs.Splits.{split_refusal};
+ghost use Rattle.pin_points.specs.Merges.{merge_refusal};
+ghost use Rattle.slab_laws.specs.Sound.{IsGraphSound, edge_between};
 ghost use Rattle.arrangement.specs.Arranged.{Arranged, layer_in, AreLimits};
+ghost use Rattle.arrangement.specs.Edited.{IsEdited, IsAsBefore};
 
 use crate::limits::Limits;
 use curve_history::History;
@@ -17,8 +19,11 @@ use dcel_records::Records;
 use exact_plane::{Point, Segment};
 use locate_naive::locate;
 use no_memory::NoMemory;
-use pin_points::{NotPinned, PinError, pin, unpin};
+use pin_points::{
+    MergeError, NotPinned, PinError, SplitError, clear, merge_edge, pin, split_edge, unpin,
+};
 use segment_insert::{InsertError, insert};
+use segment_remove::{CutError, DropError, remove_curve, remove_edge};
 use slab_laws::CurveId;
 use std::alloc::Global;
 use std::marker::Model;
@@ -73,11 +78,9 @@ impl Arrangement {
     /// One curve or one piece more would pass its limit, the last number was drawn, or there was no memory.
     pub fn insert(&mut self, segment: Segment) -> Result<CurveId, InsertError>
         ensures number { IfOk result (λ c. c.0 ≡ self.old.past.next) }
-        ensures edit { IfOk result (λ c. layer_in self.new ≡ layer_after (Insert c.0 segment) (layer_in self.old)) }
-        ensures steps { IfOk result (λ c. Makes self.old.graph (held self.old.past) (steps (Insert c.0 segment) (layer_in self.old).present) self.new.graph (held self.new.past)) }
-        ensures names { NamesStay self.old.graph self.new.graph (held self.old.past) (held self.new.past) }
+        ensures edit { IfOk result (λ c. IsEdited self.old self.new (Insert c.0 segment)) }
         ensures refused { MatchOption (refusal self.old.limits.curves self.old.limits.pieces LAST_CURVE self.old.past) (IsOk result ⊎ (result ≡ Err InsertError.NoMemory)) (λ e. result ≡ Err e) }
-        ensures err { OnErr result ((layer_in self.new ≡ layer_in self.old) × (self.new.graph ≡ self.old.graph)) }
+        ensures as_before { OnErr result (IsAsBefore self.old self.new) }
         ensures limits { self.new.limits ≡ self.old.limits }
     {
         let start = locate(&self.records, &segment.lower());
@@ -92,17 +95,52 @@ impl Arrangement {
         )
     }
 
+    /// A curve goes, with each edge along which no other curve runs; then each vertex that nothing calls for any more (CGAL
+    /// manual, `remove_curve`). At a refusal or for want of memory nothing is changed.
+    ///
+    /// # Errors
+    ///
+    /// No curve has the number, or there was no memory for the list of its edges.
+    pub fn remove_curve(&mut self, curve: CurveId) -> Result<(), DropError>
+        ensures edit { OnOk result (IsEdited self.old self.new (Drop curve.0)) }
+        ensures refused { MatchOption (drop_refusal (layer_in self.old).names curve.0) (IsOk result ⊎ (result ≡ Err DropError.NoMemory)) (λ e. result ≡ Err e) }
+        ensures as_before { OnErr result (IsAsBefore self.old self.new) }
+        ensures limits { self.new.limits ≡ self.old.limits }
+    {
+        remove_curve(self.alloc, &mut self.records, &mut self.history, curve)
+    }
+
+    /// The edge between two points, which come in either order, goes from all its curves, which keep the rest as shorter pieces
+    /// (CGAL manual, `remove_edge`; the pieces: this project). At a refusal or for want of memory nothing is changed.
+    ///
+    /// # Errors
+    ///
+    /// No edge joins the points, the pieces that are left would pass their limit, or there was no memory for them.
+    pub fn remove_edge(&mut self, p: &Point, q: &Point) -> Result<(), CutError>
+        ensures edit { OnOk result (IsEdited self.old self.new (cut_between p.now q.now)) }
+        ensures refused { MatchOption (cut_refusal self.old.limits.pieces (layer_in self.old).present (edge_between p.now q.now)) (IsOk result ⊎ (result ≡ Err CutError.NoMemory)) (λ e. result ≡ Err e) }
+        ensures as_before { OnErr result (IsAsBefore self.old self.new) }
+        ensures limits { self.new.limits ≡ self.old.limits }
+    {
+        remove_edge(
+            self.alloc,
+            &mut self.records,
+            &mut self.history,
+            self.limits.pieces,
+            p,
+            q,
+        )
+    }
+
     /// Pins a point: it is a vertex until it is unpinned. At a refusal or for want of memory nothing is changed.
     ///
     /// # Errors
     ///
     /// The point is pinned, one pin more would pass the limit, or there was no memory.
     pub fn pin(&mut self, p: &Point) -> Result<(), PinError>
-        ensures edit { OnOk result (layer_in self.new ≡ layer_after (Pin p.now) (layer_in self.old)) }
-        ensures steps { OnOk result (Makes self.old.graph (held self.old.past) (steps (Pin p.now) (layer_in self.old).present) self.new.graph (held self.new.past)) }
-        ensures names { NamesStay self.old.graph self.new.graph (held self.old.past) (held self.new.past) }
+        ensures edit { OnOk result (IsEdited self.old self.new (Pin p.now)) }
         ensures refused { MatchOption (pin_refusal self.old.limits.pins (layer_in self.old).present.pins p.now) (IsOk result ⊎ (result ≡ Err PinError.NoMemory)) (λ e. result ≡ Err e) }
-        ensures err { OnErr result ((layer_in self.new ≡ layer_in self.old) × (self.new.graph ≡ self.old.graph)) }
+        ensures as_before { OnErr result (IsAsBefore self.old self.new) }
         ensures limits { self.new.limits ≡ self.old.limits }
     {
         let at = locate(&self.records, p);
@@ -122,15 +160,68 @@ impl Arrangement {
     ///
     /// The point isn't pinned, and nothing is changed.
     pub fn unpin(&mut self, p: &Point) -> Result<(), NotPinned>
-        ensures edit { OnOk result (layer_in self.new ≡ layer_after (Unpin p.now) (layer_in self.old)) }
-        ensures steps { OnOk result (Makes self.old.graph (held self.old.past) (steps (Unpin p.now) (layer_in self.old).present) self.new.graph (held self.new.past)) }
-        ensures names { NamesStay self.old.graph self.new.graph (held self.old.past) (held self.new.past) }
+        ensures edit { OnOk result (IsEdited self.old self.new (Unpin p.now)) }
         ensures done { OnOk result (list_any (same_point p.now) (layer_in self.old).present.pins ≡ true) }
         ensures refused { OnErr result (list_any (same_point p.now) (layer_in self.old).present.pins ≡ false) }
-        ensures err { OnErr result ((layer_in self.new ≡ layer_in self.old) × (self.new.graph ≡ self.old.graph)) }
+        ensures as_before { OnErr result (IsAsBefore self.old self.new) }
         ensures limits { self.new.limits ≡ self.old.limits }
     {
         unpin(&mut self.records, &mut self.history, p)
+    }
+
+    /// Pins a point inside the edge between two others, which come in either order (CGAL manual, `split_edge`; the pin: this
+    /// project). At a refusal or for want of memory nothing is changed.
+    ///
+    /// # Errors
+    ///
+    /// No edge joins the points, the point isn't strictly inside it, one pin more would pass the limit, or there was no memory.
+    pub fn split_edge(&mut self, p: &Point, q: &Point, r: &Point) -> Result<(), SplitError>
+        ensures edit { OnOk result (IsEdited self.old self.new (Split (edge_between p.now q.now).low (edge_between p.now q.now).high r.now)) }
+        ensures refused { MatchOption (split_refusal self.old.limits.pins (layer_in self.old).present (edge_between p.now q.now) r.now) (IsOk result ⊎ (result ≡ Err SplitError.NoMemory)) (λ e. result ≡ Err e) }
+        ensures as_before { OnErr result (IsAsBefore self.old self.new) }
+        ensures limits { self.new.limits ≡ self.old.limits }
+    {
+        split_edge(
+            self.alloc,
+            &mut self.records,
+            &mut self.history,
+            self.limits.pins,
+            p,
+            q,
+            r,
+        )
+    }
+
+    /// Unpins a point that its pin alone makes a vertex, where two edges meet: they become one (CGAL manual, `merge_edge`; the
+    /// pin: this project). It takes no memory.
+    ///
+    /// # Errors
+    ///
+    /// No vertex is at the point; or it isn't pinned, would be a vertex without its pin, or has no edge. Nothing is changed.
+    pub fn merge_edge(&mut self, r: &Point) -> Result<(), MergeError>
+        ensures edit { OnOk result (IsEdited self.old self.new (Merge r.now)) }
+        ensures refused { MatchOption (merge_refusal (layer_in self.old).present r.now) (IsOk result) (λ e. result ≡ Err e) }
+        ensures as_before { OnErr result (IsAsBefore self.old self.new) }
+        ensures limits { self.new.limits ≡ self.old.limits }
+    {
+        merge_edge(&mut self.records, &mut self.history, r)
+    }
+
+    /// No segment and no pin is left; the next curve gets the number that it would have got (CGAL manual, `clear`). It takes
+    /// no memory.
+    pub fn clear(&mut self)
+        ensures edit { IsEdited self.old self.new ClearAll }
+        ensures limits { self.new.limits ≡ self.old.limits }
+    {
+        clear(&mut self.records, &mut self.history);
+    }
+
+    /// What is true of all arrangements: the records are sound, as calls on them ask (`zone_walk::zone`, for one).
+    pub fn laws(&self)
+        ensures { IsGraphSound self.now.graph }
+    {
+        // Any use of a field tells what is kept.
+        let _records = &self.records;
     }
 
     /// The records of vertices and darts, to be read by name.

@@ -11,9 +11,10 @@ ghost use Rattle.listed_views.specs.Standing.{IsStanding, AreLinesOf};
 ghost use Rattle.arrangement.specs.Arranged.{layer_in, subdivision_by};
 
 use crate::arrangement::Arrangement;
-use crate::edges::{edge_dart, ends_in_order};
+use crate::edges::ends_in_order;
 use arr_text::text;
 use curve_history::{Drawn, HistoryError};
+use edges_by_ends::edge_dart;
 use exact_plane::Point;
 use no_memory::NoMemory;
 use plain_slabs::{Plain, count, hold, subdivide_of};

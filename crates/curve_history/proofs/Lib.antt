@@ -1,10 +1,12 @@
 pub mod Copying
+pub mod Cutting
 pub mod Emptying
 pub mod Facing
 pub mod Histories
 pub mod Naming
 pub mod Numbers
 pub mod Reading
+pub mod Seconds
 pub mod Sorting
 pub mod Twins
 pub mod Walking

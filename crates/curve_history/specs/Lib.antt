@@ -1,3 +1,4 @@
+pub mod Cuts
 pub mod Past
 pub mod Kept
 pub mod Changed

@@ -1,6 +1,7 @@
 ghost use Rattle.std.specs.Prelude.{◌≡◌, ◌≢◌, ◌<◌, ◌≤◌, ◌+◌, ◌^◌, ◌↔◌, ◌==◌, ◌∷◌, ◌++◌, [], not, true, false, map, length, nat_lt, IsOk, IfOk, IfSome, IfNone, IsErrOf, OnOk, Contains, option_copied, option_map, slice_get};
-ghost use Rattle.std.specs.List.{filter, IsDistinct};
+ghost use Rattle.std.specs.List.{filter, flat_map, IsDistinct};
 ghost use Rattle.std.specs.Ordering.{nat_cmp};
+ghost use Rattle.edit_steps.specs.Steps.{cut_piece};
 ghost use Rattle.plane_graphs.specs.Ascending.{Member, IsAscending};
 ghost use Rattle.plane_graphs.specs.Graph.{same_curve};
 ghost use Rattle.slab_laws.specs.Pieces.{piece_of};
@@ -8,12 +9,15 @@ ghost use Rattle.curve_history.specs.Changed.{IsRoomier};
 ghost use Rattle.curve_history.specs.Kept.{number_of, pair_room};
 ghost use Rattle.curve_history.specs.Past.{held, SameCurves, SameLayer, IsSpare};
 
+use crate::cuts::{count_all, cut_each, leaves_rest};
 use crate::history::{History, HistoryError, LAST_CURVE};
 use crate::walks::{count_along, curves_along, edges_along, has_all};
+use exact_plane::Point;
 use linked_chains::Chains;
 use no_memory::NoMemory;
 use slab_laws::{CurveId, DartId, Piece};
 use std::alloc::Global;
+use std::mem::replace;
 
 // Room for so many pairs and names more, in both chains.
 fn reserve_pairs(
@@ -128,6 +132,31 @@ impl History {
         ensures spare { (self.old.spare_names ≤ self.new.spare_names) × (self.old.spare_pairs ≤ self.new.spare_pairs) }
     {
         self.pieces.push_reserved(piece);
+    }
+
+    /// How many pieces there are once the edge between two points went from all pieces that hold both.
+    pub fn pieces_after_cut(&self, p: &Point, q: &Point) -> u64
+        ensures { result ≡ length (flat_map (cut_piece p.now q.now) self.now.pieces) }
+    {
+        count_all(&self.pieces, p, q)
+    }
+
+    /// The edge between two points goes from all pieces that hold both, in room that is there: such a piece keeps what is
+    /// below the lower point and what is above the upper one, as one or two pieces of the same curve, or goes (CGAL manual,
+    /// `remove_edge`; that curves lose the edge is this project's).
+    pub fn cut_pieces(&mut self, p: &Point, q: &Point)
+        requires few { length (flat_map (cut_piece p.now q.now) self.old.pieces) < 2 ^ 32 }
+        requires room { length (flat_map (cut_piece p.now q.now) self.old.pieces) ≤ length self.old.pieces + self.old.spare_pieces }
+        ensures pieces { self.new.pieces ≡ flat_map (cut_piece p.now q.now) self.old.pieces }
+        ensures names { self.new.names ≡ self.old.names }
+        ensures next { self.new.next ≡ self.old.next }
+        ensures curves { SameCurves self.old self.new }
+    {
+        // Without the pieces that go, their number only grows, so that it is at most the last one all along.
+        self.pieces.retain(|piece| leaves_rest(piece, p, q));
+        let empty = Vec::new(*self.pieces.allocator());
+        let pieces = replace(&mut self.pieces, empty);
+        self.pieces = cut_each(pieces, p, q);
     }
 
     /// The name of a curve that runs along no edge goes, and its pieces.

@@ -5,9 +5,11 @@
 #![tactic(auto)]
 
 mod changes;
+mod cuts;
 mod drawn;
 mod history;
 mod layers;
+mod others;
 mod pairs;
 mod walks;
 

@@ -1,14 +1,10 @@
-pub mod Made
 pub mod Counted
-pub mod Straight
-pub mod Told
-pub mod Twice
-pub mod Lines
-pub mod Passed
-pub mod Loosened
 pub mod Spotted
 pub mod Parted
 pub mod Kept
 pub mod Pinning
 pub mod Unpinning
 pub mod Fullness
+pub mod Clearing
+pub mod Merging
+pub mod Splitting

@@ -22,7 +22,7 @@ use Rattle.record_layers.specs.Kept.{Makes}
 use Rattle.graph_steps.proofs.Changes.{changes_keep_views_sound}
 use Rattle.sound_splits.specs.Fits.{FitsSplit, IsNewVertex}
 use Rattle.sound_splits.proofs.Splits.{halved, at_w}
-use Rattle.pin_points.proofs.Made.{made_by}
+use Rattle.redundant_vertices.proofs.Made.{made_by}
 
 -- the change that tells of a split has the names that a pattern of it has
 pub names_of_split : (r : Change) (d e : DartId) (w : VertexId) (p q : Point) (n m : DartId) → TellsOfSplit r d p → r ≡ SplitEdge e w q n m → r ≡ SplitEdge d w p n m

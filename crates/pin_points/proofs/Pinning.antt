@@ -4,20 +4,20 @@ use Rattle.std.specs.Prelude.{nat_le, Some, None, MatchOption, if◌then◌else�
 use Rattle.std.specs.List.{list_any, filter}
 use Rattle.std.proofs.lemmas.Bool.{le-leb, lt-leb}
 use Rattle.exact_plane.specs.Point.{Point}
-use Rattle.plane_graphs.specs.Graph.{graph}
+use Rattle.plane_graphs.specs.Graph.{Graph, graph, vertices}
 use Rattle.plane_graphs.specs.Line.{IsProper, same_point}
 use Rattle.plane_graphs.specs.Piece.{Present}
 use Rattle.edit_steps.specs.Allowed.{AreSound}
 use Rattle.edit_steps.specs.Edits.{Pin, IsAccepted, after, steps}
 use Rattle.edit_steps.specs.Layer.{Layer, IsAcceptedBy, layer_after}
-use Rattle.edit_steps.specs.Steps.{SetPin as SetPinAt, missing_points, pin_steps, vertex_steps}
+use Rattle.edit_steps.specs.Steps.{Step, SetPin as SetPinAt, apply, missing_points, pin_steps, vertex_steps}
 use Rattle.edit_steps.proofs.Laws.{are_sound}
 use Rattle.slab_laws.specs.declared.names.VertexId.{VertexId}
 use Rattle.slab_laws.specs.Sound.{IsGraphSound}
 use Rattle.slab_laws.specs.View.{View}
 use Rattle.view_changes.specs.Writers.{with_pin}
 use Rattle.arr_notes.specs.declared.change.Change.TheVariants.{SetPin}
-use Rattle.arr_notes.specs.Curves.{Curves}
+use Rattle.arr_notes.specs.Curves.{Curves, AreCurvesOf}
 use Rattle.curve_history.specs.Past.{Past, held, SameLayer}
 use Rattle.record_graphs.specs.Graph.{drawn_graph}
 use Rattle.record_graphs.specs.Laws.{IsVertexAt}
@@ -26,10 +26,10 @@ use Rattle.record_layers.proofs.Layers.{steps_make_layers}
 use Rattle.record_layers.proofs.Runs.{made_in_turn, made_is_run}
 use Rattle.sound_splits.proofs.Vertices.{pinned}
 use Rattle.pin_points.specs.declared.pins.PinError.{PinError}
-use Rattle.pin_points.specs.declared.pins.PinError.TheVariants.{Pinned, Full, NoMemory}
+use Rattle.pin_points.specs.declared.pins.PinError.TheVariants.{Pinned, Full}
 use Rattle.pin_points.specs.Pins.{refusal, new_vertex_steps}
 use Rattle.pin_points.proofs.Counted.{pins_counted}
-use Rattle.pin_points.proofs.Made.{made_by, first_sound, graph_points}
+use Rattle.redundant_vertices.proofs.Made.{made_by}
 
 -- ---- why it is refused
 module _ (limit : ℕ) (pins : List Point) (p : Point) (A : Type 0) (B : PinError → Type 0) where
@@ -45,11 +45,29 @@ module _ (limit : ℕ) (pins : List Point) (p : Point) (A : Type 0) (B : PinErro
   pub not_refused : list_any (same_point p) pins ≡ false → length pins < limit → A → MatchOption (refusal limit pins p) A B
   not_refused e f m = refused_by false false e (lt-leb limit (length pins) f) m
 
-pub no_memory : {A : Type 0} (r : Result A PinError) → IsErrAnd r (λ e. e ≡ NoMemory) → r ≡ Err NoMemory
+-- the error that there was no memory
+pub no_memory : {A E : Type 0} {n : E} (r : Result A E) → IsErrAnd r (λ e. e ≡ n) → r ≡ Err n
 no_memory (Err e) m = ap Err m
 no_memory (Ok a) m = absurd m
 
+-- ---- a new vertex is pinned
+pub pinned_on : (v : View) (h : Curves) (ss : List Step) → IsGraphSound v → AreCurvesOf v h → (x : View) (k : Curves) → Makes v h ss x k → (p : Point) (w : VertexId) → IsVertexAt x p w → (y : View) → y ≡ with_pin x w true → Makes v h (ss ++ (SetPinAt p ∷ [])) y k
+pinned_on v h ss s a x k made p w at y set =
+    let x_sound = (made_is_run v h ss x k s a made).sound in
+    let y_sound = subst IsGraphSound (sym set) (pinned x w true x_sound) in
+    made_in_turn v h ss (SetPinAt p ∷ []) x k y k made (made_by x k (SetPinAt p) (SetPin w) y k at.has (ap SetPinAt at.at) y_sound set (λ d. refl))
+
 -- ---- its steps
+-- the first of sound steps are sound
+first_sound : (xs ys : List Step) (g : Graph) → AreSound (xs ++ ys) g → AreSound xs g
+first_sound [] ys g a = tt
+first_sound (x ∷ xs) ys g a = (a.0, first_sound xs ys (apply x g) a.1)
+
+-- the points of a present's graph are its vertices
+pub graph_points : (p : Present) → (graph p).points ≡ vertices p
+unfolding graph
+graph_points p = refl
+
 pin_steps_are : (o : Present) (p : Point) → steps (Pin p) o ≡ new_vertex_steps p (graph o) ++ (SetPinAt p ∷ [])
 unfolding steps pin_steps
 pin_steps_are o p = ap (λ vs. vertex_steps (missing_points (p ∷ []) vs) (graph o) ++ (SetPinAt p ∷ [])) (sym (graph_points o))
@@ -75,17 +93,9 @@ module _ (v : View) (q : Past) (l : IsLayer v q) (p : Point) (proper : IsProper 
         let k = are_sound (Pin p) o.present l.lawful.fit accepted in
         subst (λ g. AreSound (new_vertex_steps p g) g) (sym l.stands) (first_sound (new_vertex_steps p (graph o.present)) (SetPinAt p ∷ []) (graph o.present) (subst (λ ss. AreSound ss (graph o.present)) (pin_steps_are o.present p) k))
 
-    module _ (x : View) (k : Curves) (made : Makes v h (new_vertex_steps p (drawn_graph v h)) x k) (w : VertexId) (at : IsVertexAt x p w) (y : View) (set : y ≡ with_pin x w true) where
-      x_sound : IsGraphSound x
-      x_sound = (made_is_run v h (new_vertex_steps p (drawn_graph v h)) x k l.sound l.curves made).sound
-
-      y_sound : IsGraphSound y
-      y_sound = subst IsGraphSound (sym set) (pinned x w true x_sound)
-
-      pub pin_made : Makes v h (steps (Pin p) o.present) y k
-      pin_made =
-          subst (λ ss. Makes v h ss y k) (sym steps_are)
-          (made_in_turn v h (new_vertex_steps p (drawn_graph v h)) (SetPinAt p ∷ []) x k y k made (made_by x k (SetPinAt p) (SetPin w) y k at.has (ap SetPinAt at.at) y_sound set (λ d. refl)))
+    pub pin_made : (x : View) (k : Curves) → Makes v h (new_vertex_steps p (drawn_graph v h)) x k → (w : VertexId) → IsVertexAt x p w → (y : View) → y ≡ with_pin x w true → Makes v h (steps (Pin p) o.present) y k
+    pin_made x k made w at y set =
+        subst (λ ss. Makes v h ss y k) (sym steps_are) (pinned_on v h (new_vertex_steps p (drawn_graph v h)) l.sound l.curves x k made p w at y set)
 
     pub pin_layer : (y : View) (r : Past) → Makes v h (steps (Pin p) o.present) y (held r) → SameLayer q r → IsLayer y r × (layer_of y r ≡ layer_after (Pin p) o)
     unfolding after

@@ -28,7 +28,7 @@ use Rattle.record_graphs.specs.Laws.{IsMarkOf}
 use Rattle.record_graphs.proofs.Drawn.{graphs_are_plane}
 use Rattle.graph_steps.proofs.Held.{held_mark, point_held, held_point, pin_held, held_pin}
 use Rattle.pin_points.specs.Pins.{is_pinned_spot, new_vertex_steps}
-use Rattle.pin_points.proofs.Passed.{flat_in, flat_out, mark_there}
+use Rattle.redundant_vertices.proofs.Passed.{flat_in, flat_out, mark_there}
 
 -- ---- steps for one point
 module _ (p : Point) (g : Graph) where
@@ -93,7 +93,7 @@ module _ (v : View) (h : Curves) (s : IsGraphSound v) (a : AreCurvesOf v h) (p :
   forward_edge d f = ap (λ (e : Dart). e.edge) (ahead_by (point_in v (source_in v d)) (point_in v (target_in v d)) f)
 
   -- the point is inside the edge of a forward dart where it is inside its marks
-  mark_inside : (m : Mark) (d : DartId) → IsMarkOf v h m d → inside (edge_in v d) p ≡ true → inside_mark p m ≡ true
+  pub mark_inside : (m : Mark) (d : DartId) → IsMarkOf v h m d → inside (edge_in v d) p ≡ true → inside_mark p m ≡ true
   mark_inside m d k i =
       let o = k.forward.0 in
       let e : edge_in v d ≡ edge_of_ends m.low m.high = forward_edge d k.forward.1 ∙ ap₂ edge_of_ends k.low k.high in
@@ -102,7 +102,7 @@ module _ (v : View) (h : Curves) (s : IsGraphSound v) (a : AreCurvesOf v h) (p :
       let j = inside_out (edge_of_ends m.low m.high) p low high proper (subst (λ z. inside z p ≡ true) e i) in
       inside_mark_in p m j.after j.before (flat_in m.low m.high p j.on)
 
-  inside_edge : (m : Mark) (d : DartId) → IsMarkOf v h m d → inside_mark p m ≡ true → inside (edge_in v d) p ≡ true
+  pub inside_edge : (m : Mark) (d : DartId) → IsMarkOf v h m d → inside_mark p m ≡ true → inside (edge_in v d) p ≡ true
   inside_edge m d k i =
       let o = k.forward.0 in
       let e : edge_in v d ≡ edge_of_ends m.low m.high = forward_edge d k.forward.1 ∙ ap₂ edge_of_ends k.low k.high in

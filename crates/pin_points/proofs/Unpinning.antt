@@ -36,7 +36,7 @@ use Rattle.graph_steps.proofs.Changes.{changes_are_steps}
 use Rattle.record_layers.specs.Kept.{IsLayer, layer_of, Makes}
 use Rattle.record_layers.proofs.Layers.{steps_make_layers}
 use Rattle.sound_splits.proofs.Vertices.{pinned as pin_sound}
-use Rattle.pin_points.specs.Tidied.{IsTidied}
+use Rattle.redundant_vertices.specs.Tidied.{IsTidied}
 use Rattle.pin_points.proofs.Spotted.{pinned_vertex}
 
 empty : (xs : List Point) → ((x : Point) → Member x xs → ⊥) → xs ≡ []
@@ -105,7 +105,7 @@ module _ (o : Present) (fit : IsFit o) (p : Point) (there : Member p o.pins) whe
   vertices_proper : (x : Point) → Member x vs → IsProper x
   vertices_proper x m = (vertices_closed geometry o fit).proper x m
 
-  goes : IsLoose G p → Member p ws → ⊥
+  pub goes : IsLoose G p → Member p ws → ⊥
   goes l m = loose_is_no_vertex.go q vs p (fit_unpin geometry o p fit) (vertices_ascend o) vertices_proper (λ x n. unpin_sub geometry o p x n) is_vertex unpinned l m
 
   stays : (IsLoose G p → ⊥) → Member p ws

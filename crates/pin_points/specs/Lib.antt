@@ -1,2 +1,3 @@
+pub mod Merges
 pub mod Pins
-pub mod Tidied
+pub mod Splits

@@ -1,9 +1,17 @@
 //! Pins of an arrangement that is kept in records with the history of its curves: a pinned point stays a vertex until it is
 //! unpinned (this project).
+//!
+//! An edge goes in two at a pin, and two edges become one without it (CGAL manual, `split_edge` and `merge_edge`); and all of an
+//! arrangement goes.
 #![tactic(auto)]
 
+mod clear_all;
 mod full;
+mod merge;
 mod pins;
-mod tidy;
+mod split;
 
+pub use clear_all::clear;
+pub use merge::{MergeError, merge_edge};
 pub use pins::{NotPinned, PinError, pin, unpin};
+pub use split::{SplitError, split_edge};

@@ -17,7 +17,6 @@ ghost use Rattle.record_layers.specs.Kept.{IsLayer, layer_of, Makes};
 ghost use Rattle.pin_points.specs.Pins.{refusal, is_pinned_spot, pairs_parted, new_vertex_steps};
 
 use crate::full::is_full;
-use crate::tidy::tidy;
 use arr_notes::Change;
 use curve_history::History;
 use dcel_records::{Records, Room, Spot};
@@ -25,6 +24,7 @@ use edge_split_merge::split;
 use exact_plane::Point;
 use locate_naive::vertex_at;
 use no_memory::NoMemory;
+use redundant_vertices::tidy;
 use slab_laws::{DartId, Darts, VertexId};
 use std::alloc::Global;
 
@@ -74,8 +74,12 @@ fn count_parted(history: &History, at: Spot) -> Result<usize, NoMemory>
     }
 }
 
-// Makes room for a vertex at the spot.
-fn make_room(records: &mut Records, history: &mut History, at: Spot) -> Result<(), NoMemory>
+/// Makes room for a vertex at the spot.
+pub(crate) fn make_room(
+    records: &mut Records,
+    history: &mut History,
+    at: Spot,
+) -> Result<(), NoMemory>
     ensures vertices { OnOk result (1 ≤ records.new.spare_vertices) }
     ensures darts { OnOk result (2 ≤ records.new.spare_darts) }
     ensures pairs { OnOk result (pairs_parted history.new at ≤ history.new.spare_pairs) }
@@ -91,8 +95,13 @@ fn make_room(records: &mut Records, history: &mut History, at: Spot) -> Result<(
     history.reserve(0, 0, pairs)
 }
 
-// The edge of the dart goes in two at the point, and both parts have its curves.
-fn part_edge(records: &mut Records, history: &mut History, d: DartId, p: Point) -> VertexId
+/// The edge of the dart goes in two at the point, and both parts have its curves.
+pub(crate) fn part_edge(
+    records: &mut Records,
+    history: &mut History,
+    d: DartId,
+    p: Point,
+) -> VertexId
     requires sound { IsGraphSound records.old.graph }
     requires curves { AreCurvesOf records.old.graph (held history.old) }
     requires point { IsProper p }

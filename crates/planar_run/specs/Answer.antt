@@ -1,26 +1,26 @@
 -- What a line is answered, and the world that the next line meets.
-use Rattle.std.specs.Prelude.{◌≡◌, ℕ, ◌<◌, ◌≤◌, Bool, true, false, not, ◌&&◌, ◌⊎◌, List, [], ◌∷◌, ◌++◌, length, nat_lt, nat_le, Result, Ok, Err, codes, decimal, if◌then◌else◌, ⊤}
-use Rattle.std.specs.List.{count_by, list_any}
+use Rattle.std.specs.Prelude.{◌≡◌, ℕ, ◌≤◌, true, false, not, ◌⊎◌, List, [], ◌∷◌, ◌++◌, length, nat_le, Result, Ok, Err, codes, decimal, if◌then◌else◌, ⊤}
+use Rattle.std.specs.List.{count_by, filter, list_any}
 use Rattle.exact_plane.specs.Point.{Point}
 use Rattle.exact_plane.specs.Segment.{Segment}
 use Rattle.exact_plane.specs.SegmentOf.{segment_of}
 use Rattle.exact_plane.specs.declared.segment.SegmentError.{SegmentError}
 use Rattle.exact_plane.specs.declared.segment.SegmentError.TheVariants.{Range, Equal}
-use Rattle.plane_graphs.specs.Line.{same_point}
-use Rattle.plane_graphs.specs.Graph.{graph}
-use Rattle.edit_steps.specs.Edits.{Edit, Insert, Pin as PinPoint, Unpin as UnpinPoint}
-use Rattle.edit_steps.specs.Layer.{Layer, layer_after}
+use Rattle.plane_graphs.specs.Graph.{Graph, Edge, edges, curves, same_curve}
+use Rattle.edit_steps.specs.Edits.{Edit, Insert, Drop as DropCurve, Cut as CutEdge, Pin as PinPoint, Unpin as UnpinPoint, Split as SplitEdge, Merge as MergeEdges, ClearAll}
+use Rattle.edit_steps.specs.Layer.{layer_after}
+use Rattle.slab_laws.specs.Sound.{edge_between}
 use Rattle.slab_laws.specs.Subdivision.{Subdivision, subdivision, holds}
 use Rattle.slab_laws.specs.Text.{skeleton, present_text}
 use Rattle.script_lines.specs.declared.command.Command.{Command}
-use Rattle.script_lines.specs.declared.command.Command.TheVariants.{Nothing, Segment as AddSegment, Pin, Unpin, Locate, Count, Show}
+use Rattle.script_lines.specs.declared.command.Command.TheVariants.{Nothing, Segment as AddSegment, Drop, Cut, Pin, Unpin, Split, Merge, Clear, Locate, Edge as CurvesOf, Curve, Count, Show}
 use Rattle.script_lines.specs.declared.error.LineError.{LineError}
 use Rattle.script_lines.specs.LineError.{refusal_number}
 use Rattle.script_lines.specs.Command.{command_of}
-use Rattle.arrangement.specs.declared.limits.TheConstants.{MAX_CURVES, MAX_PIECES, MAX_PINS}
 use Rattle.curve_history.specs.declared.history.TheConstants.{LAST_CURVE}
 use Rattle.planar_run.specs.World.{World}
-use Rattle.planar_run.specs.Text.{line_of, cell_text, spaced}
+use Rattle.planar_run.specs.Premises.{graph_of, room_for_a_curve, is_named, is_pinned, room_for_a_pin, is_edge, is_inside, is_vertex, only_its_pin, cut_fits}
+use Rattle.planar_run.specs.Text.{line_of, cell_text, spaced, curve_text}
 
 pub record Answer : Type 0 where
   -- the bytes of the reply
@@ -40,28 +40,62 @@ said text world = record { text = text; world = world }
 abbrev pub done : List ℕ → Edit → World → Answer
 done text edit world = record { text = line_of text; world = record { layer = layer_after edit world.layer } }
 
-abbrev pub is_pinned : Point → World → Bool
-is_pinned p world = list_any (same_point p) world.layer.present.pins
-
 -- the subdivision of the plane by the present segments and points, built afresh
 abbrev pub subdivision_of : World → Subdivision
-subdivision_of world = subdivision (skeleton (graph world.layer.present))
+subdivision_of world = subdivision (skeleton (graph_of world))
 
 -- why a pin is refused: 13, the point is pinned; 17, as many as may be are
 abbrev pub pinning : Point → World → Answer
 pinning p world =
     if is_pinned p world then refused 13 world
-    else (if nat_lt (length world.layer.present.pins) MAX_PINS then done (codes "ok") (PinPoint p) world
+    else (if room_for_a_pin world then done (codes "ok") (PinPoint p) world
     else refused 17 world)
 
 -- 10, the point isn't pinned
 abbrev pub unpinning : Point → World → Answer
 unpinning p world = if is_pinned p world then done (codes "ok") (UnpinPoint p) world else refused 10 world
 
--- 17, as many curves have a name as may, or there are as many pieces as may be; 18, the last number was drawn
-abbrev pub room_for_a_curve : Layer → Bool
-room_for_a_curve layer = nat_lt (length layer.names) MAX_CURVES && nat_lt (length layer.present.pieces) MAX_PIECES
+-- 8, no curve has this number
+abbrev pub dropping : ℕ → World → Answer
+dropping c world = if is_named c world then done (codes "ok") (DropCurve c) world else refused 8 world
 
+-- 9, no edge joins the points; 17, the pieces afterwards would pass their limit
+abbrev pub cutting : Edge → World → Answer
+cutting e world =
+    if is_edge e world then (if cut_fits e world then done (codes "ok") (CutEdge e.low e.high) world else refused 17 world)
+    else refused 9 world
+
+-- 9, no edge joins the points; 11, the third point isn't strictly inside it; 17, as many points are pinned as may be
+abbrev pub splitting : Edge → Point → World → Answer
+splitting e r world =
+    if is_edge e world then (if is_inside e r world then (if room_for_a_pin world then done (codes "ok") (SplitEdge e.low e.high r) world
+    else refused 17 world)
+    else refused 11 world)
+    else refused 9 world
+
+-- 10, no vertex is at the point; 12, it isn't pinned, or without its pin it would still be a vertex, or it has no edge
+abbrev pub merging : Point → World → Answer
+merging r world =
+    if is_vertex r world then (if only_its_pin r world then done (codes "ok") (MergeEdges r) world else refused 12 world)
+    else refused 10 world
+
+-- 9, no edge joins the points
+abbrev pub curves_told : Edge → World → Answer
+curves_told e world =
+    if is_edge e world then said (line_of (codes "curves" ++ spaced (curves (graph_of world) e.low e.high))) world
+    else refused 9 world
+
+-- the edges along which the curve runs, in their order
+abbrev pub edges_along : ℕ → Graph → List Edge
+edges_along c g = filter (λ e. list_any (same_curve c) (curves g e.low e.high)) (edges g)
+
+-- 8, no curve has this number
+abbrev pub curve_told : ℕ → World → Answer
+curve_told c world =
+    if is_named c world then said (curve_text c (edges_along c (graph_of world))) world
+    else refused 8 world
+
+-- 17, as many curves have a name as may, or there are as many pieces as may be; 18, the last number was drawn
 abbrev pub insertion : Segment → World → Answer
 insertion s world =
     if room_for_a_curve world.layer then (if nat_le world.layer.next LAST_CURVE then done (codes "ok " ++ decimal world.layer.next) (Insert world.layer.next s) world
@@ -87,9 +121,16 @@ abbrev pub answer_to : World → Result Command LineError → Answer
 answer_to world (Err error) = refused (refusal_number error) world
 answer_to world (Ok Nothing) = said [] world
 answer_to world (Ok (AddSegment x1 y1 x2 y2)) = drawing (segment_of x1 y1 x2 y2) world
+answer_to world (Ok (Drop c)) = dropping c world
+answer_to world (Ok (Cut p q)) = cutting (edge_between p q) world
 answer_to world (Ok (Pin p)) = pinning p world
 answer_to world (Ok (Unpin p)) = unpinning p world
+answer_to world (Ok (Split p q r)) = splitting (edge_between p q) r world
+answer_to world (Ok (Merge r)) = merging r world
+answer_to world (Ok Clear) = done (codes "ok") ClearAll world
 answer_to world (Ok (Locate p)) = said (line_of (cell_text (holds (subdivision_of world) p))) world
+answer_to world (Ok (CurvesOf p q)) = curves_told (edge_between p q) world
+answer_to world (Ok (Curve c)) = curve_told c world
 answer_to world (Ok Count) = said (line_of (codes "counts" ++ spaced (counted (subdivision_of world) (length world.layer.names)))) world
 answer_to world (Ok Show) = said (present_text world.layer.present) world
 
@@ -103,9 +144,16 @@ abbrev pub MayTake : World → Result Command LineError → Type 0
 MayTake world (Err error) = ⊥
 MayTake world (Ok Nothing) = ⊥
 MayTake world (Ok (AddSegment x1 y1 x2 y2)) = MayDraw (segment_of x1 y1 x2 y2) world
-MayTake world (Ok (Pin p)) = (is_pinned p world ≡ false) × (length world.layer.present.pins < MAX_PINS)
+MayTake world (Ok (Drop c)) = is_named c world ≡ true
+MayTake world (Ok (Cut p q)) = (is_edge (edge_between p q) world ≡ true) × (cut_fits (edge_between p q) world ≡ true)
+MayTake world (Ok (Pin p)) = (is_pinned p world ≡ false) × (room_for_a_pin world ≡ true)
 MayTake world (Ok (Unpin p)) = ⊥
+MayTake world (Ok (Split p q r)) = (is_edge (edge_between p q) world ≡ true) × (is_inside (edge_between p q) r world ≡ true) × (room_for_a_pin world ≡ true)
+MayTake world (Ok (Merge r)) = ⊥
+MayTake world (Ok Clear) = ⊥
 MayTake world (Ok (Locate p)) = ⊤
+MayTake world (Ok (CurvesOf p q)) = is_edge (edge_between p q) world ≡ true
+MayTake world (Ok (Curve c)) = is_named c world ≡ true
 MayTake world (Ok Count) = ⊤
 MayTake world (Ok Show) = ⊤
 

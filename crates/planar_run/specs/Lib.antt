@@ -1,6 +1,7 @@
 pub mod Lines
 pub mod World
 pub mod Text
+pub mod Premises
 pub mod Answer
 pub mod Refusals
 pub mod Run

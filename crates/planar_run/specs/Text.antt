@@ -1,7 +1,9 @@
 -- The bytes of replies.
 use Rattle.std.specs.Prelude.{ℕ, List, [], ◌∷◌, ◌++◌, codes, decimal}
+use Rattle.std.specs.List.{flat_map}
 use Rattle.std.specs.Fmt.{signed_decimal}
 use Rattle.exact_plane.specs.Point.{Point}
+use Rattle.plane_graphs.specs.Graph.{Edge as GraphEdge}
 use Rattle.slab_laws.specs.declared.cell.Cell.{Cell}
 use Rattle.slab_laws.specs.declared.cell.Cell.TheVariants.{Vertex, Edge, Face}
 
@@ -18,5 +20,12 @@ cell_text (Face k) = codes "face " ++ decimal k
 
 -- numbers, each behind a space
 abbrev pub spaced : List ℕ → List ℕ
-spaced [] = []
-spaced (n ∷ ns) = 32 ∷ decimal n ++ spaced ns
+spaced ns = flat_map (λ n. 32 ∷ decimal n) ns
+
+-- the line of an edge: its lower end, then its upper one
+abbrev pub edge_line : GraphEdge → List ℕ
+edge_line e = line_of (codes "e " ++ (point_text e.low ++ 32 ∷ point_text e.high))
+
+-- a curve's text: its number, then a line for each of its edges, in their order
+abbrev pub curve_text : ℕ → List GraphEdge → List ℕ
+curve_text c es = line_of (codes "curve " ++ decimal c) ++ (flat_map edge_line es ++ line_of (codes "end"))

@@ -5,8 +5,10 @@
 #![tactic(auto)]
 
 mod answer;
+mod edits;
 mod engine;
 mod line;
+mod questions;
 mod reply;
 mod run;
 mod status;

@@ -1,12 +1,14 @@
-ghost use Rattle.std.specs.Prelude.{◌≡◌, ◌++◌, ◌∷◌, [], codes, OnOk};
-ghost use Rattle.planar_run.specs.Text.{line_of, point_text, cell_text, spaced};
+ghost use Rattle.std.specs.Prelude.{◌≡◌, ◌++◌, ◌∷◌, [], codes, map, OnOk};
+ghost use Rattle.std.specs.List.{flat_map};
+ghost use Rattle.planar_run.specs.Text.{line_of, point_text, cell_text, spaced, edge_line, curve_text};
+ghost use Rattle.edges_by_ends.specs.Edges.{edge_of};
 
 use crate::reply::Reply;
 use arrangement::Counts;
 use exact_plane::Point;
 use itoa::Integer;
 use no_memory::NoMemory;
-use slab_laws::Cell;
+use slab_laws::{Cell, CurveId};
 
 /// Puts the three numbers of a point behind what is there.
 pub fn put_point(reply: &mut Reply, point: &Point) -> Result<(), NoMemory>
@@ -27,11 +29,11 @@ fn put_labelled<I: Integer>(reply: &mut Reply, label: &str, number: I) -> Result
     reply.put_number(number)
 }
 
-// Puts the two ends of an edge behind what is there.
-fn put_ends(reply: &mut Reply, low: &Point, high: &Point) -> Result<(), NoMemory>
-    ensures { OnOk result (reply.new ≡ reply.old ++ (codes "edge " ++ point_text low.now ++ 32 ∷ point_text high.now)) }
+// Puts a word and the two ends of an edge behind what is there.
+fn put_ends(reply: &mut Reply, word: &str, low: &Point, high: &Point) -> Result<(), NoMemory>
+    ensures { OnOk result (reply.new ≡ reply.old ++ (word.now ++ (point_text low.now ++ 32 ∷ point_text high.now))) }
 {
-    reply.put_text("edge ")?;
+    reply.put_text(word)?;
     put_point(reply, low)?;
     reply.put_text(" ")?;
     put_point(reply, high)
@@ -46,7 +48,7 @@ pub fn put_cell(reply: &mut Reply, cell: Cell) -> Result<(), NoMemory>
             reply.put_text("vertex ")?;
             put_point(reply, &point)
         }
-        Cell::Edge(low, high) => put_ends(reply, &low, &high),
+        Cell::Edge(low, high) => put_ends(reply, "edge ", &low, &high),
         Cell::Face(rank) => put_labelled(reply, "face ", rank),
     }
 }
@@ -71,4 +73,44 @@ pub fn put_counts(reply: &mut Reply, counts: &Counts) -> Result<(), NoMemory>
     put_spaced(reply, counts.curves)?;
     reply.put_text("\n")?;
     Ok(())
+}
+
+/// Puts the line of the curves along an edge behind what is there.
+pub fn put_curves(reply: &mut Reply, curves: &[CurveId]) -> Result<(), NoMemory>
+    ensures { OnOk result (reply.new ≡ reply.old ++ line_of (codes "curves" ++ spaced (map (λ c. c.0) curves.now))) }
+{
+    reply.put_text("curves")?;
+    for curve in curves {
+        put_spaced(reply, curve.0)?;
+    }
+    reply.put_text("\n")
+}
+
+// Puts the line of an edge behind what is there.
+fn put_edge_line(reply: &mut Reply, ends: &(Point, Point)) -> Result<(), NoMemory>
+    ensures { OnOk result (reply.new ≡ reply.old ++ edge_line (edge_of ends.now)) }
+{
+    let (low, high) = ends;
+    put_ends(reply, "e ", low, high)?;
+    reply.put_text("\n")
+}
+
+// Puts a line for each of the edges behind what is there.
+fn put_edge_lines(reply: &mut Reply, edges: &[(Point, Point)]) -> Result<(), NoMemory>
+    ensures { OnOk result (reply.new ≡ reply.old ++ flat_map edge_line (map edge_of edges.now)) }
+{
+    for ends in edges {
+        put_edge_line(reply, ends)?;
+    }
+    Ok(())
+}
+
+/// Puts the text of a curve behind what is there: its number, then its edges, each by its lower and its upper end.
+pub fn put_curve(reply: &mut Reply, curve: u32, edges: &[(Point, Point)]) -> Result<(), NoMemory>
+    ensures { OnOk result (reply.new ≡ reply.old ++ curve_text curve (map edge_of edges.now)) }
+{
+    put_labelled(reply, "curve ", curve)?;
+    reply.put_text("\n")?;
+    put_edge_lines(reply, edges)?;
+    reply.put_text("end\n")
 }

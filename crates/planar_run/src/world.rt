@@ -1,18 +1,23 @@
-ghost use Rattle.std.specs.Prelude.{◌≡◌, ◌∷◌, [], true, false, ◌<◌, length, Ok, IfOk, IfErr, OnOk, OnErr};
-ghost use Rattle.edit_steps.specs.Edits.{Insert, Pin, Unpin};
+ghost use Rattle.std.specs.Prelude.{◌≡◌, ◌∷◌, [], true, false, length, map, Ok, IfOk, IfErr, OnOk, OnErr};
+ghost use Rattle.plane_graphs.specs.Graph.{curves};
+ghost use Rattle.edges_by_ends.specs.Edges.{edge_of};
+ghost use Rattle.edit_steps.specs.Edits.{Insert, Drop, Cut, Pin, Unpin, Split, Merge, ClearAll};
 ghost use Rattle.edit_steps.specs.Layer.{layer_after};
+ghost use Rattle.slab_laws.specs.Sound.{edge_between};
 ghost use Rattle.slab_laws.specs.Subdivision.{holds};
 ghost use Rattle.slab_laws.specs.Text.{present_text};
 ghost use Rattle.planar_run.specs.World.{first_world};
-ghost use Rattle.planar_run.specs.Answer.{counted, is_pinned, subdivision_of, MayDraw};
-ghost use Rattle.arrangement.specs.declared.limits.TheConstants.{MAX_PINS};
-ghost use Rattle.planar_run.specs.Refusals.{BarsCurve, BarsPin};
+ghost use Rattle.planar_run.specs.Premises.{graph_of, is_named, is_pinned, room_for_a_pin, is_edge, is_inside, is_vertex, only_its_pin, cut_fits};
+ghost use Rattle.planar_run.specs.Answer.{counted, edges_along, subdivision_of, MayDraw};
+ghost use Rattle.planar_run.specs.Refusals.{BarsCurve, BarsDrop, BarsCut, BarsPin, BarsSplit, BarsMerge, BarsEdge, BarsEdges};
 
-use arrangement::{Arrangement, Counts, Limits};
+use arrangement::{Arrangement, Counts, EdgeError, Limits};
+use curve_history::HistoryError;
 use exact_plane::{Point, Segment};
 use no_memory::NoMemory;
-use pin_points::{NotPinned, PinError};
+use pin_points::{MergeError, NotPinned, PinError, SplitError};
 use segment_insert::InsertError;
+use segment_remove::{CutError, DropError};
 use slab_laws::{Cell, CurveId, Strategy};
 use std::alloc::Global;
 use std::marker::Model;
@@ -57,10 +62,30 @@ impl World {
         self.arrangement.insert(segment)
     }
 
+    /// Takes a curve away.
+    pub fn remove_curve(&mut self, curve: CurveId) -> Result<(), DropError>
+        ensures edit { OnOk result (self.new.layer ≡ layer_after (Drop curve.0) self.old.layer) }
+        ensures allowed { OnOk result (is_named curve.0 self.old ≡ true) }
+        ensures barred { IfErr result (λ e. BarsDrop e curve.0 self.old) }
+        ensures err { OnErr result (self.new ≡ self.old) }
+    {
+        self.arrangement.remove_curve(curve)
+    }
+
+    /// Takes the edge between two points, which come in either order, from all its curves.
+    pub fn remove_edge(&mut self, p: &Point, q: &Point) -> Result<(), CutError>
+        ensures edit { OnOk result (self.new.layer ≡ layer_after (Cut (edge_between p.now q.now).low (edge_between p.now q.now).high) self.old.layer) }
+        ensures allowed { OnOk result ((is_edge (edge_between p.now q.now) self.old ≡ true) × (cut_fits (edge_between p.now q.now) self.old ≡ true)) }
+        ensures barred { IfErr result (λ e. BarsCut e (edge_between p.now q.now) self.old) }
+        ensures err { OnErr result (self.new ≡ self.old) }
+    {
+        self.arrangement.remove_edge(p, q)
+    }
+
     /// Pins a point.
     pub fn pin(&mut self, point: &Point) -> Result<(), PinError>
         ensures edit { OnOk result (self.new.layer ≡ layer_after (Pin point.now) self.old.layer) }
-        ensures allowed { OnOk result ((is_pinned point.now self.old ≡ false) × (length self.old.layer.present.pins < MAX_PINS)) }
+        ensures allowed { OnOk result ((is_pinned point.now self.old ≡ false) × (room_for_a_pin self.old ≡ true)) }
         ensures barred { IfErr result (λ e. BarsPin e point.now self.old) }
         ensures err { OnErr result (self.new ≡ self.old) }
     {
@@ -75,6 +100,51 @@ impl World {
         ensures err { OnErr result (self.new ≡ self.old) }
     {
         self.arrangement.unpin(point)
+    }
+
+    /// Pins a point inside the edge between two others, which come in either order.
+    pub fn split_edge(&mut self, p: &Point, q: &Point, r: &Point) -> Result<(), SplitError>
+        ensures edit { OnOk result (self.new.layer ≡ layer_after (Split (edge_between p.now q.now).low (edge_between p.now q.now).high r.now) self.old.layer) }
+        ensures allowed { OnOk result ((is_edge (edge_between p.now q.now) self.old ≡ true) × (is_inside (edge_between p.now q.now) r.now self.old ≡ true) × (room_for_a_pin self.old ≡ true)) }
+        ensures barred { IfErr result (λ e. BarsSplit e (edge_between p.now q.now) r.now self.old) }
+        ensures err { OnErr result (self.new ≡ self.old) }
+    {
+        self.arrangement.split_edge(p, q, r)
+    }
+
+    /// Unpins a point that its pin alone makes a vertex, where two edges meet.
+    pub fn merge_edge(&mut self, r: &Point) -> Result<(), MergeError>
+        ensures edit { OnOk result (self.new.layer ≡ layer_after (Merge r.now) self.old.layer) }
+        ensures allowed { OnOk result ((is_vertex r.now self.old ≡ true) × (only_its_pin r.now self.old ≡ true)) }
+        ensures barred { IfErr result (λ e. BarsMerge e r.now self.old) }
+        ensures err { OnErr result (self.new ≡ self.old) }
+    {
+        self.arrangement.merge_edge(r)
+    }
+
+    /// Takes every segment and pin away.
+    pub fn clear(&mut self)
+        ensures { self.new.layer ≡ layer_after ClearAll self.old.layer }
+    {
+        self.arrangement.clear();
+    }
+
+    /// The curves along the edge between two points, which come in either order.
+    pub fn curves_of(&self, p: &Point, q: &Point) -> Result<Vec<CurveId>, EdgeError>
+        ensures curves { IfOk result (λ v. map (λ c. c.0) v.items ≡ curves (graph_of self.now) (edge_between p.now q.now).low (edge_between p.now q.now).high) }
+        ensures allowed { OnOk result (is_edge (edge_between p.now q.now) self.now ≡ true) }
+        ensures barred { IfErr result (λ e. BarsEdge e (edge_between p.now q.now) self.now) }
+    {
+        self.arrangement.curves_of(p, q)
+    }
+
+    /// The edges along which a curve runs, in their order.
+    pub fn edges_of(&self, curve: CurveId) -> Result<Vec<(Point, Point)>, HistoryError>
+        ensures edges { IfOk result (λ v. map edge_of v.items ≡ edges_along curve.0 (graph_of self.now)) }
+        ensures allowed { OnOk result (is_named curve.0 self.now ≡ true) }
+        ensures barred { IfErr result (λ e. BarsEdges e curve.0 self.now) }
+    {
+        self.arrangement.edges_of(curve)
     }
 
     /// Where a point lies.

@@ -6,6 +6,8 @@ mod lines;
 #[cfg(test)]
 mod memory;
 #[cfg(test)]
+mod removals;
+#[cfg(test)]
 mod rows;
 #[cfg(test)]
 mod runs;

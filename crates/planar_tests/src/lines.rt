@@ -4,7 +4,8 @@ use script_lines::{Command, LineError, read_line};
 #[test]
 fn commands_are_read(rt: HostRuntime) {
     let point = |x, y, w| Point::new(x, y, w).ok();
-    let rows: [(&[u8], Option<Command>); 15] = [
+    let ends = point(0, 0, 1).zip(point(4, 0, 1));
+    let rows: [(&[u8], Option<Command>); 22] = [
         (b"show", Some(Command::Show)),
         (b"  show ", Some(Command::Show)),
         (b"count", Some(Command::Count)),
@@ -14,14 +15,25 @@ fn commands_are_read(rt: HostRuntime) {
             Some(Command::Segment(-1048575, 1, 2, 1048575)),
         ),
         (b"segment 3 3 3 3", Some(Command::Segment(3, 3, 3, 3))),
+        (b"drop 4294967295", Some(Command::Drop(4294967295))),
+        (b"cut 0 0 1 8 0 2", ends.map(|(p, q)| Command::Cut(p, q))),
         (b"pin -1 1 5", point(-1, 1, 5).map(Command::Pin)),
         (b"pin 4 2 6", point(2, 1, 3).map(Command::Pin)),
         (b" unpin  1 1   1 ", point(1, 1, 1).map(Command::Unpin)),
+        (
+            b"split 0 0 1 4 0 1 1 0 1",
+            ends.zip(point(1, 0, 1))
+                .map(|((p, q), r)| Command::Split(p, q, r)),
+        ),
+        (b"merge 3 0 3", point(1, 0, 1).map(Command::Merge)),
+        (b"clear", Some(Command::Clear)),
         (b"locate 0 0 2", point(0, 0, 1).map(Command::Locate)),
         (
             b"locate -1048575 -4398037073925 8796072050701",
             point(-1048575, -4398037073925, 8796072050701).map(Command::Locate),
         ),
+        (b"edge 4 0 1 0 0 1", ends.map(|(p, q)| Command::Edge(q, p))),
+        (b"curve 1", Some(Command::Curve(1))),
         (b"# note", Some(Command::Nothing)),
         (b"  #pin 0 0", Some(Command::Nothing)),
         (b"   ", Some(Command::Nothing)),
@@ -37,7 +49,7 @@ fn commands_are_read(rt: HostRuntime) {
 
 #[test]
 fn errors_come_in_their_order(rt: HostRuntime) {
-    let rows: [(&[u8], LineError); 29] = [
+    let rows: [(&[u8], LineError); 36] = [
         (b"paint", LineError::Word),
         (b"segments 0 0 1 1", LineError::Word),
         (b"Show", LineError::Word),
@@ -49,6 +61,8 @@ fn errors_come_in_their_order(rt: HostRuntime) {
         (b"show 1", LineError::Count),
         (b"count 1", LineError::Count),
         (b"segment 0 0 1", LineError::Count),
+        (b"drop", LineError::Count),
+        (b"split 0 0 1 4 0 1", LineError::Count),
         (b"pin -0 0 1", LineError::Number),
         (b"pin 0 0 01", LineError::Number),
         (b"pin +1 0 1", LineError::Number),
@@ -56,6 +70,11 @@ fn errors_come_in_their_order(rt: HostRuntime) {
         (b"pin x 0 0", LineError::Number),
         (b"segment 0 0 1 01", LineError::Number),
         (b"segment 0 x 1048576 0", LineError::Number),
+        (b"cut 1 0 1 x 0 0", LineError::Number),
+        (b"drop 0", LineError::Range),
+        (b"curve 4294967296", LineError::Range),
+        (b"cut 1 0 0 1 0 1", LineError::Range),
+        (b"split 0 0 1 4 0 1 1 0 0", LineError::Range),
         (b"pin 1 1 0", LineError::Range),
         (b"pin 1 1 -1", LineError::Range),
         (b"pin 0 0 8796093022208", LineError::Range),

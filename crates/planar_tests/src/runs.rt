@@ -18,7 +18,7 @@ fn words(alloc: Global, more: &[&str]) -> Result<Vec<String>, Fail> {
 }
 
 // The status and the replies of a script that comes in pieces, over a source that fails at one call (0: at none).
-fn run(alloc: Global, script: &str, piece: usize, fail: u64) -> Result<(Status, Vec<u8>), Fail>
+pub fn run(alloc: Global, script: &str, piece: usize, fail: u64) -> Result<(Status, Vec<u8>), Fail>
     requires { 0 < piece }
 {
     let bytes = Vec::from_slice(alloc, script.as_bytes())?;

@@ -1,7 +1,9 @@
--- Numbers make the same point, or the same segment, whether or not they are kept at the limit.
-use Rattle.std.proofs.Common.{◌≡◌, ℕ, zero, suc, ◌^◌, ◌<◌, Bool, true, false, cond, leb, ℤ, pos, negsuc, List, [], ◌∷◌, None, Ok, Err, refl, sym, ap, ◌∙◌, arith}
-use Rattle.std.specs.Prelude.{map, unsigned_abs, neg_ℤ}
-use Rattle.std.proofs.lemmas.Bool.{leb-true, le-leb, leb-false, lt-leb}
+-- Numbers make the same points, the same curve's number or the same segment, whether or not they are kept at the limit.
+use Rattle.std.proofs.Common.{◌≡◌, ℕ, zero, suc, ◌^◌, ◌<◌, Bool, true, false, cond, leb, ltb, ℤ, pos, negsuc, List, [], ◌∷◌, None, Ok, Err, refl, sym, ap, ◌∙◌, arith}
+use Rattle.std.specs.Prelude.{map, take, drop, unsigned_abs, neg_ℤ}
+use Rattle.std.proofs.Math.Bool.{and-false}
+use Rattle.std.proofs.lemmas.Bool.{leb-true, le-leb, leb-false, lt-leb, ltb-true, ltb-false, le-ltb}
+use Rattle.std.proofs.lemmas.List.{take-map, drop-map}
 use Rattle.std.specs.Ordering.{int_eq}
 use Rattle.std.specs.Result.{result_ok}
 use Rattle.exact_plane.specs.Point.{Point, in_range}
@@ -12,7 +14,7 @@ use Rattle.exact_plane.specs.Segment.{AreCoordinates, is_coordinate, are_coordin
 use Rattle.exact_plane.proofs.Lowest.{Sizes, sizes, from_sizes}
 use Rattle.exact_plane.proofs.Wholes.{are_coordinates-is}
 use Rattle.script_lines.specs.Number.{limited_size, limited_number}
-use Rattle.script_lines.specs.Command.{point_from, segment_from}
+use Rattle.script_lines.specs.Command.{point_from, pair_from, triple_from, curve_from, segment_from}
 
 size-neg : (n : ℕ) → unsigned_abs (neg_ℤ (pos n)) ≡ n
 size-neg zero = refl
@@ -74,6 +76,35 @@ point_from-limited_number (x ∷ []) = refl
 point_from-limited_number (x ∷ y ∷ []) = refl
 point_from-limited_number (x ∷ y ∷ w ∷ []) = same_point x y w
 point_from-limited_number (x ∷ y ∷ w ∷ z ∷ zs) = refl
+
+-- two of them, and three
+pub pair_from-limited_number : (zs : List ℤ) → pair_from (map limited_number zs) ≡ pair_from zs
+pair_from-limited_number zs = rw (take-map limited_number 3 zs, drop-map limited_number 3 zs, point_from-limited_number (take 3 zs), point_from-limited_number (drop 3 zs)) refl
+
+pub triple_from-limited_number : (zs : List ℤ) → triple_from (map limited_number zs) ≡ triple_from zs
+triple_from-limited_number zs = rw (take-map limited_number 6 zs, drop-map limited_number 6 zs, pair_from-limited_number (take 6 zs), point_from-limited_number (drop 6 zs)) refl
+
+same_curve : (n : ℕ) (t : Bool) → ltb n (2 ^ 32) ≡ t → curve_from (pos (limited_size n) ∷ []) ≡ curve_from (pos n ∷ [])
+same_curve n true e = let k : limited_size n ≡ n = (let h = ltb-true n (2 ^ 32) e in omega arith) in rw k refl
+same_curve n false e =
+    let k : ltb (limited_size n) (2 ^ 32) ≡ false = le-ltb (limited_size n) (2 ^ 32) (let h = ltb-false n (2 ^ 32) e in omega arith) in
+    rw (k, e, and-false (ltb 0 (limited_size n)), and-false (ltb 0 n)) refl
+
+no_curves : (k : ℕ) (z : ℤ) (zs : List ℤ) → curve_from (neg_ℤ (pos k) ∷ z ∷ zs) ≡ None
+no_curves zero z zs = refl
+no_curves (suc k) z zs = refl
+
+no_curve : (k : ℕ) → 0 < k → curve_from (neg_ℤ (pos k) ∷ []) ≡ None
+no_curve zero h = absurd (omega arith)
+no_curve (suc k) h = refl
+
+-- the curve's number of a number that was kept at the limit
+pub curve_from-limited_number : (zs : List ℤ) → curve_from (map limited_number zs) ≡ curve_from zs
+curve_from-limited_number [] = refl
+curve_from-limited_number (pos n ∷ []) = same_curve n (ltb n (2 ^ 32)) refl
+curve_from-limited_number (negsuc n ∷ []) = no_curve (limited_size (suc n)) (omega arith)
+curve_from-limited_number (pos n ∷ y ∷ zs) = refl
+curve_from-limited_number (negsuc n ∷ y ∷ zs) = no_curves (limited_size (suc n)) (limited_number y) (map limited_number zs)
 
 coordinate_by : (n : ℕ) (t : Bool) → leb n MAX_COORDINATE ≡ t → leb (limited_size n) MAX_COORDINATE ≡ t
 coordinate_by n true e = le-leb (limited_size n) MAX_COORDINATE (let h = leb-true n MAX_COORDINATE e in omega arith)

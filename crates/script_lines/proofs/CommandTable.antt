@@ -4,28 +4,42 @@ use Rattle.std.specs.Prelude.{◌≢◌, option_map, bytes_eq, find}
 use Rattle.std.proofs.lemmas.Slice.Eq.{bytes_eq-Decides}
 use Rattle.exact_plane.specs.Segment.{are_coordinates}
 use Rattle.script_lines.specs.declared.command.Command.{Command}
-use Rattle.script_lines.specs.declared.command.Command.TheVariants.{Nothing, Segment, Pin, Unpin, Locate}
+use Rattle.script_lines.specs.declared.command.Command.TheVariants.{Nothing, Segment, Drop, Cut, Pin, Unpin, Split, Merge, Locate, Edge, Curve}
 use Rattle.script_lines.specs.declared.name.Name.{Name}
 use Rattle.script_lines.specs.declared.name.Name.TheVariants as name
-use Rattle.script_lines.specs.Form.{Form}
-use Rattle.script_lines.specs.Command.{segment_from, point_form, row_of, names, name_of, is_comment}
+use Rattle.script_lines.specs.Form.{Form, form_map}
+use Rattle.script_lines.specs.Command.{segment_from, point_form, pair_form, triple_form, curve_form, row_of, names, name_of, is_comment}
 use Rattle.script_lines.proofs.ListTests.{find-passes}
 
 -- each name is found by how it is spelt
 pub name_of-name : (n : Name) → name_of (row_of n).name ≡ Some n
 name_of-name name.Segment = refl
+name_of-name name.Drop = refl
+name_of-name name.Cut = refl
 name_of-name name.Pin = refl
 name_of-name name.Unpin = refl
+name_of-name name.Split = refl
+name_of-name name.Merge = refl
+name_of-name name.Clear = refl
 name_of-name name.Locate = refl
+name_of-name name.Edge = refl
+name_of-name name.Curve = refl
 name_of-name name.Count = refl
 name_of-name name.Show = refl
 
 -- none begins a comment
 pub no_comment : (n : Name) → is_comment (row_of n).name ≡ false
 no_comment name.Segment = refl
+no_comment name.Drop = refl
+no_comment name.Cut = refl
 no_comment name.Pin = refl
 no_comment name.Unpin = refl
+no_comment name.Split = refl
+no_comment name.Merge = refl
+no_comment name.Clear = refl
 no_comment name.Locate = refl
+no_comment name.Edge = refl
+no_comment name.Curve = refl
 no_comment name.Count = refl
 no_comment name.Show = refl
 
@@ -46,11 +60,21 @@ segment_asks : (numbers : List ℤ) → segment_from numbers ≡ Some Nothing �
 segment_asks (x1 ∷ y1 ∷ x2 ∷ y2 ∷ []) e = segment_by (are_coordinates x1 y1 x2 y2) x1 y1 x2 y2 e
 segment_asks other e = cc
 
+mapped_asks : {A : Type 0} (f : A → Command) (form : Form A) → ((x : A) → f x ≡ Nothing → ⊥) → AskFor (form_map f form ∷ [])
+mapped_asks f form other = (λ numbers e. mapped f other (form.made numbers) e, tt)
+
 pub ask_for : (n : Name) → AskFor (row_of n).forms
 ask_for name.Segment = (segment_asks, tt)
-ask_for name.Pin = (λ numbers e. mapped Pin (λ p h. cc) (point_form.made numbers) e, tt)
-ask_for name.Unpin = (λ numbers e. mapped Unpin (λ p h. cc) (point_form.made numbers) e, tt)
-ask_for name.Locate = (λ numbers e. mapped Locate (λ p h. cc) (point_form.made numbers) e, tt)
+ask_for name.Drop = mapped_asks Drop curve_form (λ c h. cc)
+ask_for name.Cut = mapped_asks (λ points. Cut points.0 points.1) pair_form (λ points h. cc)
+ask_for name.Pin = mapped_asks Pin point_form (λ p h. cc)
+ask_for name.Unpin = mapped_asks Unpin point_form (λ p h. cc)
+ask_for name.Split = mapped_asks (λ points. Split points.0.0 points.0.1 points.1) triple_form (λ points h. cc)
+ask_for name.Merge = mapped_asks Merge point_form (λ p h. cc)
+ask_for name.Clear = (λ numbers e. cc, tt)
+ask_for name.Locate = mapped_asks Locate point_form (λ p h. cc)
+ask_for name.Edge = mapped_asks (λ points. Edge points.0 points.1) pair_form (λ points h. cc)
+ask_for name.Curve = mapped_asks Curve curve_form (λ c h. cc)
 ask_for name.Count = (λ numbers e. cc, tt)
 ask_for name.Show = (λ numbers e. cc, tt)
 

@@ -44,12 +44,13 @@ module _ {A B : Type 0} (f : A → B) where
   forms_reading-mapped forms ws =
       rw (any-mapped forms ws, find-mapped forms ws, by_form (find (has_fixed ws) forms) ws) (by_count (list_any (has_count ws) forms) (form_reading (find (has_fixed ws) forms) ws) (Err Count))
 
-  mapped : (r : Result A LineError) (s : Result B LineError) → MatchResult r (λ x. IsOkAnd s (λ y. y ≡ f x)) (λ e. s ≡ Err e) → s ≡ made_of r
-  mapped (Ok x) (Ok y) h = ap Ok h
-  mapped (Ok x) (Err d) h = absurd h
-  mapped (Err e) s h = h
+  module _ (Makes : A → B → Type 0) (makes : (x : A) (y : B) → Makes x y → y ≡ f x) where
+    mapped : (r : Result A LineError) (s : Result B LineError) → MatchResult r (λ x. IsOkAnd s (Makes x)) (λ e. s ≡ Err e) → s ≡ made_of r
+    mapped (Ok x) (Ok y) h = ap Ok (makes x y h)
+    mapped (Ok x) (Err d) h = absurd h
+    mapped (Err e) s h = h
 
-  -- as `map` makes it
-  pub forms_reading-map : (forms : List (Form A)) (ws : List (List ℕ)) (r : Result A LineError) (s : Result B LineError) → r ≡ forms_reading forms ws
-      → MatchResult r (λ x. IsOkAnd s (λ y. y ≡ f x)) (λ e. s ≡ Err e) → s ≡ forms_reading (map (form_map f) forms) ws
-  forms_reading-map forms ws r s is h = mapped r s h ∙ ap made_of is ∙ sym (forms_reading-mapped forms ws)
+    -- as `map` makes it, by a closure that makes no other
+    pub forms_reading-map : (forms : List (Form A)) (ws : List (List ℕ)) (r : Result A LineError) (s : Result B LineError) → r ≡ forms_reading forms ws
+        → MatchResult r (λ x. IsOkAnd s (Makes x)) (λ e. s ≡ Err e) → s ≡ forms_reading (map (form_map f) forms) ws
+    forms_reading-map forms ws r s is h = mapped r s h ∙ ap made_of is ∙ sym (forms_reading-mapped forms ws)

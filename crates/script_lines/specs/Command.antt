@@ -1,6 +1,7 @@
 -- The commands, and which of them a line is.
-use Rattle.std.specs.Prelude.{ℕ, ℤ, ◌&&◌, Bool, false, List, [], ◌∷◌, length, replicate, find, nat_lt, nat_le, ◌==◌, Option, Some, None, Result, Ok, Err, codes, bytes_eq, if◌then◌else◌}
+use Rattle.std.specs.Prelude.{ℕ, ◌^◌, ℤ, pos, ◌&&◌, Bool, false, List, [], ◌∷◌, length, take, drop, replicate, find, nat_lt, nat_le, ◌==◌, Option, Some, None, Result, Ok, Err, codes, bytes_eq, if◌then◌else◌}
 use Rattle.std.specs.List.{list_all}
+use Rattle.std.specs.Option.{option_zip}
 use Rattle.std.specs.Result.{result_ok}
 use Rattle.exact_plane.specs.Point.{Point}
 use Rattle.exact_plane.specs.PointOf.{point_of}
@@ -9,7 +10,7 @@ use Rattle.script_lines.specs.declared.command.TheConstants.{MAX_LINE}
 use Rattle.script_lines.specs.declared.error.LineError.{LineError}
 use Rattle.script_lines.specs.declared.error.LineError.TheVariants.{Word, Long, Byte}
 use Rattle.script_lines.specs.declared.command.Command.{Command}
-use Rattle.script_lines.specs.declared.command.Command.TheVariants.{Nothing, Segment, Pin, Unpin, Locate, Count, Show}
+use Rattle.script_lines.specs.declared.command.Command.TheVariants.{Nothing, Segment, Drop, Cut, Pin, Unpin, Split, Merge, Clear, Locate, Edge, Curve, Count, Show}
 use Rattle.script_lines.specs.declared.name.Name.{Name}
 use Rattle.script_lines.specs.declared.name.Name.TheVariants as name
 use Rattle.script_lines.specs.Words.{words}
@@ -27,6 +28,31 @@ point_from other = None
 -- a point, `X Y W`
 abbrev pub point_form : Form Point
 point_form = record { places = replicate 3 Numeral; made = point_from }
+
+-- the two points of six numbers, where both are in range
+abbrev pub pair_from : List ℤ → Option (Point × Point)
+pair_from numbers = option_zip (point_from (take 3 numbers)) (point_from (drop 3 numbers))
+
+-- two points, `X Y W X Y W`
+abbrev pub pair_form : Form (Point × Point)
+pair_form = record { places = replicate 6 Numeral; made = pair_from }
+
+-- two points and one more of nine numbers, where all three are in range
+abbrev pub triple_from : List ℤ → Option ((Point × Point) × Point)
+triple_from numbers = option_zip (pair_from (take 6 numbers)) (point_from (drop 6 numbers))
+
+-- two points and one more, `X Y W X Y W X Y W`
+abbrev pub triple_form : Form ((Point × Point) × Point)
+triple_form = record { places = replicate 9 Numeral; made = triple_from }
+
+-- a curve's number, which is above 0 and fits in 32 bits
+abbrev pub curve_from : List ℤ → Option ℕ
+curve_from (pos n ∷ []) = if nat_lt 0 n && nat_lt n (2 ^ 32) then Some n else None
+curve_from other = None
+
+-- a curve, by its number
+abbrev pub curve_form : Form ℕ
+curve_form = record { places = replicate 1 Numeral; made = curve_from }
 
 -- the four coordinates of two ends, where all are in range
 abbrev pub segment_from : List ℤ → Option Command
@@ -48,14 +74,21 @@ row text forms = record { name = text; forms = forms }
 -- the table of commands
 abbrev pub row_of : Name → Row
 row_of name.Segment = row (codes "segment") (segment_form ∷ [])
+row_of name.Drop = row (codes "drop") (form_map Drop curve_form ∷ [])
+row_of name.Cut = row (codes "cut") (form_map (λ points. Cut points.0 points.1) pair_form ∷ [])
 row_of name.Pin = row (codes "pin") (form_map Pin point_form ∷ [])
 row_of name.Unpin = row (codes "unpin") (form_map Unpin point_form ∷ [])
+row_of name.Split = row (codes "split") (form_map (λ points. Split points.0.0 points.0.1 points.1) triple_form ∷ [])
+row_of name.Merge = row (codes "merge") (form_map Merge point_form ∷ [])
+row_of name.Clear = row (codes "clear") (empty_form Clear ∷ [])
 row_of name.Locate = row (codes "locate") (form_map Locate point_form ∷ [])
+row_of name.Edge = row (codes "edge") (form_map (λ points. Edge points.0 points.1) pair_form ∷ [])
+row_of name.Curve = row (codes "curve") (form_map Curve curve_form ∷ [])
 row_of name.Count = row (codes "count") (empty_form Count ∷ [])
 row_of name.Show = row (codes "show") (empty_form Show ∷ [])
 
 abbrev pub names : List Name
-names = name.Segment ∷ name.Pin ∷ name.Unpin ∷ name.Locate ∷ name.Count ∷ name.Show ∷ []
+names = name.Segment ∷ name.Drop ∷ name.Cut ∷ name.Pin ∷ name.Unpin ∷ name.Split ∷ name.Merge ∷ name.Clear ∷ name.Locate ∷ name.Edge ∷ name.Curve ∷ name.Count ∷ name.Show ∷ []
 
 -- the name that a word spells
 abbrev pub name_of : List ℕ → Option Name

@@ -6,7 +6,7 @@ ghost use Rattle.script_lines.specs.Command.{command_of, row_of, words_reading, 
 ghost use Rattle.script_lines.specs.Refusals.{IsOtherByte, IsText, IsSilent, IsNoCommand, HasWrongWord, HasWrongCount, HasNoNumber, IsOutOfRange};
 
 use crate::error::LineError;
-use crate::form::{bare_command, point, segment};
+use crate::form::{bare_command, curve, pair, point, segment, triple};
 use crate::name::Name;
 use crate::words::next_word;
 use exact_plane::Point;
@@ -21,12 +21,26 @@ pub enum Command {
     Nothing,
     /// `segment x1 y1 x2 y2`: the segment between two points with whole coordinates becomes a curve.
     Segment(i64, i64, i64, i64),
+    /// `drop c`: the curve of this number goes.
+    Drop(u32),
+    /// `cut X Y W X Y W`: the edge between two points goes from each curve that it lies on.
+    Cut(Point, Point),
     /// `pin X Y W`: the point becomes a vertex, and stays one until it is unpinned.
     Pin(Point),
     /// `unpin X Y W`: the point needn't be a vertex any more.
     Unpin(Point),
+    /// `split X Y W X Y W X Y W`: the third point, inside the edge between the first two, is pinned.
+    Split(Point, Point, Point),
+    /// `merge X Y W`: the point is unpinned, and its two edges become one.
+    Merge(Point),
+    /// `clear`: every curve and every pin goes.
+    Clear,
     /// `locate X Y W`: which cell holds the point.
     Locate(Point),
+    /// `edge X Y W X Y W`: which curves the edge between two points lies on.
+    Edge(Point, Point),
+    /// `curve c`: the edges of the curve of this number.
+    Curve(u32),
     /// `count`: how many vertices, edges, faces, inner cycles, isolated vertices and curves there are.
     Count,
     /// `show`: the text of the arrangement.
@@ -39,9 +53,16 @@ fn read_named(name: Name, rest: &[u8]) -> Result<Command, LineError>
 {
     match name {
         Name::Segment => segment(rest),
+        Name::Drop => curve(rest).map(Command::Drop),
+        Name::Cut => pair(rest).map(|(p, q)| Command::Cut(p, q)),
         Name::Pin => point(rest).map(Command::Pin),
         Name::Unpin => point(rest).map(Command::Unpin),
+        Name::Split => triple(rest).map(|((p, q), r)| Command::Split(p, q, r)),
+        Name::Merge => point(rest).map(Command::Merge),
+        Name::Clear => bare_command(rest, Command::Clear),
         Name::Locate => point(rest).map(Command::Locate),
+        Name::Edge => pair(rest).map(|(p, q)| Command::Edge(p, q)),
+        Name::Curve => curve(rest).map(Command::Curve),
         Name::Count => bare_command(rest, Command::Count),
         Name::Show => bare_command(rest, Command::Show),
     }
@@ -84,8 +105,9 @@ fn read(line: &[u8]) -> Result<Command, LineError>
 ///
 /// Words are parted by one or more spaces, and spaces at either end don't matter. A number is `0`,
 /// or an optional `-`, a digit 1 to 9 and any digits, however many. A point is three numbers
-/// `X Y W`, which needn't be in lowest terms. A segment is four numbers `x1 y1 x2 y2`, and its two
-/// ends may be one point. A line without words, or whose first word begins with `#`, is
+/// `X Y W`, which needn't be in lowest terms; where a command has several points, any of them may
+/// be equal. A segment is four numbers `x1 y1 x2 y2`, and its two ends may be one point. A curve's
+/// number is from 1 to 4294967295. A line without words, or whose first word begins with `#`, is
 /// [`Command::Nothing`]. Where a line is refused for several reasons, [`LineError`] says which one
 /// is given.
 pub fn read_line(line: &[u8]) -> Result<Command, LineError>

@@ -1,8 +1,8 @@
-ghost use Rattle.std.specs.Prelude.{◌≡◌, [], ◌∷◌};
+ghost use Rattle.std.specs.Prelude.{◌≡◌, [], ◌∷◌, length};
 ghost use Rattle.exact_plane.specs.Segment.{is_coordinate, are_coordinates};
 ghost use Rattle.script_lines.specs.Words.{words};
 ghost use Rattle.script_lines.specs.Form.{forms_reading, numbers_of};
-ghost use Rattle.script_lines.specs.Command.{empty_form, point_form, point_from, segment_form, segment_from};
+ghost use Rattle.script_lines.specs.Command.{empty_form, point_form, point_from, pair_form, pair_from, triple_form, triple_from, curve_form, curve_from, segment_form, segment_from};
 
 use crate::command::Command;
 use crate::error::LineError;
@@ -31,19 +31,74 @@ fn numbers<const N: usize>(line: &[u8]) -> Result<[i128; N], LineError>
 }
 
 // The point of three numbers, where they are in range.
-fn point_from(numbers: [i128; 3]) -> Option<Point>
-    ensures { result ≡ point_from numbers }
+fn point_from(numbers: &[i128]) -> Option<Point>
+    ensures { result ≡ point_from numbers.now }
 {
-    let [x, y, w] = numbers;
-    Point::new(x, y, w).ok()
+    match *numbers {
+        [x, y, w] => Point::new(x, y, w).ok(),
+        _ => None,
+    }
 }
 
 /// The point of a line `X Y W`, which needn't be in lowest terms.
 pub fn point(line: &[u8]) -> Result<Point, LineError>
     ensures { result ≡ forms_reading (point_form ∷ []) (words line.now) }
 {
+    let numbers = numbers::<3>(line)?;
+    point_from(&numbers).ok_or(LineError::Range)
+}
+
+// The two points of six numbers, where both are in range.
+fn pair_from(numbers: &[i128]) -> Option<(Point, Point)>
+    requires { length numbers.now ≡ 6 }
+    ensures { result ≡ pair_from numbers.now }
+{
+    let (first, second) = numbers.split_at(3);
+    point_from(first).zip(point_from(second))
+}
+
+/// The two points of a line `X Y W X Y W`, which may be equal.
+pub fn pair(line: &[u8]) -> Result<(Point, Point), LineError>
+    ensures { result ≡ forms_reading (pair_form ∷ []) (words line.now) }
+{
+    let numbers = numbers::<6>(line)?;
+    pair_from(&numbers).ok_or(LineError::Range)
+}
+
+// The three points of nine numbers, where all are in range.
+fn triple_from(numbers: &[i128]) -> Option<((Point, Point), Point)>
+    requires { length numbers.now ≡ 9 }
+    ensures { result ≡ triple_from numbers.now }
+{
+    let (pair, third) = numbers.split_at(6);
+    pair_from(pair).zip(point_from(third))
+}
+
+/// The three points of a line `X Y W X Y W X Y W`, of which some may be equal.
+pub fn triple(line: &[u8]) -> Result<((Point, Point), Point), LineError>
+    ensures { result ≡ forms_reading (triple_form ∷ []) (words line.now) }
+{
+    let numbers = numbers::<9>(line)?;
+    triple_from(&numbers).ok_or(LineError::Range)
+}
+
+// The curve's number of one number, where it is in range.
+fn curve_from(numbers: [i128; 1]) -> Option<u32>
+    ensures { result ≡ curve_from numbers }
+{
+    let [number] = numbers;
+    if number < 1 || i128::from(u32::MAX) < number {
+        return None;
+    }
+    Some(number as u32)
+}
+
+/// The curve's number of a line `c`, from 1 to 4294967295.
+pub fn curve(line: &[u8]) -> Result<u32, LineError>
+    ensures { result ≡ forms_reading (curve_form ∷ []) (words line.now) }
+{
     let numbers = numbers(line)?;
-    point_from(numbers).ok_or(LineError::Range)
+    curve_from(numbers).ok_or(LineError::Range)
 }
 
 fn is_coordinate(number: i128) -> bool

@@ -5,19 +5,33 @@ ghost use Rattle.script_lines.specs.Command.{row_of, name_of};
 #[derive(Clone, Copy, Debug, PartialEq, Eq)]
 pub enum Name {
     Segment,
+    Drop,
+    Cut,
     Pin,
     Unpin,
+    Split,
+    Merge,
+    Clear,
     Locate,
+    Edge,
+    Curve,
     Count,
     Show,
 }
 
 // Every name.
-const NAMES: [Name; 6] = [
+const NAMES: [Name; 13] = [
     Name::Segment,
+    Name::Drop,
+    Name::Cut,
     Name::Pin,
     Name::Unpin,
+    Name::Split,
+    Name::Merge,
+    Name::Clear,
     Name::Locate,
+    Name::Edge,
+    Name::Curve,
     Name::Count,
     Name::Show,
 ];
@@ -29,9 +43,16 @@ impl Name {
     {
         match self {
             Name::Segment => "segment",
+            Name::Drop => "drop",
+            Name::Cut => "cut",
             Name::Pin => "pin",
             Name::Unpin => "unpin",
+            Name::Split => "split",
+            Name::Merge => "merge",
+            Name::Clear => "clear",
             Name::Locate => "locate",
+            Name::Edge => "edge",
+            Name::Curve => "curve",
             Name::Count => "count",
             Name::Show => "show",
         }

@@ -1,11 +1,14 @@
-use Rattle.arrangement.proofs.Ends.{have, edges_ascend, edges_are}
+use Rattle.std.proofs.Common.{map, ap, ◌∙◌}
+use Rattle.arrangement.proofs.Ends.{if_ok, two, edges_are, edges_ascend}
 use Rattle.arrangement.proofs.edges.ends_in_order.Goals as goal
 
-pub all_ends-requires-clause-have : goal.all_ends-requires-clause-have
-all_ends-requires-clause-have c = have c.args.records.now.graph c.requires.sound c.args.darts.now c.requires.forward
-
 pub returns-clause-edges : goal.returns-clause-edges
-returns-clause-edges c = edges_are c.args.records.now.graph c.requires.sound c.args.darts.now c.requires.forward c.requires.once c.in_ok-ends.ends.items c.sort_unstable.new.self.items c.in_ok-ends.ensures c.sort_unstable.ensures.permutation c.sort_unstable.ensures.sorted
+returns-clause-edges c =
+    let ks = c.in_ok-edges.edges.items in
+    let e = c.in_ok-edges.ensures in
+    if_ok c.ends_of.result _ _ (λ v is. edges_are c.args.records.now.graph ks c.args.darts.now c.requires.forward e.keys e.names v.items (is ∙ ap (map two) c.deref.ensures.value)) c.ends_of.ensures
 
 pub returns-clause-ascend : goal.returns-clause-ascend
-returns-clause-ascend c = edges_ascend c.args.records.now.graph c.requires.sound c.args.darts.now c.requires.forward c.requires.once c.in_ok-ends.ends.items c.sort_unstable.new.self.items c.in_ok-ends.ensures c.sort_unstable.ensures.permutation c.sort_unstable.ensures.sorted
+returns-clause-ascend c =
+    let ks = c.in_ok-edges.edges.items in
+    if_ok c.ends_of.result _ _ (λ v is. edges_ascend ks v.items (is ∙ ap (map two) c.deref.ensures.value) c.in_ok-edges.ensures.ascend) c.ends_of.ensures

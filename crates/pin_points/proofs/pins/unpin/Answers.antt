@@ -6,7 +6,7 @@ use Rattle.slab_laws.specs.View.{HasVertex, point_in, pinned_in}
 use Rattle.arr_notes.specs.Curves.{AreCurvesOf}
 use Rattle.curve_history.specs.Past.{held}
 use Rattle.record_layers.specs.Kept.{layer_of, Makes}
-use Rattle.pin_points.specs.Tidied.{IsTidied}
+use Rattle.redundant_vertices.specs.Tidied.{IsTidied}
 use Rattle.pin_points.proofs.Spotted.{none_pinned, pinned_vertex}
 use Rattle.pin_points.proofs.Unpinning.{clear_sound, clear_curves, clear_has, clear_unpinned, unpin_made, unpin_layer}
 use Rattle.pin_points.proofs.pins.unpin.Goals as goal

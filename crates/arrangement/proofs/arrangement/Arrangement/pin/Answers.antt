@@ -1,24 +1,23 @@
-use Rattle.std.proofs.Common.{◌≡◌, subst}
-use Rattle.std.specs.Prelude.{OnErr}
+use Rattle.std.proofs.Common.{subst}
+use Rattle.std.specs.Prelude.{OnOk, OnErr}
 use Rattle.edit_steps.specs.Edits.{Pin}
-use Rattle.curve_history.specs.Past.{held}
-use Rattle.record_layers.specs.Kept.{layer_of}
-use Rattle.record_layers.specs.Laws.{NamesStay}
-use Rattle.arrangement.specs.Arranged.{Arranged, layer_in}
-use Rattle.arrangement.proofs.Layers.{names_stay, stays}
+use Rattle.arrangement.specs.Arranged.{Arranged}
+use Rattle.arrangement.specs.Edited.{IsEdited, IsAsBefore}
+use Rattle.arrangement.proofs.Layers.{edited, as_before}
 use Rattle.arrangement.proofs.arrangement.Arrangement.pin.Goals as goal
 
-pub returns-clause-names : goal.returns-clause-names
-returns-clause-names c =
-    let v = c.self.inside.records.graph in
+pub returns-clause-edit : goal.returns-clause-edit
+returns-clause-edit c =
+    let i = c.self.inside in
     let w = c.pin.new.records.graph in
     let q = c.pin.new.history in
-    subst (λ (a : Arranged). NamesStay a.graph w (held a.past) (held q)) c.self.view_is
-    (names_stay v c.self.inside.history w q c.pin.result (λ k. Pin c.args.p.now) c.self.invariant c.pin.ensures.steps c.pin.ensures.graph)
+    subst (λ (a : Arranged). OnOk c.pin.result (IsEdited a (record { graph = w; past = q; limits = i.limits }) (Pin c.args.p.now))) c.self.view_is
+    (edited i.records.graph i.history w q i.limits c.pin.result (λ k. Pin c.args.p.now) c.self.invariant c.pin.ensures.edit c.pin.ensures.steps)
 
-pub returns-clause-err : goal.returns-clause-err
-returns-clause-err c =
+pub returns-clause-as_before : goal.returns-clause-as_before
+returns-clause-as_before c =
+    let i = c.self.inside in
     let w = c.pin.new.records.graph in
     let q = c.pin.new.history in
-    subst (λ (a : Arranged). OnErr c.pin.result ((layer_of w q ≡ layer_in a) × (w ≡ a.graph))) c.self.view_is
-    (stays c.self.inside.records.graph c.self.inside.history w q c.pin.result c.pin.ensures.graph c.pin.ensures.same_layer c.pin.ensures.same_curves)
+    subst (λ (a : Arranged). OnErr c.pin.result (IsAsBefore a (record { graph = w; past = q; limits = i.limits }))) c.self.view_is
+    (as_before i.records.graph i.history w q i.limits c.pin.result c.pin.ensures.graph c.pin.ensures.same_layer c.pin.ensures.same_curves)

@@ -1,0 +1,159 @@
+use arrangement::{Arrangement, Limits};
+use exact_plane::{Point, Segment};
+use no_memory::NoMemory;
+use pin_points::{MergeError, PinError, SplitError};
+use segment_insert::InsertError;
+use segment_remove::{CutError, DropError};
+use slab_laws::CurveId;
+use std::alloc::Global;
+use std::test::Fail;
+
+/// An edit, by whole numbers of plane units.
+#[derive(Clone, Copy)]
+pub enum Edit {
+    Insert(i64, i64, i64, i64),
+    Pin(i128, i128),
+    Unpin(i128, i128),
+    RemoveCurve(u32),
+    /// The edge between two points of the abscissa.
+    RemoveEdge(i128, i128),
+    /// The edge between two points of the abscissa goes in two at a third.
+    SplitEdge(i128, i128, i128),
+    MergeEdge(i128, i128),
+    Clear,
+}
+
+/// What an edit answers.
+#[derive(Clone, Copy, PartialEq)]
+pub enum Answer {
+    Drawn(u32),
+    Done,
+    Full(u32),
+    Spent,
+    Pinned,
+    NotPinned,
+    Unknown,
+    NoEdge,
+    NotInside,
+    NoVertex,
+    NotMergeable,
+    OutOfMemory,
+}
+
+/// The point with whole coordinates.
+pub fn at(x: i128, y: i128) -> Result<Point, Fail> {
+    Ok(Point::new(x, y, 1)?)
+}
+
+/// Limits of a layer.
+#[derive(Clone, Copy)]
+pub enum Under {
+    /// Those of a script.
+    Script,
+    /// Two curves, two pieces and a pin; there is one number left.
+    LastNumber,
+    /// Two curves, three pieces and two pins; there are two numbers left.
+    TwoCurves,
+}
+
+const LAST_NUMBER: Limits = Limits {
+    curves: 2,
+    pieces: 2,
+    pins: 1,
+    first: 4294967295,
+};
+
+const TWO_CURVES: Limits = Limits {
+    curves: 2,
+    pieces: 3,
+    pins: 2,
+    first: 4294967294,
+};
+
+/// A layer of nothing.
+pub fn layer_under(alloc: Global, under: Under) -> Result<Arrangement, NoMemory> {
+    match under {
+        Under::Script => Arrangement::new(alloc, Limits::FULL),
+        Under::LastNumber => Arrangement::new(alloc, LAST_NUMBER),
+        Under::TwoCurves => Arrangement::new(alloc, TWO_CURVES),
+    }
+}
+
+fn insert(layer: &mut Arrangement, segment: Segment) -> Answer {
+    match layer.insert(segment) {
+        Ok(curve) => Answer::Drawn(curve.0),
+        Err(InsertError::Full(limit)) => Answer::Full(limit),
+        Err(InsertError::Spent) => Answer::Spent,
+        Err(InsertError::NoMemory) => Answer::OutOfMemory,
+    }
+}
+
+fn pin(layer: &mut Arrangement, point: &Point) -> Answer {
+    match layer.pin(point) {
+        Ok(()) => Answer::Done,
+        Err(PinError::Pinned) => Answer::Pinned,
+        Err(PinError::Full(limit)) => Answer::Full(limit),
+        Err(PinError::NoMemory) => Answer::OutOfMemory,
+    }
+}
+
+fn unpin(layer: &mut Arrangement, point: &Point) -> Answer {
+    match layer.unpin(point) {
+        Ok(()) => Answer::Done,
+        Err(_) => Answer::NotPinned,
+    }
+}
+
+fn remove_curve(layer: &mut Arrangement, curve: u32) -> Answer {
+    match layer.remove_curve(CurveId(curve)) {
+        Ok(()) => Answer::Done,
+        Err(DropError::Unknown) => Answer::Unknown,
+        Err(DropError::NoMemory) => Answer::OutOfMemory,
+    }
+}
+
+fn remove_edge(layer: &mut Arrangement, p: &Point, q: &Point) -> Answer {
+    match layer.remove_edge(p, q) {
+        Ok(()) => Answer::Done,
+        Err(CutError::NoEdge) => Answer::NoEdge,
+        Err(CutError::Full(limit)) => Answer::Full(limit),
+        Err(CutError::NoMemory) => Answer::OutOfMemory,
+    }
+}
+
+fn split_edge(layer: &mut Arrangement, p: &Point, q: &Point, r: &Point) -> Answer {
+    match layer.split_edge(p, q, r) {
+        Ok(()) => Answer::Done,
+        Err(SplitError::NoEdge) => Answer::NoEdge,
+        Err(SplitError::NotInside) => Answer::NotInside,
+        Err(SplitError::Full(limit)) => Answer::Full(limit),
+        Err(SplitError::NoMemory) => Answer::OutOfMemory,
+    }
+}
+
+fn merge_edge(layer: &mut Arrangement, r: &Point) -> Answer {
+    match layer.merge_edge(r) {
+        Ok(()) => Answer::Done,
+        Err(MergeError::NoVertex) => Answer::NoVertex,
+        Err(MergeError::NotMergeable) => Answer::NotMergeable,
+    }
+}
+
+fn clear(layer: &mut Arrangement) -> Answer {
+    layer.clear();
+    Answer::Done
+}
+
+/// What the edit answers.
+pub fn apply(layer: &mut Arrangement, edit: Edit) -> Result<Answer, Fail> {
+    match edit {
+        Edit::Insert(x1, y1, x2, y2) => Ok(insert(layer, Segment::new(x1, y1, x2, y2)?)),
+        Edit::Pin(x, y) => Ok(pin(layer, &at(x, y)?)),
+        Edit::Unpin(x, y) => Ok(unpin(layer, &at(x, y)?)),
+        Edit::RemoveCurve(curve) => Ok(remove_curve(layer, curve)),
+        Edit::RemoveEdge(x, z) => Ok(remove_edge(layer, &at(x, 0)?, &at(z, 0)?)),
+        Edit::SplitEdge(x, z, y) => Ok(split_edge(layer, &at(x, 0)?, &at(z, 0)?, &at(y, 0)?)),
+        Edit::MergeEdge(x, y) => Ok(merge_edge(layer, &at(x, y)?)),
+        Edit::Clear => Ok(clear(layer)),
+    }
+}

@@ -1,0 +1,160 @@
+use crate::calls::{Call, are_right, names_stay, zone_is_told};
+use crate::edits::{Answer, Edit, Under};
+use slab_laws::CurveId;
+use std::test::Fail;
+
+const LAST_NUMBER: [Call; 2] = [
+    Call::Makes(Edit::Insert(0, 0, 1, 0), Answer::Drawn(4294967295)),
+    Call::Makes(Edit::Insert(0, 0, 2, 0), Answer::Spent),
+];
+
+#[test]
+fn the_last_number_is_drawn_once(rt: HostRuntime) -> Result<(), Fail> {
+    assert!(rt; are_right(rt.alloc(), Under::LastNumber, &LAST_NUMBER)?);
+    Ok(())
+}
+
+const LIMITS: [Call; 8] = [
+    Call::Makes(Edit::Insert(0, 0, 6, 0), Answer::Drawn(4294967294)),
+    Call::Makes(Edit::Insert(0, 0, 6, 0), Answer::Drawn(4294967295)),
+    Call::Makes(Edit::Insert(0, 0, 6, 0), Answer::Full(2)),
+    Call::Makes(Edit::Pin(2, 0), Answer::Done),
+    Call::Makes(Edit::Pin(2, 0), Answer::Pinned),
+    Call::Makes(Edit::Pin(4, 0), Answer::Done),
+    Call::Makes(Edit::Pin(5, 0), Answer::Full(2)),
+    Call::Makes(Edit::Unpin(5, 0), Answer::NotPinned),
+];
+
+#[test]
+fn limits_are_kept(rt: HostRuntime) -> Result<(), Fail> {
+    assert!(rt; are_right(rt.alloc(), Under::TwoCurves, &LIMITS)?);
+    Ok(())
+}
+
+const PINNED_EDGE: [Call; 2] = [
+    Call::Makes(Edit::Insert(0, 0, 4, 0), Answer::Drawn(1)),
+    Call::Makes(Edit::Pin(1, 0), Answer::Done),
+];
+
+const CROSSING: [Call; 1] = [Call::Makes(Edit::Insert(2, -1, 2, 1), Answer::Drawn(2))];
+
+#[test]
+fn names_stay_on_an_edge_with_a_pin(rt: HostRuntime) -> Result<(), Fail> {
+    assert!(rt; names_stay(rt.alloc(), &PINNED_EDGE, &CROSSING)?);
+    Ok(())
+}
+
+const OVERLAPS: [Call; 10] = [
+    Call::Makes(Edit::Insert(0, 0, 6, 0), Answer::Drawn(1)),
+    Call::Makes(Edit::Insert(2, 0, 4, 0), Answer::Drawn(2)),
+    Call::HasCurves(4, 2, &[CurveId(1), CurveId(2)]),
+    Call::HasCurves(0, 2, &[CurveId(1)]),
+    Call::HasNoEdge(0, 4),
+    Call::HasEdges(1, &[(0, 2), (2, 4), (4, 6)]),
+    Call::HasEdges(2, &[(2, 4)]),
+    Call::IsUnknown(3),
+    Call::Counts([4, 3, 1, 0, 2]),
+    Call::IsOnEdge(3, (2, 4)),
+];
+
+// Overlapping segments, one of which begins and ends inside an edge of the other.
+#[test]
+fn overlaps_have_both_curves(rt: HostRuntime) -> Result<(), Fail> {
+    assert!(rt; are_right(rt.alloc(), Under::Script, &OVERLAPS)?);
+    Ok(())
+}
+
+const PINS: [Call; 9] = [
+    Call::Makes(Edit::Insert(0, 0, 4, 0), Answer::Drawn(1)),
+    Call::Makes(Edit::Insert(0, 0, 4, 0), Answer::Drawn(2)),
+    Call::Makes(Edit::Pin(3, 0), Answer::Done),
+    Call::Makes(Edit::Pin(3, 3), Answer::Done),
+    Call::Counts([4, 2, 1, 1, 2]),
+    Call::Makes(Edit::Unpin(3, 0), Answer::Done),
+    Call::Makes(Edit::Unpin(3, 3), Answer::Done),
+    Call::Counts([2, 1, 1, 0, 2]),
+    Call::HasCurves(0, 4, &[CurveId(1), CurveId(2)]),
+];
+
+// A pin parts an edge, and without it the edge is one again; a pin in the open goes with its vertex.
+#[test]
+fn pins_come_and_go(rt: HostRuntime) -> Result<(), Fail> {
+    assert!(rt; are_right(rt.alloc(), Under::Script, &PINS)?);
+    Ok(())
+}
+
+const DIAGONALS: [Call; 7] = [
+    Call::Makes(Edit::Insert(0, 0, 4, 0), Answer::Drawn(1)),
+    Call::Makes(Edit::Insert(4, 0, 4, 4), Answer::Drawn(2)),
+    Call::Makes(Edit::Insert(4, 4, 0, 4), Answer::Drawn(3)),
+    Call::Makes(Edit::Insert(0, 4, 0, 0), Answer::Drawn(4)),
+    Call::Makes(Edit::Insert(0, 0, 4, 4), Answer::Drawn(5)),
+    Call::Makes(Edit::Insert(0, 4, 4, 0), Answer::Drawn(6)),
+    Call::HasText(
+        b"arrangement 5 8 5\n\
+        v 1 0 0 1 : 2 3 4\nv 2 0 4 1 : 1 5 3\nv 3 2 2 1 : 1 2 5 4\nv 4 4 0 1 : 1 3 5\nv 5 4 4 1 : 2 4 3\n\
+        e 1 2 : 4\ne 1 3 : 5\ne 1 4 : 1\ne 2 3 : 6\ne 2 5 : 3\ne 3 4 : 6\ne 3 5 : 5\ne 4 5 : 2\n\
+        f 0\nh 1 2 5 4\nf 1\no 1 3 2\nf 2\no 1 4 3\nf 3\no 2 3 5\nf 4\no 3 4 5\nend\n",
+    ),
+];
+
+// A square with both diagonals.
+#[test]
+fn crossing_diagonals_have_their_text(rt: HostRuntime) -> Result<(), Fail> {
+    assert!(rt; are_right(rt.alloc(), Under::Script, &DIAGONALS)?);
+    Ok(())
+}
+
+const PIECES: [Call; 2] = [
+    Call::Makes(Edit::Insert(2, 0, 4, 0), Answer::Drawn(1)),
+    Call::Makes(Edit::Insert(0, 0, 6, 0), Answer::Drawn(2)),
+];
+
+// From inside one edge, along a second, to inside a third.
+#[test]
+fn a_zone_goes_along_what_it_overlaps(rt: HostRuntime) -> Result<(), Fail> {
+    let points = [1, 2, 4, 5];
+    let edges = [(0, 2), (2, 4), (4, 6)];
+    assert!(rt; zone_is_told(rt.alloc(), &PIECES, (1, 5), &points, &edges)?);
+    Ok(())
+}
+
+const REMOVALS: [Call; 13] = [
+    Call::Makes(Edit::Insert(0, 0, 6, 0), Answer::Drawn(4294967294)),
+    Call::Makes(Edit::Insert(0, 0, 6, 0), Answer::Drawn(4294967295)),
+    Call::Makes(Edit::Pin(2, 0), Answer::Done),
+    Call::Makes(Edit::Pin(4, 0), Answer::Done),
+    Call::Makes(Edit::RemoveEdge(2, 4), Answer::Full(3)),
+    Call::HasCurves(2, 4, &[CurveId(4294967294), CurveId(4294967295)]),
+    Call::Counts([4, 3, 1, 0, 2]),
+    Call::Makes(Edit::RemoveEdge(0, 2), Answer::Done),
+    Call::HasNoEdge(0, 2),
+    Call::Makes(Edit::RemoveCurve(4294967294), Answer::Done),
+    Call::HasCurves(2, 4, &[CurveId(4294967295)]),
+    Call::IsUnknown(4294967294),
+    Call::Makes(Edit::Insert(0, 0, 6, 0), Answer::Spent),
+];
+
+// An edge inside two pieces can't go where that makes a piece too many.
+#[test]
+fn removals_keep_to_the_limits(rt: HostRuntime) -> Result<(), Fail> {
+    assert!(rt; are_right(rt.alloc(), Under::TwoCurves, &REMOVALS)?);
+    Ok(())
+}
+
+const SPLITS: [Call; 8] = [
+    Call::Makes(Edit::Insert(0, 0, 4, 0), Answer::Drawn(1)),
+    Call::Makes(Edit::SplitEdge(0, 4, 5), Answer::NotInside),
+    Call::Makes(Edit::SplitEdge(0, 4, 1), Answer::Done),
+    Call::HasEdges(1, &[(0, 1), (1, 4)]),
+    Call::Makes(Edit::MergeEdge(1, 0), Answer::Done),
+    Call::HasEdges(1, &[(0, 4)]),
+    Call::Makes(Edit::Clear, Answer::Done),
+    Call::Counts([0, 0, 1, 0, 0]),
+];
+
+#[test]
+fn an_edge_goes_in_two_and_is_one_again(rt: HostRuntime) -> Result<(), Fail> {
+    assert!(rt; are_right(rt.alloc(), Under::Script, &SPLITS)?);
+    Ok(())
+}

@@ -1,0 +1,164 @@
+-- A pin fewer and two edges in one: when it is refused, its steps, and the layer after it.
+use Rattle.std.proofs.Common.{◌≡◌, ◌≢◌, Bool, true, false, cond, not, ◌&&◌, ◌||◌, [], ◌∷◌, refl, sym, ap, ◌∙◌, subst, inr}
+use Rattle.std.specs.Prelude.{Some, None, MatchOption, if◌then◌else◌}
+use Rattle.std.specs.List.{list_any}
+use Rattle.exact_plane.specs.Point.{Point}
+use Rattle.plane_graphs.specs.Ascending.{Member}
+use Rattle.plane_graphs.specs.Fit.{IsFit}
+use Rattle.plane_graphs.specs.Graph.{Graph, Mark, mark, graph, graph_over, vertices}
+use Rattle.plane_graphs.specs.Line.{same_point}
+use Rattle.plane_graphs.specs.Piece.{Present, on}
+use Rattle.plane_graphs.proofs.Lists.{and_in, any_in, any_out, both, clash, not_in, not_out, not_true, or_right}
+use Rattle.plane_graphs.proofs.Marks.{mark_out, on_in}
+use Rattle.plane_graphs.proofs.Order.{same_itself, same_out}
+use Rattle.edit_steps.specs.Allowed.{IsAllowed, IsPassed}
+use Rattle.edit_steps.specs.Edits.{Merge, Unpin, IsAccepted, after, steps}
+use Rattle.edit_steps.specs.Layer.{Layer, IsAcceptedBy, layer_after}
+use Rattle.edit_steps.specs.Steps.{ClearPin, MergeEdge, RemoveVertex, apply, merge_steps, tidy_step, without_pin}
+use Rattle.edit_steps.proofs.Laws.{are_sound}
+use Rattle.slab_laws.specs.declared.names.VertexId.{VertexId}
+use Rattle.slab_laws.specs.View.{View, HasVertex, point_in, pinned_in}
+use Rattle.view_changes.specs.Writers.{with_pin}
+use Rattle.arr_notes.specs.Curves.{Curves}
+use Rattle.curve_history.specs.Past.{Past, held, SameLayer}
+use Rattle.record_graphs.specs.Graph.{drawn_graph}
+use Rattle.record_layers.specs.Kept.{IsLayer, layer_of, Makes}
+use Rattle.record_layers.proofs.Layers.{steps_make_layers}
+use Rattle.graph_steps.proofs.Held.{point_held, held_point}
+use Rattle.pin_points.specs.declared.merge.MergeError.{MergeError}
+use Rattle.pin_points.specs.declared.merge.MergeError.TheVariants.{NoVertex, NotMergeable}
+use Rattle.pin_points.specs.Merges.{is_mergeable, merge_refusal}
+use Rattle.redundant_vertices.specs.Tidied.{IsTidied}
+use Rattle.pin_points.proofs.Pinning.{graph_points}
+use Rattle.pin_points.proofs.Spotted.{pinned_vertex}
+use Rattle.pin_points.proofs.Unpinning.{all_steps, loose_steps, goes, unpin_made}
+
+-- ---- why it is refused
+module _ (o : Present) (p : Point) (A : Type 0) (B : MergeError → Type 0) where
+  refused_by : (a b : Bool) → list_any (same_point p) (vertices o) ≡ a → is_mergeable o p ≡ b → MatchOption (if a then (if b then None else Some NotMergeable) else Some NoVertex) A B → MatchOption (merge_refusal o p) A B
+  refused_by a b e f m = subst (λ z. MatchOption (if z then (if is_mergeable o p then None else Some NotMergeable) else Some NoVertex) A B) (sym e) (subst (λ z. MatchOption (if a then (if z then None else Some NotMergeable) else Some NoVertex) A B) (sym f) m)
+
+  pub refused_no_vertex : list_any (same_point p) (vertices o) ≡ false → B NoVertex → MatchOption (merge_refusal o p) A B
+  refused_no_vertex e m = refused_by false (is_mergeable o p) e refl m
+
+  pub refused_not_mergeable : list_any (same_point p) (vertices o) ≡ true → is_mergeable o p ≡ false → B NotMergeable → MatchOption (merge_refusal o p) A B
+  refused_not_mergeable e f m = refused_by true false e f m
+
+  pub not_refused : list_any (same_point p) (vertices o) ≡ true → is_mergeable o p ≡ true → A → MatchOption (merge_refusal o p) A B
+  not_refused e f m = refused_by true true e f m
+
+-- ---- a point that a graph passes straight through, by its marks alone
+passed_by : (g k : Graph) → g.marks ≡ k.marks → (p : Point) → IsPassed g p → IsPassed k p
+passed_by g k e p s = record {
+  low = s.low;
+  high = s.high;
+  below = s.below;
+  above = s.above;
+  straight = s.straight;
+  curve = s.curve;
+  some = subst (Member (mark s.low p s.curve)) e s.some;
+  only = λ m h. s.only m (subst (Member m) (sym e) h);
+  onwards = λ c h. subst (Member (mark p s.high c)) e (s.onwards c (subst (Member (mark s.low p c)) (sym e) h));
+  back = λ c h. subst (Member (mark s.low p c)) e (s.back c (subst (Member (mark p s.high c)) (sym e) h));
+}
+
+touches : Point → Mark → Bool
+touches p m = same_point m.low p || same_point m.high p
+
+-- the step that takes such a vertex away
+merges : (g : Graph) (p : Point) → IsPassed g p → tidy_step p g ≡ MergeEdge p
+unfolding tidy_step touches
+merges g p s = ap (λ b. cond b (MergeEdge p) (RemoveVertex p)) (any_in (touches p) (mark s.low p s.curve) g.marks s.some (or_right (same_point s.low p) (same_point p p) (same_itself p)))
+
+without_mark : (o : Present) (p : Point) → list_any (same_point p) o.pins ≡ false → is_mergeable o p ≡ false
+without_mark o p e = ap (λ b. b && (not (list_any (same_point p) (vertices (without_pin o p))) && list_any (λ k. on k p) o.pieces)) e
+
+module _ (o : Present) (fit : IsFit o) (p : Point) where
+  -- what can be merged is passed, since its steps fit
+  accepted_by : is_mergeable o p ≡ true → IsAccepted (Merge p) o
+  unfolding IsAccepted
+  accepted_by e =
+      let a = both (list_any (same_point p) o.pins) (not (list_any (same_point p) (vertices (without_pin o p))) && list_any (λ k. on k p) o.pieces) e in
+      let b = both (not (list_any (same_point p) (vertices (without_pin o p)))) (list_any (λ k. on k p) o.pieces) a.1 in
+      (a.0, not_out (list_any (same_point p) (vertices (without_pin o p))) b.0, b.1)
+
+  passed_after : is_mergeable o p ≡ true → IsPassed (graph o) p
+  unfolding steps merge_steps apply IsAllowed
+  passed_after e = let k = are_sound (Merge p) o fit (accepted_by e) in passed_by (apply (ClearPin p) (graph o)) (graph o) refl p k.1.0.allowed.1
+
+  pub not_mergeable : (IsPassed (graph o) p → ⊥) → is_mergeable o p ≡ false
+  not_mergeable n = not_true (is_mergeable o p) (λ e. n (passed_after e))
+
+  module _ (there : Member p o.pins) (s : IsPassed (graph o) p) where
+    abbrev rest : Graph
+    rest = graph_over (vertices o) o.pieces (without_pin o p).pins
+
+    still : IsPassed rest p
+    unfolding graph
+    still = passed_by (graph o) rest refl p s
+
+    alone : list_any (same_point p) (vertices (without_pin o p)) ≡ false
+    alone = not_true (list_any (same_point p) (vertices (without_pin o p))) (λ t. let y = any_out (same_point p) (vertices (without_pin o p)) t in goes o fit p there (inr still) (subst (λ z. Member z (vertices (without_pin o p))) (sym (same_out p y.0 y.2)) y.1))
+
+    on_some : list_any (λ k. on k p) o.pieces ≡ true
+    on_some = let m = mark_out (vertices o) o.pieces (mark still.low p still.curve) still.some in any_in (λ k. on k p) m.piece o.pieces m.here (on_in m.piece p m.next.at_q)
+
+    pub mergeable : is_mergeable o p ≡ true
+    mergeable = and_in (any_in (same_point p) p o.pins there (same_itself p)) (and_in (not_in (list_any (same_point p) (vertices (without_pin o p))) (λ t. clash t alone)) on_some)
+
+    -- its steps are those of its pin's going
+    pub merge_steps_are : steps (Unpin p) o ≡ steps (Merge p) o
+    unfolding steps merge_steps
+    merge_steps_are = all_steps o fit p there ∙ ap (λ ss. ClearPin p ∷ ss) (loose_steps o fit p there (inr still) ∙ ap (λ x. x ∷ []) (merges rest p still))
+
+-- ---- in records
+module _ (v : View) (r : Past) (l : IsLayer v r) where
+  abbrev h : Curves
+  h = held r
+
+  abbrev o : Layer
+  o = layer_of v r
+
+  points_are : (drawn_graph v h).points ≡ vertices o.present
+  points_are = ap (λ (g : Graph). g.points) l.stands ∙ graph_points o.present
+
+  pub no_vertex : (p : Point) → ((w : VertexId) → HasVertex v w → point_in v w ≢ p) → list_any (same_point p) (vertices o.present) ≡ false
+  no_vertex p none = not_true (list_any (same_point p) (vertices o.present)) (λ t.
+      let y = any_out (same_point p) (vertices o.present) t in
+      let w = held_point v l.sound.named h y.0 (subst (Member y.0) (sym points_are) y.1) in
+      none w.0 w.1.has (w.1.at ∙ sym (same_out p y.0 y.2)))
+
+  module _ (p : Point) (w : VertexId) (has : HasVertex v w) (at : point_in v w ≡ p) where
+    pub is_vertex : list_any (same_point p) (vertices o.present) ≡ true
+    is_vertex = any_in (same_point p) p (vertices o.present) (subst (Member p) points_are (subst (λ z. Member z (drawn_graph v h).points) at (point_held v l.sound.named h w has))) (same_itself p)
+
+    pub not_pinned : pinned_in v w ≡ false → is_mergeable o.present p ≡ false
+    not_pinned e = without_mark o.present p (pinned_vertex v h l.sound p w has at ∙ e)
+
+    passed_there : IsPassed (graph o.present) p → IsPassed (drawn_graph v h) (point_in v w)
+    passed_there s = subst (λ g. IsPassed g (point_in v w)) (sym l.stands) (subst (IsPassed (graph o.present)) (sym at) s)
+
+    pub not_passed : (IsPassed (drawn_graph v h) (point_in v w) → ⊥) → is_mergeable o.present p ≡ false
+    not_passed n = not_mergeable o.present l.lawful.fit p (λ s. n (passed_there s))
+
+    module _ (pin : pinned_in v w ≡ true) (s : IsPassed (drawn_graph v h) (point_in v w)) where
+      there : Member p o.present.pins
+      there = let y = any_out (same_point p) o.present.pins (pinned_vertex v h l.sound p w has at ∙ pin) in subst (λ z. Member z o.present.pins) (sym (same_out p y.0 y.2)) y.1
+
+      through : IsPassed (graph o.present) p
+      through = subst (IsPassed (graph o.present)) at (subst (λ g. IsPassed g (point_in v w)) l.stands s)
+
+      pub can_merge : is_mergeable o.present p ≡ true
+      can_merge = mergeable o.present l.lawful.fit p there through
+
+      accepted : IsAcceptedBy (Merge p) o
+      accepted = accepted_by o.present l.lawful.fit p can_merge
+
+      pub merge_made : (x : View) (k : Curves) → IsTidied (with_pin v w false) h (point_in (with_pin v w false) w) x k → Makes v h (steps (Merge p) o.present) x k
+      merge_made x k t =
+          subst (λ ss. Makes v h ss x k) (merge_steps_are o.present l.lawful.fit p there through)
+          (subst (λ z. Makes v h (steps (Unpin z) o.present) x k) at (unpin_made v r l w has pin x k t))
+
+      pub merge_layer : (y : View) (q : Past) → Makes v h (steps (Merge p) o.present) y (held q) → SameLayer r q → IsLayer y q × (layer_of y q ≡ layer_after (Merge p) o)
+      unfolding after
+      merge_layer y q made n = steps_make_layers (Merge p) v r y q l accepted made n.pieces n.names n.next

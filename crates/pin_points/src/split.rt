@@ -1,0 +1,93 @@
+ghost use Rattle.std.specs.Prelude.{◌≡◌, ◌⊎◌, ◌∷◌, [], MatchOption, Ok, Err, IsOk, OnOk, OnErr};
+ghost use Rattle.edit_steps.specs.Edits.{Split, steps};
+ghost use Rattle.edit_steps.specs.Layer.{layer_after};
+ghost use Rattle.slab_laws.specs.Skeleton.{inside};
+ghost use Rattle.slab_laws.specs.Sound.{IsGraphSound, edge_between, edge_in};
+ghost use Rattle.arr_notes.specs.Curves.{IsForward};
+ghost use Rattle.curve_history.specs.Past.{held, SameLayer, SameCurves};
+ghost use Rattle.record_layers.specs.Kept.{IsLayer, layer_of, Makes};
+ghost use Rattle.pin_points.specs.Splits.{split_refusal};
+
+use crate::full::is_full;
+use crate::pins::{make_room, part_edge};
+use curve_history::History;
+use dcel_records::{Records, Spot};
+use edge_predicates::has_inside;
+use edges_by_ends::edge_dart;
+use exact_plane::Point;
+use locate_naive::span_of;
+use no_memory::NoMemory;
+use slab_laws::DartId;
+use std::alloc::Global;
+
+/// Why an edge isn't split.
+#[derive(Clone, Copy, Debug, PartialEq, Eq)]
+pub enum SplitError {
+    /// No edge joins the points.
+    NoEdge,
+    /// The point isn't strictly inside the edge.
+    NotInside,
+    /// One pin more would pass this limit.
+    Full(u32),
+    /// There was no memory for a vertex there.
+    NoMemory,
+}
+
+impl From<NoMemory> for SplitError {
+    ghost use Rattle.pin_points.specs.declared.split.SplitError.TheVariants.{NoMemory as OutOfMemory};
+
+    ghost from_gives = { λ _ e. e ≡ OutOfMemory };
+
+    fn from(_error: NoMemory) -> SplitError {
+        SplitError::NoMemory
+    }
+}
+
+// Whether the point lies strictly inside the edge of a forward dart.
+fn is_inside(records: &Records, dart: DartId, point: &Point) -> bool
+    requires sound { IsGraphSound records.now.graph }
+    requires forward { IsForward records.now.graph dart }
+    ensures { result ≡ inside (edge_in records.now.graph dart) point.now }
+{
+    let Some(span) = span_of(records, dart) else {
+        unreachable!()
+    };
+    has_inside(&span, point)
+}
+
+/// The edge between two points, which come in either order, goes in two at a point inside it, which is pinned (CGAL manual,
+/// `split_edge`; the pin: this project); `pins` is the limit of pins. All memory is taken before the first change.
+pub fn split_edge(
+    alloc: Global,
+    records: &mut Records,
+    history: &mut History,
+    pins: u32,
+    p: &Point,
+    q: &Point,
+    r: &Point,
+) -> Result<(), SplitError>
+    requires layer { IsLayer records.old.graph history.old }
+    ensures layer { IsLayer records.new.graph history.new }
+    ensures edit { OnOk result (layer_of records.new.graph history.new ≡ layer_after (Split (edge_between p.now q.now).low (edge_between p.now q.now).high r.now) (layer_of records.old.graph history.old)) }
+    ensures steps { OnOk result (Makes records.old.graph (held history.old) (steps (Split (edge_between p.now q.now).low (edge_between p.now q.now).high r.now) (layer_of records.old.graph history.old).present) records.new.graph (held history.new)) }
+    ensures refused { MatchOption (split_refusal pins (layer_of records.old.graph history.old).present (edge_between p.now q.now) r.now) (IsOk result ⊎ (result ≡ Err SplitError.NoMemory)) (λ e. result ≡ Err e) }
+    ensures graph { OnErr result (records.new.graph ≡ records.old.graph) }
+    ensures same_layer { OnErr result (SameLayer history.old history.new) }
+    ensures same_curves { OnErr result (SameCurves history.old history.new) }
+{
+    // A call on the point tells that its numbers are a point's.
+    let _weight = r.w();
+    let Some(dart) = edge_dart(&*records, p, q) else {
+        return Err(SplitError::NoEdge);
+    };
+    if !is_inside(&*records, dart, r) {
+        return Err(SplitError::NotInside);
+    }
+    if is_full(&*records, pins) {
+        return Err(SplitError::Full(pins));
+    }
+    make_room(records, history, Spot::Edge(dart))?;
+    let vertex = part_edge(records, history, dart, *r);
+    records.set_pin(vertex);
+    Ok(())
+}

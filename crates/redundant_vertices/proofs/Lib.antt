@@ -1,0 +1,10 @@
+pub mod Straight
+pub mod Told
+pub mod Twice
+pub mod Lines
+pub mod Passed
+pub mod Made
+pub mod Loosened
+pub mod Stayed
+pub mod Missing
+pub mod Onward

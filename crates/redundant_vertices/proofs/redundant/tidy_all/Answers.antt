@@ -1,0 +1,34 @@
+use Rattle.std.proofs.Common.{sym, refl, ◌∙◌}
+use Rattle.slab_laws.specs.View.{vertex_id}
+use Rattle.curve_history.specs.Past.{held}
+use Rattle.redundant_vertices.proofs.Onward.{all_next, none_tidied, pinned_next, same_layers, tidied_next}
+use Rattle.redundant_vertices.proofs.redundant.tidy_all.Goals as goal
+use Rattle.redundant_vertices.proofs.redundant.tidy_all.Goals.{then-not-pinned, else-not-pinned}
+
+pub loop-vertex-init : goal.loop-vertex-init
+loop-vertex-init c = (none_tidied c.args.records.now.graph (held c.args.history.now) c.args.vertices.now c.requires.sound c.requires.curves c.requires.have, record { names = refl; pieces = refl; next = refl })
+
+pub loop-vertex-preserved : goal.loop-vertex-preserved
+loop-vertex-preserved c =
+    let v = c.args.records.now.graph in
+    let h = held c.args.history.now in
+    let all = c.args.vertices.now in
+    let l = c.loop-vertex in
+    let at = c.loop-vertex-test.true in
+    elim c.if-not-pinned.branch [
+      | then-not-pinned w ↦
+          rw w.records-is (rw w.history-is (
+            tidied_next v h c.requires.sound c.requires.curves all c.requires.have c.requires.ascend l.vertex-index at (vertex_id 0) l.records.graph (held l.history) l.invariant.0 (sym c.pinned.ensures ∙ w.if-not-pinned.true) w.tidy.new.records.graph (held w.tidy.new.history) w.tidy.ensures.tidied,
+            same_layers c.args.history.now l.history w.tidy.new.history l.invariant.1 w.tidy.ensures.layer,
+          ))
+      | else-not-pinned w ↦
+          rw w.records-is (rw w.history-is (
+            pinned_next v h c.requires.sound c.requires.curves all c.requires.have c.requires.ascend l.vertex-index at (vertex_id 0) l.records.graph (held l.history) l.invariant.0 (sym c.pinned.ensures ∙ w.if-not-pinned.false),
+            l.invariant.1,
+          ))
+    ]
+
+pub returns-clause-tidied : goal.returns-clause-tidied
+returns-clause-tidied c =
+    let l = c.loop-vertex in
+    all_next c.args.records.now.graph (held c.args.history.now) c.requires.sound c.requires.curves c.args.vertices.now c.requires.have c.requires.ascend l.vertex-index c.loop-vertex-test.false l.records.graph (held l.history) l.invariant.0

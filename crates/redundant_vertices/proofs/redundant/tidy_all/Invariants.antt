@@ -1,0 +1,9 @@
+use Rattle.std.proofs.Common.{take, drop}
+use Rattle.curve_history.specs.Past.{held, SameLayer}
+use Rattle.redundant_vertices.proofs.Onward.{AreTidied}
+use Rattle.redundant_vertices.proofs.redundant.tidy_all.Given as goal
+
+abbrev pub invariant-loop-vertex : goal.invariant-loop-vertex
+invariant-loop-vertex l =
+    AreTidied l.fn.records.graph (held l.fn.history) l.vertices (take l.vertex-index l.vertices) (drop l.vertex-index l.vertices) l.records.graph (held l.history)
+    × SameLayer l.fn.history l.history

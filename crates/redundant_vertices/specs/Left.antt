@@ -1,0 +1,22 @@
+-- What is to be tidied once edges went.
+use Rattle.std.specs.Prelude.{◌≡◌, List}
+use Rattle.exact_plane.specs.Point.{Point}
+use Rattle.plane_graphs.specs.Ascending.{Member}
+use Rattle.plane_graphs.specs.Fit.{IsFit}
+use Rattle.plane_graphs.specs.Graph.{Graph, graph_over, vertices}
+use Rattle.plane_graphs.specs.Piece.{Present}
+use Rattle.edit_steps.specs.Steps.{Step, missing_points, tidy_steps}
+use Rattle.slab_laws.specs.View.{View}
+use Rattle.arr_notes.specs.Curves.{Curves}
+use Rattle.record_graphs.specs.Graph.{drawn_graph}
+
+-- the records draw the pieces and pins of a present, over points that have all its vertices; those that are no vertices of it are among xs (this project)
+pub record AreLeft (v : View) (h : Curves) (p : Present) (xs : List Point) : Type 0 where
+  pub fit : IsFit p
+  pub draws : drawn_graph v h ≡ graph_over (drawn_graph v h).points p.pieces p.pins
+  pub have : (x : Point) → Member x (vertices p) → Member x (drawn_graph v h).points
+  pub others : (x : Point) → Member x (drawn_graph v h).points → (Member x (vertices p) → ⊥) → Member x xs
+
+-- the steps that take away each point of the graph that is no vertex of the present, in ascending order (CGAL manual, removing a curve: vertices that become redundant)
+abbrev pub tidying : Graph → Present → List Step
+tidying g p = tidy_steps (missing_points g.points (vertices p)) g

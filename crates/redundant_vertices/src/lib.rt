@@ -1,0 +1,9 @@
+//! Redundant vertices of an arrangement that is kept in records with the history of its curves: those with no edge, or with two
+//! along one line that have the same curves, where no pin holds them (CGAL manual, removing a curve).
+#![tactic(auto)]
+
+mod redundant;
+mod through;
+
+pub use redundant::{tidy, tidy_all};
+pub use through::is_passed;

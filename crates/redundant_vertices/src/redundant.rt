@@ -1,0 +1,61 @@
+ghost use Rattle.std.specs.Prelude.{◌≡◌, false, map};
+ghost use Rattle.std.specs.List.{AllByRecursion};
+ghost use Rattle.exact_plane.specs.PointOrder.{point_cmp};
+ghost use Rattle.plane_graphs.specs.Ascending.{IsAscending};
+ghost use Rattle.slab_laws.specs.Sound.{IsGraphSound};
+ghost use Rattle.slab_laws.specs.View.{HasVertex, point_in, pinned_in};
+ghost use Rattle.arr_notes.specs.Curves.{AreCurvesOf};
+ghost use Rattle.record_graphs.specs.Graph.{drawn_graph};
+ghost use Rattle.curve_history.specs.Past.{held, SameLayer};
+ghost use Rattle.record_layers.specs.Kept.{Makes};
+ghost use Rattle.redundant_vertices.specs.Left.{AreLeft, tidying};
+ghost use Rattle.redundant_vertices.specs.Tidied.{IsTidied};
+
+use crate::through::joinable;
+use curve_history::History;
+use dcel_records::Records;
+use edge_split_merge::merge;
+use slab_laws::{Darts, VertexId};
+
+/// An unpinned vertex that nothing calls for goes: it has no edge, or two on one line with the same curves, which become one
+/// (CGAL manual, removing a curve: vertices that become redundant).
+///
+/// It looks at the vertex's darts and at the curves of two edges, and takes no memory.
+pub fn tidy(records: &mut Records, history: &mut History, w: VertexId)
+    requires sound { IsGraphSound records.old.graph }
+    requires curves { AreCurvesOf records.old.graph (held history.old) }
+    requires vertex { HasVertex records.old.graph w }
+    requires unpinned { pinned_in records.old.graph w ≡ false }
+    ensures tidied { IsTidied records.old.graph (held history.old) (point_in records.old.graph w) records.new.graph (held history.new) }
+    ensures layer { SameLayer history.old history.new }
+{
+    let Some(first) = records.out_of(w) else {
+        records.remove_vertex(w);
+        return;
+    };
+    let Some((d, n)) = joinable(&*records, &*history, w, first) else {
+        return;
+    };
+    let _merged = merge(records, w);
+    history.join(d, n);
+}
+
+/// Each of the vertices, in order, is tidied where it isn't pinned. Where edges went, and these are the vertices at their ends,
+/// this takes away just the points that are no vertices any more (CGAL manual, removing a curve: vertices that become
+/// redundant).
+///
+/// It looks at the vertices' darts and at the curves of their edges, not at other records, and takes no memory.
+pub fn tidy_all(records: &mut Records, history: &mut History, vertices: &[VertexId])
+    requires sound { IsGraphSound records.old.graph }
+    requires curves { AreCurvesOf records.old.graph (held history.old) }
+    requires have { AllByRecursion (λ w. HasVertex records.old.graph w) vertices.now }
+    requires ascend { IsAscending point_cmp (map (point_in records.old.graph) vertices.now) }
+    ensures tidied { (p : _) → AreLeft records.old.graph (held history.old) p (map (point_in records.old.graph) vertices.now) → Makes records.old.graph (held history.old) (tidying (drawn_graph records.old.graph (held history.old)) p) records.new.graph (held history.new) }
+    ensures layer { SameLayer history.old history.new }
+{
+    for vertex in vertices {
+        if !records.pinned(*vertex) {
+            tidy(records, history, *vertex);
+        }
+    }
+}

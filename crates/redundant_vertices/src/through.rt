@@ -1,0 +1,81 @@
+ghost use Rattle.std.specs.Prelude.{◌≡◌, true, false, MatchOption};
+ghost use Rattle.edit_steps.specs.Allowed.{IsPassed};
+ghost use Rattle.slab_laws.specs.Sound.{IsGraphSound};
+ghost use Rattle.slab_laws.specs.View.{HasVertex, IsOutOf, point_in};
+ghost use Rattle.arr_notes.specs.Curves.{AreCurvesOf};
+ghost use Rattle.sound_splits.specs.Fits.{FitsMerge};
+ghost use Rattle.record_graphs.specs.Graph.{drawn_graph};
+ghost use Rattle.curve_history.specs.Past.{held};
+ghost use Rattle.redundant_vertices.specs.Tidied.{CanJoin};
+
+use curve_history::History;
+use dcel_records::Records;
+use slab_laws::{DartId, Darts, VertexId};
+
+// The dart that comes into the vertex from its lower end and the dart that goes on to its upper end, where these two are on
+// one line and no other edge ends at the vertex.
+fn straight_through(records: &Records, w: VertexId, first: DartId) -> Option<(DartId, DartId)>
+    requires sound { IsGraphSound records.now.graph }
+    requires first { IsOutOf records.now.graph w first }
+    ensures { MatchOption result ((d : _) (n : _) → ¬ FitsMerge records.now.graph w d n) (λ r. FitsMerge records.now.graph w r.0 r.1) }
+{
+    let into_first = records.twin(first);
+    let second = records.next(into_first);
+    let into_second = records.twin(second);
+    if records.next(into_second) != first {
+        return None;
+    }
+    if records.line(second) != records.line(first) {
+        return None;
+    }
+    let here = records.point(w);
+    let first_goes_up = here < records.point(records.target(first));
+    let second_goes_up = here < records.point(records.target(second));
+    match (first_goes_up, second_goes_up) {
+        (true, false) => Some((into_second, first)),
+        (false, true) => Some((into_first, second)),
+        // Both go up, or both down.
+        (true, true) => None,
+        (false, false) => None,
+    }
+}
+
+// The darts of two edges that may become one at the vertex: they go straight through it, have the same curves, and no other edge
+// ends there.
+pub(crate) fn joinable(
+    records: &Records,
+    history: &History,
+    w: VertexId,
+    first: DartId,
+) -> Option<(DartId, DartId)>
+    requires sound { IsGraphSound records.now.graph }
+    requires first { IsOutOf records.now.graph w first }
+    ensures { MatchOption result ((d : _) (n : _) → ¬ CanJoin records.now.graph (held history.now) w d n) (λ r. CanJoin records.now.graph (held history.now) w r.0 r.1) }
+{
+    let (d, n) = straight_through(records, w, first)?;
+    if history.same_curves(d, n) {
+        Some((d, n))
+    } else {
+        None
+    }
+}
+
+/// Whether two edges go straight through the vertex with the same curves, and no other edge ends there: but for a pin, nothing
+/// calls for such a vertex (CGAL manual, the premise of `merge_edge`).
+///
+/// It looks at the vertex's darts and at the curves of two edges, and takes no memory.
+pub fn is_passed(records: &Records, history: &History, w: VertexId) -> bool
+    requires sound { IsGraphSound records.now.graph }
+    requires curves { AreCurvesOf records.now.graph (held history.now) }
+    requires vertex { HasVertex records.now.graph w }
+    ensures passed { result ≡ true → IsPassed (drawn_graph records.now.graph (held history.now)) (point_in records.now.graph w) }
+    ensures not_passed { result ≡ false → ¬ IsPassed (drawn_graph records.now.graph (held history.now)) (point_in records.now.graph w) }
+{
+    let Some(first) = records.out_of(w) else {
+        return false;
+    };
+    match joinable(records, history, w, first) {
+        Some(_) => true,
+        None => false,
+    }
+}

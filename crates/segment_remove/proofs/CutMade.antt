@@ -1,0 +1,102 @@
+-- The cut of an edge from records and history: its steps, and the layer after them.
+use Rattle.std.proofs.Common.{◌≡◌, ℕ, true, [], ◌∷◌, length, map, refl, sym, ap, ap₂, ◌∙◌, subst, inl, inr, Less}
+use Rattle.std.specs.List.{AllByRecursion, flat_map, list_any}
+use Rattle.std.specs.Prelude.{IsSome}
+use Rattle.exact_plane.specs.Point.{Point}
+use Rattle.exact_plane.specs.PointOrder.{point_cmp}
+use Rattle.plane_graphs.specs.Ascending.{IsAscending}
+use Rattle.plane_graphs.specs.Graph.{Edge, graph, is_at}
+use Rattle.plane_graphs.specs.Piece.{Present}
+use Rattle.plane_graphs.proofs.Order.{lt_out}
+use Rattle.edit_steps.specs.Edits.{Cut, IsAccepted, after, steps}
+use Rattle.edit_steps.specs.Layer.{IsAcceptedBy, layer_after}
+use Rattle.edit_steps.specs.Steps.{RemoveEdge, cut_piece, with_cut}
+use Rattle.slab_laws.specs.declared.names.DartId.{DartId}
+use Rattle.slab_laws.specs.declared.names.VertexId.{VertexId}
+use Rattle.slab_laws.specs.Sound.{IsGraphSound}
+use Rattle.slab_laws.specs.Tables.{row_at}
+use Rattle.slab_laws.specs.View.{View, HasVertex, point_in, point_or, source_in, target_in}
+use Rattle.arr_notes.specs.Curves.{Curves, AreCurvesOf}
+use Rattle.curve_history.specs.Past.{Past, held, SameCurves}
+use Rattle.record_graphs.specs.Graph.{drawn_graph}
+use Rattle.record_layers.specs.Kept.{IsLayer, layer_of, Makes}
+use Rattle.record_layers.proofs.Layers.{steps_make_layers}
+use Rattle.edges_by_ends.specs.Edges.{IsDartAlong, RunsBetween}
+use Rattle.edges_by_ends.proofs.Ends.{along_runs}
+use Rattle.redundant_vertices.specs.Left.{AreLeft, tidying}
+use Rattle.segment_remove.proofs.Cutting.{cut_gone, cut_is_tidied, cut_old, cut_run, fit_cut}
+use Rattle.segment_remove.proofs.Joined.{joined}
+use Rattle.segment_remove.proofs.Kept.{one_curves}
+use Rattle.segment_remove.proofs.Left.{are_left, left_curves, left_sound, tidied_made}
+
+module _ (v : View) (r : Past) (l : IsLayer v r) (e : Edge) (d : DartId) (a : IsDartAlong v e d) (s t : VertexId) (is_s : s ≡ source_in v d) (is_t : t ≡ target_in v d) where
+  abbrev o : Present
+  o = (layer_of v r).present
+
+  abbrev new : Present
+  new = with_cut o e.low e.high
+
+  runs : RunsBetween v e.low e.high d
+  runs = along_runs v l.sound e e.low e.high refl d a
+
+  there : list_any (is_at e.low e.high) (graph o).marks ≡ true
+  there = joined v r l e d a
+
+  pub has_s : HasVertex v s
+  has_s = subst (HasVertex v) (sym is_s) (l.sound.linked.source d a.forward.0)
+
+  pub has_t : HasVertex v t
+  has_t = subst (HasVertex v) (sym is_t) (l.sound.linked.source _ (l.sound.twinned.has d a.forward.0))
+
+  pub at_s : point_in v s ≡ e.low
+  at_s = ap (point_in v) is_s ∙ runs.starts
+
+  pub at_t : point_in v t ≡ e.high
+  at_t = ap (point_in v) is_t ∙ runs.ends
+
+  before : point_cmp (point_in v s) (point_in v t) ≡ Less
+  before = subst (λ z. point_cmp (point_in v z) (point_in v t) ≡ Less) (sym is_s) (subst (λ z. point_cmp (point_in v (source_in v d)) (point_in v z) ≡ Less) (sym is_t) (lt_out (point_in v (source_in v d)) (point_in v (target_in v d)) a.forward.1).is)
+
+  -- how many pieces there are after the cut
+  pub counted : (low high : Point) → low ≡ point_in v s → high ≡ point_in v t → (n : ℕ) → n ≡ length (flat_map (cut_piece low high) r.pieces) → n ≡ length new.pieces
+  counted low high at_low at_high n is = is ∙ ap₂ (λ p q. length (flat_map (cut_piece p q) r.pieces)) (at_low ∙ at_s) (at_high ∙ at_t)
+
+  -- ---- the edge is released
+  module _ (r1 : Past) (c1 : SameCurves r r1) (x : View) (k : Curves) (made : Makes v (held r1) (RemoveEdge (point_in v (source_in v d)) (point_in v (target_in v d)) ∷ []) x k) (same : x.vertices ≡ v.vertices) where
+    released : Makes v (held r) (RemoveEdge e.low e.high ∷ []) x k
+    released = subst (λ z. Makes v z (RemoveEdge e.low e.high ∷ []) x k) (one_curves r r1 c1) (subst (λ z. Makes v (held r1) (RemoveEdge e.low z ∷ []) x k) runs.ends (subst (λ z. Makes v (held r1) (RemoveEdge z (point_in v (target_in v d)) ∷ []) x k) runs.starts made))
+
+    pub rest_sound : IsGraphSound x
+    rest_sound = left_sound v r l new (RemoveEdge e.low e.high ∷ []) (cut_run o l.lawful.fit e.low e.high there) x k released
+
+    pub rest_curves : AreCurvesOf x k
+    rest_curves = left_curves v r l new (RemoveEdge e.low e.high ∷ []) (cut_run o l.lawful.fit e.low e.high there) x k released
+
+    same_point : (w : VertexId) → point_in x w ≡ point_in v w
+    same_point w = ap (λ rows. point_or (row_at rows w.0)) same
+
+    pub both_have : AllByRecursion (λ w. HasVertex x w) (s ∷ t ∷ [])
+    both_have = (subst (λ rows. IsSome (row_at rows s.0)) (sym same) has_s, (subst (λ rows. IsSome (row_at rows t.0)) (sym same) has_t, tt))
+
+    pub both_ascend : IsAscending point_cmp (map (point_in x) (s ∷ t ∷ []))
+    both_ascend = ((subst (λ z. point_cmp z (point_in x t) ≡ Less) (sym (same_point s)) (subst (λ z. point_cmp (point_in v s) z ≡ Less) (sym (same_point t)) before), tt), (tt, tt))
+
+    -- only these two may be tidied
+    both_left : AreLeft x k new (map (point_in x) (s ∷ t ∷ []))
+    both_left =
+        are_left v r l new (RemoveEdge e.low e.high ∷ []) (cut_run o l.lawful.fit e.low e.high there) x k released (map (point_in x) (s ∷ t ∷ [])) (fit_cut o l.lawful.fit e.low e.high there) (cut_old o l.lawful.fit e.low e.high there)
+        (λ p m gone. elim (cut_gone o l.lawful.fit e.low e.high there p m gone) [ inl i ↦ inl (i ∙ sym at_s ∙ sym (same_point s)) | inr i ↦ inr (inl (i ∙ sym at_t ∙ sym (same_point t))) ])
+
+    pub cut_made : (y : View) (j : Curves) → ((p : Present) → AreLeft x k p (map (point_in x) (s ∷ t ∷ [])) → Makes x k (tidying (drawn_graph x k) p) y j) → Makes v (held r) (steps (Cut e.low e.high) o) y j
+    cut_made y j tidied =
+        subst (λ ss. Makes v (held r) ss y j) (sym (cut_is_tidied o e.low e.high))
+        (tidied_made v r l new (RemoveEdge e.low e.high ∷ []) (cut_run o l.lawful.fit e.low e.high there) x k released y j (tidied new both_left))
+
+  -- ---- the layer after the cut
+  accepted : IsAcceptedBy (Cut e.low e.high) (layer_of v r)
+  unfolding IsAccepted
+  accepted = there
+
+  pub cut_layer : (y : View) (q : Past) → Makes v (held r) (steps (Cut e.low e.high) o) y (held q) → q.pieces ≡ flat_map (cut_piece e.low e.high) r.pieces → q.names ≡ r.names → q.next ≡ r.next → IsLayer y q × (layer_of y q ≡ layer_after (Cut e.low e.high) (layer_of v r))
+  unfolding after
+  cut_layer y q made pieces names next = steps_make_layers (Cut e.low e.high) v r y q l accepted made pieces names next

@@ -1,0 +1,10 @@
+pub mod Cutting
+pub mod Touched
+pub mod Dropping
+pub mod Left
+pub mod Joined
+pub mod Refusals
+pub mod Kept
+pub mod CutMade
+pub mod DropMade
+pub mod EndsOf

@@ -1,0 +1,92 @@
+ghost use Rattle.std.specs.Prelude.{◌≡◌, ◌⊎◌, ◌≤◌, ◌+◌, length, MatchOption, Ok, Err, IsOk, OnOk, OnErr};
+ghost use Rattle.slab_laws.specs.Sound.{edge_between};
+ghost use Rattle.edit_steps.specs.Edits.{steps};
+ghost use Rattle.edit_steps.specs.Layer.{layer_after};
+ghost use Rattle.curve_history.specs.Past.{held, SameLayer, SameCurves};
+ghost use Rattle.record_layers.specs.Kept.{IsLayer, layer_of, Makes};
+ghost use Rattle.segment_remove.specs.Refused.{cut_between, cut_refusal};
+
+use curve_history::History;
+use curve_release::release_edge;
+use dcel_records::Records;
+use edges_by_ends::edge_dart;
+use exact_plane::Point;
+use no_memory::NoMemory;
+use redundant_vertices::tidy_all;
+use slab_laws::Darts;
+use std::alloc::Global;
+
+/// Why an edge isn't removed.
+#[derive(Clone, Copy, Debug, PartialEq, Eq)]
+pub enum CutError {
+    /// No edge joins the points.
+    NoEdge,
+    /// The pieces that are left would pass this limit.
+    Full(u32),
+    /// There was no memory for the pieces that are left.
+    NoMemory,
+}
+
+impl From<NoMemory> for CutError {
+    ghost use Rattle.segment_remove.specs.declared.cuts.CutError.TheVariants.{NoMemory as OutOfMemory};
+
+    ghost from_gives = { λ _ e. e ≡ OutOfMemory };
+
+    fn from(_error: NoMemory) -> CutError {
+        CutError::NoMemory
+    }
+}
+
+// Makes room for as many pieces.
+fn make_room(history: &mut History, pieces: u32) -> Result<(), NoMemory>
+    ensures room { OnOk result (pieces ≤ length history.new.pieces + history.new.spare_pieces) }
+    ensures layer { SameLayer history.old history.new }
+    ensures curves { SameCurves history.old history.new }
+{
+    let more = pieces.saturating_sub(history.pieces());
+    history.reserve(0, more, 0)
+}
+
+/// The edge between two points, which come in either order, goes from all its curves; these keep the rest as shorter pieces
+/// (this project; CGAL manual, `remove_edge`).
+///
+/// `pieces` is the limit of pieces. All memory is taken before the first change.
+///
+/// # Errors
+///
+/// No edge joins the points; the pieces that are left would pass their limit; or there was no memory for them. The first two
+/// come whatever memory there is.
+pub fn remove_edge(
+    alloc: Global,
+    records: &mut Records,
+    history: &mut History,
+    pieces: u32,
+    p: &Point,
+    q: &Point,
+) -> Result<(), CutError>
+    requires layer { IsLayer records.old.graph history.old }
+    ensures layer { IsLayer records.new.graph history.new }
+    ensures edit { OnOk result (layer_of records.new.graph history.new ≡ layer_after (cut_between p.now q.now) (layer_of records.old.graph history.old)) }
+    ensures steps { OnOk result (Makes records.old.graph (held history.old) (steps (cut_between p.now q.now) (layer_of records.old.graph history.old).present) records.new.graph (held history.new)) }
+    ensures refused { MatchOption (cut_refusal pieces (layer_of records.old.graph history.old).present (edge_between p.now q.now)) (IsOk result ⊎ (result ≡ Err CutError.NoMemory)) (λ e. result ≡ Err e) }
+    ensures graph { OnErr result (records.new.graph ≡ records.old.graph) }
+    ensures same_layer { OnErr result (SameLayer history.old history.new) }
+    ensures same_curves { OnErr result (SameCurves history.old history.new) }
+{
+    let Some(d) = edge_dart(&*records, p, q) else {
+        return Err(CutError::NoEdge);
+    };
+    let source = records.source(d);
+    let target = records.target(d);
+    let low = records.point(source);
+    let high = records.point(target);
+    let left = history.pieces_after_cut(&low, &high);
+    if left > u64::from(pieces) {
+        return Err(CutError::Full(pieces));
+    }
+    make_room(history, left as u32)?;
+    history.cut_pieces(&low, &high);
+    release_edge(records, history, d);
+    tidy_all(records, history, &[source, target]);
+    Ok(())
+}
