@@ -8,5 +8,9 @@ mod limits;
 mod questions;
 
 pub use arrangement::Arrangement;
+pub use curve_history::HistoryError;
 pub use limits::{Limits, MAX_CURVES, MAX_PIECES, MAX_PINS};
+pub use pin_points::{MergeError, NotPinned, PinError, SplitError};
 pub use questions::{Counts, EdgeError};
+pub use segment_insert::InsertError;
+pub use segment_remove::{CutError, DropError};

@@ -1,6 +1,5 @@
 use crate::edits::at;
-use arrangement::{Arrangement, EdgeError};
-use curve_history::HistoryError;
+use arrangement::{Arrangement, EdgeError, HistoryError};
 use exact_plane::Point;
 use locate_naive::vertex_at;
 use no_memory::NoMemory;

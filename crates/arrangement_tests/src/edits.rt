@@ -1,9 +1,8 @@
-use arrangement::{Arrangement, Limits};
+use arrangement::{
+    Arrangement, CutError, DropError, InsertError, Limits, MergeError, PinError, SplitError,
+};
 use exact_plane::{Point, Segment};
 use no_memory::NoMemory;
-use pin_points::{MergeError, PinError, SplitError};
-use segment_insert::InsertError;
-use segment_remove::{CutError, DropError};
 use slab_laws::CurveId;
 use std::alloc::Global;
 use std::test::Fail;

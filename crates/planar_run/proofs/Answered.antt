@@ -7,7 +7,7 @@ use Rattle.exact_plane.specs.Segment.{Segment}
 use Rattle.exact_plane.specs.SegmentOf.{segment_of}
 use Rattle.plane_graphs.specs.Graph.{Edge, curves}
 use Rattle.edit_steps.specs.Edits.{Insert, Pin, Unpin, Drop, Cut, Split, Merge}
-use Rattle.curve_history.specs.declared.history.TheConstants.{LAST_CURVE}
+use Rattle.arrangement.specs.Answers.{LAST_CURVE}
 use Rattle.std.specs.Fmt.{digits}
 use Rattle.planar_run.specs.Text.{line_of, spaced, curve_text}
 use Rattle.planar_run.specs.World.{World}

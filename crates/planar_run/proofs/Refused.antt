@@ -11,23 +11,11 @@ use Rattle.edit_steps.specs.Edits.{Edit}
 use Rattle.edit_steps.specs.Layer.{Layer, layer_after}
 use Rattle.edit_steps.specs.Steps.{with_cut}
 use Rattle.slab_laws.specs.declared.names.CurveId.{CurveId}
-use Rattle.segment_insert.specs.declared.insertion.InsertError.{InsertError}
-use Rattle.segment_insert.specs.declared.insertion.InsertError.TheVariants.{Full, Spent, NoMemory}
-use Rattle.segment_remove.specs.declared.drops.DropError.{DropError}
-use Rattle.segment_remove.specs.declared.drops.DropError.TheVariants.{Unknown as NotNamed, NoMemory as NoMemoryToDrop}
-use Rattle.segment_remove.specs.declared.cuts.CutError.{CutError}
-use Rattle.segment_remove.specs.declared.cuts.CutError.TheVariants.{NoEdge as NoEdgeToCut, Full as FullOfPieces, NoMemory as NoMemoryToCut}
-use Rattle.pin_points.specs.declared.split.SplitError.{SplitError}
-use Rattle.pin_points.specs.declared.split.SplitError.TheVariants.{NoEdge as NoEdgeToSplit, NotInside, Full as FullToSplit, NoMemory as NoMemoryToSplit}
-use Rattle.pin_points.specs.declared.merge.MergeError.{MergeError}
-use Rattle.pin_points.specs.declared.merge.MergeError.TheVariants.{NoVertex, NotMergeable}
+use Rattle.arrangement.specs.Answers.{InsertError, FullOfCurves as Full, Spent, NoMemoryToInsert as NoMemory, DropError, NotNamed, NoMemoryToDrop, CutError, NoEdgeToCut, FullOfPieces, NoMemoryToCut, SplitError, NoEdgeToSplit, NotInside, FullToSplit, NoMemoryToSplit, MergeError, NoVertex, NotMergeable, PinError, Pinned, FullOfPins, NoMemoryToPin, LAST_CURVE}
 use Rattle.arrangement.specs.Arranged.{Arranged, layer_in}
 use Rattle.arrangement.specs.Edited.{IsEdited, IsAsBefore}
 use Rattle.arrangement.specs.declared.limits.Limits.{Limits}
-use Rattle.pin_points.specs.declared.pins.PinError.{PinError}
-use Rattle.pin_points.specs.declared.pins.PinError.TheVariants.{Pinned, Full as FullOfPins, NoMemory as NoMemoryToPin}
 use Rattle.arrangement.specs.declared.limits.TheConstants.{MAX_CURVES, MAX_PIECES, MAX_PINS}
-use Rattle.curve_history.specs.declared.history.TheConstants.{LAST_CURVE}
 use Rattle.arrangement.specs.declared.limits.TheConstants.Limits.{FULL}
 use Rattle.planar_run.specs.World.{World}
 use Rattle.planar_run.specs.Premises.{is_named, is_pinned, room_for_a_pin, is_edge, is_inside, is_vertex, only_its_pin, cut_fits}

@@ -11,9 +11,7 @@ use Rattle.plane_graphs.proofs.Ascending.{ascending_unique}
 use Rattle.plane_graphs.proofs.Lists.{any_in, any_out, any_none, and_in, both, clash, decide, in_filter, of_filter, IsAscending-filter}
 use Rattle.plane_graphs.proofs.Meaning.{edge_cmp_total, edges_ascend, edge_in, edge_out}
 use Rattle.plane_graphs.proofs.Order.{curve_in, curve_out, same_in, same_out}
-use Rattle.edges_by_ends.specs.Edges.{edge_of as edge_of_ends}
-use Rattle.curve_history.specs.declared.history.HistoryError.{HistoryError}
-use Rattle.curve_history.specs.declared.history.HistoryError.TheVariants.{Unknown, NoMemory as NoMemoryForEdges}
+use Rattle.arrangement.specs.Answers.{edge_of as edge_of_ends, HistoryError, Unknown, NoMemoryForEdges}
 use Rattle.arrangement.specs.declared.questions.EdgeError.{EdgeError}
 use Rattle.arrangement.specs.declared.questions.EdgeError.TheVariants.{NoEdge, NoMemory as NoMemoryForCurves}
 use Rattle.planar_run.specs.World.{World}

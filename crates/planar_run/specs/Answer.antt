@@ -17,7 +17,7 @@ use Rattle.script_lines.specs.declared.command.Command.TheVariants.{Nothing, Seg
 use Rattle.script_lines.specs.declared.error.LineError.{LineError}
 use Rattle.script_lines.specs.LineError.{refusal_number}
 use Rattle.script_lines.specs.Command.{command_of}
-use Rattle.curve_history.specs.declared.history.TheConstants.{LAST_CURVE}
+use Rattle.arrangement.specs.Answers.{LAST_CURVE}
 use Rattle.planar_run.specs.World.{World}
 use Rattle.planar_run.specs.Premises.{graph_of, room_for_a_curve, is_named, is_pinned, room_for_a_pin, is_edge, is_inside, is_vertex, only_its_pin, cut_fits}
 use Rattle.planar_run.specs.Text.{line_of, cell_text, spaced, curve_text}

@@ -3,21 +3,7 @@ use Rattle.std.specs.Prelude.{◌≡◌, ℕ, ◌<◌, ◌≤◌, true, false}
 use Rattle.exact_plane.specs.Point.{Point}
 use Rattle.plane_graphs.specs.Graph.{Edge}
 use Rattle.edit_steps.specs.Layer.{Layer}
-use Rattle.segment_insert.specs.declared.insertion.InsertError.{InsertError}
-use Rattle.segment_insert.specs.declared.insertion.InsertError.TheVariants.{Full, Spent, NoMemory}
-use Rattle.segment_remove.specs.declared.drops.DropError.{DropError}
-use Rattle.segment_remove.specs.declared.drops.DropError.TheVariants.{Unknown as NotNamed, NoMemory as NoMemoryToDrop}
-use Rattle.segment_remove.specs.declared.cuts.CutError.{CutError}
-use Rattle.segment_remove.specs.declared.cuts.CutError.TheVariants.{NoEdge as NoEdgeToCut, Full as FullOfPieces, NoMemory as NoMemoryToCut}
-use Rattle.pin_points.specs.declared.pins.PinError.{PinError}
-use Rattle.pin_points.specs.declared.pins.PinError.TheVariants.{Pinned, Full as FullOfPins, NoMemory as NoMemoryToPin}
-use Rattle.pin_points.specs.declared.split.SplitError.{SplitError}
-use Rattle.pin_points.specs.declared.split.SplitError.TheVariants.{NoEdge as NoEdgeToSplit, NotInside, Full as FullToSplit, NoMemory as NoMemoryToSplit}
-use Rattle.pin_points.specs.declared.merge.MergeError.{MergeError}
-use Rattle.pin_points.specs.declared.merge.MergeError.TheVariants.{NoVertex, NotMergeable}
-use Rattle.curve_history.specs.declared.history.HistoryError.{HistoryError}
-use Rattle.curve_history.specs.declared.history.HistoryError.TheVariants.{Unknown, NoMemory as NoMemoryForEdges}
-use Rattle.curve_history.specs.declared.history.TheConstants.{LAST_CURVE}
+use Rattle.arrangement.specs.Answers.{InsertError, FullOfCurves as Full, Spent, NoMemoryToInsert as NoMemory, DropError, NotNamed, NoMemoryToDrop, CutError, NoEdgeToCut, FullOfPieces, NoMemoryToCut, PinError, Pinned, FullOfPins, NoMemoryToPin, SplitError, NoEdgeToSplit, NotInside, FullToSplit, NoMemoryToSplit, MergeError, NoVertex, NotMergeable, HistoryError, Unknown, NoMemoryForEdges, LAST_CURVE}
 use Rattle.arrangement.specs.declared.questions.EdgeError.{EdgeError}
 use Rattle.arrangement.specs.declared.questions.EdgeError.TheVariants.{NoEdge, NoMemory as NoMemoryForCurves}
 use Rattle.planar_run.specs.World.{World}

@@ -5,11 +5,9 @@ ghost use Rattle.planar_run.specs.Answer.{answer_to, insertion, MayDraw, MayTake
 
 use crate::reply::Reply;
 use crate::world::World;
+use arrangement::{CutError, DropError, InsertError, MergeError, PinError, SplitError};
 use exact_plane::{Point, Segment, SegmentError};
 use no_memory::NoMemory;
-use pin_points::{MergeError, PinError, SplitError};
-use segment_insert::InsertError;
-use segment_remove::{CutError, DropError};
 use slab_laws::CurveId;
 
 // The reply to a new curve. It takes no memory, since the curve is there already.

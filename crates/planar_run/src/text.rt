@@ -1,7 +1,7 @@
 ghost use Rattle.std.specs.Prelude.{◌≡◌, ◌++◌, ◌∷◌, [], codes, map, OnOk};
 ghost use Rattle.std.specs.List.{flat_map};
 ghost use Rattle.planar_run.specs.Text.{line_of, point_text, cell_text, spaced, edge_line, curve_text};
-ghost use Rattle.edges_by_ends.specs.Edges.{edge_of};
+ghost use Rattle.arrangement.specs.Answers.{edge_of};
 
 use crate::reply::Reply;
 use arrangement::Counts;

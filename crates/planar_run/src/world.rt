@@ -1,6 +1,6 @@
 ghost use Rattle.std.specs.Prelude.{◌≡◌, ◌∷◌, [], true, false, length, map, Ok, IfOk, IfErr, OnOk, OnErr};
 ghost use Rattle.plane_graphs.specs.Graph.{curves};
-ghost use Rattle.edges_by_ends.specs.Edges.{edge_of};
+ghost use Rattle.arrangement.specs.Answers.{edge_of};
 ghost use Rattle.edit_steps.specs.Edits.{Insert, Drop, Cut, Pin, Unpin, Split, Merge, ClearAll};
 ghost use Rattle.edit_steps.specs.Layer.{layer_after};
 ghost use Rattle.slab_laws.specs.Sound.{edge_between};
@@ -11,13 +11,12 @@ ghost use Rattle.planar_run.specs.Premises.{graph_of, is_named, is_pinned, room_
 ghost use Rattle.planar_run.specs.Answer.{counted, edges_along, subdivision_of, MayDraw};
 ghost use Rattle.planar_run.specs.Refusals.{BarsCurve, BarsDrop, BarsCut, BarsPin, BarsSplit, BarsMerge, BarsEdge, BarsEdges};
 
-use arrangement::{Arrangement, Counts, EdgeError, Limits};
-use curve_history::HistoryError;
+use arrangement::{
+    Arrangement, Counts, CutError, DropError, EdgeError, HistoryError, InsertError, Limits,
+    MergeError, NotPinned, PinError, SplitError,
+};
 use exact_plane::{Point, Segment};
 use no_memory::NoMemory;
-use pin_points::{MergeError, NotPinned, PinError, SplitError};
-use segment_insert::InsertError;
-use segment_remove::{CutError, DropError};
 use slab_laws::{Cell, CurveId, Strategy};
 use std::alloc::Global;
 use std::marker::Model;

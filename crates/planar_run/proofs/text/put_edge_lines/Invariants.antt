@@ -1,6 +1,6 @@
 use Rattle.std.proofs.Common.{◌≡◌, ◌++◌, map, take}
 use Rattle.std.specs.List.{flat_map}
-use Rattle.edges_by_ends.specs.Edges.{edge_of}
+use Rattle.arrangement.specs.Answers.{edge_of}
 use Rattle.planar_run.specs.Text.{edge_line}
 use Rattle.planar_run.proofs.text.put_edge_lines.Given as goal
 

@@ -1,8 +1,7 @@
 use Rattle.std.proofs.Common.{◌≡◌, map, subst, Ok, Err}
 use Rattle.std.specs.Prelude.{◌↔◌, IfOk, IsErrOf}
 use Rattle.plane_graphs.specs.Ascending.{Member}
-use Rattle.curve_history.specs.declared.history.HistoryError.TheVariants.{Unknown}
-use Rattle.edges_by_ends.specs.Edges.{edge_of}
+use Rattle.arrangement.specs.Answers.{Unknown, edge_of}
 use Rattle.arrangement.specs.Arranged.{layer_in}
 use Rattle.planar_run.specs.World.{World}
 use Rattle.planar_run.specs.Premises.{graph_of}
