@@ -5,21 +5,21 @@ use slab_laws::{CurveId, DartId, VertexId};
 /// `Arr_observer`: what is notified after a change).
 #[derive(Clone, Copy, Debug, PartialEq, Eq)]
 pub enum Change {
-    /// The vertex `v` came, unpinned and without darts.
+    /// The vertex `v` came at `p`, unpinned and without darts.
     AddVertex {
         v: VertexId,
-        point: Point,
+        p: Point,
     },
     /// The vertex `v`, which had no dart, went.
     RemoveVertex {
         v: VertexId,
     },
-    /// The edge of `d`, which goes from its lower to its upper end, went in two at the new, unpinned vertex `v`: `d` and its twin
+    /// The edge of `d`, which goes from its lower to its upper end, is split at the new, unpinned vertex `v` at `p`: `d` and its twin
     /// keep the lower part, `n`, from `v` to the upper end, and its twin `m` have the rest.
     SplitEdge {
         d: DartId,
         v: VertexId,
-        point: Point,
+        p: Point,
         n: DartId,
         m: DartId,
     },

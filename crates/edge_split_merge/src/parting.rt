@@ -50,7 +50,7 @@ pub fn split(records: &mut Records, d: DartId, p: Point) -> Change
     Change::SplitEdge {
         d,
         v,
-        point: p,
+        p,
         n,
         m,
     }

@@ -96,7 +96,7 @@ pub fn subdivide(alloc: Global, present: &Present) -> Result<Plain, NoMemory>
     let points = vertices_of(alloc, present)?;
     let marks = marks_of(alloc, present, &points)?;
     let edges = edges_of(alloc, present, &marks)?;
-    let pins = copy_points(alloc, &present.pins)?;
+    let pins = copy_points(alloc, present.pins.as_slice())?;
     let plain = plain_of(alloc, points, marks, pins, edges)?;
     Ok(plain)
 }

@@ -61,7 +61,7 @@ pub fn edges_of(alloc: Global, present: &Present, marks: &[Mark]) -> Result<Vec<
     ensures edges { IfOk result (λ es. map edge_of es.items ≡ edges (graph (present_of present.now))) }
     ensures lines { IfOk result (λ es. AreAlongPieces (present_of present.now) es.items) }
 {
-    let spans = spans_of(alloc, &present.pieces)?;
+    let spans = spans_of(alloc, present.pieces.as_slice())?;
     let mut edges = Vec::new(alloc);
     for mark in marks {
         if !is_last(&edges, mark) {

@@ -62,7 +62,7 @@ pub fn marks_of(alloc: Global, present: &Present, points: &[Point]) -> Result<Ve
     ensures { IfOk result (λ v. map mark_of v.items ≡ (graph (present_of present.now)).marks) }
 {
     let mut marks = Vec::new(alloc);
-    for piece in &present.pieces {
+    for piece in present.pieces.as_slice() {
         add_marks(&mut marks, piece, points)?;
     }
     arrange(&mut marks);

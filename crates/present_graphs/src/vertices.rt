@@ -77,10 +77,10 @@ pub fn vertices_of(alloc: Global, present: &Present) -> Result<Vec<Point>, NoMem
     requires { IsFit (present_of present.now) }
     ensures { IfOk result (λ v. v.items ≡ vertices (present_of present.now)) }
 {
-    let spans = spans_of(alloc, &present.pieces)?;
+    let spans = spans_of(alloc, present.pieces.as_slice())?;
     let mut points = Vec::new(alloc);
-    add_ends(&mut points, &present.pieces)?;
-    points.extend_from_slice(&present.pins)?;
+    add_ends(&mut points, present.pieces.as_slice())?;
+    points.extend_from_slice(present.pins.as_slice())?;
     add_all_crossings(&mut points, &spans)?;
     arrange(&mut points);
     Ok(points)

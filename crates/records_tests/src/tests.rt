@@ -330,16 +330,16 @@ fn a_zone_goes_along_what_it_overlaps(rt: HostRuntime) -> Result<(), Fail> {
         (4, Spot::Vertex(VertexId(2))),
         (5, Spot::Edge(DartId(4))),
     ];
-    assert!(rt; plan.vertices.len() == 4 && plan.between.len() == 3);
-    for (meeting, (x, spot)) in plan.vertices.iter().zip(wanted) {
+    assert!(rt; plan.vertices.as_slice().len() == 4 && plan.between.as_slice().len() == 3);
+    for (meeting, (x, spot)) in plan.vertices.as_slice().iter().zip(wanted) {
         assert!(rt; meeting.point == at(x, 0)? && meeting.spot == spot);
     }
-    for (spot, dart) in plan.between.iter().zip([0, 2, 4]) {
+    for (spot, dart) in plan.between.as_slice().iter().zip([0, 2, 4]) {
         assert!(rt; *spot == Spot::Edge(DartId(dart)));
     }
     assert!(rt; plan.overlapped.as_slice() == [DartId(0), DartId(2), DartId(4)].as_slice());
     assert!(rt; plan.room.vertices == 2 && plan.room.edges == 5);
     let crossing = checked.zone(rt.alloc(), &Segment::new(3, -1, 3, 1)?)?;
-    assert!(rt; crossing.vertices.len() == 3 && crossing.overlapped.is_empty());
+    assert!(rt; crossing.vertices.as_slice().len() == 3 && crossing.overlapped.as_slice().is_empty());
     Ok(())
 }

@@ -67,8 +67,8 @@ pub record IsPlanned (v : View) (past : Past) (g : Segment) (plan : ZonePlan) (c
 -- the meetings are vertices now; b are the history's curves before that
 pub record IsHalfMade (v : View) (past : Past) (plan : ZonePlan) (b : Curves) (w : View) (d : Curves) (ns : List Meeting) : Type 0 where
   pub same : b ≡ held past
-  pub made : Makes v b (vertices_first v b (points_of_meetings plan.vertices.items)) w d
-  pub kept : points_of_meetings ns ≡ points_of_meetings plan.vertices.items
+  pub made : Makes v b (vertices_first v b (points_of_meetings plan.vertices)) w d
+  pub kept : points_of_meetings ns ≡ points_of_meetings plan.vertices
 
 module _ {v : View} {past : Past} {g : Segment} {plan : ZonePlan} {c : ℕ} (planned : IsPlanned v past g plan c) where
   abbrev l : Layer
@@ -78,7 +78,7 @@ module _ {v : View} {past : Past} {g : Segment} {plan : ZonePlan} {c : ℕ} (pla
   p = l.present
 
   abbrev ms : List Meeting
-  ms = plan.vertices.items
+  ms = plan.vertices
 
   pub accepted_by : IsAcceptedBy (Insert c g) l
   accepted_by = (planned.number, ap (λ z. z.lower.w) planned.ends.whole, ap (λ z. z.upper.w) planned.ends.whole, (λ i. precedes (planned.ends.whole i).lower (planned.ends.whole i).upper) ∙ ap is_lt planned.ends.is.ascending)
@@ -100,7 +100,7 @@ module _ {v : View} {past : Past} {g : Segment} {plan : ZonePlan} {c : ℕ} (pla
   pub room_left : (ns : List Meeting) (before left : ℕ) → points_of_meetings ns ≡ points_of_meetings ms → 2 * plan.room.edges ≤ before → before ≤ left + 2 * splits_needed ms → 2 * length ns ≤ left + 2
   room_left ns before left e fits uses =
       let a = same_length ms ns e in
-      let b : length ms ≡ length plan.between.items + 1 = sym (length-map ms (λ (m : Meeting). m.point)) ∙ ap length planned.zone.points ∙ parts_fewer v g (meeting_points v g) plan.between.items planned.zone.between in
+      let b : length ms ≡ length plan.between + 1 = sym (length-map ms (λ (m : Meeting). m.point)) ∙ ap length planned.zone.points ∙ parts_fewer v g (meeting_points v g) plan.between planned.zone.between in
       let d = planned.zone.edges in
       omega arith
 

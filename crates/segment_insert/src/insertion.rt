@@ -77,14 +77,14 @@ fn prepare(
     ensures darts { IfOk result (λ z. 2 * z.room.edges ≤ records.new.spare_darts) }
     ensures names { OnOk result (1 ≤ history.new.spare_names) }
     ensures pieces { OnOk result (1 ≤ history.new.spare_pieces) }
-    ensures pairs { IfOk result (λ z. length z.vertices.items + pairs_to_part (held history.old) z.vertices.items ≤ history.new.spare_pairs) }
+    ensures pairs { IfOk result (λ z. length z.vertices + pairs_to_part (held history.old) z.vertices ≤ history.new.spare_pairs) }
     ensures graph { records.new.graph ≡ records.old.graph }
     ensures same_layer { SameLayer history.old history.new }
     ensures same_curves { SameCurves history.old history.new }
 {
     let plan = zone(alloc, &*records, segment, start)?;
     records.reserve(plan.room)?;
-    let pairs = pairs_needed(&*history, &plan.vertices)?;
+    let pairs = pairs_needed(&*history, plan.vertices.as_slice())?;
     history.reserve(1, 1, pairs)?;
     Ok(plan)
 }
@@ -94,7 +94,7 @@ fn insert_by_plan(
     records: &mut Records,
     history: &mut History,
     segment: &Segment,
-    mut plan: ZonePlan,
+    plan: ZonePlan,
 ) -> CurveId
     requires layer { IsLayer records.old.graph history.old }
     requires zone { IsZoneOf records.old.graph segment.now plan }
@@ -104,7 +104,7 @@ fn insert_by_plan(
     requires darts { 2 * plan.room.edges ≤ records.old.spare_darts }
     requires names { 1 ≤ history.old.spare_names }
     requires pieces { 1 ≤ history.old.spare_pieces }
-    requires pairs { length plan.vertices.items + pairs_to_part (held history.old) plan.vertices.items ≤ history.old.spare_pairs }
+    requires pairs { length plan.vertices + pairs_to_part (held history.old) plan.vertices ≤ history.old.spare_pairs }
     ensures layer { IsLayer records.new.graph history.new }
     ensures number { result.0 ≡ history.old.next }
     ensures edit { layer_of records.new.graph history.new ≡ layer_after (Insert result.0 segment.now) (layer_of records.old.graph history.old) }
@@ -119,8 +119,9 @@ fn insert_by_plan(
         from: lower,
         to: upper,
     });
-    make_vertices(records, history, &mut plan.vertices);
-    make_edges(records, history, segment, curve, &plan.vertices);
+    let mut meetings = plan.vertices.into_vec();
+    make_vertices(records, history, &mut meetings);
+    make_edges(records, history, segment, curve, &meetings);
     curve
 }
 

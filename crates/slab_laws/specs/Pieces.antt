@@ -10,4 +10,4 @@ piece_of k = record { curve = k.curve.0; segment = k.segment; from = k.from; to 
 
 -- the pieces in their order, and the pins
 abbrev pub present_of : PresentInMemory → Present
-present_of p = record { pieces = map piece_of p.pieces.items; pins = p.pins.items }
+present_of p = record { pieces = map piece_of p.pieces; pins = p.pins }

@@ -14,6 +14,7 @@ mod faced;
 mod names;
 mod present;
 mod rows;
+mod sequence;
 mod slab_cell;
 mod triangle;
 
@@ -25,5 +26,6 @@ pub use faced::Faced;
 pub use names::{CurveId, CycleId, CycleKind, DartId, FaceId, Strategy, VertexId};
 pub use present::{Piece, Present};
 pub use rows::{CycleRow, DartRow};
+pub use sequence::Sequence;
 pub use slab_cell::SlabCell;
 pub use triangle::Triangle;

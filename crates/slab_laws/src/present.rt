@@ -1,4 +1,5 @@
 use crate::names::CurveId;
+use crate::sequence::Sequence;
 use exact_plane::{Point, Segment};
 
 /// A part of a segment, from one of its points to a later one, of a numbered curve.
@@ -13,6 +14,6 @@ pub struct Piece {
 /// What a layer has at a moment: pieces, and the pinned points, ascending.
 #[derive(Drop, Debug)]
 pub struct Present {
-    pub pieces: Vec<Piece>,
-    pub pins: Vec<Point>,
+    pub pieces: Sequence<Piece>,
+    pub pins: Sequence<Point>,
 }

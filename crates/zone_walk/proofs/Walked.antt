@@ -240,34 +240,34 @@ module _ (v : View) (s : IsGraphSound v) (g : Segment) (c : IsCourse g) where
   few_between (p ∷ q ∷ ps) [] h = absurd h
   few_between (p ∷ q ∷ ps) (x ∷ spots) h = let k = few_between (q ∷ ps) spots h.1 in omega arith
 
-  module _ (z : ZonePlan) (p : Point) (at : Spot) (w : IsWalked v g z.vertices.items z.between.items z.overlapped.items p at) (past : precedes p g.upper ≡ false) (vertices : z.room.vertices ≡ vertices_needed z.vertices.items) (edges : z.room.edges ≡ edges_needed z.vertices.items z.between.items) where
+  module _ (z : ZonePlan) (p : Point) (at : Spot) (w : IsWalked v g z.vertices z.between z.overlapped p at) (past : precedes p g.upper ≡ false) (vertices : z.room.vertices ≡ vertices_needed z.vertices) (edges : z.room.edges ≡ edges_needed z.vertices z.between) where
     at_upper : p ≡ g.upper
     at_upper = le_both (on_segment p w.meets).upto (at_most g.upper p past)
 
     none_later : later_points v g p ≡ []
     none_later = last (meeting_points v g) (meetings_ascend v g) p (λ r m l. (on_segment r (from_member (meeting_points v g) r m)).upto.never (subst (λ (x : Point). Lt x r) at_upper l))
 
-    all_points : points_met z.vertices.items ≡ meeting_points v g
-    all_points = sym (append-nil (points_met z.vertices.items)) ∙ ap (λ (ps : List Point). points_met z.vertices.items ++ ps) (sym none_later) ∙ w.points
+    all_points : points_met z.vertices ≡ meeting_points v g
+    all_points = sym (append-nil (points_met z.vertices)) ∙ ap (λ (ps : List Point). points_met z.vertices ++ ps) (sym none_later) ∙ w.points
 
-    all_between : AreSpotsBetween v g (meeting_points v g) z.between.items
+    all_between : AreSpotsBetween v g (meeting_points v g) z.between
     all_between =
-        subst (λ (ps : List Point). AreSpotsBetween v g ps z.between.items) (append-nil (points_met z.vertices.items) ∙ all_points)
-        (subst (AreSpotsBetween v g (points_met z.vertices.items ++ [])) (append-nil z.between.items) (w.between [] [] tt))
+        subst (λ (ps : List Point). AreSpotsBetween v g ps z.between) (append-nil (points_met z.vertices) ∙ all_points)
+        (subst (AreSpotsBetween v g (points_met z.vertices ++ [])) (append-nil z.between) (w.between [] [] tt))
 
-    as_many : length z.vertices.items ≡ length (meeting_points v g)
-    as_many = sym (length-map z.vertices.items (λ (m : Meeting). m.point)) ∙ ap (λ (ps : List Point). length ps) all_points
+    as_many : length z.vertices ≡ length (meeting_points v g)
+    as_many = sym (length-map z.vertices (λ (m : Meeting). m.point)) ∙ ap (λ (ps : List Point). length ps) all_points
 
     pub zone_done : IsZoneOf v g z
     zone_done = record {
       points = all_points;
-      spots = λ m n. w.spots_met m (to_member z.vertices.items m n);
+      spots = λ m n. w.spots_met m (to_member z.vertices m n);
       between = all_between;
       listed = w.darts;
-      overlapped = λ d m. w.overlapped d (to_member z.overlapped.items d m);
-      all_overlapped = λ d o. from_member z.overlapped.items d (w.all_overlapped d o (subst (Lt (point_in v (source_in v d))) (sym at_upper) (lt_out (point_in v (source_in v d)) g.upper o.begins)) (subst (Lt g.lower) (sym at_upper) c.ahead));
+      overlapped = λ d m. w.overlapped d (to_member z.overlapped d m);
+      all_overlapped = λ d o. from_member z.overlapped d (w.all_overlapped d o (subst (Lt (point_in v (source_in v d))) (sym at_upper) (lt_out (point_in v (source_in v d)) g.upper o.begins)) (subst (Lt g.lower) (sym at_upper) c.ahead));
       vertices = vertices;
       edges = edges;
-      vertices_fit = let a = count_by-le-length (λ (m : Meeting). not (is_vertex m.spot)) z.vertices.items in omega (arith, vertices, as_many);
-      edges_fit = let a = count_by-le-length (λ (m : Meeting). is_edge m.spot) z.vertices.items in let b = few_between (meeting_points v g) z.between.items all_between in omega (arith, edges, as_many);
+      vertices_fit = let a = count_by-le-length (λ (m : Meeting). not (is_vertex m.spot)) z.vertices in omega (arith, vertices, as_many);
+      edges_fit = let a = count_by-le-length (λ (m : Meeting). is_edge m.spot) z.vertices in let b = few_between (meeting_points v g) z.between all_between in omega (arith, edges, as_many);
     }

@@ -76,14 +76,14 @@ darts_among (other ∷ spots) = darts_among spots
 
 -- the plan of an insertion: the meeting points in order, each with its spot in the graph, the spots of the open parts between them, the edges that are overlapped, each once, and the room in which all steps fit (Fogel, Halperin and Wein: insertion by the zone)
 pub record IsZoneOf (v : View) (s : Segment) (z : ZonePlan) : Type 0 where
-  pub points : map (λ m. m.point) z.vertices.items ≡ meeting_points v s
-  pub spots : (m : Meeting) → Contains z.vertices.items m → IsSpotOf v m.point m.spot
-  pub between : AreSpotsBetween v s (meeting_points v s) z.between.items
-  pub listed : z.overlapped.items ≡ darts_among z.between.items
-  pub overlapped : (d : DartId) → Contains z.overlapped.items d → IsOverlapped v s d
-  pub all_overlapped : (d : DartId) → IsOverlapped v s d → Contains z.overlapped.items d
-  pub vertices : z.room.vertices ≡ vertices_needed z.vertices.items
-  pub edges : z.room.edges ≡ edges_needed z.vertices.items z.between.items
+  pub points : map (λ m. m.point) z.vertices ≡ meeting_points v s
+  pub spots : (m : Meeting) → Contains z.vertices m → IsSpotOf v m.point m.spot
+  pub between : AreSpotsBetween v s (meeting_points v s) z.between
+  pub listed : z.overlapped ≡ darts_among z.between
+  pub overlapped : (d : DartId) → Contains z.overlapped d → IsOverlapped v s d
+  pub all_overlapped : (d : DartId) → IsOverlapped v s d → Contains z.overlapped d
+  pub vertices : z.room.vertices ≡ vertices_needed z.vertices
+  pub edges : z.room.edges ≡ edges_needed z.vertices z.between
   pub vertices_fit : z.room.vertices ≤ 2 * length (meeting_points v s)
   pub edges_fit : z.room.edges ≤ 2 * length (meeting_points v s)
 

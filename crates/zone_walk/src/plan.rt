@@ -1,6 +1,6 @@
 use dcel_records::{Room, Spot};
 use exact_plane::Point;
-use slab_laws::DartId;
+use slab_laws::{DartId, Sequence};
 
 /// A point where a segment meets a graph, and where it lies there.
 #[derive(Clone, Copy, Debug, PartialEq, Eq)]
@@ -13,11 +13,11 @@ pub struct Meeting {
 #[derive(Drop, Debug)]
 pub struct ZonePlan {
     /// The vertices on the segment once it is inserted, ascending, each with its place before that.
-    pub vertices: Vec<Meeting>,
+    pub vertices: Sequence<Meeting>,
     /// The places of the open parts between neighbours: along an edge, or inside a face.
-    pub between: Vec<Spot>,
+    pub between: Sequence<Spot>,
     /// The edges that the segment overlaps, each by its dart from the lower to the upper end, in order.
-    pub overlapped: Vec<DartId>,
+    pub overlapped: Sequence<DartId>,
     /// Room in which all steps of the insertion fit.
     pub room: Room,
 }

@@ -15,7 +15,7 @@ use exact_plane::{Direction, Line, Point, Segment, line_of};
 use locate_naive::locate;
 use no_memory::NoMemory;
 use rotation_order::{Place, place_at};
-use slab_laws::{DartId, Darts, VertexId};
+use slab_laws::{DartId, Darts, Sequence, VertexId};
 use std::alloc::Global;
 
 // The spot of what follows a vertex on a line through it: the edge that leaves in the line's direction, or a face.
@@ -113,9 +113,9 @@ fn stretch_from(
 
 // The plan with a stretch more, but for the room.
 fn extend(plan: &mut ZonePlan, stretch: &Stretch) -> Result<(), NoMemory>
-    ensures vertices { OnOk result (plan.new.vertices.items ≡ plan.old.vertices.items ++ (stretch.now.next ∷ [])) }
-    ensures between { OnOk result (plan.new.between.items ≡ plan.old.between.items ++ (stretch.now.spot ∷ [])) }
-    ensures overlapped { OnOk result (plan.new.overlapped.items ≡ plan.old.overlapped.items ++ darts_among (stretch.now.spot ∷ [])) }
+    ensures vertices { OnOk result (plan.new.vertices ≡ plan.old.vertices ++ (stretch.now.next ∷ [])) }
+    ensures between { OnOk result (plan.new.between ≡ plan.old.between ++ (stretch.now.spot ∷ [])) }
+    ensures overlapped { OnOk result (plan.new.overlapped ≡ plan.old.overlapped ++ darts_among (stretch.now.spot ∷ [])) }
 {
     if let Spot::Edge(dart) = stretch.spot {
         plan.overlapped.push(dart)?;
@@ -130,22 +130,21 @@ fn extend(plan: &mut ZonePlan, stretch: &Stretch) -> Result<(), NoMemory>
 
 // The room in which the steps of the insertion fit.
 fn room_for(plan: &ZonePlan) -> Room
-    ensures vertices { result.vertices ≡ vertices_needed plan.now.vertices.items }
-    ensures edges { result.edges ≡ edges_needed plan.now.vertices.items plan.now.between.items }
+    ensures vertices { result.vertices ≡ vertices_needed plan.now.vertices }
+    ensures edges { result.edges ≡ edges_needed plan.now.vertices plan.now.between }
 {
-    let new_vertices = plan
-        .vertices
+    let vertices = plan.vertices.as_slice();
+    let new_vertices = vertices
         .iter()
         .filter(|meeting| !matches!(meeting.spot, Spot::Vertex(_)))
         .count();
-    let splits = plan
-        .vertices
+    let splits = vertices
         .iter()
         .filter(|meeting| matches!(meeting.spot, Spot::Edge(_)))
         .count();
     Room {
         vertices: new_vertices,
-        edges: splits + plan.between.len(),
+        edges: splits + plan.between.as_slice().len(),
     }
 }
 
@@ -174,9 +173,9 @@ pub fn zone(
     let mut point = segment.lower();
     let mut spot = start;
     let mut plan = ZonePlan {
-        vertices: Vec::new(alloc),
-        between: Vec::new(alloc),
-        overlapped: Vec::new(alloc),
+        vertices: Sequence::new(alloc),
+        between: Sequence::new(alloc),
+        overlapped: Sequence::new(alloc),
         room: Room {
             vertices: 0,
             edges: 0,

@@ -35,22 +35,22 @@ loop-mark-preserved c =
     let here : Member (mark_of c.mark-item.result) (graph (present_of c.args.present.now)).marks = subst (λ ns. Member (mark_of c.mark-item.result) ns) c.requires.marks (read_in ms i m below reads) in
     elim c.if-not-is_last.branch [
       | then-not-is_last+in_ok-push w ↦
-          let spans = w.deref-then-not-is_last.ensures.value ∙ c.in_ok-spans.ensures.items ∙ ap (λ ks. map span_of_piece (map piece_of ks)) c.deref.ensures.value in
-          let along : IsAlong (map span_of_piece (map piece_of c.args.present.now.pieces.items)) (mark_of c.mark-item.result) w.edge_along.result = subst (λ ss. IsAlong ss m w.edge_along.result) spans w.edge_along.ensures in
+          let spans = w.deref-then-not-is_last.ensures.value ∙ c.in_ok-spans.ensures.items ∙ ap (λ ks. map span_of_piece (map piece_of ks)) c.as_slice.ensures in
+          let along : IsAlong (map span_of_piece (map piece_of c.args.present.now.pieces)) (mark_of c.mark-item.result) w.edge_along.result = subst (λ ss. IsAlong ss m w.edge_along.result) spans w.edge_along.ensures in
           let one = ap (λ es. es.items) w.edges-is ∙ w.in_ok-push.ensures.items in
           record {
-            edges = mark_more ms i m below reads asc (map edge_of now) (map edge_of new) c.loop-mark.invariant.edges (λ l. clash (c.is_last.ensures.1 (subst (λ ss. IsLast (edge_of_mark m) (map edge_of ss)) (sym c.deref-in-loop-mark.ensures.value) l)) w.if-not-is_last.true)
+            edges = mark_more ms i m below reads asc (map edge_of now) (map edge_of new) c.loop-mark.invariant.edges (λ l. clash (c.is_last.ensures.1 (subst (λ ss. IsLast (edge_of_mark m) (map edge_of ss)) (sym c.deref.ensures.value) l)) w.if-not-is_last.true)
                 (ap (map edge_of) one ∙ map_push edge_of now w.edge_along.result ∙ ap (λ e. map edge_of now ++ e ∷ []) (λ j. record { low = along.lower j; high = along.upper j }));
             lines = λ s n. ⊎_elim (λ l. c.loop-mark.invariant.lines s l) (λ l. ⊎_elim (λ e. along_all p c.requires.fit m here s (subst (IsAlong (map span_of_piece p.pieces) m) (sym e) along)) (λ z. absurd z) l) (in_either s now (w.edge_along.result ∷ []) (subst (λ ss. Member s ss) one n));
           }
       | else-not-is_last w ↦ record {
-        edges = mark_again ms i m below reads asc (map edge_of now) (map edge_of new) c.loop-mark.invariant.edges (subst (λ ss. IsLast (edge_of_mark m) (map edge_of ss)) c.deref-in-loop-mark.ensures.value (c.is_last.ensures.0 w.if-not-is_last.false)) (ap (λ es. map edge_of es.items) w.edges-is);
+        edges = mark_again ms i m below reads asc (map edge_of now) (map edge_of new) c.loop-mark.invariant.edges (subst (λ ss. IsLast (edge_of_mark m) (map edge_of ss)) c.deref.ensures.value (c.is_last.ensures.0 w.if-not-is_last.false)) (ap (λ es. map edge_of es.items) w.edges-is);
         lines = λ s n. c.loop-mark.invariant.lines s (subst (λ ss. Member s ss) (ap (λ es. es.items) w.edges-is) n);
       }
     ]
 
 pub spans_of-requires : goal.spans_of-requires
-spans_of-requires c = subst (λ ks. AreFit (map piece_of ks)) (sym c.deref.ensures.value) c.requires.fit.piece
+spans_of-requires c = subst (λ ks. AreFit (map piece_of ks)) (sym c.as_slice.ensures) c.requires.fit.piece
 
 pub edge_along-requires : goal.edge_along-requires
 edge_along-requires c =
@@ -58,7 +58,7 @@ edge_along-requires c =
     let i = c.loop-mark.mark-index in
     let m = mark_of c.mark-item.result in
     let here = read_in (map mark_of c.args.marks.now) i m (below_map mark_of c.args.marks.now i c.loop-mark-test.true) (read_map mark_of c.args.marks.now i c.mark-item.result c.loop-mark-test.true c.mark-item.is) in
-    let spans = c.deref-then-not-is_last.ensures.value ∙ c.in_ok-spans.ensures.items ∙ ap (λ ks. map span_of_piece (map piece_of ks)) c.deref.ensures.value in
+    let spans = c.deref-then-not-is_last.ensures.value ∙ c.in_ok-spans.ensures.items ∙ ap (λ ks. map span_of_piece (map piece_of ks)) c.as_slice.ensures in
     subst (λ ss. HasSpan ss m) (sym spans) (has_span p m (subst (λ ns. Member m ns) c.requires.marks here))
 
 pub returns : goal.returns

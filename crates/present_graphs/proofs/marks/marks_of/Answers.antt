@@ -13,16 +13,16 @@ use Rattle.present_graphs.proofs.marks.marks_of.Goals as goal
 
 pub loop-piece-preserved : goal.loop-piece-preserved
 loop-piece-preserved c =
-    let ks = c.deref-piece-items.result.now in
+    let ks = c.as_slice-piece-items.result.now in
     let i = c.loop-piece.piece-index in
     let k = c.piece-item.result in
     gathered (chain_of c.args.points.now) _ i (piece_of k) [] _ _ (below_map piece_of ks i c.loop-piece-test.true) (read_map piece_of ks i k c.loop-piece-test.true c.piece-item.is) c.loop-piece.invariant c.in_ok-add_marks.ensures
 
 pub add_marks-requires : goal.add_marks-requires
 add_marks-requires c =
-    let ks = c.deref-piece-items.result.now in
+    let ks = c.as_slice-piece-items.result.now in
     let k = c.piece-item.result in
-    let fit : AreFit (map piece_of c.deref-piece-items.result.now) = subst (λ ls. AreFit (map piece_of ls)) (sym c.deref-piece-items.ensures.value) c.requires.fit.piece in
+    let fit : AreFit (map piece_of c.as_slice-piece-items.result.now) = subst (λ ls. AreFit (map piece_of ls)) (sym c.as_slice-piece-items.ensures) c.requires.fit.piece in
     fit (piece_of k) (in_map piece_of k ks (read_in ks c.loop-piece.piece-index k c.loop-piece-test.true c.piece-item.is))
 
 pub returns : goal.returns
@@ -30,7 +30,7 @@ unfolding graph
 returns c =
     let p = present_of c.args.present.now in
     let vs = c.args.points.now in
-    let ks = c.deref-piece-items.result.now in
+    let ks = c.as_slice-piece-items.result.now in
     let asc : IsAscending point_cmp c.args.points.now = subst (IsAscending point_cmp) (sym c.requires.points) (vertices_ascend p) in
     let all = all_gathered (chain_of vs) (map piece_of ks) c.loop-piece.piece-index [] _ (past_map piece_of ks c.loop-piece.piece-index c.loop-piece-test.false) c.loop-piece.invariant in
-    c.arrange.ensures ∙ ap (ascending mark_cmp) (all ∙ ap (λ ls. flat_map (chain_of vs) (map piece_of ls)) c.deref-piece-items.ensures.value) ∙ chains_are vs asc p.pieces ∙ ap (λ us. marks us p.pieces) c.requires.points
+    c.arrange.ensures ∙ ap (ascending mark_cmp) (all ∙ ap (λ ls. flat_map (chain_of vs) (map piece_of ls)) c.as_slice-piece-items.ensures) ∙ chains_are vs asc p.pieces ∙ ap (λ us. marks us p.pieces) c.requires.points

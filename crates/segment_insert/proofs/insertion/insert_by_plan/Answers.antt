@@ -27,7 +27,7 @@ make_vertices-requires-clause-plane c =
 pub make_vertices-requires-clause-pairs : goal.make_vertices-requires-clause-pairs
 make_vertices-requires-clause-pairs c =
     let same = one_curves (held c.args.history.now) (held c.add_piece.new.self) (λ d. c.add_piece.ensures.curves d ∙ c.draw-curve.ensures.curves d) in
-    let e : pairs_to_part (held c.add_piece.new.self) c.args.plan.vertices.items ≡ pairs_to_part (held c.args.history.now) c.args.plan.vertices.items = ap (λ h. pairs_to_part h c.args.plan.vertices.items) same in
+    let e : pairs_to_part (held c.add_piece.new.self) c.args.plan.vertices ≡ pairs_to_part (held c.args.history.now) c.args.plan.vertices = ap (λ h. pairs_to_part h c.args.plan.vertices) same in
     omega arith
 
 pub make_edges-requires-clause-sound : goal.make_edges-requires-clause-sound
@@ -86,8 +86,8 @@ make_edges-requires-clause-pairs c =
     let planned : IsPlanned c.args.records.now.graph c.args.history.now c.args.segment.now c.args.plan c.draw-curve.result.0 = record { layer = c.requires.layer; ends = c.lower-lower.ensures.ends; zone = c.requires.zone; number = c.draw-curve.ensures.number } in
     let same = one_curves (held c.args.history.now) (held c.add_piece.new.self) (λ d. c.add_piece.ensures.curves d ∙ c.draw-curve.ensures.curves d) in
     let kept = ap points_of_meetings c.deref.ensures.value ∙ c.make_vertices.ensures.points in
-    let e : pairs_to_part (held c.add_piece.new.self) c.args.plan.vertices.items ≡ pairs_to_part (held c.args.history.now) c.args.plan.vertices.items = ap (λ h. pairs_to_part h c.args.plan.vertices.items) same in
-    pairs_left planned c.deref.result.now c.add_piece.new.self.spare_pairs c.make_vertices.new.history.spare_pairs (pairs_to_part (held c.args.history.now) c.args.plan.vertices.items) kept (omega arith) (omega arith)
+    let e : pairs_to_part (held c.add_piece.new.self) c.args.plan.vertices ≡ pairs_to_part (held c.args.history.now) c.args.plan.vertices = ap (λ h. pairs_to_part h c.args.plan.vertices) same in
+    pairs_left planned c.deref.result.now c.add_piece.new.self.spare_pairs c.make_vertices.new.history.spare_pairs (pairs_to_part (held c.args.history.now) c.args.plan.vertices) kept (omega arith) (omega arith)
 
 pub returns-clause-layer : goal.returns-clause-layer
 returns-clause-layer c =

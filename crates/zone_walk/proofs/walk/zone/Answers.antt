@@ -23,9 +23,9 @@ pub walk-preserved : goal.walk-preserved
 walk-preserved c =
     let g = c.args.segment.now in
     let before : precedes c.walk.point g.upper ≡ true = ap (precedes c.walk.point) (sym c.upper-upper.ensures) ∙ sym c.lt.ensures ∙ c.walk-test.true in
-    continues c.args.records.now.graph c.requires.sound g (course g c.lower-point.ensures.ends) c.walk.plan.vertices.items c.walk.plan.between.items c.walk.plan.overlapped.items c.walk.point c.walk.spot c.walk.invariant
+    continues c.args.records.now.graph c.requires.sound g (course g c.lower-point.ensures.ends) c.walk.plan.vertices c.walk.plan.between c.walk.plan.overlapped c.walk.point c.walk.spot c.walk.invariant
     (lt_out c.walk.point g.upper before) c.stretch_from-stretch.result.spot c.stretch_from-stretch.result.next c.stretch_from-stretch.ensures.stretch c.stretch_from-stretch.ensures.spot
-    c.extend.new.plan.vertices.items c.extend.new.plan.between.items c.extend.new.plan.overlapped.items c.in_ok-extend.ensures.vertices c.in_ok-extend.ensures.between c.in_ok-extend.ensures.overlapped
+    c.extend.new.plan.vertices c.extend.new.plan.between c.extend.new.plan.overlapped c.in_ok-extend.ensures.vertices c.in_ok-extend.ensures.between c.in_ok-extend.ensures.overlapped
 
 pub returns : goal.returns
 returns c =

@@ -4,7 +4,7 @@ use Rattle.zone_walk.proofs.Walked.{IsWalked}
 use Rattle.zone_walk.proofs.walk.zone.Given as goal
 
 abbrev pub invariant-walk : goal.invariant-walk
-invariant-walk l = IsWalked l.records.graph l.segment l.plan.vertices.items l.plan.between.items l.plan.overlapped.items l.point l.spot
+invariant-walk l = IsWalked l.records.graph l.segment l.plan.vertices l.plan.between l.plan.overlapped l.point l.spot
 
 abbrev pub decreases-walk : goal.decreases-walk
 decreases-walk l = length (later_points l.records.graph l.segment l.point)
