@@ -16,7 +16,7 @@ use Rattle.slab_faces.proofs.Sums.{each, sum_by-same, fewer, fewer_than}
 use Rattle.slab_faces.proofs.Walls.{left_of-irrefl, left_of-asym, left_of-before, left_of-after, on_wall_parts, run_positive}
 use Rattle.slab_faces.proofs.Order.{Passes, below_from, below_asym, gap_positive}
 
--- q ≤ p and p ≤ r
+-- p ≤ q ≤ r
 pub not_right_trans : (p q r : Point) → HasWeight p → HasWeight q → HasWeight r → left_of q p ≡ false → left_of r q ≡ false → left_of r p ≡ false
 not_right_trans p q r P Q R a b = false_from_ne_true _ (λ h. false≢true (sym a ∙ left_of-after q r p Q R P b h))
 

@@ -1,4 +1,4 @@
--- Walls and slabs: each wall has a lowest vertex, each slab but the first begins at a wall, and walls tell slabs as vertices do.
+-- Walls and slabs: each wall has a lowest vertex, each slab but the first begins at a wall, and a point off all walls is in one cell.
 use Rattle.std.proofs.Common.{◌≡◌, ℕ, ◌<◌, ◌≤◌, Bool, true, false, cond, arith, refl, sym, ap, subst, ◌∙◌, ◌⊎◌, inl, inr, ◌∷◌, map, suc}
 use Rattle.std.specs.Prelude.{not, ◌&&◌}
 use Rattle.std.specs.List.{Contains, list_any, range_with_len}
@@ -8,7 +8,7 @@ use Rattle.plane_graphs.specs.Graph.{Edge}
 use Rattle.slab_laws.specs.Skeleton.{Skeleton, HasWeight, left_of, lower_than, on_wall, over, IsPlaneSkeleton}
 use Rattle.slab_laws.specs.Slabs.{slab_left, slab_right, spans, reaches_left, reaches_right, left_count, left_cell, right_count, width}
 use Rattle.slab_laws.specs.Faces.{is_lowest, walls, cells, slab_cells}
-use Rattle.slab_faces.specs.LocationLaws.{walls_left, OffWalls, WallsTellSlabs}
+use Rattle.slab_faces.specs.LocationLaws.{OffWalls}
 use Rattle.slab_faces.proofs.Sums.{each, sum_by-same, sum_by-none, fewer, fewer_than}
 use Rattle.slab_faces.proofs.Walls.{left_of-irrefl, left_of-asym, left_of-before, left_of-after, lower_than-irrefl, lower_than-asym, lower_than-before, on_wall_parts}
 use Rattle.slab_faces.proofs.Cells.{left_few}
@@ -133,57 +133,3 @@ off_walls g t plane T off =
     reach : (a b c d o : Bool) → a ≡ not b → c ≡ not d → cond {A = ℕ} ((a && not c) && not o) 1 0 ≡ cond ((not b && d) && not o) 1 0
     reach a b c true o e f = rw (e, f) refl
     reach a b c false o e f = rw (e, f) refl
-
--- ---- slabs by vertices and by walls
--- more lies to the left of u than of t, or no more does
-pub record IsMore (g : Skeleton) (t u : Point) : Type 0 where
-  pub vertices : slab_left g t < slab_left g u
-  pub walls : walls_left g t < walls_left g u
-
-pub record IsLess (g : Skeleton) (t u : Point) : Type 0 where
-  pub vertices : slab_left g u ≤ slab_left g t
-  pub walls : walls_left g u ≤ walls_left g t
-
-more_or_less : (g : Skeleton) (t u : Point) → IsPlaneSkeleton g → HasWeight t → HasWeight u → IsMore g t u ⊎ IsLess g t u
-more_or_less g t u plane T U =
-    elim (best_of (λ v. left_of v u && not (left_of v t)) (λ x y. false) g.vertices (λ x. refl) (λ x y z a b c h k. absurd (false≢true h))) [
-      | inl none ↦
-          let sub : (v : Point) → Contains g.vertices v → left_of v u ≡ true → left_of v t ≡ true = λ v V h. still (left_of v u) (left_of v t) (none v (in_member g.vertices v V)) h in
-          inr (record {
-            vertices = fewer (λ v. left_of v u) (λ v. left_of v t) g.vertices sub;
-            walls = fewer (λ v. left_of v u) (λ v. left_of v t) (walls g) (λ v V h. sub v (wall_vertex g v (in_member (walls g) v V)) h);
-          })
-      | inr b ↦
-          let v = b.0 in
-          let V = member_in g.vertices v b.1.in' in
-          let P = plane.proper v V in
-          let a = and_parts (left_of v u) (not (left_of v t)) b.1.passes in
-          let off = not-true _ a.1 in
-          let w = wall_of_vertex g v plane V in
-          let W = plane.proper w.0 (wall_vertex g w.0 w.1.wall) in
-          let sub : (x : Point) → Contains g.vertices x → left_of x t ≡ true → left_of x u ≡ true = λ x X h.
-          let k = left_of-before x t v (plane.proper x X) T P h off in
-          left_of-before x v u (plane.proper x X) P U k (left_of-asym v u a.0) in
-          inl (record {
-            vertices = fewer_than (λ v. left_of v t) (λ v. left_of v u) g.vertices v V off a.0 sub;
-            walls = fewer_than (λ v. left_of v t) (λ v. left_of v u) (walls g) w.0 (member_in (walls g) w.0 w.1.wall)
-                (equal_trans t v w.0 T P W off w.1.there)
-                (left_of-after w.0 v u W P U w.1.back a.0)
-                (λ x X h. sub x (wall_vertex g x (in_member (walls g) x X)) h);
-          })
-    ]
-  where
-    still : (a b : Bool) → (a && not b) ≡ false → a ≡ true → b ≡ true
-    still a true h k = refl
-    still true false h k = absurd (false≢true (sym h))
-    still false false h k = k
-
-pub walls_tell_slabs : WallsTellSlabs
-walls_tell_slabs g t u plane T U =
-    elim (more_or_less g t u plane T U) [
-      | inl a ↦ ((λ e. omega arith, λ e. omega arith), (λ e. a.walls, λ e. a.vertices))
-      | inr a ↦ elim (more_or_less g u t plane U T) [
-        | inl b ↦ ((λ e. omega arith, λ e. omega arith), (λ e. omega arith, λ e. omega arith))
-        | inr b ↦ ((λ e. omega arith, λ e. omega arith), (λ e. omega arith, λ e. omega arith))
-      ]
-    ]

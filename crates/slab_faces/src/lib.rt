@@ -7,7 +7,7 @@ ghost use Rattle.slab_faces.specs.GraphLaws.{GraphIsPlaneSkeleton};
 ghost use Rattle.slab_faces.specs.Locations.{LocationIs, CellsHaveFaces};
 ghost use Rattle.slab_faces.specs.PointLaws.{PointsHaveOneFace};
 ghost use Rattle.slab_faces.specs.EveryFaceLaws.{OuterCyclesOfEveryFace, FaceIsTheCells};
-ghost use Rattle.slab_faces.specs.LocationLaws.{LocationIsOne, OneEdgeAtMost, OffWalls, WallsTellSlabs};
+ghost use Rattle.slab_faces.specs.LocationLaws.{LocationIsOne, OneEdgeAtMost, OffWalls, WallsTellSlabs, WallsTellEdges};
 ghost use Rattle.slab_faces.specs.ComputedLaws.{LabelsAreFaces, LabelsAreLeast, ComputedNextKeepsFace, NextIsOneToOne, CycleParity};
 
 /// Where the weights of the edges at each vertex come to an even number, the weight above is even or odd on a whole face.
@@ -124,6 +124,11 @@ pub fn off_walls()
 /// Slabs are the same, and in the same order, by the vertices to their left and by the walls to their left.
 pub fn walls_tell_slabs()
     ensures { WallsTellSlabs }
+{}
+
+/// Edges span the same slabs, at the same places, by the vertices to a slab's left and by the walls to its left.
+pub fn walls_tell_edges()
+    ensures { WallsTellEdges }
 {}
 
 /// A vertex lies on itself, a point inside an edge on such an edge, and any other point in the face of its cell.

@@ -76,7 +76,7 @@ below f e =
 abbrev pub same_point : Point → Point → Bool
 same_point p q = same_z p.x q.x && same_z p.y q.y && same_z p.w q.w
 
--- e climbs from below f to above it while f falls from above e to below it
+-- e falls from above f to below it while f climbs from below e to above it
 unfoldable pub crosses : Edge → Edge → Bool
 crosses e f =
     lt_z (pos 0) (side f e.low) && (lt_z (side f e.high) (pos 0) && (lt_z (side e f.low) (pos 0) && lt_z (pos 0) (side e f.high)))

@@ -1,4 +1,4 @@
-use Rattle.slab_faces.proofs.WallsLemmas.{walls_tell_slabs}
+use Rattle.slab_faces.proofs.WallCounts.{walls_tell_slabs}
 use Rattle.slab_faces.proofs.walls_tell_slabs.Goals as goal
 
 pub returns : goal.returns
