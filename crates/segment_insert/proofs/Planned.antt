@@ -57,6 +57,10 @@ one_piece old ps c g a b q e f = λ i. q i ++ (record { curve = c; segment = g; 
 pub one_name : (old : List ℕ) (c n : ℕ) → c ≡ n → old ++ (n ∷ []) ≡ old ++ (c ∷ [])
 one_name old c n e = ap (λ k. old ++ (k ∷ [])) (sym e)
 
+-- the steps for the meetings of a list are those for an equal one
+pub made_of_plan : (v : View) (b : Curves) (w : View) (d : Curves) {ms ns : List Meeting} → ms ≡ ns → Makes v b (vertices_first v b (points_of_meetings ms)) w d → Makes v b (vertices_first v b (points_of_meetings ns)) w d
+made_of_plan v b w d e m = subst (λ ms. Makes v b (vertices_first v b (points_of_meetings ms)) w d) e m
+
 -- records and history that are a layer, and the plan of a segment that gets the next number
 pub record IsPlanned (v : View) (past : Past) (g : Segment) (plan : ZonePlan) (c : ℕ) : Type 0 where
   pub layer : IsLayer v past

@@ -12,7 +12,7 @@ pub walk-init : goal.walk-init
 walk-init c =
     let g = c.args.segment.now in
     starts c.args.records.now.graph c.requires.sound g (course g c.lower-point.ensures.ends) c.args.start c.requires.start c.lower.result c.lower-point.result c.lower.ensures.value c.lower-point.ensures.value
-    c.push.new.self.items c.new-2.result.items c.new-3.result.items (c.in_ok-push.ensures.items ∙ ap (λ (ms : List Meeting). ms ++ (record { point = c.lower.result; spot = c.args.start } ∷ [])) c.new.ensures.items) c.new-2.ensures.items c.new-3.ensures.items
+    c.push.new.self c.new-2.result c.new-3.result (c.in_ok-push.ensures.added ∙ ap (λ (ms : List Meeting). ms ++ (record { point = c.lower.result; spot = c.args.start } ∷ [])) c.new.ensures) c.new-2.ensures c.new-3.ensures
 
 pub walk-smaller : goal.walk-smaller
 walk-smaller c =
