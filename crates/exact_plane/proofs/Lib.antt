@@ -1,5 +1,6 @@
 pub mod Along
 pub mod Between
+pub mod Clockwise
 pub mod Crossings
 pub mod Directions
 pub mod Geometry
@@ -13,6 +14,7 @@ pub mod Places
 pub mod PlaneLaws
 pub mod SamePlaces
 pub mod Slab
+pub mod SlopeLaws
 pub mod TurnLaws
 pub mod Turns
 pub mod Ways

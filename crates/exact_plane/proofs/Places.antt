@@ -1,12 +1,13 @@
 -- Points at one place are one triple.
-use Rattle.std.proofs.Common.{◌≡◌, zero, suc, ℤ, pos, negsuc, ◌*ℤ◌, ◌<ℤ◌, refl, sym, ap, ap₂, ◌∙◌, arith}
+use Rattle.std.proofs.Common.{◌≡◌, zero, suc, [], ◌∷◌, ℤ, pos, negsuc, ◌*ℤ◌, ◌<ℤ◌, refl, sym, ap, ap₂, ◌∙◌, arith}
 use Rattle.std.proofs.lemmas.Int.{ints}
 use Rattle.std.specs.Ordering.{int_cmp, ordering_then}
 use Rattle.std.specs.declared.cmp.Ordering.{Ordering}
 use Rattle.std.specs.declared.cmp.Ordering.TheVariants.{Less, Equal, Greater}
 use Rattle.integers.specs.Ratio.{ratio_cmp}
 use Rattle.integers.proofs.Bezout.{lowest_same}
-use Rattle.integers.proofs.Compare.{equal_out, equal_in}
+use Rattle.integers.proofs.Compare.{equal_out, equal_in, same_cmp}
+use Rattle.integers.proofs.Reify.{ring, sides}
 use Rattle.exact_plane.specs.Point.{Point, IsPoint}
 use Rattle.exact_plane.specs.PointOrder.{weight, by_x, by_y, point_cmp}
 
@@ -18,6 +19,10 @@ weight-is (negsuc n) h = absurd (omega (arith, ints))
 -- the order of two ratios with positive weights
 pub ratio_cmp-is : (a v b w : ℤ) → pos 0 <ℤ v → pos 0 <ℤ w → ratio_cmp a v b w ≡ ratio_cmp a (weight v) b (weight w)
 ratio_cmp-is a v b w p q = sym (ap₂ int_cmp (ap (λ z. a *ℤ z) (weight-is w q)) (ap (λ z. b *ℤ z) (weight-is v p)))
+
+-- over one weight the numerators decide
+pub one_weight : (a b w : ℤ) → pos 0 <ℤ w → int_cmp a b ≡ ratio_cmp a w b w
+one_weight a b w h = same_cmp a b (a *ℤ w) (b *ℤ w) {k = w} {m = pos 1} h (omega (arith, ints)) (ring (a ∷ b ∷ w ∷ []) (search sides depth 40 fits 20000) tt)
 
 module _ (p q : Point) (h : IsPoint p) (k : IsPoint q) where
   pub one_place : by_x p q ≡ Equal → by_y p q ≡ Equal → (p.x ≡ q.x) × (p.y ≡ q.y) × (p.w ≡ q.w)

@@ -47,7 +47,7 @@ in_proportion k u m v hk hm e =
 
 module _ (f a b : Direction) (hf : IsDirection f) (ha : IsDirection a) (hb : IsDirection b) where
   -- two proper directions on one line aren't square to one another
-  not_square : (c : Direction) → IsDirection c → turn f c ≡ pos 0 → along f c ≡ pos 0 → ⊥
+  pub not_square : (c : Direction) → IsDirection c → turn f c ≡ pos 0 → along f c ≡ pos 0 → ⊥
   not_square c hc e d =
       let p : pos 0 <ℤ ((f.x *ℤ f.x +ℤ f.y *ℤ f.y) *ℤ (c.x *ℤ c.x +ℤ c.y *ℤ c.y)) = mul_pos hf.some hc.some in
       let z : (f.x *ℤ f.x +ℤ f.y *ℤ f.y) *ℤ (c.x *ℤ c.x +ℤ c.y *ℤ c.y) ≡ pos 0 =

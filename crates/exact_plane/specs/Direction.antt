@@ -1,5 +1,5 @@
 -- Directions in the order in which they are met clockwise from a first one.
-use Rattle.std.specs.Prelude.{◌≡◌, ◌≤◌, ℕ, ℤ, pos, ◌+ℤ◌, ◌-ℤ◌, ◌*ℤ◌, ◌<ℤ◌, neg_ℤ, unsigned_abs}
+use Rattle.std.specs.Prelude.{◌≡◌, ◌≤◌, ◌⊎◌, ℕ, ℤ, pos, ◌+ℤ◌, ◌-ℤ◌, ◌*ℤ◌, ◌<ℤ◌, neg_ℤ, unsigned_abs}
 use Rattle.std.specs.declared.cmp.Ordering.{Ordering}
 use Rattle.std.specs.declared.cmp.Ordering.TheVariants.{Less, Equal, Greater}
 use Rattle.std.specs.Ordering.{int_cmp, nat_cmp, on, then_cmp}
@@ -44,6 +44,12 @@ along a b = a.x *ℤ b.x +ℤ a.y *ℤ b.y
 pub record IsOneDirection (a b : Direction) : Type 0 where
   pub straight : turn a b ≡ pos 0
   pub forward : pos 0 <ℤ along a b
+
+-- going once round clockwise from f, which points elsewhere than a, one meets a before b: of the three turns f to a, a to b and b to f
+-- at least two go clockwise by less than half a turn, and so have a negative `turn` (y points up). Where the three aren't in one half
+-- of the plane, all three do. The other way round at most one does.
+abbrev pub IsClockwise : Direction → Direction → Direction → Type 0
+IsClockwise f a b = ((turn f a <ℤ pos 0) × (turn a b <ℤ pos 0)) ⊎ (((turn a b <ℤ pos 0) × (turn b f <ℤ pos 0)) ⊎ ((turn b f <ℤ pos 0) × (turn f a <ℤ pos 0)))
 
 -- where a direction stands, clockwise from a first one: 0 it is the first, 1 before its opposite, 2 the opposite, 3 after it
 abbrev pub quarter : Ordering → Ordering → ℕ

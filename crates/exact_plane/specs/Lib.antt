@@ -11,5 +11,6 @@ pub mod PointOrderLaws
 pub mod Segment
 pub mod SegmentOf
 pub mod Sign
+pub mod Slope
 pub mod Span
 pub mod SpanOf

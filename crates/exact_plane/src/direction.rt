@@ -1,7 +1,7 @@
 ghost use Rattle.std.specs.Prelude.{◌≡◌, ◌↔◌, ◌<◌, ◌≤◌, ◌+ℤ◌, ◌-ℤ◌, ◌*ℤ◌, neg_ℤ, unsigned_abs};
 ghost use Rattle.std.specs.declared.cmp.Ordering.TheVariants.{Less, Equal};
 ghost use Rattle.exact_plane.specs.declared.bounds.TheConstants.{MAX_DIFFERENCE, TURN_LIMIT};
-ghost use Rattle.exact_plane.specs.Direction.{direction_of, opposite, place, turn_cmp, AreDirections, IsOneDirection};
+ghost use Rattle.exact_plane.specs.Direction.{direction_of, opposite, place, turn_cmp, AreDirections, IsClockwise, IsOneDirection};
 
 use crate::line::Line;
 use std::cmp::Ordering;
@@ -93,11 +93,14 @@ fn place_after(first: Direction, other: Direction) -> u8
 
 /// Which of two directions is met first, going clockwise from a first one.
 ///
-/// The first one itself is met before all others. `Equal` is answered for one direction only.
+/// The first one itself is met before all others. `Equal` is answered for one direction only. Of the three turns from
+/// the first to a, from a to b and from b back to the first at least two go clockwise, by less than half a turn, where
+/// a is met before b, and at most one does where it isn't.
 pub fn turn_order(first: Direction, a: Direction, b: Direction) -> Ordering
     ensures value { result ≡ turn_cmp first a b }
     ensures one_direction { (result ≡ Equal) ↔ IsOneDirection a b }
     ensures first_before { IsOneDirection first a → ¬ IsOneDirection first b → result ≡ Less }
+    ensures clockwise { ¬ IsOneDirection first a → ((result ≡ Less) ↔ IsClockwise first a b) }
 {
     let by_place = place_after(first, a).cmp(&place_after(first, b));
     let turn = turn(a.x, a.y, b.x, b.y);

@@ -2,7 +2,8 @@
 //!
 //! A point has homogeneous coordinates; a segment has whole ends, and its crossings with others are points. The
 //! predicates are those of an exact geometry kernel (Fogel, Halperin and Wein): on which side of a line a point is, which
-//! of two lines is higher at an abscissa, what two segments have in common, which of two directions is met first.
+//! of two lines is higher at an abscissa or steeper, what two segments have in common, which of two directions is met
+//! first.
 #![tactic(auto)]
 
 mod bounds;
@@ -12,6 +13,7 @@ mod meets;
 mod point;
 mod segment;
 mod sides;
+mod slopes;
 mod spans;
 
 pub use bounds::{MAX_COORDINATE, WEIGHT_LIMIT};
@@ -21,4 +23,5 @@ pub use meets::{Meet, meeting, span_meeting};
 pub use point::{Point, PointError};
 pub use segment::{Segment, SegmentError};
 pub use sides::{Sign, above_at, side};
+pub use slopes::slope_order;
 pub use spans::Span;

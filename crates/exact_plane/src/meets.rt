@@ -7,7 +7,7 @@ ghost use Rattle.exact_plane.specs.Point.{IsRatio};
 ghost use Rattle.exact_plane.specs.Span.{span_of_segment};
 
 use crate::line::Line;
-use crate::point::{Point, compare_ratios, is_in_range, lowest};
+use crate::point::{Point, compare_places, is_in_range, lowest};
 use crate::segment::Segment;
 use crate::spans::Span;
 use std::cmp::Ordering;
@@ -61,7 +61,7 @@ fn is_one_line(first: &Line, second: &Line) -> bool
 }
 
 // The weight of the crossing of two lines: 0 where they are parallel.
-fn cross_weight(a1: i128, b1: i128, a2: i128, b2: i128) -> i128
+pub(crate) fn cross_weight(a1: i128, b1: i128, a2: i128, b2: i128) -> i128
     requires a1 { unsigned_abs a1 ≤ MAX_DIFFERENCE }
     requires b1 { unsigned_abs b1 ≤ MAX_DIFFERENCE }
     requires a2 { unsigned_abs a2 ≤ MAX_DIFFERENCE }
@@ -102,9 +102,7 @@ fn starts_by(lower: &Point, x: i128, y: i128, w: i128) -> bool
     requires y { IsRatio y w }
     ensures { result ≡ is_le (place_cmp lower.now (record { x = x; y = y; w = w })) }
 {
-    let by_x = compare_ratios(lower.x, lower.w, x, w);
-    let by_y = compare_ratios(lower.y, lower.w, y, w);
-    by_x.then(by_y).is_le()
+    compare_places(lower.x, lower.y, lower.w, x, y, w).is_le()
 }
 
 // Whether a span's upper end comes after the place (x/w, y/w) or is there.
@@ -113,9 +111,7 @@ fn ends_from(upper: &Point, x: i128, y: i128, w: i128) -> bool
     requires y { IsRatio y w }
     ensures { result ≡ is_le (place_cmp (record { x = x; y = y; w = w }) upper.now) }
 {
-    let by_x = compare_ratios(x, w, upper.x, upper.w);
-    let by_y = compare_ratios(y, w, upper.y, upper.w);
-    by_x.then(by_y).is_le()
+    compare_places(x, y, w, upper.x, upper.y, upper.w).is_le()
 }
 
 fn is_between(span: &Span, x: i128, y: i128, w: i128) -> bool

@@ -4,6 +4,7 @@ ghost use Rattle.std.specs.Ordering.{as_partial_cmp};
 ghost use Rattle.exact_plane.specs.declared.bounds.TheConstants.{MAX_COORDINATE, WEIGHT_LIMIT, NUMERATOR_LIMIT, PRODUCT_LIMIT};
 ghost use Rattle.integers.specs.Lowest.{IsLowest};
 ghost use Rattle.integers.specs.Ratio.{ratio_cmp};
+ghost use Rattle.exact_plane.specs.MeetOf.{place_cmp};
 ghost use Rattle.exact_plane.specs.Point.{in_range, reduced, IsInRange, IsPoint, IsRatio};
 ghost use Rattle.exact_plane.specs.PointOf.{point_of};
 ghost use Rattle.exact_plane.specs.PointOrder.{point_cmp};
@@ -160,9 +161,34 @@ pub(crate) fn compare_ratios(a: i128, v: i128, b: i128, w: i128) -> Ordering
     requires second { IsRatio b w }
     ensures { result ≡ ratio_cmp a v b w }
 {
+    if v == w {
+        return a.cmp(&b);
+    }
     let left = product(a, w);
     let right = product(b, v);
     left.cmp(&right)
+}
+
+// The order of the places (x1/w1, y1/w1) and (x2/w2, y2/w2): y is looked at where x doesn't decide.
+pub(crate) fn compare_places(
+    x1: i128,
+    y1: i128,
+    w1: i128,
+    x2: i128,
+    y2: i128,
+    w2: i128,
+) -> Ordering
+    requires first_x { IsRatio x1 w1 }
+    requires first_y { IsRatio y1 w1 }
+    requires second_x { IsRatio x2 w2 }
+    requires second_y { IsRatio y2 w2 }
+    ensures { result ≡ place_cmp (record { x = x1; y = y1; w = w1 }) (record { x = x2; y = y2; w = w2 }) }
+{
+    match compare_ratios(x1, w1, x2, w2) {
+        Ordering::Less => Ordering::Less,
+        Ordering::Equal => compare_ratios(y1, w1, y2, w2),
+        Ordering::Greater => Ordering::Greater,
+    }
 }
 
 impl Ord for Point {
@@ -176,9 +202,7 @@ impl Ord for Point {
 
     // In lowest terms two points at one place have one weight, by which the order of all triples goes last.
     fn cmp(&self, other: &Point) -> Ordering {
-        let by_x = compare_ratios(self.x, self.w, other.x, other.w);
-        let by_y = compare_ratios(self.y, self.w, other.y, other.w);
-        by_x.then(by_y)
+        compare_places(self.x, self.y, self.w, other.x, other.y, other.w)
     }
 }
 

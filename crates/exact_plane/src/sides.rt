@@ -1,4 +1,4 @@
-ghost use Rattle.std.specs.Prelude.{◌≡◌, ◌<◌, ◌≤◌, pos, ◌+ℤ◌, ◌*ℤ◌, ◌<ℤ◌, unsigned_abs};
+ghost use Rattle.std.specs.Prelude.{◌≡◌, ◌<◌, ◌≤◌, pos, ◌+ℤ◌, ◌*ℤ◌, ◌<ℤ◌, ◌^◌, unsigned_abs};
 ghost use Rattle.std.specs.Ordering.{int_eq};
 ghost use Rattle.exact_plane.specs.declared.bounds.TheConstants.{MAX_DIFFERENCE, MAX_OFFSET, SIDE_LIMIT, HEIGHT_LIMIT};
 ghost use Rattle.exact_plane.specs.Height.{height_cmp};
@@ -68,11 +68,12 @@ fn depth(a: i128, c: i128, x: i128, w: i128, by: i128) -> i128
 /// Compares the heights of two lines at the abscissa of a point: `Greater` where the first is above the second.
 ///
 /// Neither line is vertical. The height of a line with the numbers a, b, c at the abscissa X/W is
-/// -(a X + c W) / (b W).
+/// -(a X + c W) / (b W). The numbers that are compared stay below 2^107 in size.
 pub fn above_at(first: &Line, second: &Line, point: &Point) -> Ordering
     requires first_not_vertical { pos 0 <ℤ first.now.b }
     requires second_not_vertical { pos 0 <ℤ second.now.b }
-    ensures { result ≡ height_cmp first.now second.now point.now }
+    ensures value { result ≡ height_cmp first.now second.now point.now }
+    ensures limit { HEIGHT_LIMIT ≡ 2 ^ 107 }
 {
     let of_first = depth(first.a, first.c, point.x, point.w, second.b);
     let of_second = depth(second.a, second.c, point.x, point.w, first.b);

@@ -5,8 +5,8 @@ use Rattle.exact_plane.specs.Point.{IsPoint}
 use Rattle.exact_plane.proofs.Heights.{height_cmp-is}
 use Rattle.exact_plane.proofs.sides.above_at.Goals as goal
 
-pub returns : goal.returns
-returns c =
+pub returns-clause-value : goal.returns-clause-value
+returns-clause-value c =
     let l = c.args.first.now in
     let m = c.args.second.now in
     let p = c.args.point.now in
