@@ -15,13 +15,16 @@ use crate::bounds::{MAX_COORDINATE, WEIGHT_LIMIT};
 use integers::{greatest_common_divisor, quotient};
 use std::cmp::Ordering;
 use std::marker::Model;
+use thiserror::Error;
 
 /// Why three numbers are no point.
-#[derive(Clone, Copy, Debug, PartialEq, Eq)]
+#[derive(Clone, Copy, Debug, PartialEq, Eq, Error)]
 pub enum PointError {
     /// The weight is 0.
+    #[error("the weight is 0")]
     ZeroWeight,
     /// The weight or a coordinate is out of its range.
+    #[error("a number is out of its range")]
     Range,
 }
 
@@ -170,14 +173,7 @@ pub(crate) fn compare_ratios(a: i128, v: i128, b: i128, w: i128) -> Ordering
 }
 
 // The order of the places (x1/w1, y1/w1) and (x2/w2, y2/w2): y is looked at where x doesn't decide.
-pub(crate) fn compare_places(
-    x1: i128,
-    y1: i128,
-    w1: i128,
-    x2: i128,
-    y2: i128,
-    w2: i128,
-) -> Ordering
+pub(crate) fn compare_places(x1: i128, y1: i128, w1: i128, x2: i128, y2: i128, w2: i128) -> Ordering
     requires first_x { IsRatio x1 w1 }
     requires first_y { IsRatio y1 w1 }
     requires second_x { IsRatio x2 w2 }

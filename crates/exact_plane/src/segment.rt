@@ -9,13 +9,16 @@ ghost use Rattle.exact_plane.specs.SegmentOf.{segment_of};
 use crate::bounds::MAX_COORDINATE;
 use crate::point::Point;
 use std::marker::Model;
+use thiserror::Error;
 
 /// Why four numbers are no segment's ends.
-#[derive(Clone, Copy, Debug, PartialEq, Eq)]
+#[derive(Clone, Copy, Debug, PartialEq, Eq, Error)]
 pub enum SegmentError {
     /// A coordinate is out of its range.
+    #[error("a number is out of its range")]
     Range,
     /// The two ends are one point.
+    #[error("the two ends are equal")]
     Equal,
 }
 

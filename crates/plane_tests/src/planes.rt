@@ -1,6 +1,6 @@
 use exact_plane::{
     Direction, Line, Meet, Point, PointError, Segment, SegmentError, Sign, Span, above_at, line_of,
-    meeting, side, span_meeting, turn_order,
+    meeting, side, slope_order, span_meeting, turn_order,
 };
 use std::cmp::Ordering;
 use std::test::Fail;
@@ -94,6 +94,32 @@ fn coordinates_compare_one_by_one(rt: HostRuntime) -> Result<(), Fail> {
         third.compare_y(&Point::new(1, 5, 6)?) == Ordering::Equal,
         "5/6"
     );
+    Ok(())
+}
+
+#[test]
+fn errors_say_what_is_wrong(rt: HostRuntime) -> Result<(), Fail> {
+    let rows = [
+        (
+            format!(in rt.alloc(); "{}", PointError::ZeroWeight)?,
+            "the weight is 0",
+        ),
+        (
+            format!(in rt.alloc(); "{}", PointError::Range)?,
+            "a number is out of its range",
+        ),
+        (
+            format!(in rt.alloc(); "{}", SegmentError::Range)?,
+            "a number is out of its range",
+        ),
+        (
+            format!(in rt.alloc(); "{}", SegmentError::Equal)?,
+            "the two ends are equal",
+        ),
+    ];
+    for (text, wanted) in rows {
+        assert!(rt; text.as_str() == wanted, "{wanted}");
+    }
     Ok(())
 }
 
@@ -219,6 +245,45 @@ fn heights_compare_at_an_abscissa(rt: HostRuntime) -> Result<(), Fail> {
     Ok(())
 }
 
+#[test]
+fn lines_are_ordered_by_slope(rt: HostRuntime) -> Result<(), Fail> {
+    let rows: [(&str, Ends, Ends, Ordering); 9] = [
+        ("falling more", (0, 9, 1, 0), (0, 1, 1, 0), Ordering::Less),
+        ("falling, level", (0, 1, 1, 0), (0, 3, 9, 3), Ordering::Less),
+        ("level, rising", (0, 3, 9, 3), (0, 0, 2, 1), Ordering::Less),
+        ("rising more", (0, 0, 1, 2), (0, 0, 2, 1), Ordering::Greater),
+        (
+            "rising, vertical",
+            (0, 0, 1, 1048575),
+            (3, 0, 3, 5),
+            Ordering::Less,
+        ),
+        (
+            "vertical, falling",
+            (3, 5, 3, 0),
+            (0, 9, 1, 0),
+            Ordering::Greater,
+        ),
+        ("parallel", (0, 0, 2, 1), (7, 7, 3, 5), Ordering::Equal),
+        ("both vertical", (3, 0, 3, 5), (7, 2, 7, 1), Ordering::Equal),
+        (
+            "widest",
+            (-1048575, -1048575, 1048575, 1048574),
+            (-1048575, -1048575, 1048574, 1048575),
+            Ordering::Less,
+        ),
+    ];
+    for (name, first, second, wanted) in rows {
+        let (first, second) = (line(first)?, line(second)?);
+        assert!(rt; slope_order(&first, &second) == wanted, "{name}");
+        assert!(rt;
+            slope_order(&second, &first) == wanted.reverse(),
+            "{name}, the other way"
+        );
+    }
+    Ok(())
+}
+
 // Directions clockwise from straight up.
 fn eight_directions() -> Result<[Direction; 8], Fail> {
     let up = Direction::along(&line((0, 0, 0, 1))?);
@@ -250,16 +315,48 @@ fn turns_go_clockwise_through_all_sectors(rt: HostRuntime) -> Result<(), Fail> {
             }
         }
     }
+    Ok(())
+}
+
+#[test]
+fn turns_follow_the_compass(rt: HostRuntime) -> Result<(), Fail> {
+    let eight = eight_directions()?;
+    let (north, east, south, west) = (eight[0], eight[2], eight[4], eight[6]);
     let steep = Direction::along(&line((-1048575, -1048575, 1048574, 1048575))?);
     let flat = Direction::along(&line((-1048575, -1048575, 1048575, 1048574))?);
-    assert!(rt;
-        turn_order(directions[0], steep, flat) == Ordering::Less,
-        "widest"
-    );
-    assert!(rt;
-        turn_order(directions[4], steep, flat) == Ordering::Less,
-        "widest, from below"
-    );
+    // In the first four rows the three directions are in one half of the plane, in the next four they aren't.
+    let rows: [(&str, Direction, Direction, Direction, Ordering); 8] = [
+        (
+            "north-east is before east",
+            north,
+            eight[1],
+            east,
+            Ordering::Less,
+        ),
+        ("east is before south", north, east, south, Ordering::Less),
+        ("south is before west", north, south, west, Ordering::Less),
+        ("widest", north, steep, flat, Ordering::Less),
+        ("widest, from below", south, steep, flat, Ordering::Less),
+        ("from north-east", eight[1], south, west, Ordering::Less),
+        (
+            "east is before south-west",
+            north,
+            east,
+            eight[5],
+            Ordering::Less,
+        ),
+        (
+            "west is after south-east",
+            north,
+            west,
+            eight[3],
+            Ordering::Greater,
+        ),
+    ];
+    for (name, first, a, b, wanted) in rows {
+        assert!(rt; turn_order(first, a, b) == wanted, "{name}");
+        assert!(rt; turn_order(first, b, a) == wanted.reverse(), "{name}");
+    }
     Ok(())
 }
 

@@ -6,13 +6,6 @@ use Rattle.exact_plane.specs.Slope.{slope_cmp, IsVerticalLast}
 use Rattle.exact_plane.proofs.SlopeLaws.{parallel, fractions, vertical_last, rise_is}
 use Rattle.exact_plane.proofs.slopes.slope_order.Goals as goal
 
-pub returns-clause-parallel : goal.returns-clause-parallel
-returns-clause-parallel c =
-    let l = c.args.first.now in
-    let m = c.args.second.now in
-    let e : c.cmp.result ≡ slope_cmp l m = search rules in
-    subst (λ (o : Ordering). (o ≡ Equal) ↔ (weight_of l m ≡ pos 0)) (sym e) (parallel l m)
-
 pub returns-clause-slopes : goal.returns-clause-slopes
 returns-clause-slopes c = λ h k.
     let l = c.args.first.now in
@@ -37,3 +30,10 @@ returns-clause-by_rise c =
     let hm : IsLine c.args.second.now = search rules in
     let e : c.cmp.result ≡ slope_cmp l m = search rules in
     e ∙ sym (rise_is l m hl.runs hm.runs)
+
+pub returns-clause-parallel : goal.returns-clause-parallel
+returns-clause-parallel c =
+    let l = c.args.first.now in
+    let m = c.args.second.now in
+    let e : c.cmp.result ≡ slope_cmp l m = search rules in
+    subst (λ (o : Ordering). (o ≡ Equal) ↔ (weight_of l m ≡ pos 0)) (sym e) (parallel l m)
