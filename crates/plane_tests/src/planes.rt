@@ -99,27 +99,12 @@ fn coordinates_compare_one_by_one(rt: HostRuntime) -> Result<(), Fail> {
 
 #[test]
 fn errors_say_what_is_wrong(rt: HostRuntime) -> Result<(), Fail> {
-    let rows = [
-        (
-            format!(in rt.alloc(); "{}", PointError::ZeroWeight)?,
-            "the weight is 0",
-        ),
-        (
-            format!(in rt.alloc(); "{}", PointError::Range)?,
-            "a number is out of its range",
-        ),
-        (
-            format!(in rt.alloc(); "{}", SegmentError::Range)?,
-            "a number is out of its range",
-        ),
-        (
-            format!(in rt.alloc(); "{}", SegmentError::Equal)?,
-            "the two ends are equal",
-        ),
-    ];
-    for (text, wanted) in rows {
-        assert!(rt; text.as_str() == wanted, "{wanted}");
-    }
+    let (weight, number) = (PointError::ZeroWeight, PointError::Range);
+    let (end, ends) = (SegmentError::Range, SegmentError::Equal);
+    let found = format!(in rt.alloc(); "{weight}, {number}, {end}, {ends}")?;
+    let wanted =
+        "the weight is 0, a number is out of its range, a number is out of its range, the two ends are equal";
+    assert!(rt; found.as_str() == wanted, "{found}");
     Ok(())
 }
 
@@ -169,26 +154,50 @@ fn segments_have_their_ends_in_order(rt: HostRuntime) {
 
 #[test]
 fn lines_are_in_lowest_terms(rt: HostRuntime) -> Result<(), Fail> {
-    // Whose three numbers are private: what is printed for a programmer shows them.
-    let rows: [(Ends, &str); 6] = [
-        ((0, 0, 2, 1), "Line { a: -1, b: 2, c: 0 }"),
-        ((-4, -2, 4, 2), "Line { a: -1, b: 2, c: 0 }"),
-        ((0, 3, 6, 3), "Line { a: 0, b: 1, c: -3 }"),
-        ((5, 9, 5, -9), "Line { a: -1, b: 0, c: 5 }"),
-        ((0, 1, 1, 0), "Line { a: 1, b: 1, c: -1 }"),
+    // Whose three numbers are private: what is printed for a programmer shows them. The slopes are compared with 1/2.
+    let half = line((0, 0, 2, 1))?;
+    let rows: [(Ends, &str, Ordering); 8] = [
+        ((0, 0, 2, 1), "Line { a: -1, b: 2, c: 0 }", Ordering::Equal),
+        (
+            (-4, -2, 4, 2),
+            "Line { a: -1, b: 2, c: 0 }",
+            Ordering::Equal,
+        ),
+        ((7, 7, 3, 5), "Line { a: -1, b: 2, c: -7 }", Ordering::Equal),
+        ((0, 3, 6, 3), "Line { a: 0, b: 1, c: -3 }", Ordering::Less),
+        (
+            (5, 9, 5, -9),
+            "Line { a: -1, b: 0, c: 5 }",
+            Ordering::Greater,
+        ),
+        (
+            (0, 0, 1, 2),
+            "Line { a: -2, b: 1, c: 0 }",
+            Ordering::Greater,
+        ),
+        ((0, 1, 1, 0), "Line { a: 1, b: 1, c: -1 }", Ordering::Less),
         (
             (-1048575, 1048575, 1048574, -1048575),
             "Line { a: 2097150, b: 2097149, c: 1048575 }",
+            Ordering::Less,
         ),
     ];
-    for (ends, wanted) in rows {
-        let made = format!(in rt.alloc(); "{:?}", line(ends)?)?;
+    for (ends, wanted, by_slope) in rows {
+        let found = line(ends)?;
+        let made = format!(in rt.alloc(); "{:?}", found)?;
         assert!(rt; made.as_str() == wanted, "{wanted}");
+        assert!(rt; slope_order(&found, &half) == by_slope, "{wanted}");
+        assert!(rt;
+            slope_order(&half, &found) == by_slope.reverse(),
+            "{wanted}"
+        );
     }
     assert!(rt; line((0, 0, 2, 1))? == line((2, 1, 6, 3))?, "one line");
+    let (upright, level) = (line((5, 9, 5, -9))?, line((0, 3, 6, 3))?);
+    assert!(rt; upright.is_vertical() && !level.is_vertical(), "vertical");
     assert!(rt;
-        line((5, 9, 5, -9))?.is_vertical() && !line((0, 3, 6, 3))?.is_vertical(),
-        "vertical"
+        slope_order(&upright, &line((7, 1, 7, 2))?) == Ordering::Equal,
+        "both vertical"
     );
     Ok(())
 }
@@ -245,45 +254,6 @@ fn heights_compare_at_an_abscissa(rt: HostRuntime) -> Result<(), Fail> {
     Ok(())
 }
 
-#[test]
-fn lines_are_ordered_by_slope(rt: HostRuntime) -> Result<(), Fail> {
-    let rows: [(&str, Ends, Ends, Ordering); 9] = [
-        ("falling more", (0, 9, 1, 0), (0, 1, 1, 0), Ordering::Less),
-        ("falling, level", (0, 1, 1, 0), (0, 3, 9, 3), Ordering::Less),
-        ("level, rising", (0, 3, 9, 3), (0, 0, 2, 1), Ordering::Less),
-        ("rising more", (0, 0, 1, 2), (0, 0, 2, 1), Ordering::Greater),
-        (
-            "rising, vertical",
-            (0, 0, 1, 1048575),
-            (3, 0, 3, 5),
-            Ordering::Less,
-        ),
-        (
-            "vertical, falling",
-            (3, 5, 3, 0),
-            (0, 9, 1, 0),
-            Ordering::Greater,
-        ),
-        ("parallel", (0, 0, 2, 1), (7, 7, 3, 5), Ordering::Equal),
-        ("both vertical", (3, 0, 3, 5), (7, 2, 7, 1), Ordering::Equal),
-        (
-            "widest",
-            (-1048575, -1048575, 1048575, 1048574),
-            (-1048575, -1048575, 1048574, 1048575),
-            Ordering::Less,
-        ),
-    ];
-    for (name, first, second, wanted) in rows {
-        let (first, second) = (line(first)?, line(second)?);
-        assert!(rt; slope_order(&first, &second) == wanted, "{name}");
-        assert!(rt;
-            slope_order(&second, &first) == wanted.reverse(),
-            "{name}, the other way"
-        );
-    }
-    Ok(())
-}
-
 // Directions clockwise from straight up.
 fn eight_directions() -> Result<[Direction; 8], Fail> {
     let up = Direction::along(&line((0, 0, 0, 1))?);
@@ -315,48 +285,26 @@ fn turns_go_clockwise_through_all_sectors(rt: HostRuntime) -> Result<(), Fail> {
             }
         }
     }
-    Ok(())
-}
-
-#[test]
-fn turns_follow_the_compass(rt: HostRuntime) -> Result<(), Fail> {
-    let eight = eight_directions()?;
-    let (north, east, south, west) = (eight[0], eight[2], eight[4], eight[6]);
+    // From north: east before south before west.
+    let (north, east, south) = (directions[0], directions[2], directions[4]);
+    assert!(rt;
+        turn_order(north, east, south) == Ordering::Less,
+        "north, east, south"
+    );
+    assert!(rt;
+        turn_order(north, directions[6], south) == Ordering::Greater,
+        "north, south, west"
+    );
     let steep = Direction::along(&line((-1048575, -1048575, 1048574, 1048575))?);
     let flat = Direction::along(&line((-1048575, -1048575, 1048575, 1048574))?);
-    // In the first four rows the three directions are in one half of the plane, in the next four they aren't.
-    let rows: [(&str, Direction, Direction, Direction, Ordering); 8] = [
-        (
-            "north-east is before east",
-            north,
-            eight[1],
-            east,
-            Ordering::Less,
-        ),
-        ("east is before south", north, east, south, Ordering::Less),
-        ("south is before west", north, south, west, Ordering::Less),
-        ("widest", north, steep, flat, Ordering::Less),
-        ("widest, from below", south, steep, flat, Ordering::Less),
-        ("from north-east", eight[1], south, west, Ordering::Less),
-        (
-            "east is before south-west",
-            north,
-            east,
-            eight[5],
-            Ordering::Less,
-        ),
-        (
-            "west is after south-east",
-            north,
-            west,
-            eight[3],
-            Ordering::Greater,
-        ),
-    ];
-    for (name, first, a, b, wanted) in rows {
-        assert!(rt; turn_order(first, a, b) == wanted, "{name}");
-        assert!(rt; turn_order(first, b, a) == wanted.reverse(), "{name}");
-    }
+    assert!(rt;
+        turn_order(directions[0], steep, flat) == Ordering::Less,
+        "widest"
+    );
+    assert!(rt;
+        turn_order(directions[4], steep, flat) == Ordering::Less,
+        "widest, from below"
+    );
     Ok(())
 }
 
