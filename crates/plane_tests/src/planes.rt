@@ -186,11 +186,8 @@ fn lines_are_in_lowest_terms(rt: HostRuntime) -> Result<(), Fail> {
         let found = line(ends)?;
         let made = format!(in rt.alloc(); "{:?}", found)?;
         assert!(rt; made.as_str() == wanted, "{wanted}");
-        assert!(rt; slope_order(&found, &half) == by_slope, "{wanted}");
-        assert!(rt;
-            slope_order(&half, &found) == by_slope.reverse(),
-            "{wanted}"
-        );
+        assert!(rt; slope_order(&found, &half) == by_slope, "{made}");
+        assert!(rt; slope_order(&half, &found) == by_slope.reverse(), "{made}");
     }
     assert!(rt; line((0, 0, 2, 1))? == line((2, 1, 6, 3))?, "one line");
     let (upright, level) = (line((5, 9, 5, -9))?, line((0, 3, 6, 3))?);
