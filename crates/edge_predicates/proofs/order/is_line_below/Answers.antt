@@ -14,4 +14,4 @@ pub returns : goal.returns
 returns c =
     c.is_gt.ensures
     ∙ higher_is c.args.edge.now c.args.other.now c.args.point.now c.above_at.result c.lower.ensures.span c.lower-2.ensures.span c.w.ensures.point.range.positive c.requires.own c.requires.others
-    (c.above_at.ensures ∙ (λ i. height_cmp (c.line.ensures i) (c.line-2.ensures i) c.args.point.now))
+    (c.above_at.ensures.value ∙ (λ i. height_cmp (c.line.ensures i) (c.line-2.ensures i) c.args.point.now))
