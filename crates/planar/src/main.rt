@@ -1,6 +1,10 @@
 //! The program `planar`: a script on standard input, its replies on standard output.
 #![tactic(auto)]
 
+ghost use Rattle.std.specs.Prelude.{◌≡◌};
+ghost use Rattle.std.specs.Process.{exit_status};
+ghost use Rattle.planar_run.specs.Status.{exit_code};
+
 use no_memory::NoMemory;
 use outside::{StdSink, StdSource};
 use planar_run::{Status, planar};
@@ -35,6 +39,13 @@ fn run(rt: &HostRuntime) -> Status {
     }
 }
 
+// The exit status that tells how a run ended.
+fn code_of(status: Status) -> ExitCode
+    ensures { exit_status result ≡ exit_code status }
+{
+    ExitCode::from(status.exit_code())
+}
+
 fn main(rt: HostRuntime) -> ExitCode {
-    ExitCode::from(run(&rt).exit_code())
+    code_of(run(&rt))
 }

@@ -1,4 +1,4 @@
-ghost use Rattle.std.specs.Prelude.{◌≡◌, ◌≢◌, ◌⊎◌, ◌+◌, ◌≤◌, [], length, take, IsSomeAnd};
+ghost use Rattle.std.specs.Prelude.{◌≡◌, ◌≢◌, ◌⊎◌, ◌+◌, ◌^◌, ◌≤◌, [], length, take, IsSomeAnd};
 ghost use Rattle.outside.specs.Bytes.{Gains, GainsPrefix};
 ghost use Rattle.outside.specs.Counts.{Rose};
 ghost use Rattle.planar_run.specs.Lines.{lines, ended_lines};
@@ -86,7 +86,8 @@ pub fn planar<S: Source, K: Sink>(
     // The program's name alone is the grammar of the words. Other words are answered by the usage line, and nothing is read.
     ensures usage { result ≡ Status.Usage → (length words.now ≢ 1) × Gains (K.taken sink.old) (K.taken sink.new) usage_line }
     ensures usage_broken { length words.now ≢ 1 → result ≡ Status.WriteFault → GainsPrefix (K.taken sink.old) (K.taken sink.new) usage_line }
-    ensures other_words { length words.now ≢ 1 → (result ≢ Status.Done) × (result ≢ Status.ReadFault) × (result ≢ Status.TooLong) × (S.left source.new ≡ S.left source.old) }
+    ensures other_words { length words.now ≢ 1 → (result ≡ Status.Usage) ⊎ (result ≡ Status.WriteFault) }
+    ensures nothing_read { length words.now ≢ 1 → source.new ≡ source.old }
 
     ensures no_memory { result ≡ Status.NoMemory → (S.left source.new ≡ S.left source.old) × (K.taken sink.new ≡ K.taken sink.old) }
 
@@ -105,6 +106,9 @@ pub fn planar<S: Source, K: Sink>(
 
     // No byte is asked for one at a time but the one past the limit.
     ensures reads { S.calls source.new ≤ S.calls source.old + (SCRIPT_LIMIT + 1) }
+
+    // The limit itself.
+    ensures limit { SCRIPT_LIMIT ≡ 2 ^ 26 }
 {
     if words.len() != 1 {
         return refuse_words(sink);

@@ -1,5 +1,6 @@
 use exact_plane::Point;
 use script_lines::{Command, LineError, read_line};
+use std::test::Fail;
 
 #[test]
 fn commands_are_read(rt: HostRuntime) {
@@ -132,4 +133,27 @@ fn errors_have_their_numbers(rt: HostRuntime) {
     for (error, number) in rows {
         assert!(rt; error.number() == number);
     }
+}
+
+#[test]
+fn errors_have_their_words(rt: HostRuntime) -> Result<(), Fail> {
+    let rows = [
+        (LineError::Word, "the first word isn't a command"),
+        (
+            LineError::Count,
+            "the count of words isn't one that the command has",
+        ),
+        (
+            LineError::Number,
+            "a word in a number's place isn't a number",
+        ),
+        (LineError::Range, "a number is out of its range"),
+        (LineError::Long, "the line has more than 200 bytes"),
+        (LineError::Byte, "a byte of the line is outside 32 to 126"),
+    ];
+    for (error, words) in rows {
+        let text = format!(in rt.alloc(); "{error}")?;
+        assert!(rt; text.as_str() == words);
+    }
+    Ok(())
 }

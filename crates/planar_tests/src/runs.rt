@@ -104,14 +104,48 @@ fn odd_lines_are_refused_by_their_number(rt: HostRuntime) -> Result<(), Fail> {
 fn ten_thousand_pins_are_the_limit(rt: HostRuntime) -> Result<(), Fail> {
     let alloc = rt.alloc();
     let mut script = String::new(alloc);
-    for k in 0..10_001u32 {
+    let mut replies = String::new(alloc);
+    for k in 0..10_000u32 {
         write!(script, "pin {k} 0 1\n")?;
+        write!(replies, "ok\n")?;
     }
+    write!(script, "pin 10000 0 1\n")?;
+    write!(replies, "refused 17\n")?;
     let (status, taken) = run(alloc, script.as_str(), 4096, 0)?;
     assert!(rt; status == Status::Done);
-    assert_eq!(rt; taken.len(), 30_011);
-    assert!(rt; taken.as_slice().starts_with(b"ok\nok\n"));
-    assert!(rt; taken.as_slice().ends_with(b"ok\nrefused 17\n"));
+    assert!(rt; taken.as_slice() == replies.as_str().as_bytes());
+    Ok(())
+}
+
+// A thousand points on one line, from left to right, with the replies to their pins and the text of the subdivision.
+fn long_text(alloc: Global) -> Result<(String, String), Fail> {
+    let mut script = String::new(alloc);
+    let mut replies = String::new(alloc);
+    let mut vertices = String::new(alloc);
+    let mut isolated = String::new(alloc);
+    for k in 0..1_000u64 {
+        let x = 1_000_000_000_000_000_000 + k;
+        let (y, w) = ("-9000000000000000001", "8796093022207");
+        write!(script, "pin {x} {y} {w}\n")?;
+        write!(replies, "ok\n")?;
+        write!(vertices, "v {} {x} {y} {w} pin :\n", k + 1)?;
+        write!(isolated, "p {}\n", k + 1)?;
+    }
+    write!(script, "show\n")?;
+    write!(
+        replies,
+        "arrangement 1000 0 1\n{vertices}f 0\n{isolated}end\n"
+    )?;
+    Ok((script, replies))
+}
+
+#[test]
+fn long_texts_are_shown(rt: HostRuntime) -> Result<(), Fail> {
+    let (script, replies) = long_text(rt.alloc())?;
+    assert!(rt; replies.len() > 65_536 + 3_000);
+    let (status, taken) = run(rt.alloc(), script.as_str(), 4096, 0)?;
+    assert!(rt; status == Status::Done);
+    assert!(rt; taken.as_slice() == replies.as_str().as_bytes());
     Ok(())
 }
 

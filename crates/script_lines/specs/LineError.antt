@@ -1,5 +1,5 @@
--- The numbers of the refusals.
-use Rattle.std.specs.Prelude.{ℕ}
+-- The numbers of the refusals, and their words.
+use Rattle.std.specs.Prelude.{ℕ, List, codes}
 use Rattle.script_lines.specs.declared.error.LineError.{LineError}
 use Rattle.script_lines.specs.declared.error.LineError.TheVariants.{Word, Count, Number, Range, Long, Byte}
 
@@ -11,3 +11,12 @@ refusal_number Number = 3
 refusal_number Range = 4
 refusal_number Long = 5
 refusal_number Byte = 6
+
+-- what is wrong with the line, in words
+abbrev pub error_text : LineError → List ℕ
+error_text Word = codes "the first word isn't a command"
+error_text Count = codes "the count of words isn't one that the command has"
+error_text Number = codes "a word in a number's place isn't a number"
+error_text Range = codes "a number is out of its range"
+error_text Long = codes "the line has more than 200 bytes"
+error_text Byte = codes "a byte of the line is outside 32 to 126"

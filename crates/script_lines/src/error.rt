@@ -1,5 +1,8 @@
-ghost use Rattle.std.specs.Prelude.{◌≡◌};
-ghost use Rattle.script_lines.specs.LineError.{refusal_number};
+ghost use Rattle.std.specs.Prelude.{◌≡◌, Some};
+ghost use Rattle.script_lines.specs.LineError.{refusal_number, error_text};
+
+use std::error::Error;
+use std::fmt;
 
 /// Why a line is no command.
 ///
@@ -35,4 +38,28 @@ impl LineError {
             LineError::Byte => 6,
         }
     }
+
+    // What is wrong with the line, in words.
+    fn text(self) -> &'static str
+        ensures { result.now ≡ error_text self }
+    {
+        match self {
+            LineError::Word => "the first word isn't a command",
+            LineError::Count => "the count of words isn't one that the command has",
+            LineError::Number => "a word in a number's place isn't a number",
+            LineError::Range => "a number is out of its range",
+            LineError::Long => "the line has more than 200 bytes",
+            LineError::Byte => "a byte of the line is outside 32 to 126",
+        }
+    }
 }
+
+impl fmt::Display for LineError {
+    ghost output = { λ error. Some (error_text error) };
+
+    fn fmt<W: fmt::Write>(&self, f: &mut fmt::Formatter<W>) -> fmt::Result {
+        f.write_str(self.text())
+    }
+}
+
+impl Error for LineError {}

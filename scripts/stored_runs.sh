@@ -1,0 +1,48 @@
+#!/usr/bin/env bash
+# Runs of the program `planar` beside the one that `rt ci` makes: words outside the grammar, an empty script, and a
+# script of one line. It takes the program's path; without one, the program that `rt ci` left, or else what `rt run`
+# builds, is run.
+set -u
+cd "$(dirname "$0")/.." || exit 1
+
+program=${1:-crates/planar/out/planar}
+if [ ! -x "$program" ] && [ $# -eq 0 ]; then
+    (cd crates/planar && rt run </dev/null >/dev/null)
+fi
+if [ ! -x "$program" ]; then
+    echo "stored runs: there is no program $program" >&2
+    exit 1
+fi
+
+wrote=$(mktemp)
+wanted=$(mktemp)
+trap 'rm -f "$wrote" "$wanted"' EXIT
+failed=0
+
+# check NAME STATUS SCRIPT REPLIES WORD..: the program with these words, run on the script, ends with this status, and
+# writes the replies and no byte more.
+check() {
+    local name=$1 status=$2 script=$3 replies=$4
+    shift 4
+    printf '%s' "$replies" >"$wanted"
+    printf '%s' "$script" | timeout 60 "$program" "$@" >"$wrote" 2>/dev/null
+    local ended=${PIPESTATUS[1]}
+    if [ "$ended" -ne "$status" ]; then
+        echo "stored runs: $name: it ended with status $ended in place of $status" >&2
+        failed=1
+    fi
+    if ! cmp -s "$wrote" "$wanted"; then
+        echo "stored runs: $name: it wrote something else:" >&2
+        diff "$wanted" "$wrote" >&2
+        failed=1
+    fi
+}
+
+check 'a wrong word' 2 '' $'usage: planar\n' wrong
+check 'a wrong word before a script' 2 $'show\n' $'usage: planar\n' wrong
+check 'two wrong words' 2 '' $'usage: planar\n' wrong words
+check 'an empty script' 0 '' ''
+check 'one line' 0 $'show\n' $'arrangement 0 0 1\nf 0\nend\n'
+
+[ "$failed" -eq 0 ] && echo 'stored runs: all as wanted'
+exit "$failed"
