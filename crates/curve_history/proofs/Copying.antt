@@ -159,7 +159,7 @@ pub room_on : (room before after all now next : ℕ) → room + before ≤ now +
 room_on room before after all now next h g e = omega arith
 
 pub same_keys : (c : Chained) → AreSameKeys c c
-same_keys c = record { keys = λ k. (λ h. h, λ h. h); room = omega arith }
+same_keys c = record { keys = λ k. (λ h. h, λ h. h); room = omega arith; capacity = refl }
 
 pub keys_on : (a b c : Chained) → AreSameKeys a b → AreSameKeys b c → AreSameKeys a c
-keys_on a b c p q = record { keys = λ k. (λ h. (q.keys k).0 ((p.keys k).0 h), λ h. (p.keys k).1 ((q.keys k).1 h)); room = let r = p.room in let s = q.room in omega arith }
+keys_on a b c p q = record { keys = λ k. (λ h. (q.keys k).0 ((p.keys k).0 h), λ h. (p.keys k).1 ((q.keys k).1 h)); room = let r = p.room in let s = q.room in omega arith; capacity = q.capacity ∙ p.capacity }

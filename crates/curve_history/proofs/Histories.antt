@@ -1,5 +1,5 @@
 -- What the changes of pairs make of a history.
-use Rattle.std.proofs.Common.{◌≡◌, ◌≢◌, ⊎_elim, inl, inr, ℕ, suc, ◌+◌, ◌-◌, ◌≤◌, ◌==◌, vec_capacity, vec_len, cond, not, List, [], ◌∷◌, length, map, Option, Some, Result, Ok, Err, IfOk, refl, sym, ap, subst, ◌∙◌, Ordering, Less, Equal, Greater, arith}
+use Rattle.std.proofs.Common.{◌≡◌, ◌≢◌, ⊎_elim, inl, inr, ℕ, suc, ◌+◌, ◌-◌, ◌≤◌, ◌==◌, vec_capacity, vec_len, cond, not, List, [], ◌∷◌, length, map, Option, Some, refl, sym, ap, subst, ◌∙◌, Ordering, Less, Equal, Greater, arith}
 use Rattle.std.specs.declared.vec.Vec.{Vec}
 use Rattle.std.specs.List.{filter}
 use Rattle.std.specs.Ordering.{nat_cmp, match_ordering}
@@ -132,9 +132,12 @@ pub record IsSeen (i : Inside) (seen : Past) : Type 0 where
   pub spare_names : seen.spare_names ≡ i.by_curve.spare_keys
   pub spare_pieces : seen.spare_pieces ≡ vec_capacity i.pieces - vec_len i.pieces
   pub spare_pairs : seen.spare_pairs ≡ pair_room i.by_edge i.by_curve
+  pub capacity_by_edge : seen.capacity_by_edge ≡ i.by_edge.capacity_of_nodes
+  pub capacity_by_curve : seen.capacity_by_curve ≡ i.by_curve.capacity_of_nodes
+  pub capacity_of_pieces : seen.capacity_of_pieces ≡ vec_capacity i.pieces
 
 pub sees : (i : Inside) (seen : Past) → past i.by_edge i.by_curve i.pieces i.next ≡ seen → IsSeen i seen
-sees i seen h = subst (IsSeen i) h (record { pairs = refl; names = refl; pieces = refl; next = refl; spare_names = refl; spare_pieces = refl; spare_pairs = refl })
+sees i seen h = subst (IsSeen i) h (record { pairs = refl; names = refl; pieces = refl; next = refl; spare_names = refl; spare_pieces = refl; spare_pairs = refl; capacity_by_edge = refl; capacity_by_curve = refl; capacity_of_pieces = refl })
 
 module _ (i : Inside) (old : Past) (v : IsSeen i old) where
   held_old : (x : DartId) → held old x ≡ listed i.by_edge x.0
@@ -238,9 +241,8 @@ module _ (i : Inside) (old : Past) (v : IsSeen i old) where
   room_after t d w now h = subst (λ n. pair_room i.by_edge i.by_curve ≤ now + n) (sym (held_length i old v t d w)) h
 
 -- as many as nodes in the chain
-pub counted_held : {E : Type 0} (i : Inside) (old : Past) → IsSeen i old → ArePairs i.by_edge i.by_curve → (d : DartId) → IsWhole i.by_edge d.0 → (r : Result ℕ E) → IfOk r (λ n. n ≡ length (chain i.by_edge d.0)) → IfOk r (λ n. n ≡ length (held old d))
-counted_held i old v t d w (Ok n) e = e ∙ sym (held_length i old v t d w)
-counted_held i old v t d w (Err x) e = tt
+pub counted_held : (i : Inside) (old : Past) → IsSeen i old → ArePairs i.by_edge i.by_curve → (d : DartId) → IsWhole i.by_edge d.0 → (n : ℕ) → n ≡ length (chain i.by_edge d.0) → n ≡ length (held old d)
+counted_held i old v t d w n e = e ∙ sym (held_length i old v t d w)
 
 -- what is said of both edges tells whether they have the same curves
 pub all_held : (i : Inside) (old : Past) → IsSeen i old → (d n : DartId) → HasAll i.by_edge d.0 n.0 → HasAll i.by_edge n.0 d.0 → held old d ≡ held old n

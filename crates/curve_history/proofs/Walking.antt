@@ -292,6 +292,13 @@ count_on c k n count more before at w b s m f =
     let q : count + suc (length (left (chain c k) (comes_after (chain c k) n))) ≡ length (chain c k) = subst (λ xs. count + length xs ≡ length (chain c k)) g.left_is s'.rest in
     subst (IsCounted c k more) (sym (f (entry k (item_in c n) t.0) t.1)) (record { here = g.at; rest = omega arith })
 
+pub count_within : (c : Chained) (k n count : ℕ) (at : Option ℕ) → IsWhole c k → at ≡ Some n → IsCounted c k count at → count < length (chain c k)
+count_within c k n count at w b s =
+    let s' : IsCounted c k count (Some n) = subst (IsCounted c k count) b s in
+    let g : IsStepped (chain c k) n = stepped (chain c k) n (apart (chain c k) w.once) s'.here in
+    let q : count + suc (length (left (chain c k) (comes_after (chain c k) n))) ≡ length (chain c k) = subst (λ xs. count + length xs ≡ length (chain c k)) g.left_is s'.rest in
+    omega arith
+
 pub all_counted : (c : Chained) (k count : ℕ) (at : Option ℕ) → at ≡ None → IsCounted c k count at → count ≡ length (chain c k)
 unfolding left
 all_counted c k count at e s =

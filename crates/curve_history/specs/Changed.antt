@@ -5,10 +5,11 @@ use Rattle.linked_chains.specs.Chains.{Chained, HasKey, entry_at, chain}
 use Rattle.linked_chains.specs.declared.node.Entry.{Entry}
 use Rattle.curve_history.specs.Kept.{Says}
 
--- both have the same keys, and the new ones no less room for more
+-- both have the same keys, and the new ones no less room for more; as many nodes fit in all
 pub record AreSameKeys (old new : Chained) : Type 0 where
   pub keys : (k : ℕ) → HasKey old k ↔ HasKey new k
   pub room : old.spare_keys ≤ new.spare_keys
+  pub capacity : new.capacity_of_nodes ≡ old.capacity_of_nodes
 
 -- one more pair is said, and every old node stays
 pub record IsPairMore (old new : Chained) (edge curve : ℕ) : Type 0 where

@@ -77,6 +77,9 @@ past edges curves pieces next = record {
   spare_names = curves.spare_keys;
   spare_pieces = vec_capacity pieces - vec_len pieces;
   spare_pairs = pair_room edges curves;
+  capacity_by_edge = edges.capacity_of_nodes;
+  capacity_by_curve = curves.capacity_of_nodes;
+  capacity_of_pieces = vec_capacity pieces;
 }
 
 -- the pairs are twins, said once; the edges with a key are those with curves; the numbers of curves are below the next one; and there are fewer than 2^32 pieces (this project)

@@ -6,7 +6,7 @@ use Rattle.plane_graphs.specs.Ascending.{ascending}
 use Rattle.plane_graphs.specs.Piece.{Piece}
 use Rattle.slab_laws.specs.declared.names.DartId.{DartId}
 
--- pairs of an edge, by the name of its dart from the lower to the upper end, and a curve along it; the numbers of the named curves, ascending; the pieces, in the order in which they came; the number that the next curve gets; and how many more of each fit with no memory (CGAL manual, arrangements with history)
+-- pairs of an edge, by the name of its dart from the lower to the upper end, and a curve along it; the numbers of the named curves, ascending; the pieces, in the order in which they came; the number that the next curve gets; how many more of each fit with no memory; and how many pairs, by edge and by curve, and how many pieces fit in all (CGAL manual, arrangements with history)
 pub record Past : Type 0 where
   pub pairs : List (ℕ × ℕ)
   pub names : List ℕ
@@ -15,6 +15,9 @@ pub record Past : Type 0 where
   pub spare_names : ℕ
   pub spare_pieces : ℕ
   pub spare_pairs : ℕ
+  pub capacity_by_edge : ℕ
+  pub capacity_by_curve : ℕ
+  pub capacity_of_pieces : ℕ
 
 -- the curves along the edge of a dart, ascending; none for other names
 unfoldable pub held : Past → DartId → List ℕ
@@ -35,3 +38,9 @@ pub record IsSpare (less more : Past) (names pieces pairs : ℕ) : Type 0 where
   pub of_names : less.spare_names + names ≤ more.spare_names
   pub of_pieces : less.spare_pieces + pieces ≤ more.spare_pieces
   pub of_pairs : less.spare_pairs + pairs ≤ more.spare_pairs
+
+-- as many pairs and pieces fit in all: no memory was taken for them, and none was given back (this project)
+pub record SameHistoryCapacity (old new : Past) : Type 0 where
+  pub by_edge : new.capacity_by_edge ≡ old.capacity_by_edge
+  pub by_curve : new.capacity_by_curve ≡ old.capacity_by_curve
+  pub of_pieces : new.capacity_of_pieces ≡ old.capacity_of_pieces

@@ -3,7 +3,7 @@ ghost use Rattle.std.specs.List.{filter};
 ghost use Rattle.std.specs.Ordering.{nat_cmp};
 ghost use Rattle.plane_graphs.specs.Ascending.{Member, place};
 ghost use Rattle.plane_graphs.specs.Graph.{same_curve};
-ghost use Rattle.curve_history.specs.Past.{held, SameLayer, IsSpare};
+ghost use Rattle.curve_history.specs.Past.{held, SameLayer, SameHistoryCapacity, IsSpare};
 
 use crate::history::History;
 use crate::pairs::{hold_pair, tidy};
@@ -29,6 +29,7 @@ impl History {
         ensures curves { (x : _) → held self.new x ≡ cond (x.0 == d.0) (filter (λ k. not (same_curve k curve.0)) (held self.old x)) (held self.old x) }
         ensures layer { SameLayer self.old self.new }
         ensures spare { IsSpare self.old self.new 0 0 0 }
+        ensures capacity { SameHistoryCapacity self.old self.new }
     {
         release_one(&mut self.by_edge, &mut self.by_curve, d.0, curve.0 as usize);
         tidy(&mut self.by_edge, d.0);
@@ -39,6 +40,7 @@ impl History {
         ensures curves { (x : _) → held self.new x ≡ cond (x.0 == d.0) [] (held self.old x) }
         ensures layer { SameLayer self.old self.new }
         ensures spare { IsSpare self.old self.new 0 0 0 }
+        ensures capacity { SameHistoryCapacity self.old self.new }
     {
         release_each(&mut self.by_edge, &mut self.by_curve, d.0);
         tidy(&mut self.by_edge, d.0);
@@ -64,6 +66,7 @@ impl History {
         ensures curves { (x : _) → held self.new x ≡ cond (x.0 == n.0) [] (held self.old x) }
         ensures layer { SameLayer self.old self.new }
         ensures spare { IsSpare self.old self.new 0 0 0 }
+        ensures capacity { SameHistoryCapacity self.old self.new }
     {
         self.release_all(n);
     }

@@ -1,6 +1,7 @@
 use linked_chains::Chains;
 use slab_laws::Piece;
 use std::marker::Model;
+use thiserror::Error;
 
 /// The last number that a curve can get.
 pub const LAST_CURVE: u32 = u32::MAX;
@@ -19,11 +20,13 @@ pub struct History {
 }
 
 /// Why the edges of a curve can't be told.
-#[derive(Clone, Copy, Debug, PartialEq, Eq)]
+#[derive(Clone, Copy, Debug, PartialEq, Eq, Error)]
 pub enum HistoryError {
     /// No curve has this number.
+    #[error("no curve has this number")]
     Unknown,
     /// There was no memory for the answer.
+    #[error("no memory")]
     NoMemory,
 }
 

@@ -7,7 +7,7 @@ ghost use Rattle.plane_graphs.specs.Graph.{same_curve};
 ghost use Rattle.slab_laws.specs.Pieces.{piece_of};
 ghost use Rattle.curve_history.specs.Changed.{IsRoomier};
 ghost use Rattle.curve_history.specs.Kept.{number_of, pair_room};
-ghost use Rattle.curve_history.specs.Past.{held, SameCurves, SameLayer, IsSpare};
+ghost use Rattle.curve_history.specs.Past.{held, SameCurves, SameLayer, SameHistoryCapacity, IsSpare};
 
 use crate::cuts::{count_all, cut_each, leaves_rest};
 use crate::history::{History, HistoryError, LAST_CURVE};
@@ -28,6 +28,7 @@ fn reserve_pairs(
 ) -> Result<(), NoMemory>
     ensures names { OnOk result (names ≤ curves.new.spare_keys) }
     ensures pairs { OnOk result (pairs ≤ pair_room edges.new curves.new) }
+    ensures succeeds { names ≤ curves.old.spare_keys → pairs ≤ pair_room edges.old curves.old → IsOk result }
     ensures by_edge { IsRoomier edges.old edges.new }
     ensures by_curve { IsRoomier curves.old curves.new }
 {
@@ -77,6 +78,7 @@ impl History {
         ensures names { OnOk result (names ≤ self.new.spare_names) }
         ensures pieces { OnOk result (pieces ≤ self.new.spare_pieces) }
         ensures nodes { OnOk result (nodes ≤ self.new.spare_pairs) }
+        ensures succeeds { names ≤ self.old.spare_names → pieces ≤ self.old.spare_pieces → nodes ≤ self.old.spare_pairs → IsOk result }
         ensures layer { SameLayer self.old self.new }
         ensures curves { SameCurves self.old self.new }
         ensures keeps { IsSpare self.old self.new 0 0 0 }
@@ -86,13 +88,15 @@ impl History {
         Ok(())
     }
 
-    /// What is true of all histories: curves along edges have names, which ascend and are below the next number.
+    /// What is true of all histories: curves along edges have names, which ascend and are below the next number, and a `usize`
+    /// counts the room for more pairs.
     pub fn laws(&self)
         ensures named { (d : _) (k : _) → Member k (held self.now d) → Member k self.now.names }
         ensures ascend { IsAscending nat_cmp self.now.names }
         ensures numbers { (k : _) → Member k self.now.names → (1 ≤ k) × (k < self.now.next) }
         ensures next { self.now.next ≤ LAST_CURVE + 1 }
         ensures few { length self.now.pieces < 2 ^ 32 }
+        ensures spare { self.now.spare_pairs < 2 ^ 64 }
     {
         self.by_curve.laws();
     }
@@ -168,6 +172,7 @@ impl History {
         ensures next { self.new.next ≡ self.old.next }
         ensures curves { SameCurves self.old self.new }
         ensures keeps { IsSpare self.old self.new 0 0 0 }
+        ensures capacity { SameHistoryCapacity self.old self.new }
     {
         // No node is left in its chain.
         self.by_curve.laws();
@@ -199,9 +204,9 @@ impl History {
         self.by_edge.has_key(d.0)
     }
 
-    /// How many curves run along an edge. It takes no memory; the error stands for a number past `usize`.
-    pub fn count_on(&self, d: DartId) -> Result<usize, NoMemory>
-        ensures { IfOk result (λ n. n ≡ length (held self.now d)) }
+    /// How many curves run along an edge. It takes no memory.
+    pub fn count_on(&self, d: DartId) -> usize
+        ensures { result ≡ length (held self.now d) }
     {
         // Each curve is one node.
         self.by_edge.laws();
@@ -267,6 +272,7 @@ impl History {
         ensures pieces { self.new.pieces ≡ [] }
         ensures next { self.new.next ≡ self.old.next }
         ensures keeps { IsSpare self.old self.new 0 0 0 }
+        ensures capacity { SameHistoryCapacity self.old self.new }
     {
         self.by_edge.clear();
         self.by_curve.clear();

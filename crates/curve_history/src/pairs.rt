@@ -62,6 +62,7 @@ pub(crate) fn release_pair(edges: &mut Chains, curves: &mut Chains, node: usize)
     ensures pairs { ArePairs edges.new curves.new }
     ensures less { (k i t : _) → entry_at edges.old node ≡ Some (entry k i t) → IsPairLess edges.old edges.new node k i }
     ensures named { AreSameKeys curves.old curves.new }
+    ensures capacity { edges.new.capacity_of_nodes ≡ edges.old.capacity_of_nodes }
     ensures room { pair_room edges.old curves.old ≤ pair_room edges.new curves.new }
 {
     let twin = edges.entry(node).twin;
@@ -76,6 +77,7 @@ fn drop_key(edges: &mut Chains, edge: usize)
     ensures nodes { edges.new.nodes ≡ edges.old.nodes }
     ensures spare_keys { edges.old.spare_keys ≤ edges.new.spare_keys }
     ensures spare_nodes { edges.new.spare_nodes ≡ edges.old.spare_nodes }
+    ensures capacity { edges.new.capacity_of_nodes ≡ edges.old.capacity_of_nodes }
 {
     if edges.has_key(edge) {
         edges.remove_key(edge);
@@ -89,6 +91,7 @@ pub(crate) fn tidy(edges: &mut Chains, edge: usize)
     ensures nodes { edges.new.nodes ≡ edges.old.nodes }
     ensures spare_keys { edges.old.spare_keys ≤ edges.new.spare_keys }
     ensures spare_nodes { edges.new.spare_nodes ≡ edges.old.spare_nodes }
+    ensures capacity { edges.new.capacity_of_nodes ≡ edges.old.capacity_of_nodes }
 {
     edges.laws();
     if edges.first(edge).is_none() {

@@ -42,21 +42,19 @@ pub(crate) fn has_all(edges: &Chains, edge: usize, other: usize) -> bool
     true
 }
 
-/// How many curves run along an edge; no number is large enough only where no memory is.
-pub(crate) fn count_along(edges: &Chains, edge: usize) -> Result<usize, NoMemory>
-    ensures { IfOk result (λ n. n ≡ length (chain edges.now edge)) }
+/// How many curves run along an edge.
+pub(crate) fn count_along(edges: &Chains, edge: usize) -> usize
+    ensures { result ≡ length (chain edges.now edge) }
 {
+    // A `usize` counts the nodes of a chain.
     edges.laws();
-    let mut count: usize = 0;
+    let mut count = 0;
     let mut at = edges.first(edge);
     'walk: while let Some(node) = at {
-        let Some(more) = count.checked_add(1) else {
-            return Err(NoMemory);
-        };
-        count = more;
+        count += 1;
         at = edges.after(node);
     }
-    Ok(count)
+    count
 }
 
 /// One pair fewer.
@@ -65,6 +63,7 @@ pub(crate) fn release_one(edges: &mut Chains, curves: &mut Chains, edge: usize, 
     ensures pairs { ArePairs edges.new curves.new }
     ensures less { IsOneLess edges.old edges.new edge curve }
     ensures named { AreSameKeys curves.old curves.new }
+    ensures capacity { edges.new.capacity_of_nodes ≡ edges.old.capacity_of_nodes }
     ensures room { pair_room edges.old curves.old ≤ pair_room edges.new curves.new }
 {
     if let Some(node) = find(edges, edge, curve) {
@@ -79,6 +78,7 @@ pub(crate) fn release_each(edges: &mut Chains, curves: &mut Chains, edge: usize)
     ensures none { (i : _) → ¬ Says edges.new edge i }
     ensures less { IsEmptied edges.old edges.new edge }
     ensures named { AreSameKeys curves.old curves.new }
+    ensures capacity { edges.new.capacity_of_nodes ≡ edges.old.capacity_of_nodes }
     ensures room { pair_room edges.old curves.old ≤ pair_room edges.new curves.new }
 {
     'each: while let Some(node) = edges.first(edge) {

@@ -61,4 +61,6 @@ less_spare vs ds s t h u v a b x y is f g l room cs m ct =
     let e : slab_len (with_value (with_value vs u (row_out a x)) v (row_out b y)) ≡ slab_len vs = second ∙ first in
     let z = ap (λ k. k.spare_vertices) is in
     let w = ap (λ k. k.spare_darts) is in
-    record { of_vertices = omega arith; of_darts = omega arith }
+    let p = ap (λ k. k.capacity_of_vertices) is in
+    let q = ap (λ k. k.capacity_of_darts) is in
+    record { of_vertices = omega arith; of_darts = omega arith; capacity_of_vertices = omega arith; capacity_of_darts = omega arith }

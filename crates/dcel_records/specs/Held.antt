@@ -6,20 +6,29 @@ use Rattle.slab_laws.specs.declared.names.VertexId.{VertexId}
 use Rattle.slab_laws.specs.Tables.{row_at}
 use Rattle.slab_laws.specs.View.{View, target_in}
 
--- the vertices and darts by name, and how many more of each fit with no memory (this project)
+-- the vertices and darts by name, how many more of each fit with no memory, and how many fit in all (this project)
 pub record Held : Type 0 where
   pub graph : View
   pub spare_vertices : ℕ
   pub spare_darts : ℕ
+  pub capacity_of_vertices : ℕ
+  pub capacity_of_darts : ℕ
 
 -- the graph alone
 abbrev pub graph_of : Held → View
 graph_of h = h.graph
 
--- the second has room for so many vertices and darts more than the first (this project)
+-- the second has room for so many vertices and darts more than the first, and as many fit in all (this project)
 pub record IsSpare (less more : Held) (vertices darts : ℕ) : Type 0 where
   pub of_vertices : more.spare_vertices ≡ less.spare_vertices + vertices
   pub of_darts : more.spare_darts ≡ less.spare_darts + darts
+  pub capacity_of_vertices : more.capacity_of_vertices ≡ less.capacity_of_vertices
+  pub capacity_of_darts : more.capacity_of_darts ≡ less.capacity_of_darts
+
+-- as many vertices and darts fit in all: no memory was taken, and none was given back (this project)
+pub record SameRecordCapacity (old new : Held) : Type 0 where
+  pub of_vertices : new.capacity_of_vertices ≡ old.capacity_of_vertices
+  pub of_darts : new.capacity_of_darts ≡ old.capacity_of_darts
 
 -- the point of a vertex that has a record (CGAL manual, the point of a vertex)
 abbrev pub point_found : View → VertexId → Option Point

@@ -26,9 +26,9 @@ dart_of r = record { source = r.source; twin = r.twin; next = r.next; line = r.l
 abbrev pub graph_in : Slab VertexRow → Slab DartRow → View
 graph_in vs ds = record { vertices = tabled vertex_of vs; darts = tabled dart_of ds }
 
--- the graph, and the room that the two slabs have left
+-- the graph, the room that the two slabs have left, and all that they have room for
 abbrev pub held : Slab VertexRow → Slab DartRow → Held
-held vs ds = record { graph = graph_in vs ds; spare_vertices = vs.capacity - slab_len vs; spare_darts = ds.capacity - slab_len ds }
+held vs ds = record { graph = graph_in vs ds; spare_vertices = vs.capacity - slab_len vs; spare_darts = ds.capacity - slab_len ds; capacity_of_vertices = vs.capacity; capacity_of_darts = ds.capacity }
 
 -- the dart out that a row keeps, if there is a row that keeps one
 abbrev pub out_or : Option VertexRow → Option DartId

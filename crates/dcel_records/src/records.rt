@@ -2,6 +2,7 @@ ghost use Rattle.std.specs.Prelude.{◌≡◌, ◌*◌, ◌+◌, ◌≤◌, leng
 ghost use Rattle.slab_laws.specs.Sound.{IsNamed, IsTwinned};
 ghost use Rattle.slab_laws.specs.View.{HasVertex, HasDart, source_in};
 ghost use Rattle.view_changes.specs.Writers.{no_rows};
+ghost use Rattle.dcel_records.specs.Held.{SameRecordCapacity};
 
 use crate::rows::{DartRow, VertexRow};
 use no_memory::NoMemory;
@@ -61,10 +62,14 @@ impl Records {
     pub fn reserve(&mut self, room: Room) -> Result<(), NoMemory>
         ensures vertices { OnOk result (room.vertices ≤ self.new.spare_vertices) }
         ensures darts { OnOk result (2 * room.edges ≤ self.new.spare_darts) }
+        ensures succeeds { room.vertices ≤ self.old.spare_vertices → 2 * room.edges ≤ self.old.spare_darts → IsOk result }
         ensures graph { self.new.graph ≡ self.old.graph }
         ensures keeps_vertices { self.old.spare_vertices ≤ self.new.spare_vertices }
         ensures keeps_darts { self.old.spare_darts ≤ self.new.spare_darts }
     {
+        // What is spare is all that the slabs can hold less what they hold, and a `usize` counts it.
+        let _vertices = self.vertices.capacity();
+        let _darts = self.darts.capacity();
         match room.edges.checked_mul(2) {
             None => Err(NoMemory),
             Some(darts) => {
@@ -80,6 +85,7 @@ impl Records {
         ensures graph { self.new.graph ≡ no_rows }
         ensures vertices { self.old.spare_vertices + length self.old.graph.vertices ≤ self.new.spare_vertices }
         ensures darts { self.old.spare_darts + length self.old.graph.darts ≤ self.new.spare_darts }
+        ensures capacity { SameRecordCapacity self.old self.new }
     {
         // What is spare then is all that the slabs can hold, which is no less than what they held.
         let _vertices = self.vertices.capacity();

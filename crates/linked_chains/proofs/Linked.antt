@@ -1,5 +1,5 @@
 -- Linked lists over a function of nodes: what their links say, and that going along them gives the list.
-use Rattle.std.proofs.Common.{◌≡◌, ◌≢◌, ◌⊎◌, inl, inr, ℕ, zero, suc, ◌≤◌, List, [], ◌∷◌, length, Option, Some, refl, sym, ap, subst, ◌∙◌, arith, Contains}
+use Rattle.std.proofs.Common.{◌≡◌, ◌≢◌, ◌⊎◌, inl, inr, ℕ, zero, suc, ◌≤◌, List, [], ◌∷◌, length, Option, Some, None, refl, sym, ap, subst, ◌∙◌, arith, Contains}
 use Rattle.std.proofs.lemmas.Bool.{cases_eq}
 use Rattle.slab.proofs.SlabLemmas.{Contains-cons_cases}
 use Rattle.linked_chains.specs.declared.node.Node.{Node}
@@ -18,6 +18,14 @@ trail_is node after is p s [] zero l h = rw l refl
 trail_is node after is p s [] (suc steps) l h = rw l refl
 trail_is node after is p s (x ∷ xs) zero l h = absurd (omega arith)
 trail_is node after is p s (x ∷ xs) (suc steps) l h = rw (l.0) (ap (λ ys. x ∷ ys) (rw (is x) (trail_is node after is (Some x) (after_at node x) xs steps l.2 (omega arith))))
+
+-- going along the links gives no more nodes than steps
+pub trail_within : (after : ℕ → Option ℕ) (steps : ℕ) (s : Option ℕ) → length (trail after steps s) ≤ steps
+unfolding trail
+trail_within after zero None = omega arith
+trail_within after (suc steps) None = omega arith
+trail_within after zero (Some n) = omega arith
+trail_within after (suc steps) (Some n) = let h = trail_within after steps (after n) in omega arith
 
 -- the node after one of the list is the one that comes after it there
 pub after_is : (node : ℕ → Option Node) (p s : Option ℕ) (xs : List ℕ) (n : ℕ) → IsLinked node p s xs → Contains xs n → IsOnce xs → after_at node n ≡ comes_after xs n

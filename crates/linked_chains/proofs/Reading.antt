@@ -4,17 +4,17 @@ use Rattle.std.specs.List.{AllByRecursion}
 use Rattle.std.specs.Map.{lookup}
 use Rattle.std.proofs.Math.ListN.{length-map}
 use Rattle.std.proofs.lemmas.Bool.{cases_eq}
-use Rattle.slab.specs.Slab.{Slab, get, entries, entries_from}
-use Rattle.slab.proofs.SlabLemmas.{Contains-entries, Contains-cons_cases}
+use Rattle.slab.specs.Slab.{Slab, get, entries, entries_from, slab_len}
+use Rattle.slab.proofs.SlabLemmas.{Contains-entries, Contains-cons_cases, length-entries}
 use Rattle.slab_laws.specs.Tables.{row_at, names, NamesAscend}
 use Rattle.indexmap.specs.IndexMap.{IndexMap}
 use Rattle.view_changes.proofs.RowLaws.{absent}
 use Rattle.linked_chains.specs.declared.node.Entry.{Entry}
 use Rattle.linked_chains.specs.declared.node.Node.{Node}
-use Rattle.linked_chains.specs.Chains.{Link, chain, entry_at, HasKey, IsWhole, first_or, after_in, head_of, comes_after}
+use Rattle.linked_chains.specs.Chains.{Link, trail, chain, entry_at, HasKey, IsWhole, first_or, after_in, head_of, comes_after}
 use Rattle.linked_chains.specs.Kept.{link_of, linked_nodes, chained, after_at, key_at, IsListed, IsKept}
 use Rattle.linked_chains.proofs.Distinct.{same, other, here, there, once_from_distinct, no_more}
-use Rattle.linked_chains.proofs.Linked.{trail_is, head_is, after_is}
+use Rattle.linked_chains.proofs.Linked.{trail_is, trail_within, head_is, after_is}
 
 -- ---- a slab's nodes by name
 abbrev from : ℕ → List (Option Node) → List (ℕ × Link)
@@ -144,3 +144,11 @@ module _ {S : Type 0} (heads : IndexMap ℕ (Option ℕ) S) (nodes : Slab Node) 
     next_is n x q =
         let l = listed x.entry.key in
         ap (λ o. first_or (option_map (λ z. z.after) o)) (sym q) ∙ after_is (get nodes) None _ (chain (chained heads nodes) x.entry.key) n l.linked ((l.members n).1 (ap (option_map (λ z. z.entry.key)) q)) (once_from_distinct _ l.once)
+
+-- no chain has more nodes than the slab
+pub chain_within : {S : Type 0} (hs : IndexMap ℕ (Option ℕ) S) (ns : Slab Node) (k : ℕ) → length (chain (chained hs ns) k) ≤ slab_len ns
+unfolding chain
+chain_within hs ns k =
+    let e : length (linked_nodes ns) ≡ slab_len ns = count_nodes ns ∙ length-entries ns in
+    let h = trail_within (after_in (chained hs ns)) (length (linked_nodes ns)) (first_or (row_at hs.entries k)) in
+    subst (λ m. length (trail (after_in (chained hs ns)) (length (linked_nodes ns)) (first_or (row_at hs.entries k))) ≤ m) e h

@@ -1,17 +1,17 @@
 -- What a caller sees of chains, read from their heads and nodes, and what it sees after each change.
-use Rattle.std.proofs.Common.{◌≡◌, ◌≢◌, ◌⊎◌, ◌↔◌, inl, ℕ, suc, ◌+◌, nat_eq, true, List, [], ◌∷◌, ◌++◌, length, slice_index_or, Option, Some, None, is_some, IsSome, option_map, if◌then◌else◌, Result, Ok, OnOk, refl, sym, ap, subst, ◌∙◌, arith, Contains}
+use Rattle.std.proofs.Common.{◌≡◌, ◌≢◌, ◌⊎◌, ◌↔◌, inl, ℕ, suc, ◌+◌, ◌≤◌, nat_eq, true, List, [], ◌∷◌, ◌++◌, length, slice_index_or, Option, Some, None, is_some, IsSome, option_map, if◌then◌else◌, Result, Ok, OnOk, refl, sym, ap, subst, ◌∙◌, arith, Contains}
 use Rattle.std.specs.List.{IsDistinct}
 use Rattle.std.specs.HashMap.{Updates as UpdatesKey}
 use Rattle.std.specs.Map.{lookup}
 use Rattle.indexmap.specs.IndexMap.{IndexMap, insert_entry}
-use Rattle.slab.specs.Slab.{Slab, get}
+use Rattle.slab.specs.Slab.{Slab, get, slab_len}
 use Rattle.slab_laws.specs.Tables.{row_at}
 use Rattle.linked_chains.specs.declared.node.Entry.{Entry}
 use Rattle.linked_chains.specs.declared.node.Node.{Node}
 use Rattle.linked_chains.specs.Chains.{Chained, HasKey, HasNode, entry_at, first_or, chain, IsWhole, head_of, comes_after}
 use Rattle.linked_chains.specs.Kept.{chained, after_at, before_at, key_at, IsLinked, IsListed, AreListed, IsKept}
 use Rattle.linked_chains.proofs.Distinct.{nowhere}
-use Rattle.linked_chains.proofs.Reading.{has_node, row_lookup, entry_is, chain_is, whole, keys, first_is, next_is}
+use Rattle.linked_chains.proofs.Reading.{has_node, row_lookup, entry_is, chain_is, chain_within, whole, keys, first_is, next_is}
 use Rattle.linked_chains.proofs.Listed.{listed_heads, list_same, listed_nodes}
 use Rattle.linked_chains.proofs.Linked.{head_is}
 use Rattle.linked_chains.proofs.Heads.{key_fewer, first_fewer, key_more, first_more, entries_more}
@@ -44,6 +44,9 @@ module _ {S : Type 0} (hs : IndexMap ℕ (Option ℕ) S) (ns : Slab Node) (h : C
 
   pub chain_seen : (k : ℕ) (xs : List ℕ) → IsListed (get ns) (first_or (row_at hs.entries k)) k xs → chain h k ≡ xs
   chain_seen k xs l = ap (λ c. chain c k) (sym is) ∙ chain_is hs ns k xs l
+
+  pub chain_short : (k : ℕ) → length (chain h k) ≤ slab_len ns
+  chain_short k = subst (λ c. length (chain c k) ≤ slab_len ns) is (chain_within hs ns k)
 
   module _ (kept : IsKept hs ns) where
     pub whole_seen : (k : ℕ) → IsWhole h k

@@ -9,12 +9,13 @@ pub record Link : Type 0 where
   pub entry : Entry
   pub after : Option ℕ
 
--- each key with the first node of its chain, the nodes by name, and how many more of each fit with no memory (this project)
+-- each key with the first node of its chain, the nodes by name, how many more of each fit with no memory, and how many nodes fit in all (this project)
 pub record Chained : Type 0 where
   pub heads : List (ℕ × Option ℕ)
   pub nodes : List (ℕ × Link)
   pub spare_keys : ℕ
   pub spare_nodes : ℕ
+  pub capacity_of_nodes : ℕ
 
 -- the key has a chain, which may be empty
 abbrev pub HasKey : Chained → ℕ → Type 0
@@ -70,7 +71,8 @@ pub record SameChains (old new : Chained) : Type 0 where
   pub keys : (k : ℕ) → HasKey old k ↔ HasKey new k
   pub chains : (k : ℕ) → chain new k ≡ chain old k
 
--- the second has room for so many keys and nodes more than the first
+-- the second has room for so many keys and nodes more than the first, and no node more fits in all
 pub record IsSpare (less more : Chained) (keys nodes : ℕ) : Type 0 where
   pub of_keys : less.spare_keys + keys ≤ more.spare_keys
   pub of_nodes : more.spare_nodes ≡ less.spare_nodes + nodes
+  pub capacity : more.capacity_of_nodes ≡ less.capacity_of_nodes

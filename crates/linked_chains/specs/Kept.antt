@@ -16,7 +16,7 @@ unfoldable pub linked_nodes : Slab Node → List (ℕ × Link)
 linked_nodes nodes = map (λ r. (r.0, link_of r.1)) (entries nodes)
 
 abbrev pub chained : {S : Type 0} → IndexMap ℕ (Option ℕ) S → Slab Node → Chained
-chained heads nodes = record { heads = heads.entries; nodes = linked_nodes nodes; spare_keys = spare heads; spare_nodes = nodes.capacity - slab_len nodes }
+chained heads nodes = record { heads = heads.entries; nodes = linked_nodes nodes; spare_keys = spare heads; spare_nodes = nodes.capacity - slab_len nodes; capacity_of_nodes = nodes.capacity }
 
 -- the node after one, the node before it, and the key of its chain, where a name is known to be a node
 abbrev pub after_at : (ℕ → Option Node) → ℕ → Option ℕ

@@ -1,4 +1,4 @@
-ghost use Rattle.std.specs.Prelude.{◌≡◌, ◌≢◌, ◌↔◌, ◌==◌, ◌≤◌, ◌⊎◌, suc, ◌+◌, [], ◌∷◌, ◌++◌, length, not, Some, None, cond, is_some, option_map, IfOk, OnOk};
+ghost use Rattle.std.specs.Prelude.{◌≡◌, ◌≢◌, ◌↔◌, ◌==◌, ◌<◌, ◌≤◌, ◌⊎◌, suc, ◌+◌, ◌^◌, [], ◌∷◌, ◌++◌, length, not, Some, None, cond, is_some, option_map, IsOk, IfOk, OnOk};
 ghost use Rattle.std.specs.List.{filter, IsDistinct};
 ghost use Rattle.slab_laws.specs.Tables.{row_at, names, NamesAscend};
 ghost use Rattle.linked_chains.specs.Chains.{chain, entry_at, HasNode, HasKey, IsWhole, SameChains, IsSpare, head_of, comes_after};
@@ -44,27 +44,33 @@ impl Chains {
         }
     }
 
-    /// What is true of all chains: each has the nodes with its key, each once, each node's key has a chain, and neither
-    /// keys nor names stand twice.
+    /// What is true of all chains: each has the nodes with its key, each once, each node's key has a chain, neither keys nor
+    /// names stand twice, and a `usize` counts the nodes of a chain and the room for more.
     pub fn laws(&self)
         ensures whole { (k : _) → IsWhole self.now k }
         ensures keys { (n : _) (e : _) → entry_at self.now n ≡ Some e → HasKey self.now e.key }
         ensures once { IsDistinct ◌==◌ (names self.now.heads) }
         ensures ascend { NamesAscend (names self.now.nodes) }
+        ensures few { (k : _) → length (chain self.now k) < 2 ^ 64 }
+        ensures spare { self.now.spare_nodes < 2 ^ 64 }
     {
         // Any use of a field tells what is kept; that keys stand once, the map tells with its length.
         let _keys = self.heads.len();
+        let _capacity = self.nodes.capacity();
     }
 
     /// Makes room for so many keys and nodes more; the chains stay, whatever comes.
     pub fn reserve(&mut self, keys: usize, nodes: usize) -> Result<(), NoMemory>
         ensures keys { OnOk result (keys ≤ self.new.spare_keys) }
         ensures nodes { OnOk result (nodes ≤ self.new.spare_nodes) }
+        ensures succeeds { keys ≤ self.old.spare_keys → nodes ≤ self.old.spare_nodes → IsOk result }
         ensures heads_stay { self.new.heads ≡ self.old.heads }
         ensures nodes_stay { self.new.nodes ≡ self.old.nodes }
         ensures keeps_keys { self.old.spare_keys ≤ self.new.spare_keys }
         ensures keeps_nodes { self.old.spare_nodes ≤ self.new.spare_nodes }
     {
+        // There is never less room than the nodes take.
+        let _capacity = self.nodes.capacity();
         self.heads.reserve(keys)?;
         self.nodes.reserve(nodes)?;
         Ok(())
@@ -95,6 +101,7 @@ impl Chains {
         ensures nodes { self.new.nodes ≡ self.old.nodes }
         ensures spare_keys { self.old.spare_keys ≤ self.new.spare_keys + 1 }
         ensures spare_nodes { self.new.spare_nodes ≡ self.old.spare_nodes }
+        ensures capacity { self.new.capacity_of_nodes ≡ self.old.capacity_of_nodes }
     {
         self.heads.insert(key, None).unwrap();
     }
@@ -194,6 +201,7 @@ impl Chains {
         ensures heads { self.new.heads ≡ [] }
         ensures keys { self.old.spare_keys ≤ self.new.spare_keys }
         ensures room { self.old.spare_nodes ≤ self.new.spare_nodes }
+        ensures capacity { self.new.capacity_of_nodes ≡ self.old.capacity_of_nodes }
     {
         self.heads.clear();
         self.nodes.clear();

@@ -1,4 +1,4 @@
-use Rattle.std.proofs.Common.{◌≤◌, length}
+use Rattle.std.proofs.Common.{◌≡◌, ◌≤◌, length}
 use Rattle.curve_history.specs.Changed.{AreSameKeys, IsEmptied}
 use Rattle.linked_chains.specs.Chains.{chain}
 use Rattle.curve_history.specs.Kept.{ArePairs, pair_room}
@@ -9,6 +9,7 @@ invariant-each l = record {
   pairs : ArePairs l.edges l.curves;
   less : IsEmptied l.fn.edges l.edges l.edge;
   named : AreSameKeys l.fn.curves l.curves;
+  capacity : l.edges.capacity_of_nodes ≡ l.fn.edges.capacity_of_nodes;
   room : pair_room l.fn.edges l.fn.curves ≤ pair_room l.edges l.curves;
 }
 

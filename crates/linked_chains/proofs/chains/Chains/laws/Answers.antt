@@ -1,7 +1,7 @@
-use Rattle.std.proofs.Common.{subst}
+use Rattle.std.proofs.Common.{subst, arith}
 use Rattle.slab_laws.specs.Tables.{names, NamesAscend}
 use Rattle.linked_chains.proofs.Reading.{ascend_nodes}
-use Rattle.linked_chains.proofs.Seen.{whole_seen, keys_seen}
+use Rattle.linked_chains.proofs.Seen.{whole_seen, keys_seen, chain_short}
 use Rattle.linked_chains.proofs.chains.Chains.laws.Goals as goal
 
 pub returns-clause-whole : goal.returns-clause-whole
@@ -12,3 +12,6 @@ returns-clause-keys c = keys_seen c.self.inside.heads c.self.inside.nodes _ c.se
 
 pub returns-clause-ascend : goal.returns-clause-ascend
 returns-clause-ascend c = subst (λ h. NamesAscend (names h.nodes)) c.self.view_is (ascend_nodes c.self.inside.nodes)
+
+pub returns-clause-few : goal.returns-clause-few
+returns-clause-few c k = let h = chain_short c.self.inside.heads c.self.inside.nodes _ c.self.view_is k in omega (arith, c.capacity-capacity.ensures.holds_all)
