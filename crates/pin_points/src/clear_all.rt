@@ -1,7 +1,8 @@
 ghost use Rattle.std.specs.Prelude.{◌≡◌};
 ghost use Rattle.edit_steps.specs.Edits.{ClearAll, steps};
 ghost use Rattle.edit_steps.specs.Layer.{layer_after};
-ghost use Rattle.curve_history.specs.Past.{held};
+ghost use Rattle.dcel_records.specs.Held.{SameRecordCapacity};
+ghost use Rattle.curve_history.specs.Past.{held, SameHistoryCapacity};
 ghost use Rattle.record_layers.specs.Kept.{IsLayer, layer_of, Makes};
 
 use curve_history::History;
@@ -13,6 +14,8 @@ pub fn clear(records: &mut Records, history: &mut History)
     ensures layer { IsLayer records.new.graph history.new }
     ensures edit { layer_of records.new.graph history.new ≡ layer_after ClearAll (layer_of records.old.graph history.old) }
     ensures steps { Makes records.old.graph (held history.old) (steps ClearAll (layer_of records.old.graph history.old).present) records.new.graph (held history.new) }
+    ensures records_capacity { SameRecordCapacity records.old records.new }
+    ensures history_capacity { SameHistoryCapacity history.old history.new }
 {
     records.clear();
     history.clear();

@@ -1,7 +1,8 @@
 ghost use Rattle.std.specs.Prelude.{◌≡◌, MatchOption, Err, IsOk, OnOk, OnErr};
 ghost use Rattle.edit_steps.specs.Edits.{Merge, steps};
 ghost use Rattle.edit_steps.specs.Layer.{layer_after};
-ghost use Rattle.curve_history.specs.Past.{held, SameLayer, SameCurves};
+ghost use Rattle.dcel_records.specs.Held.{SameRecordCapacity};
+ghost use Rattle.curve_history.specs.Past.{held, SameLayer, SameCurves, SameHistoryCapacity};
 ghost use Rattle.record_layers.specs.Kept.{IsLayer, layer_of, Makes};
 ghost use Rattle.pin_points.specs.Merges.{merge_refusal};
 
@@ -11,13 +12,16 @@ use exact_plane::Point;
 use locate_naive::vertex_at;
 use redundant_vertices::{is_passed, tidy};
 use slab_laws::Darts;
+use thiserror::Error;
 
 /// Why two edges don't become one at a point.
-#[derive(Clone, Copy, Debug, PartialEq, Eq)]
+#[derive(Clone, Copy, Debug, PartialEq, Eq, Error)]
 pub enum MergeError {
     /// The point is no vertex.
+    #[error("no vertex is at the point")]
     NoVertex,
     /// It isn't pinned, no edge ends there, or it would be a vertex without its pin too.
+    #[error("the vertex isn't pinned, or without its pin it would still be a vertex, or it has no edge")]
     NotMergeable,
 }
 
@@ -32,6 +36,8 @@ pub fn merge_edge(records: &mut Records, history: &mut History, r: &Point) -> Re
     ensures graph { OnErr result (records.new.graph ≡ records.old.graph) }
     ensures same_layer { OnErr result (SameLayer history.old history.new) }
     ensures same_curves { OnErr result (SameCurves history.old history.new) }
+    ensures records_capacity { SameRecordCapacity records.old records.new }
+    ensures history_capacity { SameHistoryCapacity history.old history.new }
 {
     let Some(vertex) = vertex_at(&*records, r) else {
         return Err(MergeError::NoVertex);

@@ -1,4 +1,4 @@
-ghost use Rattle.std.specs.Prelude.{◌≡◌, ◌⊎◌, ◌≤◌, true, false, [], ◌∷◌, length, MatchOption, Ok, Err, IsOk, IfOk, OnOk, OnErr};
+ghost use Rattle.std.specs.Prelude.{◌≡◌, ◌≢◌, ◌⊎◌, ◌≤◌, true, false, [], ◌∷◌, length, MatchOption, Ok, Err, IsOk, IfOk, OnOk, OnErr};
 ghost use Rattle.std.specs.List.{list_any};
 ghost use Rattle.plane_graphs.specs.Line.{IsProper, same_point};
 ghost use Rattle.edit_steps.specs.Allowed.{AreSound};
@@ -7,14 +7,15 @@ ghost use Rattle.edit_steps.specs.Layer.{layer_after};
 ghost use Rattle.edit_steps.specs.Steps.{SplitEdge, missing_points, vertex_steps};
 ghost use Rattle.slab_laws.specs.Sound.{IsGraphSound};
 ghost use Rattle.slab_laws.specs.View.{HasVertex, point_in, source_in, target_in};
+ghost use Rattle.dcel_records.specs.Held.{SameRecordCapacity};
 ghost use Rattle.dcel_records.specs.Spots.{IsSpotOf};
 ghost use Rattle.arr_notes.specs.Curves.{AreCurvesOf};
 ghost use Rattle.edge_split_merge.specs.Splits.{CanSplit};
 ghost use Rattle.record_graphs.specs.Graph.{drawn_graph};
 ghost use Rattle.record_graphs.specs.Laws.{IsVertexAt};
-ghost use Rattle.curve_history.specs.Past.{held, SameLayer, SameCurves};
+ghost use Rattle.curve_history.specs.Past.{held, SameLayer, SameCurves, SameHistoryCapacity};
 ghost use Rattle.record_layers.specs.Kept.{IsLayer, layer_of, Makes};
-ghost use Rattle.pin_points.specs.Pins.{refusal, is_pinned_spot, pairs_parted, new_vertex_steps};
+ghost use Rattle.pin_points.specs.Pins.{refusal, is_pinned_spot, pairs_parted, new_vertex_steps, HasRoomFor};
 
 use crate::full::is_full;
 use arr_notes::Change;
@@ -27,15 +28,19 @@ use no_memory::NoMemory;
 use redundant_vertices::tidy;
 use slab_laws::{DartId, Darts, VertexId};
 use std::alloc::Global;
+use thiserror::Error;
 
 /// Why a point isn't pinned.
-#[derive(Clone, Copy, Debug, PartialEq, Eq)]
+#[derive(Clone, Copy, Debug, PartialEq, Eq, Error)]
 pub enum PinError {
     /// It is pinned already.
+    #[error("the point is pinned")]
     Pinned,
     /// One pin more would pass this limit.
+    #[error("the limit of {0} would be passed")]
     Full(u32),
     /// There was no memory for a vertex there.
+    #[error("no memory")]
     NoMemory,
 }
 
@@ -50,7 +55,8 @@ impl From<NoMemory> for PinError {
 }
 
 /// The point isn't pinned.
-#[derive(Clone, Copy, Debug, PartialEq, Eq)]
+#[derive(Clone, Copy, Debug, PartialEq, Eq, Error)]
+#[error("the point isn't pinned")]
 pub struct NotPinned;
 
 // Whether the spot is a pinned vertex.
@@ -65,24 +71,23 @@ fn is_pinned(records: &Records, at: Spot) -> bool
 }
 
 // How many curves run along the edge that goes in two at the spot.
-fn count_parted(history: &History, at: Spot) -> Result<usize, NoMemory>
-    ensures { IfOk result (λ n. n ≡ pairs_parted history.now at) }
+fn count_parted(history: &History, at: Spot) -> usize
+    ensures { result ≡ pairs_parted history.now at }
 {
     match at {
         Spot::Edge(d) => history.count_on(d),
-        Spot::Vertex(_) | Spot::Face => Ok(0),
+        Spot::Vertex(_) | Spot::Face => 0,
     }
 }
 
-/// Makes room for a vertex at the spot.
+/// Makes room for a vertex at the spot; where it is there, no memory is taken.
 pub(crate) fn make_room(
     records: &mut Records,
     history: &mut History,
     at: Spot,
 ) -> Result<(), NoMemory>
-    ensures vertices { OnOk result (1 ≤ records.new.spare_vertices) }
-    ensures darts { OnOk result (2 ≤ records.new.spare_darts) }
-    ensures pairs { OnOk result (pairs_parted history.new at ≤ history.new.spare_pairs) }
+    ensures room { OnOk result (HasRoomFor at records.new history.new) }
+    ensures succeeds { HasRoomFor at records.old history.old → IsOk result }
     ensures graph { records.new.graph ≡ records.old.graph }
     ensures layer { SameLayer history.old history.new }
     ensures curves { SameCurves history.old history.new }
@@ -91,7 +96,7 @@ pub(crate) fn make_room(
         vertices: 1,
         edges: 1,
     })?;
-    let pairs = count_parted(&*history, at)?;
+    let pairs = count_parted(&*history, at);
     history.reserve(0, 0, pairs)
 }
 
@@ -158,6 +163,7 @@ pub fn pin(
     ensures edit { OnOk result (layer_of records.new.graph history.new ≡ layer_after (Pin p.now) (layer_of records.old.graph history.old)) }
     ensures steps { OnOk result (Makes records.old.graph (held history.old) (steps (Pin p.now) (layer_of records.old.graph history.old).present) records.new.graph (held history.new)) }
     ensures refused { MatchOption (refusal pins (layer_of records.old.graph history.old).present.pins p.now) (IsOk result ⊎ (result ≡ Err PinError.NoMemory)) (λ e. result ≡ Err e) }
+    ensures room { HasRoomFor at records.old history.old → result ≢ Err PinError.NoMemory }
     ensures graph { OnErr result (records.new.graph ≡ records.old.graph) }
     ensures same_layer { OnErr result (SameLayer history.old history.new) }
     ensures same_curves { OnErr result (SameCurves history.old history.new) }
@@ -188,6 +194,8 @@ pub fn unpin(records: &mut Records, history: &mut History, p: &Point) -> Result<
     ensures same_layer { OnErr result (SameLayer history.old history.new) }
     ensures same_curves { OnErr result (SameCurves history.old history.new) }
     ensures refused { OnErr result (list_any (same_point p.now) (layer_of records.old.graph history.old).present.pins ≡ false) }
+    ensures records_capacity { SameRecordCapacity records.old records.new }
+    ensures history_capacity { SameHistoryCapacity history.old history.new }
 {
     let Some(vertex) = vertex_at(&*records, p) else {
         return Err(NotPinned);

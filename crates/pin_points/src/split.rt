@@ -1,4 +1,4 @@
-ghost use Rattle.std.specs.Prelude.{◌≡◌, ◌⊎◌, ◌∷◌, [], MatchOption, Ok, Err, IsOk, OnOk, OnErr};
+ghost use Rattle.std.specs.Prelude.{◌≡◌, ◌≢◌, ◌⊎◌, ◌∷◌, [], MatchOption, Ok, Err, IsOk, OnOk, OnErr};
 ghost use Rattle.edit_steps.specs.Edits.{Split, steps};
 ghost use Rattle.edit_steps.specs.Layer.{layer_after};
 ghost use Rattle.slab_laws.specs.Skeleton.{inside};
@@ -6,6 +6,9 @@ ghost use Rattle.slab_laws.specs.Sound.{IsGraphSound, edge_between, edge_in};
 ghost use Rattle.arr_notes.specs.Curves.{IsForward};
 ghost use Rattle.curve_history.specs.Past.{held, SameLayer, SameCurves};
 ghost use Rattle.record_layers.specs.Kept.{IsLayer, layer_of, Makes};
+ghost use Rattle.dcel_records.specs.declared.spot.Spot.TheVariants.{Edge};
+ghost use Rattle.edges_by_ends.specs.Edges.{IsDartAlong};
+ghost use Rattle.pin_points.specs.Pins.{HasRoomFor};
 ghost use Rattle.pin_points.specs.Splits.{split_refusal};
 
 use crate::full::is_full;
@@ -19,17 +22,22 @@ use locate_naive::span_of;
 use no_memory::NoMemory;
 use slab_laws::DartId;
 use std::alloc::Global;
+use thiserror::Error;
 
 /// Why an edge isn't split.
-#[derive(Clone, Copy, Debug, PartialEq, Eq)]
+#[derive(Clone, Copy, Debug, PartialEq, Eq, Error)]
 pub enum SplitError {
     /// No edge joins the points.
+    #[error("no edge has these two ends")]
     NoEdge,
     /// The point isn't strictly inside the edge.
+    #[error("the point isn't strictly inside the edge")]
     NotInside,
     /// One pin more would pass this limit.
+    #[error("the limit of {0} would be passed")]
     Full(u32),
     /// There was no memory for a vertex there.
+    #[error("no memory")]
     NoMemory,
 }
 
@@ -71,6 +79,7 @@ pub fn split_edge(
     ensures edit { OnOk result (layer_of records.new.graph history.new ≡ layer_after (Split (edge_between p.now q.now).low (edge_between p.now q.now).high r.now) (layer_of records.old.graph history.old)) }
     ensures steps { OnOk result (Makes records.old.graph (held history.old) (steps (Split (edge_between p.now q.now).low (edge_between p.now q.now).high r.now) (layer_of records.old.graph history.old).present) records.new.graph (held history.new)) }
     ensures refused { MatchOption (split_refusal pins (layer_of records.old.graph history.old).present (edge_between p.now q.now) r.now) (IsOk result ⊎ (result ≡ Err SplitError.NoMemory)) (λ e. result ≡ Err e) }
+    ensures room { ((d : _) → IsDartAlong records.old.graph (edge_between p.now q.now) d → HasRoomFor (Edge d) records.old history.old) → result ≢ Err SplitError.NoMemory }
     ensures graph { OnErr result (records.new.graph ≡ records.old.graph) }
     ensures same_layer { OnErr result (SameLayer history.old history.new) }
     ensures same_curves { OnErr result (SameCurves history.old history.new) }

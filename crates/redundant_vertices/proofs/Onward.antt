@@ -27,7 +27,8 @@ use Rattle.slab_laws.specs.Sound.{IsGraphSound}
 use Rattle.slab_laws.specs.View.{View, HasVertex, point_in, pinned_in}
 use Rattle.arr_notes.specs.Curves.{Curves, AreCurvesOf}
 use Rattle.record_graphs.specs.Graph.{drawn_graph}
-use Rattle.curve_history.specs.Past.{Past, SameLayer}
+use Rattle.dcel_records.specs.Held.{Held, SameRecordCapacity}
+use Rattle.curve_history.specs.Past.{Past, SameLayer, SameHistoryCapacity}
 use Rattle.graph_steps.proofs.Held.{held_pin, held_point, pin_held, point_held}
 use Rattle.record_layers.specs.Kept.{Makes}
 use Rattle.record_layers.proofs.Runs.{made_in_turn, made_is_run}
@@ -134,6 +135,12 @@ module _ (v : View) (h : Curves) (s : IsGraphSound v) (a : AreCurvesOf v h) (p :
 
 pub same_layers : (a b c : Past) → SameLayer a b → SameLayer b c → SameLayer a c
 same_layers a b c x y = record { names = y.names ∙ x.names; pieces = y.pieces ∙ x.pieces; next = y.next ∙ x.next }
+
+pub same_records : (a b c : Held) → SameRecordCapacity a b → SameRecordCapacity b c → SameRecordCapacity a c
+same_records a b c x y = record { of_vertices = y.of_vertices ∙ x.of_vertices; of_darts = y.of_darts ∙ x.of_darts }
+
+pub same_histories : (a b c : Past) → SameHistoryCapacity a b → SameHistoryCapacity b c → SameHistoryCapacity a c
+same_histories a b c x y = record { by_edge = y.by_edge ∙ x.by_edge; by_curve = y.by_curve ∙ x.by_curve; of_pieces = y.of_pieces ∙ x.of_pieces }
 
 -- ---- the walk along the vertices
 -- the first of the vertices are tidied, the last ones have their records still; what the steps are is said for any present that the records are to stand for

@@ -5,8 +5,9 @@ ghost use Rattle.plane_graphs.specs.Ascending.{IsAscending};
 ghost use Rattle.slab_laws.specs.Sound.{IsGraphSound};
 ghost use Rattle.slab_laws.specs.View.{HasVertex, point_in, pinned_in};
 ghost use Rattle.arr_notes.specs.Curves.{AreCurvesOf};
+ghost use Rattle.dcel_records.specs.Held.{SameRecordCapacity};
 ghost use Rattle.record_graphs.specs.Graph.{drawn_graph};
-ghost use Rattle.curve_history.specs.Past.{held, SameLayer};
+ghost use Rattle.curve_history.specs.Past.{held, SameLayer, SameHistoryCapacity};
 ghost use Rattle.record_layers.specs.Kept.{Makes};
 ghost use Rattle.redundant_vertices.specs.Left.{AreLeft, tidying};
 ghost use Rattle.redundant_vertices.specs.Tidied.{IsTidied};
@@ -28,6 +29,8 @@ pub fn tidy(records: &mut Records, history: &mut History, w: VertexId)
     requires unpinned { pinned_in records.old.graph w ≡ false }
     ensures tidied { IsTidied records.old.graph (held history.old) (point_in records.old.graph w) records.new.graph (held history.new) }
     ensures layer { SameLayer history.old history.new }
+    ensures records_capacity { SameRecordCapacity records.old records.new }
+    ensures history_capacity { SameHistoryCapacity history.old history.new }
 {
     let Some(first) = records.out_of(w) else {
         records.remove_vertex(w);
@@ -52,6 +55,8 @@ pub fn tidy_all(records: &mut Records, history: &mut History, vertices: &[Vertex
     requires ascend { IsAscending point_cmp (map (point_in records.old.graph) vertices.now) }
     ensures tidied { (p : _) → AreLeft records.old.graph (held history.old) p (map (point_in records.old.graph) vertices.now) → Makes records.old.graph (held history.old) (tidying (drawn_graph records.old.graph (held history.old)) p) records.new.graph (held history.new) }
     ensures layer { SameLayer history.old history.new }
+    ensures records_capacity { SameRecordCapacity records.old records.new }
+    ensures history_capacity { SameHistoryCapacity history.old history.new }
 {
     for vertex in vertices {
         if !records.pinned(*vertex) {

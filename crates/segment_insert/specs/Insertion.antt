@@ -1,16 +1,18 @@
 -- When an insertion is refused, and what its parts ask and do.
-use Rattle.std.specs.Prelude.{◌≡◌, ◌+◌, ℕ, List, [], ◌∷◌, map, length, nat_le, nat_lt, Option, Some, None, if◌then◌else◌, true, Contains}
+use Rattle.std.specs.Prelude.{◌≡◌, ◌≤◌, ◌+◌, ◌*◌, ℕ, List, [], ◌∷◌, map, length, nat_le, nat_lt, Option, Some, None, if◌then◌else◌, true, Contains}
 use Rattle.exact_plane.specs.Point.{Point}
 use Rattle.exact_plane.specs.PointOrder.{point_cmp}
 use Rattle.exact_plane.specs.Segment.{Segment}
 use Rattle.plane_graphs.specs.Ascending.{Member, IsAscending}
 use Rattle.slab_laws.specs.View.{View, HasVertex, point_in}
 use Rattle.arr_notes.specs.Curves.{Curves}
-use Rattle.curve_history.specs.Past.{Past}
+use Rattle.curve_history.specs.Past.{Past, held}
+use Rattle.dcel_records.specs.Held.{Held}
 use Rattle.dcel_records.specs.declared.spot.Spot.{Spot}
 use Rattle.dcel_records.specs.declared.spot.Spot.TheVariants.{Vertex, Edge}
 use Rattle.dcel_records.specs.Spots.{IsSpotOf}
 use Rattle.zone_walk.specs.declared.plan.Meeting.{Meeting}
+use Rattle.zone_walk.specs.declared.plan.ZonePlan.{ZonePlan}
 use Rattle.zone_walk.specs.Zone.{is_on_segment}
 use Rattle.segment_insert.specs.declared.insertion.InsertError.{InsertError}
 use Rattle.segment_insert.specs.declared.insertion.InsertError.TheVariants.{Full, Spent}
@@ -52,3 +54,15 @@ pairs_at h other = 0
 abbrev pub pairs_to_part : Curves → List Meeting → ℕ
 pairs_to_part h [] = 0
 pairs_to_part h (m ∷ ms) = pairs_at h m.spot + pairs_to_part h ms
+
+-- how many pairs of an edge and a curve come: the curves of each edge that is split, and the new one on each open part
+abbrev pub pairs_needed : Curves → List Meeting → ℕ
+pairs_needed h ms = length ms + pairs_to_part h ms
+
+-- without memory there is room for what the plan makes, for one more name and for one more piece (this project)
+pub record HasRoomFor (z : ZonePlan) (r : Held) (p : Past) : Type 0 where
+  pub vertices : z.room.vertices ≤ r.spare_vertices
+  pub darts : 2 * z.room.edges ≤ r.spare_darts
+  pub names : 1 ≤ p.spare_names
+  pub pieces : 1 ≤ p.spare_pieces
+  pub pairs : pairs_needed (held p) z.vertices ≤ p.spare_pairs

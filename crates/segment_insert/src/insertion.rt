@@ -7,7 +7,7 @@ ghost use Rattle.curve_history.specs.Past.{held, SameLayer, SameCurves};
 ghost use Rattle.curve_history.specs.declared.history.TheConstants.{LAST_CURVE};
 ghost use Rattle.record_layers.specs.Kept.{IsLayer, layer_of, Makes};
 ghost use Rattle.zone_walk.specs.Zone.{IsZoneOf};
-ghost use Rattle.segment_insert.specs.Insertion.{refusal, pairs_to_part};
+ghost use Rattle.segment_insert.specs.Insertion.{refusal, pairs_needed, HasRoomFor};
 
 use crate::edges::make_edges;
 use crate::vertices::make_vertices;
@@ -17,16 +17,20 @@ use exact_plane::Segment;
 use no_memory::NoMemory;
 use slab_laws::{CurveId, Piece};
 use std::alloc::Global;
+use thiserror::Error;
 use zone_walk::{Meeting, ZonePlan, zone};
 
 /// Why a segment isn't inserted.
-#[derive(Clone, Copy, Debug, PartialEq, Eq)]
+#[derive(Clone, Copy, Debug, PartialEq, Eq, Error)]
 pub enum InsertError {
     /// One curve more, or one piece more, would pass this limit.
+    #[error("the limit of {0} would be passed")]
     Full(u32),
     /// The last number that a curve can get was drawn.
+    #[error("the last number of a curve was drawn")]
     Spent,
     /// There was no memory for the plan or for what it makes.
+    #[error("no memory")]
     NoMemory,
 }
 
@@ -45,21 +49,42 @@ fn refusal_of(history: &History, curves: u32, pieces: u32) -> Option<InsertError
     }
 }
 
-// How many pairs of an edge and a curve come: the curves of each edge that is parted, and the new one on each open part.
-fn pairs_needed(history: &History, meetings: &[Meeting]) -> Result<usize, NoMemory>
-    ensures { IfOk result (λ n. n ≡ length meetings.now + pairs_to_part (held history.now) meetings.now) }
+// How many pairs of an edge and a curve come: the curves of each edge that is parted, and the new one on each open part. It
+// takes no memory; the error stands for a number past `usize`.
+fn count_pairs(history: &History, meetings: &[Meeting]) -> Result<usize, NoMemory>
+    ensures count { IfOk result (λ n. n ≡ pairs_needed (held history.now) meetings.now) }
+    ensures past_usize { OnErr result (2 ^ 64 ≤ pairs_needed (held history.now) meetings.now) }
 {
     let mut pairs = meetings.len();
     for meeting in meetings {
         if let Spot::Edge(dart) = meeting.spot {
-            let curves = history.count_on(dart)?;
-            match pairs.checked_add(curves) {
+            match pairs.checked_add(history.count_on(dart)) {
                 Some(more) => pairs = more,
                 None => return Err(NoMemory),
             }
         }
     }
     Ok(pairs)
+}
+
+// Room for all that the plan makes, for one more name and for one more piece; only the room changes. Where it is there, no
+// memory is taken.
+fn make_room(
+    records: &mut Records,
+    history: &mut History,
+    plan: &ZonePlan,
+) -> Result<(), NoMemory>
+    ensures room { OnOk result (HasRoomFor plan.now records.new history.new) }
+    ensures succeeds { HasRoomFor plan.now records.old history.old → IsOk result }
+    ensures graph { records.new.graph ≡ records.old.graph }
+    ensures same_layer { SameLayer history.old history.new }
+    ensures same_curves { SameCurves history.old history.new }
+{
+    // A `usize` counts the pairs for which there is room.
+    history.laws();
+    records.reserve(plan.room)?;
+    let pairs = count_pairs(&*history, plan.vertices.as_slice())?;
+    history.reserve(1, 1, pairs)
 }
 
 // The plan of the insertion, and room for all that it makes; only the room changes.
@@ -73,19 +98,13 @@ fn prepare(
     requires sound { IsGraphSound records.old.graph }
     requires start { IsSpotOf records.old.graph segment.now.lower start }
     ensures zone { IfOk result (IsZoneOf records.old.graph segment.now) }
-    ensures vertices { IfOk result (λ z. z.room.vertices ≤ records.new.spare_vertices) }
-    ensures darts { IfOk result (λ z. 2 * z.room.edges ≤ records.new.spare_darts) }
-    ensures names { OnOk result (1 ≤ history.new.spare_names) }
-    ensures pieces { OnOk result (1 ≤ history.new.spare_pieces) }
-    ensures pairs { IfOk result (λ z. length z.vertices + pairs_to_part (held history.old) z.vertices ≤ history.new.spare_pairs) }
+    ensures room { IfOk result (λ z. HasRoomFor z records.new history.new) }
     ensures graph { records.new.graph ≡ records.old.graph }
     ensures same_layer { SameLayer history.old history.new }
     ensures same_curves { SameCurves history.old history.new }
 {
     let plan = zone(alloc, &*records, segment, start)?;
-    records.reserve(plan.room)?;
-    let pairs = pairs_needed(&*history, plan.vertices.as_slice())?;
-    history.reserve(1, 1, pairs)?;
+    make_room(records, history, &plan)?;
     Ok(plan)
 }
 
@@ -100,11 +119,7 @@ fn insert_by_plan(
     requires zone { IsZoneOf records.old.graph segment.now plan }
     requires unspent { history.old.next ≤ LAST_CURVE }
     requires few { length history.old.pieces + 1 < 2 ^ 32 }
-    requires vertices { plan.room.vertices ≤ records.old.spare_vertices }
-    requires darts { 2 * plan.room.edges ≤ records.old.spare_darts }
-    requires names { 1 ≤ history.old.spare_names }
-    requires pieces { 1 ≤ history.old.spare_pieces }
-    requires pairs { length plan.vertices + pairs_to_part (held history.old) plan.vertices ≤ history.old.spare_pairs }
+    requires room { HasRoomFor plan records.old history.old }
     ensures layer { IsLayer records.new.graph history.new }
     ensures number { result.0 ≡ history.old.next }
     ensures edit { layer_of records.new.graph history.new ≡ layer_after (Insert result.0 segment.now) (layer_of records.old.graph history.old) }

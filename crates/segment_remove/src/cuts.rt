@@ -1,7 +1,8 @@
-ghost use Rattle.std.specs.Prelude.{◌≡◌, ◌⊎◌, ◌≤◌, ◌+◌, length, MatchOption, Ok, Err, IsOk, OnOk, OnErr};
+ghost use Rattle.std.specs.Prelude.{◌≡◌, ◌≢◌, ◌⊎◌, ◌≤◌, ◌+◌, length, MatchOption, Ok, Err, IsOk, OnOk, OnErr};
 ghost use Rattle.slab_laws.specs.Sound.{edge_between};
 ghost use Rattle.edit_steps.specs.Edits.{steps};
 ghost use Rattle.edit_steps.specs.Layer.{layer_after};
+ghost use Rattle.edit_steps.specs.Steps.{with_cut};
 ghost use Rattle.curve_history.specs.Past.{held, SameLayer, SameCurves};
 ghost use Rattle.record_layers.specs.Kept.{IsLayer, layer_of, Makes};
 ghost use Rattle.segment_remove.specs.Refused.{cut_between, cut_refusal};
@@ -15,15 +16,19 @@ use no_memory::NoMemory;
 use redundant_vertices::tidy_all;
 use slab_laws::Darts;
 use std::alloc::Global;
+use thiserror::Error;
 
 /// Why an edge isn't removed.
-#[derive(Clone, Copy, Debug, PartialEq, Eq)]
+#[derive(Clone, Copy, Debug, PartialEq, Eq, Error)]
 pub enum CutError {
     /// No edge joins the points.
+    #[error("no edge has these two ends")]
     NoEdge,
     /// The pieces that are left would pass this limit.
+    #[error("the limit of {0} would be passed")]
     Full(u32),
     /// There was no memory for the pieces that are left.
+    #[error("no memory")]
     NoMemory,
 }
 
@@ -37,9 +42,10 @@ impl From<NoMemory> for CutError {
     }
 }
 
-// Makes room for as many pieces.
+// Makes room for as many pieces; where it is there, no memory is taken.
 fn make_room(history: &mut History, pieces: u32) -> Result<(), NoMemory>
     ensures room { OnOk result (pieces ≤ length history.new.pieces + history.new.spare_pieces) }
+    ensures succeeds { pieces ≤ length history.old.pieces + history.old.spare_pieces → IsOk result }
     ensures layer { SameLayer history.old history.new }
     ensures curves { SameCurves history.old history.new }
 {
@@ -69,6 +75,7 @@ pub fn remove_edge(
     ensures edit { OnOk result (layer_of records.new.graph history.new ≡ layer_after (cut_between p.now q.now) (layer_of records.old.graph history.old)) }
     ensures steps { OnOk result (Makes records.old.graph (held history.old) (steps (cut_between p.now q.now) (layer_of records.old.graph history.old).present) records.new.graph (held history.new)) }
     ensures refused { MatchOption (cut_refusal pieces (layer_of records.old.graph history.old).present (edge_between p.now q.now)) (IsOk result ⊎ (result ≡ Err CutError.NoMemory)) (λ e. result ≡ Err e) }
+    ensures room { length (with_cut (layer_of records.old.graph history.old).present (edge_between p.now q.now).low (edge_between p.now q.now).high).pieces ≤ length history.old.pieces + history.old.spare_pieces → result ≢ Err CutError.NoMemory }
     ensures graph { OnErr result (records.new.graph ≡ records.old.graph) }
     ensures same_layer { OnErr result (SameLayer history.old history.new) }
     ensures same_curves { OnErr result (SameCurves history.old history.new) }

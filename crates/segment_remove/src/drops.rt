@@ -21,13 +21,16 @@ use record_orders::DartKey;
 use redundant_vertices::tidy_all;
 use slab_laws::CurveId;
 use std::alloc::Global;
+use thiserror::Error;
 
 /// Why a curve isn't removed.
-#[derive(Clone, Copy, Debug, PartialEq, Eq)]
+#[derive(Clone, Copy, Debug, PartialEq, Eq, Error)]
 pub enum DropError {
     /// No curve has the number.
+    #[error("no curve has this number")]
     Unknown,
     /// There was no memory for the list of its edges.
+    #[error("no memory")]
     NoMemory,
 }
 

@@ -1,12 +1,12 @@
 use Rattle.std.proofs.Common.{sym, refl, ◌∙◌}
 use Rattle.slab_laws.specs.View.{vertex_id}
 use Rattle.curve_history.specs.Past.{held}
-use Rattle.redundant_vertices.proofs.Onward.{all_next, none_tidied, pinned_next, same_layers, tidied_next}
+use Rattle.redundant_vertices.proofs.Onward.{all_next, none_tidied, pinned_next, same_histories, same_layers, same_records, tidied_next}
 use Rattle.redundant_vertices.proofs.redundant.tidy_all.Goals as goal
 use Rattle.redundant_vertices.proofs.redundant.tidy_all.Goals.{then-not-pinned, else-not-pinned}
 
 pub loop-vertex-init : goal.loop-vertex-init
-loop-vertex-init c = (none_tidied c.args.records.now.graph (held c.args.history.now) c.args.vertices.now c.requires.sound c.requires.curves c.requires.have, record { names = refl; pieces = refl; next = refl })
+loop-vertex-init c = (none_tidied c.args.records.now.graph (held c.args.history.now) c.args.vertices.now c.requires.sound c.requires.curves c.requires.have, record { names = refl; pieces = refl; next = refl }, record { of_vertices = refl; of_darts = refl }, record { by_edge = refl; by_curve = refl; of_pieces = refl })
 
 pub loop-vertex-preserved : goal.loop-vertex-preserved
 loop-vertex-preserved c =
@@ -20,11 +20,15 @@ loop-vertex-preserved c =
           rw w.records-is (rw w.history-is (
             tidied_next v h c.requires.sound c.requires.curves all c.requires.have c.requires.ascend l.vertex-index at (vertex_id 0) l.records.graph (held l.history) l.invariant.0 (sym c.pinned.ensures ∙ w.if-not-pinned.true) w.tidy.new.records.graph (held w.tidy.new.history) w.tidy.ensures.tidied,
             same_layers c.args.history.now l.history w.tidy.new.history l.invariant.1 w.tidy.ensures.layer,
+            same_records c.args.records.now l.records w.tidy.new.records l.invariant.2 w.tidy.ensures.records_capacity,
+            same_histories c.args.history.now l.history w.tidy.new.history l.invariant.3 w.tidy.ensures.history_capacity,
           ))
       | else-not-pinned w ↦
           rw w.records-is (rw w.history-is (
             pinned_next v h c.requires.sound c.requires.curves all c.requires.have c.requires.ascend l.vertex-index at (vertex_id 0) l.records.graph (held l.history) l.invariant.0 (sym c.pinned.ensures ∙ w.if-not-pinned.false),
             l.invariant.1,
+            l.invariant.2,
+            l.invariant.3,
           ))
     ]
 

@@ -90,7 +90,7 @@ make_edges-requires-clause-darts c =
     let are = c.into_vec-meetings.ensures in
     let kept = ap points_of_meetings c.deref.ensures.value ∙ c.make_vertices.ensures.points ∙ ap points_of_meetings are in
     let s : splits_needed c.into_vec-meetings.result.items ≡ splits_needed c.args.plan.vertices = ap splits_needed are in
-    room_left planned c.deref.result.now c.args.records.now.spare_darts c.make_vertices.new.records.spare_darts kept c.requires.darts (omega arith)
+    room_left planned c.deref.result.now c.args.records.now.spare_darts c.make_vertices.new.records.spare_darts kept c.requires.room.darts (omega arith)
 
 pub make_edges-requires-clause-pairs : goal.make_edges-requires-clause-pairs
 make_edges-requires-clause-pairs c =
