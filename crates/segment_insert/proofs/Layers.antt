@@ -1,5 +1,5 @@
 -- A history whose layer and curves are the same is the same layer.
-use Rattle.std.proofs.Common.{◌≡◌, ℕ, ◌≤◌, ◌*◌, Result, Ok, Err, OnOk, sym, ap, ◌∙◌, subst}
+use Rattle.std.proofs.Common.{◌≡◌, sym, ap, ◌∙◌, subst}
 use Rattle.plane_graphs.specs.Graph.{graph}
 use Rattle.edit_steps.specs.Layer.{IsLawful}
 use Rattle.slab_laws.specs.View.{View}
@@ -9,7 +9,7 @@ use Rattle.dcel_records.specs.Held.{Held}
 use Rattle.record_graphs.specs.Graph.{drawn_graph}
 use Rattle.record_layers.specs.Kept.{layer_of, IsLayer}
 use Rattle.zone_walk.specs.declared.plan.ZonePlan.{ZonePlan}
-use Rattle.segment_insert.specs.Insertion.{pairs_needed, HasRoomFor}
+use Rattle.segment_insert.specs.Insertion.{HasRoomFor}
 use Rattle.segment_insert.proofs.Makes.{one_curves}
 
 pub same_held : (p q : Past) → SameCurves p q → held q ≡ held p
@@ -29,13 +29,6 @@ layer_stays v w p q e s c l =
       stands = ap (drawn_graph v) h ∙ l.stands ∙ ap (λ z. graph z.present) (sym k);
     })
 
--- room that was made for as many pairs as come
-pub room_made : {A E : Type 0} (o : Result A E) (z : ZonePlan) (r : Held) (p q : Past) (n : ℕ) → z.room.vertices ≤ r.spare_vertices → 2 * z.room.edges ≤ r.spare_darts → OnOk o (1 ≤ q.spare_names) → OnOk o (1 ≤ q.spare_pieces) → OnOk o (n ≤ q.spare_pairs) → SameCurves p q → n ≡ pairs_needed (held p) z.vertices → OnOk o (HasRoomFor z r q)
-room_made (Ok x) z r p q n vertices darts names pieces pairs same e = record {
-  vertices = vertices;
-  darts = darts;
-  names = names;
-  pieces = pieces;
-  pairs = subst (λ m. m ≤ q.spare_pairs) (e ∙ ap (λ h. pairs_needed h z.vertices) (sym (same_held p q same))) pairs;
-}
-room_made (Err x) z r p q n vertices darts names pieces pairs same e = tt
+-- room is there for the same curves
+pub room_stays : (z : ZonePlan) (r : Held) (p q : Past) → SameCurves p q → HasRoomFor z (held p) r q → HasRoomFor z (held q) r q
+room_stays z r p q c h = subst (λ k. HasRoomFor z k r q) (sym (same_held p q c)) h

@@ -6,7 +6,7 @@ use Rattle.exact_plane.specs.Segment.{Segment}
 use Rattle.plane_graphs.specs.Ascending.{Member, IsAscending}
 use Rattle.slab_laws.specs.View.{View, HasVertex, point_in}
 use Rattle.arr_notes.specs.Curves.{Curves}
-use Rattle.curve_history.specs.Past.{Past, held}
+use Rattle.curve_history.specs.Past.{Past}
 use Rattle.dcel_records.specs.Held.{Held}
 use Rattle.dcel_records.specs.declared.spot.Spot.{Spot}
 use Rattle.dcel_records.specs.declared.spot.Spot.TheVariants.{Vertex, Edge}
@@ -59,10 +59,10 @@ pairs_to_part h (m ∷ ms) = pairs_at h m.spot + pairs_to_part h ms
 abbrev pub pairs_needed : Curves → List Meeting → ℕ
 pairs_needed h ms = length ms + pairs_to_part h ms
 
--- without memory there is room for what the plan makes, for one more name and for one more piece (this project)
-pub record HasRoomFor (z : ZonePlan) (r : Held) (p : Past) : Type 0 where
+-- without memory there is room for what the plan makes where the edges have these curves, for one more name and for one more piece (this project)
+pub record HasRoomFor (z : ZonePlan) (h : Curves) (r : Held) (p : Past) : Type 0 where
   pub vertices : z.room.vertices ≤ r.spare_vertices
   pub darts : 2 * z.room.edges ≤ r.spare_darts
   pub names : 1 ≤ p.spare_names
   pub pieces : 1 ≤ p.spare_pieces
-  pub pairs : pairs_needed (held p) z.vertices ≤ p.spare_pairs
+  pub pairs : pairs_needed h z.vertices ≤ p.spare_pairs

@@ -69,13 +69,9 @@ fn count_pairs(history: &History, meetings: &[Meeting]) -> Result<usize, NoMemor
 
 // Room for all that the plan makes, for one more name and for one more piece; only the room changes. Where it is there, no
 // memory is taken.
-fn make_room(
-    records: &mut Records,
-    history: &mut History,
-    plan: &ZonePlan,
-) -> Result<(), NoMemory>
-    ensures room { OnOk result (HasRoomFor plan.now records.new history.new) }
-    ensures succeeds { HasRoomFor plan.now records.old history.old → IsOk result }
+fn make_room(records: &mut Records, history: &mut History, plan: &ZonePlan) -> Result<(), NoMemory>
+    ensures room { OnOk result (HasRoomFor plan.now (held history.old) records.new history.new) }
+    ensures succeeds { HasRoomFor plan.now (held history.old) records.old history.old → IsOk result }
     ensures graph { records.new.graph ≡ records.old.graph }
     ensures same_layer { SameLayer history.old history.new }
     ensures same_curves { SameCurves history.old history.new }
@@ -98,7 +94,7 @@ fn prepare(
     requires sound { IsGraphSound records.old.graph }
     requires start { IsSpotOf records.old.graph segment.now.lower start }
     ensures zone { IfOk result (IsZoneOf records.old.graph segment.now) }
-    ensures room { IfOk result (λ z. HasRoomFor z records.new history.new) }
+    ensures room { IfOk result (λ z. HasRoomFor z (held history.old) records.new history.new) }
     ensures graph { records.new.graph ≡ records.old.graph }
     ensures same_layer { SameLayer history.old history.new }
     ensures same_curves { SameCurves history.old history.new }
@@ -119,7 +115,7 @@ fn insert_by_plan(
     requires zone { IsZoneOf records.old.graph segment.now plan }
     requires unspent { history.old.next ≤ LAST_CURVE }
     requires few { length history.old.pieces + 1 < 2 ^ 32 }
-    requires room { HasRoomFor plan records.old history.old }
+    requires room { HasRoomFor plan (held history.old) records.old history.old }
     ensures layer { IsLayer records.new.graph history.new }
     ensures number { result.0 ≡ history.old.next }
     ensures edit { layer_of records.new.graph history.new ≡ layer_after (Insert result.0 segment.now) (layer_of records.old.graph history.old) }
