@@ -22,10 +22,10 @@ use Rattle.slab_laws.specs.Tables.{row_at}
 use Rattle.slab_laws.specs.Text.{numbered}
 use Rattle.slab_laws.specs.View.{cycle_id, face_id, HasCycle, HasFace, HasBareFace, cycle_or, kind_or, face_or, bare_or, cycle_in, kind_in, face_in, bare_face_in}
 use Rattle.slab_faces.proofs.Member.{Member, member_in, in_member, map_in, map_out, filter_in, filter_out}
-use Rattle.slab_faces.proofs.Searches.{in_range}
+use Rattle.slab_faces.proofs.Searches.{in_range, range_below}
 use Rattle.slab_faces.proofs.NextLemmas.{darts_exact}
 use Rattle.listed_views.specs.Listed.{Drawing, skeleton_in, subdivision_in, kind_by, cycle_record, faces_of}
-use Rattle.listed_views.proofs.Rows.{is_some_by, numbered_row, slice_get_member, range_below, keyed_in, keyed_out}
+use Rattle.listed_views.proofs.Rows.{is_some_by, numbered_row, slice_get_member, keyed_in, keyed_out}
 use Rattle.listed_views.proofs.Places.{at_place, place_at, apart_ascending}
 use Rattle.slab_faces.proofs.DartOrder.{dart_cmp_total}
 use Rattle.listed_views.proofs.Darts.{lead_listed, leads_ascend}

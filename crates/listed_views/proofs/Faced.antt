@@ -28,7 +28,7 @@ use Rattle.listed_views.proofs.Places.{at_place, place_at, place_append, kept_pl
 use Rattle.listed_views.proofs.Darts.{lead_dart, lead_face}
 use Rattle.listed_views.proofs.Records.{IsDart, dart_of, dart_is, plane, of_darts, point_of}
 use Rattle.listed_views.proofs.Drawn.{view_draws}
-use Rattle.listed_views.proofs.CellList.{label_there}
+use Rattle.listed_views.proofs.ListedLabels.{label_there}
 use Rattle.listed_views.proofs.CellOrder.{cells_rise}
 use Rattle.listed_views.proofs.RankedFaces.{outer_faces, all_faces, faces_are, faces_apart, first_face, face_listed, ranked_there, rank_within, of_outer, face_face, dart_face, vertex_face}
 use Rattle.listed_views.proofs.FaceRecords.{IsCycle, has_cycle, kind_is, cycle_face, has_face, face_within, cycle_of_dart, bare_out}

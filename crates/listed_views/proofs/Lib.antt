@@ -4,7 +4,7 @@ pub mod Darts
 pub mod Records
 pub mod Drawn
 pub mod GraphSound
-pub mod CellList
+pub mod ListedLabels
 pub mod CellOrder
 pub mod RankedFaces
 pub mod FaceRecords

@@ -17,7 +17,7 @@ use Rattle.slab_faces.proofs.FacesLemmas.{cells_exact, in_its_face, one_label}
 use Rattle.slab_faces.proofs.NextLemmas.{dart_out}
 use Rattle.slab_faces.proofs.WallsLemmas.{cell_there}
 use Rattle.listed_views.proofs.Places.{Apart, at_place, place_within, distinct_there, distinct_apart}
-use Rattle.listed_views.proofs.CellList.{dart_cell}
+use Rattle.slab_faces.proofs.ListedCells.{dart_cell}
 
 -- the cycle of a least dart
 abbrev pub cycle_of : Skeleton → Dart → Cycle

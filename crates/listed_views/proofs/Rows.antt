@@ -61,11 +61,6 @@ pub range_ascend : (a n : ℕ) → NamesAscend (range_with_len a n)
 range_ascend a zero = tt
 range_ascend a (suc n) = (range_above a (a + 1) n (omega arith), range_ascend (a + 1) n)
 
-pub range_below : (a n j : ℕ) → Member (range_with_len a n) j → j < a + n
-range_below a zero j h = absurd h
-range_below a (suc n) j (inl e) = omega arith
-range_below a (suc n) j (inr h) = let k = range_below (a + 1) n j h in omega arith
-
 -- ---- rows by a number of their own
 module _ {X Y : Type 0} (name : X → ℕ) (val : X → Y) where
   -- a row comes from an element

@@ -25,7 +25,7 @@ first g e = Contains-append_left (e ∷ []) g.edges e (Contains-push [] e)
 pub rest : (g : Skeleton) (e f : Edge) → Contains g.edges f → Contains (with_edge g e).edges f
 rest g e f h = Contains-append_right (e ∷ []) g.edges f h
 
-same_place : (g : Skeleton) (e : Edge) (i : ℕ) → IsPlaneSkeleton (with_edge g e) → place (with_edge g e) i e ≡ place g i e
+pub same_place : (g : Skeleton) (e : Edge) (i : ℕ) → IsPlaneSkeleton (with_edge g e) → place (with_edge g e) i e ≡ place g i e
 same_place g e i plane =
     let a : place (with_edge g e) i e ≡ cond (spans g i e && below e e) 1 0 + place g i e = sum_by-cons (λ f. cond (spans g i f && below f e) 1 0) e g.edges in
     a ∙ ap (λ n. n + place g i e) (none (spans g i e) (below e e) (below_self (with_edge g e) e plane (first g e))) ∙ omega arith
@@ -50,12 +50,12 @@ merged_side g e t i reach plane s =
     drop s true false p j k e a up down = rw (e, lt-ltb p j (down refl refl)) (omega arith)
     drop s false o p j k e a up down = rw e (omega arith)
 
-merged_left : (g : Skeleton) (e : Edge) (t : Point) → IsPlaneSkeleton (with_edge g e) → IsOnWall (with_edge g e) t → merged g e (left_cell (with_edge g e) t) ≡ left_cell g t
+pub merged_left : (g : Skeleton) (e : Edge) (t : Point) → IsPlaneSkeleton (with_edge g e) → IsOnWall (with_edge g e) t → merged g e (left_cell (with_edge g e) t) ≡ left_cell g t
 merged_left g e t plane wall =
     let a = merged_side g e t (slab_left g t) (λ f. reaches_left f t) plane (left_side (with_edge g e) t plane wall) in
     λ i. record { slab = slab_left g t; place = a i }
 
-merged_right : (g : Skeleton) (e : Edge) (t : Point) → IsPlaneSkeleton (with_edge g e) → IsOnWall (with_edge g e) t → merged g e (right_cell (with_edge g e) t) ≡ right_cell g t
+pub merged_right : (g : Skeleton) (e : Edge) (t : Point) → IsPlaneSkeleton (with_edge g e) → IsOnWall (with_edge g e) t → merged g e (right_cell (with_edge g e) t) ≡ right_cell g t
 merged_right g e t plane wall =
     let a = merged_side g e t (slab_right g t) (λ f. reaches_right f t) plane (right_side (with_edge g e) t plane wall) in
     λ i. record { slab = slab_right g t; place = a i }

@@ -33,7 +33,7 @@ use Rattle.slab_faces.proofs.WallsLemmas.{wall_vertex}
 use Rattle.slab_faces.proofs.OuterCycles.{outer_cycles_of_faces}
 
 -- ---- what passes, or that nothing does
-passing : {X : Type 0} (p : X → Bool) (xs : List X) (x : X) → Contains xs x → p x ≡ true → 0 < count_by p xs
+pub passing : {X : Type 0} (p : X → Bool) (xs : List X) (x : X) → Contains xs x → p x ≡ true → 0 < count_by p xs
 passing p xs x in' h = let k = fewer_than (λ x. false) p xs x in' refl h (λ z _ n. absurd (false≢true n)) in omega arith
 
 some_or_none : {X : Type 0} (p : X → Bool) (xs : List X) → ((x : X) × Contains xs x × (p x ≡ true)) ⊎ ((x : X) → Contains xs x → p x ≡ false)
@@ -43,7 +43,7 @@ some_or_none p xs =
       | inr l ↦ inr (λ x in'. false_from_ne_true _ (λ h. let k = passing p xs x in' h in absurd (omega arith)))
     ]
 
-none_counted : {X : Type 0} (p : X → Bool) (xs : List X) → ((x : X) → Contains xs x → p x ≡ false) → count_by p xs ≡ 0
+pub none_counted : {X : Type 0} (p : X → Bool) (xs : List X) → ((x : X) → Contains xs x → p x ≡ false) → count_by p xs ≡ 0
 none_counted p xs h = sum_by-same (λ x. cond (p x) 1 0) (λ x. 0) xs (each (λ x. cond {A = ℕ} (p x) 1 0 ≡ 0) xs (λ x in'. ap (λ b. cond {A = ℕ} b 1 0) (h x in'))) ∙ sum_by-none xs
 
 -- ---- each place of a slab but the topmost is that of an edge
@@ -99,7 +99,7 @@ module _ (g : Skeleton) (i : ℕ) (M : Point) (plane : IsPlaneSkeleton g) (slab 
             absurd (omega arith)
       ]
 
-  abbrev HasPlace : ℕ → Type 0
+  abbrev pub HasPlace : ℕ → Type 0
   HasPlace j = (e : Edge) × Contains g.edges e × (spans g i e ≡ true) × (place g i e ≡ j)
 
   down_step : (j : ℕ) (e : Edge) → Contains g.edges e → spans g i e ≡ true → j ≤ place g i e → ((d : Edge) → Contains g.edges d → spans g i d ≡ true → j ≤ place g i d → place g i d < place g i e → HasPlace j) → HasPlace j
@@ -116,7 +116,7 @@ module _ (g : Skeleton) (i : ℕ) (M : Point) (plane : IsPlaneSkeleton g) (slab 
   down zero j e E se l k = down_step j e E se l (λ d D sd a b. absurd (omega arith))
   down (suc n) j e E se l k = down_step j e E se l (λ d D sd a b. down n j d D sd a (omega arith))
 
-  edge_at : (j : ℕ) → j < width g i → HasPlace j
+  pub edge_at : (j : ℕ) → j < width g i → HasPlace j
   unfolding width
   edge_at j h = let w = reaching (spans g i) j (λ e k. k) h in down (place g i w.0) j w.0 w.1 w.2 w.3 (omega arith)
 

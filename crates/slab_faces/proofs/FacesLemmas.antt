@@ -80,7 +80,7 @@ none_at g t reach r =
     none true o f = ap (λ b. cond {A = ℕ} (not b) 1 0) (f refl)
     none false o f = refl
 
-lowest_meets : (g : Skeleton) (t : Point) → IsPlaneSkeleton g → IsOnWall g t → Meets g (record { slab = slab_left g t; place = 0 }) (record { slab = slab_right g t; place = 0 })
+pub lowest_meets : (g : Skeleton) (t : Point) → IsPlaneSkeleton g → IsOnWall g t → Meets g (record { slab = slab_left g t; place = 0 }) (record { slab = slab_right g t; place = 0 })
 unfolding low left_of
 lowest_meets g t plane wall =
     let u = low g t in

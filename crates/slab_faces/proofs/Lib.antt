@@ -34,6 +34,7 @@ pub mod OuterCycles
 pub mod Searches
 pub mod Places
 pub mod WallsLemmas
+pub mod ListedCells
 pub mod WallCounts
 pub mod OneEdge
 pub mod Located

@@ -95,3 +95,8 @@ in_range a (suc n) j h k = elim (cases_lt a j) [
   | inl l ↦ inr (in_range (a + 1) n j (omega arith) (omega arith))
   | inr l ↦ inl (omega arith)
 ]
+
+pub range_below : (a n j : ℕ) → Member (range_with_len a n) j → j < a + n
+range_below a zero j h = absurd h
+range_below a (suc n) j (inl e) = omega arith
+range_below a (suc n) j (inr h) = let k = range_below (a + 1) n j h in omega arith

@@ -1,0 +1,10 @@
+pub mod Orbits
+pub mod Kinds
+pub mod OneMoreEdge
+pub mod FaceNames
+pub mod FacesByPairs
+pub mod OneMoreVertex
+pub mod RecordsAfterSplits
+pub mod EdgeSplit
+pub mod AddedWithinACycle
+pub mod CycleNames
