@@ -26,7 +26,7 @@ use Rattle.slab_faces.proofs.WallsLemmas.{cell_there}
 use Rattle.sound_links.specs.Next.{IsDartOf}
 use Rattle.sound_views.proofs.Named.{names_are_darts}
 use Rattle.face_changes.specs.Kinds.{is_outer}
-use Rattle.face_changes.specs.FacesByPairs.{Item, outside, beside, round, HasItem, cell_at, name_at, first_or, AreFacesTold, ToldFacesAreFaced, FacedAreTold}
+use Rattle.face_changes.specs.FacesByPairs.{Item, outside, beside, round, HasItem, cell_at, name_at, first_or, AreFacesTold, AreFacesByCells, OuterCyclesFollow, FacesToldByPairs}
 use Rattle.face_changes.proofs.LinkedCycles.{dart_there, there_dart}
 use Rattle.slab_faces.proofs.ListedCells.{dart_cell, first_listed}
 use Rattle.face_changes.proofs.OuterCycles.{Odd, own_weight, outer_there}
@@ -55,6 +55,10 @@ first_least (k ∷ ns) n h c = elim (in_member (k ∷ ns) n c) [ inl e ↦ omega
     go (l ∷ ms) a (inl e) = let b = a.0 in omega arith
     go (l ∷ ms) a (inr m) = go ms a.1 m
 
+first_in : (ns : List ℕ) (n : ℕ) → Contains ns n → Contains ns (first_or ns).0
+first_in [] n h = absurd (in_member [] n h)
+first_in (k ∷ ns) n h = member_in (k ∷ ns) k (inl refl)
+
 module _ (v : View) (f : Faces) (sound : IsGraphSound v) (full : IsComplete v f) (cycled : IsCycled v f) where
   abbrev g : Skeleton
   g = skeleton_of v
@@ -75,9 +79,6 @@ module _ (v : View) (f : Faces) (sound : IsGraphSound v) (full : IsComplete v f)
   kind_from : (d : DartId) → HasDart v d → is_outer g (dart_in v d) ≡ true → kind_in f (cycle_in f d) ≡ Outer
   kind_from d h k = (cycled.kind d h).1 (sym (one_kind_each.lead g (dart_in v d) plane) ∙ k)
 
-  kind_of : (x : Dart) → Odd (own_weight g x) → is_outer g x ≡ true
-  kind_of x h = odd_yes g (lead_of g x) (left_of_dart g x) h
-
   -- the cells of all that is there are listed
   listed : (i : Item) → HasItem v i → Contains (cells g) (cell_at v i)
   listed outside h = member_in (cells g) first_cell (first_listed g)
@@ -87,8 +88,64 @@ module _ (v : View) (f : Faces) (sound : IsGraphSound v) (full : IsComplete v f)
   abbrev label : SlabCell → SlabCell
   label c = face_of (face_labels (skeleton_of v)) c
 
+  -- cells with one label are in one face
+  in_face : (c d : SlabCell) → label c ≡ label d → SameFace g c d
+  in_face c d q = one_face g c d plane q
+
+  -- ---- faces by their least cells
+  module _ (cell : FaceId → SlabCell) (by : AreFacesByCells v f cell) where
+    there : HasFace f (first_or f.faces)
+    there = let a = by.all first_cell (member_in (cells g) first_cell (first_listed g)) in first_in f.faces a.0.0 a.1
+
+    first_is : cell (first_or f.faces) ≡ label first_cell
+    first_is = by.first (first_or f.faces) there (λ b h l. let k = first_least f.faces b.0 full.faces_ascend h in absurd (omega arith))
+
+    -- a face that has another before it isn't the unbounded one
+    bounded : (a b : FaceId) → HasFace f a → HasFace f b → b.0 < a.0 → cell a ≡ label first_cell → ⊥
+    bounded a b h k l q =
+        let m = first_least f.faces b.0 full.faces_ascend k in
+        let e = ap (λ (z : FaceId). z.0) (by.differ a (first_or f.faces) h there (q ∙ sym first_is)) in
+        absurd (omega arith)
+
+    -- of an outer cycle: a dart, which has the face on its left
+    outer_dart : (a : FaceId) (c : CycleId) → IsOuterOf f a c → (d : DartId) × HasDart v d × (cycle_in f d ≡ c) × (cell a ≡ label (left_of_dart g (dart_in v d))) × (is_outer g (dart_in v d) ≡ true)
+    outer_dart a c o =
+        let d = full.dart_has c o.0 in
+        (d.0, d.1, d.2, sym (ap cell (ap (face_in f) d.2 ∙ o.1)) ∙ by.darts d.0 d.1, kind_to d.0 d.1 (ap (kind_in f) d.2 ∙ o.2))
+
+    none_outside : (a : FaceId) (c : CycleId) → cell a ≡ label first_cell → IsOuterOf f a c → ⊥
+    none_outside a c q o =
+        let d = outer_dart a c o in
+        false≢true (sym (one_outer_cycle.unbounded g (dart_in v d.0) plane (is_dart d.0 d.1) (in_face _ first_cell (sym d.3 ∙ q))) ∙ d.4)
+
+    once_each : (a : FaceId) (c e : CycleId) → IsOuterOf f a c → IsOuterOf f a e → e ≡ c
+    once_each a c e o o' =
+        let d = outer_dart a c o in
+        let k = outer_dart a e o' in
+        let l = one_outer_cycle.once g (dart_in v k.0) (dart_in v d.0) plane (is_dart k.0 k.1) (is_dart d.0 d.1) (in_face _ _ (sym k.3 ∙ d.3)) k.4 d.4 in
+        sym k.2 ∙ (cycled.orbits k.0 d.0 k.1 d.1).1 l ∙ d.2
+
+    has_outer : (a : FaceId) → HasFace f a → (cell a ≡ label first_cell → ⊥) → (c : CycleId) × IsOuterOf f a c
+    has_outer a h far =
+        let r = by.real a h in
+        let w = one_outer_cycle.bounded g r.0 plane r.1 (λ s. far (r.2 ∙ one_label g r.0 first_cell plane s)) in
+        let d = named w.0 w.1 in
+        let has = full.cycle_has d.0 d.1 in
+        let s : label (left_of_dart g (dart_in v d.0)) ≡ label r.0 = ap (λ z. label (left_of_dart g z)) d.2 ∙ one_label g (left_of_dart g w.0) r.0 plane w.2 in
+        (cycle_in f d.0, (has, by.differ _ a (full.face_has (cycle_in f d.0) has) h (by.darts d.0 d.1 ∙ s ∙ sym r.2), kind_from d.0 d.1 (ap (is_outer g) d.2 ∙ w.3)))
+
+    outer_cycles : IsFaced v f cell
+    outer_cycles = record {
+      unbounded = λ a h none. (by.first a h none, λ c o. none_outside a c (by.first a h none) o);
+      bounded = λ a b h k l. let w = has_outer a h (bounded a b h k l) in (w.0, w.1, λ e o. once_each a w.0 e w.1 o);
+      darts = by.darts;
+      bare = by.bare;
+      differ = by.differ;
+      all = by.all;
+    }
+
+  -- ---- faces by pairs: the least cell of a face is that of an item in it
   module _ (t : AreFacesTold v f) where
-    -- the least cell of a face that a record names
     cell_by : (a : FaceId) → HasFace f a ⊎ ¬ HasFace f a → SlabCell
     cell_by a (inl h) = label (cell_at v (t.all a h).0)
     cell_by a (inr h) = first_cell
@@ -113,62 +170,15 @@ module _ (v : View) (f : Faces) (sound : IsGraphSound v) (full : IsComplete v f)
         let l = first_least f.faces a.0 full.faces_ascend h in
         by_number (first_or f.faces) a (elim (cases_lt (first_or f.faces).0 a.0) [ inl k ↦ absurd (none (first_or f.faces) t.there k) | inr k ↦ omega arith ])
 
-    not_first : (a b : FaceId) → HasFace f a → HasFace f b → b.0 < a.0 → first_or f.faces ≡ a → ⊥
-    not_first a b h k l q = let m = first_least f.faces b.0 full.faces_ascend k in let e = ap (λ (z : FaceId). z.0) q in absurd (omega arith)
-
-    -- no outer cycle in the first face
-    none_outside : (c : CycleId) → IsOuterOf f (first_or f.faces) c → ⊥
-    none_outside c o =
-        let d = full.dart_has c o.0 in
-        let k = kind_to d.0 d.1 (ap (kind_in f) d.2 ∙ o.2) in
-        let s = (t.same (beside d.0) outside d.1 tt).0 (ap (face_in f) d.2 ∙ o.1) in
-        false≢true (sym (one_outer_cycle.unbounded g (dart_in v d.0) plane (is_dart d.0 d.1) s) ∙ k)
-
-    once_each : (a : FaceId) (c e : CycleId) → IsOuterOf f a c → IsOuterOf f a e → e ≡ c
-    once_each a c e o o' =
-        let d = full.dart_has c o.0 in
-        let d' = full.dart_has e o'.0 in
-        let k = kind_to d.0 d.1 (ap (kind_in f) d.2 ∙ o.2) in
-        let k' = kind_to d'.0 d'.1 (ap (kind_in f) d'.2 ∙ o'.2) in
-        let s = (t.same (beside d'.0) (beside d.0) d'.1 d.1).0 (ap (face_in f) d'.2 ∙ o'.1 ∙ sym (ap (face_in f) d.2 ∙ o.1)) in
-        let l = one_outer_cycle.once g (dart_in v d'.0) (dart_in v d.0) plane (is_dart d'.0 d'.1) (is_dart d.0 d.1) s k' k in
-        sym d'.2 ∙ (cycled.orbits d'.0 d.0 d'.1 d.1).1 l ∙ d.2
-
-    has_outer : (a : FaceId) → HasFace f a → (first_or f.faces ≡ a → ⊥) → (c : CycleId) × IsOuterOf f a c
-    has_outer a h ne =
-        let w = t.all a h in
-        let far : SameFace g (cell_at v w.0) first_cell → ⊥ = λ s. ne (sym ((t.same w.0 outside w.1 tt).1 s) ∙ w.2) in
-        found w.0 w.1 w.2 far
-      where
-        by_dart : (i : Item) → HasItem v i → name_at f i ≡ a → (x : Dart) → IsDartOf g x → SameFace g (left_of_dart g x) (cell_at v i) → is_outer g x ≡ true → (c : CycleId) × IsOuterOf f a c
-        by_dart i hi q x X s k =
-            let d = named x X in
-            let s' = subst (λ z. SameFace g (left_of_dart g z) (cell_at v i)) (sym d.2) s in
-            let k' = subst (λ z. is_outer g z ≡ true) (sym d.2) k in
-            (cycle_in f d.0, (full.cycle_has d.0 d.1, (t.same (beside d.0) i d.1 hi).1 s' ∙ q, kind_from d.0 d.1 k'))
-
-        found : (i : Item) → HasItem v i → name_at f i ≡ a → (SameFace g (cell_at v i) first_cell → ⊥) → (c : CycleId) × IsOuterOf f a c
-        found i hi q far = elim (outer_there g plane (cell_at v i) (listed i hi)) [
-          | inl s ↦ absurd (far s)
-          | inr w ↦ by_dart i hi q w.0 w.1 w.2 (kind_of w.0 w.3)
-        ]
-
-    told_faced : IsFaced v f least
-    told_faced = record {
-      unbounded = λ a h none.
-          let q = first_by a h none in
-          (subst (λ b. least b ≡ label first_cell) q (least_is outside tt t.there), λ c o. none_outside c (subst (λ b. IsOuterOf f b c) (sym q) o));
-      bounded = λ a b h k l.
-          let w = has_outer a h (not_first a b h k l) in
-          (w.0, w.1, λ e o. once_each a w.0 e w.1 o);
+    by_cells : AreFacesByCells v f least
+    by_cells = record {
+      first = λ a h none. subst (λ b. least b ≡ label first_cell) (first_by a h none) (least_is outside tt t.there);
       darts = λ d h. least_is (beside d) h (full.face_has (cycle_in f d) (full.cycle_has d h));
-      bare = λ w h.
-          let V = full.bare_vertex w h in
-          least_is (round w) (V, (full.bare w V).0 h) (full.bare_has w h);
+      bare = λ w h. let V = full.bare_vertex w h in least_is (round w) (V, (full.bare w V).0 h) (full.bare_has w h);
       differ = λ a b h k q.
           let w = least_of a h in
           let u = least_of b k in
-          sym w.2 ∙ (t.same w.0 u.0 w.1 u.1).1 (one_face g (cell_at v w.0) (cell_at v u.0) plane (sym w.3 ∙ q ∙ u.3)) ∙ u.2;
+          sym w.2 ∙ (t.same w.0 u.0 w.1 u.1).1 (in_face (cell_at v w.0) (cell_at v u.0) (sym w.3 ∙ q ∙ u.3)) ∙ u.2;
       all = λ c C. elim (outer_there g plane c C) [
         | inl s ↦ (first_or f.faces, t.there, least_is outside tt t.there ∙ one_label g first_cell c plane (face_sym g _ _ s))
         | inr w ↦
@@ -177,46 +187,43 @@ module _ (v : View) (f : Faces) (sound : IsGraphSound v) (full : IsComplete v f)
             let h = full.face_has (cycle_in f d.0) (full.cycle_has d.0 d.1) in
             (face_in f (cycle_in f d.0), h, least_is (beside d.0) d.1 h ∙ one_label g _ c plane s)
       ];
+      real = λ a h. let w = least_of a h in (cell_at v w.0, listed w.0 w.1, w.3);
     }
 
-pub told_faces_are_faced : ToldFacesAreFaced
-told_faces_are_faced v f sound full cycled t = (least v f sound full cycled t, told_faced v f sound full cycled t)
+pub outer_cycles_follow : OuterCyclesFollow
+outer_cycles_follow v f cell sound full cycled by = outer_cycles v f sound full cycled cell by
 
--- ---- and back
-first_in : (ns : List ℕ) (n : ℕ) → Contains ns n → Contains ns (first_or ns).0
-first_in [] n h = absurd (in_member [] n h)
-first_in (k ∷ ns) n h = member_in (k ∷ ns) k (inl refl)
-
+-- ---- and back: what IsFaced says, by pairs
 module _ (v : View) (f : Faces) (cell : FaceId → SlabCell) (sound : IsGraphSound v) (full : IsComplete v f) (cycled : IsCycled v f) (t : IsFaced v f cell) where
   abbrev s : Skeleton
   s = skeleton_of v
 
-  there : HasFace f (first_or f.faces)
-  there = let a = t.all first_cell (member_in (cells s) first_cell (first_listed s)) in first_in f.faces a.0.0 a.1
+  has_first : HasFace f (first_or f.faces)
+  has_first = let a = t.all first_cell (member_in (cells s) first_cell (first_listed s)) in first_in f.faces a.0.0 a.1
 
-  first_is : (b : FaceId) → HasFace f b → b.0 < (first_or f.faces).0 → ⊥
-  first_is b h l = let k = first_least f.faces b.0 full.faces_ascend h in absurd (omega arith)
+  none_before : (b : FaceId) → HasFace f b → b.0 < (first_or f.faces).0 → ⊥
+  none_before b h l = let k = first_least f.faces b.0 full.faces_ascend h in absurd (omega arith)
 
   has_name : (i : Item) → HasItem v i → HasFace f (name_at f i)
-  has_name outside h = there
+  has_name outside h = has_first
   has_name (beside d) h = full.face_has (cycle_in f d) (full.cycle_has d h)
   has_name (round w) h = full.bare_has w ((full.bare w h.0).1 h.1)
 
   cell_is : (i : Item) → HasItem v i → cell (name_at f i) ≡ face_of (face_labels (skeleton_of v)) (cell_at v i)
-  cell_is outside h = (t.unbounded (first_or f.faces) there first_is).0
+  cell_is outside h = (t.unbounded (first_or f.faces) has_first none_before).0
   cell_is (beside d) h = t.darts d h
   cell_is (round w) h = t.bare w ((full.bare w h.0).1 h.1)
 
   faced_told : AreFacesTold v f
   faced_told = record {
-    there = there;
+    there = has_first;
     same = λ i j hi hj. (
       λ q. one_face s (cell_at v i) (cell_at v j) sound.plane (sym (cell_is i hi) ∙ ap cell q ∙ cell_is j hj),
       λ k. t.differ (name_at f i) (name_at f j) (has_name i hi) (has_name j hj) (cell_is i hi ∙ one_label s (cell_at v i) (cell_at v j) sound.plane k ∙ sym (cell_is j hj)),
     );
     all = λ a h. elim (cases_lt (first_or f.faces).0 a.0) [
       | inl l ↦
-          let w = t.bounded a (first_or f.faces) h there l in
+          let w = t.bounded a (first_or f.faces) h has_first l in
           let d = full.dart_has w.0 w.1.0 in
           (beside d.0, d.1, ap (face_in f) d.2 ∙ w.1.1)
       | inr l ↦
@@ -225,5 +232,8 @@ module _ (v : View) (f : Faces) (cell : FaceId → SlabCell) (sound : IsGraphSou
     ];
   }
 
-pub faced_are_told : FacedAreTold
-faced_are_told v f cell sound full cycled t = faced_told v f cell sound full cycled t
+pub faces_told_by_pairs : FacesToldByPairs
+faces_told_by_pairs = record {
+  cells = λ v f sound full cycled t. (least v f sound full cycled t, outer_cycles v f sound full cycled (least v f sound full cycled t) (by_cells v f sound full cycled t));
+  pairs = λ v f cell sound full cycled t. faced_told v f cell sound full cycled t;
+}

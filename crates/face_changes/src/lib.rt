@@ -8,7 +8,7 @@
 ghost use Rattle.face_changes.specs.Kinds.{CyclesAreOfOneKind, OneOuterCycle};
 ghost use Rattle.face_changes.specs.OneMoreEdge.{CellsWithOneMoreEdge, FacesWithOneMoreEdge, SidesOfOneMoreEdge, CyclesWithOneMoreEdge};
 ghost use Rattle.face_changes.specs.FaceNames.{FaceNamesStay, FaceNamesPart, FaceNamesMerge};
-ghost use Rattle.face_changes.specs.FacesByPairs.{ToldFacesAreFaced, FacedAreTold};
+ghost use Rattle.face_changes.specs.FacesByPairs.{OuterCyclesFollow, FacesToldByPairs};
 ghost use Rattle.face_changes.specs.OneMoreVertex.{OneMoreVertex};
 ghost use Rattle.face_changes.specs.RecordsAfterSplits.{RecordsAfterSplits};
 ghost use Rattle.face_changes.specs.EdgeSplit.{EdgeSplitInTwo};
@@ -60,14 +60,14 @@ pub fn face_names_merge<I>()
     ensures { FaceNamesMerge I }
 {}
 
-/// Face records that are told pairwise have a least cell each, one outer cycle each, and the first has none.
-pub fn told_faces_are_faced()
-    ensures { ToldFacesAreFaced }
+/// Face records that go by the least cells of their faces have one outer cycle each, and the first has none.
+pub fn outer_cycles_follow()
+    ensures { OuterCyclesFollow }
 {}
 
-/// Face records with least cells and outer cycles are told pairwise.
-pub fn faced_are_told()
-    ensures { FacedAreTold }
+/// Face records are told by pairs exactly where they are those of a sound view.
+pub fn faces_told_by_pairs()
+    ensures { FacesToldByPairs }
 {}
 
 /// With a vertex more, on no edge, faces, cycles and kinds are as they were.

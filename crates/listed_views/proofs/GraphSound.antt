@@ -19,8 +19,7 @@ use Rattle.slab_faces.proofs.Slabs.{same_edge_is, same_edge_refl}
 use Rattle.slab_faces.proofs.Member.{in_member}
 use Rattle.slab_faces.proofs.ClassesLemmas.{IsExact}
 use Rattle.slab_faces.proofs.NextLemmas.{next_from, next_one}
-use Rattle.listed_views.specs.Listed.{Drawing, skeleton_in, line_at, vertex_record, dart_record, view_of}
-use Rattle.listed_views.specs.Standing.{AreLinesOf}
+use Rattle.listed_views.specs.Listed.{Drawing, skeleton_in, line_at, vertex_record, dart_record, view_of, AreLinesOf}
 use Rattle.listed_views.proofs.Rows.{numbered_ascend, slice_get_member}
 use Rattle.listed_views.proofs.Places.{at_place, to_in}
 use Rattle.listed_views.proofs.Records.{IsDart, vertex_of, has_vertex, dart_of, has_dart, point_of, source_of, line_of, plane, of_edges, dart_name, vertex_name, source_is, twin_is, next_is, source_point, target_point, dart_is}

@@ -4,11 +4,9 @@ pub mod Darts
 pub mod Records
 pub mod Drawn
 pub mod GraphSound
-pub mod ListedLabels
-pub mod CellOrder
 pub mod RankedFaces
 pub mod FaceRecords
 pub mod Complete
 pub mod Cycled
 pub mod Faced
-pub mod Standing
+pub mod Sound

@@ -1,5 +1,5 @@
 -- Places of elements in a list, by a test that tells elements apart exactly.
-use Rattle.std.proofs.Common.{◌≡◌, ℕ, ◌+◌, ◌<◌, Bool, true, false, cond, arith, refl, sym, ap, ◌∙◌, subst, inl, inr, List, [], ◌∷◌, ◌++◌, map, length, zero, suc, Ordering, Less}
+use Rattle.std.proofs.Common.{◌≡◌, ℕ, ◌<◌, Bool, true, false, cond, arith, refl, sym, ap, ◌∙◌, subst, inl, inr, List, [], ◌∷◌, ◌++◌, map, length, zero, suc, Ordering, Less}
 use Rattle.std.specs.Prelude.{Some, slice_get, not, filter, ⊤}
 use Rattle.std.specs.List.{position_or_len}
 use Rattle.std.specs.Cmp.{IsTotalOrder}
@@ -118,83 +118,12 @@ module _ {X : Type 0} (same : X → X → Bool) (o : IsExact same) where
         ]
       ]
 
-  filter_order : (p : X → Bool) (xs : List X) (x y : X) → Member xs x → Member xs y → p x ≡ true → p y ≡ true → position_or_len (same x) (filter p xs) < position_or_len (same y) (filter p xs) → position_or_len (same x) xs < position_or_len (same y) xs
-  filter_order p [] x y h k px py l = absurd h
-  filter_order p (z ∷ zs) x y h k px py l = step (p z) refl (λ a b. filter_order p zs x y a b px py) l
-    where
-      other : p z ≡ false → (w : X) → p w ≡ true → same w z ≡ false
-      other e w pw = not_same w z (λ q. false≢true (sym e ∙ ap p (sym q) ∙ pw))
-
-      step : (b : Bool) → p z ≡ b → (Member zs x → Member zs y → position_or_len (same x) (filter p zs) < position_or_len (same y) (filter p zs) → position_or_len (same x) zs < position_or_len (same y) zs) → position_or_len (same x) (cond b (z ∷ filter p zs) (filter p zs)) < position_or_len (same y) (cond b (z ∷ filter p zs) (filter p zs)) → position_or_len (same x) (z ∷ zs) < position_or_len (same y) (z ∷ zs)
-      step true e f' l =
-          elim (cases_Bool (same y z)) [
-            | inl f ↦ let q = first_place y z (filter p zs) f in absurd (omega arith)
-            | inr f ↦ elim (cases_Bool (same x z)) [
-              | inl g ↦ let q = first_place x z zs g in let r = next_place y z zs f in omega arith
-              | inr g ↦
-                  let q = next_place x z zs g in
-                  let r = next_place y z zs f in
-                  let q' = next_place x z (filter p zs) g in
-                  let r' = next_place y z (filter p zs) f in
-                  let ih = f' (rest x z zs g h) (rest y z zs f k) (omega arith) in
-                  omega arith
-            ]
-          ]
-      step false e f' l =
-          let f = other e y py in
-          let g = other e x px in
-          let q = next_place x z zs g in
-          let r = next_place y z zs f in
-          let ih = f' (rest x z zs g h) (rest y z zs f k) l in
-          omega arith
-
-  turned : (x z : X) → same x z ≡ false → same z x ≡ false
-  turned x z e = not_same z x (λ p. false≢true (sym e ∙ subst (λ w. same x w ≡ true) (sym p) (o.itself x)))
-
   pub distinct_there : (xs : List X) (x : X) → Member xs x → Member (distinct same xs) x
   distinct_there xs x h =
       let r = distinct_in same xs (λ x _. o.itself x) (λ x y z _ _ _ a b. subst (λ w. same x w ≡ true) (o.path y z b) a) x h in
       subst (Member (distinct same xs)) (o.path r.0 x r.2) r.1
 
-  pub distinct_order : (xs : List X) (x y : X) → Member xs x → Member xs y → position_or_len (same x) (distinct same xs) < position_or_len (same y) (distinct same xs) → position_or_len (same x) xs < position_or_len (same y) xs
-  unfolding distinct
-  distinct_order [] x y h k l = absurd h
-  distinct_order (z ∷ zs) x y h k l =
-      let fs : List X = filter (λ y. not (same z y)) (distinct same zs) in
-      elim (cases_Bool (same y z)) [
-        | inl f ↦ let q = first_place y z fs f in absurd (omega arith)
-        | inr f ↦ elim (cases_Bool (same x z)) [
-          | inl g ↦ let q = first_place x z zs g in let r = next_place y z zs f in omega arith
-          | inr g ↦
-              let q = next_place x z zs g in
-              let r = next_place y z zs f in
-              let q' = next_place x z fs g in
-              let r' = next_place y z fs f in
-              let ih = distinct_order zs x y (rest x z zs g h) (rest y z zs f k) (filter_order (λ y. not (same z y)) (distinct same zs) x y (distinct_there zs x (rest x z zs g h)) (distinct_there zs y (rest y z zs f k)) (ap not (turned x z g)) (ap not (turned y z f)) (omega arith)) in
-              omega arith
-        ]
-      ]
-
   pub distinct_apart : (xs : List X) → Apart (distinct same xs)
   unfolding distinct
   distinct_apart [] = tt
   distinct_apart (x ∷ xs) = (λ y h e. false≢true (sym (ap not (subst (λ w. same x w ≡ true) e (o.itself x))) ∙ (filter_out (λ y. not (same x y)) (distinct same xs) y h).1), rising_filter (λ x y. x ≡ y → ⊥) (λ y. not (same x y)) (distinct same xs) (distinct_apart xs))
-
-  pub place_append : (xs ys : List X) (x : X) → (Member xs x → ⊥) → position_or_len (same x) (xs ++ ys) ≡ length xs + position_or_len (same x) ys
-  place_append [] ys x f = omega arith
-  place_append (z ∷ zs) ys x f = let a = next_place x z (zs ++ ys) (not_same x z (λ e. f (inl (sym e)))) in let b = place_append zs ys x (λ h. f (inr h)) in omega arith
-
-  -- ---- where f goes to no lesser element, what it keeps has the same place among its values
-  pub kept_place : (R : X → X → Type 0) (f : X → X) → ((x : X) → R x (f x) → ⊥) → (xs : List X) (x : X) → Rising R xs → Member xs x → f x ≡ x → position_or_len (same x) (map f xs) ≡ position_or_len (same x) xs
-  kept_place R f low [] x a h e = absurd h
-  kept_place R f low (z ∷ zs) x a h e =
-      elim (cases_Bool (same x z)) [
-        | inl g ↦
-            let p : x ≡ z = o.path x z g in
-            let q : same x (f z) ≡ true = subst (λ w. same x (f w) ≡ true) p (subst (λ w. same x w ≡ true) (sym e) (o.itself x)) in
-            first_place x (f z) (map f zs) q ∙ sym (first_place x z zs g)
-        | inr g ↦
-            let m = rest x z zs g h in
-            let q : same x (f z) ≡ false = not_same x (f z) (λ i. low z (subst (R z) i (a.0 x m))) in
-            next_place x (f z) (map f zs) q ∙ ap suc (kept_place R f low zs x a.1 m e) ∙ sym (next_place x z zs g)
-      ]

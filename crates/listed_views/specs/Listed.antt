@@ -1,9 +1,10 @@
 -- What a subdivision that is kept in lists means as records: each name is the place in an ascending list.
-use Rattle.std.specs.Prelude.{ℕ, pos, List, map, Bool, true, false, length, slice_index_or}
+use Rattle.std.specs.Prelude.{◌≡◌, ℕ, pos, List, map, Bool, true, false, length, Some, slice_get, slice_index_or}
 use Rattle.std.specs.List.{list_any, range_with_len}
 use Rattle.exact_plane.specs.Point.{Point}
-use Rattle.exact_plane.specs.Line.{Line}
-use Rattle.plane_graphs.specs.Graph.{Graph}
+use Rattle.exact_plane.specs.Line.{Line, IsOn}
+use Rattle.plane_graphs.specs.Graph.{Graph, Edge, edges}
+use Rattle.plane_graphs.specs.Line.{IsProperLine}
 use Rattle.slab_laws.specs.declared.names.CycleKind.{CycleKind}
 use Rattle.slab_laws.specs.declared.names.CycleKind.TheVariants.{Outer, Inner}
 use Rattle.slab_laws.specs.Skeleton.{Skeleton, same_point}
@@ -64,3 +65,14 @@ faces_of d =
       cycles = numbered 0 (map (cycle_record d) s.cycles);
       faces = range_with_len 0 (length s.faces);
     }
+
+-- the edge stands at the place among the edges
+abbrev pub IsEdgeAt : Drawing → ℕ → Edge → Type 0
+IsEdgeAt d k e = slice_get (edges d.graph) k ≡ Some e
+
+-- there are three numbers for each edge, which are a line's, and the line holds both its ends
+pub record AreLinesOf (d : Drawing) : Type 0 where
+  pub as_many : length d.lines ≡ length (edges d.graph)
+  pub is_line : (k : ℕ) (e : Edge) → IsEdgeAt d k e → IsProperLine (line_at d k)
+  pub lower_on : (k : ℕ) (e : Edge) → IsEdgeAt d k e → IsOn (line_at d k) e.low
+  pub upper_on : (k : ℕ) (e : Edge) → IsEdgeAt d k e → IsOn (line_at d k) e.high
