@@ -14,7 +14,7 @@ use Rattle.slab_laws.specs.Sound.{skeleton_of}
 use Rattle.slab_laws.specs.Subdivision.{Cycle, Bare, Subdivision, subdivision, has_dart, first_cell}
 use Rattle.slab_laws.specs.Text.{cycle_line, ended, face_lines, index, number, numbered}
 use Rattle.slab_laws.specs.View.{View, Faces, HasBareFace, point_in, bare_face_in}
-use Rattle.listed_views.specs.Standing.{IsStanding}
+use Rattle.slab_laws.specs.FacesSound.{IsSound}
 use Rattle.sound_views.specs.Orders.{vertex_order}
 use Rattle.sound_views.proofs.Bare.{bare_is_bare}
 use Rattle.sound_views.proofs.Ordered.{vertices_in_order}
@@ -48,7 +48,7 @@ three : (x a b c y z w : List ℕ) → x ≡ [] → y ≡ x ++ a → z ≡ y ++ 
 three x a b c y z w e f h k =
     k ∙ ap (λ (t : List ℕ). t ++ c) (h ∙ ap (λ (t : List ℕ). t ++ b) (f ∙ ap (λ (t : List ℕ). t ++ a) e)) ∙ append_assoc a b c
 
-module _ (v : View) (f : Faces) (s : IsStanding v f) where
+module _ (v : View) (f : Faces) (s : IsSound v f) where
   abbrev sub : Subdivision
   sub = subdivision (skeleton_of v)
 

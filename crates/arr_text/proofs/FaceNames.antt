@@ -25,7 +25,7 @@ use Rattle.slab_laws.specs.Skeleton.{Skeleton, IsPlaneSkeleton}
 use Rattle.slab_laws.specs.Rotation.{same_dart}
 use Rattle.slab_laws.specs.Slabs.{width}
 use Rattle.slab_laws.specs.Sound.{skeleton_of, dart_in, IsGraphSound}
-use Rattle.slab_laws.specs.FacesSound.{lead_in, face_round}
+use Rattle.slab_laws.specs.FacesSound.{lead_in, face_round, IsSound, IsFaced}
 use Rattle.slab_laws.specs.Subdivision.{Cycle, cycle, subdivision, first_cell, has_dart}
 use Rattle.slab_laws.specs.Tables.{NamesAscend, name_after}
 use Rattle.slab_laws.specs.Text.{cycle_line, ended, index, number}
@@ -33,7 +33,6 @@ use Rattle.slab_laws.specs.View.{View, Faces, HasVertex, HasDart, HasFace, HasBa
 use Rattle.slab_faces.proofs.FacesLemmas.{cells_exact}
 use Rattle.slab_faces.proofs.NextLemmas.{darts_exact}
 use Rattle.slab_faces.proofs.Member.{Member as In, in_member}
-use Rattle.listed_views.specs.Standing.{IsStanding, IsFacedByCells}
 use Rattle.listed_views.proofs.Darts.{listed_lead}
 use Rattle.listed_views.proofs.Places.{at_place, place_at, place_within, from_in}
 use Rattle.listed_views.proofs.RankedFaces.{cycle_of, cycles_are, outer_is, face_is, faces_apart, dart_face, vertex_face}
@@ -106,7 +105,7 @@ unfolding cells slab_cells
 first_there g = from_member (cells g) first_cell (in_left first_cell (slab_cells g 0) _ (in_map (λ (j : ℕ). record { slab = 0; place = j }) 0 (range_with_len 0 (suc (width g 0))) (inl refl)))
 
 -- ---- cycles
-module _ (v : View) (f : Faces) (s : IsStanding v f) where
+module _ (v : View) (f : Faces) (s : IsSound v f) where
   abbrev plane : IsPlaneSkeleton (skeleton_of v)
   plane = s.graph.plane
 
@@ -177,7 +176,7 @@ module _ (v : View) (f : Faces) (s : IsStanding v f) where
           (λ t. ap parity (sym own) ∙ kind.0 ((outer_kind (kind_in f (cycle_in f d))).0 t))
 
   -- ---- faces
-  module _ (cell : FaceId → SlabCell) (by : IsFacedByCells v f cell) where
+  module _ (cell : FaceId → SlabCell) (by : IsFaced v f cell) where
     pub face_same : (c : CycleKey) → Member c keys → cell c.face ≡ (model c).face
     face_same c m =
         let k = key_of c m in
@@ -194,7 +193,7 @@ module _ (v : View) (f : Faces) (s : IsStanding v f) where
     first_face =
         let some = by.all first_cell (first_there (skeleton_of v)) in
         let least = least_name f.faces s.complete.faces_ascend some.0.0 (to_member f.faces some.0.0 some.1) in
-        (least.0, least.1, least.2, by.first least.0 least.2 least.3)
+        (least.0, least.1, least.2, (by.unbounded least.0 least.2 least.3).0)
 
     firsts : first_faces (face_after_in f None) ≡ first_face.0 ∷ []
     firsts = ap first_faces first_face.1
@@ -285,7 +284,7 @@ module _ (v : View) (f : Faces) (s : IsStanding v f) where
     bare_rank w has k d l = ap (λ x. same_cell x (get_or (subdivision (skeleton_of v)).faces k d)) (sym (by.bare w has)) ∙ rank_is (bare_face_in f w) (s.complete.bare_has w has) (bare_there w has) k d l
 
 -- as many faces by name as there are
-pub faces_counted : (v : View) (f : Faces) → IsStanding v f → length (ranked_faces f (cycle_keys f (dart_order v))) ≡ length (subdivision (skeleton_of v)).faces
+pub faces_counted : (v : View) (f : Faces) → IsSound v f → length (ranked_faces f (cycle_keys f (dart_order v))) ≡ length (subdivision (skeleton_of v)).faces
 faces_counted v f s =
     let n = ap length (faces_named v f s s.faced.0 s.faced.1) in
     let t = length-map (ranked_faces f (cycle_keys f (dart_order v))) s.faced.0 in
@@ -312,12 +311,12 @@ within ranks all a bodies old n e r l m k =
     let l : position_or_len (same_face a) ranks < length ranks = subst (λ (fs : List FaceId). position_or_len (same_face a) fs < length fs) (sym r) l in
     omega arith
 
-pub key_within : (v : View) (f : Faces) (s : IsStanding v f) (cs : List CycleKey) (ranks : List FaceId) (i : ℕ) (d : CycleKey) → cs ≡ keys v f s → ranks ≡ ranked_faces f cs → i < length cs
+pub key_within : (v : View) (f : Faces) (s : IsSound v f) (cs : List CycleKey) (ranks : List FaceId) (i : ℕ) (d : CycleKey) → cs ≡ keys v f s → ranks ≡ ranked_faces f cs → i < length cs
     → (bodies old : List (List ℕ)) (n : ℕ) → n ≡ position_or_len (same_face (get_or cs i d).face) ranks → length bodies ≡ length old → length old ≡ length ranks → n < length bodies
 key_within v f s cs ranks i d e r l bodies old n p m k =
     within ranks (ranked_faces f (keys v f s)) (get_or cs i d).face bodies old n p (r ∙ ap (ranked_faces f) e) (cycle_within v f s s.faced.0 s.faced.1 (get_or cs i d) (key_at v f s cs i d e l)) m k
 
-pub bare_place : (v : View) (f : Faces) (s : IsStanding v f) (ranks : List FaceId) (w : VertexId) → HasBareFace f w → ranks ≡ ranked_faces f (keys v f s)
+pub bare_place : (v : View) (f : Faces) (s : IsSound v f) (ranks : List FaceId) (w : VertexId) → HasBareFace f w → ranks ≡ ranked_faces f (keys v f s)
     → (bodies old : List (List ℕ)) (n : ℕ) → n ≡ position_or_len (same_face (bare_face_in f w)) ranks → length bodies ≡ length old → length old ≡ length ranks → n < length bodies
 bare_place v f s ranks w has r bodies old n p m k = within ranks (ranked_faces f (keys v f s)) (bare_face_in f w) bodies old n p r (bare_within v f s s.faced.0 s.faced.1 w has) m k
 
@@ -341,5 +340,5 @@ none_out : (P : Type 0) (o : Option DartId) → IfNone o P → is_some o ≡ fal
 none_out P (Some d) h e = absurd (false≢true (sym e))
 none_out P None h e = h
 
-pub bare_has : (v : View) (f : Faces) (s : IsStanding v f) (w : VertexId) → HasVertex v w → (o : Option DartId) → IfNone o ((d : DartId) → ¬ IsOutOf v w d) → is_some o ≡ false → HasBareFace f w
+pub bare_has : (v : View) (f : Faces) (s : IsSound v f) (w : VertexId) → HasVertex v w → (o : Option DartId) → IfNone o ((d : DartId) → ¬ IsOutOf v w d) → is_some o ≡ false → HasBareFace f w
 bare_has v f s w has o none e = (s.complete.bare w has).1 (none_out ((d : DartId) → ¬ IsOutOf v w d) o none e)

@@ -10,7 +10,7 @@ ghost use Rattle.slab_laws.specs.Sound.{skeleton_of, dart_in, IsGraphSound};
 ghost use Rattle.slab_laws.specs.Subdivision.{cycle, subdivision, has_dart};
 ghost use Rattle.slab_laws.specs.Text.{cycle_line, ended, face_lines, index, number, numbered};
 ghost use Rattle.slab_laws.specs.View.{HasDart, bare_face_in};
-ghost use Rattle.listed_views.specs.Standing.{IsStanding};
+ghost use Rattle.slab_laws.specs.FacesSound.{IsSound};
 ghost use Rattle.sound_views.specs.Orders.{dart_order};
 ghost use Rattle.record_orders.specs.Keys.{vertex_keys};
 ghost use Rattle.record_cycles.specs.Keys.{cycle_keys, ranked_faces, same_face};
@@ -63,7 +63,7 @@ fn put_cycles<R: Faced>(
     outer: bool,
     darts: usize,
 ) -> Result<(), NoMemory>
-    requires stands { IsStanding (R.graph records.now) (R.faces records.now) }
+    requires stands { IsSound (R.graph records.now) (R.faces records.now) }
     requires points { points.now ≡ (skeleton_of (R.graph records.now)).vertices }
     requires cycles { cycles.now ≡ cycle_keys (R.faces records.now) (dart_order (R.graph records.now)) }
     requires ranks { ranks.now ≡ ranked_faces (R.faces records.now) cycles.now }
@@ -101,7 +101,7 @@ fn put_isolated<R: Faced>(
     vertices: &[VertexKey],
     ranks: &Ranks,
 ) -> Result<(), NoMemory>
-    requires stands { IsStanding (R.graph records.now) (R.faces records.now) }
+    requires stands { IsSound (R.graph records.now) (R.faces records.now) }
     requires points { points.now ≡ (skeleton_of (R.graph records.now)).vertices }
     requires vertices { vertices.now ≡ vertex_keys (R.graph records.now) }
     requires ranks { ranks.now ≡ ranked_faces (R.faces records.now) (cycle_keys (R.faces records.now) (dart_order (R.graph records.now))) }
@@ -150,7 +150,7 @@ pub(crate) fn put_faces<R: Faced>(
     ranks: &Ranks,
     darts: usize,
 ) -> Result<(), NoMemory>
-    requires stands { IsStanding (R.graph records.now) (R.faces records.now) }
+    requires stands { IsSound (R.graph records.now) (R.faces records.now) }
     requires points { points.now ≡ (skeleton_of (R.graph records.now)).vertices }
     requires vertices { vertices.now ≡ vertex_keys (R.graph records.now) }
     requires cycles { cycles.now ≡ cycle_keys (R.faces records.now) (dart_order (R.graph records.now)) }

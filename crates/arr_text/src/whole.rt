@@ -1,6 +1,6 @@
 ghost use Rattle.std.specs.Prelude.{◌≡◌, ◌++◌, map, codes, IfOk, OnOk};
 ghost use Rattle.slab_laws.specs.Sound.{skeleton_of};
-ghost use Rattle.listed_views.specs.Standing.{IsStanding};
+ghost use Rattle.slab_laws.specs.FacesSound.{IsSound};
 ghost use Rattle.sound_views.specs.Orders.{dart_order};
 ghost use Rattle.record_orders.specs.Keys.{vertex_keys, dart_keys};
 ghost use Rattle.record_cycles.specs.Keys.{cycle_keys, ranked_faces};
@@ -51,7 +51,7 @@ fn put_lines<R: Curved + Faced>(
     cycles: &[CycleKey],
     ranks: &Ranks,
 ) -> Result<(), NoMemory>
-    requires stands { IsStanding (R.graph records.now) (R.faces records.now) }
+    requires stands { IsSound (R.graph records.now) (R.faces records.now) }
     requires points { points.now ≡ (skeleton_of (R.graph records.now)).vertices }
     requires vertices { vertices.now ≡ vertex_keys (R.graph records.now) }
     requires darts { darts.now ≡ dart_keys (R.graph records.now) }
@@ -86,7 +86,7 @@ fn put_lines<R: Curved + Faced>(
 ///
 /// There was no memory for the text or for a table on the way.
 pub fn text<R: Curved + Faced>(alloc: Global, records: &R) -> Result<Vec<u8>, NoMemory>
-    requires { IsStanding (R.graph records.now) (R.faces records.now) }
+    requires { IsSound (R.graph records.now) (R.faces records.now) }
     ensures { IfOk result (λ bytes. bytes.items ≡ text_in (R.graph records.now) (R.curve_list records.now)) }
 {
     let vertices = vertices_in_order(alloc, records)?;

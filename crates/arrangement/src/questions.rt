@@ -6,8 +6,8 @@ ghost use Rattle.plane_graphs.specs.Graph.{graph, edges, curves, edge_cmp, is_at
 ghost use Rattle.slab_laws.specs.Sound.{edge_between};
 ghost use Rattle.slab_laws.specs.Subdivision.{holds};
 ghost use Rattle.slab_laws.specs.Text.{present_text};
-ghost use Rattle.listed_views.specs.Listed.{subdivision_in, view_of, faces_of};
-ghost use Rattle.listed_views.specs.Standing.{IsStanding, AreLinesOf};
+ghost use Rattle.listed_views.specs.Listed.{subdivision_in, view_of, faces_of, AreLinesOf};
+ghost use Rattle.slab_laws.specs.FacesSound.{IsSound};
 ghost use Rattle.arrangement.specs.Arranged.{layer_in, subdivision_by};
 
 use crate::arrangement::Arrangement;
@@ -59,7 +59,7 @@ impl Arrangement {
         ensures graph { IfOk result (λ s. s.graph ≡ graph (layer_in self.now).present) }
         ensures subdivision { IfOk result (λ s. subdivision_in s ≡ subdivision_by self.now) }
         ensures lines { IfOk result AreLinesOf }
-        ensures stands { IfOk result (λ s. IsStanding (view_of s) (faces_of s)) }
+        ensures stands { IfOk result (λ s. IsSound (view_of s) (faces_of s)) }
     {
         let drawn = Drawn::new(&self.records, &self.history);
         subdivide_of(self.alloc, &drawn)

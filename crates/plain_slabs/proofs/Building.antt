@@ -26,8 +26,7 @@ use Rattle.slab_laws.specs.declared.rows.CycleRow.{CycleRow}
 use Rattle.slab_laws.specs.declared.slab_cell.SlabCell.{SlabCell}
 use Rattle.slab_laws.specs.Text.{skeleton}
 use Rattle.slab_faces.proofs.PlaneGraphs.{counts}
-use Rattle.listed_views.specs.Listed.{skeleton_in}
-use Rattle.listed_views.specs.Standing.{AreLinesOf}
+use Rattle.listed_views.specs.Listed.{skeleton_in, AreLinesOf}
 use Rattle.present_graphs.specs.Edges.{AreAlongPieces}
 use Rattle.present_graphs.specs.declared.marks.Mark.{Mark}
 use Rattle.present_graphs.specs.Marks.{mark_of}

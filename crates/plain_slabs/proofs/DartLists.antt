@@ -19,10 +19,10 @@ use Rattle.slab_faces.proofs.ClassesLemmas.{IsExact}
 use Rattle.slab_faces.proofs.Member.{in_member}
 use Rattle.slab_faces.proofs.Slabs.{same_edge_is, same_edge_refl}
 use Rattle.listed_views.specs.Listed.{Drawing, skeleton_in, line_at, view_of, faces_of}
-use Rattle.listed_views.specs.Standing.{IsStanding}
+use Rattle.slab_laws.specs.FacesSound.{IsSound}
 use Rattle.listed_views.proofs.Places.{at_place}
 use Rattle.listed_views.proofs.Records.{IsDart, dart_of, has_dart, source_of, twin_of, next_of, line_of, twin_is, of_edges}
-use Rattle.listed_views.proofs.Standing.{lists_stand}
+use Rattle.listed_views.proofs.Sound.{lists_are_sound}
 use Rattle.plain_slabs.specs.declared.plain.Plain.TheInside.{Inside}
 use Rattle.plain_slabs.specs.Kept.{drawing_of, IsKept}
 use Rattle.plain_slabs.proofs.Items.{within, item_is, read, no_row, get_or_default}
@@ -34,8 +34,8 @@ module _ (a : Inside) (k : IsKept a) where
   abbrev D : Drawing
   D = drawing_of a
 
-  stands_there : IsStanding (view_of D) (faces_of D)
-  stands_there = lists_stand D k.plane k.lines
+  stands_there : IsSound (view_of D) (faces_of D)
+  stands_there = lists_are_sound D k.plane k.lines
 
   -- ---- the lists of darts
   darts_are : a.darts.items ≡ map (dart_row (skeleton_in D)) (dart_list (skeleton_in D))
@@ -98,8 +98,8 @@ module _ (a : Inside) (k : IsKept a) where
 
 -- ---- the same of the value that is seen
 module _ (a : Inside) (d : Drawing) (k : IsKept a) (is : drawing_of a ≡ d) where
-  pub stands : IsStanding (view_of d) (faces_of d)
-  stands = subst (λ (d : Drawing). IsStanding (view_of d) (faces_of d)) is (stands_there a k)
+  pub stands : IsSound (view_of d) (faces_of d)
+  stands = subst (λ (d : Drawing). IsSound (view_of d) (faces_of d)) is (stands_there a k)
 
   before : (h : DartId) → HasDart (view_of d) h → HasDart (view_of (drawing_of a)) h
   before h H = subst (λ (d : Drawing). HasDart (view_of d) h) (sym is) H

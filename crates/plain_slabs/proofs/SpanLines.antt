@@ -10,8 +10,7 @@ use Rattle.plane_graphs.specs.Ascending.{Member}
 use Rattle.plane_graphs.specs.Graph.{Graph, Edge, edges}
 use Rattle.plane_graphs.specs.Line.{IsProperLine}
 use Rattle.slab_laws.specs.Drawn.{edge_of}
-use Rattle.listed_views.specs.Listed.{Drawing, line_at}
-use Rattle.listed_views.specs.Standing.{AreLinesOf, IsEdgeAt}
+use Rattle.listed_views.specs.Listed.{Drawing, line_at, AreLinesOf, IsEdgeAt}
 use Rattle.listed_views.proofs.Places.{to_in}
 use Rattle.listed_views.proofs.Rows.{slice_get_member}
 

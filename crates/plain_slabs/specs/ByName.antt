@@ -11,7 +11,7 @@ use Rattle.slab_laws.specs.Drawn.{edge_of}
 use Rattle.slab_laws.specs.View.{View, pinned_in, line_in}
 use Rattle.arr_notes.specs.Curves.{Curves}
 use Rattle.record_graphs.specs.Graph.{drawn_graph}
-use Rattle.listed_views.specs.Standing.{AreLinesOf}
+use Rattle.listed_views.specs.Listed.{AreLinesOf}
 use Rattle.record_orders.specs.declared.vertices.VertexKey.{VertexKey}
 use Rattle.record_orders.specs.declared.darts.DartKey.{DartKey}
 use Rattle.record_orders.specs.Keys.{dart_keys}

@@ -12,8 +12,7 @@ use Rattle.slab_laws.specs.Skeleton.{same_point}
 use Rattle.slab_laws.specs.Slabs.{left_cell}
 use Rattle.slab_laws.specs.Subdivision.{rank, has_dart}
 use Rattle.slab_laws.specs.Rows.{dart_rows, twin_places, next_places, cycle_places, cycle_rows}
-use Rattle.listed_views.specs.Listed.{Drawing, skeleton_in, subdivision_in}
-use Rattle.listed_views.specs.Standing.{AreLinesOf}
+use Rattle.listed_views.specs.Listed.{Drawing, skeleton_in, subdivision_in, AreLinesOf}
 use Rattle.plain_slabs.specs.Drawn.{drawing_in}
 use Rattle.plain_slabs.specs.declared.plain.Plain.TheInside.{Inside}
 

@@ -8,8 +8,8 @@ ghost use Rattle.slab_laws.specs.Pieces.{present_of};
 ghost use Rattle.slab_laws.specs.Skeleton.{same_point};
 ghost use Rattle.slab_laws.specs.Subdivision.{subdivision};
 ghost use Rattle.slab_laws.specs.Text.{skeleton};
-ghost use Rattle.listed_views.specs.Listed.{subdivision_in, view_of, faces_of};
-ghost use Rattle.listed_views.specs.Standing.{IsStanding, AreLinesOf};
+ghost use Rattle.listed_views.specs.Listed.{subdivision_in, view_of, faces_of, AreLinesOf};
+ghost use Rattle.slab_laws.specs.FacesSound.{IsSound};
 ghost use Rattle.plain_slabs.specs.Drawn.{graph_in, drawing_in};
 
 use crate::orbits::orbits_of;
@@ -91,7 +91,7 @@ pub fn subdivide(alloc: Global, present: &Present) -> Result<Plain, NoMemory>
     ensures graph { IfOk result (λ s. s.graph ≡ graph (present_of present.now)) }
     ensures subdivision { IfOk result (λ s. subdivision_in s ≡ subdivision (skeleton (graph (present_of present.now)))) }
     ensures lines { IfOk result AreLinesOf }
-    ensures stands { IfOk result (λ s. IsStanding (view_of s) (faces_of s)) }
+    ensures stands { IfOk result (λ s. IsSound (view_of s) (faces_of s)) }
 {
     let points = vertices_of(alloc, present)?;
     let marks = marks_of(alloc, present, &points)?;

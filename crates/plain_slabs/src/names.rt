@@ -8,8 +8,8 @@ ghost use Rattle.slab_laws.specs.View.{HasDart};
 ghost use Rattle.arr_notes.specs.Curves.{IsForward};
 ghost use Rattle.record_graphs.specs.Graph.{drawn_graph};
 ghost use Rattle.record_orders.specs.Keys.{vertex_keys, dart_key};
-ghost use Rattle.listed_views.specs.Listed.{subdivision_in, view_of, faces_of};
-ghost use Rattle.listed_views.specs.Standing.{IsStanding, AreLinesOf};
+ghost use Rattle.listed_views.specs.Listed.{subdivision_in, view_of, faces_of, AreLinesOf};
+ghost use Rattle.slab_laws.specs.FacesSound.{IsSound};
 ghost use Rattle.present_graphs.specs.Marks.{mark_of};
 ghost use Rattle.plain_slabs.specs.ByName.{numbers_of, points_at, pinned_among, goes_forward, forward_keys, span_along, key_marks, AreParts};
 
@@ -160,7 +160,7 @@ pub fn subdivide_of<R: Curved>(alloc: Global, records: &R) -> Result<Plain, NoMe
     ensures graph { IfOk result (λ s. s.graph ≡ drawn_graph (R.graph records.now) (numbers_of (R.curve_list records.now))) }
     ensures subdivision { IfOk result (λ s. subdivision_in s ≡ subdivision (skeleton (drawn_graph (R.graph records.now) (numbers_of (R.curve_list records.now))))) }
     ensures lines { IfOk result AreLinesOf }
-    ensures stands { IfOk result (λ s. IsStanding (view_of s) (faces_of s)) }
+    ensures stands { IfOk result (λ s. IsSound (view_of s) (faces_of s)) }
 {
     let parts = parts_of(alloc, records)?;
     let plain = plain_of(alloc, parts.points, parts.marks, parts.pins, parts.edges)?;

@@ -6,8 +6,8 @@ use Rattle.slab_laws.specs.Pieces.{present_of}
 use Rattle.slab_laws.specs.Subdivision.{subdivision}
 use Rattle.slab_laws.specs.Text.{skeleton}
 use Rattle.listed_views.specs.Listed.{Drawing, view_of, faces_of}
-use Rattle.listed_views.specs.Standing.{IsStanding}
-use Rattle.listed_views.proofs.Standing.{lists_stand}
+use Rattle.slab_laws.specs.FacesSound.{IsSound}
+use Rattle.listed_views.proofs.Sound.{lists_are_sound}
 use Rattle.plain_slabs.proofs.Building.{graph_is, lines_are}
 use Rattle.plain_slabs.specs.Drawn.{drawing_in}
 use Rattle.plain_slabs.proofs.build.subdivide.Goals as goal
@@ -48,4 +48,4 @@ returns-clause-stands c =
     let is = graph_is p c.in_ok-points.points.items c.in_ok-marks.marks.items c.in_ok-pins.pins.items c.in_ok-points.ensures c.in_ok-marks.ensures (c.in_ok-pins.ensures ∙ c.as_slice.ensures) in
     let d : Drawing = drawing_in c.in_ok-points.points.items c.in_ok-marks.marks.items c.in_ok-pins.pins.items c.in_ok-edges.edges.items in
     let lines = lines_are p c.in_ok-points.points.items c.in_ok-marks.marks.items c.in_ok-pins.pins.items c.in_ok-edges.edges.items is c.in_ok-edges.ensures.edges c.in_ok-edges.ensures.lines c.requires in
-    subst (λ (d : Drawing). IsStanding (view_of d) (faces_of d)) (sym c.in_ok-plain.ensures) (lists_stand d (subst IsPlane (sym is) (graph_is_plane p c.requires)) lines)
+    subst (λ (d : Drawing). IsSound (view_of d) (faces_of d)) (sym c.in_ok-plain.ensures) (lists_are_sound d (subst IsPlane (sym is) (graph_is_plane p c.requires)) lines)

@@ -3,8 +3,8 @@ use Rattle.plane_graphs.specs.Graph.{Graph}
 use Rattle.slab_laws.specs.Subdivision.{subdivision}
 use Rattle.slab_laws.specs.Text.{skeleton}
 use Rattle.listed_views.specs.Listed.{Drawing, view_of, faces_of}
-use Rattle.listed_views.specs.Standing.{IsStanding}
-use Rattle.listed_views.proofs.Standing.{lists_stand}
+use Rattle.slab_laws.specs.FacesSound.{IsSound}
+use Rattle.listed_views.proofs.Sound.{lists_are_sound}
 use Rattle.plain_slabs.proofs.names.subdivide_of.Goals as goal
 
 pub returns-clause-graph : goal.returns-clause-graph
@@ -15,4 +15,4 @@ returns-clause-subdivision g c = ap (λ (d : Drawing). subdivision (skeleton d.g
 
 pub returns-clause-stands : goal.returns-clause-stands
 returns-clause-stands g c =
-    subst (λ (d : Drawing). IsStanding (view_of d) (faces_of d)) (sym c.in_ok-plain.ensures) (lists_stand _ c.in_ok-parts.ensures.plane c.in_ok-parts.ensures.lines)
+    subst (λ (d : Drawing). IsSound (view_of d) (faces_of d)) (sym c.in_ok-plain.ensures) (lists_are_sound _ c.in_ok-parts.ensures.plane c.in_ok-parts.ensures.lines)
