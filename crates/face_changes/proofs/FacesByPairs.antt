@@ -14,7 +14,6 @@ use Rattle.slab_laws.specs.Meets.{SameFace}
 use Rattle.slab_laws.specs.Cycles.{left_of_dart}
 use Rattle.slab_laws.specs.Faces.{face_labels, face_of, cells}
 use Rattle.slab_laws.specs.FacesSound.{IsFaced, IsCycled, IsComplete, IsOuterOf}
-use Rattle.slab_laws.specs.Rows.{lead_of}
 use Rattle.slab_laws.specs.Sound.{skeleton_of, dart_in, IsGraphSound}
 use Rattle.slab_laws.specs.Subdivision.{first_cell}
 use Rattle.slab_laws.specs.Tables.{NamesAscend}
@@ -29,8 +28,8 @@ use Rattle.face_changes.specs.Kinds.{is_outer}
 use Rattle.face_changes.specs.FacesByPairs.{Item, outside, beside, round, HasItem, cell_at, name_at, first_or, AreFacesTold, AreFacesByCells, OuterCyclesFollow, FacesToldByPairs}
 use Rattle.face_changes.proofs.LinkedCycles.{dart_there, there_dart}
 use Rattle.slab_faces.proofs.ListedCells.{dart_cell, first_listed}
-use Rattle.face_changes.proofs.OuterCycles.{Odd, own_weight, outer_there}
-use Rattle.face_changes.proofs.OneMoreEdge.{odd_yes, one_kind_each, one_outer_cycle}
+use Rattle.face_changes.proofs.OuterCycles.{outer_there}
+use Rattle.face_changes.proofs.OneMoreEdge.{one_kind_each, one_outer_cycle}
 
 by_number : (a b : FaceId) → a.0 ≡ b.0 → a ≡ b
 by_number a b q = λ i. record { 0 = q i }

@@ -8,3 +8,4 @@ pub mod RecordsAfterSplits
 pub mod EdgeSplit
 pub mod AddedWithinACycle
 pub mod CycleNames
+pub mod SoundExamples

@@ -9,6 +9,7 @@ ghost use Rattle.face_changes.specs.Kinds.{CyclesAreOfOneKind, OneOuterCycle};
 ghost use Rattle.face_changes.specs.OneMoreEdge.{CellsWithOneMoreEdge, FacesWithOneMoreEdge, SidesOfOneMoreEdge, CyclesWithOneMoreEdge};
 ghost use Rattle.face_changes.specs.FaceNames.{FaceNamesStay, FaceNamesPart, FaceNamesMerge};
 ghost use Rattle.face_changes.specs.FacesByPairs.{OuterCyclesFollow, FacesToldByPairs};
+ghost use Rattle.face_changes.specs.SoundExamples.{ViewsThatAreSound};
 ghost use Rattle.face_changes.specs.OneMoreVertex.{OneMoreVertex};
 ghost use Rattle.face_changes.specs.RecordsAfterSplits.{RecordsAfterSplits};
 ghost use Rattle.face_changes.specs.EdgeSplit.{EdgeSplitInTwo};
@@ -93,4 +94,9 @@ pub fn added_within_a_cycle()
 /// The classes that next makes of the names of darts are the orbits of what the view draws.
 pub fn names_tell_cycles()
     ensures { NamesTellCycles }
+{}
+
+/// The empty plane with its one face is a sound view, and so is a triangle with its two.
+pub fn views_that_are_sound()
+    ensures { ViewsThatAreSound }
 {}

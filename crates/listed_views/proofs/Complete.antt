@@ -23,7 +23,8 @@ use Rattle.slab_faces.proofs.Member.{Member, member_in, in_member, none_passes, 
 use Rattle.slab_faces.proofs.Parity.{same_point_refl}
 use Rattle.slab_faces.proofs.NextLemmas.{dart_in as dart_there}
 use Rattle.listed_views.specs.Listed.{Drawing, skeleton_in, subdivision_in, cycle_record, view_of, faces_of}
-use Rattle.listed_views.proofs.Rows.{slice_get_member, numbered_ascend, range_ascend}
+use Rattle.slab_faces.proofs.Searches.{range_ascend}
+use Rattle.listed_views.proofs.Rows.{slice_get_member, numbered_ascend}
 use Rattle.listed_views.proofs.Places.{Rising, rising_map, rising_weaker, rising_filter, rising_ascending, not_same, place_order}
 use Rattle.listed_views.proofs.Darts.{listed_lead}
 use Rattle.listed_views.proofs.Records.{IsDart, IsVertex, points_exact, vertex_of, has_vertex, dart_of, has_dart as dart_has_record, source_of, plane, is_dart, of_edges, vertex_name, source_is}

@@ -53,14 +53,6 @@ module _ {X : Type 0} where
   numbered_ascend [] i = tt
   numbered_ascend (x ∷ xs) i = (names_above xs i (suc i) (omega arith), numbered_ascend xs (suc i))
 
-range_above : (i a n : ℕ) → i < a → AllByRecursion (λ m. i < m) (range_with_len a n)
-range_above i a zero h = tt
-range_above i a (suc n) h = (h, range_above i (a + 1) n (omega arith))
-
-pub range_ascend : (a n : ℕ) → NamesAscend (range_with_len a n)
-range_ascend a zero = tt
-range_ascend a (suc n) = (range_above a (a + 1) n (omega arith), range_ascend (a + 1) n)
-
 -- ---- rows by a number of their own
 module _ {X Y : Type 0} (name : X → ℕ) (val : X → Y) where
   -- a row comes from an element

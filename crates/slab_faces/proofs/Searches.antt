@@ -1,10 +1,11 @@
 -- What is found in a list: the first that passes, the best that passes, the numbers of a range.
 use Rattle.std.proofs.Common.{◌≡◌, ℕ, ◌+◌, ◌<◌, ◌≤◌, Bool, true, false, cond, arith, refl, sym, subst, ◌∙◌, ◌⊎◌, inl, inr, List, [], ◌∷◌, length, zero, suc}
 use Rattle.std.specs.Prelude.{Some, None, find}
-use Rattle.std.specs.List.{Contains, position_or_len, range_with_len}
+use Rattle.std.specs.List.{Contains, AllByRecursion, position_or_len, range_with_len}
 use Rattle.std.proofs.lemmas.Bool.{false≢true, false_from_ne_true, cases_Bool, cases_lt}
 use Rattle.std.proofs.lemmas.List.Sums.{fails_before_first}
 use Rattle.exact_plane.specs.Point.{Point}
+use Rattle.slab_laws.specs.Tables.{NamesAscend}
 use Rattle.slab_faces.proofs.Member.{Member}
 
 module _ {X : Type 0} where
@@ -100,3 +101,11 @@ pub range_below : (a n j : ℕ) → Member (range_with_len a n) j → j < a + n
 range_below a zero j h = absurd h
 range_below a (suc n) j (inl e) = omega arith
 range_below a (suc n) j (inr h) = let k = range_below (a + 1) n j h in omega arith
+
+range_above : (i a n : ℕ) → i < a → AllByRecursion (λ m. i < m) (range_with_len a n)
+range_above i a zero h = tt
+range_above i a (suc n) h = (h, range_above i (a + 1) n (omega arith))
+
+pub range_ascend : (a n : ℕ) → NamesAscend (range_with_len a n)
+range_ascend a zero = tt
+range_ascend a (suc n) = (range_above a (a + 1) n (omega arith), range_ascend (a + 1) n)

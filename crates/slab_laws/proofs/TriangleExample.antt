@@ -16,10 +16,10 @@ use Rattle.slab_laws.specs.Tables.{row_at}
 use Rattle.slab_laws.specs.View.{View, dart_id, next_in}
 use Rattle.slab_laws.specs.Sound.{dart_in, skeleton_of}
 use Rattle.slab_laws.specs.FacesSound.{lead_in, face_left_of}
-use Rattle.slab_laws.specs.Triangle.{Shape, triangle_view}
+use Rattle.slab_laws.specs.Triangle.{three_four, triangle_view}
 
 -- opens all that the example computes with
-unfoldable opened : Unit {0}
+unfoldable pub opened : Unit {0}
 unfolding gcd_within gcd place ascending distinct graphs.edge_cmp
     plane.left_of plane.lower_than plane.run plane.side plane.steep plane.shift plane.foot plane.over plane.gap plane.crosses plane.same_edge plane.under slabs.width
     faces.is_lowest faces.walls faces.is_open faces.corner_links faces.foot_links faces.wall_links faces.links faces.face_labels faces.slab_cells faces.cells
@@ -28,40 +28,30 @@ unfolding gcd_within gcd place ascending distinct graphs.edge_cmp
     cycles.trail cycles.dart_labels cycles.leads cycles.darts_on cycles.odd row_at
 opened = tt
 
--- the corners (0, 0), (4, 0) and (0, 3), with the lines y = 0, 3 x + 4 y = 12 and x = 0
-abbrev three_four : Shape
-three_four = record {
-  a = record { x = pos 0; y = pos 0; w = pos 1 };
-  b = record { x = pos 4; y = pos 0; w = pos 1 };
-  c = record { x = pos 0; y = pos 3; w = pos 1 };
-  ab = record { a = pos 0; b = pos 1; c = pos 0 };
-  bc = record { a = pos 3; b = pos 4; c = negsuc 11 };
-  ca = record { a = negsuc 0; b = pos 0; c = pos 0 };
-}
-
-abbrev drawn : View
+-- the view of the triangle with the corners (0, 0), (4, 0) and (0, 3)
+abbrev pub drawn : View
 drawn = triangle_view three_four
 
 -- the next dart is the first clockwise after the twin
-abbrev Turns : ℕ → Type 0
+abbrev pub Turns : ℕ → Type 0
 Turns n = dart_in drawn (next_in drawn (dart_id n)) ≡ rotation.next (darts (skeleton_of drawn)) (dart_in drawn (dart_id n))
 
-turns : Turns 0 × Turns 1 × Turns 2 × Turns 3 × Turns 4 × Turns 5
+pub turns : Turns 0 × Turns 1 × Turns 2 × Turns 3 × Turns 4 × Turns 5
 unfolding opened
 turns = (refl, refl, refl, refl, refl, refl)
 
 -- dart 0 is on a cycle that bounds its face from outside, dart 1 on a hole of the unbounded face
-abbrev is_odd : ℕ → Bool
+abbrev pub is_odd : ℕ → Bool
 is_odd n = cycles.odd (skeleton_of drawn) (cycles.dart_labels (darts (skeleton_of drawn))) (lead_in drawn (dart_id n)) (cycles.left_of_dart (skeleton_of drawn) (lead_in drawn (dart_id n)))
 
-kinds : (is_odd 0 ≡ true) × (is_odd 1 ≡ false)
+pub kinds : (is_odd 0 ≡ true) × (is_odd 1 ≡ false)
 unfolding opened
 kinds = (refl, refl)
 
-orbits : (lead_in drawn (dart_id 0) ≡ lead_in drawn (dart_id 2)) × (lead_in drawn (dart_id 0) ≡ lead_in drawn (dart_id 4)) × (lead_in drawn (dart_id 1) ≡ lead_in drawn (dart_id 3)) × (lead_in drawn (dart_id 1) ≡ lead_in drawn (dart_id 5))
+pub orbits : (lead_in drawn (dart_id 0) ≡ lead_in drawn (dart_id 2)) × (lead_in drawn (dart_id 0) ≡ lead_in drawn (dart_id 4)) × (lead_in drawn (dart_id 1) ≡ lead_in drawn (dart_id 3)) × (lead_in drawn (dart_id 1) ≡ lead_in drawn (dart_id 5))
 unfolding opened
 orbits = (refl, refl, refl, refl)
 
-unbounded : face_left_of drawn (dart_id 1) ≡ faces.face_of (faces.face_labels (skeleton_of drawn)) first_cell
+pub unbounded : face_left_of drawn (dart_id 1) ≡ faces.face_of (faces.face_labels (skeleton_of drawn)) first_cell
 unfolding opened
 unbounded = refl

@@ -46,23 +46,27 @@ two n a b =
     let e1 : (1 == m) ≡ false = grind (arith, nat_tests) in
     rw (e0, e1) refl
 
--- what holds of the six names holds of every dart
-pub dart_cases : (t : Shape) (P : ℕ → Type 0) → P 0 → P 1 → P 2 → P 3 → P 4 → P 5 → (n : ℕ) → HasDart (triangle_view t) (dart_id n) → P n
-dart_cases t P p0 p1 p2 p3 p4 p5 zero h = p0
-dart_cases t P p0 p1 p2 p3 p4 p5 (suc zero) h = p1
-dart_cases t P p0 p1 p2 p3 p4 p5 (suc (suc zero)) h = p2
-dart_cases t P p0 p1 p2 p3 p4 p5 (suc (suc (suc zero))) h = p3
-dart_cases t P p0 p1 p2 p3 p4 p5 (suc (suc (suc (suc zero)))) h = p4
-dart_cases t P p0 p1 p2 p3 p4 p5 (suc (suc (suc (suc (suc zero))))) h = p5
-dart_cases t P p0 p1 p2 p3 p4 p5 (suc (suc (suc (suc (suc (suc n)))))) h = absurd (past _ _ (six n _ _ _ _ _ _) h)
+-- what holds of six names holds of every row that has one of them
+pub six_cases : {X : Type 0} (a b c d e f : X) (P : ℕ → Type 0) → P 0 → P 1 → P 2 → P 3 → P 4 → P 5 → (n : ℕ) → IsSome (row_at ((0, a) ∷ (1, b) ∷ (2, c) ∷ (3, d) ∷ (4, e) ∷ (5, f) ∷ []) n) → P n
+six_cases a b c d e f P p0 p1 p2 p3 p4 p5 zero h = p0
+six_cases a b c d e f P p0 p1 p2 p3 p4 p5 (suc zero) h = p1
+six_cases a b c d e f P p0 p1 p2 p3 p4 p5 (suc (suc zero)) h = p2
+six_cases a b c d e f P p0 p1 p2 p3 p4 p5 (suc (suc (suc zero))) h = p3
+six_cases a b c d e f P p0 p1 p2 p3 p4 p5 (suc (suc (suc (suc zero)))) h = p4
+six_cases a b c d e f P p0 p1 p2 p3 p4 p5 (suc (suc (suc (suc (suc zero))))) h = p5
+six_cases a b c d e f P p0 p1 p2 p3 p4 p5 (suc (suc (suc (suc (suc (suc n)))))) h = absurd (past _ _ (six n a b c d e f) h)
 
-vertex_cases : (t : Shape) (P : ℕ → Type 0) → P 0 → P 1 → P 2 → (n : ℕ) → HasVertex (triangle_view t) (vertex_id n) → P n
+-- so of every dart
+pub dart_cases : (t : Shape) (P : ℕ → Type 0) → P 0 → P 1 → P 2 → P 3 → P 4 → P 5 → (n : ℕ) → HasDart (triangle_view t) (dart_id n) → P n
+dart_cases t P p0 p1 p2 p3 p4 p5 n h = six_cases _ _ _ _ _ _ P p0 p1 p2 p3 p4 p5 n h
+
+pub vertex_cases : (t : Shape) (P : ℕ → Type 0) → P 0 → P 1 → P 2 → (n : ℕ) → HasVertex (triangle_view t) (vertex_id n) → P n
 vertex_cases t P p0 p1 p2 zero h = p0
 vertex_cases t P p0 p1 p2 (suc zero) h = p1
 vertex_cases t P p0 p1 p2 (suc (suc zero)) h = p2
 vertex_cases t P p0 p1 p2 (suc (suc (suc n))) h = absurd (past _ _ (three n _ _ _) h)
 
-cycle_cases : (P : ℕ → Type 0) → P 0 → P 1 → (n : ℕ) → HasCycle triangle_faces (cycle_id n) → P n
+pub cycle_cases : (P : ℕ → Type 0) → P 0 → P 1 → (n : ℕ) → HasCycle triangle_faces (cycle_id n) → P n
 cycle_cases P p0 p1 zero h = p0
 cycle_cases P p0 p1 (suc zero) h = p1
 cycle_cases P p0 p1 (suc (suc n)) h = absurd (past _ _ (two n _ _) h)

@@ -1,5 +1,5 @@
 -- The records of one triangle.
-use Rattle.std.specs.Prelude.{ℕ, false, [], ◌∷◌}
+use Rattle.std.specs.Prelude.{ℕ, pos, negsuc, false, [], ◌∷◌}
 use Rattle.exact_plane.specs.Point.{Point}
 use Rattle.exact_plane.specs.Line.{Line}
 use Rattle.slab_laws.specs.declared.names.CycleKind.TheVariants.{Outer, Inner}
@@ -13,6 +13,17 @@ pub record Shape : Type 0 where
   pub ab : Line
   pub bc : Line
   pub ca : Line
+
+-- the corners (0, 0), (4, 0) and (0, 3), with the lines y = 0, 3 x + 4 y = 12 and x = 0
+abbrev pub three_four : Shape
+three_four = record {
+  a = record { x = pos 0; y = pos 0; w = pos 1 };
+  b = record { x = pos 4; y = pos 0; w = pos 1 };
+  c = record { x = pos 0; y = pos 3; w = pos 1 };
+  ab = record { a = pos 0; b = pos 1; c = pos 0 };
+  bc = record { a = pos 3; b = pos 4; c = negsuc 11 };
+  ca = record { a = negsuc 0; b = pos 0; c = pos 0 };
+}
 
 abbrev pub corner : Point → VertexRecord
 corner p = record { point = p; pinned = false }
