@@ -18,3 +18,4 @@ pub mod EdgeSplit
 pub mod AddedWithinACycle
 pub mod CycleNames
 pub mod SoundExamples
+pub mod Examples

@@ -26,7 +26,7 @@ use Rattle.slab_laws.specs.Text as text
 use Rattle.slab_laws.specs.Text.{present_text, skeleton}
 
 -- opens all that the examples compute with
-unfoldable opened : Unit {0}
+unfoldable pub opened : Unit {0}
 unfolding gcd_within gcd digits place ascending distinct line.homogeneous_point line.crossing along on
     graphs.mark_cmp graphs.ends graphs.common_points graphs.vertices graphs.is_parted graphs.are_neighbours graphs.marks_on graphs.marks graphs.graph graphs.edge_cmp graphs.edges graphs.curves
     plane.left_of plane.lower_than plane.run plane.side plane.steep plane.shift plane.foot plane.over plane.gap plane.crosses plane.same_edge plane.under slabs.width
@@ -39,7 +39,7 @@ unfolding gcd_within gcd digits place ascending distinct line.homogeneous_point 
 opened = tt
 
 -- the whole point (x, y)
-abbrev at : ℤ → ℤ → Point
+abbrev pub at : ℤ → ℤ → Point
 at x y = record { x = x; y = y; w = pos 1 }
 
 -- the point (x / w, y / w)
@@ -47,7 +47,7 @@ abbrev over : ℤ → ℤ → ℕ → Point
 over x y w = record { x = x; y = y; w = pos w }
 
 -- a whole segment, of the curve c
-abbrev piece : ℕ → Point → Point → Piece
+abbrev pub piece : ℕ → Point → Point → Piece
 piece c p q = record { curve = c; segment = record { lower = p; upper = q }; from = p; to = q }
 
 -- the cell that holds a point
