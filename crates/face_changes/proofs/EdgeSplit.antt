@@ -1,5 +1,5 @@
 -- An edge that has become two, at a point inside it.
-use Rattle.std.proofs.Common.{◌≡◌, ℕ, zero, suc, ◌+◌, ◌-◌, ◌<◌, ◌≤◌, Bool, true, false, cond, arith, refl, sym, ap, ◌∙◌, subst, ◌⊎◌, inl, inr, List, ◌∷◌, map}
+use Rattle.std.proofs.Common.{◌≡◌, ℕ, zero, suc, ◌+◌, ◌<◌, ◌≤◌, Bool, true, false, cond, arith, refl, sym, ap, ◌∙◌, subst, ◌⊎◌, inl, inr, List, ◌∷◌}
 use Rattle.std.specs.Prelude.{not, ◌&&◌, ◌||◌, ◌%◌, ◌==◌}
 use Rattle.std.specs.List.{count_by, Contains}
 use Rattle.std.proofs.lemmas.Bool.{and_from, false≢true, true≢false, and_parts, not-true, false_from_ne_true, cases_Bool, cases_lt, lt-ltb, le-ltb}
@@ -12,18 +12,18 @@ use Rattle.slab_laws.specs.Skeleton.{over, run, side, gap, foot, lower_than, pre
 use Rattle.slab_laws.specs.Slabs.{slab_left, slab_right, spans, place, reaches_left, reaches_right, left_cell, right_cell, left_count, right_count, width}
 use Rattle.slab_laws.specs.Weights.{weight_above}
 use Rattle.slab_laws.specs.Darts.{Dart, darts, ahead, back, cell_by, cell_of}
-use Rattle.slab_laws.specs.Meets.{IsOnWall, IsOpenAbove, SameFace, across, here, right, left}
+use Rattle.slab_laws.specs.Meets.{IsOnWall, IsOpenAbove, SameFace, across, here, right}
 use Rattle.slab_laws.specs.Cycles.{dart_labels, darts_on, odd, left_of_dart}
-use Rattle.slab_laws.specs.Faces.{walls, cells}
+use Rattle.slab_laws.specs.Faces.{cells}
 use Rattle.slab_laws.specs.Rows.{lead_of}
-use Rattle.slab_faces.proofs.Found.{found}
-use Rattle.slab_faces.proofs.Sums.{each, sum_by-same, fewer, fewer_than}
+use Rattle.slab_faces.proofs.Sums.{each, sum_by-same}
 use Rattle.slab_faces.proofs.Walls.{left_of-asym, left_of-before, left_of-after, left_of-irrefl, on_wall_parts}
 use Rattle.slab_faces.proofs.Cells.{right_few, spans_left, spans_right}
 use Rattle.slab_faces.proofs.Nudge.{left_inside, is_slab_left, right_inside, is_slab_right}
 use Rattle.slab_laws.specs.Rotation.{next, same_dart}
 use Rattle.slab_faces.proofs.NextLemmas.{darts_exact}
 use Rattle.slab_faces.proofs.CyclesLemmas.{one_to_one}
+use Rattle.face_changes.proofs.NewWall.{narrow, narrow_right, HasNewVertex, AreEdgesAlike, IsOffWalls, IsOneFaceAcross, V as at_v, W as weight_v, same_spans, left_widened, right_widened, face_down, face_up}
 use Rattle.face_changes.proofs.OneMoreEdge.{one_kind_each}
 use Rattle.face_changes.proofs.LinkedCycles.{labelled, dart_there, there_dart}
 use Rattle.face_changes.proofs.OrbitSplices.{agrees}
@@ -31,16 +31,15 @@ use Rattle.face_changes.proofs.CycleParities.{choose, same_is, same_not, on_edge
 use Rattle.slab_faces.proofs.Slabs.{same_edge_is, same_edge_refl, IsThrough, IsSlab, gap_at, below_at, through}
 use Rattle.slab_faces.proofs.Corners.{IsAt, left_fan, top_place}
 use Rattle.slab_faces.proofs.Along.{left_reach, count_above, open_above, below_self}
-use Rattle.slab_faces.proofs.Turns.{face_trans, face_sym, on_own_wall, foot_is_on, foot_before, foot_after, level_at}
+use Rattle.slab_faces.proofs.Turns.{face_trans, on_own_wall, foot_is_on, foot_before, foot_after, level_at}
 use Rattle.slab_faces.proofs.EveryFace.{passing, edge_at}
-use Rattle.slab_faces.proofs.Member.{Member, in_member, map_out}
+use Rattle.slab_faces.proofs.Member.{in_member}
 use Rattle.slab_faces.proofs.FacesLemmas.{lowest_meets}
-use Rattle.slab_faces.proofs.WallsLemmas.{off_walls, wall_vertex, cell_there}
+use Rattle.slab_faces.proofs.WallsLemmas.{off_walls}
 use Rattle.sound_links.specs.Next.{IsDartOf}
 use Rattle.face_changes.specs.Kinds.{is_outer}
 use Rattle.face_changes.specs.OneMoreVertex.{widened}
 use Rattle.face_changes.specs.EdgeSplit.{HasEdgeSplit, whole_dart, FollowsSplit, EdgeSplitInTwo}
-use Rattle.slab_faces.proofs.ListedCells.{cell_out, right_there}
 use Rattle.std.specs.Prelude.{ℤ, pos, ◌-ℤ◌, ◌*ℤ◌, ◌+ℤ◌}
 use Rattle.std.proofs.Common.{[]}
 use Rattle.std.proofs.lemmas.Int.{ints}
@@ -128,59 +127,14 @@ module _ (g : Skeleton) (hv : List Point) (hs : List Edge) (e : Edge) (v : Point
   plane : IsPlaneSkeleton h
   plane = m.plane_more
 
-  V : Contains hv v
-  V = (m.vertices v).1 (inr refl)
+  new : HasNewVertex g h v
+  new = record { plane = m.plane; plane_more = m.plane_more; vertices = m.vertices; counts = m.counts }
 
-  W : HasWeight v
-  W = plane.proper v V
+  abbrev V : Contains hv v
+  V = at_v g h v new
 
-  up : (u : Point) → Contains g.vertices u → Contains hv u
-  up u U = (m.vertices u).1 (inl U)
-
-  abbrev S : ℕ
-  S = slab_left g v
-
-  narrow : ℕ → ℕ
-  narrow i = cond (ltb (slab_left g v) i) (i - 1) i
-
-  narrow_over : (i : ℕ) → slab_left g v ≤ i → narrow (1 + i) ≡ i
-  unfolding narrow
-  narrow_over i l = rw (lt-ltb (slab_left g v) (1 + i) (omega arith)) (omega arith)
-
-  narrow_under : (i : ℕ) → i ≤ slab_left g v → narrow i ≡ i
-  unfolding narrow
-  narrow_under i l = rw (le-ltb (slab_left g v) i l) refl
-
-  -- ---- slabs beside a point
-  left_is : (t : Point) → slab_left h t ≡ cond (left_of v t) 1 0 + slab_left g t
-  left_is t = m.counts (λ u. left_of u t)
-
-  right_is : (t : Point) → slab_right h t ≡ cond (not (left_of t v)) 1 0 + slab_right g t
-  right_is t = m.counts (λ u. not (left_of t u))
-
-  narrow_left : (t : Point) → HasWeight t → narrow (slab_left h t) ≡ slab_left g t
-  narrow_left t T = elim (cases_Bool (left_of v t)) [
-    | inl b ↦
-        let n : slab_left h t ≡ 1 + slab_left g t = left_is t ∙ ap (λ z. cond z 1 0 + slab_left g t) b in
-        let l = fewer (λ u. left_of u v) (λ u. left_of u t) g.vertices (λ u U k. left_of-before u v t (plane_g.proper u U) W T k (left_of-asym v t b)) in
-        ap narrow n ∙ narrow_over (slab_left g t) l
-    | inr b ↦
-        let n : slab_left h t ≡ slab_left g t = left_is t ∙ ap (λ z. cond z 1 0 + slab_left g t) b ∙ omega arith in
-        let l = fewer (λ u. left_of u t) (λ u. left_of u v) g.vertices (λ u U k. left_of-before u t v (plane_g.proper u U) T W k b) in
-        ap narrow n ∙ narrow_under (slab_left g t) l
-  ]
-
-  narrow_right : (t : Point) → HasWeight t → narrow (slab_right h t) ≡ slab_right g t
-  narrow_right t T = elim (cases_Bool (left_of t v)) [
-    | inl b ↦
-        let n : slab_right h t ≡ slab_right g t = right_is t ∙ ap (λ z. cond (not z) 1 0 + slab_right g t) b ∙ omega arith in
-        let l = fewer (λ u. not (left_of t u)) (λ u. left_of u v) g.vertices (λ u U k. left_of-after u t v (plane_g.proper u U) T W (not-true _ k) b) in
-        ap narrow n ∙ narrow_under (slab_right g t) l
-    | inr b ↦
-        let n : slab_right h t ≡ 1 + slab_right g t = right_is t ∙ ap (λ z. cond (not z) 1 0 + slab_right g t) b in
-        let l = fewer (λ u. left_of u v) (λ u. not (left_of t u)) g.vertices (λ u U k. ap not (false_from_ne_true (left_of t u) (λ w. false≢true (sym b ∙ left_of-before t u v T (plane_g.proper u U) W w (left_of-asym u v k))))) in
-        ap narrow n ∙ narrow_over (slab_right g t) l
-  ]
+  abbrev W : HasWeight v
+  W = weight_v g h v new
 
   -- ---- the parts
   E : Contains g.edges e
@@ -250,14 +204,6 @@ module _ (g : Skeleton) (hv : List Point) (hs : List Edge) (e : Edge) (v : Point
       let x : cond {A = ℕ} (reaches_right (lower_part e v) t && not (over (lower_part e v) t)) 1 0 ≡ cond ((not (left_of t e.low) && left_of t v) && not (over e t)) 1 0 = ap (λ o. cond {A = ℕ} (reaches_right (lower_part e v) t && not o) 1 0) ((lower_is e v mean).sides_over t) in
       let y : cond {A = ℕ} (reaches_right (upper_part e v) t && not (over (upper_part e v) t)) 1 0 ≡ cond ((not (left_of t v) && left_of t e.high) && not (over e t)) 1 0 = ap (λ o. cond {A = ℕ} (reaches_right (upper_part e v) t && not o) 1 0) ((upper_is e v mean).sides_over t) in
       omega arith
-
-  pub left_widened : (t : Point) → HasWeight t → widened g v (left_cell h t) ≡ left_cell g t
-  unfolding narrow
-  left_widened t T = λ i. record { slab = narrow_left t T i; place = same_left t T i }
-
-  pub right_widened : (t : Point) → HasWeight t → widened g v (right_cell h t) ≡ right_cell g t
-  unfolding narrow
-  right_widened t T = λ i. record { slab = narrow_right t T i; place = same_right t T i }
 
   -- ---- what covers a wall: e, where it is vertical, as both its parts
   old_edge : (z : Edge) → Contains rest z → Contains g.edges z
@@ -371,29 +317,11 @@ module _ (g : Skeleton) (hv : List Point) (hs : List Edge) (e : Edge) (v : Point
     ];
   }
 
-  -- ---- each face of h is in one of g
-  wall_or_not : (t : Point) → HasWeight t → IsOnWall g t ⊎ (left_cell g t ≡ right_cell g t)
-  wall_or_not t T = elim (cases_lt 0 (count_by (λ u. on_wall u t) g.vertices)) [
-    | inl l ↦ let w = found (λ u. on_wall u t) g.vertices l in inl (record { proper = T; vertex = w.0; is_vertex = w.1; same = w.2 })
-    | inr l ↦ inr (off_walls g t plane_g T (λ u U. false_from_ne_true _ (λ k. let p = passing (λ u. on_wall u t) g.vertices u U k in absurd (omega arith))))
-  ]
-
-  meets_down : (t : Point) → IsOnWall h t → IsOpenAbove h t → SameFace g (left_cell g t) (right_cell g t)
-  meets_down t wall free = elim (wall_or_not t wall.proper) [
-    | inl w ↦ right _ _ _ (here _) (across t w (open_down t wall.proper free))
-    | inr q ↦ subst (SameFace g (left_cell g t)) q (here _)
-  ]
-
-  widened_meet : (t : Point) → IsOnWall h t → IsOpenAbove h t → SameFace g (widened g v (left_cell h t)) (widened g v (right_cell h t))
-  widened_meet t wall free = subst (λ (z : SlabCell × SlabCell). SameFace g z.0 z.1) (λ i. (sym (left_widened t wall.proper) i, sym (right_widened t wall.proper) i)) (meets_down t wall free)
-
-  pub face_down : (c d : SlabCell) → SameFace h c d → SameFace g (widened g v c) (widened g v d)
-  face_down c d (here c') = here _
-  face_down c d (right b x d' s (across t wall free)) = face_trans g _ _ _ (face_down b x s) (widened_meet t wall free)
-  face_down c d (left b x d' s (across t wall free)) = face_trans g _ _ _ (face_down b x s) (face_sym g _ _ (widened_meet t wall free))
+  alike : AreEdgesAlike g h
+  alike = record { on_left = same_left; on_right = same_right; open_down = open_down; open_up = open_up }
 
   -- ---- a new wall
-  module _ (off : (u : Point) → Contains g.vertices u → on_wall u v ≡ false) where
+  module _ (off : IsOffWalls g v) where
     wall : IsOnWall h v
     wall = on_own_wall h v plane V
 
@@ -482,7 +410,7 @@ module _ (g : Skeleton) (hv : List Point) (hs : List Edge) (e : Edge) (v : Point
           ]
         ]
 
-    across_it : (j : ℕ) → j ≤ width h (slab_left h v) → SameFace h (record { slab = slab_left h v; place = j }) (record { slab = slab_right h v; place = j })
+    across_it : IsOneFaceAcross h v
     across_it zero k = right _ _ _ (here _) (lowest_meets h v plane wall)
     across_it (suc j) k =
         let t = there_is j (omega arith) in
@@ -490,139 +418,6 @@ module _ (g : Skeleton) (hv : List Point) (hs : List Edge) (e : Edge) (v : Point
         let d : right_count h t.point ≡ suc j = let q = t.count in let w = t.even in omega arith in
         let s : SameFace h (left_cell h t.point) (right_cell h t.point) = right _ _ _ (here _) (across t.point t.on t.free) in
         subst (λ (z : SlabCell × SlabCell). SameFace h z.0 z.1) (λ i. (record { slab = t.slab_before i; place = c i }, record { slab = t.slab_after i; place = d i })) s
-
-    left_new : slab_left h v ≡ slab_left g v
-    left_new = let a = left_is v in let b : cond {A = ℕ} (left_of v v) 1 0 ≡ 0 = rw (left_of-irrefl v) refl in omega arith
-
-    right_new : slab_right h v ≡ 1 + slab_left g v
-    right_new =
-        let a = right_is v in
-        let b : cond {A = ℕ} (not (left_of v v)) 1 0 ≡ 1 = rw (left_of-irrefl v) refl in
-        let c : slab_right g v ≡ slab_left g v = sym (ap (λ (z : SlabCell). z.slab) (off_walls g v plane_g W off)) in
-        omega arith
-
-    beside_new : (j : ℕ) → j ≤ width h (slab_left g v) → SameFace h (record { slab = slab_left g v; place = j }) (record { slab = 1 + slab_left g v; place = j })
-    beside_new j k =
-        subst (λ (z : ℕ × ℕ). SameFace h (record { slab = z.0; place = j }) (record { slab = z.1; place = j })) (λ i. (left_new i, right_new i))
-        (across_it j (subst (λ z. j ≤ width h z) (sym left_new) k))
-
-  -- where the slab after v's is one of h, the wall of v is new
-  new_wall : (w : Point) → Contains hv w → slab_right h w ≡ 1 + slab_left g v → (u : Point) → Contains g.vertices u → on_wall u v ≡ false
-  new_wall w Wh q u U = false_from_ne_true _ (λ k.
-      let o = on_wall_parts u v k in
-      let T = plane.proper w Wh in
-      let n = right_is w in
-      elim (cases_Bool (left_of w v)) [
-        | inl b ↦
-            let c : cond {A = ℕ} (not (left_of w v)) 1 0 ≡ 0 = rw b refl in
-            let l = fewer (λ z. not (left_of w z)) (λ z. left_of z v) g.vertices (λ z Z i. left_of-after z w v (plane_g.proper z Z) T W (not-true _ i) b) in
-            absurd (omega arith)
-        | inr b ↦
-            let c : cond {A = ℕ} (not (left_of w v)) 1 0 ≡ 1 = rw b refl in
-            let l = fewer_than (λ z. left_of z v) (λ z. not (left_of w z)) g.vertices u U o.0
-            (ap not (false_from_ne_true (left_of w u) (λ i. false≢true (sym b ∙ left_of-before w u v T (plane_g.proper u U) W i o.1))))
-            (λ z Z i. ap not (false_from_ne_true (left_of w z) (λ j. false≢true (sym b ∙ left_of-before w z v T (plane_g.proper z Z) W j (left_of-asym z v i))))) in
-            absurd (omega arith)
-      ])
-
-  -- ---- two listed cells of h that are one in g
-  data Near (i k : ℕ) : Type 0 where
-    equal : i ≡ k → Near i k
-    after : i ≡ slab_left g v → k ≡ 1 + slab_left g v → Near i k
-    before : i ≡ 1 + slab_left g v → k ≡ slab_left g v → Near i k
-
-  near : (i k : ℕ) → narrow i ≡ narrow k → Near i k
-  unfolding narrow
-  near i k q = elim (cases_lt (slab_left g v) i) [
-    | inl a ↦ elim (cases_lt (slab_left g v) k) [
-      | inl b ↦ let q' : i - 1 ≡ k - 1 = rw (lt-ltb (slab_left g v) i a, lt-ltb (slab_left g v) k b) at q in equal (omega arith)
-      | inr b ↦ let q' : i - 1 ≡ k = rw (lt-ltb (slab_left g v) i a, le-ltb (slab_left g v) k b) at q in before (omega arith) (omega arith)
-    ]
-    | inr a ↦ elim (cases_lt (slab_left g v) k) [
-      | inl b ↦ let q' : i ≡ k - 1 = rw (le-ltb (slab_left g v) i a, lt-ltb (slab_left g v) k b) at q in after (omega arith) (omega arith)
-      | inr b ↦ let q' : i ≡ k = rw (le-ltb (slab_left g v) i a, le-ltb (slab_left g v) k b) at q in equal q'
-    ]
-  ]
-
-  starts : (i : ℕ) → Member (0 ∷ map (slab_right h) (walls h)) i → i ≡ 1 + slab_left g v → (w : Point) × Contains hv w × (slab_right h w ≡ 1 + slab_left g v)
-  starts i (inl e) q = absurd (omega arith)
-  starts i (inr k) q = let w = map_out (slab_right h) (walls h) i k in (w.0, wall_vertex h w.0 w.1, w.2 ∙ q)
-
-  abbrev at : ℕ → ℕ → SlabCell
-  at i j = record { slab = i; place = j }
-
-  pair : (i k j : ℕ) → Member (cells h) (at i j) → Member (cells h) (at k j) → Near i k → SameFace h (at i j) (at k j)
-  pair i k j C D (equal q) = subst (λ z. SameFace h (at i j) (at z j)) q (here _)
-  pair i k j C D (after p q) =
-      let c = cell_out h (at i j) C in
-      let w = starts k (cell_out h (at k j) D).slab q in
-      let s = beside_new (new_wall w.0 w.1 w.2) j (subst (λ z. j ≤ width h z) p c.place) in
-      subst (λ (z : ℕ × ℕ). SameFace h (at z.0 j) (at z.1 j)) (λ n. (sym p n, sym q n)) s
-  pair i k j C D (before p q) =
-      let c = cell_out h (at k j) D in
-      let w = starts i (cell_out h (at i j) C).slab p in
-      let s = beside_new (new_wall w.0 w.1 w.2) j (subst (λ z. j ≤ width h z) q c.place) in
-      face_sym h _ _ (subst (λ (z : ℕ × ℕ). SameFace h (at z.0 j) (at z.1 j)) (λ n. (sym q n, sym p n)) s)
-
-  fiber : (c d : SlabCell) → Member (cells h) c → Member (cells h) d → widened g v c ≡ widened g v d → SameFace h c d
-  unfolding narrow
-  fiber c d C D q =
-      let p : c.place ≡ d.place = ap (λ (z : SlabCell). z.place) q in
-      let s : narrow c.slab ≡ narrow d.slab = ap (λ (z : SlabCell). z.slab) q in
-      let D' : Member (cells h) (at d.slab c.place) = subst (λ j. Member (cells h) (at d.slab j)) (sym p) D in
-      subst (λ j. SameFace h c (at d.slab j)) p (pair c.slab d.slab c.place C D' (near c.slab d.slab s))
-
-  wall_up : (t : Point) → IsOnWall g t → IsOnWall h t
-  wall_up t w = record { proper = w.proper; vertex = w.vertex; is_vertex = up w.vertex w.is_vertex; same = w.same }
-
-  pub face_up : (c d : SlabCell) → SameFace g c d → (x y : SlabCell) → Member (cells h) x → Member (cells h) y → widened g v x ≡ c → widened g v y ≡ d → SameFace h x y
-  face_up c d (here c') x y X Y p q = fiber x y X Y (p ∙ sym q)
-  face_up c d (right b c' d' s (across t wall free)) x y X Y p q =
-      let T = wall.proper in
-      let w = wall_up t wall in
-      let L = cell_there h t plane T in
-      let R = right_there h plane t w in
-      let k = face_up b c' s x (left_cell h t) X L p (left_widened t T) in
-      face_trans h _ _ _ k (face_trans h _ _ _ (right _ _ _ (here _) (across t w (open_up t T free))) (fiber (right_cell h t) y R Y (right_widened t T ∙ sym q)))
-  face_up c d (left b c' d' s (across t wall free)) x y X Y p q =
-      let T = wall.proper in
-      let w = wall_up t wall in
-      let L = cell_there h t plane T in
-      let R = right_there h plane t w in
-      let k = face_up b c' s x (right_cell h t) X R p (right_widened t T) in
-      face_trans h _ _ _ k (face_trans h _ _ _ (left _ _ _ (here _) (across t w (open_up t T free))) (fiber (left_cell h t) y L Y (left_widened t T ∙ sym q)))
-
-  -- ---- edges in slabs, and what they weigh
-  bounds : (b : Bool) (a i s : ℕ) → (b ≡ true → a ≤ s) → (b ≡ false → s < a) → leb (cond (not b) 1 0 + a) i ≡ leb a (cond (ltb s i) (i - 1) i)
-  bounds true a i s f n = let k = f refl in elim (cases_lt s i) [
-    | inl l ↦ rw (lt-ltb s i l) (grind (arith, nat_tests))
-    | inr l ↦ rw (le-ltb s i l) (ap (λ z. leb z i) (omega arith))
-  ]
-  bounds false a i s f n = let k = n refl in elim (cases_lt s i) [
-    | inl l ↦ rw (lt-ltb s i l) (grind (arith, nat_tests))
-    | inr l ↦ rw (le-ltb s i l) (grind (arith, nat_tests))
-  ]
-
-  -- a vertex is on the right of v's slab exactly where it isn't left of v
-  beyond : (u : Point) → Contains g.vertices u → (left_of u v ≡ true → slab_right g u ≤ slab_left g v) × (left_of u v ≡ false → slab_left g v < slab_right g u)
-  beyond u U = (
-    λ b. fewer (λ z. not (left_of u z)) (λ z. left_of z v) g.vertices (λ z Z i. left_of-after z u v (plane_g.proper z Z) (plane_g.proper u U) W (not-true _ i) b),
-    λ b. fewer_than (λ z. left_of z v) (λ z. not (left_of u z)) g.vertices u U b (ap not (left_of-irrefl u))
-        (λ z Z i. ap not (false_from_ne_true (left_of u z) (λ j. false≢true (sym b ∙ left_of-before u z v (plane_g.proper u U) (plane_g.proper z Z) W j (left_of-asym z v i))))),
-  )
-
-  from_slab : (u : Point) → Contains g.vertices u → (i : ℕ) → leb (slab_right h u) i ≡ leb (slab_right g u) (narrow i)
-  unfolding narrow
-  from_slab u U i = ap (λ n. leb n i) (right_is u) ∙ bounds (left_of u v) (slab_right g u) i (slab_left g v) (beyond u U).0 (beyond u U).1
-
-  less_is : (a b : ℕ) → ltb a b ≡ not (leb b a)
-  less_is a b = grind (arith, nat_tests)
-
-  same_spans : (f : Edge) → Contains g.edges f → (i : ℕ) → spans h i f ≡ spans g (narrow i) f
-  same_spans f F i =
-      let a = from_slab f.low (plane_g.lower_in f F) i in
-      let b : ltb i (slab_right h f.high) ≡ ltb (narrow i) (slab_right g f.high) = less_is i (slab_right h f.high) ∙ ap not (from_slab f.high (plane_g.upper_in f F) i) ∙ sym (less_is (narrow i) (slab_right g f.high)) in
-      λ k. a k && b k
 
   -- ---- a slab that e spans is spanned by one of its parts
   leb_no : (i k : ℕ) → i < k → leb k i ≡ false
@@ -640,10 +435,10 @@ module _ (g : Skeleton) (hv : List Point) (hs : List Edge) (e : Edge) (v : Point
   slabs_rise : (slab_right h e.low ≤ slab_right h v) × (slab_right h v ≤ slab_right h e.high)
   slabs_rise = (right_few h e.low v plane Lw W after_low, right_few h v e.high plane W Hw before_high)
 
-  parts_span : (i n : ℕ) (o : Bool) → cond (spans h i (lower_part e v) && o) n 0 + cond (spans h i (upper_part e v) && o) n 0 ≡ cond (spans g (narrow i) e && o) n 0
+  parts_span : (i n : ℕ) (o : Bool) → cond (spans h i (lower_part e v) && o) n 0 + cond (spans h i (upper_part e v) && o) n 0 ≡ cond (spans g (narrow g v i) e && o) n 0
   parts_span i n o =
       parts_by (slab_right h e.low) (slab_right h v) (slab_right h e.high) i n o slabs_rise.0 slabs_rise.1
-      ∙ ap (λ b. cond (b && o) n 0) (same_spans e E i)
+      ∙ ap (λ b. cond (b && o) n 0) (same_spans g h v new e E i)
 
   -- ---- above or below, at a point inside a slab
   test : (b c : Bool) → (b ≡ true → c ≡ true) → (c ≡ true → b ≡ true) → b ≡ c
@@ -691,14 +486,14 @@ module _ (g : Skeleton) (hv : List Point) (hs : List Edge) (e : Edge) (v : Point
     either_span true x y n f = ap (λ c. cond c n 0) (f refl)
     either_span false x y n f = refl
 
-    rest_spans : (f : Edge) → Contains rest f → spans h i f ≡ spans g (narrow i) f
-    rest_spans f F = same_spans f (old_edge f F) i
+    rest_spans : (f : Edge) → Contains rest f → spans h i f ≡ spans g (narrow g v i) f
+    rest_spans f F = same_spans g h v new f (old_edge f F) i
 
-    place_rest : (z : Edge) → Contains rest z → spans h i z ≡ true → place h i z ≡ place g (narrow i) z
+    place_rest : (z : Edge) → Contains rest z → spans h i z ≡ true → place h i z ≡ place g (narrow g v i) z
     place_rest z Z sz =
         let a = m.sums_more (λ f. cond (spans h i f && below f z) 1 0) in
-        let b = m.sums (λ f. cond (spans g (narrow i) f && below f z) 1 0) in
-        let c = sum_by-same (λ f. cond (spans h i f && below f z) 1 0) (λ f. cond (spans g (narrow i) f && below f z) 1 0) rest (each (λ f. cond {A = ℕ} (spans h i f && below f z) 1 0 ≡ cond (spans g (narrow i) f && below f z) 1 0) rest (λ f F. ap (λ t. cond {A = ℕ} (t && below f z) 1 0) (rest_spans f F))) in
+        let b = m.sums (λ f. cond (spans g (narrow g v i) f && below f z) 1 0) in
+        let c = sum_by-same (λ f. cond (spans h i f && below f z) 1 0) (λ f. cond (spans g (narrow g v i) f && below f z) 1 0) rest (each (λ f. cond {A = ℕ} (spans h i f && below f z) 1 0 ≡ cond (spans g (narrow g v i) f && below f z) 1 0) rest (λ f F. ap (λ t. cond {A = ℕ} (t && below f z) 1 0) (rest_spans f F))) in
         let x = either_span (spans h i (lower_part e v)) (below (lower_part e v) z) (below e z) 1 (λ k. part_below (lower_part e v) (is_lower refl) k z Z sz) in
         let y = either_span (spans h i (upper_part e v)) (below (upper_part e v) z) (below e z) 1 (λ k. part_below (upper_part e v) (is_upper refl) k z Z sz) in
         let w = parts_span i 1 (below e z) in
@@ -709,7 +504,7 @@ module _ (g : Skeleton) (hv : List Point) (hs : List Edge) (e : Edge) (v : Point
         let a = parts_span i 1 true in
         let b : cond {A = ℕ} (spans h i (lower_part e v) && true) 1 0 ≡ 1 = rw k refl in
         let c : cond {A = ℕ} (spans h i (upper_part e v) && true) 1 0 ≡ 1 = rw l refl in
-        let d = at_most (spans g (narrow i) e && true) in
+        let d = at_most (spans g (narrow g v i) e && true) in
         absurd (omega arith)
       where
         at_most : (b : Bool) → cond {A = ℕ} b 1 0 ≤ 1
@@ -720,15 +515,15 @@ module _ (g : Skeleton) (hv : List Point) (hs : List Edge) (e : Edge) (v : Point
     none_of true b f = rw (f refl) refl
     none_of false b f = refl
 
-    place_part : (q : Edge) → PartOf q → spans h i q ≡ true → place h i q ≡ place g (narrow i) e
+    place_part : (q : Edge) → PartOf q → spans h i q ≡ true → place h i q ≡ place g (narrow g v i) e
     place_part q Q sq =
         let a = m.sums_more (λ f. cond (spans h i f && below f q) 1 0) in
-        let b = m.sums (λ f. cond (spans g (narrow i) f && below f e) 1 0) in
-        let c = sum_by-same (λ f. cond (spans h i f && below f q) 1 0) (λ f. cond (spans g (narrow i) f && below f e) 1 0) rest (each (λ f. cond {A = ℕ} (spans h i f && below f q) 1 0 ≡ cond (spans g (narrow i) f && below f e) 1 0) rest
+        let b = m.sums (λ f. cond (spans g (narrow g v i) f && below f e) 1 0) in
+        let c = sum_by-same (λ f. cond (spans h i f && below f q) 1 0) (λ f. cond (spans g (narrow g v i) f && below f e) 1 0) rest (each (λ f. cond {A = ℕ} (spans h i f && below f q) 1 0 ≡ cond (spans g (narrow g v i) f && below f e) 1 0) rest
         (λ f F. either_span (spans h i f) (below f q) (below f e) 1 (λ k. below_part q Q sq f F k) ∙ ap (λ t. cond {A = ℕ} (t && below f e) 1 0) (rest_spans f F))) in
         let x = none_of (spans h i (lower_part e v)) (below (lower_part e v) q) (λ k. own_low q Q sq k) in
         let y = none_of (spans h i (upper_part e v)) (below (upper_part e v) q) (λ k. own_high q Q sq k) in
-        let w = none_of (spans g (narrow i) e) (below e e) (λ _. below_self g e plane_g E) in
+        let w = none_of (spans g (narrow g v i) e) (below e e) (λ _. below_self g e plane_g E) in
         omega arith
       where
         own_low : (q : Edge) → PartOf q → spans h i q ≡ true → spans h i (lower_part e v) ≡ true → below (lower_part e v) q ≡ false
@@ -739,15 +534,15 @@ module _ (g : Skeleton) (hv : List Point) (hs : List Edge) (e : Edge) (v : Point
         own_high q (is_lower k) s t = absurd (not_both (subst (λ z. spans h i z ≡ true) k s) t)
         own_high q (is_upper k) s t = subst (λ z. below (upper_part e v) z ≡ false) (sym k) (below_self h (upper_part e v) plane High)
 
-    weight_parted : (n k : Edge → ℕ) (j : ℕ) → n (lower_part e v) ≡ k e → n (upper_part e v) ≡ k e → ((z : Edge) → Contains rest z → n z ≡ k z) → weight_above h n i j ≡ weight_above g k (narrow i) j
+    weight_parted : (n k : Edge → ℕ) (j : ℕ) → n (lower_part e v) ≡ k e → n (upper_part e v) ≡ k e → ((z : Edge) → Contains rest z → n z ≡ k z) → weight_above h n i j ≡ weight_above g k (narrow g v i) j
     weight_parted n k j p q r =
         let a = m.sums_more (λ f. cond (spans h i f && leb j (place h i f)) (n f) 0) in
-        let b = m.sums (λ f. cond (spans g (narrow i) f && leb j (place g (narrow i) f)) (k f) 0) in
-        let c = sum_by-same (λ f. cond (spans h i f && leb j (place h i f)) (n f) 0) (λ f. cond (spans g (narrow i) f && leb j (place g (narrow i) f)) (k f) 0) rest (each (λ f. cond (spans h i f && leb j (place h i f)) (n f) 0 ≡ cond (spans g (narrow i) f && leb j (place g (narrow i) f)) (k f) 0) rest
-        (λ f F. either_span (spans h i f) (leb j (place h i f)) (leb j (place g (narrow i) f)) (n f) (λ s. ap (leb j) (place_rest f F s)) ∙ (λ t. cond (rest_spans f F t && leb j (place g (narrow i) f)) (r f F t) 0))) in
-        let x = either_span (spans h i (lower_part e v)) (leb j (place h i (lower_part e v))) (leb j (place g (narrow i) e)) (n (lower_part e v)) (λ s. ap (leb j) (place_part (lower_part e v) (is_lower refl) s)) ∙ ap (λ t. cond (spans h i (lower_part e v) && leb j (place g (narrow i) e)) t 0) p in
-        let y = either_span (spans h i (upper_part e v)) (leb j (place h i (upper_part e v))) (leb j (place g (narrow i) e)) (n (upper_part e v)) (λ s. ap (leb j) (place_part (upper_part e v) (is_upper refl) s)) ∙ ap (λ t. cond (spans h i (upper_part e v) && leb j (place g (narrow i) e)) t 0) q in
-        let w = parts_span i (k e) (leb j (place g (narrow i) e)) in
+        let b = m.sums (λ f. cond (spans g (narrow g v i) f && leb j (place g (narrow g v i) f)) (k f) 0) in
+        let c = sum_by-same (λ f. cond (spans h i f && leb j (place h i f)) (n f) 0) (λ f. cond (spans g (narrow g v i) f && leb j (place g (narrow g v i) f)) (k f) 0) rest (each (λ f. cond (spans h i f && leb j (place h i f)) (n f) 0 ≡ cond (spans g (narrow g v i) f && leb j (place g (narrow g v i) f)) (k f) 0) rest
+        (λ f F. either_span (spans h i f) (leb j (place h i f)) (leb j (place g (narrow g v i) f)) (n f) (λ s. ap (leb j) (place_rest f F s)) ∙ (λ t. cond (rest_spans f F t && leb j (place g (narrow g v i) f)) (r f F t) 0))) in
+        let x = either_span (spans h i (lower_part e v)) (leb j (place h i (lower_part e v))) (leb j (place g (narrow g v i) e)) (n (lower_part e v)) (λ s. ap (leb j) (place_part (lower_part e v) (is_lower refl) s)) ∙ ap (λ t. cond (spans h i (lower_part e v) && leb j (place g (narrow g v i) e)) t 0) p in
+        let y = either_span (spans h i (upper_part e v)) (leb j (place h i (upper_part e v))) (leb j (place g (narrow g v i) e)) (n (upper_part e v)) (λ s. ap (leb j) (place_part (upper_part e v) (is_upper refl) s)) ∙ ap (λ t. cond (spans h i (upper_part e v) && leb j (place g (narrow g v i) e)) t 0) q in
+        let w = parts_span i (k e) (leb j (place g (narrow g v i) e)) in
         omega arith
 
   -- ---- the cells beside darts
@@ -755,8 +550,8 @@ module _ (g : Skeleton) (hv : List Point) (hs : List Edge) (e : Edge) (v : Point
   unfolding narrow
   cell_by_rest z true fw Z long = go fw
     where
-      slab_of : narrow (slab_right h z.low) ≡ slab_right g z.low
-      slab_of = narrow_right z.low (plane_g.proper_edge z (old_edge z Z)).0
+      slab_of : narrow g v (slab_right h z.low) ≡ slab_right g z.low
+      slab_of = narrow_right g h v new z.low (plane_g.proper_edge z (old_edge z Z)).0
 
       wall_z : IsOnWall h z.low
       wall_z = on_own_wall h z.low plane (plane.lower_in z (kept_edge z Z))
@@ -770,15 +565,15 @@ module _ (g : Skeleton) (hv : List Point) (hs : List Edge) (e : Edge) (v : Point
       go : (fw : Bool) → widened g v (cell_by h z true fw) ≡ cell_by g z true fw
       go true = λ k. record { slab = slab_of k; place = place_of k + 1 }
       go false = λ k. record { slab = slab_of k; place = place_of k }
-  cell_by_rest z false true Z long = left_widened z.low (plane_g.proper_edge z (old_edge z Z)).0
-  cell_by_rest z false false Z long = right_widened z.low (plane_g.proper_edge z (old_edge z Z)).0
+  cell_by_rest z false true Z long = left_widened g h v new alike z.low (plane_g.proper_edge z (old_edge z Z)).0
+  cell_by_rest z false false Z long = right_widened g h v new alike z.low (plane_g.proper_edge z (old_edge z Z)).0
 
   cell_by_low : (b fw : Bool) → left_of e.low e.high ≡ b → widened g v (cell_by h (lower_part e v) b fw) ≡ cell_by g e b fw
   unfolding narrow
   cell_by_low true fw long = go fw
     where
-      slab_of : narrow (slab_right h e.low) ≡ slab_right g e.low
-      slab_of = narrow_right e.low Lw
+      slab_of : narrow g v (slab_right h e.low) ≡ slab_right g e.low
+      slab_of = narrow_right g h v new e.low Lw
 
       wall_e : IsOnWall h e.low
       wall_e = on_own_wall h e.low plane (plane.lower_in (lower_part e v) Low)
@@ -792,8 +587,8 @@ module _ (g : Skeleton) (hv : List Point) (hs : List Edge) (e : Edge) (v : Point
       go : (fw : Bool) → widened g v (cell_by h (lower_part e v) true fw) ≡ cell_by g e true fw
       go true = λ k. record { slab = slab_of k; place = place_of k + 1 }
       go false = λ k. record { slab = slab_of k; place = place_of k }
-  cell_by_low false true long = left_widened e.low Lw
-  cell_by_low false false long = right_widened e.low Lw
+  cell_by_low false true long = left_widened g h v new alike e.low Lw
+  cell_by_low false false long = right_widened g h v new alike e.low Lw
 
   cell_low : (fw : Bool) → widened g v (cell_of h (lower_part e v) fw) ≡ cell_of g e fw
   cell_low fw = ap (λ b. widened g v (cell_by h (lower_part e v) b fw)) low_slant ∙ cell_by_low (left_of e.low e.high) fw refl
@@ -987,7 +782,7 @@ module _ (g : Skeleton) (hv : List Point) (hs : List Edge) (e : Edge) (v : Point
           let q : tally (same_dart (M (record { edge = z; forward = false })) (M d)) ≡ tally (same_dart (L (record { edge = y; forward = false })) (L (whole d))) = ap tally (same_test (record { edge = z; forward = false }) d Z D ∙ ap (λ x. same_dart (L x) (L (whole d))) (w false)) in
           omega arith
 
-      weight_same : (i : ℕ) (K : Point) (j : ℕ) → IsSlab h i K → weight_above h n i j ≡ weight_above g k (narrow i) j
+      weight_same : (i : ℕ) (K : Point) (j : ℕ) → IsSlab h i K → weight_above h n i j ≡ weight_above g k (narrow g v i) j
       weight_same i K j slab =
           weight_parted i K slab n k j (both_ways (lower_part e v) e Low whole_low) (both_ways (upper_part e v) e High whole_high)
           (λ z Z. both_ways z z (kept_edge z Z) (λ fw. whole_rest (record { edge = z; forward = fw }) Z))
@@ -1019,15 +814,18 @@ module _ (g : Skeleton) (hv : List Point) (hs : List Edge) (e : Edge) (v : Point
     pub dart_same : (d : Dart) → IsDartOf h d → SameFace g (widened g v (left_of_dart h d)) (left_of_dart g (whole d))
     dart_same = sorted (λ d. SameFace g (widened g v (left_of_dart h d)) (left_of_dart g (whole d)))
         (λ fw. from_path _ _ (cell_low fw ∙ sym (ap (left_of_dart g) (whole_low fw))))
-        (λ fw. face_trans g _ _ _ (face_down _ _ (one_kind_each.face h (record { edge = upper_part e v; forward = fw }) (record { edge = lower_part e v; forward = fw }) plane (high_low fw)))
+        (λ fw. face_trans g _ _ _ (face_down g h v new alike _ _ (one_kind_each.face h (record { edge = upper_part e v; forward = fw }) (record { edge = lower_part e v; forward = fw }) plane (high_low fw)))
         (from_path _ _ (cell_low fw ∙ sym (ap (left_of_dart g) (whole_high fw)))))
         (λ d D. from_path _ _ (cell_rest d.edge D d.forward ∙ sym (ap (left_of_dart g) (whole_rest d D))))
 
 pub edge_split_in_two : EdgeSplitInTwo
 unfolding whole
 edge_split_in_two = record {
-  left = λ g h e p rest t m T. left_widened g h.vertices h.edges e p rest m t T;
-  faces = λ g h e p rest c d m C D. (face_down g h.vertices h.edges e p rest m c d, λ k. face_up g h.vertices h.edges e p rest m (widened g p c) (widened g p d) k c d (in_member (cells h) c C) (in_member (cells h) d D) refl refl);
+  left = λ g h e p rest t m T. left_widened g h p (new g h.vertices h.edges e p rest m) (alike g h.vertices h.edges e p rest m) t T;
+  faces = λ g h e p rest c d m C D. (
+    face_down g h p (new g h.vertices h.edges e p rest m) (alike g h.vertices h.edges e p rest m) c d,
+    λ k. face_up g h p (new g h.vertices h.edges e p rest m) (alike g h.vertices h.edges e p rest m) (across_it g h.vertices h.edges e p rest m) (widened g p c) (widened g p d) k c d (in_member (cells h) c C) (in_member (cells h) d D) refl refl,
+  );
   leads = λ g h e p rest d k m fl D K. (leads_down g h.vertices h.edges e p rest m fl d k, leads_up g h.vertices h.edges e p rest m fl d k D K);
   dart = λ g h e p rest d m fl D. dart_same g h.vertices h.edges e p rest m fl d D;
   kinds = λ g h e p rest d m fl D. kind_same g h.vertices h.edges e p rest m fl d D;

@@ -12,6 +12,7 @@ pub mod EveryPlaneGraph
 pub mod OneMoreEdge
 pub mod FaceNames
 pub mod FacesByPairs
+pub mod NewWall
 pub mod OneMoreVertex
 pub mod RecordsAfterSplits
 pub mod EdgeSplit

@@ -31,6 +31,7 @@ use Rattle.sound_links.specs.Next.{IsDartOf}
 use Rattle.face_changes.specs.Kinds.{is_outer}
 use Rattle.face_changes.specs.OneMoreVertex.{HasOneMoreVertex, widened, OneMoreVertex}
 use Rattle.slab_faces.proofs.ListedCells.{cell_out, right_there}
+use Rattle.face_changes.proofs.NewWall.{narrow, narrow_right, HasNewVertex, AreEdgesAlike, IsOffWalls, IsOneFaceAcross, V, W, same_spans, left_widened, right_widened, face_down, face_up}
 
 module _ (g : Skeleton) (hv : List Point) (v : Point) (m : HasOneMoreVertex g (record { vertices = hv; edges = g.edges }) v) where
   abbrev h : Skeleton
@@ -42,93 +43,16 @@ module _ (g : Skeleton) (hv : List Point) (v : Point) (m : HasOneMoreVertex g (r
   plane : IsPlaneSkeleton h
   plane = m.plane_more
 
-  V : Contains hv v
-  V = (m.vertices v).1 (inr refl)
+  pub new : HasNewVertex g h v
+  new = record { plane = m.plane; plane_more = m.plane_more; vertices = m.vertices; counts = m.counts }
 
-  W : HasWeight v
-  W = plane.proper v V
-
-  up : (u : Point) → Contains g.vertices u → Contains hv u
-  up u U = (m.vertices u).1 (inl U)
-
-  abbrev S : ℕ
-  S = slab_left g v
-
-  narrow : ℕ → ℕ
-  narrow i = cond (ltb (slab_left g v) i) (i - 1) i
-
-  narrow_over : (i : ℕ) → slab_left g v ≤ i → narrow (1 + i) ≡ i
-  unfolding narrow
-  narrow_over i l = rw (lt-ltb (slab_left g v) (1 + i) (omega arith)) (omega arith)
-
-  narrow_under : (i : ℕ) → i ≤ slab_left g v → narrow i ≡ i
-  unfolding narrow
-  narrow_under i l = rw (le-ltb (slab_left g v) i l) refl
-
-  -- ---- slabs beside a point
-  left_is : (t : Point) → slab_left h t ≡ cond (left_of v t) 1 0 + slab_left g t
-  left_is t = m.counts (λ u. left_of u t)
-
-  right_is : (t : Point) → slab_right h t ≡ cond (not (left_of t v)) 1 0 + slab_right g t
-  right_is t = m.counts (λ u. not (left_of t u))
-
-  narrow_left : (t : Point) → HasWeight t → narrow (slab_left h t) ≡ slab_left g t
-  narrow_left t T = elim (cases_Bool (left_of v t)) [
-    | inl b ↦
-        let n : slab_left h t ≡ 1 + slab_left g t = left_is t ∙ ap (λ z. cond z 1 0 + slab_left g t) b in
-        let l = fewer (λ u. left_of u v) (λ u. left_of u t) g.vertices (λ u U k. left_of-before u v t (plane_g.proper u U) W T k (left_of-asym v t b)) in
-        ap narrow n ∙ narrow_over (slab_left g t) l
-    | inr b ↦
-        let n : slab_left h t ≡ slab_left g t = left_is t ∙ ap (λ z. cond z 1 0 + slab_left g t) b ∙ omega arith in
-        let l = fewer (λ u. left_of u t) (λ u. left_of u v) g.vertices (λ u U k. left_of-before u t v (plane_g.proper u U) T W k b) in
-        ap narrow n ∙ narrow_under (slab_left g t) l
-  ]
-
-  narrow_right : (t : Point) → HasWeight t → narrow (slab_right h t) ≡ slab_right g t
-  narrow_right t T = elim (cases_Bool (left_of t v)) [
-    | inl b ↦
-        let n : slab_right h t ≡ slab_right g t = right_is t ∙ ap (λ z. cond (not z) 1 0 + slab_right g t) b ∙ omega arith in
-        let l = fewer (λ u. not (left_of t u)) (λ u. left_of u v) g.vertices (λ u U k. left_of-after u t v (plane_g.proper u U) T W (not-true _ k) b) in
-        ap narrow n ∙ narrow_under (slab_right g t) l
-    | inr b ↦
-        let n : slab_right h t ≡ 1 + slab_right g t = right_is t ∙ ap (λ z. cond (not z) 1 0 + slab_right g t) b in
-        let l = fewer (λ u. left_of u v) (λ u. not (left_of t u)) g.vertices (λ u U k. ap not (false_from_ne_true (left_of t u) (λ w. false≢true (sym b ∙ left_of-before t u v T (plane_g.proper u U) W w (left_of-asym u v k))))) in
-        ap narrow n ∙ narrow_over (slab_right g t) l
-  ]
-
-  pub left_widened : (t : Point) → HasWeight t → widened g v (left_cell h t) ≡ left_cell g t
-  unfolding narrow
-  left_widened t T = λ i. record { slab = narrow_left t T i; place = left_count g t }
-
-  pub right_widened : (t : Point) → HasWeight t → widened g v (right_cell h t) ≡ right_cell g t
-  unfolding narrow
-  right_widened t T = λ i. record { slab = narrow_right t T i; place = right_count g t }
-
-  -- ---- each face of h is in one of g
-  wall_or_not : (t : Point) → HasWeight t → IsOnWall g t ⊎ (left_cell g t ≡ right_cell g t)
-  wall_or_not t T = elim (cases_lt 0 (count_by (λ u. on_wall u t) g.vertices)) [
-    | inl l ↦ let w = found (λ u. on_wall u t) g.vertices l in inl (record { proper = T; vertex = w.0; is_vertex = w.1; same = w.2 })
-    | inr l ↦ inr (off_walls g t plane_g T (λ u U. false_from_ne_true _ (λ k. let p = passing (λ u. on_wall u t) g.vertices u U k in absurd (omega arith))))
-  ]
-
-  meets_down : (t : Point) → IsOnWall h t → IsOpenAbove h t → SameFace g (left_cell g t) (right_cell g t)
-  meets_down t wall free = elim (wall_or_not t wall.proper) [
-    | inl w ↦ right _ _ _ (here _) (across t w (record { open_at = free.open_at }))
-    | inr q ↦ subst (SameFace g (left_cell g t)) q (here _)
-  ]
-
-  widened_meet : (t : Point) → IsOnWall h t → IsOpenAbove h t → SameFace g (widened g v (left_cell h t)) (widened g v (right_cell h t))
-  widened_meet t wall free = subst (λ (z : SlabCell × SlabCell). SameFace g z.0 z.1) (λ i. (sym (left_widened t wall.proper) i, sym (right_widened t wall.proper) i)) (meets_down t wall free)
-
-  pub face_down : (c d : SlabCell) → SameFace h c d → SameFace g (widened g v c) (widened g v d)
-  face_down c d (here c') = here _
-  face_down c d (right b x d' s (across t wall free)) = face_trans g _ _ _ (face_down b x s) (widened_meet t wall free)
-  face_down c d (left b x d' s (across t wall free)) = face_trans g _ _ _ (face_down b x s) (face_sym g _ _ (widened_meet t wall free))
+  pub alike : AreEdgesAlike g h
+  alike = record { on_left = λ t T. refl; on_right = λ t T. refl; open_down = λ t T free. record { open_at = free.open_at }; open_up = λ t T free. record { open_at = free.open_at } }
 
   -- ---- a new wall
-  module _ (off : (u : Point) → Contains g.vertices u → on_wall u v ≡ false) where
+  module _ (off : IsOffWalls g v) where
     wall : IsOnWall h v
-    wall = on_own_wall h v plane V
+    wall = on_own_wall h v plane (V g h v new)
 
     to_left : (u : Point) → Contains g.vertices u → left_of u v ≡ not (left_of v u)
     to_left u U = one (left_of u v) (left_of v u) (off u U) (left_of-asym u v)
@@ -164,7 +88,7 @@ module _ (g : Skeleton) (hv : List Point) (v : Point) (m : HasOneMoreVertex g (r
         record { from = a.0; to = b.1 }
 
     -- on both sides of it each place is in one face
-    across_it : (j : ℕ) → j ≤ width h (slab_left h v) → SameFace h (record { slab = slab_left h v; place = j }) (record { slab = slab_right h v; place = j })
+    pub across_it : IsOneFaceAcross h v
     across_it zero k = right _ _ _ (here _) (lowest_meets h v plane wall)
     across_it (suc j) k =
         let f = edge_at h (slab_left h v) (left_inside h v) plane (is_slab_left h v plane wall) j (omega arith) in
@@ -173,169 +97,35 @@ module _ (g : Skeleton) (hv : List Point) (v : Point) (m : HasOneMoreVertex g (r
         let r : place h (slab_right h v) f.0 + 1 ≡ suc j = let q = f.3 in let w = both_places f.0 in omega arith in
         subst (λ (z : ℕ × ℕ). SameFace h (record { slab = slab_left h v; place = z.0 }) (record { slab = slab_right h v; place = z.1 })) (λ i. (p i, r i)) o
 
-    left_new : slab_left h v ≡ slab_left g v
-    left_new = let a = left_is v in let b : cond {A = ℕ} (left_of v v) 1 0 ≡ 0 = rw (left_of-irrefl v) refl in omega arith
-
-    right_new : slab_right h v ≡ 1 + slab_left g v
-    right_new =
-        let a = right_is v in
-        let b : cond {A = ℕ} (not (left_of v v)) 1 0 ≡ 1 = rw (left_of-irrefl v) refl in
-        let c : slab_right g v ≡ slab_left g v =
-        sum_by-same (λ u. cond (not (left_of v u)) 1 0) (λ u. cond (left_of u v) 1 0) g.vertices (each (λ u. cond {A = ℕ} (not (left_of v u)) 1 0 ≡ cond (left_of u v) 1 0) g.vertices (λ u U. ap (λ z. cond {A = ℕ} z 1 0) (sym (to_left u U)))) in
-        omega arith
-
-    beside_new : (j : ℕ) → j ≤ width h (slab_left g v) → SameFace h (record { slab = slab_left g v; place = j }) (record { slab = 1 + slab_left g v; place = j })
-    beside_new j k =
-        subst (λ (z : ℕ × ℕ). SameFace h (record { slab = z.0; place = j }) (record { slab = z.1; place = j })) (λ i. (left_new i, right_new i))
-        (across_it j (subst (λ z. j ≤ width h z) (sym left_new) k))
-
-  -- where the slab after v's is one of h, the wall of v is new
-  new_wall : (w : Point) → Contains hv w → slab_right h w ≡ 1 + slab_left g v → (u : Point) → Contains g.vertices u → on_wall u v ≡ false
-  new_wall w Wh q u U = false_from_ne_true _ (λ k.
-      let o = on_wall_parts u v k in
-      let T = plane.proper w Wh in
-      let n = right_is w in
-      elim (cases_Bool (left_of w v)) [
-        | inl b ↦
-            let c : cond {A = ℕ} (not (left_of w v)) 1 0 ≡ 0 = rw b refl in
-            let l = fewer (λ z. not (left_of w z)) (λ z. left_of z v) g.vertices (λ z Z i. left_of-after z w v (plane_g.proper z Z) T W (not-true _ i) b) in
-            absurd (omega arith)
-        | inr b ↦
-            let c : cond {A = ℕ} (not (left_of w v)) 1 0 ≡ 1 = rw b refl in
-            let l = fewer_than (λ z. left_of z v) (λ z. not (left_of w z)) g.vertices u U o.0
-            (ap not (false_from_ne_true (left_of w u) (λ i. false≢true (sym b ∙ left_of-before w u v T (plane_g.proper u U) W i o.1))))
-            (λ z Z i. ap not (false_from_ne_true (left_of w z) (λ j. false≢true (sym b ∙ left_of-before w z v T (plane_g.proper z Z) W j (left_of-asym z v i))))) in
-            absurd (omega arith)
-      ])
-
-  -- ---- two listed cells of h that are one in g
-  data Near (i k : ℕ) : Type 0 where
-    equal : i ≡ k → Near i k
-    after : i ≡ slab_left g v → k ≡ 1 + slab_left g v → Near i k
-    before : i ≡ 1 + slab_left g v → k ≡ slab_left g v → Near i k
-
-  near : (i k : ℕ) → narrow i ≡ narrow k → Near i k
-  unfolding narrow
-  near i k q = elim (cases_lt (slab_left g v) i) [
-    | inl a ↦ elim (cases_lt (slab_left g v) k) [
-      | inl b ↦ let q' : i - 1 ≡ k - 1 = rw (lt-ltb (slab_left g v) i a, lt-ltb (slab_left g v) k b) at q in equal (omega arith)
-      | inr b ↦ let q' : i - 1 ≡ k = rw (lt-ltb (slab_left g v) i a, le-ltb (slab_left g v) k b) at q in before (omega arith) (omega arith)
-    ]
-    | inr a ↦ elim (cases_lt (slab_left g v) k) [
-      | inl b ↦ let q' : i ≡ k - 1 = rw (le-ltb (slab_left g v) i a, lt-ltb (slab_left g v) k b) at q in after (omega arith) (omega arith)
-      | inr b ↦ let q' : i ≡ k = rw (le-ltb (slab_left g v) i a, le-ltb (slab_left g v) k b) at q in equal q'
-    ]
-  ]
-
-  starts : (i : ℕ) → Member (0 ∷ map (slab_right h) (walls h)) i → i ≡ 1 + slab_left g v → (w : Point) × Contains hv w × (slab_right h w ≡ 1 + slab_left g v)
-  starts i (inl e) q = absurd (omega arith)
-  starts i (inr k) q = let w = map_out (slab_right h) (walls h) i k in (w.0, wall_vertex h w.0 w.1, w.2 ∙ q)
-
-  abbrev at : ℕ → ℕ → SlabCell
-  at i j = record { slab = i; place = j }
-
-  pair : (i k j : ℕ) → Member (cells h) (at i j) → Member (cells h) (at k j) → Near i k → SameFace h (at i j) (at k j)
-  pair i k j C D (equal q) = subst (λ z. SameFace h (at i j) (at z j)) q (here _)
-  pair i k j C D (after p q) =
-      let c = cell_out h (at i j) C in
-      let w = starts k (cell_out h (at k j) D).slab q in
-      let s = beside_new (new_wall w.0 w.1 w.2) j (subst (λ z. j ≤ width h z) p c.place) in
-      subst (λ (z : ℕ × ℕ). SameFace h (at z.0 j) (at z.1 j)) (λ n. (sym p n, sym q n)) s
-  pair i k j C D (before p q) =
-      let c = cell_out h (at k j) D in
-      let w = starts i (cell_out h (at i j) C).slab p in
-      let s = beside_new (new_wall w.0 w.1 w.2) j (subst (λ z. j ≤ width h z) q c.place) in
-      face_sym h _ _ (subst (λ (z : ℕ × ℕ). SameFace h (at z.0 j) (at z.1 j)) (λ n. (sym q n, sym p n)) s)
-
-  fiber : (c d : SlabCell) → Member (cells h) c → Member (cells h) d → widened g v c ≡ widened g v d → SameFace h c d
-  unfolding narrow
-  fiber c d C D q =
-      let p : c.place ≡ d.place = ap (λ (z : SlabCell). z.place) q in
-      let s : narrow c.slab ≡ narrow d.slab = ap (λ (z : SlabCell). z.slab) q in
-      let D' : Member (cells h) (at d.slab c.place) = subst (λ j. Member (cells h) (at d.slab j)) (sym p) D in
-      subst (λ j. SameFace h c (at d.slab j)) p (pair c.slab d.slab c.place C D' (near c.slab d.slab s))
-
-  wall_up : (t : Point) → IsOnWall g t → IsOnWall h t
-  wall_up t w = record { proper = w.proper; vertex = w.vertex; is_vertex = up w.vertex w.is_vertex; same = w.same }
-
-  pub face_up : (c d : SlabCell) → SameFace g c d → (x y : SlabCell) → Member (cells h) x → Member (cells h) y → widened g v x ≡ c → widened g v y ≡ d → SameFace h x y
-  face_up c d (here c') x y X Y p q = fiber x y X Y (p ∙ sym q)
-  face_up c d (right b c' d' s (across t wall free)) x y X Y p q =
-      let T = wall.proper in
-      let w = wall_up t wall in
-      let L = cell_there h t plane T in
-      let R = right_there h plane t w in
-      let k = face_up b c' s x (left_cell h t) X L p (left_widened t T) in
-      face_trans h _ _ _ k (face_trans h _ _ _ (right _ _ _ (here _) (across t w (record { open_at = free.open_at }))) (fiber (right_cell h t) y R Y (right_widened t T ∙ sym q)))
-  face_up c d (left b c' d' s (across t wall free)) x y X Y p q =
-      let T = wall.proper in
-      let w = wall_up t wall in
-      let L = cell_there h t plane T in
-      let R = right_there h plane t w in
-      let k = face_up b c' s x (right_cell h t) X R p (right_widened t T) in
-      face_trans h _ _ _ k (face_trans h _ _ _ (left _ _ _ (here _) (across t w (record { open_at = free.open_at }))) (fiber (left_cell h t) y L Y (left_widened t T ∙ sym q)))
-
-  -- ---- edges in slabs, and what they weigh
-  bounds : (b : Bool) (a i s : ℕ) → (b ≡ true → a ≤ s) → (b ≡ false → s < a) → leb (cond (not b) 1 0 + a) i ≡ leb a (cond (ltb s i) (i - 1) i)
-  bounds true a i s f n = let k = f refl in elim (cases_lt s i) [
-    | inl l ↦ rw (lt-ltb s i l) (grind (arith, nat_tests))
-    | inr l ↦ rw (le-ltb s i l) (ap (λ z. leb z i) (omega arith))
-  ]
-  bounds false a i s f n = let k = n refl in elim (cases_lt s i) [
-    | inl l ↦ rw (lt-ltb s i l) (grind (arith, nat_tests))
-    | inr l ↦ rw (le-ltb s i l) (grind (arith, nat_tests))
-  ]
-
-  -- a vertex is on the right of v's slab exactly where it isn't left of v
-  beyond : (u : Point) → Contains g.vertices u → (left_of u v ≡ true → slab_right g u ≤ slab_left g v) × (left_of u v ≡ false → slab_left g v < slab_right g u)
-  beyond u U = (
-    λ b. fewer (λ z. not (left_of u z)) (λ z. left_of z v) g.vertices (λ z Z i. left_of-after z u v (plane_g.proper z Z) (plane_g.proper u U) W (not-true _ i) b),
-    λ b. fewer_than (λ z. left_of z v) (λ z. not (left_of u z)) g.vertices u U b (ap not (left_of-irrefl u))
-        (λ z Z i. ap not (false_from_ne_true (left_of u z) (λ j. false≢true (sym b ∙ left_of-before u z v (plane_g.proper u U) (plane_g.proper z Z) W j (left_of-asym z v i))))),
-  )
-
-  from_slab : (u : Point) → Contains g.vertices u → (i : ℕ) → leb (slab_right h u) i ≡ leb (slab_right g u) (narrow i)
-  unfolding narrow
-  from_slab u U i = ap (λ n. leb n i) (right_is u) ∙ bounds (left_of u v) (slab_right g u) i (slab_left g v) (beyond u U).0 (beyond u U).1
-
-  less_is : (a b : ℕ) → ltb a b ≡ not (leb b a)
-  less_is a b = grind (arith, nat_tests)
-
-  same_spans : (f : Edge) → Contains g.edges f → (i : ℕ) → spans h i f ≡ spans g (narrow i) f
-  same_spans f F i =
-      let a = from_slab f.low (plane_g.lower_in f F) i in
-      let b : ltb i (slab_right h f.high) ≡ ltb (narrow i) (slab_right g f.high) = less_is i (slab_right h f.high) ∙ ap not (from_slab f.high (plane_g.upper_in f F) i) ∙ sym (less_is (narrow i) (slab_right g f.high)) in
-      λ k. a k && b k
-
-  same_place : (f : Edge) (i : ℕ) → place h i f ≡ place g (narrow i) f
+  same_place : (f : Edge) (i : ℕ) → place h i f ≡ place g (narrow g v i) f
   same_place f i =
-      sum_by-same (λ z. cond (spans h i z && below z f) 1 0) (λ z. cond (spans g (narrow i) z && below z f) 1 0) g.edges
-      (each (λ z. cond {A = ℕ} (spans h i z && below z f) 1 0 ≡ cond (spans g (narrow i) z && below z f) 1 0) g.edges (λ z Z. ap (λ b. cond {A = ℕ} (b && below z f) 1 0) (same_spans z Z i)))
+      sum_by-same (λ z. cond (spans h i z && below z f) 1 0) (λ z. cond (spans g (narrow g v i) z && below z f) 1 0) g.edges
+      (each (λ z. cond {A = ℕ} (spans h i z && below z f) 1 0 ≡ cond (spans g (narrow g v i) z && below z f) 1 0) g.edges (λ z Z. ap (λ b. cond {A = ℕ} (b && below z f) 1 0) (same_spans g h v new z Z i)))
 
-  same_weight : (n : Edge → ℕ) (i j : ℕ) → weight_above h n i j ≡ weight_above g n (narrow i) j
+  same_weight : (n : Edge → ℕ) (i j : ℕ) → weight_above h n i j ≡ weight_above g n (narrow g v i) j
   same_weight n i j =
-      sum_by-same (λ z. cond (spans h i z && leb j (place h i z)) (n z) 0) (λ z. cond (spans g (narrow i) z && leb j (place g (narrow i) z)) (n z) 0) g.edges
-      (each (λ z. cond (spans h i z && leb j (place h i z)) (n z) 0 ≡ cond (spans g (narrow i) z && leb j (place g (narrow i) z)) (n z) 0) g.edges
-      (λ z Z. λ k. cond (same_spans z Z i k && leb j (same_place z i k)) (n z) 0))
+      sum_by-same (λ z. cond (spans h i z && leb j (place h i z)) (n z) 0) (λ z. cond (spans g (narrow g v i) z && leb j (place g (narrow g v i) z)) (n z) 0) g.edges
+      (each (λ z. cond (spans h i z && leb j (place h i z)) (n z) 0 ≡ cond (spans g (narrow g v i) z && leb j (place g (narrow g v i) z)) (n z) 0) g.edges
+      (λ z Z. λ k. cond (same_spans g h v new z Z i k && leb j (same_place z i k)) (n z) 0))
 
   dart_by : (f : Edge) (b fw : Bool) → Contains g.edges f → widened g v (cell_by h f b fw) ≡ cell_by g f b fw
   unfolding narrow
   dart_by f true true F = λ k. record { slab = slab_of k; place = (place_of k) + 1 }
     where
-      slab_of : narrow (slab_right h f.low) ≡ slab_right g f.low
-      slab_of = narrow_right f.low (plane_g.proper_edge f F).0
+      slab_of : narrow g v (slab_right h f.low) ≡ slab_right g f.low
+      slab_of = narrow_right g h v new f.low (plane_g.proper_edge f F).0
 
       place_of : place h (slab_right h f.low) f ≡ place g (slab_right g f.low) f
       place_of = same_place f (slab_right h f.low) ∙ ap (λ i. place g i f) slab_of
   dart_by f true false F = λ k. record { slab = slab_of k; place = place_of k }
     where
-      slab_of : narrow (slab_right h f.low) ≡ slab_right g f.low
-      slab_of = narrow_right f.low (plane_g.proper_edge f F).0
+      slab_of : narrow g v (slab_right h f.low) ≡ slab_right g f.low
+      slab_of = narrow_right g h v new f.low (plane_g.proper_edge f F).0
 
       place_of : place h (slab_right h f.low) f ≡ place g (slab_right g f.low) f
       place_of = same_place f (slab_right h f.low) ∙ ap (λ i. place g i f) slab_of
-  dart_by f false true F = left_widened f.low (plane_g.proper_edge f F).0
-  dart_by f false false F = right_widened f.low (plane_g.proper_edge f F).0
+  dart_by f false true F = left_widened g h v new alike f.low (plane_g.proper_edge f F).0
+  dart_by f false false F = right_widened g h v new alike f.low (plane_g.proper_edge f F).0
 
   pub dart_widened : (d : Dart) → IsDartOf g d → widened g v (left_of_dart h d) ≡ left_of_dart g d
   dart_widened d D = dart_by d.edge (left_of d.edge.low d.edge.high) d.forward D
@@ -348,6 +138,9 @@ module _ (g : Skeleton) (hv : List Point) (v : Point) (m : HasOneMoreVertex g (r
   same_kind d D = same_odd (lead_of g d) (left_of_dart h d) ∙ ap (odd g (dart_labels (darts g)) (lead_of g d)) (dart_widened d D)
 
 -- ---- h as the edges of g and a list of vertices
+abbrev with_vertices : Skeleton → List Point → Skeleton
+with_vertices g hv = record { vertices = hv; edges = g.edges }
+
 lift : (g h : Skeleton) (v : Point) (P : Skeleton → Type 0) → HasOneMoreVertex g h v → ((hv : List Point) → HasOneMoreVertex g (record { vertices = hv; edges = g.edges }) v → P (record { vertices = hv; edges = g.edges })) → P h
 lift g h v P m f =
     let p : ◌≡◌ {A = Skeleton} (record { vertices = h.vertices; edges = g.edges }) h = λ i. record { vertices = h.vertices; edges = sym m.edges i } in
@@ -355,11 +148,11 @@ lift g h v P m f =
 
 pub one_more_vertex : OneMoreVertex
 one_more_vertex = record {
-  left = λ g h v t m T. lift g h v (λ z. widened g v (left_cell z t) ≡ left_cell g t) m (λ hv n. left_widened g hv v n t T);
-  right = λ g h v t m T. lift g h v (λ z. widened g v (right_cell z t) ≡ right_cell g t) m (λ hv n. right_widened g hv v n t T);
+  left = λ g h v t m T. lift g h v (λ z. widened g v (left_cell z t) ≡ left_cell g t) m (λ hv n. left_widened g (with_vertices g hv) v (new g hv v n) (alike g hv v n) t T);
+  right = λ g h v t m T. lift g h v (λ z. widened g v (right_cell z t) ≡ right_cell g t) m (λ hv n. right_widened g (with_vertices g hv) v (new g hv v n) (alike g hv v n) t T);
   dart = λ g h v d m D. lift g h v (λ z. widened g v (left_of_dart z d) ≡ left_of_dart g d) m (λ hv n. dart_widened g hv v n d D);
   faces = λ g h v c d m. lift g h v (λ z. Contains (cells z) c → Contains (cells z) d → SameFace z c d ↔ SameFace g (widened g v c) (widened g v d)) m
-      (λ hv n C D. (face_down g hv v n c d, λ k. face_up g hv v n (widened g v c) (widened g v d) k c d (in_member (cells (record { vertices = hv; edges = g.edges })) c C) (in_member (cells (record { vertices = hv; edges = g.edges })) d D) refl refl));
+      (λ hv n C D. (face_down g (with_vertices g hv) v (new g hv v n) (alike g hv v n) c d, λ k. face_up g (with_vertices g hv) v (new g hv v n) (alike g hv v n) (across_it g hv v n) (widened g v c) (widened g v d) k c d (in_member (cells (record { vertices = hv; edges = g.edges })) c C) (in_member (cells (record { vertices = hv; edges = g.edges })) d D) refl refl));
   leads = λ g h v d m. lift g h v (λ z. lead_of z d ≡ lead_of g d) m (λ hv n. refl);
   kinds = λ g h v d m D. lift g h v (λ z. is_outer z d ≡ is_outer g d) m (λ hv n. same_kind g hv v n d D);
 }

@@ -1,27 +1,24 @@
 -- Which cells are listed: the first one, those on the right of points on walls, and those beside darts.
 use Rattle.std.proofs.Common.{◌≡◌, ◌<◌, ◌≤◌, Bool, true, false, arith, refl, ap, ◌∙◌, subst, inl, inr, ◌∷◌, map, suc}
-use Rattle.std.specs.Prelude.{not, ◌&&◌, filter}
+use Rattle.std.specs.Prelude.{not, ◌&&◌}
 use Rattle.std.specs.List.{Contains, range_with_len}
 use Rattle.std.proofs.lemmas.Bool.{and_parts, and_from}
 use Rattle.exact_plane.specs.Point.{Point}
 use Rattle.plane_graphs.specs.Graph.{Edge}
 use Rattle.slab_laws.specs.declared.slab_cell.SlabCell.{SlabCell}
-use Rattle.slab_laws.specs.declared.classes.Link.{Link}
-use Rattle.slab_laws.specs.Skeleton.{Skeleton, left_of, on_wall, over, below, foot, IsPlaneSkeleton}
+use Rattle.slab_laws.specs.Skeleton.{Skeleton, left_of, over, below, IsPlaneSkeleton}
 use Rattle.slab_laws.specs.Meets.{IsOnWall}
-use Rattle.slab_laws.specs.Slabs.{slab_left, slab_right, spans, place, reaches_right, right_count, left_cell, right_cell, width}
+use Rattle.slab_laws.specs.Slabs.{slab_right, spans, place, reaches_right, right_count, right_cell, width}
 use Rattle.slab_laws.specs.Darts.{cell_by, cell_of}
-use Rattle.slab_laws.specs.Faces.{walls, passes, is_open, link_at, corner_links, foot_links, wall_links, links, face_labels, face_of, same_cell, cell_below, slab_cells, cells}
+use Rattle.slab_laws.specs.Faces.{walls, slab_cells, cells}
 use Rattle.slab_faces.proofs.Sums.{fewer, fewer_than}
 use Rattle.slab_faces.proofs.Walls.{left_of-irrefl, on_wall_parts}
 use Rattle.slab_faces.proofs.Cells.{spans_right}
 use Rattle.slab_faces.proofs.Along.{below_self}
 use Rattle.slab_faces.proofs.AddedUpright.{one_slab_right}
-use Rattle.slab_faces.proofs.Turns.{on_own_wall, foot_is_on}
-use Rattle.slab_faces.proofs.Member.{Member, member_in, map_in, map_out, flat_in, flat_out, filter_out, append_cases}
+use Rattle.slab_faces.proofs.Turns.{on_own_wall}
+use Rattle.slab_faces.proofs.Member.{Member, map_in, map_out, flat_in, flat_out}
 use Rattle.slab_faces.proofs.Searches.{in_range, range_below}
-use Rattle.slab_faces.proofs.ClassesLemmas.{connected}
-use Rattle.slab_faces.proofs.FacesLemmas.{cells_exact}
 use Rattle.slab_faces.proofs.WallsLemmas.{wall_vertex, wall_of_vertex, cell_there}
 
 -- its slab begins at a wall, or is the first, and its place is not above the topmost
