@@ -22,7 +22,8 @@ use Rattle.sound_views.proofs.Named.{names_are_darts, source_by, twin_by}
 use Rattle.face_changes.specs.OneMoreEdge.{IsOneMoreEdge}
 use Rattle.face_changes.specs.RecordsAfterSplits.{IsLinkedWithin}
 use Rattle.face_changes.specs.AddedWithinACycle.{AddedWithinACycle}
-use Rattle.face_changes.proofs.LinkedCycles.{twice, there_dart}
+use Rattle.sound_rings.proofs.Turned.{twin_twice}
+use Rattle.face_changes.proofs.LinkedCycles.{there_dart}
 use Rattle.face_changes.proofs.OneMoreEdge.{cycles_with_one_more_edge}
 
 module _ (v : View) (d m : DartId) (u w : VertexId) (at_u at_w : DartId) (l : Line) (s : IsGraphSound v) (f : FitsAddedEdge v d m u w (Some at_u) (Some at_w) l) (plane : IsPlaneSkeleton (skeleton_of (add_edge v d m u w (Some at_u) (Some at_w) l))) where
@@ -44,7 +45,7 @@ module _ (v : View) (d m : DartId) (u w : VertexId) (at_u at_w : DartId) (l : Li
   sound_V : IsGraphSound V
   sound_V = added v d m u w (Some at_u) (Some at_w) l s f plane
 
-  is_more : IsOneMoreEdge (skeleton_of v) (skeleton_of V) (dart_in V d)
+  is_more : IsOneMoreEdge (skeleton_of v) (skeleton_of V) (dart_in V d).edge
   is_more = record {
     plane = s.plane;
     plane_more = plane;
@@ -59,7 +60,7 @@ module _ (v : View) (d m : DartId) (u w : VertexId) (at_u at_w : DartId) (l : Li
   comes x a y h q =
       let A = h.0.0 in
       let T = s.twinned.has a A in
-      let back : twin (dart_in v (twin_in v a)) ≡ dart_in v a = ap twin (names_are_darts.twin v a s A) ∙ twice (dart_in v a) in
+      let back : twin (dart_in v (twin_in v a)) ≡ dart_in v a = ap twin (names_are_darts.twin v a s A) ∙ twin_twice (dart_in v a) in
       let on : next (darts (skeleton_of v)) (dart_in v (twin_in v a)) ≡ dart_in v (after_in v a) = sym (names_are_darts.next v (twin_in v a) s T) in
       record {
         leaves = q ∙ ap (point_in v) (sym h.0.1 ∙ ap (source_in v) (sym (s.twinned.back a A))) ∙ sym (names_are_darts.target v (twin_in v a) s T);

@@ -24,9 +24,6 @@ names_exact : IsExact same_name
 names_exact = record { itself = λ d. eq-eqb d.0 d.0 refl; path = λ d e h. let q = eqb-true d.0 e.0 h in λ i. record { 0 = q i } }
 
 module _ (v : View) (s : IsGraphSound v) where
-  link : DartId → Link DartId
-  link d = record { one = d; other = next_in v d }
-
   listed : (d : DartId) → HasDart v d → Member (dart_names v) d
   listed d h = in_member (dart_names v) d (from_member (dart_names v) d (dart_name v d h))
 
@@ -40,9 +37,6 @@ module _ (v : View) (s : IsGraphSound v) where
   -- ---- from labels of names to leads of darts
   lead_step : (d : DartId) → HasDart v d → lead_in v d ≡ lead_in v (next_in v d)
   lead_step d h = (labelled (skeleton_of v)).step (dart_in v d) (names_are_darts.known v d s h) ∙ ap (lead_of (skeleton_of v)) (sym (names_are_darts.next v d s h))
-
-  abbrev Same : DartId → DartId → Type 0
-  Same d e = (HasDart v d → HasDart v e) × (HasDart v e → HasDart v d) × (HasDart v d → lead_in v d ≡ lead_in v e)
 
   same_is : IsEquivalence (λ d e. (HasDart v d → HasDart v e) × (HasDart v e → HasDart v d) × (HasDart v d → lead_in v d ≡ lead_in v e))
   same_is = record {

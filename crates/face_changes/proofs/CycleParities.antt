@@ -18,15 +18,13 @@ use Rattle.slab_faces.proofs.Sums.{each, even_sum, sum_by-same, sum_by-plus}
 use Rattle.slab_faces.proofs.NextLemmas.{darts_exact}
 use Rattle.sound_links.specs.Next.{HasEdgeMore, IsDartOf}
 use Rattle.face_changes.specs.Orbits.{IsOrbitSplit, AreOrbitsUnited}
+use Rattle.face_changes.proofs.OneToOneMaps.{unlike, tally}
 use Rattle.face_changes.proofs.EdgeOrder.{weight_apart}
 use Rattle.face_changes.proofs.LinkedCycles.{dart_there}
 
 -- how often the edges above a cell have a dart of the cycle
 abbrev pub weight_of : Skeleton → Dart → SlabCell → ℕ
 weight_of g l c = weight_above g (darts_on (dart_labels (darts g)) l) c.slab c.place
-
-abbrev pub tally : Bool → ℕ
-tally b = cond b 1 0
 
 pub on_edge : (g : Skeleton) (l : Dart) (z : Edge) → darts_on (dart_labels (darts g)) l z ≡ tally (same_dart (lead_of g (ahead z)) l) + tally (same_dart (lead_of g (back z)) l)
 unfolding darts_on
@@ -36,7 +34,7 @@ pub same_is : (d e : Dart) → d ≡ e → same_dart d e ≡ true
 same_is d e q = subst (λ x. same_dart d x ≡ true) q (darts_exact.itself d)
 
 pub same_not : (d e : Dart) → (d ≡ e → ⊥) → same_dart d e ≡ false
-same_not d e h = elim (cases_Bool (same_dart d e)) [ inl t ↦ absurd (h (darts_exact.path d e t)) | inr t ↦ t ]
+same_not d e h = unlike same_dart darts_exact.path d e h
 
 pub choose : (d e : Dart) → (d ≡ e) ⊎ (d ≡ e → ⊥)
 choose d e = elim (cases_Bool (same_dart d e)) [ inl t ↦ inl (darts_exact.path d e t) | inr t ↦ inr (λ q. false≢true (sym t ∙ same_is d e q)) ]

@@ -26,12 +26,13 @@ use Rattle.slab_faces.proofs.CyclesLemmas.{one_to_one}
 use Rattle.face_changes.proofs.NewWall.{narrow, narrow_right, HasNewVertex, AreEdgesAlike, IsOffWalls, IsOneFaceAcross, V as at_v, W as weight_v, same_spans, left_widened, right_widened, face_down, face_up}
 use Rattle.face_changes.proofs.OneMoreEdge.{one_kind_each}
 use Rattle.face_changes.proofs.LinkedCycles.{labelled, dart_there, there_dart}
+use Rattle.face_changes.proofs.OneToOneMaps.{tally}
 use Rattle.face_changes.proofs.OrbitSplices.{agrees}
 use Rattle.face_changes.proofs.CycleParities.{choose, same_is, same_not, on_edge}
 use Rattle.slab_faces.proofs.Slabs.{same_edge_is, same_edge_refl, IsThrough, IsSlab, gap_at, below_at, through}
 use Rattle.slab_faces.proofs.Corners.{IsAt, left_fan, top_place}
 use Rattle.slab_faces.proofs.Along.{left_reach, count_above, open_above, below_self}
-use Rattle.slab_faces.proofs.Turns.{face_trans, on_own_wall, foot_is_on, foot_before, foot_after, level_at}
+use Rattle.slab_faces.proofs.Turns.{face_at, face_trans, on_own_wall, foot_is_on, foot_before, foot_after, level_at}
 use Rattle.slab_faces.proofs.EveryFace.{passing, edge_at}
 use Rattle.slab_faces.proofs.Member.{in_member}
 use Rattle.slab_faces.proofs.FacesLemmas.{lowest_meets}
@@ -764,9 +765,6 @@ module _ (g : Skeleton) (hv : List Point) (hs : List Edge) (e : Edge) (v : Point
       | inr n ↦ same_not (M x) (M d) n ∙ sym (same_not (L (whole x)) (L (whole d)) (λ q. n (leads_up x d X D q)))
     ]
 
-    abbrev tally : Bool → ℕ
-    tally b = cond b 1 0
-
     module _ (d : Dart) (D : IsDartOf h d) where
       abbrev n : Edge → ℕ
       n = darts_on (dart_labels (darts (record { vertices = hv; edges = hs }))) (lead_of (record { vertices = hv; edges = hs }) d)
@@ -808,15 +806,12 @@ module _ (g : Skeleton) (hv : List Point) (hs : List Edge) (e : Edge) (v : Point
         (λ fw. one_kind_each.kind h (record { edge = upper_part e v; forward = fw }) (record { edge = lower_part e v; forward = fw }) plane (high_low fw) ∙ kind_low fw ∙ ap (is_outer g) (whole_low fw ∙ sym (whole_high fw)))
         (λ d D. kind_by d (kept_edge d.edge D) (cell_rest d.edge D d.forward ∙ sym (ap (left_of_dart g) (whole_rest d D))))
 
-    from_path : (c d : SlabCell) → c ≡ d → SameFace g c d
-    from_path c d q = subst (SameFace g c) q (here c)
-
     pub dart_same : (d : Dart) → IsDartOf h d → SameFace g (widened g v (left_of_dart h d)) (left_of_dart g (whole d))
     dart_same = sorted (λ d. SameFace g (widened g v (left_of_dart h d)) (left_of_dart g (whole d)))
-        (λ fw. from_path _ _ (cell_low fw ∙ sym (ap (left_of_dart g) (whole_low fw))))
+        (λ fw. face_at g _ _ (cell_low fw ∙ sym (ap (left_of_dart g) (whole_low fw))))
         (λ fw. face_trans g _ _ _ (face_down g h v new alike _ _ (one_kind_each.face h (record { edge = upper_part e v; forward = fw }) (record { edge = lower_part e v; forward = fw }) plane (high_low fw)))
-        (from_path _ _ (cell_low fw ∙ sym (ap (left_of_dart g) (whole_high fw)))))
-        (λ d D. from_path _ _ (cell_rest d.edge D d.forward ∙ sym (ap (left_of_dart g) (whole_rest d D))))
+        (face_at g _ _ (cell_low fw ∙ sym (ap (left_of_dart g) (whole_high fw)))))
+        (λ d D. face_at g _ _ (cell_rest d.edge D d.forward ∙ sym (ap (left_of_dart g) (whole_rest d D))))
 
 pub edge_split_in_two : EdgeSplitInTwo
 unfolding whole

@@ -22,7 +22,8 @@ use Rattle.sound_links.specs.Next.{HasEdgeMore, IsDartOf, IsBareEnd, ComesBetwee
 use Rattle.sound_links.proofs.Next.{next_with_an_edge_more}
 use Rattle.face_changes.specs.Orbits.{AreOrbitsKept}
 use Rattle.face_changes.proofs.EdgeOrder.{finer}
-use Rattle.face_changes.proofs.LinkedCycles.{twice, dart_there, either, parts, joins, grows, apart}
+use Rattle.sound_rings.proofs.Turned.{twin_twice}
+use Rattle.face_changes.proofs.LinkedCycles.{dart_there, either, parts, joins, grows, apart}
 use Rattle.face_changes.proofs.CycleParities.{weight_of, choose, same_is, same_not, on_edge, weights_even, one_even, own_even}
 use Rattle.face_changes.proofs.MergedCells.{not_there}
 use Rattle.face_changes.proofs.OuterCycles.{own_weight, cycle_face}
@@ -103,7 +104,7 @@ module _ (g : Skeleton) (hs : List Edge) (e : Edge) (plane : IsPlaneSkeleton (re
               let r = apart g h e plane_g plane more x refl bx by in
               alone_once x refl r.0 (sym r.1) o r.2
           | inr b ↦
-              let r = grows g h e plane_g plane more y refl b.0 b.1 b.2 (subst (IsBareEnd g) (sym (twice x)) bx) in
+              let r = grows g h e plane_g plane more y refl b.0 b.1 b.2 (subst (IsBareEnd g) (sym (twin_twice x)) bx) in
               grown_once y refl r.0 (r.1 ∙ sym r.2) o b.0 b.1 r.1
         ]
         | inr a ↦ elim (n.somewhere y refl) [

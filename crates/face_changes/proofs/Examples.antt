@@ -3,7 +3,7 @@
 use Rattle.std.proofs.Common.{◌≡◌, Bool, true, false, pos, [], ◌∷◌, codes, refl}
 use Rattle.exact_plane.specs.Point.{Point}
 use Rattle.plane_graphs.specs.Piece.{Present}
-use Rattle.plane_graphs.specs.Graph.{Edge, graph}
+use Rattle.plane_graphs.specs.Graph.{graph}
 use Rattle.slab_laws.specs.Cycles.{left_of_dart}
 use Rattle.slab_laws.specs.Darts.{Dart}
 use Rattle.slab_laws.specs.Rotation.{twin, same_dart}

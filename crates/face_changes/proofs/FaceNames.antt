@@ -32,7 +32,7 @@ face_names_stay I g h x old new name m q lies = (
     both i j = sides_of_one_more_edge.one g h x (new i) (new j) (old i) (old j) m q (lies i) (lies j)
 
 -- a face falls into two
-module _ (I : Type 0) (g h : Skeleton) (x a : Dart) (old new : I → SlabCell) (name next : I → FaceId) (o : I) (fresh : FaceId) (m : IsOneMoreEdge g h x) (p : PartsCycle g h x a) (lies : AllLieIn g h x old new) (near : SameFace g (old o) (left_of_dart g a)) (s : AreNamesParted h x new name next (name o) fresh) (t : NamesTellFaces g old name) where
+module _ (I : Type 0) (g h : Skeleton) (x a : Dart) (old new : I → SlabCell) (name next : I → FaceId) (o : I) (fresh : FaceId) (m : IsOneMoreEdge g h x.edge) (p : PartsCycle g h x a) (lies : AllLieIn g h x.edge old new) (near : SameFace g (old o) (left_of_dart g a)) (s : AreNamesParted h x new name next (name o) fresh) (t : NamesTellFaces g old name) where
   data Case (k : I) : Type 0 where
     goes : name k ≡ name o → odd_at h x (new k) ≡ true → next k ≡ fresh → Case k
     stays : name k ≡ name o → odd_at h x (new k) ≡ false → next k ≡ name o → Case k
@@ -83,15 +83,15 @@ pub face_names_part : (I : Type 0) → FaceNamesPart I
 face_names_part I g h x a old new name next o fresh m p lies near s t i j = parted I g h x a old new name next o fresh m p lies near s t i j
 
 -- two faces become one
-module _ (I : Type 0) (g h : Skeleton) (x a : Dart) (old new : I → SlabCell) (name next : I → FaceId) (o r : I) (m : IsOneMoreEdge g h x) (p : PartsCycle g h x a) (lies : AllLieIn g h x old new) (at_o : SameFace h (new o) (left_of_dart h x)) (at_r : SameFace h (new r) (left_of_dart h (twin x))) (s : AreNamesMerged name next (name o) (name r)) (t : NamesTellFaces h new name) where
-  down : (c d b k : SlabCell) → LiesIn g h x c b → LiesIn g h x d k → SameFace h c d → SameFace g b k
+module _ (I : Type 0) (g h : Skeleton) (x a : Dart) (old new : I → SlabCell) (name next : I → FaceId) (o r : I) (m : IsOneMoreEdge g h x.edge) (p : PartsCycle g h x a) (lies : AllLieIn g h x.edge old new) (at_o : SameFace h (new o) (left_of_dart h x)) (at_r : SameFace h (new r) (left_of_dart h (twin x))) (s : AreNamesMerged name next (name o) (name r)) (t : NamesTellFaces h new name) where
+  down : (c d b k : SlabCell) → LiesIn g h x.edge c b → LiesIn g h x.edge d k → SameFace h c d → SameFace g b k
   down c d b k C D w = ((faces_with_one_more_edge g h x c d b k m C D).0 w).0
 
-  here : LiesIn g h x (left_of_dart h x) (merged g x.edge (left_of_dart h x))
+  here : LiesIn g h x.edge (left_of_dart h x) (merged g x.edge (left_of_dart h x))
   here = record { real = cells_with_one_more_edge.new g h x m; in' = refl }
 
-  here_twin : LiesIn g h x (left_of_dart h (twin x)) (merged g x.edge (left_of_dart h (twin x)))
-  here_twin = record { real = cells_with_one_more_edge.new g h (twin x) (record { plane = m.plane; plane_more = m.plane_more; more = m.more }); in' = refl }
+  here_twin : LiesIn g h x.edge (left_of_dart h (twin x)) (merged g x.edge (left_of_dart h (twin x)))
+  here_twin = record { real = cells_with_one_more_edge.new g h (twin x) m; in' = refl }
 
   -- what is beside x or its twin is in the one face
   beside_a : (k : I) → (name k ≡ name o) ⊎ (name k ≡ name r) → SameFace g (old k) (left_of_dart g a)

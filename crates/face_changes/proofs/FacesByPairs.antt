@@ -192,6 +192,12 @@ module _ (v : View) (f : Faces) (sound : IsGraphSound v) (full : IsComplete v f)
 pub outer_cycles_follow : OuterCyclesFollow
 outer_cycles_follow v f cell sound full cycled by = outer_cycles v f sound full cycled cell by
 
+-- each item's name has a record
+pub has_name : (v : View) (f : Faces) → IsComplete v f → HasFace f (first_or f.faces) → (i : Item) → HasItem v i → HasFace f (name_at f i)
+has_name v f full first outside h = first
+has_name v f full first (beside d) h = full.face_has (cycle_in f d) (full.cycle_has d h)
+has_name v f full first (round w) h = full.bare_has w ((full.bare w h.0).1 h.1)
+
 -- ---- and back: what IsFaced says, by pairs
 module _ (v : View) (f : Faces) (cell : FaceId → SlabCell) (sound : IsGraphSound v) (full : IsComplete v f) (cycled : IsCycled v f) (t : IsFaced v f cell) where
   abbrev s : Skeleton
@@ -203,11 +209,6 @@ module _ (v : View) (f : Faces) (cell : FaceId → SlabCell) (sound : IsGraphSou
   none_before : (b : FaceId) → HasFace f b → b.0 < (first_or f.faces).0 → ⊥
   none_before b h l = let k = first_least f.faces b.0 full.faces_ascend h in absurd (omega arith)
 
-  has_name : (i : Item) → HasItem v i → HasFace f (name_at f i)
-  has_name outside h = has_first
-  has_name (beside d) h = full.face_has (cycle_in f d) (full.cycle_has d h)
-  has_name (round w) h = full.bare_has w ((full.bare w h.0).1 h.1)
-
   cell_is : (i : Item) → HasItem v i → cell (name_at f i) ≡ face_of (face_labels (skeleton_of v)) (cell_at v i)
   cell_is outside h = (t.unbounded (first_or f.faces) has_first none_before).0
   cell_is (beside d) h = t.darts d h
@@ -218,7 +219,7 @@ module _ (v : View) (f : Faces) (cell : FaceId → SlabCell) (sound : IsGraphSou
     there = has_first;
     same = λ i j hi hj. (
       λ q. one_face s (cell_at v i) (cell_at v j) sound.plane (sym (cell_is i hi) ∙ ap cell q ∙ cell_is j hj),
-      λ k. t.differ (name_at f i) (name_at f j) (has_name i hi) (has_name j hj) (cell_is i hi ∙ one_label s (cell_at v i) (cell_at v j) sound.plane k ∙ sym (cell_is j hj)),
+      λ k. t.differ (name_at f i) (name_at f j) (has_name v f full has_first i hi) (has_name v f full has_first j hj) (cell_is i hi ∙ one_label s (cell_at v i) (cell_at v j) sound.plane k ∙ sym (cell_is j hj)),
     );
     all = λ a h. elim (cases_lt (first_or f.faces).0 a.0) [
       | inl l ↦

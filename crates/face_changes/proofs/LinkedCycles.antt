@@ -12,21 +12,12 @@ use Rattle.slab_faces.proofs.Member.{member_in, in_member}
 use Rattle.slab_faces.proofs.NextLemmas.{darts_exact, dart_in, dart_out, next_from, next_one}
 use Rattle.slab_faces.proofs.CyclesLemmas.{is_set, one_to_one, one_cycle}
 use Rattle.slab_faces.proofs.DartOrder.{along}
+use Rattle.sound_rings.proofs.Turned.{twin_twice}
 use Rattle.sound_links.specs.Next.{HasEdgeMore, IsDartOf, IsBareEnd, ComesBetween, IsNextWithMore}
 use Rattle.sound_links.proofs.Next.{next_with_an_edge_more}
 use Rattle.face_changes.specs.Orbits.{IsOrbitSplit, AreOrbitsUnited, AreOrbitsKept}
 use Rattle.face_changes.proofs.OrbitSplices.{IsLabelled, IsSpliced, split, united}
 use Rattle.face_changes.proofs.OrbitGrowth.{grown, alone}
-
-pub twice : (x : Dart) → twin (twin x) ≡ x
-twice x = go x.forward
-  where
-    back : (b : Bool) → not (not b) ≡ b
-    back true = refl
-    back false = refl
-
-    go : (b : Bool) → ◌≡◌ {A = Dart} (record { edge = x.edge; forward = not (not x.forward) }) x
-    go b = λ i. record { edge = x.edge; forward = back x.forward i }
 
 pub dart_there : (g : Skeleton) (d : Dart) → IsDartOf g d → Contains (darts g) d
 dart_there g d D = member_in (darts g) d (dart_in g d.edge d.forward D)
@@ -99,7 +90,7 @@ module _ (g h : Skeleton) (e : Edge) (plane_g : IsPlaneSkeleton g) (plane_h : Is
         old_or_new = λ y Y. sorted x y q Y;
         at_a = goes.between a x A q at_a;
         at_b = goes.between b (twin x) B q at_b;
-        at_d = ap (next (darts h)) (sym (twice x)) ∙ goes.onward b (twin x) B q at_b;
+        at_d = ap (next (darts h)) (sym (twin_twice x)) ∙ goes.onward b (twin x) B q at_b;
         at_m = goes.onward a x A q at_a;
         elsewhere = λ y Y na nb. goes.elsewhere y (there_dart g y Y) (λ z k c. elim (either x z q k) [
           | inl w ↦ na (one_before x y a (there_dart g y Y) A q (subst (ComesBetween g y) w c) at_a)
@@ -125,7 +116,7 @@ module _ (g h : Skeleton) (e : Edge) (plane_g : IsPlaneSkeleton g) (plane_h : Is
         m_in = dart_there h (twin x) (there (twin x) q);
         old_or_new = λ y Y. sorted x y q Y;
         at_a = goes.between a x A q at_a;
-        at_d = ap (next (darts h)) (sym (twice x)) ∙ goes.bare (twin x) q none;
+        at_d = ap (next (darts h)) (sym (twin_twice x)) ∙ goes.bare (twin x) q none;
         at_m = goes.onward a x A q at_a;
         elsewhere = λ y Y na. goes.elsewhere y (there_dart g y Y) (λ z k c. elim (either x z q k) [
           | inl w ↦ na (one_before x y a (there_dart g y Y) A q (subst (ComesBetween g y) w c) at_a)
@@ -155,7 +146,7 @@ module _ (g h : Skeleton) (e : Edge) (plane_g : IsPlaneSkeleton g) (plane_h : Is
         d_in = dart_there h x (there x q);
         m_in = dart_there h (twin x) (there (twin x) q);
         old_or_new = λ y Y. sorted x y q Y;
-        at_d = ap (next (darts h)) (sym (twice x)) ∙ goes.bare (twin x) q none';
+        at_d = ap (next (darts h)) (sym (twin_twice x)) ∙ goes.bare (twin x) q none';
         at_m = goes.bare x q none;
         elsewhere = λ y Y. goes.elsewhere y (there_dart g y Y) (λ z k c. elim (either x z q k) [
           | inl w ↦ none (next (darts g) y) (follower y Y) (begins y x Y (subst (ComesBetween g y) w c))

@@ -127,19 +127,19 @@ one_outer_cycle = record {
 abbrev with_edges : Skeleton → List Edge → Skeleton
 with_edges g hs = record { vertices = g.vertices; edges = hs }
 
-lift : (g h : Skeleton) (x : Dart) (P : Skeleton → Type 0) → IsOneMoreEdge g h x → ((hs : List Edge) → IsPlaneSkeleton (with_edges g hs) → HasEdgeMore g (with_edges g hs) x.edge → P (with_edges g hs)) → P h
+lift : (g h : Skeleton) (x : Dart) (P : Skeleton → Type 0) → IsOneMoreEdge g h x.edge → ((hs : List Edge) → IsPlaneSkeleton (with_edges g hs) → HasEdgeMore g (with_edges g hs) x.edge → P (with_edges g hs)) → P h
 lift g h x P m f =
     let p : with_edges g h.edges ≡ h = λ i. record { vertices = sym m.more.vertices i; edges = h.edges } in
     subst P p (f h.edges (subst IsPlaneSkeleton (sym p) m.plane_more) (subst (λ z. HasEdgeMore g z x.edge) (sym p) m.more))
 
 pub cells_with_one_more_edge : CellsWithOneMoreEdge
 cells_with_one_more_edge = record {
-  dart = λ g h x d m D. lift g h x (λ z. LiesIn g z x (left_of_dart z d) (left_of_dart g d)) m (λ hs p k. record {
+  dart = λ g h x d m D. lift g h x (λ z. LiesIn g z x.edge (left_of_dart z d) (left_of_dart g d)) m (λ hs p k. record {
     real = dart_real g hs x.edge p m.plane k d.edge d.forward ((k.edges d.edge).1 (inl D));
     in' = old_cell g hs x.edge p m.plane k d.edge D d.forward;
   });
-  vertex = λ g h x v m V. lift g h x (λ z. LiesIn g z x (left_cell z v) (left_cell g v)) m (λ hs p k. record { real = vertex_real g hs x.edge p m.plane k v V; in' = vertex_cell g hs x.edge p m.plane k v V });
-  first = λ g h x m. lift g h x (λ z. LiesIn g z x first_cell first_cell) m (λ hs p k. record { real = first_real g hs x.edge p m.plane k 0; in' = first_stays g hs x.edge p m.plane k });
+  vertex = λ g h x v m V. lift g h x (λ z. LiesIn g z x.edge (left_cell z v) (left_cell g v)) m (λ hs p k. record { real = vertex_real g hs x.edge p m.plane k v V; in' = vertex_cell g hs x.edge p m.plane k v V });
+  first = λ g h x m. lift g h x (λ z. LiesIn g z x.edge first_cell first_cell) m (λ hs p k. record { real = first_real g hs x.edge p m.plane k 0; in' = first_stays g hs x.edge p m.plane k });
   new = λ g h x m. lift g h x (λ z. IsCell g x.edge (left_of_dart z x)) m (λ hs p k. dart_real g hs x.edge p m.plane k x.edge x.forward ((k.edges x.edge).1 (inr refl)));
 }
 
@@ -156,42 +156,6 @@ module _ (g : Skeleton) (hs : List Edge) (x : Dart) (plane : IsPlaneSkeleton (re
   under : SlabCell
   under = cell_of h x.edge false
 
-  -- the two sides of the edge are one face, or x's cycle tells them apart
-  sides : SameFace h over under ⊎ Even (weight_of h (M x) over + weight_of h (M x) under + 1)
-  unfolding over under
-  sides = elim (choose (M x) (M (twin x))) [
-    | inl k ↦ inl (one x.forward refl (cycle_face h plane x (twin x) k))
-    | inr k ↦ inr (let a = cycle_across_edge h (M x) x.edge plane ((more.edges x.edge).1 (inr refl)) in let b = own_one g hs x.edge plane plane_g more x refl k in omega arith)
-  ]
-    where
-      one : (b : Bool) → x.forward ≡ b → SameFace h (left_of_dart h x) (left_of_dart h (twin x)) → SameFace h (cell_of h x.edge true) (cell_of h x.edge false)
-      one true q s = subst (λ b. SameFace h (cell_of h x.edge b) (cell_of h x.edge (not b))) q s
-      one false q s = face_sym h _ _ (subst (λ b. SameFace h (cell_of h x.edge b) (cell_of h x.edge (not b))) q s)
-
-  together : (c d : SlabCell) → Even (weight_of h (M x) c + weight_of h (M x) d) → IsSplitBy h over under c d → SameFace h c d
-  together c d e (whole c' d' s) = s
-  together c d e (over_under c' d' s t) = elim sides [
-    | inl k ↦ face_trans h _ _ _ s (face_trans h _ _ _ k t)
-    | inr k ↦
-        let p = cycle_parity h (M x) c over plane s in
-        let q = cycle_parity h (M x) under d plane t in
-        absurd (omega arith)
-  ]
-  together c d e (under_over c' d' s t) = elim sides [
-    | inl k ↦ face_trans h _ _ _ s (face_trans h _ _ _ (face_sym h _ _ k) t)
-    | inr k ↦
-        let p = cycle_parity h (M x) c under plane s in
-        let q = cycle_parity h (M x) over d plane t in
-        absurd (omega arith)
-  ]
-
-  faces : (c d b a : SlabCell) → LiesIn g h x c b → LiesIn g h x d a → SameFace h c d ↔ (SameFace g b a × (odd_at h x c ≡ odd_at h x d))
-  unfolding over under
-  faces c d b a C D = (
-    λ s. (subst (λ (z : SlabCell × SlabCell). SameFace g z.0 z.1) (λ i. (C.in' i, D.in' i)) (finer g hs x.edge plane plane_g more c d s), same_odd h h (M x) (M x) c d (cycle_parity h (M x) c d plane s)),
-    λ k. together c d (back_odd h h (M x) (M x) c d k.1) (two_at_most g hs x.edge plane plane_g more c d C.real D.real (subst (λ (z : SlabCell × SlabCell). SameFace g z.0 z.1) (λ i. (sym C.in' i, sym D.in' i)) k.0)),
-  )
-
   -- where both darts of the edge are on one cycle, its sides are one face
   one_face_there : M x ≡ M (twin x) → SameFace h over under
   unfolding over under
@@ -206,7 +170,30 @@ module _ (g : Skeleton) (hs : List Edge) (x : Dart) (plane : IsPlaneSkeleton (re
   all_together c d k (over_under c' d' s t) = face_trans h _ _ _ s (face_trans h _ _ _ k t)
   all_together c d k (under_over c' d' s t) = face_trans h _ _ _ s (face_trans h _ _ _ (face_sym h _ _ k) t)
 
-  faces_stay : M x ≡ M (twin x) → (c d b a : SlabCell) → LiesIn g h x c b → LiesIn g h x d a → SameFace h c d ↔ SameFace g b a
+  -- else x's cycle tells them apart
+  sides : SameFace h over under ⊎ Even (weight_of h (M x) over + weight_of h (M x) under + 1)
+  unfolding over under
+  sides = elim (choose (M x) (M (twin x))) [
+    | inl k ↦ inl (one_face_there k)
+    | inr k ↦ inr (let a = cycle_across_edge h (M x) x.edge plane ((more.edges x.edge).1 (inr refl)) in let b = own_one g hs x.edge plane plane_g more x refl k in omega arith)
+  ]
+
+  together : (c d : SlabCell) → Even (weight_of h (M x) c + weight_of h (M x) d) → IsSplitBy h over under c d → SameFace h c d
+  together c d e t = elim sides [ inl k ↦ all_together c d k t | inr k ↦ apart c d e k t ]
+    where
+      apart : (c d : SlabCell) → Even (weight_of h (M x) c + weight_of h (M x) d) → Even (weight_of h (M x) over + weight_of h (M x) under + 1) → IsSplitBy h over under c d → SameFace h c d
+      apart c d e k (whole c' d' s) = s
+      apart c d e k (over_under c' d' s t) = let p = cycle_parity h (M x) c over plane s in let q = cycle_parity h (M x) under d plane t in absurd (omega arith)
+      apart c d e k (under_over c' d' s t) = let p = cycle_parity h (M x) c under plane s in let q = cycle_parity h (M x) over d plane t in absurd (omega arith)
+
+  faces : (c d b a : SlabCell) → LiesIn g h x.edge c b → LiesIn g h x.edge d a → SameFace h c d ↔ (SameFace g b a × (odd_at h x c ≡ odd_at h x d))
+  unfolding over under
+  faces c d b a C D = (
+    λ s. (subst (λ (z : SlabCell × SlabCell). SameFace g z.0 z.1) (λ i. (C.in' i, D.in' i)) (finer g hs x.edge plane plane_g more c d s), same_odd h h (M x) (M x) c d (cycle_parity h (M x) c d plane s)),
+    λ k. together c d (back_odd h h (M x) (M x) c d k.1) (two_at_most g hs x.edge plane plane_g more c d C.real D.real (subst (λ (z : SlabCell × SlabCell). SameFace g z.0 z.1) (λ i. (sym C.in' i, sym D.in' i)) k.0)),
+  )
+
+  faces_stay : M x ≡ M (twin x) → (c d b a : SlabCell) → LiesIn g h x.edge c b → LiesIn g h x.edge d a → SameFace h c d ↔ SameFace g b a
   unfolding over under
   faces_stay q c d b a C D = (
     λ s. subst (λ (z : SlabCell × SlabCell). SameFace g z.0 z.1) (λ i. (C.in' i, D.in' i)) (finer g hs x.edge plane plane_g more c d s),
@@ -295,11 +282,11 @@ module _ (g : Skeleton) (hs : List Edge) (x : Dart) (plane : IsPlaneSkeleton (re
 
 pub faces_with_one_more_edge : FacesWithOneMoreEdge
 faces_with_one_more_edge g h x c d b a m =
-    lift g h x (λ z. LiesIn g z x c b → LiesIn g z x d a → SameFace z c d ↔ (SameFace g b a × (odd_at z x c ≡ odd_at z x d))) m (λ hs p k. faces g hs x p m.plane k c d b a)
+    lift g h x (λ z. LiesIn g z x.edge c b → LiesIn g z x.edge d a → SameFace z c d ↔ (SameFace g b a × (odd_at z x c ≡ odd_at z x d))) m (λ hs p k. faces g hs x p m.plane k c d b a)
 
 pub sides_of_one_more_edge : SidesOfOneMoreEdge
 sides_of_one_more_edge = record {
-  one = λ g h x c d b a m. lift g h x (λ z. lead_of z x ≡ lead_of z (twin x) → LiesIn g z x c b → LiesIn g z x d a → SameFace z c d ↔ SameFace g b a) m (λ hs p k q C D. faces_stay g hs x p m.plane k q c d b a C D);
+  one = λ g h x c d b a m. lift g h x (λ z. lead_of z x ≡ lead_of z (twin x) → LiesIn g z x.edge c b → LiesIn g z x.edge d a → SameFace z c d ↔ SameFace g b a) m (λ hs p k q C D. faces_stay g hs x p m.plane k q c d b a C D);
   two = λ g h x m. lift g h x (λ z. lead_of z x ≢ lead_of z (twin x) → odd_at z x (left_of_dart z x) ≡ not (odd_at z x (left_of_dart z (twin x)))) m (λ hs p k ne. sides_part g hs x p m.plane k ne);
 }
 

@@ -1,37 +1,33 @@
 -- A vertex more, on no edge.
-use Rattle.std.proofs.Common.{◌≡◌, ◌↔◌, ℕ, zero, suc, ◌+◌, ◌-◌, ◌<◌, ◌≤◌, Bool, true, false, cond, arith, refl, sym, ap, ◌∙◌, subst, ◌⊎◌, inl, inr, List, ◌∷◌, map}
+use Rattle.std.proofs.Common.{◌≡◌, ◌↔◌, ℕ, zero, suc, ◌+◌, Bool, true, false, cond, arith, refl, sym, ap, ◌∙◌, subst, List}
 use Rattle.std.specs.Prelude.{not, ◌&&◌, ◌%◌, ◌==◌}
-use Rattle.std.specs.List.{count_by, Contains}
-use Rattle.std.proofs.lemmas.Bool.{false≢true, true≢false, and_parts, not-true, false_from_ne_true, cases_Bool, cases_lt, lt-ltb, le-ltb}
-use Rattle.std.proofs.lemmas.Bool.Decides.{nat_tests}
-use lib.Dec.{ltb, leb}
+use Rattle.std.specs.List.{Contains}
+use Rattle.std.proofs.lemmas.Bool.{true≢false, and_parts}
+use lib.Dec.{leb}
 use Rattle.exact_plane.specs.Point.{Point}
 use Rattle.plane_graphs.specs.Graph.{Edge}
 use Rattle.slab_laws.specs.declared.slab_cell.SlabCell.{SlabCell}
-use Rattle.slab_laws.specs.Skeleton.{Skeleton, HasWeight, left_of, on_wall, below, IsPlaneSkeleton}
-use Rattle.slab_laws.specs.Slabs.{slab_left, slab_right, spans, place, reaches_left, reaches_right, left_cell, right_cell, left_count, right_count, width}
+use Rattle.slab_laws.specs.Skeleton.{Skeleton, left_of, below, IsPlaneSkeleton}
+use Rattle.slab_laws.specs.Slabs.{slab_left, slab_right, spans, place, reaches_left, reaches_right, left_cell, right_cell}
 use Rattle.slab_laws.specs.Weights.{weight_above}
 use Rattle.slab_laws.specs.Darts.{Dart, darts, cell_by}
-use Rattle.slab_laws.specs.Meets.{IsOnWall, IsOpenAbove, SameFace, across, here, right, left}
+use Rattle.slab_laws.specs.Meets.{IsOnWall, SameFace, here, right}
 use Rattle.slab_laws.specs.Cycles.{dart_labels, darts_on, odd, left_of_dart}
-use Rattle.slab_laws.specs.Faces.{walls, cells}
+use Rattle.slab_laws.specs.Faces.{cells}
 use Rattle.slab_laws.specs.Rows.{lead_of}
-use Rattle.slab_faces.proofs.Found.{found}
-use Rattle.slab_faces.proofs.Sums.{each, sum_by-same, fewer, fewer_than}
-use Rattle.slab_faces.proofs.Walls.{left_of-asym, left_of-before, left_of-after, left_of-irrefl, on_wall_parts}
+use Rattle.slab_faces.proofs.Sums.{each, sum_by-same}
+use Rattle.slab_faces.proofs.Walls.{left_of-asym}
 use Rattle.slab_faces.proofs.Cells.{spans_left, spans_right}
 use Rattle.slab_faces.proofs.Nudge.{left_inside, is_slab_left}
 use Rattle.slab_faces.proofs.Slabs.{IsThrough}
-use Rattle.slab_faces.proofs.Turns.{face_trans, face_sym, on_own_wall, over_wall}
-use Rattle.slab_faces.proofs.EveryFace.{passing, edge_at}
-use Rattle.slab_faces.proofs.Member.{Member, in_member, map_out}
+use Rattle.slab_faces.proofs.Turns.{on_own_wall, over_wall}
+use Rattle.slab_faces.proofs.EveryFace.{edge_at}
+use Rattle.slab_faces.proofs.Member.{in_member}
 use Rattle.slab_faces.proofs.FacesLemmas.{lowest_meets}
-use Rattle.slab_faces.proofs.WallsLemmas.{off_walls, wall_vertex, cell_there}
 use Rattle.sound_links.specs.Next.{IsDartOf}
 use Rattle.face_changes.specs.Kinds.{is_outer}
 use Rattle.face_changes.specs.OneMoreVertex.{HasOneMoreVertex, widened, OneMoreVertex}
-use Rattle.slab_faces.proofs.ListedCells.{cell_out, right_there}
-use Rattle.face_changes.proofs.NewWall.{narrow, narrow_right, HasNewVertex, AreEdgesAlike, IsOffWalls, IsOneFaceAcross, V, W, same_spans, left_widened, right_widened, face_down, face_up}
+use Rattle.face_changes.proofs.NewWall.{narrow, narrow_right, HasNewVertex, AreEdgesAlike, IsOffWalls, IsOneFaceAcross, V, same_spans, left_widened, right_widened, face_down, face_up}
 
 module _ (g : Skeleton) (hv : List Point) (v : Point) (m : HasOneMoreVertex g (record { vertices = hv; edges = g.edges }) v) where
   abbrev h : Skeleton

@@ -21,7 +21,8 @@ use Rattle.slab_faces.proofs.CyclesLemmas.{cycle_parity}
 use Rattle.sound_links.specs.Next.{HasEdgeMore, IsDartOf}
 use Rattle.face_changes.specs.Orbits.{IsOrbitSplit, AreOrbitsUnited}
 use Rattle.face_changes.proofs.EdgeOrder.{finer}
-use Rattle.face_changes.proofs.LinkedCycles.{twice, dart_there, there, either}
+use Rattle.sound_rings.proofs.Turned.{twin_twice}
+use Rattle.face_changes.proofs.LinkedCycles.{dart_there, there, either}
 use Rattle.face_changes.proofs.CycleParities.{weight_of, choose, whole_even, rest_even}
 use Rattle.slab_faces.proofs.ListedCells.{dart_cell}
 use Rattle.face_changes.proofs.OuterCycles.{Odd, own_weight, cycle_face, one_kind, outer_there}
@@ -180,7 +181,7 @@ module _ (g : Skeleton) (hs : List Edge) (e : Edge) (plane : IsPlaneSkeleton (re
     q' = ap (λ (z : Dart). z.edge) t ∙ q
 
     t' : x ≡ twin y
-    t' = sym (twice x) ∙ ap twin (sym t)
+    t' = sym (twin_twice x) ∙ ap twin (sym t)
 
     of_x : IsHalf x y a q t s A near_x near_y
     of_x = is_half x y a q t s A near_x near_y

@@ -3,10 +3,11 @@ use Rattle.std.proofs.Common.{◌≡◌, Bool, true, false, cond, refl, sym, ap,
 use Rattle.std.specs.List.{Contains}
 use Rattle.std.proofs.lemmas.Bool.{true≢false, cases_Bool}
 use Rattle.face_changes.specs.Orbits.{AreOrbitsKept}
+use Rattle.face_changes.proofs.OneToOneMaps.{unlike}
 use Rattle.face_changes.proofs.OrbitSplices.{IsLabelled, told, decide, agrees}
 
 -- a is followed by d, d by m, and m by what followed a
-pub record GrowsCycle {X : Type 0} (f k : X → X) (xs ys : List X) (d m a : X) : Type 0 where
+pub record IsLengthened {X : Type 0} (f k : X → X) (xs ys : List X) (d m a : X) : Type 0 where
   pub a_in : Contains xs a
   pub d_new : Contains xs d → ⊥
   pub m_new : Contains xs m → ⊥
@@ -32,11 +33,8 @@ pub record IsAlone {X : Type 0} (f k : X → X) (xs ys : List X) (d m : X) : Typ
   pub elsewhere : (x : X) → Contains xs x → k x ≡ f x
 
 module _ {X : Type 0} (same : X → X → Bool) (exact : (x y : X) → same x y ≡ true → x ≡ y) (itself : (x : X) → same x x ≡ true) where
-  unlike : (x y : X) → (x ≡ y → ⊥) → same x y ≡ false
-  unlike x y h = elim (cases_Bool (same x y)) [ inl t ↦ absurd (h (exact x y t)) | inr t ↦ t ]
-
   module _ (f k : X → X) (xs ys : List X) (L M : X → X) (l : IsLabelled f xs L) (m' : IsLabelled k ys M) (inside : (x : X) → Contains xs x → Contains xs (f x)) (d m : X) where
-    module _ (a : X) (s : GrowsCycle f k xs ys d m a) where
+    module _ (a : X) (s : IsLengthened f k xs ys d m a) where
       m_a : M a ≡ M d
       m_a = m'.step a (s.old a s.a_in) ∙ ap M s.at_a
 
@@ -65,7 +63,7 @@ module _ {X : Type 0} (same : X → X → Bool) (exact : (x y : X) → same x y 
 
       low_old : (x : X) → Contains xs x → low x ≡ L x
       unfolding low
-      low_old x c = rw (unlike x d (λ q. s.d_new (subst (Contains xs) q c)), unlike x m (λ q. s.m_new (subst (Contains xs) q c))) refl
+      low_old x c = rw (unlike same exact x d (λ q. s.d_new (subst (Contains xs) q c)), unlike same exact x m (λ q. s.m_new (subst (Contains xs) q c))) refl
 
       low_on : (x : X) → Contains ys x → low x ≡ low (k x)
       low_on x c = elim (s.old_or_new x c) [
@@ -106,11 +104,11 @@ module _ {X : Type 0} (same : X → X → Bool) (exact : (x y : X) → same x y 
 
       new_old : (x : X) → Contains xs x → is_new x ≡ false
       unfolding is_new
-      new_old x c = rw (unlike x d (λ q. s.d_new (subst (Contains xs) q c)), unlike x m (λ q. s.m_new (subst (Contains xs) q c))) refl
+      new_old x c = rw (unlike same exact x d (λ q. s.d_new (subst (Contains xs) q c)), unlike same exact x m (λ q. s.m_new (subst (Contains xs) q c))) refl
 
       mark_old : (x : X) → Contains xs x → mark x ≡ L x
       unfolding mark
-      mark_old x c = rw (unlike x d (λ q. s.d_new (subst (Contains xs) q c)), unlike x m (λ q. s.m_new (subst (Contains xs) q c))) refl
+      mark_old x c = rw (unlike same exact x d (λ q. s.d_new (subst (Contains xs) q c)), unlike same exact x m (λ q. s.m_new (subst (Contains xs) q c))) refl
 
       mark_d : mark d ≡ d
       unfolding mark

@@ -7,7 +7,7 @@ use Rattle.std.specs.List.{Contains}
 use Rattle.std.proofs.lemmas.Bool.{false≢true, true≢false, cases_Bool}
 use Rattle.slab_faces.proofs.Shift.{IsSetBy, IsOneToOne}
 use Rattle.face_changes.specs.Orbits.{IsOrbitSplit, AreOrbitsUnited}
-use Rattle.face_changes.proofs.OneToOneMaps.{closed_back, first, first_a, first_b, first_on, after_a, after_b}
+use Rattle.face_changes.proofs.OneToOneMaps.{unlike, closed_back, first, first_a, first_b, first_on, after_a, after_b}
 
 -- L gives each element a label: one to an element and what follows it, and no two orbits one
 pub record IsLabelled {X : Type 0} (f : X → X) (xs : List X) (L : X → X) : Type 0 where
@@ -89,12 +89,9 @@ module _ {X : Type 0} (same : X → X → Bool) (exact : (x y : X) → same x y 
       unfolding low
       low_m = elim (cases_Bool (same m d)) [ inl t ↦ rw t refl | inr t ↦ rw (t, itself m) refl ]
 
-      differ : (x y : X) → (x ≡ y → ⊥) → same x y ≡ false
-      differ x y h = elim (cases_Bool (same x y)) [ inl t ↦ absurd (h (exact x y t)) | inr t ↦ t ]
-
       low_old : (x : X) → Contains xs x → low x ≡ r (L x)
       unfolding low
-      low_old x c = rw (differ x d (λ q. s.d_new (subst (Contains xs) q c)), differ x m (λ q. s.m_new (subst (Contains xs) q c))) refl
+      low_old x c = rw (unlike same exact x d (λ q. s.d_new (subst (Contains xs) q c)), unlike same exact x m (λ q. s.m_new (subst (Contains xs) q c))) refl
 
       -- what follows an old element is old
       low_on : (inside : (x : X) → Contains xs x → Contains xs (f x)) → (x : X) → Contains ys x → low x ≡ low (k x)
@@ -165,12 +162,9 @@ module _ {X : Type 0} (same : X → X → Bool) (exact : (x y : X) → same x y 
         unfolding mark
         mark_m = rw (elim (cases_Bool (same m d)) as (λ _. same m d ≡ false) [ inl t ↦ absurd (s.two (sym (exact m d t))) | inr t ↦ t ], itself m) refl
 
-        unlike : (x y : X) → (x ≡ y → ⊥) → same x y ≡ false
-        unlike x y h = elim (cases_Bool (same x y)) [ inl t ↦ absurd (h (exact x y t)) | inr t ↦ t ]
-
         mark_old : (x : X) → Contains xs x → mark x ≡ before x
         unfolding mark
-        mark_old x c = rw (unlike x d (λ q. s.d_new (subst (Contains xs) q c)), unlike x m (λ q. s.m_new (subst (Contains xs) q c))) refl
+        mark_old x c = rw (unlike same exact x d (λ q. s.d_new (subst (Contains xs) q c)), unlike same exact x m (λ q. s.m_new (subst (Contains xs) q c))) refl
 
         mark_on : (x : X) → Contains ys x → mark x ≡ mark (k x)
         mark_on x c = elim (s.old_or_new x c) [

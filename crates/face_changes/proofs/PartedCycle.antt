@@ -134,19 +134,6 @@ module _ (g : Skeleton) (hs : List Edge) (e : Edge) (plane : IsPlaneSkeleton (re
         at : (p r : SlabCell) → p ≡ cell_of h e true → r ≡ cell_of h e false → IsSplitBy h (cell_of h e true) (cell_of h e false) c p → SameFace h c p ⊎ SameFace h c r
         at p r u v w = by_cells c p r (subst (λ (z : SlabCell × SlabCell). IsSplitBy h z.0 z.1 c p) (λ i. (sym u i, sym v i)) w)
 
-    -- and it is in that of x exactly where the parity of x's half is the one beside x
-    pub by_parity : (c : SlabCell) → IsCell g e c → SameFace g (merged g e c) (left_of_dart g a) → Even (weight_of h (M x) c + weight_of h (M x) (left_of_dart h x)) → SameFace h c (left_of_dart h x)
-    by_parity c C k w = elim (one_side c C k) [
-      | inl l ↦ l
-      | inr r ↦
-          let p = cycle_parity h (M x) c (left_of_dart h y) plane r in
-          let d = sides_differ in
-          absurd (omega arith)
-    ]
-
-    pub to_parity : (c : SlabCell) → SameFace h c (left_of_dart h x) → Even (weight_of h (M x) c + weight_of h (M x) (left_of_dart h x))
-    to_parity c l = cycle_parity h (M x) c (left_of_dart h x) plane l
-
     -- all other faces are as they were
     pub others : (c d : SlabCell) → IsCell g e c → IsCell g e d → (SameFace g (merged g e c) (left_of_dart g a) → ⊥) → SameFace g (merged g e c) (merged g e d) → SameFace h c d
     others c d C D ne k = go (two_at_most g hs e plane plane_g more c d C D k)

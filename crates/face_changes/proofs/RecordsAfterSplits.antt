@@ -11,7 +11,7 @@ use Rattle.slab_laws.specs.declared.names.VertexId.{VertexId}
 use Rattle.slab_laws.specs.declared.slab_cell.SlabCell.{SlabCell}
 use Rattle.slab_laws.specs.Skeleton.{Skeleton, IsPlaneSkeleton}
 use Rattle.slab_laws.specs.Darts.{Dart, darts}
-use Rattle.slab_laws.specs.Meets.{SameFace, here}
+use Rattle.slab_laws.specs.Meets.{SameFace}
 use Rattle.slab_laws.specs.Changes.{merged, IsCell}
 use Rattle.slab_laws.specs.Cycles.{left_of_dart}
 use Rattle.slab_laws.specs.FacesSound.{lead_in, IsCycled, IsComplete}
@@ -22,7 +22,7 @@ use Rattle.slab_laws.specs.Sound.{skeleton_of, dart_in, IsGraphSound}
 use Rattle.slab_laws.specs.Subdivision.{first_cell}
 use Rattle.slab_laws.specs.View.{View, Faces, HasVertex, HasDart, HasCycle, HasFace, point_in, cycle_in, kind_in, face_in}
 use Rattle.slab_faces.proofs.Member.{member_in, in_member, map_in}
-use Rattle.slab_faces.proofs.Turns.{face_trans, face_sym}
+use Rattle.slab_faces.proofs.Turns.{face_at, face_trans, face_sym}
 use Rattle.sound_views.specs.Orders.{vertex_order}
 use Rattle.sound_views.proofs.Named.{names_are_darts}
 use Rattle.sound_views.proofs.Ordered.{vertices_in_order, vertices_are_ordered}
@@ -35,6 +35,7 @@ use Rattle.face_changes.specs.RecordsAfterSplits.{IsLinkedWithin, IsSplitInto, R
 use Rattle.face_changes.proofs.LinkedCycles.{there_dart}
 use Rattle.face_changes.proofs.CycleParities.{choose}
 use Rattle.face_changes.proofs.OneMoreEdge.{one_kind_each, one_outer_cycle, cells_with_one_more_edge, faces_with_one_more_edge, sides_of_one_more_edge}
+use Rattle.face_changes.proofs.FacesByPairs.{has_name}
 use Rattle.face_changes.proofs.FaceNames.{face_cases, face_names_part}
 
 -- the point of a vertex is one of the graph's
@@ -153,9 +154,6 @@ module _ (v w : View) (f s : Faces) (x y a : DartId) (fresh : CycleId) (fresh_fa
 
   -- ---- faces
   module _ (t : AreFacesTold v f) where
-    abbrev Things : Type 0
-    Things = (i : Item) × HasItem w i
-
     abbrev new_cell : (i : Item) × HasItem w i → SlabCell
     new_cell i = cell_at w i.0
 
@@ -186,18 +184,18 @@ module _ (v w : View) (f s : Faces) (x y a : DartId) (fresh : CycleId) (fresh_fa
     real_x = cells_with_one_more_edge.new g h X l.is_more
 
     real_y : IsCell (skeleton_of v) (dart_in w x).edge (left_of_dart (skeleton_of w) (twin (dart_in w x)))
-    real_y = cells_with_one_more_edge.new g h (twin X) (record { plane = l.is_more.plane; plane_more = l.is_more.plane_more; more = l.is_more.more })
+    real_y = cells_with_one_more_edge.new g h (twin X) l.is_more
 
     at_y : left_of_dart (skeleton_of w) (dart_in w y) ≡ left_of_dart (skeleton_of w) (twin (dart_in w x))
     at_y = ap (left_of_dart (skeleton_of w)) l.twins
 
-    old_lies : (k : DartId) → HasDart v k → LiesIn g h X (left_of_dart h (dart_in w k)) (left_of_dart g (dart_in v k))
-    old_lies k o = subst (λ d. LiesIn g h X (left_of_dart h d) (left_of_dart g (dart_in v k))) (sym (l.old k o).1) (cells_with_one_more_edge.dart g h X (dart_in v k) l.is_more (is_dart k o))
+    old_lies : (k : DartId) → HasDart v k → LiesIn g h X.edge (left_of_dart h (dart_in w k)) (left_of_dart g (dart_in v k))
+    old_lies k o = subst (λ d. LiesIn g h X.edge (left_of_dart h d) (left_of_dart g (dart_in v k))) (sym (l.old k o).1) (cells_with_one_more_edge.dart g h X (dart_in v k) l.is_more (is_dart k o))
 
-    vertex_lies : (u : VertexId) → HasVertex w u → LiesIn g h X (left_cell h (point_in w u)) (left_cell g (point_in v u))
+    vertex_lies : (u : VertexId) → HasVertex w u → LiesIn g h X.edge (left_cell h (point_in w u)) (left_cell g (point_in v u))
     vertex_lies u t =
         let q = l.vertices u t in
-        subst (λ z. LiesIn g h X (left_cell h z) (left_cell g (point_in v u))) (sym q.1) (cells_with_one_more_edge.vertex g h X (point_in v u) l.is_more (vertex_known v u l.sound q.0))
+        subst (λ z. LiesIn g h X.edge (left_cell h z) (left_cell g (point_in v u))) (sym q.1) (cells_with_one_more_edge.vertex g h X (point_in v u) l.is_more (vertex_known v u l.sound q.0))
 
     dart_real : (k : DartId) → HasDart v k ⊎ (k ≡ x) ⊎ (k ≡ y) → IsCell g X.edge (left_of_dart h (dart_in w k))
     dart_real k (inl o) = (old_lies k o).real
@@ -209,23 +207,20 @@ module _ (v w : View) (f s : Faces) (x y a : DartId) (fresh : CycleId) (fresh_fa
     real (beside k) t = dart_real k (l.new k t)
     real (round u) t = (vertex_lies u t.0).real
 
-    lies : (i : (i : Item) × HasItem w i) → LiesIn g h X (cell_at w i.0) (merged g X.edge (cell_at w i.0))
+    lies : (i : (i : Item) × HasItem w i) → LiesIn g h X.edge (cell_at w i.0) (merged g X.edge (cell_at w i.0))
     lies i = record { real = real i.0 i.1; in' = refl }
 
-    from_path : (c d : SlabCell) → c ≡ d → SameFace g c d
-    from_path c d q = subst (SameFace g c) q (here c)
-
     dart_near : (k : DartId) (c : HasDart v k ⊎ (k ≡ x) ⊎ (k ≡ y)) → SameFace g (merged g X.edge (left_of_dart h (dart_in w k))) (cell_at v (as_dart k c))
-    dart_near k (inl o) = from_path _ _ (old_lies k o).in'
+    dart_near k (inl o) = face_at g _ _ (old_lies k o).in'
     dart_near k (inr (inl q)) = subst (λ j. SameFace g (merged g X.edge (left_of_dart h (dart_in w j))) (left_of_dart g (dart_in v a))) (sym q) (l.parted.near _ (record { real = real_x; in' = refl }))
     dart_near k (inr (inr q)) =
         subst (λ j. SameFace g (merged g X.edge (left_of_dart h (dart_in w j))) (left_of_dart g (dart_in v a))) (sym q)
         (subst (λ c. SameFace g (merged g X.edge c) (left_of_dart g (dart_in v a))) (sym at_y) (l.parted.near_twin _ (record { real = real_y; in' = refl })))
 
     near : (i : Item) (t : HasItem w i) → SameFace g (merged g X.edge (cell_at w i)) (cell_at v (rep i t))
-    near outside t = from_path _ _ (cells_with_one_more_edge.first g h X l.is_more).in'
+    near outside t = face_at g _ _ (cells_with_one_more_edge.first g h X l.is_more).in'
     near (beside k) t = dart_near k (l.new k t)
-    near (round u) t = from_path _ _ (vertex_lies u t.0).in'
+    near (round u) t = face_at g _ _ (vertex_lies u t.0).in'
 
     -- ---- names before
     abbrev name : (i : Item) × HasItem w i → FaceId
@@ -243,11 +238,6 @@ module _ (v w : View) (f s : Faces) (x y a : DartId) (fresh : CycleId) (fresh_fa
           λ e. face_trans g _ _ _ (near i.0 i.1) (face_trans g _ _ _ (q.0 e) (face_sym g _ _ (near j.0 j.1))),
           λ k. q.1 (face_trans g _ _ _ (face_sym g _ _ (near i.0 i.1)) (face_trans g _ _ _ k (near j.0 j.1))),
         )
-
-    has_name : (i : Item) → HasItem v i → HasFace f (name_at f i)
-    has_name outside k = t.there
-    has_name (beside k) o = full.face_has (cycle_in f k) (full.cycle_has k o)
-    has_name (round u) o = full.bare_has u ((full.bare u o.0).1 o.1)
 
     name_old : (k : DartId) → HasDart v k → (c : HasDart v k ⊎ (k ≡ x) ⊎ (k ≡ y)) → name_at f (as_dart k c) ≡ face_in f (cycle_in f k)
     name_old k o (inl o') = refl
@@ -322,7 +312,7 @@ module _ (v w : View) (f s : Faces) (x y a : DartId) (fresh : CycleId) (fresh_fa
 
     is_moved : AreNamesParted h X new_cell name next (name place) fresh_face
     is_moved = record {
-      fresh_one = λ i q. p.new_face (subst (HasFace f) q (has_name (rep i.0 i.1) (rep_there i.0 i.1)));
+      fresh_one = λ i q. p.new_face (subst (HasFace f) q (has_name v f full t.there (rep i.0 i.1) (rep_there i.0 i.1)));
       moved = λ i e b. moved i.0 i.1 (e ∙ place_name) b;
       left = λ i e b. left i.0 i.1 (e ∙ place_name) b ∙ sym place_name;
       others = λ i e. others i.0 i.1 (λ q. e (q ∙ sym place_name));

@@ -4,6 +4,7 @@ use Rattle.std.specs.Prelude.{◌≡◌, ◌≢◌, ◌↔◌, true}
 use Rattle.slab_laws.specs.declared.slab_cell.SlabCell.{SlabCell}
 use Rattle.slab_laws.specs.declared.names.FaceId.{FaceId}
 use Rattle.slab_laws.specs.Skeleton.{Skeleton}
+use Rattle.plane_graphs.specs.Graph.{Edge}
 use Rattle.slab_laws.specs.Darts.{Dart}
 use Rattle.slab_laws.specs.Meets.{SameFace}
 use Rattle.slab_laws.specs.Cycles.{left_of_dart}
@@ -17,12 +18,12 @@ abbrev pub NamesTellFaces : {I : Type 0} → Skeleton → (I → SlabCell) → (
 NamesTellFaces {I} g cell name = (i j : I) → (name i ≡ name j) ↔ SameFace g (cell i) (cell j)
 
 -- what is there lies in the same cells
-abbrev pub AllLieIn : {I : Type 0} → Skeleton → Skeleton → Dart → (I → SlabCell) → (I → SlabCell) → Type 0
-AllLieIn {I} g h x old new = (i : I) → LiesIn g h x (new i) (old i)
+abbrev pub AllLieIn : {I : Type 0} → Skeleton → Skeleton → Edge → (I → SlabCell) → (I → SlabCell) → Type 0
+AllLieIn {I} g h e old new = (i : I) → LiesIn g h e (new i) (old i)
 
 -- where the edge has one face on both sides, names go on telling faces, with it and without
 abbrev pub FaceNamesStay : Type 0 → Type 0
-FaceNamesStay I = (g h : Skeleton) (x : Dart) (old new : I → SlabCell) (name : I → FaceId) → IsOneMoreEdge g h x → lead_of h x ≡ lead_of h (twin x) → AllLieIn g h x old new → NamesTellFaces g old name ↔ NamesTellFaces h new name
+FaceNamesStay I = (g h : Skeleton) (x : Dart) (old new : I → SlabCell) (name : I → FaceId) → IsOneMoreEdge g h x.edge → lead_of h x ≡ lead_of h (twin x) → AllLieIn g h x.edge old new → NamesTellFaces g old name ↔ NamesTellFaces h new name
 
 -- what is in the face that falls into two, and within the cycle of x, gets the fresh name; the rest keeps its own
 pub record AreNamesParted {I : Type 0} (h : Skeleton) (x : Dart) (new : I → SlabCell) (name next : I → FaceId) (face fresh : FaceId) : Type 0 where
@@ -34,7 +35,7 @@ pub record AreNamesParted {I : Type 0} (h : Skeleton) (x : Dart) (new : I → Sl
 -- so names tell faces after a cycle has fallen into two; face is the name of what is beside a (this project)
 abbrev pub FaceNamesPart : Type 0 → Type 0
 FaceNamesPart I =
-    (g h : Skeleton) (x a : Dart) (old new : I → SlabCell) (name next : I → FaceId) (o : I) (fresh : FaceId) → IsOneMoreEdge g h x → PartsCycle g h x a → AllLieIn g h x old new → SameFace g (old o) (left_of_dart g a) → AreNamesParted h x new name next (name o) fresh → NamesTellFaces g old name → NamesTellFaces h new next
+    (g h : Skeleton) (x a : Dart) (old new : I → SlabCell) (name next : I → FaceId) (o : I) (fresh : FaceId) → IsOneMoreEdge g h x.edge → PartsCycle g h x a → AllLieIn g h x.edge old new → SameFace g (old o) (left_of_dart g a) → AreNamesParted h x new name next (name o) fresh → NamesTellFaces g old name → NamesTellFaces h new next
 
 -- what had the name that goes gets the other one; the rest keeps its own
 pub record AreNamesMerged {I : Type 0} (name next : I → FaceId) (kept gone : FaceId) : Type 0 where
@@ -44,4 +45,4 @@ pub record AreNamesMerged {I : Type 0} (name next : I → FaceId) (kept gone : F
 -- names tell faces after two have become one: o is beside x, and p beside its twin (this project)
 abbrev pub FaceNamesMerge : Type 0 → Type 0
 FaceNamesMerge I =
-    (g h : Skeleton) (x a : Dart) (old new : I → SlabCell) (name next : I → FaceId) (o p : I) → IsOneMoreEdge g h x → PartsCycle g h x a → AllLieIn g h x old new → SameFace h (new o) (left_of_dart h x) → SameFace h (new p) (left_of_dart h (twin x)) → AreNamesMerged name next (name o) (name p) → NamesTellFaces h new name → NamesTellFaces g old next
+    (g h : Skeleton) (x a : Dart) (old new : I → SlabCell) (name next : I → FaceId) (o p : I) → IsOneMoreEdge g h x.edge → PartsCycle g h x a → AllLieIn g h x.edge old new → SameFace h (new o) (left_of_dart h x) → SameFace h (new p) (left_of_dart h (twin x)) → AreNamesMerged name next (name o) (name p) → NamesTellFaces h new name → NamesTellFaces g old next

@@ -17,7 +17,7 @@ use Rattle.face_changes.specs.FacesByPairs.{Item, beside, round, cell_at, first_
 pub record IsLinkedWithin (v w : View) (x y a : DartId) : Type 0 where
   pub sound : IsGraphSound v
   pub sound_more : IsGraphSound w
-  pub is_more : IsOneMoreEdge (skeleton_of v) (skeleton_of w) (dart_in w x)
+  pub is_more : IsOneMoreEdge (skeleton_of v) (skeleton_of w) (dart_in w x).edge
   pub parted : PartsCycle (skeleton_of v) (skeleton_of w) (dart_in w x) (dart_in v a)
   pub place : HasDart v a
   pub first : HasDart w x

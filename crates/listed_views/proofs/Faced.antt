@@ -48,10 +48,6 @@ module _ (d : Drawing) (pl : IsPlane d.graph) where
   cell_place : (a : FaceId) → HasFace (faces_of d) a → position_or_len (same_cell (cell d a)) (subdivision_in d).faces ≡ a.0
   cell_place a h = place_at same_cell cells_exact (subdivision_in d).faces a.0 (cell d a) (faces_apart (skeleton_in d)) (cell_there a h)
 
-  rank_name : (a : FaceId) → HasFace (faces_of d) a → face_id (rank (subdivision_in d) (cell d a)) ≡ a
-  unfolding rank
-  rank_name a h = ap face_id (cell_place a h)
-
   -- ---- the first, and those of darts and bare vertices
   first_cell_is : (a : FaceId) → HasFace (faces_of d) a → ((b : FaceId) → HasFace (faces_of d) b → b.0 < a.0 → ⊥) → cell d a ≡ label d first_cell
   first_cell_is a h least =

@@ -1,5 +1,5 @@
 -- Places of elements in a list, by a test that tells elements apart exactly.
-use Rattle.std.proofs.Common.{◌≡◌, ℕ, ◌<◌, Bool, true, false, cond, arith, refl, sym, ap, ◌∙◌, subst, inl, inr, List, [], ◌∷◌, ◌++◌, map, length, zero, suc, Ordering, Less}
+use Rattle.std.proofs.Common.{◌≡◌, ℕ, ◌<◌, Bool, true, false, cond, arith, refl, sym, ap, ◌∙◌, subst, inl, inr, List, [], ◌∷◌, map, length, zero, suc, Ordering, Less}
 use Rattle.std.specs.Prelude.{Some, slice_get, not, filter, ⊤}
 use Rattle.std.specs.List.{position_or_len}
 use Rattle.std.specs.Cmp.{IsTotalOrder}
@@ -25,15 +25,6 @@ module _ {X : Type 0} (R : X → X → Type 0) where
   abbrev pub Rising : List X → Type 0
   Rising [] = ⊤
   Rising (x ∷ xs) = ((y : X) → Member xs y → R x y) × Rising xs
-
-  pub rising_append : (xs ys : List X) → Rising xs → Rising ys → ((x y : X) → Member xs x → Member ys y → R x y) → Rising (xs ++ ys)
-  rising_append [] ys a b f = b
-  rising_append (x ∷ xs) ys a b f = (λ y h. each xs ys y (a.0 y) (f x y (inl refl)) h, rising_append xs ys a.1 b (λ x y h k. f x y (inr h) k))
-    where
-      each : (xs ys : List X) (y : X) → (Member xs y → R x y) → (Member ys y → R x y) → Member (xs ++ ys) y → R x y
-      each [] ys y p q h = q h
-      each (z ∷ zs) ys y p q (inl e) = p (inl e)
-      each (z ∷ zs) ys y p q (inr h) = each zs ys y (λ k. p (inr k)) q h
 
 pub rising_weaker : {X : Type 0} (R S : X → X → Type 0) (xs : List X) → ((x y : X) → Member xs x → Member xs y → R x y → S x y) → Rising R xs → Rising S xs
 rising_weaker R S [] f a = tt

@@ -12,8 +12,7 @@ use Rattle.slab_laws.specs.Listed.{distinct}
 use Rattle.slab_laws.specs.Rows.{lead_list}
 use Rattle.slab_laws.specs.Subdivision.{Cycle, subdivision, cycle, cycles, ranked, rank, first_cell}
 use Rattle.slab_faces.proofs.Member.{Member, member_in, append_right, map_in, map_out, filter_out}
-use Rattle.slab_faces.proofs.Turns.{face_sym}
-use Rattle.slab_faces.proofs.FacesLemmas.{cells_exact, in_its_face, one_label}
+use Rattle.slab_faces.proofs.FacesLemmas.{cells_exact}
 use Rattle.slab_faces.proofs.NextLemmas.{dart_out}
 use Rattle.slab_faces.proofs.WallsLemmas.{cell_there}
 use Rattle.listed_views.proofs.Places.{Apart, at_place, place_within, distinct_there, distinct_apart}
@@ -78,9 +77,6 @@ module _ (g : Skeleton) where
       (l.0, l.1, sym (outer_is l.0) ∙ ap (λ c. c.outer) l.2 ∙ o.1, sym (face_is l.0) ∙ ap (λ c. c.face) l.2 ∙ c.2)
 
   module _ (plane : IsPlaneSkeleton g) where
-    pub face_face : (c : SlabCell) → face_of (face_labels g) (face_of (face_labels g) c) ≡ face_of (face_labels g) c
-    face_face c = one_label g _ _ plane (face_sym g _ _ (in_its_face g c plane))
-
     pub dart_face : (h : Dart) → Member (darts g) h → Member (subdivision g).faces (face_of (face_labels g) (left_of_dart g h))
     dart_face h m = face_listed (left_of_dart g h) (dart_cell g plane h.edge h.forward (dart_out g h m))
 

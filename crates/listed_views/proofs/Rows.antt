@@ -1,7 +1,7 @@
 -- Tables whose rows go by number: what stands in a row, and that the names ascend.
 use Rattle.std.proofs.Common.{◌≡◌, ℕ, ◌+◌, ◌<◌, Bool, true, false, cond, arith, refl, sym, ap, ◌∙◌, subst, inl, inr, List, [], ◌∷◌, map, zero, suc, Option, Some}
 use Rattle.std.specs.Prelude.{IsSome, slice_get, ◌==◌}
-use Rattle.std.specs.List.{AllByRecursion, range_with_len}
+use Rattle.std.specs.List.{AllByRecursion}
 use Rattle.std.proofs.lemmas.Bool.{false≢true, eq-eqb, eqb-true}
 use Rattle.std.proofs.lemmas.Bool.Decides.{nat_tests}
 use Rattle.slab_laws.specs.Tables.{row_at, names, NamesAscend}

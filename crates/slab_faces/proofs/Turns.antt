@@ -31,6 +31,9 @@ face_trans g b c d h (here c') = h
 face_trans g b c d h (right c' x d' k m) = right b x d' (face_trans g b c' x h k) m
 face_trans g b c d h (left c' x d' k m) = left b x d' (face_trans g b c' x h k) m
 
+pub face_at : (g : Skeleton) (c d : SlabCell) → c ≡ d → SameFace g c d
+face_at g c d q = subst (SameFace g c) q (here c)
+
 pub face_sym : (g : Skeleton) (b c : SlabCell) → SameFace g b c → SameFace g c b
 face_sym g b c (here c') = here c'
 face_sym g b c (right b' x c' k m) = face_trans g c' x b' (left c' c' x (here c') m) (face_sym g b' x k)
