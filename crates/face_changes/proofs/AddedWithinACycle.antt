@@ -1,4 +1,5 @@
--- An edge more between two places of one cycle, as the records make it.
+-- One more edge between two places of one cycle, as `add_edge` of the records makes it.
+-- v is the view before, V after; d and m are the new darts, from u to w and back; at_u and at_w the darts that they come after, clockwise.
 use Rattle.std.proofs.Common.{◌≡◌, true, refl, sym, ap, ◌∙◌, subst, ◌⊎◌, inl, inr, Some}
 use Rattle.exact_plane.specs.Line.{Line}
 use Rattle.slab_laws.specs.declared.names.DartId.{DartId}

@@ -1,4 +1,4 @@
--- Cycles by names and cycles by darts are the same.
+-- The classes that `next` makes of the names of darts are the orbits of the darts that the view draws.
 use Rattle.std.proofs.Common.{◌≡◌, Bool, true, refl, sym, ap, ◌∙◌, subst, inl, inr}
 use Rattle.std.specs.Prelude.{◌&&◌}
 use Rattle.std.specs.List.{Contains, list_any}

@@ -1,4 +1,5 @@
--- The parities of the cycles of a graph with an edge more, by those of the graph without it.
+-- The parities of cycles with one more edge, by those without it: a dart of the edge counts where the edge is above a cell, and each other edge counts as it did.
+-- g is without the edge e, h with it; L and M give the least dart of a dart's cycle in g and in h; x is a dart of e; l and k are cycles, by their least darts.
 use Rattle.std.proofs.Common.{◌≡◌, ℕ, ◌+◌, Bool, true, false, cond, arith, refl, sym, ap, ◌∙◌, subst, ◌⊎◌, inl, inr, List}
 use Rattle.std.specs.Prelude.{not, ◌&&◌}
 use Rattle.std.specs.List.{Contains}
@@ -26,10 +27,12 @@ use Rattle.face_changes.proofs.LinkedCycles.{dart_there}
 abbrev pub weight_of : Skeleton → Dart → SlabCell → ℕ
 weight_of g l c = weight_above g (darts_on (dart_labels (darts g)) l) c.slab c.place
 
+-- an edge's darts on a cycle, one after the other
 pub on_edge : (g : Skeleton) (l : Dart) (z : Edge) → darts_on (dart_labels (darts g)) l z ≡ tally (same_dart (lead_of g (ahead z)) l) + tally (same_dart (lead_of g (back z)) l)
 unfolding darts_on
 on_edge g l z = refl
 
+-- tests of darts
 pub same_is : (d e : Dart) → d ≡ e → same_dart d e ≡ true
 same_is d e q = subst (λ x. same_dart d x ≡ true) q (darts_exact.itself d)
 
@@ -158,6 +161,7 @@ module _ (g : Skeleton) (hs : List Edge) (e : Edge) (plane : IsPlaneSkeleton (re
         let c : tally (same_dart (M x) (M (twin x))) ≡ 0 = ap tally (same_not (M x) (M (twin x)) k) in
         omega arith
 
+    -- on neither: each other cycle has none
     pub own_none : (l : Dart) → (M x ≡ l → ⊥) → (M (twin x) ≡ l → ⊥) → Even (darts_on (dart_labels (darts h)) l e)
     own_none l u v =
         let a = on_new l in
@@ -165,7 +169,7 @@ module _ (g : Skeleton) (hs : List Edge) (e : Edge) (plane : IsPlaneSkeleton (re
         let c : tally (same_dart (M (twin x)) l) ≡ 0 = ap tally (same_not (M (twin x)) l v) in
         omega arith
 
-    -- ---- the old cycle has fallen into two
+    -- ---- the old cycle is parted
     module _ (a : Dart) (s : IsOrbitSplit L M (darts g) x (twin x) a) where
       split_terms : (y : Dart) → IsDartOf g y → tally (same_dart (M y) (M x)) + tally (same_dart (M y) (M (twin x))) ≡ tally (same_dart (L y) (L a))
       split_terms y Y =
@@ -230,9 +234,11 @@ module _ (g : Skeleton) (hs : List Edge) (e : Edge) (plane : IsPlaneSkeleton (re
                 ]
           ]
 
+      -- the parity of the new cycle is the sum of both old ones
       pub whole_even : (c : SlabCell) → IsCell g e c → Even (weight_of h (M x) c + weight_of g (L a) (merged g e c) + weight_of g (L b) (merged g e c))
       whole_even c real = both_even (M x) (L a) (L b) c real (own_even s.one (M x)) united_terms
 
+      -- any other cycle has the parity that it had
       pub rest_even : (y : Dart) → IsDartOf g y → (M y ≡ M x → ⊥) → (c : SlabCell) → IsCell g e c → Even (weight_of h (M y) c + weight_of g (L y) (merged g e c))
       rest_even y Y ne c real =
           one_even (M y) (L y) c real (own_even s.one (M y))

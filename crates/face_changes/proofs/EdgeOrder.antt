@@ -1,4 +1,5 @@
--- A graph with an edge more, its edges in any order, counts as the one with that edge in front: cells, meets, faces and weights are the same.
+-- A graph with one more edge, its edges in any order, counts as the one with that edge in front: cells, meets, faces and weights are the same.
+-- g is without the edge e, h has the vertices of g and the edges hs; `with_edge g e` has e in front of those of g; z and f are edges, fw the way of a dart.
 use Rattle.std.proofs.Common.{◌≡◌, ℕ, ◌+◌, Bool, true, false, cond, arith, refl, sym, ap, ◌∙◌, subst, inl, inr, List, ◌∷◌}
 use Rattle.std.specs.Prelude.{not, ◌&&◌}
 use Rattle.std.specs.List.{count_by, sum_by, Contains}
@@ -41,6 +42,7 @@ module _ {X : Type 0} (eq : X → X → Bool) (F : X → ℕ) where
       at true m n h = h refl
       at false m n h = refl
 
+  -- they have the same sums
   pub same_sum : (xs ys : List X) → IsSetBy eq xs → IsSetBy eq ys → ((x : X) → Contains xs x → Contains ys x) → ((y : X) → Contains ys y → Contains xs y) → sum_by F xs ≡ sum_by F ys
   same_sum xs ys n k to back =
       let a : sum_by F xs ≡ sum_by (λ x. sum_by (λ y. cond (eq x y) (F y) 0) ys) xs =
@@ -95,6 +97,7 @@ module _ (g : Skeleton) (hs : List Edge) (e : Edge) where
     pub sums : (F : Edge → ℕ) → sum_by F hs ≡ sum_by F (e ∷ g.edges)
     sums F = same_sum same_edge F hs (e ∷ g.edges) (edges_are_set h plane) (record { sound = same_edge_is; self = same_edge_refl; once = once }) to back
 
+    -- with e in front it is plane too
     pub plane_w : IsPlaneSkeleton (with_edge g e)
     plane_w = record {
       proper = plane.proper;
@@ -117,6 +120,7 @@ module _ (g : Skeleton) (hs : List Edge) (e : Edge) where
     same_right : (t : Point) → right_cell h t ≡ right_cell (with_edge g e) t
     same_right t = λ i. record { slab = slab_right g t; place = sums (λ f. cond (reaches_right f t && not (over f t)) 1 0) i }
 
+    -- places, cells and weights are the same
     pub same_place : (i : ℕ) (z : Edge) → place h i z ≡ place (with_edge g e) i z
     same_place i z = sums (λ f. cond (spans g i f && below f z) 1 0)
 
@@ -145,6 +149,7 @@ module _ (g : Skeleton) (hs : List Edge) (e : Edge) where
         across t (record { proper = wall.proper; vertex = wall.vertex; is_vertex = wall.is_vertex; same = wall.same }) (record { open_at = λ z Z. free.open_at z (to z Z) }) in
         subst (λ (p : SlabCell × SlabCell). Meets h p.0 p.1) (λ i. (same_left t i, same_right t i)) m
 
+    -- and so are faces
     pub face_to : (c d : SlabCell) → SameFace h c d → SameFace (with_edge g e) c d
     face_to c d (here c') = here _
     face_to c d (right b x d' s m) = right _ _ _ (face_to b x s) (meets_to x d' m)
@@ -190,6 +195,7 @@ module _ (g : Skeleton) (hs : List Edge) (e : Edge) where
         subst (λ (p : SlabCell × SlabCell). IsSplitBy h p.0 p.1 c d) (λ i. (sym (same_cells e false true) i, sym (same_cells e false false) i))
         (split_back _ _ c d (upright_up g e c d plane_w w s'))
 
+    -- cells of one old face are in one face, or on both sides of e
     pub two_at_most : (c d : SlabCell) → IsCell g e c → IsCell g e d → SameFace g (merged g e c) (merged g e d) → IsSplitBy h (cell_of h e true) (cell_of h e false) c d
     two_at_most c d C D s = by_kind (left_of e.low e.high) refl c d C D s
 
@@ -219,6 +225,7 @@ module _ (g : Skeleton) (hs : List Edge) (e : Edge) where
     beside_real z false true Z = left_real z.low _ (plane.lower_in z Z)
     beside_real z false false Z = right_real z.low _ (plane.lower_in z Z)
 
+    -- the cell beside a dart of h is in a slab that lies beside a vertex
     pub dart_real : (z : Edge) (fw : Bool) → Contains hs z → IsCell g e (cell_of h z fw)
     dart_real z fw Z = beside_real z (left_of z.low z.high) fw Z
 

@@ -1,4 +1,6 @@
--- An edge that has become two, at a point inside it.
+-- An edge that is split at a point inside it: at each point counts are as before, so cells widen to the old ones; both parts have the side and the gaps of the whole.
+-- g has the edge e, h its two parts at v; hv and hs are the vertices and edges of h, `rest` the edges of both; L and M give the least dart of a cycle in g and in h;
+-- z is any edge, q a part of e, fw the way of a dart; `Low` and `High` say that the parts are edges of h, `V` that v is a vertex of it, `W` that v has a weight.
 use Rattle.std.proofs.Common.{◌≡◌, ℕ, zero, suc, ◌+◌, ◌<◌, ◌≤◌, Bool, true, false, cond, arith, refl, sym, ap, ◌∙◌, subst, ◌⊎◌, inl, inr, List, ◌∷◌}
 use Rattle.std.specs.Prelude.{not, ◌&&◌, ◌||◌, ◌%◌, ◌==◌}
 use Rattle.std.specs.List.{count_by, Contains}
@@ -801,11 +803,13 @@ module _ (g : Skeleton) (hv : List Point) (hs : List Edge) (e : Edge) (v : Point
     kind_low : (fw : Bool) → is_outer h (record { edge = lower_part e v; forward = fw }) ≡ is_outer g (whole (record { edge = lower_part e v; forward = fw }))
     kind_low fw = kind_by (record { edge = lower_part e v; forward = fw }) Low (cell_low fw ∙ sym (ap (left_of_dart g) (whole_low fw)))
 
+    -- the kind of a dart is that of the whole one
     pub kind_same : (d : Dart) → IsDartOf h d → is_outer h d ≡ is_outer g (whole d)
     kind_same = sorted (λ d. is_outer h d ≡ is_outer g (whole d)) kind_low
         (λ fw. one_kind_each.kind h (record { edge = upper_part e v; forward = fw }) (record { edge = lower_part e v; forward = fw }) plane (high_low fw) ∙ kind_low fw ∙ ap (is_outer g) (whole_low fw ∙ sym (whole_high fw)))
         (λ d D. kind_by d (kept_edge d.edge D) (cell_rest d.edge D d.forward ∙ sym (ap (left_of_dart g) (whole_rest d D))))
 
+    -- and so is the face on its left
     pub dart_same : (d : Dart) → IsDartOf h d → SameFace g (widened g v (left_of_dart h d)) (left_of_dart g (whole d))
     dart_same = sorted (λ d. SameFace g (widened g v (left_of_dart h d)) (left_of_dart g (whole d)))
         (λ fw. face_at g _ _ (cell_low fw ∙ sym (ap (left_of_dart g) (whole_low fw))))

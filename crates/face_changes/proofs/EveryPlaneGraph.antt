@@ -1,4 +1,5 @@
--- Each bounded face of a plane graph has one outer cycle and the unbounded one none: by its edges, one after the other.
+-- Every plane graph has one outer cycle for each bounded face and none for the unbounded one: by induction over its edges, whatever the next edge links.
+-- g is without the edge e, h with it; L and M give the least dart of a cycle in g and in h; x and y are the darts of e, a and b the darts that they come after.
 use Rattle.std.proofs.Common.{◌≡◌, ℕ, ◌+◌, true, false, cond, arith, refl, sym, ap, ◌∙◌, subst, ◌⊎◌, inl, inr, List, [], ◌∷◌}
 use Rattle.std.specs.List.{count_by, Contains}
 use Rattle.std.proofs.lemmas.Bool.{false_from_ne_true}
@@ -48,6 +49,7 @@ module _ (g : Skeleton) (hs : List Edge) (e : Edge) (plane : IsPlaneSkeleton (re
 
   -- ---- the old cycles stay, and x and its twin are on one cycle
   module _ (x : Dart) (q : x.edge ≡ e) (kept : AreOrbitsKept L M (darts g)) (one : M x ≡ M (twin x)) where
+    -- each old dart has the kind that it had
     pub same_kind : (y : Dart) → IsDartOf g y → Even (own_weight h y + own_weight g y)
     same_kind y Y =
         let c = left_of_dart h y in
@@ -68,6 +70,7 @@ module _ (g : Skeleton) (hs : List Edge) (e : Edge) (plane : IsPlaneSkeleton (re
       | inr k ↦ inr (elim (either g h e plane_g plane more x d q k) [ inl w ↦ ap M w | inr w ↦ ap M w ∙ sym one ])
     ]
 
+    -- the new darts are on an old cycle
     pub grown_once : IsOuterOnce g → (a : Dart) → IsDartOf g a → M x ≡ M a → IsOuterOnce h
     grown_once o a A k = kept_once g hs e plane plane_g more o same_kind still (λ d D. elim (old_or d D) [ inl w ↦ inl (d, w, refl) | inr w ↦ inl (a, A, w ∙ k) ])
 
@@ -89,6 +92,7 @@ module _ (g : Skeleton) (hs : List Edge) (e : Edge) (plane : IsPlaneSkeleton (re
             let c : cond {A = ℕ} (same_dart (M (record { edge = z; forward = false })) (M x)) 1 0 ≡ 0 = ap (λ b. cond {A = ℕ} b 1 0) (same_not (M (record { edge = z; forward = false })) (M x) (none (record { edge = z; forward = false }) (dart_there g (record { edge = z; forward = false }) Z))) in
             omega arith
 
+    -- or on one of their own, which is inner
     pub alone_once : IsOuterOnce g → ((y : Dart) → Contains (darts g) y → M y ≡ M x → ⊥) → IsOuterOnce h
     alone_once o none = kept_once g hs e plane plane_g more o same_kind still (λ d D. elim (old_or d D) [ inl w ↦ inl (d, w, refl) | inr w ↦ inr (alone_even none d w) ])
 

@@ -1,4 +1,5 @@
--- Names that tell faces, with an edge more or fewer.
+-- Names go on telling faces with one more edge, and with one fewer.
+-- g is without the edge, h with it; I is the things that have names, `old` and `new` are their cells in g and in h; x is a dart of the edge, which parts the cycle of a.
 use Rattle.std.proofs.Common.{◌≡◌, ◌≢◌, ◌↔◌, true, false, refl, sym, ap, ◌∙◌, ◌⊎◌, inl, inr}
 use Rattle.std.specs.Prelude.{◌==◌}
 use Rattle.std.proofs.lemmas.Bool.{cases_Bool, eqb-true, eq-eqb, false≢true, true≢false}
@@ -16,6 +17,7 @@ use Rattle.face_changes.specs.OneMoreEdge.{IsOneMoreEdge, LiesIn, PartsCycle}
 use Rattle.face_changes.specs.FaceNames.{NamesTellFaces, AllLieIn, FaceNamesStay, AreNamesParted, FaceNamesPart, AreNamesMerged, FaceNamesMerge}
 use Rattle.face_changes.proofs.OneMoreEdge.{cells_with_one_more_edge, faces_with_one_more_edge, sides_of_one_more_edge}
 
+-- two names are one, or they aren't
 pub face_cases : (a b : FaceId) → (a ≡ b) ⊎ (a ≢ b)
 face_cases a b = elim (cases_Bool (a.0 == b.0)) [
   | inl t ↦ inl (λ i. record { 0 = eqb-true a.0 b.0 t i })
@@ -31,7 +33,7 @@ face_names_stay I g h x old new name m q lies = (
     both : (i j : I) → SameFace h (new i) (new j) ↔ SameFace g (old i) (old j)
     both i j = sides_of_one_more_edge.one g h x (new i) (new j) (old i) (old j) m q (lies i) (lies j)
 
--- a face falls into two
+-- ---- a face is parted
 module _ (I : Type 0) (g h : Skeleton) (x a : Dart) (old new : I → SlabCell) (name next : I → FaceId) (o : I) (fresh : FaceId) (m : IsOneMoreEdge g h x.edge) (p : PartsCycle g h x a) (lies : AllLieIn g h x.edge old new) (near : SameFace g (old o) (left_of_dart g a)) (s : AreNamesParted h x new name next (name o) fresh) (t : NamesTellFaces g old name) where
   data Case (k : I) : Type 0 where
     goes : name k ≡ name o → odd_at h x (new k) ≡ true → next k ≡ fresh → Case k
@@ -82,7 +84,7 @@ module _ (I : Type 0) (g h : Skeleton) (x a : Dart) (old new : I → SlabCell) (
 pub face_names_part : (I : Type 0) → FaceNamesPart I
 face_names_part I g h x a old new name next o fresh m p lies near s t i j = parted I g h x a old new name next o fresh m p lies near s t i j
 
--- two faces become one
+-- ---- two faces become one
 module _ (I : Type 0) (g h : Skeleton) (x a : Dart) (old new : I → SlabCell) (name next : I → FaceId) (o r : I) (m : IsOneMoreEdge g h x.edge) (p : PartsCycle g h x a) (lies : AllLieIn g h x.edge old new) (at_o : SameFace h (new o) (left_of_dart h x)) (at_r : SameFace h (new r) (left_of_dart h (twin x))) (s : AreNamesMerged name next (name o) (name r)) (t : NamesTellFaces h new name) where
   down : (c d b k : SlabCell) → LiesIn g h x.edge c b → LiesIn g h x.edge d k → SameFace h c d → SameFace g b k
   down c d b k C D w = ((faces_with_one_more_edge g h x c d b k m C D).0 w).0

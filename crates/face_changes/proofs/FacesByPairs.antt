@@ -1,4 +1,5 @@
--- Face records that are told pairwise have what the definition of a sound view asks, since every plane graph has one outer cycle a bounded face.
+-- Three ways of saying that face records stand for the faces are one: by least cells, by least cells and outer cycles, by pairs of things.
+-- Outer cycles follow from the rest, since every plane graph has one for each bounded face, and none for the unbounded one. v is the view, f its cycles and faces, g the graph that v draws.
 use Rattle.std.proofs.Common.{refl, ◌≡◌, ℕ, ◌<◌, ◌≤◌, true, arith, sym, ap, ◌∙◌, subst, ◌⊎◌, inl, inr, List, [], ◌∷◌}
 use Rattle.std.specs.Prelude.{◌==◌}
 use Rattle.std.specs.List.{Contains, AllByRecursion}

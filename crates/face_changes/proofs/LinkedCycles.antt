@@ -1,4 +1,5 @@
--- The darts of a graph with an edge more: how their order along cycles is that of the old ones with two darts put in.
+-- The order of darts along cycles with one more edge is the old one with two darts put in, by what is at both ends of the edge.
+-- g is without the edge e, h with it; x is a dart of e, which comes after a; its twin comes after b.
 use Rattle.std.proofs.Common.{◌≡◌, ◌⊎◌, inl, inr, Bool, true, false, refl, sym, ap, ◌∙◌, subst}
 use Rattle.std.specs.Prelude.{not}
 use Rattle.std.specs.List.{Contains}
@@ -19,12 +20,14 @@ use Rattle.face_changes.specs.Orbits.{IsOrbitSplit, AreOrbitsUnited, AreOrbitsKe
 use Rattle.face_changes.proofs.OrbitSplices.{IsLabelled, IsSpliced, split, united}
 use Rattle.face_changes.proofs.OrbitGrowth.{grown, alone}
 
+-- a dart of the graph is in its list of darts, and the other way round
 pub dart_there : (g : Skeleton) (d : Dart) → IsDartOf g d → Contains (darts g) d
 dart_there g d D = member_in (darts g) d (dart_in g d.edge d.forward D)
 
 pub there_dart : (g : Skeleton) (d : Dart) → Contains (darts g) d → IsDartOf g d
 there_dart g d D = dart_out g d (in_member (darts g) d D)
 
+-- least darts label the orbits of next
 pub labelled : (g : Skeleton) → IsLabelled (next (darts g)) (darts g) (lead_of g)
 labelled g = record {
   step = λ d D. one_cycle g d (in_member (darts g) d D);
@@ -35,6 +38,7 @@ module _ (g h : Skeleton) (e : Edge) (plane_g : IsPlaneSkeleton g) (plane_h : Is
   goes : IsNextWithMore g h e
   goes = next_with_an_edge_more g h e plane_g plane_h more
 
+  -- the darts of h: the old ones, and those of e
   pub up : (d : Dart) → IsDartOf g d → IsDartOf h d
   up d D = (more.edges d.edge).1 (inl D)
 
@@ -76,6 +80,7 @@ module _ (g h : Skeleton) (e : Edge) (plane_g : IsPlaneSkeleton g) (plane_h : Is
     q' = q
 
     module _ (a b : Dart) (A : IsDartOf g a) (B : IsDartOf g b) (at_a : ComesBetween g a x) (at_b : ComesBetween g b (twin x)) where
+      -- both ends have darts: the new ones are put in after a and b
       pub spliced : IsSpliced (next (darts g)) (next (darts h)) (darts g) (darts h) x (twin x) a b
       spliced = record {
         a_in = dart_there g a A;
@@ -98,14 +103,17 @@ module _ (g h : Skeleton) (e : Edge) (plane_g : IsPlaneSkeleton g) (plane_h : Is
         ]);
       }
 
+      -- on one cycle: it is parted
       pub parts : lead_of g a ≡ lead_of g b → IsOrbitSplit (lead_of g) (lead_of h) (darts g) x (twin x) a
       parts one = split same_dart darts_exact.path darts_exact.itself (next (darts g)) (next (darts h)) (darts g) (darts h) (lead_of g) (lead_of h) (labelled g) (labelled h) x (twin x) a b spliced (is_set g plane_g) (one_to_one g plane_g) one
 
+      -- on two cycles: these are joined
       pub joins : (lead_of g a ≡ lead_of g b → ⊥) → AreOrbitsUnited (lead_of g) (lead_of h) (darts g) x (twin x) a b
       joins two = united same_dart darts_exact.path darts_exact.itself (next (darts g)) (next (darts h)) (darts g) (darts h) (lead_of g) (lead_of h) (labelled g) (labelled h) x (twin x) a b spliced (is_set g plane_g) (one_to_one g plane_g) two
 
     -- x goes out after a, and ends where nothing is
     module _ (a : Dart) (A : IsDartOf g a) (at_a : ComesBetween g a x) (none : IsBareEnd g (twin x)) where
+      -- so the cycle of a grows
       pub grows : AreOrbitsKept (lead_of g) (lead_of h) (darts g) × (lead_of h x ≡ lead_of h a) × (lead_of h (twin x) ≡ lead_of h a)
       grows = grown same_dart darts_exact.path darts_exact.itself (next (darts g)) (next (darts h)) (darts g) (darts h) (lead_of g) (lead_of h) (labelled g) (labelled h) (one_to_one g plane_g).inside x (twin x) a (record {
         a_in = dart_there g a A;
@@ -138,6 +146,7 @@ module _ (g h : Skeleton) (e : Edge) (plane_g : IsPlaneSkeleton g) (plane_h : Is
       begins : (y z : Dart) → Contains (darts g) y → ComesBetween g y z → source (next (darts g) y) ≡ source z
       begins y z Y c = (next_from g y plane_g (there_dart g y Y)).at ∙ sym c.leaves
 
+      -- so the new darts are a cycle of their own
       pub apart : AreOrbitsKept (lead_of g) (lead_of h) (darts g) × (lead_of h (twin x) ≡ lead_of h x) × ((y : Dart) → Contains (darts g) y → lead_of h y ≡ lead_of h x → ⊥)
       apart = alone same_dart darts_exact.path darts_exact.itself (next (darts g)) (next (darts h)) (darts g) (darts h) (lead_of g) (lead_of h) (labelled g) (labelled h) (one_to_one g plane_g).inside x (twin x) (record {
         d_new = new_here x q;

@@ -1,5 +1,5 @@
--- Two plane graphs of which one has a vertex more: its wall may be new, and then it parts cells of the other, but no face.
--- g is without the vertex, h with it, v is the vertex; a slab of h on the right of v has one number less in g.
+-- One of two plane graphs has one more vertex: its wall may be new, and then it parts cells of the other, but no face.
+-- g is without the vertex v, h with it; a slab of h on the right of v has one number less in g (`narrow`).
 use Rattle.std.proofs.Common.{◌≡◌, ◌↔◌, ℕ, ◌+◌, ◌-◌, ◌<◌, ◌≤◌, Bool, true, false, cond, arith, refl, sym, ap, ◌∙◌, subst, ◌⊎◌, inl, inr, ◌∷◌, map}
 use Rattle.std.specs.Prelude.{not, ◌&&◌}
 use Rattle.std.specs.List.{count_by, Contains}
@@ -56,6 +56,7 @@ module _ (g h : Skeleton) (v : Point) (m : HasNewVertex g h v) where
   plane : IsPlaneSkeleton h
   plane = m.plane_more
 
+  -- v is a vertex of h, and has a weight
   pub V : Contains h.vertices v
   V = (m.vertices v).1 (inr refl)
 
@@ -130,6 +131,7 @@ module _ (g h : Skeleton) (v : Point) (m : HasNewVertex g h v) where
   less_is : (a b : ℕ) → ltb a b ≡ not (leb b a)
   less_is a b = grind (arith, nat_tests)
 
+  -- an edge spans the slabs that it spanned
   pub same_spans : (f : Edge) → Contains g.edges f → (i : ℕ) → spans h i f ≡ spans g (narrow g v i) f
   same_spans f F i =
       let a = from_slab f.low (plane_g.lower_in f F) i in
@@ -179,6 +181,7 @@ module _ (g h : Skeleton) (v : Point) (m : HasNewVertex g h v) where
   starts i (inr k) q = let w = map_out (slab_right h) (walls h) i k in (w.0, wall_vertex h w.0 w.1, w.2 ∙ q)
 
   module _ (a : AreEdgesAlike g h) where
+    -- the cell left of a point lies in the one that was left of it; likewise on the right
     pub left_widened : (t : Point) → HasWeight t → widened g v (left_cell h t) ≡ left_cell g t
     unfolding narrow
     left_widened t T = λ i. record { slab = narrow_left t T i; place = a.on_left t T i }

@@ -1,4 +1,5 @@
--- The laws of specs/Kinds and specs/Changes, from what is proved of a graph with an edge in front.
+-- The laws of every plane graph, and those of one more edge in its four cases.
+-- g is without the edge, h with it; x is either dart of the edge; M gives the least dart of a cycle in h; `over` and `under` are the cells on both sides of the edge.
 use Rattle.std.proofs.Common.{◌≡◌, ◌≢◌, ◌↔◌, ℕ, ◌+◌, Bool, true, false, arith, refl, sym, ap, ◌∙◌, subst, ◌⊎◌, inl, inr, List}
 use Rattle.std.specs.Prelude.{not, ◌%◌, ◌==◌, ◌||◌}
 use Rattle.std.proofs.lemmas.Bool.{eqb-true, eqb-false, cases_Bool}
@@ -25,7 +26,7 @@ use Rattle.face_changes.specs.OneMoreEdge.{IsOneMoreEdge, LiesIn, CellsWithOneMo
 use Rattle.face_changes.proofs.EdgeOrder.{finer, two_at_most, old_cell, dart_real, vertex_real, vertex_cell, first_real}
 use Rattle.face_changes.proofs.LinkedCycles.{dart_there, parts, joins, grows, apart}
 use Rattle.face_changes.proofs.CycleParities.{weight_of, choose, own_one}
-use Rattle.face_changes.proofs.OuterCycles.{Odd, cycle_face, one_kind, outer_there}
+use Rattle.face_changes.proofs.OuterCycles.{Odd, is_odd, cycle_face, one_kind, outer_there}
 use Rattle.face_changes.proofs.PartedCycle.{first_stays, one_side, others, other_kind}
 use Rattle.face_changes.proofs.OneOuterKept.{IsOuterOnce, both_outer, one_outer, sum_kind, not_both, rest_kind}
 use Rattle.face_changes.proofs.EveryPlaneGraph.{near, same_kind, alone_even, outer_once}
@@ -38,10 +39,6 @@ odd_yes g l c h = rw h refl
 odd_no : (g : Skeleton) (l : Dart) (c : SlabCell) → Even (weight_of g l c) → odd g (dart_labels (darts g)) l c ≡ false
 unfolding odd
 odd_no g l c h = rw h refl
-
-is_odd : (g : Skeleton) (l : Dart) (c : SlabCell) → odd g (dart_labels (darts g)) l c ≡ true → Odd (weight_of g l c)
-unfolding odd
-is_odd g l c h = eqb-true (weight_of g l c % 2) 1 h
 
 is_even : (g : Skeleton) (l : Dart) (c : SlabCell) → odd g (dart_labels (darts g)) l c ≡ false → Even (weight_of g l c)
 unfolding odd
@@ -123,7 +120,7 @@ one_outer_cycle = record {
   once = λ g d e plane D E k u v. (outer_once g plane).once d e D E k (is_odd g (lead_of g d) (left_of_dart g d) u) (is_odd g (lead_of g e) (left_of_dart g e) v);
 }
 
--- ---- an edge more: h as the vertices of g and a list of edges
+-- ---- h as the vertices of g and a list of edges
 abbrev with_edges : Skeleton → List Edge → Skeleton
 with_edges g hs = record { vertices = g.vertices; edges = hs }
 

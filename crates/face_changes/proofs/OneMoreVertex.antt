@@ -1,4 +1,5 @@
--- A vertex more, on no edge.
+-- One more vertex, on no edge: slabs are parted, and nothing else.
+-- g is without the vertex v, h has the edges of g and the vertices hv; n is a weight of edges, fw the way of a dart.
 use Rattle.std.proofs.Common.{◌≡◌, ◌↔◌, ℕ, zero, suc, ◌+◌, Bool, true, false, cond, arith, refl, sym, ap, ◌∙◌, subst, List}
 use Rattle.std.specs.Prelude.{not, ◌&&◌, ◌%◌, ◌==◌}
 use Rattle.std.specs.List.{Contains}
@@ -39,6 +40,7 @@ module _ (g : Skeleton) (hv : List Point) (v : Point) (m : HasOneMoreVertex g (r
   plane : IsPlaneSkeleton h
   plane = m.plane_more
 
+  -- h has a new vertex, and all else is alike
   pub new : HasNewVertex g h v
   new = record { plane = m.plane; plane_more = m.plane_more; vertices = m.vertices; counts = m.counts }
 
@@ -123,6 +125,7 @@ module _ (g : Skeleton) (hv : List Point) (v : Point) (m : HasOneMoreVertex g (r
   dart_by f false true F = left_widened g h v new alike f.low (plane_g.proper_edge f F).0
   dart_by f false false F = right_widened g h v new alike f.low (plane_g.proper_edge f F).0
 
+  -- whichever way the dart goes
   pub dart_widened : (d : Dart) → IsDartOf g d → widened g v (left_of_dart h d) ≡ left_of_dart g d
   dart_widened d D = dart_by d.edge (left_of d.edge.low d.edge.high) d.forward D
 

@@ -1,4 +1,5 @@
--- Each bounded face has one outer cycle and the unbounded one none: a graph with an edge more keeps it.
+-- That each bounded face has one outer cycle, and the unbounded one none, is kept by one more edge, in each of its cases.
+-- g is without the edge e, h with it; L and M give the least dart of a cycle in g and in h; x and y are the darts of e, a and b the darts that they come after.
 use Rattle.std.proofs.Common.{◌≡◌, ℕ, ◌+◌, arith, refl, sym, ap, ◌∙◌, subst, ◌⊎◌, inl, inr, List}
 use Rattle.std.specs.Prelude.{◌%◌}
 use Rattle.std.specs.List.{Contains}
@@ -56,6 +57,7 @@ module _ (g : Skeleton) (hs : List Edge) (e : Edge) (plane : IsPlaneSkeleton (re
   pub down : (y z : Dart) → IsDartOf g y → IsDartOf g z → SameFace h (left_h y) (left_h z) → SameFace g (left_g y) (left_g z)
   down y z Y Z k = subst (SameFace g (left_g y)) (old_left g hs e plane plane_g more z Z) (beside g hs e plane plane_g more y (left_h z) Y k)
 
+  -- what is in the unbounded face was in it
   pub to_first : (c : SlabCell) → SameFace h c first_cell → SameFace g (merged g e c) first_cell
   to_first c k = subst (SameFace g (merged g e c)) (first_stays g hs e plane plane_g more) (finer g hs e plane plane_g more c first_cell k)
 
@@ -172,6 +174,7 @@ module _ (g : Skeleton) (hs : List Edge) (e : Edge) (plane : IsPlaneSkeleton (re
       pub bounded : SameFace h (left_h x) first_cell → Odd (own_weight h x) → ⊥
       pub outer : Odd (own_weight g a) → Odd (own_weight h x)
 
+    -- what holds of one half
     pub is_half : IsHalf
     is_half = record { apart = half; bounded = half_first; outer = half_outer }
 
@@ -220,6 +223,7 @@ module _ (g : Skeleton) (hs : List Edge) (e : Edge) (plane : IsPlaneSkeleton (re
     none_at d (on_y u) k od = of_y.bounded (face_trans h _ _ _ (face_sym h _ _ (cycle_face h plane d y u)) k) (odd_on d y u od)
     none_at d (off D nd) k od = o.none d D (down_first d D k) (kept_odd d D nd od)
 
+    -- a parted cycle
     pub split_once : IsOuterOnce h
     split_once = record {
       once = λ d z D Z k od oz. once_at d z (place_of x y a q t s A near_x near_y d D) (place_of x y a q t s A near_x near_y z Z) k od oz;
@@ -272,6 +276,7 @@ module _ (g : Skeleton) (hs : List Edge) (e : Edge) (plane : IsPlaneSkeleton (re
         let v = cycle_parity g (L b) (merged g e c) (left_g b) plane_g (face_trans g _ _ _ f near_b) in
         omega arith
 
+    -- a dart of no joined cycle has the kind that it had
     pub rest_kind : (y : Dart) → IsDartOf g y → (M y ≡ M x → ⊥) → Even (own_weight h y + own_weight g y)
     rest_kind y Y ne =
         let p = rest_even g hs e plane plane_g more x q a b two s y Y ne (left_h y) (real_left g hs e plane plane_g more y (old_up g hs e plane plane_g more y Y)) in
@@ -335,6 +340,7 @@ module _ (g : Skeleton) (hs : List Edge) (e : Edge) (plane : IsPlaneSkeleton (re
       | inr u ↦ let ky = rest_kind y Y u in o.none y Y (down_first y Y k) (omega arith)
     ]
 
+    -- two joined cycles
     pub united_once : IsOuterOnce h
     united_once = record {
       once = λ d z D Z k od oz.

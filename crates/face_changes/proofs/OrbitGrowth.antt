@@ -1,4 +1,5 @@
--- Two elements more in a one-to-one map, at one place or apart from all: the orbits are as they were, and the two are on one of them, or on one of their own.
+-- Two new elements in a one-to-one map, at one place or apart from all: the old orbits are as they were; the two are on one of them, or on one of their own.
+-- f is the map before, on xs, k the one after, on ys; L and M label their orbits; d and m are the new elements, and a is followed by d.
 use Rattle.std.proofs.Common.{◌≡◌, Bool, true, false, cond, refl, sym, ap, ◌∙◌, subst, ◌⊎◌, inl, inr, List}
 use Rattle.std.specs.List.{Contains}
 use Rattle.std.proofs.lemmas.Bool.{true≢false, cases_Bool}
@@ -77,6 +78,7 @@ module _ {X : Type 0} (same : X → X → Bool) (exact : (x y : X) → same x y 
         ]
       ]
 
+      -- the orbit of a has grown by both
       pub grown : AreOrbitsKept L M xs × (M d ≡ M a) × (M m ≡ M a)
       grown = (
         record {
@@ -136,6 +138,7 @@ module _ {X : Type 0} (same : X → X → Bool) (exact : (x y : X) → same x y 
         ]
       ]
 
+      -- the two are an orbit of their own
       pub alone : AreOrbitsKept L M xs × (M m ≡ M d) × ((x : X) → Contains xs x → M x ≡ M d → ⊥)
       alone = (
         record {

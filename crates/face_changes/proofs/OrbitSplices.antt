@@ -1,7 +1,5 @@
--- What becomes of orbits where two elements more are put into a one-to-one map, each after an element of its own.
---     split      both places are on one orbit: it falls into two, one through each new element
---     united      they are on two orbits: these become one, through both new elements
---     grown      one place alone: the orbit grows by both new elements
+-- Two new elements in a one-to-one map, each after an element of its own: where both places are on one orbit it is split in two, one through each new element;
+-- where they are on two, these become one. f is the map before, on xs, k the one after, on ys; L and M label their orbits; d and m are the new elements, after a and b.
 use Rattle.std.proofs.Common.{◌≡◌, Bool, true, false, cond, refl, sym, ap, ◌∙◌, subst, ◌⊎◌, inl, inr, List}
 use Rattle.std.specs.List.{Contains}
 use Rattle.std.proofs.lemmas.Bool.{false≢true, true≢false, cases_Bool}
@@ -14,6 +12,7 @@ pub record IsLabelled {X : Type 0} (f : X → X) (xs : List X) (L : X → X) : T
   pub step : (x : X) → Contains xs x → L x ≡ L (f x)
   pub agree : (p : X → Bool) → ((x : X) → Contains xs x → p x ≡ p (f x)) → (x : X) → p x ≡ p (L x)
 
+-- a test that agrees along the map agrees on elements with one label
 pub told : {X : Type 0} (f : X → X) (xs : List X) (L : X → X) → IsLabelled f xs L → (p : X → Bool) → ((x : X) → Contains xs x → p x ≡ p (f x)) → (x y : X) → L x ≡ L y → p x ≡ p y
 told f xs L l p h x y e = l.agree p h x ∙ ap p e ∙ sym (l.agree p h y)
 
@@ -72,6 +71,7 @@ module _ {X : Type 0} (same : X → X → Bool) (exact : (x y : X) → same x y 
 
   -- labels as tests
   module _ (f : X → X) (xs : List X) (L : X → X) (l : IsLabelled f xs L) where
+    -- and so does a function
     pub agrees : (v : X → X) → ((x : X) → Contains xs x → v x ≡ v (f x)) → (x y : X) → L x ≡ L y → v x ≡ v y
     agrees v h x y e = exact (v x) (v y) (told f xs L l (λ z. same (v z) (v y)) (λ z c. ap (λ w. same w (v y)) (h z c)) x y e ∙ itself (v y))
 
@@ -199,6 +199,7 @@ module _ {X : Type 0} (same : X → X → Bool) (exact : (x y : X) → same x y 
         into : (x y : X) → L x ≡ L y → as_one (M d) (M m) (M x) ≡ as_one (M d) (M m) (M y)
         into = fine (as_one (M d) (M m)) (as_a (M d) (M m) ∙ sym (as_b (M d) (M m)))
 
+        -- the orbit is split in two
         pub split : IsOrbitSplit L M xs d m a
         split = record {
           two = halves;
@@ -260,6 +261,7 @@ module _ {X : Type 0} (same : X → X → Bool) (exact : (x y : X) → same x y 
         comes x (inl e) = into_one x a e ∙ m_a
         comes x (inr e) = into_one x b e ∙ met
 
+        -- the two have become one
         pub united : AreOrbitsUnited L M xs d m a b
         united = record {
           one = one_now;

@@ -1,5 +1,5 @@
 -- Cycles and the faces that they bound in one plane graph: all darts of a cycle have one face, so its parity beside each of them is one;
--- a face beside which no dart is on an outer cycle is the unbounded one.
+-- a face without an outer cycle is the unbounded one.
 use Rattle.std.proofs.Common.{◌≡◌, ℕ, ◌+◌, Bool, true, false, cond, arith, refl, sym, ap, ◌∙◌, subst, ◌⊎◌, inl, inr}
 use Rattle.std.specs.Prelude.{◌%◌, ◌&&◌, filter}
 use Rattle.std.specs.List.{count_by, Contains}
@@ -27,6 +27,7 @@ use Rattle.slab_faces.proofs.CyclesLemmas.{cycle_parity}
 use Rattle.slab_faces.proofs.DartOrder.{dart_cmp_total}
 use Rattle.slab_faces.proofs.EveryFace.{outer_cycles_of_every_face, first_width}
 use Rattle.sound_links.specs.Next.{IsDartOf}
+use Rattle.face_changes.specs.Kinds.{IsBeside}
 use Rattle.face_changes.proofs.OrbitSplices.{told}
 use Rattle.face_changes.proofs.LinkedCycles.{labelled, there_dart}
 use Rattle.face_changes.proofs.CycleParities.{weight_of}
@@ -39,9 +40,9 @@ Odd n = n % 2 ≡ 1
 abbrev pub own_weight : Skeleton → Dart → ℕ
 own_weight g d = weight_of g (lead_of g d) (left_of_dart g d)
 
--- what is left of d is in the face of c
-abbrev pub IsBeside : Skeleton → Dart → SlabCell → Type 0
-IsBeside g d c = SameFace g (left_of_dart g d) c
+pub is_odd : (g : Skeleton) (l : Dart) (c : SlabCell) → odd g (dart_labels (darts g)) l c ≡ true → Odd (weight_of g l c)
+unfolding odd
+is_odd g l c h = eqb-true (weight_of g l c % 2) 1 h
 
 module _ (g : Skeleton) (plane : IsPlaneSkeleton g) where
   face : Dart → SlabCell
@@ -81,10 +82,7 @@ module _ (g : Skeleton) (plane : IsPlaneSkeleton g) where
   unfolding subdivision cycles cycle
   counts f = sum_by-map (λ x. cond (bounds f x) 1 0) (cycle g (face_labels g) (darts g) (dart_labels (darts g))) (leads (darts g) (dart_labels (darts g)))
 
-  odd_is : (l : Dart) (c : SlabCell) → odd g (dart_labels (darts g)) l c ≡ true → Odd (weight_of g l c)
-  unfolding odd
-  odd_is l c h = eqb-true (weight_of g l c % 2) 1 h
-
+  -- each listed cell is in the unbounded face, or in one with an outer cycle
   pub outer_there : (c : SlabCell) → Contains (cells g) c → SameFace g c first_cell ⊎ HasOuter c
   outer_there c C =
       let f = face_of (face_labels g) c in
@@ -96,7 +94,7 @@ module _ (g : Skeleton) (plane : IsPlaneSkeleton g) where
             let w = found p (leads (darts g) (dart_labels (darts g))) l in
             let t = of_lead w.0 w.1 in
             let b = and_parts (odd g (dart_labels (darts g)) w.0 (left_of_dart g w.0)) (same_cell (face_of (face_labels g) (left_of_dart g w.0)) f) w.2 in
-            inr (w.0, t.0, one_face g (left_of_dart g w.0) c plane (cells_exact.path _ f b.1), subst (λ l. Odd (weight_of g l (left_of_dart g w.0))) (sym t.1) (odd_is w.0 (left_of_dart g w.0) b.0))
+            inr (w.0, t.0, one_face g (left_of_dart g w.0) c plane (cells_exact.path _ f b.1), subst (λ l. Odd (weight_of g l (left_of_dart g w.0))) (sym t.1) (is_odd g w.0 (left_of_dart g w.0) b.0))
         | inr l ↦
             inl (same (same_cell (face_of (face_labels g) (top_cell g 0)) f) refl (omega arith))
       ]

@@ -1,4 +1,5 @@
 -- An edge between two places of one cycle: its two sides are two faces, told apart by the parity of either half of the cycle.
+-- g is without the edge e, h with it; L and M give the least dart of a cycle in g and in h; x and y are the darts of e, a is the dart that x comes after.
 use Rattle.std.proofs.Common.{◌≡◌, ℕ, ◌+◌, cond, Bool, true, false, arith, refl, sym, ap, ◌∙◌, subst, ◌⊎◌, inl, inr, List}
 use Rattle.std.specs.Prelude.{not, ◌&&◌}
 use lib.Dec.{ltb}
@@ -26,6 +27,7 @@ use Rattle.face_changes.proofs.LinkedCycles.{up, there}
 use Rattle.face_changes.proofs.CycleParities.{weight_of, halves_even, others_even, own_one}
 use Rattle.face_changes.proofs.OuterCycles.{own_weight}
 
+-- the two new orbits may change places
 pub swapped : {X : Type 0} (L M : X → X) (xs : List X) (d m a : X) → IsOrbitSplit L M xs d m a → IsOrbitSplit L M xs m d a
 swapped L M xs d m a s = record {
   two = λ q. s.two (sym q);
@@ -56,6 +58,7 @@ module _ (g : Skeleton) (hs : List Edge) (e : Edge) (plane : IsPlaneSkeleton (re
   pub old_up : (y : Dart) → IsDartOf g y → IsDartOf h y
   old_up y Y = up g h e plane_g plane more y Y
 
+  -- a face that is beside an old dart was beside it
   pub beside : (y : Dart) (c : SlabCell) → IsDartOf g y → SameFace h (left_of_dart h y) c → SameFace g (left_of_dart g y) (merged g e c)
   beside y c Y s = subst (λ d. SameFace g d (merged g e c)) (old_left y Y) (finer g hs e plane plane_g more _ c s)
 

@@ -1,4 +1,5 @@
--- The records where an edge is linked within one cycle.
+-- Where one more edge parts a cycle: records that are written as `IsSplitInto` says stand for cycles and faces again.
+-- v and f are the view and its faces before, w and s after; x is the dart of the fresh cycle, y its twin, a the dart that x comes after; g and h are the graphs that v and w draw.
 use Rattle.std.proofs.Common.{◌≡◌, ◌≢◌, ◌↔◌, Bool, true, false, refl, sym, ap, ◌∙◌, subst, ◌⊎◌, inl, inr}
 use Rattle.std.specs.Prelude.{not, map}
 use Rattle.std.specs.List.{Contains}

@@ -1,4 +1,4 @@
--- A plane graph in which an edge has become two, at a point inside it: faces, cycles and kinds are as they were.
+-- A plane graph in which an edge is split at a point inside it: faces, cycles and kinds are as they were.
 use Rattle.std.specs.Prelude.{◌≡◌, ◌≢◌, ◌↔◌, ◌⊎◌, ℕ, ◌+◌, Bool, true, cond, List, ◌||◌}
 use Rattle.std.specs.List.{Contains, count_by, sum_by}
 use Rattle.exact_plane.specs.Point.{Point}
@@ -43,7 +43,7 @@ pub record FollowsSplit (g h : Skeleton) (e : Edge) (p : Point) : Type 0 where
   pub backward : next (darts h) (back (upper_part e p)) ≡ back (lower_part e p)
   pub others : (d : Dart) → IsDartOf h d → d ≢ ahead (lower_part e p) → d ≢ back (upper_part e p) → whole_dart e p (next (darts h) d) ≡ next (darts g) (whole_dart e p d)
 
--- an edge in two leaves faces, cycles and kinds as they were
+-- where an edge is split, faces, cycles and kinds are as they were (CGAL manual, `split_edge`)
 pub record EdgeSplitInTwo : Type 0 where
   pub left : (g h : Skeleton) (e : Edge) (p : Point) (rest : List Edge) (t : Point) → HasEdgeSplit g h e p rest → HasWeight t → widened g p (left_cell h t) ≡ left_cell g t
   pub faces : (g h : Skeleton) (e : Edge) (p : Point) (rest : List Edge) (c d : SlabCell) → HasEdgeSplit g h e p rest → Contains (cells h) c → Contains (cells h) d → SameFace h c d ↔ SameFace g (widened g p c) (widened g p d)

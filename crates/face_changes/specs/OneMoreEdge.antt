@@ -1,4 +1,4 @@
--- Cells, faces and cycles of a plane graph h that has one edge more than g: x is either dart of that edge.
+-- Cells, faces and cycles of a plane graph with one more edge: g is without it, h with it, x is either of its darts, and a and b are the darts that x and its twin come after.
 use Rattle.std.specs.Prelude.{◌≡◌, ◌≢◌, ◌↔◌, ◌⊎◌, true, false, not, ◌||◌}
 use Rattle.std.specs.List.{Contains}
 use Rattle.exact_plane.specs.Point.{Point}
@@ -23,24 +23,24 @@ pub record IsOneMoreEdge (g h : Skeleton) (e : Edge) : Type 0 where
   pub plane_more : IsPlaneSkeleton h
   pub more : HasEdgeMore g h e
 
--- the cell c of h lies in the cell b of g
+-- the cell c of h lies in the cell b of g (this project)
 pub record LiesIn (g h : Skeleton) (e : Edge) (c b : SlabCell) : Type 0 where
   pub real : IsCell g e c
   pub in' : merged g e c ≡ b
 
--- the cell beside an old dart, the cell round a vertex, and the first cell lie in those of the graph without the edge; every listed cell lies in one
+-- the cell beside an old dart, the cell round a vertex, and the first cell lie in those of the graph without the edge; the cells beside the edge lie in some
 pub record CellsWithOneMoreEdge : Type 0 where
   pub dart : (g h : Skeleton) (x d : Dart) → IsOneMoreEdge g h x.edge → IsDartOf g d → LiesIn g h x.edge (left_of_dart h d) (left_of_dart g d)
   pub vertex : (g h : Skeleton) (x : Dart) (p : Point) → IsOneMoreEdge g h x.edge → Contains g.vertices p → LiesIn g h x.edge (left_cell h p) (left_cell g p)
   pub first : (g h : Skeleton) (x : Dart) → IsOneMoreEdge g h x.edge → LiesIn g h x.edge first_cell first_cell
   pub new : (g h : Skeleton) (x : Dart) → IsOneMoreEdge g h x.edge → IsCell g x.edge (left_of_dart h x)
 
--- two cells are in one face of h exactly where their cells in g are in one face of g, and both are on one side of the cycle of x (this project)
+-- two cells are in one face of h exactly where their cells in g are in one face of g, and the cycle of x has one parity at both (a discrete Jordan theorem; this project)
 abbrev pub FacesWithOneMoreEdge : Type 0
 FacesWithOneMoreEdge =
     (g h : Skeleton) (x : Dart) (c d b a : SlabCell) → IsOneMoreEdge g h x.edge → LiesIn g h x.edge c b → LiesIn g h x.edge d a → SameFace h c d ↔ (SameFace g b a × (odd_at h x c ≡ odd_at h x d))
 
--- where both darts of the edge are on one cycle, the faces are those of g; where they are not, the edge has two faces
+-- where both darts of the edge are on one cycle, the faces are those of g; where they are not, the cycle of x has different parities on both sides of the edge, so these are two faces
 pub record SidesOfOneMoreEdge : Type 0 where
   pub one : (g h : Skeleton) (x : Dart) (c d b a : SlabCell) → IsOneMoreEdge g h x.edge → lead_of h x ≡ lead_of h (twin x) → LiesIn g h x.edge c b → LiesIn g h x.edge d a → SameFace h c d ↔ SameFace g b a
   pub two : (g h : Skeleton) (x : Dart) → IsOneMoreEdge g h x.edge → lead_of h x ≢ lead_of h (twin x) → odd_at h x (left_of_dart h x) ≡ not (odd_at h x (left_of_dart h (twin x)))

@@ -1,4 +1,4 @@
--- A plane graph with a vertex more, on no edge: its wall parts cells, and no face.
+-- A plane graph with one more vertex, on no edge: its wall parts cells, and no face.
 use Rattle.std.specs.Prelude.{◌≡◌, ◌↔◌, ◌⊎◌, ◌+◌, ◌-◌, Bool, cond}
 use Rattle.std.specs.List.{Contains, count_by}
 use lib.Dec.{ltb}
@@ -26,7 +26,7 @@ pub record HasOneMoreVertex (g h : Skeleton) (v : Point) : Type 0 where
 abbrev pub widened : Skeleton → Point → SlabCell → SlabCell
 widened g v c = record { slab = cond (ltb (slab_left g v) c.slab) (c.slab - 1) c.slab; place = c.place }
 
--- cells of points and of darts; the same faces, cycles and kinds
+-- with one more vertex the cells of points and of darts lie in the old ones; faces, cycles and kinds are the same
 pub record OneMoreVertex : Type 0 where
   pub left : (g h : Skeleton) (v t : Point) → HasOneMoreVertex g h v → HasWeight t → widened g v (left_cell h t) ≡ left_cell g t
   pub right : (g h : Skeleton) (v t : Point) → HasOneMoreVertex g h v → HasWeight t → widened g v (right_cell h t) ≡ right_cell g t

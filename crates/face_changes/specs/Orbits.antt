@@ -1,4 +1,4 @@
--- What becomes of the orbits of a one-to-one map where two elements more are put in: L gives the old labels of orbits, M the new ones.
+-- What becomes of the orbits of a one-to-one map where two new elements d and m are put in: L gives the old labels of orbits, M the new ones.
 use Rattle.std.specs.Prelude.{◌≡◌, ◌⊎◌, List}
 use Rattle.std.specs.List.{Contains}
 

@@ -1,4 +1,4 @@
--- The records where an edge is linked within one cycle: `Splits`.
+-- The records where one more edge parts a cycle: the orbit of x is a fresh cycle, which is outer in a fresh face.
 use Rattle.std.specs.Prelude.{◌≡◌, ◌≢◌, ◌↔◌, ◌⊎◌, true}
 use Rattle.slab_laws.specs.declared.names.CycleId.{CycleId}
 use Rattle.slab_laws.specs.declared.names.CycleKind.TheVariants.{Outer}
@@ -13,7 +13,7 @@ use Rattle.face_changes.specs.Kinds.{odd_at, is_outer}
 use Rattle.face_changes.specs.OneMoreEdge.{IsOneMoreEdge, PartsCycle}
 use Rattle.face_changes.specs.FacesByPairs.{Item, beside, round, cell_at, first_or, AreFacesTold}
 
--- w has two darts more than v: x, which has become the dart of the fresh cycle, and y, its twin; they go within the cycle of the dart a
+-- w has two more darts than v: x, the dart of the fresh cycle, and y, its twin; x comes after the dart a, and the edge parts the cycle of a
 pub record IsLinkedWithin (v w : View) (x y a : DartId) : Type 0 where
   pub sound : IsGraphSound v
   pub sound_more : IsGraphSound w
@@ -56,7 +56,7 @@ pub record IsSplitInto (v w : View) (f s : Faces) (x y a : DartId) (fresh : Cycl
   pub bare_left : (u : VertexId) → HasVertex v u → bare_face_in f u ≡ face_in f (cycle_in f a) → ¬ IsWithin w x (round u) → bare_face_in s u ≡ face_in f (cycle_in f a)
   pub bare_off : (u : VertexId) → HasVertex v u → bare_face_in f u ≢ face_in f (cycle_in f a) → bare_face_in s u ≡ bare_face_in f u
 
--- so they are told: x's half must be outer
+-- so cycles and faces are told again; the half of x must be outer
 pub record RecordsAfterSplits : Type 0 where
   pub cycled : (v w : View) (f s : Faces) (x y a : DartId) (fresh : CycleId) (fresh_face : FaceId) → IsLinkedWithin v w x y a → IsComplete v f → IsCycled v f → IsSplitInto v w f s x y a fresh fresh_face → is_outer (skeleton_of w) (dart_in w x) ≡ true → IsCycled w s
   pub told : (v w : View) (f s : Faces) (x y a : DartId) (fresh : CycleId) (fresh_face : FaceId) → IsLinkedWithin v w x y a → IsComplete v f → IsCycled v f → AreFacesTold v f → IsSplitInto v w f s x y a fresh fresh_face → is_outer (skeleton_of w) (dart_in w x) ≡ true → AreFacesTold w s

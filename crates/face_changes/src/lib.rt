@@ -1,49 +1,62 @@
-//! What an edge more, or fewer, does to the cycles and faces of a plane graph.
+//! What a change of a plane graph does to its cycles and faces: one more edge, one more vertex, an edge split in two.
 //!
-//! Cycles are told by their least darts, faces by the cells that are in one. Each function is a law: its contract states it, and
-//! its body, being empty, computes nothing. The laws say what h, with an edge more, has by what g has; read the other way they
-//! say what is left where the edge goes.
+//! A cycle is told by its least dart, a face by the cells that are in it. The laws say what the graph h after the change has
+//! by what the graph g before it has; read the other way they say what is left where the edge or the vertex goes. Then the
+//! same of faces by name, as records keep them.
+//!
+//! Each function is a law: its contract states it, and its body, being empty, computes nothing. In the laws x is either dart
+//! of the edge, and a and b are the darts that x and its twin come after.
 #![tactic(auto)]
 
 ghost use Rattle.face_changes.specs.Kinds.{CyclesAreOfOneKind, OneOuterCycle};
 ghost use Rattle.face_changes.specs.OneMoreEdge.{CellsWithOneMoreEdge, FacesWithOneMoreEdge, SidesOfOneMoreEdge, CyclesWithOneMoreEdge};
+ghost use Rattle.face_changes.specs.OneMoreVertex.{OneMoreVertex};
+ghost use Rattle.face_changes.specs.EdgeSplit.{EdgeSplitInTwo};
 ghost use Rattle.face_changes.specs.FaceNames.{FaceNamesStay, FaceNamesPart, FaceNamesMerge};
 ghost use Rattle.face_changes.specs.FacesByPairs.{OuterCyclesFollow, FacesToldByPairs};
-ghost use Rattle.face_changes.specs.SoundExamples.{ViewsThatAreSound};
-ghost use Rattle.face_changes.specs.OneMoreVertex.{OneMoreVertex};
-ghost use Rattle.face_changes.specs.RecordsAfterSplits.{RecordsAfterSplits};
-ghost use Rattle.face_changes.specs.EdgeSplit.{EdgeSplitInTwo};
-ghost use Rattle.face_changes.specs.AddedWithinACycle.{AddedWithinACycle};
 ghost use Rattle.face_changes.specs.CycleNames.{NamesTellCycles};
+ghost use Rattle.face_changes.specs.RecordsAfterSplits.{RecordsAfterSplits};
+ghost use Rattle.face_changes.specs.AddedWithinACycle.{AddedWithinACycle};
+ghost use Rattle.face_changes.specs.SoundExamples.{ViewsThatAreSound};
 
-/// The darts of a cycle have one face on their left, and one kind.
+/// The darts of a cycle have one face on their left, and one kind, so that a kind may be read at any of them.
 pub fn cycles_are_of_one_kind()
     ensures { CyclesAreOfOneKind }
 {}
 
-/// No cycle bounds the unbounded face from outside, and just one bounds each other face.
+/// Each bounded face has exactly one outer cycle, and the unbounded face has none.
 pub fn one_outer_cycle()
     ensures { OneOuterCycle }
 {}
 
-/// Each cell that matters lies in one of the graph without the edge.
+/// The cells beside darts and round vertices, and the first cell, lie in those of the graph without the edge.
 pub fn cells_with_one_more_edge()
     ensures { CellsWithOneMoreEdge }
 {}
 
-/// The faces with an edge more are those without it, parted by the cycle of either of the edge's darts.
+/// Two cells are in one face exactly where they were, and where the cycle of x has one parity at both.
 pub fn faces_with_one_more_edge()
     ensures { FacesWithOneMoreEdge }
 {}
 
-/// The edge has one face on both sides where both its darts are on one cycle, and two else.
+/// Where both darts of the edge are on one cycle, the faces are the old ones; else the edge has a face on either side.
 pub fn sides_of_one_more_edge()
     ensures { SidesOfOneMoreEdge }
 {}
 
-/// What becomes of the cycles, by what is at both ends of the edge.
+/// By what is at both ends of the edge: a new hole, a cycle that grows, two cycles that are joined, one that is parted.
 pub fn cycles_with_one_more_edge()
     ensures { CyclesWithOneMoreEdge }
+{}
+
+/// With one more vertex, on no edge, faces, cycles and kinds are as they were.
+pub fn one_more_vertex()
+    ensures { OneMoreVertex }
+{}
+
+/// Where an edge is split at a point inside it, faces, cycles and kinds are as they were.
+pub fn edge_split_in_two()
+    ensures { EdgeSplitInTwo }
 {}
 
 /// Names go on telling faces where the edge has one face on both sides.
@@ -51,12 +64,12 @@ pub fn face_names_stay<I>()
     ensures { FaceNamesStay I }
 {}
 
-/// Names tell faces after one has fallen into two.
+/// Names tell faces where a face is parted, and what is within the cycle of x gets a fresh name.
 pub fn face_names_part<I>()
     ensures { FaceNamesPart I }
 {}
 
-/// Names tell faces after two have become one.
+/// Names tell faces where two faces become one, and what had the one name gets the other.
 pub fn face_names_merge<I>()
     ensures { FaceNamesMerge I }
 {}
@@ -71,29 +84,19 @@ pub fn faces_told_by_pairs()
     ensures { FacesToldByPairs }
 {}
 
-/// With a vertex more, on no edge, faces, cycles and kinds are as they were.
-pub fn one_more_vertex()
-    ensures { OneMoreVertex }
+/// The classes that `next` makes of the names of darts are the orbits of what the view draws.
+pub fn names_tell_cycles()
+    ensures { NamesTellCycles }
 {}
 
-/// Where an edge is linked within one cycle, records that are changed so stand for cycles and faces again.
+/// Where one more edge parts a cycle, records that are written accordingly stand for cycles and faces again.
 pub fn records_after_splits()
     ensures { RecordsAfterSplits }
 {}
 
-/// Where an edge has become two at a point inside it, faces, cycles and kinds are as they were.
-pub fn edge_split_in_two()
-    ensures { EdgeSplitInTwo }
-{}
-
-/// The records' own change for an edge more between two places of one cycle is as the law of splits asks.
+/// `add_edge` between two places of one cycle is what the law of records after splits asks.
 pub fn added_within_a_cycle()
     ensures { AddedWithinACycle }
-{}
-
-/// The classes that next makes of the names of darts are the orbits of what the view draws.
-pub fn names_tell_cycles()
-    ensures { NamesTellCycles }
 {}
 
 /// The empty plane with its one face is a sound view, and so is a triangle with its two.
