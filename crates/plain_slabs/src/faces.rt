@@ -143,7 +143,7 @@ fn add_face(
     Ok(())
 }
 
-// The faces by rank: the unbounded one, those with an outer cycle by its least dart, any others by their least cells.
+// The faces by rank: the unbounded one, then the others by the least darts of their outer cycles.
 pub(crate) fn faces_of(
     alloc: Global,
     points: &[Point],
