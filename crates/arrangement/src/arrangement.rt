@@ -1,15 +1,20 @@
 ghost use Rattle.std.specs.Prelude.{◌≡◌, ◌⊎◌, MatchOption, Ok, Err, IsOk, IfOk, OnOk, OnErr, true, false};
 ghost use Rattle.std.specs.List.{list_any};
+ghost use Rattle.plane_graphs.specs.Graph.{graph};
 ghost use Rattle.plane_graphs.specs.Line.{same_point};
 ghost use Rattle.edit_steps.specs.Edits.{Insert, Drop, Pin, Unpin, Split, Merge, ClearAll};
 ghost use Rattle.edit_steps.specs.Layer.{empty_layer};
 ghost use Rattle.curve_history.specs.declared.history.TheConstants.{LAST_CURVE};
+ghost use Rattle.curve_history.specs.Past.{held};
 ghost use Rattle.segment_insert.specs.Insertion.{refusal};
 ghost use Rattle.segment_remove.specs.Refused.{cut_between, cut_refusal, drop_refusal};
 ghost use Rattle.pin_points.specs.Pins.{refusal as pin_refusal};
 ghost use Rattle.pin_points.specs.Splits.{split_refusal};
 ghost use Rattle.pin_points.specs.Merges.{merge_refusal};
 ghost use Rattle.slab_laws.specs.Sound.{IsGraphSound, edge_between};
+ghost use Rattle.record_layers.specs.Kept.{IsLayer};
+ghost use Rattle.record_layers.specs.Named.{IsNamedBy};
+ghost use Rattle.arrangement.specs.declared.limits.TheConstants.{MAX_CURVES, MAX_PIECES, MAX_PINS};
 ghost use Rattle.arrangement.specs.Arranged.{Arranged, layer_in, AreLimits};
 ghost use Rattle.arrangement.specs.Edited.{IsEdited, IsAsBefore};
 
@@ -52,13 +57,19 @@ impl Model for Arrangement {
 }
 
 impl Arrangement {
-    /// A layer of nothing, whose first curve gets the number `limits.first`.
+    /// A layer of nothing, whose first curve gets the number `limits.first`. It takes no memory, and succeeds.
+    ///
+    /// At most 2,000 curves, 10,000 pieces and 10,000 pins can be asked for.
     ///
     /// # Errors
     ///
-    /// There was no memory for it.
+    /// None comes; a caller passes this on like other wants of memory.
     pub fn new(alloc: Global, limits: Limits) -> Result<Arrangement, NoMemory>
         requires { AreLimits limits }
+        ensures succeeds { IsOk result }
+        ensures curves { MAX_CURVES ≡ 2000 }
+        ensures pieces { MAX_PIECES ≡ 10000 }
+        ensures pins { MAX_PINS ≡ 10000 }
         ensures empty { IfOk result (λ a. layer_in a ≡ empty_layer limits.first) }
         ensures limits { IfOk result (λ a. a.limits ≡ limits) }
     {
@@ -216,9 +227,12 @@ impl Arrangement {
         clear(&mut self.records, &mut self.history);
     }
 
-    /// What is true of all arrangements: the records are sound, as calls on them ask (`zone_walk::zone`, for one).
+    /// What is true of all arrangements: the records are sound, as calls on them ask (`zone_walk::zone`, for one); with the
+    /// history they stand for the layer; and their names are those of the vertices, edges and pins of the present.
     pub fn laws(&self)
-        ensures { IsGraphSound self.now.graph }
+        ensures sound { IsGraphSound self.now.graph }
+        ensures layer { IsLayer self.now.graph self.now.past }
+        ensures named { IsNamedBy self.now.graph (held self.now.past) (graph (layer_in self.now).present) }
     {
         // Any use of a field tells what is kept.
         let _records = &self.records;

@@ -19,6 +19,7 @@ use exact_plane::Point;
 use no_memory::NoMemory;
 use plain_slabs::{Plain, count, hold, subdivide_of};
 use slab_laws::{Cell, CurveId, DartId, Darts, Strategy};
+use thiserror::Error;
 
 /// How many cells of each kind an arrangement has, and how many named curves.
 #[derive(Clone, Copy, Debug, PartialEq, Eq)]
@@ -34,11 +35,13 @@ pub struct Counts {
 }
 
 /// Why the curves of an edge can't be told.
-#[derive(Clone, Copy, Debug, PartialEq, Eq)]
+#[derive(Clone, Copy, Debug, PartialEq, Eq, Error)]
 pub enum EdgeError {
     /// No edge has these two ends.
+    #[error("no edge has these two ends")]
     NoEdge,
     /// There was no memory for the answer.
+    #[error("no memory")]
     NoMemory,
 }
 

@@ -5,3 +5,4 @@ pub mod Stays
 pub mod Grown
 pub mod Shrunk
 pub mod Names
+pub mod NamedLayers

@@ -4,6 +4,7 @@
 #![tactic(auto)]
 
 ghost use Rattle.record_layers.specs.Laws.{MadeIsRun, MadeInTurn, StepsMakeLayers, GrownNamesStay, ShrunkNamesStay, EditsGrowOrShrink, NothingIsALayer};
+ghost use Rattle.record_layers.specs.Named.{LayersAreNamed};
 
 /// After steps the records draw the graph after the steps, and are sound.
 pub fn made_is_run()
@@ -38,4 +39,9 @@ pub fn edits_grow_or_shrink()
 /// No records and a new history stand for the empty layer.
 pub fn nothing_is_a_layer()
     ensures { NothingIsALayer }
+{}
+
+/// Records that stand for a layer name the vertices, edges and pins of its present, and their history has its curves.
+pub fn layers_are_named()
+    ensures { LayersAreNamed }
 {}

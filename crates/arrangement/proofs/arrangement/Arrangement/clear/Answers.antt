@@ -1,4 +1,4 @@
-use Rattle.std.proofs.Common.{Ok, subst}
+use Rattle.std.proofs.Common.{subst}
 use Rattle.edit_steps.specs.Edits.{ClearAll}
 use Rattle.arrangement.specs.Arranged.{Arranged}
 use Rattle.arrangement.specs.Edited.{IsEdited}
