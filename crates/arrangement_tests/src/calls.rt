@@ -10,33 +10,32 @@ use std::alloc::Global;
 use std::test::Fail;
 
 /// A call of the arrangement with what it has to answer; points on the abscissa are told by their `x`.
-#[derive(Clone, Copy)]
 pub enum Call {
     Makes(Edit, Answer),
     HasCurves(i128, i128, &'static [CurveId]),
     HasNoEdge(i128, i128),
     HasEdges(u32, &'static [(i128, i128)]),
     IsUnknown(u32),
-    Counts([usize; 5]),
+    Counts([usize; 6]),
     IsOnEdge(i128, (i128, i128)),
     HasText(&'static [u8]),
 }
 
 fn is_right(layer: &mut Arrangement, call: &Call) -> Result<bool, Fail> {
-    match *call {
-        Call::Makes(edit, wanted) => Ok(apply(layer, edit)? == wanted),
-        Call::HasCurves(x, z, wanted) => has_curves(layer, x, z, wanted),
-        Call::HasNoEdge(x, z) => has_no_edge(layer, x, z),
-        Call::HasEdges(curve, wanted) => has_edges(layer, curve, wanted),
-        Call::IsUnknown(curve) => Ok(is_unknown(layer, curve)),
-        Call::Counts(wanted) => Ok(counted(layer)? == wanted),
-        Call::IsOnEdge(x, ends) => is_on_edge(layer, x, ends),
+    match call {
+        Call::Makes(edit, wanted) => Ok(apply(layer, *edit)? == *wanted),
+        Call::HasCurves(x, z, wanted) => has_curves(layer, *x, *z, wanted),
+        Call::HasNoEdge(x, z) => has_no_edge(layer, *x, *z),
+        Call::HasEdges(curve, wanted) => has_edges(layer, *curve, wanted),
+        Call::IsUnknown(curve) => Ok(is_unknown(layer, *curve)),
+        Call::Counts(wanted) => Ok(counted(layer)? == *wanted),
+        Call::IsOnEdge(x, ends) => is_on_edge(layer, *x, *ends),
         Call::HasText(wanted) => Ok(has_text(layer, wanted)?),
     }
 }
 
-// Makes the calls one after the other, and tells whether each answers as it has to.
-fn all_right(layer: &mut Arrangement, calls: &[Call]) -> Result<bool, Fail> {
+/// Makes the calls one after the other, and tells whether each answers as it has to.
+pub fn all_right(layer: &mut Arrangement, calls: &[Call]) -> Result<bool, Fail> {
     for call in calls {
         if !is_right(layer, call)? {
             return Ok(false);

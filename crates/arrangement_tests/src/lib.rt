@@ -8,6 +8,8 @@ mod calls;
 #[cfg(test)]
 mod edits;
 #[cfg(test)]
+mod limits;
+#[cfg(test)]
 mod rows;
 #[cfg(test)]
 mod zones;

@@ -8,12 +8,6 @@ const LAST_NUMBER: [Call; 2] = [
     Call::Makes(Edit::Insert(0, 0, 2, 0), Answer::Spent),
 ];
 
-#[test]
-fn the_last_number_is_drawn_once(rt: HostRuntime) -> Result<(), Fail> {
-    assert!(rt; are_right(rt.alloc(), Under::LastNumber, &LAST_NUMBER)?);
-    Ok(())
-}
-
 const LIMITS: [Call; 8] = [
     Call::Makes(Edit::Insert(0, 0, 6, 0), Answer::Drawn(4294967294)),
     Call::Makes(Edit::Insert(0, 0, 6, 0), Answer::Drawn(4294967295)),
@@ -24,12 +18,6 @@ const LIMITS: [Call; 8] = [
     Call::Makes(Edit::Pin(5, 0), Answer::Full(2)),
     Call::Makes(Edit::Unpin(5, 0), Answer::NotPinned),
 ];
-
-#[test]
-fn limits_are_kept(rt: HostRuntime) -> Result<(), Fail> {
-    assert!(rt; are_right(rt.alloc(), Under::TwoCurves, &LIMITS)?);
-    Ok(())
-}
 
 const PINNED_EDGE: [Call; 2] = [
     Call::Makes(Edit::Insert(0, 0, 4, 0), Answer::Drawn(1)),
@@ -53,35 +41,21 @@ const OVERLAPS: [Call; 10] = [
     Call::HasEdges(1, &[(0, 2), (2, 4), (4, 6)]),
     Call::HasEdges(2, &[(2, 4)]),
     Call::IsUnknown(3),
-    Call::Counts([4, 3, 1, 0, 2]),
+    Call::Counts([4, 3, 1, 1, 0, 2]),
     Call::IsOnEdge(3, (2, 4)),
 ];
-
-// Overlapping segments, one of which begins and ends inside an edge of the other.
-#[test]
-fn overlaps_have_both_curves(rt: HostRuntime) -> Result<(), Fail> {
-    assert!(rt; are_right(rt.alloc(), Under::Script, &OVERLAPS)?);
-    Ok(())
-}
 
 const PINS: [Call; 9] = [
     Call::Makes(Edit::Insert(0, 0, 4, 0), Answer::Drawn(1)),
     Call::Makes(Edit::Insert(0, 0, 4, 0), Answer::Drawn(2)),
     Call::Makes(Edit::Pin(3, 0), Answer::Done),
     Call::Makes(Edit::Pin(3, 3), Answer::Done),
-    Call::Counts([4, 2, 1, 1, 2]),
+    Call::Counts([4, 2, 1, 1, 1, 2]),
     Call::Makes(Edit::Unpin(3, 0), Answer::Done),
     Call::Makes(Edit::Unpin(3, 3), Answer::Done),
-    Call::Counts([2, 1, 1, 0, 2]),
+    Call::Counts([2, 1, 1, 1, 0, 2]),
     Call::HasCurves(0, 4, &[CurveId(1), CurveId(2)]),
 ];
-
-// A pin parts an edge, and without it the edge is one again; a pin in the open goes with its vertex.
-#[test]
-fn pins_come_and_go(rt: HostRuntime) -> Result<(), Fail> {
-    assert!(rt; are_right(rt.alloc(), Under::Script, &PINS)?);
-    Ok(())
-}
 
 const DIAGONALS: [Call; 7] = [
     Call::Makes(Edit::Insert(0, 0, 4, 0), Answer::Drawn(1)),
@@ -97,13 +71,6 @@ const DIAGONALS: [Call; 7] = [
         f 0\nh 1 2 5 4\nf 1\no 1 3 2\nf 2\no 1 4 3\nf 3\no 2 3 5\nf 4\no 3 4 5\nend\n",
     ),
 ];
-
-// A square with both diagonals.
-#[test]
-fn crossing_diagonals_have_their_text(rt: HostRuntime) -> Result<(), Fail> {
-    assert!(rt; are_right(rt.alloc(), Under::Script, &DIAGONALS)?);
-    Ok(())
-}
 
 const PIECES: [Call; 2] = [
     Call::Makes(Edit::Insert(2, 0, 4, 0), Answer::Drawn(1)),
@@ -126,7 +93,7 @@ const REMOVALS: [Call; 13] = [
     Call::Makes(Edit::Pin(4, 0), Answer::Done),
     Call::Makes(Edit::RemoveEdge(2, 4), Answer::Full(3)),
     Call::HasCurves(2, 4, &[CurveId(4294967294), CurveId(4294967295)]),
-    Call::Counts([4, 3, 1, 0, 2]),
+    Call::Counts([4, 3, 1, 1, 0, 2]),
     Call::Makes(Edit::RemoveEdge(0, 2), Answer::Done),
     Call::HasNoEdge(0, 2),
     Call::Makes(Edit::RemoveCurve(4294967294), Answer::Done),
@@ -134,13 +101,6 @@ const REMOVALS: [Call; 13] = [
     Call::IsUnknown(4294967294),
     Call::Makes(Edit::Insert(0, 0, 6, 0), Answer::Spent),
 ];
-
-// An edge inside two pieces can't go where that makes a piece too many.
-#[test]
-fn removals_keep_to_the_limits(rt: HostRuntime) -> Result<(), Fail> {
-    assert!(rt; are_right(rt.alloc(), Under::TwoCurves, &REMOVALS)?);
-    Ok(())
-}
 
 const SPLITS: [Call; 8] = [
     Call::Makes(Edit::Insert(0, 0, 4, 0), Answer::Drawn(1)),
@@ -150,11 +110,44 @@ const SPLITS: [Call; 8] = [
     Call::Makes(Edit::MergeEdge(1, 0), Answer::Done),
     Call::HasEdges(1, &[(0, 4)]),
     Call::Makes(Edit::Clear, Answer::Done),
-    Call::Counts([0, 0, 1, 0, 0]),
+    Call::Counts([0, 0, 1, 0, 0, 0]),
+];
+
+// Each with its limits and with what it shows.
+const TABLES: [(&str, Under, &[Call]); 7] = [
+    (
+        "the last number is drawn once",
+        Under::LastNumber,
+        &LAST_NUMBER,
+    ),
+    ("limits are kept", Under::TwoCurves, &LIMITS),
+    // One segment begins and ends inside an edge of the other.
+    (
+        "overlapping segments have both curves",
+        Under::Script,
+        &OVERLAPS,
+    ),
+    // A pin parts an edge, and without it the edge is one again; a pin in the open goes with its vertex.
+    ("pins come and go", Under::Script, &PINS),
+    // A square with both diagonals.
+    (
+        "crossing diagonals have their text",
+        Under::Script,
+        &DIAGONALS,
+    ),
+    // An edge inside two pieces can't go where that makes a piece too many.
+    ("removals keep to the limits", Under::TwoCurves, &REMOVALS),
+    (
+        "an edge goes in two and is one again",
+        Under::Script,
+        &SPLITS,
+    ),
 ];
 
 #[test]
-fn an_edge_goes_in_two_and_is_one_again(rt: HostRuntime) -> Result<(), Fail> {
-    assert!(rt; are_right(rt.alloc(), Under::Script, &SPLITS)?);
+fn an_arrangement_answers_as_each_table_says(rt: HostRuntime) -> Result<(), Fail> {
+    for (shown, under, calls) in &TABLES {
+        assert!(rt; are_right(rt.alloc(), *under, calls)?, "{shown}");
+    }
     Ok(())
 }

@@ -49,6 +49,8 @@ pub fn has_zone(
 ) -> Result<bool, Fail> {
     let segment = Segment::new(ends.0, 0, ends.1, 0)?;
     let plan = plan_of(alloc, layer, &segment)?;
-    Ok(meets(plan.vertices.as_slice(), points)?
-        && overlaps(layer.records(), plan.overlapped.as_slice(), edges)?)
+    Ok(
+        meets(plan.vertices.as_slice(), points)?
+            && overlaps(layer.records(), plan.overlapped.as_slice(), edges)?,
+    )
 }
