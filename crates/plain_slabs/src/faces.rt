@@ -143,7 +143,8 @@ fn add_face(
     Ok(())
 }
 
-// The faces by rank: the unbounded one, then the others by the least darts of their outer cycles.
+// The faces by rank: the unbounded one, then the others by the least darts of their outer cycles. The cells add none to these,
+// since every bounded face has an outer cycle.
 pub(crate) fn faces_of(
     alloc: Global,
     points: &[Point],

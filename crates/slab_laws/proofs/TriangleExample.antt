@@ -1,5 +1,5 @@
 -- One triangle computed: what its records say is what the model makes of the graph that they draw.
-use Rattle.std.proofs.Common.{◌≡◌, ℕ, Bool, true, false, pos, negsuc, refl}
+use Rattle.std.proofs.Common.{◌≡◌, ℕ, Bool, true, false, refl}
 use Rattle.integers.specs.Divisor.{gcd_within, gcd}
 use Rattle.plane_graphs.specs.Ascending.{place, ascending}
 use Rattle.plane_graphs.specs.Graph as graphs
