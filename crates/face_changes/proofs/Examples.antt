@@ -185,3 +185,38 @@ bridge = from (at (pos 0) (pos 2)) (at (pos 5) (pos 2))
 bridged-kinds : (is_outer of_bridged bridge ≡ false) × (together of_bridged bridge (twin bridge) ≡ true) × (together of_bridged (from (at (pos 0) (pos 0)) (at (pos 0) (pos 2))) (from (at (pos 5) (pos 0)) (at (pos 5) (pos 2))) ≡ true)
 unfolding opened
 bridged-kinds = (refl, refl, refl)
+
+-- ---- a square with a hole
+-- segment 0 0 8 0; segment 8 0 8 8; segment 0 8 8 8; segment 0 0 0 8; segment 3 3 6 5; show
+abbrev before_tied : Present
+before_tied = record { pieces = piece 1 (at (pos 0) (pos 0)) (at (pos 8) (pos 0)) ∷ piece 2 (at (pos 8) (pos 0)) (at (pos 8) (pos 8)) ∷ piece 3 (at (pos 0) (pos 8)) (at (pos 8) (pos 8)) ∷ piece 4 (at (pos 0) (pos 0)) (at (pos 0) (pos 8)) ∷ piece 5 (at (pos 3) (pos 3)) (at (pos 6) (pos 5)) ∷ []; pins = [] }
+
+before_tied-text : present_text before_tied ≡ codes "arrangement 6 5 2\nv 1 0 0 1 : 2 5\nv 2 0 8 1 : 1 6\nv 3 3 3 1 : 4\nv 4 6 5 1 : 3\nv 5 8 0 1 : 1 6\nv 6 8 8 1 : 2 5\ne 1 2 : 4\ne 1 5 : 1\ne 2 6 : 3\ne 3 4 : 5\ne 5 6 : 2\nf 0\nh 1 2 6 5\nf 1\no 1 5 6 2\nh 3 4\nend\n"
+unfolding opened
+before_tied-text = refl
+
+abbrev of_before_tied : Skeleton
+of_before_tied = skeleton (graph before_tied)
+
+abbrev hole : Dart
+hole = from (at (pos 3) (pos 3)) (at (pos 6) (pos 5))
+
+before_tied-kinds : (is_outer of_before_tied hole ≡ false) × (is_outer of_before_tied (from (at (pos 0) (pos 0)) (at (pos 8) (pos 0))) ≡ true)
+unfolding opened
+before_tied-kinds = (refl, refl)
+
+-- ---- the hole tied to the square: one cycle, which is outer
+-- segment 0 0 8 0; segment 8 0 8 8; segment 0 8 8 8; segment 0 0 0 8; segment 3 3 6 5; segment 0 0 3 3; show
+abbrev tied : Present
+tied = record { pieces = piece 1 (at (pos 0) (pos 0)) (at (pos 8) (pos 0)) ∷ piece 2 (at (pos 8) (pos 0)) (at (pos 8) (pos 8)) ∷ piece 3 (at (pos 0) (pos 8)) (at (pos 8) (pos 8)) ∷ piece 4 (at (pos 0) (pos 0)) (at (pos 0) (pos 8)) ∷ piece 5 (at (pos 3) (pos 3)) (at (pos 6) (pos 5)) ∷ piece 6 (at (pos 0) (pos 0)) (at (pos 3) (pos 3)) ∷ []; pins = [] }
+
+tied-text : present_text tied ≡ codes "arrangement 6 6 2\nv 1 0 0 1 : 2 3 5\nv 2 0 8 1 : 1 6\nv 3 3 3 1 : 1 4\nv 4 6 5 1 : 3\nv 5 8 0 1 : 1 6\nv 6 8 8 1 : 2 5\ne 1 2 : 4\ne 1 3 : 6\ne 1 5 : 1\ne 2 6 : 3\ne 3 4 : 5\ne 5 6 : 2\nf 0\nh 1 2 6 5\nf 1\no 1 3 4 3 1 5 6 2\nend\n"
+unfolding opened
+tied-text = refl
+
+abbrev of_tied : Skeleton
+of_tied = skeleton (graph tied)
+
+tied-kinds : (is_outer of_tied hole ≡ true) × (together of_tied hole (from (at (pos 0) (pos 0)) (at (pos 8) (pos 0))) ≡ true)
+unfolding opened
+tied-kinds = (refl, refl)
