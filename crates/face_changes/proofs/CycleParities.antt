@@ -16,6 +16,8 @@ use Rattle.slab_laws.specs.Rotation.{twin, same_dart}
 use Rattle.slab_laws.specs.Cycles.{dart_labels, darts_on}
 use Rattle.slab_laws.specs.Rows.{lead_of}
 use Rattle.slab_faces.proofs.Sums.{each, even_sum, sum_by-same, sum_by-plus}
+use Rattle.slab_faces.proofs.Parity.{even_if}
+use Rattle.slab_faces.proofs.OuterCycles.{cond_plus}
 use Rattle.slab_faces.proofs.NextLemmas.{darts_exact}
 use Rattle.sound_links.specs.Next.{HasEdgeMore, IsDartOf}
 use Rattle.face_changes.specs.Orbits.{IsOrbitSplit, AreOrbitsUnited}
@@ -43,19 +45,11 @@ pub choose : (d e : Dart) → (d ≡ e) ⊎ (d ≡ e → ⊥)
 choose d e = elim (cases_Bool (same_dart d e)) [ inl t ↦ inl (darts_exact.path d e t) | inr t ↦ inr (λ q. false≢true (sym t ∙ same_is d e q)) ]
 
 -- ---- sums of weights
-cond_plus : (a : Bool) (m n : ℕ) → cond a (m + n) 0 ≡ cond a m 0 + cond a n 0
-cond_plus true m n = refl
-cond_plus false m n = refl
-
 pub weights_plus : (g : Skeleton) (m n : Edge → ℕ) (i j : ℕ) → weight_above g (λ z. m z + n z) i j ≡ weight_above g m i j + weight_above g n i j
 weights_plus g m n i j =
     sum_by-same (λ z. cond (spans g i z && leb j (place g i z)) (m z + n z) 0) (λ z. cond (spans g i z && leb j (place g i z)) (m z) 0 + cond (spans g i z && leb j (place g i z)) (n z) 0) g.edges
     (each (λ z. cond (spans g i z && leb j (place g i z)) (m z + n z) 0 ≡ cond (spans g i z && leb j (place g i z)) (m z) 0 + cond (spans g i z && leb j (place g i z)) (n z) 0) g.edges (λ z _. cond_plus (spans g i z && leb j (place g i z)) (m z) (n z)))
     ∙ sum_by-plus (λ z. cond (spans g i z && leb j (place g i z)) (m z) 0) (λ z. cond (spans g i z && leb j (place g i z)) (n z) 0) g.edges
-
-even_if : (b : Bool) (n : ℕ) → Even n → Even (cond b n 0)
-even_if true n h = h
-even_if false n h = refl
 
 pub weights_even : (g : Skeleton) (m : Edge → ℕ) (i j : ℕ) → ((z : Edge) → Contains g.edges z → Even (m z)) → Even (weight_above g m i j)
 weights_even g m i j h =

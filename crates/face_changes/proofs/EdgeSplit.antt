@@ -50,6 +50,7 @@ use lib.Signed.{lt_z}
 use Rattle.integers.proofs.Reify.{ring, sides}
 use Rattle.edge_fans.specs.Parts.{lower_part, upper_part}
 use Rattle.edge_fans.proofs.Factors.{same_above}
+use Rattle.plane_graphs.proofs.Lists.{both_ways}
 use Rattle.slab_laws.specs.Meets.{covers_above}
 use Rattle.sound_splits.proofs.Inside.{MeanOf, mean_of, inside_out, lower_side, upper_side, lower_right, upper_right}
 use Rattle.slab_faces.proofs.Walls.{run_positive, side-upper, lower_than-before, lower_than-asym}
@@ -444,13 +445,8 @@ module _ (g : Skeleton) (hv : List Point) (hs : List Edge) (e : Edge) (v : Point
       ∙ ap (λ b. cond (b && o) n 0) (same_spans g h v new e E i)
 
   -- ---- above or below, at a point inside a slab
-  test : (b c : Bool) → (b ≡ true → c ≡ true) → (c ≡ true → b ≡ true) → b ≡ c
-  test true c f k = sym (f refl)
-  test false true f k = k refl
-  test false false f k = refl
-
   below_by : (s : Skeleton) → IsPlaneSkeleton s → (x y : Edge) (M : Point) → Contains s.edges x → Contains s.edges y → HasWeight M → IsThrough x M → IsThrough y M → below x y ≡ lt_z (pos 0) (gap x y M)
-  below_by s pl x y M X Y K a b = test (below x y) (lt_z (pos 0) (gap x y M)) (λ k. let q = gap_at s x y M pl X Y K a b k in sym (omega (arith, ints))) (λ k. below_at s x y M pl X Y K a b (omega (arith, ints)))
+  below_by s pl x y M X Y K a b = both_ways (below x y) (lt_z (pos 0) (gap x y M)) (λ k. let q = gap_at s x y M pl X Y K a b k in sym (omega (arith, ints))) (λ k. below_at s x y M pl X Y K a b (omega (arith, ints)))
 
   data PartOf (q : Edge) : Type 0 where
     is_lower : q ≡ lower_part e v → PartOf q
@@ -774,8 +770,8 @@ module _ (g : Skeleton) (hv : List Point) (hs : List Edge) (e : Edge) (v : Point
       abbrev k : Edge → ℕ
       k = darts_on (dart_labels (darts g)) (lead_of g (whole d))
 
-      both_ways : (z y : Edge) → Contains hs z → ((fw : Bool) → whole (record { edge = z; forward = fw }) ≡ (record { edge = y; forward = fw })) → n z ≡ k y
-      both_ways z y Z w =
+      one_count : (z y : Edge) → Contains hs z → ((fw : Bool) → whole (record { edge = z; forward = fw }) ≡ (record { edge = y; forward = fw })) → n z ≡ k y
+      one_count z y Z w =
           let a = on_edge h (M d) z in
           let b = on_edge g (L (whole d)) y in
           let p : tally (same_dart (M (record { edge = z; forward = true })) (M d)) ≡ tally (same_dart (L (record { edge = y; forward = true })) (L (whole d))) = ap tally (same_test (record { edge = z; forward = true }) d Z D ∙ ap (λ x. same_dart (L x) (L (whole d))) (w true)) in
@@ -784,8 +780,8 @@ module _ (g : Skeleton) (hv : List Point) (hs : List Edge) (e : Edge) (v : Point
 
       weight_same : (i : ℕ) (K : Point) (j : ℕ) → IsSlab h i K → weight_above h n i j ≡ weight_above g k (narrow g v i) j
       weight_same i K j slab =
-          weight_parted i K slab n k j (both_ways (lower_part e v) e Low whole_low) (both_ways (upper_part e v) e High whole_high)
-          (λ z Z. both_ways z z (kept_edge z Z) (λ fw. whole_rest (record { edge = z; forward = fw }) Z))
+          weight_parted i K slab n k j (one_count (lower_part e v) e Low whole_low) (one_count (upper_part e v) e High whole_high)
+          (λ z Z. one_count z z (kept_edge z Z) (λ fw. whole_rest (record { edge = z; forward = fw }) Z))
 
       odd_same : (c : SlabCell) → ((K : Point) × IsSlab h c.slab K) → odd h (dart_labels (darts h)) (M d) c ≡ odd g (dart_labels (darts g)) (L (whole d)) (widened g v c)
       unfolding odd narrow

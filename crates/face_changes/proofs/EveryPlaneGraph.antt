@@ -24,11 +24,11 @@ use Rattle.sound_links.proofs.Next.{next_with_an_edge_more}
 use Rattle.face_changes.specs.Orbits.{AreOrbitsKept}
 use Rattle.face_changes.proofs.EdgeOrder.{finer}
 use Rattle.sound_rings.proofs.Turned.{twin_twice}
-use Rattle.face_changes.proofs.LinkedCycles.{dart_there, either, parts, joins, grows, apart}
+use Rattle.face_changes.proofs.LinkedCycles.{up, dart_there, either, parts, joins, grows, apart}
 use Rattle.face_changes.proofs.CycleParities.{weight_of, choose, same_is, same_not, on_edge, weights_even, one_even, own_even}
 use Rattle.face_changes.proofs.MergedCells.{not_there}
 use Rattle.face_changes.proofs.OuterCycles.{own_weight, cycle_face}
-use Rattle.face_changes.proofs.PartedCycle.{old_left, real_left, old_up, beside}
+use Rattle.face_changes.proofs.PartedCycle.{old_left, real_left, beside}
 use Rattle.face_changes.proofs.OneOuterKept.{IsOuterOnce, split_once, kept_once, united_once}
 
 module _ (g : Skeleton) (hs : List Edge) (e : Edge) (plane : IsPlaneSkeleton (record { vertices = g.vertices; edges = hs })) (plane_g : IsPlaneSkeleton g) (more : HasEdgeMore g (record { vertices = g.vertices; edges = hs }) e) where
@@ -45,7 +45,7 @@ module _ (g : Skeleton) (hs : List Edge) (e : Edge) (plane : IsPlaneSkeleton (re
   pub near : (x a : Dart) → IsDartOf g a → x.edge ≡ e → ComesBetween g a x → SameFace g (left_of_dart g a) (merged g e (left_of_dart h x))
   near x a A q k =
       let n : IsNextWithMore g h e = next_with_an_edge_more g h e plane_g plane more in
-      beside g hs e plane plane_g more a (left_of_dart h x) A (subst (λ z. SameFace h (left_of_dart h a) (left_of_dart h z)) (n.between a x A q k) (next_keeps_face h a plane (old_up g hs e plane plane_g more a A)))
+      beside g hs e plane plane_g more a (left_of_dart h x) A (subst (λ z. SameFace h (left_of_dart h a) (left_of_dart h z)) (n.between a x A q k) (next_keeps_face h a plane (up g h e plane_g plane more a A)))
 
   -- ---- the old cycles stay, and x and its twin are on one cycle
   module _ (x : Dart) (q : x.edge ≡ e) (kept : AreOrbitsKept L M (darts g)) (one : M x ≡ M (twin x)) where
@@ -53,7 +53,7 @@ module _ (g : Skeleton) (hs : List Edge) (e : Edge) (plane : IsPlaneSkeleton (re
     pub same_kind : (y : Dart) → IsDartOf g y → Even (own_weight h y + own_weight g y)
     same_kind y Y =
         let c = left_of_dart h y in
-        let p = one_even g hs e plane plane_g more (M y) (L y) c (real_left g hs e plane plane_g more y (old_up g hs e plane plane_g more y Y)) (own_even g hs e plane plane_g more x q one (M y))
+        let p = one_even g hs e plane plane_g more (M y) (L y) c (real_left g hs e plane plane_g more y (up g h e plane_g plane more y Y)) (own_even g hs e plane plane_g more x q one (M y))
         (λ z Z. elim (choose (L z) (L y)) [
           | inl r ↦ same_is (M z) (M y) (kept.still z y (dart_there g z Z) (dart_there g y Y) r) ∙ sym (same_is (L z) (L y) r)
           | inr r ↦ same_not (M z) (M y) (λ k. r (kept.kept z y (dart_there g z Z) (dart_there g y Y) k)) ∙ sym (same_not (L z) (L y) r)

@@ -108,20 +108,17 @@ module _ (g : Skeleton) (hv : List Point) (v : Point) (m : HasOneMoreVertex g (r
 
   dart_by : (f : Edge) (b fw : Bool) → Contains g.edges f → widened g v (cell_by h f b fw) ≡ cell_by g f b fw
   unfolding narrow
-  dart_by f true true F = λ k. record { slab = slab_of k; place = (place_of k) + 1 }
+  dart_by f true fw F = go fw
     where
       slab_of : narrow g v (slab_right h f.low) ≡ slab_right g f.low
       slab_of = narrow_right g h v new f.low (plane_g.proper_edge f F).0
 
       place_of : place h (slab_right h f.low) f ≡ place g (slab_right g f.low) f
       place_of = same_place f (slab_right h f.low) ∙ ap (λ i. place g i f) slab_of
-  dart_by f true false F = λ k. record { slab = slab_of k; place = place_of k }
-    where
-      slab_of : narrow g v (slab_right h f.low) ≡ slab_right g f.low
-      slab_of = narrow_right g h v new f.low (plane_g.proper_edge f F).0
 
-      place_of : place h (slab_right h f.low) f ≡ place g (slab_right g f.low) f
-      place_of = same_place f (slab_right h f.low) ∙ ap (λ i. place g i f) slab_of
+      go : (fw : Bool) → widened g v (cell_by h f true fw) ≡ cell_by g f true fw
+      go true = λ k. record { slab = slab_of k; place = (place_of k) + 1 }
+      go false = λ k. record { slab = slab_of k; place = place_of k }
   dart_by f false true F = left_widened g h v new alike f.low (plane_g.proper_edge f F).0
   dart_by f false false F = right_widened g h v new alike f.low (plane_g.proper_edge f F).0
 

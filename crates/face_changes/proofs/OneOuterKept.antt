@@ -23,11 +23,11 @@ use Rattle.sound_links.specs.Next.{HasEdgeMore, IsDartOf}
 use Rattle.face_changes.specs.Orbits.{IsOrbitSplit, AreOrbitsUnited}
 use Rattle.face_changes.proofs.EdgeOrder.{finer}
 use Rattle.sound_rings.proofs.Turned.{twin_twice}
-use Rattle.face_changes.proofs.LinkedCycles.{dart_there, there, either}
+use Rattle.face_changes.proofs.LinkedCycles.{up, dart_there, there, either}
 use Rattle.face_changes.proofs.CycleParities.{weight_of, choose, whole_even, rest_even}
 use Rattle.slab_faces.proofs.ListedCells.{dart_cell}
 use Rattle.face_changes.proofs.OuterCycles.{Odd, own_weight, cycle_face, one_kind, outer_there}
-use Rattle.face_changes.proofs.PartedCycle.{swapped, old_left, real_left, old_up, beside, first_stays, two_faces, kinds, other_kind}
+use Rattle.face_changes.proofs.PartedCycle.{swapped, old_left, real_left, beside, first_stays, two_faces, kinds, other_kind}
 
 -- two outer cycles of one face are one, and the unbounded face has none
 pub record IsOuterOnce (g : Skeleton) : Type 0 where
@@ -269,7 +269,7 @@ module _ (g : Skeleton) (hs : List Edge) (e : Edge) (plane : IsPlaneSkeleton (re
     pub sum_kind : (y : Dart) → IsDartOf g y → M y ≡ M x → Even (own_weight h y + own_weight g a + own_weight g b)
     sum_kind y Y k =
         let c = left_h y in
-        let p = whole_even g hs e plane plane_g more x q a b two s c (real_left g hs e plane plane_g more y (old_up g hs e plane plane_g more y Y)) in
+        let p = whole_even g hs e plane plane_g more x q a b two s c (real_left g hs e plane plane_g more y (up g h e plane_g plane more y Y)) in
         let r : weight_of h (M x) c ≡ own_weight h y = ap (λ l. weight_of h l c) (sym k) in
         let f : SameFace g (merged g e c) (merged g e (left_h x)) = finer g hs e plane plane_g more c (left_h x) (cycle_face h plane y x k) in
         let u = cycle_parity g (L a) (merged g e c) (left_g a) plane_g (face_trans g _ _ _ f near_a) in
@@ -279,7 +279,7 @@ module _ (g : Skeleton) (hs : List Edge) (e : Edge) (plane : IsPlaneSkeleton (re
     -- a dart of no joined cycle has the kind that it had
     pub rest_kind : (y : Dart) → IsDartOf g y → (M y ≡ M x → ⊥) → Even (own_weight h y + own_weight g y)
     rest_kind y Y ne =
-        let p = rest_even g hs e plane plane_g more x q a b two s y Y ne (left_h y) (real_left g hs e plane plane_g more y (old_up g hs e plane plane_g more y Y)) in
+        let p = rest_even g hs e plane plane_g more x q a b two s y Y ne (left_h y) (real_left g hs e plane plane_g more y (up g h e plane_g plane more y Y)) in
         let k : weight_of g (L y) (merged g e (left_h y)) ≡ own_weight g y = ap (weight_of g (L y)) (old_left g hs e plane plane_g more y Y) in
         omega arith
 

@@ -55,9 +55,6 @@ module _ (g : Skeleton) (hs : List Edge) (e : Edge) (plane : IsPlaneSkeleton (re
   pub real_left : (y : Dart) → IsDartOf h y → IsCell g e (left_of_dart h y)
   real_left y Y = dart_real g hs e plane plane_g more y.edge y.forward Y
 
-  pub old_up : (y : Dart) → IsDartOf g y → IsDartOf h y
-  old_up y Y = up g h e plane_g plane more y Y
-
   -- a face that is beside an old dart was beside it
   pub beside : (y : Dart) (c : SlabCell) → IsDartOf g y → SameFace h (left_of_dart h y) c → SameFace g (left_of_dart g y) (merged g e c)
   beside y c Y s = subst (λ d. SameFace g d (merged g e c)) (old_left y Y) (finer g hs e plane plane_g more _ c s)
@@ -169,6 +166,6 @@ module _ (g : Skeleton) (hs : List Edge) (e : Edge) (plane : IsPlaneSkeleton (re
     -- a dart of no half has the kind that it had
     pub other_kind : (z : Dart) → IsDartOf g z → (L z ≡ L a → ⊥) → Even (own_weight h z + own_weight g z)
     other_kind z Z ne =
-        let p = others_even g hs e plane plane_g more x q a by_twin z Z ne (left_of_dart h z) (real_left z (old_up z Z)) in
+        let p = others_even g hs e plane plane_g more x q a by_twin z Z ne (left_of_dart h z) (real_left z (up g h e plane_g plane more z Z)) in
         let k : weight_of g (L z) (merged g e (left_of_dart h z)) ≡ own_weight g z = ap (weight_of g (L z)) (old_left z Z) in
         omega arith

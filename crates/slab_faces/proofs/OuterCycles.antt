@@ -44,7 +44,7 @@ cond_turn true false n = refl
 cond_turn false true n = refl
 cond_turn false false n = refl
 
-cond_plus : (a : Bool) (m n : ℕ) → cond a (m + n) 0 ≡ cond a m 0 + cond a n 0
+pub cond_plus : (a : Bool) (m n : ℕ) → cond a (m + n) 0 ≡ cond a m 0 + cond a n 0
 cond_plus true m n = refl
 cond_plus false m n = refl
 

@@ -45,9 +45,9 @@ same_point_refl p = and_from _ _ (and_from _ _ ((Decides-int_eq p.x p.x).1 refl)
 abbrev pub is_over : Point → Point → Bool
 is_over t v = (not (left_of v t) && not (left_of t v)) && lower_than t v
 
-either : (b : Bool) (n : ℕ) → Even n → Even (cond b n 0)
-either true n h = h
-either false n h = refl
+pub even_if : (b : Bool) (n : ℕ) → Even n → Even (cond b n 0)
+even_if true n h = h
+even_if false n h = refl
 
 -- each vertex above t has an even sum of weights, so all of them have
 even_vertices : (g : Skeleton) (m : Edge → ℕ) (t : Point) → IsEvenAtVertices g m → Even (sum_by (λ v. sum_by (λ e. cond (is_over t v) (at_end m v e) 0) g.edges) g.vertices)
@@ -55,7 +55,7 @@ even_vertices g m t even =
     even_sum _ g.vertices (each _ g.vertices (λ v in'. at (is_over t v) (at_end m v) g.edges (even.even_at v in')))
   where
     at : (b : Bool) (f : Edge → ℕ) (es : List Edge) → Even (sum_by f es) → Even (sum_by (λ e. cond b (f e) 0) es)
-    at b f es h = rw (← cond-sum_by b f es) (either b (sum_by f es) h)
+    at b f es h = rw (← cond-sum_by b f es) (even_if b (sum_by f es) h)
 
 -- the vertices above t count, for an edge, its ends among them
 ends_above : (g : Skeleton) (m : Edge → ℕ) (t : Point) (e : Edge) → IsPlaneSkeleton g → Contains g.edges e → sum_by (λ v. cond (is_over t v) (at_end m v e) 0) g.vertices ≡ cond (is_over t e.low) (m e) 0 + cond (is_over t e.high) (m e) 0

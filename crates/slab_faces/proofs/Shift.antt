@@ -13,7 +13,7 @@ use Rattle.slab_faces.proofs.Sums.{each, sum_by-same, sum_by-swap, sum_by-plus, 
 use Rattle.slab_faces.proofs.Found.{found}
 
 -- the terms of a sum are at most those of another with the same total: they are the same
-all_met : {X : Type 0} (f g : X → ℕ) (xs : List X) → All (λ x. f x ≤ g x) xs → sum_by g xs ≤ sum_by f xs → All (λ x. f x ≡ g x) xs
+pub all_met : {X : Type 0} (f g : X → ℕ) (xs : List X) → All (λ x. f x ≤ g x) xs → sum_by g xs ≤ sum_by f xs → All (λ x. f x ≡ g x) xs
 all_met f g xs h t = λ k d l.
     let a = get_or-le-sum_by (λ x. g x - f x) xs k d l in
     let b : sum_by g xs ≡ sum_by (λ x. f x + (g x - f x)) xs = sum_by-same g (λ x. f x + (g x - f x)) xs (λ k d l. let p : f (get_or xs k d) ≤ g (get_or xs k d) = h k d l in omega arith) in
