@@ -7,8 +7,6 @@
 mod chains;
 mod links;
 mod node;
-#[cfg(test)]
-mod tests;
 
 pub use chains::Chains;
 pub use node::Entry;
