@@ -230,9 +230,6 @@ module _ (v w : View) (f s : Faces) (x y a : DartId) (fresh : CycleId) (fresh_fa
     abbrev next : (i : Item) × HasItem w i → FaceId
     next i = name_at s i.0
 
-    abbrev F : FaceId
-    F = face_in f (cycle_in f a)
-
     told_before : NamesTellFaces g old_cell name
     told_before i j =
         let q = t.same (rep i.0 i.1) (rep j.0 j.1) (rep_there i.0 i.1) (rep_there j.0 j.1) in (

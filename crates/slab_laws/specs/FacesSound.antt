@@ -52,7 +52,7 @@ pub record IsCycled (v : View) (f : Faces) : Type 0 where
 abbrev pub IsOuterOf : Faces → FaceId → CycleId → Type 0
 IsOuterOf f a c = HasCycle f c × (face_in f c ≡ a) × (kind_in f c ≡ Outer)
 
--- the least cell of a face that a record names; what bounds or holds something in it says which
+-- the least cell of a face that a record names; what bounds or holds something in it says which. That outer cycles are as told here follows from the rest
 pub record IsFaced (v : View) (f : Faces) (cell : FaceId → SlabCell) : Type 0 where
   pub unbounded : (a : FaceId) → HasFace f a → ((b : FaceId) → HasFace f b → b.0 < a.0 → ⊥) → (cell a ≡ face_of (face_labels (skeleton_of v)) first_cell) × ((c : CycleId) → ¬ IsOuterOf f a c)
   pub bounded : (a b : FaceId) → HasFace f a → HasFace f b → b.0 < a.0 → (c : CycleId) × IsOuterOf f a c × ((e : CycleId) → IsOuterOf f a e → e ≡ c)
