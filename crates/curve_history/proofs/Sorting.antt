@@ -1,33 +1,21 @@
 -- Curves in the order of their numbers.
-use Rattle.std.proofs.Common.{◌≡◌, ℕ, Bool, false, cond, List, [], ◌∷◌, map, Ordering, Less, refl, sym, ap, ◌∙◌, subst, inl, inr}
-use Rattle.std.specs.List.{AllByRecursion, IsDistinct, dedup, dedup_from}
-use Rattle.std.specs.List.Sorted.{IsPermutation, IsSorted, IsStrictlySortedBy}
+use Rattle.std.proofs.Common.{◌≡◌, ℕ, false, List, [], ◌∷◌, map, Ordering, Less, sym, subst, inl, inr}
+use Rattle.std.specs.List.{AllByRecursion, IsDistinct}
+use Rattle.std.specs.List.Sorted.{IsPermutation, IsSorted}
 use Rattle.std.specs.Ordering.{eq_by_cmp, nat_cmp}
 use Rattle.std.specs.Cmp.{IsTotalOrder, on_total}
 use Rattle.std.proofs.lemmas.Bool.{false_from_ne_true}
-use Rattle.std.proofs.lemmas.Cmp.{eq_by_cmp_equiv, nat_cmp_total}
-use Rattle.std.proofs.lemmas.List.Kept.{IsStrictlySortedBy-dedup}
+use Rattle.std.proofs.lemmas.Cmp.{nat_cmp_total}
 use Rattle.std.proofs.lemmas.List.Sorted.{Contains-permutation, IsPermutation-sym}
-use Rattle.std.proofs.lemmas.Map.Keys.{IsDistinct-IsPermutation}
 use Rattle.plane_graphs.specs.Ascending.{ascending, IsAscending, Member}
-use Rattle.plane_graphs.proofs.Ascending.{from_std, to_member, from_member, ascending_unique, IsAscending-ascending}
+use Rattle.plane_graphs.proofs.Ascending.{to_member, from_member, ascending_unique, IsAscending-ascending}
 use Rattle.plane_graphs.proofs.Lists.{in_map, of_map}
 use Rattle.plane_graphs.proofs.Lists as lists
 use Rattle.plane_graphs.proofs.Order.{curve_out}
+use Rattle.plane_graphs.proofs.Sorting.{sorted_ascends}
 use Rattle.slab_laws.specs.declared.names.CurveId.{CurveId}
 use Rattle.curve_history.proofs.Reading.{exact}
 use Rattle.curve_history.proofs.Walking.{AreApart}
-
--- ---- a list whose elements differ loses none to `dedup`
-module _ {X : Type 0} (same : X → X → Bool) (flips : (x y : X) → same x y ≡ same y x) where
-  kept_from : (x : X) (xs : List X) → IsDistinct same (x ∷ xs) → dedup_from same x xs ≡ x ∷ xs
-  unfolding IsDistinct
-  kept_from x [] h = refl
-  kept_from x (y ∷ ys) h = ap (λ b. cond b (dedup_from same x ys) (x ∷ dedup_from same y ys)) (flips y x ∙ h.0.0) ∙ ap (λ zs. x ∷ zs) (kept_from y ys h.1)
-
-  all_kept : (xs : List X) → IsDistinct same xs → dedup same xs ≡ xs
-  all_kept [] h = refl
-  all_kept (x ∷ xs) h = kept_from x xs h
 
 abbrev by_number : CurveId → CurveId → Ordering
 by_number x y = nat_cmp x.0 y.0
@@ -54,9 +42,7 @@ pub sorted_curves : (us vs : List CurveId) → AreApart (map (λ (c : CurveId). 
 sorted_curves us vs a p s =
     let num : CurveId → ℕ = λ (c : CurveId). c.0 in
     let o : IsTotalOrder by_number = on_total num nat_cmp_total in
-    let d : IsDistinct (eq_by_cmp by_number) vs = IsDistinct-IsPermutation (eq_by_cmp by_number) (eq_by_cmp_equiv o).symm us vs p (all_differ us a) in
-    let k : dedup (eq_by_cmp by_number) vs ≡ vs = all_kept (eq_by_cmp by_number) (eq_by_cmp_equiv o).symm vs d in
-    let up : IsAscending by_number vs = from_std by_number vs (subst (IsStrictlySortedBy by_number) k (IsStrictlySortedBy-dedup o (λ x y. refl) vs s)) in
+    let up : IsAscending by_number vs = sorted_ascends by_number o us vs (all_differ us a) p s in
     let there : (c : CurveId) → Member c us → Member c vs = λ c m. to_member vs c (Contains-permutation us vs c p (from_member us c m)) in
     let back : (c : CurveId) → Member c vs → Member c us = λ c m. to_member us c (Contains-permutation vs us c (IsPermutation-sym us vs p) (from_member vs c m)) in
     ascending_unique nat_cmp nat_cmp_total (map num vs) (ascending nat_cmp (map num us)) (numbers_ascend vs up) (IsAscending-ascending nat_cmp nat_cmp_total (map num us))
