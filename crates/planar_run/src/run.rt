@@ -2,6 +2,7 @@ ghost use Rattle.std.specs.Prelude.{◌≡◌, ◌≢◌, ◌⊎◌, ◌+◌, �
 ghost use Rattle.outside.specs.Bytes.{Gains, GainsPrefix};
 ghost use Rattle.outside.specs.Counts.{Rose};
 ghost use Rattle.planar_run.specs.Lines.{lines, ended_lines};
+ghost use Rattle.planar_run.specs.World.{first_world};
 ghost use Rattle.planar_run.specs.Run.{IsRun, BeginsRun};
 ghost use Rattle.planar_run.specs.Clauses.{usage_line, Used, UsedAndWritten, ReadToEnd, Ends, Causes};
 
@@ -16,16 +17,14 @@ pub const SCRIPT_LIMIT: usize = 1 << 26;
 // How many bytes a call of `read` asks for, as long as the limit leaves so many.
 const BUFFER: usize = 4096;
 
-// Reads the script and answers its lines.
-fn run<S: Source, K: Sink>(alloc: Global, source: &mut S, sink: &mut K) -> Status
+// Reads the script and answers its lines, by an engine that stands before the first byte.
+fn answer_script<S: Source, K: Sink>(engine: &mut Engine, source: &mut S, sink: &mut K) -> Status
+    requires world { engine.old.world ≡ first_world }
+    requires line { engine.old.line ≡ [] }
     ensures ends { Ends result (S.left source.old) (S.left source.new) (K.taken sink.old) (K.taken sink.new) }
     ensures causes { Causes result (S.faults source.old) (S.faults source.new) (K.faults sink.old) (K.faults sink.new) }
     ensures reads { S.calls source.new ≤ S.calls source.old + (SCRIPT_LIMIT + 1) }
 {
-    let mut engine = match Engine::new(alloc) {
-        Ok(engine) => engine,
-        Err(_) => return Status::NoMemory,
-    };
     let mut buffer = [0u8; BUFFER];
     let mut room = SCRIPT_LIMIT;
     'reads: while room > 0 {
@@ -47,6 +46,19 @@ fn run<S: Source, K: Sink>(alloc: Global, source: &mut S, sink: &mut K) -> Statu
         Err(_) => Status::ReadFault,
         Ok(None) => engine.finish(sink),
         Ok(Some(_)) => Status::TooLong,
+    }
+}
+
+// The same by a new engine, where there is memory for it. The engine goes at one place alone, since each proves anew
+// that all of it may go.
+fn run<S: Source, K: Sink>(alloc: Global, source: &mut S, sink: &mut K) -> Status
+    ensures ends { Ends result (S.left source.old) (S.left source.new) (K.taken sink.old) (K.taken sink.new) }
+    ensures causes { Causes result (S.faults source.old) (S.faults source.new) (K.faults sink.old) (K.faults sink.new) }
+    ensures reads { S.calls source.new ≤ S.calls source.old + (SCRIPT_LIMIT + 1) }
+{
+    match Engine::new(alloc) {
+        Ok(mut engine) => answer_script(&mut engine, source, sink),
+        Err(_) => Status::NoMemory,
     }
 }
 

@@ -1,69 +1,97 @@
 ghost use Rattle.std.specs.Prelude.{◌<◌};
 
 use crate::rows::ROWS;
-use outside::{MemorySink, MemorySource, RepeatSource};
+use outside::{MemorySink, MemorySource, RepeatSource, Source};
 use planar_run::{Status, planar};
 use std::alloc::Global;
 use std::fmt::Write;
 use std::test::Fail;
 
-// The words of a command line: the program's name, and more behind it.
-fn words(alloc: Global, more: &[&str]) -> Result<Vec<String>, Fail> {
-    let mut words = Vec::new(alloc);
-    words.push(String::from_str(alloc, "planar")?)?;
-    for word in more {
-        words.push(String::from_str(alloc, word)?)?;
-    }
-    Ok(words)
+// How a script ends that the source gives, by the program's name alone.
+fn status_of<S: Source>(
+    alloc: Global,
+    source: &mut S,
+    sink: &mut MemorySink,
+) -> Result<Status, Fail> {
+    let words = [String::from_str(alloc, "planar")?];
+    Ok(planar(alloc, &words, source, sink))
 }
 
-// The status and the replies of a script that comes in pieces, over a source that fails at one call (0: at none).
-pub fn run(alloc: Global, script: &str, piece: usize, fail: u64) -> Result<(Status, Vec<u8>), Fail>
-    requires { 0 < piece }
-{
-    let bytes = Vec::from_slice(alloc, script.as_bytes())?;
-    let mut source = MemorySource::new(bytes, piece, vec![in alloc; fail]?);
+// The status and the replies of what the source gives.
+fn run_source<S: Source>(alloc: Global, source: &mut S) -> Result<(Status, Vec<u8>), Fail> {
     let mut sink = MemorySink::new(alloc, 200_000, 7, Vec::new(alloc))?;
-    let status = planar(alloc, &words(alloc, &[])?, &mut source, &mut sink);
+    let status = status_of(alloc, source, &mut sink)?;
     Ok((status, Vec::from_slice(alloc, sink.taken())?))
 }
 
+// A source of a script that comes in pieces, which fails at one call (0: at none).
+fn source_of(alloc: Global, script: &str, piece: usize, fail: u64) -> Result<MemorySource, Fail>
+    requires { 0 < piece }
+{
+    let bytes = Vec::from_slice(alloc, script.as_bytes())?;
+    Ok(MemorySource::new(bytes, piece, vec![in alloc; fail]?))
+}
+
+// The status and the replies of a script that comes in pieces, over a source that fails at one call (0: at none).
+fn run(alloc: Global, script: &str, piece: usize, fail: u64) -> Result<(Status, Vec<u8>), Fail>
+    requires { 0 < piece }
+{
+    let mut source = source_of(alloc, script, piece, fail)?;
+    run_source(alloc, &mut source)
+}
+
+// Whether a script that comes in pieces is run to its end and answered by just these replies.
+fn is_answered(alloc: Global, script: &str, piece: usize, replies: &str) -> Result<bool, Fail>
+    requires { 0 < piece }
+{
+    let (status, taken) = run(alloc, script, piece, 0)?;
+    Ok(status == Status::Done && taken.as_slice() == replies.as_bytes())
+}
+
+// The first of these scripts that isn't answered by its replies, if there is one.
+pub fn first_wrong(
+    alloc: Global,
+    rows: &[(&'static str, &'static str)],
+    piece: usize,
+) -> Result<Option<&'static str>, Fail>
+    requires { 0 < piece }
+{
+    for (script, replies) in rows {
+        if !is_answered(alloc, script, piece, replies)? {
+            return Ok(Some(script));
+        }
+    }
+    Ok(None)
+}
+
+const SCRIPTS: [(&str, &str); 5] = [
+    ("", ""),
+    ("show\n", "arrangement 0 0 1\nf 0\nend\n"),
+    ("pin 0 0 1\nlocate 0 0 2", "ok\nvertex 0 0 1\n"),
+    (
+        "pin 3 0 2\npin -1 5 1\n\npin 4 -1 3\nshow\n# note\n",
+        "ok\nok\nok\narrangement 3 0 1\nv 1 -1 5 1 pin :\nv 2 4 -1 3 pin :\nv 3 3 0 2 pin :\nf 0\np 1\np 2\np 3\nend\n",
+    ),
+    (
+        "pin 2 4 6\npin 1 2 3\nlocate 1 1 3\nunpin 2 4 6\nlocate 1 2 3\nunpin 1 2 3\nshow",
+        "ok\nrefused 13\nface 0\nok\nface 0\nrefused 10\narrangement 0 0 1\nf 0\nend\n",
+    ),
+];
+
 #[test]
 fn scripts_are_answered(rt: HostRuntime) -> Result<(), Fail> {
-    let rows: [(&str, &str); 5] = [
-        ("", ""),
-        ("show\n", "arrangement 0 0 1\nf 0\nend\n"),
-        ("pin 0 0 1\nlocate 0 0 2", "ok\nvertex 0 0 1\n"),
-        (
-            "pin 3 0 2\npin -1 5 1\n\npin 4 -1 3\nshow\n# note\n",
-            "ok\nok\nok\narrangement 3 0 1\nv 1 -1 5 1 pin :\nv 2 4 -1 3 pin :\nv 3 3 0 2 pin :\nf 0\np 1\np 2\np 3\nend\n",
-        ),
-        (
-            "pin 2 4 6\npin 1 2 3\nlocate 1 1 3\nunpin 2 4 6\nlocate 1 2 3\nunpin 1 2 3\nshow",
-            "ok\nrefused 13\nface 0\nok\nface 0\nrefused 10\narrangement 0 0 1\nf 0\nend\n",
-        ),
-    ];
-    for (script, replies) in rows {
-        let (status, taken) = run(rt.alloc(), script, 3, 0)?;
-        assert!(rt; status == Status::Done, "at {script}");
-        assert_eq!(rt; taken.as_slice(), replies.as_bytes(), "at {script}");
-    }
+    assert!(rt; first_wrong(rt.alloc(), &SCRIPTS, 3)? == None);
     Ok(())
 }
 
 #[test]
 fn segments_are_answered(rt: HostRuntime) -> Result<(), Fail> {
-    for (script, replies) in ROWS {
-        let (status, taken) = run(rt.alloc(), script, 4096, 0)?;
-        assert!(rt; status == Status::Done, "at {script}");
-        assert_eq!(rt; taken.as_slice(), replies.as_bytes(), "at {script}");
-    }
+    assert!(rt; first_wrong(rt.alloc(), &ROWS, 4096)? == None);
     Ok(())
 }
 
-#[test]
-fn two_thousand_curves_are_the_limit(rt: HostRuntime) -> Result<(), Fail> {
-    let alloc = rt.alloc();
+// Two thousand curves and one more, with their replies.
+fn many_curves(alloc: Global) -> Result<(String, String), Fail> {
     let mut script = String::new(alloc);
     let mut replies = String::new(alloc);
     for k in 0..2_000u32 {
@@ -72,37 +100,37 @@ fn two_thousand_curves_are_the_limit(rt: HostRuntime) -> Result<(), Fail> {
     }
     write!(script, "segment 2000 0 2000 1\n")?;
     write!(replies, "refused 17\n")?;
-    let (status, taken) = run(alloc, script.as_str(), 4096, 0)?;
-    assert!(rt; status == Status::Done);
-    assert!(rt; taken.as_slice() == replies.as_str().as_bytes());
+    Ok((script, replies))
+}
+
+#[test]
+fn two_thousand_curves_are_the_limit(rt: HostRuntime) -> Result<(), Fail> {
+    let (script, replies) = many_curves(rt.alloc())?;
+    assert!(rt; is_answered(rt.alloc(), script.as_str(), 4096, replies.as_str())?);
     Ok(())
 }
+
+const ODD_LINES: [(&str, &str); 10] = [
+    ("paint", "refused 1\n"),
+    ("segment 0 0 1", "refused 2\n"),
+    ("pin 0 0", "refused 2\n"),
+    ("pin -0 0 1", "refused 3\n"),
+    ("pin 1 1 0", "refused 4\n"),
+    ("pin 0 0 8796093022208", "refused 4\n"),
+    ("pin 1048576 0 1", "refused 4\n"),
+    ("# note", ""),
+    ("unpin 1 1 1", "refused 10\n"),
+    ("pin\t0 0 1", "refused 6\n"),
+];
 
 #[test]
 fn odd_lines_are_refused_by_their_number(rt: HostRuntime) -> Result<(), Fail> {
-    let rows: [(&str, &str); 10] = [
-        ("paint", "refused 1\n"),
-        ("segment 0 0 1", "refused 2\n"),
-        ("pin 0 0", "refused 2\n"),
-        ("pin -0 0 1", "refused 3\n"),
-        ("pin 1 1 0", "refused 4\n"),
-        ("pin 0 0 8796093022208", "refused 4\n"),
-        ("pin 1048576 0 1", "refused 4\n"),
-        ("# note", ""),
-        ("unpin 1 1 1", "refused 10\n"),
-        ("pin\t0 0 1", "refused 6\n"),
-    ];
-    for (script, replies) in rows {
-        let (status, taken) = run(rt.alloc(), script, 4096, 0)?;
-        assert!(rt; status == Status::Done, "at {script}");
-        assert_eq!(rt; taken.as_slice(), replies.as_bytes(), "at {script}");
-    }
+    assert!(rt; first_wrong(rt.alloc(), &ODD_LINES, 4096)? == None);
     Ok(())
 }
 
-#[test]
-fn ten_thousand_pins_are_the_limit(rt: HostRuntime) -> Result<(), Fail> {
-    let alloc = rt.alloc();
+// Ten thousand pins and one more, with their replies.
+fn many_pins(alloc: Global) -> Result<(String, String), Fail> {
     let mut script = String::new(alloc);
     let mut replies = String::new(alloc);
     for k in 0..10_000u32 {
@@ -111,41 +139,58 @@ fn ten_thousand_pins_are_the_limit(rt: HostRuntime) -> Result<(), Fail> {
     }
     write!(script, "pin 10000 0 1\n")?;
     write!(replies, "refused 17\n")?;
-    let (status, taken) = run(alloc, script.as_str(), 4096, 0)?;
-    assert!(rt; status == Status::Done);
-    assert!(rt; taken.as_slice() == replies.as_str().as_bytes());
-    Ok(())
-}
-
-// A thousand points on one line, from left to right, with the replies to their pins and the text of the subdivision.
-fn long_text(alloc: Global) -> Result<(String, String), Fail> {
-    let mut script = String::new(alloc);
-    let mut replies = String::new(alloc);
-    let mut vertices = String::new(alloc);
-    let mut isolated = String::new(alloc);
-    for k in 0..1_000u64 {
-        let x = 1_000_000_000_000_000_000 + k;
-        let (y, w) = ("-9000000000000000001", "8796093022207");
-        write!(script, "pin {x} {y} {w}\n")?;
-        write!(replies, "ok\n")?;
-        write!(vertices, "v {} {x} {y} {w} pin :\n", k + 1)?;
-        write!(isolated, "p {}\n", k + 1)?;
-    }
-    write!(script, "show\n")?;
-    write!(
-        replies,
-        "arrangement 1000 0 1\n{vertices}f 0\n{isolated}end\n"
-    )?;
     Ok((script, replies))
 }
 
 #[test]
+fn ten_thousand_pins_are_the_limit(rt: HostRuntime) -> Result<(), Fail> {
+    let (script, replies) = many_pins(rt.alloc())?;
+    assert!(rt; is_answered(rt.alloc(), script.as_str(), 4096, replies.as_str())?);
+    Ok(())
+}
+
+// The ordinate and the weight of each point of a long text.
+const REST: &str = "-9000000000000000001 8796093022207";
+
+// The pins of a thousand points on one line, from left to right.
+fn long_script(alloc: Global) -> Result<String, Fail> {
+    let mut script = String::new(alloc);
+    for k in 0..1_000u64 {
+        write!(script, "pin {} {REST}\n", 1_000_000_000_000_000_000 + k)?;
+    }
+    write!(script, "show\n")?;
+    Ok(script)
+}
+
+// The replies to these pins, and the text of the subdivision.
+fn long_text(alloc: Global) -> Result<String, Fail> {
+    let mut text = String::new(alloc);
+    for _ in 0..1_000u64 {
+        write!(text, "ok\n")?;
+    }
+    write!(text, "arrangement 1000 0 1\n")?;
+    for k in 0..1_000u64 {
+        write!(
+            text,
+            "v {} {} {REST} pin :\n",
+            k + 1,
+            1_000_000_000_000_000_000 + k
+        )?;
+    }
+    write!(text, "f 0\n")?;
+    for k in 0..1_000u64 {
+        write!(text, "p {}\n", k + 1)?;
+    }
+    write!(text, "end\n")?;
+    Ok(text)
+}
+
+#[test]
 fn long_texts_are_shown(rt: HostRuntime) -> Result<(), Fail> {
-    let (script, replies) = long_text(rt.alloc())?;
-    assert!(rt; replies.len() > 65_536 + 3_000);
-    let (status, taken) = run(rt.alloc(), script.as_str(), 4096, 0)?;
-    assert!(rt; status == Status::Done);
-    assert!(rt; taken.as_slice() == replies.as_str().as_bytes());
+    let script = long_script(rt.alloc())?;
+    let text = long_text(rt.alloc())?;
+    assert!(rt; text.len() > 65_536 + 3_000);
+    assert!(rt; is_answered(rt.alloc(), script.as_str(), 4096, text.as_str())?);
     Ok(())
 }
 
@@ -157,7 +202,7 @@ fn a_read_that_fails_ends_the_run(rt: HostRuntime) -> Result<(), Fail> {
     for (fail, replies) in [(1, ""), (2, "ok\n"), (3, "ok\nok\n"), (4, shown)] {
         let (status, taken) = run(rt.alloc(), script, 10, fail)?;
         assert!(rt; status == Status::ReadFault, "at call {fail}");
-        assert_eq!(rt; taken.as_slice(), replies.as_bytes(), "at call {fail}");
+        assert!(rt; taken.as_slice() == replies.as_bytes(), "at call {fail}");
     }
     Ok(())
 }
@@ -165,34 +210,29 @@ fn a_read_that_fails_ends_the_run(rt: HostRuntime) -> Result<(), Fail> {
 #[test]
 fn a_write_that_fails_ends_the_run(rt: HostRuntime) -> Result<(), Fail> {
     let alloc = rt.alloc();
-    let bytes = Vec::from_slice(alloc, b"show")?;
-    let mut source = MemorySource::new(bytes, 1, Vec::new(alloc));
+    let mut source = source_of(alloc, "show", 1, 0)?;
     let mut sink = MemorySink::new(alloc, 1000, 2, vec![in alloc; 2]?)?;
-    let status = planar(alloc, &words(alloc, &[])?, &mut source, &mut sink);
-    assert!(rt; status == Status::WriteFault);
-    assert_eq!(rt; sink.taken(), b"ar".as_slice());
+    assert!(rt; status_of(alloc, &mut source, &mut sink)? == Status::WriteFault);
+    assert!(rt; sink.taken() == b"ar".as_slice());
     Ok(())
+}
+
+// Whether these words are answered by the usage line.
+fn are_refused(alloc: Global, words: &[String]) -> Result<bool, Fail> {
+    let mut source = RepeatSource::new(10, 5);
+    let mut sink = MemorySink::new(alloc, 100, 100, Vec::new(alloc))?;
+    let status = planar(alloc, words, &mut source, &mut sink);
+    Ok(status == Status::Usage && sink.taken() == b"usage: planar\n".as_slice())
 }
 
 #[test]
 fn other_words_are_answered_by_the_usage_line(rt: HostRuntime) -> Result<(), Fail> {
     let alloc = rt.alloc();
-    for words in [Vec::new(alloc), words(alloc, &["--help"])?] {
-        let mut source = RepeatSource::new(10, 5);
-        let mut sink = MemorySink::new(alloc, 100, 100, Vec::new(alloc))?;
-        let status = planar(alloc, &words, &mut source, &mut sink);
-        assert!(rt; status == Status::Usage);
-        assert_eq!(rt; sink.taken(), b"usage: planar\n".as_slice());
-    }
+    assert!(rt; are_refused(alloc, &[])?);
+    let name = String::from_str(alloc, "planar")?;
+    let words = [name, String::from_str(alloc, "--help")?];
+    assert!(rt; are_refused(alloc, &words)?);
     Ok(())
-}
-
-// The status and the replies of one byte, again and again.
-fn run_repeated(alloc: Global, byte: u8, count: u64) -> Result<(Status, Vec<u8>), Fail> {
-    let mut source = RepeatSource::new(byte, count);
-    let mut sink = MemorySink::new(alloc, 100, 100, Vec::new(alloc))?;
-    let status = planar(alloc, &words(alloc, &[])?, &mut source, &mut sink);
-    Ok((status, Vec::from_slice(alloc, sink.taken())?))
 }
 
 #[test]
@@ -206,11 +246,10 @@ fn limits_are_kept(rt: HostRuntime) -> Result<(), Fail> {
         (b'\n', (1 << 26) + 1, Status::TooLong, ""),
     ];
     for (byte, count, status, replies) in rows {
-        let (ended, taken) = run_repeated(rt.alloc(), byte, count)?;
+        let (ended, taken) = run_source(rt.alloc(), &mut RepeatSource::new(byte, count))?;
         assert!(rt; ended == status, "at {count} times {byte}");
-        assert_eq!(rt;
-            taken.as_slice(),
-            replies.as_bytes(),
+        assert!(rt;
+            taken.as_slice() == replies.as_bytes(),
             "at {count} times {byte}"
         );
     }
@@ -228,6 +267,6 @@ fn statuses_have_their_exit_codes(rt: HostRuntime) {
         (Status::TooLong, 6),
     ];
     for (status, code) in rows {
-        assert_eq!(rt; status.exit_code(), code);
+        assert!(rt; status.exit_code() == code);
     }
 }

@@ -2,7 +2,7 @@ use Rattle.std.proofs.Common.{◌≡◌, ◌+◌, ◌-◌, ◌≤◌, length}
 use Rattle.planar_run.specs.declared.run.TheConstants.{SCRIPT_LIMIT, BUFFER}
 use Rattle.planar_run.specs.Clauses.{Used}
 use Rattle.planar_run.proofs.Loop.{HasSaid}
-use Rattle.planar_run.proofs.run.run.Given as goal
+use Rattle.planar_run.proofs.run.answer_script.Given as goal
 
 abbrev pub invariant-reads : goal.invariant-reads
 invariant-reads g l = record {
