@@ -47,11 +47,5 @@ pub fn split(records: &mut Records, d: DartId, p: Point) -> Change
     records.set_next(m, t);
     records.move_source(t, v, m);
     records.set_next(d, n);
-    Change::SplitEdge {
-        d,
-        v,
-        p,
-        n,
-        m,
-    }
+    Change::SplitEdge { d, v, p, n, m }
 }

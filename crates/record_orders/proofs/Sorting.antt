@@ -9,7 +9,6 @@ use Rattle.std.proofs.lemmas.List.Sorted.{Contains-permutation, IsPermutation-sy
 use Rattle.plane_graphs.specs.Ascending.{IsAscending, Member}
 use Rattle.plane_graphs.proofs.Ascending.{to_member, from_member, ascending_unique}
 use Rattle.plane_graphs.proofs.Sorting.{sorted_ascends}
-
 pub use Rattle.plane_graphs.proofs.Sorting.{all_members}
 
 is_equal : (o : Ordering) → is_eq o ≡ true → o ≡ Equal
