@@ -1,0 +1,14 @@
+pub mod Edges
+pub mod EventList
+pub mod Events
+pub mod Exchange
+pub mod FirstQueue
+pub mod Front
+pub mod Laws
+pub mod Places
+pub mod Runs
+pub mod Seams
+pub mod Slab
+pub mod Starts
+pub mod Status
+pub mod Sweep

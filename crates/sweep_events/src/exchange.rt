@@ -1,0 +1,80 @@
+ghost use Rattle.std.specs.Prelude.{◌≡◌, ◌≤◌, ◌+◌, length, IfOk, slice_get};
+ghost use Rattle.exact_plane.specs.Point.{IsPoint};
+ghost use Rattle.sweep_events.specs.Places.{piece_at, AreSpans};
+ghost use Rattle.sweep_events.specs.Starts.{AreStarts};
+ghost use Rattle.sweep_events.specs.Status.{IsWaiting};
+ghost use Rattle.sweep_events.specs.Sweep.{IsEventAt};
+ghost use Rattle.sweep_events.specs.Exchange.{IsExchange, exchanged};
+
+use crate::places::{Start, by_slope, count_below, count_upto, parted_at, places_of, starts_at};
+use exact_plane::{Point, Span};
+use no_memory::NoMemory;
+use slab_laws::Sequence;
+use std::alloc::Global;
+
+// What an event makes of the status: the pieces through it, which stand from `low` up to `high`, go, and those of the run come,
+// which then stand from `low` up to `top`.
+#[derive(Drop)]
+pub(crate) struct Exchange {
+    pub(crate) ends: Sequence<usize>,
+    pub(crate) starts: Sequence<usize>,
+    pub(crate) passes: Sequence<usize>,
+    pub(crate) run: Vec<usize>,
+    pub(crate) low: usize,
+    pub(crate) high: usize,
+    pub(crate) top: usize,
+}
+
+pub(crate) fn exchange_at(
+    alloc: Global,
+    pieces: &[Span],
+    starts: &[Start],
+    status: &[usize],
+    point: &Point,
+) -> Result<Exchange, NoMemory>
+    requires spans { AreSpans pieces.now }
+    requires point { IsPoint point.now }
+    requires starts { AreStarts pieces.now starts.now }
+    requires waits { IsWaiting (piece_at pieces.now) (length pieces.now) point.now status.now }
+    ensures in_turn { IfOk result (λ t. t.low ≤ t.high) }
+    ensures in_bounds { IfOk result (λ t. t.high ≤ length status.now) }
+    ensures exchange { IfOk result (λ t. IsExchange pieces.now point.now status.now (exchanged status.now t) t.low t.top) }
+    ensures event { IfOk result (λ t. IsEventAt pieces.now point.now t.ends t.starts t.passes) }
+{
+    let low = count_below(pieces, status, point);
+    let high = count_upto(pieces, status, point);
+    let (_, rest) = status.split_at(low);
+    let (through, _) = rest.split_at(high - low);
+    let (ends, passes) = parted_at(alloc, pieces, through, point)?;
+    let begun = starts_at(alloc, starts, point)?;
+    let lines = by_slope(alloc, pieces, passes.as_slice(), begun.as_slice())?;
+    let run = places_of(alloc, &lines)?;
+    let top = low + run.len();
+    Ok(Exchange {
+        ends,
+        starts: begun,
+        passes,
+        run,
+        low,
+        high,
+        top,
+    })
+}
+
+// The place that is to stand at an index of the status.
+pub(crate) fn place_after(status: &[usize], exchange: &Exchange, index: usize) -> Option<usize>
+    requires in_turn { exchange.now.low ≤ exchange.now.high }
+    requires in_bounds { exchange.now.high ≤ length status.now }
+    ensures { result ≡ slice_get (exchanged status.now exchange.now) index }
+{
+    if index < exchange.low {
+        return Some(status[index]);
+    }
+    let (_, above) = status.split_at(exchange.high);
+    let further = index - exchange.low;
+    if further < exchange.run.len() {
+        return Some(exchange.run[further]);
+    }
+    let place = above.get(further - exchange.run.len())?;
+    Some(*place)
+}

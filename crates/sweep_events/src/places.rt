@@ -1,0 +1,241 @@
+ghost use Rattle.std.specs.Prelude.{◌≡◌, ◌≤◌, ◌++◌, ℕ, ◌⊎◌, ◌↔◌, ◌<◌, List, true, false, not, length, map, filter, IfOk, OnOk, OnErr};
+ghost use Rattle.std.specs.List.{splice};
+ghost use Rattle.std.specs.List.Sorted.{IsPartitionPoint};
+ghost use Rattle.std.specs.Ordering.{nat_cmp, is_lt, is_le};
+ghost use Rattle.exact_plane.specs.PointOrder.{point_cmp};
+ghost use Rattle.exact_plane.specs.Point.{IsPoint};
+ghost use Rattle.exact_plane.specs.Span.{Span};
+ghost use Rattle.plane_graphs.specs.Ascending.{ascending, Member, IsAscending};
+ghost use Rattle.sweep_events.specs.Places.{piece_at, is_below, is_upto, AreSpans, ArePlaces, IsPlacesOf};
+ghost use Rattle.sweep_events.specs.Status.{waiting_cmp, run_cmp};
+ghost use Rattle.sweep_events.specs.Starts.{AreStarts};
+ghost use Rattle.sweep_events.specs.Runs.{placed_line_cmp, placed_line, ends_there};
+
+use exact_plane::{Line, Point, Sign, Span, side, slope_order};
+use no_memory::NoMemory;
+use slab_laws::Sequence;
+use std::alloc::Global;
+use std::cmp::Ordering;
+
+// A piece that begins somewhere.
+#[derive(Clone, Copy, Debug, PartialEq, Eq, PartialOrd, Ord)]
+pub(crate) struct Start {
+    pub(crate) lower: Point,
+    pub(crate) place: usize,
+}
+
+// The line of a piece, with its place.
+#[derive(Clone, Copy, Debug)]
+pub(crate) struct PlacedLine {
+    pub(crate) line: Line,
+    pub(crate) place: usize,
+}
+
+// The piece at a place.
+pub(crate) fn at_place(pieces: &[Span], place: usize) -> &Span
+    requires { place < length pieces.now }
+    ensures { result.now ≡ piece_at pieces.now place }
+{
+    &pieces[place]
+}
+
+// Whether the piece passes below the point.
+pub(crate) fn passes_below(pieces: &[Span], place: usize, point: &Point) -> bool
+    ensures { result ≡ is_below pieces.now point.now place }
+{
+    match pieces.get(place) {
+        Some(piece) => side(&piece.line(), point) == Sign::Plus,
+        None => false,
+    }
+}
+
+// Whether the piece passes below the point or through it.
+pub(crate) fn passes_upto(pieces: &[Span], place: usize, point: &Point) -> bool
+    ensures { result ≡ is_upto pieces.now point.now place }
+{
+    match pieces.get(place) {
+        Some(piece) => side(&piece.line(), point) != Sign::Minus,
+        None => true,
+    }
+}
+
+// How many pieces of the status pass below the point.
+pub(crate) fn count_below(pieces: &[Span], status: &[usize], point: &Point) -> usize
+    requires spans { AreSpans pieces.now }
+    requires places { ArePlaces pieces.now status.now }
+    requires waits { IsAscending (waiting_cmp (piece_at pieces.now) point.now) status.now }
+    ensures bound { result ≤ length status.now }
+    ensures cut { IsPartitionPoint (λ i. is_below pieces.now point.now i ≡ true) (λ i. is_below pieces.now point.now i ≡ false) status.now result }
+{
+    status.partition_point(|place| passes_below(pieces, *place, point))
+}
+
+// How many pass below it or through it.
+pub(crate) fn count_upto(pieces: &[Span], status: &[usize], point: &Point) -> usize
+    requires spans { AreSpans pieces.now }
+    requires places { ArePlaces pieces.now status.now }
+    requires waits { IsAscending (waiting_cmp (piece_at pieces.now) point.now) status.now }
+    ensures bound { result ≤ length status.now }
+    ensures cut { IsPartitionPoint (λ i. is_upto pieces.now point.now i ≡ true) (λ i. is_upto pieces.now point.now i ≡ false) status.now result }
+{
+    status.partition_point(|place| passes_upto(pieces, *place, point))
+}
+
+// All pieces by their lower ends.
+pub(crate) fn starts_of(alloc: Global, pieces: &[Span]) -> Result<Vec<Start>, NoMemory>
+    ensures starts { IfOk result (λ v. AreStarts pieces.now v.items) }
+    ensures spans { OnOk result (AreSpans pieces.now) }
+{
+    let mut starts = Vec::new(alloc);
+    for piece in pieces {
+        starts.push(Start {
+            lower: piece.lower(),
+            place: starts.len(),
+        })?;
+    }
+    starts.sort_unstable();
+    Ok(starts)
+}
+
+// Whether the piece starts before the point, or there.
+fn starts_before(start: &Start, point: &Point) -> bool
+    ensures { result ≡ is_lt (point_cmp start.now.lower point.now) }
+{
+    start.lower < *point
+}
+
+fn starts_upto(start: &Start, point: &Point) -> bool
+    ensures { result ≡ is_le (point_cmp start.now.lower point.now) }
+{
+    start.lower <= *point
+}
+
+// The places of the pieces that start at the point.
+pub(crate) fn starts_at(
+    alloc: Global,
+    starts: &[Start],
+    point: &Point,
+) -> Result<Sequence<usize>, NoMemory>
+    ensures { IfOk result (λ v. (pieces : List Span) → AreStarts pieces starts.now → IsPlacesOf pieces (λ s. s.lower ≡ point.now) v) }
+{
+    let from = starts.partition_point(|start| starts_before(start, point));
+    let (_, rest) = starts.split_at(from);
+    let count = rest.partition_point(|start| starts_upto(start, point));
+    let (here, _) = rest.split_at(count);
+    let mut places = Sequence::new(alloc);
+    for start in here {
+        places.push(start.place)?;
+    }
+    Ok(places)
+}
+
+// The places in ascending order, each once.
+fn arrange(places: &mut Vec<usize>)
+    ensures { places.new.items ≡ ascending nat_cmp places.old.items }
+{
+    places.sort_unstable();
+    places.dedup();
+}
+
+// Whether the piece ends at the point.
+fn is_ended(pieces: &[Span], place: usize, point: &Point) -> bool
+    ensures { result ≡ ends_there pieces.now point.now place }
+{
+    match pieces.get(place) {
+        Some(piece) => piece.upper() == *point,
+        None => false,
+    }
+}
+
+// Those of the pieces that end at the point, and those that don't.
+pub(crate) fn parted_at(
+    alloc: Global,
+    pieces: &[Span],
+    through: &[usize],
+    point: &Point,
+) -> Result<(Sequence<usize>, Sequence<usize>), NoMemory>
+    requires { IsPoint point.now }
+    ensures ends { IfOk result (λ both. both.0 ≡ filter (ends_there pieces.now point.now) (ascending nat_cmp through.now)) }
+    ensures others { IfOk result (λ both. both.1 ≡ filter (λ i. not (ends_there pieces.now point.now i)) (ascending nat_cmp through.now)) }
+{
+    let mut places = Vec::from_slice(alloc, through)?;
+    arrange(&mut places);
+    let (mut ends, mut others) = (Sequence::new(alloc), Sequence::new(alloc));
+    for place in &places {
+        if is_ended(pieces, *place, point) {
+            ends.push(*place)?;
+        } else {
+            others.push(*place)?;
+        }
+    }
+    Ok((ends, others))
+}
+
+fn add_lines(lines: &mut Vec<PlacedLine>, pieces: &[Span], places: &[usize]) -> Result<(), NoMemory>
+    requires { ArePlaces pieces.now places.now }
+    ensures { OnOk result (lines.new.items ≡ lines.old.items ++ map (placed_line pieces.now) places.now) }
+{
+    for place in places {
+        lines.push(PlacedLine {
+            line: at_place(pieces, *place).line(),
+            place: *place,
+        })?;
+    }
+    Ok(())
+}
+
+fn line_order(first: &PlacedLine, second: &PlacedLine) -> Ordering
+    ensures { result ≡ placed_line_cmp first.now second.now }
+{
+    slope_order(&first.line, &second.line).then(first.place.cmp(&second.place))
+}
+
+// The pieces by their slopes, those of one slope by place.
+pub(crate) fn by_slope(
+    alloc: Global,
+    pieces: &[Span],
+    passes: &[usize],
+    starts: &[usize],
+) -> Result<Vec<PlacedLine>, NoMemory>
+    requires passes { ArePlaces pieces.now passes.now }
+    requires starts { ArePlaces pieces.now starts.now }
+    requires spans { AreSpans pieces.now }
+    requires passes_ascend { IsAscending nat_cmp passes.now }
+    requires starts_ascend { IsAscending nat_cmp starts.now }
+    requires apart { (i : ℕ) → Member i passes.now → Member i starts.now → ⊥ }
+    ensures places { IfOk result (λ v. (i : ℕ) → Member i (map (λ s. s.place) v.items) ↔ (Member i passes.now ⊎ Member i starts.now)) }
+    ensures sloped { IfOk result (λ v. IsAscending (run_cmp (piece_at pieces.now)) (map (λ s. s.place) v.items)) }
+{
+    let mut lines = Vec::new(alloc);
+    add_lines(&mut lines, pieces, passes)?;
+    add_lines(&mut lines, pieces, starts)?;
+    lines.sort_unstable_by(|first, second| line_order(first, second));
+    Ok(lines)
+}
+
+// The places of these.
+pub(crate) fn places_of(alloc: Global, lines: &[PlacedLine]) -> Result<Vec<usize>, NoMemory>
+    ensures { IfOk result (λ v. v.items ≡ map (λ s. s.place) lines.now) }
+{
+    let mut places = Vec::new(alloc);
+    for line in lines {
+        places.push(line.place)?;
+    }
+    Ok(places)
+}
+
+// Puts a run of places where those from `low` to `high` stand: what is above is shifted, once.
+pub(crate) fn replace(
+    status: &mut Vec<usize>,
+    low: usize,
+    high: usize,
+    run: Vec<usize>,
+) -> Result<(), NoMemory>
+    requires in_turn { low ≤ high }
+    requires in_bounds { high ≤ length status.old.items }
+    ensures ok { OnOk result (status.new.items ≡ splice status.old.items low high run.items) }
+    ensures err { OnErr result (status.new.items ≡ status.old.items) }
+{
+    status.splice(low..high, run)?;
+    Ok(())
+}

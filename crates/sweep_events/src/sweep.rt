@@ -1,0 +1,227 @@
+ghost use Rattle.std.specs.Prelude.{◌≡◌, ◌↔◌, ◌<◌, ◌≤◌, ◌⊎◌, [], Some, None, IfOk, OnOk, OnErr, IfSome, IfNone, length};
+ghost use Rattle.exact_plane.specs.Point.{Point};
+ghost use Rattle.exact_plane.specs.Span.{Span};
+ghost use Rattle.sweep_events.specs.Events.{AreMeeting};
+ghost use Rattle.sweep_events.specs.EventList.{events_left};
+ghost use Rattle.sweep_events.specs.Exchange.{exchanged};
+ghost use Rattle.sweep_events.specs.Places.{ArePlaces};
+ghost use Rattle.sweep_events.specs.Seams.{MeetAtSeam, IsGrown, AreThere};
+ghost use Rattle.sweep_events.specs.Sweep.{Swept, IsNextOf, IsOver, HasStatus, HasSlab, IsEventAt, IsSweep};
+ghost use Rattle.sweep_events.specs.FirstQueue.{HasEnds, HasPins};
+ghost use Rattle.sweep_events.specs.Starts.{AreStarts};
+
+use crate::event::Event;
+use crate::exchange::{Exchange, exchange_at, place_after};
+use crate::places::{Start, at_place, replace, starts_of};
+use exact_plane::{Meet, Point, Span, span_meeting};
+use no_memory::NoMemory;
+use std::alloc::Global;
+use std::collections::BTreeSet;
+use std::marker::Model;
+
+/// A sweep over pieces and pins, from left to right and, on one abscissa, from below.
+///
+/// Contracts see the pieces and pins, the last event, and the status (`Swept`). It keeps copies of both lists; pieces are told by
+/// their places in the list that was given, of which there may be any number.
+#[derive(Drop)]
+pub struct Sweep {
+    alloc: Global,
+    pieces: Vec<Span>,
+    pins: Vec<Point>,
+    starts: Vec<Start>,
+    queue: BTreeSet<Point>,
+    status: Vec<usize>,
+    last: Option<Point>,
+}
+
+impl Model for Sweep {
+    ghost use Rattle.sweep_events.specs.Starts.{AreStarts};
+    ghost use Rattle.sweep_events.specs.Sweep.{Swept, IsSweep};
+
+    ghost Value = { Swept };
+
+    ghost view = { λ s. record { pieces = s.pieces.items; pins = s.pins.items; last = s.last; status = s.status.items } };
+
+    ghost invariant = { λ s. AreStarts s.pieces.items s.starts.items × IsSweep (record { pieces = s.pieces.items; pins = s.pins.items; last = s.last; status = s.status.items }) s.queue.keys };
+}
+
+// The common point of two pieces of different lines.
+fn crossing(first: &Span, second: &Span) -> Option<Point>
+    ensures { (r : Point) → (AreMeeting first.now second.now r ↔ (result ≡ Some r)) }
+{
+    if first.line() == second.line() {
+        return None;
+    }
+    match span_meeting(first, second) {
+        Meet::At(point) => Some(point),
+        Meet::Apart | Meet::Along(_, _) => None,
+    }
+}
+
+// Puts the meeting of two pieces into the queue where it comes after the point.
+fn await_meeting(
+    queue: &mut BTreeSet<Point>,
+    first: &Span,
+    second: &Span,
+    point: &Point,
+) -> Result<(), NoMemory>
+    ensures grown { IsGrown (AreMeeting first.now second.now) point.now queue.old.keys queue.new.keys }
+    ensures there { OnOk result (AreThere (AreMeeting first.now second.now) point.now queue.new.keys) }
+{
+    if let Some(meeting) = crossing(first, second) {
+        if *point < meeting {
+            queue.insert(meeting)?;
+        }
+    }
+    Ok(())
+}
+
+// That of the two pieces that are to stand on either side of a seam of the status.
+fn await_seam(
+    queue: &mut BTreeSet<Point>,
+    pieces: &[Span],
+    status: &[usize],
+    exchange: &Exchange,
+    seam: usize,
+    point: &Point,
+) -> Result<(), NoMemory>
+    requires in_turn { exchange.now.low ≤ exchange.now.high }
+    requires in_bounds { exchange.now.high ≤ length status.now }
+    requires places { ArePlaces pieces.now (exchanged status.now exchange.now) }
+    ensures grown { IsGrown (MeetAtSeam pieces.now (exchanged status.now exchange.now) seam) point.now queue.old.keys queue.new.keys }
+    ensures there { OnOk result (AreThere (MeetAtSeam pieces.now (exchanged status.now exchange.now) seam) point.now queue.new.keys) }
+{
+    if seam == 0 {
+        return Ok(());
+    }
+    let Some(below) = place_after(status, exchange, seam - 1) else {
+        return Ok(());
+    };
+    let Some(above) = place_after(status, exchange, seam) else {
+        return Ok(());
+    };
+    await_meeting(
+        queue,
+        at_place(pieces, below),
+        at_place(pieces, above),
+        point,
+    )
+}
+
+// Those at both seams.
+fn await_seams(
+    queue: &mut BTreeSet<Point>,
+    pieces: &[Span],
+    status: &[usize],
+    exchange: &Exchange,
+    point: &Point,
+) -> Result<(), NoMemory>
+    requires in_turn { exchange.now.low ≤ exchange.now.high }
+    requires in_bounds { exchange.now.high ≤ length status.now }
+    requires places { ArePlaces pieces.now (exchanged status.now exchange.now) }
+    ensures grown { IsGrown (λ r. MeetAtSeam pieces.now (exchanged status.now exchange.now) exchange.now.low r ⊎ MeetAtSeam pieces.now (exchanged status.now exchange.now) exchange.now.top r) point.now queue.old.keys queue.new.keys }
+    ensures first { OnOk result (AreThere (MeetAtSeam pieces.now (exchanged status.now exchange.now) exchange.now.low) point.now queue.new.keys) }
+    ensures second { OnOk result (AreThere (MeetAtSeam pieces.now (exchanged status.now exchange.now) exchange.now.top) point.now queue.new.keys) }
+{
+    await_seam(queue, pieces, status, exchange, exchange.low, point)?;
+    await_seam(queue, pieces, status, exchange, exchange.top, point)
+}
+
+// Puts both ends of each piece into the queue.
+fn add_ends(queue: &mut BTreeSet<Point>, pieces: &[Span]) -> Result<(), NoMemory>
+    ensures { OnOk result (HasEnds pieces.now (length pieces.now) queue.old.keys queue.new.keys) }
+{
+    for piece in pieces {
+        queue.insert(piece.lower())?;
+        queue.insert(piece.upper())?;
+    }
+    Ok(())
+}
+
+// Puts the pins into the queue.
+fn add_pins(queue: &mut BTreeSet<Point>, pins: &[Point]) -> Result<(), NoMemory>
+    ensures { OnOk result (HasPins pins.now (length pins.now) queue.old.keys queue.new.keys) }
+{
+    for pin in pins {
+        let _ = pin.w();
+        queue.insert(*pin)?;
+    }
+    Ok(())
+}
+
+impl Sweep {
+    /// A sweep that is before its first event. Pieces may overlap, and pins may stand twice.
+    ///
+    /// # Errors
+    ///
+    /// There was no memory.
+    pub fn new(alloc: Global, pieces: &[Span], pins: &[Point]) -> Result<Sweep, NoMemory>
+        ensures { IfOk result (λ s. s ≡ record { pieces = pieces.now; pins = pins.now; last = None; status = [] }) }
+    {
+        let mut kept = Vec::new(alloc);
+        kept.extend_from_slice(pieces)?;
+        let mut kept_pins = Vec::new(alloc);
+        kept_pins.extend_from_slice(pins)?;
+        let mut queue = BTreeSet::new(alloc);
+        add_ends(&mut queue, pieces)?;
+        add_pins(&mut queue, pins)?;
+        let starts = starts_of(alloc, pieces)?;
+        Ok(Sweep {
+            alloc,
+            pieces: kept,
+            pins: kept_pins,
+            starts,
+            queue,
+            status: Vec::new(alloc),
+            last: None,
+        })
+    }
+
+    /// The next event, with the pieces that end, start and pass there; `None` where none is left. The events are the vertices of the
+    /// arrangement (`events_are_vertices`), each once, in the order of points.
+    ///
+    /// # Errors
+    ///
+    /// There was no memory. The sweep is as it was, and may be asked again.
+    pub fn next_event(&mut self) -> Result<Option<Event>, NoMemory>
+        ensures next { IfOk result (λ o. IfSome o (λ e. IsNextOf self.old e.point × IsEventAt self.old.pieces e.point e.ends e.starts e.passes)) }
+        ensures moves { IfOk result (λ o. IfSome o (λ e. self.new.last ≡ Some e.point)) }
+        ensures falls { IfOk result (λ o. IfSome o (λ _. events_left self.new < events_left self.old)) }
+        ensures none { IfOk result (λ o. IfNone o (IsOver self.old × (self.new ≡ self.old))) }
+        ensures stays { (self.new.pieces ≡ self.old.pieces) × (self.new.pins ≡ self.old.pins) }
+        ensures err { OnErr result (self.new ≡ self.old) }
+    {
+        let Some(first) = self.queue.first() else {
+            return Ok(None);
+        };
+        let point = *first;
+        let exchange = exchange_at(self.alloc, &self.pieces, &self.starts, &self.status, &point)?;
+        await_seams(
+            &mut self.queue,
+            &self.pieces,
+            &self.status,
+            &exchange,
+            &point,
+        )?;
+        replace(&mut self.status, exchange.low, exchange.high, exchange.run)?;
+        let _ = self.queue.pop_first();
+        self.last = Some(point);
+        Ok(Some(Event {
+            point,
+            ends: exchange.ends,
+            starts: exchange.starts,
+            passes: exchange.passes,
+        }))
+    }
+
+    /// The places of the pieces that the sweep meets just after its last event, from bottom to top, those of one line side by side
+    /// in order of place. After the last event of an abscissa they are the pieces that span the slab on the right
+    /// (`edges_of_status`).
+    pub fn status(&self) -> &[usize]
+        ensures places { result.now ≡ self.now.status }
+        ensures status { HasStatus self.now }
+        ensures slab { HasSlab self.now }
+    {
+        &self.status
+    }
+}
