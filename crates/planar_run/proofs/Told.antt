@@ -1,14 +1,14 @@
 -- What a world tells of edges and curves.
-use Rattle.std.proofs.Common.{◌≡◌, ℕ, true, false, List, Result, Ok, Err, refl, sym, ap, subst, inl, inr}
+use Rattle.std.proofs.Common.{◌≡◌, ℕ, true, List, Result, Ok, Err, refl, sym, ap, subst, inl, inr}
 use Rattle.std.specs.Prelude.{◌↔◌, map, IfOk, IfErr, OnOk, IsErrOf}
 use Rattle.std.specs.declared.vec.Vec.{Vec}
 use Rattle.std.specs.List.{list_any}
 use Rattle.exact_plane.specs.Point.{Point}
 use Rattle.plane_graphs.specs.Ascending.{Member, IsAscending}
-use Rattle.plane_graphs.specs.Graph.{Graph, Edge, Mark, edge_cmp, edge_of, edges, curves, is_at, same_curve}
+use Rattle.plane_graphs.specs.Graph.{Graph, Edge, edge_cmp, edges, curves, is_at, same_curve}
 use Rattle.plane_graphs.specs.Line.{same_point}
 use Rattle.plane_graphs.proofs.Ascending.{ascending_unique}
-use Rattle.plane_graphs.proofs.Lists.{any_in, any_out, any_none, and_in, both, clash, decide, in_filter, of_filter, IsAscending-filter}
+use Rattle.plane_graphs.proofs.Lists.{any_in, any_out, and_in, both, clash, decide, in_filter, of_filter, IsAscending-filter}
 use Rattle.plane_graphs.proofs.Meaning.{edge_cmp_total, edges_ascend, edge_in, edge_out}
 use Rattle.plane_graphs.proofs.Order.{curve_in, curve_out, same_in, same_out}
 use Rattle.arrangement.specs.Answers.{edge_of as edge_of_ends, HistoryError, Unknown, NoMemoryForEdges}

@@ -5,8 +5,7 @@ use Rattle.plane_graphs.specs.Graph.{edges}
 use Rattle.slab_laws.specs.Sound.{edge_between}
 use Rattle.arrangement.specs.declared.questions.EdgeError.TheVariants.{NoEdge}
 use Rattle.planar_run.specs.World.{World}
-use Rattle.planar_run.specs.Premises.{graph_of, is_edge}
-use Rattle.planar_run.specs.Refusals.{BarsEdge}
+use Rattle.planar_run.specs.Premises.{graph_of}
 use Rattle.planar_run.proofs.Told.{edge_or_none}
 use Rattle.planar_run.proofs.world.World.curves_of.Goals as goal
 

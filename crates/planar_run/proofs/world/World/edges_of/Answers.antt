@@ -1,4 +1,4 @@
-use Rattle.std.proofs.Common.{◌≡◌, map, subst, Ok, Err}
+use Rattle.std.proofs.Common.{◌≡◌, map, subst}
 use Rattle.std.specs.Prelude.{◌↔◌, IfOk, IsErrOf}
 use Rattle.plane_graphs.specs.Ascending.{Member}
 use Rattle.arrangement.specs.Answers.{Unknown, edge_of}
