@@ -63,6 +63,23 @@ pub fn has_curves(layer: &Arrangement, x: i128, z: i128, wanted: &[CurveId]) -> 
     }
 }
 
+fn are_first(found: &[CurveId], count: usize) -> bool {
+    for (i, curve) in found.iter().enumerate() {
+        if curve.0 as usize != i + 1 {
+            return false;
+        }
+    }
+    found.len() == count
+}
+
+/// Whether just so many curves, with the first numbers, run along the edge between two points of the abscissa.
+pub fn has_first_curves(layer: &Arrangement, x: i128, z: i128, count: usize) -> Result<bool, Fail> {
+    match layer.curves_of(&at(x, 0)?, &at(z, 0)?) {
+        Ok(found) => Ok(are_first(&found, count)),
+        Err(_) => Ok(false),
+    }
+}
+
 pub fn has_no_edge(layer: &Arrangement, x: i128, z: i128) -> Result<bool, Fail> {
     let (first, second) = (at(x, 0)?, at(z, 0)?);
     match layer.curves_of(&first, &second) {

@@ -8,7 +8,7 @@ mod calls;
 #[cfg(test)]
 mod edits;
 #[cfg(test)]
-mod limits;
+mod kept;
 #[cfg(test)]
 mod rows;
 #[cfg(test)]

@@ -1,4 +1,4 @@
-use crate::calls::{Call, are_right, names_stay, zone_is_told};
+use crate::calls::{Call, are_right};
 use crate::edits::{Answer, Edit, Under};
 use slab_laws::CurveId;
 use std::test::Fail;
@@ -19,18 +19,11 @@ const LIMITS: [Call; 8] = [
     Call::Makes(Edit::Unpin(5, 0), Answer::NotPinned),
 ];
 
-const PINNED_EDGE: [Call; 2] = [
+const PINNED_EDGE: [Call; 3] = [
     Call::Makes(Edit::Insert(0, 0, 4, 0), Answer::Drawn(1)),
     Call::Makes(Edit::Pin(1, 0), Answer::Done),
+    Call::KeepsNames(Edit::Insert(2, -1, 2, 1), Answer::Drawn(2)),
 ];
-
-const CROSSING: [Call; 1] = [Call::Makes(Edit::Insert(2, -1, 2, 1), Answer::Drawn(2))];
-
-#[test]
-fn names_stay_on_an_edge_with_a_pin(rt: HostRuntime) -> Result<(), Fail> {
-    assert!(rt; names_stay(rt.alloc(), &PINNED_EDGE, &CROSSING)?);
-    Ok(())
-}
 
 const OVERLAPS: [Call; 10] = [
     Call::Makes(Edit::Insert(0, 0, 6, 0), Answer::Drawn(1)),
@@ -72,19 +65,12 @@ const DIAGONALS: [Call; 7] = [
     ),
 ];
 
-const PIECES: [Call; 2] = [
+// From inside one edge, along a second, to inside a third.
+const ZONE: [Call; 3] = [
     Call::Makes(Edit::Insert(2, 0, 4, 0), Answer::Drawn(1)),
     Call::Makes(Edit::Insert(0, 0, 6, 0), Answer::Drawn(2)),
+    Call::HasZone((1, 5), &[1, 2, 4, 5], &[(0, 2), (2, 4), (4, 6)]),
 ];
-
-// From inside one edge, along a second, to inside a third.
-#[test]
-fn a_zone_goes_along_what_it_overlaps(rt: HostRuntime) -> Result<(), Fail> {
-    let points = [1, 2, 4, 5];
-    let edges = [(0, 2), (2, 4), (4, 6)];
-    assert!(rt; zone_is_told(rt.alloc(), &PIECES, (1, 5), &points, &edges)?);
-    Ok(())
-}
 
 const REMOVALS: [Call; 13] = [
     Call::Makes(Edit::Insert(0, 0, 6, 0), Answer::Drawn(4294967294)),
@@ -113,8 +99,21 @@ const SPLITS: [Call; 8] = [
     Call::Counts([0, 0, 1, 0, 0, 0]),
 ];
 
+// Each cut leaves each curve one piece more: five in the end, ten thousand in all.
+const PIECES: [Call; 9] = [
+    Call::Draws(2000),
+    Call::Pins(20),
+    Call::Makes(Edit::RemoveEdge(1, 2), Answer::Done),
+    Call::Makes(Edit::RemoveEdge(3, 4), Answer::Done),
+    Call::Makes(Edit::RemoveEdge(5, 6), Answer::Done),
+    Call::Makes(Edit::RemoveEdge(7, 8), Answer::Done),
+    Call::KeepsText(Edit::RemoveEdge(9, 10), Answer::Full(10000)),
+    Call::Counts([21, 16, 1, 5, 0, 2000]),
+    Call::HasFirstCurves(9, 10, 2000),
+];
+
 // Each with its limits and with what it shows.
-const TABLES: [(&str, Under, &[Call]); 7] = [
+const TABLES: [(&str, Under, &[Call]); 10] = [
     (
         "the last number is drawn once",
         Under::LastNumber,
@@ -142,6 +141,13 @@ const TABLES: [(&str, Under, &[Call]); 7] = [
         Under::Script,
         &SPLITS,
     ),
+    (
+        "names stay on an edge with a pin",
+        Under::Script,
+        &PINNED_EDGE,
+    ),
+    ("a zone goes along what it overlaps", Under::Script, &ZONE),
+    ("ten thousand pieces are the most", Under::Script, &PIECES),
 ];
 
 #[test]
