@@ -5,12 +5,12 @@ use Rattle.exact_plane.specs.Line.{Line}
 use Rattle.slab_laws.specs.declared.names.DartId.{DartId}
 use Rattle.slab_laws.specs.declared.names.VertexId.{VertexId}
 use Rattle.slab_laws.specs.View.{View, source_in, twin_in, next_in, line_in}
-use Rattle.view_changes.specs.Around.{after_in}
-use Rattle.view_changes.specs.Writers.{with_vertex, without_vertex, with_pin, with_pair, without_pair, with_next, with_source, redirect, no_rows}
+use Rattle.arr_notes.specs.AfterAround.{after_in}
+use Rattle.arr_notes.specs.ViewChanges.{with_vertex, without_vertex, with_pin, with_pair, without_pair, with_next, with_source, redirect, no_rows}
 use Rattle.arr_notes.specs.declared.change.Change.{Change}
 use Rattle.arr_notes.specs.declared.change.Change.TheVariants.{AddVertex, RemoveVertex, SplitEdge, MergeEdge, AddEdge, RemoveEdge, AddCurve, RemoveCurve, SetPin, ClearPin, Clear}
 
--- ---- an edge more, directly after a dart at each end, or at a bare end
+-- ---- one more edge, directly after a dart at each end, or at a bare end
 -- what follows a new dart that comes back to this end: the dart that came after the place, or, at a bare end, the new dart out of it
 abbrev pub followed : View → Option DartId → DartId → DartId
 followed v None x = x
@@ -28,7 +28,7 @@ add_edge v d m u w at_u at_w l =
     (record { source = u; twin = m; next = followed v at_w m; line = l })
     (record { source = w; twin = d; next = followed v at_u d; line = l })))
 
--- ---- an edge fewer: the order round both ends closes up
+-- ---- one edge fewer: the order round both ends closes up
 abbrev pub remove_edge : View → DartId → DartId → View
 remove_edge v d m = without_pair (redirect (redirect v d (next_in v m)) m (next_in v d)) d m
 

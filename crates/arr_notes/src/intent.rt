@@ -8,7 +8,7 @@ pub enum Intent {
     AddVertex(Point),
     /// The vertex at the point goes.
     RemoveVertex(Point),
-    /// The edge between the first two points goes in two at the third.
+    /// The edge between the first two points is split at the third.
     SplitEdge(Point, Point, Point),
     /// The two edges that meet at the point become one.
     MergeEdge(Point),

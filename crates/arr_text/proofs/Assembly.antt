@@ -14,21 +14,22 @@ use Rattle.slab_laws.specs.Subdivision.{Subdivision, subdivision}
 use Rattle.slab_laws.specs.Text.{number, ended, vertex_line, edge_line, face_lines, numbered, text, text_by}
 use Rattle.slab_laws.specs.View.{View, HasDart, point_in}
 use Rattle.sound_views.specs.Orders.{vertex_order, dart_order}
-use Rattle.sound_views.proofs.Ordered.{points_in_order, ordered_dart}
+use Rattle.sound_views.proofs.NamesOrdered.{points_in_order, ordered_dart}
 use Rattle.record_orders.specs.Keys.{vertex_key, vertex_keys, dart_key, dart_keys}
 use Rattle.record_orders.specs.declared.vertices.VertexKey.{VertexKey}
 use Rattle.record_orders.specs.declared.darts.DartKey.{DartKey}
 use Rattle.record_orders.proofs.Sorting.{all_members}
 use Rattle.arr_text.specs.Reading.{pins_in, words_in, marks_in, text_in, title}
 use Rattle.arr_text.proofs.Neighbours.{count}
-use Rattle.arr_text.proofs.Joined.{more, joined}
+use Rattle.arr_text.proofs.Joined.{joined}
+use Rattle.plane_graphs.proofs.Lists.{then_appended}
 
 pub title_put : {T E : Type 0} (r : Result T E) (n m k : ℕ) (s a b c d z : List ℕ) → a ≡ s ++ codes "arrangement" → b ≡ a ++ number n → c ≡ b ++ number m → d ≡ c ++ number k → OnOk r (z ≡ d ++ 10 ∷ []) → OnOk r (z ≡ s ++ title n m k)
 unfolding title ended
 title_put r n m k s a b c d z e f g h i =
-    let two = more s a b (codes "arrangement") (number n) e f in
-    let three = more s b c (codes "arrangement" ++ number n) (number m) two g in
-    let four = more s c d ((codes "arrangement" ++ number n) ++ number m) (number k) three h in
+    let two = then_appended s a b (codes "arrangement") (number n) e f in
+    let three = then_appended s b c (codes "arrangement" ++ number n) (number m) two g in
+    let four = then_appended s c d ((codes "arrangement" ++ number n) ++ number m) (number k) three h in
     joined r s d z (((codes "arrangement" ++ number n) ++ number m) ++ number k) (10 ∷ []) ((codes "arrangement" ++ (number n ++ (number m ++ number k))) ++ 10 ∷ []) four i (ap (λ (t : List ℕ). t ++ 10 ∷ []) (turned (codes "arrangement") (number n) (number m) (number k)))
   where
     turned : (w x y t : List ℕ) → ((w ++ x) ++ y) ++ t ≡ w ++ (x ++ (y ++ t))
@@ -110,7 +111,7 @@ module _ (v : View) (s : IsGraphSound v) where
       let y : List ℕ = flat_map (edge_line (skeleton_of v)) (zip (skeleton_of v).edges (words_in v curves)) in
       let w : List ℕ = flat_map (face_lines S (λ f. [])) (numbered 0 S.faces) in
       let first : a ≡ from ++ t = h ∙ ap (λ (q : ℕ). from ++ title q m k) e ∙ ap (λ (q : ℕ). from ++ title (length (skeleton_of v).vertices) q k) f ∙ ap (λ (q : ℕ). from ++ title (length (skeleton_of v).vertices) (length (skeleton_of v).edges) q) g in
-      let two = more from a b t x first i in
-      let three = more from b c (t ++ x) y two j in
-      let four = more from c d ((t ++ x) ++ y) w three l in
+      let two = then_appended from a b t x first i in
+      let three = then_appended from b c (t ++ x) y two j in
+      let four = then_appended from c d ((t ++ x) ++ y) w three l in
       joined r from d z (((t ++ x) ++ y) ++ w) (codes "end\n") (text_in v curves) four p (in_all curves)

@@ -68,9 +68,6 @@ module _ {X : Type 0} (p : X → Bool) (rank : X → ℕ) (line : X → List ℕ
           ∙ ap (λ (t : List ℕ). t ++ gain k (drop (suc i) all)) (sym (ap (λ (ts : List (List ℕ)). get_or ts k []) (f ∙ ap₂ (λ (j : ℕ) (t : List ℕ). set now j (get_or now j [] ++ t)) a b) ∙ written now x k c r q))
           ∙ ap (λ (j : ℕ). get_or next k [] ++ gain k (drop j all)) (one_on i)
 
-  pub all_gained : (old now : List (List ℕ)) (all : List X) (i : ℕ) → drop i all ≡ [] → IsGaining old now all (drop i all) → (k : ℕ) → k < length old → get_or now k [] ≡ get_or old k [] ++ gain k all
-  all_gained old now all i e h k m = sym (h.1 k m ∙ ap (λ (xs : List X). get_or now k [] ++ gain k xs) e ∙ append-nil (get_or now k []))
-
 -- ---- the same lines, of what is made of the elements
 -- made, then filtered twice
 pub filtered_twice : {X Y : Type 0} (h : X → Y) (line : Y → List ℕ) (p q : Y → Bool) (a b : X → Bool) (xs : List X) → ((x : X) → Member x xs → p (h x) ≡ a x) → ((x : X) → Member x xs → q (h x) ≡ b x)

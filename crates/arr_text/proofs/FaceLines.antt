@@ -16,12 +16,12 @@ use Rattle.slab_laws.specs.Text.{cycle_line, ended, face_lines, index, number, n
 use Rattle.slab_laws.specs.View.{View, Faces, HasBareFace, point_in, bare_face_in}
 use Rattle.slab_laws.specs.FacesSound.{IsSound}
 use Rattle.sound_views.specs.Orders.{vertex_order}
-use Rattle.sound_views.proofs.Bare.{bare_is_bare}
-use Rattle.sound_views.proofs.Ordered.{vertices_in_order}
+use Rattle.sound_views.proofs.IsolatedVertices.{bare_is_bare}
+use Rattle.sound_views.proofs.NamesOrdered.{vertices_in_order}
 use Rattle.record_orders.specs.declared.vertices.VertexKey.{VertexKey}
 use Rattle.record_orders.specs.Keys.{vertex_key, vertex_keys}
-use Rattle.record_cycles.specs.declared.cycles.CycleKey.{CycleKey}
-use Rattle.record_cycles.specs.Keys.{same_face, ranked_faces}
+use Rattle.record_orders.specs.declared.cycles.CycleKey.{CycleKey}
+use Rattle.record_orders.specs.CycleKeys.{same_face, ranked_faces}
 use Rattle.arr_text.proofs.FaceBodies.{gain, filtered_twice, filtered_between, numbered_bodies}
 use Rattle.arr_text.proofs.FaceNames.{keys, model, map_map, cycles_named, outer_same, cycle_rank, bare_rank, vertex_at, faces_counted}
 
@@ -81,10 +81,6 @@ module _ (v : View) (f : Faces) (s : IsSound v f) where
 
   abbrev bare_of : Point → Bare
   bare_of p = record { point = p; face = face_of (face_labels (skeleton_of v)) (left_cell (skeleton_of v) p) }
-
-  bare_are : sub.bare ≡ map bare_of (filter (λ p. not (has_dart (skeleton_of v) p)) (skeleton_of v).vertices)
-  unfolding subdivision
-  bare_are = refl
 
   points_are : map (λ (u : VertexKey). u.point) (vertex_keys v) ≡ (skeleton_of v).vertices
   points_are = map_map (vertex_key v) (λ (u : VertexKey). u.point) (vertex_order v) ∙ vertices_in_order v s.graph

@@ -33,22 +33,22 @@ use Rattle.slab_laws.specs.View.{View, Faces, HasVertex, HasDart, HasFace, HasBa
 use Rattle.slab_faces.proofs.FacesLemmas.{cells_exact}
 use Rattle.slab_faces.proofs.NextLemmas.{darts_exact}
 use Rattle.slab_faces.proofs.Member.{Member as In, in_member}
-use Rattle.listed_views.proofs.Darts.{listed_lead}
-use Rattle.listed_views.proofs.Places.{at_place, place_at, place_within, from_in}
-use Rattle.listed_views.proofs.RankedFaces.{cycle_of, cycles_are, outer_is, face_is, faces_apart, dart_face, vertex_face}
+use Rattle.sound_views.proofs.ListedDarts.{listed_lead}
+use Rattle.sound_views.proofs.ListedPlaces.{at_place, place_at, place_within, from_in}
+use Rattle.sound_views.proofs.RankedFaces.{cycle_of, cycles_are, outer_is, face_is, faces_apart, dart_face, vertex_face}
 use Rattle.sound_views.specs.Orders.{vertex_order, dart_order}
-use Rattle.sound_views.proofs.Bare.{bare_is_bare}
-use Rattle.sound_views.proofs.Named.{names_are_darts}
-use Rattle.sound_views.proofs.Ordered.{vertices_in_order, vertices_are_ordered, darts_in_order, darts_are_ordered}
-use Rattle.face_orders.specs.Laws.{same_cycle as on_one_cycle}
-use Rattle.face_orders.proofs.DartOrder.{all_are_listed}
-use Rattle.face_orders.proofs.Firsts.{of_distinct}
-use Rattle.face_orders.proofs.CycleLeads.{leads_are_first}
-use Rattle.face_orders.proofs.OuterFaces.{faces_are_ranked}
+use Rattle.sound_views.proofs.IsolatedVertices.{bare_is_bare}
+use Rattle.sound_views.proofs.NamedDarts.{names_are_darts}
+use Rattle.sound_views.proofs.NamesOrdered.{vertices_in_order, vertices_are_ordered, darts_in_order, darts_are_ordered}
+use Rattle.sound_views.specs.FaceOrderLaws.{same_cycle as on_one_cycle}
+use Rattle.sound_views.proofs.CycleDartOrder.{all_are_listed}
+use Rattle.sound_views.proofs.FirstDarts.{of_distinct}
+use Rattle.sound_views.proofs.CycleLeads.{leads_are_first}
+use Rattle.sound_views.proofs.OuterFaces.{faces_are_ranked}
 use Rattle.record_orders.specs.declared.vertices.VertexKey.{VertexKey}
 use Rattle.record_orders.specs.Keys.{vertex_key, vertex_keys}
-use Rattle.record_cycles.specs.declared.cycles.CycleKey.{CycleKey}
-use Rattle.record_cycles.specs.Keys.{same_cycle, is_outer, cycle_key, cycle_keys, same_face, first_faces, ranked_faces}
+use Rattle.record_orders.specs.declared.cycles.CycleKey.{CycleKey}
+use Rattle.record_orders.specs.CycleKeys.{same_cycle, is_outer, cycle_key, cycle_keys, same_face, first_faces, ranked_faces}
 
 -- ---- lists of what is made of the elements
 module _ {X Y : Type 0} (make : X → Y) where

@@ -12,7 +12,7 @@ use Rattle.exact_plane.specs.PointOrder.{point_cmp}
 use Rattle.plane_graphs.specs.Ascending.{Member}
 use Rattle.plane_graphs.specs.Graph.{Edge}
 use Rattle.plane_graphs.proofs.Ascending.{to_member}
-use Rattle.plane_graphs.proofs.Lists.{in_map, of_map, in_filter, of_filter, any_in, any_out, both_ways}
+use Rattle.plane_graphs.proofs.Lists.{in_map, of_map, in_filter, of_filter, any_in, any_out, both_ways, then_appended}
 use Rattle.slab_laws.specs.declared.names.CurveId.{CurveId}
 use Rattle.slab_laws.specs.declared.names.DartId.{DartId}
 use Rattle.slab_laws.specs.declared.names.VertexId.{VertexId}
@@ -22,14 +22,14 @@ use Rattle.slab_laws.specs.Rotation.{rotation}
 use Rattle.slab_laws.specs.Sound.{skeleton_of, dart_in, IsGraphSound}
 use Rattle.slab_laws.specs.Text.{number, index, triple, ended, vertex_line, edge_line, word}
 use Rattle.slab_laws.specs.View.{View, HasVertex, HasDart, point_in, pinned_in}
-use Rattle.slab_faces.proofs.Parity.{same_point_is, same_point_refl}
 use Rattle.sound_views.specs.Orders.{vertex_order, dart_order}
-use Rattle.sound_views.proofs.Ordered.{vertex_ordered, ordered_vertex, ordered_dart, points_in_order, edges_in_order_of}
+use Rattle.sound_views.proofs.NamesOrdered.{vertex_ordered, ordered_vertex, ordered_dart, points_in_order, edges_in_order_of}
 use Rattle.arr_text.specs.Reading.{pins_in, vertex_place, edge_ends, curve_words, words_in}
 use Rattle.record_orders.specs.declared.vertices.VertexKey.{VertexKey}
 use Rattle.record_orders.specs.declared.darts.DartKey.{DartKey}
 use Rattle.record_orders.specs.Keys.{vertex_key, vertex_keys, dart_key, dart_keys}
-use Rattle.arr_text.proofs.Joined.{more, joined}
+use Rattle.arr_text.proofs.Joined.{joined}
+use Rattle.slab_faces.proofs.Parity.{same_point_is, same_point_refl}
 
 -- a vertex is pinned exactly where its point is one of the pins
 pub pin_told : (v : View) (s : IsGraphSound v) (u : VertexId) → HasVertex v u → pinned_in v u ≡ list_any (same_point (point_in v u)) (pins_in v)
@@ -61,9 +61,9 @@ vertex_put r v ps p pinned pins s a b c d z e t f g h i j =
     let w : List ℕ = flat_map (λ h. number (index (skeleton_of v) (target h))) (rotation (darts (skeleton_of v)) p) in
     let place : a ≡ s ++ (codes "v" ++ (n ++ x)) = f ∙ ap (λ (qs : List Point). s ++ (codes "v" ++ (number (position_or_len (same_point p) qs + 1) ++ x))) e in
     let pin : b ≡ a ++ y = g ∙ ap (λ (q : Bool). a ++ cond q (codes " pin") []) t in
-    let two = more s a b (codes "v" ++ (n ++ x)) y place pin in
-    let three = more s b c ((codes "v" ++ (n ++ x)) ++ y) (codes " :") two h in
-    let four = more s c d (((codes "v" ++ (n ++ x)) ++ y) ++ codes " :") w three i in
+    let two = then_appended s a b (codes "v" ++ (n ++ x)) y place pin in
+    let three = then_appended s b c ((codes "v" ++ (n ++ x)) ++ y) (codes " :") two h in
+    let four = then_appended s c d (((codes "v" ++ (n ++ x)) ++ y) ++ codes " :") w three i in
     joined r s d z ((((codes "v" ++ (n ++ x)) ++ y) ++ codes " :") ++ w) (10 ∷ []) ((codes "v" ++ (n ++ (x ++ (y ++ (codes " :" ++ w))))) ++ 10 ∷ []) four j
     (ap (λ (t : List ℕ). t ++ 10 ∷ []) (five (codes "v") n x y (codes " :") w))
   where
@@ -141,8 +141,8 @@ unfolding edge_ends
 ends_put r ps p q s a b c z e f g h =
     let i : List ℕ = number (position_or_len (same_point p) ps + 1) in
     let j : List ℕ = number (position_or_len (same_point q) ps + 1) in
-    let two = more s a b (codes "e") i e f in
-    let three = more s b c (codes "e" ++ i) j two g in
+    let two = then_appended s a b (codes "e") i e f in
+    let three = then_appended s b c (codes "e" ++ i) j two g in
     joined r s c z ((codes "e" ++ i) ++ j) (codes " :") (codes "e" ++ (i ++ (j ++ codes " :"))) three h (four (codes "e") i j (codes " :"))
   where
     four : (k n x y : List ℕ) → ((k ++ n) ++ x) ++ y ≡ k ++ (n ++ (x ++ y))
@@ -165,7 +165,7 @@ edge_put r v ps k cs ds s a b z e key forward same f g h =
     let ends : List ℕ = codes "e" ++ (n k.source ++ (n k.target ++ codes " :")) in
     let first : a ≡ s ++ ends = f ∙ ap (λ (qs : List Point). s ++ (codes "e" ++ (number (position_or_len (same_point k.source) qs + 1) ++ (number (position_or_len (same_point k.target) qs + 1) ++ codes " :")))) e in
     let second : b ≡ a ++ w = g ∙ ap (λ (xs : List CurveId). a ++ flat_map word (curve_words xs)) same in
-    let both = more s a b ends w first second in
+    let both = then_appended s a b ends w first second in
     joined r s b z (ends ++ w) (10 ∷ []) ((codes "e" ++ (n (dart_in v k.name).edge.low ++ (n (dart_in v k.name).edge.high ++ (codes " :" ++ w)))) ++ 10 ∷ []) both h
     (ap (λ (t : List ℕ). t ++ 10 ∷ []) (four (codes "e") (n k.source) (n k.target) (codes " :") w ∙ ap (λ (x : Edge). codes "e" ++ (n x.low ++ (n x.high ++ (codes " :" ++ w)))) (sym here)))
   where

@@ -19,21 +19,19 @@ use Rattle.slab_laws.specs.Darts.{Dart, source, target, darts}
 use Rattle.slab_laws.specs.Rotation.{rotation}
 use Rattle.slab_laws.specs.Sound.{skeleton_of, dart_in, IsGraphSound}
 use Rattle.slab_laws.specs.View.{View, HasVertex, HasDart, point_in}
-use Rattle.slab_faces.proofs.Parity.{same_point_is, same_point_refl}
 use Rattle.sound_views.specs.Orders.{dart_order}
-use Rattle.sound_views.proofs.Named.{names_are_darts}
-use Rattle.sound_views.proofs.Ordered.{dart_ordered, ordered_dart, darts_in_order_of}
-use Rattle.sound_views.proofs.Bare.{bare_is_bare}
-use Rattle.vertex_rounds.specs.Rounds.{round}
-use Rattle.vertex_rounds.specs.Laws.{HasLeastTarget}
-use Rattle.vertex_rounds.proofs.Turned.{round_is_rotation, none_round}
-use Rattle.face_orders.proofs.DartOrder.{all_are_listed}
+use Rattle.sound_views.proofs.NamedDarts.{names_are_darts}
+use Rattle.sound_views.proofs.NamesOrdered.{dart_ordered, ordered_dart, darts_in_order_of}
+use Rattle.sound_views.proofs.IsolatedVertices.{bare_is_bare}
+use Rattle.sound_views.specs.VertexRounds.{round}
+use Rattle.sound_views.specs.VertexRoundLaws.{HasLeastTarget}
+use Rattle.sound_views.proofs.RoundTurned.{round_is_rotation, none_round}
+use Rattle.sound_views.proofs.CycleDartOrder.{all_are_listed}
 use Rattle.record_orders.specs.declared.darts.DartKey.{DartKey}
 use Rattle.record_orders.specs.Keys.{dart_key, dart_keys, first_out, AreBySource}
 use Rattle.record_orders.proofs.DartKeys.{key_cmp, ascends}
-
-not_both : (b : Bool) → b ≡ true → b ≡ false → ⊥
-not_both b t f = cc
+use Rattle.integers.proofs.Decisions.{clash}
+use Rattle.slab_faces.proofs.Parity.{same_point_is, same_point_refl}
 
 -- ---- what is found first
 module _ (p : Point) where
@@ -47,7 +45,7 @@ module _ (p : Point) where
       → (find leaves xs ≡ Some k → Member m xs → Follows k m) → Follows k m
   found_by k x m xs true t a e (inl i) h f = let same : x ≡ k = cc in inl (i ∙ same)
   found_by k x m xs true t a e (inr n) h f = let same : x ≡ k = cc in inr (subst (λ (y : DartKey). key_cmp y m ≡ Less) same (All-member _ m xs a.0 n))
-  found_by k x m xs false t a e (inl i) h f = absurd (not_both (leaves x) (subst (λ (y : DartKey). leaves y ≡ true) i h) t)
+  found_by k x m xs false t a e (inl i) h f = absurd (clash (leaves x) (subst (λ (y : DartKey). leaves y ≡ true) i h) t)
   found_by k x m xs false t a e (inr n) h f = f e n
 
   -- of ascending keys, those that leave the point come no earlier than the one that is found
@@ -65,7 +63,7 @@ module _ (p : Point) where
 
   some_by : (x m : DartKey) (xs : List DartKey) (b : Bool) → leaves x ≡ b → cond b (Some x) (find leaves xs) ≡ None → Member m (x ∷ xs) → leaves m ≡ true → (find leaves xs ≡ None → Member m xs → ⊥) → ⊥
   some_by x m xs true t e n h f = absurd cc
-  some_by x m xs false t e (inl i) h f = not_both (leaves x) (subst (λ (y : DartKey). leaves y ≡ true) i h) t
+  some_by x m xs false t e (inl i) h f = clash (leaves x) (subst (λ (y : DartKey). leaves y ≡ true) i h) t
   some_by x m xs false t e (inr n) h f = f e n
 
   none_leaves : (m : DartKey) (ks : List DartKey) → find leaves ks ≡ None → Member m ks → leaves m ≡ true → ⊥

@@ -2,7 +2,7 @@
 use Rattle.std.proofs.Common.{◌≡◌, ℕ, zero, suc, ◌+◌, ◌-◌, ◌<◌, ◌≤◌, Bool, true, false, List, [], ◌∷◌, ◌++◌, refl, sym, ap, ◌∙◌, subst, append_assoc, arith}
 use Rattle.std.specs.Prelude.{flat_map, ◌==◌}
 use Rattle.std.specs.List.{position_or_len}
-use Rattle.std.proofs.lemmas.Bool.{false_from_ne_true, eqb-true, eq-eqb}
+use Rattle.std.proofs.lemmas.Bool.{false_from_ne_true, eq-eqb}
 use Rattle.std.proofs.lemmas.List.{append-nil}
 use Rattle.exact_plane.specs.Point.{Point}
 use Rattle.exact_plane.specs.PointOrder.{point_cmp}
@@ -18,7 +18,7 @@ use Rattle.slab_laws.specs.Text.{number, index}
 use Rattle.slab_laws.specs.Sound.{skeleton_of, dart_in, IsGraphSound}
 use Rattle.slab_laws.specs.View.{View, HasDart}
 use Rattle.slab_faces.proofs.NextLemmas.{darts_exact}
-use Rattle.vertex_rounds.specs.Rounds.{round}
+use Rattle.sound_views.specs.VertexRounds.{round}
 
 -- the points of a view ascend
 pub points_ascend : (v : View) (ps : List Point) → ps ≡ (skeleton_of v).vertices → IsAscending point_cmp ps
@@ -30,13 +30,6 @@ one_dart v d e h = subst (λ (x : DartId). same_dart (dart_in v d) (dart_in v x)
 
 pub two_darts : (v : View) → IsGraphSound v → (d e : DartId) → HasDart v d → HasDart v e → (d ≡ e → ⊥) → same_dart (dart_in v d) (dart_in v e) ≡ false
 two_darts v s d e hd he f = false_from_ne_true _ (λ h. f (s.turned.differ d e hd he (darts_exact.path (dart_in v d) (dart_in v e) h)))
-
-by_number : (d e : DartId) → d.0 ≡ e.0 → d ≡ e
-by_number d e h = λ i. record { 0 = h i }
-
--- as the code compares names
-pub same_name : (d e : DartId) (b : Bool) → b ≡ (d.0 == e.0) → b ≡ true → d ≡ e
-same_name d e b i t = by_number d e (eqb-true d.0 e.0 (sym i ∙ t))
 
 pub other_name : (d e : DartId) (b : Bool) → b ≡ (d.0 == e.0) → b ≡ false → d ≡ e → ⊥
 other_name d e b i f same = let t : (d.0 == e.0) ≡ true = eq-eqb d.0 e.0 (ap (λ (x : DartId). x.0) same) in cc

@@ -35,13 +35,17 @@ marks_in v curves = record { pins = pins_in v; words = words_in v curves }
 unfoldable pub text_in : View → (DartId → List CurveId) → List ℕ
 text_in v curves = text (subdivision (skeleton_of v)) (marks_in v curves)
 
+-- a point's place among points, from 1 on; where it isn't there, one more than their number
+abbrev pub place_in : List Point → Point → ℕ
+place_in ps p = position_or_len (same_point p) ps + 1
+
 -- a vertex's number and its point
 unfoldable pub vertex_place : List Point → Point → List ℕ
-vertex_place ps p = codes "v" ++ (number (position_or_len (same_point p) ps + 1) ++ triple p)
+vertex_place ps p = codes "v" ++ (number (place_in ps p) ++ triple p)
 
 -- the numbers of an edge's two ends
 unfoldable pub edge_ends : List Point → Point → Point → List ℕ
-edge_ends ps p q = codes "e" ++ (number (position_or_len (same_point p) ps + 1) ++ (number (position_or_len (same_point q) ps + 1) ++ codes " :"))
+edge_ends ps p q = codes "e" ++ (number (place_in ps p) ++ (number (place_in ps q) ++ codes " :"))
 
 -- the first line
 unfoldable pub title : ℕ → ℕ → ℕ → List ℕ

@@ -1,12 +1,13 @@
-ghost use Rattle.std.specs.Prelude.{◌≡◌, ◌++◌, flat_map, zip, true, OnOk};
+ghost use Rattle.std.specs.Prelude.{◌≡◌, ◌++◌, flat_map, true, OnOk};
 ghost use Rattle.std.specs.Ordering.{is_lt};
 ghost use Rattle.exact_plane.specs.PointOrder.{point_cmp};
 ghost use Rattle.plane_graphs.specs.Ascending.{IsAscending};
-ghost use Rattle.slab_laws.specs.Sound.{skeleton_of, dart_in, IsGraphSound};
-ghost use Rattle.slab_laws.specs.Text.{word, edge_line};
+ghost use Rattle.slab_laws.specs.Sound.{skeleton_of, IsGraphSound};
+ghost use Rattle.slab_laws.specs.Text.{word};
 ghost use Rattle.slab_laws.specs.View.{HasDart};
 ghost use Rattle.record_orders.specs.Keys.{dart_key, dart_keys};
-ghost use Rattle.arr_text.specs.Reading.{curve_words, words_in, edge_ends};
+ghost use Rattle.arr_text.specs.Reading.{curve_words, edge_ends};
+ghost use Rattle.arr_text.specs.Parts.{edge_text, edges_text};
 
 use crate::put::{put_index, put_number, put_text};
 use exact_plane::Point;
@@ -48,7 +49,8 @@ fn put_edge<R: Curved>(
     requires has { HasDart (R.graph records.now) dart.now.name }
     requires key { dart.now ≡ dart_key (R.graph records.now) dart.now.name }
     requires forward { is_lt (point_cmp dart.now.source dart.now.target) ≡ true }
-    ensures { OnOk result (let v = R.graph records.now in out.new.items ≡ out.old.items ++ edge_line (skeleton_of v) ((dart_in v dart.now.name).edge, curve_words (R.curve_list records.now dart.now.name))) }
+    ensures { OnOk result
+        (out.new.items ≡ out.old.items ++ edge_text (R.graph records.now) (R.curve_list records.now) dart.now.name) }
 {
     put_ends(out, points, dart)?;
     let curves = records.curves(alloc, dart.name)?;
@@ -74,7 +76,8 @@ pub(crate) fn put_edges<R: Curved>(
     requires sound { IsGraphSound (R.graph records.now) }
     requires points { points.now ≡ (skeleton_of (R.graph records.now)).vertices }
     requires darts { darts.now ≡ dart_keys (R.graph records.now) }
-    ensures { OnOk result (let v = R.graph records.now in out.new.items ≡ out.old.items ++ flat_map (edge_line (skeleton_of v)) (zip (skeleton_of v).edges (words_in v (R.curve_list records.now)))) }
+    ensures { OnOk result
+        (out.new.items ≡ out.old.items ++ edges_text (R.graph records.now) (R.curve_list records.now)) }
 {
     for dart in darts {
         if is_forward(dart) {

@@ -1,26 +1,20 @@
-ghost use Rattle.std.specs.Prelude.{◌≡◌, ◌<◌, ◌+◌, ◌++◌, ◌&&◌, ◌==◌, not, cond, filter, flat_map, length, codes, [], OnOk};
-ghost use Rattle.std.specs.List.{position_or_len, slice_index_or};
+ghost use Rattle.std.specs.Prelude.{◌≡◌, ◌++◌, length, OnOk};
 ghost use Rattle.exact_plane.specs.PointOrder.{point_cmp};
 ghost use Rattle.plane_graphs.specs.Ascending.{IsAscending};
-ghost use Rattle.slab_laws.specs.Cycles.{dart_labels};
-ghost use Rattle.slab_laws.specs.Darts.{darts as darts_in};
-ghost use Rattle.slab_laws.specs.Faces.{face_labels};
-ghost use Rattle.slab_laws.specs.Skeleton.{same_point};
-ghost use Rattle.slab_laws.specs.Sound.{skeleton_of, dart_in, IsGraphSound};
-ghost use Rattle.slab_laws.specs.Subdivision.{cycle, subdivision, has_dart};
-ghost use Rattle.slab_laws.specs.Text.{cycle_line, ended, face_lines, index, number, numbered};
-ghost use Rattle.slab_laws.specs.View.{HasDart, bare_face_in};
+ghost use Rattle.slab_laws.specs.Sound.{skeleton_of, IsGraphSound};
+ghost use Rattle.slab_laws.specs.View.{HasDart};
 ghost use Rattle.slab_laws.specs.FacesSound.{IsSound};
 ghost use Rattle.sound_views.specs.Orders.{dart_order};
 ghost use Rattle.record_orders.specs.Keys.{vertex_keys};
-ghost use Rattle.record_cycles.specs.Keys.{cycle_keys, ranked_faces, same_face};
+ghost use Rattle.record_orders.specs.CycleKeys.{cycle_keys, ranked_faces};
+ghost use Rattle.arr_text.specs.Reading.{place_in};
+ghost use Rattle.arr_text.specs.Parts.{face_order, letter_of, cycle_text, cycles_text, isolated_line, isolated_text, face_line, bodies_text, faces_text, HaveGained};
 
 use crate::put::{put_index, put_number, put_text};
 use crate::rounds::put_trail;
 use exact_plane::Point;
 use no_memory::NoMemory;
-use record_cycles::{Bodies, CycleKey, Ranks};
-use record_orders::VertexKey;
+use record_orders::{Bodies, CycleKey, Ranks, VertexKey};
 use slab_laws::{DartId, Darts, Faced};
 use std::alloc::Global;
 
@@ -37,7 +31,7 @@ fn make_cycle_line<R: Darts>(
     requires points { points.now ≡ (skeleton_of (R.graph records.now)).vertices }
     requires darts { darts ≡ length (dart_order (R.graph records.now)) }
     requires lead { HasDart (R.graph records.now) lead }
-    ensures { OnOk result (let g = skeleton_of (R.graph records.now) in line.new.items ≡ cycle_line g letter.now (cycle g (face_labels g) (darts_in g) (dart_labels (darts_in g)) (dart_in (R.graph records.now) lead))) }
+    ensures { OnOk result (line.new.items ≡ cycle_text (R.graph records.now) letter.now lead) }
 {
     line.clear();
     put_text(line, letter)?;
@@ -47,12 +41,12 @@ fn make_cycle_line<R: Darts>(
 
 // What the line of an outer cycle begins with, or that of an inner one.
 fn letter_of(outer: bool) -> &'static str
-    ensures { result.now ≡ cond outer (codes "o") (codes "h") }
+    ensures { result.now ≡ letter_of outer }
 {
     if outer { "o" } else { "h" }
 }
 
-// Puts the lines of outer cycles, or of inner ones, behind what is there of their faces.
+// Appends the lines of outer cycles, or of inner ones, to the parts of their faces.
 fn put_cycles<R: Faced>(
     bodies: &mut Bodies,
     line: &mut Vec<u8>,
@@ -70,7 +64,8 @@ fn put_cycles<R: Faced>(
     requires darts { darts ≡ length (dart_order (R.graph records.now)) }
     requires bodies { length bodies.old ≡ length ranks.now }
     ensures as_many { OnOk result (length bodies.new ≡ length bodies.old) }
-    ensures gain { OnOk result (let g = skeleton_of (R.graph records.now) in (k : _) → k < length bodies.old → slice_index_or bodies.new k [] ≡ slice_index_or bodies.old k [] ++ flat_map (λ c. cycle_line g (cond outer (codes "o") (codes "h")) (cycle g (face_labels g) (darts_in g) (dart_labels (darts_in g)) (dart_in (R.graph records.now) c.lead))) (filter (λ c. cond outer c.outer (not c.outer) && (position_or_len (same_face c.face) ranks.now == k)) cycles.now)) }
+    ensures gain { OnOk result (HaveGained
+        (cycles_text (R.graph records.now) outer ranks.now cycles.now) bodies.old bodies.new) }
 {
     for cycle in cycles {
         if cycle.outer == outer {
@@ -84,7 +79,7 @@ fn put_cycles<R: Faced>(
 // Makes the line of an isolated vertex, in place of what was there.
 fn make_isolated_line(line: &mut Vec<u8>, points: &[Point], point: &Point) -> Result<(), NoMemory>
     requires { IsAscending point_cmp points.now }
-    ensures { OnOk result (line.new.items ≡ ended (codes "p" ++ number (position_or_len (same_point point.now) points.now + 1))) }
+    ensures { OnOk result (line.new.items ≡ isolated_line (place_in points.now point.now)) }
 {
     line.clear();
     put_text(line, "p")?;
@@ -92,7 +87,7 @@ fn make_isolated_line(line: &mut Vec<u8>, points: &[Point], point: &Point) -> Re
     put_text(line, "\n")
 }
 
-// Puts the lines of isolated vertices behind what is there of their faces.
+// Appends the lines of isolated vertices to the parts of their faces.
 fn put_isolated<R: Faced>(
     bodies: &mut Bodies,
     line: &mut Vec<u8>,
@@ -104,10 +99,11 @@ fn put_isolated<R: Faced>(
     requires stands { IsSound (R.graph records.now) (R.faces records.now) }
     requires points { points.now ≡ (skeleton_of (R.graph records.now)).vertices }
     requires vertices { vertices.now ≡ vertex_keys (R.graph records.now) }
-    requires ranks { ranks.now ≡ ranked_faces (R.faces records.now) (cycle_keys (R.faces records.now) (dart_order (R.graph records.now))) }
+    requires ranks { ranks.now ≡ face_order (R.graph records.now) (R.faces records.now) }
     requires bodies { length bodies.old ≡ length ranks.now }
     ensures as_many { OnOk result (length bodies.new ≡ length bodies.old) }
-    ensures gain { OnOk result (let g = skeleton_of (R.graph records.now) in (k : _) → k < length bodies.old → slice_index_or bodies.new k [] ≡ slice_index_or bodies.old k [] ++ flat_map (λ u. ended (codes "p" ++ number (index g u.point))) (filter (λ u. not (has_dart g u.point) && (position_or_len (same_face (bare_face_in (R.faces records.now) u.name)) ranks.now == k)) vertices.now)) }
+    ensures gain { OnOk result (HaveGained
+        (isolated_text (R.graph records.now) (R.faces records.now) ranks.now vertices.now) bodies.old bodies.new) }
 {
     for vertex in vertices {
         if records.out_of(vertex.name).is_none() {
@@ -120,7 +116,7 @@ fn put_isolated<R: Faced>(
 
 // Puts the first line of a face, with its rank.
 fn put_rank(out: &mut Vec<u8>, rank: usize) -> Result<(), NoMemory>
-    ensures { OnOk result (out.new.items ≡ out.old.items ++ ended (codes "f" ++ number rank)) }
+    ensures { OnOk result (out.new.items ≡ out.old.items ++ face_line rank) }
 {
     put_text(out, "f")?;
     put_number(out, rank)?;
@@ -129,7 +125,7 @@ fn put_rank(out: &mut Vec<u8>, rank: usize) -> Result<(), NoMemory>
 
 // Puts the line of each face, with what stands under it.
 fn put_bodies(out: &mut Vec<u8>, bodies: &Bodies) -> Result<(), NoMemory>
-    ensures { OnOk result (out.new.items ≡ out.old.items ++ flat_map (λ b. ended (codes "f" ++ number b.0) ++ b.1) (numbered 0 bodies.now)) }
+    ensures { OnOk result (out.new.items ≡ out.old.items ++ bodies_text bodies.now) }
 {
     for rank in 0..bodies.len() {
         put_rank(out, rank)?;
@@ -156,7 +152,7 @@ pub(crate) fn put_faces<R: Faced>(
     requires cycles { cycles.now ≡ cycle_keys (R.faces records.now) (dart_order (R.graph records.now)) }
     requires ranks { ranks.now ≡ ranked_faces (R.faces records.now) cycles.now }
     requires darts { darts ≡ length (dart_order (R.graph records.now)) }
-    ensures { OnOk result (let s = subdivision (skeleton_of (R.graph records.now)) in out.new.items ≡ out.old.items ++ flat_map (face_lines s (λ f. [])) (numbered 0 s.faces)) }
+    ensures { OnOk result (out.new.items ≡ out.old.items ++ faces_text (R.graph records.now)) }
 {
     let mut bodies = Bodies::new(alloc, ranks.len())?;
     let mut line = Vec::new(alloc);

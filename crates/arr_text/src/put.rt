@@ -1,15 +1,14 @@
-ghost use Rattle.std.specs.Prelude.{◌≡◌, ◌+◌, ◌++◌, OnOk};
-ghost use Rattle.std.specs.List.{position_or_len};
+ghost use Rattle.std.specs.Prelude.{◌≡◌, ◌++◌, OnOk};
 ghost use Rattle.exact_plane.specs.PointOrder.{point_cmp};
 ghost use Rattle.plane_graphs.specs.Ascending.{IsAscending};
-ghost use Rattle.slab_laws.specs.Skeleton.{same_point};
 ghost use Rattle.slab_laws.specs.Text.{word, number, triple};
+ghost use Rattle.arr_text.specs.Reading.{place_in};
 
 use exact_plane::Point;
 use itoa::{Buffer, Integer};
 use no_memory::NoMemory;
 
-// Puts a text behind what is there.
+// Appends a text.
 pub(crate) fn put_text(out: &mut Vec<u8>, text: &str) -> Result<(), NoMemory>
     ensures { OnOk result (out.new.items ≡ out.old.items ++ text.now) }
 {
@@ -38,7 +37,7 @@ pub(crate) fn put_point(out: &mut Vec<u8>, point: &Point) -> Result<(), NoMemory
 // The place of a point among ascending points, from 1 on; where it isn't there, one more than their number.
 fn number_of(points: &[Point], point: &Point) -> usize
     requires { IsAscending point_cmp points.now }
-    ensures { result ≡ position_or_len (same_point point.now) points.now + 1 }
+    ensures { result ≡ place_in points.now point.now }
 {
     let count = points.len();
     points.binary_search(point).unwrap_or(count) + 1
@@ -47,7 +46,7 @@ fn number_of(points: &[Point], point: &Point) -> usize
 // Puts the number of a vertex, from 1, by its point.
 pub(crate) fn put_index(out: &mut Vec<u8>, points: &[Point], point: &Point) -> Result<(), NoMemory>
     requires { IsAscending point_cmp points.now }
-    ensures { OnOk result (out.new.items ≡ out.old.items ++ number (position_or_len (same_point point.now) points.now + 1)) }
+    ensures { OnOk result (out.new.items ≡ out.old.items ++ number (place_in points.now point.now)) }
 {
     put_number(out, number_of(points, point))
 }

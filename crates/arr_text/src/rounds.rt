@@ -1,10 +1,7 @@
-ghost use Rattle.std.specs.Prelude.{◌≡◌, ◌++◌, flat_map, length, OnOk};
-ghost use Rattle.slab_laws.specs.Cycles.{trail};
-ghost use Rattle.slab_laws.specs.Darts.{source, target, darts as darts_in};
-ghost use Rattle.slab_laws.specs.Sound.{skeleton_of, dart_in, IsGraphSound};
-ghost use Rattle.slab_laws.specs.Text.{number, index};
+ghost use Rattle.std.specs.Prelude.{◌≡◌, ◌++◌, OnOk};
+ghost use Rattle.slab_laws.specs.Sound.{skeleton_of, IsGraphSound};
 ghost use Rattle.slab_laws.specs.View.{HasDart};
-ghost use Rattle.vertex_rounds.specs.Rounds.{round};
+ghost use Rattle.arr_text.specs.Parts.{round_numbers, trail_numbers};
 
 use crate::put::put_index;
 use exact_plane::Point;
@@ -22,7 +19,7 @@ pub(crate) fn put_round<R: Darts>(
     requires sound { IsGraphSound (R.graph records.now) }
     requires points { points.now ≡ (skeleton_of (R.graph records.now)).vertices }
     requires first { HasDart (R.graph records.now) first }
-    ensures { OnOk result (let g = skeleton_of (R.graph records.now) in let d = dart_in (R.graph records.now) first in out.new.items ≡ out.old.items ++ flat_map (λ h. number (index g (target h))) (round (darts_in g) darts d d)) }
+    ensures { OnOk result (out.new.items ≡ out.old.items ++ round_numbers (R.graph records.now) darts first) }
 {
     let mut dart = first;
     'round: for _ in 0..darts {
@@ -46,7 +43,7 @@ pub(crate) fn put_trail<R: Darts>(
     requires sound { IsGraphSound (R.graph records.now) }
     requires points { points.now ≡ (skeleton_of (R.graph records.now)).vertices }
     requires first { HasDart (R.graph records.now) first }
-    ensures { OnOk result (let g = skeleton_of (R.graph records.now) in let d = dart_in (R.graph records.now) first in out.new.items ≡ out.old.items ++ flat_map (λ h. number (index g (source h))) (trail (darts_in g) darts d d)) }
+    ensures { OnOk result (out.new.items ≡ out.old.items ++ trail_numbers (R.graph records.now) darts first) }
 {
     let mut dart = first;
     'trail: for _ in 0..darts {

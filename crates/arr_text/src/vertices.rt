@@ -1,15 +1,11 @@
-ghost use Rattle.std.specs.Prelude.{◌≡◌, ◌++◌, flat_map, cond, codes, [], OnOk};
+ghost use Rattle.std.specs.Prelude.{◌≡◌, ◌++◌, cond, codes, [], OnOk};
 ghost use Rattle.exact_plane.specs.PointOrder.{point_cmp};
 ghost use Rattle.plane_graphs.specs.Ascending.{IsAscending};
-ghost use Rattle.std.specs.List.{position_or_len};
-ghost use Rattle.slab_laws.specs.Skeleton.{same_point};
-ghost use Rattle.slab_laws.specs.Darts.{target, darts as darts_in};
-ghost use Rattle.slab_laws.specs.Rotation.{rotation};
 ghost use Rattle.slab_laws.specs.Sound.{skeleton_of, IsGraphSound};
-ghost use Rattle.slab_laws.specs.Text.{number, index, vertex_line};
 ghost use Rattle.slab_laws.specs.View.{HasVertex, point_in};
-ghost use Rattle.record_orders.specs.Keys.{vertex_keys, dart_keys, vertex_key};
-ghost use Rattle.arr_text.specs.Reading.{pins_in, vertex_place};
+ghost use Rattle.record_orders.specs.Keys.{vertex_keys, dart_keys};
+ghost use Rattle.arr_text.specs.Reading.{vertex_place};
+ghost use Rattle.arr_text.specs.Parts.{neighbour_numbers, vertex_text, vertices_text};
 
 use crate::put::{put_index, put_point, put_text};
 use crate::rounds::put_round;
@@ -31,7 +27,7 @@ fn put_neighbours<R: Darts>(
     requires darts { darts.now ≡ dart_keys (R.graph records.now) }
     requires has { HasVertex (R.graph records.now) vertex.now.name }
     requires point { vertex.now.point ≡ point_in (R.graph records.now) vertex.now.name }
-    ensures { OnOk result (let g = skeleton_of (R.graph records.now) in out.new.items ≡ out.old.items ++ flat_map (λ h. number (index g (target h))) (rotation (darts_in g) vertex.now.point)) }
+    ensures { OnOk result (out.new.items ≡ out.old.items ++ neighbour_numbers (R.graph records.now) vertex.now.point) }
 {
     match first_out_of(darts, &vertex.point) {
         Some(first) => put_round(out, records, points, first, darts.len()),
@@ -71,7 +67,7 @@ fn put_vertex<R: Darts>(
     requires darts { darts.now ≡ dart_keys (R.graph records.now) }
     requires has { HasVertex (R.graph records.now) vertex.now.name }
     requires point { vertex.now.point ≡ point_in (R.graph records.now) vertex.now.name }
-    ensures { OnOk result (let g = skeleton_of (R.graph records.now) in out.new.items ≡ out.old.items ++ vertex_line g (darts_in g) (pins_in (R.graph records.now)) vertex.now.point) }
+    ensures { OnOk result (out.new.items ≡ out.old.items ++ vertex_text (R.graph records.now) vertex.now.point) }
 {
     put_place(out, points, &vertex.point)?;
     put_pin(out, records.pinned(vertex.name))?;
@@ -92,7 +88,7 @@ pub(crate) fn put_vertices<R: Darts>(
     requires points { points.now ≡ (skeleton_of (R.graph records.now)).vertices }
     requires vertices { vertices.now ≡ vertex_keys (R.graph records.now) }
     requires darts { darts.now ≡ dart_keys (R.graph records.now) }
-    ensures { OnOk result (let g = skeleton_of (R.graph records.now) in out.new.items ≡ out.old.items ++ flat_map (vertex_line g (darts_in g) (pins_in (R.graph records.now))) g.vertices) }
+    ensures { OnOk result (out.new.items ≡ out.old.items ++ vertices_text (R.graph records.now)) }
 {
     for vertex in vertices {
         put_vertex(out, records, points, darts, vertex)?;

@@ -1,9 +1,9 @@
-ghost use Rattle.std.specs.Prelude.{◌≡◌, ◌++◌, map, codes, IfOk, OnOk};
+ghost use Rattle.std.specs.Prelude.{◌≡◌, ◌++◌, map, IfOk, OnOk};
 ghost use Rattle.slab_laws.specs.Sound.{skeleton_of};
 ghost use Rattle.slab_laws.specs.FacesSound.{IsSound};
 ghost use Rattle.sound_views.specs.Orders.{dart_order};
 ghost use Rattle.record_orders.specs.Keys.{vertex_keys, dart_keys};
-ghost use Rattle.record_cycles.specs.Keys.{cycle_keys, ranked_faces};
+ghost use Rattle.record_orders.specs.CycleKeys.{cycle_keys, ranked_faces};
 ghost use Rattle.arr_text.specs.Reading.{text_in, title};
 
 use crate::edges::put_edges;
@@ -12,8 +12,9 @@ use crate::put::{put_number, put_text};
 use crate::vertices::put_vertices;
 use exact_plane::Point;
 use no_memory::NoMemory;
-use record_cycles::{CycleKey, Ranks, cycles_of, ranks_of};
-use record_orders::{DartKey, VertexKey, darts_in_order, vertices_in_order};
+use record_orders::{
+    CycleKey, DartKey, Ranks, VertexKey, cycles_of, darts_in_order, ranks_of, vertices_in_order,
+};
 use slab_laws::{Curved, DartId, Faced};
 use std::alloc::{AllocError, Global};
 

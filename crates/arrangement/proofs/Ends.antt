@@ -12,8 +12,8 @@ use Rattle.slab_laws.specs.View.{View, point_in, source_in, target_in}
 use Rattle.arr_notes.specs.Curves.{IsForward}
 use Rattle.record_orders.specs.declared.darts.DartKey.{DartKey}
 use Rattle.record_orders.specs.Keys.{dart_key}
-use Rattle.edges_by_ends.specs.Edges.{edge_of, edge_of_key}
-use Rattle.edges_by_ends.proofs.Ends.{ahead}
+use Rattle.record_orders.specs.Edges.{edge_of, edge_of_key}
+use Rattle.record_orders.proofs.EdgeEnds.{ahead}
 
 pub if_ok : {T E : Type 0} → (r : Result T E) (P Q : T → Type 0) → ((x : T) → P x → Q x) → IfOk r P → IfOk r Q
 if_ok (Ok x) P Q f h = f x h

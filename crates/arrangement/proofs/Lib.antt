@@ -1,2 +1,7 @@
+pub mod TextLists
+pub mod TextOrders
+pub mod TextWords
+pub mod TextPins
+pub mod GraphTexts
 pub mod Layers
 pub mod Ends

@@ -2,16 +2,16 @@
 use Rattle.std.specs.Prelude.{◌≡◌}
 use Rattle.edit_steps.specs.Edits.{Edit, steps}
 use Rattle.edit_steps.specs.Layer.{layer_after}
-use Rattle.curve_history.specs.Past.{held, SameCurves}
-use Rattle.record_layers.specs.Kept.{Makes}
-use Rattle.record_layers.specs.Laws.{NamesStay}
+use Rattle.curve_history.specs.Past.{curves_on, SameCurves}
+use Rattle.record_layers.specs.RecordLayers.{IsRunOfSteps}
+use Rattle.record_layers.specs.LayerSteps.{NamesStay}
 use Rattle.arrangement.specs.Arranged.{Arranged, layer_in}
 
 -- the arrangement after an edit: it is the layer after it, made by just its steps, and what is there before and after keeps its names (CGAL manual, `Arrangement_with_history_2` and `Arr_observer`)
 pub record IsEdited (old new : Arranged) (e : Edit) : Type 0 where
   pub layer : layer_in new ≡ layer_after e (layer_in old)
-  pub steps : Makes old.graph (held old.past) (steps e (layer_in old).present) new.graph (held new.past)
-  pub names : NamesStay old.graph new.graph (held old.past) (held new.past)
+  pub steps : IsRunOfSteps old.graph (curves_on old.past) (steps e (layer_in old).present) new.graph (curves_on new.past)
+  pub names : NamesStay old.graph new.graph (curves_on old.past) (curves_on new.past)
 
 -- all is as before but spare room (this project)
 pub record IsAsBefore (old new : Arranged) : Type 0 where

@@ -1,3 +1,5 @@
+pub mod TextLaws
 pub mod Arranged
 pub mod Edited
 pub mod Answers
+pub mod Questions

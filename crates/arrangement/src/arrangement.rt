@@ -1,21 +1,19 @@
-ghost use Rattle.std.specs.Prelude.{◌≡◌, ◌⊎◌, MatchOption, Ok, Err, IsOk, IfOk, OnOk, OnErr, true, false};
-ghost use Rattle.std.specs.List.{list_any};
+ghost use Rattle.std.specs.Prelude.{◌≡◌, IsOk, IfOk, OnOk, OnErr};
 ghost use Rattle.plane_graphs.specs.Graph.{graph};
-ghost use Rattle.plane_graphs.specs.Line.{same_point};
-ghost use Rattle.edit_steps.specs.Edits.{Insert, Drop, Pin, Unpin, Split, Merge, ClearAll};
+ghost use Rattle.edit_steps.specs.Edits.{Insert, Drop, Pin, Unpin, Merge, ClearAll};
 ghost use Rattle.edit_steps.specs.Layer.{empty_layer};
-ghost use Rattle.curve_history.specs.declared.history.TheConstants.{LAST_CURVE};
-ghost use Rattle.curve_history.specs.Past.{held};
-ghost use Rattle.segment_insert.specs.Insertion.{refusal};
-ghost use Rattle.segment_remove.specs.Refused.{cut_between, cut_refusal, drop_refusal};
-ghost use Rattle.pin_points.specs.Pins.{refusal as pin_refusal};
-ghost use Rattle.pin_points.specs.Splits.{split_refusal};
-ghost use Rattle.pin_points.specs.Merges.{merge_refusal};
-ghost use Rattle.slab_laws.specs.Sound.{IsGraphSound, edge_between};
-ghost use Rattle.record_layers.specs.Kept.{IsLayer};
-ghost use Rattle.record_layers.specs.Named.{IsNamedBy};
+ghost use Rattle.edit_steps.specs.Refusals.{IsAnswerFor};
+ghost use Rattle.curve_history.specs.Past.{curves_on};
+ghost use Rattle.segment_insert.specs.Insertion.{insert_said};
+ghost use Rattle.segment_remove.specs.Refused.{cut_between, cut_said, drop_said};
+ghost use Rattle.pin_points.specs.Pins.{pin_said, unpin_said};
+ghost use Rattle.pin_points.specs.Splits.{split_at, split_said};
+ghost use Rattle.pin_points.specs.Merges.{merge_said};
+ghost use Rattle.slab_laws.specs.Sound.{IsGraphSound};
+ghost use Rattle.record_layers.specs.RecordLayers.{IsLayer};
+ghost use Rattle.record_layers.specs.LayerNames.{IsNamedBy};
 ghost use Rattle.arrangement.specs.declared.limits.TheConstants.{MAX_CURVES, MAX_PIECES, MAX_PINS};
-ghost use Rattle.arrangement.specs.Arranged.{Arranged, layer_in, AreLimits};
+ghost use Rattle.arrangement.specs.Arranged.{Arranged, layer_in, AreLimits, refusal_in};
 ghost use Rattle.arrangement.specs.Edited.{IsEdited, IsAsBefore};
 
 use crate::limits::Limits;
@@ -47,7 +45,7 @@ pub struct Arrangement {
 
 impl Model for Arrangement {
     ghost use Rattle.arrangement.specs.Arranged.{Arranged};
-    ghost use Rattle.record_layers.specs.Kept.{IsLayer};
+    ghost use Rattle.record_layers.specs.RecordLayers.{IsLayer};
 
     ghost Value = { Arranged };
 
@@ -86,11 +84,11 @@ impl Arrangement {
     ///
     /// # Errors
     ///
-    /// One curve or one piece more would pass its limit, the last number was drawn, or there was no memory.
+    /// One curve or one more piece would pass its limit, the last number was drawn, or there was no memory.
     pub fn insert(&mut self, segment: Segment) -> Result<CurveId, InsertError>
         ensures number { IfOk result (λ c. c.0 ≡ self.old.past.next) }
-        ensures edit { IfOk result (λ c. IsEdited self.old self.new (Insert c.0 segment)) }
-        ensures refused { MatchOption (refusal self.old.limits.curves self.old.limits.pieces LAST_CURVE self.old.past) (IsOk result ⊎ (result ≡ Err InsertError.NoMemory)) (λ e. result ≡ Err e) }
+        ensures edit { OnOk result (IsEdited self.old self.new (Insert self.old.past.next segment)) }
+        ensures refused { IsAnswerFor insert_said (refusal_in self.old (Insert self.old.past.next segment)) result }
         ensures as_before { OnErr result (IsAsBefore self.old self.new) }
         ensures limits { self.new.limits ≡ self.old.limits }
     {
@@ -106,7 +104,7 @@ impl Arrangement {
         )
     }
 
-    /// A curve goes, with each edge along which no other curve runs; then each vertex that nothing calls for any more (CGAL
+    /// A curve goes, with each edge along which no other curve runs; then each vertex that is redundant (CGAL
     /// manual, `remove_curve`). At a refusal or for want of memory nothing is changed.
     ///
     /// # Errors
@@ -114,7 +112,7 @@ impl Arrangement {
     /// No curve has the number, or there was no memory for the list of its edges.
     pub fn remove_curve(&mut self, curve: CurveId) -> Result<(), DropError>
         ensures edit { OnOk result (IsEdited self.old self.new (Drop curve.0)) }
-        ensures refused { MatchOption (drop_refusal (layer_in self.old).names curve.0) (IsOk result ⊎ (result ≡ Err DropError.NoMemory)) (λ e. result ≡ Err e) }
+        ensures refused { IsAnswerFor drop_said (refusal_in self.old (Drop curve.0)) result }
         ensures as_before { OnErr result (IsAsBefore self.old self.new) }
         ensures limits { self.new.limits ≡ self.old.limits }
     {
@@ -129,7 +127,7 @@ impl Arrangement {
     /// No edge joins the points, the pieces that are left would pass their limit, or there was no memory for them.
     pub fn remove_edge(&mut self, p: &Point, q: &Point) -> Result<(), CutError>
         ensures edit { OnOk result (IsEdited self.old self.new (cut_between p.now q.now)) }
-        ensures refused { MatchOption (cut_refusal self.old.limits.pieces (layer_in self.old).present (edge_between p.now q.now)) (IsOk result ⊎ (result ≡ Err CutError.NoMemory)) (λ e. result ≡ Err e) }
+        ensures refused { IsAnswerFor cut_said (refusal_in self.old (cut_between p.now q.now)) result }
         ensures as_before { OnErr result (IsAsBefore self.old self.new) }
         ensures limits { self.new.limits ≡ self.old.limits }
     {
@@ -147,10 +145,10 @@ impl Arrangement {
     ///
     /// # Errors
     ///
-    /// The point is pinned, one pin more would pass the limit, or there was no memory.
+    /// The point is pinned, one more pin would pass the limit, or there was no memory.
     pub fn pin(&mut self, p: &Point) -> Result<(), PinError>
         ensures edit { OnOk result (IsEdited self.old self.new (Pin p.now)) }
-        ensures refused { MatchOption (pin_refusal self.old.limits.pins (layer_in self.old).present.pins p.now) (IsOk result ⊎ (result ≡ Err PinError.NoMemory)) (λ e. result ≡ Err e) }
+        ensures refused { IsAnswerFor pin_said (refusal_in self.old (Pin p.now)) result }
         ensures as_before { OnErr result (IsAsBefore self.old self.new) }
         ensures limits { self.new.limits ≡ self.old.limits }
     {
@@ -172,8 +170,7 @@ impl Arrangement {
     /// The point isn't pinned, and nothing is changed.
     pub fn unpin(&mut self, p: &Point) -> Result<(), NotPinned>
         ensures edit { OnOk result (IsEdited self.old self.new (Unpin p.now)) }
-        ensures done { OnOk result (list_any (same_point p.now) (layer_in self.old).present.pins ≡ true) }
-        ensures refused { OnErr result (list_any (same_point p.now) (layer_in self.old).present.pins ≡ false) }
+        ensures refused { IsAnswerFor unpin_said (refusal_in self.old (Unpin p.now)) result }
         ensures as_before { OnErr result (IsAsBefore self.old self.new) }
         ensures limits { self.new.limits ≡ self.old.limits }
     {
@@ -185,10 +182,10 @@ impl Arrangement {
     ///
     /// # Errors
     ///
-    /// No edge joins the points, the point isn't strictly inside it, one pin more would pass the limit, or there was no memory.
+    /// No edge joins the points, the point isn't strictly inside it, one more pin would pass the limit, or there was no memory.
     pub fn split_edge(&mut self, p: &Point, q: &Point, r: &Point) -> Result<(), SplitError>
-        ensures edit { OnOk result (IsEdited self.old self.new (Split (edge_between p.now q.now).low (edge_between p.now q.now).high r.now)) }
-        ensures refused { MatchOption (split_refusal self.old.limits.pins (layer_in self.old).present (edge_between p.now q.now) r.now) (IsOk result ⊎ (result ≡ Err SplitError.NoMemory)) (λ e. result ≡ Err e) }
+        ensures edit { OnOk result (IsEdited self.old self.new (split_at p.now q.now r.now)) }
+        ensures refused { IsAnswerFor split_said (refusal_in self.old (split_at p.now q.now r.now)) result }
         ensures as_before { OnErr result (IsAsBefore self.old self.new) }
         ensures limits { self.new.limits ≡ self.old.limits }
     {
@@ -211,7 +208,7 @@ impl Arrangement {
     /// No vertex is at the point; or it isn't pinned, would be a vertex without its pin, or has no edge. Nothing is changed.
     pub fn merge_edge(&mut self, r: &Point) -> Result<(), MergeError>
         ensures edit { OnOk result (IsEdited self.old self.new (Merge r.now)) }
-        ensures refused { MatchOption (merge_refusal (layer_in self.old).present r.now) (IsOk result) (λ e. result ≡ Err e) }
+        ensures refused { IsAnswerFor merge_said (refusal_in self.old (Merge r.now)) result }
         ensures as_before { OnErr result (IsAsBefore self.old self.new) }
         ensures limits { self.new.limits ≡ self.old.limits }
     {
@@ -232,7 +229,7 @@ impl Arrangement {
     pub fn laws(&self)
         ensures sound { IsGraphSound self.now.graph }
         ensures layer { IsLayer self.now.graph self.now.past }
-        ensures named { IsNamedBy self.now.graph (held self.now.past) (graph (layer_in self.now).present) }
+        ensures named { IsNamedBy self.now.graph (curves_on self.now.past) (graph (layer_in self.now).present) }
     {
         // Any use of a field tells what is kept.
         let _records = &self.records;

@@ -4,13 +4,12 @@ ghost use Rattle.plane_graphs.specs.Ascending.{Member, IsAscending};
 ghost use Rattle.plane_graphs.specs.Graph.{edge_cmp};
 ghost use Rattle.slab_laws.specs.Sound.{IsGraphSound, edge_in};
 ghost use Rattle.arr_notes.specs.Curves.{IsForward};
-ghost use Rattle.edges_by_ends.specs.Edges.{edge_of};
+ghost use Rattle.record_orders.specs.Edges.{edge_of};
 
 use dcel_records::Records;
-use edges_by_ends::edges_in_order;
 use exact_plane::Point;
 use no_memory::NoMemory;
-use record_orders::DartKey;
+use record_orders::{DartKey, edges_in_order};
 use slab_laws::DartId;
 use std::alloc::Global;
 

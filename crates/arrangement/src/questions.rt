@@ -1,21 +1,21 @@
-ghost use Rattle.std.specs.Prelude.{◌≡◌, ◌↔◌, ◌≢◌, not, map, length, true, false, IfOk, IsErrOf, Contains};
-ghost use Rattle.std.specs.List.{count_by, list_any};
+ghost use Rattle.std.specs.Prelude.{◌≡◌, ◌↔◌, ◌≢◌, not, map, length, IfOk, IsErrOf};
+ghost use Rattle.std.specs.List.{count_by};
 ghost use Rattle.exact_plane.specs.Point.{Point};
 ghost use Rattle.plane_graphs.specs.Ascending.{Member, IsAscending};
-ghost use Rattle.plane_graphs.specs.Graph.{graph, edges, curves, edge_cmp, is_at};
-ghost use Rattle.slab_laws.specs.Sound.{edge_between};
+ghost use Rattle.plane_graphs.specs.Graph.{graph, edges, curves, edge_cmp};
 ghost use Rattle.slab_laws.specs.Subdivision.{holds};
 ghost use Rattle.slab_laws.specs.Text.{present_text};
-ghost use Rattle.listed_views.specs.Listed.{subdivision_in, view_of, faces_of, AreLinesOf};
+ghost use Rattle.plain_slabs.specs.Listed.{subdivision_in, view_of, faces_of, AreLinesOf};
 ghost use Rattle.slab_laws.specs.FacesSound.{IsSound};
 ghost use Rattle.arrangement.specs.Arranged.{layer_in, subdivision_by};
+ghost use Rattle.arrangement.specs.Questions.{curves_between, IsNoEdge, AreEdgesOf};
 
 use crate::arrangement::Arrangement;
 use crate::edges::ends_in_order;
 use arr_text::text;
 use curve_history::{Drawn, HistoryError};
-use edges_by_ends::edge_dart;
 use exact_plane::Point;
+use locate_naive::edge_dart;
 use no_memory::NoMemory;
 use plain_slabs::{Plain, count, hold, subdivide_of};
 use slab_laws::{Cell, CurveId, DartId, Darts, Strategy};
@@ -127,8 +127,8 @@ impl Arrangement {
     ///
     /// No edge has these two ends, whatever memory there is; or there was no memory for the list.
     pub fn curves_of(&self, p: &Point, q: &Point) -> Result<Vec<CurveId>, EdgeError>
-        ensures curves { IfOk result (λ v. map (λ c. c.0) v.items ≡ curves (graph (layer_in self.now).present) (edge_between p.now q.now).low (edge_between p.now q.now).high) }
-        ensures no_edge { IsErrOf result EdgeError.NoEdge ↔ ¬ Member (edge_between p.now q.now) (edges (graph (layer_in self.now).present)) }
+        ensures curves { IfOk result (λ v. map (λ c. c.0) v.items ≡ curves_between self.now p.now q.now) }
+        ensures no_edge { IsErrOf result EdgeError.NoEdge ↔ IsNoEdge self.now p.now q.now }
     {
         // Whether there is such an edge takes no memory to tell.
         let Some(edge) = edge_dart(&self.records, p, q) else {
@@ -144,7 +144,7 @@ impl Arrangement {
     ///
     /// No curve has this number, whatever memory there is; or there was no memory for the list.
     pub fn edges_of(&self, curve: CurveId) -> Result<Vec<(Point, Point)>, HistoryError>
-        ensures edges { IfOk result (λ v. (e : _) → Member e (map (λ p. record { low = p.0; high = p.1 }) v.items) ↔ (Member e (edges (graph (layer_in self.now).present)) × Member curve.0 (curves (graph (layer_in self.now).present) e.low e.high))) }
+        ensures edges { IfOk result (λ v. AreEdgesOf self.now curve.0 v.items) }
         ensures ascend { IfOk result (λ v. IsAscending edge_cmp (map (λ p. record { low = p.0; high = p.1 }) v.items)) }
         ensures unknown { IsErrOf result HistoryError.Unknown ↔ ¬ Member curve.0 (layer_in self.now).names }
     {

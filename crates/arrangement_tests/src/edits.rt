@@ -16,7 +16,7 @@ pub enum Edit {
     RemoveCurve(u32),
     /// The edge between two points of the abscissa.
     RemoveEdge(i128, i128),
-    /// The edge between two points of the abscissa goes in two at a third.
+    /// The edge between two points of the abscissa is split at a third.
     SplitEdge(i128, i128, i128),
     MergeEdge(i128, i128),
     Clear,

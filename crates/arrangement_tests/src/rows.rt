@@ -99,7 +99,7 @@ const SPLITS: [Call; 8] = [
     Call::Counts([0, 0, 1, 0, 0, 0]),
 ];
 
-// Each cut leaves each curve one piece more: five in the end, ten thousand in all.
+// Each cut leaves each curve one more piece: five in the end, ten thousand in all.
 const PIECES: [Call; 9] = [
     Call::Draws(2000),
     Call::Pins(20),

@@ -1,14 +1,14 @@
 -- An edge's curves copied to a part of it, and all taken from an edge.
 use Rattle.std.proofs.Common.{◌≡◌, ◌≢◌, ◌⊎◌, ⊎_elim, inl, inr, ℕ, suc, ◌+◌, ◌≤◌, List, length, Option, Some, None, refl, sym, ap, subst, ◌∙◌, arith}
 use Rattle.plane_graphs.specs.Ascending.{Member}
-use Rattle.view_changes.proofs.RowLaws.{same}
 use Rattle.curve_history.specs.Changed.{AreSameKeys, IsPairMore, IsCopied}
 use Rattle.linked_chains.specs.Chains.{Chained, IsWhole, HasKey, HasNode, entry_at, chain, head_of, comes_after}
 use Rattle.linked_chains.specs.declared.node.Entry.{Entry}
-use Rattle.curve_history.specs.Kept.{entry, item_in, Says, ArePairs}
+use Rattle.curve_history.specs.HistoryInMemory.{entry, item_in, Says, ArePairs}
 use Rattle.curve_history.proofs.Reading.{node_of}
 use Rattle.curve_history.proofs.Twins.{one_entry}
 use Rattle.curve_history.proofs.Walking.{IsAt, AreApart, at_head, left, left_head, left_apart, left_member, apart, IsStepped, stepped, node_at, says_on}
+use Rattle.integers.proofs.Tests.{same_number}
 
 -- a walk on which all nodes passed have a copy at the part
 pub record IsCopying (old new : Chained) (edge part : ℕ) (at : Option ℕ) : Type 0 where
@@ -99,10 +99,10 @@ module _ (old mid curves now : Chained) (edge part n : ℕ) (before : Option ℕ
     item_same = let t = mid_node in (one_entry (entry_at mid n) e.key e.item e.twin edge (item_in old n) t.0 h t.1).item
 
     pub is_named : ArePairs old curves → ((m : ℕ) (x : Entry) → entry_at curves m ≡ Some x → HasKey curves x.key) → AreSameKeys curves now → HasKey now e.item
-    is_named t keys same =
+    is_named t keys same_number =
         let v = node_at old edge n w at_n.here in
         let k : HasKey curves (item_in old n) = keys v.0 (entry (item_in old n) edge n) (t.forth.twin n edge (item_in old n) v.0 v.1) in
-        (same.keys e.item).0 (subst (HasKey curves) (sym item_same) k)
+        (same_number.keys e.item).0 (subst (HasKey curves) (sym item_same) k)
 
     pub is_new : ArePairs old curves → ((i : ℕ) → ¬ Says old part i) → ¬ Says mid part e.item
     is_new t none s = not_yet_at t none (subst (Says mid part) item_same s)

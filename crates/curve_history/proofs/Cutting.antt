@@ -17,7 +17,7 @@ use Rattle.slab_laws.specs.declared.present.Piece.{Piece as PieceInMemory}
 use Rattle.std.specs.declared.vec.Vec.{Vec}
 use Rattle.linked_chains.specs.Chains.{Chained}
 use Rattle.curve_history.specs.Past.{Past}
-use Rattle.curve_history.specs.Kept.{IsKept}
+use Rattle.curve_history.specs.HistoryInMemory.{IsSoundHistory}
 use Rattle.curve_history.specs.declared.history.History.TheInside.{Inside}
 use Rattle.curve_history.proofs.Histories.{IsSeen}
 use Rattle.curve_history.proofs.Naming.{filter_map}
@@ -290,7 +290,7 @@ module _ (a b : Point) (js is : List PieceInMemory) (e : is ≡ filter (λ j. le
   all_leave k m = kept_some (cut_piece a b) (map piece_of js) k (subst (Member k) kept m)
 
 -- ---- in a history
-pub kept_pieces : {Z : Type 0} (e c : Chained) (p q : Vec PieceInMemory Z) (n : Option ℕ) → IsKept e c p n → length q.items < 2 ^ 32 → IsKept e c q n
+pub kept_pieces : {Z : Type 0} (e c : Chained) (p q : Vec PieceInMemory Z) (n : Option ℕ) → IsSoundHistory e c p n → length q.items < 2 ^ 32 → IsSoundHistory e c q n
 kept_pieces e c p q n k h = record { pairs = k.pairs; filled = k.filled; numbers = k.numbers; last = k.last; few = h }
 
 module _ (i : Inside) (old : Past) (v : IsSeen i old) (a b : Point) (is : List PieceInMemory) (e : is ≡ filter (λ j. leaves_some a b (piece_of j)) i.pieces.items) where

@@ -3,11 +3,11 @@ use Rattle.std.proofs.Common.{◌≡◌, ◌≢◌, ◌⊎◌, ⊎_elim, inl, in
 use Rattle.std.proofs.lemmas.Bool.{cases_eq, eq-eqb}
 use Rattle.std.specs.List.{filter}
 use Rattle.plane_graphs.specs.Ascending.{Member}
-use Rattle.view_changes.proofs.RowLaws.{other}
 use Rattle.curve_history.specs.Changed.{IsPairLess, IsOneLess, IsEmptied}
 use Rattle.linked_chains.specs.Chains.{Chained, IsWhole, HasNode, entry_at, chain, head_of}
-use Rattle.curve_history.specs.Kept.{entry, item_in, Says}
+use Rattle.curve_history.specs.HistoryInMemory.{entry, item_in, Says}
 use Rattle.curve_history.proofs.Walking.{at_head, IsAt, at_node, node_at, says_on}
+use Rattle.integers.proofs.Tests.{other_number}
 
 pub empty : (c : Chained) (edge : ℕ) → IsEmptied c c edge
 empty c edge = record { stays = λ k i s. s; others = λ k i s ne. s; keys = λ k h. h }
@@ -41,7 +41,7 @@ less_length : (n : ℕ) (xs : List ℕ) → Member n xs → length (filter (λ m
 less_length n [] m = absurd m
 less_length n (x ∷ xs) m = elim (cases_eq x n) [
   | inl e ↦ let s = shorter n xs in rw (eq-eqb x n e) (omega arith)
-  | inr ne ↦ let s = less_length n xs (beyond m ne) in rw (other x n ne) (omega arith)
+  | inr ne ↦ let s = less_length n xs (beyond m ne) in rw (other_number x n ne) (omega arith)
 ]
   where
     beyond : (n ≡ x) ⊎ Member n xs → x ≢ n → Member n xs
@@ -63,6 +63,3 @@ none_left c k o w e f i s =
 -- ---- one curve
 pub one_less : (old new : Chained) (node edge curve : ℕ) → IsPairLess old new node edge curve → IsOneLess old new edge curve
 one_less old new node edge curve m = record { gone = m.gone; stays = m.stays; others = m.others; keys = m.keys }
-
-pub none_less : (c : Chained) (edge curve : ℕ) → ¬ Says c edge curve → IsOneLess c c edge curve
-none_less c edge curve f = record { gone = f; stays = λ k i s. s; others = λ k i s. inl s; keys = λ k h. h }

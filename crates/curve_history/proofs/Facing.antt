@@ -1,5 +1,5 @@
 -- The curves of an edge, asked of either of its darts.
-use Rattle.std.proofs.Common.{◌≡◌, ◌≢◌, ◌↔◌, ℕ, Result, Ok, Err, IfOk, Bool, true, false, not, List, [], ◌∷◌, map, refl, sym, ap, subst, ◌∙◌, Ordering}
+use Rattle.std.proofs.Common.{◌≡◌, ◌≢◌, ◌↔◌, Result, Ok, Err, IfOk, Bool, true, false, not, List, [], ◌∷◌, map, refl, sym, ap, subst, ◌∙◌, Ordering}
 use Rattle.std.specs.List.Sorted.{IsStrictlyIncreasing, IsStrictlySortedBy}
 use Rattle.std.specs.declared.vec.Vec.{Vec}
 use Rattle.std.specs.Ordering.{nat_cmp}
@@ -8,19 +8,17 @@ use Rattle.std.proofs.lemmas.Map.Keys.{IsStrictlyIncreasing-from_sorted}
 use Rattle.plane_graphs.specs.Ascending.{IsAscending}
 use Rattle.slab_laws.specs.declared.names.CurveId.{CurveId}
 use Rattle.slab_laws.specs.declared.names.DartId.{DartId}
-use Rattle.slab_laws.specs.View.{View, HasDart, twin_in}
+use Rattle.slab_laws.specs.View.{View, HasDart, twin_in, curve_id}
 use Rattle.arr_notes.specs.Curves.{is_forward}
-use Rattle.curve_history.specs.Past.{Past, held}
-use Rattle.curve_history.specs.Drawn.{curve_id, forward_of, curves_in, IsTold, DrawnRecords}
+use Rattle.arr_notes.proofs.Names.{numbers_of}
+use Rattle.curve_history.specs.Past.{Past, curves_on}
+use Rattle.curve_history.specs.DrawnRecords.{forward_of, curves_in, IsTold, DrawnRecords}
+use Rattle.integers.proofs.Tests.{not_true}
 
 to_std : {X : Type 0} (cmp : X → X → Ordering) (xs : List X) → IsAscending cmp xs → IsStrictlySortedBy cmp xs
 unfolding IsStrictlySortedBy
 to_std cmp [] a = tt
 to_std cmp (x ∷ xs) a = (a.0, to_std cmp xs a.1)
-
-numbers_of : (ns : List ℕ) → map (λ (c : CurveId). c.0) (map curve_id ns) ≡ ns
-numbers_of [] = refl
-numbers_of (n ∷ ns) = ap (λ ms. n ∷ ms) (numbers_of ns)
 
 ids_of : (cs : List CurveId) → cs ≡ map curve_id (map (λ (c : CurveId). c.0) cs)
 ids_of [] = refl
@@ -30,13 +28,9 @@ is_true : (b : Bool) → (b ≡ false → ⊥) → b ≡ true
 is_true true f = refl
 is_true false f = absurd (f refl)
 
-is_false : (b : Bool) → (b ≡ true → ⊥) → b ≡ false
-is_false false f = refl
-is_false true f = absurd (f refl)
-
 module _ (v : View) (p : Past) (t : IsTold v p) (d : DartId) where
   pub curves_ascend : IsStrictlyIncreasing (map (λ (c : CurveId). c.0) (curves_in v p d))
-  curves_ascend = subst IsStrictlyIncreasing (sym (numbers_of (held p (forward_of v d)))) (IsStrictlyIncreasing-from_sorted (held p (forward_of v d)) (to_std nat_cmp (held p (forward_of v d)) (t.curves.ascend (forward_of v d))))
+  curves_ascend = subst IsStrictlyIncreasing (sym (numbers_of (curves_on p (forward_of v d)))) (IsStrictlyIncreasing-from_sorted (curves_on p (forward_of v d)) (to_std nat_cmp (curves_on p (forward_of v d)) (t.curves.ascend (forward_of v d))))
 
   forward : is_forward v d ≡ true → forward_of v d ≡ d
   forward e = rw e refl
@@ -45,22 +39,22 @@ module _ (v : View) (p : Past) (t : IsTold v p) (d : DartId) where
   backward e = rw e refl
 
   -- a dart with curves is forward, and of twins with none the other is
-  pub here : (cs : List CurveId) → held p d ≢ [] → map (λ (c : CurveId). c.0) cs ≡ held p d → cs ≡ curves_in v p d
+  pub here : (cs : List CurveId) → curves_on p d ≢ [] → map (λ (c : CurveId). c.0) cs ≡ curves_on p d → cs ≡ curves_in v p d
   here cs f h =
       let e : forward_of v d ≡ d = forward (is_true (is_forward v d) (λ b. f (t.curves.backward d b))) in
-      ids_of cs ∙ ap (map curve_id) (h ∙ sym (ap (held p) e))
+      ids_of cs ∙ ap (map curve_id) (h ∙ sym (ap (curves_on p) e))
 
-  pub there : HasDart v d → (cs : List CurveId) → ¬ (held p d ≢ []) → map (λ (c : CurveId). c.0) cs ≡ held p (twin_in v d) → cs ≡ curves_in v p d
+  pub there : HasDart v d → (cs : List CurveId) → ¬ (curves_on p d ≢ []) → map (λ (c : CurveId). c.0) cs ≡ curves_on p (twin_in v d) → cs ≡ curves_in v p d
   there has cs f h =
-      let e : forward_of v d ≡ twin_in v d = backward (is_false (is_forward v d) (λ b. f (t.curves.some d (has, b)))) in
-      ids_of cs ∙ ap (map curve_id) (h ∙ sym (ap (held p) e))
+      let e : forward_of v d ≡ twin_in v d = backward (not_true (is_forward v d) (λ b. f (t.curves.some d (has, b)))) in
+      ids_of cs ∙ ap (map curve_id) (h ∙ sym (ap (curves_on p) e))
 
   same_forward : (b : Bool) → is_forward v d ≡ b → is_forward v (twin_in v d) ≡ not b → twin_in v (twin_in v d) ≡ d → forward_of v (twin_in v d) ≡ forward_of v d
   same_forward true e f g = rw (e, f) g
   same_forward false e f g = rw (e, f) refl
 
   pub twins_same : HasDart v d → twin_in v (twin_in v d) ≡ d → curves_in v p (twin_in v d) ≡ curves_in v p d
-  twins_same has g = ap (λ x. map curve_id (held p x)) (same_forward (is_forward v d) refl (t.directed d has) g)
+  twins_same has g = ap (λ x. map curve_id (curves_on p x)) (same_forward (is_forward v d) refl (t.directed d has) g)
 
 -- ---- as a caller sees both
 module _ {X : Type 0} (graph : X → View) (x : X) (p : Past) (s : DrawnRecords X) (e : record { records = x; history = p } ≡ s) (t : IsTold (graph x) p) (d : DartId) (has : HasDart (graph s.records) d) where
@@ -73,10 +67,10 @@ module _ {X : Type 0} (graph : X → View) (x : X) (p : Past) (s : DrawnRecords 
   pub twins_seen : (m : DartId) → m ≡ twin_in (graph x) d → twin_in (graph x) m ≡ d → curves_in (graph s.records) s.history (twin_in (graph s.records) d) ≡ curves_in (graph s.records) s.history d
   twins_seen m q g = subst (λ (s : DrawnRecords X). curves_in (graph s.records) s.history (twin_in (graph s.records) d) ≡ curves_in (graph s.records) s.history d) e (twins_same (graph x) p t d had (ap (twin_in (graph x)) (sym q) ∙ g))
 
-  pub here_seen : {Z E : Type 0} (r : Result (Vec CurveId Z) E) (b : Bool) → (b ≡ true) ↔ (held p d ≢ []) → b ≡ true → IfOk r (λ y. map (λ (c : CurveId). c.0) y.items ≡ held p d) → IfOk r (λ y. y.items ≡ curves_in (graph s.records) s.history d)
+  pub here_seen : {Z E : Type 0} (r : Result (Vec CurveId Z) E) (b : Bool) → (b ≡ true) ↔ (curves_on p d ≢ []) → b ≡ true → IfOk r (λ y. map (λ (c : CurveId). c.0) y.items ≡ curves_on p d) → IfOk r (λ y. y.items ≡ curves_in (graph s.records) s.history d)
   here_seen (Ok y) b f q h = subst (λ (s : DrawnRecords X). y.items ≡ curves_in (graph s.records) s.history d) e (here (graph x) p t d y.items (f.0 q) h)
   here_seen (Err z) b f q h = tt
 
-  pub there_seen : {Z E : Type 0} (r : Result (Vec CurveId Z) E) (b : Bool) (m : DartId) → m ≡ twin_in (graph x) d → (b ≡ true) ↔ (held p d ≢ []) → b ≡ false → IfOk r (λ y. map (λ (c : CurveId). c.0) y.items ≡ held p m) → IfOk r (λ y. y.items ≡ curves_in (graph s.records) s.history d)
-  there_seen (Ok y) b m g f q h = subst (λ (s : DrawnRecords X). y.items ≡ curves_in (graph s.records) s.history d) e (there (graph x) p t d had y.items (λ n. false≢true (sym q ∙ f.1 n)) (h ∙ ap (held p) g))
+  pub there_seen : {Z E : Type 0} (r : Result (Vec CurveId Z) E) (b : Bool) (m : DartId) → m ≡ twin_in (graph x) d → (b ≡ true) ↔ (curves_on p d ≢ []) → b ≡ false → IfOk r (λ y. map (λ (c : CurveId). c.0) y.items ≡ curves_on p m) → IfOk r (λ y. y.items ≡ curves_in (graph s.records) s.history d)
+  there_seen (Ok y) b m g f q h = subst (λ (s : DrawnRecords X). y.items ≡ curves_in (graph s.records) s.history d) e (there (graph x) p t d had y.items (λ n. false≢true (sym q ∙ f.1 n)) (h ∙ ap (curves_on p) g))
   there_seen (Err z) b m g f q h = tt

@@ -17,22 +17,22 @@ use Rattle.slab_laws.specs.declared.present.Piece.{Piece as PieceInMemory}
 use Rattle.curve_history.specs.declared.history.History.TheInside.{Inside}
 use Rattle.slab_laws.specs.Pieces.{piece_of}
 use Rattle.slab_laws.specs.Tables.{names}
-use Rattle.view_changes.proofs.RowLaws.{other}
 use Rattle.curve_history.specs.Changed.{AreSameKeys, IsPairMore, IsOneLess, IsEmptied, IsCopied}
 use Rattle.linked_chains.specs.Chains.{Chained, IsWhole, HasKey, chain, entry_at}
-use Rattle.curve_history.specs.Past.{Past, held, SameLayer, IsSpare}
-use Rattle.curve_history.specs.Kept.{entry, item_in, Says, ArePairs, AreFilled, named_in, number_of, pairs_in, pair_room, past, HasAll, IsKept}
-use Rattle.curve_history.proofs.Reading.{exact, row_of, of_row, listed, in_listed, of_listed, listed_ascends, listed_from, held_is}
+use Rattle.curve_history.specs.Past.{Past, curves_on, SameLayer, IsSpare}
+use Rattle.curve_history.specs.HistoryInMemory.{entry, item_in, Says, ArePairs, AreFilled, named_in, number_of, pairs_in, pair_room, past, HasAll, IsSoundHistory}
+use Rattle.curve_history.proofs.Reading.{row_of, of_row, listed, in_listed, of_listed, listed_ascends, listed_from, held_is}
 use Rattle.curve_history.proofs.Copying.{says_more}
 use Rattle.curve_history.proofs.Twins.{says_there}
 use Rattle.curve_history.proofs.Walking.{AreApart, apart, node_at, says_on}
+use Rattle.integers.proofs.Tests.{nat_exact, other_number}
 
 -- ---- numbers that have a name
 pub has_of_named : (c : Chained) (k : ℕ) → Member k (named_in c) → HasKey c k
-has_of_named c k m = row_of c.heads k (lists.of_ascending nat_cmp nat_cmp_total exact k (names c.heads) m)
+has_of_named c k m = row_of c.heads k (lists.of_ascending nat_cmp nat_cmp_total nat_exact k (names c.heads) m)
 
 pub named_of_has : (c : Chained) (k : ℕ) → HasKey c k → Member k (named_in c)
-named_of_has c k h = lists.in_ascending nat_cmp nat_cmp_total exact k (names c.heads) (of_row c.heads k h)
+named_of_has c k h = lists.in_ascending nat_cmp nat_cmp_total nat_exact k (names c.heads) (of_row c.heads k h)
 
 pub named_ascend : (c : Chained) → IsAscending nat_cmp (named_in c)
 named_ascend c = IsAscending-ascending nat_cmp nat_cmp_total (names c.heads)
@@ -45,7 +45,7 @@ pub same_named : (c c' : Chained) → AreSameKeys c c' → named_in c' ≡ named
 same_named c c' s = named_from c' (named_in c) (named_ascend c) (λ k m. (s.keys k).0 (has_of_named c k m)) (λ k h. named_of_has c k ((s.keys k).1 h))
 
 -- ---- the history stays one
-pub kept_on : {Z : Type 0} (e c e' c' : Chained) (p : Vec PieceInMemory Z) (n : Option ℕ) → IsKept e c p n → ArePairs e' c' → AreFilled e' → AreSameKeys c c' → IsKept e' c' p n
+pub kept_on : {Z : Type 0} (e c e' c' : Chained) (p : Vec PieceInMemory Z) (n : Option ℕ) → IsSoundHistory e c p n → ArePairs e' c' → AreFilled e' → AreSameKeys c c' → IsSoundHistory e' c' p n
 kept_on e c e' c' p n k t f s = record {
   pairs = t;
   filled = f;
@@ -62,12 +62,12 @@ listed_same e e' k f g = listed_from e' k (listed e k) (listed_ascends e k) (λ 
 pub listed_nodes : (e e' : Chained) (k : ℕ) → e'.nodes ≡ e.nodes → listed e' k ≡ listed e k
 listed_nodes e e' k h = listed_same e e' k (λ i s. says_there e' e k i (sym h) s) (λ i s. says_there e e' k i h s)
 
--- a curve more
+-- one more curve
 module _ (e e' : Chained) (edge curve : ℕ) (m : IsPairMore e e' edge curve) where
   more_here : listed e' edge ≡ place nat_cmp curve (listed e edge)
   more_here = listed_from e' edge (place nat_cmp curve (listed e edge)) (IsAscending-place nat_cmp nat_cmp_total curve (listed e edge) (listed_ascends e edge))
-      (λ i h. ⊎_elim (λ q. subst (Says e' edge) (sym q) m.said) (λ g. says_more e e' edge curve edge i m (of_listed e edge i g)) (lists.of_place nat_cmp nat_cmp_total exact i curve (listed e edge) h))
-      (λ i s. lists.in_place nat_cmp nat_cmp_total exact i curve (listed e edge) (⊎_elim (λ g. inr (in_listed e edge i g)) (λ q. inl q.1) (m.others edge i s)))
+      (λ i h. ⊎_elim (λ q. subst (Says e' edge) (sym q) m.said) (λ g. says_more e e' edge curve edge i m (of_listed e edge i g)) (lists.of_place nat_cmp nat_cmp_total nat_exact i curve (listed e edge) h))
+      (λ i s. lists.in_place nat_cmp nat_cmp_total nat_exact i curve (listed e edge) (⊎_elim (λ g. inr (in_listed e edge i g)) (λ q. inl q.1) (m.others edge i s)))
 
   more_there : (k : ℕ) → k ≢ edge → listed e' k ≡ listed e k
   more_there k ne = listed_same e e' k (λ i s. ⊎_elim (λ g. g) (λ q. absurd (ne q.0)) (m.others k i s)) (λ i s. says_more e e' edge curve k i m s)
@@ -75,13 +75,13 @@ module _ (e e' : Chained) (edge curve : ℕ) (m : IsPairMore e e' edge curve) wh
   pub listed_more : (k : ℕ) → listed e' k ≡ cond (k == edge) (place nat_cmp curve (listed e k)) (listed e k)
   listed_more k = elim (cases_eq k edge) [
     | inl q ↦ rw (eq-eqb k edge q) (subst (λ x. listed e' x ≡ place nat_cmp curve (listed e x)) (sym q) more_here)
-    | inr ne ↦ rw (other k edge ne) (more_there k ne)
+    | inr ne ↦ rw (other_number k edge ne) (more_there k ne)
   ]
 
   pub filled_more : AreFilled e → AreFilled e'
   filled_more f = record { key = λ k h. ⊎_elim (λ o. let s = f.key k o in (s.0, says_more e e' edge curve k s.0 m s.1)) (λ q. (curve, subst (λ x. Says e' x curve) (sym q) m.said)) (m.keys k h) }
 
--- a curve fewer
+-- one curve fewer
 module _ (e mid e' : Chained) (edge curve : ℕ) (m : IsOneLess e mid edge curve) (h : e'.nodes ≡ mid.nodes) where
   less_here : listed mid edge ≡ filter (λ i. not (same_curve i curve)) (listed e edge)
   less_here = listed_from mid edge (filter (λ i. not (same_curve i curve)) (listed e edge)) (IsAscending-filter nat_cmp (λ i. not (same_curve i curve)) (listed e edge) (listed_ascends e edge))
@@ -94,7 +94,7 @@ module _ (e mid e' : Chained) (edge curve : ℕ) (m : IsOneLess e mid edge curve
   pub listed_less : (k : ℕ) → listed e' k ≡ cond (k == edge) (filter (λ i. not (same_curve i curve)) (listed e k)) (listed e k)
   listed_less k = listed_nodes mid e' k h ∙ elim (cases_eq k edge) [
     | inl q ↦ rw (eq-eqb k edge q) (subst (λ x. listed mid x ≡ filter (λ i. not (same_curve i curve)) (listed e x)) (sym q) less_here)
-    | inr ne ↦ rw (other k edge ne) (less_there k ne)
+    | inr ne ↦ rw (other_number k edge ne) (less_there k ne)
   ]
 
 pub filled_less : (e mid : Chained) (edge curve : ℕ) → IsOneLess e mid edge curve → AreFilled e → (k : ℕ) → k ≢ edge → HasKey mid k → (i : ℕ) × Says mid k i
@@ -105,7 +105,7 @@ module _ (e mid e' : Chained) (edge : ℕ) (m : IsEmptied e mid edge) (none : (i
   pub listed_none : (k : ℕ) → listed e' k ≡ cond (k == edge) [] (listed e k)
   listed_none k = listed_nodes mid e' k h ∙ elim (cases_eq k edge) [
     | inl q ↦ rw (eq-eqb k edge q) (subst (λ x. listed mid x ≡ []) (sym q) (listed_from mid edge [] tt (λ i g. absurd g) (λ i s. absurd (none i s))))
-    | inr ne ↦ rw (other k edge ne) (listed_same e mid k (λ i s. m.stays k i s) (λ i s. m.others k i s ne))
+    | inr ne ↦ rw (other_number k edge ne) (listed_same e mid k (λ i s. m.stays k i s) (λ i s. m.others k i s ne))
   ]
 
 pub filled_none : (e mid : Chained) (edge : ℕ) → IsEmptied e mid edge → AreFilled e → (k : ℕ) → k ≢ edge → HasKey mid k → (i : ℕ) × Says mid k i
@@ -116,7 +116,7 @@ module _ (e e' : Chained) (edge part : ℕ) (m : IsCopied e e' edge part) (none 
   pub listed_copied : (k : ℕ) → listed e' k ≡ cond (k == part) (listed e edge) (listed e k)
   listed_copied k = elim (cases_eq k part) [
     | inl q ↦ rw (eq-eqb k part q) (subst (λ x. listed e' x ≡ listed e edge) (sym q) (listed_from e' part (listed e edge) (listed_ascends e edge) (λ i g. m.said i (of_listed e edge i g)) (λ i s. in_listed e edge i (⊎_elim (λ o. absurd (none i o)) (λ c. c.1) (m.others part i s)))))
-    | inr ne ↦ rw (other k part ne) (listed_same e e' k (λ i s. ⊎_elim (λ o. o) (λ c. absurd (ne c.0)) (m.others k i s)) (λ i s. m.stays k i s))
+    | inr ne ↦ rw (other_number k part ne) (listed_same e e' k (λ i s. ⊎_elim (λ o. o) (λ c. absurd (ne c.0)) (m.others k i s)) (λ i s. m.stays k i s))
   ]
 
   pub filled_copied : AreFilled e → AreFilled e'
@@ -140,38 +140,38 @@ pub sees : (i : Inside) (seen : Past) → past i.by_edge i.by_curve i.pieces i.n
 sees i seen h = subst (IsSeen i) h (record { pairs = refl; names = refl; pieces = refl; next = refl; spare_names = refl; spare_pieces = refl; spare_pairs = refl; capacity_by_edge = refl; capacity_by_curve = refl; capacity_of_pieces = refl })
 
 module _ (i : Inside) (old : Past) (v : IsSeen i old) where
-  held_old : (x : DartId) → held old x ≡ listed i.by_edge x.0
+  held_old : (x : DartId) → curves_on old x ≡ listed i.by_edge x.0
   held_old x = held_is old i.by_edge x v.pairs
 
-  pub says_held : (d : DartId) (k : ℕ) → Says i.by_edge d.0 k → Member k (held old d)
+  pub says_held : (d : DartId) (k : ℕ) → Says i.by_edge d.0 k → Member k (curves_on old d)
   says_held d k s = rw (held_old d) (in_listed i.by_edge d.0 k s)
 
-  pub held_says : (d : DartId) (k : ℕ) → Member k (held old d) → Says i.by_edge d.0 k
+  pub held_says : (d : DartId) (k : ℕ) → Member k (curves_on old d) → Says i.by_edge d.0 k
   held_says d k m = of_listed i.by_edge d.0 k (subst (Member k) (held_old d) m)
 
   pub has_name : (k : ℕ) → Member k old.names → HasKey i.by_curve k
   has_name k m = has_of_named i.by_curve k (subst (Member k) v.names m)
 
-  pub none_held : (d : DartId) → held old d ≡ [] → (k : ℕ) → ¬ Says i.by_edge d.0 k
+  pub none_held : (d : DartId) → curves_on old d ≡ [] → (k : ℕ) → ¬ Says i.by_edge d.0 k
   none_held d h k s = subst (Member k) h (says_held d k s)
 
   module _ (new : Past) (e' : Chained) (h' : new.pairs ≡ pairs_in e') where
-    held_new : (x : DartId) → held new x ≡ listed e' x.0
+    held_new : (x : DartId) → curves_on new x ≡ listed e' x.0
     held_new x = held_is new e' x h'
 
-    pub held_more : (d : DartId) (curve : ℕ) → IsPairMore i.by_edge e' d.0 curve → (x : DartId) → held new x ≡ cond (x.0 == d.0) (place nat_cmp curve (held old x)) (held old x)
+    pub held_more : (d : DartId) (curve : ℕ) → IsPairMore i.by_edge e' d.0 curve → (x : DartId) → curves_on new x ≡ cond (x.0 == d.0) (place nat_cmp curve (curves_on old x)) (curves_on old x)
     held_more d curve m x = rw (held_old x, held_new x) (listed_more i.by_edge e' d.0 curve m x.0)
 
-    pub held_less : (mid : Chained) (d : DartId) (curve : ℕ) → IsOneLess i.by_edge mid d.0 curve → e'.nodes ≡ mid.nodes → (x : DartId) → held new x ≡ cond (x.0 == d.0) (filter (λ i. not (same_curve i curve)) (held old x)) (held old x)
+    pub held_less : (mid : Chained) (d : DartId) (curve : ℕ) → IsOneLess i.by_edge mid d.0 curve → e'.nodes ≡ mid.nodes → (x : DartId) → curves_on new x ≡ cond (x.0 == d.0) (filter (λ i. not (same_curve i curve)) (curves_on old x)) (curves_on old x)
     held_less mid d curve m h x = rw (held_old x, held_new x) (listed_less i.by_edge mid e' d.0 curve m h x.0)
 
-    pub held_none : (mid : Chained) (d : DartId) → IsEmptied i.by_edge mid d.0 → ((k : ℕ) → ¬ Says mid d.0 k) → e'.nodes ≡ mid.nodes → (x : DartId) → held new x ≡ cond (x.0 == d.0) [] (held old x)
+    pub held_none : (mid : Chained) (d : DartId) → IsEmptied i.by_edge mid d.0 → ((k : ℕ) → ¬ Says mid d.0 k) → e'.nodes ≡ mid.nodes → (x : DartId) → curves_on new x ≡ cond (x.0 == d.0) [] (curves_on old x)
     held_none mid d m none h x = rw (held_old x, held_new x) (listed_none i.by_edge mid e' d.0 m none h x.0)
 
-    pub held_copied : (d part : DartId) → IsCopied i.by_edge e' d.0 part.0 → ((k : ℕ) → ¬ Says i.by_edge part.0 k) → (x : DartId) → held new x ≡ cond (x.0 == part.0) (held old d) (held old x)
+    pub held_copied : (d part : DartId) → IsCopied i.by_edge e' d.0 part.0 → ((k : ℕ) → ¬ Says i.by_edge part.0 k) → (x : DartId) → curves_on new x ≡ cond (x.0 == part.0) (curves_on old d) (curves_on old x)
     held_copied d part m none x = rw (held_old x, held_old d, held_new x) (listed_copied i.by_edge e' d.0 part.0 m none x.0)
 
-    pub held_same : e'.nodes ≡ i.by_edge.nodes → (x : DartId) → held new x ≡ held old x
+    pub held_same : e'.nodes ≡ i.by_edge.nodes → (x : DartId) → curves_on new x ≡ curves_on old x
     held_same h x = rw (held_old x, held_new x) (listed_nodes i.by_edge e' x.0 h)
 
   -- names, pieces and the next number stay
@@ -181,7 +181,7 @@ module _ (i : Inside) (old : Past) (v : IsSeen i old) where
 -- ---- how many curves there are along an edge
 not_equal : (x : ℕ) (xs : List ℕ) (t : Ordering) (y : ℕ) (ys : List ℕ) → nat_cmp x y ≡ t → (x ≡ y → ⊥) → length xs ≡ suc (length ys) → length (match_ordering t (x ∷ y ∷ ys) (y ∷ ys) (y ∷ xs)) ≡ suc (suc (length ys))
 not_equal x xs Less y ys e f h = refl
-not_equal x xs Equal y ys e f h = absurd (f (exact x y e))
+not_equal x xs Equal y ys e f h = absurd (f (nat_exact x y e))
 not_equal x xs Greater y ys e f h = ap suc h
 
 longer : (x : ℕ) (ys : List ℕ) → (Member x ys → ⊥) → length (place nat_cmp x ys) ≡ suc (length ys)
@@ -192,7 +192,7 @@ longer x (y ∷ ys) f = not_equal x (place nat_cmp x ys) (nat_cmp x y) y ys refl
 pub same_length : (xs : List ℕ) → AreApart xs → length (ascending nat_cmp xs) ≡ length xs
 unfolding ascending
 same_length [] a = refl
-same_length (x ∷ xs) a = longer x (ascending nat_cmp xs) (λ m. a.0 (lists.of_ascending nat_cmp nat_cmp_total exact x xs m)) ∙ ap suc (same_length xs a.1)
+same_length (x ∷ xs) a = longer x (ascending nat_cmp xs) (λ m. a.0 (lists.of_ascending nat_cmp nat_cmp_total nat_exact x xs m)) ∙ ap suc (same_length xs a.1)
 
 module _ (e c : Chained) (t : ArePairs e c) (k : ℕ) (w : IsWhole e k) where
   items_apart : (ns : List ℕ) → ((n : ℕ) → Member n ns → Member n (chain e k)) → AreApart ns → AreApart (map (item_in e) ns)
@@ -213,19 +213,19 @@ module _ (e c : Chained) (t : ArePairs e c) (k : ℕ) (w : IsWhole e k) where
   -- the curves along an edge are what its chain's nodes say
   pub listed_is : listed e k ≡ ascending nat_cmp (map (item_in e) (chain e k))
   listed_is = listed_from e k (ascending nat_cmp (map (item_in e) (chain e k))) (IsAscending-ascending nat_cmp nat_cmp_total (map (item_in e) (chain e k)))
-      (λ i m. let n = lists.of_map (item_in e) i (chain e k) (lists.of_ascending nat_cmp nat_cmp_total exact i (map (item_in e) (chain e k)) m) in let u = node_at e k n.0 w n.1 in record { node = n.0; twin = u.0; is = subst (λ j. entry_at e n.0 ≡ Some (entry k j u.0)) (sym n.2) u.1 })
-      (λ i s. let n = says_on e k i w s in lists.in_ascending nat_cmp nat_cmp_total exact i (map (item_in e) (chain e k)) (subst (λ j. Member j (map (item_in e) (chain e k))) n.2 (lists.in_map (item_in e) n.0 (chain e k) n.1)))
+      (λ i m. let n = lists.of_map (item_in e) i (chain e k) (lists.of_ascending nat_cmp nat_cmp_total nat_exact i (map (item_in e) (chain e k)) m) in let u = node_at e k n.0 w n.1 in record { node = n.0; twin = u.0; is = subst (λ j. entry_at e n.0 ≡ Some (entry k j u.0)) (sym n.2) u.1 })
+      (λ i s. let n = says_on e k i w s in lists.in_ascending nat_cmp nat_cmp_total nat_exact i (map (item_in e) (chain e k)) (subst (λ j. Member j (map (item_in e) (chain e k))) n.2 (lists.in_map (item_in e) n.0 (chain e k) n.1)))
 
   pub listed_length : length (listed e k) ≡ length (chain e k)
   listed_length = ap length listed_is ∙ same_length (map (item_in e) (chain e k)) items_differ ∙ length-map (chain e k) (item_in e)
 
-pub held_length : (i : Inside) (old : Past) → IsSeen i old → ArePairs i.by_edge i.by_curve → (d : DartId) → IsWhole i.by_edge d.0 → length (held old d) ≡ length (chain i.by_edge d.0)
+pub held_length : (i : Inside) (old : Past) → IsSeen i old → ArePairs i.by_edge i.by_curve → (d : DartId) → IsWhole i.by_edge d.0 → length (curves_on old d) ≡ length (chain i.by_edge d.0)
 held_length i old v t d w = ap length (held_is old i.by_edge d v.pairs) ∙ listed_length i.by_edge i.by_curve t d.0 w
 
 -- ---- room
 module _ (i : Inside) (old : Past) (v : IsSeen i old) where
-  pub room_in : ArePairs i.by_edge i.by_curve → (d : DartId) → IsWhole i.by_edge d.0 → length (held old d) ≤ old.spare_pairs → length (chain i.by_edge d.0) ≤ pair_room i.by_edge i.by_curve
-  room_in t d w h = subst (λ n. n ≤ pair_room i.by_edge i.by_curve) (held_length i old v t d w) (subst (λ n. length (held old d) ≤ n) v.spare_pairs h)
+  pub room_in : ArePairs i.by_edge i.by_curve → (d : DartId) → IsWhole i.by_edge d.0 → length (curves_on old d) ≤ old.spare_pairs → length (chain i.by_edge d.0) ≤ pair_room i.by_edge i.by_curve
+  room_in t d w h = subst (λ n. n ≤ pair_room i.by_edge i.by_curve) (held_length i old v t d w) (subst (λ n. length (curves_on old d) ≤ n) v.spare_pairs h)
 
   pub spare_on : (new : Past) (c' : Chained) → AreSameKeys i.by_curve c' → new.spare_names ≡ c'.spare_keys → new.spare_pieces ≡ vec_capacity i.pieces - vec_len i.pieces → pair_room i.by_edge i.by_curve ≤ new.spare_pairs → IsSpare old new 0 0 0
   spare_on new c' s a b h = record {
@@ -237,21 +237,21 @@ module _ (i : Inside) (old : Past) (v : IsSeen i old) where
       plus_none : (a b c : ℕ) → a ≡ b → b ≤ c → a + 0 ≤ c
       plus_none a b c e h = omega arith
 
-  pub room_after : ArePairs i.by_edge i.by_curve → (d : DartId) → IsWhole i.by_edge d.0 → (now : ℕ) → pair_room i.by_edge i.by_curve ≤ now + length (chain i.by_edge d.0) → pair_room i.by_edge i.by_curve ≤ now + length (held old d)
+  pub room_after : ArePairs i.by_edge i.by_curve → (d : DartId) → IsWhole i.by_edge d.0 → (now : ℕ) → pair_room i.by_edge i.by_curve ≤ now + length (chain i.by_edge d.0) → pair_room i.by_edge i.by_curve ≤ now + length (curves_on old d)
   room_after t d w now h = subst (λ n. pair_room i.by_edge i.by_curve ≤ now + n) (sym (held_length i old v t d w)) h
 
 -- as many as nodes in the chain
-pub counted_held : (i : Inside) (old : Past) → IsSeen i old → ArePairs i.by_edge i.by_curve → (d : DartId) → IsWhole i.by_edge d.0 → (n : ℕ) → n ≡ length (chain i.by_edge d.0) → n ≡ length (held old d)
+pub counted_held : (i : Inside) (old : Past) → IsSeen i old → ArePairs i.by_edge i.by_curve → (d : DartId) → IsWhole i.by_edge d.0 → (n : ℕ) → n ≡ length (chain i.by_edge d.0) → n ≡ length (curves_on old d)
 counted_held i old v t d w n e = e ∙ sym (held_length i old v t d w)
 
 -- what is said of both edges tells whether they have the same curves
-pub all_held : (i : Inside) (old : Past) → IsSeen i old → (d n : DartId) → HasAll i.by_edge d.0 n.0 → HasAll i.by_edge n.0 d.0 → held old d ≡ held old n
+pub all_held : (i : Inside) (old : Past) → IsSeen i old → (d n : DartId) → HasAll i.by_edge d.0 n.0 → HasAll i.by_edge n.0 d.0 → curves_on old d ≡ curves_on old n
 all_held i old v d n f g =
     held_is old i.by_edge d v.pairs ∙ listed_from i.by_edge d.0 (listed i.by_edge n.0) (listed_ascends i.by_edge n.0)
     (λ k m. g k (of_listed i.by_edge n.0 k m))
     (λ k s. in_listed i.by_edge n.0 k (f k s)) ∙ sym (held_is old i.by_edge n v.pairs)
 
-pub held_all : (i : Inside) (old : Past) → IsSeen i old → (d n : DartId) → held old d ≡ held old n → HasAll i.by_edge d.0 n.0
+pub held_all : (i : Inside) (old : Past) → IsSeen i old → (d n : DartId) → curves_on old d ≡ curves_on old n → HasAll i.by_edge d.0 n.0
 held_all i old v d n e k s =
     let q : listed i.by_edge d.0 ≡ listed i.by_edge n.0 = sym (held_is old i.by_edge d v.pairs) ∙ e ∙ held_is old i.by_edge n v.pairs in
     of_listed i.by_edge n.0 k (subst (λ xs. Member k xs) q (in_listed i.by_edge d.0 k s))

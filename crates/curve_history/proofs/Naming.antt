@@ -3,13 +3,11 @@ use Rattle.std.proofs.Common.{◌≡◌, ◌≢◌, ◌⊎◌, ◌↔◌, ⊎_el
 use Rattle.std.specs.List.{filter, AllByRecursion, IsDistinct}
 use Rattle.std.specs.Ordering.{nat_cmp}
 use Rattle.std.proofs.lemmas.Bool.{false≢true}
-use Rattle.std.specs.Cmp.{nat_cmp_is}
-use Rattle.std.proofs.lemmas.Cmp.{ranked}
 use Rattle.std.proofs.lemmas.List.{length-map}
 use Rattle.plane_graphs.specs.Ascending.{ascending, Member, IsAscending}
 use Rattle.plane_graphs.specs.Graph.{same_curve}
 use Rattle.plane_graphs.proofs.Ascending.{All-member, to_member, from_member}
-use Rattle.plane_graphs.proofs.Lists.{in_filter, of_filter, in_map, of_map, in_left, in_right, in_either, IsAscending-filter, not_in, not_out, clash}
+use Rattle.plane_graphs.proofs.Lists.{in_filter, of_filter, in_map, of_map, in_left, in_right, in_either, IsAscending-filter, not_in, not_out, clash, some_of}
 use Rattle.plane_graphs.proofs.Order.{curve_out, curve_in}
 use Rattle.std.specs.declared.vec.Vec.{Vec}
 use Rattle.slab_laws.specs.declared.present.Piece.{Piece as PieceInMemory}
@@ -24,20 +22,15 @@ use Rattle.curve_history.proofs.Numbers.{fits}
 use Rattle.linked_chains.specs.Chains.{Chained, Link, IsWhole, HasKey, entry_at, chain}
 use Rattle.linked_chains.specs.declared.node.Entry.{Entry}
 use Rattle.curve_history.specs.declared.history.History.TheInside.{Inside}
-use Rattle.curve_history.specs.Past.{Past, held}
-use Rattle.curve_history.specs.Kept.{entry, item_in, Says, ArePairs, AreFilled, number_of, named_in, pairs_in, IsKept}
+use Rattle.curve_history.specs.Past.{Past, curves_on}
+use Rattle.curve_history.specs.HistoryInMemory.{entry, item_in, Says, ArePairs, AreFilled, number_of, named_in, pairs_in, IsSoundHistory}
 use Rattle.curve_history.proofs.Reading.{listed_from, held_is}
 use Rattle.curve_history.proofs.Histories.{IsSeen, has_name, has_of_named, named_of_has, named_from, named_ascend, says_held, held_says, same_length, items_differ, listed_is}
 use Rattle.curve_history.proofs.Twins.{one_entry}
-use Rattle.view_changes.proofs.RowLaws.{other}
 use Rattle.curve_history.proofs.Walking.{AreApart, apart, node_at, item_is}
+use Rattle.integers.proofs.Tests.{nat_less, less_nat, other_number}
 
 -- ---- lists of numbers
-below : (x y : ℕ) → nat_cmp x y ≡ Less → x < y
-below x y e = ranked x y Less (sym e)
-
-above : (x y : ℕ) → x < y → nat_cmp x y ≡ Less
-above x y h = sym (nat_cmp_is x y Less h)
 
 -- a greater number at the end
 all_snoc : (x : ℕ) (xs : List ℕ) (n : ℕ) → AllByRecursion (λ y. nat_cmp x y ≡ Less) xs → nat_cmp x n ≡ Less → AllByRecursion (λ y. nat_cmp x y ≡ Less) (xs ++ n ∷ [])
@@ -46,7 +39,7 @@ all_snoc x (y ∷ ys) n a h = (a.0, all_snoc x ys n a.1 h)
 
 pub ascends_snoc : (xs : List ℕ) (n : ℕ) → IsAscending nat_cmp xs → ((x : ℕ) → Member x xs → x < n) → IsAscending nat_cmp (xs ++ n ∷ [])
 ascends_snoc [] n a f = (tt, tt)
-ascends_snoc (x ∷ xs) n a f = (all_snoc x xs n a.0 (above x n (f x (inl refl))), ascends_snoc xs n a.1 (λ y m. f y (inr m)))
+ascends_snoc (x ∷ xs) n a f = (all_snoc x xs n a.0 (nat_less x n (f x (inl refl))), ascends_snoc xs n a.1 (λ y m. f y (inr m)))
 
 -- numbers that ascend from one bound to another are no more than there is room for
 within : (low high : ℕ) (xs : List ℕ) → low ≤ high → IsAscending nat_cmp xs → ((x : ℕ) → Member x xs → (low ≤ x) × (x < high)) → low + length xs ≤ high
@@ -57,7 +50,7 @@ within low high (x ∷ xs) l a f =
     omega (arith, b.0, r)
   where
     above_suc : (y : ℕ) → nat_cmp x y ≡ Less → suc x ≤ y
-    above_suc y e = let h = below x y e in omega arith
+    above_suc y e = let h = less_nat x y e in omega arith
 
 -- ---- names
 -- one name more, past all others
@@ -104,7 +97,7 @@ none_there : (xs : List ℕ) → ((n : ℕ) → Member n xs → ⊥) → xs ≡ 
 none_there [] f = refl
 none_there (x ∷ xs) f = absurd (f x (inl refl))
 
-pub chain_free : (i : Inside) (old : Past) (k : ℕ) → IsSeen i old → ArePairs i.by_edge i.by_curve → IsWhole i.by_curve k → ((d : DartId) → ¬ Member k (held old d)) → chain i.by_curve k ≡ []
+pub chain_free : (i : Inside) (old : Past) (k : ℕ) → IsSeen i old → ArePairs i.by_edge i.by_curve → IsWhole i.by_curve k → ((d : DartId) → ¬ Member k (curves_on old d)) → chain i.by_curve k ≡ []
 chain_free i old k v t w f = none_there (chain i.by_curve k) each
   where
     each : (n : ℕ) → Member n (chain i.by_curve k) → ⊥
@@ -134,7 +127,7 @@ no_key : (c : Chained) (k : ℕ) → c.heads ≡ [] → ¬ HasKey c k
 unfolding row_at
 no_key c k h g = false≢true (subst (λ (hs : List (ℕ × Option ℕ)). IsSome (row_at hs k)) h g)
 
-pub kept_none : {Z : Type 0} (e c : Chained) (p : Vec PieceInMemory Z) (n : Option ℕ) → e.nodes ≡ [] → c.nodes ≡ [] → e.heads ≡ [] → c.heads ≡ [] → p.items ≡ [] → IfSome n (λ n. (1 ≤ n) × (n < 2 ^ 32)) → IsKept e c p n
+pub kept_none : {Z : Type 0} (e c : Chained) (p : Vec PieceInMemory Z) (n : Option ℕ) → e.nodes ≡ [] → c.nodes ≡ [] → e.heads ≡ [] → c.heads ≡ [] → p.items ≡ [] → IfSome n (λ n. (1 ≤ n) × (n < 2 ^ 32)) → IsSoundHistory e c p n
 kept_none e c p n en cn eh ch pe l = record {
   pairs = record {
     forth = record { twin = λ x k i s h. absurd (none_at e x (entry k i s) en h) };
@@ -147,7 +140,7 @@ kept_none e c p n en cn eh ch pe l = record {
   few = let q : length p.items ≡ 0 = ap length pe in omega arith;
 }
 
-pub held_nothing : (new : Past) (e : Chained) → new.pairs ≡ pairs_in e → e.nodes ≡ [] → (d : DartId) → held new d ≡ []
+pub held_nothing : (new : Past) (e : Chained) → new.pairs ≡ pairs_in e → e.nodes ≡ [] → (d : DartId) → curves_on new d ≡ []
 held_nothing new e h n d = held_is new e d h ∙ listed_from e d.0 [] tt (λ k m. absurd m) (λ k s. absurd (none_at e s.node (entry d.0 k s.twin) n s.is))
 
 -- ---- read from both sides
@@ -167,7 +160,7 @@ curve_fits i t keys numbers l d k s = number_fits i.next k l (numbers k (keys s.
 
 same_number : {X : Type 0} (f : X → ℕ) (x : X) (ys : List X) → (Member (f x) (map f ys) → ⊥) → AllByRecursion (λ y. (f x == f y) ≡ false) ys
 same_number f x [] g = tt
-same_number f x (y ∷ ys) g = (other (f x) (f y) (λ e. g (inl e)), same_number f x ys (λ m. g (inr m)))
+same_number f x (y ∷ ys) g = (other_number (f x) (f y) (λ e. g (inl e)), same_number f x ys (λ m. g (inr m)))
 
 pub differ_by : {X : Type 0} (f : X → ℕ) (xs : List X) → AreApart (map f xs) → IsDistinct (λ a b. f a == f b) xs
 unfolding IsDistinct
@@ -179,7 +172,7 @@ module _ (i : Inside) (old : Past) (v : IsSeen i old) (t : ArePairs i.by_edge i.
   pub edges_once : IsDistinct (λ a b. a.0 == b.0) ds
   edges_once = differ_by (λ (d : DartId). d.0) ds (subst AreApart (sym h) (items_differ i.by_curve i.by_edge (flip_pairs i.by_edge i.by_curve t) k w))
 
-  runs : (d : DartId) → Contains ds d → Member k (held old d)
+  runs : (d : DartId) → Contains ds d → Member k (curves_on old d)
   runs d m =
       let a : Member d.0 (map (item_in i.by_curve) (chain i.by_curve k)) = subst (λ ns. Member d.0 ns) h (in_map (λ (d : DartId). d.0) d ds (to_member ds d m)) in
       let n = of_map (item_in i.by_curve) d.0 (chain i.by_curve k) a in
@@ -187,7 +180,7 @@ module _ (i : Inside) (old : Past) (v : IsSeen i old) (t : ArePairs i.by_edge i.
       let s : entry_at i.by_curve n.0 ≡ Some (entry k d.0 u.0) = subst (λ j. entry_at i.by_curve n.0 ≡ Some (entry k j u.0)) (sym n.2) u.1 in
       says_held i old v d k (record { node = u.0; twin = n.0; is = t.back.twin n.0 k d.0 u.0 s })
 
-  along : (d : DartId) → Member k (held old d) → Contains ds d
+  along : (d : DartId) → Member k (curves_on old d) → Contains ds d
   along d m =
       let s = held_says i old v d k m in
       let g : entry_at i.by_curve s.twin ≡ Some (entry k d.0 s.node) = t.forth.twin s.node d.0 k s.twin s.is in
@@ -197,7 +190,7 @@ module _ (i : Inside) (old : Past) (v : IsSeen i old) (t : ArePairs i.by_edge i.
       let x = of_map (λ (d : DartId). d.0) d.0 ds b in
       from_member ds d (subst (λ (y : DartId). Member y ds) (sym (ap dart_id x.2)) x.1)
 
-  pub edges_are : (d : DartId) → Contains ds d ↔ Member k (held old d)
+  pub edges_are : (d : DartId) → Contains ds d ↔ Member k (curves_on old d)
   edges_are d = (runs d, along d)
 
 -- ---- in the history's words
@@ -217,7 +210,7 @@ module _ (i : Inside) (old : Past) (v : IsSeen i old) where
   counted count d e = e ∙ sym (named_length i.by_curve d) ∙ ap length (sym v.names)
 
   -- sorted, an edge's curves are those of its nodes
-  pub curves_are : ArePairs i.by_edge i.by_curve → (d : DartId) → IsWhole i.by_edge d.0 → (us vs : List CurveId) → map (λ (c : CurveId). c.0) us ≡ map (item_in i.by_edge) (chain i.by_edge d.0) → IsPermutation us vs → IsSorted (λ (x y : CurveId). nat_cmp x.0 y.0) vs → map (λ (c : CurveId). c.0) vs ≡ held old d
+  pub curves_are : ArePairs i.by_edge i.by_curve → (d : DartId) → IsWhole i.by_edge d.0 → (us vs : List CurveId) → map (λ (c : CurveId). c.0) us ≡ map (item_in i.by_edge) (chain i.by_edge d.0) → IsPermutation us vs → IsSorted (λ (x y : CurveId). nat_cmp x.0 y.0) vs → map (λ (c : CurveId). c.0) vs ≡ curves_on old d
   curves_are t d w us vs h p s =
       sorted_curves us vs (subst AreApart (sym h) (items_differ i.by_edge i.by_curve t d.0 w)) p s
       ∙ ap (ascending nat_cmp) h ∙ sym (listed_is i.by_edge i.by_curve t d.0 w) ∙ sym (held_is old i.by_edge d v.pairs)
@@ -234,20 +227,17 @@ module _ (i : Inside) (old : Past) (v : IsSeen i old) (k : ℕ) (b : Bool) (h : 
   with_name t = subst (Member k) (sym v.names) (named_of_has i.by_curve k (sym h ∙ t))
 
 -- ---- whether there are curves along an edge
-some_member : (xs : List ℕ) → xs ≢ [] → (x : ℕ) × Member x xs
-some_member [] f = absurd (f refl)
-some_member (x ∷ xs) f = (x, inl refl)
 
 module _ (i : Inside) (old : Past) (v : IsSeen i old) (d : DartId) (b : Bool) (h : b ≡ is_some (row_at i.by_edge.heads d.0)) where
-  pub told_by_key : AreFilled i.by_edge → ((n : ℕ) (x : Entry) → entry_at i.by_edge n ≡ Some x → HasKey i.by_edge x.key) → (b ≡ true) ↔ (held old d ≢ [])
+  pub told_by_key : AreFilled i.by_edge → ((n : ℕ) (x : Entry) → entry_at i.by_edge n ≡ Some x → HasKey i.by_edge x.key) → (b ≡ true) ↔ (curves_on old d ≢ [])
   told_by_key f keys = (
     λ t e. let s = f.key d.0 (sym h ∙ t) in subst (Member s.0) e (says_held i old v d s.0 s.1),
-    λ g. let m = some_member (held old d) g in let s = held_says i old v d m.0 m.1 in h ∙ keys s.node (entry d.0 m.0 s.twin) s.is,
+    λ g. let m = some_of (curves_on old d) g in let s = held_says i old v d m.0 m.1 in h ∙ keys s.node (entry d.0 m.0 s.twin) s.is,
   )
 
 -- ---- what is true of all histories
 module _ (i : Inside) (old : Past) (v : IsSeen i old) where
-  pub held_named : ArePairs i.by_edge i.by_curve → ((n : ℕ) (x : Entry) → entry_at i.by_curve n ≡ Some x → HasKey i.by_curve x.key) → (d : DartId) (k : ℕ) → Member k (held old d) → Member k old.names
+  pub held_named : ArePairs i.by_edge i.by_curve → ((n : ℕ) (x : Entry) → entry_at i.by_curve n ≡ Some x → HasKey i.by_curve x.key) → (d : DartId) (k : ℕ) → Member k (curves_on old d) → Member k old.names
   held_named t keys d k m =
       let s = held_says i old v d k m in
       subst (Member k) (sym v.names) (named_of_has i.by_curve k (keys s.twin (entry k d.0 s.node) (t.forth.twin s.node d.0 k s.twin s.is)))

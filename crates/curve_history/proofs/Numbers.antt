@@ -2,7 +2,7 @@
 use Rattle.std.proofs.Common.{◌≡◌, ◌<◌, ◌≤◌, ◌^◌, nat_lt, ℕ, Bool, true, false, not, Option, Some, None, IfSome, is_some, arith, refl, sym, Fits, w32}
 use Rattle.std.proofs.lemmas.Bool.Decides.{nat_tests}
 use Rattle.curve_history.specs.declared.history.TheConstants.{LAST_CURVE}
-use Rattle.curve_history.specs.Kept.{number_of}
+use Rattle.curve_history.specs.HistoryInMemory.{number_of}
 
 not_past : (n : ℕ) → n < 2 ^ 32 → nat_lt LAST_CURVE n ≡ false
 not_past n h = grind (arith, nat_tests)

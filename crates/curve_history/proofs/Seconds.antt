@@ -4,16 +4,17 @@ use Rattle.std.specs.List.{list_any}
 use Rattle.std.proofs.lemmas.Bool.{false≢true}
 use Rattle.plane_graphs.specs.Ascending.{Member}
 use Rattle.plane_graphs.specs.Graph.{same_curve}
-use Rattle.plane_graphs.proofs.Lists.{any_in, any_out, not_in, not_out, not_true, decide, clash}
+use Rattle.plane_graphs.proofs.Lists.{any_in, any_out, not_in, not_out, decide, clash}
 use Rattle.plane_graphs.proofs.Order.{curve_in, curve_out}
 use Rattle.slab_laws.specs.declared.names.DartId.{DartId}
 use Rattle.linked_chains.specs.Chains.{Chained, IsWhole, entry_at, chain, head_of, comes_after}
 use Rattle.linked_chains.specs.declared.node.Entry.{Entry}
 use Rattle.curve_history.specs.declared.history.History.TheInside.{Inside}
-use Rattle.curve_history.specs.Kept.{entry, item_in, Says}
-use Rattle.curve_history.specs.Past.{Past, held}
+use Rattle.curve_history.specs.HistoryInMemory.{entry, item_in, Says}
+use Rattle.curve_history.specs.Past.{Past, curves_on}
 use Rattle.curve_history.proofs.Histories.{IsSeen, says_held, held_says}
 use Rattle.curve_history.proofs.Walking.{IsAt, at_head, AreApart, apart, left, left_head, IsStepped, stepped, item_is, node_at, says_on}
+use Rattle.integers.proofs.Tests.{not_true}
 
 -- what is left from a member on begins with it
 from_it : (xs : List ℕ) (n : ℕ) → AreApart xs → Member n xs → Member n (left xs (Some n))
@@ -91,13 +92,13 @@ module _ (c : Chained) (k n : ℕ) (e : Entry) (first : Option ℕ) (w : IsWhole
         sym m.2 ∙ ap (item_in c) (one_only m.0 n (subst (λ xs. Member m.0 xs) all m.1)) ∙ first_item ∙ same
 
 -- what is said of an edge tells whether another curve runs along it
-pub other_held : (i : Inside) (old : Past) → IsSeen i old → (d : DartId) (c : ℕ) (r : Bool) → (r ≡ true → (j : ℕ) × Says i.by_edge d.0 j × (j ≢ c)) → (r ≡ false → (j : ℕ) → Says i.by_edge d.0 j → j ≡ c) → r ≡ list_any (λ k. not (same_curve k c)) (held old d)
+pub other_held : (i : Inside) (old : Past) → IsSeen i old → (d : DartId) (c : ℕ) (r : Bool) → (r ≡ true → (j : ℕ) × Says i.by_edge d.0 j × (j ≢ c)) → (r ≡ false → (j : ℕ) → Says i.by_edge d.0 j → j ≡ c) → r ≡ list_any (λ k. not (same_curve k c)) (curves_on old d)
 other_held i old v d c r f g = elim (decide r) [
   | inl t ↦
       let j = f t in
-      t ∙ sym (any_in (λ k. not (same_curve k c)) j.0 (held old d) (says_held i old v d j.0 j.1) (not_in (same_curve j.0 c) (λ q. j.2 (curve_out j.0 c q))))
+      t ∙ sym (any_in (λ k. not (same_curve k c)) j.0 (curves_on old d) (says_held i old v d j.0 j.1) (not_in (same_curve j.0 c) (λ q. j.2 (curve_out j.0 c q))))
   | inr t ↦
       t ∙ sym (not_true _ (λ q.
-      let j = any_out (λ k. not (same_curve k c)) (held old d) q in
+      let j = any_out (λ k. not (same_curve k c)) (curves_on old d) q in
       clash (curve_in j.0 c (g t j.0 (held_says i old v d j.0 j.1))) (not_out (same_curve j.0 c) j.2)))
 ]

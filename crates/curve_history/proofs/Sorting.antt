@@ -14,8 +14,8 @@ use Rattle.plane_graphs.proofs.Lists as lists
 use Rattle.plane_graphs.proofs.Order.{curve_out}
 use Rattle.plane_graphs.proofs.Sorting.{sorted_ascends}
 use Rattle.slab_laws.specs.declared.names.CurveId.{CurveId}
-use Rattle.curve_history.proofs.Reading.{exact}
 use Rattle.curve_history.proofs.Walking.{AreApart}
+use Rattle.integers.proofs.Tests.{nat_exact}
 
 abbrev by_number : CurveId → CurveId → Ordering
 by_number x y = nat_cmp x.0 y.0
@@ -46,5 +46,5 @@ sorted_curves us vs a p s =
     let there : (c : CurveId) → Member c us → Member c vs = λ c m. to_member vs c (Contains-permutation us vs c p (from_member us c m)) in
     let back : (c : CurveId) → Member c vs → Member c us = λ c m. to_member us c (Contains-permutation vs us c (IsPermutation-sym us vs p) (from_member vs c m)) in
     ascending_unique nat_cmp nat_cmp_total (map num vs) (ascending nat_cmp (map num us)) (numbers_ascend vs up) (IsAscending-ascending nat_cmp nat_cmp_total (map num us))
-    (λ n m. let c = of_map num n vs m in lists.in_ascending nat_cmp nat_cmp_total exact n (map num us) (subst (λ k. Member k (map num us)) (sym c.2) (in_map num c.0 us (back c.0 c.1))))
-    (λ n m. let c = of_map num n us (lists.of_ascending nat_cmp nat_cmp_total exact n (map num us) m) in subst (λ k. Member k (map num vs)) (sym c.2) (in_map num c.0 vs (there c.0 c.1)))
+    (λ n m. let c = of_map num n vs m in lists.in_ascending nat_cmp nat_cmp_total nat_exact n (map num us) (subst (λ k. Member k (map num us)) (sym c.2) (in_map num c.0 us (back c.0 c.1))))
+    (λ n m. let c = of_map num n us (lists.of_ascending nat_cmp nat_cmp_total nat_exact n (map num us) m) in subst (λ k. Member k (map num vs)) (sym c.2) (in_map num c.0 vs (there c.0 c.1)))

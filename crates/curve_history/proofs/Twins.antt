@@ -3,12 +3,12 @@ use Rattle.std.proofs.Common.{◌≡◌, ◌≢◌, ◌⊎◌, ⊎_elim, inl, in
 use Rattle.std.specs.List.{filter}
 use Rattle.std.proofs.lemmas.Bool.{cases_eq}
 use Rattle.slab_laws.specs.Tables.{row_at}
-use Rattle.view_changes.proofs.RowLaws.{same, other}
 use Rattle.curve_history.specs.Changed.{IsPairMore, IsPairLess}
 use Rattle.linked_chains.specs.Chains.{Chained, Link, HasKey, HasNode, entry_at, chain}
 use Rattle.linked_chains.specs.declared.node.Entry.{Entry}
-use Rattle.curve_history.specs.Kept.{entry, Says, AreTwins, ArePairs}
+use Rattle.curve_history.specs.HistoryInMemory.{entry, Says, AreTwins, ArePairs}
 use Rattle.curve_history.proofs.Reading.{node_of}
+use Rattle.integers.proofs.Tests.{other_number, same_number}
 
 pub record IsSameEntry (k i t l j s : ℕ) : Type 0 where
   pub key : k ≡ l
@@ -35,16 +35,16 @@ pub record IsNodeMore (old new : Chained) (node : ℕ) (e : Entry) : Type 0 wher
 pub node_more : (old new : Chained) (node : ℕ) (e : Entry) → ¬ HasNode old node → ((n : ℕ) → entry_at new n ≡ cond (n == node) (Some e) (entry_at old n)) → IsNodeMore old new node e
 node_more old new node e f h = record {
   fresh = f;
-  here = rw same at (h node);
-  others = λ n ne. rw (other n node ne) at (h n);
+  here = rw same_number at (h node);
+  others = λ n ne. rw (other_number n node ne) at (h n);
 }
 
 -- the same, where the new node gets its twin later
 pub twin_set : (old mid new : Chained) (node key item s twin : ℕ) → IsNodeMore old mid node (entry key item s) → ((n : ℕ) → entry_at new n ≡ cond (n == node) (option_map (λ e. entry e.key e.item twin) (entry_at mid n)) (entry_at mid n)) → IsNodeMore old new node (entry key item twin)
 twin_set old mid new node key item s twin m h = record {
   fresh = m.fresh;
-  here = let a = rw same at (h node) in rw m.here at a;
-  others = λ n ne. let a = rw (other n node ne) at (h n) in a ∙ m.others n ne;
+  here = let a = rw same_number at (h node) in rw m.here at a;
+  others = λ n ne. let a = rw (other_number n node ne) at (h n) in a ∙ m.others n ne;
 }
 
 module _ (a b a' b' : Chained) (m n key item : ℕ) (p : IsNodeMore a a' m (entry key item n)) (q : IsNodeMore b b' n (entry item key m)) where
@@ -121,8 +121,8 @@ pub record IsNodeLess (old new : Chained) (node : ℕ) (e : Entry) : Type 0 wher
 pub node_less : (old new : Chained) (node : ℕ) (e : Entry) → entry_at old node ≡ Some e → ((n : ℕ) → entry_at new n ≡ cond (n == node) None (entry_at old n)) → IsNodeLess old new node e
 node_less old new node e w h = record {
   was = w;
-  gone = rw same at (h node);
-  others = λ n ne. rw (other n node ne) at (h n);
+  gone = rw same_number at (h node);
+  others = λ n ne. rw (other_number n node ne) at (h n);
 }
 
 -- one side

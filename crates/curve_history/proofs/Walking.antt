@@ -6,12 +6,12 @@ use Rattle.std.proofs.lemmas.Map.Keys.{IsDistinct-head, IsDistinct-tail}
 use Rattle.std.specs.List.{IsDistinct, AllByRecursion}
 use Rattle.plane_graphs.specs.Ascending.{Member}
 use Rattle.plane_graphs.proofs.Ascending.{to_member, from_member}
-use Rattle.view_changes.proofs.RowLaws.{same, other}
 use Rattle.linked_chains.specs.Chains.{Chained, IsWhole, HasKey, HasNode, entry_at, chain, head_of, comes_after}
 use Rattle.linked_chains.specs.declared.node.Entry.{Entry}
-use Rattle.curve_history.specs.Kept.{entry, item_in, item_or, Says, AreFilled, HasAll}
+use Rattle.curve_history.specs.HistoryInMemory.{entry, item_in, item_or, Says, AreFilled, HasAll}
 use Rattle.curve_history.proofs.Reading.{node_of}
 use Rattle.curve_history.proofs.Twins.{says_there}
+use Rattle.integers.proofs.Tests.{other_number, same_number}
 
 -- ---- the first node
 pub none_first : (xs : List ℕ) → is_some (head_of xs) ≡ false → xs ≡ []
@@ -54,7 +54,7 @@ pub filled_others : (c c' : Chained) (edge : ℕ) → c'.nodes ≡ c.nodes → (
 filled_others c c' edge e f g = record { key = λ k m. let h = g k m in let s = f k h.1 h.0 in (s.0, says_there c c' k s.0 e s.1) }
 
 -- ---- what is left of a chain, from a node on
-unfoldable pub left : List ℕ → Option ℕ → List ℕ
+unfoldable pub left : (xs : List ℕ) (at : Option ℕ) → List ℕ
 left xs None = []
 left [] (Some n) = []
 left (x ∷ xs) (Some n) = cond (x == n) (x ∷ xs) (left xs (Some n))
@@ -85,7 +85,7 @@ at_head (x ∷ xs) = inl refl
 pub left_head : (xs : List ℕ) → left xs (head_of xs) ≡ xs
 unfolding left
 left_head [] = refl
-left_head (x ∷ xs) = rw (same x) refl
+left_head (x ∷ xs) = rw (same_number x) refl
 
 at_later : (x : ℕ) (xs : List ℕ) (at : Option ℕ) → IsAt xs at → IsAt (x ∷ xs) at
 at_later x xs None m = tt
@@ -94,7 +94,7 @@ at_later x xs (Some n) m = inr m
 left_later : (x : ℕ) (xs : List ℕ) (at : Option ℕ) → (Member x xs → ⊥) → IsAt xs at → left (x ∷ xs) at ≡ left xs at
 unfolding left
 left_later x xs None f m = refl
-left_later x xs (Some n) f m = rw (other x n (λ e. f (subst (λ y. Member y xs) (sym e) m))) refl
+left_later x xs (Some n) f m = rw (other_number x n (λ e. f (subst (λ y. Member y xs) (sym e) m))) refl
 
 -- the step of a walk
 pub record IsStepped (xs : List ℕ) (n : ℕ) : Type 0 where
@@ -110,8 +110,8 @@ stepped (x ∷ xs) n a m = elim (cases_eq x n) [
     left_is = rw (eq-eqb x n e) (subst (λ z. x ∷ xs ≡ z ∷ left (x ∷ xs) (head_of xs)) e (ap (λ zs. x ∷ zs) (sym (left_later x xs (head_of xs) a.0 (at_head xs) ∙ left_head xs))));
   }
   | inr ne ↦ record {
-    at = rw (other x n ne) (at_later x xs (comes_after xs n) (stepped xs n a.1 (beyond m ne)).at);
-    left_is = rw (other x n ne) ((stepped xs n a.1 (beyond m ne)).left_is ∙ ap (λ zs. n ∷ zs) (sym (left_later x xs (comes_after xs n) a.0 (stepped xs n a.1 (beyond m ne)).at)));
+    at = rw (other_number x n ne) (at_later x xs (comes_after xs n) (stepped xs n a.1 (beyond m ne)).at);
+    left_is = rw (other_number x n ne) ((stepped xs n a.1 (beyond m ne)).left_is ∙ ap (λ zs. n ∷ zs) (sym (left_later x xs (comes_after xs n) a.0 (stepped xs n a.1 (beyond m ne)).at)));
   }
 ]
   where
@@ -126,7 +126,7 @@ left_member xs None n m = absurd m
 left_member [] (Some k) n m = absurd m
 left_member (x ∷ xs) (Some k) n m = elim (cases_eq x k) [
   | inl e ↦ rw (eq-eqb x k e) at m
-  | inr ne ↦ inr (left_member xs (Some k) n (rw (other x k ne) at m))
+  | inr ne ↦ inr (left_member xs (Some k) n (rw (other_number x k ne) at m))
 ]
 
 pub left_apart : (xs : List ℕ) (at : Option ℕ) → AreApart xs → AreApart (left xs at)
@@ -135,7 +135,7 @@ left_apart xs None a = tt
 left_apart [] (Some k) a = tt
 left_apart (x ∷ xs) (Some k) a = elim (cases_eq x k) [
   | inl e ↦ rw (eq-eqb x k e) a
-  | inr ne ↦ rw (other x k ne) (left_apart xs (Some k) a.1)
+  | inr ne ↦ rw (other_number x k ne) (left_apart xs (Some k) a.1)
 ]
 
 -- ---- what a node says

@@ -1,9 +1,9 @@
--- What one pair of an edge and a curve more, or fewer, changes in chains by edge and by curve (this project).
+-- What one pair of an edge and one more curve, or fewer, changes in chains by edge and by curve (this project).
 use Rattle.std.specs.Prelude.{◌≡◌, ◌≢◌, ◌⊎◌, ◌↔◌, ◌≤◌, ◌==◌, ℕ, not, Some}
 use Rattle.std.specs.List.{filter}
 use Rattle.linked_chains.specs.Chains.{Chained, HasKey, entry_at, chain}
 use Rattle.linked_chains.specs.declared.node.Entry.{Entry}
-use Rattle.curve_history.specs.Kept.{Says}
+use Rattle.curve_history.specs.HistoryInMemory.{Says, entry}
 
 -- both have the same keys, and the new ones no less room for more; as many nodes fit in all
 pub record AreSameKeys (old new : Chained) : Type 0 where
@@ -27,6 +27,10 @@ pub record IsPairLess (old new : Chained) (node edge curve : ℕ) : Type 0 where
   pub others : (k i : ℕ) → Says old k i → Says new k i ⊎ ((k ≡ edge) × (i ≡ curve))
   pub chains : (k : ℕ) → chain new k ≡ filter (λ n. not (n == node)) (chain old k)
   pub keys : (k : ℕ) → HasKey new k → HasKey old k
+
+-- the pair that the node said is said no more; keys stay (this project)
+abbrev pub LosesPairOf : Chained → Chained → ℕ → Type 0
+LosesPairOf old new node = (k i t : ℕ) → entry_at old node ≡ Some (entry k i t) → IsPairLess old new node k i
 
 -- at most the pair of an edge and a curve is gone; keys stay
 pub record IsOneLess (old new : Chained) (edge curve : ℕ) : Type 0 where

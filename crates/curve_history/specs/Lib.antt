@@ -1,5 +1,5 @@
 pub mod Cuts
 pub mod Past
-pub mod Kept
+pub mod HistoryInMemory
 pub mod Changed
-pub mod Drawn
+pub mod DrawnRecords

@@ -1,8 +1,9 @@
 -- What a caller sees of a history: which curves run along which edges, the named curves, their pieces, and the next number.
-use Rattle.std.specs.Prelude.{◌≡◌, ◌==◌, ◌≤◌, ◌+◌, ℕ, List, map}
+use Rattle.std.specs.Prelude.{◌≡◌, ◌==◌, ◌≤◌, ◌+◌, ℕ, List, [], map, cond, not}
 use Rattle.std.specs.List.{filter}
 use Rattle.std.specs.Ordering.{nat_cmp}
-use Rattle.plane_graphs.specs.Ascending.{ascending}
+use Rattle.plane_graphs.specs.Ascending.{ascending, place}
+use Rattle.plane_graphs.specs.Graph.{same_curve}
 use Rattle.plane_graphs.specs.Piece.{Piece}
 use Rattle.slab_laws.specs.declared.names.DartId.{DartId}
 
@@ -20,8 +21,8 @@ pub record Past : Type 0 where
   pub capacity_of_pieces : ℕ
 
 -- the curves along the edge of a dart, ascending; none for other names
-unfoldable pub held : Past → DartId → List ℕ
-held p d = ascending nat_cmp (map (λ e. e.1) (filter (λ e. e.0 == d.0) p.pairs))
+unfoldable pub curves_on : Past → DartId → List ℕ
+curves_on p d = ascending nat_cmp (map (λ e. e.1) (filter (λ e. e.0 == d.0) p.pairs))
 
 -- both have the same names, pieces and next number
 pub record SameLayer (old new : Past) : Type 0 where
@@ -31,13 +32,41 @@ pub record SameLayer (old new : Past) : Type 0 where
 
 -- both have the same curves along every edge
 abbrev pub SameCurves : Past → Past → Type 0
-SameCurves old new = (d : DartId) → held new d ≡ held old d
+SameCurves old new = (d : DartId) → curves_on new d ≡ curves_on old d
+
+-- along the edge of a dart the curves are changed so, and along every other edge they stay (this project)
+abbrev pub AreChangedOn : Past → Past → DartId → (List ℕ → List ℕ) → Type 0
+AreChangedOn old new d change = (x : DartId) → curves_on new x ≡ cond (x.0 == d.0) (change (curves_on old x)) (curves_on old x)
+
+-- one more curve runs along the edge of a dart, and along every other edge the same ones (CGAL manual, originating curves)
+abbrev pub GainsCurve : Past → Past → DartId → ℕ → Type 0
+GainsCurve old new d curve = AreChangedOn old new d (place nat_cmp curve)
+
+-- the curve runs along the edge of a dart no more, and along every other edge the same ones do (CGAL manual, originating curves)
+abbrev pub LosesCurve : Past → Past → DartId → ℕ → Type 0
+LosesCurve old new d curve = AreChangedOn old new d (filter (λ k. not (same_curve k curve)))
+
+-- no curve runs along the edge of a dart any more, and along every other edge the same ones do (this project)
+abbrev pub LosesCurves : Past → Past → DartId → Type 0
+LosesCurves old new d = AreChangedOn old new d (λ ks. [])
+
+-- along the edge of n run the curves that ran along that of d, and along every other edge the same ones (CGAL manual, `split_edge`)
+abbrev pub CopiesCurves : Past → Past → DartId → DartId → Type 0
+CopiesCurves old new d n = AreChangedOn old new n (λ ks. curves_on old d)
 
 -- the second has room for so many names, pieces and pairs more than the first
 pub record IsSpare (less more : Past) (names pieces pairs : ℕ) : Type 0 where
   pub of_names : less.spare_names + names ≤ more.spare_names
   pub of_pieces : less.spare_pieces + pieces ≤ more.spare_pieces
   pub of_pairs : less.spare_pairs + pairs ≤ more.spare_pairs
+
+-- the room for names and pieces stays at least, and that for pairs falls by so many at most (this project)
+abbrev pub SpendsPairs : Past → Past → ℕ → Type 0
+SpendsPairs old new pairs = IsSpare old (record new { spare_pairs = new.spare_pairs + pairs }) 0 0 0
+
+-- without memory there is room for so many names, pieces and pairs more (this project)
+abbrev pub HasRoom : Past → ℕ → ℕ → ℕ → Type 0
+HasRoom p names pieces pairs = (names ≤ p.spare_names) × (pieces ≤ p.spare_pieces) × (pairs ≤ p.spare_pairs)
 
 -- as many pairs and pieces fit in all: no memory was taken for them, and none was given back (this project)
 pub record SameHistoryCapacity (old new : Past) : Type 0 where

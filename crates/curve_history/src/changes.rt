@@ -1,9 +1,6 @@
-ghost use Rattle.std.specs.Prelude.{◌≡◌, ◌≢◌, ◌==◌, ◌≤◌, ◌+◌, [], cond, not, length};
-ghost use Rattle.std.specs.List.{filter};
-ghost use Rattle.std.specs.Ordering.{nat_cmp};
-ghost use Rattle.plane_graphs.specs.Ascending.{Member, place};
-ghost use Rattle.plane_graphs.specs.Graph.{same_curve};
-ghost use Rattle.curve_history.specs.Past.{held, SameLayer, SameHistoryCapacity, IsSpare};
+ghost use Rattle.std.specs.Prelude.{◌≡◌, ◌≢◌, ◌≤◌, [], length};
+ghost use Rattle.plane_graphs.specs.Ascending.{Member};
+ghost use Rattle.curve_history.specs.Past.{curves_on, SameLayer, SameHistoryCapacity, GainsCurve, LosesCurve, LosesCurves, CopiesCurves, IsSpare, SpendsPairs};
 
 use crate::history::History;
 use crate::pairs::{hold_pair, tidy};
@@ -14,19 +11,19 @@ impl History {
     /// One more curve along an edge, new or not, in room that is there.
     pub fn hold(&mut self, d: DartId, curve: CurveId)
         requires named { Member curve.0 self.old.names }
-        requires new { ¬ Member curve.0 (held self.old d) }
+        requires new { ¬ Member curve.0 (curves_on self.old d) }
         requires room { 1 ≤ self.old.spare_pairs }
-        ensures curves { (x : _) → held self.new x ≡ cond (x.0 == d.0) (place nat_cmp curve.0 (held self.old x)) (held self.old x) }
+        ensures curves { GainsCurve self.old self.new d curve.0 }
         ensures layer { SameLayer self.old self.new }
-        ensures spare { IsSpare self.old (record self.new { spare_pairs = self.new.spare_pairs + 1 }) 0 0 0 }
+        ensures spare { SpendsPairs self.old self.new 1 }
     {
         hold_pair(&mut self.by_edge, &mut self.by_curve, d.0, curve.0 as usize);
     }
 
     /// One curve fewer along an edge.
     pub fn release(&mut self, d: DartId, curve: CurveId)
-        requires { Member curve.0 (held self.old d) }
-        ensures curves { (x : _) → held self.new x ≡ cond (x.0 == d.0) (filter (λ k. not (same_curve k curve.0)) (held self.old x)) (held self.old x) }
+        requires { Member curve.0 (curves_on self.old d) }
+        ensures curves { LosesCurve self.old self.new d curve.0 }
         ensures layer { SameLayer self.old self.new }
         ensures spare { IsSpare self.old self.new 0 0 0 }
         ensures capacity { SameHistoryCapacity self.old self.new }
@@ -37,7 +34,7 @@ impl History {
 
     /// No curve is left along an edge.
     pub fn release_all(&mut self, d: DartId)
-        ensures curves { (x : _) → held self.new x ≡ cond (x.0 == d.0) [] (held self.old x) }
+        ensures curves { LosesCurves self.old self.new d }
         ensures layer { SameLayer self.old self.new }
         ensures spare { IsSpare self.old self.new 0 0 0 }
         ensures capacity { SameHistoryCapacity self.old self.new }
@@ -49,11 +46,11 @@ impl History {
     /// The edge of d went in two: the part n has its curves too, in room that is there.
     pub fn part(&mut self, d: DartId, n: DartId)
         requires two { d ≢ n }
-        requires new { held self.old n ≡ [] }
-        requires room { length (held self.old d) ≤ self.old.spare_pairs }
-        ensures curves { (x : _) → held self.new x ≡ cond (x.0 == n.0) (held self.old d) (held self.old x) }
+        requires new { curves_on self.old n ≡ [] }
+        requires room { length (curves_on self.old d) ≤ self.old.spare_pairs }
+        ensures curves { CopiesCurves self.old self.new d n }
         ensures layer { SameLayer self.old self.new }
-        ensures spare { IsSpare self.old (record self.new { spare_pairs = self.new.spare_pairs + length (held self.old d) }) 0 0 0 }
+        ensures spare { SpendsPairs self.old self.new (length (curves_on self.old d)) }
     {
         // Each curve is one node.
         self.by_edge.laws();
@@ -62,8 +59,8 @@ impl History {
 
     /// The edges of d and n, which have the same curves, are one, that of d.
     pub fn join(&mut self, d: DartId, n: DartId)
-        requires { held self.old d ≡ held self.old n }
-        ensures curves { (x : _) → held self.new x ≡ cond (x.0 == n.0) [] (held self.old x) }
+        requires { curves_on self.old d ≡ curves_on self.old n }
+        ensures curves { LosesCurves self.old self.new n }
         ensures layer { SameLayer self.old self.new }
         ensures spare { IsSpare self.old self.new 0 0 0 }
         ensures capacity { SameHistoryCapacity self.old self.new }

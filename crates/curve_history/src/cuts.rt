@@ -1,11 +1,10 @@
-ghost use Rattle.std.specs.Prelude.{◌≡◌, ◌≤◌, ◌+◌, ◌++◌, ◌∷◌, [], ◌^◌, ◌<◌, ◌&&◌, cond, length, map, not, ◌||◌, vec_capacity};
-ghost use Rattle.std.specs.List.{flat_map};
+ghost use Rattle.std.specs.Prelude.{◌≡◌, ◌≤◌, ◌+◌, ◌∷◌, [], ◌^◌, ◌<◌, ◌&&◌, cond, length, map, ◌||◌, vec_capacity};
 ghost use Rattle.std.specs.VecDeque.{deque_len, deque_capacity};
 ghost use Rattle.edit_steps.specs.Steps.{cut_piece};
 ghost use Rattle.plane_graphs.specs.Line.{is_on as is_on_line, precedes};
 ghost use Rattle.plane_graphs.specs.Piece.{along, on};
 ghost use Rattle.slab_laws.specs.Pieces.{piece_of};
-ghost use Rattle.curve_history.specs.Cuts.{leaves_some, AllLeaveSome};
+ghost use Rattle.curve_history.specs.Cuts.{leaves_some, reaches, rests_of, AllLeaveSome, ArePutBehind};
 
 use exact_plane::{Line, Point, Sign, line_of, side};
 use slab_laws::Piece;
@@ -33,13 +32,13 @@ fn comes_before(p: &Point, q: &Point) -> bool
 
 // Whether a point is neither before a piece nor after it.
 fn reaches(piece: &Piece, point: &Point) -> bool
-    ensures { result ≡ (not (precedes point.now piece.now.from) && not (precedes piece.now.to point.now)) }
+    ensures { result ≡ reaches (piece_of piece.now) point.now }
 {
     !comes_before(point, &piece.from) && !comes_before(&piece.to, point)
 }
 
 fn reaches_both(piece: &Piece, p: &Point, q: &Point) -> bool
-    ensures { result ≡ ((not (precedes p.now piece.now.from) && not (precedes piece.now.to p.now)) && (not (precedes q.now piece.now.from) && not (precedes piece.now.to q.now))) }
+    ensures { result ≡ (reaches (piece_of piece.now) p.now && reaches (piece_of piece.now) q.now) }
 {
     reaches(piece, p) && reaches(piece, q)
 }
@@ -88,7 +87,7 @@ fn count_rests(piece: &Piece, p: &Point, q: &Point) -> u64
 /// How many pieces are left of others without the part between two points.
 pub(crate) fn count_all(pieces: &[Piece], p: &Point, q: &Point) -> u64
     requires { length pieces.now < 2 ^ 32 }
-    ensures { result ≡ length (flat_map (cut_piece p.now q.now) (map piece_of pieces.now)) }
+    ensures { result ≡ length (rests_of p.now q.now (map piece_of pieces.now)) }
 {
     let mut count = 0;
     'each: for piece in pieces {
@@ -100,7 +99,7 @@ pub(crate) fn count_all(pieces: &[Piece], p: &Point, q: &Point) -> u64
 // Puts a piece behind others, if a test says so.
 fn push_if(done: &mut VecDeque<Piece>, test: bool, piece: Piece)
     requires { deque_len done.old + cond test 1 0 ≤ deque_capacity done.old }
-    ensures items { map piece_of done.new.items ≡ map piece_of done.old.items ++ cond test (piece_of piece ∷ []) [] }
+    ensures items { ArePutBehind done.old.items done.new.items (cond test (piece_of piece ∷ []) []) }
     ensures len { deque_len done.new ≡ deque_len done.old + cond test 1 0 }
     ensures capacity { deque_capacity done.new ≡ deque_capacity done.old }
 {
@@ -112,7 +111,7 @@ fn push_if(done: &mut VecDeque<Piece>, test: bool, piece: Piece)
 // Puts what is left of a piece without the part between two points behind others.
 fn push_rests(done: &mut VecDeque<Piece>, piece: Piece, p: &Point, q: &Point)
     requires { deque_len done.old + length (cut_piece p.now q.now (piece_of piece)) ≤ deque_capacity done.old }
-    ensures items { map piece_of done.new.items ≡ map piece_of done.old.items ++ cut_piece p.now q.now (piece_of piece) }
+    ensures items { ArePutBehind done.old.items done.new.items (cut_piece p.now q.now (piece_of piece)) }
     ensures capacity { deque_capacity done.new ≡ deque_capacity done.old }
 {
     if holds_both(&piece, p, q) {
@@ -130,8 +129,8 @@ fn push_rests(done: &mut VecDeque<Piece>, piece: Piece, p: &Point, q: &Point)
 /// What is left of pieces without the part between two points, in their memory: each goes round to the end of a ring.
 pub(crate) fn cut_each(pieces: Vec<Piece>, p: &Point, q: &Point) -> Vec<Piece>
     requires rests { AllLeaveSome p.now q.now (map piece_of pieces.items) }
-    requires room { length (flat_map (cut_piece p.now q.now) (map piece_of pieces.items)) ≤ vec_capacity pieces }
-    ensures { map piece_of result.items ≡ flat_map (cut_piece p.now q.now) (map piece_of pieces.items) }
+    requires room { length (rests_of p.now q.now (map piece_of pieces.items)) ≤ vec_capacity pieces }
+    ensures { map piece_of result.items ≡ rests_of p.now q.now (map piece_of pieces.items) }
 {
     let count = pieces.len();
     let mut ring = VecDeque::from_vec(pieces);

@@ -1,5 +1,5 @@
 ghost use Rattle.std.specs.Prelude.{◌≡◌};
-ghost use Rattle.curve_history.specs.Drawn.{IsTold};
+ghost use Rattle.curve_history.specs.DrawnRecords.{IsTold};
 
 use crate::history::History;
 use exact_plane::{Line, Point};
@@ -18,7 +18,7 @@ pub struct Drawn<'a, R: Darts> {
 }
 
 impl<'a, R: Darts> Model for Drawn<'a, R> {
-    ghost use Rattle.curve_history.specs.Drawn.{DrawnRecords, IsTold};
+    ghost use Rattle.curve_history.specs.DrawnRecords.{DrawnRecords, IsTold};
 
     ghost Value = { DrawnRecords R };
 
@@ -83,7 +83,7 @@ impl<'a, R: Darts> Darts for Drawn<'a, R> {
 }
 
 impl<'a, R: Darts> Curved for Drawn<'a, R> {
-    ghost use Rattle.curve_history.specs.Drawn.{curves_in};
+    ghost use Rattle.curve_history.specs.DrawnRecords.{curves_in};
 
     ghost curve_list = { λ r d. curves_in (R.graph r.records) r.history d };
 

@@ -35,9 +35,9 @@ impl Model for History {
 
     ghost Value = { Past };
 
-    ghost use Rattle.curve_history.specs.Kept.{past, IsKept};
+    ghost use Rattle.curve_history.specs.HistoryInMemory.{past, IsSoundHistory};
 
     ghost view = { λ h. past h.by_edge h.by_curve h.pieces h.next };
 
-    ghost invariant = { λ h. IsKept h.by_edge h.by_curve h.pieces h.next };
+    ghost invariant = { λ h. IsSoundHistory h.by_edge h.by_curve h.pieces h.next };
 }

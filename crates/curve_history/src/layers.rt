@@ -1,13 +1,13 @@
-ghost use Rattle.std.specs.Prelude.{◌≡◌, ◌≢◌, ◌<◌, ◌≤◌, ◌+◌, ◌^◌, ◌↔◌, ◌==◌, ◌∷◌, ◌++◌, [], not, true, false, map, length, nat_lt, IsOk, IfOk, IfSome, IfNone, IsErrOf, OnOk, Contains, option_copied, option_map, slice_get};
-ghost use Rattle.std.specs.List.{filter, flat_map, IsDistinct};
+ghost use Rattle.std.specs.Prelude.{◌≡◌, ◌≢◌, ◌<◌, ◌≤◌, ◌+◌, ◌^◌, ◌↔◌, ◌==◌, ◌∷◌, ◌++◌, [], not, true, false, map, length, nat_lt, IsOk, IfOk, IfSome, IsErrOf, OnOk, Contains, option_copied, option_map, slice_get};
+ghost use Rattle.std.specs.List.{filter, IsDistinct};
 ghost use Rattle.std.specs.Ordering.{nat_cmp};
-ghost use Rattle.edit_steps.specs.Steps.{cut_piece};
 ghost use Rattle.plane_graphs.specs.Ascending.{Member, IsAscending};
 ghost use Rattle.plane_graphs.specs.Graph.{same_curve};
 ghost use Rattle.slab_laws.specs.Pieces.{piece_of};
 ghost use Rattle.curve_history.specs.Changed.{IsRoomier};
-ghost use Rattle.curve_history.specs.Kept.{number_of, pair_room};
-ghost use Rattle.curve_history.specs.Past.{held, SameCurves, SameLayer, SameHistoryCapacity, IsSpare};
+ghost use Rattle.curve_history.specs.Cuts.{rests_of};
+ghost use Rattle.curve_history.specs.HistoryInMemory.{number_of, pair_room};
+ghost use Rattle.curve_history.specs.Past.{curves_on, HasRoom, SameCurves, SameLayer, SameHistoryCapacity, IsSpare};
 
 use crate::cuts::{count_all, cut_each, leaves_rest};
 use crate::history::{History, HistoryError, LAST_CURVE};
@@ -56,7 +56,7 @@ impl History {
     pub fn new(alloc: Global, first: u32) -> Result<History, NoMemory>
         requires { 1 ≤ first }
         ensures succeeds { IsOk result }
-        ensures nothing { IfOk result (λ h. (d : _) → held h d ≡ []) }
+        ensures nothing { IfOk result (λ h. (d : _) → curves_on h d ≡ []) }
         ensures names { IfOk result (λ h. h.names ≡ []) }
         ensures pieces { IfOk result (λ h. h.pieces ≡ []) }
         ensures next { IfOk result (λ h. h.next ≡ first) }
@@ -69,7 +69,7 @@ impl History {
         })
     }
 
-    /// Makes room for so many names, pieces and pairs of an edge and a curve more; the history stays, whatever comes.
+    /// Makes room for so many names, pieces and pairs of an edge and one more curve; the history stays, whatever comes.
     ///
     /// # Errors
     ///
@@ -78,7 +78,7 @@ impl History {
         ensures names { OnOk result (names ≤ self.new.spare_names) }
         ensures pieces { OnOk result (pieces ≤ self.new.spare_pieces) }
         ensures nodes { OnOk result (nodes ≤ self.new.spare_pairs) }
-        ensures succeeds { names ≤ self.old.spare_names → pieces ≤ self.old.spare_pieces → nodes ≤ self.old.spare_pairs → IsOk result }
+        ensures succeeds { HasRoom self.old names pieces nodes → IsOk result }
         ensures layer { SameLayer self.old self.new }
         ensures curves { SameCurves self.old self.new }
         ensures keeps { IsSpare self.old self.new 0 0 0 }
@@ -91,7 +91,7 @@ impl History {
     /// What is true of all histories: curves along edges have names, which ascend and are below the next number, and a `usize`
     /// counts the room for more pairs.
     pub fn laws(&self)
-        ensures named { (d : _) (k : _) → Member k (held self.now d) → Member k self.now.names }
+        ensures named { (d : _) (k : _) → Member k (curves_on self.now d) → Member k self.now.names }
         ensures ascend { IsAscending nat_cmp self.now.names }
         ensures numbers { (k : _) → Member k self.now.names → (1 ≤ k) × (k < self.now.next) }
         ensures next { self.now.next ≤ LAST_CURVE + 1 }
@@ -117,7 +117,8 @@ impl History {
         ensures next { self.new.next ≡ self.old.next + 1 }
         ensures pieces { self.new.pieces ≡ self.old.pieces }
         ensures curves { SameCurves self.old self.new }
-        ensures spare { (self.old.spare_pieces ≤ self.new.spare_pieces) × (self.old.spare_pairs ≤ self.new.spare_pairs) }
+        ensures spare_pieces { self.old.spare_pieces ≤ self.new.spare_pieces }
+        ensures spare_pairs { self.old.spare_pairs ≤ self.new.spare_pairs }
     {
         let number = self.next.unwrap();
         self.by_curve.add_key(number as usize);
@@ -125,7 +126,7 @@ impl History {
         CurveId(number)
     }
 
-    /// A piece more, in room that is there.
+    /// One more piece, in room that is there.
     pub fn add_piece(&mut self, piece: Piece)
         requires few { length self.old.pieces + 1 < 2 ^ 32 }
         requires room { 1 ≤ self.old.spare_pieces }
@@ -133,14 +134,15 @@ impl History {
         ensures names { self.new.names ≡ self.old.names }
         ensures next { self.new.next ≡ self.old.next }
         ensures curves { SameCurves self.old self.new }
-        ensures spare { (self.old.spare_names ≤ self.new.spare_names) × (self.old.spare_pairs ≤ self.new.spare_pairs) }
+        ensures spare_names { self.old.spare_names ≤ self.new.spare_names }
+        ensures spare_pairs { self.old.spare_pairs ≤ self.new.spare_pairs }
     {
         self.pieces.push_reserved(piece);
     }
 
     /// How many pieces there are once the edge between two points went from all pieces that hold both.
     pub fn pieces_after_cut(&self, p: &Point, q: &Point) -> u64
-        ensures { result ≡ length (flat_map (cut_piece p.now q.now) self.now.pieces) }
+        ensures { result ≡ length (rests_of p.now q.now self.now.pieces) }
     {
         count_all(&self.pieces, p, q)
     }
@@ -149,9 +151,9 @@ impl History {
     /// below the lower point and what is above the upper one, as one or two pieces of the same curve, or goes (CGAL manual,
     /// `remove_edge`; that curves lose the edge is this project's).
     pub fn cut_pieces(&mut self, p: &Point, q: &Point)
-        requires few { length (flat_map (cut_piece p.now q.now) self.old.pieces) < 2 ^ 32 }
-        requires room { length (flat_map (cut_piece p.now q.now) self.old.pieces) ≤ length self.old.pieces + self.old.spare_pieces }
-        ensures pieces { self.new.pieces ≡ flat_map (cut_piece p.now q.now) self.old.pieces }
+        requires few { length (rests_of p.now q.now self.old.pieces) < 2 ^ 32 }
+        requires room { length (rests_of p.now q.now self.old.pieces) ≤ length self.old.pieces + self.old.spare_pieces }
+        ensures pieces { self.new.pieces ≡ rests_of p.now q.now self.old.pieces }
         ensures names { self.new.names ≡ self.old.names }
         ensures next { self.new.next ≡ self.old.next }
         ensures curves { SameCurves self.old self.new }
@@ -166,7 +168,7 @@ impl History {
     /// The name of a curve that runs along no edge goes, and its pieces.
     pub fn drop_name(&mut self, curve: CurveId)
         requires named { Member curve.0 self.old.names }
-        requires free { (d : _) → ¬ Member curve.0 (held self.old d) }
+        requires free { (d : _) → ¬ Member curve.0 (curves_on self.old d) }
         ensures names { self.new.names ≡ filter (λ n. not (same_curve n curve.0)) self.old.names }
         ensures pieces { self.new.pieces ≡ filter (λ k. not (same_curve k.curve curve.0)) self.old.pieces }
         ensures next { self.new.next ≡ self.old.next }
@@ -186,7 +188,7 @@ impl History {
     ///
     /// There was no memory for the list.
     pub fn curves_of(&self, alloc: Global, d: DartId) -> Result<Vec<CurveId>, NoMemory>
-        ensures { IfOk result (λ v. map (λ c. c.0) v.items ≡ held self.now d) }
+        ensures { IfOk result (λ v. map (λ c. c.0) v.items ≡ curves_on self.now d) }
     {
         // Each curve stands once, with a number that fits.
         self.by_edge.laws();
@@ -198,7 +200,7 @@ impl History {
 
     /// Whether a curve runs along an edge.
     pub fn has_curves(&self, d: DartId) -> bool
-        ensures { result ≡ true ↔ held self.now d ≢ [] }
+        ensures { result ≡ true ↔ curves_on self.now d ≢ [] }
     {
         self.by_edge.laws();
         self.by_edge.has_key(d.0)
@@ -206,7 +208,7 @@ impl History {
 
     /// How many curves run along an edge. It takes no memory.
     pub fn count_on(&self, d: DartId) -> usize
-        ensures { result ≡ length (held self.now d) }
+        ensures { result ≡ length (curves_on self.now d) }
     {
         // Each curve is one node.
         self.by_edge.laws();
@@ -215,8 +217,8 @@ impl History {
 
     /// Whether the same curves run along both edges. It takes no memory.
     pub fn same_curves(&self, d: DartId, n: DartId) -> bool
-        ensures same { result ≡ true → held self.now d ≡ held self.now n }
-        ensures differ { result ≡ false → held self.now d ≢ held self.now n }
+        ensures same { result ≡ true → curves_on self.now d ≡ curves_on self.now n }
+        ensures differ { result ≡ false → curves_on self.now d ≢ curves_on self.now n }
     {
         has_all(&self.by_edge, d.0, n.0) && has_all(&self.by_edge, n.0, d.0)
     }
@@ -227,7 +229,7 @@ impl History {
     ///
     /// No curve has the number, or there was no memory for the list.
     pub fn edges_of(&self, alloc: Global, curve: CurveId) -> Result<Vec<DartId>, HistoryError>
-        ensures edges { IfOk result (λ v. (d : _) → Contains v.items d ↔ Member curve.0 (held self.now d)) }
+        ensures edges { IfOk result (λ v. (d : _) → Contains v.items d ↔ Member curve.0 (curves_on self.now d)) }
         ensures once { IfOk result (λ v. IsDistinct (λ a b. a.0 == b.0) v.items) }
         ensures unknown { IsErrOf result HistoryError.Unknown ↔ ¬ Member curve.0 self.now.names }
     {
@@ -267,7 +269,7 @@ impl History {
 
     /// No curve has a name, and no piece is left; the next number stays.
     pub fn clear(&mut self)
-        ensures curves { (d : _) → held self.new d ≡ [] }
+        ensures curves { (d : _) → curves_on self.new d ≡ [] }
         ensures names { self.new.names ≡ [] }
         ensures pieces { self.new.pieces ≡ [] }
         ensures next { self.new.next ≡ self.old.next }

@@ -1,9 +1,8 @@
-ghost use Rattle.std.specs.Prelude.{◌≡◌, ◌≢◌, Some, true, false, not};
+ghost use Rattle.std.specs.Prelude.{◌≡◌, ◌≢◌, true, false, not};
 ghost use Rattle.std.specs.List.{list_any};
 ghost use Rattle.plane_graphs.specs.Graph.{same_curve};
-ghost use Rattle.linked_chains.specs.Chains.{entry_at};
-ghost use Rattle.curve_history.specs.Kept.{entry, Says};
-ghost use Rattle.curve_history.specs.Past.{held};
+ghost use Rattle.curve_history.specs.HistoryInMemory.{Says, SaysEachOnce};
+ghost use Rattle.curve_history.specs.Past.{curves_on};
 
 use crate::history::History;
 use linked_chains::Chains;
@@ -11,7 +10,7 @@ use slab_laws::{CurveId, DartId};
 
 // Whether a node of an edge says another curve; no two of them say one curve, so the first two nodes tell.
 fn says_other(edges: &Chains, edge: usize, curve: usize) -> bool
-    requires once { (m n i s t : _) → entry_at edges.now m ≡ Some (entry edge i s) → entry_at edges.now n ≡ Some (entry edge i t) → m ≡ n }
+    requires once { SaysEachOnce edges.now edge }
     ensures other { result ≡ true → (i : _) × Says edges.now edge i × (i ≢ curve) }
     ensures none { result ≡ false → (i : _) → Says edges.now edge i → i ≡ curve }
 {
@@ -29,7 +28,7 @@ impl History {
     /// Whether another curve than this one runs along an edge. It looks at two curves of the edge at most, and takes no
     /// memory (CGAL manual, originating curves of an edge).
     pub fn has_other(&self, d: DartId, curve: CurveId) -> bool
-        ensures { result ≡ list_any (λ k. not (same_curve k curve.0)) (held self.now d) }
+        ensures { result ≡ list_any (λ k. not (same_curve k curve.0)) (curves_on self.now d) }
     {
         says_other(&self.by_edge, d.0, curve.0 as usize)
     }

@@ -1,7 +1,7 @@
-ghost use Rattle.std.specs.Prelude.{◌≡◌, ◌≢◌, ◌⊎◌, ◌≤◌, ◌+◌, [], Some};
-ghost use Rattle.linked_chains.specs.Chains.{chain, entry_at, HasKey, HasNode};
-ghost use Rattle.curve_history.specs.Changed.{AreSameKeys, IsPairLess, IsPairMore};
-ghost use Rattle.curve_history.specs.Kept.{entry, pair_room, ArePairs, AreFilled, Says};
+ghost use Rattle.std.specs.Prelude.{◌≡◌, ◌≢◌, ◌⊎◌, ◌≤◌, ◌+◌, []};
+ghost use Rattle.linked_chains.specs.Chains.{chain, HasKey, HasNode};
+ghost use Rattle.curve_history.specs.Changed.{AreSameKeys, IsPairMore, LosesPairOf};
+ghost use Rattle.curve_history.specs.HistoryInMemory.{pair_room, ArePairs, AreFilled, Says};
 
 use linked_chains::Chains;
 
@@ -60,7 +60,7 @@ pub(crate) fn release_pair(edges: &mut Chains, curves: &mut Chains, node: usize)
     requires has { HasNode edges.old node }
     requires pairs { ArePairs edges.old curves.old }
     ensures pairs { ArePairs edges.new curves.new }
-    ensures less { (k i t : _) → entry_at edges.old node ≡ Some (entry k i t) → IsPairLess edges.old edges.new node k i }
+    ensures less { LosesPairOf edges.old edges.new node }
     ensures named { AreSameKeys curves.old curves.new }
     ensures capacity { edges.new.capacity_of_nodes ≡ edges.old.capacity_of_nodes }
     ensures room { pair_room edges.old curves.old ≤ pair_room edges.new curves.new }

@@ -1,7 +1,7 @@
 ghost use Rattle.std.specs.Prelude.{◌≡◌, ◌≢◌, ◌<◌, ◌≤◌, ◌+◌, ◌^◌, true, false, Some, IfOk, IfSome, IfNone, length, map};
 ghost use Rattle.linked_chains.specs.Chains.{chain, entry_at};
 ghost use Rattle.curve_history.specs.Changed.{AreSameKeys, IsCopied, IsEmptied, IsOneLess};
-ghost use Rattle.curve_history.specs.Kept.{entry, item_in, pair_room, ArePairs, AreFilled, HasAll, Says};
+ghost use Rattle.curve_history.specs.HistoryInMemory.{entry, item_in, pair_room, ArePairs, HasAll, Says};
 
 use crate::pairs::{hold_pair, release_pair};
 use linked_chains::Chains;

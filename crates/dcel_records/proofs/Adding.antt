@@ -9,38 +9,40 @@ use Rattle.slab_laws.specs.declared.names.DartId.{DartId}
 use Rattle.slab_laws.specs.declared.names.VertexId.{VertexId}
 use Rattle.slab_laws.specs.Tables.{row_at}
 use Rattle.slab_laws.specs.View.{HasDart}
-use Rattle.view_changes.specs.Rows.{put}
-use Rattle.view_changes.specs.Reads.{IsPairMore}
-use Rattle.view_changes.proofs.RowLaws.{same, other, row_at-put, ascend-put, one_table}
-use Rattle.view_changes.proofs.Pairs.{pair_is_added}
-use Rattle.view_changes.proofs.Reading.{vertex_number}
-use Rattle.dcel_records.specs.declared.rows.VertexRow.{VertexRow}
-use Rattle.dcel_records.specs.declared.rows.DartRow.{DartRow}
+use Rattle.arr_notes.specs.NamedRows.{put}
+use Rattle.arr_notes.specs.Reads.{IsPairMore}
+use Rattle.arr_notes.proofs.RowLaws.{row_at-put, ascend-put, one_table}
+use Rattle.arr_notes.proofs.PairReads.{pair_is_added}
+use Rattle.arr_notes.proofs.Reading.{vertex_number}
+use Rattle.arr_notes.proofs.Names.{cases_vertex}
+use Rattle.dcel_records.specs.declared.rows.StoredVertex.{StoredVertex}
+use Rattle.dcel_records.specs.declared.rows.StoredDart.{StoredDart}
 use Rattle.dcel_records.specs.Edges.{lone_dart, with_edge}
 use Rattle.dcel_records.specs.Given.{given}
-use Rattle.dcel_records.specs.Held.{Held}
-use Rattle.dcel_records.specs.Kept.{tabled, vertex_of, dart_of, graph_in, held, out_or, out_at, IsKept}
+use Rattle.dcel_records.specs.RecordsView.{RecordsView}
+use Rattle.dcel_records.specs.StoredRows.{tabled, vertex_of, dart_of, graph_in, records_view, out_or, out_at, AreSoundRows}
 use Rattle.dcel_records.specs.Outs.{IsOut}
 use Rattle.dcel_records.proofs.Tabled.{row-tabled, ascend-tabled}
 use Rattle.dcel_records.proofs.Twins.{twinned_more}
-use Rattle.dcel_records.proofs.Leaving.{cases_vertex, more_apart, more_first, more_second, more_both}
+use Rattle.dcel_records.proofs.Leaving.{more_apart, more_first, more_second, more_both}
 use Rattle.dcel_records.proofs.Holding.{vertices_are, darts_are, twinned, outs, dart_vacant}
 use Rattle.dcel_records.proofs.Writing.{kept_by, out_write}
+use Rattle.integers.proofs.Tests.{other_number, same_number}
 
 -- ---- a vertex that is offered a dart
-given_same : (d : DartId) (o : Option VertexRow) → option_map vertex_of (option_map (given d) o) ≡ option_map vertex_of o
+given_same : (d : DartId) (o : Option StoredVertex) → option_map vertex_of (option_map (given d) o) ≡ option_map vertex_of o
 given_same d None = refl
 given_same d (Some r) = refl
 
-given_some : (d : DartId) (o : Option VertexRow) → is_some (option_map (given d) o) ≡ is_some o
+given_some : (d : DartId) (o : Option StoredVertex) → is_some (option_map (given d) o) ≡ is_some o
 given_some d None = refl
 given_some d (Some r) = refl
 
-given_out : (d : DartId) (o : Option VertexRow) → IsSome o → out_or (option_map (given d) o) ≡ option_or (out_or o) (Some d)
+given_out : (d : DartId) (o : Option StoredVertex) → IsSome o → out_or (option_map (given d) o) ≡ option_or (out_or o) (Some d)
 given_out d None h = absurd (false≢true h)
 given_out d (Some r) h = refl
 
-module _ (s t : Slab VertexRow) (v : VertexId) (d : DartId) (u : Updates s t v.0 (option_map (given d) (get s v.0))) where
+module _ (s t : Slab StoredVertex) (v : VertexId) (d : DartId) (u : Updates s t v.0 (option_map (given d) (get s v.0))) where
   pub offered_same : tabled vertex_of t ≡ tabled vertex_of s
   offered_same = one_table _ _ (ascend-tabled vertex_of t) (ascend-tabled vertex_of s) (λ j. row-tabled vertex_of t j ∙ found j ∙ sym (row-tabled vertex_of s j))
     where
@@ -58,7 +60,7 @@ module _ (s t : Slab VertexRow) (v : VertexId) (d : DartId) (u : Updates s t v.0
   ]
 
 -- ---- two darts put, the first written again once the second's name is known
-module _ (ds s t : Slab DartRow) (d m : ℕ) (r q : DartRow) (free : get s m ≡ None) (u : Updates ds s d (Some r)) (w : Updates s t m (Some q)) where
+module _ (ds s t : Slab StoredDart) (d m : ℕ) (r q : StoredDart) (free : get s m ≡ None) (u : Updates ds s d (Some r)) (w : Updates s t m (Some q)) where
   pub two_names : d ≢ m
   two_names e = let f = u.changed in let g = ap (get s) e in absurd (cc)
 
@@ -68,7 +70,7 @@ module _ (ds s t : Slab DartRow) (d m : ℕ) (r q : DartRow) (free : get s m ≡
   pub first_there : get t d ≡ Some r
   first_there = w.others d two_names ∙ u.changed
 
-  pub pair_rows : (x : DartRow) → tabled dart_of (with_value t d x) ≡ put m (dart_of q) (put d (dart_of x) (tabled dart_of ds))
+  pub pair_rows : (x : StoredDart) → tabled dart_of (with_value t d x) ≡ put m (dart_of q) (put d (dart_of x) (tabled dart_of ds))
   pair_rows x = one_table _ _ (ascend-tabled dart_of (with_value t d x)) (ascend-put m _ _ (ascend-put d _ _ (ascend-tabled dart_of ds)))
       (λ j. row-tabled dart_of (with_value t d x) j ∙ found j (cases_eq j d) (cases_eq j m) ∙ sym (row_at-put m (dart_of q) (put d (dart_of x) (tabled dart_of ds)) j ∙ ap (cond (m == j) (Some (dart_of q))) (row_at-put d (dart_of x) (tabled dart_of ds) j)))
     where
@@ -82,24 +84,24 @@ module _ (ds s t : Slab DartRow) (d m : ℕ) (r q : DartRow) (free : get s m ≡
       at_m = z.others m (λ e. two_names (sym e)) ∙ w.changed
 
       found : (j : ℕ) → (j ≡ d) ⊎ (j ≢ d) → (j ≡ m) ⊎ (j ≢ m) → option_map dart_of (get (with_value t d x) j) ≡ cond (m == j) (Some (dart_of q)) (cond (d == j) (Some (dart_of x)) (row_at (tabled dart_of ds) j))
-      found j (inl e) c = rw (e, other m d (λ k. two_names (sym k)), same d) (ap (option_map dart_of) at_d)
-      found j (inr n) (inl e) = rw (e, same m) (ap (option_map dart_of) at_m)
-      found j (inr n) (inr k) = rw (other m j (λ e. k (sym e)), other d j (λ e. n (sym e))) (ap (option_map dart_of) (z.others j n ∙ w.others j k ∙ u.others j n) ∙ sym (row-tabled dart_of ds j))
+      found j (inl e) c = rw (e, other_number m d (λ k. two_names (sym k)), same_number d) (ap (option_map dart_of) at_d)
+      found j (inr n) (inl e) = rw (e, same_number m) (ap (option_map dart_of) at_m)
+      found j (inr n) (inr k) = rw (other_number m j (λ e. k (sym e)), other_number d j (λ e. n (sym e))) (ap (option_map dart_of) (z.others j n ∙ w.others j k ∙ u.others j n) ∙ sym (row-tabled dart_of ds j))
 
 -- a dart as it is put first, and as it is written then
-abbrev pub first_row : VertexId → Line → DartRow
+abbrev pub first_row : VertexId → Line → StoredDart
 first_row u l = record { source = u; twin = record { 0 = 0 }; next = record { 0 = 0 }; line = l }
 
-abbrev pub row_again : DartId → DartRow → DartRow
+abbrev pub row_again : DartId → StoredDart → StoredDart
 row_again m r = record { source = r.source; twin = m; next = m; line = r.line }
 
-abbrev pub lone_row : VertexId → DartId → Line → DartRow
+abbrev pub lone_row : VertexId → DartId → Line → StoredDart
 lone_row u m l = record { source = u; twin = m; next = m; line = l }
 
-module _ (vs : Slab VertexRow) (ds : Slab DartRow) (h : Held) (is : held vs ds ≡ h) (d m : DartId) (u v : VertexId) (l : Line) (s t : Slab DartRow) (vs1 vs2 : Slab VertexRow)
+module _ (vs : Slab StoredVertex) (ds : Slab StoredDart) (h : RecordsView) (is : records_view vs ds ≡ h) (d m : DartId) (u v : VertexId) (l : Line) (s t : Slab StoredDart) (vs1 vs2 : Slab StoredVertex)
     (free_d : get ds d.0 ≡ None) (free_m : get s m.0 ≡ None) (p : Updates ds s d.0 (Some (first_row u l))) (q : Updates s t m.0 (Some (lone_row v d l)))
     (g1 : Updates vs vs1 u.0 (option_map (given d) (get vs u.0))) (g2 : Updates vs1 vs2 v.0 (option_map (given m) (get vs1 v.0))) where
-  abbrev new_rows : Slab DartRow
+  abbrev new_rows : Slab StoredDart
   new_rows = with_value t d.0 (lone_row u m l)
 
   pub edge_graph : graph_in vs2 new_rows ≡ with_edge h.graph d m u v l
@@ -109,10 +111,10 @@ module _ (vs : Slab VertexRow) (ds : Slab DartRow) (h : Held) (is : held vs ds �
       (λ i. record { vertices = a i; darts = e i })
 
   -- what is read before it is written again
-  first_is : (x : DartRow) → get t d.0 ≡ Some x → first_row u l ≡ x
+  first_is : (x : StoredDart) → get t d.0 ≡ Some x → first_row u l ≡ x
   first_is x e = let f = first_there ds s t d.0 m.0 (first_row u l) (lone_row v d l) free_m p q in cc
 
-  pub edge_written : (x : DartRow) → get t d.0 ≡ Some x → graph_in vs2 (with_value t d.0 (row_again m x)) ≡ with_edge h.graph d m u v l
+  pub edge_written : (x : StoredDart) → get t d.0 ≡ Some x → graph_in vs2 (with_value t d.0 (row_again m x)) ≡ with_edge h.graph d m u v l
   edge_written x e = subst (λ y. graph_in vs2 (with_value t d.0 (row_again m y)) ≡ with_edge h.graph d m u v l) (first_is x e) edge_graph
 
   pub no_d : ¬ HasDart h.graph d
@@ -124,7 +126,7 @@ module _ (vs : Slab VertexRow) (ds : Slab DartRow) (h : Held) (is : held vs ds �
   pub apart : d ≢ m
   apart e = two_names ds s t d.0 m.0 (first_row u l) (lone_row v d l) free_m p q (ap (λ x. x.0) e)
 
-  module _ (k : IsKept vs ds) (key_u : IsSome (get vs u.0)) (key_v : IsSome (get vs v.0)) where
+  module _ (k : AreSoundRows vs ds) (key_u : IsSome (get vs u.0)) (key_v : IsSome (get vs v.0)) where
     more : IsPairMore h.graph (with_edge h.graph d m u v l) d m (lone_dart u m l) (lone_dart v d l)
     more = pair_is_added h.graph d m (lone_dart u m l) (lone_dart v d l) apart
 
@@ -151,7 +153,7 @@ module _ (vs : Slab VertexRow) (ds : Slab DartRow) (h : Held) (is : held vs ds �
     rest w nv (inl e) = subst (λ (x : VertexId). IsOut (with_edge h.graph d m u v l) x (out_at vs1 x)) (sym e) (subst (λ o. IsOut (with_edge h.graph d m u v l) u o) (sym at_u) (more_first h.graph (with_edge h.graph d m u v l) d m u v l more no_d no_m (out_at vs u) (ou u)))
     rest w nv (inr nu) = subst (λ o. IsOut (with_edge h.graph d m u v l) w o) (sym (at_other w nu)) (more_apart h.graph (with_edge h.graph d m u v l) d m u v l more no_d no_m w (out_at vs w) nu nv (ou w))
 
-    edge_kept : IsKept vs2 new_rows
+    edge_kept : AreSoundRows vs2 new_rows
     edge_kept =
         kept_by vs2 new_rows (with_edge h.graph d m u v l) edge_graph
         (twinned_more h.graph (with_edge h.graph d m u v l) d m u v l more (twinned vs ds h is k) no_d no_m apart)
@@ -159,5 +161,5 @@ module _ (vs : Slab VertexRow) (ds : Slab DartRow) (h : Held) (is : held vs ds �
         (λ e. subst (λ (x : VertexId). IsOut (with_edge h.graph d m u v l) x (out_or (option_map (given m) (get vs1 v.0)))) (sym e) (subst (λ o. IsOut (with_edge h.graph d m u v l) v o) (sym at_v) (end_v (cases_vertex v u))))
         (λ ne. rest w ne (cases_vertex w u)))
 
-    pub written_kept : (x : DartRow) → get t d.0 ≡ Some x → IsKept vs2 (with_value t d.0 (row_again m x))
-    written_kept x e = subst (λ y. IsKept vs2 (with_value t d.0 (row_again m y))) (first_is x e) edge_kept
+    pub written_kept : (x : StoredDart) → get t d.0 ≡ Some x → AreSoundRows vs2 (with_value t d.0 (row_again m x))
+    written_kept x e = subst (λ y. AreSoundRows vs2 (with_value t d.0 (row_again m y))) (first_is x e) edge_kept

@@ -4,14 +4,14 @@ use Rattle.std.specs.List.{AllByRecursion}
 use Rattle.std.proofs.lemmas.Bool.{cases_eq, cases_Bool, false≢true}
 use Rattle.slab.specs.Slab.{Slab, get, entries, entries_from}
 use Rattle.slab_laws.specs.Tables.{row_at, names, is_after, name_after, NamesAscend}
-use Rattle.view_changes.proofs.RowLaws.{same, other}
 use Rattle.slab_laws.specs.View.{VertexRecord, DartRecord}
-use Rattle.dcel_records.specs.declared.rows.VertexRow.{VertexRow}
-use Rattle.dcel_records.specs.declared.rows.DartRow.{DartRow}
-use Rattle.dcel_records.specs.Held.{Held}
-use Rattle.dcel_records.specs.Kept.{tabled, vertex_of, dart_of, held}
+use Rattle.dcel_records.specs.declared.rows.StoredVertex.{StoredVertex}
+use Rattle.dcel_records.specs.declared.rows.StoredDart.{StoredDart}
+use Rattle.dcel_records.specs.RecordsView.{RecordsView}
+use Rattle.dcel_records.specs.StoredRows.{tabled, vertex_of, dart_of, records_view}
 use Rattle.dcel_records.proofs.Tabled.{row-tabled, ascend-tabled}
 use Rattle.dcel_records.proofs.Holding.{vertices_are, darts_are}
+use Rattle.integers.proofs.Tests.{other_number, same_number}
 
 module _ {X : Type 0} where
   -- where no name that comes after has a row, none comes after
@@ -19,14 +19,14 @@ module _ {X : Type 0} where
   unfolding row_at name_after
   none_after [] at h = refl
   none_after (r ∷ rs) at h = elim (cases_Bool (is_after at r.0)) [
-    | inl q ↦ let e = rw (same r.0) at (h r.0 q) in absurd (cc)
+    | inl q ↦ let e = rw (same_number r.0) at (h r.0 q) in absurd (cc)
     | inr q ↦ rw q (none_after rs at (λ n a. later n a))
   ]
     where
       later : (n : ℕ) → is_after at n ≡ true → row_at rs n ≡ None
       later n a = elim (cases_eq r.0 n) [
-        | inl e ↦ let t = rw (e, same n) at (h n a) in absurd (cc)
-        | inr ne ↦ rw (other r.0 n ne) at (h n a)
+        | inl e ↦ let t = rw (e, same_number n) at (h n a) in absurd (cc)
+        | inr ne ↦ rw (other_number r.0 n ne) at (h n a)
       ]
 
   -- a name that has a row is one of the names
@@ -35,7 +35,7 @@ module _ {X : Type 0} where
   above i n [] h k = absurd (false≢true k)
   above i n (r ∷ rs) h k = elim (cases_eq r.0 n) [
     | inl e ↦ omega (arith, h.0)
-    | inr ne ↦ let f = rw (other r.0 n ne) at k in above i n rs h.1 f
+    | inr ne ↦ let f = rw (other_number r.0 n ne) at k in above i n rs h.1 f
   ]
 
   -- the least name that comes after and has a row is the next
@@ -44,16 +44,16 @@ module _ {X : Type 0} where
   least_after [] at n up a k h = absurd (false≢true k)
   least_after (r ∷ rs) at n up a k h = elim (cases_eq r.0 n) [
     | inl e ↦ let t : is_after at r.0 ≡ true = ap (is_after at) e ∙ a in rw t (ap Some e)
-    | inr ne ↦ let f = rw (other r.0 n ne) at k in rw (passed (above r.0 n rs up.0 f)) (least_after rs at n up.1 a f (λ j l b. later j l b))
+    | inr ne ↦ let f = rw (other_number r.0 n ne) at k in rw (passed (above r.0 n rs up.0 f)) (least_after rs at n up.1 a f (λ j l b. later j l b))
   ]
     where
       passed : r.0 < n → is_after at r.0 ≡ false
-      passed l = elim (cases_Bool (is_after at r.0)) [ inl t ↦ (let q = rw (same r.0) at (h r.0 l t) in absurd (cc)) | inr q ↦ q ]
+      passed l = elim (cases_Bool (is_after at r.0)) [ inl t ↦ (let q = rw (same_number r.0) at (h r.0 l t) in absurd (cc)) | inr q ↦ q ]
 
       later : (j : ℕ) → j < n → is_after at j ≡ true → row_at rs j ≡ None
       later j l b = elim (cases_eq r.0 j) [
-        | inl e ↦ let t = rw (e, same j) at (h j l b) in absurd (cc)
-        | inr ne ↦ rw (other r.0 j ne) at (h j l b)
+        | inl e ↦ let t = rw (e, same_number j) at (h j l b) in absurd (cc)
+        | inr ne ↦ rw (other_number r.0 j ne) at (h j l b)
       ]
 
   names_from : {Y : Type 0} (f : X → Y) (k : ℕ) (os : List (Option X)) → names (map (λ e. (e.0, f e.1)) (entries_from k os)) ≡ names (entries_from k os)
@@ -79,7 +79,7 @@ module _ {X : Type 0} where
       sym (ap (λ ns. name_after ns at) (sym (names_tabled (λ x. x) s)) ∙ none_after (tabled (λ x. x) s) at (λ n b. row-tabled (λ x. x) s n ∙ ap (option_map (λ x. x)) (h n b)))
 
 -- the names in the graph are the slabs' keys
-module _ (vs : Slab VertexRow) (ds : Slab DartRow) (h : Held) (is : held vs ds ≡ h) where
+module _ (vs : Slab StoredVertex) (ds : Slab StoredDart) (h : RecordsView) (is : records_view vs ds ≡ h) where
   pub vertex_keys : names (entries vs) ≡ names h.graph.vertices
   vertex_keys = sym (names_tabled vertex_of vs) ∙ ap (λ (rs : List (ℕ × VertexRecord)). names rs) (vertices_are vs ds h is)
 

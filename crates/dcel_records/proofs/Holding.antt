@@ -7,18 +7,15 @@ use Rattle.slab_laws.specs.declared.names.VertexId.{VertexId}
 use Rattle.slab_laws.specs.Sound.{IsTwinned}
 use Rattle.slab_laws.specs.Tables.{row_at, names, NamesAscend}
 use Rattle.slab_laws.specs.View.{VertexRecord, DartRecord, HasVertex, HasDart, IsOutOf, point_or, pin_or, source_or, twin_or, next_or, line_or, point_in, pinned_in, source_in, twin_in, next_in, line_in, target_in}
-use Rattle.dcel_records.specs.declared.rows.VertexRow.{VertexRow}
-use Rattle.dcel_records.specs.declared.rows.DartRow.{DartRow}
-use Rattle.dcel_records.specs.Held.{Held, point_found, ends_found}
-use Rattle.dcel_records.specs.Kept.{tabled, vertex_of, dart_of, graph_in, held, out_or, out_at, IsKept}
+use Rattle.dcel_records.specs.declared.rows.StoredVertex.{StoredVertex}
+use Rattle.dcel_records.specs.declared.rows.StoredDart.{StoredDart}
+use Rattle.dcel_records.specs.RecordsView.{RecordsView, point_found, ends_found}
+use Rattle.dcel_records.specs.StoredRows.{tabled, vertex_of, dart_of, graph_in, records_view, out_or, out_at, AreSoundRows}
 use Rattle.dcel_records.specs.Outs.{IsOut}
 use Rattle.dcel_records.proofs.Tabled.{row-tabled, ascend-tabled}
+use Rattle.plane_graphs.proofs.Lists.{some_mapped}
 
-some_mapped : {X Y : Type 0} (f : X → Y) (o : Option X) → is_some (option_map f o) ≡ is_some o
-some_mapped f None = refl
-some_mapped f (Some x) = refl
-
-module _ (vs : Slab VertexRow) (ds : Slab DartRow) (h : Held) (is : held vs ds ≡ h) where
+module _ (vs : Slab StoredVertex) (ds : Slab StoredDart) (h : RecordsView) (is : records_view vs ds ≡ h) where
   pub graph_is : graph_in vs ds ≡ h.graph
   graph_is = ap (λ x. x.graph) is
 
@@ -54,52 +51,49 @@ module _ (vs : Slab VertexRow) (ds : Slab DartRow) (h : Held) (is : held vs ds �
   dart_vacant d e o = false≢true (sym (ap is_some (dart_at d ∙ ap (option_map dart_of) e)) ∙ o)
 
   -- ---- what rows say
-  dart_row : (d : DartId) (r : DartRow) → get ds d.0 ≡ Some r → row_at h.graph.darts d.0 ≡ Some (dart_of r)
+  dart_row : (d : DartId) (r : StoredDart) → get ds d.0 ≡ Some r → row_at h.graph.darts d.0 ≡ Some (dart_of r)
   dart_row d r e = dart_at d ∙ ap (option_map dart_of) e
 
-  vertex_row : (w : VertexId) (r : VertexRow) → get vs w.0 ≡ Some r → row_at h.graph.vertices w.0 ≡ Some (vertex_of r)
+  vertex_row : (w : VertexId) (r : StoredVertex) → get vs w.0 ≡ Some r → row_at h.graph.vertices w.0 ≡ Some (vertex_of r)
   vertex_row w r e = vertex_at w ∙ ap (option_map vertex_of) e
 
-  pub source_is : (d : DartId) (r : DartRow) → get ds d.0 ≡ Some r → r.source ≡ source_in h.graph d
+  pub source_is : (d : DartId) (r : StoredDart) → get ds d.0 ≡ Some r → r.source ≡ source_in h.graph d
   source_is d r e = sym (ap source_or (dart_row d r e))
 
-  pub twin_is : (d : DartId) (r : DartRow) → get ds d.0 ≡ Some r → r.twin ≡ twin_in h.graph d
+  pub twin_is : (d : DartId) (r : StoredDart) → get ds d.0 ≡ Some r → r.twin ≡ twin_in h.graph d
   twin_is d r e = sym (ap (twin_or d) (dart_row d r e))
 
-  pub next_is : (d : DartId) (r : DartRow) → get ds d.0 ≡ Some r → r.next ≡ next_in h.graph d
+  pub next_is : (d : DartId) (r : StoredDart) → get ds d.0 ≡ Some r → r.next ≡ next_in h.graph d
   next_is d r e = sym (ap (next_or d) (dart_row d r e))
 
-  pub line_is : (d : DartId) (r : DartRow) → get ds d.0 ≡ Some r → r.line ≡ line_in h.graph d
+  pub line_is : (d : DartId) (r : StoredDart) → get ds d.0 ≡ Some r → r.line ≡ line_in h.graph d
   line_is d r e = sym (ap line_or (dart_row d r e))
 
-  pub point_is : (w : VertexId) (r : VertexRow) → get vs w.0 ≡ Some r → r.point ≡ point_in h.graph w
+  pub point_is : (w : VertexId) (r : StoredVertex) → get vs w.0 ≡ Some r → r.point ≡ point_in h.graph w
   point_is w r e = sym (ap point_or (vertex_row w r e))
 
-  pub pin_is : (w : VertexId) (r : VertexRow) → get vs w.0 ≡ Some r → r.pinned ≡ pinned_in h.graph w
+  pub pin_is : (w : VertexId) (r : StoredVertex) → get vs w.0 ≡ Some r → r.pinned ≡ pinned_in h.graph w
   pin_is w r e = sym (ap pin_or (vertex_row w r e))
 
-  pub out_is : (w : VertexId) (r : VertexRow) → get vs w.0 ≡ Some r → out_at vs w ≡ r.out
-  out_is w r e = ap out_or e
-
   -- the source of a row's twin is the target
-  pub target_is : (d : DartId) (r q : DartRow) → get ds d.0 ≡ Some r → get ds r.twin.0 ≡ Some q → q.source ≡ target_in h.graph d
+  pub target_is : (d : DartId) (r q : StoredDart) → get ds d.0 ≡ Some r → get ds r.twin.0 ≡ Some q → q.source ≡ target_in h.graph d
   target_is d r q e f = source_is r.twin q f ∙ ap (source_in h.graph) (twin_is d r e)
 
   -- ---- what a reader that may miss answers
   pub point_missed : (w : VertexId) → get vs w.0 ≡ None → None ≡ point_found h.graph w
   point_missed w e = sym (ap (option_map (λ r. r.point)) (vertex_at w ∙ ap (option_map vertex_of) e))
 
-  pub point_read : (w : VertexId) (r : VertexRow) → get vs w.0 ≡ Some r → Some r.point ≡ point_found h.graph w
+  pub point_read : (w : VertexId) (r : StoredVertex) → get vs w.0 ≡ Some r → Some r.point ≡ point_found h.graph w
   point_read w r e = sym (ap (option_map (λ r. r.point)) (vertex_row w r e))
 
   pub ends_missed : (d : DartId) → get ds d.0 ≡ None → None ≡ ends_found h.graph d
   ends_missed d e = sym (ap (option_map (λ r. (r.source, target_in h.graph d))) (dart_at d ∙ ap (option_map dart_of) e))
 
-  pub ends_read : (d : DartId) (r q : DartRow) → get ds d.0 ≡ Some r → get ds r.twin.0 ≡ Some q → Some (r.source, q.source) ≡ ends_found h.graph d
+  pub ends_read : (d : DartId) (r q : StoredDart) → get ds d.0 ≡ Some r → get ds r.twin.0 ≡ Some q → Some (r.source, q.source) ≡ ends_found h.graph d
   ends_read d r q e f = ap (λ t. Some (r.source, t)) (target_is d r q e f) ∙ sym (ap (option_map (λ r. (r.source, target_in h.graph d))) (dart_row d r e))
 
   -- ---- what is always true
-  module _ (k : IsKept vs ds) where
+  module _ (k : AreSoundRows vs ds) where
     pub twinned : IsTwinned h.graph
     twinned = subst (λ v. IsTwinned v) graph_is k.twinned
 
@@ -107,14 +101,14 @@ module _ (vs : Slab VertexRow) (ds : Slab DartRow) (h : Held) (is : held vs ds �
     outs w = subst (λ v. IsOut v w (out_at vs w)) graph_is (k.outs w)
 
     -- a row's twin has a row
-    pub twin_key : (d : DartId) (r : DartRow) → HasDart h.graph d → get ds d.0 ≡ Some r → IsSome (get ds r.twin.0)
+    pub twin_key : (d : DartId) (r : StoredDart) → HasDart h.graph d → get ds d.0 ≡ Some r → IsSome (get ds r.twin.0)
     twin_key d r o e = dart_key r.twin (subst (λ (x : DartId). HasDart h.graph x) (sym (twin_is d r e)) (twinned.has d o))
 
     -- what a dart leaves has a row
     pub out_key : (w : VertexId) (d : DartId) → IsOutOf h.graph w d → IsSome (get vs w.0)
     out_key w d o = step (get vs w.0) refl
       where
-        step : (x : Option VertexRow) → get vs w.0 ≡ x → IsSome x
+        step : (x : Option StoredVertex) → get vs w.0 ≡ x → IsSome x
         step None e = absurd ((outs w).none (ap out_or e) d o)
         step (Some r) e = refl
 

@@ -1,20 +1,17 @@
 -- The dart out of a vertex stays right.
 use Rattle.std.proofs.Common.{◌≡◌, ◌≢◌, ◌⊎◌, inl, inr, Option, Some, None, IfSome, IfNone, refl, sym, ap, subst, ◌∙◌}
-use Rattle.std.proofs.lemmas.Bool.{cases_eq, false≢true}
+use Rattle.std.proofs.lemmas.Bool.{false≢true}
 use Rattle.std.specs.Option.{option_or}
 use Rattle.exact_plane.specs.Line.{Line}
 use Rattle.slab_laws.specs.declared.names.DartId.{DartId}
 use Rattle.slab_laws.specs.declared.names.VertexId.{VertexId}
 use Rattle.slab_laws.specs.Tables.{row_at}
-use Rattle.slab_laws.specs.View.{View, HasDart, IsOutOf, source_in, vertex_id}
-use Rattle.view_changes.specs.Writers.{no_rows}
-use Rattle.view_changes.specs.Reads.{IsSourceSet, IsPairMore, IsPairLess}
+use Rattle.slab_laws.specs.View.{View, HasDart, IsOutOf, source_in}
+use Rattle.arr_notes.specs.ViewChanges.{no_rows}
+use Rattle.arr_notes.specs.Reads.{IsSourceSet, IsPairMore, IsPairLess}
+use Rattle.arr_notes.proofs.Names.{cases_dart}
 use Rattle.dcel_records.specs.Edges.{lone_dart}
 use Rattle.dcel_records.specs.Outs.{IsOut, IsRest}
-use Rattle.dcel_records.proofs.Twins.{cases_dart}
-
-pub cases_vertex : (u w : VertexId) → (u ≡ w) ⊎ (u ≢ w)
-cases_vertex u w = elim (cases_eq u.0 w.0) [ inl q ↦ inl (ap vertex_id q) | inr ne ↦ inr (λ q. ne (ap (λ x. x.0) q)) ]
 
 pub out_empty : (w : VertexId) → IsOut no_rows w None
 unfolding row_at
@@ -36,7 +33,7 @@ out_kept g h has had source w o i = record {
   none = λ e d k. i.none e d (had d k.0, sym (source d) ∙ k.1);
 }
 
--- ---- an edge more
+-- ---- one more edge
 module _ (g h : View) (d m : DartId) (u v : VertexId) (l : Line) (r : IsPairMore g h d m (lone_dart u m l) (lone_dart v d l)) (no_d : ¬ HasDart g d) (no_m : ¬ HasDart g m) where
   old : (w : VertexId) (e : DartId) → IsOutOf g w e → IsOutOf h w e
   old w e k =
@@ -85,7 +82,7 @@ module _ (g h : View) (d m : DartId) (u v : VertexId) (l : Line) (r : IsPairMore
   pub more_both : u ≡ v → (o : Option DartId) → IsOut g v o → IsOut h v (option_or (option_or o (Some d)) (Some m))
   more_both q o i = subst (λ (x : Option DartId). IsOut h v x) (sym (offered_twice o d m)) (given_out v d (r.first.has, r.first.source ∙ q) o i)
 
--- ---- an edge fewer
+-- ---- one edge fewer
 module _ (g h : View) (d m : DartId) (r : IsPairLess g h d m) (ends : source_in g d ≢ source_in g m) where
   left : (w : VertexId) (e : DartId) → IsOutOf g w e → e ≢ d → e ≢ m → IsOutOf h w e
   left w e k nd nm = ((r.others e nd nm).has k.0, (r.others e nd nm).source ∙ k.1)

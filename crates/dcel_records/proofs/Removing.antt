@@ -5,10 +5,10 @@ use Rattle.slab.specs.Slab.{Slab, get, slab_len, with_value, Updates}
 use Rattle.slab.proofs.SlabLemmas.{Updates-with_value}
 use Rattle.slab_laws.specs.declared.names.DartId.{DartId}
 use Rattle.slab_laws.specs.View.{HasDart, target_in}
-use Rattle.dcel_records.specs.declared.rows.VertexRow.{VertexRow}
-use Rattle.dcel_records.specs.declared.rows.DartRow.{DartRow}
-use Rattle.dcel_records.specs.Held.{Held, IsSpare}
-use Rattle.dcel_records.specs.Kept.{held, IsKept}
+use Rattle.dcel_records.specs.declared.rows.StoredVertex.{StoredVertex}
+use Rattle.dcel_records.specs.declared.rows.StoredDart.{StoredDart}
+use Rattle.dcel_records.specs.RecordsView.{RecordsView, IsSpare}
+use Rattle.dcel_records.specs.StoredRows.{records_view, AreSoundRows}
 use Rattle.dcel_records.proofs.Tabled.{tabled_same, length-tabled}
 use Rattle.dcel_records.proofs.Holding.{source_is, twin_is, target_is, twinned, twin_key, out_key}
 use Rattle.dcel_records.proofs.Writing.{row_out}
@@ -26,7 +26,7 @@ module _ {X : Type 0} (s : Slab X) (k : ℕ) (x y : X) (g : get s k ≡ Some x) 
         | inr ne ↦ ap is_some (u.others j ne) ∙ h
       ]
 
-module _ (vs : Slab VertexRow) (ds : Slab DartRow) (h : Held) (is : held vs ds ≡ h) (k : IsKept vs ds) (d : DartId) (r : DartRow) (o : HasDart h.graph d) (e : get ds d.0 ≡ Some r) where
+module _ (vs : Slab StoredVertex) (ds : Slab StoredDart) (h : RecordsView) (is : records_view vs ds ≡ h) (k : AreSoundRows vs ds) (d : DartId) (r : StoredDart) (o : HasDart h.graph d) (e : get ds d.0 ≡ Some r) where
   -- the source of a dart has a row
   pub source_key : IsSome (get vs r.source.0)
   source_key = out_key vs ds h is k r.source d (o, sym (source_is vs ds h is d r e))
@@ -37,12 +37,12 @@ module _ (vs : Slab VertexRow) (ds : Slab DartRow) (h : Held) (is : held vs ds �
   twin_has : HasDart h.graph r.twin
   twin_has = subst (λ (x : DartId). HasDart h.graph x) (sym (twin_is vs ds h is d r e)) ((twinned vs ds h is k).has d o)
 
-  module _ (s : Slab DartRow) (u : Updates ds s d.0 None) where
+  module _ (s : Slab StoredDart) (u : Updates ds s d.0 None) where
     -- once a dart is away, its twin is still there
     pub twin_there : IsSome (get s r.twin.0)
     twin_there = ap is_some (u.others r.twin.0 twin_other) ∙ twin_key vs ds h is k d r o e
 
-    module _ (q : DartRow) (f : get s r.twin.0 ≡ Some q) where
+    module _ (q : StoredDart) (f : get s r.twin.0 ≡ Some q) where
       twin_row : get ds r.twin.0 ≡ Some q
       twin_row = sym (u.others r.twin.0 twin_other) ∙ f
 
@@ -54,7 +54,7 @@ module _ (vs : Slab VertexRow) (ds : Slab DartRow) (h : Held) (is : held vs ds �
       target_key = out_key vs ds h is k q.source r.twin (twin_has, sym (source_is vs ds h is r.twin q twin_row))
 
 -- two darts away, and two vertices written
-pub less_spare : (vs : Slab VertexRow) (ds s t : Slab DartRow) (h : Held) (u v : ℕ) (a b : Option DartId) (x y : VertexRow) → held vs ds ≡ h → get vs u ≡ Some x → get (with_value vs u (row_out a x)) v ≡ Some y → slab_len s + 1 ≡ slab_len ds → slab_len s + 1 ≤ s.capacity → s.capacity ≡ ds.capacity → slab_len t + 1 ≡ slab_len s → t.capacity ≡ s.capacity → IsSpare h (held (with_value (with_value vs u (row_out a x)) v (row_out b y)) t) 0 2
+pub less_spare : (vs : Slab StoredVertex) (ds s t : Slab StoredDart) (h : RecordsView) (u v : ℕ) (a b : Option DartId) (x y : StoredVertex) → records_view vs ds ≡ h → get vs u ≡ Some x → get (with_value vs u (row_out a x)) v ≡ Some y → slab_len s + 1 ≡ slab_len ds → slab_len s + 1 ≤ s.capacity → s.capacity ≡ ds.capacity → slab_len t + 1 ≡ slab_len s → t.capacity ≡ s.capacity → IsSpare h (records_view (with_value (with_value vs u (row_out a x)) v (row_out b y)) t) 0 2
 less_spare vs ds s t h u v a b x y is f g l room cs m ct =
     let first = len_written vs u x (row_out a x) f in
     let second = len_written (with_value vs u (row_out a x)) v y (row_out b y) g in

@@ -6,9 +6,10 @@ use Rattle.std.proofs.Math.ListN.{length-map}
 use Rattle.slab.specs.Slab.{Slab, get, entries_from, slab_len, Updates}
 use Rattle.slab.proofs.SlabLemmas.{length-entries}
 use Rattle.slab_laws.specs.Tables.{row_at, names, NamesAscend}
-use Rattle.view_changes.specs.Rows.{put, del, edit}
-use Rattle.view_changes.proofs.RowLaws.{same, other, absent, row_at-put, row_at-del, edit_hit, edit_miss, ascend-put, ascend-del, ascend-each, one_table}
-use Rattle.dcel_records.specs.Kept.{tabled}
+use Rattle.arr_notes.specs.NamedRows.{put, del, edit}
+use Rattle.arr_notes.proofs.RowLaws.{absent, row_at-put, row_at-del, edit_hit, edit_miss, ascend-put, ascend-del, ascend-each, one_table}
+use Rattle.dcel_records.specs.StoredRows.{tabled}
+use Rattle.integers.proofs.Tests.{other_number, same_number}
 
 module _ {X Y : Type 0} (f : X → Y) where
   abbrev from : ℕ → List (Option X) → List (ℕ × Y)
@@ -28,9 +29,9 @@ module _ {X Y : Type 0} (f : X → Y) where
   unfolding row_at
   from_slot k [] j = refl
   from_slot k (None ∷ os) zero = rw add-zero (absent k k (from (k + 1) os) refl (above-from k (k + 1) os (omega arith)))
-  from_slot k (Some x ∷ os) zero = rw (add-zero, same k) refl
+  from_slot k (Some x ∷ os) zero = rw (add-zero, same_number k) refl
   from_slot k (None ∷ os) (suc j) = let e : k + suc j ≡ (k + 1) + j = omega arith in rw e (from_slot (k + 1) os j)
-  from_slot k (Some x ∷ os) (suc j) = rw (other k (k + suc j) (omega arith)) (let e : k + suc j ≡ (k + 1) + j = omega arith in rw e (from_slot (k + 1) os j))
+  from_slot k (Some x ∷ os) (suc j) = rw (other_number k (k + suc j) (omega arith)) (let e : k + suc j ≡ (k + 1) + j = omega arith in rw e (from_slot (k + 1) os j))
 
   -- a key finds what the slab has there
   pub row-tabled : (s : Slab X) (j : ℕ) → row_at (tabled f s) j ≡ option_map f (get s j)
@@ -59,8 +60,8 @@ module _ {X Y : Type 0} (f : X → Y) where
     where
       found : (j : ℕ) → option_map f (get t j) ≡ cond (k == j) (Some (f x)) (row_at (tabled f s) j)
       found j = elim (cases_eq j k) [
-        | inl q ↦ rw (q, same k) (ap (option_map f) u.changed)
-        | inr ne ↦ rw (other k j (λ e. ne (sym e))) (ap (option_map f) (u.others j ne) ∙ sym (row-tabled s j))
+        | inl q ↦ rw (q, same_number k) (ap (option_map f) u.changed)
+        | inr ne ↦ rw (other_number k j (λ e. ne (sym e))) (ap (option_map f) (u.others j ne) ∙ sym (row-tabled s j))
       ]
 
   pub tabled_del : (s t : Slab X) (k : ℕ) → Updates s t k None → tabled f t ≡ del k (tabled f s)
@@ -69,8 +70,8 @@ module _ {X Y : Type 0} (f : X → Y) where
     where
       found : (j : ℕ) → option_map f (get t j) ≡ cond (k == j) None (row_at (tabled f s) j)
       found j = elim (cases_eq j k) [
-        | inl q ↦ rw (q, same k) (ap (option_map f) u.changed)
-        | inr ne ↦ rw (other k j (λ e. ne (sym e))) (ap (option_map f) (u.others j ne) ∙ sym (row-tabled s j))
+        | inl q ↦ rw (q, same_number k) (ap (option_map f) u.changed)
+        | inr ne ↦ rw (other_number k j (λ e. ne (sym e))) (ap (option_map f) (u.others j ne) ∙ sym (row-tabled s j))
       ]
 
   pub tabled_edit : (s t : Slab X) (k : ℕ) (x y : X) (g : Y → Y) → get s k ≡ Some x → f y ≡ g (f x) → Updates s t k (Some y) → tabled f t ≡ edit k g (tabled f s)

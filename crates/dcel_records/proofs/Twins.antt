@@ -1,19 +1,16 @@
 -- Twins stay twins.
 use Rattle.std.proofs.Common.{◌≡◌, ◌≢◌, ◌⊎◌, inl, inr, sym, ap, subst, ◌∙◌}
-use Rattle.std.proofs.lemmas.Bool.{cases_eq, false≢true}
+use Rattle.std.proofs.lemmas.Bool.{false≢true}
 use Rattle.exact_plane.specs.Line.{Line}
 use Rattle.slab_laws.specs.declared.names.DartId.{DartId}
 use Rattle.slab_laws.specs.declared.names.VertexId.{VertexId}
 use Rattle.slab_laws.specs.Sound.{IsTwinned}
-use Rattle.slab_laws.specs.View.{View, HasDart, twin_in, line_in, dart_id}
-use Rattle.view_changes.specs.Reads.{IsRelinked, IsSourceSet, IsPairMore, IsPairLess}
-use Rattle.view_changes.specs.Writers.{no_rows}
+use Rattle.slab_laws.specs.View.{View, HasDart, twin_in, line_in}
+use Rattle.arr_notes.specs.Reads.{IsRelinked, IsSourceSet, IsPairMore, IsPairLess}
+use Rattle.arr_notes.specs.ViewChanges.{no_rows}
+use Rattle.arr_notes.proofs.Names.{cases_dart}
 use Rattle.slab_laws.specs.Tables.{row_at}
 use Rattle.dcel_records.specs.Edges.{lone_dart}
-
--- two names are one or not
-pub cases_dart : (d e : DartId) → (d ≡ e) ⊎ (d ≢ e)
-cases_dart d e = elim (cases_eq d.0 e.0) [ inl q ↦ inl (ap dart_id q) | inr ne ↦ inr (λ q. ne (ap (λ x. x.0) q)) ]
 
 pub twinned_empty : IsTwinned no_rows
 unfolding row_at
@@ -40,7 +37,7 @@ twinned_relinked g h r t = twinned_same g h r.has r.had r.twin r.line t
 pub twinned_source : (g h : View) (d : DartId) (w : VertexId) → IsSourceSet g h d w → IsTwinned g → IsTwinned h
 twinned_source g h d w r t = twinned_same g h r.has r.had r.twin r.line t
 
--- ---- an edge more
+-- ---- one more edge
 module _ (g h : View) (d m : DartId) (u v : VertexId) (l : Line) (r : IsPairMore g h d m (lone_dart u m l) (lone_dart v d l)) (t : IsTwinned g) (no_d : ¬ HasDart g d) (no_m : ¬ HasDart g m) (ne : d ≢ m) where
   -- what holds of the two and of all others holds of all
   all : (P : DartId → Type 0) → P d → P m → ((e : DartId) → e ≢ d → e ≢ m → P e) → (e : DartId) → P e
@@ -90,7 +87,7 @@ module _ (g h : View) (d m : DartId) (u v : VertexId) (l : Line) (r : IsPairMore
         (λ e nd nm k. line_old e nd nm k ∙ t.line e ((r.others e nd nm).had k) ∙ sym (r.others e nd nm).line);
   }
 
--- ---- an edge fewer
+-- ---- one edge fewer
 module _ (g h : View) (d : DartId) (t : IsTwinned g) (k : HasDart g d) (r : IsPairLess g h d (twin_in g d)) where
   not_d : (e : DartId) → HasDart h e → e ≢ d
   not_d e o q = r.first (subst (λ (x : DartId). HasDart h x) q o)

@@ -2,11 +2,11 @@
 use Rattle.std.proofs.Common.{◌≡◌, ℕ, ◌+◌, ◌-◌, ◌≤◌, List, [], length, count_by, None, is_some, slice_index_or, sym, ap, subst, ◌∙◌, arith}
 use Rattle.slab.specs.Slab.{Slab, slab_len}
 use Rattle.slab_laws.specs.View.{VertexRecord, DartRecord}
-use Rattle.view_changes.specs.Writers.{no_rows}
-use Rattle.dcel_records.specs.declared.rows.VertexRow.{VertexRow}
-use Rattle.dcel_records.specs.declared.rows.DartRow.{DartRow}
-use Rattle.dcel_records.specs.Held.{Held}
-use Rattle.dcel_records.specs.Kept.{vertex_of, dart_of, graph_in, held, out_or, IsKept}
+use Rattle.arr_notes.specs.ViewChanges.{no_rows}
+use Rattle.dcel_records.specs.declared.rows.StoredVertex.{StoredVertex}
+use Rattle.dcel_records.specs.declared.rows.StoredDart.{StoredDart}
+use Rattle.dcel_records.specs.RecordsView.{RecordsView}
+use Rattle.dcel_records.specs.StoredRows.{vertex_of, dart_of, graph_in, records_view, out_or, AreSoundRows}
 use Rattle.dcel_records.specs.Outs.{IsOut}
 use Rattle.dcel_records.proofs.Tabled.{tabled_slots, tabled_empty, length-tabled}
 use Rattle.dcel_records.proofs.Twins.{twinned_empty}
@@ -14,15 +14,15 @@ use Rattle.dcel_records.proofs.Leaving.{out_empty}
 use Rattle.dcel_records.proofs.Holding.{vertices_are, darts_are}
 use Rattle.dcel_records.proofs.Writing.{kept_by}
 
-module _ (vs : Slab VertexRow) (ds : Slab DartRow) where
-  module _ (xs : Slab VertexRow) (es : Slab DartRow) (a : xs.slots ≡ vs.slots) (b : es.slots ≡ ds.slots) where
+module _ (vs : Slab StoredVertex) (ds : Slab StoredDart) where
+  module _ (xs : Slab StoredVertex) (es : Slab StoredDart) (a : xs.slots ≡ vs.slots) (b : es.slots ≡ ds.slots) where
     pub graph_slots : graph_in xs es ≡ graph_in vs ds
     graph_slots =
         let p = tabled_slots vertex_of vs xs a in
         let q = tabled_slots dart_of ds es b in
         (λ i. record { vertices = p i; darts = q i })
 
-    pub kept_slots : IsKept vs ds → IsKept xs es
+    pub kept_slots : AreSoundRows vs ds → AreSoundRows xs es
     kept_slots k = kept_by xs es (graph_in vs ds) graph_slots k.twinned (λ w. subst (λ o. IsOut (graph_in vs ds) w o) (sym (ap (λ os. out_or (slice_index_or os w.0 None)) a)) (k.outs w))
 
   module _ (a : vs.slots ≡ []) (b : ds.slots ≡ []) where
@@ -32,16 +32,16 @@ module _ (vs : Slab VertexRow) (ds : Slab DartRow) where
         let q = tabled_empty dart_of ds b in
         (λ i. record { vertices = p i; darts = q i })
 
-    pub kept_empty : IsKept vs ds
+    pub kept_empty : AreSoundRows vs ds
     kept_empty = kept_by vs ds no_rows graph_empty twinned_empty (λ w. subst (λ o. IsOut no_rows w o) (sym (ap (λ os. out_or (slice_index_or os w.0 None)) a)) (out_empty w))
 
 -- what an emptied slab has room for
 spare_all : {X : Type 0} (s t : Slab X) (spare many : ℕ) → s.capacity - slab_len s ≡ spare → many ≡ slab_len s → slab_len s ≤ s.capacity → t.slots ≡ [] → t.capacity ≡ s.capacity → spare + many ≤ t.capacity - slab_len t
 spare_all s t spare many e m l z c = let n : slab_len t ≡ 0 = ap (λ os. count_by is_some os) z in omega arith
 
-module _ (vs : Slab VertexRow) (ds : Slab DartRow) (h : Held) (is : held vs ds ≡ h) where
-  pub vertices_spare : (t : Slab VertexRow) → slab_len vs ≤ vs.capacity → t.slots ≡ [] → t.capacity ≡ vs.capacity → h.spare_vertices + length h.graph.vertices ≤ t.capacity - slab_len t
+module _ (vs : Slab StoredVertex) (ds : Slab StoredDart) (h : RecordsView) (is : records_view vs ds ≡ h) where
+  pub vertices_spare : (t : Slab StoredVertex) → slab_len vs ≤ vs.capacity → t.slots ≡ [] → t.capacity ≡ vs.capacity → h.spare_vertices + length h.graph.vertices ≤ t.capacity - slab_len t
   vertices_spare t l z c = spare_all vs t h.spare_vertices (length h.graph.vertices) (ap (λ x. x.spare_vertices) is) (sym (ap (λ (rs : List (ℕ × VertexRecord)). length rs) (vertices_are vs ds h is)) ∙ length-tabled vertex_of vs) l z c
 
-  pub darts_spare : (t : Slab DartRow) → slab_len ds ≤ ds.capacity → t.slots ≡ [] → t.capacity ≡ ds.capacity → h.spare_darts + length h.graph.darts ≤ t.capacity - slab_len t
+  pub darts_spare : (t : Slab StoredDart) → slab_len ds ≤ ds.capacity → t.slots ≡ [] → t.capacity ≡ ds.capacity → h.spare_darts + length h.graph.darts ≤ t.capacity - slab_len t
   darts_spare t l z c = spare_all ds t h.spare_darts (length h.graph.darts) (ap (λ x. x.spare_darts) is) (sym (ap (λ (rs : List (ℕ × DartRecord)). length rs) (darts_are vs ds h is)) ∙ length-tabled dart_of ds) l z c

@@ -3,7 +3,7 @@ use Rattle.exact_plane.specs.Line.{Line}
 use Rattle.slab_laws.specs.declared.names.DartId.{DartId}
 use Rattle.slab_laws.specs.declared.names.VertexId.{VertexId}
 use Rattle.slab_laws.specs.View.{View, DartRecord}
-use Rattle.view_changes.specs.Writers.{with_pair}
+use Rattle.arr_notes.specs.ViewChanges.{with_pair}
 
 -- a dart out of w that its twin follows
 abbrev pub lone_dart : VertexId → DartId → Line → DartRecord

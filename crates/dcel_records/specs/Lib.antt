@@ -1,5 +1,5 @@
-pub mod Held
-pub mod Kept
+pub mod RecordsView
+pub mod StoredRows
 pub mod Outs
 pub mod Edges
 pub mod Given

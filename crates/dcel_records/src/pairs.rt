@@ -1,20 +1,20 @@
 ghost use Rattle.std.specs.Prelude.{◌≡◌, ◌≢◌, ◌≤◌, option_map};
 ghost use Rattle.slab.specs.Slab.{get, slab_len, ContainsKey, Updates};
 ghost use Rattle.slab_laws.specs.View.{HasVertex, HasDart, IsOutOf, source_in, twin_in, target_in};
-ghost use Rattle.view_changes.specs.Writers.{without_pair, with_next, with_source};
+ghost use Rattle.arr_notes.specs.ViewChanges.{without_pair, with_next, with_source};
 ghost use Rattle.dcel_records.specs.Edges.{with_edge};
-ghost use Rattle.dcel_records.specs.Held.{ends_found, IsSpare};
+ghost use Rattle.dcel_records.specs.RecordsView.{ends_found, IsSpare};
 ghost use Rattle.dcel_records.specs.Outs.{IsRest};
 ghost use Rattle.dcel_records.specs.Given.{given};
 
 use crate::records::Records;
-use crate::rows::{DartRow, VertexRow};
+use crate::rows::{StoredDart, StoredVertex};
 use exact_plane::Line;
 use slab::Slab;
 use slab_laws::{DartId, VertexId};
 
 // A vertex that no dart leaves gets a dart out.
-fn give_out(vertices: &mut Slab<VertexRow>, v: VertexId, d: DartId)
+fn give_out(vertices: &mut Slab<StoredVertex>, v: VertexId, d: DartId)
     requires { ContainsKey vertices.old v.0 }
     ensures row { Updates vertices.old vertices.new v.0 (option_map (given d) (get vertices.old v.0)) }
     ensures len { slab_len vertices.new ≡ slab_len vertices.old }
@@ -46,13 +46,13 @@ impl Records {
         ensures graph { self.new.graph ≡ with_edge self.old.graph result.0 result.1 u v line }
         ensures spare { IsSpare self.new self.old 0 2 }
     {
-        let d = self.darts.insert_reserved(DartRow {
+        let d = self.darts.insert_reserved(StoredDart {
             source: u,
             twin: DartId(0),
             next: DartId(0),
             line,
         });
-        let m = self.darts.insert_reserved(DartRow {
+        let m = self.darts.insert_reserved(StoredDart {
             source: v,
             twin: DartId(d),
             next: DartId(d),

@@ -6,25 +6,25 @@ ghost use Rattle.slab_laws.specs.View.{vertex_id, dart_id};
 
 use crate::keys::key_after;
 use crate::records::Records;
-use crate::rows::{DartRow, VertexRow};
+use crate::rows::{StoredDart, StoredVertex};
 use exact_plane::{Line, Point};
 use slab::Slab;
 use slab_laws::{DartId, Darts, VertexId};
 
-fn vertex_name_after(vertices: &Slab<VertexRow>, name: Option<VertexId>) -> Option<VertexId>
+fn vertex_name_after(vertices: &Slab<StoredVertex>, name: Option<VertexId>) -> Option<VertexId>
     ensures { result ≡ option_map vertex_id (name_after (names (entries vertices.now)) (option_map (λ n. n.0) name)) }
 {
     key_after(vertices, name.map(|n| n.0)).map(VertexId)
 }
 
-fn dart_name_after(darts: &Slab<DartRow>, name: Option<DartId>) -> Option<DartId>
+fn dart_name_after(darts: &Slab<StoredDart>, name: Option<DartId>) -> Option<DartId>
     ensures { result ≡ option_map dart_id (name_after (names (entries darts.now)) (option_map (λ n. n.0) name)) }
 {
     key_after(darts, name.map(|n| n.0)).map(DartId)
 }
 
 impl Darts for Records {
-    ghost use Rattle.dcel_records.specs.Held.{graph_of};
+    ghost use Rattle.dcel_records.specs.RecordsView.{graph_of};
 
     ghost graph = { graph_of };
 

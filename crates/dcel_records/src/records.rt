@@ -1,10 +1,10 @@
 ghost use Rattle.std.specs.Prelude.{◌≡◌, ◌*◌, ◌+◌, ◌≤◌, length, IsOk, IfOk, OnOk};
 ghost use Rattle.slab_laws.specs.Sound.{IsNamed, IsTwinned};
 ghost use Rattle.slab_laws.specs.View.{HasVertex, HasDart, source_in};
-ghost use Rattle.view_changes.specs.Writers.{no_rows};
-ghost use Rattle.dcel_records.specs.Held.{SameRecordCapacity};
+ghost use Rattle.arr_notes.specs.ViewChanges.{no_rows};
+ghost use Rattle.dcel_records.specs.RecordsView.{SameRecordCapacity};
 
-use crate::rows::{DartRow, VertexRow};
+use crate::rows::{StoredDart, StoredVertex};
 use no_memory::NoMemory;
 use slab::Slab;
 use std::alloc::Global;
@@ -13,20 +13,20 @@ use std::marker::Model;
 /// Vertices and darts by name, each dart with its twin, its follower and its line.
 #[derive(Drop)]
 pub struct Records {
-    pub(crate) vertices: Slab<VertexRow>,
-    pub(crate) darts: Slab<DartRow>,
+    pub(crate) vertices: Slab<StoredVertex>,
+    pub(crate) darts: Slab<StoredDart>,
 }
 
 impl Model for Records {
-    ghost use Rattle.dcel_records.specs.Held.{Held};
+    ghost use Rattle.dcel_records.specs.RecordsView.{RecordsView};
 
-    ghost Value = { Held };
+    ghost Value = { RecordsView };
 
-    ghost use Rattle.dcel_records.specs.Kept.{held, IsKept};
+    ghost use Rattle.dcel_records.specs.StoredRows.{records_view, AreSoundRows};
 
-    ghost view = { λ r. held r.vertices r.darts };
+    ghost view = { λ r. records_view r.vertices r.darts };
 
-    ghost invariant = { λ r. IsKept r.vertices r.darts };
+    ghost invariant = { λ r. AreSoundRows r.vertices r.darts };
 }
 
 /// How many vertices and edges more are to fit.

@@ -1,10 +1,10 @@
 ghost use Rattle.std.specs.Prelude.{◌≡◌, ◌≤◌, true, false};
 ghost use Rattle.slab_laws.specs.View.{HasVertex, IsOutOf};
-ghost use Rattle.view_changes.specs.Writers.{with_vertex, without_vertex, with_pin};
-ghost use Rattle.dcel_records.specs.Held.{point_found, IsSpare};
+ghost use Rattle.arr_notes.specs.ViewChanges.{with_vertex, without_vertex, with_pin};
+ghost use Rattle.dcel_records.specs.RecordsView.{point_found, IsSpare};
 
 use crate::records::Records;
-use crate::rows::VertexRow;
+use crate::rows::StoredVertex;
 use exact_plane::Point;
 use slab_laws::VertexId;
 
@@ -27,7 +27,7 @@ impl Records {
         ensures spare { IsSpare self.new self.old 1 0 }
     {
         VertexId(
-            self.vertices.insert_reserved(VertexRow {
+            self.vertices.insert_reserved(StoredVertex {
                 point,
                 pinned: false,
                 out: None,

@@ -1,2 +1,4 @@
+pub mod DartLines
+pub mod DirectionPlaces
 pub mod Written
 pub mod Placed

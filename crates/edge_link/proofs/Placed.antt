@@ -1,8 +1,8 @@
 -- Where a link may be made, its edge fits, and the view with it is sound.
-use Rattle.std.proofs.Common.{◌≡◌, ◌≢◌, ◌⊎◌, inl, inr, ◌==◌, true, false, Option, Some, None, ℤ, option_map, refl, sym, ap, subst, ◌∙◌, arith}
+use Rattle.std.proofs.Common.{◌≡◌, ◌≢◌, ◌⊎◌, inl, inr, ◌==◌, true, false, Option, Some, None, option_map, refl, sym, ap, subst, ◌∙◌}
 use Rattle.std.proofs.lemmas.Bool.{cases_eq, false≢true}
-use Rattle.exact_plane.specs.Line.{Line, IsLine, IsForward}
-use Rattle.exact_plane.specs.Plane.{Runs}
+use Rattle.exact_plane.specs.Line.{Line, IsLine}
+use Rattle.exact_plane.proofs.Meetings.{runs}
 use Rattle.plane_graphs.specs.Line.{IsProperLine}
 use Rattle.slab_laws.specs.declared.names.DartId.{DartId}
 use Rattle.slab_laws.specs.declared.names.VertexId.{VertexId}
@@ -10,32 +10,25 @@ use Rattle.slab_laws.specs.Darts.{Dart}
 use Rattle.slab_laws.specs.Skeleton.{IsPlaneSkeleton}
 use Rattle.slab_laws.specs.Sound.{skeleton_of, IsTwinned, IsGraphSound}
 use Rattle.slab_laws.specs.View.{View, HasDart, vertex_id, twin_in, source_in}
-use Rattle.view_changes.proofs.RowLaws.{same, other}
 use Rattle.arr_notes.specs.Step.{add_edge}
-use Rattle.sound_links.specs.Links.{IsPlaceFor, FitsAddedEdge}
-use Rattle.sound_links.proofs.Added.{more, added}
-use Rattle.sound_links.proofs.Drawn.{drawn_more}
-use Rattle.sound_links.proofs.Fresh.{fresh}
+use Rattle.sound_changes.specs.EdgePlaces.{IsPlaceFor, FitsAddedEdge}
+use Rattle.sound_changes.proofs.EdgeAdded.{more, added}
+use Rattle.sound_changes.proofs.EdgeDrawn.{drawn_more}
+use Rattle.sound_changes.proofs.FreshNames.{fresh}
 use Rattle.edge_link.specs.Links.{CanLink, AreKnown, with_edge_between}
+use Rattle.integers.proofs.Tests.{other_number, same_number}
 
 -- ---- lines
-runs : (a b : ℤ) → IsForward a b → Runs a b
-runs a b f = grind (arith, f.forward, f.upward)
 
 pub line_is_proper : (l : Line) → IsLine l → IsProperLine l
 line_is_proper l k = record { lowest = k.lowest; runs = runs l.a l.b k.runs }
 
 -- ---- places
--- the dart of a place, or another where the vertex is bare
-named : Option DartId → DartId → DartId
-named None y = y
-named (Some x) y = x
 
 -- the dart of a place has a record
 pub place_known : (v : View) (w : VertexId) (o : Option DartId) (x : Dart) → IsPlaceFor v w o x → AreKnown v o
-unfolding named
 place_known v w None x p d e = absurd (cc)
-place_known v w (Some b) x p d e = subst (HasDart v) (ap (λ o. named o b) e) p.0.0
+place_known v w (Some b) x p d e = let same : b ≡ d = cc in subst (HasDart v) same p.0.0
 
 -- ---- a link
 module _ (v : View) (d m : DartId) (u w : VertexId) (at_u at_w : Option DartId) (l : Line) (s : IsGraphSound v) (f : CanLink v u w at_u at_w l) (k : IsLine l) (nd : ¬ HasDart v d) (nm : ¬ HasDart v m) (ne : d ≢ m) where
@@ -64,19 +57,21 @@ module _ (v : View) (d m : DartId) (u w : VertexId) (at_u at_w : Option DartId) 
 
 -- the dart that comes in before a known one is known
 pub behind_known : (v : View) (o b : Option DartId) → IsTwinned v → AreKnown v o → b ≡ option_map (twin_in v) o → AreKnown v b
-unfolding named
 behind_known v None b t k q e h = absurd (cc)
-behind_known v (Some c) b t k q e h = subst (HasDart v) (ap (λ x. named x e) (sym q ∙ h)) (t.has c (k c refl))
+behind_known v (Some c) b t k q e h =
+    let both : Some (twin_in v c) ≡ Some e = sym q ∙ h in
+    let same : twin_in v c ≡ e = cc in
+    subst (HasDart v) same (t.has c (k c refl))
 
 -- ---- names compared
 pub one_vertex : (u w : VertexId) → (u.0 == w.0) ≡ true → u ≡ w
 one_vertex u w e = elim (cases_eq u.0 w.0) [
   | inl q ↦ ap vertex_id q
-  | inr ne ↦ absurd (false≢true (sym (other u.0 w.0 ne) ∙ e))
+  | inr ne ↦ absurd (false≢true (sym (other_number u.0 w.0 ne) ∙ e))
 ]
 
 pub two_vertices : (u w : VertexId) → (u.0 == w.0) ≡ false → u ≢ w
-two_vertices u w e q = false≢true (sym e ∙ ap (λ x. x.0 == w.0) q ∙ same w.0)
+two_vertices u w e q = false≢true (sym e ∙ ap (λ x. x.0 == w.0) q ∙ same_number w.0)
 
 -- ---- which of both ends is bare
 module _ (v : View) (u w : VertexId) (b : DartId) (l : Line) where

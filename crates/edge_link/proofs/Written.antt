@@ -1,22 +1,22 @@
--- What the writers of a link make of a view is the view with an edge more.
+-- What the writers of a link make of a view is the view with one more edge.
 use Rattle.std.proofs.Common.{◌≡◌, ◌≢◌, Option, Some, None, option_map, refl, sym, ap, subst, ◌∙◌}
 use Rattle.exact_plane.specs.Line.{Line}
 use Rattle.slab_laws.specs.declared.names.DartId.{DartId}
 use Rattle.slab_laws.specs.declared.names.VertexId.{VertexId}
 use Rattle.slab_laws.specs.Sound.{IsNamed}
 use Rattle.slab_laws.specs.View.{View, HasDart, twin_in}
-use Rattle.view_changes.specs.Writers.{with_next}
-use Rattle.view_changes.proofs.Darts.{next_is_set}
-use Rattle.view_changes.proofs.Pairs.{pair_is_added}
-use Rattle.view_changes.proofs.Written.{first_follows, second_follows}
+use Rattle.arr_notes.specs.ViewChanges.{with_next}
+use Rattle.arr_notes.proofs.DartReads.{next_is_set}
+use Rattle.arr_notes.proofs.PairReads.{pair_is_added}
+use Rattle.arr_notes.proofs.NamesWritten.{first_follows, second_follows}
 use Rattle.dcel_records.specs.Edges.{with_edge}
 use Rattle.arr_notes.specs.Step.{add_edge}
-use Rattle.view_changes.specs.Around.{after_in}
+use Rattle.arr_notes.specs.AfterAround.{after_in}
 use Rattle.edge_link.specs.Links.{led_by, led_to}
 
 -- ---- the whole of a link
 -- the view when all is written
-abbrev pub written : View → DartId → DartId → VertexId → VertexId → Option DartId → Option DartId → Line → View
+abbrev pub written : (v : View) (d m : DartId) (u w : VertexId) (at_u at_w : Option DartId) (l : Line) → View
 written v d m u w at_u at_w l =
     led_by (led_by (led_to (led_to (with_edge v d m u w l) d (option_map (after_in v) at_w)) m (option_map (after_in v) at_u)) (option_map (twin_in v) at_u) d) (option_map (twin_in v) at_w) m
 

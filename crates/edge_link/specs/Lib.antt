@@ -1,1 +1,2 @@
+pub mod EdgePlaces
 pub mod Links

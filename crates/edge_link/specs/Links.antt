@@ -9,12 +9,12 @@ use Rattle.slab_laws.specs.declared.names.VertexId.{VertexId}
 use Rattle.slab_laws.specs.Skeleton.{Skeleton, IsPlaneSkeleton}
 use Rattle.slab_laws.specs.Sound.{skeleton_of, edge_between}
 use Rattle.slab_laws.specs.View.{View, HasVertex, HasDart, point_in}
-use Rattle.view_changes.specs.Writers.{with_next}
+use Rattle.arr_notes.specs.ViewChanges.{with_next}
 use Rattle.arr_notes.specs.declared.change.Change.{Change}
 use Rattle.arr_notes.specs.declared.change.Change.TheVariants.{AddEdge}
-use Rattle.sound_links.specs.Links.{dart_between, IsPlaceFor}
+use Rattle.sound_changes.specs.EdgePlaces.{dart_between, IsPlaceFor}
 
--- what is drawn with an edge more between two vertices (CGAL manual, `insert_at_vertices`)
+-- what is drawn with one more edge between two vertices (CGAL manual, `insert_at_vertices`)
 abbrev pub with_edge_between : View → VertexId → VertexId → Skeleton
 with_edge_between v u w = record { vertices = (skeleton_of v).vertices; edges = ascending edge_cmp (edge_between (point_in v u) (point_in v w) ∷ (skeleton_of v).edges) }
 
@@ -29,7 +29,15 @@ pub record CanLink (v : View) (u w : VertexId) (at_u at_w : Option DartId) (l : 
   pub place_at_end : IsPlaceFor v w at_w (dart_between (point_in v w) (point_in v u))
   pub plane : IsPlaneSkeleton (with_edge_between v u w)
 
--- the change tells of an edge more with these ends, places, line and curve, by two names (this project)
+-- an edge may come between two vertices of which the second is bare, directly after the dart at the first clockwise (this project)
+abbrev pub CanLinkAtStart : View → VertexId → VertexId → DartId → Line → Type 0
+CanLinkAtStart v u w at l = CanLink v u w (Some at) None l
+
+-- an edge may come between two vertices of which the first is bare, directly after the dart at the second clockwise (this project)
+abbrev pub CanLinkAtEnd : View → VertexId → VertexId → DartId → Line → Type 0
+CanLinkAtEnd v u w at l = CanLink v u w None (Some at) l
+
+-- the change tells of one more edge with these ends, places, line and curve, by two names (this project)
 abbrev pub TellsOfLink : Change → VertexId → VertexId → Option DartId → Option DartId → Line → CurveId → Type 0
 TellsOfLink c u w at_u at_w l k = (d : DartId) × (m : DartId) × (c ≡ AddEdge d m u w at_u at_w l k)
 
@@ -39,7 +47,7 @@ pub record AreNewDarts (v : View) (d m : DartId) : Type 0 where
   pub second : ¬ HasDart v m
   pub two : d ≢ m
 
--- the change tells of an edge more, whose darts have new names (this project)
+-- the change tells of one more edge, whose darts have new names (this project)
 abbrev pub NamesNewDarts : View → Change → Type 0
 NamesNewDarts v (AddEdge d m u w at_u at_w l k) = AreNewDarts v d m
 NamesNewDarts v c = ⊥

@@ -1,10 +1,10 @@
 ghost use Rattle.std.specs.Prelude.{◌≡◌, ◌⊎◌, ◌≤◌, Some, None, option_map};
 ghost use Rattle.slab_laws.specs.Sound.{IsGraphSound};
 ghost use Rattle.slab_laws.specs.View.{HasDart, twin_in};
-ghost use Rattle.dcel_records.specs.Held.{IsSpare};
+ghost use Rattle.dcel_records.specs.RecordsView.{IsSpare};
 ghost use Rattle.arr_notes.specs.Step.{step};
-ghost use Rattle.view_changes.specs.Around.{after_in};
-ghost use Rattle.edge_link.specs.Links.{CanLink, TellsOfLink, NamesNewDarts, AreKnown, led_by, led_to};
+ghost use Rattle.arr_notes.specs.AfterAround.{after_in};
+ghost use Rattle.edge_link.specs.Links.{CanLink, CanLinkAtStart, CanLinkAtEnd, TellsOfLink, NamesNewDarts, AreKnown, led_by, led_to};
 
 use arr_notes::Change;
 use dcel_records::Records;
@@ -55,7 +55,7 @@ fn follow(records: &mut Records, dart: DartId, next: Option<DartId>)
     }
 }
 
-// An edge more from `u` to `v`, each bare or with the dart after which the new one comes clockwise.
+// One more edge from `u` to `v`, each bare or with the dart after which the new one comes clockwise.
 fn link(
     records: &mut Records,
     u: VertexId,
@@ -98,7 +98,7 @@ fn link(
     }
 }
 
-/// An edge more between two bare vertices, inside a face.
+/// One more edge between two bare vertices, inside a face.
 pub fn link_in_face(
     records: &mut Records,
     u: VertexId,
@@ -118,7 +118,7 @@ pub fn link_in_face(
     link(records, u, v, None, None, line, curve)
 }
 
-/// An edge more between two vertices of which one is bare: at the other it comes directly after `at` clockwise.
+/// One more edge between two vertices of which one is bare: at the other it comes directly after `at` clockwise.
 pub fn link_at_one(
     records: &mut Records,
     u: VertexId,
@@ -129,9 +129,9 @@ pub fn link_at_one(
 ) -> Change
     requires sound { IsGraphSound records.old.graph }
     requires room { 2 ≤ records.old.spare_darts }
-    requires fits { CanLink records.old.graph u v (Some at) None line ⊎ CanLink records.old.graph u v None (Some at) line }
-    ensures at_u { CanLink records.old.graph u v (Some at) None line → TellsOfLink result u v (Some at) None line curve }
-    ensures at_v { CanLink records.old.graph u v None (Some at) line → TellsOfLink result u v None (Some at) line curve }
+    requires fits { CanLinkAtStart records.old.graph u v at line ⊎ CanLinkAtEnd records.old.graph u v at line }
+    ensures at_u { CanLinkAtStart records.old.graph u v at line → TellsOfLink result u v (Some at) None line curve }
+    ensures at_v { CanLinkAtEnd records.old.graph u v at line → TellsOfLink result u v None (Some at) line curve }
     ensures new_darts { NamesNewDarts records.old.graph result }
     ensures graph { records.new.graph ≡ step records.old.graph result }
     ensures sound { IsGraphSound records.new.graph }
@@ -144,7 +144,7 @@ pub fn link_at_one(
     }
 }
 
-/// An edge more between two vertices that have darts: it comes directly after `at_u` and `at_v` clockwise.
+/// One more edge between two vertices that have darts: it comes directly after `at_u` and `at_v` clockwise.
 pub fn link_at_two(
     records: &mut Records,
     u: VertexId,

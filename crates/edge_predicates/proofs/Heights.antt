@@ -12,7 +12,7 @@ use Rattle.exact_plane.specs.Span.{Span, IsSpan}
 use Rattle.plane_graphs.proofs.Crossings.{spans_w, spans_x}
 use Rattle.plane_graphs.proofs.Lines.{span_a, span_b, span_c}
 use Rattle.slab_laws.specs.Skeleton.{HasWeight, left_of, run, side, gap}
-use Rattle.slab_laws.specs.Drawn.{edge_of}
+use Rattle.slab_laws.specs.SpansDrawn.{edge_of}
 use Rattle.slab_faces.proofs.Walls.{run_positive}
 use Rattle.edge_predicates.proofs.Sides.{greater_is, line_run_is}
 

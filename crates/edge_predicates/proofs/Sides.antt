@@ -2,10 +2,11 @@
 use Rattle.std.proofs.Common.{◌≡◌, Bool, true, false, arith, refl, sym, ap, ◌∙◌, inl, inr, [], ◌∷◌, Ordering, Less, Equal, Greater}
 use Rattle.std.specs.Prelude.{ℤ, pos, ◌+ℤ◌, ◌-ℤ◌, ◌*ℤ◌, ◌<ℤ◌, neg_ℤ, not, ◌&&◌}
 use Rattle.std.specs.Ordering.{int_cmp, is_lt, is_gt}
-use Rattle.std.proofs.lemmas.Int.{ints, by_lt_z}
+use Rattle.std.proofs.lemmas.Int.{ints}
 use lib.Signed.{lt_z}
 use Rattle.integers.proofs.Compare.{less_out, equal_out, greater_out, same_cmp}
 use Rattle.integers.proofs.Reify.{ring, sides}
+use Rattle.integers.proofs.Tests.{lt_yes, lt_no, zero_below, zero_above}
 use Rattle.exact_plane.specs.Point.{Point}
 use Rattle.exact_plane.specs.Line.{side_of}
 use Rattle.exact_plane.specs.Sign.{sign_by, sign_of}
@@ -13,18 +14,13 @@ use Rattle.exact_plane.specs.Span.{Span, IsSpan}
 use Rattle.exact_plane.specs.declared.sides.Sign.{Sign}
 use Rattle.exact_plane.specs.declared.sides.Sign.TheVariants.{Minus, Zero, Plus}
 use Rattle.plane_graphs.proofs.Crossings.{spans_w, spans_x, spans_y}
-use Rattle.exact_plane.specs.Plane.{Runs}
+use Rattle.exact_plane.specs.Plane.{RunsForward}
 use Rattle.plane_graphs.proofs.Lines.{point_is_proper, span_a, span_b, span_c, span_runs}
 use Rattle.slab_laws.specs.Skeleton.{left_of, lower_than, precedes, run, side, over, under, inside}
-use Rattle.slab_laws.specs.Drawn.{edge_of}
+use Rattle.slab_laws.specs.SpansDrawn.{edge_of}
 use Rattle.slab_faces.proofs.Ints.{times_mixed}
 
 -- ---- tests of integers
-lt_yes : (a b : ℤ) → a <ℤ b → lt_z a b ≡ true
-lt_yes a b h = let e : true ≡ lt_z a b = omega (arith, ints) in sym e
-
-lt_no : (a b : ℤ) → (a <ℤ b → ⊥) → lt_z a b ≡ false
-lt_no a b h = by_lt_z {P = lt_z a b ≡ false} a b (λ k. absurd (h k)) (λ k. let e : false ≡ lt_z a b = omega (arith, ints) in sym e)
 
 pub less_is : (a b : ℤ) → is_lt (int_cmp a b) ≡ lt_z a b
 less_is a b = go (int_cmp a b) refl
@@ -66,11 +62,11 @@ module _ (a b c A B C X Y W : ℤ) where
       ∙ ring (a ∷ b ∷ c ∷ A ∷ X ∷ Y ∷ W ∷ []) (search sides depth 40 fits 20000) tt
 
 -- which of the two runs to the right, and which falls, is the same
-run_too : (a b A B : ℤ) → a *ℤ B -ℤ A *ℤ b ≡ pos 0 → pos 0 <ℤ b → Runs A B → pos 0 <ℤ B
+run_too : (a b A B : ℤ) → a *ℤ B -ℤ A *ℤ b ≡ pos 0 → pos 0 <ℤ b → RunsForward A B → pos 0 <ℤ B
 run_too a b A B e h (inl k) = k
 run_too a b A B e h (inr k) = absurd (let m = times_mixed A b k.1 h in let z : a *ℤ B ≡ pos 0 = ap (λ x. a *ℤ x) k.0 ∙ ring (a ∷ []) (search sides depth 40 fits 20000) tt in omega (arith, ints))
 
-fall_too : (a b A B : ℤ) → a *ℤ B -ℤ A *ℤ b ≡ pos 0 → b ≡ pos 0 → a <ℤ pos 0 → Runs A B → A <ℤ pos 0
+fall_too : (a b A B : ℤ) → a *ℤ B -ℤ A *ℤ b ≡ pos 0 → b ≡ pos 0 → a <ℤ pos 0 → RunsForward A B → A <ℤ pos 0
 fall_too a b A B e z h (inr k) = k.1
 fall_too a b A B e z h (inl k) = absurd (let m = times_mixed a B h k in let y : A *ℤ b ≡ pos 0 = ap (λ x. A *ℤ x) z ∙ ring (A ∷ []) (search sides depth 40 fits 20000) tt in omega (arith, ints))
 
@@ -88,20 +84,16 @@ module _ (s : Span) (is : IsSpan s) where
   across : s.line.a *ℤ B -ℤ A *ℤ s.line.b ≡ pos 0
   across = spans_w s.line.a s.line.b s.line.c s.lower.x s.lower.y s.lower.w s.upper.x s.upper.y s.upper.w is.way.lower_on is.way.upper_on
 
-  runs : Runs A B
+  runs : RunsForward A B
   runs = span_runs s.lower s.upper (point_is_proper s.lower is.lower) (point_is_proper s.upper is.upper) (record { is = is.way.ascending })
 
-  line_runs : Runs s.line.a s.line.b
+  line_runs : RunsForward s.line.a s.line.b
   line_runs = go (int_cmp (pos 0) s.line.b) refl
     where
-      go : (o : Ordering) → int_cmp (pos 0) s.line.b ≡ o → Runs s.line.a s.line.b
+      go : (o : Ordering) → int_cmp (pos 0) s.line.b ≡ o → RunsForward s.line.a s.line.b
       go Less e = inl (less_out (pos 0) s.line.b e)
       go Equal e = let z : s.line.b ≡ pos 0 = sym (equal_out (pos 0) s.line.b e) in inr (z, is.line.runs.upward z)
       go Greater e = absurd (let f = greater_out (pos 0) s.line.b e in let g = is.line.runs.forward in omega (arith, ints))
-
-  pub run_is : pos 0 <ℤ s.line.b → pos 0 <ℤ run (edge_of s)
-  unfolding run
-  run_is h = run_too s.line.a s.line.b A B across h runs
 
   pub line_run_is : pos 0 <ℤ run (edge_of s) → pos 0 <ℤ s.line.b
   unfolding run
@@ -114,7 +106,7 @@ module _ (s : Span) (is : IsSpan s) where
   unfolding side
   side_same t = go line_runs
     where
-      go : Runs s.line.a s.line.b → int_cmp (A *ℤ t.x +ℤ B *ℤ t.y +ℤ C *ℤ t.w) (pos 0) ≡ int_cmp (side_of s.line t) (pos 0)
+      go : RunsForward s.line.a s.line.b → int_cmp (A *ℤ t.x +ℤ B *ℤ t.y +ℤ C *ℤ t.w) (pos 0) ≡ int_cmp (side_of s.line t) (pos 0)
       go (inl h) =
           same_cmp (A *ℤ t.x +ℤ B *ℤ t.y +ℤ C *ℤ t.w) (pos 0) (side_of s.line t) (pos 0) h (run_too s.line.a s.line.b A B across h runs)
           (by_runs s.line.a s.line.b s.line.c A B C t.x t.y t.w across (spans_x s.line.a s.line.b s.line.c s.lower.x s.lower.y s.lower.w s.upper.x s.upper.y s.upper.w is.way.lower_on is.way.upper_on))
@@ -161,12 +153,6 @@ module _ (z : ℤ) where
 
   pub not_above : lt_z z (pos 0) ≡ true → lt_z (pos 0) z ≡ false
   not_above h = lt_no (pos 0) z (λ k. omega (arith, ints))
-
-zero_below : (z : ℤ) → z ≡ pos 0 → lt_z z (pos 0) ≡ false
-zero_below z e = ap (λ x. lt_z x (pos 0)) e
-
-zero_above : (z : ℤ) → z ≡ pos 0 → lt_z (pos 0) z ≡ false
-zero_above z e = ap (λ x. lt_z (pos 0) x) e
 
 -- the test for each sign
 abbrev pub is_minus : Sign → Bool

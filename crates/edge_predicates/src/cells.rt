@@ -1,6 +1,6 @@
 ghost use Rattle.std.specs.Prelude.{◌≡◌, not, ◌&&◌};
 ghost use Rattle.std.specs.List.{count_by};
-ghost use Rattle.slab_laws.specs.Drawn.{edge_of, drawn};
+ghost use Rattle.slab_laws.specs.SpansDrawn.{edge_of, drawn};
 ghost use Rattle.slab_laws.specs.Skeleton.{left_of, over};
 ghost use Rattle.slab_laws.specs.Slabs.{reaches_left as is_reached_left, reaches_right as is_reached_right, left_cell, right_cell};
 

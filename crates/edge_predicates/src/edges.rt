@@ -1,6 +1,6 @@
 ghost use Rattle.std.specs.Prelude.{◌≡◌, not, ◌&&◌};
 ghost use Rattle.exact_plane.specs.Sign.{sign_of};
-ghost use Rattle.slab_laws.specs.Drawn.{edge_of};
+ghost use Rattle.slab_laws.specs.SpansDrawn.{edge_of};
 ghost use Rattle.slab_laws.specs.Skeleton.{left_of, over, under, inside, precedes as comes_before, side as side_number};
 ghost use Rattle.slab_laws.specs.Slabs.{reaches_left as is_reached_left, reaches_right as is_reached_right};
 ghost use Rattle.slab_laws.specs.Meets.{covers_above};

@@ -1,5 +1,5 @@
 ghost use Rattle.std.specs.Prelude.{◌≡◌, true, pos};
-ghost use Rattle.slab_laws.specs.Drawn.{edge_of};
+ghost use Rattle.slab_laws.specs.SpansDrawn.{edge_of};
 ghost use lib.Signed.{lt_z};
 ghost use Rattle.slab_laws.specs.Skeleton.{left_of, in_range, higher_at, below, gap};
 

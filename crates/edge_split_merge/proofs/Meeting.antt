@@ -7,9 +7,9 @@ use Rattle.slab_laws.specs.declared.names.DartId.{DartId}
 use Rattle.slab_laws.specs.declared.names.VertexId.{VertexId}
 use Rattle.slab_laws.specs.Sound.{IsGraphSound}
 use Rattle.slab_laws.specs.View.{View, HasVertex, HasDart, IsOutOf, point_in, source_in, twin_in, target_in}
-use Rattle.view_changes.specs.Around.{after_in}
+use Rattle.arr_notes.specs.AfterAround.{after_in}
 use Rattle.rotation_order.proofs.Circuits.{alone, after_out}
-use Rattle.sound_splits.specs.Fits.{FitsMerge}
+use Rattle.sound_changes.specs.ChangeFits.{FitsMerge}
 
 module _ (v : View) (w : VertexId) (s : IsGraphSound v) (d n : DartId) (f : FitsMerge v w d n) where
   abbrev t : DartId
@@ -20,12 +20,6 @@ module _ (v : View) (w : VertexId) (s : IsGraphSound v) (d n : DartId) (f : Fits
 
   pub vertex_has : HasVertex v w
   vertex_has = subst (HasVertex v) f.leaves (s.linked.source n f.second)
-
-  n_out : IsOutOf v w n
-  n_out = (f.second, f.leaves)
-
-  t_out : IsOutOf v w t
-  t_out = (t_has, f.arrives)
 
   t_reaches : target_in v t ≡ source_in v d
   t_reaches = ap (source_in v) (s.twinned.back d f.first)

@@ -7,8 +7,8 @@ use Rattle.slab_laws.specs.declared.names.VertexId.{VertexId}
 use Rattle.slab_laws.specs.Sound.{IsGraphSound}
 use Rattle.slab_laws.specs.View.{View, HasVertex, HasDart}
 use Rattle.arr_notes.specs.Step.{split_edge}
-use Rattle.sound_splits.specs.Fits.{FitsSplit}
-use Rattle.sound_splits.proofs.Splits.{split_sound}
+use Rattle.sound_changes.specs.ChangeFits.{FitsSplit}
+use Rattle.sound_changes.proofs.Splits.{split_sound}
 use Rattle.edge_split_merge.specs.Splits.{CanSplit}
 
 module _ (v : View) (d : DartId) (w : VertexId) (p : Point) (n m : DartId) (s : IsGraphSound v) (f : CanSplit v d p) (k : IsPoint p) (nw : ¬ HasVertex v w) (nn : ¬ HasDart v n) (nm : ¬ HasDart v m) (ne : n ≢ m) where

@@ -1,18 +1,18 @@
 -- What the writers of two edges in one make of a view.
-use Rattle.std.proofs.Common.{◌≡◌, ◌≢◌, ◌⊎◌, ◌==◌, inl, inr, cond, Option, Some, None, sym, ap, subst, ◌∙◌}
-use Rattle.std.proofs.lemmas.Bool.{cases_eq}
+use Rattle.std.proofs.Common.{◌≡◌, ◌≢◌, ◌==◌, inl, inr, cond, Some, None, sym, ap, subst, ◌∙◌}
 use Rattle.slab_laws.specs.declared.names.DartId.{DartId}
 use Rattle.slab_laws.specs.declared.names.VertexId.{VertexId}
 use Rattle.slab_laws.specs.Sound.{IsGraphSound, IsNamed}
-use Rattle.slab_laws.specs.View.{View, HasVertex, HasDart, IsOutOf, dart_id, source_in, twin_in, next_in, target_in}
-use Rattle.view_changes.specs.Reads.{IsRelinked, IsPairLess, IsSourceSet}
-use Rattle.view_changes.specs.Writers.{with_next, with_source, without_pair, without_vertex, redirect}
-use Rattle.view_changes.proofs.Darts.{next_is_set, source_is_set}
-use Rattle.view_changes.proofs.Pairs.{pair_is_removed, names_stay}
-use Rattle.view_changes.proofs.Redirected.{one_is_redirected}
+use Rattle.slab_laws.specs.View.{View, HasVertex, HasDart, IsOutOf, source_in, twin_in, next_in, target_in}
+use Rattle.arr_notes.specs.Reads.{IsRelinked, IsPairLess, IsSourceSet}
+use Rattle.arr_notes.specs.ViewChanges.{with_next, with_source, without_pair, without_vertex, redirect}
+use Rattle.arr_notes.proofs.DartReads.{next_is_set, source_is_set}
+use Rattle.arr_notes.proofs.PairReads.{pair_is_removed, names_stay}
+use Rattle.arr_notes.proofs.Redirected.{one_is_redirected}
 use Rattle.dcel_records.specs.Outs.{IsRest}
 use Rattle.arr_notes.specs.Step.{merge_edge}
-use Rattle.sound_splits.specs.Fits.{FitsMerge}
+use Rattle.arr_notes.proofs.Names.{cases_dart}
+use Rattle.sound_changes.specs.ChangeFits.{FitsMerge}
 use Rattle.edge_split_merge.proofs.Meeting.{vertex_has, two_out, far_apart}
 
 -- but for followers, h is v where t leaves u
@@ -43,8 +43,6 @@ moved v g1 g2 g3 x t d b u a ht e1 e2 e3 =
     }
 
 -- ---- the first write
-pub relinked : (v g : View) (x t : DartId) → g ≡ with_next v x t → IsRelinked v g
-relinked v g x t e = subst (λ z. IsRelinked v z) (sym e) (next_is_set v x t).relinked
 
 pub still_out : (v g : View) → IsRelinked v g → (w : VertexId) (k : DartId) → IsOutOf v w k → IsOutOf g w k
 still_out v g r w k o = (r.has k o.0, r.source k ∙ o.1)
@@ -53,13 +51,6 @@ pub source_kept : (v g h : View) (t d : DartId) (u : VertexId) → IsRelinked v 
 source_kept v g h t d u r e o = subst (λ z. HasDart z d) (sym e) ((source_is_set g t u).has d (r.has d o))
 
 -- ---- the darts out of w and of the far end
-either : (k t : DartId) → (k ≡ t) ⊎ (k ≢ t)
-either k t = elim (cases_eq k.0 t.0) [ inl q ↦ inl (ap dart_id q) | inr ne ↦ inr (λ q. ne (ap (λ z. z.0) q)) ]
-
--- the dart of a place, or another where there is none
-abbrev one_of : Option DartId → DartId → DartId
-one_of None y = y
-one_of (Some x) y = x
 
 module _ (v : View) (w : VertexId) (d n : DartId) (s : IsGraphSound v) (f : FitsMerge v w d n) (t m : DartId) (u : VertexId) (qt : t ≡ twin_in v d) (qm : m ≡ twin_in v n) (qu : u ≡ source_in v m) where
   pub twin_out : IsOutOf v w t
@@ -95,7 +86,7 @@ module _ (v : View) (w : VertexId) (d n : DartId) (s : IsGraphSound v) (f : Fits
 
     -- n alone leaves w now
     only_n : (k : DartId) → HasDart h k → source_in h k ≡ w → k ≡ n
-    only_n k o q = elim (either k t) [
+    only_n k o q = elim (cases_dart k t) [
       | inl e ↦ absurd (u_w (sym i.source ∙ ap (source_in h) (sym e) ∙ q))
       | inr ne ↦ elim (f.only k (i.had k o) (sym (i.others k ne) ∙ q)) [ inl e ↦ e | inr e ↦ absurd (ne (e ∙ sym qt)) ]
     ]
@@ -106,7 +97,7 @@ module _ (v : View) (w : VertexId) (d n : DartId) (s : IsGraphSound v) (f : Fits
     pub twin_left : IsRest h (twin_in h n) (Some t)
     twin_left = record {
       some = λ e q.
-          let r : t ≡ e = ap (λ o. one_of o e) q in
+          let r : t ≡ e = cc in
           subst (λ z. IsOutOf h (source_in h (twin_in h n)) z × (z ≢ twin_in h n)) r ((i.has t twin_out.0, i.source ∙ sym m_source), λ p. m_t (sym (p ∙ m_is)));
       none = λ q. absurd (cc);
     }

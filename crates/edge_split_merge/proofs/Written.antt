@@ -6,17 +6,17 @@ use Rattle.slab_laws.specs.declared.names.DartId.{DartId}
 use Rattle.slab_laws.specs.declared.names.VertexId.{VertexId}
 use Rattle.slab_laws.specs.Sound.{IsGraphSound, IsNamed}
 use Rattle.slab_laws.specs.View.{View, DartRecord, HasVertex, HasDart, IsOutOf, source_in, twin_in, next_in, line_in}
-use Rattle.view_changes.specs.Reads.{IsVertexMore, IsPairMore, IsRelinked}
-use Rattle.view_changes.specs.Writers.{with_vertex, with_pair, with_next, with_source, redirect}
-use Rattle.view_changes.proofs.Darts.{next_is_set, source_is_set}
-use Rattle.view_changes.proofs.Pairs.{pair_is_added, names_stay}
-use Rattle.view_changes.proofs.Redirected.{one_is_redirected}
-use Rattle.view_changes.proofs.Vertices.{vertex_is_added}
+use Rattle.arr_notes.specs.Reads.{IsVertexMore, IsPairMore, IsRelinked}
+use Rattle.arr_notes.specs.ViewChanges.{with_vertex, with_pair, with_next, with_source, redirect}
+use Rattle.arr_notes.proofs.DartReads.{next_is_set, source_is_set}
+use Rattle.arr_notes.proofs.PairReads.{pair_is_added, names_stay}
+use Rattle.arr_notes.proofs.Redirected.{one_is_redirected}
+use Rattle.arr_notes.proofs.VertexReads.{vertex_is_added}
 use Rattle.dcel_records.specs.Edges.{lone_dart, with_edge}
 use Rattle.arr_notes.specs.Step.{split_edge}
-use Rattle.view_changes.proofs.Written.{first_follows, second_follows, beside_follows}
+use Rattle.arr_notes.proofs.NamesWritten.{first_follows, second_follows, beside_follows}
 
--- ---- a vertex more
+-- ---- one more vertex
 module _ (v g : View) (w : VertexId) (p : Point) (e : g ≡ with_vertex v w p) where
   more : IsVertexMore v g w p
   more = subst (λ z. IsVertexMore v z w p) (sym e) (vertex_is_added v w p)

@@ -5,7 +5,7 @@ use Rattle.slab_laws.specs.declared.names.VertexId.{VertexId}
 use Rattle.slab_laws.specs.View.{View}
 use Rattle.arr_notes.specs.declared.change.Change.{Change}
 use Rattle.arr_notes.specs.declared.change.Change.TheVariants.{MergeEdge}
-use Rattle.sound_splits.specs.Fits.{FitsMerge}
+use Rattle.sound_changes.specs.ChangeFits.{FitsMerge}
 
 -- two edges on one line end at w, one coming in from its lower end and one going on to its upper, and no other (CGAL manual, `merge_edge`)
 abbrev pub CanMerge : View → VertexId → Type 0

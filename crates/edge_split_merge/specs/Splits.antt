@@ -1,4 +1,4 @@
--- When an edge may go in two at a point, and the change that tells of it.
+-- When an edge may be split at a point, and the change that tells of it.
 use Rattle.std.specs.Prelude.{◌≡◌, ◌≢◌, true}
 use Rattle.exact_plane.specs.Point.{Point}
 use Rattle.slab_laws.specs.declared.names.DartId.{DartId}
@@ -15,7 +15,7 @@ pub record CanSplit (v : View) (d : DartId) (p : Point) : Type 0 where
   pub forward : (dart_in v d).forward ≡ true
   pub inside_edge : inside (edge_in v d) p ≡ true
 
--- the change tells of the edge of d in two at p, by a name for the vertex and two for the darts of the upper part (this project)
+-- the change tells of the edge of d, split at p, by a name for the vertex and two for the darts of the upper part (this project)
 abbrev pub TellsOfSplit : Change → DartId → Point → Type 0
 TellsOfSplit c d p = (w : VertexId) × (n : DartId) × (m : DartId) × (c ≡ SplitEdge d w p n m)
 

@@ -1,14 +1,14 @@
 ghost use Rattle.std.specs.Prelude.{◌≡◌};
 ghost use Rattle.slab_laws.specs.Sound.{IsGraphSound};
-ghost use Rattle.dcel_records.specs.Held.{IsSpare};
+ghost use Rattle.dcel_records.specs.RecordsView.{IsSpare};
 ghost use Rattle.arr_notes.specs.Step.{step};
-ghost use Rattle.sound_splits.specs.Fits.{FitsMerge};
+ghost use Rattle.sound_changes.specs.ChangeFits.{FitsMerge};
 ghost use Rattle.edge_split_merge.specs.Merges.{CanMerge, TellsOfMerge};
 
 use crate::parting::onward;
 use arr_notes::Change;
 use dcel_records::Records;
-use rotation_order::before;
+use rotation_order::previous_around_source;
 use slab_laws::{DartId, Darts, VertexId};
 
 // The dart that comes into the vertex from the lower end of one edge, and the dart that goes on to the upper end of the other.
@@ -46,7 +46,7 @@ pub fn merge(records: &mut Records, v: VertexId) -> Change
     let t = records.twin(d);
     let m = records.twin(n);
     // Where m is alone at its end, n itself comes in before it; what is written there goes with n.
-    let before_m = before(records, m);
+    let before_m = previous_around_source(records, m);
     let into_m = records.twin(before_m);
     let follower = records.next(n);
     let beyond = onward(follower, m, t);

@@ -1,13 +1,13 @@
 ghost use Rattle.std.specs.Prelude.{◌≡◌, ◌≤◌, ◌==◌, cond};
 ghost use Rattle.slab_laws.specs.Sound.{IsGraphSound};
-ghost use Rattle.dcel_records.specs.Held.{IsSpare};
+ghost use Rattle.dcel_records.specs.RecordsView.{IsSpare};
 ghost use Rattle.arr_notes.specs.Step.{step};
 ghost use Rattle.edge_split_merge.specs.Splits.{CanSplit, TellsOfSplit, NamesNewPlace};
 
 use arr_notes::Change;
 use dcel_records::Records;
 use exact_plane::Point;
-use rotation_order::before;
+use rotation_order::previous_around_source;
 use slab_laws::{DartId, Darts};
 
 // What follows a dart that ends where another did: what followed that one, or, where this was its twin, the twin's new name.
@@ -17,7 +17,7 @@ pub(crate) fn onward(follower: DartId, twin: DartId, new_twin: DartId) -> DartId
     if follower == twin { new_twin } else { follower }
 }
 
-/// The edge of the dart, which goes from its lower to its upper end, goes in two at a new vertex at the point: the dart and
+/// The edge of the dart, which goes from its lower to its upper end, is split at a new vertex at the point: the dart and
 /// its twin keep the lower part (CGAL manual, `split_edge`).
 pub fn split(records: &mut Records, d: DartId, p: Point) -> Change
     requires sound { IsGraphSound records.old.graph }
@@ -34,7 +34,7 @@ pub fn split(records: &mut Records, d: DartId, p: Point) -> Change
     let _weight = p.w();
     let t = records.twin(d);
     // Where the twin is alone at its end, the dart itself comes in before it, and its follower is written last.
-    let before_t = before(records, t);
+    let before_t = previous_around_source(records, t);
     let into_t = records.twin(before_t);
     let follower = records.next(d);
     let end = records.source(t);

@@ -4,14 +4,14 @@ use Rattle.std.proofs.lemmas.Bool.{cases_eq}
 use Rattle.slab_laws.specs.declared.names.DartId.{DartId}
 use Rattle.slab_laws.specs.Sound.{IsGraphSound}
 use Rattle.slab_laws.specs.View.{View, HasDart, dart_id, source_in, twin_in, next_in, target_in}
-use Rattle.view_changes.specs.Reads.{IsRelinked, IsNextSet}
-use Rattle.view_changes.specs.Writers.{with_next, without_pair, redirect}
-use Rattle.view_changes.proofs.Darts.{next_is_set}
-use Rattle.view_changes.proofs.Pairs.{names_stay}
-use Rattle.view_changes.proofs.Redirected.{one_is_redirected}
+use Rattle.arr_notes.specs.Reads.{IsRelinked, IsNextSet}
+use Rattle.arr_notes.specs.ViewChanges.{with_next, without_pair, redirect}
+use Rattle.arr_notes.proofs.DartReads.{next_is_set}
+use Rattle.arr_notes.proofs.PairReads.{names_stay}
+use Rattle.arr_notes.proofs.Redirected.{one_is_redirected, relinked}
 use Rattle.dcel_records.specs.Outs.{IsRest}
 use Rattle.arr_notes.specs.Step.{remove_edge}
-use Rattle.view_changes.specs.Around.{after_in}
+use Rattle.arr_notes.specs.AfterAround.{after_in}
 
 -- the two darts that come in before d and before its twin m get the followers of m and of d
 abbrev pub closed : View → DartId → DartId → DartId → View
@@ -63,7 +63,7 @@ module _ (v : View) (d in_d in_m : DartId) (s : IsGraphSound v) (has : HasDart v
   closed_up : without_pair (closed v d in_d in_m) d (twin_in v d) ≡ remove_edge v d (twin_in v d)
   closed_up = sym (ap (λ z. without_pair (redirect z (twin_in v d) (next_in v d)) d (twin_in v d)) first ∙ ap (λ z. without_pair z d (twin_in v d)) second)
 
-  -- what is left without both darts is the view with an edge fewer
+  -- what is left without both darts is the view with one edge fewer
   pub edge_gone : (h j : View) → h ≡ closed v d in_d in_m → IsRelinked v h → j ≡ without_pair h d (twin_in h d) → j ≡ remove_edge v d (twin_in v d)
   edge_gone h j e k f = f ∙ ap (λ z. without_pair h d z) (k.twin d) ∙ ap (λ z. without_pair z d (twin_in v d)) e ∙ closed_up
 
@@ -92,10 +92,6 @@ relinked_twice f g h a b = record {
   vertices = λ w. let p = a.vertices w in let q = b.vertices w in record { has = λ o. q.has (p.has o); had = λ o. p.had (q.had o); point = q.point ∙ p.point; pinned = q.pinned ∙ p.pinned };
 }
 
--- a dart was given another follower
-pub once_kept : (v g : View) (a x : DartId) → g ≡ with_next v a x → IsRelinked v g
-once_kept v g a x e = subst (λ z. IsRelinked v z) (sym e) (next_is_set v a x).relinked
-
 -- two darts were given other followers
 pub kept : (v g h : View) (a x b y : DartId) → g ≡ with_next v a x → h ≡ with_next g b y → IsRelinked v h
-kept v g h a x b y e f = relinked_twice v g h (once_kept v g a x e) (once_kept g h b y f)
+kept v g h a x b y e f = relinked_twice v g h (relinked v g a x e) (relinked g h b y f)

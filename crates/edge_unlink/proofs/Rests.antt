@@ -4,7 +4,7 @@ use Rattle.slab_laws.specs.declared.names.DartId.{DartId}
 use Rattle.slab_laws.specs.Sound.{IsGraphSound}
 use Rattle.slab_laws.specs.View.{View, HasDart, IsOutOf, source_in}
 use Rattle.dcel_records.specs.Outs.{IsRest}
-use Rattle.view_changes.specs.Around.{after_in}
+use Rattle.arr_notes.specs.AfterAround.{after_in}
 use Rattle.rotation_order.proofs.Circuits.{after_out, alone}
 
 module _ (v : View) (s : IsGraphSound v) (d : DartId) (has : HasDart v d) where

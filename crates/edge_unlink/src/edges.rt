@@ -1,14 +1,14 @@
 ghost use Rattle.std.specs.Prelude.{◌≡◌};
 ghost use Rattle.slab_laws.specs.Sound.{IsGraphSound};
 ghost use Rattle.slab_laws.specs.View.{HasDart, twin_in};
-ghost use Rattle.dcel_records.specs.Held.{IsSpare};
+ghost use Rattle.dcel_records.specs.RecordsView.{IsSpare};
 ghost use Rattle.arr_notes.specs.declared.change.Change.TheVariants.{RemoveEdge};
 ghost use Rattle.arr_notes.specs.Step.{step};
 
 use crate::rounds::rest_of;
 use arr_notes::Change;
 use dcel_records::Records;
-use rotation_order::before;
+use rotation_order::previous_around_source;
 use slab_laws::{DartId, Darts};
 
 /// The edge of the dart goes, and the darts round both its ends close up (CGAL manual, `remove_edge`).
@@ -22,8 +22,8 @@ pub fn unlink(records: &mut Records, d: DartId) -> Change
 {
     let m = records.twin(d);
     // A dart that is alone at its end is the dart before itself; what is written there is then what stood there.
-    let before_d = before(records, d);
-    let before_m = before(records, m);
+    let before_d = previous_around_source(records, d);
+    let before_m = previous_around_source(records, m);
     let into_d = records.twin(before_d);
     let into_m = records.twin(before_m);
     let after_d = records.next(m);

@@ -1,4 +1,4 @@
-//! An edge fewer in the records of a doubly-connected edge list.
+//! One edge fewer in the records of a doubly-connected edge list.
 #![tactic(auto)]
 
 mod edges;

@@ -9,9 +9,10 @@ use Rattle.plane_graphs.specs.Graph.{Mark, Graph, mark_cmp, is_at, same_curve}
 use Rattle.edit_steps.specs.Steps.{AddCurve, AddEdge, RemoveCurve, RemoveEdge, apply, run, more_step, less_step}
 use Rattle.edit_steps.specs.Allowed.{IsSound, AreSound}
 use Rattle.plane_graphs.proofs.Ascending.{ascending_unique, IsAscending-place, All-member}
-use Rattle.plane_graphs.proofs.Lists.{both, and_in, not_out, not_in, clash, of_place, in_place, any_none, in_filter, of_filter, IsAscending-filter}
+use Rattle.plane_graphs.proofs.Lists.{and_in, not_out, not_in, clash, of_place, in_place, any_none, in_filter, of_filter, IsAscending-filter}
 use Rattle.plane_graphs.proofs.Order.{same_out, same_in, curve_in, curve_out, mark_cmp_total, mark_cmp_exact}
 use Rattle.plane_graphs.proofs.Marks.{mark_path}
+use Rattle.exact_plane.specs.PointOrderLaws.{and_true}
 
 -- ---- marks put in, one after the other
 abbrev pub with_marks : Graph → List Mark → Graph
@@ -83,8 +84,8 @@ this m n = is_at m.low m.high n && same_curve n.curve m.curve
 
 pub this_out : (m n : Mark) → this m n ≡ true → n ≡ m
 this_out m n h =
-    let a = both (is_at m.low m.high n) (same_curve n.curve m.curve) h in
-    let b = both (same_point n.low m.low) (same_point n.high m.high) a.0 in
+    let a = and_true (is_at m.low m.high n) (same_curve n.curve m.curve) h in
+    let b = and_true (same_point n.low m.low) (same_point n.high m.high) a.0 in
     mark_path n m.low m.high m.curve (same_out n.low m.low b.0) (same_out n.high m.high b.1) (curve_out n.curve m.curve a.1)
 
 pub this_in : (m n : Mark) → n ≡ m → this m n ≡ true

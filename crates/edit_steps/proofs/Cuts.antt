@@ -1,22 +1,23 @@
 -- The pieces that a cut leaves.
 use Rattle.std.proofs.Common.{◌≡◌, List, [], ◌∷◌, Bool, true, false, cond, not, ◌&&◌, refl, sym, ap, ap₂, ◌∙◌, subst, inl, inr, ◌⊎◌, ⊎_elim}
-use Rattle.plane_graphs.specs.Graph.{collinear}
+use Rattle.plane_graphs.specs.Graph.{collinear, Mark, mark_cmp, is_at, marks, vertices}
 use Rattle.std.specs.List.{flat_map, filter}
 use Rattle.exact_plane.specs.Point.{Point}
 use Rattle.plane_graphs.specs.Line.{precedes, same_point, are_parallel, crossing, IsProper}
 use Rattle.exact_plane.specs.Segment.{line_of_segment}
+use Rattle.exact_plane.specs.PointOrderLaws.{and_true}
 use Rattle.plane_graphs.specs.Piece.{Piece, Present, along, on}
-use Rattle.plane_graphs.specs.Graph.{Mark, mark_cmp, is_at, marks, vertices}
 use Rattle.edit_steps.specs.Steps.{cut_piece, with_cut}
 use Rattle.plane_graphs.specs.Fit.{IsFit, IsFitPiece}
 use Rattle.plane_graphs.specs.Ascending.{Member}
 use Rattle.plane_graphs.proofs.Ascending.{ascending_unique}
-use Rattle.plane_graphs.proofs.Lists.{both, and_in, not_out, not_in, not_true, clash, decide, of_flat_map, in_flat_map, in_filter, of_filter, in_left, in_right, in_either, if_out, if_true, if_false, one_if, if_one, IsAscending-filter}
+use Rattle.plane_graphs.proofs.Lists.{and_in, not_out, not_in, clash, decide, of_flat_map, in_flat_map, in_filter, of_filter, in_left, in_right, in_either, if_out, if_true, if_false, one_if, if_one, IsAscending-filter}
 use Rattle.plane_graphs.proofs.Order.{Lt, lt_in, lt_out, same_out, same_in, mark_cmp_total}
 use Rattle.plane_graphs.proofs.Marks.{Le, le_same, le_lt, le_trans, lt_le_lt, le_lt_lt, le_both, On, on_out, on_in, IsMark, mark_out, mark_in, marks_ascend}
 use Rattle.plane_graphs.proofs.Closed.{IsClosed, mark_line}
 use Rattle.plane_graphs.proofs.Vertices.{IsVertex, IsCrossing, vertex_in, vertex_out}
 use Rattle.plane_graphs.proofs.Vertices.IsVertex.{begins, finishes, pinned, crossed}
+use Rattle.integers.proofs.Tests.{not_true}
 
 -- where a piece after the cut comes from
 pub data Source (a b : Point) (ks : List Piece) (j : Piece) : Type 0 where
@@ -30,7 +31,7 @@ source_out a b ks j h =
     let w = of_flat_map (cut_piece a b) j ks h in
     let k = w.0 in
     ⊎_elim
-    (λ v. let o = both (on k a) (on k b) v.0 in
+    (λ v. let o = and_true (on k a) (on k b) v.0 in
     ⊎_elim
     (λ m. let e = one_if (precedes k.from a) j (record k { to = a }) m in under k w.1 (on_out k a o.0) (on_out k b o.1) (lt_out k.from a e.0) e.1)
     (λ m. let e = one_if (precedes b k.to) j (record k { from = b }) m in over k w.1 (on_out k a o.0) (on_out k b o.1) (lt_out b k.to e.0) e.1)
@@ -40,7 +41,7 @@ source_out a b ks j h =
 
 pub source_in : (a b : Point) (ks : List Piece) (j : Piece) → Source a b ks j → Member j (flat_map (cut_piece a b) ks)
 unfolding cut_piece
-source_in a b ks j (whole h f) = in_flat_map (cut_piece a b) j j ks h (if_false (on j a && on j b) j _ _ (not_true (on j a && on j b) (λ e. let o = both (on j a) (on j b) e in f (on_out j a o.0) (on_out j b o.1))) (inl refl))
+source_in a b ks j (whole h f) = in_flat_map (cut_piece a b) j j ks h (if_false (on j a && on j b) j _ _ (not_true (on j a && on j b) (λ e. let o = and_true (on j a) (on j b) e in f (on_out j a o.0) (on_out j b o.1))) (inl refl))
 source_in a b ks j (under k h x y l e) = in_flat_map (cut_piece a b) k j ks h (if_true (on k a && on k b) j _ _ (and_in (on_in k a x) (on_in k b y)) (in_left j (cond (precedes k.from a) (record k { to = a } ∷ []) []) _ (if_one (precedes k.from a) j (record k { to = a }) (lt_in l) e)))
 source_in a b ks j (over k h x y l e) = in_flat_map (cut_piece a b) k j ks h (if_true (on k a && on k b) j _ _ (and_in (on_in k a x) (on_in k b y)) (in_right j (cond (precedes k.from a) (record k { to = a } ∷ []) []) _ (if_one (precedes b k.to) j (record k { from = b }) (lt_in l) e)))
 
@@ -104,7 +105,7 @@ module _ (vs : List Point) (ks : List Piece) (cl : IsClosed vs ks) (a b : Point)
 
   -- no mark of what is left is at the edge
   not_at : (m : Mark) (j : Piece) → On j m.low → On j m.high → Source a b ks j → is_at a b m ≡ true → ⊥
-  not_at m j x y s e = by s (both (same_point m.low a) (same_point m.high b) e)
+  not_at m j x y s e = by s (and_true (same_point m.low a) (same_point m.high b) e)
     where
       by : Source a b ks j → (same_point m.low a ≡ true) × (same_point m.high b ≡ true) → ⊥
       by (whole h f) g = f (subst (On j) (same_out m.low a g.0) x) (subst (On j) (same_out m.high b g.1) y)
@@ -151,7 +152,7 @@ module _ (vs : List Point) (ks : List Piece) (cl : IsClosed vs ks) (a b : Point)
 
       by : (c : Bool) → on h.piece a && on h.piece b ≡ c → IsMark vs (flat_map (cut_piece a b) ks) m
       by true e =
-          let o = both (on h.piece a) (on h.piece b) e in
+          let o = and_true (on h.piece a) (on h.piece b) e in
           let x = on_out h.piece a o.0 in
           let y = on_out h.piece b o.1 in
           ⊎_elim

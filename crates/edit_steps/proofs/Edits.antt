@@ -151,7 +151,7 @@ module _ (geo : Geometry) where
         apart = λ m n h. absurd h;
       }
 
-  -- ---- a piece more
+  -- ---- one more piece
   pub segment_leads : (p : Present) (k : Piece) → IsFit (with_piece p k) → ((j : Piece) → Member j p.pieces → j.curve ≡ k.curve → ⊥) → Leads (segment_steps p k) (graph p) (graph (with_piece p k))
   unfolding segment_steps graph
   segment_leads p k fit fresh =

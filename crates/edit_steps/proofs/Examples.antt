@@ -31,7 +31,7 @@ abbrev segment : Point → Point → Segment
 segment p q = record { lower = p; upper = q }
 
 -- a whole segment, of the curve c
-abbrev piece : ℕ → Point → Point → Piece
+abbrev piece : (c : ℕ) (p q : Point) → Piece
 piece c p q = record { curve = c; segment = segment p q; from = p; to = q }
 
 -- a segment across another

@@ -1,5 +1,5 @@
 -- Many vertices more, or less.
-use Rattle.std.proofs.Common.{◌≡◌, List, [], ◌∷◌, not, refl, sym, ap, ◌∙◌, subst, inl, inr, ◌⊎◌, ⊎_elim}
+use Rattle.std.proofs.Common.{◌≡◌, List, [], ◌∷◌, not, refl, sym, ap, ◌∙◌, subst, inl, inr, ◌⊎◌, ⊎_elim, ◌++◌}
 use Rattle.std.specs.List.{list_any}
 use Rattle.exact_plane.specs.Point.{Point}
 use Rattle.exact_plane.specs.PointOrder.{point_cmp}
@@ -7,8 +7,8 @@ use Rattle.exact_plane.specs.PointOrderLaws.{point_cmp_total}
 use Rattle.plane_graphs.specs.Line.{same_point, IsProper}
 use Rattle.plane_graphs.specs.Ascending.{place, Member, IsAscending}
 use Rattle.plane_graphs.specs.Piece.{Piece}
-use Rattle.plane_graphs.specs.Graph.{graph_over, marks}
-use Rattle.edit_steps.specs.Steps.{points_without, apply, run, vertex_step_by, vertex_steps, tidy_step, tidy_steps, missing_points}
+use Rattle.plane_graphs.specs.Graph.{graph_over, marks, Graph}
+use Rattle.edit_steps.specs.Steps.{points_without, apply, run, vertex_step_by, vertex_steps, tidy_step, tidy_steps, missing_points, Step}
 use Rattle.edit_steps.specs.Allowed.{IsSound, AreSound}
 use Rattle.plane_graphs.proofs.Ascending.{ascending_unique, IsAscending-place, All-member}
 use Rattle.plane_graphs.proofs.Lists.{not_out, not_in, clash, decide, any_out, any_none, in_filter, of_filter, IsAscending-filter}
@@ -17,6 +17,7 @@ use Rattle.plane_graphs.proofs.Closed.{IsClosed}
 use Rattle.plane_graphs.proofs.Inner.{old_or, old_in, new_in}
 use Rattle.edit_steps.proofs.Split.{vertex_step}
 use Rattle.edit_steps.proofs.Tidy.{vertex_less}
+use Rattle.edit_steps.specs.Edits.{steps}
 
 -- more points do no harm
 pub closed_more : (vs ws : List Point) (ks : List Piece) → IsClosed vs ks → IsAscending point_cmp ws → ((p : Point) → Member p vs → Member p ws) → ((p : Point) → Member p ws → IsProper p) → IsClosed ws ks
@@ -119,3 +120,8 @@ module _ (ks : List Piece) (pins : List Point) where
         ap (λ z. run (tidy_steps rs z) z) e ∙ ih.0,
         (subst (λ z. IsSound (tidy_step r (graph_over z ks pins)) (graph_over z ks pins)) (sym same) (always ws c r (g r (inl refl)) new), subst (λ z. AreSound (tidy_steps rs z) z) (sym e) ih.1),
       )
+
+-- the first of sound steps are sound
+pub first_sound : (xs ys : List Step) (g : Graph) → AreSound (xs ++ ys) g → AreSound xs g
+first_sound [] ys g a = tt
+first_sound (x ∷ xs) ys g a = (a.0, first_sound xs ys (apply x g) a.1)

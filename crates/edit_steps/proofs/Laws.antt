@@ -10,14 +10,15 @@ use Rattle.plane_graphs.specs.Graph.{graph, same_curve}
 use Rattle.edit_steps.specs.Steps.{with_piece, with_pin}
 use Rattle.plane_graphs.specs.Fit.{IsFit, IsFitPiece}
 use Rattle.edit_steps.specs.Edits.{Edit, Insert, Drop, Cut, Pin, Unpin, Split, Merge, ClearAll, whole_piece, IsNew, IsAccepted, after, steps}
-use Rattle.edit_steps.specs.Laws.{EditsKeepFit, StepsMakeGraph, StepsAreSound}
+use Rattle.edit_steps.specs.EditLaws.{EditsKeepFit, StepsMakeGraph, StepsAreSound}
 use Rattle.plane_graphs.specs.Ascending.{Member}
 use Rattle.plane_graphs.proofs.Ascending.{IsAscending-place}
-use Rattle.plane_graphs.proofs.Lists.{any_none, any_out, not_true, in_either, of_place}
+use Rattle.plane_graphs.proofs.Lists.{any_none, any_out, in_either, of_place}
 use Rattle.plane_graphs.proofs.Order.{lt_out, lt_never, curve_in, same_itself, same_out}
 use Rattle.plane_graphs.proofs.Lines.{geometry, whole_is_proper, lower_on, upper_on, along_in}
 use Rattle.edit_steps.proofs.Edits.{Leads, segment_leads, pin_leads, unpin_leads, clear_leads, fit_unpin}
 use Rattle.edit_steps.proofs.Removals.{drop_leads, fit_drop, cut_leads, split_leads, merge_leads}
+use Rattle.integers.proofs.Tests.{not_true}
 
 not_before_itself : (q : Point) → precedes q q ≡ false
 not_before_itself q = not_true (precedes q q) (λ e. lt_never (lt_out q q e))

@@ -14,10 +14,11 @@ use Rattle.plane_graphs.specs.Fit.{IsFit}
 use Rattle.edit_steps.specs.Steps.{cut_piece}
 use Rattle.edit_steps.specs.Edits.{Edit, Insert, Drop, Cut, Pin, Unpin, Split, Merge, ClearAll, whole_piece, after, IsAccepted}
 use Rattle.edit_steps.specs.Layer.{Layer, layer_after, IsAcceptedBy, IsLawful, empty_layer, names_after, next_after}
-use Rattle.edit_steps.specs.Laws.{LayersAreLawful}
-use Rattle.plane_graphs.proofs.Lists.{any_out, not_true, in_either, in_left, in_right, in_filter, of_filter, of_flat_map, if_out, one_if, IsAscending-filter}
+use Rattle.edit_steps.specs.EditLaws.{LayersAreLawful}
+use Rattle.plane_graphs.proofs.Lists.{any_out, in_either, in_left, in_right, in_filter, of_filter, of_flat_map, if_out, one_if, IsAscending-filter}
 use Rattle.plane_graphs.proofs.Order.{curve_out}
 use Rattle.edit_steps.proofs.Laws.{keeps_fit, fit_empty}
+use Rattle.integers.proofs.Tests.{not_true}
 
 -- ---- names
 -- a number above all ends an ascending list

@@ -5,6 +5,7 @@ mod Examples
 pub mod Folds
 pub mod Laws
 pub mod Layers
+pub mod Refusals
 pub mod Removals
 pub mod Seen
 pub mod Sound

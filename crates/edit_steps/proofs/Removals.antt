@@ -4,7 +4,7 @@ use Rattle.std.specs.List.{list_any, flat_map, filter}
 use Rattle.std.specs.Prelude.{map}
 use Rattle.exact_plane.specs.Point.{Point}
 use Rattle.exact_plane.specs.PointOrder.{point_cmp}
-use Rattle.exact_plane.specs.PointOrderLaws.{point_cmp_total, same_point as point_cmp_exact}
+use Rattle.exact_plane.specs.PointOrderLaws.{point_cmp_total, same_point as point_cmp_exact, and_true}
 use Rattle.plane_graphs.specs.Line.{same_point, IsProper}
 use Rattle.plane_graphs.specs.Ascending.{place, Member}
 use Rattle.plane_graphs.specs.Piece.{Piece, Present, on}
@@ -15,7 +15,7 @@ use Rattle.plane_graphs.specs.Fit.{IsFit}
 use Rattle.edit_steps.specs.Allowed.{IsAllowed}
 use Rattle.edit_steps.proofs.Sound.{less_sound}
 use Rattle.plane_graphs.proofs.Ascending.{IsAscending-place}
-use Rattle.plane_graphs.proofs.Lists.{both, not_out, not_in, clash, decide, of_place, in_place, any_in, any_out, any_none, in_filter, of_filter, IsAscending-filter, or_right}
+use Rattle.plane_graphs.proofs.Lists.{not_out, not_in, clash, decide, of_place, in_place, any_in, any_out, any_none, in_filter, of_filter, IsAscending-filter, or_right}
 use Rattle.plane_graphs.proofs.Order.{Lt, same_out, same_in, same_itself}
 use Rattle.plane_graphs.proofs.Marks.{On, on_out, mark_out, mark_in, marks_ascend}
 use Rattle.plane_graphs.proofs.Closed.{around}
@@ -59,7 +59,7 @@ module _ (geo : Geometry) where
   -- ---- an edge less
   module _ (p : Present) (fit : IsFit p) (a b : Point) (m : Mark) (h : Member m (marks (vertices p) p.pieces)) (e : is_at a b m ≡ true) where
     the_ends : (m.low ≡ a) × (m.high ≡ b)
-    the_ends = let w = both (same_point m.low a) (same_point m.high b) e in (same_out m.low a w.0, same_out m.high b w.1)
+    the_ends = let w = and_true (same_point m.low a) (same_point m.high b) e in (same_out m.low a w.0, same_out m.high b w.1)
 
     low_end : Member a (vertices p)
     low_end = subst (λ z. Member z (vertices p)) the_ends.0 (mark_out (vertices p) p.pieces m h).low_in
@@ -99,8 +99,8 @@ module _ (geo : Geometry) where
       let w = any_out (λ m. is_at a b m && inside r m) (marks vs ks) h in
       let m = w.0 in
       let g = mark_out vs ks m w.1 in
-      let c = both (is_at a b m) (inside r m) w.2 in
-      let d = both (same_point m.low a) (same_point m.high b) c.0 in
+      let c = and_true (is_at a b m) (inside r m) w.2 in
+      let d = and_true (same_point m.low a) (same_point m.high b) c.0 in
       let new : Member r vs → ⊥ = λ n. no_vertex_inside vs ks cl m g r n c.1 in
       let one : missing_points (r ∷ []) (vertices p) ≡ r ∷ [] = alone (λ q. not (list_any (same_point q) vs)) r (not_in (list_any (same_point r) vs) (λ e. let x = any_out (same_point r) vs e in new (subst (λ q. Member q vs) (sym (same_out r x.0 x.2)) x.1))) in
       let step : vertex_step_by r (marks vs ks) ≡ SplitEdge a b r =
@@ -115,7 +115,7 @@ module _ (geo : Geometry) where
   inside_free : (p : Present) → IsFit p → (a b r : Point) → list_any (λ m. is_at a b m && inside r m) (marks (vertices p) p.pieces) ≡ true → Member r (vertices p) → ⊥
   inside_free p fit a b r h n =
       let w = any_out (λ m. is_at a b m && inside r m) (marks (vertices p) p.pieces) h in
-      no_vertex_inside (vertices p) p.pieces (vertices_closed geo p fit) w.0 (mark_out (vertices p) p.pieces w.0 w.1) r n (both (is_at a b w.0) (inside r w.0) w.2).1
+      no_vertex_inside (vertices p) p.pieces (vertices_closed geo p fit) w.0 (mark_out (vertices p) p.pieces w.0 w.1) r n (and_true (is_at a b w.0) (inside r w.0) w.2).1
 
   pub split_leads : (p : Present) → IsFit p → (a b r : Point) → IsProper r → list_any (λ m. is_at a b m && inside r m) (graph p).marks ≡ true → Leads (split_steps a b r) (graph p) (graph (with_pin p r))
   unfolding graph

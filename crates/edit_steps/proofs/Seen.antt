@@ -1,21 +1,21 @@
 -- What code can see at a vertex and along a piece.
 use Rattle.std.proofs.Common.{◌≡◌, List, [], ◌∷◌, true, false, not, ◌&&◌, ◌||◌, refl, sym, ap, ◌∙◌, subst, inl, inr, ◌⊎◌, ⊎_elim, ℤ, ◌*ℤ◌, int_cmp, is_eq, Ordering, Less, Equal, Greater}
-use Rattle.std.specs.Ordering.{ordering_reverse}
+use Rattle.std.specs.Ordering.{ordering_reverse, int_eq}
 use Rattle.std.proofs.lemmas.Cmp.{int_cmp_total, tied_itself}
-use Rattle.std.specs.Ordering.{int_eq}
 use Rattle.std.specs.List.{list_any}
 use Rattle.exact_plane.specs.Point.{Point}
 use Rattle.exact_plane.specs.PointOrder.{point_cmp}
 use Rattle.plane_graphs.specs.Line.{precedes, same_point, are_parallel, IsProper}
 use Rattle.exact_plane.specs.Segment.{line_of_segment}
+use Rattle.exact_plane.specs.PointOrderLaws.{and_true}
 use Rattle.plane_graphs.specs.Ascending.{place, Member, IsAscending}
 use Rattle.plane_graphs.specs.Piece.{Piece, Present, along, on}
-use Rattle.plane_graphs.specs.Graph.{Mark, Graph, graph, graph_over, marks, vertices, mark}
+use Rattle.plane_graphs.specs.Graph.{Mark, graph, graph_over, marks, vertices, mark}
 use Rattle.edit_steps.specs.Steps.{points_without, with_piece}
 use Rattle.plane_graphs.specs.Fit.{IsFit, IsFitPiece}
 use Rattle.edit_steps.specs.Allowed.{IsPassed}
-use Rattle.edit_steps.specs.Laws.{IsLoose, LooseIsNoVertex, PassesThrough, MeetingPoints}
-use Rattle.plane_graphs.proofs.Lists.{both, and_in, not_out, not_in, not_true, clash, decide, any_none, any_out, of_filter, or_left, or_right, in_either, in_left, in_right, IsAscending-filter, in_filter}
+use Rattle.edit_steps.specs.EditLaws.{IsLoose, LooseIsNoVertex, PassesThrough, MeetingPoints}
+use Rattle.plane_graphs.proofs.Lists.{and_in, not_out, not_in, clash, decide, any_none, any_out, of_filter, or_left, or_right, in_either, in_left, in_right, IsAscending-filter, in_filter}
 use Rattle.plane_graphs.proofs.Order.{Lt, lt_in, lt_out, lt_never, same_out, same_in, same_itself}
 use Rattle.plane_graphs.proofs.Marks.{le_same, le_lt, le_cases, lt_le_lt, On, on_out, on_in, on_between, IsMark, mark_out, mark_in}
 use Rattle.plane_graphs.proofs.Closed.{IsClosed, around, mark_line, inside_out, inside_in, first_passing, last_passing}
@@ -26,6 +26,7 @@ use Rattle.plane_graphs.proofs.Vertices.{IsVertex, IsProperPiece, proper_piece, 
 use Rattle.plane_graphs.proofs.Vertices.IsVertex.{begins, finishes, pinned, crossed}
 use Rattle.edit_steps.proofs.Edits.{vertices_more, fit_part}
 use Rattle.plane_graphs.proofs.Lines.{geometry, crossing_is}
+use Rattle.integers.proofs.Tests.{not_true}
 
 reversed_eq : (o : Ordering) → is_eq (ordering_reverse o) ≡ is_eq o
 reversed_eq Less = refl
@@ -51,7 +52,7 @@ module _ (p : Present) (fit : IsFit p) (vs : List Point) (cl : IsClosed vs p.pie
       let f = fit.piece k h in
       let at_to : on k k.to ≡ true = on_in k k.to (record { line = f.to_on; low = le_lt (lt_out k.from k.to f.forward); high = le_same k.to }) in
       let b = first_passing (λ v. precedes x v && on k v) vs (k.to, cl.to_in k h, and_in (lt_in l) at_to) in
-      let w = both (precedes x b.0) (on k b.0) b.1.passes in
+      let w = and_true (precedes x b.0) (on k b.0) b.1.passes in
       let q_on = on_out k b.0 w.1 in (
         mark x b.0 k.curve,
         record {
@@ -71,7 +72,7 @@ module _ (p : Present) (fit : IsFit p) (vs : List Point) (cl : IsClosed vs p.pie
       let f = fit.piece k h in
       let at_from : on k k.from ≡ true = on_in k k.from (record { line = f.from_on; low = le_same k.from; high = le_lt (lt_out k.from k.to f.forward) }) in
       let b = last_passing (λ v. precedes v x && on k v) vs (k.from, cl.from_in k h, and_in (lt_in l) at_from) in
-      let w = both (precedes b.0 x) (on k b.0) b.1.passes in
+      let w = and_true (precedes b.0 x) (on k b.0) b.1.passes in
       let q_on = on_out k b.0 w.1 in (
         mark b.0 x k.curve,
         record {
@@ -93,9 +94,6 @@ module _ (p : Present) (fit : IsFit p) (vs : List Point) (cl : IsClosed vs p.pie
       (λ e. let d = downwards k h o (lt_le_lt (subst (Lt k.from) (sym e) (lt_out k.from k.to (fit.piece k h).forward)) (le_same x)) in (d.0, d.1, inr d.2, d.3))
       (λ l. let d = upwards k h o l in (d.0, d.1, inl d.2, d.3))
       (le_cases x k.to o.high)
-
-  abbrev g : Graph
-  g = graph_over vs p.pieces p.pins
 
   module _ (s : IsPassed (graph_over vs p.pieces p.pins) x) where
     -- a piece that has a mark of the curve of k at x is k
@@ -204,7 +202,7 @@ module _ (p : Present) (k : Piece) (fit : IsFit (with_piece p k)) (x : Point) wh
         edge_in = mark_in (vertices p) p.pieces m is;
         within = inside_in x m b.below b.above (mark_line (vertices p) p.pieces cl m is x pt ∙ o.line);
         apart = not_true (along k b.low && along k b.high) (λ a.
-            let w = both (along k b.low) (along k b.high) a in
+            let w = and_true (along k b.low) (along k b.high) a in
             shares_two j k (proper_piece j (old_fit.piece j h)) (proper_piece k fit_k) e b.low b.high (cl.proper b.low b.low_in) (cl.proper b.high b.high_in) b.next.lt b.next.at_p.line b.next.at_q.line w.0 w.1);
       }
 

@@ -3,6 +3,7 @@ use Rattle.std.proofs.Common.{◌≡◌, ℕ, List, [], ◌∷◌, ◌++◌, Boo
 use Rattle.std.specs.List.{list_any, filter}
 use Rattle.exact_plane.specs.Point.{Point}
 use Rattle.exact_plane.specs.PointOrder.{point_cmp}
+use Rattle.exact_plane.specs.PointOrderLaws.{and_true}
 use Rattle.plane_graphs.specs.Line.{same_point, IsProper}
 use Rattle.plane_graphs.specs.Ascending.{place, Member}
 use Rattle.plane_graphs.specs.Piece.{Piece}
@@ -11,7 +12,7 @@ use Rattle.edit_steps.specs.Steps.{MergeEdge, RemoveVertex, AddCurve, AddEdge, R
 use Rattle.plane_graphs.specs.Plane.{IsPlane}
 use Rattle.edit_steps.specs.Allowed.{IsAllowed, IsSound, IsPassed}
 use Rattle.plane_graphs.proofs.Ascending.{IsAscending-place}
-use Rattle.plane_graphs.proofs.Lists.{both, and_in, not_out, not_true, of_place, any_in, any_out, any_none, of_filter, IsAscending-filter, in_right}
+use Rattle.plane_graphs.proofs.Lists.{and_in, not_out, of_place, any_in, any_out, any_none, of_filter, IsAscending-filter, in_right}
 use Rattle.plane_graphs.proofs.Order.{lt_in, same_out, same_itself, curve_out, mark_cmp_total, mark_cmp_exact}
 use Rattle.plane_graphs.proofs.Marks.{mark_path, mark_out, mark_in}
 use Rattle.plane_graphs.proofs.Closed.{IsClosed, mark_line}
@@ -21,6 +22,7 @@ use Rattle.edit_steps.proofs.Tidy.{touches, passed, ends_there, starts_there, ve
 use Rattle.edit_steps.proofs.Folds.{closed_place}
 use Rattle.plane_graphs.proofs.Plane.{plane_over, plane_part}
 use Rattle.edit_steps.proofs.Changes.{with_marks, more_is, less_is, this, IsMidway, IsLeft}
+use Rattle.integers.proofs.Tests.{not_true}
 
 module _ (ks : List Piece) (pins : List Point) (vs : List Point) (cl : IsClosed vs ks) (r : Point) (pr : IsProper r) (new : Member r vs → ⊥) where
   vertex_allowed : IsAllowed (vertex_step_by r (marks vs ks)) (graph_over vs ks pins)
@@ -85,7 +87,7 @@ module _ (vs : List Point) (ks : List Piece) (k : Piece) (pins : List Point) (cl
     no_edge : list_any (is_at m.low m.high) (marks vs ks) ≡ false → (n : Mark) → Member n xs → is_at m.low m.high n ≡ true → ⊥
     no_edge e n i at =
         ⊎_elim (λ j. any_none (is_at m.low m.high) n (marks vs ks) e j at)
-        (λ j. let w = both (same_point n.low m.low) (same_point n.high m.high) at in j.1 (mark_path n m.low m.high m.curve (same_out n.low m.low w.0) (same_out n.high m.high w.1) (of_new n j.0 ∙ sym (of_new m h.here)))) (h.origin n i)
+        (λ j. let w = and_true (same_point n.low m.low) (same_point n.high m.high) at in j.1 (mark_path n m.low m.high m.curve (same_out n.low m.low w.0) (same_out n.high m.high w.1) (of_new n j.0 ∙ sym (of_new m h.here)))) (h.origin n i)
 
     more_allowed : IsAllowed (more_step (graph_over vs ks pins) m) (with_marks (graph_over vs ks pins) xs)
     unfolding IsAllowed more_step
@@ -118,7 +120,7 @@ module _ (vs : List Point) (ks : List Piece) (pins : List Point) (cl : IsClosed 
       by : (b : Bool) → list_any (λ n. is_at m.low m.high n && not (same_curve n.curve m.curve)) (marks vs ks) ≡ b → IsAllowed (cond b (RemoveCurve m.low m.high m.curve) (RemoveEdge m.low m.high)) (with_marks (graph_over vs ks pins) xs)
       by true e =
           let w = any_out (λ n. is_at m.low m.high n && not (same_curve n.curve m.curve)) (marks vs ks) e in
-          let v = both (is_at m.low m.high w.0) (not (same_curve w.0.curve m.curve)) w.2 in
+          let v = and_true (is_at m.low m.high w.0) (not (same_curve w.0.curve m.curve)) w.2 in
           let other : same_curve w.0.curve c ≡ false = ap (λ d. same_curve w.0.curve d) (sym (curve_out m.curve c of_c)) ∙ not_out (same_curve w.0.curve m.curve) v.1 in
           (h.here, any_in (λ n. is_at m.low m.high n && not (same_curve n.curve m.curve)) w.0 xs (h.kept w.0 (stays w.0 w.1 other)) w.2)
       by false e = any_in (is_at m.low m.high) m xs h.here at_itself

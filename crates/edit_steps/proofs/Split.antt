@@ -3,18 +3,20 @@ use Rattle.std.proofs.Common.{◌≡◌, List, [], ◌∷◌, Bool, true, false,
 use Rattle.std.specs.List.{flat_map}
 use Rattle.exact_plane.specs.Point.{Point}
 use Rattle.exact_plane.specs.PointOrder.{point_cmp}
+use Rattle.exact_plane.specs.PointOrderLaws.{and_true}
 use Rattle.plane_graphs.specs.Line.{same_point, IsProper}
 use Rattle.plane_graphs.specs.Ascending.{ascending, place, Member}
 use Rattle.plane_graphs.specs.Piece.{Piece}
 use Rattle.plane_graphs.specs.Graph.{Mark, mark_cmp, graph_over, is_at, marks, inside, collinear}
 use Rattle.edit_steps.specs.Steps.{AddVertex, SplitEdge, halves, apply, vertex_step_by}
 use Rattle.plane_graphs.proofs.Ascending.{ascending_unique, IsAscending-ascending}
-use Rattle.plane_graphs.proofs.Lists.{both, and_in, not_true, clash, of_ascending, in_ascending, of_flat_map, in_flat_map, if_out, if_true, if_false}
+use Rattle.plane_graphs.proofs.Lists.{and_in, clash, of_ascending, in_ascending, of_flat_map, in_flat_map, if_out, if_true, if_false}
 use Rattle.plane_graphs.proofs.Inner.{Inner, Kind, one_edge, inner_in, inner_out, low_half, high_half, stays, kind, new_in, vertex_added}
 use Rattle.plane_graphs.proofs.Inner.Kind.{lower, upper, old}
 use Rattle.plane_graphs.proofs.Order.{Lt, same_out, same_in, mark_cmp_total, mark_cmp_exact}
 use Rattle.plane_graphs.proofs.Marks.{IsMark, mark_out, mark_in, marks_ascend}
 use Rattle.plane_graphs.proofs.Closed.{IsClosed, mark_line}
+use Rattle.integers.proofs.Tests.{not_true}
 
 module _ (vs : List Point) (ks : List Piece) (cl : IsClosed vs ks) (r : Point) (pr : IsProper r) (new : Member r vs → ⊥) (m0 : Mark) (h0 : Inner vs ks r m0) where
   at_edge : (m : Mark) → Inner vs ks r m → is_at m0.low m0.high m ≡ true
@@ -22,7 +24,7 @@ module _ (vs : List Point) (ks : List Piece) (cl : IsClosed vs ks) (r : Point) (
 
   inner_at : (m : Mark) → IsMark vs ks m → is_at m0.low m0.high m ≡ true → Inner vs ks r m
   inner_at m h e =
-      let f = both (same_point m.low m0.low) (same_point m.high m0.high) e in
+      let f = and_true (same_point m.low m0.low) (same_point m.high m0.high) e in
       let a = same_out m.low m0.low f.0 in
       let b = same_out m.high m0.high f.1 in
       record {
@@ -68,7 +70,7 @@ unfolding vertex_step_by
 step_is r [] = inr ((λ n m e. m), refl)
 step_is r (m ∷ ms) = step_by r m ms (inside r m) refl (step_is r ms)
 
--- one vertex more: the step gives the graph over the points with r
+-- one more vertex: the step gives the graph over the points with r
 pub vertex_step : (vs : List Point) (ks : List Piece) (pins : List Point) → IsClosed vs ks → (r : Point) → IsProper r → (Member r vs → ⊥) → apply (vertex_step_by r (marks vs ks)) (graph_over vs ks pins) ≡ graph_over (place point_cmp r vs) ks pins
 unfolding apply
 vertex_step vs ks pins cl r pr new =

@@ -3,19 +3,20 @@ use Rattle.std.proofs.Common.{◌≡◌, List, Bool, true, false, cond, not, ◌
 use Rattle.std.specs.List.{list_any, flat_map}
 use Rattle.exact_plane.specs.Point.{Point}
 use Rattle.exact_plane.specs.PointOrder.{point_cmp}
-use Rattle.exact_plane.specs.PointOrderLaws.{point_cmp_total}
+use Rattle.exact_plane.specs.PointOrderLaws.{point_cmp_total, and_true}
 use Rattle.plane_graphs.specs.Line.{same_point, IsProper}
 use Rattle.plane_graphs.specs.Ascending.{ascending, place, Member, IsAscending}
 use Rattle.plane_graphs.specs.Piece.{Piece}
 use Rattle.plane_graphs.specs.Graph.{Mark, mark_cmp, graph_over, marks, inside, mark, same_curve}
 use Rattle.edit_steps.specs.Steps.{MergeEdge, RemoveVertex, marks_across, merged_marks, points_without, apply, tidy_step}
 use Rattle.plane_graphs.proofs.Ascending.{ascending_unique, IsAscending-ascending, IsAscending-place}
-use Rattle.plane_graphs.proofs.Lists.{both, and_in, not_out, not_in, not_true, clash, decide, of_ascending, in_ascending, of_flat_map, in_flat_map, if_out, if_true, if_false, one_if, if_one, or_right, or_out, any_out, any_none, in_filter, of_filter, IsAscending-filter}
+use Rattle.plane_graphs.proofs.Lists.{and_in, not_out, not_in, clash, decide, of_ascending, in_ascending, of_flat_map, in_flat_map, if_out, if_true, if_false, one_if, if_one, or_right, or_out, any_out, any_none, in_filter, of_filter, IsAscending-filter}
 use Rattle.plane_graphs.proofs.Order.{Lt, lt_never, same_out, same_in, curve_in, curve_out, mark_cmp_total, mark_cmp_exact}
 use Rattle.plane_graphs.proofs.Marks.{IsMark, mark_path, mark_out, mark_in, marks_ascend}
 use Rattle.plane_graphs.proofs.Closed.{IsClosed}
 use Rattle.plane_graphs.proofs.Inner.{Inner, Kind, kind, one_edge, low_half, high_half, stays, inner_in, inner_out, old_or, old_in, vertex_added}
 use Rattle.plane_graphs.proofs.Inner.Kind.{lower, upper, old}
+use Rattle.integers.proofs.Tests.{not_true}
 
 abbrev pub touches : Point → Mark → Bool
 touches r m = same_point m.low r || same_point m.high r
@@ -68,7 +69,7 @@ module _ (vs : List Point) (ks : List Piece) (cl : IsClosed vs ks) (r : Point) (
       (λ v. let b = of_flat_map (marks_across r n) x more v.1 in
       let m = b.0 in
       let c = one_if (same_point m.low r && same_curve m.curve n.curve) x (mark n.low m.high n.curve) b.2 in
-      let d = both (same_point m.low r) (same_curve m.curve n.curve) c.0 in
+      let d = and_true (same_point m.low r) (same_curve m.curve n.curve) c.0 in
       joined x n m a.1 b.1 (same_out n.high r v.0) (same_out m.low r d.0) (curve_out m.curve n.curve d.1) c.1)
       (λ v. ⊎_elim (λ e. subst (λ y. IsMark vs ks y) (sym e) (elsewhere n (kind vs ks cl r pr new n (mark_out (place point_cmp r vs) ks n a.1)) w.0 v.0)) (λ z. absurd z) v.1)
       (if_out (same_point n.high r) x _ _ w.1))

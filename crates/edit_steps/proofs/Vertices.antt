@@ -1,16 +1,17 @@
 -- Where vertices come and go.
-use Rattle.std.proofs.Common.{◌≡◌, ℕ, List, [], ◌∷◌, Bool, true, false, not, ◌&&◌, refl, sym, ap, ap₂, ◌∙◌, subst, inl, inr, ◌⊎◌, ⊎_elim}
+use Rattle.std.proofs.Common.{◌≡◌, ℕ, [], ◌∷◌, Bool, true, false, not, ◌&&◌, refl, sym, ap, ap₂, ◌∙◌, subst, inl, inr, ◌⊎◌, ⊎_elim}
 use Rattle.std.specs.List.{list_any}
 use Rattle.exact_plane.specs.Point.{Point}
 use Rattle.plane_graphs.specs.Line.{same_point, are_parallel, crossing}
 use Rattle.exact_plane.specs.Segment.{line_of_segment}
+use Rattle.exact_plane.specs.PointOrderLaws.{and_true}
 use Rattle.plane_graphs.specs.Ascending.{Member}
 use Rattle.plane_graphs.specs.Piece.{Piece, Present, along, on}
 use Rattle.plane_graphs.specs.Graph.{Mark, graph, is_at, marks, vertices, collinear, same_curve}
 use Rattle.edit_steps.specs.Steps.{with_piece, without_curve, with_cut}
 use Rattle.plane_graphs.specs.Fit.{IsFit}
-use Rattle.edit_steps.specs.Laws.{VerticesChange}
-use Rattle.plane_graphs.proofs.Lists.{both, and_in, clash, decide, any_in, any_out, in_filter, in_either, in_left}
+use Rattle.edit_steps.specs.EditLaws.{VerticesChange}
+use Rattle.plane_graphs.proofs.Lists.{and_in, clash, decide, any_in, any_out, in_filter, in_either, in_left}
 use Rattle.plane_graphs.proofs.Order.{Lt, lt_out, Tri, tri, same_out}
 use Rattle.plane_graphs.proofs.Order.Tri.{less, same, more}
 use Rattle.plane_graphs.proofs.Marks.{Le, le_same, le_cases, le_lt, le_lt_lt, lt_le_lt, On, on_out, on_in, mark_out}
@@ -64,12 +65,6 @@ module _ (p : Present) (c : ℕ) (fit : IsFit p) (x : Point) (gone : Member x (v
 
 -- a cut loses no vertex but the two ends of the edge
 module _ (p : Present) (a b : Point) (fit : IsFit p) (m : Mark) (hm : Member m (marks (vertices p) p.pieces)) (at_a : m.low ≡ a) (at_b : m.high ≡ b) (x : Point) (was : Member x (vertices p)) where
-  vs : List Point
-  vs = vertices p
-
-  a_b : Lt a b
-  a_b = subst (Lt a) at_b (subst (λ z. Lt z m.high) at_a (mark_out (vertices p) p.pieces m hm).next.lt)
-
   -- x on a piece is an end, or it is on a part of the piece that is left
   part_with : (k : Piece) → Member k p.pieces → On k x → ((x ≡ a) ⊎ (x ≡ b)) ⊎ ((j : Piece) × Member j (with_cut p a b).pieces × On j x × (j.segment ≡ k.segment))
   part_with k h o = by (on k a && on k b) refl
@@ -97,7 +92,7 @@ module _ (p : Present) (a b : Point) (fit : IsFit p) (m : Mark) (hm : Member m (
       within u v (more l) (more r) = inr (over_part u v r)
 
       by : (c : Bool) → on k a && on k b ≡ c → ((x ≡ a) ⊎ (x ≡ b)) ⊎ ((j : Piece) × Member j (with_cut p a b).pieces × On j x × (j.segment ≡ k.segment))
-      by true e = let w = both (on k a) (on k b) e in within (on_out k a w.0) (on_out k b w.1) (tri x a) (tri x b)
+      by true e = let w = and_true (on k a) (on k b) e in within (on_out k a w.0) (on_out k b w.1) (tri x a) (tri x b)
       by false e = inr (k, source_in a b p.pieces k (whole h (λ u v. clash (and_in (on_in k a u) (on_in k b v)) e)), o, refl)
 
   -- an end of a piece stays one
@@ -113,8 +108,8 @@ module _ (p : Present) (a b : Point) (fit : IsFit p) (m : Mark) (hm : Member m (
       to_end u v e (inr l) = inr (finishes (record k { from = b }) (source_in a b p.pieces (record k { from = b }) (over k h u v l refl)) e)
 
       by : (c : Bool) → on k a && on k b ≡ c → (x ≡ k.from) ⊎ (x ≡ k.to) → ((x ≡ a) ⊎ (x ≡ b)) ⊎ IsVertex (with_cut p a b) x
-      by true i (inl e) = let w = both (on k a) (on k b) i in let u = on_out k a w.0 in from_end u (on_out k b w.1) e (⊎_elim (λ q. inl (e ∙ q)) (λ l. inr l) (le_cases k.from a u.low))
-      by true i (inr e) = let w = both (on k a) (on k b) i in let v = on_out k b w.1 in to_end (on_out k a w.0) v e (⊎_elim (λ q. inl (e ∙ sym q)) (λ l. inr l) (le_cases b k.to v.high))
+      by true i (inl e) = let w = and_true (on k a) (on k b) i in let u = on_out k a w.0 in from_end u (on_out k b w.1) e (⊎_elim (λ q. inl (e ∙ q)) (λ l. inr l) (le_cases k.from a u.low))
+      by true i (inr e) = let w = and_true (on k a) (on k b) i in let v = on_out k b w.1 in to_end (on_out k a w.0) v e (⊎_elim (λ q. inl (e ∙ sym q)) (λ l. inr l) (le_cases b k.to v.high))
       by false i (inl e) = inr (begins k (source_in a b p.pieces k (whole h (λ u v. clash (and_in (on_in k a u) (on_in k b v)) i))) e)
       by false i (inr e) = inr (finishes k (source_in a b p.pieces k (whole h (λ u v. clash (and_in (on_in k a u) (on_in k b v)) i))) e)
 
@@ -146,6 +141,6 @@ vertices_change = record {
   go = λ p c x fit m gone. go_by p c fit x gone (vertex_out p x m);
   cut = λ p a b x fit e m gone.
       let w = any_out (is_at a b) (marks (vertices p) p.pieces) e in
-      let v = both (same_point w.0.low a) (same_point w.0.high b) w.2 in
+      let v = and_true (same_point w.0.low a) (same_point w.0.high b) w.2 in
       ⊎_elim (λ i. i) (λ i. absurd (gone (vertex_in (with_cut p a b) x i))) (cut_by p a b fit w.0 w.1 (same_out w.0.low a v.0) (same_out w.0.high b v.1) x m (vertex_out p x m));
 }

@@ -1,5 +1,6 @@
 pub mod Allowed
 pub mod Edits
 pub mod Layer
-pub mod Laws
+pub mod EditLaws
 pub mod Steps
+pub mod Refusals

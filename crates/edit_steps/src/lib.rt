@@ -4,7 +4,7 @@
 //! being empty, does not compute.
 #![tactic(auto)]
 
-ghost use Rattle.edit_steps.specs.Laws.{EditsKeepFit, StepsMakeGraph, StepsAreSound, VerticesChange, LooseIsNoVertex, MeetingPoints, LayersAreLawful};
+ghost use Rattle.edit_steps.specs.EditLaws.{EditsKeepFit, StepsMakeGraph, StepsAreSound, VerticesChange, LooseIsNoVertex, MeetingPoints, LayersAreLawful};
 
 /// An accepted edit keeps a present fit.
 pub fn edits_keep_fit()

@@ -1,7 +1,7 @@
 -- The point order along a line.
 use Rattle.std.proofs.Common.{◌≡◌, [], ◌∷◌, ℤ, pos, ◌+ℤ◌, ◌-ℤ◌, ◌*ℤ◌, ◌<ℤ◌, neg_ℤ, ap, ◌∙◌, arith, inl, inr, ⊎_elim}
 use Rattle.std.proofs.lemmas.Int.{ints}
-use Rattle.exact_plane.specs.Plane.{side, drop_at, Before, Runs}
+use Rattle.exact_plane.specs.Plane.{side, Before, RunsForward}
 use Rattle.integers.proofs.Reify.{ring, sides}
 use Rattle.integers.proofs.Signs.{same_by}
 use Rattle.exact_plane.proofs.Between.{Mean, mean_by_x}
@@ -33,7 +33,7 @@ mean_by_y a b c Xp Yp Wp Xr Yr Wr Xq Yq Wq ha wp wr wq sp sr sq pr rq =
     turned : (X Y W : ℤ) → side a b c X Y W ≡ pos 0 → side (neg_ℤ b) (neg_ℤ a) (neg_ℤ c) Y X W ≡ pos 0
     turned X Y W e = ring (a ∷ b ∷ c ∷ X ∷ Y ∷ W ∷ []) (search sides depth 40 fits 20000) tt ∙ ap neg_ℤ e
 
-module _ (a b c Xp Yp Wp Xr Yr Wr Xq Yq Wq : ℤ) (runs : Runs a b) (wp : pos 0 <ℤ Wp) (wr : pos 0 <ℤ Wr) (wq : pos 0 <ℤ Wq)
+module _ (a b c Xp Yp Wp Xr Yr Wr Xq Yq Wq : ℤ) (runs : RunsForward a b) (wp : pos 0 <ℤ Wp) (wr : pos 0 <ℤ Wr) (wq : pos 0 <ℤ Wq)
     (sp : side a b c Xp Yp Wp ≡ pos 0) (sr : side a b c Xr Yr Wr ≡ pos 0) (sq : side a b c Xq Yq Wq ≡ pos 0) where
   by_heights : pos 0 <ℤ b → (X1 Y1 W1 X2 Y2 W2 : ℤ) → side a b c X1 Y1 W1 ≡ pos 0 → side a b c X2 Y2 W2 ≡ pos 0 → Before X1 Y1 W1 X2 Y2 W2 → (X1 *ℤ W2) <ℤ (X2 *ℤ W1)
   by_heights hb X1 Y1 W1 X2 Y2 W2 s1 s2 (inl h) = h
@@ -50,7 +50,3 @@ module _ (a b c Xp Yp Wp Xr Yr Wr Xq Yq Wq : ℤ) (runs : Runs a b) (wp : pos 0 
       (λ hb. mean_by_x a b c Xp Yp Wp Xr Yr Wr Xq Yq Wq hb wp wr wq sp sr sq (by_heights hb Xp Yp Wp Xr Yr Wr sp sr pr) (by_heights hb Xr Yr Wr Xq Yq Wq sr sq rq))
       (λ h. mean_by_y a b c Xp Yp Wp Xr Yr Wr Xq Yq Wq h.1 wp wr wq sp sr sq (by_walls h.0 h.1 Xp Yp Wp Xr Yr Wr sp sr pr) (by_walls h.0 h.1 Xr Yr Wr Xq Yq Wq sr sq rq))
       runs
-
--- the heights' difference by the sides of a point
-pub drop_by_sides : (a1 b1 c1 a2 b2 c2 X Y W : ℤ) → drop_at a1 b1 c1 a2 b2 c2 X W ≡ side a1 b1 c1 X Y W *ℤ b2 -ℤ side a2 b2 c2 X Y W *ℤ b1
-drop_by_sides a1 b1 c1 a2 b2 c2 X Y W = ring (a1 ∷ b1 ∷ c1 ∷ a2 ∷ b2 ∷ c2 ∷ X ∷ Y ∷ W ∷ []) (search sides depth 40 fits 20000) tt

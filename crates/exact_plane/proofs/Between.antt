@@ -1,51 +1,9 @@
 -- Points on one line: lying on, betweenness, convexity.
 use Rattle.std.proofs.Common.{◌≡◌, [], ◌∷◌, ℤ, pos, ◌+ℤ◌, ◌-ℤ◌, ◌*ℤ◌, ◌<ℤ◌, ◌≤ℤ◌, sym, ◌∙◌, subst}
-use Rattle.exact_plane.specs.Plane.{side, ahead, det}
+use Rattle.exact_plane.specs.Plane.{side, ahead}
 use Rattle.integers.proofs.Reify.{ring, sides}
-use Rattle.integers.proofs.Signs.{mul_pos, mul_nonneg, cancel_pos, cancel_zero, same_by, diff_pos, sum_pos_l, weak}
+use Rattle.integers.proofs.Signs.{mul_pos, mul_nonneg, cancel_pos, same_by, diff_pos, sum_pos_l, weak}
 use Rattle.integers.proofs.Compare.{cross_trans}
-
--- the line through two points: its numbers
-module _ (X1 Y1 W1 X2 Y2 W2 : ℤ) where
-  abbrev pub through_a : ℤ
-  through_a = Y1 *ℤ W2 -ℤ W1 *ℤ Y2
-
-  abbrev pub through_b : ℤ
-  through_b = W1 *ℤ X2 -ℤ X1 *ℤ W2
-
-  abbrev pub through_c : ℤ
-  through_c = X1 *ℤ Y2 -ℤ Y1 *ℤ X2
-
-  pub through_1 : side through_a through_b through_c X1 Y1 W1 ≡ pos 0
-  through_1 = ring (X1 ∷ Y1 ∷ W1 ∷ X2 ∷ Y2 ∷ W2 ∷ []) (search sides depth 40 fits 20000) tt
-
-  pub through_2 : side through_a through_b through_c X2 Y2 W2 ≡ pos 0
-  through_2 = ring (X1 ∷ Y1 ∷ W1 ∷ X2 ∷ Y2 ∷ W2 ∷ []) (search sides depth 40 fits 20000) tt
-
-  pub through_det : (X Y W : ℤ) → side through_a through_b through_c X Y W ≡ det X1 Y1 W1 X2 Y2 W2 X Y W
-  through_det X Y W = ring (X1 ∷ Y1 ∷ W1 ∷ X2 ∷ Y2 ∷ W2 ∷ X ∷ Y ∷ W ∷ []) (search sides depth 40 fits 20000) tt
-
-  -- a line with b > 0 that holds two points of different abscissas is the line through them
-  module _ (a b c : ℤ) where
-    pub same_line_a : (s1 : side a b c X1 Y1 W1 ≡ pos 0) (s2 : side a b c X2 Y2 W2 ≡ pos 0) → a *ℤ through_b ≡ through_a *ℤ b
-    same_line_a s1 s2 =
-        ring (a ∷ b ∷ c ∷ X1 ∷ Y1 ∷ W1 ∷ X2 ∷ Y2 ∷ W2 ∷ []) (search sides depth 40 fits 20000) tt
-        ∙ (λ i. through_a *ℤ b +ℤ W1 *ℤ s2 i -ℤ W2 *ℤ s1 i)
-        ∙ ring (b ∷ X1 ∷ Y1 ∷ W1 ∷ X2 ∷ Y2 ∷ W2 ∷ []) (search sides depth 40 fits 20000) tt
-
-    pub same_line_c : (s1 : side a b c X1 Y1 W1 ≡ pos 0) (s2 : side a b c X2 Y2 W2 ≡ pos 0) → c *ℤ through_b ≡ through_c *ℤ b
-    same_line_c s1 s2 =
-        ring (a ∷ b ∷ c ∷ X1 ∷ Y1 ∷ W1 ∷ X2 ∷ Y2 ∷ W2 ∷ []) (search sides depth 40 fits 20000) tt
-        ∙ (λ i. through_c *ℤ b +ℤ X2 *ℤ s1 i -ℤ X1 *ℤ s2 i)
-        ∙ ring (b ∷ X1 ∷ Y1 ∷ W1 ∷ X2 ∷ Y2 ∷ W2 ∷ []) (search sides depth 40 fits 20000) tt
-
--- three points on one line with b > 0 (or a > 0 ..) are collinear
-pub on_one_line : (a b c X1 Y1 W1 X2 Y2 W2 X3 Y3 W3 : ℤ) → pos 0 <ℤ b → side a b c X1 Y1 W1 ≡ pos 0 → side a b c X2 Y2 W2 ≡ pos 0 → side a b c X3 Y3 W3 ≡ pos 0 → det X1 Y1 W1 X2 Y2 W2 X3 Y3 W3 ≡ pos 0
-on_one_line a b c X1 Y1 W1 X2 Y2 W2 X3 Y3 W3 hb s1 s2 s3 =
-    cancel_zero hb
-    (ring (a ∷ b ∷ c ∷ X1 ∷ Y1 ∷ W1 ∷ X2 ∷ Y2 ∷ W2 ∷ X3 ∷ Y3 ∷ W3 ∷ []) (search sides depth 40 fits 20000) tt
-    ∙ (λ i. det X1 (s1 i) W1 X2 (s2 i) W2 X3 (s3 i) W3)
-    ∙ ring (X1 ∷ W1 ∷ X2 ∷ W2 ∷ X3 ∷ W3 ∷ []) (search sides depth 40 fits 20000) tt)
 
 -- ---- r is a mean of p and q
 pub record Mean (Xp Yp Wp Xr Yr Wr Xq Yq Wq : ℤ) : Type 0 where
@@ -88,6 +46,3 @@ module _ (a b c Xp Yp Wp Xr Yr Wr Xq Yq Wq : ℤ) (m : Mean Xp Yp Wp Xr Yr Wr Xq
 
   pub mean_left : pos 0 <ℤ side a b c Xp Yp Wp → pos 0 ≤ℤ side a b c Xq Yq Wq → pos 0 <ℤ side a b c Xr Yr Wr
   mean_left hp hq = cancel_pos m.k_pos (subst (λ z. pos 0 <ℤ z) (sym mean_side) (sum_pos_l (mul_pos hp m.s_pos) (mul_nonneg hq (weak m.t_pos))))
-
-  pub mean_on : side a b c Xp Yp Wp ≡ pos 0 → side a b c Xq Yq Wq ≡ pos 0 → side a b c Xr Yr Wr ≡ pos 0
-  mean_on ep eq = cancel_zero m.k_pos (mean_side ∙ (λ i. ep i *ℤ m.s +ℤ eq i *ℤ m.t) ∙ ring (m.s ∷ m.t ∷ []) (search sides depth 40 fits 20000) tt)

@@ -2,31 +2,18 @@
 use Rattle.std.proofs.Common.{◌≡◌, ℕ, [], ◌∷◌, ℤ, pos, ◌+ℤ◌, ◌-ℤ◌, ◌*ℤ◌, ◌<ℤ◌, neg_ℤ, unsigned_abs, ap, sym, ◌∙◌, subst, arith, inl, inr}
 use Rattle.std.specs.Int.{◌∣◌}
 use Rattle.std.proofs.lemmas.Int.{ints}
-use Rattle.exact_plane.specs.Plane.{side, cross_x, cross_y, cross_w, Runs}
+use Rattle.exact_plane.specs.Plane.{side, cross_x, cross_y, cross_w, RunsForward}
 use Rattle.integers.specs.Lowest.{IsLowest}
 use Rattle.integers.proofs.Reify.{ring, sides}
 use Rattle.integers.proofs.Signs.{mul_pos, cancel_zero, same_by, diff_zero}
 use Rattle.integers.proofs.Bezout.{lowest_same}
 use Rattle.integers.proofs.Gcd.{divisor_of_lowest, lowest_by_divisors}
+use Rattle.integers.proofs.Solver.{apart}
 use Rattle.exact_plane.proofs.Geometry.{cross_only}
 
 -- a factor that both sides have goes
 pub same_over : (X Y U V g : ℤ) → pos 0 <ℤ g → X *ℤ (V *ℤ g) ≡ (U *ℤ g) *ℤ Y → X *ℤ V ≡ U *ℤ Y
 same_over X Y U V g hg e = same_by hg (diff_zero {a = X *ℤ (V *ℤ g)} {b = (U *ℤ g) *ℤ Y} e) (ring (X ∷ Y ∷ U ∷ V ∷ g ∷ []) (search sides depth 40 fits 20000) tt)
-
--- the crossing, in lowest terms, is the one point on both lines (where cross_w is negative, swap the lines)
-pub crossing_only : (a1 b1 c1 a2 b2 c2 g U V T X Y W : ℤ) → pos 0 <ℤ g → U *ℤ g ≡ cross_x a1 b1 c1 a2 b2 c2 → V *ℤ g ≡ cross_y a1 b1 c1 a2 b2 c2 → T *ℤ g ≡ cross_w a1 b1 c1 a2 b2 c2 → pos 0 <ℤ T → IsLowest U V T →
-    pos 0 <ℤ W → IsLowest X Y W → side a1 b1 c1 X Y W ≡ pos 0 → side a2 b2 c2 X Y W ≡ pos 0 → (X ≡ U) × (Y ≡ V) × (W ≡ T)
-crossing_only a1 b1 c1 a2 b2 c2 g U V T X Y W hg eu ev et ht lu hw l s1 s2 =
-    let o = cross_only a1 b1 c1 a2 b2 c2 X Y W s1 s2 in
-    lowest_same X Y W U V T hw ht l lu
-    (same_over X W U T g hg (ap (λ z. X *ℤ z) et ∙ o.0 ∙ ap (λ z. z *ℤ W) (sym eu)))
-    (same_over Y W V T g hg (ap (λ z. Y *ℤ z) et ∙ o.1 ∙ ap (λ z. z *ℤ W) (sym ev)))
-
--- and it is on both
-pub on_crossing : (a b c U V T g X Y W : ℤ) → pos 0 <ℤ g → U *ℤ g ≡ X → V *ℤ g ≡ Y → T *ℤ g ≡ W → side a b c X Y W ≡ pos 0 → side a b c U V T ≡ pos 0
-on_crossing a b c U V T g X Y W hg eu ev et s =
-    cancel_zero hg (ring (a ∷ b ∷ c ∷ U ∷ V ∷ T ∷ g ∷ []) (search sides depth 40 fits 20000) tt ∙ (λ i. a *ℤ eu i +ℤ b *ℤ ev i +ℤ c *ℤ et i) ∙ s)
 
 -- parallel lines that share a point are one line
 pub parallel_share : (a1 b1 c1 a2 b2 c2 X Y W : ℤ) → pos 0 <ℤ W → cross_w a1 b1 c1 a2 b2 c2 ≡ pos 0 → side a1 b1 c1 X Y W ≡ pos 0 → side a2 b2 c2 X Y W ≡ pos 0 → (cross_x a1 b1 c1 a2 b2 c2 ≡ pos 0) × (cross_y a1 b1 c1 a2 b2 c2 ≡ pos 0)
@@ -47,10 +34,7 @@ lowest_turned a b c l = lowest_by_divisors a c b (λ d da dc db. divisor_of_lowe
 lowest_back : (a b c : ℤ) → IsLowest a b c → IsLowest c b (neg_ℤ a)
 lowest_back a b c l = lowest_by_divisors c b (neg_ℤ a) (λ d dc db da. divisor_of_lowest a b c l d (subst (λ (n : ℕ). d ∣ n) (abs_neg a) da) db dc)
 
-zero_from : (a b : ℤ) → a -ℤ b ≡ pos 0 → a ≡ b
-zero_from a b e = omega (arith, ints)
-
-steep : (a1 b1 a2 b2 : ℤ) → pos 0 <ℤ b1 → a1 *ℤ b2 -ℤ a2 *ℤ b1 ≡ pos 0 → Runs a2 b2 → pos 0 <ℤ b2
+steep : (a1 b1 a2 b2 : ℤ) → pos 0 <ℤ b1 → a1 *ℤ b2 -ℤ a2 *ℤ b1 ≡ pos 0 → RunsForward a2 b2 → pos 0 <ℤ b2
 steep a1 b1 a2 b2 h e (inl k) = k
 steep a1 b1 a2 b2 h e (inr k) =
     let m : pos 0 <ℤ neg_ℤ a2 = (let n : a2 <ℤ pos 0 = k.1 in omega (arith, ints)) in
@@ -59,12 +43,12 @@ steep a1 b1 a2 b2 h e (inr k) =
     let n : neg_ℤ a2 *ℤ b1 ≡ neg_ℤ (a2 *ℤ b1) = ring (a2 ∷ b1 ∷ []) (search sides depth 40 fits 20000) tt in
     absurd (omega (arith, ints))
 
-pub same_line : (a1 b1 c1 a2 b2 c2 : ℤ) → IsLowest a1 b1 c1 → IsLowest a2 b2 c2 → Runs a1 b1 → Runs a2 b2 →
+pub same_line : (a1 b1 c1 a2 b2 c2 : ℤ) → IsLowest a1 b1 c1 → IsLowest a2 b2 c2 → RunsForward a1 b1 → RunsForward a2 b2 →
     cross_w a1 b1 c1 a2 b2 c2 ≡ pos 0 → cross_x a1 b1 c1 a2 b2 c2 ≡ pos 0 → cross_y a1 b1 c1 a2 b2 c2 ≡ pos 0 → (a1 ≡ a2) × (b1 ≡ b2) × (c1 ≡ c2)
 same_line a1 b1 c1 a2 b2 c2 l1 l2 (inl h1) r2 ew ex ey =
     let h2 = steep a1 b1 a2 b2 h1 ew r2 in
     let s = lowest_same a1 c1 b1 a2 c2 b2 h1 h2 (lowest_turned a1 b1 c1 l1) (lowest_turned a2 b2 c2 l2)
-    (zero_from _ _ ew) (ring (b2 ∷ c1 ∷ []) (search sides depth 40 fits 20000) tt ∙ sym (zero_from (b1 *ℤ c2) (b2 *ℤ c1) ex) ∙ ring (b1 ∷ c2 ∷ []) (search sides depth 40 fits 20000) tt) in
+    (apart _ _ ew) (ring (b2 ∷ c1 ∷ []) (search sides depth 40 fits 20000) tt ∙ sym (apart (b1 *ℤ c2) (b2 *ℤ c1) ex) ∙ ring (b1 ∷ c2 ∷ []) (search sides depth 40 fits 20000) tt) in
     (s.0, s.2, s.1)
 same_line a1 b1 c1 a2 b2 c2 l1 l2 (inr h1) (inl h2) ew ex ey = absurd (clash h1.0 h1.1 (steep a2 b2 a1 b1 h2 (turn ew) (inr h1)))
   where
@@ -76,8 +60,8 @@ same_line a1 b1 c1 a2 b2 c2 l1 l2 (inr h1) (inl h2) ew ex ey = absurd (clash h1.
 same_line a1 b1 c1 a2 b2 c2 l1 l2 (inr h1) (inr h2) ew ex ey =
     let s = lowest_same c1 b1 (neg_ℤ a1) c2 b2 (neg_ℤ a2) (up' h1.1) (up' h2.1)
     (lowest_back a1 b1 c1 l1) (lowest_back a2 b2 c2 l2)
-    (ring (c1 ∷ a2 ∷ []) (search sides depth 40 fits 20000) tt ∙ ap neg_ℤ (zero_from (c1 *ℤ a2) (c2 *ℤ a1) ey) ∙ ring (c2 ∷ a1 ∷ []) (search sides depth 40 fits 20000) tt)
-    (ring (b1 ∷ a2 ∷ []) (search sides depth 40 fits 20000) tt ∙ ap neg_ℤ (sym (zero_from (a1 *ℤ b2) (a2 *ℤ b1) ew)) ∙ ring (b2 ∷ a1 ∷ []) (search sides depth 40 fits 20000) tt) in
+    (ring (c1 ∷ a2 ∷ []) (search sides depth 40 fits 20000) tt ∙ ap neg_ℤ (apart (c1 *ℤ a2) (c2 *ℤ a1) ey) ∙ ring (c2 ∷ a1 ∷ []) (search sides depth 40 fits 20000) tt)
+    (ring (b1 ∷ a2 ∷ []) (search sides depth 40 fits 20000) tt ∙ ap neg_ℤ (sym (apart (a1 *ℤ b2) (a2 *ℤ b1) ew)) ∙ ring (b2 ∷ a1 ∷ []) (search sides depth 40 fits 20000) tt) in
     (back s.2, s.1, s.0)
   where
     up' : {a : ℤ} → a <ℤ pos 0 → pos 0 <ℤ neg_ℤ a

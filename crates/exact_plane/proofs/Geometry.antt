@@ -1,10 +1,8 @@
 -- Lines and points.
 use Rattle.std.proofs.Common.{◌≡◌, [], ◌∷◌, ℤ, pos, ◌+ℤ◌, ◌-ℤ◌, ◌*ℤ◌, ◌<ℤ◌, ◌≤ℤ◌, ◌∙◌, arith}
 use Rattle.std.proofs.lemmas.Int.{ints}
-use Rattle.exact_plane.specs.Plane.{side, ahead, drop_at, cross_x, cross_y, cross_w}
+use Rattle.exact_plane.specs.Plane.{side, ahead, cross_x, cross_y, cross_w}
 use Rattle.integers.proofs.Reify.{ring, sides}
-use Rattle.integers.proofs.Signs.{mul_pos, mul_nonneg, diff_pos, sum_pos_l, below_by, weak}
-use Rattle.integers.proofs.Compare.{cross_trans}
 
 -- ---- the crossing of two lines
 module _ (a1 b1 c1 a2 b2 c2 : ℤ) where
@@ -30,21 +28,3 @@ module _ (a1 b1 c1 a2 b2 c2 : ℤ) where
     where
       same : (a b : ℤ) → b -ℤ a ≡ pos 0 → a ≡ b
       same a b e = omega (arith, ints)
-
-  -- the height's difference, by the place of the crossing
-  pub drop_is : (X W : ℤ) → drop_at a1 b1 c1 a2 b2 c2 X W ≡ X *ℤ cross_w a1 b1 c1 a2 b2 c2 -ℤ cross_x a1 b1 c1 a2 b2 c2 *ℤ W
-  drop_is X W = ring (a1 ∷ b1 ∷ c1 ∷ a2 ∷ b2 ∷ c2 ∷ X ∷ W ∷ []) (search sides depth 40 fits 20000) tt
-
-  -- between two abscissas
-  pub drop_between : (Xu Wu Xt Wt Xv Wv : ℤ) → drop_at a1 b1 c1 a2 b2 c2 Xt Wt *ℤ ahead Xu Wu Xv Wv ≡ drop_at a1 b1 c1 a2 b2 c2 Xu Wu *ℤ ahead Xt Wt Xv Wv +ℤ drop_at a1 b1 c1 a2 b2 c2 Xv Wv *ℤ ahead Xu Wu Xt Wt
-  drop_between Xu Wu Xt Wt Xv Wv = ring (a1 ∷ b1 ∷ c1 ∷ a2 ∷ b2 ∷ c2 ∷ Xu ∷ Wu ∷ Xt ∷ Wt ∷ Xv ∷ Wv ∷ []) (search sides depth 40 fits 20000) tt
-
-  -- line 1 above line 2 at u, and not below it at v: above it in between
-  pub above_between : (Xu Wu Xt Wt Xv Wv : ℤ) → pos 0 <ℤ Wu → pos 0 <ℤ Wt → pos 0 <ℤ Wv → (Xu *ℤ Wt) <ℤ (Xt *ℤ Wu) → (Xt *ℤ Wv) <ℤ (Xv *ℤ Wt) →
-      drop_at a1 b1 c1 a2 b2 c2 Xu Wu <ℤ pos 0 → drop_at a1 b1 c1 a2 b2 c2 Xv Wv ≤ℤ pos 0 → drop_at a1 b1 c1 a2 b2 c2 Xt Wt <ℤ pos 0
-  above_between Xu Wu Xt Wt Xv Wv wu wt wv ut tv hu hv =
-      below_by (diff_pos (cross_trans Xu Wu Xt Wt Xv Wv wu wt wv ut tv)) (sum_pos_l (mul_pos (diff_pos hu) (diff_pos tv)) (mul_nonneg (back hv) (weak (diff_pos ut))))
-      (ring (a1 ∷ b1 ∷ c1 ∷ a2 ∷ b2 ∷ c2 ∷ Xu ∷ Wu ∷ Xt ∷ Wt ∷ Xv ∷ Wv ∷ []) (search sides depth 40 fits 20000) tt)
-    where
-      back : {z : ℤ} → z ≤ℤ pos 0 → pos 0 ≤ℤ (pos 0 -ℤ z)
-      back {z} h = omega (arith, ints)

@@ -13,7 +13,6 @@ pub mod Parts
 pub mod Places
 pub mod PlaneLaws
 pub mod SamePlaces
-pub mod Slab
 pub mod SlopeLaws
 pub mod TurnLaws
 pub mod Turns

@@ -10,7 +10,7 @@ use Rattle.integers.proofs.Reify.{ring, sides}
 use Rattle.integers.proofs.Signs.{cancel_pos, cancel_nonneg, cancel_zero}
 use Rattle.integers.proofs.Sizes.{size_minus, size_product}
 use Rattle.exact_plane.specs.declared.bounds.TheConstants.{MAX_COORDINATE}
-use Rattle.exact_plane.specs.Line.{Line, side_of, turn_at, reduced_line, IsForward, IsLine, IsOn, AreLineNumbers}
+use Rattle.exact_plane.specs.Line.{side_of, turn_at, reduced_line, IsForward, IsLine, IsOn, AreLineNumbers}
 use Rattle.exact_plane.specs.Plane.{side}
 use Rattle.exact_plane.specs.Point.{Point}
 use Rattle.exact_plane.specs.Segment.{Segment, segment, line_of_segment, IsSegment, AreEnds}
@@ -79,9 +79,6 @@ module _ (x1 y1 x2 y2 : ℤ) (s : IsSegment x1 y1 x2 y2) where
         runs = record { forward = r.0; upward = r.1 };
       }
 
-  line : Line
-  line = line_of_segment (segment x1 y1 x2 y2)
-
   pub lower_on' : IsOn (line_of_segment (segment x1 y1 x2 y2)) (segment x1 y1 x2 y2).lower
   lower_on' = reduced_on _ _ _ are_line_numbers (segment x1 y1 x2 y2).lower (ring (x1 ∷ y1 ∷ x2 ∷ y2 ∷ []) (search sides depth 40 fits 20000) tt)
 
@@ -99,9 +96,6 @@ module _ (x1 y1 x2 y2 : ℤ) (s : IsSegment x1 y1 x2 y2) where
 
 -- ---- of a segment
 module _ (s : Segment) (h : AreEnds s) where
-  pub segment_line : IsLine (line_of_segment s)
-  segment_line = reduced_is _ _ _ (are_line_numbers s.lower.x s.lower.y s.upper.x s.upper.y h.is)
-
   pub lower_on : IsOn (line_of_segment s) s.lower
   lower_on = subst (λ (e : Segment). IsOn (line_of_segment e) e.lower) (sym h.whole) (lower_on' s.lower.x s.lower.y s.upper.x s.upper.y h.is)
 

@@ -1,9 +1,8 @@
 -- Three numbers in range, brought to lowest terms, are a point's.
-use Rattle.std.proofs.Common.{◌≡◌, ℕ, ◌*◌, ◌<◌, ◌≤◌, true, false, ◌&&◌, ltb, leb, ℤ, pos, negsuc, ◌*ℤ◌, Ok, refl, sym, subst, arith}
+use Rattle.std.proofs.Common.{◌≡◌, ℕ, ◌*◌, ◌<◌, ◌≤◌, true, ◌&&◌, ltb, leb, ℤ, pos, negsuc, ◌*ℤ◌, refl, sym, subst, arith}
 use Rattle.std.specs.Prelude.{unsigned_abs, int_div}
 use Rattle.std.specs.Int.{◌∣◌}
-use Rattle.std.specs.Ordering.{int_eq}
-use Rattle.std.proofs.lemmas.Bool.{leb-true, le-leb, lt-ltb, le-ltb, ltb-true}
+use Rattle.std.proofs.lemmas.Bool.{leb-true, le-leb, lt-ltb, ltb-true}
 use Rattle.std.proofs.lemmas.Int.{ints}
 use Rattle.integers.specs.Lowest.{common_divisor}
 use Rattle.integers.proofs.Decisions.{both}
@@ -11,7 +10,6 @@ use Rattle.integers.proofs.Gcd.{common_divisor-first, common_divisor-second, com
 use Rattle.integers.proofs.Reduce.{divided, divided_pos, divided_le, divided_within, same_ratio, reduced_lowest}
 use Rattle.exact_plane.specs.declared.bounds.TheConstants.{MAX_COORDINATE, WEIGHT_LIMIT}
 use Rattle.exact_plane.specs.Point.{Point, in_range, reduced, IsInRange, IsPoint}
-use Rattle.exact_plane.specs.PointOf.{point_of}
 
 -- what being in range says of the sizes
 pub record Sizes (x y n : ℕ) : Type 0 where
@@ -65,10 +63,3 @@ module _ (x y w : ℤ) (r : IsInRange x y w) where
     where
       same : (z : ℤ) → common_divisor x y w ∣ unsigned_abs z → int_div z (pos (common_divisor x y w)) *ℤ w ≡ z *ℤ int_div w (pos (common_divisor x y w))
       same z divides = same_ratio z w _ _ (pos (common_divisor x y w)) (divided z (common_divisor x y w) divides) (divided w (common_divisor x y w) (common_divisor-third x y w))
-
-not_zero : (n : ℕ) → 0 < n → int_eq (pos n) (pos 0) ≡ false
-not_zero n h = rw (le-ltb n 0 (omega arith), lt-ltb 0 n h) refl
-
-pub made : (x y w : ℤ) → in_range x y w ≡ true → point_of x y w ≡ Ok (reduced x y w)
-made x y (pos n) h = rw (not_zero n (sizes x y n h).some, h) refl
-made x y (negsuc n) h = absurd cc

@@ -11,7 +11,7 @@ use Rattle.exact_plane.specs.declared.meets.Meet.TheVariants.{Apart, At, Along}
 use Rattle.exact_plane.specs.Line.{Line, IsOn, IsForward, IsLine}
 use Rattle.exact_plane.specs.Meet.{AreApart, IsMeeting}
 use Rattle.exact_plane.specs.MeetOf.{same_line, weight_of, crossing, place_cmp, is_between, is_common_place, place_meet, crossing_meet}
-use Rattle.exact_plane.specs.Plane.{Runs}
+use Rattle.exact_plane.specs.Plane.{RunsForward}
 use Rattle.exact_plane.specs.Point.{Point, in_range, reduced, IsInRange, IsPoint}
 use Rattle.exact_plane.specs.Span.{Span, LiesOn, IsSpan}
 use Rattle.exact_plane.proofs.Crossings.{parallel_share, same_line as same_numbers}
@@ -20,7 +20,7 @@ use Rattle.exact_plane.proofs.Lowest.{is_in_range, in_range-is, reduced_point, s
 use Rattle.exact_plane.proofs.Places.{two_decide}
 use Rattle.exact_plane.proofs.SamePlaces.{IsSamePlace, place_cmp-right, place_cmp-left, x_within, y_within, on_same_place, one_at_place}
 
-pub runs : (a b : ℤ) → IsForward a b → Runs a b
+pub runs : (a b : ℤ) → IsForward a b → RunsForward a b
 runs a (pos zero) f = inr (refl, f.upward refl)
 runs a (pos (suc n)) f = inl (omega (arith, ints))
 runs a (negsuc n) f = let h = f.forward in absurd (omega (arith, ints))
@@ -91,9 +91,6 @@ module _ (s t : Span) (hs : IsSpan s) (ht : IsSpan t) (hw : pos 0 <ℤ weight_of
     x_within = x_within cross p hw hp.range.positive same MAX_COORDINATE hp.range.x_within;
     y_within = y_within cross p hw hp.range.positive same MAX_COORDINATE hp.range.y_within;
   }
-
-  test : Bool
-  test = is_between s cross && (is_between t cross && in_range cross.x cross.y cross.w)
 
   tested : (p : Point) → IsPoint p → LiesOn s p → LiesOn t p → is_between s cross && (is_between t cross && in_range cross.x cross.y cross.w) ≡ true
   tested p hp h k =

@@ -4,29 +4,25 @@ use Rattle.std.specs.Ordering.{int_cmp, ordering_then}
 use Rattle.std.specs.Cmp.{tied_itself}
 use Rattle.std.proofs.lemmas.Int.{ints}
 use Rattle.integers.specs.Ratio.{ratio_cmp}
-use Rattle.integers.proofs.Compare.{less_out, less_in, equal_out, equal_in, greater_out, greater_in, same_cmp, cross_trans}
+use Rattle.integers.proofs.Compare.{less_out, equal_out, greater_out, same_cmp}
 use Rattle.integers.proofs.Reify.{ring, sides}
-use Rattle.integers.proofs.Signs.{mul_pos, cancel_pos, cancel_zero, sum_pos, diff_pos, diff_nonneg, mul_nonneg, sum_nonneg, at_most_by, weak}
+use Rattle.integers.proofs.Signs.{mul_pos, sum_pos, diff_nonneg, mul_nonneg, sum_nonneg, at_most_by, weak}
 use Rattle.integers.proofs.Sizes.{size_in, size_out}
 use Rattle.exact_plane.specs.declared.bounds.TheConstants.{MAX_COORDINATE, WEIGHT_LIMIT}
 use Rattle.exact_plane.specs.declared.meets.Meet.{Meet}
 use Rattle.exact_plane.specs.declared.meets.Meet.TheVariants.{Apart, At, Along}
-use Rattle.exact_plane.specs.Height.{height_cmp}
 use Rattle.exact_plane.specs.Line.{Line, side_of, IsOn, IsLine}
 use Rattle.exact_plane.specs.Meet.{IsMeeting, IsCommonPart}
 use Rattle.exact_plane.specs.MeetOf.{weight_of, crossing, place_cmp}
-use Rattle.exact_plane.specs.Plane.{side, ahead, drop_at, Before}
+use Rattle.exact_plane.specs.Plane.{side, Before}
 use Rattle.exact_plane.specs.Point.{Point, reduced, IsInRange, IsPoint}
 use Rattle.exact_plane.specs.PointOrder.{point_cmp}
 use Rattle.exact_plane.specs.PointOrderLaws.{point_cmp_total}
-use Rattle.exact_plane.specs.Span.{Span, LiesOn, IsAtMost, IsSpan}
-use Rattle.exact_plane.proofs.Along.{mean_between}
-use Rattle.exact_plane.proofs.Between.{Mean, mean_left, mean_on}
-use Rattle.exact_plane.proofs.Geometry.{cross_on_1, cross_on_2, cross_only, drop_between}
-use Rattle.exact_plane.proofs.Heights.{height_cmp-is}
+use Rattle.exact_plane.specs.Span.{Span, LiesOn, IsSpan}
+use Rattle.exact_plane.proofs.Geometry.{cross_on_1, cross_on_2, cross_only}
 use Rattle.exact_plane.proofs.Lowest.{reduced_point, same_place}
-use Rattle.exact_plane.proofs.Meetings.{runs, line_weight, parallel_one, weight_turned}
-use Rattle.exact_plane.proofs.Orders.{at_most_itself, at_most_chain, at_most_both, less_at_most}
+use Rattle.exact_plane.proofs.Meetings.{line_weight, parallel_one, weight_turned}
+use Rattle.exact_plane.proofs.Orders.{at_most_itself, at_most_both, less_at_most}
 use Rattle.exact_plane.proofs.Places.{two_decide}
 use Rattle.exact_plane.proofs.SamePlaces.{IsSamePlace, place_cmp-right, place_cmp-left, x_within, y_within, on_same_place, one_at_place}
 
@@ -50,42 +46,7 @@ differ p q h e = clash (point_cmp p q) h (ap (λ (t : Point). point_cmp p t) (sy
     clash Equal f g = cc
     clash Greater f g = cc
 
--- a point of a span between two of its points
-pub between_on_span : (s : Span) (p r q : Point) → LiesOn s p → LiesOn s q → IsOn s.line r → IsAtMost p r → IsAtMost r q → LiesOn s r
-between_on_span s p r q hp hq on h k = record { on = on; from = at_most_chain s.lower p r hp.from h; upto = at_most_chain r q s.upper k hq.upto }
-
 -- ---- sides along a line
-module _ (l : Line) (hl : IsLine l) (p r q : Point) (hp : IsPoint p) (hr : IsPoint r) (hq : IsPoint q) (on_p : IsOn l p) (on_r : IsOn l r) (on_q : IsOn l q) (pr : point_cmp p r ≡ Less) (rq : point_cmp r q ≡ Less) where
-  -- what stands between two points of a line is a mean of them
-  pub mean_of : Mean p.x p.y p.w r.x r.y r.w q.x q.y q.w
-  mean_of =
-      mean_between l.a l.b l.c p.x p.y p.w r.x r.y r.w q.x q.y q.w (runs l.a l.b hl.runs) hp.range.positive hr.range.positive hq.range.positive on_p on_r on_q
-      (before_of p r hp hr pr) (before_of r q hr hq rq)
-
-  -- between a point on the left of another line and one that isn't on its right there are only points on its left
-  pub left_between : (m : Line) → pos 0 <ℤ side_of m p → pos 0 ≤ℤ side_of m q → pos 0 <ℤ side_of m r
-  left_between m = mean_left m.a m.b m.c p.x p.y p.w r.x r.y r.w q.x q.y q.w mean_of
-
-  -- and the same on the right
-  pub right_between : (m : Line) → side_of m p <ℤ pos 0 → side_of m q ≤ℤ pos 0 → side_of m r <ℤ pos 0
-  right_between m h k =
-      let turned : (t : Point) → side (neg_ℤ m.a) (neg_ℤ m.b) (neg_ℤ m.c) t.x t.y t.w ≡ neg_ℤ (side_of m t) = λ t. ring (m.a ∷ m.b ∷ m.c ∷ t.x ∷ t.y ∷ t.w ∷ []) (search sides depth 40 fits 20000) tt in
-      below (side_of m r) (subst (λ z. pos 0 <ℤ z) (turned r)
-      (mean_left (neg_ℤ m.a) (neg_ℤ m.b) (neg_ℤ m.c) p.x p.y p.w r.x r.y r.w q.x q.y q.w mean_of
-      (subst (λ z. pos 0 <ℤ z) (sym (turned p)) (above (side_of m p) h)) (subst (λ z. pos 0 ≤ℤ z) (sym (turned q)) (not_below (side_of m q) k))))
-    where
-      above : (z : ℤ) → z <ℤ pos 0 → pos 0 <ℤ neg_ℤ z
-      above z h = omega (arith, ints)
-
-      not_below : (z : ℤ) → z ≤ℤ pos 0 → pos 0 ≤ℤ neg_ℤ z
-      not_below z h = omega (arith, ints)
-
-      below : (z : ℤ) → pos 0 <ℤ neg_ℤ z → z <ℤ pos 0
-      below z h = omega (arith, ints)
-
-  -- between two points of another line there are only points of it
-  pub on_between : (m : Line) → IsOn m p → IsOn m q → IsOn m r
-  on_between m = mean_on m.a m.b m.c p.x p.y p.w r.x r.y r.w q.x q.y q.w mean_of
 
 -- ---- crossings
 -- two lines that aren't parallel have at most one point in common
@@ -235,48 +196,6 @@ module _ (l m : Line) (hl : IsLine l) (hm : IsLine m) (p q : Point) (hp : IsPoin
 
       off : {z : ℤ} → z ≡ pos 0 → z <ℤ pos 0 → ⊥
       off {z} e h = omega (arith, ints)
-
--- ---- heights
-module _ (l m : Line) where
-  abbrev drop : Point → ℤ
-  drop p = drop_at l.a l.b l.c m.a m.b m.c p.x p.w
-
-  height_drop : (p : Point) → pos 0 <ℤ p.w → height_cmp l m p ≡ int_cmp (pos 0) (drop p)
-  height_drop p h =
-      sym (height_cmp-is l m p h)
-      ∙ same_cmp ((m.a *ℤ p.x +ℤ m.c *ℤ p.w) *ℤ l.b) ((l.a *ℤ p.x +ℤ l.c *ℤ p.w) *ℤ m.b) (pos 0) (drop p) {k = pos 1} {m = pos 1} (omega (arith, ints)) (omega (arith, ints))
-      (ring (l.a ∷ l.b ∷ l.c ∷ m.a ∷ m.b ∷ m.c ∷ p.x ∷ p.w ∷ []) (search sides depth 40 fits 20000) tt)
-
-  module _ (u t v : Point) (hu : pos 0 <ℤ u.w) (ht : pos 0 <ℤ t.w) (hv : pos 0 <ℤ v.w) (ut : (u.x *ℤ t.w) <ℤ (t.x *ℤ u.w)) (tv : (t.x *ℤ v.w) <ℤ (v.x *ℤ t.w)) where
-    weighed : drop t *ℤ ahead u.x u.w v.x v.w ≡ drop u *ℤ ahead t.x t.w v.x v.w +ℤ drop v *ℤ ahead u.x u.w t.x t.w
-    weighed = drop_between l.a l.b l.c m.a m.b m.c u.x u.w t.x t.w v.x v.w
-
-    uv : pos 0 <ℤ ahead u.x u.w v.x v.w
-    uv = diff_pos (cross_trans u.x u.w t.x t.w v.x v.w hu ht hv ut tv)
-
-    by_drops : (o : Ordering) → int_cmp (pos 0) (drop u) ≡ o → int_cmp (pos 0) (drop v) ≡ o → int_cmp (pos 0) (drop t) ≡ o
-    by_drops Less e f = less_in _ _ (cancel_pos uv (subst (λ z. pos 0 <ℤ z) (sym weighed) (sum_pos (mul_pos (less_out (pos 0) (drop u) e) (diff_pos tv)) (mul_pos (less_out (pos 0) (drop v) f) (diff_pos ut)))))
-    by_drops Equal e f =
-        let zero_u = sym (equal_out (pos 0) (drop u) e) in
-        let zero_v = sym (equal_out (pos 0) (drop v) f) in
-        equal_in _ _ (sym (cancel_zero {x = drop t} uv (weighed
-        ∙ (λ i. zero_u i *ℤ ahead t.x t.w v.x v.w +ℤ zero_v i *ℤ ahead u.x u.w t.x t.w)
-        ∙ ring (t.x ∷ t.w ∷ v.x ∷ v.w ∷ u.x ∷ u.w ∷ []) (search sides depth 40 fits 20000) tt)))
-    by_drops Greater e f = greater_in _ _ (below (drop t) (cancel_pos {x = neg_ℤ (drop t)} uv (subst (λ z. pos 0 <ℤ z) (sym turned) (sum_pos (mul_pos (above (drop u) (greater_out (pos 0) (drop u) e)) (diff_pos tv)) (mul_pos (above (drop v) (greater_out (pos 0) (drop v) f)) (diff_pos ut))))))
-      where
-        above : (z : ℤ) → z <ℤ pos 0 → pos 0 <ℤ neg_ℤ z
-        above z h = omega (arith, ints)
-
-        below : (z : ℤ) → pos 0 <ℤ neg_ℤ z → z <ℤ pos 0
-        below z h = omega (arith, ints)
-
-        turned : neg_ℤ (drop t) *ℤ ahead u.x u.w v.x v.w ≡ neg_ℤ (drop u) *ℤ ahead t.x t.w v.x v.w +ℤ neg_ℤ (drop v) *ℤ ahead u.x u.w t.x t.w
-        turned =
-            ring (l.a ∷ l.b ∷ l.c ∷ m.a ∷ m.b ∷ m.c ∷ u.x ∷ u.w ∷ t.x ∷ t.w ∷ v.x ∷ v.w ∷ []) (search sides depth 40 fits 20000) tt
-
-    -- two lines that compare alike at two abscissas compare so at all between
-    pub heights_between : (o : Ordering) → height_cmp l m u ≡ o → height_cmp l m v ≡ o → height_cmp l m t ≡ o
-    heights_between o e f = height_drop t ht ∙ by_drops o (sym (height_drop u hu) ∙ e) (sym (height_drop v hv) ∙ f)
 
 -- ---- meetings
 first_end : (s : Span) → IsSpan s → LiesOn s s.lower

@@ -12,9 +12,6 @@ use Rattle.exact_plane.specs.Direction.{Direction, IsDirection, IsOneDirection, 
 use Rattle.integers.proofs.Classes.{then_equal}
 use Rattle.exact_plane.proofs.TurnLaws.{same_side}
 
-square : Direction → ℤ
-square a = a.x *ℤ a.x +ℤ a.y *ℤ a.y
-
 negated_pos : {z : ℤ} → z <ℤ pos 0 → pos 0 <ℤ neg_ℤ z
 negated_pos {z} h = omega (arith, ints)
 

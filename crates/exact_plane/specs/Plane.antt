@@ -9,10 +9,6 @@ side a b c X Y W = a *ℤ X +ℤ b *ℤ Y +ℤ c *ℤ W
 abbrev pub ahead : ℤ → ℤ → ℤ → ℤ → ℤ
 ahead X1 W1 X2 W2 = X2 *ℤ W1 -ℤ X1 *ℤ W2
 
--- negative where line 1 is above line 2 at the abscissa X / W, for lines with b > 0
-abbrev pub drop_at : ℤ → ℤ → ℤ → ℤ → ℤ → ℤ → ℤ → ℤ → ℤ
-drop_at a1 b1 c1 a2 b2 c2 X W = (a1 *ℤ X +ℤ c1 *ℤ W) *ℤ b2 -ℤ (a2 *ℤ X +ℤ c2 *ℤ W) *ℤ b1
-
 -- the crossing of two lines, as (cross_x : cross_y : cross_w)
 abbrev pub cross_x : ℤ → ℤ → ℤ → ℤ → ℤ → ℤ → ℤ
 cross_x a1 b1 c1 a2 b2 c2 = b1 *ℤ c2 -ℤ b2 *ℤ c1
@@ -23,14 +19,10 @@ cross_y a1 b1 c1 a2 b2 c2 = c1 *ℤ a2 -ℤ c2 *ℤ a1
 abbrev pub cross_w : ℤ → ℤ → ℤ → ℤ → ℤ → ℤ → ℤ
 cross_w a1 b1 c1 a2 b2 c2 = a1 *ℤ b2 -ℤ a2 *ℤ b1
 
--- 0 for three points on one line
-abbrev pub det : ℤ → ℤ → ℤ → ℤ → ℤ → ℤ → ℤ → ℤ → ℤ → ℤ
-det X1 Y1 W1 X2 Y2 W2 X3 Y3 W3 = X1 *ℤ (Y2 *ℤ W3 -ℤ W2 *ℤ Y3) -ℤ Y1 *ℤ (X2 *ℤ W3 -ℤ W2 *ℤ X3) +ℤ W1 *ℤ (X2 *ℤ Y3 -ℤ Y2 *ℤ X3)
-
 -- point 1 stands before point 2: by the abscissa, then by the ordinate
 abbrev pub Before : ℤ → ℤ → ℤ → ℤ → ℤ → ℤ → Type 0
 Before X1 Y1 W1 X2 Y2 W2 = ((X1 *ℤ W2) <ℤ (X2 *ℤ W1)) ⊎ ((X1 *ℤ W2 ≡ X2 *ℤ W1) × ((Y1 *ℤ W2) <ℤ (Y2 *ℤ W1)))
 
 -- the numbers of a line that runs from its lower end
-abbrev pub Runs : ℤ → ℤ → Type 0
-Runs a b = (pos 0 <ℤ b) ⊎ ((b ≡ pos 0) × (a <ℤ pos 0))
+abbrev pub RunsForward : ℤ → ℤ → Type 0
+RunsForward a b = (pos 0 <ℤ b) ⊎ ((b ≡ pos 0) × (a <ℤ pos 0))

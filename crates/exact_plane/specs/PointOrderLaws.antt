@@ -35,7 +35,7 @@ same_triple p q e =
 pub same_point : (p q : Point) → point_cmp p q ≡ Equal → p ≡ q
 same_point p q e = let s = same_triple p q e in λ i. record { x = s.0 i; y = s.1 i; w = s.2 i }
 
-and_true : (a b : Bool) → a && b ≡ true → (a ≡ true) × (b ≡ true)
+pub and_true : (a b : Bool) → a && b ≡ true → (a ≡ true) × (b ≡ true)
 and_true true b e = (refl, e)
 and_true false b e = cc
 

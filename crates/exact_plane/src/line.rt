@@ -1,7 +1,6 @@
 ghost use Rattle.std.specs.Prelude.{◌≡◌, ◌≤◌, ◌↔◌, pos, ◌-ℤ◌, ◌*ℤ◌, ◌<ℤ◌, unsigned_abs, IsTrue};
 ghost use Rattle.std.specs.Bool.{OnFalse};
 ghost use Rattle.std.specs.Ordering.{int_cmp};
-ghost use Rattle.exact_plane.specs.declared.bounds.TheConstants.{MAX_DIFFERENCE, MAX_OFFSET};
 ghost use Rattle.exact_plane.specs.Line.{side_of, turn_at, reduced_line, IsOn, IsLine, AreLineNumbers};
 ghost use Rattle.exact_plane.specs.Point.{Point};
 ghost use Rattle.exact_plane.specs.Segment.{line_of_segment, IsCoordinate, AreCoordinates};

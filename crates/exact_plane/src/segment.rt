@@ -3,7 +3,7 @@ ghost use Rattle.std.specs.Ordering.{int_eq};
 ghost use Rattle.std.specs.declared.cmp.Ordering.TheVariants.{Less};
 ghost use Rattle.exact_plane.specs.declared.bounds.TheConstants.{MAX_COORDINATE};
 ghost use Rattle.exact_plane.specs.PointOrder.{point_cmp};
-ghost use Rattle.exact_plane.specs.Segment.{segment, whole_point, is_coordinate, are_coordinates, is_before, AreCoordinates, AreEnds};
+ghost use Rattle.exact_plane.specs.Segment.{segment, is_coordinate, are_coordinates, is_before, AreCoordinates, AreEnds};
 ghost use Rattle.exact_plane.specs.SegmentOf.{segment_of};
 
 use crate::bounds::MAX_COORDINATE;

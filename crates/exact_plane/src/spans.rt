@@ -1,6 +1,4 @@
-ghost use Rattle.std.specs.Prelude.{◌≡◌, ◌↔◌, pos, IfSome, IsNone};
-ghost use Rattle.std.specs.Ordering.{int_eq};
-ghost use Rattle.exact_plane.specs.Line.{side_of};
+ghost use Rattle.std.specs.Prelude.{◌≡◌, ◌↔◌, IfSome, IsNone};
 ghost use Rattle.exact_plane.specs.Span.{are_on_way, span_of_segment, AreOnWay, IsSpan};
 ghost use Rattle.exact_plane.specs.SpanOf.{span_of};
 

@@ -10,20 +10,20 @@ use Rattle.slab_laws.specs.Rotation.{twin, earlier, next}
 use Rattle.slab_laws.specs.Skeleton.{IsPlaneSkeleton}
 use Rattle.slab_laws.specs.Sound.{skeleton_of, dart_in, edge_between, IsGraphSound}
 use Rattle.slab_laws.specs.View.{View, HasVertex, HasDart, IsOutOf, point_in, source_in, twin_in}
-use Rattle.dart_rings.specs.Order.{sooner_by}
-use Rattle.view_changes.specs.Around.{after_in}
+use Rattle.rotation_order.specs.RingOrder.{sooner_by}
+use Rattle.arr_notes.specs.AfterAround.{after_in}
 use Rattle.arr_notes.specs.Step.{add_edge}
-use Rattle.sound_links.specs.Links.{FitsAddedEdge, IsEdgeMore, IsDrawnMore, IsPlaceFor, dart_between}
-use Rattle.sound_links.specs.Next.{HasEdgeMore, IsDartOf, ComesBetween}
-use Rattle.sound_links.proofs.Added.{more, added}
-use Rattle.sound_links.proofs.Drawn.{drawn_more}
-use Rattle.sound_links.proofs.Fresh.{fresh}
-use Rattle.sound_links.proofs.Kept.{up, source_old, point_same, vertex_up, vertex_down, three, way_old, way_new}
-use Rattle.sound_views.proofs.Named.{names_are_darts, source_by, twin_by}
+use Rattle.sound_changes.specs.EdgePlaces.{FitsAddedEdge, IsEdgeMore, IsDrawnMore, IsPlaceFor, dart_between}
+use Rattle.sound_changes.specs.NextLaws.{HasEdgeMore, IsDartOf, ComesBetween}
+use Rattle.sound_changes.proofs.EdgeAdded.{more, added}
+use Rattle.sound_changes.proofs.EdgeDrawn.{drawn_more}
+use Rattle.sound_changes.proofs.FreshNames.{fresh}
+use Rattle.sound_changes.proofs.RingsKept.{up, source_old, point_same, vertex_up, vertex_down, three, way_old, way_new}
+use Rattle.sound_views.proofs.NamedDarts.{names_are_darts, source_by, twin_by}
+use Rattle.sound_views.proofs.RoundTurned.{twin_twice}
 use Rattle.face_changes.specs.OneMoreEdge.{IsOneMoreEdge}
 use Rattle.face_changes.specs.RecordsAfterSplits.{IsLinkedWithin}
 use Rattle.face_changes.specs.AddedWithinACycle.{AddedWithinACycle}
-use Rattle.sound_rings.proofs.Turned.{twin_twice}
 use Rattle.face_changes.proofs.LinkedCycles.{there_dart}
 use Rattle.face_changes.proofs.OneMoreEdge.{cycles_with_one_more_edge}
 

@@ -9,13 +9,13 @@ use Rattle.slab_laws.specs.declared.names.DartId.{DartId}
 use Rattle.slab_laws.specs.Darts.{Dart, darts}
 use Rattle.slab_laws.specs.FacesSound.{lead_in}
 use Rattle.slab_laws.specs.Rotation.{same_dart, next}
-use Rattle.slab_laws.specs.Rows.{lead_of}
+use Rattle.slab_laws.specs.Rows.{least_dart_of}
 use Rattle.slab_laws.specs.Sound.{skeleton_of, dart_in, IsGraphSound}
 use Rattle.slab_laws.specs.View.{View, HasDart, next_in}
 use Rattle.slab_faces.proofs.Member.{Member, member_in, in_member, map_in, map_out, none_passes, none_passing}
 use Rattle.slab_faces.proofs.ClassesLemmas.{IsExact, IsEquivalence, along_link, connected}
 use Rattle.slab_faces.proofs.NextLemmas.{darts_exact}
-use Rattle.sound_views.proofs.Named.{names_are_darts, dart_name, named_dart}
+use Rattle.sound_views.proofs.NamedDarts.{names_are_darts, dart_name, named_dart}
 use Rattle.face_changes.specs.CycleNames.{same_name, lower_name, dart_names, name_links, cycle_label, NamesTellCycles}
 use Rattle.face_changes.proofs.OrbitSplices.{told}
 use Rattle.face_changes.proofs.LinkedCycles.{labelled}
@@ -36,7 +36,7 @@ module _ (v : View) (s : IsGraphSound v) where
 
   -- ---- from labels of names to leads of darts
   lead_step : (d : DartId) → HasDart v d → lead_in v d ≡ lead_in v (next_in v d)
-  lead_step d h = (labelled (skeleton_of v)).step (dart_in v d) (names_are_darts.known v d s h) ∙ ap (lead_of (skeleton_of v)) (sym (names_are_darts.next v d s h))
+  lead_step d h = (labelled (skeleton_of v)).step (dart_in v d) (names_are_darts.known v d s h) ∙ ap (least_dart_of (skeleton_of v)) (sym (names_are_darts.next v d s h))
 
   same_is : IsEquivalence (λ d e. (HasDart v d → HasDart v e) × (HasDart v e → HasDart v d) × (HasDart v d → lead_in v d ≡ lead_in v e))
   same_is = record {
@@ -91,7 +91,7 @@ module _ (v : View) (s : IsGraphSound v) where
 
     back : (d : DartId) → HasDart v d → HasDart v e → lead_in v d ≡ lead_in v e → cycle_label v d ≡ cycle_label v e
     back d hd he q =
-        let t = told (next (darts (skeleton_of v))) (darts (skeleton_of v)) (lead_of (skeleton_of v)) (labelled (skeleton_of v)) passes along (dart_in v d) (dart_in v e) q in
+        let t = told (next (darts (skeleton_of v))) (darts (skeleton_of v)) (least_dart_of (skeleton_of v)) (labelled (skeleton_of v)) passes along (dart_in v d) (dart_in v e) q in
         names_exact.path _ _ (sym (passes_is d hd) ∙ t ∙ passes_is e he ∙ names_exact.itself (cycle_label v e))
 
 pub names_tell_cycles : NamesTellCycles

@@ -14,12 +14,12 @@ use Rattle.slab_laws.specs.Darts.{Dart, darts, ahead, back}
 use Rattle.slab_laws.specs.Changes.{merged, IsCell}
 use Rattle.slab_laws.specs.Rotation.{twin, same_dart}
 use Rattle.slab_laws.specs.Cycles.{dart_labels, darts_on}
-use Rattle.slab_laws.specs.Rows.{lead_of}
+use Rattle.slab_laws.specs.Rows.{least_dart_of}
 use Rattle.slab_faces.proofs.Sums.{each, even_sum, sum_by-same, sum_by-plus}
 use Rattle.slab_faces.proofs.Parity.{even_if}
 use Rattle.slab_faces.proofs.OuterCycles.{cond_plus}
 use Rattle.slab_faces.proofs.NextLemmas.{darts_exact}
-use Rattle.sound_links.specs.Next.{HasEdgeMore, IsDartOf}
+use Rattle.sound_changes.specs.NextLaws.{HasEdgeMore, IsDartOf}
 use Rattle.face_changes.specs.Orbits.{IsOrbitSplit, AreOrbitsUnited}
 use Rattle.face_changes.proofs.OneToOneMaps.{unlike, tally}
 use Rattle.face_changes.proofs.EdgeOrder.{weight_apart}
@@ -30,7 +30,7 @@ abbrev pub weight_of : Skeleton → Dart → SlabCell → ℕ
 weight_of g l c = weight_above g (darts_on (dart_labels (darts g)) l) c.slab c.place
 
 -- an edge's darts on a cycle, one after the other
-pub on_edge : (g : Skeleton) (l : Dart) (z : Edge) → darts_on (dart_labels (darts g)) l z ≡ tally (same_dart (lead_of g (ahead z)) l) + tally (same_dart (lead_of g (back z)) l)
+pub on_edge : (g : Skeleton) (l : Dart) (z : Edge) → darts_on (dart_labels (darts g)) l z ≡ tally (same_dart (least_dart_of g (ahead z)) l) + tally (same_dart (least_dart_of g (back z)) l)
 unfolding darts_on
 on_edge g l z = refl
 
@@ -60,10 +60,10 @@ module _ (g : Skeleton) (hs : List Edge) (e : Edge) (plane : IsPlaneSkeleton (re
   h = record { vertices = g.vertices; edges = hs }
 
   abbrev L : Dart → Dart
-  L = lead_of g
+  L = least_dart_of g
 
   abbrev M : Dart → Dart
-  M = lead_of (record { vertices = g.vertices; edges = hs })
+  M = least_dart_of (record { vertices = g.vertices; edges = hs })
 
   -- weights that differ by an even number on each old edge, and are even on e
   pub even_apart : (m n : Edge → ℕ) (c : SlabCell) → IsCell g e c → Even (m e) → ((z : Edge) → Contains g.edges z → Even (m z + n z)) → Even (weight_above h m c.slab c.place + weight_above g n (merged g e c).slab (merged g e c).place)

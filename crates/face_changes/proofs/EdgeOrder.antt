@@ -15,7 +15,7 @@ use Rattle.slab_laws.specs.Darts.{cell_by, cell_of}
 use Rattle.slab_laws.specs.Weights.{weight_above}
 use Rattle.slab_laws.specs.Meets.{Meets, SameFace, across, here, right, left}
 use Rattle.slab_laws.specs.Changes.{merged, IsCell}
-use Rattle.slab_faces.specs.Laws.{IsSplitBy, whole, over_under, under_over}
+use Rattle.slab_faces.specs.FaceLaws.{IsSplitBy, whole, over_under, under_over}
 use Rattle.slab_faces.proofs.Sums.{each, sum_by-same, sum_by-swap, sum_by-cond}
 use Rattle.slab_faces.proofs.Shift.{IsSetBy}
 use Rattle.slab_faces.proofs.Slabs.{same_edge_is, same_edge_refl}
@@ -26,7 +26,7 @@ use Rattle.slab_faces.proofs.Cells.{right_few, spans_left}
 use Rattle.slab_faces.proofs.EveryFace.{none_counted, passing}
 use Rattle.slab_faces.proofs.Walls.{left_of-irrefl}
 use Rattle.face_changes.proofs.MergedCells.{merged_weight, cell_merged}
-use Rattle.sound_links.specs.Next.{HasEdgeMore}
+use Rattle.sound_changes.specs.NextLaws.{HasEdgeMore}
 
 -- ---- lists with the same members, each once
 module _ {X : Type 0} (eq : X → X → Bool) (F : X → ℕ) where

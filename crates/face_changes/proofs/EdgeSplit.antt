@@ -1,8 +1,8 @@
 -- An edge that is split at a point inside it: at each point counts are as before, so cells widen to the old ones; both parts have the side and the gaps of the whole.
 -- g has the edge e, h its two parts at v; hv and hs are the vertices and edges of h, `rest` the edges of both; L and M give the least dart of a cycle in g and in h;
 -- z is any edge, q a part of e, fw the way of a dart; `Low` and `High` say that the parts are edges of h, `V` that v is a vertex of it, `W` that v has a weight.
-use Rattle.std.proofs.Common.{◌≡◌, ℕ, zero, suc, ◌+◌, ◌<◌, ◌≤◌, Bool, true, false, cond, arith, refl, sym, ap, ◌∙◌, subst, ◌⊎◌, inl, inr, List, ◌∷◌}
-use Rattle.std.specs.Prelude.{not, ◌&&◌, ◌||◌, ◌%◌, ◌==◌}
+use Rattle.std.proofs.Common.{◌≡◌, ℕ, zero, suc, ◌+◌, ◌<◌, ◌≤◌, Bool, true, false, cond, arith, refl, sym, ap, ◌∙◌, subst, ◌⊎◌, inl, inr, List, ◌∷◌, []}
+use Rattle.std.specs.Prelude.{not, ◌&&◌, ◌||◌, ◌%◌, ◌==◌, ℤ, pos, ◌-ℤ◌, ◌*ℤ◌, ◌+ℤ◌}
 use Rattle.std.specs.List.{count_by, Contains}
 use Rattle.std.proofs.lemmas.Bool.{and_from, false≢true, true≢false, and_parts, not-true, false_from_ne_true, cases_Bool, cases_lt, lt-ltb, le-ltb}
 use Rattle.std.proofs.lemmas.Bool.Decides.{nat_tests}
@@ -14,12 +14,12 @@ use Rattle.slab_laws.specs.Skeleton.{over, run, side, gap, foot, lower_than, pre
 use Rattle.slab_laws.specs.Slabs.{slab_left, slab_right, spans, place, reaches_left, reaches_right, left_cell, right_cell, left_count, right_count, width}
 use Rattle.slab_laws.specs.Weights.{weight_above}
 use Rattle.slab_laws.specs.Darts.{Dart, darts, ahead, back, cell_by, cell_of}
-use Rattle.slab_laws.specs.Meets.{IsOnWall, IsOpenAbove, SameFace, across, here, right}
+use Rattle.slab_laws.specs.Meets.{IsOnWall, IsOpenAbove, SameFace, across, here, right, covers_above}
 use Rattle.slab_laws.specs.Cycles.{dart_labels, darts_on, odd, left_of_dart}
 use Rattle.slab_laws.specs.Faces.{cells}
-use Rattle.slab_laws.specs.Rows.{lead_of}
+use Rattle.slab_laws.specs.Rows.{least_dart_of}
 use Rattle.slab_faces.proofs.Sums.{each, sum_by-same}
-use Rattle.slab_faces.proofs.Walls.{left_of-asym, left_of-before, left_of-after, left_of-irrefl, on_wall_parts}
+use Rattle.slab_faces.proofs.Walls.{left_of-asym, left_of-before, left_of-after, left_of-irrefl, on_wall_parts, run_positive, side-upper, lower_than-before, lower_than-asym}
 use Rattle.slab_faces.proofs.Cells.{right_few, spans_left, spans_right}
 use Rattle.slab_faces.proofs.Nudge.{left_inside, is_slab_left, right_inside, is_slab_right}
 use Rattle.slab_laws.specs.Rotation.{next, same_dart}
@@ -39,21 +39,17 @@ use Rattle.slab_faces.proofs.EveryFace.{passing, edge_at}
 use Rattle.slab_faces.proofs.Member.{in_member}
 use Rattle.slab_faces.proofs.FacesLemmas.{lowest_meets}
 use Rattle.slab_faces.proofs.WallsLemmas.{off_walls}
-use Rattle.sound_links.specs.Next.{IsDartOf}
+use Rattle.sound_changes.specs.NextLaws.{IsDartOf}
 use Rattle.face_changes.specs.Kinds.{is_outer}
 use Rattle.face_changes.specs.OneMoreVertex.{widened}
 use Rattle.face_changes.specs.EdgeSplit.{HasEdgeSplit, whole_dart, FollowsSplit, EdgeSplitInTwo}
-use Rattle.std.specs.Prelude.{ℤ, pos, ◌-ℤ◌, ◌*ℤ◌, ◌+ℤ◌}
-use Rattle.std.proofs.Common.{[]}
 use Rattle.std.proofs.lemmas.Int.{ints}
 use lib.Signed.{lt_z}
 use Rattle.integers.proofs.Reify.{ring, sides}
-use Rattle.edge_fans.specs.Parts.{lower_part, upper_part}
-use Rattle.edge_fans.proofs.Factors.{same_above}
+use Rattle.rotation_order.specs.EdgeParts.{lower_part, upper_part}
+use Rattle.rotation_order.proofs.Factors.{same_above}
 use Rattle.plane_graphs.proofs.Lists.{both_ways}
-use Rattle.slab_laws.specs.Meets.{covers_above}
-use Rattle.sound_splits.proofs.Inside.{MeanOf, mean_of, inside_out, lower_side, upper_side, lower_right, upper_right}
-use Rattle.slab_faces.proofs.Walls.{run_positive, side-upper, lower_than-before, lower_than-asym}
+use Rattle.sound_changes.proofs.PointInside.{MeanOf, mean_of, inside_out, lower_side, upper_side, lower_right, upper_right}
 
 -- ---- a part has the sides and the gaps of the whole
 scaled : (k c rq re sq se rz sz : ℤ) → k *ℤ rq ≡ c *ℤ re → k *ℤ sq ≡ c *ℤ se → k *ℤ (rq *ℤ sz -ℤ rz *ℤ sq) ≡ c *ℤ (re *ℤ sz -ℤ rz *ℤ se)
@@ -660,10 +656,10 @@ module _ (g : Skeleton) (hv : List Point) (hs : List Edge) (e : Edge) (v : Point
 
   module _ (fl : FollowsSplit g (record { vertices = hv; edges = hs }) e v) where
     abbrev L : Dart → Dart
-    L = lead_of g
+    L = least_dart_of g
 
     abbrev M : Dart → Dart
-    M = lead_of (record { vertices = hv; edges = hs })
+    M = least_dart_of (record { vertices = hv; edges = hs })
 
     -- darts of h, one sort after the other
     sorted : (P : Dart → Type 0) → ((fw : Bool) → P (record { edge = lower_part e v; forward = fw })) → ((fw : Bool) → P (record { edge = upper_part e v; forward = fw })) → ((d : Dart) → Contains rest d.edge → P d) → (d : Dart) → IsDartOf h d → P d
@@ -765,10 +761,10 @@ module _ (g : Skeleton) (hv : List Point) (hs : List Edge) (e : Edge) (v : Point
 
     module _ (d : Dart) (D : IsDartOf h d) where
       abbrev n : Edge → ℕ
-      n = darts_on (dart_labels (darts (record { vertices = hv; edges = hs }))) (lead_of (record { vertices = hv; edges = hs }) d)
+      n = darts_on (dart_labels (darts (record { vertices = hv; edges = hs }))) (least_dart_of (record { vertices = hv; edges = hs }) d)
 
       abbrev k : Edge → ℕ
-      k = darts_on (dart_labels (darts g)) (lead_of g (whole d))
+      k = darts_on (dart_labels (darts g)) (least_dart_of g (whole d))
 
       one_count : (z y : Edge) → Contains hs z → ((fw : Bool) → whole (record { edge = z; forward = fw }) ≡ (record { edge = y; forward = fw })) → n z ≡ k y
       one_count z y Z w =

@@ -13,38 +13,38 @@ use Rattle.slab_laws.specs.Meets.{SameFace}
 use Rattle.slab_laws.specs.Changes.{merged}
 use Rattle.slab_laws.specs.Rotation.{twin, same_dart}
 use Rattle.slab_laws.specs.Cycles.{dart_labels, darts_on, left_of_dart}
-use Rattle.slab_laws.specs.Rows.{lead_of}
+use Rattle.slab_laws.specs.Rows.{least_dart_of}
 use Rattle.slab_faces.proofs.Turns.{face_trans, face_sym, member_cases}
 use Rattle.slab_faces.proofs.Member.{in_member}
 use Rattle.slab_faces.proofs.Slabs.{same_edge_is}
 use Rattle.slab_faces.proofs.NextLemmas.{next_keeps_face}
 use Rattle.slab_faces.proofs.Added.{first, rest}
-use Rattle.sound_links.specs.Next.{HasEdgeMore, IsDartOf, IsBareEnd, ComesBetween, IsNextWithMore}
-use Rattle.sound_links.proofs.Next.{next_with_an_edge_more}
+use Rattle.sound_changes.specs.NextLaws.{HasEdgeMore, IsDartOf, IsBareEnd, ComesBetween, IsNextWithMore}
+use Rattle.sound_changes.proofs.NextDarts.{next_with_one_more_edge}
 use Rattle.face_changes.specs.Orbits.{AreOrbitsKept}
 use Rattle.face_changes.proofs.EdgeOrder.{finer}
-use Rattle.sound_rings.proofs.Turned.{twin_twice}
 use Rattle.face_changes.proofs.LinkedCycles.{up, dart_there, either, parts, joins, grows, apart}
 use Rattle.face_changes.proofs.CycleParities.{weight_of, choose, same_is, same_not, on_edge, weights_even, one_even, own_even}
 use Rattle.face_changes.proofs.MergedCells.{not_there}
 use Rattle.face_changes.proofs.OuterCycles.{own_weight, cycle_face}
 use Rattle.face_changes.proofs.PartedCycle.{old_left, real_left, beside}
 use Rattle.face_changes.proofs.OneOuterKept.{IsOuterOnce, split_once, kept_once, united_once}
+use Rattle.sound_views.proofs.RoundTurned.{twin_twice}
 
 module _ (g : Skeleton) (hs : List Edge) (e : Edge) (plane : IsPlaneSkeleton (record { vertices = g.vertices; edges = hs })) (plane_g : IsPlaneSkeleton g) (more : HasEdgeMore g (record { vertices = g.vertices; edges = hs }) e) where
   abbrev h : Skeleton
   h = record { vertices = g.vertices; edges = hs }
 
   abbrev L : Dart → Dart
-  L = lead_of g
+  L = least_dart_of g
 
   abbrev M : Dart → Dart
-  M = lead_of (record { vertices = g.vertices; edges = hs })
+  M = least_dart_of (record { vertices = g.vertices; edges = hs })
 
   -- the face of a dart after which x comes
   pub near : (x a : Dart) → IsDartOf g a → x.edge ≡ e → ComesBetween g a x → SameFace g (left_of_dart g a) (merged g e (left_of_dart h x))
   near x a A q k =
-      let n : IsNextWithMore g h e = next_with_an_edge_more g h e plane_g plane more in
+      let n : IsNextWithMore g h e = next_with_one_more_edge g h e plane_g plane more in
       beside g hs e plane plane_g more a (left_of_dart h x) A (subst (λ z. SameFace h (left_of_dart h a) (left_of_dart h z)) (n.between a x A q k) (next_keeps_face h a plane (up g h e plane_g plane more a A)))
 
   -- ---- the old cycles stay, and x and its twin are on one cycle
@@ -99,7 +99,7 @@ module _ (g : Skeleton) (hs : List Edge) (e : Edge) (plane : IsPlaneSkeleton (re
   -- ---- whatever the edge links
   pub step : IsOuterOnce g → IsOuterOnce h
   step o =
-      let n : IsNextWithMore g h e = next_with_an_edge_more g h e plane_g plane more in
+      let n : IsNextWithMore g h e = next_with_one_more_edge g h e plane_g plane more in
       let x : Dart = ahead e in
       let y : Dart = twin x in
       elim (n.somewhere x refl) [

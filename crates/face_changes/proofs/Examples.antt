@@ -1,26 +1,22 @@
--- Small plane graphs before and after one edge more. The texts are what another program, which works with exact fractions, answers to `show`:
+-- Small plane graphs before and after one more edge. The texts are what another program, which works with exact fractions, answers to `show`:
 -- it was run as `python3 planar_oracle.py` on the lines above each. The kinds, and on which side of the edge a thing is, are read off these texts.
-use Rattle.std.proofs.Common.{◌≡◌, Bool, true, false, pos, [], ◌∷◌, codes, refl}
+use Rattle.std.proofs.Common.{◌≡◌, true, false, pos, [], ◌∷◌, codes, refl}
 use Rattle.exact_plane.specs.Point.{Point}
 use Rattle.plane_graphs.specs.Piece.{Present}
 use Rattle.plane_graphs.specs.Graph.{graph}
+use Rattle.slab_laws.proofs.Examples.{piece, opened, at}
 use Rattle.slab_laws.specs.Cycles.{left_of_dart}
 use Rattle.slab_laws.specs.Darts.{Dart}
-use Rattle.slab_laws.specs.Rotation.{twin, same_dart}
-use Rattle.slab_laws.specs.Rows.{lead_of}
+use Rattle.slab_laws.specs.Rotation.{twin}
 use Rattle.slab_laws.specs.Skeleton.{Skeleton}
 use Rattle.slab_laws.specs.Slabs.{left_cell}
 use Rattle.slab_laws.specs.Text.{present_text, skeleton}
-use Rattle.slab_laws.proofs.Examples.{opened, at, piece}
 use Rattle.face_changes.specs.Kinds.{odd_at, is_outer}
+use Rattle.sound_views.specs.FaceOrderLaws.{same_cycle}
 
 -- the dart from p to q, which comes after it
 abbrev from : Point → Point → Dart
 from p q = record { edge = record { low = p; high = q }; forward = true }
-
--- two darts are on one cycle
-abbrev together : Skeleton → Dart → Dart → Bool
-together g d e = same_dart (lead_of g d) (lead_of g e)
 
 -- ---- a square: the cycle inside it is outer, the one round it is a hole
 -- segment 0 0 8 0; segment 8 0 8 8; segment 0 8 8 8; segment 0 0 0 8; show
@@ -63,7 +59,7 @@ of_square_within = skeleton (graph square_within)
 abbrev fourth : Dart
 fourth = from (at (pos 3) (pos 3)) (at (pos 6) (pos 3))
 
-square_within-kinds : (is_outer of_square_within fourth ≡ true) × (is_outer of_square_within (twin fourth) ≡ false) × (together of_square_within fourth (twin fourth) ≡ false)
+square_within-kinds : (is_outer of_square_within fourth ≡ true) × (is_outer of_square_within (twin fourth) ≡ false) × (same_cycle of_square_within fourth (twin fourth) ≡ false)
 unfolding opened
 square_within-kinds = (refl, refl, refl)
 
@@ -86,7 +82,7 @@ left_hole = from (at (pos 1) (pos 3)) (at (pos 3) (pos 3))
 abbrev right_hole : Dart
 right_hole = from (at (pos 5) (pos 3)) (at (pos 7) (pos 3))
 
-two_holes-kinds : (is_outer of_two_holes left_hole ≡ false) × (together of_two_holes left_hole (twin left_hole) ≡ true) × (together of_two_holes left_hole right_hole ≡ false)
+two_holes-kinds : (is_outer of_two_holes left_hole ≡ false) × (same_cycle of_two_holes left_hole (twin left_hole) ≡ true) × (same_cycle of_two_holes left_hole right_hole ≡ false)
 unfolding opened
 two_holes-kinds = (refl, refl, refl)
 
@@ -106,7 +102,7 @@ of_parted = skeleton (graph parted)
 abbrev wall : Dart
 wall = from (at (pos 4) (pos 0)) (at (pos 4) (pos 8))
 
-parted-kinds : (is_outer of_parted wall ≡ true) × (is_outer of_parted (twin wall) ≡ true) × (together of_parted wall (twin wall) ≡ false)
+parted-kinds : (is_outer of_parted wall ≡ true) × (is_outer of_parted (twin wall) ≡ true) × (same_cycle of_parted wall (twin wall) ≡ false)
 unfolding opened
 parted-kinds = (refl, refl, refl)
 
@@ -142,7 +138,7 @@ of_dangling = skeleton (graph dangling)
 abbrev antenna : Dart
 antenna = from (at (pos 0) (pos 0)) (at (pos 3) (pos 4))
 
-dangling-kinds : (is_outer of_dangling antenna ≡ true) × (together of_dangling antenna (twin antenna) ≡ true) × (together of_dangling antenna (from (at (pos 0) (pos 0)) (at (pos 8) (pos 0))) ≡ true)
+dangling-kinds : (is_outer of_dangling antenna ≡ true) × (same_cycle of_dangling antenna (twin antenna) ≡ true) × (same_cycle of_dangling antenna (from (at (pos 0) (pos 0)) (at (pos 8) (pos 0))) ≡ true)
 unfolding opened
 dangling-kinds = (refl, refl, refl)
 
@@ -163,7 +159,7 @@ apart-text = refl
 abbrev of_apart : Skeleton
 of_apart = skeleton (graph apart)
 
-apart-cycles : together of_apart (from (at (pos 0) (pos 0)) (at (pos 0) (pos 2))) (from (at (pos 5) (pos 0)) (at (pos 5) (pos 2))) ≡ false
+apart-cycles : same_cycle of_apart (from (at (pos 0) (pos 0)) (at (pos 0) (pos 2))) (from (at (pos 5) (pos 0)) (at (pos 5) (pos 2))) ≡ false
 unfolding opened
 apart-cycles = refl
 
@@ -182,7 +178,7 @@ of_bridged = skeleton (graph bridged)
 abbrev bridge : Dart
 bridge = from (at (pos 0) (pos 2)) (at (pos 5) (pos 2))
 
-bridged-kinds : (is_outer of_bridged bridge ≡ false) × (together of_bridged bridge (twin bridge) ≡ true) × (together of_bridged (from (at (pos 0) (pos 0)) (at (pos 0) (pos 2))) (from (at (pos 5) (pos 0)) (at (pos 5) (pos 2))) ≡ true)
+bridged-kinds : (is_outer of_bridged bridge ≡ false) × (same_cycle of_bridged bridge (twin bridge) ≡ true) × (same_cycle of_bridged (from (at (pos 0) (pos 0)) (at (pos 0) (pos 2))) (from (at (pos 5) (pos 0)) (at (pos 5) (pos 2))) ≡ true)
 unfolding opened
 bridged-kinds = (refl, refl, refl)
 
@@ -217,6 +213,6 @@ tied-text = refl
 abbrev of_tied : Skeleton
 of_tied = skeleton (graph tied)
 
-tied-kinds : (is_outer of_tied hole ≡ true) × (together of_tied hole (from (at (pos 0) (pos 0)) (at (pos 8) (pos 0))) ≡ true)
+tied-kinds : (is_outer of_tied hole ≡ true) × (same_cycle of_tied hole (from (at (pos 0) (pos 0)) (at (pos 8) (pos 0))) ≡ true)
 unfolding opened
 tied-kinds = (refl, refl)

@@ -23,8 +23,8 @@ use Rattle.slab_faces.proofs.Member.{Member, member_in, in_member}
 use Rattle.slab_faces.proofs.FacesLemmas.{one_label, one_face}
 use Rattle.slab_faces.proofs.Turns.{face_sym}
 use Rattle.slab_faces.proofs.WallsLemmas.{cell_there}
-use Rattle.sound_links.specs.Next.{IsDartOf}
-use Rattle.sound_views.proofs.Named.{names_are_darts}
+use Rattle.sound_changes.specs.NextLaws.{IsDartOf}
+use Rattle.sound_views.proofs.NamedDarts.{names_are_darts}
 use Rattle.face_changes.specs.Kinds.{is_outer}
 use Rattle.face_changes.specs.FacesByPairs.{Item, outside, beside, round, HasItem, cell_at, name_at, first_or, AreFacesTold, AreFacesByCells, OuterCyclesFollow, FacesToldByPairs}
 use Rattle.face_changes.proofs.LinkedCycles.{dart_there, there_dart}

@@ -7,18 +7,18 @@ use Rattle.std.proofs.lemmas.Bool.{false≢true, true≢false}
 use Rattle.plane_graphs.specs.Graph.{Edge}
 use Rattle.slab_laws.specs.Darts.{Dart, darts, source}
 use Rattle.slab_laws.specs.Rotation.{twin, next, same_dart}
-use Rattle.slab_laws.specs.Rows.{lead_of}
+use Rattle.slab_laws.specs.Rows.{least_dart_of}
 use Rattle.slab_laws.specs.Skeleton.{Skeleton, IsPlaneSkeleton}
 use Rattle.slab_faces.proofs.Member.{member_in, in_member}
 use Rattle.slab_faces.proofs.NextLemmas.{darts_exact, dart_in, dart_out, next_from, next_one}
 use Rattle.slab_faces.proofs.CyclesLemmas.{is_set, one_to_one, one_cycle}
 use Rattle.slab_faces.proofs.DartOrder.{along}
-use Rattle.sound_rings.proofs.Turned.{twin_twice}
-use Rattle.sound_links.specs.Next.{HasEdgeMore, IsDartOf, IsBareEnd, ComesBetween, IsNextWithMore}
-use Rattle.sound_links.proofs.Next.{next_with_an_edge_more}
+use Rattle.sound_changes.specs.NextLaws.{HasEdgeMore, IsDartOf, IsBareEnd, ComesBetween, IsNextWithMore}
+use Rattle.sound_changes.proofs.NextDarts.{next_with_one_more_edge}
 use Rattle.face_changes.specs.Orbits.{IsOrbitSplit, AreOrbitsUnited, AreOrbitsKept}
 use Rattle.face_changes.proofs.OrbitSplices.{IsLabelled, IsSpliced, split, united}
 use Rattle.face_changes.proofs.OrbitGrowth.{grown, alone}
+use Rattle.sound_views.proofs.RoundTurned.{twin_twice}
 
 -- a dart of the graph is in its list of darts, and the other way round
 pub dart_there : (g : Skeleton) (d : Dart) → IsDartOf g d → Contains (darts g) d
@@ -28,7 +28,7 @@ pub there_dart : (g : Skeleton) (d : Dart) → Contains (darts g) d → IsDartOf
 there_dart g d D = dart_out g d (in_member (darts g) d D)
 
 -- least darts label the orbits of next
-pub labelled : (g : Skeleton) → IsLabelled (next (darts g)) (darts g) (lead_of g)
+pub labelled : (g : Skeleton) → IsLabelled (next (darts g)) (darts g) (least_dart_of g)
 labelled g = record {
   step = λ d D. one_cycle g d (in_member (darts g) d D);
   agree = λ p h d. along g (λ x y. p x ≡ p y) (record { itself = λ x. refl; back = λ x y k. sym k; on = λ x y z k l. k ∙ l }) (λ d D. h d (member_in (darts g) d D)) d;
@@ -36,7 +36,7 @@ labelled g = record {
 
 module _ (g h : Skeleton) (e : Edge) (plane_g : IsPlaneSkeleton g) (plane_h : IsPlaneSkeleton h) (more : HasEdgeMore g h e) where
   goes : IsNextWithMore g h e
-  goes = next_with_an_edge_more g h e plane_g plane_h more
+  goes = next_with_one_more_edge g h e plane_g plane_h more
 
   -- the darts of h: the old ones, and those of e
   pub up : (d : Dart) → IsDartOf g d → IsDartOf h d
@@ -76,9 +76,6 @@ module _ (g h : Skeleton) (e : Edge) (plane_g : IsPlaneSkeleton g) (plane_h : Is
   one_before x y a Y A q k l = next_one h y a plane_h (up y Y) (up a A) (goes.between y x Y q k ∙ sym (goes.between a x A q l))
 
   module _ (x : Dart) (q : x.edge ≡ e) where
-    q' : (twin x).edge ≡ e
-    q' = q
-
     module _ (a b : Dart) (A : IsDartOf g a) (B : IsDartOf g b) (at_a : ComesBetween g a x) (at_b : ComesBetween g b (twin x)) where
       -- both ends have darts: the new ones are put in after a and b
       pub spliced : IsSpliced (next (darts g)) (next (darts h)) (darts g) (darts h) x (twin x) a b
@@ -104,18 +101,18 @@ module _ (g h : Skeleton) (e : Edge) (plane_g : IsPlaneSkeleton g) (plane_h : Is
       }
 
       -- on one cycle: it is parted
-      pub parts : lead_of g a ≡ lead_of g b → IsOrbitSplit (lead_of g) (lead_of h) (darts g) x (twin x) a
-      parts one = split same_dart darts_exact.path darts_exact.itself (next (darts g)) (next (darts h)) (darts g) (darts h) (lead_of g) (lead_of h) (labelled g) (labelled h) x (twin x) a b spliced (is_set g plane_g) (one_to_one g plane_g) one
+      pub parts : least_dart_of g a ≡ least_dart_of g b → IsOrbitSplit (least_dart_of g) (least_dart_of h) (darts g) x (twin x) a
+      parts one = split same_dart darts_exact.path darts_exact.itself (next (darts g)) (next (darts h)) (darts g) (darts h) (least_dart_of g) (least_dart_of h) (labelled g) (labelled h) x (twin x) a b spliced (is_set g plane_g) (one_to_one g plane_g) one
 
       -- on two cycles: these are joined
-      pub joins : (lead_of g a ≡ lead_of g b → ⊥) → AreOrbitsUnited (lead_of g) (lead_of h) (darts g) x (twin x) a b
-      joins two = united same_dart darts_exact.path darts_exact.itself (next (darts g)) (next (darts h)) (darts g) (darts h) (lead_of g) (lead_of h) (labelled g) (labelled h) x (twin x) a b spliced (is_set g plane_g) (one_to_one g plane_g) two
+      pub joins : (least_dart_of g a ≡ least_dart_of g b → ⊥) → AreOrbitsUnited (least_dart_of g) (least_dart_of h) (darts g) x (twin x) a b
+      joins two = united same_dart darts_exact.path darts_exact.itself (next (darts g)) (next (darts h)) (darts g) (darts h) (least_dart_of g) (least_dart_of h) (labelled g) (labelled h) x (twin x) a b spliced (is_set g plane_g) (one_to_one g plane_g) two
 
     -- x goes out after a, and ends where nothing is
     module _ (a : Dart) (A : IsDartOf g a) (at_a : ComesBetween g a x) (none : IsBareEnd g (twin x)) where
       -- so the cycle of a grows
-      pub grows : AreOrbitsKept (lead_of g) (lead_of h) (darts g) × (lead_of h x ≡ lead_of h a) × (lead_of h (twin x) ≡ lead_of h a)
-      grows = grown same_dart darts_exact.path darts_exact.itself (next (darts g)) (next (darts h)) (darts g) (darts h) (lead_of g) (lead_of h) (labelled g) (labelled h) (one_to_one g plane_g).inside x (twin x) a (record {
+      pub grows : AreOrbitsKept (least_dart_of g) (least_dart_of h) (darts g) × (least_dart_of h x ≡ least_dart_of h a) × (least_dart_of h (twin x) ≡ least_dart_of h a)
+      grows = grown same_dart darts_exact.path darts_exact.itself (next (darts g)) (next (darts h)) (darts g) (darts h) (least_dart_of g) (least_dart_of h) (labelled g) (labelled h) (one_to_one g plane_g).inside x (twin x) a (record {
         a_in = dart_there g a A;
         d_new = new_here x q;
         m_new = new_here (twin x) q;
@@ -147,8 +144,8 @@ module _ (g h : Skeleton) (e : Edge) (plane_g : IsPlaneSkeleton g) (plane_h : Is
       begins y z Y c = (next_from g y plane_g (there_dart g y Y)).at ∙ sym c.leaves
 
       -- so the new darts are a cycle of their own
-      pub apart : AreOrbitsKept (lead_of g) (lead_of h) (darts g) × (lead_of h (twin x) ≡ lead_of h x) × ((y : Dart) → Contains (darts g) y → lead_of h y ≡ lead_of h x → ⊥)
-      apart = alone same_dart darts_exact.path darts_exact.itself (next (darts g)) (next (darts h)) (darts g) (darts h) (lead_of g) (lead_of h) (labelled g) (labelled h) (one_to_one g plane_g).inside x (twin x) (record {
+      pub apart : AreOrbitsKept (least_dart_of g) (least_dart_of h) (darts g) × (least_dart_of h (twin x) ≡ least_dart_of h x) × ((y : Dart) → Contains (darts g) y → least_dart_of h y ≡ least_dart_of h x → ⊥)
+      apart = alone same_dart darts_exact.path darts_exact.itself (next (darts g)) (next (darts h)) (darts g) (darts h) (least_dart_of g) (least_dart_of h) (labelled g) (labelled h) (one_to_one g plane_g).inside x (twin x) (record {
         d_new = new_here x q;
         m_new = new_here (twin x) q;
         old = λ y Y. dart_there h y (up y (there_dart g y Y));

@@ -42,11 +42,11 @@ pub record AreEdgesAlike (g h : Skeleton) : Type 0 where
   pub open_up : (t : Point) → HasWeight t → IsOpenAbove g t → IsOpenAbove h t
 
 -- no vertex of g is on the wall of v
-abbrev pub IsOffWalls : Skeleton → Point → Type 0
+abbrev pub IsOffWalls : (g : Skeleton) (v : Point) → Type 0
 IsOffWalls g v = (u : Point) → Contains g.vertices u → on_wall u v ≡ false
 
 -- both sides of the wall of v are one face at each place
-abbrev pub IsOneFaceAcross : Skeleton → Point → Type 0
+abbrev pub IsOneFaceAcross : (h : Skeleton) → Point → Type 0
 IsOneFaceAcross h v = (j : ℕ) → j ≤ width h (slab_left h v) → SameFace h (record { slab = slab_left h v; place = j }) (record { slab = slab_right h v; place = j })
 
 module _ (g h : Skeleton) (v : Point) (m : HasNewVertex g h v) where

@@ -13,14 +13,14 @@ use Rattle.slab_laws.specs.Meets.{SameFace}
 use Rattle.slab_laws.specs.Changes.{merged, IsCell}
 use Rattle.slab_laws.specs.Rotation.{twin}
 use Rattle.slab_laws.specs.Cycles.{dart_labels, odd, left_of_dart}
-use Rattle.slab_laws.specs.Rows.{lead_of}
+use Rattle.slab_laws.specs.Rows.{least_dart_of}
 use Rattle.slab_laws.specs.Subdivision.{first_cell}
-use Rattle.slab_faces.specs.Laws.{IsSplitBy, whole, over_under, under_over}
+use Rattle.slab_faces.specs.FaceLaws.{IsSplitBy, whole, over_under, under_over}
 use Rattle.slab_faces.proofs.Turns.{face_trans, face_sym}
 use Rattle.slab_faces.proofs.CyclesLemmas.{cycle_parity}
 use Rattle.slab_faces.proofs.CyclesOfFaces.{cycle_across_edge}
 use Rattle.slab_faces.proofs.DartOrder.{lead_lead}
-use Rattle.sound_links.specs.Next.{HasEdgeMore, IsDartOf, IsBareEnd, ComesBetween}
+use Rattle.sound_changes.specs.NextLaws.{HasEdgeMore, IsDartOf, IsBareEnd, ComesBetween}
 use Rattle.face_changes.specs.Kinds.{odd_at, is_outer, CyclesAreOfOneKind, OneOuterCycle}
 use Rattle.face_changes.specs.OneMoreEdge.{IsOneMoreEdge, LiesIn, CellsWithOneMoreEdge, FacesWithOneMoreEdge, SidesOfOneMoreEdge, MakesHole, GrowsCycle, JoinsCycles, PartsCycle, CyclesWithOneMoreEdge}
 use Rattle.face_changes.proofs.EdgeOrder.{finer, two_at_most, old_cell, dart_real, vertex_real, vertex_cell, first_real}
@@ -101,23 +101,23 @@ or_odd h g l a b c d e k f = or_tests (weight_of h l c) (weight_of g a d) (weigh
 pub one_kind_each : CyclesAreOfOneKind
 one_kind_each = record {
   face = λ g d e plane q. cycle_face g plane d e q;
-  kind = λ g d e plane q. same_odd g g (lead_of g d) (lead_of g e) _ _ (one_kind g plane d e q);
+  kind = λ g d e plane q. same_odd g g (least_dart_of g d) (least_dart_of g e) _ _ (one_kind g plane d e q);
   lead = λ g d plane.
-      let k = same_odd g g (lead_of g d) (lead_of g (lead_of g d)) _ _ (one_kind g plane d (lead_of g d) (sym (lead_lead g d))) in
-      k ∙ ap (λ l. odd g (dart_labels (darts g)) l (left_of_dart g (lead_of g d))) (lead_lead g d);
+      let k = same_odd g g (least_dart_of g d) (least_dart_of g (least_dart_of g d)) _ _ (one_kind g plane d (least_dart_of g d) (sym (lead_lead g d))) in
+      k ∙ ap (λ l. odd g (dart_labels (darts g)) l (left_of_dart g (least_dart_of g d))) (lead_lead g d);
 }
 
 pub one_outer_cycle : OneOuterCycle
 one_outer_cycle = record {
   unbounded = λ g d plane D k. elim (cases_Bool (is_outer g d)) [
-    | inl t ↦ absurd ((outer_once g plane).none d D k (is_odd g (lead_of g d) (left_of_dart g d) t))
+    | inl t ↦ absurd ((outer_once g plane).none d D k (is_odd g (least_dart_of g d) (left_of_dart g d) t))
     | inr t ↦ t
   ];
   bounded = λ g c plane C ne. elim (outer_there g plane c C) [
     | inl k ↦ absurd (ne k)
-    | inr w ↦ (w.0, w.1, w.2, odd_yes g (lead_of g w.0) (left_of_dart g w.0) w.3)
+    | inr w ↦ (w.0, w.1, w.2, odd_yes g (least_dart_of g w.0) (left_of_dart g w.0) w.3)
   ];
-  once = λ g d e plane D E k u v. (outer_once g plane).once d e D E k (is_odd g (lead_of g d) (left_of_dart g d) u) (is_odd g (lead_of g e) (left_of_dart g e) v);
+  once = λ g d e plane D E k u v. (outer_once g plane).once d e D E k (is_odd g (least_dart_of g d) (left_of_dart g d) u) (is_odd g (least_dart_of g e) (left_of_dart g e) v);
 }
 
 -- ---- h as the vertices of g and a list of edges
@@ -145,7 +145,7 @@ module _ (g : Skeleton) (hs : List Edge) (x : Dart) (plane : IsPlaneSkeleton (re
   h = record { vertices = g.vertices; edges = hs }
 
   abbrev M : Dart → Dart
-  M = lead_of (record { vertices = g.vertices; edges = hs })
+  M = least_dart_of (record { vertices = g.vertices; edges = hs })
 
   over : SlabCell
   over = cell_of h x.edge true
@@ -222,7 +222,7 @@ module _ (g : Skeleton) (hs : List Edge) (x : Dart) (plane : IsPlaneSkeleton (re
         one = r.1;
         new = λ d D. r.2 d (dart_there g d D);
         inner = odd_no h (M x) (left_of_dart h x) (alone_even g hs x.edge plane plane_g more x refl r.0 (sym r.1) r.2 x refl);
-        kinds = λ d D. same_odd h g (M d) (lead_of g d) _ _ (same_kind g hs x.edge plane plane_g more x refl r.0 (sym r.1) d D);
+        kinds = λ d D. same_odd h g (M d) (least_dart_of g d) _ _ (same_kind g hs x.edge plane plane_g more x refl r.0 (sym r.1) d D);
       }
 
   grown : (a : Dart) → IsDartOf g a → ComesBetween g a x → IsBareEnd g (twin x) → GrowsCycle g h x a
@@ -232,7 +232,7 @@ module _ (g : Skeleton) (hs : List Edge) (x : Dart) (plane : IsPlaneSkeleton (re
         kept = r.0;
         first = r.1;
         second = r.2;
-        kinds = λ d D. same_odd h g (M d) (lead_of g d) _ _ (same_kind g hs x.edge plane plane_g more x refl r.0 (r.1 ∙ sym r.2) d D);
+        kinds = λ d D. same_odd h g (M d) (least_dart_of g d) _ _ (same_kind g hs x.edge plane plane_g more x refl r.0 (r.1 ∙ sym r.2) d D);
       }
 
   module _ (a b : Dart) (A : IsDartOf g a) (B : IsDartOf g b) (at_a : ComesBetween g a x) (at_b : ComesBetween g b (twin x)) where
@@ -242,7 +242,7 @@ module _ (g : Skeleton) (hs : List Edge) (x : Dart) (plane : IsPlaneSkeleton (re
     near_y : SameFace g (merged g x.edge (left_of_dart h (twin x))) (left_of_dart g b)
     near_y = face_sym g _ _ (near g hs x.edge plane plane_g more (twin x) b B refl at_b)
 
-    joined : (lead_of g a ≡ lead_of g b → ⊥) → JoinsCycles g h x a b
+    joined : (least_dart_of g a ≡ least_dart_of g b → ⊥) → JoinsCycles g h x a b
     joined two =
         let s = joins g h x.edge plane_g plane more x refl a b A B at_a at_b two in
         let near_b = face_trans g _ _ _ (finer g hs x.edge plane plane_g more _ _ (cycle_face h plane x (twin x) s.one)) near_y in
@@ -253,12 +253,12 @@ module _ (g : Skeleton) (hs : List Edge) (x : Dart) (plane : IsPlaneSkeleton (re
         record {
           cycles = s;
           one_face = face_trans g _ _ _ (face_sym g _ _ near_x) near_b;
-          not_both = λ u v. n (is_odd g (lead_of g a) (left_of_dart g a) u) (is_odd g (lead_of g b) (left_of_dart g b) v);
-          kind = or_odd h g (M x) (lead_of g a) (lead_of g b) _ _ _ (omega arith) n;
-          kinds = λ d D ne. same_odd h g (M d) (lead_of g d) _ _ (rest_kind g hs x.edge plane plane_g more outer x a b refl two s A B near_x near_b d D ne);
+          not_both = λ u v. n (is_odd g (least_dart_of g a) (left_of_dart g a) u) (is_odd g (least_dart_of g b) (left_of_dart g b) v);
+          kind = or_odd h g (M x) (least_dart_of g a) (least_dart_of g b) _ _ _ (omega arith) n;
+          kinds = λ d D ne. same_odd h g (M d) (least_dart_of g d) _ _ (rest_kind g hs x.edge plane plane_g more outer x a b refl two s A B near_x near_b d D ne);
         }
 
-    parted : lead_of g a ≡ lead_of g b → PartsCycle g h x a
+    parted : least_dart_of g a ≡ least_dart_of g b → PartsCycle g h x a
     parted one =
         let s = parts g h x.edge plane_g plane more x refl a b A B at_a at_b one in
         let near_b = face_trans g _ _ _ near_y (face_sym g _ _ (cycle_face g plane_g a b one)) in
@@ -269,12 +269,12 @@ module _ (g : Skeleton) (hs : List Edge) (x : Dart) (plane : IsPlaneSkeleton (re
           sides = λ c b C k. one_side g hs x.edge plane plane_g more x (twin x) a refl refl s A near_x near_b c C.real (subst (λ z. SameFace g z (left_of_dart g a)) (sym C.in') k);
           elsewhere = λ c d b b' C D ne k. others g hs x.edge plane plane_g more x (twin x) a refl refl s A near_x near_b c d C.real D.real (λ w. ne (subst (λ z. SameFace g z (left_of_dart g a)) C.in' w)) (subst (λ (z : SlabCell × SlabCell). SameFace g z.0 z.1) (λ i. (sym C.in' i, sym D.in' i)) k);
           of_outer = λ u.
-              let r = both_outer g hs x.edge plane plane_g more outer x (twin x) a refl refl s A near_x near_b (is_odd g (lead_of g a) (left_of_dart g a) u) in
+              let r = both_outer g hs x.edge plane plane_g more outer x (twin x) a refl refl s A near_x near_b (is_odd g (least_dart_of g a) (left_of_dart g a) u) in
               (odd_yes h (M x) (left_of_dart h x) r.0, odd_yes h (M (twin x)) (left_of_dart h (twin x)) r.1);
           of_inner = λ u.
-              let r = one_outer g hs x.edge plane plane_g more outer x (twin x) a refl refl s A near_x near_b (is_even g (lead_of g a) (left_of_dart g a) u) in
+              let r = one_outer g hs x.edge plane plane_g more outer x (twin x) a refl refl s A near_x near_b (is_even g (least_dart_of g a) (left_of_dart g a) u) in
               other_odd h h (M (twin x)) (M x) _ _ (omega arith);
-          kinds = λ d D ne. same_odd h g (M d) (lead_of g d) _ _ (other_kind g hs x.edge plane plane_g more x (twin x) a refl refl s A near_x near_b d D ne);
+          kinds = λ d D ne. same_odd h g (M d) (least_dart_of g d) _ _ (other_kind g hs x.edge plane plane_g more x (twin x) a refl refl s A near_x near_b d D ne);
         }
 
 pub faces_with_one_more_edge : FacesWithOneMoreEdge
@@ -283,8 +283,8 @@ faces_with_one_more_edge g h x c d b a m =
 
 pub sides_of_one_more_edge : SidesOfOneMoreEdge
 sides_of_one_more_edge = record {
-  one = λ g h x c d b a m. lift g h x (λ z. lead_of z x ≡ lead_of z (twin x) → LiesIn g z x.edge c b → LiesIn g z x.edge d a → SameFace z c d ↔ SameFace g b a) m (λ hs p k q C D. faces_stay g hs x p m.plane k q c d b a C D);
-  two = λ g h x m. lift g h x (λ z. lead_of z x ≢ lead_of z (twin x) → odd_at z x (left_of_dart z x) ≡ not (odd_at z x (left_of_dart z (twin x)))) m (λ hs p k ne. sides_part g hs x p m.plane k ne);
+  one = λ g h x c d b a m. lift g h x (λ z. least_dart_of z x ≡ least_dart_of z (twin x) → LiesIn g z x.edge c b → LiesIn g z x.edge d a → SameFace z c d ↔ SameFace g b a) m (λ hs p k q C D. faces_stay g hs x p m.plane k q c d b a C D);
+  two = λ g h x m. lift g h x (λ z. least_dart_of z x ≢ least_dart_of z (twin x) → odd_at z x (left_of_dart z x) ≡ not (odd_at z x (left_of_dart z (twin x)))) m (λ hs p k ne. sides_part g hs x p m.plane k ne);
 }
 
 pub cycles_with_one_more_edge : CyclesWithOneMoreEdge

@@ -15,7 +15,7 @@ use Rattle.slab_laws.specs.Darts.{Dart, darts, cell_by}
 use Rattle.slab_laws.specs.Meets.{IsOnWall, SameFace, here, right}
 use Rattle.slab_laws.specs.Cycles.{dart_labels, darts_on, odd, left_of_dart}
 use Rattle.slab_laws.specs.Faces.{cells}
-use Rattle.slab_laws.specs.Rows.{lead_of}
+use Rattle.slab_laws.specs.Rows.{least_dart_of}
 use Rattle.slab_faces.proofs.Sums.{each, sum_by-same}
 use Rattle.slab_faces.proofs.Walls.{left_of-asym}
 use Rattle.slab_faces.proofs.Cells.{spans_left, spans_right}
@@ -25,7 +25,7 @@ use Rattle.slab_faces.proofs.Turns.{on_own_wall, over_wall}
 use Rattle.slab_faces.proofs.EveryFace.{edge_at}
 use Rattle.slab_faces.proofs.Member.{in_member}
 use Rattle.slab_faces.proofs.FacesLemmas.{lowest_meets}
-use Rattle.sound_links.specs.Next.{IsDartOf}
+use Rattle.sound_changes.specs.NextLaws.{IsDartOf}
 use Rattle.face_changes.specs.Kinds.{is_outer}
 use Rattle.face_changes.specs.OneMoreVertex.{HasOneMoreVertex, widened, OneMoreVertex}
 use Rattle.face_changes.proofs.NewWall.{narrow, narrow_right, HasNewVertex, AreEdgesAlike, IsOffWalls, IsOneFaceAcross, V, same_spans, left_widened, right_widened, face_down, face_up}
@@ -131,7 +131,7 @@ module _ (g : Skeleton) (hv : List Point) (v : Point) (m : HasOneMoreVertex g (r
   same_odd l c = ap (λ n. n % 2 == 1) (same_weight (darts_on (dart_labels (darts g)) l) c.slab c.place)
 
   pub same_kind : (d : Dart) → IsDartOf g d → is_outer h d ≡ is_outer g d
-  same_kind d D = same_odd (lead_of g d) (left_of_dart h d) ∙ ap (odd g (dart_labels (darts g)) (lead_of g d)) (dart_widened d D)
+  same_kind d D = same_odd (least_dart_of g d) (left_of_dart h d) ∙ ap (odd g (dart_labels (darts g)) (least_dart_of g d)) (dart_widened d D)
 
 -- ---- h as the edges of g and a list of vertices
 abbrev with_vertices : Skeleton → List Point → Skeleton
@@ -149,6 +149,6 @@ one_more_vertex = record {
   dart = λ g h v d m D. lift g h v (λ z. widened g v (left_of_dart z d) ≡ left_of_dart g d) m (λ hv n. dart_widened g hv v n d D);
   faces = λ g h v c d m. lift g h v (λ z. Contains (cells z) c → Contains (cells z) d → SameFace z c d ↔ SameFace g (widened g v c) (widened g v d)) m
       (λ hv n C D. (face_down g (with_vertices g hv) v (new g hv v n) (alike g hv v n) c d, λ k. face_up g (with_vertices g hv) v (new g hv v n) (alike g hv v n) (across_it g hv v n) (widened g v c) (widened g v d) k c d (in_member (cells (record { vertices = hv; edges = g.edges })) c C) (in_member (cells (record { vertices = hv; edges = g.edges })) d D) refl refl));
-  leads = λ g h v d m. lift g h v (λ z. lead_of z d ≡ lead_of g d) m (λ hv n. refl);
+  leads = λ g h v d m. lift g h v (λ z. least_dart_of z d ≡ least_dart_of g d) m (λ hv n. refl);
   kinds = λ g h v d m D. lift g h v (λ z. is_outer z d ≡ is_outer g d) m (λ hv n. same_kind g hv v n d D);
 }

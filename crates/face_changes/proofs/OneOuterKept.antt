@@ -14,24 +14,24 @@ use Rattle.slab_laws.specs.Changes.{merged}
 use Rattle.slab_laws.specs.Rotation.{twin}
 use Rattle.slab_laws.specs.Cycles.{left_of_dart}
 use Rattle.slab_laws.specs.Faces.{cells}
-use Rattle.slab_laws.specs.Rows.{lead_of}
+use Rattle.slab_laws.specs.Rows.{least_dart_of}
 use Rattle.slab_laws.specs.Subdivision.{first_cell}
 use Rattle.slab_faces.proofs.Turns.{face_trans, face_sym}
 use Rattle.slab_faces.proofs.Member.{member_in}
 use Rattle.slab_faces.proofs.CyclesLemmas.{cycle_parity}
-use Rattle.sound_links.specs.Next.{HasEdgeMore, IsDartOf}
+use Rattle.sound_changes.specs.NextLaws.{HasEdgeMore, IsDartOf}
 use Rattle.face_changes.specs.Orbits.{IsOrbitSplit, AreOrbitsUnited}
 use Rattle.face_changes.proofs.EdgeOrder.{finer}
-use Rattle.sound_rings.proofs.Turned.{twin_twice}
 use Rattle.face_changes.proofs.LinkedCycles.{up, dart_there, there, either}
 use Rattle.face_changes.proofs.CycleParities.{weight_of, choose, whole_even, rest_even}
 use Rattle.slab_faces.proofs.ListedCells.{dart_cell}
 use Rattle.face_changes.proofs.OuterCycles.{Odd, own_weight, cycle_face, one_kind, outer_there}
 use Rattle.face_changes.proofs.PartedCycle.{swapped, old_left, real_left, beside, first_stays, two_faces, kinds, other_kind}
+use Rattle.sound_views.proofs.RoundTurned.{twin_twice}
 
 -- two outer cycles of one face are one, and the unbounded face has none
 pub record IsOuterOnce (g : Skeleton) : Type 0 where
-  pub once : (y z : Dart) → IsDartOf g y → IsDartOf g z → SameFace g (left_of_dart g y) (left_of_dart g z) → Odd (own_weight g y) → Odd (own_weight g z) → lead_of g y ≡ lead_of g z
+  pub once : (y z : Dart) → IsDartOf g y → IsDartOf g z → SameFace g (left_of_dart g y) (left_of_dart g z) → Odd (own_weight g y) → Odd (own_weight g z) → least_dart_of g y ≡ least_dart_of g z
   pub none : (y : Dart) → IsDartOf g y → SameFace g (left_of_dart g y) first_cell → Odd (own_weight g y) → ⊥
 
 pub parity : (n : ℕ) → Even n ⊎ Odd n
@@ -42,10 +42,10 @@ module _ (g : Skeleton) (hs : List Edge) (e : Edge) (plane : IsPlaneSkeleton (re
   h = record { vertices = g.vertices; edges = hs }
 
   abbrev L : Dart → Dart
-  L = lead_of g
+  L = least_dart_of g
 
   abbrev M : Dart → Dart
-  M = lead_of (record { vertices = g.vertices; edges = hs })
+  M = least_dart_of (record { vertices = g.vertices; edges = hs })
 
   abbrev left_g : Dart → SlabCell
   left_g = left_of_dart g

@@ -15,7 +15,7 @@ use Rattle.slab_laws.specs.Classes.{class_of}
 use Rattle.slab_laws.specs.Rotation.{next, same_dart, dart_cmp}
 use Rattle.slab_laws.specs.Cycles.{dart_labels, leads, odd, left_of_dart}
 use Rattle.slab_laws.specs.Faces.{face_labels, face_of, same_cell, cells}
-use Rattle.slab_laws.specs.Rows.{lead_of}
+use Rattle.slab_laws.specs.Rows.{least_dart_of}
 use Rattle.slab_laws.specs.Subdivision.{cycle, cycles, subdivision, first_cell}
 use Rattle.slab_faces.specs.CycleLaws.{bounds}
 use Rattle.slab_faces.proofs.Found.{found}
@@ -26,7 +26,7 @@ use Rattle.slab_faces.proofs.NextLemmas.{darts_exact, next_keeps_face}
 use Rattle.slab_faces.proofs.CyclesLemmas.{cycle_parity}
 use Rattle.slab_faces.proofs.DartOrder.{dart_cmp_total}
 use Rattle.slab_faces.proofs.EveryFace.{outer_cycles_of_every_face, first_width}
-use Rattle.sound_links.specs.Next.{IsDartOf}
+use Rattle.sound_changes.specs.NextLaws.{IsDartOf}
 use Rattle.face_changes.specs.Kinds.{IsBeside}
 use Rattle.face_changes.proofs.OrbitSplices.{told}
 use Rattle.face_changes.proofs.LinkedCycles.{labelled, there_dart}
@@ -38,7 +38,7 @@ Odd n = n % 2 ≡ 1
 
 -- the weight of a dart's own cycle in the cell on its left: odd where the cycle is outer
 abbrev pub own_weight : Skeleton → Dart → ℕ
-own_weight g d = weight_of g (lead_of g d) (left_of_dart g d)
+own_weight g d = weight_of g (least_dart_of g d) (left_of_dart g d)
 
 pub is_odd : (g : Skeleton) (l : Dart) (c : SlabCell) → odd g (dart_labels (darts g)) l c ≡ true → Odd (weight_of g l c)
 unfolding odd
@@ -49,18 +49,18 @@ module _ (g : Skeleton) (plane : IsPlaneSkeleton g) where
   face d = face_of (face_labels g) (left_of_dart g d)
 
   -- the darts of a cycle have one face
-  pub cycle_face : (d e : Dart) → lead_of g d ≡ lead_of g e → SameFace g (left_of_dart g d) (left_of_dart g e)
+  pub cycle_face : (d e : Dart) → least_dart_of g d ≡ least_dart_of g e → SameFace g (left_of_dart g d) (left_of_dart g e)
   unfolding face
   cycle_face d e q =
-      let t = told (next (darts g)) (darts g) (lead_of g) (labelled g) (λ z. same_cell (face z) (face e))
+      let t = told (next (darts g)) (darts g) (least_dart_of g) (labelled g) (λ z. same_cell (face z) (face e))
       (λ z Z. ap (λ f. same_cell f (face e)) (one_label g _ _ plane (next_keeps_face g z plane (there_dart g z Z)))) d e q in
       one_face g _ _ plane (cells_exact.path (face d) (face e) (t ∙ cells_exact.itself (face e)))
 
   -- so that its parity is the same beside all of them
-  pub one_kind : (d e : Dart) → lead_of g d ≡ lead_of g e → Even (own_weight g d + own_weight g e)
+  pub one_kind : (d e : Dart) → least_dart_of g d ≡ least_dart_of g e → Even (own_weight g d + own_weight g e)
   one_kind d e q =
-      let p = cycle_parity g (lead_of g d) (left_of_dart g d) (left_of_dart g e) plane (cycle_face d e q) in
-      let k : weight_of g (lead_of g d) (left_of_dart g e) ≡ own_weight g e = ap (λ l. weight_of g l (left_of_dart g e)) q in
+      let p = cycle_parity g (least_dart_of g d) (left_of_dart g d) (left_of_dart g e) plane (cycle_face d e q) in
+      let k : weight_of g (least_dart_of g d) (left_of_dart g e) ≡ own_weight g e = ap (λ l. weight_of g l (left_of_dart g e)) q in
       omega arith
 
   top_is_first : top_cell g 0 ≡ first_cell
@@ -71,12 +71,12 @@ module _ (g : Skeleton) (plane : IsPlaneSkeleton g) where
   abbrev pub HasOuter : SlabCell → Type 0
   HasOuter c = (d : Dart) × IsDartOf g d × IsBeside g d c × Odd (own_weight g d)
 
-  of_lead : (d : Dart) → Contains (leads (darts g) (dart_labels (darts g))) d → IsDartOf g d × (lead_of g d ≡ d)
+  of_lead : (d : Dart) → Contains (leads (darts g) (dart_labels (darts g))) d → IsDartOf g d × (least_dart_of g d ≡ d)
   unfolding leads
   of_lead d D =
       let m = Member-ascending dart_cmp dart_cmp_total d (filter (λ d. same_dart d (class_of same_dart (dart_labels (darts g)) d)) (darts g)) (to_member (leads (darts g) (dart_labels (darts g))) d D) in
       let f = filter_out (λ d. same_dart d (class_of same_dart (dart_labels (darts g)) d)) (darts g) d (in_member (filter (λ d. same_dart d (class_of same_dart (dart_labels (darts g)) d)) (darts g)) d (from_member (filter (λ d. same_dart d (class_of same_dart (dart_labels (darts g)) d)) (darts g)) d m)) in
-      (there_dart g d (member_in (darts g) d f.0), sym (darts_exact.path d (lead_of g d) f.1))
+      (there_dart g d (member_in (darts g) d f.0), sym (darts_exact.path d (least_dart_of g d) f.1))
 
   counts : (f : SlabCell) → count_by (bounds f) (subdivision g).cycles ≡ count_by (λ d. odd g (dart_labels (darts g)) d (left_of_dart g d) && same_cell (face_of (face_labels g) (left_of_dart g d)) f) (leads (darts g) (dart_labels (darts g)))
   unfolding subdivision cycles cycle

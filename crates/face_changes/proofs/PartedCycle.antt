@@ -14,13 +14,13 @@ use Rattle.slab_laws.specs.Meets.{SameFace}
 use Rattle.slab_laws.specs.Changes.{merged, IsCell}
 use Rattle.slab_laws.specs.Rotation.{twin}
 use Rattle.slab_laws.specs.Cycles.{dart_labels, darts_on, left_of_dart}
-use Rattle.slab_laws.specs.Rows.{lead_of}
+use Rattle.slab_laws.specs.Rows.{least_dart_of}
 use Rattle.slab_laws.specs.Subdivision.{first_cell}
-use Rattle.slab_faces.specs.Laws.{whole, over_under, under_over, IsSplitBy}
+use Rattle.slab_faces.specs.FaceLaws.{whole, over_under, under_over, IsSplitBy}
 use Rattle.slab_faces.proofs.Turns.{face_trans, face_sym}
 use Rattle.slab_faces.proofs.CyclesLemmas.{cycle_parity}
 use Rattle.slab_faces.proofs.CyclesOfFaces.{cycle_across_edge}
-use Rattle.sound_links.specs.Next.{HasEdgeMore, IsDartOf}
+use Rattle.sound_changes.specs.NextLaws.{HasEdgeMore, IsDartOf}
 use Rattle.face_changes.specs.Orbits.{IsOrbitSplit}
 use Rattle.face_changes.proofs.EdgeOrder.{finer, two_at_most, old_cell, dart_real}
 use Rattle.face_changes.proofs.LinkedCycles.{up, there}
@@ -43,10 +43,10 @@ module _ (g : Skeleton) (hs : List Edge) (e : Edge) (plane : IsPlaneSkeleton (re
   h = record { vertices = g.vertices; edges = hs }
 
   abbrev L : Dart → Dart
-  L = lead_of g
+  L = least_dart_of g
 
   abbrev M : Dart → Dart
-  M = lead_of (record { vertices = g.vertices; edges = hs })
+  M = least_dart_of (record { vertices = g.vertices; edges = hs })
 
   -- ---- an old dart's left cell, and those of two
   pub old_left : (y : Dart) → IsDartOf g y → merged g e (left_of_dart h y) ≡ left_of_dart g y

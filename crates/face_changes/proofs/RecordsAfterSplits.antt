@@ -17,7 +17,7 @@ use Rattle.slab_laws.specs.Changes.{merged, IsCell}
 use Rattle.slab_laws.specs.Cycles.{left_of_dart}
 use Rattle.slab_laws.specs.FacesSound.{lead_in, IsCycled, IsComplete}
 use Rattle.slab_laws.specs.Rotation.{twin}
-use Rattle.slab_laws.specs.Rows.{lead_of}
+use Rattle.slab_laws.specs.Rows.{least_dart_of}
 use Rattle.slab_laws.specs.Slabs.{left_cell}
 use Rattle.slab_laws.specs.Sound.{skeleton_of, dart_in, IsGraphSound}
 use Rattle.slab_laws.specs.Subdivision.{first_cell}
@@ -25,9 +25,9 @@ use Rattle.slab_laws.specs.View.{View, Faces, HasVertex, HasDart, HasCycle, HasF
 use Rattle.slab_faces.proofs.Member.{member_in, in_member, map_in}
 use Rattle.slab_faces.proofs.Turns.{face_at, face_trans, face_sym}
 use Rattle.sound_views.specs.Orders.{vertex_order}
-use Rattle.sound_views.proofs.Named.{names_are_darts}
-use Rattle.sound_views.proofs.Ordered.{vertices_in_order, vertices_are_ordered}
-use Rattle.sound_links.specs.Next.{IsDartOf}
+use Rattle.sound_views.proofs.NamedDarts.{names_are_darts}
+use Rattle.sound_views.proofs.NamesOrdered.{vertices_in_order, vertices_are_ordered}
+use Rattle.sound_changes.specs.NextLaws.{IsDartOf}
 use Rattle.face_changes.specs.Kinds.{odd_at, is_outer}
 use Rattle.face_changes.specs.OneMoreEdge.{LiesIn}
 use Rattle.face_changes.specs.FaceNames.{NamesTellFaces, AreNamesParted}
@@ -64,12 +64,12 @@ module _ (v w : View) (f s : Faces) (x y a : DartId) (fresh : CycleId) (fresh_fa
   is_dart : (k : DartId) → HasDart v k → IsDartOf (skeleton_of v) (dart_in v k)
   is_dart k o = there_dart (skeleton_of v) (dart_in v k) (listed k o)
 
-  lead_y : lead_in w y ≡ lead_of (skeleton_of w) (twin (dart_in w x))
-  lead_y = ap (lead_of (skeleton_of w)) l.twins
+  lead_y : lead_in w y ≡ least_dart_of (skeleton_of w) (twin (dart_in w x))
+  lead_y = ap (least_dart_of (skeleton_of w)) l.twins
 
   -- the label of an old dart with the edge
-  lead_old : (k : DartId) → HasDart v k → lead_in w k ≡ lead_of (skeleton_of w) (dart_in v k)
-  lead_old k o = ap (lead_of (skeleton_of w)) (l.old k o).1
+  lead_old : (k : DartId) → HasDart v k → lead_in w k ≡ least_dart_of (skeleton_of w) (dart_in v k)
+  lead_old k o = ap (least_dart_of (skeleton_of w)) (l.old k o).1
 
   data Sort (k : DartId) : Type 0 where
     on_x : lead_in w k ≡ lead_in w x → cycle_in s k ≡ fresh → (HasDart v k → cycle_in f k ≡ cycle_in f a) → Sort k

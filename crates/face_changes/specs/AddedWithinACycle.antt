@@ -8,7 +8,7 @@ use Rattle.slab_laws.specs.Skeleton.{IsPlaneSkeleton}
 use Rattle.slab_laws.specs.Sound.{skeleton_of, IsGraphSound}
 use Rattle.slab_laws.specs.View.{View, twin_in}
 use Rattle.arr_notes.specs.Step.{add_edge}
-use Rattle.sound_links.specs.Links.{FitsAddedEdge}
+use Rattle.sound_changes.specs.EdgePlaces.{FitsAddedEdge}
 use Rattle.face_changes.specs.RecordsAfterSplits.{IsLinkedWithin}
 
 -- the new darts come after the twins of at_u and of at_w; where these are on one cycle, it is parted

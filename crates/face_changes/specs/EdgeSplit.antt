@@ -4,7 +4,7 @@ use Rattle.std.specs.List.{Contains, count_by, sum_by}
 use Rattle.exact_plane.specs.Point.{Point}
 use Rattle.plane_graphs.specs.Graph.{Edge}
 use Rattle.plane_graphs.specs.Line.{IsProper}
-use Rattle.edge_fans.specs.Parts.{lower_part, upper_part}
+use Rattle.rotation_order.specs.EdgeParts.{lower_part, upper_part}
 use Rattle.slab_laws.specs.declared.slab_cell.SlabCell.{SlabCell}
 use Rattle.slab_laws.specs.Skeleton.{Skeleton, HasWeight, IsPlaneSkeleton, inside, same_edge}
 use Rattle.slab_laws.specs.Slabs.{left_cell}
@@ -13,8 +13,8 @@ use Rattle.slab_laws.specs.Meets.{SameFace}
 use Rattle.slab_laws.specs.Cycles.{left_of_dart}
 use Rattle.slab_laws.specs.Faces.{cells}
 use Rattle.slab_laws.specs.Rotation.{next}
-use Rattle.slab_laws.specs.Rows.{lead_of}
-use Rattle.sound_links.specs.Next.{IsDartOf}
+use Rattle.slab_laws.specs.Rows.{least_dart_of}
+use Rattle.sound_changes.specs.NextLaws.{IsDartOf}
 use Rattle.face_changes.specs.Kinds.{is_outer}
 use Rattle.face_changes.specs.OneMoreVertex.{widened}
 
@@ -47,6 +47,6 @@ pub record FollowsSplit (g h : Skeleton) (e : Edge) (p : Point) : Type 0 where
 pub record EdgeSplitInTwo : Type 0 where
   pub left : (g h : Skeleton) (e : Edge) (p : Point) (rest : List Edge) (t : Point) → HasEdgeSplit g h e p rest → HasWeight t → widened g p (left_cell h t) ≡ left_cell g t
   pub faces : (g h : Skeleton) (e : Edge) (p : Point) (rest : List Edge) (c d : SlabCell) → HasEdgeSplit g h e p rest → Contains (cells h) c → Contains (cells h) d → SameFace h c d ↔ SameFace g (widened g p c) (widened g p d)
-  pub leads : (g h : Skeleton) (e : Edge) (p : Point) (rest : List Edge) (d k : Dart) → HasEdgeSplit g h e p rest → FollowsSplit g h e p → IsDartOf h d → IsDartOf h k → (lead_of h d ≡ lead_of h k) ↔ (lead_of g (whole_dart e p d) ≡ lead_of g (whole_dart e p k))
+  pub leads : (g h : Skeleton) (e : Edge) (p : Point) (rest : List Edge) (d k : Dart) → HasEdgeSplit g h e p rest → FollowsSplit g h e p → IsDartOf h d → IsDartOf h k → (least_dart_of h d ≡ least_dart_of h k) ↔ (least_dart_of g (whole_dart e p d) ≡ least_dart_of g (whole_dart e p k))
   pub dart : (g h : Skeleton) (e : Edge) (p : Point) (rest : List Edge) (d : Dart) → HasEdgeSplit g h e p rest → FollowsSplit g h e p → IsDartOf h d → SameFace g (widened g p (left_of_dart h d)) (left_of_dart g (whole_dart e p d))
   pub kinds : (g h : Skeleton) (e : Edge) (p : Point) (rest : List Edge) (d : Dart) → HasEdgeSplit g h e p rest → FollowsSplit g h e p → IsDartOf h d → is_outer h d ≡ is_outer g (whole_dart e p d)

@@ -8,7 +8,7 @@ use Rattle.plane_graphs.specs.Graph.{Edge}
 use Rattle.slab_laws.specs.Darts.{Dart}
 use Rattle.slab_laws.specs.Meets.{SameFace}
 use Rattle.slab_laws.specs.Cycles.{left_of_dart}
-use Rattle.slab_laws.specs.Rows.{lead_of}
+use Rattle.slab_laws.specs.Rows.{least_dart_of}
 use Rattle.slab_laws.specs.Rotation.{twin}
 use Rattle.face_changes.specs.Kinds.{odd_at}
 use Rattle.face_changes.specs.OneMoreEdge.{IsOneMoreEdge, LiesIn, PartsCycle}
@@ -23,7 +23,7 @@ AllLieIn {I} g h e old new = (i : I) → LiesIn g h e (new i) (old i)
 
 -- where the edge has one face on both sides, names go on telling faces, with it and without
 abbrev pub FaceNamesStay : Type 0 → Type 0
-FaceNamesStay I = (g h : Skeleton) (x : Dart) (old new : I → SlabCell) (name : I → FaceId) → IsOneMoreEdge g h x.edge → lead_of h x ≡ lead_of h (twin x) → AllLieIn g h x.edge old new → NamesTellFaces g old name ↔ NamesTellFaces h new name
+FaceNamesStay I = (g h : Skeleton) (x : Dart) (old new : I → SlabCell) (name : I → FaceId) → IsOneMoreEdge g h x.edge → least_dart_of h x ≡ least_dart_of h (twin x) → AllLieIn g h x.edge old new → NamesTellFaces g old name ↔ NamesTellFaces h new name
 
 -- what is in the face that is parted, and within the cycle of x, gets the fresh name; the rest keeps its own
 pub record AreNamesParted {I : Type 0} (h : Skeleton) (x : Dart) (new : I → SlabCell) (name next : I → FaceId) (face fresh : FaceId) : Type 0 where

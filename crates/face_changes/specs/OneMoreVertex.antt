@@ -10,8 +10,8 @@ use Rattle.slab_laws.specs.Darts.{Dart}
 use Rattle.slab_laws.specs.Meets.{SameFace}
 use Rattle.slab_laws.specs.Cycles.{left_of_dart}
 use Rattle.slab_laws.specs.Faces.{cells}
-use Rattle.slab_laws.specs.Rows.{lead_of}
-use Rattle.sound_links.specs.Next.{IsDartOf}
+use Rattle.slab_laws.specs.Rows.{least_dart_of}
+use Rattle.sound_changes.specs.NextLaws.{IsDartOf}
 use Rattle.face_changes.specs.Kinds.{is_outer}
 
 -- h has the edges of g, and the vertices of g and v
@@ -32,5 +32,5 @@ pub record OneMoreVertex : Type 0 where
   pub right : (g h : Skeleton) (v t : Point) → HasOneMoreVertex g h v → HasWeight t → widened g v (right_cell h t) ≡ right_cell g t
   pub dart : (g h : Skeleton) (v : Point) (d : Dart) → HasOneMoreVertex g h v → IsDartOf g d → widened g v (left_of_dart h d) ≡ left_of_dart g d
   pub faces : (g h : Skeleton) (v : Point) (c d : SlabCell) → HasOneMoreVertex g h v → Contains (cells h) c → Contains (cells h) d → SameFace h c d ↔ SameFace g (widened g v c) (widened g v d)
-  pub leads : (g h : Skeleton) (v : Point) (d : Dart) → HasOneMoreVertex g h v → lead_of h d ≡ lead_of g d
+  pub leads : (g h : Skeleton) (v : Point) (d : Dart) → HasOneMoreVertex g h v → least_dart_of h d ≡ least_dart_of g d
   pub kinds : (g h : Skeleton) (v : Point) (d : Dart) → HasOneMoreVertex g h v → IsDartOf g d → is_outer h d ≡ is_outer g d

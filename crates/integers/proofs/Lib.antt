@@ -10,3 +10,4 @@ pub mod Reify
 pub mod Signs
 pub mod Sizes
 pub mod Solver
+pub mod Tests

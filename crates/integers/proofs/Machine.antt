@@ -18,7 +18,7 @@ pub record Computes (w : Width) (r : ℤ) : Type 0 where
   pub ok : Bool
   pub is : T ok → (r ≡ value) × (unsigned_abs value ≤ size)
 
-both : (a b : Bool) → T (a && b) → T a × T b
+pub both : (a b : Bool) → T (a && b) → T a × T b
 both true b h = (tt, h)
 both false b h = absurd h
 

@@ -1,28 +1,24 @@
 -- What writes of single links make of the nodes.
-use Rattle.std.proofs.Common.{◌≡◌, ◌≢◌, inl, inr, ℕ, ◌==◌, Bool, true, false, cond, Option, Some, None, is_some, IsSome, option_map, refl, sym, ap, ◌∙◌}
+use Rattle.std.proofs.Common.{◌≡◌, ◌≢◌, inl, inr, ℕ, ◌==◌, Bool, true, false, cond, Option, Some, None, is_some, option_map, refl, sym, ap, ◌∙◌}
 use Rattle.std.proofs.lemmas.Bool.{cases_eq}
 use Rattle.slab.specs.Slab.{Slab, get, Updates}
 use Rattle.linked_chains.specs.declared.node.Node.{Node}
 use Rattle.linked_chains.specs.Writes.{is_at}
-use Rattle.linked_chains.proofs.Distinct.{same, other}
+use Rattle.integers.proofs.Tests.{other_number, same_number}
 
 pub at_hit : (at : Option ℕ) (m : ℕ) → at ≡ Some m → is_at at m ≡ true
-at_hit at m e = ap (λ o. is_at o m) e ∙ same m
+at_hit at m e = ap (λ o. is_at o m) e ∙ same_number m
 
 pub at_miss : (at : Option ℕ) (m : ℕ) → at ≢ Some m → is_at at m ≡ false
 at_miss None m h = refl
-at_miss (Some n) m h = other m n (λ e. h (ap Some (sym e)))
+at_miss (Some n) m h = other_number m n (λ e. h (ap Some (sym e)))
 
 -- what a slab has after a write of one key
 pub updated : (old new : Slab Node) (n : ℕ) (o : Option Node) → Updates old new n o → (m : ℕ) → get new m ≡ cond (m == n) o (get old m)
 updated old new n o u m = elim (cases_eq m n) [
-  | inl q ↦ rw (q, same n) u.changed
-  | inr ne ↦ rw (other m n ne) (u.others m ne)
+  | inl q ↦ rw (q, same_number n) u.changed
+  | inr ne ↦ rw (other_number m n ne) (u.others m ne)
 ]
-
-some_is : {X : Type 0} (o : Option X) → IsSome o → (x : X) × (o ≡ Some x)
-some_is None h = absurd (cc)
-some_is (Some x) h = (x, refl)
 
 -- the node that there may be is changed, and no other
 abbrev pub AreChanged : (Node → Node) → Option ℕ → (ℕ → Option Node) → (ℕ → Option Node) → Type 0

@@ -9,13 +9,13 @@ use Rattle.indexmap.proofs.CallerLemmas.{insert_entry-new}
 use Rattle.slab_laws.specs.Tables.{row_at}
 use Rattle.linked_chains.specs.Chains.{first_or}
 use Rattle.linked_chains.specs.Writes.{IsHeaded}
-use Rattle.linked_chains.proofs.Distinct.{same, other}
 use Rattle.linked_chains.proofs.Reading.{row_lookup}
+use Rattle.integers.proofs.Tests.{other_number, same_number}
 
 turned : (m n : ℕ) → (m == n) ≡ (n == m)
 turned m n = elim (cases_eq m n) [
   | inl q ↦ ap (λ k. k == n) q ∙ ap (λ k. n == k) (sym q)
-  | inr ne ↦ other m n ne ∙ sym (other n m (λ e. ne (sym e)))
+  | inr ne ↦ other_number m n ne ∙ sym (other_number n m (λ e. ne (sym e)))
 ]
 
 module _ {S : Type 0} (old new : IndexMap ℕ (Option ℕ) S) (key : ℕ) where
@@ -24,10 +24,10 @@ module _ {S : Type 0} (old new : IndexMap ℕ (Option ℕ) S) (key : ℕ) where
   updated o u k = row_lookup new.entries k ∙ u.0 k ∙ ap (λ b. cond b o (lookup (nat_eq k) old.entries)) (turned key k) ∙ ap (λ r. cond (k == key) o r) (sym (row_lookup old.entries k))
 
   found : (o : Option (Option ℕ)) → Updates nat_eq old new key o → row_at new.entries key ≡ o
-  found o u = updated o u key ∙ ap (λ b. cond b o (row_at old.entries key)) (same key)
+  found o u = updated o u key ∙ ap (λ b. cond b o (row_at old.entries key)) (same_number key)
 
   beside : (o : Option (Option ℕ)) → Updates nat_eq old new key o → (k : ℕ) → k ≢ key → row_at new.entries k ≡ row_at old.entries k
-  beside o u k h = updated o u k ∙ ap (λ b. cond b o (row_at old.entries k)) (other k key h)
+  beside o u k h = updated o u k ∙ ap (λ b. cond b o (row_at old.entries k)) (other_number k key h)
 
   -- a new head, where no node is before
   pub head_written : (before first : Option ℕ) → is_none before ≡ true → IsSome (row_at old.entries key) → WritesThrough nat_eq (nat_eq key) old first new → IsHeaded key before first old new

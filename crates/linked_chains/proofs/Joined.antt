@@ -3,7 +3,7 @@ use Rattle.std.proofs.Common.{◌≡◌, ◌≢◌, inl, inr, ℕ, List, [], ◌
 use Rattle.std.proofs.lemmas.Bool.{cases_eq}
 use Rattle.slab.proofs.SlabLemmas.{Contains-cons_cases}
 use Rattle.linked_chains.specs.declared.node.Node.{Node}
-use Rattle.linked_chains.specs.Kept.{after_at, before_at, IsLinked}
+use Rattle.linked_chains.specs.ChainsInMemory.{after_at, before_at, IsLinked}
 use Rattle.linked_chains.proofs.Distinct.{here, there, nowhere, IsOnce, without, without_hit, without_miss, without_absent}
 use Rattle.linked_chains.proofs.Linked.{after_within, before_within, linked_same}
 

@@ -4,8 +4,9 @@ use Rattle.std.proofs.lemmas.Bool.{cases_eq}
 use Rattle.slab.proofs.SlabLemmas.{Contains-cons_cases}
 use Rattle.linked_chains.specs.declared.node.Node.{Node}
 use Rattle.linked_chains.specs.Chains.{trail, head_of, comes_after}
-use Rattle.linked_chains.specs.Kept.{after_at, before_at, IsLinked}
-use Rattle.linked_chains.proofs.Distinct.{same, other, here, there, nowhere, IsOnce}
+use Rattle.linked_chains.specs.ChainsInMemory.{after_at, before_at, IsLinked}
+use Rattle.linked_chains.proofs.Distinct.{here, there, nowhere, IsOnce}
+use Rattle.integers.proofs.Tests.{other_number, same_number}
 
 pub head_is : (node : ℕ → Option Node) (p s : Option ℕ) (xs : List ℕ) → IsLinked node p s xs → s ≡ head_of xs
 head_is node p s [] l = l
@@ -32,8 +33,8 @@ pub after_is : (node : ℕ → Option Node) (p s : Option ℕ) (xs : List ℕ) (
 unfolding comes_after
 after_is node p s [] n l c o = absurd (nowhere n c)
 after_is node p s (x ∷ xs) n l c o = elim (cases_eq x n) [
-  | inl q ↦ rw (q, same n) (ap (after_at node) (sym q) ∙ head_is node (Some x) (after_at node x) xs l.2)
-  | inr ne ↦ rw (other x n ne) (elim (Contains-cons_cases x n xs c) [
+  | inl q ↦ rw (q, same_number n) (ap (after_at node) (sym q) ∙ head_is node (Some x) (after_at node x) xs l.2)
+  | inr ne ↦ rw (other_number x n ne) (elim (Contains-cons_cases x n xs c) [
     | inl e ↦ absurd (ne e)
     | inr d ↦ after_is node (Some x) (after_at node x) xs n l.2 d o.1
   ])

@@ -2,7 +2,7 @@
 use Rattle.std.proofs.Common.{◌≡◌, ℕ, List, Option, Some, None, IsSome, sym, subst, ◌∙◌}
 use Rattle.linked_chains.specs.declared.node.Node.{Node}
 use Rattle.linked_chains.specs.Chains.{first_or}
-use Rattle.linked_chains.specs.Kept.{after_at, before_at, key_at, IsListed, AreListed}
+use Rattle.linked_chains.specs.ChainsInMemory.{after_at, before_at, key_at, IsListed, AreListed}
 use Rattle.linked_chains.proofs.Linked.{linked_same}
 
 -- other heads, with the same first nodes

@@ -5,13 +5,14 @@ use Rattle.slab.proofs.SlabLemmas.{Contains-cons_cases}
 use Rattle.linked_chains.specs.declared.node.Entry.{Entry}
 use Rattle.linked_chains.specs.declared.node.Node.{Node}
 use Rattle.linked_chains.specs.Chains.{first_or}
-use Rattle.linked_chains.specs.Kept.{after_at, before_at, key_at, IsLinked, IsListed, AreListed}
+use Rattle.linked_chains.specs.ChainsInMemory.{after_at, before_at, key_at, IsLinked, IsListed, AreListed}
 use Rattle.linked_chains.specs.Writes.{led_by}
-use Rattle.linked_chains.proofs.Distinct.{same, other, here, there, IsOnce, once_from_distinct, distinct_from_once}
+use Rattle.linked_chains.proofs.Distinct.{here, there, IsOnce, once_from_distinct, distinct_from_once}
 use Rattle.linked_chains.proofs.Linked.{linked_same}
 use Rattle.linked_chains.proofs.Joined.{IsInFront, linked_push}
 use Rattle.linked_chains.proofs.Reading.{key_some}
 use Rattle.linked_chains.proofs.Changes.{AreChanged, unwritten, elsewhere, written}
+use Rattle.integers.proofs.Tests.{other_number, same_number}
 
 -- n is a new node with the old first after it
 module _ (head : ℕ → Option (Option ℕ)) (node mid : ℕ → Option Node) (n : ℕ) (entry : Entry) (l : AreListed head node) (vacant : node n ≡ None)
@@ -20,10 +21,10 @@ module _ (head : ℕ → Option (Option ℕ)) (node mid : ℕ → Option Node) (
   new_node = record { entry = entry; before = None; after = first_or (head entry.key) }
 
   mid_here : mid n ≡ Some new_node
-  mid_here = added n ∙ ap (λ b. cond b (Some new_node) (node n)) (same n)
+  mid_here = added n ∙ ap (λ b. cond b (Some new_node) (node n)) (same_number n)
 
   mid_else : (m : ℕ) → m ≢ n → mid m ≡ node m
-  mid_else m h = added m ∙ ap (λ b. cond b (Some new_node) (node m)) (other m n h)
+  mid_else m h = added m ∙ ap (λ b. cond b (Some new_node) (node m)) (other_number m n h)
 
   not_keyed : (k : ℕ) → key_at node n ≢ Some k
   not_keyed k e = let x = key_some node n k e in absurd (cc (vacant, x.1))
@@ -49,8 +50,8 @@ module _ (head : ℕ → Option (Option ℕ)) (node mid : ℕ → Option Node) (
   module _ (node' : ℕ → Option Node) (led : AreChanged (led_by (Some n)) (first_or (head entry.key)) mid node') where
     pub entry_pushed : (m : ℕ) → option_map (λ x. x.entry) (node' m) ≡ cond (m == n) (Some entry) (option_map (λ x. x.entry) (node m))
     entry_pushed m = unwritten (λ x. x.entry) (led_by (Some n)) (λ x. refl) (first_or (head entry.key)) mid node' led m ∙ elim (cases_eq m n) [
-      | inl q ↦ rw (q, same n) (ap (option_map (λ x. x.entry)) mid_here)
-      | inr ne ↦ rw (other m n ne) (ap (option_map (λ x. x.entry)) (mid_else m ne))
+      | inl q ↦ rw (q, same_number n) (ap (option_map (λ x. x.entry)) mid_here)
+      | inr ne ↦ rw (other_number m n ne) (ap (option_map (λ x. x.entry)) (mid_else m ne))
     ]
 
     key_pushed : (m : ℕ) → m ≢ n → key_at node' m ≡ key_at node m
@@ -80,10 +81,10 @@ module _ (head : ℕ → Option (Option ℕ)) (node mid : ℕ → Option Node) (
     -- and it is the head of its key
     module _ (head' : ℕ → Option (Option ℕ)) (headed : (k : ℕ) → head' k ≡ cond (k == entry.key) (Some (Some n)) (head k)) where
       head_here : first_or (head' entry.key) ≡ Some n
-      head_here = ap first_or (headed entry.key ∙ ap (λ b. cond b (Some (Some n)) (head entry.key)) (same entry.key))
+      head_here = ap first_or (headed entry.key ∙ ap (λ b. cond b (Some (Some n)) (head entry.key)) (same_number entry.key))
 
       head_else : (k : ℕ) → k ≢ entry.key → head' k ≡ head k
-      head_else k h = headed k ∙ ap (λ b. cond b (Some (Some n)) (head k)) (other k entry.key h)
+      head_else k h = headed k ∙ ap (λ b. cond b (Some (Some n)) (head k)) (other_number k entry.key h)
 
       pub list_pushed : (xs : List ℕ) → IsListed node (first_or (head entry.key)) entry.key xs → IsListed node' (first_or (head' entry.key)) entry.key (n ∷ xs)
       list_pushed xs i = record {
@@ -143,7 +144,7 @@ module _ (head : ℕ → Option (Option ℕ)) (node mid : ℕ → Option Node) (
 
           keys : (m k : ℕ) → key_at node' m ≡ Some k → IsSome (head' k)
           keys m k e = elim (cases_eq k entry.key) [
-            | inl q ↦ rw q (ap is_some (headed entry.key ∙ ap (λ b. cond b (Some (Some n)) (head entry.key)) (same entry.key)))
+            | inl q ↦ rw q (ap is_some (headed entry.key ∙ ap (λ b. cond b (Some (Some n)) (head entry.key)) (same_number entry.key)))
             | inr ne ↦ elim (cases_eq m n) [
               | inl s ↦ let z : Some entry.key ≡ Some k = sym key_here ∙ ap (key_at node') (sym s) ∙ e in let w : k ≡ entry.key = cc in absurd (ne w)
               | inr na ↦ ap is_some (head_else k ne) ∙ l.keys m k (sym (key_pushed m na) ∙ e)

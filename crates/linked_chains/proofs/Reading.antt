@@ -8,13 +8,15 @@ use Rattle.slab.specs.Slab.{Slab, get, entries, entries_from, slab_len}
 use Rattle.slab.proofs.SlabLemmas.{Contains-entries, Contains-cons_cases, length-entries}
 use Rattle.slab_laws.specs.Tables.{row_at, names, NamesAscend}
 use Rattle.indexmap.specs.IndexMap.{IndexMap}
-use Rattle.view_changes.proofs.RowLaws.{absent}
+use Rattle.arr_notes.proofs.RowLaws.{absent}
 use Rattle.linked_chains.specs.declared.node.Entry.{Entry}
 use Rattle.linked_chains.specs.declared.node.Node.{Node}
 use Rattle.linked_chains.specs.Chains.{Link, trail, chain, entry_at, HasKey, IsWhole, first_or, after_in, head_of, comes_after}
-use Rattle.linked_chains.specs.Kept.{link_of, linked_nodes, chained, after_at, key_at, IsListed, IsKept}
-use Rattle.linked_chains.proofs.Distinct.{same, other, here, there, once_from_distinct, no_more}
+use Rattle.linked_chains.specs.ChainsInMemory.{link_of, linked_nodes, chained, after_at, key_at, IsListed, AreSoundChains}
+use Rattle.linked_chains.proofs.Distinct.{here, there, once_from_distinct, no_more}
 use Rattle.linked_chains.proofs.Linked.{trail_is, trail_within, head_is, after_is}
+use Rattle.plane_graphs.proofs.Lists.{some_mapped}
+use Rattle.integers.proofs.Tests.{other_number, same_number}
 
 -- ---- a slab's nodes by name
 abbrev from : ℕ → List (Option Node) → List (ℕ × Link)
@@ -34,9 +36,9 @@ from_slot : (k : ℕ) (os : List (Option Node)) (j : ℕ) → row_at (from k os)
 unfolding row_at
 from_slot k [] j = refl
 from_slot k (None ∷ os) zero = rw add-zero (absent k k (from (k + 1) os) refl (above_from k (k + 1) os (omega arith)))
-from_slot k (Some x ∷ os) zero = rw (add-zero, same k) refl
+from_slot k (Some x ∷ os) zero = rw (add-zero, same_number k) refl
 from_slot k (None ∷ os) (suc j) = let e : k + suc j ≡ (k + 1) + j = omega arith in rw e (from_slot (k + 1) os j)
-from_slot k (Some x ∷ os) (suc j) = rw (other k (k + suc j) (omega arith)) (let e : k + suc j ≡ (k + 1) + j = omega arith in rw e (from_slot (k + 1) os j))
+from_slot k (Some x ∷ os) (suc j) = rw (other_number k (k + suc j) (omega arith)) (let e : k + suc j ≡ (k + 1) + j = omega arith in rw e (from_slot (k + 1) os j))
 
 -- a name finds what the slab has there
 pub row_is : (s : Slab Node) (n : ℕ) → row_at (linked_nodes s) n ≡ option_map link_of (get s n)
@@ -59,10 +61,6 @@ count_nodes : (s : Slab Node) → length (linked_nodes s) ≡ length (entries s)
 unfolding linked_nodes
 count_nodes s = length-map (entries s) _
 
-pub some_mapped : {X Y : Type 0} (f : X → Y) (o : Option X) → is_some (option_map f o) ≡ is_some o
-some_mapped f None = refl
-some_mapped f (Some x) = refl
-
 pub has_node : (s : Slab Node) (n : ℕ) → is_some (row_at (linked_nodes s) n) ≡ is_some (get s n)
 has_node s n = ap is_some (row_is s n) ∙ some_mapped link_of (get s n)
 
@@ -79,8 +77,8 @@ pub row_lookup : {X : Type 0} (es : List (ℕ × X)) (k : ℕ) → row_at es k �
 unfolding row_at
 row_lookup [] k = refl
 row_lookup (e ∷ es) k = elim (cases_eq e.0 k) [
-  | inl q ↦ rw (q, same k) refl
-  | inr ne ↦ rw (other e.0 k ne, other k e.0 (λ s. ne (sym s))) (row_lookup es k)
+  | inl q ↦ rw (q, same_number k) refl
+  | inr ne ↦ rw (other_number e.0 k ne, other_number k e.0 (λ s. ne (sym s))) (row_lookup es k)
 ]
 
 -- ---- names are no more than nodes
@@ -121,7 +119,7 @@ module _ {S : Type 0} (heads : IndexMap ℕ (Option ℕ) S) (nodes : Slab Node) 
   unfolding chain
   chain_is k xs l = trail_is (get nodes) (after_in (chained heads nodes)) after_same None _ xs _ l.linked (fits _ k xs l)
 
-  module _ (kept : IsKept heads nodes) where
+  module _ (kept : AreSoundChains heads nodes) where
     pub listed : (k : ℕ) → IsListed (get nodes) (first_or (row_at heads.entries k)) k (chain (chained heads nodes) k)
     listed k = let l = kept.lists k in subst (λ xs. IsListed (get nodes) (first_or (row_at heads.entries k)) k xs) (sym (chain_is k l.0 l.1)) l.1
 

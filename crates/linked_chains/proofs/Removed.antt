@@ -4,13 +4,14 @@ use Rattle.std.specs.Prelude.{is_none}
 use Rattle.std.proofs.lemmas.Bool.{cases_eq}
 use Rattle.linked_chains.specs.declared.node.Node.{Node}
 use Rattle.linked_chains.specs.Chains.{first_or}
-use Rattle.linked_chains.specs.Kept.{after_at, before_at, key_at, IsLinked, IsListed, AreListed}
+use Rattle.linked_chains.specs.ChainsInMemory.{after_at, before_at, key_at, IsLinked, IsListed, AreListed}
 use Rattle.linked_chains.specs.Writes.{followed_by, led_by}
-use Rattle.linked_chains.proofs.Distinct.{same, other, IsOnce, once_from_distinct, distinct_from_once, without, without_absent, left, was_there, once_without}
+use Rattle.linked_chains.proofs.Distinct.{IsOnce, once_from_distinct, distinct_from_once, without, without_absent, left, was_there, once_without}
 use Rattle.linked_chains.proofs.Linked.{after_within, before_within, after_other, before_other, linked_same}
 use Rattle.linked_chains.proofs.Joined.{IsJoined, linked_without}
 use Rattle.linked_chains.proofs.Reading.{key_some}
 use Rattle.linked_chains.proofs.Changes.{AreChanged, unwritten, elsewhere, written, still_some}
+use Rattle.integers.proofs.Tests.{other_number, same_number}
 
 -- the node x of the name n, in the list of its key
 module _ (head : ℕ → Option (Option ℕ)) (node : ℕ → Option Node) (n : ℕ) (x : Node) (l : AreListed head node) (was : node n ≡ Some x) where
@@ -57,7 +58,7 @@ module _ (head : ℕ → Option (Option ℕ)) (node : ℕ → Option Node) (n : 
   -- the node goes
   module _ (cut : ℕ → Option Node) (gone : (m : ℕ) → cut m ≡ cond (m == n) None (node m)) where
     cut_else : (m : ℕ) → m ≢ n → cut m ≡ node m
-    cut_else m h = gone m ∙ ap (λ b. cond b None (node m)) (other m n h)
+    cut_else m h = gone m ∙ ap (λ b. cond b None (node m)) (other_number m n h)
 
     pub before_there : (m : ℕ) → x.before ≡ Some m → IsSome (cut m)
     before_there m e = let y = key_some node m x.entry.key (before_keyed m e) in ap is_some (cut_else m (before_not m e) ∙ y.1)
@@ -83,7 +84,7 @@ module _ (head : ℕ → Option (Option ℕ)) (node : ℕ → Option Node) (n : 
         key_left m h = key_cut m ∙ ap (option_map (λ z. z.entry.key)) (cut_else m h)
 
         key_gone : key_at node' n ≡ None
-        key_gone = key_cut n ∙ ap (option_map (λ z. z.entry.key)) (gone n ∙ ap (λ b. cond b None (node n)) (same n))
+        key_gone = key_cut n ∙ ap (option_map (λ z. z.entry.key)) (gone n ∙ ap (λ b. cond b None (node n)) (same_number n))
 
         afters : (m : ℕ) → m ≢ n → x.before ≢ Some m → after_at node' m ≡ after_at node m
         afters m h b = ap first_or (unwritten (λ z. z.after) (led_by x.before) (λ z. refl) x.after mid node' led m) ∙ ap (λ o. first_or (option_map (λ z. z.after) o)) (elsewhere (followed_by x.after) x.before cut mid followed m b ∙ cut_else m h)
@@ -112,10 +113,10 @@ module _ (head : ℕ → Option (Option ℕ)) (node : ℕ → Option Node) (n : 
 
         module _ (head' : ℕ → Option (Option ℕ)) (headed : (k : ℕ) → head' k ≡ cond ((k == x.entry.key) && is_none x.before) (Some x.after) (head k)) where
           head_else : (k : ℕ) → k ≢ x.entry.key → head' k ≡ head k
-          head_else k h = headed k ∙ ap (λ b. cond (b && is_none x.before) (Some x.after) (head k)) (other k x.entry.key h)
+          head_else k h = headed k ∙ ap (λ b. cond (b && is_none x.before) (Some x.after) (head k)) (other_number k x.entry.key h)
 
           head_own : head' x.entry.key ≡ cond (is_none x.before) (Some x.after) (head x.entry.key)
-          head_own = headed x.entry.key ∙ ap (λ b. cond (b && is_none x.before) (Some x.after) (head x.entry.key)) (same x.entry.key)
+          head_own = headed x.entry.key ∙ ap (λ b. cond (b && is_none x.before) (Some x.after) (head x.entry.key)) (same_number x.entry.key)
 
           head_first : x.before ≡ None → first_or (head' x.entry.key) ≡ x.after
           head_first e = ap first_or (head_own ∙ ap (λ o. cond (is_none o) (Some x.after) (head x.entry.key)) e)

@@ -9,7 +9,7 @@ use Rattle.slab_laws.specs.Tables.{row_at}
 use Rattle.linked_chains.specs.declared.node.Entry.{Entry}
 use Rattle.linked_chains.specs.declared.node.Node.{Node}
 use Rattle.linked_chains.specs.Chains.{Chained, HasKey, HasNode, entry_at, first_or, chain, IsWhole, head_of, comes_after}
-use Rattle.linked_chains.specs.Kept.{chained, after_at, before_at, key_at, IsLinked, IsListed, AreListed, IsKept}
+use Rattle.linked_chains.specs.ChainsInMemory.{chained, after_at, before_at, key_at, IsLinked, IsListed, AreListed, AreSoundChains}
 use Rattle.linked_chains.proofs.Distinct.{nowhere}
 use Rattle.linked_chains.proofs.Reading.{has_node, row_lookup, entry_is, chain_is, chain_within, whole, keys, first_is, next_is}
 use Rattle.linked_chains.proofs.Listed.{listed_heads, list_same, listed_nodes}
@@ -18,8 +18,6 @@ use Rattle.linked_chains.proofs.Heads.{key_fewer, first_fewer, key_more, first_m
 
 module _ {S : Type 0} (hs : IndexMap ℕ (Option ℕ) S) (ns : Slab Node) (h : Chained) (is : chained hs ns ≡ h) where
   -- ---- reading
-  pub key_there : (k : ℕ) → HasKey h k → IsSome (row_at hs.entries k)
-  key_there k s = ap (λ c. is_some (row_at c.heads k)) is ∙ s
 
   pub key_seen : (k : ℕ) → is_some (lookup (nat_eq k) hs.entries) ≡ is_some (row_at h.heads k)
   key_seen k = ap is_some (sym (row_lookup hs.entries k)) ∙ ap (λ c. is_some (row_at c.heads k)) is
@@ -48,7 +46,7 @@ module _ {S : Type 0} (hs : IndexMap ℕ (Option ℕ) S) (ns : Slab Node) (h : C
   pub chain_short : (k : ℕ) → length (chain h k) ≤ slab_len ns
   chain_short k = subst (λ c. length (chain c k) ≤ slab_len ns) is (chain_within hs ns k)
 
-  module _ (kept : IsKept hs ns) where
+  module _ (kept : AreSoundChains hs ns) where
     pub whole_seen : (k : ℕ) → IsWhole h k
     whole_seen k = subst (λ c. IsWhole c k) is (whole hs ns kept k)
 
@@ -94,7 +92,7 @@ module _ {S : Type 0} (hs : IndexMap ℕ (Option ℕ) S) (ns : Slab Node) (h : C
         none None s = refl
         none (Some x) s = absurd (s refl)
 
-    pub kept_more : (gs : IndexMap ℕ (Option ℕ) S) (key : ℕ) → UpdatesKey nat_eq hs gs key (Some None) → ¬ HasKey h key → IsKept gs ns
+    pub kept_more : (gs : IndexMap ℕ (Option ℕ) S) (key : ℕ) → UpdatesKey nat_eq hs gs key (Some None) → ¬ HasKey h key → AreSoundChains gs ns
     kept_more gs key u new = listed_heads (row_at hs.entries) (row_at gs.entries) (get ns) (first_more hs gs key u (λ s. new (subst (λ c. HasKey c key) is s))) (λ n k e s. (key_more hs gs key u k).1 (inl s)) kept
 
     empty_list : (key : ℕ) → chain h key ≡ [] → (kept.lists key).0 ≡ []
@@ -103,7 +101,7 @@ module _ {S : Type 0} (hs : IndexMap ℕ (Option ℕ) S) (ns : Slab Node) (h : C
     pub empty_first : (key : ℕ) → chain h key ≡ [] → first_or (row_at hs.entries key) ≡ None
     empty_first key e = head_is (get ns) None _ (kept.lists key).0 (kept.lists key).1.linked ∙ ap head_of (empty_list key e)
 
-    pub kept_fewer : (gs : IndexMap ℕ (Option ℕ) S) (key : ℕ) → UpdatesKey nat_eq hs gs key None → chain h key ≡ [] → IsKept gs ns
+    pub kept_fewer : (gs : IndexMap ℕ (Option ℕ) S) (key : ℕ) → UpdatesKey nat_eq hs gs key None → chain h key ≡ [] → AreSoundChains gs ns
     kept_fewer gs key u e = listed_heads (row_at hs.entries) (row_at gs.entries) (get ns) (first_fewer hs gs key u (empty_first key e)) (λ n k q s. (key_fewer hs gs key u k).1 (s, λ z. free n (subst (λ y. key_at (get ns) n ≡ Some y) z q))) kept
       where
         free : (n : ℕ) → key_at (get ns) n ≢ Some key
@@ -117,7 +115,7 @@ module _ {S : Type 0} (hs : IndexMap ℕ (Option ℕ) S) (ns : Slab Node) (h : C
       pub chains_same : (k : ℕ) → chain (chained hs ts) k ≡ chain h k
       chains_same k = let l = kept.lists k in chain_is hs ts k l.0 (list_same (get ns) (get ts) _ k l.0 a b q l.1) ∙ sym (chain_seen k l.0 l.1)
 
-      pub nodes_kept : IsKept hs ts
+      pub nodes_kept : AreSoundChains hs ts
       nodes_kept = listed_nodes (row_at hs.entries) (get ns) (get ts) a b q kept
 
 -- ---- slabs and maps that keep all that they hold, or hold nothing

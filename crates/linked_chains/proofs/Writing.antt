@@ -9,16 +9,17 @@ use Rattle.slab_laws.specs.Tables.{row_at}
 use Rattle.linked_chains.specs.declared.node.Entry.{Entry}
 use Rattle.linked_chains.specs.declared.node.Node.{Node}
 use Rattle.linked_chains.specs.Chains.{Chained, HasKey, entry_at, first_or, chain, head_of, SameChains}
-use Rattle.linked_chains.specs.Kept.{chained, after_at, before_at, key_at, IsKept}
+use Rattle.linked_chains.specs.ChainsInMemory.{chained, after_at, before_at, key_at, AreSoundChains}
 use Rattle.linked_chains.specs.Writes.{followed_by, led_by, twinned_with, IsChanged, IsHeaded}
-use Rattle.linked_chains.proofs.Distinct.{same, other, without}
+use Rattle.linked_chains.proofs.Distinct.{without}
 use Rattle.linked_chains.proofs.Reading.{entry_is, chain_is, first_is}
 use Rattle.linked_chains.proofs.Changes.{AreChanged, updated, unwritten}
 use Rattle.linked_chains.proofs.Pushed.{first_there, entry_pushed, list_pushed, list_beside, listed_pushed}
 use Rattle.linked_chains.proofs.Removed.{head_there, before_there, after_there, entry_removed, list_removed, head_kept, listed_removed}
 use Rattle.linked_chains.proofs.Seen.{entry_seen, chain_seen, nodes_kept, chains_same}
+use Rattle.integers.proofs.Tests.{other_number, same_number}
 
-module _ {S : Type 0} (hs : IndexMap ℕ (Option ℕ) S) (ns : Slab Node) (h : Chained) (is : chained hs ns ≡ h) (kept : IsKept hs ns) where
+module _ {S : Type 0} (hs : IndexMap ℕ (Option ℕ) S) (ns : Slab Node) (h : Chained) (is : chained hs ns ≡ h) (kept : AreSoundChains hs ns) where
   abbrev head : ℕ → Option (Option ℕ)
   head k = row_at hs.entries k
 
@@ -51,7 +52,7 @@ module _ {S : Type 0} (hs : IndexMap ℕ (Option ℕ) S) (ns : Slab Node) (h : C
             by true = refl
             by false = refl
 
-        pub push_kept : IsKept gs u
+        pub push_kept : AreSoundChains gs u
         push_kept = listed_pushed head (get ns) (get t) n entry kept vacant added (get u) led (row_at gs.entries) headed
 
         pub push_here : chain (chained gs u) entry.key ≡ n ∷ chain h entry.key
@@ -84,7 +85,7 @@ module _ {S : Type 0} (hs : IndexMap ℕ (Option ℕ) S) (ns : Slab Node) (h : C
         remove_entries gs m = entry_is gs w m ∙ entry_removed head (get ns) n x kept was (get t) cut (get u) followed.nodes (get w) led.nodes m ∙ ap (λ o. cond (m == n) None o) (sym (entry_seen hs ns h is m))
 
         module _ (gs : IndexMap ℕ (Option ℕ) S) (moved : IsHeaded x.entry.key x.before x.after hs gs) where
-          pub remove_kept : IsKept gs w
+          pub remove_kept : AreSoundChains gs w
           remove_kept = listed_removed head (get ns) n x kept was (get t) cut (get u) followed.nodes (get w) led.nodes (row_at gs.entries) moved.heads
 
           pub remove_chains : (k : ℕ) → chain (chained gs w) k ≡ filter (λ m. not (m == n)) (chain h k)
@@ -102,8 +103,8 @@ module _ {S : Type 0} (hs : IndexMap ℕ (Option ℕ) S) (ns : Slab Node) (h : C
 
     twinned : AreChanged (twinned_with twin) (Some n) (get ns) (get told)
     twinned m = updated ns told n _ (Updates-with_value ns n (twinned_with twin x) (ap is_some was)) m ∙ elim (cases_eq m n) [
-      | inl q ↦ rw (q, same n) (ap (option_map (twinned_with twin)) (sym was))
-      | inr ne ↦ rw (other m n ne) refl
+      | inl q ↦ rw (q, same_number n) (ap (option_map (twinned_with twin)) (sym was))
+      | inr ne ↦ rw (other_number m n ne) refl
     ]
 
     afters : (m : ℕ) → after_at (get told) m ≡ after_at (get ns) m
@@ -115,7 +116,7 @@ module _ {S : Type 0} (hs : IndexMap ℕ (Option ℕ) S) (ns : Slab Node) (h : C
     keys_stay : (m : ℕ) → key_at (get told) m ≡ key_at (get ns) m
     keys_stay = unwritten (λ z. z.entry.key) (twinned_with twin) (λ z. refl) (Some n) (get ns) (get told) twinned
 
-    pub twin_kept : IsKept hs told
+    pub twin_kept : AreSoundChains hs told
     twin_kept = nodes_kept hs ns h is kept told afters befores keys_stay
 
     pub twin_chains : SameChains h (chained hs told)

@@ -56,6 +56,18 @@ pub record IsWhole (c : Chained) (k : ℕ) : Type 0 where
   pub members : (n : ℕ) → Contains (chain c k) n ↔ ((e : Entry) × (entry_at c n ≡ Some e) × (e.key ≡ k))
   pub once : IsDistinct ◌==◌ (chain c k)
 
+-- the node says this now, or is none, and all others say what they said
+abbrev pub SetsEntry : Chained → Chained → ℕ → Option Entry → Type 0
+SetsEntry old new node said = (n : ℕ) → entry_at new n ≡ cond (n == node) said (entry_at old n)
+
+-- the entry with another twin
+abbrev pub with_twin : ℕ → Entry → Entry
+with_twin twin e = record { key = e.key; item = e.item; twin = twin }
+
+-- the node has the twin now, and all others say what they said
+abbrev pub SetsTwin : Chained → Chained → ℕ → ℕ → Type 0
+SetsTwin old new node twin = (n : ℕ) → entry_at new n ≡ cond (n == node) (option_map (with_twin twin) (entry_at old n)) (entry_at old n)
+
 -- the first of a list, if there is one
 abbrev pub head_of : List ℕ → Option ℕ
 head_of [] = None

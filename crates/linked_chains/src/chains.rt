@@ -1,7 +1,7 @@
-ghost use Rattle.std.specs.Prelude.{◌≡◌, ◌≢◌, ◌↔◌, ◌==◌, ◌<◌, ◌≤◌, ◌⊎◌, suc, ◌+◌, ◌^◌, [], ◌∷◌, ◌++◌, length, not, Some, None, cond, is_some, option_map, IsOk, IfOk, OnOk};
+ghost use Rattle.std.specs.Prelude.{◌≡◌, ◌≢◌, ◌↔◌, ◌==◌, ◌<◌, ◌≤◌, ◌⊎◌, suc, ◌+◌, ◌^◌, [], ◌∷◌, ◌++◌, length, not, Some, None, is_some, IsOk, OnOk};
 ghost use Rattle.std.specs.List.{filter, IsDistinct};
 ghost use Rattle.slab_laws.specs.Tables.{row_at, names, NamesAscend};
-ghost use Rattle.linked_chains.specs.Chains.{chain, entry_at, HasNode, HasKey, IsWhole, SameChains, IsSpare, head_of, comes_after};
+ghost use Rattle.linked_chains.specs.Chains.{chain, entry_at, HasNode, HasKey, IsWhole, SetsEntry, SetsTwin, SameChains, IsSpare, head_of, comes_after};
 
 use crate::links::{set_after, set_before, set_head};
 use crate::node::{Entry, Node};
@@ -24,11 +24,11 @@ impl Model for Chains {
 
     ghost Value = { Chained };
 
-    ghost use Rattle.linked_chains.specs.Kept.{chained, IsKept};
+    ghost use Rattle.linked_chains.specs.ChainsInMemory.{chained, AreSoundChains};
 
     ghost view = { λ c. chained c.heads c.nodes };
 
-    ghost invariant = { λ c. IsKept c.heads c.nodes };
+    ghost invariant = { λ c. AreSoundChains c.heads c.nodes };
 }
 
 impl Chains {
@@ -124,7 +124,7 @@ impl Chains {
         requires has { HasKey self.old key }
         requires room { 1 ≤ self.old.spare_nodes }
         ensures name { ¬ HasNode self.old result }
-        ensures entries { (n : _) → entry_at self.new n ≡ cond (n == result) (Some (record { key = key; item = item; twin = twin })) (entry_at self.old n) }
+        ensures entries { SetsEntry self.old self.new result (Some (record { key = key; item = item; twin = twin })) }
         ensures here { chain self.new key ≡ result ∷ chain self.old key }
         ensures others { (k : _) → k ≢ key → chain self.new k ≡ chain self.old k }
         ensures keys { (k : _) → HasKey self.old k ↔ HasKey self.new k }
@@ -146,7 +146,7 @@ impl Chains {
     /// A node fewer.
     pub fn remove(&mut self, node: usize)
         requires { HasNode self.old node }
-        ensures entries { (n : _) → entry_at self.new n ≡ cond (n == node) None (entry_at self.old n) }
+        ensures entries { SetsEntry self.old self.new node None }
         ensures chains { (k : _) → chain self.new k ≡ filter (λ n. not (n == node)) (chain self.old k) }
         ensures keys { (k : _) → HasKey self.old k ↔ HasKey self.new k }
         ensures count { length self.new.heads ≡ length self.old.heads }
@@ -161,7 +161,7 @@ impl Chains {
     /// The node has another twin.
     pub fn set_twin(&mut self, node: usize, twin: usize)
         requires { HasNode self.old node }
-        ensures entries { (n : _) → entry_at self.new n ≡ cond (n == node) (option_map (λ e. record { key = e.key; item = e.item; twin = twin }) (entry_at self.old n)) (entry_at self.old n) }
+        ensures entries { SetsTwin self.old self.new node twin }
         ensures chains { SameChains self.old self.new }
         ensures count { length self.new.heads ≡ length self.old.heads }
         ensures spare { IsSpare self.old self.new 0 0 }

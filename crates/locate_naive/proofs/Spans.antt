@@ -8,13 +8,13 @@ use Rattle.exact_plane.specs.Span.{Span}
 use Rattle.exact_plane.specs.SpanOf.{span_of}
 use Rattle.plane_graphs.specs.Line.{precedes}
 use Rattle.plane_graphs.proofs.Lines.{zero_in}
-use Rattle.slab_laws.specs.Drawn.{edge_of}
+use Rattle.slab_laws.specs.SpansDrawn.{edge_of}
 use Rattle.slab_laws.specs.Darts.{Dart}
 use Rattle.slab_laws.specs.Sound.{edge_between, edge_in, dart_in, IsGraphSound}
 use Rattle.slab_laws.specs.View.{View, HasDart, twin_in, line_in}
 use Rattle.slab_laws.specs.declared.names.DartId.{DartId}
 use Rattle.plane_graphs.specs.Graph.{Edge}
-use Rattle.sound_views.proofs.Named.{twin_dart}
+use Rattle.sound_views.proofs.NamedDarts.{twin_dart}
 
 -- the span, once it is known whether the dart goes forward
 forward_by : (b : Bool) (p q : Point) (l : Line) (r : Option Span) → r ≡ (if b then Some (record { lower = p; upper = q; line = l }) else None)

@@ -1,6 +1,9 @@
-//! Point location that looks at all vertices, then at all edges (CGAL manual, `Arr_naive_point_location`).
+//! Point location that looks at all vertices, then at all edges (CGAL manual, `Arr_naive_point_location`);
+//! and the edge between two points.
 #![tactic(auto)]
 
+mod edges;
 mod naive;
 
+pub use edges::edge_dart;
 pub use naive::{locate, span_of, vertex_at};

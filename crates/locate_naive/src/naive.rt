@@ -1,9 +1,7 @@
-ghost use Rattle.std.specs.Prelude.{◌≡◌, ◌≢◌, true, false, MatchOption};
-ghost use Rattle.slab_laws.specs.Drawn.{edge_of};
-ghost use Rattle.slab_laws.specs.Skeleton.{inside};
-ghost use Rattle.slab_laws.specs.Sound.{IsGraphSound, edge_in, dart_in};
-ghost use Rattle.slab_laws.specs.View.{HasVertex, HasDart, point_in, line_in};
+ghost use Rattle.slab_laws.specs.Sound.{IsGraphSound};
+ghost use Rattle.slab_laws.specs.View.{HasDart};
 ghost use Rattle.dcel_records.specs.Spots.{IsSpotOf};
+ghost use Rattle.locate_naive.specs.Found.{IsVertexAt, IsSpanAlong, IsEdgeThrough};
 
 use dcel_records::{Records, Spot};
 use edge_predicates::has_inside;
@@ -12,7 +10,7 @@ use slab_laws::{DartId, Darts, VertexId};
 
 /// The vertex at a point, by a look at all vertices. It takes no memory.
 pub fn vertex_at(records: &Records, point: &Point) -> Option<VertexId>
-    ensures { MatchOption result ((w : _) → HasVertex records.now.graph w → point_in records.now.graph w ≢ point.now) (λ w. HasVertex records.now.graph w × (point_in records.now.graph w ≡ point.now)) }
+    ensures { IsVertexAt records.now.graph point.now result }
 {
     let mut last = None;
     while let Some(vertex) = records.vertex_after(last) {
@@ -28,7 +26,7 @@ pub fn vertex_at(records: &Records, point: &Point) -> Option<VertexId>
 pub fn span_of(records: &Records, dart: DartId) -> Option<Span>
     requires sound { IsGraphSound records.now.graph }
     requires dart { HasDart records.now.graph dart }
-    ensures { MatchOption result ((dart_in records.now.graph dart).forward ≡ false) (λ s. ((dart_in records.now.graph dart).forward ≡ true) × (edge_of s ≡ edge_in records.now.graph dart) × (s.line ≡ line_in records.now.graph dart)) }
+    ensures { IsSpanAlong records.now.graph dart result }
 {
     let lower = records.point(records.source(dart));
     let upper = records.point(records.target(dart));
@@ -38,7 +36,7 @@ pub fn span_of(records: &Records, dart: DartId) -> Option<Span>
 // The forward dart of the edge that has a point inside.
 fn edge_at(records: &Records, point: &Point) -> Option<DartId>
     requires { IsGraphSound records.now.graph }
-    ensures { MatchOption result ((d : _) → HasDart records.now.graph d → inside (edge_in records.now.graph d) point.now ≡ false) (λ d. HasDart records.now.graph d × ((dart_in records.now.graph d).forward ≡ true) × (inside (edge_in records.now.graph d) point.now ≡ true)) }
+    ensures { IsEdgeThrough records.now.graph point.now result }
 {
     let mut last = None;
     while let Some(dart) = records.dart_after(last) {

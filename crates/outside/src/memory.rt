@@ -1,5 +1,4 @@
-ghost use Rattle.std.specs.Prelude.{◌≡◌, ◌↔◌, ◌⊎◌, ◌-◌, ◌<◌, ◌≤◌, [], length, min, replicate};
-ghost use Rattle.std.specs.Prelude.{Some, IfOk, IsOk, IsErr, OnErr, Contains};
+ghost use Rattle.std.specs.Prelude.{◌≡◌, ◌↔◌, ◌⊎◌, ◌-◌, ◌<◌, ◌≤◌, [], length, min, replicate, Some, IfOk, IsOk, IsErr, OnErr, Contains};
 ghost use Rattle.outside.specs.Bytes.{Gives, Takes};
 ghost use Rattle.outside.specs.Counts.{next, HasCause};
 

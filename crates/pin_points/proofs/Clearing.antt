@@ -5,18 +5,18 @@ use Rattle.edit_steps.specs.Layer.{IsAcceptedBy, layer_after}
 use Rattle.edit_steps.specs.Steps.{Clear as ClearStep}
 use Rattle.slab_laws.specs.Sound.{IsGraphSound}
 use Rattle.slab_laws.specs.View.{View}
-use Rattle.view_changes.specs.Writers.{no_rows}
+use Rattle.arr_notes.specs.ViewChanges.{no_rows}
 use Rattle.arr_notes.specs.declared.change.Change.TheVariants.{Clear}
-use Rattle.curve_history.specs.Past.{Past, held}
-use Rattle.record_layers.specs.Kept.{IsLayer, layer_of, Makes}
+use Rattle.curve_history.specs.Past.{Past, curves_on}
+use Rattle.record_layers.specs.RecordLayers.{IsLayer, layer_of, IsRunOfSteps}
 use Rattle.record_layers.proofs.Layers.{steps_make_layers}
-use Rattle.sound_splits.proofs.Vertices.{no_rows_sound}
-use Rattle.redundant_vertices.proofs.Made.{made_by}
+use Rattle.record_layers.proofs.Runs.{made_by}
+use Rattle.sound_changes.proofs.VertexAdded.{no_rows_sound}
 
-module _ (v : View) (p : Past) (w : View) (q : Past) (none : w ≡ no_rows) (bare : (d : _) → held q d ≡ []) where
-  pub clear_made : Makes v (held p) (steps ClearAll (layer_of v p).present) w (held q)
+module _ (v : View) (p : Past) (w : View) (q : Past) (none : w ≡ no_rows) (bare : (d : _) → curves_on q d ≡ []) where
+  pub clear_made : IsRunOfSteps v (curves_on p) (steps ClearAll (layer_of v p).present) w (curves_on q)
   unfolding steps
-  clear_made = made_by v (held p) ClearStep Clear w (held q) tt refl (subst IsGraphSound (sym none) no_rows_sound) none bare
+  clear_made = made_by v (curves_on p) ClearStep Clear w (curves_on q) tt refl (subst IsGraphSound (sym none) no_rows_sound) none bare
 
   module _ (l : IsLayer v p) (names : q.names ≡ []) (pieces : q.pieces ≡ []) (next : q.next ≡ p.next) where
     accepted : IsAcceptedBy ClearAll (layer_of v p)

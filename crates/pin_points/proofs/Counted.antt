@@ -14,9 +14,9 @@ use Rattle.plane_graphs.proofs.Lists.{in_map, of_map, of_filter, of_ascending}
 use Rattle.slab_laws.specs.Sound.{IsGraphSound}
 use Rattle.slab_laws.specs.Tables.{names, NamesAscend}
 use Rattle.slab_laws.specs.View.{View, VertexRecord, vertex_id, HasVertex, point_or, point_in}
-use Rattle.sound_views.proofs.Tabled.{name_has, row_found}
+use Rattle.sound_views.proofs.NameTables.{name_has, row_found}
 use Rattle.arr_notes.specs.Curves.{Curves}
-use Rattle.record_graphs.specs.Graph.{drawn_graph}
+use Rattle.sound_views.specs.RecordGraph.{drawn_graph}
 
 -- ---- points that all differ
 abbrev AreDifferent : List Point → Type 0

@@ -7,7 +7,7 @@ use Rattle.plane_graphs.specs.Ascending.{Member}
 use Rattle.slab_laws.specs.declared.names.VertexId.{VertexId}
 use Rattle.slab_laws.specs.Tables.{names, name_after, NamesAscend}
 use Rattle.slab_laws.specs.View.{View, VertexRecord, vertex_id, pin_or, pinned_in, vertex_after_in}
-use Rattle.sound_views.proofs.Tabled.{row_found}
+use Rattle.sound_views.proofs.NameTables.{row_found}
 use Rattle.record_orders.proofs.After.{all_left, left-next, later-none}
 use Rattle.locate_naive.proofs.Names.{vertices_left}
 

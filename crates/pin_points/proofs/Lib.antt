@@ -1,7 +1,6 @@
 pub mod Counted
 pub mod Spotted
 pub mod Parted
-pub mod Kept
 pub mod Pinning
 pub mod Unpinning
 pub mod Fullness

@@ -1,51 +1,36 @@
--- A pin fewer and two edges in one: when it is refused, its steps, and the layer after it.
+-- One pin fewer and two edges in one: what its refusals ask, its steps, and the layer after it.
 use Rattle.std.proofs.Common.{◌≡◌, ◌≢◌, Bool, true, false, cond, not, ◌&&◌, ◌||◌, [], ◌∷◌, refl, sym, ap, ◌∙◌, subst, inr}
-use Rattle.std.specs.Prelude.{Some, None, MatchOption, if◌then◌else◌}
 use Rattle.std.specs.List.{list_any}
 use Rattle.exact_plane.specs.Point.{Point}
+use Rattle.exact_plane.specs.PointOrderLaws.{and_true}
 use Rattle.plane_graphs.specs.Ascending.{Member}
 use Rattle.plane_graphs.specs.Fit.{IsFit}
 use Rattle.plane_graphs.specs.Graph.{Graph, Mark, mark, graph, graph_over, vertices}
 use Rattle.plane_graphs.specs.Line.{same_point}
 use Rattle.plane_graphs.specs.Piece.{Present, on}
-use Rattle.plane_graphs.proofs.Lists.{and_in, any_in, any_out, both, clash, not_in, not_out, not_true, or_right}
+use Rattle.plane_graphs.proofs.Lists.{and_in, any_in, any_out, clash, not_in, not_out, or_right}
 use Rattle.plane_graphs.proofs.Marks.{mark_out, on_in}
 use Rattle.plane_graphs.proofs.Order.{same_itself, same_out}
 use Rattle.edit_steps.specs.Allowed.{IsAllowed, IsPassed}
 use Rattle.edit_steps.specs.Edits.{Merge, Unpin, IsAccepted, after, steps}
 use Rattle.edit_steps.specs.Layer.{Layer, IsAcceptedBy, layer_after}
+use Rattle.edit_steps.specs.Refusals.{is_mergeable}
 use Rattle.edit_steps.specs.Steps.{ClearPin, MergeEdge, RemoveVertex, apply, merge_steps, tidy_step, without_pin}
 use Rattle.edit_steps.proofs.Laws.{are_sound}
 use Rattle.slab_laws.specs.declared.names.VertexId.{VertexId}
 use Rattle.slab_laws.specs.View.{View, HasVertex, point_in, pinned_in}
-use Rattle.view_changes.specs.Writers.{with_pin}
+use Rattle.arr_notes.specs.ViewChanges.{with_pin}
 use Rattle.arr_notes.specs.Curves.{Curves}
-use Rattle.curve_history.specs.Past.{Past, held, SameLayer}
-use Rattle.record_graphs.specs.Graph.{drawn_graph}
-use Rattle.record_layers.specs.Kept.{IsLayer, layer_of, Makes}
+use Rattle.curve_history.specs.Past.{Past, curves_on, SameLayer}
+use Rattle.sound_views.specs.RecordGraph.{drawn_graph}
+use Rattle.record_layers.specs.RecordLayers.{IsLayer, layer_of, IsRunOfSteps}
 use Rattle.record_layers.proofs.Layers.{steps_make_layers}
-use Rattle.graph_steps.proofs.Held.{point_held, held_point}
-use Rattle.pin_points.specs.declared.merge.MergeError.{MergeError}
-use Rattle.pin_points.specs.declared.merge.MergeError.TheVariants.{NoVertex, NotMergeable}
-use Rattle.pin_points.specs.Merges.{is_mergeable, merge_refusal}
+use Rattle.sound_changes.proofs.StepHolds.{point_held, held_point}
 use Rattle.redundant_vertices.specs.Tidied.{IsTidied}
 use Rattle.pin_points.proofs.Pinning.{graph_points}
 use Rattle.pin_points.proofs.Spotted.{pinned_vertex}
 use Rattle.pin_points.proofs.Unpinning.{all_steps, loose_steps, goes, unpin_made}
-
--- ---- why it is refused
-module _ (o : Present) (p : Point) (A : Type 0) (B : MergeError → Type 0) where
-  refused_by : (a b : Bool) → list_any (same_point p) (vertices o) ≡ a → is_mergeable o p ≡ b → MatchOption (if a then (if b then None else Some NotMergeable) else Some NoVertex) A B → MatchOption (merge_refusal o p) A B
-  refused_by a b e f m = subst (λ z. MatchOption (if z then (if is_mergeable o p then None else Some NotMergeable) else Some NoVertex) A B) (sym e) (subst (λ z. MatchOption (if a then (if z then None else Some NotMergeable) else Some NoVertex) A B) (sym f) m)
-
-  pub refused_no_vertex : list_any (same_point p) (vertices o) ≡ false → B NoVertex → MatchOption (merge_refusal o p) A B
-  refused_no_vertex e m = refused_by false (is_mergeable o p) e refl m
-
-  pub refused_not_mergeable : list_any (same_point p) (vertices o) ≡ true → is_mergeable o p ≡ false → B NotMergeable → MatchOption (merge_refusal o p) A B
-  refused_not_mergeable e f m = refused_by true false e f m
-
-  pub not_refused : list_any (same_point p) (vertices o) ≡ true → is_mergeable o p ≡ true → A → MatchOption (merge_refusal o p) A B
-  not_refused e f m = refused_by true true e f m
+use Rattle.integers.proofs.Tests.{not_true}
 
 -- ---- a point that a graph passes straight through, by its marks alone
 passed_by : (g k : Graph) → g.marks ≡ k.marks → (p : Point) → IsPassed g p → IsPassed k p
@@ -78,8 +63,8 @@ module _ (o : Present) (fit : IsFit o) (p : Point) where
   accepted_by : is_mergeable o p ≡ true → IsAccepted (Merge p) o
   unfolding IsAccepted
   accepted_by e =
-      let a = both (list_any (same_point p) o.pins) (not (list_any (same_point p) (vertices (without_pin o p))) && list_any (λ k. on k p) o.pieces) e in
-      let b = both (not (list_any (same_point p) (vertices (without_pin o p)))) (list_any (λ k. on k p) o.pieces) a.1 in
+      let a = and_true (list_any (same_point p) o.pins) (not (list_any (same_point p) (vertices (without_pin o p))) && list_any (λ k. on k p) o.pieces) e in
+      let b = and_true (not (list_any (same_point p) (vertices (without_pin o p)))) (list_any (λ k. on k p) o.pieces) a.1 in
       (a.0, not_out (list_any (same_point p) (vertices (without_pin o p))) b.0, b.1)
 
   passed_after : is_mergeable o p ≡ true → IsPassed (graph o) p
@@ -114,7 +99,7 @@ module _ (o : Present) (fit : IsFit o) (p : Point) where
 -- ---- in records
 module _ (v : View) (r : Past) (l : IsLayer v r) where
   abbrev h : Curves
-  h = held r
+  h = curves_on r
 
   abbrev o : Layer
   o = layer_of v r
@@ -154,11 +139,11 @@ module _ (v : View) (r : Past) (l : IsLayer v r) where
       accepted : IsAcceptedBy (Merge p) o
       accepted = accepted_by o.present l.lawful.fit p can_merge
 
-      pub merge_made : (x : View) (k : Curves) → IsTidied (with_pin v w false) h (point_in (with_pin v w false) w) x k → Makes v h (steps (Merge p) o.present) x k
+      pub merge_made : (x : View) (k : Curves) → IsTidied (with_pin v w false) h (point_in (with_pin v w false) w) x k → IsRunOfSteps v h (steps (Merge p) o.present) x k
       merge_made x k t =
-          subst (λ ss. Makes v h ss x k) (merge_steps_are o.present l.lawful.fit p there through)
-          (subst (λ z. Makes v h (steps (Unpin z) o.present) x k) at (unpin_made v r l w has pin x k t))
+          subst (λ ss. IsRunOfSteps v h ss x k) (merge_steps_are o.present l.lawful.fit p there through)
+          (subst (λ z. IsRunOfSteps v h (steps (Unpin z) o.present) x k) at (unpin_made v r l w has pin x k t))
 
-      pub merge_layer : (y : View) (q : Past) → Makes v h (steps (Merge p) o.present) y (held q) → SameLayer r q → IsLayer y q × (layer_of y q ≡ layer_after (Merge p) o)
+      pub merge_layer : (y : View) (q : Past) → IsRunOfSteps v h (steps (Merge p) o.present) y (curves_on q) → SameLayer r q → IsLayer y q × (layer_of y q ≡ layer_after (Merge p) o)
       unfolding after
       merge_layer y q made n = steps_make_layers (Merge p) v r y q l accepted made n.pieces n.names n.next

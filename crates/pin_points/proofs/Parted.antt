@@ -1,4 +1,4 @@
--- An edge in two at a point, and a vertex more: what the changes make.
+-- An edge that is split at a point, and one more vertex: what the changes make.
 use Rattle.std.proofs.Common.{◌≡◌, ◌≢◌, ◌==◌, cond, [], ◌∷◌, refl, sym, subst}
 use Rattle.exact_plane.specs.Point.{Point}
 use Rattle.plane_graphs.specs.Line.{IsProper}
@@ -8,21 +8,21 @@ use Rattle.slab_laws.specs.declared.names.DartId.{DartId}
 use Rattle.slab_laws.specs.declared.names.VertexId.{VertexId}
 use Rattle.slab_laws.specs.Sound.{IsGraphSound}
 use Rattle.slab_laws.specs.View.{View, HasVertex, HasDart, point_in, source_in, target_in}
-use Rattle.view_changes.specs.Writers.{with_vertex}
-use Rattle.view_changes.proofs.Vertices.{vertex_is_added}
+use Rattle.arr_notes.specs.ViewChanges.{with_vertex}
+use Rattle.arr_notes.proofs.VertexReads.{vertex_is_added}
 use Rattle.arr_notes.specs.declared.change.Change.{Change}
 use Rattle.arr_notes.specs.declared.change.Change.TheVariants.{AddVertex, SplitEdge}
 use Rattle.arr_notes.specs.Curves.{Curves, AreCurvesOf}
 use Rattle.arr_notes.specs.Step.{step}
 use Rattle.dcel_records.specs.Spots.{IsInFace}
 use Rattle.edge_split_merge.specs.Splits.{CanSplit, TellsOfSplit, NamesNewPlace, IsNewPlace}
-use Rattle.record_graphs.specs.Graph.{drawn_graph}
-use Rattle.record_graphs.specs.Laws.{IsVertexAt}
-use Rattle.record_layers.specs.Kept.{Makes}
-use Rattle.graph_steps.proofs.Changes.{changes_keep_views_sound}
-use Rattle.sound_splits.specs.Fits.{FitsSplit, IsNewVertex}
-use Rattle.sound_splits.proofs.Splits.{halved, at_w}
-use Rattle.redundant_vertices.proofs.Made.{made_by}
+use Rattle.sound_views.specs.RecordGraph.{drawn_graph}
+use Rattle.sound_views.specs.RecordGraphLaws.{IsVertexAt}
+use Rattle.record_layers.specs.RecordLayers.{IsRunOfSteps}
+use Rattle.record_layers.proofs.Runs.{made_by}
+use Rattle.sound_changes.proofs.ChangesAreSteps.{changes_keep_views_sound}
+use Rattle.sound_changes.specs.ChangeFits.{FitsSplit, IsNewVertex}
+use Rattle.sound_changes.proofs.Splits.{halved, at_w}
 
 -- the change that tells of a split has the names that a pattern of it has
 pub names_of_split : (r : Change) (d e : DartId) (w : VertexId) (p q : Point) (n m : DartId) → TellsOfSplit r d p → r ≡ SplitEdge e w q n m → r ≡ SplitEdge d w p n m
@@ -51,7 +51,7 @@ module _ (v : View) (h : Curves) (s : IsGraphSound v) (a : AreCurvesOf v h) (p :
     pub none_on_new : h n ≡ []
     none_on_new = a.without_dart n k.first
 
-    pub split_made : (x : View) → x ≡ step v (SplitEdge d w p n m) → IsGraphSound x → (l : Curves) → ((e : DartId) → l e ≡ cond (e.0 == n.0) (h d) (h e)) → Makes v h (SplitEdgeAt (point_in v (source_in v d)) (point_in v (target_in v d)) p ∷ []) x l
+    pub split_made : (x : View) → x ≡ step v (SplitEdge d w p n m) → IsGraphSound x → (l : Curves) → ((e : DartId) → l e ≡ cond (e.0 == n.0) (h d) (h e)) → IsRunOfSteps v h (SplitEdgeAt (point_in v (source_in v d)) (point_in v (target_in v d)) p ∷ []) x l
     split_made x e sound l q = made_by v h (SplitEdgeAt (point_in v (source_in v d)) (point_in v (target_in v d)) p) (SplitEdge d w p n m) x l fits_split refl sound e q
 
     pub split_vertex : (x : View) → x ≡ step v (SplitEdge d w p n m) → IsVertexAt x p w
@@ -59,12 +59,12 @@ module _ (v : View) (h : Curves) (s : IsGraphSound v) (a : AreCurvesOf v h) (p :
         let i = halved v d w p n m s fits_split in
         subst (λ z. IsVertexAt z p w) (sym e) (record { has = i.w_has; at = at_w v d w p n m s fits_split })
 
-  -- ---- a vertex more, in a face
+  -- ---- one more vertex, in a face
   module _ (w : VertexId) (new : ¬ HasVertex v w) (f : IsInFace v p) where
     new_vertex : IsNewVertex v w p
     new_vertex = record { name = new; proper = proper; free = f.no_vertex }
 
-    pub vertex_made : IsSound (AddVertexAt p) (drawn_graph v h) → (x : View) → x ≡ with_vertex v w p → Makes v h (AddVertexAt p ∷ []) x h
+    pub vertex_made : IsSound (AddVertexAt p) (drawn_graph v h) → (x : View) → x ≡ with_vertex v w p → IsRunOfSteps v h (AddVertexAt p ∷ []) x h
     vertex_made k x e = made_by v h (AddVertexAt p) (AddVertex w p) x h new_vertex refl (subst IsGraphSound (sym e) (changes_keep_views_sound v h (AddVertex w p) s a new_vertex k.plane)) e (λ d. refl)
 
     pub vertex_there : (x : View) → x ≡ with_vertex v w p → IsVertexAt x p w

@@ -1,67 +1,40 @@
--- A pin more: its steps, and the layer after it.
-use Rattle.std.proofs.Common.{◌≡◌, ℕ, ◌≤◌, ◌<◌, Bool, true, false, List, [], ◌∷◌, ◌++◌, length, refl, sym, ap, ◌∙◌, subst}
-use Rattle.std.specs.Prelude.{nat_le, Some, None, MatchOption, if◌then◌else◌, Result, Ok, Err, IsErrAnd}
+-- One more pin: its steps, and the layer after it.
+use Rattle.std.proofs.Common.{◌≡◌, true, false, List, [], ◌∷◌, ◌++◌, length, refl, sym, ap, ◌∙◌, subst}
 use Rattle.std.specs.List.{list_any, filter}
-use Rattle.std.proofs.lemmas.Bool.{le-leb, lt-leb}
 use Rattle.exact_plane.specs.Point.{Point}
-use Rattle.plane_graphs.specs.Graph.{Graph, graph, vertices}
+use Rattle.plane_graphs.specs.Graph.{graph, vertices}
 use Rattle.plane_graphs.specs.Line.{IsProper, same_point}
 use Rattle.plane_graphs.specs.Piece.{Present}
 use Rattle.edit_steps.specs.Allowed.{AreSound}
 use Rattle.edit_steps.specs.Edits.{Pin, IsAccepted, after, steps}
 use Rattle.edit_steps.specs.Layer.{Layer, IsAcceptedBy, layer_after}
-use Rattle.edit_steps.specs.Steps.{Step, SetPin as SetPinAt, apply, missing_points, pin_steps, vertex_steps}
+use Rattle.edit_steps.specs.Steps.{Step, SetPin as SetPinAt, missing_points, pin_steps, vertex_steps}
 use Rattle.edit_steps.proofs.Laws.{are_sound}
+use Rattle.edit_steps.proofs.Folds.{first_sound}
 use Rattle.slab_laws.specs.declared.names.VertexId.{VertexId}
 use Rattle.slab_laws.specs.Sound.{IsGraphSound}
 use Rattle.slab_laws.specs.View.{View}
-use Rattle.view_changes.specs.Writers.{with_pin}
+use Rattle.arr_notes.specs.ViewChanges.{with_pin}
 use Rattle.arr_notes.specs.declared.change.Change.TheVariants.{SetPin}
 use Rattle.arr_notes.specs.Curves.{Curves, AreCurvesOf}
-use Rattle.curve_history.specs.Past.{Past, held, SameLayer}
-use Rattle.record_graphs.specs.Graph.{drawn_graph}
-use Rattle.record_graphs.specs.Laws.{IsVertexAt}
-use Rattle.record_layers.specs.Kept.{IsLayer, layer_of, Makes}
+use Rattle.curve_history.specs.Past.{Past, curves_on, SameLayer}
+use Rattle.sound_views.specs.RecordGraph.{drawn_graph}
+use Rattle.sound_views.specs.RecordGraphLaws.{IsVertexAt}
+use Rattle.record_layers.specs.RecordLayers.{IsLayer, layer_of, IsRunOfSteps}
 use Rattle.record_layers.proofs.Layers.{steps_make_layers}
-use Rattle.record_layers.proofs.Runs.{made_in_turn, made_is_run}
-use Rattle.sound_splits.proofs.Vertices.{pinned}
-use Rattle.pin_points.specs.declared.pins.PinError.{PinError}
-use Rattle.pin_points.specs.declared.pins.PinError.TheVariants.{Pinned, Full}
-use Rattle.pin_points.specs.Pins.{refusal, new_vertex_steps}
+use Rattle.record_layers.proofs.Runs.{made_in_turn, made_is_run, made_by}
+use Rattle.sound_changes.proofs.VertexAdded.{pinned}
+use Rattle.pin_points.specs.Pins.{new_vertex_steps}
 use Rattle.pin_points.proofs.Counted.{pins_counted}
-use Rattle.redundant_vertices.proofs.Made.{made_by}
-
--- ---- why it is refused
-module _ (limit : ℕ) (pins : List Point) (p : Point) (A : Type 0) (B : PinError → Type 0) where
-  refused_by : (a b : Bool) → list_any (same_point p) pins ≡ a → nat_le limit (length pins) ≡ b → MatchOption (if a then Some Pinned else (if b then Some (Full limit) else None)) A B → MatchOption (refusal limit pins p) A B
-  refused_by a b e f m = subst (λ z. MatchOption (if z then Some Pinned else (if nat_le limit (length pins) then Some (Full limit) else None)) A B) (sym e) (subst (λ z. MatchOption (if a then Some Pinned else (if z then Some (Full limit) else None)) A B) (sym f) m)
-
-  pub refused_pinned : list_any (same_point p) pins ≡ true → B Pinned → MatchOption (refusal limit pins p) A B
-  refused_pinned e m = refused_by true (nat_le limit (length pins)) e refl m
-
-  pub refused_full : list_any (same_point p) pins ≡ false → limit ≤ length pins → B (Full limit) → MatchOption (refusal limit pins p) A B
-  refused_full e f m = refused_by false true e (le-leb limit (length pins) f) m
-
-  pub not_refused : list_any (same_point p) pins ≡ false → length pins < limit → A → MatchOption (refusal limit pins p) A B
-  not_refused e f m = refused_by false false e (lt-leb limit (length pins) f) m
-
--- the error that there was no memory
-pub no_memory : {A E : Type 0} {n : E} (r : Result A E) → IsErrAnd r (λ e. e ≡ n) → r ≡ Err n
-no_memory (Err e) m = ap Err m
-no_memory (Ok a) m = absurd m
 
 -- ---- a new vertex is pinned
-pub pinned_on : (v : View) (h : Curves) (ss : List Step) → IsGraphSound v → AreCurvesOf v h → (x : View) (k : Curves) → Makes v h ss x k → (p : Point) (w : VertexId) → IsVertexAt x p w → (y : View) → y ≡ with_pin x w true → Makes v h (ss ++ (SetPinAt p ∷ [])) y k
+pub pinned_on : (v : View) (h : Curves) (ss : List Step) → IsGraphSound v → AreCurvesOf v h → (x : View) (k : Curves) → IsRunOfSteps v h ss x k → (p : Point) (w : VertexId) → IsVertexAt x p w → (y : View) → y ≡ with_pin x w true → IsRunOfSteps v h (ss ++ (SetPinAt p ∷ [])) y k
 pinned_on v h ss s a x k made p w at y set =
     let x_sound = (made_is_run v h ss x k s a made).sound in
     let y_sound = subst IsGraphSound (sym set) (pinned x w true x_sound) in
     made_in_turn v h ss (SetPinAt p ∷ []) x k y k made (made_by x k (SetPinAt p) (SetPin w) y k at.has (ap SetPinAt at.at) y_sound set (λ d. refl))
 
 -- ---- its steps
--- the first of sound steps are sound
-first_sound : (xs ys : List Step) (g : Graph) → AreSound (xs ++ ys) g → AreSound xs g
-first_sound [] ys g a = tt
-first_sound (x ∷ xs) ys g a = (a.0, first_sound xs ys (apply x g) a.1)
 
 -- the points of a present's graph are its vertices
 pub graph_points : (p : Present) → (graph p).points ≡ vertices p
@@ -74,7 +47,7 @@ pin_steps_are o p = ap (λ vs. vertex_steps (missing_points (p ∷ []) vs) (grap
 
 module _ (v : View) (q : Past) (l : IsLayer v q) (p : Point) (proper : IsProper p) where
   abbrev h : Curves
-  h = held q
+  h = curves_on q
 
   abbrev o : Layer
   o = layer_of v q
@@ -93,11 +66,11 @@ module _ (v : View) (q : Past) (l : IsLayer v q) (p : Point) (proper : IsProper 
         let k = are_sound (Pin p) o.present l.lawful.fit accepted in
         subst (λ g. AreSound (new_vertex_steps p g) g) (sym l.stands) (first_sound (new_vertex_steps p (graph o.present)) (SetPinAt p ∷ []) (graph o.present) (subst (λ ss. AreSound ss (graph o.present)) (pin_steps_are o.present p) k))
 
-    pub pin_made : (x : View) (k : Curves) → Makes v h (new_vertex_steps p (drawn_graph v h)) x k → (w : VertexId) → IsVertexAt x p w → (y : View) → y ≡ with_pin x w true → Makes v h (steps (Pin p) o.present) y k
+    pub pin_made : (x : View) (k : Curves) → IsRunOfSteps v h (new_vertex_steps p (drawn_graph v h)) x k → (w : VertexId) → IsVertexAt x p w → (y : View) → y ≡ with_pin x w true → IsRunOfSteps v h (steps (Pin p) o.present) y k
     pin_made x k made w at y set =
-        subst (λ ss. Makes v h ss y k) (sym steps_are) (pinned_on v h (new_vertex_steps p (drawn_graph v h)) l.sound l.curves x k made p w at y set)
+        subst (λ ss. IsRunOfSteps v h ss y k) (sym steps_are) (pinned_on v h (new_vertex_steps p (drawn_graph v h)) l.sound l.curves x k made p w at y set)
 
-    pub pin_layer : (y : View) (r : Past) → Makes v h (steps (Pin p) o.present) y (held r) → SameLayer q r → IsLayer y r × (layer_of y r ≡ layer_after (Pin p) o)
+    pub pin_layer : (y : View) (r : Past) → IsRunOfSteps v h (steps (Pin p) o.present) y (curves_on r) → SameLayer q r → IsLayer y r × (layer_of y r ≡ layer_after (Pin p) o)
     unfolding after
     pin_layer y r made n = steps_make_layers (Pin p) v q y r l accepted made n.pieces n.names n.next
 

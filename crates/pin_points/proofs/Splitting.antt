@@ -1,13 +1,13 @@
--- A pin inside an edge: when it is refused, its steps, and the layer after it.
+-- A pin inside an edge: what its refusals ask, its steps, and the layer after it.
 use Rattle.std.proofs.Common.{◌≡◌, ℕ, Bool, true, false, ◌&&◌, [], ◌∷◌, length, refl, sym, ap, ap₂, ◌∙◌, subst}
-use Rattle.std.specs.Prelude.{nat_le, Some, None, MatchOption, if◌then◌else◌}
+use Rattle.std.specs.Prelude.{nat_le}
 use Rattle.std.specs.List.{list_any, filter}
 use Rattle.exact_plane.specs.Point.{Point}
+use Rattle.exact_plane.specs.PointOrderLaws.{and_true}
 use Rattle.plane_graphs.specs.Ascending.{Member}
 use Rattle.plane_graphs.specs.Graph.{Edge, Graph, Mark, graph, inside, is_at}
 use Rattle.plane_graphs.specs.Line.{IsProper, same_point}
-use Rattle.plane_graphs.specs.Piece.{Present}
-use Rattle.plane_graphs.proofs.Lists.{and_in, any_in, any_out, both, clash, not_true}
+use Rattle.plane_graphs.proofs.Lists.{and_in, any_in, any_out, clash}
 use Rattle.plane_graphs.proofs.Order.{same_in, same_out}
 use Rattle.edit_steps.specs.Edits.{Split, IsAccepted, after, steps}
 use Rattle.edit_steps.specs.Layer.{Layer, IsAcceptedBy, layer_after}
@@ -17,49 +17,24 @@ use Rattle.slab_laws.specs.declared.names.VertexId.{VertexId}
 use Rattle.slab_laws.specs.Skeleton.{inside as is_inside_edge}
 use Rattle.slab_laws.specs.Sound.{edge_in}
 use Rattle.slab_laws.specs.View.{View, point_in, source_in, target_in}
-use Rattle.view_changes.specs.Writers.{with_pin}
+use Rattle.arr_notes.specs.ViewChanges.{with_pin}
 use Rattle.arr_notes.specs.Curves.{Curves}
-use Rattle.curve_history.specs.Past.{Past, held, SameLayer}
-use Rattle.record_graphs.specs.Graph.{drawn_graph}
-use Rattle.record_graphs.specs.Laws.{IsMarkOf, IsVertexAt}
-use Rattle.record_layers.specs.Kept.{IsLayer, layer_of, Makes}
+use Rattle.curve_history.specs.Past.{Past, curves_on, SameLayer}
+use Rattle.sound_views.specs.RecordGraph.{drawn_graph}
+use Rattle.sound_views.specs.RecordGraphLaws.{IsMarkOf, IsVertexAt}
+use Rattle.record_layers.specs.RecordLayers.{IsLayer, layer_of, IsRunOfSteps}
 use Rattle.record_layers.proofs.Layers.{steps_make_layers}
-use Rattle.graph_steps.proofs.Held.{held_mark}
-use Rattle.edges_by_ends.specs.Edges.{IsDartAlong, RunsBetween}
-use Rattle.edges_by_ends.proofs.Ends.{ahead, along_runs, edge_of_ends}
-use Rattle.pin_points.specs.declared.split.SplitError.{SplitError}
-use Rattle.pin_points.specs.declared.split.SplitError.TheVariants.{NoEdge, NotInside, Full}
-use Rattle.pin_points.specs.Splits.{split_refusal}
+use Rattle.sound_changes.proofs.StepHolds.{held_mark}
+use Rattle.record_orders.specs.Edges.{IsDartAlong, RunsBetween}
+use Rattle.record_orders.proofs.EdgeEnds.{ahead, along_runs, edge_of_ends}
 use Rattle.redundant_vertices.proofs.Passed.{mark_there}
 use Rattle.pin_points.proofs.Pinning.{counted, pinned_on}
 use Rattle.pin_points.proofs.Spotted.{mark_inside, inside_edge}
-
--- ---- why it is refused
-module _ (limit : ℕ) (o : Present) (e : Edge) (r : Point) (A : Type 0) (B : SplitError → Type 0) where
-  abbrev joins : Bool
-  joins = list_any (is_at e.low e.high) (graph o).marks
-
-  abbrev holds : Bool
-  holds = list_any (λ m. is_at e.low e.high m && inside r m) (graph o).marks
-
-  refused_by : (a b c : Bool) → joins ≡ a → holds ≡ b → nat_le limit (length o.pins) ≡ c → MatchOption (if a then (if b then (if c then Some (Full limit) else None) else Some NotInside) else Some NoEdge) A B → MatchOption (split_refusal limit o e r) A B
-  refused_by a b c i j k m = subst (λ z. MatchOption z A B) (sym (λ t. if i t then (if j t then (if k t then Some (Full limit) else None) else Some NotInside) else Some NoEdge)) m
-
-  pub refused_no_edge : joins ≡ false → B NoEdge → MatchOption (split_refusal limit o e r) A B
-  refused_no_edge i m = refused_by false holds (nat_le limit (length o.pins)) i refl refl m
-
-  pub refused_not_inside : joins ≡ true → holds ≡ false → B NotInside → MatchOption (split_refusal limit o e r) A B
-  refused_not_inside i j m = refused_by true false (nat_le limit (length o.pins)) i j refl m
-
-  pub refused_full : joins ≡ true → holds ≡ true → nat_le limit (length o.pins) ≡ true → B (Full limit) → MatchOption (split_refusal limit o e r) A B
-  refused_full i j k m = refused_by true true true i j k m
-
-  pub not_refused : joins ≡ true → holds ≡ true → nat_le limit (length o.pins) ≡ false → A → MatchOption (split_refusal limit o e r) A B
-  not_refused i j k m = refused_by true true false i j k m
+use Rattle.integers.proofs.Tests.{not_true}
 
 module _ (v : View) (q : Past) (l : IsLayer v q) (e : Edge) where
   abbrev h : Curves
-  h = held q
+  h = curves_on q
 
   abbrev o : Layer
   o = layer_of v q
@@ -70,7 +45,7 @@ module _ (v : View) (q : Past) (l : IsLayer v q) (e : Edge) where
   -- ---- the edge between the points
   along_mark : (m : Mark) (d : DartId) → IsMarkOf v h m d → is_at e.low e.high m ≡ true → IsDartAlong v e d
   along_mark m d k t =
-      let b = both (same_point m.low e.low) (same_point m.high e.high) t in
+      let b = and_true (same_point m.low e.low) (same_point m.high e.high) t in
       record {
         forward = k.forward;
         edge = ahead (point_in v (source_in v d)) (point_in v (target_in v d)) k.forward.1 ∙ ap₂ edge_of_ends (k.low ∙ same_out m.low e.low b.0) (k.high ∙ same_out m.high e.high b.1);
@@ -105,7 +80,7 @@ module _ (v : View) (q : Past) (l : IsLayer v q) (e : Edge) where
       pub not_inside : is_inside_edge (edge_in v d) r ≡ false → Holds (graph o.present) ≡ false
       not_inside f = subst (λ g. Holds g ≡ false) l.stands (not_true (Holds drawn) (λ t.
           let m = any_out (λ m. is_at e.low e.high m && inside r m) drawn.marks t in
-          let b = both (is_at e.low e.high m.0) (inside r m.0) m.2 in
+          let b = and_true (is_at e.low e.high m.0) (inside r m.0) m.2 in
           let k = held_mark v l.sound.named h m.0 m.1 in
           let same : edge_in v k.0 ≡ edge_in v d = (along_mark m.0 k.0 k.1 b.0).edge ∙ sym a.edge in
           clash (subst (λ z. is_inside_edge z r ≡ true) same (inside_edge v h l.sound l.curves r proper m.0 k.0 k.1 b.1)) f))
@@ -116,16 +91,16 @@ module _ (v : View) (q : Past) (l : IsLayer v q) (e : Edge) where
         unfolding IsAccepted
         accepted = (proper, is_inside i)
 
-        pub split_made : (x : View) (k : Curves) → Makes v h (SplitEdge (point_in v (source_in v d)) (point_in v (target_in v d)) r ∷ []) x k → (w : VertexId) → IsVertexAt x r w → (y : View) → y ≡ with_pin x w true → Makes v h (steps (Split e.low e.high r) o.present) y k
+        pub split_made : (x : View) (k : Curves) → IsRunOfSteps v h (SplitEdge (point_in v (source_in v d)) (point_in v (target_in v d)) r ∷ []) x k → (w : VertexId) → IsVertexAt x r w → (y : View) → y ≡ with_pin x w true → IsRunOfSteps v h (steps (Split e.low e.high r) o.present) y k
         unfolding steps split_steps
         split_made x k made w at y set =
             pinned_on v h (SplitEdge e.low e.high r ∷ []) l.sound l.curves x k
-            (subst (λ ss. Makes v h ss x k) (λ j. SplitEdge (runs.starts j) (runs.ends j) r ∷ []) made) r w at y set
+            (subst (λ ss. IsRunOfSteps v h ss x k) (λ j. SplitEdge (runs.starts j) (runs.ends j) r ∷ []) made) r w at y set
 
-        pub split_layer : (y : View) (t : Past) → Makes v h (steps (Split e.low e.high r) o.present) y (held t) → SameLayer q t → IsLayer y t × (layer_of y t ≡ layer_after (Split e.low e.high r) o)
+        pub split_layer : (y : View) (t : Past) → IsRunOfSteps v h (steps (Split e.low e.high r) o.present) y (curves_on t) → SameLayer q t → IsLayer y t × (layer_of y t ≡ layer_after (Split e.low e.high r) o)
         unfolding after
         split_layer y t made n = steps_make_layers (Split e.low e.high r) v q y t l accepted made n.pieces n.names n.next
 
-  -- ---- whether one pin more passes the limit
+  -- ---- whether one more pin passes the limit
   pub limit_met : (limit : ℕ) (r : Point) → IsProper r → (b : Bool) → nat_le limit (length (filter (λ u. u.1.pinned) v.vertices)) ≡ b → nat_le limit (length o.present.pins) ≡ b
   limit_met limit r proper b f = ap (nat_le limit) (counted v q l r proper) ∙ f

@@ -6,7 +6,7 @@ use Rattle.plane_graphs.specs.Ascending.{Member}
 use Rattle.plane_graphs.specs.Graph.{Graph, Mark, inside as inside_mark, on_edge}
 use Rattle.plane_graphs.specs.Line.{IsProper, precedes, same_point}
 use Rattle.plane_graphs.proofs.Closed.{inside_in as inside_mark_in, inside_out as inside_mark_out}
-use Rattle.plane_graphs.proofs.Lists.{and_in, any_in, any_out, both_ways, clash, not_in, not_true}
+use Rattle.plane_graphs.proofs.Lists.{and_in, any_in, any_out, both_ways, clash, not_in}
 use Rattle.plane_graphs.proofs.Order.{Lt, lt_out, lt_never, lt_both, same_in, same_out}
 use Rattle.edit_steps.specs.Steps.{AddVertex as AddVertexAt, SplitEdge as SplitEdgeAt, vertex_step_by, vertex_steps, missing_points}
 use Rattle.edit_steps.proofs.Split.{step_is}
@@ -16,19 +16,20 @@ use Rattle.slab_laws.specs.Darts.{Dart}
 use Rattle.slab_laws.specs.Skeleton.{inside}
 use Rattle.slab_laws.specs.Sound.{IsGraphSound, edge_in}
 use Rattle.slab_laws.specs.View.{View, HasVertex, HasDart, point_in, pinned_in, source_in, twin_in, target_in}
-use Rattle.sound_splits.proofs.Cases.{edge_of_ends, ahead_by}
-use Rattle.sound_splits.proofs.Inside.{inside_in, inside_out}
-use Rattle.sound_splits.proofs.Known.{point_known, edge_known}
+use Rattle.sound_changes.proofs.SplitCases.{edge_of_ends, ahead_by}
+use Rattle.sound_changes.proofs.PointInside.{inside_in, inside_out}
+use Rattle.sound_changes.proofs.KnownNames.{point_known, edge_known}
 use Rattle.arr_notes.specs.Curves.{Curves, AreCurvesOf, is_forward}
 use Rattle.dcel_records.specs.declared.spot.Spot.{Spot}
 use Rattle.dcel_records.specs.declared.spot.Spot.TheVariants.{Vertex, Edge as InEdge, Face}
 use Rattle.dcel_records.specs.Spots.{IsInFace, IsSpotOf}
-use Rattle.record_graphs.specs.Graph.{drawn_graph}
-use Rattle.record_graphs.specs.Laws.{IsMarkOf}
-use Rattle.record_graphs.proofs.Drawn.{graphs_are_plane}
-use Rattle.graph_steps.proofs.Held.{held_mark, point_held, held_point, pin_held, held_pin}
+use Rattle.sound_views.specs.RecordGraph.{drawn_graph}
+use Rattle.sound_views.specs.RecordGraphLaws.{IsMarkOf}
+use Rattle.sound_views.proofs.GraphDrawn.{graphs_are_plane}
+use Rattle.sound_changes.proofs.StepHolds.{held_mark, point_held, held_point, pin_held, held_pin}
 use Rattle.pin_points.specs.Pins.{is_pinned_spot, new_vertex_steps}
 use Rattle.redundant_vertices.proofs.Passed.{flat_in, flat_out, mark_there}
+use Rattle.integers.proofs.Tests.{not_true}
 
 -- ---- steps for one point
 module _ (p : Point) (g : Graph) where

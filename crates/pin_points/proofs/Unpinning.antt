@@ -1,4 +1,4 @@
--- A pin fewer: its steps, and the layer after it.
+-- One pin fewer: its steps, and the layer after it.
 use Rattle.std.proofs.Common.{◌≡◌, ◌≢◌, true, false, not, List, [], ◌∷◌, refl, sym, ap, ◌∙◌, subst, inl, inr}
 use Rattle.std.specs.List.{list_any}
 use Rattle.exact_plane.specs.Point.{Point}
@@ -10,13 +10,13 @@ use Rattle.plane_graphs.specs.Graph.{Graph, graph, graph_over, vertices}
 use Rattle.plane_graphs.specs.Line.{IsProper, same_point}
 use Rattle.plane_graphs.specs.Piece.{Present}
 use Rattle.plane_graphs.proofs.Ascending.{ascending_unique}
-use Rattle.plane_graphs.proofs.Lists.{IsAscending-filter, any_out, any_none, clash, decide, in_filter, of_filter, not_in, not_out}
+use Rattle.plane_graphs.proofs.Lists.{IsAscending-filter, any_out, any_none, clash, decide, in_filter, of_filter, not_in, not_out, none_is_empty}
 use Rattle.plane_graphs.proofs.Lines.{geometry}
 use Rattle.plane_graphs.proofs.Order.{same_in, same_out, same_itself}
 use Rattle.plane_graphs.proofs.Vertices.{IsVertex, vertex_in, vertex_out, vertices_ascend, vertices_closed}
 use Rattle.plane_graphs.proofs.Vertices.IsVertex.{begins, finishes, pinned, crossed}
 use Rattle.edit_steps.specs.Edits.{Unpin, IsAccepted, after, steps}
-use Rattle.edit_steps.specs.Laws.{IsLoose}
+use Rattle.edit_steps.specs.EditLaws.{IsLoose}
 use Rattle.edit_steps.specs.Layer.{Layer, IsAcceptedBy, layer_after}
 use Rattle.edit_steps.specs.Steps.{ClearPin as ClearPinAt, apply, run, missing_points, tidy_step, tidy_steps, unpin_steps, with_tidying, without_pin}
 use Rattle.edit_steps.proofs.Edits.{fit_unpin, unpin_sub}
@@ -24,24 +24,20 @@ use Rattle.edit_steps.proofs.Seen.{loose_is_no_vertex}
 use Rattle.slab_laws.specs.declared.names.VertexId.{VertexId}
 use Rattle.slab_laws.specs.Sound.{IsGraphSound}
 use Rattle.slab_laws.specs.View.{View, HasVertex, point_in, pinned_in}
-use Rattle.view_changes.specs.Reads.{IsPinSet}
-use Rattle.view_changes.specs.Writers.{with_pin}
-use Rattle.view_changes.proofs.Vertices.{pin_is_set}
+use Rattle.arr_notes.specs.Reads.{IsPinSet}
+use Rattle.arr_notes.specs.ViewChanges.{with_pin}
+use Rattle.arr_notes.proofs.VertexReads.{pin_is_set}
 use Rattle.arr_notes.specs.declared.change.Change.TheVariants.{ClearPin}
 use Rattle.arr_notes.specs.Curves.{Curves, AreCurvesOf}
-use Rattle.curve_history.specs.Past.{Past, held, SameLayer}
-use Rattle.record_graphs.specs.Graph.{drawn_graph}
-use Rattle.graph_steps.specs.Laws.{IsApplied}
-use Rattle.graph_steps.proofs.Changes.{changes_are_steps}
-use Rattle.record_layers.specs.Kept.{IsLayer, layer_of, Makes}
+use Rattle.curve_history.specs.Past.{Past, curves_on, SameLayer}
+use Rattle.sound_views.specs.RecordGraph.{drawn_graph}
+use Rattle.sound_changes.specs.StepLaws.{IsApplied}
+use Rattle.sound_changes.proofs.ChangesAreSteps.{changes_are_steps}
+use Rattle.record_layers.specs.RecordLayers.{IsLayer, layer_of, IsRunOfSteps}
 use Rattle.record_layers.proofs.Layers.{steps_make_layers}
-use Rattle.sound_splits.proofs.Vertices.{pinned as pin_sound}
+use Rattle.sound_changes.proofs.VertexAdded.{pinned as pin_sound}
 use Rattle.redundant_vertices.specs.Tidied.{IsTidied}
 use Rattle.pin_points.proofs.Spotted.{pinned_vertex}
-
-empty : (xs : List Point) → ((x : Point) → Member x xs → ⊥) → xs ≡ []
-empty [] f = refl
-empty (x ∷ xs) f = absurd (f x (inl refl))
 
 -- ---- which vertices a present loses with a pin: none but its point
 module _ (o : Present) (fit : IsFit o) (p : Point) (there : Member p o.pins) where
@@ -93,7 +89,7 @@ module _ (o : Present) (fit : IsFit o) (p : Point) (there : Member p o.pins) whe
       (λ x m. elim m [ inl e ↦ subst (λ z. Member z (missing_points vs ws)) (sym e) (missing_in p is_vertex none) | inr n ↦ absurd n ])
 
   none_lost : Member p ws → missing_points vs ws ≡ []
-  none_lost here = empty (missing_points vs ws) (λ x m. (missing_out x m).1 (subst (λ z. Member z ws) (sym (is_it x m)) here))
+  none_lost here = none_is_empty (missing_points vs ws) (λ x m. (missing_out x m).1 (subst (λ z. Member z ws) (sym (is_it x m)) here))
 
   -- ---- that is told by the graph without the pin
   abbrev G : Graph
@@ -133,7 +129,7 @@ cleared_graph o p = refl
 
 module _ (v : View) (r : Past) (l : IsLayer v r) (w : VertexId) (has : HasVertex v w) (pin : pinned_in v w ≡ true) where
   abbrev h : Curves
-  h = held r
+  h = curves_on r
 
   abbrev o : Layer
   o = layer_of v r
@@ -184,15 +180,15 @@ module _ (v : View) (r : Past) (l : IsLayer v r) (w : VertexId) (has : HasVertex
     tidied : IsTidied v1 h p x k
     tidied = subst (λ z. IsTidied v1 h z x k) (set.point w) t
 
-    tidy_made : Makes v1 h (tidy_steps (missing_points (vertices o.present) (vertices (without_pin o.present p))) rest) x k
+    tidy_made : IsRunOfSteps v1 h (tidy_steps (missing_points (vertices o.present) (vertices (without_pin o.present p))) rest) x k
     tidy_made = elim tidied [
-      | inl e ↦ subst (λ ss. Makes v1 h ss x k) (sym (loose_steps o.present l.lawful.fit p there (subst (λ g. IsLoose g p) drawn e.0))) (subst (λ g. Makes v1 h (tidy_step p g ∷ []) x k) drawn e.1)
-      | inr e ↦ subst (λ ss. Makes v1 h ss x k) (sym (held_steps o.present l.lawful.fit p there (λ i. e.0 (subst (λ g. IsLoose g p) (sym drawn) i)))) e.1
+      | inl e ↦ subst (λ ss. IsRunOfSteps v1 h ss x k) (sym (loose_steps o.present l.lawful.fit p there (subst (λ g. IsLoose g p) drawn e.0))) (subst (λ g. IsRunOfSteps v1 h (tidy_step p g ∷ []) x k) drawn e.1)
+      | inr e ↦ subst (λ ss. IsRunOfSteps v1 h ss x k) (sym (held_steps o.present l.lawful.fit p there (λ i. e.0 (subst (λ g. IsLoose g p) (sym drawn) i)))) e.1
     ]
 
-    pub unpin_made : Makes v h (steps (Unpin p) o.present) x k
-    unpin_made = subst (λ ss. Makes v h ss x k) (sym (all_steps o.present l.lawful.fit p there)) (ClearPin w, record { fits = has; tells = refl; sound = clear_sound }, tidy_made)
+    pub unpin_made : IsRunOfSteps v h (steps (Unpin p) o.present) x k
+    unpin_made = subst (λ ss. IsRunOfSteps v h ss x k) (sym (all_steps o.present l.lawful.fit p there)) (ClearPin w, record { fits = has; tells = refl; sound = clear_sound }, tidy_made)
 
-  pub unpin_layer : (y : View) (q : Past) → Makes v h (steps (Unpin p) o.present) y (held q) → SameLayer r q → IsLayer y q × (layer_of y q ≡ layer_after (Unpin p) o)
+  pub unpin_layer : (y : View) (q : Past) → IsRunOfSteps v h (steps (Unpin p) o.present) y (curves_on q) → SameLayer r q → IsLayer y q × (layer_of y q ≡ layer_after (Unpin p) o)
   unfolding after
   unpin_layer y q made n = steps_make_layers (Unpin p) v r y q l accepted made n.pieces n.names n.next

@@ -1,23 +1,32 @@
--- When a pin is refused, and what a pin makes of its spot.
-use Rattle.std.specs.Prelude.{◌≤◌, ℕ, List, [], ◌∷◌, Bool, false, length, nat_le, Option, Some, None, if◌then◌else◌}
-use Rattle.std.specs.List.{list_any}
+-- Which refusals the errors of pins stand for, and what a pin makes of its spot.
+use Rattle.std.specs.Prelude.{◌≤◌, ℕ, List, [], ◌∷◌, Bool, false, length, Option, Some, None}
 use Rattle.exact_plane.specs.Point.{Point}
 use Rattle.plane_graphs.specs.Graph.{Graph}
-use Rattle.plane_graphs.specs.Line.{same_point}
-use Rattle.edit_steps.specs.Steps.{Step, missing_points, vertex_steps}
-use Rattle.slab_laws.specs.View.{View, pinned_in}
-use Rattle.dcel_records.specs.Held.{Held}
+use Rattle.edit_steps.specs.Refusals.{Refusal, Full as Passed, Pinned as Again, NotPinned as Bare}
+use Rattle.edit_steps.specs.Allowed.{AreSound}
+use Rattle.edit_steps.specs.Steps.{Step, SplitEdge, missing_points, vertex_steps}
+use Rattle.slab_laws.specs.declared.names.DartId.{DartId}
+use Rattle.slab_laws.specs.View.{View, point_in, source_in, target_in, pinned_in}
+use Rattle.arr_notes.specs.Curves.{Curves}
+use Rattle.dcel_records.specs.RecordsView.{RecordsView}
 use Rattle.dcel_records.specs.declared.spot.Spot.{Spot}
 use Rattle.dcel_records.specs.declared.spot.Spot.TheVariants.{Vertex, Edge}
-use Rattle.curve_history.specs.Past.{Past, held}
+use Rattle.curve_history.specs.Past.{Past, curves_on}
+use Rattle.sound_views.specs.RecordGraph.{drawn_graph}
+use Rattle.record_layers.specs.RecordLayers.{IsRunOfSteps}
 use Rattle.pin_points.specs.declared.pins.PinError.{PinError}
-use Rattle.pin_points.specs.declared.pins.PinError.TheVariants.{Pinned, Full}
+use Rattle.pin_points.specs.declared.pins.PinError.TheVariants.{Pinned, Full, NoMemory}
+use Rattle.pin_points.specs.declared.pins.NotPinned.{NotPinned}
 
--- why a pin is refused, first reason first: the point is pinned, one pin more passes the limit (this project)
-abbrev pub refusal : ℕ → List Point → Point → Option PinError
-refusal limit pins p =
-    if list_any (same_point p) pins then Some Pinned
-    else (if nat_le limit (length pins) then Some (Full limit) else None)
+-- the refusal that a pin's error stands for; want of memory is none (this project)
+abbrev pub pin_said : PinError → Option Refusal
+pin_said Pinned = Some Again
+pin_said (Full limit) = Some (Passed limit)
+pin_said NoMemory = None
+
+-- the refusal that an unpin's error stands for (this project)
+abbrev pub unpin_said : NotPinned → Option Refusal
+unpin_said error = Some Bare
 
 -- whether the spot is a pinned vertex (this project)
 abbrev pub is_pinned_spot : View → Spot → Bool
@@ -26,11 +35,11 @@ is_pinned_spot v other = false
 
 -- how many curves run along the edge that the spot is in (this project)
 abbrev pub pairs_parted : Past → Spot → ℕ
-pairs_parted p (Edge d) = length (held p d)
+pairs_parted p (Edge d) = length (curves_on p d)
 pairs_parted p other = 0
 
 -- without memory there is room for a vertex at the spot, and for the edge that it parts (this project)
-pub record HasRoomFor (at : Spot) (r : Held) (p : Past) : Type 0 where
+pub record HasRoomFor (at : Spot) (r : RecordsView) (p : Past) : Type 0 where
   pub vertices : 1 ≤ r.spare_vertices
   pub darts : 2 ≤ r.spare_darts
   pub pairs : pairs_parted p at ≤ p.spare_pairs
@@ -38,3 +47,16 @@ pub record HasRoomFor (at : Spot) (r : Held) (p : Past) : Type 0 where
 -- the step that makes the point a vertex, where it is none
 abbrev pub new_vertex_steps : Point → Graph → List Step
 new_vertex_steps p g = vertex_steps (missing_points (p ∷ []) g.points) g
+
+-- the point may become a vertex: the steps for it are sound
+abbrev pub MayBecomeVertex : Point → Graph → Type 0
+MayBecomeVertex p g = AreSound (new_vertex_steps p g) g
+
+-- the point has become a vertex, by just these steps
+abbrev pub HasBecomeVertex : View → Curves → Point → View → Curves → Type 0
+HasBecomeVertex v h p w k = IsRunOfSteps v h (new_vertex_steps p (drawn_graph v h)) w k
+
+-- the edge of the dart is split at the point, by its one step (CGAL manual, `split_edge`)
+abbrev pub IsSplitAt : View → Curves → DartId → Point → View → Curves → Type 0
+IsSplitAt v h d p w k =
+    IsRunOfSteps v h (SplitEdge (point_in v (source_in v d)) (point_in v (target_in v d)) p ∷ []) w k

@@ -1,9 +1,8 @@
-ghost use Rattle.std.specs.Prelude.{◌≡◌};
-ghost use Rattle.edit_steps.specs.Edits.{ClearAll, steps};
-ghost use Rattle.edit_steps.specs.Layer.{layer_after};
-ghost use Rattle.dcel_records.specs.Held.{SameRecordCapacity};
-ghost use Rattle.curve_history.specs.Past.{held, SameHistoryCapacity};
-ghost use Rattle.record_layers.specs.Kept.{IsLayer, layer_of, Makes};
+ghost use Rattle.edit_steps.specs.Edits.{ClearAll};
+ghost use Rattle.dcel_records.specs.RecordsView.{SameRecordCapacity};
+ghost use Rattle.curve_history.specs.Past.{SameHistoryCapacity};
+ghost use Rattle.record_layers.specs.RecordLayers.{IsLayer};
+ghost use Rattle.record_layers.specs.LayerEdits.{IsAfter, Makes};
 
 use curve_history::History;
 use dcel_records::Records;
@@ -12,8 +11,8 @@ use dcel_records::Records;
 pub fn clear(records: &mut Records, history: &mut History)
     requires layer { IsLayer records.old.graph history.old }
     ensures layer { IsLayer records.new.graph history.new }
-    ensures edit { layer_of records.new.graph history.new ≡ layer_after ClearAll (layer_of records.old.graph history.old) }
-    ensures steps { Makes records.old.graph (held history.old) (steps ClearAll (layer_of records.old.graph history.old).present) records.new.graph (held history.new) }
+    ensures edit { IsAfter ClearAll records.old history.old records.new history.new }
+    ensures steps { Makes ClearAll records.old history.old records.new history.new }
     ensures records_capacity { SameRecordCapacity records.old records.new }
     ensures history_capacity { SameHistoryCapacity history.old history.new }
 {

@@ -1,7 +1,7 @@
 //! Pins of an arrangement that is kept in records with the history of its curves: a pinned point stays a vertex until it is
 //! unpinned (this project).
 //!
-//! An edge goes in two at a pin, and two edges become one without it (CGAL manual, `split_edge` and `merge_edge`); and all of an
+//! An edge is split at a pin, and two edges become one without it (CGAL manual, `split_edge` and `merge_edge`); and all of an
 //! arrangement goes.
 #![tactic(auto)]
 

@@ -1,16 +1,17 @@
-ghost use Rattle.std.specs.Prelude.{◌≡◌, MatchOption, Err, IsOk, OnOk, OnErr};
-ghost use Rattle.edit_steps.specs.Edits.{Merge, steps};
-ghost use Rattle.edit_steps.specs.Layer.{layer_after};
-ghost use Rattle.dcel_records.specs.Held.{SameRecordCapacity};
-ghost use Rattle.curve_history.specs.Past.{held, SameLayer, SameCurves, SameHistoryCapacity};
-ghost use Rattle.record_layers.specs.Kept.{IsLayer, layer_of, Makes};
-ghost use Rattle.pin_points.specs.Merges.{merge_refusal};
+ghost use Rattle.std.specs.Prelude.{◌≡◌, OnOk, OnErr};
+ghost use Rattle.edit_steps.specs.Edits.{Merge};
+ghost use Rattle.edit_steps.specs.Refusals.{merge_refusal, IsAnswerFor};
+ghost use Rattle.dcel_records.specs.RecordsView.{SameRecordCapacity};
+ghost use Rattle.curve_history.specs.Past.{SameLayer, SameCurves, SameHistoryCapacity};
+ghost use Rattle.record_layers.specs.RecordLayers.{IsLayer};
+ghost use Rattle.pin_points.specs.Merges.{merge_said};
+ghost use Rattle.record_layers.specs.LayerEdits.{layer_at, IsAfter, Makes};
 
 use curve_history::History;
 use dcel_records::Records;
 use exact_plane::Point;
 use locate_naive::vertex_at;
-use redundant_vertices::{is_passed, tidy};
+use redundant_vertices::{is_mergeable, remove_if_redundant};
 use slab_laws::Darts;
 use thiserror::Error;
 
@@ -30,9 +31,9 @@ pub enum MergeError {
 pub fn merge_edge(records: &mut Records, history: &mut History, r: &Point) -> Result<(), MergeError>
     requires layer { IsLayer records.old.graph history.old }
     ensures layer { IsLayer records.new.graph history.new }
-    ensures edit { OnOk result (layer_of records.new.graph history.new ≡ layer_after (Merge r.now) (layer_of records.old.graph history.old)) }
-    ensures steps { OnOk result (Makes records.old.graph (held history.old) (steps (Merge r.now) (layer_of records.old.graph history.old).present) records.new.graph (held history.new)) }
-    ensures refused { MatchOption (merge_refusal (layer_of records.old.graph history.old).present r.now) (IsOk result) (λ e. result ≡ Err e) }
+    ensures edit { OnOk result (IsAfter (Merge r.now) records.old history.old records.new history.new) }
+    ensures steps { OnOk result (Makes (Merge r.now) records.old history.old records.new history.new) }
+    ensures refused { IsAnswerFor merge_said (merge_refusal (layer_at records.old history.old) r.now) result }
     ensures graph { OnErr result (records.new.graph ≡ records.old.graph) }
     ensures same_layer { OnErr result (SameLayer history.old history.new) }
     ensures same_curves { OnErr result (SameCurves history.old history.new) }
@@ -45,10 +46,10 @@ pub fn merge_edge(records: &mut Records, history: &mut History, r: &Point) -> Re
     if !records.pinned(vertex) {
         return Err(MergeError::NotMergeable);
     }
-    if !is_passed(&*records, &*history, vertex) {
+    if !is_mergeable(&*records, &*history, vertex) {
         return Err(MergeError::NotMergeable);
     }
     records.clear_pin(vertex);
-    tidy(records, history, vertex);
+    remove_if_redundant(records, history, vertex);
     Ok(())
 }

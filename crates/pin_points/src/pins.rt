@@ -1,21 +1,19 @@
-ghost use Rattle.std.specs.Prelude.{◌≡◌, ◌≢◌, ◌⊎◌, ◌≤◌, true, false, [], ◌∷◌, length, MatchOption, Ok, Err, IsOk, IfOk, OnOk, OnErr};
-ghost use Rattle.std.specs.List.{list_any};
-ghost use Rattle.plane_graphs.specs.Line.{IsProper, same_point};
-ghost use Rattle.edit_steps.specs.Allowed.{AreSound};
-ghost use Rattle.edit_steps.specs.Edits.{Pin, Unpin, steps};
-ghost use Rattle.edit_steps.specs.Layer.{layer_after};
-ghost use Rattle.edit_steps.specs.Steps.{SplitEdge, missing_points, vertex_steps};
+ghost use Rattle.std.specs.Prelude.{◌≡◌, ◌≢◌, ◌≤◌, [], ◌∷◌, length, Err, IsOk, OnOk, OnErr};
+ghost use Rattle.plane_graphs.specs.Line.{IsProper};
+ghost use Rattle.edit_steps.specs.Edits.{Pin, Unpin};
+ghost use Rattle.edit_steps.specs.Refusals.{pin_refusal, unpin_refusal, IsAnswerFor};
+ghost use Rattle.edit_steps.specs.Steps.{SplitEdge};
 ghost use Rattle.slab_laws.specs.Sound.{IsGraphSound};
-ghost use Rattle.slab_laws.specs.View.{HasVertex, point_in, source_in, target_in};
-ghost use Rattle.dcel_records.specs.Held.{SameRecordCapacity};
+ghost use Rattle.dcel_records.specs.RecordsView.{SameRecordCapacity};
 ghost use Rattle.dcel_records.specs.Spots.{IsSpotOf};
 ghost use Rattle.arr_notes.specs.Curves.{AreCurvesOf};
 ghost use Rattle.edge_split_merge.specs.Splits.{CanSplit};
-ghost use Rattle.record_graphs.specs.Graph.{drawn_graph};
-ghost use Rattle.record_graphs.specs.Laws.{IsVertexAt};
-ghost use Rattle.curve_history.specs.Past.{held, SameLayer, SameCurves, SameHistoryCapacity};
-ghost use Rattle.record_layers.specs.Kept.{IsLayer, layer_of, Makes};
-ghost use Rattle.pin_points.specs.Pins.{refusal, is_pinned_spot, pairs_parted, new_vertex_steps, HasRoomFor};
+ghost use Rattle.sound_views.specs.RecordGraph.{drawn_graph};
+ghost use Rattle.sound_views.specs.RecordGraphLaws.{IsVertexAt};
+ghost use Rattle.curve_history.specs.Past.{curves_on, SameLayer, SameCurves, SameHistoryCapacity};
+ghost use Rattle.record_layers.specs.RecordLayers.{IsLayer};
+ghost use Rattle.pin_points.specs.Pins.{pin_said, unpin_said, is_pinned_spot, pairs_parted, HasRoomFor, MayBecomeVertex, HasBecomeVertex, IsSplitAt};
+ghost use Rattle.record_layers.specs.LayerEdits.{layer_at, IsAfter, Makes};
 
 use crate::full::is_full;
 use arr_notes::Change;
@@ -25,7 +23,7 @@ use edge_split_merge::split;
 use exact_plane::Point;
 use locate_naive::vertex_at;
 use no_memory::NoMemory;
-use redundant_vertices::tidy;
+use redundant_vertices::remove_if_redundant;
 use slab_laws::{DartId, Darts, VertexId};
 use std::alloc::Global;
 use thiserror::Error;
@@ -70,7 +68,7 @@ fn is_pinned(records: &Records, at: Spot) -> bool
     }
 }
 
-// How many curves run along the edge that goes in two at the spot.
+// How many curves run along the edge that is split at the spot.
 fn count_parted(history: &History, at: Spot) -> usize
     ensures { result ≡ pairs_parted history.now at }
 {
@@ -100,7 +98,7 @@ pub(crate) fn make_room(
     history.reserve(0, 0, pairs)
 }
 
-/// The edge of the dart goes in two at the point, and both parts have its curves.
+/// The edge of the dart is split at the point, and both parts have its curves.
 pub(crate) fn part_edge(
     records: &mut Records,
     history: &mut History,
@@ -108,13 +106,13 @@ pub(crate) fn part_edge(
     p: Point,
 ) -> VertexId
     requires sound { IsGraphSound records.old.graph }
-    requires curves { AreCurvesOf records.old.graph (held history.old) }
+    requires curves { AreCurvesOf records.old.graph (curves_on history.old) }
     requires point { IsProper p }
     requires fits { CanSplit records.old.graph d p }
     requires vertices { 1 ≤ records.old.spare_vertices }
     requires darts { 2 ≤ records.old.spare_darts }
-    requires pairs { length (held history.old d) ≤ history.old.spare_pairs }
-    ensures made { Makes records.old.graph (held history.old) (SplitEdge (point_in records.old.graph (source_in records.old.graph d)) (point_in records.old.graph (target_in records.old.graph d)) p ∷ []) records.new.graph (held history.new) }
+    requires pairs { length (curves_on history.old d) ≤ history.old.spare_pairs }
+    ensures made { IsSplitAt records.old.graph (curves_on history.old) d p records.new.graph (curves_on history.new) }
     ensures vertex { IsVertexAt records.new.graph p result }
     ensures layer { SameLayer history.old history.new }
 {
@@ -129,14 +127,14 @@ pub(crate) fn part_edge(
 // The point becomes a vertex where it is none, in room that is there.
 fn make_vertex(records: &mut Records, history: &mut History, at: Spot, p: Point) -> VertexId
     requires sound { IsGraphSound records.old.graph }
-    requires curves { AreCurvesOf records.old.graph (held history.old) }
+    requires curves { AreCurvesOf records.old.graph (curves_on history.old) }
     requires point { IsProper p }
     requires spot { IsSpotOf records.old.graph p at }
-    requires plane { AreSound (new_vertex_steps p (drawn_graph records.old.graph (held history.old))) (drawn_graph records.old.graph (held history.old)) }
+    requires plane { MayBecomeVertex p (drawn_graph records.old.graph (curves_on history.old)) }
     requires vertices { 1 ≤ records.old.spare_vertices }
     requires darts { 2 ≤ records.old.spare_darts }
     requires pairs { pairs_parted history.old at ≤ history.old.spare_pairs }
-    ensures made { Makes records.old.graph (held history.old) (new_vertex_steps p (drawn_graph records.old.graph (held history.old))) records.new.graph (held history.new) }
+    ensures made { HasBecomeVertex records.old.graph (curves_on history.old) p records.new.graph (curves_on history.new) }
     ensures vertex { IsVertexAt records.new.graph p result }
     ensures layer { SameLayer history.old history.new }
 {
@@ -160,9 +158,9 @@ pub fn pin(
     requires layer { IsLayer records.old.graph history.old }
     requires spot { IsSpotOf records.old.graph p.now at }
     ensures layer { IsLayer records.new.graph history.new }
-    ensures edit { OnOk result (layer_of records.new.graph history.new ≡ layer_after (Pin p.now) (layer_of records.old.graph history.old)) }
-    ensures steps { OnOk result (Makes records.old.graph (held history.old) (steps (Pin p.now) (layer_of records.old.graph history.old).present) records.new.graph (held history.new)) }
-    ensures refused { MatchOption (refusal pins (layer_of records.old.graph history.old).present.pins p.now) (IsOk result ⊎ (result ≡ Err PinError.NoMemory)) (λ e. result ≡ Err e) }
+    ensures edit { OnOk result (IsAfter (Pin p.now) records.old history.old records.new history.new) }
+    ensures steps { OnOk result (Makes (Pin p.now) records.old history.old records.new history.new) }
+    ensures refused { IsAnswerFor pin_said (pin_refusal pins (layer_at records.old history.old) p.now) result }
     ensures room { HasRoomFor at records.old history.old → result ≢ Err PinError.NoMemory }
     ensures graph { OnErr result (records.new.graph ≡ records.old.graph) }
     ensures same_layer { OnErr result (SameLayer history.old history.new) }
@@ -182,18 +180,17 @@ pub fn pin(
     Ok(())
 }
 
-/// The point isn't pinned any more; where nothing else calls for the vertex, its two edges become one, or, without edges, it
+/// The point isn't pinned any more; where the vertex is redundant then, its two edges become one, or, without edges, it
 /// goes. It takes no memory.
 pub fn unpin(records: &mut Records, history: &mut History, p: &Point) -> Result<(), NotPinned>
     requires layer { IsLayer records.old.graph history.old }
     ensures layer { IsLayer records.new.graph history.new }
-    ensures edit { OnOk result (layer_of records.new.graph history.new ≡ layer_after (Unpin p.now) (layer_of records.old.graph history.old)) }
-    ensures steps { OnOk result (Makes records.old.graph (held history.old) (steps (Unpin p.now) (layer_of records.old.graph history.old).present) records.new.graph (held history.new)) }
-    ensures done { OnOk result (list_any (same_point p.now) (layer_of records.old.graph history.old).present.pins ≡ true) }
+    ensures edit { OnOk result (IsAfter (Unpin p.now) records.old history.old records.new history.new) }
+    ensures steps { OnOk result (Makes (Unpin p.now) records.old history.old records.new history.new) }
+    ensures refused { IsAnswerFor unpin_said (unpin_refusal (layer_at records.old history.old) p.now) result }
     ensures graph { OnErr result (records.new.graph ≡ records.old.graph) }
     ensures same_layer { OnErr result (SameLayer history.old history.new) }
     ensures same_curves { OnErr result (SameCurves history.old history.new) }
-    ensures refused { OnErr result (list_any (same_point p.now) (layer_of records.old.graph history.old).present.pins ≡ false) }
     ensures records_capacity { SameRecordCapacity records.old records.new }
     ensures history_capacity { SameHistoryCapacity history.old history.new }
 {
@@ -204,6 +201,6 @@ pub fn unpin(records: &mut Records, history: &mut History, p: &Point) -> Result<
         return Err(NotPinned);
     }
     records.clear_pin(vertex);
-    tidy(records, history, vertex);
+    remove_if_redundant(records, history, vertex);
     Ok(())
 }

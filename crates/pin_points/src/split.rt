@@ -1,24 +1,20 @@
-ghost use Rattle.std.specs.Prelude.{◌≡◌, ◌≢◌, ◌⊎◌, ◌∷◌, [], MatchOption, Ok, Err, IsOk, OnOk, OnErr};
-ghost use Rattle.edit_steps.specs.Edits.{Split, steps};
-ghost use Rattle.edit_steps.specs.Layer.{layer_after};
+ghost use Rattle.std.specs.Prelude.{◌≡◌, ◌≢◌, Err, OnOk, OnErr};
+ghost use Rattle.edit_steps.specs.Refusals.{IsAnswerFor};
 ghost use Rattle.slab_laws.specs.Skeleton.{inside};
-ghost use Rattle.slab_laws.specs.Sound.{IsGraphSound, edge_between, edge_in};
+ghost use Rattle.slab_laws.specs.Sound.{IsGraphSound, edge_in};
 ghost use Rattle.arr_notes.specs.Curves.{IsForward};
-ghost use Rattle.curve_history.specs.Past.{held, SameLayer, SameCurves};
-ghost use Rattle.record_layers.specs.Kept.{IsLayer, layer_of, Makes};
-ghost use Rattle.dcel_records.specs.declared.spot.Spot.TheVariants.{Edge};
-ghost use Rattle.edges_by_ends.specs.Edges.{IsDartAlong};
-ghost use Rattle.pin_points.specs.Pins.{HasRoomFor};
-ghost use Rattle.pin_points.specs.Splits.{split_refusal};
+ghost use Rattle.curve_history.specs.Past.{SameLayer, SameCurves};
+ghost use Rattle.record_layers.specs.RecordLayers.{IsLayer};
+ghost use Rattle.pin_points.specs.Splits.{split_at, split_said, split_refusal_at, HasRoomToSplit};
+ghost use Rattle.record_layers.specs.LayerEdits.{IsAfter, Makes};
 
 use crate::full::is_full;
 use crate::pins::{make_room, part_edge};
 use curve_history::History;
 use dcel_records::{Records, Spot};
 use edge_predicates::has_inside;
-use edges_by_ends::edge_dart;
 use exact_plane::Point;
-use locate_naive::span_of;
+use locate_naive::{edge_dart, span_of};
 use no_memory::NoMemory;
 use slab_laws::DartId;
 use std::alloc::Global;
@@ -63,7 +59,7 @@ fn is_inside(records: &Records, dart: DartId, point: &Point) -> bool
     has_inside(&span, point)
 }
 
-/// The edge between two points, which come in either order, goes in two at a point inside it, which is pinned (CGAL manual,
+/// The edge between two points, which come in either order, is split at a point inside it, which is pinned (CGAL manual,
 /// `split_edge`; the pin: this project); `pins` is the limit of pins. All memory is taken before the first change.
 pub fn split_edge(
     alloc: Global,
@@ -76,10 +72,10 @@ pub fn split_edge(
 ) -> Result<(), SplitError>
     requires layer { IsLayer records.old.graph history.old }
     ensures layer { IsLayer records.new.graph history.new }
-    ensures edit { OnOk result (layer_of records.new.graph history.new ≡ layer_after (Split (edge_between p.now q.now).low (edge_between p.now q.now).high r.now) (layer_of records.old.graph history.old)) }
-    ensures steps { OnOk result (Makes records.old.graph (held history.old) (steps (Split (edge_between p.now q.now).low (edge_between p.now q.now).high r.now) (layer_of records.old.graph history.old).present) records.new.graph (held history.new)) }
-    ensures refused { MatchOption (split_refusal pins (layer_of records.old.graph history.old).present (edge_between p.now q.now) r.now) (IsOk result ⊎ (result ≡ Err SplitError.NoMemory)) (λ e. result ≡ Err e) }
-    ensures room { ((d : _) → IsDartAlong records.old.graph (edge_between p.now q.now) d → HasRoomFor (Edge d) records.old history.old) → result ≢ Err SplitError.NoMemory }
+    ensures edit { OnOk result (IsAfter (split_at p.now q.now r.now) records.old history.old records.new history.new) }
+    ensures steps { OnOk result (Makes (split_at p.now q.now r.now) records.old history.old records.new history.new) }
+    ensures refused { IsAnswerFor split_said (split_refusal_at pins records.old history.old p.now q.now r.now) result }
+    ensures room { HasRoomToSplit records.old history.old p.now q.now → result ≢ Err SplitError.NoMemory }
     ensures graph { OnErr result (records.new.graph ≡ records.old.graph) }
     ensures same_layer { OnErr result (SameLayer history.old history.new) }
     ensures same_curves { OnErr result (SameCurves history.old history.new) }

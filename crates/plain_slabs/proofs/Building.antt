@@ -5,6 +5,7 @@ use Rattle.exact_plane.specs.Line.{IsOn}
 use Rattle.exact_plane.specs.Point.{Point}
 use Rattle.exact_plane.specs.Segment.{line_of_segment}
 use Rattle.exact_plane.specs.Span.{Span}
+use Rattle.exact_plane.specs.PointOrderLaws.{and_true}
 use Rattle.plane_graphs.specs.Ascending.{Member}
 use Rattle.plane_graphs.specs.Fit.{IsFit}
 use Rattle.plane_graphs.specs.Graph.{graph, vertices, edges}
@@ -13,10 +14,10 @@ use Rattle.plane_graphs.specs.Meaning.{IsEdgeOf}
 use Rattle.plane_graphs.specs.Piece.{Piece, Present, on, along}
 use Rattle.plane_graphs.specs.Plane.{IsPlane}
 use Rattle.plane_graphs.proofs.Lines.{zero_out, segment_line}
-use Rattle.plane_graphs.proofs.Lists.{both, in_map}
+use Rattle.plane_graphs.proofs.Lists.{in_map}
 use Rattle.plane_graphs.proofs.Meaning.{edges_are}
 use Rattle.plane_graphs.proofs.Vertices.{proper_piece}
-use Rattle.slab_laws.specs.Drawn.{edge_of, drawn}
+use Rattle.slab_laws.specs.SpansDrawn.{edge_of, drawn}
 use Rattle.slab_laws.specs.Skeleton as counted
 use Rattle.slab_laws.specs.Skeleton.{Skeleton, same_point}
 use Rattle.slab_laws.specs.Faces.{same_cell}
@@ -26,13 +27,13 @@ use Rattle.slab_laws.specs.declared.rows.CycleRow.{CycleRow}
 use Rattle.slab_laws.specs.declared.slab_cell.SlabCell.{SlabCell}
 use Rattle.slab_laws.specs.Text.{skeleton}
 use Rattle.slab_faces.proofs.PlaneGraphs.{counts}
-use Rattle.listed_views.specs.Listed.{skeleton_in, AreLinesOf}
+use Rattle.plain_slabs.specs.Listed.{skeleton_in, AreLinesOf}
 use Rattle.present_graphs.specs.Edges.{AreAlongPieces}
 use Rattle.present_graphs.specs.declared.marks.Mark.{Mark}
 use Rattle.present_graphs.specs.Marks.{mark_of}
-use Rattle.plain_slabs.specs.Drawn.{graph_in, drawing_in}
+use Rattle.plain_slabs.specs.GraphInMemory.{graph_in, drawing_in}
 use Rattle.plain_slabs.specs.Faces.{rank_round}
-use Rattle.plain_slabs.specs.Kept.{drawing_of, bare_rank, IsKept}
+use Rattle.plain_slabs.specs.SubdivisionInMemory.{drawing_of, bare_rank, IsSoundSubdivision}
 use Rattle.plain_slabs.specs.Orbits.{AreOrbits, AreRegions}
 use Rattle.plain_slabs.proofs.SpanLines.{IsAlongLine, lines_by_spans}
 use Rattle.plain_slabs.specs.declared.orbits.Orbits.{Orbits}
@@ -49,7 +50,7 @@ plane_is vs ms ps ss pl e = subst counted.IsPlaneSkeleton (sym (drawn_is vs ms p
 -- ---- lines
 on_line : (k : Piece) (x : Point) → on k x ≡ true → IsOn (line_of_segment k.segment) x
 unfolding on along
-on_line k x h = zero_out _ (both (along k x) _ h).0
+on_line k x h = zero_out _ (and_true (along k x) _ h).0
 
 module _ (p : Present) (vs : List Point) (ms : List Mark) (ps : List Point) (ss : List Span) (is : graph_in vs ms ps ≡ graph p) (are : map edge_of ss ≡ edges (graph p)) (along : AreAlongPieces p ss) (fit : IsFit p) where
   -- it lies on the line of the piece that holds its edge
@@ -93,7 +94,7 @@ module _ (points : Vec Point Global) (pins : Vec Point Global) (pinned : Vec Boo
     unfolding rank
     bare_ranks_are = regions.bare_ranks ∙ ap (λ fs. map (rank_round G fs) points.items) regions.faces
 
-    pub kept : IsKept inside
+    pub kept : IsSoundSubdivision inside
     kept = record {
       plane = plane;
       lines = lines;

@@ -5,19 +5,19 @@ use Rattle.std.specs.List.{count_by, list_any}
 use Rattle.std.proofs.lemmas.List.{length-map}
 use Rattle.std.proofs.lemmas.List.Sums.{length-filter}
 use Rattle.exact_plane.specs.Span.{Span}
-use Rattle.slab_laws.specs.Drawn.{edge_of, drawn}
+use Rattle.slab_laws.specs.SpansDrawn.{edge_of, drawn}
 use Rattle.slab_laws.specs.Faces.{face_labels, face_of}
 use Rattle.slab_laws.specs.Rows.{cycle_row, cycle_rows}
 use Rattle.slab_laws.specs.Skeleton.{Skeleton, same_point}
 use Rattle.slab_laws.specs.Slabs.{left_cell}
 use Rattle.slab_laws.specs.Subdivision.{Cycle, subdivision, has_dart}
 use Rattle.slab_laws.specs.declared.rows.CycleRow.{CycleRow}
-use Rattle.listed_views.specs.Listed.{Drawing, skeleton_in, subdivision_in}
+use Rattle.plain_slabs.specs.Listed.{Drawing, skeleton_in, subdivision_in}
 use Rattle.plain_slabs.specs.declared.plain.Plain.TheInside.{Inside}
-use Rattle.plain_slabs.specs.Kept.{drawing_of, IsKept}
+use Rattle.plain_slabs.specs.SubdivisionInMemory.{drawing_of, IsSoundSubdivision}
 use Rattle.plain_slabs.proofs.LeadRows.{dart_told}
 
-graph_is : (g : Skeleton) → (subdivision g).graph ≡ g
+pub graph_is : (g : Skeleton) → (subdivision g).graph ≡ g
 unfolding subdivision
 graph_is g = refl
 
@@ -35,7 +35,7 @@ bare_are : (g : Skeleton) → length (subdivision g).bare ≡ count_by (λ p. no
 unfolding subdivision
 bare_are g = length-map (filter (λ p. not (has_dart g p)) g.vertices) (λ p. record { point = p; face = face_of (face_labels g) (left_cell g p) }) ∙ length-filter (λ p. not (has_dart g p)) g.vertices
 
-module _ (a : Inside) (d : Drawing) (k : IsKept a) (is : drawing_of a ≡ d) where
+module _ (a : Inside) (d : Drawing) (k : IsSoundSubdivision a) (is : drawing_of a ≡ d) where
   -- the lists draw the graph
   same_graph : drawn a.points.items a.edges.items ≡ skeleton_in d
   same_graph = (λ i. record { vertices = a.points.items; edges = k.edges_are i }) ∙ ap skeleton_in is

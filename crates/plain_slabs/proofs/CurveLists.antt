@@ -3,7 +3,7 @@ use Rattle.std.proofs.Common.{◌≡◌, ℕ, Bool, true, false, cond, refl, sym
 use Rattle.std.specs.Prelude.{◌&&◌, filter}
 use Rattle.std.specs.List.{AllByRecursion}
 use Rattle.std.specs.List.Sorted.{IsStrictlyIncreasing, IsStrictlySortedBy}
-use Rattle.std.specs.Ordering.{nat_cmp, int_eq, ordering_then, is_eq}
+use Rattle.std.specs.Ordering.{nat_cmp, int_eq, ordering_then}
 use Rattle.std.specs.Cmp.{tied_itself}
 use Rattle.std.specs.declared.cmp.Ordering.TheVariants.{Less, Equal}
 use Rattle.std.proofs.lemmas.Cmp.{nat_cmp_total}
@@ -14,12 +14,11 @@ use Rattle.exact_plane.specs.Point.{Point}
 use Rattle.exact_plane.specs.PointOrder.{point_cmp}
 use Rattle.exact_plane.specs.PointOrderLaws.{point_cmp_total, point_cmp_ties}
 use Rattle.plane_graphs.specs.Ascending.{IsAscending}
-use Rattle.plane_graphs.specs.Graph.{Graph, Mark, mark_cmp, is_at, curves}
+use Rattle.plane_graphs.specs.Graph.{Graph, Mark, mark_cmp, is_at, curves, Edge}
 use Rattle.plane_graphs.specs.Line as line
 use Rattle.plane_graphs.proofs.Ascending.{ascending_is}
-use Rattle.plane_graphs.proofs.Lists.{IsAscending-filter}
+use Rattle.plane_graphs.proofs.Lists.{IsAscending-filter, map_map, filter_of_map}
 use Rattle.plane_graphs.proofs.Meaning.{curves_ascend}
-use Rattle.plane_graphs.proofs.Order.{curve_out}
 use Rattle.present_graphs.specs.declared.marks.Mark.{Mark as MarkInMemory}
 use Rattle.present_graphs.specs.Marks.{mark_of}
 use Rattle.slab_laws.specs.Skeleton.{same_point}
@@ -28,49 +27,34 @@ use Rattle.slab_laws.specs.Darts.{Dart}
 use Rattle.slab_laws.specs.Rotation.{twin}
 use Rattle.slab_laws.specs.declared.names.CurveId.{CurveId}
 use Rattle.slab_laws.specs.declared.names.DartId.{DartId}
-use Rattle.slab_laws.specs.View.{HasDart, twin_in}
-use Rattle.slab_faces.proofs.Parity.{same_point_is}
-use Rattle.listed_views.specs.Listed.{Drawing, skeleton_in, view_of}
-use Rattle.listed_views.proofs.Records.{IsDart, dart_of, twin_is}
+use Rattle.slab_laws.specs.View.{HasDart, twin_in, curve_id}
+use Rattle.plain_slabs.specs.Listed.{Drawing, skeleton_in, view_of}
+use Rattle.plain_slabs.proofs.ListedRecords.{IsDart, dart_of, twin_is}
 use Rattle.exact_plane.specs.Span.{Span}
-use Rattle.plane_graphs.specs.Graph.{Edge}
 use Rattle.plane_graphs.specs.Plane.{IsPlane}
-use Rattle.slab_laws.specs.declared.rows.DartRow.{DartRow}
+use Rattle.slab_laws.specs.declared.rows.ListedDart.{ListedDart}
 use Rattle.plain_slabs.specs.declared.plain.Plain.TheInside.{Inside}
-use Rattle.plain_slabs.specs.Kept.{drawing_of, IsKept}
+use Rattle.plain_slabs.specs.SubdivisionInMemory.{drawing_of, IsSoundSubdivision}
 use Rattle.plain_slabs.proofs.DartLists.{edge_reads}
-use Rattle.plain_slabs.specs.Curves.{curve_id, edge_at, curves_at}
+use Rattle.plain_slabs.specs.Curves.{edge_at, curves_at}
+use Rattle.integers.proofs.Tests.{nat_exact}
+use Rattle.arr_notes.proofs.Names.{numbers_of}
+use Rattle.record_orders.proofs.Firsts.{and_turned}
+use Rattle.slab_faces.proofs.Parity.{same_point_is}
 
 -- ---- the two tests for one point
-and_assoc : (a b c : Bool) → ((a && b) && c) ≡ (a && (b && c))
-and_assoc true b c = refl
-and_assoc false b c = refl
 
 one_test : (p q : Point) → same_point p q ≡ line.same_point p q
-one_test p q = and_assoc (int_eq p.x q.x) (int_eq p.y q.y) (int_eq p.w q.w) ∙ point_cmp_ties p q
+one_test p q = and_turned (int_eq p.x q.x) (int_eq p.y q.y) (int_eq p.w q.w) ∙ point_cmp_ties p q
 
 at_test : (p q : Point) (m : MarkInMemory) → (same_point m.low p && same_point m.high q) ≡ is_at p q (mark_of m)
 at_test p q m = λ i. one_test m.low p i && one_test m.high q i
 
 -- ---- marks of one edge ascend by their curves
-number : MarkInMemory → ℕ
-number m = m.curve.0
 
 filter_same : {X : Type 0} (p q : X → Bool) (xs : List X) → ((x : X) → p x ≡ q x) → filter p xs ≡ filter q xs
 filter_same p q [] f = refl
 filter_same p q (x ∷ xs) f = λ i. cond (f x i) (x ∷ filter_same p q xs f i) (filter_same p q xs f i)
-
-pub filter_map : {X Y : Type 0} (f : X → Y) (p : Y → Bool) (xs : List X) → filter p (map f xs) ≡ map f (filter (λ x. p (f x)) xs)
-filter_map f p [] = refl
-filter_map f p (x ∷ xs) = step (p (f x)) (filter_map f p xs)
-  where
-    step : (b : Bool) → filter p (map f xs) ≡ map f (filter (λ x. p (f x)) xs) → cond b (f x ∷ filter p (map f xs)) (filter p (map f xs)) ≡ map f (cond b (x ∷ filter (λ x. p (f x)) xs) (filter (λ x. p (f x)) xs))
-    step true e = ap (λ ys. f x ∷ ys) e
-    step false e = e
-
-pub map_map : {X Y Z : Type 0} (f : X → Y) (g : Y → Z) (xs : List X) → map g (map f xs) ≡ map (λ x. g (f x)) xs
-map_map f g [] = refl
-map_map f g (x ∷ xs) = ap (λ ys. g (f x) ∷ ys) (map_map f g xs)
 
 -- what all marks of the list are at
 abbrev AllAt : Point → Point → List Mark → Type 0
@@ -102,9 +86,6 @@ curves_rise p q (m ∷ ms) h a = (each ms h.1 a.0, curves_rise p q ms h.1 a.1)
     each [] k b = tt
     each (n ∷ ns) k b = (curve_less m n (h.0.0 ∙ sym k.0.0) (h.0.1 ∙ sym k.0.1) b.0, each ns k.1 b.1)
 
-nat_exact : (m n : ℕ) → nat_cmp m n ≡ Equal → m ≡ n
-nat_exact m n e = curve_out m n (ap is_eq e)
-
 -- the curves of an edge are those of its marks, in their order
 curves_are : (g : Graph) (p q : Point) → IsAscending mark_cmp g.marks → map (λ m. m.curve) (filter (is_at p q) g.marks) ≡ curves g p q
 unfolding curves
@@ -116,7 +97,7 @@ curves_are g p q a =
 pub curves_in_memory : (ms : List MarkInMemory) (g : Graph) (p q : Point) → g.marks ≡ map mark_of ms → IsAscending mark_cmp g.marks → map (λ (m : MarkInMemory). m.curve) (filter (λ m. same_point m.low p && same_point m.high q) ms) ≡ map curve_id (curves g p q)
 curves_in_memory ms g p q e a =
     let here : List MarkInMemory = filter (λ m. same_point m.low p && same_point m.high q) ms in
-    let f : filter (is_at p q) g.marks ≡ map mark_of here = ap (filter (is_at p q)) e ∙ filter_map mark_of (is_at p q) ms ∙ ap (map mark_of) (filter_same (λ m. is_at p q (mark_of m)) (λ m. same_point m.low p && same_point m.high q) ms (λ m. sym (at_test p q m))) in
+    let f : filter (is_at p q) g.marks ≡ map mark_of here = ap (filter (is_at p q)) e ∙ filter_of_map mark_of (is_at p q) ms ∙ ap (map mark_of) (filter_same (λ m. is_at p q (mark_of m)) (λ m. same_point m.low p && same_point m.high q) ms (λ m. sym (at_test p q m))) in
     sym (ap (map curve_id) (sym (curves_are g p q a) ∙ ap (map (λ (m : Mark). m.curve)) f ∙ map_map mark_of (λ (m : Mark). m.curve) here) ∙ map_map (λ (m : MarkInMemory). (mark_of m).curve) curve_id here)
 
 -- ---- the clauses of every moment
@@ -125,16 +106,12 @@ unfolding IsStrictlySortedBy
 to_std [] a = tt
 to_std (x ∷ xs) a = (a.0, to_std xs a.1)
 
-numbers_back : (ns : List ℕ) → map (λ (c : CurveId). c.0) (map curve_id ns) ≡ ns
-numbers_back [] = refl
-numbers_back (n ∷ ns) = ap (λ ms. n ∷ ms) (numbers_back ns)
-
 pub curves_increase : (d : Drawing) (h : DartId) → IsStrictlyIncreasing (map (λ (c : CurveId). c.0) (curves_at d h))
 curves_increase d h =
-    subst IsStrictlyIncreasing (sym (numbers_back (curves d.graph (edge_at d h.0).low (edge_at d h.0).high)))
+    subst IsStrictlyIncreasing (sym (numbers_of (curves d.graph (edge_at d h.0).low (edge_at d h.0).high)))
     (IsStrictlyIncreasing-from_sorted (curves d.graph (edge_at d h.0).low (edge_at d h.0).high) (to_std _ (curves_ascend d.graph (edge_at d h.0).low (edge_at d h.0).high)))
 
-module _ (a : Inside) (d : Drawing) (k : IsKept a) (is : drawing_of a ≡ d) where
+module _ (a : Inside) (d : Drawing) (k : IsSoundSubdivision a) (is : drawing_of a ≡ d) where
   plane : IsPlane d.graph
   plane = subst (λ (d : Drawing). IsPlane d.graph) is k.plane
 
@@ -147,7 +124,7 @@ module _ (a : Inside) (d : Drawing) (k : IsKept a) (is : drawing_of a ≡ d) whe
       let e = edge_is (twin_in (view_of d) h) (twin x.0) (twin_is d plane h x.0 x.1) ∙ sym (edge_is h x.0 x.1) in
       λ i. map curve_id (curves d.graph (e i).low (e i).high)
 
-  pub curves_read : (h : DartId) (r : DartRow) (s : Span) (low high : Point) (ms : List MarkInMemory) (cs : List CurveId) → HasDart (view_of d) h → r ≡ get_or a.darts.items h.0 r → s ≡ get_or a.edges.items r.edge s → low ≡ s.lower → high ≡ s.upper → ms ≡ a.marks.items → cs ≡ map (λ (m : MarkInMemory). m.curve) (filter (λ m. same_point m.low low && same_point m.high high) ms) → cs ≡ curves_at d h
+  pub curves_read : (h : DartId) (r : ListedDart) (s : Span) (low high : Point) (ms : List MarkInMemory) (cs : List CurveId) → HasDart (view_of d) h → r ≡ get_or a.darts.items h.0 r → s ≡ get_or a.edges.items r.edge s → low ≡ s.lower → high ≡ s.upper → ms ≡ a.marks.items → cs ≡ map (λ (m : MarkInMemory). m.curve) (filter (λ m. same_point m.low low && same_point m.high high) ms) → cs ≡ curves_at d h
   curves_read h r s low high ms cs H e f l u m q =
       let x = edge_reads a d k is h r s H e f in
       let w = edge_is h x.0 x.1 in

@@ -13,15 +13,15 @@ use Rattle.slab_laws.specs.declared.names.CycleId.{CycleId}
 use Rattle.slab_laws.specs.declared.names.DartId.{DartId}
 use Rattle.slab_laws.specs.declared.names.VertexId.{VertexId}
 use Rattle.slab_laws.specs.View.{HasDart, HasCycle, HasBareFace, cycle_id, face_id, cycle_in, kind_in, face_in, bare_face_in}
-use Rattle.listed_views.specs.Listed.{Drawing, skeleton_in, subdivision_in, kind_by, view_of, faces_of}
-use Rattle.listed_views.proofs.Records.{dart_of}
-use Rattle.listed_views.proofs.RankedFaces.{cycle_of, cycles_are, outer_is, face_is}
-use Rattle.listed_views.proofs.FaceRecords.{IsCycle, cycle_is, cycle_by, kind_is, cycle_face, bare_out}
+use Rattle.plain_slabs.specs.Listed.{Drawing, skeleton_in, subdivision_in, kind_by, view_of, faces_of}
+use Rattle.plain_slabs.proofs.ListedRecords.{dart_of}
+use Rattle.sound_views.proofs.RankedFaces.{cycle_of, cycles_are, outer_is, face_is}
+use Rattle.plain_slabs.proofs.ListedFaces.{IsCycle, cycle_is, cycle_by, kind_is, cycle_face, bare_out}
 use Rattle.plain_slabs.specs.declared.plain.Plain.TheInside.{Inside}
-use Rattle.plain_slabs.specs.Kept.{drawing_of, bare_rank, IsKept}
+use Rattle.plain_slabs.specs.SubdivisionInMemory.{drawing_of, bare_rank, IsSoundSubdivision}
 use Rattle.plain_slabs.proofs.Items.{within, item_is}
 
-module _ (a : Inside) (k : IsKept a) where
+module _ (a : Inside) (k : IsSoundSubdivision a) where
   abbrev D : Drawing
   D = drawing_of a
 
@@ -73,7 +73,7 @@ module _ (a : Inside) (k : IsKept a) where
       ∙ sym x.1.face
 
 -- ---- the same of the value that is seen
-module _ (a : Inside) (d : Drawing) (k : IsKept a) (is : drawing_of a ≡ d) where
+module _ (a : Inside) (d : Drawing) (k : IsSoundSubdivision a) (is : drawing_of a ≡ d) where
   before : (h : DartId) → HasDart (view_of d) h → HasDart (view_of (drawing_of a)) h
   before h H = subst (λ (d : Drawing). HasDart (view_of d) h) (sym is) H
 

@@ -1,10 +1,9 @@
 -- Faces that are added one by one are the faces of the model, each once.
-use Rattle.std.proofs.Common.{◌≡◌, ℕ, ◌+◌, ◌<◌, ◌≤◌, Bool, true, false, cond, refl, sym, ap, subst, ◌∙◌, inl, inr, List, [], ◌∷◌, ◌++◌, map, length, fold, take, get_or}
+use Rattle.std.proofs.Common.{◌≡◌, ℕ, ◌+◌, ◌<◌, ◌≤◌, Bool, true, false, cond, refl, sym, ap, subst, ◌∙◌, inl, inr, List, [], ◌∷◌, ◌++◌, map, length, fold, take}
 use Rattle.std.specs.Prelude.{filter, not, ◌&&◌, ◌||◌}
 use Rattle.std.specs.List.{list_any}
 use Rattle.std.proofs.lemmas.Bool.{cases_Bool}
-use Rattle.std.proofs.lemmas.List.{append-nil, append_assoc, map-append, take_all}
-use Rattle.std.proofs.lemmas.List.Elements.{filter_more}
+use Rattle.std.proofs.lemmas.List.{append-nil, append_assoc, take_all}
 use Rattle.std.proofs.lemmas.List.Folds.{list_any-append}
 use Rattle.std.proofs.lemmas.List.Sums.{fold-append}
 use Rattle.slab_laws.specs.declared.slab_cell.SlabCell.{SlabCell}
@@ -15,8 +14,7 @@ use Rattle.slab_laws.specs.Listed.{distinct}
 use Rattle.slab_laws.specs.Rows.{cycle_row, cycle_rows}
 use Rattle.slab_laws.specs.Subdivision.{Cycle, subdivision, first_cell}
 use Rattle.slab_faces.proofs.FacesLemmas.{cells_exact}
-use Rattle.listed_views.proofs.RankedFaces.{cycles_are, outer_faces, all_faces, faces_are}
-use Rattle.present_graphs.proofs.Loops.{take_next}
+use Rattle.sound_views.proofs.RankedFaces.{cycles_are, outer_faces, all_faces, faces_are}
 use Rattle.plain_slabs.specs.Faces.{added}
 
 -- a filter after a filter
@@ -36,7 +34,7 @@ all_kept p (x ∷ xs) h = rw (h x) (ap (λ ys. x ∷ ys) (all_kept p xs h))
 abbrev is_new : List SlabCell → SlabCell → Bool
 is_new fs f = not (list_any (same_cell f) fs)
 
-abbrev differs : SlabCell → SlabCell → Bool
+abbrev differs : (f g : SlabCell) → Bool
 differs f g = not (same_cell f g)
 
 stands : (fs : List SlabCell) (f : SlabCell) → list_any (same_cell f) fs ≡ true → added fs f ≡ fs
@@ -130,35 +128,6 @@ module _ (g : Skeleton) where
       ∙ folded [] (all_faces g)
       ∙ all_kept (is_new []) (distinct same_cell (all_faces g)) (λ f. refl)
       ∙ sym (faces_are g)
-
-  module _ (cs : List CycleRow) (i : ℕ) (c : CycleRow) (below : i < length cs) (reads : c ≡ get_or cs i c) where
-    next_outer : (b : Bool) → c.outer ≡ b → outer_of (take (i + 1) cs) ≡ outer_of (take i cs) ++ cond b (c.face ∷ []) []
-    next_outer b e =
-        ap (map (λ (c : CycleRow). c.face)) (filter_more (λ (c : CycleRow). c.outer) cs i c below ∙ (λ k. filter (λ c. c.outer) (take i cs) ++ cond ((ap (λ (c : CycleRow). c.outer) (sym reads) ∙ e) k) (sym reads k ∷ []) []))
-        ∙ map-append (λ (c : CycleRow). c.face) (filter (λ c. c.outer) (take i cs)) (cond b (c ∷ []) [])
-        ∙ ap (λ fs. outer_of (take i cs) ++ fs) (one b)
-      where
-        one : (b : Bool) → map (λ (c : CycleRow). c.face) (cond b (c ∷ []) []) ≡ cond b (c.face ∷ []) []
-        one true = refl
-        one false = refl
-
-    pub cycle_added : (now new : List SlabCell) → c.outer ≡ true → now ≡ with_cycles (take i cs) → new ≡ added now c.face → new ≡ with_cycles (take (i + 1) cs)
-    cycle_added now new e n a =
-        a ∙ ap (λ fs. added fs c.face) n
-        ∙ sym (fold-append added (first_faces g) (outer_of (take i cs)) (c.face ∷ []))
-        ∙ ap (fold added (first_faces g)) (sym (next_outer true e))
-
-    pub cycle_passed : (now : List SlabCell) → c.outer ≡ false → now ≡ with_cycles (take i cs) → now ≡ with_cycles (take (i + 1) cs)
-    cycle_passed now e n = n ∙ ap (fold added (first_faces g)) (sym (next_outer false e ∙ append-nil (outer_of (take i cs))))
-
-  pub cycles_done : (cs : List CycleRow) (i : ℕ) (now : List SlabCell) → length cs ≤ i → now ≡ with_cycles (take i cs) → cs ≡ cycle_rows g → now ≡ with_cells []
-  cycles_done cs i now h n e = n ∙ ap with_cycles (take_all i cs h ∙ e)
-
-  pub cell_added : (ds : List SlabCell) (i : ℕ) (d f : SlabCell) (now new : List SlabCell) → i < length ds → d ≡ get_or ds i d → f ≡ face_of (face_labels g) d → now ≡ with_cells (take i ds) → new ≡ added now f → new ≡ with_cells (take (i + 1) ds)
-  cell_added ds i d f now new below reads e n a =
-      a ∙ (λ k. added (n k) (e k))
-      ∙ sym (fold-append added (with_cycles (cycle_rows g)) (map (face_of (face_labels g)) (take i ds)) (face_of (face_labels g) d ∷ []))
-      ∙ ap (fold added (with_cycles (cycle_rows g))) (sym (ap (map (face_of (face_labels g))) (take_next ds i d below reads) ∙ map-append (face_of (face_labels g)) (take i ds) (d ∷ [])))
 
   pub cells_done : (ds : List SlabCell) (i : ℕ) (now : List SlabCell) → length ds ≤ i → now ≡ with_cells (take i ds) → ds ≡ cells g → now ≡ (subdivision g).faces
   cells_done ds i now h n e = n ∙ ap with_cells (take_all i ds h ∙ e) ∙ all_are

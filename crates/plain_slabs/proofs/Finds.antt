@@ -5,7 +5,7 @@ use Rattle.std.specs.List.{position_or_len}
 use Rattle.std.specs.Option.{option_map}
 use Rattle.exact_plane.specs.Point.{Point}
 use Rattle.exact_plane.specs.Span.{Span}
-use Rattle.slab_laws.specs.Drawn.{edge_of, drawn}
+use Rattle.slab_laws.specs.SpansDrawn.{edge_of, drawn}
 use Rattle.slab_laws.specs.Skeleton.{Skeleton, same_point, inside}
 use Rattle.slab_laws.specs.Slabs.{left_cell}
 use Rattle.slab_laws.specs.declared.slab_cell.SlabCell.{SlabCell}
@@ -13,9 +13,9 @@ use Rattle.slab_laws.specs.declared.cell.Cell.TheVariants.{Vertex, Edge as OnEdg
 use Rattle.slab_laws.specs.Classes.{class_of}
 use Rattle.slab_laws.specs.Faces.{same_cell, face_labels, face_of}
 use Rattle.slab_laws.specs.Subdivision.{spot_on, subdivision, holds_in, holds}
-use Rattle.listed_views.specs.Listed.{Drawing, skeleton_in, subdivision_in}
+use Rattle.plain_slabs.specs.Listed.{Drawing, skeleton_in, subdivision_in}
 use Rattle.plain_slabs.specs.declared.plain.Plain.TheInside.{Inside}
-use Rattle.plain_slabs.specs.Kept.{drawing_of, IsKept}
+use Rattle.plain_slabs.specs.SubdivisionInMemory.{drawing_of, IsSoundSubdivision}
 
 find_map : {X Y : Type 0} (f : X → Y) (p : Y → Bool) (xs : List X) → find p (map f xs) ≡ option_map f (find (λ x. p (f x)) xs)
 find_map f p [] = refl
@@ -30,7 +30,7 @@ located : (g : Skeleton) (q : Point) → holds (subdivision g) q ≡ spot_on (fi
 unfolding holds_in subdivision
 located g q = refl
 
-module _ (a : Inside) (d : Drawing) (k : IsKept a) (is : drawing_of a ≡ d) (q : Point) where
+module _ (a : Inside) (d : Drawing) (k : IsSoundSubdivision a) (is : drawing_of a ≡ d) (q : Point) where
   -- the lists draw the graph
   same_graph : drawn a.points.items a.edges.items ≡ skeleton_in d
   same_graph = (λ i. record { vertices = a.points.items; edges = k.edges_are i }) ∙ ap skeleton_in is

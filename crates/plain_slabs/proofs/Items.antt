@@ -2,7 +2,7 @@
 use Rattle.std.proofs.Common.{◌≡◌, ℕ, ◌<◌, arith, sym, ap, ◌∙◌, List, map, length, Some, get_or, false}
 use Rattle.std.specs.Prelude.{slice_get, vec_len, Vec}
 use Rattle.std.specs.Option.{option_map}
-use Rattle.slab_laws.specs.declared.rows.DartRow.{DartRow}
+use Rattle.slab_laws.specs.declared.rows.ListedDart.{ListedDart}
 use Rattle.std.proofs.lemmas.Option.{slice_get-map, slice_get_within, get_or_from_slice_get, slice_get-get_or}
 
 -- the list of the values of the elements of another
@@ -25,7 +25,7 @@ pub place : {X A : Type 0} (v : Vec X A) (k : ℕ) → k < length v.items → k 
 place v k h = let n = v.ok.0 in omega arith
 
 -- a row for the places where there is none
-abbrev pub no_row : DartRow
+abbrev pub no_row : ListedDart
 no_row = record { source = 0; target = 0; edge = 0; forward = false }
 
 -- within the list the default doesn't matter

@@ -8,19 +8,19 @@ use Rattle.exact_plane.specs.Point.{Point}
 use Rattle.exact_plane.specs.Span.{Span}
 use Rattle.slab_laws.specs.Cycles.{dart_labels, odd, left_of_dart}
 use Rattle.slab_laws.specs.Darts.{Dart, darts}
-use Rattle.slab_laws.specs.Drawn.{edge_of, drawn}
+use Rattle.slab_laws.specs.SpansDrawn.{edge_of, drawn}
 use Rattle.slab_laws.specs.Faces.{face_labels, face_of}
 use Rattle.slab_laws.specs.Rotation.{same_dart}
 use Rattle.slab_laws.specs.Rows.{no_dart, dart_at, dart_list, dart_place, dart_row, dart_rows, lead_list, cycle_row, cycle_rows}
 use Rattle.slab_laws.specs.Skeleton.{Skeleton, IsPlaneSkeleton, same_point}
 use Rattle.slab_laws.specs.Subdivision.{cycle, has_dart}
-use Rattle.slab_laws.specs.declared.rows.DartRow.{DartRow}
+use Rattle.slab_laws.specs.declared.rows.ListedDart.{ListedDart}
 use Rattle.slab_faces.proofs.Member.{Member, map_out}
 use Rattle.slab_faces.proofs.NextLemmas.{darts_exact}
-use Rattle.listed_views.proofs.Places.{at_place, place_within, from_in}
-use Rattle.listed_views.proofs.Darts.{dart_listed, listed_lead}
-use Rattle.listed_views.proofs.RankedFaces.{cycle_of, cycles_are}
-use Rattle.present_graphs.proofs.Loops.{read_in}
+use Rattle.sound_views.proofs.ListedPlaces.{at_place, place_within, from_in}
+use Rattle.sound_views.proofs.ListedDarts.{dart_listed, listed_lead}
+use Rattle.sound_views.proofs.RankedFaces.{cycle_of, cycles_are}
+use Rattle.plane_graphs.proofs.Loops.{read_in}
 use Rattle.plain_slabs.specs.Faces.{lead_row}
 use Rattle.plain_slabs.proofs.Items.{get_or_default}
 
@@ -45,7 +45,7 @@ module _ (g : Skeleton) (plane : IsPlaneSkeleton g) where
   unfolding cycle_rows
   lead_rows = rows_of (lead_list g) (λ l h. h) ∙ ap (map (cycle_row g)) (sym (cycles_are g))
 
-  pub leads_within : (ds : List DartRow) (ps : List ℕ) → ds ≡ dart_rows g → ps ≡ map (dart_place g) (lead_list g) → All (λ k. k < length ds) ps
+  pub leads_within : (ds : List ListedDart) (ps : List ℕ) → ds ≡ dart_rows g → ps ≡ map (dart_place g) (lead_list g) → All (λ k. k < length ds) ps
   unfolding dart_rows
   leads_within ds ps e f = λ k d h. subst (λ n. get_or ps k d < n) (sym (ap length e ∙ length-map (dart_list g) (dart_row g))) (below (get_or ps k d) (subst (λ xs. Member xs (get_or ps k d)) f (from_in ps (get_or ps k d) (read_in ps k (get_or ps k d) h (default ps k d h)))))
     where

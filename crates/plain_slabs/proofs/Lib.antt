@@ -1,3 +1,11 @@
+pub mod ListedRecords
+pub mod ListsDrawn
+pub mod ListsGraphSound
+pub mod ListedFaces
+pub mod ListsComplete
+pub mod ListsCycled
+pub mod ListsFaced
+pub mod ListsSound
 pub mod Items
 pub mod DartLists
 pub mod VertexLists
@@ -8,7 +16,6 @@ pub mod CurveLists
 pub mod FaceLists
 pub mod LeadRows
 pub mod Building
-pub mod Named
 pub mod Counted
 pub mod ReadKeys
 pub mod SpanLines

@@ -1,24 +1,21 @@
 -- The forward darts of records are the edges that the records draw, in order and with their lines.
-use Rattle.std.proofs.Common.{◌≡◌, true, sym, ap, ◌∙◌, subst, map}
+use Rattle.std.proofs.Common.{◌≡◌, sym, ap, ◌∙◌, subst, map}
 use Rattle.std.specs.Prelude.{filter, if◌then◌else◌}
 use Rattle.exact_plane.specs.Line.{IsOn}
-use Rattle.exact_plane.specs.Point.{Point}
 use Rattle.exact_plane.specs.Span.{AreOnWay}
 use Rattle.plane_graphs.specs.Graph.{Edge}
-use Rattle.plane_graphs.specs.Line.{precedes}
-use Rattle.plane_graphs.proofs.Lists.{of_filter}
+use Rattle.plane_graphs.proofs.Lists.{of_filter, map_map, filter_of_map, map_same}
 use Rattle.plane_graphs.proofs.Order.{lt_out}
-use Rattle.slab_laws.specs.Drawn.{edge_of}
-use Rattle.slab_laws.specs.Sound.{IsGraphSound, edge_between, edge_in, skeleton_of}
+use Rattle.slab_laws.specs.SpansDrawn.{edge_of}
+use Rattle.slab_laws.specs.Sound.{IsGraphSound, edge_in, skeleton_of}
 use Rattle.slab_laws.specs.View.{View, point_in, source_in, target_in, line_in}
 use Rattle.sound_views.specs.Orders.{dart_order}
-use Rattle.sound_views.proofs.Ordered.{edges_in_order}
-use Rattle.sound_views.proofs.Pulled.{map_same}
+use Rattle.sound_views.proofs.NamesOrdered.{edges_in_order}
+use Rattle.sound_views.proofs.GraphDrawn.{between_forward}
 use Rattle.arr_notes.specs.Curves.{is_forward}
 use Rattle.record_orders.specs.declared.darts.DartKey.{DartKey}
 use Rattle.record_orders.specs.Keys.{dart_key}
 use Rattle.plain_slabs.specs.ByName.{goes_forward, forward_keys, span_along}
-use Rattle.plain_slabs.proofs.CurveLists.{filter_map, map_map}
 use Rattle.plain_slabs.proofs.ReadKeys.{IsForwardKey}
 use Rattle.plain_slabs.proofs.SpanLines.{IsAlongLine}
 
@@ -35,10 +32,6 @@ module _ (v : View) (k : DartKey) (s : IsGraphSound v) (f : IsForwardKey v k) wh
   pub key_line : IsAlongLine (span_along v k)
   key_line = record { is_line = s.drawn.line k.name f.has; lower_on = source_on; upper_on = target_on }
 
--- the edge between two points of which the first is the lesser
-ahead : (p q : Point) → precedes p q ≡ true → edge_between p q ≡ record { low = p; high = q }
-ahead p q f = ap (λ b. if b then record { low = p; high = q } else record { low = q; high = p }) f
-
 abbrev along : DartKey → Edge
 along k = record { low = k.source; high = k.target }
 
@@ -46,7 +39,7 @@ pub spans_are : (v : View) → IsGraphSound v → map edge_of (map (span_along v
 spans_are v s =
     let ds = filter (is_forward v) (dart_order v) in
     map_map (span_along v) edge_of (forward_keys v)
-    ∙ ap (map along) (filter_map (dart_key v) goes_forward (dart_order v))
+    ∙ ap (map along) (filter_of_map (dart_key v) goes_forward (dart_order v))
     ∙ map_map (dart_key v) along ds
-    ∙ map_same (λ d. along (dart_key v d)) (edge_in v) ds (λ d m. sym (ahead (point_in v (source_in v d)) (point_in v (target_in v d)) (of_filter (is_forward v) d (dart_order v) m).1))
+    ∙ map_same (λ d. along (dart_key v d)) (edge_in v) ds (λ d m. sym (between_forward (point_in v (source_in v d)) (point_in v (target_in v d)) (of_filter (is_forward v) d (dart_order v) m).1))
     ∙ edges_in_order v s

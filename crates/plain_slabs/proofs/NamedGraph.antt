@@ -8,40 +8,40 @@ use Rattle.std.specs.Ordering.{nat_cmp}
 use Rattle.std.proofs.lemmas.Map.Keys.{sorted_from_strictly_increasing}
 use Rattle.exact_plane.specs.Point.{Point}
 use Rattle.exact_plane.specs.PointOrder.{point_cmp}
-use Rattle.exact_plane.specs.PointOrderLaws.{point_cmp_total}
+use Rattle.exact_plane.specs.PointOrderLaws.{point_cmp_total, and_true}
 use Rattle.exact_plane.specs.Span.{Span}
 use Rattle.plane_graphs.specs.Ascending.{Member, IsAscending}
 use Rattle.plane_graphs.specs.Graph.{Graph, Mark, edges, mark_cmp}
 use Rattle.plane_graphs.specs.Plane.{IsPlane}
 use Rattle.plane_graphs.proofs.Ascending.{All-member, IsAscending-ascending, ascending_unique, from_std}
-use Rattle.plane_graphs.proofs.Lists.{both, and_in, in_map, of_map, in_filter, of_filter, not_true, clash, IsAscending-filter}
+use Rattle.plane_graphs.proofs.Lists.{and_in, in_map, of_map, in_filter, of_filter, clash, IsAscending-filter, map_map}
 use Rattle.plane_graphs.proofs.Order.{mark_cmp_total}
 use Rattle.slab_laws.specs.declared.names.CurveId.{CurveId}
 use Rattle.slab_laws.specs.declared.names.DartId.{DartId}
-use Rattle.slab_laws.specs.Drawn.{edge_of}
+use Rattle.slab_laws.specs.SpansDrawn.{edge_of}
 use Rattle.slab_laws.specs.Skeleton.{Skeleton}
 use Rattle.slab_laws.specs.Sound.{IsGraphSound, points_of}
 use Rattle.slab_laws.specs.Tables.{row_at, names}
 use Rattle.slab_laws.specs.View.{View, vertex_id, point_in, pinned_in}
 use Rattle.sound_views.specs.Orders.{vertex_order, dart_order}
-use Rattle.sound_views.proofs.Ordered.{points_in_order, vertex_ordered, ordered_vertex, dart_ordered}
-use Rattle.sound_views.proofs.Pulled.{IsAscending-map}
+use Rattle.sound_views.proofs.NamesOrdered.{points_in_order, vertex_ordered, ordered_vertex, dart_ordered}
+use Rattle.sound_views.proofs.PulledOrders.{IsAscending-map}
 use Rattle.arr_notes.specs.Curves.{Curves, is_forward, IsForward, AreCurvesOf}
-use Rattle.record_graphs.specs.Graph.{drawn_graph}
-use Rattle.record_graphs.specs.Laws.{IsMarkOf}
-use Rattle.record_graphs.proofs.Held.{graphs_hold}
-use Rattle.record_graphs.proofs.Drawn.{graphs_are_drawn, graphs_are_plane}
+use Rattle.sound_views.specs.RecordGraph.{drawn_graph}
+use Rattle.sound_views.specs.RecordGraphLaws.{IsMarkOf}
+use Rattle.sound_views.proofs.GraphHolds.{graphs_hold}
+use Rattle.sound_views.proofs.GraphDrawn.{graphs_are_drawn, graphs_are_plane}
 use Rattle.record_orders.specs.declared.vertices.VertexKey.{VertexKey}
 use Rattle.record_orders.specs.Keys.{vertex_key, vertex_keys, dart_key, dart_keys}
 use Rattle.present_graphs.specs.Marks.{mark_of}
 use Rattle.plain_slabs.specs.ByName.{numbers_of, points_at, pinned_among, goes_forward, forward_keys, span_along, key_marks, AreParts}
 use Rattle.plain_slabs.specs.declared.names.Parts.{Parts}
-use Rattle.plain_slabs.specs.Drawn.{graph_in}
-use Rattle.plain_slabs.proofs.CurveLists.{map_map}
+use Rattle.plain_slabs.specs.GraphInMemory.{graph_in}
 use Rattle.plain_slabs.proofs.NamedEdges.{key_line, spans_are}
 use Rattle.plain_slabs.proofs.NamedMarks.{graph_marks_ascend, marks_are}
 use Rattle.plain_slabs.proofs.ReadKeys.{forward_member}
 use Rattle.plain_slabs.proofs.SpanLines.{IsAlongLine, lines_by_spans}
+use Rattle.integers.proofs.Tests.{not_true}
 
 -- ---- points and pins
 graph_pins_ascend : (v : View) (h : Curves) → IsAscending point_cmp (drawn_graph v h).pins
@@ -96,7 +96,7 @@ kept_there : (v : View) (h : Curves) (d : DartId) → IsForward v d → kept v h
 kept_there v h d f = ap (λ b. cond b (h d) []) (and_in f.1 f.0)
 
 kept_none : (v : View) (h : Curves) (d : DartId) → (IsForward v d → ⊥) → kept v h d ≡ []
-kept_none v h d f = ap (λ b. cond b (h d) []) (not_true (is_forward v d && has_dart v d) (λ e. let w = both (is_forward v d) (has_dart v d) e in f (w.1, w.0)))
+kept_none v h d f = ap (λ b. cond b (h d) []) (not_true (is_forward v d && has_dart v d) (λ e. let w = and_true (is_forward v d) (has_dart v d) e in f (w.1, w.0)))
 
 kept_mark : (v : View) (h : Curves) (m : Mark) (d : DartId) → IsMarkOf v (kept v h) m d → IsMarkOf v h m d
 kept_mark v h m d o = record { forward = o.forward; low = o.low; high = o.high; curve = subst (Member m.curve) (kept_there v h d o.forward) o.curve }

@@ -1,5 +1,5 @@
 -- The marks of forward darts in order are those of the graph that records draw.
-use Rattle.std.proofs.Common.{◌≡◌, ℕ, true, refl, sym, ap, ◌∙◌, subst, List, map, Ordering, Less, Equal, Greater}
+use Rattle.std.proofs.Common.{◌≡◌, ℕ, true, sym, ap, ◌∙◌, subst, List, map, Ordering, Less}
 use Rattle.std.specs.Cmp.{on_total}
 use Rattle.std.specs.List.{AllByRecursion, flat_map}
 use Rattle.std.specs.List.Sorted.{IsStrictlyIncreasing}
@@ -21,29 +21,23 @@ use Rattle.slab_laws.specs.Sound.{IsGraphSound, dart_in}
 use Rattle.slab_laws.specs.Tables.{names}
 use Rattle.slab_laws.specs.View.{View, dart_id, point_in, source_in, target_in}
 use Rattle.sound_views.specs.Orders.{dart_order}
-use Rattle.sound_views.proofs.Named.{source_by, target_by, dart_cmp_total}
-use Rattle.sound_views.proofs.Ordered.{dart_ordered}
-use Rattle.sound_views.proofs.Pulled.{IsAscending-map}
+use Rattle.sound_views.proofs.NamedDarts.{source_by, target_by, dart_cmp_total}
+use Rattle.sound_views.proofs.NamesOrdered.{dart_ordered}
+use Rattle.sound_views.proofs.PulledOrders.{IsAscending-map}
 use Rattle.arr_notes.specs.Curves.{Curves}
-use Rattle.record_graphs.specs.Graph.{drawn_graph}
-use Rattle.record_graphs.specs.Laws.{IsMarkOf}
-use Rattle.record_graphs.proofs.Held.{graphs_hold}
+use Rattle.sound_views.specs.RecordGraph.{drawn_graph}
+use Rattle.sound_views.specs.RecordGraphLaws.{IsMarkOf}
+use Rattle.sound_views.proofs.GraphHolds.{graphs_hold}
 use Rattle.record_orders.specs.declared.darts.DartKey.{DartKey}
 use Rattle.record_orders.specs.Keys.{dart_key, dart_keys}
 use Rattle.plain_slabs.specs.ByName.{numbers_of, goes_forward, forward_keys, key_marks}
 use Rattle.plain_slabs.proofs.FlatLists.{flat_ascends}
 use Rattle.plain_slabs.proofs.ReadKeys.{forward_member}
+use Rattle.integers.proofs.Tests.{less_then}
 
 -- by source, then by target
-abbrev ends_cmp : DartKey → DartKey → Ordering
+abbrev ends_cmp : (k m : DartKey) → Ordering
 ends_cmp k m = ordering_then (point_cmp k.source m.source) (point_cmp k.target m.target)
-
-ends_decide : (r s t : Ordering) → ordering_then r s ≡ Less → ordering_then r (ordering_then s t) ≡ Less
-ends_decide Less s t e = refl
-ends_decide Equal Less t e = refl
-ends_decide Equal Equal t e = cc
-ends_decide Equal Greater t e = cc
-ends_decide Greater s t e = cc
 
 -- marks of one edge go by their curves
 same_ends : (p q : Point) (x y : ℕ) → nat_cmp x y ≡ Less → mark_cmp (mark p q x) (mark p q y) ≡ Less
@@ -76,7 +70,7 @@ module _ (v : View) (c : DartId → List CurveId) where
   marks_apart k m l a b i j =
       let x = of_map (mark k.source k.target) a (numbers_of c k.name) i in
       let y = of_map (mark m.source m.target) b (numbers_of c m.name) j in
-      (λ t. mark_cmp (x.2 t) (y.2 t)) ∙ ends_decide (point_cmp k.source m.source) (point_cmp k.target m.target) (nat_cmp x.0 y.0) l
+      (λ t. mark_cmp (x.2 t) (y.2 t)) ∙ less_then (point_cmp k.source m.source) (point_cmp k.target m.target) (nat_cmp x.0 y.0) l
 
   key_ascends : (k : DartKey) → IsStrictlyIncreasing (numbers_of c k.name) → IsAscending mark_cmp (key_marks c k)
   key_ascends k up =

@@ -1,36 +1,30 @@
 -- The numbers below a count, one after the other.
 use Rattle.std.proofs.Common.{◌≡◌, ℕ, zero, suc, ◌+◌, ◌<◌, ◌≤◌, Bool, true, false, cond, arith, refl, sym, ap, ◌∙◌, List, [], ◌∷◌, length, map, Option, Some, None}
-use Rattle.std.specs.Prelude.{nat_lt}
+use Rattle.std.specs.Prelude.{nat_lt, vec_len}
 use Rattle.std.specs.List.{range_with_len}
 use Rattle.std.proofs.lemmas.Bool.Decides.{nat_tests}
-use Rattle.std.specs.Prelude.{vec_len}
 use Rattle.std.proofs.Math.ListN.{length-map}
 use Rattle.slab_laws.specs.Rows.{dart_list, dart_rows, cycle_rows}
 use Rattle.slab_laws.specs.Tables.{name_after, names}
-use Rattle.listed_views.specs.Listed.{Drawing, skeleton_in, subdivision_in, vertex_record, dart_record, cycle_record, view_of, faces_of}
+use Rattle.plain_slabs.specs.Listed.{Drawing, skeleton_in, subdivision_in, vertex_record, dart_record, cycle_record, view_of, faces_of}
 use Rattle.plain_slabs.specs.declared.plain.Plain.TheInside.{Inside}
-use Rattle.plain_slabs.specs.Kept.{drawing_of, IsKept}
+use Rattle.plain_slabs.specs.SubdivisionInMemory.{drawing_of, IsSoundSubdivision}
 use Rattle.slab_laws.specs.Text.{numbered}
+use Rattle.integers.proofs.Tests.{nat_lt_yes, nat_lt_no}
 
 -- the number itself where it is below the count
 abbrev pub below : ℕ → ℕ → Option ℕ
 below n k = cond (nat_lt k n) (Some k) None
 
-test_yes : (m a : ℕ) → m < a → nat_lt m a ≡ true
-test_yes m a h = grind (arith, nat_tests)
-
-test_no : (m a : ℕ) → a ≤ m → nat_lt m a ≡ false
-test_no m a h = grind (arith, nat_tests)
-
 pub after_none : (n : ℕ) → name_after (range_with_len 0 n) None ≡ below n 0
 unfolding name_after
 after_none zero = refl
-after_none (suc n) = sym (ap (λ b. cond b (Some 0) None) (test_yes 0 (suc n) (omega arith)))
+after_none (suc n) = sym (ap (λ b. cond b (Some 0) None) (nat_lt_yes 0 (suc n) (omega arith)))
 
 none_after : (a n m : ℕ) → a + n ≤ suc m → name_after (range_with_len a n) (Some m) ≡ None
 unfolding name_after
 none_after a zero m h = refl
-none_after a (suc n) m h = rw (test_no m a (omega arith)) (none_after (a + 1) n m (omega arith))
+none_after a (suc n) m h = rw (nat_lt_no m a (omega arith)) (none_after (a + 1) n m (omega arith))
 
 some_after : (a n m : ℕ) → a ≤ suc m → suc m < a + n → name_after (range_with_len a n) (Some m) ≡ Some (suc m)
 unfolding name_after
@@ -49,10 +43,10 @@ after_some n m = go (nat_lt (m + 1) n) refl
     go false e = let l : n ≤ m + 1 = grind (arith, nat_tests) in none_after 0 n m (omega arith)
 
 yes : (k n : ℕ) → k < n → Some k ≡ below n k
-yes k n h = sym (ap (λ b. cond b (Some k) None) (test_yes k n h))
+yes k n h = sym (ap (λ b. cond b (Some k) None) (nat_lt_yes k n h))
 
 none : (k n : ℕ) → n ≤ k → None ≡ below n k
-none k n h = sym (ap (λ b. cond b (Some k) None) (test_no k n h))
+none k n h = sym (ap (λ b. cond b (Some k) None) (nat_lt_no k n h))
 
 -- what is answered for a number that is looked at next
 pub first_there : (n k : ℕ) (o : Option ℕ) → o ≡ None → k ≡ 0 → k < n → Some k ≡ name_after (range_with_len 0 n) o
@@ -90,7 +84,7 @@ unfolding faces_of
 face_names d = refl
 
 -- as many as the list in memory has
-module _ (a : Inside) (d : Drawing) (k : IsKept a) (is : drawing_of a ≡ d) where
+module _ (a : Inside) (d : Drawing) (k : IsSoundSubdivision a) (is : drawing_of a ≡ d) where
   pub points_many : vec_len a.points ≡ length d.graph.points
   points_many = let n = a.points.ok.0 in let m = ap (λ (d : Drawing). length d.graph.points) is in omega arith
 

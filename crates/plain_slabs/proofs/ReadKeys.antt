@@ -5,11 +5,11 @@ use Rattle.plane_graphs.proofs.Lists.{of_map, of_filter}
 use Rattle.slab_laws.specs.Sound.{IsGraphSound}
 use Rattle.slab_laws.specs.View.{View, HasVertex, HasDart}
 use Rattle.sound_views.specs.Orders.{vertex_order, dart_order}
-use Rattle.sound_views.proofs.Ordered.{ordered_vertex, ordered_dart}
+use Rattle.sound_views.proofs.NamesOrdered.{ordered_vertex, ordered_dart}
 use Rattle.record_orders.specs.declared.vertices.VertexKey.{VertexKey}
 use Rattle.record_orders.specs.declared.darts.DartKey.{DartKey}
 use Rattle.record_orders.specs.Keys.{vertex_key, vertex_keys, dart_key, dart_keys}
-use Rattle.present_graphs.proofs.Loops.{read_in}
+use Rattle.plane_graphs.proofs.Loops.{read_in}
 use Rattle.plain_slabs.specs.ByName.{goes_forward, forward_keys}
 
 -- a forward dart with the points of its ends

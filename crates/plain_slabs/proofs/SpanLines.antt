@@ -9,10 +9,10 @@ use Rattle.exact_plane.specs.Span.{Span}
 use Rattle.plane_graphs.specs.Ascending.{Member}
 use Rattle.plane_graphs.specs.Graph.{Graph, Edge, edges}
 use Rattle.plane_graphs.specs.Line.{IsProperLine}
-use Rattle.slab_laws.specs.Drawn.{edge_of}
-use Rattle.listed_views.specs.Listed.{Drawing, line_at, AreLinesOf, IsEdgeAt}
-use Rattle.listed_views.proofs.Places.{to_in}
-use Rattle.listed_views.proofs.Rows.{slice_get_member}
+use Rattle.slab_laws.specs.SpansDrawn.{edge_of}
+use Rattle.plain_slabs.specs.Listed.{Drawing, line_at, AreLinesOf, IsEdgeAt}
+use Rattle.sound_views.proofs.ListedPlaces.{to_in}
+use Rattle.sound_views.proofs.ListedRows.{slice_get_member}
 
 -- the span's three numbers are a line's, and it holds both its ends
 pub record IsAlongLine (s : Span) : Type 0 where

@@ -7,18 +7,18 @@ use Rattle.exact_plane.specs.Point.{Point}
 use Rattle.slab_laws.specs.Skeleton.{same_point}
 use Rattle.slab_laws.specs.declared.names.VertexId.{VertexId}
 use Rattle.slab_laws.specs.View.{HasVertex, point_in, pinned_in, pin_or}
-use Rattle.listed_views.specs.Listed.{Drawing, vertex_record, view_of}
-use Rattle.listed_views.proofs.Rows.{numbered_row}
-use Rattle.listed_views.proofs.Records.{IsVertex, vertex_of, point_of}
+use Rattle.plain_slabs.specs.Listed.{Drawing, vertex_record, view_of}
+use Rattle.sound_views.proofs.ListedRows.{numbered_row}
+use Rattle.plain_slabs.proofs.ListedRecords.{IsVertex, vertex_of, point_of}
 use Rattle.plain_slabs.specs.declared.plain.Plain.TheInside.{Inside}
-use Rattle.plain_slabs.specs.Kept.{drawing_of, IsKept}
+use Rattle.plain_slabs.specs.SubdivisionInMemory.{drawing_of, IsSoundSubdivision}
 use Rattle.plain_slabs.proofs.Items.{within, item_is}
 
 pin_of : (d : Drawing) (w : VertexId) (p : Point) → IsVertex d w p → pinned_in (view_of d) w ≡ list_any (same_point p) d.graph.pins
 unfolding view_of
 pin_of d w p i = ap pin_or (numbered_row (map (vertex_record d) d.graph.points) w.0 ∙ slice_get-map (vertex_record d) d.graph.points w.0 ∙ ap (option_map (vertex_record d)) i)
 
-module _ (a : Inside) (k : IsKept a) where
+module _ (a : Inside) (k : IsSoundSubdivision a) where
   abbrev D : Drawing
   D = drawing_of a
 
@@ -35,7 +35,7 @@ module _ (a : Inside) (k : IsKept a) where
   pin_there w b c H e = let x = vertex_of D w H in item_is (λ p. list_any (same_point p) a.pins.items) a.points.items a.pinned.items k.pinned w.0 x.0 x.1 b c e ∙ sym (pin_of D w x.0 x.1)
 
 -- ---- the same of the value that is seen
-module _ (a : Inside) (d : Drawing) (k : IsKept a) (is : drawing_of a ≡ d) where
+module _ (a : Inside) (d : Drawing) (k : IsSoundSubdivision a) (is : drawing_of a ≡ d) where
   before : (w : VertexId) → HasVertex (view_of d) w → HasVertex (view_of (drawing_of a)) w
   before w H = subst (λ (d : Drawing). HasVertex (view_of d) w) (sym is) H
 

@@ -1,9 +1,10 @@
 -- Steps in making faces: the cycle of a least dart, and faces that are added one by one.
-use Rattle.std.specs.Prelude.{◌≡◌, ℕ, List, [], ◌∷◌, ◌++◌, cond}
+use Rattle.std.specs.Prelude.{◌≡◌, ℕ, List, [], ◌∷◌, ◌++◌, Bool, ◌||◌, cond}
 use Rattle.std.specs.List.{list_any, position_or_len}
 use Rattle.exact_plane.specs.Point.{Point}
+use Rattle.exact_plane.specs.Span.{Span}
 use Rattle.std.specs.BTreeSet.{BTreeSet, contains}
-use Rattle.least_classes.specs.Cells.{cell_cmp}
+use Rattle.slab_cells.specs.CellLabels.{cell_cmp}
 use Rattle.slab_laws.specs.declared.slab_cell.SlabCell.{SlabCell}
 use Rattle.slab_laws.specs.declared.classes.Label.{Label}
 use Rattle.slab_laws.specs.declared.rows.CycleRow.{CycleRow}
@@ -12,7 +13,7 @@ use Rattle.slab_laws.specs.Cycles.{dart_labels, odd, left_of_dart}
 use Rattle.slab_laws.specs.Darts.{darts}
 use Rattle.slab_laws.specs.Faces.{same_cell, face_labels, face_of}
 use Rattle.slab_laws.specs.Rows.{dart_at}
-use Rattle.slab_laws.specs.Skeleton.{Skeleton}
+use Rattle.slab_laws.specs.Skeleton.{Skeleton, same_point}
 use Rattle.slab_laws.specs.Slabs.{left_cell}
 use Rattle.slab_laws.specs.Subdivision.{has_dart}
 
@@ -23,6 +24,10 @@ AreLabelsOf g ls = (c : SlabCell) → class_of same_cell ls c ≡ face_of (face_
 -- the cycle of the least dart at a place
 abbrev pub lead_row : Skeleton → ℕ → CycleRow
 lead_row g k = record { lead = k; outer = odd g (dart_labels (darts g)) (dart_at g k) (left_of_dart g (dart_at g k)); face = face_of (face_labels g) (left_of_dart g (dart_at g k)) }
+
+-- the point is an end of one of the edges
+abbrev pub is_end : List Span → Point → Bool
+is_end ss p = list_any (λ s. same_point s.lower p || same_point s.upper p) ss
 
 -- the rank among the faces of the face round a vertex without darts; of another vertex, 0
 abbrev pub rank_round : Skeleton → List SlabCell → Point → ℕ

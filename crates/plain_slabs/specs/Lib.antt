@@ -1,6 +1,8 @@
-pub mod Drawn
+pub mod Listed
+pub mod ListedLaws
+pub mod GraphInMemory
 pub mod Curves
-pub mod Kept
+pub mod SubdivisionInMemory
 pub mod Faces
 pub mod Orbits
 pub mod ByName

@@ -2,9 +2,10 @@
 use Rattle.std.specs.Prelude.{◌≡◌, map}
 use Rattle.std.specs.List.{position_or_len}
 use Rattle.slab_laws.specs.Faces.{same_cell}
-use Rattle.slab_laws.specs.Rows.{dart_rows, twin_places, next_places, lead_places, cycle_places, dart_place, lead_list, cycle_rows}
+use Rattle.slab_laws.specs.Rows.{dart_rows, twin_places, next_places, lead_places, cycle_places, cycle_rows}
 use Rattle.slab_laws.specs.Skeleton.{Skeleton}
 use Rattle.slab_laws.specs.Subdivision.{subdivision}
+use Rattle.slab_cycles.specs.Orbits.{cycle_leads}
 use Rattle.plain_slabs.specs.declared.orbits.Orbits.{Orbits}
 use Rattle.plain_slabs.specs.declared.regions.Regions.{Regions}
 use Rattle.plain_slabs.specs.Faces.{rank_round, AreLabelsOf}
@@ -15,7 +16,7 @@ pub record AreOrbits (g : Skeleton) (o : Orbits) : Type 0 where
   pub twins : o.twins.items ≡ twin_places g
   pub nexts : o.nexts.items ≡ next_places g
   pub leads : o.leads.items ≡ lead_places g
-  pub cycles : o.cycles.items ≡ map (dart_place g) (lead_list g)
+  pub cycles : o.cycles.items ≡ cycle_leads g
   pub in_cycles : o.in_cycles.items ≡ cycle_places g
 
 -- the faces of the graph by rank, of what cycles and bare vertices they are

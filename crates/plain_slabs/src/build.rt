@@ -3,14 +3,12 @@ ghost use Rattle.std.specs.List.{list_any};
 ghost use Rattle.plane_graphs.specs.Fit.{IsFit};
 ghost use Rattle.plane_graphs.specs.Graph.{graph, edges as edges_in};
 ghost use Rattle.plane_graphs.specs.Plane.{IsPlane};
-ghost use Rattle.slab_laws.specs.Drawn.{edge_of};
+ghost use Rattle.slab_laws.specs.SpansDrawn.{edge_of};
 ghost use Rattle.slab_laws.specs.Pieces.{present_of};
 ghost use Rattle.slab_laws.specs.Skeleton.{same_point};
-ghost use Rattle.slab_laws.specs.Subdivision.{subdivision};
-ghost use Rattle.slab_laws.specs.Text.{skeleton};
-ghost use Rattle.listed_views.specs.Listed.{subdivision_in, view_of, faces_of, AreLinesOf};
+ghost use Rattle.plain_slabs.specs.Listed.{subdivision_by, subdivision_in, view_of, faces_of, AreLinesOf};
 ghost use Rattle.slab_laws.specs.FacesSound.{IsSound};
-ghost use Rattle.plain_slabs.specs.Drawn.{graph_in, drawing_in};
+ghost use Rattle.plain_slabs.specs.GraphInMemory.{graph_in, drawing_in};
 
 use crate::orbits::orbits_of;
 use crate::plain::Plain;
@@ -89,7 +87,7 @@ pub(crate) fn plain_of(
 pub fn subdivide(alloc: Global, present: &Present) -> Result<Plain, NoMemory>
     requires { IsFit (present_of present.now) }
     ensures graph { IfOk result (λ s. s.graph ≡ graph (present_of present.now)) }
-    ensures subdivision { IfOk result (λ s. subdivision_in s ≡ subdivision (skeleton (graph (present_of present.now)))) }
+    ensures subdivision { IfOk result (λ s. subdivision_in s ≡ subdivision_by (graph (present_of present.now))) }
     ensures lines { IfOk result AreLinesOf }
     ensures stands { IfOk result (λ s. IsSound (view_of s) (faces_of s)) }
 {

@@ -1,7 +1,7 @@
-ghost use Rattle.std.specs.Prelude.{◌≡◌, ◌||◌, not, length};
-ghost use Rattle.std.specs.List.{count_by, list_any};
-ghost use Rattle.slab_laws.specs.Skeleton.{same_point};
-ghost use Rattle.listed_views.specs.Listed.{subdivision_in};
+ghost use Rattle.std.specs.Prelude.{◌≡◌, not, length};
+ghost use Rattle.std.specs.List.{count_by};
+ghost use Rattle.plain_slabs.specs.Faces.{is_end};
+ghost use Rattle.plain_slabs.specs.Listed.{subdivision_in};
 
 use crate::faces::has_dart;
 use crate::plain::Plain;
@@ -27,7 +27,7 @@ fn count_inner(cycles: &[CycleRow]) -> usize
 }
 
 fn count_isolated(points: &[Point], edges: &[Span]) -> usize
-    ensures { result ≡ count_by (λ p. not (list_any (λ s. same_point s.lower p || same_point s.upper p) edges.now)) points.now }
+    ensures { result ≡ count_by (λ p. not (is_end edges.now p)) points.now }
 {
     points
         .iter()

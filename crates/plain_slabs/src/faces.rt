@@ -1,19 +1,20 @@
-ghost use Rattle.std.specs.Prelude.{◌≡◌, ◌<◌, ◌||◌, length, map, IfOk, OnOk};
-ghost use Rattle.std.specs.List.{All, list_any};
-ghost use Rattle.slab_laws.specs.Drawn.{drawn};
+ghost use Rattle.std.specs.Prelude.{◌≡◌, ◌<◌, length, map, IfOk, OnOk};
+ghost use Rattle.std.specs.List.{All};
+ghost use Rattle.slab_laws.specs.SpansDrawn.{drawn};
 ghost use Rattle.slab_laws.specs.Faces.{cells as cells_in};
-ghost use Rattle.slab_laws.specs.Rows.{dart_rows, dart_place, lead_places, lead_list, cycle_rows};
-ghost use Rattle.slab_laws.specs.Skeleton.{same_point, IsPlaneSkeleton};
+ghost use Rattle.slab_laws.specs.Rows.{dart_rows, lead_places, cycle_rows};
+ghost use Rattle.slab_laws.specs.Skeleton.{IsPlaneSkeleton};
 ghost use Rattle.slab_laws.specs.Subdivision.{subdivision};
-ghost use Rattle.plain_slabs.specs.Faces.{lead_row, rank_round, added, AreLabelsOf, AreSeen};
+ghost use Rattle.plain_slabs.specs.Faces.{lead_row, is_end, rank_round, added, AreLabelsOf, AreSeen};
+ghost use Rattle.slab_cycles.specs.Orbits.{cycle_leads};
 
 use crate::ranks::rank_of;
-use cycle_kinds::{is_outer, left_cell_at};
 use edge_predicates::{cell_before, is_same};
 use exact_plane::{Point, Span};
-use least_classes::CellLabels;
 use no_memory::NoMemory;
-use slab_laws::{CycleRow, DartRow, SlabCell};
+use slab_cells::CellLabels;
+use slab_cycles::{is_outer, left_cell_at};
+use slab_laws::{CycleRow, ListedDart, SlabCell};
 use std::alloc::{AllocError, Global};
 use std::collections::BTreeSet;
 
@@ -21,7 +22,7 @@ use std::collections::BTreeSet;
 fn cycle_at(
     points: &[Point],
     edges: &[Span],
-    darts: &[DartRow],
+    darts: &[ListedDart],
     leads: &[usize],
     labels: &CellLabels,
     lead: usize,
@@ -46,7 +47,7 @@ fn cycles_at_leads(
     alloc: Global,
     points: &[Point],
     edges: &[Span],
-    darts: &[DartRow],
+    darts: &[ListedDart],
     leads: &[usize],
     labels: &CellLabels,
     places: &[usize],
@@ -69,7 +70,7 @@ pub(crate) fn cycles_of(
     alloc: Global,
     points: &[Point],
     edges: &[Span],
-    darts: &[DartRow],
+    darts: &[ListedDart],
     leads: &[usize],
     labels: &CellLabels,
     places: &[usize],
@@ -78,7 +79,7 @@ pub(crate) fn cycles_of(
     requires darts { darts.now ≡ dart_rows (drawn points.now edges.now) }
     requires leads { leads.now ≡ lead_places (drawn points.now edges.now) }
     requires labels { AreLabelsOf (drawn points.now edges.now) labels.now }
-    requires places { places.now ≡ map (dart_place (drawn points.now edges.now)) (lead_list (drawn points.now edges.now)) }
+    requires places { places.now ≡ cycle_leads (drawn points.now edges.now) }
     ensures { IfOk result (λ v. v.items ≡ cycle_rows (drawn points.now edges.now)) }
 {
     let cycles = cycles_at_leads(alloc, points, edges, darts, leads, labels, places)?;
@@ -87,7 +88,7 @@ pub(crate) fn cycles_of(
 
 // Whether a point is an end of an edge.
 pub(crate) fn has_dart(edges: &[Span], point: &Point) -> bool
-    ensures { result ≡ list_any (λ s. same_point s.lower point.now || same_point s.upper point.now) edges.now }
+    ensures { result ≡ is_end edges.now point.now }
 {
     edges.iter().any(|e| is_same(&e.lower(), point) || is_same(&e.upper(), point))
 }

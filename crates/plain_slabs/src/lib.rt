@@ -2,8 +2,8 @@
 //! from scratch, and where a point lies in it.
 //!
 //! It is slow and plain: every part of the answer is computed by the definition. Slabs, cells and faces are those of the
-//! slab model; what is answered is proved to be the model's subdivision and the model's location. It is the yardstick of
-//! every faster engine.
+//! slab model; what is answered is proved to be the model's subdivision and the model's location, and its lists, read by name,
+//! to be a sound view of it (`specs/Listed.antt`). It is the yardstick of every faster engine.
 #![tactic(auto)]
 
 mod build;

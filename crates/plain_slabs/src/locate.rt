@@ -1,6 +1,6 @@
 ghost use Rattle.std.specs.Prelude.{◌≡◌, find};
-ghost use Rattle.listed_views.specs.Listed.{subdivision_in};
-ghost use Rattle.slab_laws.specs.Drawn.{edge_of};
+ghost use Rattle.plain_slabs.specs.Listed.{subdivision_in};
+ghost use Rattle.slab_laws.specs.SpansDrawn.{edge_of};
 ghost use Rattle.slab_laws.specs.Skeleton.{same_point, inside};
 ghost use Rattle.slab_laws.specs.Subdivision.{holds};
 

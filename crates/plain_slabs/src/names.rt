@@ -1,17 +1,13 @@
-ghost use Rattle.std.specs.Prelude.{◌≡◌, ◌≢◌, ◌++◌, map, filter, flat_map, true, [], IfOk};
-ghost use Rattle.std.specs.List.{AllByRecursion};
+ghost use Rattle.std.specs.Prelude.{◌≡◌, ◌≢◌, map, filter, flat_map, true, [], IfOk};
 ghost use Rattle.std.specs.List.Sorted.{IsStrictlyIncreasing};
 ghost use Rattle.slab_laws.specs.Sound.{IsGraphSound};
-ghost use Rattle.slab_laws.specs.Subdivision.{subdivision};
-ghost use Rattle.slab_laws.specs.Text.{skeleton};
 ghost use Rattle.slab_laws.specs.View.{HasDart};
 ghost use Rattle.arr_notes.specs.Curves.{IsForward};
-ghost use Rattle.record_graphs.specs.Graph.{drawn_graph};
 ghost use Rattle.record_orders.specs.Keys.{vertex_keys, dart_key};
-ghost use Rattle.listed_views.specs.Listed.{subdivision_in, view_of, faces_of, AreLinesOf};
+ghost use Rattle.plain_slabs.specs.Listed.{subdivision_by, subdivision_in, view_of, faces_of, AreLinesOf};
 ghost use Rattle.slab_laws.specs.FacesSound.{IsSound};
-ghost use Rattle.present_graphs.specs.Marks.{mark_of};
-ghost use Rattle.plain_slabs.specs.ByName.{numbers_of, points_at, pinned_among, goes_forward, forward_keys, span_along, key_marks, AreParts};
+ghost use Rattle.present_graphs.specs.Marks.{mark_of, HaveCome};
+ghost use Rattle.plain_slabs.specs.ByName.{numbers_of, graph_by, points_at, pinned_among, goes_forward, forward_keys, span_along, key_marks, DoCurvesAscend, AreParts};
 
 use crate::build::plain_of;
 use crate::plain::Plain;
@@ -100,7 +96,8 @@ fn add_marks<R: Curved>(
     dart: &DartKey,
 ) -> Result<(), NoMemory>
     requires { HasDart (R.graph records.now) dart.now.name }
-    ensures marks { IfOk result (λ _. map mark_of marks.new.items ≡ map mark_of marks.old.items ++ key_marks (R.curve_list records.now) dart.now) }
+    ensures marks { IfOk result (λ _.
+        HaveCome (key_marks (R.curve_list records.now) dart.now) marks.old.items marks.new.items) }
     ensures ascend { IfOk result (λ _. IsStrictlyIncreasing (numbers_of (R.curve_list records.now) dart.now.name)) }
 {
     let curves = records.curves(alloc, dart.name)?;
@@ -116,7 +113,7 @@ fn marks_of<R: Curved>(alloc: Global, records: &R, darts: &[DartKey]) -> Result<
     requires sound { IsGraphSound (R.graph records.now) }
     requires darts { darts.now ≡ forward_keys (R.graph records.now) }
     ensures marks { IfOk result (λ v. map mark_of v.items ≡ flat_map (key_marks (R.curve_list records.now)) darts.now) }
-    ensures ascend { IfOk result (λ _. AllByRecursion (λ k. IsStrictlyIncreasing (numbers_of (R.curve_list records.now) k.name)) darts.now) }
+    ensures ascend { IfOk result (λ _. DoCurvesAscend (R.curve_list records.now) darts.now) }
 {
     let mut marks = Vec::new(alloc);
     for dart in darts {
@@ -157,8 +154,9 @@ fn parts_of<R: Curved>(alloc: Global, records: &R) -> Result<Parts, NoMemory>
 pub fn subdivide_of<R: Curved>(alloc: Global, records: &R) -> Result<Plain, NoMemory>
     requires sound { IsGraphSound (R.graph records.now) }
     requires curves { (d : _) → IsForward (R.graph records.now) d → R.curve_list records.now d ≢ [] }
-    ensures graph { IfOk result (λ s. s.graph ≡ drawn_graph (R.graph records.now) (numbers_of (R.curve_list records.now))) }
-    ensures subdivision { IfOk result (λ s. subdivision_in s ≡ subdivision (skeleton (drawn_graph (R.graph records.now) (numbers_of (R.curve_list records.now))))) }
+    ensures graph { IfOk result (λ s. s.graph ≡ graph_by (R.graph records.now) (R.curve_list records.now)) }
+    ensures subdivision { IfOk result (λ s.
+        subdivision_in s ≡ subdivision_by (graph_by (R.graph records.now) (R.curve_list records.now))) }
     ensures lines { IfOk result AreLinesOf }
     ensures stands { IfOk result (λ s. IsSound (view_of s) (faces_of s)) }
 {

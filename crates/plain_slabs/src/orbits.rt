@@ -1,21 +1,20 @@
 ghost use Rattle.std.specs.Prelude.{◌≡◌, IfOk};
 ghost use Rattle.exact_plane.specs.PointOrder.{point_cmp};
 ghost use Rattle.plane_graphs.specs.Ascending.{IsAscending};
-ghost use Rattle.slab_laws.specs.Drawn.{drawn};
+ghost use Rattle.slab_laws.specs.SpansDrawn.{drawn};
 ghost use Rattle.slab_laws.specs.Skeleton.{IsPlaneSkeleton};
 ghost use Rattle.plain_slabs.specs.Orbits.{AreOrbits};
 
-use cycle_kinds::{cycles_at, leads_among};
-use dart_orbits::{darts_of, leads_of, nexts_of, twins_of};
 use exact_plane::{Point, Span};
 use no_memory::NoMemory;
-use slab_laws::DartRow;
+use slab_cycles::{cycles_at, darts_of, least_darts, least_darts_among, nexts_of, twins_of};
+use slab_laws::ListedDart;
 use std::alloc::Global;
 
 /// The darts of a graph and their cycles, by places.
 #[derive(Drop)]
 pub(crate) struct Orbits {
-    pub(crate) darts: Vec<DartRow>,
+    pub(crate) darts: Vec<ListedDart>,
     pub(crate) twins: Vec<usize>,
     pub(crate) nexts: Vec<usize>,
     /// Of each dart the least dart of its cycle.
@@ -35,8 +34,8 @@ pub(crate) fn orbits_of(alloc: Global, points: &[Point], edges: &[Span]) -> Resu
     let darts = darts_of(alloc, points, edges)?;
     let twins = twins_of(alloc, points, edges, &darts)?;
     let nexts = nexts_of(alloc, points, edges, &darts)?;
-    let leads = leads_of(alloc, points, edges, &nexts)?;
-    let cycles = leads_among(alloc, points, edges, &leads)?;
+    let leads = least_darts(alloc, points, edges, &nexts)?;
+    let cycles = least_darts_among(alloc, points, edges, &leads)?;
     let in_cycles = cycles_at(alloc, points, edges, &leads, &cycles)?;
     Ok(Orbits {
         darts,

@@ -1,7 +1,7 @@
 use exact_plane::{Point, Span};
-use least_classes::CellLabels;
 use present_graphs::Mark;
-use slab_laws::{CycleRow, DartRow, SlabCell};
+use slab_cells::CellLabels;
+use slab_laws::{CycleRow, ListedDart, SlabCell};
 use std::marker::Model;
 
 /// The subdivision of the plane by a graph, in ascending lists: anything's name is its place in its list, a face's is its
@@ -13,7 +13,7 @@ pub struct Plain {
     pub(crate) pinned: Vec<bool>,
     pub(crate) marks: Vec<Mark>,
     pub(crate) edges: Vec<Span>,
-    pub(crate) darts: Vec<DartRow>,
+    pub(crate) darts: Vec<ListedDart>,
     pub(crate) twins: Vec<usize>,
     pub(crate) nexts: Vec<usize>,
     pub(crate) in_cycles: Vec<usize>,
@@ -25,13 +25,13 @@ pub struct Plain {
 }
 
 impl Model for Plain {
-    ghost use Rattle.listed_views.specs.Listed.{Drawing};
+    ghost use Rattle.plain_slabs.specs.Listed.{Drawing};
 
     ghost Value = { Drawing };
 
-    ghost use Rattle.plain_slabs.specs.Kept.{drawing_of, IsKept};
+    ghost use Rattle.plain_slabs.specs.SubdivisionInMemory.{drawing_of, IsSoundSubdivision};
 
     ghost view = { drawing_of };
 
-    ghost invariant = { IsKept };
+    ghost invariant = { IsSoundSubdivision };
 }

@@ -1,9 +1,9 @@
-ghost use Rattle.std.specs.Prelude.{◌≡◌, ◌&&◌, map, filter, IfOk};
-ghost use Rattle.slab_laws.specs.Skeleton.{same_point};
+ghost use Rattle.std.specs.Prelude.{◌≡◌, IfOk};
 ghost use Rattle.std.specs.List.{range_with_len};
 ghost use Rattle.std.specs.Option.{option_map};
 ghost use Rattle.slab_laws.specs.Tables.{name_after};
 ghost use Rattle.slab_laws.specs.View.{vertex_id, dart_id, cycle_id, face_id};
+ghost use Rattle.plain_slabs.specs.Curves.{curves_along};
 
 use crate::plain::Plain;
 use edge_predicates::is_same;
@@ -56,7 +56,7 @@ fn curves_along(
     low: &Point,
     high: &Point,
 ) -> Result<Vec<CurveId>, AllocError>
-    ensures { IfOk result (λ v. v.items ≡ map (λ m. m.curve) (filter (λ m. same_point m.low low.now && same_point m.high high.now) marks.now)) }
+    ensures { IfOk result (λ v. v.items ≡ curves_along marks.now low.now high.now) }
 {
     marks
         .iter()
@@ -66,7 +66,7 @@ fn curves_along(
 }
 
 impl Darts for Plain {
-    ghost use Rattle.listed_views.specs.Listed.{view_of};
+    ghost use Rattle.plain_slabs.specs.Listed.{view_of};
 
     ghost graph = { view_of };
 
@@ -130,7 +130,7 @@ impl Curved for Plain {
 }
 
 impl Faced for Plain {
-    ghost use Rattle.listed_views.specs.Listed.{faces_of};
+    ghost use Rattle.plain_slabs.specs.Listed.{faces_of};
 
     ghost faces = { faces_of };
 

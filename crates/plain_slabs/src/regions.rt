@@ -1,5 +1,5 @@
 ghost use Rattle.std.specs.Prelude.{◌≡◌, IfOk};
-ghost use Rattle.slab_laws.specs.Drawn.{drawn};
+ghost use Rattle.slab_laws.specs.SpansDrawn.{drawn};
 ghost use Rattle.slab_laws.specs.Skeleton.{IsPlaneSkeleton};
 ghost use Rattle.plain_slabs.specs.Faces.{AreLabelsOf};
 ghost use Rattle.plain_slabs.specs.Orbits.{AreOrbits, AreRegions};
@@ -8,10 +8,9 @@ use crate::faces::{bare_ranks, cycles_of, faces_of};
 use crate::orbits::Orbits;
 use crate::ranks::cycle_ranks;
 use exact_plane::{Point, Span};
-use least_classes::CellLabels;
 use no_memory::NoMemory;
+use slab_cells::{CellLabels, link_cells, list_cells};
 use slab_laws::{CycleRow, SlabCell};
-use slab_links::{link_cells, list_cells};
 use std::alloc::Global;
 
 /// The faces of a graph by rank, and of which cycles and bare vertices they are.

@@ -1,7 +1,7 @@
 -- What was used and what was written, where the source and the sink tell their bytes.
 use Rattle.std.proofs.Common.{◌≡◌, ℕ, suc, ◌+◌, ◌≤◌, List, [], ◌∷◌, ◌++◌, length, take, Option, Some, None, refl, sym, ap, subst, ◌∙◌, append_assoc, arith, inl, inr}
 use Rattle.std.specs.Prelude.{◌⊎◌, ◌≢◌, IfSome, IsSomeAnd}
-use Rattle.std.proofs.lemmas.List.{length-append, take-append-le, take_all}
+use Rattle.std.proofs.lemmas.List.{length-append}
 use Rattle.std.proofs.lemmas.Bool.{cases_eq}
 use Rattle.outside.specs.Bytes.{Loses, Gains, IsSpent}
 use Rattle.outside.specs.Counts.{Rose}
@@ -14,6 +14,7 @@ use Rattle.planar_run.specs.Run.{IsRun, BeginsRun}
 use Rattle.planar_run.specs.Engine.{Answers, AnswersPart, Takes, Feeds, FeedsPart}
 use Rattle.planar_run.specs.Clauses.{Used, UsedAndWritten, ReadToEnd, Ends, Causes, Finishes}
 use Rattle.planar_run.proofs.Script.{Stands, read, Stands-first, Stands-end, Stands-byte, Stands-ended, Stands-done, Stands-last, Stands-part, lines-last, lines-next}
+use Rattle.planar_run.proofs.Takes.{take_full}
 
 -- ---- what is told
 
@@ -121,9 +122,6 @@ said-ended (Some script) now None had count world line h = tt
 said-ended (Some script) now (Some before) had count world line h =
     let s = h.4 in (read s, h.0, s.out, s.split, h.2, h.3 ∙ ap Some s.told, Stands-ended s)
 
-front : (n : ℕ) (xs ys : List ℕ) → length xs ≡ n → take n (xs ++ ys) ≡ xs
-front n xs ys e = take-append-le n xs ys (omega arith) ∙ take_all n xs (omega arith)
-
 pub said-to_limit : (left now next taken had : Option (List ℕ)) (b count limit : ℕ) (world : World) (line : List ℕ) → HasSaid left now taken had count world line → count ≡ limit → Loses now next (b ∷ []) → UsedAndWritten left next taken had (λ used out. IsRun (ended_lines (take limit used)) out)
 said-to_limit None now next taken had b count limit world line h e l = tt
 said-to_limit (Some script) now next None had b count limit world line h e l = tt
@@ -136,7 +134,7 @@ said-to_limit (Some script) now next (Some before) had b count limit world line 
       s.split ∙ ap (λ (xs : List ℕ). read s ++ xs) m.1 ∙ sym (append_assoc (read s) (b ∷ []) m.0),
       m.2,
       h.3 ∙ ap Some s.told,
-      subst (λ (xs : List ℕ). IsRun (ended_lines xs) s.out) (sym (front limit (read s) (b ∷ []) (s.size ∙ e))) (Stands-ended s),
+      subst (λ (xs : List ℕ). IsRun (ended_lines xs) s.out) (sym (take_full limit (read s) (b ∷ []) (s.size ∙ e))) (Stands-ended s),
     )
 
 -- of the bytes that came last some were fed, and of the reply to the line that they ended a part was written

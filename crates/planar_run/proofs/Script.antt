@@ -10,7 +10,7 @@ use Rattle.planar_run.specs.declared.line.TheConstants.{KEPT}
 use Rattle.planar_run.specs.Lines.{lines, ended_lines}
 use Rattle.planar_run.specs.World.{World, first_world}
 use Rattle.planar_run.specs.Answer.{Obeys, Replies, answer_to}
-use Rattle.planar_run.specs.Run.{Runs, IsRun, BeginsRun}
+use Rattle.planar_run.specs.Run.{AnswersLines, IsRun, BeginsRun}
 use Rattle.planar_run.proofs.Takes.{take-cut}
 
 -- no byte ends a line
@@ -75,20 +75,20 @@ Replies-cut : (world : World) (line kept text : List ℕ) (after : World) → ke
 Replies-cut world line kept text after e s =
     subst (λ (said : Result Command LineError). Obeys world said text after) (ap command_of e ∙ cut_command line) s
 
-Runs-push : (world : World) (ls : List (List ℕ)) (out : List ℕ) (mid : World) (line text : List ℕ) (end : World) → Runs world ls out mid → Replies mid line text end → Runs world (ls ++ line ∷ []) (out ++ text) end
+Runs-push : (world : World) (ls : List (List ℕ)) (out : List ℕ) (mid : World) (line text : List ℕ) (end : World) → AnswersLines world ls out mid → Replies mid line text end → AnswersLines world (ls ++ line ∷ []) (out ++ text) end
 Runs-push world [] out mid line text end r s =
     (text, [], end, subst (λ (w : World). Replies w line text end) r.1 s, ap (λ (xs : List ℕ). xs ++ text) r.0 ∙ sym (append-nil text), (refl, refl))
 Runs-push world (l ∷ ls) out mid line text end r s =
     (r.0, r.1 ++ text, r.2, r.3, ap (λ (xs : List ℕ). xs ++ text) r.4 ∙ append_assoc r.0 r.1 text, Runs-push r.2 ls r.1 mid line text end r.5 s)
 
-Runs-append : (world : World) (ls more : List (List ℕ)) (out out' : List ℕ) (mid end : World) → Runs world ls out mid → Runs mid more out' end → Runs world (ls ++ more) (out ++ out') end
+Runs-append : (world : World) (ls more : List (List ℕ)) (out out' : List ℕ) (mid end : World) → AnswersLines world ls out mid → AnswersLines mid more out' end → AnswersLines world (ls ++ more) (out ++ out') end
 Runs-append world [] more out out' mid end r s =
-    subst (λ (xs : List ℕ). Runs world more (xs ++ out') end) (sym r.0) (subst (λ (w : World). Runs w more out' end) r.1 s)
+    subst (λ (xs : List ℕ). AnswersLines world more (xs ++ out') end) (sym r.0) (subst (λ (w : World). AnswersLines w more out' end) r.1 s)
 Runs-append world (l ∷ ls) more out out' mid end r s =
     (r.0, r.1 ++ out', r.2, r.3, ap (λ (xs : List ℕ). xs ++ out') r.4 ∙ append_assoc r.0 r.1 out', Runs-append r.2 ls more r.1 out' mid end r.5 s)
 
 -- with ample memory every line is answered
-ample : (world : World) (ls : List (List ℕ)) → (out : List ℕ) × (end : World) × Runs world ls out end
+ample : (world : World) (ls : List (List ℕ)) → (out : List ℕ) × (end : World) × AnswersLines world ls out end
 ample world [] = ([], world, (refl, refl))
 ample world (line ∷ more) =
     let a = answer_to world (command_of line) in
@@ -107,7 +107,7 @@ pub record Stands (count : ℕ) (script rest before taken : List ℕ) (world : W
   pub each : AreOpen whole
   pub inside : IsOpen begun
   pub kept : line ≡ take KEPT begun
-  pub run : Runs first_world whole out world
+  pub run : AnswersLines first_world whole out world
   pub told : taken ≡ before ++ out
 
 -- the bytes that were read
@@ -173,7 +173,7 @@ Stands-byte count script rest before taken b world line next s ne e = record {
 pub Stands-ended : {count : ℕ} {script rest before taken : List ℕ} {world : World} {line : List ℕ} (s : Stands count script rest before taken world line) → IsRun (ended_lines (read s)) s.out
 Stands-ended {world = world} s =
     let all : ended_lines (joined s.whole ++ s.begun) ≡ s.whole = ended_lines-joined s.whole s.begun s.each ∙ ap (λ (ls : List (List ℕ)). s.whole ++ ls) (ended_lines-open s.begun s.inside) ∙ append-nil s.whole in
-    (world, subst (λ (ls : List (List ℕ)). Runs first_world ls s.out world) (sym all) s.run)
+    (world, subst (λ (ls : List (List ℕ)). AnswersLines first_world ls s.out world) (sym all) s.run)
 
 none_begun : (begun line : List ℕ) → line ≡ take KEPT begun → line ≡ [] → begun ≡ []
 none_begun [] line e f = refl
@@ -184,7 +184,7 @@ pub Stands-done : {count : ℕ} {script rest before taken : List ℕ} {world : W
 Stands-done {world = world} {line = line} s e =
     let none : s.begun ≡ [] = none_begun s.begun line s.kept e in
     let all : lines (joined s.whole ++ s.begun) ≡ s.whole = lines-joined s.whole s.begun s.each ∙ ap (λ (xs : List ℕ). s.whole ++ lines xs) none ∙ append-nil s.whole in
-    (world, subst (λ (ls : List (List ℕ)). Runs first_world ls s.out world) (sym all) s.run)
+    (world, subst (λ (ls : List (List ℕ)). AnswersLines first_world ls s.out world) (sym all) s.run)
 
 one_begun : (begun line : List ℕ) → line ≡ take KEPT begun → (line ≡ [] → ⊥) → IsOpen begun → lines begun ≡ begun ∷ []
 one_begun [] line e f h = absurd (f e)
@@ -202,8 +202,8 @@ lines-next s more =
 -- it is answered, and no line comes behind it
 pub Stands-last : {count : ℕ} {script rest before taken : List ℕ} {world : World} {line : List ℕ} (s : Stands count script rest before taken world line) (text : List ℕ) (after : World) → (line ≡ [] → ⊥) → Replies world line text after → IsRun (lines (read s)) (s.out ++ text)
 Stands-last {world = world} {line = line} s text after some step =
-    let run : Runs first_world (s.whole ++ s.begun ∷ []) (s.out ++ text) after = Runs-push first_world s.whole s.out world s.begun text after s.run (Replies-cut world s.begun line text after s.kept step) in
-    (after, subst (λ (ls : List (List ℕ)). Runs first_world ls (s.out ++ text) after) (sym (lines-last s some)) run)
+    let run : AnswersLines first_world (s.whole ++ s.begun ∷ []) (s.out ++ text) after = Runs-push first_world s.whole s.out world s.begun text after s.run (Replies-cut world s.begun line text after s.kept step) in
+    (after, subst (λ (ls : List (List ℕ)). AnswersLines first_world ls (s.out ++ text) after) (sym (lines-last s some)) run)
 
 -- a part of its reply was written, whatever lines come behind it
 pub Stands-part : {count : ℕ} {script rest before taken : List ℕ} {world : World} {line : List ℕ} (s : Stands count script rest before taken world line) (ls more : List (List ℕ)) (text part back : List ℕ) (after : World)
@@ -211,6 +211,6 @@ pub Stands-part : {count : ℕ} {script rest before taken : List ℕ} {world : W
 Stands-part {world = world} {line = line} s ls more text part back after e step f =
     let tail = ample after more in
     let said : Replies world s.begun text after = Replies-cut world s.begun line text after s.kept step in
-    let run : Runs first_world (s.whole ++ s.begun ∷ more) (s.out ++ (text ++ tail.0)) tail.1 = Runs-append first_world s.whole (s.begun ∷ more) s.out (text ++ tail.0) world tail.1 s.run (text, tail.0, after, said, refl, tail.2) in
+    let run : AnswersLines first_world (s.whole ++ s.begun ∷ more) (s.out ++ (text ++ tail.0)) tail.1 = Runs-append first_world s.whole (s.begun ∷ more) s.out (text ++ tail.0) world tail.1 s.run (text, tail.0, after, said, refl, tail.2) in
     let same : s.out ++ (text ++ tail.0) ≡ (s.out ++ part) ++ (back ++ tail.0) = ap (λ (xs : List ℕ). s.out ++ (xs ++ tail.0)) f ∙ ap (λ (xs : List ℕ). s.out ++ xs) (append_assoc part back tail.0) ∙ sym (append_assoc s.out part (back ++ tail.0)) in
-    (back ++ tail.0, (tail.1, subst (λ (xs : List ℕ). Runs first_world ls xs tail.1) same (subst (λ (all : List (List ℕ)). Runs first_world all (s.out ++ (text ++ tail.0)) tail.1) (sym e) run)))
+    (back ++ tail.0, (tail.1, subst (λ (xs : List ℕ). AnswersLines first_world ls xs tail.1) same (subst (λ (all : List (List ℕ)). AnswersLines first_world all (s.out ++ (text ++ tail.0)) tail.1) (sym e) run)))

@@ -4,11 +4,12 @@ use Rattle.std.specs.Prelude.{◌↔◌, map, IfOk, IfErr, OnOk, IsErrOf}
 use Rattle.std.specs.declared.vec.Vec.{Vec}
 use Rattle.std.specs.List.{list_any}
 use Rattle.exact_plane.specs.Point.{Point}
+use Rattle.exact_plane.specs.PointOrderLaws.{and_true}
 use Rattle.plane_graphs.specs.Ascending.{Member, IsAscending}
 use Rattle.plane_graphs.specs.Graph.{Graph, Edge, edge_cmp, edges, curves, is_at, same_curve}
 use Rattle.plane_graphs.specs.Line.{same_point}
 use Rattle.plane_graphs.proofs.Ascending.{ascending_unique}
-use Rattle.plane_graphs.proofs.Lists.{any_in, any_out, and_in, both, clash, decide, in_filter, of_filter, IsAscending-filter}
+use Rattle.plane_graphs.proofs.Lists.{any_in, any_out, and_in, clash, decide, in_filter, of_filter, IsAscending-filter}
 use Rattle.plane_graphs.proofs.Meaning.{edge_cmp_total, edges_ascend, edge_in, edge_out}
 use Rattle.plane_graphs.proofs.Order.{curve_in, curve_out, same_in, same_out}
 use Rattle.arrangement.specs.Answers.{edge_of as edge_of_ends, HistoryError, Unknown, NoMemoryForEdges}
@@ -46,7 +47,7 @@ edge_there g e m =
 edge_here : (g : Graph) (e : Edge) → list_any (is_at e.low e.high) g.marks ≡ true → Member e (edges g)
 edge_here g e t =
     let k = any_out (is_at e.low e.high) g.marks t in
-    let w = both (same_point k.0.low e.low) (same_point k.0.high e.high) k.2 in
+    let w = and_true (same_point k.0.low e.low) (same_point k.0.high e.high) k.2 in
     subst (λ x. Member x (edges g)) (λ i. record { low = same_out k.0.low e.low w.0 i; high = same_out k.0.high e.high w.1 i }) (edge_in g k.0 k.1)
 
 no_error : {T E : Type 0} → (v : T) (x : E) → IsErrOf {T = T} {E = E} (Ok v) x → ⊥

@@ -1,25 +1,26 @@
 -- What a line is answered, and the world that the next line meets.
-use Rattle.std.specs.Prelude.{◌≡◌, ℕ, ◌≤◌, true, false, not, ◌⊎◌, List, [], ◌∷◌, ◌++◌, length, nat_le, Result, Ok, Err, codes, decimal, if◌then◌else◌, ⊤}
+use Rattle.std.specs.Prelude.{◌≡◌, ℕ, true, not, ◌⊎◌, List, [], ◌∷◌, ◌++◌, length, Option, Some, None, Result, Ok, Err, codes, decimal, if◌then◌else◌, ⊤}
 use Rattle.std.specs.List.{count_by, filter, list_any}
-use Rattle.exact_plane.specs.Point.{Point}
 use Rattle.exact_plane.specs.Segment.{Segment}
 use Rattle.exact_plane.specs.SegmentOf.{segment_of}
 use Rattle.exact_plane.specs.declared.segment.SegmentError.{SegmentError}
 use Rattle.exact_plane.specs.declared.segment.SegmentError.TheVariants.{Range, Equal}
 use Rattle.plane_graphs.specs.Graph.{Graph, Edge, edges, curves, same_curve}
-use Rattle.edit_steps.specs.Edits.{Edit, Insert, Drop as DropCurve, Cut as CutEdge, Pin as PinPoint, Unpin as UnpinPoint, Split as SplitEdge, Merge as MergeEdges, ClearAll}
+use Rattle.edit_steps.specs.Edits.{Edit, Insert, Drop as DropCurve, Pin as PinPoint, Unpin as UnpinPoint, Merge as MergeEdges, ClearAll}
 use Rattle.edit_steps.specs.Layer.{layer_after}
+use Rattle.edit_steps.specs.Refusals.{Refusal}
 use Rattle.slab_laws.specs.Sound.{edge_between}
 use Rattle.slab_laws.specs.Subdivision.{Subdivision, subdivision, holds}
 use Rattle.slab_laws.specs.Text.{skeleton, present_text}
 use Rattle.script_lines.specs.declared.command.Command.{Command}
 use Rattle.script_lines.specs.declared.command.Command.TheVariants.{Nothing, Segment as AddSegment, Drop, Cut, Pin, Unpin, Split, Merge, Clear, Locate, Edge as CurvesOf, Curve, Count, Show}
 use Rattle.script_lines.specs.declared.error.LineError.{LineError}
-use Rattle.script_lines.specs.LineError.{refusal_number}
+use Rattle.script_lines.specs.LineError.{refusal_number as line_number}
 use Rattle.script_lines.specs.Command.{command_of}
-use Rattle.arrangement.specs.Answers.{LAST_CURVE}
+use Rattle.arrangement.specs.Answers.{cut_between, split_at}
 use Rattle.planar_run.specs.World.{World}
-use Rattle.planar_run.specs.Premises.{graph_of, room_for_a_curve, is_named, is_pinned, room_for_a_pin, is_edge, is_inside, is_vertex, only_its_pin, cut_fits}
+use Rattle.planar_run.specs.Premises.{graph_of, is_named, is_edge}
+use Rattle.planar_run.specs.Refusals.{refusal_of, refusal_number}
 use Rattle.planar_run.specs.Text.{line_of, cell_text, spaced, curve_text}
 
 pub record Answer : Type 0 where
@@ -36,48 +37,18 @@ refused number world = record { text = line_of (codes "refused " ++ decimal numb
 abbrev pub said : List ℕ → World → Answer
 said text world = record { text = text; world = world }
 
--- an edit
-abbrev pub done : List ℕ → Edit → World → Answer
-done text edit world = record { text = line_of text; world = record { layer = layer_after edit world.layer } }
+-- an edit that there is this reason to refuse, or none
+abbrev pub edited_unless : Option Refusal → List ℕ → Edit → World → Answer
+edited_unless (Some reason) text edit world = refused (refusal_number reason) world
+edited_unless None text edit world = record { text = line_of text; world = record { layer = layer_after edit world.layer } }
+
+-- an edit: it is refused for the first reason that holds, or done
+abbrev pub edited : List ℕ → Edit → World → Answer
+edited text edit world = edited_unless (refusal_of world edit) text edit world
 
 -- the subdivision of the plane by the present segments and points, built afresh
 abbrev pub subdivision_of : World → Subdivision
 subdivision_of world = subdivision (skeleton (graph_of world))
-
--- why a pin is refused: 13, the point is pinned; 17, as many as may be are
-abbrev pub pinning : Point → World → Answer
-pinning p world =
-    if is_pinned p world then refused 13 world
-    else (if room_for_a_pin world then done (codes "ok") (PinPoint p) world
-    else refused 17 world)
-
--- 10, the point isn't pinned
-abbrev pub unpinning : Point → World → Answer
-unpinning p world = if is_pinned p world then done (codes "ok") (UnpinPoint p) world else refused 10 world
-
--- 8, no curve has this number
-abbrev pub dropping : ℕ → World → Answer
-dropping c world = if is_named c world then done (codes "ok") (DropCurve c) world else refused 8 world
-
--- 9, no edge joins the points; 17, the pieces afterwards would pass their limit
-abbrev pub cutting : Edge → World → Answer
-cutting e world =
-    if is_edge e world then (if cut_fits e world then done (codes "ok") (CutEdge e.low e.high) world else refused 17 world)
-    else refused 9 world
-
--- 9, no edge joins the points; 11, the third point isn't strictly inside it; 17, as many points are pinned as may be
-abbrev pub splitting : Edge → Point → World → Answer
-splitting e r world =
-    if is_edge e world then (if is_inside e r world then (if room_for_a_pin world then done (codes "ok") (SplitEdge e.low e.high r) world
-    else refused 17 world)
-    else refused 11 world)
-    else refused 9 world
-
--- 10, no vertex is at the point; 12, it isn't pinned, or without its pin it would still be a vertex, or it has no edge
-abbrev pub merging : Point → World → Answer
-merging r world =
-    if is_vertex r world then (if only_its_pin r world then done (codes "ok") (MergeEdges r) world else refused 12 world)
-    else refused 10 world
 
 -- 9, no edge joins the points
 abbrev pub curves_told : Edge → World → Answer
@@ -95,21 +66,15 @@ curve_told c world =
     if is_named c world then said (curve_text c (edges_along c (graph_of world))) world
     else refused 8 world
 
--- 17, as many curves have a name as may, or there are as many pieces as may be; 18, the last number was drawn
-abbrev pub insertion : Segment → World → Answer
-insertion s world =
-    if room_for_a_curve world.layer then (if nat_le world.layer.next LAST_CURVE then done (codes "ok " ++ decimal world.layer.next) (Insert world.layer.next s) world
-    else refused 18 world)
-    else refused 17 world
-
 -- 7, the ends are equal; 4, a coordinate is out of its range, which no line that was read has
 abbrev pub segment_refusal : SegmentError → ℕ
 segment_refusal Range = 4
 segment_refusal Equal = 7
 
+-- a segment becomes the curve of the next number
 abbrev pub drawing : Result Segment SegmentError → World → Answer
 drawing (Err error) world = refused (segment_refusal error) world
-drawing (Ok s) world = insertion s world
+drawing (Ok s) world = edited (codes "ok " ++ decimal world.layer.next) (Insert world.layer.next s) world
 
 -- vertices, edges, faces, inner cycles, isolated vertices, and the curves that have a name
 abbrev pub counted : Subdivision → ℕ → List ℕ
@@ -118,16 +83,16 @@ counted s curves =
 
 -- what a line that says this is answered with ample memory
 abbrev pub answer_to : World → Result Command LineError → Answer
-answer_to world (Err error) = refused (refusal_number error) world
+answer_to world (Err error) = refused (line_number error) world
 answer_to world (Ok Nothing) = said [] world
 answer_to world (Ok (AddSegment x1 y1 x2 y2)) = drawing (segment_of x1 y1 x2 y2) world
-answer_to world (Ok (Drop c)) = dropping c world
-answer_to world (Ok (Cut p q)) = cutting (edge_between p q) world
-answer_to world (Ok (Pin p)) = pinning p world
-answer_to world (Ok (Unpin p)) = unpinning p world
-answer_to world (Ok (Split p q r)) = splitting (edge_between p q) r world
-answer_to world (Ok (Merge r)) = merging r world
-answer_to world (Ok Clear) = done (codes "ok") ClearAll world
+answer_to world (Ok (Drop c)) = edited (codes "ok") (DropCurve c) world
+answer_to world (Ok (Cut p q)) = edited (codes "ok") (cut_between p q) world
+answer_to world (Ok (Pin p)) = edited (codes "ok") (PinPoint p) world
+answer_to world (Ok (Unpin p)) = edited (codes "ok") (UnpinPoint p) world
+answer_to world (Ok (Split p q r)) = edited (codes "ok") (split_at p q r) world
+answer_to world (Ok (Merge r)) = edited (codes "ok") (MergeEdges r) world
+answer_to world (Ok Clear) = edited (codes "ok") ClearAll world
 answer_to world (Ok (Locate p)) = said (line_of (cell_text (holds (subdivision_of world) p))) world
 answer_to world (Ok (CurvesOf p q)) = curves_told (edge_between p q) world
 answer_to world (Ok (Curve c)) = curve_told c world
@@ -137,18 +102,18 @@ answer_to world (Ok Show) = said (present_text world.layer.present) world
 -- a segment may need memory where it isn't refused
 abbrev pub MayDraw : Result Segment SegmentError → World → Type 0
 MayDraw (Err error) world = ⊥
-MayDraw (Ok s) world = (room_for_a_curve world.layer ≡ true) × (world.layer.next ≤ LAST_CURVE)
+MayDraw (Ok s) world = refusal_of world (Insert world.layer.next s) ≡ None
 
 -- the line may need memory: it isn't refused, and what it says needs some
 abbrev pub MayTake : World → Result Command LineError → Type 0
 MayTake world (Err error) = ⊥
 MayTake world (Ok Nothing) = ⊥
 MayTake world (Ok (AddSegment x1 y1 x2 y2)) = MayDraw (segment_of x1 y1 x2 y2) world
-MayTake world (Ok (Drop c)) = is_named c world ≡ true
-MayTake world (Ok (Cut p q)) = (is_edge (edge_between p q) world ≡ true) × (cut_fits (edge_between p q) world ≡ true)
-MayTake world (Ok (Pin p)) = (is_pinned p world ≡ false) × (room_for_a_pin world ≡ true)
+MayTake world (Ok (Drop c)) = refusal_of world (DropCurve c) ≡ None
+MayTake world (Ok (Cut p q)) = refusal_of world (cut_between p q) ≡ None
+MayTake world (Ok (Pin p)) = refusal_of world (PinPoint p) ≡ None
 MayTake world (Ok (Unpin p)) = ⊥
-MayTake world (Ok (Split p q r)) = (is_edge (edge_between p q) world ≡ true) × (is_inside (edge_between p q) r world ≡ true) × (room_for_a_pin world ≡ true)
+MayTake world (Ok (Split p q r)) = refusal_of world (split_at p q r) ≡ None
 MayTake world (Ok (Merge r)) = ⊥
 MayTake world (Ok Clear) = ⊥
 MayTake world (Ok (Locate p)) = ⊤

@@ -2,8 +2,8 @@ pub mod Lines
 pub mod World
 pub mod Text
 pub mod Premises
-pub mod Answer
 pub mod Refusals
+pub mod Answer
 pub mod Run
 pub mod Status
 pub mod Engine

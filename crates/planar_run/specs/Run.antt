@@ -4,14 +4,14 @@ use Rattle.planar_run.specs.World.{World, first_world}
 use Rattle.planar_run.specs.Answer.{Replies}
 
 -- from this world on, these lines are answered by these bytes and leave that world
-abbrev pub Runs : World → List (List ℕ) → List ℕ → World → Type 0
-Runs world [] out end = (out ≡ []) × (end ≡ world)
-Runs world (line ∷ more) out end =
-    (text : List ℕ) × (rest : List ℕ) × (next : World) × Replies world line text next × (out ≡ text ++ rest) × Runs next more rest end
+abbrev pub AnswersLines : World → List (List ℕ) → List ℕ → World → Type 0
+AnswersLines world [] out end = (out ≡ []) × (end ≡ world)
+AnswersLines world (line ∷ more) out end =
+    (text : List ℕ) × (rest : List ℕ) × (next : World) × Replies world line text next × (out ≡ text ++ rest) × AnswersLines next more rest end
 
 -- the bytes are a run of these lines from the first world on
 abbrev pub IsRun : List (List ℕ) → List ℕ → Type 0
-IsRun lines out = (end : World) × Runs first_world lines out end
+IsRun lines out = (end : World) × AnswersLines first_world lines out end
 
 -- the bytes begin such a run
 abbrev pub BeginsRun : List (List ℕ) → List ℕ → Type 0

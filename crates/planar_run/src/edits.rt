@@ -1,7 +1,7 @@
 ghost use Rattle.std.specs.Prelude.{◌≡◌, ◌++◌, [], Ok, codes, decimal, OnOk, OnErr};
 ghost use Rattle.script_lines.specs.declared.command.Command.TheVariants.{Segment as AddSegment, Drop, Cut, Pin, Unpin, Split, Merge, Clear};
 ghost use Rattle.planar_run.specs.Text.{line_of};
-ghost use Rattle.planar_run.specs.Answer.{answer_to, insertion, MayDraw, MayTake};
+ghost use Rattle.planar_run.specs.Answer.{answer_to, drawing, MayDraw, MayTake};
 
 use crate::reply::Reply;
 use crate::world::World;
@@ -23,8 +23,8 @@ fn tell_curve(curve: CurveId, reply: &mut Reply)
 // Makes a segment a new curve where there is room for one more and a number left.
 fn insert(world: &mut World, segment: Segment, reply: &mut Reply) -> Result<(), NoMemory>
     requires { reply.old ≡ [] }
-    ensures text { OnOk result (reply.new ≡ (insertion segment world.old).text) }
-    ensures world { OnOk result (world.new ≡ (insertion segment world.old).world) }
+    ensures text { OnOk result (reply.new ≡ (drawing (Ok segment) world.old).text) }
+    ensures world { OnOk result (world.new ≡ (drawing (Ok segment) world.old).world) }
     ensures err { OnErr result (MayDraw (Ok segment) world.old × (world.new ≡ world.old)) }
 {
     match world.insert(segment) {

@@ -58,7 +58,7 @@ impl Reply {
         self.add_text(text);
     }
 
-    /// Puts a text behind what is there, within the room that was made at the start. It takes no memory.
+    /// Appends a text, within the room that was made at the start. It takes no memory.
     pub fn add_text(&mut self, text: &str)
         requires { length self.old + length text.now ≤ REPLY_ROOM }
         ensures { self.new ≡ self.old ++ text.now }
@@ -66,7 +66,7 @@ impl Reply {
         self.bytes.extend_from_slice(text.as_bytes()).unwrap();
     }
 
-    /// Puts a number in decimal, of at most 10 digits, behind what is there, within that room. It takes no memory.
+    /// Appends a number in decimal, of at most 10 digits, within that room. It takes no memory.
     pub fn add_number(&mut self, number: u32)
         requires { length self.old + 10 ≤ REPLY_ROOM }
         ensures put { self.new ≡ self.old ++ decimal number }
@@ -76,7 +76,7 @@ impl Reply {
         self.add_text(digits.format(number));
     }
 
-    /// Puts bytes behind what is there.
+    /// Appends bytes.
     pub fn put_bytes(&mut self, bytes: &[u8]) -> Result<(), NoMemory>
         ensures { OnOk result (self.new ≡ self.old ++ bytes.now) }
     {
@@ -84,14 +84,14 @@ impl Reply {
         Ok(())
     }
 
-    /// Puts a text behind what is there.
+    /// Appends a text.
     pub fn put_text(&mut self, text: &str) -> Result<(), NoMemory>
         ensures { OnOk result (self.new ≡ self.old ++ text.now) }
     {
         self.put_bytes(text.as_bytes())
     }
 
-    /// Puts a number in decimal behind what is there.
+    /// Appends a number in decimal.
     pub fn put_number<I: Integer>(&mut self, number: I) -> Result<(), NoMemory>
         ensures { OnOk result (self.new ≡ self.old ++ I.text number) }
     {

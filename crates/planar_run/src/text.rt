@@ -10,7 +10,7 @@ use itoa::Integer;
 use no_memory::NoMemory;
 use slab_laws::{Cell, CurveId};
 
-/// Puts the three numbers of a point behind what is there.
+/// Appends the three numbers of a point.
 pub fn put_point(reply: &mut Reply, point: &Point) -> Result<(), NoMemory>
     ensures { OnOk result (reply.new ≡ reply.old ++ point_text point.now) }
 {
@@ -21,7 +21,7 @@ pub fn put_point(reply: &mut Reply, point: &Point) -> Result<(), NoMemory>
     reply.put_number(point.w())
 }
 
-// Puts a text and a number behind what is there.
+// Appends a text and a number.
 fn put_labelled<I: Integer>(reply: &mut Reply, label: &str, number: I) -> Result<(), NoMemory>
     ensures { OnOk result (reply.new ≡ reply.old ++ (label.now ++ I.text number)) }
 {
@@ -29,7 +29,7 @@ fn put_labelled<I: Integer>(reply: &mut Reply, label: &str, number: I) -> Result
     reply.put_number(number)
 }
 
-// Puts a word and the two ends of an edge behind what is there.
+// Appends a word and the two ends of an edge.
 fn put_ends(reply: &mut Reply, word: &str, low: &Point, high: &Point) -> Result<(), NoMemory>
     ensures { OnOk result (reply.new ≡ reply.old ++ (word.now ++ (point_text low.now ++ 32 ∷ point_text high.now))) }
 {
@@ -39,7 +39,7 @@ fn put_ends(reply: &mut Reply, word: &str, low: &Point, high: &Point) -> Result<
     put_point(reply, high)
 }
 
-/// Puts what holds a point behind what is there.
+/// Appends what holds a point.
 pub fn put_cell(reply: &mut Reply, cell: Cell) -> Result<(), NoMemory>
     ensures { OnOk result (reply.new ≡ reply.old ++ cell_text cell) }
 {
@@ -53,14 +53,14 @@ pub fn put_cell(reply: &mut Reply, cell: Cell) -> Result<(), NoMemory>
     }
 }
 
-// Puts a space and a number behind what is there.
+// Appends a space and a number.
 fn put_spaced<I: Integer>(reply: &mut Reply, number: I) -> Result<(), NoMemory>
     ensures { OnOk result (reply.new ≡ reply.old ++ 32 ∷ I.text number) }
 {
     put_labelled(reply, " ", number)
 }
 
-/// Puts the line of counts behind what is there.
+/// Appends the line of counts.
 pub fn put_counts(reply: &mut Reply, counts: &Counts) -> Result<(), NoMemory>
     ensures { OnOk result (reply.new ≡ reply.old ++ line_of (codes "counts" ++ spaced (counts.now.vertices ∷ counts.now.edges ∷ counts.now.faces ∷ counts.now.inner ∷ counts.now.isolated ∷ counts.now.curves ∷ []))) }
 {
@@ -75,7 +75,7 @@ pub fn put_counts(reply: &mut Reply, counts: &Counts) -> Result<(), NoMemory>
     Ok(())
 }
 
-/// Puts the line of the curves along an edge behind what is there.
+/// Appends the line of the curves along an edge.
 pub fn put_curves(reply: &mut Reply, curves: &[CurveId]) -> Result<(), NoMemory>
     ensures { OnOk result (reply.new ≡ reply.old ++ line_of (codes "curves" ++ spaced (map (λ c. c.0) curves.now))) }
 {
@@ -86,7 +86,7 @@ pub fn put_curves(reply: &mut Reply, curves: &[CurveId]) -> Result<(), NoMemory>
     reply.put_text("\n")
 }
 
-// Puts the line of an edge behind what is there.
+// Appends the line of an edge.
 fn put_edge_line(reply: &mut Reply, ends: &(Point, Point)) -> Result<(), NoMemory>
     ensures { OnOk result (reply.new ≡ reply.old ++ edge_line (edge_of ends.now)) }
 {
@@ -95,7 +95,7 @@ fn put_edge_line(reply: &mut Reply, ends: &(Point, Point)) -> Result<(), NoMemor
     reply.put_text("\n")
 }
 
-// Puts a line for each of the edges behind what is there.
+// Appends a line for each of the edges.
 fn put_edge_lines(reply: &mut Reply, edges: &[(Point, Point)]) -> Result<(), NoMemory>
     ensures { OnOk result (reply.new ≡ reply.old ++ flat_map edge_line (map edge_of edges.now)) }
 {
@@ -105,7 +105,7 @@ fn put_edge_lines(reply: &mut Reply, edges: &[(Point, Point)]) -> Result<(), NoM
     Ok(())
 }
 
-/// Puts the text of a curve behind what is there: its number, then its edges, each by its lower and its upper end.
+/// Appends the text of a curve: its number, then its edges, each by its lower and its upper end.
 pub fn put_curve(reply: &mut Reply, curve: u32, edges: &[(Point, Point)]) -> Result<(), NoMemory>
     ensures { OnOk result (reply.new ≡ reply.old ++ curve_text curve (map edge_of edges.now)) }
 {

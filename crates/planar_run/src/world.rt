@@ -1,15 +1,16 @@
-ghost use Rattle.std.specs.Prelude.{◌≡◌, ◌∷◌, [], true, false, length, map, Ok, IfOk, IfErr, OnOk, OnErr};
+ghost use Rattle.std.specs.Prelude.{◌≡◌, ◌∷◌, [], true, length, map, IfOk, IfErr, OnOk, OnErr};
 ghost use Rattle.plane_graphs.specs.Graph.{curves};
-ghost use Rattle.arrangement.specs.Answers.{edge_of};
-ghost use Rattle.edit_steps.specs.Edits.{Insert, Drop, Cut, Pin, Unpin, Split, Merge, ClearAll};
+ghost use Rattle.arrangement.specs.Answers.{insert_said, drop_said, cut_said, pin_said, unpin_said, split_said, merge_said, edge_of, cut_between, split_at};
+ghost use Rattle.edit_steps.specs.Edits.{Insert, Drop, Pin, Unpin, Merge, ClearAll};
 ghost use Rattle.edit_steps.specs.Layer.{layer_after};
+ghost use Rattle.edit_steps.specs.Refusals.{IsAnswerFor};
 ghost use Rattle.slab_laws.specs.Sound.{edge_between};
 ghost use Rattle.slab_laws.specs.Subdivision.{holds};
 ghost use Rattle.slab_laws.specs.Text.{present_text};
 ghost use Rattle.planar_run.specs.World.{first_world};
-ghost use Rattle.planar_run.specs.Premises.{graph_of, is_named, is_pinned, room_for_a_pin, is_edge, is_inside, is_vertex, only_its_pin, cut_fits};
-ghost use Rattle.planar_run.specs.Answer.{counted, edges_along, subdivision_of, MayDraw};
-ghost use Rattle.planar_run.specs.Refusals.{BarsCurve, BarsDrop, BarsCut, BarsPin, BarsSplit, BarsMerge, BarsEdge, BarsEdges};
+ghost use Rattle.planar_run.specs.Premises.{graph_of, is_named, is_edge};
+ghost use Rattle.planar_run.specs.Answer.{counted, edges_along, subdivision_of};
+ghost use Rattle.planar_run.specs.Refusals.{refusal_of, BarsEdge, BarsEdges};
 
 use arrangement::{
     Arrangement, Counts, CutError, DropError, EdgeError, HistoryError, InsertError, Limits,
@@ -53,9 +54,8 @@ impl World {
     /// Makes a segment a new curve, under the next number, which is answered.
     pub fn insert(&mut self, segment: Segment) -> Result<CurveId, InsertError>
         ensures number { IfOk result (λ c. c.0 ≡ self.old.layer.next) }
-        ensures edit { IfOk result (λ c. self.new.layer ≡ layer_after (Insert c.0 segment) self.old.layer) }
-        ensures allowed { OnOk result (MayDraw (Ok segment) self.old) }
-        ensures barred { IfErr result (λ e. BarsCurve e self.old.layer) }
+        ensures edit { OnOk result (self.new.layer ≡ layer_after (Insert self.old.layer.next segment) self.old.layer) }
+        ensures refused { IsAnswerFor insert_said (refusal_of self.old (Insert self.old.layer.next segment)) result }
         ensures err { OnErr result (self.new ≡ self.old) }
     {
         self.arrangement.insert(segment)
@@ -64,8 +64,7 @@ impl World {
     /// Takes a curve away.
     pub fn remove_curve(&mut self, curve: CurveId) -> Result<(), DropError>
         ensures edit { OnOk result (self.new.layer ≡ layer_after (Drop curve.0) self.old.layer) }
-        ensures allowed { OnOk result (is_named curve.0 self.old ≡ true) }
-        ensures barred { IfErr result (λ e. BarsDrop e curve.0 self.old) }
+        ensures refused { IsAnswerFor drop_said (refusal_of self.old (Drop curve.0)) result }
         ensures err { OnErr result (self.new ≡ self.old) }
     {
         self.arrangement.remove_curve(curve)
@@ -73,9 +72,8 @@ impl World {
 
     /// Takes the edge between two points, which come in either order, from all its curves.
     pub fn remove_edge(&mut self, p: &Point, q: &Point) -> Result<(), CutError>
-        ensures edit { OnOk result (self.new.layer ≡ layer_after (Cut (edge_between p.now q.now).low (edge_between p.now q.now).high) self.old.layer) }
-        ensures allowed { OnOk result ((is_edge (edge_between p.now q.now) self.old ≡ true) × (cut_fits (edge_between p.now q.now) self.old ≡ true)) }
-        ensures barred { IfErr result (λ e. BarsCut e (edge_between p.now q.now) self.old) }
+        ensures edit { OnOk result (self.new.layer ≡ layer_after (cut_between p.now q.now) self.old.layer) }
+        ensures refused { IsAnswerFor cut_said (refusal_of self.old (cut_between p.now q.now)) result }
         ensures err { OnErr result (self.new ≡ self.old) }
     {
         self.arrangement.remove_edge(p, q)
@@ -84,8 +82,7 @@ impl World {
     /// Pins a point.
     pub fn pin(&mut self, point: &Point) -> Result<(), PinError>
         ensures edit { OnOk result (self.new.layer ≡ layer_after (Pin point.now) self.old.layer) }
-        ensures allowed { OnOk result ((is_pinned point.now self.old ≡ false) × (room_for_a_pin self.old ≡ true)) }
-        ensures barred { IfErr result (λ e. BarsPin e point.now self.old) }
+        ensures refused { IsAnswerFor pin_said (refusal_of self.old (Pin point.now)) result }
         ensures err { OnErr result (self.new ≡ self.old) }
     {
         self.arrangement.pin(point)
@@ -94,8 +91,7 @@ impl World {
     /// Unpins a point.
     pub fn unpin(&mut self, point: &Point) -> Result<(), NotPinned>
         ensures edit { OnOk result (self.new.layer ≡ layer_after (Unpin point.now) self.old.layer) }
-        ensures done { OnOk result (is_pinned point.now self.old ≡ true) }
-        ensures refused { OnErr result (is_pinned point.now self.old ≡ false) }
+        ensures refused { IsAnswerFor unpin_said (refusal_of self.old (Unpin point.now)) result }
         ensures err { OnErr result (self.new ≡ self.old) }
     {
         self.arrangement.unpin(point)
@@ -103,9 +99,8 @@ impl World {
 
     /// Pins a point inside the edge between two others, which come in either order.
     pub fn split_edge(&mut self, p: &Point, q: &Point, r: &Point) -> Result<(), SplitError>
-        ensures edit { OnOk result (self.new.layer ≡ layer_after (Split (edge_between p.now q.now).low (edge_between p.now q.now).high r.now) self.old.layer) }
-        ensures allowed { OnOk result ((is_edge (edge_between p.now q.now) self.old ≡ true) × (is_inside (edge_between p.now q.now) r.now self.old ≡ true) × (room_for_a_pin self.old ≡ true)) }
-        ensures barred { IfErr result (λ e. BarsSplit e (edge_between p.now q.now) r.now self.old) }
+        ensures edit { OnOk result (self.new.layer ≡ layer_after (split_at p.now q.now r.now) self.old.layer) }
+        ensures refused { IsAnswerFor split_said (refusal_of self.old (split_at p.now q.now r.now)) result }
         ensures err { OnErr result (self.new ≡ self.old) }
     {
         self.arrangement.split_edge(p, q, r)
@@ -114,8 +109,7 @@ impl World {
     /// Unpins a point that its pin alone makes a vertex, where two edges meet.
     pub fn merge_edge(&mut self, r: &Point) -> Result<(), MergeError>
         ensures edit { OnOk result (self.new.layer ≡ layer_after (Merge r.now) self.old.layer) }
-        ensures allowed { OnOk result ((is_vertex r.now self.old ≡ true) × (only_its_pin r.now self.old ≡ true)) }
-        ensures barred { IfErr result (λ e. BarsMerge e r.now self.old) }
+        ensures refused { IsAnswerFor merge_said (refusal_of self.old (Merge r.now)) result }
         ensures err { OnErr result (self.new ≡ self.old) }
     {
         self.arrangement.merge_edge(r)

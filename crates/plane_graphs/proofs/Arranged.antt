@@ -1,5 +1,5 @@
 -- A list that is sorted, and then has each element once.
-use Rattle.std.proofs.Common.{◌≡◌, List, [], ◌∷◌, map, Bool, true, Any, sym, ap, ◌∙◌, subst, Ordering, Less, Equal, Greater, is_eq, refl}
+use Rattle.std.proofs.Common.{◌≡◌, List, [], ◌∷◌, map, Bool, true, Any, sym, ap, ◌∙◌, subst, Ordering, Less, Equal, refl}
 use Rattle.std.specs.Cmp.{IsTotalOrder, on_total}
 use Rattle.std.specs.List.{dedup, AllByRecursion}
 use Rattle.std.specs.List.Retain.{IsFiltered, DiffersFromLast}
@@ -12,17 +12,10 @@ use Rattle.std.proofs.lemmas.List.Sorted.{Contains-permutation, IsPermutation-sy
 use Rattle.plane_graphs.specs.Ascending.{ascending, Member, IsAscending}
 use Rattle.plane_graphs.proofs.Ascending.{ascending_is, from_std, to_member, from_member}
 use Rattle.plane_graphs.proofs.Lists.{in_map, of_map}
-
-is_equal : (t : Ordering) → is_eq t ≡ true → t ≡ Equal
-is_equal Less e = cc
-is_equal Equal e = refl
-is_equal Greater e = cc
+use Rattle.integers.proofs.Tests.{is_equal}
 
 -- by the order of what f makes of the elements
 module _ {X Y : Type 0} (f : X → Y) (R : Y → Y → Ordering) (o : IsTotalOrder R) (exact : (x y : Y) → R x y ≡ Equal → x ≡ y) where
-  abbrev by_f : X → X → Ordering
-  by_f x y = R (f x) (f y)
-
   All-map : (P : Y → Type 0) (xs : List X) → AllByRecursion (λ x. P (f x)) xs → AllByRecursion P (map f xs)
   All-map P [] a = tt
   All-map P (x ∷ xs) a = (a.0, All-map P xs a.1)

@@ -2,11 +2,12 @@
 use Rattle.std.proofs.Common.{◌≡◌, List, [], ◌∷◌, Bool, true, false, ◌&&◌, refl, sym, ap, ◌∙◌, subst, inl, inr, ◌⊎◌, ⊎_elim}
 use Rattle.exact_plane.specs.Point.{Point}
 use Rattle.exact_plane.specs.PointOrder.{point_cmp}
+use Rattle.exact_plane.specs.PointOrderLaws.{and_true}
 use Rattle.plane_graphs.specs.Line.{precedes, IsProper}
 use Rattle.plane_graphs.specs.Piece.{Piece, along, on}
 use Rattle.plane_graphs.specs.Graph.{Mark, inside, collinear}
 use Rattle.plane_graphs.specs.Ascending.{Member, IsAscending}
-use Rattle.plane_graphs.proofs.Lists.{both, and_in, clash, decide}
+use Rattle.plane_graphs.proofs.Lists.{and_in, clash, decide}
 use Rattle.plane_graphs.proofs.Order.{Lt, lt_out, lt_in, lt_trans, Tri, tri}
 use Rattle.plane_graphs.proofs.Order.Tri.{less, same, more}
 use Rattle.plane_graphs.proofs.Marks.{Le, le_same, le_lt, le_trans, le_cases, On, on_out, on_in, on_between, Next, IsMark}
@@ -93,8 +94,8 @@ first_passing f (v ∷ vs) g = first_step f v vs (decide (f v)) (first_passing f
 pub inside_out : (t : Point) (m : Mark) → inside t m ≡ true → Lt m.low t × Lt t m.high × (collinear m.low m.high t ≡ true)
 unfolding inside
 inside_out t m h =
-    let a = both (precedes m.low t && precedes t m.high) (collinear m.low m.high t) h in
-    let b = both (precedes m.low t) (precedes t m.high) a.0 in
+    let a = and_true (precedes m.low t && precedes t m.high) (collinear m.low m.high t) h in
+    let b = and_true (precedes m.low t) (precedes t m.high) a.0 in
     (lt_out m.low t b.0, lt_out t m.high b.1, a.1)
 
 pub inside_in : (t : Point) (m : Mark) → Lt m.low t → Lt t m.high → collinear m.low m.high t ≡ true → inside t m ≡ true
@@ -123,8 +124,8 @@ module _ (vs : List Point) (ks : List Piece) (cl : IsClosed vs ks) where
       let b = first_passing (λ v. precedes r v && on k v) vs (k.to, cl.to_in k here, and_in (lt_in not_to) on_to) in
       let p = a.0 in
       let q = b.0 in
-      let at_p = both (precedes p r) (on k p) a.1.passes in
-      let at_q = both (precedes r q) (on k q) b.1.passes in
+      let at_p = and_true (precedes p r) (on k p) a.1.passes in
+      let at_q = and_true (precedes r q) (on k q) b.1.passes in
       let p_on = on_out k p at_p.1 in
       let q_on = on_out k q at_q.1 in
       let pr' = lt_out p r at_p.0 in

@@ -1,26 +1,25 @@
--- Two edges that cross by signs would share a point inside both.
-use Rattle.std.proofs.Common.{◌≡◌, [], ◌∷◌, ℤ, pos, ◌+ℤ◌, ◌-ℤ◌, ◌*ℤ◌, ◌<ℤ◌, neg_ℤ, true, is_lt, ◌&&◌, refl, ap, ap₂, sym, ◌∙◌, subst, arith, inl, inr, ⊎_elim, Ordering, Less, Equal, Greater, int_cmp}
+-- Two edges that cross by signs would share a point inside and_true.
+use Rattle.std.proofs.Common.{◌≡◌, [], ◌∷◌, ℤ, pos, ◌+ℤ◌, ◌-ℤ◌, ◌*ℤ◌, ◌<ℤ◌, neg_ℤ, true, ◌&&◌, ap, ap₂, sym, ◌∙◌, subst, arith, inl, inr, ⊎_elim, Ordering, Less, Equal, int_cmp}
 use Rattle.std.proofs.lemmas.Int.{ints}
 use Rattle.integers.proofs.Reify.{ring, sides}
 use Rattle.integers.proofs.Signs.{cancel_pos, cancel_zero, mul_pos, sum_pos}
 use Rattle.integers.proofs.Compare.{less_out, less_in, equal_in}
-use Rattle.exact_plane.specs.Point.{reduced}
-use Rattle.plane_graphs.proofs.Lines.{by_x-is, by_y-is, reduced_is}
+use Rattle.integers.proofs.Tests.{is_less, not_true}
+use Rattle.exact_plane.specs.Point.{reduced, Point}
+use Rattle.plane_graphs.proofs.Lines.{by_x-is, by_y-is, reduced_is, span_a, span_b, span_runs, IsReduced, collinear_in}
 use Rattle.plane_graphs.proofs.Crossings.{minus_times}
 use Rattle.std.specs.Ordering.{ordering_then}
-use Rattle.exact_plane.specs.Point.{Point}
 use Rattle.exact_plane.specs.PointOrder.{point_cmp, by_x, by_y}
 use Rattle.plane_graphs.specs.Graph.{Graph, Mark, det, collinear, on_edge, is_negative, is_positive, crosses}
 use Rattle.plane_graphs.specs.Line.{IsProper}
 use Rattle.plane_graphs.specs.Plane.{IsPlane}
-use Rattle.plane_graphs.specs.Laws.{NoneCross}
+use Rattle.plane_graphs.specs.GraphLaws.{NoneCross}
 use Rattle.plane_graphs.specs.Ascending.{Member}
-use Rattle.exact_plane.specs.Plane.{side}
-use Rattle.exact_plane.specs.Plane.{Runs}
-use Rattle.plane_graphs.proofs.Lists.{both, and_in, not_true}
+use Rattle.exact_plane.specs.Plane.{side, RunsForward}
+use Rattle.exact_plane.specs.PointOrderLaws.{and_true}
+use Rattle.plane_graphs.proofs.Lists.{and_in}
 use Rattle.plane_graphs.proofs.Order.{Lt, lt_out, lt_never}
 use Rattle.plane_graphs.proofs.Marks.{le_lt, le_in}
-use Rattle.plane_graphs.proofs.Lines.{span_a, span_b, span_runs, IsReduced, collinear_in}
 
 -- ---- the order by the numbers of the line
 less_by : (s t u : Ordering) → s ≡ Less → ordering_then s (ordering_then t u) ≡ Less
@@ -29,7 +28,7 @@ less_by s t u e = ap (λ o. ordering_then o (ordering_then t u)) e
 less_then : (s t u : Ordering) → s ≡ Equal → t ≡ Less → ordering_then s (ordering_then t u) ≡ Less
 less_then s t u e f = ap₂ (λ o r. ordering_then o (ordering_then r u)) e f
 
-by_runs : (p q : Point) → IsProper p → IsProper q → Runs (span_a p q) (span_b p q) → point_cmp p q ≡ Less
+by_runs : (p q : Point) → IsProper p → IsProper q → RunsForward (span_a p q) (span_b p q) → point_cmp p q ≡ Less
 by_runs p q pp pq (inl h) =
     let l : (p.x *ℤ q.w) <ℤ (q.x *ℤ p.w) = omega (arith, ints) in
     less_by (by_x p q) (by_y p q) (int_cmp p.w q.w) (by_x-is p q pp pq ∙ less_in (p.x *ℤ q.w) (q.x *ℤ p.w) l)
@@ -38,7 +37,7 @@ by_runs p q pp pq (inr h) =
     let l : (p.y *ℤ q.w) <ℤ (q.y *ℤ p.w) = (let f : span_a p q <ℤ pos 0 = h.1 in omega (arith, ints)) in
     less_then (by_x p q) (by_y p q) (int_cmp p.w q.w) (by_x-is p q pp pq ∙ equal_in (p.x *ℤ q.w) (q.x *ℤ p.w) e) (by_y-is p q pp pq ∙ less_in (p.y *ℤ q.w) (q.y *ℤ p.w) l)
 
-pub runs_lt : (p q : Point) → IsProper p → IsProper q → Runs (span_a p q) (span_b p q) → Lt p q
+pub runs_lt : (p q : Point) → IsProper p → IsProper q → RunsForward (span_a p q) (span_b p q) → Lt p q
 runs_lt p q pp pq r = record { is = by_runs p q pp pq r }
 
 -- ---- a mean of two points
@@ -63,7 +62,7 @@ module _ (x1 y1 w1 x2 y2 w2 x y w g s t : ℤ) (hs : pos 0 <ℤ s) (ht : pos 0 <
 no_times : (t : ℤ) → pos 0 *ℤ t ≡ pos 0
 no_times t = ring (t ∷ []) (search sides depth 40 fits 20000) tt
 
-runs_by : (a b A B g t : ℤ) → pos 0 <ℤ g → pos 0 <ℤ t → a *ℤ g ≡ A *ℤ t → b *ℤ g ≡ B *ℤ t → Runs A B → Runs a b
+runs_by : (a b A B g t : ℤ) → pos 0 <ℤ g → pos 0 <ℤ t → a *ℤ g ≡ A *ℤ t → b *ℤ g ≡ B *ℤ t → RunsForward A B → RunsForward a b
 runs_by a b A B g t hg ht ea eb (inl k) = inl (cancel_pos hg (subst (λ z. pos 0 <ℤ z) (sym eb) (mul_pos k ht)))
 runs_by a b A B g t hg ht ea eb (inr k) =
     let n : A <ℤ pos 0 = k.1 in
@@ -97,11 +96,6 @@ module _ (x1 y1 w1 x2 y2 w2 x3 y3 w3 x4 y4 w4 : ℤ) where
   common_w : neg_ℤ (volume x3 y3 w3 x4 y4 w4 x2 y2 w2) *ℤ w1 +ℤ volume x3 y3 w3 x4 y4 w4 x1 y1 w1 *ℤ w2 ≡ volume x1 y1 w1 x2 y2 w2 x4 y4 w4 *ℤ w3 +ℤ neg_ℤ (volume x1 y1 w1 x2 y2 w2 x3 y3 w3) *ℤ w4
   common_w = ring (x1 ∷ y1 ∷ w1 ∷ x2 ∷ y2 ∷ w2 ∷ x3 ∷ y3 ∷ w3 ∷ x4 ∷ y4 ∷ w4 ∷ []) (search sides depth 40 fits 20000) tt
 
-is_less : (t : Ordering) → is_lt t ≡ true → t ≡ Less
-is_less Less e = refl
-is_less Equal e = cc
-is_less Greater e = cc
-
 positive_out : (z : ℤ) → is_positive z ≡ true → pos 0 <ℤ z
 positive_out z h = less_out (pos 0) z (is_less (int_cmp (pos 0) z) h)
 
@@ -130,9 +124,9 @@ module _ (g : Graph) (pl : IsPlane g) (m n : Mark) (hm : Member m g.marks) (hn :
       let gq = pl.proper q (pl.high_in m hm) in
       let gr = pl.proper r (pl.low_in n hn) in
       let gs = pl.proper s (pl.high_in n hn) in
-      let a = both (is_positive (det r s p) && is_negative (det r s q)) (is_negative (det p q r) && is_positive (det p q s)) h in
-      let b = both (is_positive (det r s p)) (is_negative (det r s q)) a.0 in
-      let c = both (is_negative (det p q r)) (is_positive (det p q s)) a.1 in
+      let a = and_true (is_positive (det r s p) && is_negative (det r s q)) (is_negative (det p q r) && is_positive (det p q s)) h in
+      let b = and_true (is_positive (det r s p)) (is_negative (det r s q)) a.0 in
+      let c = and_true (is_negative (det p q r)) (is_positive (det p q s)) a.1 in
       let rsp : pos 0 <ℤ det n.low n.high m.low = positive_out (det r s p) b.0 in
       let rsq : pos 0 <ℤ neg_ℤ (det n.low n.high m.high) = negative_out (det r s q) b.1 in
       let pqr : pos 0 <ℤ neg_ℤ (det m.low m.high n.low) = negative_out (det p q r) c.0 in

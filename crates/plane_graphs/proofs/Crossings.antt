@@ -3,7 +3,7 @@ use Rattle.std.proofs.Common.{◌≡◌, [], ◌∷◌, ℤ, pos, ◌+ℤ◌, �
 use Rattle.std.proofs.lemmas.Int.{ints}
 use Rattle.integers.proofs.Reify.{ring, sides}
 use Rattle.integers.proofs.Signs.{cancel_zero}
-use Rattle.exact_plane.specs.Plane.{side, Runs}
+use Rattle.exact_plane.specs.Plane.{side, RunsForward}
 
 -- ---- what vanishes on one line vanishes on another with the same numbers up to a factor
 module _ (a1 b1 c1 a2 b2 c2 X Y W : ℤ) (ew : a1 *ℤ b2 -ℤ a2 *ℤ b1 ≡ pos 0) (ex : b1 *ℤ c2 -ℤ b2 *ℤ c1 ≡ pos 0) (ey : c1 *ℤ a2 -ℤ c2 *ℤ a1 ≡ pos 0) (s : side a1 b1 c1 X Y W ≡ pos 0) where
@@ -19,7 +19,7 @@ module _ (a1 b1 c1 a2 b2 c2 X Y W : ℤ) (ew : a1 *ℤ b2 -ℤ a2 *ℤ b1 ≡ po
       ∙ (λ i. W *ℤ ey i -ℤ Y *ℤ ew i -ℤ a2 *ℤ s i)
       ∙ ring (a2 ∷ Y ∷ W ∷ []) (search sides depth 40 fits 20000) tt
 
-  pub zero_too : Runs a1 b1 → side a2 b2 c2 X Y W ≡ pos 0
+  pub zero_too : RunsForward a1 b1 → side a2 b2 c2 X Y W ≡ pos 0
   zero_too (inl h) = cancel_zero h by_b
   zero_too (inr h) = cancel_zero {k = neg_ℤ a1} (let n : a1 <ℤ pos 0 = h.1 in omega (arith, ints)) by_a
 

@@ -1,27 +1,26 @@
 -- The curves of an edge, and the edges of a piece.
-use Rattle.std.proofs.Common.{◌≡◌, ℕ, List, [], ◌∷◌, true, ◌&&◌, refl, sym, ap, ◌∙◌, subst, inl, inr, ⊎_elim, nat_cmp, Less, Equal, is_eq}
-use Rattle.std.specs.List.{AllByRecursion}
+use Rattle.std.proofs.Common.{◌≡◌, ℕ, List, [], ◌∷◌, true, ◌&&◌, refl, sym, ap, ◌∙◌, subst, inl, inr, ⊎_elim, nat_cmp, Less}
+use Rattle.std.specs.List.{filter}
 use Rattle.std.proofs.lemmas.Cmp.{nat_cmp_total}
 use Rattle.std.specs.Ordering.{ordering_then}
-use Rattle.std.specs.List.{filter}
 use Rattle.std.specs.Prelude.{map}
 use Rattle.exact_plane.specs.Point.{Point}
 use Rattle.exact_plane.specs.PointOrder.{point_cmp}
+use Rattle.exact_plane.specs.PointOrderLaws.{and_true}
 use Rattle.plane_graphs.specs.Line.{same_point, IsProper}
 use Rattle.plane_graphs.specs.Ascending.{ascending, Member, IsAscending}
 use Rattle.plane_graphs.specs.Piece.{Piece, along, on}
 use Rattle.plane_graphs.specs.Graph.{Mark, mark_cmp, graph, is_at, marks, vertices, curves, chain, chain_from, mark}
-use Rattle.plane_graphs.specs.Laws.{CurvesOfEdge, EdgesOfPiece}
+use Rattle.plane_graphs.specs.GraphLaws.{CurvesOfEdge, EdgesOfPiece}
 use Rattle.plane_graphs.proofs.Ascending.{ascending_unique, IsAscending-ascending, All-member}
-use Rattle.plane_graphs.proofs.Lists.{in_map, of_map, both, and_in, of_ascending, in_ascending, any_out, in_filter, of_filter, IsAscending-filter}
-use Rattle.plane_graphs.proofs.Order.{Lt, lt_never, lt_both, same_out, curve_out, mark_cmp_total}
+use Rattle.plane_graphs.proofs.Lists.{in_map, of_map, and_in, of_ascending, in_ascending, any_out, in_filter, of_filter, IsAscending-filter}
+use Rattle.plane_graphs.proofs.Order.{Lt, lt_never, lt_both, same_out, mark_cmp_total}
 use Rattle.plane_graphs.proofs.Marks.{le_lt, on_between, On, on_out, on_in, Next, IsMark, mark_path, mark_out, mark_in, marks_ascend}
 use Rattle.plane_graphs.proofs.Closed.{IsClosed, mark_line}
 use Rattle.plane_graphs.proofs.Vertices.{vertices_closed, vertices_ascend}
 use Rattle.plane_graphs.proofs.Lines.{geometry}
-
-nat_exact : (m n : ℕ) → nat_cmp m n ≡ Equal → m ≡ n
-nat_exact m n e = curve_out m n (ap is_eq e)
+use Rattle.plane_graphs.proofs.Sorting.{all_members}
+use Rattle.integers.proofs.Tests.{nat_exact}
 
 same_list : (ms ns : List ℕ) → ((c : ℕ) → Member c ms → Member c ns) → ((c : ℕ) → Member c ns → Member c ms) → ascending nat_cmp ms ≡ ascending nat_cmp ns
 same_list ms ns f g =
@@ -44,7 +43,7 @@ curves_of_edge p a b fit e =
     let ks = p.pieces in
     let cl = vertices_closed geometry p fit in
     let w = any_out (is_at a b) (marks vs ks) e in
-    let v = both (same_point w.0.low a) (same_point w.0.high b) w.2 in
+    let v = and_true (same_point w.0.low a) (same_point w.0.high b) w.2 in
     let ea = same_out w.0.low a v.0 in
     let eb = same_out w.0.high b v.1 in
     same_list (map (λ m. m.curve) (filter (is_at a b) (marks vs ks))) (map (λ k. k.curve) (filter (λ k. on k a && on k b) ks))
@@ -52,7 +51,7 @@ curves_of_edge p a b fit e =
     let i = of_map (λ (m : Mark). m.curve) c (filter (is_at a b) (marks vs ks)) h in
     let m = i.0 in
     let j = of_filter (is_at a b) m (marks vs ks) i.1 in
-    let u = both (same_point m.low a) (same_point m.high b) j.1 in
+    let u = and_true (same_point m.low a) (same_point m.high b) j.1 in
     let o = mark_out vs ks m j.0 in
     subst (λ z. Member z (map (λ k. k.curve) (filter (λ k. on k a && on k b) ks))) (sym (i.2 ∙ o.curve))
     (in_map (λ (k : Piece). k.curve) o.piece (filter (λ k. on k a && on k b) ks) (in_filter (λ k. on k a && on k b) o.piece ks o.here (and_in (subst (λ z. on o.piece z ≡ true) (same_out m.low a u.0) (on_in o.piece m.low o.next.at_p)) (subst (λ z. on o.piece z ≡ true) (same_out m.high b u.1) (on_in o.piece m.high o.next.at_q))))))
@@ -60,7 +59,7 @@ curves_of_edge p a b fit e =
     let i = of_map (λ (k : Piece). k.curve) c (filter (λ k. on k a && on k b) ks) h in
     let k = i.0 in
     let j = of_filter (λ k. on k a && on k b) k ks i.1 in
-    let u = both (on k a) (on k b) j.1 in
+    let u = and_true (on k a) (on k b) j.1 in
     let n : Mark = mark w.0.low w.0.high k.curve in
     let made = mark_of_piece vs ks cl w.0 (mark_out vs ks w.0 w.1) k j.0 (subst (On k) (sym ea) (on_out k a u.0)) (subst (On k) (sym eb) (on_out k b u.1)) in
     subst (λ z. Member z (map (λ m. m.curve) (filter (is_at a b) (marks vs ks)))) (sym i.2)
@@ -130,10 +129,6 @@ unfolding chain
 chain_in c [] a m s e = absurd s.low_in
 chain_in c (p ∷ ps) a m s e = step_in c p ps a m s e
 
-all_from : {X : Type 0} (P : X → Type 0) (xs : List X) → ((x : X) → Member x xs → P x) → AllByRecursion P xs
-all_from P [] f = tt
-all_from P (x ∷ xs) f = (f x (inl refl), all_from P xs (λ y m. f y (inr m)))
-
 lower_first : (m n : Mark) → Lt m.low n.low → mark_cmp m n ≡ Less
 unfolding mark_cmp
 lower_first m n l = ap (λ o. ordering_then o (ordering_then (point_cmp m.high n.high) (nat_cmp m.curve n.curve))) l.is
@@ -141,7 +136,7 @@ lower_first m n l = ap (λ o. ordering_then o (ordering_then (point_cmp m.high n
 chain_ascends_from : (c : ℕ) (p : Point) (ps : List Point) → IsAscending point_cmp (p ∷ ps) → IsAscending mark_cmp (chain_from c p ps)
 unfolding chain_from
 chain_ascends_from c p [] a = tt
-chain_ascends_from c p (q ∷ ps) a = (all_from (λ m. mark_cmp (mark p q c) m ≡ Less) (chain_from c q ps) (λ m h. lower_first (mark p q c) m (above p m.low (q ∷ ps) a (step_out c q ps a.1 m h).0.low_in)), chain_ascends_from c q ps a.1)
+chain_ascends_from c p (q ∷ ps) a = (all_members (λ m. mark_cmp (mark p q c) m ≡ Less) (chain_from c q ps) (λ m h. lower_first (mark p q c) m (above p m.low (q ∷ ps) a (step_out c q ps a.1 m h).0.low_in)), chain_ascends_from c q ps a.1)
 
 chain_ascends : (c : ℕ) (ps : List Point) → IsAscending point_cmp ps → IsAscending mark_cmp (chain c ps)
 unfolding chain
@@ -149,9 +144,6 @@ chain_ascends c [] a = tt
 chain_ascends c (p ∷ ps) a = chain_ascends_from c p ps a
 
 module _ (vs : List Point) (asc : IsAscending point_cmp vs) (k : Piece) where
-  on_k : List Point
-  on_k = filter (on k) vs
-
   pub chain_is : marks vs (k ∷ []) ≡ chain k.curve (filter (on k) vs)
   chain_is =
       let ps : List Point = filter (on k) vs in

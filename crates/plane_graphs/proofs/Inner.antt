@@ -4,12 +4,12 @@ use Rattle.exact_plane.specs.Point.{Point}
 use Rattle.exact_plane.specs.PointOrder.{point_cmp}
 use Rattle.exact_plane.specs.PointOrderLaws.{point_cmp_total, same_point as point_cmp_exact}
 use Rattle.plane_graphs.specs.Line.{IsProper}
-use Rattle.plane_graphs.specs.Ascending.{ascending, place, Member}
+use Rattle.plane_graphs.specs.Ascending.{place, Member}
 use Rattle.plane_graphs.specs.Piece.{Piece, along}
 use Rattle.plane_graphs.specs.Graph.{Mark, mark_cmp, marks, inside, mark}
-use Rattle.plane_graphs.proofs.Ascending.{ascending_unique, IsAscending-ascending}
-use Rattle.plane_graphs.proofs.Lists.{of_place, in_place, of_ascending, in_ascending}
-use Rattle.plane_graphs.proofs.Order.{Lt, lt_trans, lt_never, mark_cmp_total, mark_cmp_exact}
+use Rattle.plane_graphs.proofs.Ascending.{ascending_unique}
+use Rattle.plane_graphs.proofs.Lists.{of_place, in_place}
+use Rattle.plane_graphs.proofs.Order.{Lt, lt_trans, lt_never, mark_cmp_total}
 use Rattle.plane_graphs.proofs.Marks.{Le, le_both, mark_path, le_lt, On, on_between, IsMark, mark_out, mark_in, marks_ascend}
 use Rattle.plane_graphs.proofs.Closed.{IsClosed, Between, SameLine, around, mark_line, inside_out, inside_in}
 
@@ -21,13 +21,6 @@ old_in vs r s m = in_place point_cmp point_cmp_total point_cmp_exact s r vs (inr
 
 pub new_in : (vs : List Point) (r : Point) → Member r (place point_cmp r vs)
 new_in vs r = in_place point_cmp point_cmp_total point_cmp_exact r r vs (inl refl)
-
--- two ascending lists of marks with the same elements
-pub marks_same : (ms ns : List Mark) → ((m : Mark) → Member m ms → Member m ns) → ((m : Mark) → Member m ns → Member m ms) → ascending mark_cmp ms ≡ ascending mark_cmp ns
-marks_same ms ns f g =
-    ascending_unique mark_cmp mark_cmp_total (ascending mark_cmp ms) (ascending mark_cmp ns) (IsAscending-ascending mark_cmp mark_cmp_total ms) (IsAscending-ascending mark_cmp mark_cmp_total ns)
-    (λ m h. in_ascending mark_cmp mark_cmp_total mark_cmp_exact m ns (f m (of_ascending mark_cmp mark_cmp_total mark_cmp_exact m ms h)))
-    (λ m h. in_ascending mark_cmp mark_cmp_total mark_cmp_exact m ms (g m (of_ascending mark_cmp mark_cmp_total mark_cmp_exact m ns h)))
 
 -- the mark has r strictly inside its edge
 pub record Inner (vs : List Point) (ks : List Piece) (r : Point) (m : Mark) : Type 0 where

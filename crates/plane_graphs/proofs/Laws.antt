@@ -1,6 +1,6 @@
 -- The graph of a fit present is plane.
 use Rattle.plane_graphs.specs.Graph.{graph, vertices}
-use Rattle.plane_graphs.specs.Laws.{GraphIsPlane}
+use Rattle.plane_graphs.specs.GraphLaws.{GraphIsPlane}
 use Rattle.plane_graphs.proofs.Vertices.{vertices_closed}
 use Rattle.plane_graphs.proofs.Plane.{plane_over}
 use Rattle.plane_graphs.proofs.Lines.{geometry}

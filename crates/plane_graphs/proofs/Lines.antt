@@ -10,6 +10,7 @@ use Rattle.integers.proofs.Bezout.{lowest_same}
 use Rattle.integers.proofs.Gcd.{common_divisor-first, common_divisor-second, common_divisor-third, common_divisor-positive}
 use Rattle.integers.proofs.Reduce.{divided, divided_pos, reduced_lowest}
 use Rattle.integers.proofs.Reify.{ring, sides}
+use Rattle.integers.proofs.Decisions.{eq_out}
 use Rattle.exact_plane.specs.Point.{Point, IsPoint, reduced}
 use Rattle.exact_plane.specs.PointOrder.{by_x, by_y}
 use Rattle.exact_plane.proofs.Places.{ratio_cmp-is}
@@ -22,8 +23,7 @@ use Rattle.plane_graphs.proofs.Order.{Lt, lt_never}
 use Rattle.plane_graphs.proofs.Lists.{both_ways, clash}
 use Rattle.plane_graphs.proofs.Closed.{IsStraight, SameLine}
 use Rattle.plane_graphs.proofs.Vertices.{Geometry, IsProperPiece}
-use Rattle.exact_plane.specs.Plane.{side}
-use Rattle.exact_plane.specs.Plane.{Runs}
+use Rattle.exact_plane.specs.Plane.{side, RunsForward, Before}
 use Rattle.exact_plane.proofs.Geometry.{cross_only}
 use Rattle.exact_plane.proofs.Crossings.{parallel_share, same_over, same_line}
 use Rattle.plane_graphs.proofs.Crossings.{zero_too, spans_w, spans_x, spans_y, turned, minus_times, scaled, first_end, last_end}
@@ -44,16 +44,9 @@ whole_is_proper p h = record {
 }
 
 -- ---- tests of zero
-int_eq_out : (a b : ℤ) → int_eq a b ≡ true → a ≡ b
-int_eq_out a b h = equal_out a b (by (int_cmp a b) h)
-  where
-    by : (t : Ordering) → is_eq t ≡ true → t ≡ Equal
-    by Less e = cc
-    by Equal e = refl
-    by Greater e = cc
 
 pub zero_out : (z : ℤ) → int_eq z (pos 0) ≡ true → z ≡ pos 0
-zero_out z h = int_eq_out z (pos 0) h
+zero_out z h = eq_out z (pos 0) h
 
 pub zero_in : (z : ℤ) → z ≡ pos 0 → int_eq z (pos 0) ≡ true
 zero_in z e = ap is_eq (equal_in z (pos 0) e)
@@ -85,7 +78,7 @@ by_y-is p q h k = sym (ratio_cmp-is p.y p.w q.y q.w h.positive k.positive)
 path_of : (p q : Point) → p.x ≡ q.x → p.y ≡ q.y → p.w ≡ q.w → p ≡ q
 path_of p q x y w = λ i. record { x = x i; y = y i; w = w i }
 
-pub span_runs : (p q : Point) → IsProper p → IsProper q → Lt p q → Runs (span_a p q) (span_b p q)
+pub span_runs : (p q : Point) → IsProper p → IsProper q → Lt p q → RunsForward (span_a p q) (span_b p q)
 span_runs p q pp pq h =
     let d = by_order (by_x p q) (by_y p q) (int_cmp p.w q.w) h.is in
     let fx = by_x-is p q pp pq in
@@ -104,7 +97,7 @@ span_runs p q pp pq h =
     d
 
 -- ---- the line of a segment runs
-runs_divided : (A B a b g : ℤ) → pos 0 <ℤ g → a *ℤ g ≡ A → b *ℤ g ≡ B → Runs A B → Runs a b
+runs_divided : (A B a b g : ℤ) → pos 0 <ℤ g → a *ℤ g ≡ A → b *ℤ g ≡ B → RunsForward A B → RunsForward a b
 runs_divided A B a b g h ea eb (inl k) = inl (cancel_pos h (subst (λ z. pos 0 <ℤ z) (sym eb) k))
 runs_divided A B a b g h ea eb (inr k) =
     let n : A <ℤ pos 0 = k.1 in
@@ -112,11 +105,11 @@ runs_divided A B a b g h ea eb (inr k) =
     let p : pos 0 <ℤ neg_ℤ a = cancel_pos {x = neg_ℤ a} h (subst (λ z. pos 0 <ℤ z) (sym (minus_times a g ∙ ap neg_ℤ ea)) m) in
     inr (cancel_zero h (eb ∙ k.0), omega (arith, ints))
 
-some_size : (A B C : ℤ) → Runs A B → 0 < unsigned_abs A + unsigned_abs B + unsigned_abs C
+some_size : (A B C : ℤ) → RunsForward A B → 0 < unsigned_abs A + unsigned_abs B + unsigned_abs C
 some_size A B C (inl h) = omega (arith, ints)
 some_size A B C (inr h) = let k : A <ℤ pos 0 = h.1 in omega (arith, ints)
 
-line_positive : (A B C : ℤ) → Runs A B → 0 < common_divisor A B C
+line_positive : (A B C : ℤ) → RunsForward A B → 0 < common_divisor A B C
 line_positive A B C h = common_divisor-positive A B C (some_size A B C h)
 
 above_zero : (n : ℕ) → 0 < n → pos 0 <ℤ pos n
@@ -130,7 +123,7 @@ record IsDivided (A B C : ℤ) (l : Line) : Type 0 where
   b_is : l.b *ℤ factor ≡ B
   c_is : l.c *ℤ factor ≡ C
 
-line_divided : (A B C : ℤ) → Runs A B → IsDivided A B C (reduced_line A B C)
+line_divided : (A B C : ℤ) → RunsForward A B → IsDivided A B C (reduced_line A B C)
 line_divided A B C h = record {
   factor = pos (common_divisor A B C);
   factor_pos = above_zero (common_divisor A B C) (line_positive A B C h);
@@ -139,10 +132,10 @@ line_divided A B C h = record {
   c_is = divided C (common_divisor A B C) (common_divisor-third A B C);
 }
 
-lowest_line : (A B C : ℤ) → Runs A B → IsLowest (reduced_line A B C).a (reduced_line A B C).b (reduced_line A B C).c
+lowest_line : (A B C : ℤ) → RunsForward A B → IsLowest (reduced_line A B C).a (reduced_line A B C).b (reduced_line A B C).c
 lowest_line A B C h = reduced_lowest A B C (line_positive A B C h)
 
-line_runs : (A B C : ℤ) (l : Line) → IsDivided A B C l → Runs A B → Runs l.a l.b
+line_runs : (A B C : ℤ) (l : Line) → IsDivided A B C l → RunsForward A B → RunsForward l.a l.b
 line_runs A B C l d h = runs_divided A B l.a l.b d.factor d.factor_pos d.a_is d.b_is h
 
 -- a segment with whole ends, the lesser first
@@ -156,13 +149,13 @@ module _ (s : Segment) (lower : IsWhole s.lower) (upper : IsWhole s.upper) (ahea
   b_is : s.upper.x -ℤ s.lower.x ≡ span_b s.lower s.upper
   b_is = times_one s.upper.x s.lower.x ∙ (λ i. s.upper.x *ℤ sym lower i -ℤ s.lower.x *ℤ sym upper i)
 
-  runs : Runs (s.lower.y -ℤ s.upper.y) (s.upper.x -ℤ s.lower.x)
-  runs = subst (λ z. Runs z (s.upper.x -ℤ s.lower.x)) (sym a_is) (subst (λ z. Runs (span_a s.lower s.upper) z) (sym b_is) (span_runs s.lower s.upper (whole_is_proper s.lower lower) (whole_is_proper s.upper upper) ahead))
+  runs : RunsForward (s.lower.y -ℤ s.upper.y) (s.upper.x -ℤ s.lower.x)
+  runs = subst (λ z. RunsForward z (s.upper.x -ℤ s.lower.x)) (sym a_is) (subst (λ z. RunsForward (span_a s.lower s.upper) z) (sym b_is) (span_runs s.lower s.upper (whole_is_proper s.lower lower) (whole_is_proper s.upper upper) ahead))
 
   divides : IsDivided (s.lower.y -ℤ s.upper.y) (s.upper.x -ℤ s.lower.x) (span_c s.lower s.upper) (line_of_segment s)
   divides = line_divided (s.lower.y -ℤ s.upper.y) (s.upper.x -ℤ s.lower.x) (span_c s.lower s.upper) runs
 
-  pub line_of_segment-runs : Runs (line_of_segment s).a (line_of_segment s).b
+  pub line_of_segment-runs : RunsForward (line_of_segment s).a (line_of_segment s).b
   line_of_segment-runs = line_runs (s.lower.y -ℤ s.upper.y) (s.upper.x -ℤ s.lower.x) (span_c s.lower s.upper) (line_of_segment s) divides runs
 
   pub line_of_segment-lowest : IsLowest (line_of_segment s).a (line_of_segment s).b (line_of_segment s).c
@@ -180,7 +173,7 @@ module _ (s : Segment) (lower : IsWhole s.lower) (upper : IsWhole s.upper) (ahea
   pub upper_on : side_of (line_of_segment s) s.upper ≡ pos 0
   upper_on = on_line s.upper (last_end s.lower.x s.lower.y s.lower.w s.upper.x s.upper.y s.upper.w)
 
-pub segment_runs : (k : Piece) → IsProperPiece k → Runs (line_of_segment k.segment).a (line_of_segment k.segment).b
+pub segment_runs : (k : Piece) → IsProperPiece k → RunsForward (line_of_segment k.segment).a (line_of_segment k.segment).b
 segment_runs k h = line_of_segment-runs k.segment h.lower h.upper h.ahead
 
 pub segment_line : (k : Piece) → IsProperPiece k → IsProperLine (line_of_segment k.segment)
@@ -218,8 +211,8 @@ straight k h = record {
 }
 
 -- ---- parallel lines with a common point
-apart_out : (a b : ℤ) → int_eq a b ≡ true → a -ℤ b ≡ pos 0
-apart_out a b h = zero_of (int_eq_out a b h)
+pub apart_out : (a b : ℤ) → int_eq a b ≡ true → a -ℤ b ≡ pos 0
+apart_out a b h = zero_of (eq_out a b h)
   where
     zero_of : a ≡ b → a -ℤ b ≡ pos 0
     zero_of e = omega (arith, ints)
@@ -272,30 +265,30 @@ reduced_is x y w h =
       w_is = divided w g (common_divisor-third x y w);
     }
 
-point_is : (x y w : ℤ) (t p : Point) → IsReduced x y w p → IsProper t → t.x *ℤ w ≡ x *ℤ t.w → t.y *ℤ w ≡ y *ℤ t.w → t ≡ p
+pub point_is : (x y w : ℤ) (t p : Point) → IsReduced x y w p → IsProper t → t.x *ℤ w ≡ x *ℤ t.w → t.y *ℤ w ≡ y *ℤ t.w → t ≡ p
 point_is x y w t p r pt ex ey =
     let s = lowest_same t.x t.y t.w p.x p.y p.w pt.positive r.proper.positive pt.lowest r.proper.lowest
     (same_over t.x t.w p.x p.w r.factor r.factor_pos (ap (λ z. t.x *ℤ z) r.w_is ∙ ex ∙ ap (λ z. z *ℤ t.w) (sym r.x_is)))
     (same_over t.y t.w p.y p.w r.factor r.factor_pos (ap (λ z. t.y *ℤ z) r.w_is ∙ ey ∙ ap (λ z. z *ℤ t.w) (sym r.y_is))) in
     path_of t p s.0 s.1 s.2
 
-minus_eq : (t w x u : ℤ) → t *ℤ w ≡ x *ℤ u → t *ℤ neg_ℤ w ≡ neg_ℤ x *ℤ u
+pub minus_eq : (t w x u : ℤ) → t *ℤ w ≡ x *ℤ u → t *ℤ neg_ℤ w ≡ neg_ℤ x *ℤ u
 minus_eq t w x u e = ring (t ∷ w ∷ []) (search sides depth 40 fits 20000) tt ∙ ap neg_ℤ e ∙ ring (x ∷ u ∷ []) (search sides depth 40 fits 20000) tt
 
-proper_at : (x y w : ℤ) → (w ≡ pos 0 → ⊥) → IsProper (homogeneous_point x y w)
+pub proper_at : (x y w : ℤ) → (w ≡ pos 0 → ⊥) → IsProper (homogeneous_point x y w)
 unfolding homogeneous_point
 proper_at x y (pos zero) f = absurd (f refl)
 proper_at x y (pos (suc n)) f = (reduced_is x y (pos (suc n)) (above_zero (suc n) (omega arith))).proper
 proper_at x y (negsuc n) f = (reduced_is (neg_ℤ x) (neg_ℤ y) (pos (suc n)) (above_zero (suc n) (omega arith))).proper
 
-is_at_w : (x y w : ℤ) → (w ≡ pos 0 → ⊥) → (t : Point) → IsProper t → t.x *ℤ w ≡ x *ℤ t.w → t.y *ℤ w ≡ y *ℤ t.w → t ≡ homogeneous_point x y w
+pub is_at_w : (x y w : ℤ) → (w ≡ pos 0 → ⊥) → (t : Point) → IsProper t → t.x *ℤ w ≡ x *ℤ t.w → t.y *ℤ w ≡ y *ℤ t.w → t ≡ homogeneous_point x y w
 unfolding homogeneous_point
 is_at_w x y (pos zero) f t pt ex ey = absurd (f refl)
 is_at_w x y (pos (suc n)) f t pt ex ey = point_is x y (pos (suc n)) t (reduced x y (pos (suc n))) (reduced_is x y (pos (suc n)) (above_zero (suc n) (omega arith))) pt ex ey
 is_at_w x y (negsuc n) f t pt ex ey =
     point_is (neg_ℤ x) (neg_ℤ y) (pos (suc n)) t (reduced (neg_ℤ x) (neg_ℤ y) (pos (suc n))) (reduced_is (neg_ℤ x) (neg_ℤ y) (pos (suc n)) (above_zero (suc n) (omega arith))) pt (minus_eq t.x (negsuc n) x t.w ex) (minus_eq t.y (negsuc n) y t.w ey)
 
-not_zero : (a b : ℤ) → int_eq a b ≡ false → a -ℤ b ≡ pos 0 → ⊥
+pub not_zero : (a b : ℤ) → int_eq a b ≡ false → a -ℤ b ≡ pos 0 → ⊥
 not_zero a b h e = clash (ap is_eq (equal_in a b (eq_of e))) h
   where
     eq_of : a -ℤ b ≡ pos 0 → a ≡ b
@@ -318,3 +311,10 @@ crossing_is k m hk hm e t pt s1 s2 =
 
 pub geometry : Geometry
 geometry = record { straight = straight; crossing_proper = crossing_proper; crossing_is = crossing_is; parallel_same = parallel_same }
+
+pub before_of : (p q : Point) → IsProper p → IsProper q → Lt p q → Before p.x p.y p.w q.x q.y q.w
+before_of p q hp hq l =
+    ⊎_elim
+    (λ (h : pos 0 <ℤ span_b p q). inl (omega (arith, ints)))
+    (λ (h : (span_b p q ≡ pos 0) × (span_a p q <ℤ pos 0)). inr (omega (arith, ints, h.0), omega (arith, ints, h.1)))
+    (span_runs p q hp hq l)

@@ -1,16 +1,12 @@
 -- Membership in the lists that the definitions make.
-use Rattle.std.proofs.Common.{◌≡◌, List, [], ◌∷◌, ◌++◌, Bool, true, false, cond, not, ◌&&◌, ◌||◌, refl, sym, ap, ◌∙◌, subst, inl, inr, ◌⊎◌, ⊎_elim, Ordering, Less, Equal, Greater}
+use Rattle.std.proofs.Common.{◌≡◌, List, [], ◌∷◌, ◌++◌, Bool, true, false, cond, not, ◌&&◌, ◌||◌, refl, sym, ap, ◌∙◌, subst, inl, inr, ◌⊎◌, ⊎_elim, Ordering, Less, Equal, Greater, ◌≢◌, Option, Some, None, is_some, option_map, ℕ, append_assoc}
 use Rattle.std.specs.Cmp.{IsTotalOrder}
 use Rattle.std.specs.Prelude.{map}
-use Rattle.std.specs.List.{AllByRecursion}
+use Rattle.std.specs.List.{AllByRecursion, filter, list_any, flat_map}
 use Rattle.std.specs.Ordering.{match_ordering}
-use Rattle.std.specs.List.{filter, list_any, flat_map}
 use Rattle.plane_graphs.specs.Ascending.{place, ascending, Member, IsAscending}
 use Rattle.plane_graphs.proofs.Ascending.{Member-place, Member-ascending, ascending-Member}
-
-pub both : (a b : Bool) → a && b ≡ true → (a ≡ true) × (b ≡ true)
-both true b h = (refl, h)
-both false b h = cc
+use Rattle.exact_plane.specs.Point.{Point}
 
 pub and_in : {a b : Bool} → a ≡ true → b ≡ true → a && b ≡ true
 and_in {a} {b} h k = rw (h, k) refl
@@ -22,10 +18,6 @@ not_out false h = refl
 pub not_in : (a : Bool) → (a ≡ true → ⊥) → not a ≡ true
 not_in true h = absurd (h refl)
 not_in false h = refl
-
-pub not_true : (a : Bool) → (a ≡ true → ⊥) → a ≡ false
-not_true true h = absurd (h refl)
-not_true false h = refl
 
 pub clash : {A : Type 0} {a : Bool} → a ≡ true → a ≡ false → A
 clash {A} {a} h k = absurd cc
@@ -183,3 +175,37 @@ module _ {X : Type 0} (cmp : X → X → Ordering) (o : IsTotalOrder cmp) (exact
   unfolding place
   in_place x y [] m = m
   in_place x y (z ∷ ys) m = placed x y (cmp y z) z ys (place cmp y ys) refl (in_place x y ys) m
+
+pub map_map : {X Y Z : Type 0} (f : X → Y) (g : Y → Z) (xs : List X) → map g (map f xs) ≡ map (λ x. g (f x)) xs
+map_map f g [] = refl
+map_map f g (x ∷ xs) = ap (λ ys. g (f x) ∷ ys) (map_map f g xs)
+
+-- a list that isn't empty has an element
+pub some_of : {X : Type 0} (xs : List X) → xs ≢ [] → (x : X) × Member x xs
+some_of [] f = absurd (f refl)
+some_of (x ∷ xs) f = (x, inl refl)
+
+pub filter_of_map : {X Y : Type 0} (f : X → Y) (p : Y → Bool) (xs : List X) → filter p (map f xs) ≡ map f (filter (λ x. p (f x)) xs)
+filter_of_map f p [] = refl
+filter_of_map {X} {Y} f p (x ∷ xs) = step (p (f x)) (filter_of_map f p xs)
+  where
+    step : (b : Bool) → filter p (map f xs) ≡ map f (filter (λ x. p (f x)) xs) → cond b (f x ∷ filter p (map f xs)) (filter p (map f xs)) ≡ map f (cond b (x ∷ filter (λ x. p (f x)) xs) (filter (λ x. p (f x)) xs))
+    step true e = ap (λ ys. f x ∷ ys) e
+    step false e = e
+
+-- two maps that agree on the elements
+pub map_same : {X Y : Type 0} (f g : X → Y) (xs : List X) → ((x : X) → Member x xs → f x ≡ g x) → map f xs ≡ map g xs
+map_same f g [] h = refl
+map_same f g (x ∷ xs) h = let a = h x (inl refl) in let b = map_same f g xs (λ y m. h y (inr m)) in λ i. a i ∷ b i
+
+pub some_mapped : {X Y : Type 0} (f : X → Y) (o : Option X) → is_some (option_map f o) ≡ is_some o
+some_mapped f None = refl
+some_mapped f (Some x) = refl
+
+-- two puts are one
+pub then_appended : (x y z a b : List ℕ) → y ≡ x ++ a → z ≡ y ++ b → z ≡ x ++ (a ++ b)
+then_appended x y z a b e f = f ∙ ap (λ (s : List ℕ). s ++ b) e ∙ append_assoc x a b
+
+pub none_is_empty : (xs : List Point) → ((x : Point) → Member x xs → ⊥) → xs ≡ []
+none_is_empty [] f = refl
+none_is_empty (x ∷ xs) f = absurd (f x (inl refl))

@@ -1,5 +1,5 @@
 -- What a loop over a list has read.
-use Rattle.std.proofs.Common.{◌≡◌, ℕ, ◌+◌, ◌<◌, ◌≤◌, List, [], ◌∷◌, ◌++◌, map, length, take, get_or, sym, ap, ◌∙◌, subst, append_assoc}
+use Rattle.std.proofs.Common.{◌≡◌, ℕ, ◌+◌, ◌<◌, ◌≤◌, List, [], ◌∷◌, ◌++◌, map, length, take, get_or, sym, ap, ◌∙◌, subst}
 use Rattle.std.specs.List.{flat_map}
 use Rattle.std.proofs.lemmas.List.{take_more, take_all, flat_map_more, get_or-map, length-map, map_push}
 use Rattle.plane_graphs.specs.Ascending.{Member}
@@ -38,12 +38,3 @@ module _ {X Y : Type 0} (f : X → Y) where
 
   pub all_mapped : (xs : List X) (i : ℕ) (now : List Y) → length xs ≤ i → now ≡ map f (take i xs) → now ≡ map f xs
   all_mapped xs i now h n = n ∙ ap (map f) (take_all i xs h)
-
--- the same, put behind what is there
-module _ {X Y : Type 0} (f : X → Y) where
-  pub put_behind : (xs : List X) (i : ℕ) (x : X) (base now new : List Y) → i < length xs → x ≡ get_or xs i x → now ≡ base ++ map f (take i xs) → new ≡ now ++ f x ∷ [] → new ≡ base ++ map f (take (i + 1) xs)
-  put_behind xs i x base now new h e n m =
-      m ∙ ap (λ zs. zs ++ f x ∷ []) n ∙ append_assoc base (map f (take i xs)) (f x ∷ []) ∙ ap (λ zs. base ++ zs) (sym (ap (map f) (take_next xs i x h e) ∙ map_push f (take i xs) x))
-
-  pub all_behind : (xs : List X) (i : ℕ) (base now : List Y) → length xs ≤ i → now ≡ base ++ map f (take i xs) → now ≡ base ++ map f xs
-  all_behind xs i base now h n = n ∙ ap (λ zs. base ++ map f zs) (take_all i xs h)

@@ -2,12 +2,13 @@
 use Rattle.std.proofs.Common.{◌≡◌, ℕ, List, [], ◌∷◌, true, cond, not, ◌&&◌, refl, sym, ap, subst, inl, inr, ◌⊎◌}
 use Rattle.std.specs.List.{list_any, flat_map}
 use Rattle.exact_plane.specs.Point.{Point}
+use Rattle.exact_plane.specs.PointOrderLaws.{and_true}
 use Rattle.plane_graphs.specs.Line.{precedes}
 use Rattle.plane_graphs.specs.Piece.{Piece, along, on}
 use Rattle.plane_graphs.specs.Graph.{Mark, mark_cmp, is_parted, are_neighbours, marks_on, marks}
 use Rattle.plane_graphs.specs.Ascending.{Member, IsAscending}
 use Rattle.plane_graphs.proofs.Ascending.{IsAscending-ascending}
-use Rattle.plane_graphs.proofs.Lists.{both, and_in, not_out, not_in, clash, any_out, any_none, one_if, if_one, in_flat_map, of_flat_map, of_ascending, in_ascending}
+use Rattle.plane_graphs.proofs.Lists.{and_in, not_out, not_in, clash, any_out, any_none, one_if, if_one, in_flat_map, of_flat_map, of_ascending, in_ascending}
 use Rattle.plane_graphs.proofs.Order.{Lt, lt_out, lt_in, lt_trans, lt_never, lt_both, Tri, tri, mark_cmp_total, mark_cmp_exact}
 use Rattle.plane_graphs.proofs.Order.Tri.{less, same, more}
 
@@ -71,8 +72,8 @@ pub record On (k : Piece) (p : Point) : Type 0 where
 pub on_out : (k : Piece) (p : Point) → on k p ≡ true → On k p
 unfolding on
 on_out k p h =
-    let a = both (along k p) (not (precedes p k.from) && not (precedes k.to p)) h in
-    let b = both (not (precedes p k.from)) (not (precedes k.to p)) a.1 in
+    let a = and_true (along k p) (not (precedes p k.from) && not (precedes k.to p)) h in
+    let b = and_true (not (precedes p k.from)) (not (precedes k.to p)) a.1 in
     record { line = a.0; low = le_out k.from p b.0; high = le_out p k.to b.1 }
 
 pub on_in : (k : Piece) (p : Point) → On k p → on k p ≡ true
@@ -93,9 +94,9 @@ pub record Next (vs : List Point) (k : Piece) (p q : Point) : Type 0 where
 pub next_out : (vs : List Point) (k : Piece) (p q : Point) → are_neighbours vs k p q ≡ true → Next vs k p q
 unfolding are_neighbours is_parted
 next_out vs k p q h =
-    let a = both (precedes p q && (on k p && on k q)) (not (list_any (λ r. (precedes p r && precedes r q) && along k r) vs)) h in
-    let b = both (precedes p q) (on k p && on k q) a.0 in
-    let c = both (on k p) (on k q) b.1 in
+    let a = and_true (precedes p q && (on k p && on k q)) (not (list_any (λ r. (precedes p r && precedes r q) && along k r) vs)) h in
+    let b = and_true (precedes p q) (on k p && on k q) a.0 in
+    let c = and_true (on k p) (on k q) b.1 in
     record {
       lt = lt_out p q b.0;
       at_p = on_out k p c.0;
@@ -110,8 +111,8 @@ next_in vs k p q h =
     (not_in (list_any (λ r. (precedes p r && precedes r q) && along k r) vs)
     (λ e.
     let f = any_out (λ r. (precedes p r && precedes r q) && along k r) vs e in
-    let a = both (precedes p f.0 && precedes f.0 q) (along k f.0) f.2 in
-    let b = both (precedes p f.0) (precedes f.0 q) a.0 in
+    let a = and_true (precedes p f.0 && precedes f.0 q) (along k f.0) f.2 in
+    let b = and_true (precedes p f.0) (precedes f.0 q) a.0 in
     h.none f.0 f.1 (lt_out p f.0 b.0) (lt_out f.0 q b.1) a.1))
 
 -- ---- marks

@@ -9,6 +9,7 @@ use Rattle.exact_plane.specs.Point.{Point}
 use Rattle.exact_plane.specs.PointOrder.{point_cmp}
 use Rattle.exact_plane.specs.PointOrderLaws.{point_cmp_total, same_point as point_cmp_exact}
 use Rattle.integers.proofs.Classes.{then_equal}
+use Rattle.integers.proofs.Tests.{not_true}
 use Rattle.plane_graphs.specs.Ascending.{Member, IsAscending}
 use Rattle.plane_graphs.specs.Line.{are_parallel, precedes}
 use Rattle.exact_plane.specs.Line.{Line}
@@ -18,9 +19,9 @@ use Rattle.plane_graphs.specs.Graph.{Graph, Mark, Edge, mark, edge_cmp, edge_of,
 use Rattle.plane_graphs.specs.Fit.{IsFit}
 use Rattle.plane_graphs.specs.Plane.{IsPlane, IsEnd}
 use Rattle.plane_graphs.specs.Meaning.{IsMeeting, IsVertexOf, IsEdgeOf, IsEndOfEdge, IsListed, IsStraightLineGraph}
-use Rattle.plane_graphs.specs.Laws.{StandOnce, VerticesAre, EdgesAre, PlaneIsDrawn}
+use Rattle.plane_graphs.specs.GraphLaws.{StandOnce, VerticesAre, EdgesAre, PlaneIsDrawn}
 use Rattle.plane_graphs.proofs.Ascending.{IsAscending-ascending}
-use Rattle.plane_graphs.proofs.Lists.{of_ascending, in_ascending, in_map, of_map, not_true, clash}
+use Rattle.plane_graphs.proofs.Lists.{of_ascending, in_ascending, in_map, of_map, clash}
 use Rattle.plane_graphs.proofs.Order.{lt_out, lt_in}
 use Rattle.plane_graphs.proofs.Marks.{on_out, on_in, on_between, le_lt, mark_out, mark_in}
 use Rattle.plane_graphs.proofs.Vertices.{IsVertex, proper_piece, vertex_in, vertex_out, vertices_ascend, vertices_closed}
@@ -79,7 +80,7 @@ stand_once = record {
 }
 
 -- ---- vertices
-parallel_itself : (l : Line) → are_parallel l l ≡ true
+pub parallel_itself : (l : Line) → are_parallel l l ≡ true
 parallel_itself l = ap is_eq (tied_itself int_cmp_total (l.a *ℤ l.b))
 
 module _ (p : Present) (x : Point) (fit : IsFit p) where

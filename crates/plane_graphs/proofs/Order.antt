@@ -1,14 +1,14 @@
 -- The order of points and of marks.
-use Rattle.std.proofs.Common.{◌≡◌, ℕ, true, is_lt, is_eq, refl, sym, ap, ◌∙◌, Ordering, Less, Equal, Greater, nat_cmp, arith}
+use Rattle.std.proofs.Common.{◌≡◌, ℕ, true, is_lt, is_eq, refl, sym, ap, ◌∙◌, Ordering, Less, Equal, Greater, nat_cmp, arith, ◌<ℤ◌, ⊎_elim}
 use Rattle.std.specs.Cmp.{IsTotalOrder}
 use Rattle.std.proofs.lemmas.Cmp.{then_total, on_total, nat_cmp_total, tied_itself}
-use Rattle.std.specs.Ordering.{ordering_reverse}
-use Rattle.std.specs.Ordering.{ordering_then}
+use Rattle.std.specs.Ordering.{ordering_reverse, ordering_then}
 use Rattle.exact_plane.specs.Point.{Point}
 use Rattle.exact_plane.specs.PointOrder.{point_cmp}
 use Rattle.exact_plane.specs.PointOrderLaws.{point_cmp_total, same_point as point_cmp_exact}
 use Rattle.plane_graphs.specs.Line.{precedes, same_point}
 use Rattle.plane_graphs.specs.Graph.{Mark, mark_cmp}
+use Rattle.integers.proofs.Tests.{is_less, then_rest, is_equal}
 
 pub record Lt (p q : Point) : Type 0 where
   pub is : point_cmp p q ≡ Less
@@ -34,16 +34,6 @@ tri_by p q Greater e = more (record { is = point_cmp_total.antisymm q p ∙ ap o
 
 pub tri : (p q : Point) → Tri p q
 tri p q = tri_by p q (point_cmp p q) refl
-
-is_less : (t : Ordering) → is_lt t ≡ true → t ≡ Less
-is_less Less h = refl
-is_less Equal h = cc
-is_less Greater h = cc
-
-is_equal : (t : Ordering) → is_eq t ≡ true → t ≡ Equal
-is_equal Less h = cc
-is_equal Equal h = refl
-is_equal Greater h = cc
 
 pub lt_out : (p q : Point) → precedes p q ≡ true → Lt p q
 lt_out p q h = record { is = is_less (point_cmp p q) h }
@@ -75,11 +65,6 @@ then_first : (s t : Ordering) → ordering_then s t ≡ Equal → s ≡ Equal
 then_first Less t e = e
 then_first Equal t e = refl
 then_first Greater t e = e
-
-then_rest : (s t : Ordering) → ordering_then s t ≡ Equal → t ≡ Equal
-then_rest Less t e = cc
-then_rest Equal t e = e
-then_rest Greater t e = cc
 
 pub mark_cmp_exact : (m n : Mark) → mark_cmp m n ≡ Equal → m ≡ n
 unfolding mark_cmp

@@ -2,16 +2,18 @@
 use Rattle.std.proofs.Common.{◌≡◌, List, Bool, true, false, not, ◌&&◌, refl, sym, ◌∙◌, subst, inl, inr, ◌⊎◌, ⊎_elim}
 use Rattle.std.specs.List.{list_any}
 use Rattle.exact_plane.specs.Point.{Point}
+use Rattle.exact_plane.specs.PointOrderLaws.{and_true}
 use Rattle.plane_graphs.specs.Line.{precedes, same_point, IsProper}
 use Rattle.plane_graphs.specs.Ascending.{Member, IsAscending}
 use Rattle.plane_graphs.specs.Piece.{Piece}
 use Rattle.plane_graphs.specs.Graph.{Mark, Graph, mark_cmp, graph_over, inside, on_edge, collinear}
 use Rattle.plane_graphs.specs.Plane.{IsPlane, IsEnd}
-use Rattle.plane_graphs.proofs.Lists.{both, not_true, any_out, any_none}
+use Rattle.plane_graphs.proofs.Lists.{any_out, any_none}
 use Rattle.plane_graphs.proofs.Order.{Lt, lt_in, same_out, same_itself}
 use Rattle.plane_graphs.proofs.Marks.{Le, le_out, le_cases, IsMark, mark_out, marks_ascend}
 use Rattle.plane_graphs.proofs.Closed.{IsClosed, inside_out, inside_in, mark_line}
 use Rattle.plane_graphs.proofs.Inner.{Inner, one_edge, inner_in}
+use Rattle.integers.proofs.Tests.{not_true}
 
 module _ (vs : List Point) (ks : List Piece) (cl : IsClosed vs ks) where
   pub no_vertex_inside : (m : Mark) → IsMark vs ks m → (p : Point) → Member p vs → inside p m ≡ true → ⊥
@@ -30,8 +32,8 @@ module _ (vs : List Point) (ks : List Piece) (cl : IsClosed vs ks) where
   edge_out : (t : Point) (m : Mark) → on_edge t m ≡ true → Le m.low t × Le t m.high × (collinear m.low m.high t ≡ true)
   unfolding on_edge
   edge_out t m h =
-      let a = both (not (precedes t m.low) && not (precedes m.high t)) (collinear m.low m.high t) h in
-      let b = both (not (precedes t m.low)) (not (precedes m.high t)) a.0 in
+      let a = and_true (not (precedes t m.low) && not (precedes m.high t)) (collinear m.low m.high t) h in
+      let b = and_true (not (precedes t m.low)) (not (precedes m.high t)) a.0 in
       (le_out m.low t b.0, le_out t m.high b.1, a.1)
 
   apart_by : (m n : Mark) → IsMark vs ks m → IsMark vs ks n → (t : Point) → IsProper t → on_edge t m ≡ true → on_edge t n ≡ true → (b : Bool) → list_any (same_point t) vs ≡ b → ((m.low ≡ n.low) × (m.high ≡ n.high)) ⊎ (IsEnd t m × IsEnd t n)

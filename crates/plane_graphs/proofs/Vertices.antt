@@ -3,7 +3,7 @@ use Rattle.std.proofs.Common.{◌≡◌, [], ◌∷◌, ◌++◌, Bool, true, fa
 use Rattle.std.specs.List.{flat_map}
 use Rattle.exact_plane.specs.Point.{Point}
 use Rattle.exact_plane.specs.PointOrder.{point_cmp}
-use Rattle.exact_plane.specs.PointOrderLaws.{point_cmp_total, same_point as point_cmp_exact}
+use Rattle.exact_plane.specs.PointOrderLaws.{point_cmp_total, same_point as point_cmp_exact, and_true}
 use Rattle.plane_graphs.specs.Line.{IsWhole, are_parallel, crossing, IsProper}
 use Rattle.exact_plane.specs.Segment.{line_of_segment}
 use Rattle.plane_graphs.specs.Piece.{Piece, Present, along, on}
@@ -11,7 +11,7 @@ use Rattle.plane_graphs.specs.Graph.{vertices, ends, common_points}
 use Rattle.plane_graphs.specs.Fit.{IsFit, IsFitPiece}
 use Rattle.plane_graphs.specs.Ascending.{Member, IsAscending}
 use Rattle.plane_graphs.proofs.Ascending.{IsAscending-ascending}
-use Rattle.plane_graphs.proofs.Lists.{both, and_in, of_ascending, in_ascending, of_flat_map, in_flat_map, in_left, in_right, in_either, if_out, if_true, if_false}
+use Rattle.plane_graphs.proofs.Lists.{and_in, of_ascending, in_ascending, of_flat_map, in_flat_map, in_left, in_right, in_either, if_out, if_true, if_false}
 use Rattle.plane_graphs.proofs.Order.{Lt, lt_out}
 use Rattle.plane_graphs.proofs.Marks.{On, on_out, on_in}
 use Rattle.plane_graphs.proofs.Closed.{IsClosed, IsStraight, SameLine}
@@ -52,7 +52,7 @@ common_out p x k m a b h =
     ⊎_elim (λ w. absurd w.1)
     (λ w. ⊎_elim
     (λ v. ⊎_elim
-    (λ e. let c = both (on k (crossing l n)) (on m (crossing l n)) v.0 in
+    (λ e. let c = and_true (on k (crossing l n)) (on m (crossing l n)) v.0 in
     crossed (record { one = k; other = m; one_here = a; other_here = b; apart = w.0; on_one = on_out k x (subst (λ z. on k z ≡ true) (sym e) c.0); on_other = on_out m x (subst (λ z. on m z ≡ true) (sym e) c.1); is = e }))
     (λ u. absurd u) v.1)
     (λ v. absurd v.1)

@@ -1,7 +1,7 @@
 pub mod Ascending
 pub mod Fit
 pub mod Graph
-pub mod Laws
+pub mod GraphLaws
 pub mod Line
 pub mod Meaning
 pub mod Piece

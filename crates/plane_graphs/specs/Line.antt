@@ -5,7 +5,7 @@ use Rattle.integers.specs.Lowest.{IsLowest}
 use Rattle.exact_plane.specs.Point.{Point, reduced}
 use Rattle.exact_plane.specs.PointOrder.{point_cmp}
 use Rattle.exact_plane.specs.Line.{Line, side_of}
-use Rattle.exact_plane.specs.Plane.{Runs}
+use Rattle.exact_plane.specs.Plane.{RunsForward}
 
 -- three numbers that name a place of the plane, as the exact kernel has it: a positive weight, and lowest terms (Fogel, Halperin and Wein); a point without its bounds
 pub record IsProper (p : Point) : Type 0 where
@@ -15,7 +15,7 @@ pub record IsProper (p : Point) : Type 0 where
 -- three numbers that name a line of the plane: in lowest terms, with the direction from lower points to upper ones (Fogel, Halperin and Wein); a line without its bounds
 pub record IsProperLine (l : Line) : Type 0 where
   pub lowest : IsLowest l.a l.b l.c
-  pub runs : Runs l.a l.b
+  pub runs : RunsForward l.a l.b
 
 -- p has whole coordinates, as the ends of segments have
 abbrev pub IsWhole : Point → Type 0

@@ -6,7 +6,7 @@
 //! contract states and its body, being empty, does not compute.
 #![tactic(auto)]
 
-ghost use Rattle.plane_graphs.specs.Laws.{StandOnce, VerticesAre, EdgesAre, GraphIsPlane, PlaneIsDrawn, NoneCross, CurvesOfEdge, EdgesOfPiece};
+ghost use Rattle.plane_graphs.specs.GraphLaws.{StandOnce, VerticesAre, EdgesAre, GraphIsPlane, PlaneIsDrawn, NoneCross, CurvesOfEdge, EdgesOfPiece};
 
 /// Vertices, edges and the curves of an edge ascend, and each stands once.
 pub fn stand_once()

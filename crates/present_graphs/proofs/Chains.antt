@@ -26,7 +26,7 @@ end_after c None = refl
 end_after c (Some p) = refl
 
 -- the marks of one piece among points
-abbrev pub chain_of : List Point → Piece → List Mark
+abbrev pub chain_of : (vs : List Point) (k : Piece) → List Mark
 chain_of vs k = chain k.curve (filter (on k) vs)
 
 -- what is left to do after so many points

@@ -9,9 +9,10 @@ use Rattle.plane_graphs.specs.Fit.{IsFit, IsFitPiece}
 use Rattle.plane_graphs.specs.Line.{IsWhole, IsProper, precedes}
 use Rattle.plane_graphs.specs.Piece.{Piece, Present}
 use Rattle.plane_graphs.proofs.Lines.{whole_is_proper, lower_on, upper_on, along_in}
-use Rattle.plane_graphs.proofs.Lists.{in_either, not_true}
+use Rattle.plane_graphs.proofs.Lists.{in_either}
 use Rattle.plane_graphs.proofs.Order.{Lt, lt_in, lt_out, lt_never}
 use Rattle.present_graphs.specs.Spans.{AreFit}
+use Rattle.integers.proofs.Tests.{not_true}
 
 never_before : (p q : Point) → p ≡ q → precedes p q ≡ false
 never_before p q e = not_true (precedes p q) (λ h. lt_never (subst (λ r. Lt r q) e (lt_out p q h)))
@@ -41,9 +42,6 @@ pub record IsDrawing (ks : List Piece) (n : ℕ) : Type 0 where
   pub fit : AreFit ks
   pub below : (k : Piece) → Member k ks → k.curve ≤ n
   pub one : (k m : Piece) → Member k ks → Member m ks → k.curve ≡ m.curve → k ≡ m
-
-pub none_drawn : IsDrawing [] 0
-none_drawn = record { fit = λ k m. absurd m; below = λ k m. absurd m; one = λ k m a b e. absurd a }
 
 pub one_drawn : (ks new : List Piece) (n : ℕ) (k : Piece) → IsDrawing ks n → IsFitPiece k → k.curve ≡ n + 1 → new ≡ ks ++ k ∷ [] → IsDrawing new (n + 1)
 one_drawn ks new n k d h c e = subst (λ ls. IsDrawing ls (n + 1)) (sym e) (record {

@@ -6,7 +6,7 @@ use Rattle.exact_plane.specs.Span.{Span}
 use Rattle.plane_graphs.specs.Ascending.{Member}
 use Rattle.plane_graphs.proofs.Lists.{in_left, in_right, in_either}
 use Rattle.present_graphs.specs.Shared.{IsShared, IsSharedWith, IsSharedByTwo, IsGrownBy}
-use Rattle.present_graphs.proofs.Loops.{take_next}
+use Rattle.plane_graphs.proofs.Loops.{take_next}
 
 grown_then : (P Q R : Point → Type 0) (a b c : List Point) → IsGrownBy P a b → IsGrownBy Q b c → ((x : Point) → P x → R x) → ((x : Point) → Q x → R x) → ((x : Point) → R x → P x ⊎ Q x) → IsGrownBy R a c
 grown_then P Q R a b c g h p q r = record {

@@ -1,22 +1,22 @@
 -- The span that holds an edge.
 use Rattle.std.proofs.Common.{◌≡◌, ℕ, ◌+◌, ◌<◌, ◌≤◌, List, [], ◌∷◌, map, length, take, get_or, Bool, true, false, ◌&&◌, refl, sym, ap, ◌∙◌, subst, ⊎_elim}
-use Rattle.std.proofs.lemmas.List.{take_all}
 use Rattle.exact_plane.specs.Point.{Point}
 use Rattle.exact_plane.specs.Segment.{line_of_segment}
 use Rattle.exact_plane.specs.Span.{Span, AreOnWay}
+use Rattle.exact_plane.specs.PointOrderLaws.{and_true}
 use Rattle.plane_graphs.specs.Ascending.{Member, IsAscending}
 use Rattle.plane_graphs.specs.Fit.{IsFit}
 use Rattle.plane_graphs.specs.Graph.{Mark, mark_cmp, graph, vertices}
 use Rattle.plane_graphs.specs.Line.{IsProper, are_parallel}
 use Rattle.plane_graphs.specs.Piece.{Piece, Present, along, on}
 use Rattle.plane_graphs.proofs.Lines.{geometry, crossing_is, same_numbers}
-use Rattle.plane_graphs.proofs.Lists.{both, and_in, clash, in_either, in_map, of_map}
+use Rattle.plane_graphs.proofs.Lists.{and_in, clash, in_either, in_map, of_map}
 use Rattle.plane_graphs.proofs.Marks.{on_out, on_in, mark_out, marks_ascend}
 use Rattle.plane_graphs.proofs.Order.{Lt, lt_out, lt_in, lt_never}
 use Rattle.plane_graphs.proofs.Vertices.{IsProperPiece, proper_piece, vertices_closed}
 use Rattle.present_graphs.specs.Edges.{IsOnSpan, HasSpan, IsAlong}
 use Rattle.present_graphs.specs.Spans.{span_of_piece, lies_on}
-use Rattle.present_graphs.proofs.Loops.{take_next}
+use Rattle.plane_graphs.proofs.Loops.{take_next}
 use Rattle.present_graphs.proofs.OnSpans.{lies_on-is, lies_on_out}
 
 -- ---- the search for one
@@ -28,13 +28,10 @@ pub one_passed : (ss : List Span) (i : ℕ) (s : Span) (m : Mark) → i < length
 one_passed ss i s m h e none free t n o =
     ⊎_elim (λ a. none t a o) (λ a. ⊎_elim (λ j. free (subst (λ u. IsOnSpan u m) j o)) (λ z. absurd z) a) (in_either t (take i ss) (s ∷ []) (subst (λ us. Member t us) (take_next ss i s h e) n))
 
-pub none_found : (ss : List Span) (i : ℕ) (m : Mark) → length ss ≤ i → NoneHolds (take i ss) m → HasSpan ss m → ⊥
-none_found ss i m h none has = none has.whole (subst (λ us. Member has.whole us) (sym (take_all i ss h)) has.whole_in) has.holds
-
 -- the test of the mark's ends
 module _ (s : Span) (m : Mark) (b : Bool) (is : b ≡ lies_on s m.low && lies_on s m.high) where
   pub told_on : b ≡ true → IsOnSpan s m
-  told_on h = let w = both (lies_on s m.low) (lies_on s m.high) (sym is ∙ h) in record { low_on = w.0; high_on = w.1 }
+  told_on h = let w = and_true (lies_on s m.low) (lies_on s m.high) (sym is ∙ h) in record { low_on = w.0; high_on = w.1 }
 
   pub told_off : b ≡ false → IsOnSpan s m → ⊥
   told_off h o = clash (is ∙ and_in o.low_on o.high_on) h

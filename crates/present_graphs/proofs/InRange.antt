@@ -1,12 +1,11 @@
 -- A common point of two pieces of different lines is in range, since it stands between two points that are.
-use Rattle.std.proofs.Common.{◌≡◌, ◌≢◌, [], ◌∷◌, ℤ, pos, ◌+ℤ◌, ◌*ℤ◌, ◌<ℤ◌, neg_ℤ, Bool, true, false, refl, sym, ap, ◌∙◌, subst, arith, inl, inr, ⊎_elim, Ordering, Less, Equal, Greater}
+use Rattle.std.proofs.Common.{◌≡◌, ◌≢◌, [], ◌∷◌, ℤ, pos, ◌+ℤ◌, ◌*ℤ◌, ◌<ℤ◌, neg_ℤ, Bool, true, false, refl, sym, ap, ◌∙◌, subst, arith, ⊎_elim, Ordering, Less, Equal, Greater}
 use Rattle.std.specs.Ordering.{int_cmp}
 use Rattle.std.proofs.lemmas.Int.{ints}
 use Rattle.integers.proofs.Compare.{less_out, equal_out, greater_out}
 use Rattle.integers.proofs.Reify.{ring, sides}
-use Rattle.integers.proofs.Signs.{mul_pos, cancel_pos}
+use Rattle.integers.proofs.Signs.{mul_pos, cancel_pos, neg_above}
 use Rattle.exact_plane.specs.Line.{Line, side_of}
-use Rattle.exact_plane.specs.Plane.{Before}
 use Rattle.exact_plane.specs.Point.{Point, IsPoint}
 use Rattle.exact_plane.specs.Segment.{line_of_segment}
 use Rattle.exact_plane.specs.Span.{IsSpan}
@@ -16,18 +15,11 @@ use Rattle.exact_plane.proofs.PlaneLaws.{Crossing, crosses_to_right, crosses_to_
 use Rattle.plane_graphs.specs.Fit.{IsFitPiece}
 use Rattle.plane_graphs.specs.Line.{IsProper, are_parallel}
 use Rattle.plane_graphs.specs.Piece.{Piece}
-use Rattle.plane_graphs.proofs.Lines.{span_runs, span_a, span_b, along_out, along_in, segment_runs, crossing_is, same_numbers, point_is_proper}
+use Rattle.plane_graphs.proofs.Lines.{along_out, along_in, segment_runs, crossing_is, same_numbers, point_is_proper, before_of}
 use Rattle.plane_graphs.proofs.Marks.{On, le_cases}
 use Rattle.plane_graphs.proofs.Order.{Lt}
 use Rattle.plane_graphs.proofs.Vertices.{proper_piece}
 use Rattle.present_graphs.specs.Spans.{span_of_piece}
-
-before_of : (p q : Point) → IsProper p → IsProper q → Lt p q → Before p.x p.y p.w q.x q.y q.w
-before_of p q hp hq l =
-    ⊎_elim
-    (λ (h : pos 0 <ℤ span_b p q). inl (omega (arith, ints)))
-    (λ (h : (span_b p q ≡ pos 0) × (span_a p q <ℤ pos 0)). inr (omega (arith, ints, h.0), omega (arith, ints, h.1)))
-    (span_runs p q hp hq l)
 
 -- where a mean of two numbers is 0, one is below 0 and the other above
 balanced : (z k A s B t : ℤ) → z ≡ pos 0 → pos 0 <ℤ s → pos 0 <ℤ t → z *ℤ k ≡ A *ℤ s +ℤ B *ℤ t → pos 0 <ℤ A → pos 0 <ℤ neg_ℤ B
@@ -42,13 +34,10 @@ balanced z k A s B t e hs ht m hA =
 below : (z : ℤ) → pos 0 <ℤ neg_ℤ z → z <ℤ pos 0
 below z h = omega (arith, ints)
 
-above : (z : ℤ) → z <ℤ pos 0 → pos 0 <ℤ neg_ℤ z
-above z h = omega (arith, ints)
-
 -- the same, from below
 balanced_back : (z k A s B t : ℤ) → z ≡ pos 0 → pos 0 <ℤ s → pos 0 <ℤ t → z *ℤ k ≡ A *ℤ s +ℤ B *ℤ t → A <ℤ pos 0 → pos 0 <ℤ B
 balanced_back z k A s B t e hs ht m hA =
-    let p : pos 0 <ℤ (neg_ℤ A *ℤ s) = mul_pos (above A hA) hs in
+    let p : pos 0 <ℤ (neg_ℤ A *ℤ s) = mul_pos (neg_above A hA) hs in
     let q : B *ℤ t ≡ neg_ℤ A *ℤ s = minus (sym m ∙ ap (λ y. y *ℤ k) e ∙ ring (k ∷ []) (search sides depth 40 fits 20000) tt) ∙ ring (A ∷ s ∷ []) (search sides depth 40 fits 20000) tt in
     cancel_pos {x = B} ht (subst (λ y. pos 0 <ℤ y) (sym q) p)
   where

@@ -7,18 +7,19 @@ use Rattle.std.proofs.lemmas.List.{map_push, same_from_push, take_all, take-appe
 use Rattle.exact_plane.specs.Span.{Span}
 use Rattle.plane_graphs.specs.Line.{same_point}
 use Rattle.plane_graphs.proofs.Order.{same_out, same_in}
-use Rattle.slab_laws.specs.Drawn.{edge_of as edge_of_span}
-use Rattle.present_graphs.proofs.Loops.{take_next}
+use Rattle.slab_laws.specs.SpansDrawn.{edge_of as edge_of_span}
+use Rattle.plane_graphs.proofs.Loops.{take_next}
 use Rattle.exact_plane.specs.PointOrder.{point_cmp}
+use Rattle.exact_plane.specs.PointOrderLaws.{and_true}
 use Rattle.plane_graphs.specs.Ascending.{ascending, Member, IsAscending}
 use Rattle.plane_graphs.specs.Graph.{Mark, Edge, edge_of, mark_cmp, edge_cmp, is_at}
 use Rattle.plane_graphs.proofs.Ascending.{ascending_is, IsAscending-ascending, All-member}
-use Rattle.plane_graphs.proofs.Lists.{both, and_in, in_left, in_right, in_either, of_map, of_ascending, in_ascending}
+use Rattle.plane_graphs.proofs.Lists.{and_in, in_left, in_right, in_either, of_map, of_ascending, in_ascending}
 use Rattle.plane_graphs.proofs.Meaning.{edge_cmp_total, edge_cmp_exact}
 use Rattle.present_graphs.specs.Edges.{IsLast}
 
 -- no edge of the list comes after e
-abbrev pub AreUpTo : Edge → List Edge → Type 0
+abbrev pub AreUpTo : (e : Edge) (es : List Edge) → Type 0
 AreUpTo e es = (f : Edge) → Member f es → edge_cmp f e ≢ Greater
 
 less_up : (e f : Edge) → edge_cmp e f ≡ Less → edge_cmp f e ≡ Greater
@@ -58,7 +59,7 @@ module _ (ss front : List Span) (s : Span) (m : Mark) (b : Bool) (ends : ss ≡ 
   pub last_told : IsTrue b ↔ IsLast (edge_of m) (map edge_of_span ss)
   last_told = (
     (λ h.
-        let w = both (same_point m.low s.lower) (same_point m.high s.upper) (sym is ∙ h) in
+        let w = and_true (same_point m.low s.lower) (same_point m.high s.upper) (sym is ∙ h) in
         (map edge_of_span front, at_end ∙ ap (λ e. map edge_of_span front ++ e ∷ []) (λ i. record { low = sym (same_out m.low s.lower w.0) i; high = sym (same_out m.high s.upper w.1) i }))),
     (λ w.
         let e = (same_from_push (map edge_of_span front) w.0 (edge_of_span s) (edge_of m) (sym at_end ∙ w.1)).1 in

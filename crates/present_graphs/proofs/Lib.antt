@@ -1,4 +1,3 @@
-pub mod Arranged
 pub mod Chains
 pub mod Crossed
 pub mod Drawings
@@ -7,7 +6,6 @@ pub mod Grown
 pub mod HoldingSpan
 pub mod InRange
 pub mod LastEdge
-pub mod Loops
 pub mod Meets
 pub mod OnSpans
 pub mod Ties

@@ -4,12 +4,12 @@ use Rattle.std.specs.Ordering.{is_lt, is_le, ordering_reverse}
 use Rattle.exact_plane.specs.Line.{side_of}
 use Rattle.exact_plane.specs.Point.{Point}
 use Rattle.exact_plane.specs.PointOrder.{point_cmp}
-use Rattle.exact_plane.specs.PointOrderLaws.{point_cmp_total}
+use Rattle.exact_plane.specs.PointOrderLaws.{point_cmp_total, and_true}
 use Rattle.exact_plane.specs.Span.{Span, LiesOn}
 use Rattle.plane_graphs.specs.Line.{is_on}
 use Rattle.plane_graphs.specs.Piece.{Piece, along, on}
 use Rattle.plane_graphs.proofs.Lines.{zero_in, zero_out}
-use Rattle.plane_graphs.proofs.Lists.{both, and_in}
+use Rattle.plane_graphs.proofs.Lists.{and_in}
 use Rattle.present_graphs.specs.Spans.{span_of_piece, lies_on}
 
 at_most_by : (o : Ordering) → is_le (ordering_reverse o) ≡ not (is_lt o)
@@ -32,8 +32,8 @@ lies_on-is k p =
 
 pub lies_on_out : (s : Span) (p : Point) → lies_on s p ≡ true → LiesOn s p
 lies_on_out s p h =
-    let a = both (is_on s.line p && is_le (point_cmp s.lower p)) (is_le (point_cmp p s.upper)) h in
-    let b = both (is_on s.line p) (is_le (point_cmp s.lower p)) a.0 in
+    let a = and_true (is_on s.line p && is_le (point_cmp s.lower p)) (is_le (point_cmp p s.upper)) h in
+    let b = and_true (is_on s.line p) (is_le (point_cmp s.lower p)) a.0 in
     record { on = zero_out (side_of s.line p) b.0; from = b.1; upto = a.1 }
 
 pub lies_on_in : (s : Span) (p : Point) → LiesOn s p → lies_on s p ≡ true

@@ -1,7 +1,6 @@
 -- Marks are equal where their order does not tell them apart.
-use Rattle.std.proofs.Common.{◌≡◌, ℕ, Bool, true, false, ◌&&◌, eqb, refl, sym, ap, ap₂, ◌∙◌, Ordering, Less, Equal, Greater, is_eq, nat_cmp, arith}
+use Rattle.std.proofs.Common.{◌≡◌, Bool, true, false, ◌&&◌, eqb, sym, ap, ap₂, ◌∙◌, nat_cmp}
 use Rattle.std.specs.Ordering.{int_eq, ordering_then, eq_by_cmp}
-use Rattle.std.proofs.lemmas.Bool.Decides.{nat_tests}
 use Rattle.exact_plane.specs.Point.{Point}
 use Rattle.exact_plane.specs.PointOrder.{point_cmp}
 use Rattle.exact_plane.specs.PointOrderLaws.{point_cmp_ties}
@@ -9,14 +8,7 @@ use Rattle.plane_graphs.specs.Graph.{mark_cmp}
 use Rattle.plane_graphs.specs.Line.{same_point}
 use Rattle.present_graphs.specs.Marks.{mark_of}
 use Rattle.present_graphs.specs.declared.marks.Mark.{Mark}
-
-both_equal : (s t : Ordering) → is_eq s && is_eq t ≡ is_eq (ordering_then s t)
-both_equal Less t = refl
-both_equal Equal t = refl
-both_equal Greater t = refl
-
-curve_ties : (c d : ℕ) → eqb c d ≡ is_eq (nat_cmp c d)
-curve_ties c d = grind (arith, nat_tests)
+use Rattle.integers.proofs.Tests.{number_ties, both_equal}
 
 -- the two points have the same numbers
 abbrev pub same_numbers : Point → Point → Bool
@@ -25,7 +17,7 @@ same_numbers p q = int_eq p.x q.x && (int_eq p.y q.y && int_eq p.w q.w)
 pub mark_ties : (m n : Mark) → same_numbers m.low n.low && (same_numbers m.high n.high && eqb m.curve.0 n.curve.0) ≡ eq_by_cmp (λ x y. mark_cmp (mark_of x) (mark_of y)) m n
 unfolding mark_cmp
 mark_ties m n =
-    ap₂ ◌&&◌ (point_cmp_ties m.low n.low) (ap₂ ◌&&◌ (point_cmp_ties m.high n.high) (curve_ties m.curve.0 n.curve.0) ∙ both_equal (point_cmp m.high n.high) (nat_cmp m.curve.0 n.curve.0))
+    ap₂ ◌&&◌ (point_cmp_ties m.low n.low) (ap₂ ◌&&◌ (point_cmp_ties m.high n.high) (number_ties m.curve.0 n.curve.0) ∙ both_equal (point_cmp m.high n.high) (nat_cmp m.curve.0 n.curve.0))
     ∙ both_equal (point_cmp m.low n.low) (ordering_then (point_cmp m.high n.high) (nat_cmp m.curve.0 n.curve.0))
 
 -- a test of two points, of which the second was read

@@ -1,7 +1,7 @@
 ghost use Rattle.std.specs.Prelude.{◌≡◌, ◌↔◌, ◌&&◌, map, IsTrue, IfOk};
 ghost use Rattle.plane_graphs.specs.Fit.{IsFit};
 ghost use Rattle.plane_graphs.specs.Graph.{edges, graph, is_at, edge_of as edge_of_mark};
-ghost use Rattle.slab_laws.specs.Drawn.{edge_of};
+ghost use Rattle.slab_laws.specs.SpansDrawn.{edge_of};
 ghost use Rattle.slab_laws.specs.Pieces.{present_of};
 ghost use Rattle.present_graphs.specs.Edges.{AreAlongPieces, HasSpan, IsAlong, IsLast};
 ghost use Rattle.present_graphs.specs.Marks.{mark_of};

@@ -1,10 +1,9 @@
-ghost use Rattle.std.specs.Prelude.{◌≡◌, ◌++◌, map, filter, IfOk};
+ghost use Rattle.std.specs.Prelude.{◌≡◌, map, IfOk};
 ghost use Rattle.plane_graphs.specs.Fit.{IsFit, IsFitPiece};
-ghost use Rattle.plane_graphs.specs.Graph.{chain, graph, mark_cmp, vertices};
+ghost use Rattle.plane_graphs.specs.Graph.{graph, mark_cmp, vertices};
 ghost use Rattle.plane_graphs.specs.Ascending.{ascending};
-ghost use Rattle.plane_graphs.specs.Piece.{on};
 ghost use Rattle.slab_laws.specs.Pieces.{piece_of, present_of};
-ghost use Rattle.present_graphs.specs.Marks.{mark_of};
+ghost use Rattle.present_graphs.specs.Marks.{mark_of, marks_along, HaveCome};
 
 use crate::pieces::{holds, span_of};
 use exact_plane::Point;
@@ -26,7 +25,7 @@ pub struct Mark {
 // The marks of one piece: each point on it, with the next one.
 fn add_marks(marks: &mut Vec<Mark>, piece: &Piece, points: &[Point]) -> Result<(), NoMemory>
     requires { IsFitPiece (piece_of piece.now) }
-    ensures { IfOk result (λ _. map mark_of marks.new.items ≡ map mark_of marks.old.items ++ chain piece.now.curve.0 (filter (on (piece_of piece.now)) points.now)) }
+    ensures { IfOk result (λ _. HaveCome (marks_along piece.now points.now) marks.old.items marks.new.items) }
 {
     let span = span_of(piece);
     let mut last: Option<Point> = None;

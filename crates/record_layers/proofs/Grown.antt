@@ -8,26 +8,26 @@ use Rattle.slab_laws.specs.declared.names.VertexId.{VertexId}
 use Rattle.slab_laws.specs.Skeleton.{inside}
 use Rattle.slab_laws.specs.Sound.{edge_in, IsGraphSound}
 use Rattle.slab_laws.specs.View.{View, HasVertex, HasDart, source_in, twin_in}
-use Rattle.sound_views.proofs.Named.{twin_dart}
-use Rattle.view_changes.specs.Reads.{IsVertexMore, IsPinSet}
-use Rattle.view_changes.specs.Writers.{with_vertex, with_pin}
-use Rattle.view_changes.proofs.Vertices.{vertex_is_added, pin_is_set}
+use Rattle.sound_views.proofs.NamedDarts.{twin_dart}
+use Rattle.arr_notes.specs.Reads.{IsVertexMore, IsPinSet}
+use Rattle.arr_notes.specs.ViewChanges.{with_vertex, with_pin}
+use Rattle.arr_notes.proofs.VertexReads.{vertex_is_added, pin_is_set}
 use Rattle.arr_notes.specs.declared.change.Change.{Change}
 use Rattle.arr_notes.specs.declared.change.Change.TheVariants.{AddVertex, RemoveVertex, SplitEdge, MergeEdge, AddEdge, RemoveEdge, AddCurve, RemoveCurve, SetPin, ClearPin, Clear}
 use Rattle.arr_notes.specs.Curves.{Curves, AreCurvesOf, step_curves}
 use Rattle.arr_notes.specs.Step.{step, split_edge, add_edge}
-use Rattle.sound_links.specs.Links.{FitsAddedEdge}
-use Rattle.sound_links.proofs.Added.{more}
-use Rattle.sound_links.proofs.Kept.{up, start_old, end_old, point_same, vertex_up}
-use Rattle.sound_splits.specs.Fits.{IsNewVertex, FitsSplit}
-use Rattle.sound_splits.proofs.Cases.{dart_cases}
-use Rattle.sound_splits.proofs.Splits.{halved, at_w, cut}
-use Rattle.graph_steps.specs.Told.{told, FitsChange}
-use Rattle.graph_steps.proofs.Changes.{changes_are_steps}
-use Rattle.graph_steps.proofs.Parts.{IsPartedAt, way}
-use Rattle.graph_steps.proofs.Ways.{IsSameWay, unchanged_way}
-use Rattle.record_layers.specs.Kept.{Makes}
-use Rattle.record_layers.specs.Laws.{Grows, AllGrow}
+use Rattle.arr_notes.proofs.Names.{cases_dart}
+use Rattle.sound_changes.specs.EdgePlaces.{FitsAddedEdge}
+use Rattle.sound_changes.proofs.EdgeAdded.{more}
+use Rattle.sound_changes.proofs.RingsKept.{up, start_old, end_old, point_same, vertex_up}
+use Rattle.sound_changes.specs.ChangeFits.{IsNewVertex, FitsSplit}
+use Rattle.sound_changes.proofs.Splits.{halved, at_w, cut}
+use Rattle.sound_changes.specs.StepOfChange.{step_of_change, FitsChange}
+use Rattle.sound_changes.proofs.ChangesAreSteps.{changes_are_steps}
+use Rattle.sound_changes.proofs.StepSplitEdge.{IsPartedAt, way}
+use Rattle.sound_changes.proofs.StepCases.{IsSameWay, unchanged_way}
+use Rattle.record_layers.specs.RecordLayers.{IsRunOfSteps}
+use Rattle.record_layers.specs.LayerSteps.{Grows, AllGrow}
 use Rattle.record_layers.proofs.Stays.{IsSamePlace, IsDivided, way_on, way_edge, same_way, pin_way}
 
 -- every vertex of v is one of w; so is every dart, but where its edge was parted, and then a vertex is inside for good
@@ -83,9 +83,9 @@ edge_split v d w p n m s c =
     let divided : IsDivided g (edge_in v d) = record { vertex = w; has = i.w_has; within = subst (λ z. inside (edge_in v d) z ≡ true) (sym at) c.inside_edge } in
     record {
       vertex = λ u o. record { has = i.vertex_has u o; point = i.vertex_point u o };
-      dart = λ x o. elim (dart_cases x d) [
+      dart = λ x o. elim (cases_dart x d) [
         | inl q ↦ inr (subst (λ z. IsDivided g (edge_in v z)) (sym q) divided)
-        | inr nd ↦ elim (dart_cases x t) [
+        | inr nd ↦ elim (cases_dart x t) [
           | inl q ↦ inr (subst (IsDivided g) (sym (ap (edge_in v) q ∙ ap (λ z. z.edge) (twin_dart v s d c.dart))) divided)
           | inr nt ↦ inl (way v g d t n m w p parts x o nt nd)
         ]
@@ -93,7 +93,7 @@ edge_split v d w p n m s c =
     }
 
 -- ---- and all of them
-grown_step : (v : View) (h : Curves) (c : Change) → IsGraphSound v → FitsChange v h c → Grows (told v c) → IsGrown v (step v c)
+grown_step : (v : View) (h : Curves) (c : Change) → IsGraphSound v → FitsChange v h c → Grows (step_of_change v c) → IsGrown v (step v c)
 grown_step v h (AddVertex w p) s f g = vertex_added v w p s f
 grown_step v h (RemoveVertex w) s f g = absurd g
 grown_step v h (SplitEdge d w p n m) s f g = edge_split v d w p n m s f
@@ -106,7 +106,7 @@ grown_step v h (SetPin w) s f g = pin_grown v w true s
 grown_step v h (ClearPin w) s f g = pin_grown v w false s
 grown_step v h Clear s f g = absurd g
 
-pub all_grown : (v : View) (h : Curves) (ss : List Step) (w : View) (k : Curves) → IsGraphSound v → AreCurvesOf v h → Makes v h ss w k → AllGrow ss → IsGrown v w
+pub all_grown : (v : View) (h : Curves) (ss : List Step) (w : View) (k : Curves) → IsGraphSound v → AreCurvesOf v h → IsRunOfSteps v h ss w k → AllGrow ss → IsGrown v w
 all_grown v h [] w k s a m g = subst (IsGrown v) (sym m.0) (grown_same v)
 all_grown v h (x ∷ xs) w k s a m g =
     let c = m.0 in

@@ -10,32 +10,32 @@ use Rattle.edit_steps.proofs.Laws.{make_graph}
 use Rattle.edit_steps.proofs.Layers.{layers_lawful}
 use Rattle.slab_laws.specs.Sound.{IsGraphSound}
 use Rattle.slab_laws.specs.View.{View, HasDart}
-use Rattle.view_changes.specs.Writers.{no_rows}
-use Rattle.view_changes.proofs.Vertices.{nothing_is_there}
+use Rattle.arr_notes.specs.ViewChanges.{no_rows}
+use Rattle.arr_notes.proofs.VertexReads.{nothing_is_there}
 use Rattle.arr_notes.specs.Curves.{Curves}
-use Rattle.sound_splits.proofs.Vertices.{no_rows_sound}
-use Rattle.record_graphs.specs.Graph.{drawn_graph}
-use Rattle.graph_steps.proofs.Ways.{curves_by}
-use Rattle.curve_history.specs.Past.{Past, held}
-use Rattle.record_layers.specs.Kept.{layer_of, IsLayer, Makes}
-use Rattle.record_layers.specs.Laws.{IsRun, StepsMakeLayers, NothingIsALayer}
+use Rattle.sound_changes.proofs.VertexAdded.{no_rows_sound}
+use Rattle.sound_views.specs.RecordGraph.{drawn_graph}
+use Rattle.sound_changes.proofs.StepCases.{curves_by}
+use Rattle.curve_history.specs.Past.{Past, curves_on}
+use Rattle.record_layers.specs.RecordLayers.{layer_of, IsLayer, IsRunOfSteps}
+use Rattle.record_layers.specs.LayerSteps.{IsRun, StepsMakeLayers, NothingIsALayer}
 use Rattle.record_layers.proofs.Runs.{made_is_run}
 
 -- ---- after an edit
-module _ (e : Edit) (v : View) (p : Past) (w : View) (q : Past) (l : IsLayer v p) (accepted : IsAcceptedBy e (layer_of v p)) (made : Makes v (held p) (steps e (layer_of v p).present) w (held q)) where
+module _ (e : Edit) (v : View) (p : Past) (w : View) (q : Past) (l : IsLayer v p) (accepted : IsAcceptedBy e (layer_of v p)) (made : IsRunOfSteps v (curves_on p) (steps e (layer_of v p).present) w (curves_on q)) where
   abbrev old : Present
   old = (layer_of v p).present
 
   abbrev new : Present
   new = after e old
 
-  ran : IsRun v (held p) (steps e old) w (held q)
-  ran = made_is_run v (held p) (steps e old) w (held q) l.sound l.curves made
+  ran : IsRun v (curves_on p) (steps e old) w (curves_on q)
+  ran = made_is_run v (curves_on p) (steps e old) w (curves_on q) l.sound l.curves made
 
-  drawn : drawn_graph w (held q) ≡ graph new
+  drawn : drawn_graph w (curves_on q) ≡ graph new
   drawn = ran.graph ∙ ap (run (steps e old)) l.stands ∙ make_graph e old l.lawful.fit (layers_lawful.accepted e (layer_of v p) l.lawful accepted)
 
-  pins : (drawn_graph w (held q)).pins ≡ new.pins
+  pins : (drawn_graph w (curves_on q)).pins ≡ new.pins
   unfolding graph
   pins = ap (λ g. g.pins) drawn
 
@@ -68,11 +68,11 @@ nothing_present = refl
 pub nothing_is_a_layer : NothingIsALayer
 nothing_is_a_layer v p vertices darts none names pieces first =
     let rows : v ≡ no_rows = λ i. record { vertices = vertices i; darts = darts i } in
-    let drawn : drawn_graph v (held p) ≡ empty_graph = ap (λ z. drawn_graph z (held p)) rows ∙ nothing_drawn (held p) in
+    let drawn : drawn_graph v (curves_on p) ≡ empty_graph = ap (λ z. drawn_graph z (curves_on p)) rows ∙ nothing_drawn (curves_on p) in
     let empty : layer_of v p ≡ empty_layer p.next = λ i. record { present = record { pieces = pieces i; pins = (drawn i).pins }; names = names i; next = p.next } in
     record {
       sound = subst IsGraphSound (sym rows) no_rows_sound;
-      curves = curves_by v (held p) (λ d o. absurd (nothing_is_there.1 d (subst (λ z. HasDart z d) rows o))) (λ d o. none d);
+      curves = curves_by v (curves_on p) (λ d o. absurd (nothing_is_there.1 d (subst (λ z. HasDart z d) rows o))) (λ d o. none d);
       lawful = subst IsLawful (sym empty) (layers_lawful.empty p.next first);
       stands = drawn ∙ sym (ap (λ x. graph x.present) empty ∙ nothing_present);
     }

@@ -6,3 +6,5 @@ pub mod Grown
 pub mod Shrunk
 pub mod Names
 pub mod NamedLayers
+pub mod LayerEdges
+pub mod Moved

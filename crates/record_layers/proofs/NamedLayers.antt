@@ -1,23 +1,19 @@
 -- Records that stand for a layer name the vertices, edges and pins of its present.
-use Rattle.std.proofs.Common.{◌≡◌, ◌≢◌, List, [], ◌∷◌, map, refl, sym, ap, ◌∙◌, subst, inl}
+use Rattle.std.proofs.Common.{◌≡◌, ◌≢◌, [], ◌∷◌, map, refl, sym, ap, ◌∙◌, subst}
 use Rattle.plane_graphs.specs.Ascending.{Member}
 use Rattle.plane_graphs.specs.Graph.{Graph, Mark, Edge, mark, edge_of, edge_cmp, edges}
-use Rattle.plane_graphs.proofs.Lists.{in_map, of_map, in_ascending, of_ascending}
+use Rattle.plane_graphs.proofs.Lists.{in_map, of_map, in_ascending, of_ascending, some_of}
 use Rattle.plane_graphs.proofs.Meaning.{edge_cmp_total, edge_cmp_exact}
 use Rattle.slab_laws.specs.declared.names.DartId.{DartId}
 use Rattle.slab_laws.specs.Sound.{IsGraphSound}
 use Rattle.slab_laws.specs.View.{View, point_in, source_in, target_in}
 use Rattle.arr_notes.specs.Curves.{Curves, IsForward, AreCurvesOf}
-use Rattle.record_graphs.specs.Graph.{drawn_graph}
-use Rattle.record_graphs.specs.Laws.{IsMarkOf, GraphHolds}
-use Rattle.record_graphs.proofs.Along.{curves_of_darts}
-use Rattle.record_graphs.proofs.Held.{graphs_hold}
-use Rattle.curve_history.specs.Past.{held}
-use Rattle.record_layers.specs.Named.{IsForwardOn, IsNamedBy, LayersAreNamed, edge_ahead}
-
-some_of : {X : Type 0} (xs : List X) → xs ≢ [] → (x : X) × Member x xs
-some_of [] f = absurd (f refl)
-some_of (x ∷ xs) f = (x, inl refl)
+use Rattle.sound_views.specs.RecordGraph.{drawn_graph}
+use Rattle.sound_views.specs.RecordGraphLaws.{IsMarkOf, GraphHolds}
+use Rattle.sound_views.proofs.DartCurves.{curves_of_darts}
+use Rattle.sound_views.proofs.GraphHolds.{graphs_hold}
+use Rattle.curve_history.specs.Past.{curves_on}
+use Rattle.record_layers.specs.LayerNames.{IsForwardOn, IsNamedBy, LayersAreNamed, edge_ahead}
 
 module _ (v : View) (h : Curves) (s : IsGraphSound v) (a : AreCurvesOf v h) where
   abbrev drawn : Graph
@@ -56,4 +52,4 @@ module _ (v : View) (h : Curves) (s : IsGraphSound v) (a : AreCurvesOf v h) wher
   }
 
 pub layers_are_named : LayersAreNamed
-layers_are_named v p l = subst (IsNamedBy v (held p)) l.stands (drawn_named v (held p) l.sound l.curves)
+layers_are_named v p l = subst (IsNamedBy v (curves_on p)) l.stands (drawn_named v (curves_on p) l.sound l.curves)

@@ -7,11 +7,11 @@ use Rattle.plane_graphs.specs.Graph.{Edge, edges}
 use Rattle.plane_graphs.proofs.Ascending.{from_member}
 use Rattle.slab_laws.specs.Sound.{edge_in, skeleton_of, IsGraphSound}
 use Rattle.slab_laws.specs.View.{View, HasVertex, point_in}
-use Rattle.sound_splits.proofs.Known.{known_point}
+use Rattle.sound_changes.proofs.KnownNames.{known_point}
 use Rattle.arr_notes.specs.Curves.{Curves, AreCurvesOf}
-use Rattle.record_graphs.specs.Graph.{drawn_graph}
-use Rattle.record_graphs.proofs.Drawn.{graphs_are_drawn}
-use Rattle.record_layers.specs.Laws.{NamesStay, GrownNamesStay, ShrunkNamesStay}
+use Rattle.sound_views.specs.RecordGraph.{drawn_graph}
+use Rattle.sound_views.proofs.GraphDrawn.{graphs_are_drawn}
+use Rattle.record_layers.specs.LayerSteps.{NamesStay, GrownNamesStay, ShrunkNamesStay}
 use Rattle.record_layers.proofs.Runs.{made_is_run}
 use Rattle.record_layers.proofs.Stays.{not_divided, way_dart}
 use Rattle.record_layers.proofs.Grown.{IsGrown, all_grown}

@@ -12,32 +12,33 @@ use Rattle.slab_laws.specs.declared.names.VertexId.{VertexId}
 use Rattle.slab_laws.specs.Skeleton.{inside, side}
 use Rattle.slab_laws.specs.Sound.{edge_in, edge_between, skeleton_of, IsGraphSound}
 use Rattle.slab_laws.specs.View.{View, HasVertex, HasDart, point_in, source_in, target_in, twin_in, line_in}
-use Rattle.sound_views.proofs.Named.{twin_dart}
-use Rattle.view_changes.specs.Reads.{IsVertexLess, IsPinSet}
-use Rattle.view_changes.specs.Writers.{no_rows, without_vertex, with_pin}
-use Rattle.view_changes.proofs.Vertices.{vertex_is_removed, pin_is_set, nothing_is_there}
+use Rattle.sound_views.proofs.NamedDarts.{twin_dart}
+use Rattle.arr_notes.specs.Reads.{IsVertexLess, IsPinSet}
+use Rattle.arr_notes.specs.ViewChanges.{no_rows, without_vertex, with_pin}
+use Rattle.arr_notes.proofs.VertexReads.{vertex_is_removed, pin_is_set, nothing_is_there}
 use Rattle.arr_notes.specs.declared.change.Change.{Change}
 use Rattle.arr_notes.specs.declared.change.Change.TheVariants.{AddVertex, RemoveVertex, SplitEdge, MergeEdge, AddEdge, RemoveEdge, AddCurve, RemoveCurve, SetPin, ClearPin, Clear}
 use Rattle.arr_notes.specs.Curves.{Curves, AreCurvesOf, step_curves}
 use Rattle.arr_notes.specs.Step.{step, merge_edge, remove_edge}
-use Rattle.sound_rings.specs.Rings.{IsBare}
-use Rattle.sound_links.specs.Links.{IsEdgeMore, IsDrawnLess}
-use Rattle.sound_links.proofs.Kept.{up, start_old, end_old, point_same, vertex_up, twinned_down}
-use Rattle.sound_links.proofs.Removed.{fewer, drawn_less}
-use Rattle.sound_splits.specs.Fits.{FitsMerge}
-use Rattle.sound_splits.proofs.Cases.{dart_cases, edge_of_ends, ahead_by}
-use Rattle.sound_splits.proofs.Collinear.{flat_on_line}
-use Rattle.sound_splits.proofs.Halves.{IsHalved}
-use Rattle.sound_splits.proofs.Inside.{inside_in}
-use Rattle.sound_splits.proofs.Known.{edge_known, known_edge}
-use Rattle.sound_splits.proofs.Merges.{merge_drawn}
-use Rattle.graph_steps.specs.Told.{told, FitsChange}
-use Rattle.graph_steps.proofs.Changes.{changes_are_steps}
-use Rattle.graph_steps.proofs.Joined.{joined}
-use Rattle.graph_steps.proofs.Parts.{IsPartedAt, way}
-use Rattle.graph_steps.proofs.Ways.{IsSameWay, unchanged_way, turned_way}
-use Rattle.record_layers.specs.Kept.{Makes}
-use Rattle.record_layers.specs.Laws.{Shrinks, AllShrink}
+use Rattle.arr_notes.proofs.Names.{cases_dart}
+use Rattle.rotation_order.specs.VertexRings.{IsBare}
+use Rattle.sound_changes.specs.EdgePlaces.{IsEdgeMore, IsDrawnLess}
+use Rattle.sound_changes.proofs.RingsKept.{up, start_old, end_old, point_same, vertex_up, twinned_down}
+use Rattle.sound_changes.proofs.EdgeRemoved.{fewer, drawn_less}
+use Rattle.sound_changes.specs.ChangeFits.{FitsMerge}
+use Rattle.sound_changes.proofs.SplitCases.{edge_of_ends, ahead_by}
+use Rattle.sound_changes.proofs.Collinear.{flat_on_line}
+use Rattle.sound_changes.proofs.SplitHalves.{IsHalved}
+use Rattle.sound_changes.proofs.PointInside.{inside_in}
+use Rattle.sound_changes.proofs.KnownNames.{edge_known, known_edge}
+use Rattle.sound_changes.proofs.Merges.{merge_drawn}
+use Rattle.sound_changes.specs.StepOfChange.{step_of_change, FitsChange}
+use Rattle.sound_changes.proofs.ChangesAreSteps.{changes_are_steps}
+use Rattle.sound_changes.proofs.StepMergeEdges.{joined}
+use Rattle.sound_changes.proofs.StepSplitEdge.{IsPartedAt, way}
+use Rattle.sound_changes.proofs.StepCases.{IsSameWay, unchanged_way, turned_way}
+use Rattle.record_layers.specs.RecordLayers.{IsRunOfSteps}
+use Rattle.record_layers.specs.LayerSteps.{Shrinks, AllShrink}
 use Rattle.record_layers.proofs.Stays.{IsSamePlace, IsDivided, not_divided, way_on, way_edge, same_way, pin_way}
 
 -- every vertex of w is one of v; an edge of w is one of v, or had a vertex of v inside; and a dart of v is one of w, but where its edge is drawn no more
@@ -116,9 +117,9 @@ edge_removed v d s has =
     record {
       vertex = λ x o. record { has = vertex_up g v d t u w l k x o; point = point_same g v d t u w l k x };
       edge = λ e m. inl ((drawn.edges e).0 m).0;
-      dart = λ x o. elim (dart_cases x d) [
+      dart = λ x o. elim (cases_dart x d) [
         | inl q ↦ inr (gone (edge_in v x) (ap (edge_in v) q))
-        | inr nd ↦ elim (dart_cases x t) [
+        | inr nd ↦ elim (cases_dart x t) [
           | inl q ↦ inr (gone (edge_in v x) (ap (edge_in v) q ∙ ap (λ z. z.edge) (twin_dart v s d has)))
           | inr nt ↦ inl (back x ((k.others x nd nt).had o))
         ]
@@ -191,13 +192,13 @@ module _ (v : View) (w : VertexId) (d n : DartId) (s : IsGraphSound v) (c : Fits
 
   merged_dart : (x : DartId) → HasDart v x → IsSameWay v g x ⊎ ¬ Contains (skeleton_of g).edges (edge_in v x)
   merged_dart x o =
-      elim (dart_cases x d) [
+      elim (cases_dart x d) [
         | inl q ↦ inr (gone x o (inl (ap (edge_in v) q)))
-        | inr nd ↦ elim (dart_cases x t) [
+        | inr nd ↦ elim (cases_dart x t) [
           | inl q ↦ inr (gone x o (inl (twin_edge d x c.first q)))
-          | inr nt ↦ elim (dart_cases x n) [
+          | inr nt ↦ elim (cases_dart x n) [
             | inl q ↦ inr (gone x o (inr (ap (edge_in v) q)))
-            | inr nn ↦ elim (dart_cases x m) [
+            | inr nn ↦ elim (cases_dart x m) [
               | inl q ↦ inr (gone x o (inr (twin_edge n x c.second q)))
               | inr nm ↦ inl (turned_way g v x (way g v d t n m w P parts x (i.had x o nn nm) nt nd))
             ]
@@ -213,7 +214,7 @@ module _ (v : View) (w : VertexId) (d n : DartId) (s : IsGraphSound v) (c : Fits
   }
 
 -- ---- and all of them
-shrunk_step : (v : View) (h : Curves) (c : Change) → IsGraphSound v → FitsChange v h c → Shrinks (told v c) → IsShrunk v (step v c)
+shrunk_step : (v : View) (h : Curves) (c : Change) → IsGraphSound v → FitsChange v h c → Shrinks (step_of_change v c) → IsShrunk v (step v c)
 shrunk_step v h (AddVertex w p) s f g = absurd g
 shrunk_step v h (RemoveVertex w) s f g = vertex_removed v w s f.1
 shrunk_step v h (SplitEdge d w p n m) s f g = absurd g
@@ -226,7 +227,7 @@ shrunk_step v h (SetPin w) s f g = pin_changed v w true s
 shrunk_step v h (ClearPin w) s f g = pin_changed v w false s
 shrunk_step v h Clear s f g = all_removed v
 
-pub all_shrunk : (v : View) (h : Curves) (ss : List Step) (w : View) (k : Curves) → IsGraphSound v → AreCurvesOf v h → Makes v h ss w k → AllShrink ss → IsShrunk v w
+pub all_shrunk : (v : View) (h : Curves) (ss : List Step) (w : View) (k : Curves) → IsGraphSound v → AreCurvesOf v h → IsRunOfSteps v h ss w k → AllShrink ss → IsShrunk v w
 all_shrunk v h [] w k s a m g = subst (IsShrunk v) (sym m.0) (shrunk_same v)
 all_shrunk v h (x ∷ xs) w k s a m g =
     let c = m.0 in

@@ -8,12 +8,12 @@ use Rattle.slab_laws.specs.declared.names.VertexId.{VertexId}
 use Rattle.slab_laws.specs.Skeleton.{inside}
 use Rattle.slab_laws.specs.Sound.{dart_in, edge_in, skeleton_of, IsTwinned, IsGraphSound}
 use Rattle.slab_laws.specs.View.{View, HasVertex, HasDart, point_in, source_in, twin_in}
-use Rattle.sound_splits.proofs.Known.{point_known}
-use Rattle.sound_views.proofs.Named.{by_points}
-use Rattle.view_changes.specs.Reads.{IsSameDart}
-use Rattle.view_changes.specs.Writers.{with_pin}
-use Rattle.view_changes.proofs.Vertices.{pin_is_set}
-use Rattle.graph_steps.proofs.Ways.{IsSameWay}
+use Rattle.sound_changes.proofs.KnownNames.{point_known}
+use Rattle.sound_views.proofs.NamedDarts.{by_points}
+use Rattle.arr_notes.specs.Reads.{IsSameDart}
+use Rattle.arr_notes.specs.ViewChanges.{with_pin}
+use Rattle.arr_notes.proofs.VertexReads.{pin_is_set}
+use Rattle.sound_changes.proofs.StepCases.{IsSameWay}
 
 -- the vertex is in the second view, at the point that it has in the first
 pub record IsSamePlace (v w : View) (u : VertexId) : Type 0 where

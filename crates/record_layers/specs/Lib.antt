@@ -1,3 +1,4 @@
-pub mod Kept
-pub mod Laws
-pub mod Named
+pub mod RecordLayers
+pub mod LayerSteps
+pub mod LayerNames
+pub mod LayerEdits

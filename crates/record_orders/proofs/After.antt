@@ -6,6 +6,7 @@ use Rattle.std.specs.Option.{option_map}
 use Rattle.std.proofs.lemmas.Bool.Decides.{nat_tests}
 use Rattle.std.proofs.lemmas.List.{append-nil}
 use Rattle.slab_laws.specs.Tables.{is_after, name_after, NamesAscend}
+use Rattle.integers.proofs.Tests.{nat_lt_yes}
 
 -- the names that come after
 abbrev pub later : List ℕ → Option ℕ → List ℕ
@@ -20,9 +21,6 @@ after_less (Some k) m n h l = grind (arith, nat_tests)
 
 not_after_less : (m n : ℕ) → m < n → nat_lt n m ≡ false
 not_after_less m n l = grind (arith, nat_tests)
-
-is_less : (m n : ℕ) → m < n → nat_lt m n ≡ true
-is_less m n l = grind (arith, nat_tests)
 
 all_later : (at : Option ℕ) (ns : List ℕ) → AllByRecursion (λ n. is_after at n ≡ true) ns → later ns at ≡ ns
 all_later at [] a = refl
@@ -48,7 +46,7 @@ later_by : (m : ℕ) (ms : List ℕ) (at : Option ℕ) (n : ℕ) (b : Bool) → 
 later_by m ms at n true a t f h =
     let same : m ≡ n = cc in
     let rest : later ms at ≡ ms = all_later at ms (weaker (λ k. m < k) _ ms (λ k l. after_less at m k t l) a.0) in
-    let more : later ms (Some m) ≡ ms = all_later (Some m) ms (weaker (λ k. m < k) _ ms (λ k l. is_less m k l) a.0) in
+    let more : later ms (Some m) ≡ ms = all_later (Some m) ms (weaker (λ k. m < k) _ ms (λ k l. nat_lt_yes m k l) a.0) in
     let P : ℕ → Type 0 = λ k. m ∷ later ms at ≡ k ∷ cond (nat_lt k m) (m ∷ later ms (Some k)) (later ms (Some k)) in
     subst P same (rw (not_after_itself m) (ap (λ (xs : List ℕ). m ∷ xs) (rest ∙ sym more)))
 later_by m ms at n false a t f h =

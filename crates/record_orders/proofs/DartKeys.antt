@@ -1,10 +1,9 @@
 -- Sorted dart keys are the darts by source, then by target.
-use Rattle.std.proofs.Common.{◌≡◌, ℕ, ◌<◌, List, [], ◌∷◌, map, Ordering, Less, Equal, Greater, refl, sym, ◌∙◌, subst, arith, false}
+use Rattle.std.proofs.Common.{◌≡◌, ℕ, ◌<◌, List, [], ◌∷◌, map, Ordering, refl, sym, ◌∙◌, subst, false}
 use Rattle.std.specs.List.{AllByRecursion, IsDistinct}
 use Rattle.std.specs.List.Sorted.{IsPermutation, IsSorted}
 use Rattle.std.specs.Ordering.{ordering_then, nat_cmp, eq_by_cmp}
 use Rattle.std.specs.Cmp.{IsTotalOrder, then_total, on_total, nat_cmp_total}
-use Rattle.std.proofs.lemmas.Bool.Decides.{nat_tests}
 use Rattle.exact_plane.specs.PointOrder.{point_cmp}
 use Rattle.exact_plane.specs.PointOrderLaws.{point_cmp_total}
 use Rattle.plane_graphs.specs.Ascending.{IsAscending, Member}
@@ -16,12 +15,13 @@ use Rattle.slab_laws.specs.Rotation.{dart_cmp}
 use Rattle.slab_laws.specs.View.{View, HasDart, dart_id, point_in, source_in, target_in}
 use Rattle.slab_laws.specs.Sound.{dart_in, IsGraphSound}
 use Rattle.sound_views.specs.Orders.{dart_order}
-use Rattle.sound_views.proofs.Pulled.{IsAscending-map}
-use Rattle.sound_views.proofs.Named.{dart_name, named_dart, source_by, target_by, dart_cmp_total}
-use Rattle.sound_views.proofs.Ordered.{dart_ordered, ordered_dart}
+use Rattle.sound_views.proofs.PulledOrders.{IsAscending-map}
+use Rattle.sound_views.proofs.NamedDarts.{dart_name, named_dart, source_by, target_by, dart_cmp_total}
+use Rattle.sound_views.proofs.NamesOrdered.{dart_ordered, ordered_dart}
 use Rattle.record_orders.specs.declared.darts.DartKey.{DartKey}
 use Rattle.record_orders.specs.Keys.{dart_key, dart_keys}
 use Rattle.record_orders.proofs.Sorting.{all_members, untied, sorted_is}
+use Rattle.integers.proofs.Tests.{less_then, then_rest, not_tied}
 
 -- by source, then by target, then by name
 abbrev pub key_cmp : DartKey → DartKey → Ordering
@@ -29,21 +29,6 @@ key_cmp k m = ordering_then (point_cmp k.source m.source) (ordering_then (point_
 
 pub key_cmp_total : IsTotalOrder key_cmp
 key_cmp_total = then_total (on_total (λ k. k.source) point_cmp_total) (then_total (on_total (λ k. k.target) point_cmp_total) (on_total (λ k. k.name.0) nat_cmp_total))
-
-second : (r s : Ordering) → ordering_then r s ≡ Equal → s ≡ Equal
-second Less s e = cc
-second Equal s e = e
-second Greater s e = cc
-
-not_tied : (m n : ℕ) → m < n → nat_cmp m n ≡ Equal → ⊥
-not_tied m n l e = grind (arith, nat_tests)
-
-less_then : (r s t : Ordering) → ordering_then r s ≡ Less → ordering_then r (ordering_then s t) ≡ Less
-less_then Less s t e = refl
-less_then Equal Less t e = refl
-less_then Equal Equal t e = cc
-less_then Equal Greater t e = cc
-less_then Greater s t e = cc
 
 module _ (v : View) where
   abbrev all_names : List DartId
@@ -55,7 +40,7 @@ module _ (v : View) where
       let k : DartKey = dart_key v (dart_id n) in
       let l : DartKey = dart_key v (dart_id m) in
       let t : Ordering = point_cmp k.target l.target in
-      (untied key_cmp key_cmp_total k l (λ e. not_tied n m a.0 (second t (nat_cmp n m) (second (point_cmp k.source l.source) (ordering_then t (nat_cmp n m)) e))), differs n ms a.1)
+      (untied key_cmp key_cmp_total k l (λ e. not_tied n m a.0 (then_rest t (nat_cmp n m) (then_rest (point_cmp k.source l.source) (ordering_then t (nat_cmp n m)) e))), differs n ms a.1)
 
   distinct : (ns : List ℕ) → NamesAscend ns → IsDistinct (eq_by_cmp key_cmp) (map (dart_key v) (map dart_id ns))
   unfolding IsDistinct

@@ -17,7 +17,7 @@ use Rattle.slab_faces.proofs.Parity.{same_point_is, same_point_refl}
 use Rattle.record_orders.specs.declared.darts.DartKey.{DartKey}
 use Rattle.record_orders.specs.Keys.{AreBySource, first_out}
 
-and_turned : (a b c : Bool) → ((a && b) && c) ≡ (a && (b && c))
+pub and_turned : (a b c : Bool) → ((a && b) && c) ≡ (a && (b && c))
 and_turned true b c = refl
 and_turned false b c = refl
 

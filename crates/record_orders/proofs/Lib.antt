@@ -1,5 +1,11 @@
+pub mod CycleFirsts
+pub mod BodiesGrown
+pub mod CyclePlaces
+pub mod BodyTexts
 pub mod After
 pub mod Sorting
 pub mod VertexKeys
 pub mod DartKeys
 pub mod Firsts
+pub mod EdgeEnds
+pub mod EdgeOrders

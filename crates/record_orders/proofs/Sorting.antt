@@ -1,5 +1,5 @@
 -- What a sort leaves of a list whose elements differ.
-use Rattle.std.proofs.Common.{◌≡◌, true, false, List, Ordering, Less, Equal, Greater, is_eq, refl}
+use Rattle.std.proofs.Common.{◌≡◌, false, List, Ordering, Equal}
 use Rattle.std.specs.List.{IsDistinct}
 use Rattle.std.specs.List.Sorted.{IsPermutation, IsSorted}
 use Rattle.std.specs.Ordering.{eq_by_cmp}
@@ -10,11 +10,7 @@ use Rattle.plane_graphs.specs.Ascending.{IsAscending, Member}
 use Rattle.plane_graphs.proofs.Ascending.{to_member, from_member, ascending_unique}
 use Rattle.plane_graphs.proofs.Sorting.{sorted_ascends}
 pub use Rattle.plane_graphs.proofs.Sorting.{all_members}
-
-is_equal : (o : Ordering) → is_eq o ≡ true → o ≡ Equal
-is_equal Less h = cc
-is_equal Equal h = refl
-is_equal Greater h = cc
+use Rattle.integers.proofs.Tests.{is_equal}
 
 module _ {X : Type 0} (cmp : X → X → Ordering) (o : IsTotalOrder cmp) where
   pub untied : (x y : X) → (cmp x y ≡ Equal → ⊥) → eq_by_cmp cmp x y ≡ false

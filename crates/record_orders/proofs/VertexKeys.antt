@@ -1,10 +1,9 @@
 -- Sorted vertex keys are the vertices in point order.
-use Rattle.std.proofs.Common.{◌≡◌, ℕ, ◌<◌, List, [], ◌∷◌, map, Ordering, Less, Equal, Greater, sym, ap, subst, arith, false}
+use Rattle.std.proofs.Common.{◌≡◌, ℕ, ◌<◌, List, [], ◌∷◌, map, Ordering, sym, ap, subst, false}
 use Rattle.std.specs.List.{AllByRecursion, IsDistinct}
 use Rattle.std.specs.List.Sorted.{IsPermutation, IsSorted}
 use Rattle.std.specs.Ordering.{ordering_then, nat_cmp, eq_by_cmp}
 use Rattle.std.specs.Cmp.{IsTotalOrder, then_total, on_total, nat_cmp_total}
-use Rattle.std.proofs.lemmas.Bool.Decides.{nat_tests}
 use Rattle.exact_plane.specs.PointOrder.{point_cmp}
 use Rattle.exact_plane.specs.PointOrderLaws.{point_cmp_total}
 use Rattle.plane_graphs.specs.Ascending.{IsAscending, Member}
@@ -15,12 +14,13 @@ use Rattle.slab_laws.specs.declared.names.VertexId.{VertexId}
 use Rattle.slab_laws.specs.View.{View, HasVertex, vertex_id, point_in}
 use Rattle.slab_laws.specs.Sound.{IsGraphSound}
 use Rattle.sound_views.specs.Orders.{vertex_order}
-use Rattle.sound_views.proofs.Pulled.{IsAscending-map}
-use Rattle.sound_views.proofs.Named.{vertex_name, named_vertex}
-use Rattle.sound_views.proofs.Ordered.{vertex_ordered, ordered_vertex}
+use Rattle.sound_views.proofs.PulledOrders.{IsAscending-map}
+use Rattle.sound_views.proofs.NamedDarts.{vertex_name, named_vertex}
+use Rattle.sound_views.proofs.NamesOrdered.{vertex_ordered, ordered_vertex}
 use Rattle.record_orders.specs.declared.vertices.VertexKey.{VertexKey}
 use Rattle.record_orders.specs.Keys.{vertex_key, vertex_keys}
 use Rattle.record_orders.proofs.Sorting.{all_members, untied, sorted_is}
+use Rattle.integers.proofs.Tests.{then_rest, not_tied}
 
 -- by point, then by name
 abbrev pub key_cmp : VertexKey → VertexKey → Ordering
@@ -28,14 +28,6 @@ key_cmp k m = ordering_then (point_cmp k.point m.point) (nat_cmp k.name.0 m.name
 
 key_cmp_total : IsTotalOrder key_cmp
 key_cmp_total = then_total (on_total (λ k. k.point) point_cmp_total) (on_total (λ k. k.name.0) nat_cmp_total)
-
-second : (r s : Ordering) → ordering_then r s ≡ Equal → s ≡ Equal
-second Less s e = cc
-second Equal s e = e
-second Greater s e = cc
-
-not_tied : (m n : ℕ) → m < n → nat_cmp m n ≡ Equal → ⊥
-not_tied m n l e = grind (arith, nat_tests)
 
 module _ (v : View) where
   abbrev all_names : List VertexId
@@ -46,7 +38,7 @@ module _ (v : View) where
   differs n (m ∷ ms) a =
       let k : VertexKey = vertex_key v (vertex_id n) in
       let l : VertexKey = vertex_key v (vertex_id m) in
-      (untied key_cmp key_cmp_total k l (λ e. not_tied n m a.0 (second (point_cmp k.point l.point) (nat_cmp n m) e)), differs n ms a.1)
+      (untied key_cmp key_cmp_total k l (λ e. not_tied n m a.0 (then_rest (point_cmp k.point l.point) (nat_cmp n m) e)), differs n ms a.1)
 
   distinct : (ns : List ℕ) → NamesAscend ns → IsDistinct (eq_by_cmp key_cmp) (map (vertex_key v) (map vertex_id ns))
   unfolding IsDistinct

@@ -1,1 +1,4 @@
+pub mod CycleKeys
 pub mod Keys
+pub mod Edges
+pub mod Bodies

@@ -32,7 +32,11 @@ fn key_of<R: Darts>(records: &R, name: DartId) -> DartKey
     }
 }
 
-fn keys_of<R: Darts>(alloc: Global, records: &R, names: &[DartId]) -> Result<Vec<DartKey>, NoMemory>
+pub(crate) fn keys_of<R: Darts>(
+    alloc: Global,
+    records: &R,
+    names: &[DartId],
+) -> Result<Vec<DartKey>, NoMemory>
     requires sound { IsGraphSound (R.graph records.now) }
     requires have { AllByRecursion (λ d. HasDart (R.graph records.now) d) names.now }
     ensures { IfOk result (λ v. v.items ≡ map (dart_key (R.graph records.now)) names.now) }

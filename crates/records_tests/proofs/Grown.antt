@@ -9,44 +9,35 @@ use Rattle.exact_plane.specs.PointOrderLaws.{point_cmp_total}
 use Rattle.plane_graphs.specs.Ascending.{IsAscending}
 use Rattle.plane_graphs.specs.Graph.{Edge, edge_cmp}
 use Rattle.plane_graphs.proofs.Ascending.{to_member, from_member, IsAscending-ascending}
-use Rattle.plane_graphs.proofs.Lists.{both, and_in, of_ascending}
+use Rattle.plane_graphs.proofs.Lists.{of_ascending}
 use Rattle.plane_graphs.proofs.Lines.{point_is_proper}
 use Rattle.plane_graphs.proofs.Meaning.{edge_cmp_total, edge_cmp_exact}
 use Rattle.slab_laws.specs.declared.names.DartId.{DartId}
 use Rattle.slab_laws.specs.declared.names.VertexId.{VertexId}
-use Rattle.slab_laws.specs.Drawn.{edge_of, drawn}
-use Rattle.slab_laws.specs.Skeleton.{same_point, same_edge, IsPlaneSkeleton}
+use Rattle.slab_laws.specs.SpansDrawn.{edge_of, drawn}
+use Rattle.slab_laws.specs.Skeleton.{same_point, IsPlaneSkeleton}
 use Rattle.slab_laws.specs.Sound.{skeleton_of, edge_in, edge_between, IsGraphSound}
 use Rattle.slab_laws.specs.View.{View, HasVertex, HasDart, vertex_id, point_in, source_in, target_in}
-use Rattle.slab_faces.proofs.Parity.{same_point_is, same_point_refl}
 use Rattle.slab_faces.proofs.PlaneGraphs.{once}
 use Rattle.slab_faces.proofs.Member.{Member, member_in, in_member, none_passes, map_in, append_left, append_right, append_cases}
+use Rattle.slab_faces.proofs.Parity.{same_point_is, same_point_refl}
 use Rattle.sound_views.specs.Orders.{vertex_order, dart_order}
-use Rattle.sound_views.proofs.Ordered.{points_in_order, dart_ordered}
-use Rattle.sound_splits.proofs.Known.{point_known, known_point, known_edge}
-use Rattle.sound_splits.specs.Fits.{IsNewVertex}
-use Rattle.sound_splits.proofs.Vertices.{vertex_more}
-use Rattle.view_changes.specs.Writers.{with_vertex}
-use Rattle.view_changes.proofs.Pairs.{names_stay}
-use Rattle.view_changes.proofs.Vertices.{vertex_is_added}
+use Rattle.sound_views.proofs.NamesOrdered.{points_in_order, dart_ordered}
+use Rattle.sound_changes.proofs.KnownNames.{point_known, known_point, known_edge}
+use Rattle.sound_changes.specs.ChangeFits.{IsNewVertex}
+use Rattle.sound_changes.proofs.VertexAdded.{vertex_more}
+use Rattle.arr_notes.specs.ViewChanges.{with_vertex}
+use Rattle.arr_notes.proofs.PairReads.{names_stay}
+use Rattle.arr_notes.proofs.VertexReads.{vertex_is_added}
 use Rattle.record_orders.specs.Keys.{dart_key, vertex_key}
 use Rattle.edge_link.specs.Links.{with_edge_between}
 use Rattle.records_tests.specs.PlaneTests.{IsPlaneButTwice}
 use Rattle.records_tests.specs.Fixtures.{key_edge, listed_points, listed_edges}
+use Rattle.rotation_order.proofs.EdgesOnce.{edge_once}
 
 -- ---- lists with the same members
 point_once : (p : Point) (vs : List Point) → IsAscending point_cmp vs → Contains vs p → count_by (same_point p) vs ≡ 1
 point_once p vs a m = once point_cmp point_cmp_total (same_point p) p vs a (to_member vs p m) (same_point_refl p) (λ z k. sym (same_point_is p z k))
-
-edge_once : (e : Edge) (es : List Edge) → IsAscending edge_cmp es → Contains es e → count_by (same_edge e) es ≡ 1
-unfolding same_edge
-edge_once e es a m =
-    once edge_cmp edge_cmp_total (same_edge e) e es a (to_member es e m)
-    (and_in (same_point_refl e.low) (same_point_refl e.high))
-    (λ z k. let w = both (same_point e.low z.low) (same_point e.high z.high) k in
-    let p = sym (same_point_is e.low z.low w.0) in
-    let q = sym (same_point_is e.high z.high w.1) in
-    λ i. record { low = p i; high = q i })
 
 pub plane_alike : (vs ws : List Point) (es fs : List Edge) → IsPlaneButTwice (record { vertices = vs; edges = es }) → IsAscending point_cmp ws → IsAscending edge_cmp fs
     → ((p : Point) → Contains ws p → Contains vs p) → ((p : Point) → Contains vs p → Contains ws p) → ((e : Edge) → Contains fs e → Contains es e) → IsPlaneSkeleton (record { vertices = ws; edges = fs })
@@ -85,11 +76,8 @@ module _ (v : View) (s : IsGraphSound v) where
   pub edge_listed : (e : Edge) → Contains (skeleton_of v).edges e → Member (listed_edges v) e
   edge_listed e c = let r = known_edge v e c in subst (Member (listed_edges v)) (sym r.2) (dart_listed r.0 r.1)
 
-  -- an edge more
+  -- one more edge
   module _ (u w : VertexId) (points : List Point) (spans : List Span) (qp : points ≡ listed_points v) (qs : map edge_of spans ≡ listed_edges v ++ (edge_between (point_in v u) (point_in v w) ∷ [])) (plane : IsPlaneButTwice (drawn points spans)) where
-    new : Edge
-    new = edge_between (point_in v u) (point_in v w)
-
     listed : (e : Edge) → Contains (with_edge_between v u w).edges e → Contains (map edge_of spans) e
     listed e c =
         subst (λ es. Contains es e) (sym qs) (member_in (listed_edges v ++ (edge_between (point_in v u) (point_in v w) ∷ [])) e
@@ -110,7 +98,7 @@ module _ (v : View) (s : IsGraphSound v) where
         (λ p c. subst (λ ps. Contains ps p) same c)
         listed
 
-  -- a vertex more
+  -- one more vertex
   module _ (w : VertexId) (p : Point) (n : IsNewVertex v w p) (points : List Point) (spans : List Span) (qp : points ≡ listed_points v ++ (p ∷ [])) (qs : map edge_of spans ≡ listed_edges v) (plane : IsPlaneButTwice (drawn points spans)) where
     abbrev h : View
     h = with_vertex v w p

@@ -10,12 +10,12 @@ use lib.Signed.{lt_z}
 use Rattle.exact_plane.specs.Point.{Point}
 use Rattle.exact_plane.specs.Span.{Span}
 use Rattle.plane_graphs.specs.Graph.{Edge}
-use Rattle.slab_laws.specs.Drawn.{edge_of, drawn}
-use Rattle.slab_laws.specs.Skeleton.{HasWeight, precedes, left_of, lower_than, on_wall, same_point, inside, crosses}
-use Rattle.slab_faces.proofs.Walls.{left_of-asym, on_wall_parts}
-use Rattle.slab_faces.proofs.Parity.{same_point_is}
+use Rattle.slab_laws.specs.SpansDrawn.{edge_of, drawn}
+use Rattle.slab_laws.specs.Skeleton.{HasWeight, precedes, same_point, inside, crosses}
 use Rattle.slab_faces.proofs.Member.{Member, member_in, in_member, map_out, none_passes}
+use Rattle.slab_faces.proofs.Parity.{same_point_is}
 use Rattle.records_tests.specs.PlaneTests.{IsPlaneButTwice, are_told, vertex_fits, ends_fit, edge_fits}
+use Rattle.rotation_order.proofs.EdgeCuts.{climbs_on_wall, not_after}
 
 passes_all : {X : Type 0} (p : X → Bool) (xs : List X) (x : X) → list_all p xs ≡ true → Contains xs x → p x ≡ true
 passes_all p xs x h in' = All-contains (λ x. p x ≡ true) xs x (AllPass-from_list_all p xs h) in'
@@ -63,17 +63,6 @@ fits_from vs ss e h =
       uncrossed = d.1;
     }
 
-forward : (p q : Point) → precedes p q ≡ true → left_of q p ≡ false
-forward p q h =
-    elim (cases_Bool (left_of p q)) [
-      | inl a ↦ left_of-asym p q a
-      | inr a ↦ not-true _ (and_parts (not (left_of q p)) (lower_than p q) (subst (λ b. (b || (not (left_of q p) && lower_than p q)) ≡ true) a h)).0
-    ]
-
-upright : (p q : Point) → precedes p q ≡ true → on_wall p q ≡ true → lower_than p q ≡ true
-upright p q h w =
-    (and_parts (not (left_of q p)) (lower_than p q) (subst (λ b. (b || (not (left_of q p) && lower_than p q)) ≡ true) (on_wall_parts p q w).0 h)).1
-
 weight : (p : Point) → lt_z (pos 0) p.w ≡ true → HasWeight p
 weight p h = omega (arith, ints)
 
@@ -91,8 +80,8 @@ plane_from vs ss h k =
       lower_in = λ e E. vertex_there e.low vs (fits e E).lower;
       upper_in = λ e E. vertex_there e.high vs (fits e E).upper;
       proper_edge = λ e E. (weight e.low (vertex e.low (vertex_there e.low vs (fits e E).lower)).0, weight e.high (vertex e.high (vertex_there e.high vs (fits e E).upper)).0);
-      forward = λ e E. forward e.low e.high (fits e E).ascends;
-      upright = λ e E w. upright e.low e.high (fits e E).ascends w;
+      forward = λ e E. not_after e.low e.high (fits e E).ascends;
+      upright = λ e E w. climbs_on_wall e.low e.high (fits e E).ascends w;
       distinct = λ v w V W a b. told v w (passes_all (are_told v) vs w (vertex v V).1 W) a b;
       clear = λ e v E V. none_there (inside e) vs v (fits e E).clear V;
       uncrossed = λ e f E F. let s = drawn_from f F in subst (λ f. crosses e f ≡ false) s.2 (none_there (λ s. crosses e (edge_of s)) ss s.0 (fits e E).uncrossed (member_in ss s.0 s.1));

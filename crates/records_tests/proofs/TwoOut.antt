@@ -1,26 +1,22 @@
 -- A vertex that just two darts leave, and what is asked of them where their edges become one.
 use Rattle.std.proofs.Common.{◌≡◌, ◌&&◌, true, inl, inr, sym, ap, subst, ◌∙◌}
-use Rattle.std.proofs.lemmas.Bool.{cases_eq, and_parts}
-use Rattle.std.specs.Ordering.{int_eq}
-use Rattle.std.proofs.lemmas.Bool.Decides.{Decides-int_eq}
-use Rattle.exact_plane.specs.Line.{Line}
-use Rattle.exact_plane.specs.MeetOf.{same_line}
-use Rattle.dart_rings.specs.Order.{IsStrictOn, IsRoundOn, sooner_by}
-use Rattle.dart_rings.specs.Ring.{Out, IsApart, IsAfter}
-use Rattle.dart_rings.proofs.Edits.{apart_of}
-use Rattle.dart_rings.proofs.Linear.{round_by}
+use Rattle.std.proofs.lemmas.Bool.{cases_eq}
+use Rattle.rotation_order.specs.RingOrder.{IsStrictOn, IsRoundOn, sooner_by}
+use Rattle.rotation_order.specs.Ring.{Out, IsApart, IsAfter}
+use Rattle.rotation_order.proofs.RingEdits.{apart_of}
+use Rattle.rotation_order.proofs.RingOrders.{round_by}
 use Rattle.slab_laws.specs.declared.names.DartId.{DartId}
 use Rattle.slab_laws.specs.declared.names.VertexId.{VertexId}
 use Rattle.slab_laws.specs.Darts.{Dart}
-use Rattle.slab_laws.specs.Rotation.{earlier}
+use Rattle.slab_laws.specs.Rotation.{earlier, OutOf}
 use Rattle.slab_laws.specs.Sound.{skeleton_of, dart_in, IsGraphSound}
 use Rattle.slab_laws.specs.View.{View, HasVertex, HasDart, IsOutOf, vertex_id, dart_id, point_in, source_in, twin_in, line_in}
-use Rattle.sound_rings.specs.Rings.{OutOf, turns_in, RingOf}
-use Rattle.sound_rings.proofs.Named.{out_of}
-use Rattle.sound_rings.proofs.Sound.{sound_views_have_rings}
-use Rattle.sound_rings.proofs.Turned.{strict_at}
-use Rattle.sound_splits.specs.Fits.{FitsMerge}
-use Rattle.view_changes.specs.Around.{after_in}
+use Rattle.rotation_order.specs.VertexRings.{turns_in, RingOf}
+use Rattle.rotation_order.proofs.RingNames.{out_of}
+use Rattle.rotation_order.proofs.SoundRings.{sound_views_have_rings}
+use Rattle.rotation_order.proofs.RingTurned.{strict_at}
+use Rattle.sound_changes.specs.ChangeFits.{FitsMerge}
+use Rattle.arr_notes.specs.AfterAround.{after_in}
 use Rattle.records_tests.specs.Fixtures.{AreTheTwoOut}
 
 module _ (v : View) (w : VertexId) (s : IsGraphSound v) (a : DartId) (o : IsOutOf v w a) where
@@ -101,11 +97,3 @@ passes v w s a b d t e fd fb l =
     }
 
 -- ---- lines with the same numbers
-pub one_line : (l m : Line) → same_line l m ≡ true → l ≡ m
-one_line l m h =
-    let p = and_parts (int_eq l.a m.a) (int_eq l.b m.b && int_eq l.c m.c) h in
-    let q = and_parts (int_eq l.b m.b) (int_eq l.c m.c) p.1 in
-    let x = (Decides-int_eq l.a m.a).0 p.0 in
-    let y = (Decides-int_eq l.b m.b).0 q.0 in
-    let z = (Decides-int_eq l.c m.c).0 q.1 in
-    λ i. record { a = x i; b = y i; c = z i }

@@ -5,7 +5,7 @@ use lib.Signed.{lt_z}
 use Rattle.exact_plane.specs.Point.{Point}
 use Rattle.exact_plane.specs.Span.{Span}
 use Rattle.plane_graphs.specs.Graph.{Edge}
-use Rattle.slab_laws.specs.Drawn.{edge_of}
+use Rattle.slab_laws.specs.SpansDrawn.{edge_of}
 use Rattle.slab_laws.specs.Skeleton.{Skeleton, HasWeight, left_of, lower_than, on_wall, precedes, same_point, inside, crosses}
 
 -- one comes before the other, or both are one (this project)
@@ -13,7 +13,7 @@ abbrev pub are_told : Point → Point → Bool
 are_told v w = precedes v w || (precedes w v || same_point v w)
 
 -- a point that is told from all others (this project)
-unfoldable pub vertex_fits : List Point → Point → Bool
+unfoldable pub vertex_fits : (vs : List Point) (v : Point) → Bool
 vertex_fits vs v = lt_z (pos 0) v.w && list_all (are_told v) vs
 
 -- the ends stand once among the vertices (this project)

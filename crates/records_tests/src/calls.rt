@@ -25,7 +25,7 @@ pub enum Call {
     Joins((usize, usize), Ends, Option<(DartId, DartId)>),
     /// The dart's edge goes, with its twin.
     Cuts(usize, Option<DartId>),
-    /// The dart's edge in two at the point: the new vertex and the two new darts.
+    /// The dart's edge is split at the point: the new vertex and the two new darts.
     Splits(usize, At, Option<(VertexId, DartId, DartId)>),
     /// Two edges in one at the vertex: the dart that stays and the one that goes.
     Merges(usize, Option<(DartId, DartId)>),

@@ -2,13 +2,13 @@ ghost use Rattle.std.specs.Prelude.{◌≡◌, ◌≢◌, ◌≤◌, true, false
 ghost use Rattle.std.specs.List.{list_any};
 ghost use Rattle.exact_plane.specs.Line.{side_of};
 ghost use Rattle.plane_graphs.specs.Line.{precedes};
-ghost use Rattle.edge_fans.specs.Ways.{way_of};
+ghost use Rattle.rotation_order.specs.Directions.{dart_direction};
 ghost use Rattle.slab_laws.specs.Skeleton.{IsPlaneSkeleton, same_point};
 ghost use Rattle.slab_laws.specs.Sound.{IsGraphSound};
-ghost use Rattle.slab_laws.specs.View.{HasVertex, HasDart, point_in};
-ghost use Rattle.sound_links.specs.Links.{dart_between, IsPlaceFor};
+ghost use Rattle.slab_laws.specs.View.{HasVertex, point_in};
+ghost use Rattle.sound_changes.specs.EdgePlaces.{dart_between, IsPlaceFor};
 ghost use Rattle.arr_notes.specs.Step.{step};
-ghost use Rattle.view_changes.specs.Writers.{with_vertex};
+ghost use Rattle.arr_notes.specs.ViewChanges.{with_vertex};
 ghost use Rattle.edge_link.specs.Links.{CanLink, with_edge_between};
 
 use crate::lists::{points_of, span_between, spans_of};
@@ -33,7 +33,7 @@ fn is_on(line: &Line, point: &Point) -> bool
 
 // The direction of a line, from one of its points towards another.
 fn way_from(line: &Line, from: &Point, to: &Point) -> Direction
-    ensures { result ≡ way_of line.now (precedes from.now to.now) }
+    ensures { result ≡ dart_direction line.now (precedes from.now to.now) }
 {
     let along = Direction::along(line);
     if from < to { along } else { along.back() }
@@ -59,7 +59,7 @@ fn place_for(records: &Records, u: VertexId, v: VertexId, line: &Line) -> Option
     }
 }
 
-// Whether the graph with an edge more is plane; false also for want of memory.
+// Whether the graph with one more edge is plane; false also for want of memory.
 fn is_plane_with(alloc: Global, records: &Records, u: VertexId, v: VertexId, line: Line) -> bool
     requires sound { IsGraphSound records.now.graph }
     requires start { HasVertex records.now.graph u }
@@ -104,7 +104,7 @@ fn link_at(
     }
 }
 
-// An edge more between two vertices, where it has a place at both and the graph stays plane.
+// One more edge between two vertices, where it has a place at both and the graph stays plane.
 pub(crate) fn join(
     alloc: Global,
     records: &mut Records,
@@ -143,7 +143,7 @@ fn has_point(points: &[Point], point: &Point) -> bool
     points.iter().any(|p| is_same(point, p))
 }
 
-// A vertex more, where the graph stays plane.
+// One more vertex, where the graph stays plane.
 pub(crate) fn add_vertex(alloc: Global, records: &mut Records, point: Point) -> Option<VertexId>
     requires { IsGraphSound records.old.graph }
     ensures sound { IsGraphSound records.new.graph }

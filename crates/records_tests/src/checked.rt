@@ -4,10 +4,10 @@ ghost use Rattle.arr_notes.specs.declared.change.Change.TheVariants.{RemoveEdge}
 ghost use Rattle.arr_notes.specs.Step.{step};
 ghost use Rattle.edge_split_merge.specs.Merges.{TellsOfMerge};
 ghost use Rattle.edge_split_merge.specs.Splits.{TellsOfSplit};
-ghost use Rattle.dcel_records.specs.Held.{ends_found, point_found};
+ghost use Rattle.dcel_records.specs.RecordsView.{ends_found, point_found};
 ghost use Rattle.rotation_order.specs.Place.{IsPlaceOf};
-ghost use Rattle.view_changes.specs.Around.{after_in};
-ghost use Rattle.view_changes.specs.Writers.{no_rows, with_vertex};
+ghost use Rattle.arr_notes.specs.AfterAround.{after_in};
+ghost use Rattle.arr_notes.specs.ViewChanges.{no_rows, with_vertex};
 ghost use Rattle.zone_walk.specs.Zone.{IsZoneOf};
 
 use crate::lists::{has_dart, has_vertex};
@@ -31,10 +31,10 @@ pub struct Checked {
 }
 
 impl Model for Checked {
-    ghost use Rattle.dcel_records.specs.Held.{Held};
+    ghost use Rattle.dcel_records.specs.RecordsView.{RecordsView};
     ghost use Rattle.slab_laws.specs.Sound.{IsGraphSound};
 
-    ghost Value = { Held };
+    ghost Value = { RecordsView };
 
     ghost view = { λ c. c.records };
 
@@ -60,14 +60,14 @@ impl Checked {
         self.records.reserve(room)
     }
 
-    /// A vertex more; `None` where one has the point, where the graph with it isn't plane, or for want of memory.
+    /// One more vertex; `None` where one has the point, where the graph with it isn't plane, or for want of memory.
     pub fn add_vertex(&mut self, alloc: Global, point: Point) -> Option<VertexId>
         ensures { IfSome result (λ w. self.new.graph ≡ with_vertex self.old.graph w point) }
     {
         changes::add_vertex(alloc, &mut self.records, point)
     }
 
-    /// An edge more; `None` where it has no place, where the graph with it isn't plane, or for want of memory.
+    /// One more edge; `None` where it has no place, where the graph with it isn't plane, or for want of memory.
     pub fn join(
         &mut self,
         alloc: Global,
@@ -84,7 +84,7 @@ impl Checked {
         changes::join(alloc, &mut self.records, u, v, line, curve)
     }
 
-    /// An edge fewer; `None` for a name without a record.
+    /// One edge fewer; `None` for a name without a record.
     pub fn cut(&mut self, d: DartId) -> Option<Change>
         ensures change { IfSome result (λ c. c ≡ RemoveEdge d (twin_in self.old.graph d)) }
         ensures graph { IfSome result (λ c. self.new.graph ≡ step self.old.graph c) }
@@ -95,7 +95,7 @@ impl Checked {
         Some(unlink(&mut self.records, d))
     }
 
-    /// An edge in two at a point inside it; `None` for a name without a record, where the dart goes from its upper to its lower
+    /// An edge is split at a point inside it; `None` for a name without a record, where the dart goes from its upper to its lower
     /// end, where the point isn't inside, or for want of memory.
     pub fn split(&mut self, d: DartId, point: Point) -> Option<Change>
         ensures change { IfSome result (λ c. TellsOfSplit c d point) }

@@ -1,8 +1,8 @@
-ghost use Rattle.std.specs.Prelude.{◌≡◌, true, map, take, IfSome, IsSome};
-ghost use Rattle.slab_laws.specs.Drawn.{edge_of};
+ghost use Rattle.std.specs.Prelude.{◌≡◌, true, map, IfSome};
+ghost use Rattle.slab_laws.specs.SpansDrawn.{edge_of};
 ghost use Rattle.slab_laws.specs.Sound.{IsGraphSound, edge_between};
 ghost use Rattle.slab_laws.specs.View.{HasVertex, HasDart};
-ghost use Rattle.records_tests.specs.Fixtures.{key_edge, listed_points, listed_edges};
+ghost use Rattle.records_tests.specs.Fixtures.{listed_points, listed_edges};
 
 use dcel_records::Records;
 use exact_plane::{Line, Point, Span};

@@ -1,8 +1,8 @@
 ghost use Rattle.std.specs.Prelude.{◌≡◌, IfSome};
 ghost use Rattle.slab_laws.specs.Sound.{IsGraphSound};
-ghost use Rattle.slab_laws.specs.View.{HasVertex, HasDart};
+ghost use Rattle.slab_laws.specs.View.{HasVertex};
 ghost use Rattle.arr_notes.specs.Step.{step};
-ghost use Rattle.sound_splits.specs.Fits.{FitsMerge};
+ghost use Rattle.sound_changes.specs.ChangeFits.{FitsMerge};
 ghost use Rattle.edge_split_merge.specs.Merges.{TellsOfMerge};
 ghost use Rattle.records_tests.specs.Fixtures.{AreTheTwoOut};
 

@@ -1,7 +1,7 @@
 ghost use Rattle.std.specs.Prelude.{◌≡◌, true, pos};
 ghost use Rattle.std.specs.List.{count_by, list_any, list_all};
 ghost use lib.Signed.{lt_z};
-ghost use Rattle.slab_laws.specs.Drawn.{edge_of, drawn};
+ghost use Rattle.slab_laws.specs.SpansDrawn.{edge_of, drawn};
 ghost use Rattle.slab_laws.specs.Skeleton.{same_point, inside, crosses as is_crossing, precedes as comes_before};
 ghost use Rattle.records_tests.specs.PlaneTests.{IsPlaneButTwice, are_told, vertex_fits, ends_fit, edge_fits};
 

@@ -1,5 +1,5 @@
 ghost use Rattle.std.specs.Prelude.{◌≡◌, IfSome};
-ghost use Rattle.slab_laws.specs.Drawn.{edge_of};
+ghost use Rattle.slab_laws.specs.SpansDrawn.{edge_of};
 ghost use Rattle.slab_laws.specs.Sound.{IsGraphSound, dart_in, edge_in};
 ghost use Rattle.slab_laws.specs.View.{HasDart, point_in, source_in, target_in};
 ghost use Rattle.arr_notes.specs.Step.{step};

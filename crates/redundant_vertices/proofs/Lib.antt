@@ -1,9 +1,7 @@
 pub mod Straight
 pub mod Told
 pub mod Twice
-pub mod Lines
 pub mod Passed
-pub mod Made
 pub mod Loosened
 pub mod Stayed
 pub mod Missing

@@ -5,26 +5,27 @@ use Rattle.exact_plane.specs.Point.{Point}
 use Rattle.plane_graphs.specs.Ascending.{Member}
 use Rattle.plane_graphs.specs.Graph.{Graph, Mark}
 use Rattle.plane_graphs.specs.Line.{same_point}
-use Rattle.plane_graphs.proofs.Lists.{any_in, any_out, clash, not_true}
+use Rattle.plane_graphs.proofs.Lists.{any_in, any_out, clash}
 use Rattle.edit_steps.specs.Steps.{MergeEdge as MergeEdgeAt, RemoveVertex as RemoveVertexAt, tidy_step}
 use Rattle.slab_laws.specs.declared.names.DartId.{DartId}
 use Rattle.slab_laws.specs.declared.names.VertexId.{VertexId}
 use Rattle.slab_laws.specs.Sound.{IsGraphSound}
 use Rattle.slab_laws.specs.View.{View, HasVertex, IsOutOf, point_in, pinned_in}
-use Rattle.view_changes.specs.Writers.{without_vertex}
+use Rattle.arr_notes.specs.ViewChanges.{without_vertex}
 use Rattle.arr_notes.specs.declared.change.Change.{Change}
 use Rattle.arr_notes.specs.declared.change.Change.TheVariants.{MergeEdge, RemoveVertex}
 use Rattle.arr_notes.specs.Curves.{Curves, AreCurvesOf}
 use Rattle.arr_notes.specs.Step.{step}
 use Rattle.edge_split_merge.specs.Merges.{TellsOfMerge}
-use Rattle.record_graphs.specs.Graph.{drawn_graph}
-use Rattle.sound_rings.specs.Rings.{IsBare}
-use Rattle.sound_splits.specs.Fits.{FitsMerge}
-use Rattle.sound_splits.proofs.Fewer.{vertex_fewer}
+use Rattle.sound_views.specs.RecordGraph.{drawn_graph}
+use Rattle.rotation_order.specs.VertexRings.{IsBare}
+use Rattle.sound_changes.specs.ChangeFits.{FitsMerge}
+use Rattle.sound_changes.proofs.VertexRemoved.{vertex_fewer}
 use Rattle.redundant_vertices.specs.Tidied.{CanJoin, IsTidied}
-use Rattle.redundant_vertices.proofs.Made.{made_by}
 use Rattle.redundant_vertices.proofs.Passed.{bare_untouched, loose_fits, passed, touched}
 use Rattle.redundant_vertices.proofs.Straight.{one_first, one_second}
+use Rattle.record_layers.proofs.Runs.{made_by}
+use Rattle.integers.proofs.Tests.{not_true}
 
 -- ---- which step takes the vertex away
 module _ (p : Point) (g : Graph) where

@@ -17,7 +17,7 @@ use Rattle.plane_graphs.proofs.Lists.{clash, decide, in_left, in_map, of_map}
 use Rattle.plane_graphs.proofs.Order.{lt_never}
 use Rattle.plane_graphs.proofs.Vertices.{vertex_in, vertices_closed}
 use Rattle.plane_graphs.proofs.Vertices.IsVertex.{pinned}
-use Rattle.edit_steps.specs.Laws.{IsLoose}
+use Rattle.edit_steps.specs.EditLaws.{IsLoose}
 use Rattle.edit_steps.specs.Steps.{missing_points, run, tidy_step, tidy_steps}
 use Rattle.edit_steps.proofs.Folds.{IsSum, closed_more, missing_sum, shrunk}
 use Rattle.edit_steps.proofs.Seen.{loose_is_no_vertex}
@@ -26,11 +26,11 @@ use Rattle.slab_laws.specs.declared.names.VertexId.{VertexId}
 use Rattle.slab_laws.specs.Sound.{IsGraphSound}
 use Rattle.slab_laws.specs.View.{View, HasVertex, point_in, pinned_in}
 use Rattle.arr_notes.specs.Curves.{Curves, AreCurvesOf}
-use Rattle.record_graphs.specs.Graph.{drawn_graph}
-use Rattle.dcel_records.specs.Held.{Held, SameRecordCapacity}
-use Rattle.curve_history.specs.Past.{Past, SameLayer, SameHistoryCapacity}
-use Rattle.graph_steps.proofs.Held.{held_pin, held_point, pin_held, point_held}
-use Rattle.record_layers.specs.Kept.{Makes}
+use Rattle.sound_views.specs.RecordGraph.{drawn_graph}
+use Rattle.dcel_records.specs.RecordsView.{RecordsView, SameRecordCapacity}
+use Rattle.curve_history.specs.Past.{Past, SameHistoryCapacity}
+use Rattle.sound_changes.proofs.StepHolds.{held_pin, held_point, pin_held, point_held}
+use Rattle.record_layers.specs.RecordLayers.{IsRunOfSteps}
 use Rattle.record_layers.proofs.Runs.{made_in_turn, made_is_run}
 use Rattle.record_layers.proofs.Stays.{IsSamePlace}
 use Rattle.redundant_vertices.specs.Left.{AreLeft, tidying}
@@ -89,7 +89,7 @@ module _ (v : View) (h : Curves) (s : IsGraphSound v) (a : AreCurvesOf v h) (p :
   run_is : run (tidy_steps gone g) g ≡ graph_over rest p.pieces p.pins
   run_is = subst (λ z. run (tidy_steps gone z) z ≡ graph_over rest p.pieces p.pins) (sym l.draws) (shrunk p.pieces p.pins (tidy_sound p.pieces p.pins) gone g.points rest sum closed (λ x m. proper x (gone_there x m))).0
 
-  module _ (w : View) (k : Curves) (sw : IsGraphSound w) (made : Makes v h (tidy_steps gone g) w k) (x : VertexId) (has : HasVertex w x) where
+  module _ (w : View) (k : Curves) (sw : IsGraphSound w) (made : IsRunOfSteps v h (tidy_steps gone g) w k) (x : VertexId) (has : HasVertex w x) where
     abbrev r : Point
     r = point_in w x
 
@@ -103,10 +103,10 @@ module _ (v : View) (h : Curves) (s : IsGraphSound v) (a : AreCurvesOf v h) (p :
     here = subst (λ z. Member r z.points) drawn (point_held w sw.named k x has)
 
     -- a pinned vertex is one of the present
-    pub pinned_stays : pinned_in w x ≡ true → Makes v h (tidy_steps (missing_points (done ++ (r ∷ [])) vs) g) w k
+    pub pinned_stays : pinned_in w x ≡ true → IsRunOfSteps v h (tidy_steps (missing_points (done ++ (r ∷ [])) vs) g) w k
     pinned_stays e =
         let m : Member r vs = vertex_in p r (pinned (subst (λ z. Member r z.pins) drawn (pin_held w sw.named k x has e))) in
-        subst (λ ps. Makes v h (tidy_steps ps g) w k) (sym (none_missing done vs r m)) made
+        subst (λ ps. IsRunOfSteps v h (tidy_steps ps g) w k) (sym (none_missing done vs r m)) made
 
     unpinned : pinned_in w x ≡ false → Member r p.pins → ⊥
     unpinned e m =
@@ -123,20 +123,17 @@ module _ (v : View) (h : Curves) (s : IsGraphSound v) (a : AreCurvesOf v h) (p :
     ]
 
     -- one that is not pinned stays just where it is one of the present
-    pub tidied_goes : pinned_in w x ≡ false → (w2 : View) (k2 : Curves) → IsTidied w k r w2 k2 → Makes v h (tidy_steps (missing_points (done ++ (r ∷ [])) vs) g) w2 k2
+    pub tidied_goes : pinned_in w x ≡ false → (w2 : View) (k2 : Curves) → IsTidied w k r w2 k2 → IsRunOfSteps v h (tidy_steps (missing_points (done ++ (r ∷ [])) vs) g) w2 k2
     tidied_goes e w2 k2 (inl t) =
-        subst (λ ss. Makes v h ss w2 k2)
+        subst (λ ss. IsRunOfSteps v h ss w2 k2)
         (ap (λ z. tidy_steps gone g ++ (tidy_step r z ∷ [])) ran ∙ sym (one_step_on gone r g) ∙ ap (λ ps. tidy_steps ps g) (sym (one_missing done vs r (goes e t.0))))
         (made_in_turn v h (tidy_steps gone g) (tidy_step r (drawn_graph w k) ∷ []) w k w2 k2 made t.1)
     tidied_goes e w2 k2 (inr t) =
-        subst (λ ss. Makes v h ss w2 k2)
+        subst (λ ss. IsRunOfSteps v h ss w2 k2)
         (append-nil (tidy_steps gone g) ∙ ap (λ ps. tidy_steps ps g) (sym (none_missing done vs r (stays t.0))))
         (made_in_turn v h (tidy_steps gone g) [] w k w2 k2 made t.1)
 
-pub same_layers : (a b c : Past) → SameLayer a b → SameLayer b c → SameLayer a c
-same_layers a b c x y = record { names = y.names ∙ x.names; pieces = y.pieces ∙ x.pieces; next = y.next ∙ x.next }
-
-pub same_records : (a b c : Held) → SameRecordCapacity a b → SameRecordCapacity b c → SameRecordCapacity a c
+pub same_records : (a b c : RecordsView) → SameRecordCapacity a b → SameRecordCapacity b c → SameRecordCapacity a c
 same_records a b c x y = record { of_vertices = y.of_vertices ∙ x.of_vertices; of_darts = y.of_darts ∙ x.of_darts }
 
 pub same_histories : (a b c : Past) → SameHistoryCapacity a b → SameHistoryCapacity b c → SameHistoryCapacity a c
@@ -148,7 +145,7 @@ pub record AreTidied (v : View) (h : Curves) (all first last : List VertexId) (w
   pub sound : IsGraphSound w
   pub curves : AreCurvesOf w k
   pub stay : AllByRecursion (IsSamePlace v w) last
-  pub made : (p : Present) → AreLeft v h p (map (point_in v) all) → Makes v h (tidy_steps (missing_points (map (point_in v) first) (vertices p)) (drawn_graph v h)) w k
+  pub made : (p : Present) → AreLeft v h p (map (point_in v) all) → IsRunOfSteps v h (tidy_steps (missing_points (map (point_in v) first) (vertices p)) (drawn_graph v h)) w k
 
 all_by : (P Q : VertexId → Type 0) (xs : List VertexId) → ((x : VertexId) → Member x xs → P x → Q x) → AllByRecursion P xs → AllByRecursion Q xs
 all_by P Q [] f a = tt
@@ -171,9 +168,9 @@ module _ (v : View) (h : Curves) (s : IsGraphSound v) (a : AreCurvesOf v h) (all
       subst (λ z. Member z (drawn_graph v h).points) (sym u.2) (point_held v s.named h u.0 (All-member (HasVertex v) u.0 all have u.1))
 
   -- in the end, all points that are no vertices of the present went
-  pub all_made : (w : View) (k : Curves) (last : List VertexId) → AreTidied v h all all last w k → (p : Present) → AreLeft v h p (map (point_in v) all) → Makes v h (tidying (drawn_graph v h) p) w k
+  pub all_made : (w : View) (k : Curves) (last : List VertexId) → AreTidied v h all all last w k → (p : Present) → AreLeft v h p (map (point_in v) all) → IsRunOfSteps v h (tidying (drawn_graph v h) p) w k
   all_made w k last t p l =
-      subst (λ ps. Makes v h (tidy_steps ps (drawn_graph v h)) w k)
+      subst (λ ps. IsRunOfSteps v h (tidy_steps ps (drawn_graph v h)) w k)
       (same_missing (map (point_in v) all) (drawn_graph v h).points (vertices p) ascend (points_ascend v h) all_there l.others)
       (t.made p l)
 
@@ -203,9 +200,9 @@ module _ (v : View) (h : Curves) (s : IsGraphSound v) (a : AreCurvesOf v h) (all
         let o = All-member (λ q. point_cmp (point_in v x) q ≡ Less) (point_in v u) (map (point_in v) last) (last_ascend point_cmp firsts (point_in v x ∷ map (point_in v) last) parts_ascend).0 (in_map (point_in v) u last m) in
         lt_never {p = point_in v x} (record { is = subst (λ q. point_cmp (point_in v x) q ≡ Less) (sym at ∙ e ∙ t.stay.0.point) o })
 
-    named : (w2 : View) (k2 : Curves) (p : Present) → Makes v h (tidy_steps (missing_points (firsts ++ (point_in w x ∷ [])) (vertices p)) (drawn_graph v h)) w2 k2 → Makes v h (tidy_steps (missing_points (map (point_in v) (first ++ (x ∷ []))) (vertices p)) (drawn_graph v h)) w2 k2
+    named : (w2 : View) (k2 : Curves) (p : Present) → IsRunOfSteps v h (tidy_steps (missing_points (firsts ++ (point_in w x ∷ [])) (vertices p)) (drawn_graph v h)) w2 k2 → IsRunOfSteps v h (tidy_steps (missing_points (map (point_in v) (first ++ (x ∷ []))) (vertices p)) (drawn_graph v h)) w2 k2
     named w2 k2 p m =
-        subst (λ ps. Makes v h (tidy_steps (missing_points ps (vertices p)) (drawn_graph v h)) w2 k2)
+        subst (λ ps. IsRunOfSteps v h (tidy_steps (missing_points ps (vertices p)) (drawn_graph v h)) w2 k2)
         (ap (λ q. firsts ++ (q ∷ [])) t.stay.0.point ∙ sym (map-append (point_in v) first (x ∷ [])))
         m
 
@@ -249,5 +246,5 @@ module _ (v : View) (h : Curves) (s : IsGraphSound v) (a : AreCurvesOf v h) (all
     pub tidied_next : pinned_in w next ≡ false → (w2 : View) (k2 : Curves) → IsTidied w k (point_in w next) w2 k2 → AreTidied v h all (take (i + 1) all) (drop (i + 1) all) w2 k2
     tidied_next e w2 k2 n = one_done w2 k2 (tidied_on (take i all) (drop (suc i) all) next split_next w k at_next e w2 k2 n)
 
-  pub all_next : (i : ℕ) → length all ≤ i → (w : View) (k : Curves) → AreTidied v h all (take i all) (drop i all) w k → (p : Present) → AreLeft v h p (map (point_in v) all) → Makes v h (tidying (drawn_graph v h) p) w k
+  pub all_next : (i : ℕ) → length all ≤ i → (w : View) (k : Curves) → AreTidied v h all (take i all) (drop i all) w k → (p : Present) → AreLeft v h p (map (point_in v) all) → IsRunOfSteps v h (tidying (drawn_graph v h) p) w k
   all_next i le w k t = all_made w k (drop i all) (subst (λ xs. AreTidied v h all xs (drop i all) w k) (take_all i all le) t)

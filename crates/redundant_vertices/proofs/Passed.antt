@@ -1,9 +1,9 @@
--- The vertices that nothing calls for but a pin: those that the graph passes straight through, and those without edges.
-use Rattle.std.proofs.Common.{◌≡◌, ◌≢◌, ◌⊎◌, ℕ, true, false, not, ◌||◌, ℤ, pos, List, [], ◌∷◌, refl, sym, ap, ◌∙◌, subst, inl, inr}
+-- The vertices that is redundant but a pin: those that the graph passes straight through, and those without edges.
+use Rattle.std.proofs.Common.{◌≡◌, ◌≢◌, ◌⊎◌, ℕ, true, false, not, ◌||◌, pos, List, [], ◌∷◌, refl, sym, ap, ◌∙◌, subst, inl, inr}
 use Rattle.std.specs.Prelude.{◌+ℤ◌, ◌-ℤ◌, ◌*ℤ◌}
 use Rattle.std.specs.Ordering.{nat_cmp}
 use Rattle.std.proofs.lemmas.Cmp.{nat_cmp_total}
-use Rattle.integers.proofs.Reify.{ring, sides}
+use Rattle.integers.proofs.Tests.{not_true}
 use Rattle.exact_plane.specs.Line.{side_of}
 use Rattle.exact_plane.specs.Point.{Point}
 use Rattle.plane_graphs.specs.Ascending.{Member}
@@ -11,34 +11,30 @@ use Rattle.plane_graphs.specs.Graph.{Mark, mark, collinear, det}
 use Rattle.plane_graphs.specs.Line.{IsProper, precedes, same_point}
 use Rattle.plane_graphs.proofs.Ascending.{ascending_unique}
 use Rattle.plane_graphs.proofs.Lines.{span_runs, zero_in, zero_out}
-use Rattle.plane_graphs.proofs.Lists.{clash, decide, not_true, or_left, or_right, or_out}
+use Rattle.plane_graphs.proofs.Lists.{clash, decide, or_left, or_right, or_out, some_of}
 use Rattle.plane_graphs.proofs.Order.{lt_out, lt_never, same_in, same_itself, same_out}
 use Rattle.edit_steps.specs.Allowed.{IsPassed}
-use Rattle.edit_steps.specs.Laws.{IsLoose}
+use Rattle.edit_steps.specs.EditLaws.{IsLoose}
 use Rattle.slab_laws.specs.declared.names.DartId.{DartId}
 use Rattle.slab_laws.specs.declared.names.VertexId.{VertexId}
 use Rattle.slab_laws.specs.Skeleton.{side}
 use Rattle.slab_laws.specs.Sound.{IsGraphSound}
 use Rattle.slab_laws.specs.View.{View, HasVertex, HasDart, IsOutOf, point_in, source_in, twin_in, target_in, line_in}
-use Rattle.sound_rings.specs.Rings.{IsBare}
-use Rattle.sound_splits.specs.Fits.{FitsMerge}
-use Rattle.sound_splits.proofs.Cases.{edge_of_ends}
-use Rattle.sound_splits.proofs.Collinear.{flat_on_line, on_line_of_ends}
+use Rattle.rotation_order.specs.VertexRings.{IsBare}
+use Rattle.rotation_order.proofs.Fans.{far_turned}
+use Rattle.sound_changes.specs.ChangeFits.{FitsMerge}
+use Rattle.sound_changes.proofs.SplitCases.{edge_of_ends}
+use Rattle.sound_changes.proofs.Collinear.{flat_on_line, on_line_of_ends, one_line}
 use Rattle.arr_notes.specs.Curves.{Curves, AreCurvesOf, IsForward, is_forward}
-use Rattle.record_graphs.specs.Graph.{drawn_graph}
-use Rattle.record_graphs.specs.Laws.{IsMarkOf}
-use Rattle.record_graphs.proofs.Drawn.{twins_are_directed}
-use Rattle.graph_steps.proofs.Held.{mark_held, held_mark}
-use Rattle.graph_steps.proofs.Ways.{one_way}
-use Rattle.redundant_vertices.proofs.Lines.{one_line}
-
--- the triangle of p, q and t has, with t and q exchanged, the other sign
-turned_flat : (a b c d e f x y z : ℤ) → (b *ℤ z -ℤ y *ℤ c) *ℤ d +ℤ (x *ℤ c -ℤ a *ℤ z) *ℤ e +ℤ (a *ℤ y -ℤ x *ℤ b) *ℤ f ≡ pos 0 -ℤ ((b *ℤ f -ℤ e *ℤ c) *ℤ x +ℤ (d *ℤ c -ℤ a *ℤ f) *ℤ y +ℤ (a *ℤ e -ℤ d *ℤ b) *ℤ z)
-turned_flat a b c d e f x y z = ring (a ∷ b ∷ c ∷ d ∷ e ∷ f ∷ x ∷ y ∷ z ∷ []) (search sides depth 40 fits 20000) tt
+use Rattle.sound_views.specs.RecordGraph.{drawn_graph}
+use Rattle.sound_views.specs.RecordGraphLaws.{IsMarkOf}
+use Rattle.sound_views.proofs.GraphDrawn.{twins_are_directed}
+use Rattle.sound_changes.proofs.StepHolds.{mark_held, held_mark}
+use Rattle.sound_changes.proofs.StepCases.{one_way}
 
 flat_other : (p q t : Point) → collinear p q t ≡ true → side (edge_of_ends p t) q ≡ pos 0
 unfolding collinear det side
-flat_other p q t e = turned_flat p.x p.y p.w q.x q.y q.w t.x t.y t.w ∙ (λ i. pos 0 -ℤ zero_out (det p q t) e i)
+flat_other p q t e = far_turned p.x p.y p.w q.x q.y q.w t.x t.y t.w ∙ (λ i. pos 0 -ℤ zero_out (det p q t) e i)
 
 pub flat_out : (p q t : Point) → collinear p q t ≡ true → side (edge_of_ends p q) t ≡ pos 0
 unfolding collinear det side
@@ -47,11 +43,6 @@ flat_out p q t e = zero_out (det p q t) e
 pub flat_in : (p q t : Point) → side (edge_of_ends p q) t ≡ pos 0 → collinear p q t ≡ true
 unfolding collinear det side
 flat_in p q t e = zero_in (det p q t) e
-
--- a list that isn't empty has an element
-some_of : (xs : List ℕ) → xs ≢ [] → (x : ℕ) × Member x xs
-some_of [] f = absurd (f refl)
-some_of (x ∷ xs) f = (x, inl refl)
 
 module _ (v : View) (h : Curves) (s : IsGraphSound v) (a : AreCurvesOf v h) where
   -- a forward dart has a mark

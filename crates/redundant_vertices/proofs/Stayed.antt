@@ -1,5 +1,5 @@
 -- What tidying one vertex leaves to the others: their records.
-use Rattle.std.proofs.Common.{◌≡◌, Bool, true, false, cond, ◌||◌, [], ◌∷◌, refl, sym, subst, inl, inr}
+use Rattle.std.proofs.Common.{◌≡◌, ◌||◌, [], ◌∷◌, refl, sym, subst, inl, inr}
 use Rattle.std.specs.List.{list_any}
 use Rattle.exact_plane.specs.Point.{Point}
 use Rattle.plane_graphs.specs.Ascending.{Member}
@@ -7,33 +7,29 @@ use Rattle.plane_graphs.specs.Graph.{Graph}
 use Rattle.plane_graphs.specs.Line.{same_point}
 use Rattle.plane_graphs.proofs.Lists.{in_filter, not_in}
 use Rattle.plane_graphs.proofs.Order.{same_out}
-use Rattle.edit_steps.specs.Steps.{Step, MergeEdge, RemoveVertex, apply, points_without, run, tidy_step}
+use Rattle.edit_steps.specs.Steps.{MergeEdge, RemoveVertex, apply, points_without, run, tidy_step}
 use Rattle.slab_laws.specs.declared.names.VertexId.{VertexId}
 use Rattle.slab_laws.specs.Sound.{IsGraphSound}
 use Rattle.slab_laws.specs.View.{View, HasVertex, point_in}
 use Rattle.arr_notes.specs.Curves.{Curves, AreCurvesOf}
-use Rattle.record_graphs.specs.Graph.{drawn_graph}
-use Rattle.graph_steps.proofs.Held.{point_held}
-use Rattle.record_layers.specs.Laws.{Shrinks}
+use Rattle.sound_views.specs.RecordGraph.{drawn_graph}
+use Rattle.sound_changes.proofs.StepHolds.{point_held}
+use Rattle.record_layers.specs.LayerSteps.{Shrinks}
 use Rattle.record_layers.proofs.Names.{shrunk_names_stay}
 use Rattle.record_layers.proofs.Runs.{made_is_run}
 use Rattle.record_layers.proofs.Stays.{IsSamePlace}
+use Rattle.record_layers.proofs.Edits.{one_of}
 use Rattle.redundant_vertices.specs.Tidied.{IsTidied}
-
--- what holds of a merge and of a removal holds of the step that takes a vertex away
-either_step : (P : Step → Type 0) (b : Bool) (s t : Step) → P s → P t → P (cond b s t)
-either_step P true s t x y = x
-either_step P false s t x y = y
 
 step_shrinks : (r : Point) (g : Graph) → Shrinks (tidy_step r g)
 unfolding tidy_step
-step_shrinks r g = either_step Shrinks (list_any (λ m. same_point m.low r || same_point m.high r) g.marks) (MergeEdge r) (RemoveVertex r) tt tt
+step_shrinks r g = one_of Shrinks (list_any (λ m. same_point m.low r || same_point m.high r) g.marks) (MergeEdge r) (RemoveVertex r) tt tt
 
 others_stay : (r x : Point) (g : Graph) → Member x g.points → (x ≡ r → ⊥) → Member x (apply (tidy_step r g) g).points
 unfolding apply tidy_step
 others_stay r x g m other =
     let k : Member x (points_without r g.points) = in_filter _ x g.points m (not_in (same_point x r) (λ e. other (same_out x r e))) in
-    either_step (λ s. Member x (apply s g).points) (list_any (λ m. same_point m.low r || same_point m.high r) g.marks) (MergeEdge r) (RemoveVertex r) k k
+    one_of (λ s. Member x (apply s g).points) (list_any (λ m. same_point m.low r || same_point m.high r) g.marks) (MergeEdge r) (RemoveVertex r) k k
 
 module _ (v : View) (h : Curves) (s : IsGraphSound v) (a : AreCurvesOf v h) (r : Point) (w : View) (k : Curves) (t : IsTidied v h r w k) where
   abbrev g : Graph

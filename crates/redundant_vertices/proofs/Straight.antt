@@ -1,26 +1,26 @@
 -- Two darts that follow each other round a vertex are all that leave it, and two edges along one line go straight through it.
 use Rattle.std.proofs.Common.{◌≡◌, ◌≢◌, ◌⊎◌, true, false, not, refl, sym, ap, ◌∙◌, subst, inl, inr}
 use Rattle.plane_graphs.proofs.Lists.{clash}
-use Rattle.dart_rings.specs.Order.{IsRoundOn, sooner_by}
-use Rattle.dart_rings.specs.Ring.{Out, IsApart}
-use Rattle.dart_rings.proofs.Edits.{apart_of}
-use Rattle.dart_rings.proofs.Linear.{round_by}
+use Rattle.rotation_order.specs.RingOrder.{IsRoundOn, sooner_by}
+use Rattle.rotation_order.specs.Ring.{Out, IsApart}
+use Rattle.rotation_order.proofs.RingEdits.{apart_of}
+use Rattle.rotation_order.proofs.RingOrders.{round_by}
 use Rattle.slab_laws.specs.declared.names.DartId.{DartId}
 use Rattle.slab_laws.specs.declared.names.VertexId.{VertexId}
 use Rattle.slab_laws.specs.Darts.{Dart}
-use Rattle.slab_laws.specs.Rotation.{earlier}
+use Rattle.slab_laws.specs.Rotation.{earlier, OutOf}
 use Rattle.slab_laws.specs.Sound.{skeleton_of, dart_in, IsGraphSound}
 use Rattle.slab_laws.specs.View.{View, HasDart, IsOutOf, dart_id, point_in, source_in, twin_in, line_in}
-use Rattle.view_changes.specs.Around.{after_in}
-use Rattle.sound_rings.specs.Rings.{OutOf, turns_in, RingOf}
-use Rattle.sound_rings.proofs.Named.{out_of}
-use Rattle.sound_rings.proofs.Sound.{sound_views_have_rings}
-use Rattle.sound_rings.proofs.Turned.{strict_at}
+use Rattle.arr_notes.specs.AfterAround.{after_in}
+use Rattle.rotation_order.specs.VertexRings.{turns_in, RingOf}
+use Rattle.rotation_order.proofs.RingNames.{out_of}
+use Rattle.rotation_order.proofs.SoundRings.{sound_views_have_rings}
+use Rattle.rotation_order.proofs.RingTurned.{strict_at}
 use Rattle.rotation_order.proofs.Circuits.{alone, after_out}
 use Rattle.arr_notes.specs.Curves.{is_forward}
-use Rattle.record_graphs.proofs.Drawn.{twins_are_directed}
-use Rattle.sound_splits.specs.Fits.{FitsMerge}
-use Rattle.sound_splits.proofs.Cases.{dart_cases}
+use Rattle.arr_notes.proofs.Names.{cases_dart}
+use Rattle.sound_views.proofs.GraphDrawn.{twins_are_directed}
+use Rattle.sound_changes.specs.ChangeFits.{FitsMerge}
 
 -- ---- a follows b and b follows a: they are alone
 module _ (v : View) (s : IsGraphSound v) (a b : DartId) (has : HasDart v a) (e : after_in v a ≡ b) (f : after_in v b ≡ a) where
@@ -64,9 +64,9 @@ module _ (v : View) (s : IsGraphSound v) (a b : DartId) (has : HasDart v a) (e :
       (round.turned (dart_in v a) (dart_in v b) (dart_in v k) inside_a inside_b inside_k first (apart.differ k.0 a.0 ok a_out (differ k a na)))
 
   pub only_two : (k : DartId) → IsOutOf v w k → (k ≡ a) ⊎ (k ≡ b)
-  only_two k o = elim (dart_cases k a) [
+  only_two k o = elim (cases_dart k a) [
     | inl q ↦ inl q
-    | inr na ↦ elim (dart_cases k b) [ inl q ↦ inr q | inr nb ↦ absurd (between k o na nb) ]
+    | inr na ↦ elim (cases_dart k b) [ inl q ↦ inr q | inr nb ↦ absurd (between k o na nb) ]
   ]
 
 -- ---- x goes up and y, which follows it and is followed by it, down along the same line

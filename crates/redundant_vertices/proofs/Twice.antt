@@ -5,10 +5,10 @@ use Rattle.slab_laws.specs.declared.names.DartId.{DartId}
 use Rattle.slab_laws.specs.declared.names.VertexId.{VertexId}
 use Rattle.slab_laws.specs.Sound.{IsGraphSound}
 use Rattle.slab_laws.specs.View.{View, HasVertex, HasDart, IsOutOf, twin_in, target_in, next_in, line_in}
-use Rattle.view_changes.specs.Around.{after_in}
+use Rattle.arr_notes.specs.AfterAround.{after_in}
 use Rattle.arr_notes.specs.Curves.{is_forward}
 use Rattle.rotation_order.proofs.Circuits.{after_out, read_after}
-use Rattle.sound_splits.specs.Fits.{FitsMerge}
+use Rattle.sound_changes.specs.ChangeFits.{FitsMerge}
 use Rattle.redundant_vertices.proofs.Straight.{through, comes_back, one_line_after, turns_back}
 
 -- t is the twin of x and y what follows t, u is the twin of y and z what follows u

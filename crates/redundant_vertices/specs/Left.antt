@@ -1,14 +1,17 @@
 -- What is to be tidied once edges went.
-use Rattle.std.specs.Prelude.{◌≡◌, List}
+use Rattle.std.specs.Prelude.{◌≡◌, List, map}
 use Rattle.exact_plane.specs.Point.{Point}
 use Rattle.plane_graphs.specs.Ascending.{Member}
 use Rattle.plane_graphs.specs.Fit.{IsFit}
 use Rattle.plane_graphs.specs.Graph.{Graph, graph_over, vertices}
 use Rattle.plane_graphs.specs.Piece.{Present}
 use Rattle.edit_steps.specs.Steps.{Step, missing_points, tidy_steps}
-use Rattle.slab_laws.specs.View.{View}
+use Rattle.slab_laws.specs.declared.names.VertexId.{VertexId}
+use Rattle.slab_laws.specs.View.{View, point_in}
 use Rattle.arr_notes.specs.Curves.{Curves}
-use Rattle.record_graphs.specs.Graph.{drawn_graph}
+use Rattle.sound_views.specs.RecordGraph.{drawn_graph}
+use Rattle.curve_history.specs.Past.{Past, curves_on}
+use Rattle.record_layers.specs.RecordLayers.{IsRunOfSteps}
 
 -- the records draw the pieces and pins of a present, over points that have all its vertices; those that are no vertices of it are among xs (this project)
 pub record AreLeft (v : View) (h : Curves) (p : Present) (xs : List Point) : Type 0 where
@@ -20,3 +23,7 @@ pub record AreLeft (v : View) (h : Curves) (p : Present) (xs : List Point) : Typ
 -- the steps that take away each point of the graph that is no vertex of the present, in ascending order (CGAL manual, removing a curve: vertices that become redundant)
 abbrev pub tidying : Graph → Present → List Step
 tidying g p = tidy_steps (missing_points g.points (vertices p)) g
+
+-- for each present that the records draw over its vertices and further points, which are all among the given ones: just the further points go, in ascending order (CGAL manual, removing a curve: vertices that become redundant)
+abbrev pub AreOthersGone : View → Past → List VertexId → View → Past → Type 0
+AreOthersGone v h ws w k = (p : Present) → AreLeft v (curves_on h) p (map (point_in v) ws) → IsRunOfSteps v (curves_on h) (tidying (drawn_graph v (curves_on h)) p) w (curves_on k)

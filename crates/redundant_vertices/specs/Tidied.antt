@@ -1,20 +1,38 @@
 -- What becomes of a vertex that may not be called for any more.
-use Rattle.std.specs.Prelude.{◌≡◌, ◌⊎◌, [], ◌∷◌}
+use Rattle.std.specs.Prelude.{◌≡◌, ◌⊎◌, [], ◌∷◌, Option, MatchOption}
 use Rattle.exact_plane.specs.Point.{Point}
-use Rattle.edit_steps.specs.Laws.{IsLoose}
+use Rattle.edit_steps.specs.Allowed.{IsPassed}
+use Rattle.edit_steps.specs.EditLaws.{IsLoose}
 use Rattle.edit_steps.specs.Steps.{tidy_step}
 use Rattle.slab_laws.specs.declared.names.DartId.{DartId}
 use Rattle.slab_laws.specs.declared.names.VertexId.{VertexId}
-use Rattle.slab_laws.specs.View.{View}
+use Rattle.slab_laws.specs.View.{View, point_in}
 use Rattle.arr_notes.specs.Curves.{Curves}
-use Rattle.record_graphs.specs.Graph.{drawn_graph}
-use Rattle.record_layers.specs.Kept.{Makes}
-use Rattle.sound_splits.specs.Fits.{FitsMerge}
+use Rattle.sound_views.specs.RecordGraph.{drawn_graph}
+use Rattle.curve_history.specs.Past.{Past, curves_on}
+use Rattle.record_layers.specs.RecordLayers.{IsRunOfSteps}
+use Rattle.sound_changes.specs.ChangeFits.{FitsMerge}
 
 -- d comes into the vertex and n goes on from it along one line, with the same curves, and no other edge ends there (CGAL manual: the premise of merging two edges)
 abbrev pub CanJoin : View → Curves → VertexId → DartId → DartId → Type 0
 CanJoin v h w d n = FitsMerge v w d n × (h d ≡ h n)
 
+-- a dart that comes into the vertex and one that goes on from it along one line, where no other edge ends there; none where there are no such two (CGAL manual: the premise of merging two edges)
+abbrev pub AreStraight : View → VertexId → Option (DartId × DartId) → Type 0
+AreStraight v w r = MatchOption r ((d n : DartId) → ¬ FitsMerge v w d n) (λ r. FitsMerge v w r.0 r.1)
+
+-- such darts with the same curves, so that their edges may become one at the vertex; none where there are no such two (CGAL manual: the premise of merging two edges)
+abbrev pub AreJoinable : View → Past → VertexId → Option (DartId × DartId) → Type 0
+AreJoinable v p w r = MatchOption r ((d n : DartId) → ¬ CanJoin v (curves_on p) w d n) (λ r. CanJoin v (curves_on p) w r.0 r.1)
+
+-- in the graph that is drawn two edges go straight through the vertex with the same curves, and no other edge ends there (CGAL manual: the premise of merging two edges)
+abbrev pub IsMergeableAt : View → Past → VertexId → Type 0
+IsMergeableAt v p w = IsPassed (drawn_graph v (curves_on p)) (point_in v w)
+
 -- the vertex at the point goes where it has no edge, or two along one line with the same curves; else nothing changes (CGAL manual, removing a curve: vertices that become redundant)
 abbrev pub IsTidied : View → Curves → Point → View → Curves → Type 0
-IsTidied v h p w k = (IsLoose (drawn_graph v h) p × Makes v h (tidy_step p (drawn_graph v h) ∷ []) w k) ⊎ ((IsLoose (drawn_graph v h) p → ⊥) × Makes v h [] w k)
+IsTidied v h p w k = (IsLoose (drawn_graph v h) p × IsRunOfSteps v h (tidy_step p (drawn_graph v h) ∷ []) w k) ⊎ ((IsLoose (drawn_graph v h) p → ⊥) × IsRunOfSteps v h [] w k)
+
+-- the vertex goes where it has no edge, or two along one line with the same curves; else nothing changes (CGAL manual, removing a curve: vertices that become redundant)
+abbrev pub IsVertexTidied : View → Past → VertexId → View → Past → Type 0
+IsVertexTidied v p w x q = IsTidied v (curves_on p) (point_in v w) x (curves_on q)

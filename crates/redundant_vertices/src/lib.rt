@@ -5,5 +5,5 @@
 mod redundant;
 mod through;
 
-pub use redundant::{tidy, tidy_all};
-pub use through::is_passed;
+pub use redundant::{remove_if_redundant, remove_redundant};
+pub use through::is_mergeable;

@@ -1,12 +1,9 @@
-ghost use Rattle.std.specs.Prelude.{◌≡◌, true, false, MatchOption};
-ghost use Rattle.edit_steps.specs.Allowed.{IsPassed};
+ghost use Rattle.std.specs.Prelude.{◌≡◌, true, false};
 ghost use Rattle.slab_laws.specs.Sound.{IsGraphSound};
-ghost use Rattle.slab_laws.specs.View.{HasVertex, IsOutOf, point_in};
+ghost use Rattle.slab_laws.specs.View.{HasVertex, IsOutOf};
 ghost use Rattle.arr_notes.specs.Curves.{AreCurvesOf};
-ghost use Rattle.sound_splits.specs.Fits.{FitsMerge};
-ghost use Rattle.record_graphs.specs.Graph.{drawn_graph};
-ghost use Rattle.curve_history.specs.Past.{held};
-ghost use Rattle.redundant_vertices.specs.Tidied.{CanJoin};
+ghost use Rattle.curve_history.specs.Past.{curves_on};
+ghost use Rattle.redundant_vertices.specs.Tidied.{AreStraight, AreJoinable, IsMergeableAt};
 
 use curve_history::History;
 use dcel_records::Records;
@@ -17,7 +14,7 @@ use slab_laws::{DartId, Darts, VertexId};
 fn straight_through(records: &Records, w: VertexId, first: DartId) -> Option<(DartId, DartId)>
     requires sound { IsGraphSound records.now.graph }
     requires first { IsOutOf records.now.graph w first }
-    ensures { MatchOption result ((d : _) (n : _) → ¬ FitsMerge records.now.graph w d n) (λ r. FitsMerge records.now.graph w r.0 r.1) }
+    ensures { AreStraight records.now.graph w result }
 {
     let into_first = records.twin(first);
     let second = records.next(into_first);
@@ -50,7 +47,7 @@ pub(crate) fn joinable(
 ) -> Option<(DartId, DartId)>
     requires sound { IsGraphSound records.now.graph }
     requires first { IsOutOf records.now.graph w first }
-    ensures { MatchOption result ((d : _) (n : _) → ¬ CanJoin records.now.graph (held history.now) w d n) (λ r. CanJoin records.now.graph (held history.now) w r.0 r.1) }
+    ensures { AreJoinable records.now.graph history.now w result }
 {
     let (d, n) = straight_through(records, w, first)?;
     if history.same_curves(d, n) {
@@ -64,12 +61,12 @@ pub(crate) fn joinable(
 /// calls for such a vertex (CGAL manual, the premise of `merge_edge`).
 ///
 /// It looks at the vertex's darts and at the curves of two edges, and takes no memory.
-pub fn is_passed(records: &Records, history: &History, w: VertexId) -> bool
+pub fn is_mergeable(records: &Records, history: &History, w: VertexId) -> bool
     requires sound { IsGraphSound records.now.graph }
-    requires curves { AreCurvesOf records.now.graph (held history.now) }
+    requires curves { AreCurvesOf records.now.graph (curves_on history.now) }
     requires vertex { HasVertex records.now.graph w }
-    ensures passed { result ≡ true → IsPassed (drawn_graph records.now.graph (held history.now)) (point_in records.now.graph w) }
-    ensures not_passed { result ≡ false → ¬ IsPassed (drawn_graph records.now.graph (held history.now)) (point_in records.now.graph w) }
+    ensures passed { result ≡ true → IsMergeableAt records.now.graph history.now w }
+    ensures not_passed { result ≡ false → ¬ IsMergeableAt records.now.graph history.now w }
 {
     let Some(first) = records.out_of(w) else {
         return false;

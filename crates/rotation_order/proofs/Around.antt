@@ -1,44 +1,38 @@
 -- The darts out of a vertex of a sound view, by the directions in which they leave it.
-use Rattle.std.proofs.Common.{◌≡◌, ◌≢◌, Bool, true, false, arith, sym, ap, ◌∙◌, inl, inr}
-use Rattle.std.specs.Prelude.{ℤ, pos, ◌*ℤ◌, ◌<ℤ◌, neg_ℤ, if◌then◌else◌}
-use Rattle.std.proofs.lemmas.Int.{ints}
-use Rattle.integers.proofs.Signs.{mul_pos}
+use Rattle.std.proofs.Common.{◌≡◌, ◌≢◌, Bool, true, false, sym, ap, ◌∙◌, inl, inr}
+use Rattle.std.specs.Prelude.{ℤ, ◌*ℤ◌, ◌<ℤ◌, neg_ℤ, if◌then◌else◌}
+use Rattle.integers.proofs.Signs.{mul_pos, neg_above, neg_below, more, more_right}
 use Rattle.exact_plane.specs.Line.{Line, IsOn}
-use Rattle.exact_plane.specs.Plane.{Runs}
+use Rattle.exact_plane.specs.Plane.{RunsForward}
 use Rattle.exact_plane.specs.Point.{Point}
 use Rattle.exact_plane.proofs.Directions.{square_nonneg}
 use Rattle.plane_graphs.specs.Graph.{Edge}
 use Rattle.plane_graphs.specs.Line.{precedes}
-use Rattle.dart_rings.specs.Order.{IsStrictOn}
-use Rattle.dart_rings.specs.Ring.{Out}
+use Rattle.rotation_order.specs.RingOrder.{IsStrictOn}
+use Rattle.rotation_order.specs.Ring.{Out}
 use Rattle.slab_laws.specs.declared.names.DartId.{DartId}
 use Rattle.slab_laws.specs.declared.names.VertexId.{VertexId}
-use Rattle.slab_laws.specs.Rotation.{earlier}
+use Rattle.slab_laws.specs.Rotation.{earlier, OutOf}
 use Rattle.slab_laws.specs.Sound.{skeleton_of, edge_in, dart_in, IsGraphSound}
 use Rattle.slab_laws.specs.View.{View, HasVertex, HasDart, IsOutOf, vertex_id, dart_id, point_in, source_in, target_in, line_in}
-use Rattle.edge_fans.specs.Ways.{way_before, way_of, IsAlong}
-use Rattle.edge_fans.proofs.Rounds.{by_directions}
-use Rattle.sound_rings.specs.Rings.{OutOf, turns_in, RingOf}
-use Rattle.sound_rings.proofs.Named.{edge_known, out_of}
-use Rattle.sound_rings.proofs.Turned.{strict_at}
-use Rattle.sound_rings.proofs.Sound.{sound_views_have_rings}
-use Rattle.rotation_order.specs.Place.{way_in, sooner_way}
-use Rattle.view_changes.specs.Around.{after_in}
+use Rattle.rotation_order.specs.Directions.{direction_before, dart_direction, IsAlong}
+use Rattle.rotation_order.proofs.ClockwiseEdges.{by_directions}
+use Rattle.rotation_order.specs.VertexRings.{turns_in, RingOf}
+use Rattle.rotation_order.proofs.RingNames.{edge_known, out_of}
+use Rattle.rotation_order.proofs.RingTurned.{strict_at}
+use Rattle.rotation_order.proofs.SoundRings.{sound_views_have_rings}
+use Rattle.rotation_order.specs.Place.{direction_in, sooner_way}
+use Rattle.arr_notes.specs.AfterAround.{after_in}
 use Rattle.rotation_order.proofs.Turning.{soon}
-use Rattle.rotation_order.proofs.Ways.{IsWay, more, more_right, square_up}
+use Rattle.rotation_order.proofs.LineDirections.{IsWay, square_up}
 
 -- ---- a line goes some way
-falling : (z : ℤ) → pos 0 <ℤ z → neg_ℤ z <ℤ pos 0
-falling z h = omega (arith, ints)
 
-rising : (z : ℤ) → z <ℤ pos 0 → pos 0 <ℤ neg_ℤ z
-rising z h = omega (arith, ints)
-
-line_way : (l : Line) (f : Bool) → Runs l.a l.b → IsWay (way_of l f)
+line_way : (l : Line) (f : Bool) → RunsForward l.a l.b → IsWay (dart_direction l f)
 line_way l true (inl h) = more (l.b *ℤ l.b) (neg_ℤ l.a *ℤ neg_ℤ l.a) (mul_pos h h) (square_nonneg (neg_ℤ l.a))
-line_way l true (inr h) = let k = rising l.a h.1 in more_right (l.b *ℤ l.b) (neg_ℤ l.a *ℤ neg_ℤ l.a) (square_nonneg l.b) (mul_pos k k)
-line_way l false (inl h) = more (neg_ℤ l.b *ℤ neg_ℤ l.b) (neg_ℤ (neg_ℤ l.a) *ℤ neg_ℤ (neg_ℤ l.a)) (square_up (neg_ℤ l.b) (falling l.b h)) (square_nonneg (neg_ℤ (neg_ℤ l.a)))
-line_way l false (inr h) = more_right (neg_ℤ l.b *ℤ neg_ℤ l.b) (neg_ℤ (neg_ℤ l.a) *ℤ neg_ℤ (neg_ℤ l.a)) (square_nonneg (neg_ℤ l.b)) (square_up (neg_ℤ (neg_ℤ l.a)) (falling (neg_ℤ l.a) (rising l.a h.1)))
+line_way l true (inr h) = let k = neg_above l.a h.1 in more_right (l.b *ℤ l.b) (neg_ℤ l.a *ℤ neg_ℤ l.a) (square_nonneg l.b) (mul_pos k k)
+line_way l false (inl h) = more (neg_ℤ l.b *ℤ neg_ℤ l.b) (neg_ℤ (neg_ℤ l.a) *ℤ neg_ℤ (neg_ℤ l.a)) (square_up (neg_ℤ l.b) (neg_below l.b h)) (square_nonneg (neg_ℤ (neg_ℤ l.a)))
+line_way l false (inr h) = more_right (neg_ℤ l.b *ℤ neg_ℤ l.b) (neg_ℤ (neg_ℤ l.a) *ℤ neg_ℤ (neg_ℤ l.a)) (square_nonneg (neg_ℤ l.b)) (square_up (neg_ℤ (neg_ℤ l.a)) (neg_below (neg_ℤ l.a) (neg_above l.a h.1)))
 
 -- ---- an edge lies on a line that holds its ends
 abbrev pub edge_by : Bool → Point → Point → Edge
@@ -49,7 +43,7 @@ ends_on l true p q x y = (x, y)
 ends_on l false p q x y = (y, x)
 
 module _ (v : View) (s : IsGraphSound v) where
-  pub some_way : (d : DartId) → HasDart v d → IsWay (way_in v d)
+  pub some_way : (d : DartId) → HasDart v d → IsWay (direction_in v d)
   some_way d has = let p = s.drawn.line d has in line_way (line_in v d) (dart_in v d).forward p.runs
 
   pub along_line : (d : DartId) → HasDart v d → IsAlong (dart_in v d) (line_in v d)
@@ -76,7 +70,7 @@ module _ (v : View) (s : IsGraphSound v) where
     in_graph : (d : DartId) → IsOutOf v w d → OutOf (skeleton_of v) (point_in v w) (dart_in v d)
     in_graph d o = out_of v s.twinned s.plane w d.0 (by_name d o)
 
-    pub same_order : (c d : DartId) → IsOutOf v w c → IsOutOf v w d → earlier (dart_in v c) (dart_in v d) ≡ way_before (way_in v c) (way_in v d)
+    pub same_order : (c d : DartId) → IsOutOf v w c → IsOutOf v w d → earlier (dart_in v c) (dart_in v d) ≡ direction_before (direction_in v c) (direction_in v d)
     same_order c d oc od =
         let a = in_graph c oc in
         let b = in_graph d od in
@@ -90,7 +84,7 @@ module _ (v : View) (s : IsGraphSound v) where
     after_out d o = let f = followed d o in (f.0, ap vertex_id f.1)
 
     -- and is the first of all clockwise
-    pub first_after : (d c : DartId) → IsOutOf v w d → IsOutOf v w c → c ≢ after_in v d → sooner_way (way_in v d) (way_in v (after_in v d)) (way_in v c) ≡ true
+    pub first_after : (d c : DartId) → IsOutOf v w d → IsOutOf v w c → c ≢ after_in v d → sooner_way (direction_in v d) (direction_in v (after_in v d)) (direction_in v c) ≡ true
     first_after d c od oc ne =
         let a = after_in v d in
         let oa = after_out d od in
@@ -98,7 +92,7 @@ module _ (v : View) (s : IsGraphSound v) where
         (λ i. soon (sym (same_order d a od oa) i) (sym (same_order d c od oc) i) (sym (same_order a c oa oc) i)) ∙ f.first c.0 (by_name c oc) (λ q. ne (ap dart_id q))
 
     -- two darts of which neither comes before the other are one
-    pub one_dart : (c d : DartId) → IsOutOf v w c → IsOutOf v w d → way_before (way_in v c) (way_in v d) ≡ false → way_before (way_in v d) (way_in v c) ≡ false → c ≡ d
+    pub one_dart : (c d : DartId) → IsOutOf v w c → IsOutOf v w d → direction_before (direction_in v c) (direction_in v d) ≡ false → direction_before (direction_in v d) (direction_in v c) ≡ false → c ≡ d
     one_dart c d oc od h k =
         let strict : IsStrictOn earlier (OutOf (skeleton_of v) (point_in v w)) = strict_at (skeleton_of v) (point_in v w) (dart_in v c) s.plane (in_graph c oc) in
         s.turned.differ c d oc.0 od.0 (strict.total (dart_in v c) (dart_in v d) (in_graph c oc) (in_graph d od) (same_order c d oc od ∙ h) (same_order d c od oc ∙ k))

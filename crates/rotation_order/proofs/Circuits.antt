@@ -3,23 +3,23 @@ use Rattle.std.proofs.Common.{◌≡◌, ◌≢◌, ℕ, ◌<◌, Bool, true, fa
 use Rattle.std.specs.Prelude.{not, ◌&&◌, ◌==◌}
 use Rattle.std.proofs.lemmas.Bool.{cases_eq, and_parts, and_from, eqb-true}
 use Rattle.plane_graphs.proofs.Lists.{not_out, not_in, clash}
-use Rattle.dart_rings.specs.Order.{IsStrictOn, IsRoundOn, sooner_by}
-use Rattle.dart_rings.specs.Ring.{Out, IsApart, IsAfter}
-use Rattle.dart_rings.proofs.Edits.{apart_of}
-use Rattle.dart_rings.proofs.Linear.{round_by}
-use Rattle.dart_rings.proofs.Rings as rings
+use Rattle.rotation_order.specs.RingOrder.{IsStrictOn, IsRoundOn, sooner_by}
+use Rattle.rotation_order.specs.Ring.{Out, IsApart, IsAfter}
+use Rattle.rotation_order.proofs.RingEdits.{apart_of}
+use Rattle.rotation_order.proofs.RingOrders.{round_by}
+use Rattle.rotation_order.proofs.Rings as rings
 use Rattle.slab_laws.specs.declared.names.DartId.{DartId}
 use Rattle.slab_laws.specs.declared.names.VertexId.{VertexId}
 use Rattle.slab_laws.specs.Darts.{Dart}
-use Rattle.slab_laws.specs.Rotation.{earlier}
+use Rattle.slab_laws.specs.Rotation.{earlier, OutOf}
 use Rattle.slab_laws.specs.Sound.{skeleton_of, dart_in, IsGraphSound}
 use Rattle.slab_laws.specs.Tables.{row_at}
 use Rattle.slab_laws.specs.View.{View, HasDart, IsOutOf, vertex_id, dart_id, point_in, source_in, twin_in, next_in}
-use Rattle.view_changes.specs.Around.{after_in}
-use Rattle.sound_rings.specs.Rings.{OutOf, turns_in, RingOf}
-use Rattle.sound_rings.proofs.Named.{out_of}
-use Rattle.sound_rings.proofs.Sound.{sound_views_have_rings}
-use Rattle.sound_rings.proofs.Turned.{strict_at}
+use Rattle.arr_notes.specs.AfterAround.{after_in}
+use Rattle.rotation_order.specs.VertexRings.{turns_in, RingOf}
+use Rattle.rotation_order.proofs.RingNames.{out_of}
+use Rattle.rotation_order.proofs.SoundRings.{sound_views_have_rings}
+use Rattle.rotation_order.proofs.RingTurned.{strict_at}
 use Rattle.rotation_order.proofs.Walks.{count, fewer}
 
 -- ---- the darts that aren't met before a dart, clockwise from d
@@ -151,8 +151,6 @@ pub read_after : (v : View) (d t n : DartId) → t ≡ twin_in v d → n ≡ nex
 read_after v d t n e f = f ∙ ap (λ z. next_in v z) e
 
 -- ---- tests of names
-pub names_same : (d e : DartId) (b : Bool) → b ≡ (d.0 == e.0) → b ≡ true → d ≡ e
-names_same d e b i t = ap dart_id (eqb-true d.0 e.0 (sym i ∙ t))
 
 pub names_other : (d e : DartId) (b : Bool) → b ≡ (d.0 == e.0) → b ≡ false → d ≢ e
 names_other d e b i f q = clash (eq-eqb d.0 e.0 (ap (λ (z : DartId). z.0) q)) (sym i ∙ f)

@@ -11,11 +11,12 @@ use lib.Signed.{lt_z}
 use Rattle.integers.proofs.Classes.{then_equal}
 use Rattle.integers.proofs.Compare.{equal_out, greater_out}
 use Rattle.integers.proofs.Reify.{ring, sides}
+use Rattle.integers.proofs.Tests.{lt_is}
+use Rattle.integers.proofs.Signs.{opposite_above, opposite_nothing}
 use Rattle.exact_plane.specs.Direction.{Direction, IsOneDirection, turn, along, by_turn, turn_cmp, next_cmp, place, last_place, quarter as first_rank, last_quarter}
-use Rattle.edge_fans.specs.Ways.{quarter_by, quarter, way_before, straight_down}
-use Rattle.edge_fans.proofs.Factors.{lt_out}
-use Rattle.edge_fans.proofs.Quarters.{turn_order, one_quarter, no_width, no_turn}
-use Rattle.rotation_order.proofs.Ways.{IsWay, neither, quarters, turned_round}
+use Rattle.rotation_order.specs.Directions.{quarter_by, quarter, direction_before, straight_down}
+use Rattle.rotation_order.proofs.Quarters.{turn_order, one_quarter, no_width, no_turn}
+use Rattle.rotation_order.proofs.LineDirections.{IsWay, neither, quarters, turned_round}
 
 -- ---- straight down is the last quarter
 few : (l r d : Bool) → quarter_by l r d ≤ 3
@@ -33,27 +34,21 @@ falls false false true e = refl
 few_quarters : (a : Direction) → quarter a ≤ 3
 few_quarters a = few (lt_z a.x (pos 0)) (lt_z (pos 0) a.x) (lt_z a.y (pos 0))
 
-no_way : (s t : ℤ) → t ≡ pos 0 -ℤ s → s ≡ pos 0 → t ≡ pos 0
-no_way s t e h = omega (arith, ints)
-
-some_way : (s t : ℤ) → t ≡ pos 0 -ℤ s → s <ℤ pos 0 → pos 0 <ℤ t
-some_way s t e h = omega (arith, ints)
-
 last_is_down : (a : Direction) → quarter a ≡ 3 → IsOneDirection a straight_down
 last_is_down a q = record {
-  straight = no_way a.x (turn a straight_down) (ring (a.x ∷ a.y ∷ []) (search sides depth 40 fits 20000) tt) (no_width a (inr q));
-  forward = some_way a.y (along a straight_down) (ring (a.x ∷ a.y ∷ []) (search sides depth 40 fits 20000) tt) (lt_out a.y (pos 0) (falls (lt_z a.x (pos 0)) (lt_z (pos 0) a.x) (lt_z a.y (pos 0)) q));
+  straight = opposite_nothing a.x (turn a straight_down) (ring (a.x ∷ a.y ∷ []) (search sides depth 40 fits 20000) tt) (no_width a (inr q));
+  forward = opposite_above a.y (along a straight_down) (ring (a.x ∷ a.y ∷ []) (search sides depth 40 fits 20000) tt) (lt_is a.y (pos 0) (falls (lt_z a.x (pos 0)) (lt_z (pos 0) a.x) (lt_z a.y (pos 0)) q));
 }
 
 -- ---- the three answers of the test in code
-pub down_is_last : (a b : Direction) → IsOneDirection a straight_down → way_before a b ≡ false
-down_is_last a b h = false_from_ne_true (way_before a b) (λ k. met (one_quarter a straight_down h) (quarters a b k))
+pub down_is_last : (a b : Direction) → IsOneDirection a straight_down → direction_before a b ≡ false
+down_is_last a b h = false_from_ne_true (direction_before a b) (λ k. met (one_quarter a straight_down h) (quarters a b k))
   where
     met : quarter a ≡ 3 → (ltb (quarter a) (quarter b) ≡ true) ⊎ ((quarter a ≡ quarter b) × (turn a b <ℤ pos 0)) → ⊥
     met q (inl l) = let p = ltb-true (quarter a) (quarter b) l in let f = few_quarters b in omega arith
     met q (inr r) = let z = no_turn a b (no_width a (inr q)) (no_width b (inr (sym r.0 ∙ q))) in let k = r.1 in omega (arith, ints)
 
-pub before_down : (a b : Direction) → (IsOneDirection a straight_down → ⊥) → IsOneDirection b straight_down → way_before a b ≡ true
+pub before_down : (a b : Direction) → (IsOneDirection a straight_down → ⊥) → IsOneDirection b straight_down → direction_before a b ≡ true
 before_down a b n h = or_left (ltb (quarter a) (quarter b)) _ (lt-ltb (quarter a) (quarter b) (less (few_quarters a) (λ q. n (last_is_down a q)) (one_quarter b straight_down h)))
   where
     less : quarter a ≤ 3 → (quarter a ≡ 3 → ⊥) → quarter b ≡ 3 → quarter a < quarter b
@@ -69,7 +64,7 @@ one_rank a Equal Greater e g n = absurd (n (turned_round straight_down a (record
 one_place : (a : Direction) → (IsOneDirection a straight_down → ⊥) → place straight_down a ≡ last_place straight_down a
 one_place a n = one_rank a (int_cmp (turn straight_down a) (pos 0)) (int_cmp (along straight_down a) (pos 0)) refl refl n
 
-pub elsewhere : (a b : Direction) → (IsOneDirection a straight_down → ⊥) → (IsOneDirection b straight_down → ⊥) → is_lt (turn_cmp straight_down a b) ≡ way_before a b
+pub elsewhere : (a b : Direction) → (IsOneDirection a straight_down → ⊥) → (IsOneDirection b straight_down → ⊥) → is_lt (turn_cmp straight_down a b) ≡ direction_before a b
 elsewhere a b n m = (λ i. is_lt (ordering_then (nat_cmp (one_place a n i) (one_place b m i)) (by_turn a b))) ∙ sym (turn_order a b)
 
 -- ---- what a comparison by the exact order has told
@@ -102,5 +97,5 @@ level f a b h =
     let p : place f a ≡ place f b = first_place f a ∙ ap (λ n. cond (n == 4) 0 n) q ∙ sym (first_place f b) in
     ap₂ ordering_then (ap (λ n. nat_cmp n (place f b)) p ∙ tied_itself nat_cmp_total (place f b)) t.1
 
-pub either_way : (a x : Direction) → IsWay a → IsWay x → (turn_cmp straight_down a x ≡ Equal → ⊥) → way_before x a ≡ false → way_before a x ≡ true
-either_way a x A X differ h = elim (cases_Bool (way_before a x)) [ inl y ↦ y | inr n ↦ absurd (differ (level straight_down a x (neither a x A X n h))) ]
+pub either_way : (a x : Direction) → IsWay a → IsWay x → (turn_cmp straight_down a x ≡ Equal → ⊥) → direction_before x a ≡ false → direction_before a x ≡ true
+either_way a x A X differ h = elim (cases_Bool (direction_before a x)) [ inl y ↦ y | inr n ↦ absurd (differ (level straight_down a x (neither a x A X n h))) ]

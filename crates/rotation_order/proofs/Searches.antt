@@ -3,13 +3,13 @@ use Rattle.std.proofs.Common.{◌≡◌, ◌≢◌, Bool, true, false, inl, inr,
 use Rattle.std.proofs.lemmas.Bool.{cases_eq, eqb-true}
 use Rattle.std.specs.Prelude.{not, ◌==◌}
 use Rattle.plane_graphs.proofs.Lists.{not_out, clash}
-use Rattle.dart_rings.specs.Order.{sooner_by}
+use Rattle.rotation_order.specs.RingOrder.{sooner_by}
 use Rattle.slab_laws.specs.declared.names.DartId.{DartId}
 use Rattle.slab_laws.specs.declared.names.VertexId.{VertexId}
 use Rattle.slab_laws.specs.Rotation.{earlier}
 use Rattle.slab_laws.specs.Sound.{dart_in, IsGraphSound}
 use Rattle.slab_laws.specs.View.{View, HasDart, IsOutOf, vertex_id, dart_id, source_in, target_in}
-use Rattle.view_changes.specs.Around.{after_in}
+use Rattle.arr_notes.specs.AfterAround.{after_in}
 use Rattle.rotation_order.proofs.Circuits.{first_met, last_met, none_between}
 
 -- clockwise from just after d, no dart that is met before x ends at u

@@ -1,19 +1,20 @@
 -- A walk round a vertex in search of a direction's place comes to an end, by how many darts are still to be met.
-use Rattle.std.proofs.Common.{◌≡◌, ℕ, ◌+◌, ◌<◌, ◌≤◌, Bool, true, false, cond, arith, refl, ap, ◌∙◌, List, [], ◌∷◌, is_some, inl, inr, eq-eqb}
+use Rattle.std.proofs.Common.{◌≡◌, ℕ, ◌+◌, ◌<◌, ◌≤◌, Bool, true, false, cond, arith, ap, ◌∙◌, List, [], ◌∷◌, is_some, inl, inr, eq-eqb}
 use Rattle.std.specs.Prelude.{◌&&◌, ◌==◌}
-use Rattle.std.proofs.lemmas.Bool.{cases_eq, cases_Bool, false≢true, and_parts, and_from, eqb-true, ne_eqb}
+use Rattle.std.proofs.lemmas.Bool.{cases_eq, cases_Bool, false≢true, and_parts, and_from, ne_eqb}
 use Rattle.exact_plane.specs.Direction.{Direction}
 use Rattle.slab_laws.specs.declared.names.DartId.{DartId}
 use Rattle.slab_laws.specs.declared.names.VertexId.{VertexId}
 use Rattle.slab_laws.specs.Sound.{IsGraphSound}
 use Rattle.slab_laws.specs.Tables.{row_at}
-use Rattle.slab_laws.specs.View.{View, HasVertex, IsOutOf, vertex_id, dart_id, source_in}
-use Rattle.edge_fans.specs.Ways.{way_before}
-use Rattle.rotation_order.specs.Place.{way_in, sooner_way}
-use Rattle.view_changes.specs.Around.{after_in}
+use Rattle.slab_laws.specs.View.{View, HasVertex, IsOutOf, dart_id, source_in}
+use Rattle.rotation_order.specs.Directions.{direction_before}
+use Rattle.rotation_order.specs.Place.{direction_in, sooner_way}
+use Rattle.arr_notes.specs.AfterAround.{after_in}
 use Rattle.rotation_order.proofs.Turning.{through_by, further_by, same_by}
-use Rattle.rotation_order.proofs.Ways.{on, asym, itself}
+use Rattle.rotation_order.proofs.LineDirections.{on, asym, itself}
 use Rattle.rotation_order.proofs.Around.{some_way, after_out}
+use Rattle.slab_faces.proofs.PointLemmas.{and_none}
 
 -- ---- how many names of a table pass a test
 unfoldable pub count : {X : Type 0} → (ℕ → Bool) → List (ℕ × X) → ℕ
@@ -47,42 +48,35 @@ fewer p q f (r ∷ rs) k h n y =
 
 -- ---- the darts out of w that are met after y, clockwise from x
 abbrev pub is_later : View → VertexId → Direction → Direction → ℕ → Bool
-is_later v w x y n = is_some (row_at v.darts n) && (((source_in v (dart_id n)).0 == w.0) && sooner_way x y (way_in v (dart_id n)))
+is_later v w x y n = is_some (row_at v.darts n) && (((source_in v (dart_id n)).0 == w.0) && sooner_way x y (direction_in v (dart_id n)))
 
 -- how many darts are still to be met after d
 abbrev pub to_meet : View → VertexId → Direction → DartId → ℕ
-to_meet v w x d = count (is_later v w x (way_in v d)) v.darts
-
-is_out : (v : View) (w : VertexId) (n : ℕ) → is_some (row_at v.darts n) ≡ true → ((source_in v (dart_id n)).0 == w.0) ≡ true → IsOutOf v w (dart_id n)
-is_out v w n h k = (h, ap vertex_id (eqb-true (source_in v (dart_id n)).0 w.0 k))
-
-and_no : (a b : Bool) → b ≡ false → (a && b) ≡ false
-and_no true b e = e
-and_no false b e = refl
+to_meet v w x d = count (is_later v w x (direction_in v d)) v.darts
 
 module _ (v : View) (s : IsGraphSound v) (w : VertexId) (known : HasVertex v w) (x : Direction) (d : DartId) (o : IsOutOf v w d) where
-  module _ (either : way_before x (way_in v d) ≡ false → way_before (way_in v d) x ≡ true) (miss : sooner_way (way_in v d) x (way_in v (after_in v d)) ≡ false) where
+  module _ (either : direction_before x (direction_in v d) ≡ false → direction_before (direction_in v d) x ≡ true) (miss : sooner_way (direction_in v d) x (direction_in v (after_in v d)) ≡ false) where
     after : IsOutOf v w (after_in v d)
     after = after_out v s w known d o
 
-    next_later : sooner_way x (way_in v d) (way_in v (after_in v d)) ≡ true
+    next_later : sooner_way x (direction_in v d) (direction_in v (after_in v d)) ≡ true
     next_later =
-        further_by (way_before x (way_in v d)) (way_before (way_in v d) x) (way_before x (way_in v (after_in v d))) (way_before (way_in v d) (way_in v (after_in v d)))
-        (asym x (way_in v d)) either miss
+        further_by (direction_before x (direction_in v d)) (direction_before (direction_in v d) x) (direction_before x (direction_in v (after_in v d))) (direction_before (direction_in v d) (direction_in v (after_in v d)))
+        (asym x (direction_in v d)) either miss
 
-    still : (n : ℕ) → is_later v w x (way_in v (after_in v d)) n ≡ true → is_later v w x (way_in v d) n ≡ true
+    still : (n : ℕ) → is_later v w x (direction_in v (after_in v d)) n ≡ true → is_later v w x (direction_in v d) n ≡ true
     still n p =
-        let a = and_parts (is_some (row_at v.darts n)) (((source_in v (dart_id n)).0 == w.0) && sooner_way x (way_in v (after_in v d)) (way_in v (dart_id n))) p in
-        let b = and_parts ((source_in v (dart_id n)).0 == w.0) (sooner_way x (way_in v (after_in v d)) (way_in v (dart_id n))) a.1 in
+        let a = and_parts (is_some (row_at v.darts n)) (((source_in v (dart_id n)).0 == w.0) && sooner_way x (direction_in v (after_in v d)) (direction_in v (dart_id n))) p in
+        let b = and_parts ((source_in v (dart_id n)).0 == w.0) (sooner_way x (direction_in v (after_in v d)) (direction_in v (dart_id n))) a.1 in
         let N = some_way v s (dart_id n) a.0 in
         let A = some_way v s (after_in v d) after.0 in
-        and_from _ _ a.0 (and_from _ _ b.0 (through_by (way_before x (way_in v d)) (way_before x (way_in v (after_in v d))) (way_before x (way_in v (dart_id n)))
-        (way_before (way_in v d) (way_in v (after_in v d))) (way_before (way_in v (after_in v d)) (way_in v (dart_id n))) (way_before (way_in v d) (way_in v (dart_id n)))
-        (on (way_in v d) (way_in v (after_in v d)) (way_in v (dart_id n)) A N) next_later b.1))
+        and_from _ _ a.0 (and_from _ _ b.0 (through_by (direction_before x (direction_in v d)) (direction_before x (direction_in v (after_in v d))) (direction_before x (direction_in v (dart_id n)))
+        (direction_before (direction_in v d) (direction_in v (after_in v d))) (direction_before (direction_in v (after_in v d)) (direction_in v (dart_id n))) (direction_before (direction_in v d) (direction_in v (dart_id n)))
+        (on (direction_in v d) (direction_in v (after_in v d)) (direction_in v (dart_id n)) A N) next_later b.1))
 
     -- where the direction is not met before the dart after d, fewer are to be met after that one
     pub nearer : to_meet v w x (after_in v d) < to_meet v w x d
     nearer =
-        fewer (is_later v w x (way_in v (after_in v d))) (is_later v w x (way_in v d)) still v.darts (after_in v d).0 after.0
-        (and_no _ _ (and_no _ _ (same_by (way_before x (way_in v (after_in v d))) (way_before (way_in v (after_in v d)) (way_in v (after_in v d))) (itself (way_in v (after_in v d))))))
+        fewer (is_later v w x (direction_in v (after_in v d))) (is_later v w x (direction_in v d)) still v.darts (after_in v d).0 after.0
+        (and_none _ _ (and_none _ _ (same_by (direction_before x (direction_in v (after_in v d))) (direction_before (direction_in v (after_in v d)) (direction_in v (after_in v d))) (itself (direction_in v (after_in v d))))))
         (and_from _ _ after.0 (and_from _ _ (eq-eqb (source_in v (after_in v d)).0 w.0 (ap (λ u. u.0) after.1)) next_later))

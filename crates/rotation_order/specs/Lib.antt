@@ -1,2 +1,9 @@
+pub mod RingOrder
+pub mod Ring
+pub mod VertexRings
+pub mod SoundRingLaws
+pub mod EdgeParts
+pub mod Directions
 pub mod Place
-pub mod Laws
+pub mod PlaceLaws
+pub mod Neighbours

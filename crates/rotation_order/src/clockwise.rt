@@ -1,5 +1,5 @@
 ghost use Rattle.std.specs.Prelude.{◌≡◌};
-ghost use Rattle.edge_fans.specs.Ways.{straight_down, way_before};
+ghost use Rattle.rotation_order.specs.Directions.{straight_down, direction_before};
 ghost use Rattle.rotation_order.specs.Place.{sooner_way};
 
 use exact_plane::{Direction, Segment, line_of, turn_order};
@@ -17,7 +17,7 @@ pub(crate) fn down() -> Direction
 // Whether a is met before b, clockwise from just after straight down, which is met last.
 fn is_before(down: Direction, a: Direction, b: Direction) -> bool
     requires { down ≡ straight_down }
-    ensures { result ≡ way_before a b }
+    ensures { result ≡ direction_before a b }
 {
     if turn_order(down, a, down).is_eq() {
         return false;
@@ -29,7 +29,12 @@ fn is_before(down: Direction, a: Direction, b: Direction) -> bool
 }
 
 // Whether a is met before b, clockwise from just after first, which is met last.
-pub(crate) fn is_sooner(down: Direction, first: Direction, a: Direction, b: Direction) -> bool
+pub(crate) fn comes_first_clockwise(
+    down: Direction,
+    first: Direction,
+    a: Direction,
+    b: Direction,
+) -> bool
     requires { down ≡ straight_down }
     ensures { result ≡ sooner_way first a b }
 {

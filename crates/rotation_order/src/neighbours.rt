@@ -1,6 +1,6 @@
-ghost use Rattle.std.specs.Prelude.{◌≡◌, ◌≢◌, MatchOption};
 ghost use Rattle.slab_laws.specs.Sound.{IsGraphSound};
-ghost use Rattle.slab_laws.specs.View.{HasVertex, IsOutOf, target_in};
+ghost use Rattle.slab_laws.specs.View.{HasVertex};
+ghost use Rattle.rotation_order.specs.Neighbours.{IsDartTo};
 
 use slab_laws::{DartId, Darts, VertexId};
 
@@ -10,7 +10,7 @@ use slab_laws::{DartId, Darts, VertexId};
 pub fn dart_to<R: Darts>(records: &R, from: VertexId, to: VertexId) -> Option<DartId>
     requires sound { IsGraphSound (R.graph records.now) }
     requires from { HasVertex (R.graph records.now) from }
-    ensures { MatchOption result ((d : _) → IsOutOf (R.graph records.now) from d → target_in (R.graph records.now) d ≢ to) (λ d. IsOutOf (R.graph records.now) from d × (target_in (R.graph records.now) d ≡ to)) }
+    ensures { IsDartTo (R.graph records.now) from to result }
 {
     let first = records.out_of(from)?;
     // The round begins just after the first dart, and so ends with it.

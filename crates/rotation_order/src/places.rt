@@ -1,9 +1,9 @@
 ghost use Rattle.std.specs.Prelude.{◌≡◌};
 ghost use Rattle.slab_laws.specs.Sound.{IsGraphSound};
 ghost use Rattle.slab_laws.specs.View.{HasVertex, HasDart};
-ghost use Rattle.rotation_order.specs.Place.{way_in, IsPlaceOf};
+ghost use Rattle.rotation_order.specs.Place.{direction_in, IsPlaceOf};
 
-use crate::clockwise::{down, is_sooner};
+use crate::clockwise::{comes_first_clockwise, down};
 use exact_plane::{Direction, turn_order};
 use slab_laws::{DartId, Darts, VertexId};
 
@@ -22,7 +22,7 @@ pub enum Place {
 fn way<R: Darts>(records: &R, dart: DartId) -> Direction
     requires sound { IsGraphSound (R.graph records.now) }
     requires dart { HasDart (R.graph records.now) dart }
-    ensures { result ≡ way_in (R.graph records.now) dart }
+    ensures { result ≡ direction_in (R.graph records.now) dart }
 {
     let from = records.point(records.source(dart));
     let to = records.point(records.target(dart));
@@ -47,7 +47,7 @@ pub fn place_at<R: Darts>(records: &R, vertex: VertexId, direction: Direction) -
     'ring: while !turn_order(down, way_out, direction).is_eq() {
         let after = records.next(records.twin(dart));
         let way_after = way(records, after);
-        if is_sooner(down, way_out, direction, way_after) {
+        if comes_first_clockwise(down, way_out, direction, way_after) {
             return Place::Between(dart, after);
         }
         dart = after;

@@ -1,7 +1,7 @@
 ghost use Rattle.std.specs.Prelude.{◌≡◌};
 ghost use Rattle.slab_laws.specs.Sound.{IsGraphSound};
 ghost use Rattle.slab_laws.specs.View.{HasDart, IsOutOf, source_in};
-ghost use Rattle.view_changes.specs.Around.{after_in};
+ghost use Rattle.arr_notes.specs.AfterAround.{after_in};
 
 use slab_laws::{DartId, Darts};
 
@@ -9,7 +9,7 @@ use slab_laws::{DartId, Darts};
 /// manual, circulator around a vertex).
 ///
 /// It goes round the vertex once, and takes no memory.
-pub fn before<R: Darts>(records: &R, d: DartId) -> DartId
+pub fn previous_around_source<R: Darts>(records: &R, d: DartId) -> DartId
     requires sound { IsGraphSound (R.graph records.now) }
     requires dart { HasDart (R.graph records.now) d }
     ensures out { IsOutOf (R.graph records.now) (source_in (R.graph records.now) d) result }

@@ -15,6 +15,7 @@ use Rattle.exact_plane.proofs.Lowest.{Sizes, sizes, from_sizes}
 use Rattle.exact_plane.proofs.Wholes.{are_coordinates-is}
 use Rattle.script_lines.specs.Number.{limited_size, limited_number}
 use Rattle.script_lines.specs.Command.{point_from, pair_from, triple_from, curve_from, segment_from}
+use Rattle.integers.proofs.Tests.{not_true}
 
 size-neg : (n : ℕ) → unsigned_abs (neg_ℤ (pos n)) ≡ n
 size-neg zero = refl
@@ -45,10 +46,6 @@ range-limited_number x y n e h =
     let u : in_range x y (pos n) ≡ true = from_sizes x y n (from_capped (unsigned_abs x) (unsigned_abs y) n t) in
     cc
 
-is_false : (b : Bool) → (b ≡ true → ⊥) → b ≡ false
-is_false true h = absurd (h refl)
-is_false false h = refl
-
 at_range : (x y : ℤ) (n : ℕ) (t : Bool) → in_range x y (pos n) ≡ t → result_ok (point_of (limited_number x) (limited_number y) (pos (limited_size n))) ≡ result_ok (point_of x y (pos n))
 at_range x y n true e =
     let s = sizes x y n e in
@@ -58,7 +55,7 @@ at_range x y n true e =
     let h : limited_size n ≡ n = omega arith in
     rw (f, g, h) refl
 at_range x y n false e =
-    let f : in_range (limited_number x) (limited_number y) (pos (limited_size n)) ≡ false = is_false (in_range (limited_number x) (limited_number y) (pos (limited_size n))) (range-limited_number x y n e) in
+    let f : in_range (limited_number x) (limited_number y) (pos (limited_size n)) ≡ false = not_true (in_range (limited_number x) (limited_number y) (pos (limited_size n))) (range-limited_number x y n e) in
     not_range (limited_number x) (limited_number y) (pos (limited_size n)) f ∙ sym (not_range x y (pos n) e)
 
 under_zero : (x y : ℤ) (k : ℕ) → 0 < k → result_ok (point_of x y (neg_ℤ (pos k))) ≡ None

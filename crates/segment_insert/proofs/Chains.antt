@@ -7,7 +7,7 @@ use Rattle.plane_graphs.specs.Graph.{mark, chain, chain_from}
 use Rattle.plane_graphs.proofs.Ascending.{All-member}
 use Rattle.plane_graphs.proofs.Order.{Lt, lt_never, lt_both}
 use Rattle.zone_walk.specs.declared.plan.Meeting.{Meeting}
-use Rattle.segment_insert.specs.Insertion.{points_of_meetings}
+use Rattle.zone_walk.specs.Zone.{points_of_meetings}
 
 abbrev Ascend : List Meeting → Type 0
 Ascend ms = IsAscending point_cmp (points_of_meetings ms)

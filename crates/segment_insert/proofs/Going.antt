@@ -3,11 +3,12 @@ use Rattle.std.proofs.Common.{◌≡◌, ℕ, suc, ◌<◌, ◌≤◌, List, [],
 use Rattle.exact_plane.specs.Line.{Line, IsOn}
 use Rattle.exact_plane.specs.Point.{Point}
 use Rattle.exact_plane.specs.Segment.{Segment, line_of_segment}
+use Rattle.exact_plane.specs.PointOrderLaws.{and_true}
 use Rattle.plane_graphs.specs.Ascending.{Member}
 use Rattle.plane_graphs.specs.Graph.{Graph, Mark, mark, chain}
 use Rattle.plane_graphs.specs.Line.{IsProperLine, precedes, is_on}
 use Rattle.plane_graphs.proofs.Lines.{zero_out, zero_in}
-use Rattle.plane_graphs.proofs.Lists.{both, and_in, not_true}
+use Rattle.plane_graphs.proofs.Lists.{and_in}
 use Rattle.plane_graphs.proofs.Order.{Lt, lt_out, lt_in}
 use Rattle.plane_graphs.proofs.Marks.{le_out, le_in, le_lt_lt, lt_le_lt, le_lt}
 use Rattle.edit_steps.specs.Allowed.{IsSound, AreSound}
@@ -17,15 +18,16 @@ use Rattle.slab_laws.specs.Sound.{IsGraphSound}
 use Rattle.slab_laws.specs.View.{View, HasVertex, point_in}
 use Rattle.arr_notes.specs.Curves.{Curves, AreCurvesOf}
 use Rattle.dcel_records.specs.declared.spot.Spot.TheVariants.{Vertex}
-use Rattle.record_graphs.specs.Graph.{drawn_graph}
-use Rattle.record_layers.specs.Kept.{Makes}
+use Rattle.sound_views.specs.RecordGraph.{drawn_graph}
+use Rattle.record_layers.specs.RecordLayers.{IsRunOfSteps}
 use Rattle.record_layers.proofs.Runs.{made_is_run, made_in_turn}
 use Rattle.zone_walk.specs.declared.plan.Meeting.{Meeting}
-use Rattle.zone_walk.specs.Zone.{is_on_segment, is_vertex}
+use Rattle.zone_walk.specs.Zone.{is_on_segment, is_vertex, points_of_meetings}
 use Rattle.segment_insert.specs.Parts.{IsOpenPart, part_step}
-use Rattle.segment_insert.specs.Insertion.{points_of_meetings, AreVertices, AreAllOn}
+use Rattle.segment_insert.specs.Insertion.{AreVertices, AreAllOn}
 use Rattle.segment_insert.proofs.Chains.{next_later, none_amid, chain_next, chain_ends}
 use Rattle.segment_insert.proofs.Makes.{one_step, sound_here}
+use Rattle.integers.proofs.Tests.{not_true}
 
 -- ---- the part between two neighbours
 -- the meetings are all vertices on the segment, each told by its name
@@ -63,13 +65,13 @@ module _ (v : View) (s : Segment) (ms : List Meeting) (met : AreMet v s ms) wher
       record { has = subst (HasVertex v) q n.2; at = ap (point_in v) (sym q) ∙ n.3; on_segment = met.on m k }
 
   on_line : (p : Point) → is_on_segment s p ≡ true → IsOn l p
-  on_line p h = zero_out _ (both (is_on l p) _ h).0
+  on_line p h = zero_out _ (and_true (is_on l p) _ h).0
 
   -- a point of the line between two points of the segment is on it
   on_between : (p x q : Point) → is_on_segment s p ≡ true → is_on_segment s q ≡ true → IsOn l x → Lt p x → Lt x q → is_on_segment s x ≡ true
   on_between p x q hp hq o a b =
-      let kp = both _ _ (both (is_on l p) _ hp).1 in
-      let kq = both _ _ (both (is_on l q) _ hq).1 in
+      let kp = and_true _ _ (and_true (is_on l p) _ hp).1 in
+      let kq = and_true _ _ (and_true (is_on l q) _ hq).1 in
       and_in (zero_in _ o) (and_in (le_in (le_lt (le_lt_lt (le_out s.lower p kp.0) a))) (le_in (le_lt (lt_le_lt b (le_out q s.upper kq.1)))))
 
   -- the meeting at a place is at a vertex
@@ -144,13 +146,10 @@ pub record IsGoing (v : View) (h : Curves) (c : ℕ) (ms : List Meeting) (k : �
   pub curves : AreCurvesOf g b
   pub vertices : g.vertices ≡ v.vertices
   pub rest : AreSound (steps_from (drawn_graph v h) c ms k) (drawn_graph g b)
-  pub made : (x : View) (z : Curves) → Makes g b (steps_from (drawn_graph v h) c ms k) x z → Makes v h (map (more_step (drawn_graph v h)) (chain c (points_of_meetings ms))) x z
+  pub made : (x : View) (z : Curves) → IsRunOfSteps g b (steps_from (drawn_graph v h) c ms k) x z → IsRunOfSteps v h (map (more_step (drawn_graph v h)) (chain c (points_of_meetings ms))) x z
 
-pub starts : (v : View) (h : Curves) (c : ℕ) (ms : List Meeting) → IsGraphSound v → AreCurvesOf v h → AreSound (map (more_step (drawn_graph v h)) (chain c (points_of_meetings ms))) (drawn_graph v h) → IsGoing v h c ms 0 v h
-starts v h c ms s a k = record { sound = s; curves = a; vertices = refl; rest = k; made = λ x z m. m }
-
-pub ends : (v : View) (h : Curves) (c : ℕ) (ms : List Meeting) (k : ℕ) (g : View) (b : Curves) → IsGoing v h c ms k g b → length ms ≤ suc k → Makes v h (map (more_step (drawn_graph v h)) (chain c (points_of_meetings ms))) g b
-ends v h c ms k g b i e = i.made g b (subst (λ z. Makes g b (map (more_step (drawn_graph v h)) z) g b) (sym (chain_ends c ms k e)) (refl, λ d. refl))
+pub ends : (v : View) (h : Curves) (c : ℕ) (ms : List Meeting) (k : ℕ) (g : View) (b : Curves) → IsGoing v h c ms k g b → length ms ≤ suc k → IsRunOfSteps v h (map (more_step (drawn_graph v h)) (chain c (points_of_meetings ms))) g b
+ends v h c ms k g b i e = i.made g b (subst (λ z. IsRunOfSteps g b (map (more_step (drawn_graph v h)) z) g b) (sym (chain_ends c ms k e)) (refl, λ d. refl))
 
 module _ (v : View) (h : Curves) (c : ℕ) (ms : List Meeting) (k : ℕ) (g : View) (b : Curves) (i : IsGoing v h c ms k g b) (u w : VertexId) (next : chain c (points_of_meetings (drop k ms)) ≡ mark (point_in v u) (point_in v w) c ∷ chain c (points_of_meetings (drop (suc k) ms))) where
   abbrev first : Graph
@@ -172,15 +171,15 @@ module _ (v : View) (h : Curves) (c : ℕ) (ms : List Meeting) (k : ℕ) (g : Vi
   pub part_sound : IsSound (part_step here g u w c) here
   part_sound = subst (λ z. IsSound (more_step here z) here) (sym same_mark) (sound_here m first here rest.0)
 
-  pub goes_on : (x : View) (z : Curves) → Makes g b (part_step here g u w c ∷ []) x z → x.vertices ≡ g.vertices → IsGoing v h c ms (suc k) x z
+  pub goes_on : (x : View) (z : Curves) → IsRunOfSteps g b (part_step here g u w c ∷ []) x z → x.vertices ≡ g.vertices → IsGoing v h c ms (suc k) x z
   unfolding run
   goes_on x z t e =
-      let one : Makes g b (more_step first m ∷ []) x z = subst (λ y. Makes g b (y ∷ []) x z) (ap (more_step here) same_mark ∙ sym (one_step m first here rest.0.allowed)) t in
+      let one : IsRunOfSteps g b (more_step first m ∷ []) x z = subst (λ y. IsRunOfSteps g b (y ∷ []) x z) (ap (more_step here) same_mark ∙ sym (one_step m first here rest.0.allowed)) t in
       let r = made_is_run g b (more_step first m ∷ []) x z i.sound i.curves one in
       record {
         sound = r.sound;
         curves = r.curves;
         vertices = e ∙ i.vertices;
         rest = subst (AreSound (steps_from first c ms (suc k))) (sym r.graph) rest.1;
-        made = λ y d n. i.made y d (subst (λ q. Makes g b (map (more_step first) q) y d) (sym next) (made_in_turn g b (more_step first m ∷ []) (steps_from first c ms (suc k)) x z y d one n));
+        made = λ y d n. i.made y d (subst (λ q. IsRunOfSteps g b (map (more_step first) q) y d) (sym next) (made_in_turn g b (more_step first m ∷ []) (steps_from first c ms (suc k)) x z y d one n));
       }

@@ -1,13 +1,14 @@
--- A curve more along an open part: on the edge that runs there, or on a new one.
+-- One more curve along an open part: on the edge that runs there, or on a new one.
 use Rattle.std.proofs.Common.{◌≡◌, ◌≢◌, List, [], ◌∷◌, true, false, cond, ◌==◌, Option, refl, sym, ap, ap₂, ◌∙◌, subst, inl, inr, nat_cmp}
 use Rattle.std.specs.List.{list_any}
 use Rattle.exact_plane.specs.Line.{Line}
 use Rattle.exact_plane.specs.Point.{Point}
+use Rattle.exact_plane.specs.PointOrderLaws.{and_true}
 use Rattle.plane_graphs.specs.Ascending.{Member, place, ascending}
 use Rattle.plane_graphs.specs.Graph.{Graph, Mark, Edge, mark, is_at, edge_cmp, edge_of, edges}
 use Rattle.plane_graphs.specs.Plane.{IsPlane}
 use Rattle.plane_graphs.proofs.Ascending.{ascending_unique, IsAscending-ascending}
-use Rattle.plane_graphs.proofs.Lists.{both, and_in, any_in, any_out, not_true, in_ascending, of_ascending}
+use Rattle.plane_graphs.proofs.Lists.{and_in, any_in, any_out, in_ascending, of_ascending}
 use Rattle.plane_graphs.proofs.Meaning.{edge_cmp_total, edge_cmp_exact, edges_ascend, edge_out, edge_in as edge_there}
 use Rattle.plane_graphs.proofs.Order.{same_out, same_in}
 use Rattle.edit_steps.specs.Allowed.{IsAllowed, IsSound}
@@ -24,18 +25,21 @@ use Rattle.arr_notes.specs.declared.change.Change.{Change}
 use Rattle.arr_notes.specs.declared.change.Change.TheVariants.{AddCurve, AddEdge}
 use Rattle.arr_notes.specs.Curves.{Curves, AreCurvesOf, IsForward}
 use Rattle.arr_notes.specs.Step.{step}
-use Rattle.record_graphs.specs.Graph.{drawn_graph}
-use Rattle.record_graphs.proofs.Drawn.{graphs_are_drawn}
-use Rattle.graph_steps.proofs.Graphs.{of_marks, in_marks}
-use Rattle.graph_steps.proofs.Held.{mark_held, held_mark}
-use Rattle.sound_links.specs.Links.{dart_between, IsPlaceFor, FitsAddedEdge}
-use Rattle.sound_splits.proofs.Cases.{dart_cases, ahead_by}
-use Rattle.graph_steps.proofs.Ways.{at_other}
+use Rattle.arr_notes.proofs.Names.{cases_dart}
+use Rattle.sound_views.specs.RecordGraph.{drawn_graph}
+use Rattle.sound_views.proofs.GraphDrawn.{graphs_are_drawn}
+use Rattle.sound_changes.proofs.StepGraphs.{of_marks, in_marks}
+use Rattle.sound_changes.proofs.StepHolds.{mark_held, held_mark}
+use Rattle.sound_changes.specs.EdgePlaces.{dart_between, IsPlaceFor, FitsAddedEdge}
+use Rattle.sound_changes.proofs.SplitCases.{ahead_by}
+use Rattle.sound_changes.proofs.StepCases.{at_other}
 use Rattle.edge_link.specs.Links.{CanLink, TellsOfLink, NamesNewDarts, AreNewDarts, with_edge_between}
-use Rattle.record_layers.specs.Kept.{Makes}
+use Rattle.record_layers.specs.RecordLayers.{IsRunOfSteps}
+use Rattle.record_layers.proofs.Runs.{made_by}
 use Rattle.segment_insert.specs.Parts.{IsOpenPart}
-use Rattle.segment_insert.proofs.Makes.{some_curve, made_by, on_edge_there, on_new_edge}
+use Rattle.segment_insert.proofs.Makes.{some_curve, on_edge_there, on_new_edge}
 use Rattle.segment_insert.proofs.Parts.{two_ends}
+use Rattle.integers.proofs.Tests.{not_true}
 
 -- the change that tells of a link has the names that a pattern of it has
 pub names_of_link : (r : Change) (d m : DartId) (u w x y : VertexId) (at_u at_w at_x at_y : Option DartId) (l n : Line) (c k : CurveId) → TellsOfLink r u w at_u at_w l c → r ≡ AddEdge d m x y at_x at_y n k → r ≡ AddEdge d m u w at_u at_w l c
@@ -78,7 +82,7 @@ module _ (v : View) (h : Curves) (s : IsGraphSound v) (a : AreCurvesOf v h) (l :
     unfolding IsAllowed
     not_held k m = (subst (λ t. IsAllowed t here) more_is_curve k.allowed).1 (mark_held v s.named h new_mark d (record { forward = f; low = starts; high = ends; curve = m }))
 
-    pub curve_made : (k : Curves) → ((x : DartId) → k x ≡ cond (x.0 == d.0) (place nat_cmp c.0 (h x)) (h x)) → Makes v h (more_step here new_mark ∷ []) v k
+    pub curve_made : (k : Curves) → ((x : DartId) → k x ≡ cond (x.0 == d.0) (place nat_cmp c.0 (h x)) (h x)) → IsRunOfSteps v h (more_step here new_mark ∷ []) v k
     curve_made k e = made_by v h (more_step here new_mark) (AddCurve d c) v k f (ap₂ (λ x y. AddCurveAt x y c.0) starts ends ∙ sym more_is_curve) s refl e
 
   -- ---- none does
@@ -87,7 +91,7 @@ module _ (v : View) (h : Curves) (s : IsGraphSound v) (a : AreCurvesOf v h) (l :
     no_mark = not_true _ (λ e.
         let m = any_out (is_at p q) here.marks e in
         let d = held_mark v s.named h m.0 m.1 in
-        let at = both _ _ m.2 in
+        let at = and_true _ _ m.2 in
         let has = d.1.forward.0 in
         let su = s.drawn.points (source_in v d.0) u (s.linked.source d.0 has) o.start (d.1.low ∙ same_out m.0.low p at.0) in
         let tw = s.drawn.points (target_in v d.0) w (s.linked.source _ (s.twinned.has d.0 has)) o.end (d.1.high ∙ same_out m.0.high q at.1) in
@@ -179,10 +183,10 @@ module _ (v : View) (h : Curves) (s : IsGraphSound v) (a : AreCurvesOf v h) (l :
         alone = ap (place nat_cmp c.0) first_curve
 
         curves_by : (x : DartId) → cond (x.0 == d.0) (place nat_cmp c.0 (h x)) (h x) ≡ cond (x.0 == d.0) (c.0 ∷ []) (h x)
-        curves_by x = elim (dart_cases x d) [
+        curves_by x = elim (cases_dart x d) [
           | inl e ↦ ap (λ z. cond (x.0 == d.0) (place nat_cmp c.0 (h z)) (h x)) e ∙ ap (λ z. cond (x.0 == d.0) z (h x)) alone
           | inr ne ↦ at_other x d _ (h x) ne ∙ sym (at_other x d _ (h x) ne)
         ]
 
-        pub edge_made : (k : Curves) → ((x : DartId) → k x ≡ cond (x.0 == d.0) (place nat_cmp c.0 (h x)) (h x)) → Makes v h (more_step here new_mark ∷ []) g k
+        pub edge_made : (k : Curves) → ((x : DartId) → k x ≡ cond (x.0 == d.0) (place nat_cmp c.0 (h x)) (h x)) → IsRunOfSteps v h (more_step here new_mark ∷ []) g k
         edge_made k e = made_by v h (more_step here new_mark) (AddEdge d m u w at_u at_w l c) g k (fits, o.forward) (sym more_is_edge) sound links (λ x. e x ∙ curves_by x)

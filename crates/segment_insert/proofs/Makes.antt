@@ -1,35 +1,23 @@
 -- Steps that are made one after the other, and the graph after them.
-use Rattle.std.proofs.Common.{◌≡◌, ◌≢◌, ℕ, List, [], ◌∷◌, true, false, cond, refl, sym, ap, ◌∙◌, subst, inl, inr}
+use Rattle.std.proofs.Common.{◌≡◌, ◌≢◌, ℕ, [], ◌∷◌, true, false, cond, sym, ap, ◌∙◌, subst, inl, inr}
 use Rattle.std.specs.List.{list_any}
 use Rattle.plane_graphs.specs.Ascending.{Member}
 use Rattle.plane_graphs.specs.Graph.{Graph, Mark, is_at}
-use Rattle.plane_graphs.proofs.Lists.{decide}
+use Rattle.plane_graphs.proofs.Lists.{decide, some_of}
 use Rattle.edit_steps.specs.Allowed.{IsAllowed, IsSound}
 use Rattle.edit_steps.specs.Steps.{Step, AddCurve, AddEdge, more_step}
 use Rattle.slab_laws.specs.declared.names.DartId.{DartId}
-use Rattle.slab_laws.specs.Sound.{IsGraphSound}
 use Rattle.slab_laws.specs.View.{View}
-use Rattle.arr_notes.specs.declared.change.Change.{Change}
-use Rattle.arr_notes.specs.Curves.{Curves, AreCurvesOf, IsForward, step_curves}
+use Rattle.arr_notes.specs.Curves.{Curves, AreCurvesOf, IsForward}
 use Rattle.arr_notes.specs.Step.{step}
-use Rattle.graph_steps.specs.Told.{told, FitsChange}
-use Rattle.record_layers.specs.Kept.{Makes}
 
 -- curves that are the same along every edge are one
 pub one_curves : (h k : Curves) → ((d : _) → k d ≡ h d) → k ≡ h
 one_curves h k e = λ i d. e d i
 
-some_of : {X : Type 0} (xs : List X) → xs ≢ [] → (x : X) × Member x xs
-some_of [] f = absurd (f refl)
-some_of (x ∷ xs) f = (x, inl refl)
-
 -- a curve along an edge
 pub some_curve : (v : View) (h : Curves) (d : DartId) → AreCurvesOf v h → IsForward v d → (c : ℕ) × Member c (h d)
 some_curve v h d a f = some_of (h d) (a.some d f)
-
--- one change that is the step
-pub made_by : (v : View) (h : Curves) (s : Step) (c : Change) (w : View) (k : Curves) → FitsChange v h c → told v c ≡ s → IsGraphSound w → w ≡ step v c → ((d : _) → k d ≡ step_curves h c d) → Makes v h (s ∷ []) w k
-made_by v h s c w k f t g e q = (c, record { fits = f; tells = t; sound = subst IsGraphSound e g }, (e, q))
 
 -- ---- a mark more
 module _ (m : Mark) where

@@ -1,5 +1,5 @@
 -- What runs along an open part: a dart from its one end along its line leads to its other end.
-use Rattle.std.proofs.Common.{◌≡◌, ◌≢◌, true, false, not, ◌&&◌, Some, ℤ, pos, sym, ap, ap₂, ◌∙◌, subst}
+use Rattle.std.proofs.Common.{◌≡◌, ◌≢◌, true, false, not, ◌&&◌, Some, pos, sym, ap, ap₂, ◌∙◌, subst}
 use Rattle.std.proofs.lemmas.Bool.{false≢true}
 use lib.Signed.{lt_z}
 use Rattle.exact_plane.specs.Direction.{IsOneDirection}
@@ -7,31 +7,29 @@ use Rattle.exact_plane.specs.Line.{Line, IsOn}
 use Rattle.exact_plane.specs.Point.{Point}
 use Rattle.plane_graphs.specs.Graph.{Edge}
 use Rattle.plane_graphs.specs.Line.{precedes}
-use Rattle.plane_graphs.proofs.Lists.{and_in, clash, not_true}
+use Rattle.plane_graphs.proofs.Lists.{and_in, clash}
 use Rattle.plane_graphs.proofs.Order.{Lt, Tri, less, same, more, tri, lt_out, lt_in, lt_never, lt_both}
-use Rattle.plane_skeletons.proofs.Inner.{before_in}
+use Rattle.slab_faces.proofs.InnerPoints.{before_in, no_sign}
 use Rattle.slab_laws.specs.declared.names.DartId.{DartId}
 use Rattle.slab_laws.specs.declared.names.VertexId.{VertexId}
 use Rattle.slab_laws.specs.Skeleton.{inside, side}
 use Rattle.slab_laws.specs.Sound.{IsGraphSound, edge_in, dart_in}
 use Rattle.slab_laws.specs.View.{View, HasVertex, HasDart, IsOutOf, point_in, source_in, twin_in, target_in, line_in}
-use Rattle.edge_fans.specs.Ways.{way_of}
-use Rattle.sound_splits.proofs.Cases.{edge_of_ends, ahead_by}
-use Rattle.sound_splits.proofs.Collinear.{flat_on_line}
-use Rattle.sound_splits.proofs.Known.{point_known, edge_known}
+use Rattle.rotation_order.specs.Directions.{dart_direction}
+use Rattle.sound_changes.proofs.SplitCases.{edge_of_ends, ahead_by}
+use Rattle.sound_changes.proofs.Collinear.{flat_on_line, one_line}
+use Rattle.sound_changes.proofs.KnownNames.{point_known, edge_known}
 use Rattle.arr_notes.specs.Curves.{is_forward}
-use Rattle.record_graphs.proofs.Drawn.{twins_are_directed}
+use Rattle.sound_views.proofs.GraphDrawn.{twins_are_directed}
 use Rattle.rotation_order.specs.declared.places.Place.{Place}
 use Rattle.rotation_order.specs.declared.places.Place.TheVariants.{Between, Along}
-use Rattle.rotation_order.specs.Place.{way_in, IsPlaceOf}
-use Rattle.sound_links.specs.Links.{dart_between, IsPlaceFor}
-use Rattle.link_places.specs.Edges.{IsAlongEdge, IsPlaceOfEdge}
-use Rattle.link_places.proofs.Ends.{place_of_edge}
+use Rattle.rotation_order.specs.Place.{direction_in, IsPlaceOf}
+use Rattle.sound_changes.specs.EdgePlaces.{dart_between, IsPlaceFor}
+use Rattle.edge_link.specs.EdgePlaces.{IsAlongEdge, IsPlaceOfEdge}
+use Rattle.edge_link.proofs.DirectionPlaces.{place_of_edge}
 use Rattle.segment_insert.specs.Parts.{IsOpenPart}
-use Rattle.segment_insert.proofs.Lines.{one_line, own_way}
-
-no_sign : (z : ℤ) → z ≡ pos 0 → not (lt_z z (pos 0)) && not (lt_z (pos 0) z) ≡ true
-no_sign z e = ap (λ s. not (lt_z s (pos 0)) && not (lt_z (pos 0) s)) e
+use Rattle.segment_insert.proofs.Lines.{own_way}
+use Rattle.integers.proofs.Tests.{not_true}
 
 -- no vertex is on a dart's line strictly between its ends
 module _ (v : View) (s : IsGraphSound v) (e : DartId) (has : HasDart v e) (f : is_forward v e ≡ true) where
@@ -114,25 +112,25 @@ module _ (v : View) (s : IsGraphSound v) (l : Line) (u w : VertexId) (o : IsOpen
       one_line m l p q (s.drawn.line d has) o.line (s.drawn.proper u o.start) (s.drawn.proper w o.end) (lt_out p q o.forward)
       (subst (λ z. IsOn m (point_in v z)) out.1 (s.drawn.starts d has)) (subst (λ z. IsOn m (point_in v z)) at (s.drawn.ends d has)) o.through_start o.through_end
 
-  between_way : (d : DartId) → IsOutOf v u d → target_in v d ≡ w → IsOneDirection (way_in v d) (way_of l true)
+  between_way : (d : DartId) → IsOutOf v u d → target_in v d ≡ w → IsOneDirection (direction_in v d) (dart_direction l true)
   between_way d out at =
       let f : (dart_in v d).forward ≡ true = ap₂ (λ x y. precedes (point_in v x) (point_in v y)) out.1 at ∙ o.forward in
-      subst (λ z. IsOneDirection z (way_of l true)) (sym (ap₂ way_of (between_line d out at) f)) (own_way l true o.line)
+      subst (λ z. IsOneDirection z (dart_direction l true)) (sym (ap₂ dart_direction (between_line d out at) f)) (own_way l true o.line)
 
-  pub none_between_darts : (a b : DartId) → IsPlaceOf v u (way_of l true) (Between a b) → (d : DartId) → IsOutOf v u d → target_in v d ≢ w
+  pub none_between_darts : (a b : DartId) → IsPlaceOf v u (dart_direction l true) (Between a b) → (d : DartId) → IsOutOf v u d → target_in v d ≢ w
   none_between_darts a b k d out at = k.free d out (between_way d out at)
 
   -- ---- the place of the line's direction at the lower end, and that of its opposite at the upper
-  pub placed_on : (k : Place) → IsPlaceOf v u (way_of l true) k → IsPlaceOfEdge v u l (dart_between p q) k
-  placed_on k h = place_of_edge v s u w l o.start o.end two_ends o.line o.through_start o.through_end k (subst (λ b. IsPlaceOf v u (way_of l b) k) (sym o.forward) h)
+  pub placed_on : (k : Place) → IsPlaceOf v u (dart_direction l true) k → IsPlaceOfEdge v u l (dart_between p q) k
+  placed_on k h = place_of_edge v s u w l o.start o.end two_ends o.line o.through_start o.through_end k (subst (λ b. IsPlaceOf v u (dart_direction l b) k) (sym o.forward) h)
 
-  placed_back : (k : Place) → IsPlaceOf v w (way_of l false) k → IsPlaceOfEdge v w l (dart_between q p) k
-  placed_back k h = place_of_edge v s w u l o.end o.start (λ e. two_ends (sym e)) o.line o.through_end o.through_start k (subst (λ b. IsPlaceOf v w (way_of l b) k) (sym backward) h)
+  placed_back : (k : Place) → IsPlaceOf v w (dart_direction l false) k → IsPlaceOfEdge v w l (dart_between q p) k
+  placed_back k h = place_of_edge v s w u l o.end o.start (λ e. two_ends (sym e)) o.line o.through_end o.through_start k (subst (λ b. IsPlaceOf v w (dart_direction l b) k) (sym backward) h)
 
-  pub back_between : (a b : DartId) → IsPlaceOf v w (way_of l false) (Between a b) → IsPlaceFor v w (Some a) (dart_between q p)
+  pub back_between : (a b : DartId) → IsPlaceOf v w (dart_direction l false) (Between a b) → IsPlaceFor v w (Some a) (dart_between q p)
   back_between a b h = placed_back (Between a b) h
 
-  pub never_back : (d : DartId) → ((d : DartId) → IsOutOf v u d → target_in v d ≢ w) → IsPlaceOf v w (way_of l false) (Along d) → ⊥
+  pub never_back : (d : DartId) → ((d : DartId) → IsOutOf v u d → target_in v d ≢ w) → IsPlaceOf v w (dart_direction l false) (Along d) → ⊥
   never_back d none h =
       let a = placed_back (Along d) h in
       none (twin_in v d) (s.twinned.has d a.out.0, back_ends d a) (ap (source_in v) (s.twinned.back d a.out.0) ∙ a.out.1)

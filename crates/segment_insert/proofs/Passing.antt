@@ -1,12 +1,11 @@
 -- The meeting points of a segment and of the records' graph are the new vertices on its piece.
-use Rattle.std.proofs.Common.{◌≡◌, ℕ, List, [], ◌∷◌, ◌++◌, true, false, not, ◌&&◌, cond, pos, ◌*ℤ◌, is_eq, refl, sym, ap, ap₂, ◌∙◌, subst, inl, inr, ◌⊎◌}
+use Rattle.std.proofs.Common.{◌≡◌, ℕ, List, [], ◌∷◌, ◌++◌, true, false, not, ◌&&◌, cond, pos, ◌*ℤ◌, refl, sym, ap, ap₂, ◌∙◌, subst, inl, inr, ◌⊎◌}
 use Rattle.std.specs.List.{filter, flat_map}
-use Rattle.std.proofs.lemmas.Cmp.{int_cmp_total, tied_itself}
 use lib.Signed.{lt_z}
 use Rattle.exact_plane.specs.Line.{Line, IsOn}
 use Rattle.exact_plane.specs.Point.{Point}
 use Rattle.exact_plane.specs.PointOrder.{point_cmp}
-use Rattle.exact_plane.specs.PointOrderLaws.{point_cmp_total, same_point as point_cmp_exact}
+use Rattle.exact_plane.specs.PointOrderLaws.{point_cmp_total, same_point as point_cmp_exact, and_true}
 use Rattle.exact_plane.specs.Segment.{Segment, line_of_segment}
 use Rattle.plane_graphs.specs.Ascending.{Member, IsAscending, ascending}
 use Rattle.plane_graphs.specs.Fit.{IsFit, IsFitPiece}
@@ -16,13 +15,14 @@ use Rattle.plane_graphs.specs.Piece.{Piece, Present, along, on}
 use Rattle.plane_graphs.proofs.Ascending.{ascending_unique, IsAscending-ascending}
 use Rattle.plane_graphs.proofs.Closed.{IsClosed, mark_line, inside_in, inside_out}
 use Rattle.plane_graphs.proofs.Lines.{geometry, crossing_proper, crossing_is, parallel_same, segment_line, along_out, zero_in}
-use Rattle.plane_graphs.proofs.Lists.{both, and_in, not_out, not_true, clash, decide, in_map, of_map, in_filter, of_filter, in_left, in_right, in_either, in_flat_map, of_flat_map, in_ascending, of_ascending, if_out, if_false, if_one, one_if, IsAscending-filter}
+use Rattle.plane_graphs.proofs.Lists.{and_in, not_out, clash, decide, in_map, of_map, in_filter, of_filter, in_left, in_right, in_either, in_flat_map, of_flat_map, in_ascending, of_ascending, if_out, if_false, if_one, one_if, IsAscending-filter}
 use Rattle.plane_graphs.proofs.Marks.{le_same, le_lt, on_in, on_out, IsMark, mark_out}
 use Rattle.plane_graphs.proofs.Order.{lt_out, lt_in}
 use Rattle.plane_graphs.proofs.Vertices.{IsProperPiece, proper_piece, vertices_ascend, vertices_closed}
-use Rattle.plane_skeletons.proofs.Inner.{before_out, inside_in as inside_counted}
+use Rattle.plane_graphs.proofs.Meaning.{parallel_itself}
+use Rattle.slab_faces.proofs.InnerPoints.{before_out, inside_in as inside_counted}
 use Rattle.edit_steps.specs.Edits.{whole_piece}
-use Rattle.edit_steps.specs.Laws.{PassesThrough}
+use Rattle.edit_steps.specs.EditLaws.{PassesThrough}
 use Rattle.edit_steps.specs.Steps.{with_piece}
 use Rattle.edit_steps.proofs.Edits.{fit_part}
 use Rattle.edit_steps.proofs.Seen.{meeting_points as new_points}
@@ -30,20 +30,18 @@ use Rattle.slab_laws.specs.declared.names.DartId.{DartId}
 use Rattle.slab_laws.specs.Skeleton.{inside, side, precedes}
 use Rattle.slab_laws.specs.Sound.{IsGraphSound, points_of, edge_in}
 use Rattle.slab_laws.specs.View.{View, HasDart, dart_id, point_in, source_in, twin_in, target_in, line_in}
-use Rattle.edge_fans.proofs.Factors.{zero_between}
-use Rattle.sound_views.proofs.Named.{twin_dart}
-use Rattle.sound_views.proofs.Tabled.{has_name, name_has}
-use Rattle.sound_splits.proofs.Cases.{edge_of_ends, ahead_by}
+use Rattle.rotation_order.proofs.Factors.{zero_between}
+use Rattle.sound_views.proofs.NamedDarts.{twin_dart}
+use Rattle.sound_views.proofs.NameTables.{has_name, name_has}
+use Rattle.sound_changes.proofs.SplitCases.{edge_of_ends, ahead_by}
 use Rattle.arr_notes.specs.Curves.{Curves, AreCurvesOf, IsForward, is_forward}
-use Rattle.record_graphs.specs.Graph.{drawn_graph}
-use Rattle.record_graphs.proofs.Drawn.{twins_are_directed}
-use Rattle.graph_steps.proofs.Held.{mark_held, held_mark}
+use Rattle.sound_views.specs.RecordGraph.{drawn_graph}
+use Rattle.sound_views.proofs.GraphDrawn.{twins_are_directed}
+use Rattle.sound_changes.proofs.StepHolds.{mark_held, held_mark}
 use Rattle.zone_walk.specs.Zone.{is_on_segment, passes, meeting_points}
-use Rattle.segment_insert.proofs.Lines.{one_line}
+use Rattle.sound_changes.proofs.Collinear.{one_line}
 use Rattle.segment_insert.proofs.Makes.{some_curve}
-
-parallel_itself : (l : Line) → are_parallel l l ≡ true
-parallel_itself l = ap is_eq (tied_itself int_cmp_total (l.a *ℤ l.b))
+use Rattle.integers.proofs.Tests.{not_true}
 
 module _ (v : View) (h : Curves) (s : IsGraphSound v) (a : AreCurvesOf v h) (p : Present) (g : Segment) (c : ℕ) (stands : drawn_graph v h ≡ graph p) (fit : IsFit (with_piece p (whole_piece c g))) where
   abbrev k : Piece
@@ -110,9 +108,9 @@ module _ (v : View) (h : Curves) (s : IsGraphSound v) (a : AreCurvesOf v h) (p :
   unfolding collinear det side
   inside_by n x i proper e =
       let E : Edge = edge_of_ends n.low n.high in
-      let o = both (precedes n.low x && precedes x n.high) (not (lt_z (side E x) (pos 0)) && not (lt_z (pos 0) (side E x))) e in
-      let b = both (precedes n.low x) (precedes x n.high) o.0 in
-      let z = both (not (lt_z (side E x) (pos 0))) (not (lt_z (pos 0) (side E x))) o.1 in
+      let o = and_true (precedes n.low x && precedes x n.high) (not (lt_z (side E x) (pos 0)) && not (lt_z (pos 0) (side E x))) e in
+      let b = and_true (precedes n.low x) (precedes x n.high) o.0 in
+      let z = and_true (not (lt_z (side E x) (pos 0))) (not (lt_z (pos 0) (side E x))) o.1 in
       inside_in x n (before_out n.low x (closed.proper n.low i.low_in) proper b.0) (before_out x n.high proper (closed.proper n.high i.high_in) b.1)
       (zero_in (side E x) (zero_between (side E x) (not_out _ z.0) (not_out _ z.1)))
 
@@ -136,7 +134,7 @@ module _ (v : View) (h : Curves) (s : IsGraphSound v) (a : AreCurvesOf v h) (p :
         let there : Type 0 = (are_parallel l (line_in v d) ≡ false) × Member x (cond (is_on_segment g (crossing l (line_in v d)) && inside (edge_in v d) (crossing l (line_in v d))) (crossing l (line_in v d) ∷ []) []) in
         let o : there = elim (if_out (are_parallel l (line_in v d)) x [] (cond (is_on_segment g (crossing l (line_in v d)) && inside (edge_in v d) (crossing l (line_in v d))) (crossing l (line_in v d) ∷ []) []) m) [ inl z ↦ absurd z.1 | inr z ↦ z ] in
         let w = one_if (is_on_segment g (crossing l (line_in v d)) && inside (edge_in v d) (crossing l (line_in v d))) x (crossing l (line_in v d)) o.1 in
-        let b = both (is_on_segment g (crossing l (line_in v d))) (inside (edge_in v d) (crossing l (line_in v d))) w.0 in
+        let b = and_true (is_on_segment g (crossing l (line_in v d))) (inside (edge_in v d) (crossing l (line_in v d))) w.0 in
         let proper : IsProper x = subst IsProper (sym (w.1 ∙ ap (crossing l) j.1.line)) (crossing_proper k j.0 proper_k (proper_piece j.0 (old_fit.piece j.0 j.1.here)) (subst (λ z. are_parallel l z ≡ false) j.1.line o.0)) in
         let within : inside (edge_of_ends low high) x ≡ true = subst (λ z. inside (edge_of_ends low high) z ≡ true) (sym w.1) (subst (λ z. inside z (crossing l (line_in v d)) ≡ true) edge_is b.1) in
         record {
@@ -146,7 +144,7 @@ module _ (v : View) (h : Curves) (s : IsGraphSound v) (a : AreCurvesOf v h) (p :
           edge_in = j.1.there;
           within = inside_by n x i proper within;
           apart = not_true (along k low && along k high) (λ e.
-              let w = both (along k low) (along k high) e in
+              let w = and_true (along k low) (along k high) e in
               let same = one_line l (line_in v d) low high proper_line (s.drawn.line d f.0) (closed.proper low i.low_in) (closed.proper high i.high_in) i.next.lt (along_out k low w.0) (along_out k high w.1) (s.drawn.starts d f.0) (s.drawn.ends d f.0) in
               clash (parallel_itself l) (subst (λ z. are_parallel l z ≡ false) (sym same) o.0));
         }

@@ -14,27 +14,24 @@ use Rattle.plane_graphs.proofs.Lists.{in_map}
 use Rattle.edit_steps.specs.Allowed.{AreSound}
 use Rattle.edit_steps.specs.Edits.{Insert, after, steps, whole_piece, IsAccepted}
 use Rattle.edit_steps.specs.Layer.{Layer, layer_after, IsAcceptedBy}
-use Rattle.edit_steps.specs.Steps.{Step, with_piece, vertex_steps, missing_points, more_step}
+use Rattle.edit_steps.specs.Steps.{Step, with_piece, more_step}
 use Rattle.edit_steps.proofs.Laws.{keeps_fit}
 use Rattle.edit_steps.proofs.Layers.{layers_lawful}
 use Rattle.slab_laws.specs.Sound.{IsGraphSound}
 use Rattle.slab_laws.specs.View.{View}
 use Rattle.dcel_records.specs.declared.spot.Spot.{Spot}
 use Rattle.arr_notes.specs.Curves.{Curves, AreCurvesOf}
-use Rattle.curve_history.specs.Past.{Past, held}
-use Rattle.record_graphs.specs.Graph.{drawn_graph}
-use Rattle.record_layers.specs.Kept.{IsLayer, layer_of, Makes}
+use Rattle.curve_history.specs.Past.{Past, curves_on}
+use Rattle.sound_views.specs.RecordGraph.{drawn_graph}
+use Rattle.record_layers.specs.RecordLayers.{IsLayer, layer_of, IsRunOfSteps}
 use Rattle.zone_walk.specs.declared.plan.Meeting.{Meeting}
 use Rattle.zone_walk.specs.declared.plan.ZonePlan.{ZonePlan}
-use Rattle.zone_walk.specs.Zone.{IsZoneOf, AreSpotsBetween, is_on_segment, meeting_points, splits_needed}
-use Rattle.segment_insert.specs.Insertion.{points_of_meetings, AreMeetings, AreAllOn}
+use Rattle.zone_walk.specs.Zone.{IsZoneOf, AreSpotsBetween, is_on_segment, meeting_points, splits_needed, points_of_meetings}
+use Rattle.segment_insert.specs.Insertion.{AreMeetings, AreAllOn}
 use Rattle.record_layers.proofs.Layers.{steps_make_layers}
 use Rattle.segment_insert.proofs.Passing.{points_ascend}
 use Rattle.segment_insert.proofs.Whole as whole
-
--- the steps of the two parts, by the points that they go along
-abbrev pub vertices_first : View → Curves → List Point → List Step
-vertices_first v b ps = vertex_steps (missing_points ps (drawn_graph v b).points) (drawn_graph v b)
+use Rattle.segment_insert.specs.Coming.{steps_at}
 
 abbrev pub edges_then : View → Curves → ℕ → List Point → List Step
 edges_then w d c ps = map (more_step (drawn_graph w d)) (chain c ps)
@@ -58,8 +55,8 @@ pub one_name : (old : List ℕ) (c n : ℕ) → c ≡ n → old ++ (n ∷ []) �
 one_name old c n e = ap (λ k. old ++ (k ∷ [])) (sym e)
 
 -- the steps for the meetings of a list are those for an equal one
-pub made_of_plan : (v : View) (b : Curves) (w : View) (d : Curves) {ms ns : List Meeting} → ms ≡ ns → Makes v b (vertices_first v b (points_of_meetings ms)) w d → Makes v b (vertices_first v b (points_of_meetings ns)) w d
-made_of_plan v b w d e m = subst (λ ms. Makes v b (vertices_first v b (points_of_meetings ms)) w d) e m
+pub made_of_plan : (v : View) (b : Curves) (w : View) (d : Curves) {ms ns : List Meeting} → ms ≡ ns → IsRunOfSteps v b (steps_at v b (points_of_meetings ms)) w d → IsRunOfSteps v b (steps_at v b (points_of_meetings ns)) w d
+made_of_plan v b w d e m = subst (λ ms. IsRunOfSteps v b (steps_at v b (points_of_meetings ms)) w d) e m
 
 -- records and history that are a layer, and the plan of a segment that gets the next number
 pub record IsPlanned (v : View) (past : Past) (g : Segment) (plan : ZonePlan) (c : ℕ) : Type 0 where
@@ -70,8 +67,8 @@ pub record IsPlanned (v : View) (past : Past) (g : Segment) (plan : ZonePlan) (c
 
 -- the meetings are vertices now; b are the history's curves before that
 pub record IsHalfMade (v : View) (past : Past) (plan : ZonePlan) (b : Curves) (w : View) (d : Curves) (ns : List Meeting) : Type 0 where
-  pub same : b ≡ held past
-  pub made : Makes v b (vertices_first v b (points_of_meetings plan.vertices)) w d
+  pub same : b ≡ curves_on past
+  pub made : IsRunOfSteps v b (steps_at v b (points_of_meetings plan.vertices)) w d
   pub kept : points_of_meetings ns ≡ points_of_meetings plan.vertices
 
 module _ {v : View} {past : Past} {g : Segment} {plan : ZonePlan} {c : ℕ} (planned : IsPlanned v past g plan c) where
@@ -96,7 +93,7 @@ module _ {v : View} {past : Past} {g : Segment} {plan : ZonePlan} {c : ℕ} (pla
 
   pub meetings : AreMeetings v ms
   meetings = record {
-    ascend = subst (IsAscending point_cmp) (sym planned.zone.points) (points_ascend v (held past) planned.layer.sound planned.layer.curves p g c planned.layer.stands fit);
+    ascend = subst (IsAscending point_cmp) (sym planned.zone.points) (points_ascend v (curves_on past) planned.layer.sound planned.layer.curves p g c planned.layer.stands fit);
     spots = planned.zone.spots;
   }
 
@@ -112,41 +109,41 @@ module _ {v : View} {past : Past} {g : Segment} {plan : ZonePlan} {c : ℕ} (pla
   pairs_left ns before left parted e fits uses = let a = same_length ms ns e in omega arith
 
   -- ---- by curves that are the history's
-  module _ (b : Curves) (same : b ≡ held past) where
+  module _ (b : Curves) (same : b ≡ curves_on past) where
     pub curves_first : AreCurvesOf v b
     curves_first = subst (AreCurvesOf v) (sym same) planned.layer.curves
 
-    first_is : vertices_first v b (points_of_meetings ms) ≡ vertices_first v (held past) (meeting_points v g)
-    first_is = ap₂ (vertices_first v) same planned.zone.points
+    first_is : steps_at v b (points_of_meetings ms) ≡ steps_at v (curves_on past) (meeting_points v g)
+    first_is = ap₂ (steps_at v) same planned.zone.points
 
-    pub sound_first : AreSound (vertices_first v b (points_of_meetings ms)) (drawn_graph v b)
-    sound_first = subst (λ z. AreSound z (drawn_graph v b)) (sym first_is) (subst (λ z. AreSound (vertices_first v (held past) (meeting_points v g)) (drawn_graph v z)) (sym same) (whole.first_sound v (held past) planned.layer.sound planned.layer.curves p g c planned.layer.stands fit accepted))
+    pub sound_first : AreSound (steps_at v b (points_of_meetings ms)) (drawn_graph v b)
+    sound_first = subst (λ z. AreSound z (drawn_graph v b)) (sym first_is) (subst (λ z. AreSound (steps_at v (curves_on past) (meeting_points v g)) (drawn_graph v z)) (sym same) (whole.first_sound v (curves_on past) planned.layer.sound planned.layer.curves p g c planned.layer.stands fit accepted))
 
   module _ {b : Curves} {w : View} {d : Curves} {ns : List Meeting} (half : IsHalfMade v past plan b w d ns) where
-    made_here : Makes v (held past) (vertices_first v (held past) (meeting_points v g)) w d
-    made_here = subst (λ z. Makes v z (vertices_first v (held past) (meeting_points v g)) w d) half.same (subst (λ z. Makes v b z w d) (first_is b half.same) half.made)
+    made_here : IsRunOfSteps v (curves_on past) (steps_at v (curves_on past) (meeting_points v g)) w d
+    made_here = subst (λ z. IsRunOfSteps v z (steps_at v (curves_on past) (meeting_points v g)) w d) half.same (subst (λ z. IsRunOfSteps v b z w d) (first_is b half.same) half.made)
 
     points : points_of_meetings ns ≡ meeting_points v g
     points = half.kept ∙ planned.zone.points
 
     pub sound_then : IsGraphSound w
-    sound_then = whole.sound_there v (held past) planned.layer.sound planned.layer.curves p g c planned.layer.stands fit accepted w d made_here
+    sound_then = whole.sound_there v (curves_on past) planned.layer.sound planned.layer.curves p g c planned.layer.stands fit accepted w d made_here
 
     pub curves_then : AreCurvesOf w d
-    curves_then = whole.curves_there v (held past) planned.layer.sound planned.layer.curves p g c planned.layer.stands fit accepted w d made_here
+    curves_then = whole.curves_there v (curves_on past) planned.layer.sound planned.layer.curves p g c planned.layer.stands fit accepted w d made_here
 
     pub all_on : AreAllOn w g (points_of_meetings ns)
-    all_on = subst (AreAllOn w g) (sym points) (whole.all_on v (held past) planned.layer.sound planned.layer.curves p g c planned.layer.stands fit accepted w d made_here)
+    all_on = subst (AreAllOn w g) (sym points) (whole.all_on v (curves_on past) planned.layer.sound planned.layer.curves p g c planned.layer.stands fit accepted w d made_here)
 
     pub each_on : (m : Meeting) → Contains ns m → is_on_segment g m.point ≡ true
-    each_on m k = whole.on_segment v (held past) planned.layer.sound planned.layer.curves p g c planned.layer.stands fit accepted m.point (subst (Member m.point) points (in_map (λ m. m.point) m ns (to_member ns m k)))
+    each_on m k = whole.on_segment v (curves_on past) planned.layer.sound planned.layer.curves p g c planned.layer.stands fit accepted m.point (subst (Member m.point) points (in_map (λ m. m.point) m ns (to_member ns m k)))
 
     pub plane_then : AreSound (edges_then w d c (points_of_meetings ns)) (drawn_graph w d)
-    plane_then = subst (λ z. AreSound (edges_then w d c z) (drawn_graph w d)) (sym points) (whole.last_sound v (held past) planned.layer.sound planned.layer.curves p g c planned.layer.stands fit accepted w d made_here)
+    plane_then = subst (λ z. AreSound (edges_then w d c z) (drawn_graph w d)) (sym points) (whole.last_sound v (curves_on past) planned.layer.sound planned.layer.curves p g c planned.layer.stands fit accepted w d made_here)
 
-    module _ (x : View) (q : Past) (then : Makes w d (edges_then w d c (points_of_meetings ns)) x (held q)) where
-      pub all_made : Makes v (held past) (steps (Insert c g) p) x (held q)
-      all_made = whole.made_whole v (held past) planned.layer.sound planned.layer.curves p g c planned.layer.stands fit accepted w d made_here x (held q) (subst (λ z. Makes w d (edges_then w d c z) x (held q)) points then)
+    module _ (x : View) (q : Past) (then : IsRunOfSteps w d (edges_then w d c (points_of_meetings ns)) x (curves_on q)) where
+      pub all_made : IsRunOfSteps v (curves_on past) (steps (Insert c g) p) x (curves_on q)
+      all_made = whole.made_whole v (curves_on past) planned.layer.sound planned.layer.curves p g c planned.layer.stands fit accepted w d made_here x (curves_on q) (subst (λ z. IsRunOfSteps w d (edges_then w d c z) x (curves_on q)) points then)
 
       pub layer_made : q.pieces ≡ past.pieces ++ (whole_piece c g ∷ []) → q.names ≡ past.names ++ (c ∷ []) → q.next ≡ past.next + 1 → IsLayer x q × (layer_of x q ≡ layer_after (Insert c g) l)
       unfolding after

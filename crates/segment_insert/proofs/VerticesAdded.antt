@@ -7,11 +7,11 @@ use Rattle.slab_laws.specs.declared.names.VertexId.{VertexId}
 use Rattle.slab_laws.specs.Skeleton.{inside}
 use Rattle.slab_laws.specs.Sound.{dart_in, IsGraphSound}
 use Rattle.slab_laws.specs.View.{View, HasVertex, HasDart, point_in, source_in, twin_in, target_in, next_in}
-use Rattle.sound_views.proofs.Named.{by_points}
-use Rattle.view_changes.specs.Reads.{IsSameVertex, IsVertexMore}
-use Rattle.view_changes.specs.Writers.{with_vertex}
-use Rattle.view_changes.proofs.Vertices.{vertex_is_added}
-use Rattle.sound_splits.proofs.Cases.{vertex_cases}
+use Rattle.sound_views.proofs.NamedDarts.{by_points}
+use Rattle.arr_notes.specs.Reads.{IsSameVertex, IsVertexMore}
+use Rattle.arr_notes.specs.ViewChanges.{with_vertex}
+use Rattle.arr_notes.proofs.VertexReads.{vertex_is_added}
+use Rattle.arr_notes.proofs.Names.{cases_vertex}
 use Rattle.dcel_records.specs.Spots.{IsInFace}
 use Rattle.segment_insert.specs.Coming.{LeadsTo}
 use Rattle.segment_insert.specs.Coming.LeadsTo.{here, onward}
@@ -43,7 +43,7 @@ module _ (v : View) (w : VertexId) (q : Point) (s : IsGraphSound v) (new : ¬ Ha
 
   pub face_too : (p : Point) → q ≢ p → IsInFace v p → IsInFace g p
   face_too p ne o = record {
-    no_vertex = λ u has e. elim (vertex_cases u w) [
+    no_vertex = λ u has e. elim (cases_vertex u w) [
       | inl k ↦ ne (sym more.point ∙ ap (point_in g) (sym k) ∙ e)
       | inr nw ↦ let k = more.others u nw in o.no_vertex u (k.had has) (sym k.point ∙ e)
     ];

@@ -5,15 +5,15 @@ use Rattle.slab_laws.specs.declared.names.DartId.{DartId}
 use Rattle.slab_laws.specs.declared.names.VertexId.{VertexId}
 use Rattle.slab_laws.specs.Sound.{IsGraphSound}
 use Rattle.slab_laws.specs.View.{View, DartRecord, HasDart, source_in, twin_in, next_in, line_in}
-use Rattle.view_changes.specs.Reads.{IsVertexMore, IsRedirected, IsPairMore, IsSourceSet, IsNextSet}
-use Rattle.view_changes.specs.Writers.{with_vertex, with_pair, with_source, redirect}
-use Rattle.view_changes.proofs.Darts.{next_is_set, source_is_set, darts_are_redirected}
-use Rattle.view_changes.proofs.Pairs.{pair_is_added}
-use Rattle.view_changes.proofs.Reading.{dart_number}
-use Rattle.view_changes.proofs.RowLaws.{other}
-use Rattle.view_changes.proofs.Vertices.{vertex_is_added}
+use Rattle.arr_notes.specs.Reads.{IsVertexMore, IsRedirected, IsPairMore, IsSourceSet, IsNextSet}
+use Rattle.arr_notes.specs.ViewChanges.{with_vertex, with_pair, with_source, redirect}
+use Rattle.arr_notes.proofs.DartReads.{next_is_set, source_is_set, darts_are_redirected}
+use Rattle.arr_notes.proofs.PairReads.{pair_is_added}
+use Rattle.arr_notes.proofs.Reading.{dart_number}
+use Rattle.arr_notes.proofs.VertexReads.{vertex_is_added}
 use Rattle.arr_notes.specs.Step.{split_edge}
-use Rattle.sound_splits.specs.Fits.{FitsSplit}
+use Rattle.sound_changes.specs.ChangeFits.{FitsSplit}
+use Rattle.integers.proofs.Tests.{other_number}
 
 module _ (v : View) (b : DartId) (w : VertexId) (q : Point) (n m : DartId) (s : IsGraphSound v) (c : FitsSplit v b w q n m) where
   abbrev t : DartId
@@ -70,7 +70,7 @@ module _ (v : View) (b : DartId) (w : VertexId) (q : Point) (n m : DartId) (s : 
 
   -- and that by what followed the edge
   pub follows_upper : next_in v b ≢ t → next_in g n ≡ next_in v b
-  follows_upper ne = (x5.others n (λ e. not_n b c.dart (sym e))).next ∙ x4.next n ∙ x3.first.next ∙ ap (λ z. cond z m (next_in v b)) (other (next_in v b).0 t.0 (dart_number (next_in v b) t ne))
+  follows_upper ne = (x5.others n (λ e. not_n b c.dart (sym e))).next ∙ x4.next n ∙ x3.first.next ∙ ap (λ z. cond z m (next_in v b)) (other_number (next_in v b).0 t.0 (dart_number (next_in v b) t ne))
 
   -- other darts are followed as before, but where the twin followed
   pub follows_old : (k : DartId) → HasDart v k → k ≢ b → next_in v k ≢ t → next_in g k ≡ next_in v k

@@ -1,15 +1,15 @@
 -- The step that makes a point a vertex, by where the records have the point.
-use Rattle.std.proofs.Common.{◌≡◌, ◌≢◌, ℕ, List, [], ◌∷◌, true, refl, sym, ap, ◌∙◌, subst, inl, inr}
+use Rattle.std.proofs.Common.{◌≡◌, ◌≢◌, ℕ, [], ◌∷◌, true, refl, sym, ap, ◌∙◌, subst, inl, inr}
 use Rattle.std.specs.List.{Contains}
 use Rattle.exact_plane.specs.Point.{Point}
 use Rattle.plane_graphs.specs.Ascending.{Member}
-use Rattle.plane_graphs.specs.Graph.{Graph, Mark, Edge, mark, edge_of, collinear, det}
+use Rattle.plane_graphs.specs.Graph.{Graph, Mark, mark, edge_of, collinear, det}
 use Rattle.plane_graphs.specs.Graph as plane
 use Rattle.plane_graphs.specs.Line.{IsProper}
 use Rattle.plane_graphs.proofs.Closed as closed
 use Rattle.plane_graphs.proofs.Lines.{zero_in}
-use Rattle.plane_graphs.proofs.Lists.{clash}
-use Rattle.plane_skeletons.proofs.Inner.{inside_by}
+use Rattle.plane_graphs.proofs.Lists.{clash, some_of}
+use Rattle.slab_faces.proofs.InnerPoints.{inside_by}
 use Rattle.edit_steps.specs.Allowed.{IsSound, IsAllowed}
 use Rattle.edit_steps.specs.Steps.{AddVertex, SplitEdge, vertex_step_by}
 use Rattle.edit_steps.proofs.Split.{step_is}
@@ -18,20 +18,15 @@ use Rattle.slab_laws.specs.declared.names.DartId.{DartId}
 use Rattle.slab_laws.specs.Skeleton.{inside, side}
 use Rattle.slab_laws.specs.Sound.{edge_in, skeleton_of, IsGraphSound}
 use Rattle.slab_laws.specs.View.{View, HasDart, point_in, source_in, target_in}
-use Rattle.sound_splits.proofs.Cases.{edge_of_ends}
-use Rattle.sound_splits.proofs.Inside.{IsInside}
-use Rattle.sound_splits.proofs.Known.{point_known, edge_known}
+use Rattle.sound_changes.proofs.SplitCases.{edge_of_ends}
+use Rattle.sound_changes.proofs.PointInside.{IsInside}
+use Rattle.sound_changes.proofs.KnownNames.{point_known, edge_known}
 use Rattle.arr_notes.specs.Curves.{Curves, IsForward, AreCurvesOf}
 use Rattle.dcel_records.specs.Spots.{IsInFace}
-use Rattle.record_graphs.specs.Graph.{drawn_graph}
-use Rattle.record_graphs.specs.Laws.{IsMarkOf}
-use Rattle.graph_steps.proofs.Held.{held_point, mark_held, held_mark}
+use Rattle.sound_views.specs.RecordGraph.{drawn_graph}
+use Rattle.sound_views.specs.RecordGraphLaws.{IsMarkOf}
+use Rattle.sound_changes.proofs.StepHolds.{held_point, mark_held, held_mark}
 use Rattle.segment_insert.proofs.VerticesWalk.{forward_edge, inside_ends}
-
--- a list that isn't empty has an element
-some_of : {X : Type 0} (xs : List X) → xs ≢ [] → (x : X) × Member x xs
-some_of [] f = absurd (f refl)
-some_of (x ∷ xs) f = (x, inl refl)
 
 -- a point inside an edge is inside its marks
 marked_inside : (a b p : Point) (c : ℕ) → IsInside (edge_of_ends a b) p → plane.inside p (mark a b c) ≡ true

@@ -1,19 +1,15 @@
 -- A point inside a part of an edge is inside the edge, and a point inside the edge above the lower part is inside the upper one.
-use Rattle.std.proofs.Common.{◌≡◌, true, sym, ap, ◌∙◌}
-use Rattle.std.specs.Prelude.{ℤ, pos, ◌*ℤ◌, ◌<ℤ◌}
+use Rattle.std.proofs.Common.{◌≡◌, true, sym, ◌∙◌}
+use Rattle.std.specs.Prelude.{◌*ℤ◌, ◌<ℤ◌}
 use lib.IntN.{*ℤ-zero}
 use Rattle.exact_plane.specs.Point.{Point}
 use Rattle.plane_graphs.specs.Graph.{Edge}
 use Rattle.plane_graphs.specs.Line.{IsProper}
 use Rattle.plane_graphs.proofs.Order.{Lt, lt_trans}
-use Rattle.slab_faces.proofs.Ints.{zero_back}
 use Rattle.slab_laws.specs.Skeleton.{inside, side}
-use Rattle.edge_fans.specs.Parts.{lower_part, upper_part}
-use Rattle.sound_splits.proofs.Inside.{IsInside, inside_out, inside_in, MeanOf, mean_of, lower_side, upper_side}
-
--- a factor and what it turns to nothing
-on_whole : (k t s u : ℤ) → pos 0 <ℤ t → k *ℤ s ≡ t *ℤ u → s ≡ pos 0 → u ≡ pos 0
-on_whole k t s u T e z = zero_back t u T (sym e ∙ ap (λ x. k *ℤ x) z ∙ *ℤ-zero k)
+use Rattle.rotation_order.specs.EdgeParts.{lower_part, upper_part}
+use Rattle.sound_changes.proofs.PointInside.{IsInside, inside_out, inside_in, MeanOf, mean_of, lower_side, upper_side}
+use Rattle.sound_changes.proofs.PlaneParts.{on_whole}
 
 module _ (e : Edge) (q p : Point) (low : IsProper e.low) (high : IsProper e.high) (between : IsProper q) (proper : IsProper p) (i : IsInside e q) where
   m : MeanOf e q

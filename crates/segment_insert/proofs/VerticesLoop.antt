@@ -18,13 +18,13 @@ use Rattle.arr_notes.specs.Curves.{Curves, AreCurvesOf}
 use Rattle.dcel_records.specs.declared.spot.Spot.{Spot}
 use Rattle.dcel_records.specs.declared.spot.Spot.TheVariants.{Vertex, Edge, Face}
 use Rattle.dcel_records.specs.Spots.{IsSpotOf}
-use Rattle.record_graphs.specs.Graph.{drawn_graph}
-use Rattle.record_layers.specs.Kept.{Makes}
-use Rattle.zone_walk.specs.Zone.{is_vertex, is_edge, vertices_needed, splits_needed}
+use Rattle.sound_views.specs.RecordGraph.{drawn_graph}
+use Rattle.record_layers.specs.RecordLayers.{IsRunOfSteps}
+use Rattle.zone_walk.specs.Zone.{is_vertex, is_edge, vertices_needed, splits_needed, points_of_meetings}
 use Rattle.zone_walk.specs.declared.plan.Meeting.{Meeting}
 use Rattle.segment_insert.specs.Coming.{steps_at, IsSpotStill, IsMadeAt}
 use Rattle.segment_insert.specs.Coming.LeadsTo.{here}
-use Rattle.segment_insert.specs.Insertion.{points_of_meetings, AreMeetings, IsNamedVertex, AreVertices, pairs_at, pairs_to_part}
+use Rattle.segment_insert.specs.Insertion.{AreMeetings, IsNamedVertex, AreVertices, pairs_at, pairs_to_part}
 use Rattle.segment_insert.proofs.VerticesFound.{face_new, edge_new}
 use Rattle.segment_insert.proofs.VerticesTurns.{IsTurn, turn, none_left, first_sound, missing_in, proper_by_steps}
 use Rattle.segment_insert.proofs.VerticesWalk.{leads_forward, leads_inside}
@@ -76,7 +76,7 @@ module _ (v : View) (h : Curves) (m : Meeting) (ms : List Meeting) (c : IsComing
     pub rest_coming : IsComing w k ms
     rest_coming = record { sound = after.sound; curves = after.curves; ascend = c.ascend.1; spots = spots_after; plane = after.plane c.plane }
 
-    pub rest_made : (u : View) (l : Curves) → Makes w k (steps_at w k (points_of_meetings ms)) u l → Makes v h (steps_at v h (points_of_meetings (m ∷ ms))) u l
+    pub rest_made : (u : View) (l : Curves) → IsRunOfSteps w k (steps_at w k (points_of_meetings ms)) u l → IsRunOfSteps v h (steps_at v h (points_of_meetings (m ∷ ms))) u l
     rest_made = after.made
 
     pairs_still : (s : Spot) (p : Point) → IsSpotStill v h p s → pairs_at k s ≡ pairs_at h s
@@ -138,7 +138,7 @@ module _ {X : Type 0} where
 -- ---- midway: the first i meetings are named vertices, the others are to come, and what is made of the records so far leaves the steps of these
 pub record IsMidway (v : View) (h : Curves) (ms : List Meeting) (w : View) (k : Curves) (ns : List Meeting) (i : ℕ) : Type 0 where
   pub coming : IsComing w k (drop i ms)
-  pub then_made : (u : View) (l : Curves) → Makes w k (steps_at w k (points_of_meetings (drop i ms))) u l → Makes v h (steps_at v h (points_of_meetings ms)) u l
+  pub then_made : (u : View) (l : Curves) → IsRunOfSteps w k (steps_at w k (points_of_meetings (drop i ms))) u l → IsRunOfSteps v h (steps_at v h (points_of_meetings ms)) u l
   pub points : points_of_meetings ns ≡ points_of_meetings ms
   pub rest : drop i ns ≡ drop i ms
   pub named : AreNamed w (take i ns)
@@ -169,7 +169,7 @@ module _ (v : View) (h : Curves) (ms : List Meeting) (w : View) (k : Curves) (ns
       pub onwards : (o : Meeting) → o ≡ told_at m x → IsMidway v h ms u q (set ns i o) (i + 1)
       onwards o same = record {
         coming = rest_coming w k m (drop (i + 1) ms) now_coming u q x y;
-        then_made = λ t j z. c.then_made t j (subst (λ ls. Makes w k (steps_at w k (points_of_meetings ls)) t j) (sym next_first) (rest_made w k m (drop (i + 1) ms) now_coming u q x y t j z));
+        then_made = λ t j z. c.then_made t j (subst (λ ls. IsRunOfSteps w k (steps_at w k (points_of_meetings ls)) t j) (sym next_first) (rest_made w k m (drop (i + 1) ms) now_coming u q x y t j z));
         points = map-set_same (λ n. n.point) ns i o m (ap (λ n. n.point) same ∙ ap (λ n. n.point) e) ∙ c.points;
         rest = drop-set-lt (i + 1) ns i o (omega arith) ∙ left_after ns ms i m l (subst (λ n. i < n) same_length l) c.rest;
         named = subst (AreNamed u) (sym (ap (λ z. take (i + 1) (set ns i z)) same ∙ take-set_at ns i (i + 1) (told_at m x) refl l)) (named_more w k u q m x (take i ns) c.named y);
@@ -184,8 +184,8 @@ module _ (v : View) (h : Curves) (ms : List Meeting) (w : View) (k : Curves) (ns
     nothing_left = drop_all i ms (subst (λ n. n ≤ i) same_length done)
 
     -- at the end all steps are made
-    pub all_made : Makes v h (steps_at v h (points_of_meetings ms)) w k
-    all_made = c.then_made w k (subst (λ ss. Makes w k ss w k) (sym (ap (λ ls. steps_at w k (points_of_meetings ls)) nothing_left ∙ none_left (drawn_graph w k) (drawn_graph w k))) (refl, λ d. refl))
+    pub all_made : IsRunOfSteps v h (steps_at v h (points_of_meetings ms)) w k
+    all_made = c.then_made w k (subst (λ ss. IsRunOfSteps w k ss w k) (sym (ap (λ ls. steps_at w k (points_of_meetings ls)) nothing_left ∙ none_left (drawn_graph w k) (drawn_graph w k))) (refl, λ d. refl))
 
     -- and all meetings are named
     pub all_named : IsAscending point_cmp (points_of_meetings ms) → AreVertices w ns

@@ -11,11 +11,11 @@ use Rattle.slab_laws.specs.declared.names.DartId.{DartId}
 use Rattle.slab_laws.specs.declared.names.VertexId.{VertexId}
 use Rattle.slab_laws.specs.Sound.{IsGraphSound}
 use Rattle.slab_laws.specs.View.{View, HasVertex, HasDart, twin_in}
-use Rattle.view_changes.specs.Writers.{with_vertex}
-use Rattle.view_changes.proofs.Vertices.{vertex_is_added}
-use Rattle.sound_splits.specs.Fits.{IsNewVertex, FitsSplit}
-use Rattle.sound_splits.proofs.Halves.{IsHalved, not_n}
-use Rattle.sound_splits.proofs.Splits.{halved, at_w}
+use Rattle.arr_notes.specs.ViewChanges.{with_vertex}
+use Rattle.arr_notes.proofs.VertexReads.{vertex_is_added}
+use Rattle.sound_changes.specs.ChangeFits.{IsNewVertex, FitsSplit}
+use Rattle.sound_changes.proofs.SplitHalves.{IsHalved, not_n}
+use Rattle.sound_changes.proofs.Splits.{halved, at_w}
 use Rattle.arr_notes.specs.declared.change.Change.{Change}
 use Rattle.arr_notes.specs.declared.change.Change.TheVariants.{AddVertex, SplitEdge}
 use Rattle.arr_notes.specs.Curves.{Curves, AreCurvesOf, step_curves}
@@ -24,12 +24,12 @@ use Rattle.dcel_records.specs.declared.spot.Spot.{Spot}
 use Rattle.dcel_records.specs.declared.spot.Spot.TheVariants.{Vertex, Edge, Face}
 use Rattle.dcel_records.specs.Spots.{IsSpotOf, IsInFace}
 use Rattle.edge_split_merge.specs.Splits.{CanSplit}
-use Rattle.record_graphs.specs.Graph.{drawn_graph}
-use Rattle.graph_steps.specs.Told.{told}
-use Rattle.graph_steps.proofs.Changes.{changes_keep_views_sound}
-use Rattle.graph_steps.proofs.Held.{point_held}
-use Rattle.graph_steps.proofs.Ways.{at_other}
-use Rattle.record_layers.specs.Kept.{Makes}
+use Rattle.sound_views.specs.RecordGraph.{drawn_graph}
+use Rattle.sound_changes.specs.StepOfChange.{step_of_change}
+use Rattle.sound_changes.proofs.ChangesAreSteps.{changes_keep_views_sound}
+use Rattle.sound_changes.proofs.StepHolds.{point_held}
+use Rattle.sound_changes.proofs.StepCases.{at_other}
+use Rattle.record_layers.specs.RecordLayers.{IsRunOfSteps}
 use Rattle.zone_walk.specs.declared.plan.Meeting.{Meeting}
 use Rattle.segment_insert.specs.Coming.{steps_at, LeadsTo, IsSpotStill, IsSplitAt, IsMadeAt}
 use Rattle.segment_insert.specs.Insertion.{pairs_at}
@@ -86,7 +86,7 @@ module _ (v : View) (h : Curves) (s : IsGraphSound v) (a : AreCurvesOf v h) (m :
     i : IsHalved v g b (twin_in v b) n t x
     i = halved v b x m.point n t s c
 
-    made_split : Makes v h (steps_at v h (m.point ∷ [])) g parts
+    made_split : IsRunOfSteps v h (steps_at v h (m.point ∷ [])) g parts
     made_split =
         one_made v h s a m.point [] tt (edge_new v h s m.point b c.dart c.inside_edge) g parts
         (change, record { fits = c; tells = sym (edge_step v h s m.point c.proper a b (c.dart, c.forward) c.inside_edge); sound = soft }, (refl, λ d. refl))
@@ -129,10 +129,10 @@ module _ (v : View) (h : Curves) (s : IsGraphSound v) (a : AreCurvesOf v h) (m :
     fits : IsNewVertex v x m.point
     fits = record { name = new; proper = proper_here; free = o.no_vertex }
 
-    tells : told v (AddVertex x m.point) ≡ vertex_step_by m.point (drawn_graph v h).marks
+    tells : step_of_change v (AddVertex x m.point) ≡ vertex_step_by m.point (drawn_graph v h).marks
     tells = sym (face_step v h s m.point proper_here o)
 
-    made_added : Makes v h (steps_at v h (m.point ∷ [])) (with_vertex v x m.point) h
+    made_added : IsRunOfSteps v h (steps_at v h (m.point ∷ [])) (with_vertex v x m.point) h
     made_added =
         one_made v h s a m.point [] tt (face_new v h s m.point o) (with_vertex v x m.point) h (
           AddVertex x m.point,

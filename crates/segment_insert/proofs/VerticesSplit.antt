@@ -1,33 +1,35 @@
--- An edge goes in two at a point: where greater points lie, as it was told before.
+-- An edge is split at a point: where greater points lie, as it was told before.
 use Rattle.std.proofs.Common.{◌≡◌, ◌≢◌, true, false, not, refl, sym, ap, ◌∙◌, subst, inl, inr}
 use Rattle.exact_plane.specs.Point.{Point}
 use Rattle.plane_graphs.specs.Graph.{Edge}
 use Rattle.plane_graphs.specs.Line.{IsProper, precedes}
-use Rattle.plane_graphs.proofs.Lists.{clash, not_true}
+use Rattle.plane_graphs.proofs.Lists.{clash}
 use Rattle.plane_graphs.proofs.Order.{Lt, lt_in, lt_never}
 use Rattle.slab_laws.specs.declared.names.DartId.{DartId}
 use Rattle.slab_laws.specs.declared.names.VertexId.{VertexId}
 use Rattle.slab_laws.specs.Skeleton.{inside}
 use Rattle.slab_laws.specs.Sound.{edge_in, dart_in, IsGraphSound}
 use Rattle.slab_laws.specs.View.{View, HasDart, point_in, source_in, twin_in, target_in, next_in}
-use Rattle.sound_splits.specs.Fits.{FitsSplit}
-use Rattle.sound_splits.proofs.Cases.{dart_cases, vertex_cases, edge_of_ends, ahead_by, back_by}
-use Rattle.sound_splits.proofs.Halves.{IsHalved, three, not_n}
-use Rattle.sound_splits.proofs.Halves as halves
-use Rattle.sound_splits.proofs.Inside.{IsInside}
-use Rattle.sound_splits.proofs.Splits.{halved, at_w}
-use Rattle.sound_views.proofs.Named.{by_points}
+use Rattle.sound_changes.specs.ChangeFits.{FitsSplit}
+use Rattle.sound_changes.proofs.SplitCases.{edge_of_ends, ahead_by, back_by}
+use Rattle.sound_changes.proofs.SplitHalves.{IsHalved, three, not_n}
+use Rattle.sound_changes.proofs.SplitHalves as halves
+use Rattle.sound_changes.proofs.PointInside.{IsInside}
+use Rattle.sound_changes.proofs.Splits.{halved, at_w}
+use Rattle.sound_views.proofs.NamedDarts.{by_points}
 use Rattle.arr_notes.specs.declared.change.Change.TheVariants.{SplitEdge}
 use Rattle.arr_notes.specs.Curves.{Curves, IsForward, is_forward, step_curves}
 use Rattle.arr_notes.specs.Step.{split_edge}
+use Rattle.arr_notes.proofs.Names.{cases_dart, cases_vertex}
 use Rattle.dcel_records.specs.Spots.{IsInFace}
-use Rattle.record_graphs.proofs.Drawn.{twins_are_directed}
-use Rattle.graph_steps.proofs.Ways.{at_name, at_other}
+use Rattle.sound_views.proofs.GraphDrawn.{twins_are_directed}
+use Rattle.sound_changes.proofs.StepCases.{at_name, at_other}
 use Rattle.segment_insert.specs.Coming.{LeadsTo}
 use Rattle.segment_insert.specs.Coming.LeadsTo.{here, onward}
 use Rattle.segment_insert.proofs.VerticesFollow.{follows_lower, follows_upper, follows_old}
 use Rattle.segment_insert.proofs.VerticesInside.{from_lower, from_upper, into_upper}
 use Rattle.segment_insert.proofs.VerticesWalk.{forward_edge, inside_ends, leads_forward}
+use Rattle.integers.proofs.Tests.{not_true}
 
 module _ (v : View) (b : DartId) (w : VertexId) (q : Point) (n m : DartId) (s : IsGraphSound v) (c : FitsSplit v b w q n m) where
   abbrev t : DartId
@@ -131,14 +133,14 @@ module _ (v : View) (b : DartId) (w : VertexId) (q : Point) (n m : DartId) (s : 
       -- what led to the point leads to it still, to a part with the same curves
       pub leads_still : (e d : DartId) → LeadsTo v p e d → (a : DartId) × LeadsTo g p a d × (parts a ≡ h e)
       leads_still e d (here j) =
-          elim (dart_cases e b) [
+          elim (cases_dart e b) [
             | inl k ↦ (n, subst (LeadsTo g p n) (sym k) (from_lower_part n (at_upper (subst (λ x. inside (edge_in v x) p ≡ true) k j.2))), at_name n (h b) (h n) ∙ ap h (sym k))
             | inr ne ↦ (e, at_old e (j.0, j.1) ne j.2, old_curves e j.0)
           ]
       leads_still e d (onward a f l k) =
           let r = leads_still e (next_in v a) k in
           let nt : next_in v a ≢ t = not_t (next_in v a) (leads_forward v p e (next_in v a) k) in
-          elim (dart_cases a b) [
+          elim (cases_dart a b) [
             | inl j ↦ (r.0, subst (LeadsTo g p r.0) (sym j) (from_lower_part r.0 (from_upper_part r.0 (subst (λ x. precedes (point_in v (target_in v x)) p ≡ true) j l) (subst (λ x. next_in v x ≢ t) j nt) (subst (λ x. LeadsTo g p r.0 (next_in v x)) j r.1))), r.2)
             | inr ne ↦ (r.0, from_old a r.0 f ne l nt r.1, r.2)
           ]
@@ -146,16 +148,16 @@ module _ (v : View) (b : DartId) (w : VertexId) (q : Point) (n m : DartId) (s : 
     -- ---- a point inside a face stays there
     pub face_still : IsInFace v p → IsInFace g p
     face_still o = record {
-      no_vertex = λ u has e. elim (vertex_cases u w) [
+      no_vertex = λ u has e. elim (cases_vertex u w) [
         | inl k ↦ lt_never (subst (λ z. Lt z p) (sym (at_w v b w q n m s c) ∙ ap (point_in g) (sym k) ∙ e) above)
         | inr ne ↦ let k = i.vertex_had u has ne in o.no_vertex u k (sym (i.vertex_point u k) ∙ e)
       ];
       no_edge = three v g b t n m w i (λ d. inside (edge_in g d) p ≡ false)
           (outside n (edge_of_ends q B) (ap (λ z. z.edge) ahead_upper) no_upper)
           (outside m (edge_of_ends q B) (ap (λ z. z.edge) (halves.half_m v g b t n m w i s.linked.source q (at_w v b w q n m s c) ∙ back_by q B (lt_in between.before))) no_upper)
-          (λ d has. elim (dart_cases d t) [
+          (λ d has. elim (cases_dart d t) [
             | inl k ↦ subst (λ x. inside (edge_in g x) p ≡ false) (sym k) (outside t (edge_of_ends A q) (ap (λ z. z.edge) (halves.half_t v g b t n m w i s.linked.source q (at_w v b w q n m s c) ∙ back_by A q (lt_in between.after))) no_lower)
-            | inr nt ↦ elim (dart_cases d b) [
+            | inr nt ↦ elim (cases_dart d b) [
               | inl k ↦ subst (λ x. inside (edge_in g x) p ≡ false) (sym k) (outside b (edge_of_ends A q) (ap (λ z. z.edge) ahead_lower) no_lower)
               | inr nb ↦ ap (λ z. inside z.edge p) (old_way d has nt nb) ∙ o.no_edge d has
             ]

@@ -7,7 +7,7 @@ use Rattle.exact_plane.specs.PointOrderLaws.{point_cmp_total, same_point as poin
 use Rattle.plane_graphs.specs.Ascending.{Member, place}
 use Rattle.plane_graphs.specs.Graph.{Graph}
 use Rattle.plane_graphs.specs.Line.{IsProper, same_point}
-use Rattle.plane_graphs.proofs.Lists.{decide, not_true, both_ways, any_in, any_out, in_place, of_place, in_filter, clash}
+use Rattle.plane_graphs.proofs.Lists.{decide, both_ways, any_in, any_out, in_place, of_place, in_filter, clash}
 use Rattle.plane_graphs.proofs.Order.{lt_never, same_out, same_itself}
 use Rattle.edit_steps.specs.Allowed.{IsSound, AreSound}
 use Rattle.edit_steps.specs.Steps.{Step, apply, vertex_step_by, vertex_steps, missing_points}
@@ -16,12 +16,13 @@ use Rattle.slab_laws.specs.Sound.{IsGraphSound}
 use Rattle.slab_laws.specs.View.{View}
 use Rattle.arr_notes.specs.Curves.{Curves, AreCurvesOf, step_curves}
 use Rattle.arr_notes.specs.Step.{step}
-use Rattle.record_graphs.specs.Graph.{drawn_graph}
-use Rattle.graph_steps.specs.Laws.{IsApplied}
-use Rattle.graph_steps.proofs.Changes.{changes_are_steps}
-use Rattle.record_layers.specs.Kept.{Makes}
+use Rattle.sound_views.specs.RecordGraph.{drawn_graph}
+use Rattle.sound_changes.specs.StepLaws.{IsApplied}
+use Rattle.sound_changes.proofs.ChangesAreSteps.{changes_are_steps}
+use Rattle.record_layers.specs.RecordLayers.{IsRunOfSteps}
 use Rattle.segment_insert.specs.Coming.{steps_at}
 use Rattle.segment_insert.proofs.VerticesFound.{proper_by_step}
+use Rattle.integers.proofs.Tests.{not_true}
 
 -- ---- points that are no vertices
 any_none_in : (p : Point) (qs : List Point) → (Member p qs → ⊥) → list_any (same_point p) qs ≡ false
@@ -80,15 +81,15 @@ proper_by_steps r [] g k m = absurd m
 proper_by_steps r (p ∷ rs) g k (inl e) = subst IsProper (sym e) (proper_by_step p g k.0)
 proper_by_steps r (p ∷ rs) g k (inr m) = proper_by_steps r rs (apply (vertex_step_by p g.marks) g) k.1 m
 
-moved : (v w : View) (h k : Curves) (ss ts : List Step) (x : View) (l : Curves) → w ≡ v → k ≡ h → ts ≡ ss → Makes w k ts x l → Makes v h ss x l
-moved v w h k ss ts x l e f q m = subst (λ z. Makes z h ss x l) e (subst (λ z. Makes w z ss x l) f (subst (λ z. Makes w k z x l) q m))
+moved : (v w : View) (h k : Curves) (ss ts : List Step) (x : View) (l : Curves) → w ≡ v → k ≡ h → ts ≡ ss → IsRunOfSteps w k ts x l → IsRunOfSteps v h ss x l
+moved v w h k ss ts x l e f q m = subst (λ z. IsRunOfSteps z h ss x l) e (subst (λ z. IsRunOfSteps w z ss x l) f (subst (λ z. IsRunOfSteps w k z x l) q m))
 
 -- after the steps of the first point: the records are sound, and the steps of the others are those of the graph then
 pub record IsTurn (v : View) (h : Curves) (p : Point) (ps : List Point) (w : View) (k : Curves) : Type 0 where
   pub sound : IsGraphSound w
   pub curves : AreCurvesOf w k
   pub plane : AreSound (steps_at v h (p ∷ ps)) (drawn_graph v h) → AreSound (steps_at w k ps) (drawn_graph w k)
-  pub made : (x : View) (l : Curves) → Makes w k (steps_at w k ps) x l → Makes v h (steps_at v h (p ∷ ps)) x l
+  pub made : (x : View) (l : Curves) → IsRunOfSteps w k (steps_at w k ps) x l → IsRunOfSteps v h (steps_at v h (p ∷ ps)) x l
 
 module _ (v : View) (h : Curves) (s : IsGraphSound v) (a : AreCurvesOf v h) (p : Point) (ps : List Point) (up : AllByRecursion (λ r. point_cmp p r ≡ Less) ps) where
   abbrev g : Graph
@@ -104,10 +105,10 @@ module _ (v : View) (h : Curves) (s : IsGraphSound v) (a : AreCurvesOf v h) (p :
       sound = s;
       curves = a;
       plane = subst (λ ss. AreSound ss g) (no_step p ps g there);
-      made = λ x l. subst (λ ss. Makes v h ss x l) (sym (no_step p ps g there));
+      made = λ x l. subst (λ ss. IsRunOfSteps v h ss x l) (sym (no_step p ps g there));
     }
 
-    stay_turn : (w : View) (k : Curves) → Makes v h [] w k → IsTurn v h p ps w k
+    stay_turn : (w : View) (k : Curves) → IsRunOfSteps v h [] w k → IsTurn v h p ps w k
     stay_turn w k m =
         let e : k ≡ h = λ i d. m.1 d i in
         subst (λ z. IsTurn v h p ps z k) (sym m.0) (subst (IsTurn v h p ps v) (sym e) same_turn)
@@ -126,7 +127,7 @@ module _ (v : View) (h : Curves) (s : IsGraphSound v) (a : AreCurvesOf v h) (p :
         ∙ ap (λ qs. vertex_steps (missing_points ps qs) (apply one g)) (placed p g)
         ∙ ap (λ rs. vertex_steps rs (apply one g)) (missing_still p ps g.points up)
 
-    made_turn : (w : View) (k : Curves) → Makes v h (one ∷ []) w k → IsTurn v h p ps w k
+    made_turn : (w : View) (k : Curves) → IsRunOfSteps v h (one ∷ []) w k → IsTurn v h p ps w k
     made_turn w k m =
         let c = m.0 in
         let i : IsApplied v h m.0 = changes_are_steps v h m.0 s a m.1.fits in
@@ -137,19 +138,19 @@ module _ (v : View) (h : Curves) (s : IsGraphSound v) (a : AreCurvesOf v h) (p :
           sound = subst IsGraphSound (sym q) m.1.sound;
           curves = subst (λ z. AreCurvesOf z k) (sym q) (subst (AreCurvesOf (step v m.0)) (sym e) i.curves);
           plane = λ y. subst (λ ss. AreSound ss (drawn_graph w k)) (sym (after w k drawn)) (subst (AreSound (vertex_steps (missing_points ps g.points) (apply one g))) (sym drawn) (subst (λ ss. AreSound ss g) (first_step p ps g new) y).1);
-          made = λ x l y. subst (λ ss. Makes v h ss x l) (sym (first_step p ps g new)) (m.0, m.1, moved (step v m.0) w (step_curves h m.0) k _ (steps_at w k ps) x l q e (after w k drawn) y);
+          made = λ x l y. subst (λ ss. IsRunOfSteps v h ss x l) (sym (first_step p ps g new)) (m.0, m.1, moved (step v m.0) w (step_curves h m.0) k _ (steps_at w k ps) x l q e (after w k drawn) y);
         }
 
-  pub turn : (w : View) (k : Curves) → Makes v h (steps_at v h (p ∷ [])) w k → IsTurn v h p ps w k
+  pub turn : (w : View) (k : Curves) → IsRunOfSteps v h (steps_at v h (p ∷ [])) w k → IsTurn v h p ps w k
   turn w k m =
       elim (decide (list_any (same_point p) g.points)) [
         | inl e ↦
             let r = any_out (same_point p) g.points e in
             let there : Member p g.points = subst (λ x. Member x g.points) (sym (same_out p r.0 r.2)) r.1 in
-            stay_turn there w k (subst (λ ss. Makes v h ss w k) (none_first there) m)
+            stay_turn there w k (subst (λ ss. IsRunOfSteps v h ss w k) (none_first there) m)
         | inr e ↦
             let new : Member p g.points → ⊥ = λ n. clash (any_in (same_point p) p g.points n (same_itself p)) e in
-            made_turn new w k (subst (λ ss. Makes v h ss w k) (one_first new) m)
+            made_turn new w k (subst (λ ss. IsRunOfSteps v h ss w k) (one_first new) m)
       ]
 
   -- the step of the first point is sound, if all are
@@ -166,11 +167,11 @@ module _ (v : View) (h : Curves) (s : IsGraphSound v) (a : AreCurvesOf v h) (p :
       ]
 
   -- ---- what a vertex and a new point ask of the first steps
-  pub nothing_made : Member p g.points → Makes v h (steps_at v h (p ∷ [])) v h
-  nothing_made there = subst (λ ss. Makes v h ss v h) (sym (none_first there)) (refl, λ d. refl)
+  pub nothing_made : Member p g.points → IsRunOfSteps v h (steps_at v h (p ∷ [])) v h
+  nothing_made there = subst (λ ss. IsRunOfSteps v h ss v h) (sym (none_first there)) (refl, λ d. refl)
 
-  pub one_made : (new : Member p g.points → ⊥) (w : View) (k : Curves) → Makes v h (one new ∷ []) w k → Makes v h (steps_at v h (p ∷ [])) w k
-  one_made new w k m = subst (λ ss. Makes v h ss w k) (sym (one_first new)) m
+  pub one_made : (new : Member p g.points → ⊥) (w : View) (k : Curves) → IsRunOfSteps v h (one new ∷ []) w k → IsRunOfSteps v h (steps_at v h (p ∷ [])) w k
+  one_made new w k m = subst (λ ss. IsRunOfSteps v h ss w k) (sym (one_first new)) m
 
   pub one_sound : (new : Member p g.points → ⊥) → AreSound (steps_at v h (p ∷ [])) g → IsSound (vertex_step_by p g.marks) g
   one_sound new y = (subst (λ ss. AreSound ss g) (one_first new) y).0

@@ -4,7 +4,7 @@ use Rattle.std.specs.Prelude.{◌&&◌}
 use Rattle.std.proofs.lemmas.Bool.{and_parts, and_from}
 use Rattle.exact_plane.specs.Point.{Point}
 use Rattle.plane_graphs.specs.Line.{IsProper, precedes}
-use Rattle.plane_graphs.proofs.Lists.{clash, not_true}
+use Rattle.plane_graphs.proofs.Lists.{clash}
 use Rattle.plane_graphs.proofs.Order.{lt_out, lt_in, lt_trans, lt_both, lt_never}
 use Rattle.slab_laws.specs.declared.names.DartId.{DartId}
 use Rattle.slab_laws.specs.Skeleton.{inside}
@@ -12,10 +12,11 @@ use Rattle.slab_laws.specs.Sound.{edge_in, IsGraphSound}
 use Rattle.slab_laws.specs.View.{View, vertex_id, point_in, source_in, twin_in, target_in, next_in}
 use Rattle.arr_notes.specs.Curves.{IsForward}
 use Rattle.rotation_order.proofs.Walks.{count, fewer}
-use Rattle.sound_splits.proofs.Cases.{edge_of_ends, ahead_by}
-use Rattle.sound_splits.proofs.Inside.{IsInside, inside_out}
+use Rattle.sound_changes.proofs.SplitCases.{edge_of_ends, ahead_by}
+use Rattle.sound_changes.proofs.PointInside.{IsInside, inside_out}
 use Rattle.segment_insert.specs.Coming.{LeadsTo}
 use Rattle.segment_insert.specs.Coming.LeadsTo.{here, onward}
+use Rattle.integers.proofs.Tests.{not_true}
 
 -- ---- a forward dart's edge, by its ends
 pub forward_edge : (v : View) (d : DartId) → IsForward v d → edge_in v d ≡ edge_of_ends (point_in v (source_in v d)) (point_in v (target_in v d))

@@ -21,21 +21,19 @@ use Rattle.edit_steps.specs.Steps.{Step, apply, run, with_piece, segment_steps, 
 use Rattle.edit_steps.proofs.Edits.{fit_part}
 use Rattle.edit_steps.proofs.Laws.{are_sound}
 use Rattle.edit_steps.proofs.Vertices.{vertices_change}
+use Rattle.edit_steps.proofs.Folds.{first_sound as sound_first}
 use Rattle.slab_laws.specs.Sound.{IsGraphSound}
 use Rattle.slab_laws.specs.View.{View, point_in}
 use Rattle.arr_notes.specs.Curves.{Curves, AreCurvesOf}
-use Rattle.record_graphs.specs.Graph.{drawn_graph}
-use Rattle.graph_steps.proofs.Held.{point_held}
-use Rattle.record_layers.specs.Kept.{Makes}
+use Rattle.sound_views.specs.RecordGraph.{drawn_graph}
+use Rattle.sound_changes.proofs.StepHolds.{point_held}
+use Rattle.record_layers.specs.RecordLayers.{IsRunOfSteps}
 use Rattle.record_layers.proofs.Runs.{made_is_run, made_in_turn}
 use Rattle.zone_walk.specs.Zone.{is_on_segment, meeting_points}
 use Rattle.segment_insert.specs.Insertion.{AreAllOn}
 use Rattle.segment_insert.proofs.Passing.{met, points_ascend}
 
 -- ---- steps in two halves
-sound_first : (ss ts : List Step) (g : Graph) → AreSound (ss ++ ts) g → AreSound ss g
-sound_first [] ts g a = tt
-sound_first (s ∷ ss) ts g a = (a.0, sound_first ss ts (apply s g) a.1)
 
 sound_last : (ss ts : List Step) (g : Graph) → AreSound (ss ++ ts) g → AreSound ts (run ss g)
 unfolding run
@@ -128,7 +126,7 @@ module _ (v : View) (h : Curves) (s : IsGraphSound v) (a : AreCurvesOf v h) (p :
   first_sound = sound_first first_half (last_half (run first_half here)) here all_sound
 
   -- ---- after the first half
-  module _ (w : View) (b : Curves) (made : Makes v h first_half w b) where
+  module _ (w : View) (b : Curves) (made : IsRunOfSteps v h first_half w b) where
     run_here : drawn_graph w b ≡ run first_half here
     run_here = (made_is_run v h first_half w b s a made).graph
 
@@ -151,9 +149,9 @@ module _ (v : View) (h : Curves) (s : IsGraphSound v) (a : AreCurvesOf v h) (p :
           | inr n ↦ new_on x (vertices_change.stay p k x (subst (Member x) drawn_points n)) o
         ]
 
-    pub made_whole : (x : View) (z : Curves) → Makes w b (last_half (drawn_graph w b)) x z → Makes v h (steps (Insert c g) p) x z
+    pub made_whole : (x : View) (z : Curves) → IsRunOfSteps w b (last_half (drawn_graph w b)) x z → IsRunOfSteps v h (steps (Insert c g) p) x z
     made_whole x z n =
-        subst (λ ss. Makes v h ss x z) (sym halves) (made_in_turn v h first_half (last_half (run first_half here)) w b x z made (subst (λ y. Makes w b (last_half y) x z) run_here n))
+        subst (λ ss. IsRunOfSteps v h ss x z) (sym halves) (made_in_turn v h first_half (last_half (run first_half here)) w b x z made (subst (λ y. IsRunOfSteps w b (last_half y) x z) run_here n))
 
   pub on_segment : (x : Point) → Member x (meeting_points v g) → is_on_segment g x ≡ true
   unfolding on along

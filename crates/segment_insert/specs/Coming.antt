@@ -13,8 +13,8 @@ use Rattle.dcel_records.specs.declared.spot.Spot.{Spot}
 use Rattle.dcel_records.specs.declared.spot.Spot.TheVariants.{Vertex, Edge, Face}
 use Rattle.dcel_records.specs.Spots.{IsSpotOf}
 use Rattle.edge_split_merge.specs.Splits.{IsNewPlace}
-use Rattle.record_graphs.specs.Graph.{drawn_graph}
-use Rattle.record_layers.specs.Kept.{Makes}
+use Rattle.sound_views.specs.RecordGraph.{drawn_graph}
+use Rattle.record_layers.specs.RecordLayers.{IsRunOfSteps}
 use Rattle.zone_walk.specs.declared.plan.Meeting.{Meeting}
 
 -- the steps that make vertices of those points that are none
@@ -36,7 +36,7 @@ IsSpotStill v h p (Vertex w) = IsSpotOf v p (Vertex w)
 IsSpotStill v h p (Edge d) = (e : DartId) × LeadsTo v p e d × (h e ≡ h d)
 IsSpotStill v h p Face = IsSpotOf v p Face
 
--- the edge of d goes in two at the new vertex x, which is at p, and the upper part has its curves (CGAL manual, `split_edge`)
+-- the edge of d is split at the new vertex x, which is at p, and the upper part has its curves (CGAL manual, `split_edge`)
 pub record IsSplitAt (v : View) (h : Curves) (w : View) (k : Curves) (d : DartId) (x : VertexId) (p : Point) : Type 0 where
   pub upper : DartId
   pub back : DartId
@@ -46,7 +46,7 @@ pub record IsSplitAt (v : View) (h : Curves) (w : View) (k : Curves) (d : DartId
 
 -- the meeting's point is the vertex x after its step, if it was none before; names of vertices stay, the curves of the old edges stay, and what was told of later points still says where they lie (this project)
 pub record IsMadeAt (v : View) (h : Curves) (w : View) (k : Curves) (m : Meeting) (x : VertexId) : Type 0 where
-  pub made : Makes v h (steps_at v h (m.point ∷ [])) w k
+  pub made : IsRunOfSteps v h (steps_at v h (m.point ∷ [])) w k
   pub has : HasVertex w x
   pub point : point_in w x ≡ m.point
   pub vertices : (u : VertexId) → HasVertex v u → HasVertex w u × (point_in w u ≡ point_in v u)

@@ -1,32 +1,34 @@
--- When an insertion is refused, and what its parts ask and do.
-use Rattle.std.specs.Prelude.{◌≡◌, ◌≤◌, ◌+◌, ◌*◌, ℕ, List, [], ◌∷◌, map, length, nat_le, nat_lt, Option, Some, None, if◌then◌else◌, true, Contains}
+-- What an insertion makes and answers, and what its parts ask and do.
+use Rattle.std.specs.Prelude.{◌≡◌, ◌≤◌, ◌+◌, ◌*◌, ℕ, List, [], ◌∷◌, length, Option, Some, None, true, Contains}
 use Rattle.exact_plane.specs.Point.{Point}
 use Rattle.exact_plane.specs.PointOrder.{point_cmp}
 use Rattle.exact_plane.specs.Segment.{Segment}
 use Rattle.plane_graphs.specs.Ascending.{Member, IsAscending}
+use Rattle.edit_steps.specs.Refusals.{Refusal, Full as Passed, Spent as LastDrawn, insertion_refusal}
 use Rattle.slab_laws.specs.View.{View, HasVertex, point_in}
 use Rattle.arr_notes.specs.Curves.{Curves}
+use Rattle.curve_history.specs.declared.history.TheConstants.{LAST_CURVE}
 use Rattle.curve_history.specs.Past.{Past}
-use Rattle.dcel_records.specs.Held.{Held}
+use Rattle.record_layers.specs.LayerEdits.{layer_at}
+use Rattle.dcel_records.specs.RecordsView.{RecordsView}
 use Rattle.dcel_records.specs.declared.spot.Spot.{Spot}
 use Rattle.dcel_records.specs.declared.spot.Spot.TheVariants.{Vertex, Edge}
 use Rattle.dcel_records.specs.Spots.{IsSpotOf}
 use Rattle.zone_walk.specs.declared.plan.Meeting.{Meeting}
 use Rattle.zone_walk.specs.declared.plan.ZonePlan.{ZonePlan}
-use Rattle.zone_walk.specs.Zone.{is_on_segment}
+use Rattle.zone_walk.specs.Zone.{is_on_segment, points_of_meetings}
 use Rattle.segment_insert.specs.declared.insertion.InsertError.{InsertError}
-use Rattle.segment_insert.specs.declared.insertion.InsertError.TheVariants.{Full, Spent}
+use Rattle.segment_insert.specs.declared.insertion.InsertError.TheVariants.{Full, Spent, NoMemory}
 
--- why an insertion is refused, first reason first: one curve more passes its limit, one piece more passes its limit, the last number was drawn (this project)
-abbrev pub refusal : ℕ → ℕ → ℕ → Past → Option InsertError
-refusal curves pieces last p =
-    if nat_le curves (length p.names) then Some (Full curves)
-    else (if nat_le pieces (length p.pieces) then Some (Full pieces)
-    else (if nat_lt last p.next then Some Spent else None))
+-- the refusal that an error stands for; want of memory is none (this project)
+abbrev pub insert_said : InsertError → Option Refusal
+insert_said (Full limit) = Some (Passed limit)
+insert_said Spent = Some LastDrawn
+insert_said NoMemory = None
 
--- the points of meetings
-abbrev pub points_of_meetings : List Meeting → List Point
-points_of_meetings ms = map (λ m. m.point) ms
+-- why the layer of records and history refuses one more curve (this project)
+abbrev pub refusal_at : ℕ → ℕ → RecordsView → Past → Option Refusal
+refusal_at curves pieces r p = insertion_refusal curves pieces LAST_CURVE (layer_at r p)
 
 -- the meetings ascend, each with its spot (this project)
 pub record AreMeetings (v : View) (ms : List Meeting) : Type 0 where
@@ -50,7 +52,7 @@ abbrev pub pairs_at : Curves → Spot → ℕ
 pairs_at h (Edge d) = length (h d)
 pairs_at h other = 0
 
--- how many pairs of an edge and a curve more there are once the meetings are vertices
+-- how many pairs of an edge and one more curve there are once the meetings are vertices
 abbrev pub pairs_to_part : Curves → List Meeting → ℕ
 pairs_to_part h [] = 0
 pairs_to_part h (m ∷ ms) = pairs_at h m.spot + pairs_to_part h ms
@@ -60,7 +62,7 @@ abbrev pub pairs_needed : Curves → List Meeting → ℕ
 pairs_needed h ms = length ms + pairs_to_part h ms
 
 -- without memory there is room for what the plan makes where the edges have these curves, for one more name and for one more piece (this project)
-pub record HasRoomFor (z : ZonePlan) (h : Curves) (r : Held) (p : Past) : Type 0 where
+pub record HasRoomFor (z : ZonePlan) (h : Curves) (r : RecordsView) (p : Past) : Type 0 where
   pub vertices : z.room.vertices ≤ r.spare_vertices
   pub darts : 2 * z.room.edges ≤ r.spare_darts
   pub names : 1 ≤ p.spare_names

@@ -1,3 +1,4 @@
 pub mod Insertion
 pub mod Coming
 pub mod Parts
+pub mod StepsMade

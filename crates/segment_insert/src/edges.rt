@@ -1,22 +1,17 @@
-ghost use Rattle.std.specs.Prelude.{◌≡◌, ◌≢◌, ◌≤◌, ◌+◌, ◌*◌, true, map, length, [], ◌∷◌, Contains};
+ghost use Rattle.std.specs.Prelude.{◌≡◌, ◌≢◌, ◌≤◌, ◌+◌, ◌*◌, true, length, Contains};
 ghost use Rattle.plane_graphs.specs.Ascending.{Member};
-ghost use Rattle.plane_graphs.specs.Graph.{chain};
-ghost use Rattle.edit_steps.specs.Allowed.{IsSound, AreSound};
-ghost use Rattle.edit_steps.specs.Steps.{AddEdge, more_step};
 ghost use Rattle.slab_laws.specs.Sound.{IsGraphSound};
-ghost use Rattle.slab_laws.specs.View.{IsOutOf, point_in, target_in};
+ghost use Rattle.slab_laws.specs.View.{IsOutOf, target_in};
 ghost use Rattle.arr_notes.specs.Curves.{AreCurvesOf};
 ghost use Rattle.arr_notes.specs.Step.{step};
-ghost use Rattle.curve_history.specs.Past.{held, SameLayer};
+ghost use Rattle.curve_history.specs.Past.{curves_on, SameLayer};
 ghost use Rattle.dcel_records.specs.declared.spot.Spot.TheVariants.{Vertex};
-ghost use Rattle.dcel_records.specs.Held.{IsSpare};
-ghost use Rattle.record_graphs.specs.Graph.{drawn_graph};
-ghost use Rattle.record_layers.specs.Kept.{Makes};
-ghost use Rattle.sound_links.specs.Links.{dart_between, IsPlaceFor};
+ghost use Rattle.dcel_records.specs.RecordsView.{IsSpare};
 ghost use Rattle.edge_link.specs.Links.{CanLink, TellsOfLink, NamesNewDarts};
-ghost use Rattle.zone_walk.specs.Zone.{is_on_segment, is_vertex};
-ghost use Rattle.segment_insert.specs.Parts.{IsOpenPart, part_step};
-ghost use Rattle.segment_insert.specs.Insertion.{points_of_meetings, AreVertices, AreAllOn};
+ghost use Rattle.zone_walk.specs.Zone.{is_on_segment, is_vertex, points_of_meetings};
+ghost use Rattle.segment_insert.specs.Parts.{IsOpenPart};
+ghost use Rattle.segment_insert.specs.Insertion.{AreVertices, AreAllOn};
+ghost use Rattle.segment_insert.specs.StepsMade.{IsPlaceTo, MayBeAlong, ComesAlong, MayBeAlongAll, ComesAlongAll};
 
 use arr_notes::Change;
 use curve_history::History;
@@ -43,7 +38,7 @@ fn place_back(records: &Records, line: &Line, u: VertexId, w: VertexId) -> Optio
     requires sound { IsGraphSound records.now.graph }
     requires part { IsOpenPart records.now.graph line.now u w }
     requires no_edge { (d : _) → IsOutOf records.now.graph u d → target_in records.now.graph d ≢ w }
-    ensures { IsPlaceFor records.now.graph w result (dart_between (point_in records.now.graph w) (point_in records.now.graph u)) }
+    ensures { IsPlaceTo records.now.graph w u result }
 {
     match place_at(records, w, Direction::along(line).back()) {
         Place::Bare => None,
@@ -89,15 +84,15 @@ fn new_edge(
     at_u: Option<DartId>,
 )
     requires sound { IsGraphSound records.old.graph }
-    requires curves { AreCurvesOf records.old.graph (held history.old) }
+    requires curves { AreCurvesOf records.old.graph (curves_on history.old) }
     requires part { IsOpenPart records.old.graph line.now u w }
-    requires place { IsPlaceFor records.old.graph u at_u (dart_between (point_in records.old.graph u) (point_in records.old.graph w)) }
+    requires place { IsPlaceTo records.old.graph u w at_u }
     requires no_edge { (d : _) → IsOutOf records.old.graph u d → target_in records.old.graph d ≢ w }
     requires curve_named { Member curve.0 history.old.names }
-    requires plane { IsSound (part_step (drawn_graph records.old.graph (held history.old)) records.old.graph u w curve.0) (drawn_graph records.old.graph (held history.old)) }
+    requires plane { MayBeAlong records.old.graph history.old u w curve.0 }
     requires darts { 2 ≤ records.old.spare_darts }
     requires pairs { 1 ≤ history.old.spare_pairs }
-    ensures made { Makes records.old.graph (held history.old) (part_step (drawn_graph records.old.graph (held history.old)) records.old.graph u w curve.0 ∷ []) records.new.graph (held history.new) }
+    ensures made { ComesAlong records.old.graph history.old u w curve.0 records.new.graph history.new }
     ensures vertices { records.new.graph.vertices ≡ records.old.graph.vertices }
     ensures layer { SameLayer history.old history.new }
     ensures spare_darts { records.old.spare_darts ≤ records.new.spare_darts + 2 }
@@ -121,13 +116,13 @@ fn make_edge(
     w: VertexId,
 )
     requires sound { IsGraphSound records.old.graph }
-    requires curves { AreCurvesOf records.old.graph (held history.old) }
+    requires curves { AreCurvesOf records.old.graph (curves_on history.old) }
     requires part { IsOpenPart records.old.graph line.now u w }
     requires curve_named { Member curve.0 history.old.names }
-    requires plane { IsSound (part_step (drawn_graph records.old.graph (held history.old)) records.old.graph u w curve.0) (drawn_graph records.old.graph (held history.old)) }
+    requires plane { MayBeAlong records.old.graph history.old u w curve.0 }
     requires darts { 2 ≤ records.old.spare_darts }
     requires pairs { 1 ≤ history.old.spare_pairs }
-    ensures made { Makes records.old.graph (held history.old) (part_step (drawn_graph records.old.graph (held history.old)) records.old.graph u w curve.0 ∷ []) records.new.graph (held history.new) }
+    ensures made { ComesAlong records.old.graph history.old u w curve.0 records.new.graph history.new }
     ensures vertices { records.new.graph.vertices ≡ records.old.graph.vertices }
     ensures layer { SameLayer history.old history.new }
     ensures spare_darts { records.old.spare_darts ≤ records.new.spare_darts + 2 }
@@ -141,7 +136,7 @@ fn make_edge(
 }
 
 /// Makes every open part between two neighbouring meeting points an edge of the curve, in room that is there: an edge that
-/// runs there gets one curve more, and else a new one comes.
+/// runs there gets one more curve, and else a new one comes.
 pub(crate) fn make_edges(
     records: &mut Records,
     history: &mut History,
@@ -150,15 +145,15 @@ pub(crate) fn make_edges(
     meetings: &[Meeting],
 )
     requires sound { IsGraphSound records.old.graph }
-    requires curves { AreCurvesOf records.old.graph (held history.old) }
+    requires curves { AreCurvesOf records.old.graph (curves_on history.old) }
     requires named { AreVertices records.old.graph meetings.now }
     requires on { (m : _) → Contains meetings.now m → is_on_segment segment.now m.point ≡ true }
     requires all_on { AreAllOn records.old.graph segment.now (points_of_meetings meetings.now) }
     requires curve_named { Member curve.0 history.old.names }
-    requires plane { AreSound (map (more_step (drawn_graph records.old.graph (held history.old))) (chain curve.0 (points_of_meetings meetings.now))) (drawn_graph records.old.graph (held history.old)) }
+    requires plane { MayBeAlongAll records.old.graph history.old curve.0 meetings.now }
     requires darts { 2 * length meetings.now ≤ records.old.spare_darts + 2 }
     requires pairs { length meetings.now ≤ history.old.spare_pairs }
-    ensures made { Makes records.old.graph (held history.old) (map (more_step (drawn_graph records.old.graph (held history.old))) (chain curve.0 (points_of_meetings meetings.now))) records.new.graph (held history.new) }
+    ensures made { ComesAlongAll records.old.graph history.old curve.0 meetings.now records.new.graph history.new }
     ensures layer { SameLayer history.old history.new }
 {
     let line = line_of(segment);

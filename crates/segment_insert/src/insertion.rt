@@ -1,13 +1,15 @@
-ghost use Rattle.std.specs.Prelude.{◌≡◌, ◌⊎◌, ◌≤◌, ◌<◌, ◌+◌, ◌*◌, ◌^◌, ◌++◌, ◌∷◌, [], length, MatchOption, Ok, Err, IsOk, IfOk, OnOk, OnErr};
-ghost use Rattle.edit_steps.specs.Edits.{Insert, steps};
-ghost use Rattle.edit_steps.specs.Layer.{layer_after};
+ghost use Rattle.std.specs.Prelude.{◌≡◌, ◌≤◌, ◌<◌, ◌+◌, ◌^◌, length, option_and_then, IsOk, IfOk, OnOk, OnErr};
+ghost use Rattle.edit_steps.specs.Edits.{Insert};
+ghost use Rattle.edit_steps.specs.Refusals.{IsAnswerFor};
 ghost use Rattle.slab_laws.specs.Sound.{IsGraphSound};
+ghost use Rattle.dcel_records.specs.RecordsView.{RecordsView};
 ghost use Rattle.dcel_records.specs.Spots.{IsSpotOf};
-ghost use Rattle.curve_history.specs.Past.{held, SameLayer, SameCurves};
+ghost use Rattle.curve_history.specs.Past.{curves_on, SameLayer, SameCurves};
 ghost use Rattle.curve_history.specs.declared.history.TheConstants.{LAST_CURVE};
-ghost use Rattle.record_layers.specs.Kept.{IsLayer, layer_of, Makes};
+ghost use Rattle.record_layers.specs.RecordLayers.{IsLayer};
 ghost use Rattle.zone_walk.specs.Zone.{IsZoneOf};
-ghost use Rattle.segment_insert.specs.Insertion.{refusal, pairs_needed, HasRoomFor};
+ghost use Rattle.segment_insert.specs.Insertion.{insert_said, refusal_at, pairs_needed, HasRoomFor};
+ghost use Rattle.record_layers.specs.LayerEdits.{IsAfter, Makes};
 
 use crate::edges::make_edges;
 use crate::vertices::make_vertices;
@@ -23,7 +25,7 @@ use zone_walk::{Meeting, ZonePlan, zone};
 /// Why a segment isn't inserted.
 #[derive(Clone, Copy, Debug, PartialEq, Eq, Error)]
 pub enum InsertError {
-    /// One curve more, or one piece more, would pass this limit.
+    /// One curve more, or one more piece, would pass this limit.
     #[error("the limit of {0} would be passed")]
     Full(u32),
     /// The last number that a curve can get was drawn.
@@ -34,9 +36,9 @@ pub enum InsertError {
     NoMemory,
 }
 
-// Why one curve more is refused, the first reason first.
+// Why one more curve is refused, the first reason first, whatever the records are.
 fn refusal_of(history: &History, curves: u32, pieces: u32) -> Option<InsertError>
-    ensures { result ≡ refusal curves pieces LAST_CURVE history.now }
+    ensures { (r : RecordsView) → refusal_at curves pieces r history.now ≡ option_and_then insert_said result }
 {
     if curves <= history.named() {
         Some(InsertError::Full(curves))
@@ -52,8 +54,8 @@ fn refusal_of(history: &History, curves: u32, pieces: u32) -> Option<InsertError
 // How many pairs of an edge and a curve come: the curves of each edge that is parted, and the new one on each open part. It
 // takes no memory; the error stands for a number past `usize`.
 fn count_pairs(history: &History, meetings: &[Meeting]) -> Result<usize, NoMemory>
-    ensures count { IfOk result (λ n. n ≡ pairs_needed (held history.now) meetings.now) }
-    ensures past_usize { OnErr result (2 ^ 64 ≤ pairs_needed (held history.now) meetings.now) }
+    ensures count { IfOk result (λ n. n ≡ pairs_needed (curves_on history.now) meetings.now) }
+    ensures past_usize { OnErr result (2 ^ 64 ≤ pairs_needed (curves_on history.now) meetings.now) }
 {
     let mut pairs = meetings.len();
     for meeting in meetings {
@@ -70,8 +72,8 @@ fn count_pairs(history: &History, meetings: &[Meeting]) -> Result<usize, NoMemor
 // Room for all that the plan makes, for one more name and for one more piece; only the room changes. Where it is there, no
 // memory is taken.
 fn make_room(records: &mut Records, history: &mut History, plan: &ZonePlan) -> Result<(), NoMemory>
-    ensures room { OnOk result (HasRoomFor plan.now (held history.old) records.new history.new) }
-    ensures succeeds { HasRoomFor plan.now (held history.old) records.old history.old → IsOk result }
+    ensures room { OnOk result (HasRoomFor plan.now (curves_on history.old) records.new history.new) }
+    ensures succeeds { HasRoomFor plan.now (curves_on history.old) records.old history.old → IsOk result }
     ensures graph { records.new.graph ≡ records.old.graph }
     ensures same_layer { SameLayer history.old history.new }
     ensures same_curves { SameCurves history.old history.new }
@@ -94,7 +96,7 @@ fn prepare(
     requires sound { IsGraphSound records.old.graph }
     requires start { IsSpotOf records.old.graph segment.now.lower start }
     ensures zone { IfOk result (IsZoneOf records.old.graph segment.now) }
-    ensures room { IfOk result (λ z. HasRoomFor z (held history.old) records.new history.new) }
+    ensures room { IfOk result (λ z. HasRoomFor z (curves_on history.old) records.new history.new) }
     ensures graph { records.new.graph ≡ records.old.graph }
     ensures same_layer { SameLayer history.old history.new }
     ensures same_curves { SameCurves history.old history.new }
@@ -115,11 +117,11 @@ fn insert_by_plan(
     requires zone { IsZoneOf records.old.graph segment.now plan }
     requires unspent { history.old.next ≤ LAST_CURVE }
     requires few { length history.old.pieces + 1 < 2 ^ 32 }
-    requires room { HasRoomFor plan (held history.old) records.old history.old }
+    requires room { HasRoomFor plan (curves_on history.old) records.old history.old }
     ensures layer { IsLayer records.new.graph history.new }
     ensures number { result.0 ≡ history.old.next }
-    ensures edit { layer_of records.new.graph history.new ≡ layer_after (Insert result.0 segment.now) (layer_of records.old.graph history.old) }
-    ensures steps { Makes records.old.graph (held history.old) (steps (Insert result.0 segment.now) (layer_of records.old.graph history.old).present) records.new.graph (held history.new) }
+    ensures edit { IsAfter (Insert result.0 segment.now) records.old history.old records.new history.new }
+    ensures steps { Makes (Insert result.0 segment.now) records.old history.old records.new history.new }
 {
     let lower = segment.lower();
     let upper = segment.upper();
@@ -154,9 +156,9 @@ pub fn insert(
     requires start { IsSpotOf records.old.graph segment.now.lower start }
     ensures layer { IsLayer records.new.graph history.new }
     ensures number { IfOk result (λ c. c.0 ≡ history.old.next) }
-    ensures edit { IfOk result (λ c. layer_of records.new.graph history.new ≡ layer_after (Insert c.0 segment.now) (layer_of records.old.graph history.old)) }
-    ensures steps { IfOk result (λ c. Makes records.old.graph (held history.old) (steps (Insert c.0 segment.now) (layer_of records.old.graph history.old).present) records.new.graph (held history.new)) }
-    ensures refused { MatchOption (refusal curves pieces LAST_CURVE history.old) (IsOk result ⊎ (result ≡ Err InsertError.NoMemory)) (λ e. result ≡ Err e) }
+    ensures edit { IfOk result (λ c. IsAfter (Insert c.0 segment.now) records.old history.old records.new history.new) }
+    ensures steps { IfOk result (λ c. Makes (Insert c.0 segment.now) records.old history.old records.new history.new) }
+    ensures refused { IsAnswerFor insert_said (refusal_at curves pieces records.old history.old) result }
     ensures graph { OnErr result (records.new.graph ≡ records.old.graph) }
     ensures same_layer { OnErr result (SameLayer history.old history.new) }
     ensures same_curves { OnErr result (SameCurves history.old history.new) }

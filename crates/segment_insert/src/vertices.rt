@@ -1,16 +1,13 @@
 ghost use Rattle.std.specs.Prelude.{◌≡◌, ◌≤◌, ◌+◌, ◌*◌, [], ◌∷◌, length};
-ghost use Rattle.edit_steps.specs.Allowed.{AreSound};
-ghost use Rattle.edit_steps.specs.Steps.{vertex_steps, missing_points};
 ghost use Rattle.plane_graphs.specs.Line.{IsProper};
 ghost use Rattle.slab_laws.specs.Sound.{IsGraphSound};
 ghost use Rattle.arr_notes.specs.Curves.{AreCurvesOf};
-ghost use Rattle.curve_history.specs.Past.{held, SameLayer};
+ghost use Rattle.curve_history.specs.Past.{curves_on, SameLayer};
 ghost use Rattle.edge_split_merge.specs.Splits.{CanSplit};
-ghost use Rattle.record_graphs.specs.Graph.{drawn_graph};
-ghost use Rattle.record_layers.specs.Kept.{Makes};
-ghost use Rattle.zone_walk.specs.Zone.{vertices_needed, splits_needed};
-ghost use Rattle.segment_insert.specs.Coming.{steps_at, HasPart, LeadsTo, IsSpotStill, IsSplitAt, IsMadeAt};
-ghost use Rattle.segment_insert.specs.Insertion.{points_of_meetings, AreMeetings, AreVertices, pairs_at, pairs_to_part};
+ghost use Rattle.zone_walk.specs.Zone.{vertices_needed, splits_needed, points_of_meetings};
+ghost use Rattle.segment_insert.specs.Coming.{HasPart, LeadsTo, IsSpotStill};
+ghost use Rattle.segment_insert.specs.Insertion.{AreMeetings, AreVertices, pairs_at};
+ghost use Rattle.segment_insert.specs.StepsMade.{new_pairs, MayBeVertices, BecomeVertices, BecomesVertex, IsEdgeSplit};
 
 use arr_notes::Change;
 use curve_history::History;
@@ -35,20 +32,20 @@ fn part_at(records: &Records, dart: DartId, point: Point) -> DartId
     part
 }
 
-// The edge goes in two at the point, and its curves run along both parts; the new vertex.
+// The edge is split at the point, and its curves run along both parts; the new vertex.
 fn split_at(records: &mut Records, history: &mut History, dart: DartId, point: Point) -> VertexId
     requires sound { IsGraphSound records.old.graph }
-    requires curves { AreCurvesOf records.old.graph (held history.old) }
+    requires curves { AreCurvesOf records.old.graph (curves_on history.old) }
     requires fits { CanSplit records.old.graph dart point }
     requires vertices { 1 ≤ records.old.spare_vertices }
     requires darts { 2 ≤ records.old.spare_darts }
-    requires pairs { length (held history.old dart) ≤ history.old.spare_pairs }
-    ensures split { IsSplitAt records.old.graph (held history.old) records.new.graph (held history.new) dart result point }
+    requires pairs { length (curves_on history.old dart) ≤ history.old.spare_pairs }
+    ensures split { IsEdgeSplit records.old.graph history.old dart point records.new.graph history.new result }
     ensures sound { IsGraphSound records.new.graph }
     ensures layer { SameLayer history.old history.new }
     ensures vertices { records.old.spare_vertices ≡ records.new.spare_vertices + 1 }
     ensures darts { records.old.spare_darts ≡ records.new.spare_darts + 2 }
-    ensures pairs { history.old.spare_pairs ≤ history.new.spare_pairs + length (held history.old dart) }
+    ensures pairs { history.old.spare_pairs ≤ history.new.spare_pairs + length (curves_on history.old dart) }
 {
     match split(records, dart, point) {
         Change::SplitEdge { v, n, .. } => {
@@ -62,17 +59,17 @@ fn split_at(records: &mut Records, history: &mut History, dart: DartId, point: P
 // The vertex at the meeting's point, which comes where there is none.
 fn make_vertex(records: &mut Records, history: &mut History, meeting: Meeting) -> VertexId
     requires sound { IsGraphSound records.old.graph }
-    requires curves { AreCurvesOf records.old.graph (held history.old) }
-    requires spot { IsSpotStill records.old.graph (held history.old) meeting.point meeting.spot }
-    requires plane { AreSound (steps_at records.old.graph (held history.old) (meeting.point ∷ [])) (drawn_graph records.old.graph (held history.old)) }
+    requires curves { AreCurvesOf records.old.graph (curves_on history.old) }
+    requires spot { IsSpotStill records.old.graph (curves_on history.old) meeting.point meeting.spot }
+    requires plane { MayBeVertices records.old.graph history.old (meeting ∷ []) }
     requires vertices { vertices_needed (meeting ∷ []) ≤ records.old.spare_vertices }
     requires darts { 2 * splits_needed (meeting ∷ []) ≤ records.old.spare_darts }
-    requires pairs { pairs_at (held history.old) meeting.spot ≤ history.old.spare_pairs }
-    ensures made { IsMadeAt records.old.graph (held history.old) records.new.graph (held history.new) meeting result }
+    requires pairs { pairs_at (curves_on history.old) meeting.spot ≤ history.old.spare_pairs }
+    ensures made { BecomesVertex records.old.graph history.old meeting records.new.graph history.new result }
     ensures layer { SameLayer history.old history.new }
     ensures vertices { records.old.spare_vertices ≤ records.new.spare_vertices + vertices_needed (meeting ∷ []) }
     ensures darts { records.old.spare_darts ≤ records.new.spare_darts + 2 * splits_needed (meeting ∷ []) }
-    ensures pairs { history.old.spare_pairs ≤ history.new.spare_pairs + pairs_at (held history.old) meeting.spot }
+    ensures pairs { history.old.spare_pairs ≤ history.new.spare_pairs + pairs_at (curves_on history.old) meeting.spot }
 {
     match meeting.spot {
         Spot::Vertex(v) => v,
@@ -92,18 +89,18 @@ pub(crate) fn make_vertices(
     meetings: &mut Vec<Meeting>,
 )
     requires sound { IsGraphSound records.old.graph }
-    requires curves { AreCurvesOf records.old.graph (held history.old) }
+    requires curves { AreCurvesOf records.old.graph (curves_on history.old) }
     requires meetings { AreMeetings records.old.graph meetings.old.items }
-    requires plane { AreSound (vertex_steps (missing_points (points_of_meetings meetings.old.items) (drawn_graph records.old.graph (held history.old)).points) (drawn_graph records.old.graph (held history.old))) (drawn_graph records.old.graph (held history.old)) }
+    requires plane { MayBeVertices records.old.graph history.old meetings.old.items }
     requires vertices { vertices_needed meetings.old.items ≤ records.old.spare_vertices }
     requires darts { 2 * splits_needed meetings.old.items ≤ records.old.spare_darts }
-    requires pairs { pairs_to_part (held history.old) meetings.old.items ≤ history.old.spare_pairs }
-    ensures made { Makes records.old.graph (held history.old) (vertex_steps (missing_points (points_of_meetings meetings.old.items) (drawn_graph records.old.graph (held history.old)).points) (drawn_graph records.old.graph (held history.old))) records.new.graph (held history.new) }
+    requires pairs { new_pairs history.old meetings.old.items ≤ history.old.spare_pairs }
+    ensures made { BecomeVertices records.old.graph history.old meetings.old.items records.new.graph history.new }
     ensures named { AreVertices records.new.graph meetings.new.items }
     ensures points { points_of_meetings meetings.new.items ≡ points_of_meetings meetings.old.items }
     ensures layer { SameLayer history.old history.new }
     ensures spare_darts { records.old.spare_darts ≤ records.new.spare_darts + 2 * splits_needed meetings.old.items }
-    ensures spare_pairs { history.old.spare_pairs ≤ history.new.spare_pairs + pairs_to_part (held history.old) meetings.old.items }
+    ensures spare_pairs { history.old.spare_pairs ≤ history.new.spare_pairs + new_pairs history.old meetings.old.items }
 {
     for i in 0..meetings.len() {
         let vertex = make_vertex(records, history, meetings[i]);

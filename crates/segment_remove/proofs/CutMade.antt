@@ -17,16 +17,16 @@ use Rattle.slab_laws.specs.Sound.{IsGraphSound}
 use Rattle.slab_laws.specs.Tables.{row_at}
 use Rattle.slab_laws.specs.View.{View, HasVertex, point_in, point_or, source_in, target_in}
 use Rattle.arr_notes.specs.Curves.{Curves, AreCurvesOf}
-use Rattle.curve_history.specs.Past.{Past, held, SameCurves}
-use Rattle.record_graphs.specs.Graph.{drawn_graph}
-use Rattle.record_layers.specs.Kept.{IsLayer, layer_of, Makes}
+use Rattle.curve_history.specs.Past.{Past, curves_on, SameCurves}
+use Rattle.sound_views.specs.RecordGraph.{drawn_graph}
+use Rattle.record_layers.specs.RecordLayers.{IsLayer, layer_of, IsRunOfSteps}
 use Rattle.record_layers.proofs.Layers.{steps_make_layers}
-use Rattle.edges_by_ends.specs.Edges.{IsDartAlong, RunsBetween}
-use Rattle.edges_by_ends.proofs.Ends.{along_runs}
+use Rattle.record_layers.proofs.Moved.{one_curves}
+use Rattle.record_orders.specs.Edges.{IsDartAlong, RunsBetween}
+use Rattle.record_orders.proofs.EdgeEnds.{along_runs}
 use Rattle.redundant_vertices.specs.Left.{AreLeft, tidying}
 use Rattle.segment_remove.proofs.Cutting.{cut_gone, cut_is_tidied, cut_old, cut_run, fit_cut}
 use Rattle.segment_remove.proofs.Joined.{joined}
-use Rattle.segment_remove.proofs.Kept.{one_curves}
 use Rattle.segment_remove.proofs.Left.{are_left, left_curves, left_sound, tidied_made}
 
 module _ (v : View) (r : Past) (l : IsLayer v r) (e : Edge) (d : DartId) (a : IsDartAlong v e d) (s t : VertexId) (is_s : s ≡ source_in v d) (is_t : t ≡ target_in v d) where
@@ -62,9 +62,9 @@ module _ (v : View) (r : Past) (l : IsLayer v r) (e : Edge) (d : DartId) (a : Is
   counted low high at_low at_high n is = is ∙ ap₂ (λ p q. length (flat_map (cut_piece p q) r.pieces)) (at_low ∙ at_s) (at_high ∙ at_t)
 
   -- ---- the edge is released
-  module _ (r1 : Past) (c1 : SameCurves r r1) (x : View) (k : Curves) (made : Makes v (held r1) (RemoveEdge (point_in v (source_in v d)) (point_in v (target_in v d)) ∷ []) x k) (same : x.vertices ≡ v.vertices) where
-    released : Makes v (held r) (RemoveEdge e.low e.high ∷ []) x k
-    released = subst (λ z. Makes v z (RemoveEdge e.low e.high ∷ []) x k) (one_curves r r1 c1) (subst (λ z. Makes v (held r1) (RemoveEdge e.low z ∷ []) x k) runs.ends (subst (λ z. Makes v (held r1) (RemoveEdge z (point_in v (target_in v d)) ∷ []) x k) runs.starts made))
+  module _ (r1 : Past) (c1 : SameCurves r r1) (x : View) (k : Curves) (made : IsRunOfSteps v (curves_on r1) (RemoveEdge (point_in v (source_in v d)) (point_in v (target_in v d)) ∷ []) x k) (same : x.vertices ≡ v.vertices) where
+    released : IsRunOfSteps v (curves_on r) (RemoveEdge e.low e.high ∷ []) x k
+    released = subst (λ z. IsRunOfSteps v z (RemoveEdge e.low e.high ∷ []) x k) (one_curves r r1 c1) (subst (λ z. IsRunOfSteps v (curves_on r1) (RemoveEdge e.low z ∷ []) x k) runs.ends (subst (λ z. IsRunOfSteps v (curves_on r1) (RemoveEdge z (point_in v (target_in v d)) ∷ []) x k) runs.starts made))
 
     pub rest_sound : IsGraphSound x
     rest_sound = left_sound v r l new (RemoveEdge e.low e.high ∷ []) (cut_run o l.lawful.fit e.low e.high there) x k released
@@ -87,9 +87,9 @@ module _ (v : View) (r : Past) (l : IsLayer v r) (e : Edge) (d : DartId) (a : Is
         are_left v r l new (RemoveEdge e.low e.high ∷ []) (cut_run o l.lawful.fit e.low e.high there) x k released (map (point_in x) (s ∷ t ∷ [])) (fit_cut o l.lawful.fit e.low e.high there) (cut_old o l.lawful.fit e.low e.high there)
         (λ p m gone. elim (cut_gone o l.lawful.fit e.low e.high there p m gone) [ inl i ↦ inl (i ∙ sym at_s ∙ sym (same_point s)) | inr i ↦ inr (inl (i ∙ sym at_t ∙ sym (same_point t))) ])
 
-    pub cut_made : (y : View) (j : Curves) → ((p : Present) → AreLeft x k p (map (point_in x) (s ∷ t ∷ [])) → Makes x k (tidying (drawn_graph x k) p) y j) → Makes v (held r) (steps (Cut e.low e.high) o) y j
+    pub cut_made : (y : View) (j : Curves) → ((p : Present) → AreLeft x k p (map (point_in x) (s ∷ t ∷ [])) → IsRunOfSteps x k (tidying (drawn_graph x k) p) y j) → IsRunOfSteps v (curves_on r) (steps (Cut e.low e.high) o) y j
     cut_made y j tidied =
-        subst (λ ss. Makes v (held r) ss y j) (sym (cut_is_tidied o e.low e.high))
+        subst (λ ss. IsRunOfSteps v (curves_on r) ss y j) (sym (cut_is_tidied o e.low e.high))
         (tidied_made v r l new (RemoveEdge e.low e.high ∷ []) (cut_run o l.lawful.fit e.low e.high there) x k released y j (tidied new both_left))
 
   -- ---- the layer after the cut
@@ -97,6 +97,6 @@ module _ (v : View) (r : Past) (l : IsLayer v r) (e : Edge) (d : DartId) (a : Is
   unfolding IsAccepted
   accepted = there
 
-  pub cut_layer : (y : View) (q : Past) → Makes v (held r) (steps (Cut e.low e.high) o) y (held q) → q.pieces ≡ flat_map (cut_piece e.low e.high) r.pieces → q.names ≡ r.names → q.next ≡ r.next → IsLayer y q × (layer_of y q ≡ layer_after (Cut e.low e.high) (layer_of v r))
+  pub cut_layer : (y : View) (q : Past) → IsRunOfSteps v (curves_on r) (steps (Cut e.low e.high) o) y (curves_on q) → q.pieces ≡ flat_map (cut_piece e.low e.high) r.pieces → q.names ≡ r.names → q.next ≡ r.next → IsLayer y q × (layer_of y q ≡ layer_after (Cut e.low e.high) (layer_of v r))
   unfolding after
   cut_layer y q made pieces names next = steps_make_layers (Cut e.low e.high) v r y q l accepted made pieces names next

@@ -2,13 +2,14 @@
 use Rattle.std.proofs.Common.{◌≡◌, ◌⊎◌, true, [], ◌∷◌, refl, subst}
 use Rattle.std.specs.List.{list_any}
 use Rattle.exact_plane.specs.Point.{Point}
+use Rattle.exact_plane.specs.PointOrderLaws.{and_true}
 use Rattle.plane_graphs.specs.Ascending.{Member}
 use Rattle.plane_graphs.specs.Fit.{IsFit}
 use Rattle.plane_graphs.specs.Graph.{Mark, graph, graph_over, is_at, marks, vertices}
 use Rattle.plane_graphs.specs.Line.{same_point}
 use Rattle.plane_graphs.specs.Piece.{Present}
 use Rattle.plane_graphs.proofs.Lines.{geometry}
-use Rattle.plane_graphs.proofs.Lists.{any_out, both}
+use Rattle.plane_graphs.proofs.Lists.{any_out}
 use Rattle.plane_graphs.proofs.Marks.{IsMark, mark_out}
 use Rattle.plane_graphs.proofs.Order.{same_out}
 use Rattle.plane_graphs.proofs.Vertices.{vertices_closed}
@@ -31,7 +32,7 @@ module _ (o : Present) (fit : IsFit o) (a b : Point) (there : list_any (is_at a 
   unfolding graph
   edge =
       let m = any_out (is_at a b) (marks (vertices o) o.pieces) there in
-      let e = both (same_point m.0.low a) (same_point m.0.high b) m.2 in
+      let e = and_true (same_point m.0.low a) (same_point m.0.high b) m.2 in
       (m.0, mark_out (vertices o) o.pieces m.0 m.1, same_out m.0.low a e.0, same_out m.0.high b e.1)
 
   -- without the edge, the graph is that of the pieces that are left, over the old vertices

@@ -17,14 +17,14 @@ use Rattle.slab_laws.specs.Sound.{IsGraphSound}
 use Rattle.slab_laws.specs.Tables.{row_at}
 use Rattle.slab_laws.specs.View.{View, HasDart, HasVertex, point_in, point_or, source_in, target_in}
 use Rattle.arr_notes.specs.Curves.{Curves, AreCurvesOf}
-use Rattle.curve_history.specs.Past.{Past, held}
-use Rattle.record_graphs.specs.Graph.{drawn_graph}
-use Rattle.record_graphs.proofs.Held.{graphs_hold}
-use Rattle.record_layers.specs.Kept.{IsLayer, layer_of, Makes}
+use Rattle.curve_history.specs.Past.{Past, curves_on}
+use Rattle.sound_views.specs.RecordGraph.{drawn_graph}
+use Rattle.sound_views.proofs.GraphHolds.{graphs_hold}
+use Rattle.record_layers.specs.RecordLayers.{IsLayer, layer_of, IsRunOfSteps}
 use Rattle.record_layers.proofs.Layers.{steps_make_layers}
 use Rattle.record_orders.specs.declared.darts.DartKey.{DartKey}
 use Rattle.record_orders.proofs.Sorting.{all_members}
-use Rattle.edges_by_ends.proofs.Ends.{curved_forward}
+use Rattle.record_layers.proofs.LayerEdges.{curved_forward}
 use Rattle.segment_remove.specs.Ends.{AreEnds}
 use Rattle.redundant_vertices.specs.Left.{AreLeft, tidying}
 use Rattle.segment_remove.proofs.Dropping.{drop_gone, drop_is_tidied, drop_old, drop_run, fit_drop, marks_of}
@@ -41,9 +41,9 @@ module _ (v : View) (r : Past) (l : IsLayer v r) (c : ℕ) where
   abbrev new : Present
   new = without_curve o c
 
-  module _ (x : View) (k : Curves) (made : Makes v (held r) (releases c (drawn_graph v (held r))) x k) where
-    released : Makes v (held r) (releases c (graph o)) x k
-    released = subst (λ g. Makes v (held r) (releases c g) x k) l.stands made
+  module _ (x : View) (k : Curves) (made : IsRunOfSteps v (curves_on r) (releases c (drawn_graph v (curves_on r))) x k) where
+    released : IsRunOfSteps v (curves_on r) (releases c (graph o)) x k
+    released = subst (λ g. IsRunOfSteps v (curves_on r) (releases c g) x k) l.stands made
 
     pub rest_sound : IsGraphSound x
     rest_sound = left_sound v r l new (releases c (graph o)) (drop_run o l.lawful.fit c) x k released
@@ -51,7 +51,7 @@ module _ (v : View) (r : Past) (l : IsLayer v r) (c : ℕ) where
     pub rest_curves : AreCurvesOf x k
     rest_curves = left_curves v r l new (releases c (graph o)) (drop_run o l.lawful.fit c) x k released
 
-    module _ (same : x.vertices ≡ v.vertices) (ks : List DartKey) (all : (d : DartId) → Member d (map (λ k. k.name) ks) ↔ Member c (held r d)) (ws : List VertexId) (ends : AreEnds v ks ws) where
+    module _ (same : x.vertices ≡ v.vertices) (ks : List DartKey) (all : (d : DartId) → Member d (map (λ k. k.name) ks) ↔ Member c (curves_on r d)) (ws : List VertexId) (ends : AreEnds v ks ws) where
       same_point : (w : VertexId) → point_in x w ≡ point_in v w
       same_point w = ap (λ rows. point_or (row_at rows w.0)) same
 
@@ -69,8 +69,8 @@ module _ (v : View) (r : Past) (l : IsLayer v r) (c : ℕ) where
       lost : (p : Point) → Member p (vertices o) → (Member p (vertices new) → ⊥) → Member p (map (point_in x) ws)
       lost p m gone =
           let n = drop_gone o l.lawful.fit c p m gone in
-          let d = ((graphs_hold v (held r) l.sound).marks n.0).0 (subst (Member n.0) (sym (ap (λ g. g.marks) l.stands)) n.1) in
-          let e = of_map (λ k. k.name) d.0 ks ((all d.0).1 (subst (λ z. Member z (held r d.0)) n.3 d.1.curve)) in
+          let d = ((graphs_hold v (curves_on r) l.sound).marks n.0).0 (subst (Member n.0) (sym (ap (λ g. g.marks) l.stands)) n.1) in
+          let e = of_map (λ k. k.name) d.0 ks ((all d.0).1 (subst (λ z. Member z (curves_on r d.0)) n.3 d.1.curve)) in
           let both = ends.ends e.0 e.1 in
           elim n.2 [
             | inl i ↦ among p (source_in v e.0.name) both.0 (ap (λ z. point_in v (source_in v z)) (sym e.2) ∙ d.1.low ∙ i)
@@ -80,13 +80,13 @@ module _ (v : View) (r : Past) (l : IsLayer v r) (c : ℕ) where
       all_left : AreLeft x k new (map (point_in x) ws)
       all_left = are_left v r l new (releases c (graph o)) (drop_run o l.lawful.fit c) x k released (map (point_in x) ws) (fit_drop o l.lawful.fit c) (drop_old o l.lawful.fit c) lost
 
-      pub drop_made : (y : View) (j : Curves) → ((p : Present) → AreLeft x k p (map (point_in x) ws) → Makes x k (tidying (drawn_graph x k) p) y j) → Makes v (held r) (steps (Drop c) o) y j
+      pub drop_made : (y : View) (j : Curves) → ((p : Present) → AreLeft x k p (map (point_in x) ws) → IsRunOfSteps x k (tidying (drawn_graph x k) p) y j) → IsRunOfSteps v (curves_on r) (steps (Drop c) o) y j
       drop_made y j tidied =
-          subst (λ ss. Makes v (held r) ss y j) (sym (drop_is_tidied o c))
+          subst (λ ss. IsRunOfSteps v (curves_on r) ss y j) (sym (drop_is_tidied o c))
           (tidied_made v r l new (releases c (graph o)) (drop_run o l.lawful.fit c) x k released y j (tidied new all_left))
 
   -- the curve's edges are told by darts
-  pub keys_have : (ks : List DartKey) → ((d : DartId) → Member d (map (λ k. k.name) ks) ↔ Member c (held r d)) → AllByRecursion (λ k. HasDart v k.name) ks
+  pub keys_have : (ks : List DartKey) → ((d : DartId) → Member d (map (λ k. k.name) ks) ↔ Member c (curves_on r d)) → AllByRecursion (λ k. HasDart v k.name) ks
   keys_have ks all = all_members (λ k. HasDart v k.name) ks (λ k m. (curved_forward v r l c k.name ((all k.name).0 (in_map (λ k. k.name) k ks m))).0)
 
   -- ---- the layer after the drop
@@ -94,6 +94,6 @@ module _ (v : View) (r : Past) (l : IsLayer v r) (c : ℕ) where
   unfolding IsAccepted
   accepted = tt
 
-  pub drop_layer : (y : View) (q : Past) → Makes v (held r) (steps (Drop c) o) y (held q) → q.pieces ≡ filter (λ k. not (same_curve k.curve c)) r.pieces → q.names ≡ filter (λ n. not (same_curve n c)) r.names → q.next ≡ r.next → IsLayer y q × (layer_of y q ≡ layer_after (Drop c) (layer_of v r))
+  pub drop_layer : (y : View) (q : Past) → IsRunOfSteps v (curves_on r) (steps (Drop c) o) y (curves_on q) → q.pieces ≡ filter (λ k. not (same_curve k.curve c)) r.pieces → q.names ≡ filter (λ n. not (same_curve n c)) r.names → q.next ≡ r.next → IsLayer y q × (layer_of y q ≡ layer_after (Drop c) (layer_of v r))
   unfolding after
   drop_layer y q made pieces names next = steps_make_layers (Drop c) v r y q l accepted made pieces names next

@@ -2,12 +2,13 @@
 use Rattle.std.proofs.Common.{◌≡◌, ◌⊎◌, ℕ, ◌&&◌, not, false, List, map, refl, sym, ap, ◌∙◌, inl, inr, ⊎_elim}
 use Rattle.std.specs.List.{filter}
 use Rattle.exact_plane.specs.Point.{Point}
+use Rattle.exact_plane.specs.PointOrderLaws.{and_true}
 use Rattle.plane_graphs.specs.Ascending.{Member}
 use Rattle.plane_graphs.specs.Fit.{IsFit}
 use Rattle.plane_graphs.specs.Graph.{Mark, mark_cmp, graph, graph_over, marks, same_curve, vertices}
 use Rattle.plane_graphs.specs.Piece.{Piece, Present, on}
 use Rattle.plane_graphs.proofs.Lines.{geometry}
-use Rattle.plane_graphs.proofs.Lists.{IsAscending-filter, any_out, both, clash, decide, in_filter, not_out, of_filter}
+use Rattle.plane_graphs.proofs.Lists.{IsAscending-filter, any_out, clash, decide, in_filter, not_out, of_filter}
 use Rattle.plane_graphs.proofs.Marks.{mark_in, mark_out, marks_ascend, on_out}
 use Rattle.plane_graphs.proofs.Order.{curve_out}
 use Rattle.plane_graphs.proofs.Vertices.{vertices_closed}
@@ -80,6 +81,6 @@ module _ (o : Present) (fit : IsFit o) (c : ℕ) where
   unfolding graph
   drop_gone x m gone =
       let k = any_out (λ k. same_curve k.curve c && on k x) o.pieces (vertices_change.go o c x fit m gone) in
-      let e = both (same_curve k.0.curve c) (on k.0 x) k.2 in
+      let e = and_true (same_curve k.0.curve c) (on k.0 x) k.2 in
       let d = some_mark o fit k.0 k.1 x m (on_out k.0 x e.1) in
       (d.0, mark_in vs o.pieces d.0 d.1, d.2, d.3 ∙ curve_out k.0.curve c e.0)

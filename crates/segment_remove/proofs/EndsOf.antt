@@ -1,12 +1,11 @@
 -- Vertices in the order of their points, each once.
-use Rattle.std.proofs.Common.{◌≡◌, ℕ, ◌<◌, length, get_or, Bool, List, [], ◌∷◌, map, Ordering, Less, Equal, Greater, eqb, is_eq, ◌&&◌, ◌++◌, append_assoc, arith, refl, sym, ap, ap₂, ◌∙◌, subst, inl, inr}
+use Rattle.std.proofs.Common.{◌≡◌, ℕ, ◌<◌, length, get_or, Bool, List, [], ◌∷◌, map, Ordering, Less, Equal, Greater, eqb, ◌&&◌, ◌++◌, append_assoc, refl, sym, ap, ap₂, ◌∙◌, subst, inl, inr}
 use Rattle.std.specs.List.{AllByRecursion, flat_map}
 use Rattle.std.specs.List.Sorted.{IsPermutation, IsSorted}
 use Rattle.std.specs.List.Retain.{IsFiltered, DiffersFromLast}
 use Rattle.std.specs.Ordering.{ordering_then, nat_cmp, eq_by_cmp}
 use Rattle.std.specs.Prelude.{Result, Ok, Err, IfOk}
 use Rattle.std.specs.Cmp.{IsTotalOrder, then_total, on_total, nat_cmp_total}
-use Rattle.std.proofs.lemmas.Bool.Decides.{nat_tests}
 use Rattle.std.proofs.lemmas.Cmp.{tied_itself}
 use Rattle.std.proofs.lemmas.List.{map-id}
 use Rattle.std.proofs.lemmas.List.Elements.{Contains-get_or}
@@ -18,42 +17,27 @@ use Rattle.plane_graphs.proofs.Lists.{in_map, of_map, in_flat_map, of_flat_map, 
 use Rattle.slab_laws.specs.declared.names.VertexId.{VertexId}
 use Rattle.slab_laws.specs.Sound.{IsGraphSound}
 use Rattle.slab_laws.specs.View.{View, HasVertex, HasDart, point_in, source_in, target_in}
-use Rattle.sound_views.proofs.Pulled.{IsAscending-map}
+use Rattle.sound_views.proofs.PulledOrders.{IsAscending-map}
 use Rattle.record_orders.specs.declared.darts.DartKey.{DartKey}
 use Rattle.record_orders.specs.declared.vertices.VertexKey.{VertexKey}
 use Rattle.record_orders.specs.Keys.{vertex_key}
 use Rattle.record_orders.proofs.VertexKeys.{key_cmp}
 use Rattle.record_orders.proofs.Sorting.{all_members}
-use Rattle.present_graphs.proofs.Arranged.{arranged}
+use Rattle.plane_graphs.proofs.Arranged.{arranged}
 use Rattle.present_graphs.proofs.Ties.{same_numbers}
 use Rattle.segment_remove.specs.Ends.{two_ends, AreEnds}
+use Rattle.integers.proofs.Tests.{nat_exact, number_ties, both_equal}
+use Rattle.integers.proofs.Classes.{then_equal}
 
 key_cmp_total : IsTotalOrder key_cmp
 key_cmp_total = then_total (on_total (λ k. k.point) point_cmp_total) (on_total (λ k. k.name.0) nat_cmp_total)
 
-number_same : (m n : ℕ) → nat_cmp m n ≡ Equal → m ≡ n
-number_same m n e = grind arith
-
-first_equal : (a b : Ordering) → ordering_then a b ≡ Equal → (a ≡ Equal) × (b ≡ Equal)
-first_equal Less b e = cc
-first_equal Equal b e = (refl, e)
-first_equal Greater b e = cc
-
 key_exact : (x y : VertexKey) → key_cmp x y ≡ Equal → x ≡ y
 key_exact x y e =
-    let both = first_equal (point_cmp x.point y.point) (nat_cmp x.name.0 y.name.0) e in
+    let both = then_equal (point_cmp x.point y.point) (nat_cmp x.name.0 y.name.0) e in
     let at = same_point x.point y.point both.0 in
-    let named = number_same x.name.0 y.name.0 both.1 in
+    let named = nat_exact x.name.0 y.name.0 both.1 in
     λ i. record { point = at i; name = record { 0 = named i } }
-
--- keys are equal where their order does not tell them apart
-both_equal : (a b : Ordering) → is_eq a && is_eq b ≡ is_eq (ordering_then a b)
-both_equal Less b = refl
-both_equal Equal b = refl
-both_equal Greater b = refl
-
-number_ties : (m n : ℕ) → eqb m n ≡ is_eq (nat_cmp m n)
-number_ties m n = grind (arith, nat_tests)
 
 pub key_ties : (x y : VertexKey) → same_numbers x.point y.point && eqb x.name.0 y.name.0 ≡ eq_by_cmp key_cmp x y
 key_ties x y = ap₂ ◌&&◌ (point_cmp_ties x.point y.point) (number_ties x.name.0 y.name.0) ∙ both_equal (point_cmp x.point y.point) (nat_cmp x.name.0 y.name.0)
@@ -129,7 +113,7 @@ module _ (v : View) (s : IsGraphSound v) (ks : List DartKey) (have : AllByRecurs
     );
   })
 
--- ---- both ends of one edge more
+-- ---- both ends of one more edge
 pub two_pushed : (v : View) (k : DartKey) (now mid new : List VertexKey) (u w : VertexId) (x y : VertexKey) → u ≡ source_in v k.name → x ≡ vertex_key v u → mid ≡ now ++ x ∷ [] → w ≡ target_in v k.name → y ≡ vertex_key v w → new ≡ mid ++ y ∷ [] → new ≡ now ++ two_ends v k
 two_pushed v k now mid new u w x y i e m j f n = n ∙ ap (λ z. z ++ y ∷ []) m ∙ append_assoc now (x ∷ []) (y ∷ []) ∙ ap₂ (λ a b. now ++ a ∷ b ∷ []) (e ∙ ap (vertex_key v) i) (f ∙ ap (vertex_key v) j)
 

@@ -9,20 +9,20 @@ use Rattle.edit_steps.specs.Steps.{Step, missing_points, run, tidy_steps, with_t
 use Rattle.slab_laws.specs.View.{View}
 use Rattle.arr_notes.specs.Curves.{Curves, AreCurvesOf}
 use Rattle.slab_laws.specs.Sound.{IsGraphSound}
-use Rattle.curve_history.specs.Past.{Past, held}
-use Rattle.record_graphs.specs.Graph.{drawn_graph}
-use Rattle.record_layers.specs.Kept.{IsLayer, layer_of, Makes}
-use Rattle.record_layers.specs.Laws.{IsRun}
+use Rattle.curve_history.specs.Past.{Past, curves_on}
+use Rattle.sound_views.specs.RecordGraph.{drawn_graph}
+use Rattle.record_layers.specs.RecordLayers.{IsLayer, layer_of, IsRunOfSteps}
+use Rattle.record_layers.specs.LayerSteps.{IsRun}
 use Rattle.record_layers.proofs.Runs.{made_in_turn, made_is_run}
 use Rattle.redundant_vertices.specs.Left.{AreLeft}
 
 module _ (v : View) (r : Past) (l : IsLayer v r) (new : Present) (firsts : List Step) (is : run firsts (graph (layer_of v r).present) ≡ graph_over (vertices (layer_of v r).present) new.pieces new.pins)
-    (x : View) (k : Curves) (made : Makes v (held r) firsts x k) where
+    (x : View) (k : Curves) (made : IsRunOfSteps v (curves_on r) firsts x k) where
   abbrev o : Present
   o = (layer_of v r).present
 
-  ran : IsRun v (held r) firsts x k
-  ran = made_is_run v (held r) firsts x k l.sound l.curves made
+  ran : IsRun v (curves_on r) firsts x k
+  ran = made_is_run v (curves_on r) firsts x k l.sound l.curves made
 
   pub left_sound : IsGraphSound x
   left_sound = ran.sound
@@ -45,8 +45,8 @@ module _ (v : View) (r : Past) (l : IsLayer v r) (new : Present) (firsts : List 
   }
 
   -- the tidying goes on from there
-  pub tidied_made : (y : View) (j : Curves) → Makes x k (tidy_steps (missing_points (drawn_graph x k).points (vertices new)) (drawn_graph x k)) y j → Makes v (held r) (with_tidying o new firsts) y j
+  pub tidied_made : (y : View) (j : Curves) → IsRunOfSteps x k (tidy_steps (missing_points (drawn_graph x k).points (vertices new)) (drawn_graph x k)) y j → IsRunOfSteps v (curves_on r) (with_tidying o new firsts) y j
   unfolding with_tidying
   tidied_made y j m =
-      made_in_turn v (held r) firsts (tidy_steps (missing_points (vertices o) (vertices new)) (run firsts (graph o))) x k y j made
-      (subst (λ g. Makes x k (tidy_steps (missing_points (vertices o) (vertices new)) g) y j) (left_drawn ∙ sym is) (subst (λ ps. Makes x k (tidy_steps (missing_points ps (vertices new)) (drawn_graph x k)) y j) points m))
+      made_in_turn v (curves_on r) firsts (tidy_steps (missing_points (vertices o) (vertices new)) (run firsts (graph o))) x k y j made
+      (subst (λ g. IsRunOfSteps x k (tidy_steps (missing_points (vertices o) (vertices new)) g) y j) (left_drawn ∙ sym is) (subst (λ ps. IsRunOfSteps x k (tidy_steps (missing_points ps (vertices new)) (drawn_graph x k)) y j) points m))

@@ -1,10 +1,11 @@
+pub mod CurveLost
+pub mod EdgesReleased
 pub mod Cutting
 pub mod Touched
 pub mod Dropping
 pub mod Left
 pub mod Joined
 pub mod Refusals
-pub mod Kept
 pub mod CutMade
 pub mod DropMade
 pub mod EndsOf

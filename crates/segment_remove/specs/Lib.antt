@@ -1,2 +1,3 @@
+pub mod CurveLosses
 pub mod Refused
 pub mod Ends

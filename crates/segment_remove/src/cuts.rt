@@ -1,19 +1,17 @@
-ghost use Rattle.std.specs.Prelude.{◌≡◌, ◌≢◌, ◌⊎◌, ◌≤◌, ◌+◌, length, MatchOption, Ok, Err, IsOk, OnOk, OnErr};
-ghost use Rattle.slab_laws.specs.Sound.{edge_between};
-ghost use Rattle.edit_steps.specs.Edits.{steps};
-ghost use Rattle.edit_steps.specs.Layer.{layer_after};
-ghost use Rattle.edit_steps.specs.Steps.{with_cut};
-ghost use Rattle.curve_history.specs.Past.{held, SameLayer, SameCurves};
-ghost use Rattle.record_layers.specs.Kept.{IsLayer, layer_of, Makes};
-ghost use Rattle.segment_remove.specs.Refused.{cut_between, cut_refusal};
+ghost use Rattle.std.specs.Prelude.{◌≡◌, ◌≢◌, ◌≤◌, ◌+◌, length, Err, IsOk, OnOk, OnErr};
+ghost use Rattle.edit_steps.specs.Refusals.{IsAnswerFor};
+ghost use Rattle.curve_history.specs.Past.{SameLayer, SameCurves};
+ghost use Rattle.record_layers.specs.RecordLayers.{IsLayer};
+ghost use Rattle.segment_remove.specs.Refused.{cut_between, cut_refusal_at, cut_said, HasRoomToCut};
+ghost use Rattle.record_layers.specs.LayerEdits.{IsAfter, Makes};
 
+use crate::release::release_edge;
 use curve_history::History;
-use curve_release::release_edge;
 use dcel_records::Records;
-use edges_by_ends::edge_dart;
 use exact_plane::Point;
+use locate_naive::edge_dart;
 use no_memory::NoMemory;
-use redundant_vertices::tidy_all;
+use redundant_vertices::remove_redundant;
 use slab_laws::Darts;
 use std::alloc::Global;
 use thiserror::Error;
@@ -72,10 +70,10 @@ pub fn remove_edge(
 ) -> Result<(), CutError>
     requires layer { IsLayer records.old.graph history.old }
     ensures layer { IsLayer records.new.graph history.new }
-    ensures edit { OnOk result (layer_of records.new.graph history.new ≡ layer_after (cut_between p.now q.now) (layer_of records.old.graph history.old)) }
-    ensures steps { OnOk result (Makes records.old.graph (held history.old) (steps (cut_between p.now q.now) (layer_of records.old.graph history.old).present) records.new.graph (held history.new)) }
-    ensures refused { MatchOption (cut_refusal pieces (layer_of records.old.graph history.old).present (edge_between p.now q.now)) (IsOk result ⊎ (result ≡ Err CutError.NoMemory)) (λ e. result ≡ Err e) }
-    ensures room { length (with_cut (layer_of records.old.graph history.old).present (edge_between p.now q.now).low (edge_between p.now q.now).high).pieces ≤ length history.old.pieces + history.old.spare_pieces → result ≢ Err CutError.NoMemory }
+    ensures edit { OnOk result (IsAfter (cut_between p.now q.now) records.old history.old records.new history.new) }
+    ensures steps { OnOk result (Makes (cut_between p.now q.now) records.old history.old records.new history.new) }
+    ensures refused { IsAnswerFor cut_said (cut_refusal_at pieces records.old history.old p.now q.now) result }
+    ensures room { HasRoomToCut records.old history.old p.now q.now → result ≢ Err CutError.NoMemory }
     ensures graph { OnErr result (records.new.graph ≡ records.old.graph) }
     ensures same_layer { OnErr result (SameLayer history.old history.new) }
     ensures same_curves { OnErr result (SameCurves history.old history.new) }
@@ -94,6 +92,6 @@ pub fn remove_edge(
     make_room(history, left as u32)?;
     history.cut_pieces(&low, &high);
     release_edge(records, history, d);
-    tidy_all(records, history, &[source, target]);
+    remove_redundant(records, history, &[source, target]);
     Ok(())
 }

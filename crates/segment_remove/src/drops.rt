@@ -1,24 +1,24 @@
-ghost use Rattle.std.specs.Prelude.{◌≡◌, ◌⊎◌, ◌↔◌, map, MatchOption, Ok, Err, IsOk, IfOk, OnOk, OnErr};
+ghost use Rattle.std.specs.Prelude.{◌≡◌, ◌↔◌, map, IfOk, OnOk, OnErr};
 ghost use Rattle.std.specs.List.{AllByRecursion};
 ghost use Rattle.plane_graphs.specs.Ascending.{Member, IsAscending};
 ghost use Rattle.plane_graphs.specs.Graph.{edge_cmp};
 ghost use Rattle.slab_laws.specs.declared.names.DartId.{DartId as Dart};
-ghost use Rattle.edit_steps.specs.Edits.{Drop, steps};
-ghost use Rattle.edit_steps.specs.Layer.{layer_after};
-ghost use Rattle.curve_history.specs.Past.{held, SameLayer, SameCurves};
+ghost use Rattle.edit_steps.specs.Edits.{Drop};
+ghost use Rattle.edit_steps.specs.Refusals.{drop_refusal, IsAnswerFor};
+ghost use Rattle.curve_history.specs.Past.{curves_on, SameLayer, SameCurves};
 ghost use Rattle.record_orders.specs.Keys.{dart_key};
-ghost use Rattle.record_layers.specs.Kept.{IsLayer, layer_of, Makes};
-ghost use Rattle.edges_by_ends.specs.Edges.{edge_of_key};
-ghost use Rattle.segment_remove.specs.Refused.{drop_refusal};
+ghost use Rattle.record_layers.specs.RecordLayers.{IsLayer};
+ghost use Rattle.record_orders.specs.Edges.{edge_of_key};
+ghost use Rattle.segment_remove.specs.Refused.{drop_said};
+ghost use Rattle.record_layers.specs.LayerEdits.{layer_at, IsAfter, Makes};
 
 use crate::ends::ends_in_order;
+use crate::release::release_curve;
 use curve_history::{History, HistoryError};
-use curve_release::release_curve;
 use dcel_records::Records;
-use edges_by_ends::edges_in_order;
 use no_memory::NoMemory;
-use record_orders::DartKey;
-use redundant_vertices::tidy_all;
+use record_orders::{DartKey, edges_in_order};
+use redundant_vertices::remove_redundant;
 use slab_laws::CurveId;
 use std::alloc::Global;
 use thiserror::Error;
@@ -53,10 +53,10 @@ fn edges_of_curve(
 ) -> Result<Vec<DartKey>, DropError>
     requires { IsLayer records.now.graph history.now }
     ensures keys { IfOk result (λ ks. AllByRecursion (λ k. k ≡ dart_key records.now.graph k.name) ks.items) }
-    ensures all { IfOk result (λ ks. (d : Dart) → Member d (map (λ k. k.name) ks.items) ↔ Member curve.0 (held history.now d)) }
+    ensures all { IfOk result (λ ks. (d : Dart) → Member d (map (λ k. k.name) ks.items) ↔ Member curve.0 (curves_on history.now d)) }
     ensures ascend { IfOk result (λ ks. IsAscending edge_cmp (map edge_of_key ks.items)) }
     ensures named { OnOk result (Member curve.0 history.now.names) }
-    ensures refused { MatchOption (drop_refusal history.now.names curve.0) (IsOk result ⊎ (result ≡ Err DropError.NoMemory)) (λ e. result ≡ Err e) }
+    ensures refused { IsAnswerFor drop_said (drop_refusal (layer_at records.now history.now) curve.0) result }
 {
     let darts = match history.edges_of(alloc, curve) {
         Ok(darts) => darts,
@@ -67,7 +67,7 @@ fn edges_of_curve(
     Ok(edges)
 }
 
-/// A curve goes: from its edges, which go where no other curve runs along them; then each vertex that nothing calls for any
+/// A curve goes: from its edges, which go where no other curve runs along them; then each vertex that is redundant any
 /// more (CGAL manual, `remove_curve`).
 ///
 /// It looks at the curve's edges and at what ends there, not at other edges. All memory is taken before the first change.
@@ -83,9 +83,9 @@ pub fn remove_curve(
 ) -> Result<(), DropError>
     requires layer { IsLayer records.old.graph history.old }
     ensures layer { IsLayer records.new.graph history.new }
-    ensures edit { OnOk result (layer_of records.new.graph history.new ≡ layer_after (Drop curve.0) (layer_of records.old.graph history.old)) }
-    ensures steps { OnOk result (Makes records.old.graph (held history.old) (steps (Drop curve.0) (layer_of records.old.graph history.old).present) records.new.graph (held history.new)) }
-    ensures refused { MatchOption (drop_refusal (layer_of records.old.graph history.old).names curve.0) (IsOk result ⊎ (result ≡ Err DropError.NoMemory)) (λ e. result ≡ Err e) }
+    ensures edit { OnOk result (IsAfter (Drop curve.0) records.old history.old records.new history.new) }
+    ensures steps { OnOk result (Makes (Drop curve.0) records.old history.old records.new history.new) }
+    ensures refused { IsAnswerFor drop_said (drop_refusal (layer_at records.old history.old) curve.0) result }
     ensures graph { OnErr result (records.new.graph ≡ records.old.graph) }
     ensures same_layer { OnErr result (SameLayer history.old history.new) }
     ensures same_curves { OnErr result (SameCurves history.old history.new) }
@@ -94,6 +94,6 @@ pub fn remove_curve(
     let vertices = ends_in_order(alloc, &*records, &edges)?;
     release_curve(records, history, &edges, curve);
     history.drop_name(curve);
-    tidy_all(records, history, &vertices);
+    remove_redundant(records, history, &vertices);
     Ok(())
 }

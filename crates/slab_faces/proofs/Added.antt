@@ -13,9 +13,9 @@ use Rattle.slab_laws.specs.Meets.{IsOnWall, IsOpenAbove, covers_above, Meets, Sa
 use Rattle.slab_laws.specs.Slabs.{spans, place, slab_left, slab_right, reaches_left, reaches_right, left_cell, right_cell, forward_cell, backward_cell}
 use Rattle.slab_laws.specs.declared.slab_cell.SlabCell.{SlabCell}
 use Rattle.slab_laws.specs.Changes.{merged, IsCell}
-use Rattle.slab_faces.specs.Laws.{IsSplitBy, whole, over_under, under_over}
-use Rattle.slab_faces.proofs.Cells.{IsSideOf, right_few, left_side, right_side, place_over, place_under, spans_left, spans_right}
-use Rattle.slab_faces.proofs.Along.{covers_parts, equal_trans, below_self}
+use Rattle.slab_faces.specs.FaceLaws.{IsSplitBy, whole, over_under, under_over}
+use Rattle.slab_faces.proofs.Cells.{IsSideOf, right_few, left_side, right_side, place_over, place_under, spans_left, spans_right, not_right_trans}
+use Rattle.slab_faces.proofs.Along.{covers_parts, below_self}
 use Rattle.slab_faces.proofs.Walls.{on_wall_parts}
 use Rattle.slab_faces.proofs.Turns.{face_trans, face_sym, member_cases, wall_before, on_own_wall, chain, le_antisym, above_e, below_e, over_wall, under_wall}
 
@@ -76,7 +76,7 @@ open_up g e t plane T h o = record {
     | inl k ↦ subst (λ x. covers_above x t ≡ false) k (false_from_ne_true _ (λ c.
         let u = (covers_parts e t c).0 in
         let p = plane.proper_edge e (first g e) in
-        false≢true (sym (equal_trans e.high t e.low p.1 T p.0 u.upper_2 u.lower_1) ∙ h)))
+        false≢true (sym (not_right_trans e.high t e.low p.1 T p.0 u.upper_2 u.lower_1) ∙ h)))
     | inr i ↦ o.open_at f i
   ];
 }

@@ -10,13 +10,13 @@ use Rattle.slab_laws.specs.Skeleton.{Skeleton, HasWeight, left_of, on_wall, over
 use Rattle.slab_laws.specs.Meets.{IsOnWall, covers_above, Meets, SameFace, across, here, right, left}
 use Rattle.slab_laws.specs.Slabs.{slab_left, slab_right, reaches_left, reaches_right, left_count, right_count, left_cell, right_cell}
 use Rattle.slab_laws.specs.declared.slab_cell.SlabCell.{SlabCell}
-use Rattle.slab_faces.specs.Laws.{IsSplitBy, whole, over_under, under_over}
+use Rattle.slab_faces.specs.FaceLaws.{IsSplitBy, whole, over_under, under_over}
 use Rattle.slab_faces.proofs.Walls.{on_wall_parts, left_of-before, left_of-after, left_of-irrefl, lower_than-irrefl}
 use Rattle.slab_faces.proofs.Along.{covers_parts}
 use Rattle.slab_faces.proofs.Turns.{face_sym, member_cases, on_own_wall}
 use Rattle.slab_faces.proofs.Corners.{IsAlong, along_left, along_right, same_before, same_after}
 use Rattle.slab_faces.proofs.Sums.{each, sum_by-same}
-use Rattle.slab_faces.proofs.Added.{first, wall_down, wall_up, open_down, split_trans}
+use Rattle.slab_faces.proofs.Added.{first, wall_up, split_trans}
 
 -- a vertical edge reaches no wall from a side
 no_left : (e : Edge) (t : Point) → HasWeight e.low → HasWeight e.high → HasWeight t → on_wall e.low e.high ≡ true → reaches_left e t ≡ false
@@ -44,20 +44,11 @@ same_right g e t plane T h =
     let a : right_count (with_edge g e) t ≡ right_count g t = one_out (reaches_right e t) (over e t) _ _ (no_right e t p.0 p.1 T h) (sum_by-cons (λ f. cond (reaches_right f t && not (over f t)) 1 0) e g.edges) in
     λ i. record { slab = slab_right g t; place = a i }
 
-pub upright_down : (g : Skeleton) (e : Edge) (c d : SlabCell) → IsPlaneSkeleton (with_edge g e) → on_wall e.low e.high ≡ true → SameFace (with_edge g e) c d → SameFace g c d
-upright_down g e c d plane h (here c') = here _
-upright_down g e c d plane h (right b x d' s (across t wall free)) =
-    let m : Meets g (left_cell g t) (right_cell g t) = across t (wall_down g e t wall) (open_down g e t free) in
-    right _ _ _ (upright_down g e b x plane h s) (subst (λ (p : SlabCell × SlabCell). Meets g p.0 p.1) (λ i. (sym (same_left g e t plane wall.proper h) i, sym (same_right g e t plane wall.proper h) i)) m)
-upright_down g e c d plane h (left b x d' s (across t wall free)) =
-    let m : Meets g (left_cell g t) (right_cell g t) = across t (wall_down g e t wall) (open_down g e t free) in
-    left _ _ _ (upright_down g e b x plane h s) (subst (λ (p : SlabCell × SlabCell). Meets g p.0 p.1) (λ i. (sym (same_left g e t plane wall.proper h) i, sym (same_right g e t plane wall.proper h) i)) m)
-
 -- the cells on the two sides of e
-abbrev side_left : Skeleton → Edge → SlabCell
+abbrev side_left : (g : Skeleton) (e : Edge) → SlabCell
 side_left g e = left_cell (with_edge g e) e.low
 
-abbrev side_right : Skeleton → Edge → SlabCell
+abbrev side_right : Skeleton → (e : Edge) → SlabCell
 side_right g e = right_cell (with_edge g e) e.low
 
 -- where e covers the wall above t, t's cells are those

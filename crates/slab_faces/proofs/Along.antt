@@ -11,12 +11,13 @@ use Rattle.plane_graphs.specs.Graph.{Edge}
 use Rattle.slab_laws.specs.Skeleton.{Skeleton, HasWeight, left_of, lower_than, on_wall, run, side, over, below, crosses, IsPlaneSkeleton, same_edge}
 use Rattle.slab_laws.specs.Meets.{IsOnWall, IsOpenAbove, covers_above, Meets, SameFace, across, here, right}
 use Rattle.slab_laws.specs.Slabs.{spans, place, slab_left, slab_right, reaches_left, reaches_right, left_count, right_count}
-use Rattle.slab_faces.proofs.Ints.{as_dif, dif_add, dif_sub, dif_mul, dif_same, times_up, times_less, less_back, zero_back, times_negatives, times_mixed}
+use Rattle.slab_faces.proofs.Ints.{as_dif, dif_add, dif_sub, dif_mul, dif_same, times_less, less_back, zero_back, times_negatives, times_mixed}
 use Rattle.slab_faces.proofs.Sums.{each, sum_by-same, sum_by-plus}
 use Rattle.slab_faces.proofs.Walls.{left_of-asym, left_of-before, left_of-after, run_positive, on_line, same_abscissa, side-lower, side-upper, on_wall_parts}
 use Rattle.slab_faces.proofs.Order.{below_from, below_asym, gap-on_e, gap-swap}
-use Rattle.slab_faces.proofs.Cells.{IsSideOf, left_side, right_side}
-use Rattle.slab_faces.proofs.Slabs.{IsThrough, same_edge_from_touch, same_edge_is, same_edge_refl}
+use Rattle.slab_faces.proofs.Cells.{IsSideOf, left_side, right_side, not_right_trans}
+use Rattle.slab_faces.proofs.Slabs.{IsThrough, same_edge_from_touch, same_edge_is, same_edge_refl, zero_not_over}
+use Rattle.integers.proofs.Signs.{mul_pos'}
 
 -- t lies on e, strictly between its ends, and on a wall
 pub record IsOn (g : Skeleton) (e : Edge) (t : Point) : Type 0 where
@@ -38,7 +39,7 @@ pub side_above : (e : Edge) (t v : Point) → HasWeight t → pos 0 <ℤ run e �
 unfolding lower_than
 side_above e t v T R z a b h =
     let i = height_on e t v z a b in
-    let k = times_up (run e) (v.y *ℤ t.w -ℤ t.y *ℤ v.w) R (omega (arith, ints)) in
+    let k = mul_pos' (run e) (v.y *ℤ t.w -ℤ t.y *ℤ v.w) R (omega (arith, ints)) in
     let o = *ℤ-zero t.w in
     less_back t.w (pos 0) (side e v) T (omega (arith, ints))
 
@@ -129,9 +130,6 @@ pub record IsUpright (f : Edge) (t : Point) : Type 0 where
   pub upper_1 : left_of f.high t ≡ false
   pub upper_2 : left_of t f.high ≡ false
 
-pub equal_trans : (p q r : Point) → HasWeight p → HasWeight q → HasWeight r → left_of q p ≡ false → left_of r q ≡ false → left_of r p ≡ false
-equal_trans p q r P Q R a b = false_from_ne_true _ (λ h. false≢true (sym a ∙ left_of-after q r p Q R P b h))
-
 -- no vertical edge goes from below t to above it
 pub no_upright : (g : Skeleton) (e f : Edge) (t : Point) → IsOn g e t → Contains g.edges f → IsUpright f t → lower_than f.low t ≡ true → lower_than t f.high ≡ true → ⊥
 unfolding crosses
@@ -140,8 +138,8 @@ no_upright g e f t o F u h k =
     let q = o.plane.proper_edge e o.E in
     let T = o.wall.proper in
     let R = run_positive e (left_of-before e.low t e.high q.0 T q.1 o.through.from (left_of-asym _ _ o.through.to)) in
-    let a1 = equal_trans f.high t f.low p.1 T p.0 u.upper_2 u.lower_1 in
-    let a2 = equal_trans f.low t f.high p.0 T p.1 u.lower_2 u.upper_1 in
+    let a1 = not_right_trans f.high t f.low p.1 T p.0 u.upper_2 u.lower_1 in
+    let a2 = not_right_trans f.low t f.high p.0 T p.1 u.lower_2 u.upper_1 in
     let c = o.plane.upright f F (rw (a1, a2) refl) in
     let s1 = upright_left f e.low p.0 a1 a2 c (left_of-before e.low t f.low q.0 T p.0 o.through.from u.lower_1) in
     let s2 = upright_right f e.high p.0 a1 a2 c (left_of-after f.low t e.high p.0 T q.1 u.lower_2 o.through.to) in
@@ -248,10 +246,6 @@ not_negative f t h = sym (omega (arith, ints))
 pub negative : (f : Edge) (t : Point) → side f t <ℤ pos 0 → over f t ≡ true
 unfolding over
 negative f t h = sym (omega (arith, ints))
-
-pub zero_not_over : (f : Edge) (t : Point) → side f t ≡ pos 0 → over f t ≡ false
-unfolding over
-zero_not_over f t h = rw h refl
 
 pub below_self : (g : Skeleton) (e : Edge) → IsPlaneSkeleton g → Contains g.edges e → below e e ≡ false
 below_self g e plane E = false_from_ne_true _ (λ h. below_asym g e e plane E E h h)

@@ -45,7 +45,7 @@ right_many g p t plane in' T h =
     (λ v i k. ap not (left_of-asym v p (left_of-after v t p (plane.proper v i) T P (not-true _ k) h)))
 
 -- ---- so an edge spans the slab beside the wall where it reaches the wall
-both : (a b c d : Bool) → a ≡ c → b ≡ d → (a && b) ≡ (c && d)
+pub both : (a b c d : Bool) → a ≡ c → b ≡ d → (a && b) ≡ (c && d)
 both a b c d e f = rw (e, f) refl
 
 leb_by : (m n : ℕ) (b : Bool) → (b ≡ true → m ≤ n) → (b ≡ false → n < m) → leb m n ≡ b
@@ -154,7 +154,7 @@ place_under g t i reach e plane s E re o =
     let rf = sym (s.spanned f F) ∙ a.0 in
     and_from _ _ rf (ap not (false_from_ne_true _ (λ k. below_asym g f e plane F E a.1 (ordered g t i reach e f s E F re rf o k)))))
 
-on_side : (x y r o : Bool) → x ≡ r → (r ≡ true → y ≡ o) → (x && y) ≡ (r && o)
+pub on_side : (x y r o : Bool) → x ≡ r → (r ≡ true → y ≡ o) → (x && y) ≡ (r && o)
 on_side x y true o e h = rw e (h refl)
 on_side x y false o e h = rw e refl
 

@@ -53,10 +53,6 @@ module _ {X : Type 0} (same below : X → X → Bool) (o : IsExact same) where
   unfolding class_of with_link
   class_of-with ls m x = told ls m.one x _ (same m.one x) refl (told ls m.other x _ (same m.other x) refl refl)
 
-  true_or : (t : Bool) → cond t true true ≡ true
-  true_or true = refl
-  true_or false = refl
-
   later : (t u : Bool) → u ≡ true → cond t true u ≡ true
   later true u e = refl
   later false u e = e

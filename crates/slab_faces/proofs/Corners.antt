@@ -15,10 +15,10 @@ use Rattle.slab_faces.proofs.Ints.{times_less}
 use Rattle.slab_faces.proofs.Sums.{each, sum_by-same, sum_by-plus}
 use Rattle.slab_faces.proofs.Walls.{left_of-before, left_of-after, left_of-irrefl, run_positive, lower_than-after, side_rises}
 use Rattle.slab_faces.proofs.Order.{below_from, below_asym, gap-on_e, gap-swap}
-use Rattle.slab_faces.proofs.Cells.{left_side, right_side}
-use Rattle.slab_faces.proofs.Slabs.{IsSlab, through, by_gap, below_at, gap_at, gap_trans, run_through, same_edge_is, same_edge_refl}
+use Rattle.slab_faces.proofs.Cells.{left_side, right_side, not_right_trans as level_trans}
+use Rattle.slab_faces.proofs.Slabs.{IsSlab, through, by_gap, below_at, gap_at, gap_trans, run_through, same_edge_is, same_edge_refl, zero_not_over}
 use Rattle.slab_faces.proofs.Nudge.{left_inside, right_inside, is_slab_left, is_slab_right}
-use Rattle.slab_faces.proofs.Along.{IsReach, left_reach, right_reach, IsUpright, no_upright, side_above, side_below, side_level, equal_trans, below_self, not_negative, negative, zero_not_over, covers_parts}
+use Rattle.slab_faces.proofs.Along.{IsReach, left_reach, right_reach, IsUpright, no_upright, side_above, side_below, side_level, below_self, not_negative, negative, covers_parts}
 use Rattle.slab_faces.proofs.Beneath.{beneath, deep, deep_up, deep_vertex, deep_edge, beneath_before, beneath_after, vertex_below, vertex_not_below, still_under, now_over, beneath_on_wall}
 use Rattle.slab_faces.proofs.Turns.{one_more, foot_is_on, foot_before, foot_after}
 use Rattle.slab_faces.proofs.Upright.{not_inside}
@@ -213,9 +213,6 @@ pub record IsAlong (g : Skeleton) (s : Edge) (u : Point) : Type 0 where
   pub from : lower_than u s.low ≡ false
   pub to : lower_than u s.high ≡ true
 
-level_trans : (p q r : Point) → HasWeight p → HasWeight q → HasWeight r → left_of q p ≡ false → left_of r q ≡ false → left_of r p ≡ false
-level_trans p q r P Q R a b = equal_trans p q r P Q R a b
-
 -- a point of the wall where f is, neither at or below u nor at or above s's upper end: there is none
 no_point : (g : Skeleton) (s f : Edge) (u : Point) (i : ℕ) (reach : Edge → Bool) → IsAlong g s u → IsReach g u i reach → Contains g.edges f → reach f ≡ true → pos 0 <ℤ run f → side f u <ℤ pos 0 → pos 0 <ℤ side f s.high → ⊥
 no_point g s f u i reach a r F h R x y =
@@ -252,9 +249,9 @@ no_point g s f u i reach a r F h R x y =
           not_inside g s v.0 plane a.S v.1 (record { lower_1 = d1; lower_2 = d2; upper_1 = c1'; upper_2 = c2 }) m l
     ]
 
-over_is : (f : Edge) (t : Point) → over f t ≡ false → pos 0 ≤ℤ side f t
+pub not_over : (f : Edge) (t : Point) → over f t ≡ false → pos 0 ≤ℤ side f t
 unfolding over
-over_is f t h = omega (arith, ints)
+not_over f t h = omega (arith, ints)
 
 over_was : (f : Edge) (t : Point) → over f t ≡ true → side f t <ℤ pos 0
 unfolding over
@@ -271,7 +268,7 @@ along_same g s f u i reach a r F h =
     let Q = (a.plane.proper_edge s a.S).1 in
     elim (cases_Bool (over f u)) [
       | inl k ↦ ap not k ∙ sym (false_from_ne_true _ (λ l. no_point g s f u i reach a r F h R (over_was f u k) (under_is f s.high l)))
-      | inr k ↦ ap not k ∙ sym (positive_under f s.high (side_rises f u s.high a.wall.proper Q R a.upright.upper_2 a.upright.upper_1 a.to (over_is f u k)))
+      | inr k ↦ ap not k ∙ sym (positive_under f s.high (side_rises f u s.high a.wall.proper Q R a.upright.upper_2 a.upright.upper_1 a.to (not_over f u k)))
     ]
 
 pub alike : (r r' x y : Bool) → r ≡ r' → (r ≡ true → x ≡ y) → cond {A = ℕ} (r && x) 1 0 ≡ cond (r' && y) 1 0

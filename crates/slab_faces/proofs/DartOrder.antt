@@ -15,7 +15,7 @@ use Rattle.slab_laws.specs.Skeleton.{Skeleton, left_of, lower_than, on_wall, IsP
 use Rattle.slab_laws.specs.Darts.{Dart, darts, source, target}
 use Rattle.slab_laws.specs.Rotation.{dart_cmp, dart_below, same_dart, next}
 use Rattle.slab_laws.specs.Cycles.{dart_labels}
-use Rattle.slab_laws.specs.Rows.{dart_list, lead_of}
+use Rattle.slab_laws.specs.Rows.{dart_list, least_dart_of}
 use Rattle.slab_faces.proofs.Member.{Member, in_member, map_out}
 use Rattle.slab_faces.proofs.ClassesLemmas.{connected, IsEquivalence}
 use Rattle.slab_faces.proofs.NextLemmas.{darts_exact, dart_out}
@@ -24,7 +24,7 @@ use Rattle.slab_faces.proofs.CyclesLemmas.{one_cycle}
 pub dart_cmp_total : IsTotalOrder dart_cmp
 dart_cmp_total = then_total (on_total source point_cmp_total) (on_total target point_cmp_total)
 
-lower_both : (p q : Point) → lower_than p q ≡ true → lower_than q p ≡ true → ⊥
+pub lower_both : (p q : Point) → lower_than p q ≡ true → lower_than q p ≡ true → ⊥
 unfolding lower_than
 lower_both p q h k = omega (arith, ints)
 
@@ -76,12 +76,12 @@ module _ (g : Skeleton) (plane : IsPlaneSkeleton g) where
 -- ---- the least dart of a cycle
 module _ (g : Skeleton) where
   -- what holds along `next` holds of a dart and the least one of its cycle
-  pub along : (R : Dart → Dart → Type 0) → IsEquivalence R → ((d : Dart) → Member (darts g) d → R d (next (darts g) d)) → (d : Dart) → R d (lead_of g d)
+  pub along : (R : Dart → Dart → Type 0) → IsEquivalence R → ((d : Dart) → Member (darts g) d → R d (next (darts g) d)) → (d : Dart) → R d (least_dart_of g d)
   unfolding dart_labels
   along R q step d = connected same_dart dart_below darts_exact R q (map (link g) (darts g)) (λ m h. go m (map_out (link g) (darts g) m h)) d
     where
       go : (m : Link Dart) → ((d : Dart) × Member (darts g) d × (link g d ≡ m)) → R m.one m.other
       go m w = subst (λ k. R k.one k.other) w.2 (step w.0 w.1)
 
-  pub lead_lead : (d : Dart) → lead_of g (lead_of g d) ≡ lead_of g d
-  lead_lead d = sym (along (λ x y. lead_of g x ≡ lead_of g y) (record { itself = λ x. refl; back = λ x y h. sym h; on = λ x y z h k. h ∙ k }) (λ x h. one_cycle g x h) d)
+  pub lead_lead : (d : Dart) → least_dart_of g (least_dart_of g d) ≡ least_dart_of g d
+  lead_lead d = sym (along (λ x y. least_dart_of g x ≡ least_dart_of g y) (record { itself = λ x. refl; back = λ x y h. sym h; on = λ x y z h k. h ∙ k }) (λ x h. one_cycle g x h) d)

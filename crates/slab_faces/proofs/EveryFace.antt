@@ -31,6 +31,7 @@ use Rattle.slab_faces.proofs.Member.{Member, in_member, map_out, flat_out}
 use Rattle.slab_faces.proofs.FacesLemmas.{cells_exact, one_label}
 use Rattle.slab_faces.proofs.WallsLemmas.{wall_vertex}
 use Rattle.slab_faces.proofs.OuterCycles.{outer_cycles_of_faces}
+use Rattle.slab_faces.proofs.Searches.{range_below}
 
 -- ---- what passes, or that nothing does
 pub passing : {X : Type 0} (p : X → Bool) (xs : List X) (x : X) → Contains xs x → p x ≡ true → 0 < count_by p xs
@@ -196,11 +197,6 @@ first_width g plane = none_counted (spans g 0) g.edges (λ e E. false_from_ne_tr
     let c = passing (λ v. not (left_of e.low v)) g.vertices e.low (plane.lower_in e E) (ap not (left_of-irrefl e.low)) in
     absurd (omega arith)))
 
-out_range : (a n j : ℕ) → Member (range_with_len a n) j → j < a + n
-out_range a zero j h = absurd h
-out_range a (suc n) j (inl e) = omega arith
-out_range a (suc n) j (inr h) = let k = out_range (a + 1) n j h in omega arith
-
 in_slab : (g : Skeleton) (w : Point) (j : ℕ) → IsPlaneSkeleton g → Contains g.vertices w → j ≤ width g (slab_right g w) → IsCounted g (record { slab = slab_right g w; place = j })
 unfolding top_cell
 in_slab g w j plane W h =
@@ -230,5 +226,5 @@ outer_cycles_of_every_face g c plane in' =
     let r = flat_out (slab_cells g) (0 ∷ map (slab_right g) (walls g)) c (in_member (cells g) c in') in
     let i = r.0 in
     let j = map_out (λ j. record { slab = i; place = j }) (range_with_len 0 (suc (width g i))) c r.2 in
-    let l = out_range 0 (suc (width g i)) j.0 j.1 in
+    let l = range_below 0 (suc (width g i)) j.0 j.1 in
     subst (IsCounted g) j.2 (any_slab g i j.0 plane r.1 (omega arith))

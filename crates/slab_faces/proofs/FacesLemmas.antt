@@ -12,13 +12,13 @@ use Rattle.slab_laws.specs.Skeleton.{Skeleton, HasWeight, left_of, lower_than, o
 use Rattle.slab_laws.specs.Meets.{IsOnWall, IsOpenAbove, Meets, SameFace, across, here, right, left}
 use Rattle.slab_laws.specs.Slabs.{slab_left, slab_right, reaches_left, reaches_right, left_count, right_count}
 use Rattle.slab_laws.specs.declared.slab_cell.SlabCell.{SlabCell}
-use Rattle.slab_faces.proofs.Ints.{as_dif, dif_add, dif_sub, dif_mul, dif_same}
+use Rattle.slab_faces.proofs.Ints.{as_dif, dif_add, dif_sub, dif_mul, dif_same, swapped}
 use Rattle.slab_faces.proofs.Sums.{each, sum_by-same, sum_by-none}
 use Rattle.slab_faces.proofs.Walls.{run_positive}
 use Rattle.slab_faces.proofs.Cells.{left_side, right_side}
 use Rattle.slab_faces.proofs.Nudge.{large}
 use Rattle.slab_faces.proofs.Along.{covers_parts, negative, open_above}
-use Rattle.slab_faces.proofs.Outside.{at_least, turned}
+use Rattle.slab_faces.proofs.Outside.{at_least}
 use Rattle.slab_faces.proofs.Turns.{face_trans, face_sym, on_own_wall, foot_is_on}
 use Rattle.slab_laws.specs.declared.classes.Link.{Link}
 use Rattle.slab_laws.specs.Faces.{is_lowest, walls, passes, is_open, link_at, corner_links, foot_links, wall_links, links, face_labels, face_of, same_cell, cell_below}
@@ -68,7 +68,7 @@ low_vertex g t v in' V =
     let a = at_least v.w (depth g t) V (depth_up g t) in
     let b = depth_vertex g t v in' in
     let c = spread t.y (depth g t) v.w in
-    let d = turned v.w (depth g t) in
+    let d = swapped v.w (depth g t) in
     sym (omega (arith, ints))
 
 none_at : (g : Skeleton) (t : Point) (reach : Edge → Bool) → ((e : Edge) → Contains g.edges e → reach e ≡ true → pos 0 <ℤ run e) → count_by (λ e. reach e && not (over e (low g t))) g.edges ≡ 0

@@ -1,3 +1,7 @@
+pub mod InnerPoints
+pub mod SharedEnds
+pub mod MarkedEdges
+pub mod SkeletonsDrawn
 pub mod Found
 pub mod Ints
 pub mod Sums
@@ -26,7 +30,6 @@ pub mod RingLemmas
 pub mod RotationLemmas
 pub mod NextLemmas
 pub mod CyclesLemmas
-pub mod AscendingLemmas
 pub mod PlaneGraphs
 pub mod CyclesOfFaces
 pub mod DartOrder

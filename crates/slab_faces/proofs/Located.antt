@@ -13,11 +13,11 @@ use Rattle.slab_laws.specs.Listed.{distinct}
 use Rattle.slab_laws.specs.Faces.{face_labels, face_of, same_cell, cells}
 use Rattle.slab_laws.specs.Subdivision.{Cycle, subdivision, holds, holds_in, spot_on, ranked, first_cell}
 use Rattle.slab_faces.specs.LocationLaws.{LocationIsOne, IsNoVertex}
-use Rattle.slab_faces.proofs.Parity.{same_point_is}
 use Rattle.slab_faces.proofs.FacesLemmas.{cells_exact}
 use Rattle.slab_faces.proofs.Member.{Member, member_in, in_member, append_right, map_in, distinct_in}
 use Rattle.slab_faces.proofs.Searches.{found, unfound, first_there}
 use Rattle.slab_faces.proofs.WallsLemmas.{cell_there}
+use Rattle.slab_faces.proofs.Parity.{same_point_is}
 
 -- ---- where the answer comes from
 vertex_from : (o : Option Point) (e : Option Edge) (k : ℕ) (p : Point) → spot_on o e k ≡ Vertex p → o ≡ Some p

@@ -16,10 +16,10 @@ use Rattle.slab_laws.specs.Subdivision.{Cycle, subdivision, cycles, ranked, hold
 use Rattle.slab_laws.specs.Darts.{darts}
 use Rattle.slab_faces.specs.LocationLaws.{IsNoVertex}
 use Rattle.slab_faces.specs.Locations.{LocationIs, CellsHaveFaces}
-use Rattle.slab_faces.proofs.Parity.{same_point_is, same_point_refl}
 use Rattle.slab_faces.proofs.Member.{Member, member_in, in_member, filter_out, map_in, append_right, distinct_in}
 use Rattle.slab_faces.proofs.ClassesLemmas.{IsExact}
 use Rattle.slab_faces.proofs.FacesLemmas.{cells_exact}
+use Rattle.slab_faces.proofs.Parity.{same_point_is, same_point_refl}
 
 -- ---- the first that passes a test
 module _ {X : Type 0} (p : X → Bool) where

@@ -1,11 +1,10 @@
 -- The way round a vertex from a dart to the next stays in one face.
 use Rattle.std.proofs.Common.{◌≡◌, ℕ, ◌+◌, ◌-◌, ◌<◌, ◌≤◌, Bool, true, false, arith, refl, sym, ap, ◌∙◌, subst, zero, suc}
-use Rattle.std.specs.Prelude.{pos, not, ◌&&◌}
+use Rattle.std.specs.Prelude.{pos, not, ◌&&◌, ◌<ℤ◌}
 use Rattle.std.specs.List.{Contains}
 use Rattle.std.proofs.lemmas.Bool.{false≢true, and_parts, and_from, or_left, not-true, false_from_ne_true}
 use lib.Signed.{lt_z}
 use Rattle.std.proofs.lemmas.Int.{ints}
-use Rattle.std.specs.Prelude.{◌<ℤ◌}
 use Rattle.exact_plane.specs.Point.{Point}
 use Rattle.plane_graphs.specs.Graph.{Edge}
 use Rattle.slab_laws.specs.Skeleton.{Skeleton, HasWeight, left_of, lower_than, run, side, below, IsPlaneSkeleton}
@@ -14,8 +13,8 @@ use Rattle.slab_laws.specs.declared.slab_cell.SlabCell.{SlabCell}
 use Rattle.slab_laws.specs.Meets.{SameFace, here}
 use Rattle.slab_laws.specs.Darts.{start, kind, class, cell_by, cell_of, Earlier, by_class, on_left, on_right, IsOut, IsTurn, on, round}
 use Rattle.slab_faces.proofs.Walls.{left_of-irrefl, left_of-after, run_positive, lower_than-irrefl, over-lower, side-lower, side-upper}
-use Rattle.slab_faces.proofs.Slabs.{no_order}
-use Rattle.slab_faces.proofs.Along.{side_below, zero_not_over}
+use Rattle.slab_faces.proofs.Slabs.{no_order, zero_not_over}
+use Rattle.slab_faces.proofs.Along.{side_below}
 use Rattle.slab_faces.proofs.Turns.{face_trans, face_sym, on_own_wall, level_at, above_to_last, below_to_last}
 use Rattle.slab_faces.proofs.Corners.{IsAt, IsAlong, left_fan, right_fan, next_place, top_place, bottom_place, along_left, along_right}
 use Rattle.slab_faces.proofs.AddedUpright.{one_slab_left, one_slab_right}

@@ -3,21 +3,21 @@ use Rattle.std.proofs.Common.{◌≡◌, map, Bool, true, false, cond, refl, sym
 use Rattle.std.specs.Prelude.{not, ◌&&◌, filter}
 use Rattle.std.specs.List.{Contains}
 use Rattle.std.proofs.lemmas.Bool.{false≢true, and_parts, and_from}
-use Rattle.slab_laws.specs.Darts.{ahead, back, start, IsOut, IsTurn, on, round, cell_of}
+use Rattle.slab_laws.specs.Darts.{ahead, back, start, IsOut, IsTurn, on, round, cell_of, Dart, source, target, darts}
 use Rattle.exact_plane.specs.Point.{Point}
 use Rattle.plane_graphs.specs.Graph.{Edge}
 use Rattle.slab_laws.specs.Skeleton.{Skeleton, same_point, same_edge, IsPlaneSkeleton}
 use Rattle.slab_laws.specs.Meets.{SameFace}
-use Rattle.slab_faces.proofs.Parity.{same_point_is, same_point_refl}
 use Rattle.slab_faces.proofs.Slabs.{same_edge_is, same_edge_refl}
 use Rattle.slab_faces.proofs.Next.{turn_keeps}
 use Rattle.plane_graphs.specs.Ascending.{ascending}
-use Rattle.slab_laws.specs.Rotation.{twin, same_way, same_dart, earlier, turn_cmp, ring, after_in, after, next}
-use Rattle.slab_laws.specs.Darts.{Dart, source, target, darts}
+use Rattle.slab_laws.specs.Rotation.{twin, same_way, same_dart, earlier, turn_cmp, ring, after_in, after, next, OutOf}
 use Rattle.slab_faces.proofs.Member.{Member, member_in, in_member, filter_in, filter_out, map_in, map_out, append_left, append_right, append_cases}
 use Rattle.slab_faces.proofs.ClassesLemmas.{IsExact}
 use Rattle.slab_faces.proofs.RingLemmas.{IsRound, order, AllIn, Sorted, sorted_in, sorted_out, is_sorted, IsNext, IsLast, first_is, next_head, next_tail, last_tail, one_next, one_last}
-use Rattle.slab_faces.proofs.RotationLemmas.{OutOf, earlier_out, earlier_in, round_at}
+use Rattle.slab_faces.proofs.RotationLemmas.{earlier_out, earlier_in, round_at}
+use Rattle.slab_faces.proofs.Parity.{same_point_is, same_point_refl}
+use Rattle.integers.proofs.Tests.{not_not}
 
 -- ---- darts
 dart_path : (d e : Dart) → d.edge ≡ e.edge → d.forward ≡ e.forward → d ≡ e
@@ -155,10 +155,6 @@ pub start_in : (g : Skeleton) (e : Edge) (f : Bool) → IsPlaneSkeleton g → Co
 start_in g e true plane E = plane.lower_in e E
 start_in g e false plane E = plane.upper_in e E
 
-twice : (b : Bool) → not (not b) ≡ b
-twice true = refl
-twice false = refl
-
 twin_in : (g : Skeleton) (d : Dart) → IsPlaneSkeleton g → (E : Contains g.edges d.edge) → Member (ring (darts g) (target d)) (twin d)
 twin_in g d plane E = ring_in g (target d) plane (start_in g d.edge (not d.forward) plane E) d.edge (not d.forward) (record { in' = E; at = refl })
 
@@ -174,7 +170,7 @@ pub next_keeps_face : (g : Skeleton) (d : Dart) → IsPlaneSkeleton g → Contai
 next_keeps_face g d plane E =
     let V = start_in g d.edge (not d.forward) plane E in
     let k = turn_keeps g (target d) d.edge (next (darts g) d).edge (not d.forward) (next (darts g) d).forward plane (record { in' = E; at = refl }) (next_from g d plane E) (turn_of g (target d) plane V (twin d) (next (darts g) d) (next_follows g d plane E)) in
-    subst (λ b. SameFace g (cell_of g d.edge b) (cell_of g (next (darts g) d).edge (next (darts g) d).forward)) (twice d.forward) k
+    subst (λ b. SameFace g (cell_of g d.edge b) (cell_of g (next (darts g) d).edge (next (darts g) d).forward)) (not_not d.forward) k
 
 next_is : (g : Skeleton) (d : Dart) → next (darts g) d ≡ after (twin d) (ring (darts g) (target d))
 unfolding next
@@ -190,4 +186,4 @@ next_one g d d' plane E E' e =
     let k' : Follows g (target d) plane V (twin d') (next (darts g) d) =
     subst (Follows g (target d) plane V (twin d')) (sym (e ∙ next_is g d')) (subst (λ r. Follows g (target d) plane V (twin d') (after (twin d') (ring (darts g) r))) (sym t) (after_follows g (target d) plane V (twin d') m')) in
     let w : twin d ≡ twin d' = one_before g (target d) plane V (twin d) (twin d') (next (darts g) d) (twin_in g d plane E) m' (next_follows g d plane E) k' in
-    dart_path d d' (ap (λ x. x.edge) w) (sym (twice d.forward) ∙ ap (λ x. not x.forward) w ∙ twice d'.forward)
+    dart_path d d' (ap (λ x. x.edge) w) (sym (not_not d.forward) ∙ ap (λ x. not x.forward) w ∙ not_not d'.forward)

@@ -9,10 +9,11 @@ use Rattle.exact_plane.specs.Point.{Point}
 use Rattle.slab_laws.specs.Skeleton.{Skeleton, HasWeight, left_of, IsPlaneSkeleton}
 use Rattle.slab_laws.specs.Meets.{IsOnWall}
 use Rattle.slab_laws.specs.Slabs.{slab_left, slab_right}
-use Rattle.slab_faces.proofs.Ints.{as_dif, dif_add, dif_sub, dif_mul, dif_same, pos_dif, times_up, times_at_most}
+use Rattle.slab_faces.proofs.Ints.{as_dif, dif_add, dif_sub, dif_mul, dif_same, pos_dif, times_at_most}
 use Rattle.slab_faces.proofs.Walls.{left_of-asym}
-use Rattle.slab_faces.proofs.Cells.{spans_left, spans_right}
+use Rattle.slab_faces.proofs.Cells.{spans_left, spans_right, both}
 use Rattle.slab_faces.proofs.Slabs.{IsSlab}
+use Rattle.integers.proofs.Signs.{mul_pos'}
 
 -- t, moved by (dx, dy) of its own k-th part
 unfoldable pub moved : ℤ → ℤ → ℤ → Point → Point
@@ -27,7 +28,7 @@ large f xs x in' =
 
 pub moved_proper : (k dx dy : ℤ) (t : Point) → pos 0 <ℤ k → HasWeight t → HasWeight (moved k dx dy t)
 unfolding moved
-moved_proper k dx dy t K T = times_up k t.w K T
+moved_proper k dx dy t K T = mul_pos' k t.w K T
 
 pub left_side_of : (k d x w X W : ℤ) → X *ℤ (k *ℤ w) ≡ k *ℤ (X *ℤ w)
 left_side_of k d x w X W = rw (as_dif k, as_dif w, as_dif X) (simp (dif_add, dif_sub, dif_mul) (dif_same _ _ _ _ (omega arith)))
@@ -119,9 +120,6 @@ same_test false b c f h k = sym (k (h refl))
 other_test : (a b c : Bool) → (a ≡ true → c ≡ true) → (c ≡ true → b ≡ false) → (a ≡ false → b ≡ true) → not a ≡ b
 other_test true b c f h k = sym (h (f refl))
 other_test false b c f h k = sym (k refl)
-
-both : (a b c d : Bool) → a ≡ c → b ≡ d → (a && b) ≡ (c && d)
-both a b c d e f = rw (e, f) refl
 
 pub is_slab_left : (g : Skeleton) (t : Point) → IsPlaneSkeleton g → IsOnWall g t → IsSlab g (slab_left g t) (left_inside g t)
 unfolding left_inside

@@ -13,8 +13,9 @@ use Rattle.slab_laws.specs.Meets.{IsOnWall, covers_above}
 use Rattle.slab_faces.specs.LocationLaws.{OneEdgeAtMost}
 use Rattle.slab_faces.proofs.Walls.{left_of-before, left_of-after, lower_than-asym, lower_than-before, run_positive, side-lower, side-upper}
 use Rattle.slab_faces.proofs.Slabs.{IsThrough, same_edge_from_touch}
-use Rattle.slab_faces.proofs.Along.{IsUpright, side_above, side_below, equal_trans, no_upright}
+use Rattle.slab_faces.proofs.Along.{IsUpright, side_above, side_below, no_upright}
 use Rattle.slab_faces.proofs.Upright.{one_cover}
+use Rattle.slab_faces.proofs.Cells.{not_right_trans}
 
 -- p comes before q: it is to the left, or on q's wall and lower
 data Order (p q : Point) : Type 0 where
@@ -81,11 +82,11 @@ module _ (g : Skeleton) (q : Point) (plane : IsPlaneSkeleton g) (Q : HasWeight q
   covered e f E F u l v k h =
       let p = plane.proper_edge e E in
       let r = plane.proper_edge f F in
-      let own : on_wall e.low e.high ≡ true = and_from _ _ (ap not (equal_trans e.high q e.low p.1 Q p.0 u.upper_2 u.lower_1)) (ap not (equal_trans e.low q e.high p.0 Q p.1 u.lower_2 u.upper_1)) in
-      let a = equal_trans e.low q f.low p.0 Q r.0 u.lower_2 v.lower_1 in
-      let a' = equal_trans f.low q e.low r.0 Q p.0 v.lower_2 u.lower_1 in
-      let b = equal_trans e.low q f.high p.0 Q r.1 u.lower_2 v.upper_1 in
-      let b' = equal_trans f.high q e.low r.1 Q p.0 v.upper_2 u.lower_1 in
+      let own : on_wall e.low e.high ≡ true = and_from _ _ (ap not (not_right_trans e.high q e.low p.1 Q p.0 u.upper_2 u.lower_1)) (ap not (not_right_trans e.low q e.high p.0 Q p.1 u.lower_2 u.upper_1)) in
+      let a = not_right_trans e.low q f.low p.0 Q r.0 u.lower_2 v.lower_1 in
+      let a' = not_right_trans f.low q e.low r.0 Q p.0 v.lower_2 u.lower_1 in
+      let b = not_right_trans e.low q f.high p.0 Q r.1 u.lower_2 v.upper_1 in
+      let b' = not_right_trans f.high q e.low r.1 Q p.0 v.upper_2 u.lower_1 in
       let up = lower_than-before e.low q f.high p.0 Q r.1 l (lower_than-asym q f.high k) in
       let c : covers_above f e.low ≡ true =
       and_from (on_wall f.low e.low && on_wall f.high e.low && not (lower_than e.low f.low)) _ (and_from (on_wall f.low e.low && on_wall f.high e.low) _ (and_from _ _ (and_from _ _ (ap not a) (ap not a')) (and_from _ _ (ap not b) (ap not b'))) (ap not h)) up in

@@ -9,8 +9,9 @@ use lib.Signed.{lt_z}
 use Rattle.exact_plane.specs.Point.{Point}
 use Rattle.plane_graphs.specs.Graph.{Edge}
 use Rattle.slab_laws.specs.Skeleton.{Skeleton, HasWeight, left_of, run, side, over, in_range, gap, higher_at, below, crosses, IsPlaneSkeleton}
-use Rattle.slab_faces.proofs.Ints.{as_dif, dif_add, dif_sub, dif_mul, dif_same, times_up, times_less, times_at_most, less_back, mean_up, mean_first, mean_last}
+use Rattle.slab_faces.proofs.Ints.{as_dif, dif_add, dif_sub, dif_mul, dif_same, times_less, times_at_most, less_back, mean_up, mean_first, mean_last}
 use Rattle.slab_faces.proofs.Walls.{left_of-irrefl, left_of-asym, left_of-before, left_of-after, run_positive, side-upper, side-lower}
+use Rattle.integers.proofs.Signs.{mul_pos'}
 
 slope : Edge → Edge → ℤ
 slope f e =
@@ -202,7 +203,7 @@ unfolding left_of
 gap_level f e u v U V a b h k =
     let i = level (slope f e) (rise f e) u.x u.w v.x v.w (omega (arith, ints)) in
     let i' = rw (← gap_is f e u, ← gap_is f e v) at i in
-    let l = times_up v.w (gap f e u) V h in
+    let l = mul_pos' v.w (gap f e u) V h in
     let m = times_less u.w (gap f e v) (pos 0) U k in
     let z = *ℤ-zero u.w in
     omega (arith, ints)

@@ -31,9 +31,6 @@ use Rattle.slab_faces.proofs.DartOrder.{dart_cmp_total, tied_edges, along, lead_
 use Rattle.slab_faces.proofs.Outside.{good_forward, good_backward}
 use Rattle.slab_faces.proofs.PlaneGraphs.{once}
 
-tally : Bool → ℕ
-tally b = cond b 1 0
-
 -- ---- sums
 even_terms : {X : Type 0} (F G : X → ℕ) (xs : List X) → ((x : X) → Contains xs x → Even (F x + G x)) → Even (sum_by F xs + sum_by G xs)
 even_terms F G xs h = subst Even (sum_by-plus F G xs) (even_sum (λ x. F x + G x) xs (each (λ x. Even (F x + G x)) xs h))
@@ -62,9 +59,6 @@ weights g a m xs i j =
 
 -- ---- the cycles of a plane skeleton
 module _ (g : Skeleton) (plane : IsPlaneSkeleton g) where
-  ds : List Dart
-  ds = darts g
-
   label : Dart → Dart
   label d = class_of same_dart (dart_labels (darts g)) d
 
@@ -84,9 +78,6 @@ module _ (g : Skeleton) (plane : IsPlaneSkeleton g) where
   unfolding label
   label_face d h = sym ((along g (λ x y. (Member (darts g) x → Member (darts g) y) × (Member (darts g) y → Member (darts g) x) × (Member (darts g) x → face_of (face_labels g) (left_of_dart g x) ≡ face_of (face_labels g) (left_of_dart g y))) q step d).2 h)
     where
-      R : Dart → Dart → Type 0
-      R x y = (Member (darts g) x → Member (darts g) y) × (Member (darts g) y → Member (darts g) x) × (Member (darts g) x → face_of (face_labels g) (left_of_dart g x) ≡ face_of (face_labels g) (left_of_dart g y))
-
       q : IsEquivalence (λ x y. (Member (darts g) x → Member (darts g) y) × (Member (darts g) y → Member (darts g) x) × (Member (darts g) x → face_of (face_labels g) (left_of_dart g x) ≡ face_of (face_labels g) (left_of_dart g y)))
       q = record { itself = λ x. (λ k. k, λ k. k, λ k. refl); back = λ x y k. (k.1, k.0, λ m. sym (k.2 (k.1 m))); on = λ x y z k l. (λ m. l.0 (k.0 m), λ m. k.1 (l.1 m), λ m. k.2 m ∙ l.2 (k.0 m)) }
 

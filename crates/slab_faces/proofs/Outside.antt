@@ -14,7 +14,7 @@ use Rattle.slab_laws.specs.Weights.{weight_above, Even, IsEvenAtVertices}
 use Rattle.slab_laws.specs.Meets.{IsOnWall, IsOpenAbove, Meets, SameFace, across, here, right}
 use Rattle.slab_laws.specs.declared.slab_cell.SlabCell.{SlabCell}
 use Rattle.slab_laws.specs.Changes.{IsFaceSet}
-use Rattle.slab_faces.proofs.Ints.{as_dif, dif_add, dif_sub, dif_mul, dif_same, times_at_most}
+use Rattle.slab_faces.proofs.Ints.{as_dif, dif_add, dif_sub, dif_mul, dif_same, times_at_most, swapped}
 use Rattle.slab_faces.proofs.Sums.{each, sum_by-same, sum_by-plus, sum_by-none, fewer_than}
 use Rattle.slab_faces.proofs.Walls.{left_of-irrefl, run_positive}
 use Rattle.slab_faces.proofs.Order.{below_asym, gap-swap}
@@ -24,6 +24,7 @@ use Rattle.slab_faces.proofs.Nudge.{large, right_inside, is_slab_right}
 use Rattle.slab_faces.proofs.Along.{not_negative, below_self, covers_parts}
 use Rattle.slab_faces.proofs.Turns.{face_trans, face_sym, one_more, wall_before, greatest, on_own_wall, chain, above_e, below_e, over_wall, under_wall}
 use Rattle.slab_faces.proofs.Found.{found}
+use Rattle.integers.proofs.Laws.{add-mul}
 
 -- ---- a point above all on its wall
 tall : Skeleton → Point → ℤ
@@ -69,19 +70,13 @@ high_over g t e E R =
     let c = side_high g t e in
     not_negative e (high g t) (omega (arith, ints))
 
-spread : (y k w : ℤ) → (y +ℤ k) *ℤ w ≡ y *ℤ w +ℤ k *ℤ w
-spread y k w = rw (as_dif y, as_dif k, as_dif w) (simp (dif_add, dif_sub, dif_mul) (dif_same _ _ _ _ (omega arith)))
-
-pub turned : (a b : ℤ) → a *ℤ b ≡ b *ℤ a
-turned a b = rw (as_dif a, as_dif b) (simp (dif_add, dif_sub, dif_mul) (dif_same _ _ _ _ (omega arith)))
-
 high_vertex : (g : Skeleton) (t v : Point) → Contains g.vertices v → HasWeight v → lower_than (high g t) v ≡ false
 unfolding lower_than high
 high_vertex g t v in' V =
     let a = at_least v.w (tall g t) V (tall_up g t) in
     let b = tall_vertex g t v in' in
-    let c = spread t.y (tall g t) v.w in
-    let d = turned v.w (tall g t) in
+    let c = add-mul t.y (tall g t) v.w in
+    let d = swapped v.w (tall g t) in
     sym (omega (arith, ints))
 
 -- ---- the topmost cells

@@ -8,9 +8,10 @@ use Rattle.std.proofs.lemmas.Bool.{eqb-true, eq-eqb, cases_lt}
 use Rattle.std.proofs.lemmas.List.Elements.{All-from_recursion}
 use Rattle.std.proofs.lemmas.List.Sums.{position_or_len_is, passes_at_first}
 use Rattle.plane_graphs.specs.Ascending.{IsAscending}
-use Rattle.plane_graphs.proofs.Lists.{both_ways, not_true}
+use Rattle.plane_graphs.proofs.Lists.{both_ways}
 use Rattle.slab_faces.proofs.ClassesLemmas.{IsExact}
 use Rattle.slab_faces.proofs.Searches.{first_there}
+use Rattle.integers.proofs.Tests.{not_true}
 
 -- ---- a list, and a test that only an element and itself pass
 module _ {X : Type 0} (same : X → X → Bool) (exact : IsExact same) (xs : List X) where

@@ -9,25 +9,26 @@ use Rattle.std.proofs.lemmas.Int.{ints}
 use Rattle.std.proofs.lemmas.List.Sums.{sum_by-cons}
 use lib.Signed.{lt_z}
 use Rattle.integers.proofs.Compare.{less_in}
+use Rattle.integers.proofs.Tests.{not_true, lt_yes, lt_no, lt_is}
 use Rattle.exact_plane.specs.Point.{Point}
 use Rattle.exact_plane.specs.PointOrder.{point_cmp}
-use Rattle.exact_plane.specs.PointOrderLaws.{point_cmp_total}
+use Rattle.exact_plane.specs.PointOrderLaws.{point_cmp_total, and_true}
 use Rattle.plane_graphs.specs.Ascending.{Member, IsAscending}
 use Rattle.plane_graphs.specs.Line.{IsProper}
 use Rattle.plane_graphs.specs.Graph.{Graph, Mark, Edge, edge_cmp, edge_of, edges, det, collinear, inside, crosses, is_positive, is_negative}
 use Rattle.plane_graphs.specs.Plane.{IsPlane}
 use Rattle.plane_graphs.proofs.Ascending.{All-member, to_member, from_member}
-use Rattle.plane_graphs.proofs.Lists.{both, and_in, not_out, not_in, not_true, clash, decide, or_left, or_right, or_out}
+use Rattle.plane_graphs.proofs.Lists.{and_in, not_out, not_in, clash, decide, or_left, or_right, or_out}
 use Rattle.plane_graphs.proofs.Order.{Tri, tri, lt_out}
 use Rattle.plane_graphs.proofs.Order.Tri.{less, same, more}
 use Rattle.plane_graphs.proofs.Closed.{inside_in}
-use Rattle.exact_plane.specs.Plane.{Runs}
+use Rattle.exact_plane.specs.Plane.{RunsForward}
 use Rattle.plane_graphs.proofs.Lines.{span_a, span_b, span_runs, zero_in}
 use Rattle.plane_graphs.proofs.Crossed.{runs_lt, none_cross}
 use Rattle.plane_graphs.proofs.Meaning.{edge_cmp_total, edges_ascend, edge_out, edge_in}
 use Rattle.slab_laws.specs.Skeleton as counted
 use Rattle.slab_laws.specs.Text.{skeleton}
-use Rattle.slab_faces.specs.GraphLaws.{GraphIsPlaneSkeleton}
+use Rattle.slab_faces.specs.SkeletonLaws.{GraphIsPlaneSkeleton}
 use Rattle.slab_faces.proofs.Parity.{same_point_is, same_point_refl}
 
 -- ---- an element of an ascending list counts once
@@ -61,17 +62,8 @@ module _ {X : Type 0} (cmp : X → X → Ordering) (o : IsTotalOrder cmp) (t : X
 against : (a b : ℤ) → a <ℤ b → lt_z a b ≡ false → ⊥
 against a b h e = omega (arith, ints)
 
-lt_yes : (a b : ℤ) → a <ℤ b → lt_z a b ≡ true
-lt_yes a b h = ⊎_elim (λ e. e) (λ e. absurd (against a b h e)) (decide (lt_z a b))
-
-lt_no : (a b : ℤ) → (a <ℤ b → ⊥) → lt_z a b ≡ false
-lt_no a b f = not_true (lt_z a b) (λ e. f (omega (arith, ints)))
-
-lt_is : (a b : ℤ) → lt_z a b ≡ true → a <ℤ b
-lt_is a b e = omega (arith, ints)
-
 -- ---- the order of points, by walls and heights
-pub comes_before : (p q : Point) → Runs (span_a p q) (span_b p q) → counted.precedes p q ≡ true
+pub comes_before : (p q : Point) → RunsForward (span_a p q) (span_b p q) → counted.precedes p q ≡ true
 unfolding counted.left_of counted.lower_than
 comes_before p q (inl h) = or_left (lt_z (p.x *ℤ q.w) (q.x *ℤ p.w)) _ (lt_yes (p.x *ℤ q.w) (q.x *ℤ p.w) (omega (arith, ints)))
 comes_before p q (inr h) =
@@ -83,11 +75,11 @@ comes_before p q (inr h) =
     turn : (q.x *ℤ p.w) <ℤ (p.x *ℤ q.w) → span_b p q ≡ pos 0 → ⊥
     turn k e = omega (arith, ints)
 
-pub comes_runs : (p q : Point) → counted.precedes p q ≡ true → Runs (span_a p q) (span_b p q)
+pub comes_runs : (p q : Point) → counted.precedes p q ≡ true → RunsForward (span_a p q) (span_b p q)
 unfolding counted.left_of counted.lower_than
 comes_runs p q h =
     ⊎_elim (λ e. inl (let l = lt_is (p.x *ℤ q.w) (q.x *ℤ p.w) e in omega (arith, ints)))
-    (λ e. let w = both (not (lt_z (q.x *ℤ p.w) (p.x *ℤ q.w))) (lt_z (p.y *ℤ q.w) (q.y *ℤ p.w)) e in
+    (λ e. let w = and_true (not (lt_z (q.x *ℤ p.w) (p.x *ℤ q.w))) (lt_z (p.y *ℤ q.w) (q.y *ℤ p.w)) e in
     ⊎_elim (λ f. inl (let l = lt_is (p.x *ℤ q.w) (q.x *ℤ p.w) f in omega (arith, ints)))
     (λ f. inr (flat (not_out (lt_z (q.x *ℤ p.w) (p.x *ℤ q.w)) w.0) f, let l = lt_is (p.y *ℤ q.w) (q.y *ℤ p.w) w.1 in omega (arith, ints)))
     (decide (lt_z (p.x *ℤ q.w) (q.x *ℤ p.w))))
@@ -115,29 +107,29 @@ module _ (g : Graph) (pl : IsPlane g) where
   mark_edge_once m h =
       once edge_cmp edge_cmp_total (counted.same_edge (edge_of m)) (edge_of m) (edges g) (edges_ascend g) (edge_in g m h)
       (and_in (same_point_refl m.low) (same_point_refl m.high))
-      (λ z k. let w = both (counted.same_point m.low z.low) (counted.same_point m.high z.high) k in
+      (λ z k. let w = and_true (counted.same_point m.low z.low) (counted.same_point m.high z.high) k in
       let a = sym (same_point_is m.low z.low w.0) in
       let b = sym (same_point_is m.high z.high w.1) in
       λ i. record { low = a i; high = b i })
 
-  runs_of : (m : Mark) → Member m g.marks → Runs (span_a m.low m.high) (span_b m.low m.high)
+  runs_of : (m : Mark) → Member m g.marks → RunsForward (span_a m.low m.high) (span_b m.low m.high)
   runs_of m h = span_runs m.low m.high (pl.proper m.low (pl.low_in m h)) (pl.proper m.high (pl.high_in m h)) (lt_out m.low m.high (pl.forward m h))
 
   not_left : (m : Mark) → Member m g.marks → counted.left_of m.high m.low ≡ false
   unfolding counted.left_of
   not_left m h = lt_no (m.high.x *ℤ m.low.w) (m.low.x *ℤ m.high.w) (λ l. by (runs_of m h) l)
     where
-      by : Runs (span_a m.low m.high) (span_b m.low m.high) → (m.high.x *ℤ m.low.w) <ℤ (m.low.x *ℤ m.high.w) → ⊥
+      by : RunsForward (span_a m.low m.high) (span_b m.low m.high) → (m.high.x *ℤ m.low.w) <ℤ (m.low.x *ℤ m.high.w) → ⊥
       by (inl k) l = omega (arith, ints)
       by (inr k) l = let e : span_b m.low m.high ≡ pos 0 = k.0 in omega (arith, ints)
 
   mark_upright : (m : Mark) → Member m g.marks → counted.on_wall m.low m.high ≡ true → counted.lower_than m.low m.high ≡ true
   unfolding counted.left_of counted.lower_than
   mark_upright m h w =
-      let u = both (not (lt_z (m.low.x *ℤ m.high.w) (m.high.x *ℤ m.low.w))) (not (lt_z (m.high.x *ℤ m.low.w) (m.low.x *ℤ m.high.w))) w in
+      let u = and_true (not (lt_z (m.low.x *ℤ m.high.w) (m.high.x *ℤ m.low.w))) (not (lt_z (m.high.x *ℤ m.low.w) (m.low.x *ℤ m.high.w))) w in
       by (runs_of m h) (not_out _ u.0)
     where
-      by : Runs (span_a m.low m.high) (span_b m.low m.high) → lt_z (m.low.x *ℤ m.high.w) (m.high.x *ℤ m.low.w) ≡ false → lt_z (m.low.y *ℤ m.high.w) (m.high.y *ℤ m.low.w) ≡ true
+      by : RunsForward (span_a m.low m.high) (span_b m.low m.high) → lt_z (m.low.x *ℤ m.high.w) (m.high.x *ℤ m.low.w) ≡ false → lt_z (m.low.y *ℤ m.high.w) (m.high.y *ℤ m.low.w) ≡ true
       by (inl k) e = absurd (against (m.low.x *ℤ m.high.w) (m.high.x *ℤ m.low.w) (omega (arith, ints)) e)
       by (inr k) e = lt_yes (m.low.y *ℤ m.high.w) (m.high.y *ℤ m.low.w) (let l : span_a m.low m.high <ℤ pos 0 = k.1 in omega (arith, ints))
 
@@ -152,9 +144,9 @@ module _ (g : Graph) (pl : IsPlane g) where
   inner : (m : Mark) → Member m g.marks → (p : Point) → Member p g.points → counted.inside (edge_of m) p ≡ true → inside p m ≡ true
   unfolding counted.side collinear det
   inner m h p n e =
-      let a = both (counted.precedes m.low p && counted.precedes p m.high) (not (lt_z (counted.side (edge_of m) p) (pos 0)) && not (lt_z (pos 0) (counted.side (edge_of m) p))) e in
-      let b = both (counted.precedes m.low p) (counted.precedes p m.high) a.0 in
-      let c = both (not (lt_z (counted.side (edge_of m) p) (pos 0))) (not (lt_z (pos 0) (counted.side (edge_of m) p))) a.1 in
+      let a = and_true (counted.precedes m.low p && counted.precedes p m.high) (not (lt_z (counted.side (edge_of m) p) (pos 0)) && not (lt_z (pos 0) (counted.side (edge_of m) p))) e in
+      let b = and_true (counted.precedes m.low p) (counted.precedes p m.high) a.0 in
+      let c = and_true (not (lt_z (counted.side (edge_of m) p) (pos 0))) (not (lt_z (pos 0) (counted.side (edge_of m) p))) a.1 in
       let gp = pl.proper p n in
       inside_in p m (runs_lt m.low p (pl.proper m.low (pl.low_in m h)) gp (comes_runs m.low p b.0)) (runs_lt p m.high gp (pl.proper m.high (pl.high_in m h)) (comes_runs p m.high b.1))
       (zero_in (det m.low m.high p) (zero_by (det m.low m.high p) (not_out (lt_z (det m.low m.high p) (pos 0)) c.0) (not_out (lt_z (pos 0) (det m.low m.high p)) c.1)))
@@ -168,9 +160,9 @@ module _ (g : Graph) (pl : IsPlane g) where
   crossed : (m n : Mark) → counted.crosses (edge_of m) (edge_of n) ≡ true → crosses m n ≡ true
   unfolding counted.crosses counted.side crosses det
   crossed m n h =
-      let a = both (lt_z (pos 0) (det n.low n.high m.low)) _ h in
-      let b = both (lt_z (det n.low n.high m.high) (pos 0)) _ a.1 in
-      let c = both (lt_z (det m.low m.high n.low) (pos 0)) (lt_z (pos 0) (det m.low m.high n.high)) b.1 in
+      let a = and_true (lt_z (pos 0) (det n.low n.high m.low)) _ h in
+      let b = and_true (lt_z (det n.low n.high m.high) (pos 0)) _ a.1 in
+      let c = and_true (lt_z (det m.low m.high n.low) (pos 0)) (lt_z (pos 0) (det m.low m.high n.high)) b.1 in
       and_in (and_in (positive_in (det n.low n.high m.low) a.0) (negative_in (det n.low n.high m.high) b.0)) (and_in (negative_in (det m.low m.high n.low) c.0) (positive_in (det m.low m.high n.high) c.1))
 
   proper_at : (p : Point) → Member p g.points → counted.HasWeight p

@@ -14,8 +14,9 @@ use Rattle.slab_laws.specs.Slabs.{slab_left, slab_right, reaches_left, reaches_r
 use Rattle.slab_faces.specs.PointLaws.{IsApart, PointsHaveOneFace}
 use Rattle.slab_faces.proofs.Sums.{each, sum_by-same}
 use Rattle.slab_faces.proofs.Walls.{same_abscissa, left_of-asym}
-use Rattle.slab_faces.proofs.Along.{upright_side, covers_parts, equal_trans, IsUpright}
+use Rattle.slab_faces.proofs.Along.{upright_side, covers_parts, IsUpright}
 use Rattle.slab_faces.proofs.Member.{Member, member_in, in_member}
+use Rattle.slab_faces.proofs.Cells.{not_right_trans}
 use Rattle.integers.proofs.Signs.{cancel_zero}
 
 -- ---- some element passes, or none does
@@ -61,7 +62,7 @@ is_inside g f q plane F u a b h k =
 or_none : (a b : Bool) → a ≡ false → b ≡ false → (a || b) ≡ false
 or_none a b h k = rw (h, k) refl
 
-and_none : (a b : Bool) → b ≡ false → (a && b) ≡ false
+pub and_none : (a b : Bool) → b ≡ false → (a && b) ≡ false
 and_none true b h = h
 and_none false b h = refl
 
@@ -70,8 +71,8 @@ open_at g q plane Q a f F = false_from_ne_true (covers_above f q) (λ h.
     let c = covers_parts f q h in
     let u = c.0 in
     let p = plane.proper_edge f F in
-    let s1 = equal_trans f.high q f.low p.1 Q p.0 u.upper_2 u.lower_1 in
-    let s2 = equal_trans f.low q f.high p.0 Q p.1 u.lower_2 u.upper_1 in
+    let s1 = not_right_trans f.high q f.low p.1 Q p.0 u.upper_2 u.lower_1 in
+    let s2 = not_right_trans f.low q f.high p.0 Q p.1 u.lower_2 u.upper_1 in
     elim (cases_Bool (lower_than f.low q)) [
       | inl l ↦ false≢true (sym (a.from_edges f F) ∙ is_inside g f q plane F u s1 s2 l c.1.1)
       | inr l ↦ a.from_vertices f.low (plane.lower_in f F) (or_none (left_of f.low q) (not (left_of q f.low) && lower_than f.low q) u.lower_1 (and_none (not (left_of q f.low)) (lower_than f.low q) l)) (or_none (left_of q f.low) (not (left_of f.low q) && lower_than q f.low) u.lower_2 (and_none (not (left_of f.low q)) (lower_than q f.low) c.1.0))

@@ -10,22 +10,20 @@ use Rattle.plane_graphs.specs.Graph.{Edge}
 use Rattle.slab_laws.specs.Skeleton.{Skeleton, left_of, lower_than, on_wall, below, IsPlaneSkeleton}
 use Rattle.slab_laws.specs.Meets.{covers_above}
 use Rattle.slab_laws.specs.Slabs.{reaches_left, reaches_right}
-use Rattle.slab_laws.specs.Darts.{start, kind, Earlier, by_class, on_left, on_right, IsOut}
+use Rattle.slab_laws.specs.Darts.{start, kind, Earlier, by_class, on_left, on_right, Dart}
 use Rattle.slab_faces.proofs.Order.{below_asym, gap-swap}
 use Rattle.slab_faces.proofs.Slabs.{IsThrough, through, by_gap, below_at, gap_at, gap_trans, run_through, no_order}
-use Rattle.slab_faces.proofs.Along.{IsUpright, equal_trans}
+use Rattle.slab_faces.proofs.Along.{IsUpright}
 use Rattle.slab_faces.proofs.Walls.{on_wall_parts}
 use Rattle.slab_faces.proofs.Turns.{on_own_wall}
 use Rattle.slab_faces.proofs.Upright.{not_inside, one_cover, covers_self}
 use Rattle.slab_faces.proofs.Corners.{IsAt, IsFan, left_fan, right_fan}
 use Rattle.slab_faces.proofs.Next.{at_upper, at_lower, kind_zero, kind_two, kind_few}
-use Rattle.slab_laws.specs.Rotation.{turn, earlier}
-use Rattle.slab_laws.specs.Darts.{Dart}
+use Rattle.slab_laws.specs.Rotation.{turn, earlier, OutOf}
 use Rattle.slab_faces.proofs.RingLemmas.{IsRound}
+use Rattle.slab_faces.proofs.Cells.{not_right_trans}
 
 -- ---- below, among the edges of one fan
-pub record IsIn (g : Skeleton) (t : Point) (i : ℕ) (M : Point) (reach : Edge → Bool) : Type 0 where
-  pub fan : IsFan g t i M reach
 
 fan_through : (g : Skeleton) (t : Point) (i : ℕ) (M : Point) (reach : Edge → Bool) (e : Edge) → IsFan g t i M reach → IsAt g t reach e → IsThrough e M
 fan_through g t i M reach e n a = through g i M e n.slab a.in' (n.reaching.sided.spanned e a.in' ∙ a.reaches)
@@ -68,8 +66,8 @@ not_longer g e f plane E F a h k =
     let EP = plane.proper_edge e E in
     let FP = plane.proper_edge f F in
     let u : IsUpright e f.low = record {
-      lower_1 = equal_trans f.low e.high e.low FP.0 EP.1 EP.0 q1 p.0;
-      lower_2 = equal_trans e.low e.high f.low EP.0 EP.1 FP.0 p.1 q0;
+      lower_1 = not_right_trans f.low e.high e.low FP.0 EP.1 EP.0 q1 p.0;
+      lower_2 = not_right_trans e.low e.high f.low EP.0 EP.1 FP.0 p.1 q0;
       upper_1 = q1;
       upper_2 = q0;
     } in
@@ -83,8 +81,8 @@ same_down g e f plane E F a h k =
     let q = on_wall_parts f.low f.high k in
     let q0 : left_of f.low e.high ≡ false = subst (λ u. left_of f.low u ≡ false) (sym a) q.0 in
     let q1 : left_of e.high f.low ≡ false = subst (λ u. left_of u f.low ≡ false) (sym a) q.1 in
-    let x = equal_trans f.low e.high e.low FP.0 EP.1 EP.0 q1 p.0 in
-    let y = equal_trans e.low e.high f.low EP.0 EP.1 FP.0 p.1 q0 in
+    let x = not_right_trans f.low e.high e.low FP.0 EP.1 EP.0 q1 p.0 in
+    let y = not_right_trans e.low e.high f.low EP.0 EP.1 FP.0 p.1 q0 in
     let l = plane.distinct e.low f.low (plane.lower_in e E) (plane.lower_in f F) (no_order e.low f.low x y (not_longer g e f plane E F a h k)) (no_order f.low e.low y x (not_longer g f e plane F E (sym a) k h)) in
     edge_path e f l a
 
@@ -100,9 +98,6 @@ kind_three true false h = absurd (omega arith)
 kind_three false true h = absurd (omega arith)
 kind_three true true h = absurd (omega arith)
 kind_three false false h = (refl, refl)
-
-abbrev pub OutOf : Skeleton → Point → Dart → Type 0
-OutOf g v d = IsOut g v d.edge d.forward
 
 left_at : (g : Skeleton) (v : Point) (d : Dart) → IsPlaneSkeleton g → OutOf g v d → turn d ≡ 0 → IsAt g v (λ e. reaches_left e v) d.edge
 left_at g v d plane out z =

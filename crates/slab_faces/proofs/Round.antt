@@ -1,6 +1,6 @@
 -- Once round a vertex, clockwise: left bottom, the edges from the left upwards, left top, the vertical edge up, right top,
 -- the edges to the right downwards, right bottom, the vertical edge down, left bottom. Where nothing stands between two corners, they are in one face.
-use Rattle.std.proofs.Common.{◌≡◌, ℕ, Bool, true, false, cond, arith, refl, sym, ap, ◌∙◌, inl, inr, subst}
+use Rattle.std.proofs.Common.{◌≡◌, ℕ, Bool, false, cond, arith, refl, sym, ap, ◌∙◌, inl, inr, subst}
 use Rattle.std.specs.Prelude.{pos, ◌*ℤ◌, ◌<ℤ◌, not, ◌&&◌}
 use Rattle.std.specs.List.{count_by, Contains}
 use Rattle.std.proofs.lemmas.Int.{ints, by_lt_z}
@@ -8,14 +8,11 @@ use Rattle.std.proofs.lemmas.Bool.{false_from_ne_true, cases_Bool}
 use lib.IntN.{*ℤ-zero, zero-*ℤ}
 use Rattle.exact_plane.specs.Point.{Point}
 use Rattle.plane_graphs.specs.Graph.{Edge}
-use Rattle.slab_laws.specs.Skeleton.{Skeleton, left_of, lower_than, run, side, over, under, gap, IsPlaneSkeleton}
+use Rattle.slab_laws.specs.Skeleton.{Skeleton, lower_than, side, over, under, IsPlaneSkeleton}
 use Rattle.slab_laws.specs.Meets.{IsOpenAbove, SameFace, across, here, right}
 use Rattle.slab_laws.specs.Slabs.{slab_left, slab_right, reaches_left, reaches_right, left_bottom, left_top, right_top, right_bottom}
-use Rattle.slab_faces.proofs.Ints.{times_up, less_back, swapped}
 use Rattle.slab_faces.proofs.Slabs.{no_order}
 use Rattle.slab_faces.proofs.Sums.{each, sum_by-same}
-use Rattle.slab_faces.proofs.Walls.{side-lower, side-upper}
-use Rattle.slab_faces.proofs.Order.{gap_mean, away, away_yes, gap-on_e}
 use Rattle.slab_faces.proofs.Along.{IsUpright, covers_parts, negative, not_negative}
 use Rattle.slab_faces.proofs.Turns.{on_own_wall}
 use Rattle.slab_faces.proofs.Upright.{not_inside}
@@ -64,21 +61,3 @@ bottom_open g v plane in' none =
     ])
 
 -- ---- two edges that end at one vertex: the one is above the other where its far end is on the left of the other's line
--- the gap has one sign on the whole of one side of v
-one_sign : (f e : Edge) (u v t : Point) → gap f e v ≡ pos 0 → left_of u v ≡ true → left_of t v ≡ true → pos 0 <ℤ gap f e u → pos 0 <ℤ gap f e t
-one_sign f e u v t z a b h =
-    let i = gap_mean f e t u v in
-    let i' = rw (z, zero-*ℤ (away u t)) at i in
-    let k = times_up (gap f e u) (away t v) h (away_yes t v b) in
-    let c = swapped (gap f e t) (away u v) in
-    let o = *ℤ-zero (away u v) in
-    less_back (away u v) (pos 0) (gap f e t) (away_yes u v a) (omega (arith, ints))
-
-pub far_side : (g : Skeleton) (f e : Edge) (t : Point) → pos 0 <ℤ run e → f.high ≡ e.high → left_of e.low e.high ≡ true → left_of t e.high ≡ true → pos 0 <ℤ side f e.low → pos 0 <ℤ gap f e t
-far_side g f e t R q a b h =
-    let z : gap f e e.high ≡ pos 0 =
-    let s : side f e.high ≡ pos 0 = subst (λ x. side f x ≡ pos 0) q (side-upper f) in
-    gap-on_e f e e.high (side-upper e) ∙ ap (λ x. run e *ℤ x) s ∙ *ℤ-zero (run e) in
-    let k = gap-on_e f e e.low (side-lower e) in
-    let l = times_up (run e) (side f e.low) R h in
-    one_sign f e e.low e.high t z a b (omega (arith, ints))

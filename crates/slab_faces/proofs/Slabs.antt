@@ -4,20 +4,20 @@ use Rattle.std.specs.Prelude.{ℤ, pos, ◌+ℤ◌, ◌-ℤ◌, ◌*ℤ◌, ◌<
 use Rattle.std.specs.List.{sum_by, count_by, Contains}
 use Rattle.std.proofs.lemmas.Int.{ints, by_lt_z}
 use Rattle.std.proofs.lemmas.Bool.{false≢true, and_parts, and_from, or_left, false_from_ne_true, cases_Bool, cases_lt, le-leb, lt-leb}
-use Rattle.slab_faces.proofs.Parity.{same_point_is, same_point_refl}
-use Rattle.slab_laws.specs.Skeleton.{same_point}
+use Rattle.slab_laws.specs.Skeleton.{same_point, Skeleton, HasWeight, left_of, lower_than, run, side, over, gap, below, IsPlaneSkeleton, precedes, same_edge}
 use lib.Dec.{leb}
 use lib.IntN.{*ℤ-zero}
 use lib.Signed.{lt_z}
 use Rattle.exact_plane.specs.Point.{Point}
 use Rattle.plane_graphs.specs.Graph.{Edge}
-use Rattle.slab_laws.specs.Skeleton.{Skeleton, HasWeight, left_of, lower_than, run, side, over, gap, below, IsPlaneSkeleton, precedes, same_edge}
 use Rattle.slab_laws.specs.Slabs.{spans, place}
 use Rattle.slab_laws.specs.Weights.{weight_above}
-use Rattle.slab_faces.proofs.Ints.{as_dif, dif_add, dif_sub, dif_mul, dif_same, times_up, less_back, mean_zero, zero_back}
+use Rattle.slab_faces.proofs.Ints.{as_dif, dif_add, dif_sub, dif_mul, dif_same, less_back, mean_zero, zero_back}
 use Rattle.slab_faces.proofs.Sums.{each, sum_by-same, sum_by-plus, sum_by-cond, fewer_than}
 use Rattle.slab_faces.proofs.Walls.{left_of-irrefl, left_of-asym, left_of-before, run_positive, over-lower, over-upper, side-lower, side-upper}
 use Rattle.slab_faces.proofs.Order.{Passes, IsHigherAt, below_from, below_asym, cross_at, gap_mean, away, away_yes, gap-on_f, gap-swap}
+use Rattle.slab_faces.proofs.Parity.{same_point_is, same_point_refl}
+use Rattle.integers.proofs.Signs.{mul_pos'}
 
 -- an edge that passes M strictly between its ends
 pub record IsThrough (e : Edge) (M : Point) : Type 0 where
@@ -121,9 +121,9 @@ on_e f e u F s z = let k = gap-on_f f e u s in zero_back (run f) (side e u) F (o
 on_line : (e : Edge) (v : Point) → side e v ≡ pos 0 → (not (lt_z (side e v) (pos 0)) && not (lt_z (pos 0) (side e v))) ≡ true
 on_line e v z = rw z refl
 
-not_over : (e : Edge) (v : Point) → side e v ≡ pos 0 → over e v ≡ false
+pub zero_not_over : (e : Edge) (v : Point) → side e v ≡ pos 0 → over e v ≡ false
 unfolding over
-not_over e v z = rw z refl
+zero_not_over e v z = rw z refl
 
 lower_clear : (g : Skeleton) (f e : Edge) (M : Point) → Touch g f e M → left_of e.low f.low ≡ false
 lower_clear g f e M t =
@@ -149,7 +149,7 @@ lower_level g f e M t =
     let a = lower_clear g f e M t in
     let b = lower_clear g e f M (turned g f e M t) in
     let z = on_e f e f.low (run_positive f n.f_long) (side-lower f) (flat_lower g f e M t b) in
-    sym (over-lower e f.low (t.plane.proper_edge e t.E).0 n.e_long a b) ∙ not_over e f.low z
+    sym (over-lower e f.low (t.plane.proper_edge e t.E).0 n.e_long a b) ∙ zero_not_over e f.low z
 
 upper_level : (g : Skeleton) (f e : Edge) (M : Point) → Touch g f e M → lower_than f.high e.high ≡ false
 upper_level g f e M t =
@@ -157,7 +157,7 @@ upper_level g f e M t =
     let a = upper_clear g f e M t in
     let b = upper_clear g e f M (turned g f e M t) in
     let z = on_e f e f.high (run_positive f n.f_long) (side-upper f) (flat_upper g f e M t b) in
-    sym (over-upper e f.high (t.plane.proper_edge e t.E).1 n.e_long b a) ∙ not_over e f.high z
+    sym (over-upper e f.high (t.plane.proper_edge e t.E).1 n.e_long b a) ∙ zero_not_over e f.high z
 
 -- edges that touch strictly inside both are one edge
 pub same_edge_from_touch : (g : Skeleton) (f e : Edge) (M : Point) → Touch g f e M → f ≡ e
@@ -222,8 +222,8 @@ pub gap_trans : (f e d : Edge) (M : Point) → pos 0 <ℤ run f → pos 0 <ℤ r
 unfolding gap
 gap_trans f e d M F E D h k =
     let i = adds (run d) (run e) (run f) (side d M) (side e M) (side f M) in
-    let a = times_up (run d) (run e *ℤ side f M -ℤ run f *ℤ side e M) D h in
-    let b = times_up (run f) (run d *ℤ side e M -ℤ run e *ℤ side d M) F k in
+    let a = mul_pos' (run d) (run e *ℤ side f M -ℤ run f *ℤ side e M) D h in
+    let b = mul_pos' (run f) (run d *ℤ side e M -ℤ run e *ℤ side d M) F k in
     let z = *ℤ-zero (run e) in
     less_back (run e) (pos 0) _ E (omega (arith, ints))
 

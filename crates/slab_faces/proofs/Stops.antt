@@ -16,7 +16,7 @@ use Rattle.slab_faces.proofs.Walls.{left_of-irrefl, left_of-asym, left_of-before
 use Rattle.slab_faces.proofs.Slabs.{IsThrough}
 use Rattle.slab_faces.proofs.Along.{IsReach, left_reach, right_reach, covers_parts, side_below}
 use Rattle.slab_faces.proofs.Turns.{foot_is_on, foot_before, foot_after, on_own_wall}
-use Rattle.slab_faces.proofs.Corners.{same_before, same_after}
+use Rattle.slab_faces.proofs.Corners.{same_before, same_after, not_over}
 use Rattle.slab_laws.specs.Faces.{is_lowest, walls, passes, is_open, link_at, corner_links, foot_links, wall_links, links}
 use Rattle.slab_faces.proofs.Member.{Member, member_in, in_member, append_cases, append_left, append_right, filter_in, filter_out, map_in, map_out, flat_in, none_passes, none_passing}
 
@@ -141,13 +141,6 @@ highest t (x ∷ xs) T P =
     ]
 
 -- ---- an edge that reaches the wall at or below t does so at a stop
-not_over : (e : Edge) (t : Point) → over e t ≡ false → pos 0 ≤ℤ side e t
-unfolding over
-not_over e t h = omega (arith, ints)
-
-is_over : (e : Edge) (t : Point) → side e t <ℤ pos 0 → over e t ≡ true
-unfolding over
-is_over e t h = let a : true ≡ lt_z (side e t) (pos 0) = omega (arith, ints) in sym a
 
 isnt_over : (e : Edge) (t : Point) → pos 0 ≤ℤ side e t → over e t ≡ false
 unfolding over

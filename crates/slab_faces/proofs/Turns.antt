@@ -1,29 +1,26 @@
 -- From one end of an edge to the other, and round its upper end.
 use Rattle.std.proofs.Common.{◌≡◌, ℕ, ◌+◌, ◌%◌, ◌<◌, ◌≤◌, Bool, true, false, cond, arith, refl, sym, ap, ◌∙◌, ◌⊎◌, inl, inr, List, [], ◌∷◌, subst, zero, suc}
 use Rattle.std.specs.Prelude.{ℤ, pos, ◌+ℤ◌, ◌-ℤ◌, ◌*ℤ◌, ◌<ℤ◌, not, ◌&&◌}
-use Rattle.std.specs.List.{sum_by, count_by, Contains}
-use Rattle.std.proofs.lemmas.Int.{ints, by_lt_z}
+use Rattle.std.specs.List.{count_by, Contains}
+use Rattle.std.proofs.lemmas.Int.{ints}
 use Rattle.std.proofs.lemmas.Bool.{false≢true, and_parts, and_from, or_left, not-true, false_from_ne_true, cases_Bool}
 use Rattle.std.proofs.lemmas.List.Elements.{Contains-append_left, Contains-append_right, Contains-append_cases, Contains-push_cases, Contains-push}
 use lib.IntN.{*ℤ-zero}
 use lib.Signed.{lt_z}
 use Rattle.exact_plane.specs.Point.{Point}
 use Rattle.plane_graphs.specs.Graph.{Edge}
-use Rattle.slab_laws.specs.Skeleton.{Skeleton, HasWeight, left_of, lower_than, run, side, steep, shift, foot, over, below, IsPlaneSkeleton, same_edge}
+use Rattle.slab_laws.specs.Skeleton.{Skeleton, HasWeight, left_of, lower_than, run, side, steep, shift, foot, over, IsPlaneSkeleton}
 use Rattle.slab_laws.specs.Meets.{IsOnWall, SameFace, here, right, left}
-use Rattle.slab_laws.specs.Slabs.{spans, place, slab_left, slab_right, reaches_left, forward_cell, backward_cell}
+use Rattle.slab_laws.specs.Slabs.{place, slab_left, slab_right, reaches_left, forward_cell, backward_cell}
 use Rattle.slab_laws.specs.declared.slab_cell.SlabCell.{SlabCell}
-use Rattle.slab_laws.specs.Changes.{IsNextAbove}
-use Rattle.slab_laws.specs.Weights.{IsEvenAtVertices, weight_above}
-use Rattle.slab_faces.proofs.Ints.{dif, as_dif, dif_add, dif_sub, dif_mul, dif_same, dif_zero, pos_dif, times_up, times_less, lt_z-scale}
-use Rattle.slab_faces.proofs.Sums.{each, sum_by-same, sum_by-plus, fewer}
+use Rattle.slab_faces.proofs.Ints.{dif, as_dif, dif_add, dif_sub, dif_mul, dif_same, dif_zero, pos_dif, lt_z-scale}
+use Rattle.slab_faces.proofs.Sums.{each, fewer}
 use Rattle.slab_faces.proofs.Walls.{left_of-irrefl, left_of-asym, left_of-before, run_positive, side-upper, over-upper}
-use Rattle.slab_faces.proofs.Cells.{not_right_trans, left_few, right_few, right_many, spans_left, spans_right, left_side, parity_face}
-use Rattle.slab_faces.proofs.Order.{below_from, below_asym, gap-on_e, gap-on_f, gap-swap}
-use Rattle.slab_faces.proofs.Nudge.{is_slab_left, left_inside, is_slab_right, right_inside}
-use Rattle.slab_faces.proofs.Slabs.{IsThrough, through, by_gap, below_at, gap_at, gap_trans, run_through, same_edge_is, same_edge_refl, no_order, weight_step}
-use Rattle.slab_faces.proofs.Along.{IsOn, below_self, along_above, side_below, zero_not_over}
+use Rattle.slab_faces.proofs.Cells.{not_right_trans, left_few, right_few, right_many}
+use Rattle.slab_faces.proofs.Slabs.{IsThrough, through, no_order, zero_not_over}
+use Rattle.slab_faces.proofs.Along.{IsOn, along_above, side_below}
 use Rattle.slab_faces.proofs.Beneath.{along_below}
+use Rattle.integers.proofs.Signs.{mul_pos'}
 
 -- ---- one face, both ways
 pub face_trans : (g : Skeleton) (b c d : SlabCell) → SameFace g b c → SameFace g c d → SameFace g b d
@@ -94,7 +91,7 @@ foot_is_on g e t plane wall E th =
     }
   where
     foot_proper : (e : Edge) (t : Point) → pos 0 <ℤ run e → HasWeight t → HasWeight (foot e t)
-    foot_proper e t R T = unfold foot in times_up (run e) t.w R T
+    foot_proper e t R T = unfold foot in mul_pos' (run e) t.w R T
 
 -- at each wall that the edge passes
 pub over_wall : (g : Skeleton) (e : Edge) (t : Point) → IsPlaneSkeleton g → IsOnWall g t → Contains g.edges e → IsThrough e t → SameFace g (record { slab = slab_left g t; place = place g (slab_left g t) e + 1 }) (record { slab = slab_right g t; place = place g (slab_right g t) e + 1 })
@@ -265,24 +262,6 @@ one_more true b c false h k = rw (k refl refl) (plus_none c)
     plus_none false = refl
 one_more false b c false h k = refl
 
--- f between e and d, which both end at v, has no side there
-pub between : (g : Skeleton) (e f d : Edge) (v : Point) → IsPlaneSkeleton g → Contains g.edges e → Contains g.edges f → Contains g.edges d → IsOnWall g v → reaches_left e v ≡ true → reaches_left f v ≡ true → reaches_left d v ≡ true → side e v ≡ pos 0 → side d v ≡ pos 0 → below e f ≡ true → below f d ≡ true → side f v ≡ pos 0
-between g e f d v plane E F D wall re rf rd ze zd h k =
-    let r = left_side g v plane wall in
-    let p = r.passes f e F E rf re in
-    let q = r.passes d f D F rd rf in
-    let G = gap-on_e f e v ze in
-    let G' = gap-on_f d f v zd in
-    let Re = run_positive e p.e_long in
-    let Rd = run_positive d q.f_long in
-    let z = *ℤ-zero (run e) in
-    let z' = *ℤ-zero (run d) in
-    by_lt_z (pos 0) (side f v)
-    (λ l. let x = times_less (run e) (pos 0) (side f v) Re l in absurd (below_asym g e f plane E F h (below_from f e v p (omega (arith, ints)))))
-    (λ l. by_lt_z (side f v) (pos 0)
-    (λ o. let x = times_less (run d) (side f v) (pos 0) Rd o in absurd (below_asym g f d plane F D k (below_from d f v q (omega (arith, ints)))))
-    (λ o. omega (arith, ints)))
-
 -- an edge that passes between two others that end at v, at the height of v, ends there too
 pub level_at : (g : Skeleton) (f : Edge) (v : Point) → IsPlaneSkeleton g → Contains g.edges f → Contains g.vertices v → reaches_left f v ≡ true → side f v ≡ pos 0 → f.high ≡ v
 level_at g f v plane F in' r z =
@@ -300,69 +279,4 @@ level_at g f v plane F in' r z =
     let k : lower_than f.high v ≡ false = level_back f v V p.1 (run_positive f long) a' b z in
     plane.distinct f.high v (plane.upper_in f F) in' (no_order f.high v a' b k) (no_order v f.high b a' d)
 
-pub next_place : (g : Skeleton) (e d : Edge) → IsPlaneSkeleton g → Contains g.edges e → Contains g.edges d → left_of e.low e.high ≡ true → left_of d.low d.high ≡ true → IsNextAbove g e d → place g (slab_left g e.high) d ≡ place g (slab_left g e.high) e + 1
-next_place g e d plane E D le ld n =
-    let v = e.high in
-    let in' = plane.upper_in e E in
-    let wall = on_own_wall g v plane in' in
-    let i = slab_left g v in
-    let M = left_inside g v in
-    let s = is_slab_left g v plane wall in
-    let re : reaches_left e v ≡ true = and_from _ _ le (ap not (left_of-irrefl v)) in
-    let rd : reaches_left d v ≡ true = and_from _ _ (subst (λ x. left_of d.low x ≡ true) (sym n.one_end) ld) (ap not (subst (λ x. left_of x v ≡ false) n.one_end (left_of-irrefl v))) in
-    let te = through g i M e s E (spans_left g v e plane wall E ∙ re) in
-    let td = through g i M d s D (spans_left g v d plane wall D ∙ rd) in
-    let now : Edge → ℕ = λ f. cond (spans g i f && below f d) 1 0 in
-    let old : Edge → ℕ = λ f. cond (spans g i f && below f e) 1 0 in
-    let own : Edge → ℕ = λ f. cond (same_edge e f) 1 0 in
-    let ze = side-upper e in
-    let zd : side d v ≡ pos 0 = subst (λ x. side d x ≡ pos 0) (sym n.one_end) (side-upper d) in
-    let pair : (f : Edge) → Contains g.edges f → now f ≡ old f + own f = λ f F.
-    one_more (spans g i f) (below f d) (below f e) (same_edge e f)
-    (λ h. subst (λ x. (spans g i x ≡ true) × (below x d ≡ true) × (below x e ≡ false)) (same_edge_is e f h) (spans_left g v e plane wall E ∙ re, n.above, below_self g e plane E))
-    (λ h o.
-    let rf = sym (spans_left g v f plane wall F) ∙ h in
-    let tf = through g i M f s F h in
-    let P = s.proper in
-    by_gap g f e M plane F E P tf te
-    (λ k.
-    let b = below_at g f e M plane F E P tf te k in
-    let b' = below_at g f d M plane F D P tf td (gap_trans f e d M (run_through g f M plane F P tf) (run_through g e M plane E P te) (run_through g d M plane D P td) k (gap_at g e d M plane E D P te td n.above)) in
-    b' ∙ sym b)
-    (λ k.
-    let w = gap-swap f e M in
-    let b = below_at g e f M plane E F P te tf (omega (arith, ints)) in
-    let x : below f e ≡ false = false_from_ne_true _ (λ y. below_asym g f e plane F E y b) in
-    let y : below f d ≡ false = false_from_ne_true _ (λ q. n.none_between f F (level_at g f v plane F in' rf (between g e f d v plane E F D wall re rf rd ze zd b q)) b q) in
-    y ∙ sym x)
-    (λ k. absurd (false≢true (sym o ∙ subst (λ x. same_edge e x ≡ true) (sym k) (same_edge_refl e))))) in
-    let a : sum_by now g.edges ≡ sum_by (λ f. old f + own f) g.edges = sum_by-same now (λ f. old f + own f) g.edges (each (λ f. now f ≡ old f + own f) g.edges pair) in
-    let b = sum_by-plus old own g.edges in
-    let c = plane.edge_once e E in
-    a ∙ b ∙ ap (λ m. place g i e + m) c
-
--- dart (p, v) along e, and dart (v, p') along d, the first clockwise after (v, p): one face
-pub turn_left : (g : Skeleton) (e d : Edge) → IsPlaneSkeleton g → Contains g.edges e → Contains g.edges d → left_of e.low e.high ≡ true → left_of d.low d.high ≡ true → IsNextAbove g e d → SameFace g (forward_cell g e) (backward_cell g d)
-turn_left g e d plane E D le ld n =
-    let a = above_to_last g e plane E le in
-    let b = below_to_last g d plane D ld in
-    let P : Point → Type 0 = λ x. SameFace g (backward_cell g d) (record { slab = slab_left g x; place = place g (slab_left g x) d }) in
-    let b' : P e.high = subst P (sym n.one_end) b in
-    let Q : ℕ → Type 0 = λ k. SameFace g (backward_cell g d) (record { slab = slab_left g e.high; place = k }) in
-    let b'' : Q (place g (slab_left g e.high) e + 1) = subst Q (next_place g e d plane E D le ld n) b' in
-    face_trans g _ _ _ a (face_sym g _ _ b'')
-
 -- ---- an edge of odd weight parts two faces
-pub step_left : (g : Skeleton) (m : Edge → ℕ) (t : Point) (e : Edge) → IsPlaneSkeleton g → IsOnWall g t → Contains g.edges e → spans g (slab_left g t) e ≡ true → weight_above g m (slab_left g t) (place g (slab_left g t) e) ≡ m e + weight_above g m (slab_left g t) (place g (slab_left g t) e + 1)
-step_left g m t e plane wall E h = weight_step g m (slab_left g t) (left_inside g t) e plane (is_slab_left g t plane wall) E h
-
-pub step_right : (g : Skeleton) (m : Edge → ℕ) (t : Point) (e : Edge) → IsPlaneSkeleton g → IsOnWall g t → Contains g.edges e → spans g (slab_right g t) e ≡ true → weight_above g m (slab_right g t) (place g (slab_right g t) e) ≡ m e + weight_above g m (slab_right g t) (place g (slab_right g t) e + 1)
-step_right g m t e plane wall E h = weight_step g m (slab_right g t) (right_inside g t) e plane (is_slab_right g t plane wall) E h
-
-pub odd_parts : (g : Skeleton) (m : Edge → ℕ) (e : Edge) → IsPlaneSkeleton g → IsEvenAtVertices g m → Contains g.edges e → left_of e.low e.high ≡ true → m e % 2 ≡ 1 → SameFace g (forward_cell g e) (backward_cell g e) → ⊥
-odd_parts g m e plane even E h odd face =
-    let wall = on_own_wall g e.low plane (plane.lower_in e E) in
-    let s : spans g (slab_right g e.low) e ≡ true = spans_right g e.low e plane wall E ∙ and_from _ _ (ap not (left_of-irrefl e.low)) h in
-    let a = step_right g m e.low e plane wall E s in
-    let b = parity_face g m (forward_cell g e) (backward_cell g e) plane even face in
-    omega arith

@@ -15,8 +15,8 @@ use Rattle.slab_faces.proofs.Ints.{zero_back}
 use Rattle.slab_faces.proofs.Sums.{each, sum_by-same, sum_by-cond}
 use Rattle.slab_faces.proofs.Walls.{left_of-irrefl, lower_than-irrefl, on_wall_parts, same_abscissa}
 use Rattle.slab_faces.proofs.Parity.{parity_wall}
-use Rattle.slab_faces.proofs.Cells.{cell_weight, left_side, right_side}
-use Rattle.slab_faces.proofs.Along.{IsUpright, covers_parts, equal_trans, upright_side}
+use Rattle.slab_faces.proofs.Cells.{cell_weight, left_side, right_side, not_right_trans}
+use Rattle.slab_faces.proofs.Along.{IsUpright, covers_parts, upright_side}
 use Rattle.slab_faces.proofs.Slabs.{same_edge_is, same_edge_refl, no_order}
 use Rattle.slab_faces.proofs.Turns.{on_own_wall}
 
@@ -34,8 +34,8 @@ pub not_inside : (g : Skeleton) (f : Edge) (v : Point) → IsPlaneSkeleton g →
 not_inside g f v plane F in' u h k =
     let p = plane.proper_edge f F in
     let V = plane.proper v in' in
-    let a1 = equal_trans f.high v f.low p.1 V p.0 u.upper_2 u.lower_1 in
-    let a2 = equal_trans f.low v f.high p.0 V p.1 u.lower_2 u.upper_1 in
+    let a1 = not_right_trans f.high v f.low p.1 V p.0 u.upper_2 u.lower_1 in
+    let a2 = not_right_trans f.low v f.high p.0 V p.1 u.lower_2 u.upper_1 in
     let z = upright_on f v p.0 a1 a2 u.lower_1 u.lower_2 in
     let line : (not (lt_z (side f v) (pos 0)) && not (lt_z (pos 0) (side f v))) ≡ true = rw z refl in
     false≢true (sym (plane.clear f v F in') ∙ and_from _ _ (and_from _ _ (higher f.low v u.lower_2 h) (higher v f.high u.upper_1 k)) line)
@@ -57,8 +57,8 @@ one_cover g e f plane E F h k =
     let p = plane.proper_edge f F in
     let low : lower_than f.low e.low ≡ false = false_from_ne_true _ (λ x. not_inside g f e.low plane F inp u x c.1.1) in
     let x : e.low ≡ f.low = plane.distinct e.low f.low inp (plane.lower_in f F) (no_order _ _ u.lower_2 u.lower_1 c.1.0) (no_order _ _ u.lower_1 u.lower_2 low) in
-    let m1 : left_of f.high e.high ≡ false = equal_trans e.high e.low f.high q.1 q.0 p.1 a.0 u.upper_1 in
-    let m2 : left_of e.high f.high ≡ false = equal_trans f.high e.low e.high p.1 q.0 q.1 u.upper_2 a.1 in
+    let m1 : left_of f.high e.high ≡ false = not_right_trans e.high e.low f.high q.1 q.0 p.1 a.0 u.upper_1 in
+    let m2 : left_of e.high f.high ≡ false = not_right_trans f.high e.low e.high p.1 q.0 q.1 u.upper_2 a.1 in
     let n1 : lower_than f.high e.high ≡ false = false_from_ne_true _ (λ y. not_inside g e f.high plane E (plane.upper_in f F) (record { lower_1 = u.upper_2; lower_2 = u.upper_1; upper_1 = m2; upper_2 = m1 }) c.1.1 y) in
     let low' : lower_than f.low e.high ≡ true = subst (λ z. lower_than z e.high ≡ true) x (plane.upright e E h) in
     let l1 : left_of f.low e.high ≡ false = subst (λ z. left_of z e.high ≡ false) x a.0 in

@@ -7,7 +7,8 @@ use lib.IntN.{*ℤ-zero}
 use Rattle.exact_plane.specs.Point.{Point}
 use Rattle.plane_graphs.specs.Graph.{Edge}
 use Rattle.slab_laws.specs.Skeleton.{HasWeight, left_of, lower_than, on_wall, run, side, over}
-use Rattle.slab_faces.proofs.Ints.{times_up, as_dif, dif_add, dif_sub, dif_mul, dif_same, dif_zero, times_less, times_at_most, less_back, same_sign, lt_z-sub}
+use Rattle.slab_faces.proofs.Ints.{as_dif, dif_add, dif_sub, dif_mul, dif_same, dif_zero, times_less, times_at_most, less_back, same_sign, lt_z-sub}
+use Rattle.integers.proofs.Signs.{mul_pos'}
 
 -- ---- fractions
 frac_trans_le_lt : (a b c d e f : ℤ) → pos 0 <ℤ b → pos 0 <ℤ d → pos 0 <ℤ f → (a *ℤ d) ≤ℤ (c *ℤ b) → (c *ℤ f) <ℤ (e *ℤ d) → (a *ℤ f) <ℤ (e *ℤ b)
@@ -148,7 +149,7 @@ side_rises e u v U V R a b h k =
     let l = times_at_most v.w (pos 0) (side e u) V k in
     let z = *ℤ-zero v.w in
     let z' = *ℤ-zero u.w in
-    let m = times_up (run e) (v.y *ℤ u.w -ℤ u.y *ℤ v.w) R (omega (arith, ints)) in
+    let m = mul_pos' (run e) (v.y *ℤ u.w -ℤ u.y *ℤ v.w) R (omega (arith, ints)) in
     less_back u.w (pos 0) (side e v) U (omega (arith, ints))
 
 pub side_keeps : (e : Edge) (u v : Point) → HasWeight u → HasWeight v → pos 0 <ℤ run e → left_of u v ≡ false → left_of v u ≡ false → lower_than v u ≡ false → pos 0 ≤ℤ side e u → pos 0 ≤ℤ side e v

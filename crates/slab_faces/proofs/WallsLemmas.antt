@@ -11,8 +11,7 @@ use Rattle.slab_laws.specs.Faces.{is_lowest, walls, cells, slab_cells}
 use Rattle.slab_faces.specs.LocationLaws.{OffWalls}
 use Rattle.slab_faces.proofs.Sums.{each, sum_by-same, sum_by-none, fewer, fewer_than}
 use Rattle.slab_faces.proofs.Walls.{left_of-irrefl, left_of-asym, left_of-before, left_of-after, lower_than-irrefl, lower_than-asym, lower_than-before, on_wall_parts}
-use Rattle.slab_faces.proofs.Cells.{left_few}
-use Rattle.slab_faces.proofs.Along.{equal_trans}
+use Rattle.slab_faces.proofs.Cells.{left_few, not_right_trans}
 use Rattle.slab_faces.proofs.Member.{Member, member_in, in_member, filter_in, filter_out, map_in, flat_in, none_passing}
 use Rattle.slab_faces.proofs.Searches.{best_of, in_range}
 
@@ -39,8 +38,8 @@ wall_of_vertex g w plane W =
           let lowest : (u : Point) → Member g.vertices u → (on_wall u v && lower_than u v) ≡ false = λ u m. false_from_ne_true _ (λ h.
           let a = and_parts (on_wall u v) (lower_than u v) h in
           let c = on_wall_parts u v a.0 in
-          let there = equal_trans w v u (plane.proper w W) (P v b.1.in') (P u m) o.0 c.0 in
-          let back = equal_trans u v w (P u m) (P v b.1.in') (plane.proper w W) c.1 o.1 in
+          let there = not_right_trans w v u (plane.proper w W) (P v b.1.in') (P u m) o.0 c.0 in
+          let back = not_right_trans u v w (P u m) (P v b.1.in') (plane.proper w W) c.1 o.1 in
           false≢true (sym (b.1.best u m (and_from _ _ (ap not there) (ap not back))) ∙ a.1)) in (
             v,
             record {
@@ -75,7 +74,7 @@ same_right g v w plane V W a b =
     same : (u : Point) → HasWeight u → left_of v u ≡ left_of w u
     same u U = elim (cases_Bool (left_of w u)) [
       | inl h ↦ left_of-after v w u V W U b h ∙ sym h
-      | inr h ↦ equal_trans u w v U W V h a ∙ sym h
+      | inr h ↦ not_right_trans u w v U W V h a ∙ sym h
     ]
 
 -- ---- the cell of each point is among the cells

@@ -1,6 +1,7 @@
-pub mod Laws
+pub mod PlaneSkeletons
+pub mod FaceLaws
 pub mod ComputedLaws
-pub mod GraphLaws
+pub mod SkeletonLaws
 pub mod CycleLaws
 pub mod LocationLaws
 pub mod Locations

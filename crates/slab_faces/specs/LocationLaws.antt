@@ -62,7 +62,7 @@ pub record WallsTellSlabs : Type 0 where
   pub right_is_first : (g : Skeleton) (t : Point) → IsPlaneSkeleton g → HasWeight t → (slab_right g t ≡ 0) ↔ (walls_up_to g t ≡ 0)
 
 -- the edge reaches from wall to wall of the slab that has i walls to its left
-abbrev pub spans_by_walls : Skeleton → ℕ → Edge → Bool
+abbrev pub spans_by_walls : (g : Skeleton) (i : ℕ) (e : Edge) → Bool
 spans_by_walls g i e = leb (walls_up_to g e.low) i && ltb i (walls_up_to g e.high)
 
 -- how many of that slab's edges are below the edge

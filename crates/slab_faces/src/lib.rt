@@ -1,65 +1,19 @@
-//! The laws of faces in the slab model: parity, turns, one edge more, labels, cycles.
+//! The laws of faces in the slab model: labels, cycles, locations, and that what signs and counts call plane is a straight-line
+//! graph.
+//!
+//! The laws ask of a skeleton that it be plane by signs and counts; the field asks that two edges share ends only (Fogel,
+//! Halperin and Wein: a straight-line embedding). Where the lists ascend, both mean the same. Each function is a law: its
+//! contract states it, and its body, being empty, computes nothing.
 #![tactic(auto)]
 
-ghost use Rattle.slab_faces.specs.Laws.{ParityOfFaces, StepOverEdge, OddEdgeParts, TurnKeepsFace, OneEdgeMore, RoundVertex, StepOverUpright, OneUprightMore, WeightOfFaces, NextKeepsFace};
-ghost use Rattle.slab_faces.specs.CycleLaws.{NextStartsThere, CycleAcrossEdge, OuterCyclesOfFaces};
-ghost use Rattle.slab_faces.specs.GraphLaws.{GraphIsPlaneSkeleton};
+ghost use Rattle.slab_faces.specs.CycleLaws.{NextStartsThere, CycleAcrossEdge};
+ghost use Rattle.slab_faces.specs.SkeletonLaws.{GraphIsPlaneSkeleton};
 ghost use Rattle.slab_faces.specs.Locations.{LocationIs, CellsHaveFaces};
 ghost use Rattle.slab_faces.specs.PointLaws.{PointsHaveOneFace};
 ghost use Rattle.slab_faces.specs.EveryFaceLaws.{OuterCyclesOfEveryFace, FaceIsTheCells};
 ghost use Rattle.slab_faces.specs.LocationLaws.{LocationIsOne, OneEdgeAtMost, OffWalls, WallsTellSlabs, WallsTellEdges};
 ghost use Rattle.slab_faces.specs.ComputedLaws.{LabelsAreFaces, LabelsAreLeast, ComputedNextKeepsFace, NextIsOneToOne, CycleParity};
-
-/// Where the weights of the edges at each vertex come to an even number, the weight above is even or odd on a whole face.
-pub fn parity_of_faces()
-    ensures { ParityOfFaces }
-{}
-
-/// From the cell above an edge to the one below it, the weight above grows by the edge's own weight.
-pub fn step_over_edge()
-    ensures { StepOverEdge }
-{}
-
-/// An edge of odd weight has different faces above and below.
-pub fn odd_edge_parts()
-    ensures { OddEdgeParts }
-{}
-
-/// The way round an edge's upper end to the next edge above it stays in one face.
-pub fn turn_keeps_face()
-    ensures { TurnKeepsFace }
-{}
-
-/// With an edge more, each face lies in one of the old faces, and at most one of those becomes two: the faces beside the edge.
-pub fn one_edge_more()
-    ensures { OneEdgeMore }
-{}
-
-/// The corners over a vertex are in one face where no vertical edge goes up from it; likewise those under it.
-pub fn round_vertex()
-    ensures { RoundVertex }
-{}
-
-/// Across a vertical edge the weight above changes by the edge's own weight.
-pub fn step_over_upright()
-    ensures { StepOverUpright }
-{}
-
-/// With a vertical edge more, each face lies in one of the old faces, and at most one of those becomes two.
-pub fn one_upright_more()
-    ensures { OneUprightMore }
-{}
-
-/// For a set of faces, and the number of an edge's sides in it as weight, the weight above the left cell of a dart is odd
-/// exactly where one of that cell and the unbounded one is in the set.
-pub fn weight_of_faces()
-    ensures { WeightOfFaces }
-{}
-
-/// The dart that leaves a vertex first clockwise after the twin of one that comes in has the same face on its left.
-pub fn next_keeps_face()
-    ensures { NextKeepsFace }
-{}
+ghost use Rattle.slab_faces.specs.PlaneSkeletons.{PlaneSkeletonsAreDrawn};
 
 /// Two cells have one label exactly where they are in one face.
 pub fn labels_are_faces()
@@ -99,11 +53,6 @@ pub fn next_starts_there()
 /// The parities of a cycle on both sides of an edge differ exactly where the edge has one dart of the cycle.
 pub fn cycle_across_edge()
     ensures { CycleAcrossEdge }
-{}
-
-/// A bounded face has an odd number of outer cycles, the unbounded one an even number.
-pub fn outer_cycles_of_faces()
-    ensures { OuterCyclesOfFaces }
 {}
 
 /// What location answers for a point is so: an equal vertex, else an edge that it is inside of, else a face.
@@ -154,4 +103,11 @@ pub fn outer_cycles_of_every_face()
 /// The rank that location answers for a point is that of the face of the point's cell.
 pub fn face_is_the_cells()
     ensures { FaceIsTheCells }
+{}
+
+/// A skeleton whose lists ascend is plane by signs and counts exactly where its points and edges draw a plane
+/// graph: each point and each edge once, both ends of an edge among the points, no point strictly inside an
+/// edge, and two edges share ends only.
+pub fn plane_skeletons_are_drawn()
+    ensures { PlaneSkeletonsAreDrawn }
 {}

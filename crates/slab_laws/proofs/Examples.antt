@@ -5,7 +5,7 @@ use Rattle.integers.specs.Divisor.{gcd_within, gcd}
 use Rattle.exact_plane.specs.Point.{Point}
 use Rattle.plane_graphs.specs.Ascending.{place, ascending}
 use Rattle.plane_graphs.specs.Line as line
-use Rattle.plane_graphs.specs.Piece.{Piece, Present, along, on}
+use Rattle.plane_graphs.specs.Piece.{Present, along, on, Piece}
 use Rattle.plane_graphs.specs.Graph as graphs
 use Rattle.plane_graphs.specs.Graph.{graph}
 use Rattle.slab_laws.specs.declared.cell.Cell.{Cell}
@@ -46,7 +46,6 @@ at x y = record { x = x; y = y; w = pos 1 }
 abbrev over : ℤ → ℤ → ℕ → Point
 over x y w = record { x = x; y = y; w = pos w }
 
--- a whole segment, of the curve c
 abbrev pub piece : ℕ → Point → Point → Piece
 piece c p q = record { curve = c; segment = record { lower = p; upper = q }; from = p; to = q }
 

@@ -5,15 +5,9 @@ use lib.Dec.{ltb}
 use Rattle.exact_plane.specs.Point.{Point}
 use Rattle.plane_graphs.specs.Graph.{Edge}
 use Rattle.slab_laws.specs.declared.slab_cell.SlabCell.{SlabCell}
-use Rattle.slab_laws.specs.Skeleton.{Skeleton, left_of, below}
+use Rattle.slab_laws.specs.Skeleton.{Skeleton, left_of}
 use Rattle.slab_laws.specs.Slabs.{slab_right, spans, place, forward_cell, backward_cell}
 use Rattle.slab_laws.specs.Meets.{SameFace}
-
--- d is the edge just above e among those that end at e's upper end
-pub record IsNextAbove (g : Skeleton) (e d : Edge) : Type 0 where
-  pub one_end : e.high ≡ d.high
-  pub above : below e d ≡ true
-  pub none_between : (f : Edge) → Contains g.edges f → f.high ≡ e.high → below e f ≡ true → below f d ≡ true → ⊥
 
 -- the cell of g that holds a cell of g with the edge e
 abbrev pub merged : Skeleton → Edge → SlabCell → SlabCell

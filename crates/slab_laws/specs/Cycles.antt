@@ -3,12 +3,11 @@ use Rattle.std.specs.Prelude.{ℕ, zero, suc, ◌+◌, ◌%◌, List, [], ◌∷
 use Rattle.plane_graphs.specs.Graph.{Edge}
 use Rattle.slab_laws.specs.Skeleton.{Skeleton}
 use Rattle.slab_laws.specs.Weights.{weight_above}
-use Rattle.slab_laws.specs.Darts.{cell_of}
+use Rattle.slab_laws.specs.Darts.{cell_of, Dart}
 use Rattle.slab_laws.specs.declared.slab_cell.SlabCell.{SlabCell}
 use Rattle.slab_laws.specs.Classes.{Label, classes, class_of}
 use Rattle.plane_graphs.specs.Ascending.{ascending}
 use Rattle.slab_laws.specs.Rotation.{dart_cmp, dart_below, same_dart, next}
-use Rattle.slab_laws.specs.Darts.{Dart}
 
 -- from e on by `next`, until d comes again, at most n darts
 unfoldable pub trail : List Dart → ℕ → Dart → Dart → List Dart

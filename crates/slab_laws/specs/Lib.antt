@@ -12,7 +12,7 @@ pub mod Cycles
 pub mod Subdivision
 pub mod Text
 pub mod Pieces
-pub mod Drawn
+pub mod SpansDrawn
 pub mod Rows
 pub mod Tables
 pub mod View

@@ -6,8 +6,8 @@ use Rattle.std.specs.declared.cmp.Ordering.{Ordering}
 use Rattle.std.specs.declared.cmp.Ordering.TheVariants.{Less, Equal, Greater}
 use lib.Dec.{ltb}
 use Rattle.exact_plane.specs.Point.{Point}
-use Rattle.slab_laws.specs.Darts.{Dart, source, target, class}
-use Rattle.slab_laws.specs.Skeleton.{same_point, same_edge, below}
+use Rattle.slab_laws.specs.Darts.{Dart, source, target, class, IsOut}
+use Rattle.slab_laws.specs.Skeleton.{same_point, same_edge, below, Skeleton}
 use Rattle.exact_plane.specs.PointOrder.{point_cmp}
 use Rattle.plane_graphs.specs.Ascending.{ascending}
 
@@ -69,3 +69,7 @@ rotation ds v =
     let r : List Dart = ring ds v in
     let k : ℕ = position_or_len (λ d. not (list_any (λ e. is_lt (point_cmp (target e) (target d))) r)) r in
     drop k r ++ take k r
+
+-- the dart goes out of p along an edge of the graph (CGAL manual, source)
+abbrev pub OutOf : Skeleton → Point → Dart → Type 0
+OutOf g p d = IsOut g p d.edge d.forward

@@ -4,7 +4,7 @@ use Rattle.std.specs.List.{position_or_len}
 use Rattle.exact_plane.specs.Point.{Point}
 use Rattle.plane_graphs.specs.Ascending.{ascending}
 use Rattle.plane_graphs.specs.Graph.{Edge}
-use Rattle.slab_laws.specs.declared.rows.DartRow.{DartRow}
+use Rattle.slab_laws.specs.declared.rows.ListedDart.{ListedDart}
 use Rattle.slab_laws.specs.declared.rows.CycleRow.{CycleRow}
 use Rattle.slab_laws.specs.Skeleton.{Skeleton, same_point, same_edge}
 use Rattle.slab_laws.specs.Darts.{Dart, source, target, darts}
@@ -36,8 +36,8 @@ abbrev pub dart_place : Skeleton → Dart → ℕ
 dart_place g d = position_or_len (same_dart d) (dart_list g)
 
 -- the least dart of a dart's cycle (this project)
-abbrev pub lead_of : Skeleton → Dart → Dart
-lead_of g d = class_of same_dart (dart_labels (darts g)) d
+abbrev pub least_dart_of : Skeleton → Dart → Dart
+least_dart_of g d = class_of same_dart (dart_labels (darts g)) d
 
 -- the least darts of all cycles, ascending (this project)
 abbrev pub lead_list : Skeleton → List Dart
@@ -45,14 +45,14 @@ lead_list g = leads (darts g) (dart_labels (darts g))
 
 -- the place of a dart's cycle among all, by their least darts (this project)
 abbrev pub cycle_place : Skeleton → Dart → ℕ
-cycle_place g d = position_or_len (same_dart (lead_of g d)) (lead_list g)
+cycle_place g d = position_or_len (same_dart (least_dart_of g d)) (lead_list g)
 
 -- ---- rows
-abbrev pub dart_row : Skeleton → Dart → DartRow
+abbrev pub dart_row : Skeleton → Dart → ListedDart
 dart_row g d = record { source = vertex_place g (source d); target = vertex_place g (target d); edge = edge_place g d.edge; forward = d.forward }
 
 -- the darts
-unfoldable pub dart_rows : Skeleton → List DartRow
+unfoldable pub dart_rows : Skeleton → List ListedDart
 dart_rows g = map (dart_row g) (dart_list g)
 
 -- of each dart the place of its twin, of the next dart, of the least dart of its cycle, and of its cycle
@@ -63,7 +63,7 @@ unfoldable pub next_places : Skeleton → List ℕ
 next_places g = map (λ d. dart_place g (next (darts g) d)) (dart_list g)
 
 unfoldable pub lead_places : Skeleton → List ℕ
-lead_places g = map (λ d. dart_place g (lead_of g d)) (dart_list g)
+lead_places g = map (λ d. dart_place g (least_dart_of g d)) (dart_list g)
 
 unfoldable pub cycle_places : Skeleton → List ℕ
 cycle_places g = map (cycle_place g) (dart_list g)

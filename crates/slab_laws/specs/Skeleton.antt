@@ -108,7 +108,7 @@ pub record IsPlaneSkeleton (g : Skeleton) : Type 0 where
   pub clear : (e : Edge) (v : Point) → Contains g.edges e → Contains g.vertices v → inside e v ≡ false
   pub uncrossed : (e f : Edge) → Contains g.edges e → Contains g.edges f → crosses e f ≡ false
 
--- ---- one edge more
+-- ---- one more edge
 abbrev pub with_edge : Skeleton → Edge → Skeleton
 with_edge g e = record { vertices = g.vertices; edges = e ∷ g.edges }
 

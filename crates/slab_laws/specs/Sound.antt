@@ -1,5 +1,5 @@
 -- When a view stands for the plane graph that its own points and darts draw.
-use Rattle.std.specs.Prelude.{◌≡◌, ◌≢◌, pos, List, map}
+use Rattle.std.specs.Prelude.{◌≡◌, ◌≢◌, pos, List, map, if◌then◌else◌}
 use Rattle.exact_plane.specs.Point.{Point}
 use Rattle.exact_plane.specs.PointOrder.{point_cmp}
 use Rattle.plane_graphs.specs.Ascending.{ascending}
@@ -13,7 +13,6 @@ use Rattle.slab_laws.specs.Rotation.{next}
 use Rattle.slab_laws.specs.Skeleton.{Skeleton, IsPlaneSkeleton}
 use Rattle.slab_laws.specs.Tables.{names, NamesAscend}
 use Rattle.slab_laws.specs.View.{View, dart_id, HasVertex, HasDart, point_in, source_in, twin_in, next_in, target_in, line_in}
-use Rattle.std.specs.Prelude.{if◌then◌else◌}
 
 -- the points of the view's vertices, ascending
 abbrev pub points_of : View → List Point

@@ -3,11 +3,10 @@ use Rattle.std.specs.Prelude.{ℕ, suc, ◌+◌, List, [], ◌∷◌, ◌++◌, 
 use Rattle.std.specs.List.{list_any, position_or_len}
 use Rattle.std.specs.Fmt.{signed_decimal}
 use Rattle.exact_plane.specs.Point.{Point}
-use Rattle.plane_graphs.specs.Graph.{Edge}
+use Rattle.plane_graphs.specs.Graph.{Edge, Graph, graph, edges, curves}
 use Rattle.slab_laws.specs.Skeleton.{Skeleton, same_point}
 use Rattle.slab_laws.specs.declared.slab_cell.SlabCell.{SlabCell}
 use Rattle.plane_graphs.specs.Piece.{Present}
-use Rattle.plane_graphs.specs.Graph.{Graph, graph, edges, curves}
 use Rattle.slab_laws.specs.Faces.{same_cell}
 use Rattle.slab_laws.specs.Rotation.{rotation}
 use Rattle.slab_laws.specs.Darts.{Dart, source, target}

@@ -3,6 +3,7 @@ use Rattle.std.specs.Prelude.{◌≡◌, ℕ, pos, Bool, false, List, Option, So
 use Rattle.std.specs.Option.{option_map}
 use Rattle.exact_plane.specs.Point.{Point}
 use Rattle.exact_plane.specs.Line.{Line}
+use Rattle.slab_laws.specs.declared.names.CurveId.{CurveId}
 use Rattle.slab_laws.specs.declared.names.CycleId.{CycleId}
 use Rattle.slab_laws.specs.declared.names.CycleKind.{CycleKind}
 use Rattle.slab_laws.specs.declared.names.CycleKind.TheVariants.{Inner}
@@ -52,6 +53,9 @@ cycle_id n = record { 0 = n }
 
 abbrev pub face_id : ℕ → FaceId
 face_id n = record { 0 = n }
+
+abbrev pub curve_id : ℕ → CurveId
+curve_id n = record { 0 = n }
 
 -- ---- vertices and darts
 -- the name has a record

@@ -25,7 +25,7 @@ pub use darts::Darts;
 pub use faced::Faced;
 pub use names::{CurveId, CycleId, CycleKind, DartId, FaceId, Strategy, VertexId};
 pub use present::{Piece, Present};
-pub use rows::{CycleRow, DartRow};
+pub use rows::{CycleRow, ListedDart};
 pub use sequence::Sequence;
 pub use slab_cell::SlabCell;
 pub use triangle::Triangle;

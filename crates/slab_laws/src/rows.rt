@@ -3,7 +3,7 @@ use crate::slab_cell::SlabCell;
 /// A dart of a subdivision that is kept in lists: the places of its two vertices and of its edge, and whether it goes from
 /// the edge's lower end to its upper one.
 #[derive(Clone, Copy, Debug, PartialEq, Eq, PartialOrd, Ord)]
-pub struct DartRow {
+pub struct ListedDart {
     pub source: usize,
     pub target: usize,
     pub edge: usize,

@@ -1,17 +1,17 @@
 -- The events of the pieces of a present are its vertices.
 use Rattle.std.proofs.Common.{◌≡◌, ℕ, zero, suc, ◌<◌, refl, ap, sym, subst, arith, inl, inr, List, [], ◌∷◌, map, length}
 use Rattle.std.specs.Prelude.{◌⊎◌}
-use Rattle.exact_plane.specs.Point.{Point, IsPoint}
+use Rattle.exact_plane.specs.Point.{Point}
 use Rattle.exact_plane.specs.Span.{Span, IsSpan}
 use Rattle.plane_graphs.specs.Ascending.{Member}
 use Rattle.plane_graphs.specs.Fit.{IsFit}
-use Rattle.plane_graphs.specs.Line.{IsProper}
 use Rattle.plane_graphs.specs.Meaning.{IsVertexOf}
 use Rattle.plane_graphs.specs.Piece.{Piece, Present}
 use Rattle.present_graphs.specs.Spans.{span_of_piece}
 use Rattle.present_graphs.proofs.InRange.{in_range}
 use Rattle.present_graphs.proofs.OnSpans.{on_lies, lies_on_piece}
 use Rattle.plane_graphs.proofs.Marks.{on_out}
+use Rattle.plane_graphs.proofs.Lines.{point_is_proper}
 use Rattle.sweep_events.specs.Events.{IsEvent, AreMeeting}
 use Rattle.sweep_events.specs.Places.{piece_at, AreSpans}
 
@@ -25,13 +25,7 @@ place_of [] k m = absurd m
 place_of (x ∷ ks) k (inl e) = (0, omega arith, ap span_of_piece (sym e))
 place_of (x ∷ ks) k (inr m) = let w = place_of ks k m in (suc w.0, omega (arith, w.1), w.2)
 
-proper : (r : Point) → IsPoint r → IsProper r
-proper r h = record { positive = h.range.positive; lowest = h.lowest }
-
 module _ (p : Present) (fit : IsFit p) (spans : (k : Piece) → Member k p.pieces → IsSpan (span_of_piece k)) where
-  abbrev ss : List Span
-  ss = map span_of_piece p.pieces
-
   pub event_is_vertex : (r : Point) → IsEvent (piece_at (map span_of_piece p.pieces)) (length (map span_of_piece p.pieces)) p.pins r → IsVertexOf p r
   event_is_vertex r (inl e) =
       let w = piece_of p.pieces e.place e.within in
@@ -44,7 +38,7 @@ module _ (p : Present) (fit : IsFit p) (spans : (k : Piece) → Member k p.piece
       let u = piece_of p.pieces m.one m.one_within in
       let v = piece_of p.pieces m.other m.other_within in
       let a = subst (λ (s : Span). AreMeeting s (span_of_piece v.0) r) u.2 (subst (λ (t : Span). AreMeeting (piece_at (map span_of_piece p.pieces) m.one) t r) v.2 m.meet) in
-      inr (inr (record { one = u.0; other = v.0; one_in = u.1; other_in = v.1; lines_differ = a.lines_differ; proper = proper r a.point; on_one = lies_on_piece u.0 r a.on_first; on_other = lies_on_piece v.0 r a.on_second }))
+      inr (inr (record { one = u.0; other = v.0; one_in = u.1; other_in = v.1; lines_differ = a.lines_differ; proper = point_is_proper r a.point; on_one = lies_on_piece u.0 r a.on_first; on_other = lies_on_piece v.0 r a.on_second }))
 
   pub vertex_is_event : (r : Point) → IsVertexOf p r → IsEvent (piece_at (map span_of_piece p.pieces)) (length (map span_of_piece p.pieces)) p.pins r
   vertex_is_event r (inl e) =

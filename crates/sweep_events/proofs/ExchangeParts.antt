@@ -8,6 +8,7 @@ use Rattle.std.proofs.lemmas.List.{take-append-drop, get_or-drop, drop-drop, len
 use Rattle.std.proofs.lemmas.Bool.Decides.{nat_tests}
 use Rattle.std.proofs.lemmas.Cmp.{nat_cmp_total}
 use Rattle.integers.proofs.Decisions.{lt_out, ge_out, ge_in, clash}
+use Rattle.integers.proofs.Tests.{nat_exact}
 use Rattle.exact_plane.specs.Line.{side_of, IsOn}
 use Rattle.exact_plane.specs.Point.{Point}
 use Rattle.exact_plane.specs.PointOrder.{point_cmp}
@@ -23,7 +24,6 @@ use Rattle.sweep_events.specs.Runs.{ends_there}
 use Rattle.sweep_events.specs.Status.{IsWaiting, run_cmp}
 use Rattle.sweep_events.specs.Sweep.{IsEventAt}
 use Rattle.sweep_events.specs.Exchange.{IsSplit, IsExchange}
-use Rattle.sweep_events.proofs.PlacesTold.{nat_exact}
 use Rattle.sweep_events.proofs.EventSteps.{in_order, not_both}
 
 pub within_take : {X : Type 0} (P : X → Type 0) (xs : List X) (k : ℕ) → ((j : ℕ) (d : X) → 0 ≤ j → j < k → P (get_or xs j d)) → (x : X) → Member x (take k xs) → P x
@@ -44,9 +44,6 @@ module _ (pieces : List Span) (q : Point) (xs : List ℕ) (spans : AreSpans piec
     (lo hi : ℕ) (lo_in : lo ≤ length xs) (hi_in : hi ≤ length xs)
     (lower_cut : IsPartitionPoint (λ i. is_below pieces q i ≡ true) (λ i. is_below pieces q i ≡ false) xs lo)
     (upper_cut : IsPartitionPoint (λ i. is_upto pieces q i ≡ true) (λ i. is_upto pieces q i ≡ false) xs hi) where
-  side : ℕ → ℤ
-  side i = side_of (piece_at pieces i).line q
-
   below_upto : (i : ℕ) → is_below pieces q i ≡ true → is_upto pieces q i ≡ true
   below_upto i h = ap not (ge_in (side_of (piece_at pieces i).line q) (pos 0) (weak (side_of (piece_at pieces i).line q) (lt_out (pos 0) (side_of (piece_at pieces i).line q) h)))
     where

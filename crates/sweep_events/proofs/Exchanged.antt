@@ -48,9 +48,6 @@ module _ (s : Swept) (queue : List Point) (h : IsSweep s queue) (q : Point) (nex
   known : IsQueue (piece_at s.pieces) (length s.pieces) s.pins s.last (exchange.low ++ (exchange.old ++ exchange.high)) queue
   known = subst (λ (xs : List ℕ). IsQueue (piece_at s.pieces) (length s.pieces) s.pins s.last xs queue) exchange.before_is h.queued
 
-  now : List ℕ
-  now = exchange.low ++ (exchange.mid ++ exchange.high)
-
   at_first : (i j : ℕ) (r : Point) → IsLast exchange.low i → IsFirst (exchange.mid ++ exchange.high) j → AreMeeting (piece_at s.pieces i) (piece_at s.pieces j) r → point_cmp q r ≡ Less → Member r later
   at_first i j r a b m k = first_there r (subst (λ (xs : List ℕ). MeetAtSeam s.pieces xs first r) (sym exchange.after_is) (subst (λ n. MeetAtSeam s.pieces (exchange.low ++ (exchange.mid ++ exchange.high)) n r) (sym exchange.first_is) (seam (last_at exchange.low (exchange.mid ++ exchange.high) i 0 a) (first_at exchange.low (exchange.mid ++ exchange.high) j 0 b)))) k
     where

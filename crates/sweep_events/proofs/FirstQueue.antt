@@ -14,9 +14,6 @@ use Rattle.sweep_events.specs.Places.{nowhere, piece_at, AreSpans}
 use Rattle.sweep_events.specs.Sweep.{IsSweep}
 use Rattle.sweep_events.proofs.QueueInserts.{in_inserted, key_inserted, of_inserted}
 
-pub no_ends : (pieces : List Span) (old : List Point) → HasEnds pieces 0 old old
-no_ends pieces old = record { stays = λ r m. m; ends = λ r e. let h = e.within in absurd (omega (arith, h)); comes = λ r m. inl m }
-
 pub ends_more : (pieces : List Span) (i : ℕ) (s : Span) (old now mid new : List Point) → i < length pieces → s ≡ get_or pieces i s → HasEnds pieces i old now → mid ≡ insert_key point_cmp now s.lower → new ≡ insert_key point_cmp mid s.upper → HasEnds pieces (i + 1) old new
 ends_more pieces i s old now mid new h e g f k = record {
   stays = λ r m. grown r (g.stays r m);
@@ -42,9 +39,6 @@ ends_more pieces i s old now mid new h e g f k = record {
     at_end : (r : Point) → (r ≡ (piece_at pieces i).lower) ⊎ (r ≡ (piece_at pieces i).upper) → Member r new
     at_end r (inl x) = subst (λ (xs : List Point). Member r xs) (sym k) (in_inserted mid s.upper r (subst (λ (xs : List Point). Member r xs) (sym f) (subst (λ (p : Point). Member p (insert_key point_cmp now s.lower)) (sym (x ∙ ap (λ (t : Span). t.lower) (sym here))) (key_inserted now s.lower))))
     at_end r (inr x) = subst (λ (xs : List Point). Member r xs) (sym k) (subst (λ (p : Point). Member p (insert_key point_cmp mid s.upper)) (sym (x ∙ ap (λ (t : Span). t.upper) (sym here))) (key_inserted mid s.upper))
-
-pub no_pins : (pins old : List Point) → HasPins pins 0 old old
-no_pins pins old = record { stays = λ r m. m; there = λ j d h. absurd (omega (arith, h)); comes = λ r m. inl m; points = λ j d h. absurd (omega (arith, h)) }
 
 pub pins_more : (pins : List Point) (i : ℕ) (p : Point) (old now new : List Point) → i < length pins → p ≡ get_or pins i p → IsPoint p → HasPins pins i old now → new ≡ insert_key point_cmp now p → HasPins pins (i + 1) old new
 pins_more pins i p old now new h e is g k = record {

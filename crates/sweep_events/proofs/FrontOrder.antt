@@ -17,8 +17,7 @@ use Rattle.exact_plane.specs.Span.{Span, LiesOn, IsAtMost, IsSpan}
 use Rattle.exact_plane.proofs.Orders.{at_most_chain, less_at_most}
 use Rattle.exact_plane.proofs.PlaneLaws.{before_of, crosses_to_left, Crossing}
 use Rattle.sweep_events.specs.Front.{across, upward, lean, lex, level_cmp, before_cmp, after_cmp}
-use Rattle.sweep_events.proofs.TwoNumbers.{IsAhead, IsWeak, weaken, none, never_both, lex_in, lex_level, lex_back, mixed, forward_ahead}
-use Rattle.sweep_events.proofs.TwoNumbers.{Lexed, lexed}
+use Rattle.sweep_events.proofs.TwoNumbers.{IsAhead, IsWeak, weaken, none, never_both, lex_in, lex_level, lex_back, mixed, forward_ahead, Lexed, lexed}
 use Rattle.sweep_events.proofs.TwoNumbers.Lexed.{ahead, level, behind}
 
 -- ---- points in order
@@ -38,14 +37,6 @@ apart_weak p q hp hq h = at (point_cmp p q) refl h
     at Greater e h = cc
 
 -- ---- the numbers that tell the order
-pub across_turned : (l m : Line) (p : Point) → across m l p ≡ neg_ℤ (across l m p)
-across_turned l m p = omega (arith, ints)
-
-pub upward_turned : (l m : Line) (p : Point) → upward m l p ≡ neg_ℤ (upward l m p)
-upward_turned l m p = omega (arith, ints)
-
-pub lean_turned : (l m : Line) → lean m l ≡ neg_ℤ (lean l m)
-lean_turned l m = omega (arith, ints)
 
 -- they are linear in the point
 pub across_moves : (l m : Line) (p q : Point) → across l m q *ℤ p.w ≡ across l m p *ℤ q.w +ℤ (q.x *ℤ p.w -ℤ p.x *ℤ q.w) *ℤ lean l m
@@ -114,19 +105,6 @@ lower_side l m p u hl hm h k =
     turned : IsAhead (across m l p) (upward m l p) → IsAhead (neg_ℤ (across l m p)) (neg_ℤ (upward l m p))
     turned (inl a) = inl (omega (arith, ints))
     turned (inr a) = let e = a.0 in let f = a.1 in inr (omega (arith, ints), omega (arith, ints))
-
--- three lines in order on the front: the middle one passes through p where both others do
-pub middle_through : (k l m : Line) (p : Point) (u v : Ordering) → IsLine k → IsLine l → IsLine m → ordering_then (level_cmp p k l) u ≡ Less → ordering_then (level_cmp p l m) v ≡ Less → IsOn k p → IsOn m p → IsOn l p
-middle_through k l m p u v hk hl hm h i ek em =
-    let a = upper_side k l p u hk hl h (zero_low (side_of k p) ek) in
-    let b = lower_side l m p v hl hm i (zero_high (side_of m p) em) in
-    omega (arith, ints)
-  where
-    zero_low : (z : ℤ) → z ≡ pos 0 → z ≤ℤ pos 0
-    zero_low z e = omega (arith, ints)
-
-    zero_high : (z : ℤ) → z ≡ pos 0 → pos 0 ≤ℤ z
-    zero_high z e = omega (arith, ints)
 
 -- ---- from one point to the next
 -- at a point of l, what tells the order is the side of m

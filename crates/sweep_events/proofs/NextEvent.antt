@@ -1,9 +1,8 @@
 -- What a call for the next event makes of a sweep, by what its calls told.
 use Rattle.std.proofs.Common.{◌≡◌, ℕ, ◌<◌, ◌-◌, refl, ap, sym, ◌∙◌, subst, arith, inl, inr, true, false, List, [], ◌∷◌, length, get_or, Ordering, Less, Equal, Greater}
-use Rattle.std.specs.List.{splice}
+use Rattle.std.specs.List.{splice, All, count_by}
 use Rattle.std.specs.Prelude.{◌⊎◌, Option, None, Some, IsSome, IfSome, slice_get}
-use Rattle.std.specs.List.{All}
-use Rattle.std.specs.Ordering.{is_le, is_gt}
+use Rattle.std.specs.Ordering.{is_le, is_gt, is_lt}
 use Rattle.std.proofs.lemmas.List.Elements.{All-contains}
 use Rattle.std.proofs.lemmas.Option.{get_or_from_slice_get}
 use Rattle.std.specs.BTreeMap.Range.{IsLeBy, IsLtBy}
@@ -15,8 +14,6 @@ use Rattle.exact_plane.proofs.Orders.{less_at_most, at_most_itself}
 use Rattle.plane_graphs.specs.Ascending.{Member}
 use Rattle.plane_graphs.proofs.Ascending.{from_member}
 use Rattle.plane_graphs.proofs.Sorting.{member_at}
-use Rattle.std.specs.List.{count_by}
-use Rattle.std.specs.Ordering.{is_lt}
 use Rattle.std.specs.Cmp.{tied_itself}
 use Rattle.slab_faces.proofs.Sums.{fewer_than}
 use Rattle.sweep_events.specs.EventList.{all_events, is_beyond, events_left}

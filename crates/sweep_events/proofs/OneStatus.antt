@@ -10,15 +10,14 @@ use Rattle.exact_plane.specs.Line.{Line}
 use Rattle.exact_plane.specs.Point.{Point}
 use Rattle.exact_plane.specs.Span.{Span}
 use Rattle.integers.proofs.Compare.{less_out, greater_in, equal_out, equal_in}
+use Rattle.integers.proofs.Tests.{nat_less, less_nat}
 use Rattle.plane_graphs.specs.Ascending.{Member, IsAscending}
 use Rattle.plane_graphs.proofs.Ascending.{All-member}
 use Rattle.plane_graphs.proofs.Sorting.{all_members}
 use Rattle.sweep_events.specs.Front.{across, upward, lean, after_cmp}
 use Rattle.sweep_events.specs.Status.{status_cmp, IsMet, IsStatus}
-use Rattle.sweep_events.proofs.SlabPlaces.{number_less, less_number}
 use Rattle.sweep_events.proofs.FrontOrder.{not_behind_twice, turn_ahead}
-use Rattle.sweep_events.proofs.TwoNumbers.{lex_level}
-use Rattle.sweep_events.proofs.TwoNumbers.{Lexed, lexed}
+use Rattle.sweep_events.proofs.TwoNumbers.{lex_level, Lexed, lexed}
 use Rattle.sweep_events.proofs.TwoNumbers.Lexed.{ahead, level, behind}
 
 module _ {X : Type 0} (cmp : X → X → Ordering) (one_way : (x y : X) → cmp x y ≡ Less → cmp y x ≡ Less → ⊥) where
@@ -110,7 +109,7 @@ module _ (piece : ℕ → Span) (n k : ℕ) (p : Point) (xs : List ℕ) (s : IsS
   -- their order is the same by their own places
   own_order : (o : Ordering) (i j : ℕ) → n ≤ i → n ≤ j → ordering_then o (nat_cmp i j) ≡ Less → ordering_then o (nat_cmp (i - n) (j - n)) ≡ Less
   own_order Less i j a b h = refl
-  own_order Equal i j a b h = let l = number_less i j h in less_number (i - n) (j - n) (omega (arith, a, b, l))
+  own_order Equal i j a b h = let l = less_nat i j h in nat_less (i - n) (j - n) (omega (arith, a, b, l))
   own_order Greater i j a b h = cc
 
   own_ascends : (zs : List ℕ) → ((i : ℕ) → Member i zs → n ≤ i) → IsAscending (status_cmp piece p) zs → IsAscending (status_cmp (λ i. piece (n + i)) p) (map (λ i. i - n) zs)

@@ -1,5 +1,5 @@
 -- The order of numbers, for lists that are sorted and have each element once.
-use Rattle.std.proofs.Common.{◌≡◌, ℕ, ◌<◌, List, length, get_or, Bool, true, false, ◌&&◌, eqb, Equal, nat_cmp, arith, refl, sym, ap, ◌∙◌}
+use Rattle.std.proofs.Common.{◌≡◌, ℕ, ◌<◌, List, length, get_or, Bool, true, false, ◌&&◌, eqb, nat_cmp, arith, refl, sym, ap, ◌∙◌}
 use Rattle.std.specs.Prelude.{nat_lt}
 use Rattle.std.specs.Ordering.{eq_by_cmp, int_eq}
 use Rattle.exact_plane.specs.Point.{Point}
@@ -10,9 +10,6 @@ use Rattle.plane_graphs.proofs.Sorting.{any_default}
 use Rattle.sweep_events.specs.Places.{nowhere, piece_at}
 use Rattle.sweep_events.specs.Runs.{ends_there}
 use Rattle.std.proofs.lemmas.Bool.Decides.{nat_tests}
-
-pub nat_exact : (x y : ℕ) → nat_cmp x y ≡ Equal → x ≡ y
-nat_exact x y e = grind (arith, nat_tests)
 
 pub nat_ties : (x y : ℕ) → eqb x y ≡ eq_by_cmp nat_cmp x y
 nat_ties x y = grind (arith, nat_tests)

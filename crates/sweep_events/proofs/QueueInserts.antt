@@ -11,6 +11,7 @@ use Rattle.plane_graphs.specs.Ascending.{Member}
 use Rattle.sweep_events.specs.Events.{AreMeeting}
 use Rattle.sweep_events.specs.Seams.{IsGrown, AreThere, MeetAtSeam}
 use Rattle.sweep_events.specs.Places.{piece_at}
+use Rattle.integers.proofs.Tests.{is_less}
 
 placed : (o : Ordering) (k x : Point) (xs ys : List Point) → point_cmp k x ≡ o → ((r : Point) → Member r xs → Member r ys) → (r : Point) → Member r (x ∷ xs) → Member r (match_ordering o (k ∷ x ∷ xs) (x ∷ xs) (x ∷ ys))
 placed Less k x xs ys e f r m = inr m
@@ -55,17 +56,12 @@ none_is s t e r = ((λ (m : AreMeeting s t r). absurd (m.lines_differ e)), (λ f
     no : None ≡ Some r → ⊥
     no f = cc
 
-before : (o : Ordering) → is_lt o ≡ true → o ≡ Less
-before Less e = refl
-before Equal e = cc
-before Greater e = cc
-
 module _ (s t : Span) (q k : Point) (o : Option Point) (known : (r : Point) → (AreMeeting s t r ↔ (o ≡ Some r))) (is : o ≡ Some k) (after : is_lt (point_cmp q k) ≡ true) (old new : List Point) (e : new ≡ insert_key point_cmp old k) where
   pub grown_by : IsGrown (AreMeeting s t) q old new
   grown_by = record {
     stays = λ r m. subst (λ (xs : List Point). Member r xs) (sym e) (in_inserted old k r m);
     comes = λ r m. elim (of_inserted old k r (subst (λ (xs : List Point). Member r xs) e m)) [
-      | inl f ↦ inr (subst (λ (p : Point). AreMeeting s t p) (sym f) ((known k).1 is), subst (λ (p : Point). point_cmp q p ≡ Less) (sym f) (before (point_cmp q k) after))
+      | inl f ↦ inr (subst (λ (p : Point). AreMeeting s t p) (sym f) ((known k).1 is), subst (λ (p : Point). point_cmp q p ≡ Less) (sym f) (is_less (point_cmp q k) after))
       | inr n ↦ inl n
     ];
   }
@@ -85,9 +81,6 @@ seam_there pieces status seam q s t new e f g r m b = g r (subst (λ (u : Span).
 
 -- ---- one seam after the other
 module _ (M N : Point → Type 0) (q : Point) (a b : List Point) where
-  pub grown_first : IsGrown M q a b → IsGrown (λ r. M r ⊎ N r) q a b
-  grown_first g = record { stays = g.stays; comes = λ r m. elim (g.comes r m) [ inl n ↦ inl n | inr h ↦ inr (inl h.0, h.1) ] }
-
   pub grown_both : (c : List Point) → IsGrown M q a b → IsGrown N q b c → IsGrown (λ r. M r ⊎ N r) q a c
   grown_both c g h = record {
     stays = λ r m. h.stays r (g.stays r m);
@@ -109,11 +102,6 @@ got (y ∷ ys) zero x e = (omega arith, first e)
     first : Some y ≡ Some x → x ≡ y
     first f = cc
 got (y ∷ ys) (suc k) x e = let r = got ys k x e in (omega (arith, r.0), r.1)
-
-pub none_there : (xs : List ℕ) (k : ℕ) → slice_get xs k ≡ None → k < length xs → ⊥
-none_there [] k e h = omega (arith, h)
-none_there (y ∷ ys) zero e h = cc
-none_there (y ∷ ys) (suc k) e h = none_there ys k e (omega (arith, h))
 
 pub if_all_ok : {T E : Type 0} (r : Result T E) (P Q : Type 0) → (P → Q) → OnOk r P → OnOk r Q
 if_all_ok (Ok v) P Q f h = f h

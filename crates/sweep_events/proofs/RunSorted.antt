@@ -20,7 +20,7 @@ use Rattle.sweep_events.specs.declared.places.PlacedLine.{PlacedLine}
 use Rattle.sweep_events.specs.Places.{piece_at, AreSpans, ArePlaces}
 use Rattle.sweep_events.specs.Runs.{placed_line_cmp, placed_line}
 use Rattle.sweep_events.specs.Status.{run_cmp}
-use Rattle.sweep_events.proofs.PlacesTold.{nat_exact}
+use Rattle.integers.proofs.Tests.{nat_exact}
 
 pub placed_line_cmp_total : IsTotalOrder placed_line_cmp
 placed_line_cmp_total = then_total (on_total (λ (s : PlacedLine). s.line) rise_cmp_total) (on_total (λ (s : PlacedLine). s.place) nat_cmp_total)

@@ -1,9 +1,9 @@
 -- The status after the last event of an abscissa, and the edges of the model's slab on the right.
-use Rattle.std.proofs.Common.{◌≡◌, ℕ, ◌<◌, ℤ, pos, ◌+ℤ◌, ◌-ℤ◌, ◌*ℤ◌, ◌<ℤ◌, ◌≤ℤ◌, refl, ap, sym, ◌∙◌, subst, arith, inl, inr, Bool, true, false, cond, not, ◌&&◌, List, [], ◌∷◌, ◌++◌, map, length, Contains, Ordering, Less, Equal, Greater, nat_cmp}
+use Rattle.std.proofs.Common.{◌≡◌, ℕ, ◌<◌, ℤ, pos, ◌+ℤ◌, ◌-ℤ◌, ◌*ℤ◌, ◌<ℤ◌, ◌≤ℤ◌, refl, ap, sym, ◌∙◌, subst, arith, inl, inr, Bool, true, false, cond, not, ◌&&◌, List, [], ◌∷◌, ◌++◌, map, length, Contains, Ordering, Less, Equal, nat_cmp}
 use Rattle.std.specs.Prelude.{◌⊎◌, ◌↔◌}
 use Rattle.std.specs.List.{count_by, dedup, dedup_from, flat_map}
 use Rattle.std.specs.Cmp.{tied_itself}
-use Rattle.std.specs.Ordering.{is_gt, ordering_then}
+use Rattle.std.specs.Ordering.{is_gt}
 use Rattle.std.proofs.lemmas.Bool.{cases_Bool, le-ltb}
 use Rattle.std.proofs.lemmas.Int.{ints}
 use lib.Dec.{ltb}
@@ -11,10 +11,12 @@ use lib.Signed.{lt_z}
 use Rattle.integers.proofs.Compare.{less_out, equal_out, equal_in, greater_in}
 use Rattle.integers.proofs.Reify.{ring, sides}
 use Rattle.integers.proofs.Signs.{mul_pos}
+use Rattle.integers.proofs.Tests.{not_true, first_less}
 use Rattle.exact_plane.specs.Height.{height_cmp, height_over, height_under}
 use Rattle.exact_plane.specs.Line.{Line}
 use Rattle.exact_plane.specs.Point.{Point, IsPoint}
 use Rattle.exact_plane.specs.Span.{Span, IsSpan, LiesOn, IsAtMost}
+use Rattle.exact_plane.specs.PointOrderLaws.{and_true}
 use Rattle.plane_graphs.specs.Ascending.{Member, IsAscending}
 use Rattle.plane_graphs.specs.Graph.{Edge, edge_cmp, graph, edges, vertices}
 use Rattle.plane_graphs.specs.Line.{precedes}
@@ -22,17 +24,16 @@ use Rattle.plane_graphs.specs.Piece.{Piece, Present, on}
 use Rattle.plane_graphs.proofs.Ascending.{All-member, to_member, from_member}
 use Rattle.plane_graphs.proofs.Crossed.{runs_lt}
 use Rattle.plane_graphs.proofs.Laws.{graph_is_plane}
-use Rattle.plane_graphs.proofs.Lists.{both, and_in, not_out, not_true, clash, in_filter, of_filter, of_flat_map, in_flat_map, IsAscending-filter}
+use Rattle.plane_graphs.proofs.Lists.{and_in, not_out, clash, in_filter, of_filter, of_flat_map, in_flat_map, IsAscending-filter}
 use Rattle.plane_graphs.proofs.Marks.{On, on_in, le_same, le_lt}
 use Rattle.plane_graphs.proofs.Meaning.{edge_cmp_total, edges_ascend, edges_are, vertices_are}
 use Rattle.plane_graphs.proofs.Order.{Lt, lt_in, lt_out, lt_never, lt_trans}
 use Rattle.slab_laws.specs.Meets.{IsOnWall}
-use Rattle.slab_laws.specs.Skeleton.{Skeleton, HasWeight, left_of, gap, same_edge, IsPlaneSkeleton}
+use Rattle.slab_laws.specs.Skeleton.{HasWeight, left_of, gap, same_edge, IsPlaneSkeleton}
 use Rattle.slab_laws.specs.Slabs.{spans, place, slab_right, reaches_right}
 use Rattle.slab_laws.specs.Text.{skeleton}
 use Rattle.slab_faces.proofs.Cells.{spans_right}
-use Rattle.slab_faces.proofs.Member.{member_in, in_member}
-use Rattle.slab_faces.proofs.Member.{Member as Among}
+use Rattle.slab_faces.proofs.Member.{member_in, in_member, Member as Among}
 use Rattle.slab_faces.proofs.Order.{gap-swap}
 use Rattle.slab_faces.proofs.PlaneGraphs.{graph_is_plane_skeleton}
 use Rattle.slab_faces.proofs.Searches.{IsBest, best_of}
@@ -44,13 +45,14 @@ use Rattle.present_graphs.specs.Spans.{span_of_piece, lies_on}
 use Rattle.present_graphs.proofs.OnSpans.{lies_on_out, lies_on_in, on_lies}
 use Rattle.sweep_events.specs.Edges.{edges_along, edges_of_places, IsSlabFromBelow, AreEdgesOfSlab}
 use Rattle.sweep_events.specs.Events.{IsEvent}
-use Rattle.sweep_events.specs.Laws.{IsSlabReached, EdgesOfStatus}
+use Rattle.sweep_events.specs.SweepLaws.{IsSlabReached, EdgesOfStatus}
 use Rattle.sweep_events.specs.Places.{piece_at}
 use Rattle.sweep_events.specs.Slab.{IsRightOf, slab_cmp, IsAcross, IsInSlab}
 use Rattle.sweep_events.proofs.EventsAndVertices.{piece_of, place_of, event_is_vertex, vertex_is_event, spans_of}
 use Rattle.sweep_events.proofs.SlabPlaces.{IsSpanned, IsWeak, of_dedup, in_dedup, rising, numbered, less_below}
 use Rattle.sweep_events.proofs.Queue.{event_point}
 use Rattle.sweep_events.proofs.EventSteps.{not_both}
+use Rattle.sweep_events.proofs.SlabList.{height_itself}
 
 -- ---- points on the right
 right_in : (p q : Point) → IsRightOf p q → left_of p q ≡ true
@@ -101,15 +103,6 @@ turned_less l m t h = ap is_gt (greater_in (height_over m t *ℤ height_under l 
 turned_equal : (l m : Line) (t : Point) → height_cmp l m t ≡ Equal → height_cmp m l t ≡ Equal
 turned_equal l m t h = equal_in (height_over m t *ℤ height_under l t) (height_over l t *ℤ height_under m t) (sym (equal_out (height_over l t *ℤ height_under m t) (height_over m t *ℤ height_under l t) h))
 
-itself : (l : Line) (t : Point) → height_cmp l l t ≡ Equal
-itself l t = equal_in (height_over l t *ℤ height_under l t) (height_over l t *ℤ height_under l t) refl
-
--- what decides comes first
-first_of : (o u : Ordering) → ordering_then o u ≡ Less → (o ≡ Less) ⊎ (o ≡ Equal)
-first_of Less u h = inl refl
-first_of Equal u h = inr refl
-first_of Greater u h = cc
-
 -- a list of which all are one element
 single : {X : Type 0} (cmp : X → X → Ordering) → ((x : X) → cmp x x ≡ Less → ⊥) → (e : X) (xs : List X) → IsAscending cmp xs → Member e xs → ((z : X) → Member z xs → z ≡ e) → xs ≡ e ∷ []
 single cmp never e [] a m f = absurd m
@@ -117,17 +110,11 @@ single cmp never e (x ∷ []) a m f = ap (λ z. z ∷ []) (f x (inl refl))
 single cmp never e (x ∷ y ∷ ys) a m f = absurd (never x (subst (λ z. cmp x z ≡ Less) (f y (inr (inl refl)) ∙ sym (f x (inl refl))) a.0.0))
 
 module _ (p : Present) (q : Point) (places : List ℕ) (at : IsSlabReached p q places) where
-  abbrev ss : List Span
-  ss = map span_of_piece p.pieces
-
   abbrev piece : ℕ → Span
   piece i = piece_at (map span_of_piece p.pieces) i
 
   abbrev n : ℕ
   n = length (map span_of_piece p.pieces)
-
-  abbrev g : Skeleton
-  g = skeleton (graph p)
 
   abbrev slab : ℕ
   slab = slab_right (skeleton (graph p)) q
@@ -211,8 +198,8 @@ module _ (p : Present) (q : Point) (places : List ℕ) (at : IsSlabReached p q p
     edge_there =
         let a = last_low in
         let b = first_high in
-        let u = both (on k a.0) (not (left_of q a.0)) a.1.passes in
-        let v = both (on k b.0) (left_of q b.0) b.1.passes in
+        let u = and_true (on k a.0) (not (left_of q a.0)) a.1.passes in
+        let v = and_true (on k b.0) (left_of q b.0) b.1.passes in
         let ca = member_in (vertices p) a.0 a.1.in' in
         let cb = member_in (vertices p) b.0 b.1.in' in
         let e : Edge = record { low = a.0; high = b.0 } in (
@@ -258,8 +245,8 @@ module _ (p : Present) (q : Point) (places : List ℕ) (at : IsSlabReached p q p
   along_out : (j : ℕ) (e : Edge) → Member e (edges_along (skeleton (graph p)) slab (piece j)) → IsAlong j e
   along_out j e m =
       let a = of_filter (λ e. spans (skeleton (graph p)) slab e && (lies_on (piece j) e.low && lies_on (piece j) e.high)) e (edges (graph p)) m in
-      let b = both (spans (skeleton (graph p)) slab e) (lies_on (piece j) e.low && lies_on (piece j) e.high) a.1 in
-      let c = both (lies_on (piece j) e.low) (lies_on (piece j) e.high) b.1 in
+      let b = and_true (spans (skeleton (graph p)) slab e) (lies_on (piece j) e.low && lies_on (piece j) e.high) a.1 in
+      let c = and_true (lies_on (piece j) e.low) (lies_on (piece j) e.high) b.1 in
       record { edge = from_member (edges (graph p)) e a.0; spanned = b.0; low_on = lies_on_out (piece j) e.low c.0; high_on = lies_on_out (piece j) e.high c.1 }
 
   along_in : (j : ℕ) (e : Edge) → IsAlong j e → Member e (edges_along (skeleton (graph p)) slab (piece j))
@@ -293,7 +280,7 @@ module _ (p : Present) (q : Point) (places : List ℕ) (at : IsSlabReached p q p
       let w = place_of p.pieces m.piece m.piece_in in
       let low : LiesOn (piece w.0) e.low = subst (λ (t : Span). LiesOn t e.low) (sym w.2) (on_lies m.piece e.low m.on_first) in
       let high : LiesOn (piece w.0) e.high = subst (λ (t : Span). LiesOn t e.high) (sym w.2) (on_lies m.piece e.high m.on_last) in
-      let r = both (not (left_of q e.low)) (left_of q e.high) (sym (spans_is e E) ∙ h) in
+      let r = and_true (not (left_of q e.low)) (left_of q e.high) (sym (spans_is e E) ∙ h) in
       (w.0, (at.status.spans w.0).1 (w.1, across w.0 w.1 e E low high (not_out (left_of q e.low) r.0) r.1), record { edge = E; spanned = h; low_on = low; high_on = high })
     where
       -- a piece begins no later than a point on it, and ends no earlier
@@ -351,10 +338,6 @@ module _ (p : Present) (q : Point) (places : List ℕ) (at : IsSlabReached p q p
     through_of : (j : ℕ) (e : Edge) → IsAlong j e → IsThrough e t
     through_of j e h = through (skeleton (graph p)) slab t e is_slab h.edge h.spanned
 
-    -- the edge as a part of the piece's line
-    part : ℕ → Edge → Span
-    part j e = record { lower = e.low; upper = e.high; line = (piece j).line }
-
     long : (j : ℕ) (e : Edge) → IsAlong j e → left_of e.low e.high ≡ true
     long j e h =
         let pl = point_of e.low (event_of e.low (plane.lower_in e h.edge)) in
@@ -405,7 +388,7 @@ module _ (p : Present) (q : Point) (places : List ℕ) (at : IsSlabReached p q p
           single edge_cmp (λ x h. let t = tied_itself edge_cmp_total x in cc) w.0 (edges_along (skeleton (graph p)) slab (piece j))
               (IsAscending-filter edge_cmp (λ e. spans (skeleton (graph p)) slab e && (lies_on (piece j) e.low && lies_on (piece j) e.high)) (edges (graph p)) (edges_ascend (graph p)))
               (along_in j w.0 w.1)
-              (λ z k. let a = along_out j z k in same z w.0 (edges_rise j j z w.0 l l a w.1 (inr (itself (piece j).line t))) (edges_rise j j w.0 z l l w.1 a (inr (itself (piece j).line t)))),
+              (λ z k. let a = along_out j z k in same z w.0 (edges_rise j j z w.0 l l a w.1 (inr (height_itself (piece j).line t))) (edges_rise j j w.0 z l l w.1 a (inr (height_itself (piece j).line t)))),
         )
       where
         same : (z e : Edge) → (z ≡ e) ⊎ (place (skeleton (graph p)) slab z < place (skeleton (graph p)) slab e) → (e ≡ z) ⊎ (place (skeleton (graph p)) slab e < place (skeleton (graph p)) slab z) → z ≡ e
@@ -427,7 +410,7 @@ module _ (p : Present) (q : Point) (places : List ℕ) (at : IsSlabReached p q p
         subst (λ (es : List Edge). IsWeak same_edge same_edge_is same_edge_refl number (es ++ flat_map along js)) (sym w.2) (
           (λ z m. let u = of_flat_map along z js m in
               let k = u.0 in
-              edges_rise j k w.0 z ((at.status.spans j).0 (f j (inl refl))).0 ((at.status.spans k).0 (f k (inr u.1))).0 w.1 (along_out k z u.2) (first_of (height_cmp (piece j).line (piece k).line t) (nat_cmp j k) (All-member (λ y. slab_cmp piece t j y ≡ Less) k js a.0 u.1))),
+              edges_rise j k w.0 z ((at.status.spans j).0 (f j (inl refl))).0 ((at.status.spans k).0 (f k (inr u.1))).0 w.1 (along_out k z u.2) (first_less (height_cmp (piece j).line (piece k).line t) (nat_cmp j k) (All-member (λ y. slab_cmp piece t j y ≡ Less) k js a.0 u.1))),
           weak js (λ i m. f i (inr m)) a.1,
         )
 
@@ -456,7 +439,7 @@ module _ (p : Present) (q : Point) (places : List ℕ) (at : IsSlabReached p q p
         rises = rising same_edge same_edge_is same_edge_refl number x xs (subst (λ (es : List Edge). IsWeak same_edge same_edge_is same_edge_refl number es) k (weak places (λ j m. m) (at.status.ascends t inside)))
 
         none : count_by (λ f. spans (skeleton (graph p)) slab f && ltb (number f) 0) (edges (graph p)) ≡ 0
-        none = sum_by-same (λ f. cond (spans (skeleton (graph p)) slab f && ltb (number f) 0) 1 0) (λ f. 0) (edges (graph p)) (each _ (edges (graph p)) (λ f F. ap (λ b. cond {A = ℕ} b 1 0) (not_true _ (λ h. clash (both (spans (skeleton (graph p)) slab f) (ltb (number f) 0) h).1 (le-ltb (number f) 0 (omega arith)))))) ∙ sum_by-none (edges (graph p))
+        none = sum_by-same (λ f. cond (spans (skeleton (graph p)) slab f && ltb (number f) 0) 1 0) (λ f. 0) (edges (graph p)) (each _ (edges (graph p)) (λ f F. ap (λ b. cond {A = ℕ} b 1 0) (not_true _ (λ h. clash (and_true (spans (skeleton (graph p)) slab f) (ltb (number f) 0) h).1 (le-ltb (number f) 0 (omega arith)))))) ∙ sum_by-none (edges (graph p))
 
     pub edges_here : AreEdgesOfSlab (skeleton (graph p)) slab piece places
     edges_here = record { one_each = λ j m. let w = one_edge j m in (w.0, w.2); from_below = from_below (flat_map along places) refl }
@@ -487,13 +470,13 @@ module _ (p : Present) (q : Point) (places : List ℕ) (at : IsSlabReached p q p
       no_piece : ((v : Point) → Contains (graph p).points v → left_of q v ≡ false) → (j : ℕ) → Member j places → ⊥
       no_piece none j m =
           let w = along_there j m in
-          let r = both (not (left_of q w.0.low)) (left_of q w.0.high) (sym (spans_is w.0 w.1.edge) ∙ w.1.spanned) in
+          let r = and_true (not (left_of q w.0.low)) (left_of q w.0.high) (sym (spans_is w.0 w.1.edge) ∙ w.1.spanned) in
           clash r.1 (none w.0.high (plane.upper_in w.0 w.1.edge))
 
       no_edge : ((v : Point) → Contains (graph p).points v → left_of q v ≡ false) → (e : Edge) → Member e (edges (graph p)) → spans (skeleton (graph p)) slab e ≡ true → ⊥
       no_edge none e m h =
           let E = from_member (edges (graph p)) e m in
-          let r = both (not (left_of q e.low)) (left_of q e.high) (sym (spans_is e E) ∙ h) in
+          let r = and_true (not (left_of q e.low)) (left_of q e.high) (sym (spans_is e E) ∙ h) in
           clash r.1 (none e.high (plane.upper_in e E))
 
       bare : ((v : Point) → Contains (graph p).points v → left_of q v ≡ false) → (js : List ℕ) → ((j : ℕ) → Member j js → ⊥) → IsSlabFromBelow (skeleton (graph p)) slab (edges_of_places (skeleton (graph p)) slab piece js)

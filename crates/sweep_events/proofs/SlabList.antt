@@ -43,7 +43,7 @@ height_less l m t h a = sym (height_cmp-is l m t h) ∙ less_in ((m.a *ℤ t.x +
     below : (a b : ℤ) → pos 0 <ℤ (b -ℤ a) → a <ℤ b
     below a b h = omega (arith, ints)
 
-height_itself : (l : Line) (t : Point) → height_cmp l l t ≡ Equal
+pub height_itself : (l : Line) (t : Point) → height_cmp l l t ≡ Equal
 height_itself l t = equal_in (height_over l t *ℤ height_under l t) (height_over l t *ℤ height_under l t) refl
 
 -- how far two abscissas are apart

@@ -3,7 +3,6 @@ use Rattle.std.proofs.Common.{◌≡◌, ℕ, zero, suc, ◌+◌, ◌<◌, ◌�
 use Rattle.std.specs.Prelude.{◌⊎◌, ⊤}
 use Rattle.std.specs.List.{Contains, count_by, dedup_from}
 use Rattle.std.proofs.lemmas.Bool.{and_parts, and_from, cases_lt, lt-ltb, le-ltb}
-use Rattle.std.proofs.lemmas.Bool.Decides.{nat_tests}
 use Rattle.std.proofs.lemmas.Int.{ints}
 use lib.Dec.{ltb}
 use Rattle.exact_plane.specs.Point.{Point}
@@ -17,12 +16,7 @@ use Rattle.slab_laws.specs.Slabs.{spans, place}
 use Rattle.slab_faces.proofs.Order.{gap-swap}
 use Rattle.slab_faces.proofs.Slabs.{IsSlab, through, by_gap, below_at, place_less, place_same, same_edge_is, same_edge_refl}
 use Rattle.slab_faces.proofs.Sums.{each, sum_by-plus, sum_by-same}
-
-pub number_less : (m n : ℕ) → nat_cmp m n ≡ Less → m < n
-number_less m n h = grind (arith, nat_tests)
-
-pub less_number : (m n : ℕ) → m < n → nat_cmp m n ≡ Less
-less_number m n h = grind (arith, nat_tests)
+use Rattle.integers.proofs.Tests.{nat_less, less_nat}
 
 -- ---- by a number; elements of one number stand in a row, and are the same
 module _ {X : Type 0} (same : X → X → Bool) (sound : (x y : X) → same x y ≡ true → x ≡ y) (itself : (x : X) → same x x ≡ true) (number : X → ℕ) where
@@ -69,7 +63,7 @@ module _ {X : Type 0} (same : X → X → Bool) (sound : (x y : X) → same x y 
 
       step : (b : Bool) → same y x ≡ b → IsAscending (λ u v. nat_cmp (number u) (number v)) (dedup_from same x ys) → IsAscending (λ u v. nat_cmp (number u) (number v)) (dedup_from same y ys) → IsAscending (λ u v. nat_cmp (number u) (number v)) (cond b (dedup_from same x ys) (x ∷ dedup_from same y ys))
       step true e f g = f
-      step false e f g = (all_members (λ v. nat_cmp (number x) (number v) ≡ Less) (dedup_from same y ys) (λ z m. less_number (number x) (number z) (above e z (of_dedup y ys z m))), g)
+      step false e f g = (all_members (λ v. nat_cmp (number x) (number v) ≡ Less) (dedup_from same y ys) (λ z m. nat_less (number x) (number z) (above e z (of_dedup y ys z m))), g)
 
 -- ---- the edges of a slab
 pub record IsSpanned (g : Skeleton) (i : ℕ) (e : Edge) : Type 0 where
@@ -97,16 +91,13 @@ module _ (g : Skeleton) (i : ℕ) (M : Point) (plane : IsPlaneSkeleton g) (slab 
     below_less : at f < at e → below f e ≡ true
     below_less h = by (λ k. k) (λ k. let l = more_below k in absurd (omega (arith, h, l))) (λ k. let l : at f ≡ at e = ap at k in absurd (omega (arith, h, l)))
 
-  below_it : (d : ℕ) → Edge → Bool
-  below_it d f = spans g i f && ltb (at f) d
-
   test_in : (m n : ℕ) → m < n → ltb m n ≡ true
   test_in m n h = lt-ltb m n h
 
   test_out : (m n : ℕ) → ltb m n ≡ true → m < n
   test_out m n h = elim (cases_lt m n) [ inl k ↦ k | inr k ↦ absurd (clash h (le-ltb m n k)) ]
 
-  -- d edges are below place d, and e is there: one edge more is below the next place
+  -- d edges are below place d, and e is there: one more edge is below the next place
   one_more : (d : ℕ) (e : Edge) → IsSpanned g i e → at e ≡ d → count_by (λ f. spans g i f && ltb (at f) d) g.edges ≡ d → count_by (λ f. spans g i f && ltb (at f) (d + 1)) g.edges ≡ d + 1
   one_more d e he k c =
       sum_by-same (λ f. cond (spans g i f && ltb (at f) (d + 1)) 1 0) (λ f. cond (spans g i f && ltb (at f) d) 1 0 + cond (same_edge e f) 1 0) g.edges (each _ g.edges (λ f F. split f F (same_edge e f) refl))
@@ -144,7 +135,7 @@ module _ (g : Skeleton) (i : ℕ) (M : Point) (plane : IsPlaneSkeleton g) (slab 
       he = (from e (inl refl)).0
 
       up : (f : Edge) → Member f es → at e < at f
-      up f m = number_less (at e) (at f) (All-member (λ v. nat_cmp (at e) (at v) ≡ Less) f es r.0 m)
+      up f m = less_nat (at e) (at f) (All-member (λ v. nat_cmp (at e) (at v) ≡ Less) f es r.0 m)
 
       same_test : (f : Edge) → Contains g.edges f → (spans g i f && below f e) ≡ (spans g i f && ltb (at f) d)
       same_test f F = both_ways _ _

@@ -1,12 +1,11 @@
 -- All pieces by their lower ends.
 use Rattle.std.proofs.Common.{◌≡◌, ℕ, zero, suc, ◌<◌, ◌≤◌, ◌+◌, refl, ap, sym, ◌∙◌, subst, arith, inl, inr, true, false, List, [], ◌∷◌, ◌++◌, length, get_or, take, Ordering, Less, Equal, Greater, nat_cmp, is_eq}
-use Rattle.std.proofs.lemmas.Bool.{cases_lt}
+use Rattle.std.proofs.lemmas.Bool.{cases_lt, false_from_ne_true}
 use Rattle.exact_plane.specs.PointOrder.{point_cmp}
 use Rattle.std.specs.List.{AllByRecursion, IsDistinct}
 use Rattle.std.specs.List.Sorted.{IsPermutation, IsSorted}
 use Rattle.std.specs.Ordering.{ordering_then, eq_by_cmp}
 use Rattle.std.specs.Cmp.{IsTotalOrder}
-use Rattle.std.proofs.lemmas.Bool.{false_from_ne_true}
 use Rattle.std.proofs.lemmas.Cmp.{then_total, on_total, nat_cmp_total}
 use Rattle.std.proofs.lemmas.List.{take_all}
 use Rattle.std.proofs.lemmas.List.Sorted.{Contains-permutation, IsPermutation-sym}
@@ -14,12 +13,12 @@ use Rattle.exact_plane.specs.PointOrderLaws.{point_cmp_total}
 use Rattle.exact_plane.specs.Span.{Span, IsSpan}
 use Rattle.plane_graphs.specs.Ascending.{Member}
 use Rattle.plane_graphs.proofs.Ascending.{to_member, from_member}
-use Rattle.present_graphs.proofs.Loops.{take_next}
+use Rattle.plane_graphs.proofs.Loops.{take_next}
 use Rattle.plane_graphs.proofs.Sorting.{any_default, sorted_ascends}
 use Rattle.sweep_events.specs.declared.places.Start.{Start}
 use Rattle.sweep_events.specs.Places.{nowhere, piece_at}
 use Rattle.sweep_events.specs.Starts.{start_cmp, AreStarts}
-use Rattle.sweep_events.proofs.PlacesTold.{nat_exact}
+use Rattle.integers.proofs.Tests.{nat_exact}
 
 pub start_cmp_total : IsTotalOrder start_cmp
 start_cmp_total = then_total (on_total (λ (s : Start). s.lower) point_cmp_total) (on_total (λ (s : Start). s.place) nat_cmp_total)

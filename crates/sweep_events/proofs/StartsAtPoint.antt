@@ -1,6 +1,6 @@
 -- The pieces that start at a point, among all by their lower ends.
 use Rattle.std.proofs.Common.{◌≡◌, ℕ, ◌<◌, refl, ap, sym, ◌∙◌, subst, inl, inr, Bool, true, false, List, [], ◌∷◌, length, take, drop, map, Ordering, Less, Equal, Greater, nat_cmp}
-use Rattle.std.specs.Prelude.{◌⊎◌, Result, Ok, Err, IfOk}
+use Rattle.std.specs.Prelude.{◌⊎◌}
 use Rattle.std.specs.List.Sorted.{IsPartitionPoint, IsPartitionedBy}
 use Rattle.std.specs.Ordering.{is_lt, is_le, ordering_then}
 use Rattle.std.specs.Cmp.{tied_itself}
@@ -18,22 +18,13 @@ use Rattle.sweep_events.specs.Places.{piece_at, IsPlacesOf}
 use Rattle.sweep_events.specs.Starts.{start_cmp, AreStarts}
 use Rattle.sweep_events.proofs.AfterEvent.{ascends_left, ascends_right}
 use Rattle.sweep_events.proofs.ExchangeParts.{within_take, within_drop}
+use Rattle.integers.proofs.Tests.{is_less, first_less}
 
 abbrev pub before : Point → Start → Bool
 before q s = is_lt (point_cmp s.lower q)
 
 abbrev pub upto : Point → Start → Bool
 upto q s = is_le (point_cmp s.lower q)
-
-lower_first : (o u : Ordering) → ordering_then o u ≡ Less → (o ≡ Less) ⊎ (o ≡ Equal)
-lower_first Less u h = inl refl
-lower_first Equal u h = inr refl
-lower_first Greater u h = cc
-
-is_less : (o : Ordering) → is_lt o ≡ true → o ≡ Less
-is_less Less h = refl
-is_less Equal h = cc
-is_less Greater h = cc
 
 neither : (o : Ordering) → is_lt o ≡ false → is_le o ≡ true → o ≡ Equal
 neither Less h k = cc
@@ -55,10 +46,10 @@ carried_upto q x y (inr h) k = ap is_le (point_cmp_total.congr x y q h) ∙ k
 
 module _ (pieces : List Span) (starts : List Start) (ok : AreStarts pieces starts) (q : Point) where
   pub parted_before : IsPartitionedBy (before q) starts
-  parted_before = parted start_cmp (before q) starts ok.ascends (λ x y m n h k. carried q x.lower y.lower (lower_first (point_cmp x.lower y.lower) (nat_cmp x.place y.place) h) k)
+  parted_before = parted start_cmp (before q) starts ok.ascends (λ x y m n h k. carried q x.lower y.lower (first_less (point_cmp x.lower y.lower) (nat_cmp x.place y.place) h) k)
 
   pub parted_upto' : (n : ℕ) (rest : List Start) → IsAscending start_cmp rest → IsPartitionedBy (upto q) rest
-  parted_upto' n rest a = parted start_cmp (upto q) rest a (λ x y m n h k. carried_upto q x.lower y.lower (lower_first (point_cmp x.lower y.lower) (nat_cmp x.place y.place) h) k)
+  parted_upto' n rest a = parted start_cmp (upto q) rest a (λ x y m n h k. carried_upto q x.lower y.lower (first_less (point_cmp x.lower y.lower) (nat_cmp x.place y.place) h) k)
 
   dropped : (n : ℕ) (xs : List Start) → IsAscending start_cmp xs → IsAscending start_cmp (drop n xs)
   dropped n xs a = ascends_right start_cmp (take n xs) (drop n xs) (subst (λ (ys : List Start). IsAscending start_cmp ys) (sym (take-append-drop n xs)) a)
@@ -119,10 +110,6 @@ module _ (pieces : List Span) (starts : List Start) (ok : AreStarts pieces start
       );
       ascends = places_ascend run (λ s m. (here s m).1) run_ascends;
     }
-
-pub if_ok : {T E : Type 0} (r : Result T E) (P Q : T → Type 0) → ((v : T) → P v → Q v) → IfOk r P → IfOk r Q
-if_ok (Ok v) P Q f h = f v h
-if_ok (Err e) P Q f h = tt
 
 pub parted_read : (pieces : List Span) (starts : List Start) → AreStarts pieces starts → (q : Point) (from : ℕ) (rest : List Start) → rest ≡ drop from starts → IsPartitionedBy (upto q) rest
 parted_read pieces starts ok q from rest e = subst (λ (zs : List Start). IsPartitionedBy (upto q) zs) (sym e) (parted_rest pieces starts ok q from)

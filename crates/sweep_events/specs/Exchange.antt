@@ -38,3 +38,7 @@ pub record IsExchange (pieces : List Span) (q : Point) (before after : List ℕ)
 -- the status with an exchange made
 abbrev pub exchanged : List ℕ → Exchange → List ℕ
 exchanged places t = splice places t.low t.high t.run.items
+
+-- the exchange is what the event at q makes of the status
+abbrev pub IsExchangeAt : List Span → Point → List ℕ → Exchange → Type 0
+IsExchangeAt pieces q places t = IsExchange pieces q places (exchanged places t) t.low t.top

@@ -4,7 +4,7 @@ pub mod Events
 pub mod Exchange
 pub mod FirstQueue
 pub mod Front
-pub mod Laws
+pub mod SweepLaws
 pub mod Places
 pub mod Runs
 pub mod Seams

@@ -16,11 +16,11 @@ pub record IsMet (p : Point) (s : Span) : Type 0 where
   pub unended : point_cmp p s.upper ≡ Less
 
 -- pieces by place, just after p; pieces of one line go by place (this project)
-abbrev pub status_cmp : (ℕ → Span) → Point → ℕ → ℕ → Ordering
+abbrev pub status_cmp : (piece : ℕ → Span) (p : Point) (i j : ℕ) → Ordering
 status_cmp piece p i j = ordering_then (after_cmp p (piece i).line (piece j).line) (nat_cmp i j)
 
 -- and just before q
-abbrev pub waiting_cmp : (ℕ → Span) → Point → ℕ → ℕ → Ordering
+abbrev pub waiting_cmp : (piece : ℕ → Span) (q : Point) → ℕ → ℕ → Ordering
 waiting_cmp piece q i j = ordering_then (before_cmp q (piece i).line (piece j).line) (nat_cmp i j)
 
 -- the first n pieces that the front meets just before q, in that order: they begin before q, and end at q or beyond

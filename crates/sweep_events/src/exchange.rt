@@ -4,7 +4,7 @@ ghost use Rattle.sweep_events.specs.Places.{piece_at, AreSpans};
 ghost use Rattle.sweep_events.specs.Starts.{AreStarts};
 ghost use Rattle.sweep_events.specs.Status.{IsWaiting};
 ghost use Rattle.sweep_events.specs.Sweep.{IsEventAt};
-ghost use Rattle.sweep_events.specs.Exchange.{IsExchange, exchanged};
+ghost use Rattle.sweep_events.specs.Exchange.{IsExchangeAt, exchanged};
 
 use crate::places::{Start, by_slope, count_below, count_upto, parted_at, places_of, starts_at};
 use exact_plane::{Point, Span};
@@ -38,7 +38,7 @@ pub(crate) fn exchange_at(
     requires waits { IsWaiting (piece_at pieces.now) (length pieces.now) point.now status.now }
     ensures in_turn { IfOk result (λ t. t.low ≤ t.high) }
     ensures in_bounds { IfOk result (λ t. t.high ≤ length status.now) }
-    ensures exchange { IfOk result (λ t. IsExchange pieces.now point.now status.now (exchanged status.now t) t.low t.top) }
+    ensures exchange { IfOk result (λ t. IsExchangeAt pieces.now point.now status.now t) }
     ensures event { IfOk result (λ t. IsEventAt pieces.now point.now t.ends t.starts t.passes) }
 {
     let low = count_below(pieces, status, point);

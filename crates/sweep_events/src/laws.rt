@@ -1,4 +1,4 @@
-ghost use Rattle.sweep_events.specs.Laws.{EventsAreVertices, EdgesOfStatus, StatusIsOne, PartOfStatus};
+ghost use Rattle.sweep_events.specs.SweepLaws.{EventsAreVertices, EdgesOfStatus, StatusIsOne, PartOfStatus};
 
 /// The events of a sweep over the pieces of a fit present are its vertices: the ends of its pieces, its pins, and the points on
 /// two pieces of different lines.

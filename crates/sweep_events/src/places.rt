@@ -1,15 +1,13 @@
-ghost use Rattle.std.specs.Prelude.{◌≡◌, ◌≤◌, ◌++◌, ℕ, ◌⊎◌, ◌↔◌, ◌<◌, List, true, false, not, length, map, filter, IfOk, OnOk, OnErr};
+ghost use Rattle.std.specs.Prelude.{◌≡◌, ◌≤◌, ◌++◌, ℕ, ◌<◌, length, map, IfOk, OnOk, OnErr};
 ghost use Rattle.std.specs.List.{splice};
-ghost use Rattle.std.specs.List.Sorted.{IsPartitionPoint};
 ghost use Rattle.std.specs.Ordering.{nat_cmp, is_lt, is_le};
 ghost use Rattle.exact_plane.specs.PointOrder.{point_cmp};
 ghost use Rattle.exact_plane.specs.Point.{IsPoint};
-ghost use Rattle.exact_plane.specs.Span.{Span};
 ghost use Rattle.plane_graphs.specs.Ascending.{ascending, Member, IsAscending};
-ghost use Rattle.sweep_events.specs.Places.{piece_at, is_below, is_upto, AreSpans, ArePlaces, IsPlacesOf};
+ghost use Rattle.sweep_events.specs.Places.{piece_at, is_below, is_upto, IsCutBelow, IsCutUpto, AreSpans, ArePlaces, ArePlacesOfBoth};
 ghost use Rattle.sweep_events.specs.Status.{waiting_cmp, run_cmp};
-ghost use Rattle.sweep_events.specs.Starts.{AreStarts};
-ghost use Rattle.sweep_events.specs.Runs.{placed_line_cmp, placed_line, ends_there};
+ghost use Rattle.sweep_events.specs.Starts.{AreStarts, AreStartingAt};
+ghost use Rattle.sweep_events.specs.Runs.{placed_line_cmp, placed_line, line_places, ends_there, ending_of, others_of};
 
 use exact_plane::{Line, Point, Sign, Span, side, slope_order};
 use no_memory::NoMemory;
@@ -65,7 +63,7 @@ pub(crate) fn count_below(pieces: &[Span], status: &[usize], point: &Point) -> u
     requires places { ArePlaces pieces.now status.now }
     requires waits { IsAscending (waiting_cmp (piece_at pieces.now) point.now) status.now }
     ensures bound { result ≤ length status.now }
-    ensures cut { IsPartitionPoint (λ i. is_below pieces.now point.now i ≡ true) (λ i. is_below pieces.now point.now i ≡ false) status.now result }
+    ensures cut { IsCutBelow pieces.now point.now status.now result }
 {
     status.partition_point(|place| passes_below(pieces, *place, point))
 }
@@ -76,7 +74,7 @@ pub(crate) fn count_upto(pieces: &[Span], status: &[usize], point: &Point) -> us
     requires places { ArePlaces pieces.now status.now }
     requires waits { IsAscending (waiting_cmp (piece_at pieces.now) point.now) status.now }
     ensures bound { result ≤ length status.now }
-    ensures cut { IsPartitionPoint (λ i. is_upto pieces.now point.now i ≡ true) (λ i. is_upto pieces.now point.now i ≡ false) status.now result }
+    ensures cut { IsCutUpto pieces.now point.now status.now result }
 {
     status.partition_point(|place| passes_upto(pieces, *place, point))
 }
@@ -116,7 +114,7 @@ pub(crate) fn starts_at(
     starts: &[Start],
     point: &Point,
 ) -> Result<Sequence<usize>, NoMemory>
-    ensures { IfOk result (λ v. (pieces : List Span) → AreStarts pieces starts.now → IsPlacesOf pieces (λ s. s.lower ≡ point.now) v) }
+    ensures { IfOk result (λ v. AreStartingAt starts.now point.now v) }
 {
     let from = starts.partition_point(|start| starts_before(start, point));
     let (_, rest) = starts.split_at(from);
@@ -155,8 +153,8 @@ pub(crate) fn parted_at(
     point: &Point,
 ) -> Result<(Sequence<usize>, Sequence<usize>), NoMemory>
     requires { IsPoint point.now }
-    ensures ends { IfOk result (λ both. both.0 ≡ filter (ends_there pieces.now point.now) (ascending nat_cmp through.now)) }
-    ensures others { IfOk result (λ both. both.1 ≡ filter (λ i. not (ends_there pieces.now point.now i)) (ascending nat_cmp through.now)) }
+    ensures ends { IfOk result (λ both. both.0 ≡ ending_of pieces.now point.now through.now) }
+    ensures others { IfOk result (λ both. both.1 ≡ others_of pieces.now point.now through.now) }
 {
     let mut places = Vec::from_slice(alloc, through)?;
     arrange(&mut places);
@@ -203,8 +201,8 @@ pub(crate) fn by_slope(
     requires passes_ascend { IsAscending nat_cmp passes.now }
     requires starts_ascend { IsAscending nat_cmp starts.now }
     requires apart { (i : ℕ) → Member i passes.now → Member i starts.now → ⊥ }
-    ensures places { IfOk result (λ v. (i : ℕ) → Member i (map (λ s. s.place) v.items) ↔ (Member i passes.now ⊎ Member i starts.now)) }
-    ensures sloped { IfOk result (λ v. IsAscending (run_cmp (piece_at pieces.now)) (map (λ s. s.place) v.items)) }
+    ensures places { IfOk result (λ v. ArePlacesOfBoth passes.now starts.now (line_places v.items)) }
+    ensures sloped { IfOk result (λ v. IsAscending (run_cmp (piece_at pieces.now)) (line_places v.items)) }
 {
     let mut lines = Vec::new(alloc);
     add_lines(&mut lines, pieces, passes)?;
@@ -215,7 +213,7 @@ pub(crate) fn by_slope(
 
 // The places of these.
 pub(crate) fn places_of(alloc: Global, lines: &[PlacedLine]) -> Result<Vec<usize>, NoMemory>
-    ensures { IfOk result (λ v. v.items ≡ map (λ s. s.place) lines.now) }
+    ensures { IfOk result (λ v. v.items ≡ line_places lines.now) }
 {
     let mut places = Vec::new(alloc);
     for line in lines {

@@ -1,14 +1,13 @@
-ghost use Rattle.std.specs.Prelude.{◌≡◌, ◌↔◌, ◌<◌, ◌≤◌, ◌⊎◌, [], Some, None, IfOk, OnOk, OnErr, IfSome, IfNone, length};
+ghost use Rattle.std.specs.Prelude.{◌≡◌, ◌↔◌, ◌<◌, ◌≤◌, [], Some, None, IfOk, OnOk, OnErr, IfSome, IfNone, length};
 ghost use Rattle.exact_plane.specs.Point.{Point};
 ghost use Rattle.exact_plane.specs.Span.{Span};
 ghost use Rattle.sweep_events.specs.Events.{AreMeeting};
 ghost use Rattle.sweep_events.specs.EventList.{events_left};
 ghost use Rattle.sweep_events.specs.Exchange.{exchanged};
 ghost use Rattle.sweep_events.specs.Places.{ArePlaces};
-ghost use Rattle.sweep_events.specs.Seams.{MeetAtSeam, IsGrown, AreThere};
-ghost use Rattle.sweep_events.specs.Sweep.{Swept, IsNextOf, IsOver, HasStatus, HasSlab, IsEventAt, IsSweep};
+ghost use Rattle.sweep_events.specs.Seams.{IsGrown, AreThere, MeetAt, MeetBelowRun, MeetAboveRun, MeetAtRun};
+ghost use Rattle.sweep_events.specs.Sweep.{Swept, IsNextEvent, IsOver, HasStatus, HasSlab};
 ghost use Rattle.sweep_events.specs.FirstQueue.{HasEnds, HasPins};
-ghost use Rattle.sweep_events.specs.Starts.{AreStarts};
 
 use crate::event::Event;
 use crate::exchange::{Exchange, exchange_at, place_after};
@@ -35,14 +34,14 @@ pub struct Sweep {
 }
 
 impl Model for Sweep {
-    ghost use Rattle.sweep_events.specs.Starts.{AreStarts};
-    ghost use Rattle.sweep_events.specs.Sweep.{Swept, IsSweep};
+    ghost use Rattle.sweep_events.specs.Sweep.{Swept, swept, HasParts};
 
     ghost Value = { Swept };
 
-    ghost view = { λ s. record { pieces = s.pieces.items; pins = s.pins.items; last = s.last; status = s.status.items } };
+    ghost view = { λ s. swept s.pieces.items s.pins.items s.last s.status.items };
 
-    ghost invariant = { λ s. AreStarts s.pieces.items s.starts.items × IsSweep (record { pieces = s.pieces.items; pins = s.pins.items; last = s.last; status = s.status.items }) s.queue.keys };
+    ghost invariant = { λ s.
+        HasParts (swept s.pieces.items s.pins.items s.last s.status.items) s.starts.items s.queue.keys };
 }
 
 // The common point of two pieces of different lines.
@@ -88,8 +87,8 @@ fn await_seam(
     requires in_turn { exchange.now.low ≤ exchange.now.high }
     requires in_bounds { exchange.now.high ≤ length status.now }
     requires places { ArePlaces pieces.now (exchanged status.now exchange.now) }
-    ensures grown { IsGrown (MeetAtSeam pieces.now (exchanged status.now exchange.now) seam) point.now queue.old.keys queue.new.keys }
-    ensures there { OnOk result (AreThere (MeetAtSeam pieces.now (exchanged status.now exchange.now) seam) point.now queue.new.keys) }
+    ensures grown { IsGrown (MeetAt pieces.now status.now exchange.now seam) point.now queue.old.keys queue.new.keys }
+    ensures there { OnOk result (AreThere (MeetAt pieces.now status.now exchange.now seam) point.now queue.new.keys) }
 {
     if seam == 0 {
         return Ok(());
@@ -119,9 +118,9 @@ fn await_seams(
     requires in_turn { exchange.now.low ≤ exchange.now.high }
     requires in_bounds { exchange.now.high ≤ length status.now }
     requires places { ArePlaces pieces.now (exchanged status.now exchange.now) }
-    ensures grown { IsGrown (λ r. MeetAtSeam pieces.now (exchanged status.now exchange.now) exchange.now.low r ⊎ MeetAtSeam pieces.now (exchanged status.now exchange.now) exchange.now.top r) point.now queue.old.keys queue.new.keys }
-    ensures first { OnOk result (AreThere (MeetAtSeam pieces.now (exchanged status.now exchange.now) exchange.now.low) point.now queue.new.keys) }
-    ensures second { OnOk result (AreThere (MeetAtSeam pieces.now (exchanged status.now exchange.now) exchange.now.top) point.now queue.new.keys) }
+    ensures grown { IsGrown (MeetAtRun pieces.now status.now exchange.now) point.now queue.old.keys queue.new.keys }
+    ensures first { OnOk result (AreThere (MeetBelowRun pieces.now status.now exchange.now) point.now queue.new.keys) }
+    ensures second { OnOk result (AreThere (MeetAboveRun pieces.now status.now exchange.now) point.now queue.new.keys) }
 {
     await_seam(queue, pieces, status, exchange, exchange.low, point)?;
     await_seam(queue, pieces, status, exchange, exchange.top, point)
@@ -184,7 +183,7 @@ impl Sweep {
     ///
     /// There was no memory. The sweep is as it was, and may be asked again.
     pub fn next_event(&mut self) -> Result<Option<Event>, NoMemory>
-        ensures next { IfOk result (λ o. IfSome o (λ e. IsNextOf self.old e.point × IsEventAt self.old.pieces e.point e.ends e.starts e.passes)) }
+        ensures next { IfOk result (λ o. IfSome o (λ e. IsNextEvent self.old e)) }
         ensures moves { IfOk result (λ o. IfSome o (λ e. self.new.last ≡ Some e.point)) }
         ensures falls { IfOk result (λ o. IfSome o (λ _. events_left self.new < events_left self.old)) }
         ensures none { IfOk result (λ o. IfNone o (IsOver self.old × (self.new ≡ self.old))) }

@@ -3,15 +3,16 @@ use Rattle.std.proofs.Common.{◌≡◌, ◌≢◌, Bool, true, false, ℤ, pos,
 use Rattle.std.specs.Prelude.{if◌then◌else◌}
 use Rattle.std.proofs.lemmas.Int.{ints}
 use Rattle.integers.proofs.Reify.{ring, sides}
-use Rattle.integers.proofs.Signs.{mul_pos}
+use Rattle.integers.proofs.Signs.{mul_pos, more as length_of, more_right}
+use Rattle.integers.proofs.Tests.{not_true}
 use Rattle.exact_plane.specs.Direction.{Direction, IsOneDirection, direction_of}
 use Rattle.exact_plane.specs.Line.{Line, IsOn}
-use Rattle.exact_plane.specs.Plane.{Runs}
+use Rattle.exact_plane.specs.Plane.{RunsForward}
 use Rattle.exact_plane.specs.Point.{Point}
 use Rattle.exact_plane.proofs.Directions.{square_nonneg}
 use Rattle.plane_graphs.specs.Graph.{Edge}
 use Rattle.plane_graphs.specs.Line.{IsProper, IsProperLine, precedes}
-use Rattle.plane_graphs.proofs.Lists.{clash, not_true}
+use Rattle.plane_graphs.proofs.Lists.{clash}
 use Rattle.plane_graphs.proofs.Marks.{Le, le_lt, le_same, le_cases}
 use Rattle.plane_graphs.proofs.Order.{Lt, lt_out, lt_in, Tri, tri}
 use Rattle.plane_graphs.proofs.Order.Tri.{less, same, more}
@@ -22,27 +23,22 @@ use Rattle.slab_laws.specs.Sound.{skeleton_of, edge_in, dart_in, IsGraphSound}
 use Rattle.slab_laws.specs.View.{View, HasVertex, HasDart, point_in, source_in, twin_in, target_in, line_in}
 use Rattle.slab_faces.proofs.OneEdge.{one_edge_at_most}
 use Rattle.arr_notes.specs.Curves.{IsForward}
-use Rattle.edge_fans.specs.Ways.{way_of}
-use Rattle.edge_fans.proofs.Rounds.{one_way}
+use Rattle.rotation_order.specs.Directions.{dart_direction}
+use Rattle.rotation_order.proofs.ClockwiseEdges.{one_way}
 use Rattle.rotation_order.specs.Place.{IsAlongDart}
-use Rattle.sound_splits.proofs.Known.{point_known, edge_known}
-use Rattle.sound_views.proofs.Named.{by_points}
+use Rattle.sound_changes.proofs.KnownNames.{point_known, edge_known}
+use Rattle.sound_views.proofs.NamedDarts.{by_points}
 use Rattle.zone_walk.specs.Walk.{IsAhead}
 use Rattle.zone_walk.proofs.Courses.{within_inside, inside_within}
 
 -- ---- a line's own direction
-length_of : (s t : ℤ) → pos 0 <ℤ s → pos 0 ≤ℤ t → pos 0 <ℤ (s +ℤ t)
-length_of s t h k = omega (arith, ints)
 
-length_up : (s t : ℤ) → pos 0 ≤ℤ s → pos 0 <ℤ t → pos 0 <ℤ (s +ℤ t)
-length_up s t h k = omega (arith, ints)
-
-some_length : (a b : ℤ) → Runs a b → pos 0 <ℤ (b *ℤ b +ℤ neg_ℤ a *ℤ neg_ℤ a)
+pub some_length : (a b : ℤ) → RunsForward a b → pos 0 <ℤ (b *ℤ b +ℤ neg_ℤ a *ℤ neg_ℤ a)
 some_length a b (inl h) = length_of (b *ℤ b) (neg_ℤ a *ℤ neg_ℤ a) (mul_pos h h) (square_nonneg (neg_ℤ a))
 some_length a b (inr h) =
     let n : a <ℤ pos 0 = h.1 in
     let k : pos 0 <ℤ neg_ℤ a = omega (arith, ints) in
-    length_up (b *ℤ b) (neg_ℤ a *ℤ neg_ℤ a) (square_nonneg b) (mul_pos k k)
+    more_right (b *ℤ b) (neg_ℤ a *ℤ neg_ℤ a) (square_nonneg b) (mul_pos k k)
 
 no_turn : (x y : ℤ) → x *ℤ y -ℤ y *ℤ x ≡ pos 0
 no_turn x y = ring (x ∷ y ∷ []) (search sides depth 40 fits 20000) tt
@@ -186,5 +182,5 @@ module _ (v : View) (s : IsGraphSound v) where
     pub along_ahead : (d : DartId) → IsAhead v l (point_in v w) d → IsAlongDart v w (direction_of l) d
     along_ahead d h = record {
       out = (h.forward.0, leaves d h);
-      way = subst (λ (x : Direction). IsOneDirection x (direction_of l)) (λ i. way_of (sym h.line i) (sym h.forward.1 i)) (own_way l line);
+      way = subst (λ (x : Direction). IsOneDirection x (direction_of l)) (λ i. dart_direction (sym h.line i) (sym h.forward.1 i)) (own_way l line);
     }

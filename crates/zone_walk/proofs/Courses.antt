@@ -10,18 +10,18 @@ use Rattle.exact_plane.specs.Segment.{Segment, line_of_segment, AreEnds}
 use Rattle.plane_graphs.specs.Graph.{Edge, det}
 use Rattle.plane_graphs.specs.Line.{IsProper, IsProperLine, IsWhole, precedes, is_on, are_parallel}
 use Rattle.plane_graphs.proofs.Crossings.{zero_too, spans_w, spans_x, spans_y, turned}
-use Rattle.plane_graphs.proofs.Lines.{whole_is_proper, line_of_segment-runs, line_of_segment-lowest, lower_on, upper_on, span_a, span_b, span_c, span_runs, collinear_in, zero_out, zero_in}
-use Rattle.plane_graphs.proofs.Lists.{both, and_in, not_out, clash}
+use Rattle.plane_graphs.proofs.Lines.{whole_is_proper, line_of_segment-runs, line_of_segment-lowest, lower_on, upper_on, span_a, span_b, span_c, span_runs, collinear_in, zero_out, zero_in, apart_out}
+use Rattle.plane_graphs.proofs.Lists.{and_in, not_out, clash}
 use Rattle.plane_graphs.proofs.Marks.{Le, le_out, le_in, le_same, le_lt}
 use Rattle.plane_graphs.proofs.Order.{Lt, lt_trans}
 use Rattle.exact_plane.proofs.Crossings.{parallel_share, same_line}
 use Rattle.exact_plane.proofs.Meetings.{same_line-is}
+use Rattle.exact_plane.specs.PointOrderLaws.{and_true}
 use Rattle.slab_laws.specs.Skeleton as counted
 use Rattle.slab_laws.specs.Skeleton.{inside}
-use Rattle.plane_skeletons.proofs.Inner.{inside_by, before_out}
-use Rattle.edge_fans.proofs.Factors.{zero_between}
+use Rattle.slab_faces.proofs.InnerPoints.{inside_by, before_out}
+use Rattle.rotation_order.proofs.Factors.{zero_between}
 use Rattle.zone_walk.specs.Zone.{is_on_segment}
-use Rattle.zone_walk.proofs.LineCrossings.{weight_none}
 
 -- ---- a segment's line
 pub record IsCourse (s : Segment) : Type 0 where
@@ -53,8 +53,8 @@ pub record LiesOn (s : Segment) (t : Point) : Type 0 where
 
 pub lies_out : (s : Segment) (t : Point) → is_on_segment s t ≡ true → LiesOn s t
 lies_out s t h =
-    let a = both (is_on (line_of_segment s) t) (not (precedes t s.lower) && not (precedes s.upper t)) h in
-    let b = both (not (precedes t s.lower)) (not (precedes s.upper t)) a.1 in
+    let a = and_true (is_on (line_of_segment s) t) (not (precedes t s.lower) && not (precedes s.upper t)) h in
+    let b = and_true (not (precedes t s.lower)) (not (precedes s.upper t)) a.1 in
     record { on = zero_out (side_of (line_of_segment s) t) a.0; from = le_out s.lower t b.0; upto = le_out t s.upper b.1 }
 
 pub lies_in : (s : Segment) (t : Point) → LiesOn s t → is_on_segment s t ≡ true
@@ -90,8 +90,8 @@ module _ (l : Line) (e : Edge) (t : Point) (line : IsProperLine l) (low : IsProp
   no_side : inside e t ≡ true → det e.low e.high t ≡ pos 0
   unfolding counted.side det
   no_side h =
-      let a = both (counted.precedes e.low t && counted.precedes t e.high) (not (lt_z (counted.side e t) (pos 0)) && not (lt_z (pos 0) (counted.side e t))) h in
-      let b = both (not (lt_z (counted.side e t) (pos 0))) (not (lt_z (pos 0) (counted.side e t))) a.1 in
+      let a = and_true (counted.precedes e.low t && counted.precedes t e.high) (not (lt_z (counted.side e t) (pos 0)) && not (lt_z (pos 0) (counted.side e t))) h in
+      let b = and_true (not (lt_z (counted.side e t) (pos 0))) (not (lt_z (pos 0) (counted.side e t))) a.1 in
       zero_between (det e.low e.high t) (not_out (lt_z (counted.side e t) (pos 0)) b.0) (not_out (lt_z (pos 0) (counted.side e t)) b.1)
 
   on_its_line : Lt e.low e.high → det e.low e.high t ≡ pos 0 → IsOn l t
@@ -103,8 +103,8 @@ module _ (l : Line) (e : Edge) (t : Point) (line : IsProperLine l) (low : IsProp
 
   pub inside_within : inside e t ≡ true → IsWithin l e t
   inside_within h =
-      let a = both (counted.precedes e.low t && counted.precedes t e.high) (not (lt_z (counted.side e t) (pos 0)) && not (lt_z (pos 0) (counted.side e t))) h in
-      let b = both (counted.precedes e.low t) (counted.precedes t e.high) a.0 in
+      let a = and_true (counted.precedes e.low t && counted.precedes t e.high) (not (lt_z (counted.side e t) (pos 0)) && not (lt_z (pos 0) (counted.side e t))) h in
+      let b = and_true (counted.precedes e.low t) (counted.precedes t e.high) a.0 in
       let k = before_out e.low t low proper b.0 in
       let m = before_out t e.high proper high b.1 in
       record { on = on_its_line (lt_trans k m) (no_side h); after = k; before = m }
@@ -112,7 +112,7 @@ module _ (l : Line) (e : Edge) (t : Point) (line : IsProperLine l) (low : IsProp
 -- ---- two lines that share a point and are parallel are one
 pub one_line : (l m : Line) (t : Point) → IsProperLine l → IsProperLine m → IsProper t → IsOn l t → IsOn m t → are_parallel l m ≡ true → l ≡ m
 one_line l m t L M T x y e =
-    let w = weight_none (l.a *ℤ m.b) (m.a *ℤ l.b) e in
+    let w = apart_out (l.a *ℤ m.b) (m.a *ℤ l.b) e in
     let o = parallel_share l.a l.b l.c m.a m.b m.c t.x t.y t.w T.positive w x y in
     let s = same_line l.a l.b l.c m.a m.b m.c L.lowest M.lowest L.runs M.runs w o.0 o.1 in
     λ i. record { a = s.0 i; b = s.1 i; c = s.2 i }

@@ -1,11 +1,11 @@
 -- A point inside an edge and on a span of a line that isn't parallel is a point of the plane within its bounds, since it is between two that are.
-use Rattle.std.proofs.Common.{◌≡◌, [], ◌∷◌, ℤ, pos, ◌<ℤ◌, ◌≤ℤ◌, neg_ℤ, false, refl, sym, ap, ◌∙◌, subst, arith, inl, inr, ⊎_elim, Ordering, Less, Equal, Greater}
+use Rattle.std.proofs.Common.{◌≡◌, [], ◌∷◌, ℤ, pos, ◌<ℤ◌, ◌≤ℤ◌, neg_ℤ, false, refl, sym, ap, ◌∙◌, subst, arith, ⊎_elim, Ordering, Less, Equal, Greater}
 use Rattle.std.specs.Ordering.{int_cmp}
 use Rattle.std.proofs.lemmas.Int.{ints}
 use Rattle.integers.proofs.Compare.{less_out, equal_out, greater_out}
 use Rattle.integers.proofs.Reify.{ring, sides}
+use Rattle.integers.proofs.Signs.{neg_above}
 use Rattle.exact_plane.specs.Line.{Line, side_of, IsOn}
-use Rattle.exact_plane.specs.Plane.{Before}
 use Rattle.exact_plane.specs.Point.{Point, IsPoint}
 use Rattle.exact_plane.specs.Span.{Span, IsSpan}
 use Rattle.exact_plane.proofs.Along.{mean_between}
@@ -13,19 +13,9 @@ use Rattle.exact_plane.proofs.Between.{Mean, mean_left}
 use Rattle.exact_plane.proofs.Meetings.{runs}
 use Rattle.exact_plane.proofs.PlaneLaws.{Crossing, crosses_to_right, crosses_to_left}
 use Rattle.plane_graphs.specs.Line.{IsProper, are_parallel}
-use Rattle.plane_graphs.proofs.Lines.{span_runs, span_a, span_b, point_is_proper}
+use Rattle.plane_graphs.proofs.Lines.{point_is_proper, before_of}
 use Rattle.plane_graphs.proofs.Order.{Lt, lt_never}
 use Rattle.zone_walk.proofs.LineCrossings.{is_crossing}
-
-before_of : (p q : Point) → IsProper p → IsProper q → Lt p q → Before p.x p.y p.w q.x q.y q.w
-before_of p q hp hq l =
-    ⊎_elim
-    (λ (h : pos 0 <ℤ span_b p q). inl (omega (arith, ints)))
-    (λ (h : (span_b p q ≡ pos 0) × (span_a p q <ℤ pos 0)). inr (omega (arith, ints, h.0), omega (arith, ints, h.1)))
-    (span_runs p q hp hq l)
-
-above : (z : ℤ) → z <ℤ pos 0 → pos 0 <ℤ neg_ℤ z
-above z h = omega (arith, ints)
 
 module _ (s : Span) (is : IsSpan s) (m : Line) (x : Point) (proper : IsProper x) (low : Lt s.lower x) (high : Lt x s.upper) (on : IsOn s.line x) (on_m : IsOn m x) where
   mean : Mean s.lower.x s.lower.y s.lower.w x.x x.y x.w s.upper.x s.upper.y s.upper.w
@@ -61,7 +51,7 @@ module _ (s t : Span) (hs : IsSpan s) (ht : IsSpan t) (x : Point) (proper : IsPr
 
   rises : side_of t.line s.lower <ℤ pos 0 → pos 0 <ℤ side_of t.line s.upper
   rises h =
-      let f = falls s hs (reversed t.line) x proper low high on_s (reversed_side t.line x ∙ ap neg_ℤ on_t) (subst (λ z. pos 0 <ℤ z) (sym (reversed_side t.line s.lower)) (above (side_of t.line s.lower) h)) in
+      let f = falls s hs (reversed t.line) x proper low high on_s (reversed_side t.line x ∙ ap neg_ℤ on_t) (subst (λ z. pos 0 <ℤ z) (sym (reversed_side t.line s.lower)) (neg_above (side_of t.line s.lower) h)) in
       up (side_of t.line s.upper) (subst (λ z. z <ℤ pos 0) (reversed_side t.line s.upper) f)
     where
       up : (z : ℤ) → neg_ℤ z <ℤ pos 0 → pos 0 <ℤ z

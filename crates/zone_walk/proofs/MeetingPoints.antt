@@ -4,13 +4,13 @@ use Rattle.std.specs.List.{filter, flat_map}
 use Rattle.exact_plane.specs.Line.{side_of}
 use Rattle.exact_plane.specs.Point.{Point}
 use Rattle.exact_plane.specs.PointOrder.{point_cmp}
-use Rattle.exact_plane.specs.PointOrderLaws.{point_cmp_total, same_point as point_cmp_exact}
+use Rattle.exact_plane.specs.PointOrderLaws.{point_cmp_total, same_point as point_cmp_exact, and_true}
 use Rattle.exact_plane.specs.Segment.{Segment, line_of_segment}
 use Rattle.exact_plane.specs.Span.{IsSpan, span_of_segment}
 use Rattle.plane_graphs.specs.Ascending.{Member, IsAscending}
 use Rattle.plane_graphs.specs.Line.{precedes, is_on, are_parallel, crossing}
 use Rattle.plane_graphs.proofs.Ascending.{IsAscending-ascending}
-use Rattle.plane_graphs.proofs.Lists.{both, and_in, not_in, in_left, in_right, in_either, in_filter, of_filter, in_map, of_map, in_flat_map, of_flat_map, of_ascending, in_ascending}
+use Rattle.plane_graphs.proofs.Lists.{and_in, not_in, in_left, in_right, in_either, in_filter, of_filter, in_map, of_map, in_flat_map, of_flat_map, of_ascending, in_ascending}
 use Rattle.plane_graphs.proofs.Lines.{zero_in}
 use Rattle.plane_graphs.proofs.Order.{Lt, lt_out, lt_never, lt_both}
 use Rattle.slab_laws.specs.declared.names.DartId.{DartId}
@@ -19,7 +19,7 @@ use Rattle.slab_laws.specs.Skeleton.{inside}
 use Rattle.slab_laws.specs.Sound.{points_of, edge_in}
 use Rattle.slab_laws.specs.Tables.{row_at, names, NamesAscend}
 use Rattle.slab_laws.specs.View.{View, HasVertex, HasDart, vertex_id, dart_id, point_in, point_or, line_in}
-use Rattle.sound_views.proofs.Tabled.{has_name, name_has, row_found}
+use Rattle.sound_views.proofs.NameTables.{has_name, name_has, row_found}
 use Rattle.zone_walk.specs.Zone.{is_on_segment, passes, meeting_points}
 
 -- ---- the points of a view
@@ -64,7 +64,7 @@ module _ (v : View) (s : Segment) (d : DartId) where
   pub passes_out : (p : Point) → Member p (passes v s d) → IsPassed v s d p
   passes_out p m =
       let w = passed_one (are_parallel (line_of_segment s) (line_in v d)) (is_on_segment s place && inside (edge_in v d) place) p place m in
-      let b = both (is_on_segment s place) (inside (edge_in v d) place) w.1 in
+      let b = and_true (is_on_segment s place) (inside (edge_in v d) place) w.1 in
       record { crosses = w.0; crossing = w.2; on_segment = ap (is_on_segment s) w.2 ∙ b.0; inner = ap (inside (edge_in v d)) w.2 ∙ b.1 }
 
   pub passes_one : (p : Point) → IsPassed v s d p → passes v s d ≡ p ∷ []
@@ -76,7 +76,7 @@ module _ (v : View) (s : Segment) (d : DartId) where
   pub passes_none : ((p : Point) → IsPassed v s d p → ⊥) → passes v s d ≡ []
   passes_none f =
       none_passed (are_parallel (line_of_segment s) (line_in v d)) (is_on_segment s place && inside (edge_in v d) place) place
-      (λ a b. let w = both (is_on_segment s place) (inside (edge_in v d) place) b in f place (record { crosses = a; crossing = refl; on_segment = w.0; inner = w.1 }))
+      (λ a b. let w = and_true (is_on_segment s place) (inside (edge_in v d) place) b in f place (record { crosses = a; crossing = refl; on_segment = w.0; inner = w.1 }))
 
 -- ---- the meeting points
 pub data MeetsAt (v : View) (s : Segment) (p : Point) : Type 0 where
@@ -85,10 +85,10 @@ pub data MeetsAt (v : View) (s : Segment) (p : Point) : Type 0 where
   vertex : (w : VertexId) → HasVertex v w → p ≡ point_in v w → is_on_segment s p ≡ true → MeetsAt v s p
   passed : (d : DartId) → HasDart v d → Member p (passes v s d) → MeetsAt v s p
 
-abbrev vertices_on : View → Segment → List Point
+abbrev vertices_on : View → (s : Segment) → List Point
 vertices_on v s = filter (is_on_segment s) (points_of v)
 
-abbrev all_passes : View → Segment → List Point
+abbrev all_passes : (v : View) (s : Segment) → List Point
 all_passes v s = flat_map (λ r. passes v s (dart_id r.0)) v.darts
 
 module _ (v : View) (s : Segment) where

@@ -5,10 +5,11 @@ use Rattle.exact_plane.specs.Line.{Line}
 use Rattle.exact_plane.specs.Point.{Point}
 use Rattle.exact_plane.specs.Segment.{Segment, line_of_segment}
 use Rattle.exact_plane.specs.Span.{Span, IsSpan, span_of_segment}
+use Rattle.exact_plane.specs.PointOrderLaws.{and_true}
 use Rattle.plane_graphs.specs.Ascending.{Member}
 use Rattle.plane_graphs.specs.Line.{precedes, is_on}
 use Rattle.plane_graphs.proofs.Ascending.{to_member, from_member}
-use Rattle.plane_graphs.proofs.Lists.{both, not_out, not_true, clash}
+use Rattle.plane_graphs.proofs.Lists.{not_out, clash}
 use Rattle.plane_graphs.proofs.Order.{Lt, lt_out, lt_in, lt_trans, lt_never}
 use Rattle.plane_graphs.proofs.Marks.{Le, lt_le_lt, le_trans}
 use Rattle.slab_laws.specs.declared.names.DartId.{DartId}
@@ -22,6 +23,7 @@ use Rattle.zone_walk.specs.declared.plan.Meeting.{Meeting}
 use Rattle.zone_walk.specs.Found.{ends_of, IsWhole, IsLaterMeeting, IsNearer, IsNoVertexBetween, IsNoPassBetween, IsPassAt, IsNoPass}
 use Rattle.zone_walk.specs.Zone.{is_on_segment, passes, meeting_points, IsNextMeeting}
 use Rattle.zone_walk.proofs.MeetingPoints.{MeetsAt, lower, upper, vertex, passed, passes_out, of_meetings, in_meetings, meets_on_segment, on_by}
+use Rattle.integers.proofs.Tests.{not_true}
 
 -- ---- orders
 not_after_in : (p q : Point) → (Lt p q → ⊥) → precedes p q ≡ false
@@ -37,13 +39,13 @@ not_before_nearer r b m h k = not_after_in r m (λ l. (not_after_out r b k).neve
 module _ (s : Segment) (p : Point) (on : is_on_segment s p ≡ true) where
   pub not_before_lower : Lt p s.lower → ⊥
   not_before_lower l =
-      let a = both (is_on (line_of_segment s) p) (not (precedes p s.lower) && not (precedes s.upper p)) on in
-      clash (lt_in l) (not_out (precedes p s.lower) (both (not (precedes p s.lower)) (not (precedes s.upper p)) a.1).0)
+      let a = and_true (is_on (line_of_segment s) p) (not (precedes p s.lower) && not (precedes s.upper p)) on in
+      clash (lt_in l) (not_out (precedes p s.lower) (and_true (not (precedes p s.lower)) (not (precedes s.upper p)) a.1).0)
 
   pub not_after_upper : Lt s.upper p → ⊥
   not_after_upper l =
-      let a = both (is_on (line_of_segment s) p) (not (precedes p s.lower) && not (precedes s.upper p)) on in
-      clash (lt_in l) (not_out (precedes s.upper p) (both (not (precedes p s.lower)) (not (precedes s.upper p)) a.1).1)
+      let a = and_true (is_on (line_of_segment s) p) (not (precedes p s.lower) && not (precedes s.upper p)) on in
+      clash (lt_in l) (not_out (precedes s.upper p) (and_true (not (precedes p s.lower)) (not (precedes s.upper p)) a.1).1)
 
 -- ---- nearer meeting points
 module _ (v : View) (s : Segment) (p : Point) where
@@ -95,23 +97,12 @@ module _ (v : View) (ascend : NamesAscend (names v.vertices)) (whole : Span) (al
 
     pub nearer_vertex : is_on whole.line x ≡ true → precedes p x && precedes x best.point ≡ true → IsNearer v s p best (record { point = x; spot = Vertex w })
     nearer_vertex line b =
-        let c = both (precedes p x) (precedes x best.point) b in
+        let c = and_true (precedes p x) (precedes x best.point) b in
         let before = lt_out x best.point c.1 in
         nearer_before v s p best (record { point = x; spot = Vertex w }) (vertex_meets line (lt_out p x c.0) before) before
 
     pub vertex_itself : IsNoVertexBetween v s p x w
     vertex_itself = record { none = λ i l. not_after_in (point_in v w) x (λ k. lt_never (subst (λ (q : Point). Lt (point_in v w) q) read k)) }
-
-    pub vertex_left : is_on whole.line x && (precedes p x && precedes x best.point) ≡ false → IsNoVertexBetween v s p best.point w
-    vertex_left f = record {
-      none = λ i l.
-          let a = both (is_on (line_of_segment s) (point_in v w)) (not (precedes (point_in v w) s.lower) && not (precedes s.upper (point_in v w))) i in
-          last (is_on whole.line x) (precedes p x) (precedes x best.point) (precedes (point_in v w) best.point)
-          (ap (is_on whole.line) read ∙ ap (λ (k : Line). is_on k (point_in v w)) all.line ∙ a.0) (ap (precedes p) read ∙ l) (ap (λ (q : Point). precedes q best.point) read) f;
-    }
-      where
-        last : (a b c d : Bool) → a ≡ true → b ≡ true → c ≡ d → a && (b && c) ≡ false → d ≡ false
-        last a b c d e f g h = sym g ∙ sym (rw (e, f) refl) ∙ h
 
   -- ---- edges
   module _ (best : Meeting) (h : IsLaterMeeting v s p best) (d : DartId) (has : HasDart v d) where
@@ -121,7 +112,7 @@ module _ (v : View) (ascend : NamesAscend (names v.vertices)) (whole : Span) (al
 
       pub nearer_crossing : precedes p x && precedes x best.point ≡ true → IsNearer v s p best (record { point = x; spot = OnEdge d })
       nearer_crossing b =
-          let c = both (precedes p x) (precedes x best.point) b in
+          let c = and_true (precedes p x) (precedes x best.point) b in
           nearer_before v s p best (record { point = x; spot = OnEdge d })
           (record { meets = from_member (meeting_points v s) x (in_meetings v s ascend x (passed d has there)); later = c.0; spot = (has, forward, (passes_out v s d x there).inner) })
           (lt_out x best.point c.1)

@@ -1,9 +1,9 @@
 -- Where a whole segment and the span of an edge meet in one point inside the edge, the segment passes through the edge there, and nowhere else.
-use Rattle.std.proofs.Common.{◌≡◌, ◌≢◌, MatchOption, Option, Some, None, arith, is_lt, true, false, not, ◌&&◌, ℤ, pos, ◌*ℤ◌, refl, sym, ap, ◌∙◌, subst}
-use Rattle.std.specs.Ordering.{is_eq}
+use Rattle.std.proofs.Common.{◌≡◌, ◌≢◌, MatchOption, Option, Some, None, arith, is_lt, true, false, not, ◌&&◌, ℤ, pos, ◌*ℤ◌, sym, ap, ◌∙◌, subst}
 use lib.Signed.{lt_z}
 use Rattle.std.proofs.lemmas.Int.{ints}
 use Rattle.integers.proofs.Compare.{equal_in, equal_out}
+use Rattle.integers.proofs.Tests.{not_true}
 use Rattle.exact_plane.specs.Line.{Line, side_of, IsOn}
 use Rattle.exact_plane.specs.Meet.{IsOnlyCommon}
 use Rattle.exact_plane.specs.MeetOf.{later, earlier}
@@ -12,20 +12,22 @@ use Rattle.exact_plane.specs.Segment.{Segment, line_of_segment}
 use Rattle.exact_plane.specs.Span.{Span, IsAtMost, LiesOn, IsSpan}
 use Rattle.exact_plane.proofs.Meetings.{parallel_one}
 use Rattle.exact_plane.proofs.Orders.{at_most_itself, at_most_chain, at_most_both, less_at_most, later_keeps, earlier_keeps, from_later, to_later, upto_earlier, to_earlier}
+use Rattle.exact_plane.specs.PointOrderLaws.{and_true}
 use Rattle.plane_graphs.specs.Line.{IsProper, precedes, is_on, are_parallel}
-use Rattle.plane_graphs.proofs.Lines.{point_is_proper, zero_out, zero_in}
-use Rattle.plane_graphs.proofs.Lists.{both, not_out, not_true, clash}
+use Rattle.plane_graphs.proofs.Lines.{point_is_proper, zero_out, zero_in, apart_out}
+use Rattle.plane_graphs.proofs.Lists.{not_out, clash}
 use Rattle.plane_graphs.proofs.Order.{Lt, Tri, tri, less, same, more, lt_never}
-use Rattle.plane_skeletons.proofs.Inner.{before_out}
+use Rattle.plane_graphs.proofs.Meaning.{parallel_itself}
+use Rattle.slab_faces.proofs.InnerPoints.{before_out}
 use Rattle.edge_predicates.proofs.Sides.{side_same}
 use Rattle.slab_laws.specs.declared.names.DartId.{DartId}
-use Rattle.slab_laws.specs.Drawn.{edge_of}
+use Rattle.slab_laws.specs.SpansDrawn.{edge_of}
 use Rattle.slab_laws.specs.Skeleton as counted
 use Rattle.slab_laws.specs.Sound.{edge_in, dart_in}
 use Rattle.slab_laws.specs.View.{View, line_in}
 use Rattle.zone_walk.specs.Found.{ends_of, IsWhole, IsPassAt, IsNoPass, IsInnerMeeting, IsNoInnerMeeting}
 use Rattle.zone_walk.proofs.InPlane.{in_plane}
-use Rattle.zone_walk.proofs.LineCrossings.{weight_none, crossing_proper, is_crossing}
+use Rattle.zone_walk.proofs.LineCrossings.{crossing_proper, is_crossing}
 use Rattle.zone_walk.proofs.MeetingPoints.{IsPassed, passes_one, passes_none, on_by}
 
 -- ---- orders
@@ -76,23 +78,20 @@ pub record IsWithin (t : Span) (p : Point) : Type 0 where
 
 zero_by : (z : ℤ) → not (lt_z z (pos 0)) && not (lt_z (pos 0) z) ≡ true → z ≡ pos 0
 zero_by z h =
-    let a = both (not (lt_z z (pos 0))) (not (lt_z (pos 0) z)) h in
+    let a = and_true (not (lt_z z (pos 0))) (not (lt_z (pos 0) z)) h in
     let b : lt_z z (pos 0) ≡ false = not_out (lt_z z (pos 0)) a.0 in
     let c : lt_z (pos 0) z ≡ false = not_out (lt_z (pos 0) z) a.1 in
     omega (arith, ints)
 
 pub within_out : (t : Span) → IsSpan t → (p : Point) → IsProper p → counted.inside (edge_of t) p ≡ true → IsWithin t p
 within_out t is p proper h =
-    let a = both (counted.precedes t.lower p && counted.precedes p t.upper) (not (lt_z (counted.side (edge_of t) p) (pos 0)) && not (lt_z (pos 0) (counted.side (edge_of t) p))) h in
-    let b = both (counted.precedes t.lower p) (counted.precedes p t.upper) a.0 in
+    let a = and_true (counted.precedes t.lower p && counted.precedes p t.upper) (not (lt_z (counted.side (edge_of t) p) (pos 0)) && not (lt_z (pos 0) (counted.side (edge_of t) p))) h in
+    let b = and_true (counted.precedes t.lower p) (counted.precedes p t.upper) a.0 in
     record {
       low = before_out t.lower p (point_is_proper t.lower is.lower) proper b.0;
       high = before_out p t.upper proper (point_is_proper t.upper is.upper) b.1;
       on = equal_out (side_of t.line p) (pos 0) (sym (side_same t is p) ∙ equal_in (counted.side (edge_of t) p) (pos 0) (zero_by (counted.side (edge_of t) p) a.1));
     }
-
-parallel_itself : (l : Line) → are_parallel l l ≡ true
-parallel_itself l = ap is_eq (equal_in (l.a *ℤ l.b) (l.a *ℤ l.b) refl)
 
 -- ---- what is said of the whole segment and the edge's span
 module _ (v : View) (d : DartId) (whole span : Span) (all : IsWhole whole) (is_span : IsSpan span) (edge : edge_of span ≡ edge_in v d) (line : span.line ≡ line_in v d) where
@@ -107,8 +106,8 @@ module _ (v : View) (d : DartId) (whole span : Span) (all : IsWhole whole) (is_s
       let c : are_parallel whole.line span.line ≡ false = sym crosses_too ∙ h.crosses in
       let proper : IsProper p = subst IsProper (sym h.crossing) (crossing_proper (line_of_segment s) (line_in v d) h.crosses) in
       let w : IsWithin span p = within_out span is_span p proper (ap (λ e. counted.inside e p) edge ∙ h.inner) in
-      let a = both (is_on (line_of_segment s) p) (not (precedes p s.lower) && not (precedes s.upper p)) h.on_segment in
-      let b = both (not (precedes p s.lower)) (not (precedes s.upper p)) a.1 in
+      let a = and_true (is_on (line_of_segment s) p) (not (precedes p s.lower) && not (precedes s.upper p)) h.on_segment in
+      let b = and_true (not (precedes p s.lower)) (not (precedes s.upper p)) a.1 in
       let on : IsOn whole.line p = subst (λ (l : Line). IsOn l p) (sym all.line) (zero_out (side_of (line_of_segment s) p) a.0) in (
         in_plane span whole is_span all.span p proper w.low w.high w.on on c,
         record {
@@ -135,7 +134,7 @@ module _ (v : View) (d : DartId) (whole span : Span) (all : IsWhole whole) (is_s
     not_parallel e =
         let k = h.meeting in
         let w : IsWithin span p = within_out span is_span p proper h.inner in
-        let one = parallel_one whole.line span.line p all.span.line is_span.line k.point.range.positive (weight_none (whole.line.a *ℤ span.line.b) (span.line.a *ℤ whole.line.b) e) k.on_first.on k.on_second.on in
+        let one = parallel_one whole.line span.line p all.span.line is_span.line k.point.range.positive (apart_out (whole.line.a *ℤ span.line.b) (span.line.a *ℤ whole.line.b) e) k.on_first.on k.on_second.on in
         not_alone whole span all.span is_span one p k w.low w.high
 
     pub passed_at : IsPassAt v s d p

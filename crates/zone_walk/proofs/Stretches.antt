@@ -6,7 +6,7 @@ use Rattle.exact_plane.specs.Segment.{Segment, line_of_segment}
 use Rattle.plane_graphs.specs.Ascending.{Member}
 use Rattle.plane_graphs.specs.Line.{IsProper, precedes, are_parallel}
 use Rattle.plane_graphs.proofs.Ascending.{to_member, from_member}
-use Rattle.plane_graphs.proofs.Lists.{clash, not_true, decide}
+use Rattle.plane_graphs.proofs.Lists.{clash, decide}
 use Rattle.plane_graphs.proofs.Marks.{Le, le_lt, le_same, le_lt_lt, lt_le_lt}
 use Rattle.plane_graphs.proofs.Order.{Lt, lt_out, lt_in, lt_trans}
 use Rattle.slab_laws.specs.declared.names.DartId.{DartId}
@@ -18,13 +18,14 @@ use Rattle.plane_graphs.specs.Graph.{Edge}
 use Rattle.arr_notes.specs.Curves.{IsForward}
 use Rattle.dcel_records.specs.declared.spot.Spot.{Spot}
 use Rattle.dcel_records.specs.declared.spot.Spot.TheVariants.{Vertex, Edge as OnEdge, Face}
-use Rattle.sound_views.proofs.Named.{twin_dart}
+use Rattle.sound_views.proofs.NamedDarts.{twin_dart}
 use Rattle.zone_walk.specs.Walk.{lesser, IsAhead, IsSpotAhead, IsStretch}
 use Rattle.zone_walk.specs.Zone.{meeting_points, IsSpotBetween, IsNextMeeting}
 use Rattle.zone_walk.proofs.Aheads.{at_most, target_has, in_dart, dart_in_out, no_vertex_inside, one_inside}
 use Rattle.zone_walk.proofs.Courses.{IsCourse, LiesOn, lies_out, lies_in, lower_lies, upper_lies, one_line, parallel_itself}
 use Rattle.zone_walk.proofs.LineCrossings.{crossing_proper, is_crossing}
 use Rattle.zone_walk.proofs.MeetingPoints.{MeetsAt, lower, upper, vertex, passed, of_meetings, in_meetings, passes_out, passes_one}
+use Rattle.integers.proofs.Tests.{not_true}
 
 -- of the two darts of an edge one is forward
 pub record HasForward (v : View) (d : DartId) : Type 0 where

@@ -1,5 +1,5 @@
 -- What the walk has when it stands at a meeting point, and the zone that it has at the upper end.
-use Rattle.std.proofs.Common.{◌≡◌, ◌<◌, ◌≤◌, Bool, true, false, not, List, [], ◌∷◌, ◌++◌, map, length, Contains, refl, sym, ap, ◌∙◌, subst, append_assoc, arith, inl, inr, ⊎_elim}
+use Rattle.std.proofs.Common.{◌≡◌, ◌<◌, ◌≤◌, Bool, true, false, not, List, [], ◌∷◌, ◌++◌, length, Contains, refl, sym, ap, ◌∙◌, subst, append_assoc, arith, inl, inr, ⊎_elim}
 use Rattle.std.specs.List.{filter, AllByRecursion}
 use Rattle.std.proofs.lemmas.List.{append-nil, length-map}
 use Rattle.std.proofs.lemmas.List.Sums.{count_by-le-length}
@@ -12,7 +12,7 @@ use Rattle.std.specs.declared.cmp.Ordering.TheVariants.{Less}
 use Rattle.plane_graphs.specs.Ascending.{Member, IsAscending}
 use Rattle.plane_graphs.specs.Line.{precedes}
 use Rattle.plane_graphs.proofs.Ascending.{ascending_unique, to_member, from_member}
-use Rattle.plane_graphs.proofs.Lists.{clash, in_left, in_right, in_either, in_filter, of_filter, IsAscending-filter}
+use Rattle.plane_graphs.proofs.Lists.{clash, in_left, in_right, in_either, in_filter, of_filter, IsAscending-filter, none_is_empty}
 use Rattle.plane_graphs.proofs.Marks.{Le, le_lt, le_both, le_lt_lt, lt_le_lt}
 use Rattle.plane_graphs.proofs.Order.{Lt, lt_out, lt_in, lt_trans, lt_never, Tri, tri}
 use Rattle.plane_graphs.proofs.Order.Tri.{less, same, more}
@@ -25,7 +25,7 @@ use Rattle.dcel_records.specs.Spots.{IsSpotOf}
 use Rattle.zone_walk.specs.declared.plan.Meeting.{Meeting}
 use Rattle.zone_walk.specs.declared.plan.ZonePlan.{ZonePlan}
 use Rattle.zone_walk.specs.Walk.{IsAhead, IsSpotAhead, IsStretch}
-use Rattle.zone_walk.specs.Zone.{meeting_points, AreSpotsBetween, IsOverlapped, IsZoneOf, IsNextMeeting, is_vertex, is_edge, vertices_needed, edges_needed, darts_among, later_points}
+use Rattle.zone_walk.specs.Zone.{meeting_points, AreSpotsBetween, IsOverlapped, IsZoneOf, IsNextMeeting, is_vertex, is_edge, vertices_needed, edges_needed, darts_among, later_points, points_of_meetings}
 use Rattle.zone_walk.proofs.Aheads.{at_most, one_ahead}
 use Rattle.zone_walk.proofs.Courses.{IsCourse, LiesOn, lies_in}
 use Rattle.zone_walk.proofs.MeetingPoints.{MeetsAt, lower, vertex, meetings_ascend}
@@ -35,10 +35,6 @@ use Rattle.zone_walk.proofs.Stretches.{told, listed, meets_lies, meets_proper}
 all_of : (P : Point → Type 0) (xs : List Point) → ((x : Point) → Member x xs → P x) → AllByRecursion P xs
 all_of P [] f = tt
 all_of P (x ∷ xs) f = (f x (inl refl), all_of P xs (λ y m. f y (inr m)))
-
-none_of : (xs : List Point) → ((x : Point) → Member x xs → ⊥) → xs ≡ []
-none_of [] f = refl
-none_of (x ∷ xs) f = absurd (f x (inl refl))
 
 module _ (ps : List Point) (a : IsAscending point_cmp ps) where
   abbrev after : Point → List Point
@@ -78,11 +74,9 @@ module _ (ps : List Point) (a : IsAscending point_cmp ps) where
       back x n = by x n (tri p x)
 
   pub last : (p : Point) → ((r : Point) → Member r ps → Lt p r → ⊥) → after p ≡ []
-  last p none = none_of (after p) (λ x m. let w = of_filter (precedes p) x ps m in none x w.0 (lt_out p x w.1))
+  last p none = none_is_empty (after p) (λ x m. let w = of_filter (precedes p) x ps m in none x w.0 (lt_out p x w.1))
 
 -- ---- the walk so far
-abbrev pub points_met : List Meeting → List Point
-points_met ms = map (λ m. m.point) ms
 
 -- the one meeting point at which the walk begins
 abbrev pub alone : Point → Spot → List Meeting
@@ -91,14 +85,14 @@ alone p at = record { point = p; spot = at } ∷ []
 pub record IsWalked (v : View) (g : Segment) (ms : List Meeting) (spots : List Spot) (ds : List DartId) (here : Point) (at : Spot) : Type 0 where
   pub meets : Contains (meeting_points v g) here
   pub here_spot : IsSpotOf v here at
-  pub points : points_met ms ++ later_points v g here ≡ meeting_points v g
+  pub points : points_of_meetings ms ++ later_points v g here ≡ meeting_points v g
   pub spots_met : (m : Meeting) → Member m ms → IsSpotOf v m.point m.spot
-  pub between : (qs : List Point) (rest : List Spot) → AreSpotsBetween v g (here ∷ qs) rest → AreSpotsBetween v g (points_met ms ++ qs) (spots ++ rest)
+  pub between : (qs : List Point) (rest : List Spot) → AreSpotsBetween v g (here ∷ qs) rest → AreSpotsBetween v g (points_of_meetings ms ++ qs) (spots ++ rest)
   pub darts : ds ≡ darts_among spots
   pub overlapped : (d : DartId) → Member d ds → IsOverlapped v g d
   pub all_overlapped : (d : DartId) → IsOverlapped v g d → Lt (point_in v (source_in v d)) here → Lt g.lower here → Member d ds
 
-map_more : (ms : List Meeting) (m : Meeting) (qs : List Point) → points_met (ms ++ (m ∷ [])) ++ qs ≡ points_met ms ++ (m.point ∷ qs)
+map_more : (ms : List Meeting) (m : Meeting) (qs : List Point) → points_of_meetings (ms ++ (m ∷ [])) ++ qs ≡ points_of_meetings ms ++ (m.point ∷ qs)
 map_more [] m qs = refl
 map_more (n ∷ ms) m qs = ap (λ (ps : List Point). n.point ∷ ps) (map_more ms m qs)
 
@@ -192,16 +186,16 @@ module _ (v : View) (s : IsGraphSound v) (g : Segment) (c : IsCourse g) where
     on : LiesOn g p
     on = on_segment p w.meets
 
-    more_points : points_met (ms ++ (next ∷ [])) ++ later_points v g next.point ≡ meeting_points v g
-    more_points = map_more ms next (later_points v g next.point) ∙ ap (λ (ps : List Point). points_met ms ++ ps) (sym (fewer_later p next.point k.next)) ∙ w.points
+    more_points : points_of_meetings (ms ++ (next ∷ [])) ++ later_points v g next.point ≡ meeting_points v g
+    more_points = map_more ms next (later_points v g next.point) ∙ ap (λ (ps : List Point). points_of_meetings ms ++ ps) (sym (fewer_later p next.point k.next)) ∙ w.points
 
     more_spots : (m : Meeting) → Member m (ms ++ (next ∷ [])) → IsSpotOf v m.point m.spot
     more_spots m n = ⊎_elim (λ a. w.spots_met m a) (λ b. ⊎_elim (λ e. subst (λ (o : Meeting). IsSpotOf v o.point o.spot) (sym e) there) (λ z. absurd z) b) (in_either m ms (next ∷ []) n)
 
-    more_between : (qs : List Point) (rest : List Spot) → AreSpotsBetween v g (next.point ∷ qs) rest → AreSpotsBetween v g (points_met (ms ++ (next ∷ [])) ++ qs) ((spots ++ (spot ∷ [])) ++ rest)
+    more_between : (qs : List Point) (rest : List Spot) → AreSpotsBetween v g (next.point ∷ qs) rest → AreSpotsBetween v g (points_of_meetings (ms ++ (next ∷ [])) ++ qs) ((spots ++ (spot ∷ [])) ++ rest)
     more_between qs rest h =
         subst (λ (ps : List Point). AreSpotsBetween v g ps ((spots ++ (spot ∷ [])) ++ rest)) (sym (map_more ms next qs))
-        (subst (AreSpotsBetween v g (points_met ms ++ (next.point ∷ qs))) (sym (append_assoc spots (spot ∷ []) rest)) (w.between (next.point ∷ qs) (spot ∷ rest) (k.between, h)))
+        (subst (AreSpotsBetween v g (points_of_meetings ms ++ (next.point ∷ qs))) (sym (append_assoc spots (spot ∷ []) rest)) (w.between (next.point ∷ qs) (spot ∷ rest) (k.between, h)))
 
     more_overlapped : (d : DartId) → Member d (ds ++ darts_among (spot ∷ [])) → IsOverlapped v g d
     more_overlapped d m = ⊎_elim (λ a. w.overlapped d a) (λ b. ahead_overlapped p next.point spot (told v s g c p w.meets) on before k spot k.ahead d b) (in_either d ds (darts_among (spot ∷ [])) m)
@@ -247,13 +241,13 @@ module _ (v : View) (s : IsGraphSound v) (g : Segment) (c : IsCourse g) where
     none_later : later_points v g p ≡ []
     none_later = last (meeting_points v g) (meetings_ascend v g) p (λ r m l. (on_segment r (from_member (meeting_points v g) r m)).upto.never (subst (λ (x : Point). Lt x r) at_upper l))
 
-    all_points : points_met z.vertices ≡ meeting_points v g
-    all_points = sym (append-nil (points_met z.vertices)) ∙ ap (λ (ps : List Point). points_met z.vertices ++ ps) (sym none_later) ∙ w.points
+    all_points : points_of_meetings z.vertices ≡ meeting_points v g
+    all_points = sym (append-nil (points_of_meetings z.vertices)) ∙ ap (λ (ps : List Point). points_of_meetings z.vertices ++ ps) (sym none_later) ∙ w.points
 
     all_between : AreSpotsBetween v g (meeting_points v g) z.between
     all_between =
-        subst (λ (ps : List Point). AreSpotsBetween v g ps z.between) (append-nil (points_met z.vertices) ∙ all_points)
-        (subst (AreSpotsBetween v g (points_met z.vertices ++ [])) (append-nil z.between) (w.between [] [] tt))
+        subst (λ (ps : List Point). AreSpotsBetween v g ps z.between) (append-nil (points_of_meetings z.vertices) ∙ all_points)
+        (subst (AreSpotsBetween v g (points_of_meetings z.vertices ++ [])) (append-nil z.between) (w.between [] [] tt))
 
     as_many : length z.vertices ≡ length (meeting_points v g)
     as_many = sym (length-map z.vertices (λ (m : Meeting). m.point)) ∙ ap (λ (ps : List Point). length ps) all_points

@@ -74,6 +74,10 @@ darts_among [] = []
 darts_among (Edge d ∷ spots) = d ∷ darts_among spots
 darts_among (other ∷ spots) = darts_among spots
 
+-- the edge of a spot, by its dart; none where the spot is no edge (this project)
+abbrev pub dart_of_spot : Spot → List DartId
+dart_of_spot spot = darts_among (spot ∷ [])
+
 -- the plan of an insertion: the meeting points in order, each with its spot in the graph, the spots of the open parts between them, the edges that are overlapped, each once, and the room in which all steps fit (Fogel, Halperin and Wein: insertion by the zone)
 pub record IsZoneOf (v : View) (s : Segment) (z : ZonePlan) : Type 0 where
   pub points : map (λ m. m.point) z.vertices ≡ meeting_points v s
@@ -96,3 +100,7 @@ pub record IsNextMeeting (v : View) (s : Segment) (p q : Point) : Type 0 where
   pub meets : Contains (meeting_points v s) q
   pub later : precedes p q ≡ true
   pub none_between : (r : Point) → Contains (meeting_points v s) r → precedes p r ≡ true → precedes r q ≡ false
+
+-- the points of meetings
+abbrev pub points_of_meetings : List Meeting → List Point
+points_of_meetings ms = map (λ m. m.point) ms

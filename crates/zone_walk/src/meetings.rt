@@ -1,10 +1,10 @@
 ghost use Rattle.std.specs.Prelude.{◌≡◌, ◌&&◌, true, false, MatchOption};
 ghost use Rattle.exact_plane.specs.Span.{span_of_segment};
 ghost use Rattle.plane_graphs.specs.Line.{precedes, is_on};
-ghost use Rattle.slab_laws.specs.Sound.{IsGraphSound, dart_in};
+ghost use Rattle.slab_laws.specs.Sound.{IsGraphSound};
 ghost use Rattle.slab_laws.specs.View.{HasVertex, HasDart};
 ghost use Rattle.dcel_records.specs.Spots.{IsSpotOf};
-ghost use Rattle.zone_walk.specs.Found.{ends_of, IsWhole, IsLaterMeeting, IsNearer, IsNoVertexBetween, IsNoPassBetween, IsPassAt, IsNoPass, IsInnerMeeting, IsNoInnerMeeting};
+ghost use Rattle.zone_walk.specs.Found.{ends_of, IsWhole, IsLaterMeeting, IsNearer, IsNoVertexBetween, AreNoVerticesBetween, TellsNoPassBetween, AreNoPassesBetween, IsPassOfForward, IsInnerMeeting, IsNoInnerMeeting};
 ghost use Rattle.zone_walk.specs.Zone.{is_on_segment, IsNextMeeting};
 
 use crate::plan::Meeting;
@@ -79,7 +79,7 @@ fn first_vertex(records: &Records, whole: &Span, here: &Point, end: Meeting) -> 
     requires on { is_on_segment (ends_of whole.now) here.now ≡ true }
     requires end { IsLaterMeeting records.now.graph (ends_of whole.now) here.now end }
     ensures nearer { IsNearer records.now.graph (ends_of whole.now) here.now end result }
-    ensures vertices { (w : _) → HasVertex records.now.graph w → IsNoVertexBetween records.now.graph (ends_of whole.now) here.now result.point w }
+    ensures vertices { AreNoVerticesBetween records.now.graph (ends_of whole.now) here.now result.point }
 {
     let mut best = end;
     let mut last = None;
@@ -111,7 +111,7 @@ fn crossing_inside(records: &Records, whole: &Span, dart: DartId) -> Option<Poin
     requires sound { IsGraphSound records.now.graph }
     requires whole { IsWhole whole.now }
     requires dart { HasDart records.now.graph dart }
-    ensures { MatchOption result ((dart_in records.now.graph dart).forward ≡ true → IsNoPass records.now.graph (ends_of whole.now) dart) (λ r. ((dart_in records.now.graph dart).forward ≡ true) × IsPassAt records.now.graph (ends_of whole.now) dart r) }
+    ensures { IsPassOfForward records.now.graph (ends_of whole.now) dart result }
 {
     let span = span_of(records, dart)?;
     // A look at it tells that it is a span.
@@ -133,7 +133,7 @@ fn nearer_crossing(
     requires best { IsLaterMeeting records.now.graph (ends_of whole.now) here.now best }
     requires dart { HasDart records.now.graph dart }
     ensures nearer { IsNearer records.now.graph (ends_of whole.now) here.now best result }
-    ensures edge { (dart_in records.now.graph dart).forward ≡ true → IsNoPassBetween records.now.graph (ends_of whole.now) here.now result.point dart }
+    ensures edge { TellsNoPassBetween records.now.graph (ends_of whole.now) here.now result.point dart }
 {
     match crossing_inside(records, whole, dart) {
         Some(point) => {
@@ -157,7 +157,7 @@ fn first_crossing(records: &Records, whole: &Span, here: &Point, so_far: Meeting
     requires whole { IsWhole whole.now }
     requires so_far { IsLaterMeeting records.now.graph (ends_of whole.now) here.now so_far }
     ensures nearer { IsNearer records.now.graph (ends_of whole.now) here.now so_far result }
-    ensures edges { (d : _) → HasDart records.now.graph d → IsNoPassBetween records.now.graph (ends_of whole.now) here.now result.point d }
+    ensures edges { AreNoPassesBetween records.now.graph (ends_of whole.now) here.now result.point }
 {
     let mut best = so_far;
     let mut last = None;

@@ -1,12 +1,11 @@
 ghost use Rattle.std.specs.Prelude.{◌≡◌, ◌++◌, ◌∷◌, [], true, Contains, IfOk, OnOk};
-ghost use Rattle.exact_plane.specs.Line.{IsOn, IsLine};
-ghost use Rattle.exact_plane.specs.Segment.{line_of_segment};
+ghost use Rattle.exact_plane.specs.Line.{IsOn};
 ghost use Rattle.plane_graphs.specs.Line.{precedes, IsProper, IsProperLine};
 ghost use Rattle.slab_laws.specs.Sound.{IsGraphSound};
 ghost use Rattle.slab_laws.specs.View.{HasVertex, HasDart, point_in, target_in};
 ghost use Rattle.dcel_records.specs.Spots.{IsSpotOf};
 ghost use Rattle.zone_walk.specs.Walk.{lesser, IsSpotAhead, IsStretch};
-ghost use Rattle.zone_walk.specs.Zone.{meeting_points, vertices_needed, edges_needed, darts_among, IsZoneOf};
+ghost use Rattle.zone_walk.specs.Zone.{meeting_points, vertices_needed, edges_needed, dart_of_spot, IsZoneOf};
 
 use crate::meetings::next_in_face;
 use crate::plan::{Meeting, ZonePlan};
@@ -115,7 +114,7 @@ fn stretch_from(
 fn extend(plan: &mut ZonePlan, stretch: &Stretch) -> Result<(), NoMemory>
     ensures vertices { OnOk result (plan.new.vertices ≡ plan.old.vertices ++ (stretch.now.next ∷ [])) }
     ensures between { OnOk result (plan.new.between ≡ plan.old.between ++ (stretch.now.spot ∷ [])) }
-    ensures overlapped { OnOk result (plan.new.overlapped ≡ plan.old.overlapped ++ darts_among (stretch.now.spot ∷ [])) }
+    ensures overlapped { OnOk result (plan.new.overlapped ≡ plan.old.overlapped ++ dart_of_spot stretch.now.spot) }
 {
     if let Spot::Edge(dart) = stretch.spot {
         plan.overlapped.push(dart)?;

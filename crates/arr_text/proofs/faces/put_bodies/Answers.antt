@@ -2,9 +2,9 @@ use Rattle.std.proofs.Common.{◌<◌, ◌++◌, ap, ◌∙◌, length, List, �
 use Rattle.std.specs.Prelude.{codes}
 use Rattle.std.proofs.lemmas.List.{drop_all}
 use Rattle.slab_laws.specs.Text.{ended, number}
-use Rattle.arr_text.proofs.Joined.{more}
 use Rattle.arr_text.proofs.FaceBodies.{next_body, no_body}
 use Rattle.arr_text.proofs.faces.put_bodies.Goals as goal
+use Rattle.plane_graphs.proofs.Lists.{then_appended}
 
 pub loop-rank-preserved : goal.loop-rank-preserved
 loop-rank-preserved c =
@@ -13,7 +13,7 @@ loop-rank-preserved c =
     let head : List ℕ = ended (codes "f" ++ number i) in
     let below : i < length bs = omega (arith, c.loop-rank-test.true, c.len-rank-end.ensures) in
     next_body (λ b. ended (codes "f" ++ number b.0) ++ b.1) c.args.out.now.items c.loop-rank.out.items c.extend_from_slice.new.self.items bs i below c.loop-rank.invariant
-    (more c.loop-rank.out.items c.put_rank.new.out.items c.extend_from_slice.new.self.items head (get_or bs i []) c.in_ok-put_rank.ensures
+    (then_appended c.loop-rank.out.items c.put_rank.new.out.items c.extend_from_slice.new.self.items head (get_or bs i []) c.in_ok-put_rank.ensures
     (c.in_ok-extend_from_slice.ensures.items ∙ ap (λ (t : List ℕ). c.put_rank.new.out.items ++ t) c.text.ensures))
 
 pub returns : goal.returns

@@ -6,9 +6,9 @@ use Rattle.std.proofs.lemmas.Bool.{false≢true}
 use Rattle.slab_laws.specs.Sound.{skeleton_of, dart_in}
 use Rattle.slab_laws.specs.Text.{cycle_line}
 use Rattle.slab_laws.specs.View.{dart_id, face_id}
-use Rattle.record_cycles.specs.declared.cycles.CycleKey.{CycleKey}
-use Rattle.record_cycles.specs.Keys.{same_face}
-use Rattle.listed_views.proofs.RankedFaces.{cycle_of}
+use Rattle.record_orders.specs.declared.cycles.CycleKey.{CycleKey}
+use Rattle.record_orders.specs.CycleKeys.{same_face}
+use Rattle.sound_views.proofs.RankedFaces.{cycle_of}
 use Rattle.arr_text.proofs.FaceBodies.{IsGaining, passed, gained}
 use Rattle.arr_text.proofs.FaceNames.{key_at, key_has, key_within}
 use Rattle.arr_text.proofs.faces.put_cycles.Goals.{then-cycle-outer+in_ok-make_cycle_line+in_ok-append, else-cycle-outer}

@@ -3,9 +3,9 @@ use Rattle.std.specs.Prelude.{codes}
 use Rattle.std.specs.List.{position_or_len}
 use Rattle.slab_laws.specs.Sound.{skeleton_of, dart_in}
 use Rattle.slab_laws.specs.Text.{cycle_line}
-use Rattle.record_cycles.specs.declared.cycles.CycleKey.{CycleKey}
-use Rattle.record_cycles.specs.Keys.{same_face}
-use Rattle.listed_views.proofs.RankedFaces.{cycle_of}
+use Rattle.record_orders.specs.declared.cycles.CycleKey.{CycleKey}
+use Rattle.record_orders.specs.CycleKeys.{same_face}
+use Rattle.sound_views.proofs.RankedFaces.{cycle_of}
 use Rattle.arr_text.proofs.FaceBodies.{IsGaining}
 use Rattle.arr_text.proofs.faces.put_cycles.Given as goal
 

@@ -7,7 +7,7 @@ use Rattle.slab_laws.specs.Subdivision.{has_dart}
 use Rattle.slab_laws.specs.Text.{ended, number, index}
 use Rattle.slab_laws.specs.View.{bare_face_in}
 use Rattle.record_orders.specs.declared.vertices.VertexKey.{VertexKey}
-use Rattle.record_cycles.specs.Keys.{same_face}
+use Rattle.record_orders.specs.CycleKeys.{same_face}
 use Rattle.arr_text.proofs.Walks.{points_ascend, written_index}
 use Rattle.arr_text.proofs.FaceBodies.{IsGaining, passed, gained}
 use Rattle.arr_text.proofs.FaceNames.{bare_place, bare_has, vertex_here, vertex_bare}

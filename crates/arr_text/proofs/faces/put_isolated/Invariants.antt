@@ -6,7 +6,7 @@ use Rattle.slab_laws.specs.Subdivision.{has_dart}
 use Rattle.slab_laws.specs.Text.{ended, number, index}
 use Rattle.slab_laws.specs.View.{bare_face_in}
 use Rattle.record_orders.specs.declared.vertices.VertexKey.{VertexKey}
-use Rattle.record_cycles.specs.Keys.{same_face}
+use Rattle.record_orders.specs.CycleKeys.{same_face}
 use Rattle.arr_text.proofs.FaceBodies.{IsGaining}
 use Rattle.arr_text.proofs.faces.put_isolated.Given as goal
 

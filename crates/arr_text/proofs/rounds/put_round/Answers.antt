@@ -6,10 +6,11 @@ use Rattle.slab_laws.specs.Rotation.{twin, next, same_dart}
 use Rattle.slab_laws.specs.Sound.{skeleton_of, dart_in}
 use Rattle.slab_laws.specs.Text.{number, index}
 use Rattle.slab_laws.specs.View.{HasDart, point_in}
-use Rattle.vertex_rounds.specs.Rounds.{round}
-use Rattle.sound_views.proofs.Named.{names_are_darts}
-use Rattle.arr_text.proofs.Walks.{points_ascend, one_dart, two_darts, same_name, other_name, written_index, begun, walked, back_again, cut_off, round_none, round_on, round_end, turned}
+use Rattle.sound_views.specs.VertexRounds.{round}
+use Rattle.sound_views.proofs.NamedDarts.{names_are_darts}
+use Rattle.arr_text.proofs.Walks.{points_ascend, one_dart, two_darts, other_name, written_index, begun, walked, back_again, cut_off, round_none, round_on, round_end, turned}
 use Rattle.arr_text.proofs.rounds.put_round.Goals as goal
+use Rattle.arr_notes.proofs.Names.{same_name}
 
 pub round-init : goal.round-init
 round-init g c =

@@ -4,7 +4,7 @@ use Rattle.slab_laws.specs.Darts.{Dart, target, darts}
 use Rattle.slab_laws.specs.Sound.{skeleton_of, dart_in}
 use Rattle.slab_laws.specs.Text.{number, index}
 use Rattle.slab_laws.specs.View.{HasDart}
-use Rattle.vertex_rounds.specs.Rounds.{round}
+use Rattle.sound_views.specs.VertexRounds.{round}
 use Rattle.arr_text.proofs.rounds.put_round.Given as goal
 
 abbrev pub invariant-round : goal.invariant-round

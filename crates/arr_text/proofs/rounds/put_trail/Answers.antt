@@ -7,9 +7,10 @@ use Rattle.slab_laws.specs.Sound.{skeleton_of, dart_in}
 use Rattle.slab_laws.specs.Text.{number, index}
 use Rattle.slab_laws.specs.View.{HasDart, point_in}
 use Rattle.slab_laws.specs.Cycles.{trail}
-use Rattle.sound_views.proofs.Named.{names_are_darts}
-use Rattle.arr_text.proofs.Walks.{points_ascend, one_dart, two_darts, same_name, other_name, written_index, begun, walked, back_again, cut_off, trail_none, trail_on, trail_end}
+use Rattle.sound_views.proofs.NamedDarts.{names_are_darts}
+use Rattle.arr_text.proofs.Walks.{points_ascend, one_dart, two_darts, other_name, written_index, begun, walked, back_again, cut_off, trail_none, trail_on, trail_end}
 use Rattle.arr_text.proofs.rounds.put_trail.Goals as goal
+use Rattle.arr_notes.proofs.Names.{same_name}
 
 pub trail-init : goal.trail-init
 trail-init g c =

@@ -1,7 +1,7 @@
 use Rattle.std.proofs.Common.{◌≡◌, ◌/◌, length, ap, ◌∙◌}
 use Rattle.slab_laws.specs.Sound.{skeleton_of}
 use Rattle.slab_laws.specs.Subdivision.{subdivision}
-use Rattle.record_cycles.specs.Keys.{ranked_faces}
+use Rattle.record_orders.specs.CycleKeys.{ranked_faces}
 use Rattle.arr_text.proofs.FaceNames.{faces_counted}
 use Rattle.arr_text.proofs.Assembly.{assembled, vertices_counted, edges_counted}
 use Rattle.arr_text.proofs.whole.put_lines.Goals as goal

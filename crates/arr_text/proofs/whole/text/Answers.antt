@@ -1,5 +1,5 @@
 use Rattle.std.proofs.Common.{map, ap, ◌∙◌}
-use Rattle.record_cycles.specs.Keys.{cycle_keys}
+use Rattle.record_orders.specs.CycleKeys.{cycle_keys}
 use Rattle.arr_text.proofs.Assembly.{points_are, names_are, names_have}
 use Rattle.arr_text.proofs.whole.text.Goals as goal
 

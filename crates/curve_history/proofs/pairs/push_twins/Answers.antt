@@ -1,5 +1,5 @@
 use Rattle.std.proofs.Common.{◌∙◌}
-use Rattle.curve_history.specs.Kept.{entry}
+use Rattle.curve_history.specs.HistoryInMemory.{entry}
 use Rattle.curve_history.proofs.Twins.{IsNodeMore, node_more, twin_set, pair_more, pairs_more}
 use Rattle.curve_history.proofs.pairs.push_twins.Goals as goal
 

@@ -1,4 +1,4 @@
-use Rattle.curve_history.specs.Kept.{entry}
+use Rattle.curve_history.specs.HistoryInMemory.{entry}
 use Rattle.curve_history.proofs.Reading.{node_of}
 use Rattle.curve_history.proofs.Twins.{IsNodeLess, node_less, pair_less, pairs_less, less_at}
 use Rattle.curve_history.proofs.pairs.release_pair.Goals as goal

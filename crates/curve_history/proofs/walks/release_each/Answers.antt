@@ -1,6 +1,6 @@
 use Rattle.std.proofs.Common.{arith, refl, ◌∙◌}
 use Rattle.curve_history.specs.Changed.{IsPairLess}
-use Rattle.curve_history.specs.Kept.{item_in}
+use Rattle.curve_history.specs.HistoryInMemory.{item_in}
 use Rattle.curve_history.proofs.Copying.{same_keys, keys_on}
 use Rattle.curve_history.proofs.Emptying.{empty, first_node, first_is, empty_on, fewer, none_left}
 use Rattle.curve_history.proofs.walks.release_each.Goals as goal

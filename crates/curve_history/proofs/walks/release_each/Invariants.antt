@@ -1,7 +1,7 @@
 use Rattle.std.proofs.Common.{◌≡◌, ◌≤◌, length}
 use Rattle.curve_history.specs.Changed.{AreSameKeys, IsEmptied}
 use Rattle.linked_chains.specs.Chains.{chain}
-use Rattle.curve_history.specs.Kept.{ArePairs, pair_room}
+use Rattle.curve_history.specs.HistoryInMemory.{ArePairs, pair_room}
 use Rattle.curve_history.proofs.walks.release_each.Given as goal
 
 abbrev pub invariant-each : goal.invariant-each

@@ -1,7 +1,7 @@
 use Rattle.std.proofs.Common.{◌≡◌, true, false, sym, ap, subst, ◌∙◌}
 use Rattle.plane_graphs.specs.Line.{precedes}
 use Rattle.slab_laws.specs.View.{View, HasVertex, HasDart, point_in, twin_in, target_in, next_in}
-use Rattle.view_changes.specs.Around.{after_in}
+use Rattle.arr_notes.specs.AfterAround.{after_in}
 use Rattle.edge_split_merge.proofs.Meeting.{vertex_has, after_has, found_up, found_down}
 use Rattle.edge_split_merge.proofs.joining.meeting.Goals as goal
 

@@ -1,10 +1,11 @@
 use Rattle.std.proofs.Common.{◌≡◌, sym, ap, subst, ◌∙◌}
 use Rattle.slab_laws.specs.Sound.{IsGraphSound}
 use Rattle.slab_laws.specs.View.{View, next_in}
-use Rattle.view_changes.specs.Reads.{IsRelinked}
+use Rattle.arr_notes.specs.Reads.{IsRelinked}
 use Rattle.arr_notes.specs.Step.{merge_edge}
-use Rattle.sound_splits.proofs.Merges.{merge_sound}
-use Rattle.edge_split_merge.proofs.Removed.{IsMoved, moved, relinked, still_out, source_kept, twin_out, far_out, far_there, not_twin, ends_apart, none_left, twin_left, vertex_still, bare, made}
+use Rattle.arr_notes.proofs.Redirected.{relinked}
+use Rattle.sound_changes.proofs.Merges.{merge_sound}
+use Rattle.edge_split_merge.proofs.Removed.{IsMoved, moved, still_out, source_kept, twin_out, far_out, far_there, not_twin, ends_apart, none_left, twin_left, vertex_still, bare, made}
 use Rattle.edge_split_merge.proofs.joining.merge.Goals as goal
 
 -- only followers were written
@@ -60,7 +61,7 @@ remove_vertex-requires-clause-bare c =
 joined : (c : goal.After-remove_vertex) → c.remove_vertex.new.self.graph ≡ merge_edge c.args.records.now.graph c.args.v c.meeting.result.0 c.meeting.result.1
 joined c =
     let v : View = c.args.records.now.graph in
-    let nx : next_in v c.twin-into_m.result ≡ c.twin-m.result = ap (λ z. next_in v z) c.twin-into_m.ensures.twin ∙ c.before-before_m.ensures.after in
+    let nx : next_in v c.twin-into_m.result ≡ c.twin-m.result = ap (λ z. next_in v z) c.twin-into_m.ensures.twin ∙ c.previous_around_source-before_m.ensures.after in
     made c.args.records.now.graph c.args.v c.meeting.result.0 c.meeting.result.1 c.requires.sound c.meeting.ensures c.twin-t.result c.twin-m.result c.source-end.result c.twin-t.ensures.twin c.twin-m.ensures.twin c.source-end.ensures
     c.twin-into_m.result c.onward-beyond.result c.next-follower.result c.set_next.new.self.graph c.move_source.new.self.graph c.set_next-2.new.self.graph c.remove_pair.new.self.graph c.remove_vertex.new.self.graph c.twin-into_m.ensures.has nx c.next-follower.ensures c.onward-beyond.ensures
     c.set_next.ensures.graph c.move_source.ensures.graph c.set_next-2.ensures.graph c.remove_pair.ensures.graph c.remove_vertex.ensures.graph

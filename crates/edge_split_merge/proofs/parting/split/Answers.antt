@@ -75,7 +75,7 @@ returns-clause-new_names c = record { vertex = c.add_vertex-v.ensures.name; firs
 made : (c : goal.After-set_next-4) → c.set_next-4.new.self.graph ≡ split_edge c.args.records.now.graph c.args.d c.add_vertex-v.result c.args.p c.add_pair.result.0 c.add_pair.result.1
 made c =
     let v : View = c.args.records.now.graph in
-    let nx : next_in v c.twin-into_t.result ≡ twin_in v c.args.d = ap (λ z. next_in v z) c.twin-into_t.ensures.twin ∙ c.before-before_t.ensures.after ∙ c.twin-t.ensures.twin in
+    let nx : next_in v c.twin-into_t.result ≡ twin_in v c.args.d = ap (λ z. next_in v z) c.twin-into_t.ensures.twin ∙ c.previous_around_source-before_t.ensures.after ∙ c.twin-t.ensures.twin in
     chained v c.args.d c.twin-into_t.result c.add_vertex-v.result c.source-end.result c.args.p c.add_pair.result.0 c.add_pair.result.1 c.line-line.result c.requires.sound c.twin-into_t.ensures.has nx (new_pair c).new_first (new_pair c).new_second c.add_pair.ensures.two
     c.add_vertex-v.new.self.graph c.add_pair.new.self.graph c.set_next.new.self.graph c.set_next-2.new.self.graph c.set_next-3.new.self.graph c.move_source.new.self.graph c.set_next-4.new.self.graph
     c.onward-beyond.result c.twin-t.result c.next-follower.result

@@ -2,11 +2,12 @@ use Rattle.std.proofs.Common.{sym, ap, ◌∙◌, subst}
 use Rattle.slab_laws.specs.declared.names.DartId.{DartId}
 use Rattle.slab_laws.specs.Sound.{IsGraphSound}
 use Rattle.slab_laws.specs.View.{View, twin_in}
-use Rattle.view_changes.specs.Reads.{IsRelinked}
+use Rattle.arr_notes.specs.Reads.{IsRelinked}
 use Rattle.dcel_records.specs.Outs.{IsRest}
 use Rattle.arr_notes.specs.Step.{remove_edge}
-use Rattle.sound_links.proofs.Removed.{fewer, removed}
-use Rattle.edge_unlink.proofs.Closing.{once_kept, kept, written, comes_in, edge_gone, rest_kept, ends_kept}
+use Rattle.arr_notes.proofs.Redirected.{relinked as once_kept}
+use Rattle.sound_changes.proofs.EdgeRemoved.{fewer, removed}
+use Rattle.edge_unlink.proofs.Closing.{kept, written, comes_in, edge_gone, rest_kept, ends_kept}
 use Rattle.edge_unlink.proofs.edges.unlink.Goals as goal
 
 pub set_next-requires-2 : goal.set_next-requires-2
@@ -35,8 +36,8 @@ pub returns-clause-graph : goal.returns-clause-graph
 returns-clause-graph c =
     let v : View = c.args.records.now.graph in
     edge_gone v c.args.d c.twin-into_d.result c.twin-into_m.result c.requires.sound c.requires.dart (fewer v c.args.d c.requires.sound c.requires.dart).two_ends
-    c.twin-into_d.ensures.has (comes_in v c.before-before_d.result c.twin-into_d.result c.args.d c.twin-into_d.ensures.twin c.before-before_d.ensures.after)
-    c.twin-into_m.ensures.has (comes_in v c.before-before_m.result c.twin-into_m.result (twin_in v c.args.d) c.twin-into_m.ensures.twin (c.before-before_m.ensures.after ∙ c.twin-m.ensures.twin))
+    c.twin-into_d.ensures.has (comes_in v c.previous_around_source-before_d.result c.twin-into_d.result c.args.d c.twin-into_d.ensures.twin c.previous_around_source-before_d.ensures.after)
+    c.twin-into_m.ensures.has (comes_in v c.previous_around_source-before_m.result c.twin-into_m.result (twin_in v c.args.d) c.twin-into_m.ensures.twin (c.previous_around_source-before_m.ensures.after ∙ c.twin-m.ensures.twin))
     c.set_next-2.new.self.graph c.remove_pair.new.self.graph
     (written v c.args.d c.twin-m.result c.twin-into_d.result c.twin-into_m.result c.next-after_d.result c.next-after_m.result c.set_next.new.self.graph c.set_next-2.new.self.graph c.twin-m.ensures.twin c.next-after_d.ensures c.next-after_m.ensures c.set_next.ensures.graph c.set_next-2.ensures.graph)
     (kept v c.set_next.new.self.graph c.set_next-2.new.self.graph _ _ _ _ c.set_next.ensures.graph c.set_next-2.ensures.graph)

@@ -1,7 +1,8 @@
 use Rattle.std.proofs.Common.{is_some, not, sym, ap, ◌∙◌}
 use Rattle.linked_chains.proofs.Heads.{head_written}
-use Rattle.linked_chains.proofs.Reading.{some_mapped, row_lookup}
+use Rattle.linked_chains.proofs.Reading.{row_lookup}
 use Rattle.linked_chains.proofs.links.set_head.Goals as goal
+use Rattle.plane_graphs.proofs.Lists.{some_mapped}
 
 pub unwrap-requires : goal.unwrap-requires
 unwrap-requires c = sym (some_mapped _ c.get_mut.result) ∙ ap is_some (c.get_mut.ensures.value ∙ sym (row_lookup c.args.heads.now.entries c.args.key)) ∙ c.requires

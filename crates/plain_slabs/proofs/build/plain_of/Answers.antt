@@ -1,6 +1,6 @@
 use Rattle.std.proofs.Common.{sym, subst, ◌∙◌, map}
 use Rattle.std.specs.List.{list_any}
-use Rattle.slab_laws.specs.Drawn.{drawn}
+use Rattle.slab_laws.specs.SpansDrawn.{drawn}
 use Rattle.slab_laws.specs.Skeleton.{IsPlaneSkeleton, same_point}
 use Rattle.plain_slabs.specs.Orbits.{AreOrbits, AreRegions}
 use Rattle.plain_slabs.proofs.Building.{drawn_is, plane_is, kept}

@@ -1,6 +1,6 @@
 use Rattle.std.proofs.Common.{ap, sym, ◌∙◌, cond}
 use Rattle.std.specs.List.{position_or_len}
-use Rattle.slab_laws.specs.Drawn.{drawn}
+use Rattle.slab_laws.specs.SpansDrawn.{drawn}
 use Rattle.slab_laws.specs.Faces.{same_cell, face_labels, face_of}
 use Rattle.slab_laws.specs.Slabs.{left_cell}
 use Rattle.plain_slabs.proofs.LeadRows.{dart_told}

@@ -1,5 +1,5 @@
 use Rattle.std.proofs.Common.{map, ap, ◌∙◌}
-use Rattle.slab_laws.specs.Drawn.{drawn}
+use Rattle.slab_laws.specs.SpansDrawn.{drawn}
 use Rattle.plain_slabs.specs.Faces.{lead_row}
 use Rattle.plain_slabs.proofs.LeadRows.{lead_rows, leads_within}
 use Rattle.plain_slabs.proofs.faces.cycles_of.Goals as goal

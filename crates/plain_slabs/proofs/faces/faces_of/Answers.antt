@@ -1,4 +1,4 @@
-use Rattle.slab_laws.specs.Drawn.{drawn}
+use Rattle.slab_laws.specs.SpansDrawn.{drawn}
 use Rattle.plain_slabs.proofs.FaceLists.{cells_done}
 use Rattle.plain_slabs.proofs.faces.faces_of.Goals as goal
 

@@ -1,5 +1,5 @@
 use Rattle.std.proofs.Common.{◌≡◌, take}
-use Rattle.slab_laws.specs.Drawn.{drawn}
+use Rattle.slab_laws.specs.SpansDrawn.{drawn}
 use Rattle.plain_slabs.specs.Faces.{AreSeen}
 use Rattle.plain_slabs.proofs.FaceLists.{with_cycles, with_cells}
 use Rattle.plain_slabs.proofs.faces.faces_of.Given as goal

@@ -1,7 +1,7 @@
 use Rattle.std.proofs.Common.{sym, ap, ◌∙◌}
 use Rattle.std.specs.Prelude.{find}
 use Rattle.std.specs.List.{position_or_len}
-use Rattle.slab_laws.specs.Drawn.{edge_of, drawn}
+use Rattle.slab_laws.specs.SpansDrawn.{edge_of, drawn}
 use Rattle.slab_laws.specs.Faces.{same_cell}
 use Rattle.slab_laws.specs.Skeleton.{same_point, inside}
 use Rattle.slab_laws.specs.Slabs.{left_cell}

@@ -1,9 +1,9 @@
 use Rattle.std.proofs.Common.{◌++◌, map, sym, ap, ◌∙◌}
 use Rattle.std.proofs.lemmas.List.{take_all}
 use Rattle.plane_graphs.specs.Graph.{mark}
+use Rattle.plane_graphs.proofs.Lists.{map_map}
 use Rattle.slab_laws.specs.declared.names.CurveId.{CurveId}
 use Rattle.present_graphs.specs.Marks.{mark_of}
-use Rattle.plain_slabs.proofs.CurveLists.{map_map}
 use Rattle.plain_slabs.proofs.names.add_marks.Goals as goal
 
 pub returns-clause-marks : goal.returns-clause-marks

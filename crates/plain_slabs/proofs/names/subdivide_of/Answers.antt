@@ -2,9 +2,9 @@ use Rattle.std.proofs.Common.{sym, ap, subst, ◌∙◌}
 use Rattle.plane_graphs.specs.Graph.{Graph}
 use Rattle.slab_laws.specs.Subdivision.{subdivision}
 use Rattle.slab_laws.specs.Text.{skeleton}
-use Rattle.listed_views.specs.Listed.{Drawing, view_of, faces_of}
+use Rattle.plain_slabs.specs.Listed.{Drawing, view_of, faces_of}
 use Rattle.slab_laws.specs.FacesSound.{IsSound}
-use Rattle.listed_views.proofs.Sound.{lists_are_sound}
+use Rattle.plain_slabs.proofs.ListsSound.{lists_are_sound}
 use Rattle.plain_slabs.proofs.names.subdivide_of.Goals as goal
 
 pub returns-clause-graph : goal.returns-clause-graph

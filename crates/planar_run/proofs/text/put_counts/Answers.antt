@@ -1,17 +1,18 @@
 use Rattle.std.proofs.Common.{[], ◌∷◌, ◌++◌, ap, ◌∙◌}
 use Rattle.std.specs.Prelude.{codes, decimal}
-use Rattle.planar_run.proofs.Printed.{then_put, eight}
+use Rattle.planar_run.proofs.Printed.{eight}
 use Rattle.planar_run.proofs.text.put_counts.Goals as goal
+use Rattle.plane_graphs.proofs.Lists.{then_appended}
 
 pub returns : goal.returns
 returns c =
     let n = c.args.counts.now in
     let start = c.args.reply.now in
-    let one = then_put start _ _ _ (32 ∷ decimal n.vertices) c.in_ok-put_text.ensures c.in_ok-put_spaced.ensures in
-    let two = then_put start _ _ _ (32 ∷ decimal n.edges) one c.in_ok-put_spaced-2.ensures in
-    let three = then_put start _ _ _ (32 ∷ decimal n.faces) two c.in_ok-put_spaced-3.ensures in
-    let four = then_put start _ _ _ (32 ∷ decimal n.inner) three c.in_ok-put_spaced-4.ensures in
-    let five = then_put start _ _ _ (32 ∷ decimal n.isolated) four c.in_ok-put_spaced-5.ensures in
-    let six = then_put start _ _ _ (32 ∷ decimal n.curves) five c.in_ok-put_spaced-6.ensures in
-    let seven = then_put start _ _ _ (10 ∷ []) six c.in_ok-put_text-2.ensures in
+    let one = then_appended start _ _ _ (32 ∷ decimal n.vertices) c.in_ok-put_text.ensures c.in_ok-put_spaced.ensures in
+    let two = then_appended start _ _ _ (32 ∷ decimal n.edges) one c.in_ok-put_spaced-2.ensures in
+    let three = then_appended start _ _ _ (32 ∷ decimal n.faces) two c.in_ok-put_spaced-3.ensures in
+    let four = then_appended start _ _ _ (32 ∷ decimal n.inner) three c.in_ok-put_spaced-4.ensures in
+    let five = then_appended start _ _ _ (32 ∷ decimal n.isolated) four c.in_ok-put_spaced-5.ensures in
+    let six = then_appended start _ _ _ (32 ∷ decimal n.curves) five c.in_ok-put_spaced-6.ensures in
+    let seven = then_appended start _ _ _ (10 ∷ []) six c.in_ok-put_text-2.ensures in
     seven ∙ ap (λ xs. start ++ xs) (eight (codes "counts") (32 ∷ decimal n.vertices) (32 ∷ decimal n.edges) (32 ∷ decimal n.faces) (32 ∷ decimal n.inner) (32 ∷ decimal n.isolated) (32 ∷ decimal n.curves) (10 ∷ []))

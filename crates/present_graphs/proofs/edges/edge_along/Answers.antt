@@ -4,7 +4,7 @@ use Rattle.exact_plane.specs.Span.{Span, AreOnWay}
 use Rattle.present_graphs.specs.Marks.{mark_of}
 use Rattle.present_graphs.proofs.Fit.{some_by, some_is}
 use Rattle.present_graphs.proofs.HoldingSpan.{one_passed, mark_way, told_on, told_off}
-use Rattle.present_graphs.proofs.Loops.{read_in}
+use Rattle.plane_graphs.proofs.Loops.{read_in}
 use Rattle.present_graphs.proofs.edges.edge_along.Goals as goal
 
 pub loop-span-preserved : goal.loop-span-preserved

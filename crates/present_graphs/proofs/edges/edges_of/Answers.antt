@@ -3,14 +3,14 @@ use Rattle.std.proofs.lemmas.List.{map_push, take_all}
 use Rattle.plane_graphs.specs.Ascending.{ascending, Member, IsAscending}
 use Rattle.plane_graphs.specs.Graph.{mark_cmp, edge_cmp, edges, graph, edge_of as edge_of_mark}
 use Rattle.plane_graphs.proofs.Lists.{clash, in_either}
-use Rattle.slab_laws.specs.Drawn.{edge_of}
+use Rattle.slab_laws.specs.SpansDrawn.{edge_of}
 use Rattle.slab_laws.specs.Pieces.{piece_of, present_of}
 use Rattle.present_graphs.specs.Edges.{HasSpan, IsAlong, IsLast}
 use Rattle.present_graphs.specs.Marks.{mark_of}
 use Rattle.present_graphs.specs.Spans.{span_of_piece, AreFit}
 use Rattle.present_graphs.proofs.LastEdge.{mark_again, mark_more}
 use Rattle.present_graphs.proofs.HoldingSpan.{has_span, along_all, graph_ascends}
-use Rattle.present_graphs.proofs.Loops.{read_in, read_map, below_map, past_map}
+use Rattle.plane_graphs.proofs.Loops.{read_in, read_map, below_map, past_map}
 use Rattle.present_graphs.proofs.edges.edges_of.Goals.{then-not-is_last+in_ok-push, else-not-is_last}
 use Rattle.present_graphs.proofs.edges.edges_of.Goals as goal
 

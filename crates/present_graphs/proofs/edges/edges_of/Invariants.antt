@@ -1,7 +1,7 @@
 use Rattle.std.proofs.Common.{◌≡◌, map, take}
 use Rattle.plane_graphs.specs.Ascending.{ascending}
 use Rattle.plane_graphs.specs.Graph.{edge_cmp, edge_of as edge_of_mark}
-use Rattle.slab_laws.specs.Drawn.{edge_of}
+use Rattle.slab_laws.specs.SpansDrawn.{edge_of}
 use Rattle.slab_laws.specs.Pieces.{present_of}
 use Rattle.present_graphs.specs.Edges.{AreAlongPieces}
 use Rattle.present_graphs.specs.Marks.{mark_of}

@@ -1,7 +1,7 @@
 use Rattle.plane_graphs.specs.Graph.{mark_cmp}
 use Rattle.plane_graphs.proofs.Order.{mark_cmp_total, mark_cmp_exact}
 use Rattle.present_graphs.specs.Marks.{mark_of}
-use Rattle.present_graphs.proofs.Arranged.{arranged}
+use Rattle.plane_graphs.proofs.Arranged.{arranged}
 use Rattle.present_graphs.proofs.Ties.{mark_ties}
 use Rattle.present_graphs.proofs.marks.arrange.Goals as goal
 

@@ -8,7 +8,7 @@ use Rattle.plane_graphs.proofs.Vertices.{vertices_ascend}
 use Rattle.slab_laws.specs.Pieces.{piece_of, present_of}
 use Rattle.present_graphs.specs.Spans.{AreFit}
 use Rattle.present_graphs.proofs.Chains.{chain_of, chains_are}
-use Rattle.present_graphs.proofs.Loops.{read_in, read_map, below_map, past_map, gathered, all_gathered}
+use Rattle.plane_graphs.proofs.Loops.{read_in, read_map, below_map, past_map, gathered, all_gathered}
 use Rattle.present_graphs.proofs.marks.marks_of.Goals as goal
 
 pub loop-piece-preserved : goal.loop-piece-preserved

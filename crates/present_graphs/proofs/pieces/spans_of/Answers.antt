@@ -4,7 +4,7 @@ use Rattle.plane_graphs.specs.Ascending.{Member}
 use Rattle.plane_graphs.proofs.Lists.{in_map, in_either}
 use Rattle.slab_laws.specs.Pieces.{piece_of}
 use Rattle.present_graphs.specs.Spans.{span_of_piece}
-use Rattle.present_graphs.proofs.Loops.{read_in, read_map, below_map, past_map, mapped, all_mapped}
+use Rattle.plane_graphs.proofs.Loops.{read_in, read_map, below_map, past_map, mapped, all_mapped}
 use Rattle.present_graphs.proofs.pieces.spans_of.Goals as goal
 
 pub returns : goal.returns

@@ -1,7 +1,7 @@
 use Rattle.std.proofs.Common.{◌∷◌, [], ◌∙◌, ap, append_assoc, ◌++◌}
 use Rattle.plane_graphs.specs.Graph.{ends}
 use Rattle.slab_laws.specs.Pieces.{piece_of}
-use Rattle.present_graphs.proofs.Loops.{read_map, below_map, past_map, gathered, all_gathered}
+use Rattle.plane_graphs.proofs.Loops.{read_map, below_map, past_map, gathered, all_gathered}
 use Rattle.present_graphs.proofs.vertices.add_ends.Goals as goal
 
 pub returns : goal.returns

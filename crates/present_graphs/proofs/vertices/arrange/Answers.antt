@@ -4,7 +4,7 @@ use Rattle.exact_plane.specs.Point.{Point}
 use Rattle.exact_plane.specs.PointOrder.{point_cmp}
 use Rattle.exact_plane.specs.PointOrderLaws.{point_cmp_total, point_cmp_ties, same_point}
 use Rattle.plane_graphs.specs.Ascending.{ascending}
-use Rattle.present_graphs.proofs.Arranged.{arranged}
+use Rattle.plane_graphs.proofs.Arranged.{arranged}
 use Rattle.present_graphs.proofs.vertices.arrange.Goals as goal
 
 pub returns : goal.returns

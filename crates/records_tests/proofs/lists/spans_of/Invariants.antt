@@ -1,5 +1,5 @@
 use Rattle.std.proofs.Common.{◌≡◌, map, take}
-use Rattle.slab_laws.specs.Drawn.{edge_of}
+use Rattle.slab_laws.specs.SpansDrawn.{edge_of}
 use Rattle.records_tests.specs.Fixtures.{key_edge}
 use Rattle.records_tests.proofs.lists.spans_of.Given as goal
 

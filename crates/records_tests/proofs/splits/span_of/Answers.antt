@@ -1,7 +1,7 @@
 use Rattle.std.proofs.Common.{◌≡◌, ap₂, subst}
 use Rattle.std.specs.Prelude.{IfSome}
 use Rattle.plane_graphs.specs.Graph.{Edge}
-use Rattle.slab_laws.specs.Drawn.{edge_of}
+use Rattle.slab_laws.specs.SpansDrawn.{edge_of}
 use Rattle.slab_laws.specs.Sound.{edge_between}
 use Rattle.records_tests.proofs.splits.span_of.Goals as goal
 

@@ -1,8 +1,9 @@
 use Rattle.std.proofs.Common.{◌≡◌, ◌≢◌, ◌<◌, refl, sym, subst, ◌∙◌}
 use Rattle.slab_laws.specs.declared.names.DartId.{DartId}
 use Rattle.slab_laws.specs.View.{View, HasDart, IsOutOf, source_in, target_in}
-use Rattle.view_changes.specs.Around.{after_in}
-use Rattle.rotation_order.proofs.Circuits.{left, nearer, after_out, read_after, names_same, names_other}
+use Rattle.arr_notes.specs.AfterAround.{after_in}
+use Rattle.arr_notes.proofs.Names.{same_name}
+use Rattle.rotation_order.proofs.Circuits.{left, nearer, after_out, read_after, names_other}
 use Rattle.rotation_order.proofs.Searches.{NoneTo, none_yet, one_more, none_at_all, reaches, misses}
 use Rattle.rotation_order.proofs.neighbours.dart_to.Goals as goal
 
@@ -25,7 +26,7 @@ returns-then-eq g c =
     let v : View = g.R.Darts.graph c.args.records.now in
     let first : DartId = c.in_ok-first.first in
     let has : HasDart v first = c.in_ok-first.ensures.some.0 in
-    let last : c.ring.dart ≡ first = names_same c.ring.dart first c.eq.result c.eq.ensures c.if-eq.true in
+    let last : c.ring.dart ≡ first = same_name c.ring.dart first c.eq.result c.eq.ensures c.if-eq.true in
     let miss : target_in v c.ring.dart ≢ c.args.to = λ e. misses c.target.result c.args.to c.ne.result c.ne.ensures c.ring-test.true (c.target.ensures ∙ e) in
     λ d o.
     none_at_all v c.requires.sound first has c.args.to (subst (λ (z : DartId). target_in v z ≢ c.args.to) last miss) (subst (λ (z : DartId). NoneTo v first c.args.to z) last c.ring.invariant.passed) d

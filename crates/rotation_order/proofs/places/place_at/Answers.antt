@@ -2,9 +2,9 @@ use Rattle.std.proofs.Common.{rules, ◌≡◌, true, false, ◌∙◌, ◌<◌,
 use Rattle.exact_plane.specs.Direction.{Direction, IsDirection, IsOneDirection, turn_cmp}
 use Rattle.slab_laws.specs.declared.names.DartId.{DartId}
 use Rattle.slab_laws.specs.View.{next_in}
-use Rattle.edge_fans.specs.Ways.{straight_down}
-use Rattle.rotation_order.specs.Place.{way_in, sooner_way}
-use Rattle.view_changes.specs.Around.{after_in}
+use Rattle.rotation_order.specs.Directions.{straight_down}
+use Rattle.rotation_order.specs.Place.{direction_in, sooner_way}
+use Rattle.arr_notes.specs.AfterAround.{after_in}
 use Rattle.rotation_order.proofs.Around.{some_way, after_out}
 use Rattle.rotation_order.proofs.Down.{either_way, told_one, told_unequal}
 use Rattle.rotation_order.proofs.Found.{none_along}
@@ -18,11 +18,11 @@ way-way_after-requires-clause-dart g c =
     let o = after_out v c.requires.sound c.args.vertex c.requires.vertex c.ring.dart c.ring.invariant.out in
     rw q o.0
 
-pub returns-then-is_sooner : goal.returns-then-is_sooner
-returns-then-is_sooner g c =
+pub returns-then-comes_first_clockwise : goal.returns-then-comes_first_clockwise
+returns-then-comes_first_clockwise g c =
     let v = g.R.Darts.graph c.args.records.now in
     let q : c.next-after.result ≡ after_in v c.ring.dart = c.next-after.ensures ∙ ap (next_in v) c.twin.ensures.twin in
-    let h : sooner_way (way_in v c.ring.dart) c.args.direction (way_in v c.next-after.result) ≡ true = (λ i. sooner_way (sym c.ring.invariant.way i) c.args.direction (sym c.way-way_after.ensures i)) ∙ sym c.is_sooner.ensures ∙ c.if-is_sooner.true in
+    let h : sooner_way (direction_in v c.ring.dart) c.args.direction (direction_in v c.next-after.result) ≡ true = (λ i. sooner_way (sym c.ring.invariant.way i) c.args.direction (sym c.way-way_after.ensures i)) ∙ sym c.comes_first_clockwise.ensures ∙ c.if-comes_first_clockwise.true in
     record {
       out = c.ring.invariant.out;
       neighbours = q;
@@ -36,13 +36,13 @@ ring-smaller g c =
     let x : Direction = c.args.direction in
     let X : IsDirection c.args.direction = search rules in
     let q : c.next-after.result ≡ after_in v c.ring.dart = c.next-after.ensures ∙ ap (next_in v) c.twin.ensures.twin in
-    let same : turn_cmp straight_down (way_in v c.ring.dart) x ≡ c.turn_order.result = (λ i. turn_cmp (sym c.down-down.ensures i) (sym c.ring.invariant.way i) x) ∙ sym c.turn_order.ensures.value in
-    let differ : turn_cmp straight_down (way_in v c.ring.dart) x ≡ Equal → ⊥ = λ e. told_unequal c.turn_order.result c.is_eq.result c.is_eq.ensures c.ring-test.true (sym same ∙ e) in
-    let miss : sooner_way (way_in v c.ring.dart) x (way_in v (after_in v c.ring.dart)) ≡ false =
-    (λ i. sooner_way (sym c.ring.invariant.way i) x (sym (c.way-way_after.ensures ∙ ap (way_in v) q) i)) ∙ sym c.is_sooner.ensures ∙ c.if-is_sooner.false in
+    let same : turn_cmp straight_down (direction_in v c.ring.dart) x ≡ c.turn_order.result = (λ i. turn_cmp (sym c.down-down.ensures i) (sym c.ring.invariant.way i) x) ∙ sym c.turn_order.ensures.value in
+    let differ : turn_cmp straight_down (direction_in v c.ring.dart) x ≡ Equal → ⊥ = λ e. told_unequal c.turn_order.result c.is_eq.result c.is_eq.ensures c.ring-test.true (sym same ∙ e) in
+    let miss : sooner_way (direction_in v c.ring.dart) x (direction_in v (after_in v c.ring.dart)) ≡ false =
+    (λ i. sooner_way (sym c.ring.invariant.way i) x (sym (c.way-way_after.ensures ∙ ap (direction_in v) q) i)) ∙ sym c.comes_first_clockwise.ensures ∙ c.if-comes_first_clockwise.false in
     subst (λ (d : DartId). to_meet v c.args.vertex x d < to_meet v c.args.vertex x c.ring.dart) (sym q)
     (nearer v c.requires.sound c.args.vertex c.requires.vertex x c.ring.dart c.ring.invariant.out
-    (either_way (way_in v c.ring.dart) x (some_way v c.requires.sound c.ring.dart c.ring.invariant.out.0) X.some differ) miss)
+    (either_way (direction_in v c.ring.dart) x (some_way v c.requires.sound c.ring.dart c.ring.invariant.out.0) X.some differ) miss)
 
 pub ring-preserved : goal.ring-preserved
 ring-preserved g c =

@@ -1,6 +1,6 @@
 use Rattle.std.proofs.Common.{◌≡◌}
 use Rattle.slab_laws.specs.View.{IsOutOf}
-use Rattle.rotation_order.specs.Place.{way_in}
+use Rattle.rotation_order.specs.Place.{direction_in}
 use Rattle.rotation_order.proofs.Walks.{to_meet}
 use Rattle.rotation_order.proofs.places.place_at.Given as goal
 
@@ -9,7 +9,7 @@ invariant-ring g l =
     let v = g.R.Darts.graph l.records in
     record {
       out : IsOutOf v l.fn.vertex l.dart;
-      way : l.way_out ≡ way_in v l.dart;
+      way : l.way_out ≡ direction_in v l.dart;
     }
 
 abbrev pub decreases-ring : goal.decreases-ring

@@ -1,5 +1,5 @@
 use Rattle.std.proofs.Common.{subst}
-use Rattle.curve_history.specs.Past.{held}
+use Rattle.curve_history.specs.Past.{curves_on}
 use Rattle.rotation_order.specs.Place.{IsPlaceOf}
 use Rattle.rotation_order.specs.declared.places.Place.TheVariants.{Between, Along}
 use Rattle.segment_insert.proofs.Linked.{not_held, curve_made}
@@ -14,7 +14,7 @@ hold-requires-clause-new c =
     let o = c.requires.part in
     let d = c.in-Along.d in
     let k = placed_on v s l c.args.u c.args.w o (Along d) (subst (λ x. IsPlaceOf v c.args.u x (Along d)) c.along.ensures c.in-Along.ensures) in
-    not_held v (held c.args.history.now) s c.requires.curves l c.args.u c.args.w o c.args.curve d (k.out.0, along_forward v s l c.args.u c.args.w o d k) k.out.1 (along_ends v s l c.args.u c.args.w o d k) c.requires.plane
+    not_held v (curves_on c.args.history.now) s c.requires.curves l c.args.u c.args.w o c.args.curve d (k.out.0, along_forward v s l c.args.u c.args.w o d k) k.out.1 (along_ends v s l c.args.u c.args.w o d k) c.requires.plane
 
 pub new_edge-requires-in-Between-clause-place : goal.new_edge-requires-in-Between-clause-place
 new_edge-requires-in-Between-clause-place c =
@@ -36,4 +36,4 @@ returns-in-Along-clause-made c =
     let o = c.requires.part in
     let d = c.in-Along.d in
     let k = placed_on v s l c.args.u c.args.w o (Along d) (subst (λ x. IsPlaceOf v c.args.u x (Along d)) c.along.ensures c.in-Along.ensures) in
-    curve_made v (held c.args.history.now) s c.requires.curves l c.args.u c.args.w o c.args.curve d (k.out.0, along_forward v s l c.args.u c.args.w o d k) k.out.1 (along_ends v s l c.args.u c.args.w o d k) (held c.hold.new.self) c.hold.ensures.curves
+    curve_made v (curves_on c.args.history.now) s c.requires.curves l c.args.u c.args.w o c.args.curve d (k.out.0, along_forward v s l c.args.u c.args.w o d k) k.out.1 (along_ends v s l c.args.u c.args.w o d k) (curves_on c.hold.new.self) c.hold.ensures.curves

@@ -2,7 +2,7 @@ use Rattle.std.proofs.Common.{◌≡◌, ℕ, suc, ◌+◌, ◌-◌, arith, sym,
 use Rattle.exact_plane.specs.Segment.{line_of_segment}
 use Rattle.plane_graphs.specs.Ascending.{Member}
 use Rattle.plane_graphs.specs.Line.{IsProperLine}
-use Rattle.curve_history.specs.Past.{held}
+use Rattle.curve_history.specs.Past.{curves_on}
 use Rattle.edge_link.proofs.Placed.{line_is_proper}
 use Rattle.segment_insert.specs.Parts.{IsOpenPart}
 use Rattle.segment_insert.proofs.Going.{AreMet, AreNext, IsGoing, vertex_here, open_part, chain_here, part_stays, part_sound, goes_on, ends}
@@ -38,7 +38,7 @@ make_edge-requires-clause-plane c =
     let met : AreMet c.args.records.now.graph c.args.segment.now c.args.meetings.now = record { named = c.requires.named; on = c.requires.on; all = c.requires.all_on; line = subst IsProperLine c.line_of-line.ensures.value (line_is_proper c.line_of-line.result c.line_of-line.ensures.line) } in
     let next : AreNext c.args.meetings.now k c.loop-i.i u w = record { first = c.index-meetings-i.result; second = c.index-meetings-i-in-loop-i.result; next = omega arith; below = c.loop-i-test.true; at_first = c.index-meetings-i.is; at_second = c.index-meetings-i-in-loop-i.is; is_first = c.vertex_of-u.ensures; is_second = c.vertex_of-w.ensures } in
     let chain = chain_here v c.args.segment.now c.args.meetings.now met k c.loop-i.i u w next c.args.curve.0 in
-    part_sound v (held c.args.history.now) c.args.curve.0 c.args.meetings.now k c.loop-i.records.graph (held c.loop-i.history) c.loop-i.invariant.going u w chain
+    part_sound v (curves_on c.args.history.now) c.args.curve.0 c.args.meetings.now k c.loop-i.records.graph (curves_on c.loop-i.history) c.loop-i.invariant.going u w chain
 
 pub loop-i-preserved : goal.loop-i-preserved
 loop-i-preserved c =
@@ -53,8 +53,8 @@ loop-i-preserved c =
     let e = c.make_edge.ensures in
     let more : suc k ≡ c.loop-i.i + 1 - 1 = omega arith in
     record {
-      going = subst (λ z. IsGoing v (held c.args.history.now) c.args.curve.0 c.args.meetings.now z c.make_edge.new.records.graph (held c.make_edge.new.history)) more
-          (goes_on v (held c.args.history.now) c.args.curve.0 c.args.meetings.now k c.loop-i.records.graph (held c.loop-i.history) i.going u w chain c.make_edge.new.records.graph (held c.make_edge.new.history) e.made e.vertices);
+      going = subst (λ z. IsGoing v (curves_on c.args.history.now) c.args.curve.0 c.args.meetings.now z c.make_edge.new.records.graph (curves_on c.make_edge.new.history)) more
+          (goes_on v (curves_on c.args.history.now) c.args.curve.0 c.args.meetings.now k c.loop-i.records.graph (curves_on c.loop-i.history) i.going u w chain c.make_edge.new.records.graph (curves_on c.make_edge.new.history) e.made e.vertices);
       layer = record { names = e.layer.names ∙ i.layer.names; pieces = e.layer.pieces ∙ i.layer.pieces; next = e.layer.next ∙ i.layer.next };
       named = subst (Member c.args.curve.0) (sym e.layer.names) i.named;
       darts = omega arith;
@@ -63,4 +63,4 @@ loop-i-preserved c =
 
 pub returns-clause-made : goal.returns-clause-made
 returns-clause-made c =
-    ends c.args.records.now.graph (held c.args.history.now) c.args.curve.0 c.args.meetings.now (c.loop-i.i - 1) c.loop-i.records.graph (held c.loop-i.history) c.loop-i.invariant.going (omega arith)
+    ends c.args.records.now.graph (curves_on c.args.history.now) c.args.curve.0 c.args.meetings.now (c.loop-i.i - 1) c.loop-i.records.graph (curves_on c.loop-i.history) c.loop-i.invariant.going (omega arith)

@@ -1,12 +1,12 @@
 use Rattle.std.proofs.Common.{◌+◌, ◌-◌, ◌*◌, ◌≤◌, length}
 use Rattle.plane_graphs.specs.Ascending.{Member}
-use Rattle.curve_history.specs.Past.{held, SameLayer}
+use Rattle.curve_history.specs.Past.{curves_on, SameLayer}
 use Rattle.segment_insert.proofs.Going.{IsGoing}
 use Rattle.segment_insert.proofs.edges.make_edges.Given as goal
 
 abbrev pub invariant-loop-i : goal.invariant-loop-i
 invariant-loop-i l = record {
-  going : IsGoing l.initial.records.graph (held l.initial.history) l.curve.0 l.meetings (l.i - 1) l.records.graph (held l.history);
+  going : IsGoing l.initial.records.graph (curves_on l.initial.history) l.curve.0 l.meetings (l.i - 1) l.records.graph (curves_on l.history);
   layer : SameLayer l.initial.history l.history;
   named : Member l.curve.0 l.history.names;
   darts : 2 * length l.meetings ≤ l.records.spare_darts + 2 * l.i;

@@ -1,5 +1,10 @@
+use Rattle.std.proofs.Common.{◌≡◌, ◌<◌, ◌≤◌, None, length, sym, arith}
+use Rattle.edit_steps.proofs.Refusals.{insertion_allowed}
+use Rattle.curve_history.specs.declared.history.TheConstants.{LAST_CURVE}
+use Rattle.segment_insert.specs.Insertion.{refusal_at}
 use Rattle.segment_insert.proofs.Layers.{layer_stays, room_stays}
 use Rattle.segment_insert.proofs.insertion.insert.Goals as goal
+use Rattle.record_layers.specs.LayerEdits.{layer_at}
 
 pub returns-in_default-prepare-clause-layer : goal.returns-in_default-prepare-clause-layer
 returns-in_default-prepare-clause-layer c =
@@ -15,3 +20,23 @@ pub insert_by_plan-requires-clause-room : goal.insert_by_plan-requires-clause-ro
 insert_by_plan-requires-clause-room c =
     let e = c.prepare.ensures in
     room_stays c.in-Ok.plan c.prepare.new.records c.args.history.now c.prepare.new.history e.same_curves c.in-Ok.ensures.room
+
+pub returns-in-Some-clause-refused : goal.returns-in-Some-clause-refused
+returns-in-Some-clause-refused c = sym (c.in-Some.ensures c.args.records.now)
+
+pub returns-in_default-prepare-clause-refused : goal.returns-in_default-prepare-clause-refused
+returns-in_default-prepare-clause-refused c = sym (c.in_default.ensures c.args.records.now)
+
+pub insert_by_plan-requires-clause-unspent : goal.insert_by_plan-requires-clause-unspent
+insert_by_plan-requires-clause-unspent c =
+    let none : refusal_at c.args.curves c.args.pieces c.args.records.now c.args.history.now ≡ None = c.in_default.ensures c.args.records.now in
+    let k = insertion_allowed c.args.curves c.args.pieces LAST_CURVE (layer_at c.args.records.now c.args.history.now) none in
+    let n = c.prepare.ensures.same_layer.next in
+    rw n k.1
+
+pub insert_by_plan-requires-clause-few : goal.insert_by_plan-requires-clause-few
+insert_by_plan-requires-clause-few c =
+    let none : refusal_at c.args.curves c.args.pieces c.args.records.now c.args.history.now ≡ None = c.in_default.ensures c.args.records.now in
+    let k = insertion_allowed c.args.curves c.args.pieces LAST_CURVE (layer_at c.args.records.now c.args.history.now) none in
+    let few : length c.args.history.now.pieces < c.args.pieces = k.0 in
+    rw c.prepare.ensures.same_layer.pieces (omega arith)

@@ -1,20 +1,21 @@
 use Rattle.std.proofs.Common.{◌≡◌, sym, ap, ◌∙◌, subst, arith, inl}
 use Rattle.plane_graphs.specs.Ascending.{Member}
 use Rattle.plane_graphs.proofs.Lists.{in_right}
-use Rattle.curve_history.specs.Past.{held}
-use Rattle.segment_insert.specs.Insertion.{points_of_meetings, pairs_to_part, AreMeetings}
+use Rattle.curve_history.specs.Past.{curves_on}
+use Rattle.segment_insert.specs.Insertion.{pairs_to_part, AreMeetings}
 use Rattle.segment_insert.proofs.Makes.{one_curves}
 use Rattle.edit_steps.specs.Allowed.{AreSound}
-use Rattle.record_graphs.specs.Graph.{drawn_graph}
-use Rattle.zone_walk.specs.Zone.{splits_needed}
-use Rattle.segment_insert.proofs.Planned.{IsPlanned, vertices_first, made_of_plan, IsHalfMade, meetings, room_left, pairs_left, curves_first, sound_first, sound_then, curves_then, all_on, each_on, plane_then, all_made, layer_made, one_piece, one_name}
+use Rattle.sound_views.specs.RecordGraph.{drawn_graph}
+use Rattle.zone_walk.specs.Zone.{splits_needed, points_of_meetings}
+use Rattle.segment_insert.proofs.Planned.{IsPlanned, made_of_plan, IsHalfMade, meetings, room_left, pairs_left, curves_first, sound_first, sound_then, curves_then, all_on, each_on, plane_then, all_made, layer_made, one_piece, one_name}
 use Rattle.segment_insert.proofs.insertion.insert_by_plan.Goals as goal
+use Rattle.segment_insert.specs.Coming.{steps_at}
 
 pub make_vertices-requires-clause-curves : goal.make_vertices-requires-clause-curves
 make_vertices-requires-clause-curves c =
     let planned : IsPlanned c.args.records.now.graph c.args.history.now c.args.segment.now c.args.plan c.draw-curve.result.0 = record { layer = c.requires.layer; ends = c.lower-lower.ensures.ends; zone = c.requires.zone; number = c.draw-curve.ensures.number } in
-    let same = one_curves (held c.args.history.now) (held c.add_piece.new.self) (λ d. c.add_piece.ensures.curves d ∙ c.draw-curve.ensures.curves d) in
-    curves_first planned (held c.add_piece.new.self) same
+    let same = one_curves (curves_on c.args.history.now) (curves_on c.add_piece.new.self) (λ d. c.add_piece.ensures.curves d ∙ c.draw-curve.ensures.curves d) in
+    curves_first planned (curves_on c.add_piece.new.self) same
 
 pub make_vertices-requires-clause-meetings : goal.make_vertices-requires-clause-meetings
 make_vertices-requires-clause-meetings c =
@@ -24,50 +25,50 @@ make_vertices-requires-clause-meetings c =
 pub make_vertices-requires-clause-plane : goal.make_vertices-requires-clause-plane
 make_vertices-requires-clause-plane c =
     let planned : IsPlanned c.args.records.now.graph c.args.history.now c.args.segment.now c.args.plan c.draw-curve.result.0 = record { layer = c.requires.layer; ends = c.lower-lower.ensures.ends; zone = c.requires.zone; number = c.draw-curve.ensures.number } in
-    let same = one_curves (held c.args.history.now) (held c.add_piece.new.self) (λ d. c.add_piece.ensures.curves d ∙ c.draw-curve.ensures.curves d) in
-    let g = drawn_graph c.args.records.now.graph (held c.add_piece.new.self) in
-    subst (λ ms. AreSound (vertices_first c.args.records.now.graph (held c.add_piece.new.self) (points_of_meetings ms)) g) (sym c.into_vec-meetings.ensures) (sound_first planned (held c.add_piece.new.self) same)
+    let same = one_curves (curves_on c.args.history.now) (curves_on c.add_piece.new.self) (λ d. c.add_piece.ensures.curves d ∙ c.draw-curve.ensures.curves d) in
+    let g = drawn_graph c.args.records.now.graph (curves_on c.add_piece.new.self) in
+    subst (λ ms. AreSound (steps_at c.args.records.now.graph (curves_on c.add_piece.new.self) (points_of_meetings ms)) g) (sym c.into_vec-meetings.ensures) (sound_first planned (curves_on c.add_piece.new.self) same)
 
 pub make_vertices-requires-clause-pairs : goal.make_vertices-requires-clause-pairs
 make_vertices-requires-clause-pairs c =
-    let same = one_curves (held c.args.history.now) (held c.add_piece.new.self) (λ d. c.add_piece.ensures.curves d ∙ c.draw-curve.ensures.curves d) in
-    let e : pairs_to_part (held c.add_piece.new.self) c.into_vec-meetings.result.items ≡ pairs_to_part (held c.args.history.now) c.args.plan.vertices = ap (pairs_to_part (held c.add_piece.new.self)) c.into_vec-meetings.ensures ∙ ap (λ h. pairs_to_part h c.args.plan.vertices) same in
+    let same = one_curves (curves_on c.args.history.now) (curves_on c.add_piece.new.self) (λ d. c.add_piece.ensures.curves d ∙ c.draw-curve.ensures.curves d) in
+    let e : pairs_to_part (curves_on c.add_piece.new.self) c.into_vec-meetings.result.items ≡ pairs_to_part (curves_on c.args.history.now) c.args.plan.vertices = ap (pairs_to_part (curves_on c.add_piece.new.self)) c.into_vec-meetings.ensures ∙ ap (λ h. pairs_to_part h c.args.plan.vertices) same in
     omega arith
 
 pub make_edges-requires-clause-sound : goal.make_edges-requires-clause-sound
 make_edges-requires-clause-sound c =
     let planned : IsPlanned c.args.records.now.graph c.args.history.now c.args.segment.now c.args.plan c.draw-curve.result.0 = record { layer = c.requires.layer; ends = c.lower-lower.ensures.ends; zone = c.requires.zone; number = c.draw-curve.ensures.number } in
-    let same = one_curves (held c.args.history.now) (held c.add_piece.new.self) (λ d. c.add_piece.ensures.curves d ∙ c.draw-curve.ensures.curves d) in
+    let same = one_curves (curves_on c.args.history.now) (curves_on c.add_piece.new.self) (λ d. c.add_piece.ensures.curves d ∙ c.draw-curve.ensures.curves d) in
     let are = c.into_vec-meetings.ensures in
     let kept = ap points_of_meetings c.deref.ensures.value ∙ c.make_vertices.ensures.points ∙ ap points_of_meetings are in
-    let half : IsHalfMade c.args.records.now.graph c.args.history.now c.args.plan (held c.add_piece.new.self) c.make_vertices.new.records.graph (held c.make_vertices.new.history) c.deref.result.now = record { same = same; made = made_of_plan _ _ _ _ are c.make_vertices.ensures.made; kept = kept } in
+    let half : IsHalfMade c.args.records.now.graph c.args.history.now c.args.plan (curves_on c.add_piece.new.self) c.make_vertices.new.records.graph (curves_on c.make_vertices.new.history) c.deref.result.now = record { same = same; made = made_of_plan _ _ _ _ are c.make_vertices.ensures.made; kept = kept } in
     sound_then planned half
 
 pub make_edges-requires-clause-curves : goal.make_edges-requires-clause-curves
 make_edges-requires-clause-curves c =
     let planned : IsPlanned c.args.records.now.graph c.args.history.now c.args.segment.now c.args.plan c.draw-curve.result.0 = record { layer = c.requires.layer; ends = c.lower-lower.ensures.ends; zone = c.requires.zone; number = c.draw-curve.ensures.number } in
-    let same = one_curves (held c.args.history.now) (held c.add_piece.new.self) (λ d. c.add_piece.ensures.curves d ∙ c.draw-curve.ensures.curves d) in
+    let same = one_curves (curves_on c.args.history.now) (curves_on c.add_piece.new.self) (λ d. c.add_piece.ensures.curves d ∙ c.draw-curve.ensures.curves d) in
     let are = c.into_vec-meetings.ensures in
     let kept = ap points_of_meetings c.deref.ensures.value ∙ c.make_vertices.ensures.points ∙ ap points_of_meetings are in
-    let half : IsHalfMade c.args.records.now.graph c.args.history.now c.args.plan (held c.add_piece.new.self) c.make_vertices.new.records.graph (held c.make_vertices.new.history) c.deref.result.now = record { same = same; made = made_of_plan _ _ _ _ are c.make_vertices.ensures.made; kept = kept } in
+    let half : IsHalfMade c.args.records.now.graph c.args.history.now c.args.plan (curves_on c.add_piece.new.self) c.make_vertices.new.records.graph (curves_on c.make_vertices.new.history) c.deref.result.now = record { same = same; made = made_of_plan _ _ _ _ are c.make_vertices.ensures.made; kept = kept } in
     curves_then planned half
 
 pub make_edges-requires-clause-on : goal.make_edges-requires-clause-on
 make_edges-requires-clause-on c =
     let planned : IsPlanned c.args.records.now.graph c.args.history.now c.args.segment.now c.args.plan c.draw-curve.result.0 = record { layer = c.requires.layer; ends = c.lower-lower.ensures.ends; zone = c.requires.zone; number = c.draw-curve.ensures.number } in
-    let same = one_curves (held c.args.history.now) (held c.add_piece.new.self) (λ d. c.add_piece.ensures.curves d ∙ c.draw-curve.ensures.curves d) in
+    let same = one_curves (curves_on c.args.history.now) (curves_on c.add_piece.new.self) (λ d. c.add_piece.ensures.curves d ∙ c.draw-curve.ensures.curves d) in
     let are = c.into_vec-meetings.ensures in
     let kept = ap points_of_meetings c.deref.ensures.value ∙ c.make_vertices.ensures.points ∙ ap points_of_meetings are in
-    let half : IsHalfMade c.args.records.now.graph c.args.history.now c.args.plan (held c.add_piece.new.self) c.make_vertices.new.records.graph (held c.make_vertices.new.history) c.deref.result.now = record { same = same; made = made_of_plan _ _ _ _ are c.make_vertices.ensures.made; kept = kept } in
+    let half : IsHalfMade c.args.records.now.graph c.args.history.now c.args.plan (curves_on c.add_piece.new.self) c.make_vertices.new.records.graph (curves_on c.make_vertices.new.history) c.deref.result.now = record { same = same; made = made_of_plan _ _ _ _ are c.make_vertices.ensures.made; kept = kept } in
     each_on planned half
 
 pub make_edges-requires-clause-all_on : goal.make_edges-requires-clause-all_on
 make_edges-requires-clause-all_on c =
     let planned : IsPlanned c.args.records.now.graph c.args.history.now c.args.segment.now c.args.plan c.draw-curve.result.0 = record { layer = c.requires.layer; ends = c.lower-lower.ensures.ends; zone = c.requires.zone; number = c.draw-curve.ensures.number } in
-    let same = one_curves (held c.args.history.now) (held c.add_piece.new.self) (λ d. c.add_piece.ensures.curves d ∙ c.draw-curve.ensures.curves d) in
+    let same = one_curves (curves_on c.args.history.now) (curves_on c.add_piece.new.self) (λ d. c.add_piece.ensures.curves d ∙ c.draw-curve.ensures.curves d) in
     let are = c.into_vec-meetings.ensures in
     let kept = ap points_of_meetings c.deref.ensures.value ∙ c.make_vertices.ensures.points ∙ ap points_of_meetings are in
-    let half : IsHalfMade c.args.records.now.graph c.args.history.now c.args.plan (held c.add_piece.new.self) c.make_vertices.new.records.graph (held c.make_vertices.new.history) c.deref.result.now = record { same = same; made = made_of_plan _ _ _ _ are c.make_vertices.ensures.made; kept = kept } in
+    let half : IsHalfMade c.args.records.now.graph c.args.history.now c.args.plan (curves_on c.add_piece.new.self) c.make_vertices.new.records.graph (curves_on c.make_vertices.new.history) c.deref.result.now = record { same = same; made = made_of_plan _ _ _ _ are c.make_vertices.ensures.made; kept = kept } in
     all_on planned half
 
 pub make_edges-requires-clause-curve_named : goal.make_edges-requires-clause-curve_named
@@ -78,10 +79,10 @@ make_edges-requires-clause-curve_named c =
 pub make_edges-requires-clause-plane : goal.make_edges-requires-clause-plane
 make_edges-requires-clause-plane c =
     let planned : IsPlanned c.args.records.now.graph c.args.history.now c.args.segment.now c.args.plan c.draw-curve.result.0 = record { layer = c.requires.layer; ends = c.lower-lower.ensures.ends; zone = c.requires.zone; number = c.draw-curve.ensures.number } in
-    let same = one_curves (held c.args.history.now) (held c.add_piece.new.self) (λ d. c.add_piece.ensures.curves d ∙ c.draw-curve.ensures.curves d) in
+    let same = one_curves (curves_on c.args.history.now) (curves_on c.add_piece.new.self) (λ d. c.add_piece.ensures.curves d ∙ c.draw-curve.ensures.curves d) in
     let are = c.into_vec-meetings.ensures in
     let kept = ap points_of_meetings c.deref.ensures.value ∙ c.make_vertices.ensures.points ∙ ap points_of_meetings are in
-    let half : IsHalfMade c.args.records.now.graph c.args.history.now c.args.plan (held c.add_piece.new.self) c.make_vertices.new.records.graph (held c.make_vertices.new.history) c.deref.result.now = record { same = same; made = made_of_plan _ _ _ _ are c.make_vertices.ensures.made; kept = kept } in
+    let half : IsHalfMade c.args.records.now.graph c.args.history.now c.args.plan (curves_on c.add_piece.new.self) c.make_vertices.new.records.graph (curves_on c.make_vertices.new.history) c.deref.result.now = record { same = same; made = made_of_plan _ _ _ _ are c.make_vertices.ensures.made; kept = kept } in
     plane_then planned half
 
 pub make_edges-requires-clause-darts : goal.make_edges-requires-clause-darts
@@ -95,19 +96,19 @@ make_edges-requires-clause-darts c =
 pub make_edges-requires-clause-pairs : goal.make_edges-requires-clause-pairs
 make_edges-requires-clause-pairs c =
     let planned : IsPlanned c.args.records.now.graph c.args.history.now c.args.segment.now c.args.plan c.draw-curve.result.0 = record { layer = c.requires.layer; ends = c.lower-lower.ensures.ends; zone = c.requires.zone; number = c.draw-curve.ensures.number } in
-    let same = one_curves (held c.args.history.now) (held c.add_piece.new.self) (λ d. c.add_piece.ensures.curves d ∙ c.draw-curve.ensures.curves d) in
+    let same = one_curves (curves_on c.args.history.now) (curves_on c.add_piece.new.self) (λ d. c.add_piece.ensures.curves d ∙ c.draw-curve.ensures.curves d) in
     let are = c.into_vec-meetings.ensures in
     let kept = ap points_of_meetings c.deref.ensures.value ∙ c.make_vertices.ensures.points ∙ ap points_of_meetings are in
-    let e : pairs_to_part (held c.add_piece.new.self) c.into_vec-meetings.result.items ≡ pairs_to_part (held c.args.history.now) c.args.plan.vertices = ap (pairs_to_part (held c.add_piece.new.self)) are ∙ ap (λ h. pairs_to_part h c.args.plan.vertices) same in
-    pairs_left planned c.deref.result.now c.add_piece.new.self.spare_pairs c.make_vertices.new.history.spare_pairs (pairs_to_part (held c.args.history.now) c.args.plan.vertices) kept (omega arith) (omega arith)
+    let e : pairs_to_part (curves_on c.add_piece.new.self) c.into_vec-meetings.result.items ≡ pairs_to_part (curves_on c.args.history.now) c.args.plan.vertices = ap (pairs_to_part (curves_on c.add_piece.new.self)) are ∙ ap (λ h. pairs_to_part h c.args.plan.vertices) same in
+    pairs_left planned c.deref.result.now c.add_piece.new.self.spare_pairs c.make_vertices.new.history.spare_pairs (pairs_to_part (curves_on c.args.history.now) c.args.plan.vertices) kept (omega arith) (omega arith)
 
 pub returns-clause-layer : goal.returns-clause-layer
 returns-clause-layer c =
     let planned : IsPlanned c.args.records.now.graph c.args.history.now c.args.segment.now c.args.plan c.draw-curve.result.0 = record { layer = c.requires.layer; ends = c.lower-lower.ensures.ends; zone = c.requires.zone; number = c.draw-curve.ensures.number } in
-    let same = one_curves (held c.args.history.now) (held c.add_piece.new.self) (λ d. c.add_piece.ensures.curves d ∙ c.draw-curve.ensures.curves d) in
+    let same = one_curves (curves_on c.args.history.now) (curves_on c.add_piece.new.self) (λ d. c.add_piece.ensures.curves d ∙ c.draw-curve.ensures.curves d) in
     let are = c.into_vec-meetings.ensures in
     let kept = ap points_of_meetings c.deref.ensures.value ∙ c.make_vertices.ensures.points ∙ ap points_of_meetings are in
-    let half : IsHalfMade c.args.records.now.graph c.args.history.now c.args.plan (held c.add_piece.new.self) c.make_vertices.new.records.graph (held c.make_vertices.new.history) c.deref.result.now = record { same = same; made = made_of_plan _ _ _ _ are c.make_vertices.ensures.made; kept = kept } in
+    let half : IsHalfMade c.args.records.now.graph c.args.history.now c.args.plan (curves_on c.add_piece.new.self) c.make_vertices.new.records.graph (curves_on c.make_vertices.new.history) c.deref.result.now = record { same = same; made = made_of_plan _ _ _ _ are c.make_vertices.ensures.made; kept = kept } in
     let layer = c.make_edges.ensures.layer in
     let before = c.make_vertices.ensures.layer in
     let piece = one_piece c.args.history.now.pieces c.draw-curve.new.self.pieces c.draw-curve.result.0 c.args.segment.now c.lower-lower.result c.upper-upper.result c.draw-curve.ensures.pieces c.lower-lower.ensures.value c.upper-upper.ensures in
@@ -120,10 +121,10 @@ returns-clause-layer c =
 pub returns-clause-edit : goal.returns-clause-edit
 returns-clause-edit c =
     let planned : IsPlanned c.args.records.now.graph c.args.history.now c.args.segment.now c.args.plan c.draw-curve.result.0 = record { layer = c.requires.layer; ends = c.lower-lower.ensures.ends; zone = c.requires.zone; number = c.draw-curve.ensures.number } in
-    let same = one_curves (held c.args.history.now) (held c.add_piece.new.self) (λ d. c.add_piece.ensures.curves d ∙ c.draw-curve.ensures.curves d) in
+    let same = one_curves (curves_on c.args.history.now) (curves_on c.add_piece.new.self) (λ d. c.add_piece.ensures.curves d ∙ c.draw-curve.ensures.curves d) in
     let are = c.into_vec-meetings.ensures in
     let kept = ap points_of_meetings c.deref.ensures.value ∙ c.make_vertices.ensures.points ∙ ap points_of_meetings are in
-    let half : IsHalfMade c.args.records.now.graph c.args.history.now c.args.plan (held c.add_piece.new.self) c.make_vertices.new.records.graph (held c.make_vertices.new.history) c.deref.result.now = record { same = same; made = made_of_plan _ _ _ _ are c.make_vertices.ensures.made; kept = kept } in
+    let half : IsHalfMade c.args.records.now.graph c.args.history.now c.args.plan (curves_on c.add_piece.new.self) c.make_vertices.new.records.graph (curves_on c.make_vertices.new.history) c.deref.result.now = record { same = same; made = made_of_plan _ _ _ _ are c.make_vertices.ensures.made; kept = kept } in
     let layer = c.make_edges.ensures.layer in
     let before = c.make_vertices.ensures.layer in
     let piece = one_piece c.args.history.now.pieces c.draw-curve.new.self.pieces c.draw-curve.result.0 c.args.segment.now c.lower-lower.result c.upper-upper.result c.draw-curve.ensures.pieces c.lower-lower.ensures.value c.upper-upper.ensures in
@@ -136,8 +137,8 @@ returns-clause-edit c =
 pub returns-clause-steps : goal.returns-clause-steps
 returns-clause-steps c =
     let planned : IsPlanned c.args.records.now.graph c.args.history.now c.args.segment.now c.args.plan c.draw-curve.result.0 = record { layer = c.requires.layer; ends = c.lower-lower.ensures.ends; zone = c.requires.zone; number = c.draw-curve.ensures.number } in
-    let same = one_curves (held c.args.history.now) (held c.add_piece.new.self) (λ d. c.add_piece.ensures.curves d ∙ c.draw-curve.ensures.curves d) in
+    let same = one_curves (curves_on c.args.history.now) (curves_on c.add_piece.new.self) (λ d. c.add_piece.ensures.curves d ∙ c.draw-curve.ensures.curves d) in
     let are = c.into_vec-meetings.ensures in
     let kept = ap points_of_meetings c.deref.ensures.value ∙ c.make_vertices.ensures.points ∙ ap points_of_meetings are in
-    let half : IsHalfMade c.args.records.now.graph c.args.history.now c.args.plan (held c.add_piece.new.self) c.make_vertices.new.records.graph (held c.make_vertices.new.history) c.deref.result.now = record { same = same; made = made_of_plan _ _ _ _ are c.make_vertices.ensures.made; kept = kept } in
+    let half : IsHalfMade c.args.records.now.graph c.args.history.now c.args.plan (curves_on c.add_piece.new.self) c.make_vertices.new.records.graph (curves_on c.make_vertices.new.history) c.deref.result.now = record { same = same; made = made_of_plan _ _ _ _ are c.make_vertices.ensures.made; kept = kept } in
     all_made planned half c.make_edges.new.records.graph c.make_edges.new.history c.make_edges.ensures.made

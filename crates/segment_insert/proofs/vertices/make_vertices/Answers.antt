@@ -2,7 +2,7 @@ use Rattle.std.proofs.Common.{arith, ◌≡◌, ◌<◌, ◌≤◌, ◌+◌, ◌
 use Rattle.std.proofs.lemmas.List.{get_or_default}
 use Rattle.slab_laws.specs.View.{View}
 use Rattle.arr_notes.specs.Curves.{Curves}
-use Rattle.curve_history.specs.Past.{held}
+use Rattle.curve_history.specs.Past.{curves_on}
 use Rattle.zone_walk.specs.Zone.{vertices_needed, splits_needed}
 use Rattle.zone_walk.specs.declared.plan.Meeting.{Meeting}
 use Rattle.segment_insert.specs.Insertion.{pairs_at, pairs_to_part}
@@ -16,7 +16,7 @@ room_left start before after all one rest left e f g = omega arith
 pub loop-i-init : goal.loop-i-init
 loop-i-init c =
     let v : View = c.args.records.now.graph in
-    let h : Curves = held c.args.history.now in
+    let h : Curves = curves_on c.args.history.now in
     let ms : List Meeting = c.args.meetings.now.items in
     record {
       midway = at_start v h ms (all_coming v h ms c.requires.sound c.requires.curves c.requires.meetings c.requires.plane);
@@ -28,47 +28,47 @@ loop-i-init c =
 
 pub make_vertex-vertex-requires-clause-spot : goal.make_vertex-vertex-requires-clause-spot
 make_vertex-vertex-requires-clause-spot c =
-    spot_now c.args.records.now.graph (held c.args.history.now) c.args.meetings.now.items c.loop-i.records.graph (held c.loop-i.history) c.loop-i.meetings.items c.loop-i.i c.loop-i.invariant.midway c.index.result.now
-    (omega (arith, c.loop-i-test.true, c.len-i-end.ensures, same_length c.args.records.now.graph (held c.args.history.now) c.args.meetings.now.items c.loop-i.records.graph (held c.loop-i.history) c.loop-i.meetings.items c.loop-i.i c.loop-i.invariant.midway)) c.index.ensures
+    spot_now c.args.records.now.graph (curves_on c.args.history.now) c.args.meetings.now.items c.loop-i.records.graph (curves_on c.loop-i.history) c.loop-i.meetings.items c.loop-i.i c.loop-i.invariant.midway c.index.result.now
+    (omega (arith, c.loop-i-test.true, c.len-i-end.ensures, same_length c.args.records.now.graph (curves_on c.args.history.now) c.args.meetings.now.items c.loop-i.records.graph (curves_on c.loop-i.history) c.loop-i.meetings.items c.loop-i.i c.loop-i.invariant.midway)) c.index.ensures
 
 pub make_vertex-vertex-requires-clause-plane : goal.make_vertex-vertex-requires-clause-plane
 make_vertex-vertex-requires-clause-plane c =
-    sound_now c.args.records.now.graph (held c.args.history.now) c.args.meetings.now.items c.loop-i.records.graph (held c.loop-i.history) c.loop-i.meetings.items c.loop-i.i c.loop-i.invariant.midway c.index.result.now
-    (omega (arith, c.loop-i-test.true, c.len-i-end.ensures, same_length c.args.records.now.graph (held c.args.history.now) c.args.meetings.now.items c.loop-i.records.graph (held c.loop-i.history) c.loop-i.meetings.items c.loop-i.i c.loop-i.invariant.midway)) c.index.ensures
+    sound_now c.args.records.now.graph (curves_on c.args.history.now) c.args.meetings.now.items c.loop-i.records.graph (curves_on c.loop-i.history) c.loop-i.meetings.items c.loop-i.i c.loop-i.invariant.midway c.index.result.now
+    (omega (arith, c.loop-i-test.true, c.len-i-end.ensures, same_length c.args.records.now.graph (curves_on c.args.history.now) c.args.meetings.now.items c.loop-i.records.graph (curves_on c.loop-i.history) c.loop-i.meetings.items c.loop-i.i c.loop-i.invariant.midway)) c.index.ensures
 
 pub loop-i-preserved : goal.loop-i-preserved
 loop-i-preserved c =
     let v : View = c.args.records.now.graph in
-    let h : Curves = held c.args.history.now in
+    let h : Curves = curves_on c.args.history.now in
     let ms : List Meeting = c.args.meetings.now.items in
     let ns : List Meeting = c.loop-i.meetings.items in
     let i : ℕ = c.loop-i.i in
     let m : Meeting = c.index.result.now in
     let l : c.loop-i.i < length c.loop-i.meetings.items =
-    omega (arith, c.loop-i-test.true, c.len-i-end.ensures, same_length v h ms c.loop-i.records.graph (held c.loop-i.history) ns i c.loop-i.invariant.midway) in
+    omega (arith, c.loop-i-test.true, c.len-i-end.ensures, same_length v h ms c.loop-i.records.graph (curves_on c.loop-i.history) ns i c.loop-i.invariant.midway) in
     let same : c.index_mut.result.now ≡ c.index.result.now = c.index_mut.ensures.value ∙ get_or_default ns i c.index_mut.result.now m l ∙ sym c.index.ensures in
-    let first : drop i ms ≡ m ∷ drop (i + 1) ms = next_first v h ms c.loop-i.records.graph (held c.loop-i.history) ns i c.loop-i.invariant.midway m l c.index.ensures in
+    let first : drop i ms ≡ m ∷ drop (i + 1) ms = next_first v h ms c.loop-i.records.graph (curves_on c.loop-i.history) ns i c.loop-i.invariant.midway m l c.index.ensures in
     let k = c.make_vertex-vertex.ensures in
     let old = c.loop-i.invariant in
     record {
-      midway = onwards v h ms c.loop-i.records.graph (held c.loop-i.history) ns i c.loop-i.invariant.midway m l c.index.ensures c.make_vertex-vertex.new.records.graph (held c.make_vertex-vertex.new.history) c.make_vertex-vertex.result k.made
+      midway = onwards v h ms c.loop-i.records.graph (curves_on c.loop-i.history) ns i c.loop-i.invariant.midway m l c.index.ensures c.make_vertex-vertex.new.records.graph (curves_on c.make_vertex-vertex.new.history) c.make_vertex-vertex.result k.made
           (told_at c.index_mut.result.now c.make_vertex-vertex.result) (ap (λ (o : Meeting). told_at o c.make_vertex-vertex.result) same);
       layer = record { names = k.layer.names ∙ old.layer.names; pieces = k.layer.pieces ∙ old.layer.pieces; next = k.layer.next ∙ old.layer.next };
       vertices = room_left c.args.records.now.spare_vertices c.loop-i.records.spare_vertices c.make_vertex-vertex.new.records.spare_vertices (vertices_needed ms) (vertices_needed (m ∷ [])) (vertices_needed (drop (i + 1) ms)) (vertices_needed (drop i ms))
           (ap vertices_needed first ∙ vertices_first m (drop (i + 1) ms)) old.vertices k.vertices;
       darts = room_left c.args.records.now.spare_darts c.loop-i.records.spare_darts c.make_vertex-vertex.new.records.spare_darts (2 * splits_needed ms) (2 * splits_needed (m ∷ [])) (2 * splits_needed (drop (i + 1) ms)) (2 * splits_needed (drop i ms))
           (ap (λ (xs : List Meeting). 2 * splits_needed xs) first ∙ darts_first m (drop (i + 1) ms)) old.darts k.darts;
-      pairs = room_left c.args.history.now.spare_pairs c.loop-i.history.spare_pairs c.make_vertex-vertex.new.history.spare_pairs (pairs_to_part h ms) (pairs_at (held c.loop-i.history) m.spot) (pairs_to_part (held c.make_vertex-vertex.new.history) (drop (i + 1) ms)) (pairs_to_part (held c.loop-i.history) (drop i ms))
-          (ap (pairs_to_part (held c.loop-i.history)) first ∙ ap (λ (n : ℕ). pairs_at (held c.loop-i.history) m.spot + n) (sym (same_pairs_left v h ms c.loop-i.records.graph (held c.loop-i.history) ns i c.loop-i.invariant.midway m l c.index.ensures c.make_vertex-vertex.new.records.graph (held c.make_vertex-vertex.new.history) c.make_vertex-vertex.result k.made)))
+      pairs = room_left c.args.history.now.spare_pairs c.loop-i.history.spare_pairs c.make_vertex-vertex.new.history.spare_pairs (pairs_to_part h ms) (pairs_at (curves_on c.loop-i.history) m.spot) (pairs_to_part (curves_on c.make_vertex-vertex.new.history) (drop (i + 1) ms)) (pairs_to_part (curves_on c.loop-i.history) (drop i ms))
+          (ap (pairs_to_part (curves_on c.loop-i.history)) first ∙ ap (λ (n : ℕ). pairs_at (curves_on c.loop-i.history) m.spot + n) (sym (same_pairs_left v h ms c.loop-i.records.graph (curves_on c.loop-i.history) ns i c.loop-i.invariant.midway m l c.index.ensures c.make_vertex-vertex.new.records.graph (curves_on c.make_vertex-vertex.new.history) c.make_vertex-vertex.result k.made)))
           old.pairs k.pairs;
     }
 
 pub returns-clause-made : goal.returns-clause-made
 returns-clause-made c =
-    all_made c.args.records.now.graph (held c.args.history.now) c.args.meetings.now.items c.loop-i.records.graph (held c.loop-i.history) c.loop-i.meetings.items c.loop-i.i c.loop-i.invariant.midway
-    (omega (arith, c.loop-i-test.false, c.len-i-end.ensures, same_length c.args.records.now.graph (held c.args.history.now) c.args.meetings.now.items c.loop-i.records.graph (held c.loop-i.history) c.loop-i.meetings.items c.loop-i.i c.loop-i.invariant.midway))
+    all_made c.args.records.now.graph (curves_on c.args.history.now) c.args.meetings.now.items c.loop-i.records.graph (curves_on c.loop-i.history) c.loop-i.meetings.items c.loop-i.i c.loop-i.invariant.midway
+    (omega (arith, c.loop-i-test.false, c.len-i-end.ensures, same_length c.args.records.now.graph (curves_on c.args.history.now) c.args.meetings.now.items c.loop-i.records.graph (curves_on c.loop-i.history) c.loop-i.meetings.items c.loop-i.i c.loop-i.invariant.midway))
 
 pub returns-clause-named : goal.returns-clause-named
 returns-clause-named c =
-    all_named c.args.records.now.graph (held c.args.history.now) c.args.meetings.now.items c.loop-i.records.graph (held c.loop-i.history) c.loop-i.meetings.items c.loop-i.i c.loop-i.invariant.midway
-    (omega (arith, c.loop-i-test.false, c.len-i-end.ensures, same_length c.args.records.now.graph (held c.args.history.now) c.args.meetings.now.items c.loop-i.records.graph (held c.loop-i.history) c.loop-i.meetings.items c.loop-i.i c.loop-i.invariant.midway)) c.requires.meetings.ascend
+    all_named c.args.records.now.graph (curves_on c.args.history.now) c.args.meetings.now.items c.loop-i.records.graph (curves_on c.loop-i.history) c.loop-i.meetings.items c.loop-i.i c.loop-i.invariant.midway
+    (omega (arith, c.loop-i-test.false, c.len-i-end.ensures, same_length c.args.records.now.graph (curves_on c.args.history.now) c.args.meetings.now.items c.loop-i.records.graph (curves_on c.loop-i.history) c.loop-i.meetings.items c.loop-i.i c.loop-i.invariant.midway)) c.requires.meetings.ascend

@@ -1,5 +1,5 @@
 use Rattle.std.proofs.Common.{◌≤◌, ◌+◌, ◌*◌, drop}
-use Rattle.curve_history.specs.Past.{held, SameLayer}
+use Rattle.curve_history.specs.Past.{curves_on, SameLayer}
 use Rattle.zone_walk.specs.Zone.{vertices_needed, splits_needed}
 use Rattle.segment_insert.specs.Insertion.{pairs_to_part}
 use Rattle.segment_insert.proofs.VerticesLoop.{IsMidway}
@@ -7,9 +7,9 @@ use Rattle.segment_insert.proofs.vertices.make_vertices.Given as goal
 
 abbrev pub invariant-loop-i : goal.invariant-loop-i
 invariant-loop-i l = record {
-  midway : IsMidway l.initial.records.graph (held l.initial.history) l.initial.meetings.items l.records.graph (held l.history) l.meetings.items l.i;
+  midway : IsMidway l.initial.records.graph (curves_on l.initial.history) l.initial.meetings.items l.records.graph (curves_on l.history) l.meetings.items l.i;
   layer : SameLayer l.initial.history l.history;
   vertices : l.initial.records.spare_vertices + vertices_needed (drop l.i l.initial.meetings.items) ≤ l.records.spare_vertices + vertices_needed l.initial.meetings.items;
   darts : l.initial.records.spare_darts + 2 * splits_needed (drop l.i l.initial.meetings.items) ≤ l.records.spare_darts + 2 * splits_needed l.initial.meetings.items;
-  pairs : l.initial.history.spare_pairs + pairs_to_part (held l.history) (drop l.i l.initial.meetings.items) ≤ l.history.spare_pairs + pairs_to_part (held l.initial.history) l.initial.meetings.items;
+  pairs : l.initial.history.spare_pairs + pairs_to_part (curves_on l.history) (drop l.i l.initial.meetings.items) ≤ l.history.spare_pairs + pairs_to_part (curves_on l.initial.history) l.initial.meetings.items;
 }

@@ -1,22 +1,23 @@
-use Rattle.std.proofs.Common.{◌≡◌, length, refl, sym, ap, ap₂, ◌∙◌, subst, inl, inr}
+use Rattle.std.proofs.Common.{◌≡◌, length, refl, sym, ap, ap₂, ◌∙◌, subst}
 use Rattle.std.specs.List.{flat_map}
 use Rattle.edit_steps.specs.Edits.{steps}
 use Rattle.edit_steps.specs.Layer.{layer_after}
 use Rattle.edit_steps.specs.Steps.{cut_piece, with_cut}
+use Rattle.edit_steps.proofs.Refusals.{no_memory, cut_without, cut_full, cut_allowed}
 use Rattle.slab_laws.specs.Sound.{edge_between}
 use Rattle.arr_notes.specs.Curves.{AreCurvesOf}
-use Rattle.curve_history.specs.Past.{held}
-use Rattle.record_layers.specs.Kept.{IsLayer, layer_of, Makes}
-use Rattle.segment_remove.specs.Refused.{cut_between}
+use Rattle.curve_history.specs.Past.{curves_on}
+use Rattle.record_layers.specs.RecordLayers.{IsLayer, layer_of, IsRunOfSteps}
+use Rattle.record_layers.proofs.Moved.{one_curves, layer_moves}
+use Rattle.segment_remove.specs.Refused.{cut_between, cut_said}
 use Rattle.segment_remove.specs.declared.cuts.CutError.TheVariants.{NoMemory}
 use Rattle.segment_remove.proofs.CutMade.{at_s, at_t, both_ascend, both_have, counted, cut_layer, cut_made, has_s, has_t, rest_curves, rest_sound}
 use Rattle.segment_remove.proofs.Joined.{joined, not_joined}
-use Rattle.segment_remove.proofs.Kept.{layer_moves, one_curves}
-use Rattle.segment_remove.proofs.Refusals.{cut_accepted, fits, no_memory, passes, refused_full, refused_without}
+use Rattle.segment_remove.proofs.Refusals.{fits, passes}
 use Rattle.segment_remove.proofs.cuts.remove_edge.Goals as goal
 
 pub returns-in_default-clause-refused : goal.returns-in_default-clause-refused
-returns-in_default-clause-refused c = refused_without c.args.pieces (layer_of c.args.records.now.graph c.args.history.now).present (edge_between c.args.p.now c.args.q.now) _ _ (not_joined c.args.records.now.graph c.args.history.now c.requires.layer (edge_between c.args.p.now c.args.q.now) c.in_default.ensures) refl
+returns-in_default-clause-refused c = cut_without c.args.pieces (layer_of c.args.records.now.graph c.args.history.now) (edge_between c.args.p.now c.args.q.now).low (edge_between c.args.p.now c.args.q.now).high (not_joined c.args.records.now.graph c.args.history.now c.requires.layer (edge_between c.args.p.now c.args.q.now) c.in_default.ensures)
 
 pub point-low-requires : goal.point-low-requires
 point-low-requires c = has_s c.args.records.now.graph c.args.history.now c.requires.layer (edge_between c.args.p.now c.args.q.now) c.in-Some.d c.in-Some.ensures c.source-source.result c.target-target.result c.source-source.ensures c.target-target.ensures
@@ -26,45 +27,44 @@ point-high-requires c = has_t c.args.records.now.graph c.args.history.now c.requ
 
 pub returns-then-left-from-clause-refused : goal.returns-then-left-from-clause-refused
 returns-then-left-from-clause-refused c =
-    refused_full c.args.pieces (layer_of c.args.records.now.graph c.args.history.now).present (edge_between c.args.p.now c.args.q.now) _ _ (joined c.args.records.now.graph c.args.history.now c.requires.layer (edge_between c.args.p.now c.args.q.now) c.in-Some.d c.in-Some.ensures)
-    (passes c.args.pieces c.from.result c.pieces_after_cut-left.result (length (with_cut (layer_of c.args.records.now.graph c.args.history.now).present (edge_between c.args.p.now c.args.q.now).low (edge_between c.args.p.now c.args.q.now).high).pieces) c.from.ensures (counted c.args.records.now.graph c.args.history.now c.requires.layer (edge_between c.args.p.now c.args.q.now) c.in-Some.d c.in-Some.ensures c.source-source.result c.target-target.result c.source-source.ensures c.target-target.ensures c.point-low.result c.point-high.result c.point-low.ensures c.point-high.ensures c.pieces_after_cut-left.result c.pieces_after_cut-left.ensures) c.if-left-from.true) refl
+    cut_full c.args.pieces (layer_of c.args.records.now.graph c.args.history.now) (edge_between c.args.p.now c.args.q.now).low (edge_between c.args.p.now c.args.q.now).high (joined c.args.records.now.graph c.args.history.now c.requires.layer (edge_between c.args.p.now c.args.q.now) c.in-Some.d c.in-Some.ensures)
+    (passes c.args.pieces c.from.result c.pieces_after_cut-left.result (length (with_cut (layer_of c.args.records.now.graph c.args.history.now).present (edge_between c.args.p.now c.args.q.now).low (edge_between c.args.p.now c.args.q.now).high).pieces) c.from.ensures (counted c.args.records.now.graph c.args.history.now c.requires.layer (edge_between c.args.p.now c.args.q.now) c.in-Some.d c.in-Some.ensures c.source-source.result c.target-target.result c.source-source.ensures c.target-target.ensures c.point-low.result c.point-high.result c.point-low.ensures c.point-high.ensures c.pieces_after_cut-left.result c.pieces_after_cut-left.ensures) c.if-left-from.true)
 
 pub returns-in_err-make_room-clause-layer : goal.returns-in_err-make_room-clause-layer
 returns-in_err-make_room-clause-layer c = layer_moves c.args.records.now.graph c.args.history.now c.make_room.new.history c.make_room.ensures.layer c.make_room.ensures.curves c.requires.layer
 
 pub returns-in_err-make_room-clause-refused : goal.returns-in_err-make_room-clause-refused
 returns-in_err-make_room-clause-refused c =
-    cut_accepted c.args.pieces (layer_of c.args.records.now.graph c.args.history.now).present (edge_between c.args.p.now c.args.q.now) _ _ (joined c.args.records.now.graph c.args.history.now c.requires.layer (edge_between c.args.p.now c.args.q.now) c.in-Some.d c.in-Some.ensures)
-    (fits c.args.pieces c.from.result c.pieces_after_cut-left.result (length (with_cut (layer_of c.args.records.now.graph c.args.history.now).present (edge_between c.args.p.now c.args.q.now).low (edge_between c.args.p.now c.args.q.now).high).pieces) c.from.ensures (counted c.args.records.now.graph c.args.history.now c.requires.layer (edge_between c.args.p.now c.args.q.now) c.in-Some.d c.in-Some.ensures c.source-source.result c.target-target.result c.source-source.ensures c.target-target.ensures c.point-low.result c.point-high.result c.point-low.ensures c.point-high.ensures c.pieces_after_cut-left.result c.pieces_after_cut-left.ensures) c.if-left-from.false)
-    (inr (no_memory NoMemory c.from_residual.result c.from_residual.ensures.1))
+    no_memory cut_said NoMemory _ c.from_residual.result c.from_residual.ensures.1 refl (cut_allowed c.args.pieces (layer_of c.args.records.now.graph c.args.history.now) (edge_between c.args.p.now c.args.q.now).low (edge_between c.args.p.now c.args.q.now).high (joined c.args.records.now.graph c.args.history.now c.requires.layer (edge_between c.args.p.now c.args.q.now) c.in-Some.d c.in-Some.ensures)
+    (fits c.args.pieces c.from.result c.pieces_after_cut-left.result (length (with_cut (layer_of c.args.records.now.graph c.args.history.now).present (edge_between c.args.p.now c.args.q.now).low (edge_between c.args.p.now c.args.q.now).high).pieces) c.from.ensures (counted c.args.records.now.graph c.args.history.now c.requires.layer (edge_between c.args.p.now c.args.q.now) c.in-Some.d c.in-Some.ensures c.source-source.result c.target-target.result c.source-source.ensures c.target-target.ensures c.point-low.result c.point-high.result c.point-low.ensures c.point-high.ensures c.pieces_after_cut-left.result c.pieces_after_cut-left.ensures) c.if-left-from.false))
 
 pub release_edge-requires-clause-curves : goal.release_edge-requires-clause-curves
 release_edge-requires-clause-curves c = subst (AreCurvesOf c.args.records.now.graph) (sym (one_curves c.args.history.now c.cut_pieces.new.self (λ d. c.cut_pieces.ensures.curves d ∙ c.make_room.ensures.curves d))) c.requires.layer.curves
 
-pub tidy_all-requires-clause-sound : goal.tidy_all-requires-clause-sound
-tidy_all-requires-clause-sound c = rest_sound c.args.records.now.graph c.args.history.now c.requires.layer (edge_between c.args.p.now c.args.q.now) c.in-Some.d c.in-Some.ensures c.source-source.result c.target-target.result c.source-source.ensures c.target-target.ensures c.cut_pieces.new.self (λ d. c.cut_pieces.ensures.curves d ∙ c.make_room.ensures.curves d) c.release_edge.new.records.graph (held c.release_edge.new.history) c.release_edge.ensures.made c.release_edge.ensures.vertices
+pub remove_redundant-requires-clause-sound : goal.remove_redundant-requires-clause-sound
+remove_redundant-requires-clause-sound c = rest_sound c.args.records.now.graph c.args.history.now c.requires.layer (edge_between c.args.p.now c.args.q.now) c.in-Some.d c.in-Some.ensures c.source-source.result c.target-target.result c.source-source.ensures c.target-target.ensures c.cut_pieces.new.self (λ d. c.cut_pieces.ensures.curves d ∙ c.make_room.ensures.curves d) c.release_edge.new.records.graph (curves_on c.release_edge.new.history) c.release_edge.ensures.made c.release_edge.ensures.vertices
 
-pub tidy_all-requires-clause-curves : goal.tidy_all-requires-clause-curves
-tidy_all-requires-clause-curves c = rest_curves c.args.records.now.graph c.args.history.now c.requires.layer (edge_between c.args.p.now c.args.q.now) c.in-Some.d c.in-Some.ensures c.source-source.result c.target-target.result c.source-source.ensures c.target-target.ensures c.cut_pieces.new.self (λ d. c.cut_pieces.ensures.curves d ∙ c.make_room.ensures.curves d) c.release_edge.new.records.graph (held c.release_edge.new.history) c.release_edge.ensures.made c.release_edge.ensures.vertices
+pub remove_redundant-requires-clause-curves : goal.remove_redundant-requires-clause-curves
+remove_redundant-requires-clause-curves c = rest_curves c.args.records.now.graph c.args.history.now c.requires.layer (edge_between c.args.p.now c.args.q.now) c.in-Some.d c.in-Some.ensures c.source-source.result c.target-target.result c.source-source.ensures c.target-target.ensures c.cut_pieces.new.self (λ d. c.cut_pieces.ensures.curves d ∙ c.make_room.ensures.curves d) c.release_edge.new.records.graph (curves_on c.release_edge.new.history) c.release_edge.ensures.made c.release_edge.ensures.vertices
 
-pub tidy_all-requires-clause-have : goal.tidy_all-requires-clause-have
-tidy_all-requires-clause-have c = both_have c.args.records.now.graph c.args.history.now c.requires.layer (edge_between c.args.p.now c.args.q.now) c.in-Some.d c.in-Some.ensures c.source-source.result c.target-target.result c.source-source.ensures c.target-target.ensures c.cut_pieces.new.self (λ d. c.cut_pieces.ensures.curves d ∙ c.make_room.ensures.curves d) c.release_edge.new.records.graph (held c.release_edge.new.history) c.release_edge.ensures.made c.release_edge.ensures.vertices
+pub remove_redundant-requires-clause-have : goal.remove_redundant-requires-clause-have
+remove_redundant-requires-clause-have c = both_have c.args.records.now.graph c.args.history.now c.requires.layer (edge_between c.args.p.now c.args.q.now) c.in-Some.d c.in-Some.ensures c.source-source.result c.target-target.result c.source-source.ensures c.target-target.ensures c.cut_pieces.new.self (λ d. c.cut_pieces.ensures.curves d ∙ c.make_room.ensures.curves d) c.release_edge.new.records.graph (curves_on c.release_edge.new.history) c.release_edge.ensures.made c.release_edge.ensures.vertices
 
-pub tidy_all-requires-clause-ascend : goal.tidy_all-requires-clause-ascend
-tidy_all-requires-clause-ascend c = both_ascend c.args.records.now.graph c.args.history.now c.requires.layer (edge_between c.args.p.now c.args.q.now) c.in-Some.d c.in-Some.ensures c.source-source.result c.target-target.result c.source-source.ensures c.target-target.ensures c.cut_pieces.new.self (λ d. c.cut_pieces.ensures.curves d ∙ c.make_room.ensures.curves d) c.release_edge.new.records.graph (held c.release_edge.new.history) c.release_edge.ensures.made c.release_edge.ensures.vertices
+pub remove_redundant-requires-clause-ascend : goal.remove_redundant-requires-clause-ascend
+remove_redundant-requires-clause-ascend c = both_ascend c.args.records.now.graph c.args.history.now c.requires.layer (edge_between c.args.p.now c.args.q.now) c.in-Some.d c.in-Some.ensures c.source-source.result c.target-target.result c.source-source.ensures c.target-target.ensures c.cut_pieces.new.self (λ d. c.cut_pieces.ensures.curves d ∙ c.make_room.ensures.curves d) c.release_edge.new.records.graph (curves_on c.release_edge.new.history) c.release_edge.ensures.made c.release_edge.ensures.vertices
 
-made : (c : goal.After-tidy_all) → Makes c.args.records.now.graph (held c.args.history.now) (steps (cut_between c.args.p.now c.args.q.now) (layer_of c.args.records.now.graph c.args.history.now).present) c.tidy_all.new.records.graph (held c.tidy_all.new.history)
-made c = cut_made c.args.records.now.graph c.args.history.now c.requires.layer (edge_between c.args.p.now c.args.q.now) c.in-Some.d c.in-Some.ensures c.source-source.result c.target-target.result c.source-source.ensures c.target-target.ensures c.cut_pieces.new.self (λ d. c.cut_pieces.ensures.curves d ∙ c.make_room.ensures.curves d) c.release_edge.new.records.graph (held c.release_edge.new.history) c.release_edge.ensures.made c.release_edge.ensures.vertices c.tidy_all.new.records.graph (held c.tidy_all.new.history) c.tidy_all.ensures.tidied
+made : (c : goal.After-remove_redundant) → IsRunOfSteps c.args.records.now.graph (curves_on c.args.history.now) (steps (cut_between c.args.p.now c.args.q.now) (layer_of c.args.records.now.graph c.args.history.now).present) c.remove_redundant.new.records.graph (curves_on c.remove_redundant.new.history)
+made c = cut_made c.args.records.now.graph c.args.history.now c.requires.layer (edge_between c.args.p.now c.args.q.now) c.in-Some.d c.in-Some.ensures c.source-source.result c.target-target.result c.source-source.ensures c.target-target.ensures c.cut_pieces.new.self (λ d. c.cut_pieces.ensures.curves d ∙ c.make_room.ensures.curves d) c.release_edge.new.records.graph (curves_on c.release_edge.new.history) c.release_edge.ensures.made c.release_edge.ensures.vertices c.remove_redundant.new.records.graph (curves_on c.remove_redundant.new.history) c.remove_redundant.ensures.tidied
 
-after : (c : goal.After-tidy_all) → IsLayer c.tidy_all.new.records.graph c.tidy_all.new.history × (layer_of c.tidy_all.new.records.graph c.tidy_all.new.history ≡ layer_after (cut_between c.args.p.now c.args.q.now) (layer_of c.args.records.now.graph c.args.history.now))
+after : (c : goal.After-remove_redundant) → IsLayer c.remove_redundant.new.records.graph c.remove_redundant.new.history × (layer_of c.remove_redundant.new.records.graph c.remove_redundant.new.history ≡ layer_after (cut_between c.args.p.now c.args.q.now) (layer_of c.args.records.now.graph c.args.history.now))
 after c =
     let room = c.make_room.ensures.layer in
     let cut = c.cut_pieces.ensures in
     let released = c.release_edge.ensures.layer in
-    let tidied = c.tidy_all.ensures.layer in
+    let tidied = c.remove_redundant.ensures.layer in
     let low = c.point-low.ensures ∙ at_s c.args.records.now.graph c.args.history.now c.requires.layer (edge_between c.args.p.now c.args.q.now) c.in-Some.d c.in-Some.ensures c.source-source.result c.target-target.result c.source-source.ensures c.target-target.ensures in
     let high = c.point-high.ensures ∙ at_t c.args.records.now.graph c.args.history.now c.requires.layer (edge_between c.args.p.now c.args.q.now) c.in-Some.d c.in-Some.ensures c.source-source.result c.target-target.result c.source-source.ensures c.target-target.ensures in
-    cut_layer c.args.records.now.graph c.args.history.now c.requires.layer (edge_between c.args.p.now c.args.q.now) c.in-Some.d c.in-Some.ensures c.source-source.result c.target-target.result c.source-source.ensures c.target-target.ensures c.tidy_all.new.records.graph c.tidy_all.new.history (made c)
+    cut_layer c.args.records.now.graph c.args.history.now c.requires.layer (edge_between c.args.p.now c.args.q.now) c.in-Some.d c.in-Some.ensures c.source-source.result c.target-target.result c.source-source.ensures c.target-target.ensures c.remove_redundant.new.records.graph c.remove_redundant.new.history (made c)
     (tidied.pieces ∙ released.pieces ∙ cut.pieces ∙ ap (flat_map (cut_piece c.point-low.result c.point-high.result)) room.pieces ∙ ap₂ (λ p q. flat_map (cut_piece p q) c.args.history.now.pieces) low high)
     (tidied.names ∙ released.names ∙ cut.names ∙ room.names)
     (tidied.next ∙ released.next ∙ cut.next ∙ room.next)
@@ -80,6 +80,5 @@ returns-clause-steps c = made c
 
 pub returns-clause-refused : goal.returns-clause-refused
 returns-clause-refused c =
-    cut_accepted c.args.pieces (layer_of c.args.records.now.graph c.args.history.now).present (edge_between c.args.p.now c.args.q.now) _ _ (joined c.args.records.now.graph c.args.history.now c.requires.layer (edge_between c.args.p.now c.args.q.now) c.in-Some.d c.in-Some.ensures)
+    cut_allowed c.args.pieces (layer_of c.args.records.now.graph c.args.history.now) (edge_between c.args.p.now c.args.q.now).low (edge_between c.args.p.now c.args.q.now).high (joined c.args.records.now.graph c.args.history.now c.requires.layer (edge_between c.args.p.now c.args.q.now) c.in-Some.d c.in-Some.ensures)
     (fits c.args.pieces c.from.result c.pieces_after_cut-left.result (length (with_cut (layer_of c.args.records.now.graph c.args.history.now).present (edge_between c.args.p.now c.args.q.now).low (edge_between c.args.p.now c.args.q.now).high).pieces) c.from.ensures (counted c.args.records.now.graph c.args.history.now c.requires.layer (edge_between c.args.p.now c.args.q.now) c.in-Some.d c.in-Some.ensures c.source-source.result c.target-target.result c.source-source.ensures c.target-target.ensures c.point-low.result c.point-high.result c.point-low.ensures c.point-high.ensures c.pieces_after_cut-left.result c.pieces_after_cut-left.ensures) c.if-left-from.false)
-    (inl refl)

@@ -1,6 +1,6 @@
 use Rattle.std.proofs.Common.{[]}
 use Rattle.slab_laws.specs.View.{HasDart}
-use Rattle.present_graphs.proofs.Loops.{all_gathered, gathered}
+use Rattle.plane_graphs.proofs.Loops.{all_gathered, gathered}
 use Rattle.segment_remove.specs.Ends.{two_ends}
 use Rattle.segment_remove.proofs.EndsOf.{one_has, two_pushed}
 use Rattle.segment_remove.proofs.ends.end_keys.Goals as goal

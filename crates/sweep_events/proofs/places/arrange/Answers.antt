@@ -2,9 +2,10 @@ use Rattle.std.proofs.Common.{sym, ap, ◌∙◌, ℕ, nat_cmp}
 use Rattle.std.proofs.lemmas.List.{map-id}
 use Rattle.std.proofs.lemmas.Cmp.{nat_cmp_total}
 use Rattle.plane_graphs.specs.Ascending.{ascending}
-use Rattle.present_graphs.proofs.Arranged.{arranged}
-use Rattle.sweep_events.proofs.PlacesTold.{nat_exact, nat_ties}
+use Rattle.plane_graphs.proofs.Arranged.{arranged}
+use Rattle.sweep_events.proofs.PlacesTold.{nat_ties}
 use Rattle.sweep_events.proofs.places.arrange.Goals as goal
+use Rattle.integers.proofs.Tests.{nat_exact}
 
 pub returns : goal.returns
 returns c =

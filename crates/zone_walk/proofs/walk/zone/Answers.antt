@@ -1,9 +1,8 @@
 use Rattle.std.proofs.Common.{◌≡◌, true, false, sym, ap, ◌∙◌}
-use Rattle.std.specs.Prelude.{[], ◌∷◌, ◌++◌}
+use Rattle.std.specs.Prelude.{[], ◌∷◌, ◌++◌, List}
 use Rattle.plane_graphs.specs.Line.{precedes}
 use Rattle.plane_graphs.proofs.Order.{lt_out}
 use Rattle.zone_walk.specs.declared.plan.Meeting.{Meeting}
-use Rattle.std.specs.Prelude.{List}
 use Rattle.zone_walk.proofs.Courses.{course}
 use Rattle.zone_walk.proofs.Walked.{starts, continues, zone_done, measure_falls}
 use Rattle.zone_walk.proofs.walk.zone.Goals as goal

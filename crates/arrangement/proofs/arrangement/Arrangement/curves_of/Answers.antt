@@ -7,7 +7,7 @@ use Rattle.slab_laws.specs.declared.names.CurveId.{CurveId}
 use Rattle.arrangement.specs.declared.questions.EdgeError.{EdgeError}
 use Rattle.arrangement.specs.declared.questions.EdgeError.TheVariants.{NoEdge, NoMemory}
 use Rattle.arrangement.specs.Arranged.{Arranged, layer_in}
-use Rattle.edges_by_ends.proofs.Ends.{along_drawn, drawn_along, curves_along}
+use Rattle.record_layers.proofs.LayerEdges.{along_drawn, drawn_along, curves_along}
 use Rattle.arrangement.proofs.arrangement.Arrangement.curves_of.Goals as goal
 
 -- want of memory is not that there is no edge

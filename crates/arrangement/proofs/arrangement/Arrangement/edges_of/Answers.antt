@@ -6,7 +6,7 @@ use Rattle.plane_graphs.specs.Graph.{Edge, graph, edges, curves}
 use Rattle.slab_laws.specs.Sound.{edge_in}
 use Rattle.arr_notes.specs.Curves.{IsForward}
 use Rattle.arrangement.specs.Arranged.{Arranged, layer_in}
-use Rattle.edges_by_ends.proofs.Ends.{all_forward, curve_edge, edge_curve}
+use Rattle.record_layers.proofs.LayerEdges.{all_forward, curve_edge, edge_curve}
 use Rattle.arrangement.proofs.arrangement.Arrangement.edges_of.Goals as goal
 
 pub ends_in_order-requires-clause-forward : goal.ends_in_order-requires-clause-forward

@@ -1,9 +1,9 @@
 use Rattle.std.proofs.Common.{subst}
 use Rattle.plane_graphs.specs.Graph.{graph}
 use Rattle.slab_laws.specs.Sound.{IsGraphSound}
-use Rattle.curve_history.specs.Past.{held}
-use Rattle.record_layers.specs.Kept.{IsLayer}
-use Rattle.record_layers.specs.Named.{IsNamedBy}
+use Rattle.curve_history.specs.Past.{curves_on}
+use Rattle.record_layers.specs.RecordLayers.{IsLayer}
+use Rattle.record_layers.specs.LayerNames.{IsNamedBy}
 use Rattle.record_layers.proofs.NamedLayers.{layers_are_named}
 use Rattle.arrangement.specs.Arranged.{Arranged, layer_in}
 use Rattle.arrangement.proofs.arrangement.Arrangement.laws.Goals as goal
@@ -17,5 +17,5 @@ returns-clause-layer c = subst (λ (a : Arranged). IsLayer a.graph a.past) c.sel
 pub returns-clause-named : goal.returns-clause-named
 returns-clause-named c =
     let i = c.self.inside in
-    subst (λ (a : Arranged). IsNamedBy a.graph (held a.past) (graph (layer_in a).present)) c.self.view_is
+    subst (λ (a : Arranged). IsNamedBy a.graph (curves_on a.past) (graph (layer_in a).present)) c.self.view_is
     (layers_are_named i.records.graph i.history c.self.invariant)

@@ -4,10 +4,10 @@ use Rattle.plane_graphs.specs.Graph.{Graph, graph}
 use Rattle.slab_laws.specs.Subdivision.{subdivision}
 use Rattle.slab_laws.specs.Text.{skeleton}
 use Rattle.slab_laws.specs.View.{View}
-use Rattle.record_graphs.specs.Graph.{drawn_graph}
+use Rattle.sound_views.specs.RecordGraph.{drawn_graph}
 use Rattle.curve_history.specs.Past.{Past}
-use Rattle.curve_history.specs.Drawn.{curves_in}
-use Rattle.record_layers.specs.Kept.{IsLayer}
+use Rattle.curve_history.specs.DrawnRecords.{curves_in}
+use Rattle.record_layers.specs.RecordLayers.{IsLayer}
 use Rattle.plain_slabs.specs.ByName.{numbers_of}
 use Rattle.arrangement.specs.declared.limits.Limits.{Limits}
 use Rattle.arrangement.specs.Arranged.{Arranged, layer_in}

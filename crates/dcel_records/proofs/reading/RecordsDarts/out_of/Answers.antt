@@ -1,5 +1,5 @@
 use Rattle.std.proofs.Common.{subst, ap}
-use Rattle.dcel_records.specs.Kept.{out_or}
+use Rattle.dcel_records.specs.StoredRows.{out_or}
 use Rattle.dcel_records.specs.Outs.{IsOut}
 use Rattle.dcel_records.proofs.Holding.{vertex_key, outs}
 use Rattle.dcel_records.proofs.Leaving.{out_some, out_none}

@@ -1,7 +1,7 @@
 use Rattle.std.proofs.Common.{◌≡◌, sym, ap, subst, ◌∙◌}
 use Rattle.slab_laws.specs.declared.names.DartId.{DartId}
 use Rattle.slab_laws.specs.View.{HasDart, dart_id, twin_in}
-use Rattle.listed_views.specs.Listed.{view_of}
+use Rattle.plain_slabs.specs.Listed.{view_of}
 use Rattle.plain_slabs.proofs.DartLists.{twin_within, twin_reads, stands}
 use Rattle.plain_slabs.proofs.Items.{place}
 use Rattle.plain_slabs.proofs.records.PlainDarts.twin.Goals as goal

@@ -1,7 +1,7 @@
 use Rattle.std.proofs.Common.{sym, subst}
 use Rattle.slab_laws.specs.declared.names.FaceId.{FaceId}
 use Rattle.slab_laws.specs.View.{HasFace}
-use Rattle.listed_views.specs.Listed.{faces_of}
+use Rattle.plain_slabs.specs.Listed.{faces_of}
 use Rattle.plain_slabs.proofs.Items.{place}
 use Rattle.plain_slabs.proofs.DartLists.{stands}
 use Rattle.plain_slabs.proofs.CycleLists.{bare_within, bare_reads}

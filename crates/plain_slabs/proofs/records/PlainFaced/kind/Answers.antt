@@ -1,5 +1,5 @@
 use Rattle.std.proofs.Common.{sym, ap, ◌∙◌}
-use Rattle.listed_views.specs.Listed.{kind_by}
+use Rattle.plain_slabs.specs.Listed.{kind_by}
 use Rattle.plain_slabs.proofs.Items.{place}
 use Rattle.plain_slabs.proofs.CycleLists.{cycle_within, kind_reads}
 use Rattle.plain_slabs.proofs.records.PlainFaced.kind.Goals as goal

@@ -7,4 +7,4 @@ pub invariant_of-self : goal.invariant_of-self
 invariant_of-self c = c.clear.ensures.limits ∙ c.self.invariant
 
 pub returns : goal.returns
-returns c = edited_so ClearAll c.self.inside.arrangement c.clear.new.self c.args.self.now c.self.view_is c.clear.ensures.edit
+returns c = edited_so (λ l. ClearAll) c.self.inside.arrangement c.clear.new.self c.args.self.now c.self.view_is c.clear.ensures.edit

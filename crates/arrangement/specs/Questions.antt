@@ -1,0 +1,21 @@
+-- What the questions about one edge and one curve are answered.
+use Rattle.std.specs.Prelude.{◌↔◌, ℕ, List, map}
+use Rattle.exact_plane.specs.Point.{Point}
+use Rattle.plane_graphs.specs.Ascending.{Member}
+use Rattle.plane_graphs.specs.Graph.{graph, edges, curves}
+use Rattle.record_orders.specs.Edges.{edge_of}
+use Rattle.slab_laws.specs.Sound.{edge_between}
+use Rattle.arrangement.specs.Arranged.{Arranged, layer_in}
+
+-- the curves along the edge between two points, which come in either order (CGAL manual, originating curves)
+abbrev pub curves_between : Arranged → Point → Point → List ℕ
+curves_between a p q = curves (graph (layer_in a).present) (edge_between p q).low (edge_between p q).high
+
+-- no edge joins the points
+abbrev pub IsNoEdge : Arranged → Point → Point → Type 0
+IsNoEdge a p q = ¬ Member (edge_between p q) (edges (graph (layer_in a).present))
+
+-- the pairs are the ends of the edges along which the curve runs (CGAL manual, induced edges)
+abbrev pub AreEdgesOf : Arranged → ℕ → List (Point × Point) → Type 0
+AreEdgesOf a c ps =
+    (e : _) → Member e (map edge_of ps) ↔ (Member e (edges (graph (layer_in a).present)) × Member c (curves (graph (layer_in a).present) e.low e.high))

@@ -1,0 +1,95 @@
+-- How chains by edge and by curve, pieces and a number are a history (this project).
+use Rattle.std.specs.Prelude.{◌≡◌, ◌-◌, ◌^◌, ◌≤◌, ◌<◌, ℕ, List, map, min, Option, Some, None, IfSome, length, vec_capacity, vec_len}
+use Rattle.std.specs.declared.vec.Vec.{Vec}
+use Rattle.std.specs.Ordering.{nat_cmp}
+use Rattle.plane_graphs.specs.Ascending.{ascending}
+use Rattle.slab_laws.specs.Pieces.{piece_of}
+use Rattle.slab_laws.specs.Tables.{names}
+use Rattle.slab_laws.specs.declared.present.Piece.{Piece as PieceInMemory}
+use Rattle.linked_chains.specs.Chains.{Chained, HasKey, entry_at}
+use Rattle.linked_chains.specs.declared.node.Entry.{Entry}
+use Rattle.curve_history.specs.Past.{Past}
+
+-- what a node says: the key of its chain, its item and its twin
+abbrev pub entry : ℕ → ℕ → ℕ → Entry
+entry key item twin = record { key = key; item = item; twin = twin }
+
+-- what a node says beside its key
+abbrev pub item_or : Option Entry → ℕ
+item_or None = 0
+item_or (Some e) = e.item
+
+unfoldable pub item_in : Chained → ℕ → ℕ
+item_in c n = item_or (entry_at c n)
+
+-- a node says this key and this item
+pub record Says (c : Chained) (key item : ℕ) : Type 0 where
+  pub node : ℕ
+  pub twin : ℕ
+  pub is : entry_at c node ≡ Some (entry key item twin)
+
+-- each node's twin is a node of the other side, which says the same turned round and names it back
+pub record AreTwins (one other : Chained) : Type 0 where
+  pub twin : (n key item twin : ℕ) → entry_at one n ≡ Some (entry key item twin) → entry_at other twin ≡ Some (entry item key n)
+
+-- the nodes of both sides are twins, and each pair of an edge and a curve is said once
+pub record ArePairs (edges curves : Chained) : Type 0 where
+  pub forth : AreTwins edges curves
+  pub back : AreTwins curves edges
+  pub once : (m n key item s t : ℕ) → entry_at edges m ≡ Some (entry key item s) → entry_at edges n ≡ Some (entry key item t) → m ≡ n
+
+-- no two nodes of an edge say one curve (this project)
+abbrev pub SaysEachOnce : Chained → ℕ → Type 0
+SaysEachOnce edges edge = (m n i s t : ℕ) → entry_at edges m ≡ Some (entry edge i s) → entry_at edges n ≡ Some (entry edge i t) → m ≡ n
+
+-- every curve that is said of an edge is said of the other (this project)
+abbrev pub HasAll : Chained → ℕ → ℕ → Type 0
+HasAll c edge other = (i : ℕ) → Says c edge i → Says c other i
+
+-- each key of the edges has a node
+pub record AreFilled (edges : Chained) : Type 0 where
+  pub key : (k : ℕ) → HasKey edges k → (i : ℕ) × Says edges k i
+
+-- the number that the next curve gets, one past the last for none
+abbrev pub number_of : Option ℕ → ℕ
+number_of None = 2 ^ 32
+number_of (Some n) = n
+
+-- the numbers of the named curves, ascending
+abbrev pub named_in : Chained → List ℕ
+named_in curves = ascending nat_cmp (names curves.heads)
+
+-- the pair that a node says
+abbrev pub pair_or : Option Entry → ℕ × ℕ
+pair_or None = (0, 0)
+pair_or (Some e) = (e.key, e.item)
+
+-- the pairs that the nodes say
+abbrev pub pairs_in : Chained → List (ℕ × ℕ)
+pairs_in c = map (λ n. pair_or (entry_at c n)) (names c.nodes)
+
+-- how many pairs more fit with no memory
+abbrev pub pair_room : Chained → Chained → ℕ
+pair_room edges curves = min (min edges.spare_nodes curves.spare_nodes) edges.spare_keys
+
+abbrev pub past : {Z : Type 0} → Chained → Chained → Vec PieceInMemory Z → Option ℕ → Past
+past edges curves pieces next = record {
+  pairs = pairs_in edges;
+  names = named_in curves;
+  pieces = map piece_of pieces.items;
+  next = number_of next;
+  spare_names = curves.spare_keys;
+  spare_pieces = vec_capacity pieces - vec_len pieces;
+  spare_pairs = pair_room edges curves;
+  capacity_by_edge = edges.capacity_of_nodes;
+  capacity_by_curve = curves.capacity_of_nodes;
+  capacity_of_pieces = vec_capacity pieces;
+}
+
+-- the pairs are twins, said once; the edges with a key are those with curves; the numbers of curves are below the next one; and there are fewer than 2^32 pieces (this project)
+pub record IsSoundHistory {Z : Type 0} (edges curves : Chained) (pieces : Vec PieceInMemory Z) (next : Option ℕ) : Type 0 where
+  pub pairs : ArePairs edges curves
+  pub filled : AreFilled edges
+  pub numbers : (k : ℕ) → HasKey curves k → (1 ≤ k) × (k < number_of next)
+  pub last : IfSome next (λ n. (1 ≤ n) × (n < 2 ^ 32))
+  pub few : length pieces.items < 2 ^ 32

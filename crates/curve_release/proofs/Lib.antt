@@ -1,2 +1,0 @@
-pub mod Losing
-pub mod Going

@@ -1,6 +1,0 @@
-use Rattle.dart_rings.specs.Laws.{Passes}
-use Rattle.dart_rings.proofs.Edits.{removed}
-use Rattle.dart_rings.proofs.removed.Goals as goal
-
-pub returns : goal.returns
-returns g c = λ lt p q g h v x a s i r. removed lt g h v (Passes p) (Passes q) s x a i r

@@ -1,4 +1,0 @@
-pub mod Transport
-pub mod Tables
-pub mod CellOrder
-pub mod Labelled

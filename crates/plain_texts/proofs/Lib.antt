@@ -1,5 +1,0 @@
-pub mod Lists
-pub mod Ordered
-pub mod Words
-pub mod Pins
-pub mod Texts

@@ -1,4 +1,0 @@
-pub mod Inner
-pub mod Ends
-pub mod Marked
-pub mod Drawn

@@ -1,4 +1,0 @@
-pub mod Firsts
-pub mod Grown
-pub mod Places
-pub mod Texts

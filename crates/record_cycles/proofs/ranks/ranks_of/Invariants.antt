@@ -1,9 +1,0 @@
-use Rattle.std.proofs.Common.{◌≡◌, take}
-use Rattle.record_cycles.specs.Keys.{ranked_faces, AreRanks}
-use Rattle.record_cycles.proofs.ranks.ranks_of.Given as goal
-
-abbrev pub invariant-loop-cycle : goal.invariant-loop-cycle
-invariant-loop-cycle g l = record {
-  ranks : AreRanks l.ranks l.faces.items;
-  faces : l.faces.items ≡ ranked_faces (g.R.Faced.faces l.records) (take l.cycle-index l.cycles);
-}

@@ -1,0 +1,54 @@
+-- Cycles by their first darts, and faces by rank, of what is read by name.
+use Rattle.std.specs.Prelude.{◌≡◌, ℕ, Bool, true, false, cond, List, [], ◌∷◌, ◌++◌, map, filter, Option, Some, None, ◌==◌}
+use Rattle.std.specs.BTreeMap.{BTreeMap, get}
+use Rattle.std.specs.List.{list_any, position}
+use Rattle.std.specs.Ordering.{nat_cmp}
+use Rattle.std.specs.declared.cmp.Ordering.{Ordering}
+use Rattle.slab_laws.specs.declared.names.CycleKind.{CycleKind}
+use Rattle.slab_laws.specs.declared.names.CycleKind.TheVariants.{Outer, Inner}
+use Rattle.slab_laws.specs.declared.names.DartId.{DartId}
+use Rattle.slab_laws.specs.declared.names.FaceId.{FaceId}
+use Rattle.slab_laws.specs.Listed.{distinct}
+use Rattle.slab_laws.specs.View.{Faces, cycle_in, kind_in, face_in, face_after_in}
+use Rattle.record_orders.specs.declared.cycles.CycleKey.{CycleKey}
+
+-- the darts are on one cycle
+abbrev pub same_cycle : Faces → DartId → DartId → Bool
+same_cycle f d e = (cycle_in f d).0 == (cycle_in f e).0
+
+abbrev pub same_face : FaceId → FaceId → Bool
+same_face a b = a.0 == b.0
+
+-- the kind bounds a face from outside
+abbrev pub is_outer : CycleKind → Bool
+is_outer Outer = true
+is_outer Inner = false
+
+-- the cycle of a dart
+abbrev pub cycle_key : Faces → DartId → CycleKey
+cycle_key f d = record { lead = d; outer = is_outer (kind_in f (cycle_in f d)); face = face_in f (cycle_in f d) }
+
+-- the cycles of the darts, each by the first of them that is on it
+abbrev pub cycle_keys : Faces → List DartId → List CycleKey
+cycle_keys f ds = map (cycle_key f) (distinct (same_cycle f) ds)
+
+-- the first face, which is the unbounded one
+abbrev pub first_faces : Option FaceId → List FaceId
+first_faces None = []
+first_faces (Some a) = a ∷ []
+
+-- the first face, then those of outer cycles in the order of these, each once
+abbrev pub ranked_faces : Faces → List CycleKey → List FaceId
+ranked_faces f cs = distinct same_face (first_faces (face_after_in f None) ++ map (λ c. c.face) (filter (λ c. c.outer) cs))
+
+-- the faces with one more at their end, unless it stands among them
+abbrev pub added : List FaceId → FaceId → List FaceId
+added fs a = cond (list_any (same_face a) fs) fs (fs ++ a ∷ [])
+
+-- faces are ordered by their numbers
+abbrev pub face_cmp : FaceId → FaceId → Ordering
+face_cmp a b = nat_cmp a.0 b.0
+
+-- the map has for each face of the list its place, and nothing for other faces
+abbrev pub AreRanks : BTreeMap FaceId ℕ → List FaceId → Type 0
+AreRanks ranks fs = (a : FaceId) → get face_cmp ranks a ≡ position (same_face a) fs

@@ -1,0 +1,39 @@
+use Rattle.std.proofs.Common.{sym, refl, ◌∙◌}
+use Rattle.slab_laws.specs.View.{vertex_id}
+use Rattle.curve_history.specs.Past.{curves_on}
+use Rattle.redundant_vertices.proofs.Onward.{all_next, none_tidied, pinned_next, same_histories, same_records, tidied_next}
+use Rattle.redundant_vertices.proofs.redundant.remove_redundant.Goals as goal
+use Rattle.redundant_vertices.proofs.redundant.remove_redundant.Goals.{then-not-pinned, else-not-pinned}
+use Rattle.record_layers.proofs.Moved.{same_layers}
+
+pub loop-vertex-init : goal.loop-vertex-init
+loop-vertex-init c = (none_tidied c.args.records.now.graph (curves_on c.args.history.now) c.args.vertices.now c.requires.sound c.requires.curves c.requires.have, record { names = refl; pieces = refl; next = refl }, record { of_vertices = refl; of_darts = refl }, record { by_edge = refl; by_curve = refl; of_pieces = refl })
+
+pub loop-vertex-preserved : goal.loop-vertex-preserved
+loop-vertex-preserved c =
+    let v = c.args.records.now.graph in
+    let h = curves_on c.args.history.now in
+    let all = c.args.vertices.now in
+    let l = c.loop-vertex in
+    let at = c.loop-vertex-test.true in
+    elim c.if-not-pinned.branch [
+      | then-not-pinned w ↦
+          rw w.records-is (rw w.history-is (
+            tidied_next v h c.requires.sound c.requires.curves all c.requires.have c.requires.ascend l.vertex-index at (vertex_id 0) l.records.graph (curves_on l.history) l.invariant.0 (sym c.pinned.ensures ∙ w.if-not-pinned.true) w.remove_if_redundant.new.records.graph (curves_on w.remove_if_redundant.new.history) w.remove_if_redundant.ensures.tidied,
+            same_layers c.args.history.now l.history w.remove_if_redundant.new.history l.invariant.1 w.remove_if_redundant.ensures.layer,
+            same_records c.args.records.now l.records w.remove_if_redundant.new.records l.invariant.2 w.remove_if_redundant.ensures.records_capacity,
+            same_histories c.args.history.now l.history w.remove_if_redundant.new.history l.invariant.3 w.remove_if_redundant.ensures.history_capacity,
+          ))
+      | else-not-pinned w ↦
+          rw w.records-is (rw w.history-is (
+            pinned_next v h c.requires.sound c.requires.curves all c.requires.have c.requires.ascend l.vertex-index at (vertex_id 0) l.records.graph (curves_on l.history) l.invariant.0 (sym c.pinned.ensures ∙ w.if-not-pinned.false),
+            l.invariant.1,
+            l.invariant.2,
+            l.invariant.3,
+          ))
+    ]
+
+pub returns-clause-tidied : goal.returns-clause-tidied
+returns-clause-tidied c =
+    let l = c.loop-vertex in
+    all_next c.args.records.now.graph (curves_on c.args.history.now) c.requires.sound c.requires.curves c.args.vertices.now c.requires.have c.requires.ascend l.vertex-index c.loop-vertex-test.false l.records.graph (curves_on l.history) l.invariant.0

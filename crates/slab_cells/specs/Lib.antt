@@ -1,0 +1,4 @@
+pub mod PlaceTables
+pub mod LeastNumbers
+pub mod CellLabels
+pub mod Walls

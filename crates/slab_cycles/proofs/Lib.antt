@@ -1,0 +1,15 @@
+pub mod Placed
+pub mod Points
+pub mod RowOrder
+pub mod Listed
+pub mod Pushed
+pub mod TwinPlaces
+pub mod TurnCases
+pub mod Rounds
+pub mod NextPlaces
+pub mod LeadPlaces
+pub mod DartCells
+pub mod EdgeRows
+pub mod CellsBeside
+pub mod Oddness
+pub mod LeastDarts

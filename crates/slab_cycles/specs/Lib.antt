@@ -1,0 +1,4 @@
+pub mod DartRows
+pub mod Turns
+pub mod Orbits
+pub mod CellsAbove

@@ -1,5 +1,0 @@
-pub mod Counts
-pub mod Feet
-pub mod Gathered
-pub mod Loops
-pub mod Reached

@@ -1,3 +1,0 @@
-pub mod Links
-pub mod Next
-pub mod Laws

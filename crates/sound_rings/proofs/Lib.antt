@@ -1,4 +1,0 @@
-pub mod Named
-pub mod Turned
-pub mod Sound
-pub mod Once

@@ -1,3 +1,0 @@
-pub mod Following
-pub mod Rings
-pub mod Turned
