@@ -1,19 +1,24 @@
--- An edge's curves copied to a part of it, and all taken from an edge.
-use Rattle.std.proofs.Common.{◌≡◌, ◌≢◌, ◌⊎◌, ⊎_elim, inl, inr, ℕ, suc, ◌+◌, ◌≤◌, List, length, Option, Some, None, refl, sym, ap, subst, ◌∙◌, arith}
+-- An edge's curves copied to a part of it, in their order.
+use Rattle.std.proofs.Common.{◌≡◌, ◌≢◌, ◌⊎◌, ⊎_elim, inl, inr, ℕ, suc, ◌+◌, ◌≤◌, List, [], ◌∷◌, ◌++◌, length, map, Option, Some, None, refl, sym, ap, ap₂, subst, ◌∙◌, arith}
+use Rattle.std.proofs.lemmas.Bool.{cases_eq}
+use Rattle.std.proofs.lemmas.List.{append-nil, append_assoc, map-append}
 use Rattle.plane_graphs.specs.Ascending.{Member}
-use Rattle.curve_history.specs.Changed.{AreSameKeys, IsPairMore, IsCopied}
+use Rattle.plane_graphs.proofs.Lists.{map_same}
+use Rattle.curve_history.specs.Changed.{AreSameKeys, IsPairMore, IsOfEdge, IsPutAt, IsCopied}
 use Rattle.linked_chains.specs.Chains.{Chained, IsWhole, HasKey, HasNode, entry_at, chain, head_of, comes_after}
 use Rattle.linked_chains.specs.declared.node.Entry.{Entry}
-use Rattle.curve_history.specs.HistoryInMemory.{entry, item_in, Says, ArePairs}
+use Rattle.curve_history.specs.HistoryInMemory.{entry, item_in, items_along, IsDescending, AreOrdered, Says, ArePairs}
+use Rattle.curve_history.proofs.Descending.{EndsIn, end_member, put_end}
+use Rattle.curve_history.proofs.Placing.{still_ordered}
 use Rattle.curve_history.proofs.Reading.{node_of}
 use Rattle.curve_history.proofs.Twins.{one_entry}
-use Rattle.curve_history.proofs.Walking.{IsAt, AreApart, at_head, left, left_head, left_apart, left_member, apart, IsStepped, stepped, node_at, says_on}
+use Rattle.curve_history.proofs.Walking.{IsAt, AreApart, at_head, left, left_head, left_apart, left_member, apart, IsStepped, stepped, node_at, says_on, item_is, none_there}
 use Rattle.integers.proofs.Tests.{same_number}
 
 -- a walk on which all nodes passed have a copy at the part
 pub record IsCopying (old new : Chained) (edge part : ℕ) (at : Option ℕ) : Type 0 where
   pub here : IsAt (chain old edge) at
-  pub chain_is : chain new edge ≡ chain old edge
+  pub chains : (k : ℕ) → k ≢ part → chain new k ≡ chain old k
   pub stays : (n : ℕ) (e : Entry) → entry_at old n ≡ Some e → entry_at new n ≡ Some e
   pub others : (k i : ℕ) → Says new k i → Says old k i ⊎ ((k ≡ part) × Says old edge i × ((n : ℕ) → Member n (left (chain old edge) at) → item_in old n ≢ i))
   pub said : (n : ℕ) → Member n (chain old edge) → Member n (left (chain old edge) at) ⊎ Says new part (item_in old n)
@@ -22,12 +27,49 @@ pub record IsCopying (old new : Chained) (edge part : ℕ) (at : Option ℕ) : T
 pub copy : (old : Chained) (edge part : ℕ) (at : Option ℕ) → at ≡ head_of (chain old edge) → IsCopying old old edge part at
 copy old edge part at e = subst (IsCopying old old edge part) (sym e) (record {
   here = at_head (chain old edge);
-  chain_is = refl;
+  chains = λ k ne. refl;
   stays = λ n x h. h;
   others = λ k i s. inl s;
   said = λ n m. inl (subst (Member n) (sym (left_head (chain old edge))) m);
   keys = λ k h. inl h;
 })
+
+-- the part's chain says what the nodes passed say, in their order, and ends in the last node that was put
+pub record IsInStep (old new : Chained) (edge part : ℕ) (last at : Option ℕ) : Type 0 where
+  pub ends : EndsIn (chain new part) last
+  pub items : items_along new part ++ map (item_in old) (left (chain old edge) at) ≡ items_along old edge
+
+chain_none : (c : Chained) (k : ℕ) → IsWhole c k → ((i : ℕ) → ¬ Says c k i) → chain c k ≡ []
+chain_none c k w f = none_there (chain c k) (λ n m. let t = node_at c k n w m in f (item_in c n) (record { node = n; twin = t.0; is = t.1 }))
+
+pub first_step : (old : Chained) (edge part : ℕ) (at : Option ℕ) → IsWhole old part → ((i : ℕ) → ¬ Says old part i) → at ≡ head_of (chain old edge) → IsInStep old old edge part None at
+first_step old edge part at w f e =
+    let none : chain old part ≡ [] = chain_none old part w f in
+    record {
+      ends = none;
+      items =
+          ap (λ xs. map (item_in old) xs ++ map (item_in old) (left (chain old edge) at)) none
+          ∙ ap (λ o. map (item_in old) (left (chain old edge) o)) e
+          ∙ ap (map (item_in old)) (left_head (chain old edge));
+    }
+
+pub step_of_edge : (old new : Chained) (edge part : ℕ) (last at : Option ℕ) → IsInStep old new edge part last at → IsOfEdge new part last
+step_of_edge old new edge part last at s n e = end_member (chain new part) last n s.ends e
+
+all_in_step : (old new : Chained) (edge part : ℕ) (last at : Option ℕ) → at ≡ None → IsInStep old new edge part last at → items_along new part ≡ items_along old edge
+unfolding left
+all_in_step old new edge part last at e s =
+    let q : IsInStep old new edge part last None = subst (IsInStep old new edge part last) e s in
+    sym (append-nil (items_along new part)) ∙ q.items
+
+pub ordered_copied : (old new : Chained) (edge part : ℕ) (last at : Option ℕ) → ((k : ℕ) → IsWhole old k) → at ≡ None → IsCopying old new edge part at → IsInStep old new edge part last at → AreOrdered old → AreOrdered new
+ordered_copied old new edge part last at w e p s o k = elim (cases_eq k part) [
+  | inl q ↦ subst (λ x. IsDescending (items_along new x)) (sym q) (subst IsDescending (sym (all_in_step old new edge part last at e s)) (o edge))
+  | inr ne ↦ still_ordered old new k (p.chains k ne) stays (o k)
+]
+  where
+    stays : (n : ℕ) → Member n (chain old k) → item_in new n ≡ item_in old n
+    stays n g = let t = node_at old k n (w k) g in item_is new n (entry k (item_in old n) t.0) (p.stays n (entry k (item_in old n) t.0) t.1)
 
 pub says_more : (old new : Chained) (edge curve k i : ℕ) → IsPairMore old new edge curve → Says old k i → Says new k i
 says_more old new edge curve k i m s = record { node = s.node; twin = s.twin; is = m.stays s.node (entry k i s.twin) s.is }
@@ -76,7 +118,7 @@ module _ (old mid new curves : Chained) (edge part n : ℕ) (w : IsWhole old edg
   unfolding rest
   copied_on = record {
     here = step.at;
-    chain_is = m.chains edge ne ∙ p.chain_is;
+    chains = λ k q. m.chains k q ∙ p.chains k q;
     stays = λ x e h. m.stays x e (p.stays x e h);
     others = each_other;
     said = each_said;
@@ -126,7 +168,7 @@ module _ (old mid curves now : Chained) (edge part n : ℕ) (before : Option ℕ
       after_is : at ≡ comes_after (chain old edge) n
       after_is =
           let v = mid_node in
-          let c : chain new edge ≡ chain old edge = m'.chains edge ne ∙ at_n.chain_is in
+          let c : chain new edge ≡ chain old edge = m'.chains edge ne ∙ at_n.chains edge ne in
           f (entry edge (item_in old n) v.0) (m'.stays n (entry edge (item_in old n) v.0) v.1) ∙ ap (λ xs. comes_after xs n) c
 
       pub goes_on : IsCopying old new edge part at
@@ -137,6 +179,33 @@ module _ (old mid curves now : Chained) (edge part n : ℕ) (before : Option ℕ
       one_less =
           let g : IsStepped (chain old edge) n = stepped (chain old edge) n (apart (chain old edge) w.once) at_n.here in
           ap (λ o. length (left (chain old edge) o)) b ∙ ap length g.left_is ∙ ap (λ o. suc (length (left (chain old edge) o))) (sym after_is)
+
+      -- the node that was put comes last, and says what the next node says
+      module _ (last : Option ℕ) (node : ℕ) (s : IsInStep old mid edge part last before) (q : IsPutAt mid new part e.item last node) where
+        grown : chain new part ≡ chain mid part ++ node ∷ []
+        grown = q.chain_is ∙ put_end (chain mid part) last node s.ends
+
+        so_far : map (item_in new) (chain mid part) ≡ items_along mid part
+        so_far = map_same (item_in new) (item_in mid) (chain mid part) q.items
+
+        abbrev to_come : List ℕ
+        to_come = map (item_in old) (left (chain old edge) at)
+
+        next_left : left (chain old edge) before ≡ n ∷ left (chain old edge) at
+        next_left =
+            let g : IsStepped (chain old edge) n = stepped (chain old edge) n (apart (chain old edge) w.once) at_n.here in
+            ap (left (chain old edge)) b ∙ g.left_is ∙ ap (λ o. n ∷ left (chain old edge) o) (sym after_is)
+
+        pub keeps_step : IsInStep old new edge part (Some node) at
+        keeps_step = record {
+          ends = (chain mid part, grown, q.fresh);
+          items =
+              ap (λ xs. map (item_in new) xs ++ to_come) grown
+              ∙ ap (λ xs. xs ++ to_come) (map-append (item_in new) (chain mid part) (node ∷ []))
+              ∙ append_assoc (map (item_in new) (chain mid part)) (item_in new node ∷ []) to_come
+              ∙ ap₂ (λ xs i. xs ++ i ∷ to_come) so_far (q.item ∙ item_same)
+              ∙ subst (λ xs. items_along mid part ++ map (item_in old) xs ≡ items_along old edge) next_left s.items;
+        }
 
 pub all_copied : (old new : Chained) (edge part : ℕ) (at : Option ℕ) → IsWhole old edge → at ≡ None → edge ≢ part → IsCopying old new edge part at → IsCopied old new edge part
 unfolding left

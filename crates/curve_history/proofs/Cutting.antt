@@ -6,7 +6,6 @@ use Rattle.std.proofs.lemmas.List.{length-append, length-map, append_assoc, appe
 use Rattle.std.proofs.lemmas.List.Concat.{flat_map-append}
 use Rattle.exact_plane.specs.Point.{Point}
 use Rattle.plane_graphs.specs.Ascending.{Member}
-use Rattle.exact_plane.specs.Line.{Line}
 use Rattle.exact_plane.specs.Segment.{line_of_segment}
 use Rattle.plane_graphs.specs.Line.{is_on, precedes}
 use Rattle.plane_graphs.specs.Piece.{Piece, along, on}
@@ -119,17 +118,14 @@ and_false : (x y : Bool) → x ≡ false → x ≡ (x && y)
 and_false false y h = refl
 and_false true y h = cc
 
-module _ (k : Piece) (l : Line) (e : l ≡ line_of_segment k.segment) where
-  on_line : (p : Point) → is_on l p ≡ along k p
+module _ (k : Piece) (a b : Point) (x : Bool) (h : x ≡ is_on (line_of_segment k.segment) a) where
+  pub both_along : x ≡ true → (y : Bool) → y ≡ is_on (line_of_segment k.segment) b → y ≡ (along k a && along k b)
   unfolding along
-  on_line p = ap (λ m. is_on m p) e
+  both_along t y g = g ∙ and_true (is_on (line_of_segment k.segment) a) (is_on (line_of_segment k.segment) b) (sym h ∙ t)
 
-  module _ (a b : Point) (x : Bool) (h : x ≡ is_on l a) where
-    pub both_along : x ≡ true → (y : Bool) → y ≡ is_on l b → y ≡ (along k a && along k b)
-    both_along t y g = g ∙ on_line b ∙ and_true (along k a) (along k b) (sym (h ∙ on_line a) ∙ t)
-
-    pub one_apart : x ≡ false → x ≡ (along k a && along k b)
-    one_apart f = h ∙ on_line a ∙ and_false (along k a) (along k b) (sym (h ∙ on_line a) ∙ f)
+  pub one_apart : x ≡ false → x ≡ (along k a && along k b)
+  unfolding along
+  one_apart f = h ∙ and_false (is_on (line_of_segment k.segment) a) (is_on (line_of_segment k.segment) b) (sym h ∙ f)
 
 -- ---- a piece that holds both points, or not
 four_in : (x y s t : Bool) → (s && t) ≡ true → (x && y) ≡ ((x && s) && (y && t))
@@ -291,7 +287,7 @@ module _ (a b : Point) (js is : List PieceInMemory) (e : is ≡ filter (λ j. le
 
 -- ---- in a history
 pub kept_pieces : {Z : Type 0} (e c : Chained) (p q : Vec PieceInMemory Z) (n : Option ℕ) → IsSoundHistory e c p n → length q.items < 2 ^ 32 → IsSoundHistory e c q n
-kept_pieces e c p q n k h = record { pairs = k.pairs; filled = k.filled; numbers = k.numbers; last = k.last; few = h }
+kept_pieces e c p q n k h = record { pairs = k.pairs; filled = k.filled; ordered = k.ordered; numbers = k.numbers; last = k.last; few = h }
 
 module _ (i : Inside) (old : Past) (v : IsSeen i old) (a b : Point) (is : List PieceInMemory) (e : is ≡ filter (λ j. leaves_some a b (piece_of j)) i.pieces.items) where
   rests_seen : flat_map (cut_piece a b) (map piece_of is) ≡ flat_map (cut_piece a b) old.pieces

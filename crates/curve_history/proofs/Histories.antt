@@ -1,11 +1,11 @@
 -- What the changes of pairs make of a history.
-use Rattle.std.proofs.Common.{◌≡◌, ◌≢◌, ⊎_elim, inl, inr, ℕ, suc, ◌+◌, ◌-◌, ◌≤◌, ◌==◌, vec_capacity, vec_len, cond, not, List, [], ◌∷◌, length, map, Option, Some, refl, sym, ap, subst, ◌∙◌, Ordering, Less, Equal, Greater, arith}
+use Rattle.std.proofs.Common.{◌≡◌, ◌≢◌, ⊎_elim, inl, inr, ℕ, suc, ◌+◌, ◌-◌, ◌≤◌, ◌==◌, vec_capacity, vec_len, cond, not, List, [], ◌∷◌, length, map, reverse, Option, Some, refl, sym, ap, subst, ◌∙◌, Ordering, Less, Equal, Greater, arith}
 use Rattle.std.specs.declared.vec.Vec.{Vec}
 use Rattle.std.specs.List.{filter}
 use Rattle.std.specs.Ordering.{nat_cmp, match_ordering}
 use Rattle.std.proofs.lemmas.Bool.{cases_eq, eq-eqb}
 use Rattle.std.proofs.lemmas.Cmp.{nat_cmp_total}
-use Rattle.std.proofs.lemmas.List.{length-map}
+use Rattle.std.proofs.lemmas.List.{length-map, length-reverse, reverse-reverse}
 use Rattle.plane_graphs.specs.Ascending.{ascending, place, Member, IsAscending}
 use Rattle.plane_graphs.specs.Graph.{same_curve}
 use Rattle.plane_graphs.proofs.Ascending.{IsAscending-ascending, IsAscending-place, ascending_unique}
@@ -20,9 +20,10 @@ use Rattle.slab_laws.specs.Tables.{names}
 use Rattle.curve_history.specs.Changed.{AreSameKeys, IsPairMore, IsOneLess, IsEmptied, IsCopied}
 use Rattle.linked_chains.specs.Chains.{Chained, IsWhole, HasKey, chain, entry_at}
 use Rattle.curve_history.specs.Past.{Past, curves_on, SameLayer, IsSpare}
-use Rattle.curve_history.specs.HistoryInMemory.{entry, item_in, Says, ArePairs, AreFilled, named_in, number_of, pairs_in, pair_room, past, HasAll, IsSoundHistory}
+use Rattle.curve_history.specs.HistoryInMemory.{entry, item_in, Says, ArePairs, AreFilled, named_in, number_of, pairs_in, pair_room, past, items_along, IsDescending, AreOrdered, IsSoundHistory}
 use Rattle.curve_history.proofs.Reading.{row_of, of_row, listed, in_listed, of_listed, listed_ascends, listed_from, held_is}
 use Rattle.curve_history.proofs.Copying.{says_more}
+use Rattle.curve_history.proofs.Descending.{of_reverse, in_reverse, ascends_reverse}
 use Rattle.curve_history.proofs.Twins.{says_there}
 use Rattle.curve_history.proofs.Walking.{AreApart, apart, node_at, says_on}
 use Rattle.integers.proofs.Tests.{nat_exact, other_number}
@@ -45,10 +46,11 @@ pub same_named : (c c' : Chained) → AreSameKeys c c' → named_in c' ≡ named
 same_named c c' s = named_from c' (named_in c) (named_ascend c) (λ k m. (s.keys k).0 (has_of_named c k m)) (λ k h. named_of_has c k ((s.keys k).1 h))
 
 -- ---- the history stays one
-pub kept_on : {Z : Type 0} (e c e' c' : Chained) (p : Vec PieceInMemory Z) (n : Option ℕ) → IsSoundHistory e c p n → ArePairs e' c' → AreFilled e' → AreSameKeys c c' → IsSoundHistory e' c' p n
-kept_on e c e' c' p n k t f s = record {
+pub kept_on : {Z : Type 0} (e c e' c' : Chained) (p : Vec PieceInMemory Z) (n : Option ℕ) → IsSoundHistory e c p n → ArePairs e' c' → AreFilled e' → AreOrdered e' → AreSameKeys c c' → IsSoundHistory e' c' p n
+kept_on e c e' c' p n k t f o s = record {
   pairs = t;
   filled = f;
+  ordered = o;
   numbers = λ x h. k.numbers x ((s.keys x).1 h);
   last = k.last;
   few = k.few;
@@ -210,22 +212,23 @@ module _ (e c : Chained) (t : ArePairs e c) (k : ℕ) (w : IsWhole e k) where
   pub items_differ : AreApart (map (item_in e) (chain e k))
   items_differ = items_apart (chain e k) (λ n m. m) (apart (chain e k) w.once)
 
-  -- the curves along an edge are what its chain's nodes say
-  pub listed_is : listed e k ≡ ascending nat_cmp (map (item_in e) (chain e k))
-  listed_is = listed_from e k (ascending nat_cmp (map (item_in e) (chain e k))) (IsAscending-ascending nat_cmp nat_cmp_total (map (item_in e) (chain e k)))
-      (λ i m. let n = lists.of_map (item_in e) i (chain e k) (lists.of_ascending nat_cmp nat_cmp_total nat_exact i (map (item_in e) (chain e k)) m) in let u = node_at e k n.0 w n.1 in record { node = n.0; twin = u.0; is = subst (λ j. entry_at e n.0 ≡ Some (entry k j u.0)) (sym n.2) u.1 })
-      (λ i s. let n = says_on e k i w s in lists.in_ascending nat_cmp nat_cmp_total nat_exact i (map (item_in e) (chain e k)) (subst (λ j. Member j (map (item_in e) (chain e k))) n.2 (lists.in_map (item_in e) n.0 (chain e k) n.1)))
+-- the curves along an edge are what its chain's nodes say, from the last to the first
+module _ (e : Chained) (k : ℕ) (w : IsWhole e k) (d : IsDescending (items_along e k)) where
+  pub listed_is : listed e k ≡ reverse (items_along e k)
+  listed_is = listed_from e k (reverse (items_along e k)) (ascends_reverse (items_along e k) d)
+      (λ i m. let n = lists.of_map (item_in e) i (chain e k) (of_reverse i (items_along e k) m) in let u = node_at e k n.0 w n.1 in record { node = n.0; twin = u.0; is = subst (λ j. entry_at e n.0 ≡ Some (entry k j u.0)) (sym n.2) u.1 })
+      (λ i s. let n = says_on e k i w s in in_reverse i (items_along e k) (subst (λ j. Member j (items_along e k)) n.2 (lists.in_map (item_in e) n.0 (chain e k) n.1)))
 
   pub listed_length : length (listed e k) ≡ length (chain e k)
-  listed_length = ap length listed_is ∙ same_length (map (item_in e) (chain e k)) items_differ ∙ length-map (chain e k) (item_in e)
+  listed_length = ap length listed_is ∙ length-reverse (items_along e k) ∙ length-map (chain e k) (item_in e)
 
-pub held_length : (i : Inside) (old : Past) → IsSeen i old → ArePairs i.by_edge i.by_curve → (d : DartId) → IsWhole i.by_edge d.0 → length (curves_on old d) ≡ length (chain i.by_edge d.0)
-held_length i old v t d w = ap length (held_is old i.by_edge d v.pairs) ∙ listed_length i.by_edge i.by_curve t d.0 w
+pub held_length : (i : Inside) (old : Past) → IsSeen i old → AreOrdered i.by_edge → (d : DartId) → IsWhole i.by_edge d.0 → length (curves_on old d) ≡ length (chain i.by_edge d.0)
+held_length i old v o d w = ap length (held_is old i.by_edge d v.pairs) ∙ listed_length i.by_edge d.0 w (o d.0)
 
 -- ---- room
 module _ (i : Inside) (old : Past) (v : IsSeen i old) where
-  pub room_in : ArePairs i.by_edge i.by_curve → (d : DartId) → IsWhole i.by_edge d.0 → length (curves_on old d) ≤ old.spare_pairs → length (chain i.by_edge d.0) ≤ pair_room i.by_edge i.by_curve
-  room_in t d w h = subst (λ n. n ≤ pair_room i.by_edge i.by_curve) (held_length i old v t d w) (subst (λ n. length (curves_on old d) ≤ n) v.spare_pairs h)
+  pub room_in : AreOrdered i.by_edge → (d : DartId) → IsWhole i.by_edge d.0 → length (curves_on old d) ≤ old.spare_pairs → length (chain i.by_edge d.0) ≤ pair_room i.by_edge i.by_curve
+  room_in o d w h = subst (λ n. n ≤ pair_room i.by_edge i.by_curve) (held_length i old v o d w) (subst (λ n. length (curves_on old d) ≤ n) v.spare_pairs h)
 
   pub spare_on : (new : Past) (c' : Chained) → AreSameKeys i.by_curve c' → new.spare_names ≡ c'.spare_keys → new.spare_pieces ≡ vec_capacity i.pieces - vec_len i.pieces → pair_room i.by_edge i.by_curve ≤ new.spare_pairs → IsSpare old new 0 0 0
   spare_on new c' s a b h = record {
@@ -237,21 +240,22 @@ module _ (i : Inside) (old : Past) (v : IsSeen i old) where
       plus_none : (a b c : ℕ) → a ≡ b → b ≤ c → a + 0 ≤ c
       plus_none a b c e h = omega arith
 
-  pub room_after : ArePairs i.by_edge i.by_curve → (d : DartId) → IsWhole i.by_edge d.0 → (now : ℕ) → pair_room i.by_edge i.by_curve ≤ now + length (chain i.by_edge d.0) → pair_room i.by_edge i.by_curve ≤ now + length (curves_on old d)
-  room_after t d w now h = subst (λ n. pair_room i.by_edge i.by_curve ≤ now + n) (sym (held_length i old v t d w)) h
+  pub room_after : AreOrdered i.by_edge → (d : DartId) → IsWhole i.by_edge d.0 → (now : ℕ) → pair_room i.by_edge i.by_curve ≤ now + length (chain i.by_edge d.0) → pair_room i.by_edge i.by_curve ≤ now + length (curves_on old d)
+  room_after o d w now h = subst (λ n. pair_room i.by_edge i.by_curve ≤ now + n) (sym (held_length i old v o d w)) h
 
 -- as many as nodes in the chain
-pub counted_held : (i : Inside) (old : Past) → IsSeen i old → ArePairs i.by_edge i.by_curve → (d : DartId) → IsWhole i.by_edge d.0 → (n : ℕ) → n ≡ length (chain i.by_edge d.0) → n ≡ length (curves_on old d)
-counted_held i old v t d w n e = e ∙ sym (held_length i old v t d w)
+pub counted_held : (i : Inside) (old : Past) → IsSeen i old → AreOrdered i.by_edge → (d : DartId) → IsWhole i.by_edge d.0 → (n : ℕ) → n ≡ length (chain i.by_edge d.0) → n ≡ length (curves_on old d)
+counted_held i old v o d w n e = e ∙ sym (held_length i old v o d w)
 
--- what is said of both edges tells whether they have the same curves
-pub all_held : (i : Inside) (old : Past) → IsSeen i old → (d n : DartId) → HasAll i.by_edge d.0 n.0 → HasAll i.by_edge n.0 d.0 → curves_on old d ≡ curves_on old n
-all_held i old v d n f g =
-    held_is old i.by_edge d v.pairs ∙ listed_from i.by_edge d.0 (listed i.by_edge n.0) (listed_ascends i.by_edge n.0)
-    (λ k m. g k (of_listed i.by_edge n.0 k m))
-    (λ k s. in_listed i.by_edge n.0 k (f k s)) ∙ sym (held_is old i.by_edge n v.pairs)
+-- two edges have the same curves where their chains say the same
+module _ (i : Inside) (old : Past) (v : IsSeen i old) (ordered : AreOrdered i.by_edge) (w : (k : ℕ) → IsWhole i.by_edge k) where
+  held_reverse : (d : DartId) → curves_on old d ≡ reverse (items_along i.by_edge d.0)
+  held_reverse d = held_is old i.by_edge d v.pairs ∙ listed_is i.by_edge d.0 (w d.0) (ordered d.0)
 
-pub held_all : (i : Inside) (old : Past) → IsSeen i old → (d n : DartId) → curves_on old d ≡ curves_on old n → HasAll i.by_edge d.0 n.0
-held_all i old v d n e k s =
-    let q : listed i.by_edge d.0 ≡ listed i.by_edge n.0 = sym (held_is old i.by_edge d v.pairs) ∙ e ∙ held_is old i.by_edge n v.pairs in
-    of_listed i.by_edge n.0 k (subst (λ xs. Member k xs) q (in_listed i.by_edge d.0 k s))
+  pub same_held : (d n : DartId) → items_along i.by_edge d.0 ≡ items_along i.by_edge n.0 → curves_on old d ≡ curves_on old n
+  same_held d n e = held_reverse d ∙ ap reverse e ∙ sym (held_reverse n)
+
+  pub held_same_items : (d n : DartId) → curves_on old d ≡ curves_on old n → items_along i.by_edge d.0 ≡ items_along i.by_edge n.0
+  held_same_items d n e =
+      let q : reverse (items_along i.by_edge d.0) ≡ reverse (items_along i.by_edge n.0) = sym (held_reverse d) ∙ e ∙ held_reverse n in
+      sym (reverse-reverse (items_along i.by_edge d.0)) ∙ ap reverse q ∙ reverse-reverse (items_along i.by_edge n.0)

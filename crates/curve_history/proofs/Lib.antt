@@ -1,12 +1,14 @@
+pub mod Abreast
 pub mod Copying
 pub mod Cutting
+pub mod Descending
 pub mod Emptying
 pub mod Facing
 pub mod Histories
 pub mod Naming
 pub mod Numbers
+pub mod Placing
 pub mod Reading
 pub mod Seconds
-pub mod Sorting
 pub mod Twins
 pub mod Walking

@@ -1,5 +1,5 @@
 -- Names of curves, their pieces, and what is read of a history.
-use Rattle.std.proofs.Common.{◌≡◌, ◌≢◌, ◌⊎◌, ◌↔◌, ⊎_elim, inl, inr, ℕ, suc, ◌+◌, ◌≤◌, ◌<◌, ◌^◌, ◌==◌, cond, not, Bool, true, false, List, [], ◌∷◌, ◌++◌, length, map, Option, Some, None, option_map, IfSome, IsSome, is_some, Contains, refl, sym, ap, subst, ◌∙◌, Less, arith, Fits, w32}
+use Rattle.std.proofs.Common.{◌≡◌, ◌≢◌, ◌⊎◌, ◌↔◌, ⊎_elim, inl, inr, ℕ, suc, ◌+◌, ◌≤◌, ◌<◌, ◌^◌, ◌==◌, cond, not, Bool, true, false, List, [], ◌∷◌, ◌++◌, length, map, reverse, Option, Some, None, option_map, IfSome, IsSome, is_some, Contains, refl, sym, ap, subst, ◌∙◌, Less, arith, Fits, w32}
 use Rattle.std.specs.List.{filter, AllByRecursion, IsDistinct}
 use Rattle.std.specs.Ordering.{nat_cmp}
 use Rattle.std.proofs.lemmas.Bool.{false≢true}
@@ -16,30 +16,22 @@ use Rattle.slab_laws.specs.Tables.{row_at, names}
 use Rattle.slab_laws.specs.View.{dart_id}
 use Rattle.slab_laws.specs.declared.names.CurveId.{CurveId}
 use Rattle.slab_laws.specs.Pieces.{piece_of}
-use Rattle.std.specs.List.Sorted.{IsPermutation, IsSorted}
-use Rattle.curve_history.proofs.Sorting.{sorted_curves}
+use Rattle.curve_history.proofs.Descending.{ascends_snoc, map_reverse}
 use Rattle.curve_history.proofs.Numbers.{fits}
-use Rattle.linked_chains.specs.Chains.{Chained, Link, IsWhole, HasKey, entry_at, chain}
+use Rattle.linked_chains.specs.Chains.{Chained, Link, IsWhole, HasKey, entry_at, first_in, after_in, trail, chain}
 use Rattle.linked_chains.specs.declared.node.Entry.{Entry}
 use Rattle.curve_history.specs.declared.history.History.TheInside.{Inside}
 use Rattle.curve_history.specs.Past.{Past, curves_on}
-use Rattle.curve_history.specs.HistoryInMemory.{entry, item_in, Says, ArePairs, AreFilled, number_of, named_in, pairs_in, IsSoundHistory}
+use Rattle.curve_history.specs.HistoryInMemory.{entry, item_in, items_along, IsDescending, Says, ArePairs, AreFilled, number_of, named_in, pairs_in, IsSoundHistory}
 use Rattle.curve_history.proofs.Reading.{listed_from, held_is}
 use Rattle.curve_history.proofs.Histories.{IsSeen, has_name, has_of_named, named_of_has, named_from, named_ascend, says_held, held_says, same_length, items_differ, listed_is}
-use Rattle.curve_history.proofs.Twins.{one_entry}
-use Rattle.curve_history.proofs.Walking.{AreApart, apart, node_at, item_is}
-use Rattle.integers.proofs.Tests.{nat_less, less_nat, other_number}
+use Rattle.curve_history.specs.Changed.{IsRoomier}
+use Rattle.curve_history.proofs.Placing.{ordered_roomier}
+use Rattle.curve_history.proofs.Twins.{one_entry, twins_with_key, says_there}
+use Rattle.curve_history.proofs.Walking.{AreApart, apart, node_at, item_is, none_there}
+use Rattle.integers.proofs.Tests.{less_nat, other_number}
 
 -- ---- lists of numbers
-
--- a greater number at the end
-all_snoc : (x : ℕ) (xs : List ℕ) (n : ℕ) → AllByRecursion (λ y. nat_cmp x y ≡ Less) xs → nat_cmp x n ≡ Less → AllByRecursion (λ y. nat_cmp x y ≡ Less) (xs ++ n ∷ [])
-all_snoc x [] n a h = (h, tt)
-all_snoc x (y ∷ ys) n a h = (a.0, all_snoc x ys n a.1 h)
-
-pub ascends_snoc : (xs : List ℕ) (n : ℕ) → IsAscending nat_cmp xs → ((x : ℕ) → Member x xs → x < n) → IsAscending nat_cmp (xs ++ n ∷ [])
-ascends_snoc [] n a f = (tt, tt)
-ascends_snoc (x ∷ xs) n a f = (all_snoc x xs n a.0 (nat_less x n (f x (inl refl))), ascends_snoc xs n a.1 (λ y m. f y (inr m)))
 
 -- numbers that ascend from one bound to another are no more than there is room for
 within : (low high : ℕ) (xs : List ℕ) → low ≤ high → IsAscending nat_cmp xs → ((x : ℕ) → Member x xs → (low ≤ x) × (x < high)) → low + length xs ≤ high
@@ -93,10 +85,6 @@ number_fits None k l h = h
 number_fits (Some n) k l h = omega (arith, l.1)
 
 -- ---- a curve that runs along no edge
-none_there : (xs : List ℕ) → ((n : ℕ) → Member n xs → ⊥) → xs ≡ []
-none_there [] f = refl
-none_there (x ∷ xs) f = absurd (f x (inl refl))
-
 pub chain_free : (i : Inside) (old : Past) (k : ℕ) → IsSeen i old → ArePairs i.by_edge i.by_curve → IsWhole i.by_curve k → ((d : DartId) → ¬ Member k (curves_on old d)) → chain i.by_curve k ≡ []
 chain_free i old k v t w f = none_there (chain i.by_curve k) each
   where
@@ -127,6 +115,15 @@ no_key : (c : Chained) (k : ℕ) → c.heads ≡ [] → ¬ HasKey c k
 unfolding row_at
 no_key c k h g = false≢true (subst (λ (hs : List (ℕ × Option ℕ)). IsSome (row_at hs k)) h g)
 
+no_steps : (after : ℕ → Option ℕ) (o : Option ℕ) → trail after 0 o ≡ []
+unfolding trail
+no_steps after None = refl
+no_steps after (Some n) = refl
+
+no_chain : (c : Chained) (k : ℕ) → c.nodes ≡ [] → chain c k ≡ []
+unfolding chain
+no_chain c k h = ap (λ s. trail (after_in c) s (first_in c k)) (ap length h) ∙ no_steps (after_in c) (first_in c k)
+
 pub kept_none : {Z : Type 0} (e c : Chained) (p : Vec PieceInMemory Z) (n : Option ℕ) → e.nodes ≡ [] → c.nodes ≡ [] → e.heads ≡ [] → c.heads ≡ [] → p.items ≡ [] → IfSome n (λ n. (1 ≤ n) × (n < 2 ^ 32)) → IsSoundHistory e c p n
 kept_none e c p n en cn eh ch pe l = record {
   pairs = record {
@@ -135,6 +132,7 @@ kept_none e c p n en cn eh ch pe l = record {
     once = λ x y k i s t h g. absurd (none_at e x (entry k i s) en h);
   };
   filled = record { key = λ k h. absurd (no_key e k eh h) };
+  ordered = λ k. subst (λ xs. IsDescending (map (item_in e) xs)) (sym (no_chain e k en)) tt;
   numbers = λ k h. absurd (no_key c k ch h);
   last = l;
   few = let q : length p.items ≡ 0 = ap length pe in omega arith;
@@ -153,6 +151,17 @@ flip_pairs e c t = record { forth = t.back; back = t.forth; once = one }
         let b : entry_at e r ≡ Some (entry i k n) = t.back.twin n k i r g in
         let q : s ≡ r = t.once s r i k m n a b in
         (one_entry (entry_at e r) i k m i k n (ap (entry_at e) (sym q) ∙ a) b).twin
+
+-- more room leaves a history as it is
+pub kept_roomier : {Z : Type 0} (e c e' c' : Chained) (p q : Vec PieceInMemory Z) (n : Option ℕ) → IsSoundHistory e c p n → IsRoomier e e' → IsRoomier c c' → length q.items < 2 ^ 32 → IsSoundHistory e' c' q n
+kept_roomier e c e' c' p q n k a b f = record {
+  pairs = flip_pairs c' e' (twins_with_key c c' e' b.nodes (flip_pairs e' c (twins_with_key e e' c a.nodes k.pairs)));
+  filled = record { key = λ x h. let s = k.filled.key x (subst (λ (hs : List (ℕ × Option ℕ)). IsSome (row_at hs x)) a.heads h) in (s.0, says_there e e' x s.0 a.nodes s.1) };
+  ordered = ordered_roomier e e' a k.ordered;
+  numbers = λ x h. k.numbers x (subst (λ (hs : List (ℕ × Option ℕ)). IsSome (row_at hs x)) b.heads h);
+  last = k.last;
+  few = f;
+}
 
 -- a curve along an edge fits
 pub curve_fits : (i : Inside) → ArePairs i.by_edge i.by_curve → ((n : ℕ) (x : Entry) → entry_at i.by_curve n ≡ Some x → HasKey i.by_curve x.key) → ((k : ℕ) → HasKey i.by_curve k → (1 ≤ k) × (k < number_of i.next)) → IfSome i.next (λ n. (1 ≤ n) × (n < 2 ^ 32)) → (d k : ℕ) → Says i.by_edge d k → k < 2 ^ 32
@@ -209,11 +218,9 @@ module _ (i : Inside) (old : Past) (v : IsSeen i old) where
   pub counted : (count : ℕ) → IsDistinct ◌==◌ (names i.by_curve.heads) → count ≡ length i.by_curve.heads → count ≡ length old.names
   counted count d e = e ∙ sym (named_length i.by_curve d) ∙ ap length (sym v.names)
 
-  -- sorted, an edge's curves are those of its nodes
-  pub curves_are : ArePairs i.by_edge i.by_curve → (d : DartId) → IsWhole i.by_edge d.0 → (us vs : List CurveId) → map (λ (c : CurveId). c.0) us ≡ map (item_in i.by_edge) (chain i.by_edge d.0) → IsPermutation us vs → IsSorted (λ (x y : CurveId). nat_cmp x.0 y.0) vs → map (λ (c : CurveId). c.0) vs ≡ curves_on old d
-  curves_are t d w us vs h p s =
-      sorted_curves us vs (subst AreApart (sym h) (items_differ i.by_edge i.by_curve t d.0 w)) p s
-      ∙ ap (ascending nat_cmp) h ∙ sym (listed_is i.by_edge i.by_curve t d.0 w) ∙ sym (held_is old i.by_edge d v.pairs)
+  -- turned round, an edge's curves are those of its nodes
+  pub curves_are : (d : DartId) → IsWhole i.by_edge d.0 → IsDescending (items_along i.by_edge d.0) → (us vs : List CurveId) → map (λ (c : CurveId). c.0) us ≡ items_along i.by_edge d.0 → vs ≡ reverse us → map (λ (c : CurveId). c.0) vs ≡ curves_on old d
+  curves_are d w o us vs h r = ap (map (λ (c : CurveId). c.0)) r ∙ map_reverse (λ (c : CurveId). c.0) us ∙ ap reverse h ∙ sym (listed_is i.by_edge d.0 w o) ∙ sym (held_is old i.by_edge d v.pairs)
 
 pub count_fits : (c : Chained) (n : Option ℕ) (count : ℕ) → IsDistinct ◌==◌ (names c.heads) → count ≡ length c.heads → IfSome n (λ n. (1 ≤ n) × (n < 2 ^ 32)) → ((k : ℕ) → HasKey c k → (1 ≤ k) × (k < number_of n)) → Fits w32 count
 count_fits c n count d e l f = fits count (subst (λ m. m < 2 ^ 32) (named_length c d ∙ sym e) (few_named c n l f))

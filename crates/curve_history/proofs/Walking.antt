@@ -1,5 +1,5 @@
 -- What the nodes of a chain say, and walks along it.
-use Rattle.std.proofs.Common.{◌≡◌, ◌≢◌, ◌⊎◌, ⊎_elim, inl, inr, ℕ, suc, ◌+◌, ◌<◌, ◌==◌, cond, not, Bool, true, false, List, [], ◌∷◌, ◌++◌, length, map, Option, Some, None, IfSome, IfNone, is_some, Contains, refl, sym, ap, subst, ◌∙◌, arith, append_assoc}
+use Rattle.std.proofs.Common.{◌≡◌, ◌≢◌, ◌⊎◌, ⊎_elim, inl, inr, ℕ, suc, ◌+◌, ◌<◌, ◌==◌, cond, not, Bool, true, false, List, [], ◌∷◌, ◌++◌, length, map, Option, Some, None, is_some, Contains, refl, sym, ap, subst, ◌∙◌, arith, append_assoc}
 use Rattle.std.proofs.lemmas.Bool.{cases_eq, eq-eqb, false≢true}
 use Rattle.std.proofs.lemmas.List.{append-nil, map-append}
 use Rattle.std.proofs.lemmas.Map.Keys.{IsDistinct-head, IsDistinct-tail}
@@ -8,7 +8,7 @@ use Rattle.plane_graphs.specs.Ascending.{Member}
 use Rattle.plane_graphs.proofs.Ascending.{to_member, from_member}
 use Rattle.linked_chains.specs.Chains.{Chained, IsWhole, HasKey, HasNode, entry_at, chain, head_of, comes_after}
 use Rattle.linked_chains.specs.declared.node.Entry.{Entry}
-use Rattle.curve_history.specs.HistoryInMemory.{entry, item_in, item_or, Says, AreFilled, HasAll}
+use Rattle.curve_history.specs.HistoryInMemory.{entry, item_in, item_or, Says, AreFilled}
 use Rattle.curve_history.proofs.Reading.{node_of}
 use Rattle.curve_history.proofs.Twins.{says_there}
 use Rattle.integers.proofs.Tests.{other_number, same_number}
@@ -138,6 +138,11 @@ left_apart (x ∷ xs) (Some k) a = elim (cases_eq x k) [
   | inr ne ↦ rw (other_number x k ne) (left_apart xs (Some k) a.1)
 ]
 
+-- a list without members
+pub none_there : (xs : List ℕ) → ((n : ℕ) → Member n xs → ⊥) → xs ≡ []
+none_there [] f = refl
+none_there (x ∷ xs) f = absurd (f x (inl refl))
+
 -- ---- what a node says
 pub item_is : (c : Chained) (n : ℕ) (e : Entry) → entry_at c n ≡ Some e → item_in c n ≡ e.item
 unfolding item_in
@@ -245,37 +250,6 @@ says_here c k n e at w b s h =
 pub at_node_on : (c : Chained) (k n : ℕ) (at : Option ℕ) → IsWhole c k → at ≡ Some n → IsAt (chain c k) at → HasNode c n
 at_node_on c k n at w e s = at_node c k n w (subst (IsAt (chain c k)) e s)
 
--- ---- the walk that tests whether all items of a chain are said along another key
-pub record IsTested (c : Chained) (k j : ℕ) (at : Option ℕ) : Type 0 where
-  pub here : IsAt (chain c k) at
-  pub rest : (n : ℕ) → Member n (chain c k) → Member n (left (chain c k) at) ⊎ Says c j (item_in c n)
-
-pub test : (c : Chained) (k j : ℕ) (at : Option ℕ) → at ≡ head_of (chain c k) → IsTested c k j at
-test c k j at e = subst (IsTested c k j) (sym e) (record {
-  here = at_head (chain c k);
-  rest = λ n m. inl (subst (λ xs. Member n xs) (sym (left_head (chain c k))) m);
-})
-
-pub test_on : (c : Chained) (k j n : ℕ) (e : Entry) (before at : Option ℕ) → IsWhole c k → before ≡ Some n → IsTested c k j before → entry_at c n ≡ Some e → Says c j e.item → ((e : Entry) → entry_at c n ≡ Some e → at ≡ comes_after (chain c e.key) n) → IsTested c k j at
-test_on c k j n e before at w b s h there f =
-    let s' : IsTested c k j (Some n) = subst (IsTested c k j) b s in
-    let t = node_at c k n w s'.here in
-    let g : IsStepped (chain c k) n = stepped (chain c k) n (apart (chain c k) w.once) s'.here in
-    subst (IsTested c k j) (sym (f (entry k (item_in c n) t.0) t.1)) (record {
-      here = g.at;
-      rest = λ m q. ⊎_elim
-          (λ x. ⊎_elim (λ y. inr (subst (λ z. Says c j (item_in c z)) (sym y) (subst (Says c j) (sym (item_is c n e h)) there))) (λ y. inl y) (subst (λ xs. Member m xs) g.left_is x))
-          (λ x. inr x)
-          (s'.rest m q);
-    })
-
-pub all_tested : (c : Chained) (k j : ℕ) (at : Option ℕ) → IsWhole c k → at ≡ None → IsTested c k j at → HasAll c k j
-unfolding left
-all_tested c k j at w e s i says =
-    let n = says_on c k i w says in
-    let s' : IsTested c k j None = subst (IsTested c k j) e s in
-    subst (Says c j) n.2 (⊎_elim (λ m. absurd m) (λ x. x) (s'.rest n.0 n.1))
-
 -- ---- the walk that counts
 pub record IsCounted (c : Chained) (k count : ℕ) (at : Option ℕ) : Type 0 where
   pub here : IsAt (chain c k) at
@@ -305,16 +279,3 @@ all_counted c k count at e s =
     let s' : IsCounted c k count None = subst (IsCounted c k count) e s in
     let r : count + 0 ≡ length (chain c k) = s'.rest in
     omega arith
-
--- what a search says of an item
-pub none_said : (c : Chained) (j i : ℕ) (o : Option ℕ) (b : Bool) → is_some o ≡ not b → b ≡ true → IfNone o (¬ Says c j i) → ¬ Says c j i
-none_said c j i None b h t n = n
-none_said c j i (Some m) b h t n = absurd (false≢true (sym (h ∙ ap not t)))
-
-pub some_said : (c : Chained) (j i : ℕ) (o : Option ℕ) (b : Bool) → is_some o ≡ not b → b ≡ false → IfSome o (λ n. (t : ℕ) × (entry_at c n ≡ Some (entry j i t))) → Says c j i
-some_said c j i None b h t s = absurd (false≢true (h ∙ ap not t))
-some_said c j i (Some m) b h t s = record { node = m; twin = s.0; is = s.1 }
-
--- an item of the chain that isn't said along the other key
-pub not_all : (c : Chained) (k j n : ℕ) (e : Entry) (at : Option ℕ) → IsWhole c k → at ≡ Some n → IsAt (chain c k) at → entry_at c n ≡ Some e → ¬ Says c j e.item → ¬ HasAll c k j
-not_all c k j n e at w b s h missing all = missing (all e.item (says_here c k n e at w b s h))

@@ -1,9 +1,10 @@
 -- What one pair of an edge and one more curve, or fewer, changes in chains by edge and by curve (this project).
-use Rattle.std.specs.Prelude.{◌≡◌, ◌≢◌, ◌⊎◌, ◌↔◌, ◌≤◌, ◌==◌, ℕ, not, Some}
+use Rattle.std.specs.Prelude.{◌≡◌, ◌≢◌, ◌⊎◌, ◌↔◌, ◌<◌, ◌≤◌, ◌==◌, ℕ, List, ◌∷◌, not, Option, Some, None}
 use Rattle.std.specs.List.{filter}
-use Rattle.linked_chains.specs.Chains.{Chained, HasKey, entry_at, chain}
+use Rattle.plane_graphs.specs.Ascending.{Member}
+use Rattle.linked_chains.specs.Chains.{Chained, HasKey, entry_at, chain, head_of, comes_after, put_after}
 use Rattle.linked_chains.specs.declared.node.Entry.{Entry}
-use Rattle.curve_history.specs.HistoryInMemory.{Says, entry}
+use Rattle.curve_history.specs.HistoryInMemory.{Says, entry, item_in}
 
 -- both have the same keys, and the new ones no less room for more; as many nodes fit in all
 pub record AreSameKeys (old new : Chained) : Type 0 where
@@ -18,6 +19,32 @@ pub record IsPairMore (old new : Chained) (edge curve : ℕ) : Type 0 where
   pub others : (k i : ℕ) → Says new k i → Says old k i ⊎ ((k ≡ edge) × (i ≡ curve))
   pub chains : (k : ℕ) → k ≢ edge → chain new k ≡ chain old k
   pub keys : (k : ℕ) → HasKey new k → HasKey old k ⊎ (k ≡ edge)
+
+-- the node that there may be is one of the edge
+abbrev pub IsOfEdge : Chained → ℕ → Option ℕ → Type 0
+IsOfEdge c edge last = (n : ℕ) → last ≡ Some n → Member n (chain c edge)
+
+-- the first of the list, or the one directly after another one
+abbrev pub next_in : List ℕ → Option ℕ → Option ℕ
+next_in xs None = head_of xs
+next_in xs (Some m) = comes_after xs m
+
+-- the list with n put first, or directly after another one
+abbrev pub put_at : Option ℕ → ℕ → List ℕ → List ℕ
+put_at None n xs = n ∷ xs
+put_at (Some m) n xs = put_after m n xs
+
+-- the node that there may be says a greater number than this, and the one after it, or the first one, says no greater one
+pub record IsLastAbove (c : Chained) (edge curve : ℕ) (last : Option ℕ) : Type 0 where
+  pub above : (n : ℕ) → last ≡ Some n → Member n (chain c edge) × (curve < item_in c n)
+  pub below : (n : ℕ) → next_in (chain c edge) last ≡ Some n → item_in c n ≤ curve
+
+-- the node is new in the chain of the edge, says the curve, and is put first or directly after another one; the others say what they said (this project)
+pub record IsPutAt (old new : Chained) (edge curve : ℕ) (last : Option ℕ) (node : ℕ) : Type 0 where
+  pub fresh : ¬ Member node (chain old edge)
+  pub item : item_in new node ≡ curve
+  pub chain_is : chain new edge ≡ put_at last node (chain old edge)
+  pub items : (n : ℕ) → Member n (chain old edge) → item_in new n ≡ item_in old n
 
 -- one pair fewer is said, that of the node; keys stay
 pub record IsPairLess (old new : Chained) (node edge curve : ℕ) : Type 0 where

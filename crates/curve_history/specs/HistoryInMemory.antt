@@ -1,12 +1,13 @@
 -- How chains by edge and by curve, pieces and a number are a history (this project).
-use Rattle.std.specs.Prelude.{◌≡◌, ◌-◌, ◌^◌, ◌≤◌, ◌<◌, ℕ, List, map, min, Option, Some, None, IfSome, length, vec_capacity, vec_len}
+use Rattle.std.specs.Prelude.{◌≡◌, ◌-◌, ◌^◌, ◌≤◌, ◌<◌, ℕ, List, [], ◌∷◌, map, min, Option, Some, None, IfSome, length, vec_capacity, vec_len, ⊤}
+use Rattle.std.specs.List.{AllByRecursion}
 use Rattle.std.specs.declared.vec.Vec.{Vec}
 use Rattle.std.specs.Ordering.{nat_cmp}
 use Rattle.plane_graphs.specs.Ascending.{ascending}
 use Rattle.slab_laws.specs.Pieces.{piece_of}
 use Rattle.slab_laws.specs.Tables.{names}
 use Rattle.slab_laws.specs.declared.present.Piece.{Piece as PieceInMemory}
-use Rattle.linked_chains.specs.Chains.{Chained, HasKey, entry_at}
+use Rattle.linked_chains.specs.Chains.{Chained, HasKey, entry_at, chain}
 use Rattle.linked_chains.specs.declared.node.Entry.{Entry}
 use Rattle.curve_history.specs.Past.{Past}
 
@@ -42,9 +43,18 @@ pub record ArePairs (edges curves : Chained) : Type 0 where
 abbrev pub SaysEachOnce : Chained → ℕ → Type 0
 SaysEachOnce edges edge = (m n i s t : ℕ) → entry_at edges m ≡ Some (entry edge i s) → entry_at edges n ≡ Some (entry edge i t) → m ≡ n
 
--- every curve that is said of an edge is said of the other (this project)
-abbrev pub HasAll : Chained → ℕ → ℕ → Type 0
-HasAll c edge other = (i : ℕ) → Says c edge i → Says c other i
+-- what the nodes of a key say, in the order of its chain
+abbrev pub items_along : Chained → ℕ → List ℕ
+items_along c k = map (item_in c) (chain c k)
+
+-- each number is greater than all that follow it
+abbrev pub IsDescending : List ℕ → Type 0
+IsDescending [] = ⊤
+IsDescending (x ∷ xs) = AllByRecursion (λ y. y < x) xs × IsDescending xs
+
+-- the curves of each edge stand in its chain from the greatest number to the least (this project)
+abbrev pub AreOrdered : Chained → Type 0
+AreOrdered edges = (k : ℕ) → IsDescending (items_along edges k)
 
 -- each key of the edges has a node
 pub record AreFilled (edges : Chained) : Type 0 where
@@ -86,10 +96,11 @@ past edges curves pieces next = record {
   capacity_of_pieces = vec_capacity pieces;
 }
 
--- the pairs are twins, said once; the edges with a key are those with curves; the numbers of curves are below the next one; and there are fewer than 2^32 pieces (this project)
+-- the pairs are twins, said once; the edges with a key are those with curves; their chains are in order; the numbers of curves are below the next one; and there are fewer than 2^32 pieces (this project)
 pub record IsSoundHistory {Z : Type 0} (edges curves : Chained) (pieces : Vec PieceInMemory Z) (next : Option ℕ) : Type 0 where
   pub pairs : ArePairs edges curves
   pub filled : AreFilled edges
+  pub ordered : AreOrdered edges
   pub numbers : (k : ℕ) → HasKey curves k → (1 ≤ k) × (k < number_of next)
   pub last : IfSome next (λ n. (1 ≤ n) × (n < 2 ^ 32))
   pub few : length pieces.items < 2 ^ 32

@@ -3,8 +3,8 @@ ghost use Rattle.plane_graphs.specs.Ascending.{Member};
 ghost use Rattle.curve_history.specs.Past.{curves_on, SameLayer, SameHistoryCapacity, GainsCurve, LosesCurve, LosesCurves, CopiesCurves, IsSpare, SpendsPairs};
 
 use crate::history::History;
-use crate::pairs::{hold_pair, tidy};
-use crate::walks::{copy_pairs, release_each, release_one};
+use crate::pairs::tidy;
+use crate::walks::{copy_pairs, hold_pair, release_each, release_one};
 use slab_laws::{CurveId, DartId};
 
 impl History {

@@ -1,27 +1,28 @@
 ghost use Rattle.std.specs.Prelude.{◌≡◌, ◌≤◌, ◌+◌, ◌∷◌, [], ◌^◌, ◌<◌, ◌&&◌, cond, length, map, ◌||◌, vec_capacity};
 ghost use Rattle.std.specs.VecDeque.{deque_len, deque_capacity};
+ghost use Rattle.exact_plane.specs.Segment.{line_of_segment};
 ghost use Rattle.edit_steps.specs.Steps.{cut_piece};
 ghost use Rattle.plane_graphs.specs.Line.{is_on as is_on_line, precedes};
 ghost use Rattle.plane_graphs.specs.Piece.{along, on};
 ghost use Rattle.slab_laws.specs.Pieces.{piece_of};
 ghost use Rattle.curve_history.specs.Cuts.{leaves_some, reaches, rests_of, AllLeaveSome, ArePutBehind};
 
-use exact_plane::{Line, Point, Sign, line_of, side};
+use exact_plane::{Point, Segment, Sign, orientation};
 use slab_laws::Piece;
 use std::collections::VecDeque;
 
-fn is_on(line: &Line, point: &Point) -> bool
-    ensures { result ≡ is_on_line line.now point.now }
+// Whether a point is on the line through the ends of a segment.
+fn is_on(segment: &Segment, point: &Point) -> bool
+    ensures { result ≡ is_on_line (line_of_segment segment.now) point.now }
 {
-    side(line, point) == Sign::Zero
+    orientation(segment, point) == Sign::Zero
 }
 
 // Whether both points are on the line of a piece.
 fn runs_along(piece: &Piece, p: &Point, q: &Point) -> bool
     ensures { result ≡ (along (piece_of piece.now) p.now && along (piece_of piece.now) q.now) }
 {
-    let line = line_of(&piece.segment);
-    is_on(&line, p) && is_on(&line, q)
+    is_on(&piece.segment, p) && is_on(&piece.segment, q)
 }
 
 fn comes_before(p: &Point, q: &Point) -> bool
@@ -43,7 +44,7 @@ fn reaches_both(piece: &Piece, p: &Point, q: &Point) -> bool
     reaches(piece, p) && reaches(piece, q)
 }
 
-// Whether both points are on a piece. Its line, which costs most, is made only for one that reaches both.
+// Whether both points are on a piece. Whether they are on its line, which costs most, is asked only for one that reaches both.
 fn holds_both(piece: &Piece, p: &Point, q: &Point) -> bool
     ensures { result ≡ (on (piece_of piece.now) p.now && on (piece_of piece.now) q.now) }
 {

@@ -11,7 +11,7 @@ ghost use Rattle.curve_history.specs.Past.{curves_on, HasRoom, SameCurves, SameL
 
 use crate::cuts::{count_all, cut_each, leaves_rest};
 use crate::history::{History, HistoryError, LAST_CURVE};
-use crate::walks::{count_along, curves_along, edges_along, has_all};
+use crate::walks::{count_along, curves_along, edges_along, says_same};
 use exact_plane::Point;
 use linked_chains::Chains;
 use no_memory::NoMemory;
@@ -190,11 +190,11 @@ impl History {
     pub fn curves_of(&self, alloc: Global, d: DartId) -> Result<Vec<CurveId>, NoMemory>
         ensures { IfOk result (λ v. map (λ c. c.0) v.items ≡ curves_on self.now d) }
     {
-        // Each curve stands once, with a number that fits.
+        // The numbers fit, and stand in the edge's chain from the greatest to the least.
         self.by_edge.laws();
         self.by_curve.laws();
         let mut curves = curves_along(&self.by_edge, alloc, d.0)?;
-        curves.sort_unstable();
+        curves.reverse();
         Ok(curves)
     }
 
@@ -220,7 +220,8 @@ impl History {
         ensures same { result ≡ true → curves_on self.now d ≡ curves_on self.now n }
         ensures differ { result ≡ false → curves_on self.now d ≢ curves_on self.now n }
     {
-        has_all(&self.by_edge, d.0, n.0) && has_all(&self.by_edge, n.0, d.0)
+        self.by_edge.laws();
+        says_same(&self.by_edge, d.0, n.0)
     }
 
     /// The edges along which a curve runs, each once, in no particular order.

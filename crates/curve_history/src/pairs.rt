@@ -1,7 +1,7 @@
-ghost use Rattle.std.specs.Prelude.{◌≡◌, ◌≢◌, ◌⊎◌, ◌≤◌, ◌+◌, []};
-ghost use Rattle.linked_chains.specs.Chains.{chain, HasKey, HasNode};
-ghost use Rattle.curve_history.specs.Changed.{AreSameKeys, IsPairMore, LosesPairOf};
-ghost use Rattle.curve_history.specs.HistoryInMemory.{pair_room, ArePairs, AreFilled, Says};
+ghost use Rattle.std.specs.Prelude.{◌≡◌, ◌≢◌, ◌⊎◌, ◌↔◌, ◌≤◌, ◌+◌, [], Some};
+ghost use Rattle.linked_chains.specs.Chains.{chain, HasKey, HasNode, IsSpare, SetsEntry};
+ghost use Rattle.curve_history.specs.Changed.{put_at, AreSameKeys, IsOfEdge, IsPairMore, IsPutAt, LosesPairOf};
+ghost use Rattle.curve_history.specs.HistoryInMemory.{entry, pair_room, AreOrdered, ArePairs, AreFilled, Says};
 
 use linked_chains::Chains;
 
@@ -20,46 +20,88 @@ fn make_key(edges: &mut Chains, edge: usize)
     }
 }
 
-// Two nodes that are each other's twin, in the chain of an edge and in that of a curve.
-fn push_twins(edges: &mut Chains, curves: &mut Chains, edge: usize, curve: usize)
+// A node more in the chain of an edge, first or directly after another one, in room that is there.
+fn push_at(edges: &mut Chains, edge: usize, curve: usize, last: Option<usize>) -> usize
+    requires edge { HasKey edges.old edge }
+    requires place { IsOfEdge edges.old edge last }
+    requires room { 1 ≤ edges.old.spare_nodes }
+    ensures name { ¬ HasNode edges.old result }
+    ensures entries { SetsEntry edges.old edges.new result (Some (entry edge curve 0)) }
+    ensures here { chain edges.new edge ≡ put_at last result (chain edges.old edge) }
+    ensures others { (k : _) → k ≢ edge → chain edges.new k ≡ chain edges.old k }
+    ensures keys { (k : _) → HasKey edges.old k ↔ HasKey edges.new k }
+    ensures spare { IsSpare edges.new edges.old 0 1 }
+    ensures keeps_keys { edges.old.spare_keys ≤ edges.new.spare_keys }
+{
+    // The nodes of the edge's chain have its key.
+    edges.laws();
+    match last {
+        Some(last) => edges.push_after(last, curve, 0),
+        None => edges.push(edge, curve, 0),
+    }
+}
+
+// Two nodes that are each other's twin, in the chain of an edge, first or directly after another one, and in that of a curve.
+fn push_twins(
+    edges: &mut Chains,
+    curves: &mut Chains,
+    edge: usize,
+    curve: usize,
+    last: Option<usize>,
+) -> usize
     requires pairs { ArePairs edges.old curves.old }
     requires edge { HasKey edges.old edge }
     requires named { HasKey curves.old curve }
     requires new { ¬ Says edges.old edge curve }
+    requires place { IsOfEdge edges.old edge last }
     requires room_by_edge { 1 ≤ edges.old.spare_nodes }
     requires room_by_curve { 1 ≤ curves.old.spare_nodes }
     ensures pairs { ArePairs edges.new curves.new }
     ensures more { IsPairMore edges.old edges.new edge curve }
+    ensures put { IsPutAt edges.old edges.new edge curve last result }
     ensures named { AreSameKeys curves.old curves.new }
     ensures spare_keys { edges.old.spare_keys ≤ edges.new.spare_keys }
     ensures nodes_by_edge { edges.old.spare_nodes ≡ edges.new.spare_nodes + 1 }
     ensures nodes_by_curve { curves.old.spare_nodes ≡ curves.new.spare_nodes + 1 }
 {
-    let node = edges.push(edge, curve, 0);
+    // The nodes of the edge's chain are old ones.
+    edges.laws();
+    let node = push_at(edges, edge, curve, last);
     let twin = curves.push(curve, edge, node);
     edges.set_twin(node, twin);
+    node
 }
 
-/// A pair more, in room that is there.
-pub(crate) fn hold_pair(edges: &mut Chains, curves: &mut Chains, edge: usize, curve: usize)
+/// A pair more, in room that is there; its node is the first in the chain of the edge, or comes directly after another one.
+pub(crate) fn hold_after(
+    edges: &mut Chains,
+    curves: &mut Chains,
+    edge: usize,
+    curve: usize,
+    last: Option<usize>,
+) -> usize
     requires pairs { ArePairs edges.old curves.old }
     requires named { HasKey curves.old curve }
     requires new { ¬ Says edges.old edge curve }
+    requires place { IsOfEdge edges.old edge last }
     requires room { 1 ≤ pair_room edges.old curves.old }
     ensures pairs { ArePairs edges.new curves.new }
     ensures more { IsPairMore edges.old edges.new edge curve }
+    ensures put { IsPutAt edges.old edges.new edge curve last result }
     ensures named { AreSameKeys curves.old curves.new }
     ensures room { pair_room edges.old curves.old ≤ pair_room edges.new curves.new + 1 }
 {
     make_key(edges, edge);
-    push_twins(edges, curves, edge, curve);
+    push_twins(edges, curves, edge, curve, last)
 }
 
 /// A pair fewer, that of a node.
 pub(crate) fn release_pair(edges: &mut Chains, curves: &mut Chains, node: usize)
     requires has { HasNode edges.old node }
     requires pairs { ArePairs edges.old curves.old }
+    requires ordered { AreOrdered edges.old }
     ensures pairs { ArePairs edges.new curves.new }
+    ensures ordered { AreOrdered edges.new }
     ensures less { LosesPairOf edges.old edges.new node }
     ensures named { AreSameKeys curves.old curves.new }
     ensures capacity { edges.new.capacity_of_nodes ≡ edges.old.capacity_of_nodes }
@@ -75,6 +117,7 @@ fn drop_key(edges: &mut Chains, edge: usize)
     requires { chain edges.old edge ≡ [] }
     ensures keys { (k : _) → HasKey edges.new k → HasKey edges.old k × (k ≢ edge) }
     ensures nodes { edges.new.nodes ≡ edges.old.nodes }
+    ensures chains { (k : _) → chain edges.new k ≡ chain edges.old k }
     ensures spare_keys { edges.old.spare_keys ≤ edges.new.spare_keys }
     ensures spare_nodes { edges.new.spare_nodes ≡ edges.old.spare_nodes }
     ensures capacity { edges.new.capacity_of_nodes ≡ edges.old.capacity_of_nodes }
@@ -89,6 +132,7 @@ pub(crate) fn tidy(edges: &mut Chains, edge: usize)
     requires { (k : _) → k ≢ edge → HasKey edges.old k → (i : _) × Says edges.old k i }
     ensures filled { AreFilled edges.new }
     ensures nodes { edges.new.nodes ≡ edges.old.nodes }
+    ensures chains { (k : _) → chain edges.new k ≡ chain edges.old k }
     ensures spare_keys { edges.old.spare_keys ≤ edges.new.spare_keys }
     ensures spare_nodes { edges.new.spare_nodes ≡ edges.old.spare_nodes }
     ensures capacity { edges.new.capacity_of_nodes ≡ edges.old.capacity_of_nodes }

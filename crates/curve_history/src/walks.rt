@@ -1,9 +1,9 @@
 ghost use Rattle.std.specs.Prelude.{◌≡◌, ◌≢◌, ◌<◌, ◌≤◌, ◌+◌, ◌^◌, true, false, Some, IfOk, IfSome, IfNone, length, map};
-ghost use Rattle.linked_chains.specs.Chains.{chain, entry_at};
-ghost use Rattle.curve_history.specs.Changed.{AreSameKeys, IsCopied, IsEmptied, IsOneLess};
-ghost use Rattle.curve_history.specs.HistoryInMemory.{entry, item_in, pair_room, ArePairs, HasAll, Says};
+ghost use Rattle.linked_chains.specs.Chains.{chain, entry_at, HasKey};
+ghost use Rattle.curve_history.specs.Changed.{AreSameKeys, IsCopied, IsEmptied, IsLastAbove, IsOneLess, IsPairMore};
+ghost use Rattle.curve_history.specs.HistoryInMemory.{entry, items_along, pair_room, AreOrdered, ArePairs, Says};
 
-use crate::pairs::{hold_pair, release_pair};
+use crate::pairs::{hold_after, release_pair};
 use linked_chains::Chains;
 use no_memory::NoMemory;
 use slab_laws::{CurveId, DartId};
@@ -25,21 +25,43 @@ fn find(edges: &Chains, edge: usize, curve: usize) -> Option<usize>
     None
 }
 
-/// Whether every curve of an edge runs along another one too.
-pub(crate) fn has_all(edges: &Chains, edge: usize, other: usize) -> bool
-    ensures all { result ≡ true → HasAll edges.now edge other }
-    ensures missing { result ≡ false → ¬ HasAll edges.now edge other }
+// The last node of an edge that says a greater curve than this one; mostly there is none, and the first node tells it.
+fn last_above(edges: &Chains, edge: usize, curve: usize) -> Option<usize>
+    ensures { IsLastAbove edges.now edge curve result }
+{
+    edges.laws();
+    let mut last = None;
+    let mut at = edges.first(edge);
+    'walk: while let Some(node) = at {
+        if edges.entry(node).item <= curve {
+            return last;
+        }
+        last = Some(node);
+        at = edges.after(node);
+    }
+    last
+}
+
+/// Whether the chains of two edges say the same curves, walked side by side.
+pub(crate) fn says_same(edges: &Chains, edge: usize, other: usize) -> bool
+    ensures same { result ≡ true → items_along edges.now edge ≡ items_along edges.now other }
+    ensures differ { result ≡ false → items_along edges.now edge ≢ items_along edges.now other }
 {
     edges.laws();
     let mut at = edges.first(edge);
+    let mut beside = edges.first(other);
     'walk: while let Some(node) = at {
+        let Some(near) = beside else {
+            return false;
+        };
         let curve = edges.entry(node).item;
-        if find(edges, other, curve).is_none() {
+        if edges.entry(near).item != curve {
             return false;
         }
         at = edges.after(node);
+        beside = edges.after(near);
     }
-    true
+    beside.is_none()
 }
 
 /// How many curves run along an edge.
@@ -57,10 +79,30 @@ pub(crate) fn count_along(edges: &Chains, edge: usize) -> usize
     count
 }
 
+/// A pair more, in room that is there. Its node gets its place in the order of the edge's chain.
+pub(crate) fn hold_pair(edges: &mut Chains, curves: &mut Chains, edge: usize, curve: usize)
+    requires pairs { ArePairs edges.old curves.old }
+    requires ordered { AreOrdered edges.old }
+    requires named { HasKey curves.old curve }
+    requires new { ¬ Says edges.old edge curve }
+    requires room { 1 ≤ pair_room edges.old curves.old }
+    ensures pairs { ArePairs edges.new curves.new }
+    ensures ordered { AreOrdered edges.new }
+    ensures more { IsPairMore edges.old edges.new edge curve }
+    ensures named { AreSameKeys curves.old curves.new }
+    ensures room { pair_room edges.old curves.old ≤ pair_room edges.new curves.new + 1 }
+{
+    edges.laws();
+    let last = last_above(edges, edge, curve);
+    hold_after(edges, curves, edge, curve, last);
+}
+
 /// One pair fewer.
 pub(crate) fn release_one(edges: &mut Chains, curves: &mut Chains, edge: usize, curve: usize)
     requires pairs { ArePairs edges.old curves.old }
+    requires ordered { AreOrdered edges.old }
     ensures pairs { ArePairs edges.new curves.new }
+    ensures ordered { AreOrdered edges.new }
     ensures less { IsOneLess edges.old edges.new edge curve }
     ensures named { AreSameKeys curves.old curves.new }
     ensures capacity { edges.new.capacity_of_nodes ≡ edges.old.capacity_of_nodes }
@@ -74,7 +116,9 @@ pub(crate) fn release_one(edges: &mut Chains, curves: &mut Chains, edge: usize, 
 /// No pair is left of an edge.
 pub(crate) fn release_each(edges: &mut Chains, curves: &mut Chains, edge: usize)
     requires pairs { ArePairs edges.old curves.old }
+    requires ordered { AreOrdered edges.old }
     ensures pairs { ArePairs edges.new curves.new }
+    ensures ordered { AreOrdered edges.new }
     ensures none { (i : _) → ¬ Says edges.new edge i }
     ensures less { IsEmptied edges.old edges.new edge }
     ensures named { AreSameKeys curves.old curves.new }
@@ -88,23 +132,27 @@ pub(crate) fn release_each(edges: &mut Chains, curves: &mut Chains, edge: usize)
     edges.laws();
 }
 
-/// Another edge, which has no curves, gets those of an edge, in room that is there.
+/// Another edge, which has no curves, gets those of an edge, in their order and in room that is there.
 pub(crate) fn copy_pairs(edges: &mut Chains, curves: &mut Chains, edge: usize, part: usize)
     requires pairs { ArePairs edges.old curves.old }
+    requires ordered { AreOrdered edges.old }
     requires two { edge ≢ part }
     requires new { (i : _) → ¬ Says edges.old part i }
     requires room { length (chain edges.old edge) ≤ pair_room edges.old curves.old }
     ensures pairs { ArePairs edges.new curves.new }
+    ensures ordered { AreOrdered edges.new }
     ensures copied { IsCopied edges.old edges.new edge part }
     ensures named { AreSameKeys curves.old curves.new }
     ensures room { pair_room edges.old curves.old ≤ pair_room edges.new curves.new + length (chain edges.old edge) }
 {
     edges.laws();
     curves.laws();
+    // The last node that was put: the copies stand as the nodes do.
+    let mut last = None;
     let mut at = edges.first(edge);
     'walk: while let Some(node) = at {
         let curve = edges.entry(node).item;
-        hold_pair(edges, curves, part, curve);
+        last = Some(hold_after(edges, curves, part, curve, last));
         at = edges.after(node);
     }
 }
@@ -116,7 +164,7 @@ pub(crate) fn curves_along(
     edge: usize,
 ) -> Result<Vec<CurveId>, NoMemory>
     requires { (i : _) → Says edges.now edge i → i < 2 ^ 32 }
-    ensures { IfOk result (λ v. map (λ c. c.0) v.items ≡ map (item_in edges.now) (chain edges.now edge)) }
+    ensures { IfOk result (λ v. map (λ c. c.0) v.items ≡ items_along edges.now edge) }
 {
     edges.laws();
     let mut curves = Vec::new(alloc);
@@ -134,7 +182,7 @@ pub(crate) fn edges_along(
     alloc: Global,
     curve: usize,
 ) -> Result<Vec<DartId>, NoMemory>
-    ensures { IfOk result (λ v. map (λ d. d.0) v.items ≡ map (item_in curves.now) (chain curves.now curve)) }
+    ensures { IfOk result (λ v. map (λ d. d.0) v.items ≡ items_along curves.now curve) }
 {
     curves.laws();
     let mut edges = Vec::new(alloc);

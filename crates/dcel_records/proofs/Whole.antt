@@ -6,7 +6,7 @@ use Rattle.arr_notes.specs.ViewChanges.{no_rows}
 use Rattle.dcel_records.specs.declared.rows.StoredVertex.{StoredVertex}
 use Rattle.dcel_records.specs.declared.rows.StoredDart.{StoredDart}
 use Rattle.dcel_records.specs.RecordsView.{RecordsView}
-use Rattle.dcel_records.specs.StoredRows.{vertex_of, dart_of, graph_in, records_view, out_or, AreSoundRows}
+use Rattle.dcel_records.specs.StoredRows.{vertex_of, dart_of, graph_in, records_view, out_or, pins_among, AreSoundRows, AreSoundRecords}
 use Rattle.dcel_records.specs.Outs.{IsOut}
 use Rattle.dcel_records.proofs.Tabled.{tabled_slots, tabled_empty, length-tabled}
 use Rattle.dcel_records.proofs.Twins.{twinned_empty}
@@ -22,8 +22,11 @@ module _ (vs : Slab StoredVertex) (ds : Slab StoredDart) where
         let q = tabled_slots dart_of ds es b in
         (λ i. record { vertices = p i; darts = q i })
 
-    pub kept_slots : AreSoundRows vs ds → AreSoundRows xs es
+    kept_slots : AreSoundRows vs ds → AreSoundRows xs es
     kept_slots k = kept_by xs es (graph_in vs ds) graph_slots k.twinned (λ w. subst (λ o. IsOut (graph_in vs ds) w o) (sym (ap (λ os. out_or (slice_index_or os w.0 None)) a)) (k.outs w))
+
+    pub records_slots : (pins : ℕ) → AreSoundRecords vs ds pins → AreSoundRecords xs es pins
+    records_slots pins k = record { rows = kept_slots k.rows; counted = k.counted ∙ sym (ap pins_among (tabled_slots vertex_of vs xs a)) }
 
   module _ (a : vs.slots ≡ []) (b : ds.slots ≡ []) where
     pub graph_empty : graph_in vs ds ≡ no_rows
@@ -32,8 +35,11 @@ module _ (vs : Slab StoredVertex) (ds : Slab StoredDart) where
         let q = tabled_empty dart_of ds b in
         (λ i. record { vertices = p i; darts = q i })
 
-    pub kept_empty : AreSoundRows vs ds
+    kept_empty : AreSoundRows vs ds
     kept_empty = kept_by vs ds no_rows graph_empty twinned_empty (λ w. subst (λ o. IsOut no_rows w o) (sym (ap (λ os. out_or (slice_index_or os w.0 None)) a)) (out_empty w))
+
+    pub records_empty : AreSoundRecords vs ds 0
+    records_empty = record { rows = kept_empty; counted = sym (ap pins_among (tabled_empty vertex_of vs a)) }
 
 -- what an emptied slab has room for
 spare_all : {X : Type 0} (s t : Slab X) (spare many : ℕ) → s.capacity - slab_len s ≡ spare → many ≡ slab_len s → slab_len s ≤ s.capacity → t.slots ≡ [] → t.capacity ≡ s.capacity → spare + many ≤ t.capacity - slab_len t

@@ -22,7 +22,7 @@ use Rattle.dcel_records.specs.Outs.{IsOut, IsRest}
 use Rattle.dcel_records.proofs.Tabled.{tabled_put, tabled_del, tabled_edit, tabled_same}
 use Rattle.dcel_records.proofs.Twins.{twinned_relinked, twinned_source, twinned_same, twinned_less}
 use Rattle.dcel_records.proofs.Leaving.{out_kept, less_first, less_second, less_apart, moved_from, moved_to, moved_apart}
-use Rattle.dcel_records.proofs.Holding.{vertices_are, darts_are, twinned, outs, vertex_names, dart_names}
+use Rattle.dcel_records.proofs.Holding.{graph_is, vertices_are, darts_are, twinned, outs, vertex_names, dart_names}
 
 -- a vertex's row written, or gone
 pub out_write : (s t : Slab StoredVertex) (k : VertexId) (o : Option StoredVertex) (g : View) → Updates s t k.0 o → (w : VertexId) → (w ≡ k → IsOut g w (out_or o)) → (w ≢ k → IsOut g w (out_at s w)) → IsOut g w (out_at t w)
@@ -66,6 +66,13 @@ module _ (vs : Slab StoredVertex) (ds : Slab StoredDart) (h : RecordsView) (is :
   pin_graph w b r g =
       let e = tabled_edit vertex_of vs (with_value vs w.0 (row_pinned b r)) w.0 r (row_pinned b r) (pinned_as b) g refl (Updates-with_value vs w.0 _ (ap is_some g)) ∙ ap (edit w.0 (pinned_as b)) (vertices_are vs ds h is) in
       (λ i. record { vertices = e i; darts = darts_are vs ds h is i })
+
+  -- a pin written as it was
+  pub pin_same : (w : VertexId) (b : Bool) (r : StoredVertex) → get vs w.0 ≡ Some r → r.pinned ≡ b → h.graph ≡ with_pin h.graph w b
+  pin_same w b r g q =
+      let e = tabled_edit vertex_of vs vs w.0 r r (pinned_as b) g (λ i. record { point = r.point; pinned = q i }) (record { changed = g; others = λ j ne. refl }) ∙ ap (edit w.0 (pinned_as b)) (vertices_are vs ds h is) in
+      let p : graph_in vs ds ≡ with_pin h.graph w b = (λ i. record { vertices = e i; darts = darts_are vs ds h is i }) in
+      sym (graph_is vs ds h is) ∙ p
 
   -- ---- single fields of darts
   pub next_graph : (d n : DartId) (r : StoredDart) → get ds d.0 ≡ Some r → graph_in vs (with_value ds d.0 (row_next n r)) ≡ with_next h.graph d n

@@ -4,3 +4,5 @@ pub mod Outs
 pub mod Edges
 pub mod Given
 pub mod Spots
+pub mod KeyLimits
+pub mod TableLends

@@ -1,5 +1,6 @@
 -- How two slabs of rows are a graph (this project).
-use Rattle.std.specs.Prelude.{ℕ, ◌-◌, List, map, Option, Some, None}
+use Rattle.std.specs.Prelude.{◌≡◌, ℕ, ◌-◌, List, map, length, Option, Some, None}
+use Rattle.std.specs.List.{filter}
 use Rattle.slab.specs.Slab.{Slab, get, entries, slab_len}
 use Rattle.slab_laws.specs.declared.names.DartId.{DartId}
 use Rattle.slab_laws.specs.declared.names.VertexId.{VertexId}
@@ -43,3 +44,12 @@ out_at vs w = out_or (get vs w.0)
 pub record AreSoundRows (vs : Slab StoredVertex) (ds : Slab StoredDart) : Type 0 where
   pub twinned : IsTwinned (graph_in vs ds)
   pub outs : (w : VertexId) → IsOut (graph_in vs ds) w (out_at vs w)
+
+-- how many rows of a table of vertices are pinned
+abbrev pub pins_among : List (ℕ × VertexRecord) → ℕ
+pins_among rs = length (filter (λ r. r.1.pinned) rs)
+
+-- sound rows, and as many pins as are counted (this project)
+pub record AreSoundRecords (vs : Slab StoredVertex) (ds : Slab StoredDart) (pins : ℕ) : Type 0 where
+  pub rows : AreSoundRows vs ds
+  pub counted : pins ≡ pins_among (graph_in vs ds).vertices

@@ -10,6 +10,7 @@ mod reading;
 mod records;
 mod rows;
 mod spot;
+mod table;
 mod vertices;
 
 pub use records::{Records, Room};

@@ -9,12 +9,12 @@ ghost use Rattle.dcel_records.specs.Given.{given};
 
 use crate::records::Records;
 use crate::rows::{StoredDart, StoredVertex};
+use crate::table::Table;
 use exact_plane::Line;
-use slab::Slab;
 use slab_laws::{DartId, VertexId};
 
 // A vertex that no dart leaves gets a dart out.
-fn give_out(vertices: &mut Slab<StoredVertex>, v: VertexId, d: DartId)
+fn give_out(vertices: &mut Table<StoredVertex>, v: VertexId, d: DartId)
     requires { ContainsKey vertices.old v.0 }
     ensures row { Updates vertices.old vertices.new v.0 (option_map (given d) (get vertices.old v.0)) }
     ensures len { slab_len vertices.new ≡ slab_len vertices.old }

@@ -4,23 +4,22 @@ ghost use Rattle.slab.specs.Slab.{entries};
 ghost use Rattle.slab_laws.specs.Tables.{name_after, names};
 ghost use Rattle.slab_laws.specs.View.{vertex_id, dart_id};
 
-use crate::keys::key_after;
 use crate::records::Records;
 use crate::rows::{StoredDart, StoredVertex};
+use crate::table::Table;
 use exact_plane::{Line, Point};
-use slab::Slab;
 use slab_laws::{DartId, Darts, VertexId};
 
-fn vertex_name_after(vertices: &Slab<StoredVertex>, name: Option<VertexId>) -> Option<VertexId>
+fn vertex_name_after(vertices: &Table<StoredVertex>, name: Option<VertexId>) -> Option<VertexId>
     ensures { result ≡ option_map vertex_id (name_after (names (entries vertices.now)) (option_map (λ n. n.0) name)) }
 {
-    key_after(vertices, name.map(|n| n.0)).map(VertexId)
+    vertices.key_after(name.map(|n| n.0)).map(VertexId)
 }
 
-fn dart_name_after(darts: &Slab<StoredDart>, name: Option<DartId>) -> Option<DartId>
+fn dart_name_after(darts: &Table<StoredDart>, name: Option<DartId>) -> Option<DartId>
     ensures { result ≡ option_map dart_id (name_after (names (entries darts.now)) (option_map (λ n. n.0) name)) }
 {
-    key_after(darts, name.map(|n| n.0)).map(DartId)
+    darts.key_after(name.map(|n| n.0)).map(DartId)
 }
 
 impl Darts for Records {

@@ -5,16 +5,18 @@ ghost use Rattle.arr_notes.specs.ViewChanges.{no_rows};
 ghost use Rattle.dcel_records.specs.RecordsView.{SameRecordCapacity};
 
 use crate::rows::{StoredDart, StoredVertex};
+use crate::table::Table;
 use no_memory::NoMemory;
-use slab::Slab;
 use std::alloc::Global;
 use std::marker::Model;
 
 /// Vertices and darts by name, each dart with its twin, its follower and its line.
 #[derive(Drop)]
 pub struct Records {
-    pub(crate) vertices: Slab<StoredVertex>,
-    pub(crate) darts: Slab<StoredDart>,
+    pub(crate) vertices: Table<StoredVertex>,
+    pub(crate) darts: Table<StoredDart>,
+    // How many of the vertices are pinned.
+    pub(crate) pins: usize,
 }
 
 impl Model for Records {
@@ -22,11 +24,11 @@ impl Model for Records {
 
     ghost Value = { RecordsView };
 
-    ghost use Rattle.dcel_records.specs.StoredRows.{records_view, AreSoundRows};
+    ghost use Rattle.dcel_records.specs.StoredRows.{records_view, AreSoundRecords};
 
     ghost view = { λ r. records_view r.vertices r.darts };
 
-    ghost invariant = { λ r. AreSoundRows r.vertices r.darts };
+    ghost invariant = { λ r. AreSoundRecords r.vertices r.darts r.pins };
 }
 
 /// How many vertices and edges more are to fit.
@@ -43,8 +45,9 @@ impl Records {
         ensures empty { IfOk result (λ r. r.graph ≡ no_rows) }
     {
         Ok(Records {
-            vertices: Slab::new(alloc),
-            darts: Slab::new(alloc),
+            vertices: Table::new(alloc),
+            darts: Table::new(alloc),
+            pins: 0,
         })
     }
 
@@ -92,5 +95,6 @@ impl Records {
         let _darts = self.darts.capacity();
         self.vertices.clear();
         self.darts.clear();
+        self.pins = 0;
     }
 }

@@ -1,4 +1,5 @@
-ghost use Rattle.std.specs.Prelude.{◌≡◌, ◌≤◌, true, false};
+ghost use Rattle.std.specs.Prelude.{◌≡◌, ◌≤◌, true, false, length};
+ghost use Rattle.std.specs.List.{filter};
 ghost use Rattle.slab_laws.specs.View.{HasVertex, IsOutOf};
 ghost use Rattle.arr_notes.specs.ViewChanges.{with_vertex, without_vertex, with_pin};
 ghost use Rattle.dcel_records.specs.RecordsView.{point_found, IsSpare};
@@ -42,7 +43,17 @@ impl Records {
         ensures graph { self.new.graph ≡ without_vertex self.old.graph v }
         ensures spare { IsSpare self.old self.new 1 0 }
     {
-        let _vertex = self.vertices.remove(v.0);
+        let vertex = self.vertices.remove(v.0);
+        if vertex.pinned {
+            self.pins -= 1;
+        }
+    }
+
+    /// How many vertices are pinned.
+    pub fn pins(&self) -> usize
+        ensures { result ≡ length (filter (λ r. r.1.pinned) self.now.graph.vertices) }
+    {
+        self.pins
     }
 
     /// The vertex is pinned.
@@ -51,7 +62,13 @@ impl Records {
         ensures graph { self.new.graph ≡ with_pin self.old.graph v true }
         ensures spare { IsSpare self.old self.new 0 0 }
     {
+        if self.vertices[v.0].pinned {
+            return;
+        }
         self.vertices[v.0].pinned = true;
+        // No more vertices are pinned than there is room for, which a `usize` counts.
+        let _vertices = self.vertices.capacity();
+        self.pins += 1;
     }
 
     /// The vertex is not pinned.
@@ -60,6 +77,10 @@ impl Records {
         ensures graph { self.new.graph ≡ with_pin self.old.graph v false }
         ensures spare { IsSpare self.old self.new 0 0 }
     {
+        if !self.vertices[v.0].pinned {
+            return;
+        }
         self.vertices[v.0].pinned = false;
+        self.pins -= 1;
     }
 }

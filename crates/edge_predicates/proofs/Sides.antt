@@ -1,10 +1,10 @@
 -- The side of a point by an edge's ends and by the edge's line.
 use Rattle.std.proofs.Common.{◌≡◌, Bool, true, false, arith, refl, sym, ap, ◌∙◌, inl, inr, [], ◌∷◌, Ordering, Less, Equal, Greater}
 use Rattle.std.specs.Prelude.{ℤ, pos, ◌+ℤ◌, ◌-ℤ◌, ◌*ℤ◌, ◌<ℤ◌, neg_ℤ, not, ◌&&◌}
-use Rattle.std.specs.Ordering.{int_cmp, is_lt, is_gt}
+use Rattle.std.specs.Ordering.{int_cmp, is_lt, is_eq, is_gt}
 use Rattle.std.proofs.lemmas.Int.{ints}
 use lib.Signed.{lt_z}
-use Rattle.integers.proofs.Compare.{less_out, equal_out, greater_out, same_cmp}
+use Rattle.integers.proofs.Compare.{less_out, less_in, equal_out, equal_in, greater_out, same_cmp}
 use Rattle.integers.proofs.Reify.{ring, sides}
 use Rattle.integers.proofs.Tests.{lt_yes, lt_no, zero_below, zero_above}
 use Rattle.exact_plane.specs.Point.{Point}
@@ -16,7 +16,7 @@ use Rattle.exact_plane.specs.declared.sides.Sign.TheVariants.{Minus, Zero, Plus}
 use Rattle.plane_graphs.proofs.Crossings.{spans_w, spans_x, spans_y}
 use Rattle.exact_plane.specs.Plane.{RunsForward}
 use Rattle.plane_graphs.proofs.Lines.{point_is_proper, span_a, span_b, span_c, span_runs}
-use Rattle.slab_laws.specs.Skeleton.{left_of, lower_than, precedes, run, side, over, under, inside}
+use Rattle.slab_laws.specs.Skeleton.{left_of, lower_than, on_wall, precedes, run, side, over, under, inside}
 use Rattle.slab_laws.specs.SpansDrawn.{edge_of}
 use Rattle.slab_faces.proofs.Ints.{times_mixed}
 
@@ -46,6 +46,35 @@ left_of_by p q r e = ap is_lt e ∙ less_is (p.x *ℤ q.w) (q.x *ℤ p.w)
 pub lower_than_by : (p q : Point) (r : Ordering) → r ≡ int_cmp (p.y *ℤ q.w) (q.y *ℤ p.w) → is_lt r ≡ lower_than p q
 unfolding lower_than
 lower_than_by p q r e = ap is_lt e ∙ less_is (p.y *ℤ q.w) (q.y *ℤ p.w)
+
+-- where two points stand, by the order of their abscissas
+module _ (p q : Point) where
+  pub left_of_less : int_cmp (p.x *ℤ q.w) (q.x *ℤ p.w) ≡ Less → left_of p q ≡ true
+  left_of_less e = sym (left_of_by p q Less (sym e))
+
+  pub left_of_equal : int_cmp (p.x *ℤ q.w) (q.x *ℤ p.w) ≡ Equal → (left_of p q ≡ false) × (left_of q p ≡ false)
+  left_of_equal e =
+      let f : q.x *ℤ p.w ≡ p.x *ℤ q.w = sym (equal_out (p.x *ℤ q.w) (q.x *ℤ p.w) e) in
+      (sym (left_of_by p q Equal (sym e)), sym (left_of_by q p Equal (sym (equal_in (q.x *ℤ p.w) (p.x *ℤ q.w) f))))
+
+  pub left_of_greater : int_cmp (p.x *ℤ q.w) (q.x *ℤ p.w) ≡ Greater → (left_of p q ≡ false) × (left_of q p ≡ true)
+  left_of_greater e =
+      let f : (q.x *ℤ p.w) <ℤ (p.x *ℤ q.w) = greater_out (p.x *ℤ q.w) (q.x *ℤ p.w) e in
+      (sym (left_of_by p q Greater (sym e)), sym (left_of_by q p Less (sym (less_in (q.x *ℤ p.w) (p.x *ℤ q.w) f))))
+
+  pub on_wall_by : (r : Ordering) → r ≡ int_cmp (p.x *ℤ q.w) (q.x *ℤ p.w) → is_eq r ≡ on_wall p q
+  on_wall_by Less e = let f = left_of_less (sym e) in rw f refl
+  on_wall_by Equal e = let f = left_of_equal (sym e) in rw (f.0, f.1) refl
+  on_wall_by Greater e = let f = left_of_greater (sym e) in rw (f.0, f.1) refl
+
+  pub precedes_less : int_cmp (p.x *ℤ q.w) (q.x *ℤ p.w) ≡ Less → true ≡ precedes p q
+  precedes_less e = let f = left_of_less e in rw f refl
+
+  pub precedes_equal : int_cmp (p.x *ℤ q.w) (q.x *ℤ p.w) ≡ Equal → lower_than p q ≡ precedes p q
+  precedes_equal e = let f = left_of_equal e in rw (f.0, f.1) refl
+
+  pub precedes_greater : int_cmp (p.x *ℤ q.w) (q.x *ℤ p.w) ≡ Greater → false ≡ precedes p q
+  precedes_greater e = let f = left_of_greater e in rw (f.0, f.1) refl
 
 -- ---- one line in two triples of numbers, in proportion
 module _ (a b c A B C X Y W : ℤ) where
@@ -165,6 +194,17 @@ is_plus Minus = false
 is_plus Zero = false
 is_plus Plus = true
 
+-- a number that is neither below 0 nor above it
+abbrev pub is_zero : Sign → Bool
+is_zero Minus = false
+is_zero Zero = true
+is_zero Plus = false
+
+pub zero_is : (r : Sign) → is_zero r ≡ (not (is_minus r) && not (is_plus r))
+zero_is Minus = refl
+zero_is Zero = refl
+zero_is Plus = refl
+
 pub minus_is : (z : ℤ) (r : Sign) → r ≡ sign_of z → is_minus r ≡ lt_z z (pos 0)
 minus_is z Minus e = sym (below_zero z (sym e))
 minus_is z Zero e = sym (zero_below z (at_zero z (sym e)))
@@ -182,6 +222,9 @@ over_by s t r e = minus_is (side (edge_of s) t) r e
 pub under_by : (s : Span) (t : Point) (r : Sign) → r ≡ sign_of (side (edge_of s) t) → is_plus r ≡ under (edge_of s) t
 unfolding under
 under_by s t r e = plus_is (side (edge_of s) t) r e
+
+pub on_line_by : (s : Span) (t : Point) (r : Sign) → r ≡ sign_of (side (edge_of s) t) → is_zero r ≡ (not (over (edge_of s) t) && not (under (edge_of s) t))
+on_line_by s t r e = zero_is r ∙ (λ i. not (over_by s t r e i) && not (under_by s t r e i))
 
 -- a point inside an edge is between its ends, and the edge passes neither over nor under it
 pub inside_by : (s : Span) (t : Point) (a b : Bool) → a ≡ (precedes s.lower t && precedes t s.upper) → b ≡ (not (over (edge_of s) t) && not (under (edge_of s) t)) → (a && b) ≡ inside (edge_of s) t

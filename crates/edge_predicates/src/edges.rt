@@ -55,7 +55,10 @@ fn is_between_ends(edge: &Span, point: &Point) -> bool
 fn is_on_line(edge: &Span, point: &Point) -> bool
     ensures { result ≡ (not (over (edge_of edge.now) point.now) && not (under (edge_of edge.now) point.now)) }
 {
-    !is_over(edge, point) && !is_under(edge, point)
+    match side_of(edge, point) {
+        Sign::Zero => true,
+        Sign::Minus | Sign::Plus => false,
+    }
 }
 
 /// Whether the point lies on the edge and is none of its ends.

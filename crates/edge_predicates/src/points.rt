@@ -2,6 +2,7 @@ ghost use Rattle.std.specs.Prelude.{◌≡◌};
 ghost use Rattle.slab_laws.specs.Skeleton.{left_of, lower_than, on_wall, precedes as comes_before, same_point};
 
 use exact_plane::Point;
+use std::cmp::Ordering;
 
 /// Whether the first point's abscissa is less.
 pub fn is_left_of(point: &Point, other: &Point) -> bool
@@ -21,14 +22,18 @@ pub fn is_lower_than(point: &Point, other: &Point) -> bool
 pub fn is_on_wall(point: &Point, other: &Point) -> bool
     ensures { result ≡ on_wall point.now other.now }
 {
-    !is_left_of(point, other) && !is_left_of(other, point)
+    point.compare_x(other).is_eq()
 }
 
 /// Whether the first point comes before the second, by abscissa and then by ordinate.
 pub fn precedes(point: &Point, other: &Point) -> bool
     ensures { result ≡ comes_before point.now other.now }
 {
-    is_left_of(point, other) || (!is_left_of(other, point) && is_lower_than(point, other))
+    match point.compare_x(other) {
+        Ordering::Less => true,
+        Ordering::Equal => is_lower_than(point, other),
+        Ordering::Greater => false,
+    }
 }
 
 /// Whether both are one point.

@@ -85,14 +85,17 @@ module _ (x1 y1 x2 y2 : ℤ) (s : IsSegment x1 y1 x2 y2) where
   pub upper_on' : IsOn (line_of_segment (segment x1 y1 x2 y2)) (segment x1 y1 x2 y2).upper
   upper_on' = reduced_on _ _ _ are_line_numbers (segment x1 y1 x2 y2).upper (ring (x1 ∷ y1 ∷ x2 ∷ y2 ∷ []) (search sides depth 40 fits 20000) tt)
 
-  pub left' : (t : Point) → int_cmp (side_of (line_of_segment (segment x1 y1 x2 y2)) t) (pos 0) ≡ int_cmp (turn_at (segment x1 y1 x2 y2).lower (segment x1 y1 x2 y2).upper t) (pos 0)
-  left' t =
-      let raw = reduced_side _ _ _ are_line_numbers t in
-      let e : side (y1 -ℤ y2) (x2 -ℤ x1) (x1 *ℤ y2 -ℤ x2 *ℤ y1) t.x t.y t.w ≡ turn_at (segment x1 y1 x2 y2).lower (segment x1 y1 x2 y2).upper t = ring (x1 ∷ y1 ∷ x2 ∷ y2 ∷ t.x ∷ t.y ∷ t.w ∷ []) (search sides depth 40 fits 20000) tt in
-      alike _ _ (pos (common_divisor (y1 -ℤ y2) (x2 -ℤ x1) (x1 *ℤ y2 -ℤ x2 *ℤ y1))) (some_whole _ _ _ are_line_numbers) (raw ∙ e)
+  -- the numbers of the ends tell the side before they are brought to lowest terms
+  pub by_ends' : (t : Point) → int_cmp (side_of (line_of_segment (segment x1 y1 x2 y2)) t) (pos 0) ≡ int_cmp (side (y1 -ℤ y2) (x2 -ℤ x1) (x1 *ℤ y2 -ℤ x2 *ℤ y1) t.x t.y t.w) (pos 0)
+  by_ends' t = alike _ _ (pos (common_divisor (y1 -ℤ y2) (x2 -ℤ x1) (x1 *ℤ y2 -ℤ x2 *ℤ y1))) (some_whole _ _ _ are_line_numbers) (reduced_side _ _ _ are_line_numbers t)
     where
       alike : (z u g : ℤ) → pos 0 <ℤ g → z *ℤ g ≡ u → int_cmp z (pos 0) ≡ int_cmp u (pos 0)
       alike z u g hg e = same_cmp z (pos 0) u (pos 0) {k = g} {m = pos 1} hg (omega (arith, ints)) (ring (z ∷ g ∷ []) (search sides depth 40 fits 20000) tt ∙ ap neg_ℤ e ∙ ring (u ∷ []) (search sides depth 40 fits 20000) tt)
+
+  pub left' : (t : Point) → int_cmp (side_of (line_of_segment (segment x1 y1 x2 y2)) t) (pos 0) ≡ int_cmp (turn_at (segment x1 y1 x2 y2).lower (segment x1 y1 x2 y2).upper t) (pos 0)
+  left' t =
+      let e : side (y1 -ℤ y2) (x2 -ℤ x1) (x1 *ℤ y2 -ℤ x2 *ℤ y1) t.x t.y t.w ≡ turn_at (segment x1 y1 x2 y2).lower (segment x1 y1 x2 y2).upper t = ring (x1 ∷ y1 ∷ x2 ∷ y2 ∷ t.x ∷ t.y ∷ t.w ∷ []) (search sides depth 40 fits 20000) tt in
+      by_ends' t ∙ ap (λ z. int_cmp z (pos 0)) e
 
 -- ---- of a segment
 module _ (s : Segment) (h : AreEnds s) where
@@ -104,3 +107,8 @@ module _ (s : Segment) (h : AreEnds s) where
 
   pub left : (t : Point) → int_cmp (side_of (line_of_segment s) t) (pos 0) ≡ int_cmp (turn_at s.lower s.upper t) (pos 0)
   left t = subst (λ (e : Segment). int_cmp (side_of (line_of_segment e) t) (pos 0) ≡ int_cmp (turn_at e.lower e.upper t) (pos 0)) (sym h.whole) (left' s.lower.x s.lower.y s.upper.x s.upper.y h.is t)
+
+  pub by_ends : (t : Point) → int_cmp (side_of (line_of_segment s) t) (pos 0) ≡ int_cmp (side (s.lower.y -ℤ s.upper.y) (s.upper.x -ℤ s.lower.x) (s.lower.x *ℤ s.upper.y -ℤ s.upper.x *ℤ s.lower.y) t.x t.y t.w) (pos 0)
+  by_ends t =
+      subst (λ (e : Segment). int_cmp (side_of (line_of_segment e) t) (pos 0) ≡ int_cmp (side (e.lower.y -ℤ e.upper.y) (e.upper.x -ℤ e.lower.x) (e.lower.x *ℤ e.upper.y -ℤ e.upper.x *ℤ e.lower.y) t.x t.y t.w) (pos 0)) (sym h.whole)
+      (by_ends' s.lower.x s.lower.y s.upper.x s.upper.y h.is t)

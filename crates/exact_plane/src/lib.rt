@@ -22,6 +22,6 @@ pub use line::{Line, line_of};
 pub use meets::{Meet, meeting, span_meeting};
 pub use point::{Point, PointError};
 pub use segment::{Segment, SegmentError};
-pub use sides::{Sign, above_at, side};
+pub use sides::{Sign, above_at, orientation, side};
 pub use slopes::slope_order;
 pub use spans::Span;

@@ -1,6 +1,7 @@
 ghost use Rattle.std.specs.Prelude.{◌≡◌, ◌≤◌, ◌↔◌, pos, ◌-ℤ◌, ◌*ℤ◌, ◌<ℤ◌, unsigned_abs, IsTrue};
 ghost use Rattle.std.specs.Bool.{OnFalse};
 ghost use Rattle.std.specs.Ordering.{int_cmp};
+ghost use Rattle.exact_plane.specs.declared.bounds.TheConstants.{MAX_DIFFERENCE, MAX_OFFSET};
 ghost use Rattle.exact_plane.specs.Line.{side_of, turn_at, reduced_line, IsOn, IsLine, AreLineNumbers};
 ghost use Rattle.exact_plane.specs.Point.{Point};
 ghost use Rattle.exact_plane.specs.Segment.{line_of_segment, IsCoordinate, AreCoordinates};
@@ -44,17 +45,20 @@ impl Line {
 }
 
 // How far one coordinate is beyond another.
-fn difference(first: i128, second: i128) -> i128
+pub(crate) fn difference(first: i128, second: i128) -> i128
     requires first { IsCoordinate first }
     requires second { IsCoordinate second }
-    ensures { result ≡ first -ℤ second }
+    ensures value { result ≡ first -ℤ second }
+    ensures small { unsigned_abs result ≤ MAX_DIFFERENCE }
 {
     first - second
 }
 
-fn offset(x1: i128, y1: i128, x2: i128, y2: i128) -> i128
+// The number c of the line through two ends.
+pub(crate) fn offset(x1: i128, y1: i128, x2: i128, y2: i128) -> i128
     requires { AreCoordinates x1 y1 x2 y2 }
-    ensures { result ≡ x1 *ℤ y2 -ℤ x2 *ℤ y1 }
+    ensures value { result ≡ x1 *ℤ y2 -ℤ x2 *ℤ y1 }
+    ensures small { unsigned_abs result ≤ MAX_OFFSET }
 {
     x1 * y2 - x2 * y1
 }

@@ -2,13 +2,15 @@ ghost use Rattle.std.specs.Prelude.{◌≡◌, ◌<◌, ◌≤◌, pos, ◌+ℤ�
 ghost use Rattle.std.specs.Ordering.{int_eq};
 ghost use Rattle.exact_plane.specs.declared.bounds.TheConstants.{MAX_DIFFERENCE, MAX_OFFSET, SIDE_LIMIT, HEIGHT_LIMIT};
 ghost use Rattle.exact_plane.specs.Height.{height_cmp};
-ghost use Rattle.exact_plane.specs.Line.{side_of, IsLine};
+ghost use Rattle.exact_plane.specs.Line.{side_of};
 ghost use Rattle.exact_plane.specs.Plane.{side as side_number};
 ghost use Rattle.exact_plane.specs.Point.{IsPoint, IsRatio};
+ghost use Rattle.exact_plane.specs.Segment.{line_of_segment};
 ghost use Rattle.exact_plane.specs.Sign.{sign_of};
 
-use crate::line::Line;
+use crate::line::{Line, difference, offset};
 use crate::point::Point;
+use crate::segment::Segment;
 use std::cmp::Ordering;
 
 /// The sign of a number, or the side of a line on which a point is.
@@ -22,8 +24,22 @@ pub enum Sign {
     Plus,
 }
 
+// The sign of a number.
+fn as_sign(value: i128) -> Sign
+    ensures { result ≡ sign_of value }
+{
+    match value.cmp(&0) {
+        Ordering::Less => Sign::Minus,
+        Ordering::Equal => Sign::Zero,
+        Ordering::Greater => Sign::Plus,
+    }
+}
+
+// The three numbers of the line need not be in lowest terms.
 fn side_value(a: i128, b: i128, c: i128, x: i128, y: i128, w: i128) -> i128
-    requires line { IsLine (record { a = a; b = b; c = c }) }
+    requires a { unsigned_abs a ≤ MAX_DIFFERENCE }
+    requires b { unsigned_abs b ≤ MAX_DIFFERENCE }
+    requires c { unsigned_abs c ≤ MAX_OFFSET }
     requires point { IsPoint (record { x = x; y = y; w = w }) }
     ensures value { result ≡ side_number a b c x y w }
     ensures small { unsigned_abs result < SIDE_LIMIT }
@@ -38,11 +54,22 @@ pub fn side(line: &Line, point: &Point) -> Sign
     ensures { result ≡ sign_of (side_of line.now point.now) }
 {
     let value = side_value(line.a, line.b, line.c, point.x, point.y, point.w);
-    match value.cmp(&0) {
-        Ordering::Less => Sign::Minus,
-        Ordering::Equal => Sign::Zero,
-        Ordering::Greater => Sign::Plus,
-    }
+    as_sign(value)
+}
+
+/// The side of a segment's line on which a point is (CGAL, `Orientation_2`).
+///
+/// It is that of `line_of`, told by the numbers of the ends as they are: no greatest common divisor is sought.
+pub fn orientation(segment: &Segment, point: &Point) -> Sign
+    ensures { result ≡ sign_of (side_of (line_of_segment segment.now) point.now) }
+{
+    let lower = segment.lower();
+    let upper = segment.upper();
+    let across = difference(upper.x(), lower.x());
+    let down = difference(lower.y(), upper.y());
+    let offset = offset(lower.x(), lower.y(), upper.x(), upper.y());
+    let value = side_value(down, across, offset, point.x, point.y, point.w);
+    as_sign(value)
 }
 
 // Whether a point is on a line.

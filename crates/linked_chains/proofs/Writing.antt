@@ -8,7 +8,7 @@ use Rattle.slab.proofs.SlabLemmas.{Updates-with_value}
 use Rattle.slab_laws.specs.Tables.{row_at}
 use Rattle.linked_chains.specs.declared.node.Entry.{Entry}
 use Rattle.linked_chains.specs.declared.node.Node.{Node}
-use Rattle.linked_chains.specs.Chains.{Chained, HasKey, entry_at, first_or, chain, head_of, SameChains}
+use Rattle.linked_chains.specs.Chains.{Chained, HasKey, entry_at, first_or, chain, head_of, put_after, SameChains}
 use Rattle.linked_chains.specs.ChainsInMemory.{chained, after_at, before_at, key_at, AreSoundChains}
 use Rattle.linked_chains.specs.Writes.{followed_by, led_by, twinned_with, IsChanged, IsHeaded}
 use Rattle.linked_chains.proofs.Distinct.{without}
@@ -16,7 +16,8 @@ use Rattle.linked_chains.proofs.Reading.{entry_is, chain_is, first_is}
 use Rattle.linked_chains.proofs.Changes.{AreChanged, updated, unwritten}
 use Rattle.linked_chains.proofs.Pushed.{first_there, entry_pushed, list_pushed, list_beside, listed_pushed}
 use Rattle.linked_chains.proofs.Removed.{head_there, before_there, after_there, entry_removed, list_removed, head_kept, listed_removed}
-use Rattle.linked_chains.proofs.Seen.{entry_seen, chain_seen, nodes_kept, chains_same}
+use Rattle.linked_chains.proofs.Inserted.{follower_there, place_there, entry_inserted, list_inserted, listed_inserted}
+use Rattle.linked_chains.proofs.Seen.{entry_seen, entry_found, chain_seen, nodes_kept, chains_same}
 use Rattle.integers.proofs.Tests.{other_number, same_number}
 
 module _ {S : Type 0} (hs : IndexMap ℕ (Option ℕ) S) (ns : Slab Node) (h : Chained) (is : chained hs ns ≡ h) (kept : AreSoundChains hs ns) where
@@ -64,6 +65,39 @@ module _ {S : Type 0} (hs : IndexMap ℕ (Option ℕ) S) (ns : Slab Node) (h : C
         push_others k ne =
             let l = kept.lists k in
             chain_is gs u k l.0 (list_beside head (get ns) (get t) n entry kept vacant added (get u) led (row_at gs.entries) headed k l.0 ne l.1) ∙ sym (chain_seen hs ns h is k l.0 l.1)
+
+  -- ---- a node n more, directly after the node x of the name m
+  module _ (m : ℕ) (x : Node) (was : get ns m ≡ Some x) (n item twin : ℕ) (t : Slab Node) (vacant : get ns n ≡ None) (put : Updates ns t n (Some (record { entry = record { key = x.entry.key; item = item; twin = twin }; before = Some m; after = x.after }))) where
+    abbrev said : Entry
+    said = record { key = x.entry.key; item = item; twin = twin }
+
+    between : (y : ℕ) → get t y ≡ cond (y == n) (Some (record { entry = said; before = Some m; after = x.after })) (get ns y)
+    between = updated ns t n _ put
+
+    pub follower_still : (y : ℕ) → x.after ≡ Some y → IsSome (get t y)
+    follower_still = follower_there head (get ns) m x kept was n said refl vacant (get t) between
+
+    module _ (u : Slab Node) (led : IsChanged (led_by (Some n)) x.after t u) where
+      pub place_still : (y : ℕ) → Some m ≡ Some y → IsSome (get u y)
+      place_still = place_there head (get ns) m x kept was n said refl vacant (get t) between (get u) led.nodes
+
+      module _ (w : Slab Node) (followed : IsChanged (followed_by (Some n)) (Some m) u w) where
+        pub insert_entries : (e : Entry) → entry_at h m ≡ Some e → (y : ℕ) → entry_at (chained hs w) y ≡ cond (y == n) (Some (record { key = e.key; item = item; twin = twin })) (entry_at h y)
+        insert_entries e q y =
+            let z : Some x.entry ≡ Some e = sym (entry_found hs ns h is m x was) ∙ q in
+            let same : x.entry ≡ e = cc in
+            entry_is hs w y
+            ∙ entry_inserted head (get ns) m x kept was n said refl vacant (get t) between (get u) led.nodes (get w) followed.nodes y
+            ∙ ap (λ o. cond (y == n) (Some said) o) (sym (entry_seen hs ns h is y))
+            ∙ ap (λ (b : Entry). cond (y == n) (Some (record { key = b.key; item = item; twin = twin })) (entry_at h y)) same
+
+        pub insert_kept : AreSoundChains hs w
+        insert_kept = listed_inserted head (get ns) m x kept was n said refl vacant (get t) between (get u) led.nodes (get w) followed.nodes
+
+        pub insert_chains : (k : ℕ) → chain (chained hs w) k ≡ put_after m n (chain h k)
+        insert_chains k =
+            let l = kept.lists k in
+            chain_is hs w k (put_after m n l.0) (list_inserted head (get ns) m x kept was n said refl vacant (get t) between (get u) led.nodes (get w) followed.nodes k l.0 l.1) ∙ ap (put_after m n) (sym (chain_seen hs ns h is k l.0 l.1))
 
   -- ---- the node x of the name n fewer
   module _ (n : ℕ) (x : Node) (was : get ns n ≡ Some x) (t : Slab Node) (gone : Updates ns t n None) where

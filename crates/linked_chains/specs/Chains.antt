@@ -60,6 +60,10 @@ pub record IsWhole (c : Chained) (k : ℕ) : Type 0 where
 abbrev pub SetsEntry : Chained → Chained → ℕ → Option Entry → Type 0
 SetsEntry old new node said = (n : ℕ) → entry_at new n ≡ cond (n == node) said (entry_at old n)
 
+-- the added node says this item and this twin, with the key of the other one, and all others say what they said
+abbrev pub SetsBeside : Chained → Chained → ℕ → ℕ → ℕ → ℕ → Type 0
+SetsBeside old new node added item twin = (e : Entry) → entry_at old node ≡ Some e → SetsEntry old new added (Some (record { key = e.key; item = item; twin = twin }))
+
 -- the entry with another twin
 abbrev pub with_twin : ℕ → Entry → Entry
 with_twin twin e = record { key = e.key; item = e.item; twin = twin }
@@ -77,6 +81,11 @@ head_of (n ∷ ns) = Some n
 unfoldable pub comes_after : List ℕ → ℕ → Option ℕ
 comes_after [] m = None
 comes_after (n ∷ ns) m = cond (n == m) (head_of ns) (comes_after ns m)
+
+-- the list with n put directly after m, where m stands in it
+unfoldable pub put_after : ℕ → ℕ → List ℕ → List ℕ
+put_after m n [] = []
+put_after m n (x ∷ xs) = cond (x == m) (x ∷ n ∷ xs) (x ∷ put_after m n xs)
 
 -- chain by chain both have the same nodes, and both have the same keys
 pub record SameChains (old new : Chained) : Type 0 where

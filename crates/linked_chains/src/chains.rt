@@ -1,7 +1,7 @@
 ghost use Rattle.std.specs.Prelude.{◌≡◌, ◌≢◌, ◌↔◌, ◌==◌, ◌<◌, ◌≤◌, ◌⊎◌, suc, ◌+◌, ◌^◌, [], ◌∷◌, ◌++◌, length, not, Some, None, is_some, IsOk, OnOk};
 ghost use Rattle.std.specs.List.{filter, IsDistinct};
 ghost use Rattle.slab_laws.specs.Tables.{row_at, names, NamesAscend};
-ghost use Rattle.linked_chains.specs.Chains.{chain, entry_at, HasNode, HasKey, IsWhole, SetsEntry, SetsTwin, SameChains, IsSpare, head_of, comes_after};
+ghost use Rattle.linked_chains.specs.Chains.{chain, entry_at, HasNode, HasKey, IsWhole, SetsEntry, SetsBeside, SetsTwin, SameChains, IsSpare, head_of, comes_after, put_after};
 
 use crate::links::{set_after, set_before, set_head};
 use crate::node::{Entry, Node};
@@ -141,6 +141,33 @@ impl Chains {
         set_before(&mut self.nodes, first, Some(node));
         set_head(&mut self.heads, key, None, Some(node));
         node
+    }
+
+    /// A node more, directly after another one in its chain, in room that is there.
+    pub fn push_after(&mut self, node: usize, item: usize, twin: usize) -> usize
+        requires has { HasNode self.old node }
+        requires room { 1 ≤ self.old.spare_nodes }
+        ensures name { ¬ HasNode self.old result }
+        ensures entries { SetsBeside self.old self.new node result item twin }
+        ensures chains { (k : _) → chain self.new k ≡ put_after node result (chain self.old k) }
+        ensures keys { (k : _) → HasKey self.old k ↔ HasKey self.new k }
+        ensures count { length self.new.heads ≡ length self.old.heads }
+        ensures spare { IsSpare self.new self.old 0 1 }
+        ensures keeps_keys { self.old.spare_keys ≤ self.new.spare_keys }
+    {
+        let place = self.nodes[node];
+        let added = self.nodes.insert_reserved(Node {
+            entry: Entry {
+                key: place.entry.key,
+                item,
+                twin,
+            },
+            before: Some(node),
+            after: place.after,
+        });
+        set_before(&mut self.nodes, place.after, Some(added));
+        set_after(&mut self.nodes, Some(node), Some(added));
+        added
     }
 
     /// A node fewer.

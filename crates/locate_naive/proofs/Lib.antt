@@ -1,3 +1,4 @@
 pub mod Names
 pub mod Spans
 pub mod Points
+pub mod Within

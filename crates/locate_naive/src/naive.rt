@@ -1,11 +1,13 @@
-ghost use Rattle.slab_laws.specs.Sound.{IsGraphSound};
+ghost use Rattle.std.specs.Prelude.{◌≡◌, ◌&&◌};
+ghost use Rattle.plane_graphs.specs.Line.{IsProper, precedes};
+ghost use Rattle.slab_laws.specs.Skeleton.{inside};
+ghost use Rattle.slab_laws.specs.Sound.{IsGraphSound, edge_in, dart_in};
 ghost use Rattle.slab_laws.specs.View.{HasDart};
 ghost use Rattle.dcel_records.specs.Spots.{IsSpotOf};
 ghost use Rattle.locate_naive.specs.Found.{IsVertexAt, IsSpanAlong, IsEdgeThrough};
 
 use dcel_records::{Records, Spot};
-use edge_predicates::has_inside;
-use exact_plane::{Point, Span};
+use exact_plane::{Point, Sign, Span, side};
 use slab_laws::{DartId, Darts, VertexId};
 
 /// The vertex at a point, by a look at all vertices. It takes no memory.
@@ -33,17 +35,42 @@ pub fn span_of(records: &Records, dart: DartId) -> Option<Span>
     Span::new(lower, upper, records.line(dart))
 }
 
+// Whether a point comes after one and before another.
+fn is_between(low: &Point, point: &Point, high: &Point) -> bool
+    ensures { result ≡ (precedes low.now point.now && precedes point.now high.now) }
+{
+    low < point && point < high
+}
+
+// Whether the dart goes forward and its edge has the point inside. The side of its line is told first, which rules out nearly
+// all darts; a dart that goes backward has no point between its source and its target.
+fn is_through(records: &Records, dart: DartId, point: &Point) -> bool
+    requires sound { IsGraphSound records.now.graph }
+    requires dart { HasDart records.now.graph dart }
+    requires point { IsProper point.now }
+    ensures { result ≡ ((dart_in records.now.graph dart).forward && inside (edge_in records.now.graph dart) point.now) }
+{
+    match side(&records.line(dart), point) {
+        Sign::Zero => {
+            let low = records.point(records.source(dart));
+            let high = records.point(records.target(dart));
+            is_between(&low, point, &high)
+        }
+        Sign::Minus | Sign::Plus => false,
+    }
+}
+
 // The forward dart of the edge that has a point inside.
 fn edge_at(records: &Records, point: &Point) -> Option<DartId>
     requires { IsGraphSound records.now.graph }
     ensures { IsEdgeThrough records.now.graph point.now result }
 {
+    // A call on the point tells that its numbers are a point's.
+    let _weight = point.w();
     let mut last = None;
     while let Some(dart) = records.dart_after(last) {
-        if let Some(span) = span_of(records, dart) {
-            if has_inside(&span, point) {
-                return Some(dart);
-            }
+        if is_through(records, dart, point) {
+            return Some(dart);
         }
         last = Some(dart);
     }

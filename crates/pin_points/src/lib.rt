@@ -6,7 +6,6 @@
 #![tactic(auto)]
 
 mod clear_all;
-mod full;
 mod merge;
 mod pins;
 mod split;

@@ -1,4 +1,5 @@
-ghost use Rattle.std.specs.Prelude.{◌≡◌, ◌≢◌, ◌≤◌, [], ◌∷◌, length, Err, IsOk, OnOk, OnErr};
+ghost use Rattle.std.specs.Prelude.{◌≡◌, ◌≢◌, ◌≤◌, [], ◌∷◌, length, nat_le, Err, IsOk, OnOk, OnErr};
+ghost use Rattle.std.specs.List.{filter};
 ghost use Rattle.plane_graphs.specs.Line.{IsProper};
 ghost use Rattle.edit_steps.specs.Edits.{Pin, Unpin};
 ghost use Rattle.edit_steps.specs.Refusals.{pin_refusal, unpin_refusal, IsAnswerFor};
@@ -15,7 +16,6 @@ ghost use Rattle.record_layers.specs.RecordLayers.{IsLayer};
 ghost use Rattle.pin_points.specs.Pins.{pin_said, unpin_said, is_pinned_spot, pairs_parted, HasRoomFor, MayBecomeVertex, HasBecomeVertex, IsSplitAt};
 ghost use Rattle.record_layers.specs.LayerEdits.{layer_at, IsAfter, Makes};
 
-use crate::full::is_full;
 use arr_notes::Change;
 use curve_history::History;
 use dcel_records::{Records, Room, Spot};
@@ -66,6 +66,13 @@ fn is_pinned(records: &Records, at: Spot) -> bool
         Spot::Vertex(vertex) => records.pinned(vertex),
         Spot::Edge(_) | Spot::Face => false,
     }
+}
+
+/// Whether as many vertices are pinned as the limit says, or more.
+pub(crate) fn is_full(records: &Records, limit: u32) -> bool
+    ensures { result ≡ nat_le limit (length (filter (λ r. r.1.pinned) records.now.graph.vertices)) }
+{
+    limit as usize <= records.pins()
 }
 
 // How many curves run along the edge that is split at the spot.

@@ -8,8 +8,7 @@ ghost use Rattle.record_layers.specs.RecordLayers.{IsLayer};
 ghost use Rattle.pin_points.specs.Splits.{split_at, split_said, split_refusal_at, HasRoomToSplit};
 ghost use Rattle.record_layers.specs.LayerEdits.{IsAfter, Makes};
 
-use crate::full::is_full;
-use crate::pins::{make_room, part_edge};
+use crate::pins::{is_full, make_room, part_edge};
 use curve_history::History;
 use dcel_records::{Records, Spot};
 use edge_predicates::has_inside;

@@ -1,6 +1,6 @@
 use exact_plane::{
     Direction, Line, Meet, Point, PointError, Segment, SegmentError, Sign, Span, above_at, line_of,
-    meeting, side, slope_order, span_meeting, turn_order,
+    meeting, orientation, side, slope_order, span_meeting, turn_order,
 };
 use std::cmp::Ordering;
 use std::test::Fail;
@@ -218,6 +218,30 @@ fn sides_are_as_seen_from_the_lower_end(rt: HostRuntime) -> Result<(), Fail> {
     for (ends, (x, y, w), wanted) in rows {
         let point = Point::new(x, y, w)?;
         assert!(rt; side(&line(ends)?, &point) == wanted, "{x} {y} {w}");
+    }
+    Ok(())
+}
+
+#[test]
+fn orientations_are_told_by_the_ends(rt: HostRuntime) -> Result<(), Fail> {
+    let rows: [(Ends, (i128, i128, i128), Sign); 6] = [
+        ((0, 0, 4, 2), (1, 1, 1), Sign::Plus),
+        ((4, 2, 0, 0), (1, 1, 1), Sign::Plus),
+        ((0, 0, 4, 2), (2, 1, 1), Sign::Zero),
+        ((0, 0, 4, 2), (1, 0, 1), Sign::Minus),
+        ((3, 0, 3, 6), (7, 0, 2), Sign::Minus),
+        (
+            (-1048575, -1048575, 1048575, 1048575),
+            (9223363240760705024, 9223363240760705023, 8796093022207),
+            Sign::Minus,
+        ),
+    ];
+    for (ends, (x, y, w), wanted) in rows {
+        let point = Point::new(x, y, w)?;
+        assert!(rt;
+            orientation(&segment(ends)?, &point) == wanted,
+            "{x} {y} {w}"
+        );
     }
     Ok(())
 }

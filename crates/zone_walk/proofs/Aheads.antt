@@ -29,7 +29,7 @@ use Rattle.rotation_order.specs.Place.{IsAlongDart}
 use Rattle.sound_changes.proofs.KnownNames.{point_known, edge_known}
 use Rattle.sound_views.proofs.NamedDarts.{by_points}
 use Rattle.zone_walk.specs.Walk.{IsAhead}
-use Rattle.zone_walk.proofs.Courses.{within_inside, inside_within}
+use Rattle.locate_naive.proofs.Within.{target_has, high_proper, in_dart, dart_in_out}
 
 -- ---- a line's own direction
 
@@ -60,34 +60,6 @@ module _ (v : View) (s : IsGraphSound v) where
   abbrev high_end : DartId → Point
   high_end d = point_in v (target_in v d)
 
-  pub target_has : (d : DartId) → HasDart v d → HasVertex v (target_in v d)
-  target_has d has = s.linked.source (twin_in v d) (s.twinned.has d has)
-
-  pub low_proper : (d : DartId) → HasDart v d → IsProper (low_end d)
-  low_proper d has = s.drawn.proper (source_in v d) (s.linked.source d has)
-
-  pub high_proper : (d : DartId) → HasDart v d → IsProper (high_end d)
-  high_proper d has = s.drawn.proper (target_in v d) (target_has d has)
-
-  -- ---- the edge of a forward dart
-  pub edge_is : (d : DartId) → IsForward v d → edge_in v d ≡ record { low = low_end d; high = high_end d }
-  edge_is d f = ap (λ (b : Bool). if b then record { low = low_end d; high = high_end d } else record { low = high_end d; high = low_end d }) f.1
-
-  pub record IsWithinDart (d : DartId) (t : Point) : Type 0 where
-    pub on : IsOn (line_in v d) t
-    pub after : Lt (low_end d) t
-    pub before : Lt t (high_end d)
-
-  pub in_dart : (d : DartId) (t : Point) → IsForward v d → IsProper t → IsWithinDart d t → inside (edge_in v d) t ≡ true
-  in_dart d t f p h =
-      ap (λ (e : Edge). inside e t) (edge_is d f)
-      ∙ within_inside (line_in v d) (record { low = low_end d; high = high_end d }) t (s.drawn.line d f.0) (low_proper d f.0) (high_proper d f.0) p (s.drawn.starts d f.0) (s.drawn.ends d f.0) (record { on = h.on; after = h.after; before = h.before })
-
-  pub dart_in_out : (d : DartId) (t : Point) → IsForward v d → IsProper t → inside (edge_in v d) t ≡ true → IsWithinDart d t
-  dart_in_out d t f p h =
-      let w = inside_within (line_in v d) (record { low = low_end d; high = high_end d }) t (s.drawn.line d f.0) (low_proper d f.0) (high_proper d f.0) p (s.drawn.starts d f.0) (s.drawn.ends d f.0) (ap (λ (e : Edge). inside e t) (sym (edge_is d f)) ∙ h) in
-      record { on = w.on; after = w.after; before = w.before }
-
   pub no_vertex_inside : (d : DartId) (w : VertexId) → HasDart v d → HasVertex v w → inside (edge_in v d) (point_in v w) ≡ true → ⊥
   no_vertex_inside d w has known h = clash h (s.plane.clear (edge_in v d) (point_in v w) (edge_known v d has) (point_known v s.named w known))
 
@@ -107,14 +79,14 @@ module _ (v : View) (s : IsGraphSound v) where
     ahead_from d h =
         ⊎_elim
         (λ e. inl e)
-        (λ k. inr (in_dart d p h.forward proper (record { on = subst (λ (m : Line). IsOn m p) (sym h.line) on; after = k; before = lt_out p (high_end d) h.ends })))
+        (λ k. inr (in_dart v s d p h.forward proper (record { on = subst (λ (m : Line). IsOn m p) (sym h.line) on; after = k; before = lt_out p (high_end d) h.ends })))
         (le_cases (low_end d) p (at_most (low_end d) p h.begins))
 
     -- two that begin there: the shorter one's upper end would be inside the other
     longer : (d e : DartId) → IsAhead v l p d → IsAhead v l p e → low_end e ≡ p → Lt (high_end d) (high_end e) → ⊥
     longer d e h k at m =
-        no_vertex_inside e (target_in v d) k.forward.0 (target_has d h.forward.0)
-        (in_dart e (high_end d) k.forward (high_proper d h.forward.0)
+        no_vertex_inside e (target_in v d) k.forward.0 (target_has v s d h.forward.0)
+        (in_dart v s e (high_end d) k.forward (high_proper v s d h.forward.0)
         (record {
           on = subst (λ (m : Line). IsOn m (high_end d)) (h.line ∙ sym k.line) (s.drawn.ends d h.forward.0);
           after = subst (λ (q : Point). Lt q (high_end d)) (sym at) (lt_out p (high_end d) h.ends);
@@ -147,7 +119,7 @@ module _ (v : View) (s : IsGraphSound v) where
     module _ (c : DartId) (forward : IsForward v c) (inner : inside (edge_in v c) p ≡ true) where
       pub ahead_inside : line_in v c ≡ l → IsAhead v l p c
       ahead_inside e =
-          let w = dart_in_out c p forward proper inner in
+          let w = dart_in_out v s c p forward proper inner in
           record { forward = forward; line = e; begins = not_before (le_lt w.after); ends = lt_in w.before }
 
       pub none_inside : line_in v c ≢ l → (d : DartId) → IsAhead v l p d → ⊥

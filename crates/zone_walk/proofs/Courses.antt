@@ -1,4 +1,4 @@
--- The course of a segment along its line, and points inside edges of one line.
+-- The course of a segment along its line, and lines that are one.
 use Rattle.std.proofs.Common.{◌≡◌, ◌≢◌, Bool, true, false, not, ◌&&◌, pos, ◌-ℤ◌, ◌*ℤ◌, refl, sym, ap, ◌∙◌}
 use Rattle.integers.proofs.Decisions.{eq_in}
 use Rattle.std.specs.Ordering.{int_eq}
@@ -65,49 +65,6 @@ lower_lies s c = record { on = c.lower_on; from = le_same s.lower; upto = le_lt 
 
 pub upper_lies : (s : Segment) → IsCourse s → LiesOn s s.upper
 upper_lies s c = record { on = c.upper_on; from = le_lt c.ahead; upto = le_same s.upper }
-
--- ---- inside an edge that lies on a line
-pub record IsWithin (l : Line) (e : Edge) (t : Point) : Type 0 where
-  pub on : IsOn l t
-  pub after : Lt e.low t
-  pub before : Lt t e.high
-
-module _ (l : Line) (e : Edge) (t : Point) (line : IsProperLine l) (low : IsProper e.low) (high : IsProper e.high) (proper : IsProper t) (low_on : IsOn l e.low) (high_on : IsOn l e.high) where
-  abbrev w_is : l.a *ℤ span_b e.low e.high -ℤ span_a e.low e.high *ℤ l.b ≡ pos 0
-  w_is = spans_w l.a l.b l.c e.low.x e.low.y e.low.w e.high.x e.high.y e.high.w low_on high_on
-
-  abbrev x_is : l.b *ℤ span_c e.low e.high -ℤ span_b e.low e.high *ℤ l.c ≡ pos 0
-  x_is = spans_x l.a l.b l.c e.low.x e.low.y e.low.w e.high.x e.high.y e.high.w low_on high_on
-
-  abbrev y_is : l.c *ℤ span_a e.low e.high -ℤ span_c e.low e.high *ℤ l.a ≡ pos 0
-  y_is = spans_y l.a l.b l.c e.low.x e.low.y e.low.w e.high.x e.high.y e.high.w low_on high_on
-
-  pub within_inside : IsWithin l e t → inside e t ≡ true
-  within_inside h =
-      inside_by e t low high proper h.after h.before
-      (collinear_in e.low e.high t (zero_too l.a l.b l.c (span_a e.low e.high) (span_b e.low e.high) (span_c e.low e.high) t.x t.y t.w w_is x_is y_is h.on line.runs))
-
-  no_side : inside e t ≡ true → det e.low e.high t ≡ pos 0
-  unfolding counted.side det
-  no_side h =
-      let a = and_true (counted.precedes e.low t && counted.precedes t e.high) (not (lt_z (counted.side e t) (pos 0)) && not (lt_z (pos 0) (counted.side e t))) h in
-      let b = and_true (not (lt_z (counted.side e t) (pos 0))) (not (lt_z (pos 0) (counted.side e t))) a.1 in
-      zero_between (det e.low e.high t) (not_out (lt_z (counted.side e t) (pos 0)) b.0) (not_out (lt_z (pos 0) (counted.side e t)) b.1)
-
-  on_its_line : Lt e.low e.high → det e.low e.high t ≡ pos 0 → IsOn l t
-  unfolding det
-  on_its_line k z =
-      zero_too (span_a e.low e.high) (span_b e.low e.high) (span_c e.low e.high) l.a l.b l.c t.x t.y t.w
-      (turned l.a (span_b e.low e.high) (span_a e.low e.high) l.b w_is) (turned l.b (span_c e.low e.high) (span_b e.low e.high) l.c x_is) (turned l.c (span_a e.low e.high) (span_c e.low e.high) l.a y_is)
-      z (span_runs e.low e.high low high k)
-
-  pub inside_within : inside e t ≡ true → IsWithin l e t
-  inside_within h =
-      let a = and_true (counted.precedes e.low t && counted.precedes t e.high) (not (lt_z (counted.side e t) (pos 0)) && not (lt_z (pos 0) (counted.side e t))) h in
-      let b = and_true (counted.precedes e.low t) (counted.precedes t e.high) a.0 in
-      let k = before_out e.low t low proper b.0 in
-      let m = before_out t e.high proper high b.1 in
-      record { on = on_its_line (lt_trans k m) (no_side h); after = k; before = m }
 
 -- ---- two lines that share a point and are parallel are one
 pub one_line : (l m : Line) (t : Point) → IsProperLine l → IsProperLine m → IsProper t → IsOn l t → IsOn m t → are_parallel l m ≡ true → l ≡ m

@@ -2,7 +2,9 @@ pub mod MeetingPoints
 pub mod LineCrossings
 pub mod InPlane
 pub mod Passing
-pub mod Nearer
+pub mod Inner
+pub mod Entries
+pub mod Collected
 pub mod BothWays
 pub mod Courses
 pub mod Aheads

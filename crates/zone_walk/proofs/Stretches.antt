@@ -8,7 +8,8 @@ use Rattle.plane_graphs.specs.Line.{IsProper, precedes, are_parallel}
 use Rattle.plane_graphs.proofs.Ascending.{to_member, from_member}
 use Rattle.plane_graphs.proofs.Lists.{clash, decide}
 use Rattle.plane_graphs.proofs.Marks.{Le, le_lt, le_same, le_lt_lt, lt_le_lt}
-use Rattle.plane_graphs.proofs.Order.{Lt, lt_out, lt_in, lt_trans}
+use Rattle.plane_graphs.proofs.Order.{Lt, lt_out, lt_in, lt_trans, Tri, tri}
+use Rattle.plane_graphs.proofs.Order.Tri.{less, same, more}
 use Rattle.slab_laws.specs.declared.names.DartId.{DartId}
 use Rattle.slab_laws.specs.Darts.{Dart}
 use Rattle.slab_laws.specs.Skeleton.{inside}
@@ -21,7 +22,8 @@ use Rattle.dcel_records.specs.declared.spot.Spot.TheVariants.{Vertex, Edge as On
 use Rattle.sound_views.proofs.NamedDarts.{twin_dart}
 use Rattle.zone_walk.specs.Walk.{lesser, IsAhead, IsSpotAhead, IsStretch}
 use Rattle.zone_walk.specs.Zone.{meeting_points, IsSpotBetween, IsNextMeeting}
-use Rattle.zone_walk.proofs.Aheads.{at_most, target_has, in_dart, dart_in_out, no_vertex_inside, one_inside}
+use Rattle.locate_naive.proofs.Within.{target_has, in_dart, dart_in_out}
+use Rattle.zone_walk.proofs.Aheads.{at_most, no_vertex_inside, one_inside}
 use Rattle.zone_walk.proofs.Courses.{IsCourse, LiesOn, lies_out, lies_in, lower_lies, upper_lies, one_line, parallel_itself}
 use Rattle.zone_walk.proofs.LineCrossings.{crossing_proper, is_crossing}
 use Rattle.zone_walk.proofs.MeetingPoints.{MeetsAt, lower, upper, vertex, passed, of_meetings, in_meetings, passes_out, passes_one}
@@ -145,11 +147,11 @@ module _ (v : View) (s : IsGraphSound v) where
 
             -- it would go on from p, or begin between
             along_there : Lt (point_in v (source_in v e)) t → Lt t (point_in v (target_in v e)) → line ≡ line_in v e → (b : Bool) → precedes p (point_in v (source_in v e)) ≡ b → ⊥
-            along_there a z same false b = none e (record { forward = f; line = sym same; begins = b; ends = lt_in (lt_trans k z) })
-            along_there a z same true b =
+            along_there a z one false b = none e (record { forward = f; line = sym one; begins = b; ends = lt_in (lt_trans k z) })
+            along_there a z one true b =
                 let x = point_in v (source_in v e) in
                 let l : Lt p x = lt_out p x b in
-                let on_line : IsOn line x = subst (λ (n : Line). IsOn n x) (sym same) (s.drawn.starts e f.0) in
+                let on_line : IsOn line x = subst (λ (n : Line). IsOn n x) (sym one) (s.drawn.starts e f.0) in
                 let at = listed x (vertex (source_in v e) (s.linked.source e f.0) refl (lies_in g x (record { on = on_line; from = le_lt (le_lt_lt here.from l); upto = le_lt (lt_le_lt a on.upto) }))) in
                 clash (lt_in (lt_trans a m)) (next.none_between x at b)
 
@@ -175,8 +177,18 @@ module _ (v : View) (s : IsGraphSound v) where
               no_edge = no_edge_at t proper l a b;
             }
 
-      pub through_face : (spot : Spot) → IsSpotAhead v line p spot → ((w : _) × (spot ≡ Vertex w)) ⊎ (spot ≡ Face) → (q : Point) → IsNextMeeting v g p q → IsStretch v g p spot q
-      through_face (Vertex w) h e q next = absurd h
-      through_face (OnEdge d) h (inl e) q next = let f = e.1 in absurd cc
-      through_face (OnEdge d) h (inr e) q next = absurd cc
-      through_face Face h e q next = record { ahead = h; next = next; between = face_between h q next }
+      -- ---- whatever lies ahead
+      one_next : (q r : Point) → IsNextMeeting v g p q → IsNextMeeting v g p r → q ≡ r
+      one_next q r h k = by (tri q r)
+        where
+          by : Tri q r → q ≡ r
+          by (less l) = clash (lt_in l) (k.none_between q h.meets h.later)
+          by (same e) = e
+          by (more l) = clash (lt_in l) (h.none_between r k.meets k.later)
+
+      pub stretch_to : Lt p g.upper → (spot : Spot) → IsSpotAhead v line p spot → (q : Point) → IsNextMeeting v g p q → IsStretch v g p spot q
+      stretch_to before (Vertex w) h q next = absurd h
+      stretch_to before (OnEdge d) h q next =
+          let k = along_edge d h before (lesser g.upper (point_in v (target_in v d))) refl in
+          subst (IsStretch v g p (OnEdge d)) (one_next (lesser g.upper (point_in v (target_in v d))) q k.next next) k
+      stretch_to before Face h q next = record { ahead = h; next = next; between = face_between h q next }

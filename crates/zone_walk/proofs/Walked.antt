@@ -1,6 +1,8 @@
 -- What the walk has when it stands at a meeting point, and the zone that it has at the upper end.
-use Rattle.std.proofs.Common.{◌≡◌, ◌<◌, ◌≤◌, Bool, true, false, not, List, [], ◌∷◌, ◌++◌, length, Contains, refl, sym, ap, ◌∙◌, subst, append_assoc, arith, inl, inr, ⊎_elim}
+use Rattle.std.specs.Prelude.{◌↔◌, IsSome}
+use Rattle.std.proofs.Common.{◌≡◌, ◌<◌, ◌≤◌, Option, None, Bool, true, false, not, List, [], ◌∷◌, ◌++◌, length, Contains, refl, sym, ap, ◌∙◌, subst, append_assoc, arith, inl, inr, ⊎_elim}
 use Rattle.std.specs.List.{filter, AllByRecursion}
+use Rattle.std.specs.Map.{keys_of}
 use Rattle.std.proofs.lemmas.List.{append-nil, length-map}
 use Rattle.std.proofs.lemmas.List.Sums.{count_by-le-length}
 use Rattle.exact_plane.specs.Line.{Line, IsOn}
@@ -11,7 +13,8 @@ use Rattle.exact_plane.specs.Segment.{Segment, line_of_segment}
 use Rattle.std.specs.declared.cmp.Ordering.TheVariants.{Less}
 use Rattle.plane_graphs.specs.Ascending.{Member, IsAscending}
 use Rattle.plane_graphs.specs.Line.{precedes}
-use Rattle.plane_graphs.proofs.Ascending.{ascending_unique, to_member, from_member}
+use Rattle.plane_graphs.proofs.Ascending.{All-member, ascending_unique, to_member, from_member}
+use Rattle.integers.proofs.Tests.{not_true}
 use Rattle.plane_graphs.proofs.Lists.{clash, in_left, in_right, in_either, in_filter, of_filter, IsAscending-filter, none_is_empty}
 use Rattle.plane_graphs.proofs.Marks.{Le, le_lt, le_both, le_lt_lt, lt_le_lt}
 use Rattle.plane_graphs.proofs.Order.{Lt, lt_out, lt_in, lt_trans, lt_never, Tri, tri}
@@ -24,11 +27,12 @@ use Rattle.dcel_records.specs.declared.spot.Spot.TheVariants.{Vertex, Edge, Face
 use Rattle.dcel_records.specs.Spots.{IsSpotOf}
 use Rattle.zone_walk.specs.declared.plan.Meeting.{Meeting}
 use Rattle.zone_walk.specs.declared.plan.ZonePlan.{ZonePlan}
+use Rattle.zone_walk.specs.Found.{AreLaterMeetings}
 use Rattle.zone_walk.specs.Walk.{IsAhead, IsSpotAhead, IsStretch}
 use Rattle.zone_walk.specs.Zone.{meeting_points, AreSpotsBetween, IsOverlapped, IsZoneOf, IsNextMeeting, is_vertex, is_edge, vertices_needed, edges_needed, darts_among, later_points, points_of_meetings}
 use Rattle.zone_walk.proofs.Aheads.{at_most, one_ahead}
 use Rattle.zone_walk.proofs.Courses.{IsCourse, LiesOn, lies_in}
-use Rattle.zone_walk.proofs.MeetingPoints.{MeetsAt, lower, vertex, meetings_ascend}
+use Rattle.zone_walk.proofs.MeetingPoints.{MeetsAt, lower, upper, vertex, meetings_ascend}
 use Rattle.zone_walk.proofs.Stretches.{told, listed, meets_lies, meets_proper}
 
 -- ---- an ascending list, cut after an element
@@ -76,6 +80,20 @@ module _ (ps : List Point) (a : IsAscending point_cmp ps) where
   pub last : (p : Point) → ((r : Point) → Member r ps → Lt p r → ⊥) → after p ≡ []
   last p none = none_is_empty (after p) (λ x m. let w = of_filter (precedes p) x ps m in none x w.0 (lt_out p x w.1))
 
+-- the first of those after an element is the next one
+first_after : (ps : List Point) → IsAscending point_cmp ps → (p q : Point) (rest : List Point) → filter (precedes p) ps ≡ q ∷ rest → (r : Point) → Member r ps → Lt p r → Lt r q → ⊥
+first_after ps a p q rest e r m l k =
+    by
+    (subst (λ (xs : List Point). Member r xs) e (in_filter (precedes p) r ps m (lt_in l)))
+    (subst (IsAscending point_cmp) e (IsAscending-filter point_cmp (precedes p) ps a))
+  where
+    by : Member r (q ∷ rest) → IsAscending point_cmp (q ∷ rest) → ⊥
+    by (inl i) h = lt_never (subst (λ (x : Point). Lt x q) i k)
+    by (inr n) h = lt_never (lt_trans k (record { is = All-member (λ x. point_cmp q x ≡ Less) r rest h.0 n }))
+
+same_rest : (q r : Point) (qs rs : List Point) → q ∷ qs ≡ r ∷ rs → qs ≡ rs
+same_rest q r qs rs e = cc
+
 -- ---- the walk so far
 
 -- the one meeting point at which the walk begins
@@ -91,6 +109,16 @@ pub record IsWalked (v : View) (g : Segment) (ms : List Meeting) (spots : List S
   pub darts : ds ≡ darts_among spots
   pub overlapped : (d : DartId) → Member d ds → IsOverlapped v g d
   pub all_overlapped : (d : DartId) → IsOverlapped v g d → Lt (point_in v (source_in v d)) here → Lt g.lower here → Member d ds
+
+-- the meeting points that are left after one, in order, each with its spot
+pub record AreLeft (v : View) (g : Segment) (here : Point) (es : List (Point × Spot)) : Type 0 where
+  pub points : keys_of es ≡ later_points v g here
+  pub spots : (p : Point) (spot : Spot) → Member (p, spot) es → IsSpotOf v p spot
+
+-- where a map gives no first entry, it has none
+pub no_entries : {X : Type 0} (r : Option (Point × X)) (es : List (Point × X)) → r ≡ None → (IsSome r ↔ (0 < length es)) → es ≡ []
+no_entries r [] e h = refl
+no_entries {X} r (x ∷ es) e h = let z : IsSome {T = Point × X} None = subst (λ (o : Option (Point × X)). IsSome o) e (h.1 (omega arith)) in absurd cc
 
 map_more : (ms : List Meeting) (m : Meeting) (qs : List Point) → points_of_meetings (ms ++ (m ∷ [])) ++ qs ≡ points_of_meetings ms ++ (m.point ∷ qs)
 map_more [] m qs = refl
@@ -133,15 +161,27 @@ module _ (v : View) (s : IsGraphSound v) (g : Segment) (c : IsCourse g) where
       (subst (λ (xs : List Spot). IsWalked v g ms xs [] g.lower at) (sym es)
       (subst (λ (xs : List Meeting). IsWalked v g xs [] [] g.lower at) (sym (em ∙ ap (λ (x : Point). alone x at) ep)) (begun at h))))
 
-  -- ---- one stretch more
+  -- ---- the next meeting point
+  module _ (p q : Point) (rest : List Point) (e : q ∷ rest ≡ later_points v g p) where
+    q_later : Member q (meeting_points v g) × (precedes p q ≡ true)
+    q_later = of_filter (precedes p) q (meeting_points v g) (subst (λ (xs : List Point). Member q xs) e (inl refl))
+
+    pub next_is : IsNextMeeting v g p q
+    next_is = record {
+      meets = from_member (meeting_points v g) q q_later.0;
+      later = q_later.1;
+      none_between = λ r m l. not_true (precedes r q) (λ k. first_after (meeting_points v g) (meetings_ascend v g) p q rest (sym e) r (to_member (meeting_points v g) r m) (lt_out p r l) (lt_out r q k));
+    }
+
+  -- ---- one more stretch
   module _ (p q : Point) (n : IsNextMeeting v g p q) where
     pub fewer_later : later_points v g p ≡ q ∷ later_points v g q
     fewer_later =
         cut (meeting_points v g) (meetings_ascend v g) p q (to_member (meeting_points v g) q n.meets) (lt_out p q n.later)
         (λ r m l k. clash (lt_in k) (n.none_between r (from_member (meeting_points v g) r m) (lt_in l)))
 
-    pub measure_falls : length (later_points v g q) < length (later_points v g p)
-    measure_falls = let e = ap (λ (ps : List Point). length ps) fewer_later in omega arith
+    pub rest_later : (rest : List Point) → q ∷ rest ≡ later_points v g p → rest ≡ later_points v g q
+    rest_later rest e = same_rest q q rest (later_points v g q) (e ∙ fewer_later)
 
   module _ (p q : Point) (spot : Spot) (here : MeetsAt v g p) (on : LiesOn g p) (before : Lt p g.upper) (k : IsStretch v g p spot q) where
     -- the lower end of an overlapped edge doesn't lie between
@@ -224,6 +264,39 @@ module _ (v : View) (s : IsGraphSound v) (g : Segment) (c : IsCourse g) where
         subst (λ (xs : List DartId). IsWalked v g grown parts xs next.point next.spot) (sym ed)
         (subst (λ (xs : List Spot). IsWalked v g grown xs (ds ++ darts_among (spot ∷ [])) next.point next.spot) (sym es)
         (subst (λ (xs : List Meeting). IsWalked v g xs (spots ++ (spot ∷ [])) (ds ++ darts_among (spot ∷ [])) next.point next.spot) (sym em) walked_on))
+
+  -- ---- the next of those that are left
+  module _ (p : Point) (next : Meeting) (es rest : List (Point × Spot)) (is : es ≡ (next.point, next.spot) ∷ rest) (left : AreLeft v g p es) where
+    first_left : next.point ∷ keys_of rest ≡ later_points v g p
+    first_left = sym (ap (λ (xs : List (Point × Spot)). keys_of xs) is) ∙ left.points
+
+    pub left_next : IsNextMeeting v g p next.point
+    left_next = next_is p next.point (keys_of rest) first_left
+
+    pub left_spot : IsSpotOf v next.point next.spot
+    left_spot = left.spots next.point next.spot (subst (λ (xs : List (Point × Spot)). Member (next.point, next.spot) xs) (sym is) (inl refl))
+
+    pub still_left : AreLeft v g next.point rest
+    still_left = record {
+      points = rest_later p next.point left_next (keys_of rest) first_left;
+      spots = λ q spot m. left.spots q spot (subst (λ (xs : List (Point × Spot)). Member (q, spot) xs) (sym is) (inr m));
+    }
+
+    pub fewer_left : length rest < length es
+    fewer_left = let e = ap (λ (xs : List (Point × Spot)). length xs) is in omega arith
+
+  pub begins_left : (p : Point) → p ≡ g.lower → (es : List (Point × Spot)) → AreLaterMeetings v g es → AreLeft v g p es
+  begins_left p e es h = record { points = h.points ∙ ap (λ (q : Point). later_points v g q) (sym e); spots = h.spots }
+
+  -- ---- a meeting point with another one after it comes before the upper end
+  pub before_upper : (p q : Point) → IsNextMeeting v g p q → Lt p g.upper
+  before_upper p q n = lt_le_lt (lt_out p q n.later) (on_segment q n.meets).upto
+
+  -- none is left at the upper end
+  pub past_upper : (p : Point) (es : List (Point × Spot)) → AreLeft v g p es → es ≡ [] → precedes p g.upper ≡ false
+  past_upper p es left none =
+      not_true (precedes p g.upper)
+      (λ l. subst (λ (xs : List Point). Member g.upper xs) (sym left.points ∙ ap (λ (xs : List (Point × Spot)). keys_of xs) none) (in_filter (precedes p) g.upper (meeting_points v g) (to_member (meeting_points v g) g.upper (listed v s g c g.upper (upper refl))) l))
 
   -- ---- at the upper end
   few_between : (ps : List Point) (spots : List Spot) → AreSpotsBetween v g ps spots → length spots ≤ length ps

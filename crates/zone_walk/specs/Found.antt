@@ -1,19 +1,23 @@
--- What the search for the next meeting point has found so far.
-use Rattle.std.specs.Prelude.{◌≡◌, ◌≢◌, true, false, [], ◌∷◌, Contains, Option, MatchOption}
+-- What the look at all vertices and edges has found so far.
+use Rattle.std.specs.Prelude.{◌≡◌, ◌≢◌, ◌⊎◌, true, false, Bool, List, [], ◌∷◌, Contains, Option, MatchOption, pos}
+use lib.Signed.{lt_z}
+use Rattle.std.specs.Map.{keys_of}
+use Rattle.exact_plane.specs.Line.{Line, side_of}
 use Rattle.exact_plane.specs.Meet.{IsOnlyCommon}
 use Rattle.exact_plane.specs.Point.{Point, IsPoint}
 use Rattle.exact_plane.specs.Segment.{Segment, line_of_segment}
 use Rattle.exact_plane.specs.Span.{Span, LiesOn, IsSpan}
+use Rattle.plane_graphs.specs.Ascending.{Member}
 use Rattle.plane_graphs.specs.Line.{precedes}
 use Rattle.slab_laws.specs.declared.names.DartId.{DartId}
 use Rattle.slab_laws.specs.declared.names.VertexId.{VertexId}
 use Rattle.slab_laws.specs.SpansDrawn.{edge_of}
 use Rattle.slab_laws.specs.Skeleton.{inside}
-use Rattle.slab_laws.specs.Sound.{dart_in}
+use Rattle.slab_laws.specs.Sound.{dart_in, edge_in}
 use Rattle.slab_laws.specs.View.{View, HasVertex, HasDart, point_in}
+use Rattle.dcel_records.specs.declared.spot.Spot.{Spot}
 use Rattle.dcel_records.specs.Spots.{IsSpotOf}
-use Rattle.zone_walk.specs.declared.plan.Meeting.{Meeting}
-use Rattle.zone_walk.specs.Zone.{is_on_segment, passes, meeting_points}
+use Rattle.zone_walk.specs.Zone.{is_on_segment, passes, meeting_points, later_points}
 
 -- the segment between the ends of a span
 abbrev pub ends_of : Span → Segment
@@ -24,36 +28,14 @@ pub record IsWhole (s : Span) : Type 0 where
   pub span : IsSpan s
   pub line : s.line ≡ line_of_segment (ends_of s)
 
--- a meeting point after p, with its spot (this project)
-pub record IsLaterMeeting (v : View) (s : Segment) (p : Point) (m : Meeting) : Type 0 where
-  pub meets : Contains (meeting_points v s) m.point
-  pub later : precedes p m.point ≡ true
-  pub spot : IsSpotOf v m.point m.spot
+-- whether the point is strictly on the left of the line, or on its right
+abbrev pub is_left : Line → Point → Bool
+is_left l p = lt_z (pos 0) (side_of l p)
 
--- a meeting point after p that isn't after the one before (this project)
-pub record IsNearer (v : View) (s : Segment) (p : Point) (before m : Meeting) : Type 0 where
-  pub meeting : IsLaterMeeting v s p m
-  pub not_after : precedes before.point m.point ≡ false
+abbrev pub is_right : Line → Point → Bool
+is_right l p = lt_z (side_of l p) (pos 0)
 
--- the vertex is none of the segment's points between p and q (this project)
-pub record IsNoVertexBetween (v : View) (s : Segment) (p q : Point) (w : VertexId) : Type 0 where
-  pub none : is_on_segment s (point_in v w) ≡ true → precedes p (point_in v w) ≡ true → precedes (point_in v w) q ≡ false
-
--- no vertex of the records is one of the segment's points between p and q (this project)
-abbrev pub AreNoVerticesBetween : View → Segment → Point → Point → Type 0
-AreNoVerticesBetween v s p q = (w : VertexId) → HasVertex v w → IsNoVertexBetween v s p q w
-
--- the segment doesn't pass through the inside of the edge between p and q (this project)
-pub record IsNoPassBetween (v : View) (s : Segment) (p q : Point) (d : DartId) : Type 0 where
-  pub none : (r : Point) → Contains (passes v s d) r → precedes p r ≡ true → precedes r q ≡ false
-
--- where the dart is its edge's forward one, the segment doesn't pass through the inside of that edge between p and q (this project)
-abbrev pub TellsNoPassBetween : View → Segment → Point → Point → DartId → Type 0
-TellsNoPassBetween v s p q d = (dart_in v d).forward ≡ true → IsNoPassBetween v s p q d
-
--- the segment doesn't pass through the inside of any edge between p and q (this project)
-abbrev pub AreNoPassesBetween : View → Segment → Point → Point → Type 0
-AreNoPassesBetween v s p q = (d : DartId) → HasDart v d → IsNoPassBetween v s p q d
+-- ---- one edge
 
 -- the segment passes through the inside of the edge at p, and nowhere else (this project)
 pub record IsPassAt (v : View) (s : Segment) (d : DartId) (p : Point) : Type 0 where
@@ -75,3 +57,52 @@ pub record IsInnerMeeting (whole span : Span) (p : Point) : Type 0 where
 -- spans of different lines have no common point inside the second one (this project)
 pub record IsNoInnerMeeting (whole span : Span) : Type 0 where
   pub none : (p : Point) → IsPoint p → LiesOn whole p → LiesOn span p → whole.line ≢ span.line → inside (edge_of span) p ≡ false
+
+-- a meeting point inside the edge after the segment's lower end: where the segment passes through the edge, or its upper end (this project)
+pub record MeetsInside (v : View) (s : Segment) (d : DartId) (p : Point) : Type 0 where
+  pub inner : inside (edge_in v d) p ≡ true
+  pub later : precedes s.lower p ≡ true
+  pub met : Contains (passes v s d) p ⊎ (p ≡ s.upper)
+
+-- the one such point of a forward dart's edge; none where there is none, or the dart isn't forward (this project)
+abbrev pub IsInnerPoint : View → Segment → DartId → Option Point → Type 0
+IsInnerPoint v s d r =
+    MatchOption r ((dart_in v d).forward ≡ true → (q : Point) → ¬ MeetsInside v s d q)
+    (λ p. ((dart_in v d).forward ≡ true) × MeetsInside v s d p × ((q : Point) → MeetsInside v s d q → q ≡ p))
+
+-- ---- all vertices and edges
+
+-- a meeting point after the segment's lower end, with its spot (this project)
+pub record IsFound (v : View) (s : Segment) (p : Point) (at : Spot) : Type 0 where
+  pub meets : Contains (meeting_points v s) p
+  pub later : precedes s.lower p ≡ true
+  pub spot : IsSpotOf v p at
+
+-- each that is found is a meeting point after the segment's lower end, with its spot (this project)
+abbrev pub AreFound : View → Segment → List (Point × Spot) → Type 0
+AreFound v s es = (p : Point) (spot : Spot) → Member (p, spot) es → IsFound v s p spot
+
+-- no point is lost (this project)
+abbrev pub AreKept : List (Point × Spot) → List (Point × Spot) → Type 0
+AreKept old new = (p : Point) → Member p (keys_of old) → Member p (keys_of new)
+
+-- the vertex is there, where it lies on the segment after its lower end (this project)
+abbrev pub TakesVertex : View → Segment → List (Point × Spot) → VertexId → Type 0
+TakesVertex v s es w = is_on_segment s (point_in v w) ≡ true → precedes s.lower (point_in v w) ≡ true → Member (point_in v w) (keys_of es)
+
+-- the meeting points inside the edge of a forward dart after the segment's lower end are there (this project)
+abbrev pub TakesDart : View → Segment → List (Point × Spot) → DartId → Type 0
+TakesDart v s es d = (dart_in v d).forward ≡ true → (p : Point) → MeetsInside v s d p → Member p (keys_of es)
+
+-- the vertices on the segment after its lower end are there (this project)
+abbrev pub HasVertices : View → Segment → List (Point × Spot) → Type 0
+HasVertices v s es = (w : VertexId) → HasVertex v w → is_on_segment s (point_in v w) ≡ true → precedes s.lower (point_in v w) ≡ true → Member (point_in v w) (keys_of es)
+
+-- the meeting points inside edges after the segment's lower end are there (this project)
+abbrev pub HasInnerPoints : View → Segment → List (Point × Spot) → Type 0
+HasInnerPoints v s es = (d : DartId) → HasDart v d → (p : Point) → MeetsInside v s d p → Member p (keys_of es)
+
+-- the meeting points after the segment's lower end, in order, each with its spot (this project)
+pub record AreLaterMeetings (v : View) (s : Segment) (es : List (Point × Spot)) : Type 0 where
+  pub points : keys_of es ≡ later_points v s s.lower
+  pub spots : (p : Point) (spot : Spot) → Member (p, spot) es → IsSpotOf v p spot

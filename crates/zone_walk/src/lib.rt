@@ -1,10 +1,11 @@
 //! The zone of a segment: what an insertion meets of a graph, as a plan that changes nothing (Fogel, Halperin and Wein, the
 //! zone of a curve).
 //!
-//! The walk begins at the segment's lower end, turns at vertices by the order of the darts round them, and goes along
-//! edges that the segment overlaps. Inside a face the next meeting point is the least over all vertices and edges.
+//! One look at each vertex and each edge finds all meeting points; the walk goes from each to the next, and tells by the darts
+//! round a vertex, or by the edge that has the point inside, whether the part between lies along an edge or in a face.
 #![tactic(auto)]
 
+mod crossings;
 mod meetings;
 mod plan;
 mod walk;

@@ -1,21 +1,23 @@
-ghost use Rattle.std.specs.Prelude.{◌≡◌, ◌&&◌, true, false, MatchOption};
+//! The meeting points of a segment and a graph, by one look at each vertex and each edge.
+ghost use Rattle.std.specs.Prelude.{◌≡◌, ◌&&◌, not, IfOk, OnOk};
 ghost use Rattle.exact_plane.specs.Span.{span_of_segment};
+ghost use Rattle.plane_graphs.specs.Ascending.{Member};
 ghost use Rattle.plane_graphs.specs.Line.{precedes, is_on};
 ghost use Rattle.slab_laws.specs.Sound.{IsGraphSound};
 ghost use Rattle.slab_laws.specs.View.{HasVertex, HasDart};
-ghost use Rattle.dcel_records.specs.Spots.{IsSpotOf};
-ghost use Rattle.zone_walk.specs.Found.{ends_of, IsWhole, IsLaterMeeting, IsNearer, IsNoVertexBetween, AreNoVerticesBetween, TellsNoPassBetween, AreNoPassesBetween, IsPassOfForward, IsInnerMeeting, IsNoInnerMeeting};
-ghost use Rattle.zone_walk.specs.Zone.{is_on_segment, IsNextMeeting};
+ghost use Rattle.std.specs.Map.{keys_of};
+ghost use Rattle.zone_walk.specs.Found.{ends_of, IsWhole, AreFound, AreKept, TakesVertex, TakesDart, HasVertices, HasInnerPoints, AreLaterMeetings};
 
-use crate::plan::Meeting;
+use crate::crossings::inner_point;
 use dcel_records::{Records, Spot};
-use edge_predicates::has_inside;
-use exact_plane::{Meet, Point, Segment, Sign, Span, line_of, side, span_meeting};
-use locate_naive::span_of;
+use exact_plane::{Point, Segment, Sign, Span, line_of, side};
+use no_memory::NoMemory;
 use slab_laws::{DartId, Darts, VertexId};
+use std::alloc::Global;
+use std::collections::BTreeMap;
 
 // The whole segment as a span.
-pub(crate) fn whole(segment: &Segment) -> Span
+fn whole(segment: &Segment) -> Span
     ensures value { result ≡ span_of_segment segment.now }
     ensures whole { IsWhole result }
 {
@@ -38,153 +40,138 @@ fn is_on_line(whole: &Span, point: &Point) -> bool
     }
 }
 
-// Whether a point is after one and before another.
-fn is_between(after: &Point, point: &Point, before: &Point) -> bool
-    ensures { result ≡ (precedes after.now point.now && precedes point.now before.now) }
+// Whether a point lies on the segment after its lower end. The order of points is looked at first.
+fn is_later(whole: &Span, point: &Point) -> bool
+    ensures { result ≡ (precedes whole.now.lower point.now && (not (precedes whole.now.upper point.now) && is_on whole.now.line point.now)) }
 {
-    after < point && point < before
+    whole.lower() < *point && !(whole.upper() < *point) && is_on_line(whole, point)
 }
 
-// The vertex, where it is on the segment after a point and before the best meeting point so far; else this one.
-fn nearer_vertex(
+// Adds the vertex, where it lies on the segment after its lower end.
+fn add_vertex(
+    found: &mut BTreeMap<Point, Spot>,
     records: &Records,
     whole: &Span,
-    here: &Point,
-    best: Meeting,
     vertex: VertexId,
-) -> Meeting
+) -> Result<(), NoMemory>
     requires sound { IsGraphSound records.now.graph }
     requires whole { IsWhole whole.now }
-    requires on { is_on_segment (ends_of whole.now) here.now ≡ true }
-    requires best { IsLaterMeeting records.now.graph (ends_of whole.now) here.now best }
     requires vertex { HasVertex records.now.graph vertex }
-    ensures nearer { IsNearer records.now.graph (ends_of whole.now) here.now best result }
-    ensures vertex { IsNoVertexBetween records.now.graph (ends_of whole.now) here.now result.point vertex }
+    requires found { AreFound records.now.graph (ends_of whole.now) found.old.entries }
+    ensures found { OnOk result (AreFound records.now.graph (ends_of whole.now) found.new.entries) }
+    ensures kept { OnOk result (AreKept found.old.entries found.new.entries) }
+    ensures vertex { OnOk result (TakesVertex records.now.graph (ends_of whole.now) found.new.entries vertex) }
 {
     let point = records.point(vertex);
-    if is_on_line(whole, &point) && is_between(here, &point, &best.point) {
-        Meeting {
-            point,
-            spot: Spot::Vertex(vertex),
-        }
-    } else {
-        best
+    if is_later(whole, &point) {
+        found.insert(point, Spot::Vertex(vertex))?;
     }
+    Ok(())
 }
 
-// The first of the vertices on the segment after a point, or the end where this comes first.
-fn first_vertex(records: &Records, whole: &Span, here: &Point, end: Meeting) -> Meeting
-    requires sound { IsGraphSound records.now.graph }
-    requires whole { IsWhole whole.now }
-    requires on { is_on_segment (ends_of whole.now) here.now ≡ true }
-    requires end { IsLaterMeeting records.now.graph (ends_of whole.now) here.now end }
-    ensures nearer { IsNearer records.now.graph (ends_of whole.now) here.now end result }
-    ensures vertices { AreNoVerticesBetween records.now.graph (ends_of whole.now) here.now result.point }
-{
-    let mut best = end;
-    let mut last = None;
-    while let Some(vertex) = records.vertex_after(last) {
-        best = nearer_vertex(records, whole, here, best, vertex);
-        last = Some(vertex);
-    }
-    best
-}
-
-// The one common point of two spans, where it is inside the second one.
-fn inner_meeting(whole: &Span, span: &Span) -> Option<Point>
-    ensures { MatchOption result (IsNoInnerMeeting whole.now span.now) (IsInnerMeeting whole.now span.now) }
-{
-    match span_meeting(whole, span) {
-        Meet::At(point) => {
-            if has_inside(span, &point) {
-                Some(point)
-            } else {
-                None
-            }
-        }
-        Meet::Apart | Meet::Along(_, _) => None,
-    }
-}
-
-// The point where the segment passes through the inside of an edge of another line, told by the edge's forward dart.
-fn crossing_inside(records: &Records, whole: &Span, dart: DartId) -> Option<Point>
-    requires sound { IsGraphSound records.now.graph }
-    requires whole { IsWhole whole.now }
-    requires dart { HasDart records.now.graph dart }
-    ensures { IsPassOfForward records.now.graph (ends_of whole.now) dart result }
-{
-    let span = span_of(records, dart)?;
-    // A look at it tells that it is a span.
-    let _ = span.lower();
-    inner_meeting(whole, &span)
-}
-
-// The point where the segment passes through an edge, where it is after a point and before the best meeting point so far;
-// else this one.
-fn nearer_crossing(
+// Adds the vertices on the segment after its lower end.
+fn add_vertices(
+    found: &mut BTreeMap<Point, Spot>,
     records: &Records,
     whole: &Span,
-    here: &Point,
-    best: Meeting,
-    dart: DartId,
-) -> Meeting
+) -> Result<(), NoMemory>
     requires sound { IsGraphSound records.now.graph }
     requires whole { IsWhole whole.now }
-    requires best { IsLaterMeeting records.now.graph (ends_of whole.now) here.now best }
-    requires dart { HasDart records.now.graph dart }
-    ensures nearer { IsNearer records.now.graph (ends_of whole.now) here.now best result }
-    ensures edge { TellsNoPassBetween records.now.graph (ends_of whole.now) here.now result.point dart }
+    requires found { AreFound records.now.graph (ends_of whole.now) found.old.entries }
+    ensures found { OnOk result (AreFound records.now.graph (ends_of whole.now) found.new.entries) }
+    ensures vertices { OnOk result (HasVertices records.now.graph (ends_of whole.now) found.new.entries) }
 {
-    match crossing_inside(records, whole, dart) {
-        Some(point) => {
-            if is_between(here, &point, &best.point) {
-                Meeting {
-                    point,
-                    spot: Spot::Edge(dart),
-                }
-            } else {
-                best
-            }
-        }
-        None => best,
+    let mut last = None;
+    while let Some(vertex) = records.vertex_after(last) {
+        add_vertex(found, records, whole, vertex)?;
+        last = Some(vertex);
     }
+    Ok(())
 }
 
-// The first point after a point where the segment passes through an edge, or the best meeting point so far where this
-// comes first.
-fn first_crossing(records: &Records, whole: &Span, here: &Point, so_far: Meeting) -> Meeting
+// Adds the meeting point inside the edge of a forward dart, where there is one after the segment's lower end.
+fn add_inner_point(
+    found: &mut BTreeMap<Point, Spot>,
+    records: &Records,
+    whole: &Span,
+    dart: DartId,
+) -> Result<(), NoMemory>
     requires sound { IsGraphSound records.now.graph }
     requires whole { IsWhole whole.now }
-    requires so_far { IsLaterMeeting records.now.graph (ends_of whole.now) here.now so_far }
-    ensures nearer { IsNearer records.now.graph (ends_of whole.now) here.now so_far result }
-    ensures edges { AreNoPassesBetween records.now.graph (ends_of whole.now) here.now result.point }
+    requires dart { HasDart records.now.graph dart }
+    requires found { AreFound records.now.graph (ends_of whole.now) found.old.entries }
+    ensures found { OnOk result (AreFound records.now.graph (ends_of whole.now) found.new.entries) }
+    ensures kept { OnOk result (AreKept found.old.entries found.new.entries) }
+    ensures inner { OnOk result (TakesDart records.now.graph (ends_of whole.now) found.new.entries dart) }
 {
-    let mut best = so_far;
+    if let Some(point) = inner_point(records, whole, dart) {
+        found.insert(point, Spot::Edge(dart))?;
+    }
+    Ok(())
+}
+
+// Adds the meeting points inside edges after the segment's lower end.
+fn add_inner_points(
+    found: &mut BTreeMap<Point, Spot>,
+    records: &Records,
+    whole: &Span,
+) -> Result<(), NoMemory>
+    requires sound { IsGraphSound records.now.graph }
+    requires whole { IsWhole whole.now }
+    requires found { AreFound records.now.graph (ends_of whole.now) found.old.entries }
+    ensures found { OnOk result (AreFound records.now.graph (ends_of whole.now) found.new.entries) }
+    ensures kept { OnOk result (AreKept found.old.entries found.new.entries) }
+    ensures inner { OnOk result (HasInnerPoints records.now.graph (ends_of whole.now) found.new.entries) }
+{
     let mut last = None;
     while let Some(dart) = records.dart_after(last) {
-        best = nearer_crossing(records, whole, here, best, dart);
+        add_inner_point(found, records, whole, dart)?;
         last = Some(dart);
     }
-    best
+    Ok(())
 }
 
-/// The first meeting point after one, where no edge runs along the segment from there: the least over all vertices and
-/// edges. `end` is the upper end with its spot.
-pub(crate) fn next_in_face(
+// Adds the segment's upper end, which lies in a face where it isn't there yet.
+fn add_upper(
+    found: &mut BTreeMap<Point, Spot>,
+    records: &Records,
+    whole: &Span,
+) -> Result<(), NoMemory>
+    requires sound { IsGraphSound records.now.graph }
+    requires whole { IsWhole whole.now }
+    requires found { AreFound records.now.graph (ends_of whole.now) found.old.entries }
+    requires vertices { HasVertices records.now.graph (ends_of whole.now) found.old.entries }
+    requires inner { HasInnerPoints records.now.graph (ends_of whole.now) found.old.entries }
+    ensures found { OnOk result (AreFound records.now.graph (ends_of whole.now) found.new.entries) }
+    ensures kept { OnOk result (AreKept found.old.entries found.new.entries) }
+    ensures upper { OnOk result (Member whole.now.upper (keys_of found.new.entries)) }
+{
+    let upper = whole.upper();
+    if !found.contains_key(&upper) {
+        found.insert(upper, Spot::Face)?;
+    }
+    Ok(())
+}
+
+/// The meeting points after a segment's lower end, in order, each with its spot.
+///
+/// # Errors
+///
+/// There was no memory for them.
+pub(crate) fn later_meetings(
+    alloc: Global,
     records: &Records,
     segment: &Segment,
-    end: Meeting,
-    here: &Point,
-) -> Meeting
-    requires sound { IsGraphSound records.now.graph }
-    requires end { end.point ≡ segment.now.upper }
-    requires end_spot { IsSpotOf records.now.graph end.point end.spot }
-    requires on { is_on_segment segment.now here.now ≡ true }
-    requires before { precedes here.now segment.now.upper ≡ true }
-    ensures next { IsNextMeeting records.now.graph segment.now here.now result.point }
-    ensures spot { IsSpotOf records.now.graph result.point result.spot }
+) -> Result<BTreeMap<Point, Spot>, NoMemory>
+    requires { IsGraphSound records.now.graph }
+    ensures { IfOk result (λ found. AreLaterMeetings records.now.graph segment.now found.entries) }
 {
     let whole = whole(segment);
-    let vertex = first_vertex(records, &whole, here, end);
-    first_crossing(records, &whole, here, vertex)
+    let mut found = BTreeMap::new(alloc);
+    add_vertices(&mut found, records, &whole)?;
+    add_inner_points(&mut found, records, &whole)?;
+    add_upper(&mut found, records, &whole)?;
+    // Its length tells that its keys ascend.
+    let _count = found.len();
+    Ok(found)
 }

@@ -1,4 +1,5 @@
 use Rattle.curve_history.specs.HistoryInMemory.{entry}
+use Rattle.curve_history.proofs.Placing.{ordered_less}
 use Rattle.curve_history.proofs.Reading.{node_of}
 use Rattle.curve_history.proofs.Twins.{IsNodeLess, node_less, pair_less, pairs_less, less_at}
 use Rattle.curve_history.proofs.pairs.release_pair.Goals as goal
@@ -14,6 +15,9 @@ of_curve c = node_less _ _ _ _ (c.requires.pairs.forth.twin _ _ _ _ c.entry-twin
 
 pub returns-clause-pairs : goal.returns-clause-pairs
 returns-clause-pairs c = pairs_less _ _ _ _ _ _ _ _ (of_edge c) (of_curve c) c.requires.pairs
+
+pub returns-clause-ordered : goal.returns-clause-ordered
+returns-clause-ordered c = ordered_less _ _ _ _ (of_edge c) c.remove.ensures.chains c.requires.ordered
 
 pub returns-clause-less : goal.returns-clause-less
 returns-clause-less c = λ k i t h. less_at _ _ _ _ _ _ _ _ _ c.entry-twin.ensures h (pair_less _ _ _ _ _ _ (of_edge c) c.requires.pairs.once c.remove.ensures.chains (λ k h. (c.remove.ensures.keys k).1 h))

@@ -6,7 +6,7 @@ use Rattle.curve_history.proofs.Emptying.{empty, first_node, first_is, empty_on,
 use Rattle.curve_history.proofs.walks.release_each.Goals as goal
 
 pub each-init : goal.each-init
-each-init c = record { pairs = c.requires.pairs; less = empty _ _; named = same_keys _; capacity = refl; room = omega arith }
+each-init c = record { pairs = c.requires.pairs; ordered = c.requires.ordered; less = empty _ _; named = same_keys _; capacity = refl; room = omega arith }
 
 pub release_pair-requires-clause-has : goal.release_pair-requires-clause-has
 release_pair-requires-clause-has c = first_node _ _ _ _ (c.laws.ensures.whole _) c.first.ensures c.in-Some.is
@@ -20,6 +20,7 @@ each-smaller c = fewer c.each.edges c.release_pair.new.edges c.args.edge c.first
 pub each-preserved : goal.each-preserved
 each-preserved c = record {
   pairs = c.release_pair.ensures.pairs;
+  ordered = c.release_pair.ensures.ordered;
   less = empty_on _ _ _ _ _ _ c.each.invariant.less (less c);
   named = keys_on _ _ _ c.each.invariant.named c.release_pair.ensures.named;
   capacity = c.release_pair.ensures.capacity ∙ c.each.invariant.capacity;

@@ -1,12 +1,13 @@
 use Rattle.std.proofs.Common.{◌≡◌, ◌≤◌, length}
 use Rattle.curve_history.specs.Changed.{AreSameKeys, IsEmptied}
 use Rattle.linked_chains.specs.Chains.{chain}
-use Rattle.curve_history.specs.HistoryInMemory.{ArePairs, pair_room}
+use Rattle.curve_history.specs.HistoryInMemory.{AreOrdered, ArePairs, pair_room}
 use Rattle.curve_history.proofs.walks.release_each.Given as goal
 
 abbrev pub invariant-each : goal.invariant-each
 invariant-each l = record {
   pairs : ArePairs l.edges l.curves;
+  ordered : AreOrdered l.edges;
   less : IsEmptied l.fn.edges l.edges l.edge;
   named : AreSameKeys l.fn.curves l.curves;
   capacity : l.edges.capacity_of_nodes ≡ l.fn.edges.capacity_of_nodes;

@@ -1,6 +1,5 @@
-use Rattle.std.proofs.Common.{None, arith, inl, inr}
+use Rattle.std.proofs.Common.{arith, inl, inr}
 use Rattle.std.proofs.lemmas.Bool.{cases_lt}
-use Rattle.std.proofs.lemmas.List.{get_or_past}
 use Rattle.dcel_records.proofs.After.{key_found, key_none}
 use Rattle.dcel_records.proofs.keys.key_after.Goals as goal
 
@@ -11,7 +10,7 @@ returns-then-contains g c =
 
 pub returns : goal.returns
 returns g c =
-    key_none c.args.slab.now c.args.key (λ n a. elim (cases_lt n c.capacity-limit.result) [
+    key_none c.args.slab.now c.args.key (λ n a. elim (cases_lt n c.args.limit) [
       | inl l ↦ c.loop-k.invariant n ((c.first_after-first.ensures n l).0 a) (let t = c.loop-k-test.false in omega arith)
-      | inr m ↦ get_or_past c.args.slab.now.slots n None (let s = c.capacity-limit.ensures.slots in omega arith)
+      | inr m ↦ c.requires n m
     ])

@@ -1,35 +1,62 @@
-use Rattle.std.proofs.Common.{◌≡◌, true, false, sym, ap, ◌∙◌}
+use Rattle.std.proofs.Common.{◌≡◌, true, false, sym, ap, ◌∙◌, subst}
 use Rattle.std.specs.Prelude.{[], ◌∷◌, ◌++◌, List}
-use Rattle.plane_graphs.specs.Line.{precedes}
-use Rattle.plane_graphs.proofs.Order.{lt_out}
+use Rattle.exact_plane.specs.Line.{Line, IsOn}
+use Rattle.plane_graphs.specs.Line.{precedes, IsProperLine}
 use Rattle.zone_walk.specs.declared.plan.Meeting.{Meeting}
 use Rattle.zone_walk.proofs.Courses.{course}
-use Rattle.zone_walk.proofs.Walked.{starts, continues, zone_done, measure_falls}
+use Rattle.zone_walk.proofs.Stretches.{told, meets_lies, meets_proper, stretch_to}
+use Rattle.zone_walk.specs.Walk.{IsSpotAhead}
+use Rattle.zone_walk.proofs.Walked.{starts, continues, zone_done, left_next, left_spot, still_left, fewer_left, before_upper, past_upper, begins_left, no_entries}
 use Rattle.zone_walk.proofs.walk.zone.Goals as goal
 
 pub walk-init : goal.walk-init
 walk-init c =
-    let g = c.args.segment.now in
-    starts c.args.records.now.graph c.requires.sound g (course g c.lower-point.ensures.ends) c.args.start c.requires.start c.lower.result c.lower-point.result c.lower.ensures.value c.lower-point.ensures.value
-    c.push.new.self c.new-2.result c.new-3.result (c.in_ok-push.ensures.added ∙ ap (λ (ms : List Meeting). ms ++ (record { point = c.lower.result; spot = c.args.start } ∷ [])) c.new.ensures) c.new-2.ensures c.new-3.ensures
+    let v = c.args.records.now.graph in
+    let g = c.args.segment.now in (
+      starts v c.requires.sound g (course g c.lower.ensures.ends) c.args.start c.requires.start c.lower.result c.lower.result c.lower.ensures.value c.lower.ensures.value
+          c.push.new.self c.new-2.result c.new-3.result (c.in_ok-push.ensures.added ∙ ap (λ (ms : List Meeting). ms ++ (record { point = c.lower.result; spot = c.args.start } ∷ [])) c.new.ensures) c.new-2.ensures c.new-3.ensures,
+      begins_left v c.requires.sound g (course g c.lower.ensures.ends) c.lower.result c.lower.ensures.value c.in_ok-later.later.entries c.in_ok-later.ensures,
+    )
 
-pub walk-smaller : goal.walk-smaller
-walk-smaller c =
+pub spot_ahead-part-requires-clause-proper : goal.spot_ahead-part-requires-clause-proper
+spot_ahead-part-requires-clause-proper c =
+    let v = c.args.records.now.graph in
     let g = c.args.segment.now in
-    measure_falls c.args.records.now.graph c.requires.sound g (course g c.lower-point.ensures.ends) c.walk.point c.stretch_from-stretch.result.next.point c.stretch_from-stretch.ensures.stretch.next
+    let k = course g c.lower.ensures.ends in
+    meets_proper v c.requires.sound g k c.walk.here.point (told v c.requires.sound g k c.walk.here.point c.walk.invariant.0.meets)
+
+pub spot_ahead-part-requires-clause-on : goal.spot_ahead-part-requires-clause-on
+spot_ahead-part-requires-clause-on c =
+    let v = c.args.records.now.graph in
+    let g = c.args.segment.now in
+    let k = course g c.lower.ensures.ends in
+    subst (λ (l : Line). IsOn l c.walk.here.point) (sym c.line_of-line.ensures.value) (meets_lies v c.requires.sound g k c.walk.here.point (told v c.requires.sound g k c.walk.here.point c.walk.invariant.0.meets)).on
 
 pub walk-preserved : goal.walk-preserved
 walk-preserved c =
+    let v = c.args.records.now.graph in
+    let s = c.requires.sound in
     let g = c.args.segment.now in
-    let before : precedes c.walk.point g.upper ≡ true = ap (precedes c.walk.point) (sym c.upper-upper.ensures) ∙ sym c.lt.ensures ∙ c.walk-test.true in
-    continues c.args.records.now.graph c.requires.sound g (course g c.lower-point.ensures.ends) c.walk.plan.vertices c.walk.plan.between c.walk.plan.overlapped c.walk.point c.walk.spot c.walk.invariant
-    (lt_out c.walk.point g.upper before) c.stretch_from-stretch.result.spot c.stretch_from-stretch.result.next c.stretch_from-stretch.ensures.stretch c.stretch_from-stretch.ensures.spot
-    c.extend.new.plan.vertices c.extend.new.plan.between c.extend.new.plan.overlapped c.in_ok-extend.ensures.vertices c.in_ok-extend.ensures.between c.in_ok-extend.ensures.overlapped
+    let k = course g c.lower.ensures.ends in
+    let p = c.walk.here.point in
+    let next : Meeting = record { point = c.in-Some.next.0; spot = c.in-Some.next.1 } in
+    let left = c.walk.invariant.1 in
+    let n = left_next v s g k p next c.walk.later.entries c.pop_first.new.self.entries c.in-Some.ensures.removal left in
+    let before = before_upper v s g k p next.point n in
+    let lies = meets_lies v s g k p (told v s g k p c.walk.invariant.0.meets) in
+    let ahead = subst (λ (l : Line). IsSpotAhead v l p c.spot_ahead-part.result) c.line_of-line.ensures.value c.spot_ahead-part.ensures in (
+      continues v s g k c.walk.plan.vertices c.walk.plan.between c.walk.plan.overlapped p c.walk.here.spot c.walk.invariant.0
+          before c.spot_ahead-part.result next (stretch_to v s g k p lies before c.spot_ahead-part.result ahead next.point n) (left_spot v s g k p next c.walk.later.entries c.pop_first.new.self.entries c.in-Some.ensures.removal left)
+          c.extend.new.plan.vertices c.extend.new.plan.between c.extend.new.plan.overlapped c.in_ok-extend.ensures.vertices c.in_ok-extend.ensures.between c.in_ok-extend.ensures.overlapped,
+      still_left v s g k p next c.walk.later.entries c.pop_first.new.self.entries c.in-Some.ensures.removal left,
+    )
 
 pub returns : goal.returns
 returns c =
+    let v = c.args.records.now.graph in
+    let s = c.requires.sound in
     let g = c.args.segment.now in
-    let past : precedes c.walk.point g.upper ≡ false = ap (precedes c.walk.point) (sym c.upper-upper.ensures) ∙ sym c.lt.ensures ∙ c.walk-test.false in
-    zone_done c.args.records.now.graph c.requires.sound g (course g c.lower-point.ensures.ends)
+    let k = course g c.lower.ensures.ends in
+    zone_done v s g k
     (record { vertices = c.walk.plan.vertices; between = c.walk.plan.between; overlapped = c.walk.plan.overlapped; room = c.room_for-plan.result })
-    c.walk.point c.walk.spot c.walk.invariant past c.room_for-plan.ensures.vertices c.room_for-plan.ensures.edges
+    c.walk.here.point c.walk.here.spot c.walk.invariant.0 (past_upper v s g k c.walk.here.point c.walk.later.entries c.walk.invariant.1 (no_entries c.pop_first.result c.walk.later.entries c.in_default.is c.pop_first.ensures.variant)) c.room_for-plan.ensures.vertices c.room_for-plan.ensures.edges

@@ -3,7 +3,7 @@ use Rattle.curve_history.proofs.Histories.{sees, none_held, kept_on, layer_on, f
 use Rattle.curve_history.proofs.history.History.part.Goals as goal
 
 pub invariant_of-self : goal.invariant_of-self
-invariant_of-self c = kept_on _ _ _ _ _ _ c.self.invariant c.copy_pairs.ensures.pairs (filled_copied _ _ _ _ c.copy_pairs.ensures.copied (none_held _ _ (sees c.self.inside _ c.self.view_is) c.args.n c.requires.new) c.self.invariant.filled) c.copy_pairs.ensures.named
+invariant_of-self c = kept_on _ _ _ _ _ _ c.self.invariant c.copy_pairs.ensures.pairs (filled_copied _ _ _ _ c.copy_pairs.ensures.copied (none_held _ _ (sees c.self.inside _ c.self.view_is) c.args.n c.requires.new) c.self.invariant.filled) c.copy_pairs.ensures.ordered c.copy_pairs.ensures.named
 
 pub copy_pairs-requires-clause-new : goal.copy_pairs-requires-clause-new
 copy_pairs-requires-clause-new c = none_held _ _ (sees c.self.inside _ c.self.view_is) c.args.n c.requires.new
@@ -15,7 +15,7 @@ pub returns-clause-layer : goal.returns-clause-layer
 returns-clause-layer c = layer_on _ _ (sees c.self.inside _ c.self.view_is) _ _ c.copy_pairs.ensures.named refl refl refl
 
 pub copy_pairs-requires-clause-room : goal.copy_pairs-requires-clause-room
-copy_pairs-requires-clause-room c = room_in _ _ (sees c.self.inside _ c.self.view_is) c.self.invariant.pairs c.args.d (c.laws.ensures.whole _) c.requires.room
+copy_pairs-requires-clause-room c = room_in _ _ (sees c.self.inside _ c.self.view_is) c.self.invariant.ordered c.args.d (c.laws.ensures.whole _) c.requires.room
 
 pub returns-clause-spare : goal.returns-clause-spare
-returns-clause-spare c = spare_on _ _ (sees c.self.inside _ c.self.view_is) _ _ c.copy_pairs.ensures.named refl refl (room_after _ _ (sees c.self.inside _ c.self.view_is) c.self.invariant.pairs c.args.d (c.laws.ensures.whole _) _ c.copy_pairs.ensures.room)
+returns-clause-spare c = spare_on _ _ (sees c.self.inside _ c.self.view_is) _ _ c.copy_pairs.ensures.named refl refl (room_after _ _ (sees c.self.inside _ c.self.view_is) c.self.invariant.ordered c.args.d (c.laws.ensures.whole _) _ c.copy_pairs.ensures.room)

@@ -8,4 +8,4 @@ pub returns-clause-line : goal.returns-clause-line
 returns-clause-line c = line_is c.self.inside.vertices c.self.inside.darts _ c.self.view_is c.args.d _ c.index.ensures
 
 pub returns-clause-twins : goal.returns-clause-twins
-returns-clause-twins c = (twinned c.self.inside.vertices c.self.inside.darts _ c.self.view_is c.self.invariant).line c.args.d c.requires
+returns-clause-twins c = (twinned c.self.inside.vertices c.self.inside.darts _ c.self.view_is c.self.invariant.rows).line c.args.d c.requires

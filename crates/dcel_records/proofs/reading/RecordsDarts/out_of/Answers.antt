@@ -9,7 +9,7 @@ pub index-requires : goal.index-requires
 index-requires c = vertex_key c.self.inside.vertices c.self.inside.darts _ c.self.view_is c.args.v c.requires
 
 pub returns-clause-some : goal.returns-clause-some
-returns-clause-some c = out_some c.args.self.now.graph c.args.v _ (subst (λ o. IsOut c.args.self.now.graph c.args.v o) (ap out_or c.index.ensures) (outs c.self.inside.vertices c.self.inside.darts _ c.self.view_is c.self.invariant c.args.v))
+returns-clause-some c = out_some c.args.self.now.graph c.args.v _ (subst (λ o. IsOut c.args.self.now.graph c.args.v o) (ap out_or c.index.ensures) (outs c.self.inside.vertices c.self.inside.darts _ c.self.view_is c.self.invariant.rows c.args.v))
 
 pub returns-clause-none : goal.returns-clause-none
-returns-clause-none c = out_none c.args.self.now.graph c.args.v _ (subst (λ o. IsOut c.args.self.now.graph c.args.v o) (ap out_or c.index.ensures) (outs c.self.inside.vertices c.self.inside.darts _ c.self.view_is c.self.invariant c.args.v))
+returns-clause-none c = out_none c.args.self.now.graph c.args.v _ (subst (λ o. IsOut c.args.self.now.graph c.args.v o) (ap out_or c.index.ensures) (outs c.self.inside.vertices c.self.inside.darts _ c.self.view_is c.self.invariant.rows c.args.v))

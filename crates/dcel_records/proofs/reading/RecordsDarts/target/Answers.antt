@@ -5,7 +5,7 @@ pub index-requires : goal.index-requires
 index-requires c = dart_key c.self.inside.vertices c.self.inside.darts _ c.self.view_is c.args.d c.requires
 
 pub index-requires-2 : goal.index-requires-2
-index-requires-2 c = twin_key c.self.inside.vertices c.self.inside.darts _ c.self.view_is c.self.invariant c.args.d _ c.requires c.index.ensures
+index-requires-2 c = twin_key c.self.inside.vertices c.self.inside.darts _ c.self.view_is c.self.invariant.rows c.args.d _ c.requires c.index.ensures
 
 pub returns : goal.returns
 returns c = target_is c.self.inside.vertices c.self.inside.darts _ c.self.view_is c.args.d _ _ c.index.ensures c.index-2.ensures

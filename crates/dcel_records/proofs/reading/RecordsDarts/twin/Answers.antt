@@ -11,10 +11,10 @@ pub returns-clause-twin : goal.returns-clause-twin
 returns-clause-twin c = twin_is c.self.inside.vertices c.self.inside.darts _ c.self.view_is c.args.d _ c.index.ensures
 
 pub returns-clause-has : goal.returns-clause-has
-returns-clause-has c = subst (λ (x : DartId). HasDart c.args.self.now.graph x) (sym (twin_is c.self.inside.vertices c.self.inside.darts _ c.self.view_is c.args.d _ c.index.ensures)) ((twinned c.self.inside.vertices c.self.inside.darts _ c.self.view_is c.self.invariant).has c.args.d c.requires)
+returns-clause-has c = subst (λ (x : DartId). HasDart c.args.self.now.graph x) (sym (twin_is c.self.inside.vertices c.self.inside.darts _ c.self.view_is c.args.d _ c.index.ensures)) ((twinned c.self.inside.vertices c.self.inside.darts _ c.self.view_is c.self.invariant.rows).has c.args.d c.requires)
 
 pub returns-clause-back : goal.returns-clause-back
-returns-clause-back c = ap (twin_in c.args.self.now.graph) (twin_is c.self.inside.vertices c.self.inside.darts _ c.self.view_is c.args.d _ c.index.ensures) ∙ (twinned c.self.inside.vertices c.self.inside.darts _ c.self.view_is c.self.invariant).back c.args.d c.requires
+returns-clause-back c = ap (twin_in c.args.self.now.graph) (twin_is c.self.inside.vertices c.self.inside.darts _ c.self.view_is c.args.d _ c.index.ensures) ∙ (twinned c.self.inside.vertices c.self.inside.darts _ c.self.view_is c.self.invariant.rows).back c.args.d c.requires
 
 pub returns-clause-other : goal.returns-clause-other
-returns-clause-other c e = (twinned c.self.inside.vertices c.self.inside.darts _ c.self.view_is c.self.invariant).other c.args.d c.requires (sym (twin_is c.self.inside.vertices c.self.inside.darts _ c.self.view_is c.args.d _ c.index.ensures) ∙ e)
+returns-clause-other c e = (twinned c.self.inside.vertices c.self.inside.darts _ c.self.view_is c.self.invariant.rows).other c.args.d c.requires (sym (twin_is c.self.inside.vertices c.self.inside.darts _ c.self.view_is c.args.d _ c.index.ensures) ∙ e)

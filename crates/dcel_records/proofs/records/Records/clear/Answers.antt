@@ -1,10 +1,10 @@
 use Rattle.std.proofs.Common.{◌≤◌, subst}
 use Rattle.slab.specs.Slab.{slab_len}
-use Rattle.dcel_records.proofs.Whole.{graph_empty, kept_empty, vertices_spare, darts_spare}
+use Rattle.dcel_records.proofs.Whole.{graph_empty, records_empty, vertices_spare, darts_spare}
 use Rattle.dcel_records.proofs.records.Records.clear.Goals as goal
 
 pub invariant_of-self : goal.invariant_of-self
-invariant_of-self c = kept_empty _ _ c.clear.ensures.empty c.clear-2.ensures.empty
+invariant_of-self c = records_empty _ _ c.clear.ensures.empty c.clear-2.ensures.empty
 
 pub returns-clause-graph : goal.returns-clause-graph
 returns-clause-graph c = graph_empty _ _ c.clear.ensures.empty c.clear-2.ensures.empty

@@ -7,7 +7,7 @@ pub returns-clause-named : goal.returns-clause-named
 returns-clause-named c = record { vertices = vertex_names c.self.inside.vertices c.self.inside.darts _ c.self.view_is; darts = dart_names c.self.inside.vertices c.self.inside.darts _ c.self.view_is }
 
 pub returns-clause-twinned : goal.returns-clause-twinned
-returns-clause-twinned c = twinned c.self.inside.vertices c.self.inside.darts _ c.self.view_is c.self.invariant
+returns-clause-twinned c = twinned c.self.inside.vertices c.self.inside.darts _ c.self.view_is c.self.invariant.rows
 
 pub returns-clause-sources : goal.returns-clause-sources
-returns-clause-sources c = λ d o. vertex_has c.self.inside.vertices c.self.inside.darts _ c.self.view_is (source_in c.args.self.now.graph d) (out_key c.self.inside.vertices c.self.inside.darts _ c.self.view_is c.self.invariant (source_in c.args.self.now.graph d) d (o, refl))
+returns-clause-sources c = λ d o. vertex_has c.self.inside.vertices c.self.inside.darts _ c.self.view_is (source_in c.args.self.now.graph d) (out_key c.self.inside.vertices c.self.inside.darts _ c.self.view_is c.self.invariant.rows (source_in c.args.self.now.graph d) d (o, refl))

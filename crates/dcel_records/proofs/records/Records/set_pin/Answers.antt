@@ -1,13 +1,31 @@
-use Rattle.std.proofs.Common.{true}
+use Rattle.std.proofs.Common.{true, arith}
+use Rattle.slab.specs.Slab.{with_value}
 use Rattle.dcel_records.proofs.Holding.{vertex_key}
-use Rattle.dcel_records.proofs.Writing.{pin_graph, pin_kept}
+use Rattle.dcel_records.proofs.Writing.{row_pinned, pin_same, pin_graph, pin_kept}
+use Rattle.dcel_records.proofs.Pins.{pin_more, pins_fit}
 use Rattle.dcel_records.proofs.records.Records.set_pin.Goals as goal
+
+pub index-requires : goal.index-requires
+index-requires c = vertex_key c.self.inside.vertices c.self.inside.darts _ c.self.view_is c.args.v c.requires
+
+pub returns-then-index-clause-graph : goal.returns-then-index-clause-graph
+returns-then-index-clause-graph c = pin_same c.self.inside.vertices c.self.inside.darts _ c.self.view_is c.args.v true _ c.index.ensures c.if-index.true
 
 pub index_mut-requires : goal.index_mut-requires
 index_mut-requires c = vertex_key c.self.inside.vertices c.self.inside.darts _ c.self.view_is c.args.v c.requires
 
+pub overflow_add-self : goal.overflow_add-self
+overflow_add-self c =
+    let k = c.self.invariant.counted in
+    let m = pin_more c.self.inside.vertices c.args.v.0 _ _ c.index.ensures c.index_mut.ensures.value c.if-index.false in
+    let f = pins_fit (with_value c.self.inside.vertices c.args.v.0 (row_pinned true c.index_mut.result.now)) in
+    omega arith
+
 pub invariant_of-self : goal.invariant_of-self
-invariant_of-self c = pin_kept c.self.inside.vertices c.self.inside.darts _ c.self.view_is c.self.invariant c.args.v true _ c.index_mut.ensures.value
+invariant_of-self c = record {
+  rows = pin_kept c.self.inside.vertices c.self.inside.darts _ c.self.view_is c.self.invariant.rows c.args.v true _ c.index_mut.ensures.value;
+  counted = let k = c.self.invariant.counted in let m = pin_more c.self.inside.vertices c.args.v.0 _ _ c.index.ensures c.index_mut.ensures.value c.if-index.false in omega arith;
+}
 
 pub returns-clause-graph : goal.returns-clause-graph
 returns-clause-graph c = pin_graph c.self.inside.vertices c.self.inside.darts _ c.self.view_is c.args.v true _ c.index_mut.ensures.value
