@@ -1,4 +1,4 @@
--- What is read after two darts more or fewer, and that names stay in order.
+-- What is read after two more darts, or two fewer, and that names stay in order.
 use Rattle.std.proofs.Common.{◌≡◌, ◌≢◌, Bool, true, false, ◌==◌, cond, Option, None, refl, ap, ◌∙◌}
 use Rattle.slab_laws.specs.declared.names.DartId.{DartId}
 use Rattle.slab_laws.specs.Sound.{IsNamed}

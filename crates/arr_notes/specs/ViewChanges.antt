@@ -40,7 +40,7 @@ without_vertex v w = record { vertices = del w.0 v.vertices; darts = v.darts }
 abbrev pub with_pin : View → VertexId → Bool → View
 with_pin v w b = record { vertices = edit w.0 (pinned_as b) v.vertices; darts = v.darts }
 
--- two darts more, with these rows (de Berg and others, doubly-connected edge list)
+-- two more darts, with these rows (de Berg and others, doubly-connected edge list)
 abbrev pub with_pair : View → DartId → DartId → DartRecord → DartRecord → View
 with_pair v d m r s = record { vertices = v.vertices; darts = put m.0 s (put d.0 r v.darts) }
 

@@ -60,7 +60,7 @@ pub enum Change {
     SetPin {
         v: VertexId,
     },
-    /// The vertex isn't pinned any more.
+    /// The vertex is no longer pinned.
     ClearPin {
         v: VertexId,
     },

@@ -22,7 +22,7 @@ pub enum Intent {
     RemoveCurve(Point, Point, CurveId),
     /// The vertex at the point is pinned.
     SetPin(Point),
-    /// The vertex at the point isn't pinned any more.
+    /// The vertex at the point is no longer pinned.
     ClearPin(Point),
     /// Everything goes.
     Clear,

@@ -1,4 +1,4 @@
--- The parts of a text, one behind the other.
+-- The parts of a text, one after the other.
 use Rattle.std.proofs.Common.{◌≡◌, ℕ, ◌+◌, ◌/◌, List, [], ◌∷◌, ◌++◌, map, length, Result, refl, sym, ap, ◌∙◌, append_assoc, arith}
 use Rattle.std.specs.Prelude.{OnOk, codes, flat_map, zip}
 use Rattle.std.specs.List.{AllByRecursion}

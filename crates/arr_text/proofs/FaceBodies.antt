@@ -10,7 +10,7 @@ use Rattle.slab_laws.specs.Text.{numbered}
 one_on : (i : ℕ) → suc i ≡ i + 1
 one_on i = omega arith
 
--- what is put behind nothing
+-- what is appended to nothing
 pub behind_nothing : {T E : Type 0} (r : Result T E) (x z c : List ℕ) → x ≡ [] → OnOk r (z ≡ x ++ c) → OnOk r (z ≡ c)
 behind_nothing (Ok t) x z c e h = h ∙ ap (λ (s : List ℕ). s ++ c) e
 behind_nothing (Err t) x z c e h = h
@@ -95,7 +95,7 @@ filtered_between {X} {Z} {Y} take make line p q b (x ∷ xs) e = step (p (take x
     step false d j r = r
 
 -- ---- one body for each face
--- the bodies by rank, each behind its head
+-- the bodies by rank, each after its head
 pub numbered_bodies : {F : Type 0} (head : ℕ → List ℕ) (lines : ℕ × F → List ℕ) (body : F → List ℕ) (i : ℕ) (fs : List F) → ((k : ℕ) (f : F) → lines (k, f) ≡ head k ++ body f)
     → flat_map (λ b. head b.0 ++ b.1) (numbered i (map body fs)) ≡ flat_map lines (numbered i fs)
 unfolding numbered

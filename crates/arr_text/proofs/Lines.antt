@@ -49,7 +49,7 @@ pin_told v s u has = both_ways (pinned_in v u) (list_any (same_point (point_in v
         let same : u ≡ w.0 = s.drawn.points u w.0 has (ordered_vertex v s w.0 k.0) (same_point_is (point_in v u) q.0 q.2 ∙ w.2) in
         ap (pinned_in v) same ∙ k.1
 
--- the parts of a vertex's line, one behind the other
+-- the parts of a vertex's line, one after the other
 pub vertex_put : {T E : Type 0} (r : Result T E) (v : View) (ps : List Point) (p : Point) (pinned : Bool) (pins : List Point) (s a b c d z : List ℕ) → ps ≡ (skeleton_of v).vertices → pinned ≡ list_any (same_point p) pins
     → a ≡ s ++ vertex_place ps p → b ≡ a ++ cond pinned (codes " pin") [] → c ≡ b ++ codes " :" → d ≡ c ++ flat_map (λ h. number (index (skeleton_of v) (target h))) (rotation (darts (skeleton_of v)) p)
     → OnOk r (z ≡ d ++ 10 ∷ []) → OnOk r (z ≡ s ++ vertex_line (skeleton_of v) (darts (skeleton_of v)) pins p)

@@ -70,7 +70,7 @@ trail_numbers v count first =
 abbrev pub letter_of : Bool → List ℕ
 letter_of outer = cond outer (codes "o") (codes "h")
 
--- the line of a boundary cycle from one of its darts on, behind its letter (this project)
+-- the line of a boundary cycle from one of its darts on, after its letter (this project)
 abbrev pub cycle_text : View → List ℕ → DartId → List ℕ
 cycle_text v letter lead =
     let g : Skeleton = skeleton_of v in

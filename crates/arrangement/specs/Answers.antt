@@ -1,4 +1,4 @@
--- What the calls of an arrangement answer, for who knows no crate below it: the refusals that errors stand for, edits of an edge by its ends in either order, the last number of a curve, and an edge by its ends.
+-- What the calls of an arrangement answer, for a caller that knows no crate below it: the refusals that errors stand for, the errors of a question about a curve, edits of an edge by its ends in either order, and an edge by its ends.
 pub use Rattle.curve_history.specs.declared.history.HistoryError.{HistoryError}
 pub use Rattle.curve_history.specs.declared.history.HistoryError.TheVariants.{Unknown, NoMemory as NoMemoryForEdges}
 pub use Rattle.record_orders.specs.Edges.{edge_of}

@@ -84,7 +84,7 @@ impl Arrangement {
     ///
     /// # Errors
     ///
-    /// One curve or one more piece would pass its limit, the last number was drawn, or there was no memory.
+    /// One more curve or one more piece would pass its limit, the last number was drawn, or there was no memory.
     pub fn insert(&mut self, segment: Segment) -> Result<CurveId, InsertError>
         ensures number { IfOk result (λ c. c.0 ≡ self.old.past.next) }
         ensures edit { OnOk result (IsEdited self.old self.new (Insert self.old.past.next segment)) }

@@ -26,5 +26,5 @@ abbrev pub rests_of : Point → Point → List Piece → List Piece
 rests_of a b ks = flat_map (cut_piece a b) ks
 
 -- the pieces in memory are those before, and then these (this project)
-abbrev pub ArePutBehind : List PieceInMemory → List PieceInMemory → List Piece → Type 0
-ArePutBehind old new ks = map piece_of new ≡ map piece_of old ++ ks
+abbrev pub AreAppended : List PieceInMemory → List PieceInMemory → List Piece → Type 0
+AreAppended old new ks = map piece_of new ≡ map piece_of old ++ ks

@@ -5,7 +5,7 @@ ghost use Rattle.edit_steps.specs.Steps.{cut_piece};
 ghost use Rattle.plane_graphs.specs.Line.{is_on as is_on_line, precedes};
 ghost use Rattle.plane_graphs.specs.Piece.{along, on};
 ghost use Rattle.slab_laws.specs.Pieces.{piece_of};
-ghost use Rattle.curve_history.specs.Cuts.{leaves_some, reaches, rests_of, AllLeaveSome, ArePutBehind};
+ghost use Rattle.curve_history.specs.Cuts.{leaves_some, reaches, rests_of, AllLeaveSome, AreAppended};
 
 use exact_plane::{Point, Segment, Sign, orientation};
 use slab_laws::Piece;
@@ -97,10 +97,10 @@ pub(crate) fn count_all(pieces: &[Piece], p: &Point, q: &Point) -> u64
     count
 }
 
-// Puts a piece behind others, if a test says so.
+// Appends a piece to others, if a test says so.
 fn push_if(done: &mut VecDeque<Piece>, test: bool, piece: Piece)
     requires { deque_len done.old + cond test 1 0 ≤ deque_capacity done.old }
-    ensures items { ArePutBehind done.old.items done.new.items (cond test (piece_of piece ∷ []) []) }
+    ensures items { AreAppended done.old.items done.new.items (cond test (piece_of piece ∷ []) []) }
     ensures len { deque_len done.new ≡ deque_len done.old + cond test 1 0 }
     ensures capacity { deque_capacity done.new ≡ deque_capacity done.old }
 {
@@ -109,10 +109,10 @@ fn push_if(done: &mut VecDeque<Piece>, test: bool, piece: Piece)
     }
 }
 
-// Puts what is left of a piece without the part between two points behind others.
+// Appends what is left of a piece without the part between two points to others.
 fn push_rests(done: &mut VecDeque<Piece>, piece: Piece, p: &Point, q: &Point)
     requires { deque_len done.old + length (cut_piece p.now q.now (piece_of piece)) ≤ deque_capacity done.old }
-    ensures items { ArePutBehind done.old.items done.new.items (cut_piece p.now q.now (piece_of piece)) }
+    ensures items { AreAppended done.old.items done.new.items (cut_piece p.now q.now (piece_of piece)) }
     ensures capacity { deque_capacity done.new ≡ deque_capacity done.old }
 {
     if holds_both(&piece, p, q) {

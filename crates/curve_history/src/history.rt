@@ -9,7 +9,7 @@ pub const LAST_CURVE: u32 = u32::MAX;
 /// Which curves run along which edges, the named curves, their pieces, and the number of the next curve.
 ///
 /// Each pair of an edge and a curve along it is two nodes that know each other, one in the chain of its edge and one in the
-/// chain of its curve.
+/// chain of its curve. The chain of an edge goes from its greatest curve to its least.
 #[derive(Drop)]
 pub struct History {
     pub(crate) by_edge: Chains,

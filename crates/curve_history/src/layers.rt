@@ -220,6 +220,7 @@ impl History {
         ensures same { result ≡ true → curves_on self.now d ≡ curves_on self.now n }
         ensures differ { result ≡ false → curves_on self.now d ≢ curves_on self.now n }
     {
+        // Both chains are in order.
         self.by_edge.laws();
         says_same(&self.by_edge, d.0, n.0)
     }

@@ -36,7 +36,7 @@ pub record IsPlaced (v h : View) (w u : VertexId) (n m : DartId) : Type 0 where
   pub old : (k : DartId) → HasDart v k → IsOutOf h (source_in v k) k
   pub vertex : HasVertex h w
 
--- a vertex and two darts more
+-- one more vertex and two more darts
 module _ (v g h : View) (w u : VertexId) (p : Point) (n m : DartId) (l : Line) (e : g ≡ with_vertex v w p) (f : h ≡ with_edge g n m w u l) (nn : ¬ HasDart g n) (nm : ¬ HasDart g m) (ne : n ≢ m) where
   known : (k : DartId) → HasDart v k → HasDart g k
   known k o = ((more v g w p e).darts k).has o

@@ -1,4 +1,4 @@
-//! An edge in two in the records of a doubly-connected edge list, and two edges in one.
+//! The split of an edge in the records of a doubly-connected edge list, and the merge of two.
 //!
 //! Memory was reserved before, so that neither can fail.
 #![tactic(auto)]

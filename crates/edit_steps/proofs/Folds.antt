@@ -1,4 +1,4 @@
--- Many vertices more, or less.
+-- Many more vertices, or fewer.
 use Rattle.std.proofs.Common.{◌≡◌, List, [], ◌∷◌, not, refl, sym, ap, ◌∙◌, subst, inl, inr, ◌⊎◌, ⊎_elim, ◌++◌}
 use Rattle.std.specs.List.{list_any}
 use Rattle.exact_plane.specs.Point.{Point}

@@ -79,7 +79,7 @@ module _ (l : Layer) (w : IsLawful l) where
     first = subst (λ z. 1 ≤ z) (sym m) w.first;
   }
 
-  -- a name more
+  -- one more name
   inserted : (c : ℕ) (s : Segment) → IsAcceptedBy (Insert c s) l → IsLawful (layer_after (Insert c s) l)
   unfolding after
   inserted c s h = record {
@@ -91,7 +91,7 @@ module _ (l : Layer) (w : IsLawful l) where
     first = let f = w.first in omega arith;
   }
 
-  -- a name less
+  -- one name fewer
   dropped : (c : ℕ) → IsAcceptedBy (Drop c) l → IsLawful (layer_after (Drop c) l)
   unfolding after
   dropped c h = record {

@@ -31,7 +31,7 @@ use Rattle.edit_steps.proofs.Cuts.{cut_marks, cut_sub, fit_cut}
 use Rattle.edit_steps.proofs.Edits.{Leads, tidied_leads, pin_leads, unpin_leads, vertices_more, fit_part, fit_unpin, unpin_sub, crossing_more}
 
 module _ (geo : Geometry) where
-  -- ---- a curve less
+  -- ---- one curve fewer
   kept_piece : (p : Present) (c : ℕ) (k : Piece) → Member k (without_curve p c).pieces → Member k p.pieces × (same_curve k.curve c ≡ false)
   kept_piece p c k h = let w = of_filter (λ k. not (same_curve k.curve c)) k p.pieces h in (w.0, not_out _ w.1)
 
@@ -56,7 +56,7 @@ module _ (geo : Geometry) where
       tidied_leads geo p (without_curve p c) (map (less_step (graph p)) (filter (λ m. same_curve m.curve c) (marks vs ks))) fit (fit_drop p c fit) (vertices_more (without_curve p c) p (λ k h. (kept_piece p c k h).0) (λ r h. h))
       (record { there = t.0; sound = t.1 })
 
-  -- ---- an edge less
+  -- ---- one edge fewer
   module _ (p : Present) (fit : IsFit p) (a b : Point) (m : Mark) (h : Member m (marks (vertices p) p.pieces)) (e : is_at a b m ≡ true) where
     the_ends : (m.low ≡ a) × (m.high ≡ b)
     the_ends = let w = and_true (same_point m.low a) (same_point m.high b) e in (same_out m.low a w.0, same_out m.high b w.1)

@@ -1,4 +1,4 @@
--- One vertex less.
+-- One vertex fewer.
 use Rattle.std.proofs.Common.{◌≡◌, List, Bool, true, false, cond, not, ◌&&◌, ◌||◌, refl, sym, ap, ◌∙◌, subst, inl, inr, ◌⊎◌, ⊎_elim}
 use Rattle.std.specs.List.{list_any, flat_map}
 use Rattle.exact_plane.specs.Point.{Point}

@@ -12,7 +12,7 @@ use Rattle.edit_steps.specs.Steps.{Step, Clear, with_piece, segment_steps, witho
 --     Insert c s           the segment s becomes the new curve c
 --     Drop c               the curve c goes
 --     Cut p q              the edge from p to q goes, from all its curves
---     Pin r, Unpin r       r is a vertex whatever runs through it, and no more
+--     Pin r, Unpin r       r is a vertex whatever runs through it, or need no longer be one
 --     Split p q r          the edge from p to q gets the pin r inside it
 --     Merge r              the pin r goes, which alone parts an edge
 --     ClearAll             everything goes

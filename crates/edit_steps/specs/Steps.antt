@@ -81,11 +81,11 @@ tidy_steps (r ∷ rs) g = let s : Step = tidy_step r g in s ∷ tidy_steps rs (a
 unfoldable pub missing_points : List Point → List Point → List Point
 missing_points ps qs = filter (λ p. not (list_any (same_point p) qs)) ps
 
--- one mark more, on an edge that is there or on a new one
+-- one more mark, on an edge that is there or on a new one
 unfoldable pub more_step : Graph → Mark → Step
 more_step g m = cond (list_any (is_at m.low m.high) g.marks) (AddCurve m.low m.high m.curve) (AddEdge m.low m.high m.curve)
 
--- one mark less: the edge goes where no other curve is on it
+-- one mark fewer: the edge goes where no other curve is on it
 unfoldable pub less_step : Graph → Mark → Step
 less_step g m = cond (list_any (λ n. is_at m.low m.high n && not (same_curve n.curve m.curve)) g.marks) (RemoveCurve m.low m.high m.curve) (RemoveEdge m.low m.high)
 
@@ -109,7 +109,7 @@ without_curve p c = record p { pieces = filter (λ k. not (same_curve k.curve c)
 unfoldable pub with_tidying : Present → Present → List Step → List Step
 with_tidying old new firsts = firsts ++ tidy_steps (missing_points (vertices old) (vertices new)) (run firsts (graph old))
 
--- each edge of the curve goes, or loses the curve, in order; then what is no vertex any more
+-- each edge of the curve goes, or loses the curve, in order; then each point that is no longer a vertex
 unfoldable pub drop_steps : Present → ℕ → List Step
 drop_steps p c = with_tidying p (without_curve p c) (map (less_step (graph p)) (filter (λ m. same_curve m.curve c) (graph p).marks))
 
@@ -124,7 +124,7 @@ cut_piece a b k =
 abbrev pub with_cut : Present → Point → Point → Present
 with_cut p a b = record p { pieces = flat_map (cut_piece a b) p.pieces }
 
--- the edge goes; then what is no vertex any more
+-- the edge goes; then each point that is no longer a vertex
 unfoldable pub cut_steps : Present → Point → Point → List Step
 cut_steps p a b = with_tidying p (with_cut p a b) (RemoveEdge a b ∷ [])
 
@@ -140,7 +140,7 @@ pin_steps p r = vertex_steps (missing_points (r ∷ []) (vertices p)) (graph p) 
 abbrev pub without_pin : Present → Point → Present
 without_pin p r = record p { pins = points_without r p.pins }
 
--- the pin goes; then what is no vertex any more
+-- the pin goes; then the point, where it is no longer a vertex
 unfoldable pub unpin_steps : Present → Point → List Step
 unpin_steps p r = with_tidying p (without_pin p r) (ClearPin r ∷ [])
 

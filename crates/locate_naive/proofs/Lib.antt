@@ -1,4 +1,3 @@
 pub mod Names
 pub mod Spans
-pub mod Points
 pub mod Within

@@ -1,6 +1,7 @@
 -- A point is inside an edge where it is on the edge's line and between its ends; the same of the edge of a forward dart.
-use Rattle.std.proofs.Common.{◌≡◌, Bool, true, false, not, ◌&&◌, pos, ◌-ℤ◌, ◌*ℤ◌, refl, sym, ap, ◌∙◌}
+use Rattle.std.proofs.Common.{◌≡◌, Bool, true, false, not, ◌&&◌, ◌||◌, pos, ◌-ℤ◌, ◌*ℤ◌, inl, inr, refl, sym, ap, ◌∙◌}
 use Rattle.std.specs.Prelude.{if◌then◌else◌}
+use Rattle.integers.proofs.Tests.{not_true}
 use lib.Signed.{lt_z}
 use Rattle.exact_plane.specs.Line.{Line, IsOn}
 use Rattle.exact_plane.specs.Point.{Point}
@@ -9,8 +10,8 @@ use Rattle.plane_graphs.specs.Graph.{Edge, det}
 use Rattle.plane_graphs.specs.Line.{IsProper, IsProperLine, precedes}
 use Rattle.plane_graphs.proofs.Crossings.{zero_too, spans_w, spans_x, spans_y, turned}
 use Rattle.plane_graphs.proofs.Lines.{span_a, span_b, span_c, span_runs, collinear_in}
-use Rattle.plane_graphs.proofs.Lists.{and_in, not_out, both_ways}
-use Rattle.plane_graphs.proofs.Order.{Lt, lt_trans, lt_out, lt_in}
+use Rattle.plane_graphs.proofs.Lists.{and_in, not_out, both_ways, or_left, or_right, or_out, clash}
+use Rattle.plane_graphs.proofs.Order.{Lt, lt_trans, lt_both, lt_out, lt_in}
 use Rattle.slab_laws.specs.declared.names.DartId.{DartId}
 use Rattle.slab_laws.specs.Skeleton as counted
 use Rattle.slab_laws.specs.Skeleton.{inside}
@@ -98,32 +99,72 @@ module _ (v : View) (s : IsGraphSound v) where
       let w = inside_within (line_in v d) (record { low = low_end d; high = high_end d }) t (s.drawn.line d f.0) (low_proper d f.0) (high_proper d f.0) p (s.drawn.starts d f.0) (s.drawn.ends d f.0) (ap (λ (e : Edge). inside e t) (sym (edge_is d f)) ∙ h) in
       record { on = w.on; after = w.after; before = w.before }
 
-  -- ---- whether a dart goes forward and its edge has a point inside
+  -- ---- whether the edge of a dart, forward or not, has a point inside
+  edge_back : (d : DartId) → (dart_in v d).forward ≡ false → edge_in v d ≡ record { low = high_end d; high = low_end d }
+  edge_back d f = ap (λ (b : Bool). if b then record { low = low_end d; high = high_end d } else record { low = high_end d; high = low_end d }) f
+
   module _ (d : DartId) (has : HasDart v d) (t : Point) (proper : IsProper t) where
-    abbrev is_through : Bool
-    is_through = (dart_in v d).forward && inside (edge_in v d) t
+    abbrev ahead : Edge
+    ahead = record { low = low_end d; high = high_end d }
 
-    through_out : is_through ≡ true → IsWithinDart d t
-    through_out h = let a = and_true (dart_in v d).forward (inside (edge_in v d) t) h in dart_in_out d t (has, a.0) proper a.1
+    abbrev back : Edge
+    back = record { low = high_end d; high = low_end d }
 
-    -- on its line, the order of the points tells it; p and q are its ends as they were read
-    pub between_is : (p q : Point) → p ≡ low_end d → q ≡ high_end d → IsOn (line_in v d) t → precedes p t && precedes t q ≡ is_through
-    between_is p q e f on = (λ i. precedes (e i) t && precedes t (f i)) ∙ both_ways (precedes (low_end d) t && precedes t (high_end d)) is_through into out
+    within_ahead : inside ahead t ≡ true → IsWithin (line_in v d) ahead t
+    within_ahead h = inside_within (line_in v d) ahead t (s.drawn.line d has) (low_proper d has) (high_proper d has) proper (s.drawn.starts d has) (s.drawn.ends d has) h
+
+    within_back : inside back t ≡ true → IsWithin (line_in v d) back t
+    within_back h = inside_within (line_in v d) back t (s.drawn.line d has) (high_proper d has) (low_proper d has) proper (s.drawn.ends d has) (s.drawn.starts d has) h
+
+    ahead_in : IsWithin (line_in v d) ahead t → inside ahead t ≡ true
+    ahead_in w = within_inside (line_in v d) ahead t (s.drawn.line d has) (low_proper d has) (high_proper d has) proper (s.drawn.starts d has) (s.drawn.ends d has) w
+
+    back_in : IsWithin (line_in v d) back t → inside back t ≡ true
+    back_in w = within_inside (line_in v d) back t (s.drawn.line d has) (high_proper d has) (low_proper d has) proper (s.drawn.ends d has) (s.drawn.starts d has) w
+
+    abbrev between : Point → Point → Bool
+    between p q = (precedes p t && precedes t q) || (precedes q t && precedes t p)
+
+    runs : {p q : Point} → precedes p t && precedes t q ≡ true → Lt p t × Lt t q
+    runs {p} {q} h = let a = and_true (precedes p t) (precedes t q) h in (lt_out p t a.0, lt_out t q a.1)
+
+    -- on its line, the order of the points tells it
+    inside_ahead : IsOn (line_in v d) t → (dart_in v d).forward ≡ true → between (low_end d) (high_end d) ≡ inside ahead t
+    inside_ahead on f = both_ways (between (low_end d) (high_end d)) (inside ahead t) into out
       where
-        into : precedes (low_end d) t && precedes t (high_end d) ≡ true → is_through ≡ true
-        into h =
-            let a = and_true (precedes (low_end d) t) (precedes t (high_end d)) h in
-            let k = lt_out (low_end d) t a.0 in
-            let m = lt_out t (high_end d) a.1 in
-            let forward : (dart_in v d).forward ≡ true = lt_in (lt_trans k m) in
-            and_in forward (in_dart d t (has, forward) proper (record { on = on; after = k; before = m }))
+        into : between (low_end d) (high_end d) ≡ true → inside ahead t ≡ true
+        into h = elim (or_out (precedes (low_end d) t && precedes t (high_end d)) (precedes (high_end d) t && precedes t (low_end d)) h) [
+          | inl a ↦ let w = runs a in ahead_in (record { on = on; after = w.0; before = w.1 })
+          | inr a ↦ let w = runs a in absurd (lt_both (lt_out (low_end d) (high_end d) f) (lt_trans w.0 w.1))
+        ]
 
-        out : is_through ≡ true → precedes (low_end d) t && precedes t (high_end d) ≡ true
-        out h = let w = through_out h in and_in (lt_in w.after) (lt_in w.before)
+        out : inside ahead t ≡ true → between (low_end d) (high_end d) ≡ true
+        out h = let w = within_ahead h in or_left (precedes (low_end d) t && precedes t (high_end d)) (precedes (high_end d) t && precedes t (low_end d)) (and_in (lt_in w.after) (lt_in w.before))
+
+    inside_back : IsOn (line_in v d) t → (dart_in v d).forward ≡ false → between (low_end d) (high_end d) ≡ inside back t
+    inside_back on f = both_ways (between (low_end d) (high_end d)) (inside back t) into out
+      where
+        into : between (low_end d) (high_end d) ≡ true → inside back t ≡ true
+        into h = elim (or_out (precedes (low_end d) t && precedes t (high_end d)) (precedes (high_end d) t && precedes t (low_end d)) h) [
+          | inl a ↦ let w = runs a in absurd (clash (lt_in (lt_trans w.0 w.1)) f)
+          | inr a ↦ let w = runs a in back_in (record { on = on; after = w.0; before = w.1 })
+        ]
+
+        out : inside back t ≡ true → between (low_end d) (high_end d) ≡ true
+        out h = let w = within_back h in or_right (precedes (low_end d) t && precedes t (high_end d)) (precedes (high_end d) t && precedes t (low_end d)) (and_in (lt_in w.after) (lt_in w.before))
+
+    inside_by_way : IsOn (line_in v d) t → (b : Bool) → (dart_in v d).forward ≡ b → between (low_end d) (high_end d) ≡ inside (edge_in v d) t
+    inside_by_way on true f = inside_ahead on f ∙ ap (λ (e : Edge). inside e t) (sym (edge_is d (has, f)))
+    inside_by_way on false f = inside_back on f ∙ ap (λ (e : Edge). inside e t) (sym (edge_back d f))
+
+    -- p and q are its ends as they were read
+    pub inside_is : (p q : Point) → p ≡ low_end d → q ≡ high_end d → IsOn (line_in v d) t → between p q ≡ inside (edge_in v d) t
+    inside_is p q e f on = (λ i. between (e i) (f i)) ∙ inside_by_way on (dart_in v d).forward refl
+
+    on_by_way : (b : Bool) → (dart_in v d).forward ≡ b → inside (edge_in v d) t ≡ true → IsOn (line_in v d) t
+    on_by_way true f h = (within_ahead (ap (λ (e : Edge). inside e t) (sym (edge_is d (has, f))) ∙ h)).on
+    on_by_way false f h = (within_back (ap (λ (e : Edge). inside e t) (sym (edge_back d f)) ∙ h)).on
 
     -- off its line, it has not
-    pub off_is : (IsOn (line_in v d) t → ⊥) → false ≡ is_through
-    off_is f = both_ways false is_through (λ e. absurd (no e)) (λ h. absurd (f (through_out h).on))
-      where
-        no : false ≡ true → ⊥
-        no e = cc
+    pub off_is : (IsOn (line_in v d) t → ⊥) → false ≡ inside (edge_in v d) t
+    off_is f = sym (not_true (inside (edge_in v d) t) (λ h. f (on_by_way (dart_in v d).forward refl h)))

@@ -13,7 +13,6 @@ fn dart_between(records: &Records, from: &Point, to: &Point) -> Option<DartId>
     ensures { IsDartBetween records.now.graph from.now to.now result }
 {
     let from = vertex_at(records, from)?;
-    let to = vertex_at(records, to)?;
     dart_to(records, from, to)
 }
 

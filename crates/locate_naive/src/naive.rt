@@ -1,11 +1,12 @@
-ghost use Rattle.std.specs.Prelude.{◌≡◌, ◌&&◌};
+ghost use Rattle.std.specs.Prelude.{◌≡◌, ◌&&◌, ◌||◌, nat_lt};
 ghost use Rattle.plane_graphs.specs.Line.{IsProper, precedes};
 ghost use Rattle.slab_laws.specs.Skeleton.{inside};
-ghost use Rattle.slab_laws.specs.Sound.{IsGraphSound, edge_in, dart_in};
-ghost use Rattle.slab_laws.specs.View.{HasDart};
+ghost use Rattle.slab_laws.specs.Sound.{IsGraphSound, edge_in};
+ghost use Rattle.slab_laws.specs.View.{HasDart, twin_in};
 ghost use Rattle.dcel_records.specs.Spots.{IsSpotOf};
 ghost use Rattle.locate_naive.specs.Found.{IsVertexAt, IsSpanAlong, IsEdgeThrough};
 
+use crate::darts::{forward_dart, is_first};
 use dcel_records::{Records, Spot};
 use exact_plane::{Point, Sign, Span, side};
 use slab_laws::{DartId, Darts, VertexId};
@@ -42,22 +43,38 @@ fn is_between(low: &Point, point: &Point, high: &Point) -> bool
     low < point && point < high
 }
 
-// Whether the dart goes forward and its edge has the point inside. The side of its line is told first, which rules out nearly
-// all darts; a dart that goes backward has no point between its source and its target.
-fn is_through(records: &Records, dart: DartId, point: &Point) -> bool
+// Whether a point comes between two others, whichever of these is the first.
+fn is_between_ends(source: &Point, point: &Point, target: &Point) -> bool
+    ensures { result ≡ ((precedes source.now point.now && precedes point.now target.now) || (precedes target.now point.now && precedes point.now source.now)) }
+{
+    is_between(source, point, target) || is_between(target, point, source)
+}
+
+// Whether the edge of a dart has the point inside. The side of its line is told first, which rules out nearly all edges.
+fn is_inside(records: &Records, dart: DartId, point: &Point) -> bool
     requires sound { IsGraphSound records.now.graph }
     requires dart { HasDart records.now.graph dart }
     requires point { IsProper point.now }
-    ensures { result ≡ ((dart_in records.now.graph dart).forward && inside (edge_in records.now.graph dart) point.now) }
+    ensures { result ≡ inside (edge_in records.now.graph dart) point.now }
 {
     match side(&records.line(dart), point) {
         Sign::Zero => {
-            let low = records.point(records.source(dart));
-            let high = records.point(records.target(dart));
-            is_between(&low, point, &high)
+            let source = records.point(records.source(dart));
+            let target = records.point(records.target(dart));
+            is_between_ends(&source, point, &target)
         }
         Sign::Minus | Sign::Plus => false,
     }
+}
+
+// Whether the dart is the first of its edge, and this has the point inside.
+fn is_first_inside(records: &Records, dart: DartId, point: &Point) -> bool
+    requires sound { IsGraphSound records.now.graph }
+    requires dart { HasDart records.now.graph dart }
+    requires point { IsProper point.now }
+    ensures { result ≡ (nat_lt dart.0 (twin_in records.now.graph dart).0 && inside (edge_in records.now.graph dart) point.now) }
+{
+    is_first(records, dart) && is_inside(records, dart, point)
 }
 
 // The forward dart of the edge that has a point inside.
@@ -69,8 +86,8 @@ fn edge_at(records: &Records, point: &Point) -> Option<DartId>
     let _weight = point.w();
     let mut last = None;
     while let Some(dart) = records.dart_after(last) {
-        if is_through(records, dart, point) {
-            return Some(dart);
+        if is_first_inside(records, dart, point) {
+            return Some(forward_dart(records, dart));
         }
         last = Some(dart);
     }

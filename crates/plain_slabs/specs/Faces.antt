@@ -33,7 +33,7 @@ is_end ss p = list_any (λ s. same_point s.lower p || same_point s.upper p) ss
 abbrev pub rank_round : Skeleton → List SlabCell → Point → ℕ
 rank_round g fs p = cond (has_dart g p) 0 (position_or_len (same_cell (face_of (face_labels g) (left_cell g p))) fs)
 
--- the faces with one more at their end, unless it stands there
+-- the faces with one more at their end, unless it is there
 abbrev pub added : List SlabCell → SlabCell → List SlabCell
 added fs f = cond (list_any (same_cell f) fs) fs (fs ++ f ∷ [])
 

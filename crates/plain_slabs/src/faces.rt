@@ -128,7 +128,7 @@ pub(crate) fn bare_ranks(
         .collect(alloc)
 }
 
-// Adds a face unless it stands there.
+// Adds a face unless it is there.
 fn add_face(
     faces: &mut Vec<SlabCell>,
     seen: &mut BTreeSet<SlabCell>,

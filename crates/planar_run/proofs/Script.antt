@@ -22,7 +22,7 @@ abbrev pub AreOpen : List (List ℕ) → Type 0
 AreOpen [] = Unit {0}
 AreOpen (line ∷ more) = IsOpen line × AreOpen more
 
--- lines with byte 10 behind each
+-- lines with byte 10 after each
 abbrev pub joined : List (List ℕ) → List ℕ
 joined [] = []
 joined (line ∷ more) = line ++ 10 ∷ joined more
@@ -199,13 +199,13 @@ pub lines-next : {count : ℕ} {script rest before taken : List ℕ} {world : Wo
 lines-next s more =
     ap lines (append_assoc (joined s.whole) s.begun (10 ∷ more)) ∙ lines-joined s.whole (s.begun ++ 10 ∷ more) s.each ∙ ap (λ (ls : List (List ℕ)). s.whole ++ ls) (lines-end s.begun more s.inside)
 
--- it is answered, and no line comes behind it
+-- it is answered, and no line comes after it
 pub Stands-last : {count : ℕ} {script rest before taken : List ℕ} {world : World} {line : List ℕ} (s : Stands count script rest before taken world line) (text : List ℕ) (after : World) → (line ≡ [] → ⊥) → Replies world line text after → IsRun (lines (read s)) (s.out ++ text)
 Stands-last {world = world} {line = line} s text after some step =
     let run : AnswersLines first_world (s.whole ++ s.begun ∷ []) (s.out ++ text) after = Runs-push first_world s.whole s.out world s.begun text after s.run (Replies-cut world s.begun line text after s.kept step) in
     (after, subst (λ (ls : List (List ℕ)). AnswersLines first_world ls (s.out ++ text) after) (sym (lines-last s some)) run)
 
--- a part of its reply was written, whatever lines come behind it
+-- a part of its reply was written, whatever lines come after it
 pub Stands-part : {count : ℕ} {script rest before taken : List ℕ} {world : World} {line : List ℕ} (s : Stands count script rest before taken world line) (ls more : List (List ℕ)) (text part back : List ℕ) (after : World)
     → ls ≡ s.whole ++ s.begun ∷ more → Replies world line text after → text ≡ part ++ back → BeginsRun ls (s.out ++ part)
 Stands-part {world = world} {line = line} s ls more text part back after e step f =

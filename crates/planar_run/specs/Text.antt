@@ -18,7 +18,7 @@ cell_text (Vertex p) = codes "vertex " ++ point_text p
 cell_text (Edge p q) = codes "edge " ++ point_text p ++ 32 ∷ point_text q
 cell_text (Face k) = codes "face " ++ decimal k
 
--- numbers, each behind a space
+-- numbers, each after a space
 abbrev pub spaced : List ℕ → List ℕ
 spaced ns = flat_map (λ n. 32 ∷ decimal n) ns
 

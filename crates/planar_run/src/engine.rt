@@ -45,7 +45,7 @@ impl Engine {
         write_all(sink, self.reply.as_slice())
     }
 
-    // One byte more of the script.
+    // One more byte of the script.
     fn take<K: Sink>(&mut self, byte: u8, sink: &mut K) -> Result<(), Failed>
         ensures taken { OnOk result (Takes byte (K.taken sink.old) (K.taken sink.new) self.old.world self.old.line self.new.world self.new.line) }
         ensures broken { OnErr result ((byte ≡ 10) × AnswersPart (K.taken sink.old) (K.taken sink.new) self.old.world self.old.line) }

@@ -49,7 +49,7 @@ impl Line {
         &self.bytes
     }
 
-    /// One byte more.
+    /// One more byte.
     pub fn push(&mut self, byte: u8)
         ensures { self.new ≡ take KEPT (self.old ++ byte ∷ []) }
     {

@@ -61,6 +61,6 @@ pub fn show(world: &World, reply: &mut Reply) -> Result<(), NoMemory>
     requires { reply.old ≡ [] }
     ensures { OnOk result (reply.new ≡ (answer_to world.now (Ok Show)).text) }
 {
-    let text = world.text()?;
-    reply.put_bytes(&text)
+    reply.set_bytes(world.text()?);
+    Ok(())
 }

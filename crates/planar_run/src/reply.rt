@@ -58,6 +58,19 @@ impl Reply {
         self.add_text(text);
     }
 
+    /// Puts bytes in place of all that was there. It takes no memory: their own is taken over where it is room enough for
+    /// every fixed reply; otherwise they are few, and are copied.
+    pub fn set_bytes(&mut self, bytes: Vec<u8>)
+        ensures { self.new ≡ bytes.items }
+    {
+        if REPLY_ROOM <= bytes.capacity() {
+            self.bytes = bytes;
+            return;
+        }
+        self.bytes.clear();
+        self.bytes.extend_from_slice(&bytes).unwrap();
+    }
+
     /// Appends a text, within the room that was made at the start. It takes no memory.
     pub fn add_text(&mut self, text: &str)
         requires { length self.old + length text.now ≤ REPLY_ROOM }
@@ -76,19 +89,12 @@ impl Reply {
         self.add_text(digits.format(number));
     }
 
-    /// Appends bytes.
-    pub fn put_bytes(&mut self, bytes: &[u8]) -> Result<(), NoMemory>
-        ensures { OnOk result (self.new ≡ self.old ++ bytes.now) }
-    {
-        self.bytes.extend_from_slice(bytes)?;
-        Ok(())
-    }
-
     /// Appends a text.
     pub fn put_text(&mut self, text: &str) -> Result<(), NoMemory>
         ensures { OnOk result (self.new ≡ self.old ++ text.now) }
     {
-        self.put_bytes(text.as_bytes())
+        self.bytes.extend_from_slice(text.as_bytes())?;
+        Ok(())
     }
 
     /// Appends a number in decimal.

@@ -1,4 +1,4 @@
--- Two edges that cross by signs would share a point inside and_true.
+-- Two edges that cross by signs would share a point inside both.
 use Rattle.std.proofs.Common.{◌≡◌, [], ◌∷◌, ℤ, pos, ◌+ℤ◌, ◌-ℤ◌, ◌*ℤ◌, ◌<ℤ◌, neg_ℤ, true, ◌&&◌, ap, ap₂, sym, ◌∙◌, subst, arith, inl, inr, ⊎_elim, Ordering, Less, Equal, int_cmp}
 use Rattle.std.proofs.lemmas.Int.{ints}
 use Rattle.integers.proofs.Reify.{ring, sides}

@@ -24,7 +24,7 @@ module _ {X Y : Type 0} (f : X → Y) where
   past_map xs i h = subst (λ n. n ≤ i) (sym (length-map xs f)) h
 
 module _ {X Y : Type 0} (f : X → List Y) where
-  -- one element more, and all of them
+  -- one more element, and all of them
   pub gathered : (xs : List X) (i : ℕ) (x : X) (base now new : List Y) → i < length xs → x ≡ get_or xs i x → now ≡ base ++ flat_map f (take i xs) → new ≡ now ++ f x → new ≡ base ++ flat_map f (take (i + 1) xs)
   gathered xs i x base now new h e n m = m ∙ ap (λ zs. zs ++ f x) n ∙ flat_map_more f base (take i xs) x ∙ ap (λ zs. base ++ flat_map f zs) (sym (take_next xs i x h e))
 

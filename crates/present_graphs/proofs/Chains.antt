@@ -48,7 +48,7 @@ module _ (k : Piece) (vs : List Point) (i : ℕ) (q : Point) (h : i < length vs)
   unfolding chain_from
   next_one p f = next (Some p) ∙ ap (λ b. chain_after k.curve (Some p) (cond b (q ∷ filter (on k) (drop (i + 1) vs)) (filter (on k) (drop (i + 1) vs)))) f
 
--- one point more, where so many marks stand already
+-- one more point, where so many marks are there already
 module _ (k : Piece) (vs : List Point) (i : ℕ) (q : Point) (h : i < length vs) (e : q ≡ get_or vs i q) (now new : List MarkInMemory) (last : Option Point) (all : List Mark) (done : map mark_of now ++ left k last vs i ≡ all) where
   pub point_passed : (last' : Option Point) → on k q ≡ false → new ≡ now → last' ≡ last → map mark_of new ++ left k last' vs (i + 1) ≡ all
   point_passed last' f n l = ap₂ (λ ms o. map mark_of ms ++ left k o vs (i + 1)) n l ∙ ap (λ ms. map mark_of now ++ ms) (sym (passed_by k vs i q h e last f)) ∙ done

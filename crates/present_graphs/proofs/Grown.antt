@@ -47,7 +47,7 @@ module _ (s : Span) (ts : List Span) (i : ℕ) (t : Span) (h : i < length ts) (e
 turned : (s t : Span) (x : Point) → IsShared s t x → IsShared t s x
 turned s t x h = record { lines_differ = λ e. h.lines_differ (sym e); point = h.point; on_first = h.on_second; on_second = h.on_first }
 
--- one span more, against all before it
+-- one more span, against all before it
 module _ (ss : List Span) (i : ℕ) (s : Span) (h : i < length ss) (e : s ≡ get_or ss i s) where
   in_old_or : (u : Span) → Member u (take (i + 1) ss) → Member u (take i ss) ⊎ (u ≡ s)
   in_old_or u m = ⊎_elim (λ l. inl l) (λ l. ⊎_elim (λ j. inr j) (λ z. absurd z) l) (in_either u (take i ss) (s ∷ []) (subst (λ us. Member u us) (take_next ss i s h e) m))

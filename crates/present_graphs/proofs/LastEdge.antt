@@ -115,7 +115,7 @@ edges_up ms n rest a f h =
     let w = of_map edge_of f ms h in
     subst (λ (g : Edge). edge_cmp g (edge_of n) ≢ Greater) (sym w.2) (edge_up w.0 n (before_next ms n rest a w.0 w.1))
 
--- ---- one mark more
+-- ---- one more mark
 module _ (ms : List Mark) (i : ℕ) (m : Mark) (h : i < length ms) (e : m ≡ get_or ms i m) (asc : IsAscending mark_cmp ms) (es new : List Edge) (is : es ≡ ascending edge_cmp (map edge_of (take i ms))) where
   up : AreUpTo (edge_of m) (map edge_of (take i ms))
   up =

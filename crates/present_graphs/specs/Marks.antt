@@ -15,6 +15,6 @@ mark_of m = record { low = m.low; high = m.high; curve = m.curve.0 }
 abbrev pub marks_along : PieceInMemory → List Point → List Mark
 marks_along k ps = chain k.curve.0 (filter (on (piece_of k)) ps)
 
--- the marks have come behind those that were there
+-- the marks were appended to those that were there
 abbrev pub HaveCome : List Mark → List MarkInMemory → List MarkInMemory → Type 0
 HaveCome marks old new = map mark_of new ≡ map mark_of old ++ marks

@@ -19,7 +19,7 @@ IsSharedWith s ts x = (t : Span) × Member t ts × IsShared s t x
 abbrev pub IsSharedByTwo : List Span → Point → Type 0
 IsSharedByTwo ss x = (s : Span) × Member s ss × IsSharedWith s ss x
 
--- the second list has what the first one has, and besides all that P is true of, and no more
+-- the second list has what the first one has, all that P is true of, and nothing else
 pub record IsGrownBy (P : Point → Type 0) (old new : List Point) : Type 0 where
   pub kept : (x : Point) → Member x old → Member x new
   pub added : (x : Point) → P x → Member x new

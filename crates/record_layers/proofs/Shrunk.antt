@@ -41,7 +41,7 @@ use Rattle.record_layers.specs.RecordLayers.{IsRunOfSteps}
 use Rattle.record_layers.specs.LayerSteps.{Shrinks, AllShrink}
 use Rattle.record_layers.proofs.Stays.{IsSamePlace, IsDivided, not_divided, way_on, way_edge, same_way, pin_way}
 
--- every vertex of w is one of v; an edge of w is one of v, or had a vertex of v inside; and a dart of v is one of w, but where its edge is drawn no more
+-- every vertex of w is one of v; an edge of w is one of v, or had a vertex of v inside; and a dart of v is one of w, unless its edge is no longer drawn
 pub record IsShrunk (v w : View) : Type 0 where
   pub vertex : (u : VertexId) → HasVertex w u → IsSamePlace w v u
   pub edge : (e : Edge) → Contains (skeleton_of w).edges e → Contains (skeleton_of v).edges e ⊎ IsDivided v e

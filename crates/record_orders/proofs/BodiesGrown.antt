@@ -136,7 +136,7 @@ module _ (ranks : BTreeMap FaceId ℕ) (fs : List FaceId) (are : AreRanks ranks 
   pub stands : (a : FaceId) (b : Bool) → b ≡ is_some (get face_cmp ranks a) → list_any (same_face a) fs ≡ b
   stands a b e = among (same_face a) fs ∙ grind (arith, nat_tests, are a)
 
-  -- a new face gets the place behind the last
+  -- a new face gets the place after the last
   pub ranks_more : (new : BTreeMap FaceId ℕ) (a : FaceId) → list_any (same_face a) fs ≡ false → ((q : FaceId) → get face_cmp new q ≡ cond (is_eq (face_cmp a q)) (Some (length fs)) (get face_cmp ranks q)) → AreRanks new (fs ++ a ∷ [])
   ranks_more new a e u q =
       u q ∙ ap (cond (is_eq (face_cmp a q)) (Some (length fs))) (are q) ∙ step ∙ sym (position_more (same_face q) fs a)

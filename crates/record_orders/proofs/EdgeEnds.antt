@@ -47,13 +47,10 @@ module _ (v : View) (s : IsGraphSound v) (e : Edge) (low high : Point) (same : e
         edge = ahead (point_in v (source_in v d)) (point_in v (target_in v d)) forward ∙ ap₂ edge_of_ends r.starts r.ends ∙ sym same;
       }
 
--- ---- a dart from a vertex to a vertex
-module _ (v : View) (s : IsGraphSound v) (a b : VertexId) (p q : Point) (has_a : HasVertex v a) (has_b : HasVertex v b) (at_a : point_in v a ≡ p) (at_b : point_in v b ≡ q) where
-  pub out_runs : (d : DartId) → IsOutOf v a d × (target_in v d ≡ b) → RunsBetween v p q d
-  out_runs d o = record { has = o.0.0; starts = ap (point_in v) o.0.1 ∙ at_a; ends = ap (point_in v) o.1 ∙ at_b }
+-- ---- a dart from a vertex to a point
+module _ (v : View) (s : IsGraphSound v) (a : VertexId) (p q : Point) (has : HasVertex v a) (at : point_in v a ≡ p) where
+  pub out_runs : (d : DartId) → IsOutOf v a d × (point_in v (target_in v d) ≡ q) → RunsBetween v p q d
+  out_runs d o = record { has = o.0.0; starts = ap (point_in v) o.0.1 ∙ at; ends = o.1 }
 
-  pub none_runs : ((d : DartId) → IsOutOf v a d → target_in v d ≢ b) → (d : DartId) → ¬ RunsBetween v p q d
-  none_runs none d r =
-      let starts : source_in v d ≡ a = s.drawn.points (source_in v d) a (s.linked.source d r.has) has_a (r.starts ∙ sym at_a) in
-      let ends : target_in v d ≡ b = s.drawn.points (target_in v d) b (s.linked.source (twin_in v d) (s.twinned.has d r.has)) has_b (r.ends ∙ sym at_b) in
-      none d (r.has, starts) ends
+  pub none_runs : ((d : DartId) → IsOutOf v a d → point_in v (target_in v d) ≢ q) → (d : DartId) → ¬ RunsBetween v p q d
+  none_runs none d r = none d (r.has, s.drawn.points (source_in v d) a (s.linked.source d r.has) has (r.starts ∙ sym at)) r.ends

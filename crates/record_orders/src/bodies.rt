@@ -43,7 +43,7 @@ impl Bodies {
         self.texts.len()
     }
 
-    /// Puts bytes behind one of the texts.
+    /// Appends bytes to one of the texts.
     ///
     /// # Errors
     ///

@@ -28,7 +28,7 @@ impl Model for Ranks {
     ghost invariant = { λ r. AreRanks r.ranks r.faces.items };
 }
 
-// Puts a face behind the others, unless it stands among them.
+// Appends a face to the others, unless it is among them.
 fn add_face(
     faces: &mut Vec<FaceId>,
     ranks: &mut BTreeMap<FaceId, usize>,

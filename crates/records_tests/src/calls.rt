@@ -19,9 +19,9 @@ pub type Row = (usize, usize, usize, usize);
 
 /// A call of the builder with what it has to answer.
 pub enum Call {
-    /// The vertex more at the point has the name.
+    /// The new vertex at the point has the name.
     AddsVertex(At, Option<VertexId>),
-    /// The edge more, from vertex to vertex along the line, has the darts.
+    /// The new edge, from vertex to vertex along the line, has the darts.
     Joins((usize, usize), Ends, Option<(DartId, DartId)>),
     /// The dart's edge goes, with its twin.
     Cuts(usize, Option<DartId>),

@@ -51,7 +51,7 @@ impl Checked {
         })
     }
 
-    /// Room for so many vertices and edges more; the graph stays, whatever comes.
+    /// Room for so many more vertices and edges; the graph stays, whatever comes.
     pub fn reserve(&mut self, room: Room) -> Result<(), NoMemory>
         ensures graph { self.new.graph ≡ self.old.graph }
         ensures vertices { OnOk result (room.vertices ≤ self.new.spare_vertices) }
@@ -107,7 +107,7 @@ impl Checked {
         splits::split(&mut self.records, d, point)
     }
 
-    /// Two edges in one; `None` for a name without a record, where more or fewer edges end at the vertex, or where the two go
+    /// Two edges become one; `None` for a name without a record, where more or fewer edges end at the vertex, or where the two go
     /// on different lines or the same way.
     pub fn merge(&mut self, v: VertexId) -> Option<Change>
         ensures change { IfSome result (λ c. TellsOfMerge self.old.graph c v) }

@@ -62,7 +62,7 @@ fn meeting(records: &Records, v: VertexId) -> Option<(DartId, DartId)>
     }
 }
 
-// Two edges in one, where just two end at the vertex, one from either side on one line.
+// Two edges become one, where just two end at the vertex, one from either side on one line.
 pub(crate) fn merge(records: &mut Records, v: VertexId) -> Option<Change>
     requires sound { IsGraphSound records.old.graph }
     requires vertex { HasVertex records.old.graph v }

@@ -44,7 +44,7 @@ pub(crate) fn goes_forward(records: &Records, d: DartId) -> bool
     source < target
 }
 
-// An edge in two, where the dart goes forward and the point lies inside.
+// An edge is split, where the dart goes forward and the point lies inside.
 pub(crate) fn split(records: &mut Records, d: DartId, point: Point) -> Option<Change>
     requires sound { IsGraphSound records.old.graph }
     requires dart { HasDart records.old.graph d }

@@ -1,4 +1,4 @@
--- The points of a list that are no vertices of a present, and the steps that take them away, one point more at a time.
+-- The points of a list that are no vertices of a present, and the steps that take them away, one more point at a time.
 use Rattle.std.proofs.Common.{◌≡◌, Bool, true, false, not, cond, Less, List, [], ◌∷◌, ◌++◌, refl, sym, ap, ◌∙◌, subst}
 use Rattle.std.proofs.lemmas.List.{append-nil}
 use Rattle.std.proofs.lemmas.List.Elements.{filter-append}
@@ -53,7 +53,7 @@ module _ (ps qs : List Point) where
   unfolding missing_points
   missing_ascend a = IsAscending-filter point_cmp (λ y. not (list_any (same_point y) qs)) ps a
 
-  -- one point more
+  -- one more point
   one_more : (x : Point) (b : Bool) → not (list_any (same_point x) qs) ≡ b → missing_points (ps ++ (x ∷ [])) qs ≡ missing_points ps qs ++ cond b (x ∷ []) []
   unfolding missing_points
   one_more x b e = filter-append (λ y. not (list_any (same_point y) qs)) ps (x ∷ []) ∙ ap (λ c. missing_points ps qs ++ cond c (x ∷ []) []) e

@@ -1,4 +1,4 @@
--- The vertices that is redundant but a pin: those that the graph passes straight through, and those without edges.
+-- The vertices that are redundant but for a pin: those that the graph passes straight through, and those without edges.
 use Rattle.std.proofs.Common.{◌≡◌, ◌≢◌, ◌⊎◌, ℕ, true, false, not, ◌||◌, pos, List, [], ◌∷◌, refl, sym, ap, ◌∙◌, subst, inl, inr}
 use Rattle.std.specs.Prelude.{◌+ℤ◌, ◌-ℤ◌, ◌*ℤ◌}
 use Rattle.std.specs.Ordering.{nat_cmp}
@@ -283,7 +283,7 @@ module _ (v : View) (h : Curves) (w : VertexId) (s : IsGraphSound v) (a : AreCur
         (λ c m. of_upper c (p.onwards c (to_mark c m)))
         (λ c m. of_mark c (p.back c (to_upper c m)))
 
-  -- with a dart out of w, w is loose only where two edges with the same curves go straight through it
+  -- with a dart out of w, w is redundant only where two edges with the same curves go straight through it
   pub loose_fits : (k : DartId) → HasVertex v w → IsOutOf v w k → IsLoose (drawn_graph v h) x → (d : DartId) × (n : DartId) × FitsMerge v w d n × (h d ≡ h n)
   loose_fits k has o (inl none) = let m = touched k o in clash m.2 (none m.0 m.1)
   loose_fits k has o (inr p) = ((lower has p).0, (upper has p).0, fits has p, alike has p)

@@ -1,4 +1,4 @@
--- What becomes of a vertex that may not be called for any more.
+-- What becomes of a vertex that may no longer be called for.
 use Rattle.std.specs.Prelude.{◌≡◌, ◌⊎◌, [], ◌∷◌, Option, MatchOption}
 use Rattle.exact_plane.specs.Point.{Point}
 use Rattle.edit_steps.specs.Allowed.{IsPassed}

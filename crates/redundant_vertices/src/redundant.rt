@@ -42,7 +42,7 @@ pub fn remove_if_redundant(records: &mut Records, history: &mut History, w: Vert
 }
 
 /// Each of the vertices, in order, is tidied where it isn't pinned. Where edges went, and these are the vertices at their ends,
-/// this takes away just the points that are no vertices any more (CGAL manual, removing a curve: vertices that become
+/// this takes away just the points that are no longer vertices (CGAL manual, removing a curve: vertices that become
 /// redundant).
 ///
 /// It looks at the vertices' darts and at the curves of their edges, not at other records, and takes no memory.

@@ -22,3 +22,4 @@ pub mod Found
 pub mod Walks
 pub mod Circuits
 pub mod Searches
+pub mod Points

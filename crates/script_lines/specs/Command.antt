@@ -63,7 +63,7 @@ segment_from other = None
 abbrev pub segment_form : Form Command
 segment_form = record { places = replicate 4 Numeral; made = segment_from }
 
--- a row of the table of commands: a name, and the forms of the words behind it
+-- a row of the table of commands: a name, and the forms of the words after it
 pub record Row : Type 0 where
   pub name : List ℕ
   pub forms : List (Form Command)
@@ -94,7 +94,7 @@ names = name.Segment ∷ name.Drop ∷ name.Cut ∷ name.Pin ∷ name.Unpin ∷ 
 abbrev pub name_of : List ℕ → Option Name
 name_of word = find (λ n. bytes_eq (row_of n).name word) names
 
--- the command of a name and the words behind it, or Word where there is no such name
+-- the command of a name and the words after it, or Word where there is no such name
 abbrev pub name_reading : Option Name → List (List ℕ) → Result Command LineError
 name_reading None words = Err Word
 name_reading (Some name) words = forms_reading (row_of name).forms words

@@ -1,4 +1,4 @@
--- What may stand behind the name of a command, and which error comes where something else does.
+-- What may come after the name of a command, and which error comes where something else does.
 use Rattle.std.specs.Prelude.{ℕ, ℤ, Bool, true, List, [], ◌∷◌, length, map, filter_map, find, ◌==◌, Option, Some, None, Result, Ok, Err, option_map, ok_or, bytes_eq, if◌then◌else◌}
 use Rattle.std.specs.List.{list_any, list_all}
 use Rattle.std.specs.Cmp.Lexicographic.{pointwise}

@@ -3,7 +3,7 @@ use Rattle.std.specs.Prelude.{ℕ, List, codes}
 use Rattle.script_lines.specs.declared.error.LineError.{LineError}
 use Rattle.script_lines.specs.declared.error.LineError.TheVariants.{Word, Count, Number, Range, Long, Byte}
 
--- the number that is printed behind `refused`
+-- the number that is printed after `refused`
 abbrev pub refusal_number : LineError → ℕ
 refusal_number Word = 1
 refusal_number Count = 2

@@ -52,7 +52,7 @@ pub record HasWrongWord (words : List (List ℕ)) : Type 0 where
   pub counted : Any (λ form. length rest ≡ length form.places) (row_of name).forms
   pub none : All (λ form. IsFalse (has_fixed rest form)) (row_of name).forms
 
--- these words stand behind the command, and this is the form that they have
+-- these words come after the command, and this is the form that they have
 pub record HasForm (words rest : List (List ℕ)) (form : Form Command) : Type 0 where
   pub name : Name
   pub are : words ≡ (row_of name).name ∷ rest

@@ -27,7 +27,7 @@ pub enum Command {
     Cut(Point, Point),
     /// `pin X Y W`: the point becomes a vertex, and stays one until it is unpinned.
     Pin(Point),
-    /// `unpin X Y W`: the point needn't be a vertex any more.
+    /// `unpin X Y W`: the point need no longer be a vertex.
     Unpin(Point),
     /// `split X Y W X Y W X Y W`: the third point, inside the edge between the first two, is pinned.
     Split(Point, Point, Point),
@@ -47,7 +47,7 @@ pub enum Command {
     Show,
 }
 
-// The command of a name and the words behind it.
+// The command of a name and the words after it.
 fn read_named(name: Name, rest: &[u8]) -> Result<Command, LineError>
     ensures { result ≡ forms_reading (row_of name).forms (words rest.now) }
 {

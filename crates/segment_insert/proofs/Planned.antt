@@ -36,7 +36,7 @@ use Rattle.segment_insert.specs.Coming.{steps_at}
 abbrev pub edges_then : View → Curves → ℕ → List Point → List Step
 edges_then w d c ps = map (more_step (drawn_graph w d)) (chain c ps)
 
--- there is one point more than open parts
+-- there is one more point than open parts
 parts_fewer : (v : View) (s : Segment) (ps : List Point) (spots : List Spot) → AreSpotsBetween v s ps spots → length ps ≡ length spots + 1
 parts_fewer v s [] spots b = absurd b
 parts_fewer v s (p ∷ []) [] b = omega arith

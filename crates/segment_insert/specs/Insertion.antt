@@ -52,7 +52,7 @@ abbrev pub pairs_at : Curves → Spot → ℕ
 pairs_at h (Edge d) = length (h d)
 pairs_at h other = 0
 
--- how many pairs of an edge and one more curve there are once the meetings are vertices
+-- how many pairs of an edge and a curve come with the splits: the curves of each edge that is split, on its new part
 abbrev pub pairs_to_part : Curves → List Meeting → ℕ
 pairs_to_part h [] = 0
 pairs_to_part h (m ∷ ms) = pairs_at h m.spot + pairs_to_part h ms

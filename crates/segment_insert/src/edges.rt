@@ -106,7 +106,7 @@ fn new_edge(
     history.hold(d, curve);
 }
 
-// The open part from `u` to `w` becomes an edge of the curve: an edge that runs there gets it, and else a new one comes.
+// The open part from `u` to `w` becomes an edge of the curve: an edge that runs there gets it, or else a new one comes.
 fn make_edge(
     records: &mut Records,
     history: &mut History,
@@ -136,7 +136,7 @@ fn make_edge(
 }
 
 /// Makes every open part between two neighbouring meeting points an edge of the curve, in room that is there: an edge that
-/// runs there gets one more curve, and else a new one comes.
+/// runs there gets the curve, or else a new one comes.
 pub(crate) fn make_edges(
     records: &mut Records,
     history: &mut History,

@@ -25,7 +25,7 @@ use zone_walk::{Meeting, ZonePlan, zone};
 /// Why a segment isn't inserted.
 #[derive(Clone, Copy, Debug, PartialEq, Eq, Error)]
 pub enum InsertError {
-    /// One curve more, or one more piece, would pass this limit.
+    /// One more curve, or one more piece, would pass this limit.
     #[error("the limit of {0} would be passed")]
     Full(u32),
     /// The last number that a curve can get was drawn.

@@ -14,7 +14,7 @@ use Rattle.slab_cells.specs.declared.reaches.Reach.{Reach}
 abbrev pub points_upto : List Point → Point → ℕ
 points_upto vs t = count_by (λ v. not (left_of t v)) vs
 
--- the edge with its first slab, and the first that it doesn't reach any more
+-- the edge with its first slab, and the first that it no longer reaches
 abbrev pub reach_in : List Point → Span → Reach
 reach_in vs s = record { edge = s; first = points_upto vs s.lower; end = points_upto vs s.upper }
 

@@ -13,7 +13,7 @@ pub(crate) struct Reach {
     pub edge: Span,
     /// The number of the first slab that it spans.
     pub first: usize,
-    /// The number of the first slab behind it: the slab on the right of its upper end.
+    /// The number of the first slab after it: the slab on the right of its upper end.
     pub end: usize,
 }
 

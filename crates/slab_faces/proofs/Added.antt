@@ -1,4 +1,4 @@
--- One edge more: the faces with it are those without it, but for the two beside the edge.
+-- One more edge: the faces with it are those without it, but for the two beside the edge.
 use Rattle.std.proofs.Common.{◌≡◌, ℕ, ◌+◌, ◌-◌, ◌<◌, ◌≤◌, Bool, true, false, cond, arith, refl, sym, ap, ◌∙◌, inl, inr, [], ◌∷◌, subst}
 use Rattle.std.specs.Prelude.{not, ◌&&◌}
 use Rattle.std.specs.List.{count_by, Contains}

@@ -1,4 +1,4 @@
--- One vertical edge more: the faces with it are those without it, but for the two beside the edge.
+-- One more vertical edge: the faces with it are those without it, but for the two beside the edge.
 use Rattle.std.proofs.Common.{◌≡◌, ℕ, ◌+◌, Bool, true, false, cond, arith, sym, ap, ◌∙◌, inl, inr, subst}
 use Rattle.std.specs.Prelude.{not, ◌&&◌}
 use Rattle.std.specs.List.{Contains}

@@ -64,7 +64,7 @@ right_dart g v f plane in' a =
     let long : left_of f.low f.high ≡ true = subst (λ x. left_of x f.high ≡ true) (sym e) r.1 in
     (record { in' = a.in'; at = e }, ap (λ l. kind l true) long)
 
--- where no dart is of a kind, the corners before and behind it are in one face
+-- where no dart is of a kind, the corners before and after it are in one face
 abbrev IsEmpty : Skeleton → Point → ℕ → Type 0
 IsEmpty g v k = (c : Edge) (r : Bool) → IsOut g v c r → class c r ≡ k → ⊥
 
@@ -115,7 +115,7 @@ whole_upright g e plane E h =
     let b = plane.forward e E in
     record { plane = plane; S = E; wall = on_own_wall g e.low plane (plane.lower_in e E); upright = record { lower_1 = left_of-irrefl e.low; lower_2 = left_of-irrefl e.low; upper_1 = b; upper_2 = h }; from = lower_than-irrefl e.low; to = plane.upright e E (rw (h, b) refl) }
 
--- the last of its kind: behind it the next corner
+-- the last of its kind: after it comes the next corner
 abbrev IsLast : Skeleton → Point → Edge → Bool → Type 0
 IsLast g v e f = (c : Edge) (r : Bool) → IsOut g v c r → class c r ≡ class e f → Earlier e c f r → ⊥
 

@@ -1,4 +1,4 @@
--- One edge more, and sets of faces.
+-- One more edge, and sets of faces.
 use Rattle.std.specs.Prelude.{◌≡◌, ℕ, ◌+◌, ◌-◌, Bool, true, cond, ◌&&◌}
 use Rattle.std.specs.List.{Contains}
 use lib.Dec.{ltb}

@@ -55,7 +55,7 @@ has_dart g p = list_any (λ e. same_point e.low p || same_point e.high p) g.edge
 abbrev pub first_cell : SlabCell
 first_cell = record { slab = 0; place = 0 }
 
--- the unbounded face, then the others by the least darts of their outer cycles; every bounded face has one, so the cells put no other face behind these
+-- the unbounded face, then the others by the least darts of their outer cycles; every bounded face has one, so the cells add no other face to these
 unfoldable pub ranked : Skeleton → List (Label SlabCell) → List Cycle → List SlabCell
 ranked g ls cs = distinct same_cell (face_of ls first_cell ∷ (map (λ c. c.face) (filter (λ c. c.outer) cs) ++ map (face_of ls) (cells g)))
 

@@ -47,7 +47,7 @@ pub record IsKeptDart (g h : View) (d : DartId) : Type 0 where
   pub twin : twin_in h d ≡ twin_in g d
   pub line : line_in h d ≡ line_in g d
 
--- h has what g has, but for which dart follows which, and two darts more: d from u to another vertex w on the line l, and m its twin (this project)
+-- h has what g has, but for which dart follows which, and two more darts: d from u to another vertex w on the line l, and m its twin (this project)
 pub record IsEdgeMore (g h : View) (d m : DartId) (u w : VertexId) (l : Line) : Type 0 where
   pub first_new : ¬ HasDart g d
   pub second_new : ¬ HasDart g m

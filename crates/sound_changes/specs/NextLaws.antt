@@ -26,7 +26,7 @@ pub record ComesBetween (g : Skeleton) (d x : Dart) : Type 0 where
   pub leaves : source x ≡ target d
   pub met : sooner_by earlier (twin d) x (next (darts g) d) ≡ true
 
--- what follows each dart in h, which has the edge e more than g; x is either dart of e (this project)
+-- what follows each dart in h, which has the edges of g and e; x is either dart of e (this project)
 pub record IsNextWithMore (g h : Skeleton) (e : Edge) : Type 0 where
   -- a new dart follows the dart that it comes after
   pub between : (d x : Dart) → IsDartOf g d → x.edge ≡ e → ComesBetween g d x → next (darts h) d ≡ x
@@ -39,7 +39,7 @@ pub record IsNextWithMore (g h : Skeleton) (e : Edge) : Type 0 where
   -- at an end that isn't bare the new dart comes after some dart
   pub somewhere : (x : Dart) → x.edge ≡ e → IsBareEnd g x ⊎ ((d : Dart) × IsDartOf g d × ComesBetween g d x)
 
--- what follows each dart in g, which has the edge e less than h; x is either dart of e (this project)
+-- what follows each dart in g, which has the edges of h but e; x is either dart of e (this project)
 pub record IsNextWithLess (g h : Skeleton) (e : Edge) : Type 0 where
   -- a dart that x followed is followed by what followed the twin of x
   pub onward : (d x : Dart) → IsDartOf g d → x.edge ≡ e → next (darts h) d ≡ x → next (darts g) d ≡ next (darts h) (twin x)

@@ -120,7 +120,7 @@ module _ (v : View) (n : IsNamed v) where
         in_ascending mark_cmp mark_cmp_total mark_cmp_exact m (flat_map (λ r. marks_along v h (dart_id r.0)) v.darts)
         (in_flat_map (λ r. marks_along v h (dart_id r.0)) r.0 m v.darts r.1 (subst (λ n. Member m (marks_along v h (dart_id n))) r.2 (mark_along k.0 m k.1)))
 
--- the names of the records ascend: no more is asked of them
+-- the names of the records ascend: nothing else is asked of them
 pub graph_holds : (v : View) (h : Curves) → IsNamed v → GraphHolds v h
 graph_holds v h n = record {
   points = points_held v n h;

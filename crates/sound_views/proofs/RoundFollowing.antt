@@ -55,7 +55,7 @@ after_end f e (u ∷ us) a =
     let m : Member (us ++ (e ∷ [])) e = append_right us (e ∷ []) e (inl refl) in
     passed f e u (us ++ (e ∷ [])) e m (a.0 e m) ∙ after_end f e us a.1
 
--- after one comes what stands behind it
+-- after one comes the next in the list
 pub after_next : (e v : Dart) (us vs : List Dart) → Apart (us ++ (e ∷ v ∷ vs)) → after e (us ++ (e ∷ v ∷ vs)) ≡ v
 unfolding after
 after_next e v [] vs a = after_inner e e v [] vs a
@@ -92,7 +92,7 @@ module _ (ds : List Dart) where
 
   -- ---- where each dart of a list leads to the next in it
   module _ (r : List Dart) (a : Apart r) (follow : (e : Dart) → Member r e → next ds (twin e) ≡ after e r) where
-    -- each dart but the last to the one behind it
+    -- each dart but the last to the one after it
     to_next : (us vs : List Dart) (e v : Dart) → r ≡ us ++ (e ∷ v ∷ vs) → next ds (twin e) ≡ v
     to_next us vs e v p =
         follow e (subst (λ zs. Member zs e) (sym p) (append_right us (e ∷ v ∷ vs) e (inl refl)))

@@ -1,7 +1,6 @@
 -- The look at all vertices and edges: what stays true as points are found, and the meeting points that it has at its end.
-use Rattle.std.proofs.Common.{◌≡◌, ◌≢◌, Bool, true, false, not, ◌&&◌, is_eq, is_some, Contains, List, [], ◌∷◌, inl, inr, ◌⊎◌, ⊎_elim, refl, sym, ap, ◌∙◌, subst}
+use Rattle.std.proofs.Common.{◌≡◌, true, false, not, ◌&&◌, is_eq, is_some, Contains, List, inl, inr, ◌⊎◌, ⊎_elim, refl, sym, ap, ◌∙◌, subst}
 use Rattle.std.specs.BTreeMap.{insert_entry}
-use Rattle.std.specs.List.{filter}
 use Rattle.std.specs.List.Sorted.{IsStrictlySortedBy}
 use Rattle.std.specs.Map.{keys_of, lookup}
 use Rattle.integers.proofs.Tests.{not_true}
@@ -10,23 +9,23 @@ use Rattle.exact_plane.specs.PointOrder.{point_cmp}
 use Rattle.exact_plane.specs.PointOrderLaws.{point_cmp_total, and_true}
 use Rattle.exact_plane.specs.Segment.{Segment, line_of_segment}
 use Rattle.exact_plane.specs.Span.{Span}
-use Rattle.plane_graphs.specs.Ascending.{Member, IsAscending}
+use Rattle.plane_graphs.specs.Ascending.{Member}
 use Rattle.plane_graphs.specs.Line.{precedes, is_on}
 use Rattle.plane_graphs.proofs.Ascending.{ascending_unique, to_member, from_member, from_std}
-use Rattle.plane_graphs.proofs.Lists.{and_in, not_out, not_in, clash, in_filter, of_filter, IsAscending-filter}
+use Rattle.plane_graphs.proofs.Lists.{and_in, not_in, clash, in_filter, of_filter, IsAscending-filter}
 use Rattle.plane_graphs.proofs.Order.{Lt, lt_out, lt_in, lt_never}
 use Rattle.slab_laws.specs.declared.names.DartId.{DartId}
 use Rattle.slab_laws.specs.declared.names.VertexId.{VertexId}
 use Rattle.slab_laws.specs.Skeleton.{inside}
-use Rattle.slab_laws.specs.Sound.{edge_in, dart_in, IsGraphSound}
-use Rattle.slab_laws.specs.View.{View, HasVertex, HasDart, point_in}
+use Rattle.slab_laws.specs.Sound.{edge_in, IsGraphSound}
+use Rattle.slab_laws.specs.View.{View, HasVertex, point_in}
+use Rattle.arr_notes.specs.Curves.{IsForward}
 use Rattle.dcel_records.specs.declared.spot.Spot.{Spot}
 use Rattle.dcel_records.specs.declared.spot.Spot.TheVariants.{Vertex, Edge, Face}
-use Rattle.dcel_records.specs.Spots.{IsSpotOf}
 use Rattle.zone_walk.specs.Found.{ends_of, IsWhole, MeetsInside, IsFound, AreFound, AreKept, TakesVertex, TakesDart, HasVertices, HasInnerPoints, AreLaterMeetings}
 use Rattle.zone_walk.specs.Zone.{is_on_segment, passes, meeting_points, later_points}
 use Rattle.zone_walk.proofs.Courses.{IsCourse, lies_in, upper_lies}
-use Rattle.zone_walk.proofs.Entries.{key_of_entry, entry_of_key, keys_kept, key_there, entry_from, looked_up, is_there}
+use Rattle.zone_walk.proofs.Entries.{entry_of_key, keys_kept, key_there, entry_from, is_there}
 use Rattle.zone_walk.proofs.Inner.{whole_course}
 use Rattle.zone_walk.proofs.MeetingPoints.{MeetsAt, lower, upper, vertex, passed, passes_out, meetings_ascend, of_meetings, in_meetings}
 
@@ -53,7 +52,7 @@ pub vertex_still : (v : View) (s : Segment) (old new : Entries) → AreKept old 
 vertex_still v s old new k w f on later = k (point_in v w) (f on later)
 
 pub dart_still : (v : View) (s : Segment) (old new : Entries) → AreKept old new → (d : DartId) → TakesDart v s old d → TakesDart v s new d
-dart_still v s old new k d f forward p h = k p (f forward p h)
+dart_still v s old new k d f first p h = k p (f first p h)
 
 module _ (v : View) (s : IsGraphSound v) (whole : Span) (all : IsWhole whole) where
   abbrev g : Segment
@@ -85,12 +84,12 @@ module _ (v : View) (s : IsGraphSound v) (whole : Span) (all : IsWhole whole) wh
         clash (and_in (ap (precedes whole.lower) read ∙ later) (and_in c.1 (ap (λ m. is_on m x) all.line ∙ b.0))) h
 
   -- ---- points inside edges
-  pub inner_found : (d : DartId) → HasDart v d → (dart_in v d).forward ≡ true → (p : Point) → MeetsInside v g d p → IsFound v g p (Edge d)
-  inner_found d has forward p h =
+  pub inner_found : (d : DartId) → IsForward v d → (p : Point) → MeetsInside v g d p → IsFound v g p (Edge d)
+  inner_found d f p h =
       record {
-        meets = meets p (⊎_elim (λ m. passed d has (to_member (passes v g d) p m)) (λ e. upper e) h.met);
+        meets = meets p (⊎_elim (λ m. passed d f.0 (to_member (passes v g d) p m)) (λ e. upper e) h.met);
         later = h.later;
-        spot = (has, forward, h.inner);
+        spot = (f.0, f.1, h.inner);
       }
 
   -- ---- the upper end

@@ -1,26 +1,19 @@
 -- The course of a segment along its line, and lines that are one.
-use Rattle.std.proofs.Common.{◌≡◌, ◌≢◌, Bool, true, false, not, ◌&&◌, pos, ◌-ℤ◌, ◌*ℤ◌, refl, sym, ap, ◌∙◌}
+use Rattle.std.proofs.Common.{◌≡◌, ◌≢◌, Bool, true, false, not, ◌&&◌, ◌*ℤ◌, refl, sym, ap, ◌∙◌}
 use Rattle.integers.proofs.Decisions.{eq_in}
 use Rattle.std.specs.Ordering.{int_eq}
-use lib.Signed.{lt_z}
 use Rattle.exact_plane.specs.Line.{Line, side_of, IsOn}
 use Rattle.exact_plane.specs.Point.{Point}
 use Rattle.exact_plane.specs.PointOrder.{point_cmp}
 use Rattle.exact_plane.specs.Segment.{Segment, line_of_segment, AreEnds}
-use Rattle.plane_graphs.specs.Graph.{Edge, det}
 use Rattle.plane_graphs.specs.Line.{IsProper, IsProperLine, IsWhole, precedes, is_on, are_parallel}
-use Rattle.plane_graphs.proofs.Crossings.{zero_too, spans_w, spans_x, spans_y, turned}
-use Rattle.plane_graphs.proofs.Lines.{whole_is_proper, line_of_segment-runs, line_of_segment-lowest, lower_on, upper_on, span_a, span_b, span_c, span_runs, collinear_in, zero_out, zero_in, apart_out}
-use Rattle.plane_graphs.proofs.Lists.{and_in, not_out, clash}
+use Rattle.plane_graphs.proofs.Lines.{whole_is_proper, line_of_segment-runs, line_of_segment-lowest, lower_on, upper_on, zero_out, zero_in, apart_out}
+use Rattle.plane_graphs.proofs.Lists.{and_in, clash}
 use Rattle.plane_graphs.proofs.Marks.{Le, le_out, le_in, le_same, le_lt}
-use Rattle.plane_graphs.proofs.Order.{Lt, lt_trans}
+use Rattle.plane_graphs.proofs.Order.{Lt}
 use Rattle.exact_plane.proofs.Crossings.{parallel_share, same_line}
 use Rattle.exact_plane.proofs.Meetings.{same_line-is}
 use Rattle.exact_plane.specs.PointOrderLaws.{and_true}
-use Rattle.slab_laws.specs.Skeleton as counted
-use Rattle.slab_laws.specs.Skeleton.{inside}
-use Rattle.slab_faces.proofs.InnerPoints.{inside_by, before_out}
-use Rattle.rotation_order.proofs.Factors.{zero_between}
 use Rattle.zone_walk.specs.Zone.{is_on_segment}
 
 -- ---- a segment's line

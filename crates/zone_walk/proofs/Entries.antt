@@ -1,5 +1,5 @@
 -- The entries of an ordered map of points: what an insertion adds and keeps, and what a look for a point tells.
-use Rattle.std.proofs.Common.{◌≡◌, Bool, true, false, cond, is_eq, is_some, Option, Some, None, List, [], ◌∷◌, inl, inr, ◌⊎◌, refl, sym, ap, ◌∙◌, subst, Ordering, Less, Equal, Greater}
+use Rattle.std.proofs.Common.{◌≡◌, Bool, true, false, cond, is_eq, is_some, Some, List, [], ◌∷◌, inl, inr, ◌⊎◌, refl, sym, ap, ◌∙◌, Ordering, Less, Equal, Greater}
 use Rattle.std.specs.BTreeMap.{insert_entry}
 use Rattle.std.specs.Map.{keys_of, lookup}
 use Rattle.std.specs.Ordering.{match_ordering}

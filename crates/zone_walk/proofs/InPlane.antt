@@ -1,5 +1,5 @@
 -- A point inside an edge and on another line has the edge's ends on different sides of that line; so it is a point of the plane within its bounds, since it is between two that are.
-use Rattle.std.proofs.Common.{◌≡◌, [], ◌∷◌, ℤ, pos, ◌<ℤ◌, ◌≤ℤ◌, neg_ℤ, false, refl, sym, ap, ◌∙◌, subst, arith, ⊎_elim, Ordering, Less, Equal, Greater}
+use Rattle.std.proofs.Common.{◌≡◌, [], ◌∷◌, ℤ, pos, ◌<ℤ◌, ◌≤ℤ◌, neg_ℤ, false, refl, sym, ap, ◌∙◌, subst, arith, Ordering, Less, Equal, Greater}
 use Rattle.std.specs.Ordering.{int_cmp}
 use Rattle.std.proofs.lemmas.Int.{ints}
 use Rattle.integers.proofs.Compare.{less_out, equal_out, greater_out}

@@ -1,5 +1,5 @@
 -- The meeting point inside an edge after the segment's lower end: what rules it out, and which it is.
-use Rattle.std.proofs.Common.{◌≡◌, ◌≢◌, MatchOption, Option, Some, None, Contains, Bool, true, false, cond, ◌&&◌, ◌||◌, pos, ℤ, ◌<ℤ◌, [], ◌∷◌, List, inl, inr, ◌⊎◌, ⊎_elim, Ordering, Less, Equal, Greater, refl, sym, ap, ◌∙◌, subst}
+use Rattle.std.proofs.Common.{◌≡◌, ◌≢◌, MatchOption, Option, Some, None, Contains, Bool, true, false, cond, ◌&&◌, ◌||◌, pos, ◌<ℤ◌, [], ◌∷◌, List, inl, inr, ⊎_elim, Ordering, Less, Equal, Greater, refl, sym, ap, ◌∙◌, subst}
 use Rattle.std.specs.Ordering.{int_cmp}
 use Rattle.integers.proofs.Compare.{less_out, equal_out, greater_out}
 use Rattle.integers.proofs.Tests.{not_true, lt_yes}
@@ -13,17 +13,18 @@ use Rattle.plane_graphs.specs.Ascending.{Member}
 use Rattle.plane_graphs.specs.Line.{IsProper, IsProperLine, precedes, are_parallel}
 use Rattle.plane_graphs.proofs.Ascending.{to_member, from_member}
 use Rattle.plane_graphs.proofs.Lines.{point_is_proper}
-use Rattle.plane_graphs.proofs.Lists.{and_in, or_left, or_right, clash, decide}
-use Rattle.plane_graphs.proofs.Marks.{le_lt_lt, lt_le_lt}
+use Rattle.plane_graphs.proofs.Lists.{and_in, or_left, or_right, clash}
+use Rattle.plane_graphs.proofs.Marks.{lt_le_lt}
 use Rattle.plane_graphs.proofs.Order.{Lt, lt_out, lt_in, lt_trans, lt_never}
 use Rattle.slab_laws.specs.declared.names.DartId.{DartId}
-use Rattle.slab_laws.specs.Skeleton.{inside}
-use Rattle.slab_laws.specs.Sound.{edge_in, dart_in, IsGraphSound}
-use Rattle.slab_laws.specs.View.{View, HasDart, point_in, source_in, target_in, line_in}
+use Rattle.slab_laws.specs.Sound.{dart_in, IsGraphSound}
+use Rattle.slab_laws.specs.View.{View, HasDart, point_in, source_in, twin_in, target_in, line_in}
 use Rattle.arr_notes.specs.Curves.{IsForward}
+use Rattle.locate_naive.proofs.Spans.{is_behind}
+use Rattle.zone_walk.proofs.BothWays.{meets_along}
 use Rattle.locate_naive.proofs.Within.{IsWithinDart, low_proper, high_proper, in_dart, dart_in_out}
 use Rattle.zone_walk.specs.Found.{ends_of, is_left, is_right, IsWhole, IsPassAt, IsNoPass, MeetsInside, IsInnerPoint}
-use Rattle.zone_walk.specs.Zone.{is_on_segment, passes}
+use Rattle.zone_walk.specs.Zone.{passes}
 use Rattle.zone_walk.proofs.Courses.{IsCourse, LiesOn, lies_out, lies_in, upper_lies, one_line, parallel_itself}
 use Rattle.zone_walk.proofs.InPlane.{falls, rises}
 use Rattle.zone_walk.proofs.LineCrossings.{crossing_proper, is_crossing}
@@ -59,9 +60,25 @@ some_upper : (b : Bool) (p : Point) (P : Type 0) (Q : Point → Type 0) → (b �
 some_upper true p P Q f g = f refl
 some_upper false p P Q f g = g refl
 
-module _ (v : View) (s : IsGraphSound v) (whole : Span) (all : IsWhole whole) (d : DartId) (has : HasDart v d) where
+-- the points are on different sides of the line, and neither is on it
+abbrev pub are_parted : Line → Point → Point → Bool
+are_parted l p q = (is_left l p && is_right l q) || (is_right l p && is_left l q)
+
+parted_turned : (a b c d : Bool) → (a && b) || (c && d) ≡ true → (d && c) || (b && a) ≡ true
+parted_turned true true c d h = or_right (d && c) true refl
+parted_turned true false true true h = refl
+parted_turned false b true true h = refl
+parted_turned true false true false h = absurd cc
+parted_turned true false false d h = absurd cc
+parted_turned false b true false h = absurd cc
+parted_turned false b false d h = absurd cc
+
+module _ (v : View) (s : IsGraphSound v) (whole : Span) (all : IsWhole whole) (d : DartId) (ahead : IsForward v d) where
   abbrev g : Segment
   g = ends_of whole
+
+  has : HasDart v d
+  has = ahead.0
 
   abbrev low : Point
   low = point_in v (source_in v d)
@@ -90,17 +107,17 @@ module _ (v : View) (s : IsGraphSound v) (whole : Span) (all : IsWhole whole) (d
       (λ e. subst IsProper (sym e) course.upper)
       h.met
 
-  within : (dart_in v d).forward ≡ true → (p : Point) → MeetsInside v g d p → IsWithinDart v s d p
-  within f p h = dart_in_out v s d p (has, f) (proper p h) h.inner
+  within : (p : Point) → MeetsInside v g d p → IsWithinDart v s d p
+  within p h = dart_in_out v s d p ahead (proper p h) h.inner
 
   -- ---- the order of points rules it out
-  pub not_reached : (p q : Point) → p ≡ low → q ≡ high → precedes p q && (precedes p whole.upper && precedes whole.lower q) ≡ false → IsInnerPoint v g d None
-  not_reached p q e f b forward r h =
-      let w = within forward r h in
+  pub not_reached : (p q : Point) → p ≡ low → q ≡ high → precedes p whole.upper && precedes whole.lower q ≡ false → IsInnerPoint v g d None
+  not_reached p q e f b r h =
+      let w = within r h in
       let on = on_segment r h in
       clash
-      (and_in (lt_in (lt_trans w.after w.before)) (and_in (lt_in (lt_le_lt w.after on.upto)) (lt_in (lt_trans (lt_out g.lower r h.later) w.before))))
-      (sym ((λ i. precedes (e i) (f i) && (precedes (e i) whole.upper && precedes whole.lower (f i)))) ∙ b)
+      (and_in (lt_in (lt_le_lt w.after on.upto)) (lt_in (lt_trans (lt_out g.lower r h.later) w.before)))
+      (sym ((λ i. precedes (e i) whole.upper && precedes whole.lower (f i))) ∙ b)
 
   -- ---- an edge of the segment's own line
   module _ (same : line_in v d ≡ whole.line) where
@@ -110,21 +127,19 @@ module _ (v : View) (s : IsGraphSound v) (whole : Span) (all : IsWhole whole) (d
     is_upper : (p : Point) → MeetsInside v g d p → p ≡ whole.upper
     is_upper p h = ⊎_elim (λ m. absurd (no_pass p m)) (λ e. e) h.met
 
-    upper_inside : Lt low whole.upper → Lt whole.upper high → ((dart_in v d).forward ≡ true) × MeetsInside v g d whole.upper × ((q : Point) → MeetsInside v g d q → q ≡ whole.upper)
-    upper_inside k m =
-        let forward : (dart_in v d).forward ≡ true = lt_in (lt_trans k m) in (
-          forward,
-          record {
-            inner = in_dart v s d whole.upper (has, forward) course.upper (record { on = subst (λ (l : Line). IsOn l whole.upper) (sym same) all.span.way.upper_on; after = k; before = m });
-            later = lt_in course.ahead;
-            met = inr refl;
-          },
-          is_upper,
-        )
+    upper_inside : Lt low whole.upper → Lt whole.upper high → MeetsInside v g d whole.upper × ((q : Point) → MeetsInside v g d q → q ≡ whole.upper)
+    upper_inside k m = (
+      record {
+        inner = in_dart v s d whole.upper ahead course.upper (record { on = subst (λ (l : Line). IsOn l whole.upper) (sym same) all.span.way.upper_on; after = k; before = m });
+        later = lt_in course.ahead;
+        met = inr refl;
+      },
+      is_upper,
+    )
 
-    no_upper : precedes low whole.upper && precedes whole.upper high ≡ false → (dart_in v d).forward ≡ true → (q : Point) → ¬ MeetsInside v g d q
-    no_upper b forward q h =
-        let w = within forward q h in
+    no_upper : precedes low whole.upper && precedes whole.upper high ≡ false → (q : Point) → ¬ MeetsInside v g d q
+    no_upper b q h =
+        let w = within q h in
         let e = is_upper q h in
         clash (and_in (lt_in (subst (λ (x : Point). Lt low x) e w.after)) (lt_in (subst (λ (x : Point). Lt x high) e w.before))) b
 
@@ -138,34 +153,34 @@ module _ (v : View) (s : IsGraphSound v) (whole : Span) (all : IsWhole whole) (d
   -- ---- an edge of another line
   module _ (differ : line_in v d ≢ whole.line) where
     -- such a point is where the segment passes through the edge
-    pub passed : (dart_in v d).forward ≡ true → (p : Point) → MeetsInside v g d p → IsPassed v g d p
-    passed forward p h = ⊎_elim (λ m. passes_out v g d p (to_member (passes v g d) p m)) at_upper h.met
+    pub passed : (p : Point) → MeetsInside v g d p → IsPassed v g d p
+    passed p h = ⊎_elim (λ m. passes_out v g d p (to_member (passes v g d) p m)) at_upper h.met
       where
         at_upper : p ≡ g.upper → IsPassed v g d p
         at_upper e =
-            let w = within forward p h in
+            let w = within p h in
             let on = on_segment p h in
             let never : are_parallel (line_of_segment g) (line_in v d) ≡ true → ⊥ = λ z. differ (sym (line_is ∙ one_line (line_of_segment g) (line_in v d) p course.line (s.drawn.line d has) (proper p h) on.on w.on z)) in
             let crosses = not_true (are_parallel (line_of_segment g) (line_in v d)) never in
             record { crosses = crosses; crossing = is_crossing (line_of_segment g) (line_in v d) crosses p (proper p h) on.on w.on; on_segment = lies_in g p on; inner = h.inner }
 
     -- its ends are on different sides of the segment's line
-    parted : (dart_in v d).forward ≡ true → (p : Point) → MeetsInside v g d p → (is_left whole.line low && is_right whole.line high) || (is_right whole.line low && is_left whole.line high) ≡ true
-    parted forward p h = by (int_cmp (side_of whole.line low) (pos 0)) refl
+    pub parted : (p : Point) → MeetsInside v g d p → are_parted whole.line low high ≡ true
+    parted p h = by (int_cmp (side_of whole.line low) (pos 0)) refl
       where
         w : IsWithinDart v s d p
-        w = within forward p h
+        w = within p h
 
         on : IsOn whole.line p
         on = subst (λ (l : Line). IsOn l p) (sym line_is) (on_segment p h).on
 
-        by : (o : Ordering) → int_cmp (side_of whole.line low) (pos 0) ≡ o → (is_left whole.line low && is_right whole.line high) || (is_right whole.line low && is_left whole.line high) ≡ true
+        by : (o : Ordering) → int_cmp (side_of whole.line low) (pos 0) ≡ o → are_parted whole.line low high ≡ true
         by Less e =
             let below = less_out (side_of whole.line low) (pos 0) e in
             let above : pos 0 <ℤ side_of whole.line high = rises (line_in v d) whole.line (s.drawn.line d has).runs low high p (low_proper v s d has) (high_proper v s d has) (proper p h) (s.drawn.starts d has) (s.drawn.ends d has) w.on w.after w.before on below in
             or_right (is_left whole.line low && is_right whole.line high) (is_right whole.line low && is_left whole.line high) (and_in (lt_yes (side_of whole.line low) (pos 0) below) (lt_yes (pos 0) (side_of whole.line high) above))
         by Equal e =
-            let k = passed forward p h in
+            let k = passed p h in
             let crosses : are_parallel whole.line (line_in v d) ≡ false = ap (λ (l : Line). are_parallel l (line_in v d)) line_is ∙ k.crosses in
             let at : low ≡ p = is_crossing whole.line (line_in v d) crosses low (low_proper v s d has) (equal_out (side_of whole.line low) (pos 0) e) (s.drawn.starts d has) ∙ sym (is_crossing whole.line (line_in v d) crosses p (proper p h) on w.on) in
             absurd (lt_never (subst (λ (x : Point). Lt x p) at w.after))
@@ -174,23 +189,43 @@ module _ (v : View) (s : IsGraphSound v) (whole : Span) (all : IsWhole whole) (d
             let below : side_of whole.line high <ℤ pos 0 = falls (line_in v d) whole.line (s.drawn.line d has).runs low high p (low_proper v s d has) (high_proper v s d has) (proper p h) (s.drawn.starts d has) (s.drawn.ends d has) w.on w.after w.before on above in
             or_left (is_left whole.line low && is_right whole.line high) (is_right whole.line low && is_left whole.line high) (and_in (lt_yes (pos 0) (side_of whole.line low) above) (lt_yes (side_of whole.line high) (pos 0) below))
 
-    pub not_parted : (p q : Point) → p ≡ low → q ≡ high → (l : Line) → l ≡ whole.line → (is_left l p && is_right l q) || (is_right l p && is_left l q) ≡ false → IsInnerPoint v g d None
-    not_parted p q e f l is b forward r h =
-        clash (parted forward r h) (sym (λ i. (is_left (is i) (e i) && is_right (is i) (f i)) || (is_right (is i) (e i) && is_left (is i) (f i))) ∙ b)
-
     -- what the exact crossing tells
     pub no_crossing : ((dart_in v d).forward ≡ true → IsNoPass v g d) → IsInnerPoint v g d None
-    no_crossing f forward p h = not_empty (passes v g d) p (f forward).none (passes_one v g d p (passed forward p h))
+    no_crossing f p h = not_empty (passes v g d) p (f ahead.1).none (passes_one v g d p (passed p h))
 
-    module _ (p : Point) (forward : (dart_in v d).forward ≡ true) (k : IsPassAt v g d p) where
+    module _ (p : Point) (k : IsPassAt v g d p) where
       there : Member p (passes v g d)
       there = subst (λ xs. Member p xs) (sym k.one) (inl refl)
 
       only : (q : Point) → MeetsInside v g d q → q ≡ p
-      only q h = only_one (passes v g d) q p (passes_one v g d q (passed forward q h)) k.one
+      only q h = only_one (passes v g d) q p (passes_one v g d q (passed q h)) k.one
 
       pub at_crossing : precedes whole.lower p ≡ true → IsInnerPoint v g d (Some p)
-      at_crossing l = (forward, record { inner = (passes_out v g d p there).inner; later = l; met = inl (from_member (passes v g d) p there) }, only)
+      at_crossing l = (record { inner = (passes_out v g d p there).inner; later = l; met = inl (from_member (passes v g d) p there) }, only)
 
       pub at_lower : precedes whole.lower p ≡ false → IsInnerPoint v g d None
-      at_lower l f q h = clash (ap (precedes whole.lower) (sym (only q h)) ∙ h.later) l
+      at_lower l q h = clash (ap (precedes whole.lower) (sym (only q h)) ∙ h.later) l
+
+-- ---- the edge of any dart, forward or not
+module _ (v : View) (s : IsGraphSound v) (whole : Span) (all : IsWhole whole) (d : DartId) (has : HasDart v d) (differ : line_in v d ≢ whole.line) where
+  abbrev ends : Segment
+  ends = ends_of whole
+
+  abbrev source : Point
+  source = point_in v (source_in v d)
+
+  abbrev target : Point
+  target = point_in v (target_in v d)
+
+  either_way : (p : Point) → MeetsInside v ends d p → (b : Bool) → (dart_in v d).forward ≡ b → are_parted whole.line source target ≡ true
+  either_way p h true f = parted v s whole all d (has, f) differ p h
+  either_way p h false f =
+      let t = twin_in v d in
+      let k = is_behind v s d has f t refl in
+      let turned = parted v s whole all t k.forward (λ e. differ (sym k.line ∙ e)) p (meets_along v ends d t k p h) in
+      parted_turned (is_left whole.line target) (is_right whole.line source) (is_right whole.line target) (is_left whole.line source)
+      ((λ i. are_parted whole.line target (point_in v (source_in v (sym (s.twinned.back d has) i)))) ∙ turned)
+
+  -- p and q are its ends as they were read
+  pub not_parted : (p q : Point) → p ≡ source → q ≡ target → (l : Line) → l ≡ whole.line → are_parted l p q ≡ false → (r : Point) → ¬ MeetsInside v ends d r
+  not_parted p q e f l is b r h = clash (either_way r h (dart_in v d).forward refl) (sym (λ i. are_parted (is i) (e i) (f i)) ∙ b)

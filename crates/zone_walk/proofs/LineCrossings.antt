@@ -1,5 +1,5 @@
 -- The crossing of two lines is the one point on both.
-use Rattle.std.proofs.Common.{◌≡◌, [], ◌∷◌, ℤ, ◌-ℤ◌, ◌*ℤ◌, ◌<ℤ◌, false, ◌∙◌}
+use Rattle.std.proofs.Common.{◌≡◌, ◌-ℤ◌, ◌*ℤ◌, false}
 use Rattle.exact_plane.specs.Line.{Line, IsOn}
 use Rattle.exact_plane.specs.Point.{Point}
 use Rattle.exact_plane.proofs.Geometry.{cross_only}

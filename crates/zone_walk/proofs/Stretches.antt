@@ -1,5 +1,5 @@
 -- From one meeting point to the next: along the edge that goes on from there, or through a face.
-use Rattle.std.proofs.Common.{◌≡◌, Bool, true, false, not, cond, Contains, refl, sym, ap, ◌∙◌, subst, inl, inr, ◌⊎◌, ⊎_elim}
+use Rattle.std.proofs.Common.{◌≡◌, Bool, true, false, not, cond, Contains, refl, sym, ap, ◌∙◌, subst, inl, ⊎_elim}
 use Rattle.exact_plane.specs.Line.{Line, IsOn}
 use Rattle.exact_plane.specs.Point.{Point}
 use Rattle.exact_plane.specs.Segment.{Segment, line_of_segment}

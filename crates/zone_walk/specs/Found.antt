@@ -1,5 +1,5 @@
 -- What the look at all vertices and edges has found so far.
-use Rattle.std.specs.Prelude.{◌≡◌, ◌≢◌, ◌⊎◌, true, false, Bool, List, [], ◌∷◌, Contains, Option, MatchOption, pos}
+use Rattle.std.specs.Prelude.{◌≡◌, ◌≢◌, ◌⊎◌, true, false, Bool, List, [], ◌∷◌, Contains, Option, MatchOption, pos, nat_lt}
 use lib.Signed.{lt_z}
 use Rattle.std.specs.Map.{keys_of}
 use Rattle.exact_plane.specs.Line.{Line, side_of}
@@ -14,7 +14,7 @@ use Rattle.slab_laws.specs.declared.names.VertexId.{VertexId}
 use Rattle.slab_laws.specs.SpansDrawn.{edge_of}
 use Rattle.slab_laws.specs.Skeleton.{inside}
 use Rattle.slab_laws.specs.Sound.{dart_in, edge_in}
-use Rattle.slab_laws.specs.View.{View, HasVertex, HasDart, point_in}
+use Rattle.slab_laws.specs.View.{View, HasVertex, HasDart, point_in, twin_in}
 use Rattle.dcel_records.specs.declared.spot.Spot.{Spot}
 use Rattle.dcel_records.specs.Spots.{IsSpotOf}
 use Rattle.zone_walk.specs.Zone.{is_on_segment, passes, meeting_points, later_points}
@@ -64,11 +64,9 @@ pub record MeetsInside (v : View) (s : Segment) (d : DartId) (p : Point) : Type 
   pub later : precedes s.lower p ≡ true
   pub met : Contains (passes v s d) p ⊎ (p ≡ s.upper)
 
--- the one such point of a forward dart's edge; none where there is none, or the dart isn't forward (this project)
+-- the one such point of a dart's edge; none where there is none (this project)
 abbrev pub IsInnerPoint : View → Segment → DartId → Option Point → Type 0
-IsInnerPoint v s d r =
-    MatchOption r ((dart_in v d).forward ≡ true → (q : Point) → ¬ MeetsInside v s d q)
-    (λ p. ((dart_in v d).forward ≡ true) × MeetsInside v s d p × ((q : Point) → MeetsInside v s d q → q ≡ p))
+IsInnerPoint v s d r = MatchOption r ((q : Point) → ¬ MeetsInside v s d q) (λ p. MeetsInside v s d p × ((q : Point) → MeetsInside v s d q → q ≡ p))
 
 -- ---- all vertices and edges
 
@@ -90,9 +88,9 @@ AreKept old new = (p : Point) → Member p (keys_of old) → Member p (keys_of n
 abbrev pub TakesVertex : View → Segment → List (Point × Spot) → VertexId → Type 0
 TakesVertex v s es w = is_on_segment s (point_in v w) ≡ true → precedes s.lower (point_in v w) ≡ true → Member (point_in v w) (keys_of es)
 
--- the meeting points inside the edge of a forward dart after the segment's lower end are there (this project)
+-- the meeting points inside the edge of a dart after the segment's lower end are there, where it has the lesser name of the two along its edge (this project)
 abbrev pub TakesDart : View → Segment → List (Point × Spot) → DartId → Type 0
-TakesDart v s es d = (dart_in v d).forward ≡ true → (p : Point) → MeetsInside v s d p → Member p (keys_of es)
+TakesDart v s es d = nat_lt d.0 (twin_in v d).0 ≡ true → (p : Point) → MeetsInside v s d p → Member p (keys_of es)
 
 -- the vertices on the segment after its lower end are there (this project)
 abbrev pub HasVertices : View → Segment → List (Point × Spot) → Type 0

@@ -1,10 +1,11 @@
 //! Where a segment meets the inside of an edge: cheap tests first, an exact crossing last.
-ghost use Rattle.std.specs.Prelude.{◌≡◌, ◌≢◌, ◌&&◌, ◌||◌, true, Some, None, cond, MatchOption};
-ghost use Rattle.exact_plane.specs.Line.{side_of};
+ghost use Rattle.std.specs.Prelude.{◌≡◌, ◌≢◌, ◌&&◌, ◌||◌, false, Some, None, cond, MatchOption};
+ghost use Rattle.exact_plane.specs.Point.{Point as Coordinates};
 ghost use Rattle.plane_graphs.specs.Line.{precedes};
 ghost use Rattle.slab_laws.specs.Sound.{IsGraphSound};
 ghost use Rattle.slab_laws.specs.View.{HasDart, line_in};
-ghost use Rattle.zone_walk.specs.Found.{ends_of, is_left, is_right, IsWhole, IsPassOfForward, IsInnerMeeting, IsNoInnerMeeting, IsInnerPoint};
+ghost use Rattle.arr_notes.specs.Curves.{IsForward};
+ghost use Rattle.zone_walk.specs.Found.{ends_of, is_left, is_right, IsWhole, IsPassOfForward, IsInnerMeeting, IsNoInnerMeeting, IsInnerPoint, MeetsInside};
 
 use dcel_records::Records;
 use edge_predicates::has_inside;
@@ -67,11 +68,11 @@ fn are_parted(line: &Line, low: &Point, high: &Point) -> bool
         || (is_on_right(line, low) && is_on_left(line, high))
 }
 
-// Whether the first point comes before the second, and points between them can be the segment's: by the order of points alone.
+// Whether points between two others can be the segment's, by the order of points alone.
 fn reaches(whole: &Span, low: &Point, high: &Point) -> bool
-    ensures { result ≡ (precedes low.now high.now && (precedes low.now whole.now.upper && precedes whole.now.lower high.now)) }
+    ensures { result ≡ (precedes low.now whole.now.upper && precedes whole.now.lower high.now) }
 {
-    *low < *high && *low < whole.upper() && whole.lower() < *high
+    *low < whole.upper() && whole.lower() < *high
 }
 
 // The segment's upper end, where it lies between two points.
@@ -90,7 +91,7 @@ fn upper_between(whole: &Span, low: &Point, high: &Point) -> Option<Point>
 fn later_crossing(records: &Records, whole: &Span, dart: DartId) -> Option<Point>
     requires sound { IsGraphSound records.now.graph }
     requires whole { IsWhole whole.now }
-    requires dart { HasDart records.now.graph dart }
+    requires forward { IsForward records.now.graph dart }
     requires other_line { line_in records.now.graph dart ≢ whole.now.line }
     ensures { IsInnerPoint records.now.graph (ends_of whole.now) dart result }
 {
@@ -102,14 +103,30 @@ fn later_crossing(records: &Records, whole: &Span, dart: DartId) -> Option<Point
     }
 }
 
-/// The point inside the edge of a forward dart that is a meeting point after the segment's lower end: the crossing with an
-/// edge of another line, or the segment's upper end on an edge of its own line.
-///
-/// Nearly all edges are ruled out by the order of points or by the sides of the segment's line on which their ends are.
-pub(crate) fn inner_point(records: &Records, whole: &Span, dart: DartId) -> Option<Point>
+/// Whether the segment can meet the inside of a dart's edge, by the sides of its line on which the ends are: an edge of its own
+/// line, or one whose ends are on different sides. It rules out nearly all edges.
+pub(crate) fn may_meet(records: &Records, whole: &Span, dart: DartId) -> bool
     requires sound { IsGraphSound records.now.graph }
     requires whole { IsWhole whole.now }
     requires dart { HasDart records.now.graph dart }
+    ensures { result ≡ false → (q : Coordinates) → ¬ MeetsInside records.now.graph (ends_of whole.now) dart q }
+{
+    if records.line(dart) == whole.line() {
+        return true;
+    }
+    let source = records.point(records.source(dart));
+    let target = records.point(records.target(dart));
+    are_parted(&whole.line(), &source, &target)
+}
+
+/// The point inside the edge of a forward dart that is a meeting point after the segment's lower end: the crossing with an
+/// edge of another line, or the segment's upper end on an edge of its own line.
+///
+/// An edge that the segment's ends don't reach is ruled out by the order of points.
+pub(crate) fn inner_point(records: &Records, whole: &Span, dart: DartId) -> Option<Point>
+    requires sound { IsGraphSound records.now.graph }
+    requires whole { IsWhole whole.now }
+    requires forward { IsForward records.now.graph dart }
     ensures { IsInnerPoint records.now.graph (ends_of whole.now) dart result }
 {
     let low = records.point(records.source(dart));
@@ -119,9 +136,6 @@ pub(crate) fn inner_point(records: &Records, whole: &Span, dart: DartId) -> Opti
     }
     if records.line(dart) == whole.line() {
         return upper_between(whole, &low, &high);
-    }
-    if !are_parted(&whole.line(), &low, &high) {
-        return None;
     }
     later_crossing(records, whole, dart)
 }

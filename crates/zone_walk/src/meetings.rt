@@ -8,9 +8,10 @@ ghost use Rattle.slab_laws.specs.View.{HasVertex, HasDart};
 ghost use Rattle.std.specs.Map.{keys_of};
 ghost use Rattle.zone_walk.specs.Found.{ends_of, IsWhole, AreFound, AreKept, TakesVertex, TakesDart, HasVertices, HasInnerPoints, AreLaterMeetings};
 
-use crate::crossings::inner_point;
+use crate::crossings::{inner_point, may_meet};
 use dcel_records::{Records, Spot};
 use exact_plane::{Point, Segment, Sign, Span, line_of, side};
+use locate_naive::{forward_dart, is_first};
 use no_memory::NoMemory;
 use slab_laws::{DartId, Darts, VertexId};
 use std::alloc::Global;
@@ -89,7 +90,8 @@ fn add_vertices(
     Ok(())
 }
 
-// Adds the meeting point inside the edge of a forward dart, where there is one after the segment's lower end.
+// Adds the meeting point inside the edge of a dart, where there is one after the segment's lower end. Of the two darts along an
+// edge only the first is looked at.
 fn add_inner_point(
     found: &mut BTreeMap<Point, Spot>,
     records: &Records,
@@ -104,8 +106,15 @@ fn add_inner_point(
     ensures kept { OnOk result (AreKept found.old.entries found.new.entries) }
     ensures inner { OnOk result (TakesDart records.now.graph (ends_of whole.now) found.new.entries dart) }
 {
-    if let Some(point) = inner_point(records, whole, dart) {
-        found.insert(point, Spot::Edge(dart))?;
+    if !is_first(records, dart) {
+        return Ok(());
+    }
+    if !may_meet(records, whole, dart) {
+        return Ok(());
+    }
+    let forward = forward_dart(records, dart);
+    if let Some(point) = inner_point(records, whole, forward) {
+        found.insert(point, Spot::Edge(forward))?;
     }
     Ok(())
 }

@@ -8,7 +8,7 @@ invariant-ring g l =
     let v = g.R.Darts.graph l.records in
     record {
       out : IsOutOf v (source_in v l.first) l.dart;
-      passed : NoneTo v l.first l.fn.to l.dart;
+      passed : NoneTo v l.first l.to l.dart;
     }
 
 abbrev pub decreases-ring : goal.decreases-ring

@@ -1,4 +1,4 @@
-use Rattle.std.proofs.Common.{◌≡◌, sym, ap, subst, ◌∙◌}
+use Rattle.std.proofs.Common.{◌≡◌, ap, subst}
 use Rattle.exact_plane.specs.Segment.{Segment}
 use Rattle.zone_walk.specs.Found.{ends_of, AreLaterMeetings}
 use Rattle.zone_walk.proofs.Collected.{vertex_still, all_later}

@@ -1,12 +1,11 @@
-use Rattle.std.proofs.Common.{◌≡◌, true, false, sym, ap, ◌∙◌, subst}
+use Rattle.std.proofs.Common.{sym, ap, ◌∙◌, subst}
 use Rattle.std.specs.Prelude.{[], ◌∷◌, ◌++◌, List}
 use Rattle.exact_plane.specs.Line.{Line, IsOn}
-use Rattle.plane_graphs.specs.Line.{precedes, IsProperLine}
 use Rattle.zone_walk.specs.declared.plan.Meeting.{Meeting}
 use Rattle.zone_walk.proofs.Courses.{course}
 use Rattle.zone_walk.proofs.Stretches.{told, meets_lies, meets_proper, stretch_to}
 use Rattle.zone_walk.specs.Walk.{IsSpotAhead}
-use Rattle.zone_walk.proofs.Walked.{starts, continues, zone_done, left_next, left_spot, still_left, fewer_left, before_upper, past_upper, begins_left, no_entries}
+use Rattle.zone_walk.proofs.Walked.{starts, continues, zone_done, left_next, left_spot, still_left, before_upper, past_upper, begins_left, no_entries}
 use Rattle.zone_walk.proofs.walk.zone.Goals as goal
 
 pub walk-init : goal.walk-init
