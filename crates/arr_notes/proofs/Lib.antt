@@ -6,3 +6,7 @@ pub mod PairReads
 pub mod Redirected
 pub mod NamesWritten
 pub mod Names
+pub mod After
+pub mod NamedTables
+pub mod ViewDrawn
+pub mod CurveRows

@@ -1,5 +1,5 @@
 -- Names of darts, vertices and curves, told by their numbers.
-use Rattle.std.proofs.Common.{◌≡◌, ℕ, List, [], ◌∷◌, map, refl, ap, ◌≢◌, ◌⊎◌, inl, inr, ◌-◌, Bool, true, sym, ◌∙◌}
+use Rattle.std.proofs.Common.{◌≡◌, ℕ, List, [], ◌∷◌, map, refl, ap, ◌≢◌, ◌⊎◌, inl, inr, Bool, true, sym, ◌∙◌}
 use Rattle.std.proofs.lemmas.Bool.{cases_eq, eqb-true}
 use Rattle.std.specs.Prelude.{◌==◌}
 use Rattle.slab_laws.specs.declared.names.CurveId.{CurveId}

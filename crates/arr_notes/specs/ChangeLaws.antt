@@ -1,12 +1,10 @@
 -- What tables and views say after each change (this project).
-use Rattle.std.specs.Prelude.{◌≡◌, ◌≢◌, ◌==◌, Bool}
+use Rattle.std.specs.Prelude.{Bool}
 use Rattle.exact_plane.specs.Point.{Point}
 use Rattle.slab_laws.specs.declared.names.DartId.{DartId}
 use Rattle.slab_laws.specs.declared.names.VertexId.{VertexId}
 use Rattle.slab_laws.specs.Sound.{IsNamed}
-use Rattle.slab_laws.specs.Tables.{names}
 use Rattle.slab_laws.specs.View.{View, DartRecord, HasVertex, HasDart}
-use Rattle.arr_notes.specs.NamedRows.{each}
 use Rattle.arr_notes.specs.ViewChanges.{no_rows, with_vertex, without_vertex, with_pin, with_pair, without_pair, with_next, with_source, redirect}
 
 -- ---- tables

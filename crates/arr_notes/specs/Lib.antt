@@ -5,3 +5,8 @@ pub mod ChangeLaws
 pub mod AfterAround
 pub mod Step
 pub mod Curves
+pub mod RecordGraph
+pub mod CurvedView
+pub mod ViewRows
+pub mod Notes
+pub mod ViewLaws

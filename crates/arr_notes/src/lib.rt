@@ -5,8 +5,24 @@
 //! `specs/ViewChanges.antt`, those that are told in `specs/Step.antt`.
 #![tactic(auto)]
 
+ghost use Rattle.arr_notes.specs.ViewLaws.{ReadViewsAreSound};
+
 mod change;
+mod drawing;
 mod intent;
+mod note;
+mod observer;
+mod view;
+mod walks;
 
 pub use change::Change;
 pub use intent::Intent;
+pub use note::{Answer, Note};
+pub use observer::Observer;
+pub use view::{DartRow, EdgeRow, VertexRow, View};
+pub use walks::{dart_names, vertex_names};
+
+/// Sound records with the curves of their edges are a sound view. This is a law: the body, being empty, computes nothing.
+pub fn read_views_are_sound()
+    ensures { ReadViewsAreSound }
+{}

@@ -14,7 +14,7 @@ use Rattle.slab_laws.specs.View.{View, dart_id, point_in, source_in, target_in, 
 use Rattle.arr_notes.specs.ViewChanges.{no_rows}
 use Rattle.arr_notes.specs.Curves.{Curves, is_forward, IsForward}
 use Rattle.arr_notes.proofs.Names.{numbers_of as numbers}
-use Rattle.sound_views.specs.RecordGraph.{drawn_graph, marks_along}
+use Rattle.arr_notes.specs.RecordGraph.{drawn_graph, marks_along}
 use Rattle.sound_views.proofs.GraphDrawn.{twins_are_directed}
 use Rattle.curve_history.specs.Past.{Past, curves_on, SameLayer, SameCurves}
 use Rattle.curve_history.specs.DrawnRecords.{curves_in, forward_of, IsTold}

@@ -1,7 +1,3 @@
-pub mod TextLists
-pub mod TextOrders
-pub mod TextWords
-pub mod TextPins
-pub mod GraphTexts
 pub mod Layers
 pub mod Ends
+mod Located

@@ -1,4 +1,3 @@
-pub mod TextLaws
 pub mod Arranged
 pub mod Edited
 pub mod Answers

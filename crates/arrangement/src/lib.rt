@@ -6,6 +6,7 @@ mod arrangement;
 mod edges;
 mod limits;
 mod questions;
+mod spots;
 
 pub use arrangement::Arrangement;
 pub use curve_history::HistoryError;

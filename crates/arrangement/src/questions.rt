@@ -1,10 +1,11 @@
-ghost use Rattle.std.specs.Prelude.{◌≡◌, ◌↔◌, ◌≢◌, not, map, length, IfOk, IsErrOf};
+ghost use Rattle.std.specs.Prelude.{◌≡◌, ◌↔◌, ◌≢◌, not, map, length, IfOk, IsErrOf, OnErr};
 ghost use Rattle.std.specs.List.{count_by};
 ghost use Rattle.exact_plane.specs.Point.{Point};
 ghost use Rattle.plane_graphs.specs.Ascending.{Member, IsAscending};
 ghost use Rattle.plane_graphs.specs.Graph.{graph, edges, curves, edge_cmp};
 ghost use Rattle.slab_laws.specs.Subdivision.{holds};
 ghost use Rattle.slab_laws.specs.Text.{present_text};
+ghost use Rattle.dcel_records.specs.Spots.{IsInFace};
 ghost use Rattle.plain_slabs.specs.Listed.{subdivision_in, view_of, faces_of, AreLinesOf};
 ghost use Rattle.slab_laws.specs.FacesSound.{IsSound};
 ghost use Rattle.arrangement.specs.Arranged.{layer_in, subdivision_by};
@@ -12,8 +13,10 @@ ghost use Rattle.arrangement.specs.Questions.{curves_between, IsNoEdge, AreEdges
 
 use crate::arrangement::Arrangement;
 use crate::edges::ends_in_order;
+use crate::spots::{edge_cell, spot_by};
 use arr_text::text;
 use curve_history::{Drawn, HistoryError};
+use dcel_records::Spot;
 use exact_plane::Point;
 use locate_naive::edge_dart;
 use no_memory::NoMemory;
@@ -70,17 +73,27 @@ impl Arrangement {
 
     /// Where a point lies: at a vertex, on an edge, or in a face, told by its rank (CGAL manual, point location).
     ///
-    /// The answer is the same under every strategy.
+    /// The answer is the same under every strategy. At a vertex or on an edge it takes no memory; the face of any other point
+    /// comes from the subdivision, which is built afresh.
     ///
     /// # Errors
     ///
-    /// There was no memory for the subdivision.
-    pub fn locate(&mut self, _strategy: Strategy, p: &Point) -> Result<Cell, NoMemory>
+    /// The point lies in a face, and there was no memory for the subdivision.
+    pub fn locate(&mut self, strategy: Strategy, p: &Point) -> Result<Cell, NoMemory>
         ensures cell { IfOk result (λ c. c ≡ holds (subdivision_by self.old) p.now) }
+        ensures no_memory { OnErr result (IsInFace self.old.graph p.now) }
         ensures same { self.new ≡ self.old }
     {
-        let subdivision = self.subdivide()?;
-        Ok(hold(&subdivision, p))
+        // A call on the point tells that its numbers are a point's.
+        let _weight = p.w();
+        match spot_by(strategy, &self.records, p) {
+            Spot::Vertex(_) => Ok(Cell::Vertex(*p)),
+            Spot::Edge(dart) => Ok(edge_cell(&self.records, dart)),
+            Spot::Face => {
+                let subdivision = self.subdivide()?;
+                Ok(hold(&subdivision, p))
+            }
+        }
     }
 
     /// How many vertices, edges, faces, inner cycles, isolated vertices and named curves there are.

@@ -3,7 +3,7 @@ use arrangement::{Arrangement, EdgeError, HistoryError};
 use exact_plane::Point;
 use locate_naive::vertex_at;
 use no_memory::NoMemory;
-use slab_laws::{Cell, CurveId, DartId, Strategy, VertexId};
+use slab_laws::{CurveId, DartId, VertexId};
 use std::test::Fail;
 
 /// Names of records along the abscissa: of the vertices at 0, 1 and 4, and of the darts between the first two.
@@ -124,13 +124,6 @@ pub fn counted(layer: &Arrangement) -> Result<[usize; 6], Fail> {
         counts.isolated,
         curves,
     ])
-}
-
-/// Whether the point is on the edge between two others, all on the abscissa.
-pub fn is_on_edge(layer: &mut Arrangement, x: i128, ends: (i128, i128)) -> Result<bool, Fail> {
-    let point = at(x, 0)?;
-    let edge = Cell::Edge(at(ends.0, 0)?, at(ends.1, 0)?);
-    Ok(layer.locate(Strategy::Naive, &point)? == edge)
 }
 
 /// Whether the arrangement has the text.

@@ -1,8 +1,9 @@
 use crate::asked::{
-    counted, has_curves, has_edges, has_first_curves, has_no_edge, has_text, is_on_edge, is_unknown,
+    counted, has_curves, has_edges, has_first_curves, has_no_edge, has_text, is_unknown,
 };
 use crate::edits::{Answer, Edit, Under, apply, layer_under};
 use crate::kept::{draws, keeps_names, keeps_text, pins};
+use crate::places::{Place, lies_at};
 use crate::zones::has_zone;
 use arrangement::Arrangement;
 use slab_laws::CurveId;
@@ -27,7 +28,8 @@ pub enum Call {
     HasEdges(u32, &'static [(i128, i128)]),
     IsUnknown(u32),
     Counts([usize; 6]),
-    IsOnEdge(i128, (i128, i128)),
+    /// The point (x/w, y/w) lies there, under each strategy.
+    Lies((i128, i128, i128), Place),
     HasText(&'static [u8]),
     /// The zone of a segment has these meeting points and overlaps these edges.
     HasZone((i64, i64), &'static [i128], &'static [(i128, i128)]),
@@ -42,7 +44,7 @@ fn is_told(alloc: Global, layer: &mut Arrangement, call: &Call) -> Result<bool, 
         Call::HasEdges(curve, wanted) => has_edges(layer, *curve, wanted),
         Call::IsUnknown(curve) => Ok(is_unknown(layer, *curve)),
         Call::Counts(wanted) => Ok(counted(layer)? == *wanted),
-        Call::IsOnEdge(x, ends) => is_on_edge(layer, *x, *ends),
+        Call::Lies(point, place) => lies_at(layer, *point, *place),
         Call::HasText(wanted) => Ok(has_text(layer, wanted)?),
         Call::HasZone(ends, points, edges) => has_zone(alloc, layer, *ends, points, edges),
         _ => Ok(false),

@@ -10,6 +10,8 @@ mod edits;
 #[cfg(test)]
 mod kept;
 #[cfg(test)]
+mod places;
+#[cfg(test)]
 mod rows;
 #[cfg(test)]
 mod zones;

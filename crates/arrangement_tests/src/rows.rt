@@ -1,5 +1,6 @@
 use crate::calls::{Call, are_right};
 use crate::edits::{Answer, Edit, Under};
+use crate::places::Place;
 use slab_laws::CurveId;
 use std::test::Fail;
 
@@ -35,7 +36,7 @@ const OVERLAPS: [Call; 10] = [
     Call::HasEdges(2, &[(2, 4)]),
     Call::IsUnknown(3),
     Call::Counts([4, 3, 1, 1, 0, 2]),
-    Call::IsOnEdge(3, (2, 4)),
+    Call::Lies((3, 0, 1), Place::Edge((2, 0), (4, 0))),
 ];
 
 const PINS: [Call; 9] = [
@@ -50,7 +51,7 @@ const PINS: [Call; 9] = [
     Call::HasCurves(0, 4, &[CurveId(1), CurveId(2)]),
 ];
 
-const DIAGONALS: [Call; 7] = [
+const DIAGONALS: [Call; 23] = [
     Call::Makes(Edit::Insert(0, 0, 4, 0), Answer::Drawn(1)),
     Call::Makes(Edit::Insert(4, 0, 4, 4), Answer::Drawn(2)),
     Call::Makes(Edit::Insert(4, 4, 0, 4), Answer::Drawn(3)),
@@ -63,6 +64,23 @@ const DIAGONALS: [Call; 7] = [
         e 1 2 : 4\ne 1 3 : 5\ne 1 4 : 1\ne 2 3 : 6\ne 2 5 : 3\ne 3 4 : 6\ne 3 5 : 5\ne 4 5 : 2\n\
         f 0\nh 1 2 5 4\nf 1\no 1 3 2\nf 2\no 1 4 3\nf 3\no 2 3 5\nf 4\no 3 4 5\nend\n",
     ),
+    Call::Lies((4, 2, 1), Place::Edge((4, 0), (4, 4))),
+    Call::Lies((2, 5, 1), Place::Face(0)),
+    Call::Lies((5, 2, 1), Place::Face(0)),
+    Call::Lies((0, 0, 9), Place::Vertex(0, 0)),
+    Call::Lies((2, 1, 1), Place::Face(2)),
+    Call::Lies((1, 1, 1), Place::Edge((0, 0), (2, 2))),
+    Call::Lies((1, 1, 3), Place::Edge((0, 0), (2, 2))),
+    Call::Lies((2, 2, 1), Place::Vertex(2, 2)),
+    Call::Lies((2, 4, 1), Place::Edge((0, 4), (4, 4))),
+    // On the vertical through two vertices and the edge between them, and through a vertex above these.
+    Call::Makes(Edit::Pin(4, 6), Answer::Done),
+    Call::Lies((4, -1, 1), Place::Face(0)),
+    Call::Lies((4, 0, 1), Place::Vertex(4, 0)),
+    Call::Lies((4, 4, 1), Place::Vertex(4, 4)),
+    Call::Lies((4, 5, 1), Place::Face(0)),
+    Call::Lies((4, 6, 1), Place::Vertex(4, 6)),
+    Call::Lies((4, 7, 1), Place::Face(0)),
 ];
 
 // From inside one edge, along a second, to inside a third.

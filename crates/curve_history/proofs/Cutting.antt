@@ -1,91 +1,31 @@
--- What a cut leaves of pieces, counted and put in order.
-use Rattle.std.proofs.Common.{◌≡◌, inl, inr, ℕ, zero, suc, ◌+◌, ◌≤◌, ◌<◌, ◌^◌, cond, not, Bool, true, false, ◌&&◌, ◌||◌, List, [], ◌∷◌, ◌++◌, length, map, take, drop, get_or, take_all, Option, Some, refl, sym, ap, subst, ◌∙◌, arith, Fits, w64, vec_capacity}
-use Rattle.std.specs.Prelude.{option_to_list}
-use Rattle.std.specs.List.{filter, flat_map, list_any}
-use Rattle.std.proofs.lemmas.List.{length-append, length-map, append_assoc, append-nil, flat_map_more, get_or-map, map_push, take_more}
+-- What a cut leaves of pieces: planned, and put in place of them.
+use Rattle.std.proofs.Common.{◌≡◌, ◌≢◌, inl, inr, ℕ, zero, suc, ◌+◌, ◌≤◌, ◌<◌, ◌^◌, cond, not, Bool, true, false, ◌&&◌, ◌||◌, List, [], ◌∷◌, ◌++◌, length, map, take, drop, get_or, take_all, refl, sym, ap, subst, ◌∙◌, arith}
+use Rattle.std.specs.List.{filter, flat_map, list_any, AllByRecursion}
+use Rattle.std.proofs.lemmas.Bool.{cases_eq}
+use Rattle.std.proofs.lemmas.List.{length-append, length-map, length-take, length-take-le, append_assoc, flat_map_more, get_or-map, take_at, take_more, take-append-le, drop-append-le, take-append-drop, drop_all}
 use Rattle.std.proofs.lemmas.List.Concat.{flat_map-append}
+use Rattle.std.proofs.lemmas.List.Elements.{filter-append}
 use Rattle.exact_plane.specs.Point.{Point}
-use Rattle.plane_graphs.specs.Ascending.{Member}
 use Rattle.exact_plane.specs.Segment.{line_of_segment}
 use Rattle.plane_graphs.specs.Line.{is_on, precedes}
 use Rattle.plane_graphs.specs.Piece.{Piece, along, on}
-use Rattle.plane_graphs.proofs.Lists.{in_right, of_filter}
 use Rattle.edit_steps.specs.Steps.{cut_piece}
 use Rattle.slab_laws.specs.Pieces.{piece_of}
 use Rattle.slab_laws.specs.declared.present.Piece.{Piece as PieceInMemory}
-use Rattle.std.specs.declared.vec.Vec.{Vec}
-use Rattle.linked_chains.specs.Chains.{Chained}
-use Rattle.curve_history.specs.Past.{Past}
-use Rattle.curve_history.specs.HistoryInMemory.{IsSoundHistory}
-use Rattle.curve_history.specs.declared.history.History.TheInside.{Inside}
-use Rattle.curve_history.proofs.Histories.{IsSeen}
+use Rattle.curve_history.specs.declared.cuts.CutPlan.{CutPlan}
 use Rattle.curve_history.proofs.Naming.{filter_map}
-use Rattle.curve_history.specs.Cuts.{leaves_some, AllLeaveSome}
+use Rattle.curve_history.specs.Cuts.{leaves_some, rests_of, spans, AllLeaveSome, AreWhole, IsPlanOfCut, IsPlanWithNext}
 
--- ---- rounds of a ring
--- the first i of the elements have gone round, and left in their places what f makes of them
-pub record IsRound {X : Type 0} (f : X → List X) (xs now : List X) (i : ℕ) : Type 0 where
-  pub done : List X
-  pub rest : List X
-  pub whole : xs ≡ done ++ rest
-  pub here : now ≡ rest ++ flat_map f done
-  pub count : length done ≡ i
+-- ---- what holds of all elements of a list
+module _ {X : Type 0} (P : X → Type 0) where
+  pub all_push : (xs : List X) (x : X) → AllByRecursion P xs → P x → AllByRecursion P (xs ++ x ∷ [])
+  all_push [] x a h = (h, tt)
+  all_push (y ∷ xs) x a h = (a.0, all_push xs x a.1 h)
 
-module _ {X : Type 0} (f : X → List X) where
-  pub first_round : (xs now : List X) → now ≡ xs → IsRound f xs now 0
-  first_round xs now e = record { done = []; rest = xs; whole = refl; here = e ∙ sym (append-nil xs); count = refl }
-
-  pub last_round : (xs now : List X) (i : ℕ) → IsRound f xs now i → length xs ≤ i → now ≡ flat_map f xs
-  last_round xs now i r h = by r.done r.rest r.whole r.here r.count
-    where
-      by : (done rest : List X) → xs ≡ done ++ rest → now ≡ rest ++ flat_map f done → length done ≡ i → now ≡ flat_map f xs
-      by done [] w n c = n ∙ ap (flat_map f) (sym (w ∙ append-nil done))
-      by done (y ∷ rest) w n c = absurd (omega (arith, ap length w, length-append done (y ∷ rest), c, h))
-
-  -- as many as there are, or more
-  no_fewer : (xs : List X) → ((x : X) → Member x xs → 1 ≤ length (f x)) → length xs ≤ length (flat_map f xs)
-  no_fewer [] g = omega arith
-  no_fewer (x ∷ xs) g = omega (arith, length-append (f x) (flat_map f xs), g x (inl refl), no_fewer xs (λ y m. g y (inr m)))
-
-  -- the next element goes round
-  module _ (xs now : List X) (i : ℕ) (r : IsRound f xs now i) (h : i < length xs) where
-    pub none_round : now ≡ [] → ⊥
-    none_round e = by r.done r.rest r.whole r.here r.count
-      where
-        by : (done rest : List X) → xs ≡ done ++ rest → now ≡ rest ++ flat_map f done → length done ≡ i → ⊥
-        by done [] w n c = omega (arith, ap length (w ∙ append-nil done), c, h)
-        by done (y ∷ rest) w n c = omega (arith, ap length (sym e ∙ n))
-
-    module _ (x : X) (left : List X) (e : now ≡ x ∷ left) where
-      pub next_round : (new : List X) → new ≡ left ++ f x → IsRound f xs new (i + 1)
-      next_round new m = by r.done r.rest r.whole r.here r.count
-        where
-          by : (done rest : List X) → xs ≡ done ++ rest → now ≡ rest ++ flat_map f done → length done ≡ i → IsRound f xs new (i + 1)
-          by done [] w n c = absurd (omega (arith, ap length (w ∙ append-nil done), c, h))
-          by done (y ∷ rest) w n c =
-              let q : y ∷ (rest ++ flat_map f done) ≡ x ∷ left = sym n ∙ e in
-              let first : y ≡ x = ap (λ l. get_or l 0 x) q in
-              let others : rest ++ flat_map f done ≡ left = ap (drop 1) q in
-              record {
-                done = done ++ x ∷ [];
-                rest = rest;
-                whole = w ∙ ap (λ z. done ++ z ∷ rest) first ∙ sym (append_assoc done (x ∷ []) rest);
-                here = m ∙ ap (λ l. l ++ f x) (sym others) ∙ flat_map_more f rest done x;
-                count = length-append done (x ∷ []) ∙ ap (λ n. n + 1) c;
-              }
-
-      pub room_round : ((y : X) → Member y xs → 1 ≤ length (f y)) → length left + length (f x) ≤ length (flat_map f xs)
-      room_round g = by r.done r.rest r.whole r.here r.count
-        where
-          by : (done rest : List X) → xs ≡ done ++ rest → now ≡ rest ++ flat_map f done → length done ≡ i → length left + length (f x) ≤ length (flat_map f xs)
-          by done [] w n c = absurd (omega (arith, ap length (w ∙ append-nil done), c, h))
-          by done (y ∷ rest) w n c =
-              let q : y ∷ (rest ++ flat_map f done) ≡ x ∷ left = sym n ∙ e in
-              let first : length (f y) ≡ length (f x) = ap (λ l. length (f (get_or l 0 x))) q in
-              let others : length (rest ++ flat_map f done) ≡ length left = ap (λ l. length (drop 1 l)) q in
-              let all : length (flat_map f xs) ≡ length (flat_map f done ++ flat_map f (y ∷ rest)) = ap length (ap (flat_map f) w ∙ flat_map-append f done (y ∷ rest)) in
-              let some : length rest ≤ length (flat_map f rest) = no_fewer rest (λ z m. g z (subst (Member z) (sym w) (in_right z done (y ∷ rest) (inr m)))) in
-              omega (arith, first, others, all, some, length-append rest (flat_map f done), length-append (flat_map f done) (flat_map f (y ∷ rest)), length-append (f y) (flat_map f rest))
+  pub all_take : (n : ℕ) (xs : List X) → AllByRecursion P xs → AllByRecursion P (take n xs)
+  all_take zero xs a = tt
+  all_take (suc n) [] a = tt
+  all_take (suc n) (x ∷ xs) a = (a.0, all_take n xs a.1)
 
 -- ---- those of which something is left
 module _ {X Y : Type 0} (f : X → List Y) where
@@ -106,8 +46,26 @@ module _ {X Y : Type 0} (f : X → List Y) where
   some [] h = cc
   some (y ∷ ys) h = omega arith
 
-  pub kept_some : (xs : List X) (x : X) → Member x (filter (λ x. list_any (λ y. true) (f x)) xs) → 1 ≤ length (f x)
-  kept_some xs x m = some (f x) (of_filter (λ x. list_any (λ y. true) (f x)) x xs m).1
+  pub kept_some : (xs : List X) → AllByRecursion (λ x. 1 ≤ length (f x)) (filter (λ x. list_any (λ y. true) (f x)) xs)
+  kept_some [] = tt
+  kept_some (x ∷ xs) = step (list_any (λ y. true) (f x)) refl (kept_some xs)
+    where
+      step : (b : Bool) → list_any (λ y. true) (f x) ≡ b → AllByRecursion (λ x. 1 ≤ length (f x)) (filter (λ x. list_any (λ y. true) (f x)) xs) → AllByRecursion (λ x. 1 ≤ length (f x)) (cond b (x ∷ filter (λ x. list_any (λ y. true) (f x)) xs) (filter (λ x. list_any (λ y. true) (f x)) xs))
+      step true e h = (some (f x) e, h)
+      step false e h = h
+
+  -- as many as there are, or more
+  pub no_fewer : (xs : List X) → AllByRecursion (λ x. 1 ≤ length (f x)) xs → length xs ≤ length (flat_map f xs)
+  no_fewer [] a = omega arith
+  no_fewer (x ∷ xs) a = omega (arith, length-append (f x) (flat_map f xs), a.0, no_fewer xs a.1)
+
+  -- no more than from the longer list
+  pub front_fewer : (i : ℕ) (xs : List X) → length (flat_map f (take i xs)) ≤ length (flat_map f xs)
+  front_fewer i xs = omega (arith, ap length (ap (flat_map f) (sym (take-append-drop i xs)) ∙ flat_map-append f (take i xs) (drop i xs)), length-append (flat_map f (take i xs)) (flat_map f (drop i xs)))
+
+  -- one element more
+  pub length_more : (xs : List X) (x : X) → length (flat_map f (xs ++ x ∷ [])) ≡ length (flat_map f xs) + length (f x)
+  length_more xs x = ap length (sym (flat_map_more f [] xs x)) ∙ length-append (flat_map f xs) (f x)
 
 -- ---- a piece's line
 and_true : (x y : Bool) → x ≡ true → y ≡ (x && y)
@@ -128,33 +86,36 @@ module _ (k : Piece) (a b : Point) (x : Bool) (h : x ≡ is_on (line_of_segment 
   one_apart f = h ∙ and_false (is_on (line_of_segment k.segment) a) (is_on (line_of_segment k.segment) b) (sym h ∙ f)
 
 -- ---- a piece that holds both points, or not
-four_in : (x y s t : Bool) → (s && t) ≡ true → (x && y) ≡ ((x && s) && (y && t))
-four_in true true true true h = refl
-four_in true false true true h = refl
-four_in false y true true h = refl
-four_in x y true false h = cc
-four_in x y false t h = cc
+six_in : (a b c d x y : Bool) → (a && b) ≡ true → ((x && y) && (c && d)) ≡ ((x && (a && d)) && (y && (c && b)))
+six_in true true c d false y h = refl
+six_in true true c true true false h = refl
+six_in true true c false true false h = refl
+six_in true true true true true true h = refl
+six_in true true true false true true h = refl
+six_in true true false true true true h = refl
+six_in true true false false true true h = refl
+six_in true false c d x y h = cc
+six_in false b c d x y h = cc
 
-four_out : (x y s t : Bool) → (s && t) ≡ false → (s && t) ≡ ((x && s) && (y && t))
-four_out x y true true h = cc
-four_out true true true false h = refl
-four_out true false true false h = refl
-four_out false y true false h = refl
-four_out true y false t h = refl
-four_out false y false t h = refl
+six_out : (a b c d x y : Bool) → (a && b) ≡ false → (a && b) ≡ ((x && (a && d)) && (y && (c && b)))
+six_out true true c d x y h = cc
+six_out false b c d false y h = refl
+six_out false b c d true y h = refl
+six_out true false c d false y h = refl
+six_out true false c false true y h = refl
+six_out true false c true true false h = refl
+six_out true false true true true true h = refl
+six_out true false false true true true h = refl
 
 module _ (k : Piece) (a b : Point) where
-  reach : Point → Bool
-  reach p = not (precedes p k.from) && not (precedes k.to p)
-
-  module _ (r : Bool) (h : r ≡ ((not (precedes a k.from) && not (precedes k.to a)) && (not (precedes b k.from) && not (precedes k.to b)))) where
-    pub both_on : r ≡ true → (y : Bool) → y ≡ (along k a && along k b) → y ≡ (on k a && on k b)
-    unfolding on reach
-    both_on t y g = g ∙ four_in (along k a) (along k b) (reach a) (reach b) (sym h ∙ t)
+  module _ (r : Bool) (h : r ≡ spans k a b) where
+    pub both_on : r ≡ true → (y : Bool) → y ≡ ((along k a && along k b) && spans k b a) → y ≡ (on k a && on k b)
+    unfolding on
+    both_on t y g = g ∙ six_in (not (precedes a k.from)) (not (precedes k.to b)) (not (precedes b k.from)) (not (precedes k.to a)) (along k a) (along k b) (sym h ∙ t)
 
     pub one_off : r ≡ false → r ≡ (on k a && on k b)
-    unfolding on reach
-    one_off f = h ∙ four_out (along k a) (along k b) (reach a) (reach b) (sym h ∙ f)
+    unfolding on
+    one_off f = h ∙ six_out (not (precedes a k.from)) (not (precedes k.to b)) (not (precedes b k.from)) (not (precedes k.to a)) (along k a) (along k b) (sym h ∙ f)
 
   -- whether something is left
   module _ (r : Bool) (h : r ≡ (precedes k.from a || precedes b k.to)) where
@@ -187,9 +148,6 @@ module _ (k : Piece) (a b : Point) where
     pub whole_count : 1 ≡ length (cut_piece a b k)
     whole_count = ap length (sym is_whole)
 
-    pub whole_fits : (n m : ℕ) → n + length (cut_piece a b k) ≤ m → n < m
-    whole_fits n m g = omega (arith, whole_count, g)
-
   -- one that does is parted
   module _ (r : Bool) (h : r ≡ (on k a && on k b)) (t : r ≡ true) (s : Bool) (hs : s ≡ precedes k.from a) (u : Bool) (hu : u ≡ precedes b k.to) where
     pub are_parts : cut_piece a b k ≡ cond s (record k { to = a } ∷ []) [] ++ cond u (record k { from = b } ∷ []) []
@@ -208,26 +166,32 @@ module _ (k : Piece) (a b : Point) where
     pub parts_count : cond {A = ℕ} s 1 0 + cond {A = ℕ} u 1 0 ≡ length (cut_piece a b k)
     parts_count = both_counts (record k { to = a }) (record k { from = b }) s u ∙ ap length (sym are_parts)
 
-    pub first_fits : (n m : ℕ) → n + length (cut_piece a b k) ≤ m → n + cond {A = ℕ} s 1 0 ≤ m
-    first_fits n m g = less (cond {A = ℕ} s 1 0) (cond {A = ℕ} u 1 0) parts_count
+    pub last_fits : (n : ℕ) → length (cut_piece a b k) ≤ n → cond {A = ℕ} u 1 0 ≤ n
+    last_fits n g = less (cond {A = ℕ} s 1 0) (cond {A = ℕ} u 1 0) parts_count
       where
-        less : (x y : ℕ) → x + y ≡ length (cut_piece a b k) → n + x ≤ m
+        less : (x y : ℕ) → x + y ≡ length (cut_piece a b k) → y ≤ n
         less x y e = omega (arith, e, g)
 
-    pub second_fits : (n m i j : ℕ) → n + length (cut_piece a b k) ≤ m → i ≡ n + cond {A = ℕ} s 1 0 → j ≡ m → i + cond {A = ℕ} u 1 0 ≤ j
-    second_fits n m i j g e q = less (cond {A = ℕ} s 1 0) (cond {A = ℕ} u 1 0) parts_count e
+    pub first_fits : (n m : ℕ) → length (cut_piece a b k) ≤ n → m + cond {A = ℕ} u 1 0 ≡ n → cond {A = ℕ} s 1 0 ≤ m
+    first_fits n m g q = less (cond {A = ℕ} s 1 0) (cond {A = ℕ} u 1 0) parts_count q
       where
-        less : (x y : ℕ) → x + y ≡ length (cut_piece a b k) → i ≡ n + x → i + y ≤ j
-        less x y p w = omega (arith, p, w, g, q)
+        less : (x y : ℕ) → x + y ≡ length (cut_piece a b k) → m + y ≡ n → x ≤ m
+        less x y e w = omega (arith, e, g, w)
 
-    pub parts_put : (ks js is : List Piece) → js ≡ ks ++ cond s (record k { to = a } ∷ []) [] → is ≡ js ++ cond u (record k { from = b } ∷ []) [] → is ≡ ks ++ cut_piece a b k
+    pub parts_place : (n m i : ℕ) → m + cond {A = ℕ} u 1 0 ≡ n → i + cond {A = ℕ} s 1 0 ≡ m → i + length (cut_piece a b k) ≡ n
+    parts_place n m i q w = both (cond {A = ℕ} s 1 0) (cond {A = ℕ} u 1 0) parts_count q w
+      where
+        both : (x y : ℕ) → x + y ≡ length (cut_piece a b k) → m + y ≡ n → i + x ≡ m → i + length (cut_piece a b k) ≡ n
+        both x y e q w = omega (arith, e, q, w)
+
+    pub parts_put : (ks js is : List Piece) → js ≡ cond u (record k { from = b } ∷ []) [] ++ ks → is ≡ cond s (record k { to = a } ∷ []) [] ++ js → is ≡ cut_piece a b k ++ ks
     parts_put ks js is e q =
-        q ∙ ap (λ l. l ++ cond u (record k { from = b } ∷ []) []) e
-        ∙ append_assoc ks (cond s (record k { to = a } ∷ []) []) (cond u (record k { from = b } ∷ []) [])
-        ∙ ap (λ l. ks ++ l) (sym are_parts)
+        q ∙ ap (λ l. cond s (record k { to = a } ∷ []) [] ++ l) e
+        ∙ sym (append_assoc (cond s (record k { to = a } ∷ []) []) (cond u (record k { from = b } ∷ []) []) ks)
+        ∙ ap (λ l. l ++ ks) (sym are_parts)
 
 -- ---- how many are left of all
-two_at_most : (a b : Point) (k : Piece) → length (cut_piece a b k) ≤ 2
+pub two_at_most : (a b : Point) (k : Piece) → length (cut_piece a b k) ≤ 2
 unfolding cut_piece
 two_at_most a b k = by (precedes k.from a) (precedes b k.to) (on k a && on k b)
   where
@@ -238,67 +202,123 @@ two_at_most a b k = by (precedes k.from a) (precedes b k.to) (on k a && on k b)
     by false true true = omega arith
     by false false true = omega arith
 
-twice_at_most : (a b : Point) (i : ℕ) (ks : List Piece) → length (flat_map (cut_piece a b) (take i ks)) ≤ i + i
+pub twice_at_most : (a b : Point) (i : ℕ) (ks : List Piece) → length (flat_map (cut_piece a b) (take i ks)) ≤ i + i
 twice_at_most a b zero ks = omega arith
 twice_at_most a b (suc i) [] = omega arith
 twice_at_most a b (suc i) (k ∷ ks) = omega (arith, length-append (cut_piece a b k) (flat_map (cut_piece a b) (take i ks)), two_at_most a b k, twice_at_most a b i ks)
 
-module _ (a b : Point) (js : List PieceInMemory) (i : ℕ) (n : ℕ) (e : n ≡ length (flat_map (cut_piece a b) (take i (map piece_of js)))) where
-  -- one more is counted
-  module _ (j : PieceInMemory) (h : i < length js) (g : j ≡ get_or js i j) (m : ℕ) (q : m ≡ length (cut_piece a b (piece_of j))) where
-    pub count_fits : length js < 2 ^ 32 → Fits w64 (n + m)
-    count_fits f = omega (arith, e, q, h, f, twice_at_most a b i (map piece_of js), two_at_most a b (piece_of j))
+pub all_twice : (a b : Point) (ks : List Piece) → length (rests_of a b ks) ≤ length ks + length ks
+all_twice a b ks = subst (λ l. length (rests_of a b l) ≤ length ks + length ks) (take_all (length ks) ks (omega arith)) (twice_at_most a b (length ks) ks)
 
-    pub count_more : n + m ≡ length (flat_map (cut_piece a b) (take (i + 1) (map piece_of js)))
-    count_more =
+-- ---- the plan
+module _ (a b : Point) where
+  pub whole_rests : (ks : List Piece) → AreWhole a b ks → rests_of a b ks ≡ ks
+  whole_rests [] w = refl
+  whole_rests (k ∷ ks) w = ap (λ l. l ++ rests_of a b ks) w.0 ∙ ap (λ l. k ∷ l) (whole_rests ks w.1)
+
+  whole_kept : (ks : List Piece) → AreWhole a b ks → filter (leaves_some a b) ks ≡ ks
+  whole_kept [] w = refl
+  whole_kept (k ∷ ks) w =
+      ap (λ l. cond (list_any (λ rest. true) l) (k ∷ filter (leaves_some a b) ks) (filter (leaves_some a b) ks)) w.0
+      ∙ ap (λ l. k ∷ l) (whole_kept ks w.1)
+
+  pub first_plan : (plan : CutPlan) → plan.left ≡ 0 → plan.first ≡ 0 → plan.end ≡ 0 → IsPlanOfCut a b [] plan
+  first_plan plan l f e = record {
+    left = l;
+    run = omega (arith, f);
+    within = omega (arith, e);
+    before = subst (λ n. AreWhole a b (take n [])) (sym f) tt;
+    behind = subst (λ n. AreWhole a b (drop n [])) (sym e) tt;
+    stay = λ h. tt;
+  }
+
+  module _ (k : Piece) (place : ℕ) (plan next : CutPlan) where
+    -- it holds both
+    pub held_next : (m : ℕ) → m ≡ length (cut_piece a b k) → next.left ≡ plan.left + m → next.first ≡ plan.first → next.end ≡ place + 1 → (next.some_go ≡ false → (plan.some_go ≡ false) × (1 ≤ m)) → IsPlanWithNext a b plan place k next
+    held_next m c l f e g ks n p = record {
+      left = omega (arith, l, p.left, c, length_more (cut_piece a b) ks k);
+      run = omega (arith, f, e, p.run, p.within, n);
+      within = omega (arith, e, n, length-append ks (k ∷ []));
+      before = subst (λ i. AreWhole a b (take i (ks ++ k ∷ []))) (sym f) (subst (AreWhole a b) (sym (take-append-le plan.first ks (k ∷ []) (omega (arith, p.run, p.within)))) p.before);
+      behind = subst (AreWhole a b) (sym (drop_all next.end (ks ++ k ∷ []) (omega (arith, e, n, length-append ks (k ∷ []))))) tt;
+      stay = λ h. all_push (λ k. 1 ≤ length (cut_piece a b k)) ks k (p.stay (g h).0) (omega (arith, c, (g h).1));
+    }
+
+    -- it stays whole
+    pub whole_next : cut_piece a b k ≡ k ∷ [] → next.left ≡ plan.left + 1 → (plan.first ≡ place → (next.first ≡ place + 1) × (next.end ≡ place + 1)) → (plan.first ≢ place → (next.first ≡ plan.first) × (next.end ≡ plan.end)) → next.some_go ≡ plan.some_go → IsPlanWithNext a b plan place k next
+    whole_next w l none some g ks n p = elim (cases_eq plan.first place) [
+      | inl q ↦ let r = none q in record {
+        left = left;
+        run = omega (arith, r.0, r.1);
+        within = omega (arith, r.1, n, length-append ks (k ∷ []));
+        before = subst (AreWhole a b) (sym (take_all next.first (ks ++ k ∷ []) (omega (arith, r.0, n, length-append ks (k ∷ [])))))
+            (all_push (λ k. cut_piece a b k ≡ k ∷ []) ks k (subst (AreWhole a b) (take_all plan.first ks (omega (arith, q, n))) p.before) w);
+        behind = subst (AreWhole a b) (sym (drop_all next.end (ks ++ k ∷ []) (omega (arith, r.1, n, length-append ks (k ∷ []))))) tt;
+        stay = stay;
+      }
+      | inr ne ↦ let r = some ne in record {
+        left = left;
+        run = omega (arith, r.0, r.1, p.run);
+        within = omega (arith, r.1, p.within, length-append ks (k ∷ []));
+        before = subst (λ i. AreWhole a b (take i (ks ++ k ∷ []))) (sym r.0) (subst (AreWhole a b) (sym (take-append-le plan.first ks (k ∷ []) (omega (arith, p.run, p.within)))) p.before);
+        behind = subst (λ i. AreWhole a b (drop i (ks ++ k ∷ []))) (sym r.1) (subst (AreWhole a b) (sym (drop-append-le plan.end ks (k ∷ []) p.within)) (all_push (λ k. cut_piece a b k ≡ k ∷ []) (drop plan.end ks) k p.behind w));
+        stay = stay;
+      }
+    ]
+      where
+        left : next.left ≡ length (rests_of a b (ks ++ k ∷ []))
+        left = omega (arith, l, p.left, ap length w, length_more (cut_piece a b) ks k)
+
+        stay : next.some_go ≡ false → AllLeaveSome a b (ks ++ k ∷ [])
+        stay h = all_push (λ k. 1 ≤ length (cut_piece a b k)) ks k (p.stay (sym g ∙ h)) (omega (arith, ap length w))
+
+  -- along pieces in memory
+  module _ (js : List PieceInMemory) (i : ℕ) (plan : CutPlan) (p : IsPlanOfCut a b (take i (map piece_of js)) plan) where
+    pub plan_fits : i < length js → length js < 2 ^ 32 → plan.left < 2 ^ 34
+    plan_fits h f = omega (arith, p.left, h, f, twice_at_most a b i (map piece_of js))
+
+    pub plan_more : (j : PieceInMemory) → i < length js → j ≡ get_or js i j → (next : CutPlan) → IsPlanWithNext a b plan i (piece_of j) next → IsPlanOfCut a b (take (i + 1) (map piece_of js)) next
+    plan_more j h g next w =
         let ks = map piece_of js in
         let k = piece_of j in
-        let below : i < length ks = subst (λ l. i < l) (sym (length-map js piece_of)) h in
-        let here : k ≡ get_or ks i k = ap piece_of g ∙ sym (get_or-map piece_of js i j k h) in
-        let next : take (i + 1) ks ≡ take i ks ++ k ∷ [] = take_more ks i k below ∙ ap (λ y. take i ks ++ y ∷ []) (sym here) in
-        let more : flat_map (cut_piece a b) (take i ks) ++ cut_piece a b k ≡ flat_map (cut_piece a b) (take (i + 1) ks) = flat_map_more (cut_piece a b) [] (take i ks) k ∙ ap (flat_map (cut_piece a b)) (sym next) in
-        omega (arith, e, q, length-append (flat_map (cut_piece a b) (take i ks)) (cut_piece a b k), ap length more)
+        let below : i < length ks = omega (arith, h, length-map js piece_of) in
+        let here : get_or ks i k ≡ k = get_or-map piece_of js i j k h ∙ sym (ap piece_of g) in
+        let more : take (i + 1) ks ≡ take i ks ++ k ∷ [] = take_more ks i k below ∙ ap (λ y. take i ks ++ y ∷ []) here in
+        subst (λ l. IsPlanOfCut a b l next) (sym more) (w (take i ks) (omega (arith, below, length-take i ks)) p)
 
-  pub all_counted : length js ≤ i → n ≡ length (flat_map (cut_piece a b) (map piece_of js))
-  all_counted h = e ∙ ap (λ ks. length (flat_map (cut_piece a b) ks)) (take_all i (map piece_of js) (subst (λ l. l ≤ i) (sym (length-map js piece_of)) h))
-
--- ---- in memory
-pub put_whole : (a b : Point) (js is : List PieceInMemory) (j : PieceInMemory) → cut_piece a b (piece_of j) ≡ piece_of j ∷ [] → is ≡ js ++ j ∷ [] → map piece_of is ≡ map piece_of js ++ cut_piece a b (piece_of j)
-put_whole a b js is j w e = ap (map piece_of) e ∙ map_push piece_of js j ∙ ap (λ l. map piece_of js ++ l) (sym w)
-
-pub popped : (o : Option PieceInMemory) (j : PieceInMemory) (js is : List PieceInMemory) → o ≡ Some j → js ≡ option_to_list o ++ is → map piece_of js ≡ piece_of j ∷ map piece_of is
-popped o j js is q e = ap (map piece_of) (e ∙ ap (λ p. option_to_list p ++ is) q)
-
--- the ring isn't empty before its last round
-pub some_round : (a b : Point) (ks : List Piece) (js : List PieceInMemory) (i : ℕ) → IsRound (cut_piece a b) ks (map piece_of js) i → i < length ks → 0 < length js
-some_round a b ks [] i r h = absurd (none_round (cut_piece a b) ks [] i r h refl)
-some_round a b ks (j ∷ js) i r h = omega arith
+    pub plan_all : length js ≤ i → IsPlanOfCut a b (map piece_of js) plan
+    plan_all h = subst (λ l. IsPlanOfCut a b l plan) (take_all i (map piece_of js) (omega (arith, h, length-map js piece_of))) p
 
 -- ---- without the pieces of which nothing is left
 module _ (a b : Point) (js is : List PieceInMemory) (e : is ≡ filter (λ j. leaves_some a b (piece_of j)) js) where
   kept : map piece_of is ≡ filter (leaves_some a b) (map piece_of js)
   kept = ap (map piece_of) e ∙ filter_map piece_of (leaves_some a b) js
 
-  pub same_rests : flat_map (cut_piece a b) (map piece_of is) ≡ flat_map (cut_piece a b) (map piece_of js)
-  same_rests = ap (flat_map (cut_piece a b)) kept ∙ flat_kept (cut_piece a b) (map piece_of js)
+  pub same_rests : rests_of a b (map piece_of is) ≡ rests_of a b (map piece_of js)
+  same_rests = ap (rests_of a b) kept ∙ flat_kept (cut_piece a b) (map piece_of js)
 
   pub all_leave : AllLeaveSome a b (map piece_of is)
-  all_leave k m = kept_some (cut_piece a b) (map piece_of js) k (subst (Member k) kept m)
+  all_leave = subst (AllLeaveSome a b) (sym kept) (kept_some (cut_piece a b) (map piece_of js))
 
--- ---- in a history
-pub kept_pieces : {Z : Type 0} (e c : Chained) (p q : Vec PieceInMemory Z) (n : Option ℕ) → IsSoundHistory e c p n → length q.items < 2 ^ 32 → IsSoundHistory e c q n
-kept_pieces e c p q n k h = record { pairs = k.pairs; filled = k.filled; ordered = k.ordered; numbers = k.numbers; last = k.last; few = h }
+  -- up to the first of the run all are kept
+  module _ (plan next : CutPlan) (p : IsPlanOfCut a b (map piece_of js) plan) where
+    front : take plan.first (map piece_of is) ≡ take plan.first (map piece_of js)
+    front =
+        let ks = map piece_of js in
+        let f = filter (leaves_some a b) in
+        let parts : map piece_of is ≡ take plan.first ks ++ f (drop plan.first ks) = kept ∙ ap f (sym (take-append-drop plan.first ks)) ∙ filter-append (leaves_some a b) (take plan.first ks) (drop plan.first ks) ∙ ap (λ l. l ++ f (drop plan.first ks)) (whole_kept a b (take plan.first ks) p.before) in
+        ap (take plan.first) parts ∙ take_at (take plan.first ks) (f (drop plan.first ks)) plan.first (length-take-le plan.first ks (omega (arith, p.run, p.within)))
 
-module _ (i : Inside) (old : Past) (v : IsSeen i old) (a b : Point) (is : List PieceInMemory) (e : is ≡ filter (λ j. leaves_some a b (piece_of j)) i.pieces.items) where
-  rests_seen : flat_map (cut_piece a b) (map piece_of is) ≡ flat_map (cut_piece a b) old.pieces
-  rests_seen = same_rests a b i.pieces.items is e ∙ ap (flat_map (cut_piece a b)) (sym v.pieces)
+    front_in : plan.first ≤ length is
+    front_in =
+        omega (arith, ap length front, length-take plan.first (map piece_of is), length-take-le plan.first (map piece_of js) (omega (arith, p.run, p.within)), length-map is piece_of)
 
-  pub room_seen : (room : ℕ) → room ≡ vec_capacity i.pieces → length (flat_map (cut_piece a b) old.pieces) ≤ length old.pieces + old.spare_pieces → length (flat_map (cut_piece a b) (map piece_of is)) ≤ room
-  room_seen room q h = omega (arith, q, h, ap length rests_seen, ap length v.pieces, length-map i.pieces.items piece_of, v.spare_pieces, i.pieces.ok, i.pieces.small)
-
-  module _ (js : List PieceInMemory) (q : map piece_of js ≡ flat_map (cut_piece a b) (map piece_of is)) where
-    pub cut_seen : map piece_of js ≡ flat_map (cut_piece a b) old.pieces
-    cut_seen = q ∙ rests_seen
-
-    pub cut_few : length (flat_map (cut_piece a b) old.pieces) < 2 ^ 32 → length js < 2 ^ 32
-    cut_few h = omega (arith, h, ap length cut_seen, length-map js piece_of)
+    pub kept_plan : next.left ≡ plan.left → next.first ≡ plan.first → next.end ≡ length is → IsPlanOfCut a b (map piece_of is) next
+    kept_plan l f e = record {
+      left = l ∙ p.left ∙ ap length (sym same_rests);
+      run = omega (arith, f, e, front_in);
+      within = omega (arith, e, length-map is piece_of);
+      before = subst (λ n. AreWhole a b (take n (map piece_of is))) (sym f) (subst (AreWhole a b) (sym front) p.before);
+      behind = subst (AreWhole a b) (sym (drop_all next.end (map piece_of is) (omega (arith, e, length-map is piece_of)))) tt;
+      stay = λ h. all_leave;
+    }

@@ -1,5 +1,5 @@
 -- The curves of an edge, asked of either of its darts.
-use Rattle.std.proofs.Common.{◌≡◌, ◌≢◌, ◌↔◌, Result, Ok, Err, IfOk, Bool, true, false, not, List, [], ◌∷◌, map, refl, sym, ap, subst, ◌∙◌, Ordering}
+use Rattle.std.proofs.Common.{◌≡◌, ◌≢◌, ◌↔◌, Result, Ok, Err, IfOk, Bool, true, false, not, List, [], ◌∷◌, map, if◌then◌else◌, refl, sym, ap, subst, ◌∙◌, Ordering}
 use Rattle.std.specs.List.Sorted.{IsStrictlyIncreasing, IsStrictlySortedBy}
 use Rattle.std.specs.declared.vec.Vec.{Vec}
 use Rattle.std.specs.Ordering.{nat_cmp}
@@ -10,6 +10,7 @@ use Rattle.slab_laws.specs.declared.names.CurveId.{CurveId}
 use Rattle.slab_laws.specs.declared.names.DartId.{DartId}
 use Rattle.slab_laws.specs.View.{View, HasDart, twin_in, curve_id}
 use Rattle.arr_notes.specs.Curves.{is_forward}
+use Rattle.arr_notes.specs.CurvedView.{AreListsOf}
 use Rattle.arr_notes.proofs.Names.{numbers_of}
 use Rattle.curve_history.specs.Past.{Past, curves_on}
 use Rattle.curve_history.specs.DrawnRecords.{forward_of, curves_in, IsTold, DrawnRecords}
@@ -55,6 +56,10 @@ module _ (v : View) (p : Past) (t : IsTold v p) (d : DartId) where
 
   pub twins_same : HasDart v d → twin_in v (twin_in v d) ≡ d → curves_in v p (twin_in v d) ≡ curves_in v p d
   twins_same has g = ap (λ x. map curve_id (curves_on p x)) (same_forward (is_forward v d) refl (t.directed d has) g)
+
+-- the lists that both tell are the history's curves of the forward darts
+pub lists_read : (v : View) (p : Past) → AreListsOf v (curves_on p) (curves_in v p)
+lists_read v p d f = numbers_of (curves_on p (forward_of v d)) ∙ ap (curves_on p) (ap (λ b. if b then d else twin_in v d) f.1)
 
 -- ---- as a caller sees both
 module _ {X : Type 0} (graph : X → View) (x : X) (p : Past) (s : DrawnRecords X) (e : record { records = x; history = p } ≡ s) (t : IsTold (graph x) p) (d : DartId) (has : HasDart (graph s.records) d) where

@@ -4,6 +4,7 @@ pub mod Cutting
 pub mod Descending
 pub mod Emptying
 pub mod Facing
+pub mod Filling
 pub mod Histories
 pub mod Naming
 pub mod Numbers

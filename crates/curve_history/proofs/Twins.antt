@@ -26,6 +26,16 @@ one_entry o k i t l j s p q =
 pub never_none : {P : Type 0} (o : Option Entry) (e : Entry) → o ≡ Some e → o ≡ None → P
 never_none o e p q = absurd cc
 
+-- ---- what a twin tells
+pub says_beside : (e c : Chained) (edge curve : ℕ) → ArePairs e c → Says e edge curve → Says c curve edge
+says_beside e c edge curve p s = record { node = s.twin; twin = s.node; is = p.forth.twin s.node edge curve s.twin s.is }
+
+-- the twin of a curve's node that says the edge is a node of the edge that says the curve
+pub found_beside : (e c : Chained) (edge curve near t : ℕ) (said : Entry) → ArePairs e c → entry_at c near ≡ Some said → entry_at c near ≡ Some (entry curve edge t) → (s : ℕ) × (entry_at e said.twin ≡ Some (entry edge curve s))
+found_beside e c edge curve near t said p h q =
+    let same : said ≡ entry curve edge t = cc in
+    (near, subst (λ (x : Entry). entry_at e x.twin ≡ Some (entry edge curve near)) (sym same) (p.back.twin near curve edge t q))
+
 -- ---- a node more
 pub record IsNodeMore (old new : Chained) (node : ℕ) (e : Entry) : Type 0 where
   pub fresh : ¬ HasNode old node

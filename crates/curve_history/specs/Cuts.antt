@@ -1,13 +1,13 @@
 -- What a cut leaves of pieces (this project).
-use Rattle.std.specs.Prelude.{◌≡◌, ◌≤◌, ◌++◌, ◌&&◌, not, Bool, true, List, length, map}
-use Rattle.std.specs.List.{flat_map, list_any}
+use Rattle.std.specs.Prelude.{◌≡◌, ◌≤◌, ◌++◌, ◌∷◌, [], ◌&&◌, not, ℕ, Bool, true, false, List, length, map, take, drop}
+use Rattle.std.specs.List.{flat_map, list_any, AllByRecursion}
 use Rattle.exact_plane.specs.Point.{Point}
-use Rattle.plane_graphs.specs.Ascending.{Member}
 use Rattle.plane_graphs.specs.Line.{precedes}
 use Rattle.plane_graphs.specs.Piece.{Piece}
 use Rattle.edit_steps.specs.Steps.{cut_piece}
 use Rattle.slab_laws.specs.Pieces.{piece_of}
 use Rattle.slab_laws.specs.declared.present.Piece.{Piece as PieceInMemory}
+use Rattle.curve_history.specs.declared.cuts.CutPlan.{CutPlan}
 
 -- something is left of the piece without the part from a to b
 abbrev pub leaves_some : Point → Point → Piece → Bool
@@ -15,16 +15,34 @@ leaves_some a b k = list_any (λ rest. true) (cut_piece a b k)
 
 -- something is left of each of the pieces
 abbrev pub AllLeaveSome : Point → Point → List Piece → Type 0
-AllLeaveSome a b ks = (k : Piece) → Member k ks → 1 ≤ length (cut_piece a b k)
+AllLeaveSome a b ks = AllByRecursion (λ k. 1 ≤ length (cut_piece a b k)) ks
 
--- the point is neither before the piece nor after it (this project)
-abbrev pub reaches : Piece → Point → Bool
-reaches k a = not (precedes a k.from) && not (precedes k.to a)
+-- each of the pieces stays as it is (this project)
+abbrev pub AreWhole : Point → Point → List Piece → Type 0
+AreWhole a b ks = AllByRecursion (λ k. cut_piece a b k ≡ k ∷ []) ks
+
+-- the piece neither begins after the first point nor ends before the second one (this project)
+abbrev pub spans : Piece → Point → Point → Bool
+spans k a b = not (precedes a k.from) && not (precedes k.to b)
 
 -- what is left of pieces without the part from a to b, in their order (CGAL manual, `remove_edge`)
 abbrev pub rests_of : Point → Point → List Piece → List Piece
 rests_of a b ks = flat_map (cut_piece a b) ks
 
--- the pieces in memory are those before, and then these (this project)
-abbrev pub AreAppended : List PieceInMemory → List PieceInMemory → List Piece → Type 0
-AreAppended old new ks = map piece_of new ≡ map piece_of old ++ ks
+-- the pieces in memory are these, and then those before (this project)
+abbrev pub ArePrepended : List PieceInMemory → List PieceInMemory → List Piece → Type 0
+ArePrepended old new ks = map piece_of new ≡ ks ++ map piece_of old
+
+-- the plan says how many pieces the cut from a to b leaves; the run from `first` up to `end` has all that it changes; and where it says that none goes, each leaves some (this project)
+pub record IsPlanOfCut (a b : Point) (ks : List Piece) (plan : CutPlan) : Type 0 where
+  pub left : plan.left ≡ length (rests_of a b ks)
+  pub run : plan.first ≤ plan.end
+  pub within : plan.end ≤ length ks
+  pub before : AreWhole a b (take plan.first ks)
+  pub behind : AreWhole a b (drop plan.end ks)
+  pub stay : plan.some_go ≡ false → AllLeaveSome a b ks
+
+-- the second plan is one for one piece more, behind those of any list as long as `place` that the first is one for (this project)
+abbrev pub IsPlanWithNext : Point → Point → CutPlan → ℕ → Piece → CutPlan → Type 0
+IsPlanWithNext a b plan place k next =
+    (ks : List Piece) → length ks ≡ place → IsPlanOfCut a b ks plan → IsPlanOfCut a b (ks ++ k ∷ []) next

@@ -5,11 +5,11 @@ ghost use Rattle.plane_graphs.specs.Ascending.{Member, IsAscending};
 ghost use Rattle.plane_graphs.specs.Graph.{same_curve};
 ghost use Rattle.slab_laws.specs.Pieces.{piece_of};
 ghost use Rattle.curve_history.specs.Changed.{IsRoomier};
-ghost use Rattle.curve_history.specs.Cuts.{rests_of};
+ghost use Rattle.curve_history.specs.Cuts.{rests_of, IsPlanOfCut};
 ghost use Rattle.curve_history.specs.HistoryInMemory.{number_of, pair_room};
 ghost use Rattle.curve_history.specs.Past.{curves_on, HasRoom, SameCurves, SameLayer, SameHistoryCapacity, IsSpare};
 
-use crate::cuts::{count_all, cut_each, leaves_rest};
+use crate::cuts::{CutPlan, cut_all, plan_of_cut};
 use crate::history::{History, HistoryError, LAST_CURVE};
 use crate::walks::{count_along, curves_along, edges_along, says_same};
 use exact_plane::Point;
@@ -17,7 +17,6 @@ use linked_chains::Chains;
 use no_memory::NoMemory;
 use slab_laws::{CurveId, DartId, Piece};
 use std::alloc::Global;
-use std::mem::replace;
 
 // Room for so many pairs and names more, in both chains.
 fn reserve_pairs(
@@ -140,17 +139,18 @@ impl History {
         self.pieces.push_reserved(piece);
     }
 
-    /// How many pieces there are once the edge between two points went from all pieces that hold both.
-    pub fn pieces_after_cut(&self, p: &Point, q: &Point) -> u64
-        ensures { result ≡ length (rests_of p.now q.now self.now.pieces) }
+    /// What the cut of the edge between two points will leave of the pieces that hold both. It takes no memory.
+    pub fn plan_cut(&self, p: &Point, q: &Point) -> CutPlan
+        ensures { IsPlanOfCut p.now q.now self.now.pieces result }
     {
-        count_all(&self.pieces, p, q)
+        plan_of_cut(&self.pieces, p, q)
     }
 
     /// The edge between two points goes from all pieces that hold both, in room that is there: such a piece keeps what is
     /// below the lower point and what is above the upper one, as one or two pieces of the same curve, or goes (CGAL manual,
     /// `remove_edge`; that curves lose the edge is this project's).
-    pub fn cut_pieces(&mut self, p: &Point, q: &Point)
+    pub fn cut_pieces(&mut self, p: &Point, q: &Point, plan: CutPlan)
+        requires plan { IsPlanOfCut p.now q.now self.old.pieces plan }
         requires few { length (rests_of p.now q.now self.old.pieces) < 2 ^ 32 }
         requires room { length (rests_of p.now q.now self.old.pieces) ≤ length self.old.pieces + self.old.spare_pieces }
         ensures pieces { self.new.pieces ≡ rests_of p.now q.now self.old.pieces }
@@ -158,11 +158,7 @@ impl History {
         ensures next { self.new.next ≡ self.old.next }
         ensures curves { SameCurves self.old self.new }
     {
-        // Without the pieces that go, their number only grows, so that it is at most the last one all along.
-        self.pieces.retain(|piece| leaves_rest(piece, p, q));
-        let empty = Vec::new(*self.pieces.allocator());
-        let pieces = replace(&mut self.pieces, empty);
-        self.pieces = cut_each(pieces, p, q);
+        cut_all(&mut self.pieces, p, q, plan);
     }
 
     /// The name of a curve that runs along no edge goes, and its pieces.

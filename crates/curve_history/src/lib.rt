@@ -13,5 +13,6 @@ mod others;
 mod pairs;
 mod walks;
 
+pub use cuts::CutPlan;
 pub use drawn::Drawn;
 pub use history::{History, HistoryError, LAST_CURVE};

@@ -9,18 +9,30 @@ use no_memory::NoMemory;
 use slab_laws::{CurveId, DartId};
 use std::alloc::Global;
 
-// The node that says an edge and a curve.
-fn find(edges: &Chains, edge: usize, curve: usize) -> Option<usize>
+// The node that says an edge and a curve. The chain of the edge and that of the curve are walked side by side, until one of
+// them has it or ends: many curves run along an edge, or a curve along many edges, but both are rare together.
+fn find(edges: &Chains, curves: &Chains, edge: usize, curve: usize) -> Option<usize>
+    requires pairs { ArePairs edges.now curves.now }
     ensures some { IfSome result (λ n. (t : _) × (entry_at edges.now n ≡ Some (entry edge curve t))) }
     ensures none { IfNone result (¬ Says edges.now edge curve) }
 {
     edges.laws();
+    curves.laws();
     let mut at = edges.first(edge);
+    let mut beside = curves.first(curve);
     'walk: while let Some(node) = at {
         if edges.entry(node).item == curve {
             return Some(node);
         }
+        let Some(near) = beside else {
+            return None;
+        };
+        let said = curves.entry(near);
+        if said.item == edge {
+            return Some(said.twin);
+        }
         at = edges.after(node);
+        beside = curves.after(near);
     }
     None
 }
@@ -108,7 +120,7 @@ pub(crate) fn release_one(edges: &mut Chains, curves: &mut Chains, edge: usize, 
     ensures capacity { edges.new.capacity_of_nodes ≡ edges.old.capacity_of_nodes }
     ensures room { pair_room edges.old curves.old ≤ pair_room edges.new curves.new }
 {
-    if let Some(node) = find(edges, edge, curve) {
+    if let Some(node) = find(edges, curves, edge, curve) {
         release_pair(edges, curves, node);
     }
 }

@@ -9,7 +9,7 @@ use Rattle.slab_laws.specs.declared.names.VertexId.{VertexId}
 use Rattle.slab_laws.specs.Tables.{row_at, names, name_after, is_after, NamesAscend}
 use Rattle.slab_laws.specs.View.{View, HasVertex, HasDart, vertex_id, dart_id, vertex_after_in, dart_after_in}
 use Rattle.sound_views.proofs.NameTables.{has_name, name_has}
-use Rattle.record_orders.proofs.After.{left, all_left, left-next, later, later-none, fewer}
+use Rattle.arr_notes.proofs.After.{left, all_left, left-next, later, later-none, fewer}
 
 no_name : {A : Type 0} (make : ℕ → A) (o : Option ℕ) → None ≡ option_map make o → o ≡ None
 no_name make None e = refl

@@ -16,7 +16,7 @@ use Rattle.slab_laws.specs.Tables.{names, NamesAscend}
 use Rattle.slab_laws.specs.View.{View, VertexRecord, vertex_id, HasVertex, point_or, point_in}
 use Rattle.sound_views.proofs.NameTables.{name_has, row_found}
 use Rattle.arr_notes.specs.Curves.{Curves}
-use Rattle.sound_views.specs.RecordGraph.{drawn_graph}
+use Rattle.arr_notes.specs.RecordGraph.{drawn_graph}
 
 -- ---- points that all differ
 abbrev AreDifferent : List Point → Type 0

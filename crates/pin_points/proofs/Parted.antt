@@ -16,7 +16,7 @@ use Rattle.arr_notes.specs.Curves.{Curves, AreCurvesOf}
 use Rattle.arr_notes.specs.Step.{step}
 use Rattle.dcel_records.specs.Spots.{IsInFace}
 use Rattle.edge_split_merge.specs.Splits.{CanSplit, TellsOfSplit, NamesNewPlace, IsNewPlace}
-use Rattle.sound_views.specs.RecordGraph.{drawn_graph}
+use Rattle.arr_notes.specs.RecordGraph.{drawn_graph}
 use Rattle.sound_views.specs.RecordGraphLaws.{IsVertexAt}
 use Rattle.record_layers.specs.RecordLayers.{IsRunOfSteps}
 use Rattle.record_layers.proofs.Runs.{made_by}

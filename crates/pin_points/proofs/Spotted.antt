@@ -23,7 +23,7 @@ use Rattle.arr_notes.specs.Curves.{Curves, AreCurvesOf, is_forward}
 use Rattle.dcel_records.specs.declared.spot.Spot.{Spot}
 use Rattle.dcel_records.specs.declared.spot.Spot.TheVariants.{Vertex, Edge as InEdge, Face}
 use Rattle.dcel_records.specs.Spots.{IsInFace, IsSpotOf}
-use Rattle.sound_views.specs.RecordGraph.{drawn_graph}
+use Rattle.arr_notes.specs.RecordGraph.{drawn_graph}
 use Rattle.sound_views.specs.RecordGraphLaws.{IsMarkOf}
 use Rattle.sound_views.proofs.GraphDrawn.{graphs_are_plane}
 use Rattle.sound_changes.proofs.StepHolds.{held_mark, point_held, held_point, pin_held, held_pin}

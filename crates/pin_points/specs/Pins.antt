@@ -12,7 +12,7 @@ use Rattle.dcel_records.specs.RecordsView.{RecordsView}
 use Rattle.dcel_records.specs.declared.spot.Spot.{Spot}
 use Rattle.dcel_records.specs.declared.spot.Spot.TheVariants.{Vertex, Edge}
 use Rattle.curve_history.specs.Past.{Past, curves_on}
-use Rattle.sound_views.specs.RecordGraph.{drawn_graph}
+use Rattle.arr_notes.specs.RecordGraph.{drawn_graph}
 use Rattle.record_layers.specs.RecordLayers.{IsRunOfSteps}
 use Rattle.pin_points.specs.declared.pins.PinError.{PinError}
 use Rattle.pin_points.specs.declared.pins.PinError.TheVariants.{Pinned, Full, NoMemory}

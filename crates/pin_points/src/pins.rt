@@ -9,7 +9,7 @@ ghost use Rattle.dcel_records.specs.RecordsView.{SameRecordCapacity};
 ghost use Rattle.dcel_records.specs.Spots.{IsSpotOf};
 ghost use Rattle.arr_notes.specs.Curves.{AreCurvesOf};
 ghost use Rattle.edge_split_merge.specs.Splits.{CanSplit};
-ghost use Rattle.sound_views.specs.RecordGraph.{drawn_graph};
+ghost use Rattle.arr_notes.specs.RecordGraph.{drawn_graph};
 ghost use Rattle.sound_views.specs.RecordGraphLaws.{IsVertexAt};
 ghost use Rattle.curve_history.specs.Past.{curves_on, SameLayer, SameCurves, SameHistoryCapacity};
 ghost use Rattle.record_layers.specs.RecordLayers.{IsLayer};

@@ -27,7 +27,7 @@ use Rattle.sound_views.specs.Orders.{vertex_order, dart_order}
 use Rattle.sound_views.proofs.NamesOrdered.{points_in_order, vertex_ordered, ordered_vertex, dart_ordered}
 use Rattle.sound_views.proofs.PulledOrders.{IsAscending-map}
 use Rattle.arr_notes.specs.Curves.{Curves, is_forward, IsForward, AreCurvesOf}
-use Rattle.sound_views.specs.RecordGraph.{drawn_graph}
+use Rattle.arr_notes.specs.RecordGraph.{drawn_graph}
 use Rattle.sound_views.specs.RecordGraphLaws.{IsMarkOf}
 use Rattle.sound_views.proofs.GraphHolds.{graphs_hold}
 use Rattle.sound_views.proofs.GraphDrawn.{graphs_are_drawn, graphs_are_plane}

@@ -25,7 +25,7 @@ use Rattle.sound_views.proofs.NamedDarts.{source_by, target_by, dart_cmp_total}
 use Rattle.sound_views.proofs.NamesOrdered.{dart_ordered}
 use Rattle.sound_views.proofs.PulledOrders.{IsAscending-map}
 use Rattle.arr_notes.specs.Curves.{Curves}
-use Rattle.sound_views.specs.RecordGraph.{drawn_graph}
+use Rattle.arr_notes.specs.RecordGraph.{drawn_graph}
 use Rattle.sound_views.specs.RecordGraphLaws.{IsMarkOf}
 use Rattle.sound_views.proofs.GraphHolds.{graphs_hold}
 use Rattle.record_orders.specs.declared.darts.DartKey.{DartKey}

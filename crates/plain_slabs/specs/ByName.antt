@@ -12,7 +12,7 @@ use Rattle.slab_laws.specs.declared.names.DartId.{DartId}
 use Rattle.slab_laws.specs.SpansDrawn.{edge_of}
 use Rattle.slab_laws.specs.View.{View, pinned_in, line_in}
 use Rattle.arr_notes.specs.Curves.{Curves}
-use Rattle.sound_views.specs.RecordGraph.{drawn_graph}
+use Rattle.arr_notes.specs.RecordGraph.{drawn_graph}
 use Rattle.plain_slabs.specs.Listed.{AreLinesOf}
 use Rattle.record_orders.specs.declared.vertices.VertexKey.{VertexKey}
 use Rattle.record_orders.specs.declared.darts.DartKey.{DartKey}

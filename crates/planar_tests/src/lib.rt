@@ -4,6 +4,8 @@
 #[cfg(test)]
 mod lines;
 #[cfg(test)]
+mod makers;
+#[cfg(test)]
 mod memory;
 #[cfg(test)]
 mod removals;
@@ -13,3 +15,5 @@ mod rows;
 mod runs;
 #[cfg(test)]
 mod streams;
+#[cfg(test)]
+mod words;

@@ -4,17 +4,32 @@ use std::alloc::Global;
 use std::test::Fail;
 use sweep_events::Sweep;
 
+fn span_of((a, b, c, d): (i64, i64, i64, i64)) -> Result<Option<Span>, Fail> {
+    let segment = Segment::new(a, b, c, d)?;
+    Ok(Span::new(segment.lower(), segment.upper(), line_of(&segment)))
+}
+
+fn spans_of(alloc: Global, segments: &[(i64, i64, i64, i64)]) -> Result<Vec<Span>, Fail> {
+    let mut spans = Vec::new(alloc);
+    for ends in segments {
+        if let Some(span) = span_of(*ends)? {
+            spans.push(span)?;
+        }
+    }
+    Ok(spans)
+}
+
+fn points_of(alloc: Global, numbers: &[(i128, i128, i128)]) -> Result<Vec<Point>, Fail> {
+    let mut points = Vec::new(alloc);
+    for (x, y, w) in numbers {
+        points.push(Point::new(*x, *y, *w)?)?;
+    }
+    Ok(points)
+}
+
 fn sweep_of(alloc: Global, case: &Case) -> Result<Sweep, Fail> {
-    let mut pieces = Vec::new(alloc);
-    for (a, b, c, d) in case.segments {
-        let segment = Segment::new(*a, *b, *c, *d)?;
-        let span = Span::new(segment.lower(), segment.upper(), line_of(&segment));
-        pieces.extend(span)?;
-    }
-    let mut pins = Vec::new(alloc);
-    for (x, y, w) in case.pins {
-        pins.push(Point::new(*x, *y, *w)?)?;
-    }
+    let pieces = spans_of(alloc, case.segments)?;
+    let pins = points_of(alloc, case.pins)?;
     Ok(Sweep::new(alloc, &pieces, &pins)?)
 }
 

@@ -14,7 +14,7 @@ use Rattle.arr_notes.specs.ViewChanges.{no_rows}
 use Rattle.arr_notes.proofs.VertexReads.{nothing_is_there}
 use Rattle.arr_notes.specs.Curves.{Curves}
 use Rattle.sound_changes.proofs.VertexAdded.{no_rows_sound}
-use Rattle.sound_views.specs.RecordGraph.{drawn_graph}
+use Rattle.arr_notes.specs.RecordGraph.{drawn_graph}
 use Rattle.sound_changes.proofs.StepCases.{curves_by}
 use Rattle.curve_history.specs.Past.{Past, curves_on}
 use Rattle.record_layers.specs.RecordLayers.{layer_of, IsLayer, IsRunOfSteps}

@@ -4,7 +4,7 @@ use Rattle.plane_graphs.specs.Graph.{graph}
 use Rattle.edit_steps.specs.Layer.{IsLawful}
 use Rattle.slab_laws.specs.View.{View}
 use Rattle.arr_notes.specs.Curves.{AreCurvesOf}
-use Rattle.sound_views.specs.RecordGraph.{drawn_graph}
+use Rattle.arr_notes.specs.RecordGraph.{drawn_graph}
 use Rattle.curve_history.specs.Past.{Past, curves_on, SameCurves, SameLayer}
 use Rattle.record_layers.specs.RecordLayers.{IsLayer, layer_of}
 

@@ -8,7 +8,7 @@ use Rattle.slab_laws.specs.declared.names.DartId.{DartId}
 use Rattle.slab_laws.specs.Sound.{IsGraphSound}
 use Rattle.slab_laws.specs.View.{View, point_in, source_in, target_in}
 use Rattle.arr_notes.specs.Curves.{Curves, IsForward, AreCurvesOf}
-use Rattle.sound_views.specs.RecordGraph.{drawn_graph}
+use Rattle.arr_notes.specs.RecordGraph.{drawn_graph}
 use Rattle.sound_views.specs.RecordGraphLaws.{IsMarkOf, GraphHolds}
 use Rattle.sound_views.proofs.DartCurves.{curves_of_darts}
 use Rattle.sound_views.proofs.GraphHolds.{graphs_hold}

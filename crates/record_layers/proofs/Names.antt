@@ -9,7 +9,7 @@ use Rattle.slab_laws.specs.Sound.{edge_in, skeleton_of, IsGraphSound}
 use Rattle.slab_laws.specs.View.{View, HasVertex, point_in}
 use Rattle.sound_changes.proofs.KnownNames.{known_point}
 use Rattle.arr_notes.specs.Curves.{Curves, AreCurvesOf}
-use Rattle.sound_views.specs.RecordGraph.{drawn_graph}
+use Rattle.arr_notes.specs.RecordGraph.{drawn_graph}
 use Rattle.sound_views.proofs.GraphDrawn.{graphs_are_drawn}
 use Rattle.record_layers.specs.LayerSteps.{NamesStay, GrownNamesStay, ShrunkNamesStay}
 use Rattle.record_layers.proofs.Runs.{made_is_run}

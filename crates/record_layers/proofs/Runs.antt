@@ -7,7 +7,7 @@ use Rattle.slab_laws.specs.Sound.{IsGraphSound}
 use Rattle.arr_notes.specs.Curves.{Curves, step_curves}
 use Rattle.arr_notes.specs.Step.{step}
 use Rattle.arr_notes.specs.declared.change.Change.{Change}
-use Rattle.sound_views.specs.RecordGraph.{drawn_graph}
+use Rattle.arr_notes.specs.RecordGraph.{drawn_graph}
 use Rattle.sound_changes.proofs.ChangesAreSteps.{changes_are_steps}
 use Rattle.sound_changes.specs.StepOfChange.{step_of_change, FitsChange}
 use Rattle.record_layers.specs.RecordLayers.{IsRunOfSteps}

@@ -11,7 +11,7 @@ use Rattle.slab_laws.specs.Sound.{IsGraphSound, dart_in, edge_in}
 use Rattle.slab_laws.specs.View.{View, HasVertex, HasDart, point_in}
 use Rattle.arr_notes.specs.Curves.{Curves, AreCurvesOf}
 use Rattle.curve_history.specs.Past.{Past, curves_on}
-use Rattle.sound_views.specs.RecordGraph.{drawn_graph}
+use Rattle.arr_notes.specs.RecordGraph.{drawn_graph}
 use Rattle.record_layers.specs.RecordLayers.{layer_of, IsLayer, IsRunOfSteps}
 
 -- after steps the records draw the graph after the steps, are sound, and have the curves of their edges

@@ -12,7 +12,7 @@ use Rattle.plane_graphs.proofs.Lists.{in_map, of_map}
 use Rattle.slab_laws.specs.Tables.{names, NamesAscend}
 use Rattle.slab_laws.specs.declared.names.DartId.{DartId}
 use Rattle.slab_laws.specs.Rotation.{dart_cmp}
-use Rattle.slab_laws.specs.View.{View, HasDart, dart_id, point_in, source_in, target_in}
+use Rattle.slab_laws.specs.View.{View, dart_id, point_in, source_in, target_in}
 use Rattle.slab_laws.specs.Sound.{dart_in, IsGraphSound}
 use Rattle.sound_views.specs.Orders.{dart_order}
 use Rattle.sound_views.proofs.PulledOrders.{IsAscending-map}
@@ -20,7 +20,7 @@ use Rattle.sound_views.proofs.NamedDarts.{dart_name, named_dart, source_by, targ
 use Rattle.sound_views.proofs.NamesOrdered.{dart_ordered, ordered_dart}
 use Rattle.record_orders.specs.declared.darts.DartKey.{DartKey}
 use Rattle.record_orders.specs.Keys.{dart_key, dart_keys}
-use Rattle.record_orders.proofs.Sorting.{all_members, untied, sorted_is}
+use Rattle.record_orders.proofs.Sorting.{untied, sorted_is}
 use Rattle.integers.proofs.Tests.{less_then, then_rest, not_tied}
 
 -- by source, then by target, then by name
@@ -46,9 +46,6 @@ module _ (v : View) where
   unfolding IsDistinct
   distinct [] a = tt
   distinct (n ∷ ns) a = (differs n ns a.0, distinct ns a.1)
-
-  pub have : AllByRecursion (λ d. HasDart v d) all_names
-  have = all_members (λ d. HasDart v d) all_names (λ d m. named_dart v d m)
 
   by_ends : (d e : DartId) → dart_cmp (dart_in v d) (dart_in v e) ≡ ordering_then (point_cmp (point_in v (source_in v d)) (point_in v (source_in v e))) (point_cmp (point_in v (target_in v d)) (point_in v (target_in v e)))
   by_ends d e =

@@ -2,7 +2,6 @@ pub mod CycleFirsts
 pub mod BodiesGrown
 pub mod CyclePlaces
 pub mod BodyTexts
-pub mod After
 pub mod Sorting
 pub mod VertexKeys
 pub mod DartKeys

@@ -11,7 +11,7 @@ use Rattle.plane_graphs.proofs.Ascending.{IsAscending-ascending}
 use Rattle.plane_graphs.proofs.Lists.{in_map, of_map}
 use Rattle.slab_laws.specs.Tables.{names, NamesAscend}
 use Rattle.slab_laws.specs.declared.names.VertexId.{VertexId}
-use Rattle.slab_laws.specs.View.{View, HasVertex, vertex_id, point_in}
+use Rattle.slab_laws.specs.View.{View, vertex_id, point_in}
 use Rattle.slab_laws.specs.Sound.{IsGraphSound}
 use Rattle.sound_views.specs.Orders.{vertex_order}
 use Rattle.sound_views.proofs.PulledOrders.{IsAscending-map}
@@ -19,7 +19,7 @@ use Rattle.sound_views.proofs.NamedDarts.{vertex_name, named_vertex}
 use Rattle.sound_views.proofs.NamesOrdered.{vertex_ordered, ordered_vertex}
 use Rattle.record_orders.specs.declared.vertices.VertexKey.{VertexKey}
 use Rattle.record_orders.specs.Keys.{vertex_key, vertex_keys}
-use Rattle.record_orders.proofs.Sorting.{all_members, untied, sorted_is}
+use Rattle.record_orders.proofs.Sorting.{untied, sorted_is}
 use Rattle.integers.proofs.Tests.{then_rest, not_tied}
 
 -- by point, then by name
@@ -44,9 +44,6 @@ module _ (v : View) where
   unfolding IsDistinct
   distinct [] a = tt
   distinct (n ∷ ns) a = (differs n ns a.0, distinct ns a.1)
-
-  pub have : AllByRecursion (λ u. HasVertex v u) all_names
-  have = all_members (λ u. HasVertex v u) all_names (λ u m. named_vertex v u m)
 
   module _ (s : IsGraphSound v) where
     ascends : IsAscending key_cmp (vertex_keys v)

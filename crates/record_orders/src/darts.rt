@@ -6,7 +6,7 @@ ghost use Rattle.slab_laws.specs.Sound.{IsGraphSound};
 ghost use Rattle.slab_laws.specs.View.{HasDart};
 ghost use Rattle.record_orders.specs.Keys.{dart_key, dart_keys, first_out, AreBySource};
 
-use crate::names::dart_names;
+use arr_notes::dart_names;
 use exact_plane::Point;
 use no_memory::NoMemory;
 use slab_laws::{DartId, Darts};

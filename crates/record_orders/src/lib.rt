@@ -10,7 +10,6 @@ mod bodies;
 mod cycles;
 mod darts;
 mod edges;
-mod names;
 mod ranks;
 mod vertices;
 

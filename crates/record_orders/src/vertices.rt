@@ -4,7 +4,7 @@ ghost use Rattle.slab_laws.specs.Sound.{IsGraphSound};
 ghost use Rattle.slab_laws.specs.View.{HasVertex};
 ghost use Rattle.record_orders.specs.Keys.{vertex_key, vertex_keys};
 
-use crate::names::vertex_names;
+use arr_notes::vertex_names;
 use exact_plane::Point;
 use no_memory::NoMemory;
 use slab_laws::{Darts, VertexId};

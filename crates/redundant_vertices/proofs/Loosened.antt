@@ -17,7 +17,7 @@ use Rattle.arr_notes.specs.declared.change.Change.TheVariants.{MergeEdge, Remove
 use Rattle.arr_notes.specs.Curves.{Curves, AreCurvesOf}
 use Rattle.arr_notes.specs.Step.{step}
 use Rattle.edge_split_merge.specs.Merges.{TellsOfMerge}
-use Rattle.sound_views.specs.RecordGraph.{drawn_graph}
+use Rattle.arr_notes.specs.RecordGraph.{drawn_graph}
 use Rattle.rotation_order.specs.VertexRings.{IsBare}
 use Rattle.sound_changes.specs.ChangeFits.{FitsMerge}
 use Rattle.sound_changes.proofs.VertexRemoved.{vertex_fewer}

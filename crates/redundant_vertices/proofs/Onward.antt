@@ -26,7 +26,7 @@ use Rattle.slab_laws.specs.declared.names.VertexId.{VertexId}
 use Rattle.slab_laws.specs.Sound.{IsGraphSound}
 use Rattle.slab_laws.specs.View.{View, HasVertex, point_in, pinned_in}
 use Rattle.arr_notes.specs.Curves.{Curves, AreCurvesOf}
-use Rattle.sound_views.specs.RecordGraph.{drawn_graph}
+use Rattle.arr_notes.specs.RecordGraph.{drawn_graph}
 use Rattle.dcel_records.specs.RecordsView.{RecordsView, SameRecordCapacity}
 use Rattle.curve_history.specs.Past.{Past, SameHistoryCapacity}
 use Rattle.sound_changes.proofs.StepHolds.{held_pin, held_point, pin_held, point_held}

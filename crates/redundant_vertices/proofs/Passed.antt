@@ -26,7 +26,7 @@ use Rattle.sound_changes.specs.ChangeFits.{FitsMerge}
 use Rattle.sound_changes.proofs.SplitCases.{edge_of_ends}
 use Rattle.sound_changes.proofs.Collinear.{flat_on_line, on_line_of_ends, one_line}
 use Rattle.arr_notes.specs.Curves.{Curves, AreCurvesOf, IsForward, is_forward}
-use Rattle.sound_views.specs.RecordGraph.{drawn_graph}
+use Rattle.arr_notes.specs.RecordGraph.{drawn_graph}
 use Rattle.sound_views.specs.RecordGraphLaws.{IsMarkOf}
 use Rattle.sound_views.proofs.GraphDrawn.{twins_are_directed}
 use Rattle.sound_changes.proofs.StepHolds.{mark_held, held_mark}

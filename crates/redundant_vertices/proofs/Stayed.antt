@@ -12,7 +12,7 @@ use Rattle.slab_laws.specs.declared.names.VertexId.{VertexId}
 use Rattle.slab_laws.specs.Sound.{IsGraphSound}
 use Rattle.slab_laws.specs.View.{View, HasVertex, point_in}
 use Rattle.arr_notes.specs.Curves.{Curves, AreCurvesOf}
-use Rattle.sound_views.specs.RecordGraph.{drawn_graph}
+use Rattle.arr_notes.specs.RecordGraph.{drawn_graph}
 use Rattle.sound_changes.proofs.StepHolds.{point_held}
 use Rattle.record_layers.specs.LayerSteps.{Shrinks}
 use Rattle.record_layers.proofs.Names.{shrunk_names_stay}

@@ -16,11 +16,12 @@ use Rattle.rotation_order.specs.VertexRings.{turns_in, RingOf}
 use Rattle.rotation_order.proofs.RingNames.{out_of}
 use Rattle.rotation_order.proofs.SoundRings.{sound_views_have_rings}
 use Rattle.rotation_order.proofs.RingTurned.{strict_at}
-use Rattle.rotation_order.proofs.Circuits.{alone, after_out}
+use Rattle.rotation_order.proofs.Circuits.{after_out}
 use Rattle.arr_notes.specs.Curves.{is_forward}
 use Rattle.arr_notes.proofs.Names.{cases_dart}
 use Rattle.sound_views.proofs.GraphDrawn.{twins_are_directed}
 use Rattle.sound_changes.specs.ChangeFits.{FitsMerge}
+use Rattle.sound_changes.proofs.MergedRing as merged
 
 -- ---- a follows b and b follows a: they are alone
 module _ (v : View) (s : IsGraphSound v) (a b : DartId) (has : HasDart v a) (e : after_in v a ≡ b) (f : after_in v b ≡ a) where
@@ -90,29 +91,16 @@ module _ (v : View) (w : VertexId) (s : IsGraphSound v) (d n : DartId) (f : Fits
   t = twin_in v d
 
   t_has : HasDart v t
-  t_has = s.twinned.has d f.first
+  t_has = merged.t_has v w s d n f
 
   t_down : is_forward v t ≡ false
-  t_down = twins_are_directed v s d f.first ∙ ap not f.first_forward
-
-  t_n : t ≢ n
-  t_n q = clash f.second_forward (ap (is_forward v) (sym q) ∙ t_down)
+  t_down = merged.t_down v w s d n f
 
   after_n : after_in v n ≡ t
-  after_n =
-      let o = after_out v s n f.second n (f.second, refl) in
-      elim (f.only (after_in v n) o.0 (o.1 ∙ f.leaves)) [
-        | inl q ↦ absurd (t_n (alone v s n f.second q t (t_has, f.arrives ∙ sym f.leaves)))
-        | inr q ↦ q
-      ]
+  after_n = merged.after_n v w s d n f
 
   after_t : after_in v t ≡ n
-  after_t =
-      let o = after_out v s t t_has t (t_has, refl) in
-      elim (f.only (after_in v t) o.0 (o.1 ∙ f.arrives)) [
-        | inl q ↦ q
-        | inr q ↦ absurd (t_n (sym (alone v s t t_has q n (f.second, f.leaves ∙ sym f.arrives))))
-      ]
+  after_t = merged.after_t v w s d n f
 
   -- what goes straight through the vertex, seen from any dart out of it
   pub comes_back : (x : DartId) → IsOutOf v w x → after_in v (after_in v x) ≡ x

@@ -18,7 +18,7 @@ use Rattle.slab_laws.specs.Sound.{IsGraphSound}
 use Rattle.slab_laws.specs.View.{View, HasVertex, point_in}
 use Rattle.arr_notes.specs.Curves.{Curves, AreCurvesOf}
 use Rattle.dcel_records.specs.declared.spot.Spot.TheVariants.{Vertex}
-use Rattle.sound_views.specs.RecordGraph.{drawn_graph}
+use Rattle.arr_notes.specs.RecordGraph.{drawn_graph}
 use Rattle.record_layers.specs.RecordLayers.{IsRunOfSteps}
 use Rattle.record_layers.proofs.Runs.{made_is_run, made_in_turn}
 use Rattle.zone_walk.specs.declared.plan.Meeting.{Meeting}

@@ -26,7 +26,7 @@ use Rattle.arr_notes.specs.declared.change.Change.TheVariants.{AddCurve, AddEdge
 use Rattle.arr_notes.specs.Curves.{Curves, AreCurvesOf, IsForward}
 use Rattle.arr_notes.specs.Step.{step}
 use Rattle.arr_notes.proofs.Names.{cases_dart}
-use Rattle.sound_views.specs.RecordGraph.{drawn_graph}
+use Rattle.arr_notes.specs.RecordGraph.{drawn_graph}
 use Rattle.sound_views.proofs.GraphDrawn.{graphs_are_drawn}
 use Rattle.sound_changes.proofs.StepGraphs.{of_marks, in_marks}
 use Rattle.sound_changes.proofs.StepHolds.{mark_held, held_mark}

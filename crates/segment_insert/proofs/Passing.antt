@@ -35,7 +35,7 @@ use Rattle.sound_views.proofs.NamedDarts.{twin_dart}
 use Rattle.sound_views.proofs.NameTables.{has_name, name_has}
 use Rattle.sound_changes.proofs.SplitCases.{edge_of_ends, ahead_by}
 use Rattle.arr_notes.specs.Curves.{Curves, AreCurvesOf, IsForward, is_forward}
-use Rattle.sound_views.specs.RecordGraph.{drawn_graph}
+use Rattle.arr_notes.specs.RecordGraph.{drawn_graph}
 use Rattle.sound_views.proofs.GraphDrawn.{twins_are_directed}
 use Rattle.sound_changes.proofs.StepHolds.{mark_held, held_mark}
 use Rattle.zone_walk.specs.Zone.{is_on_segment, passes, meeting_points}

@@ -23,7 +23,7 @@ use Rattle.sound_changes.proofs.PointInside.{IsInside}
 use Rattle.sound_changes.proofs.KnownNames.{point_known, edge_known}
 use Rattle.arr_notes.specs.Curves.{Curves, IsForward, AreCurvesOf}
 use Rattle.dcel_records.specs.Spots.{IsInFace}
-use Rattle.sound_views.specs.RecordGraph.{drawn_graph}
+use Rattle.arr_notes.specs.RecordGraph.{drawn_graph}
 use Rattle.sound_views.specs.RecordGraphLaws.{IsMarkOf}
 use Rattle.sound_changes.proofs.StepHolds.{held_point, mark_held, held_mark}
 use Rattle.segment_insert.proofs.VerticesWalk.{forward_edge, inside_ends}

@@ -18,7 +18,7 @@ use Rattle.arr_notes.specs.Curves.{Curves, AreCurvesOf}
 use Rattle.dcel_records.specs.declared.spot.Spot.{Spot}
 use Rattle.dcel_records.specs.declared.spot.Spot.TheVariants.{Vertex, Edge, Face}
 use Rattle.dcel_records.specs.Spots.{IsSpotOf}
-use Rattle.sound_views.specs.RecordGraph.{drawn_graph}
+use Rattle.arr_notes.specs.RecordGraph.{drawn_graph}
 use Rattle.record_layers.specs.RecordLayers.{IsRunOfSteps}
 use Rattle.zone_walk.specs.Zone.{is_vertex, is_edge, vertices_needed, splits_needed, points_of_meetings}
 use Rattle.zone_walk.specs.declared.plan.Meeting.{Meeting}

@@ -24,7 +24,7 @@ use Rattle.dcel_records.specs.declared.spot.Spot.{Spot}
 use Rattle.dcel_records.specs.declared.spot.Spot.TheVariants.{Vertex, Edge, Face}
 use Rattle.dcel_records.specs.Spots.{IsSpotOf, IsInFace}
 use Rattle.edge_split_merge.specs.Splits.{CanSplit}
-use Rattle.sound_views.specs.RecordGraph.{drawn_graph}
+use Rattle.arr_notes.specs.RecordGraph.{drawn_graph}
 use Rattle.sound_changes.specs.StepOfChange.{step_of_change}
 use Rattle.sound_changes.proofs.ChangesAreSteps.{changes_keep_views_sound}
 use Rattle.sound_changes.proofs.StepHolds.{point_held}

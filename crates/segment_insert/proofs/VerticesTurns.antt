@@ -16,7 +16,7 @@ use Rattle.slab_laws.specs.Sound.{IsGraphSound}
 use Rattle.slab_laws.specs.View.{View}
 use Rattle.arr_notes.specs.Curves.{Curves, AreCurvesOf, step_curves}
 use Rattle.arr_notes.specs.Step.{step}
-use Rattle.sound_views.specs.RecordGraph.{drawn_graph}
+use Rattle.arr_notes.specs.RecordGraph.{drawn_graph}
 use Rattle.sound_changes.specs.StepLaws.{IsApplied}
 use Rattle.sound_changes.proofs.ChangesAreSteps.{changes_are_steps}
 use Rattle.record_layers.specs.RecordLayers.{IsRunOfSteps}

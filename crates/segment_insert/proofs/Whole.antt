@@ -25,7 +25,7 @@ use Rattle.edit_steps.proofs.Folds.{first_sound as sound_first}
 use Rattle.slab_laws.specs.Sound.{IsGraphSound}
 use Rattle.slab_laws.specs.View.{View, point_in}
 use Rattle.arr_notes.specs.Curves.{Curves, AreCurvesOf}
-use Rattle.sound_views.specs.RecordGraph.{drawn_graph}
+use Rattle.arr_notes.specs.RecordGraph.{drawn_graph}
 use Rattle.sound_changes.proofs.StepHolds.{point_held}
 use Rattle.record_layers.specs.RecordLayers.{IsRunOfSteps}
 use Rattle.record_layers.proofs.Runs.{made_is_run, made_in_turn}

@@ -13,7 +13,7 @@ use Rattle.dcel_records.specs.declared.spot.Spot.{Spot}
 use Rattle.dcel_records.specs.declared.spot.Spot.TheVariants.{Vertex, Edge, Face}
 use Rattle.dcel_records.specs.Spots.{IsSpotOf}
 use Rattle.edge_split_merge.specs.Splits.{IsNewPlace}
-use Rattle.sound_views.specs.RecordGraph.{drawn_graph}
+use Rattle.arr_notes.specs.RecordGraph.{drawn_graph}
 use Rattle.record_layers.specs.RecordLayers.{IsRunOfSteps}
 use Rattle.zone_walk.specs.declared.plan.Meeting.{Meeting}
 

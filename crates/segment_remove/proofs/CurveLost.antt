@@ -20,7 +20,7 @@ use Rattle.arr_notes.specs.declared.change.Change.{Change}
 use Rattle.arr_notes.specs.declared.change.Change.TheVariants.{RemoveEdge, RemoveCurve}
 use Rattle.arr_notes.specs.Curves.{Curves, IsForward, is_forward, step_curves}
 use Rattle.arr_notes.specs.Step.{step, remove_edge}
-use Rattle.sound_views.specs.RecordGraph.{drawn_graph}
+use Rattle.arr_notes.specs.RecordGraph.{drawn_graph}
 use Rattle.sound_views.proofs.GraphDrawn.{twins_are_directed}
 use Rattle.sound_changes.proofs.StepHolds.{mark_held, held_mark}
 use Rattle.sound_changes.proofs.StepCases.{IsSameWay, turned_way, unchanged_way, one_way, at_name, at_other}

@@ -18,7 +18,7 @@ use Rattle.slab_laws.specs.Tables.{row_at}
 use Rattle.slab_laws.specs.View.{View, HasVertex, point_in, point_or, source_in, target_in}
 use Rattle.arr_notes.specs.Curves.{Curves, AreCurvesOf}
 use Rattle.curve_history.specs.Past.{Past, curves_on, SameCurves}
-use Rattle.sound_views.specs.RecordGraph.{drawn_graph}
+use Rattle.arr_notes.specs.RecordGraph.{drawn_graph}
 use Rattle.record_layers.specs.RecordLayers.{IsLayer, layer_of, IsRunOfSteps}
 use Rattle.record_layers.proofs.Layers.{steps_make_layers}
 use Rattle.record_layers.proofs.Moved.{one_curves}

@@ -17,7 +17,7 @@ use Rattle.slab_laws.specs.View.{View, point_in, source_in, target_in}
 use Rattle.arr_notes.specs.Curves.{Curves, AreCurvesOf, IsForward, step_curves}
 use Rattle.arr_notes.specs.Step.{step}
 use Rattle.arr_notes.proofs.Names.{cases_dart}
-use Rattle.sound_views.specs.RecordGraph.{drawn_graph}
+use Rattle.arr_notes.specs.RecordGraph.{drawn_graph}
 use Rattle.sound_changes.proofs.StepGraphs.{drawn_ordered}
 use Rattle.sound_changes.proofs.StepHolds.{mark_held, held_mark}
 use Rattle.sound_changes.proofs.StepCases.{IsSameWay, unchanged_way}

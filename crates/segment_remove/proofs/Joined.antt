@@ -10,7 +10,7 @@ use Rattle.plane_graphs.proofs.Order.{same_in, same_out}
 use Rattle.slab_laws.specs.declared.names.DartId.{DartId}
 use Rattle.slab_laws.specs.View.{View, point_in, source_in, target_in}
 use Rattle.curve_history.specs.Past.{Past, curves_on}
-use Rattle.sound_views.specs.RecordGraph.{drawn_graph}
+use Rattle.arr_notes.specs.RecordGraph.{drawn_graph}
 use Rattle.sound_views.proofs.GraphHolds.{graphs_hold}
 use Rattle.record_layers.specs.RecordLayers.{IsLayer, layer_of}
 use Rattle.record_orders.specs.Edges.{IsDartAlong}

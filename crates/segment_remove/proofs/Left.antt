@@ -10,7 +10,7 @@ use Rattle.slab_laws.specs.View.{View}
 use Rattle.arr_notes.specs.Curves.{Curves, AreCurvesOf}
 use Rattle.slab_laws.specs.Sound.{IsGraphSound}
 use Rattle.curve_history.specs.Past.{Past, curves_on}
-use Rattle.sound_views.specs.RecordGraph.{drawn_graph}
+use Rattle.arr_notes.specs.RecordGraph.{drawn_graph}
 use Rattle.record_layers.specs.RecordLayers.{IsLayer, layer_of, IsRunOfSteps}
 use Rattle.record_layers.specs.LayerSteps.{IsRun}
 use Rattle.record_layers.proofs.Runs.{made_in_turn, made_is_run}

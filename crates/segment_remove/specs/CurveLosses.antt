@@ -10,7 +10,7 @@ use Rattle.arr_notes.specs.declared.change.Change.{Change}
 use Rattle.arr_notes.specs.declared.change.Change.TheVariants.{RemoveEdge, RemoveCurve}
 use Rattle.arr_notes.specs.Curves.{Curves, step_curves}
 use Rattle.arr_notes.specs.Step.{step}
-use Rattle.sound_views.specs.RecordGraph.{drawn_graph}
+use Rattle.arr_notes.specs.RecordGraph.{drawn_graph}
 use Rattle.record_layers.specs.RecordLayers.{IsRunOfSteps}
 
 -- the change that takes a curve from the edge of a dart: the edge goes where no other curve runs along it (CGAL manual, `remove_curve`)

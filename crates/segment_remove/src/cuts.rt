@@ -85,12 +85,12 @@ pub fn remove_edge(
     let target = records.target(d);
     let low = records.point(source);
     let high = records.point(target);
-    let left = history.pieces_after_cut(&low, &high);
-    if left > u64::from(pieces) {
+    let plan = history.plan_cut(&low, &high);
+    if plan.left > u64::from(pieces) {
         return Err(CutError::Full(pieces));
     }
-    make_room(history, left as u32)?;
-    history.cut_pieces(&low, &high);
+    make_room(history, plan.left as u32)?;
+    history.cut_pieces(&low, &high, plan);
     release_edge(records, history, d);
     remove_redundant(records, history, &[source, target]);
     Ok(())

@@ -9,7 +9,7 @@ use Rattle.arr_notes.specs.declared.change.Change.{Change}
 use Rattle.arr_notes.specs.declared.change.Change.TheVariants.{AddVertex, RemoveVertex, SplitEdge, MergeEdge, AddEdge, RemoveEdge, AddCurve, RemoveCurve, SetPin, ClearPin, Clear}
 use Rattle.arr_notes.specs.Curves.{Curves, step_curves}
 use Rattle.arr_notes.specs.Step.{step, remove_edge}
-use Rattle.sound_views.specs.RecordGraph.{drawn_graph}
+use Rattle.arr_notes.specs.RecordGraph.{drawn_graph}
 use Rattle.sound_changes.proofs.EdgeAdded.{added}
 use Rattle.sound_changes.proofs.EdgeRemoved.{removed}
 use Rattle.sound_changes.proofs.VertexRemoved.{vertex_fewer}

@@ -44,3 +44,5 @@ pub mod StepSplit
 pub mod StepMergeEdges
 pub mod StepMerge
 pub mod ChangesAreSteps
+pub mod MergedRing
+pub mod ViewsMade

@@ -17,7 +17,7 @@ use Rattle.edit_steps.specs.Steps.{AddVertex as AddVertexAt, apply}
 use Rattle.arr_notes.specs.declared.change.Change.TheVariants.{AddVertex}
 use Rattle.arr_notes.specs.Curves.{Curves, AreCurvesOf}
 use Rattle.arr_notes.proofs.Names.{cases_vertex}
-use Rattle.sound_views.specs.RecordGraph.{drawn_graph}
+use Rattle.arr_notes.specs.RecordGraph.{drawn_graph}
 use Rattle.sound_changes.specs.StepLaws.{IsApplied}
 use Rattle.sound_changes.proofs.StepGraphs.{IsWithin, applied, in_points, of_points}
 use Rattle.sound_changes.proofs.StepHolds.{point_held, held_point, mark_held, pin_held, held_pin, drawn_within}

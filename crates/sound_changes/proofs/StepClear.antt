@@ -7,7 +7,7 @@ use Rattle.arr_notes.proofs.VertexReads.{nothing_is_there}
 use Rattle.edit_steps.specs.Steps.{apply}
 use Rattle.arr_notes.specs.declared.change.Change.TheVariants.{Clear}
 use Rattle.arr_notes.specs.Curves.{Curves}
-use Rattle.sound_views.specs.RecordGraph.{drawn_graph}
+use Rattle.arr_notes.specs.RecordGraph.{drawn_graph}
 use Rattle.sound_changes.specs.StepLaws.{IsApplied}
 use Rattle.sound_changes.proofs.StepCases.{curves_by}
 

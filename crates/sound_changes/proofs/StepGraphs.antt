@@ -14,7 +14,7 @@ use Rattle.slab_laws.specs.View.{View}
 use Rattle.arr_notes.specs.declared.change.Change.{Change}
 use Rattle.arr_notes.specs.Curves.{Curves, AreCurvesOf, step_curves}
 use Rattle.arr_notes.specs.Step.{step}
-use Rattle.sound_views.specs.RecordGraph.{drawn_graph}
+use Rattle.arr_notes.specs.RecordGraph.{drawn_graph}
 use Rattle.sound_changes.specs.StepOfChange.{step_of_change}
 use Rattle.sound_changes.specs.StepLaws.{IsApplied}
 

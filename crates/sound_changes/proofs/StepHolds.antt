@@ -8,7 +8,7 @@ use Rattle.slab_laws.specs.declared.names.VertexId.{VertexId}
 use Rattle.slab_laws.specs.Sound.{IsNamed}
 use Rattle.slab_laws.specs.View.{View, HasVertex, point_in, pinned_in}
 use Rattle.arr_notes.specs.Curves.{Curves}
-use Rattle.sound_views.specs.RecordGraph.{drawn_graph}
+use Rattle.arr_notes.specs.RecordGraph.{drawn_graph}
 use Rattle.sound_views.specs.RecordGraphLaws.{IsVertexAt, IsMarkOf}
 use Rattle.sound_views.proofs.GraphHolds.{graph_holds}
 use Rattle.sound_changes.proofs.StepGraphs.{IsWithin}

@@ -19,7 +19,7 @@ use Rattle.arr_notes.specs.declared.change.Change.TheVariants.{MergeEdge}
 use Rattle.arr_notes.specs.Curves.{Curves, AreCurvesOf, step_curves}
 use Rattle.arr_notes.specs.Step.{merge_edge}
 use Rattle.arr_notes.proofs.Names.{cases_dart}
-use Rattle.sound_views.specs.RecordGraph.{drawn_graph}
+use Rattle.arr_notes.specs.RecordGraph.{drawn_graph}
 use Rattle.sound_views.specs.RecordGraphLaws.{IsMarkOf}
 use Rattle.sound_changes.specs.StepLaws.{IsApplied}
 use Rattle.sound_changes.proofs.StepGraphs.{IsWithin, applied}

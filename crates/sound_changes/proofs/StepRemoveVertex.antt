@@ -16,7 +16,7 @@ use Rattle.rotation_order.specs.VertexRings.{IsBare}
 use Rattle.edit_steps.specs.Steps.{RemoveVertex as RemoveVertexAt, points_without, apply}
 use Rattle.arr_notes.specs.declared.change.Change.TheVariants.{RemoveVertex}
 use Rattle.arr_notes.specs.Curves.{Curves, AreCurvesOf}
-use Rattle.sound_views.specs.RecordGraph.{drawn_graph}
+use Rattle.arr_notes.specs.RecordGraph.{drawn_graph}
 use Rattle.sound_changes.specs.StepLaws.{IsApplied}
 use Rattle.sound_changes.proofs.StepGraphs.{IsWithin, applied, in_without, of_without}
 use Rattle.sound_changes.proofs.StepHolds.{point_held, held_point, pin_held, held_pin}

@@ -7,7 +7,7 @@ use Rattle.slab_laws.specs.Sound.{IsNamed, IsGraphSound}
 use Rattle.slab_laws.specs.View.{View, HasDart, point_in, source_in, twin_in}
 use Rattle.arr_notes.specs.Reads.{IsSameDart}
 use Rattle.arr_notes.specs.Curves.{Curves, AreCurvesOf}
-use Rattle.sound_views.specs.RecordGraph.{drawn_graph}
+use Rattle.arr_notes.specs.RecordGraph.{drawn_graph}
 use Rattle.sound_changes.proofs.StepHolds.{mark_held, held_mark}
 use Rattle.sound_changes.proofs.StepSkeletons.{IsPaired, ends_apart}
 use Rattle.sound_changes.proofs.StepCases.{IsSameWay, mark_moves, mark_moves_back, labelled, label_moves, curves_by}

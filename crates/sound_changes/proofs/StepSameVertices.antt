@@ -5,7 +5,7 @@ use Rattle.exact_plane.specs.PointOrder.{point_cmp}
 use Rattle.plane_graphs.specs.Ascending.{ascending}
 use Rattle.slab_laws.specs.View.{View}
 use Rattle.arr_notes.specs.Curves.{Curves}
-use Rattle.sound_views.specs.RecordGraph.{drawn_graph}
+use Rattle.arr_notes.specs.RecordGraph.{drawn_graph}
 
 module _ (g v : View) (b h : Curves) (e : g.vertices ≡ v.vertices) where
   pub same_points : (drawn_graph g b).points ≡ (drawn_graph v h).points

@@ -18,7 +18,7 @@ use Rattle.slab_faces.proofs.PlaneGraphs.{counts}
 use Rattle.sound_views.proofs.NamedDarts.{row_edges, twin_dart, twin_by}
 use Rattle.sound_changes.proofs.KnownNames.{edge_known, known_edge}
 use Rattle.arr_notes.specs.Curves.{Curves, AreCurvesOf, is_forward}
-use Rattle.sound_views.specs.RecordGraph.{drawn_graph}
+use Rattle.arr_notes.specs.RecordGraph.{drawn_graph}
 use Rattle.sound_views.proofs.GraphDrawn.{between_forward}
 use Rattle.sound_changes.proofs.StepHolds.{mark_held, held_mark}
 

@@ -20,7 +20,7 @@ use Rattle.edit_steps.specs.Steps.{SplitEdge as SplitEdgeAt, halves, apply}
 use Rattle.arr_notes.specs.declared.change.Change.TheVariants.{SplitEdge}
 use Rattle.arr_notes.specs.Curves.{Curves, AreCurvesOf, step_curves}
 use Rattle.arr_notes.specs.Step.{split_edge}
-use Rattle.sound_views.specs.RecordGraph.{drawn_graph}
+use Rattle.arr_notes.specs.RecordGraph.{drawn_graph}
 use Rattle.sound_views.specs.RecordGraphLaws.{IsMarkOf}
 use Rattle.sound_changes.specs.StepLaws.{IsApplied}
 use Rattle.sound_changes.proofs.StepGraphs.{IsWithin, applied}

@@ -15,7 +15,7 @@ use Rattle.sound_changes.proofs.SplitHalves.{IsHalved, three}
 use Rattle.sound_changes.proofs.SplitHalves as halves
 use Rattle.arr_notes.specs.Curves.{Curves, AreCurvesOf, IsForward, is_forward}
 use Rattle.arr_notes.proofs.Names.{cases_dart}
-use Rattle.sound_views.specs.RecordGraph.{drawn_graph}
+use Rattle.arr_notes.specs.RecordGraph.{drawn_graph}
 use Rattle.sound_views.specs.RecordGraphLaws.{IsMarkOf}
 use Rattle.sound_changes.proofs.StepHolds.{mark_held}
 use Rattle.sound_changes.proofs.StepCases.{IsSameWay, IsLabelled, mark_moves, mark_moves_back, turned_way, labelled, label_moves, curves_by}

@@ -5,3 +5,4 @@ pub mod ChangeFits
 pub mod SplitLaws
 pub mod StepOfChange
 pub mod StepLaws
+pub mod ViewLaws

@@ -16,7 +16,7 @@ use Rattle.slab_laws.specs.Sound.{IsGraphSound}
 use Rattle.slab_laws.specs.View.{View, point_in, source_in, target_in}
 use Rattle.sound_views.proofs.NamedDarts.{by_points}
 use Rattle.arr_notes.specs.Curves.{Curves, IsForward}
-use Rattle.sound_views.specs.RecordGraph.{drawn_graph}
+use Rattle.arr_notes.specs.RecordGraph.{drawn_graph}
 use Rattle.sound_views.specs.RecordGraphLaws.{IsMarkOf, CurvesOfDarts}
 use Rattle.sound_views.proofs.GraphHolds.{graphs_hold}
 use Rattle.integers.proofs.Tests.{nat_exact}

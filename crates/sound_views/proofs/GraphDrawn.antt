@@ -21,7 +21,7 @@ use Rattle.slab_laws.specs.View.{View, HasDart, point_in, source_in, target_in, 
 use Rattle.sound_views.proofs.NamedDarts.{row_edges, edge_row, row_edge, twin_dart}
 use Rattle.sound_views.proofs.PulledOrders.{ascending_same}
 use Rattle.arr_notes.specs.Curves.{Curves, IsForward, AreCurvesOf, is_forward}
-use Rattle.sound_views.specs.RecordGraph.{drawn_graph}
+use Rattle.arr_notes.specs.RecordGraph.{drawn_graph}
 use Rattle.sound_views.specs.RecordGraphLaws.{IsMarkOf, GraphsAreDrawn, GraphsArePlane, TwinsAreDirected}
 use Rattle.sound_views.proofs.GraphHolds.{graphs_hold}
 

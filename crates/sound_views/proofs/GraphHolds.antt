@@ -16,7 +16,7 @@ use Rattle.slab_laws.specs.Sound.{IsNamed, points_of}
 use Rattle.slab_laws.specs.View.{View, VertexRecord, HasVertex, HasDart, vertex_id, dart_id, point_or, pin_or, point_in, pinned_in, source_in, target_in}
 use Rattle.sound_views.proofs.NameTables.{has_name, name_has, row_found}
 use Rattle.arr_notes.specs.Curves.{Curves, is_forward}
-use Rattle.sound_views.specs.RecordGraph.{marks_along, drawn_graph}
+use Rattle.arr_notes.specs.RecordGraph.{marks_along, drawn_graph}
 use Rattle.sound_views.specs.RecordGraphLaws.{IsVertexAt, IsMarkOf, GraphHolds, GraphsHold}
 
 -- ---- the rows of vertices

@@ -10,7 +10,7 @@ use Rattle.slab_laws.specs.Sound.{IsGraphSound, skeleton_of}
 use Rattle.slab_laws.specs.Text.{skeleton}
 use Rattle.slab_laws.specs.View.{View, HasVertex, point_in, pinned_in, source_in, target_in}
 use Rattle.arr_notes.specs.Curves.{Curves, IsForward, IsDirected, AreCurvesOf}
-use Rattle.sound_views.specs.RecordGraph.{drawn_graph}
+use Rattle.arr_notes.specs.RecordGraph.{drawn_graph}
 
 -- the vertex stands at the point
 pub record IsVertexAt (v : View) (p : Point) (w : VertexId) : Type 0 where

@@ -4,7 +4,7 @@ use Rattle.curve_history.proofs.Walking.{IsSought, left}
 use Rattle.curve_history.proofs.walks.find.Given as goal
 
 abbrev pub invariant-walk : goal.invariant-walk
-invariant-walk l = IsSought l.edges l.edge l.curve l.at
+invariant-walk l = record { one : IsSought l.edges l.edge l.curve l.at; other : IsSought l.curves l.curve l.edge l.beside }
 
 abbrev pub decreases-walk : goal.decreases-walk
 decreases-walk l = length (left (chain l.edges l.edge) l.at)

@@ -2,7 +2,7 @@ use Rattle.std.proofs.Common.{refl, sym, subst}
 use Rattle.edit_steps.specs.Allowed.{AreSound}
 use Rattle.dcel_records.specs.Spots.{IsSpotOf}
 use Rattle.curve_history.specs.Past.{curves_on}
-use Rattle.sound_views.specs.RecordGraph.{drawn_graph}
+use Rattle.arr_notes.specs.RecordGraph.{drawn_graph}
 use Rattle.record_layers.specs.RecordLayers.{IsRunOfSteps}
 use Rattle.pin_points.proofs.Parted.{vertex_made, vertex_there}
 use Rattle.pin_points.proofs.Spotted.{at_vertex, at_edge, at_face}

@@ -5,7 +5,7 @@ use Rattle.edit_steps.specs.Edits.{Pin, steps}
 use Rattle.edit_steps.proofs.Refusals.{no_memory, pin_again, pin_full, pin_allowed}
 use Rattle.arr_notes.specs.Curves.{AreCurvesOf}
 use Rattle.curve_history.specs.Past.{curves_on}
-use Rattle.sound_views.specs.RecordGraph.{drawn_graph}
+use Rattle.arr_notes.specs.RecordGraph.{drawn_graph}
 use Rattle.record_layers.specs.RecordLayers.{IsLayer, layer_of, IsRunOfSteps}
 use Rattle.record_layers.proofs.Moved.{one_curves, same_layers, layer_moves}
 use Rattle.pin_points.specs.Pins.{pin_said, new_vertex_steps}

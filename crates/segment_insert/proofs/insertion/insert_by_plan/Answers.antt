@@ -5,7 +5,7 @@ use Rattle.curve_history.specs.Past.{curves_on}
 use Rattle.segment_insert.specs.Insertion.{pairs_to_part, AreMeetings}
 use Rattle.segment_insert.proofs.Makes.{one_curves}
 use Rattle.edit_steps.specs.Allowed.{AreSound}
-use Rattle.sound_views.specs.RecordGraph.{drawn_graph}
+use Rattle.arr_notes.specs.RecordGraph.{drawn_graph}
 use Rattle.zone_walk.specs.Zone.{splits_needed, points_of_meetings}
 use Rattle.segment_insert.proofs.Planned.{IsPlanned, made_of_plan, IsHalfMade, meetings, room_left, pairs_left, curves_first, sound_first, sound_then, curves_then, all_on, each_on, plane_then, all_made, layer_made, one_piece, one_name}
 use Rattle.segment_insert.proofs.insertion.insert_by_plan.Goals as goal

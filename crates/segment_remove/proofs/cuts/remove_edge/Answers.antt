@@ -7,6 +7,7 @@ use Rattle.edit_steps.proofs.Refusals.{no_memory, cut_without, cut_full, cut_all
 use Rattle.slab_laws.specs.Sound.{edge_between}
 use Rattle.arr_notes.specs.Curves.{AreCurvesOf}
 use Rattle.curve_history.specs.Past.{curves_on}
+use Rattle.curve_history.specs.Cuts.{IsPlanOfCut}
 use Rattle.record_layers.specs.RecordLayers.{IsLayer, layer_of, IsRunOfSteps}
 use Rattle.record_layers.proofs.Moved.{one_curves, layer_moves}
 use Rattle.segment_remove.specs.Refused.{cut_between, cut_said}
@@ -25,10 +26,10 @@ point-low-requires c = has_s c.args.records.now.graph c.args.history.now c.requi
 pub point-high-requires : goal.point-high-requires
 point-high-requires c = has_t c.args.records.now.graph c.args.history.now c.requires.layer (edge_between c.args.p.now c.args.q.now) c.in-Some.d c.in-Some.ensures c.source-source.result c.target-target.result c.source-source.ensures c.target-target.ensures
 
-pub returns-then-left-from-clause-refused : goal.returns-then-left-from-clause-refused
-returns-then-left-from-clause-refused c =
+pub returns-then-plan-from-clause-refused : goal.returns-then-plan-from-clause-refused
+returns-then-plan-from-clause-refused c =
     cut_full c.args.pieces (layer_of c.args.records.now.graph c.args.history.now) (edge_between c.args.p.now c.args.q.now).low (edge_between c.args.p.now c.args.q.now).high (joined c.args.records.now.graph c.args.history.now c.requires.layer (edge_between c.args.p.now c.args.q.now) c.in-Some.d c.in-Some.ensures)
-    (passes c.args.pieces c.from.result c.pieces_after_cut-left.result (length (with_cut (layer_of c.args.records.now.graph c.args.history.now).present (edge_between c.args.p.now c.args.q.now).low (edge_between c.args.p.now c.args.q.now).high).pieces) c.from.ensures (counted c.args.records.now.graph c.args.history.now c.requires.layer (edge_between c.args.p.now c.args.q.now) c.in-Some.d c.in-Some.ensures c.source-source.result c.target-target.result c.source-source.ensures c.target-target.ensures c.point-low.result c.point-high.result c.point-low.ensures c.point-high.ensures c.pieces_after_cut-left.result c.pieces_after_cut-left.ensures) c.if-left-from.true)
+    (passes c.args.pieces c.from.result c.plan_cut-plan.result.left (length (with_cut (layer_of c.args.records.now.graph c.args.history.now).present (edge_between c.args.p.now c.args.q.now).low (edge_between c.args.p.now c.args.q.now).high).pieces) c.from.ensures (counted c.args.records.now.graph c.args.history.now c.requires.layer (edge_between c.args.p.now c.args.q.now) c.in-Some.d c.in-Some.ensures c.source-source.result c.target-target.result c.source-source.ensures c.target-target.ensures c.point-low.result c.point-high.result c.point-low.ensures c.point-high.ensures c.plan_cut-plan.result.left c.plan_cut-plan.ensures.left) c.if-plan-from.true)
 
 pub returns-in_err-make_room-clause-layer : goal.returns-in_err-make_room-clause-layer
 returns-in_err-make_room-clause-layer c = layer_moves c.args.records.now.graph c.args.history.now c.make_room.new.history c.make_room.ensures.layer c.make_room.ensures.curves c.requires.layer
@@ -36,7 +37,10 @@ returns-in_err-make_room-clause-layer c = layer_moves c.args.records.now.graph c
 pub returns-in_err-make_room-clause-refused : goal.returns-in_err-make_room-clause-refused
 returns-in_err-make_room-clause-refused c =
     no_memory cut_said NoMemory _ c.from_residual.result c.from_residual.ensures.1 refl (cut_allowed c.args.pieces (layer_of c.args.records.now.graph c.args.history.now) (edge_between c.args.p.now c.args.q.now).low (edge_between c.args.p.now c.args.q.now).high (joined c.args.records.now.graph c.args.history.now c.requires.layer (edge_between c.args.p.now c.args.q.now) c.in-Some.d c.in-Some.ensures)
-    (fits c.args.pieces c.from.result c.pieces_after_cut-left.result (length (with_cut (layer_of c.args.records.now.graph c.args.history.now).present (edge_between c.args.p.now c.args.q.now).low (edge_between c.args.p.now c.args.q.now).high).pieces) c.from.ensures (counted c.args.records.now.graph c.args.history.now c.requires.layer (edge_between c.args.p.now c.args.q.now) c.in-Some.d c.in-Some.ensures c.source-source.result c.target-target.result c.source-source.ensures c.target-target.ensures c.point-low.result c.point-high.result c.point-low.ensures c.point-high.ensures c.pieces_after_cut-left.result c.pieces_after_cut-left.ensures) c.if-left-from.false))
+    (fits c.args.pieces c.from.result c.plan_cut-plan.result.left (length (with_cut (layer_of c.args.records.now.graph c.args.history.now).present (edge_between c.args.p.now c.args.q.now).low (edge_between c.args.p.now c.args.q.now).high).pieces) c.from.ensures (counted c.args.records.now.graph c.args.history.now c.requires.layer (edge_between c.args.p.now c.args.q.now) c.in-Some.d c.in-Some.ensures c.source-source.result c.target-target.result c.source-source.ensures c.target-target.ensures c.point-low.result c.point-high.result c.point-low.ensures c.point-high.ensures c.plan_cut-plan.result.left c.plan_cut-plan.ensures.left) c.if-plan-from.false))
+
+pub cut_pieces-requires-clause-plan : goal.cut_pieces-requires-clause-plan
+cut_pieces-requires-clause-plan c = subst (λ ks. IsPlanOfCut c.point-low.result c.point-high.result ks c.plan_cut-plan.result) (sym c.make_room.ensures.layer.pieces) c.plan_cut-plan.ensures
 
 pub release_edge-requires-clause-curves : goal.release_edge-requires-clause-curves
 release_edge-requires-clause-curves c = subst (AreCurvesOf c.args.records.now.graph) (sym (one_curves c.args.history.now c.cut_pieces.new.self (λ d. c.cut_pieces.ensures.curves d ∙ c.make_room.ensures.curves d))) c.requires.layer.curves
@@ -81,4 +85,4 @@ returns-clause-steps c = made c
 pub returns-clause-refused : goal.returns-clause-refused
 returns-clause-refused c =
     cut_allowed c.args.pieces (layer_of c.args.records.now.graph c.args.history.now) (edge_between c.args.p.now c.args.q.now).low (edge_between c.args.p.now c.args.q.now).high (joined c.args.records.now.graph c.args.history.now c.requires.layer (edge_between c.args.p.now c.args.q.now) c.in-Some.d c.in-Some.ensures)
-    (fits c.args.pieces c.from.result c.pieces_after_cut-left.result (length (with_cut (layer_of c.args.records.now.graph c.args.history.now).present (edge_between c.args.p.now c.args.q.now).low (edge_between c.args.p.now c.args.q.now).high).pieces) c.from.ensures (counted c.args.records.now.graph c.args.history.now c.requires.layer (edge_between c.args.p.now c.args.q.now) c.in-Some.d c.in-Some.ensures c.source-source.result c.target-target.result c.source-source.ensures c.target-target.ensures c.point-low.result c.point-high.result c.point-low.ensures c.point-high.ensures c.pieces_after_cut-left.result c.pieces_after_cut-left.ensures) c.if-left-from.false)
+    (fits c.args.pieces c.from.result c.plan_cut-plan.result.left (length (with_cut (layer_of c.args.records.now.graph c.args.history.now).present (edge_between c.args.p.now c.args.q.now).low (edge_between c.args.p.now c.args.q.now).high).pieces) c.from.ensures (counted c.args.records.now.graph c.args.history.now c.requires.layer (edge_between c.args.p.now c.args.q.now) c.in-Some.d c.in-Some.ensures c.source-source.result c.target-target.result c.source-source.ensures c.target-target.ensures c.point-low.result c.point-high.result c.point-low.ensures c.point-high.ensures c.plan_cut-plan.result.left c.plan_cut-plan.ensures.left) c.if-plan-from.false)

@@ -4,7 +4,7 @@ use Rattle.plane_graphs.specs.Graph.{same_curve}
 use Rattle.edit_steps.specs.Edits.{Drop, steps}
 use Rattle.edit_steps.specs.Layer.{layer_after}
 use Rattle.curve_history.specs.Past.{curves_on}
-use Rattle.sound_views.specs.RecordGraph.{drawn_graph}
+use Rattle.arr_notes.specs.RecordGraph.{drawn_graph}
 use Rattle.record_layers.specs.RecordLayers.{IsLayer, layer_of, IsRunOfSteps}
 use Rattle.record_layers.proofs.Moved.{one_curves}
 use Rattle.segment_remove.specs.Ends.{AreEnds}

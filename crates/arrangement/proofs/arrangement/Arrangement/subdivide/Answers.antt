@@ -4,7 +4,7 @@ use Rattle.plane_graphs.specs.Graph.{Graph, graph}
 use Rattle.slab_laws.specs.Subdivision.{subdivision}
 use Rattle.slab_laws.specs.Text.{skeleton}
 use Rattle.slab_laws.specs.View.{View}
-use Rattle.sound_views.specs.RecordGraph.{drawn_graph}
+use Rattle.arr_notes.specs.RecordGraph.{drawn_graph}
 use Rattle.curve_history.specs.Past.{Past}
 use Rattle.curve_history.specs.DrawnRecords.{curves_in}
 use Rattle.record_layers.specs.RecordLayers.{IsLayer}

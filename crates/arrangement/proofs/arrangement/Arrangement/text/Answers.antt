@@ -4,7 +4,7 @@ use Rattle.plane_graphs.specs.Graph.{graph}
 use Rattle.plane_graphs.specs.Plane.{IsPlane}
 use Rattle.plane_graphs.proofs.Laws.{graph_is_plane}
 use Rattle.slab_laws.specs.Text.{graph_text, present_text}
-use Rattle.arrangement.proofs.GraphTexts.{text_is_the_graphs}
+use Rattle.slab_texts.proofs.GraphTexts.{text_is_the_graphs}
 use Rattle.arrangement.specs.Arranged.{Arranged, layer_in}
 use Rattle.arrangement.proofs.arrangement.Arrangement.text.Goals as goal
 

@@ -1,0 +1,12 @@
+-- When what is read by name is a sound view.
+use Rattle.std.specs.Prelude.{List}
+use Rattle.slab_laws.specs.declared.names.CurveId.{CurveId}
+use Rattle.slab_laws.specs.declared.names.DartId.{DartId}
+use Rattle.slab_laws.specs.Sound.{IsGraphSound}
+use Rattle.slab_laws.specs.View.{View}
+use Rattle.arr_notes.specs.Curves.{Curves, AreCurvesOf}
+use Rattle.arr_notes.specs.CurvedView.{AreListsOf, IsSoundView, view_by}
+
+-- sound records with the curves of their edges are a sound view (this project)
+abbrev pub ReadViewsAreSound : Type 0
+ReadViewsAreSound = (v : View) (h : Curves) (k : DartId → List CurveId) → IsGraphSound v → AreCurvesOf v h → AreListsOf v h k → IsSoundView (view_by v k)

@@ -1,0 +1,44 @@
+-- What location answers, by the spot where a point lies in the records of a layer.
+use Rattle.std.proofs.Common.{◌≡◌, true, refl, sym, ap, ◌∙◌, subst}
+use Rattle.exact_plane.specs.Point.{Point}
+use Rattle.plane_graphs.specs.Ascending.{Member}
+use Rattle.plane_graphs.specs.Graph.{Edge, graph}
+use Rattle.plane_graphs.specs.Line.{IsProper}
+use Rattle.plane_graphs.proofs.Ascending.{from_member}
+use Rattle.slab_laws.specs.declared.cell.Cell.TheVariants.{Vertex, Edge as OnEdge}
+use Rattle.slab_laws.specs.declared.names.DartId.{DartId}
+use Rattle.slab_laws.specs.declared.names.VertexId.{VertexId}
+use Rattle.slab_laws.specs.Skeleton.{Skeleton, inside, IsPlaneSkeleton}
+use Rattle.slab_laws.specs.Sound.{edge_in}
+use Rattle.slab_laws.specs.Subdivision.{subdivision, holds}
+use Rattle.slab_laws.specs.Text.{skeleton}
+use Rattle.slab_laws.specs.View.{View, HasVertex, point_in, source_in, target_in}
+use Rattle.slab_faces.proofs.LocationLemmas.{location_is}
+use Rattle.slab_faces.proofs.OneEdge.{one_edge_at_most}
+use Rattle.arr_notes.specs.Curves.{IsForward}
+use Rattle.sound_views.proofs.GraphDrawn.{graphs_are_drawn}
+use Rattle.record_orders.proofs.EdgeEnds.{ahead}
+use Rattle.curve_history.specs.Past.{Past, curves_on}
+use Rattle.record_layers.specs.RecordLayers.{IsLayer, layer_of}
+use Rattle.record_layers.proofs.LayerEdges.{along_drawn}
+use Rattle.record_layers.proofs.NamedLayers.{layers_are_named}
+
+module _ (v : View) (h : Past) (l : IsLayer v h) where
+  abbrev drawn : Skeleton
+  drawn = skeleton (graph (layer_of v h).present)
+
+  plane : IsPlaneSkeleton drawn
+  plane = subst IsPlaneSkeleton (sym (ap skeleton (sym l.stands) ∙ graphs_are_drawn v (curves_on h) l.sound l.curves)) l.sound.plane
+
+  pub at_vertex : (p : Point) (w : VertexId) → HasVertex v w → point_in v w ≡ p → Vertex p ≡ holds (subdivision drawn) p
+  at_vertex p w has at = sym (location_is.on_vertex drawn p (from_member drawn.vertices p (subst (λ q. Member q drawn.vertices) at ((layers_are_named v h l).name_vertex w has))))
+
+  -- no other edge has the point inside
+  pub on_edge : (p : Point) (d : DartId) → IsProper p → IsForward v d → inside (edge_in v d) p ≡ true → OnEdge (point_in v (source_in v d)) (point_in v (target_in v d)) ≡ holds (subdivision drawn) p
+  on_edge p d proper f has_inside =
+      let e = edge_in v d in
+      let E = from_member drawn.edges e (along_drawn v h l e d (record { forward = f; edge = refl })) in
+      let at = location_is.on_edge drawn e p plane E has_inside in
+      let same : e ≡ at.edge = one_edge_at_most drawn e at.edge p plane proper.positive E at.is_edge has_inside at.inside_it in
+      let ends = ahead (point_in v (source_in v d)) (point_in v (target_in v d)) f.1 in
+      ap (λ (k : Edge). OnEdge k.low k.high) (sym ends ∙ same) ∙ sym at.located

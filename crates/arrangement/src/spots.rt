@@ -1,0 +1,35 @@
+ghost use Rattle.std.specs.Prelude.{◌≡◌};
+ghost use Rattle.slab_laws.specs.declared.cell.Cell.TheVariants.{Edge as OnEdge};
+ghost use Rattle.slab_laws.specs.Sound.{IsGraphSound};
+ghost use Rattle.slab_laws.specs.View.{HasDart, point_in, source_in, target_in};
+ghost use Rattle.dcel_records.specs.Spots.{IsSpotOf};
+
+use dcel_records::{Records, Spot};
+use exact_plane::Point;
+use locate_naive::locate as look_at_all;
+use locate_walk::locate as walk_along_vertical;
+use slab_laws::{Cell, DartId, Darts, Strategy};
+
+/// Where a point lies in the records: the vertex at it, the edge that has it inside, or a face, found by the strategy.
+///
+/// Landmarks and the trapezoidal map are served by a look at all vertices and edges.
+pub(crate) fn spot_by(strategy: Strategy, records: &Records, p: &Point) -> Spot
+    requires { IsGraphSound records.now.graph }
+    ensures { IsSpotOf records.now.graph p.now result }
+{
+    match strategy {
+        Strategy::Walk => walk_along_vertical(records, p),
+        Strategy::Naive | Strategy::Landmarks | Strategy::Trapezoid => look_at_all(records, p),
+    }
+}
+
+/// The edge of a dart that goes forward, by its lower and its upper end.
+pub(crate) fn edge_cell(records: &Records, dart: DartId) -> Cell
+    requires sound { IsGraphSound records.now.graph }
+    requires dart { HasDart records.now.graph dart }
+    ensures { let v = records.now.graph in result ≡ OnEdge (point_in v (source_in v dart)) (point_in v (target_in v dart)) }
+{
+    let lower = records.point(records.source(dart));
+    let upper = records.point(records.target(dart));
+    Cell::Edge(lower, upper)
+}

@@ -1,0 +1,2 @@
+pub mod SeenCurves
+pub mod MirrorState

@@ -1,0 +1,108 @@
+ghost use Rattle.std.specs.Prelude.{◌≡◌, IfOk};
+ghost use Rattle.arr_notes.specs.CurvedView.{IsSoundView, view_text};
+ghost use Rattle.mirror_tables.specs.Standing.{view_in};
+
+use arr_text::text;
+use exact_plane::{Line, Point};
+use mirror_tables::Tables;
+use no_memory::NoMemory;
+use plain_slabs::subdivide_of;
+use slab_laws::{CurveId, Curved, DartId, Darts, VertexId};
+use std::alloc::Global;
+use std::marker::Model;
+
+/// Maps that stand for a sound view, read by name.
+#[derive(Drop)]
+pub(crate) struct Seen<'a> {
+    tables: &'a Tables,
+}
+
+impl<'a> Model for Seen<'a> {
+    ghost use Rattle.arr_notes.specs.CurvedView.{CurvedView, IsSoundView};
+    ghost use Rattle.mirror_tables.specs.Standing.{view_in};
+
+    ghost Value = { CurvedView };
+
+    ghost view = { λ s. view_in s.tables.now };
+
+    ghost invariant = { λ s. IsSoundView (view_in s.tables.now) };
+}
+
+impl<'a> Seen<'a> {
+    fn new(tables: &'a Tables) -> Seen<'a>
+        requires { IsSoundView (view_in tables.now) }
+        ensures { result ≡ view_in tables.now }
+    {
+        Seen { tables }
+    }
+}
+
+impl<'a> Darts for Seen<'a> {
+    ghost graph = { λ s. s.graph };
+
+    fn source(&self, d: DartId) -> VertexId {
+        self.tables.source(d)
+    }
+
+    fn target(&self, d: DartId) -> VertexId {
+        self.tables.source(self.tables.twin(d))
+    }
+
+    fn twin(&self, d: DartId) -> DartId {
+        self.tables.twin(d)
+    }
+
+    fn next(&self, d: DartId) -> DartId {
+        self.tables.next(d)
+    }
+
+    fn point(&self, v: VertexId) -> Point {
+        self.tables.point(v)
+    }
+
+    fn line(&self, d: DartId) -> Line {
+        self.tables.line(d)
+    }
+
+    fn pinned(&self, v: VertexId) -> bool {
+        self.tables.pinned(v)
+    }
+
+    fn out_of(&self, v: VertexId) -> Option<DartId> {
+        self.tables.out_of(v)
+    }
+
+    fn vertex_after(&self, v: Option<VertexId>) -> Option<VertexId> {
+        self.tables.vertex_after(v)
+    }
+
+    fn dart_after(&self, d: Option<DartId>) -> Option<DartId> {
+        self.tables.dart_after(d)
+    }
+}
+
+impl<'a> Curved for Seen<'a> {
+    ghost use Rattle.mirror_observer.specs.SeenCurves.{curve_list_of};
+
+    ghost curve_list = { curve_list_of };
+
+    fn curves(&self, alloc: Global, d: DartId) -> Result<Vec<CurveId>, NoMemory> {
+        let list = self.tables.curves(alloc, d)?;
+        Ok(list.into_vec())
+    }
+}
+
+/// The text of what the maps say.
+///
+/// # Errors
+///
+/// There was no memory for the subdivision or for the text.
+pub(crate) fn text_of(alloc: Global, tables: &Tables) -> Result<Vec<u8>, NoMemory>
+    requires { IsSoundView (view_in tables.now) }
+    ensures { IfOk result (λ bytes. bytes.items ≡ view_text (view_in tables.now)) }
+{
+    let seen = Seen::new(tables);
+    let plain = subdivide_of(alloc, &seen)?;
+    let bytes = text(alloc, &plain)?;
+    Ok(bytes)
+}

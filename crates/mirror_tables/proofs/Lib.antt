@@ -1,0 +1,11 @@
+pub mod Entries
+pub mod Readers
+pub mod Told
+pub mod Around
+pub mod Redirected
+pub mod Rewritten
+pub mod Loops
+pub mod Changed
+pub mod Placing
+pub mod Filling
+pub mod Beyond

@@ -1,0 +1,15 @@
+use Rattle.std.proofs.Common.{◌∙◌, ap}
+use Rattle.arr_notes.specs.NamedRows.{put}
+use Rattle.mirror_tables.specs.Tables.{rows, numbers_in}
+use Rattle.mirror_tables.proofs.Changed.{edge_split, tables_named}
+use Rattle.mirror_tables.proofs.Entries.{inserted}
+use Rattle.mirror_tables.proofs.tables.Tables.split_edge.Goals as goal
+
+pub returns : goal.returns
+returns c =
+    let t = c.args.self.now in
+    edge_split t _ c.args.d c.args.v c.args.p c.args.n c.args.m c.requires (c.in_ok-insert.ensures.entries ∙ inserted c.args.v.0 _ t.vertices.entries) c.in_ok-part.ensures
+    (c.in_ok-lay.ensures ∙ ap (λ ks. put c.args.n.0 ks (rows numbers_in t.curves.entries)) c.in_ok-curves.ensures)
+
+pub part-requires : goal.part-requires
+part-requires c = record { named = tables_named c.args.self.now c.requires.standing; back = c.requires.standing.back; has = c.requires.fits.dart }

@@ -1,0 +1,4 @@
+pub mod Tables
+pub mod Standing
+pub mod Lists
+pub mod Reading

@@ -1,0 +1,15 @@
+//! The ordered maps of a mirror: vertices, darts and the curves along edges by name, read from a view, and what each change makes
+//! of them.
+//!
+//! A dart's entry names, beside the dart that follows, the one before it, so that no change looks at more entries than it names.
+#![tactic(auto)]
+
+mod changes;
+mod curves;
+mod darts;
+mod fill;
+mod links;
+mod reading;
+mod tables;
+
+pub use tables::Tables;

@@ -1,0 +1,76 @@
+use exact_plane::{Line, Point};
+use no_memory::NoMemory;
+use slab_laws::{CurveId, Curved, DartId, Darts, VertexId};
+use std::alloc::Global;
+
+/// Records of the empty plane. A call that takes a name is never made: no name has a record.
+#[derive(Clone, Copy)]
+pub struct EmptyPlane {
+    point: Point,
+    line: Line,
+}
+
+impl EmptyPlane {
+    /// No records; the point and the line are never seen.
+    pub fn new(point: Point, line: Line) -> EmptyPlane {
+        EmptyPlane { point, line }
+    }
+}
+
+#[tactic(auto, unfolding(slab_laws::specs::Tables::row_at))]
+impl Darts for EmptyPlane {
+    ghost use Rattle.arr_notes.specs.ViewChanges.{no_rows};
+
+    ghost graph = { λ _. no_rows };
+
+    fn source(&self, _d: DartId) -> VertexId {
+        VertexId(0)
+    }
+
+    fn target(&self, _d: DartId) -> VertexId {
+        VertexId(0)
+    }
+
+    fn twin(&self, _d: DartId) -> DartId {
+        DartId(0)
+    }
+
+    fn next(&self, _d: DartId) -> DartId {
+        DartId(0)
+    }
+
+    fn point(&self, _v: VertexId) -> Point {
+        self.point
+    }
+
+    fn line(&self, _d: DartId) -> Line {
+        self.line
+    }
+
+    fn pinned(&self, _v: VertexId) -> bool {
+        false
+    }
+
+    fn out_of(&self, _v: VertexId) -> Option<DartId> {
+        None
+    }
+
+    fn vertex_after(&self, _v: Option<VertexId>) -> Option<VertexId> {
+        None
+    }
+
+    fn dart_after(&self, _d: Option<DartId>) -> Option<DartId> {
+        None
+    }
+}
+
+#[tactic(auto, unfolding(slab_laws::specs::Tables::row_at))]
+impl Curved for EmptyPlane {
+    ghost use Rattle.std.specs.Prelude.{[]};
+
+    ghost curve_list = { λ _ _. [] };
+
+    fn curves(&self, alloc: Global, _d: DartId) -> Result<Vec<CurveId>, NoMemory> {
+        Ok(Vec::new(alloc))
+    }
+}

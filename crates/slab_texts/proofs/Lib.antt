@@ -1,0 +1,5 @@
+pub mod TextLists
+pub mod TextOrders
+pub mod TextWords
+pub mod TextPins
+pub mod GraphTexts

@@ -1,0 +1,58 @@
+-- What observers see of records and a history: only the curves of forward darts count.
+use Rattle.std.proofs.Common.{◌≡◌, All, Bool, List, map, subst, sym, ◌∙◌}
+use Rattle.slab_laws.specs.declared.names.CurveId.{CurveId}
+use Rattle.slab_laws.specs.declared.names.DartId.{DartId}
+use Rattle.slab_laws.specs.Sound.{IsGraphSound}
+use Rattle.slab_laws.specs.View.{View, curve_id}
+use Rattle.arr_notes.specs.Curves.{Curves, AreCurvesOf}
+use Rattle.arr_notes.specs.CurvedView.{AreListsOf, IsSoundView, curve_rows, view_by}
+use Rattle.arr_notes.proofs.CurveRows.{curve_row, ascend_curve_rows, read_views_are_sound}
+use Rattle.arr_notes.proofs.Names.{numbers_of}
+use Rattle.arr_notes.proofs.RowLaws.{one_table}
+use Rattle.arr_notes.specs.declared.note.Note.{Note}
+use Rattle.dcel_records.specs.RecordsView.{RecordsView}
+use Rattle.observer_bus.specs.Rounds.{IsRoundOf}
+use Rattle.observer_bus.specs.Seats.{SeatRow, Holds}
+use Rattle.observer_bus.specs.declared.went.Went.{Went}
+use Rattle.curve_history.specs.DrawnRecords.{IsTold, curves_in}
+use Rattle.curve_history.specs.Past.{Past, curves_on}
+use Rattle.curve_history.proofs.Facing.{lists_read}
+use Rattle.sound_views.proofs.GraphDrawn.{twins_are_directed}
+use Rattle.told_steps.specs.ToldRuns.{seen}
+
+module _ (v : View) (h : Curves) (s : IsGraphSound v) (a : AreCurvesOf v h) where
+  pub seen_lists : (k : DartId → List CurveId) → AreListsOf v h k → view_by v k ≡ seen v h
+  seen_lists k lists =
+      let own : AreListsOf v h (λ d. map curve_id (h d)) = λ d f. numbers_of (h d) in
+      let rows : curve_rows v k ≡ curve_rows v (λ d. map curve_id (h d)) =
+      one_table _ _ (ascend_curve_rows v h k a lists s.named.darts) (ascend_curve_rows v h _ a own s.named.darts)
+      (λ n. curve_row v h k a lists n ∙ sym (curve_row v h _ a own n)) in
+      λ i. record { graph = v; curves = rows i }
+
+module _ (v : View) (p : Past) (s : IsGraphSound v) (a : AreCurvesOf v (curves_on p)) where
+  pub seen_read : view_by v (curves_in v p) ≡ seen v (curves_on p)
+  seen_read = seen_lists v (curves_on p) s a (curves_in v p) (lists_read v p)
+
+  pub sound_read : IsSoundView (view_by v (curves_in v p))
+  sound_read = read_views_are_sound v (curves_on p) (curves_in v p) s a (lists_read v p)
+
+  pub told_records : IsTold v p
+  told_records = record { curves = a; directed = twins_are_directed v s }
+
+-- as they are drawn together
+module _ (r : RecordsView) (p : Past) (s : IsGraphSound r.graph) (a : AreCurvesOf r.graph (curves_on p)) (d : RecordsView) (q : Past) (e : d ≡ r) (f : q ≡ p) where
+  one_view : view_by d.graph (curves_in d.graph q) ≡ view_by r.graph (curves_in r.graph p)
+  one_view i = view_by (e i).graph (curves_in (e i).graph (f i))
+
+  pub drawn_sound : IsSoundView (view_by d.graph (curves_in d.graph q))
+  drawn_sound = subst IsSoundView (sym one_view) (sound_read r.graph p s a)
+
+  pub drawn_seen : view_by d.graph (curves_in d.graph q) ≡ seen r.graph (curves_on p)
+  drawn_seen = one_view ∙ seen_read r.graph p s a
+
+  pub round_seen : (n : Note) {ss ts : List SeatRow} {g h : Went} {x y : Bool} →
+      IsRoundOf n (view_by d.graph (curves_in d.graph q)) ss g ts h × (y ≡ x) → IsRoundOf n (seen r.graph (curves_on p)) ss g ts h × (y ≡ x)
+  round_seen n {ss} {ts} {g} {h} {x} {y} o = (subst (λ z. IsRoundOf n z ss g ts h) drawn_seen o.0, o.1)
+
+  pub held_seen : (ss : List SeatRow) → All (Holds (view_by d.graph (curves_in d.graph q))) ss → All (Holds (seen r.graph (curves_on p))) ss
+  held_seen ss o = subst (λ z. All (Holds z) ss) drawn_seen o

@@ -1,0 +1,21 @@
+use Rattle.std.proofs.Common.{false, refl, ap}
+use Rattle.arr_notes.specs.declared.change.Change.TheVariants.{ClearPin}
+use Rattle.arr_notes.specs.declared.intent.Intent.TheVariants.{ClearPin as WillClearPin}
+use Rattle.told_steps.proofs.Steps.{pinned_now}
+use Rattle.curve_history.specs.Past.{curves_on}
+use Rattle.told_steps.proofs.ToldOnce.{just_changed, told_once}
+use Rattle.told_steps.proofs.pins.clear_pin.Goals as goal
+
+pub tell_after-requires : goal.tell_after-requires
+tell_after-requires g c =
+    let v = c.args.records.now.graph in
+    let h = curves_on c.args.history.now in
+    let e = c.clear_pin.ensures.graph in
+    record { changed = just_changed v h (ClearPin c.args.v) c.clear_pin.new.self.graph h e (λ d. refl) c.requires.vertex (pinned_now v c.args.v false c.requires.in_step.sound c.clear_pin.new.self.graph e) c.tell_before.ensures.in_step }
+
+pub returns-clause-told : goal.returns-clause-told
+returns-clause-told g c =
+    let v = c.args.records.now.graph in
+    let h = curves_on c.args.history.now in
+    let e = c.clear_pin.ensures.graph in
+    told_once v h (ClearPin c.args.v) c.clear_pin.new.self.graph h e (λ d. refl) c.requires.vertex (pinned_now v c.args.v false c.requires.in_step.sound c.clear_pin.new.self.graph e) _ refl _ (ap WillClearPin c.point-p.ensures) c.tell_before.ensures.round c.tell_after.ensures.round

@@ -1,0 +1,3 @@
+pub mod ToldRuns
+pub mod ToldLaws
+pub mod StepsMade

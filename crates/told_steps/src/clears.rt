@@ -1,0 +1,40 @@
+ghost use Rattle.std.specs.Prelude.{◌≡◌, ◌≤◌, ◌+◌, length, [], ◌∷◌};
+ghost use Rattle.edit_steps.specs.Steps.{Clear};
+ghost use Rattle.arr_notes.specs.ViewChanges.{no_rows};
+ghost use Rattle.curve_history.specs.Past.{curves_on, IsSpare, SameHistoryCapacity};
+ghost use Rattle.dcel_records.specs.RecordsView.{SameRecordCapacity};
+ghost use Rattle.observer_bus.specs.Rows.{bus_row};
+ghost use Rattle.told_steps.specs.ToldRuns.{AreInStep, IsToldRun};
+
+use crate::told::{tell_after, tell_before};
+use arr_notes::{Change, Intent};
+use curve_history::History;
+use dcel_records::Records;
+use observer_bus::Bus;
+use std::alloc::Global;
+
+/// Nothing is left but the number of the next curve. It takes no memory where no observer joins (CGAL manual, `clear`).
+pub fn clear(alloc: Global, records: &mut Records, history: &mut History, bus: &mut Bus)
+    requires in_step { AreInStep records.old.graph (curves_on history.old)
+        (bus_row (λ b. tells (b.vtable, b.value)) (λ b. held (b.vtable, b.value)) (λ b. left (b.vtable, b.value)) (λ b. heard (b.vtable, b.value)) bus.old) }
+    ensures told { IsToldRun records.old.graph (curves_on history.old)
+        (bus_row (λ b. tells (b.vtable, b.value)) (λ b. held (b.vtable, b.value)) (λ b. left (b.vtable, b.value)) (λ b. heard (b.vtable, b.value)) bus.old)
+        (Clear ∷ []) records.new.graph (curves_on history.new)
+        (bus_row (λ b. tells (b.vtable, b.value)) (λ b. held (b.vtable, b.value)) (λ b. left (b.vtable, b.value)) (λ b. heard (b.vtable, b.value)) bus.new) }
+    ensures in_step { AreInStep records.new.graph (curves_on history.new)
+        (bus_row (λ b. tells (b.vtable, b.value)) (λ b. held (b.vtable, b.value)) (λ b. left (b.vtable, b.value)) (λ b. heard (b.vtable, b.value)) bus.new) }
+    ensures graph { records.new.graph ≡ no_rows }
+    ensures names { history.new.names ≡ [] }
+    ensures pieces { history.new.pieces ≡ [] }
+    ensures next { history.new.next ≡ history.old.next }
+    ensures records_capacity { SameRecordCapacity records.old records.new }
+    ensures history_capacity { SameHistoryCapacity history.old history.new }
+    ensures vertices { records.old.spare_vertices + length records.old.graph.vertices ≤ records.new.spare_vertices }
+    ensures darts { records.old.spare_darts + length records.old.graph.darts ≤ records.new.spare_darts }
+    ensures spare { IsSpare history.old history.new 0 0 0 }
+{
+    tell_before(alloc, &*records, &*history, bus, Intent::Clear);
+    records.clear();
+    history.clear();
+    tell_after(alloc, &*records, &*history, bus, Change::Clear);
+}

@@ -1,0 +1,107 @@
+ghost use Rattle.std.specs.Prelude.{◌≡◌, ◌≤◌, not, true, [], ◌∷◌};
+ghost use Rattle.std.specs.List.{list_any};
+ghost use Rattle.edit_steps.specs.Steps.{AddCurve, RemoveCurve};
+ghost use Rattle.plane_graphs.specs.Ascending.{Member};
+ghost use Rattle.plane_graphs.specs.Graph.{same_curve};
+ghost use Rattle.slab_laws.specs.View.{point_in, source_in, target_in};
+ghost use Rattle.arr_notes.specs.Curves.{IsForward};
+ghost use Rattle.curve_history.specs.Past.{curves_on, GainsCurve, IsSpare, LosesCurve, SameHistoryCapacity, SameLayer, SpendsPairs};
+ghost use Rattle.observer_bus.specs.Rows.{bus_row};
+ghost use Rattle.told_steps.specs.ToldRuns.{AreInStep, IsToldRun};
+
+use crate::ends::ends;
+use crate::told::{tell_after, tell_before};
+use arr_notes::{Change, Intent};
+use curve_history::History;
+use dcel_records::Records;
+use observer_bus::Bus;
+use slab_laws::{CurveId, DartId};
+use std::alloc::Global;
+
+/// One more curve runs along the edge of a dart from its lower to its upper end, in room that is there. It takes no memory where no
+/// observer joins.
+pub fn add_curve(
+    alloc: Global,
+    records: &Records,
+    history: &mut History,
+    bus: &mut Bus,
+    d: DartId,
+    curve: CurveId,
+)
+    requires in_step { AreInStep records.now.graph (curves_on history.old)
+        (bus_row (λ b. tells (b.vtable, b.value)) (λ b. held (b.vtable, b.value)) (λ b. left (b.vtable, b.value)) (λ b. heard (b.vtable, b.value)) bus.old) }
+    requires forward { IsForward records.now.graph d }
+    requires named { Member curve.0 history.old.names }
+    requires new { ¬ Member curve.0 (curves_on history.old d) }
+    requires room { 1 ≤ history.old.spare_pairs }
+    ensures told { IsToldRun records.now.graph (curves_on history.old)
+        (bus_row (λ b. tells (b.vtable, b.value)) (λ b. held (b.vtable, b.value)) (λ b. left (b.vtable, b.value)) (λ b. heard (b.vtable, b.value)) bus.old)
+        (AddCurve (point_in records.now.graph (source_in records.now.graph d)) (point_in records.now.graph (target_in records.now.graph d)) curve.0 ∷ []) records.now.graph (curves_on history.new)
+        (bus_row (λ b. tells (b.vtable, b.value)) (λ b. held (b.vtable, b.value)) (λ b. left (b.vtable, b.value)) (λ b. heard (b.vtable, b.value)) bus.new) }
+    ensures in_step { AreInStep records.now.graph (curves_on history.new)
+        (bus_row (λ b. tells (b.vtable, b.value)) (λ b. held (b.vtable, b.value)) (λ b. left (b.vtable, b.value)) (λ b. heard (b.vtable, b.value)) bus.new) }
+    ensures curves { GainsCurve history.old history.new d curve.0 }
+    ensures layer { SameLayer history.old history.new }
+    ensures spare { SpendsPairs history.old history.new 1 }
+{
+    let (low, high) = ends(records, d);
+    tell_before(
+        alloc,
+        records,
+        &*history,
+        bus,
+        Intent::AddCurve(low, high, curve),
+    );
+    history.hold(d, curve);
+    tell_after(
+        alloc,
+        records,
+        &*history,
+        bus,
+        Change::AddCurve { d, curve },
+    );
+}
+
+/// One curve fewer runs along the edge of a dart from its lower to its upper end, where another does too. It takes no memory where no
+/// observer joins.
+pub fn remove_curve(
+    alloc: Global,
+    records: &Records,
+    history: &mut History,
+    bus: &mut Bus,
+    d: DartId,
+    curve: CurveId,
+)
+    requires in_step { AreInStep records.now.graph (curves_on history.old)
+        (bus_row (λ b. tells (b.vtable, b.value)) (λ b. held (b.vtable, b.value)) (λ b. left (b.vtable, b.value)) (λ b. heard (b.vtable, b.value)) bus.old) }
+    requires forward { IsForward records.now.graph d }
+    requires runs { Member curve.0 (curves_on history.old d) }
+    requires other { list_any (λ k. not (same_curve k curve.0)) (curves_on history.old d) ≡ true }
+    ensures told { IsToldRun records.now.graph (curves_on history.old)
+        (bus_row (λ b. tells (b.vtable, b.value)) (λ b. held (b.vtable, b.value)) (λ b. left (b.vtable, b.value)) (λ b. heard (b.vtable, b.value)) bus.old)
+        (RemoveCurve (point_in records.now.graph (source_in records.now.graph d)) (point_in records.now.graph (target_in records.now.graph d)) curve.0 ∷ []) records.now.graph (curves_on history.new)
+        (bus_row (λ b. tells (b.vtable, b.value)) (λ b. held (b.vtable, b.value)) (λ b. left (b.vtable, b.value)) (λ b. heard (b.vtable, b.value)) bus.new) }
+    ensures in_step { AreInStep records.now.graph (curves_on history.new)
+        (bus_row (λ b. tells (b.vtable, b.value)) (λ b. held (b.vtable, b.value)) (λ b. left (b.vtable, b.value)) (λ b. heard (b.vtable, b.value)) bus.new) }
+    ensures curves { LosesCurve history.old history.new d curve.0 }
+    ensures layer { SameLayer history.old history.new }
+    ensures spare { IsSpare history.old history.new 0 0 0 }
+    ensures capacity { SameHistoryCapacity history.old history.new }
+{
+    let (low, high) = ends(records, d);
+    tell_before(
+        alloc,
+        records,
+        &*history,
+        bus,
+        Intent::RemoveCurve(low, high, curve),
+    );
+    history.release(d, curve);
+    tell_after(
+        alloc,
+        records,
+        &*history,
+        bus,
+        Change::RemoveCurve { d, curve },
+    );
+}

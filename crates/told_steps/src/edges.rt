@@ -1,0 +1,147 @@
+ghost use Rattle.std.specs.Prelude.{◌≡◌, ◌≤◌, false, length, [], ◌∷◌};
+ghost use Rattle.edit_steps.specs.Steps.{MergeEdge, RemoveEdge, SplitEdge};
+ghost use Rattle.slab_laws.specs.View.{pinned_in, point_in, source_in, target_in, twin_in};
+ghost use Rattle.arr_notes.specs.Curves.{IsForward};
+ghost use Rattle.arr_notes.specs.Step.{remove_edge as edge_gone};
+ghost use Rattle.curve_history.specs.Past.{curves_on, IsSpare, LosesCurves, SameHistoryCapacity, SameLayer, SpendsPairs};
+ghost use Rattle.dcel_records.specs.RecordsView.{IsSpare as IsSpareRecords};
+ghost use Rattle.edge_split_merge.specs.Merges.{CanMerge};
+ghost use Rattle.edge_split_merge.specs.Splits.{CanSplit};
+ghost use Rattle.observer_bus.specs.Rows.{bus_row};
+ghost use Rattle.sound_changes.specs.ChangeFits.{FitsMerge};
+ghost use Rattle.sound_views.specs.RecordGraphLaws.{IsVertexAt};
+ghost use Rattle.told_steps.specs.StepsMade.{AreMergedAt, IsSplitAt};
+ghost use Rattle.told_steps.specs.ToldRuns.{AreInStep, IsToldRun};
+
+use crate::ends::ends;
+use crate::told::{tell_after, tell_before};
+use arr_notes::{Change, Intent};
+use curve_history::History;
+use dcel_records::Records;
+use edge_split_merge::{merge, split};
+use edge_unlink::unlink;
+use exact_plane::Point;
+use observer_bus::Bus;
+use slab_laws::{DartId, Darts, VertexId};
+use std::alloc::Global;
+
+/// The edge of a dart from its lower to its upper end goes, with all its curves. It takes no memory where no observer joins (CGAL
+/// manual, `remove_edge`).
+pub fn remove_edge(
+    alloc: Global,
+    records: &mut Records,
+    history: &mut History,
+    bus: &mut Bus,
+    d: DartId,
+)
+    requires in_step { AreInStep records.old.graph (curves_on history.old)
+        (bus_row (λ b. tells (b.vtable, b.value)) (λ b. held (b.vtable, b.value)) (λ b. left (b.vtable, b.value)) (λ b. heard (b.vtable, b.value)) bus.old) }
+    requires forward { IsForward records.old.graph d }
+    ensures told { IsToldRun records.old.graph (curves_on history.old)
+        (bus_row (λ b. tells (b.vtable, b.value)) (λ b. held (b.vtable, b.value)) (λ b. left (b.vtable, b.value)) (λ b. heard (b.vtable, b.value)) bus.old)
+        (RemoveEdge (point_in records.old.graph (source_in records.old.graph d)) (point_in records.old.graph (target_in records.old.graph d)) ∷ []) records.new.graph (curves_on history.new)
+        (bus_row (λ b. tells (b.vtable, b.value)) (λ b. held (b.vtable, b.value)) (λ b. left (b.vtable, b.value)) (λ b. heard (b.vtable, b.value)) bus.new) }
+    ensures in_step { AreInStep records.new.graph (curves_on history.new)
+        (bus_row (λ b. tells (b.vtable, b.value)) (λ b. held (b.vtable, b.value)) (λ b. left (b.vtable, b.value)) (λ b. heard (b.vtable, b.value)) bus.new) }
+    ensures graph { records.new.graph ≡ edge_gone records.old.graph d (twin_in records.old.graph d) }
+    ensures curves { LosesCurves history.old history.new d }
+    ensures layer { SameLayer history.old history.new }
+    ensures spare { IsSpareRecords records.old records.new 0 2 }
+    ensures spare_history { IsSpare history.old history.new 0 0 0 }
+    ensures capacity { SameHistoryCapacity history.old history.new }
+{
+    let (low, high) = ends(&*records, d);
+    tell_before(
+        alloc,
+        &*records,
+        &*history,
+        bus,
+        Intent::RemoveEdge(low, high),
+    );
+    let change = unlink(records, d);
+    history.release_all(d);
+    tell_after(alloc, &*records, &*history, bus, change);
+}
+
+/// The edge of a dart from its lower to its upper end is split at a point inside it, in room that is there, and both parts have its
+/// curves; the new vertex. It takes no memory where no observer joins (CGAL manual, `split_edge`).
+pub fn split_edge(
+    alloc: Global,
+    records: &mut Records,
+    history: &mut History,
+    bus: &mut Bus,
+    d: DartId,
+    p: Point,
+) -> VertexId
+    requires in_step { AreInStep records.old.graph (curves_on history.old)
+        (bus_row (λ b. tells (b.vtable, b.value)) (λ b. held (b.vtable, b.value)) (λ b. left (b.vtable, b.value)) (λ b. heard (b.vtable, b.value)) bus.old) }
+    requires fits { CanSplit records.old.graph d p }
+    requires vertices { 1 ≤ records.old.spare_vertices }
+    requires darts { 2 ≤ records.old.spare_darts }
+    requires pairs { length (curves_on history.old d) ≤ history.old.spare_pairs }
+    ensures told { IsToldRun records.old.graph (curves_on history.old)
+        (bus_row (λ b. tells (b.vtable, b.value)) (λ b. held (b.vtable, b.value)) (λ b. left (b.vtable, b.value)) (λ b. heard (b.vtable, b.value)) bus.old)
+        (SplitEdge (point_in records.old.graph (source_in records.old.graph d)) (point_in records.old.graph (target_in records.old.graph d)) p ∷ []) records.new.graph (curves_on history.new)
+        (bus_row (λ b. tells (b.vtable, b.value)) (λ b. held (b.vtable, b.value)) (λ b. left (b.vtable, b.value)) (λ b. heard (b.vtable, b.value)) bus.new) }
+    ensures in_step { AreInStep records.new.graph (curves_on history.new)
+        (bus_row (λ b. tells (b.vtable, b.value)) (λ b. held (b.vtable, b.value)) (λ b. left (b.vtable, b.value)) (λ b. heard (b.vtable, b.value)) bus.new) }
+    ensures vertex { IsVertexAt records.new.graph p result }
+    ensures graph { IsSplitAt records.old.graph d p result records.new.graph }
+    ensures layer { SameLayer history.old history.new }
+    ensures spare { IsSpareRecords records.new records.old 1 2 }
+    ensures spare_history { SpendsPairs history.old history.new (length (curves_on history.old d)) }
+{
+    // A call on the point tells that its numbers are a point's.
+    let _weight = p.w();
+    let (low, high) = ends(&*records, d);
+    tell_before(
+        alloc,
+        &*records,
+        &*history,
+        bus,
+        Intent::SplitEdge(low, high, p),
+    );
+    let change = split(records, d, p);
+    let Change::SplitEdge { v, n, .. } = change else {
+        unreachable!()
+    };
+    history.part(d, n);
+    tell_after(alloc, &*records, &*history, bus, change);
+    v
+}
+
+/// The two edges that meet at a vertex that is not pinned, and go straight on there with the same curves, become one, and the vertex
+/// goes. It takes no memory where no observer joins (CGAL manual, `merge_edge`).
+pub fn merge_edge(
+    alloc: Global,
+    records: &mut Records,
+    history: &mut History,
+    bus: &mut Bus,
+    v: VertexId,
+)
+    requires in_step { AreInStep records.old.graph (curves_on history.old)
+        (bus_row (λ b. tells (b.vtable, b.value)) (λ b. held (b.vtable, b.value)) (λ b. left (b.vtable, b.value)) (λ b. heard (b.vtable, b.value)) bus.old) }
+    requires fits { CanMerge records.old.graph v }
+    requires unpinned { pinned_in records.old.graph v ≡ false }
+    requires alike { (d n : DartId) → FitsMerge records.old.graph v d n → curves_on history.old d ≡ curves_on history.old n }
+    ensures told { IsToldRun records.old.graph (curves_on history.old)
+        (bus_row (λ b. tells (b.vtable, b.value)) (λ b. held (b.vtable, b.value)) (λ b. left (b.vtable, b.value)) (λ b. heard (b.vtable, b.value)) bus.old)
+        (MergeEdge (point_in records.old.graph v) ∷ []) records.new.graph (curves_on history.new)
+        (bus_row (λ b. tells (b.vtable, b.value)) (λ b. held (b.vtable, b.value)) (λ b. left (b.vtable, b.value)) (λ b. heard (b.vtable, b.value)) bus.new) }
+    ensures in_step { AreInStep records.new.graph (curves_on history.new)
+        (bus_row (λ b. tells (b.vtable, b.value)) (λ b. held (b.vtable, b.value)) (λ b. left (b.vtable, b.value)) (λ b. heard (b.vtable, b.value)) bus.new) }
+    ensures graph { AreMergedAt records.old.graph (curves_on history.old) v records.new.graph (curves_on history.new) }
+    ensures layer { SameLayer history.old history.new }
+    ensures spare { IsSpareRecords records.old records.new 1 2 }
+    ensures spare_history { IsSpare history.old history.new 0 0 0 }
+    ensures capacity { SameHistoryCapacity history.old history.new }
+{
+    let p = records.point(v);
+    tell_before(alloc, &*records, &*history, bus, Intent::MergeEdge(p));
+    let change = merge(records, v);
+    let Change::MergeEdge { d, n, .. } = change else {
+        unreachable!()
+    };
+    history.join(d, n);
+    tell_after(alloc, &*records, &*history, bus, change);
+}

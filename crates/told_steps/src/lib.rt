@@ -1,0 +1,22 @@
+//! Each step of an edit, made once in records and their history, and told to observers before and after it.
+//!
+//! A run of told steps stands in `specs/ToldRuns.antt`; what is true of all runs in `specs/ToldLaws.antt`.
+#![tactic(auto)]
+
+mod clears;
+mod curves;
+mod edges;
+mod ends;
+mod laws;
+mod links;
+mod pins;
+mod told;
+mod vertices;
+
+pub use clears::clear;
+pub use curves::{add_curve, remove_curve};
+pub use edges::{merge_edge, remove_edge, split_edge};
+pub use laws::told_runs_are_lawful;
+pub use links::add_edge;
+pub use pins::{clear_pin, set_pin};
+pub use vertices::{add_vertex, remove_vertex};

@@ -1,0 +1,62 @@
+ghost use Rattle.std.specs.Prelude.{◌≡◌, true, false, [], ◌∷◌};
+ghost use Rattle.edit_steps.specs.Steps.{SetPin, ClearPin};
+ghost use Rattle.slab_laws.specs.View.{HasVertex, point_in};
+ghost use Rattle.arr_notes.specs.ViewChanges.{with_pin};
+ghost use Rattle.curve_history.specs.Past.{curves_on};
+ghost use Rattle.dcel_records.specs.RecordsView.{IsSpare};
+ghost use Rattle.observer_bus.specs.Rows.{bus_row};
+ghost use Rattle.told_steps.specs.ToldRuns.{AreInStep, IsToldRun};
+
+use crate::told::{tell_after, tell_before};
+use arr_notes::{Change, Intent};
+use curve_history::History;
+use dcel_records::Records;
+use observer_bus::Bus;
+use slab_laws::{Darts, VertexId};
+use std::alloc::Global;
+
+/// A vertex is pinned. It takes no memory where no observer joins.
+pub fn set_pin(alloc: Global, records: &mut Records, history: &History, bus: &mut Bus, v: VertexId)
+    requires in_step { AreInStep records.old.graph (curves_on history.now)
+        (bus_row (λ b. tells (b.vtable, b.value)) (λ b. held (b.vtable, b.value)) (λ b. left (b.vtable, b.value)) (λ b. heard (b.vtable, b.value)) bus.old) }
+    requires vertex { HasVertex records.old.graph v }
+    ensures told { IsToldRun records.old.graph (curves_on history.now)
+        (bus_row (λ b. tells (b.vtable, b.value)) (λ b. held (b.vtable, b.value)) (λ b. left (b.vtable, b.value)) (λ b. heard (b.vtable, b.value)) bus.old)
+        (SetPin (point_in records.old.graph v) ∷ []) records.new.graph (curves_on history.now)
+        (bus_row (λ b. tells (b.vtable, b.value)) (λ b. held (b.vtable, b.value)) (λ b. left (b.vtable, b.value)) (λ b. heard (b.vtable, b.value)) bus.new) }
+    ensures in_step { AreInStep records.new.graph (curves_on history.now)
+        (bus_row (λ b. tells (b.vtable, b.value)) (λ b. held (b.vtable, b.value)) (λ b. left (b.vtable, b.value)) (λ b. heard (b.vtable, b.value)) bus.new) }
+    ensures graph { records.new.graph ≡ with_pin records.old.graph v true }
+    ensures spare { IsSpare records.old records.new 0 0 }
+{
+    let p = records.point(v);
+    tell_before(alloc, &*records, history, bus, Intent::SetPin(p));
+    records.set_pin(v);
+    tell_after(alloc, &*records, history, bus, Change::SetPin { v });
+}
+
+/// A vertex is no longer pinned. It takes no memory where no observer joins.
+pub fn clear_pin(
+    alloc: Global,
+    records: &mut Records,
+    history: &History,
+    bus: &mut Bus,
+    v: VertexId,
+)
+    requires in_step { AreInStep records.old.graph (curves_on history.now)
+        (bus_row (λ b. tells (b.vtable, b.value)) (λ b. held (b.vtable, b.value)) (λ b. left (b.vtable, b.value)) (λ b. heard (b.vtable, b.value)) bus.old) }
+    requires vertex { HasVertex records.old.graph v }
+    ensures told { IsToldRun records.old.graph (curves_on history.now)
+        (bus_row (λ b. tells (b.vtable, b.value)) (λ b. held (b.vtable, b.value)) (λ b. left (b.vtable, b.value)) (λ b. heard (b.vtable, b.value)) bus.old)
+        (ClearPin (point_in records.old.graph v) ∷ []) records.new.graph (curves_on history.now)
+        (bus_row (λ b. tells (b.vtable, b.value)) (λ b. held (b.vtable, b.value)) (λ b. left (b.vtable, b.value)) (λ b. heard (b.vtable, b.value)) bus.new) }
+    ensures in_step { AreInStep records.new.graph (curves_on history.now)
+        (bus_row (λ b. tells (b.vtable, b.value)) (λ b. held (b.vtable, b.value)) (λ b. left (b.vtable, b.value)) (λ b. heard (b.vtable, b.value)) bus.new) }
+    ensures graph { records.new.graph ≡ with_pin records.old.graph v false }
+    ensures spare { IsSpare records.old records.new 0 0 }
+{
+    let p = records.point(v);
+    tell_before(alloc, &*records, history, bus, Intent::ClearPin(p));
+    records.clear_pin(v);
+    tell_after(alloc, &*records, history, bus, Change::ClearPin { v });
+}

@@ -1,0 +1,81 @@
+ghost use Rattle.std.specs.Prelude.{◌≡◌, ◌≢◌, ◌≤◌, false, [], ◌∷◌};
+ghost use Rattle.edit_steps.specs.Steps.{AddVertex, RemoveVertex, apply};
+ghost use Rattle.plane_graphs.specs.Plane.{IsPlane};
+ghost use Rattle.slab_laws.specs.View.{HasVertex, pinned_in, point_in};
+ghost use Rattle.arr_notes.specs.RecordGraph.{drawn_graph};
+ghost use Rattle.arr_notes.specs.ViewChanges.{with_vertex, without_vertex};
+ghost use Rattle.curve_history.specs.Past.{curves_on};
+ghost use Rattle.dcel_records.specs.RecordsView.{IsSpare};
+ghost use Rattle.observer_bus.specs.Rows.{bus_row};
+ghost use Rattle.rotation_order.specs.VertexRings.{IsBare};
+ghost use Rattle.sound_views.specs.RecordGraphLaws.{IsVertexAt};
+ghost use Rattle.told_steps.specs.ToldRuns.{AreInStep, IsToldRun};
+
+use crate::told::{tell_after, tell_before};
+use arr_notes::{Change, Intent};
+use curve_history::History;
+use dcel_records::Records;
+use exact_plane::Point;
+use observer_bus::Bus;
+use slab_laws::{Darts, VertexId};
+use std::alloc::Global;
+
+/// A vertex comes at a point where none is, in room that is there. It takes no memory where no observer joins.
+pub fn add_vertex(
+    alloc: Global,
+    records: &mut Records,
+    history: &History,
+    bus: &mut Bus,
+    p: Point,
+) -> VertexId
+    requires in_step { AreInStep records.old.graph (curves_on history.now)
+        (bus_row (λ b. tells (b.vtable, b.value)) (λ b. held (b.vtable, b.value)) (λ b. left (b.vtable, b.value)) (λ b. heard (b.vtable, b.value)) bus.old) }
+    requires free { (u : _) → HasVertex records.old.graph u → point_in records.old.graph u ≢ p }
+    requires plane { IsPlane (apply (AddVertex p) (drawn_graph records.old.graph (curves_on history.now))) }
+    requires room { 1 ≤ records.old.spare_vertices }
+    ensures told { IsToldRun records.old.graph (curves_on history.now)
+        (bus_row (λ b. tells (b.vtable, b.value)) (λ b. held (b.vtable, b.value)) (λ b. left (b.vtable, b.value)) (λ b. heard (b.vtable, b.value)) bus.old)
+        (AddVertex p ∷ []) records.new.graph (curves_on history.now)
+        (bus_row (λ b. tells (b.vtable, b.value)) (λ b. held (b.vtable, b.value)) (λ b. left (b.vtable, b.value)) (λ b. heard (b.vtable, b.value)) bus.new) }
+    ensures in_step { AreInStep records.new.graph (curves_on history.now)
+        (bus_row (λ b. tells (b.vtable, b.value)) (λ b. held (b.vtable, b.value)) (λ b. left (b.vtable, b.value)) (λ b. heard (b.vtable, b.value)) bus.new) }
+    ensures fresh { ¬ HasVertex records.old.graph result }
+    ensures vertex { IsVertexAt records.new.graph p result }
+    ensures graph { records.new.graph ≡ with_vertex records.old.graph result p }
+    ensures spare { IsSpare records.new records.old 1 0 }
+{
+    // A call on the point tells that its numbers are a point's.
+    let _weight = p.w();
+    tell_before(alloc, &*records, history, bus, Intent::AddVertex(p));
+    let v = records.add_vertex(p);
+    tell_after(alloc, &*records, history, bus, Change::AddVertex { v, p });
+    v
+}
+
+/// A vertex that is not pinned and has no edge goes. It takes no memory where no observer joins.
+pub fn remove_vertex(
+    alloc: Global,
+    records: &mut Records,
+    history: &History,
+    bus: &mut Bus,
+    v: VertexId,
+)
+    requires in_step { AreInStep records.old.graph (curves_on history.now)
+        (bus_row (λ b. tells (b.vtable, b.value)) (λ b. held (b.vtable, b.value)) (λ b. left (b.vtable, b.value)) (λ b. heard (b.vtable, b.value)) bus.old) }
+    requires vertex { HasVertex records.old.graph v }
+    requires bare { IsBare records.old.graph v }
+    requires unpinned { pinned_in records.old.graph v ≡ false }
+    ensures told { IsToldRun records.old.graph (curves_on history.now)
+        (bus_row (λ b. tells (b.vtable, b.value)) (λ b. held (b.vtable, b.value)) (λ b. left (b.vtable, b.value)) (λ b. heard (b.vtable, b.value)) bus.old)
+        (RemoveVertex (point_in records.old.graph v) ∷ []) records.new.graph (curves_on history.now)
+        (bus_row (λ b. tells (b.vtable, b.value)) (λ b. held (b.vtable, b.value)) (λ b. left (b.vtable, b.value)) (λ b. heard (b.vtable, b.value)) bus.new) }
+    ensures in_step { AreInStep records.new.graph (curves_on history.now)
+        (bus_row (λ b. tells (b.vtable, b.value)) (λ b. held (b.vtable, b.value)) (λ b. left (b.vtable, b.value)) (λ b. heard (b.vtable, b.value)) bus.new) }
+    ensures graph { records.new.graph ≡ without_vertex records.old.graph v }
+    ensures spare { IsSpare records.old records.new 1 0 }
+{
+    let p = records.point(v);
+    tell_before(alloc, &*records, history, bus, Intent::RemoveVertex(p));
+    records.remove_vertex(v);
+    tell_after(alloc, &*records, history, bus, Change::RemoveVertex { v });
+}

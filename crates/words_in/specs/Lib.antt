@@ -1,0 +1,3 @@
+pub mod Strategies
+pub mod Grammar
+pub mod Command
