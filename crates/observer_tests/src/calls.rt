@@ -16,6 +16,8 @@ pub enum Call {
     /// An observer comes under a name, at once (round 0) or in a round; it leaves after so many notes, 0 for never, and finds no
     /// memory after so many, its snapshot included.
     Comes(u32, u32, u64, u32),
+    /// One comes that keeps its notes whole, under a name, at once or in a round.
+    Listens(u32, u32),
     /// One that comes under a name, at once or in a round, is refused.
     IsRefused(u32, u32, AttachError),
     /// Whether one of the name was seated.
@@ -51,19 +53,27 @@ fn notes_of(number: u64) -> Option<u64> {
     if number == 0 { None } else { Some(number) }
 }
 
-/// The observer that comes with a call, if one does.
+/// Whether one that keeps its notes whole comes with a call.
+pub fn is_listening(call: &Call) -> bool {
+    match call {
+        Call::Listens(_, _) => true,
+        _ => false,
+    }
+}
+
+/// The observer that comes with a call, if one does that writes a byte a note.
 pub fn recorder_of(alloc: Global, call: &Call) -> Option<Recorder> {
     match call {
         Call::Comes(_, _, notes, room) => Some(Recorder::new(alloc, notes_of(*notes), *room)),
         Call::IsRefused(_, _, _) => Some(Recorder::new(alloc, None, 9)),
-        Call::Leaves(_, _, _) | Call::Edit(_) | Call::Hears(_, _) => None,
+        Call::Listens(_, _) | Call::Leaves(_, _, _) | Call::Edit(_) | Call::Hears(_, _) => None,
     }
 }
 
 // Whether an observer comes with a call.
 fn is_coming(call: &Call) -> bool {
     match call {
-        Call::Comes(_, _, _, _) | Call::IsRefused(_, _, _) => true,
+        Call::Comes(_, _, _, _) | Call::Listens(_, _) | Call::IsRefused(_, _, _) => true,
         Call::Leaves(_, _, _) | Call::Edit(_) | Call::Hears(_, _) => false,
     }
 }
@@ -141,7 +151,7 @@ fn is_met(
     ensures calm { IsCalm (bus_row tells held left heard bus.new) }
 {
     match call {
-        Call::Comes(name, round, _, _) => {
+        Call::Comes(name, round, _, _) | Call::Listens(name, round) => {
             attach(bus, alloc, plane, *name, observer, round_of(*round)).is_none()
         }
         Call::IsRefused(name, round, error) => {
@@ -160,7 +170,7 @@ fn is_answered(bus: &mut Bus, alloc: Global, plane: &EmptyPlane, call: &Call) ->
         Call::Leaves(name, round, wanted) => leave(bus, *name, round_of(*round)).is_ok() == *wanted,
         Call::Edit(turns) => edit(bus, alloc, plane, turns),
         Call::Hears(name, wanted) => hears(bus, *name, wanted),
-        Call::Comes(_, _, _, _) | Call::IsRefused(_, _, _) => false,
+        Call::Comes(_, _, _, _) | Call::Listens(_, _) | Call::IsRefused(_, _, _) => false,
     }
 }
 

@@ -6,6 +6,8 @@ mod calls;
 #[cfg(test)]
 mod empty;
 #[cfg(test)]
+mod listener;
+#[cfg(test)]
 mod recorder;
 #[cfg(test)]
 mod rounds;

@@ -1,11 +1,12 @@
-use crate::calls::{Call, Turn, are_answered, recorder_of};
+use crate::calls::{Call, Turn, are_answered, is_listening, recorder_of};
+use crate::listener::Listener;
 use crate::rounds::plane;
 use arr_notes::Observer;
 use observer_bus::AttachError;
 use std::test::Fail;
 
 // A round before a change, and the one after it: told last (1), stays (2), left untold (3), joins (4), waits (5), lost (6), stays (7).
-const BEFORE: [Call; 9] = [
+const BEFORE: [Call; 10] = [
     Call::Comes(1, 0, 1, 9),
     Call::Comes(2, 0, 0, 9),
     Call::Comes(3, 0, 0, 9),
@@ -13,6 +14,7 @@ const BEFORE: [Call; 9] = [
     Call::Comes(5, 3, 0, 9),
     Call::Comes(6, 0, 0, 1),
     Call::Comes(7, 0, 0, 9),
+    Call::Listens(8, 0),
     Call::Leaves(3, 1, true),
     Call::Edit(&[
         Turn::Before,
@@ -30,6 +32,7 @@ const BEFORE: [Call; 9] = [
         Turn::Hears(4, b"sa"),
         Turn::IsGone(5),
         Turn::Hears(7, b"sba"),
+        Turn::Hears(8, b"sba"),
         Turn::Went(&[4], &[1, 3], &[6]),
         Turn::Before,
         Turn::Hears(5, b"s"),
@@ -162,6 +165,9 @@ fn a_bus_answers_as_each_table_says(rt: HostRuntime) -> Result<(), Fail> {
     for (shown, calls) in &TABLES {
         let mut observers: Vec<Box<dyn Observer>> = Vec::new(rt.alloc());
         for call in calls.iter().rev() {
+            if is_listening(call) {
+                observers.push(Box::new(rt.alloc(), Listener::new(rt.alloc()))?)?;
+            }
             if let Some(recorder) = recorder_of(rt.alloc(), call) {
                 observers.push(Box::new(rt.alloc(), recorder)?)?;
             }

@@ -4,9 +4,14 @@ use std::alloc::Global;
 use std::test::Fail;
 use sweep_events::Sweep;
 
+// The span of a whole segment.
+fn whole(segment: &Segment) -> Option<Span> {
+    Span::new(segment.lower(), segment.upper(), line_of(segment))
+}
+
 fn span_of((a, b, c, d): (i64, i64, i64, i64)) -> Result<Option<Span>, Fail> {
     let segment = Segment::new(a, b, c, d)?;
-    Ok(Span::new(segment.lower(), segment.upper(), line_of(&segment)))
+    Ok(whole(&segment))
 }
 
 fn spans_of(alloc: Global, segments: &[(i64, i64, i64, i64)]) -> Result<Vec<Span>, Fail> {
