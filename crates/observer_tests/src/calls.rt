@@ -18,6 +18,8 @@ pub enum Call {
     Comes(u32, u32, u64, u32),
     /// One comes that keeps its notes whole, under a name, at once or in a round.
     Listens(u32, u32),
+    /// A mirror comes under a name, at once or in a round.
+    Mirrors(u32, u32),
     /// One that comes under a name, at once or in a round, is refused.
     IsRefused(u32, u32, AttachError),
     /// Whether one of the name was seated.
@@ -61,19 +63,29 @@ pub fn is_listening(call: &Call) -> bool {
     }
 }
 
+/// Whether a mirror comes with a call.
+pub fn is_mirror(call: &Call) -> bool {
+    match call {
+        Call::Mirrors(_, _) => true,
+        _ => false,
+    }
+}
+
 /// The observer that comes with a call, if one does that writes a byte a note.
 pub fn recorder_of(alloc: Global, call: &Call) -> Option<Recorder> {
     match call {
         Call::Comes(_, _, notes, room) => Some(Recorder::new(alloc, notes_of(*notes), *room)),
         Call::IsRefused(_, _, _) => Some(Recorder::new(alloc, None, 9)),
-        Call::Listens(_, _) | Call::Leaves(_, _, _) | Call::Edit(_) | Call::Hears(_, _) => None,
+        Call::Listens(_, _) | Call::Mirrors(_, _) => None,
+        Call::Leaves(_, _, _) | Call::Edit(_) | Call::Hears(_, _) => None,
     }
 }
 
 // Whether an observer comes with a call.
 fn is_coming(call: &Call) -> bool {
     match call {
-        Call::Comes(_, _, _, _) | Call::Listens(_, _) | Call::IsRefused(_, _, _) => true,
+        Call::Comes(_, _, _, _) | Call::Listens(_, _) | Call::Mirrors(_, _) => true,
+        Call::IsRefused(_, _, _) => true,
         Call::Leaves(_, _, _) | Call::Edit(_) | Call::Hears(_, _) => false,
     }
 }
@@ -151,9 +163,8 @@ fn is_met(
     ensures calm { IsCalm (bus_row tells held left heard bus.new) }
 {
     match call {
-        Call::Comes(name, round, _, _) | Call::Listens(name, round) => {
-            attach(bus, alloc, plane, *name, observer, round_of(*round)).is_none()
-        }
+        Call::Comes(name, round, _, _) | Call::Listens(name, round) | Call::Mirrors(name, round) =>
+            { attach(bus, alloc, plane, *name, observer, round_of(*round)).is_none() }
         Call::IsRefused(name, round, error) => {
             attach(bus, alloc, plane, *name, observer, round_of(*round)) == Some(*error)
         }
@@ -170,7 +181,8 @@ fn is_answered(bus: &mut Bus, alloc: Global, plane: &EmptyPlane, call: &Call) ->
         Call::Leaves(name, round, wanted) => leave(bus, *name, round_of(*round)).is_ok() == *wanted,
         Call::Edit(turns) => edit(bus, alloc, plane, turns),
         Call::Hears(name, wanted) => hears(bus, *name, wanted),
-        Call::Comes(_, _, _, _) | Call::Listens(_, _) | Call::IsRefused(_, _, _) => false,
+        Call::Comes(_, _, _, _) | Call::Listens(_, _) | Call::Mirrors(_, _) => false,
+        Call::IsRefused(_, _, _) => false,
     }
 }
 

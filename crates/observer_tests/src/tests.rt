@@ -1,7 +1,8 @@
-use crate::calls::{Call, Turn, are_answered, is_listening, recorder_of};
+use crate::calls::{Call, Turn, are_answered, is_listening, is_mirror, recorder_of};
 use crate::listener::Listener;
 use crate::rounds::plane;
 use arr_notes::Observer;
+use mirror_observer::Mirror;
 use observer_bus::AttachError;
 use std::test::Fail;
 
@@ -149,7 +150,22 @@ const EIGHT: [Call; 13] = [
     Call::Hears(9, b"s"),
 ];
 
-const TABLES: [(&str, &[Call]); 7] = [
+// Mirrors report the text of what they hold, and one whose join is to come holds nothing yet.
+const MIRRORS: [Call; 3] = [
+    Call::Mirrors(1, 0),
+    Call::Mirrors(2, 2),
+    Call::Edit(&[
+        Turn::Before,
+        Turn::Hears(1, b"arrangement 0 0 1\nf 0\nend\n"),
+        Turn::IsGone(2),
+        Turn::After,
+        Turn::Hears(1, b"arrangement 0 0 1\nf 0\nend\n"),
+        Turn::Hears(2, b"arrangement 0 0 1\nf 0\nend\n"),
+        Turn::Went(&[2], &[], &[]),
+    ]),
+];
+
+const TABLES: [(&str, &[Call]); 8] = [
     ("each fate before a change", &BEFORE),
     ("each fate after a change", &AFTER),
     ("two that leave side by side", &SIDE_BY_SIDE),
@@ -157,6 +173,7 @@ const TABLES: [(&str, &[Call]); 7] = [
     ("a second plan", &SECOND_PLAN),
     ("joins and leaves", &JOINS_AND_LEAVES),
     ("eight seats", &EIGHT),
+    ("mirrors", &MIRRORS),
 ];
 
 #[test]
@@ -167,6 +184,9 @@ fn a_bus_answers_as_each_table_says(rt: HostRuntime) -> Result<(), Fail> {
         for call in calls.iter().rev() {
             if is_listening(call) {
                 observers.push(Box::new(rt.alloc(), Listener::new(rt.alloc()))?)?;
+            }
+            if is_mirror(call) {
+                observers.push(Box::new(rt.alloc(), Mirror::new(rt.alloc(), None)?)?)?;
             }
             if let Some(recorder) = recorder_of(rt.alloc(), call) {
                 observers.push(Box::new(rt.alloc(), recorder)?)?;
