@@ -141,7 +141,8 @@ impl Tables {
         self.curves.clear();
     }
 
-    /// Makes a change. It takes a logarithm of what the maps have for each name that it writes.
+    /// Makes a change. It takes a logarithm of what the maps have for each name that it writes, and copies the list of an edge's
+    /// curves where these change or the edge is split.
     ///
     /// # Errors
     ///

@@ -13,7 +13,7 @@ use dcel_records::Records;
 use observer_bus::Bus;
 use std::alloc::Global;
 
-/// Nothing is left but the number of the next curve. It takes no memory where no observer joins (CGAL manual, `clear`).
+/// Nothing is left but the number of the next curve. Where no observer joins it takes no memory of its own (CGAL manual, `clear`).
 pub fn clear(alloc: Global, records: &mut Records, history: &mut History, bus: &mut Bus)
     requires in_step { AreInStep records.old.graph (curves_on history.old)
         (bus_row (λ b. tells (b.vtable, b.value)) (λ b. held (b.vtable, b.value)) (λ b. left (b.vtable, b.value)) (λ b. heard (b.vtable, b.value)) bus.old) }

@@ -25,7 +25,7 @@ use observer_bus::Bus;
 use slab_laws::{DartId, Darts, VertexId};
 use std::alloc::Global;
 
-/// The edge of a dart from its lower to its upper end goes, with all its curves. It takes no memory where no observer joins (CGAL
+/// The edge of a dart from its lower to its upper end goes, with all its curves. Where no observer joins it takes no memory of its own (CGAL
 /// manual, `remove_edge`).
 pub fn remove_edge(
     alloc: Global,
@@ -64,7 +64,7 @@ pub fn remove_edge(
 }
 
 /// The edge of a dart from its lower to its upper end is split at a point inside it, in room that is there, and both parts have its
-/// curves; the new vertex. It takes no memory where no observer joins (CGAL manual, `split_edge`).
+/// curves; the new vertex. Where no observer joins it takes no memory of its own (CGAL manual, `split_edge`).
 pub fn split_edge(
     alloc: Global,
     records: &mut Records,
@@ -111,7 +111,7 @@ pub fn split_edge(
 }
 
 /// The two edges that meet at a vertex that is not pinned, and go straight on there with the same curves, become one, and the vertex
-/// goes. It takes no memory where no observer joins (CGAL manual, `merge_edge`).
+/// goes. Where no observer joins it takes no memory of its own (CGAL manual, `merge_edge`).
 pub fn merge_edge(
     alloc: Global,
     records: &mut Records,

@@ -48,7 +48,7 @@ fn link_at(
 }
 
 /// An edge of one curve comes from a vertex to a greater one, directly after the darts at both places clockwise, in room that is there; the names
-/// of its darts, that from the lower end first. It takes no memory where no observer joins (CGAL manual, `insert_at_vertices`).
+/// of its darts, that from the lower end first. Where no observer joins it takes no memory of its own (CGAL manual, `insert_at_vertices`).
 pub fn add_edge(
     alloc: Global,
     records: &mut Records,

@@ -15,7 +15,7 @@ use observer_bus::Bus;
 use slab_laws::{Darts, VertexId};
 use std::alloc::Global;
 
-/// A vertex is pinned. It takes no memory where no observer joins.
+/// A vertex is pinned. Where no observer joins it takes no memory of its own.
 pub fn set_pin(alloc: Global, records: &mut Records, history: &History, bus: &mut Bus, v: VertexId)
     requires in_step { AreInStep records.old.graph (curves_on history.now)
         (bus_row (λ b. tells (b.vtable, b.value)) (λ b. held (b.vtable, b.value)) (λ b. left (b.vtable, b.value)) (λ b. heard (b.vtable, b.value)) bus.old) }
@@ -35,7 +35,7 @@ pub fn set_pin(alloc: Global, records: &mut Records, history: &History, bus: &mu
     tell_after(alloc, &*records, history, bus, Change::SetPin { v });
 }
 
-/// A vertex is no longer pinned. It takes no memory where no observer joins.
+/// A vertex is no longer pinned. Where no observer joins it takes no memory of its own.
 pub fn clear_pin(
     alloc: Global,
     records: &mut Records,

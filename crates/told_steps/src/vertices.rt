@@ -20,7 +20,7 @@ use observer_bus::Bus;
 use slab_laws::{Darts, VertexId};
 use std::alloc::Global;
 
-/// A vertex comes at a point where none is, in room that is there. It takes no memory where no observer joins.
+/// A vertex comes at a point where none is, in room that is there. Where no observer joins it takes no memory of its own.
 pub fn add_vertex(
     alloc: Global,
     records: &mut Records,
@@ -52,7 +52,7 @@ pub fn add_vertex(
     v
 }
 
-/// A vertex that is not pinned and has no edge goes. It takes no memory where no observer joins.
+/// A vertex that is not pinned and has no edge goes. Where no observer joins it takes no memory of its own.
 pub fn remove_vertex(
     alloc: Global,
     records: &mut Records,
