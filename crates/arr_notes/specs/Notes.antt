@@ -51,6 +51,6 @@ abbrev pub heard_after : Option (List Note) → Note → Option (List Note)
 heard_after None n = None
 heard_after (Some ns) n = Some (ns ++ n ∷ [])
 
--- a view that is held, as one to be told of
+-- this view is held
 abbrev pub IsHeld : Option CurvedView → CurvedView → Type 0
 IsHeld o w = o ≡ Some w

@@ -1,6 +1,7 @@
 ghost use Rattle.std.specs.Prelude.{◌≡◌, ◌≢◌, ◌↔◌, IsTrue, IfOk};
 ghost use Rattle.arr_notes.specs.CurvedView.{IsSoundView, view_text};
 ghost use Rattle.arr_notes.specs.Notes.{FitsNote, IsHeld, held_after, heard_after, is_last, left_after};
+ghost use Rattle.arr_notes.specs.declared.note.Note.TheVariants.{Snapshot};
 
 use crate::note::{Answer, Note};
 use no_memory::NoMemory;
@@ -26,13 +27,14 @@ pub trait Observer: Drop {
     /// The notes that it was told, in their order, where it tells them.
     ghost heard: { Self → Option (List Note) };
 
-    /// It is told a note.
+    /// It is told a note. A snapshot isn't counted.
     fn heed(&mut self, note: &Note) -> Answer
         requires { IsTrue (tells self.old) → FitsNote (held self.old) note.now }
         ensures tells { tells self.new ≡ tells self.old }
         ensures hears { result ≢ Answer.NoMemory → heard self.new ≡ heard_after (heard self.old) note.now }
         ensures leaves { result ≡ Answer.Leave ↔ IsTrue (is_last (left self.old) note.now) }
         ensures counts { result ≡ Answer.Stay → left self.new ≡ left_after (left self.old) note.now }
+        ensures uncounted { (w : _) → note.now ≡ Snapshot w → left self.new ≡ left self.old }
         ensures follows { result ≡ Answer.Stay → IsTrue (tells self.old) → held self.new ≡ held_after (held self.old) note.now };
 
     /// Its report; the text of its view, where it tells one and holds one.

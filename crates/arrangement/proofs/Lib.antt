@@ -1,3 +1,5 @@
 pub mod Layers
+pub mod Edits
+pub mod Watched
 pub mod Ends
 mod Located

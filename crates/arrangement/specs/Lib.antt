@@ -1,3 +1,4 @@
+pub mod LayerRecords
 pub mod Arranged
 pub mod Edited
 pub mod Answers

@@ -1,4 +1,4 @@
-ghost use Rattle.std.specs.Prelude.{◌≡◌, IsOk, IfOk, OnOk, OnErr};
+ghost use Rattle.std.specs.Prelude.{◌≡◌, [], IfOk, IsOk, OnOk, OnErr};
 ghost use Rattle.plane_graphs.specs.Graph.{graph};
 ghost use Rattle.edit_steps.specs.Edits.{Insert, Drop, Pin, Unpin, Merge, ClearAll};
 ghost use Rattle.edit_steps.specs.Layer.{empty_layer};
@@ -13,15 +13,19 @@ ghost use Rattle.slab_laws.specs.Sound.{IsGraphSound};
 ghost use Rattle.record_layers.specs.RecordLayers.{IsLayer};
 ghost use Rattle.record_layers.specs.LayerNames.{IsNamedBy};
 ghost use Rattle.arrangement.specs.declared.limits.TheConstants.{MAX_CURVES, MAX_PIECES, MAX_PINS};
-ghost use Rattle.arrangement.specs.Arranged.{Arranged, layer_in, AreLimits, refusal_in};
+ghost use Rattle.observer_bus.specs.RoundLaws.{HaveNamesApart};
+ghost use Rattle.observer_bus.specs.Rows.{bus_of};
+ghost use Rattle.arrangement.specs.Arranged.{arranged_of, layer_in, AreLimits, IsWatched, refusal_in};
 ghost use Rattle.arrangement.specs.Edited.{IsEdited, IsAsBefore};
 
+use crate::layer_records::LayerRecords;
 use crate::limits::Limits;
 use curve_history::History;
 use dcel_records::Records;
 use exact_plane::{Point, Segment};
 use locate_naive::locate;
 use no_memory::NoMemory;
+use observer_bus::Bus;
 use pin_points::{
     MergeError, NotPinned, PinError, SplitError, clear, merge_edge, pin, split_edge, unpin,
 };
@@ -29,53 +33,48 @@ use segment_insert::{InsertError, insert};
 use segment_remove::{CutError, DropError, remove_curve, remove_edge};
 use slab_laws::CurveId;
 use std::alloc::Global;
-use std::marker::Model;
 
 /// A layer: segments that are curves with numbers, pinned points, and the subdivision of the plane that they make (CGAL
 /// manual, `Arrangement_with_history_2`).
 ///
-/// Vertices and edges that are there before and after an edit keep the names of their records.
+/// Vertices and edges that are there before and after an edit keep the names of their records. Observers are told of each step of an
+/// edit before and after it (CGAL manual, `Arr_observer`).
 #[derive(Drop)]
 pub struct Arrangement {
     pub(crate) alloc: Global,
     pub(crate) limits: Limits,
-    pub(crate) records: Records,
-    pub(crate) history: History,
-}
-
-impl Model for Arrangement {
-    ghost use Rattle.arrangement.specs.Arranged.{Arranged};
-    ghost use Rattle.record_layers.specs.RecordLayers.{IsLayer};
-
-    ghost Value = { Arranged };
-
-    ghost view = { λ a. record { graph = a.records.graph; past = a.history; limits = a.limits } };
-
-    ghost invariant = { λ a. IsLayer a.records.graph a.history };
+    pub(crate) layer: LayerRecords,
+    pub(crate) bus: Bus,
 }
 
 impl Arrangement {
-    /// A layer of nothing, whose first curve gets the number `limits.first`. It takes no memory, and succeeds.
+    /// A layer of nothing, whose first curve gets the number `limits.first`, over a bus that has no observers yet. It takes no memory, and
+    /// succeeds.
     ///
     /// At most 2,000 curves, 10,000 pieces and 10,000 pins can be asked for.
     ///
     /// # Errors
     ///
     /// None comes; a caller passes this on like other wants of memory.
-    pub fn new(alloc: Global, limits: Limits) -> Result<Arrangement, NoMemory>
-        requires { AreLimits limits }
+    pub fn new(alloc: Global, limits: Limits, bus: Bus) -> Result<Arrangement, NoMemory>
+        requires limits { AreLimits limits }
+        requires alone { (bus_of tells held left heard bus).seats ≡ [] }
         ensures succeeds { IsOk result }
         ensures curves { MAX_CURVES ≡ 2000 }
         ensures pieces { MAX_PIECES ≡ 10000 }
         ensures pins { MAX_PINS ≡ 10000 }
-        ensures empty { IfOk result (λ a. layer_in a ≡ empty_layer limits.first) }
-        ensures limits { IfOk result (λ a. a.limits ≡ limits) }
+        ensures empty { IfOk result (λ a. layer_in (arranged_of tells held left heard a) ≡ empty_layer limits.first) }
+        ensures limits { IfOk result (λ a. (arranged_of tells held left heard a).limits ≡ limits) }
+        ensures bus { IfOk result (λ a. (arranged_of tells held left heard a).bus ≡ bus_of tells held left heard bus) }
     {
         Ok(Arrangement {
             alloc,
             limits,
-            records: Records::new(alloc)?,
-            history: History::new(alloc, limits.first)?,
+            layer: LayerRecords {
+                records: Records::new(alloc)?,
+                history: History::new(alloc, limits.first)?,
+            },
+            bus,
         })
     }
 
@@ -86,17 +85,20 @@ impl Arrangement {
     ///
     /// One more curve or one more piece would pass its limit, the last number was drawn, or there was no memory.
     pub fn insert(&mut self, segment: Segment) -> Result<CurveId, InsertError>
-        ensures number { IfOk result (λ c. c.0 ≡ self.old.past.next) }
-        ensures edit { OnOk result (IsEdited self.old self.new (Insert self.old.past.next segment)) }
-        ensures refused { IsAnswerFor insert_said (refusal_in self.old (Insert self.old.past.next segment)) result }
-        ensures as_before { OnErr result (IsAsBefore self.old self.new) }
-        ensures limits { self.new.limits ≡ self.old.limits }
+        requires watched { IsWatched (arranged_of tells held left heard self.old) }
+        ensures number { IfOk result (λ c. c.0 ≡ (arranged_of tells held left heard self.old).past.next) }
+        ensures edit { OnOk result (IsEdited (arranged_of tells held left heard self.old) (arranged_of tells held left heard self.new) (Insert (arranged_of tells held left heard self.old).past.next segment)) }
+        ensures refused { IsAnswerFor insert_said (refusal_in (arranged_of tells held left heard self.old) (Insert (arranged_of tells held left heard self.old).past.next segment)) result }
+        ensures as_before { OnErr result (IsAsBefore (arranged_of tells held left heard self.old) (arranged_of tells held left heard self.new)) }
+        ensures limits { (arranged_of tells held left heard self.new).limits ≡ (arranged_of tells held left heard self.old).limits }
+        ensures watched { IsWatched (arranged_of tells held left heard self.new) }
     {
-        let start = locate(&self.records, &segment.lower());
+        let start = locate(&self.layer.records, &segment.lower());
         insert(
             self.alloc,
-            &mut self.records,
-            &mut self.history,
+            &mut self.layer.records,
+            &mut self.layer.history,
+            &mut self.bus,
             self.limits.curves,
             self.limits.pieces,
             start,
@@ -111,12 +113,20 @@ impl Arrangement {
     ///
     /// No curve has the number, or there was no memory for the list of its edges.
     pub fn remove_curve(&mut self, curve: CurveId) -> Result<(), DropError>
-        ensures edit { OnOk result (IsEdited self.old self.new (Drop curve.0)) }
-        ensures refused { IsAnswerFor drop_said (refusal_in self.old (Drop curve.0)) result }
-        ensures as_before { OnErr result (IsAsBefore self.old self.new) }
-        ensures limits { self.new.limits ≡ self.old.limits }
+        requires watched { IsWatched (arranged_of tells held left heard self.old) }
+        ensures edit { OnOk result (IsEdited (arranged_of tells held left heard self.old) (arranged_of tells held left heard self.new) (Drop curve.0)) }
+        ensures refused { IsAnswerFor drop_said (refusal_in (arranged_of tells held left heard self.old) (Drop curve.0)) result }
+        ensures as_before { OnErr result (IsAsBefore (arranged_of tells held left heard self.old) (arranged_of tells held left heard self.new)) }
+        ensures limits { (arranged_of tells held left heard self.new).limits ≡ (arranged_of tells held left heard self.old).limits }
+        ensures watched { IsWatched (arranged_of tells held left heard self.new) }
     {
-        remove_curve(self.alloc, &mut self.records, &mut self.history, curve)
+        remove_curve(
+            self.alloc,
+            &mut self.layer.records,
+            &mut self.layer.history,
+            &mut self.bus,
+            curve,
+        )
     }
 
     /// The edge between two points, which come in either order, goes from all its curves, which keep the rest as shorter pieces
@@ -126,15 +136,18 @@ impl Arrangement {
     ///
     /// No edge joins the points, the pieces that are left would pass their limit, or there was no memory for them.
     pub fn remove_edge(&mut self, p: &Point, q: &Point) -> Result<(), CutError>
-        ensures edit { OnOk result (IsEdited self.old self.new (cut_between p.now q.now)) }
-        ensures refused { IsAnswerFor cut_said (refusal_in self.old (cut_between p.now q.now)) result }
-        ensures as_before { OnErr result (IsAsBefore self.old self.new) }
-        ensures limits { self.new.limits ≡ self.old.limits }
+        requires watched { IsWatched (arranged_of tells held left heard self.old) }
+        ensures edit { OnOk result (IsEdited (arranged_of tells held left heard self.old) (arranged_of tells held left heard self.new) (cut_between p.now q.now)) }
+        ensures refused { IsAnswerFor cut_said (refusal_in (arranged_of tells held left heard self.old) (cut_between p.now q.now)) result }
+        ensures as_before { OnErr result (IsAsBefore (arranged_of tells held left heard self.old) (arranged_of tells held left heard self.new)) }
+        ensures limits { (arranged_of tells held left heard self.new).limits ≡ (arranged_of tells held left heard self.old).limits }
+        ensures watched { IsWatched (arranged_of tells held left heard self.new) }
     {
         remove_edge(
             self.alloc,
-            &mut self.records,
-            &mut self.history,
+            &mut self.layer.records,
+            &mut self.layer.history,
+            &mut self.bus,
             self.limits.pieces,
             p,
             q,
@@ -147,16 +160,19 @@ impl Arrangement {
     ///
     /// The point is pinned, one more pin would pass the limit, or there was no memory.
     pub fn pin(&mut self, p: &Point) -> Result<(), PinError>
-        ensures edit { OnOk result (IsEdited self.old self.new (Pin p.now)) }
-        ensures refused { IsAnswerFor pin_said (refusal_in self.old (Pin p.now)) result }
-        ensures as_before { OnErr result (IsAsBefore self.old self.new) }
-        ensures limits { self.new.limits ≡ self.old.limits }
+        requires watched { IsWatched (arranged_of tells held left heard self.old) }
+        ensures edit { OnOk result (IsEdited (arranged_of tells held left heard self.old) (arranged_of tells held left heard self.new) (Pin p.now)) }
+        ensures refused { IsAnswerFor pin_said (refusal_in (arranged_of tells held left heard self.old) (Pin p.now)) result }
+        ensures as_before { OnErr result (IsAsBefore (arranged_of tells held left heard self.old) (arranged_of tells held left heard self.new)) }
+        ensures limits { (arranged_of tells held left heard self.new).limits ≡ (arranged_of tells held left heard self.old).limits }
+        ensures watched { IsWatched (arranged_of tells held left heard self.new) }
     {
-        let at = locate(&self.records, p);
+        let at = locate(&self.layer.records, p);
         pin(
             self.alloc,
-            &mut self.records,
-            &mut self.history,
+            &mut self.layer.records,
+            &mut self.layer.history,
+            &mut self.bus,
             self.limits.pins,
             at,
             p,
@@ -169,12 +185,20 @@ impl Arrangement {
     ///
     /// The point isn't pinned, and nothing is changed.
     pub fn unpin(&mut self, p: &Point) -> Result<(), NotPinned>
-        ensures edit { OnOk result (IsEdited self.old self.new (Unpin p.now)) }
-        ensures refused { IsAnswerFor unpin_said (refusal_in self.old (Unpin p.now)) result }
-        ensures as_before { OnErr result (IsAsBefore self.old self.new) }
-        ensures limits { self.new.limits ≡ self.old.limits }
+        requires watched { IsWatched (arranged_of tells held left heard self.old) }
+        ensures edit { OnOk result (IsEdited (arranged_of tells held left heard self.old) (arranged_of tells held left heard self.new) (Unpin p.now)) }
+        ensures refused { IsAnswerFor unpin_said (refusal_in (arranged_of tells held left heard self.old) (Unpin p.now)) result }
+        ensures as_before { OnErr result (IsAsBefore (arranged_of tells held left heard self.old) (arranged_of tells held left heard self.new)) }
+        ensures limits { (arranged_of tells held left heard self.new).limits ≡ (arranged_of tells held left heard self.old).limits }
+        ensures watched { IsWatched (arranged_of tells held left heard self.new) }
     {
-        unpin(&mut self.records, &mut self.history, p)
+        unpin(
+            self.alloc,
+            &mut self.layer.records,
+            &mut self.layer.history,
+            &mut self.bus,
+            p,
+        )
     }
 
     /// Pins a point inside the edge between two others, which come in either order (CGAL manual, `split_edge`; the pin: this
@@ -184,15 +208,18 @@ impl Arrangement {
     ///
     /// No edge joins the points, the point isn't strictly inside it, one more pin would pass the limit, or there was no memory.
     pub fn split_edge(&mut self, p: &Point, q: &Point, r: &Point) -> Result<(), SplitError>
-        ensures edit { OnOk result (IsEdited self.old self.new (split_at p.now q.now r.now)) }
-        ensures refused { IsAnswerFor split_said (refusal_in self.old (split_at p.now q.now r.now)) result }
-        ensures as_before { OnErr result (IsAsBefore self.old self.new) }
-        ensures limits { self.new.limits ≡ self.old.limits }
+        requires watched { IsWatched (arranged_of tells held left heard self.old) }
+        ensures edit { OnOk result (IsEdited (arranged_of tells held left heard self.old) (arranged_of tells held left heard self.new) (split_at p.now q.now r.now)) }
+        ensures refused { IsAnswerFor split_said (refusal_in (arranged_of tells held left heard self.old) (split_at p.now q.now r.now)) result }
+        ensures as_before { OnErr result (IsAsBefore (arranged_of tells held left heard self.old) (arranged_of tells held left heard self.new)) }
+        ensures limits { (arranged_of tells held left heard self.new).limits ≡ (arranged_of tells held left heard self.old).limits }
+        ensures watched { IsWatched (arranged_of tells held left heard self.new) }
     {
         split_edge(
             self.alloc,
-            &mut self.records,
-            &mut self.history,
+            &mut self.layer.records,
+            &mut self.layer.history,
+            &mut self.bus,
             self.limits.pins,
             p,
             q,
@@ -207,38 +234,56 @@ impl Arrangement {
     ///
     /// No vertex is at the point; or it isn't pinned, would be a vertex without its pin, or has no edge. Nothing is changed.
     pub fn merge_edge(&mut self, r: &Point) -> Result<(), MergeError>
-        ensures edit { OnOk result (IsEdited self.old self.new (Merge r.now)) }
-        ensures refused { IsAnswerFor merge_said (refusal_in self.old (Merge r.now)) result }
-        ensures as_before { OnErr result (IsAsBefore self.old self.new) }
-        ensures limits { self.new.limits ≡ self.old.limits }
+        requires watched { IsWatched (arranged_of tells held left heard self.old) }
+        ensures edit { OnOk result (IsEdited (arranged_of tells held left heard self.old) (arranged_of tells held left heard self.new) (Merge r.now)) }
+        ensures refused { IsAnswerFor merge_said (refusal_in (arranged_of tells held left heard self.old) (Merge r.now)) result }
+        ensures as_before { OnErr result (IsAsBefore (arranged_of tells held left heard self.old) (arranged_of tells held left heard self.new)) }
+        ensures limits { (arranged_of tells held left heard self.new).limits ≡ (arranged_of tells held left heard self.old).limits }
+        ensures watched { IsWatched (arranged_of tells held left heard self.new) }
     {
-        merge_edge(&mut self.records, &mut self.history, r)
+        merge_edge(
+            self.alloc,
+            &mut self.layer.records,
+            &mut self.layer.history,
+            &mut self.bus,
+            r,
+        )
     }
 
     /// No segment and no pin is left; the next curve gets the number that it would have got (CGAL manual, `clear`). It takes
     /// no memory.
     pub fn clear(&mut self)
-        ensures edit { IsEdited self.old self.new ClearAll }
-        ensures limits { self.new.limits ≡ self.old.limits }
+        requires watched { IsWatched (arranged_of tells held left heard self.old) }
+        ensures edit { IsEdited (arranged_of tells held left heard self.old) (arranged_of tells held left heard self.new) ClearAll }
+        ensures limits { (arranged_of tells held left heard self.new).limits ≡ (arranged_of tells held left heard self.old).limits }
+        ensures watched { IsWatched (arranged_of tells held left heard self.new) }
     {
-        clear(&mut self.records, &mut self.history);
+        clear(
+            self.alloc,
+            &mut self.layer.records,
+            &mut self.layer.history,
+            &mut self.bus,
+        );
     }
 
     /// What is true of all arrangements: the records are sound, as calls on them ask (`zone_walk::zone`, for one); with the
-    /// history they stand for the layer; and their names are those of the vertices, edges and pins of the present.
+    /// history they stand for the layer; their names are those of the vertices, edges and pins of the present; and no two observers
+    /// have one name.
     pub fn laws(&self)
-        ensures sound { IsGraphSound self.now.graph }
-        ensures layer { IsLayer self.now.graph self.now.past }
-        ensures named { IsNamedBy self.now.graph (curves_on self.now.past) (graph (layer_in self.now).present) }
+        ensures sound { IsGraphSound (arranged_of tells held left heard self.now).graph }
+        ensures layer { IsLayer (arranged_of tells held left heard self.now).graph (arranged_of tells held left heard self.now).past }
+        ensures apart { HaveNamesApart (arranged_of tells held left heard self.now).bus.seats }
+        ensures named { IsNamedBy (arranged_of tells held left heard self.now).graph (curves_on (arranged_of tells held left heard self.now).past) (graph (layer_in (arranged_of tells held left heard self.now)).present) }
     {
         // Any use of a field tells what is kept.
-        let _records = &self.records;
+        let _records = &self.layer.records;
+        self.bus.laws();
     }
 
     /// The records of vertices and darts, to be read by name.
     pub fn records(&self) -> &Records
-        ensures { result.now.graph ≡ self.now.graph }
+        ensures { result.now.graph ≡ (arranged_of tells held left heard self.now).graph }
     {
-        &self.records
+        &self.layer.records
     }
 }

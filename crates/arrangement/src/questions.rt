@@ -1,14 +1,15 @@
-ghost use Rattle.std.specs.Prelude.{◌≡◌, ◌↔◌, ◌≢◌, not, map, length, IfOk, IsErrOf, OnErr};
+ghost use Rattle.std.specs.Prelude.{◌≡◌, ◌↔◌, ◌≢◌, ⊤, not, map, length, IfOk, IsErrOf, OnErr};
 ghost use Rattle.std.specs.List.{count_by};
 ghost use Rattle.exact_plane.specs.Point.{Point};
 ghost use Rattle.plane_graphs.specs.Ascending.{Member, IsAscending};
 ghost use Rattle.plane_graphs.specs.Graph.{graph, edges, curves, edge_cmp};
+ghost use Rattle.plane_graphs.specs.Plane.{IsPlane};
 ghost use Rattle.slab_laws.specs.Subdivision.{holds};
 ghost use Rattle.slab_laws.specs.Text.{present_text};
 ghost use Rattle.dcel_records.specs.Spots.{IsInFace};
 ghost use Rattle.plain_slabs.specs.Listed.{subdivision_in, view_of, faces_of, AreLinesOf};
 ghost use Rattle.slab_laws.specs.FacesSound.{IsSound};
-ghost use Rattle.arrangement.specs.Arranged.{layer_in, subdivision_by};
+ghost use Rattle.arrangement.specs.Arranged.{arranged_of, layer_in, subdivision_by};
 ghost use Rattle.arrangement.specs.Questions.{curves_between, IsNoEdge, AreEdgesOf};
 
 use crate::arrangement::Arrangement;
@@ -62,12 +63,13 @@ impl From<NoMemory> for EdgeError {
 impl Arrangement {
     // The subdivision of the plane by the present segments and points, built afresh.
     fn subdivide(&self) -> Result<Plain, NoMemory>
-        ensures graph { IfOk result (λ s. s.graph ≡ graph (layer_in self.now).present) }
-        ensures subdivision { IfOk result (λ s. subdivision_in s ≡ subdivision_by self.now) }
+        ensures graph { IfOk result (λ s. s.graph ≡ graph (layer_in (arranged_of tells held left heard self.now)).present) }
+        ensures subdivision { IfOk result (λ s. subdivision_in s ≡ subdivision_by (arranged_of tells held left heard self.now)) }
+        ensures plane { IfOk result (λ s. IsPlane s.graph) }
         ensures lines { IfOk result AreLinesOf }
         ensures stands { IfOk result (λ s. IsSound (view_of s) (faces_of s)) }
     {
-        let drawn = Drawn::new(&self.records, &self.history);
+        let drawn = Drawn::new(&self.layer.records, &self.layer.history);
         subdivide_of(self.alloc, &drawn)
     }
 
@@ -79,16 +81,18 @@ impl Arrangement {
     /// # Errors
     ///
     /// The point lies in a face, and there was no memory for the subdivision.
+    // A call without a premise that has a box under `&mut` is taken to make one by the checks of other crates.
     pub fn locate(&mut self, strategy: Strategy, p: &Point) -> Result<Cell, NoMemory>
-        ensures cell { IfOk result (λ c. c ≡ holds (subdivision_by self.old) p.now) }
-        ensures no_memory { OnErr result (IsInFace self.old.graph p.now) }
+        requires always { ⊤ }
+        ensures cell { IfOk result (λ c. c ≡ holds (subdivision_by (arranged_of tells held left heard self.old)) p.now) }
+        ensures no_memory { OnErr result (IsInFace (arranged_of tells held left heard self.old).graph p.now) }
         ensures same { self.new ≡ self.old }
     {
         // A call on the point tells that its numbers are a point's.
         let _weight = p.w();
-        match spot_by(strategy, &self.records, p) {
+        match spot_by(strategy, &self.layer.records, p) {
             Spot::Vertex(_) => Ok(Cell::Vertex(*p)),
-            Spot::Edge(dart) => Ok(edge_cell(&self.records, dart)),
+            Spot::Edge(dart) => Ok(edge_cell(&self.layer.records, dart)),
             Spot::Face => {
                 let subdivision = self.subdivide()?;
                 Ok(hold(&subdivision, p))
@@ -102,12 +106,12 @@ impl Arrangement {
     ///
     /// There was no memory for the subdivision.
     pub fn counts(&self) -> Result<Counts, NoMemory>
-        ensures vertices { IfOk result (λ c. c.vertices ≡ length (subdivision_by self.now).graph.vertices) }
-        ensures edges { IfOk result (λ c. c.edges ≡ length (subdivision_by self.now).graph.edges) }
-        ensures faces { IfOk result (λ c. c.faces ≡ length (subdivision_by self.now).faces) }
-        ensures inner { IfOk result (λ c. c.inner ≡ count_by (λ k. not k.outer) (subdivision_by self.now).cycles) }
-        ensures isolated { IfOk result (λ c. c.isolated ≡ length (subdivision_by self.now).bare) }
-        ensures curves { IfOk result (λ c. c.curves ≡ length (layer_in self.now).names) }
+        ensures vertices { IfOk result (λ c. c.vertices ≡ length (subdivision_by (arranged_of tells held left heard self.now)).graph.vertices) }
+        ensures edges { IfOk result (λ c. c.edges ≡ length (subdivision_by (arranged_of tells held left heard self.now)).graph.edges) }
+        ensures faces { IfOk result (λ c. c.faces ≡ length (subdivision_by (arranged_of tells held left heard self.now)).faces) }
+        ensures inner { IfOk result (λ c. c.inner ≡ count_by (λ k. not k.outer) (subdivision_by (arranged_of tells held left heard self.now)).cycles) }
+        ensures isolated { IfOk result (λ c. c.isolated ≡ length (subdivision_by (arranged_of tells held left heard self.now)).bare) }
+        ensures curves { IfOk result (λ c. c.curves ≡ length (layer_in (arranged_of tells held left heard self.now)).names) }
     {
         let subdivision = self.subdivide()?;
         let cells = count(&subdivision);
@@ -117,7 +121,7 @@ impl Arrangement {
             faces: cells.faces,
             inner: cells.inner,
             isolated: cells.isolated,
-            curves: self.history.named(),
+            curves: self.layer.history.named(),
         })
     }
 
@@ -127,7 +131,7 @@ impl Arrangement {
     ///
     /// There was no memory for the subdivision or for the text.
     pub fn text(&self) -> Result<Vec<u8>, NoMemory>
-        ensures { IfOk result (λ bytes. bytes.items ≡ present_text (layer_in self.now).present) }
+        ensures { IfOk result (λ bytes. bytes.items ≡ present_text (layer_in (arranged_of tells held left heard self.now)).present) }
     {
         let subdivision = self.subdivide()?;
         text(self.alloc, &subdivision)
@@ -140,14 +144,14 @@ impl Arrangement {
     ///
     /// No edge has these two ends, whatever memory there is; or there was no memory for the list.
     pub fn curves_of(&self, p: &Point, q: &Point) -> Result<Vec<CurveId>, EdgeError>
-        ensures curves { IfOk result (λ v. map (λ c. c.0) v.items ≡ curves_between self.now p.now q.now) }
-        ensures no_edge { IsErrOf result EdgeError.NoEdge ↔ IsNoEdge self.now p.now q.now }
+        ensures curves { IfOk result (λ v. map (λ c. c.0) v.items ≡ curves_between (arranged_of tells held left heard self.now) p.now q.now) }
+        ensures no_edge { IsErrOf result EdgeError.NoEdge ↔ IsNoEdge (arranged_of tells held left heard self.now) p.now q.now }
     {
         // Whether there is such an edge takes no memory to tell.
-        let Some(edge) = edge_dart(&self.records, p, q) else {
+        let Some(edge) = edge_dart(&self.layer.records, p, q) else {
             return Err(EdgeError::NoEdge);
         };
-        Ok(self.history.curves_of(self.alloc, edge)?)
+        Ok(self.layer.history.curves_of(self.alloc, edge)?)
     }
 
     /// The edges along which a curve runs, each by its lower and its upper end, in the order of these (CGAL manual, induced
@@ -157,12 +161,12 @@ impl Arrangement {
     ///
     /// No curve has this number, whatever memory there is; or there was no memory for the list.
     pub fn edges_of(&self, curve: CurveId) -> Result<Vec<(Point, Point)>, HistoryError>
-        ensures edges { IfOk result (λ v. AreEdgesOf self.now curve.0 v.items) }
+        ensures edges { IfOk result (λ v. AreEdgesOf (arranged_of tells held left heard self.now) curve.0 v.items) }
         ensures ascend { IfOk result (λ v. IsAscending edge_cmp (map (λ p. record { low = p.0; high = p.1 }) v.items)) }
-        ensures unknown { IsErrOf result HistoryError.Unknown ↔ ¬ Member curve.0 (layer_in self.now).names }
+        ensures unknown { IsErrOf result HistoryError.Unknown ↔ ¬ Member curve.0 (layer_in (arranged_of tells held left heard self.now)).names }
     {
-        let darts = self.history.edges_of(self.alloc, curve)?;
-        match ends_in_order(self.alloc, &self.records, &darts) {
+        let darts = self.layer.history.edges_of(self.alloc, curve)?;
+        match ends_in_order(self.alloc, &self.layer.records, &darts) {
             Ok(ends) => Ok(ends),
             Err(NoMemory) => Err(HistoryError::NoMemory),
         }

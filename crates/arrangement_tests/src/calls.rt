@@ -1,3 +1,5 @@
+ghost use Rattle.arrangement.specs.Arranged.{arranged_of, IsWatched};
+
 use crate::asked::{
     counted, has_curves, has_edges, has_first_curves, has_no_edge, has_text, is_unknown,
 };
@@ -36,7 +38,10 @@ pub enum Call {
 }
 
 // Whether a call that changes nothing answers as it has to.
-fn is_told(alloc: Global, layer: &mut Arrangement, call: &Call) -> Result<bool, Fail> {
+fn is_told(alloc: Global, layer: &mut Arrangement, call: &Call) -> Result<bool, Fail>
+    requires watched { IsWatched (arranged_of tells held left heard layer.old) }
+    ensures watched { IsWatched (arranged_of tells held left heard layer.new) }
+{
     match call {
         Call::HasCurves(x, z, wanted) => has_curves(layer, *x, *z, wanted),
         Call::HasFirstCurves(x, z, count) => has_first_curves(layer, *x, *z, *count),
@@ -51,7 +56,10 @@ fn is_told(alloc: Global, layer: &mut Arrangement, call: &Call) -> Result<bool, 
     }
 }
 
-fn is_right(alloc: Global, layer: &mut Arrangement, call: &Call) -> Result<bool, Fail> {
+fn is_right(alloc: Global, layer: &mut Arrangement, call: &Call) -> Result<bool, Fail>
+    requires watched { IsWatched (arranged_of tells held left heard layer.old) }
+    ensures watched { IsWatched (arranged_of tells held left heard layer.new) }
+{
     match call {
         Call::Makes(edit, wanted) => Ok(apply(layer, *edit)? == *wanted),
         Call::Draws(count) => draws(layer, *count),
@@ -63,7 +71,10 @@ fn is_right(alloc: Global, layer: &mut Arrangement, call: &Call) -> Result<bool,
 }
 
 // Makes the calls one after the other, and tells whether each answers as it has to.
-fn all_right(alloc: Global, layer: &mut Arrangement, calls: &[Call]) -> Result<bool, Fail> {
+fn all_right(alloc: Global, layer: &mut Arrangement, calls: &[Call]) -> Result<bool, Fail>
+    requires watched { IsWatched (arranged_of tells held left heard layer.old) }
+    ensures watched { IsWatched (arranged_of tells held left heard layer.new) }
+{
     for call in calls {
         if !is_right(alloc, layer, call)? {
             return Ok(false);

@@ -1,5 +1,9 @@
+ghost use Rattle.std.specs.Prelude.{IfOk};
+ghost use Rattle.arrangement.specs.Arranged.{arranged_of, AreLimits, IsWatched};
+
 use arrangement::{
-    Arrangement, CutError, DropError, InsertError, Limits, MergeError, PinError, SplitError,
+    Arrangement, Bus, CutError, DropError, InsertError, Limits, MergeError, PinError, SEATS,
+    SplitError,
 };
 use exact_plane::{Point, Segment};
 use no_memory::NoMemory;
@@ -69,16 +73,28 @@ const TWO_CURVES: Limits = Limits {
     first: 4294967294,
 };
 
-/// A layer of nothing.
-pub fn layer_under(alloc: Global, under: Under) -> Result<Arrangement, NoMemory> {
+fn limits_of(under: Under) -> Limits
+    ensures { AreLimits result }
+{
     match under {
-        Under::Script => Arrangement::new(alloc, Limits::FULL),
-        Under::LastNumber => Arrangement::new(alloc, LAST_NUMBER),
-        Under::TwoCurves => Arrangement::new(alloc, TWO_CURVES),
+        Under::Script => Limits::FULL,
+        Under::LastNumber => LAST_NUMBER,
+        Under::TwoCurves => TWO_CURVES,
     }
 }
 
-fn insert(layer: &mut Arrangement, segment: Segment) -> Answer {
+/// A layer of nothing, without observers.
+pub fn layer_under(alloc: Global, under: Under) -> Result<Arrangement, NoMemory>
+    ensures watched { IfOk result (λ a. IsWatched (arranged_of tells held left heard a)) }
+{
+    let bus = Bus::new(alloc, Vec::with_capacity(alloc, SEATS)?)?;
+    Arrangement::new(alloc, limits_of(under), bus)
+}
+
+fn insert(layer: &mut Arrangement, segment: Segment) -> Answer
+    requires watched { IsWatched (arranged_of tells held left heard layer.old) }
+    ensures watched { IsWatched (arranged_of tells held left heard layer.new) }
+{
     match layer.insert(segment) {
         Ok(curve) => Answer::Drawn(curve.0),
         Err(InsertError::Full(limit)) => Answer::Full(limit),
@@ -87,7 +103,10 @@ fn insert(layer: &mut Arrangement, segment: Segment) -> Answer {
     }
 }
 
-fn pin(layer: &mut Arrangement, point: &Point) -> Answer {
+fn pin(layer: &mut Arrangement, point: &Point) -> Answer
+    requires watched { IsWatched (arranged_of tells held left heard layer.old) }
+    ensures watched { IsWatched (arranged_of tells held left heard layer.new) }
+{
     match layer.pin(point) {
         Ok(()) => Answer::Done,
         Err(PinError::Pinned) => Answer::Pinned,
@@ -96,14 +115,20 @@ fn pin(layer: &mut Arrangement, point: &Point) -> Answer {
     }
 }
 
-fn unpin(layer: &mut Arrangement, point: &Point) -> Answer {
+fn unpin(layer: &mut Arrangement, point: &Point) -> Answer
+    requires watched { IsWatched (arranged_of tells held left heard layer.old) }
+    ensures watched { IsWatched (arranged_of tells held left heard layer.new) }
+{
     match layer.unpin(point) {
         Ok(()) => Answer::Done,
         Err(_) => Answer::NotPinned,
     }
 }
 
-fn remove_curve(layer: &mut Arrangement, curve: u32) -> Answer {
+fn remove_curve(layer: &mut Arrangement, curve: u32) -> Answer
+    requires watched { IsWatched (arranged_of tells held left heard layer.old) }
+    ensures watched { IsWatched (arranged_of tells held left heard layer.new) }
+{
     match layer.remove_curve(CurveId(curve)) {
         Ok(()) => Answer::Done,
         Err(DropError::Unknown) => Answer::Unknown,
@@ -111,7 +136,10 @@ fn remove_curve(layer: &mut Arrangement, curve: u32) -> Answer {
     }
 }
 
-fn remove_edge(layer: &mut Arrangement, p: &Point, q: &Point) -> Answer {
+fn remove_edge(layer: &mut Arrangement, p: &Point, q: &Point) -> Answer
+    requires watched { IsWatched (arranged_of tells held left heard layer.old) }
+    ensures watched { IsWatched (arranged_of tells held left heard layer.new) }
+{
     match layer.remove_edge(p, q) {
         Ok(()) => Answer::Done,
         Err(CutError::NoEdge) => Answer::NoEdge,
@@ -120,7 +148,10 @@ fn remove_edge(layer: &mut Arrangement, p: &Point, q: &Point) -> Answer {
     }
 }
 
-fn split_edge(layer: &mut Arrangement, p: &Point, q: &Point, r: &Point) -> Answer {
+fn split_edge(layer: &mut Arrangement, p: &Point, q: &Point, r: &Point) -> Answer
+    requires watched { IsWatched (arranged_of tells held left heard layer.old) }
+    ensures watched { IsWatched (arranged_of tells held left heard layer.new) }
+{
     match layer.split_edge(p, q, r) {
         Ok(()) => Answer::Done,
         Err(SplitError::NoEdge) => Answer::NoEdge,
@@ -130,7 +161,10 @@ fn split_edge(layer: &mut Arrangement, p: &Point, q: &Point, r: &Point) -> Answe
     }
 }
 
-fn merge_edge(layer: &mut Arrangement, r: &Point) -> Answer {
+fn merge_edge(layer: &mut Arrangement, r: &Point) -> Answer
+    requires watched { IsWatched (arranged_of tells held left heard layer.old) }
+    ensures watched { IsWatched (arranged_of tells held left heard layer.new) }
+{
     match layer.merge_edge(r) {
         Ok(()) => Answer::Done,
         Err(MergeError::NoVertex) => Answer::NoVertex,
@@ -138,13 +172,19 @@ fn merge_edge(layer: &mut Arrangement, r: &Point) -> Answer {
     }
 }
 
-fn clear(layer: &mut Arrangement) -> Answer {
+fn clear(layer: &mut Arrangement) -> Answer
+    requires watched { IsWatched (arranged_of tells held left heard layer.old) }
+    ensures watched { IsWatched (arranged_of tells held left heard layer.new) }
+{
     layer.clear();
     Answer::Done
 }
 
 /// What the edit answers.
-pub fn apply(layer: &mut Arrangement, edit: Edit) -> Result<Answer, Fail> {
+pub fn apply(layer: &mut Arrangement, edit: Edit) -> Result<Answer, Fail>
+    requires watched { IsWatched (arranged_of tells held left heard layer.old) }
+    ensures watched { IsWatched (arranged_of tells held left heard layer.new) }
+{
     match edit {
         Edit::Insert(x1, y1, x2, y2) => Ok(insert(layer, Segment::new(x1, y1, x2, y2)?)),
         Edit::Pin(x, y) => Ok(pin(layer, &at(x, y)?)),

@@ -10,8 +10,12 @@ mod edits;
 #[cfg(test)]
 mod kept;
 #[cfg(test)]
+mod observers;
+#[cfg(test)]
 mod places;
 #[cfg(test)]
 mod rows;
+#[cfg(test)]
+mod scribe;
 #[cfg(test)]
 mod zones;

@@ -1,3 +1,5 @@
+ghost use Rattle.arrangement.specs.Arranged.{arranged_of, IsWatched};
+
 use crate::edits::at;
 use arrangement::Arrangement;
 use exact_plane::Point;
@@ -34,7 +36,10 @@ pub fn lies_at(
     layer: &mut Arrangement,
     point: (i128, i128, i128),
     place: Place,
-) -> Result<bool, Fail> {
+) -> Result<bool, Fail>
+    requires watched { IsWatched (arranged_of tells held left heard layer.old) }
+    ensures watched { IsWatched (arranged_of tells held left heard layer.new) }
+{
     let point = Point::new(point.0, point.1, point.2)?;
     let wanted = cell(place)?;
     for strategy in &STRATEGIES {

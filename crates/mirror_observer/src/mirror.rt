@@ -96,6 +96,7 @@ impl Observer for Mirror {
         requires { FitsNote self.old.seen note.now }
         ensures leaves { result ≡ Answer.Leave ↔ IsTrue (is_last self.old.count note.now) }
         ensures counts { result ≡ Answer.Stay → self.new.count ≡ left_after self.old.count note.now }
+        ensures uncounted { (w : _) → note.now ≡ Snapshot w → self.new.count ≡ self.old.count }
         ensures follows { result ≡ Answer.Stay → self.new.seen ≡ held_after self.old.seen note.now }
         ensures before { (i : _) → note.now ≡ Before i → result ≢ Answer.NoMemory }
         ensures kept { (w : _) → note.now ≡ Snapshot w → result ≡ Answer.NoMemory → self.new.seen ≡ self.old.seen }

@@ -67,7 +67,7 @@ all_after n w ended P a = tt
 all_after n w (kept {f = f} {s = s} {t = t} q k r) P a = (subst P (sym (name_kept n w f s t k)) a.0, all_after n w r P a.1)
 all_after n w (gone q g r) P a = all_after n w r P a.1
 
-apart_after : (n : Note) (w : CurvedView) {fs : List Fate} {ss ts : List SeatRow} → IsRound n w fs ss ts → HaveNamesApart ss → HaveNamesApart ts
+pub apart_after : (n : Note) (w : CurvedView) {fs : List Fate} {ss ts : List SeatRow} → IsRound n w fs ss ts → HaveNamesApart ss → HaveNamesApart ts
 apart_after n w ended h = none_apart
 apart_after n w (kept {f = f} {s = s} {t = t} {ss = ss} {ts = ts} q k r) h =
     both_apart t ts (subst (λ x. AllByRecursion (λ y. (x == y) ≡ false) (seat_names ts)) (sym (name_kept n w f s t k)) (all_after n w r (λ y. (s.name == y) ≡ false) (head_apart s ss h)))

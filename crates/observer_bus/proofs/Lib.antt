@@ -5,3 +5,4 @@ pub mod Seating
 pub mod Holding
 pub mod Hearing
 pub mod Losses
+pub mod Apart

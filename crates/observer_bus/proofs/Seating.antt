@@ -70,7 +70,7 @@ module _ {S : Type 0} (r : S → SeatRow) (k : ℕ) (xs : List S) where
   pub unseated_by : list_any (λ s. is_seat_of k (r s)) xs ≡ false → has_seat k (map r xs) ≡ false
   unseated_by h = any_by (is_seat_of k) r xs ∙ h
 
-  named_by : has_name k (map r xs) ≡ list_any (λ s. (r s).name == k) xs
+  pub named_by : has_name k (map r xs) ≡ list_any (λ s. (r s).name == k) xs
   named_by = any_by (λ s. s.name == k) r xs
 
   refusal_by : (b : Bool) (l : ℕ) → has_name k (map r xs) ≡ b → length (map r xs) ≡ l → attach_refusal k (map r xs) ≡ cond b (Some Taken) (cond (l == 8) (Some (Full 8)) None)

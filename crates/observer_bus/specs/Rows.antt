@@ -25,3 +25,7 @@ module _ {X : Type 0} {F : X → Type 0} (tells : DynBox X Global F → Bool) (h
   -- a bus as contracts see it (this project)
   abbrev pub bus_row : Bus X F → BusRow
   bus_row b = record { seats = rows b.seats.items; went = b.went; settled = b.settled }
+
+-- a bus as contracts see it that have no box at hand: what its observers mean is told of the two parts of a box
+abbrev pub bus_of : {X : Type 0} {F : X → Type 0} → ((x : X) × F x → Bool) → ((x : X) × F x → Option CurvedView) → ((x : X) × F x → Option ℕ) → ((x : X) × F x → Option (List Note)) → Bus X F → BusRow
+bus_of tells held left heard b = bus_row (λ o. tells (o.vtable, o.value)) (λ o. held (o.vtable, o.value)) (λ o. left (o.vtable, o.value)) (λ o. heard (o.vtable, o.value)) b

@@ -1,6 +1,8 @@
-ghost use Rattle.std.specs.Prelude.{◌≡◌, ◌≢◌, ◌≤◌, ◌↔◌, [], All, Err, IfErr, IfOk, IsTrue, OnErr, OnOk, Option, Some, None, is_ok, true, false, length, map, vec_capacity};
+ghost use Rattle.std.specs.Prelude.{◌≡◌, ◌≢◌, ◌≤◌, ◌==◌, ◌↔◌, ⊤, [], All, Err, IfErr, IfOk, IsTrue, OnErr, OnOk, Option, Some, None, is_ok, true, false, length, map, vec_capacity};
+ghost use Rattle.std.specs.List.{IsDistinct};
+ghost use Rattle.std.proofs.Props.{props};
 ghost use Rattle.arr_notes.specs.CurvedView.{CurvedView, IsSoundView, view_by};
-ghost use Rattle.observer_bus.specs.Calls.{attach_refusal, begun, has_seat, seat_of, seats_left, with_seats, IsAttachAnswer, IsAttached, IsHeldSound, IsReport};
+ghost use Rattle.observer_bus.specs.Calls.{attach_refusal, begun, has_name, has_seat, seat_of, seats_left, with_seats, IsAttachAnswer, IsAttached, IsHeldSound, IsReport};
 ghost use Rattle.observer_bus.specs.Rounds.{HaveRoom, AreInRound};
 ghost use Rattle.observer_bus.specs.Seats.{Holds, Leads, MayHear, IsRoundNote};
 
@@ -24,22 +26,25 @@ pub struct Bus {
     settled: bool,
     ghost few: { length seats.items ≤ 8 },
     ghost room: { 8 ≤ vec_capacity seats },
+    ghost apart: { IsDistinct ◌==◌ (map (λ s. s.name) seats.items) } by { Prim.hlevel props },
     ghost name_room: { IsTrue settled → HaveRoom (map (λ s. s.join) seats.items) went },
 }
 
 impl Bus {
+    ghost use Rattle.observer_bus.specs.RoundLaws.{HaveNamesApart};
     ghost use Rattle.observer_bus.specs.Rows.{bus_row, newcomer, rows};
 
-    /// A bus without observers, with room for eight seats and for their names.
+    /// A bus without observers over the seats that it is given, which are none yet: `Vec::with_capacity(alloc, SEATS)?` makes room for them.
     ///
     /// # Errors
     ///
-    /// There was no memory for that.
-    pub fn new(alloc: Global) -> Result<Bus, NoMemory>
+    /// There was no memory for the names of those that come and go.
+    pub fn new(alloc: Global, seats: Vec<Seat>) -> Result<Bus, NoMemory>
+        requires none { seats.items ≡ [] }
+        requires room { 8 ≤ vec_capacity seats }
         ensures seats { IfOk result (λ b. (bus_row tells held left heard b).seats ≡ []) }
         ensures begun { IfOk result (λ b. bus_row tells held left heard b ≡ begun (bus_row tells held left heard b)) }
     {
-        let seats = Vec::with_capacity(alloc, SEATS)?;
         let went = Went::new(alloc)?;
         Ok(Bus {
             seats,
@@ -48,13 +53,19 @@ impl Bus {
         })
     }
 
+    /// What is true of all buses: no two seats have one name.
+    pub fn laws(&self)
+        ensures apart { HaveNamesApart (bus_row tells held left heard self.now).seats }
+    {}
+
     /// Takes an observer: without a round it is handed a snapshot at once and is seated; with one it joins at its turn in that round, the
     /// next being 1. It stands last.
     ///
     /// # Errors
     ///
-    /// The observer is handed back, and no seat or plan changes: `Taken` where a seated observer, or one whose join is planned, has the name;
-    /// then `Full(8)` where eight are there; `NoMemory` where there was none for the snapshot, or the observer found none.
+    /// The observer is handed back, with as many notes left as it had, and no seat or plan changes: `Taken` where a seated observer, or one
+    /// whose join is planned, has the name; then `Full(8)` where eight are there; `NoMemory` where there was none for the snapshot, or the
+    /// observer found none.
     pub fn attach<R: Curved>(
         &mut self,
         alloc: Global,
@@ -67,7 +78,7 @@ impl Bus {
         requires sound { IsSoundView (view_by (R.graph records.now) (R.curve_list records.now)) }
         ensures refused { IsAttachAnswer (attach_refusal name (bus_row tells held left heard self.old).seats) result }
         ensures same { IfErr result (λ e. e.1 ≢ AttachError.NoMemory → e.0 ≡ observer) }
-        ensures back { IfErr result (λ e. tells e.0 ≡ tells observer) }
+        ensures back { IfErr result (λ e. (tells e.0 ≡ tells observer) × (left e.0 ≡ left observer)) }
         ensures err { OnErr result (bus_row tells held left heard self.new ≡ bus_row tells held left heard self.old) }
         ensures attached { OnOk result (IsAttached (view_by (R.graph records.now) (R.curve_list records.now)) (newcomer tells held left heard name when observer)
             (bus_row tells held left heard self.old) (bus_row tells held left heard self.new)) }
@@ -85,6 +96,13 @@ impl Bus {
         self.settled = false;
         self.seats.push_reserved(seat);
         Ok(())
+    }
+
+    /// Whether a seated observer, or one whose join is planned, has the name.
+    pub fn is_attached(&self, name: u32) -> bool
+        ensures { result ≡ has_name name (bus_row tells held left heard self.now).seats }
+    {
+        round::has_name(&self.seats, name)
     }
 
     /// Lets a seated observer go: without a round at once, and its box is dropped; with one untold at its turn in that round, the next being
@@ -117,8 +135,10 @@ impl Bus {
     }
 
     /// An accepted edit begins: what became of observers is forgotten. It takes no memory.
+    // A call without a premise that has a box under `&mut` is taken to make one by the checks of other crates.
     pub fn begin(&mut self)
-        ensures { bus_row tells held left heard self.new ≡ begun (bus_row tells held left heard self.old) }
+        requires always { ⊤ }
+        ensures begun { bus_row tells held left heard self.new ≡ begun (bus_row tells held left heard self.old) }
     {
         self.went.clear();
         self.settled = true;

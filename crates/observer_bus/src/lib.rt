@@ -17,5 +17,5 @@ pub use bus::{Bus, SEATS};
 pub use errors::{AttachError, NoSeat, ReportError};
 pub use laws::{fates_are_by_losses, notes_may_be_heard, rounds_are_lawful};
 pub use names::Names;
-pub use seat::Fate;
+pub use seat::{Fate, Seat};
 pub use went::Went;

@@ -10,7 +10,7 @@ use std::alloc::Global;
 
 /// A seated observer, or one whose join is planned.
 #[derive(Drop)]
-pub(crate) struct Seat {
+pub struct Seat {
     name: u32,
     join: Option<u32>,
     leave: Option<u32>,
@@ -131,7 +131,7 @@ impl Seat {
         ensures join { self.new.join ≡ self.old.join }
         ensures leave { self.new.leave ≡ self.old.leave }
         ensures tells { tells self.new.observer ≡ tells self.old.observer }
-        ensures left { OnOk result (left self.new.observer ≡ left self.old.observer) }
+        ensures left { left self.new.observer ≡ left self.old.observer }
         ensures heard { OnOk result (heard self.new.observer ≡ heard_after (heard self.old.observer) (Snapshot (view_by (R.graph records.now) (R.curve_list records.now)))) }
         ensures held { OnOk result (IsTrue (tells self.old.observer) → held self.new.observer ≡ Some (view_by (R.graph records.now) (R.curve_list records.now))) }
     {
@@ -167,7 +167,7 @@ impl Seat {
         requires sound { IsSoundView (view_by (R.graph records.now) (R.curve_list records.now)) }
         ensures placed { IfOk result (λ s. IsPlaced when (view_by (R.graph records.now) (R.curve_list records.now))
             (newcomer tells held left heard name when observer) (row tells held left heard s)) }
-        ensures back { IfErr result (λ b. tells b ≡ tells observer) }
+        ensures back { IfErr result (λ b. (tells b ≡ tells observer) × (left b ≡ left observer)) }
     {
         let mut seat = Seat::planned(name, observer, when);
         match when {

@@ -6,7 +6,7 @@ use crate::empty::EmptyPlane;
 use crate::recorder::Recorder;
 use crate::rounds::{after, attach, before, begin, leave, report};
 use arr_notes::Observer;
-use observer_bus::{AttachError, Bus, ReportError};
+use observer_bus::{AttachError, Bus, ReportError, SEATS};
 use std::alloc::Global;
 use std::test::Fail;
 
@@ -213,7 +213,7 @@ pub fn are_answered(
     calls: &[Call],
     mut observers: Vec<Box<dyn Observer>>,
 ) -> Result<bool, Fail> {
-    let mut bus = Bus::new(alloc)?;
+    let mut bus = Bus::new(alloc, Vec::with_capacity(alloc, SEATS)?)?;
     'calls: for call in calls {
         if !is_right_with(&mut bus, alloc, plane, call, &mut observers) {
             return Ok(false);

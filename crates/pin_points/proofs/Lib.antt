@@ -1,6 +1,5 @@
 pub mod Counted
 pub mod Spotted
-pub mod Parted
 pub mod Pinning
 pub mod Unpinning
 pub mod Fullness

@@ -23,13 +23,16 @@ use Rattle.arr_notes.specs.ViewChanges.{with_pin}
 use Rattle.arr_notes.specs.Curves.{Curves}
 use Rattle.curve_history.specs.Past.{Past, curves_on, SameLayer}
 use Rattle.arr_notes.specs.RecordGraph.{drawn_graph}
-use Rattle.record_layers.specs.RecordLayers.{IsLayer, layer_of, IsRunOfSteps}
+use Rattle.observer_bus.specs.Rounds.{BusRow}
+use Rattle.record_layers.specs.RecordLayers.{IsLayer, layer_of}
 use Rattle.record_layers.proofs.Layers.{steps_make_layers}
 use Rattle.sound_changes.proofs.StepHolds.{point_held, held_point}
 use Rattle.redundant_vertices.specs.Tidied.{IsTidied}
+use Rattle.told_steps.proofs.ToldTogether.{told_runs_lawful}
+use Rattle.told_steps.specs.ToldRuns.{IsToldRun}
 use Rattle.pin_points.proofs.Pinning.{graph_points}
 use Rattle.pin_points.proofs.Spotted.{pinned_vertex}
-use Rattle.pin_points.proofs.Unpinning.{all_steps, loose_steps, goes, unpin_made}
+use Rattle.pin_points.proofs.Unpinning.{all_steps, loose_steps, goes, unpin_told}
 use Rattle.integers.proofs.Tests.{not_true}
 
 -- ---- a point that a graph passes straight through, by its marks alone
@@ -139,11 +142,13 @@ module _ (v : View) (r : Past) (l : IsLayer v r) where
       accepted : IsAcceptedBy (Merge p) o
       accepted = accepted_by o.present l.lawful.fit p can_merge
 
-      pub merge_made : (x : View) (k : Curves) → IsTidied (with_pin v w false) h (point_in (with_pin v w false) w) x k → IsRunOfSteps v h (steps (Merge p) o.present) x k
-      merge_made x k t =
-          subst (λ ss. IsRunOfSteps v h ss x k) (merge_steps_are o.present l.lawful.fit p there through)
-          (subst (λ z. IsRunOfSteps v h (steps (Unpin z) o.present) x k) at (unpin_made v r l w has pin x k t))
+      module _ (z : View) (is : z ≡ with_pin v w false) (b c : BusRow) (told : IsToldRun v h b (ClearPin (point_in v w) ∷ []) z h c) (x : View) (q : Past) (d : BusRow) (t : IsTidied z h c (point_in z w) x (curves_on q) d) where
+        pub merge_told : IsToldRun v h b (steps (Merge p) o.present) x (curves_on q) d
+        merge_told =
+            told_runs_lawful.same_steps v h b (steps (Unpin (point_in v w)) o.present) (steps (Merge p) o.present) x (curves_on q) d
+            (ap (λ y. steps (Unpin y) o.present) at ∙ merge_steps_are o.present l.lawful.fit p there through)
+            (unpin_told v r l w has pin z is b c told x q d t)
 
-      pub merge_layer : (y : View) (q : Past) → IsRunOfSteps v h (steps (Merge p) o.present) y (curves_on q) → SameLayer r q → IsLayer y q × (layer_of y q ≡ layer_after (Merge p) o)
-      unfolding after
-      merge_layer y q made n = steps_make_layers (Merge p) v r y q l accepted made n.pieces n.names n.next
+        pub merge_layer : SameLayer r q → IsLayer x q × (layer_of x q ≡ layer_after (Merge p) o)
+        unfolding after
+        merge_layer n = steps_make_layers (Merge p) v r x q l accepted (told_runs_lawful.steps v h b (steps (Merge p) o.present) x (curves_on q) d merge_told) n.pieces n.names n.next

@@ -1,5 +1,5 @@
 -- One more pin: its steps, and the layer after it.
-use Rattle.std.proofs.Common.{◌≡◌, true, false, List, [], ◌∷◌, ◌++◌, length, refl, sym, ap, ◌∙◌, subst}
+use Rattle.std.proofs.Common.{◌≡◌, false, List, [], ◌∷◌, ◌++◌, length, refl, sym, ap, ◌∙◌, subst}
 use Rattle.std.specs.List.{list_any, filter}
 use Rattle.exact_plane.specs.Point.{Point}
 use Rattle.plane_graphs.specs.Graph.{graph, vertices}
@@ -12,27 +12,24 @@ use Rattle.edit_steps.specs.Steps.{Step, SetPin as SetPinAt, missing_points, pin
 use Rattle.edit_steps.proofs.Laws.{are_sound}
 use Rattle.edit_steps.proofs.Folds.{first_sound}
 use Rattle.slab_laws.specs.declared.names.VertexId.{VertexId}
-use Rattle.slab_laws.specs.Sound.{IsGraphSound}
-use Rattle.slab_laws.specs.View.{View}
-use Rattle.arr_notes.specs.ViewChanges.{with_pin}
-use Rattle.arr_notes.specs.declared.change.Change.TheVariants.{SetPin}
-use Rattle.arr_notes.specs.Curves.{Curves, AreCurvesOf}
+use Rattle.slab_laws.specs.View.{View, point_in}
+use Rattle.arr_notes.specs.Curves.{Curves}
 use Rattle.curve_history.specs.Past.{Past, curves_on, SameLayer}
 use Rattle.arr_notes.specs.RecordGraph.{drawn_graph}
+use Rattle.observer_bus.specs.Rounds.{BusRow}
 use Rattle.sound_views.specs.RecordGraphLaws.{IsVertexAt}
-use Rattle.record_layers.specs.RecordLayers.{IsLayer, layer_of, IsRunOfSteps}
+use Rattle.record_layers.specs.RecordLayers.{IsLayer, layer_of}
 use Rattle.record_layers.proofs.Layers.{steps_make_layers}
-use Rattle.record_layers.proofs.Runs.{made_in_turn, made_is_run, made_by}
-use Rattle.sound_changes.proofs.VertexAdded.{pinned}
-use Rattle.pin_points.specs.Pins.{new_vertex_steps}
+use Rattle.told_steps.proofs.ToldTogether.{told_runs_lawful}
+use Rattle.told_steps.specs.ToldRuns.{IsToldRun}
+use Rattle.pin_points.specs.Pins.{HasBecomeVertex, new_vertex_steps}
 use Rattle.pin_points.proofs.Counted.{pins_counted}
 
--- ---- a new vertex is pinned
-pub pinned_on : (v : View) (h : Curves) (ss : List Step) → IsGraphSound v → AreCurvesOf v h → (x : View) (k : Curves) → IsRunOfSteps v h ss x k → (p : Point) (w : VertexId) → IsVertexAt x p w → (y : View) → y ≡ with_pin x w true → IsRunOfSteps v h (ss ++ (SetPinAt p ∷ [])) y k
-pinned_on v h ss s a x k made p w at y set =
-    let x_sound = (made_is_run v h ss x k s a made).sound in
-    let y_sound = subst IsGraphSound (sym set) (pinned x w true x_sound) in
-    made_in_turn v h ss (SetPinAt p ∷ []) x k y k made (made_by x k (SetPinAt p) (SetPin w) y k at.has (ap SetPinAt at.at) y_sound set (λ d. refl))
+-- ---- a vertex at the point is pinned, after other steps
+pub pinned_on : (v : View) (h : Curves) (b : BusRow) (ss : List Step) (x : View) (k : Curves) (c : BusRow) → IsToldRun v h b ss x k c → (p : Point) (w : VertexId) → IsVertexAt x p w → (y : View) (l : Curves) (d : BusRow) → IsToldRun x k c (SetPinAt (point_in x w) ∷ []) y l d → IsToldRun v h b (ss ++ (SetPinAt p ∷ [])) y l d
+pinned_on v h b ss x k c told p w at y l d set =
+    told_runs_lawful.follow v h b ss (SetPinAt p ∷ []) x k c y l d told
+    (told_runs_lawful.same_steps x k c (SetPinAt (point_in x w) ∷ []) (SetPinAt p ∷ []) y l d (ap (λ z. SetPinAt z ∷ []) at.at) set)
 
 -- ---- its steps
 
@@ -66,13 +63,15 @@ module _ (v : View) (q : Past) (l : IsLayer v q) (p : Point) (proper : IsProper 
         let k = are_sound (Pin p) o.present l.lawful.fit accepted in
         subst (λ g. AreSound (new_vertex_steps p g) g) (sym l.stands) (first_sound (new_vertex_steps p (graph o.present)) (SetPinAt p ∷ []) (graph o.present) (subst (λ ss. AreSound ss (graph o.present)) (pin_steps_are o.present p) k))
 
-    pub pin_made : (x : View) (k : Curves) → IsRunOfSteps v h (new_vertex_steps p (drawn_graph v h)) x k → (w : VertexId) → IsVertexAt x p w → (y : View) → y ≡ with_pin x w true → IsRunOfSteps v h (steps (Pin p) o.present) y k
-    pin_made x k made w at y set =
-        subst (λ ss. IsRunOfSteps v h ss y k) (sym steps_are) (pinned_on v h (new_vertex_steps p (drawn_graph v h)) l.sound l.curves x k made p w at y set)
+    module _ (b : BusRow) (x : View) (k : Curves) (c : BusRow) (told : HasBecomeVertex v h b p x k c) (w : VertexId) (at : IsVertexAt x p w) (y : View) (r : Past) (d : BusRow) (set : IsToldRun x k c (SetPinAt (point_in x w) ∷ []) y (curves_on r) d) where
+      pub pin_told : IsToldRun v h b (steps (Pin p) o.present) y (curves_on r) d
+      pin_told =
+          told_runs_lawful.same_steps v h b (new_vertex_steps p (drawn_graph v h) ++ (SetPinAt p ∷ [])) (steps (Pin p) o.present) y (curves_on r) d (sym steps_are)
+          (pinned_on v h b (new_vertex_steps p (drawn_graph v h)) x k c told p w at y (curves_on r) d set)
 
-    pub pin_layer : (y : View) (r : Past) → IsRunOfSteps v h (steps (Pin p) o.present) y (curves_on r) → SameLayer q r → IsLayer y r × (layer_of y r ≡ layer_after (Pin p) o)
-    unfolding after
-    pin_layer y r made n = steps_make_layers (Pin p) v q y r l accepted made n.pieces n.names n.next
+      pub pin_layer : SameLayer q r → IsLayer y r × (layer_of y r ≡ layer_after (Pin p) o)
+      unfolding after
+      pin_layer n = steps_make_layers (Pin p) v q y r l accepted (told_runs_lawful.steps v h b (steps (Pin p) o.present) y (curves_on r) d pin_told) n.pieces n.names n.next
 
   -- ---- how many pins there are
   pub counted : length o.present.pins ≡ length (filter (λ r. r.1.pinned) v.vertices)

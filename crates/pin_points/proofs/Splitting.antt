@@ -11,23 +11,25 @@ use Rattle.plane_graphs.proofs.Lists.{and_in, any_in, any_out, clash}
 use Rattle.plane_graphs.proofs.Order.{same_in, same_out}
 use Rattle.edit_steps.specs.Edits.{Split, IsAccepted, after, steps}
 use Rattle.edit_steps.specs.Layer.{Layer, IsAcceptedBy, layer_after}
-use Rattle.edit_steps.specs.Steps.{SplitEdge, split_steps}
+use Rattle.edit_steps.specs.Steps.{SetPin, SplitEdge, split_steps}
 use Rattle.slab_laws.specs.declared.names.DartId.{DartId}
 use Rattle.slab_laws.specs.declared.names.VertexId.{VertexId}
 use Rattle.slab_laws.specs.Skeleton.{inside as is_inside_edge}
 use Rattle.slab_laws.specs.Sound.{edge_in}
 use Rattle.slab_laws.specs.View.{View, point_in, source_in, target_in}
-use Rattle.arr_notes.specs.ViewChanges.{with_pin}
 use Rattle.arr_notes.specs.Curves.{Curves}
 use Rattle.curve_history.specs.Past.{Past, curves_on, SameLayer}
 use Rattle.arr_notes.specs.RecordGraph.{drawn_graph}
+use Rattle.observer_bus.specs.Rounds.{BusRow}
 use Rattle.sound_views.specs.RecordGraphLaws.{IsMarkOf, IsVertexAt}
-use Rattle.record_layers.specs.RecordLayers.{IsLayer, layer_of, IsRunOfSteps}
+use Rattle.record_layers.specs.RecordLayers.{IsLayer, layer_of}
 use Rattle.record_layers.proofs.Layers.{steps_make_layers}
 use Rattle.sound_changes.proofs.StepHolds.{held_mark}
 use Rattle.record_orders.specs.Edges.{IsDartAlong, RunsBetween}
 use Rattle.record_orders.proofs.EdgeEnds.{ahead, along_runs, edge_of_ends}
 use Rattle.redundant_vertices.proofs.Passed.{mark_there}
+use Rattle.told_steps.proofs.ToldTogether.{told_runs_lawful}
+use Rattle.told_steps.specs.ToldRuns.{IsToldRun}
 use Rattle.pin_points.proofs.Pinning.{counted, pinned_on}
 use Rattle.pin_points.proofs.Spotted.{mark_inside, inside_edge}
 use Rattle.integers.proofs.Tests.{not_true}
@@ -91,15 +93,16 @@ module _ (v : View) (q : Past) (l : IsLayer v q) (e : Edge) where
         unfolding IsAccepted
         accepted = (proper, is_inside i)
 
-        pub split_made : (x : View) (k : Curves) → IsRunOfSteps v h (SplitEdge (point_in v (source_in v d)) (point_in v (target_in v d)) r ∷ []) x k → (w : VertexId) → IsVertexAt x r w → (y : View) → y ≡ with_pin x w true → IsRunOfSteps v h (steps (Split e.low e.high r) o.present) y k
-        unfolding steps split_steps
-        split_made x k made w at y set =
-            pinned_on v h (SplitEdge e.low e.high r ∷ []) l.sound l.curves x k
-            (subst (λ ss. IsRunOfSteps v h ss x k) (λ j. SplitEdge (runs.starts j) (runs.ends j) r ∷ []) made) r w at y set
+        module _ (b : BusRow) (x : View) (k : Curves) (c : BusRow) (told : IsToldRun v h b (SplitEdge (point_in v (source_in v d)) (point_in v (target_in v d)) r ∷ []) x k c) (w : VertexId) (at : IsVertexAt x r w) (y : View) (t : Past) (f : BusRow) (set : IsToldRun x k c (SetPin (point_in x w) ∷ []) y (curves_on t) f) where
+          pub split_told : IsToldRun v h b (steps (Split e.low e.high r) o.present) y (curves_on t) f
+          unfolding steps split_steps
+          split_told =
+              pinned_on v h b (SplitEdge e.low e.high r ∷ []) x k c
+              (told_runs_lawful.same_steps v h b _ _ x k c (λ j. SplitEdge (runs.starts j) (runs.ends j) r ∷ []) told) r w at y (curves_on t) f set
 
-        pub split_layer : (y : View) (t : Past) → IsRunOfSteps v h (steps (Split e.low e.high r) o.present) y (curves_on t) → SameLayer q t → IsLayer y t × (layer_of y t ≡ layer_after (Split e.low e.high r) o)
-        unfolding after
-        split_layer y t made n = steps_make_layers (Split e.low e.high r) v q y t l accepted made n.pieces n.names n.next
+          pub split_layer : SameLayer q t → IsLayer y t × (layer_of y t ≡ layer_after (Split e.low e.high r) o)
+          unfolding after
+          split_layer n = steps_make_layers (Split e.low e.high r) v q y t l accepted (told_runs_lawful.steps v h b (steps (Split e.low e.high r) o.present) y (curves_on t) f split_told) n.pieces n.names n.next
 
   -- ---- whether one more pin passes the limit
   pub limit_met : (limit : ℕ) (r : Point) → IsProper r → (b : Bool) → nat_le limit (length (filter (λ u. u.1.pinned) v.vertices)) ≡ b → nat_le limit (length o.present.pins) ≡ b

@@ -22,20 +22,20 @@ use Rattle.edit_steps.specs.Steps.{ClearPin as ClearPinAt, apply, run, missing_p
 use Rattle.edit_steps.proofs.Edits.{fit_unpin, unpin_sub}
 use Rattle.edit_steps.proofs.Seen.{loose_is_no_vertex}
 use Rattle.slab_laws.specs.declared.names.VertexId.{VertexId}
-use Rattle.slab_laws.specs.Sound.{IsGraphSound}
 use Rattle.slab_laws.specs.View.{View, HasVertex, point_in, pinned_in}
 use Rattle.arr_notes.specs.Reads.{IsPinSet}
 use Rattle.arr_notes.specs.ViewChanges.{with_pin}
 use Rattle.arr_notes.proofs.VertexReads.{pin_is_set}
 use Rattle.arr_notes.specs.declared.change.Change.TheVariants.{ClearPin}
-use Rattle.arr_notes.specs.Curves.{Curves, AreCurvesOf}
+use Rattle.arr_notes.specs.Curves.{Curves}
 use Rattle.curve_history.specs.Past.{Past, curves_on, SameLayer}
 use Rattle.arr_notes.specs.RecordGraph.{drawn_graph}
-use Rattle.sound_changes.specs.StepLaws.{IsApplied}
+use Rattle.observer_bus.specs.Rounds.{BusRow}
 use Rattle.sound_changes.proofs.ChangesAreSteps.{changes_are_steps}
-use Rattle.record_layers.specs.RecordLayers.{IsLayer, layer_of, IsRunOfSteps}
+use Rattle.record_layers.specs.RecordLayers.{IsLayer, layer_of}
 use Rattle.record_layers.proofs.Layers.{steps_make_layers}
-use Rattle.sound_changes.proofs.VertexAdded.{pinned as pin_sound}
+use Rattle.told_steps.proofs.ToldTogether.{told_runs_lawful}
+use Rattle.told_steps.specs.ToldRuns.{IsToldRun}
 use Rattle.redundant_vertices.specs.Tidied.{IsTidied}
 use Rattle.pin_points.proofs.Spotted.{pinned_vertex}
 
@@ -154,41 +154,40 @@ module _ (v : View) (r : Past) (l : IsLayer v r) (w : VertexId) (has : HasVertex
   set : IsPinSet v v1 w false
   set = pin_is_set v w false
 
-  cleared : IsApplied v h (ClearPin w)
-  cleared = changes_are_steps v h (ClearPin w) l.sound l.curves has
-
-  pub clear_sound : IsGraphSound v1
-  clear_sound = pin_sound v w false l.sound
-
-  pub clear_curves : AreCurvesOf v1 h
-  clear_curves = cleared.curves
-
-  pub clear_has : HasVertex v1 w
-  clear_has = set.has w has
-
-  pub clear_unpinned : pinned_in v1 w ≡ false
-  clear_unpinned = set.pinned has
-
   abbrev rest : Graph
   rest = graph_over (vertices o.present) o.present.pieces (without_pin o.present p).pins
 
   drawn : drawn_graph v1 h ≡ rest
-  drawn = cleared.graph ∙ ap (apply (ClearPinAt p)) l.stands ∙ cleared_graph o.present p
+  drawn = (changes_are_steps v h (ClearPin w) l.sound l.curves has).graph ∙ ap (apply (ClearPinAt p)) l.stands ∙ cleared_graph o.present p
 
-  -- ---- and tidied
-  module _ (x : View) (k : Curves) (t : IsTidied v1 h (point_in v1 w) x k) where
-    tidied : IsTidied v1 h p x k
-    tidied = subst (λ z. IsTidied v1 h z x k) (set.point w) t
+  module _ (z : View) (is : z ≡ v1) where
+    pub clear_has : HasVertex z w
+    clear_has = subst (λ y. HasVertex y w) (sym is) (set.has w has)
 
-    tidy_made : IsRunOfSteps v1 h (tidy_steps (missing_points (vertices o.present) (vertices (without_pin o.present p))) rest) x k
-    tidy_made = elim tidied [
-      | inl e ↦ subst (λ ss. IsRunOfSteps v1 h ss x k) (sym (loose_steps o.present l.lawful.fit p there (subst (λ g. IsLoose g p) drawn e.0))) (subst (λ g. IsRunOfSteps v1 h (tidy_step p g ∷ []) x k) drawn e.1)
-      | inr e ↦ subst (λ ss. IsRunOfSteps v1 h ss x k) (sym (held_steps o.present l.lawful.fit p there (λ i. e.0 (subst (λ g. IsLoose g p) (sym drawn) i)))) e.1
-    ]
+    pub clear_unpinned : pinned_in z w ≡ false
+    clear_unpinned = subst (λ y. pinned_in y w ≡ false) (sym is) (set.pinned has)
 
-    pub unpin_made : IsRunOfSteps v h (steps (Unpin p) o.present) x k
-    unpin_made = subst (λ ss. IsRunOfSteps v h ss x k) (sym (all_steps o.present l.lawful.fit p there)) (ClearPin w, record { fits = has; tells = refl; sound = clear_sound }, tidy_made)
+    -- ---- and tidied
+    module _ (b c : BusRow) (told : IsToldRun v h b (ClearPinAt p ∷ []) z h c) (x : View) (q : Past) (d : BusRow) (t : IsTidied z h c (point_in z w) x (curves_on q) d) where
+      abbrev k : Curves
+      k = curves_on q
 
-  pub unpin_layer : (y : View) (q : Past) → IsRunOfSteps v h (steps (Unpin p) o.present) y (curves_on q) → SameLayer r q → IsLayer y q × (layer_of y q ≡ layer_after (Unpin p) o)
-  unfolding after
-  unpin_layer y q made n = steps_make_layers (Unpin p) v r y q l accepted made n.pieces n.names n.next
+      tidied : IsTidied v1 h c p x k d
+      tidied = subst (λ y. IsTidied v1 h c y x k d) (set.point w) (subst (λ y. IsTidied y h c (point_in y w) x k d) is t)
+
+      tidy_told : IsToldRun v1 h c (tidy_steps (missing_points (vertices o.present) (vertices (without_pin o.present p))) rest) x k d
+      tidy_told = elim tidied [
+        | inl e ↦
+            told_runs_lawful.same_steps v1 h c (tidy_step p (drawn_graph v1 h) ∷ []) _ x k d
+            (ap (λ g. tidy_step p g ∷ []) drawn ∙ sym (loose_steps o.present l.lawful.fit p there (subst (λ g. IsLoose g p) drawn e.0))) e.1
+        | inr e ↦ told_runs_lawful.same_steps v1 h c [] _ x k d (sym (held_steps o.present l.lawful.fit p there (λ i. e.0 (subst (λ g. IsLoose g p) (sym drawn) i)))) e.1
+      ]
+
+      pub unpin_told : IsToldRun v h b (steps (Unpin p) o.present) x k d
+      unpin_told =
+          told_runs_lawful.same_steps v h b (ClearPinAt p ∷ tidy_steps (missing_points (vertices o.present) (vertices (without_pin o.present p))) rest) _ x k d (sym (all_steps o.present l.lawful.fit p there))
+          (told_runs_lawful.follow v h b (ClearPinAt p ∷ []) (tidy_steps (missing_points (vertices o.present) (vertices (without_pin o.present p))) rest) v1 h c x k d (subst (λ y. IsToldRun v h b (ClearPinAt p ∷ []) y h c) is told) tidy_told)
+
+      pub unpin_layer : SameLayer r q → IsLayer x q × (layer_of x q ≡ layer_after (Unpin p) o)
+      unfolding after
+      unpin_layer n = steps_make_layers (Unpin p) v r x q l accepted (told_runs_lawful.steps v h b (steps (Unpin p) o.present) x k d unpin_told) n.pieces n.names n.next

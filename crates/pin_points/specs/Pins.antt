@@ -4,16 +4,16 @@ use Rattle.exact_plane.specs.Point.{Point}
 use Rattle.plane_graphs.specs.Graph.{Graph}
 use Rattle.edit_steps.specs.Refusals.{Refusal, Full as Passed, Pinned as Again, NotPinned as Bare}
 use Rattle.edit_steps.specs.Allowed.{AreSound}
-use Rattle.edit_steps.specs.Steps.{Step, SplitEdge, missing_points, vertex_steps}
-use Rattle.slab_laws.specs.declared.names.DartId.{DartId}
-use Rattle.slab_laws.specs.View.{View, point_in, source_in, target_in, pinned_in}
+use Rattle.edit_steps.specs.Steps.{Step, missing_points, vertex_steps}
+use Rattle.slab_laws.specs.View.{View, pinned_in}
 use Rattle.arr_notes.specs.Curves.{Curves}
 use Rattle.dcel_records.specs.RecordsView.{RecordsView}
 use Rattle.dcel_records.specs.declared.spot.Spot.{Spot}
 use Rattle.dcel_records.specs.declared.spot.Spot.TheVariants.{Vertex, Edge}
 use Rattle.curve_history.specs.Past.{Past, curves_on}
 use Rattle.arr_notes.specs.RecordGraph.{drawn_graph}
-use Rattle.record_layers.specs.RecordLayers.{IsRunOfSteps}
+use Rattle.observer_bus.specs.Rounds.{BusRow}
+use Rattle.told_steps.specs.ToldRuns.{IsToldRun}
 use Rattle.pin_points.specs.declared.pins.PinError.{PinError}
 use Rattle.pin_points.specs.declared.pins.PinError.TheVariants.{Pinned, Full, NoMemory}
 use Rattle.pin_points.specs.declared.pins.NotPinned.{NotPinned}
@@ -52,11 +52,6 @@ new_vertex_steps p g = vertex_steps (missing_points (p ∷ []) g.points) g
 abbrev pub MayBecomeVertex : Point → Graph → Type 0
 MayBecomeVertex p g = AreSound (new_vertex_steps p g) g
 
--- the point has become a vertex, by just these steps
-abbrev pub HasBecomeVertex : View → Curves → Point → View → Curves → Type 0
-HasBecomeVertex v h p w k = IsRunOfSteps v h (new_vertex_steps p (drawn_graph v h)) w k
-
--- the edge of the dart is split at the point, by its one step (CGAL manual, `split_edge`)
-abbrev pub IsSplitAt : View → Curves → DartId → Point → View → Curves → Type 0
-IsSplitAt v h d p w k =
-    IsRunOfSteps v h (SplitEdge (point_in v (source_in v d)) (point_in v (target_in v d)) p ∷ []) w k
+-- the point has become a vertex, by just these steps, each told
+abbrev pub HasBecomeVertex : View → Curves → BusRow → Point → View → Curves → BusRow → Type 0
+HasBecomeVertex v h b p w k c = IsToldRun v h b (new_vertex_steps p (drawn_graph v h)) w k c

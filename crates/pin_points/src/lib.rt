@@ -2,7 +2,8 @@
 //! unpinned (this project).
 //!
 //! An edge is split at a pin, and two edges become one without it (CGAL manual, `split_edge` and `merge_edge`); and all of an
-//! arrangement goes.
+//! arrangement goes. Each step of an accepted edit is told to observers, before it and after it; of a refused one nothing is
+//! (CGAL manual, `Arr_observer`).
 #![tactic(auto)]
 
 mod clear_all;

@@ -5,15 +5,20 @@ ghost use Rattle.dcel_records.specs.RecordsView.{SameRecordCapacity};
 ghost use Rattle.curve_history.specs.Past.{SameLayer, SameCurves, SameHistoryCapacity};
 ghost use Rattle.record_layers.specs.RecordLayers.{IsLayer};
 ghost use Rattle.pin_points.specs.Merges.{merge_said};
-ghost use Rattle.record_layers.specs.LayerEdits.{layer_at, IsAfter, Makes};
+ghost use Rattle.observer_bus.specs.Rows.{bus_of};
+ghost use Rattle.told_steps.specs.ToldEdits.{AreWatched, IsToldEdit};
+ghost use Rattle.record_layers.specs.LayerEdits.{layer_at, IsAfter};
 
 use curve_history::History;
 use dcel_records::Records;
 use exact_plane::Point;
 use locate_naive::vertex_at;
+use observer_bus::Bus;
 use redundant_vertices::{is_mergeable, remove_if_redundant};
 use slab_laws::Darts;
+use std::alloc::Global;
 use thiserror::Error;
+use told_steps::clear_pin;
 
 /// Why two edges don't become one at a point.
 #[derive(Clone, Copy, Debug, PartialEq, Eq, Error)]
@@ -27,18 +32,27 @@ pub enum MergeError {
 }
 
 /// A pinned point inside what would be one edge without it is unpinned, and its two edges become one (CGAL manual,
-/// `merge_edge`; the pin: this project). It takes no memory.
-pub fn merge_edge(records: &mut Records, history: &mut History, r: &Point) -> Result<(), MergeError>
+/// `merge_edge`; the pin: this project). Where no observer joins it takes no memory of its own.
+pub fn merge_edge(
+    alloc: Global,
+    records: &mut Records,
+    history: &mut History,
+    bus: &mut Bus,
+    r: &Point,
+) -> Result<(), MergeError>
     requires layer { IsLayer records.old.graph history.old }
+    requires watched { AreWatched records.old history.old (bus_of tells held left heard bus.old) }
     ensures layer { IsLayer records.new.graph history.new }
+    ensures watched { AreWatched records.new history.new (bus_of tells held left heard bus.new) }
     ensures edit { OnOk result (IsAfter (Merge r.now) records.old history.old records.new history.new) }
-    ensures steps { OnOk result (Makes (Merge r.now) records.old history.old records.new history.new) }
+    ensures told { OnOk result (IsToldEdit (Merge r.now) records.old history.old (bus_of tells held left heard bus.old) records.new history.new (bus_of tells held left heard bus.new)) }
     ensures refused { IsAnswerFor merge_said (merge_refusal (layer_at records.old history.old) r.now) result }
     ensures graph { OnErr result (records.new.graph ≡ records.old.graph) }
     ensures same_layer { OnErr result (SameLayer history.old history.new) }
     ensures same_curves { OnErr result (SameCurves history.old history.new) }
     ensures records_capacity { SameRecordCapacity records.old records.new }
     ensures history_capacity { SameHistoryCapacity history.old history.new }
+    ensures untold { OnErr result (bus_of tells held left heard bus.new ≡ bus_of tells held left heard bus.old) }
 {
     let Some(vertex) = vertex_at(&*records, r) else {
         return Err(MergeError::NoVertex);
@@ -49,7 +63,8 @@ pub fn merge_edge(records: &mut Records, history: &mut History, r: &Point) -> Re
     if !is_mergeable(&*records, &*history, vertex) {
         return Err(MergeError::NotMergeable);
     }
-    records.clear_pin(vertex);
-    remove_if_redundant(records, history, vertex);
+    bus.begin();
+    clear_pin(alloc, records, &*history, bus, vertex);
+    remove_if_redundant(alloc, records, history, bus, vertex);
     Ok(())
 }

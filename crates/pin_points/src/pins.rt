@@ -1,32 +1,31 @@
-ghost use Rattle.std.specs.Prelude.{◌≡◌, ◌≢◌, ◌≤◌, [], ◌∷◌, length, nat_le, Err, IsOk, OnOk, OnErr};
+ghost use Rattle.std.specs.Prelude.{◌≡◌, ◌≢◌, ◌≤◌, length, nat_le, Err, IsOk, OnOk, OnErr};
 ghost use Rattle.std.specs.List.{filter};
 ghost use Rattle.plane_graphs.specs.Line.{IsProper};
 ghost use Rattle.edit_steps.specs.Edits.{Pin, Unpin};
 ghost use Rattle.edit_steps.specs.Refusals.{pin_refusal, unpin_refusal, IsAnswerFor};
-ghost use Rattle.edit_steps.specs.Steps.{SplitEdge};
-ghost use Rattle.slab_laws.specs.Sound.{IsGraphSound};
 ghost use Rattle.dcel_records.specs.RecordsView.{SameRecordCapacity};
 ghost use Rattle.dcel_records.specs.Spots.{IsSpotOf};
-ghost use Rattle.arr_notes.specs.Curves.{AreCurvesOf};
-ghost use Rattle.edge_split_merge.specs.Splits.{CanSplit};
 ghost use Rattle.arr_notes.specs.RecordGraph.{drawn_graph};
 ghost use Rattle.sound_views.specs.RecordGraphLaws.{IsVertexAt};
 ghost use Rattle.curve_history.specs.Past.{curves_on, SameLayer, SameCurves, SameHistoryCapacity};
 ghost use Rattle.record_layers.specs.RecordLayers.{IsLayer};
-ghost use Rattle.pin_points.specs.Pins.{pin_said, unpin_said, is_pinned_spot, pairs_parted, HasRoomFor, MayBecomeVertex, HasBecomeVertex, IsSplitAt};
-ghost use Rattle.record_layers.specs.LayerEdits.{layer_at, IsAfter, Makes};
+ghost use Rattle.pin_points.specs.Pins.{pin_said, unpin_said, is_pinned_spot, pairs_parted, HasRoomFor, MayBecomeVertex, HasBecomeVertex};
+ghost use Rattle.observer_bus.specs.Rows.{bus_of};
+ghost use Rattle.told_steps.specs.ToldEdits.{AreWatched, IsToldEdit};
+ghost use Rattle.told_steps.specs.ToldRuns.{AreInStep};
+ghost use Rattle.record_layers.specs.LayerEdits.{layer_at, IsAfter};
 
-use arr_notes::Change;
 use curve_history::History;
 use dcel_records::{Records, Room, Spot};
-use edge_split_merge::split;
 use exact_plane::Point;
 use locate_naive::vertex_at;
 use no_memory::NoMemory;
+use observer_bus::Bus;
 use redundant_vertices::remove_if_redundant;
-use slab_laws::{DartId, Darts, VertexId};
+use slab_laws::{Darts, VertexId};
 use std::alloc::Global;
 use thiserror::Error;
+use told_steps::{add_vertex, clear_pin, set_pin, split_edge};
 
 /// Why a point isn't pinned.
 #[derive(Clone, Copy, Debug, PartialEq, Eq, Error)]
@@ -105,73 +104,58 @@ pub(crate) fn make_room(
     history.reserve(0, 0, pairs)
 }
 
-/// The edge of the dart is split at the point, and both parts have its curves.
-pub(crate) fn part_edge(
+// The point becomes a vertex where it is none, in room that is there, by a told step.
+fn make_vertex(
+    alloc: Global,
     records: &mut Records,
     history: &mut History,
-    d: DartId,
+    bus: &mut Bus,
+    at: Spot,
     p: Point,
 ) -> VertexId
-    requires sound { IsGraphSound records.old.graph }
-    requires curves { AreCurvesOf records.old.graph (curves_on history.old) }
-    requires point { IsProper p }
-    requires fits { CanSplit records.old.graph d p }
-    requires vertices { 1 ≤ records.old.spare_vertices }
-    requires darts { 2 ≤ records.old.spare_darts }
-    requires pairs { length (curves_on history.old d) ≤ history.old.spare_pairs }
-    ensures made { IsSplitAt records.old.graph (curves_on history.old) d p records.new.graph (curves_on history.new) }
-    ensures vertex { IsVertexAt records.new.graph p result }
-    ensures layer { SameLayer history.old history.new }
-{
-    let change = split(records, d, p);
-    let Change::SplitEdge { v, n, .. } = change else {
-        unreachable!()
-    };
-    history.part(d, n);
-    v
-}
-
-// The point becomes a vertex where it is none, in room that is there.
-fn make_vertex(records: &mut Records, history: &mut History, at: Spot, p: Point) -> VertexId
-    requires sound { IsGraphSound records.old.graph }
-    requires curves { AreCurvesOf records.old.graph (curves_on history.old) }
+    requires in_step { AreInStep records.old.graph (curves_on history.old) (bus_of tells held left heard bus.old) }
     requires point { IsProper p }
     requires spot { IsSpotOf records.old.graph p at }
     requires plane { MayBecomeVertex p (drawn_graph records.old.graph (curves_on history.old)) }
     requires vertices { 1 ≤ records.old.spare_vertices }
     requires darts { 2 ≤ records.old.spare_darts }
     requires pairs { pairs_parted history.old at ≤ history.old.spare_pairs }
-    ensures made { HasBecomeVertex records.old.graph (curves_on history.old) p records.new.graph (curves_on history.new) }
+    ensures told { HasBecomeVertex records.old.graph (curves_on history.old) (bus_of tells held left heard bus.old) p records.new.graph (curves_on history.new) (bus_of tells held left heard bus.new) }
+    ensures in_step { AreInStep records.new.graph (curves_on history.new) (bus_of tells held left heard bus.new) }
     ensures vertex { IsVertexAt records.new.graph p result }
     ensures layer { SameLayer history.old history.new }
 {
     match at {
         Spot::Vertex(vertex) => vertex,
-        Spot::Edge(d) => part_edge(records, history, d, p),
-        Spot::Face => records.add_vertex(p),
+        Spot::Edge(d) => split_edge(alloc, records, history, bus, d, p),
+        Spot::Face => add_vertex(alloc, records, &*history, bus, p),
     }
 }
 
-/// The point becomes a vertex where it is none, and is pinned; `at` is its spot, `pins` the limit of pins. All memory is taken
-/// before the first change.
+/// The point becomes a vertex where it is none, and is pinned; `at` is its spot, `pins` the limit of pins. All memory of its own
+/// is taken before the first change.
 pub fn pin(
     alloc: Global,
     records: &mut Records,
     history: &mut History,
+    bus: &mut Bus,
     pins: u32,
     at: Spot,
     p: &Point,
 ) -> Result<(), PinError>
     requires layer { IsLayer records.old.graph history.old }
+    requires watched { AreWatched records.old history.old (bus_of tells held left heard bus.old) }
     requires spot { IsSpotOf records.old.graph p.now at }
     ensures layer { IsLayer records.new.graph history.new }
+    ensures watched { AreWatched records.new history.new (bus_of tells held left heard bus.new) }
     ensures edit { OnOk result (IsAfter (Pin p.now) records.old history.old records.new history.new) }
-    ensures steps { OnOk result (Makes (Pin p.now) records.old history.old records.new history.new) }
+    ensures told { OnOk result (IsToldEdit (Pin p.now) records.old history.old (bus_of tells held left heard bus.old) records.new history.new (bus_of tells held left heard bus.new)) }
     ensures refused { IsAnswerFor pin_said (pin_refusal pins (layer_at records.old history.old) p.now) result }
     ensures room { HasRoomFor at records.old history.old → result ≢ Err PinError.NoMemory }
     ensures graph { OnErr result (records.new.graph ≡ records.old.graph) }
     ensures same_layer { OnErr result (SameLayer history.old history.new) }
     ensures same_curves { OnErr result (SameCurves history.old history.new) }
+    ensures untold { OnErr result (bus_of tells held left heard bus.new ≡ bus_of tells held left heard bus.old) }
 {
     // A call on the point tells that its numbers are a point's.
     let _weight = p.w();
@@ -182,24 +166,34 @@ pub fn pin(
         return Err(PinError::Full(pins));
     }
     make_room(records, history, at)?;
-    let vertex = make_vertex(records, history, at, *p);
-    records.set_pin(vertex);
+    bus.begin();
+    let vertex = make_vertex(alloc, records, history, bus, at, *p);
+    set_pin(alloc, records, &*history, bus, vertex);
     Ok(())
 }
 
 /// The point isn't pinned any more; where the vertex is redundant then, its two edges become one, or, without edges, it
-/// goes. It takes no memory.
-pub fn unpin(records: &mut Records, history: &mut History, p: &Point) -> Result<(), NotPinned>
+/// goes. Where no observer joins it takes no memory of its own.
+pub fn unpin(
+    alloc: Global,
+    records: &mut Records,
+    history: &mut History,
+    bus: &mut Bus,
+    p: &Point,
+) -> Result<(), NotPinned>
     requires layer { IsLayer records.old.graph history.old }
+    requires watched { AreWatched records.old history.old (bus_of tells held left heard bus.old) }
     ensures layer { IsLayer records.new.graph history.new }
+    ensures watched { AreWatched records.new history.new (bus_of tells held left heard bus.new) }
     ensures edit { OnOk result (IsAfter (Unpin p.now) records.old history.old records.new history.new) }
-    ensures steps { OnOk result (Makes (Unpin p.now) records.old history.old records.new history.new) }
+    ensures told { OnOk result (IsToldEdit (Unpin p.now) records.old history.old (bus_of tells held left heard bus.old) records.new history.new (bus_of tells held left heard bus.new)) }
     ensures refused { IsAnswerFor unpin_said (unpin_refusal (layer_at records.old history.old) p.now) result }
     ensures graph { OnErr result (records.new.graph ≡ records.old.graph) }
     ensures same_layer { OnErr result (SameLayer history.old history.new) }
     ensures same_curves { OnErr result (SameCurves history.old history.new) }
     ensures records_capacity { SameRecordCapacity records.old records.new }
     ensures history_capacity { SameHistoryCapacity history.old history.new }
+    ensures untold { OnErr result (bus_of tells held left heard bus.new ≡ bus_of tells held left heard bus.old) }
 {
     let Some(vertex) = vertex_at(&*records, p) else {
         return Err(NotPinned);
@@ -207,7 +201,8 @@ pub fn unpin(records: &mut Records, history: &mut History, p: &Point) -> Result<
     if !records.pinned(vertex) {
         return Err(NotPinned);
     }
-    records.clear_pin(vertex);
-    remove_if_redundant(records, history, vertex);
+    bus.begin();
+    clear_pin(alloc, records, &*history, bus, vertex);
+    remove_if_redundant(alloc, records, history, bus, vertex);
     Ok(())
 }

@@ -6,18 +6,22 @@ ghost use Rattle.arr_notes.specs.Curves.{IsForward};
 ghost use Rattle.curve_history.specs.Past.{SameLayer, SameCurves};
 ghost use Rattle.record_layers.specs.RecordLayers.{IsLayer};
 ghost use Rattle.pin_points.specs.Splits.{split_at, split_said, split_refusal_at, HasRoomToSplit};
-ghost use Rattle.record_layers.specs.LayerEdits.{IsAfter, Makes};
+ghost use Rattle.observer_bus.specs.Rows.{bus_of};
+ghost use Rattle.told_steps.specs.ToldEdits.{AreWatched, IsToldEdit};
+ghost use Rattle.record_layers.specs.LayerEdits.{IsAfter};
 
-use crate::pins::{is_full, make_room, part_edge};
+use crate::pins::{is_full, make_room};
 use curve_history::History;
 use dcel_records::{Records, Spot};
 use edge_predicates::has_inside;
 use exact_plane::Point;
 use locate_naive::{edge_dart, span_of};
 use no_memory::NoMemory;
+use observer_bus::Bus;
 use slab_laws::DartId;
 use std::alloc::Global;
 use thiserror::Error;
+use told_steps::set_pin;
 
 /// Why an edge isn't split.
 #[derive(Clone, Copy, Debug, PartialEq, Eq, Error)]
@@ -59,25 +63,29 @@ fn is_inside(records: &Records, dart: DartId, point: &Point) -> bool
 }
 
 /// The edge between two points, which come in either order, is split at a point inside it, which is pinned (CGAL manual,
-/// `split_edge`; the pin: this project); `pins` is the limit of pins. All memory is taken before the first change.
+/// `split_edge`; the pin: this project); `pins` is the limit of pins. All memory of its own is taken before the first change.
 pub fn split_edge(
     alloc: Global,
     records: &mut Records,
     history: &mut History,
+    bus: &mut Bus,
     pins: u32,
     p: &Point,
     q: &Point,
     r: &Point,
 ) -> Result<(), SplitError>
     requires layer { IsLayer records.old.graph history.old }
+    requires watched { AreWatched records.old history.old (bus_of tells held left heard bus.old) }
     ensures layer { IsLayer records.new.graph history.new }
+    ensures watched { AreWatched records.new history.new (bus_of tells held left heard bus.new) }
     ensures edit { OnOk result (IsAfter (split_at p.now q.now r.now) records.old history.old records.new history.new) }
-    ensures steps { OnOk result (Makes (split_at p.now q.now r.now) records.old history.old records.new history.new) }
+    ensures told { OnOk result (IsToldEdit (split_at p.now q.now r.now) records.old history.old (bus_of tells held left heard bus.old) records.new history.new (bus_of tells held left heard bus.new)) }
     ensures refused { IsAnswerFor split_said (split_refusal_at pins records.old history.old p.now q.now r.now) result }
     ensures room { HasRoomToSplit records.old history.old p.now q.now → result ≢ Err SplitError.NoMemory }
     ensures graph { OnErr result (records.new.graph ≡ records.old.graph) }
     ensures same_layer { OnErr result (SameLayer history.old history.new) }
     ensures same_curves { OnErr result (SameCurves history.old history.new) }
+    ensures untold { OnErr result (bus_of tells held left heard bus.new ≡ bus_of tells held left heard bus.old) }
 {
     // A call on the point tells that its numbers are a point's.
     let _weight = r.w();
@@ -91,7 +99,8 @@ pub fn split_edge(
         return Err(SplitError::Full(pins));
     }
     make_room(records, history, Spot::Edge(dart))?;
-    let vertex = part_edge(records, history, dart, *r);
-    records.set_pin(vertex);
+    bus.begin();
+    let vertex = told_steps::split_edge(alloc, records, history, bus, dart, *r);
+    set_pin(alloc, records, &*history, bus, vertex);
     Ok(())
 }

@@ -5,12 +5,17 @@ ghost use Rattle.std.specs.Prelude.{◌≡◌};
 ghost use Rattle.std.specs.Process.{exit_status};
 ghost use Rattle.planar_run.specs.Status.{exit_code};
 
+use arr_notes::Observer;
+use mirror_observer::Mirror;
 use no_memory::NoMemory;
 use outside::{StdSink, StdSource};
 use planar_run::{Status, planar};
 use std::env;
 use std::io::ErrorKind;
 use std::process::ExitCode;
+
+// How many observers a script has.
+const MIRRORS: usize = 4;
 
 // The words of the command line. Where one of them isn't text there are none at all, which is outside every grammar.
 fn words(rt: &HostRuntime) -> Result<Vec<String>, NoMemory> {
@@ -30,13 +35,18 @@ fn words(rt: &HostRuntime) -> Result<Vec<String>, NoMemory> {
     Ok(words)
 }
 
-fn run(rt: &HostRuntime) -> Status {
+// The observers of a script are mirrors without a limit.
+fn run(rt: &HostRuntime) -> Result<Status, NoMemory> {
+    let alloc = rt.alloc();
     let mut source = StdSource::new(rt.stdin());
     let mut sink = StdSink::new(rt.stdout());
-    match words(rt) {
-        Ok(words) => planar(rt.alloc(), &words, &mut source, &mut sink),
-        Err(_) => Status::NoMemory,
+    let words = words(rt)?;
+    let mut observers: Vec<Box<dyn Observer>> = Vec::new(alloc);
+    for _ in 0..MIRRORS {
+        let mirror = Mirror::new(alloc, None)?;
+        observers.push(Box::new(alloc, mirror)?)?;
     }
+    Ok(planar(alloc, &words, &mut source, &mut sink, observers))
 }
 
 // The exit status that tells how a run ended.
@@ -47,5 +57,8 @@ fn code_of(status: Status) -> ExitCode
 }
 
 fn main(rt: HostRuntime) -> ExitCode {
-    code_of(run(&rt))
+    match run(&rt) {
+        Ok(status) => code_of(status),
+        Err(NoMemory) => code_of(Status::NoMemory),
+    }
 }

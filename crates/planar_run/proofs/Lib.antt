@@ -1,7 +1,12 @@
 pub mod Takes
-pub mod Refused
-pub mod Answered
+pub mod Worlds
 pub mod Told
 pub mod Printed
+pub mod Losses
 pub mod Script
 pub mod Loop
+pub mod ToldRounds
+pub mod Observed
+pub mod Attaching
+pub mod Replied
+pub mod Numbered

@@ -8,10 +8,11 @@ use Rattle.script_lines.specs.declared.error.LineError.{LineError}
 use Rattle.script_lines.proofs.LongLine.{cut_command}
 use Rattle.planar_run.specs.declared.line.TheConstants.{KEPT}
 use Rattle.planar_run.specs.Lines.{lines, ended_lines}
-use Rattle.planar_run.specs.World.{World, first_world}
+use Rattle.planar_run.specs.World.{Waiting, World, first_world}
 use Rattle.planar_run.specs.Answer.{Obeys, Replies, answer_to}
 use Rattle.planar_run.specs.Run.{AnswersLines, IsRun, BeginsRun}
 use Rattle.planar_run.proofs.Takes.{take-cut}
+use Rattle.planar_run.proofs.Losses.{no_losses}
 
 -- no byte ends a line
 abbrev pub IsOpen : List ℕ → Type 0
@@ -87,46 +88,14 @@ Runs-append world [] more out out' mid end r s =
 Runs-append world (l ∷ ls) more out out' mid end r s =
     (r.0, r.1 ++ out', r.2, r.3, ap (λ (xs : List ℕ). xs ++ out') r.4 ∙ append_assoc r.0 r.1 out', Runs-append r.2 ls more r.1 out' mid end r.5 s)
 
--- with ample memory every line is answered
+-- with ample memory every line is answered, where nobody is lost
 ample : (world : World) (ls : List (List ℕ)) → (out : List ℕ) × (end : World) × AnswersLines world ls out end
 ample world [] = ([], world, (refl, refl))
 ample world (line ∷ more) =
-    let a = answer_to world (command_of line) in
+    let l = no_losses world (command_of line) in
+    let a = answer_to world l.0 (command_of line) in
     let r = ample a.world more in
-    (a.text ++ r.0, r.1, (a.text, r.0, a.world, inl (refl, refl), refl, r.2))
-
--- ---- where a script stands
-
--- so many bytes were read: lines that were answered, and one that was begun
-pub record Stands (count : ℕ) (script rest before taken : List ℕ) (world : World) (line : List ℕ) : Type 0 where
-  pub whole : List (List ℕ)
-  pub begun : List ℕ
-  pub out : List ℕ
-  pub split : script ≡ (joined whole ++ begun) ++ rest
-  pub size : length (joined whole ++ begun) ≡ count
-  pub each : AreOpen whole
-  pub inside : IsOpen begun
-  pub kept : line ≡ take KEPT begun
-  pub run : AnswersLines first_world whole out world
-  pub told : taken ≡ before ++ out
-
--- the bytes that were read
-abbrev pub read : {count : ℕ} {script rest before taken : List ℕ} {world : World} {line : List ℕ} → Stands count script rest before taken world line → List ℕ
-read s = joined s.whole ++ s.begun
-
-pub Stands-first : (script before : List ℕ) (world : World) (line : List ℕ) → world ≡ first_world → line ≡ [] → Stands 0 script script before before world line
-Stands-first script before world line e f = record {
-  whole = [];
-  begun = [];
-  out = [];
-  split = refl;
-  size = refl;
-  each = tt;
-  inside = tt;
-  kept = f;
-  run = (refl, e);
-  told = sym (append-nil before);
-}
+    (a.text ++ r.0, r.1, (a.text, r.0, a.world, inl (l.0, l.1, refl, refl), refl, r.2))
 
 moved : (script read read' rest : List ℕ) (b : ℕ) → script ≡ read ++ b ∷ rest → read' ≡ read ++ b ∷ [] → script ≡ read' ++ rest
 moved script read read' rest b e f = e ∙ sym (append_assoc read (b ∷ []) rest) ∙ ap (λ (xs : List ℕ). xs ++ rest) (sym f)
@@ -137,80 +106,114 @@ longer read read' b count e f = omega (arith, ap length f, length-append read (b
 ended : (ls : List (List ℕ)) (line : List ℕ) → joined (ls ++ line ∷ []) ++ [] ≡ (joined ls ++ line) ++ 10 ∷ []
 ended ls line = append-nil (joined (ls ++ line ∷ [])) ∙ joined-push ls line ∙ sym (append_assoc (joined ls) line (10 ∷ []))
 
--- the end of a line, which is answered
-pub Stands-end : (count : ℕ) (script rest before taken now : List ℕ) (world after : World) (line text next : List ℕ) → Stands count script (10 ∷ rest) before taken world line → Replies world line text after → now ≡ taken ++ text → next ≡ [] → Stands (count + 1) script rest before now after next
-Stands-end count script rest before taken now world after line text next s step e f = record {
-  whole = s.whole ++ s.begun ∷ [];
-  begun = [];
-  out = s.out ++ text;
-  split = moved script (joined s.whole ++ s.begun) (joined (s.whole ++ s.begun ∷ []) ++ []) rest 10 s.split (ended s.whole s.begun);
-  size = longer (joined s.whole ++ s.begun) (joined (s.whole ++ s.begun ∷ []) ++ []) 10 count s.size (ended s.whole s.begun);
-  each = AreOpen-push s.whole s.begun s.each s.inside;
-  inside = tt;
-  kept = f;
-  run = Runs-push first_world s.whole s.out world s.begun text after s.run (Replies-cut world s.begun line text after s.kept step);
-  told = e ∙ ap (λ (xs : List ℕ). xs ++ text) s.told ∙ append_assoc before s.out text;
-}
-
--- another byte
-pub Stands-byte : (count : ℕ) (script rest before taken : List ℕ) (b : ℕ) (world : World) (line next : List ℕ) → Stands count script (b ∷ rest) before taken world line → (b ≡ 10 → ⊥) → next ≡ take KEPT (line ++ b ∷ []) → Stands (count + 1) script rest before taken world next
-Stands-byte count script rest before taken b world line next s ne e = record {
-  whole = s.whole;
-  begun = s.begun ++ b ∷ [];
-  out = s.out;
-  split = moved script (joined s.whole ++ s.begun) (joined s.whole ++ (s.begun ++ b ∷ [])) rest b s.split (sym (append_assoc (joined s.whole) s.begun (b ∷ [])));
-  size = longer (joined s.whole ++ s.begun) (joined s.whole ++ (s.begun ++ b ∷ [])) b count s.size (sym (append_assoc (joined s.whole) s.begun (b ∷ [])));
-  each = s.each;
-  inside = IsOpen-push s.begun b s.inside ne;
-  kept = e ∙ ap (λ (xs : List ℕ). take KEPT (xs ++ b ∷ [])) s.kept ∙ take-cut KEPT s.begun (b ∷ []);
-  run = s.run;
-  told = s.told;
-}
-
--- ---- what was written, to the bytes that were read
-
--- the lines whose end was read are answered
-pub Stands-ended : {count : ℕ} {script rest before taken : List ℕ} {world : World} {line : List ℕ} (s : Stands count script rest before taken world line) → IsRun (ended_lines (read s)) s.out
-Stands-ended {world = world} s =
-    let all : ended_lines (joined s.whole ++ s.begun) ≡ s.whole = ended_lines-joined s.whole s.begun s.each ∙ ap (λ (ls : List (List ℕ)). s.whole ++ ls) (ended_lines-open s.begun s.inside) ∙ append-nil s.whole in
-    (world, subst (λ (ls : List (List ℕ)). AnswersLines first_world ls s.out world) (sym all) s.run)
-
 none_begun : (begun line : List ℕ) → line ≡ take KEPT begun → line ≡ [] → begun ≡ []
 none_begun [] line e f = refl
 none_begun (b ∷ begun) line e f = absurd cc
-
--- no line was begun: all are answered
-pub Stands-done : {count : ℕ} {script rest before taken : List ℕ} {world : World} {line : List ℕ} (s : Stands count script rest before taken world line) → line ≡ [] → IsRun (lines (read s)) s.out
-Stands-done {world = world} {line = line} s e =
-    let none : s.begun ≡ [] = none_begun s.begun line s.kept e in
-    let all : lines (joined s.whole ++ s.begun) ≡ s.whole = lines-joined s.whole s.begun s.each ∙ ap (λ (xs : List ℕ). s.whole ++ lines xs) none ∙ append-nil s.whole in
-    (world, subst (λ (ls : List (List ℕ)). AnswersLines first_world ls s.out world) (sym all) s.run)
 
 one_begun : (begun line : List ℕ) → line ≡ take KEPT begun → (line ≡ [] → ⊥) → IsOpen begun → lines begun ≡ begun ∷ []
 one_begun [] line e f h = absurd (f e)
 one_begun (b ∷ begun) line e f h = lines-open b begun h
 
--- the line that was begun is the last
-pub lines-last : {count : ℕ} {script rest before taken : List ℕ} {world : World} {line : List ℕ} (s : Stands count script rest before taken world line) → (line ≡ [] → ⊥) → lines (read s) ≡ s.whole ++ s.begun ∷ []
-lines-last {line = line} s some = lines-joined s.whole s.begun s.each ∙ ap (λ (ls : List (List ℕ)). s.whole ++ ls) (one_begun s.begun line s.kept some s.inside)
+-- ---- where a script stands
 
--- the line that was begun ends at once
-pub lines-next : {count : ℕ} {script rest before taken : List ℕ} {world : World} {line : List ℕ} (s : Stands count script rest before taken world line) (more : List ℕ) → lines (read s ++ 10 ∷ more) ≡ s.whole ++ s.begun ∷ lines more
-lines-next s more =
-    ap lines (append_assoc (joined s.whole) s.begun (10 ∷ more)) ∙ lines-joined s.whole (s.begun ++ 10 ∷ more) s.each ∙ ap (λ (ls : List (List ℕ)). s.whole ++ ls) (lines-end s.begun more s.inside)
+-- so many bytes were read: lines that were answered, and one that was begun
+pub record Stands (observers : List Waiting) (count : ℕ) (script rest before taken : List ℕ) (world : World) (line : List ℕ) : Type 0 where
+  pub whole : List (List ℕ)
+  pub begun : List ℕ
+  pub out : List ℕ
+  pub split : script ≡ (joined whole ++ begun) ++ rest
+  pub size : length (joined whole ++ begun) ≡ count
+  pub each : AreOpen whole
+  pub inside : IsOpen begun
+  pub kept : line ≡ take KEPT begun
+  pub run : AnswersLines (first_world observers) whole out world
+  pub told : taken ≡ before ++ out
 
--- it is answered, and no line comes after it
-pub Stands-last : {count : ℕ} {script rest before taken : List ℕ} {world : World} {line : List ℕ} (s : Stands count script rest before taken world line) (text : List ℕ) (after : World) → (line ≡ [] → ⊥) → Replies world line text after → IsRun (lines (read s)) (s.out ++ text)
-Stands-last {world = world} {line = line} s text after some step =
-    let run : AnswersLines first_world (s.whole ++ s.begun ∷ []) (s.out ++ text) after = Runs-push first_world s.whole s.out world s.begun text after s.run (Replies-cut world s.begun line text after s.kept step) in
-    (after, subst (λ (ls : List (List ℕ)). AnswersLines first_world ls (s.out ++ text) after) (sym (lines-last s some)) run)
+module _ {observers : List Waiting} where
+  -- the bytes that were read
+  abbrev pub read : {count : ℕ} {script rest before taken : List ℕ} {world : World} {line : List ℕ} → Stands observers count script rest before taken world line → List ℕ
+  read s = joined s.whole ++ s.begun
 
--- a part of its reply was written, whatever lines come after it
-pub Stands-part : {count : ℕ} {script rest before taken : List ℕ} {world : World} {line : List ℕ} (s : Stands count script rest before taken world line) (ls more : List (List ℕ)) (text part back : List ℕ) (after : World)
-    → ls ≡ s.whole ++ s.begun ∷ more → Replies world line text after → text ≡ part ++ back → BeginsRun ls (s.out ++ part)
-Stands-part {world = world} {line = line} s ls more text part back after e step f =
-    let tail = ample after more in
-    let said : Replies world s.begun text after = Replies-cut world s.begun line text after s.kept step in
-    let run : AnswersLines first_world (s.whole ++ s.begun ∷ more) (s.out ++ (text ++ tail.0)) tail.1 = Runs-append first_world s.whole (s.begun ∷ more) s.out (text ++ tail.0) world tail.1 s.run (text, tail.0, after, said, refl, tail.2) in
-    let same : s.out ++ (text ++ tail.0) ≡ (s.out ++ part) ++ (back ++ tail.0) = ap (λ (xs : List ℕ). s.out ++ (xs ++ tail.0)) f ∙ ap (λ (xs : List ℕ). s.out ++ xs) (append_assoc part back tail.0) ∙ sym (append_assoc s.out part (back ++ tail.0)) in
-    (back ++ tail.0, (tail.1, subst (λ (xs : List ℕ). AnswersLines first_world ls xs tail.1) same (subst (λ (all : List (List ℕ)). AnswersLines first_world all (s.out ++ (text ++ tail.0)) tail.1) (sym e) run)))
+  pub Stands-first : (script before : List ℕ) (world : World) (line : List ℕ) → world ≡ first_world observers → line ≡ [] → Stands observers 0 script script before before world line
+  Stands-first script before world line e f = record {
+    whole = [];
+    begun = [];
+    out = [];
+    split = refl;
+    size = refl;
+    each = tt;
+    inside = tt;
+    kept = f;
+    run = (refl, e);
+    told = sym (append-nil before);
+  }
+
+  -- the end of a line, which is answered
+  pub Stands-end : (count : ℕ) (script rest before taken now : List ℕ) (world after : World) (line text next : List ℕ) → Stands observers count script (10 ∷ rest) before taken world line → Replies world line text after → now ≡ taken ++ text → next ≡ [] → Stands observers (count + 1) script rest before now after next
+  Stands-end count script rest before taken now world after line text next s step e f = record {
+    whole = s.whole ++ s.begun ∷ [];
+    begun = [];
+    out = s.out ++ text;
+    split = moved script (joined s.whole ++ s.begun) (joined (s.whole ++ s.begun ∷ []) ++ []) rest 10 s.split (ended s.whole s.begun);
+    size = longer (joined s.whole ++ s.begun) (joined (s.whole ++ s.begun ∷ []) ++ []) 10 count s.size (ended s.whole s.begun);
+    each = AreOpen-push s.whole s.begun s.each s.inside;
+    inside = tt;
+    kept = f;
+    run = Runs-push (first_world observers) s.whole s.out world s.begun text after s.run (Replies-cut world s.begun line text after s.kept step);
+    told = e ∙ ap (λ (xs : List ℕ). xs ++ text) s.told ∙ append_assoc before s.out text;
+  }
+
+  -- another byte
+  pub Stands-byte : (count : ℕ) (script rest before taken : List ℕ) (b : ℕ) (world : World) (line next : List ℕ) → Stands observers count script (b ∷ rest) before taken world line → (b ≡ 10 → ⊥) → next ≡ take KEPT (line ++ b ∷ []) → Stands observers (count + 1) script rest before taken world next
+  Stands-byte count script rest before taken b world line next s ne e = record {
+    whole = s.whole;
+    begun = s.begun ++ b ∷ [];
+    out = s.out;
+    split = moved script (joined s.whole ++ s.begun) (joined s.whole ++ (s.begun ++ b ∷ [])) rest b s.split (sym (append_assoc (joined s.whole) s.begun (b ∷ [])));
+    size = longer (joined s.whole ++ s.begun) (joined s.whole ++ (s.begun ++ b ∷ [])) b count s.size (sym (append_assoc (joined s.whole) s.begun (b ∷ [])));
+    each = s.each;
+    inside = IsOpen-push s.begun b s.inside ne;
+    kept = e ∙ ap (λ (xs : List ℕ). take KEPT (xs ++ b ∷ [])) s.kept ∙ take-cut KEPT s.begun (b ∷ []);
+    run = s.run;
+    told = s.told;
+  }
+
+  -- ---- what was written, to the bytes that were read
+
+  -- the lines whose end was read are answered
+  pub Stands-ended : {count : ℕ} {script rest before taken : List ℕ} {world : World} {line : List ℕ} (s : Stands observers count script rest before taken world line) → IsRun observers (ended_lines (read s)) s.out
+  Stands-ended {world = world} s =
+      let all : ended_lines (joined s.whole ++ s.begun) ≡ s.whole = ended_lines-joined s.whole s.begun s.each ∙ ap (λ (ls : List (List ℕ)). s.whole ++ ls) (ended_lines-open s.begun s.inside) ∙ append-nil s.whole in
+      (world, subst (λ (ls : List (List ℕ)). AnswersLines (first_world observers) ls s.out world) (sym all) s.run)
+
+  -- no line was begun: all are answered
+  pub Stands-done : {count : ℕ} {script rest before taken : List ℕ} {world : World} {line : List ℕ} (s : Stands observers count script rest before taken world line) → line ≡ [] → IsRun observers (lines (read s)) s.out
+  Stands-done {world = world} {line = line} s e =
+      let none : s.begun ≡ [] = none_begun s.begun line s.kept e in
+      let all : lines (joined s.whole ++ s.begun) ≡ s.whole = lines-joined s.whole s.begun s.each ∙ ap (λ (xs : List ℕ). s.whole ++ lines xs) none ∙ append-nil s.whole in
+      (world, subst (λ (ls : List (List ℕ)). AnswersLines (first_world observers) ls s.out world) (sym all) s.run)
+
+  -- the line that was begun is the last
+  pub lines-last : {count : ℕ} {script rest before taken : List ℕ} {world : World} {line : List ℕ} (s : Stands observers count script rest before taken world line) → (line ≡ [] → ⊥) → lines (read s) ≡ s.whole ++ s.begun ∷ []
+  lines-last {line = line} s some = lines-joined s.whole s.begun s.each ∙ ap (λ (ls : List (List ℕ)). s.whole ++ ls) (one_begun s.begun line s.kept some s.inside)
+
+  -- the line that was begun ends at once
+  pub lines-next : {count : ℕ} {script rest before taken : List ℕ} {world : World} {line : List ℕ} (s : Stands observers count script rest before taken world line) (more : List ℕ) → lines (read s ++ 10 ∷ more) ≡ s.whole ++ s.begun ∷ lines more
+  lines-next s more =
+      ap lines (append_assoc (joined s.whole) s.begun (10 ∷ more)) ∙ lines-joined s.whole (s.begun ++ 10 ∷ more) s.each ∙ ap (λ (ls : List (List ℕ)). s.whole ++ ls) (lines-end s.begun more s.inside)
+
+  -- it is answered, and no line comes after it
+  pub Stands-last : {count : ℕ} {script rest before taken : List ℕ} {world : World} {line : List ℕ} (s : Stands observers count script rest before taken world line) (text : List ℕ) (after : World) → (line ≡ [] → ⊥) → Replies world line text after → IsRun observers (lines (read s)) (s.out ++ text)
+  Stands-last {world = world} {line = line} s text after some step =
+      let run : AnswersLines (first_world observers) (s.whole ++ s.begun ∷ []) (s.out ++ text) after = Runs-push (first_world observers) s.whole s.out world s.begun text after s.run (Replies-cut world s.begun line text after s.kept step) in
+      (after, subst (λ (ls : List (List ℕ)). AnswersLines (first_world observers) ls (s.out ++ text) after) (sym (lines-last s some)) run)
+
+  -- a part of its reply was written, whatever lines come after it
+  pub Stands-part : {count : ℕ} {script rest before taken : List ℕ} {world : World} {line : List ℕ} (s : Stands observers count script rest before taken world line) (ls more : List (List ℕ)) (text part back : List ℕ) (after : World)
+      → ls ≡ s.whole ++ s.begun ∷ more → Replies world line text after → text ≡ part ++ back → BeginsRun observers ls (s.out ++ part)
+  Stands-part {world = world} {line = line} s ls more text part back after e step f =
+      let tail = ample after more in
+      let said : Replies world s.begun text after = Replies-cut world s.begun line text after s.kept step in
+      let run : AnswersLines (first_world observers) (s.whole ++ s.begun ∷ more) (s.out ++ (text ++ tail.0)) tail.1 = Runs-append (first_world observers) s.whole (s.begun ∷ more) s.out (text ++ tail.0) world tail.1 s.run (text, tail.0, after, said, refl, tail.2) in
+      let same : s.out ++ (text ++ tail.0) ≡ (s.out ++ part) ++ (back ++ tail.0) = ap (λ (xs : List ℕ). s.out ++ (xs ++ tail.0)) f ∙ ap (λ (xs : List ℕ). s.out ++ xs) (append_assoc part back tail.0) ∙ sym (append_assoc s.out part (back ++ tail.0)) in
+      (back ++ tail.0, (tail.1, subst (λ (xs : List ℕ). AnswersLines (first_world observers) ls xs tail.1) same (subst (λ (all : List (List ℕ)). AnswersLines (first_world observers) all (s.out ++ (text ++ tail.0)) tail.1) (sym e) run)))

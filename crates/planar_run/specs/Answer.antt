@@ -1,6 +1,7 @@
 -- What a line is answered, and the world that the next line meets.
-use Rattle.std.specs.Prelude.{◌≡◌, ℕ, true, not, ◌⊎◌, List, [], ◌∷◌, ◌++◌, length, Option, Some, None, Result, Ok, Err, codes, decimal, if◌then◌else◌, ⊤}
+use Rattle.std.specs.Prelude.{◌≡◌, ◌≢◌, ◌≤◌, ℕ, true, not, ◌⊎◌, List, [], ◌∷◌, ◌++◌, length, Option, Some, None, Result, Ok, Err, codes, decimal, if◌then◌else◌, ⊤}
 use Rattle.std.specs.List.{count_by, filter, list_any}
+use Rattle.observer_bus.specs.declared.went.Went.{Went}
 use Rattle.exact_plane.specs.Segment.{Segment}
 use Rattle.exact_plane.specs.SegmentOf.{segment_of}
 use Rattle.exact_plane.specs.declared.segment.SegmentError.{SegmentError}
@@ -13,15 +14,17 @@ use Rattle.slab_laws.specs.Sound.{edge_between}
 use Rattle.slab_laws.specs.Subdivision.{Subdivision, subdivision, holds}
 use Rattle.slab_laws.specs.Text.{skeleton, present_text}
 use Rattle.script_lines.specs.declared.command.Command.{Command}
-use Rattle.script_lines.specs.declared.command.Command.TheVariants.{Nothing, Segment as AddSegment, Drop, Cut, Pin, Unpin, Split, Merge, Clear, Locate, Edge as CurvesOf, Curve, Count, Show}
+use Rattle.script_lines.specs.declared.command.Command.TheVariants.{Nothing, Segment as AddSegment, Drop, Cut, Pin, Unpin, Split, Merge, Clear, Locate, Edge as CurvesOf, Curve, Count, Show, Attach, Leave, Mirror}
 use Rattle.script_lines.specs.declared.error.LineError.{LineError}
 use Rattle.script_lines.specs.LineError.{refusal_number as line_number}
 use Rattle.script_lines.specs.Command.{command_of}
 use Rattle.arrangement.specs.Answers.{cut_between, split_at}
 use Rattle.planar_run.specs.World.{World}
+use Rattle.planar_run.specs.Observers.{attach_refusal, attached, leaving, seat_refusal, IsUntold}
+use Rattle.planar_run.specs.Rounds.{seated_after, AreFew, AreRoundsOf, Seated}
 use Rattle.planar_run.specs.Premises.{graph_of, is_named, is_edge}
 use Rattle.planar_run.specs.Refusals.{refusal_of, refusal_number}
-use Rattle.planar_run.specs.Text.{line_of, cell_text, spaced, curve_text}
+use Rattle.planar_run.specs.Text.{line_of, cell_text, spaced, curve_text, went_text}
 
 pub record Answer : Type 0 where
   -- the bytes of the reply
@@ -37,14 +40,31 @@ refused number world = record { text = line_of (codes "refused " ++ decimal numb
 abbrev pub said : List ℕ → World → Answer
 said text world = record { text = text; world = world }
 
+-- the world after an edit, in whose rounds these are lost
+abbrev pub done : Edit → Seated → World → World
+done edit seated world = record { layer = layer_after edit world.layer; seats = seated.seats; waiting = world.waiting }
+
+-- an edit is done: who was lost in its rounds, what these and the edit make of the world, and who joined, left and was lost (this project)
+pub record IsDone (edit : Edit) (before after : World) (names : Went) : Type 0 where
+  pub losses : List (List ℕ)
+  pub are : AreRoundsOf losses edit before
+  pub world : after ≡ done edit (seated_after losses before) before
+  pub went : names ≡ (seated_after losses before).went
+  pub few : AreFew names
+
 -- an edit that there is this reason to refuse, or none
-abbrev pub edited_unless : Option Refusal → List ℕ → Edit → World → Answer
-edited_unless (Some reason) text edit world = refused (refusal_number reason) world
-edited_unless None text edit world = record { text = line_of text; world = record { layer = layer_after edit world.layer } }
+abbrev pub edited_unless : Option Refusal → List ℕ → Edit → List (List ℕ) → World → Answer
+edited_unless (Some reason) text edit losses world = refused (refusal_number reason) world
+edited_unless None text edit losses world = record { text = line_of (text ++ went_text (seated_after losses world).went); world = done edit (seated_after losses world) world }
 
 -- an edit: it is refused for the first reason that holds, or done
-abbrev pub edited : List ℕ → Edit → World → Answer
-edited text edit world = edited_unless (refusal_of world edit) text edit world
+abbrev pub edited : List ℕ → Edit → List (List ℕ) → World → Answer
+edited text edit losses world = edited_unless (refusal_of world edit) text edit losses world
+
+-- a line on an observer that there is this reason to refuse, or none
+abbrev pub unless : Option ℕ → Answer → World → Answer
+unless (Some number) answer world = refused number world
+unless None answer world = answer
 
 -- the subdivision of the plane by the present segments and points, built afresh
 abbrev pub subdivision_of : World → Subdivision
@@ -72,32 +92,60 @@ segment_refusal Range = 4
 segment_refusal Equal = 7
 
 -- a segment becomes the curve of the next number
-abbrev pub drawing : Result Segment SegmentError → World → Answer
-drawing (Err error) world = refused (segment_refusal error) world
-drawing (Ok s) world = edited (codes "ok " ++ decimal world.layer.next) (Insert world.layer.next s) world
+abbrev pub drawing : Result Segment SegmentError → List (List ℕ) → World → Answer
+drawing (Err error) losses world = refused (segment_refusal error) world
+drawing (Ok s) losses world = edited (codes "ok " ++ decimal world.layer.next) (Insert world.layer.next s) losses world
 
 -- vertices, edges, faces, inner cycles, isolated vertices, and the curves that have a name
 abbrev pub counted : Subdivision → ℕ → List ℕ
 counted s curves =
     length s.graph.vertices ∷ length s.graph.edges ∷ length s.faces ∷ count_by (λ c. not c.outer) s.cycles ∷ length s.bare ∷ curves ∷ []
 
--- what a line that says this is answered with ample memory
-abbrev pub answer_to : World → Result Command LineError → Answer
-answer_to world (Err error) = refused (line_number error) world
-answer_to world (Ok Nothing) = said [] world
-answer_to world (Ok (AddSegment x1 y1 x2 y2)) = drawing (segment_of x1 y1 x2 y2) world
-answer_to world (Ok (Drop c)) = edited (codes "ok") (DropCurve c) world
-answer_to world (Ok (Cut p q)) = edited (codes "ok") (cut_between p q) world
-answer_to world (Ok (Pin p)) = edited (codes "ok") (PinPoint p) world
-answer_to world (Ok (Unpin p)) = edited (codes "ok") (UnpinPoint p) world
-answer_to world (Ok (Split p q r)) = edited (codes "ok") (split_at p q r) world
-answer_to world (Ok (Merge r)) = edited (codes "ok") (MergeEdges r) world
-answer_to world (Ok Clear) = edited (codes "ok") ClearAll world
-answer_to world (Ok (Locate p)) = said (line_of (cell_text (holds (subdivision_of world) p))) world
-answer_to world (Ok (CurvesOf p q)) = curves_told (edge_between p q) world
-answer_to world (Ok (Curve c)) = curve_told c world
-answer_to world (Ok Count) = said (line_of (codes "counts" ++ spaced (counted (subdivision_of world) (length world.layer.names)))) world
-answer_to world (Ok Show) = said (present_text world.layer.present) world
+-- what a line that says this is answered with ample memory, where these are lost in the rounds of its edit
+abbrev pub answer_to : World → List (List ℕ) → Result Command LineError → Answer
+answer_to world losses (Err error) = refused (line_number error) world
+answer_to world losses (Ok Nothing) = said [] world
+answer_to world losses (Ok (AddSegment x1 y1 x2 y2)) = drawing (segment_of x1 y1 x2 y2) losses world
+answer_to world losses (Ok (Drop c)) = edited (codes "ok") (DropCurve c) losses world
+answer_to world losses (Ok (Cut p q)) = edited (codes "ok") (cut_between p q) losses world
+answer_to world losses (Ok (Pin p)) = edited (codes "ok") (PinPoint p) losses world
+answer_to world losses (Ok (Unpin p)) = edited (codes "ok") (UnpinPoint p) losses world
+answer_to world losses (Ok (Split p q r)) = edited (codes "ok") (split_at p q r) losses world
+answer_to world losses (Ok (Merge r)) = edited (codes "ok") (MergeEdges r) losses world
+answer_to world losses (Ok Clear) = edited (codes "ok") ClearAll losses world
+answer_to world losses (Ok (Locate p)) = said (line_of (cell_text (holds (subdivision_of world) p))) world
+answer_to world losses (Ok (CurvesOf p q)) = curves_told (edge_between p q) world
+answer_to world losses (Ok (Curve c)) = curve_told c world
+answer_to world losses (Ok Count) = said (line_of (codes "counts" ++ spaced (counted (subdivision_of world) (length world.layer.names)))) world
+answer_to world losses (Ok Show) = said (present_text world.layer.present) world
+answer_to world losses (Ok (Attach i when)) = unless (attach_refusal i world) (record { text = line_of (codes "ok"); world = attached i when world }) world
+answer_to world losses (Ok (Leave i when)) = unless (seat_refusal i world) (record { text = line_of (codes "ok"); world = leaving i when world }) world
+answer_to world losses (Ok (Mirror i)) = unless (seat_refusal i world) (said (present_text world.layer.present) world) world
+
+-- the losses are of just the rounds of the edit, where it isn't refused
+abbrev pub AreOfEdit : List (List ℕ) → Edit → World → Type 0
+AreOfEdit losses edit world = refusal_of world edit ≡ None → AreRoundsOf losses edit world
+
+abbrev pub AreOfSegment : List (List ℕ) → Result Segment SegmentError → World → Type 0
+AreOfSegment losses (Err error) world = ⊤
+AreOfSegment losses (Ok s) world = AreOfEdit losses (Insert world.layer.next s) world
+
+-- the losses are of just the rounds that the line's edit has, where it isn't refused (this project)
+abbrev pub AreLosses : World → List (List ℕ) → Result Command LineError → Type 0
+AreLosses world losses (Ok (AddSegment x1 y1 x2 y2)) = AreOfSegment losses (segment_of x1 y1 x2 y2) world
+AreLosses world losses (Ok (Drop c)) = AreOfEdit losses (DropCurve c) world
+AreLosses world losses (Ok (Cut p q)) = AreOfEdit losses (cut_between p q) world
+AreLosses world losses (Ok (Pin p)) = AreOfEdit losses (PinPoint p) world
+AreLosses world losses (Ok (Unpin p)) = AreOfEdit losses (UnpinPoint p) world
+AreLosses world losses (Ok (Split p q r)) = AreOfEdit losses (split_at p q r) world
+AreLosses world losses (Ok (Merge r)) = AreOfEdit losses (MergeEdges r) world
+AreLosses world losses (Ok Clear) = AreOfEdit losses ClearAll world
+AreLosses world losses other = ⊤
+
+-- a segment is answered, and leaves this world, whoever is lost in its rounds (this project)
+abbrev pub IsDrawn : Result Segment SegmentError → World → List ℕ → World → Type 0
+IsDrawn s world text after =
+    (losses : List (List ℕ)) × AreOfSegment losses s world × (text ≡ (drawing s losses world).text) × (after ≡ (drawing s losses world).world)
 
 -- a segment may need memory where it isn't refused
 abbrev pub MayDraw : Result Segment SegmentError → World → Type 0
@@ -121,13 +169,36 @@ MayTake world (Ok (CurvesOf p q)) = is_edge (edge_between p q) world ≡ true
 MayTake world (Ok (Curve c)) = is_named c world ≡ true
 MayTake world (Ok Count) = ⊤
 MayTake world (Ok Show) = ⊤
+MayTake world (Ok (Attach i when)) = attach_refusal i world ≡ None
+MayTake world (Ok (Leave i when)) = ⊥
+MayTake world (Ok (Mirror i)) = seat_refusal i world ≡ None
 
--- a line that says this is answered as the world demands; or, where it may need memory, that there is none, and then
--- the world stays
+-- the observers of a line and its rounds are counted from 1 (this project)
+abbrev pub IsNumbered : Command → Type 0
+IsNumbered (Attach i when) = (1 ≤ i) × (when ≢ Some 0)
+IsNumbered (Leave i when) = (1 ≤ i) × (when ≢ Some 0)
+IsNumbered (Mirror i) = 1 ≤ i
+IsNumbered other = ⊤
+
+-- the line asks an observer for its report that is seated and tells no view
+abbrev pub AsksUntold : World → Result Command LineError → Type 0
+AsksUntold world (Ok (Mirror i)) = (seat_refusal i world ≡ None) × IsUntold i world
+AsksUntold world other = ⊥
+
+-- a line that says this is answered as the world demands, whoever is lost in the rounds of its edit
+abbrev pub IsAnswered : World → Result Command LineError → List ℕ → World → Type 0
+IsAnswered world said text after =
+    (losses : List (List ℕ)) × AreLosses world losses said × (text ≡ (answer_to world losses said).text) × (after ≡ (answer_to world losses said).world)
+
+-- it is; or, where it may need memory, that there is none, and then the world stays; or with any bytes, where they are the report of an observer that tells no view
 abbrev pub Obeys : World → Result Command LineError → List ℕ → World → Type 0
 Obeys world said text after =
-    ((text ≡ (answer_to world said).text) × (after ≡ (answer_to world said).world))
-    ⊎ (MayTake world said × (text ≡ line_of (codes "no memory")) × (after ≡ world))
+    IsAnswered world said text after
+    ⊎ ((MayTake world said × (text ≡ line_of (codes "no memory")) × (after ≡ world)) ⊎ (AsksUntold world said × (after ≡ world)))
+
+-- the same of a line that doesn't want memory
+abbrev pub IsObeyed : World → Result Command LineError → List ℕ → World → Type 0
+IsObeyed world said text after = IsAnswered world said text after ⊎ (AsksUntold world said × (after ≡ world))
 
 abbrev pub Replies : World → List ℕ → List ℕ → World → Type 0
 Replies world line text after = Obeys world (command_of line) text after

@@ -5,7 +5,7 @@ use Rattle.planar_run.specs.declared.run.TheConstants.{SCRIPT_LIMIT}
 use Rattle.planar_run.specs.declared.status.Status.{Status}
 use Rattle.planar_run.specs.declared.status.Status.TheVariants.{Done, Usage, ReadFault, WriteFault, NoMemory, TooLong}
 use Rattle.planar_run.specs.Lines.{lines, ended_lines}
-use Rattle.planar_run.specs.World.{World}
+use Rattle.planar_run.specs.World.{Waiting, World}
 use Rattle.planar_run.specs.Run.{IsRun, BeginsRun}
 use Rattle.planar_run.specs.Engine.{Answers, AnswersPart}
 
@@ -28,21 +28,21 @@ abbrev pub ReadToEnd : Option (List ℕ) → Option (List ℕ) → Type 0
 ReadToEnd left left' = IfSome left (λ script. left' ≡ Some [])
 
 -- how many bytes were used, and what the bytes written are to them
-abbrev pub Ends : Status → Option (List ℕ) → Option (List ℕ) → Option (List ℕ) → Option (List ℕ) → Type 0
-Ends Done left left' taken taken' =
+abbrev pub Ends : List Waiting → Status → Option (List ℕ) → Option (List ℕ) → Option (List ℕ) → Option (List ℕ) → Type 0
+Ends observers Done left left' taken taken' =
     ReadToEnd left left' × Used left left' (λ used. length used ≤ SCRIPT_LIMIT)
-    × UsedAndWritten left left' taken taken' (λ used out. IsRun (lines used) out)
-Ends ReadFault left left' taken taken' =
+    × UsedAndWritten left left' taken taken' (λ used out. IsRun observers (lines used) out)
+Ends observers ReadFault left left' taken taken' =
     Used left left' (λ used. length used ≤ SCRIPT_LIMIT)
-    × UsedAndWritten left left' taken taken' (λ used out. IsRun (ended_lines used) out)
-Ends WriteFault left left' taken taken' =
+    × UsedAndWritten left left' taken taken' (λ used out. IsRun observers (ended_lines used) out)
+Ends observers WriteFault left left' taken taken' =
     Used left left' (λ used. length used ≤ SCRIPT_LIMIT)
-    × UsedAndWritten left left' taken taken' (λ used out. BeginsRun (lines used) out)
-Ends TooLong left left' taken taken' =
+    × UsedAndWritten left left' taken taken' (λ used out. BeginsRun observers (lines used) out)
+Ends observers TooLong left left' taken taken' =
     Used left left' (λ used. length used ≡ SCRIPT_LIMIT + 1)
-    × UsedAndWritten left left' taken taken' (λ used out. IsRun (ended_lines (take SCRIPT_LIMIT used)) out)
-Ends NoMemory left left' taken taken' = (left' ≡ left) × (taken' ≡ taken)
-Ends Usage left left' taken taken' = ⊥
+    × UsedAndWritten left left' taken taken' (λ used out. IsRun observers (ended_lines (take SCRIPT_LIMIT used)) out)
+Ends observers NoMemory left left' taken taken' = (left' ≡ left) × (taken' ≡ taken)
+Ends observers Usage left left' taken taken' = ⊥
 
 -- which count of faults rose, the source's or the sink's; the other stays, and both do where neither is named
 abbrev pub Causes : Status → ℕ → ℕ → ℕ → ℕ → Type 0

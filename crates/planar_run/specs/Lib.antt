@@ -1,5 +1,8 @@
 pub mod Lines
 pub mod World
+pub mod Rounds
+pub mod Observers
+pub mod Rows
 pub mod Text
 pub mod Premises
 pub mod Refusals

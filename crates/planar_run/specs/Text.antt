@@ -4,6 +4,7 @@ use Rattle.std.specs.List.{flat_map}
 use Rattle.std.specs.Fmt.{signed_decimal}
 use Rattle.exact_plane.specs.Point.{Point}
 use Rattle.plane_graphs.specs.Graph.{Edge as GraphEdge}
+use Rattle.observer_bus.specs.declared.went.Went.{Went}
 use Rattle.slab_laws.specs.declared.cell.Cell.{Cell}
 use Rattle.slab_laws.specs.declared.cell.Cell.TheVariants.{Vertex, Edge, Face}
 
@@ -29,3 +30,11 @@ edge_line e = line_of (codes "e " ++ (point_text e.low ++ 32 ∷ point_text e.hi
 -- a curve's text: its number, then a line for each of its edges, in their order
 abbrev pub curve_text : ℕ → List GraphEdge → List ℕ
 curve_text c es = line_of (codes "curve " ++ decimal c) ++ (flat_map edge_line es ++ line_of (codes "end"))
+
+-- a word and a number for each of these names
+abbrev pub names_text : List ℕ → List ℕ → List ℕ
+names_text word names = flat_map (λ i. word ++ decimal i) names
+
+-- who joined, left and was lost in an edit, each group ascending
+abbrev pub went_text : Went → List ℕ
+went_text g = names_text (codes " joined ") g.joined ++ (names_text (codes " left ") g.left ++ names_text (codes " lost ") g.lost)

@@ -1,9 +1,11 @@
 ghost use Rattle.std.specs.Prelude.{◌≡◌, ◌≤◌, ◌++◌, [], length, Ok, codes, decimal, OnOk, OnErr};
 ghost use Rattle.script_lines.specs.LineError.{refusal_number};
 ghost use Rattle.planar_run.specs.Text.{line_of};
-ghost use Rattle.planar_run.specs.Answer.{answer_to, MayTake, Replies};
+ghost use Rattle.planar_run.specs.Answer.{IsNumbered, IsObeyed, MayTake, Replies};
+ghost use Rattle.planar_run.specs.Rows.{arranged_row, world_row, IsKept};
 
 use crate::edits::{clear, cut, drop_curve, merge, pin, segment, split, unpin};
+use crate::observers::{attach, leave, mirror};
 use crate::questions::{count, curve, edge, locate, show};
 use crate::reply::{REPLY_ROOM, Reply};
 use crate::world::World;
@@ -12,10 +14,12 @@ use script_lines::{Command, LineError, read_line};
 
 // Does what a command says, and makes its reply in place of nothing.
 fn obey(world: &mut World, command: Command, reply: &mut Reply) -> Result<(), NoMemory>
-    requires { reply.old ≡ [] }
-    ensures text { OnOk result (reply.new ≡ (answer_to world.old (Ok command)).text) }
-    ensures world { OnOk result (world.new ≡ (answer_to world.old (Ok command)).world) }
-    ensures err { OnErr result (MayTake world.old (Ok command) × (world.new ≡ world.old)) }
+    requires empty { reply.old ≡ [] }
+    requires numbered { IsNumbered command }
+    requires kept { IsKept (arranged_row tells held left heard world.old) }
+    ensures obeyed { OnOk result (IsObeyed (world_row tells held left heard world.old) (Ok command) reply.new (world_row tells held left heard world.new)) }
+    ensures err { OnErr result (MayTake (world_row tells held left heard world.old) (Ok command) × (world_row tells held left heard world.new ≡ world_row tells held left heard world.old)) }
+    ensures kept { IsKept (arranged_row tells held left heard world.new) }
 {
     match command {
         Command::Nothing => Ok(()),
@@ -41,6 +45,12 @@ fn obey(world: &mut World, command: Command, reply: &mut Reply) -> Result<(), No
         Command::Curve(number) => curve(world, number, reply),
         Command::Count => count(world, reply),
         Command::Show => show(world, reply),
+        Command::Attach(number, when) => attach(world, number, when, reply),
+        Command::Leave(number, when) => {
+            leave(world, number, when, reply);
+            Ok(())
+        }
+        Command::Mirror(number) => mirror(world, number, reply),
     }
 }
 
@@ -61,7 +71,9 @@ fn refusal(error: LineError) -> &'static str
 
 /// Makes the reply to a line, and does to the world what the line says.
 pub fn answer(world: &mut World, line: &[u8], reply: &mut Reply)
-    ensures { Replies world.old line.now reply.new world.new }
+    requires kept { IsKept (arranged_row tells held left heard world.old) }
+    ensures replied { Replies (world_row tells held left heard world.old) line.now reply.new (world_row tells held left heard world.new) }
+    ensures kept { IsKept (arranged_row tells held left heard world.new) }
 {
     reply.clear();
     match read_line(line) {

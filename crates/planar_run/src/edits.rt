@@ -1,34 +1,46 @@
-ghost use Rattle.std.specs.Prelude.{◌≡◌, ◌++◌, [], Ok, codes, decimal, OnOk, OnErr};
+ghost use Rattle.std.specs.Prelude.{◌≡◌, ◌++◌, Ok, codes, decimal, OnOk, OnErr};
 ghost use Rattle.script_lines.specs.declared.command.Command.TheVariants.{Segment as AddSegment, Drop, Cut, Pin, Unpin, Split, Merge, Clear};
-ghost use Rattle.planar_run.specs.Text.{line_of};
-ghost use Rattle.planar_run.specs.Answer.{answer_to, drawing, MayDraw, MayTake};
+ghost use Rattle.planar_run.specs.Answer.{IsAnswered, IsDrawn, MayDraw, MayTake};
+ghost use Rattle.planar_run.specs.Rounds.{AreFew};
+ghost use Rattle.planar_run.specs.Rows.{arranged_row, world_row, IsKept};
+ghost use Rattle.planar_run.specs.Text.{line_of, went_text};
 
 use crate::reply::Reply;
+use crate::went::tell_went;
 use crate::world::World;
 use arrangement::{CutError, DropError, InsertError, MergeError, PinError, SplitError};
 use exact_plane::{Point, Segment, SegmentError};
 use no_memory::NoMemory;
 use slab_laws::CurveId;
 
-// The reply to a new curve. It takes no memory, since the curve is there already.
-fn tell_curve(curve: CurveId, reply: &mut Reply)
-    requires { reply.old ≡ [] }
-    ensures { reply.new ≡ line_of (codes "ok " ++ decimal curve.0) }
+// The reply to an edit that is done. It takes no memory.
+fn tell_done(world: &World, reply: &mut Reply)
+    requires { AreFew (arranged_row tells held left heard world.now).bus.went }
+    ensures { reply.new ≡ line_of (codes "ok" ++ went_text (arranged_row tells held left heard world.now).bus.went) }
 {
-    reply.add_text("ok ");
+    reply.set("ok");
+    tell_went(reply, world.went());
+}
+
+// The reply to a new curve. It takes no memory, since the curve is there already.
+fn tell_curve(world: &World, curve: CurveId, reply: &mut Reply)
+    requires { AreFew (arranged_row tells held left heard world.now).bus.went }
+    ensures { reply.new ≡ line_of ((codes "ok " ++ decimal curve.0) ++ went_text (arranged_row tells held left heard world.now).bus.went) }
+{
+    reply.set("ok ");
     reply.add_number(curve.0);
-    reply.add_text("\n");
+    tell_went(reply, world.went());
 }
 
 // Makes a segment a new curve where there is room for one more and a number left.
 fn insert(world: &mut World, segment: Segment, reply: &mut Reply) -> Result<(), NoMemory>
-    requires { reply.old ≡ [] }
-    ensures text { OnOk result (reply.new ≡ (drawing (Ok segment) world.old).text) }
-    ensures world { OnOk result (world.new ≡ (drawing (Ok segment) world.old).world) }
-    ensures err { OnErr result (MayDraw (Ok segment) world.old × (world.new ≡ world.old)) }
+    requires kept { IsKept (arranged_row tells held left heard world.old) }
+    ensures answered { OnOk result (IsDrawn (Ok segment) (world_row tells held left heard world.old) reply.new (world_row tells held left heard world.new)) }
+    ensures err { OnErr result (MayDraw (Ok segment) (world_row tells held left heard world.old) × (world_row tells held left heard world.new ≡ world_row tells held left heard world.old)) }
+    ensures kept { IsKept (arranged_row tells held left heard world.new) }
 {
     match world.insert(segment) {
-        Ok(curve) => tell_curve(curve, reply),
+        Ok(curve) => tell_curve(world, curve, reply),
         Err(InsertError::Full(_)) => reply.set("refused 17\n"),
         Err(InsertError::Spent) => reply.set("refused 18\n"),
         Err(InsertError::NoMemory) => return Err(NoMemory),
@@ -45,10 +57,10 @@ pub fn segment(
     y2: i64,
     reply: &mut Reply,
 ) -> Result<(), NoMemory>
-    requires { reply.old ≡ [] }
-    ensures text { OnOk result (reply.new ≡ (answer_to world.old (Ok (AddSegment x1 y1 x2 y2))).text) }
-    ensures world { OnOk result (world.new ≡ (answer_to world.old (Ok (AddSegment x1 y1 x2 y2))).world) }
-    ensures err { OnErr result (MayTake world.old (Ok (AddSegment x1 y1 x2 y2)) × (world.new ≡ world.old)) }
+    requires kept { IsKept (arranged_row tells held left heard world.old) }
+    ensures answered { OnOk result (IsAnswered (world_row tells held left heard world.old) (Ok (AddSegment x1 y1 x2 y2)) reply.new (world_row tells held left heard world.new)) }
+    ensures err { OnErr result (MayTake (world_row tells held left heard world.old) (Ok (AddSegment x1 y1 x2 y2)) × (world_row tells held left heard world.new ≡ world_row tells held left heard world.old)) }
+    ensures kept { IsKept (arranged_row tells held left heard world.new) }
 {
     match Segment::new(x1, y1, x2, y2) {
         Ok(segment) => return insert(world, segment, reply),
@@ -60,12 +72,13 @@ pub fn segment(
 
 /// Takes a curve away.
 pub fn drop_curve(world: &mut World, curve: u32, reply: &mut Reply) -> Result<(), NoMemory>
-    ensures text { OnOk result (reply.new ≡ (answer_to world.old (Ok (Drop curve))).text) }
-    ensures world { OnOk result (world.new ≡ (answer_to world.old (Ok (Drop curve))).world) }
-    ensures err { OnErr result (MayTake world.old (Ok (Drop curve)) × (world.new ≡ world.old)) }
+    requires kept { IsKept (arranged_row tells held left heard world.old) }
+    ensures answered { OnOk result (IsAnswered (world_row tells held left heard world.old) (Ok (Drop curve)) reply.new (world_row tells held left heard world.new)) }
+    ensures err { OnErr result (MayTake (world_row tells held left heard world.old) (Ok (Drop curve)) × (world_row tells held left heard world.new ≡ world_row tells held left heard world.old)) }
+    ensures kept { IsKept (arranged_row tells held left heard world.new) }
 {
     match world.remove_curve(CurveId(curve)) {
-        Ok(()) => reply.set("ok\n"),
+        Ok(()) => tell_done(world, reply),
         Err(DropError::Unknown) => reply.set("refused 8\n"),
         Err(DropError::NoMemory) => return Err(NoMemory),
     }
@@ -74,12 +87,13 @@ pub fn drop_curve(world: &mut World, curve: u32, reply: &mut Reply) -> Result<()
 
 /// Takes an edge from its curves.
 pub fn cut(world: &mut World, p: &Point, q: &Point, reply: &mut Reply) -> Result<(), NoMemory>
-    ensures text { OnOk result (reply.new ≡ (answer_to world.old (Ok (Cut p.now q.now))).text) }
-    ensures world { OnOk result (world.new ≡ (answer_to world.old (Ok (Cut p.now q.now))).world) }
-    ensures err { OnErr result (MayTake world.old (Ok (Cut p.now q.now)) × (world.new ≡ world.old)) }
+    requires kept { IsKept (arranged_row tells held left heard world.old) }
+    ensures answered { OnOk result (IsAnswered (world_row tells held left heard world.old) (Ok (Cut p.now q.now)) reply.new (world_row tells held left heard world.new)) }
+    ensures err { OnErr result (MayTake (world_row tells held left heard world.old) (Ok (Cut p.now q.now)) × (world_row tells held left heard world.new ≡ world_row tells held left heard world.old)) }
+    ensures kept { IsKept (arranged_row tells held left heard world.new) }
 {
     match world.remove_edge(p, q) {
-        Ok(()) => reply.set("ok\n"),
+        Ok(()) => tell_done(world, reply),
         Err(CutError::NoEdge) => reply.set("refused 9\n"),
         Err(CutError::Full(_)) => reply.set("refused 17\n"),
         Err(CutError::NoMemory) => return Err(NoMemory),
@@ -89,12 +103,13 @@ pub fn cut(world: &mut World, p: &Point, q: &Point, reply: &mut Reply) -> Result
 
 /// Pins a point.
 pub fn pin(world: &mut World, point: &Point, reply: &mut Reply) -> Result<(), NoMemory>
-    ensures text { OnOk result (reply.new ≡ (answer_to world.old (Ok (Pin point.now))).text) }
-    ensures world { OnOk result (world.new ≡ (answer_to world.old (Ok (Pin point.now))).world) }
-    ensures err { OnErr result (MayTake world.old (Ok (Pin point.now)) × (world.new ≡ world.old)) }
+    requires kept { IsKept (arranged_row tells held left heard world.old) }
+    ensures answered { OnOk result (IsAnswered (world_row tells held left heard world.old) (Ok (Pin point.now)) reply.new (world_row tells held left heard world.new)) }
+    ensures err { OnErr result (MayTake (world_row tells held left heard world.old) (Ok (Pin point.now)) × (world_row tells held left heard world.new ≡ world_row tells held left heard world.old)) }
+    ensures kept { IsKept (arranged_row tells held left heard world.new) }
 {
     match world.pin(point) {
-        Ok(()) => reply.set("ok\n"),
+        Ok(()) => tell_done(world, reply),
         Err(PinError::Pinned) => reply.set("refused 13\n"),
         Err(PinError::Full(_)) => reply.set("refused 17\n"),
         Err(PinError::NoMemory) => return Err(NoMemory),
@@ -104,11 +119,12 @@ pub fn pin(world: &mut World, point: &Point, reply: &mut Reply) -> Result<(), No
 
 /// Unpins a point. It takes no memory.
 pub fn unpin(world: &mut World, point: &Point, reply: &mut Reply)
-    ensures text { reply.new ≡ (answer_to world.old (Ok (Unpin point.now))).text }
-    ensures world { world.new ≡ (answer_to world.old (Ok (Unpin point.now))).world }
+    requires kept { IsKept (arranged_row tells held left heard world.old) }
+    ensures answered { IsAnswered (world_row tells held left heard world.old) (Ok (Unpin point.now)) reply.new (world_row tells held left heard world.new) }
+    ensures kept { IsKept (arranged_row tells held left heard world.new) }
 {
     match world.unpin(point) {
-        Ok(()) => reply.set("ok\n"),
+        Ok(()) => tell_done(world, reply),
         Err(_) => reply.set("refused 10\n"),
     }
 }
@@ -121,12 +137,13 @@ pub fn split(
     r: &Point,
     reply: &mut Reply,
 ) -> Result<(), NoMemory>
-    ensures text { OnOk result (reply.new ≡ (answer_to world.old (Ok (Split p.now q.now r.now))).text) }
-    ensures world { OnOk result (world.new ≡ (answer_to world.old (Ok (Split p.now q.now r.now))).world) }
-    ensures err { OnErr result (MayTake world.old (Ok (Split p.now q.now r.now)) × (world.new ≡ world.old)) }
+    requires kept { IsKept (arranged_row tells held left heard world.old) }
+    ensures answered { OnOk result (IsAnswered (world_row tells held left heard world.old) (Ok (Split p.now q.now r.now)) reply.new (world_row tells held left heard world.new)) }
+    ensures err { OnErr result (MayTake (world_row tells held left heard world.old) (Ok (Split p.now q.now r.now)) × (world_row tells held left heard world.new ≡ world_row tells held left heard world.old)) }
+    ensures kept { IsKept (arranged_row tells held left heard world.new) }
 {
     match world.split_edge(p, q, r) {
-        Ok(()) => reply.set("ok\n"),
+        Ok(()) => tell_done(world, reply),
         Err(SplitError::NoEdge) => reply.set("refused 9\n"),
         Err(SplitError::NotInside) => reply.set("refused 11\n"),
         Err(SplitError::Full(_)) => reply.set("refused 17\n"),
@@ -137,11 +154,12 @@ pub fn split(
 
 /// Joins the two edges at a point that its pin alone makes a vertex. It takes no memory.
 pub fn merge(world: &mut World, r: &Point, reply: &mut Reply)
-    ensures text { reply.new ≡ (answer_to world.old (Ok (Merge r.now))).text }
-    ensures world { world.new ≡ (answer_to world.old (Ok (Merge r.now))).world }
+    requires kept { IsKept (arranged_row tells held left heard world.old) }
+    ensures answered { IsAnswered (world_row tells held left heard world.old) (Ok (Merge r.now)) reply.new (world_row tells held left heard world.new) }
+    ensures kept { IsKept (arranged_row tells held left heard world.new) }
 {
     match world.merge_edge(r) {
-        Ok(()) => reply.set("ok\n"),
+        Ok(()) => tell_done(world, reply),
         Err(MergeError::NoVertex) => reply.set("refused 10\n"),
         Err(MergeError::NotMergeable) => reply.set("refused 12\n"),
     }
@@ -149,9 +167,10 @@ pub fn merge(world: &mut World, r: &Point, reply: &mut Reply)
 
 /// Takes every segment and pin away. It takes no memory.
 pub fn clear(world: &mut World, reply: &mut Reply)
-    ensures text { reply.new ≡ (answer_to world.old (Ok Clear)).text }
-    ensures world { world.new ≡ (answer_to world.old (Ok Clear)).world }
+    requires kept { IsKept (arranged_row tells held left heard world.old) }
+    ensures answered { IsAnswered (world_row tells held left heard world.old) (Ok Clear) reply.new (world_row tells held left heard world.new) }
+    ensures kept { IsKept (arranged_row tells held left heard world.new) }
 {
     world.clear();
-    reply.set("ok\n");
+    tell_done(world, reply);
 }

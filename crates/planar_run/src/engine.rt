@@ -1,6 +1,7 @@
 ghost use Rattle.std.specs.Prelude.{◌≡◌, ◌≢◌, [], IfOk, OnOk, OnErr};
 ghost use Rattle.outside.specs.Counts.{HasCause};
 ghost use Rattle.planar_run.specs.World.{first_world};
+ghost use Rattle.planar_run.specs.Rows.{arranged_row, waiting_rows, world_row, IsKept};
 ghost use Rattle.planar_run.specs.Engine.{Answers, AnswersPart, Takes, Feeds, FeedsPart};
 ghost use Rattle.planar_run.specs.Clauses.{Causes, Finishes};
 
@@ -9,6 +10,7 @@ use crate::line::Line;
 use crate::reply::Reply;
 use crate::status::Status;
 use crate::world::World;
+use arr_notes::Observer;
 use no_memory::NoMemory;
 use outside::{Failed, Sink, write_all};
 use std::alloc::Global;
@@ -23,11 +25,13 @@ pub struct Engine {
 
 impl Engine {
     /// Before the first byte. This is the memory that every run needs.
-    pub fn new(alloc: Global) -> Result<Engine, NoMemory>
-        ensures { IfOk result (λ e. (e.world ≡ first_world) × (e.line ≡ [])) }
+    pub fn new(alloc: Global, observers: Vec<Box<dyn Observer>>) -> Result<Engine, NoMemory>
+        ensures first { IfOk result (λ e. world_row tells held left heard e.world ≡ first_world (waiting_rows tells left observers.items)) }
+        ensures begun { IfOk result (λ e. e.line ≡ []) }
+        ensures kept { IfOk result (λ e. IsKept (arranged_row tells held left heard e.world)) }
     {
         Ok(Engine {
-            world: World::new(alloc)?,
+            world: World::new(alloc, observers)?,
             line: Line::new(alloc)?,
             reply: Reply::new(alloc)?,
         })
@@ -35,10 +39,12 @@ impl Engine {
 
     // Answers the line that was begun, and begins the next.
     fn end_line<K: Sink>(&mut self, sink: &mut K) -> Result<(), Failed>
-        ensures answered { OnOk result (Answers (K.taken sink.old) (K.taken sink.new) self.old.world self.old.line self.new.world) }
+        requires kept { IsKept (arranged_row tells held left heard self.old.world) }
+        ensures answered { OnOk result (Answers (K.taken sink.old) (K.taken sink.new) (world_row tells held left heard self.old.world) self.old.line (world_row tells held left heard self.new.world)) }
         ensures cleared { OnOk result (self.new.line ≡ []) }
-        ensures broken { OnErr result (AnswersPart (K.taken sink.old) (K.taken sink.new) self.old.world self.old.line) }
+        ensures broken { OnErr result (AnswersPart (K.taken sink.old) (K.taken sink.new) (world_row tells held left heard self.old.world) self.old.line) }
         ensures cause { HasCause (K.faults sink.old) (K.faults sink.new) result }
+        ensures kept { IsKept (arranged_row tells held left heard self.new.world) }
     {
         answer(&mut self.world, self.line.as_slice(), &mut self.reply);
         self.line.clear();
@@ -47,9 +53,11 @@ impl Engine {
 
     // One more byte of the script.
     fn take<K: Sink>(&mut self, byte: u8, sink: &mut K) -> Result<(), Failed>
-        ensures taken { OnOk result (Takes byte (K.taken sink.old) (K.taken sink.new) self.old.world self.old.line self.new.world self.new.line) }
-        ensures broken { OnErr result ((byte ≡ 10) × AnswersPart (K.taken sink.old) (K.taken sink.new) self.old.world self.old.line) }
+        requires kept { IsKept (arranged_row tells held left heard self.old.world) }
+        ensures taken { OnOk result (Takes byte (K.taken sink.old) (K.taken sink.new) (world_row tells held left heard self.old.world) self.old.line (world_row tells held left heard self.new.world) self.new.line) }
+        ensures broken { OnErr result ((byte ≡ 10) × AnswersPart (K.taken sink.old) (K.taken sink.new) (world_row tells held left heard self.old.world) self.old.line) }
         ensures cause { HasCause (K.faults sink.old) (K.faults sink.new) result }
+        ensures kept { IsKept (arranged_row tells held left heard self.new.world) }
     {
         if byte == b'\n' {
             return self.end_line(sink);
@@ -60,9 +68,11 @@ impl Engine {
 
     /// More bytes of the script. Each line is answered when its end comes.
     pub fn feed<K: Sink>(&mut self, bytes: &[u8], sink: &mut K) -> Result<(), Failed>
-        ensures fed { OnOk result (Feeds bytes.now (K.taken sink.old) (K.taken sink.new) self.old.world self.old.line self.new.world self.new.line) }
-        ensures broken { OnErr result (FeedsPart bytes.now (K.taken sink.old) (K.taken sink.new) self.old.world self.old.line) }
+        requires kept { IsKept (arranged_row tells held left heard self.old.world) }
+        ensures fed { OnOk result (Feeds bytes.now (K.taken sink.old) (K.taken sink.new) (world_row tells held left heard self.old.world) self.old.line (world_row tells held left heard self.new.world) self.new.line) }
+        ensures broken { OnErr result (FeedsPart bytes.now (K.taken sink.old) (K.taken sink.new) (world_row tells held left heard self.old.world) self.old.line) }
         ensures cause { HasCause (K.faults sink.old) (K.faults sink.new) result }
+        ensures kept { IsKept (arranged_row tells held left heard self.new.world) }
     {
         for byte in bytes {
             self.take(*byte, sink)?;
@@ -72,8 +82,10 @@ impl Engine {
 
     /// The end of the script.
     pub fn finish<K: Sink>(&mut self, sink: &mut K) -> Status
-        ensures finishes { Finishes result (K.taken sink.old) (K.taken sink.new) self.old.world self.old.line }
+        requires kept { IsKept (arranged_row tells held left heard self.old.world) }
+        ensures finishes { Finishes result (K.taken sink.old) (K.taken sink.new) (world_row tells held left heard self.old.world) self.old.line }
         ensures causes { Causes result 0 0 (K.faults sink.old) (K.faults sink.new) }
+        ensures kept { IsKept (arranged_row tells held left heard self.new.world) }
     {
         if self.line.is_empty() {
             return Status::Done;

@@ -8,11 +8,14 @@ mod answer;
 mod edits;
 mod engine;
 mod line;
+mod observers;
+mod places;
 mod questions;
 mod reply;
 mod run;
 mod status;
 mod text;
+mod went;
 mod world;
 
 pub use run::planar;

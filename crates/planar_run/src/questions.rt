@@ -1,6 +1,7 @@
 ghost use Rattle.std.specs.Prelude.{◌≡◌, [], Ok, OnOk, OnErr};
 ghost use Rattle.script_lines.specs.declared.command.Command.TheVariants.{Locate, Edge, Curve, Count, Show};
-ghost use Rattle.planar_run.specs.Answer.{answer_to, MayTake};
+ghost use Rattle.planar_run.specs.Answer.{IsAnswered, MayTake};
+ghost use Rattle.planar_run.specs.Rows.{world_row};
 
 use crate::reply::Reply;
 use crate::text::{put_cell, put_counts, put_curve, put_curves};
@@ -13,8 +14,8 @@ use slab_laws::CurveId;
 /// Tells where a point lies.
 pub fn locate(world: &mut World, point: &Point, reply: &mut Reply) -> Result<(), NoMemory>
     requires { reply.old ≡ [] }
-    ensures text { OnOk result (reply.new ≡ (answer_to world.old (Ok (Locate point.now))).text) }
-    ensures world { world.new ≡ world.old }
+    ensures answered { OnOk result (IsAnswered (world_row tells held left heard world.old) (Ok (Locate point.now)) reply.new (world_row tells held left heard world.old)) }
+    ensures same { world.new ≡ world.old }
 {
     put_cell(reply, world.locate(point)?)?;
     reply.put_text("\n")
@@ -23,8 +24,8 @@ pub fn locate(world: &mut World, point: &Point, reply: &mut Reply) -> Result<(),
 /// Tells the curves along an edge.
 pub fn edge(world: &World, p: &Point, q: &Point, reply: &mut Reply) -> Result<(), NoMemory>
     requires { reply.old ≡ [] }
-    ensures text { OnOk result (reply.new ≡ (answer_to world.now (Ok (Edge p.now q.now))).text) }
-    ensures err { OnErr result (MayTake world.now (Ok (Edge p.now q.now))) }
+    ensures answered { OnOk result (IsAnswered (world_row tells held left heard world.now) (Ok (Edge p.now q.now)) reply.new (world_row tells held left heard world.now)) }
+    ensures err { OnErr result (MayTake (world_row tells held left heard world.now) (Ok (Edge p.now q.now))) }
 {
     match world.curves_of(p, q) {
         Ok(curves) => return put_curves(reply, &curves),
@@ -37,8 +38,8 @@ pub fn edge(world: &World, p: &Point, q: &Point, reply: &mut Reply) -> Result<()
 /// Tells the edges along which a curve runs.
 pub fn curve(world: &World, curve: u32, reply: &mut Reply) -> Result<(), NoMemory>
     requires { reply.old ≡ [] }
-    ensures text { OnOk result (reply.new ≡ (answer_to world.now (Ok (Curve curve))).text) }
-    ensures err { OnErr result (MayTake world.now (Ok (Curve curve))) }
+    ensures answered { OnOk result (IsAnswered (world_row tells held left heard world.now) (Ok (Curve curve)) reply.new (world_row tells held left heard world.now)) }
+    ensures err { OnErr result (MayTake (world_row tells held left heard world.now) (Ok (Curve curve))) }
 {
     match world.edges_of(CurveId(curve)) {
         Ok(edges) => return put_curve(reply, curve, &edges),
@@ -51,7 +52,7 @@ pub fn curve(world: &World, curve: u32, reply: &mut Reply) -> Result<(), NoMemor
 /// Tells how many cells of each kind there are, and how many curves.
 pub fn count(world: &World, reply: &mut Reply) -> Result<(), NoMemory>
     requires { reply.old ≡ [] }
-    ensures { OnOk result (reply.new ≡ (answer_to world.now (Ok Count)).text) }
+    ensures { OnOk result (IsAnswered (world_row tells held left heard world.now) (Ok Count) reply.new (world_row tells held left heard world.now)) }
 {
     put_counts(reply, &world.counts()?)
 }
@@ -59,7 +60,7 @@ pub fn count(world: &World, reply: &mut Reply) -> Result<(), NoMemory>
 /// Tells the whole subdivision.
 pub fn show(world: &World, reply: &mut Reply) -> Result<(), NoMemory>
     requires { reply.old ≡ [] }
-    ensures { OnOk result (reply.new ≡ (answer_to world.now (Ok Show)).text) }
+    ensures { OnOk result (IsAnswered (world_row tells held left heard world.now) (Ok Show) reply.new (world_row tells held left heard world.now)) }
 {
     reply.set_bytes(world.text()?);
     Ok(())

@@ -1,13 +1,15 @@
-ghost use Rattle.std.specs.Prelude.{◌≡◌, ◌≢◌, ◌⊎◌, ◌+◌, ◌^◌, ◌≤◌, [], length, take, IsSomeAnd};
+ghost use Rattle.std.specs.Prelude.{List, ◌≡◌, ◌≢◌, ◌⊎◌, ◌+◌, ◌^◌, ◌≤◌, [], length, take, IsSomeAnd};
 ghost use Rattle.outside.specs.Bytes.{Gains, GainsPrefix};
 ghost use Rattle.outside.specs.Counts.{Rose};
 ghost use Rattle.planar_run.specs.Lines.{lines, ended_lines};
-ghost use Rattle.planar_run.specs.World.{first_world};
+ghost use Rattle.planar_run.specs.World.{first_world, Waiting};
+ghost use Rattle.planar_run.specs.Rows.{arranged_row, waiting_rows, world_row, IsKept};
 ghost use Rattle.planar_run.specs.Run.{IsRun, BeginsRun};
 ghost use Rattle.planar_run.specs.Clauses.{usage_line, Used, UsedAndWritten, ReadToEnd, Ends, Causes};
 
 use crate::engine::Engine;
 use crate::status::Status;
+use arr_notes::Observer;
 use outside::{Sink, Source, read_byte, write_all};
 use std::alloc::Global;
 
@@ -19,9 +21,10 @@ const BUFFER: usize = 4096;
 
 // Reads the script and answers its lines, by an engine that stands before the first byte.
 fn answer_script<S: Source, K: Sink>(engine: &mut Engine, source: &mut S, sink: &mut K) -> Status
-    requires world { engine.old.world ≡ first_world }
     requires line { engine.old.line ≡ [] }
-    ensures ends { Ends result (S.left source.old) (S.left source.new) (K.taken sink.old) (K.taken sink.new) }
+    requires kept { IsKept (arranged_row tells held (λ b. (⟦<dyn Observer as Observer>⟧ b.vtable).left b.value) heard engine.old.world) }
+    ensures ends { (observers : List Waiting) → world_row tells held (λ b. (⟦<dyn Observer as Observer>⟧ b.vtable).left b.value) heard engine.old.world ≡ first_world observers →
+        Ends observers result (S.left source.old) (S.left source.new) (K.taken sink.old) (K.taken sink.new) }
     ensures causes { Causes result (S.faults source.old) (S.faults source.new) (K.faults sink.old) (K.faults sink.new) }
     ensures reads { S.calls source.new ≤ S.calls source.old + (SCRIPT_LIMIT + 1) }
 {
@@ -51,12 +54,17 @@ fn answer_script<S: Source, K: Sink>(engine: &mut Engine, source: &mut S, sink: 
 
 // The same by a new engine, where there is memory for it. The engine goes at one place alone, since each proves anew
 // that all of it may go.
-fn run<S: Source, K: Sink>(alloc: Global, source: &mut S, sink: &mut K) -> Status
-    ensures ends { Ends result (S.left source.old) (S.left source.new) (K.taken sink.old) (K.taken sink.new) }
+fn run<S: Source, K: Sink>(
+    alloc: Global,
+    source: &mut S,
+    sink: &mut K,
+    observers: Vec<Box<dyn Observer>>,
+) -> Status
+    ensures ends { Ends (waiting_rows tells (λ b. (⟦<dyn Observer as Observer>⟧ b.vtable).left b.value) observers.items) result (S.left source.old) (S.left source.new) (K.taken sink.old) (K.taken sink.new) }
     ensures causes { Causes result (S.faults source.old) (S.faults source.new) (K.faults sink.old) (K.faults sink.new) }
     ensures reads { S.calls source.new ≤ S.calls source.old + (SCRIPT_LIMIT + 1) }
 {
-    match Engine::new(alloc) {
+    match Engine::new(alloc, observers) {
         Ok(mut engine) => answer_script(&mut engine, source, sink),
         Err(_) => Status::NoMemory,
     }
@@ -85,15 +93,16 @@ pub fn planar<S: Source, K: Sink>(
     words: &[String],
     source: &mut S,
     sink: &mut K,
+    observers: Vec<Box<dyn Observer>>,
 ) -> Status
     // What the sink took is a run of the lines of the script, whose end was reached.
     ensures read_to_end { result ≡ Status.Done → ReadToEnd (S.left source.old) (S.left source.new) }
-    ensures answered { result ≡ Status.Done → UsedAndWritten (S.left source.old) (S.left source.new) (K.taken sink.old) (K.taken sink.new) (λ used out. IsRun (lines used) out) }
+    ensures answered { result ≡ Status.Done → UsedAndWritten (S.left source.old) (S.left source.new) (K.taken sink.old) (K.taken sink.new) (λ used out. IsRun (waiting_rows tells (λ b. (⟦<dyn Observer as Observer>⟧ b.vtable).left b.value) observers.items) (lines used) out) }
 
     // After a fault, or past the limit, the lines whose end was read are answered.
-    ensures answered_to_read_fault { result ≡ Status.ReadFault → UsedAndWritten (S.left source.old) (S.left source.new) (K.taken sink.old) (K.taken sink.new) (λ used out. IsRun (ended_lines used) out) }
-    ensures answered_to_limit { result ≡ Status.TooLong → UsedAndWritten (S.left source.old) (S.left source.new) (K.taken sink.old) (K.taken sink.new) (λ used out. IsRun (ended_lines (take SCRIPT_LIMIT used)) out) }
-    ensures answered_to_write_fault { length words.now ≡ 1 → result ≡ Status.WriteFault → UsedAndWritten (S.left source.old) (S.left source.new) (K.taken sink.old) (K.taken sink.new) (λ used out. BeginsRun (lines used) out) }
+    ensures answered_to_read_fault { result ≡ Status.ReadFault → UsedAndWritten (S.left source.old) (S.left source.new) (K.taken sink.old) (K.taken sink.new) (λ used out. IsRun (waiting_rows tells (λ b. (⟦<dyn Observer as Observer>⟧ b.vtable).left b.value) observers.items) (ended_lines used) out) }
+    ensures answered_to_limit { result ≡ Status.TooLong → UsedAndWritten (S.left source.old) (S.left source.new) (K.taken sink.old) (K.taken sink.new) (λ used out. IsRun (waiting_rows tells (λ b. (⟦<dyn Observer as Observer>⟧ b.vtable).left b.value) observers.items) (ended_lines (take SCRIPT_LIMIT used)) out) }
+    ensures answered_to_write_fault { length words.now ≡ 1 → result ≡ Status.WriteFault → UsedAndWritten (S.left source.old) (S.left source.new) (K.taken sink.old) (K.taken sink.new) (λ used out. BeginsRun (waiting_rows tells (λ b. (⟦<dyn Observer as Observer>⟧ b.vtable).left b.value) observers.items) (lines used) out) }
 
     // The program's name alone is the grammar of the words. Other words are answered by the usage line, and nothing is read.
     ensures usage { result ≡ Status.Usage → (length words.now ≢ 1) × Gains (K.taken sink.old) (K.taken sink.new) usage_line }
@@ -125,5 +134,5 @@ pub fn planar<S: Source, K: Sink>(
     if words.len() != 1 {
         return refuse_words(sink);
     }
-    run(alloc, source, sink)
+    run(alloc, source, sink, observers)
 }

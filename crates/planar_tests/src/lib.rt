@@ -8,6 +8,8 @@ mod makers;
 #[cfg(test)]
 mod memory;
 #[cfg(test)]
+mod observers;
+#[cfg(test)]
 mod removals;
 #[cfg(test)]
 mod rows;

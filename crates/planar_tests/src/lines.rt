@@ -6,7 +6,7 @@ use std::test::Fail;
 fn commands_are_read(rt: HostRuntime) {
     let point = |x, y, w| Point::new(x, y, w).ok();
     let ends = point(0, 0, 1).zip(point(4, 0, 1));
-    let rows: [(&[u8], Option<Command>); 22] = [
+    let rows: [(&[u8], Option<Command>); 26] = [
         (b"show", Some(Command::Show)),
         (b"  show ", Some(Command::Show)),
         (b"count", Some(Command::Count)),
@@ -35,6 +35,13 @@ fn commands_are_read(rt: HostRuntime) {
         ),
         (b"edge 4 0 1 0 0 1", ends.map(|(p, q)| Command::Edge(q, p))),
         (b"curve 1", Some(Command::Curve(1))),
+        (b"attach 1", Some(Command::Attach(1, None))),
+        (
+            b"attach 64 at 1000000",
+            Some(Command::Attach(64, Some(1000000))),
+        ),
+        (b" leave  2 at   4 ", Some(Command::Leave(2, Some(4)))),
+        (b"mirror 64", Some(Command::Mirror(64))),
         (b"# note", Some(Command::Nothing)),
         (b"  #pin 0 0", Some(Command::Nothing)),
         (b"   ", Some(Command::Nothing)),
@@ -50,11 +57,14 @@ fn commands_are_read(rt: HostRuntime) {
 
 #[test]
 fn errors_come_in_their_order(rt: HostRuntime) {
-    let rows: [(&[u8], LineError); 36] = [
+    let rows: [(&[u8], LineError); 43] = [
         (b"paint", LineError::Word),
         (b"segments 0 0 1 1", LineError::Word),
         (b"Show", LineError::Word),
         (b"pinn 0 0 1", LineError::Word),
+        (b"attach 1 on 3", LineError::Word),
+        (b"attach x on 3", LineError::Word),
+        (b"attach 1 at", LineError::Count),
         (b"pin", LineError::Count),
         (b"pin 0 0", LineError::Count),
         (b"pin 0 x", LineError::Count),
@@ -72,6 +82,10 @@ fn errors_come_in_their_order(rt: HostRuntime) {
         (b"segment 0 0 1 01", LineError::Number),
         (b"segment 0 x 1048576 0", LineError::Number),
         (b"cut 1 0 1 x 0 0", LineError::Number),
+        (b"attach x at 0", LineError::Number),
+        (b"attach 65", LineError::Range),
+        (b"leave 1 at 1000001", LineError::Range),
+        (b"mirror 0", LineError::Range),
         (b"drop 0", LineError::Range),
         (b"curve 4294967296", LineError::Range),
         (b"cut 1 0 0 1 0 1", LineError::Range),
@@ -138,7 +152,10 @@ fn errors_have_their_numbers(rt: HostRuntime) {
 #[test]
 fn errors_have_their_words(rt: HostRuntime) -> Result<(), Fail> {
     let rows = [
-        (LineError::Word, "the first word isn't a command"),
+        (
+            LineError::Word,
+            "the first word isn't a command, or a fixed word isn't spelt so",
+        ),
         (
             LineError::Count,
             "the count of words isn't one that the command has",

@@ -1,20 +1,41 @@
-ghost use Rattle.std.specs.Prelude.{◌<◌};
+ghost use Rattle.std.specs.Prelude.{◌<◌, ◌≢◌, Some};
 
 use crate::rows::ROWS;
+use arr_notes::Observer;
+use mirror_observer::Mirror;
 use outside::{MemorySink, MemorySource, RepeatSource, Source};
 use planar_run::{Status, planar};
 use std::alloc::Global;
 use std::fmt::Write;
 use std::test::Fail;
 
-// How a script ends that the source gives, by the program's name alone.
+// How a script ends that the source gives, under these words, with so many mirrors, each of which leaves after so many notes, if any.
+pub fn status_with<S: Source>(
+    alloc: Global,
+    words: &[String],
+    source: &mut S,
+    sink: &mut MemorySink,
+    mirrors: usize,
+    left: Option<u64>,
+) -> Result<Status, Fail>
+    requires { left ≢ Some 0 }
+{
+    let mut observers: Vec<Box<dyn Observer>> = Vec::new(alloc);
+    for _ in 0..mirrors {
+        let mirror = Mirror::new(alloc, left)?;
+        observers.push(Box::new(alloc, mirror)?)?;
+    }
+    Ok(planar(alloc, words, source, sink, observers))
+}
+
+// How a script ends that the source gives, by the program's name alone, with four mirrors.
 fn status_of<S: Source>(
     alloc: Global,
     source: &mut S,
     sink: &mut MemorySink,
 ) -> Result<Status, Fail> {
     let words = [String::from_str(alloc, "planar")?];
-    Ok(planar(alloc, &words, source, sink))
+    status_with(alloc, &words, source, sink, 4, None)
 }
 
 // The status and the replies of what the source gives.
@@ -221,7 +242,7 @@ fn a_write_that_fails_ends_the_run(rt: HostRuntime) -> Result<(), Fail> {
 fn are_refused(alloc: Global, words: &[String]) -> Result<bool, Fail> {
     let mut source = RepeatSource::new(10, 5);
     let mut sink = MemorySink::new(alloc, 100, 100, Vec::new(alloc))?;
-    let status = planar(alloc, words, &mut source, &mut sink);
+    let status = status_with(alloc, words, &mut source, &mut sink, 4, None)?;
     Ok(status == Status::Usage && sink.taken() == b"usage: planar\n".as_slice())
 }
 

@@ -29,21 +29,24 @@ use Rattle.arr_notes.specs.Curves.{Curves, AreCurvesOf}
 use Rattle.arr_notes.specs.RecordGraph.{drawn_graph}
 use Rattle.dcel_records.specs.RecordsView.{RecordsView, SameRecordCapacity}
 use Rattle.curve_history.specs.Past.{Past, SameHistoryCapacity}
+use Rattle.observer_bus.specs.Rounds.{BusRow}
 use Rattle.sound_changes.proofs.StepHolds.{held_pin, held_point, pin_held, point_held}
-use Rattle.record_layers.specs.RecordLayers.{IsRunOfSteps}
-use Rattle.record_layers.proofs.Runs.{made_in_turn, made_is_run}
+use Rattle.record_layers.proofs.Runs.{made_is_run}
 use Rattle.record_layers.proofs.Stays.{IsSamePlace}
+use Rattle.told_steps.proofs.Begun.{none_told}
+use Rattle.told_steps.proofs.ToldTogether.{told_runs_lawful}
+use Rattle.told_steps.specs.ToldRuns.{AreInStep, IsToldRun}
 use Rattle.redundant_vertices.specs.Left.{AreLeft, tidying}
 use Rattle.redundant_vertices.specs.Tidied.{IsTidied}
 use Rattle.redundant_vertices.proofs.Missing.{first_ascend, known, last_ascend, missing_ascend, missing_in, missing_out, none_missing, one_missing, one_step_on, same_missing, unknown}
-use Rattle.redundant_vertices.proofs.Stayed.{other_stays, tidied_curves, tidied_sound}
+use Rattle.redundant_vertices.proofs.Stayed.{other_stays, tidied_in_step}
 
 points_ascend : (v : View) (h : Curves) → IsAscending point_cmp (drawn_graph v h).points
 unfolding drawn_graph
 points_ascend v h = IsAscending-ascending point_cmp point_cmp_total _
 
 -- ---- what the records draw after the steps for some of the points
-module _ (v : View) (h : Curves) (s : IsGraphSound v) (a : AreCurvesOf v h) (p : Present) (all : List Point) (l : AreLeft v h p all) (done : List Point) (ascend : IsAscending point_cmp done) (there : (x : Point) → Member x done → Member x (drawn_graph v h).points) where
+module _ (v : View) (h : Curves) (b : BusRow) (s : IsGraphSound v) (a : AreCurvesOf v h) (p : Present) (all : List Point) (l : AreLeft v h p all) (done : List Point) (ascend : IsAscending point_cmp done) (there : (x : Point) → Member x done → Member x (drawn_graph v h).points) where
   abbrev g : Graph
   g = drawn_graph v h
 
@@ -89,12 +92,12 @@ module _ (v : View) (h : Curves) (s : IsGraphSound v) (a : AreCurvesOf v h) (p :
   run_is : run (tidy_steps gone g) g ≡ graph_over rest p.pieces p.pins
   run_is = subst (λ z. run (tidy_steps gone z) z ≡ graph_over rest p.pieces p.pins) (sym l.draws) (shrunk p.pieces p.pins (tidy_sound p.pieces p.pins) gone g.points rest sum closed (λ x m. proper x (gone_there x m))).0
 
-  module _ (w : View) (k : Curves) (sw : IsGraphSound w) (made : IsRunOfSteps v h (tidy_steps gone g) w k) (x : VertexId) (has : HasVertex w x) where
+  module _ (w : View) (k : Curves) (c : BusRow) (sw : IsGraphSound w) (told : IsToldRun v h b (tidy_steps gone g) w k c) (x : VertexId) (has : HasVertex w x) where
     abbrev r : Point
     r = point_in w x
 
     ran : drawn_graph w k ≡ run (tidy_steps gone g) g
-    ran = (made_is_run v h (tidy_steps gone g) w k s a made).graph
+    ran = (made_is_run v h (tidy_steps gone g) w k s a (told_runs_lawful.steps v h b (tidy_steps gone g) w k c told)).graph
 
     drawn : drawn_graph w k ≡ graph_over rest p.pieces p.pins
     drawn = ran ∙ run_is
@@ -103,10 +106,10 @@ module _ (v : View) (h : Curves) (s : IsGraphSound v) (a : AreCurvesOf v h) (p :
     here = subst (λ z. Member r z.points) drawn (point_held w sw.named k x has)
 
     -- a pinned vertex is one of the present
-    pub pinned_stays : pinned_in w x ≡ true → IsRunOfSteps v h (tidy_steps (missing_points (done ++ (r ∷ [])) vs) g) w k
+    pub pinned_stays : pinned_in w x ≡ true → IsToldRun v h b (tidy_steps (missing_points (done ++ (r ∷ [])) vs) g) w k c
     pinned_stays e =
         let m : Member r vs = vertex_in p r (pinned (subst (λ z. Member r z.pins) drawn (pin_held w sw.named k x has e))) in
-        subst (λ ps. IsRunOfSteps v h (tidy_steps ps g) w k) (sym (none_missing done vs r m)) made
+        told_runs_lawful.same_steps v h b _ _ w k c (ap (λ ps. tidy_steps ps g) (sym (none_missing done vs r m))) told
 
     unpinned : pinned_in w x ≡ false → Member r p.pins → ⊥
     unpinned e m =
@@ -123,15 +126,15 @@ module _ (v : View) (h : Curves) (s : IsGraphSound v) (a : AreCurvesOf v h) (p :
     ]
 
     -- one that is not pinned stays just where it is one of the present
-    pub tidied_goes : pinned_in w x ≡ false → (w2 : View) (k2 : Curves) → IsTidied w k r w2 k2 → IsRunOfSteps v h (tidy_steps (missing_points (done ++ (r ∷ [])) vs) g) w2 k2
-    tidied_goes e w2 k2 (inl t) =
-        subst (λ ss. IsRunOfSteps v h ss w2 k2)
+    pub tidied_goes : pinned_in w x ≡ false → (w2 : View) (k2 : Curves) (c2 : BusRow) → IsTidied w k c r w2 k2 c2 → IsToldRun v h b (tidy_steps (missing_points (done ++ (r ∷ [])) vs) g) w2 k2 c2
+    tidied_goes e w2 k2 c2 (inl t) =
+        told_runs_lawful.same_steps v h b (tidy_steps gone g ++ (tidy_step r (drawn_graph w k) ∷ [])) _ w2 k2 c2
         (ap (λ z. tidy_steps gone g ++ (tidy_step r z ∷ [])) ran ∙ sym (one_step_on gone r g) ∙ ap (λ ps. tidy_steps ps g) (sym (one_missing done vs r (goes e t.0))))
-        (made_in_turn v h (tidy_steps gone g) (tidy_step r (drawn_graph w k) ∷ []) w k w2 k2 made t.1)
-    tidied_goes e w2 k2 (inr t) =
-        subst (λ ss. IsRunOfSteps v h ss w2 k2)
+        (told_runs_lawful.follow v h b (tidy_steps gone g) (tidy_step r (drawn_graph w k) ∷ []) w k c w2 k2 c2 told t.1)
+    tidied_goes e w2 k2 c2 (inr t) =
+        told_runs_lawful.same_steps v h b (tidy_steps gone g ++ []) _ w2 k2 c2
         (append-nil (tidy_steps gone g) ∙ ap (λ ps. tidy_steps ps g) (sym (none_missing done vs r (stays t.0))))
-        (made_in_turn v h (tidy_steps gone g) [] w k w2 k2 made t.1)
+        (told_runs_lawful.follow v h b (tidy_steps gone g) [] w k c w2 k2 c2 told t.1)
 
 pub same_records : (a b c : RecordsView) → SameRecordCapacity a b → SameRecordCapacity b c → SameRecordCapacity a c
 same_records a b c x y = record { of_vertices = y.of_vertices ∙ x.of_vertices; of_darts = y.of_darts ∙ x.of_darts }
@@ -141,41 +144,39 @@ same_histories a b c x y = record { by_edge = y.by_edge ∙ x.by_edge; by_curve 
 
 -- ---- the walk along the vertices
 -- the first of the vertices are tidied, the last ones have their records still; what the steps are is said for any present that the records are to stand for
-pub record AreTidied (v : View) (h : Curves) (all first last : List VertexId) (w : View) (k : Curves) : Type 0 where
-  pub sound : IsGraphSound w
-  pub curves : AreCurvesOf w k
+pub record AreTidied (v : View) (h : Curves) (b : BusRow) (all first last : List VertexId) (w : View) (k : Curves) (c : BusRow) : Type 0 where
+  pub in_step : AreInStep w k c
   pub stay : AllByRecursion (IsSamePlace v w) last
-  pub made : (p : Present) → AreLeft v h p (map (point_in v) all) → IsRunOfSteps v h (tidy_steps (missing_points (map (point_in v) first) (vertices p)) (drawn_graph v h)) w k
+  pub told : (p : Present) → AreLeft v h p (map (point_in v) all) → IsToldRun v h b (tidy_steps (missing_points (map (point_in v) first) (vertices p)) (drawn_graph v h)) w k c
 
 all_by : (P Q : VertexId → Type 0) (xs : List VertexId) → ((x : VertexId) → Member x xs → P x → Q x) → AllByRecursion P xs → AllByRecursion Q xs
 all_by P Q [] f a = tt
 all_by P Q (x ∷ xs) f a = (f x (inl refl) a.0, all_by P Q xs (λ y m. f y (inr m)) a.1)
 
 -- at first, nothing is
-pub none_tidied : (v : View) (h : Curves) (all : List VertexId) → IsGraphSound v → AreCurvesOf v h → AllByRecursion (HasVertex v) all → AreTidied v h all [] all v h
+pub none_tidied : (v : View) (h : Curves) (b : BusRow) (all : List VertexId) → AreInStep v h b → AllByRecursion (HasVertex v) all → AreTidied v h b all [] all v h b
 unfolding tidy_steps missing_points
-none_tidied v h all s a has = record {
-  sound = s;
-  curves = a;
+none_tidied v h b all i has = record {
+  in_step = i;
   stay = all_by (HasVertex v) (IsSamePlace v v) all (λ x m o. record { has = o; point = refl }) has;
-  made = λ p l. (refl, λ d. refl);
+  told = λ p l. none_told v h b;
 }
 
-module _ (v : View) (h : Curves) (s : IsGraphSound v) (a : AreCurvesOf v h) (all : List VertexId) (have : AllByRecursion (HasVertex v) all) (ascend : IsAscending point_cmp (map (point_in v) all)) where
+module _ (v : View) (h : Curves) (b : BusRow) (i : AreInStep v h b) (all : List VertexId) (have : AllByRecursion (HasVertex v) all) (ascend : IsAscending point_cmp (map (point_in v) all)) where
   all_there : (x : Point) → Member x (map (point_in v) all) → Member x (drawn_graph v h).points
   all_there x m =
       let u = of_map (point_in v) x all m in
-      subst (λ z. Member z (drawn_graph v h).points) (sym u.2) (point_held v s.named h u.0 (All-member (HasVertex v) u.0 all have u.1))
+      subst (λ z. Member z (drawn_graph v h).points) (sym u.2) (point_held v i.sound.named h u.0 (All-member (HasVertex v) u.0 all have u.1))
 
   -- in the end, all points that are no vertices of the present went
-  pub all_made : (w : View) (k : Curves) (last : List VertexId) → AreTidied v h all all last w k → (p : Present) → AreLeft v h p (map (point_in v) all) → IsRunOfSteps v h (tidying (drawn_graph v h) p) w k
-  all_made w k last t p l =
-      subst (λ ps. IsRunOfSteps v h (tidy_steps ps (drawn_graph v h)) w k)
-      (same_missing (map (point_in v) all) (drawn_graph v h).points (vertices p) ascend (points_ascend v h) all_there l.others)
-      (t.made p l)
+  pub all_told : (w : View) (k : Curves) (c : BusRow) (last : List VertexId) → AreTidied v h b all all last w k c → (p : Present) → AreLeft v h p (map (point_in v) all) → IsToldRun v h b (tidying (drawn_graph v h) p) w k c
+  all_told w k c last t p l =
+      told_runs_lawful.same_steps v h b _ _ w k c
+      (ap (λ ps. tidy_steps ps (drawn_graph v h)) (same_missing (map (point_in v) all) (drawn_graph v h).points (vertices p) ascend (points_ascend v h) all_there l.others))
+      (t.told p l)
 
   -- the next vertex
-  module _ (first last : List VertexId) (x : VertexId) (split : first ++ (x ∷ last) ≡ all) (w : View) (k : Curves) (t : AreTidied v h all first (x ∷ last) w k) where
+  module _ (first last : List VertexId) (x : VertexId) (split : first ++ (x ∷ last) ≡ all) (w : View) (k : Curves) (c : BusRow) (t : AreTidied v h b all first (x ∷ last) w k c) where
     abbrev firsts : List Point
     firsts = map (point_in v) first
 
@@ -200,51 +201,49 @@ module _ (v : View) (h : Curves) (s : IsGraphSound v) (a : AreCurvesOf v h) (all
         let o = All-member (λ q. point_cmp (point_in v x) q ≡ Less) (point_in v u) (map (point_in v) last) (last_ascend point_cmp firsts (point_in v x ∷ map (point_in v) last) parts_ascend).0 (in_map (point_in v) u last m) in
         lt_never {p = point_in v x} (record { is = subst (λ q. point_cmp (point_in v x) q ≡ Less) (sym at ∙ e ∙ t.stay.0.point) o })
 
-    named : (w2 : View) (k2 : Curves) (p : Present) → IsRunOfSteps v h (tidy_steps (missing_points (firsts ++ (point_in w x ∷ [])) (vertices p)) (drawn_graph v h)) w2 k2 → IsRunOfSteps v h (tidy_steps (missing_points (map (point_in v) (first ++ (x ∷ []))) (vertices p)) (drawn_graph v h)) w2 k2
-    named w2 k2 p m =
-        subst (λ ps. IsRunOfSteps v h (tidy_steps (missing_points ps (vertices p)) (drawn_graph v h)) w2 k2)
-        (ap (λ q. firsts ++ (q ∷ [])) t.stay.0.point ∙ sym (map-append (point_in v) first (x ∷ [])))
+    named : (w2 : View) (k2 : Curves) (c2 : BusRow) (p : Present) → IsToldRun v h b (tidy_steps (missing_points (firsts ++ (point_in w x ∷ [])) (vertices p)) (drawn_graph v h)) w2 k2 c2 → IsToldRun v h b (tidy_steps (missing_points (map (point_in v) (first ++ (x ∷ []))) (vertices p)) (drawn_graph v h)) w2 k2 c2
+    named w2 k2 c2 p m =
+        told_runs_lawful.same_steps v h b _ _ w2 k2 c2
+        (ap (λ ps. tidy_steps (missing_points ps (vertices p)) (drawn_graph v h)) (ap (λ q. firsts ++ (q ∷ [])) t.stay.0.point ∙ sym (map-append (point_in v) first (x ∷ []))))
         m
 
-    pub pinned_on : pinned_in w x ≡ true → AreTidied v h all (first ++ (x ∷ [])) last w k
+    pub pinned_on : pinned_in w x ≡ true → AreTidied v h b all (first ++ (x ∷ [])) last w k c
     pinned_on e = record {
-      sound = t.sound;
-      curves = t.curves;
+      in_step = t.in_step;
       stay = t.stay.1;
-      made = λ p l. named w k p (pinned_stays v h s a p (map (point_in v) all) l firsts firsts_ascend firsts_there w k t.sound (t.made p l) x next_has e);
+      told = λ p l. named w k c p (pinned_stays v h b i.sound i.curves p (map (point_in v) all) l firsts firsts_ascend firsts_there w k c t.in_step.sound (t.told p l) x next_has e);
     }
 
-    pub tidied_on : pinned_in w x ≡ false → (w2 : View) (k2 : Curves) → IsTidied w k (point_in w x) w2 k2 → AreTidied v h all (first ++ (x ∷ [])) last w2 k2
-    tidied_on e w2 k2 d = record {
-      sound = tidied_sound w k t.sound t.curves (point_in w x) w2 k2 d;
-      curves = tidied_curves w k t.sound t.curves (point_in w x) w2 k2 d;
+    pub tidied_on : pinned_in w x ≡ false → (w2 : View) (k2 : Curves) (c2 : BusRow) → IsTidied w k c (point_in w x) w2 k2 c2 → AreTidied v h b all (first ++ (x ∷ [])) last w2 k2 c2
+    tidied_on e w2 k2 c2 d = record {
+      in_step = tidied_in_step w k c t.in_step (point_in w x) w2 k2 c2 d;
       stay = all_by (IsSamePlace v w) (IsSamePlace v w2) last (
           λ u m o.
-          let n = other_stays w k t.sound t.curves (point_in w x) w2 k2 d u o.has (later u m o.point) in
+          let n = other_stays w k c t.in_step (point_in w x) w2 k2 c2 d u o.has (later u m o.point) in
           record { has = n.has; point = n.point ∙ o.point }
           ) t.stay.1;
-      made = λ p l. named w2 k2 p (tidied_goes v h s a p (map (point_in v) all) l firsts firsts_ascend firsts_there w k t.sound (t.made p l) x next_has e w2 k2 d);
+      told = λ p l. named w2 k2 c2 p (tidied_goes v h b i.sound i.curves p (map (point_in v) all) l firsts firsts_ascend firsts_there w k c t.in_step.sound (t.told p l) x next_has e w2 k2 c2 d);
     }
 
   -- ---- by the number of those that are done
-  module _ (i : ℕ) (lt : i < length all) (d : VertexId) (w : View) (k : Curves) (t : AreTidied v h all (take i all) (drop i all) w k) where
+  module _ (n : ℕ) (lt : n < length all) (d : VertexId) (w : View) (k : Curves) (c : BusRow) (t : AreTidied v h b all (take n all) (drop n all) w k c) where
     abbrev next : VertexId
-    next = get_or all i d
+    next = get_or all n d
 
-    at_next : AreTidied v h all (take i all) (next ∷ drop (suc i) all) w k
-    at_next = subst (λ ys. AreTidied v h all (take i all) ys w k) (drop-cons all i d lt) t
+    at_next : AreTidied v h b all (take n all) (next ∷ drop (suc n) all) w k c
+    at_next = subst (λ ys. AreTidied v h b all (take n all) ys w k c) (drop-cons all n d lt) t
 
-    split_next : take i all ++ (next ∷ drop (suc i) all) ≡ all
-    split_next = ap (λ ys. take i all ++ ys) (sym (drop-cons all i d lt)) ∙ take-append-drop i all
+    split_next : take n all ++ (next ∷ drop (suc n) all) ≡ all
+    split_next = ap (λ ys. take n all ++ ys) (sym (drop-cons all n d lt)) ∙ take-append-drop n all
 
-    one_done : (w2 : View) (k2 : Curves) → AreTidied v h all (take i all ++ (next ∷ [])) (drop (suc i) all) w2 k2 → AreTidied v h all (take (i + 1) all) (drop (i + 1) all) w2 k2
-    one_done w2 k2 n = rw add-one (subst (λ ys. AreTidied v h all ys (drop (suc i) all) w2 k2) (sym (take-suc all i d lt)) n)
+    one_done : (w2 : View) (k2 : Curves) (c2 : BusRow) → AreTidied v h b all (take n all ++ (next ∷ [])) (drop (suc n) all) w2 k2 c2 → AreTidied v h b all (take (n + 1) all) (drop (n + 1) all) w2 k2 c2
+    one_done w2 k2 c2 m = rw add-one (subst (λ ys. AreTidied v h b all ys (drop (suc n) all) w2 k2 c2) (sym (take-suc all n d lt)) m)
 
-    pub pinned_next : pinned_in w next ≡ true → AreTidied v h all (take (i + 1) all) (drop (i + 1) all) w k
-    pinned_next e = one_done w k (pinned_on (take i all) (drop (suc i) all) next split_next w k at_next e)
+    pub pinned_next : pinned_in w next ≡ true → AreTidied v h b all (take (n + 1) all) (drop (n + 1) all) w k c
+    pinned_next e = one_done w k c (pinned_on (take n all) (drop (suc n) all) next split_next w k c at_next e)
 
-    pub tidied_next : pinned_in w next ≡ false → (w2 : View) (k2 : Curves) → IsTidied w k (point_in w next) w2 k2 → AreTidied v h all (take (i + 1) all) (drop (i + 1) all) w2 k2
-    tidied_next e w2 k2 n = one_done w2 k2 (tidied_on (take i all) (drop (suc i) all) next split_next w k at_next e w2 k2 n)
+    pub tidied_next : pinned_in w next ≡ false → (w2 : View) (k2 : Curves) (c2 : BusRow) → IsTidied w k c (point_in w next) w2 k2 c2 → AreTidied v h b all (take (n + 1) all) (drop (n + 1) all) w2 k2 c2
+    tidied_next e w2 k2 c2 m = one_done w2 k2 c2 (tidied_on (take n all) (drop (suc n) all) next split_next w k c at_next e w2 k2 c2 m)
 
-  pub all_next : (i : ℕ) → length all ≤ i → (w : View) (k : Curves) → AreTidied v h all (take i all) (drop i all) w k → (p : Present) → AreLeft v h p (map (point_in v) all) → IsRunOfSteps v h (tidying (drawn_graph v h) p) w k
-  all_next i le w k t = all_made w k (drop i all) (subst (λ xs. AreTidied v h all xs (drop i all) w k) (take_all i all le) t)
+  pub all_next : (n : ℕ) → length all ≤ n → (w : View) (k : Curves) (c : BusRow) → AreTidied v h b all (take n all) (drop n all) w k c → (p : Present) → AreLeft v h p (map (point_in v) all) → IsToldRun v h b (tidying (drawn_graph v h) p) w k c
+  all_next n le w k c t = all_told w k c (drop n all) (subst (λ xs. AreTidied v h b all xs (drop n all) w k c) (take_all n all le) t)

@@ -11,7 +11,8 @@ use Rattle.slab_laws.specs.View.{View, point_in}
 use Rattle.arr_notes.specs.Curves.{Curves}
 use Rattle.arr_notes.specs.RecordGraph.{drawn_graph}
 use Rattle.curve_history.specs.Past.{Past, curves_on}
-use Rattle.record_layers.specs.RecordLayers.{IsRunOfSteps}
+use Rattle.observer_bus.specs.Rounds.{BusRow}
+use Rattle.told_steps.specs.ToldRuns.{IsToldRun}
 
 -- the records draw the pieces and pins of a present, over points that have all its vertices; those that are no vertices of it are among xs (this project)
 pub record AreLeft (v : View) (h : Curves) (p : Present) (xs : List Point) : Type 0 where
@@ -24,6 +25,6 @@ pub record AreLeft (v : View) (h : Curves) (p : Present) (xs : List Point) : Typ
 abbrev pub tidying : Graph → Present → List Step
 tidying g p = tidy_steps (missing_points g.points (vertices p)) g
 
--- for each present that the records draw over its vertices and further points, which are all among the given ones: just the further points go, in ascending order (CGAL manual, removing a curve: vertices that become redundant)
-abbrev pub AreOthersGone : View → Past → List VertexId → View → Past → Type 0
-AreOthersGone v h ws w k = (p : Present) → AreLeft v (curves_on h) p (map (point_in v) ws) → IsRunOfSteps v (curves_on h) (tidying (drawn_graph v (curves_on h)) p) w (curves_on k)
+-- for each present that the records draw over its vertices and further points, which are all among the given ones: just the further points go, in ascending order, each step told (CGAL manual, removing a curve: vertices that become redundant)
+abbrev pub AreOthersGone : View → Past → BusRow → List VertexId → View → Past → BusRow → Type 0
+AreOthersGone v h b ws w k c = (p : Present) → AreLeft v (curves_on h) p (map (point_in v) ws) → IsToldRun v (curves_on h) b (tidying (drawn_graph v (curves_on h)) p) w (curves_on k) c

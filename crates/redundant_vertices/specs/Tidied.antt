@@ -10,8 +10,9 @@ use Rattle.slab_laws.specs.View.{View, point_in}
 use Rattle.arr_notes.specs.Curves.{Curves}
 use Rattle.arr_notes.specs.RecordGraph.{drawn_graph}
 use Rattle.curve_history.specs.Past.{Past, curves_on}
-use Rattle.record_layers.specs.RecordLayers.{IsRunOfSteps}
+use Rattle.observer_bus.specs.Rounds.{BusRow}
 use Rattle.sound_changes.specs.ChangeFits.{FitsMerge}
+use Rattle.told_steps.specs.ToldRuns.{IsToldRun}
 
 -- d comes into the vertex and n goes on from it along one line, with the same curves, and no other edge ends there (CGAL manual: the premise of merging two edges)
 abbrev pub CanJoin : View → Curves → VertexId → DartId → DartId → Type 0
@@ -29,10 +30,10 @@ AreJoinable v p w r = MatchOption r ((d n : DartId) → ¬ CanJoin v (curves_on 
 abbrev pub IsMergeableAt : View → Past → VertexId → Type 0
 IsMergeableAt v p w = IsPassed (drawn_graph v (curves_on p)) (point_in v w)
 
--- the vertex at the point goes where it has no edge, or two along one line with the same curves; else nothing changes (CGAL manual, removing a curve: vertices that become redundant)
-abbrev pub IsTidied : View → Curves → Point → View → Curves → Type 0
-IsTidied v h p w k = (IsLoose (drawn_graph v h) p × IsRunOfSteps v h (tidy_step p (drawn_graph v h) ∷ []) w k) ⊎ ((IsLoose (drawn_graph v h) p → ⊥) × IsRunOfSteps v h [] w k)
+-- the vertex at the point goes where it has no edge, or two along one line with the same curves, by a told step; else nothing changes (CGAL manual, removing a curve: vertices that become redundant)
+abbrev pub IsTidied : View → Curves → BusRow → Point → View → Curves → BusRow → Type 0
+IsTidied v h b p w k c = (IsLoose (drawn_graph v h) p × IsToldRun v h b (tidy_step p (drawn_graph v h) ∷ []) w k c) ⊎ ((IsLoose (drawn_graph v h) p → ⊥) × IsToldRun v h b [] w k c)
 
--- the vertex goes where it has no edge, or two along one line with the same curves; else nothing changes (CGAL manual, removing a curve: vertices that become redundant)
-abbrev pub IsVertexTidied : View → Past → VertexId → View → Past → Type 0
-IsVertexTidied v p w x q = IsTidied v (curves_on p) (point_in v w) x (curves_on q)
+-- the vertex goes where it has no edge, or two along one line with the same curves, by a told step; else nothing changes (CGAL manual, removing a curve: vertices that become redundant)
+abbrev pub IsVertexTidied : View → Past → BusRow → VertexId → View → Past → BusRow → Type 0
+IsVertexTidied v p b w x q c = IsTidied v (curves_on p) b (point_in v w) x (curves_on q) c

@@ -1,8 +1,8 @@
--- Numbers make the same points, the same curve's number or the same segment, whether or not they are kept at the limit.
+-- Numbers make the same points, the same curve's or observer's number or the same segment, whether or not they are kept at the limit.
 use Rattle.std.proofs.Common.{◌≡◌, ℕ, zero, suc, ◌^◌, ◌<◌, Bool, true, false, cond, leb, ltb, ℤ, pos, negsuc, List, [], ◌∷◌, None, Ok, Err, refl, sym, ap, ◌∙◌, arith}
 use Rattle.std.specs.Prelude.{map, take, drop, unsigned_abs, neg_ℤ}
 use Rattle.std.proofs.Math.Bool.{and-false}
-use Rattle.std.proofs.lemmas.Bool.{leb-true, le-leb, leb-false, lt-leb, ltb-true, ltb-false, le-ltb}
+use Rattle.std.proofs.lemmas.Bool.{leb-true, le-leb, leb-false, lt-leb}
 use Rattle.std.proofs.lemmas.List.{take-map, drop-map}
 use Rattle.std.specs.Ordering.{int_eq}
 use Rattle.std.specs.Result.{result_ok}
@@ -14,7 +14,7 @@ use Rattle.exact_plane.specs.Segment.{AreCoordinates, is_coordinate, are_coordin
 use Rattle.exact_plane.proofs.Lowest.{Sizes, sizes, from_sizes}
 use Rattle.exact_plane.proofs.Wholes.{are_coordinates-is}
 use Rattle.script_lines.specs.Number.{limited_size, limited_number}
-use Rattle.script_lines.specs.Command.{point_from, pair_from, triple_from, curve_from, segment_from}
+use Rattle.script_lines.specs.Command.{point_from, pair_from, triple_from, number_to, curve_from, observer_from, observer_at_from, segment_from}
 use Rattle.integers.proofs.Tests.{not_true}
 
 size-neg : (n : ℕ) → unsigned_abs (neg_ℤ (pos n)) ≡ n
@@ -81,34 +81,44 @@ pair_from-limited_number zs = rw (take-map limited_number 3 zs, drop-map limited
 pub triple_from-limited_number : (zs : List ℤ) → triple_from (map limited_number zs) ≡ triple_from zs
 triple_from-limited_number zs = rw (take-map limited_number 6 zs, drop-map limited_number 6 zs, pair_from-limited_number (take 6 zs), point_from-limited_number (drop 6 zs)) refl
 
-same_curve : (n : ℕ) (t : Bool) → ltb n (2 ^ 32) ≡ t → curve_from (pos (limited_size n) ∷ []) ≡ curve_from (pos n ∷ [])
-same_curve n true e = let k : limited_size n ≡ n = (let h = ltb-true n (2 ^ 32) e in omega arith) in rw k refl
-same_curve n false e =
-    let k : ltb (limited_size n) (2 ^ 32) ≡ false = le-ltb (limited_size n) (2 ^ 32) (let h = ltb-false n (2 ^ 32) e in omega arith) in
-    rw (k, e, and-false (ltb 0 (limited_size n)), and-false (ltb 0 n)) refl
+-- whether a size is within a bound below the limit doesn't change when it is kept at the limit
+bound_by : (n greatest : ℕ) (t : Bool) → greatest < 2 ^ 64 → leb n greatest ≡ t → leb (limited_size n) greatest ≡ t
+bound_by n greatest true small e = le-leb (limited_size n) greatest (let h = leb-true n greatest e in omega arith)
+bound_by n greatest false small e = lt-leb (limited_size n) greatest (let h = leb-false n greatest e in omega arith)
 
-no_curves : (k : ℕ) (z : ℤ) (zs : List ℤ) → curve_from (neg_ℤ (pos k) ∷ z ∷ zs) ≡ None
-no_curves zero z zs = refl
-no_curves (suc k) z zs = refl
+same_number : (greatest n : ℕ) (t : Bool) → greatest < 2 ^ 64 → leb n greatest ≡ t → number_to greatest (pos (limited_size n)) ≡ number_to greatest (pos n)
+same_number greatest n true small e = let k : limited_size n ≡ n = (let h = leb-true n greatest e in omega arith) in rw k refl
+same_number greatest n false small e = rw (bound_by n greatest false small e, e, and-false (ltb 0 (limited_size n)), and-false (ltb 0 n)) refl
 
-no_curve : (k : ℕ) → 0 < k → curve_from (neg_ℤ (pos k) ∷ []) ≡ None
-no_curve zero h = absurd (omega arith)
-no_curve (suc k) h = refl
+no_number : (greatest k : ℕ) → number_to greatest (neg_ℤ (pos k)) ≡ None
+no_number greatest zero = refl
+no_number greatest (suc k) = refl
+
+-- a number from 1 to a bound below the limit
+number_to-limited_number : (greatest : ℕ) → greatest < 2 ^ 64 → (z : ℤ) → number_to greatest (limited_number z) ≡ number_to greatest z
+number_to-limited_number greatest small (pos n) = same_number greatest n (leb n greatest) small refl
+number_to-limited_number greatest small (negsuc n) = no_number greatest (limited_size (suc n))
 
 -- the curve's number of a number that was kept at the limit
 pub curve_from-limited_number : (zs : List ℤ) → curve_from (map limited_number zs) ≡ curve_from zs
 curve_from-limited_number [] = refl
-curve_from-limited_number (pos n ∷ []) = same_curve n (ltb n (2 ^ 32)) refl
-curve_from-limited_number (negsuc n ∷ []) = no_curve (limited_size (suc n)) (omega arith)
-curve_from-limited_number (pos n ∷ y ∷ zs) = refl
-curve_from-limited_number (negsuc n ∷ y ∷ zs) = no_curves (limited_size (suc n)) (limited_number y) (map limited_number zs)
+curve_from-limited_number (c ∷ []) = number_to-limited_number 4294967295 (omega arith) c
+curve_from-limited_number (c ∷ d ∷ zs) = refl
 
-coordinate_by : (n : ℕ) (t : Bool) → leb n MAX_COORDINATE ≡ t → leb (limited_size n) MAX_COORDINATE ≡ t
-coordinate_by n true e = le-leb (limited_size n) MAX_COORDINATE (let h = leb-true n MAX_COORDINATE e in omega arith)
-coordinate_by n false e = lt-leb (limited_size n) MAX_COORDINATE (let h = leb-false n MAX_COORDINATE e in omega arith)
+-- the observer's number, and the observer and the round of two numbers
+pub observer_from-limited_number : (zs : List ℤ) → observer_from (map limited_number zs) ≡ observer_from zs
+observer_from-limited_number [] = refl
+observer_from-limited_number (i ∷ []) = number_to-limited_number 64 (omega arith) i
+observer_from-limited_number (i ∷ n ∷ zs) = refl
+
+pub observer_at_from-limited_number : (zs : List ℤ) → observer_at_from (map limited_number zs) ≡ observer_at_from zs
+observer_at_from-limited_number [] = refl
+observer_at_from-limited_number (i ∷ []) = refl
+observer_at_from-limited_number (i ∷ n ∷ []) = rw (number_to-limited_number 64 (omega arith) i, number_to-limited_number 1000000 (omega arith) n) refl
+observer_at_from-limited_number (i ∷ n ∷ m ∷ zs) = refl
 
 is_coordinate-limited_number : (z : ℤ) → is_coordinate (limited_number z) ≡ is_coordinate z
-is_coordinate-limited_number z = rw (size-limited_number z) (coordinate_by (unsigned_abs z) (is_coordinate z) refl)
+is_coordinate-limited_number z = rw (size-limited_number z) (bound_by (unsigned_abs z) MAX_COORDINATE (is_coordinate z) (omega arith) refl)
 
 same_segment : (x1 y1 x2 y2 : ℤ) (t : Bool) → are_coordinates x1 y1 x2 y2 ≡ t
     → segment_from (limited_number x1 ∷ limited_number y1 ∷ limited_number x2 ∷ limited_number y2 ∷ []) ≡ segment_from (x1 ∷ y1 ∷ x2 ∷ y2 ∷ [])

@@ -1,14 +1,14 @@
 -- The table of commands: its names, and what its forms make.
 use Rattle.std.proofs.Common.{◌≡◌, ℕ, Bool, true, false, ℤ, cond, List, [], ◌∷◌, Option, Some, None, refl, sym, subst}
-use Rattle.std.specs.Prelude.{◌≢◌, option_map, bytes_eq, find}
+use Rattle.std.specs.Prelude.{◌≢◌, map, option_map, bytes_eq, find}
 use Rattle.std.proofs.lemmas.Slice.Eq.{bytes_eq-Decides}
 use Rattle.exact_plane.specs.Segment.{are_coordinates}
 use Rattle.script_lines.specs.declared.command.Command.{Command}
-use Rattle.script_lines.specs.declared.command.Command.TheVariants.{Nothing, Segment, Drop, Cut, Pin, Unpin, Split, Merge, Locate, Edge, Curve}
+use Rattle.script_lines.specs.declared.command.Command.TheVariants.{Nothing, Segment, Drop, Cut, Pin, Unpin, Split, Merge, Locate, Edge, Curve, Attach, Leave, Mirror}
 use Rattle.script_lines.specs.declared.name.Name.{Name}
 use Rattle.script_lines.specs.declared.name.Name.TheVariants as name
 use Rattle.script_lines.specs.Form.{Form, form_map}
-use Rattle.script_lines.specs.Command.{segment_from, point_form, pair_form, triple_form, curve_form, row_of, names, name_of, is_comment}
+use Rattle.script_lines.specs.Command.{segment_from, point_form, pair_form, triple_form, curve_form, observer_form, observer_when_forms, row_of, names, name_of, is_comment}
 use Rattle.script_lines.proofs.ListTests.{find-passes}
 
 -- each name is found by how it is spelt
@@ -26,6 +26,9 @@ name_of-name name.Edge = refl
 name_of-name name.Curve = refl
 name_of-name name.Count = refl
 name_of-name name.Show = refl
+name_of-name name.Attach = refl
+name_of-name name.Leave = refl
+name_of-name name.Mirror = refl
 
 -- none begins a comment
 pub no_comment : (n : Name) → is_comment (row_of n).name ≡ false
@@ -42,6 +45,9 @@ no_comment name.Edge = refl
 no_comment name.Curve = refl
 no_comment name.Count = refl
 no_comment name.Show = refl
+no_comment name.Attach = refl
+no_comment name.Leave = refl
+no_comment name.Mirror = refl
 
 -- no form makes nothing
 abbrev pub AskFor : List (Form Command) → Type 0
@@ -60,23 +66,27 @@ segment_asks : (numbers : List ℤ) → segment_from numbers ≡ Some Nothing �
 segment_asks (x1 ∷ y1 ∷ x2 ∷ y2 ∷ []) e = segment_by (are_coordinates x1 y1 x2 y2) x1 y1 x2 y2 e
 segment_asks other e = cc
 
-mapped_asks : {A : Type 0} (f : A → Command) (form : Form A) → ((x : A) → f x ≡ Nothing → ⊥) → AskFor (form_map f form ∷ [])
-mapped_asks f form other = (λ numbers e. mapped f other (form.made numbers) e, tt)
+mapped_asks : {A : Type 0} (f : A → Command) (forms : List (Form A)) → ((x : A) → f x ≡ Nothing → ⊥) → AskFor (map (form_map f) forms)
+mapped_asks f [] other = tt
+mapped_asks f (form ∷ forms) other = (λ numbers e. mapped f other (form.made numbers) e, mapped_asks f forms other)
 
 pub ask_for : (n : Name) → AskFor (row_of n).forms
 ask_for name.Segment = (segment_asks, tt)
-ask_for name.Drop = mapped_asks Drop curve_form (λ c h. cc)
-ask_for name.Cut = mapped_asks (λ points. Cut points.0 points.1) pair_form (λ points h. cc)
-ask_for name.Pin = mapped_asks Pin point_form (λ p h. cc)
-ask_for name.Unpin = mapped_asks Unpin point_form (λ p h. cc)
-ask_for name.Split = mapped_asks (λ points. Split points.0.0 points.0.1 points.1) triple_form (λ points h. cc)
-ask_for name.Merge = mapped_asks Merge point_form (λ p h. cc)
+ask_for name.Drop = mapped_asks Drop (curve_form ∷ []) (λ c h. cc)
+ask_for name.Cut = mapped_asks (λ points. Cut points.0 points.1) (pair_form ∷ []) (λ points h. cc)
+ask_for name.Pin = mapped_asks Pin (point_form ∷ []) (λ p h. cc)
+ask_for name.Unpin = mapped_asks Unpin (point_form ∷ []) (λ p h. cc)
+ask_for name.Split = mapped_asks (λ points. Split points.0.0 points.0.1 points.1) (triple_form ∷ []) (λ points h. cc)
+ask_for name.Merge = mapped_asks Merge (point_form ∷ []) (λ p h. cc)
 ask_for name.Clear = (λ numbers e. cc, tt)
-ask_for name.Locate = mapped_asks Locate point_form (λ p h. cc)
-ask_for name.Edge = mapped_asks (λ points. Edge points.0 points.1) pair_form (λ points h. cc)
-ask_for name.Curve = mapped_asks Curve curve_form (λ c h. cc)
+ask_for name.Locate = mapped_asks Locate (point_form ∷ []) (λ p h. cc)
+ask_for name.Edge = mapped_asks (λ points. Edge points.0 points.1) (pair_form ∷ []) (λ points h. cc)
+ask_for name.Curve = mapped_asks Curve (curve_form ∷ []) (λ c h. cc)
 ask_for name.Count = (λ numbers e. cc, tt)
 ask_for name.Show = (λ numbers e. cc, tt)
+ask_for name.Attach = mapped_asks (λ entry. Attach entry.0 entry.1) observer_when_forms (λ entry h. cc)
+ask_for name.Leave = mapped_asks (λ entry. Leave entry.0 entry.1) observer_when_forms (λ entry h. cc)
+ask_for name.Mirror = mapped_asks Mirror (observer_form ∷ []) (λ i h. cc)
 
 asks_by : (p : Form Command → Bool) (here : Bool) (first form : Form Command) (later : Option (Form Command)) → cond here (Some first) later ≡ Some form
     → ((numbers : List ℤ) → first.made numbers ≡ Some Nothing → ⊥) → (later ≡ Some form → (numbers : List ℤ) → form.made numbers ≡ Some Nothing → ⊥)

@@ -1,6 +1,6 @@
 -- What forms answer to words, by cases.
-use Rattle.std.proofs.Common.{◌≡◌, ℕ, Bool, true, false, cond, ℤ, List, length, get_or, Option, Some, None, Result, Ok, Err, refl, sym, ap, ◌∙◌}
-use Rattle.std.specs.Prelude.{◌≢◌, find, filter_map, ok_or, is_some, All, Any, IsSome, IsNone, IsFalse}
+use Rattle.std.proofs.Common.{◌≡◌, ℕ, Bool, true, false, cond, ℤ, List, [], ◌∷◌, ◌++◌, length, get_or, Option, Some, None, Result, Ok, Err, refl, sym, ap, ◌∙◌}
+use Rattle.std.specs.Prelude.{◌≢◌, find, filter_map, ok_or, is_some, ◌||◌, All, Any, IsSome, IsNone, IsFalse}
 use Rattle.std.specs.List.{list_any, list_all}
 use Rattle.std.specs.Cmp.Lexicographic.{as_long}
 use Rattle.std.proofs.lemmas.Bool.{eqb-true, eq-eqb, ne_eqb}
@@ -10,6 +10,7 @@ use Rattle.script_lines.specs.declared.error.LineError.{LineError}
 use Rattle.script_lines.specs.declared.error.LineError.TheVariants.{Word, Count, Number, Range, Long, Byte}
 use Rattle.script_lines.specs.Number.{number_of, is_number}
 use Rattle.script_lines.specs.Form.{Form, is_at, has_count, has_fixed, number_words, numbers_reading, form_reading, forms_reading}
+use Rattle.integers.proofs.Tests.{not_true}
 use Rattle.script_lines.proofs.ListTests.{none-from_list_any, Any-from_list_all, list_all-from_Any, none-from_find, find-from_none, list_any-from_find}
 
 none_made : {A : Type 0} (o : Option A) → IsNone o → ok_or o Range ≡ Err Range
@@ -78,3 +79,19 @@ module _ {A : Type 0} (forms : List (Form A)) (words : List (List ℕ)) where
       → IsNone (form.made (filter_map number_of (number_words form.places words))) → forms_reading forms words ≡ Err Range
   forms_reading-range form found numbers out =
       forms_reading-found form found ∙ rw (list_all-from_AllPass is_number (number_words form.places words) numbers) (none_made (form.made (filter_map number_of (number_words form.places words))) out)
+
+-- a form with another count of words may go from anywhere among the forms
+module _ {A : Type 0} (words : List (List ℕ)) (form : Form A) (other : has_count words form ≡ false) where
+  unfixed : has_fixed words form ≡ false
+  unfixed = not_true (has_fixed words form) (λ fixed. let counted = fixed-counted [] words form fixed in cc)
+
+  any-without : (before after : List (Form A)) → list_any (has_count words) (before ++ form ∷ after) ≡ list_any (has_count words) (before ++ after)
+  any-without [] after = rw other refl
+  any-without (first ∷ before) after = ap (λ (b : Bool). has_count words first || b) (any-without before after)
+
+  find-without : (before after : List (Form A)) → find (has_fixed words) (before ++ form ∷ after) ≡ find (has_fixed words) (before ++ after)
+  find-without [] after = rw unfixed refl
+  find-without (first ∷ before) after = ap (λ (o : Option (Form A)). cond (has_fixed words first) (Some first) o) (find-without before after)
+
+  pub forms_reading-without : (before after : List (Form A)) → forms_reading (before ++ form ∷ after) words ≡ forms_reading (before ++ after) words
+  forms_reading-without before after = rw (any-without before after, find-without before after) refl

@@ -3,7 +3,7 @@ use Rattle.std.proofs.Common.{◌≡◌, ℕ, zero, suc, Bool, true, false, cond
 use Rattle.std.specs.Prelude.{map, filter_map, ok_or, replicate}
 use Rattle.std.specs.List.{list_all}
 use Rattle.std.specs.Cmp.Lexicographic.{pointwise}
-use Rattle.std.proofs.Math.Bool.{or-false}
+use Rattle.std.proofs.Math.Bool.{and-false, or-false}
 use Rattle.std.proofs.Math.Dec.{eqb-zero-suc, eqb-suc-zero, eqb-suc-suc}
 use Rattle.std.proofs.lemmas.Bool.{eqb-true}
 use Rattle.std.proofs.lemmas.List.{length-replicate}
@@ -59,3 +59,12 @@ module _ {A : Type 0} (n : ℕ) (made : List ℤ → Option A) (ws : List (List 
   forms_reading-ok blind zs is =
       forms_reading-numbers ∙ by_ok (eqb (length ws) n) (list_all is_number ws) (ok_or (made (filter_map number_of ws)) Range) (ok_or (made zs) Range) (map limited_number (filter_map number_of ws)) zs is
       (λ (same : map limited_number (filter_map number_of ws) ≡ zs). ap (λ (o : Option A). ok_or o Range) (sym (blind (filter_map number_of ws)) ∙ ap made same))
+
+-- what two words make as numbers
+module _ {A : Type 0} (made : List ℤ → Option A) (first second : List ℕ) where
+  pub numbers_reading-second : number_of second ≡ None → numbers_reading made (first ∷ second ∷ []) ≡ Err Number
+  numbers_reading-second none = rw (none, and-false (is_number first)) refl
+
+  pub numbers_reading-both : ((zs : List ℤ) → made (map limited_number zs) ≡ made zs) → (x y : ℤ) → number_of first ≡ Some x → number_of second ≡ Some y
+      → numbers_reading made (first ∷ second ∷ []) ≡ ok_or (made (limited_number x ∷ limited_number y ∷ [])) Range
+  numbers_reading-both blind x y e f = rw (e, f) (ap (λ (o : Option A). ok_or o Range) (sym (blind (x ∷ y ∷ []))))

@@ -31,7 +31,7 @@ no_end all i slots lt took =
     let front : [] ≡ get_or all i [] ∷ drop (suc i) all = took.rest ∙ drop-cons all i [] lt in
     cc
 
-numbered : (o : Option ℤ) (z : ℤ) → Some z ≡ option_map limited_number o → (n : ℤ) × (o ≡ Some n) × (z ≡ limited_number n)
+pub numbered : (o : Option ℤ) (z : ℤ) → Some z ≡ option_map limited_number o → (n : ℤ) × (o ≡ Some n) × (z ≡ limited_number n)
 numbered None z e = absurd cc
 numbered (Some n) z e = (n, refl, cc)
 
@@ -57,7 +57,7 @@ Took-more all i slots word behind z lt took e =
       rest = rw (add-one) at.1;
     }
 
-nothing_mapped : (o : Option ℤ) → None ≡ option_map limited_number o → o ≡ None
+pub nothing_mapped : (o : Option ℤ) → None ≡ option_map limited_number o → o ≡ None
 nothing_mapped None e = refl
 nothing_mapped (Some n) e = absurd cc
 

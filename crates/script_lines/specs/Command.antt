@@ -1,5 +1,5 @@
 -- The commands, and which of them a line is.
-use Rattle.std.specs.Prelude.{ℕ, ◌^◌, ℤ, pos, ◌&&◌, Bool, false, List, [], ◌∷◌, length, take, drop, replicate, find, nat_lt, nat_le, ◌==◌, Option, Some, None, Result, Ok, Err, codes, bytes_eq, if◌then◌else◌}
+use Rattle.std.specs.Prelude.{ℕ, ℤ, pos, negsuc, ◌&&◌, Bool, false, List, [], ◌∷◌, length, map, take, drop, replicate, find, nat_lt, nat_le, ◌==◌, Option, Some, None, option_map, Result, Ok, Err, codes, bytes_eq, if◌then◌else◌}
 use Rattle.std.specs.List.{list_all}
 use Rattle.std.specs.Option.{option_zip}
 use Rattle.std.specs.Result.{result_ok}
@@ -10,11 +10,11 @@ use Rattle.script_lines.specs.declared.command.TheConstants.{MAX_LINE}
 use Rattle.script_lines.specs.declared.error.LineError.{LineError}
 use Rattle.script_lines.specs.declared.error.LineError.TheVariants.{Word, Long, Byte}
 use Rattle.script_lines.specs.declared.command.Command.{Command}
-use Rattle.script_lines.specs.declared.command.Command.TheVariants.{Nothing, Segment, Drop, Cut, Pin, Unpin, Split, Merge, Clear, Locate, Edge, Curve, Count, Show}
+use Rattle.script_lines.specs.declared.command.Command.TheVariants.{Nothing, Segment, Drop, Cut, Pin, Unpin, Split, Merge, Clear, Locate, Edge, Curve, Count, Show, Attach, Leave, Mirror}
 use Rattle.script_lines.specs.declared.name.Name.{Name}
 use Rattle.script_lines.specs.declared.name.Name.TheVariants as name
 use Rattle.script_lines.specs.Words.{words}
-use Rattle.script_lines.specs.Form.{Form, Numeral, form_map, forms_reading}
+use Rattle.script_lines.specs.Form.{Form, Fixed, Numeral, form_map, forms_reading}
 
 -- no word
 abbrev pub empty_form : {A : Type 0} → A → Form A
@@ -45,9 +45,14 @@ triple_from numbers = option_zip (pair_from (take 6 numbers)) (point_from (drop 
 abbrev pub triple_form : Form ((Point × Point) × Point)
 triple_form = record { places = replicate 9 Numeral; made = triple_from }
 
--- a curve's number, which is above 0 and fits in 32 bits
+-- a number from 1 to the greatest
+abbrev pub number_to : ℕ → ℤ → Option ℕ
+number_to greatest (pos n) = if nat_lt 0 n && nat_le n greatest then Some n else None
+number_to greatest (negsuc n) = None
+
+-- a curve's number
 abbrev pub curve_from : List ℤ → Option ℕ
-curve_from (pos n ∷ []) = if nat_lt 0 n && nat_lt n (2 ^ 32) then Some n else None
+curve_from (c ∷ []) = number_to 4294967295 c
 curve_from other = None
 
 -- a curve, by its number
@@ -62,6 +67,28 @@ segment_from other = None
 -- two ends, `x1 y1 x2 y2`
 abbrev pub segment_form : Form Command
 segment_form = record { places = replicate 4 Numeral; made = segment_from }
+
+-- an observer's number
+abbrev pub observer_from : List ℤ → Option ℕ
+observer_from (i ∷ []) = number_to 64 i
+observer_from other = None
+
+-- an observer, by its number
+abbrev pub observer_form : Form ℕ
+observer_form = record { places = replicate 1 Numeral; made = observer_from }
+
+-- an observer and a round, where both numbers are in range
+abbrev pub observer_at_from : List ℤ → Option (ℕ × Option ℕ)
+observer_at_from (i ∷ n ∷ []) = option_zip (number_to 64 i) (option_map Some (number_to 1000000 n))
+observer_at_from other = None
+
+-- an observer and a round, `i at n`
+abbrev pub observer_at_form : Form (ℕ × Option ℕ)
+observer_at_form = record { places = Numeral ∷ Fixed (codes "at") ∷ Numeral ∷ []; made = observer_at_from }
+
+-- an observer now, `i`, or at a round, `i at n`
+abbrev pub observer_when_forms : List (Form (ℕ × Option ℕ))
+observer_when_forms = form_map (λ i. (i, None)) observer_form ∷ observer_at_form ∷ []
 
 -- a row of the table of commands: a name, and the forms of the words after it
 pub record Row : Type 0 where
@@ -86,9 +113,12 @@ row_of name.Edge = row (codes "edge") (form_map (λ points. Edge points.0 points
 row_of name.Curve = row (codes "curve") (form_map Curve curve_form ∷ [])
 row_of name.Count = row (codes "count") (empty_form Count ∷ [])
 row_of name.Show = row (codes "show") (empty_form Show ∷ [])
+row_of name.Attach = row (codes "attach") (map (form_map (λ entry. Attach entry.0 entry.1)) observer_when_forms)
+row_of name.Leave = row (codes "leave") (map (form_map (λ entry. Leave entry.0 entry.1)) observer_when_forms)
+row_of name.Mirror = row (codes "mirror") (form_map Mirror observer_form ∷ [])
 
 abbrev pub names : List Name
-names = name.Segment ∷ name.Drop ∷ name.Cut ∷ name.Pin ∷ name.Unpin ∷ name.Split ∷ name.Merge ∷ name.Clear ∷ name.Locate ∷ name.Edge ∷ name.Curve ∷ name.Count ∷ name.Show ∷ []
+names = name.Segment ∷ name.Drop ∷ name.Cut ∷ name.Pin ∷ name.Unpin ∷ name.Split ∷ name.Merge ∷ name.Clear ∷ name.Locate ∷ name.Edge ∷ name.Curve ∷ name.Count ∷ name.Show ∷ name.Attach ∷ name.Leave ∷ name.Mirror ∷ []
 
 -- the name that a word spells
 abbrev pub name_of : List ℕ → Option Name

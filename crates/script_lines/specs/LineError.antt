@@ -14,7 +14,7 @@ refusal_number Byte = 6
 
 -- what is wrong with the line, in words
 abbrev pub error_text : LineError → List ℕ
-error_text Word = codes "the first word isn't a command"
+error_text Word = codes "the first word isn't a command, or a fixed word isn't spelt so"
 error_text Count = codes "the count of words isn't one that the command has"
 error_text Number = codes "a word in a number's place isn't a number"
 error_text Range = codes "a number is out of its range"

@@ -6,7 +6,7 @@ ghost use Rattle.script_lines.specs.Command.{command_of, row_of, words_reading, 
 ghost use Rattle.script_lines.specs.Refusals.{IsOtherByte, IsText, IsSilent, IsNoCommand, HasWrongWord, HasWrongCount, HasNoNumber, IsOutOfRange};
 
 use crate::error::LineError;
-use crate::form::{bare_command, curve, pair, point, segment, triple};
+use crate::form::{bare_command, curve, observer, observer_when, pair, point, segment, triple};
 use crate::name::Name;
 use crate::words::next_word;
 use exact_plane::Point;
@@ -45,6 +45,12 @@ pub enum Command {
     Count,
     /// `show`: the text of the arrangement.
     Show,
+    /// `attach i`: observer i joins now; `attach i at n`: in the n-th round from now.
+    Attach(u32, Option<u32>),
+    /// `leave i`: observer i leaves now; `leave i at n`: in the n-th round from now.
+    Leave(u32, Option<u32>),
+    /// `mirror i`: the report of observer i.
+    Mirror(u32),
 }
 
 // The command of a name and the words after it.
@@ -65,6 +71,9 @@ fn read_named(name: Name, rest: &[u8]) -> Result<Command, LineError>
         Name::Curve => curve(rest).map(Command::Curve),
         Name::Count => bare_command(rest, Command::Count),
         Name::Show => bare_command(rest, Command::Show),
+        Name::Attach => observer_when(rest).map(|(i, n)| Command::Attach(i, n)),
+        Name::Leave => observer_when(rest).map(|(i, n)| Command::Leave(i, n)),
+        Name::Mirror => observer(rest).map(Command::Mirror),
     }
 }
 
@@ -107,9 +116,9 @@ fn read(line: &[u8]) -> Result<Command, LineError>
 /// or an optional `-`, a digit 1 to 9 and any digits, however many. A point is three numbers
 /// `X Y W`, which needn't be in lowest terms; where a command has several points, any of them may
 /// be equal. A segment is four numbers `x1 y1 x2 y2`, and its two ends may be one point. A curve's
-/// number is from 1 to 4294967295. A line without words, or whose first word begins with `#`, is
-/// [`Command::Nothing`]. Where a line is refused for several reasons, [`LineError`] says which one
-/// is given.
+/// number is from 1 to 4294967295, an observer's from 1 to 64 and a round's from 1 to 1000000. A
+/// line without words, or whose first word begins with `#`, is [`Command::Nothing`]. Where a line
+/// is refused for several reasons, [`LineError`] says which one is given.
 pub fn read_line(line: &[u8]) -> Result<Command, LineError>
     ensures value { result ≡ command_of line.now }
 

@@ -7,10 +7,10 @@ use std::fmt;
 /// Why a line is no command.
 ///
 /// Where several fit, the first in this order is meant: `Long`, `Byte`, `Word` for the first word,
-/// `Count`, `Word` for a fixed word (no command has one yet), `Number`, `Range`.
+/// `Count`, `Word` for a fixed word (the `at` of `attach i at n` is one), `Number`, `Range`.
 #[derive(Clone, Copy, Debug, PartialEq, Eq)]
 pub enum LineError {
-    /// The first word isn't a command; or, once commands have fixed words, one of these isn't spelt as it must be.
+    /// The first word isn't a command; or, where the count of words is right, a fixed word isn't spelt as it must be.
     Word,
     /// The command has no form of this count of words.
     Count,
@@ -44,7 +44,7 @@ impl LineError {
         ensures { result.now ≡ error_text self }
     {
         match self {
-            LineError::Word => "the first word isn't a command",
+            LineError::Word => "the first word isn't a command, or a fixed word isn't spelt so",
             LineError::Count => "the count of words isn't one that the command has",
             LineError::Number => "a word in a number's place isn't a number",
             LineError::Range => "a number is out of its range",

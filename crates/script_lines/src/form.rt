@@ -1,14 +1,20 @@
 ghost use Rattle.std.specs.Prelude.{◌≡◌, [], ◌∷◌, length};
 ghost use Rattle.exact_plane.specs.Segment.{is_coordinate, are_coordinates};
 ghost use Rattle.script_lines.specs.Words.{words};
-ghost use Rattle.script_lines.specs.Form.{forms_reading, numbers_of};
-ghost use Rattle.script_lines.specs.Command.{empty_form, point_form, point_from, pair_form, pair_from, triple_form, triple_from, curve_form, curve_from, segment_form, segment_from};
+ghost use Rattle.script_lines.specs.Form.{forms_reading, numbers_reading, numbers_of};
+ghost use Rattle.script_lines.specs.Command.{empty_form, point_form, point_from, pair_form, pair_from, triple_form, triple_from, number_to, curve_form, curve_from, observer_form, observer_from, observer_at_form, observer_at_from, observer_when_forms, segment_form, segment_from};
 
 use crate::command::Command;
 use crate::error::LineError;
 use crate::number::number;
-use crate::words::{count_words, next_word};
+use crate::words::{count_words, next_word, three_words};
 use exact_plane::{MAX_COORDINATE, Point};
+
+// The greatest number of an observer.
+const MAX_OBSERVER: u32 = 64;
+
+// The greatest number of rounds from now.
+const MAX_ROUND: u32 = 1_000_000;
 
 // The numbers of a line of so many words, each within the limit of `number`.
 fn numbers<const N: usize>(line: &[u8]) -> Result<[i128; N], LineError>
@@ -82,15 +88,22 @@ pub fn triple(line: &[u8]) -> Result<((Point, Point), Point), LineError>
     triple_from(&numbers).ok_or(LineError::Range)
 }
 
+// The number, where it is from 1 to the greatest.
+fn number_to(greatest: u32, number: i128) -> Option<u32>
+    ensures { result ≡ number_to greatest number }
+{
+    if number < 1 || i128::from(greatest) < number {
+        return None;
+    }
+    Some(number as u32)
+}
+
 // The curve's number of one number, where it is in range.
 fn curve_from(numbers: [i128; 1]) -> Option<u32>
     ensures { result ≡ curve_from numbers }
 {
     let [number] = numbers;
-    if number < 1 || i128::from(u32::MAX) < number {
-        return None;
-    }
-    Some(number as u32)
+    number_to(u32::MAX, number)
 }
 
 /// The curve's number of a line `c`, from 1 to 4294967295.
@@ -99,6 +112,61 @@ pub fn curve(line: &[u8]) -> Result<u32, LineError>
 {
     let numbers = numbers(line)?;
     curve_from(numbers).ok_or(LineError::Range)
+}
+
+// The observer's number of one number, where it is in range.
+fn observer_from(numbers: [i128; 1]) -> Option<u32>
+    ensures { result ≡ observer_from numbers }
+{
+    let [number] = numbers;
+    number_to(MAX_OBSERVER, number)
+}
+
+/// The observer's number of a line `i`, from 1 to 64.
+pub fn observer(line: &[u8]) -> Result<u32, LineError>
+    ensures { result ≡ forms_reading (observer_form ∷ []) (words line.now) }
+{
+    let numbers = numbers(line)?;
+    observer_from(numbers).ok_or(LineError::Range)
+}
+
+// The observer and the round of two numbers, where both are in range.
+fn observer_at_from(numbers: [i128; 2]) -> Option<(u32, Option<u32>)>
+    ensures { result ≡ observer_at_from numbers }
+{
+    let [observer, round] = numbers;
+    let round = number_to(MAX_ROUND, round)?;
+    Some((number_to(MAX_OBSERVER, observer)?, Some(round)))
+}
+
+// The observer and the round that two words say.
+fn observer_at_words(observer: &[u8], round: &[u8]) -> Result<(u32, Option<u32>), LineError>
+    ensures { result ≡ numbers_reading observer_at_from (observer.now ∷ round.now ∷ []) }
+{
+    let observer = number(observer).ok_or(LineError::Number)?;
+    let round = number(round).ok_or(LineError::Number)?;
+    observer_at_from([observer, round]).ok_or(LineError::Range)
+}
+
+// The observer and the round of a line `i at n`, the round from 1 to 1000000.
+fn observer_at(line: &[u8]) -> Result<(u32, Option<u32>), LineError>
+    ensures { result ≡ forms_reading (observer_at_form ∷ []) (words line.now) }
+{
+    match three_words(line) {
+        None => Err(LineError::Count),
+        Some((observer, b"at", round)) => observer_at_words(observer, round),
+        Some(_) => Err(LineError::Word),
+    }
+}
+
+/// The observer of a line `i` with no round, or of a line `i at n` with the round n.
+pub fn observer_when(line: &[u8]) -> Result<(u32, Option<u32>), LineError>
+    ensures { result ≡ forms_reading observer_when_forms (words line.now) }
+{
+    if count_words(line) == 3 {
+        return observer_at(line);
+    }
+    observer(line).map(|observer| (observer, None))
 }
 
 fn is_coordinate(number: i128) -> bool

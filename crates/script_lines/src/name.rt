@@ -17,10 +17,13 @@ pub enum Name {
     Curve,
     Count,
     Show,
+    Attach,
+    Leave,
+    Mirror,
 }
 
 // Every name.
-const NAMES: [Name; 13] = [
+const NAMES: [Name; 16] = [
     Name::Segment,
     Name::Drop,
     Name::Cut,
@@ -34,6 +37,9 @@ const NAMES: [Name; 13] = [
     Name::Curve,
     Name::Count,
     Name::Show,
+    Name::Attach,
+    Name::Leave,
+    Name::Mirror,
 ];
 
 impl Name {
@@ -55,6 +61,9 @@ impl Name {
             Name::Curve => "curve",
             Name::Count => "count",
             Name::Show => "show",
+            Name::Attach => "attach",
+            Name::Leave => "leave",
+            Name::Mirror => "mirror",
         }
     }
 

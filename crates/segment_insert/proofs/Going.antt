@@ -14,13 +14,15 @@ use Rattle.plane_graphs.proofs.Marks.{le_out, le_in, le_lt_lt, lt_le_lt, le_lt}
 use Rattle.edit_steps.specs.Allowed.{IsSound, AreSound}
 use Rattle.edit_steps.specs.Steps.{Step, more_step, run}
 use Rattle.slab_laws.specs.declared.names.VertexId.{VertexId}
-use Rattle.slab_laws.specs.Sound.{IsGraphSound}
 use Rattle.slab_laws.specs.View.{View, HasVertex, point_in}
-use Rattle.arr_notes.specs.Curves.{Curves, AreCurvesOf}
+use Rattle.arr_notes.specs.Curves.{Curves}
 use Rattle.dcel_records.specs.declared.spot.Spot.TheVariants.{Vertex}
 use Rattle.arr_notes.specs.RecordGraph.{drawn_graph}
-use Rattle.record_layers.specs.RecordLayers.{IsRunOfSteps}
-use Rattle.record_layers.proofs.Runs.{made_is_run, made_in_turn}
+use Rattle.observer_bus.specs.Rounds.{BusRow}
+use Rattle.record_layers.proofs.Runs.{made_is_run}
+use Rattle.told_steps.proofs.Begun.{none_told}
+use Rattle.told_steps.proofs.ToldTogether.{told_runs_lawful}
+use Rattle.told_steps.specs.ToldRuns.{AreInStep, IsToldRun}
 use Rattle.zone_walk.specs.declared.plan.Meeting.{Meeting}
 use Rattle.zone_walk.specs.Zone.{is_on_segment, is_vertex, points_of_meetings}
 use Rattle.segment_insert.specs.Parts.{IsOpenPart, part_step}
@@ -141,17 +143,20 @@ part_stays v g l u w e o =
 abbrev pub steps_from : Graph → ℕ → List Meeting → ℕ → List Step
 steps_from f c ms k = map (more_step f) (chain c (points_of_meetings (drop k ms)))
 
-pub record IsGoing (v : View) (h : Curves) (c : ℕ) (ms : List Meeting) (k : ℕ) (g : View) (b : Curves) : Type 0 where
-  pub sound : IsGraphSound g
-  pub curves : AreCurvesOf g b
+pub record IsGoing (v : View) (h : Curves) (old : BusRow) (c : ℕ) (ms : List Meeting) (k : ℕ) (g : View) (b : Curves) (now : BusRow) : Type 0 where
+  pub in_step : AreInStep g b now
   pub vertices : g.vertices ≡ v.vertices
   pub rest : AreSound (steps_from (drawn_graph v h) c ms k) (drawn_graph g b)
-  pub made : (x : View) (z : Curves) → IsRunOfSteps g b (steps_from (drawn_graph v h) c ms k) x z → IsRunOfSteps v h (map (more_step (drawn_graph v h)) (chain c (points_of_meetings ms))) x z
+  pub told : (x : View) (z : Curves) (new : BusRow) → IsToldRun g b now (steps_from (drawn_graph v h) c ms k) x z new → IsToldRun v h old (map (more_step (drawn_graph v h)) (chain c (points_of_meetings ms))) x z new
 
-pub ends : (v : View) (h : Curves) (c : ℕ) (ms : List Meeting) (k : ℕ) (g : View) (b : Curves) → IsGoing v h c ms k g b → length ms ≤ suc k → IsRunOfSteps v h (map (more_step (drawn_graph v h)) (chain c (points_of_meetings ms))) g b
-ends v h c ms k g b i e = i.made g b (subst (λ z. IsRunOfSteps g b (map (more_step (drawn_graph v h)) z) g b) (sym (chain_ends c ms k e)) (refl, λ d. refl))
+-- none before the first
+pub begins : (v : View) (h : Curves) {b : BusRow} (c : ℕ) (ms : List Meeting) → AreInStep v h b → AreSound (map (more_step (drawn_graph v h)) (chain c (points_of_meetings ms))) (drawn_graph v h) → IsGoing v h b c ms 0 v h b
+begins v h c ms t s = record { in_step = t; vertices = refl; rest = s; told = λ x z new y. y }
 
-module _ (v : View) (h : Curves) (c : ℕ) (ms : List Meeting) (k : ℕ) (g : View) (b : Curves) (i : IsGoing v h c ms k g b) (u w : VertexId) (next : chain c (points_of_meetings (drop k ms)) ≡ mark (point_in v u) (point_in v w) c ∷ chain c (points_of_meetings (drop (suc k) ms))) where
+pub ends : (v : View) (h : Curves) {old : BusRow} (c : ℕ) (ms : List Meeting) (k : ℕ) (g : View) (b : Curves) {now : BusRow} → IsGoing v h old c ms k g b now → length ms ≤ suc k → IsToldRun v h old (map (more_step (drawn_graph v h)) (chain c (points_of_meetings ms))) g b now
+ends v h c ms k g b {now} i e = i.told g b now (subst (λ z. IsToldRun g b now (map (more_step (drawn_graph v h)) z) g b now) (sym (chain_ends c ms k e)) (none_told g b now))
+
+module _ (v : View) (h : Curves) {old : BusRow} (c : ℕ) (ms : List Meeting) (k : ℕ) (g : View) (b : Curves) {now : BusRow} (i : IsGoing v h old c ms k g b now) (u w : VertexId) (next : chain c (points_of_meetings (drop k ms)) ≡ mark (point_in v u) (point_in v w) c ∷ chain c (points_of_meetings (drop (suc k) ms))) where
   abbrev first : Graph
   first = drawn_graph v h
 
@@ -171,15 +176,14 @@ module _ (v : View) (h : Curves) (c : ℕ) (ms : List Meeting) (k : ℕ) (g : Vi
   pub part_sound : IsSound (part_step here g u w c) here
   part_sound = subst (λ z. IsSound (more_step here z) here) (sym same_mark) (sound_here m first here rest.0)
 
-  pub goes_on : (x : View) (z : Curves) → IsRunOfSteps g b (part_step here g u w c ∷ []) x z → x.vertices ≡ g.vertices → IsGoing v h c ms (suc k) x z
+  pub goes_on : {new : BusRow} (x : View) (z : Curves) (j : ℕ) → suc k ≡ j → IsToldRun g b now (part_step here g u w c ∷ []) x z new → AreInStep x z new → x.vertices ≡ g.vertices → IsGoing v h old c ms j x z new
   unfolding run
-  goes_on x z t e =
-      let one : IsRunOfSteps g b (more_step first m ∷ []) x z = subst (λ y. IsRunOfSteps g b (y ∷ []) x z) (ap (more_step here) same_mark ∙ sym (one_step m first here rest.0.allowed)) t in
-      let r = made_is_run g b (more_step first m ∷ []) x z i.sound i.curves one in
-      record {
-        sound = r.sound;
-        curves = r.curves;
+  goes_on {new} x z j more t n e =
+      let one : IsToldRun g b now (more_step first m ∷ []) x z new = told_runs_lawful.same_steps g b now _ (more_step first m ∷ []) x z new (ap (λ y. y ∷ []) (ap (more_step here) same_mark ∙ sym (one_step m first here rest.0.allowed))) t in
+      let r = made_is_run g b (more_step first m ∷ []) x z i.in_step.sound i.in_step.curves (told_runs_lawful.steps g b now (more_step first m ∷ []) x z new one) in
+      subst (λ y. IsGoing v h old c ms y x z new) more (record {
+        in_step = n;
         vertices = e ∙ i.vertices;
         rest = subst (AreSound (steps_from first c ms (suc k))) (sym r.graph) rest.1;
-        made = λ y d n. i.made y d (subst (λ q. IsRunOfSteps g b (map (more_step first) q) y d) (sym next) (made_in_turn g b (more_step first m ∷ []) (steps_from first c ms (suc k)) x z y d one n));
-      }
+        told = λ y d f n. i.told y d f (told_runs_lawful.same_steps g b now _ (steps_from first c ms k) y d f (sym (ap (map (more_step first)) next)) (told_runs_lawful.follow g b now (more_step first m ∷ []) (steps_from first c ms (suc k)) x z new y d f one n));
+      })

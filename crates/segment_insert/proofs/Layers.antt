@@ -1,5 +1,5 @@
--- A history whose layer and curves are the same is the same layer.
-use Rattle.std.proofs.Common.{◌≡◌, sym, ◌∙◌, subst}
+-- A history whose layer and curves are the same is the same layer, and has room for the same.
+use Rattle.std.proofs.Common.{◌≡◌, sym, subst}
 use Rattle.slab_laws.specs.View.{View}
 use Rattle.curve_history.specs.Past.{Past, curves_on, SameLayer, SameCurves}
 use Rattle.dcel_records.specs.RecordsView.{RecordsView}

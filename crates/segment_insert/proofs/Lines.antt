@@ -1,6 +1,6 @@
 -- A line is in one direction with itself.
-use Rattle.std.proofs.Common.{◌≡◌, ℤ, pos, ◌∙◌, [], ◌∷◌, true, false, Bool, subst}
-use Rattle.std.specs.Prelude.{◌+ℤ◌, ◌-ℤ◌, ◌*ℤ◌, ◌<ℤ◌, neg_ℤ}
+use Rattle.std.proofs.Common.{◌≡◌, ℤ, pos, [], ◌∷◌, true, false, Bool, subst}
+use Rattle.std.specs.Prelude.{◌+ℤ◌, ◌*ℤ◌, ◌<ℤ◌, neg_ℤ}
 use Rattle.integers.proofs.Reify.{ring, sides}
 use Rattle.exact_plane.specs.Direction.{IsOneDirection, along, turn}
 use Rattle.exact_plane.specs.Line.{Line}

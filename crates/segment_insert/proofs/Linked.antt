@@ -1,10 +1,10 @@
 -- One more curve along an open part: on the edge that runs there, or on a new one.
-use Rattle.std.proofs.Common.{◌≡◌, ◌≢◌, List, [], ◌∷◌, true, false, cond, ◌==◌, Option, refl, sym, ap, ap₂, ◌∙◌, subst, inl, inr, nat_cmp}
+use Rattle.std.proofs.Common.{◌≡◌, ◌≢◌, List, [], ◌∷◌, true, false, Option, Some, None, refl, sym, ap, ap₂, ◌∙◌, subst, inl, inr}
 use Rattle.std.specs.List.{list_any}
 use Rattle.exact_plane.specs.Line.{Line}
 use Rattle.exact_plane.specs.Point.{Point}
 use Rattle.exact_plane.specs.PointOrderLaws.{and_true}
-use Rattle.plane_graphs.specs.Ascending.{Member, place, ascending}
+use Rattle.plane_graphs.specs.Ascending.{Member, ascending}
 use Rattle.plane_graphs.specs.Graph.{Graph, Mark, Edge, mark, is_at, edge_cmp, edge_of, edges}
 use Rattle.plane_graphs.specs.Plane.{IsPlane}
 use Rattle.plane_graphs.proofs.Ascending.{ascending_unique, IsAscending-ascending}
@@ -21,32 +21,29 @@ use Rattle.slab_laws.specs.Sound.{IsGraphSound, skeleton_of, edge_between}
 use Rattle.slab_laws.specs.Text.{skeleton}
 use Rattle.slab_laws.specs.View.{View, IsOutOf, point_in, source_in, target_in}
 use Rattle.slab_faces.proofs.PlaneGraphs.{counts}
-use Rattle.arr_notes.specs.declared.change.Change.{Change}
-use Rattle.arr_notes.specs.declared.change.Change.TheVariants.{AddCurve, AddEdge}
 use Rattle.arr_notes.specs.Curves.{Curves, AreCurvesOf, IsForward}
-use Rattle.arr_notes.specs.Step.{step}
-use Rattle.arr_notes.proofs.Names.{cases_dart}
 use Rattle.arr_notes.specs.RecordGraph.{drawn_graph}
+use Rattle.arr_notes.specs.Step.{add_edge}
 use Rattle.sound_views.proofs.GraphDrawn.{graphs_are_drawn}
 use Rattle.sound_changes.proofs.StepGraphs.{of_marks, in_marks}
 use Rattle.sound_changes.proofs.StepHolds.{mark_held, held_mark}
-use Rattle.sound_changes.specs.EdgePlaces.{dart_between, IsPlaceFor, FitsAddedEdge}
+use Rattle.sound_changes.specs.EdgePlaces.{dart_between, IsPlaceFor}
 use Rattle.sound_changes.proofs.SplitCases.{ahead_by}
-use Rattle.sound_changes.proofs.StepCases.{at_other}
-use Rattle.edge_link.specs.Links.{CanLink, TellsOfLink, NamesNewDarts, AreNewDarts, with_edge_between}
-use Rattle.record_layers.specs.RecordLayers.{IsRunOfSteps}
-use Rattle.record_layers.proofs.Runs.{made_by}
+use Rattle.edge_link.specs.Links.{CanLink, with_edge_between}
+use Rattle.observer_bus.specs.Rounds.{BusRow}
+use Rattle.told_steps.proofs.ToldTogether.{told_runs_lawful}
+use Rattle.told_steps.specs.ToldRuns.{IsToldRun}
 use Rattle.segment_insert.specs.Parts.{IsOpenPart}
 use Rattle.segment_insert.proofs.Makes.{some_curve, on_edge_there, on_new_edge}
 use Rattle.segment_insert.proofs.Parts.{two_ends}
 use Rattle.integers.proofs.Tests.{not_true}
 
--- the change that tells of a link has the names that a pattern of it has
-pub names_of_link : (r : Change) (d m : DartId) (u w x y : VertexId) (at_u at_w at_x at_y : Option DartId) (l n : Line) (c k : CurveId) → TellsOfLink r u w at_u at_w l c → r ≡ AddEdge d m x y at_x at_y n k → r ≡ AddEdge d m u w at_u at_w l c
-names_of_link r d m u w x y at_u at_w at_x at_y l n c k t e = let f = t.2 in cc
-
-pub new_names : (v : View) (r : Change) (d m : DartId) (u w : VertexId) (at_u at_w : Option DartId) (l : Line) (c : CurveId) → NamesNewDarts v r → r ≡ AddEdge d m u w at_u at_w l c → AreNewDarts v d m
-new_names v r d m u w at_u at_w l c n e = subst (NamesNewDarts v) e n
+-- one more edge leaves the vertices
+pub vertices_stay : (v g : View) (d m : DartId) (u w : VertexId) (at_u at_w : Option DartId) (l : Line) → g ≡ add_edge v d m u w at_u at_w l → g.vertices ≡ v.vertices
+vertices_stay v g d m u w None None l e = ap (λ z. z.vertices) e
+vertices_stay v g d m u w None (Some b) l e = ap (λ z. z.vertices) e
+vertices_stay v g d m u w (Some a) None l e = ap (λ z. z.vertices) e
+vertices_stay v g d m u w (Some a) (Some b) l e = ap (λ z. z.vertices) e
 
 module _ (v : View) (h : Curves) (s : IsGraphSound v) (a : AreCurvesOf v h) (l : Line) (u w : VertexId) (o : IsOpenPart v l u w) (c : CurveId) where
   abbrev p : Point
@@ -82,8 +79,8 @@ module _ (v : View) (h : Curves) (s : IsGraphSound v) (a : AreCurvesOf v h) (l :
     unfolding IsAllowed
     not_held k m = (subst (λ t. IsAllowed t here) more_is_curve k.allowed).1 (mark_held v s.named h new_mark d (record { forward = f; low = starts; high = ends; curve = m }))
 
-    pub curve_made : (k : Curves) → ((x : DartId) → k x ≡ cond (x.0 == d.0) (place nat_cmp c.0 (h x)) (h x)) → IsRunOfSteps v h (more_step here new_mark ∷ []) v k
-    curve_made k e = made_by v h (more_step here new_mark) (AddCurve d c) v k f (ap₂ (λ x y. AddCurveAt x y c.0) starts ends ∙ sym more_is_curve) s refl e
+    pub curve_told : (b e : BusRow) (k : Curves) → IsToldRun v h b (AddCurveAt (point_in v (source_in v d)) (point_in v (target_in v d)) c.0 ∷ []) v k e → IsToldRun v h b (more_step here new_mark ∷ []) v k e
+    curve_told b e k t = told_runs_lawful.same_steps v h b _ (more_step here new_mark ∷ []) v k e (ap₂ (λ x y. AddCurveAt x y c.0 ∷ []) starts ends ∙ ap (λ z. z ∷ []) (sym more_is_curve)) t
 
   -- ---- none does
   module _ (none : (d : DartId) → IsOutOf v u d → target_in v d ≢ w) where
@@ -143,50 +140,17 @@ module _ (v : View) (h : Curves) (s : IsGraphSound v) (a : AreCurvesOf v h) (l :
     plane_after : IsSound (more_step here new_mark) here → IsPlaneSkeleton (with_edge_between v u w)
     plane_after k = subst IsPlaneSkeleton drawn_after (counts after (subst (λ t. IsPlane (apply t here)) more_is_edge k.plane))
 
-    module _ (at_u at_w : Option DartId) (place_u : IsPlaceFor v u at_u (dart_between p q)) (place_w : IsPlaceFor v w at_w (dart_between q p)) where
-      pub can_link : IsSound (more_step here new_mark) here → CanLink v u w at_u at_w l
-      can_link k = record {
-        start = o.start;
-        end = o.end;
-        two_ends = two_ends v s l u w o;
-        through_start = o.through_start;
-        through_end = o.through_end;
-        place_at_start = place_u;
-        place_at_end = place_w;
-        plane = plane_after k;
-      }
+    pub can_link : (at_u at_w : Option DartId) → IsPlaceFor v u at_u (dart_between p q) → IsPlaceFor v w at_w (dart_between q p) → IsSound (more_step here new_mark) here → CanLink v u w at_u at_w l
+    can_link at_u at_w place_u place_w k = record {
+      start = o.start;
+      end = o.end;
+      two_ends = two_ends v s l u w o;
+      through_start = o.through_start;
+      through_end = o.through_end;
+      place_at_start = place_u;
+      place_at_end = place_w;
+      plane = plane_after k;
+    }
 
-      module _ (d m : DartId) (new : AreNewDarts v d m) (g : View) (sound : IsGraphSound g) (links : g ≡ step v (AddEdge d m u w at_u at_w l c)) where
-        fits : FitsAddedEdge v d m u w at_u at_w l
-        fits = record {
-          first_new = new.first;
-          second_new = new.second;
-          two_names = new.two;
-          start = o.start;
-          end = o.end;
-          two_ends = two_ends v s l u w o;
-          line = o.line;
-          through_start = o.through_start;
-          through_end = o.through_end;
-          place_at_start = place_u;
-          place_at_end = place_w;
-        }
-
-        first_curve : h d ≡ []
-        first_curve = a.without_dart d new.first
-
-        pub none_held : ¬ Member c.0 (h d)
-        none_held k = subst (Member c.0) first_curve k
-
-        alone : place nat_cmp c.0 (h d) ≡ c.0 ∷ []
-        unfolding place
-        alone = ap (place nat_cmp c.0) first_curve
-
-        curves_by : (x : DartId) → cond (x.0 == d.0) (place nat_cmp c.0 (h x)) (h x) ≡ cond (x.0 == d.0) (c.0 ∷ []) (h x)
-        curves_by x = elim (cases_dart x d) [
-          | inl e ↦ ap (λ z. cond (x.0 == d.0) (place nat_cmp c.0 (h z)) (h x)) e ∙ ap (λ z. cond (x.0 == d.0) z (h x)) alone
-          | inr ne ↦ at_other x d _ (h x) ne ∙ sym (at_other x d _ (h x) ne)
-        ]
-
-        pub edge_made : (k : Curves) → ((x : DartId) → k x ≡ cond (x.0 == d.0) (place nat_cmp c.0 (h x)) (h x)) → IsRunOfSteps v h (more_step here new_mark ∷ []) g k
-        edge_made k e = made_by v h (more_step here new_mark) (AddEdge d m u w at_u at_w l c) g k (fits, o.forward) (sym more_is_edge) sound links (λ x. e x ∙ curves_by x)
+    pub edge_told : (b d : BusRow) (g : View) (k : Curves) → IsToldRun v h b (AddEdgeAt p q c.0 ∷ []) g k d → IsToldRun v h b (more_step here new_mark ∷ []) g k d
+    edge_told b d g k t = told_runs_lawful.same_steps v h b _ (more_step here new_mark ∷ []) g k d (ap (λ z. z ∷ []) (sym more_is_edge)) t

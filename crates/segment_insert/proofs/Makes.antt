@@ -1,5 +1,5 @@
 -- Steps that are made one after the other, and the graph after them.
-use Rattle.std.proofs.Common.{◌≡◌, ◌≢◌, ℕ, [], ◌∷◌, true, false, cond, sym, ap, ◌∙◌, subst, inl, inr}
+use Rattle.std.proofs.Common.{◌≡◌, ℕ, true, false, cond, sym, ap, ◌∙◌, subst, inl, inr}
 use Rattle.std.specs.List.{list_any}
 use Rattle.plane_graphs.specs.Ascending.{Member}
 use Rattle.plane_graphs.specs.Graph.{Graph, Mark, is_at}
@@ -9,7 +9,6 @@ use Rattle.edit_steps.specs.Steps.{Step, AddCurve, AddEdge, more_step}
 use Rattle.slab_laws.specs.declared.names.DartId.{DartId}
 use Rattle.slab_laws.specs.View.{View}
 use Rattle.arr_notes.specs.Curves.{Curves, AreCurvesOf, IsForward}
-use Rattle.arr_notes.specs.Step.{step}
 
 -- curves that are the same along every edge are one
 pub one_curves : (h k : Curves) → ((d : _) → k d ≡ h d) → k ≡ h

@@ -1,7 +1,6 @@
 -- What runs along an open part: a dart from its one end along its line leads to its other end.
-use Rattle.std.proofs.Common.{◌≡◌, ◌≢◌, true, false, not, ◌&&◌, Some, pos, sym, ap, ap₂, ◌∙◌, subst}
+use Rattle.std.proofs.Common.{◌≡◌, ◌≢◌, true, false, not, Some, pos, sym, ap, ap₂, ◌∙◌, subst}
 use Rattle.std.proofs.lemmas.Bool.{false≢true}
-use lib.Signed.{lt_z}
 use Rattle.exact_plane.specs.Direction.{IsOneDirection}
 use Rattle.exact_plane.specs.Line.{Line, IsOn}
 use Rattle.exact_plane.specs.Point.{Point}

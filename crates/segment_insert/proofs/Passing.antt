@@ -1,5 +1,5 @@
 -- The meeting points of a segment and of the records' graph are the new vertices on its piece.
-use Rattle.std.proofs.Common.{◌≡◌, ℕ, List, [], ◌∷◌, ◌++◌, true, false, not, ◌&&◌, cond, pos, ◌*ℤ◌, refl, sym, ap, ap₂, ◌∙◌, subst, inl, inr, ◌⊎◌}
+use Rattle.std.proofs.Common.{◌≡◌, ℕ, List, [], ◌∷◌, ◌++◌, true, false, not, ◌&&◌, cond, pos, refl, sym, ap, ap₂, ◌∙◌, subst, inl, inr, ◌⊎◌}
 use Rattle.std.specs.List.{filter, flat_map}
 use lib.Signed.{lt_z}
 use Rattle.exact_plane.specs.Line.{Line, IsOn}

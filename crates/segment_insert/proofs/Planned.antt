@@ -17,13 +17,15 @@ use Rattle.edit_steps.specs.Layer.{Layer, layer_after, IsAcceptedBy}
 use Rattle.edit_steps.specs.Steps.{Step, with_piece, more_step}
 use Rattle.edit_steps.proofs.Laws.{keeps_fit}
 use Rattle.edit_steps.proofs.Layers.{layers_lawful}
-use Rattle.slab_laws.specs.Sound.{IsGraphSound}
 use Rattle.slab_laws.specs.View.{View}
 use Rattle.dcel_records.specs.declared.spot.Spot.{Spot}
-use Rattle.arr_notes.specs.Curves.{Curves, AreCurvesOf}
+use Rattle.arr_notes.specs.Curves.{Curves}
 use Rattle.curve_history.specs.Past.{Past, curves_on}
 use Rattle.arr_notes.specs.RecordGraph.{drawn_graph}
+use Rattle.observer_bus.specs.Rounds.{BusRow}
 use Rattle.record_layers.specs.RecordLayers.{IsLayer, layer_of, IsRunOfSteps}
+use Rattle.told_steps.proofs.ToldTogether.{told_runs_lawful}
+use Rattle.told_steps.specs.ToldRuns.{IsToldRun}
 use Rattle.zone_walk.specs.declared.plan.Meeting.{Meeting}
 use Rattle.zone_walk.specs.declared.plan.ZonePlan.{ZonePlan}
 use Rattle.zone_walk.specs.Zone.{IsZoneOf, AreSpotsBetween, is_on_segment, meeting_points, splits_needed, points_of_meetings}
@@ -55,8 +57,8 @@ pub one_name : (old : List ℕ) (c n : ℕ) → c ≡ n → old ++ (n ∷ []) �
 one_name old c n e = ap (λ k. old ++ (k ∷ [])) (sym e)
 
 -- the steps for the meetings of a list are those for an equal one
-pub made_of_plan : (v : View) (b : Curves) (w : View) (d : Curves) {ms ns : List Meeting} → ms ≡ ns → IsRunOfSteps v b (steps_at v b (points_of_meetings ms)) w d → IsRunOfSteps v b (steps_at v b (points_of_meetings ns)) w d
-made_of_plan v b w d e m = subst (λ ms. IsRunOfSteps v b (steps_at v b (points_of_meetings ms)) w d) e m
+pub told_of_plan : (v : View) (b : Curves) (old : BusRow) (w : View) (d : Curves) (now : BusRow) {ms ns : List Meeting} → ms ≡ ns → IsToldRun v b old (steps_at v b (points_of_meetings ms)) w d now → IsToldRun v b old (steps_at v b (points_of_meetings ns)) w d now
+told_of_plan v b old w d now e m = subst (λ ms. IsToldRun v b old (steps_at v b (points_of_meetings ms)) w d now) e m
 
 -- records and history that are a layer, and the plan of a segment that gets the next number
 pub record IsPlanned (v : View) (past : Past) (g : Segment) (plan : ZonePlan) (c : ℕ) : Type 0 where
@@ -66,9 +68,9 @@ pub record IsPlanned (v : View) (past : Past) (g : Segment) (plan : ZonePlan) (c
   pub number : c ≡ past.next
 
 -- the meetings are vertices now; b are the history's curves before that
-pub record IsHalfMade (v : View) (past : Past) (plan : ZonePlan) (b : Curves) (w : View) (d : Curves) (ns : List Meeting) : Type 0 where
+pub record IsHalfMade (v : View) (past : Past) (plan : ZonePlan) (b : Curves) (old : BusRow) (w : View) (d : Curves) (now : BusRow) (ns : List Meeting) : Type 0 where
   pub same : b ≡ curves_on past
-  pub made : IsRunOfSteps v b (steps_at v b (points_of_meetings plan.vertices)) w d
+  pub told : IsToldRun v b old (steps_at v b (points_of_meetings plan.vertices)) w d now
   pub kept : points_of_meetings ns ≡ points_of_meetings plan.vertices
 
 module _ {v : View} {past : Past} {g : Segment} {plan : ZonePlan} {c : ℕ} (planned : IsPlanned v past g plan c) where
@@ -110,27 +112,21 @@ module _ {v : View} {past : Past} {g : Segment} {plan : ZonePlan} {c : ℕ} (pla
 
   -- ---- by curves that are the history's
   module _ (b : Curves) (same : b ≡ curves_on past) where
-    pub curves_first : AreCurvesOf v b
-    curves_first = subst (AreCurvesOf v) (sym same) planned.layer.curves
-
     first_is : steps_at v b (points_of_meetings ms) ≡ steps_at v (curves_on past) (meeting_points v g)
     first_is = ap₂ (steps_at v) same planned.zone.points
 
     pub sound_first : AreSound (steps_at v b (points_of_meetings ms)) (drawn_graph v b)
     sound_first = subst (λ z. AreSound z (drawn_graph v b)) (sym first_is) (subst (λ z. AreSound (steps_at v (curves_on past) (meeting_points v g)) (drawn_graph v z)) (sym same) (whole.first_sound v (curves_on past) planned.layer.sound planned.layer.curves p g c planned.layer.stands fit accepted))
 
-  module _ {b : Curves} {w : View} {d : Curves} {ns : List Meeting} (half : IsHalfMade v past plan b w d ns) where
+  module _ {b : Curves} {old : BusRow} {w : View} {d : Curves} {now : BusRow} {ns : List Meeting} (half : IsHalfMade v past plan b old w d now ns) where
+    told_here : IsToldRun v (curves_on past) old (steps_at v (curves_on past) (meeting_points v g)) w d now
+    told_here = subst (λ z. IsToldRun v z old (steps_at v (curves_on past) (meeting_points v g)) w d now) half.same (subst (λ z. IsToldRun v b old z w d now) (first_is b half.same) half.told)
+
     made_here : IsRunOfSteps v (curves_on past) (steps_at v (curves_on past) (meeting_points v g)) w d
-    made_here = subst (λ z. IsRunOfSteps v z (steps_at v (curves_on past) (meeting_points v g)) w d) half.same (subst (λ z. IsRunOfSteps v b z w d) (first_is b half.same) half.made)
+    made_here = told_runs_lawful.steps v (curves_on past) old (steps_at v (curves_on past) (meeting_points v g)) w d now told_here
 
     points : points_of_meetings ns ≡ meeting_points v g
     points = half.kept ∙ planned.zone.points
-
-    pub sound_then : IsGraphSound w
-    sound_then = whole.sound_there v (curves_on past) planned.layer.sound planned.layer.curves p g c planned.layer.stands fit accepted w d made_here
-
-    pub curves_then : AreCurvesOf w d
-    curves_then = whole.curves_there v (curves_on past) planned.layer.sound planned.layer.curves p g c planned.layer.stands fit accepted w d made_here
 
     pub all_on : AreAllOn w g (points_of_meetings ns)
     all_on = subst (AreAllOn w g) (sym points) (whole.all_on v (curves_on past) planned.layer.sound planned.layer.curves p g c planned.layer.stands fit accepted w d made_here)
@@ -141,10 +137,12 @@ module _ {v : View} {past : Past} {g : Segment} {plan : ZonePlan} {c : ℕ} (pla
     pub plane_then : AreSound (edges_then w d c (points_of_meetings ns)) (drawn_graph w d)
     plane_then = subst (λ z. AreSound (edges_then w d c z) (drawn_graph w d)) (sym points) (whole.last_sound v (curves_on past) planned.layer.sound planned.layer.curves p g c planned.layer.stands fit accepted w d made_here)
 
-    module _ (x : View) (q : Past) (then : IsRunOfSteps w d (edges_then w d c (points_of_meetings ns)) x (curves_on q)) where
-      pub all_made : IsRunOfSteps v (curves_on past) (steps (Insert c g) p) x (curves_on q)
-      all_made = whole.made_whole v (curves_on past) planned.layer.sound planned.layer.curves p g c planned.layer.stands fit accepted w d made_here x (curves_on q) (subst (λ z. IsRunOfSteps w d (edges_then w d c z) x (curves_on q)) points then)
+    module _ (x : View) (q : Past) (new : BusRow) (then : IsToldRun w d now (edges_then w d c (points_of_meetings ns)) x (curves_on q) new) where
+      pub all_told : IsToldRun v (curves_on past) old (steps (Insert c g) p) x (curves_on q) new
+      all_told =
+          whole.told_whole v (curves_on past) planned.layer.sound planned.layer.curves p g c planned.layer.stands fit accepted w d made_here old now new x (curves_on q) told_here
+          (subst (λ z. IsToldRun w d now (edges_then w d c z) x (curves_on q) new) points then)
 
       pub layer_made : q.pieces ≡ past.pieces ++ (whole_piece c g ∷ []) → q.names ≡ past.names ++ (c ∷ []) → q.next ≡ past.next + 1 → IsLayer x q × (layer_of x q ≡ layer_after (Insert c g) l)
       unfolding after
-      layer_made pieces names next = steps_make_layers (Insert c g) v past x q planned.layer accepted_by all_made pieces names next
+      layer_made pieces names next = steps_make_layers (Insert c g) v past x q planned.layer accepted_by (told_runs_lawful.steps v (curves_on past) old (steps (Insert c g) p) x (curves_on q) new all_told) pieces names next

@@ -1,7 +1,5 @@
 -- A point inside a part of an edge is inside the edge, and a point inside the edge above the lower part is inside the upper one.
-use Rattle.std.proofs.Common.{◌≡◌, true, sym, ◌∙◌}
-use Rattle.std.specs.Prelude.{◌*ℤ◌, ◌<ℤ◌}
-use lib.IntN.{*ℤ-zero}
+use Rattle.std.proofs.Common.{◌≡◌, true, sym}
 use Rattle.exact_plane.specs.Point.{Point}
 use Rattle.plane_graphs.specs.Graph.{Edge}
 use Rattle.plane_graphs.specs.Line.{IsProper}

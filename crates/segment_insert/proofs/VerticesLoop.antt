@@ -19,7 +19,10 @@ use Rattle.dcel_records.specs.declared.spot.Spot.{Spot}
 use Rattle.dcel_records.specs.declared.spot.Spot.TheVariants.{Vertex, Edge, Face}
 use Rattle.dcel_records.specs.Spots.{IsSpotOf}
 use Rattle.arr_notes.specs.RecordGraph.{drawn_graph}
-use Rattle.record_layers.specs.RecordLayers.{IsRunOfSteps}
+use Rattle.observer_bus.specs.Rounds.{BusRow}
+use Rattle.told_steps.proofs.Begun.{none_told}
+use Rattle.told_steps.proofs.ToldTogether.{told_runs_lawful}
+use Rattle.told_steps.specs.ToldRuns.{AreInStep, IsToldRun}
 use Rattle.zone_walk.specs.Zone.{is_vertex, is_edge, vertices_needed, splits_needed, points_of_meetings}
 use Rattle.zone_walk.specs.declared.plan.Meeting.{Meeting}
 use Rattle.segment_insert.specs.Coming.{steps_at, IsSpotStill, IsMadeAt}
@@ -44,7 +47,7 @@ spot_still v h p (Edge d) k = (d, here k, refl)
 spot_still v h p Face k = k
 
 -- all are to come before the first
-pub all_coming : (v : View) (h : Curves) (ms : List Meeting) → IsGraphSound v → AreCurvesOf v h → AreMeetings v ms → AreSound (steps_at v h (points_of_meetings ms)) (drawn_graph v h) → IsComing v h ms
+all_coming : (v : View) (h : Curves) (ms : List Meeting) → IsGraphSound v → AreCurvesOf v h → AreMeetings v ms → AreSound (steps_at v h (points_of_meetings ms)) (drawn_graph v h) → IsComing v h ms
 all_coming v h ms s a k y = record { sound = s; curves = a; ascend = k.ascend; spots = λ m n. spot_still v h m.point m.spot (k.spots m (from_member ms m n)); plane = y }
 
 -- a point with a spot is a point of the plane: it is a vertex, or its step is sound
@@ -63,9 +66,9 @@ module _ (v : View) (h : Curves) (m : Meeting) (ms : List Meeting) (c : IsComing
   pub next_sound : AreSound (steps_at v h (m.point ∷ [])) (drawn_graph v h)
   next_sound = first_sound v h c.sound c.curves m.point (points_of_meetings ms) c.ascend.0 c.plane
 
-  module _ (w : View) (k : Curves) (x : VertexId) (y : IsMadeAt v h w k m x) where
+  module _ {b : BusRow} (w : View) (k : Curves) {d : BusRow} (x : VertexId) (y : IsMadeAt v h b w k d m x) where
     after : IsTurn v h m.point (points_of_meetings ms) w k
-    after = turn v h c.sound c.curves m.point (points_of_meetings ms) c.ascend.0 w k y.made
+    after = turn v h c.sound c.curves m.point (points_of_meetings ms) c.ascend.0 w k (told_runs_lawful.steps v h b (steps_at v h (m.point ∷ [])) w k d y.told)
 
     spots_after : (n : Meeting) → Member n ms → IsSpotStill w k n.point n.spot
     spots_after n i =
@@ -76,8 +79,11 @@ module _ (v : View) (h : Curves) (m : Meeting) (ms : List Meeting) (c : IsComing
     pub rest_coming : IsComing w k ms
     rest_coming = record { sound = after.sound; curves = after.curves; ascend = c.ascend.1; spots = spots_after; plane = after.plane c.plane }
 
-    pub rest_made : (u : View) (l : Curves) → IsRunOfSteps w k (steps_at w k (points_of_meetings ms)) u l → IsRunOfSteps v h (steps_at v h (points_of_meetings (m ∷ ms))) u l
-    rest_made = after.made
+    rest_told : (u : View) (l : Curves) (e : BusRow) → IsToldRun w k d (steps_at w k (points_of_meetings ms)) u l e → IsToldRun v h b (steps_at v h (points_of_meetings (m ∷ ms))) u l e
+    rest_told u l e z =
+        let ss = steps_at v h (m.point ∷ []) in
+        let ts = steps_at w k (points_of_meetings ms) in
+        told_runs_lawful.same_steps v h b (ss ++ ts) (steps_at v h (points_of_meetings (m ∷ ms))) u l e (sym after.steps) (told_runs_lawful.follow v h b ss ts w k d u l e y.told z)
 
     pairs_still : (s : Spot) (p : Point) → IsSpotStill v h p s → pairs_at k s ≡ pairs_at h s
     pairs_still (Vertex u) p z = refl
@@ -99,8 +105,8 @@ pub record AreNamed (v : View) (ms : List Meeting) : Type 0 where
 abbrev pub told_at : Meeting → VertexId → Meeting
 told_at m x = record { point = m.point; spot = Vertex x }
 
-pub named_more : (v : View) (h : Curves) (w : View) (k : Curves) (m : Meeting) (x : VertexId) (ms : List Meeting) → AreNamed v ms → IsMadeAt v h w k m x → AreNamed w (ms ++ told_at m x ∷ [])
-named_more v h w k m x ms a y = record {
+named_more : {v : View} {h : Curves} {b : BusRow} (w : View) {k : Curves} {c : BusRow} (m : Meeting) (x : VertexId) (ms : List Meeting) → AreNamed v ms → IsMadeAt v h b w k c m x → AreNamed w (ms ++ told_at m x ∷ [])
+named_more w m x ms a y = record {
   each = λ n i. elim (in_either n ms (told_at m x ∷ []) i) [
     | inl o ↦ let r = a.each n o in let z = y.vertices r.0 r.2 in (r.0, r.1, z.0, z.1 ∙ r.3)
     | inr o ↦ elim o [
@@ -135,18 +141,19 @@ module _ {X : Type 0} where
   left_after xs ys i x l k e =
       ap (λ n. drop n xs) (add-one i) ∙ ap tail_of (sym (drop-cons xs i x l) ∙ e ∙ drop-cons ys i x k) ∙ sym (ap (λ n. drop n ys) (add-one i))
 
--- ---- midway: the first i meetings are named vertices, the others are to come, and what is made of the records so far leaves the steps of these
-pub record IsMidway (v : View) (h : Curves) (ms : List Meeting) (w : View) (k : Curves) (ns : List Meeting) (i : ℕ) : Type 0 where
+-- ---- midway: the first i meetings are named vertices, the others are to come, and what is told of the records so far leaves the steps of these
+pub record IsMidway (v : View) (h : Curves) (b : BusRow) (ms : List Meeting) (w : View) (k : Curves) (c : BusRow) (ns : List Meeting) (i : ℕ) : Type 0 where
   pub coming : IsComing w k (drop i ms)
-  pub then_made : (u : View) (l : Curves) → IsRunOfSteps w k (steps_at w k (points_of_meetings (drop i ms))) u l → IsRunOfSteps v h (steps_at v h (points_of_meetings ms)) u l
+  pub in_step : AreInStep w k c
+  pub then_told : (u : View) (l : Curves) (d : BusRow) → IsToldRun w k c (steps_at w k (points_of_meetings (drop i ms))) u l d → IsToldRun v h b (steps_at v h (points_of_meetings ms)) u l d
   pub points : points_of_meetings ns ≡ points_of_meetings ms
   pub rest : drop i ns ≡ drop i ms
   pub named : AreNamed w (take i ns)
 
-pub at_start : (v : View) (h : Curves) (ms : List Meeting) → IsComing v h ms → IsMidway v h ms v h ms 0
-at_start v h ms c = record { coming = c; then_made = λ u l y. y; points = refl; rest = refl; named = record { each = λ m i. absurd i } }
+pub at_start : (v : View) (h : Curves) {b : BusRow} (ms : List Meeting) → AreInStep v h b → AreMeetings v ms → AreSound (steps_at v h (points_of_meetings ms)) (drawn_graph v h) → IsMidway v h b ms v h b ms 0
+at_start v h ms t k y = record { coming = all_coming v h ms t.sound t.curves k y; in_step = t; then_told = λ u l d y. y; points = refl; rest = refl; named = record { each = λ m i. absurd i } }
 
-module _ (v : View) (h : Curves) (ms : List Meeting) (w : View) (k : Curves) (ns : List Meeting) (i : ℕ) (c : IsMidway v h ms w k ns i) where
+module _ (v : View) (h : Curves) {b : BusRow} (ms : List Meeting) (w : View) (k : Curves) {d : BusRow} (ns : List Meeting) (i : ℕ) (c : IsMidway v h b ms w k d ns i) where
   pub same_length : length ns ≡ length ms
   same_length = sym (length-map ns (λ m. m.point)) ∙ ap length c.points ∙ length-map ms (λ m. m.point)
 
@@ -165,14 +172,15 @@ module _ (v : View) (h : Curves) (ms : List Meeting) (w : View) (k : Curves) (ns
     sound_now = next_sound w k m (drop (i + 1) ms) now_coming
 
     -- once it is a vertex, and is told so
-    module _ (u : View) (q : Curves) (x : VertexId) (y : IsMadeAt w k u q m x) where
-      pub onwards : (o : Meeting) → o ≡ told_at m x → IsMidway v h ms u q (set ns i o) (i + 1)
-      onwards o same = record {
+    module _ (u : View) (q : Curves) {f : BusRow} (x : VertexId) (y : IsMadeAt w k d u q f m x) where
+      pub onwards : (o : Meeting) → o ≡ told_at m x → AreInStep u q f → IsMidway v h b ms u q f (set ns i o) (i + 1)
+      onwards o same t = record {
         coming = rest_coming w k m (drop (i + 1) ms) now_coming u q x y;
-        then_made = λ t j z. c.then_made t j (subst (λ ls. IsRunOfSteps w k (steps_at w k (points_of_meetings ls)) t j) (sym next_first) (rest_made w k m (drop (i + 1) ms) now_coming u q x y t j z));
+        in_step = t;
+        then_told = λ r j g z. c.then_told r j g (subst (λ ls. IsToldRun w k d (steps_at w k (points_of_meetings ls)) r j g) (sym next_first) (rest_told w k m (drop (i + 1) ms) now_coming u q x y r j g z));
         points = map-set_same (λ n. n.point) ns i o m (ap (λ n. n.point) same ∙ ap (λ n. n.point) e) ∙ c.points;
         rest = drop-set-lt (i + 1) ns i o (omega arith) ∙ left_after ns ms i m l (subst (λ n. i < n) same_length l) c.rest;
-        named = subst (AreNamed u) (sym (ap (λ z. take (i + 1) (set ns i z)) same ∙ take-set_at ns i (i + 1) (told_at m x) refl l)) (named_more w k u q m x (take i ns) c.named y);
+        named = subst (AreNamed u) (sym (ap (λ z. take (i + 1) (set ns i z)) same ∙ take-set_at ns i (i + 1) (told_at m x) refl l)) (named_more u m x (take i ns) c.named y);
       }
 
       -- the others' edges have as many curves
@@ -183,9 +191,9 @@ module _ (v : View) (h : Curves) (ms : List Meeting) (w : View) (k : Curves) (ns
     nothing_left : drop i ms ≡ []
     nothing_left = drop_all i ms (subst (λ n. n ≤ i) same_length done)
 
-    -- at the end all steps are made
-    pub all_made : IsRunOfSteps v h (steps_at v h (points_of_meetings ms)) w k
-    all_made = c.then_made w k (subst (λ ss. IsRunOfSteps w k ss w k) (sym (ap (λ ls. steps_at w k (points_of_meetings ls)) nothing_left ∙ none_left (drawn_graph w k) (drawn_graph w k))) (refl, λ d. refl))
+    -- at the end all steps are told
+    pub all_told : IsToldRun v h b (steps_at v h (points_of_meetings ms)) w k d
+    all_told = c.then_told w k d (subst (λ ss. IsToldRun w k d ss w k d) (sym (ap (λ ls. steps_at w k (points_of_meetings ls)) nothing_left ∙ none_left (drawn_graph w k) (drawn_graph w k))) (none_told w k d))
 
     -- and all meetings are named
     pub all_named : IsAscending point_cmp (points_of_meetings ms) → AreVertices w ns

@@ -1,5 +1,5 @@
 -- The steps that make ascending points vertices: that of the first point, and then those of the others in the graph after it.
-use Rattle.std.proofs.Common.{◌≡◌, List, [], ◌∷◌, false, cond, not, refl, sym, ap, ap₂, ◌∙◌, subst, inl, inr, Less}
+use Rattle.std.proofs.Common.{◌≡◌, List, [], ◌∷◌, ◌++◌, false, cond, not, refl, sym, ap, ap₂, ◌∙◌, subst, inl, inr, Less}
 use Rattle.std.specs.List.{AllByRecursion, list_any}
 use Rattle.exact_plane.specs.Point.{Point}
 use Rattle.exact_plane.specs.PointOrder.{point_cmp}
@@ -19,7 +19,11 @@ use Rattle.arr_notes.specs.Step.{step}
 use Rattle.arr_notes.specs.RecordGraph.{drawn_graph}
 use Rattle.sound_changes.specs.StepLaws.{IsApplied}
 use Rattle.sound_changes.proofs.ChangesAreSteps.{changes_are_steps}
+use Rattle.observer_bus.specs.Rounds.{BusRow}
 use Rattle.record_layers.specs.RecordLayers.{IsRunOfSteps}
+use Rattle.told_steps.proofs.Begun.{none_told}
+use Rattle.told_steps.proofs.ToldTogether.{told_runs_lawful}
+use Rattle.told_steps.specs.ToldRuns.{IsToldRun}
 use Rattle.segment_insert.specs.Coming.{steps_at}
 use Rattle.segment_insert.proofs.VerticesFound.{proper_by_step}
 use Rattle.integers.proofs.Tests.{not_true}
@@ -81,15 +85,12 @@ proper_by_steps r [] g k m = absurd m
 proper_by_steps r (p ∷ rs) g k (inl e) = subst IsProper (sym e) (proper_by_step p g k.0)
 proper_by_steps r (p ∷ rs) g k (inr m) = proper_by_steps r rs (apply (vertex_step_by p g.marks) g) k.1 m
 
-moved : (v w : View) (h k : Curves) (ss ts : List Step) (x : View) (l : Curves) → w ≡ v → k ≡ h → ts ≡ ss → IsRunOfSteps w k ts x l → IsRunOfSteps v h ss x l
-moved v w h k ss ts x l e f q m = subst (λ z. IsRunOfSteps z h ss x l) e (subst (λ z. IsRunOfSteps w z ss x l) f (subst (λ z. IsRunOfSteps w k z x l) q m))
-
 -- after the steps of the first point: the records are sound, and the steps of the others are those of the graph then
 pub record IsTurn (v : View) (h : Curves) (p : Point) (ps : List Point) (w : View) (k : Curves) : Type 0 where
   pub sound : IsGraphSound w
   pub curves : AreCurvesOf w k
   pub plane : AreSound (steps_at v h (p ∷ ps)) (drawn_graph v h) → AreSound (steps_at w k ps) (drawn_graph w k)
-  pub made : (x : View) (l : Curves) → IsRunOfSteps w k (steps_at w k ps) x l → IsRunOfSteps v h (steps_at v h (p ∷ ps)) x l
+  pub steps : steps_at v h (p ∷ ps) ≡ steps_at v h (p ∷ []) ++ steps_at w k ps
 
 module _ (v : View) (h : Curves) (s : IsGraphSound v) (a : AreCurvesOf v h) (p : Point) (ps : List Point) (up : AllByRecursion (λ r. point_cmp p r ≡ Less) ps) where
   abbrev g : Graph
@@ -105,7 +106,7 @@ module _ (v : View) (h : Curves) (s : IsGraphSound v) (a : AreCurvesOf v h) (p :
       sound = s;
       curves = a;
       plane = subst (λ ss. AreSound ss g) (no_step p ps g there);
-      made = λ x l. subst (λ ss. IsRunOfSteps v h ss x l) (sym (no_step p ps g there));
+      steps = no_step p ps g there ∙ sym (ap (λ ss. ss ++ steps_at v h ps) none_first);
     }
 
     stay_turn : (w : View) (k : Curves) → IsRunOfSteps v h [] w k → IsTurn v h p ps w k
@@ -138,7 +139,7 @@ module _ (v : View) (h : Curves) (s : IsGraphSound v) (a : AreCurvesOf v h) (p :
           sound = subst IsGraphSound (sym q) m.1.sound;
           curves = subst (λ z. AreCurvesOf z k) (sym q) (subst (AreCurvesOf (step v m.0)) (sym e) i.curves);
           plane = λ y. subst (λ ss. AreSound ss (drawn_graph w k)) (sym (after w k drawn)) (subst (AreSound (vertex_steps (missing_points ps g.points) (apply one g))) (sym drawn) (subst (λ ss. AreSound ss g) (first_step p ps g new) y).1);
-          made = λ x l y. subst (λ ss. IsRunOfSteps v h ss x l) (sym (first_step p ps g new)) (m.0, m.1, moved (step v m.0) w (step_curves h m.0) k _ (steps_at w k ps) x l q e (after w k drawn) y);
+          steps = first_step p ps g new ∙ ap (λ ss. one ∷ ss) (sym (after w k drawn)) ∙ sym (ap (λ ss. ss ++ steps_at w k ps) one_first);
         }
 
   pub turn : (w : View) (k : Curves) → IsRunOfSteps v h (steps_at v h (p ∷ [])) w k → IsTurn v h p ps w k
@@ -167,11 +168,11 @@ module _ (v : View) (h : Curves) (s : IsGraphSound v) (a : AreCurvesOf v h) (p :
       ]
 
   -- ---- what a vertex and a new point ask of the first steps
-  pub nothing_made : Member p g.points → IsRunOfSteps v h (steps_at v h (p ∷ [])) v h
-  nothing_made there = subst (λ ss. IsRunOfSteps v h ss v h) (sym (none_first there)) (refl, λ d. refl)
+  pub nothing_told : Member p g.points → (b : BusRow) → IsToldRun v h b (steps_at v h (p ∷ [])) v h b
+  nothing_told there b = subst (λ ss. IsToldRun v h b ss v h b) (sym (none_first there)) (none_told v h b)
 
-  pub one_made : (new : Member p g.points → ⊥) (w : View) (k : Curves) → IsRunOfSteps v h (one new ∷ []) w k → IsRunOfSteps v h (steps_at v h (p ∷ [])) w k
-  one_made new w k m = subst (λ ss. IsRunOfSteps v h ss w k) (sym (one_first new)) m
+  pub one_told : (new : Member p g.points → ⊥) (t : Step) → t ≡ vertex_step_by p g.marks → (b : BusRow) (w : View) (k : Curves) (c : BusRow) → IsToldRun v h b (t ∷ []) w k c → IsToldRun v h b (steps_at v h (p ∷ [])) w k c
+  one_told new t e b w k c m = told_runs_lawful.same_steps v h b (t ∷ []) (steps_at v h (p ∷ [])) w k c (ap (λ z. z ∷ []) e ∙ sym (one_first new)) m
 
   pub one_sound : (new : Member p g.points → ⊥) → AreSound (steps_at v h (p ∷ [])) g → IsSound (vertex_step_by p g.marks) g
   one_sound new y = (subst (λ ss. AreSound ss g) (one_first new) y).0

@@ -27,8 +27,11 @@ use Rattle.slab_laws.specs.View.{View, point_in}
 use Rattle.arr_notes.specs.Curves.{Curves, AreCurvesOf}
 use Rattle.arr_notes.specs.RecordGraph.{drawn_graph}
 use Rattle.sound_changes.proofs.StepHolds.{point_held}
+use Rattle.observer_bus.specs.Rounds.{BusRow}
 use Rattle.record_layers.specs.RecordLayers.{IsRunOfSteps}
-use Rattle.record_layers.proofs.Runs.{made_is_run, made_in_turn}
+use Rattle.record_layers.proofs.Runs.{made_is_run}
+use Rattle.told_steps.proofs.ToldTogether.{told_runs_lawful}
+use Rattle.told_steps.specs.ToldRuns.{IsToldRun}
 use Rattle.zone_walk.specs.Zone.{is_on_segment, meeting_points}
 use Rattle.segment_insert.specs.Insertion.{AreAllOn}
 use Rattle.segment_insert.proofs.Passing.{met, points_ascend}
@@ -130,11 +133,8 @@ module _ (v : View) (h : Curves) (s : IsGraphSound v) (a : AreCurvesOf v h) (p :
     run_here : drawn_graph w b ≡ run first_half here
     run_here = (made_is_run v h first_half w b s a made).graph
 
-    pub sound_there : IsGraphSound w
+    sound_there : IsGraphSound w
     sound_there = (made_is_run v h first_half w b s a made).sound
-
-    pub curves_there : AreCurvesOf w b
-    curves_there = (made_is_run v h first_half w b s a made).curves
 
     pub last_sound : AreSound (last_half (drawn_graph w b)) (drawn_graph w b)
     last_sound = subst (λ z. AreSound (last_half z) z) (sym run_here) (sound_last first_half (last_half (run first_half here)) here all_sound)
@@ -149,9 +149,10 @@ module _ (v : View) (h : Curves) (s : IsGraphSound v) (a : AreCurvesOf v h) (p :
           | inr n ↦ new_on x (vertices_change.stay p k x (subst (Member x) drawn_points n)) o
         ]
 
-    pub made_whole : (x : View) (z : Curves) → IsRunOfSteps w b (last_half (drawn_graph w b)) x z → IsRunOfSteps v h (steps (Insert c g) p) x z
-    made_whole x z n =
-        subst (λ ss. IsRunOfSteps v h ss x z) (sym halves) (made_in_turn v h first_half (last_half (run first_half here)) w b x z made (subst (λ y. IsRunOfSteps w b (last_half y) x z) run_here n))
+    pub told_whole : (old now new : BusRow) (x : View) (z : Curves) → IsToldRun v h old first_half w b now → IsToldRun w b now (last_half (drawn_graph w b)) x z new → IsToldRun v h old (steps (Insert c g) p) x z new
+    told_whole old now new x z m n =
+        let ts = last_half (run first_half here) in
+        told_runs_lawful.same_steps v h old (first_half ++ ts) (steps (Insert c g) p) x z new (sym halves) (told_runs_lawful.follow v h old first_half ts w b now x z new m (told_runs_lawful.same_steps w b now _ ts x z new (ap last_half run_here) n))
 
   pub on_segment : (x : Point) → Member x (meeting_points v g) → is_on_segment g x ≡ true
   unfolding on along

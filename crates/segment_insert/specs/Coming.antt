@@ -6,15 +6,13 @@ use Rattle.edit_steps.specs.Steps.{Step, vertex_steps, missing_points}
 use Rattle.slab_laws.specs.declared.names.DartId.{DartId}
 use Rattle.slab_laws.specs.declared.names.VertexId.{VertexId}
 use Rattle.slab_laws.specs.View.{View, HasVertex, HasDart, point_in, target_in, next_in}
-use Rattle.arr_notes.specs.declared.change.Change.TheVariants.{SplitEdge}
-use Rattle.arr_notes.specs.Curves.{Curves, IsForward, step_curves}
-use Rattle.arr_notes.specs.Step.{split_edge}
+use Rattle.arr_notes.specs.Curves.{Curves, IsForward}
 use Rattle.dcel_records.specs.declared.spot.Spot.{Spot}
 use Rattle.dcel_records.specs.declared.spot.Spot.TheVariants.{Vertex, Edge, Face}
 use Rattle.dcel_records.specs.Spots.{IsSpotOf}
-use Rattle.edge_split_merge.specs.Splits.{IsNewPlace}
 use Rattle.arr_notes.specs.RecordGraph.{drawn_graph}
-use Rattle.record_layers.specs.RecordLayers.{IsRunOfSteps}
+use Rattle.observer_bus.specs.Rounds.{BusRow}
+use Rattle.told_steps.specs.ToldRuns.{IsToldRun}
 use Rattle.zone_walk.specs.declared.plan.Meeting.{Meeting}
 
 -- the steps that make vertices of those points that are none
@@ -36,17 +34,9 @@ IsSpotStill v h p (Vertex w) = IsSpotOf v p (Vertex w)
 IsSpotStill v h p (Edge d) = (e : DartId) × LeadsTo v p e d × (h e ≡ h d)
 IsSpotStill v h p Face = IsSpotOf v p Face
 
--- the edge of d is split at the new vertex x, which is at p, and the upper part has its curves (CGAL manual, `split_edge`)
-pub record IsSplitAt (v : View) (h : Curves) (w : View) (k : Curves) (d : DartId) (x : VertexId) (p : Point) : Type 0 where
-  pub upper : DartId
-  pub back : DartId
-  pub place : IsNewPlace v x upper back
-  pub graph : w ≡ split_edge v d x p upper back
-  pub curves : (e : DartId) → k e ≡ step_curves h (SplitEdge d x p upper back) e
-
--- the meeting's point is the vertex x after its step, if it was none before; names of vertices stay, the curves of the old edges stay, and what was told of later points still says where they lie (this project)
-pub record IsMadeAt (v : View) (h : Curves) (w : View) (k : Curves) (m : Meeting) (x : VertexId) : Type 0 where
-  pub made : IsRunOfSteps v h (steps_at v h (m.point ∷ [])) w k
+-- the meeting's point is the vertex x after its step, which observers are told, if it was none before; names of vertices stay, the curves of the old edges stay, and what was told of later points still says where they lie (this project)
+pub record IsMadeAt (v : View) (h : Curves) (b : BusRow) (w : View) (k : Curves) (c : BusRow) (m : Meeting) (x : VertexId) : Type 0 where
+  pub told : IsToldRun v h b (steps_at v h (m.point ∷ [])) w k c
   pub has : HasVertex w x
   pub point : point_in w x ≡ m.point
   pub vertices : (u : VertexId) → HasVertex v u → HasVertex w u × (point_in w u ≡ point_in v u)

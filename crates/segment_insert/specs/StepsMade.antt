@@ -1,6 +1,5 @@
 -- The steps by which an insertion makes vertices and edges of records and their history: what they ask, and what they make.
 use Rattle.std.specs.Prelude.{ℕ, List, [], ◌∷◌, map, Option}
-use Rattle.exact_plane.specs.Point.{Point}
 use Rattle.plane_graphs.specs.Graph.{chain}
 use Rattle.edit_steps.specs.Allowed.{IsSound, AreSound}
 use Rattle.edit_steps.specs.Steps.{Step, more_step}
@@ -9,11 +8,12 @@ use Rattle.slab_laws.specs.declared.names.VertexId.{VertexId}
 use Rattle.slab_laws.specs.View.{View, point_in}
 use Rattle.curve_history.specs.Past.{Past, curves_on}
 use Rattle.arr_notes.specs.RecordGraph.{drawn_graph}
-use Rattle.record_layers.specs.RecordLayers.{IsRunOfSteps}
+use Rattle.observer_bus.specs.Rounds.{BusRow}
+use Rattle.told_steps.specs.ToldRuns.{IsToldRun}
 use Rattle.sound_changes.specs.EdgePlaces.{dart_between, IsPlaceFor}
 use Rattle.zone_walk.specs.declared.plan.Meeting.{Meeting}
 use Rattle.zone_walk.specs.Zone.{points_of_meetings}
-use Rattle.segment_insert.specs.Coming.{steps_at, IsSplitAt, IsMadeAt}
+use Rattle.segment_insert.specs.Coming.{steps_at, IsMadeAt}
 use Rattle.segment_insert.specs.Insertion.{pairs_to_part}
 use Rattle.segment_insert.specs.Parts.{part_step}
 
@@ -22,17 +22,13 @@ use Rattle.segment_insert.specs.Parts.{part_step}
 abbrev pub MayBeVertices : View → Past → List Meeting → Type 0
 MayBeVertices v p ms = AreSound (steps_at v (curves_on p) (points_of_meetings ms)) (drawn_graph v (curves_on p))
 
--- those meeting points that were no vertices have become some, one after the other, and nothing else has changed (this project)
-abbrev pub BecomeVertices : View → Past → List Meeting → View → Past → Type 0
-BecomeVertices v p ms w q = IsRunOfSteps v (curves_on p) (steps_at v (curves_on p) (points_of_meetings ms)) w (curves_on q)
+-- those meeting points that were no vertices have become some, one after the other, which observers are told, and nothing else has changed (this project)
+abbrev pub BecomeVertices : View → Past → BusRow → List Meeting → View → Past → BusRow → Type 0
+BecomeVertices v p b ms w q c = IsToldRun v (curves_on p) b (steps_at v (curves_on p) (points_of_meetings ms)) w (curves_on q) c
 
--- the meeting's point is the vertex x, which came if there was none; what was told of other vertices, edges and later points still holds (this project)
-abbrev pub BecomesVertex : View → Past → Meeting → View → Past → VertexId → Type 0
-BecomesVertex v p m w q x = IsMadeAt v (curves_on p) w (curves_on q) m x
-
--- the edge of d is split at a new vertex x at the point, and both parts have its curves (CGAL manual, `split_edge`)
-abbrev pub IsEdgeSplit : View → Past → DartId → Point → View → Past → VertexId → Type 0
-IsEdgeSplit v p d point w q x = IsSplitAt v (curves_on p) w (curves_on q) d x point
+-- the meeting's point is the vertex x, which came, and observers are told, if there was none; what was told of other vertices, edges and later points still holds (this project)
+abbrev pub BecomesVertex : View → Past → BusRow → Meeting → View → Past → BusRow → VertexId → Type 0
+BecomesVertex v p b m w q c x = IsMadeAt v (curves_on p) b w (curves_on q) c m x
 
 -- how many new pairs of an edge and a curve come of the edges that are split at the meetings (this project)
 abbrev pub new_pairs : Past → List Meeting → ℕ
@@ -51,9 +47,9 @@ step_along v p u w c = part_step (drawn_graph v (curves_on p)) v u w c
 abbrev pub MayBeAlong : View → Past → VertexId → VertexId → ℕ → Type 0
 MayBeAlong v p u w c = IsSound (step_along v p u w c) (drawn_graph v (curves_on p))
 
--- the curve has come along the part, and nothing else has changed (this project)
-abbrev pub ComesAlong : View → Past → VertexId → VertexId → ℕ → View → Past → Type 0
-ComesAlong v p u w c x q = IsRunOfSteps v (curves_on p) (step_along v p u w c ∷ []) x (curves_on q)
+-- the curve has come along the part, which observers are told, and nothing else has changed (this project)
+abbrev pub ComesAlong : View → Past → BusRow → VertexId → VertexId → ℕ → View → Past → BusRow → Type 0
+ComesAlong v p b u w c x q d = IsToldRun v (curves_on p) b (step_along v p u w c ∷ []) x (curves_on q) d
 
 -- the curve comes along each open part between two neighbouring meeting points (this project)
 abbrev pub steps_along : View → Past → ℕ → List Meeting → List Step
@@ -63,6 +59,6 @@ steps_along v p c ms = map (more_step (drawn_graph v (curves_on p))) (chain c (p
 abbrev pub MayBeAlongAll : View → Past → ℕ → List Meeting → Type 0
 MayBeAlongAll v p c ms = AreSound (steps_along v p c ms) (drawn_graph v (curves_on p))
 
--- the curve has come along each of these parts, one after the other, and nothing else has changed (this project)
-abbrev pub ComesAlongAll : View → Past → ℕ → List Meeting → View → Past → Type 0
-ComesAlongAll v p c ms w q = IsRunOfSteps v (curves_on p) (steps_along v p c ms) w (curves_on q)
+-- the curve has come along each of these parts, one after the other, which observers are told, and nothing else has changed (this project)
+abbrev pub ComesAlongAll : View → Past → BusRow → ℕ → List Meeting → View → Past → BusRow → Type 0
+ComesAlongAll v p b c ms w q d = IsToldRun v (curves_on p) b (steps_along v p c ms) w (curves_on q) d

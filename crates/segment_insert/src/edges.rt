@@ -2,24 +2,23 @@ ghost use Rattle.std.specs.Prelude.{◌≡◌, ◌≢◌, ◌≤◌, ◌+◌, �
 ghost use Rattle.plane_graphs.specs.Ascending.{Member};
 ghost use Rattle.slab_laws.specs.Sound.{IsGraphSound};
 ghost use Rattle.slab_laws.specs.View.{IsOutOf, target_in};
-ghost use Rattle.arr_notes.specs.Curves.{AreCurvesOf};
-ghost use Rattle.arr_notes.specs.Step.{step};
 ghost use Rattle.curve_history.specs.Past.{curves_on, SameLayer};
 ghost use Rattle.dcel_records.specs.declared.spot.Spot.TheVariants.{Vertex};
-ghost use Rattle.dcel_records.specs.RecordsView.{IsSpare};
-ghost use Rattle.edge_link.specs.Links.{CanLink, TellsOfLink, NamesNewDarts};
+ghost use Rattle.observer_bus.specs.Rows.{bus_of};
+ghost use Rattle.told_steps.specs.ToldRuns.{AreInStep};
 ghost use Rattle.zone_walk.specs.Zone.{is_on_segment, is_vertex, points_of_meetings};
 ghost use Rattle.segment_insert.specs.Parts.{IsOpenPart};
 ghost use Rattle.segment_insert.specs.Insertion.{AreVertices, AreAllOn};
 ghost use Rattle.segment_insert.specs.StepsMade.{IsPlaceTo, MayBeAlong, ComesAlong, MayBeAlongAll, ComesAlongAll};
 
-use arr_notes::Change;
 use curve_history::History;
 use dcel_records::{Records, Spot};
-use edge_link::{link_at_one, link_at_two, link_in_face};
 use exact_plane::{Direction, Line, Segment, line_of};
+use observer_bus::Bus;
 use rotation_order::{Place, place_at};
 use slab_laws::{CurveId, DartId, VertexId};
+use std::alloc::Global;
+use told_steps::{add_curve, add_edge};
 use zone_walk::Meeting;
 
 // The vertex that a meeting point is.
@@ -47,44 +46,20 @@ fn place_back(records: &Records, line: &Line, u: VertexId, w: VertexId) -> Optio
     }
 }
 
-// Links with the places that were found, in room that is there.
-fn link_at(
-    records: &mut Records,
-    u: VertexId,
-    w: VertexId,
-    places: (Option<DartId>, Option<DartId>),
-    line: Line,
-    curve: CurveId,
-) -> Change
-    requires sound { IsGraphSound records.old.graph }
-    requires room { 2 ≤ records.old.spare_darts }
-    requires fits { CanLink records.old.graph u w places.0 places.1 line }
-    ensures change { TellsOfLink result u w places.0 places.1 line curve }
-    ensures new_darts { NamesNewDarts records.old.graph result }
-    ensures graph { records.new.graph ≡ step records.old.graph result }
-    ensures sound { IsGraphSound records.new.graph }
-    ensures spare { IsSpare records.new records.old 0 2 }
-{
-    match places {
-        (None, None) => link_in_face(records, u, w, line, curve),
-        (Some(a), None) => link_at_one(records, u, w, a, line, curve),
-        (None, Some(b)) => link_at_one(records, u, w, b, line, curve),
-        (Some(a), Some(b)) => link_at_two(records, u, w, a, b, line, curve),
-    }
-}
-
 // A new edge of the curve from `u` to `w`, where none runs between them, in its places round both.
 fn new_edge(
+    alloc: Global,
     records: &mut Records,
     history: &mut History,
+    bus: &mut Bus,
     line: &Line,
     curve: CurveId,
     u: VertexId,
     w: VertexId,
     at_u: Option<DartId>,
 )
-    requires sound { IsGraphSound records.old.graph }
-    requires curves { AreCurvesOf records.old.graph (curves_on history.old) }
+    requires in_step { AreInStep records.old.graph (curves_on history.old)
+        (bus_of tells held left heard bus.old) }
     requires part { IsOpenPart records.old.graph line.now u w }
     requires place { IsPlaceTo records.old.graph u w at_u }
     requires no_edge { (d : _) → IsOutOf records.old.graph u d → target_in records.old.graph d ≢ w }
@@ -92,60 +67,66 @@ fn new_edge(
     requires plane { MayBeAlong records.old.graph history.old u w curve.0 }
     requires darts { 2 ≤ records.old.spare_darts }
     requires pairs { 1 ≤ history.old.spare_pairs }
-    ensures made { ComesAlong records.old.graph history.old u w curve.0 records.new.graph history.new }
+    ensures told { ComesAlong records.old.graph history.old (bus_of tells held left heard bus.old) u w curve.0
+        records.new.graph history.new (bus_of tells held left heard bus.new) }
+    ensures in_step { AreInStep records.new.graph (curves_on history.new)
+        (bus_of tells held left heard bus.new) }
     ensures vertices { records.new.graph.vertices ≡ records.old.graph.vertices }
     ensures layer { SameLayer history.old history.new }
     ensures spare_darts { records.old.spare_darts ≤ records.new.spare_darts + 2 }
     ensures spare_pairs { history.old.spare_pairs ≤ history.new.spare_pairs + 1 }
 {
     let at_w = place_back(&*records, line, u, w);
-    let change = link_at(records, u, w, (at_u, at_w), *line, curve);
-    let Change::AddEdge { d, .. } = change else {
-        unreachable!()
-    };
-    history.hold(d, curve);
+    add_edge(alloc, records, history, bus, u, w, at_u, at_w, *line, curve);
 }
 
 // The open part from `u` to `w` becomes an edge of the curve: an edge that runs there gets it, or else a new one comes.
 fn make_edge(
+    alloc: Global,
     records: &mut Records,
     history: &mut History,
+    bus: &mut Bus,
     line: &Line,
     curve: CurveId,
     u: VertexId,
     w: VertexId,
 )
-    requires sound { IsGraphSound records.old.graph }
-    requires curves { AreCurvesOf records.old.graph (curves_on history.old) }
+    requires in_step { AreInStep records.old.graph (curves_on history.old)
+        (bus_of tells held left heard bus.old) }
     requires part { IsOpenPart records.old.graph line.now u w }
     requires curve_named { Member curve.0 history.old.names }
     requires plane { MayBeAlong records.old.graph history.old u w curve.0 }
     requires darts { 2 ≤ records.old.spare_darts }
     requires pairs { 1 ≤ history.old.spare_pairs }
-    ensures made { ComesAlong records.old.graph history.old u w curve.0 records.new.graph history.new }
+    ensures told { ComesAlong records.old.graph history.old (bus_of tells held left heard bus.old) u w curve.0
+        records.new.graph history.new (bus_of tells held left heard bus.new) }
+    ensures in_step { AreInStep records.new.graph (curves_on history.new)
+        (bus_of tells held left heard bus.new) }
     ensures vertices { records.new.graph.vertices ≡ records.old.graph.vertices }
     ensures layer { SameLayer history.old history.new }
     ensures spare_darts { records.old.spare_darts ≤ records.new.spare_darts + 2 }
     ensures spare_pairs { history.old.spare_pairs ≤ history.new.spare_pairs + 1 }
 {
     match place_at(&*records, u, Direction::along(line)) {
-        Place::Along(d) => history.hold(d, curve),
-        Place::Bare => new_edge(records, history, line, curve, u, w, None),
-        Place::Between(a, _) => new_edge(records, history, line, curve, u, w, Some(a)),
+        Place::Along(d) => add_curve(alloc, &*records, history, bus, d, curve),
+        Place::Bare => new_edge(alloc, records, history, bus, line, curve, u, w, None),
+        Place::Between(a, _) => new_edge(alloc, records, history, bus, line, curve, u, w, Some(a)),
     }
 }
 
 /// Makes every open part between two neighbouring meeting points an edge of the curve, in room that is there: an edge that
 /// runs there gets the curve, or else a new one comes.
 pub(crate) fn make_edges(
+    alloc: Global,
     records: &mut Records,
     history: &mut History,
+    bus: &mut Bus,
     segment: &Segment,
     curve: CurveId,
     meetings: &[Meeting],
 )
-    requires sound { IsGraphSound records.old.graph }
-    requires curves { AreCurvesOf records.old.graph (curves_on history.old) }
+    requires in_step { AreInStep records.old.graph (curves_on history.old)
+        (bus_of tells held left heard bus.old) }
     requires named { AreVertices records.old.graph meetings.now }
     requires on { (m : _) → Contains meetings.now m → is_on_segment segment.now m.point ≡ true }
     requires all_on { AreAllOn records.old.graph segment.now (points_of_meetings meetings.now) }
@@ -153,13 +134,16 @@ pub(crate) fn make_edges(
     requires plane { MayBeAlongAll records.old.graph history.old curve.0 meetings.now }
     requires darts { 2 * length meetings.now ≤ records.old.spare_darts + 2 }
     requires pairs { length meetings.now ≤ history.old.spare_pairs }
-    ensures made { ComesAlongAll records.old.graph history.old curve.0 meetings.now records.new.graph history.new }
+    ensures told { ComesAlongAll records.old.graph history.old (bus_of tells held left heard bus.old) curve.0 meetings.now
+        records.new.graph history.new (bus_of tells held left heard bus.new) }
+    ensures in_step { AreInStep records.new.graph (curves_on history.new)
+        (bus_of tells held left heard bus.new) }
     ensures layer { SameLayer history.old history.new }
 {
     let line = line_of(segment);
     for i in 1..meetings.len() {
         let u = vertex_of(&meetings[i - 1]);
         let w = vertex_of(&meetings[i]);
-        make_edge(records, history, &line, curve, u, w);
+        make_edge(alloc, records, history, bus, &line, curve, u, w);
     }
 }

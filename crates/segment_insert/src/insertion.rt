@@ -1,5 +1,5 @@
 ghost use Rattle.std.specs.Prelude.{◌≡◌, ◌≤◌, ◌<◌, ◌+◌, ◌^◌, length, option_and_then, IsOk, IfOk, OnOk, OnErr};
-ghost use Rattle.edit_steps.specs.Edits.{Insert};
+ghost use Rattle.edit_steps.specs.Edits.{Insert, steps};
 ghost use Rattle.edit_steps.specs.Refusals.{IsAnswerFor};
 ghost use Rattle.slab_laws.specs.Sound.{IsGraphSound};
 ghost use Rattle.dcel_records.specs.RecordsView.{RecordsView};
@@ -9,7 +9,10 @@ ghost use Rattle.curve_history.specs.declared.history.TheConstants.{LAST_CURVE};
 ghost use Rattle.record_layers.specs.RecordLayers.{IsLayer};
 ghost use Rattle.zone_walk.specs.Zone.{IsZoneOf};
 ghost use Rattle.segment_insert.specs.Insertion.{insert_said, refusal_at, pairs_needed, HasRoomFor};
-ghost use Rattle.record_layers.specs.LayerEdits.{IsAfter, Makes};
+ghost use Rattle.observer_bus.specs.Rows.{bus_of};
+ghost use Rattle.told_steps.specs.ToldEdits.{AreWatched, IsToldEdit};
+ghost use Rattle.told_steps.specs.ToldRuns.{AreInStep, IsToldRun};
+ghost use Rattle.record_layers.specs.LayerEdits.{IsAfter, layer_at};
 
 use crate::edges::make_edges;
 use crate::vertices::make_vertices;
@@ -17,6 +20,7 @@ use curve_history::History;
 use dcel_records::{Records, Spot};
 use exact_plane::Segment;
 use no_memory::NoMemory;
+use observer_bus::Bus;
 use slab_laws::{CurveId, Piece};
 use std::alloc::Global;
 use thiserror::Error;
@@ -106,14 +110,18 @@ fn prepare(
     Ok(plan)
 }
 
-// The steps of the insertion, in room that is there.
+// The steps of the insertion, each told to observers, in room that is there.
 fn insert_by_plan(
+    alloc: Global,
     records: &mut Records,
     history: &mut History,
+    bus: &mut Bus,
     segment: &Segment,
     plan: ZonePlan,
 ) -> CurveId
     requires layer { IsLayer records.old.graph history.old }
+    requires in_step { AreInStep records.old.graph (curves_on history.old)
+        (bus_of tells held left heard bus.old) }
     requires zone { IsZoneOf records.old.graph segment.now plan }
     requires unspent { history.old.next ≤ LAST_CURVE }
     requires few { length history.old.pieces + 1 < 2 ^ 32 }
@@ -121,7 +129,12 @@ fn insert_by_plan(
     ensures layer { IsLayer records.new.graph history.new }
     ensures number { result.0 ≡ history.old.next }
     ensures edit { IsAfter (Insert result.0 segment.now) records.old history.old records.new history.new }
-    ensures steps { Makes (Insert result.0 segment.now) records.old history.old records.new history.new }
+    ensures told { IsToldRun records.old.graph (curves_on history.old)
+        (bus_of tells held left heard bus.old)
+        (steps (Insert result.0 segment.now) (layer_at records.old history.old).present) records.new.graph (curves_on history.new)
+        (bus_of tells held left heard bus.new) }
+    ensures in_step { AreInStep records.new.graph (curves_on history.new)
+        (bus_of tells held left heard bus.new) }
 {
     let lower = segment.lower();
     let upper = segment.upper();
@@ -133,35 +146,40 @@ fn insert_by_plan(
         to: upper,
     });
     let mut meetings = plan.vertices.into_vec();
-    make_vertices(records, history, &mut meetings);
-    make_edges(records, history, segment, curve, &meetings);
+    make_vertices(alloc, records, history, bus, &mut meetings);
+    make_edges(alloc, records, history, bus, segment, curve, &meetings);
     curve
 }
 
-/// The segment becomes a new curve of the layer that records and history are, by the steps of an insertion; all of it, or, at
-/// a refusal or for want of memory, nothing (CGAL manual, `insert`).
+/// The segment becomes a new curve of the layer that records and history are, by the steps of an insertion, each told to
+/// observers before and after it; all of it, or, at a refusal or for want of memory, nothing, and then nothing is told (CGAL
+/// manual, `insert` and `Arr_observer`).
 ///
 /// `curves` and `pieces` are the limits of named curves and of pieces; `start` is the spot of the segment's lower end. All
-/// memory is taken before the first change.
+/// memory of its own is taken before the first note.
 pub fn insert(
     alloc: Global,
     records: &mut Records,
     history: &mut History,
+    bus: &mut Bus,
     curves: u32,
     pieces: u32,
     start: Spot,
     segment: &Segment,
 ) -> Result<CurveId, InsertError>
     requires layer { IsLayer records.old.graph history.old }
+    requires watched { AreWatched records.old history.old (bus_of tells held left heard bus.old) }
     requires start { IsSpotOf records.old.graph segment.now.lower start }
     ensures layer { IsLayer records.new.graph history.new }
+    ensures watched { AreWatched records.new history.new (bus_of tells held left heard bus.new) }
     ensures number { IfOk result (λ c. c.0 ≡ history.old.next) }
     ensures edit { IfOk result (λ c. IsAfter (Insert c.0 segment.now) records.old history.old records.new history.new) }
-    ensures steps { IfOk result (λ c. Makes (Insert c.0 segment.now) records.old history.old records.new history.new) }
+    ensures told { IfOk result (λ c. IsToldEdit (Insert c.0 segment.now) records.old history.old (bus_of tells held left heard bus.old) records.new history.new (bus_of tells held left heard bus.new)) }
     ensures refused { IsAnswerFor insert_said (refusal_at curves pieces records.old history.old) result }
     ensures graph { OnErr result (records.new.graph ≡ records.old.graph) }
     ensures same_layer { OnErr result (SameLayer history.old history.new) }
     ensures same_curves { OnErr result (SameCurves history.old history.new) }
+    ensures untold { OnErr result (bus_of tells held left heard bus.new ≡ bus_of tells held left heard bus.old) }
 {
     if let Some(error) = refusal_of(&*history, curves, pieces) {
         return Err(error);
@@ -169,5 +187,6 @@ pub fn insert(
     let Ok(plan) = prepare(alloc, records, history, segment, start) else {
         return Err(InsertError::NoMemory);
     };
-    Ok(insert_by_plan(records, history, segment, plan))
+    bus.begin();
+    Ok(insert_by_plan(alloc, records, history, bus, segment, plan))
 }

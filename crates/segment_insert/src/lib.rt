@@ -1,7 +1,8 @@
 //! Insertion of a segment into an arrangement that is kept in records with the history of its curves, all or nothing.
 //!
 //! The zone of the segment is a plan; memory is taken by the plan and for it, and only then is anything changed. First the
-//! meeting points become vertices, then each open part between them becomes an edge, or gets one more curve.
+//! meeting points become vertices, then each open part between them becomes an edge, or gets one more curve. Observers are
+//! told each of these steps before and after it.
 #![tactic(auto)]
 
 mod edges;

@@ -1,5 +1,5 @@
 -- A curve that goes from one edge.
-use Rattle.std.proofs.Common.{◌≡◌, ◌≢◌, ℕ, [], ◌∷◌, Bool, true, false, not, ◌&&◌, cond, refl, ap, ◌∙◌, subst}
+use Rattle.std.proofs.Common.{◌≡◌, ◌≢◌, ℕ, [], ◌∷◌, Bool, true, false, not, ◌&&◌, cond, refl, sym, ap, ◌∙◌, subst}
 use Rattle.std.specs.List.{filter, list_any}
 use Rattle.exact_plane.specs.Point.{Point}
 use Rattle.exact_plane.specs.PointOrderLaws.{and_true}
@@ -8,15 +8,14 @@ use Rattle.plane_graphs.specs.Graph.{Mark, mark, is_at, same_curve}
 use Rattle.plane_graphs.specs.Line.{same_point}
 use Rattle.plane_graphs.proofs.Lists.{and_in, any_in, any_out, both_ways, clash, not_out, of_filter}
 use Rattle.plane_graphs.proofs.Order.{same_in, same_out, curve_in}
-use Rattle.edit_steps.specs.Steps.{Step, RemoveEdge as RemoveEdgeAt, RemoveCurve as RemoveCurveAt, less_step}
+use Rattle.edit_steps.specs.Steps.{RemoveEdge as RemoveEdgeAt, RemoveCurve as RemoveCurveAt, less_step}
 use Rattle.slab_laws.specs.declared.names.CurveId.{CurveId}
 use Rattle.slab_laws.specs.declared.names.DartId.{DartId}
 use Rattle.slab_laws.specs.Sound.{IsGraphSound}
 use Rattle.slab_laws.specs.View.{View, HasDart, point_in, source_in, twin_in, target_in, line_in}
 use Rattle.sound_changes.specs.EdgePlaces.{IsEdgeMore}
-use Rattle.sound_changes.proofs.EdgeRemoved.{fewer, removed}
+use Rattle.sound_changes.proofs.EdgeRemoved.{fewer}
 use Rattle.sound_changes.proofs.RingsKept.{twinned_down, start_old, end_old}
-use Rattle.arr_notes.specs.declared.change.Change.{Change}
 use Rattle.arr_notes.specs.declared.change.Change.TheVariants.{RemoveEdge, RemoveCurve}
 use Rattle.arr_notes.specs.Curves.{Curves, IsForward, is_forward, step_curves}
 use Rattle.arr_notes.specs.Step.{step, remove_edge}
@@ -24,26 +23,27 @@ use Rattle.arr_notes.specs.RecordGraph.{drawn_graph}
 use Rattle.sound_views.proofs.GraphDrawn.{twins_are_directed}
 use Rattle.sound_changes.proofs.StepHolds.{mark_held, held_mark}
 use Rattle.sound_changes.proofs.StepCases.{IsSameWay, turned_way, unchanged_way, one_way, at_name, at_other}
-use Rattle.record_layers.specs.RecordLayers.{IsMade, IsRunOfSteps}
-use Rattle.segment_remove.specs.CurveLosses.{loss}
-
--- one change that is the step
-pub made_by : (v : View) (h : Curves) (s : Step) (c : Change) (w : View) (k : Curves) → IsMade v h s c → w ≡ step v c → ((d : DartId) → k d ≡ step_curves h c d) → IsRunOfSteps v h (s ∷ []) w k
-made_by v h s c w k m e q = (c, m, (e, q))
-
--- another curve than c runs along the edge of d
-abbrev pub is_shared : Curves → DartId → ℕ → Bool
-is_shared h d c = list_any (λ k. not (same_curve k c)) (h d)
-
--- the step that takes the curve c from the edge from p to q
-abbrev pub loss_between : Bool → Point → Point → ℕ → Step
-loss_between b p q c = cond b (RemoveCurveAt p q c) (RemoveEdgeAt p q)
+use Rattle.observer_bus.specs.Rounds.{BusRow}
+use Rattle.told_steps.specs.ToldRuns.{IsToldRun}
+use Rattle.told_steps.proofs.ToldTogether.{told_runs_lawful}
+use Rattle.segment_remove.specs.CurveLosses.{is_shared, loss, loss_between, loss_step, IsLossTold}
 
 pub curve_lost : (v : View) (h : Curves) (d : DartId) (c : CurveId) → is_shared h d c.0 ≡ true → loss v h d c ≡ RemoveCurve d c
 curve_lost v h d c e = ap (λ b. cond b (RemoveCurve d c) (RemoveEdge d (twin_in v d))) e
 
 pub edge_lost : (v : View) (h : Curves) (d : DartId) (c : CurveId) → is_shared h d c.0 ≡ false → loss v h d c ≡ RemoveEdge d (twin_in v d)
 edge_lost v h d c e = ap (λ b. cond b (RemoveCurve d c) (RemoveEdge d (twin_in v d))) e
+
+-- the loss is told by its step
+pub curve_told : (v : View) (h : Curves) (b : BusRow) (d : DartId) (c : CurveId) (w : View) (k : Curves) (e : BusRow) (shared : Bool) → shared ≡ true → shared ≡ is_shared h d c.0 →
+    IsToldRun v h b (RemoveCurveAt (point_in v (source_in v d)) (point_in v (target_in v d)) c.0 ∷ []) w k e → IsLossTold v h b d c w k e
+curve_told v h b d c w k e shared is there told =
+    told_runs_lawful.same_steps v h b _ (loss_step v h d c ∷ []) w k e (ap (λ s. loss_between s (point_in v (source_in v d)) (point_in v (target_in v d)) c.0 ∷ []) (sym is ∙ there)) told
+
+pub edge_told : (v : View) (h : Curves) (b : BusRow) (d : DartId) (c : CurveId) (w : View) (k : Curves) (e : BusRow) (shared : Bool) → shared ≡ false → shared ≡ is_shared h d c.0 →
+    IsToldRun v h b (RemoveEdgeAt (point_in v (source_in v d)) (point_in v (target_in v d)) ∷ []) w k e → IsLossTold v h b d c w k e
+edge_told v h b d c w k e shared is there told =
+    told_runs_lawful.same_steps v h b _ (loss_step v h d c ∷ []) w k e (ap (λ s. loss_between s (point_in v (source_in v d)) (point_in v (target_in v d)) c.0 ∷ []) (sym is ∙ there)) told
 
 module _ (v : View) (h : Curves) (s : IsGraphSound v) (d : DartId) (f : IsForward v d) where
   abbrev p : Point
@@ -57,17 +57,6 @@ module _ (v : View) (h : Curves) (s : IsGraphSound v) (d : DartId) (f : IsForwar
 
   abbrev less : View
   less = remove_edge v d t
-
-  -- ---- the change
-  pub edge_goes : IsMade v h (RemoveEdgeAt p q) (RemoveEdge d t)
-  edge_goes = record { fits = (f, refl); tells = refl; sound = removed v d s f.0 }
-
-  by_shared : (c : CurveId) (b : Bool) → is_shared h d c.0 ≡ b → IsMade v h (loss_between b p q c.0) (cond b (RemoveCurve d c) (RemoveEdge d t))
-  by_shared c true e = record { fits = (f, e); tells = refl; sound = s }
-  by_shared c false e = edge_goes
-
-  pub curve_goes : (c : CurveId) → IsMade v h (loss_between (is_shared h d c.0) p q c.0) (loss v h d c)
-  curve_goes c = by_shared c (is_shared h d c.0) refl
 
   -- ---- the step, by the graph that is drawn
   pub shared_drawn : (c : ℕ) → list_any (λ n. is_at p q n && not (same_curve n.curve c)) (drawn_graph v h).marks ≡ is_shared h d c

@@ -1,7 +1,6 @@
--- The cut of an edge from records and history: its steps, and the layer after them.
+-- The cut of an edge from records and history: its steps, which are told, and the layer after them.
 use Rattle.std.proofs.Common.{◌≡◌, ℕ, true, [], ◌∷◌, length, map, refl, sym, ap, ap₂, ◌∙◌, subst, inl, inr, Less}
 use Rattle.std.specs.List.{AllByRecursion, flat_map, list_any}
-use Rattle.std.specs.Prelude.{IsSome}
 use Rattle.exact_plane.specs.Point.{Point}
 use Rattle.exact_plane.specs.PointOrder.{point_cmp}
 use Rattle.plane_graphs.specs.Ascending.{IsAscending}
@@ -13,21 +12,23 @@ use Rattle.edit_steps.specs.Layer.{IsAcceptedBy, layer_after}
 use Rattle.edit_steps.specs.Steps.{RemoveEdge, cut_piece, with_cut}
 use Rattle.slab_laws.specs.declared.names.DartId.{DartId}
 use Rattle.slab_laws.specs.declared.names.VertexId.{VertexId}
-use Rattle.slab_laws.specs.Sound.{IsGraphSound}
-use Rattle.slab_laws.specs.Tables.{row_at}
-use Rattle.slab_laws.specs.View.{View, HasVertex, point_in, point_or, source_in, target_in}
-use Rattle.arr_notes.specs.Curves.{Curves, AreCurvesOf}
+use Rattle.slab_laws.specs.View.{View, HasVertex, point_in, source_in, target_in, twin_in}
+use Rattle.arr_notes.specs.Curves.{Curves}
+use Rattle.arr_notes.specs.Step.{remove_edge}
 use Rattle.curve_history.specs.Past.{Past, curves_on, SameCurves}
 use Rattle.arr_notes.specs.RecordGraph.{drawn_graph}
-use Rattle.record_layers.specs.RecordLayers.{IsLayer, layer_of, IsRunOfSteps}
+use Rattle.observer_bus.specs.Rounds.{BusRow}
+use Rattle.record_layers.specs.RecordLayers.{IsLayer, layer_of}
 use Rattle.record_layers.proofs.Layers.{steps_make_layers}
-use Rattle.record_layers.proofs.Moved.{one_curves}
 use Rattle.record_orders.specs.Edges.{IsDartAlong, RunsBetween}
 use Rattle.record_orders.proofs.EdgeEnds.{along_runs}
 use Rattle.redundant_vertices.specs.Left.{AreLeft, tidying}
+use Rattle.told_steps.specs.ToldRuns.{IsToldRun}
+use Rattle.told_steps.proofs.ToldTogether.{told_runs_lawful}
 use Rattle.segment_remove.proofs.Cutting.{cut_gone, cut_is_tidied, cut_old, cut_run, fit_cut}
 use Rattle.segment_remove.proofs.Joined.{joined}
-use Rattle.segment_remove.proofs.Left.{are_left, left_curves, left_sound, tidied_made}
+use Rattle.segment_remove.proofs.SameVertices.{point_stays, still_ascend, still_have}
+use Rattle.segment_remove.proofs.Left.{are_left, tidied_told}
 
 module _ (v : View) (r : Past) (l : IsLayer v r) (e : Edge) (d : DartId) (a : IsDartAlong v e d) (s t : VertexId) (is_s : s ≡ source_in v d) (is_t : t ≡ target_in v d) where
   abbrev o : Present
@@ -62,41 +63,38 @@ module _ (v : View) (r : Past) (l : IsLayer v r) (e : Edge) (d : DartId) (a : Is
   counted low high at_low at_high n is = is ∙ ap₂ (λ p q. length (flat_map (cut_piece p q) r.pieces)) (at_low ∙ at_s) (at_high ∙ at_t)
 
   -- ---- the edge is released
-  module _ (r1 : Past) (c1 : SameCurves r r1) (x : View) (k : Curves) (made : IsRunOfSteps v (curves_on r1) (RemoveEdge (point_in v (source_in v d)) (point_in v (target_in v d)) ∷ []) x k) (same : x.vertices ≡ v.vertices) where
-    released : IsRunOfSteps v (curves_on r) (RemoveEdge e.low e.high ∷ []) x k
-    released = subst (λ z. IsRunOfSteps v z (RemoveEdge e.low e.high ∷ []) x k) (one_curves r r1 c1) (subst (λ z. IsRunOfSteps v (curves_on r1) (RemoveEdge e.low z ∷ []) x k) runs.ends (subst (λ z. IsRunOfSteps v (curves_on r1) (RemoveEdge z (point_in v (target_in v d)) ∷ []) x k) runs.starts made))
-
-    pub rest_sound : IsGraphSound x
-    rest_sound = left_sound v r l new (RemoveEdge e.low e.high ∷ []) (cut_run o l.lawful.fit e.low e.high there) x k released
-
-    pub rest_curves : AreCurvesOf x k
-    rest_curves = left_curves v r l new (RemoveEdge e.low e.high ∷ []) (cut_run o l.lawful.fit e.low e.high there) x k released
-
-    same_point : (w : VertexId) → point_in x w ≡ point_in v w
-    same_point w = ap (λ rows. point_or (row_at rows w.0)) same
+  module _ (x : View) (gives : x ≡ remove_edge v d (twin_in v d)) where
+    same : x.vertices ≡ v.vertices
+    same = ap (λ (z : View). z.vertices) gives
 
     pub both_have : AllByRecursion (λ w. HasVertex x w) (s ∷ t ∷ [])
-    both_have = (subst (λ rows. IsSome (row_at rows s.0)) (sym same) has_s, (subst (λ rows. IsSome (row_at rows t.0)) (sym same) has_t, tt))
+    both_have = still_have v x same (s ∷ t ∷ []) (has_s, (has_t, tt))
 
     pub both_ascend : IsAscending point_cmp (map (point_in x) (s ∷ t ∷ []))
-    both_ascend = ((subst (λ z. point_cmp z (point_in x t) ≡ Less) (sym (same_point s)) (subst (λ z. point_cmp (point_in v s) z ≡ Less) (sym (same_point t)) before), tt), (tt, tt))
+    both_ascend = still_ascend v x same (s ∷ t ∷ []) ((before, tt), (tt, tt))
 
-    -- only these two may be tidied
-    both_left : AreLeft x k new (map (point_in x) (s ∷ t ∷ []))
-    both_left =
-        are_left v r l new (RemoveEdge e.low e.high ∷ []) (cut_run o l.lawful.fit e.low e.high there) x k released (map (point_in x) (s ∷ t ∷ [])) (fit_cut o l.lawful.fit e.low e.high there) (cut_old o l.lawful.fit e.low e.high there)
-        (λ p m gone. elim (cut_gone o l.lawful.fit e.low e.high there p m gone) [ inl i ↦ inl (i ∙ sym at_s ∙ sym (same_point s)) | inr i ↦ inr (inl (i ∙ sym at_t ∙ sym (same_point t))) ])
+    module _ (r1 : Past) (c1 : SameCurves r r1) (b : BusRow) (k : Curves) (c : BusRow) (gone : IsToldRun v (curves_on r1) b (RemoveEdge (point_in v (source_in v d)) (point_in v (target_in v d)) ∷ []) x k c) where
+      released : IsToldRun v (curves_on r) b (RemoveEdge e.low e.high ∷ []) x k c
+      released =
+          told_runs_lawful.same_steps v (curves_on r) b _ (RemoveEdge e.low e.high ∷ []) x k c (ap₂ (λ p q. RemoveEdge p q ∷ []) runs.starts runs.ends)
+          (told_runs_lawful.same_curves v (curves_on r1) (curves_on r) b _ x k k c (λ n. sym (c1 n)) (λ n. refl) gone)
 
-    pub cut_made : (y : View) (j : Curves) → ((p : Present) → AreLeft x k p (map (point_in x) (s ∷ t ∷ [])) → IsRunOfSteps x k (tidying (drawn_graph x k) p) y j) → IsRunOfSteps v (curves_on r) (steps (Cut e.low e.high) o) y j
-    cut_made y j tidied =
-        subst (λ ss. IsRunOfSteps v (curves_on r) ss y j) (sym (cut_is_tidied o e.low e.high))
-        (tidied_made v r l new (RemoveEdge e.low e.high ∷ []) (cut_run o l.lawful.fit e.low e.high there) x k released y j (tidied new both_left))
+      -- only these two may be tidied
+      both_left : AreLeft x k new (map (point_in x) (s ∷ t ∷ []))
+      both_left =
+          are_left v r l new (RemoveEdge e.low e.high ∷ []) (cut_run o l.lawful.fit e.low e.high there) b x k c released (map (point_in x) (s ∷ t ∷ [])) (fit_cut o l.lawful.fit e.low e.high there) (cut_old o l.lawful.fit e.low e.high there)
+          (λ p m goes. elim (cut_gone o l.lawful.fit e.low e.high there p m goes) [ inl i ↦ inl (i ∙ sym at_s ∙ sym (point_stays v x same s)) | inr i ↦ inr (inl (i ∙ sym at_t ∙ sym (point_stays v x same t))) ])
+
+      pub cut_told : (y : View) (q : Past) (f : BusRow) → ((p : Present) → AreLeft x k p (map (point_in x) (s ∷ t ∷ [])) → IsToldRun x k c (tidying (drawn_graph x k) p) y (curves_on q) f) → IsToldRun v (curves_on r) b (steps (Cut e.low e.high) o) y (curves_on q) f
+      cut_told y q f tidied =
+          told_runs_lawful.same_steps v (curves_on r) b _ (steps (Cut e.low e.high) o) y (curves_on q) f (sym (cut_is_tidied o e.low e.high))
+          (tidied_told v r l new (RemoveEdge e.low e.high ∷ []) (cut_run o l.lawful.fit e.low e.high there) b x k c released y (curves_on q) f (tidied new both_left))
 
   -- ---- the layer after the cut
   accepted : IsAcceptedBy (Cut e.low e.high) (layer_of v r)
   unfolding IsAccepted
   accepted = there
 
-  pub cut_layer : (y : View) (q : Past) → IsRunOfSteps v (curves_on r) (steps (Cut e.low e.high) o) y (curves_on q) → q.pieces ≡ flat_map (cut_piece e.low e.high) r.pieces → q.names ≡ r.names → q.next ≡ r.next → IsLayer y q × (layer_of y q ≡ layer_after (Cut e.low e.high) (layer_of v r))
+  pub cut_layer : (b : BusRow) (y : View) (q : Past) (f : BusRow) → IsToldRun v (curves_on r) b (steps (Cut e.low e.high) o) y (curves_on q) f → q.pieces ≡ flat_map (cut_piece e.low e.high) r.pieces → q.names ≡ r.names → q.next ≡ r.next → IsLayer y q × (layer_of y q ≡ layer_after (Cut e.low e.high) (layer_of v r))
   unfolding after
-  cut_layer y q made pieces names next = steps_make_layers (Cut e.low e.high) v r y q l accepted made pieces names next
+  cut_layer b y q f told pieces names next = steps_make_layers (Cut e.low e.high) v r y q l accepted (told_runs_lawful.steps v (curves_on r) b (steps (Cut e.low e.high) o) y (curves_on q) f told) pieces names next

@@ -1,10 +1,9 @@
--- The drop of a curve from records and history: its steps, and the layer after them.
-use Rattle.std.proofs.Common.{◌≡◌, ℕ, not, List, map, sym, ap, ◌∙◌, subst, inl, inr}
+-- The drop of a curve from records and history: its steps, which are told, and the layer after them.
+use Rattle.std.proofs.Common.{◌≡◌, ℕ, not, List, map, refl, sym, ap, ◌∙◌, subst, inl, inr}
 use Rattle.std.specs.List.{AllByRecursion, filter}
-use Rattle.std.specs.Prelude.{◌↔◌, IsSome}
+use Rattle.std.specs.Prelude.{◌↔◌}
 use Rattle.exact_plane.specs.Point.{Point}
-use Rattle.exact_plane.specs.PointOrder.{point_cmp}
-use Rattle.plane_graphs.specs.Ascending.{Member, IsAscending}
+use Rattle.plane_graphs.specs.Ascending.{Member}
 use Rattle.plane_graphs.specs.Graph.{Graph, graph, same_curve, vertices}
 use Rattle.plane_graphs.specs.Piece.{Present}
 use Rattle.plane_graphs.proofs.Lists.{in_map, of_map}
@@ -13,25 +12,27 @@ use Rattle.edit_steps.specs.Layer.{IsAcceptedBy, layer_after}
 use Rattle.edit_steps.specs.Steps.{Step, less_step, without_curve}
 use Rattle.slab_laws.specs.declared.names.DartId.{DartId}
 use Rattle.slab_laws.specs.declared.names.VertexId.{VertexId}
-use Rattle.slab_laws.specs.Sound.{IsGraphSound}
-use Rattle.slab_laws.specs.Tables.{row_at}
-use Rattle.slab_laws.specs.View.{View, HasDart, HasVertex, point_in, point_or, source_in, target_in}
-use Rattle.arr_notes.specs.Curves.{Curves, AreCurvesOf}
-use Rattle.curve_history.specs.Past.{Past, curves_on}
+use Rattle.slab_laws.specs.View.{View, HasDart, point_in, source_in, target_in}
+use Rattle.arr_notes.specs.Curves.{Curves}
+use Rattle.curve_history.specs.Past.{Past, curves_on, SameCurves}
 use Rattle.arr_notes.specs.RecordGraph.{drawn_graph}
 use Rattle.sound_views.proofs.GraphHolds.{graphs_hold}
-use Rattle.record_layers.specs.RecordLayers.{IsLayer, layer_of, IsRunOfSteps}
+use Rattle.observer_bus.specs.Rounds.{BusRow}
+use Rattle.record_layers.specs.RecordLayers.{IsLayer, layer_of}
 use Rattle.record_layers.proofs.Layers.{steps_make_layers}
 use Rattle.record_orders.specs.declared.darts.DartKey.{DartKey}
 use Rattle.record_orders.proofs.Sorting.{all_members}
 use Rattle.record_layers.proofs.LayerEdges.{curved_forward}
 use Rattle.segment_remove.specs.Ends.{AreEnds}
 use Rattle.redundant_vertices.specs.Left.{AreLeft, tidying}
+use Rattle.told_steps.specs.ToldRuns.{IsToldRun}
+use Rattle.told_steps.proofs.ToldTogether.{told_runs_lawful}
 use Rattle.segment_remove.proofs.Dropping.{drop_gone, drop_is_tidied, drop_old, drop_run, fit_drop, marks_of}
-use Rattle.segment_remove.proofs.Left.{are_left, left_curves, left_sound, tidied_made}
+use Rattle.segment_remove.proofs.SameVertices.{point_stays}
+use Rattle.segment_remove.proofs.Left.{are_left, tidied_told}
 
 -- the steps that take a curve from its edges
-abbrev pub releases : ℕ → Graph → List Step
+abbrev releases : ℕ → Graph → List Step
 releases c g = map (less_step g) (marks_of c g.marks)
 
 module _ (v : View) (r : Past) (l : IsLayer v r) (c : ℕ) where
@@ -41,49 +42,39 @@ module _ (v : View) (r : Past) (l : IsLayer v r) (c : ℕ) where
   abbrev new : Present
   new = without_curve o c
 
-  module _ (x : View) (k : Curves) (made : IsRunOfSteps v (curves_on r) (releases c (drawn_graph v (curves_on r))) x k) where
-    released : IsRunOfSteps v (curves_on r) (releases c (graph o)) x k
-    released = subst (λ g. IsRunOfSteps v (curves_on r) (releases c g) x k) l.stands made
+  module _ (b : BusRow) (x : View) (r1 r2 : Past) (c1 : SameCurves r1 r2) (e : BusRow) (gone : IsToldRun v (curves_on r) b (releases c (drawn_graph v (curves_on r))) x (curves_on r1) e) where
+    abbrev k : Curves
+    k = curves_on r2
 
-    pub rest_sound : IsGraphSound x
-    rest_sound = left_sound v r l new (releases c (graph o)) (drop_run o l.lawful.fit c) x k released
-
-    pub rest_curves : AreCurvesOf x k
-    rest_curves = left_curves v r l new (releases c (graph o)) (drop_run o l.lawful.fit c) x k released
+    released : IsToldRun v (curves_on r) b (releases c (graph o)) x k e
+    released =
+        told_runs_lawful.same_curves v (curves_on r) (curves_on r) b _ x (curves_on r1) k e (λ n. refl) c1
+        (told_runs_lawful.same_steps v (curves_on r) b _ (releases c (graph o)) x (curves_on r1) e (ap (releases c) l.stands) gone)
 
     module _ (same : x.vertices ≡ v.vertices) (ks : List DartKey) (all : (d : DartId) → Member d (map (λ k. k.name) ks) ↔ Member c (curves_on r d)) (ws : List VertexId) (ends : AreEnds v ks ws) where
-      same_point : (w : VertexId) → point_in x w ≡ point_in v w
-      same_point w = ap (λ rows. point_or (row_at rows w.0)) same
-
-      pub all_have : AllByRecursion (λ w. HasVertex x w) ws
-      all_have = subst (λ rows. AllByRecursion (λ w. IsSome (row_at rows w.0)) ws) (sym same) ends.have
-
-      pub all_ascend : IsAscending point_cmp (map (point_in x) ws)
-      all_ascend = subst (λ rows. IsAscending point_cmp (map (λ w. point_or (row_at rows w.0)) ws)) (sym same) ends.ascend
-
       -- the point of an end is among theirs
       among : (p : Point) (w : VertexId) → Member w ws → point_in v w ≡ p → Member p (map (point_in x) ws)
-      among p w m at = subst (λ z. Member z (map (point_in x) ws)) (same_point w ∙ at) (in_map (point_in x) w ws m)
+      among p w m at = subst (λ z. Member z (map (point_in x) ws)) (point_stays v x same w ∙ at) (in_map (point_in x) w ws m)
 
       -- a vertex that goes is one of the ends of the curve's edges
       lost : (p : Point) → Member p (vertices o) → (Member p (vertices new) → ⊥) → Member p (map (point_in x) ws)
-      lost p m gone =
-          let n = drop_gone o l.lawful.fit c p m gone in
+      lost p m goes =
+          let n = drop_gone o l.lawful.fit c p m goes in
           let d = ((graphs_hold v (curves_on r) l.sound).marks n.0).0 (subst (Member n.0) (sym (ap (λ g. g.marks) l.stands)) n.1) in
-          let e = of_map (λ k. k.name) d.0 ks ((all d.0).1 (subst (λ z. Member z (curves_on r d.0)) n.3 d.1.curve)) in
-          let both = ends.ends e.0 e.1 in
+          let j = of_map (λ k. k.name) d.0 ks ((all d.0).1 (subst (λ z. Member z (curves_on r d.0)) n.3 d.1.curve)) in
+          let both = ends.ends j.0 j.1 in
           elim n.2 [
-            | inl i ↦ among p (source_in v e.0.name) both.0 (ap (λ z. point_in v (source_in v z)) (sym e.2) ∙ d.1.low ∙ i)
-            | inr i ↦ among p (target_in v e.0.name) both.1 (ap (λ z. point_in v (target_in v z)) (sym e.2) ∙ d.1.high ∙ i)
+            | inl i ↦ among p (source_in v j.0.name) both.0 (ap (λ z. point_in v (source_in v z)) (sym j.2) ∙ d.1.low ∙ i)
+            | inr i ↦ among p (target_in v j.0.name) both.1 (ap (λ z. point_in v (target_in v z)) (sym j.2) ∙ d.1.high ∙ i)
           ]
 
       all_left : AreLeft x k new (map (point_in x) ws)
-      all_left = are_left v r l new (releases c (graph o)) (drop_run o l.lawful.fit c) x k released (map (point_in x) ws) (fit_drop o l.lawful.fit c) (drop_old o l.lawful.fit c) lost
+      all_left = are_left v r l new (releases c (graph o)) (drop_run o l.lawful.fit c) b x k e released (map (point_in x) ws) (fit_drop o l.lawful.fit c) (drop_old o l.lawful.fit c) lost
 
-      pub drop_made : (y : View) (j : Curves) → ((p : Present) → AreLeft x k p (map (point_in x) ws) → IsRunOfSteps x k (tidying (drawn_graph x k) p) y j) → IsRunOfSteps v (curves_on r) (steps (Drop c) o) y j
-      drop_made y j tidied =
-          subst (λ ss. IsRunOfSteps v (curves_on r) ss y j) (sym (drop_is_tidied o c))
-          (tidied_made v r l new (releases c (graph o)) (drop_run o l.lawful.fit c) x k released y j (tidied new all_left))
+      pub drop_told : (y : View) (q : Past) (f : BusRow) → ((p : Present) → AreLeft x k p (map (point_in x) ws) → IsToldRun x k e (tidying (drawn_graph x k) p) y (curves_on q) f) → IsToldRun v (curves_on r) b (steps (Drop c) o) y (curves_on q) f
+      drop_told y q f tidied =
+          told_runs_lawful.same_steps v (curves_on r) b _ (steps (Drop c) o) y (curves_on q) f (sym (drop_is_tidied o c))
+          (tidied_told v r l new (releases c (graph o)) (drop_run o l.lawful.fit c) b x k e released y (curves_on q) f (tidied new all_left))
 
   -- the curve's edges are told by darts
   pub keys_have : (ks : List DartKey) → ((d : DartId) → Member d (map (λ k. k.name) ks) ↔ Member c (curves_on r d)) → AllByRecursion (λ k. HasDart v k.name) ks
@@ -94,6 +85,6 @@ module _ (v : View) (r : Past) (l : IsLayer v r) (c : ℕ) where
   unfolding IsAccepted
   accepted = tt
 
-  pub drop_layer : (y : View) (q : Past) → IsRunOfSteps v (curves_on r) (steps (Drop c) o) y (curves_on q) → q.pieces ≡ filter (λ k. not (same_curve k.curve c)) r.pieces → q.names ≡ filter (λ n. not (same_curve n c)) r.names → q.next ≡ r.next → IsLayer y q × (layer_of y q ≡ layer_after (Drop c) (layer_of v r))
+  pub drop_layer : (b : BusRow) (y : View) (q : Past) (f : BusRow) → IsToldRun v (curves_on r) b (steps (Drop c) o) y (curves_on q) f → q.pieces ≡ filter (λ k. not (same_curve k.curve c)) r.pieces → q.names ≡ filter (λ n. not (same_curve n c)) r.names → q.next ≡ r.next → IsLayer y q × (layer_of y q ≡ layer_after (Drop c) (layer_of v r))
   unfolding after
-  drop_layer y q made pieces names next = steps_make_layers (Drop c) v r y q l accepted made pieces names next
+  drop_layer b y q f told pieces names next = steps_make_layers (Drop c) v r y q l accepted (told_runs_lawful.steps v (curves_on r) b (steps (Drop c) o) y (curves_on q) f told) pieces names next

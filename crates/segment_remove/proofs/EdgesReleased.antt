@@ -1,4 +1,4 @@
--- A curve that goes from its edges, one after the other, and what is still to come.
+-- A curve that goes from its edges, one after the other, each loss told, and what is still to come.
 use Rattle.std.proofs.Common.{◌≡◌, ◌≢◌, ℕ, suc, ◌+◌, ◌<◌, List, [], ◌∷◌, map, length, get_or, drop, drop-cons, Bool, not, Less, refl, sym, ap, ap₂, ◌∙◌, subst, inl, inr, nat_cmp, arith}
 use Rattle.std.specs.Prelude.{◌↔◌}
 use Rattle.std.specs.List.{AllByRecursion, filter, list_any}
@@ -21,15 +21,17 @@ use Rattle.arr_notes.specs.RecordGraph.{drawn_graph}
 use Rattle.sound_changes.proofs.StepGraphs.{drawn_ordered}
 use Rattle.sound_changes.proofs.StepHolds.{mark_held, held_mark}
 use Rattle.sound_changes.proofs.StepCases.{IsSameWay, unchanged_way}
-use Rattle.record_layers.specs.RecordLayers.{IsMade, IsRunOfSteps}
-use Rattle.record_layers.proofs.Runs.{made_is_run, made_in_turn}
+use Rattle.observer_bus.specs.Rounds.{BusRow}
 use Rattle.record_orders.specs.declared.darts.DartKey.{DartKey}
 use Rattle.record_orders.specs.Keys.{dart_key}
 use Rattle.record_orders.specs.Edges.{edge_of_key}
 use Rattle.record_layers.proofs.LayerEdges.{forward_by_curve}
 use Rattle.record_layers.proofs.Stays.{way_on}
-use Rattle.segment_remove.specs.CurveLosses.{loss}
-use Rattle.segment_remove.proofs.CurveLost.{made_by, is_shared, loss_between, curve_goes, less_is_loss, way_stays, curves_stay, vertices_stay, lost}
+use Rattle.told_steps.specs.ToldRuns.{AreInStep, IsToldRun}
+use Rattle.told_steps.proofs.Begun.{none_told}
+use Rattle.told_steps.proofs.ToldTogether.{told_runs_lawful}
+use Rattle.segment_remove.specs.CurveLosses.{is_shared, loss, loss_between, loss_step, IsCurveGone, IsLossTold}
+use Rattle.segment_remove.proofs.CurveLost.{less_is_loss, way_stays, curves_stay, vertices_stay, lost}
 use Rattle.integers.proofs.Tests.{less_then}
 
 edge_itself : (e : Edge) → edge_cmp e e ≡ Less → ⊥
@@ -56,16 +58,18 @@ module _ (v : View) (h : Curves) (c : CurveId) where
     pub way : IsSameWay v g k.name
     pub curves : b k.name ≡ h k.name
 
-  pub record IsGoing (all ks : List DartKey) (g : View) (b : Curves) : Type 0 where
-    pub sound : IsGraphSound g
-    pub curves : AreCurvesOf g b
+  pub record IsGoing (e : BusRow) (all ks : List DartKey) (g : View) (b : Curves) (r : BusRow) : Type 0 where
+    pub in_step : AreInStep g b r
     pub vertices : g.vertices ≡ v.vertices
     pub ascend : IsAscending edge_cmp (map edge_of_key ks)
     pub later : (k : DartKey) → Member k ks → IsLater g b k
     pub left : (d : DartId) → Member c.0 (b d) → Member d (map (λ k. k.name) ks)
-    pub made : (x : View) (z : Curves) → IsRunOfSteps g b (map step_of ks) x z → IsRunOfSteps v h (map step_of all) x z
+    pub told : (x : View) (z : Curves) (q : BusRow) → IsToldRun g b r (map step_of ks) x z q → IsToldRun v h e (map step_of all) x z q
 
-  module _ (all ks : List DartKey) (k : DartKey) (g : View) (b : Curves) (i : IsGoing all (k ∷ ks) g b) where
+  pub with_keys : {e : BusRow} {all ks js : List DartKey} {g : View} {b : Curves} {r : BusRow} → ks ≡ js → IsGoing e all ks g b r → IsGoing e all js g b r
+  with_keys {e} {all} {ks} {js} {g} {b} {r} same i = subst (λ xs. IsGoing e all xs g b r) same i
+
+  module _ (e : BusRow) (all ks : List DartKey) (k : DartKey) (g : View) (b : Curves) (r : BusRow) (i : IsGoing e all (k ∷ ks) g b r) where
     here : IsLater g b k
     here = i.later k (inl refl)
 
@@ -73,39 +77,33 @@ module _ (v : View) (h : Curves) (c : CurveId) where
     runs_here = subst (Member c.0) (sym here.curves) here.runs
 
     forward_here : IsForward g k.name
-    forward_here = forward_by_curve g b i.curves c.0 k.name runs_here
+    forward_here = forward_by_curve g b i.in_step.curves c.0 k.name runs_here
 
     -- the step is the one that the first graph asks for
-    same_step : loss_between (is_shared b k.name c.0) (point_in g (source_in g k.name)) (point_in g (target_in g k.name)) c.0 ≡ step_of k
+    same_step : loss_step g b k.name c ≡ step_of k
     same_step =
         let shared : is_shared b k.name c.0 ≡ is_shared h k.name c.0 = ap (λ cs. list_any (λ n. not (same_curve n c.0)) cs) here.curves in
         let start : point_in g (source_in g k.name) ≡ k.source = here.way.start ∙ ap (λ (x : DartKey). x.source) (sym here.told) in
         let end : point_in g (target_in g k.name) ≡ k.target = here.way.end ∙ ap (λ (x : DartKey). x.target) (sym here.told) in
         λ j. loss_between (shared j) (start j) (end j) c.0
 
-    goes : IsMade g b (step_of k) (loss g b k.name c)
-    goes = subst (λ s. IsMade g b s (loss g b k.name c)) same_step (curve_goes g b i.sound k.name forward_here c)
-
     -- later keys are of other edges
     apart : (j : DartKey) → Member j ks → j.name ≢ k.name
-    apart j m e =
+    apart j m same =
         let less : edge_cmp (edge_of_key k) (edge_of_key j) ≡ Less = All-member (λ y. edge_cmp (edge_of_key k) y ≡ Less) (edge_of_key j) (map edge_of_key ks) i.ascend.0 (in_map edge_of_key j ks m) in
-        let one : j ≡ k = (i.later j (inr m)).told ∙ ap (dart_key v) e ∙ sym here.told in
+        let one : j ≡ k = (i.later j (inr m)).told ∙ ap (dart_key v) same ∙ sym here.told in
         edge_itself (edge_of_key k) (subst (λ z. edge_cmp (edge_of_key k) (edge_of_key z) ≡ Less) one less)
 
     module _ (x : View) (z : Curves) (is : x ≡ step g (loss g b k.name c)) (are : (d : DartId) → z d ≡ step_curves b (loss g b k.name c) d) where
-      one : IsRunOfSteps g b (step_of k ∷ []) x z
-      one = made_by g b (step_of k) (loss g b k.name c) x z goes is are
-
       later_still : (j : DartKey) → Member j ks → IsLater x z j
       later_still j m =
           let l = i.later j (inr m) in
-          let f = forward_by_curve g b i.curves c.0 j.name (subst (Member c.0) (sym l.curves) l.runs) in
+          let f = forward_by_curve g b i.in_step.curves c.0 j.name (subst (Member c.0) (sym l.curves) l.runs) in
           record {
             told = l.told;
             runs = l.runs;
-            way = way_on v g x j.name l.way (subst (λ y. IsSameWay g y j.name) (sym is) (way_stays g b i.sound k.name forward_here c j.name (apart j m) f));
-            curves = are j.name ∙ curves_stay g b i.sound k.name forward_here c j.name (apart j m) ∙ l.curves;
+            way = way_on v g x j.name l.way (subst (λ y. IsSameWay g y j.name) (sym is) (way_stays g b i.in_step.sound k.name forward_here c j.name (apart j m) f));
+            curves = are j.name ∙ curves_stay g b i.in_step.sound k.name forward_here c j.name (apart j m) ∙ l.curves;
           }
 
       not_here : (d : DartId) → d ≢ k.name → Member d (map (λ j. j.name) (k ∷ ks)) → Member d (map (λ j. j.name) ks)
@@ -114,22 +112,19 @@ module _ (v : View) (h : Curves) (c : CurveId) where
 
       left_still : (d : DartId) → Member c.0 (z d) → Member d (map (λ j. j.name) ks)
       left_still d m = elim (cases_dart d k.name) [
-        | inl e ↦ absurd (lost g b i.sound k.name forward_here c (subst (Member c.0) (are k.name) (subst (λ y. Member c.0 (z y)) e m)))
-        | inr ne ↦ not_here d ne (i.left d (subst (Member c.0) (are d ∙ curves_stay g b i.sound k.name forward_here c d ne) m))
+        | inl e ↦ absurd (lost g b i.in_step.sound k.name forward_here c (subst (Member c.0) (are k.name) (subst (λ y. Member c.0 (z y)) e m)))
+        | inr ne ↦ not_here d ne (i.left d (subst (Member c.0) (are d ∙ curves_stay g b i.in_step.sound k.name forward_here c d ne) m))
       ]
 
-      pub goes_on : IsGoing all ks x z
-      goes_on =
-          let r = made_is_run g b (step_of k ∷ []) x z i.sound i.curves one in
-          record {
-            sound = r.sound;
-            curves = r.curves;
-            vertices = ap (λ (y : View). y.vertices) is ∙ vertices_stay g b i.sound k.name forward_here c ∙ i.vertices;
-            ascend = i.ascend.1;
-            later = later_still;
-            left = left_still;
-            made = λ y w n. i.made y w (made_in_turn g b (step_of k ∷ []) (map step_of ks) x z y w one n);
-          }
+      pub goes_on : (q : BusRow) → AreInStep x z q → IsLossTold g b r k.name c x z q → IsGoing e all ks x z q
+      goes_on q now lost_here = record {
+        in_step = now;
+        vertices = ap (λ (y : View). y.vertices) is ∙ vertices_stay g b i.in_step.sound k.name forward_here c ∙ i.vertices;
+        ascend = i.ascend.1;
+        later = later_still;
+        left = left_still;
+        told = λ y w u n. i.told y w u (told_runs_lawful.follow g b r (step_of k ∷ []) (map step_of ks) x z q y w u (told_runs_lawful.same_steps g b r _ (step_of k ∷ []) x z q (ap (λ o. o ∷ []) same_step) lost_here) n);
+      }
 
   -- ---- all keys of the curve
   module _ (s : IsGraphSound v) (a : AreCurvesOf v h) (ks : List DartKey) (told : AllByRecursion (λ k. k ≡ dart_key v k.name) ks) (are : (d : DartId) → Member d (map (λ k. k.name) ks) ↔ Member c.0 (h d)) (ascend : IsAscending edge_cmp (map edge_of_key ks)) where
@@ -145,15 +140,14 @@ module _ (v : View) (h : Curves) (c : CurveId) where
     forward_by : (k : DartKey) → Member k ks → IsForward v k.name
     forward_by k m = forward_by_curve v h a c.0 k.name (runs_by k m)
 
-    pub starts : IsGoing ks ks v h
-    starts = record {
-      sound = s;
-      curves = a;
+    pub starts : (e : BusRow) → AreInStep v h e → IsGoing e ks ks v h e
+    starts e now = record {
+      in_step = now;
       vertices = refl;
       ascend = ascend;
       later = λ k m. record { told = told_by k m; runs = runs_by k m; way = unchanged_way v k.name (forward_by k m).0; curves = refl };
       left = λ d m. (are d).1 m;
-      made = λ x z m. m;
+      told = λ x z q m. m;
     }
 
     -- ---- their marks are those of the curve in the graph that is drawn
@@ -212,9 +206,9 @@ module _ (v : View) (h : Curves) (c : CurveId) where
     steps_are : map step_of ks ≡ map (less_step drawn) (filter is_its drawn.marks)
     steps_are = sym (ap (map (less_step drawn)) marks_are ∙ steps_by ks (λ k m. m))
 
-    module _ (g : View) (b : Curves) (i : IsGoing ks [] g b) where
-      pub ends : IsRunOfSteps v h (map (less_step drawn) (filter is_its drawn.marks)) g b
-      ends = subst (λ ss. IsRunOfSteps v h ss g b) steps_are (i.made g b (refl, λ d. refl))
+    module _ (e : BusRow) (g : View) (b : Curves) (r : BusRow) (i : IsGoing e ks [] g b r) where
+      pub ends : IsCurveGone v h e c g b r
+      ends = told_runs_lawful.same_steps v h e _ (map (less_step drawn) (filter is_its drawn.marks)) g b r steps_are (i.told g b r (none_told g b r))
 
       pub gone : (d : DartId) → ¬ Member c.0 (b d)
       gone d m = i.left d m

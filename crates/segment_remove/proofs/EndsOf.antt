@@ -113,6 +113,9 @@ module _ (v : View) (s : IsGraphSound v) (ks : List DartKey) (have : AllByRecurs
     );
   })
 
+pub one_ends : (v : View) (ks js : List DartKey) (us ws : List VertexId) → js ≡ ks → ws ≡ us → AreEnds v js us → AreEnds v ks ws
+one_ends v ks js us ws keys names are = subst (λ z. AreEnds v z ws) keys (subst (AreEnds v js) (sym names) are)
+
 -- ---- both ends of one more edge
 pub two_pushed : (v : View) (k : DartKey) (now mid new : List VertexKey) (u w : VertexId) (x y : VertexKey) → u ≡ source_in v k.name → x ≡ vertex_key v u → mid ≡ now ++ x ∷ [] → w ≡ target_in v k.name → y ≡ vertex_key v w → new ≡ mid ++ y ∷ [] → new ≡ now ++ two_ends v k
 two_pushed v k now mid new u w x y i e m j f n = n ∙ ap (λ z. z ++ y ∷ []) m ∙ append_assoc now (x ∷ []) (y ∷ []) ∙ ap₂ (λ a b. now ++ a ∷ b ∷ []) (e ∙ ap (vertex_key v) i) (f ∙ ap (vertex_key v) j)

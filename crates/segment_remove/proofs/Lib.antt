@@ -1,3 +1,4 @@
+pub mod SameVertices
 pub mod CurveLost
 pub mod EdgesReleased
 pub mod Cutting

@@ -1,5 +1,5 @@
 -- What a removal makes, and which refusals its errors stand for.
-use Rattle.std.specs.Prelude.{◌≡◌, ◌≤◌, ◌+◌, ℕ, length, Option, Some, None}
+use Rattle.std.specs.Prelude.{◌≤◌, ◌+◌, ℕ, length, Option, Some, None}
 use Rattle.exact_plane.specs.Point.{Point}
 use Rattle.edit_steps.specs.Edits.{Edit, Cut}
 use Rattle.edit_steps.specs.Refusals.{Refusal, Full as Passed, NoEdge as NotJoined, Unknown as NotNamed, cut_refusal}

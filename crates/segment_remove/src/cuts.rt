@@ -3,14 +3,16 @@ ghost use Rattle.edit_steps.specs.Refusals.{IsAnswerFor};
 ghost use Rattle.curve_history.specs.Past.{SameLayer, SameCurves};
 ghost use Rattle.record_layers.specs.RecordLayers.{IsLayer};
 ghost use Rattle.segment_remove.specs.Refused.{cut_between, cut_refusal_at, cut_said, HasRoomToCut};
-ghost use Rattle.record_layers.specs.LayerEdits.{IsAfter, Makes};
+ghost use Rattle.observer_bus.specs.Rows.{bus_of};
+ghost use Rattle.told_steps.specs.ToldEdits.{AreWatched, IsToldEdit};
+ghost use Rattle.record_layers.specs.LayerEdits.{IsAfter};
 
-use crate::release::release_edge;
 use curve_history::History;
 use dcel_records::Records;
 use exact_plane::Point;
 use locate_naive::edge_dart;
 use no_memory::NoMemory;
+use observer_bus::Bus;
 use redundant_vertices::remove_redundant;
 use slab_laws::Darts;
 use std::alloc::Global;
@@ -54,7 +56,8 @@ fn make_room(history: &mut History, pieces: u32) -> Result<(), NoMemory>
 /// The edge between two points, which come in either order, goes from all its curves; these keep the rest as shorter pieces
 /// (this project; CGAL manual, `remove_edge`).
 ///
-/// `pieces` is the limit of pieces. All memory is taken before the first change.
+/// `pieces` is the limit of pieces. All memory of its own is taken before the first change, and each step is told to observers
+/// before and after it (CGAL manual, `Arr_observer`).
 ///
 /// # Errors
 ///
@@ -64,19 +67,23 @@ pub fn remove_edge(
     alloc: Global,
     records: &mut Records,
     history: &mut History,
+    bus: &mut Bus,
     pieces: u32,
     p: &Point,
     q: &Point,
 ) -> Result<(), CutError>
     requires layer { IsLayer records.old.graph history.old }
+    requires watched { AreWatched records.old history.old (bus_of tells held left heard bus.old) }
     ensures layer { IsLayer records.new.graph history.new }
+    ensures watched { AreWatched records.new history.new (bus_of tells held left heard bus.new) }
     ensures edit { OnOk result (IsAfter (cut_between p.now q.now) records.old history.old records.new history.new) }
-    ensures steps { OnOk result (Makes (cut_between p.now q.now) records.old history.old records.new history.new) }
+    ensures told { OnOk result (IsToldEdit (cut_between p.now q.now) records.old history.old (bus_of tells held left heard bus.old) records.new history.new (bus_of tells held left heard bus.new)) }
     ensures refused { IsAnswerFor cut_said (cut_refusal_at pieces records.old history.old p.now q.now) result }
     ensures room { HasRoomToCut records.old history.old p.now q.now → result ≢ Err CutError.NoMemory }
     ensures graph { OnErr result (records.new.graph ≡ records.old.graph) }
     ensures same_layer { OnErr result (SameLayer history.old history.new) }
     ensures same_curves { OnErr result (SameCurves history.old history.new) }
+    ensures untold { OnErr result (bus_of tells held left heard bus.new ≡ bus_of tells held left heard bus.old) }
 {
     let Some(d) = edge_dart(&*records, p, q) else {
         return Err(CutError::NoEdge);
@@ -90,8 +97,9 @@ pub fn remove_edge(
         return Err(CutError::Full(pieces));
     }
     make_room(history, plan.left as u32)?;
+    bus.begin();
     history.cut_pieces(&low, &high, plan);
-    release_edge(records, history, d);
-    remove_redundant(records, history, &[source, target]);
+    told_steps::remove_edge(alloc, records, history, bus, d);
+    remove_redundant(alloc, records, history, bus, &[source, target]);
     Ok(())
 }

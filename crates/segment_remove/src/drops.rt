@@ -10,13 +10,16 @@ ghost use Rattle.record_orders.specs.Keys.{dart_key};
 ghost use Rattle.record_layers.specs.RecordLayers.{IsLayer};
 ghost use Rattle.record_orders.specs.Edges.{edge_of_key};
 ghost use Rattle.segment_remove.specs.Refused.{drop_said};
-ghost use Rattle.record_layers.specs.LayerEdits.{layer_at, IsAfter, Makes};
+ghost use Rattle.observer_bus.specs.Rows.{bus_of};
+ghost use Rattle.told_steps.specs.ToldEdits.{AreWatched, IsToldEdit};
+ghost use Rattle.record_layers.specs.LayerEdits.{layer_at, IsAfter};
 
 use crate::ends::ends_in_order;
 use crate::release::release_curve;
 use curve_history::{History, HistoryError};
 use dcel_records::Records;
 use no_memory::NoMemory;
+use observer_bus::Bus;
 use record_orders::{DartKey, edges_in_order};
 use redundant_vertices::remove_redundant;
 use slab_laws::CurveId;
@@ -70,7 +73,8 @@ fn edges_of_curve(
 /// A curve goes: from its edges, which go where no other curve runs along them; then each vertex that is redundant
 /// afterwards (CGAL manual, `remove_curve`).
 ///
-/// It looks at the curve's edges and at what ends there, not at other edges. All memory is taken before the first change.
+/// It looks at the curve's edges and at what ends there, not at other edges. All memory of its own is taken before the first
+/// change, and each step is told to observers before and after it (CGAL manual, `Arr_observer`).
 ///
 /// # Errors
 ///
@@ -79,21 +83,26 @@ pub fn remove_curve(
     alloc: Global,
     records: &mut Records,
     history: &mut History,
+    bus: &mut Bus,
     curve: CurveId,
 ) -> Result<(), DropError>
     requires layer { IsLayer records.old.graph history.old }
+    requires watched { AreWatched records.old history.old (bus_of tells held left heard bus.old) }
     ensures layer { IsLayer records.new.graph history.new }
+    ensures watched { AreWatched records.new history.new (bus_of tells held left heard bus.new) }
     ensures edit { OnOk result (IsAfter (Drop curve.0) records.old history.old records.new history.new) }
-    ensures steps { OnOk result (Makes (Drop curve.0) records.old history.old records.new history.new) }
+    ensures told { OnOk result (IsToldEdit (Drop curve.0) records.old history.old (bus_of tells held left heard bus.old) records.new history.new (bus_of tells held left heard bus.new)) }
     ensures refused { IsAnswerFor drop_said (drop_refusal (layer_at records.old history.old) curve.0) result }
     ensures graph { OnErr result (records.new.graph ≡ records.old.graph) }
     ensures same_layer { OnErr result (SameLayer history.old history.new) }
     ensures same_curves { OnErr result (SameCurves history.old history.new) }
+    ensures untold { OnErr result (bus_of tells held left heard bus.new ≡ bus_of tells held left heard bus.old) }
 {
     let edges = edges_of_curve(alloc, &*records, &*history, curve)?;
     let vertices = ends_in_order(alloc, &*records, &edges)?;
-    release_curve(records, history, &edges, curve);
+    bus.begin();
+    release_curve(alloc, records, history, bus, &edges, curve);
     history.drop_name(curve);
-    remove_redundant(records, history, &vertices);
+    remove_redundant(alloc, records, history, bus, &vertices);
     Ok(())
 }

@@ -1,7 +1,8 @@
 //! Removal from an arrangement that is kept in records with the history of its curves: an edge goes from all its curves, or a
 //! curve goes from all its edges (CGAL manual, arrangements with history).
 //!
-//! What goes with a curve takes no memory. Each vertex that is redundant afterwards goes too.
+//! Each step is told to observers. What goes with a curve takes no memory of its own. Each vertex that is redundant afterwards
+//! goes too.
 #![tactic(auto)]
 
 mod cuts;

@@ -21,6 +21,6 @@ ChangesMakeViews =
 abbrev pub ChangesFitViews : Type 0
 ChangesFitViews = (v : View) (h : Curves) (c : Change) → IsGraphSound v → FitsChange v h c → FitsView v c
 
--- so a change may be told, once it is made, to who holds the view of the records before it (CGAL manual, `Arr_observer`)
+-- so a change may be told, once it is made, to an observer that holds the view of the records before it (CGAL manual, `Arr_observer`)
 abbrev pub ChangesMayBeTold : Type 0
 ChangesMayBeTold = (v : View) (h : Curves) (k : DartId → List CurveId) (c : Change) → IsGraphSound v → AreCurvesOf v h → FitsChange v h c → IsGraphSound (step v c) → AreListsOf v h k → FitsNote (Some (view_by v k)) (After c)

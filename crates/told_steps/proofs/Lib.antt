@@ -5,3 +5,4 @@ pub mod ToldTogether
 pub mod Steps
 pub mod Parts
 pub mod Linked
+pub mod Begun

@@ -1,3 +1,4 @@
 pub mod ToldRuns
 pub mod ToldLaws
 pub mod StepsMade
+pub mod ToldEdits

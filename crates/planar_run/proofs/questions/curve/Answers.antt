@@ -1,9 +1,10 @@
-use Rattle.std.proofs.Common.{sym, ap, ◌∙◌}
-use Rattle.planar_run.specs.Answer.{Answer}
-use Rattle.planar_run.proofs.Answered.{no_curve_to_tell, eight}
+use Rattle.std.proofs.Common.{◌∙◌}
+use Rattle.planar_run.specs.Rows.{world_row}
+use Rattle.planar_run.proofs.Replied.{no_curve_told, eight}
 use Rattle.planar_run.proofs.questions.curve.Goals as goal
 
-pub returns-clause-text : goal.returns-clause-text
-returns-clause-text c =
+pub returns-clause-answered : goal.returns-clause-answered
+returns-clause-answered g c =
     let barred = rw c.in-Err-Unknown.field-0-is at c.in-Err-Unknown.ensures.barred in
-    c.set.ensures ∙ eight ∙ sym (ap (λ (a : Answer). a.text) (no_curve_to_tell c.args.curve c.args.world.now barred))
+    no_curve_told c.args.curve (world_row (λ z. (goal.Observer-dyn g (z.vtable, z.value)).tells z.value) (λ z. (goal.Observer-dyn g (z.vtable, z.value)).held z.value)
+    (λ z. (goal.Observer-dyn g (z.vtable, z.value)).left z.value) (λ z. (goal.Observer-dyn g (z.vtable, z.value)).heard z.value) c.args.world.now) barred (c.set.ensures ∙ eight)

@@ -1,10 +1,11 @@
-use Rattle.std.proofs.Common.{sym, ap, ◌∙◌}
+use Rattle.std.proofs.Common.{◌∙◌}
 use Rattle.slab_laws.specs.Sound.{edge_between}
-use Rattle.planar_run.specs.Answer.{Answer}
-use Rattle.planar_run.proofs.Answered.{no_edge_to_tell, nine}
+use Rattle.planar_run.specs.Rows.{world_row}
+use Rattle.planar_run.proofs.Replied.{no_edge_told, nine}
 use Rattle.planar_run.proofs.questions.edge.Goals as goal
 
-pub returns-clause-text : goal.returns-clause-text
-returns-clause-text c =
+pub returns-clause-answered : goal.returns-clause-answered
+returns-clause-answered g c =
     let barred = rw c.in-Err-NoEdge.field-0-is at c.in-Err-NoEdge.ensures.barred in
-    c.set.ensures ∙ nine ∙ sym (ap (λ (a : Answer). a.text) (no_edge_to_tell (edge_between c.args.p.now c.args.q.now) c.args.world.now barred))
+    no_edge_told (edge_between c.args.p.now c.args.q.now) (world_row (λ z. (goal.Observer-dyn g (z.vtable, z.value)).tells z.value) (λ z. (goal.Observer-dyn g (z.vtable, z.value)).held z.value)
+    (λ z. (goal.Observer-dyn g (z.vtable, z.value)).left z.value) (λ z. (goal.Observer-dyn g (z.vtable, z.value)).heard z.value) c.args.world.now) barred (c.set.ensures ∙ nine)

@@ -1,14 +1,31 @@
 use Rattle.curve_history.specs.Past.{curves_on}
-use Rattle.redundant_vertices.proofs.Loosened.{bare_gone, merged, not_joinable}
+use Rattle.redundant_vertices.proofs.Loosened.{bare_goes, goes_told, joined_alike, joined_go, not_joinable, stays_told}
 use Rattle.redundant_vertices.proofs.redundant.remove_if_redundant.Goals as goal
 
 pub returns-in_default-clause-tidied : goal.returns-in_default-clause-tidied
-returns-in_default-clause-tidied c = bare_gone c.args.records.now.graph (curves_on c.args.history.now) c.args.w c.requires.sound c.requires.curves c.requires.vertex c.requires.unpinned (c.in_default.ensures.none) c.remove_vertex.new.self.graph c.remove_vertex.ensures.graph
+returns-in_default-clause-tidied g c =
+    let v = c.args.records.now.graph in
+    let h = curves_on c.args.history.now in
+    let i = c.requires.in_step in
+    goes_told v h _ _ _ _ _ _ (bare_goes v h c.args.w i.sound i.curves c.requires.vertex c.in_default.ensures.none) c.remove_vertex.ensures.told
 
 pub returns-in_default-joinable-clause-tidied : goal.returns-in_default-joinable-clause-tidied
-returns-in_default-joinable-clause-tidied c = not_joinable c.args.records.now.graph (curves_on c.args.history.now) c.args.w c.requires.sound c.requires.curves c.requires.vertex c.requires.unpinned c.in-Some.first c.in-Some.ensures.some c.in_default-joinable.ensures
+returns-in_default-joinable-clause-tidied g c =
+    let v = c.args.records.now.graph in
+    let h = curves_on c.args.history.now in
+    let i = c.requires.in_step in
+    stays_told v h _ _ (not_joinable v h c.args.w i.sound i.curves c.requires.vertex c.in-Some.first c.in-Some.ensures.some c.in_default-joinable.ensures)
+
+pub merge_edge-requires-clause-alike : goal.merge_edge-requires-clause-alike
+merge_edge-requires-clause-alike g c =
+    let i = c.requires.in_step in
+    let j = c.in-Some-joinable in
+    joined_alike c.args.records.now.graph (curves_on c.args.history.now) c.args.w i.sound i.curves c.requires.vertex j.field-0.0 j.field-0.1 j.ensures
 
 pub returns-clause-tidied : goal.returns-clause-tidied
-returns-clause-tidied c =
-    let j = c.in-Some-joinable.ensures in
-    merged c.args.records.now.graph (curves_on c.args.history.now) c.args.w c.requires.sound c.requires.curves c.requires.vertex c.requires.unpinned c.in-Some.first c.in-Some.ensures.some c.in-Some-joinable.d c.in-Some-joinable.n j.0 j.1 c.merge-merged.result c.merge-merged.ensures.change c.merge-merged.new.records.graph c.merge-merged.ensures.graph c.merge-merged.ensures.sound (curves_on c.join.new.self) c.join.ensures.curves
+returns-clause-tidied g c =
+    let v = c.args.records.now.graph in
+    let h = curves_on c.args.history.now in
+    let i = c.requires.in_step in
+    let j = c.in-Some-joinable in
+    goes_told v h _ _ _ _ _ _ (joined_go v h c.args.w i.sound i.curves c.requires.vertex c.in-Some.first c.in-Some.ensures.some j.field-0.0 j.field-0.1 j.ensures) c.merge_edge.ensures.told

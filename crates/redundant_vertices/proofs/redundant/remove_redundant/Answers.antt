@@ -7,10 +7,15 @@ use Rattle.redundant_vertices.proofs.redundant.remove_redundant.Goals.{then-not-
 use Rattle.record_layers.proofs.Moved.{same_layers}
 
 pub loop-vertex-init : goal.loop-vertex-init
-loop-vertex-init c = (none_tidied c.args.records.now.graph (curves_on c.args.history.now) c.args.vertices.now c.requires.sound c.requires.curves c.requires.have, record { names = refl; pieces = refl; next = refl }, record { of_vertices = refl; of_darts = refl }, record { by_edge = refl; by_curve = refl; of_pieces = refl })
+loop-vertex-init g c = record {
+  tidied = none_tidied c.args.records.now.graph (curves_on c.args.history.now) _ c.args.vertices.now c.requires.in_step c.requires.have;
+  layer = record { names = refl; pieces = refl; next = refl };
+  records = record { of_vertices = refl; of_darts = refl };
+  history = record { by_edge = refl; by_curve = refl; of_pieces = refl };
+}
 
 pub loop-vertex-preserved : goal.loop-vertex-preserved
-loop-vertex-preserved c =
+loop-vertex-preserved g c =
     let v = c.args.records.now.graph in
     let h = curves_on c.args.history.now in
     let all = c.args.vertices.now in
@@ -18,22 +23,22 @@ loop-vertex-preserved c =
     let at = c.loop-vertex-test.true in
     elim c.if-not-pinned.branch [
       | then-not-pinned w ↦
-          rw w.records-is (rw w.history-is (
-            tidied_next v h c.requires.sound c.requires.curves all c.requires.have c.requires.ascend l.vertex-index at (vertex_id 0) l.records.graph (curves_on l.history) l.invariant.0 (sym c.pinned.ensures ∙ w.if-not-pinned.true) w.remove_if_redundant.new.records.graph (curves_on w.remove_if_redundant.new.history) w.remove_if_redundant.ensures.tidied,
-            same_layers c.args.history.now l.history w.remove_if_redundant.new.history l.invariant.1 w.remove_if_redundant.ensures.layer,
-            same_records c.args.records.now l.records w.remove_if_redundant.new.records l.invariant.2 w.remove_if_redundant.ensures.records_capacity,
-            same_histories c.args.history.now l.history w.remove_if_redundant.new.history l.invariant.3 w.remove_if_redundant.ensures.history_capacity,
-          ))
+          rw w.records-is (rw w.history-is (rw w.bus-is (record {
+            tidied = tidied_next v h _ c.requires.in_step all c.requires.have c.requires.ascend l.vertex-index at (vertex_id 0) l.records.graph (curves_on l.history) _ l.invariant.tidied (sym c.pinned.ensures ∙ w.if-not-pinned.true) w.remove_if_redundant.new.records.graph (curves_on w.remove_if_redundant.new.history) _ w.remove_if_redundant.ensures.tidied;
+            layer = same_layers c.args.history.now l.history w.remove_if_redundant.new.history l.invariant.layer w.remove_if_redundant.ensures.layer;
+            records = same_records c.args.records.now l.records w.remove_if_redundant.new.records l.invariant.records w.remove_if_redundant.ensures.records_capacity;
+            history = same_histories c.args.history.now l.history w.remove_if_redundant.new.history l.invariant.history w.remove_if_redundant.ensures.history_capacity;
+          })))
       | else-not-pinned w ↦
-          rw w.records-is (rw w.history-is (
-            pinned_next v h c.requires.sound c.requires.curves all c.requires.have c.requires.ascend l.vertex-index at (vertex_id 0) l.records.graph (curves_on l.history) l.invariant.0 (sym c.pinned.ensures ∙ w.if-not-pinned.false),
-            l.invariant.1,
-            l.invariant.2,
-            l.invariant.3,
-          ))
+          rw w.records-is (rw w.history-is (rw w.bus-is (record {
+            tidied = pinned_next v h _ c.requires.in_step all c.requires.have c.requires.ascend l.vertex-index at (vertex_id 0) l.records.graph (curves_on l.history) _ l.invariant.tidied (sym c.pinned.ensures ∙ w.if-not-pinned.false);
+            layer = l.invariant.layer;
+            records = l.invariant.records;
+            history = l.invariant.history;
+          })))
     ]
 
 pub returns-clause-tidied : goal.returns-clause-tidied
-returns-clause-tidied c =
+returns-clause-tidied g c =
     let l = c.loop-vertex in
-    all_next c.args.records.now.graph (curves_on c.args.history.now) c.requires.sound c.requires.curves c.args.vertices.now c.requires.have c.requires.ascend l.vertex-index c.loop-vertex-test.false l.records.graph (curves_on l.history) l.invariant.0
+    all_next c.args.records.now.graph (curves_on c.args.history.now) _ c.requires.in_step c.args.vertices.now c.requires.have c.requires.ascend l.vertex-index c.loop-vertex-test.false l.records.graph (curves_on l.history) _ l.invariant.tidied

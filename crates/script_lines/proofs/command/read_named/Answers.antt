@@ -1,7 +1,7 @@
 use Rattle.std.proofs.Common.{rules, [], ◌∷◌}
-use Rattle.script_lines.specs.declared.command.Command.TheVariants.{Drop, Cut, Pin, Unpin, Split, Merge, Locate, Edge, Curve}
+use Rattle.script_lines.specs.declared.command.Command.TheVariants.{Drop, Cut, Pin, Unpin, Split, Merge, Locate, Edge, Curve, Attach, Leave, Mirror}
 use Rattle.script_lines.specs.Words.{words}
-use Rattle.script_lines.specs.Command.{point_form, pair_form, triple_form, curve_form}
+use Rattle.script_lines.specs.Command.{point_form, pair_form, triple_form, curve_form, observer_form, observer_when_forms}
 use Rattle.script_lines.proofs.FormMaps.{forms_reading-map}
 use Rattle.script_lines.proofs.command.read_named.Goals as goal
 
@@ -31,3 +31,12 @@ returns-in-Edge c = rw c.in-Edge.is (forms_reading-map (λ points. Edge points.0
 
 pub returns-in-Curve : goal.returns-in-Curve
 returns-in-Curve c = rw c.in-Curve.is (forms_reading-map Curve _ (λ x y h. search rules) (curve_form ∷ []) (words c.args.rest.now) _ _ c.curve-in-Curve.ensures c.map-in-Curve.ensures.cases)
+
+pub returns-in-Attach : goal.returns-in-Attach
+returns-in-Attach c = rw c.in-Attach.is (forms_reading-map (λ entry. Attach entry.0 entry.1) _ (λ x y h. search rules) observer_when_forms (words c.args.rest.now) _ _ c.observer_when.ensures c.map-in-Attach.ensures.cases)
+
+pub returns-in-Leave : goal.returns-in-Leave
+returns-in-Leave c = rw c.in-Leave.is (forms_reading-map (λ entry. Leave entry.0 entry.1) _ (λ x y h. search rules) observer_when_forms (words c.args.rest.now) _ _ c.observer_when-in-Leave.ensures c.map-in-Leave.ensures.cases)
+
+pub returns-in-Mirror : goal.returns-in-Mirror
+returns-in-Mirror c = rw c.in-Mirror.is (forms_reading-map Mirror _ (λ x y h. search rules) (observer_form ∷ []) (words c.args.rest.now) _ _ c.observer.ensures c.map-in-Mirror.ensures.cases)

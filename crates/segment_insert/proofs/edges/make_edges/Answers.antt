@@ -1,25 +1,37 @@
-use Rattle.std.proofs.Common.{◌≡◌, ℕ, suc, ◌+◌, ◌-◌, arith, sym, ◌∙◌, subst}
+use Rattle.std.proofs.Common.{◌≡◌, ℕ, suc, ◌+◌, ◌-◌, arith, refl, sym, ◌∙◌, subst}
 use Rattle.exact_plane.specs.Segment.{line_of_segment}
 use Rattle.plane_graphs.specs.Ascending.{Member}
 use Rattle.plane_graphs.specs.Line.{IsProperLine}
 use Rattle.curve_history.specs.Past.{curves_on}
 use Rattle.edge_link.proofs.Placed.{line_is_proper}
 use Rattle.segment_insert.specs.Parts.{IsOpenPart}
-use Rattle.segment_insert.proofs.Going.{AreMet, AreNext, IsGoing, vertex_here, open_part, chain_here, part_stays, part_sound, goes_on, ends}
+use Rattle.segment_insert.proofs.Going.{AreMet, AreNext, vertex_here, open_part, chain_here, part_stays, part_sound, begins, goes_on, ends}
 use Rattle.segment_insert.proofs.edges.make_edges.Goals as goal
 
 pub vertex_of-u-requires : goal.vertex_of-u-requires
-vertex_of-u-requires c =
+vertex_of-u-requires g c =
     let met : AreMet c.args.records.now.graph c.args.segment.now c.args.meetings.now = record { named = c.requires.named; on = c.requires.on; all = c.requires.all_on; line = subst IsProperLine c.line_of-line.ensures.value (line_is_proper c.line_of-line.result c.line_of-line.ensures.line) } in
     vertex_here c.args.records.now.graph c.args.segment.now c.args.meetings.now met (c.loop-i.i - 1) c.index-meetings-i.result (omega arith) c.index-meetings-i.is
 
 pub vertex_of-w-requires : goal.vertex_of-w-requires
-vertex_of-w-requires c =
+vertex_of-w-requires g c =
     let met : AreMet c.args.records.now.graph c.args.segment.now c.args.meetings.now = record { named = c.requires.named; on = c.requires.on; all = c.requires.all_on; line = subst IsProperLine c.line_of-line.ensures.value (line_is_proper c.line_of-line.result c.line_of-line.ensures.line) } in
     vertex_here c.args.records.now.graph c.args.segment.now c.args.meetings.now met c.loop-i.i c.index-meetings-i-in-loop-i.result c.loop-i-test.true c.index-meetings-i-in-loop-i.is
 
+pub loop-i-init : goal.loop-i-init
+loop-i-init g c = record {
+  going = begins c.args.records.now.graph (curves_on c.args.history.now) c.args.curve.0 c.args.meetings.now c.requires.in_step c.requires.plane;
+  layer = record { names = refl; pieces = refl; next = refl };
+  named = c.requires.curve_named;
+  darts = omega arith;
+  pairs = omega arith;
+}
+
+pub make_edge-requires-clause-in_step : goal.make_edge-requires-clause-in_step
+make_edge-requires-clause-in_step g c = c.loop-i.invariant.going.in_step
+
 pub make_edge-requires-clause-part : goal.make_edge-requires-clause-part
-make_edge-requires-clause-part c =
+make_edge-requires-clause-part g c =
     let v = c.args.records.now.graph in
     let k : ℕ = c.loop-i.i - 1 in
     let u = c.vertex_of-u.result in
@@ -30,7 +42,7 @@ make_edge-requires-clause-part c =
     subst (λ l. IsOpenPart c.loop-i.records.graph l u w) (sym c.line_of-line.ensures.value) (part_stays v c.loop-i.records.graph (line_of_segment c.args.segment.now) u w c.loop-i.invariant.going.vertices part)
 
 pub make_edge-requires-clause-plane : goal.make_edge-requires-clause-plane
-make_edge-requires-clause-plane c =
+make_edge-requires-clause-plane g c =
     let v = c.args.records.now.graph in
     let k : ℕ = c.loop-i.i - 1 in
     let u = c.vertex_of-u.result in
@@ -41,7 +53,7 @@ make_edge-requires-clause-plane c =
     part_sound v (curves_on c.args.history.now) c.args.curve.0 c.args.meetings.now k c.loop-i.records.graph (curves_on c.loop-i.history) c.loop-i.invariant.going u w chain
 
 pub loop-i-preserved : goal.loop-i-preserved
-loop-i-preserved c =
+loop-i-preserved g c =
     let v = c.args.records.now.graph in
     let k : ℕ = c.loop-i.i - 1 in
     let u = c.vertex_of-u.result in
@@ -53,14 +65,16 @@ loop-i-preserved c =
     let e = c.make_edge.ensures in
     let more : suc k ≡ c.loop-i.i + 1 - 1 = omega arith in
     record {
-      going = subst (λ z. IsGoing v (curves_on c.args.history.now) c.args.curve.0 c.args.meetings.now z c.make_edge.new.records.graph (curves_on c.make_edge.new.history)) more
-          (goes_on v (curves_on c.args.history.now) c.args.curve.0 c.args.meetings.now k c.loop-i.records.graph (curves_on c.loop-i.history) i.going u w chain c.make_edge.new.records.graph (curves_on c.make_edge.new.history) e.made e.vertices);
+      going = goes_on v (curves_on c.args.history.now) c.args.curve.0 c.args.meetings.now k c.loop-i.records.graph (curves_on c.loop-i.history) i.going u w chain c.make_edge.new.records.graph (curves_on c.make_edge.new.history) _ more e.told e.in_step e.vertices;
       layer = record { names = e.layer.names ∙ i.layer.names; pieces = e.layer.pieces ∙ i.layer.pieces; next = e.layer.next ∙ i.layer.next };
       named = subst (Member c.args.curve.0) (sym e.layer.names) i.named;
       darts = omega arith;
       pairs = omega arith;
     }
 
-pub returns-clause-made : goal.returns-clause-made
-returns-clause-made c =
+pub returns-clause-told : goal.returns-clause-told
+returns-clause-told g c =
     ends c.args.records.now.graph (curves_on c.args.history.now) c.args.curve.0 c.args.meetings.now (c.loop-i.i - 1) c.loop-i.records.graph (curves_on c.loop-i.history) c.loop-i.invariant.going (omega arith)
+
+pub returns-clause-in_step : goal.returns-clause-in_step
+returns-clause-in_step g c = c.loop-i.invariant.going.in_step

@@ -1,42 +1,53 @@
-use Rattle.std.proofs.Common.{◌≡◌, ◌<◌, ◌≤◌, None, length, sym, arith}
+use Rattle.std.proofs.Common.{◌≡◌, ◌<◌, None, length, sym, arith}
 use Rattle.edit_steps.proofs.Refusals.{insertion_allowed}
 use Rattle.curve_history.specs.declared.history.TheConstants.{LAST_CURVE}
 use Rattle.segment_insert.specs.Insertion.{refusal_at}
+use Rattle.told_steps.proofs.Begun.{begun_in_step, still_watched}
 use Rattle.segment_insert.proofs.Layers.{layer_stays, room_stays}
 use Rattle.segment_insert.proofs.insertion.insert.Goals as goal
 use Rattle.record_layers.specs.LayerEdits.{layer_at}
 
 pub returns-in_default-prepare-clause-layer : goal.returns-in_default-prepare-clause-layer
-returns-in_default-prepare-clause-layer c =
+returns-in_default-prepare-clause-layer g c =
     let e = c.prepare.ensures in
     layer_stays c.args.records.now.graph c.prepare.new.records.graph c.args.history.now c.prepare.new.history e.graph e.same_layer e.same_curves c.requires.layer
 
 pub insert_by_plan-requires-clause-layer : goal.insert_by_plan-requires-clause-layer
-insert_by_plan-requires-clause-layer c =
+insert_by_plan-requires-clause-layer g c =
     let e = c.prepare.ensures in
     layer_stays c.args.records.now.graph c.prepare.new.records.graph c.args.history.now c.prepare.new.history e.graph e.same_layer e.same_curves c.requires.layer
 
 pub insert_by_plan-requires-clause-room : goal.insert_by_plan-requires-clause-room
-insert_by_plan-requires-clause-room c =
+insert_by_plan-requires-clause-room g c =
     let e = c.prepare.ensures in
     room_stays c.in-Ok.plan c.prepare.new.records c.args.history.now c.prepare.new.history e.same_curves c.in-Ok.ensures.room
 
 pub returns-in-Some-clause-refused : goal.returns-in-Some-clause-refused
-returns-in-Some-clause-refused c = sym (c.in-Some.ensures c.args.records.now)
+returns-in-Some-clause-refused g c = sym (c.in-Some.ensures c.args.records.now)
 
 pub returns-in_default-prepare-clause-refused : goal.returns-in_default-prepare-clause-refused
-returns-in_default-prepare-clause-refused c = sym (c.in_default.ensures c.args.records.now)
+returns-in_default-prepare-clause-refused g c = sym (c.in_default.ensures c.args.records.now)
 
 pub insert_by_plan-requires-clause-unspent : goal.insert_by_plan-requires-clause-unspent
-insert_by_plan-requires-clause-unspent c =
+insert_by_plan-requires-clause-unspent g c =
     let none : refusal_at c.args.curves c.args.pieces c.args.records.now c.args.history.now ≡ None = c.in_default.ensures c.args.records.now in
     let k = insertion_allowed c.args.curves c.args.pieces LAST_CURVE (layer_at c.args.records.now c.args.history.now) none in
     let n = c.prepare.ensures.same_layer.next in
     rw n k.1
 
 pub insert_by_plan-requires-clause-few : goal.insert_by_plan-requires-clause-few
-insert_by_plan-requires-clause-few c =
+insert_by_plan-requires-clause-few g c =
     let none : refusal_at c.args.curves c.args.pieces c.args.records.now c.args.history.now ≡ None = c.in_default.ensures c.args.records.now in
     let k = insertion_allowed c.args.curves c.args.pieces LAST_CURVE (layer_at c.args.records.now c.args.history.now) none in
     let few : length c.args.history.now.pieces < c.args.pieces = k.0 in
     rw c.prepare.ensures.same_layer.pieces (omega arith)
+
+pub returns-in_default-prepare-clause-watched : goal.returns-in_default-prepare-clause-watched
+returns-in_default-prepare-clause-watched g c =
+    let e = c.prepare.ensures in
+    still_watched c.args.records.now.graph c.args.history.now c.prepare.new.records.graph c.prepare.new.history e.graph e.same_curves _ c.requires.watched
+
+pub insert_by_plan-requires-clause-in_step : goal.insert_by_plan-requires-clause-in_step
+insert_by_plan-requires-clause-in_step g c =
+    let e = c.prepare.ensures in
+    begun_in_step c.args.records.now.graph c.args.history.now c.prepare.new.records.graph c.prepare.new.history e.graph e.same_curves c.begin.ensures.begun c.requires.layer c.requires.watched

@@ -1,92 +1,73 @@
-use Rattle.std.proofs.Common.{◌≡◌, sym, ap, ◌∙◌, subst, arith, inl}
+use Rattle.std.proofs.Common.{◌≡◌, refl, sym, ap, ◌∙◌, subst, arith, inl}
 use Rattle.plane_graphs.specs.Ascending.{Member}
 use Rattle.plane_graphs.proofs.Lists.{in_right}
 use Rattle.curve_history.specs.Past.{curves_on}
 use Rattle.segment_insert.specs.Insertion.{pairs_to_part, AreMeetings}
+use Rattle.told_steps.proofs.Begun.{still_in_step}
 use Rattle.segment_insert.proofs.Makes.{one_curves}
 use Rattle.edit_steps.specs.Allowed.{AreSound}
 use Rattle.arr_notes.specs.RecordGraph.{drawn_graph}
 use Rattle.zone_walk.specs.Zone.{splits_needed, points_of_meetings}
-use Rattle.segment_insert.proofs.Planned.{IsPlanned, made_of_plan, IsHalfMade, meetings, room_left, pairs_left, curves_first, sound_first, sound_then, curves_then, all_on, each_on, plane_then, all_made, layer_made, one_piece, one_name}
+use Rattle.segment_insert.proofs.Planned.{IsPlanned, told_of_plan, IsHalfMade, meetings, room_left, pairs_left, sound_first, all_on, each_on, plane_then, all_told, layer_made, one_piece, one_name}
 use Rattle.segment_insert.proofs.insertion.insert_by_plan.Goals as goal
 use Rattle.segment_insert.specs.Coming.{steps_at}
 
-pub make_vertices-requires-clause-curves : goal.make_vertices-requires-clause-curves
-make_vertices-requires-clause-curves c =
-    let planned : IsPlanned c.args.records.now.graph c.args.history.now c.args.segment.now c.args.plan c.draw-curve.result.0 = record { layer = c.requires.layer; ends = c.lower-lower.ensures.ends; zone = c.requires.zone; number = c.draw-curve.ensures.number } in
-    let same = one_curves (curves_on c.args.history.now) (curves_on c.add_piece.new.self) (λ d. c.add_piece.ensures.curves d ∙ c.draw-curve.ensures.curves d) in
-    curves_first planned (curves_on c.add_piece.new.self) same
+pub make_vertices-requires-clause-in_step : goal.make_vertices-requires-clause-in_step
+make_vertices-requires-clause-in_step g c =
+    still_in_step c.args.records.now.graph c.args.history.now c.args.records.now.graph c.add_piece.new.self refl (λ d. c.add_piece.ensures.curves d ∙ c.draw-curve.ensures.curves d) c.requires.in_step
 
 pub make_vertices-requires-clause-meetings : goal.make_vertices-requires-clause-meetings
-make_vertices-requires-clause-meetings c =
+make_vertices-requires-clause-meetings g c =
     let planned : IsPlanned c.args.records.now.graph c.args.history.now c.args.segment.now c.args.plan c.draw-curve.result.0 = record { layer = c.requires.layer; ends = c.lower-lower.ensures.ends; zone = c.requires.zone; number = c.draw-curve.ensures.number } in
     subst (AreMeetings c.args.records.now.graph) (sym c.into_vec-meetings.ensures) (meetings planned)
 
 pub make_vertices-requires-clause-plane : goal.make_vertices-requires-clause-plane
-make_vertices-requires-clause-plane c =
+make_vertices-requires-clause-plane g c =
     let planned : IsPlanned c.args.records.now.graph c.args.history.now c.args.segment.now c.args.plan c.draw-curve.result.0 = record { layer = c.requires.layer; ends = c.lower-lower.ensures.ends; zone = c.requires.zone; number = c.draw-curve.ensures.number } in
     let same = one_curves (curves_on c.args.history.now) (curves_on c.add_piece.new.self) (λ d. c.add_piece.ensures.curves d ∙ c.draw-curve.ensures.curves d) in
     let g = drawn_graph c.args.records.now.graph (curves_on c.add_piece.new.self) in
     subst (λ ms. AreSound (steps_at c.args.records.now.graph (curves_on c.add_piece.new.self) (points_of_meetings ms)) g) (sym c.into_vec-meetings.ensures) (sound_first planned (curves_on c.add_piece.new.self) same)
 
 pub make_vertices-requires-clause-pairs : goal.make_vertices-requires-clause-pairs
-make_vertices-requires-clause-pairs c =
+make_vertices-requires-clause-pairs g c =
     let same = one_curves (curves_on c.args.history.now) (curves_on c.add_piece.new.self) (λ d. c.add_piece.ensures.curves d ∙ c.draw-curve.ensures.curves d) in
     let e : pairs_to_part (curves_on c.add_piece.new.self) c.into_vec-meetings.result.items ≡ pairs_to_part (curves_on c.args.history.now) c.args.plan.vertices = ap (pairs_to_part (curves_on c.add_piece.new.self)) c.into_vec-meetings.ensures ∙ ap (λ h. pairs_to_part h c.args.plan.vertices) same in
     omega arith
 
-pub make_edges-requires-clause-sound : goal.make_edges-requires-clause-sound
-make_edges-requires-clause-sound c =
-    let planned : IsPlanned c.args.records.now.graph c.args.history.now c.args.segment.now c.args.plan c.draw-curve.result.0 = record { layer = c.requires.layer; ends = c.lower-lower.ensures.ends; zone = c.requires.zone; number = c.draw-curve.ensures.number } in
-    let same = one_curves (curves_on c.args.history.now) (curves_on c.add_piece.new.self) (λ d. c.add_piece.ensures.curves d ∙ c.draw-curve.ensures.curves d) in
-    let are = c.into_vec-meetings.ensures in
-    let kept = ap points_of_meetings c.deref.ensures.value ∙ c.make_vertices.ensures.points ∙ ap points_of_meetings are in
-    let half : IsHalfMade c.args.records.now.graph c.args.history.now c.args.plan (curves_on c.add_piece.new.self) c.make_vertices.new.records.graph (curves_on c.make_vertices.new.history) c.deref.result.now = record { same = same; made = made_of_plan _ _ _ _ are c.make_vertices.ensures.made; kept = kept } in
-    sound_then planned half
-
-pub make_edges-requires-clause-curves : goal.make_edges-requires-clause-curves
-make_edges-requires-clause-curves c =
-    let planned : IsPlanned c.args.records.now.graph c.args.history.now c.args.segment.now c.args.plan c.draw-curve.result.0 = record { layer = c.requires.layer; ends = c.lower-lower.ensures.ends; zone = c.requires.zone; number = c.draw-curve.ensures.number } in
-    let same = one_curves (curves_on c.args.history.now) (curves_on c.add_piece.new.self) (λ d. c.add_piece.ensures.curves d ∙ c.draw-curve.ensures.curves d) in
-    let are = c.into_vec-meetings.ensures in
-    let kept = ap points_of_meetings c.deref.ensures.value ∙ c.make_vertices.ensures.points ∙ ap points_of_meetings are in
-    let half : IsHalfMade c.args.records.now.graph c.args.history.now c.args.plan (curves_on c.add_piece.new.self) c.make_vertices.new.records.graph (curves_on c.make_vertices.new.history) c.deref.result.now = record { same = same; made = made_of_plan _ _ _ _ are c.make_vertices.ensures.made; kept = kept } in
-    curves_then planned half
-
 pub make_edges-requires-clause-on : goal.make_edges-requires-clause-on
-make_edges-requires-clause-on c =
+make_edges-requires-clause-on g c =
     let planned : IsPlanned c.args.records.now.graph c.args.history.now c.args.segment.now c.args.plan c.draw-curve.result.0 = record { layer = c.requires.layer; ends = c.lower-lower.ensures.ends; zone = c.requires.zone; number = c.draw-curve.ensures.number } in
     let same = one_curves (curves_on c.args.history.now) (curves_on c.add_piece.new.self) (λ d. c.add_piece.ensures.curves d ∙ c.draw-curve.ensures.curves d) in
     let are = c.into_vec-meetings.ensures in
     let kept = ap points_of_meetings c.deref.ensures.value ∙ c.make_vertices.ensures.points ∙ ap points_of_meetings are in
-    let half : IsHalfMade c.args.records.now.graph c.args.history.now c.args.plan (curves_on c.add_piece.new.self) c.make_vertices.new.records.graph (curves_on c.make_vertices.new.history) c.deref.result.now = record { same = same; made = made_of_plan _ _ _ _ are c.make_vertices.ensures.made; kept = kept } in
+    let half : IsHalfMade c.args.records.now.graph c.args.history.now c.args.plan (curves_on c.add_piece.new.self) _ c.make_vertices.new.records.graph (curves_on c.make_vertices.new.history) _ c.deref.result.now = record { same = same; told = told_of_plan _ _ _ _ _ _ are c.make_vertices.ensures.told; kept = kept } in
     each_on planned half
 
 pub make_edges-requires-clause-all_on : goal.make_edges-requires-clause-all_on
-make_edges-requires-clause-all_on c =
+make_edges-requires-clause-all_on g c =
     let planned : IsPlanned c.args.records.now.graph c.args.history.now c.args.segment.now c.args.plan c.draw-curve.result.0 = record { layer = c.requires.layer; ends = c.lower-lower.ensures.ends; zone = c.requires.zone; number = c.draw-curve.ensures.number } in
     let same = one_curves (curves_on c.args.history.now) (curves_on c.add_piece.new.self) (λ d. c.add_piece.ensures.curves d ∙ c.draw-curve.ensures.curves d) in
     let are = c.into_vec-meetings.ensures in
     let kept = ap points_of_meetings c.deref.ensures.value ∙ c.make_vertices.ensures.points ∙ ap points_of_meetings are in
-    let half : IsHalfMade c.args.records.now.graph c.args.history.now c.args.plan (curves_on c.add_piece.new.self) c.make_vertices.new.records.graph (curves_on c.make_vertices.new.history) c.deref.result.now = record { same = same; made = made_of_plan _ _ _ _ are c.make_vertices.ensures.made; kept = kept } in
+    let half : IsHalfMade c.args.records.now.graph c.args.history.now c.args.plan (curves_on c.add_piece.new.self) _ c.make_vertices.new.records.graph (curves_on c.make_vertices.new.history) _ c.deref.result.now = record { same = same; told = told_of_plan _ _ _ _ _ _ are c.make_vertices.ensures.told; kept = kept } in
     all_on planned half
 
 pub make_edges-requires-clause-curve_named : goal.make_edges-requires-clause-curve_named
-make_edges-requires-clause-curve_named c =
+make_edges-requires-clause-curve_named g c =
     let e = c.make_vertices.ensures.layer.names ∙ c.add_piece.ensures.names ∙ c.draw-curve.ensures.names in
     subst (Member c.draw-curve.result.0) (sym e) (in_right c.draw-curve.result.0 c.args.history.now.names _ (inl c.draw-curve.ensures.number))
 
 pub make_edges-requires-clause-plane : goal.make_edges-requires-clause-plane
-make_edges-requires-clause-plane c =
+make_edges-requires-clause-plane g c =
     let planned : IsPlanned c.args.records.now.graph c.args.history.now c.args.segment.now c.args.plan c.draw-curve.result.0 = record { layer = c.requires.layer; ends = c.lower-lower.ensures.ends; zone = c.requires.zone; number = c.draw-curve.ensures.number } in
     let same = one_curves (curves_on c.args.history.now) (curves_on c.add_piece.new.self) (λ d. c.add_piece.ensures.curves d ∙ c.draw-curve.ensures.curves d) in
     let are = c.into_vec-meetings.ensures in
     let kept = ap points_of_meetings c.deref.ensures.value ∙ c.make_vertices.ensures.points ∙ ap points_of_meetings are in
-    let half : IsHalfMade c.args.records.now.graph c.args.history.now c.args.plan (curves_on c.add_piece.new.self) c.make_vertices.new.records.graph (curves_on c.make_vertices.new.history) c.deref.result.now = record { same = same; made = made_of_plan _ _ _ _ are c.make_vertices.ensures.made; kept = kept } in
+    let half : IsHalfMade c.args.records.now.graph c.args.history.now c.args.plan (curves_on c.add_piece.new.self) _ c.make_vertices.new.records.graph (curves_on c.make_vertices.new.history) _ c.deref.result.now = record { same = same; told = told_of_plan _ _ _ _ _ _ are c.make_vertices.ensures.told; kept = kept } in
     plane_then planned half
 
 pub make_edges-requires-clause-darts : goal.make_edges-requires-clause-darts
-make_edges-requires-clause-darts c =
+make_edges-requires-clause-darts g c =
     let planned : IsPlanned c.args.records.now.graph c.args.history.now c.args.segment.now c.args.plan c.draw-curve.result.0 = record { layer = c.requires.layer; ends = c.lower-lower.ensures.ends; zone = c.requires.zone; number = c.draw-curve.ensures.number } in
     let are = c.into_vec-meetings.ensures in
     let kept = ap points_of_meetings c.deref.ensures.value ∙ c.make_vertices.ensures.points ∙ ap points_of_meetings are in
@@ -94,7 +75,7 @@ make_edges-requires-clause-darts c =
     room_left planned c.deref.result.now c.args.records.now.spare_darts c.make_vertices.new.records.spare_darts kept c.requires.room.darts (omega arith)
 
 pub make_edges-requires-clause-pairs : goal.make_edges-requires-clause-pairs
-make_edges-requires-clause-pairs c =
+make_edges-requires-clause-pairs g c =
     let planned : IsPlanned c.args.records.now.graph c.args.history.now c.args.segment.now c.args.plan c.draw-curve.result.0 = record { layer = c.requires.layer; ends = c.lower-lower.ensures.ends; zone = c.requires.zone; number = c.draw-curve.ensures.number } in
     let same = one_curves (curves_on c.args.history.now) (curves_on c.add_piece.new.self) (λ d. c.add_piece.ensures.curves d ∙ c.draw-curve.ensures.curves d) in
     let are = c.into_vec-meetings.ensures in
@@ -103,12 +84,12 @@ make_edges-requires-clause-pairs c =
     pairs_left planned c.deref.result.now c.add_piece.new.self.spare_pairs c.make_vertices.new.history.spare_pairs (pairs_to_part (curves_on c.args.history.now) c.args.plan.vertices) kept (omega arith) (omega arith)
 
 pub returns-clause-layer : goal.returns-clause-layer
-returns-clause-layer c =
+returns-clause-layer g c =
     let planned : IsPlanned c.args.records.now.graph c.args.history.now c.args.segment.now c.args.plan c.draw-curve.result.0 = record { layer = c.requires.layer; ends = c.lower-lower.ensures.ends; zone = c.requires.zone; number = c.draw-curve.ensures.number } in
     let same = one_curves (curves_on c.args.history.now) (curves_on c.add_piece.new.self) (λ d. c.add_piece.ensures.curves d ∙ c.draw-curve.ensures.curves d) in
     let are = c.into_vec-meetings.ensures in
     let kept = ap points_of_meetings c.deref.ensures.value ∙ c.make_vertices.ensures.points ∙ ap points_of_meetings are in
-    let half : IsHalfMade c.args.records.now.graph c.args.history.now c.args.plan (curves_on c.add_piece.new.self) c.make_vertices.new.records.graph (curves_on c.make_vertices.new.history) c.deref.result.now = record { same = same; made = made_of_plan _ _ _ _ are c.make_vertices.ensures.made; kept = kept } in
+    let half : IsHalfMade c.args.records.now.graph c.args.history.now c.args.plan (curves_on c.add_piece.new.self) _ c.make_vertices.new.records.graph (curves_on c.make_vertices.new.history) _ c.deref.result.now = record { same = same; told = told_of_plan _ _ _ _ _ _ are c.make_vertices.ensures.told; kept = kept } in
     let layer = c.make_edges.ensures.layer in
     let before = c.make_vertices.ensures.layer in
     let piece = one_piece c.args.history.now.pieces c.draw-curve.new.self.pieces c.draw-curve.result.0 c.args.segment.now c.lower-lower.result c.upper-upper.result c.draw-curve.ensures.pieces c.lower-lower.ensures.value c.upper-upper.ensures in
@@ -116,15 +97,15 @@ returns-clause-layer c =
     let pieces = layer.pieces ∙ before.pieces ∙ c.add_piece.ensures.pieces ∙ piece in
     let names = layer.names ∙ before.names ∙ c.add_piece.ensures.names ∙ c.draw-curve.ensures.names ∙ name in
     let next = layer.next ∙ before.next ∙ c.add_piece.ensures.next ∙ c.draw-curve.ensures.next in
-    (layer_made planned half c.make_edges.new.records.graph c.make_edges.new.history c.make_edges.ensures.made pieces names next).0
+    (layer_made planned half c.make_edges.new.records.graph c.make_edges.new.history _ c.make_edges.ensures.told pieces names next).0
 
 pub returns-clause-edit : goal.returns-clause-edit
-returns-clause-edit c =
+returns-clause-edit g c =
     let planned : IsPlanned c.args.records.now.graph c.args.history.now c.args.segment.now c.args.plan c.draw-curve.result.0 = record { layer = c.requires.layer; ends = c.lower-lower.ensures.ends; zone = c.requires.zone; number = c.draw-curve.ensures.number } in
     let same = one_curves (curves_on c.args.history.now) (curves_on c.add_piece.new.self) (λ d. c.add_piece.ensures.curves d ∙ c.draw-curve.ensures.curves d) in
     let are = c.into_vec-meetings.ensures in
     let kept = ap points_of_meetings c.deref.ensures.value ∙ c.make_vertices.ensures.points ∙ ap points_of_meetings are in
-    let half : IsHalfMade c.args.records.now.graph c.args.history.now c.args.plan (curves_on c.add_piece.new.self) c.make_vertices.new.records.graph (curves_on c.make_vertices.new.history) c.deref.result.now = record { same = same; made = made_of_plan _ _ _ _ are c.make_vertices.ensures.made; kept = kept } in
+    let half : IsHalfMade c.args.records.now.graph c.args.history.now c.args.plan (curves_on c.add_piece.new.self) _ c.make_vertices.new.records.graph (curves_on c.make_vertices.new.history) _ c.deref.result.now = record { same = same; told = told_of_plan _ _ _ _ _ _ are c.make_vertices.ensures.told; kept = kept } in
     let layer = c.make_edges.ensures.layer in
     let before = c.make_vertices.ensures.layer in
     let piece = one_piece c.args.history.now.pieces c.draw-curve.new.self.pieces c.draw-curve.result.0 c.args.segment.now c.lower-lower.result c.upper-upper.result c.draw-curve.ensures.pieces c.lower-lower.ensures.value c.upper-upper.ensures in
@@ -132,13 +113,13 @@ returns-clause-edit c =
     let pieces = layer.pieces ∙ before.pieces ∙ c.add_piece.ensures.pieces ∙ piece in
     let names = layer.names ∙ before.names ∙ c.add_piece.ensures.names ∙ c.draw-curve.ensures.names ∙ name in
     let next = layer.next ∙ before.next ∙ c.add_piece.ensures.next ∙ c.draw-curve.ensures.next in
-    (layer_made planned half c.make_edges.new.records.graph c.make_edges.new.history c.make_edges.ensures.made pieces names next).1
+    (layer_made planned half c.make_edges.new.records.graph c.make_edges.new.history _ c.make_edges.ensures.told pieces names next).1
 
-pub returns-clause-steps : goal.returns-clause-steps
-returns-clause-steps c =
+pub returns-clause-told : goal.returns-clause-told
+returns-clause-told g c =
     let planned : IsPlanned c.args.records.now.graph c.args.history.now c.args.segment.now c.args.plan c.draw-curve.result.0 = record { layer = c.requires.layer; ends = c.lower-lower.ensures.ends; zone = c.requires.zone; number = c.draw-curve.ensures.number } in
     let same = one_curves (curves_on c.args.history.now) (curves_on c.add_piece.new.self) (λ d. c.add_piece.ensures.curves d ∙ c.draw-curve.ensures.curves d) in
     let are = c.into_vec-meetings.ensures in
     let kept = ap points_of_meetings c.deref.ensures.value ∙ c.make_vertices.ensures.points ∙ ap points_of_meetings are in
-    let half : IsHalfMade c.args.records.now.graph c.args.history.now c.args.plan (curves_on c.add_piece.new.self) c.make_vertices.new.records.graph (curves_on c.make_vertices.new.history) c.deref.result.now = record { same = same; made = made_of_plan _ _ _ _ are c.make_vertices.ensures.made; kept = kept } in
-    all_made planned half c.make_edges.new.records.graph c.make_edges.new.history c.make_edges.ensures.made
+    let half : IsHalfMade c.args.records.now.graph c.args.history.now c.args.plan (curves_on c.add_piece.new.self) _ c.make_vertices.new.records.graph (curves_on c.make_vertices.new.history) _ c.deref.result.now = record { same = same; told = told_of_plan _ _ _ _ _ _ are c.make_vertices.ensures.told; kept = kept } in
+    all_told planned half c.make_edges.new.records.graph c.make_edges.new.history _ c.make_edges.ensures.told

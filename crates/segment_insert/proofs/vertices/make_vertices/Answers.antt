@@ -6,7 +6,7 @@ use Rattle.curve_history.specs.Past.{curves_on}
 use Rattle.zone_walk.specs.Zone.{vertices_needed, splits_needed}
 use Rattle.zone_walk.specs.declared.plan.Meeting.{Meeting}
 use Rattle.segment_insert.specs.Insertion.{pairs_at, pairs_to_part}
-use Rattle.segment_insert.proofs.VerticesLoop.{told_at, vertices_first, darts_first, next_first, all_coming, at_start, same_length, spot_now, sound_now, onwards, same_pairs_left, all_made, all_named}
+use Rattle.segment_insert.proofs.VerticesLoop.{told_at, vertices_first, darts_first, next_first, at_start, same_length, spot_now, sound_now, onwards, same_pairs_left, all_told, all_named}
 use Rattle.segment_insert.proofs.vertices.make_vertices.Goals as goal
 
 -- room that one step takes from what is left
@@ -14,30 +14,33 @@ room_left : (start before after all one rest left : ℕ) → left ≡ one + rest
 room_left start before after all one rest left e f g = omega arith
 
 pub loop-i-init : goal.loop-i-init
-loop-i-init c =
+loop-i-init g c =
     let v : View = c.args.records.now.graph in
     let h : Curves = curves_on c.args.history.now in
     let ms : List Meeting = c.args.meetings.now.items in
     record {
-      midway = at_start v h ms (all_coming v h ms c.requires.sound c.requires.curves c.requires.meetings c.requires.plane);
+      midway = at_start v h ms c.requires.in_step c.requires.meetings c.requires.plane;
       layer = record { names = refl; pieces = refl; next = refl };
       vertices = omega arith;
       darts = omega arith;
       pairs = omega arith;
     }
 
+pub make_vertex-vertex-requires-clause-in_step : goal.make_vertex-vertex-requires-clause-in_step
+make_vertex-vertex-requires-clause-in_step g c = c.loop-i.invariant.midway.in_step
+
 pub make_vertex-vertex-requires-clause-spot : goal.make_vertex-vertex-requires-clause-spot
-make_vertex-vertex-requires-clause-spot c =
+make_vertex-vertex-requires-clause-spot g c =
     spot_now c.args.records.now.graph (curves_on c.args.history.now) c.args.meetings.now.items c.loop-i.records.graph (curves_on c.loop-i.history) c.loop-i.meetings.items c.loop-i.i c.loop-i.invariant.midway c.index.result.now
     (omega (arith, c.loop-i-test.true, c.len-i-end.ensures, same_length c.args.records.now.graph (curves_on c.args.history.now) c.args.meetings.now.items c.loop-i.records.graph (curves_on c.loop-i.history) c.loop-i.meetings.items c.loop-i.i c.loop-i.invariant.midway)) c.index.ensures
 
 pub make_vertex-vertex-requires-clause-plane : goal.make_vertex-vertex-requires-clause-plane
-make_vertex-vertex-requires-clause-plane c =
+make_vertex-vertex-requires-clause-plane g c =
     sound_now c.args.records.now.graph (curves_on c.args.history.now) c.args.meetings.now.items c.loop-i.records.graph (curves_on c.loop-i.history) c.loop-i.meetings.items c.loop-i.i c.loop-i.invariant.midway c.index.result.now
     (omega (arith, c.loop-i-test.true, c.len-i-end.ensures, same_length c.args.records.now.graph (curves_on c.args.history.now) c.args.meetings.now.items c.loop-i.records.graph (curves_on c.loop-i.history) c.loop-i.meetings.items c.loop-i.i c.loop-i.invariant.midway)) c.index.ensures
 
 pub loop-i-preserved : goal.loop-i-preserved
-loop-i-preserved c =
+loop-i-preserved g c =
     let v : View = c.args.records.now.graph in
     let h : Curves = curves_on c.args.history.now in
     let ms : List Meeting = c.args.meetings.now.items in
@@ -51,24 +54,27 @@ loop-i-preserved c =
     let k = c.make_vertex-vertex.ensures in
     let old = c.loop-i.invariant in
     record {
-      midway = onwards v h ms c.loop-i.records.graph (curves_on c.loop-i.history) ns i c.loop-i.invariant.midway m l c.index.ensures c.make_vertex-vertex.new.records.graph (curves_on c.make_vertex-vertex.new.history) c.make_vertex-vertex.result k.made
-          (told_at c.index_mut.result.now c.make_vertex-vertex.result) (ap (λ (o : Meeting). told_at o c.make_vertex-vertex.result) same);
+      midway = onwards v h ms c.loop-i.records.graph (curves_on c.loop-i.history) ns i c.loop-i.invariant.midway m l c.index.ensures c.make_vertex-vertex.new.records.graph (curves_on c.make_vertex-vertex.new.history) c.make_vertex-vertex.result k.told
+          (told_at c.index_mut.result.now c.make_vertex-vertex.result) (ap (λ (o : Meeting). told_at o c.make_vertex-vertex.result) same) k.in_step;
       layer = record { names = k.layer.names ∙ old.layer.names; pieces = k.layer.pieces ∙ old.layer.pieces; next = k.layer.next ∙ old.layer.next };
       vertices = room_left c.args.records.now.spare_vertices c.loop-i.records.spare_vertices c.make_vertex-vertex.new.records.spare_vertices (vertices_needed ms) (vertices_needed (m ∷ [])) (vertices_needed (drop (i + 1) ms)) (vertices_needed (drop i ms))
           (ap vertices_needed first ∙ vertices_first m (drop (i + 1) ms)) old.vertices k.vertices;
       darts = room_left c.args.records.now.spare_darts c.loop-i.records.spare_darts c.make_vertex-vertex.new.records.spare_darts (2 * splits_needed ms) (2 * splits_needed (m ∷ [])) (2 * splits_needed (drop (i + 1) ms)) (2 * splits_needed (drop i ms))
           (ap (λ (xs : List Meeting). 2 * splits_needed xs) first ∙ darts_first m (drop (i + 1) ms)) old.darts k.darts;
       pairs = room_left c.args.history.now.spare_pairs c.loop-i.history.spare_pairs c.make_vertex-vertex.new.history.spare_pairs (pairs_to_part h ms) (pairs_at (curves_on c.loop-i.history) m.spot) (pairs_to_part (curves_on c.make_vertex-vertex.new.history) (drop (i + 1) ms)) (pairs_to_part (curves_on c.loop-i.history) (drop i ms))
-          (ap (pairs_to_part (curves_on c.loop-i.history)) first ∙ ap (λ (n : ℕ). pairs_at (curves_on c.loop-i.history) m.spot + n) (sym (same_pairs_left v h ms c.loop-i.records.graph (curves_on c.loop-i.history) ns i c.loop-i.invariant.midway m l c.index.ensures c.make_vertex-vertex.new.records.graph (curves_on c.make_vertex-vertex.new.history) c.make_vertex-vertex.result k.made)))
+          (ap (pairs_to_part (curves_on c.loop-i.history)) first ∙ ap (λ (n : ℕ). pairs_at (curves_on c.loop-i.history) m.spot + n) (sym (same_pairs_left v h ms c.loop-i.records.graph (curves_on c.loop-i.history) ns i c.loop-i.invariant.midway m l c.index.ensures c.make_vertex-vertex.new.records.graph (curves_on c.make_vertex-vertex.new.history) c.make_vertex-vertex.result k.told)))
           old.pairs k.pairs;
     }
 
-pub returns-clause-made : goal.returns-clause-made
-returns-clause-made c =
-    all_made c.args.records.now.graph (curves_on c.args.history.now) c.args.meetings.now.items c.loop-i.records.graph (curves_on c.loop-i.history) c.loop-i.meetings.items c.loop-i.i c.loop-i.invariant.midway
+pub returns-clause-told : goal.returns-clause-told
+returns-clause-told g c =
+    all_told c.args.records.now.graph (curves_on c.args.history.now) c.args.meetings.now.items c.loop-i.records.graph (curves_on c.loop-i.history) c.loop-i.meetings.items c.loop-i.i c.loop-i.invariant.midway
     (omega (arith, c.loop-i-test.false, c.len-i-end.ensures, same_length c.args.records.now.graph (curves_on c.args.history.now) c.args.meetings.now.items c.loop-i.records.graph (curves_on c.loop-i.history) c.loop-i.meetings.items c.loop-i.i c.loop-i.invariant.midway))
 
 pub returns-clause-named : goal.returns-clause-named
-returns-clause-named c =
+returns-clause-named g c =
     all_named c.args.records.now.graph (curves_on c.args.history.now) c.args.meetings.now.items c.loop-i.records.graph (curves_on c.loop-i.history) c.loop-i.meetings.items c.loop-i.i c.loop-i.invariant.midway
     (omega (arith, c.loop-i-test.false, c.len-i-end.ensures, same_length c.args.records.now.graph (curves_on c.args.history.now) c.args.meetings.now.items c.loop-i.records.graph (curves_on c.loop-i.history) c.loop-i.meetings.items c.loop-i.i c.loop-i.invariant.midway)) c.requires.meetings.ascend
+
+pub returns-clause-in_step : goal.returns-clause-in_step
+returns-clause-in_step g c = c.loop-i.invariant.midway.in_step

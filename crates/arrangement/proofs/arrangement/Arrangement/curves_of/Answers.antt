@@ -1,12 +1,8 @@
-use Rattle.std.proofs.Common.{◌≡◌, ◌∙◌, refl, subst, map, Result, Ok, Err}
+use Rattle.std.proofs.Common.{◌≡◌, ◌∙◌, refl, Result, Ok, Err}
 use Rattle.std.specs.Prelude.{IsErrAnd, IsErrOf}
-use Rattle.plane_graphs.specs.Ascending.{Member}
-use Rattle.plane_graphs.specs.Graph.{graph, edges, curves}
 use Rattle.slab_laws.specs.Sound.{edge_between}
-use Rattle.slab_laws.specs.declared.names.CurveId.{CurveId}
 use Rattle.arrangement.specs.declared.questions.EdgeError.{EdgeError}
 use Rattle.arrangement.specs.declared.questions.EdgeError.TheVariants.{NoEdge, NoMemory}
-use Rattle.arrangement.specs.Arranged.{Arranged, layer_in}
 use Rattle.record_layers.proofs.LayerEdges.{along_drawn, drawn_along, curves_along}
 use Rattle.arrangement.proofs.arrangement.Arrangement.curves_of.Goals as goal
 
@@ -16,29 +12,23 @@ other_error (Ok x) h e = cc
 other_error (Err x) h e = cc
 
 pub returns-in_default-clause-no_edge : goal.returns-in_default-clause-no_edge
-returns-in_default-clause-no_edge c =
-    let i = c.self.inside in
+returns-in_default-clause-no_edge g c =
     let e = edge_between c.args.p.now c.args.q.now in
-    let none = subst (λ (a : Arranged). ¬ Member e (edges (graph (layer_in a).present))) c.self.view_is (λ m. let d = drawn_along i.records.graph i.history c.self.invariant e m in c.in_default.ensures d.0 d.1) in
-    (λ _. none, λ _. refl)
+    rw (← c.self.view_is) (λ _ m. let d = drawn_along _ _ c.self.invariant e m in c.in_default.ensures d.0 d.1, λ _. refl)
 
 pub returns-in_err-curves_of-clause-no_edge : goal.returns-in_err-curves_of-clause-no_edge
-returns-in_err-curves_of-clause-no_edge c =
-    let i = c.self.inside in
+returns-in_err-curves_of-clause-no_edge g c =
     let e = edge_between c.args.p.now c.args.q.now in
-    let there = subst (λ (a : Arranged). Member e (edges (graph (layer_in a).present))) c.self.view_is (along_drawn i.records.graph i.history c.self.invariant e c.in-Some.edge c.in-Some.ensures) in
-    (λ x. absurd (other_error c.from_residual.result c.from_residual.ensures.1 x), λ none. absurd (none there))
+    let there = along_drawn _ _ c.self.invariant e c.in-Some.edge c.in-Some.ensures in
+    rw (← c.self.view_is) (λ x. absurd (other_error c.from_residual.result c.from_residual.ensures.1 x), λ none. absurd (none there))
 
 pub returns-clause-curves : goal.returns-clause-curves
-returns-clause-curves c =
-    let i = c.self.inside in
+returns-clause-curves g c =
     let e = edge_between c.args.p.now c.args.q.now in
-    subst (λ (a : Arranged). map (λ (k : CurveId). k.0) c.in_ok-curves_of.field-0.items ≡ curves (graph (layer_in a).present) e.low e.high) c.self.view_is
-    (c.in_ok-curves_of.ensures ∙ curves_along i.records.graph i.history c.self.invariant e c.in-Some.edge c.in-Some.ensures)
+    rw (← c.self.view_is) (c.in_ok-curves_of.ensures ∙ curves_along _ _ c.self.invariant e c.in-Some.edge c.in-Some.ensures)
 
 pub returns-clause-no_edge : goal.returns-clause-no_edge
-returns-clause-no_edge c =
-    let i = c.self.inside in
+returns-clause-no_edge g c =
     let e = edge_between c.args.p.now c.args.q.now in
-    let there = subst (λ (a : Arranged). Member e (edges (graph (layer_in a).present))) c.self.view_is (along_drawn i.records.graph i.history c.self.invariant e c.in-Some.edge c.in-Some.ensures) in
-    (λ x. absurd cc, λ none. absurd (none there))
+    let there = along_drawn _ _ c.self.invariant e c.in-Some.edge c.in-Some.ensures in
+    rw (← c.self.view_is) (λ x. absurd cc, λ none. absurd (none there))

@@ -1,27 +1,12 @@
-use Rattle.std.proofs.Common.{subst}
-use Rattle.std.specs.Prelude.{OnOk, OnErr}
-use Rattle.edit_steps.specs.Refusals.{IsAnswerFor}
-use Rattle.pin_points.specs.Splits.{split_at, split_said}
-use Rattle.arrangement.specs.Arranged.{Arranged, refusal_in}
-use Rattle.arrangement.specs.Edited.{IsEdited, IsAsBefore}
-use Rattle.arrangement.proofs.Layers.{edited, as_before}
+use Rattle.pin_points.specs.Splits.{split_at}
+use Rattle.arrangement.proofs.Edits.{edited, as_before}
 use Rattle.arrangement.proofs.arrangement.Arrangement.split_edge.Goals as goal
 
-pub returns-clause-edit : goal.returns-clause-edit
-returns-clause-edit c =
-    let i = c.self.inside in
-    let w = c.split_edge.new.records.graph in
-    let q = c.split_edge.new.history in
-    subst (λ (a : Arranged). OnOk c.split_edge.result (IsEdited a (record { graph = w; past = q; limits = i.limits }) (split_at c.args.p.now c.args.q.now c.args.r.now))) c.self.view_is
-    (edited i.records.graph i.history w q i.limits c.split_edge.result (λ k. split_at c.args.p.now c.args.q.now c.args.r.now) c.self.invariant c.split_edge.ensures.edit c.split_edge.ensures.steps)
+pub split_edge-requires-clause-watched : goal.split_edge-requires-clause-watched
+split_edge-requires-clause-watched g c = rw (← c.self.view_is) at c.requires.watched
 
-pub returns-clause-refused : goal.returns-clause-refused
-returns-clause-refused c = subst (λ (a : Arranged). IsAnswerFor split_said (refusal_in a (split_at c.args.p.now c.args.q.now c.args.r.now)) c.split_edge.result) c.self.view_is c.split_edge.ensures.refused
+pub returns-clause-edit : goal.returns-clause-edit
+returns-clause-edit g c = rw (← c.self.view_is) (edited _ _ c.split_edge.result (split_at c.args.p.now c.args.q.now c.args.r.now) c.self.invariant c.split_edge.ensures.edit c.split_edge.ensures.told)
 
 pub returns-clause-as_before : goal.returns-clause-as_before
-returns-clause-as_before c =
-    let i = c.self.inside in
-    let w = c.split_edge.new.records.graph in
-    let q = c.split_edge.new.history in
-    subst (λ (a : Arranged). OnErr c.split_edge.result (IsAsBefore a (record { graph = w; past = q; limits = i.limits }))) c.self.view_is
-    (as_before i.records.graph i.history w q i.limits c.split_edge.result c.split_edge.ensures.graph c.split_edge.ensures.same_layer c.split_edge.ensures.same_curves)
+returns-clause-as_before g c = rw (← c.self.view_is) (as_before _ _ c.split_edge.result c.split_edge.ensures.graph c.split_edge.ensures.same_layer c.split_edge.ensures.same_curves c.split_edge.ensures.untold)

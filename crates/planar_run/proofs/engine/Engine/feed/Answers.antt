@@ -24,5 +24,6 @@ pub loop-byte-preserved : goal.loop-byte-preserved
 loop-byte-preserved g c =
     let more = take_more c.args.bytes.now c.loop-byte.byte-index 0 c.loop-byte-test.true in record {
       fed = rw more (Feeds-push _ _ _ _ _ _ _ _ _ _ _ c.loop-byte.invariant.fed c.in_ok-take.ensures.taken);
+      kept = c.take.ensures.kept;
       faults = c.in_ok-take.ensures.cause.same ∙ c.loop-byte.invariant.faults;
     }

@@ -1,10 +1,9 @@
-use Rattle.std.proofs.Common.{◌∙◌}
 use Rattle.edit_steps.specs.Edits.{ClearAll}
-use Rattle.planar_run.proofs.Refused.{edited_so}
+use Rattle.planar_run.proofs.Worlds.{done_so, kept_so}
 use Rattle.planar_run.proofs.world.World.clear.Goals as goal
 
-pub invariant_of-self : goal.invariant_of-self
-invariant_of-self c = c.clear.ensures.limits ∙ c.self.invariant
+pub returns-clause-done : goal.returns-clause-done
+returns-clause-done g c = done_so ClearAll _ _ _ c.requires.kept c.laws.ensures.apart c.clear.ensures.edit
 
-pub returns : goal.returns
-returns c = edited_so (λ l. ClearAll) c.self.inside.arrangement c.clear.new.self c.args.self.now c.self.view_is c.clear.ensures.edit
+pub returns-clause-kept : goal.returns-clause-kept
+returns-clause-kept g c = kept_so ClearAll _ _ c.requires.kept c.laws.ensures.apart c.clear.ensures.edit c.clear.ensures.limits c.clear.ensures.watched

@@ -1,17 +1,17 @@
-use Rattle.std.proofs.Common.{◌∙◌}
+use Rattle.std.proofs.Common.{[]}
 use Rattle.edit_steps.specs.Edits.{Pin}
 use Rattle.arrangement.specs.Answers.{pin_said}
-use Rattle.planar_run.proofs.Refused.{if_answered, if_edited, if_refused}
+use Rattle.planar_run.proofs.Worlds.{if_answered, if_done, if_kept, if_refused}
 use Rattle.planar_run.proofs.world.World.pin.Goals as goal
 
-pub invariant_of-self : goal.invariant_of-self
-invariant_of-self c = c.pin.ensures.limits ∙ c.self.invariant
-
-pub returns-clause-edit : goal.returns-clause-edit
-returns-clause-edit c = if_edited c.pin.result (λ l. Pin c.args.point.now) c.self.inside.arrangement c.pin.new.self c.args.self.now c.self.view_is c.pin.ensures.edit
+pub returns-clause-done : goal.returns-clause-done
+returns-clause-done g c = if_done c.pin.result (Pin c.args.point.now) _ _ _ c.requires.kept c.laws.ensures.apart c.pin.ensures.edit
 
 pub returns-clause-refused : goal.returns-clause-refused
-returns-clause-refused c = if_answered pin_said c.pin.result (λ l. Pin c.args.point.now) c.self.inside.arrangement c.args.self.now c.self.invariant c.self.view_is c.pin.ensures.refused
+returns-clause-refused g c = if_answered pin_said c.pin.result (Pin c.args.point.now) _ [] c.requires.kept c.pin.ensures.refused
 
 pub returns-clause-err : goal.returns-clause-err
-returns-clause-err c = if_refused c.pin.result c.self.inside.arrangement c.pin.new.self c.args.self.now c.self.view_is c.pin.ensures.as_before
+returns-clause-err g c = if_refused c.pin.result _ _ _ c.pin.ensures.as_before
+
+pub returns-clause-kept : goal.returns-clause-kept
+returns-clause-kept g c = if_kept c.pin.result (Pin c.args.point.now) _ _ c.requires.kept c.laws.ensures.apart c.pin.ensures.edit c.pin.ensures.as_before c.pin.ensures.limits c.pin.ensures.watched

@@ -1,17 +1,17 @@
-use Rattle.std.proofs.Common.{◌∙◌}
+use Rattle.std.proofs.Common.{[]}
 use Rattle.edit_steps.specs.Edits.{Drop}
 use Rattle.arrangement.specs.Answers.{drop_said}
-use Rattle.planar_run.proofs.Refused.{if_answered, if_edited, if_refused}
+use Rattle.planar_run.proofs.Worlds.{if_answered, if_done, if_kept, if_refused}
 use Rattle.planar_run.proofs.world.World.remove_curve.Goals as goal
 
-pub invariant_of-self : goal.invariant_of-self
-invariant_of-self c = c.remove_curve.ensures.limits ∙ c.self.invariant
-
-pub returns-clause-edit : goal.returns-clause-edit
-returns-clause-edit c = if_edited c.remove_curve.result (λ l. Drop c.args.curve.0) c.self.inside.arrangement c.remove_curve.new.self c.args.self.now c.self.view_is c.remove_curve.ensures.edit
+pub returns-clause-done : goal.returns-clause-done
+returns-clause-done g c = if_done c.remove_curve.result (Drop c.args.curve.0) _ _ _ c.requires.kept c.laws.ensures.apart c.remove_curve.ensures.edit
 
 pub returns-clause-refused : goal.returns-clause-refused
-returns-clause-refused c = if_answered drop_said c.remove_curve.result (λ l. Drop c.args.curve.0) c.self.inside.arrangement c.args.self.now c.self.invariant c.self.view_is c.remove_curve.ensures.refused
+returns-clause-refused g c = if_answered drop_said c.remove_curve.result (Drop c.args.curve.0) _ [] c.requires.kept c.remove_curve.ensures.refused
 
 pub returns-clause-err : goal.returns-clause-err
-returns-clause-err c = if_refused c.remove_curve.result c.self.inside.arrangement c.remove_curve.new.self c.args.self.now c.self.view_is c.remove_curve.ensures.as_before
+returns-clause-err g c = if_refused c.remove_curve.result _ _ _ c.remove_curve.ensures.as_before
+
+pub returns-clause-kept : goal.returns-clause-kept
+returns-clause-kept g c = if_kept c.remove_curve.result (Drop c.args.curve.0) _ _ c.requires.kept c.laws.ensures.apart c.remove_curve.ensures.edit c.remove_curve.ensures.as_before c.remove_curve.ensures.limits c.remove_curve.ensures.watched

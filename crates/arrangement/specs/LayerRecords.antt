@@ -1,0 +1,8 @@
+-- The records of a layer and their history, as contracts see the two together.
+use Rattle.slab_laws.specs.View.{View}
+use Rattle.curve_history.specs.Past.{Past}
+
+-- the records by name, and the history (this project)
+pub record LayerView : Type 0 where
+  pub graph : View
+  pub past : Past

@@ -1,0 +1,21 @@
+use curve_history::History;
+use dcel_records::Records;
+use std::marker::Model;
+
+/// The records of a layer and their history, which stand for it together.
+#[derive(Drop)]
+pub(crate) struct LayerRecords {
+    pub(crate) records: Records,
+    pub(crate) history: History,
+}
+
+impl Model for LayerRecords {
+    ghost use Rattle.record_layers.specs.RecordLayers.{IsLayer};
+    ghost use Rattle.arrangement.specs.LayerRecords.{LayerView};
+
+    ghost Value = { LayerView };
+
+    ghost view = { λ l. record { graph = l.records.graph; past = l.history } };
+
+    ghost invariant = { λ l. IsLayer l.records.graph l.history };
+}

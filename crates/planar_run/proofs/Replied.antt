@@ -1,0 +1,150 @@
+-- What a line is answered that is refused, and what of a line is obeyed.
+use Rattle.std.proofs.Common.{◌≡◌, ℕ, Bool, true, false, List, [], ◌∷◌, ◌++◌, Option, Some, None, Result, Ok, Err, refl, sym, ap, subst, ◌∙◌, inl}
+use Rattle.std.specs.Prelude.{OnErr, OnOk, not, ℤ, codes, decimal, if◌then◌else◌}
+use Rattle.std.specs.Fmt.{digits}
+use Rattle.exact_plane.specs.Segment.{Segment}
+use Rattle.exact_plane.specs.SegmentOf.{segment_of}
+use Rattle.exact_plane.specs.declared.segment.SegmentError.{SegmentError}
+use Rattle.plane_graphs.specs.Graph.{Edge, curves}
+use Rattle.edit_steps.specs.Edits.{Edit, Insert}
+use Rattle.edit_steps.specs.Refusals.{Refusal}
+use Rattle.script_lines.specs.declared.command.Command.{Command}
+use Rattle.planar_run.specs.Text.{line_of, spaced, curve_text}
+use Rattle.planar_run.specs.World.{World}
+use Rattle.planar_run.specs.Premises.{graph_of, is_named, is_edge}
+use Rattle.planar_run.specs.Refusals.{refusal_of, refusal_number}
+use Rattle.planar_run.specs.Observers.{seat_refusal, is_above, is_seated}
+use Rattle.planar_run.specs.Answer.{Answer, AreOfEdit, refused, said, edited, edited_unless, edges_along, curves_told, curve_told, segment_refusal, unless, IsAnswered, IsDrawn, IsObeyed, MayDraw}
+
+-- the bytes and the world of an answer
+abbrev Gives : Answer → List ℕ → World → Type 0
+Gives a text after = (text ≡ a.text) × (after ≡ a.world)
+
+refusal_given : (n : ℕ) (w after : World) (text : List ℕ) (a : Answer) → a ≡ refused n w → text ≡ line_of (codes "refused " ++ decimal n) → after ≡ w → Gives a text after
+refusal_given n w after text a is t s = (t ∙ ap (λ (a : Answer). a.text) (sym is), s ∙ ap (λ (a : Answer). a.world) (sym is))
+
+-- ---- edits
+-- an edit that is refused
+pub not_edited : (ok : List ℕ) (e : Edit) (r : Refusal) {w after : World} {text : List ℕ} → Some r ≡ refusal_of w e → text ≡ line_of (codes "refused " ++ decimal (refusal_number r)) → after ≡ w →
+    (losses : List (List ℕ)) × AreOfEdit losses e w × (text ≡ (edited ok e losses w).text) × (after ≡ (edited ok e losses w).world)
+not_edited ok e r {w = w} {after = after} {text = text} h t s =
+    let g : Gives (edited ok e [] w) text after = refusal_given (refusal_number r) w after text (edited ok e [] w) (ap (λ o. edited_unless o ok e [] w) (sym h)) t s in
+    ([], λ none. cc, g.0, g.1)
+
+-- a segment that is refused
+pub not_inserted : (s : Segment) (r : Refusal) {w after : World} {text : List ℕ} → Some r ≡ refusal_of w (Insert w.layer.next s) → text ≡ line_of (codes "refused " ++ decimal (refusal_number r)) → after ≡ w → IsDrawn (Ok s) w text after
+not_inserted s r {w = w} h t e = not_edited (codes "ok " ++ decimal w.layer.next) (Insert w.layer.next s) r h t e
+
+-- what is no segment
+pub not_drawn : (e : SegmentError) {r : Result Segment SegmentError} {text : List ℕ} (w : World) → Err e ≡ r → text ≡ line_of (codes "refused " ++ decimal (segment_refusal e)) → IsDrawn r w text w
+not_drawn e {text = text} w is t = subst (λ r. IsDrawn r w text w) is ([], tt, t, refl)
+
+-- ---- questions
+told_by : (b c : Bool) (x y : Answer) → b ≡ c → (if b then x else y) ≡ (if c then x else y)
+told_by b c x y e = ap (λ (b : Bool). if b then x else y) e
+
+-- an edge that isn't there
+pub no_edge_told : (e : Edge) (w : World) {text : List ℕ} → is_edge e w ≡ false → text ≡ line_of (codes "refused " ++ decimal 9) → List (List ℕ) × Unit {0} × (text ≡ (curves_told e w).text) × (w ≡ (curves_told e w).world)
+no_edge_told e w {text = text} h t =
+    let g : Gives (curves_told e w) text w = refusal_given 9 w w text (curves_told e w) (told_by (is_edge e w) false (said (line_of (codes "curves" ++ spaced (curves (graph_of w) e.low e.high))) w) (refused 9 w) h) t refl in
+    ([], tt, g.0, g.1)
+
+-- a curve that isn't there
+pub no_curve_told : (c : ℕ) (w : World) {text : List ℕ} → is_named c w ≡ false → text ≡ line_of (codes "refused " ++ decimal 8) → List (List ℕ) × Unit {0} × (text ≡ (curve_told c w).text) × (w ≡ (curve_told c w).world)
+no_curve_told c w {text = text} h t =
+    let g : Gives (curve_told c w) text w = refusal_given 8 w w text (curve_told c w) (told_by (is_named c w) false (said (curve_text c (edges_along c (graph_of w))) w) (refused 8 w) h) t refl in
+    ([], tt, g.0, g.1)
+
+-- ---- lines on observers
+-- a line that there is a reason to refuse
+pub not_obeyed : (n : ℕ) {reason : Option ℕ} (a : Answer) {w after : World} {text : List ℕ} → Some n ≡ reason → text ≡ line_of (codes "refused " ++ decimal n) → after ≡ w → List (List ℕ) × Unit {0} × (text ≡ (unless reason a w).text) × (after ≡ (unless reason a w).world)
+not_obeyed n a {w = w} {after = after} {text = text} h t s =
+    subst (λ o. List (List ℕ) × Unit {0} × (text ≡ (unless o a w).text) × (after ≡ (unless o a w).world)) h ([], tt, t, s)
+
+-- an observer that wasn't handed in
+above_refused : (b : Bool) (x y : Option ℕ) → false ≡ not b → x ≡ (if b then x else y)
+above_refused true x y h = refl
+above_refused false x y h = cc
+
+pub none_handed_in : (i : ℕ) (w : World) → false ≡ not (is_above i w) → Some 14 ≡ seat_refusal i w
+none_handed_in i w h = above_refused (is_above i w) (Some 14) (if is_seated i w then None else Some 16) h
+
+-- one that was, and isn't seated
+unseated_refused : (b c : Bool) (x y z : Option ℕ) → true ≡ not b → c ≡ false → z ≡ (if b then x else (if c then y else z))
+unseated_refused true c x y z h s = cc
+unseated_refused false true x y z h s = cc
+unseated_refused false false x y z h s = refl
+
+pub none_seated : (i : ℕ) (w : World) → true ≡ not (is_above i w) → is_seated i w ≡ false → Some 16 ≡ seat_refusal i w
+none_seated i w h s = unseated_refused (is_above i w) (is_seated i w) (Some 14) None (Some 16) h s
+
+-- ---- numbers in decimal
+pub four : codes "refused 4" ++ 10 ∷ [] ≡ line_of (codes "refused " ++ decimal 4)
+unfolding digits
+four = refl
+
+pub seven : codes "refused 7" ++ 10 ∷ [] ≡ line_of (codes "refused " ++ decimal 7)
+unfolding digits
+seven = refl
+
+pub eight : codes "refused 8" ++ 10 ∷ [] ≡ line_of (codes "refused " ++ decimal 8)
+unfolding digits
+eight = refl
+
+pub nine : codes "refused 9" ++ 10 ∷ [] ≡ line_of (codes "refused " ++ decimal 9)
+unfolding digits
+nine = refl
+
+pub ten : codes "refused 10" ++ 10 ∷ [] ≡ line_of (codes "refused " ++ decimal 10)
+unfolding digits
+ten = refl
+
+pub eleven : codes "refused 11" ++ 10 ∷ [] ≡ line_of (codes "refused " ++ decimal 11)
+unfolding digits
+eleven = refl
+
+pub twelve : codes "refused 12" ++ 10 ∷ [] ≡ line_of (codes "refused " ++ decimal 12)
+unfolding digits
+twelve = refl
+
+pub thirteen : codes "refused 13" ++ 10 ∷ [] ≡ line_of (codes "refused " ++ decimal 13)
+unfolding digits
+thirteen = refl
+
+pub fourteen : codes "refused 14" ++ 10 ∷ [] ≡ line_of (codes "refused " ++ decimal 14)
+unfolding digits
+fourteen = refl
+
+pub fifteen : codes "refused 15" ++ 10 ∷ [] ≡ line_of (codes "refused " ++ decimal 15)
+unfolding digits
+fifteen = refl
+
+pub sixteen : codes "refused 16" ++ 10 ∷ [] ≡ line_of (codes "refused " ++ decimal 16)
+unfolding digits
+sixteen = refl
+
+pub seventeen : codes "refused 17" ++ 10 ∷ [] ≡ line_of (codes "refused " ++ decimal 17)
+unfolding digits
+seventeen = refl
+
+pub eighteen : codes "refused 18" ++ 10 ∷ [] ≡ line_of (codes "refused " ++ decimal 18)
+unfolding digits
+eighteen = refl
+
+-- ---- segments
+-- four numbers that are four others
+pub same_segment : (a b c d x y z w : ℤ) → a ≡ x → b ≡ y → c ≡ z → d ≡ w → segment_of a b c d ≡ segment_of x y z w
+same_segment a b c d x y z w e f g h = λ i. segment_of (e i) (f i) (g i) (h i)
+
+-- what is said of a segment's result is said of one that is the same
+pub drawn_by : {T E : Type 0} (o : Result T E) (r s : Result Segment SegmentError) (w : World) (text : List ℕ) (after : World) → r ≡ s → OnOk o (IsDrawn r w text after) → OnOk o (IsDrawn s w text after)
+drawn_by o r s w text after is h = subst (λ r. OnOk o (IsDrawn r w text after)) is h
+
+pub undrawn_by : {T E : Type 0} (o : Result T E) (r s : Result Segment SegmentError) (w after : World) → r ≡ s → OnErr o (MayDraw r w × (after ≡ w)) → OnErr o (MayDraw s w × (after ≡ w))
+undrawn_by o r s w after is h = subst (λ r. OnErr o (MayDraw r w × (after ≡ w))) is h
+
+-- ---- all lines
+-- what is answered as it asks is obeyed, by whatever command it is
+pub obeyed_by : {T E : Type 0} (o : Result T E) (c d : Command) (w : World) (text : List ℕ) (after : World) → c ≡ d → OnOk o (IsAnswered w (Ok d) text after) → OnOk o (IsObeyed w (Ok c) text after)
+obeyed_by (Ok x) c d w text after e h = inl (subst (λ c. IsAnswered w (Ok c) text after) (sym e) h)
+obeyed_by (Err y) c d w text after e h = tt

@@ -1,0 +1,43 @@
+-- The world of a script in memory, as contracts see it.
+use Rattle.std.specs.Prelude.{◌≡◌, ◌≤◌, Bool, List, Option, length, map, option_map, ℕ}
+use Rattle.std.specs.declared.alloc.Global.{Global}
+use Rattle.std.specs.declared.dyn_box.DynBox.{DynBox}
+use Rattle.arr_notes.specs.CurvedView.{CurvedView}
+use Rattle.arr_notes.specs.declared.note.Note.{Note}
+use Rattle.arrangement.specs.Arranged.{arranged, layer_in, Arranged, IsWatched}
+use Rattle.arrangement.specs.declared.limits.TheConstants.Limits.{FULL}
+use Rattle.observer_bus.specs.Seats.{SeatRow}
+use Rattle.planar_run.specs.World.{Seat, Waiting, World as Built}
+use Rattle.planar_run.specs.declared.world.World.{World}
+
+-- what a script knows of a seat
+abbrev pub seat_row : SeatRow → Seat
+seat_row s = record { name = s.name; join = s.join; leave = s.leave; tells = s.tells; left = s.left }
+
+-- what a script knows of an arrangement, and of the observers that wait
+abbrev pub built : Arranged → List (Option Waiting) → Built
+built a waiting = record { layer = layer_in a; seats = map seat_row a.bus.seats; waiting = waiting }
+
+-- the limits are those of a script, at most eight observers are seated or planned, and each seated one that tells a view holds that of the records (this project)
+pub record IsKept (a : Arranged) : Type 0 where
+  pub limits : a.limits ≡ FULL
+  pub few : length a.bus.seats ≤ 8
+  pub watched : IsWatched a
+
+module _ {X : Type 0} {F : X → Type 0} where
+  -- an observer, as it waits
+  abbrev pub waiting_row : (DynBox X Global F → Bool) → (DynBox X Global F → Option ℕ) → DynBox X Global F → Waiting
+  waiting_row tells left b = record { tells = tells b; left = left b }
+
+  -- observers, as they wait
+  abbrev pub waiting_rows : (DynBox X Global F → Bool) → (DynBox X Global F → Option ℕ) → List (DynBox X Global F) → List Waiting
+  waiting_rows tells left bs = map (waiting_row tells left) bs
+
+module _ {X : Type 0} {F : X → Type 0} (tells : DynBox X Global F → Bool) (held : DynBox X Global F → Option CurvedView) (left : DynBox X Global F → Option ℕ) (heard : DynBox X Global F → Option (List Note)) where
+  -- the arrangement of a world
+  abbrev pub arranged_row : World X F → Arranged
+  arranged_row w = arranged tells held left heard w.arrangement
+
+  -- a world as contracts see it
+  abbrev pub world_row : World X F → Built
+  world_row w = built (arranged_row w) (map (option_map (waiting_row tells left)) w.observers.items)

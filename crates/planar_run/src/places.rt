@@ -1,0 +1,132 @@
+ghost use Rattle.std.specs.Prelude.{◌≡◌, ◌≢◌, ◌↔◌, ◌<◌, ◌≤◌, Err, Some, None, false, not, get_or, is_ok, length, map, set, IfOk, OnErr, OnOk};
+ghost use Rattle.planar_run.specs.Observers.{attach_number, attach_refusal, attached, error_number, is_above, is_seated, leaving, IsAttachAnswer, IsReportIn};
+ghost use Rattle.planar_run.specs.Rows.{arranged_row, world_row, IsKept};
+
+use crate::world::World;
+use arr_notes::Observer;
+use arrangement::{AttachError, NoSeat, ReportError};
+use no_memory::NoMemory;
+use std::alloc::Global;
+
+/// Why an observer isn't attached.
+#[derive(Clone, Copy, Debug, PartialEq, Eq)]
+pub enum AttachRefusal {
+    /// There is none of the number, or it has left or was lost.
+    Gone,
+    /// It is seated, or its join is planned.
+    Taken,
+    /// Eight are seated or planned.
+    Full,
+    /// There was no memory, or the observer found none.
+    NoMemory,
+}
+
+// The refusal that a bus's error is.
+fn refusal_of(error: AttachError) -> AttachRefusal
+    ensures { attach_number result ≡ error_number error }
+{
+    match error {
+        AttachError::Taken => AttachRefusal::Taken,
+        AttachError::Full(_) => AttachRefusal::Full,
+        AttachError::NoMemory => AttachRefusal::NoMemory,
+    }
+}
+
+/// Observers that wait, each at its place.
+pub fn all_waiting(
+    alloc: Global,
+    observers: Vec<Box<dyn Observer>>,
+) -> Result<Vec<Option<Box<dyn Observer>>>, NoMemory>
+    ensures { IfOk result (λ v. v.items ≡ map Some observers.items) }
+{
+    let mut places = Vec::with_capacity(alloc, observers.len())?;
+    for observer in observers {
+        places.push_reserved(Some(observer));
+    }
+    Ok(places)
+}
+
+// The observer that waits at a place, if one does. None waits there from now on.
+fn take_waiting(
+    observers: &mut Vec<Option<Box<dyn Observer>>>,
+    place: usize,
+) -> Option<Box<dyn Observer>>
+    requires { place < length observers.old.items }
+    ensures value { result ≡ get_or observers.old.items place None }
+    ensures after { observers.new.items ≡ set observers.old.items place None }
+{
+    observers[place].take()
+}
+
+// An observer waits at a place.
+fn put_waiting(
+    observers: &mut Vec<Option<Box<dyn Observer>>>,
+    place: usize,
+    observer: Box<dyn Observer>,
+)
+    requires { place < length observers.old.items }
+    ensures { observers.new.items ≡ set observers.old.items place (Some observer) }
+{
+    observers[place] = Some(observer);
+}
+
+impl World {
+    /// Whether so many observers were handed in.
+    pub fn has(&self, number: u32) -> bool
+        ensures { result ≡ not (is_above number (world_row tells held left heard self.now)) }
+    {
+        number as usize <= self.observers.len()
+    }
+
+    /// Seats an observer that waits, or plans its join.
+    pub fn attach(&mut self, number: u32, when: Option<u32>) -> Result<(), AttachRefusal>
+        requires number { 1 ≤ number }
+        requires when { when ≢ Some 0 }
+        requires kept { IsKept (arranged_row tells held left heard self.old) }
+        ensures refused { IsAttachAnswer (attach_refusal number (world_row tells held left heard self.old)) result }
+        ensures attached { OnOk result (world_row tells held left heard self.new ≡ attached number when (world_row tells held left heard self.old)) }
+        ensures err { OnErr result (world_row tells held left heard self.new ≡ world_row tells held left heard self.old) }
+        ensures kept { IsKept (arranged_row tells held left heard self.new) }
+    {
+        if !self.has(number) {
+            return Err(AttachRefusal::Gone);
+        }
+        let place = number as usize - 1;
+        match take_waiting(&mut self.observers, place) {
+            None => {
+                if self.arrangement.is_attached(number) {
+                    return Err(AttachRefusal::Taken);
+                }
+                Err(AttachRefusal::Gone)
+            }
+            Some(observer) => match self.arrangement.attach(number, observer, when) {
+                Ok(()) => Ok(()),
+                Err((observer, error)) => {
+                    put_waiting(&mut self.observers, place, observer);
+                    Err(refusal_of(error))
+                }
+            },
+        }
+    }
+
+    /// Lets a seated observer go, or plans it. It takes no memory.
+    pub fn leave(&mut self, number: u32, when: Option<u32>) -> Result<(), NoSeat>
+        requires when { when ≢ Some 0 }
+        requires kept { IsKept (arranged_row tells held left heard self.old) }
+        ensures seated { is_ok result ≡ is_seated number (world_row tells held left heard self.old) }
+        ensures left { OnOk result (world_row tells held left heard self.new ≡ leaving number when (world_row tells held left heard self.old)) }
+        ensures err { OnErr result (world_row tells held left heard self.new ≡ world_row tells held left heard self.old) }
+        ensures kept { IsKept (arranged_row tells held left heard self.new) }
+    {
+        self.arrangement.leave(number, when)
+    }
+
+    /// The report of a seated observer.
+    pub fn report(&self, number: u32) -> Result<Vec<u8>, ReportError>
+        requires kept { IsKept (arranged_row tells held left heard self.now) }
+        ensures seat { (result ≡ Err ReportError.NoSeat) ↔ (is_seated number (world_row tells held left heard self.now) ≡ false) }
+        ensures report { IfOk result (λ b. IsReportIn number (world_row tells held left heard self.now) b.items) }
+    {
+        self.arrangement.report(number)
+    }
+}
