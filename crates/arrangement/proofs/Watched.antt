@@ -1,5 +1,5 @@
 -- What observers that hold the view of a layer go on holding, and what they report.
-use Rattle.std.proofs.Common.{◌≡◌, ℕ, Bool, true, false, cond, ◌&&◌, is_none, List, [], ◌∷◌, ◌++◌, map, Option, Some, None, All, refl, sym, ap, ◌∙◌, subst, Result, Ok, Err}
+use Rattle.std.proofs.Common.{◌≡◌, ℕ, Bool, true, false, cond, List, [], ◌∷◌, ◌++◌, map, Option, Some, None, All, refl, sym, ap, ◌∙◌, subst, Result, Ok, Err}
 use Rattle.std.specs.Prelude.{IfOk, OnOk, OnErr}
 use Rattle.std.specs.List.{AllByRecursion}
 use Rattle.std.proofs.lemmas.List.Elements.{recursion_from_All, All-from_recursion}
@@ -15,6 +15,7 @@ use Rattle.record_layers.specs.RecordLayers.{IsLayer, layer_of}
 use Rattle.observer_bus.specs.Calls.{IsAttached, IsHeldSound, IsPlaced, IsReport, is_seat_of, seat_of, seats_left, with_leave, with_seats}
 use Rattle.observer_bus.specs.Rounds.{BusRow}
 use Rattle.observer_bus.specs.Seats.{SeatRow, Holds}
+use Rattle.observer_bus.proofs.Seating.{no_plan}
 use Rattle.told_steps.specs.ToldRuns.{seen}
 use Rattle.arrangement.specs.Arranged.{Arranged, IsWatched}
 use Rattle.arrangement.specs.Questions.{IsReportOf}
@@ -81,17 +82,13 @@ same_view w u e = cc
 pub held_sound : (w : CurvedView) (ss : List SeatRow) → IsSoundView w → All (Holds w) ss → All IsHeldSound ss
 held_sound w ss sound h = λ k d lt j t u held. subst IsSoundView (same_view w u (sym (h k d lt j t) ∙ held)) sound
 
-seated : (j : Option ℕ) (b : Bool) → (is_none j && b) ≡ true → j ≡ None
-seated None b e = refl
-seated (Some k) b e = cc
-
 module _ (a : Arranged) (l : IsLayer a.graph a.past) (k : ℕ) (bytes : List ℕ) where
   abbrev view : CurvedView
   view = seen a.graph (curves_on a.past)
 
   report_step : (b : Bool) (s : SeatRow) (ss : List SeatRow) → is_seat_of k s ≡ b → Holds view s → (IsReport bytes (seat_of k ss) → IsReportOf a (seat_of k ss) bytes) →
       IsReport bytes (cond b (Some s) (seat_of k ss)) → IsReportOf a (cond b (Some s) (seat_of k ss)) bytes
-  report_step true s ss e h rest r = λ t. r t view (h (seated s.join _ e) t) ∙ seen_text a.graph a.past l
+  report_step true s ss e h rest r = λ t. r t view (h (no_plan s.join _ e) t) ∙ seen_text a.graph a.past l
   report_step false s ss e h rest r = rest r
 
   pub report_by : (ss : List SeatRow) → AllByRecursion (Holds view) ss → IsReport bytes (seat_of k ss) → IsReportOf a (seat_of k ss) bytes

@@ -81,7 +81,7 @@ impl Arrangement {
     /// # Errors
     ///
     /// The point lies in a face, and there was no memory for the subdivision.
-    // A call without a premise that has a box under `&mut` is taken to make one by the checks of other crates.
+    // The premise that always holds: other crates' checks take a call without any that has a box under `&mut` for one that makes boxes.
     pub fn locate(&mut self, strategy: Strategy, p: &Point) -> Result<Cell, NoMemory>
         requires always { ⊤ }
         ensures cell { IfOk result (λ c. c ≡ holds (subdivision_by (arranged_of tells held left heard self.old)) p.now) }

@@ -1,11 +1,11 @@
 -- The curves of an edge, asked of either of its darts.
-use Rattle.std.proofs.Common.{◌≡◌, ◌≢◌, ◌↔◌, Result, Ok, Err, IfOk, Bool, true, false, not, List, [], ◌∷◌, map, if◌then◌else◌, refl, sym, ap, subst, ◌∙◌, Ordering}
-use Rattle.std.specs.List.Sorted.{IsStrictlyIncreasing, IsStrictlySortedBy}
+use Rattle.std.proofs.Common.{◌≡◌, ◌≢◌, ◌↔◌, Result, Ok, Err, IfOk, Bool, true, false, not, List, [], ◌∷◌, map, if◌then◌else◌, refl, sym, ap, subst, ◌∙◌}
+use Rattle.std.specs.List.Sorted.{IsStrictlyIncreasing}
 use Rattle.std.specs.declared.vec.Vec.{Vec}
 use Rattle.std.specs.Ordering.{nat_cmp}
 use Rattle.std.proofs.lemmas.Bool.{false≢true}
 use Rattle.std.proofs.lemmas.Map.Keys.{IsStrictlyIncreasing-from_sorted}
-use Rattle.plane_graphs.specs.Ascending.{IsAscending}
+use Rattle.plane_graphs.proofs.Ascending.{to_std}
 use Rattle.slab_laws.specs.declared.names.CurveId.{CurveId}
 use Rattle.slab_laws.specs.declared.names.DartId.{DartId}
 use Rattle.slab_laws.specs.View.{View, HasDart, twin_in, curve_id}
@@ -15,11 +15,6 @@ use Rattle.arr_notes.proofs.Names.{numbers_of}
 use Rattle.curve_history.specs.Past.{Past, curves_on}
 use Rattle.curve_history.specs.DrawnRecords.{forward_of, curves_in, IsTold, DrawnRecords}
 use Rattle.integers.proofs.Tests.{not_true}
-
-to_std : {X : Type 0} (cmp : X → X → Ordering) (xs : List X) → IsAscending cmp xs → IsStrictlySortedBy cmp xs
-unfolding IsStrictlySortedBy
-to_std cmp [] a = tt
-to_std cmp (x ∷ xs) a = (a.0, to_std cmp xs a.1)
 
 ids_of : (cs : List CurveId) → cs ≡ map curve_id (map (λ (c : CurveId). c.0) cs)
 ids_of [] = refl

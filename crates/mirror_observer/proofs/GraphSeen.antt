@@ -4,11 +4,12 @@ use Rattle.std.specs.Prelude.{flat_map, filter}
 use Rattle.exact_plane.specs.PointOrder.{point_cmp}
 use Rattle.plane_graphs.specs.Graph.{mark, mark_cmp}
 use Rattle.slab_laws.specs.Sound.{points_of}
-use Rattle.std.specs.List.Sorted.{IsStrictlyIncreasing, IsStrictlySortedBy}
+use Rattle.std.specs.List.Sorted.{IsStrictlyIncreasing}
 use Rattle.std.proofs.lemmas.Bool.{false≢true}
 use Rattle.std.proofs.lemmas.Map.Keys.{IsStrictlyIncreasing-from_sorted}
 use Rattle.plane_graphs.specs.Ascending.{Member, IsAscending, ascending}
 use Rattle.plane_graphs.specs.Plane.{IsPlane}
+use Rattle.plane_graphs.proofs.Ascending.{to_std}
 use Rattle.slab_laws.specs.declared.names.CurveId.{CurveId}
 use Rattle.slab_laws.specs.declared.names.DartId.{DartId}
 use Rattle.slab_laws.specs.Tables.{row_at}
@@ -42,11 +43,6 @@ either_way (Some ks) (Some js) h = absurd (h refl refl)
 found_ascend : (o p : Option (List ℕ)) → IsAscending nat_cmp (curves_or o) → IsAscending nat_cmp (curves_or p) → IsAscending nat_cmp (curves_found o p)
 found_ascend None p a b = b
 found_ascend (Some ks) p a b = a
-
-sorted : (ks : List ℕ) → IsAscending nat_cmp ks → IsStrictlySortedBy nat_cmp ks
-unfolding IsStrictlySortedBy
-sorted [] a = tt
-sorted (k ∷ ks) a = (a.0, sorted ks a.1)
 
 none_found : (o : Option (List ℕ)) → (IsSome o → ⊥) → curves_or o ≡ []
 none_found None h = refl
@@ -97,7 +93,7 @@ module _ (w : CurvedView) (s : IsSoundView w) where
   pub list_ascends : (d : DartId) → IsStrictlyIncreasing (map (λ (c : CurveId). c.0) (curve_list_of w d))
   list_ascends d =
       let a : IsAscending nat_cmp (curves_at_edge w d) = found_ascend (row_at w.curves d.0) (row_at w.curves (twin_in w.graph d).0) (s.curves.ascend d) (s.curves.ascend (twin_in w.graph d)) in
-      subst IsStrictlyIncreasing (sym (number_list d)) (IsStrictlyIncreasing-from_sorted (curves_at_edge w d) (sorted (curves_at_edge w d) a))
+      subst IsStrictlyIncreasing (sym (number_list d)) (IsStrictlyIncreasing-from_sorted (curves_at_edge w d) (to_std nat_cmp (curves_at_edge w d) a))
 
   pub twins_alike : (d : DartId) → HasDart w.graph d → curve_list_of w (twin_in w.graph d) ≡ curve_list_of w d
   twins_alike d h =

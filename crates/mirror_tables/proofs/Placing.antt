@@ -4,6 +4,7 @@ use Rattle.std.specs.Prelude.{not}
 use Rattle.std.specs.Ordering.{match_ordering}
 use Rattle.std.proofs.lemmas.List.{at_drop_more, at_drop_all}
 use Rattle.plane_graphs.specs.Ascending.{place}
+use Rattle.plane_graphs.proofs.Ascending.{place_none}
 use Rattle.plane_graphs.specs.Graph.{same_curve}
 use Rattle.slab_laws.specs.declared.names.CurveId.{CurveId}
 use Rattle.mirror_tables.specs.Tables.{numbers_in}
@@ -19,10 +20,6 @@ push_then ms us c rest e = ap (λ z. numbers_in z ++ rest) e ∙ at_end ms
 place_next : (c x : ℕ) (rest : List ℕ) → place nat_cmp c (x ∷ rest) ≡ match_ordering (nat_cmp c x) (c ∷ x ∷ rest) (x ∷ rest) (x ∷ place nat_cmp c rest)
 unfolding place
 place_next c x rest = refl
-
-place_last : (c : ℕ) → place nat_cmp c [] ≡ c ∷ []
-unfolding place
-place_last c = refl
 
 module _ (c : CurveId) (x : CurveId) (come : Bool) (not_yet : come ≡ false) (rest : List ℕ) where
   placing : (o : Ordering) → nat_cmp c.0 x.0 ≡ o → placed_from c.0 come (x.0 ∷ rest) ≡ match_ordering o (c.0 ∷ x.0 ∷ rest) (x.0 ∷ rest) (x.0 ∷ place nat_cmp c.0 rest)
@@ -50,7 +47,7 @@ pub gained_all : (F : List ℕ → List ℕ) (all : List ℕ) (xs : List CurveId
 gained_all F all xs i ms l e = sym (at_drop_all (λ ys. numbers_in ms ++ F (numbers_in ys)) xs i l) ∙ e
 
 pub last_placed : (c : CurveId) (come : Bool) (ms us : List CurveId) → come ≡ false → us ≡ ms ++ c ∷ [] → numbers_in us ≡ numbers_in ms ++ placed_from c.0 come []
-last_placed c come ms us n d = sym (append-nil (numbers_in us)) ∙ push_then ms us c [] d ∙ ap (λ z. numbers_in ms ++ z) (sym (place_last c.0)) ∙ ap (λ b. numbers_in ms ++ placed_from c.0 b []) (sym n)
+last_placed c come ms us n d = sym (append-nil (numbers_in us)) ∙ push_then ms us c [] d ∙ ap (λ z. numbers_in ms ++ z) (sym (place_none nat_cmp c.0)) ∙ ap (λ b. numbers_in ms ++ placed_from c.0 b []) (sym n)
 
 pub none_placed : (c : ℕ) (come : Bool) (ms : List CurveId) → come ≡ true → numbers_in ms ≡ numbers_in ms ++ placed_from c come []
 none_placed c come ms n = sym (append-nil (numbers_in ms)) ∙ ap (λ b. numbers_in ms ++ placed_from c b []) (sym n)

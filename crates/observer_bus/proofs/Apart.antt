@@ -1,6 +1,7 @@
 -- Names of seats stay apart.
-use Rattle.std.proofs.Common.{◌≡◌, ℕ, ◌+◌, ◌<◌, ◌==◌, ◌||◌, Bool, true, false, List, [], ◌∷◌, ◌++◌, Option, None, Some, length, take, drop, set, map, get_or, refl, sym, ap, ◌∙◌, subst}
+use Rattle.std.proofs.Common.{◌≡◌, ℕ, ◌+◌, ◌<◌, ◌==◌, Bool, true, false, List, [], ◌∷◌, ◌++◌, Option, None, Some, length, take, drop, set, map, get_or, refl, sym, ap, ◌∙◌, subst}
 use Rattle.std.specs.List.{AllByRecursion, IsDistinct, list_any}
+use Rattle.std.proofs.lemmas.Bool.{or_parts}
 use Rattle.std.proofs.lemmas.List.{map-append}
 use Rattle.std.proofs.lemmas.Simd.{map-map}
 use Rattle.arr_notes.specs.CurvedView.{CurvedView}
@@ -20,10 +21,6 @@ placed_name None w s t p = p.name
 placed_name (Some k) w s t p = ap (λ r. r.name) p
 
 -- ---- lists of names
-or_false : (b c : Bool) → (b || c) ≡ false → (b ≡ false) × (c ≡ false)
-or_false true c e = cc
-or_false false c e = (refl, e)
-
 all_last : (P : ℕ → Type 0) (ks : List ℕ) (k : ℕ) → AllByRecursion P ks → P k → AllByRecursion P (ks ++ k ∷ [])
 all_last P [] k a p = (p, tt)
 all_last P (y ∷ ks) k a p = (a.0, all_last P ks k a.1 p)
@@ -36,7 +33,7 @@ apart_last : (ks : List ℕ) (k : ℕ) → IsDistinct ◌==◌ ks → list_any (
 unfolding IsDistinct
 apart_last [] k h e = (tt, tt)
 apart_last (x ∷ ks) k h e =
-    let p = or_false (x == k) (list_any (λ m. m == k) ks) e in
+    let p = or_parts (x == k) (list_any (λ m. m == k) ks) e in
     (all_last (λ y. (x == y) ≡ false) ks k h.0 p.0, apart_last ks k h.1 p.1)
 
 apart_without : (js : List ℕ) (k : ℕ) (ks : List ℕ) → IsDistinct ◌==◌ (js ++ k ∷ ks) → IsDistinct ◌==◌ (js ++ ks)

@@ -6,6 +6,7 @@ use Rattle.std.proofs.Math.Seq.{drop-cons, take-suc}
 use Rattle.std.specs.Ordering.{nat_cmp, match_ordering}
 use Rattle.std.specs.Cmp.{nat_cmp_is}
 use Rattle.plane_graphs.specs.Ascending.{place}
+use Rattle.plane_graphs.proofs.Ascending.{place_none}
 use Rattle.observer_bus.specs.Rounds.{noted}
 use Rattle.observer_bus.specs.declared.seat.Fate.{Fate}
 use Rattle.observer_bus.specs.declared.seat.Fate.TheVariants.{Told, ToldLast, LeftUntold, Joined, Waits, Lost}
@@ -24,10 +25,6 @@ place_more : (k y : ℕ) (ys : List ℕ) → y < k → place nat_cmp k (y ∷ ys
 unfolding place
 place_more k y ys e = ap (λ t. match_ordering t (k ∷ y ∷ ys) (y ∷ ys) (y ∷ place nat_cmp k ys)) (sym (nat_cmp_is k y Greater e))
 
-place_none : (k : ℕ) → place nat_cmp k [] ≡ k ∷ []
-unfolding place
-place_none k = refl
-
 -- two names below a third, or alone
 before_both : (k m : ℕ) (ys zs : List ℕ) → place nat_cmp k ys ≡ k ∷ ys → place nat_cmp m ys ≡ m ∷ ys → place nat_cmp k (m ∷ ys) ≡ place nat_cmp m (k ∷ ys)
 before_both k m ys zs p q = elim (cases_order k m) [
@@ -43,7 +40,7 @@ before_one k m y ys e le zs q =
 
 -- in which order names come to a list doesn't show
 pub place_swap : (k m : ℕ) (ys : List ℕ) → place nat_cmp k (place nat_cmp m ys) ≡ place nat_cmp m (place nat_cmp k ys)
-place_swap k m [] = ap (place nat_cmp k) (place_none m) ∙ before_both k m [] [] (place_none k) (place_none m) ∙ ap (place nat_cmp m) (sym (place_none k))
+place_swap k m [] = ap (place nat_cmp k) (place_none nat_cmp m) ∙ before_both k m [] [] (place_none nat_cmp k) (place_none nat_cmp m) ∙ ap (place nat_cmp m) (sym (place_none nat_cmp k))
 place_swap k m (y ∷ ys) = elim (cases_order k y) [
   | inr (inl e) ↦ elim (cases_order m y) [
     | inr (inl f) ↦ ap (place nat_cmp k) (place_less m y ys f) ∙ before_both k m (y ∷ ys) [] (place_less k y ys e) (place_less m y ys f) ∙ ap (place nat_cmp m) (sym (place_less k y ys e))
@@ -64,7 +61,7 @@ place_swap k m (y ∷ ys) = elim (cases_order k y) [
 
 -- a list grows by at most one
 pub length_place : (k : ℕ) (ys : List ℕ) → length (place nat_cmp k ys) ≤ length ys + 1
-length_place k [] = rw (place_none k) (omega arith)
+length_place k [] = rw (place_none nat_cmp k) (omega arith)
 length_place k (y ∷ ys) = elim (cases_order k y) [
   | inr (inl e) ↦ rw (place_less k y ys e) (omega arith)
   | inl e ↦ rw (place_same k y ys e) (omega arith)
@@ -102,7 +99,7 @@ module _ (k : ℕ) (names : List ℕ) (i : ℕ) (h : place nat_cmp k names ≡ t
       let t : take i names ≡ names = take_all i names le in
       let d : drop i names ≡ [] = drop_all i names le in
       h ∙ ap (λ xs. xs ++ place nat_cmp k (drop i names)) (t ∙ sym (take_all (length names) names (omega arith))) ∙
-      ap (λ xs. take (length names) names ++ place nat_cmp k xs) d ∙ ap (λ xs. take (length names) names ++ xs) (place_none k) ∙
+      ap (λ xs. take (length names) names ++ place nat_cmp k xs) d ∙ ap (λ xs. take (length names) names ++ xs) (place_none nat_cmp k) ∙
       ap (λ xs. take (length names) names ++ k ∷ xs) (sym (drop_all (length names) names (omega arith)))
 
 -- ---- fates noted

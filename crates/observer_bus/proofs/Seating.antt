@@ -62,7 +62,7 @@ at_index p xs i s here h = subst (λ x. p x ≡ true) (sym here) (h s)
 not_eight : (n : ℕ) → n ≢ 8 → (n == 8) ≡ false
 not_eight n h = elim (cases_Bool (n == 8)) [ inl e ↦ absurd (h (eqb-true n 8 e)) | inr e ↦ e ]
 
-no_plan : (j : Option ℕ) (b : Bool) → (is_none j && b) ≡ true → j ≡ None
+pub no_plan : (j : Option ℕ) (b : Bool) → (is_none j && b) ≡ true → j ≡ None
 no_plan None b e = refl
 no_plan (Some k) b e = cc
 

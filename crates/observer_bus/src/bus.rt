@@ -135,7 +135,7 @@ impl Bus {
     }
 
     /// An accepted edit begins: what became of observers is forgotten. It takes no memory.
-    // A call without a premise that has a box under `&mut` is taken to make one by the checks of other crates.
+    // The premise that always holds: other crates' checks take a call without any that has a box under `&mut` for one that makes boxes.
     pub fn begin(&mut self)
         requires always { ⊤ }
         ensures begun { bus_row tells held left heard self.new ≡ begun (bus_row tells held left heard self.old) }

@@ -2,7 +2,7 @@
 use Rattle.std.proofs.Common.{◌≡◌, ℕ, Bool, true, false, cond, refl, sym, ap, subst, ◌∙◌, List, [], ◌∷◌, map, get_or}
 use Rattle.std.specs.Prelude.{◌&&◌, filter}
 use Rattle.std.specs.List.{AllByRecursion}
-use Rattle.std.specs.List.Sorted.{IsStrictlyIncreasing, IsStrictlySortedBy}
+use Rattle.std.specs.List.Sorted.{IsStrictlyIncreasing}
 use Rattle.std.specs.Ordering.{nat_cmp, int_eq, ordering_then}
 use Rattle.std.specs.Cmp.{tied_itself}
 use Rattle.std.specs.declared.cmp.Ordering.TheVariants.{Less, Equal}
@@ -14,6 +14,7 @@ use Rattle.exact_plane.specs.Point.{Point}
 use Rattle.exact_plane.specs.PointOrder.{point_cmp}
 use Rattle.exact_plane.specs.PointOrderLaws.{point_cmp_total, point_cmp_ties}
 use Rattle.plane_graphs.specs.Ascending.{IsAscending}
+use Rattle.plane_graphs.proofs.Ascending.{to_std}
 use Rattle.plane_graphs.specs.Graph.{Graph, Mark, mark_cmp, is_at, curves, Edge}
 use Rattle.plane_graphs.specs.Line as line
 use Rattle.plane_graphs.proofs.Ascending.{ascending_is}
@@ -101,15 +102,10 @@ curves_in_memory ms g p q e a =
     sym (ap (map curve_id) (sym (curves_are g p q a) ∙ ap (map (λ (m : Mark). m.curve)) f ∙ map_map mark_of (λ (m : Mark). m.curve) here) ∙ map_map (λ (m : MarkInMemory). (mark_of m).curve) curve_id here)
 
 -- ---- the clauses of every moment
-to_std : (xs : List ℕ) → IsAscending nat_cmp xs → IsStrictlySortedBy nat_cmp xs
-unfolding IsStrictlySortedBy
-to_std [] a = tt
-to_std (x ∷ xs) a = (a.0, to_std xs a.1)
-
 pub curves_increase : (d : Drawing) (h : DartId) → IsStrictlyIncreasing (map (λ (c : CurveId). c.0) (curves_at d h))
 curves_increase d h =
     subst IsStrictlyIncreasing (sym (numbers_of (curves d.graph (edge_at d h.0).low (edge_at d h.0).high)))
-    (IsStrictlyIncreasing-from_sorted (curves d.graph (edge_at d h.0).low (edge_at d h.0).high) (to_std _ (curves_ascend d.graph (edge_at d h.0).low (edge_at d h.0).high)))
+    (IsStrictlyIncreasing-from_sorted (curves d.graph (edge_at d h.0).low (edge_at d h.0).high) (to_std nat_cmp _ (curves_ascend d.graph (edge_at d h.0).low (edge_at d h.0).high)))
 
 module _ (a : Inside) (d : Drawing) (k : IsSoundSubdivision a) (is : drawing_of a ≡ d) where
   plane : IsPlane d.graph

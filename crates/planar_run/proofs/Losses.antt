@@ -11,14 +11,14 @@ use Rattle.script_lines.specs.declared.command.Command.TheVariants.{Nothing, Seg
 use Rattle.script_lines.specs.declared.error.LineError.{LineError}
 use Rattle.arrangement.specs.Answers.{cut_between, split_at}
 use Rattle.planar_run.specs.World.{World}
-use Rattle.planar_run.specs.Answer.{AreLosses, AreOfEdit, AreOfSegment}
+use Rattle.planar_run.specs.Answer.{AreLosses, AreLossesOfEdit, AreLossesOfSegment}
 
-of_edit : (edit : Edit) (world : World) → (losses : List (List ℕ)) × AreOfEdit losses edit world
+of_edit : (edit : Edit) (world : World) → (losses : List (List ℕ)) × AreLossesOfEdit losses edit world
 of_edit edit world =
     let rounds = 2 * length (steps edit world.layer.present) in
     (replicate rounds [], λ allowed. length-replicate rounds [])
 
-of_segment : (s : Result Segment SegmentError) (world : World) → (losses : List (List ℕ)) × AreOfSegment losses s world
+of_segment : (s : Result Segment SegmentError) (world : World) → (losses : List (List ℕ)) × AreLossesOfSegment losses s world
 of_segment (Err error) world = ([], tt)
 of_segment (Ok s) world = of_edit (Insert world.layer.next s) world
 

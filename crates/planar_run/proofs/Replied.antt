@@ -14,7 +14,7 @@ use Rattle.planar_run.specs.World.{World}
 use Rattle.planar_run.specs.Premises.{graph_of, is_named, is_edge}
 use Rattle.planar_run.specs.Refusals.{refusal_of, refusal_number}
 use Rattle.planar_run.specs.Observers.{seat_refusal, is_above, is_seated}
-use Rattle.planar_run.specs.Answer.{Answer, AreOfEdit, refused, said, edited, edited_unless, edges_along, curves_told, curve_told, segment_refusal, unless, IsAnswered, IsDrawn, IsObeyed, MayDraw}
+use Rattle.planar_run.specs.Answer.{Answer, AreLossesOfEdit, refused, said, edited, edited_unless, edges_along, curves_told, curve_told, segment_refusal, unless, IsAnswered, IsDrawn, IsObeyed, MayDraw}
 
 -- the bytes and the world of an answer
 abbrev Gives : Answer → List ℕ → World → Type 0
@@ -26,7 +26,7 @@ refusal_given n w after text a is t s = (t ∙ ap (λ (a : Answer). a.text) (sym
 -- ---- edits
 -- an edit that is refused
 pub not_edited : (ok : List ℕ) (e : Edit) (r : Refusal) {w after : World} {text : List ℕ} → Some r ≡ refusal_of w e → text ≡ line_of (codes "refused " ++ decimal (refusal_number r)) → after ≡ w →
-    (losses : List (List ℕ)) × AreOfEdit losses e w × (text ≡ (edited ok e losses w).text) × (after ≡ (edited ok e losses w).world)
+    (losses : List (List ℕ)) × AreLossesOfEdit losses e w × (text ≡ (edited ok e losses w).text) × (after ≡ (edited ok e losses w).world)
 not_edited ok e r {w = w} {after = after} {text = text} h t s =
     let g : Gives (edited ok e [] w) text after = refusal_given (refusal_number r) w after text (edited ok e [] w) (ap (λ o. edited_unless o ok e [] w) (sym h)) t s in
     ([], λ none. cc, g.0, g.1)

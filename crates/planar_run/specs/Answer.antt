@@ -123,29 +123,29 @@ answer_to world losses (Ok (Leave i when)) = unless (seat_refusal i world) (reco
 answer_to world losses (Ok (Mirror i)) = unless (seat_refusal i world) (said (present_text world.layer.present) world) world
 
 -- the losses are of just the rounds of the edit, where it isn't refused
-abbrev pub AreOfEdit : List (List ℕ) → Edit → World → Type 0
-AreOfEdit losses edit world = refusal_of world edit ≡ None → AreRoundsOf losses edit world
+abbrev pub AreLossesOfEdit : List (List ℕ) → Edit → World → Type 0
+AreLossesOfEdit losses edit world = refusal_of world edit ≡ None → AreRoundsOf losses edit world
 
-abbrev pub AreOfSegment : List (List ℕ) → Result Segment SegmentError → World → Type 0
-AreOfSegment losses (Err error) world = ⊤
-AreOfSegment losses (Ok s) world = AreOfEdit losses (Insert world.layer.next s) world
+abbrev pub AreLossesOfSegment : List (List ℕ) → Result Segment SegmentError → World → Type 0
+AreLossesOfSegment losses (Err error) world = ⊤
+AreLossesOfSegment losses (Ok s) world = AreLossesOfEdit losses (Insert world.layer.next s) world
 
 -- the losses are of just the rounds that the line's edit has, where it isn't refused (this project)
 abbrev pub AreLosses : World → List (List ℕ) → Result Command LineError → Type 0
-AreLosses world losses (Ok (AddSegment x1 y1 x2 y2)) = AreOfSegment losses (segment_of x1 y1 x2 y2) world
-AreLosses world losses (Ok (Drop c)) = AreOfEdit losses (DropCurve c) world
-AreLosses world losses (Ok (Cut p q)) = AreOfEdit losses (cut_between p q) world
-AreLosses world losses (Ok (Pin p)) = AreOfEdit losses (PinPoint p) world
-AreLosses world losses (Ok (Unpin p)) = AreOfEdit losses (UnpinPoint p) world
-AreLosses world losses (Ok (Split p q r)) = AreOfEdit losses (split_at p q r) world
-AreLosses world losses (Ok (Merge r)) = AreOfEdit losses (MergeEdges r) world
-AreLosses world losses (Ok Clear) = AreOfEdit losses ClearAll world
+AreLosses world losses (Ok (AddSegment x1 y1 x2 y2)) = AreLossesOfSegment losses (segment_of x1 y1 x2 y2) world
+AreLosses world losses (Ok (Drop c)) = AreLossesOfEdit losses (DropCurve c) world
+AreLosses world losses (Ok (Cut p q)) = AreLossesOfEdit losses (cut_between p q) world
+AreLosses world losses (Ok (Pin p)) = AreLossesOfEdit losses (PinPoint p) world
+AreLosses world losses (Ok (Unpin p)) = AreLossesOfEdit losses (UnpinPoint p) world
+AreLosses world losses (Ok (Split p q r)) = AreLossesOfEdit losses (split_at p q r) world
+AreLosses world losses (Ok (Merge r)) = AreLossesOfEdit losses (MergeEdges r) world
+AreLosses world losses (Ok Clear) = AreLossesOfEdit losses ClearAll world
 AreLosses world losses other = ⊤
 
 -- a segment is answered, and leaves this world, whoever is lost in its rounds (this project)
 abbrev pub IsDrawn : Result Segment SegmentError → World → List ℕ → World → Type 0
 IsDrawn s world text after =
-    (losses : List (List ℕ)) × AreOfSegment losses s world × (text ≡ (drawing s losses world).text) × (after ≡ (drawing s losses world).world)
+    (losses : List (List ℕ)) × AreLossesOfSegment losses s world × (text ≡ (drawing s losses world).text) × (after ≡ (drawing s losses world).world)
 
 -- a segment may need memory where it isn't refused
 abbrev pub MayDraw : Result Segment SegmentError → World → Type 0

@@ -1,4 +1,4 @@
--- Rounds of an edit: what becomes of seats, and whose names are written down. Who is lost in a round is told to it.
+-- Rounds of an edit: what becomes of seats, and whose names are written down. Who is lost in a round is given.
 use Rattle.std.specs.Prelude.{◌≡◌, ℕ, ◌*◌, ◌+◌, ◌≤◌, List, [], ◌∷◌, None, length}
 use Rattle.std.specs.List.{flat_map}
 use Rattle.edit_steps.specs.Edits.{Edit, steps}

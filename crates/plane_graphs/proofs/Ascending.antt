@@ -154,3 +154,12 @@ module _ {X : Type 0} where
   unfolding IsStrictlySortedBy
   from_std cmp [] h = tt
   from_std cmp (x ∷ xs) h = (h.0, from_std cmp xs h.1)
+
+  pub to_std : (cmp : X → X → Ordering) (xs : List X) → IsAscending cmp xs → IsStrictlySortedBy cmp xs
+  unfolding IsStrictlySortedBy
+  to_std cmp [] a = tt
+  to_std cmp (x ∷ xs) a = (a.0, to_std cmp xs a.1)
+
+  pub place_none : (cmp : X → X → Ordering) (x : X) → place cmp x [] ≡ x ∷ []
+  unfolding place
+  place_none cmp x = refl

@@ -25,3 +25,7 @@ module _ (v : View) (p q : Past) (n : SameLayer p q) (c : SameCurves p q) where
     lawful = subst IsLawful (sym one_layer) l.lawful;
     stands = ap (drawn_graph v) (one_curves p q c) ∙ l.stands ∙ ap (λ z. graph z.present) (sym one_layer);
   }
+
+-- nothing moved but memory
+pub layer_stays : (v w : View) (p q : Past) → w ≡ v → SameLayer p q → SameCurves p q → IsLayer v p → IsLayer w q
+layer_stays v w p q e s c l = subst (λ z. IsLayer z q) (sym e) (layer_moves v p q s c l)

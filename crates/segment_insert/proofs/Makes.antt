@@ -10,10 +10,6 @@ use Rattle.slab_laws.specs.declared.names.DartId.{DartId}
 use Rattle.slab_laws.specs.View.{View}
 use Rattle.arr_notes.specs.Curves.{Curves, AreCurvesOf, IsForward}
 
--- curves that are the same along every edge are one
-pub one_curves : (h k : Curves) → ((d : _) → k d ≡ h d) → k ≡ h
-one_curves h k e = λ i d. e d i
-
 -- a curve along an edge
 pub some_curve : (v : View) (h : Curves) (d : DartId) → AreCurvesOf v h → IsForward v d → (c : ℕ) × Member c (h d)
 some_curve v h d a f = some_of (h d) (a.some d f)

@@ -2,16 +2,13 @@
 use Rattle.std.proofs.Common.{◌≡◌, ◌≤◌, ℕ, ◌+◌, ◌||◌, Bool, true, false, cond, List, [], ◌∷◌, ◌++◌, Some, refl, sym, ap, ◌∙◌, subst, arith}
 use Rattle.std.specs.Prelude.{bytes_eq, count_by, find, option_map}
 use Rattle.std.specs.List.{list_any}
+use Rattle.std.proofs.lemmas.Bool.{or_parts}
 use Rattle.std.proofs.lemmas.List.Sums.{sum_by-append, sum_by-cons}
 use Rattle.std.proofs.lemmas.Slice.Eq.{bytes_eq-Decides}
 use Rattle.words_in.specs.Grammar.{AreGivenOnce, Given, value_given}
 
 pub same_bytes : (text : List ℕ) → bytes_eq text text ≡ true
 same_bytes text = (bytes_eq-Decides text text).1 refl
-
-pub neither : (a b : Bool) → (a || b) ≡ false → (a ≡ false) × (b ≡ false)
-neither true b h = cc
-neither false b h = (refl, h)
 
 -- whether an option of the name is among them
 abbrev pub is_given : List ℕ → List Given → Bool
@@ -38,7 +35,7 @@ none_step name g given later e =
 counted-none : (name : List ℕ) (given : List Given) → is_given name given ≡ false → counted name given ≡ 0
 counted-none name [] h = refl
 counted-none name (g ∷ given) h =
-    let both = neither (bytes_eq g.name name) (is_given name given) h in
+    let both = or_parts (bytes_eq g.name name) (is_given name given) h in
     none_step name g given (counted-none name given both.1) both.0
 
 some_step : (name : List ℕ) (g : Given) (given : List Given) → (is_given name given ≡ true → 1 ≤ counted name given)
@@ -100,6 +97,6 @@ pub value_given-at : (before : List Given) (g : Given) (after : List Given) → 
 value_given-at [] g after h =
     ap (λ t. option_map (λ (x : Given). x.value) (cond t (Some g) (find (λ x. bytes_eq x.name g.name) after))) (same_bytes g.name)
 value_given-at (x ∷ before) g after h =
-    let both = neither (bytes_eq x.name g.name) (is_given g.name before) h in
+    let both = or_parts (bytes_eq x.name g.name) (is_given g.name before) h in
     ap (λ t. option_map (λ (y : Given). y.value) (cond t (Some x) (find (λ y. bytes_eq y.name g.name) (before ++ g ∷ after)))) both.0
     ∙ value_given-at before g after both.1

@@ -2,6 +2,7 @@
 use Rattle.std.proofs.Common.{◌≡◌, Bool, true, false, List, [], ◌∷◌, ◌++◌, map, Option, Some, None, if◌then◌else◌, refl, sym, ap, ◌∙◌, subst, inl, inr, ◌⊎◌, append_assoc, arith}
 use Rattle.std.specs.Prelude.{fold, bytes_eq}
 use Rattle.std.specs.List.{All, list_any}
+use Rattle.std.proofs.lemmas.Bool.{or_parts}
 use Rattle.std.proofs.lemmas.List.{append-nil, map-append}
 use Rattle.std.proofs.lemmas.List.Elements.{All-nil, All-cons}
 use Rattle.clap.specs.Lexer.{long_of}
@@ -11,7 +12,7 @@ use Rattle.clap.specs.declared.parser.matches.ValueSource.TheVariants.{CommandLi
 use Rattle.clap.proofs.WalkLemmas.{list_any-map}
 use Rattle.std.specs.Option.{option_map_or}
 use Rattle.words_in.specs.Grammar.{AreGivenOnce, AreSpelt, Given, flag, option_names}
-use Rattle.words_in.proofs.Once.{is_given, neither, once_push}
+use Rattle.words_in.proofs.Once.{is_given, once_push}
 use Rattle.words_in.proofs.Cut.{one_word, name_word}
 use Rattle.words_in.proofs.Turns.{IsName, IsOptionIn, IsOptionTaken, both_none, by_id, dashes, filled_option, held_with, idle_at, idle_turn, no_value, not_repeated, rows_at, rules, shape, waiting_at, waiting_turn}
 
@@ -37,7 +38,7 @@ at_row-none : (id : Text) (change : Row → List Row) (missing : List Row) (rows
     → at_row id change missing rows ≡ rows ++ missing
 at_row-none id change missing [] h = refl
 at_row-none id change missing (r ∷ rows) h =
-    let both = neither (bytes_eq r.id id) (has_row id rows) h in
+    let both = or_parts (bytes_eq r.id id) (has_row id rows) h in
     row_step id change missing r rows (at_row-none id change missing rows both.1) both.0
 
 used_new : (g : Given) (rows : List Row) → has_row g.name rows ≡ false → used (filled_option g.name) (g.value ∷ []) rows ≡ rows ++ row_of g ∷ []
@@ -172,7 +173,7 @@ idle_step : (word : Text) (rest : List Text) → AreFoundFromIdle rest → AreFo
 idle_step word rest from_idle from_waiting rows pending before s free p = go taken.1
   where
     here : (bytes_eq word dashes ≡ false) × HasNoDashes rest
-    here = neither (bytes_eq word dashes) (list_any (λ w. bytes_eq w dashes) rest) free
+    here = or_parts (bytes_eq word dashes) (list_any (λ w. bytes_eq w dashes) rest) free
 
     turn : (turn_fault shape [] (idle_at rows pending) word ≡ []) × IsFaultless (walked rules [] (idle_at rows pending) word) rest
     turn = first_turn (idle_at rows pending) word rest p
@@ -211,7 +212,7 @@ idle_step word rest from_idle from_waiting rows pending before s free p = go tak
 
 waiting_step : (word : Text) (rest : List Text) → AreFoundFromIdle rest → AreFoundFromWaiting (word ∷ rest)
 waiting_step word rest from_idle rows name before known are once free p =
-    let here = neither (bytes_eq word dashes) (list_any (λ w. bytes_eq w dashes) rest) free in
+    let here = or_parts (bytes_eq word dashes) (list_any (λ w. bytes_eq w dashes) rest) free in
     let turn = first_turn (waiting_at rows name) word rest p in
     let next = waiting_turn rows name known word here.0 turn.0 in
     let g : Given = record { name = name; value = word } in

@@ -4,7 +4,7 @@ use Rattle.edit_steps.proofs.Refusals.{no_memory, pin_again, pin_full, pin_allow
 use Rattle.curve_history.specs.Past.{curves_on}
 use Rattle.arr_notes.specs.RecordGraph.{drawn_graph}
 use Rattle.record_layers.specs.RecordLayers.{IsLayer, layer_of}
-use Rattle.record_layers.proofs.Moved.{same_layers, layer_moves}
+use Rattle.record_layers.proofs.Moved.{same_layers, layer_stays}
 use Rattle.told_steps.proofs.Begun.{begun_in_step, drawn_stays, moved, still_watched, told_of_edit}
 use Rattle.told_steps.proofs.ToldTogether.{told_runs_lawful}
 use Rattle.pin_points.specs.Pins.{MayBecomeVertex, new_vertex_steps, pin_said}
@@ -29,7 +29,7 @@ returns-then-is_full-clause-refused g c =
 pub returns-in_err-make_room-clause-layer : goal.returns-in_err-make_room-clause-layer
 returns-in_err-make_room-clause-layer g c =
     let m = c.make_room.ensures in
-    subst (λ z. IsLayer z c.make_room.new.history) (sym m.graph) (layer_moves c.args.records.now.graph c.args.history.now c.make_room.new.history m.layer m.curves c.requires.layer)
+    layer_stays c.args.records.now.graph c.make_room.new.records.graph c.args.history.now c.make_room.new.history m.graph m.layer m.curves c.requires.layer
 
 pub returns-in_err-make_room-clause-refused : goal.returns-in_err-make_room-clause-refused
 returns-in_err-make_room-clause-refused g c =

@@ -7,7 +7,7 @@ use Rattle.slab_laws.specs.View.{point_in, source_in, target_in}
 use Rattle.curve_history.specs.Past.{curves_on}
 use Rattle.edge_split_merge.specs.Splits.{CanSplit}
 use Rattle.record_layers.specs.RecordLayers.{IsLayer, layer_of}
-use Rattle.record_layers.proofs.Moved.{same_layers, layer_moves}
+use Rattle.record_layers.proofs.Moved.{same_layers, layer_stays}
 use Rattle.pin_points.specs.Splits.{split_said}
 use Rattle.pin_points.specs.declared.split.SplitError.TheVariants.{NoMemory}
 use Rattle.told_steps.proofs.Begun.{begun_in_step, still_watched, told_of_edit}
@@ -31,7 +31,7 @@ returns-then-is_full-clause-refused g c =
 pub returns-in_err-make_room-clause-layer : goal.returns-in_err-make_room-clause-layer
 returns-in_err-make_room-clause-layer g c =
     let m = c.make_room.ensures in
-    subst (λ z. IsLayer z c.make_room.new.history) (sym m.graph) (layer_moves c.args.records.now.graph c.args.history.now c.make_room.new.history m.layer m.curves c.requires.layer)
+    layer_stays c.args.records.now.graph c.make_room.new.records.graph c.args.history.now c.make_room.new.history m.graph m.layer m.curves c.requires.layer
 
 pub returns-in_err-make_room-clause-refused : goal.returns-in_err-make_room-clause-refused
 returns-in_err-make_room-clause-refused g c =

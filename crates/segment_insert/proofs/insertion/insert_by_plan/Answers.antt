@@ -4,7 +4,7 @@ use Rattle.plane_graphs.proofs.Lists.{in_right}
 use Rattle.curve_history.specs.Past.{curves_on}
 use Rattle.segment_insert.specs.Insertion.{pairs_to_part, AreMeetings}
 use Rattle.told_steps.proofs.Begun.{still_in_step}
-use Rattle.segment_insert.proofs.Makes.{one_curves}
+use Rattle.record_layers.proofs.Moved.{one_curves}
 use Rattle.edit_steps.specs.Allowed.{AreSound}
 use Rattle.arr_notes.specs.RecordGraph.{drawn_graph}
 use Rattle.zone_walk.specs.Zone.{splits_needed, points_of_meetings}
@@ -24,20 +24,20 @@ make_vertices-requires-clause-meetings g c =
 pub make_vertices-requires-clause-plane : goal.make_vertices-requires-clause-plane
 make_vertices-requires-clause-plane g c =
     let planned : IsPlanned c.args.records.now.graph c.args.history.now c.args.segment.now c.args.plan c.draw-curve.result.0 = record { layer = c.requires.layer; ends = c.lower-lower.ensures.ends; zone = c.requires.zone; number = c.draw-curve.ensures.number } in
-    let same = one_curves (curves_on c.args.history.now) (curves_on c.add_piece.new.self) (λ d. c.add_piece.ensures.curves d ∙ c.draw-curve.ensures.curves d) in
+    let same = one_curves c.args.history.now c.add_piece.new.self (λ d. c.add_piece.ensures.curves d ∙ c.draw-curve.ensures.curves d) in
     let g = drawn_graph c.args.records.now.graph (curves_on c.add_piece.new.self) in
     subst (λ ms. AreSound (steps_at c.args.records.now.graph (curves_on c.add_piece.new.self) (points_of_meetings ms)) g) (sym c.into_vec-meetings.ensures) (sound_first planned (curves_on c.add_piece.new.self) same)
 
 pub make_vertices-requires-clause-pairs : goal.make_vertices-requires-clause-pairs
 make_vertices-requires-clause-pairs g c =
-    let same = one_curves (curves_on c.args.history.now) (curves_on c.add_piece.new.self) (λ d. c.add_piece.ensures.curves d ∙ c.draw-curve.ensures.curves d) in
+    let same = one_curves c.args.history.now c.add_piece.new.self (λ d. c.add_piece.ensures.curves d ∙ c.draw-curve.ensures.curves d) in
     let e : pairs_to_part (curves_on c.add_piece.new.self) c.into_vec-meetings.result.items ≡ pairs_to_part (curves_on c.args.history.now) c.args.plan.vertices = ap (pairs_to_part (curves_on c.add_piece.new.self)) c.into_vec-meetings.ensures ∙ ap (λ h. pairs_to_part h c.args.plan.vertices) same in
     omega arith
 
 pub make_edges-requires-clause-on : goal.make_edges-requires-clause-on
 make_edges-requires-clause-on g c =
     let planned : IsPlanned c.args.records.now.graph c.args.history.now c.args.segment.now c.args.plan c.draw-curve.result.0 = record { layer = c.requires.layer; ends = c.lower-lower.ensures.ends; zone = c.requires.zone; number = c.draw-curve.ensures.number } in
-    let same = one_curves (curves_on c.args.history.now) (curves_on c.add_piece.new.self) (λ d. c.add_piece.ensures.curves d ∙ c.draw-curve.ensures.curves d) in
+    let same = one_curves c.args.history.now c.add_piece.new.self (λ d. c.add_piece.ensures.curves d ∙ c.draw-curve.ensures.curves d) in
     let are = c.into_vec-meetings.ensures in
     let kept = ap points_of_meetings c.deref.ensures.value ∙ c.make_vertices.ensures.points ∙ ap points_of_meetings are in
     let half : IsHalfMade c.args.records.now.graph c.args.history.now c.args.plan (curves_on c.add_piece.new.self) _ c.make_vertices.new.records.graph (curves_on c.make_vertices.new.history) _ c.deref.result.now = record { same = same; told = told_of_plan _ _ _ _ _ _ are c.make_vertices.ensures.told; kept = kept } in
@@ -46,7 +46,7 @@ make_edges-requires-clause-on g c =
 pub make_edges-requires-clause-all_on : goal.make_edges-requires-clause-all_on
 make_edges-requires-clause-all_on g c =
     let planned : IsPlanned c.args.records.now.graph c.args.history.now c.args.segment.now c.args.plan c.draw-curve.result.0 = record { layer = c.requires.layer; ends = c.lower-lower.ensures.ends; zone = c.requires.zone; number = c.draw-curve.ensures.number } in
-    let same = one_curves (curves_on c.args.history.now) (curves_on c.add_piece.new.self) (λ d. c.add_piece.ensures.curves d ∙ c.draw-curve.ensures.curves d) in
+    let same = one_curves c.args.history.now c.add_piece.new.self (λ d. c.add_piece.ensures.curves d ∙ c.draw-curve.ensures.curves d) in
     let are = c.into_vec-meetings.ensures in
     let kept = ap points_of_meetings c.deref.ensures.value ∙ c.make_vertices.ensures.points ∙ ap points_of_meetings are in
     let half : IsHalfMade c.args.records.now.graph c.args.history.now c.args.plan (curves_on c.add_piece.new.self) _ c.make_vertices.new.records.graph (curves_on c.make_vertices.new.history) _ c.deref.result.now = record { same = same; told = told_of_plan _ _ _ _ _ _ are c.make_vertices.ensures.told; kept = kept } in
@@ -60,7 +60,7 @@ make_edges-requires-clause-curve_named g c =
 pub make_edges-requires-clause-plane : goal.make_edges-requires-clause-plane
 make_edges-requires-clause-plane g c =
     let planned : IsPlanned c.args.records.now.graph c.args.history.now c.args.segment.now c.args.plan c.draw-curve.result.0 = record { layer = c.requires.layer; ends = c.lower-lower.ensures.ends; zone = c.requires.zone; number = c.draw-curve.ensures.number } in
-    let same = one_curves (curves_on c.args.history.now) (curves_on c.add_piece.new.self) (λ d. c.add_piece.ensures.curves d ∙ c.draw-curve.ensures.curves d) in
+    let same = one_curves c.args.history.now c.add_piece.new.self (λ d. c.add_piece.ensures.curves d ∙ c.draw-curve.ensures.curves d) in
     let are = c.into_vec-meetings.ensures in
     let kept = ap points_of_meetings c.deref.ensures.value ∙ c.make_vertices.ensures.points ∙ ap points_of_meetings are in
     let half : IsHalfMade c.args.records.now.graph c.args.history.now c.args.plan (curves_on c.add_piece.new.self) _ c.make_vertices.new.records.graph (curves_on c.make_vertices.new.history) _ c.deref.result.now = record { same = same; told = told_of_plan _ _ _ _ _ _ are c.make_vertices.ensures.told; kept = kept } in
@@ -77,7 +77,7 @@ make_edges-requires-clause-darts g c =
 pub make_edges-requires-clause-pairs : goal.make_edges-requires-clause-pairs
 make_edges-requires-clause-pairs g c =
     let planned : IsPlanned c.args.records.now.graph c.args.history.now c.args.segment.now c.args.plan c.draw-curve.result.0 = record { layer = c.requires.layer; ends = c.lower-lower.ensures.ends; zone = c.requires.zone; number = c.draw-curve.ensures.number } in
-    let same = one_curves (curves_on c.args.history.now) (curves_on c.add_piece.new.self) (λ d. c.add_piece.ensures.curves d ∙ c.draw-curve.ensures.curves d) in
+    let same = one_curves c.args.history.now c.add_piece.new.self (λ d. c.add_piece.ensures.curves d ∙ c.draw-curve.ensures.curves d) in
     let are = c.into_vec-meetings.ensures in
     let kept = ap points_of_meetings c.deref.ensures.value ∙ c.make_vertices.ensures.points ∙ ap points_of_meetings are in
     let e : pairs_to_part (curves_on c.add_piece.new.self) c.into_vec-meetings.result.items ≡ pairs_to_part (curves_on c.args.history.now) c.args.plan.vertices = ap (pairs_to_part (curves_on c.add_piece.new.self)) are ∙ ap (λ h. pairs_to_part h c.args.plan.vertices) same in
@@ -86,7 +86,7 @@ make_edges-requires-clause-pairs g c =
 pub returns-clause-layer : goal.returns-clause-layer
 returns-clause-layer g c =
     let planned : IsPlanned c.args.records.now.graph c.args.history.now c.args.segment.now c.args.plan c.draw-curve.result.0 = record { layer = c.requires.layer; ends = c.lower-lower.ensures.ends; zone = c.requires.zone; number = c.draw-curve.ensures.number } in
-    let same = one_curves (curves_on c.args.history.now) (curves_on c.add_piece.new.self) (λ d. c.add_piece.ensures.curves d ∙ c.draw-curve.ensures.curves d) in
+    let same = one_curves c.args.history.now c.add_piece.new.self (λ d. c.add_piece.ensures.curves d ∙ c.draw-curve.ensures.curves d) in
     let are = c.into_vec-meetings.ensures in
     let kept = ap points_of_meetings c.deref.ensures.value ∙ c.make_vertices.ensures.points ∙ ap points_of_meetings are in
     let half : IsHalfMade c.args.records.now.graph c.args.history.now c.args.plan (curves_on c.add_piece.new.self) _ c.make_vertices.new.records.graph (curves_on c.make_vertices.new.history) _ c.deref.result.now = record { same = same; told = told_of_plan _ _ _ _ _ _ are c.make_vertices.ensures.told; kept = kept } in
@@ -102,7 +102,7 @@ returns-clause-layer g c =
 pub returns-clause-edit : goal.returns-clause-edit
 returns-clause-edit g c =
     let planned : IsPlanned c.args.records.now.graph c.args.history.now c.args.segment.now c.args.plan c.draw-curve.result.0 = record { layer = c.requires.layer; ends = c.lower-lower.ensures.ends; zone = c.requires.zone; number = c.draw-curve.ensures.number } in
-    let same = one_curves (curves_on c.args.history.now) (curves_on c.add_piece.new.self) (λ d. c.add_piece.ensures.curves d ∙ c.draw-curve.ensures.curves d) in
+    let same = one_curves c.args.history.now c.add_piece.new.self (λ d. c.add_piece.ensures.curves d ∙ c.draw-curve.ensures.curves d) in
     let are = c.into_vec-meetings.ensures in
     let kept = ap points_of_meetings c.deref.ensures.value ∙ c.make_vertices.ensures.points ∙ ap points_of_meetings are in
     let half : IsHalfMade c.args.records.now.graph c.args.history.now c.args.plan (curves_on c.add_piece.new.self) _ c.make_vertices.new.records.graph (curves_on c.make_vertices.new.history) _ c.deref.result.now = record { same = same; told = told_of_plan _ _ _ _ _ _ are c.make_vertices.ensures.told; kept = kept } in
@@ -118,7 +118,7 @@ returns-clause-edit g c =
 pub returns-clause-told : goal.returns-clause-told
 returns-clause-told g c =
     let planned : IsPlanned c.args.records.now.graph c.args.history.now c.args.segment.now c.args.plan c.draw-curve.result.0 = record { layer = c.requires.layer; ends = c.lower-lower.ensures.ends; zone = c.requires.zone; number = c.draw-curve.ensures.number } in
-    let same = one_curves (curves_on c.args.history.now) (curves_on c.add_piece.new.self) (λ d. c.add_piece.ensures.curves d ∙ c.draw-curve.ensures.curves d) in
+    let same = one_curves c.args.history.now c.add_piece.new.self (λ d. c.add_piece.ensures.curves d ∙ c.draw-curve.ensures.curves d) in
     let are = c.into_vec-meetings.ensures in
     let kept = ap points_of_meetings c.deref.ensures.value ∙ c.make_vertices.ensures.points ∙ ap points_of_meetings are in
     let half : IsHalfMade c.args.records.now.graph c.args.history.now c.args.plan (curves_on c.add_piece.new.self) _ c.make_vertices.new.records.graph (curves_on c.make_vertices.new.history) _ c.deref.result.now = record { same = same; told = told_of_plan _ _ _ _ _ _ are c.make_vertices.ensures.told; kept = kept } in
