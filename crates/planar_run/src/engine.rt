@@ -13,6 +13,7 @@ use crate::world::World;
 use arr_notes::Observer;
 use no_memory::NoMemory;
 use outside::{Failed, Sink, write_all};
+use slab_laws::Strategy;
 use std::alloc::Global;
 
 /// The world, what has come of the line that was begun, and the room of its reply.
@@ -25,13 +26,17 @@ pub struct Engine {
 
 impl Engine {
     /// Before the first byte. This is the memory that every run needs.
-    pub fn new(alloc: Global, observers: Vec<Box<dyn Observer>>) -> Result<Engine, NoMemory>
+    pub fn new(
+        alloc: Global,
+        strategy: Strategy,
+        observers: Vec<Box<dyn Observer>>,
+    ) -> Result<Engine, NoMemory>
         ensures first { IfOk result (λ e. world_row tells held left heard e.world ≡ first_world (waiting_rows tells left observers.items)) }
         ensures begun { IfOk result (λ e. e.line ≡ []) }
         ensures kept { IfOk result (λ e. IsKept (arranged_row tells held left heard e.world)) }
     {
         Ok(Engine {
-            world: World::new(alloc, observers)?,
+            world: World::new(alloc, strategy, observers)?,
             line: Line::new(alloc)?,
             reply: Reply::new(alloc)?,
         })

@@ -1,6 +1,7 @@
-ghost use Rattle.std.specs.Prelude.{List, ◌≡◌, ◌≢◌, ◌⊎◌, ◌+◌, ◌^◌, ◌≤◌, [], length, take, IsSomeAnd};
+ghost use Rattle.std.specs.Prelude.{List, ◌≡◌, ◌≢◌, ◌⊎◌, ◌+◌, ◌^◌, ◌≤◌, [], length, map, string_bytes, take, IsSomeAnd};
 ghost use Rattle.outside.specs.Bytes.{Gains, GainsPrefix};
 ghost use Rattle.outside.specs.Counts.{Rose};
+ghost use Rattle.words_in.specs.Grammar.{AreInGrammar, AreOutside};
 ghost use Rattle.planar_run.specs.Lines.{lines, ended_lines};
 ghost use Rattle.planar_run.specs.World.{first_world, Waiting};
 ghost use Rattle.planar_run.specs.Rows.{arranged_row, waiting_rows, world_row, IsKept};
@@ -11,7 +12,9 @@ use crate::engine::Engine;
 use crate::status::Status;
 use arr_notes::Observer;
 use outside::{Sink, Source, read_byte, write_all};
+use slab_laws::Strategy;
 use std::alloc::Global;
+use words_in::{WordsError, read_words};
 
 /// How many bytes a script may have.
 pub const SCRIPT_LIMIT: usize = 1 << 26;
@@ -56,6 +59,7 @@ fn answer_script<S: Source, K: Sink>(engine: &mut Engine, source: &mut S, sink: 
 // that all of it may go.
 fn run<S: Source, K: Sink>(
     alloc: Global,
+    strategy: Strategy,
     source: &mut S,
     sink: &mut K,
     observers: Vec<Box<dyn Observer>>,
@@ -64,7 +68,7 @@ fn run<S: Source, K: Sink>(
     ensures causes { Causes result (S.faults source.old) (S.faults source.new) (K.faults sink.old) (K.faults sink.new) }
     ensures reads { S.calls source.new ≤ S.calls source.old + (SCRIPT_LIMIT + 1) }
 {
-    match Engine::new(alloc, observers) {
+    match Engine::new(alloc, strategy, observers) {
         Ok(mut engine) => answer_script(&mut engine, source, sink),
         Err(_) => Status::NoMemory,
     }
@@ -77,7 +81,7 @@ fn refuse_words<K: Sink>(sink: &mut K) -> Status
     ensures only { (result ≡ Status.Usage) ⊎ (result ≡ Status.WriteFault) }
     ensures causes { Causes result 0 0 (K.faults sink.old) (K.faults sink.new) }
 {
-    match write_all(sink, b"usage: planar\n") {
+    match write_all(sink, b"usage: planar [--locate naive|walk|landmarks|trapezoid]\n") {
         Ok(()) => Status::Usage,
         Err(_) => Status::WriteFault,
     }
@@ -85,8 +89,8 @@ fn refuse_words<K: Sink>(sink: &mut K) -> Status
 
 /// Runs the script that the source gives, and hands the replies to the sink.
 ///
-/// `words` are those of the command line, the program's name first; its name alone is the whole grammar. Each line is
-/// answered when its end was read. A line that was begun isn't answered after a failed read, and the first failed read
+/// `words` are those of the command line, the program's name first, which [`read_words`] reads; how points are located
+/// shows in no reply. Each line is answered when its end was read. A line that was begun isn't answered after a failed read, and the first failed read
 /// or write ends the run. Lines and scripts of any length take bounded memory.
 pub fn planar<S: Source, K: Sink>(
     alloc: Global,
@@ -102,13 +106,13 @@ pub fn planar<S: Source, K: Sink>(
     // After a fault, or past the limit, the lines whose end was read are answered.
     ensures answered_to_read_fault { result ≡ Status.ReadFault → UsedAndWritten (S.left source.old) (S.left source.new) (K.taken sink.old) (K.taken sink.new) (λ used out. IsRun (waiting_rows tells (λ b. (⟦<dyn Observer as Observer>⟧ b.vtable).left b.value) observers.items) (ended_lines used) out) }
     ensures answered_to_limit { result ≡ Status.TooLong → UsedAndWritten (S.left source.old) (S.left source.new) (K.taken sink.old) (K.taken sink.new) (λ used out. IsRun (waiting_rows tells (λ b. (⟦<dyn Observer as Observer>⟧ b.vtable).left b.value) observers.items) (ended_lines (take SCRIPT_LIMIT used)) out) }
-    ensures answered_to_write_fault { length words.now ≡ 1 → result ≡ Status.WriteFault → UsedAndWritten (S.left source.old) (S.left source.new) (K.taken sink.old) (K.taken sink.new) (λ used out. BeginsRun (waiting_rows tells (λ b. (⟦<dyn Observer as Observer>⟧ b.vtable).left b.value) observers.items) (lines used) out) }
+    ensures answered_to_write_fault { AreInGrammar (map string_bytes words.now) → result ≡ Status.WriteFault → UsedAndWritten (S.left source.old) (S.left source.new) (K.taken sink.old) (K.taken sink.new) (λ used out. BeginsRun (waiting_rows tells (λ b. (⟦<dyn Observer as Observer>⟧ b.vtable).left b.value) observers.items) (lines used) out) }
 
-    // The program's name alone is the grammar of the words. Other words are answered by the usage line, and nothing is read.
-    ensures usage { result ≡ Status.Usage → (length words.now ≢ 1) × Gains (K.taken sink.old) (K.taken sink.new) usage_line }
-    ensures usage_broken { length words.now ≢ 1 → result ≡ Status.WriteFault → GainsPrefix (K.taken sink.old) (K.taken sink.new) usage_line }
-    ensures other_words { length words.now ≢ 1 → (result ≡ Status.Usage) ⊎ (result ≡ Status.WriteFault) }
-    ensures nothing_read { length words.now ≢ 1 → source.new ≡ source.old }
+    // Words outside the grammar are answered by the usage line, where there is memory to read them, and nothing is read.
+    ensures usage { result ≡ Status.Usage → AreOutside (map string_bytes words.now) × Gains (K.taken sink.old) (K.taken sink.new) usage_line }
+    ensures usage_broken { AreOutside (map string_bytes words.now) → result ≡ Status.WriteFault → GainsPrefix (K.taken sink.old) (K.taken sink.new) usage_line }
+    ensures other_words { AreOutside (map string_bytes words.now) → (result ≡ Status.Usage) ⊎ ((result ≡ Status.WriteFault) ⊎ (result ≡ Status.NoMemory)) }
+    ensures nothing_read { AreOutside (map string_bytes words.now) → source.new ≡ source.old }
 
     ensures no_memory { result ≡ Status.NoMemory → (S.left source.new ≡ S.left source.old) × (K.taken sink.new ≡ K.taken sink.old) }
 
@@ -123,7 +127,7 @@ pub fn planar<S: Source, K: Sink>(
     ensures no_write_fault { result ≢ Status.WriteFault → K.faults sink.new ≡ K.faults sink.old }
 
     // A script within the limit, over a source and a sink whose faults don't rise, is run to its end.
-    ensures complete { length words.now ≡ 1 → ¬ Rose (S.faults source.old) (S.faults source.new) → ¬ Rose (K.faults sink.old) (K.faults sink.new) → IsSomeAnd (S.left source.old) (λ script. length script ≤ SCRIPT_LIMIT) → (result ≡ Status.Done) ⊎ (result ≡ Status.NoMemory) }
+    ensures complete { AreInGrammar (map string_bytes words.now) → ¬ Rose (S.faults source.old) (S.faults source.new) → ¬ Rose (K.faults sink.old) (K.faults sink.new) → IsSomeAnd (S.left source.old) (λ script. length script ≤ SCRIPT_LIMIT) → (result ≡ Status.Done) ⊎ (result ≡ Status.NoMemory) }
 
     // No byte is asked for one at a time but the one past the limit.
     ensures reads { S.calls source.new ≤ S.calls source.old + (SCRIPT_LIMIT + 1) }
@@ -131,8 +135,9 @@ pub fn planar<S: Source, K: Sink>(
     // The limit itself.
     ensures limit { SCRIPT_LIMIT ≡ 2 ^ 26 }
 {
-    if words.len() != 1 {
-        return refuse_words(sink);
+    match read_words(alloc, words) {
+        Ok(options) => run(alloc, options.strategy, source, sink, observers),
+        Err(WordsError::Usage) => refuse_words(sink),
+        Err(WordsError::NoMemory) => Status::NoMemory,
     }
-    run(alloc, source, sink, observers)
 }

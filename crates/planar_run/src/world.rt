@@ -23,19 +23,24 @@ use no_memory::NoMemory;
 use slab_laws::{Cell, CurveId, Strategy};
 use std::alloc::Global;
 
-/// What the lines of a script have built so far, an arrangement under the limits of a script, and the observers that wait, each at the place
-/// of its number.
+/// What the lines of a script have built so far, an arrangement under the limits of a script, the observers that wait, each at the place
+/// of its number, and how points are located, which shows in no reply.
 ///
 /// Contracts see it as a row (`specs/Rows.antt`): what a boxed observer means is handed to them by the observers' own words.
 #[derive(Drop)]
 pub struct World {
     pub(crate) arrangement: Arrangement,
     pub(crate) observers: Vec<Option<Box<dyn Observer>>>,
+    strategy: Strategy,
 }
 
 impl World {
     /// The world before the first line, where all observers wait.
-    pub fn new(alloc: Global, observers: Vec<Box<dyn Observer>>) -> Result<World, NoMemory>
+    pub fn new(
+        alloc: Global,
+        strategy: Strategy,
+        observers: Vec<Box<dyn Observer>>,
+    ) -> Result<World, NoMemory>
         ensures first { IfOk result (λ w. world_row tells held left heard w ≡ first_world (waiting_rows tells left observers.items)) }
         ensures kept { IfOk result (λ w. IsKept (arranged_row tells held left heard w)) }
     {
@@ -43,6 +48,7 @@ impl World {
         Ok(World {
             arrangement: Arrangement::new(alloc, Limits::FULL, bus)?,
             observers: all_waiting(alloc, observers)?,
+            strategy,
         })
     }
 
@@ -164,7 +170,7 @@ impl World {
         ensures cell { IfOk result (λ c. c ≡ holds (subdivision_of (world_row tells held left heard self.old)) point.now) }
         ensures same { self.new ≡ self.old }
     {
-        self.arrangement.locate(Strategy::Naive, point)
+        self.arrangement.locate(self.strategy, point)
     }
 
     /// How many vertices, edges, faces, inner cycles, isolated vertices and named curves there are.

@@ -49,3 +49,11 @@ pub record HasOptions (words : List (List ℕ)) (options : Options) : Type 0 whe
   pub named : All (λ g. is_option_name g.name ≡ true) given
   pub once : AreGivenOnce given
   pub read : options_given given ≡ Some options
+
+-- the words are in the grammar
+abbrev pub AreInGrammar : List (List ℕ) → Type 0
+AreInGrammar words = (options : Options) × HasOptions words options
+
+-- the words are outside the grammar
+abbrev pub AreOutside : List (List ℕ) → Type 0
+AreOutside words = (options : Options) → HasOptions words options → ⊥

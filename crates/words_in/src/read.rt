@@ -1,6 +1,6 @@
 ghost use Rattle.std.specs.Prelude.{◌≡◌, codes, drop, map, string_bytes, bytes_eq, IfOk};
 ghost use Rattle.std.specs.List.{list_any};
-ghost use Rattle.words_in.specs.Grammar.{HasOptions};
+ghost use Rattle.words_in.specs.Grammar.{HasOptions, AreOutside};
 
 use crate::command::matches_of;
 use crate::options::{Options, WordsError};
@@ -25,7 +25,7 @@ fn has_dashes(words: &[String]) -> bool
 pub fn read_words(alloc: Global, words: &[String]) -> Result<Options, WordsError>
     ensures given { IfOk result (λ options. HasOptions (map string_bytes words.now) options) }
     ensures alone { IfOk result (λ options. (other : Options) → HasOptions (map string_bytes words.now) other → other ≡ options) }
-    ensures usage { result ≡ Err WordsError.Usage → (options : Options) → HasOptions (map string_bytes words.now) options → ⊥ }
+    ensures usage { result ≡ Err WordsError.Usage → AreOutside (map string_bytes words.now) }
 {
     if words.is_empty() {
         return Err(WordsError::Usage);
