@@ -38,11 +38,16 @@ check() {
     fi
 }
 
-check 'a wrong word' 2 '' $'usage: planar\n' wrong
-check 'a wrong word before a script' 2 $'show\n' $'usage: planar\n' wrong
-check 'two wrong words' 2 '' $'usage: planar\n' wrong words
+usage=$'usage: planar [--locate naive|walk|landmarks|trapezoid]\n'
+
+check 'a wrong word' 2 '' "$usage" wrong
+check 'a wrong word before a script' 2 $'show\n' "$usage" wrong
+check 'two wrong words' 2 '' "$usage" wrong words
+check 'a word that is no text' 2 $'show\n' "$usage" $'--locate=\xff'
 check 'an empty script' 0 '' ''
 check 'one line' 0 $'show\n' $'arrangement 0 0 1\nf 0\nend\n'
+check 'an empty script, by the walk' 0 '' '' --locate=walk
+check 'a location by the walk' 0 $'segment 0 0 4 0\nlocate 2 0 1\n' $'ok 1\nedge 0 0 1 4 0 1\n' --locate walk
 
 [ "$failed" -eq 0 ] && echo 'stored runs: all as wanted'
 exit "$failed"

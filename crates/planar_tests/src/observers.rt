@@ -37,7 +37,7 @@ const ROWS: [(&str, &str); 5] = [
 
 #[test]
 fn lines_on_observers_are_answered(rt: HostRuntime) -> Result<(), Fail> {
-    assert!(rt; first_wrong(rt.alloc(), &ROWS, 4096)? == None);
+    assert!(rt; first_wrong(rt.alloc(), &[], &ROWS, 4096)? == None);
     Ok(())
 }
 

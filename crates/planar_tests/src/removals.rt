@@ -79,6 +79,6 @@ const REMOVALS: [(&str, &str); 15] = [
 
 #[test]
 fn removals_are_answered(rt: HostRuntime) -> Result<(), Fail> {
-    assert!(rt; first_wrong(rt.alloc(), &REMOVALS, 4096)? == None);
+    assert!(rt; first_wrong(rt.alloc(), &[], &REMOVALS, 4096)? == None);
     Ok(())
 }

@@ -28,20 +28,35 @@ pub fn status_with<S: Source>(
     Ok(planar(alloc, words, source, sink, observers))
 }
 
+// The words of a command line: the program's name, and these behind it.
+fn words_of(alloc: Global, behind: &[&str]) -> Result<Vec<String>, Fail> {
+    let mut words = Vec::new(alloc);
+    words.push(String::from_str(alloc, "planar")?)?;
+    for word in behind {
+        words.push(String::from_str(alloc, word)?)?;
+    }
+    Ok(words)
+}
+
 // How a script ends that the source gives, by the program's name alone, with four mirrors.
 fn status_of<S: Source>(
     alloc: Global,
     source: &mut S,
     sink: &mut MemorySink,
 ) -> Result<Status, Fail> {
-    let words = [String::from_str(alloc, "planar")?];
+    let words = words_of(alloc, &[])?;
     status_with(alloc, &words, source, sink, 4, None)
 }
 
-// The status and the replies of what the source gives.
-fn run_source<S: Source>(alloc: Global, source: &mut S) -> Result<(Status, Vec<u8>), Fail> {
+// The status and the replies of what the source gives, under these words, with four mirrors.
+fn run_source<S: Source>(
+    alloc: Global,
+    behind: &[&str],
+    source: &mut S,
+) -> Result<(Status, Vec<u8>), Fail> {
+    let words = words_of(alloc, behind)?;
     let mut sink = MemorySink::new(alloc, 200_000, 7, Vec::new(alloc))?;
-    let status = status_of(alloc, source, &mut sink)?;
+    let status = status_with(alloc, &words, source, &mut sink, 4, None)?;
     Ok((status, Vec::from_slice(alloc, sink.taken())?))
 }
 
@@ -54,31 +69,44 @@ fn source_of(alloc: Global, script: &str, piece: usize, fail: u64) -> Result<Mem
 }
 
 // The status and the replies of a script that comes in pieces, over a source that fails at one call (0: at none).
-fn run(alloc: Global, script: &str, piece: usize, fail: u64) -> Result<(Status, Vec<u8>), Fail>
+fn run(
+    alloc: Global,
+    behind: &[&str],
+    script: &str,
+    piece: usize,
+    fail: u64,
+) -> Result<(Status, Vec<u8>), Fail>
     requires { 0 < piece }
 {
     let mut source = source_of(alloc, script, piece, fail)?;
-    run_source(alloc, &mut source)
+    run_source(alloc, behind, &mut source)
 }
 
-// Whether a script that comes in pieces is run to its end and answered by just these replies.
-fn is_answered(alloc: Global, script: &str, piece: usize, replies: &str) -> Result<bool, Fail>
+// Whether a script that comes in pieces is run to its end and answered by just these replies, under these words.
+fn is_answered(
+    alloc: Global,
+    behind: &[&str],
+    script: &str,
+    piece: usize,
+    replies: &str,
+) -> Result<bool, Fail>
     requires { 0 < piece }
 {
-    let (status, taken) = run(alloc, script, piece, 0)?;
+    let (status, taken) = run(alloc, behind, script, piece, 0)?;
     Ok(status == Status::Done && taken.as_slice() == replies.as_bytes())
 }
 
-// The first of these scripts that isn't answered by its replies, if there is one.
+// The first of these scripts that isn't answered by its replies under these words, if there is one.
 pub fn first_wrong(
     alloc: Global,
+    behind: &[&str],
     rows: &[(&'static str, &'static str)],
     piece: usize,
 ) -> Result<Option<&'static str>, Fail>
     requires { 0 < piece }
 {
     for (script, replies) in rows {
-        if !is_answered(alloc, script, piece, replies)? {
+        if !is_answered(alloc, behind, script, piece, replies)? {
             return Ok(Some(script));
         }
     }
@@ -101,13 +129,27 @@ const SCRIPTS: [(&str, &str); 5] = [
 
 #[test]
 fn scripts_are_answered(rt: HostRuntime) -> Result<(), Fail> {
-    assert!(rt; first_wrong(rt.alloc(), &SCRIPTS, 3)? == None);
+    assert!(rt; first_wrong(rt.alloc(), &[], &SCRIPTS, 3)? == None);
     Ok(())
 }
 
 #[test]
 fn segments_are_answered(rt: HostRuntime) -> Result<(), Fail> {
-    assert!(rt; first_wrong(rt.alloc(), &ROWS, 4096)? == None);
+    assert!(rt; first_wrong(rt.alloc(), &[], &ROWS, 4096)? == None);
+    Ok(())
+}
+
+#[test]
+fn no_strategy_changes_a_reply(rt: HostRuntime) -> Result<(), Fail> {
+    let strategies: [&[&str]; 4] = [
+        &["--locate=naive"],
+        &["--locate", "walk"],
+        &["--locate=landmarks"],
+        &["--locate", "trapezoid"],
+    ];
+    for words in strategies {
+        assert!(rt; first_wrong(rt.alloc(), words, &ROWS, 4096)? == None, "{words:?}");
+    }
     Ok(())
 }
 
@@ -127,7 +169,7 @@ fn many_curves(alloc: Global) -> Result<(String, String), Fail> {
 #[test]
 fn two_thousand_curves_are_the_limit(rt: HostRuntime) -> Result<(), Fail> {
     let (script, replies) = many_curves(rt.alloc())?;
-    assert!(rt; is_answered(rt.alloc(), script.as_str(), 4096, replies.as_str())?);
+    assert!(rt; is_answered(rt.alloc(), &[], script.as_str(), 4096, replies.as_str())?);
     Ok(())
 }
 
@@ -146,7 +188,7 @@ const ODD_LINES: [(&str, &str); 10] = [
 
 #[test]
 fn odd_lines_are_refused_by_their_number(rt: HostRuntime) -> Result<(), Fail> {
-    assert!(rt; first_wrong(rt.alloc(), &ODD_LINES, 4096)? == None);
+    assert!(rt; first_wrong(rt.alloc(), &[], &ODD_LINES, 4096)? == None);
     Ok(())
 }
 
@@ -166,7 +208,7 @@ fn many_pins(alloc: Global) -> Result<(String, String), Fail> {
 #[test]
 fn ten_thousand_pins_are_the_limit(rt: HostRuntime) -> Result<(), Fail> {
     let (script, replies) = many_pins(rt.alloc())?;
-    assert!(rt; is_answered(rt.alloc(), script.as_str(), 4096, replies.as_str())?);
+    assert!(rt; is_answered(rt.alloc(), &[], script.as_str(), 4096, replies.as_str())?);
     Ok(())
 }
 
@@ -211,7 +253,7 @@ fn long_texts_are_shown(rt: HostRuntime) -> Result<(), Fail> {
     let script = long_script(rt.alloc())?;
     let text = long_text(rt.alloc())?;
     assert!(rt; text.len() > 65_536 + 3_000);
-    assert!(rt; is_answered(rt.alloc(), script.as_str(), 4096, text.as_str())?);
+    assert!(rt; is_answered(rt.alloc(), &[], script.as_str(), 4096, text.as_str())?);
     Ok(())
 }
 
@@ -221,7 +263,7 @@ fn a_read_that_fails_ends_the_run(rt: HostRuntime) -> Result<(), Fail> {
     let shown = "ok\nok\narrangement 2 0 1\nv 1 0 0 1 pin :\nv 2 1 0 1 pin :\nf 0\np 1\np 2\nend\n";
     // A call hands over ten bytes: a line, a line, and the last five bytes.
     for (fail, replies) in [(1, ""), (2, "ok\n"), (3, "ok\nok\n"), (4, shown)] {
-        let (status, taken) = run(rt.alloc(), script, 10, fail)?;
+        let (status, taken) = run(rt.alloc(), &[], script, 10, fail)?;
         assert!(rt; status == Status::ReadFault, "at call {fail}");
         assert!(rt; taken.as_slice() == replies.as_bytes(), "at call {fail}");
     }
@@ -238,21 +280,33 @@ fn a_write_that_fails_ends_the_run(rt: HostRuntime) -> Result<(), Fail> {
     Ok(())
 }
 
+const USAGE: &str = "usage: planar [--locate naive|walk|landmarks|trapezoid]\n";
+
 // Whether these words are answered by the usage line.
 fn are_refused(alloc: Global, words: &[String]) -> Result<bool, Fail> {
     let mut source = RepeatSource::new(10, 5);
     let mut sink = MemorySink::new(alloc, 100, 100, Vec::new(alloc))?;
     let status = status_with(alloc, words, &mut source, &mut sink, 4, None)?;
-    Ok(status == Status::Usage && sink.taken() == b"usage: planar\n".as_slice())
+    Ok(status == Status::Usage && sink.taken() == USAGE.as_bytes())
 }
 
 #[test]
 fn other_words_are_answered_by_the_usage_line(rt: HostRuntime) -> Result<(), Fail> {
     let alloc = rt.alloc();
     assert!(rt; are_refused(alloc, &[])?);
-    let name = String::from_str(alloc, "planar")?;
-    let words = [name, String::from_str(alloc, "--help")?];
-    assert!(rt; are_refused(alloc, &words)?);
+    let outside: [&[&str]; 8] = [
+        &["--help"],
+        &["--"],
+        &["--locate", "sideways"],
+        &["--locate", "walk", "--locate=walk"],
+        &["--locate="],
+        &["--locate==walk"],
+        &["--loc", "walk"],
+        &["--make", "01"],
+    ];
+    for behind in outside {
+        assert!(rt; are_refused(alloc, &words_of(alloc, behind)?)?, "{behind:?}");
+    }
     Ok(())
 }
 
@@ -267,7 +321,7 @@ fn limits_are_kept(rt: HostRuntime) -> Result<(), Fail> {
         (b'\n', (1 << 26) + 1, Status::TooLong, ""),
     ];
     for (byte, count, status, replies) in rows {
-        let (ended, taken) = run_source(rt.alloc(), &mut RepeatSource::new(byte, count))?;
+        let (ended, taken) = run_source(rt.alloc(), &[], &mut RepeatSource::new(byte, count))?;
         assert!(rt; ended == status, "at {count} times {byte}");
         assert!(rt;
             taken.as_slice() == replies.as_bytes(),
