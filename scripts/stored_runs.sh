@@ -38,7 +38,7 @@ check() {
     fi
 }
 
-usage=$'usage: planar [--locate naive|walk|landmarks|trapezoid]\n'
+usage=$'usage: planar [--locate naive|walk|landmarks|trapezoid] [--make N] [--seed N]\n'
 
 check 'a wrong word' 2 '' "$usage" wrong
 check 'a wrong word before a script' 2 $'show\n' "$usage" wrong
@@ -47,6 +47,7 @@ check 'a word that is no text' 2 $'show\n' "$usage" $'--locate=\xff'
 check 'an empty script' 0 '' ''
 check 'one line' 0 $'show\n' $'arrangement 0 0 1\nf 0\nend\n'
 check 'an empty script, by the walk' 0 '' '' --locate=walk
+check 'a made script' 0 $'show\n' $'counts 4 2 1 2 0 2\n' --make 2
 check 'a location by the walk' 0 $'segment 0 0 4 0\nlocate 2 0 1\n' $'ok 1\nedge 0 0 1 4 0 1\n' --locate walk
 
 [ "$failed" -eq 0 ] && echo 'stored runs: all as wanted'

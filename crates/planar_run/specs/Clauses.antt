@@ -11,7 +11,7 @@ use Rattle.planar_run.specs.Engine.{Answers, AnswersPart}
 
 -- what answers words that are outside the grammar
 abbrev pub usage_line : List ℕ
-usage_line = codes "usage: planar [--locate naive|walk|landmarks|trapezoid]" ++ 10 ∷ []
+usage_line = codes "usage: planar [--locate naive|walk|landmarks|trapezoid] [--make N] [--seed N]" ++ 10 ∷ []
 
 -- where the source tells what it has left: the bytes by which it became shorter have P
 abbrev pub Used : Option (List ℕ) → Option (List ℕ) → (List ℕ → Type 0) → Type 0

@@ -10,4 +10,5 @@ pub mod Answer
 pub mod Run
 pub mod Status
 pub mod Engine
+pub mod Made
 pub mod Clauses

@@ -1,9 +1,11 @@
-ghost use Rattle.std.specs.Prelude.{◌≡◌, ◌≢◌, [], IfOk, OnOk, OnErr};
+ghost use Rattle.std.specs.Prelude.{◌≡◌, ◌≢◌, [], not, bytes_eq, IfOk, OnOk, OnErr};
 ghost use Rattle.outside.specs.Counts.{HasCause};
 ghost use Rattle.planar_run.specs.World.{first_world};
 ghost use Rattle.planar_run.specs.Rows.{arranged_row, waiting_rows, world_row, IsKept};
 ghost use Rattle.planar_run.specs.Engine.{Answers, AnswersPart, Takes, Feeds, FeedsPart};
+ghost use Rattle.planar_run.specs.Answer.{Replies};
 ghost use Rattle.planar_run.specs.Clauses.{Causes, Finishes};
+ghost use Rattle.planar_run.specs.Made.{no_memory_reply, AnswersMade, AnswersMadePart, IsLastReply};
 
 use crate::answer::answer;
 use crate::line::Line;
@@ -13,6 +15,7 @@ use crate::world::World;
 use arr_notes::Observer;
 use no_memory::NoMemory;
 use outside::{Failed, Sink, write_all};
+use script_maker::{LINE_ROOM, Maker};
 use slab_laws::Strategy;
 use std::alloc::Global;
 
@@ -53,6 +56,49 @@ impl Engine {
     {
         answer(&mut self.world, self.line.as_slice(), &mut self.reply);
         self.line.clear();
+        write_all(sink, self.reply.as_slice())
+    }
+
+    // Answers a line that is there whole, and tells whether it found memory.
+    fn answer_whole(&mut self, line: &[u8]) -> bool
+        requires kept { IsKept (arranged_row tells held left heard self.old.world) }
+        ensures replied { Replies (world_row tells held left heard self.old.world) line.now self.new.reply (world_row tells held left heard self.new.world) }
+        ensures found { result ≡ not (bytes_eq self.new.reply no_memory_reply) }
+        ensures kept { IsKept (arranged_row tells held left heard self.new.world) }
+    {
+        answer(&mut self.world, line, &mut self.reply);
+        self.reply.as_slice() != b"no memory\n"
+    }
+
+    // Answers the lines of a made script to the last one, or to the first that finds no memory, and keeps the reply to it.
+    fn answer_made(&mut self, maker: &mut Maker)
+        requires kept { IsKept (arranged_row tells held left heard self.old.world) }
+        ensures last { IsLastReply (world_row tells held left heard self.old.world) maker.old self.new.reply }
+        ensures kept { IsKept (arranged_row tells held left heard self.new.world) }
+    {
+        let mut buffer = [0u8; LINE_ROOM];
+        self.reply.clear();
+        'lines: loop {
+            match maker.next_line(&mut buffer) {
+                None => return,
+                Some(length) => {
+                    let (line, _) = buffer.split_at(length);
+                    if !self.answer_whole(line) {
+                        return;
+                    }
+                }
+            }
+        }
+    }
+
+    /// Answers the lines of a made script, and writes the reply to the last one alone, or to the first that finds no memory.
+    pub fn write_made<K: Sink>(&mut self, maker: &mut Maker, sink: &mut K) -> Result<(), Failed>
+        requires kept { IsKept (arranged_row tells held left heard self.old.world) }
+        ensures written { OnOk result (AnswersMade (K.taken sink.old) (K.taken sink.new) (world_row tells held left heard self.old.world) maker.old) }
+        ensures broken { OnErr result (AnswersMadePart (K.taken sink.old) (K.taken sink.new) (world_row tells held left heard self.old.world) maker.old) }
+        ensures cause { HasCause (K.faults sink.old) (K.faults sink.new) result }
+    {
+        self.answer_made(maker);
         write_all(sink, self.reply.as_slice())
     }
 

@@ -1,7 +1,9 @@
-ghost use Rattle.std.specs.Prelude.{List, ◌≡◌, ◌≢◌, ◌⊎◌, ◌+◌, ◌^◌, ◌≤◌, [], length, map, string_bytes, take, IsSomeAnd};
+ghost use Rattle.std.specs.Prelude.{ℕ, List, ◌≡◌, ◌≢◌, ◌⊎◌, ◌+◌, ◌^◌, ◌≤◌, [], length, map, string_bytes, take, IsSomeAnd};
 ghost use Rattle.outside.specs.Bytes.{Gains, GainsPrefix};
 ghost use Rattle.outside.specs.Counts.{Rose};
 ghost use Rattle.words_in.specs.Grammar.{AreInGrammar, AreOutside};
+ghost use Rattle.script_maker.specs.Script.{script};
+ghost use Rattle.planar_run.specs.Made.{AnswersMade, AnswersMadePart, AskForMade, AskForScript};
 ghost use Rattle.planar_run.specs.Lines.{lines, ended_lines};
 ghost use Rattle.planar_run.specs.World.{first_world, Waiting};
 ghost use Rattle.planar_run.specs.Rows.{arranged_row, waiting_rows, world_row, IsKept};
@@ -12,6 +14,7 @@ use crate::engine::Engine;
 use crate::status::Status;
 use arr_notes::Observer;
 use outside::{Sink, Source, read_byte, write_all};
+use script_maker::Maker;
 use slab_laws::Strategy;
 use std::alloc::Global;
 use words_in::{WordsError, read_words};
@@ -74,6 +77,42 @@ fn run<S: Source, K: Sink>(
     }
 }
 
+// Writes the last reply to a made script, by an engine that stands before the first line.
+fn answer_made<K: Sink>(engine: &mut Engine, segments: u32, seed: u32, sink: &mut K) -> Status
+    requires kept { IsKept (arranged_row tells held (λ b. (⟦<dyn Observer as Observer>⟧ b.vtable).left b.value) heard engine.old.world) }
+    ensures made { result ≡ Status.Done → AnswersMade (K.taken sink.old) (K.taken sink.new) (world_row tells held (λ b. (⟦<dyn Observer as Observer>⟧ b.vtable).left b.value) heard engine.old.world) (script segments seed) }
+    ensures broken { result ≡ Status.WriteFault → AnswersMadePart (K.taken sink.old) (K.taken sink.new) (world_row tells held (λ b. (⟦<dyn Observer as Observer>⟧ b.vtable).left b.value) heard engine.old.world) (script segments seed) }
+    ensures only { (result ≡ Status.Done) ⊎ (result ≡ Status.WriteFault) }
+    ensures causes { Causes result 0 0 (K.faults sink.old) (K.faults sink.new) }
+{
+    let mut maker = Maker::new(segments, seed);
+    match engine.write_made(&mut maker, sink) {
+        Ok(()) => Status::Done,
+        Err(_) => Status::WriteFault,
+    }
+}
+
+// The same by a new engine, where there is memory for it.
+fn run_made<K: Sink>(
+    alloc: Global,
+    strategy: Strategy,
+    segments: u32,
+    seed: u32,
+    sink: &mut K,
+    observers: Vec<Box<dyn Observer>>,
+) -> Status
+    ensures made { result ≡ Status.Done → AnswersMade (K.taken sink.old) (K.taken sink.new) (first_world (waiting_rows tells (λ b. (⟦<dyn Observer as Observer>⟧ b.vtable).left b.value) observers.items)) (script segments seed) }
+    ensures broken { result ≡ Status.WriteFault → AnswersMadePart (K.taken sink.old) (K.taken sink.new) (first_world (waiting_rows tells (λ b. (⟦<dyn Observer as Observer>⟧ b.vtable).left b.value) observers.items)) (script segments seed) }
+    ensures no_memory { result ≡ Status.NoMemory → K.taken sink.new ≡ K.taken sink.old }
+    ensures only { (result ≡ Status.Done) ⊎ ((result ≡ Status.WriteFault) ⊎ (result ≡ Status.NoMemory)) }
+    ensures causes { Causes result 0 0 (K.faults sink.old) (K.faults sink.new) }
+{
+    match Engine::new(alloc, strategy, observers) {
+        Ok(mut engine) => answer_made(&mut engine, segments, seed, sink),
+        Err(_) => Status::NoMemory,
+    }
+}
+
 // The usage line in place of a run.
 fn refuse_words<K: Sink>(sink: &mut K) -> Status
     ensures usage { result ≡ Status.Usage → Gains (K.taken sink.old) (K.taken sink.new) usage_line }
@@ -81,7 +120,7 @@ fn refuse_words<K: Sink>(sink: &mut K) -> Status
     ensures only { (result ≡ Status.Usage) ⊎ (result ≡ Status.WriteFault) }
     ensures causes { Causes result 0 0 (K.faults sink.old) (K.faults sink.new) }
 {
-    match write_all(sink, b"usage: planar [--locate naive|walk|landmarks|trapezoid]\n") {
+    match write_all(sink, b"usage: planar [--locate naive|walk|landmarks|trapezoid] [--make N] [--seed N]\n") {
         Ok(()) => Status::Usage,
         Err(_) => Status::WriteFault,
     }
@@ -90,7 +129,8 @@ fn refuse_words<K: Sink>(sink: &mut K) -> Status
 /// Runs the script that the source gives, and hands the replies to the sink.
 ///
 /// `words` are those of the command line, the program's name first, which [`read_words`] reads; how points are located
-/// shows in no reply. Each line is answered when its end was read. A line that was begun isn't answered after a failed read, and the first failed read
+/// shows in no reply. Where they ask for a made script, the source isn't read, and the reply to the last line of that script
+/// alone is written, or, where a line of it finds no memory, the reply to the first such line. Each line is answered when its end was read. A line that was begun isn't answered after a failed read, and the first failed read
 /// or write ends the run. Lines and scripts of any length take bounded memory.
 pub fn planar<S: Source, K: Sink>(
     alloc: Global,
@@ -99,14 +139,22 @@ pub fn planar<S: Source, K: Sink>(
     sink: &mut K,
     observers: Vec<Box<dyn Observer>>,
 ) -> Status
-    // What the sink took is a run of the lines of the script, whose end was reached.
-    ensures read_to_end { result ≡ Status.Done → ReadToEnd (S.left source.old) (S.left source.new) }
-    ensures answered { result ≡ Status.Done → UsedAndWritten (S.left source.old) (S.left source.new) (K.taken sink.old) (K.taken sink.new) (λ used out. IsRun (waiting_rows tells (λ b. (⟦<dyn Observer as Observer>⟧ b.vtable).left b.value) observers.items) (lines used) out) }
+    // Where the words ask for the script of the source, what the sink took is a run of its lines, and its end was reached.
+    ensures read_to_end { AskForScript (map string_bytes words.now) → result ≡ Status.Done → ReadToEnd (S.left source.old) (S.left source.new) }
+    ensures answered { AskForScript (map string_bytes words.now) → result ≡ Status.Done → UsedAndWritten (S.left source.old) (S.left source.new) (K.taken sink.old) (K.taken sink.new) (λ used out. IsRun (waiting_rows tells (λ b. (⟦<dyn Observer as Observer>⟧ b.vtable).left b.value) observers.items) (lines used) out) }
 
     // After a fault, or past the limit, the lines whose end was read are answered.
     ensures answered_to_read_fault { result ≡ Status.ReadFault → UsedAndWritten (S.left source.old) (S.left source.new) (K.taken sink.old) (K.taken sink.new) (λ used out. IsRun (waiting_rows tells (λ b. (⟦<dyn Observer as Observer>⟧ b.vtable).left b.value) observers.items) (ended_lines used) out) }
     ensures answered_to_limit { result ≡ Status.TooLong → UsedAndWritten (S.left source.old) (S.left source.new) (K.taken sink.old) (K.taken sink.new) (λ used out. IsRun (waiting_rows tells (λ b. (⟦<dyn Observer as Observer>⟧ b.vtable).left b.value) observers.items) (ended_lines (take SCRIPT_LIMIT used)) out) }
-    ensures answered_to_write_fault { AreInGrammar (map string_bytes words.now) → result ≡ Status.WriteFault → UsedAndWritten (S.left source.old) (S.left source.new) (K.taken sink.old) (K.taken sink.new) (λ used out. BeginsRun (waiting_rows tells (λ b. (⟦<dyn Observer as Observer>⟧ b.vtable).left b.value) observers.items) (lines used) out) }
+    ensures answered_to_write_fault { AskForScript (map string_bytes words.now) → result ≡ Status.WriteFault → UsedAndWritten (S.left source.old) (S.left source.new) (K.taken sink.old) (K.taken sink.new) (λ used out. BeginsRun (waiting_rows tells (λ b. (⟦<dyn Observer as Observer>⟧ b.vtable).left b.value) observers.items) (lines used) out) }
+
+    // Where they ask for a made script, it took the last reply to its lines, and nothing is read.
+    ensures made { (segments seed : ℕ) → AskForMade (map string_bytes words.now) segments seed → result ≡ Status.Done → AnswersMade (K.taken sink.old) (K.taken sink.new) (first_world (waiting_rows tells (λ b. (⟦<dyn Observer as Observer>⟧ b.vtable).left b.value) observers.items)) (script segments seed) }
+    ensures made_to_write_fault { (segments seed : ℕ) → AskForMade (map string_bytes words.now) segments seed → result ≡ Status.WriteFault → AnswersMadePart (K.taken sink.old) (K.taken sink.new) (first_world (waiting_rows tells (λ b. (⟦<dyn Observer as Observer>⟧ b.vtable).left b.value) observers.items)) (script segments seed) }
+    ensures made_without_source { (segments seed : ℕ) → AskForMade (map string_bytes words.now) segments seed → (source.new ≡ source.old) × ((result ≡ Status.Done) ⊎ ((result ≡ Status.WriteFault) ⊎ (result ≡ Status.NoMemory))) }
+
+    // A run is done only where the words are in the grammar.
+    ensures known { result ≡ Status.Done → AreInGrammar (map string_bytes words.now) }
 
     // Words outside the grammar are answered by the usage line, where there is memory to read them, and nothing is read.
     ensures usage { result ≡ Status.Usage → AreOutside (map string_bytes words.now) × Gains (K.taken sink.old) (K.taken sink.new) usage_line }
@@ -127,7 +175,7 @@ pub fn planar<S: Source, K: Sink>(
     ensures no_write_fault { result ≢ Status.WriteFault → K.faults sink.new ≡ K.faults sink.old }
 
     // A script within the limit, over a source and a sink whose faults don't rise, is run to its end.
-    ensures complete { AreInGrammar (map string_bytes words.now) → ¬ Rose (S.faults source.old) (S.faults source.new) → ¬ Rose (K.faults sink.old) (K.faults sink.new) → IsSomeAnd (S.left source.old) (λ script. length script ≤ SCRIPT_LIMIT) → (result ≡ Status.Done) ⊎ (result ≡ Status.NoMemory) }
+    ensures complete { AskForScript (map string_bytes words.now) → ¬ Rose (S.faults source.old) (S.faults source.new) → ¬ Rose (K.faults sink.old) (K.faults sink.new) → IsSomeAnd (S.left source.old) (λ script. length script ≤ SCRIPT_LIMIT) → (result ≡ Status.Done) ⊎ (result ≡ Status.NoMemory) }
 
     // No byte is asked for one at a time but the one past the limit.
     ensures reads { S.calls source.new ≤ S.calls source.old + (SCRIPT_LIMIT + 1) }
@@ -136,7 +184,17 @@ pub fn planar<S: Source, K: Sink>(
     ensures limit { SCRIPT_LIMIT ≡ 2 ^ 26 }
 {
     match read_words(alloc, words) {
-        Ok(options) => run(alloc, options.strategy, source, sink, observers),
+        Ok(options) => match options.make {
+            None => run(alloc, options.strategy, source, sink, observers),
+            Some(segments) => run_made(
+                alloc,
+                options.strategy,
+                segments,
+                options.seed,
+                sink,
+                observers,
+            ),
+        },
         Err(WordsError::Usage) => refuse_words(sink),
         Err(WordsError::NoMemory) => Status::NoMemory,
     }

@@ -280,7 +280,7 @@ fn a_write_that_fails_ends_the_run(rt: HostRuntime) -> Result<(), Fail> {
     Ok(())
 }
 
-const USAGE: &str = "usage: planar [--locate naive|walk|landmarks|trapezoid]\n";
+const USAGE: &str = "usage: planar [--locate naive|walk|landmarks|trapezoid] [--make N] [--seed N]\n";
 
 // Whether these words are answered by the usage line.
 fn are_refused(alloc: Global, words: &[String]) -> Result<bool, Fail> {
@@ -294,7 +294,7 @@ fn are_refused(alloc: Global, words: &[String]) -> Result<bool, Fail> {
 fn other_words_are_answered_by_the_usage_line(rt: HostRuntime) -> Result<(), Fail> {
     let alloc = rt.alloc();
     assert!(rt; are_refused(alloc, &[])?);
-    let outside: [&[&str]; 8] = [
+    let outside: [&[&str]; 10] = [
         &["--help"],
         &["--"],
         &["--locate", "sideways"],
@@ -303,10 +303,46 @@ fn other_words_are_answered_by_the_usage_line(rt: HostRuntime) -> Result<(), Fai
         &["--locate==walk"],
         &["--loc", "walk"],
         &["--make", "01"],
+        &["--make", "2001"],
+        &["--seed", "-1"],
     ];
     for behind in outside {
         assert!(rt; are_refused(alloc, &words_of(alloc, behind)?)?, "{behind:?}");
     }
+    Ok(())
+}
+
+const MADE_16: &str = "counts 28 14 1 14 0 14\n";
+
+const MADE_120: &str = "counts 210 105 1 105 0 105\n";
+
+// How a made script ends under these words, over a source that fails when it is read.
+fn run_made(alloc: Global, behind: &[&str]) -> Result<(Status, Vec<u8>), Fail> {
+    run(alloc, behind, "show\n", 1, 1)
+}
+
+#[test]
+fn made_scripts_write_their_last_reply(rt: HostRuntime) -> Result<(), Fail> {
+    let rows: [(&[&str], &str); 7] = [
+        (&["--make", "1"], "counts 2 1 1 1 0 1\n"),
+        (&["--make=2"], "counts 4 2 1 2 0 2\n"),
+        (&["--make", "16", "--seed=7"], MADE_16),
+        (&["--make", "120", "--locate=naive"], MADE_120),
+        (&["--locate", "walk", "--make=120"], MADE_120),
+        (&["--make=120", "--seed", "1", "--locate=landmarks"], MADE_120),
+        (&["--seed=1", "--make=120", "--locate=trapezoid"], MADE_120),
+    ];
+    for (words, reply) in rows {
+        let (status, taken) = run_made(rt.alloc(), words)?;
+        assert!(rt; status == Status::Done, "{words:?}");
+        assert!(rt; taken.as_slice() == reply.as_bytes(), "{words:?}");
+    }
+    Ok(())
+}
+
+#[test]
+fn a_seed_alone_changes_nothing(rt: HostRuntime) -> Result<(), Fail> {
+    assert!(rt; first_wrong(rt.alloc(), &["--seed", "7"], &SCRIPTS, 4096)? == None);
     Ok(())
 }
 
