@@ -10,3 +10,4 @@ pub mod Observed
 pub mod Attaching
 pub mod Replied
 pub mod Numbered
+pub mod Asked

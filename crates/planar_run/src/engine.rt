@@ -1,4 +1,4 @@
-ghost use Rattle.std.specs.Prelude.{◌≡◌, ◌≢◌, [], not, bytes_eq, IfOk, OnOk, OnErr};
+ghost use Rattle.std.specs.Prelude.{◌≡◌, ◌≢◌, [], true, false, IfOk, OnOk, OnErr};
 ghost use Rattle.outside.specs.Counts.{HasCause};
 ghost use Rattle.planar_run.specs.World.{first_world};
 ghost use Rattle.planar_run.specs.Rows.{arranged_row, waiting_rows, world_row, IsKept};
@@ -63,11 +63,12 @@ impl Engine {
     fn answer_whole(&mut self, line: &[u8]) -> bool
         requires kept { IsKept (arranged_row tells held left heard self.old.world) }
         ensures replied { Replies (world_row tells held left heard self.old.world) line.now self.new.reply (world_row tells held left heard self.new.world) }
-        ensures found { result ≡ not (bytes_eq self.new.reply no_memory_reply) }
+        ensures found { result ≡ true → self.new.reply ≢ no_memory_reply }
+        ensures none { result ≡ false → self.new.reply ≡ no_memory_reply }
         ensures kept { IsKept (arranged_row tells held left heard self.new.world) }
     {
         answer(&mut self.world, line, &mut self.reply);
-        self.reply.as_slice() != b"no memory\n"
+        self.reply.as_slice() != b"no memory\n".as_slice()
     }
 
     // Answers the lines of a made script to the last one, or to the first that finds no memory, and keeps the reply to it.
