@@ -6,7 +6,7 @@ ghost use Rattle.script_lines.specs.Command.{empty_form, point_form, point_from,
 
 use crate::command::Command;
 use crate::error::LineError;
-use crate::number::number;
+use crate::number::read_number;
 use crate::words::{count_words, next_word, three_words};
 use exact_plane::{MAX_COORDINATE, Point};
 
@@ -16,7 +16,7 @@ const MAX_OBSERVER: u32 = 64;
 // The greatest number of rounds from now.
 const MAX_ROUND: u32 = 1_000_000;
 
-// The numbers of a line of so many words, each within the limit of `number`.
+// The numbers of a line of so many words, each within the limit of `read_number`.
 fn numbers<const N: usize>(line: &[u8]) -> Result<[i128; N], LineError>
     ensures { result ≡ numbers_of N (words line.now) }
 {
@@ -30,7 +30,7 @@ fn numbers<const N: usize>(line: &[u8]) -> Result<[i128; N], LineError>
         let Some((word, behind)) = next_word(rest) else {
             return Err(LineError::Count);
         };
-        *slot = number(word).ok_or(LineError::Number)?;
+        *slot = read_number(word).ok_or(LineError::Number)?;
         rest = behind;
     }
     Ok(numbers)
@@ -143,8 +143,8 @@ fn observer_at_from(numbers: [i128; 2]) -> Option<(u32, Option<u32>)>
 fn observer_at_words(observer: &[u8], round: &[u8]) -> Result<(u32, Option<u32>), LineError>
     ensures { result ≡ numbers_reading observer_at_from (observer.now ∷ round.now ∷ []) }
 {
-    let observer = number(observer).ok_or(LineError::Number)?;
-    let round = number(round).ok_or(LineError::Number)?;
+    let observer = read_number(observer).ok_or(LineError::Number)?;
+    let round = read_number(round).ok_or(LineError::Number)?;
     observer_at_from([observer, round]).ok_or(LineError::Range)
 }
 

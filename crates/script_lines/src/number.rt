@@ -21,10 +21,11 @@ fn positive(digits: &[u8]) -> Option<u128>
     Some(number)
 }
 
-/// The number that a word is, or the limit with its sign where it is past it.
+/// The number that a word is.
 ///
-/// A number is `0`, or an optional `-`, a digit 1 to 9 and any digits; `None` is for any other word.
-pub fn number(word: &[u8]) -> Option<i128>
+/// A number is `0`, or an optional `-`, a digit 1 to 9 and any digits, however many; `None` is for any other word. One whose
+/// size is past 2^64 is given as 2^64 with its sign, so that a range within that is tried on the result as on the number itself.
+pub fn read_number(word: &[u8]) -> Option<i128>
     ensures { result ≡ option_map limited_number (number_of word.now) }
 {
     match word {

@@ -10,12 +10,12 @@ use Rattle.clap.proofs.WalkLemmas.{list_any-map}
 use Rattle.words_in.specs.declared.options.Options.{Options}
 use Rattle.words_in.specs.declared.options.WordsError.{WordsError}
 use Rattle.words_in.specs.declared.options.WordsError.TheVariants.{Usage}
-use Rattle.words_in.specs.Strategies.{options_read}
-use Rattle.words_in.specs.Grammar.{HasOptions}
+use Rattle.words_in.specs.Values.{options_read}
+use Rattle.words_in.specs.Grammar.{AreOutside, HasOptions}
 use Rattle.words_in.specs.Command.{planar_app}
 use Rattle.words_in.proofs.Turns.{dashes}
 use Rattle.words_in.proofs.Readings.{HasNoDashes}
-use Rattle.words_in.proofs.Grammar.{IsTaken, given_if_taken, taken_if_given}
+use Rattle.words_in.proofs.Grammar.{IsTaken, given_if_taken, options_found, taken_if_given}
 
 -- the words as texts have `--` where the words have it
 pub dashes_in : {Z : Type 0} (words : List (String Z))
@@ -28,7 +28,13 @@ taken_of [] options ne t = absurd (ne refl)
 taken_of (first ∷ rest) options ne t = given_if_taken first rest options t
 
 abbrev found_in : List Text → Option Options
-found_in words = options_read (first_of (codes "locate") (matches_of planar_app words))
+found_in words = options_found (matches_of planar_app words)
+
+-- options that are read of what is found first of each name
+pub read_of_found : (words : List Text) (locate make seed : Option Text) (o : Option Options) → o ≡ options_read locate make seed
+    → locate ≡ first_of (codes "locate") (matches_of planar_app words) → make ≡ first_of (codes "make") (matches_of planar_app words)
+    → seed ≡ first_of (codes "seed") (matches_of planar_app words) → o ≡ found_in words
+read_of_found words locate make seed o r e f g = r ∙ rw (e, f, g) refl
 
 -- what is answered, by whether options are found
 pub options_given_if_ok : (words : List Text) (o : Option Options) (r : Result Options WordsError) → r ≡ ok_or o Usage → o ≡ found_in words
@@ -46,7 +52,7 @@ alone_if_ok words (Some options) r e f =
     (λ other g. let t = taken_if_given words other g in let same : Some options ≡ Some other = f ∙ t.read in cc)
 
 pub outside_if_usage : (words : List Text) (o : Option Options) (r : Result Options WordsError) → r ≡ ok_or o Usage → o ≡ found_in words
-    → r ≡ Err Usage → (options : Options) → HasOptions words options → ⊥
+    → r ≡ Err Usage → AreOutside words
 outside_if_usage words None r e f u options g = let t = taken_if_given words options g in let bad = f ∙ t.read in cc
 outside_if_usage words (Some found) r e f u options g = let bad = sym e ∙ u in cc
 

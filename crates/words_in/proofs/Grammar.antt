@@ -10,21 +10,22 @@ use Rattle.clap.specs.Faults.{check_fault, defaults_fault, entered_fault, fault_
 use Rattle.clap.specs.Simple.{built, entered, matches_of}
 use Rattle.clap.proofs.WalkLemmas.{find-map}
 use Rattle.words_in.specs.declared.options.Options.{Options}
-use Rattle.words_in.specs.Strategies.{options_read}
-use Rattle.words_in.specs.Grammar.{Given, HasOptions, option_names, value_given}
+use Rattle.words_in.specs.Values.{options_read}
+use Rattle.words_in.specs.Grammar.{Given, HasOptions, option_names, options_given, value_given}
 use Rattle.words_in.specs.Command.{planar_app}
 use Rattle.words_in.proofs.Turns.{both_none, filled_option, idle_at, rules, shape}
 use Rattle.words_in.proofs.Readings.{HasNoDashes, default_step, faultless_words, row_of, rows_found}
 use Rattle.words_in.proofs.Passing.{IsPassed, given_pass}
 
-abbrev locate : Text
-locate = codes "locate"
+-- the options of what is found first of each name
+abbrev pub options_found : List Row → Option Options
+options_found rows = options_read (first_of (codes "locate") rows) (first_of (codes "make") rows) (first_of (codes "seed") rows)
 
--- no word behind the first is `--`, and `clap` finds a value that gives the options
+-- no word behind the first is `--`, and `clap` finds values that give the options
 pub record IsTaken (words : List Text) (options : Options) : Type 0 where
   pub no_dashes : HasNoDashes (drop 1 words)
   pub faultless : fault_of planar_app words ≡ []
-  pub read : options_read (first_of locate (matches_of planar_app words)) ≡ Some options
+  pub read : options_found (matches_of planar_app words) ≡ Some options
 
 -- what is found first of a name is the value that is given for it
 first_given : (name : Text) (given : List Given) → first_of name (map row_of given) ≡ value_given name given
@@ -35,6 +36,11 @@ first_given name given =
     go : (o : Option Given) → option_and_then (λ (r : Row). slice_get r.values 0) (option_map row_of o) ≡ option_map (λ (g : Given). g.value) o
     go None = refl
     go (Some g) = refl
+
+-- what is found gives the options that are given
+found_given : (given : List Given) → options_found (map row_of given) ≡ options_given given
+found_given given =
+    rw (first_given (codes "locate") given, first_given (codes "make") given, first_given (codes "seed") given) refl
 
 -- ---- words in the grammar are taken
 
@@ -82,7 +88,7 @@ taken_if_given words options g =
     let taken : IsTaken (g.first ∷ g.rest) options = record {
       no_dashes = p.no_dashes;
       faultless = passed_faultless g.first g.rest g.given p;
-      read = ap options_read (ap (first_of locate) (rows_found g.rest g.given p.rows) ∙ first_given locate g.given) ∙ g.read;
+      read = ap options_found (rows_found g.rest g.given p.rows) ∙ found_given g.given ∙ g.read;
     } in
     subst (λ (w : List Text). IsTaken w options) (sym g.words_are) taken
 
@@ -109,5 +115,5 @@ given_if_taken first rest options t =
       spelt = f.spelt;
       named = f.named;
       once = f.once;
-      read = ap options_read (sym (first_given locate f.given) ∙ sym (ap (first_of locate) (rows_found rest f.given f.rows))) ∙ t.read;
+      read = sym (found_given f.given) ∙ sym (ap options_found (rows_found rest f.given f.rows)) ∙ t.read;
     }

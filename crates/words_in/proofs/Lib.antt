@@ -2,6 +2,7 @@ mod Once
 mod Cut
 mod Turns
 mod Readings
+mod Bounds
 mod Rows
 mod Passing
 mod Grammar

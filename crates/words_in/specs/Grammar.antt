@@ -2,11 +2,11 @@
 use Rattle.std.specs.Prelude.{◌≡◌, ◌≤◌, ◌⊎◌, ℕ, Bool, true, List, [], ◌∷◌, ◌++◌, Option, Some, codes, find, count_by, bytes_eq, option_map}
 use Rattle.std.specs.List.{All, list_any}
 use Rattle.words_in.specs.declared.options.Options.{Options}
-use Rattle.words_in.specs.Strategies.{options_read}
+use Rattle.words_in.specs.Values.{options_read}
 
 -- the names of the options
 abbrev pub option_names : List (List ℕ)
-option_names = codes "locate" ∷ []
+option_names = codes "locate" ∷ codes "make" ∷ codes "seed" ∷ []
 
 -- the name is that of an option
 abbrev pub is_option_name : List ℕ → Bool
@@ -37,7 +37,8 @@ value_given name given = option_map (λ g. g.value) (find (λ g. bytes_eq g.name
 
 -- what the given options say, where each value is one that its option has, with a default for each option that isn't given
 abbrev pub options_given : List Given → Option Options
-options_given given = options_read (value_given (codes "locate") given)
+options_given given =
+    options_read (value_given (codes "locate") given) (value_given (codes "make") given) (value_given (codes "seed") given)
 
 -- the words are in the grammar and give these options: a first word, then options
 pub record HasOptions (words : List (List ℕ)) (options : Options) : Type 0 where

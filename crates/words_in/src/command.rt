@@ -1,4 +1,4 @@
-ghost use Rattle.std.specs.Prelude.{◌≡◌, ◌≢◌, ◌↔◌, [], codes, map, string_bytes, IfOk};
+ghost use Rattle.std.specs.Prelude.{◌≡◌, ◌≢◌, ◌↔◌, [], ℕ, List, map, string_bytes, IfOk};
 ghost use Rattle.clap.specs.Faults.{fault_of};
 ghost use Rattle.clap.specs.Matches.{found_of, first_value};
 ghost use Rattle.clap.specs.Simple.{app_of, matches_of};
@@ -15,9 +15,13 @@ fn planar_command<'a>(alloc: Global) -> Result<Command<'a>, AllocError>
     ensures { IfOk result (λ c. app_of c ≡ planar_app) }
 {
     let locate = Arg::new(alloc, "locate").long("locate");
+    let make = Arg::new(alloc, "make").long("make");
+    let seed = Arg::new(alloc, "seed").long("seed");
     Command::new(alloc, "planar")
         .disable_help_flag(true)
-        .arg(locate)
+        .arg(locate)?
+        .arg(make)?
+        .arg(seed)
 }
 
 // What a refusal of `clap` means here.
@@ -36,8 +40,8 @@ pub(crate) fn matches_of<'a>(
     words: &'a [String],
 ) -> Result<ArgMatches<'a>, WordsError>
     ensures taken { IfOk result (λ m. fault_of planar_app (map string_bytes words.entry.now) ≡ []) }
-    ensures found { IfOk result (λ m. first_value (found_of m) (codes "locate")
-        ≡ first_of (codes "locate") (matches_of planar_app (map string_bytes words.entry.now))) }
+    ensures found { IfOk result (λ m. (name : List ℕ) → first_value (found_of m) name
+        ≡ first_of name (matches_of planar_app (map string_bytes words.entry.now))) }
     ensures refused { result ≡ Err WordsError.Usage → fault_of planar_app (map string_bytes words.entry.now) ≢ [] }
 {
     let command = planar_command(alloc)?;

@@ -1,7 +1,6 @@
 ghost use Rattle.std.specs.Prelude.{◌≡◌, find, bytes_eq, option_map};
-ghost use Rattle.words_in.specs.Strategies.{strategy_name, strategy_named, options_read};
+ghost use Rattle.words_in.specs.Strategies.{strategy_name, strategy_named, strategy_read};
 
-use crate::options::Options;
 use slab_laws::Strategy;
 
 // Every way of location.
@@ -41,13 +40,13 @@ fn strategy_named(word: &str) -> Option<Strategy>
     first_spelt(&STRATEGIES, word)
 }
 
-/// The options of the value of `--locate`, where it was given; None where it is no way of location.
-pub(crate) fn options_of(locate: Option<&str>) -> Option<Options>
-    ensures { result ≡ options_read (option_map (λ s. s.now) locate.entry) }
+/// The way of location that the value of `--locate` says, or the default where none was given; None where it is no way of
+/// location.
+pub(crate) fn strategy_of(locate: Option<&str>) -> Option<Strategy>
+    ensures { result ≡ strategy_read (option_map (λ s. s.now) locate.entry) }
 {
-    let strategy = match locate {
-        None => Strategy::Naive,
-        Some(word) => strategy_named(word)?,
-    };
-    Some(Options { strategy })
+    match locate {
+        None => Some(Strategy::Naive),
+        Some(word) => strategy_named(word),
+    }
 }

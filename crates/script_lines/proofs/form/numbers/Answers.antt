@@ -16,16 +16,16 @@ returns-in_default g c =
 pub returns-in_err-slot : goal.returns-in_err-slot
 returns-in_err-slot g c =
     let took : Took (words c.args.line.now) c.loop-slot.slot-index c.loop-slot.slot-items (c.in-Some.word.now ∷ words c.in-Some.behind.now) = rw (← c.in-Some.ensures) c.loop-slot.invariant in
-    let given = ok_or-err c.number.result Number c.in_err-slot.field-0.0 (sym c.ok_or.ensures.value ∙ c.in_err-slot.was) in
+    let given = ok_or-err c.read_number.result Number c.in_err-slot.field-0.0 (sym c.ok_or.ensures.value ∙ c.in_err-slot.was) in
     let p = err_from_is_err_and c.from_residual.result c.from_residual.ensures.1 in
-    let other : None ≡ option_map limited_number (number_of c.in-Some.word.now) = sym given.0 ∙ c.number.ensures in
+    let other : None ≡ option_map limited_number (number_of c.in-Some.word.now) = sym given.0 ∙ c.read_number.ensures in
     rw (p.1, p.2) (ap Err (sym given.1) ∙ sym (numbers_of-other _ _ _ _ _ _ (omega arith) took other (omega arith)))
 
 pub loop-slot-preserved : goal.loop-slot-preserved
 loop-slot-preserved g c =
     let took : Took (words c.args.line.now) c.loop-slot.slot-index c.loop-slot.slot-items (c.in-Some.word.now ∷ words c.in-Some.behind.now) = rw (← c.in-Some.ensures) c.loop-slot.invariant in
-    let given = ok_or-ok c.number.result Number c.in_ok-slot.field-0 (sym c.ok_or.ensures.value ∙ c.in_ok-slot.was) in
-    let read : Some c.in_ok-slot.field-0 ≡ option_map limited_number (number_of c.in-Some.word.now) = sym given ∙ c.number.ensures in
+    let given = ok_or-ok c.read_number.result Number c.in_ok-slot.field-0 (sym c.ok_or.ensures.value ∙ c.in_ok-slot.was) in
+    let read : Some c.in_ok-slot.field-0 ≡ option_map limited_number (number_of c.in-Some.word.now) = sym given ∙ c.read_number.ensures in
     Took-more (words c.args.line.now) c.loop-slot.slot-index c.loop-slot.slot-items c.in-Some.word.now (words c.in-Some.behind.now) _ (omega arith) took
     (ap Some (to_z-of_z (fits-numbered (number_of c.in-Some.word.now) c.in_ok-slot.field-0 read)) ∙ read)
 

@@ -1,4 +1,4 @@
-use Rattle.std.proofs.Common.{List, ℕ, codes, map, string_bytes, sym, ap, ◌∙◌}
+use Rattle.std.proofs.Common.{List, ℕ, map, string_bytes, sym, ap, ◌∙◌}
 use Rattle.std.proofs.lemmas.Result.{err_from_is_err_and}
 use Rattle.clap.specs.Matches.{found_of}
 use Rattle.clap.specs.Simple.{App, is_simple, matches_of}
@@ -15,5 +15,5 @@ pub returns-in-Ok-clause-found : goal.returns-in-Ok-clause-found
 returns-in-Ok-clause-found c =
     let app = c.in_ok-command.ensures in
     let words : List (List ℕ) = map string_bytes c.args.words.now in
-    first_value-rows (found_of c.in-Ok.matches) (codes "locate")
-    ∙ ap (first_of (codes "locate")) ((c.in-Ok.ensures.matches (ap is_simple app)).0 ∙ ap (λ (a : App). matches_of a words) app)
+    λ name. first_value-rows (found_of c.in-Ok.matches) name
+    ∙ ap (first_of name) ((c.in-Ok.ensures.matches (ap is_simple app)).0 ∙ ap (λ (a : App). matches_of a words) app)

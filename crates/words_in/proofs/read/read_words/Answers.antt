@@ -1,9 +1,8 @@
-use Rattle.std.proofs.Common.{List, ℕ, drop, map, string_bytes, sym, ap, ◌∙◌}
+use Rattle.std.proofs.Common.{List, ℕ, codes, drop, map, string_bytes, refl, sym, ◌∙◌}
 use Rattle.std.proofs.lemmas.Result.{err_from_is_err_and}
-use Rattle.words_in.specs.Strategies.{options_read}
 use Rattle.words_in.proofs.Readings.{HasNoDashes}
 use Rattle.words_in.proofs.Grammar.{taken_if_given}
-use Rattle.words_in.proofs.Answered.{alone_if_ok, dashes_in, not_empty, options_given_if_ok, outside_if_usage}
+use Rattle.words_in.proofs.Answered.{alone_if_ok, dashes_in, not_empty, options_given_if_ok, outside_if_usage, read_of_found}
 use Rattle.words_in.proofs.read.read_words.Goals as goal
 
 pub returns-then-has_dashes-clause-usage : goal.returns-then-has_dashes-clause-usage
@@ -20,20 +19,19 @@ returns-in_err-matches-clause-usage c = λ usage options given.
     let two = p.2 in
     c.in_err-matches.ensures.refused (cc) t.faultless
 
-pub returns-clause-given : goal.returns-clause-given
-returns-clause-given c =
+pub returns : goal.returns
+returns c =
     let words : List (List ℕ) = map string_bytes c.args.words.now in
     let free : HasNoDashes (drop 1 words) = sym (dashes_in c.args.words.now) ∙ sym c.has_dashes.ensures ∙ c.if-has_dashes.false in
-    options_given_if_ok words c.options_of.result c.ok_or.result c.ok_or.ensures.value
-    (c.options_of.ensures ∙ ap options_read (c.get_str.ensures ∙ c.in_ok-matches.ensures.found))
-    (not_empty c.args.words.now (sym c.is_empty.ensures ∙ c.if-is_empty.false)) free c.in_ok-matches.ensures.taken
-
-pub returns-clause-usage : goal.returns-clause-usage
-returns-clause-usage c =
-    outside_if_usage (map string_bytes c.args.words.now) c.options_of.result c.ok_or.result c.ok_or.ensures.value
-    (c.options_of.ensures ∙ ap options_read (c.get_str.ensures ∙ c.in_ok-matches.ensures.found))
-
-pub returns-clause-alone : goal.returns-clause-alone
-returns-clause-alone c =
-    alone_if_ok (map string_bytes c.args.words.now) c.options_of.result c.ok_or.result c.ok_or.ensures.value
-    (c.options_of.ensures ∙ ap options_read (c.get_str.ensures ∙ c.in_ok-matches.ensures.found))
+    let some = not_empty c.args.words.now (sym c.is_empty.ensures ∙ c.if-is_empty.false) in
+    let found = c.in_ok-matches.ensures.found in
+    let o = c.options_of.result in
+    let read = read_of_found words _ _ _ o c.options_of.ensures (c.get_str.ensures ∙ found (codes "locate"))
+    (c.get_str-2.ensures ∙ found (codes "make")) (c.get_str-3.ensures ∙ found (codes "seed")) in
+    let is = c.ok_or.ensures.value in
+    record {
+      given = options_given_if_ok words o c.ok_or.result is read some free c.in_ok-matches.ensures.taken;
+      alone = alone_if_ok words o c.ok_or.result is read;
+      usage = outside_if_usage words o c.ok_or.result is read;
+      limit = refl;
+    }
