@@ -11,3 +11,4 @@ pub mod Attaching
 pub mod Replied
 pub mod Numbered
 pub mod Asked
+pub mod MadeLines

@@ -36,6 +36,9 @@ pub Used-none : (left : Option (List ℕ)) → Used left left (λ used. length u
 Used-none None = tt
 Used-none (Some script) = ([], script, refl, refl, refl)
 
+pub nothing_used : (left : Option (List ℕ)) → Used left left (λ used. length used ≤ SCRIPT_LIMIT)
+nothing_used left = Used-map (λ used. length used ≡ 0) (λ used. length used ≤ SCRIPT_LIMIT) left left (λ used e. omega (arith, e)) (Used-none left)
+
 pub Used-more : (left now next : Option (List ℕ)) (bytes : List ℕ) (count : ℕ) → Used left now (λ used. length used ≡ count) → Loses now next bytes → Used left next (λ used. length used ≡ count + length bytes)
 Used-more None now next bytes count u l = tt
 Used-more (Some script) now next bytes count u l =
@@ -231,6 +234,15 @@ module _ (observers : List Waiting) where
   pub Ends-too_long : (left now next taken had : Option (List ℕ)) (b count : ℕ) (world : World) (line : List ℕ) → Used left now (λ used. length used ≡ count) → count ≡ SCRIPT_LIMIT → HasSaid observers left now taken had count world line → Loses now next (b ∷ []) → Ends observers TooLong left next taken had
   Ends-too_long left now next taken had b count world line u e h l =
       (Used-map (λ used. length used ≡ count + 1) (λ used. length used ≡ SCRIPT_LIMIT + 1) left next (λ used f. omega arith) (Used-more left now next (b ∷ []) count u l), said-to_limit left now next taken had b count SCRIPT_LIMIT world line h e l)
+
+  -- past the limit nothing was used but at TooLong
+  pub within_limit : (status : Status) (left left' taken taken' : Option (List ℕ)) → Ends observers status left left' taken taken' → (status ≡ TooLong → ⊥) → Used left left' (λ used. length used ≤ SCRIPT_LIMIT)
+  within_limit Done left left' taken taken' e n = e.1
+  within_limit ReadFault left left' taken taken' e n = e.0
+  within_limit WriteFault left left' taken taken' e n = e.0
+  within_limit NoMemory left left' taken taken' e n = subst (λ (o : Option (List ℕ)). Used left o (λ used. length used ≤ SCRIPT_LIMIT)) (sym e.0) (nothing_used left)
+  within_limit Usage left left' taken taken' e n = absurd e
+  within_limit TooLong left left' taken taken' e n = absurd (n refl)
 
   -- a run that meets no fault within the limit is done, or found no memory
   pub completes : (status : Status) (left left' taken taken' : Option (List ℕ)) (source source' sink sink' : ℕ) → Ends observers status left left' taken taken' → Causes status source source' sink sink' → (Rose source source' → ⊥) → (Rose sink sink' → ⊥) → IsSomeAnd left (λ script. length script ≤ SCRIPT_LIMIT)

@@ -120,7 +120,10 @@ fn refuse_words<K: Sink>(sink: &mut K) -> Status
     ensures only { (result ≡ Status.Usage) ⊎ (result ≡ Status.WriteFault) }
     ensures causes { Causes result 0 0 (K.faults sink.old) (K.faults sink.new) }
 {
-    match write_all(sink, b"usage: planar [--locate naive|walk|landmarks|trapezoid] [--make N] [--seed N]\n") {
+    match write_all(
+        sink,
+        b"usage: planar [--locate naive|walk|landmarks|trapezoid] [--make N] [--seed N]\n",
+    ) {
         Ok(()) => Status::Usage,
         Err(_) => Status::WriteFault,
     }

@@ -148,7 +148,10 @@ fn no_strategy_changes_a_reply(rt: HostRuntime) -> Result<(), Fail> {
         &["--locate", "trapezoid"],
     ];
     for words in strategies {
-        assert!(rt; first_wrong(rt.alloc(), words, &ROWS, 4096)? == None, "{words:?}");
+        assert!(rt;
+            first_wrong(rt.alloc(), words, &ROWS, 4096)? == None,
+            "{words:?}"
+        );
     }
     Ok(())
 }
@@ -280,7 +283,8 @@ fn a_write_that_fails_ends_the_run(rt: HostRuntime) -> Result<(), Fail> {
     Ok(())
 }
 
-const USAGE: &str = "usage: planar [--locate naive|walk|landmarks|trapezoid] [--make N] [--seed N]\n";
+const USAGE: &str =
+    "usage: planar [--locate naive|walk|landmarks|trapezoid] [--make N] [--seed N]\n";
 
 // Whether these words are answered by the usage line.
 fn are_refused(alloc: Global, words: &[String]) -> Result<bool, Fail> {
@@ -307,7 +311,10 @@ fn other_words_are_answered_by_the_usage_line(rt: HostRuntime) -> Result<(), Fai
         &["--seed", "-1"],
     ];
     for behind in outside {
-        assert!(rt; are_refused(alloc, &words_of(alloc, behind)?)?, "{behind:?}");
+        assert!(rt;
+            are_refused(alloc, &words_of(alloc, behind)?)?,
+            "{behind:?}"
+        );
     }
     Ok(())
 }
@@ -329,7 +336,10 @@ fn made_scripts_write_their_last_reply(rt: HostRuntime) -> Result<(), Fail> {
         (&["--make", "16", "--seed=7"], MADE_16),
         (&["--make", "120", "--locate=naive"], MADE_120),
         (&["--locate", "walk", "--make=120"], MADE_120),
-        (&["--make=120", "--seed", "1", "--locate=landmarks"], MADE_120),
+        (
+            &["--make=120", "--seed", "1", "--locate=landmarks"],
+            MADE_120,
+        ),
         (&["--seed=1", "--make=120", "--locate=trapezoid"], MADE_120),
     ];
     for (words, reply) in rows {

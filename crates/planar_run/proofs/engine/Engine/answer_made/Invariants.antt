@@ -1,4 +1,4 @@
-use Rattle.std.proofs.Common.{◌≡◌, ℕ, List, [], length}
+use Rattle.std.proofs.Common.{ℕ, List, [], length}
 use Rattle.planar_run.specs.Made.{EndWith, FindNone}
 use Rattle.planar_run.specs.Rows.{arranged_row, world_row, IsKept}
 use Rattle.planar_run.proofs.engine.Engine.answer_made.Given as goal
