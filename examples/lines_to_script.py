@@ -307,7 +307,10 @@ def convert(text, options):
 def fraction(text):
     """A number of the command line: 3, -0.25 or 1/3."""
     above, _, below = text.partition("/")
-    return number(above) / positive(below or "1")
+    divisor = number(below or "1")
+    if not divisor:
+        raise CantConvert(f"{text} is no number")
+    return number(above) / divisor
 
 
 def offset_pair(text):
@@ -316,7 +319,7 @@ def offset_pair(text):
 
 
 def positive(text):
-    value = fraction(text) if "/" in text else number(text)
+    value = fraction(text)
     if value <= 0:
         raise CantConvert(f"{text} isn't above 0")
     return value
