@@ -22,7 +22,7 @@ module _ (name : ℕ → ℕ) (k : Piece) where
   unfolding on along
   same_on t = refl
 
-  fit_piece : IsFitPiece k → IsFitPiece (renamed name k)
+  pub fit_piece : IsFitPiece k → IsFitPiece (renamed name k)
   fit_piece f = record {
     lower = f.lower;
     upper = f.upper;

@@ -1,2 +1,5 @@
 pub mod Overlay
 pub mod OverlayLaws
+pub mod Layers
+pub mod OverlayText
+pub mod TriangleLayers

@@ -6,6 +6,10 @@
 //! law of them, which its contract states and its body, being empty, does not compute.
 #![tactic(auto)]
 
+mod layered;
+
+pub use layered::Layered;
+
 ghost use Rattle.overlay_laws.specs.OverlayLaws.{OverlayIsFit, CurvesOfBoth, LabelsAreConstant, LabelsNameFaces, FacesLieInFaces, EmptyLayerAddsNothing};
 
 /// Both layers together are fit where each is, so every law of graphs and faces holds for the overlay.

@@ -111,14 +111,16 @@ module _ (a : Inside) (d : Drawing) (k : IsSoundSubdivision a) (is : drawing_of 
   plane : IsPlane d.graph
   plane = subst (λ (d : Drawing). IsPlane d.graph) is k.plane
 
-  edge_is : (h : DartId) (x : Dart) → IsDart d h x → edge_at d h.0 ≡ x.edge
+  pub edge_is : (h : DartId) (x : Dart) → IsDart d h x → edge_at d h.0 ≡ x.edge
   edge_is h x i = ap (λ (x : Dart). x.edge) (get_or_from_slice_get (dart_list (skeleton_in d)) h.0 x no_dart i)
 
-  pub curves_turned : (h : DartId) → HasDart (view_of d) h → curves_at d (twin_in (view_of d) h) ≡ curves_at d h
-  curves_turned h H =
+  pub edge_turned : (h : DartId) → HasDart (view_of d) h → edge_at d (twin_in (view_of d) h).0 ≡ edge_at d h.0
+  edge_turned h H =
       let x = dart_of d h H in
-      let e = edge_is (twin_in (view_of d) h) (twin x.0) (twin_is d plane h x.0 x.1) ∙ sym (edge_is h x.0 x.1) in
-      λ i. map curve_id (curves d.graph (e i).low (e i).high)
+      edge_is (twin_in (view_of d) h) (twin x.0) (twin_is d plane h x.0 x.1) ∙ sym (edge_is h x.0 x.1)
+
+  pub curves_turned : (h : DartId) → HasDart (view_of d) h → curves_at d (twin_in (view_of d) h) ≡ curves_at d h
+  curves_turned h H = ap (λ (e : Edge). map curve_id (curves d.graph e.low e.high)) (edge_turned h H)
 
   pub curves_read : (h : DartId) (r : ListedDart) (s : Span) (low high : Point) (ms : List MarkInMemory) (cs : List CurveId) → HasDart (view_of d) h → r ≡ get_or a.darts.items h.0 r → s ≡ get_or a.edges.items r.edge s → low ≡ s.lower → high ≡ s.upper → ms ≡ a.marks.items → cs ≡ map (λ (m : MarkInMemory). m.curve) (filter (λ m. same_point m.low low && same_point m.high high) ms) → cs ≡ curves_at d h
   curves_read h r s low high ms cs H e f l u m q =

@@ -131,6 +131,19 @@ module _ (a : Inside) (d : Drawing) (k : IsSoundSubdivision a) (is : drawing_of 
   pub line_reads : (h : DartId) (r : ListedDart) (s : Span) → HasDart (view_of d) h → r ≡ get_or a.darts.items h.0 r → s ≡ get_or a.edges.items r.edge s → s.line ≡ line_in (view_of d) h
   line_reads h r s H e f = subst (λ (d : Drawing). s.line ≡ line_in (view_of d) h) is (line_there a k h r s (before h H) e f)
 
+  -- the place of its edge
+  pub place_reads : (h : DartId) (r : ListedDart) → HasDart (view_of d) h → r ≡ get_or a.darts.items h.0 r → (x : Dart) × IsDart d h x × (r.edge ≡ edge_place (skeleton_in d) x.edge)
+  place_reads h r H e =
+      let x = edge_is_there a k h r (before h H) e in
+      (x.0, subst (λ (d : Drawing). IsDart d h x.0) is x.1, x.2 ∙ ap (λ (d : Drawing). edge_place (skeleton_in d) x.0.edge) is)
+
+  pub place_within : (h : DartId) (r : ListedDart) → HasDart (view_of d) h → r ≡ get_or a.darts.items h.0 r → r.edge < length (edges d.graph)
+  place_within h r H e =
+      let n : length (map edge_of a.edges.items) ≡ length a.edges.items = simp length-map in
+      let m : length (map edge_of a.edges.items) ≡ length (edges d.graph) = ap length k.edges_are ∙ ap (λ (d : Drawing). length (edges d.graph)) is in
+      let b = edge_below a k h r (before h H) e in
+      omega arith
+
   -- the edge of the dart that goes by the name
   pub edge_reads : (h : DartId) (r : ListedDart) (s : Span) → HasDart (view_of d) h → r ≡ get_or a.darts.items h.0 r → s ≡ get_or a.edges.items r.edge s → (x : Dart) × IsDart d h x × (edge_of s ≡ x.edge)
   edge_reads h r s H e f =

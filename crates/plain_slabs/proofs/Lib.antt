@@ -23,3 +23,9 @@ pub mod FlatLists
 pub mod NamedEdges
 pub mod NamedMarks
 pub mod NamedGraph
+mod Numbering
+mod UnitedGraph
+mod LayerPieces
+mod LayerCells
+mod LayerLabels
+mod OverlaidRows

@@ -1,6 +1,6 @@
 -- The forward darts of records are the edges that the records draw, in order and with their lines.
 use Rattle.std.proofs.Common.{◌≡◌, sym, ap, ◌∙◌, subst, map}
-use Rattle.std.specs.Prelude.{filter, if◌then◌else◌}
+use Rattle.std.specs.Prelude.{filter}
 use Rattle.exact_plane.specs.Line.{IsOn}
 use Rattle.exact_plane.specs.Span.{AreOnWay}
 use Rattle.plane_graphs.specs.Graph.{Edge}

@@ -1,0 +1,17 @@
+use Rattle.slab_laws.specs.Pieces.{present_of}
+use Rattle.slab_laws.specs.SpansDrawn.{edge_of}
+use Rattle.overlay_laws.specs.Overlay.{curves_along}
+use Rattle.plane_graphs.proofs.Loops.{read_map, below_map, past_map, mapped, all_mapped}
+use Rattle.plain_slabs.proofs.LayerPieces.{row_added}
+use Rattle.plain_slabs.proofs.layer_table.curves_of_edges.Goals as goal
+
+pub returns : goal.returns
+returns c = all_mapped (curves_along (present_of c.args.layer.now)) _ c.loop-edge.edge-index _ (past_map edge_of c.args.edges.now c.loop-edge.edge-index c.loop-edge-test.false) c.loop-edge.invariant
+
+pub loop-edge-preserved : goal.loop-edge-preserved
+loop-edge-preserved c =
+    let i = c.loop-edge.edge-index in
+    let es = c.args.edges.now in
+    let e = c.edge-item.result in
+    mapped (curves_along (present_of c.args.layer.now)) _ i (edge_of e) _ _ (below_map edge_of es i c.loop-edge-test.true) (read_map edge_of es i e c.loop-edge-test.true c.edge-item.is) c.loop-edge.invariant
+    (row_added c.args.layer.now (edge_of e) c.as_slice.result.now c.loop-edge.rows.items _ c.in_ok-curves_along.field-0 c.as_slice.ensures c.in_ok-curves_along.ensures c.in_ok-push.ensures.items)

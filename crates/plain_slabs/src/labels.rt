@@ -1,0 +1,72 @@
+ghost use Rattle.std.specs.Prelude.{◌≡◌, map, IfOk};
+ghost use Rattle.plane_graphs.specs.Fit.{IsFit};
+ghost use Rattle.slab_laws.specs.Pieces.{present_of};
+ghost use Rattle.slab_laws.specs.Faces.{face_of};
+ghost use Rattle.slab_laws.specs.Subdivision.{rank};
+ghost use Rattle.overlay_laws.specs.Overlay.{label};
+ghost use Rattle.overlay_laws.specs.Layers.{rows_of};
+ghost use Rattle.plain_slabs.specs.Listed.{skeleton_in, subdivision_in};
+ghost use Rattle.plain_slabs.specs.LayerTables.{AreSlantedAcross, cell_among, rank_in};
+
+use crate::build::subdivide;
+use crate::layer_cells::{LayerEdge, cell_among, layer_edges, slabs_beside};
+use crate::layer_table::{LayerTable, curves_of_edges};
+use crate::plain::Plain;
+use crate::ranks::rank_of;
+use no_memory::NoMemory;
+use slab_laws::{Present, SlabCell};
+use std::alloc::Global;
+
+// The rank of the face that holds a cell.
+fn rank_at(plain: &Plain, cell: SlabCell) -> usize
+    ensures { result ≡ rank_in (subdivision_in plain.now) cell }
+{
+    rank_of(&plain.faces, plain.labels.least_of(cell))
+}
+
+// Of each cell the rank of the layer's face that holds it.
+fn ranks_at(
+    alloc: Global,
+    own: &Plain,
+    edges: &[LayerEdge],
+    slabs: &[usize],
+    cells: &[SlabCell],
+) -> Result<Vec<usize>, NoMemory>
+    requires { AreSlantedAcross edges.now }
+    ensures { IfOk result (λ v. v.items
+        ≡ map (λ c. rank_in (subdivision_in own.now) (cell_among edges.now slabs.now c)) cells.now) }
+{
+    let mut ranks = Vec::new(alloc);
+    for cell in cells {
+        let within = cell_among(alloc, edges, slabs, *cell)?;
+        ranks.push(rank_at(own, within))?;
+    }
+    Ok(ranks)
+}
+
+// Of each face the rank of the layer's face that holds it.
+fn labels_of(alloc: Global, plain: &Plain, layer: &Present) -> Result<Vec<usize>, NoMemory>
+    requires { IsFit (present_of layer.now) }
+    ensures { IfOk result (λ v. v.items
+        ≡ map (label (present_of layer.now) (skeleton_in plain.now)) (subdivision_in plain.now).faces) }
+{
+    let own = subdivide(alloc, layer)?;
+    let edges = layer_edges(alloc, layer, &plain.points, &plain.edges)?;
+    let slabs = slabs_beside(alloc, &plain.points, &own.points)?;
+    let labels = ranks_at(alloc, &own, &edges, &slabs, &plain.faces)?;
+    Ok(labels)
+}
+
+// What the subdivision by both layers tells of one of them.
+pub(crate) fn table_of(
+    alloc: Global,
+    plain: &Plain,
+    layer: &Present,
+) -> Result<LayerTable, NoMemory>
+    requires { IsFit (present_of layer.now) }
+    ensures { IfOk result (λ t. t ≡ rows_of (present_of layer.now) (subdivision_in plain.now)) }
+{
+    let curves = curves_of_edges(alloc, layer, &plain.edges)?;
+    let labels = labels_of(alloc, plain, layer)?;
+    Ok(LayerTable { curves, labels })
+}

@@ -1,0 +1,128 @@
+ghost use Rattle.std.specs.Prelude.{◌≡◌, ◌<◌, [], length, map, filter, IfOk};
+ghost use Rattle.std.specs.List.{list_any, slice_index_or};
+ghost use Rattle.std.specs.Ordering.{nat_cmp};
+ghost use Rattle.plane_graphs.specs.Ascending.{ascending};
+ghost use Rattle.slab_laws.specs.Pieces.{piece_of, present_of};
+ghost use Rattle.slab_laws.specs.SpansDrawn.{edge_of};
+ghost use Rattle.slab_laws.specs.View.{curve_id};
+ghost use Rattle.present_graphs.specs.Spans.{span_of_piece, lies_on};
+ghost use Rattle.overlay_laws.specs.Overlay.{runs_along, curves_along};
+ghost use Rattle.plain_slabs.specs.LayerTables.{numbers_in, numbers_along};
+
+use exact_plane::{Point, Sign, Span, line_of, side};
+use no_memory::NoMemory;
+use slab_laws::{CurveId, Piece, Present};
+use std::alloc::{AllocError, Global};
+use std::marker::Model;
+
+/// What an overlay keeps of one layer.
+#[derive(Drop)]
+pub(crate) struct LayerTable {
+    /// Of each edge the curves of the layer along it, ascending.
+    pub(crate) curves: Vec<Vec<CurveId>>,
+    /// Of each face the rank of the layer's face that holds it.
+    pub(crate) labels: Vec<usize>,
+}
+
+impl Model for LayerTable {
+    ghost use Rattle.overlay_laws.specs.Layers.{LayerRows};
+
+    ghost Value = { LayerRows };
+
+    ghost use Rattle.plain_slabs.specs.LayerTables.{table_rows};
+
+    ghost view = { table_rows };
+}
+
+fn copied(alloc: Global, curves: &[CurveId]) -> Result<Vec<CurveId>, AllocError>
+    ensures { IfOk result (λ v. v.items ≡ curves.now) }
+{
+    curves.iter().copied().collect(alloc)
+}
+
+impl LayerTable {
+    // The curves of the layer along the edge at a place.
+    pub(crate) fn curves_at(&self, alloc: Global, edge: usize) -> Result<Vec<CurveId>, AllocError>
+        requires { edge < length self.now.curves }
+        ensures { IfOk result (λ v. v.items ≡ map curve_id (slice_index_or self.now.curves edge [])) }
+    {
+        let curves = copied(alloc, &self.curves[edge])?;
+        Ok(curves)
+    }
+
+    // The rank of the layer's face that holds the face of a rank.
+    pub(crate) fn label_at(&self, face: usize) -> usize
+        requires { face < length self.now.labels }
+        ensures { result ≡ slice_index_or self.now.labels face 0 }
+    {
+        self.labels[face]
+    }
+}
+
+// Whether a point lies on a piece.
+fn holds(piece: &Piece, point: &Point) -> bool
+    ensures { result ≡ lies_on (span_of_piece (piece_of piece.now)) point.now }
+{
+    side(&line_of(&piece.segment), point) == Sign::Zero
+        && piece.from <= *point
+        && *point <= piece.to
+}
+
+// Whether a piece holds both ends of an edge.
+fn runs_along(edge: &Span, piece: &Piece) -> bool
+    ensures { result ≡ runs_along (edge_of edge.now) (piece_of piece.now) }
+{
+    holds(piece, &edge.lower()) && holds(piece, &edge.upper())
+}
+
+// Whether one of the pieces runs along an edge.
+pub(crate) fn have_along(pieces: &[Piece], edge: &Span) -> bool
+    ensures { result ≡ list_any (λ k. runs_along (edge_of edge.now) (piece_of k)) pieces.now }
+{
+    pieces.iter().any(|piece| runs_along(edge, piece))
+}
+
+// The curves of the pieces that run along an edge, in the order of the pieces.
+fn curves_among(alloc: Global, pieces: &[Piece], edge: &Span) -> Result<Vec<CurveId>, AllocError>
+    ensures { IfOk result (λ v. v.items
+        ≡ map (λ k. k.curve) (filter (λ k. runs_along (edge_of edge.now) (piece_of k)) pieces.now)) }
+{
+    pieces
+        .iter()
+        .filter(|piece| runs_along(edge, piece))
+        .map(|piece| piece.curve)
+        .collect(alloc)
+}
+
+// Brings curves into their order, each once.
+fn arrange(curves: &mut Vec<CurveId>)
+    ensures { map (λ c. c.0) curves.new.items ≡ ascending nat_cmp (map (λ c. c.0) curves.old.items) }
+{
+    curves.sort_unstable();
+    curves.dedup();
+}
+
+// The curves along an edge, ascending.
+fn curves_along(alloc: Global, pieces: &[Piece], edge: &Span) -> Result<Vec<CurveId>, NoMemory>
+    ensures { IfOk result (λ v. map (λ c. c.0) v.items ≡ numbers_along pieces.now (edge_of edge.now)) }
+{
+    let mut curves = curves_among(alloc, pieces, edge)?;
+    arrange(&mut curves);
+    Ok(curves)
+}
+
+// The curves along each of the edges.
+pub(crate) fn curves_of_edges(
+    alloc: Global,
+    layer: &Present,
+    edges: &[Span],
+) -> Result<Vec<Vec<CurveId>>, NoMemory>
+    ensures { IfOk result (λ v. numbers_in v.items
+        ≡ map (curves_along (present_of layer.now)) (map edge_of edges.now)) }
+{
+    let mut rows = Vec::new(alloc);
+    for edge in edges {
+        rows.push(curves_along(alloc, layer.pieces.as_slice(), edge)?)?;
+    }
+    Ok(rows)
+}

@@ -1,0 +1,62 @@
+ghost use Rattle.std.specs.Prelude.{◌≡◌, IfOk};
+ghost use Rattle.plane_graphs.specs.Fit.{IsFit};
+ghost use Rattle.slab_laws.specs.FacesSound.{IsSound};
+ghost use Rattle.slab_laws.specs.Pieces.{present_of};
+ghost use Rattle.overlay_laws.specs.Overlay.{both, overlay};
+ghost use Rattle.overlay_laws.specs.Layers.{rows_of};
+ghost use Rattle.plain_slabs.specs.Listed.{subdivision_in, view_of, faces_of, AreLinesOf};
+
+use crate::both::Both;
+use crate::build::subdivide;
+use crate::labels::table_of;
+use crate::plain::Plain;
+use crate::united::unite;
+use no_memory::NoMemory;
+use slab_laws::Present;
+use std::alloc::Global;
+
+// The subdivision by both layers. Each piece stands for a curve in it.
+fn subdivide_united(alloc: Global, red: &Present, blue: &Present) -> Result<Plain, NoMemory>
+    requires red { IsFit (present_of red.now) }
+    requires blue { IsFit (present_of blue.now) }
+    ensures subdivision { IfOk result (λ s.
+        subdivision_in s ≡ overlay (present_of red.now) (present_of blue.now)) }
+    ensures pins { IfOk result (λ s. s.graph.pins ≡ (both (present_of red.now) (present_of blue.now)).pins) }
+    ensures lines { IfOk result AreLinesOf }
+    ensures stands { IfOk result (λ s. IsSound (view_of s) (faces_of s)) }
+{
+    let present = unite(alloc, red, blue)?;
+    let plain = subdivide(alloc, &present)?;
+    Ok(plain)
+}
+
+/// The overlay of two layers: the subdivision of the plane by the pieces and pins of both, of each of its edges the red and
+/// the blue curves along it, and of each of its faces the red face and the blue face that hold it (CGAL manual, `overlay`).
+///
+/// It computes everything afresh, by the definitions of the slab model: both layers together, and each alone.
+///
+/// # Errors
+///
+/// There was no memory for the overlay or for a table on the way; for more than 2^32 pieces there is none.
+pub fn subdivide_both(alloc: Global, red: &Present, blue: &Present) -> Result<Both, NoMemory>
+    requires red { IsFit (present_of red.now) }
+    requires blue { IsFit (present_of blue.now) }
+    ensures subdivision { IfOk result (λ b.
+        subdivision_in b.drawing ≡ overlay (present_of red.now) (present_of blue.now)) }
+    ensures pins { IfOk result (λ b. b.drawing.graph.pins ≡ (both (present_of red.now) (present_of blue.now)).pins) }
+    ensures red { IfOk result (λ b.
+        b.red ≡ rows_of (present_of red.now) (overlay (present_of red.now) (present_of blue.now))) }
+    ensures blue { IfOk result (λ b.
+        b.blue ≡ rows_of (present_of blue.now) (overlay (present_of red.now) (present_of blue.now))) }
+    ensures lines { IfOk result (λ b. AreLinesOf b.drawing) }
+    ensures stands { IfOk result (λ b. IsSound (view_of b.drawing) (faces_of b.drawing)) }
+{
+    let plain = subdivide_united(alloc, red, blue)?;
+    let of_red = table_of(alloc, &plain, red)?;
+    let of_blue = table_of(alloc, &plain, blue)?;
+    Ok(Both {
+        plain,
+        red: of_red,
+        blue: of_blue,
+    })
+}
