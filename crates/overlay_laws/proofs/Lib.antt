@@ -4,6 +4,7 @@ pub mod Cells
 pub mod Counts
 pub mod Curves
 mod Examples
+mod TextExamples
 pub mod Labels
 pub mod Laid
 pub mod ListedCells

@@ -1,5 +1,5 @@
 -- The text of an overlay.
-use Rattle.std.specs.Prelude.{ℕ, List, ◌∷◌, ◌++◌, map, codes, decimal, zip}
+use Rattle.std.specs.Prelude.{ℕ, List, ◌++◌, map, codes, decimal, zip}
 use Rattle.std.specs.List.{slice_index_or}
 use Rattle.exact_plane.specs.Point.{Point}
 use Rattle.plane_graphs.specs.Piece.{Present}

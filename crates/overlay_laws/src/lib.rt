@@ -8,9 +8,9 @@
 
 mod layered;
 
-pub use layered::Layered;
-
 ghost use Rattle.overlay_laws.specs.OverlayLaws.{OverlayIsFit, CurvesOfBoth, LabelsAreConstant, LabelsNameFaces, FacesLieInFaces, EmptyLayerAddsNothing};
+
+pub use layered::Layered;
 
 /// Both layers together are fit where each is, so every law of graphs and faces holds for the overlay.
 pub fn overlay_is_fit()
