@@ -12,7 +12,7 @@ use Rattle.arrangement.specs.Arranged.{Arranged, IsWatched}
 use Rattle.arrangement.specs.Edited.{IsSameLayer}
 use Rattle.planar_run.specs.World.{Waiting, World}
 use Rattle.planar_run.specs.Observers.{attach_refusal, attached, error_number, is_above, newcomer, waiting_as, with_newcomer}
-use Rattle.planar_run.specs.Rows.{built, seat_row, IsKept}
+use Rattle.planar_run.specs.Rows.{built, half_in, seat_row, AreKept}
 use Rattle.planar_run.proofs.Observed.{attached_rows, few_attached, length_rows, named_rows}
 use Rattle.planar_run.proofs.Worlds.{same_layer}
 
@@ -45,6 +45,11 @@ not_full true full h = cc
 not_full false true h = cc
 not_full false false h = refl
 
+-- one that is seated or planned in either layer
+placed_told : (waits full : Bool) → by_tests false waits true full ≡ Some 15
+placed_told true full = refl
+placed_told false full = refl
+
 eight : (n : ℕ) → (n == 8) ≡ false → n ≢ 8
 eight n f e = cc
 
@@ -64,33 +69,36 @@ not_above h false e t = refl
 pub same_waiting : (v w : Waiting) → (v.tells ≡ w.tells) × (v.left ≡ w.left) → v ≡ w
 same_waiting v w e = λ i. record { tells = e.0 i; left = e.1 i }
 
-module _ {B : Type 0} (f : B → Waiting) (n : ℕ) (a : Arranged) (places : List (Option B)) where
+module _ {B : Type 0} (f : B → Waiting) (n : ℕ) (a o : Arranged) (blue : Bool) (places : List (Option B)) where
   abbrev before : World
-  before = built a (map (option_map f) places)
+  before = built a (half_in o) blue (map (option_map f) places)
 
-  waits : (o : Option B) → n - 1 < length places → get_or places (n - 1) None ≡ o → waiting_as n before ≡ option_map f o
-  waits o within e = get_or-map (option_map f) places (n - 1) None None within ∙ ap (option_map f) e
+  waits : (b : Option B) → n - 1 < length places → get_or places (n - 1) None ≡ b → waiting_as n before ≡ option_map f b
+  waits b within e = get_or-map (option_map f) places (n - 1) None None within ∙ ap (option_map f) e
 
-  -- the reason, where the number is not above
-  reason : (w : Bool) → is_above n before ≡ false → is_some (waiting_as n before) ≡ w → attach_refusal n before ≡ by_tests false w (has_name n a.bus.seats) (length a.bus.seats == 8)
-  reason w above is = λ i. by_tests (above i) (is i) (named_rows n a.bus.seats i) (length_rows a.bus.seats i == 8)
-
-  module _ (kept : IsKept a) (one : 1 ≤ n) (has : Bool) (told : has ≡ not (is_above n before)) (enough : has ≡ true) where
+  module _ (kept : AreKept a o) (one : 1 ≤ n) (has : Bool) (told : has ≡ not (is_above n before)) (enough : has ≡ true) where
     there : is_above n before ≡ false
     there = not_above has (is_above n before) told enough
+
+    -- the reason, where the other layer's seats are these
+    reason : (w other : Bool) → is_some (waiting_as n before) ≡ w → has_name n o.bus.seats ≡ other → attach_refusal n before ≡ by_tests false w (other || has_name n a.bus.seats) (length a.bus.seats == 8)
+    reason w other is at = λ i. by_tests (there i) (is i) ((named_rows n o.bus.seats ∙ at) i || named_rows n a.bus.seats i) (length_rows a.bus.seats i == 8)
+
+    pub other_refused : has_name n o.bus.seats ≡ true → attach_refusal n before ≡ Some 15
+    other_refused h = reason (is_some (waiting_as n before)) true refl h ∙ placed_told (is_some (waiting_as n before)) (length a.bus.seats == 8)
 
     within : n - 1 < length places
     within = within_places n (length places) one (ap (λ l. nat_lt l n) (sym (length-map places (option_map f))) ∙ there)
 
-    pub gone_refused : get_or places (n - 1) None ≡ None → has_name n a.bus.seats ≡ false → attach_refusal n before ≡ Some 14
-    gone_refused e h = reason false there (ap is_some (waits None within e)) ∙ ap (λ b. by_tests false false b (length a.bus.seats == 8)) h
+    pub gone_refused : has_name n o.bus.seats ≡ false → get_or places (n - 1) None ≡ None → has_name n a.bus.seats ≡ false → attach_refusal n before ≡ Some 14
+    gone_refused other e h = reason false false (ap is_some (waits None within e)) other ∙ ap (λ b. by_tests false false b (length a.bus.seats == 8)) h
 
-    pub placed_refused : get_or places (n - 1) None ≡ None → has_name n a.bus.seats ≡ true → attach_refusal n before ≡ Some 15
-    placed_refused e h = reason false there (ap is_some (waits None within e)) ∙ ap (λ b. by_tests false false b (length a.bus.seats == 8)) h
+    pub placed_refused : get_or places (n - 1) None ≡ None → has_name n o.bus.seats ≡ false → has_name n a.bus.seats ≡ true → attach_refusal n before ≡ Some 15
+    placed_refused e other h = reason false false (ap is_some (waits None within e)) other ∙ ap (λ b. by_tests false false b (length a.bus.seats == 8)) h
 
-    module _ (o : B) (waited : get_or places (n - 1) None ≡ Some o) where
+    module _ (other : has_name n o.bus.seats ≡ false) (one_waits : B) (waited : get_or places (n - 1) None ≡ Some one_waits) where
       there_is : attach_refusal n before ≡ by_tests false true (has_name n a.bus.seats) (length a.bus.seats == 8)
-      there_is = reason true there (ap is_some (waits (Some o) within waited))
+      there_is = reason true false (ap is_some (waits (Some one_waits) within waited)) other
 
       pub error_refused : (e : AttachError) → attach_said e ≡ bus_refusal n a.bus.seats → error_number e ≡ attach_refusal n before
       error_refused e h = error_told (has_name n a.bus.seats) (length a.bus.seats == 8) e h ∙ sym there_is
@@ -99,29 +107,32 @@ module _ {B : Type 0} (f : B → Waiting) (n : ℕ) (a : Arranged) (places : Lis
       not_refused h = there_is ∙ none_told (has_name n a.bus.seats) (length a.bus.seats == 8) h
 
       -- the newcomer has left its place
-      pub newly_attached : (v : CurvedView) (s : SeatRow) (when : Option ℕ) (b : Arranged) (left : List (Option B)) → s.name ≡ n → s.join ≡ when → s.leave ≡ None → f o ≡ record { tells = s.tells; left = s.left } →
-          IsAttached v s a.bus b.bus → IsSameLayer a b → left ≡ set places (n - 1) None → built b (map (option_map f) left) ≡ attached n when before
+      pub newly_attached : (v : CurvedView) (s : SeatRow) (when : Option ℕ) (b : Arranged) (left : List (Option B)) → s.name ≡ n → s.join ≡ when → s.leave ≡ None → f one_waits ≡ record { tells = s.tells; left = s.left } →
+          IsAttached v s a.bus b.bus → IsSameLayer a b → left ≡ set places (n - 1) None → built b (half_in o) blue (map (option_map f) left) ≡ attached n when before
       newly_attached v s when b left sn sj sl fo h l e =
-          let seats : map seat_row b.bus.seats ≡ map seat_row a.bus.seats ++ newcomer n when (f o) ∷ [] = rw fo (attached_rows v s a.bus b.bus h n when sn sj sl) in
+          let seats : map seat_row b.bus.seats ≡ map seat_row a.bus.seats ++ newcomer n when (f one_waits) ∷ [] = rw fo (attached_rows v s a.bus b.bus h n when sn sj sl) in
           let places' : map (option_map f) left ≡ set (map (option_map f) places) (n - 1) None = ap (map (option_map f)) e ∙ map-set (option_map f) places (n - 1) None in
-          (λ i. record { layer = same_layer a b l i; seats = seats i; waiting = places' i }) ∙ ap (λ w. with_newcomer n when w before) (sym (waits (Some o) within waited))
+          (λ i. record { layer = same_layer a b l i; seats = seats i; waiting = places' i; other = half_in o; is_blue = blue }) ∙ ap (λ w. with_newcomer n when w before) (sym (waits (Some one_waits) within waited))
 
-      pub newcomer_kept : (v : CurvedView) (s : SeatRow) (b : Arranged) → IsAttached v s a.bus b.bus → IsSameLayer a b → bus_refusal n a.bus.seats ≡ None → (IsWatched a → IsWatched b) → IsKept b
+      pub newcomer_kept : (v : CurvedView) (s : SeatRow) (b : Arranged) → IsAttached v s a.bus b.bus → IsSameLayer a b → bus_refusal n a.bus.seats ≡ None → (IsWatched a → IsWatched b) → AreKept b o
       newcomer_kept v s b h l r w = record {
-        limits = l.limits ∙ kept.limits;
-        few = few_attached v s a.bus b.bus h kept.few (eight (length a.bus.seats) (not_full (has_name n a.bus.seats) (length a.bus.seats == 8) r));
-        watched = w kept.watched;
+        current = record {
+          limits = l.limits ∙ kept.current.limits;
+          few = few_attached v s a.bus b.bus h kept.current.few (eight (length a.bus.seats) (not_full (has_name n a.bus.seats) (length a.bus.seats == 8) r));
+          watched = w kept.current.watched;
+        };
+        other = kept.other;
       }
 
       -- one that was handed back waits again
-      pub handed_back : (p : B) (b : Arranged) (left back : List (Option B)) → f p ≡ f o → b.bus ≡ a.bus → IsSameLayer a b → left ≡ set places (n - 1) None → back ≡ set left (n - 1) (Some p) →
-          built b (map (option_map f) back) ≡ before
+      pub handed_back : (p : B) (b : Arranged) (left back : List (Option B)) → f p ≡ f one_waits → b.bus ≡ a.bus → IsSameLayer a b → left ≡ set places (n - 1) None → back ≡ set left (n - 1) (Some p) →
+          built b (half_in o) blue (map (option_map f) back) ≡ before
       handed_back p b left back fp h l e g =
-          let was : option_map f (Some p) ≡ get_or (map (option_map f) places) (n - 1) None = ap Some fp ∙ sym (waits (Some o) within waited) in
+          let was : option_map f (Some p) ≡ get_or (map (option_map f) places) (n - 1) None = ap Some fp ∙ sym (waits (Some one_waits) within waited) in
           let same : map (option_map f) back ≡ map (option_map f) places =
           ap (map (option_map f)) (g ∙ ap (λ xs. set xs (n - 1) (Some p)) e ∙ set_again places (n - 1) None (Some p)) ∙ map-set (option_map f) places (n - 1) (Some p) ∙
           ap (set (map (option_map f) places) (n - 1)) was ∙ set-get_or (map (option_map f) places) (n - 1) None in
-          λ i. record { layer = same_layer a b l i; seats = map seat_row (h i).seats; waiting = same i }
+          λ i. record { layer = same_layer a b l i; seats = map seat_row (h i).seats; waiting = same i; other = half_in o; is_blue = blue }
 
-      pub back_kept : (b : Arranged) → b.bus ≡ a.bus → IsSameLayer a b → (IsWatched a → IsWatched b) → IsKept b
-      back_kept b h l w = record { limits = l.limits ∙ kept.limits; few = rw h kept.few; watched = w kept.watched }
+      pub back_kept : (b : Arranged) → b.bus ≡ a.bus → IsSameLayer a b → (IsWatched a → IsWatched b) → AreKept b o
+      back_kept b h l w = record { current = record { limits = l.limits ∙ kept.current.limits; few = rw h kept.current.few; watched = w kept.current.watched }; other = kept.other }

@@ -100,6 +100,7 @@ forms_numbered name.Leave = (
   (λ ns. mapped (λ entry. command.Leave entry.0 entry.1) IsEntry (observer_at_from ns) (at_least ns) (λ entry h. h), tt),
 )
 forms_numbered name.Mirror = (λ ns. mapped command.Mirror (λ i. 1 ≤ i) (observer_from ns) (observer_least ns) (λ i h. h), tt)
+forms_numbered name.Layer = (λ ns. tt, (λ ns. tt, tt))
 
 -- ---- lines
 chosen : (b : Bool) (x y : Result Command LineError) → IfOk x IsNumbered → IfOk y IsNumbered → IfOk (if b then x else y) IsNumbered

@@ -1,5 +1,5 @@
 -- What a line is answered, and the world that the next line meets.
-use Rattle.std.specs.Prelude.{◌≡◌, ◌≢◌, ◌≤◌, ℕ, true, not, ◌⊎◌, List, [], ◌∷◌, ◌++◌, length, Option, Some, None, Result, Ok, Err, codes, decimal, if◌then◌else◌, ⊤}
+use Rattle.std.specs.Prelude.{◌≡◌, ◌≢◌, ◌≤◌, ℕ, true, false, not, ◌⊎◌, List, [], ◌∷◌, ◌++◌, length, Option, Some, None, Result, Ok, Err, codes, decimal, if◌then◌else◌, ⊤}
 use Rattle.std.specs.List.{count_by, filter, list_any}
 use Rattle.observer_bus.specs.declared.went.Went.{Went}
 use Rattle.exact_plane.specs.Segment.{Segment}
@@ -14,13 +14,13 @@ use Rattle.slab_laws.specs.Sound.{edge_between}
 use Rattle.slab_laws.specs.Subdivision.{Subdivision, subdivision, holds}
 use Rattle.slab_laws.specs.Text.{skeleton, present_text}
 use Rattle.script_lines.specs.declared.command.Command.{Command}
-use Rattle.script_lines.specs.declared.command.Command.TheVariants.{Nothing, Segment as AddSegment, Drop, Cut, Pin, Unpin, Split, Merge, Clear, Locate, Edge as CurvesOf, Curve, Count, Show, Attach, Leave, Mirror}
+use Rattle.script_lines.specs.declared.command.Command.TheVariants.{Nothing, Segment as AddSegment, Drop, Cut, Pin, Unpin, Split, Merge, Clear, Locate, Edge as CurvesOf, Curve, Count, Show, Attach, Leave, Mirror, LayerRed, LayerBlue}
 use Rattle.script_lines.specs.declared.error.LineError.{LineError}
 use Rattle.script_lines.specs.LineError.{refusal_number as line_number}
 use Rattle.script_lines.specs.Command.{command_of}
 use Rattle.arrangement.specs.Answers.{cut_between, split_at}
-use Rattle.planar_run.specs.World.{World}
-use Rattle.planar_run.specs.Observers.{attach_refusal, attached, leaving, seat_refusal, IsUntold}
+use Rattle.planar_run.specs.World.{World, turned}
+use Rattle.planar_run.specs.Observers.{attach_refusal, attached, leaving, report_of, seat_refusal, IsUntold}
 use Rattle.planar_run.specs.Rounds.{seated_after, AreFew, AreRoundsOf, Seated}
 use Rattle.planar_run.specs.Premises.{graph_of, is_named, is_edge}
 use Rattle.planar_run.specs.Refusals.{refusal_of, refusal_number}
@@ -42,7 +42,7 @@ said text world = record { text = text; world = world }
 
 -- the world after an edit, in whose rounds these are lost
 abbrev pub done : Edit → Seated → World → World
-done edit seated world = record { layer = layer_after edit world.layer; seats = seated.seats; waiting = world.waiting }
+done edit seated world = record world { layer = layer_after edit world.layer; seats = seated.seats }
 
 -- an edit is done: who was lost in its rounds, what these and the edit make of the world, and who joined, left and was lost (this project)
 pub record IsDone (edit : Edit) (before after : World) (names : Went) : Type 0 where
@@ -120,7 +120,9 @@ answer_to world losses (Ok Count) = said (line_of (codes "counts" ++ spaced (cou
 answer_to world losses (Ok Show) = said (present_text world.layer.present) world
 answer_to world losses (Ok (Attach i when)) = unless (attach_refusal i world) (record { text = line_of (codes "ok"); world = attached i when world }) world
 answer_to world losses (Ok (Leave i when)) = unless (seat_refusal i world) (record { text = line_of (codes "ok"); world = leaving i when world }) world
-answer_to world losses (Ok (Mirror i)) = unless (seat_refusal i world) (said (present_text world.layer.present) world) world
+answer_to world losses (Ok (Mirror i)) = unless (seat_refusal i world) (said (report_of i world) world) world
+answer_to world losses (Ok LayerRed) = record { text = line_of (codes "ok"); world = turned false world }
+answer_to world losses (Ok LayerBlue) = record { text = line_of (codes "ok"); world = turned true world }
 
 -- the losses are of just the rounds of the edit, where it isn't refused
 abbrev pub AreLossesOfEdit : List (List ℕ) → Edit → World → Type 0
@@ -172,6 +174,8 @@ MayTake world (Ok Show) = ⊤
 MayTake world (Ok (Attach i when)) = attach_refusal i world ≡ None
 MayTake world (Ok (Leave i when)) = ⊥
 MayTake world (Ok (Mirror i)) = seat_refusal i world ≡ None
+MayTake world (Ok LayerRed) = ⊥
+MayTake world (Ok LayerBlue) = ⊥
 
 -- the observers of a line and its rounds are counted from 1 (this project)
 abbrev pub IsNumbered : Command → Type 0

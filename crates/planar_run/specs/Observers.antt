@@ -7,28 +7,36 @@ use Rattle.observer_bus.specs.declared.errors.AttachError.{AttachError}
 use Rattle.observer_bus.specs.declared.errors.AttachError.TheVariants.{Taken as TakenName, Full as FullBus, NoMemory as NoneForNewcomer}
 use Rattle.planar_run.specs.declared.places.AttachRefusal.{AttachRefusal}
 use Rattle.planar_run.specs.declared.places.AttachRefusal.TheVariants.{Gone, Taken, Full, NoMemory}
-use Rattle.planar_run.specs.World.{Seat, Waiting, World}
+use Rattle.planar_run.specs.World.{Half, Seat, Waiting, World}
 
 -- the observer of the number, while it waits
 abbrev pub waiting_as : ℕ → World → Option Waiting
 waiting_as i world = get_or world.waiting (i - 1) None
 
 -- a seat, or a join that is planned, has the number
+abbrev pub is_placed_in : ℕ → List Seat → Bool
+is_placed_in i seats = list_any (λ s. s.name == i) seats
+
+-- one of either layer has it
 abbrev pub is_placed : ℕ → World → Bool
-is_placed i world = list_any (λ s. s.name == i) world.seats
+is_placed i world = is_placed_in i world.other.seats || is_placed_in i world.seats
 
 -- the observer of the number is seated under this seat: one whose join is planned isn't seated
 abbrev pub is_seat_of : ℕ → Seat → Bool
 is_seat_of i s = is_seated_as i s.join s.name
 
+abbrev pub is_seated_in : ℕ → List Seat → Bool
+is_seated_in i seats = list_any (is_seat_of i) seats
+
+-- it is seated in either layer
 abbrev pub is_seated : ℕ → World → Bool
-is_seated i world = list_any (is_seat_of i) world.seats
+is_seated i world = is_seated_in i world.seats || is_seated_in i world.other.seats
 
 -- so many observers were not handed in
 abbrev pub is_above : ℕ → World → Bool
 is_above i world = nat_lt (length world.waiting) i
 
--- why an observer isn't attached: 14, there is none of the number, or it has left or was lost; 15, it is seated, or its join is planned; 17, eight are there
+-- why an observer isn't attached: 14, there is none of the number, or it has left or was lost; 15, it is seated, or its join is planned, in either layer; 17, eight are there in the layer that lines mean
 abbrev pub attach_refusal : ℕ → World → Option ℕ
 attach_refusal i world =
     if is_above i world || (not (is_some (waiting_as i world)) && not (is_placed i world)) then Some 14
@@ -62,7 +70,7 @@ newcomer i when w = record { name = i; join = when; leave = None; tells = w.tell
 
 abbrev pub with_newcomer : ℕ → Option ℕ → Option Waiting → World → World
 with_newcomer i when None world = world
-with_newcomer i when (Some w) world = record { layer = world.layer; seats = world.seats ++ newcomer i when w ∷ []; waiting = set world.waiting (i - 1) None }
+with_newcomer i when (Some w) world = record world { seats = world.seats ++ newcomer i when w ∷ []; waiting = set world.waiting (i - 1) None }
 
 -- the world with one more seat
 abbrev pub attached : ℕ → Option ℕ → World → World
@@ -78,8 +86,11 @@ abbrev pub seats_left : ℕ → Option ℕ → List Seat → List Seat
 seats_left i when [] = []
 seats_left i when (s ∷ ss) = cond (is_seat_of i s) (with_leave when s ss) (s ∷ seats_left i when ss)
 
+-- the world after it leaves its layer, or plans it: the one that lines mean, where it is seated there, else the other
 abbrev pub leaving : ℕ → Option ℕ → World → World
-leaving i when world = record { layer = world.layer; seats = seats_left i when world.seats; waiting = world.waiting }
+leaving i when world =
+    if is_seated_in i world.seats then record world { seats = seats_left i when world.seats }
+    else record world { other = record { layer = world.other.layer; seats = seats_left i when world.other.seats } }
 
 -- the first seat under which the observer of the number is seated
 abbrev pub seat_of : ℕ → List Seat → Option Seat
@@ -90,10 +101,18 @@ abbrev pub TellsNothing : Option Seat → Type 0
 TellsNothing None = ⊥
 TellsNothing (Some s) = s.tells ≡ false
 
+-- the layer in which the observer of the number is seated: the one that lines mean, or the other
+abbrev pub half_with : ℕ → World → Half
+half_with i world = if is_seated_in i world.seats then record { layer = world.layer; seats = world.seats } else world.other
+
 -- the observer of the number is seated, and tells no view: nothing is known of its report (this project)
 abbrev pub IsUntold : ℕ → World → Type 0
-IsUntold i world = TellsNothing (seat_of i world.seats)
+IsUntold i world = TellsNothing (seat_of i (half_with i world).seats)
 
--- the bytes are the text of the subdivision, where the seated observer of the number tells a view (this project)
+-- the text of the subdivision of its layer
+abbrev pub report_of : ℕ → World → List ℕ
+report_of i world = present_text (half_with i world).layer.present
+
+-- the bytes are this text, where the seated observer of the number tells a view (this project)
 abbrev pub IsReportIn : ℕ → World → List ℕ → Type 0
-IsReportIn i world bytes = IsUntold i world ⊎ (bytes ≡ present_text world.layer.present)
+IsReportIn i world bytes = IsUntold i world ⊎ (bytes ≡ report_of i world)

@@ -1,5 +1,5 @@
 -- The world of a script: what its lines have built so far, and its observers.
-use Rattle.std.specs.Prelude.{ℕ, Bool, List, [], Option, Some, map}
+use Rattle.std.specs.Prelude.{ℕ, Bool, true, false, not, List, [], Option, Some, map, if◌then◌else◌}
 use Rattle.edit_steps.specs.Layer.{Layer, empty_layer}
 
 -- an observer while it waits: whether it tells a view, and how many notes it still hears, where it counts them (this project)
@@ -15,13 +15,41 @@ pub record Seat : Type 0 where
   pub tells : Bool
   pub left : Option ℕ
 
-pub record World : Type 0 where
+-- one of the two layers, with its observers
+pub record Half : Type 0 where
   pub layer : Layer
   -- the observers that are seated, and those whose join is planned, in the order of the lines that attached them
   pub seats : List Seat
+
+pub record World : Type 0 where
+  -- the layer that lines mean, and its seats
+  pub layer : Layer
+  pub seats : List Seat
   -- each observer that was handed in, while it waits; none where it is seated, planned or gone
   pub waiting : List (Option Waiting)
+  -- the layer that they don't mean
+  pub other : Half
+  -- whether they mean the blue layer
+  pub is_blue : Bool
 
--- before the first line all observers wait, and the first curve gets the number 1
+abbrev pub first_half : Half
+first_half = record { layer = empty_layer 1; seats = [] }
+
+-- before the first line all observers wait, lines mean the red layer, and the first curve of each layer gets the number 1
 abbrev pub first_world : List Waiting → World
-first_world observers = record { layer = empty_layer 1; seats = []; waiting = map Some observers }
+first_world observers = record { layer = first_half.layer; seats = first_half.seats; waiting = map Some observers; other = first_half; is_blue = false }
+
+-- the world in which lines mean the layer that they didn't
+abbrev pub exchanged : World → World
+exchanged world = record {
+  layer = world.other.layer;
+  seats = world.other.seats;
+  waiting = world.waiting;
+  other = record { layer = world.layer; seats = world.seats };
+  is_blue = not world.is_blue;
+}
+
+-- the world in which lines mean the blue layer, or the red one
+abbrev pub turned : Bool → World → World
+turned true world = if world.is_blue then world else exchanged world
+turned false world = if world.is_blue then exchanged world else world

@@ -2,9 +2,10 @@ ghost use Rattle.std.specs.Prelude.{◌≡◌, ◌≤◌, ◌++◌, [], length, 
 ghost use Rattle.script_lines.specs.LineError.{refusal_number};
 ghost use Rattle.planar_run.specs.Text.{line_of};
 ghost use Rattle.planar_run.specs.Answer.{IsNumbered, IsObeyed, MayTake, Replies};
-ghost use Rattle.planar_run.specs.Rows.{arranged_row, world_row, IsKept};
+ghost use Rattle.planar_run.specs.Rows.{world_row, IsKeptWorld};
 
 use crate::edits::{clear, cut, drop_curve, merge, pin, segment, split, unpin};
+use crate::layers::layer;
 use crate::observers::{attach, leave, mirror};
 use crate::questions::{count, curve, edge, locate, show};
 use crate::reply::{REPLY_ROOM, Reply};
@@ -16,10 +17,10 @@ use script_lines::{Command, LineError, read_line};
 fn obey(world: &mut World, command: Command, reply: &mut Reply) -> Result<(), NoMemory>
     requires empty { reply.old ≡ [] }
     requires numbered { IsNumbered command }
-    requires kept { IsKept (arranged_row tells held left heard world.old) }
+    requires kept { IsKeptWorld tells held left heard world.old }
     ensures obeyed { OnOk result (IsObeyed (world_row tells held left heard world.old) (Ok command) reply.new (world_row tells held left heard world.new)) }
     ensures err { OnErr result (MayTake (world_row tells held left heard world.old) (Ok command) × (world_row tells held left heard world.new ≡ world_row tells held left heard world.old)) }
-    ensures kept { IsKept (arranged_row tells held left heard world.new) }
+    ensures kept { IsKeptWorld tells held left heard world.new }
 {
     match command {
         Command::Nothing => Ok(()),
@@ -51,6 +52,14 @@ fn obey(world: &mut World, command: Command, reply: &mut Reply) -> Result<(), No
             Ok(())
         }
         Command::Mirror(number) => mirror(world, number, reply),
+        Command::LayerRed => {
+            layer(world, false, reply);
+            Ok(())
+        }
+        Command::LayerBlue => {
+            layer(world, true, reply);
+            Ok(())
+        }
     }
 }
 
@@ -71,9 +80,9 @@ fn refusal(error: LineError) -> &'static str
 
 /// Makes the reply to a line, and does to the world what the line says.
 pub fn answer(world: &mut World, line: &[u8], reply: &mut Reply)
-    requires kept { IsKept (arranged_row tells held left heard world.old) }
+    requires kept { IsKeptWorld tells held left heard world.old }
     ensures replied { Replies (world_row tells held left heard world.old) line.now reply.new (world_row tells held left heard world.new) }
-    ensures kept { IsKept (arranged_row tells held left heard world.new) }
+    ensures kept { IsKeptWorld tells held left heard world.new }
 {
     reply.clear();
     match read_line(line) {

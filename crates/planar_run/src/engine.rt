@@ -1,7 +1,7 @@
 ghost use Rattle.std.specs.Prelude.{◌≡◌, ◌≢◌, [], true, false, IfOk, OnOk, OnErr};
 ghost use Rattle.outside.specs.Counts.{HasCause};
 ghost use Rattle.planar_run.specs.World.{first_world};
-ghost use Rattle.planar_run.specs.Rows.{arranged_row, waiting_rows, world_row, IsKept};
+ghost use Rattle.planar_run.specs.Rows.{waiting_rows, world_row, IsKeptWorld};
 ghost use Rattle.planar_run.specs.Engine.{Answers, AnswersPart, Takes, Feeds, FeedsPart};
 ghost use Rattle.planar_run.specs.Answer.{Replies};
 ghost use Rattle.planar_run.specs.Clauses.{Causes, Finishes};
@@ -36,7 +36,7 @@ impl Engine {
     ) -> Result<Engine, NoMemory>
         ensures first { IfOk result (λ e. world_row tells held left heard e.world ≡ first_world (waiting_rows tells left observers.items)) }
         ensures begun { IfOk result (λ e. e.line ≡ []) }
-        ensures kept { IfOk result (λ e. IsKept (arranged_row tells held left heard e.world)) }
+        ensures kept { IfOk result (λ e. IsKeptWorld tells held left heard e.world) }
     {
         Ok(Engine {
             world: World::new(alloc, strategy, observers)?,
@@ -47,12 +47,12 @@ impl Engine {
 
     // Answers the line that was begun, and begins the next.
     fn end_line<K: Sink>(&mut self, sink: &mut K) -> Result<(), Failed>
-        requires kept { IsKept (arranged_row tells held left heard self.old.world) }
+        requires kept { IsKeptWorld tells held left heard self.old.world }
         ensures answered { OnOk result (Answers (K.taken sink.old) (K.taken sink.new) (world_row tells held left heard self.old.world) self.old.line (world_row tells held left heard self.new.world)) }
         ensures cleared { OnOk result (self.new.line ≡ []) }
         ensures broken { OnErr result (AnswersPart (K.taken sink.old) (K.taken sink.new) (world_row tells held left heard self.old.world) self.old.line) }
         ensures cause { HasCause (K.faults sink.old) (K.faults sink.new) result }
-        ensures kept { IsKept (arranged_row tells held left heard self.new.world) }
+        ensures kept { IsKeptWorld tells held left heard self.new.world }
     {
         answer(&mut self.world, self.line.as_slice(), &mut self.reply);
         self.line.clear();
@@ -61,11 +61,11 @@ impl Engine {
 
     // Answers a line that is there whole, and tells whether it found memory.
     fn answer_whole(&mut self, line: &[u8]) -> bool
-        requires kept { IsKept (arranged_row tells held left heard self.old.world) }
+        requires kept { IsKeptWorld tells held left heard self.old.world }
         ensures replied { Replies (world_row tells held left heard self.old.world) line.now self.new.reply (world_row tells held left heard self.new.world) }
         ensures found { result ≡ true → self.new.reply ≢ no_memory_reply }
         ensures none { result ≡ false → self.new.reply ≡ no_memory_reply }
-        ensures kept { IsKept (arranged_row tells held left heard self.new.world) }
+        ensures kept { IsKeptWorld tells held left heard self.new.world }
     {
         answer(&mut self.world, line, &mut self.reply);
         self.reply.as_slice() != b"no memory\n".as_slice()
@@ -73,9 +73,9 @@ impl Engine {
 
     // Answers the lines of a made script to the last one, or to the first that finds no memory, and keeps the reply to it.
     fn answer_made(&mut self, maker: &mut Maker)
-        requires kept { IsKept (arranged_row tells held left heard self.old.world) }
+        requires kept { IsKeptWorld tells held left heard self.old.world }
         ensures last { IsLastReply (world_row tells held left heard self.old.world) maker.old self.new.reply }
-        ensures kept { IsKept (arranged_row tells held left heard self.new.world) }
+        ensures kept { IsKeptWorld tells held left heard self.new.world }
     {
         let mut buffer = [0u8; LINE_ROOM];
         self.reply.clear();
@@ -94,7 +94,7 @@ impl Engine {
 
     /// Answers the lines of a made script, and writes the reply to the last one alone, or to the first that finds no memory.
     pub fn write_made<K: Sink>(&mut self, maker: &mut Maker, sink: &mut K) -> Result<(), Failed>
-        requires kept { IsKept (arranged_row tells held left heard self.old.world) }
+        requires kept { IsKeptWorld tells held left heard self.old.world }
         ensures written { OnOk result (AnswersMade (K.taken sink.old) (K.taken sink.new) (world_row tells held left heard self.old.world) maker.old) }
         ensures broken { OnErr result (AnswersMadePart (K.taken sink.old) (K.taken sink.new) (world_row tells held left heard self.old.world) maker.old) }
         ensures cause { HasCause (K.faults sink.old) (K.faults sink.new) result }
@@ -105,11 +105,11 @@ impl Engine {
 
     // One more byte of the script.
     fn take<K: Sink>(&mut self, byte: u8, sink: &mut K) -> Result<(), Failed>
-        requires kept { IsKept (arranged_row tells held left heard self.old.world) }
+        requires kept { IsKeptWorld tells held left heard self.old.world }
         ensures taken { OnOk result (Takes byte (K.taken sink.old) (K.taken sink.new) (world_row tells held left heard self.old.world) self.old.line (world_row tells held left heard self.new.world) self.new.line) }
         ensures broken { OnErr result ((byte ≡ 10) × AnswersPart (K.taken sink.old) (K.taken sink.new) (world_row tells held left heard self.old.world) self.old.line) }
         ensures cause { HasCause (K.faults sink.old) (K.faults sink.new) result }
-        ensures kept { IsKept (arranged_row tells held left heard self.new.world) }
+        ensures kept { IsKeptWorld tells held left heard self.new.world }
     {
         if byte == b'\n' {
             return self.end_line(sink);
@@ -120,11 +120,11 @@ impl Engine {
 
     /// More bytes of the script. Each line is answered when its end comes.
     pub fn feed<K: Sink>(&mut self, bytes: &[u8], sink: &mut K) -> Result<(), Failed>
-        requires kept { IsKept (arranged_row tells held left heard self.old.world) }
+        requires kept { IsKeptWorld tells held left heard self.old.world }
         ensures fed { OnOk result (Feeds bytes.now (K.taken sink.old) (K.taken sink.new) (world_row tells held left heard self.old.world) self.old.line (world_row tells held left heard self.new.world) self.new.line) }
         ensures broken { OnErr result (FeedsPart bytes.now (K.taken sink.old) (K.taken sink.new) (world_row tells held left heard self.old.world) self.old.line) }
         ensures cause { HasCause (K.faults sink.old) (K.faults sink.new) result }
-        ensures kept { IsKept (arranged_row tells held left heard self.new.world) }
+        ensures kept { IsKeptWorld tells held left heard self.new.world }
     {
         for byte in bytes {
             self.take(*byte, sink)?;
@@ -134,10 +134,10 @@ impl Engine {
 
     /// The end of the script.
     pub fn finish<K: Sink>(&mut self, sink: &mut K) -> Status
-        requires kept { IsKept (arranged_row tells held left heard self.old.world) }
+        requires kept { IsKeptWorld tells held left heard self.old.world }
         ensures finishes { Finishes result (K.taken sink.old) (K.taken sink.new) (world_row tells held left heard self.old.world) self.old.line }
         ensures causes { Causes result 0 0 (K.faults sink.old) (K.faults sink.new) }
-        ensures kept { IsKept (arranged_row tells held left heard self.new.world) }
+        ensures kept { IsKeptWorld tells held left heard self.new.world }
     {
         if self.line.is_empty() {
             return Status::Done;

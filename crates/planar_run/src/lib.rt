@@ -7,6 +7,7 @@
 mod answer;
 mod edits;
 mod engine;
+mod layers;
 mod line;
 mod observers;
 mod places;

@@ -1,6 +1,6 @@
 ghost use Rattle.std.specs.Prelude.{◌≡◌, ◌≢◌, ◌↔◌, ◌<◌, ◌≤◌, Err, Some, None, false, not, get_or, is_ok, length, map, set, IfOk, OnErr, OnOk};
 ghost use Rattle.planar_run.specs.Observers.{attach_number, attach_refusal, attached, error_number, is_above, is_seated, leaving, IsAttachAnswer, IsReportIn};
-ghost use Rattle.planar_run.specs.Rows.{arranged_row, world_row, IsKept};
+ghost use Rattle.planar_run.specs.Rows.{world_row, IsKeptWorld};
 
 use crate::world::World;
 use arr_notes::Observer;
@@ -15,7 +15,7 @@ pub enum AttachRefusal {
     Gone,
     /// It is seated, or its join is planned.
     Taken,
-    /// Eight are seated or planned.
+    /// Eight are seated or planned in the arrangement that lines mean.
     Full,
     /// There was no memory, or the observer found none.
     NoMemory,
@@ -78,18 +78,21 @@ impl World {
         number as usize <= self.observers.len()
     }
 
-    /// Seats an observer that waits, or plans its join.
+    /// Seats an observer that waits in the arrangement that lines mean, or plans its join there.
     pub fn attach(&mut self, number: u32, when: Option<u32>) -> Result<(), AttachRefusal>
         requires number { 1 ≤ number }
         requires when { when ≢ Some 0 }
-        requires kept { IsKept (arranged_row tells held left heard self.old) }
+        requires kept { IsKeptWorld tells held left heard self.old }
         ensures refused { IsAttachAnswer (attach_refusal number (world_row tells held left heard self.old)) result }
         ensures attached { OnOk result (world_row tells held left heard self.new ≡ attached number when (world_row tells held left heard self.old)) }
         ensures err { OnErr result (world_row tells held left heard self.new ≡ world_row tells held left heard self.old) }
-        ensures kept { IsKept (arranged_row tells held left heard self.new) }
+        ensures kept { IsKeptWorld tells held left heard self.new }
     {
         if !self.has(number) {
             return Err(AttachRefusal::Gone);
+        }
+        if self.other.is_attached(number) {
+            return Err(AttachRefusal::Taken);
         }
         let place = number as usize - 1;
         match take_waiting(&mut self.observers, place) {
@@ -109,24 +112,31 @@ impl World {
         }
     }
 
-    /// Lets a seated observer go, or plans it. It takes no memory.
+    /// Lets an observer go that is seated in either arrangement, or plans it. It takes no memory.
     pub fn leave(&mut self, number: u32, when: Option<u32>) -> Result<(), NoSeat>
         requires when { when ≢ Some 0 }
-        requires kept { IsKept (arranged_row tells held left heard self.old) }
+        requires kept { IsKeptWorld tells held left heard self.old }
         ensures seated { is_ok result ≡ is_seated number (world_row tells held left heard self.old) }
         ensures left { OnOk result (world_row tells held left heard self.new ≡ leaving number when (world_row tells held left heard self.old)) }
         ensures err { OnErr result (world_row tells held left heard self.new ≡ world_row tells held left heard self.old) }
-        ensures kept { IsKept (arranged_row tells held left heard self.new) }
+        ensures kept { IsKeptWorld tells held left heard self.new }
     {
-        self.arrangement.leave(number, when)
+        match self.arrangement.leave(number, when) {
+            Ok(()) => Ok(()),
+            Err(_) => self.other.leave(number, when),
+        }
     }
 
-    /// The report of a seated observer.
+    /// The report of an observer that is seated in either arrangement.
     pub fn report(&self, number: u32) -> Result<Vec<u8>, ReportError>
-        requires kept { IsKept (arranged_row tells held left heard self.now) }
+        requires kept { IsKeptWorld tells held left heard self.now }
         ensures seat { (result ≡ Err ReportError.NoSeat) ↔ (is_seated number (world_row tells held left heard self.now) ≡ false) }
         ensures report { IfOk result (λ b. IsReportIn number (world_row tells held left heard self.now) b.items) }
     {
-        self.arrangement.report(number)
+        match self.arrangement.report(number) {
+            Ok(bytes) => Ok(bytes),
+            Err(ReportError::NoSeat) => self.other.report(number),
+            Err(ReportError::NoMemory) => Err(ReportError::NoMemory),
+        }
     }
 }

@@ -6,7 +6,7 @@ ghost use Rattle.script_maker.specs.Script.{script};
 ghost use Rattle.planar_run.specs.Made.{AnswersMade, AnswersMadePart, AskForMade, AskForScript};
 ghost use Rattle.planar_run.specs.Lines.{lines, ended_lines};
 ghost use Rattle.planar_run.specs.World.{first_world, Waiting};
-ghost use Rattle.planar_run.specs.Rows.{arranged_row, waiting_rows, world_row, IsKept};
+ghost use Rattle.planar_run.specs.Rows.{waiting_rows, world_row, IsKeptWorld};
 ghost use Rattle.planar_run.specs.Run.{IsRun, BeginsRun};
 ghost use Rattle.planar_run.specs.Clauses.{usage_line, Used, UsedAndWritten, ReadToEnd, Ends, Causes};
 
@@ -28,7 +28,7 @@ const BUFFER: usize = 4096;
 // Reads the script and answers its lines, by an engine that stands before the first byte.
 fn answer_script<S: Source, K: Sink>(engine: &mut Engine, source: &mut S, sink: &mut K) -> Status
     requires line { engine.old.line ≡ [] }
-    requires kept { IsKept (arranged_row tells held (λ b. (⟦<dyn Observer as Observer>⟧ b.vtable).left b.value) heard engine.old.world) }
+    requires kept { IsKeptWorld tells held (λ b. (⟦<dyn Observer as Observer>⟧ b.vtable).left b.value) heard engine.old.world }
     ensures ends { (observers : List Waiting) → world_row tells held (λ b. (⟦<dyn Observer as Observer>⟧ b.vtable).left b.value) heard engine.old.world ≡ first_world observers →
         Ends observers result (S.left source.old) (S.left source.new) (K.taken sink.old) (K.taken sink.new) }
     ensures causes { Causes result (S.faults source.old) (S.faults source.new) (K.faults sink.old) (K.faults sink.new) }
@@ -79,7 +79,7 @@ fn run<S: Source, K: Sink>(
 
 // Writes the last reply to a made script, by an engine that stands before the first line.
 fn answer_made<K: Sink>(engine: &mut Engine, segments: u32, seed: u32, sink: &mut K) -> Status
-    requires kept { IsKept (arranged_row tells held (λ b. (⟦<dyn Observer as Observer>⟧ b.vtable).left b.value) heard engine.old.world) }
+    requires kept { IsKeptWorld tells held (λ b. (⟦<dyn Observer as Observer>⟧ b.vtable).left b.value) heard engine.old.world }
     ensures made { result ≡ Status.Done → AnswersMade (K.taken sink.old) (K.taken sink.new) (world_row tells held (λ b. (⟦<dyn Observer as Observer>⟧ b.vtable).left b.value) heard engine.old.world) (script segments seed) }
     ensures broken { result ≡ Status.WriteFault → AnswersMadePart (K.taken sink.old) (K.taken sink.new) (world_row tells held (λ b. (⟦<dyn Observer as Observer>⟧ b.vtable).left b.value) heard engine.old.world) (script segments seed) }
     ensures only { (result ≡ Status.Done) ⊎ (result ≡ Status.WriteFault) }

@@ -10,7 +10,7 @@ ghost use Rattle.planar_run.specs.World.{first_world};
 ghost use Rattle.planar_run.specs.Premises.{graph_of, is_named, is_edge};
 ghost use Rattle.planar_run.specs.Answer.{counted, edges_along, subdivision_of, IsDone};
 ghost use Rattle.planar_run.specs.Refusals.{refusal_of, BarsEdge, BarsEdges};
-ghost use Rattle.planar_run.specs.Rows.{arranged_row, waiting_rows, world_row, IsKept};
+ghost use Rattle.planar_run.specs.Rows.{arranged_row, waiting_rows, world_row, IsKeptWorld};
 
 use crate::places::all_waiting;
 use arr_notes::Observer;
@@ -23,30 +23,36 @@ use no_memory::NoMemory;
 use slab_laws::{Cell, CurveId, Strategy};
 use std::alloc::Global;
 
-/// What the lines of a script have built so far, an arrangement under the limits of a script, the observers that wait, each at the place
-/// of its number, and how points are located, which shows in no reply.
+/// What the lines of a script have built so far, two arrangements, each under the limits of a script, the one that lines mean and the
+/// other; the observers that wait, each at the place of its number; and how points are located, which shows in no reply.
 ///
 /// Contracts see it as a row (`specs/Rows.antt`): what a boxed observer means is handed to them by the observers' own words.
 #[derive(Drop)]
 pub struct World {
     pub(crate) arrangement: Arrangement,
+    // The arrangement that lines don't mean, and whether they mean the blue one.
+    pub(crate) other: Arrangement,
+    pub(crate) is_blue: bool,
     pub(crate) observers: Vec<Option<Box<dyn Observer>>>,
     strategy: Strategy,
 }
 
 impl World {
-    /// The world before the first line, where all observers wait.
+    /// The world before the first line, where lines mean the red arrangement and all observers wait.
     pub fn new(
         alloc: Global,
         strategy: Strategy,
         observers: Vec<Box<dyn Observer>>,
     ) -> Result<World, NoMemory>
         ensures first { IfOk result (λ w. world_row tells held left heard w ≡ first_world (waiting_rows tells left observers.items)) }
-        ensures kept { IfOk result (λ w. IsKept (arranged_row tells held left heard w)) }
+        ensures kept { IfOk result (λ w. IsKeptWorld tells held left heard w) }
     {
-        let bus = Bus::new(alloc, Vec::with_capacity(alloc, SEATS)?)?;
+        let red = Bus::new(alloc, Vec::with_capacity(alloc, SEATS)?)?;
+        let blue = Bus::new(alloc, Vec::with_capacity(alloc, SEATS)?)?;
         Ok(World {
-            arrangement: Arrangement::new(alloc, Limits::FULL, bus)?,
+            arrangement: Arrangement::new(alloc, Limits::FULL, red)?,
+            other: Arrangement::new(alloc, Limits::FULL, blue)?,
+            is_blue: false,
             observers: all_waiting(alloc, observers)?,
             strategy,
         })
@@ -54,12 +60,12 @@ impl World {
 
     /// Makes a segment a new curve, under the next number, which is answered.
     pub fn insert(&mut self, segment: Segment) -> Result<CurveId, InsertError>
-        requires kept { IsKept (arranged_row tells held left heard self.old) }
+        requires kept { IsKeptWorld tells held left heard self.old }
         ensures number { IfOk result (λ c. c.0 ≡ (world_row tells held left heard self.old).layer.next) }
         ensures done { OnOk result (IsDone (Insert (world_row tells held left heard self.old).layer.next segment) (world_row tells held left heard self.old) (world_row tells held left heard self.new) (arranged_row tells held left heard self.new).bus.went) }
         ensures refused { IsAnswerFor insert_said (refusal_of (world_row tells held left heard self.old) (Insert (world_row tells held left heard self.old).layer.next segment)) result }
         ensures err { OnErr result (world_row tells held left heard self.new ≡ world_row tells held left heard self.old) }
-        ensures kept { IsKept (arranged_row tells held left heard self.new) }
+        ensures kept { IsKeptWorld tells held left heard self.new }
     {
         self.arrangement.laws();
         self.arrangement.insert(segment)
@@ -67,11 +73,11 @@ impl World {
 
     /// Takes a curve away.
     pub fn remove_curve(&mut self, curve: CurveId) -> Result<(), DropError>
-        requires kept { IsKept (arranged_row tells held left heard self.old) }
+        requires kept { IsKeptWorld tells held left heard self.old }
         ensures done { OnOk result (IsDone (Drop curve.0) (world_row tells held left heard self.old) (world_row tells held left heard self.new) (arranged_row tells held left heard self.new).bus.went) }
         ensures refused { IsAnswerFor drop_said (refusal_of (world_row tells held left heard self.old) (Drop curve.0)) result }
         ensures err { OnErr result (world_row tells held left heard self.new ≡ world_row tells held left heard self.old) }
-        ensures kept { IsKept (arranged_row tells held left heard self.new) }
+        ensures kept { IsKeptWorld tells held left heard self.new }
     {
         self.arrangement.laws();
         self.arrangement.remove_curve(curve)
@@ -79,11 +85,11 @@ impl World {
 
     /// Takes the edge between two points, which come in either order, from all its curves.
     pub fn remove_edge(&mut self, p: &Point, q: &Point) -> Result<(), CutError>
-        requires kept { IsKept (arranged_row tells held left heard self.old) }
+        requires kept { IsKeptWorld tells held left heard self.old }
         ensures done { OnOk result (IsDone (cut_between p.now q.now) (world_row tells held left heard self.old) (world_row tells held left heard self.new) (arranged_row tells held left heard self.new).bus.went) }
         ensures refused { IsAnswerFor cut_said (refusal_of (world_row tells held left heard self.old) (cut_between p.now q.now)) result }
         ensures err { OnErr result (world_row tells held left heard self.new ≡ world_row tells held left heard self.old) }
-        ensures kept { IsKept (arranged_row tells held left heard self.new) }
+        ensures kept { IsKeptWorld tells held left heard self.new }
     {
         self.arrangement.laws();
         self.arrangement.remove_edge(p, q)
@@ -91,11 +97,11 @@ impl World {
 
     /// Pins a point.
     pub fn pin(&mut self, point: &Point) -> Result<(), PinError>
-        requires kept { IsKept (arranged_row tells held left heard self.old) }
+        requires kept { IsKeptWorld tells held left heard self.old }
         ensures done { OnOk result (IsDone (Pin point.now) (world_row tells held left heard self.old) (world_row tells held left heard self.new) (arranged_row tells held left heard self.new).bus.went) }
         ensures refused { IsAnswerFor pin_said (refusal_of (world_row tells held left heard self.old) (Pin point.now)) result }
         ensures err { OnErr result (world_row tells held left heard self.new ≡ world_row tells held left heard self.old) }
-        ensures kept { IsKept (arranged_row tells held left heard self.new) }
+        ensures kept { IsKeptWorld tells held left heard self.new }
     {
         self.arrangement.laws();
         self.arrangement.pin(point)
@@ -103,11 +109,11 @@ impl World {
 
     /// Unpins a point.
     pub fn unpin(&mut self, point: &Point) -> Result<(), NotPinned>
-        requires kept { IsKept (arranged_row tells held left heard self.old) }
+        requires kept { IsKeptWorld tells held left heard self.old }
         ensures done { OnOk result (IsDone (Unpin point.now) (world_row tells held left heard self.old) (world_row tells held left heard self.new) (arranged_row tells held left heard self.new).bus.went) }
         ensures refused { IsAnswerFor unpin_said (refusal_of (world_row tells held left heard self.old) (Unpin point.now)) result }
         ensures err { OnErr result (world_row tells held left heard self.new ≡ world_row tells held left heard self.old) }
-        ensures kept { IsKept (arranged_row tells held left heard self.new) }
+        ensures kept { IsKeptWorld tells held left heard self.new }
     {
         self.arrangement.laws();
         self.arrangement.unpin(point)
@@ -115,11 +121,11 @@ impl World {
 
     /// Pins a point inside the edge between two others, which come in either order.
     pub fn split_edge(&mut self, p: &Point, q: &Point, r: &Point) -> Result<(), SplitError>
-        requires kept { IsKept (arranged_row tells held left heard self.old) }
+        requires kept { IsKeptWorld tells held left heard self.old }
         ensures done { OnOk result (IsDone (split_at p.now q.now r.now) (world_row tells held left heard self.old) (world_row tells held left heard self.new) (arranged_row tells held left heard self.new).bus.went) }
         ensures refused { IsAnswerFor split_said (refusal_of (world_row tells held left heard self.old) (split_at p.now q.now r.now)) result }
         ensures err { OnErr result (world_row tells held left heard self.new ≡ world_row tells held left heard self.old) }
-        ensures kept { IsKept (arranged_row tells held left heard self.new) }
+        ensures kept { IsKeptWorld tells held left heard self.new }
     {
         self.arrangement.laws();
         self.arrangement.split_edge(p, q, r)
@@ -127,11 +133,11 @@ impl World {
 
     /// Unpins a point that its pin alone makes a vertex, where two edges meet.
     pub fn merge_edge(&mut self, r: &Point) -> Result<(), MergeError>
-        requires kept { IsKept (arranged_row tells held left heard self.old) }
+        requires kept { IsKeptWorld tells held left heard self.old }
         ensures done { OnOk result (IsDone (Merge r.now) (world_row tells held left heard self.old) (world_row tells held left heard self.new) (arranged_row tells held left heard self.new).bus.went) }
         ensures refused { IsAnswerFor merge_said (refusal_of (world_row tells held left heard self.old) (Merge r.now)) result }
         ensures err { OnErr result (world_row tells held left heard self.new ≡ world_row tells held left heard self.old) }
-        ensures kept { IsKept (arranged_row tells held left heard self.new) }
+        ensures kept { IsKeptWorld tells held left heard self.new }
     {
         self.arrangement.laws();
         self.arrangement.merge_edge(r)
@@ -139,9 +145,9 @@ impl World {
 
     /// Takes every segment and pin away.
     pub fn clear(&mut self)
-        requires kept { IsKept (arranged_row tells held left heard self.old) }
+        requires kept { IsKeptWorld tells held left heard self.old }
         ensures done { IsDone ClearAll (world_row tells held left heard self.old) (world_row tells held left heard self.new) (arranged_row tells held left heard self.new).bus.went }
-        ensures kept { IsKept (arranged_row tells held left heard self.new) }
+        ensures kept { IsKeptWorld tells held left heard self.new }
     {
         self.arrangement.laws();
         self.arrangement.clear();

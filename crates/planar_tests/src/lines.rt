@@ -6,7 +6,7 @@ use std::test::Fail;
 fn commands_are_read(rt: HostRuntime) {
     let point = |x, y, w| Point::new(x, y, w).ok();
     let ends = point(0, 0, 1).zip(point(4, 0, 1));
-    let rows: [(&[u8], Option<Command>); 26] = [
+    let rows: [(&[u8], Option<Command>); 29] = [
         (b"show", Some(Command::Show)),
         (b"  show ", Some(Command::Show)),
         (b"count", Some(Command::Count)),
@@ -42,6 +42,9 @@ fn commands_are_read(rt: HostRuntime) {
         ),
         (b" leave  2 at   4 ", Some(Command::Leave(2, Some(4)))),
         (b"mirror 64", Some(Command::Mirror(64))),
+        (b"layer red", Some(Command::LayerRed)),
+        (b" layer   blue ", Some(Command::LayerBlue)),
+        (b"#layer blue", Some(Command::Nothing)),
         (b"# note", Some(Command::Nothing)),
         (b"  #pin 0 0", Some(Command::Nothing)),
         (b"   ", Some(Command::Nothing)),
@@ -57,13 +60,20 @@ fn commands_are_read(rt: HostRuntime) {
 
 #[test]
 fn errors_come_in_their_order(rt: HostRuntime) {
-    let rows: [(&[u8], LineError); 43] = [
+    let rows: [(&[u8], LineError); 50] = [
         (b"paint", LineError::Word),
         (b"segments 0 0 1 1", LineError::Word),
         (b"Show", LineError::Word),
         (b"pinn 0 0 1", LineError::Word),
         (b"attach 1 on 3", LineError::Word),
         (b"attach x on 3", LineError::Word),
+        (b"layer green", LineError::Word),
+        (b"layer Red", LineError::Word),
+        (b"layer 1", LineError::Word),
+        (b"layers red", LineError::Word),
+        (b"layer", LineError::Count),
+        (b"layer red blue", LineError::Count),
+        (b"layer red 1", LineError::Count),
         (b"attach 1 at", LineError::Count),
         (b"pin", LineError::Count),
         (b"pin 0 0", LineError::Count),

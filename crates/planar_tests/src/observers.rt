@@ -7,7 +7,7 @@ use std::alloc::Global;
 use std::test::Fail;
 
 // Four mirrors.
-const ROWS: [(&str, &str); 5] = [
+const ROWS: [(&str, &str); 7] = [
     // One joins in the third round, before a split, and another leaves in the fourth, untold.
     (
         "segment 1 0 1 2\nattach 2\nattach 1 at 3\nleave 2 at 4\nsegment 0 1 2 1\nmirror 2\nattach 1\nattach 2\nleave 2\nattach 5\nmirror 1\n",
@@ -32,6 +32,16 @@ const ROWS: [(&str, &str); 5] = [
     (
         "attach 1 on 3\nattach 65\nattach 0\nattach 1 at 0\nleave 4\nmirror 4\nattach 4 at 9\nleave 4\nmirror 4\nattach 4\n",
         "refused 1\nrefused 4\nrefused 4\nrefused 4\nrefused 16\nrefused 16\nok\nrefused 16\nrefused 16\nrefused 15\n",
+    ),
+    // Each stays with its layer; `leave` and `mirror` find it from the other.
+    (
+        "attach 1\nattach 2 at 3\nlayer blue\nattach 1\nattach 2\nattach 3\nattach 4 at 2\npin 7 7 1\nmirror 1\nmirror 3\nmirror 2\nmirror 4\nleave 1\nmirror 1\nattach 1\nlayer red\nmirror 3\npin 1 1 1\npin 2 2 1\nmirror 2\nleave 4 at 1\nleave 3\npin 3 3 1\nmirror 4\nmirror 3\nlayer blue\nmirror 2\nclear\nmirror 4\n",
+        "ok\nok\nok\nrefused 15\nrefused 15\nok\nok\nok joined 4\narrangement 0 0 1\nf 0\nend\narrangement 1 0 1\nv 1 7 7 1 pin :\nf 0\np 1\nend\nrefused 16\narrangement 1 0 1\nv 1 7 7 1 pin :\nf 0\np 1\nend\nok\nrefused 16\nrefused 14\nok\narrangement 1 0 1\nv 1 7 7 1 pin :\nf 0\np 1\nend\nok joined 2\nok\narrangement 2 0 1\nv 1 1 1 1 pin :\nv 2 2 2 1 pin :\nf 0\np 1\np 2\nend\nok\nok\nok\narrangement 1 0 1\nv 1 7 7 1 pin :\nf 0\np 1\nend\nrefused 16\nok\narrangement 3 0 1\nv 1 1 1 1 pin :\nv 2 2 2 1 pin :\nv 3 3 3 1 pin :\nf 0\np 1\np 2\np 3\nend\nok left 4\nrefused 16\n",
+    ),
+    // A plan counts the rounds of its own layer.
+    (
+        "attach 1\nleave 1 at 5\nattach 2 at 3\nlayer blue\nattach 3 at 3\nsegment 0 0 1 0\npin 5 5 1\nleave 3 at 2\nlayer red\npin 0 0 1\npin 1 0 1\nmirror 3\nleave 1 at 1\nlayer blue\nunpin 5 5 1\nmirror 3\nmirror 1\nlayer red\nclear\nmirror 1\nmirror 2\n",
+        "ok\nok\nok\nok\nok\nok 1 joined 3\nok\nok\nok\nok joined 2\nok left 1\narrangement 3 1 1\nv 1 0 0 1 : 2\nv 2 1 0 1 : 1\nv 3 5 5 1 pin :\ne 1 2 : 1\nf 0\nh 1 2\np 3\nend\nrefused 16\nok\nok left 3\nrefused 16\nrefused 16\nok\nok\nrefused 16\narrangement 0 0 1\nf 0\nend\n",
     ),
 ];
 
@@ -79,6 +89,16 @@ fn eight_seats_are_the_limit(rt: HostRuntime) -> Result<(), Fail> {
     let script =
         "attach 1\nattach 2\nattach 3 at 2\nattach 4\nattach 5\nattach 6\nattach 7\nattach 8 at 1\nattach 9\nattach 10\nclear\n";
     let replies = "ok\nok\nok\nok\nok\nok\nok\nok\nrefused 17\nrefused 14\nok joined 3 joined 8\n";
+    assert!(rt; is_answered_with(rt.alloc(), 9, None, script, replies)?);
+    Ok(())
+}
+
+#[test]
+fn each_layer_has_eight_seats(rt: HostRuntime) -> Result<(), Fail> {
+    let script =
+        "attach 1\nattach 2\nattach 3 at 2\nattach 4\nattach 5\nattach 6\nattach 7\nattach 8\nattach 9\nlayer blue\nattach 9\nattach 8\nleave 8\nattach 10\nlayer red\nattach 9\nattach 3\nleave 9\nmirror 9\nmirror 7\n";
+    let replies =
+        "ok\nok\nok\nok\nok\nok\nok\nok\nrefused 17\nok\nok\nrefused 15\nok\nrefused 14\nok\nrefused 15\nrefused 15\nok\nrefused 16\narrangement 0 0 1\nf 0\nend\n";
     assert!(rt; is_answered_with(rt.alloc(), 9, None, script, replies)?);
     Ok(())
 }

@@ -1,5 +1,5 @@
 // Scripts with the replies that are stated for them: what the definitions give, worked out by hand and by another program.
-pub const ROWS: [(&str, &str); 14] = [
+pub const ROWS: [(&str, &str); 17] = [
     // One segment.
     (
         "segment 0 0 4 0\nshow\n",
@@ -69,5 +69,20 @@ pub const ROWS: [(&str, &str); 14] = [
     (
         "# Two parcels, side by side.\nsegment 0 0 6 0\nsegment 6 0 6 4\nsegment 6 4 0 4\nsegment 0 4 0 0\nsegment 3 0 3 4\ncount\nlocate 1 1 1\nlocate 4 1 1\nlocate 3 1 1\n# A road through both.\nsegment -2 1 8 3\ncount\nlocate 0 7 5\nlocate 1 1 1\nlocate 1 3 1\nlocate 8 5 2\n# A well, at (3/2, 3).\npin 3 6 2\nlocate 3 6 2\nlocate 9 9 1\nshow\n",
         "ok 1\nok 2\nok 3\nok 4\nok 5\ncounts 6 7 3 1 0 5\nface 1\nface 2\nedge 3 0 1 3 4 1\nok 6\ncounts 11 14 5 1 0 6\nvertex 0 7 5\nface 1\nface 2\nface 4\nok\nvertex 3 6 2\nface 0\narrangement 12 14 5\nv 1 -2 1 1 : 3\nv 2 0 0 1 : 3 6\nv 3 0 7 5 : 1 4 7 2\nv 4 0 4 1 : 3 8\nv 5 3 6 2 pin :\nv 6 3 0 1 : 2 7 9\nv 7 3 2 1 : 3 8 10 6\nv 8 3 4 1 : 4 11 7\nv 9 6 0 1 : 6 10\nv 10 30 13 5 : 7 11 12 9\nv 11 6 4 1 : 8 10\nv 12 8 3 1 : 10\ne 1 3 : 6\ne 2 3 : 4\ne 2 6 : 1\ne 3 4 : 4\ne 3 7 : 6\ne 4 8 : 3\ne 6 7 : 5\ne 6 9 : 1\ne 7 8 : 5\ne 7 10 : 6\ne 8 11 : 3\ne 9 10 : 2\ne 10 11 : 2\ne 10 12 : 6\nf 0\nh 1 3 4 8 11 10 12 10 9 6 2 3\nf 1\no 2 6 7 3\nf 2\no 3 7 8 4\np 5\nf 3\no 6 9 10 7\nf 4\no 7 10 11 8\nend\n",
+    ),
+    // Two layers, each with its own curves and their numbers.
+    (
+        "segment 0 0 4 0\nsegment 2 -1 2 1\nlayer blue\ncount\nsegment 5 5 6 6\nsegment 0 0 4 0\ndrop 1\nlayer blue\nshow\nlayer red\ncount\nsegment 0 3 4 3\ncurve 3\nlayer blue\ncurve 3\nsegment 1 1 2 2\nclear\nlayer red\nshow\n",
+        "ok 1\nok 2\nok\ncounts 0 0 1 0 0 0\nok 1\nok 2\nok\nok\narrangement 2 1 1\nv 1 0 0 1 : 2\nv 2 4 0 1 : 1\ne 1 2 : 2\nf 0\nh 1 2\nend\nok\ncounts 5 4 1 1 0 2\nok 3\ncurve 3\ne 0 3 1 4 3 1\nend\nok\nrefused 8\nok 3\nok\nok\narrangement 7 5 1\nv 1 0 0 1 : 4\nv 2 0 3 1 : 7\nv 3 2 -1 1 : 4\nv 4 2 0 1 : 1 5 6 3\nv 5 2 1 1 : 4\nv 6 4 0 1 : 4\nv 7 4 3 1 : 2\ne 1 4 : 1\ne 2 7 : 3\ne 3 4 : 2\ne 4 5 : 2\ne 4 6 : 1\nf 0\nh 1 4 5 4 6 4 3 4\nh 2 7\nend\n",
+    ),
+    // A point and an edge of one layer are none of the other.
+    (
+        "layer red\npin 0 0 1\nlayer red\npin 0 0 1\nlayer blue\nlayer blue\npin 0 0 1\nlocate 0 0 1\nunpin 0 0 1\nlocate 0 0 1\nlayer red\nlocate 0 0 1\nedge 0 0 1 1 0 1\nlayer blue\nsegment 0 0 1 0\nedge 0 0 1 1 0 1\nlayer red\nedge 0 0 1 1 0 1\ncut 0 0 1 1 0 1\n",
+        "ok\nok\nok\nrefused 13\nok\nok\nok\nvertex 0 0 1\nok\nface 0\nok\nvertex 0 0 1\nrefused 9\nok\nok 1\ncurves 1\nok\nrefused 9\nrefused 9\n",
+    ),
+    // Lines that say no layer leave the current one.
+    (
+        "layer\nlayer green\nlayer red blue\nlayer Red\nlayer 1\nlayer red\nlayer blue \n  layer   red\nlayers red\n# layer blue\ncount\n",
+        "refused 2\nrefused 1\nrefused 2\nrefused 1\nrefused 1\nok\nok\nok\nrefused 1\ncounts 0 0 1 0 0 0\n",
     ),
 ];

@@ -29,6 +29,7 @@ name_of-name name.Show = refl
 name_of-name name.Attach = refl
 name_of-name name.Leave = refl
 name_of-name name.Mirror = refl
+name_of-name name.Layer = refl
 
 -- none begins a comment
 pub no_comment : (n : Name) → is_comment (row_of n).name ≡ false
@@ -48,6 +49,7 @@ no_comment name.Show = refl
 no_comment name.Attach = refl
 no_comment name.Leave = refl
 no_comment name.Mirror = refl
+no_comment name.Layer = refl
 
 -- no form makes nothing
 abbrev pub AskFor : List (Form Command) → Type 0
@@ -87,6 +89,7 @@ ask_for name.Show = (λ numbers e. cc, tt)
 ask_for name.Attach = mapped_asks (λ entry. Attach entry.0 entry.1) observer_when_forms (λ entry h. cc)
 ask_for name.Leave = mapped_asks (λ entry. Leave entry.0 entry.1) observer_when_forms (λ entry h. cc)
 ask_for name.Mirror = mapped_asks Mirror (observer_form ∷ []) (λ i h. cc)
+ask_for name.Layer = (λ numbers e. cc, (λ numbers e. cc, tt))
 
 asks_by : (p : Form Command → Bool) (here : Bool) (first form : Form Command) (later : Option (Form Command)) → cond here (Some first) later ≡ Some form
     → ((numbers : List ℤ) → first.made numbers ≡ Some Nothing → ⊥) → (later ≡ Some form → (numbers : List ℤ) → form.made numbers ≡ Some Nothing → ⊥)

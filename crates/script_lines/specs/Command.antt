@@ -10,7 +10,7 @@ use Rattle.script_lines.specs.declared.command.TheConstants.{MAX_LINE}
 use Rattle.script_lines.specs.declared.error.LineError.{LineError}
 use Rattle.script_lines.specs.declared.error.LineError.TheVariants.{Word, Long, Byte}
 use Rattle.script_lines.specs.declared.command.Command.{Command}
-use Rattle.script_lines.specs.declared.command.Command.TheVariants.{Nothing, Segment, Drop, Cut, Pin, Unpin, Split, Merge, Clear, Locate, Edge, Curve, Count, Show, Attach, Leave, Mirror}
+use Rattle.script_lines.specs.declared.command.Command.TheVariants.{Nothing, Segment, Drop, Cut, Pin, Unpin, Split, Merge, Clear, Locate, Edge, Curve, Count, Show, Attach, Leave, Mirror, LayerRed, LayerBlue}
 use Rattle.script_lines.specs.declared.name.Name.{Name}
 use Rattle.script_lines.specs.declared.name.Name.TheVariants as name
 use Rattle.script_lines.specs.Words.{words}
@@ -90,6 +90,14 @@ observer_at_form = record { places = Numeral ∷ Fixed (codes "at") ∷ Numeral 
 abbrev pub observer_when_forms : List (Form (ℕ × Option ℕ))
 observer_when_forms = form_map (λ i. (i, None)) observer_form ∷ observer_at_form ∷ []
 
+-- a fixed word, for something that needs no number
+abbrev pub word_form : {A : Type 0} → List ℕ → A → Form A
+word_form text x = record { places = Fixed text ∷ []; made = λ numbers. Some x }
+
+-- a layer, `red` or `blue`
+abbrev pub layer_forms : List (Form Command)
+layer_forms = word_form (codes "red") LayerRed ∷ word_form (codes "blue") LayerBlue ∷ []
+
 -- a row of the table of commands: a name, and the forms of the words after it
 pub record Row : Type 0 where
   pub name : List ℕ
@@ -116,9 +124,10 @@ row_of name.Show = row (codes "show") (empty_form Show ∷ [])
 row_of name.Attach = row (codes "attach") (map (form_map (λ entry. Attach entry.0 entry.1)) observer_when_forms)
 row_of name.Leave = row (codes "leave") (map (form_map (λ entry. Leave entry.0 entry.1)) observer_when_forms)
 row_of name.Mirror = row (codes "mirror") (form_map Mirror observer_form ∷ [])
+row_of name.Layer = row (codes "layer") layer_forms
 
 abbrev pub names : List Name
-names = name.Segment ∷ name.Drop ∷ name.Cut ∷ name.Pin ∷ name.Unpin ∷ name.Split ∷ name.Merge ∷ name.Clear ∷ name.Locate ∷ name.Edge ∷ name.Curve ∷ name.Count ∷ name.Show ∷ name.Attach ∷ name.Leave ∷ name.Mirror ∷ []
+names = name.Segment ∷ name.Drop ∷ name.Cut ∷ name.Pin ∷ name.Unpin ∷ name.Split ∷ name.Merge ∷ name.Clear ∷ name.Locate ∷ name.Edge ∷ name.Curve ∷ name.Count ∷ name.Show ∷ name.Attach ∷ name.Leave ∷ name.Mirror ∷ name.Layer ∷ []
 
 -- the name that a word spells
 abbrev pub name_of : List ℕ → Option Name

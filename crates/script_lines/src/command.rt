@@ -6,7 +6,9 @@ ghost use Rattle.script_lines.specs.Command.{command_of, row_of, words_reading, 
 ghost use Rattle.script_lines.specs.Refusals.{IsOtherByte, IsText, IsSilent, IsNoCommand, HasWrongWord, HasWrongCount, HasNoNumber, IsOutOfRange};
 
 use crate::error::LineError;
-use crate::form::{bare_command, curve, observer, observer_when, pair, point, segment, triple};
+use crate::form::{
+    bare_command, curve, layer, observer, observer_when, pair, point, segment, triple,
+};
 use crate::name::Name;
 use crate::words::next_word;
 use exact_plane::Point;
@@ -51,6 +53,10 @@ pub enum Command {
     Leave(u32, Option<u32>),
     /// `mirror i`: the report of observer i.
     Mirror(u32),
+    /// `layer red`: later lines mean the red layer.
+    LayerRed,
+    /// `layer blue`: later lines mean the blue layer.
+    LayerBlue,
 }
 
 // The command of a name and the words after it.
@@ -74,6 +80,7 @@ fn read_named(name: Name, rest: &[u8]) -> Result<Command, LineError>
         Name::Attach => observer_when(rest).map(|(i, n)| Command::Attach(i, n)),
         Name::Leave => observer_when(rest).map(|(i, n)| Command::Leave(i, n)),
         Name::Mirror => observer(rest).map(Command::Mirror),
+        Name::Layer => layer(rest),
     }
 }
 

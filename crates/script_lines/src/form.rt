@@ -2,12 +2,12 @@ ghost use Rattle.std.specs.Prelude.{◌≡◌, [], ◌∷◌, length};
 ghost use Rattle.exact_plane.specs.Segment.{is_coordinate, are_coordinates};
 ghost use Rattle.script_lines.specs.Words.{words};
 ghost use Rattle.script_lines.specs.Form.{forms_reading, numbers_reading, numbers_of};
-ghost use Rattle.script_lines.specs.Command.{empty_form, point_form, point_from, pair_form, pair_from, triple_form, triple_from, number_to, curve_form, curve_from, observer_form, observer_from, observer_at_form, observer_at_from, observer_when_forms, segment_form, segment_from};
+ghost use Rattle.script_lines.specs.Command.{empty_form, point_form, point_from, pair_form, pair_from, triple_form, triple_from, number_to, curve_form, curve_from, observer_form, observer_from, observer_at_form, observer_at_from, observer_when_forms, segment_form, segment_from, layer_forms};
 
 use crate::command::Command;
 use crate::error::LineError;
 use crate::number::read_number;
-use crate::words::{count_words, next_word, three_words};
+use crate::words::{count_words, next_word, only_word, three_words};
 use exact_plane::{MAX_COORDINATE, Point};
 
 // The greatest number of an observer.
@@ -198,6 +198,18 @@ pub fn segment(line: &[u8]) -> Result<Command, LineError>
 {
     let numbers = numbers(line)?;
     segment_from(numbers).ok_or(LineError::Range)
+}
+
+/// The command of a line `red` or `blue`.
+pub fn layer(line: &[u8]) -> Result<Command, LineError>
+    ensures { result ≡ forms_reading layer_forms (words line.now) }
+{
+    match only_word(line) {
+        None => Err(LineError::Count),
+        Some(b"red") => Ok(Command::LayerRed),
+        Some(b"blue") => Ok(Command::LayerBlue),
+        Some(_) => Err(LineError::Word),
+    }
 }
 
 /// The command, where no word stands in the line.

@@ -20,10 +20,11 @@ pub enum Name {
     Attach,
     Leave,
     Mirror,
+    Layer,
 }
 
 // Every name.
-const NAMES: [Name; 16] = [
+const NAMES: [Name; 17] = [
     Name::Segment,
     Name::Drop,
     Name::Cut,
@@ -40,6 +41,7 @@ const NAMES: [Name; 16] = [
     Name::Attach,
     Name::Leave,
     Name::Mirror,
+    Name::Layer,
 ];
 
 impl Name {
@@ -64,6 +66,7 @@ impl Name {
             Name::Attach => "attach",
             Name::Leave => "leave",
             Name::Mirror => "mirror",
+            Name::Layer => "layer",
         }
     }
 

@@ -1,7 +1,7 @@
 use Rattle.std.proofs.Common.{◌≡◌, ◌+◌, ◌-◌, ◌≤◌, List, length}
 use Rattle.planar_run.specs.declared.run.TheConstants.{SCRIPT_LIMIT, BUFFER}
 use Rattle.planar_run.specs.World.{Waiting, first_world}
-use Rattle.planar_run.specs.Rows.{arranged_row, world_row, IsKept}
+use Rattle.planar_run.specs.Rows.{world_row, IsKeptWorld}
 use Rattle.planar_run.specs.Clauses.{Used}
 use Rattle.planar_run.proofs.Loop.{HasSaid}
 use Rattle.planar_run.proofs.run.answer_script.Given as goal
@@ -14,8 +14,8 @@ invariant-reads g l = record {
       → HasSaid observers (g.S.Source.left l.fn.source) (g.S.Source.left l.source) (g.K.Sink.taken l.fn.sink) (g.K.Sink.taken l.sink) (SCRIPT_LIMIT - l.room)
       (world_row (λ b. (goal.Observer-dyn g (b.vtable, b.value)).tells b.value) (λ b. (goal.Observer-dyn g (b.vtable, b.value)).held b.value)
       (λ b. (goal.Observer-dyn g (b.vtable, b.value)).left b.value) (λ b. (goal.Observer-dyn g (b.vtable, b.value)).heard b.value) l.engine.world) l.engine.line;
-  kept : IsKept (arranged_row (λ b. (goal.Observer-dyn g (b.vtable, b.value)).tells b.value) (λ b. (goal.Observer-dyn g (b.vtable, b.value)).held b.value)
-      (λ b. (goal.Observer-dyn g (b.vtable, b.value)).left b.value) (λ b. (goal.Observer-dyn g (b.vtable, b.value)).heard b.value) l.engine.world);
+  kept : IsKeptWorld (λ b. (goal.Observer-dyn g (b.vtable, b.value)).tells b.value) (λ b. (goal.Observer-dyn g (b.vtable, b.value)).held b.value)
+      (λ b. (goal.Observer-dyn g (b.vtable, b.value)).left b.value) (λ b. (goal.Observer-dyn g (b.vtable, b.value)).heard b.value) l.engine.world;
   within : l.room ≤ SCRIPT_LIMIT;
   size : length l.buffer ≡ BUFFER;
   read_faults : g.S.Source.faults l.source ≡ g.S.Source.faults l.fn.source;

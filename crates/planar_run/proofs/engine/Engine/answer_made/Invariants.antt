@@ -1,6 +1,6 @@
 use Rattle.std.proofs.Common.{ℕ, List, [], length}
 use Rattle.planar_run.specs.Made.{EndWith, FindNone}
-use Rattle.planar_run.specs.Rows.{arranged_row, world_row, IsKept}
+use Rattle.planar_run.specs.Rows.{world_row, IsKeptWorld}
 use Rattle.planar_run.proofs.engine.Engine.answer_made.Given as goal
 
 -- what ends the lines that are left ends them all
@@ -14,8 +14,8 @@ invariant-lines g l = record {
       (λ b. (goal.Observer-dyn g (b.vtable, b.value)).left b.value) (λ b. (goal.Observer-dyn g (b.vtable, b.value)).heard b.value) l.self.world) l.maker
       → FindNone (world_row (λ b. (goal.Observer-dyn g (b.vtable, b.value)).tells b.value) (λ b. (goal.Observer-dyn g (b.vtable, b.value)).held b.value)
       (λ b. (goal.Observer-dyn g (b.vtable, b.value)).left b.value) (λ b. (goal.Observer-dyn g (b.vtable, b.value)).heard b.value) l.fn.self.world) l.fn.maker;
-  kept : IsKept (arranged_row (λ b. (goal.Observer-dyn g (b.vtable, b.value)).tells b.value) (λ b. (goal.Observer-dyn g (b.vtable, b.value)).held b.value)
-      (λ b. (goal.Observer-dyn g (b.vtable, b.value)).left b.value) (λ b. (goal.Observer-dyn g (b.vtable, b.value)).heard b.value) l.self.world);
+  kept : IsKeptWorld (λ b. (goal.Observer-dyn g (b.vtable, b.value)).tells b.value) (λ b. (goal.Observer-dyn g (b.vtable, b.value)).held b.value)
+      (λ b. (goal.Observer-dyn g (b.vtable, b.value)).left b.value) (λ b. (goal.Observer-dyn g (b.vtable, b.value)).heard b.value) l.self.world;
 }
 
 abbrev pub decreases-lines : goal.decreases-lines

@@ -1,6 +1,6 @@
 use Rattle.std.proofs.Common.{◌≡◌, take}
 use Rattle.planar_run.specs.Engine.{Feeds}
-use Rattle.planar_run.specs.Rows.{arranged_row, world_row, IsKept}
+use Rattle.planar_run.specs.Rows.{world_row, IsKeptWorld}
 use Rattle.planar_run.proofs.engine.Engine.feed.Given as goal
 
 abbrev pub invariant-loop-byte : goal.invariant-loop-byte
@@ -10,7 +10,7 @@ invariant-loop-byte g l = record {
       (λ b. (goal.Observer-dyn g (b.vtable, b.value)).left b.value) (λ b. (goal.Observer-dyn g (b.vtable, b.value)).heard b.value) l.fn.self.world) l.fn.self.line
       (world_row (λ b. (goal.Observer-dyn g (b.vtable, b.value)).tells b.value) (λ b. (goal.Observer-dyn g (b.vtable, b.value)).held b.value)
       (λ b. (goal.Observer-dyn g (b.vtable, b.value)).left b.value) (λ b. (goal.Observer-dyn g (b.vtable, b.value)).heard b.value) l.self.world) l.self.line;
-  kept : IsKept (arranged_row (λ b. (goal.Observer-dyn g (b.vtable, b.value)).tells b.value) (λ b. (goal.Observer-dyn g (b.vtable, b.value)).held b.value)
-      (λ b. (goal.Observer-dyn g (b.vtable, b.value)).left b.value) (λ b. (goal.Observer-dyn g (b.vtable, b.value)).heard b.value) l.self.world);
+  kept : IsKeptWorld (λ b. (goal.Observer-dyn g (b.vtable, b.value)).tells b.value) (λ b. (goal.Observer-dyn g (b.vtable, b.value)).held b.value)
+      (λ b. (goal.Observer-dyn g (b.vtable, b.value)).left b.value) (λ b. (goal.Observer-dyn g (b.vtable, b.value)).heard b.value) l.self.world;
   faults : g.K.Sink.faults l.sink ≡ g.K.Sink.faults l.fn.sink;
 }

@@ -1,11 +1,26 @@
-use Rattle.std.proofs.Common.{[], sym, ◌∙◌}
-use Rattle.planar_run.proofs.Worlds.{if_reported, who_is_seated}
+use Rattle.std.proofs.Common.{Err, ap, sym, ◌∙◌}
+use Rattle.planar_run.proofs.Worlds.{if_reported_there, reported_here, seat_told, seated_here, seated_there, told_by_seat}
 use Rattle.planar_run.proofs.world.World.report.Goals as goal
 
-pub returns-clause-seat : goal.returns-clause-seat
-returns-clause-seat g c =
-    let e = who_is_seated c.args.number _ c.requires.kept in
-    (λ r. e ∙ c.report.ensures.seat.0 r, λ f. c.report.ensures.seat.1 (sym e ∙ f))
+pub returns-in-Ok-clause-seat : goal.returns-in-Ok-clause-seat
+returns-in-Ok-clause-seat g c =
+    told_by_seat _ _ _ (λ e. cc) (seated_here c.args.number _ _ c.requires.kept (seat_told _ _ _ (λ e. cc) c.in-Ok.ensures.seat))
 
-pub returns-clause-report : goal.returns-clause-report
-returns-clause-report g c = if_reported c.report.result c.args.number _ [] c.requires.kept c.report.ensures.report
+pub returns-in-Ok-clause-report : goal.returns-in-Ok-clause-report
+returns-in-Ok-clause-report g c =
+    reported_here c.args.number _ _ c.requires.kept (seat_told _ _ _ (λ e. cc) c.in-Ok.ensures.seat) _ c.in-Ok.ensures.report
+
+pub returns-in-Err-NoSeat-clause-seat : goal.returns-in-Err-NoSeat-clause-seat
+returns-in-Err-NoSeat-clause-seat g c =
+    let none = c.report.ensures.seat.0 (c.in-Err-NoSeat.is ∙ ap Err c.in-Err-NoSeat.field-0-is) in
+    let e = seated_there c.args.number _ _ c.requires.kept (sym none) in
+    (λ r. e ∙ c.report-in-Err-NoSeat.ensures.seat.0 r, λ f. c.report-in-Err-NoSeat.ensures.seat.1 (sym e ∙ f))
+
+pub returns-in-Err-NoSeat-clause-report : goal.returns-in-Err-NoSeat-clause-report
+returns-in-Err-NoSeat-clause-report g c =
+    let none = c.report.ensures.seat.0 (c.in-Err-NoSeat.is ∙ ap Err c.in-Err-NoSeat.field-0-is) in
+    if_reported_there c.args.number _ _ c.requires.kept (sym none) c.report-in-Err-NoSeat.result c.report-in-Err-NoSeat.ensures.report
+
+pub returns-in-Err-NoMemory-clause-seat : goal.returns-in-Err-NoMemory-clause-seat
+returns-in-Err-NoMemory-clause-seat g c =
+    told_by_seat _ _ _ (λ e. cc) (seated_here c.args.number _ _ c.requires.kept (seat_told _ _ _ (λ e. cc) c.in-Err-NoMemory.ensures.seat))

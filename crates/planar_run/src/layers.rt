@@ -1,0 +1,33 @@
+ghost use Rattle.std.specs.Prelude.{◌≡◌, codes};
+ghost use Rattle.planar_run.specs.Rows.{world_row, IsKeptWorld};
+ghost use Rattle.planar_run.specs.Text.{line_of};
+ghost use Rattle.planar_run.specs.World.{turned};
+
+use crate::reply::Reply;
+use crate::world::World;
+use std::mem::swap;
+
+impl World {
+    /// Later lines mean the blue arrangement, or the red one. What the other holds stays, its observers and their plans too.
+    pub fn turn(&mut self, blue: bool)
+        requires kept { IsKeptWorld tells held left heard self.old }
+        ensures turned { world_row tells held left heard self.new ≡ turned blue (world_row tells held left heard self.old) }
+        ensures kept { IsKeptWorld tells held left heard self.new }
+    {
+        if self.is_blue != blue {
+            swap(&mut self.arrangement, &mut self.other);
+            self.is_blue = blue;
+        }
+    }
+}
+
+/// Lets later lines mean the blue layer, or the red one. It takes no memory.
+pub fn layer(world: &mut World, blue: bool, reply: &mut Reply)
+    requires kept { IsKeptWorld tells held left heard world.old }
+    ensures told { reply.new ≡ line_of (codes "ok") }
+    ensures turned { world_row tells held left heard world.new ≡ turned blue (world_row tells held left heard world.old) }
+    ensures kept { IsKeptWorld tells held left heard world.new }
+{
+    world.turn(blue);
+    reply.set("ok\n");
+}
