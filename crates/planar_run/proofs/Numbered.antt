@@ -91,6 +91,7 @@ forms_numbered name.Edge = (λ ns. always (λ points. command.Edge points.0 poin
 forms_numbered name.Curve = (λ ns. always command.Curve (curve_from ns) (λ c. tt), tt)
 forms_numbered name.Count = (λ ns. tt, tt)
 forms_numbered name.Show = (λ ns. tt, tt)
+forms_numbered name.Overlay = (λ ns. tt, tt)
 forms_numbered name.Attach = (
   λ ns. mapped (λ entry. command.Attach entry.0 entry.1) IsEntry (option_map (λ i. (i, None)) (observer_from ns)) (entry_now (observer_from ns) (observer_least ns)) (λ entry h. h),
   (λ ns. mapped (λ entry. command.Attach entry.0 entry.1) IsEntry (observer_at_from ns) (at_least ns) (λ entry h. h), tt),

@@ -13,13 +13,14 @@ use Rattle.edit_steps.specs.Refusals.{Refusal}
 use Rattle.slab_laws.specs.Sound.{edge_between}
 use Rattle.slab_laws.specs.Subdivision.{Subdivision, subdivision, holds}
 use Rattle.slab_laws.specs.Text.{skeleton, present_text}
+use Rattle.overlay_laws.specs.OverlayText.{presents_text}
 use Rattle.script_lines.specs.declared.command.Command.{Command}
-use Rattle.script_lines.specs.declared.command.Command.TheVariants.{Nothing, Segment as AddSegment, Drop, Cut, Pin, Unpin, Split, Merge, Clear, Locate, Edge as CurvesOf, Curve, Count, Show, Attach, Leave, Mirror, LayerRed, LayerBlue}
+use Rattle.script_lines.specs.declared.command.Command.TheVariants.{Nothing, Segment as AddSegment, Drop, Cut, Pin, Unpin, Split, Merge, Clear, Locate, Edge as CurvesOf, Curve, Count, Show, Overlay, Attach, Leave, Mirror, LayerRed, LayerBlue}
 use Rattle.script_lines.specs.declared.error.LineError.{LineError}
 use Rattle.script_lines.specs.LineError.{refusal_number as line_number}
 use Rattle.script_lines.specs.Command.{command_of}
 use Rattle.arrangement.specs.Answers.{cut_between, split_at}
-use Rattle.planar_run.specs.World.{World, turned}
+use Rattle.planar_run.specs.World.{blue_of, red_of, turned, World}
 use Rattle.planar_run.specs.Observers.{attach_refusal, attached, leaving, report_of, seat_refusal, IsUntold}
 use Rattle.planar_run.specs.Rounds.{seated_after, AreFew, AreRoundsOf, Seated}
 use Rattle.planar_run.specs.Premises.{graph_of, is_named, is_edge}
@@ -118,6 +119,7 @@ answer_to world losses (Ok (CurvesOf p q)) = curves_told (edge_between p q) worl
 answer_to world losses (Ok (Curve c)) = curve_told c world
 answer_to world losses (Ok Count) = said (line_of (codes "counts" ++ spaced (counted (subdivision_of world) (length world.layer.names)))) world
 answer_to world losses (Ok Show) = said (present_text world.layer.present) world
+answer_to world losses (Ok Overlay) = said (presents_text (red_of world).layer.present (blue_of world).layer.present) world
 answer_to world losses (Ok (Attach i when)) = unless (attach_refusal i world) (record { text = line_of (codes "ok"); world = attached i when world }) world
 answer_to world losses (Ok (Leave i when)) = unless (seat_refusal i world) (record { text = line_of (codes "ok"); world = leaving i when world }) world
 answer_to world losses (Ok (Mirror i)) = unless (seat_refusal i world) (said (report_of i world) world) world
@@ -171,6 +173,7 @@ MayTake world (Ok (CurvesOf p q)) = is_edge (edge_between p q) world ≡ true
 MayTake world (Ok (Curve c)) = is_named c world ≡ true
 MayTake world (Ok Count) = ⊤
 MayTake world (Ok Show) = ⊤
+MayTake world (Ok Overlay) = ⊤
 MayTake world (Ok (Attach i when)) = attach_refusal i world ≡ None
 MayTake world (Ok (Leave i when)) = ⊥
 MayTake world (Ok (Mirror i)) = seat_refusal i world ≡ None

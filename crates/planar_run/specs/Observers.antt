@@ -7,7 +7,7 @@ use Rattle.observer_bus.specs.declared.errors.AttachError.{AttachError}
 use Rattle.observer_bus.specs.declared.errors.AttachError.TheVariants.{Taken as TakenName, Full as FullBus, NoMemory as NoneForNewcomer}
 use Rattle.planar_run.specs.declared.places.AttachRefusal.{AttachRefusal}
 use Rattle.planar_run.specs.declared.places.AttachRefusal.TheVariants.{Gone, Taken, Full, NoMemory}
-use Rattle.planar_run.specs.World.{Half, Seat, Waiting, World}
+use Rattle.planar_run.specs.World.{current, Half, Seat, Waiting, World}
 
 -- the observer of the number, while it waits
 abbrev pub waiting_as : ℕ → World → Option Waiting
@@ -103,7 +103,7 @@ TellsNothing (Some s) = s.tells ≡ false
 
 -- the layer in which the observer of the number is seated: the one that lines mean, or the other
 abbrev pub half_with : ℕ → World → Half
-half_with i world = if is_seated_in i world.seats then record { layer = world.layer; seats = world.seats } else world.other
+half_with i world = if is_seated_in i world.seats then current world else world.other
 
 -- the observer of the number is seated, and tells no view: nothing is known of its report (this project)
 abbrev pub IsUntold : ℕ → World → Type 0

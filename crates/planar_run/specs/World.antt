@@ -39,13 +39,24 @@ first_half = record { layer = empty_layer 1; seats = [] }
 abbrev pub first_world : List Waiting → World
 first_world observers = record { layer = first_half.layer; seats = first_half.seats; waiting = map Some observers; other = first_half; is_blue = false }
 
+-- the layer that lines mean, with its observers
+abbrev pub current : World → Half
+current world = record { layer = world.layer; seats = world.seats }
+
+-- the red layer, and the blue one
+abbrev pub red_of : World → Half
+red_of world = if world.is_blue then world.other else current world
+
+abbrev pub blue_of : World → Half
+blue_of world = if world.is_blue then current world else world.other
+
 -- the world in which lines mean the layer that they didn't
 abbrev pub exchanged : World → World
 exchanged world = record {
   layer = world.other.layer;
   seats = world.other.seats;
   waiting = world.waiting;
-  other = record { layer = world.layer; seats = world.seats };
+  other = current world;
   is_blue = not world.is_blue;
 }
 

@@ -7,7 +7,7 @@ ghost use Rattle.planar_run.specs.Rows.{world_row, IsKeptWorld};
 use crate::edits::{clear, cut, drop_curve, merge, pin, segment, split, unpin};
 use crate::layers::layer;
 use crate::observers::{attach, leave, mirror};
-use crate::questions::{count, curve, edge, locate, show};
+use crate::questions::{count, curve, edge, locate, overlay, show};
 use crate::reply::{REPLY_ROOM, Reply};
 use crate::world::World;
 use no_memory::NoMemory;
@@ -46,6 +46,7 @@ fn obey(world: &mut World, command: Command, reply: &mut Reply) -> Result<(), No
         Command::Curve(number) => curve(world, number, reply),
         Command::Count => count(world, reply),
         Command::Show => show(world, reply),
+        Command::Overlay => overlay(world, reply),
         Command::Attach(number, when) => attach(world, number, when, reply),
         Command::Leave(number, when) => {
             leave(world, number, when, reply);

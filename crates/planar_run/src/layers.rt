@@ -1,10 +1,13 @@
-ghost use Rattle.std.specs.Prelude.{◌≡◌, codes};
+ghost use Rattle.std.specs.Prelude.{◌≡◌, codes, IfOk};
+ghost use Rattle.overlay_laws.specs.OverlayText.{presents_text};
 ghost use Rattle.planar_run.specs.Rows.{world_row, IsKeptWorld};
 ghost use Rattle.planar_run.specs.Text.{line_of};
-ghost use Rattle.planar_run.specs.World.{turned};
+ghost use Rattle.planar_run.specs.World.{blue_of, red_of, turned};
 
 use crate::reply::Reply;
 use crate::world::World;
+use arrangement::overlay;
+use no_memory::NoMemory;
 use std::mem::swap;
 
 impl World {
@@ -18,6 +21,18 @@ impl World {
             swap(&mut self.arrangement, &mut self.other);
             self.is_blue = blue;
         }
+    }
+
+    /// The text of the overlay of both arrangements.
+    pub fn overlay_text(&self) -> Result<Vec<u8>, NoMemory>
+        ensures { IfOk result (λ bytes. bytes.items ≡ presents_text (red_of (world_row tells held left heard self.now)).layer.present (blue_of (world_row tells held left heard self.now)).layer.present) }
+    {
+        let (red, blue) = if self.is_blue {
+            (&self.other, &self.arrangement)
+        } else {
+            (&self.arrangement, &self.other)
+        };
+        overlay(self.alloc, red, blue)?.text()
     }
 }
 

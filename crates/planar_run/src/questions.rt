@@ -1,5 +1,5 @@
 ghost use Rattle.std.specs.Prelude.{◌≡◌, [], Ok, OnOk, OnErr};
-ghost use Rattle.script_lines.specs.declared.command.Command.TheVariants.{Locate, Edge, Curve, Count, Show};
+ghost use Rattle.script_lines.specs.declared.command.Command.TheVariants.{Locate, Edge, Curve, Count, Show, Overlay};
 ghost use Rattle.planar_run.specs.Answer.{IsAnswered, MayTake};
 ghost use Rattle.planar_run.specs.Rows.{world_row};
 
@@ -63,5 +63,14 @@ pub fn show(world: &World, reply: &mut Reply) -> Result<(), NoMemory>
     ensures { OnOk result (IsAnswered (world_row tells held left heard world.now) (Ok Show) reply.new (world_row tells held left heard world.now)) }
 {
     reply.set_bytes(world.text()?);
+    Ok(())
+}
+
+/// Tells the whole overlay of both layers.
+pub fn overlay(world: &World, reply: &mut Reply) -> Result<(), NoMemory>
+    requires { reply.old ≡ [] }
+    ensures { OnOk result (IsAnswered (world_row tells held left heard world.now) (Ok Overlay) reply.new (world_row tells held left heard world.now)) }
+{
+    reply.set_bytes(world.overlay_text()?);
     Ok(())
 }

@@ -34,6 +34,7 @@ pub struct World {
     pub(crate) other: Arrangement,
     pub(crate) is_blue: bool,
     pub(crate) observers: Vec<Option<Box<dyn Observer>>>,
+    pub(crate) alloc: Global,
     strategy: Strategy,
 }
 
@@ -54,6 +55,7 @@ impl World {
             other: Arrangement::new(alloc, Limits::FULL, blue)?,
             is_blue: false,
             observers: all_waiting(alloc, observers)?,
+            alloc,
             strategy,
         })
     }

@@ -10,7 +10,7 @@ use Rattle.script_lines.specs.declared.command.TheConstants.{MAX_LINE}
 use Rattle.script_lines.specs.declared.error.LineError.{LineError}
 use Rattle.script_lines.specs.declared.error.LineError.TheVariants.{Word, Long, Byte}
 use Rattle.script_lines.specs.declared.command.Command.{Command}
-use Rattle.script_lines.specs.declared.command.Command.TheVariants.{Nothing, Segment, Drop, Cut, Pin, Unpin, Split, Merge, Clear, Locate, Edge, Curve, Count, Show, Attach, Leave, Mirror, LayerRed, LayerBlue}
+use Rattle.script_lines.specs.declared.command.Command.TheVariants.{Nothing, Segment, Drop, Cut, Pin, Unpin, Split, Merge, Clear, Locate, Edge, Curve, Count, Show, Overlay, Attach, Leave, Mirror, LayerRed, LayerBlue}
 use Rattle.script_lines.specs.declared.name.Name.{Name}
 use Rattle.script_lines.specs.declared.name.Name.TheVariants as name
 use Rattle.script_lines.specs.Words.{words}
@@ -121,13 +121,14 @@ row_of name.Edge = row (codes "edge") (form_map (λ points. Edge points.0 points
 row_of name.Curve = row (codes "curve") (form_map Curve curve_form ∷ [])
 row_of name.Count = row (codes "count") (empty_form Count ∷ [])
 row_of name.Show = row (codes "show") (empty_form Show ∷ [])
+row_of name.Overlay = row (codes "overlay") (empty_form Overlay ∷ [])
 row_of name.Attach = row (codes "attach") (map (form_map (λ entry. Attach entry.0 entry.1)) observer_when_forms)
 row_of name.Leave = row (codes "leave") (map (form_map (λ entry. Leave entry.0 entry.1)) observer_when_forms)
 row_of name.Mirror = row (codes "mirror") (form_map Mirror observer_form ∷ [])
 row_of name.Layer = row (codes "layer") layer_forms
 
 abbrev pub names : List Name
-names = name.Segment ∷ name.Drop ∷ name.Cut ∷ name.Pin ∷ name.Unpin ∷ name.Split ∷ name.Merge ∷ name.Clear ∷ name.Locate ∷ name.Edge ∷ name.Curve ∷ name.Count ∷ name.Show ∷ name.Attach ∷ name.Leave ∷ name.Mirror ∷ name.Layer ∷ []
+names = name.Segment ∷ name.Drop ∷ name.Cut ∷ name.Pin ∷ name.Unpin ∷ name.Split ∷ name.Merge ∷ name.Clear ∷ name.Locate ∷ name.Edge ∷ name.Curve ∷ name.Count ∷ name.Show ∷ name.Overlay ∷ name.Attach ∷ name.Leave ∷ name.Mirror ∷ name.Layer ∷ []
 
 -- the name that a word spells
 abbrev pub name_of : List ℕ → Option Name

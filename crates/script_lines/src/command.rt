@@ -47,6 +47,8 @@ pub enum Command {
     Count,
     /// `show`: the text of the arrangement.
     Show,
+    /// `overlay`: the text of the overlay of both layers.
+    Overlay,
     /// `attach i`: observer i joins now; `attach i at n`: in the n-th round from now.
     Attach(u32, Option<u32>),
     /// `leave i`: observer i leaves now; `leave i at n`: in the n-th round from now.
@@ -77,6 +79,7 @@ fn read_named(name: Name, rest: &[u8]) -> Result<Command, LineError>
         Name::Curve => curve(rest).map(Command::Curve),
         Name::Count => bare_command(rest, Command::Count),
         Name::Show => bare_command(rest, Command::Show),
+        Name::Overlay => bare_command(rest, Command::Overlay),
         Name::Attach => observer_when(rest).map(|(i, n)| Command::Attach(i, n)),
         Name::Leave => observer_when(rest).map(|(i, n)| Command::Leave(i, n)),
         Name::Mirror => observer(rest).map(Command::Mirror),

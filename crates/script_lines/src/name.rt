@@ -17,6 +17,7 @@ pub enum Name {
     Curve,
     Count,
     Show,
+    Overlay,
     Attach,
     Leave,
     Mirror,
@@ -24,7 +25,7 @@ pub enum Name {
 }
 
 // Every name.
-const NAMES: [Name; 17] = [
+const NAMES: [Name; 18] = [
     Name::Segment,
     Name::Drop,
     Name::Cut,
@@ -38,6 +39,7 @@ const NAMES: [Name; 17] = [
     Name::Curve,
     Name::Count,
     Name::Show,
+    Name::Overlay,
     Name::Attach,
     Name::Leave,
     Name::Mirror,
@@ -63,6 +65,7 @@ impl Name {
             Name::Curve => "curve",
             Name::Count => "count",
             Name::Show => "show",
+            Name::Overlay => "overlay",
             Name::Attach => "attach",
             Name::Leave => "leave",
             Name::Mirror => "mirror",
