@@ -35,8 +35,8 @@ end
 
 
 def replies_in(text):
-    """The replies of a run, one after the other. `show`, `mirror` and `curve` may have several lines, up to `end`."""
-    return re.findall(r"^(?:(?:arrangement|curve) .*?^end|.*?)\n", text, re.MULTILINE | re.DOTALL)
+    """The replies of a run, one after the other. `show`, `overlay`, `mirror` and `curve` may have several lines, up to `end`."""
+    return re.findall(r"^(?:(?:arrangement|overlay|curve) .*?^end|.*?)\n", text, re.MULTILINE | re.DOTALL)
 
 
 def reply_pattern():
@@ -115,13 +115,13 @@ def with_other_numbers(text):
 
 class StoredReplies(unittest.TestCase):
     def test_each_line_but_comments_has_a_reply(self):
-        self.assertEqual(len(SCRIPTS), 4)
+        self.assertEqual(len(SCRIPTS), 5)
         for script in SCRIPTS:
             lines = [line for line in script.read_text("ascii").splitlines() if line.strip() and line.split()[0][0] != "#"]
             replies = replies_in(script.with_suffix(".replies").read_text("ascii"))
             self.assertEqual(len(lines), len(replies), script)
             for line, reply in zip(lines, replies):
-                several = line.split()[0] in ("show", "mirror", "curve") and not reply.startswith("refused ")
+                several = line.split()[0] in ("show", "overlay", "mirror", "curve") and not reply.startswith("refused ")
                 self.assertEqual(several, reply.endswith("end\n"), line)
 
     def test_replies_are_as_the_grammar_says(self):
