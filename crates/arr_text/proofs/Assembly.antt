@@ -4,14 +4,14 @@ use Rattle.std.specs.Prelude.{OnOk, codes, flat_map, zip}
 use Rattle.std.specs.List.{AllByRecursion}
 use Rattle.std.proofs.lemmas.List.{length-map, length-append}
 use Rattle.exact_plane.specs.Point.{Point}
-use Rattle.slab_laws.specs.declared.names.CurveId.{CurveId}
 use Rattle.slab_laws.specs.declared.names.DartId.{DartId}
 use Rattle.slab_laws.specs.declared.names.VertexId.{VertexId}
+use Rattle.slab_laws.specs.declared.slab_cell.SlabCell.{SlabCell}
 use Rattle.slab_laws.specs.Darts.{Dart, darts, ahead, back}
 use Rattle.slab_laws.specs.Sound.{skeleton_of, IsGraphSound}
 use Rattle.slab_laws.specs.Skeleton.{Skeleton}
 use Rattle.slab_laws.specs.Subdivision.{Subdivision, subdivision}
-use Rattle.slab_laws.specs.Text.{number, ended, vertex_line, edge_line, face_lines, numbered, text, text_by}
+use Rattle.slab_laws.specs.Text.{Marks, number, ended, vertex_line, edge_line, face_lines, numbered, text_by}
 use Rattle.slab_laws.specs.View.{View, HasDart, point_in}
 use Rattle.sound_views.specs.Orders.{vertex_order, dart_order}
 use Rattle.sound_views.proofs.NamesOrdered.{points_in_order, ordered_dart}
@@ -19,18 +19,18 @@ use Rattle.record_orders.specs.Keys.{vertex_key, vertex_keys, dart_key, dart_key
 use Rattle.record_orders.specs.declared.vertices.VertexKey.{VertexKey}
 use Rattle.record_orders.specs.declared.darts.DartKey.{DartKey}
 use Rattle.record_orders.proofs.Sorting.{all_members}
-use Rattle.arr_text.specs.Reading.{pins_in, words_in, marks_in, text_in, title}
+use Rattle.arr_text.specs.Reading.{pins_in, forward_darts, title}
 use Rattle.arr_text.proofs.Neighbours.{count}
 use Rattle.arr_text.proofs.Joined.{joined}
 use Rattle.plane_graphs.proofs.Lists.{then_appended}
 
-pub title_put : {T E : Type 0} (r : Result T E) (n m k : ℕ) (s a b c d z : List ℕ) → a ≡ s ++ codes "arrangement" → b ≡ a ++ number n → c ≡ b ++ number m → d ≡ c ++ number k → OnOk r (z ≡ d ++ 10 ∷ []) → OnOk r (z ≡ s ++ title n m k)
+pub title_put : {T E : Type 0} (r : Result T E) (word : List ℕ) (n m k : ℕ) (s a b c d z : List ℕ) → a ≡ s ++ word → b ≡ a ++ number n → c ≡ b ++ number m → d ≡ c ++ number k → OnOk r (z ≡ d ++ 10 ∷ []) → OnOk r (z ≡ s ++ title word n m k)
 unfolding title ended
-title_put r n m k s a b c d z e f g h i =
-    let two = then_appended s a b (codes "arrangement") (number n) e f in
-    let three = then_appended s b c (codes "arrangement" ++ number n) (number m) two g in
-    let four = then_appended s c d ((codes "arrangement" ++ number n) ++ number m) (number k) three h in
-    joined r s d z (((codes "arrangement" ++ number n) ++ number m) ++ number k) (10 ∷ []) ((codes "arrangement" ++ (number n ++ (number m ++ number k))) ++ 10 ∷ []) four i (ap (λ (t : List ℕ). t ++ 10 ∷ []) (turned (codes "arrangement") (number n) (number m) (number k)))
+title_put r word n m k s a b c d z e f g h i =
+    let two = then_appended s a b (word) (number n) e f in
+    let three = then_appended s b c (word ++ number n) (number m) two g in
+    let four = then_appended s c d ((word ++ number n) ++ number m) (number k) three h in
+    joined r s d z (((word ++ number n) ++ number m) ++ number k) (10 ∷ []) ((word ++ (number n ++ (number m ++ number k))) ++ 10 ∷ []) four i (ap (λ (t : List ℕ). t ++ 10 ∷ []) (turned (word) (number n) (number m) (number k)))
   where
     turned : (w x y t : List ℕ) → ((w ++ x) ++ y) ++ t ≡ w ++ (x ++ (y ++ t))
     turned w x y t = simp append_assoc
@@ -65,53 +65,57 @@ module _ (v : View) (s : IsGraphSound v) where
       let d = count v s in
       omega (arith, a, b, c, d)
 
-  abbrev x_of : Skeleton → List Dart → List ℕ
-  x_of h ds = flat_map (vertex_line h ds (pins_in v)) h.vertices
+  -- ---- by the first word, the words of edges, and what follows the number of a face
+  module _ (word : List ℕ) (words : DartId → List (List ℕ)) (more : SlabCell → List ℕ) where
+    abbrev written : Marks
+    written = record { pins = pins_in v; words = map words (forward_darts v) }
 
-  abbrev y_of : (DartId → List CurveId) → Skeleton → List ℕ
-  y_of curves h = flat_map (edge_line h) (zip h.edges (words_in v curves))
+    abbrev x_of : Skeleton → List Dart → List ℕ
+    x_of h ds = flat_map (vertex_line h ds (pins_in v)) h.vertices
 
-  -- the text by its parts, for the graph and the darts that it is of
-  abbrev by_parts : (DartId → List CurveId) → Subdivision → Skeleton → List Dart → List ℕ
-  by_parts curves S h ds = title (length h.vertices) (length h.edges) (length S.faces) ++ (x_of h ds ++ (y_of curves h ++ (flat_map (face_lines S (λ f. [])) (numbered 0 S.faces) ++ codes "end\n")))
+    abbrev y_of : Skeleton → List ℕ
+    y_of h = flat_map (edge_line h) (zip h.edges (map words (forward_darts v)))
 
-  text_by_parts : (curves : DartId → List CurveId) (S : Subdivision) → text S (marks_in v curves) ≡ by_parts curves S S.graph S.darts
-  unfolding text text_by marks_in title ended
-  text_by_parts curves S = refl
+    -- the text by its parts, for the graph and the darts that it is of
+    abbrev by_parts : Subdivision → Skeleton → List Dart → List ℕ
+    by_parts S h ds = title word (length h.vertices) (length h.edges) (length S.faces) ++ (x_of h ds ++ (y_of h ++ (flat_map (face_lines S more) (numbered 0 S.faces) ++ codes "end\n")))
 
-  graph_of : (g : Skeleton) → (subdivision g).graph ≡ g
-  unfolding subdivision
-  graph_of g = refl
+    text_by_parts : (S : Subdivision) → text_by word more S written ≡ by_parts S S.graph S.darts
+    unfolding text_by title ended
+    text_by_parts S = refl
 
-  darts_of : (g : Skeleton) → (subdivision g).darts ≡ darts g
-  unfolding subdivision
-  darts_of g = refl
+    graph_of : (g : Skeleton) → (subdivision g).graph ≡ g
+    unfolding subdivision
+    graph_of g = refl
 
-  turned : (t x y u e : List ℕ) → (((t ++ x) ++ y) ++ u) ++ e ≡ t ++ (x ++ (y ++ (u ++ e)))
-  turned t x y u e = simp append_assoc
+    darts_of : (g : Skeleton) → (subdivision g).darts ≡ darts g
+    unfolding subdivision
+    darts_of g = refl
 
-  in_all : (curves : DartId → List CurveId) →
-      (((title (length (skeleton_of v).vertices) (length (skeleton_of v).edges) (length (subdivision (skeleton_of v)).faces) ++ x_of (skeleton_of v) (darts (skeleton_of v)))
-      ++ y_of curves (skeleton_of v)) ++ flat_map (face_lines (subdivision (skeleton_of v)) (λ f. [])) (numbered 0 (subdivision (skeleton_of v)).faces)) ++ codes "end\n" ≡ text_in v curves
-  unfolding text_in
-  in_all curves =
-      let S : Subdivision = subdivision (skeleton_of v) in
-      turned (title (length (skeleton_of v).vertices) (length (skeleton_of v).edges) (length S.faces)) (x_of (skeleton_of v) (darts (skeleton_of v))) (y_of curves (skeleton_of v)) (flat_map (face_lines S (λ f. [])) (numbered 0 S.faces)) (codes "end\n")
-      ∙ ap (λ (h : Skeleton). by_parts curves S h (darts (skeleton_of v))) (sym (graph_of (skeleton_of v)))
-      ∙ ap (λ (ds : List Dart). by_parts curves S S.graph ds) (sym (darts_of (skeleton_of v)))
-      ∙ sym (text_by_parts curves S)
+    turned : (t x y u e : List ℕ) → (((t ++ x) ++ y) ++ u) ++ e ≡ t ++ (x ++ (y ++ (u ++ e)))
+    turned t x y u e = simp append_assoc
 
-  pub assembled : {T E : Type 0} (r : Result T E) (curves : DartId → List CurveId) (n m k : ℕ) (from a b c d z : List ℕ) → n ≡ length (skeleton_of v).vertices → m ≡ length (skeleton_of v).edges → k ≡ length (subdivision (skeleton_of v)).faces
-      → a ≡ from ++ title n m k → b ≡ a ++ flat_map (vertex_line (skeleton_of v) (darts (skeleton_of v)) (pins_in v)) (skeleton_of v).vertices → c ≡ b ++ flat_map (edge_line (skeleton_of v)) (zip (skeleton_of v).edges (words_in v curves))
-      → d ≡ c ++ flat_map (face_lines (subdivision (skeleton_of v)) (λ f. [])) (numbered 0 (subdivision (skeleton_of v)).faces) → OnOk r (z ≡ d ++ codes "end\n") → OnOk r (z ≡ from ++ text_in v curves)
-  assembled r curves n m k from a b c d z e f g h i j l p =
-      let S : Subdivision = subdivision (skeleton_of v) in
-      let t : List ℕ = title (length (skeleton_of v).vertices) (length (skeleton_of v).edges) (length S.faces) in
-      let x : List ℕ = flat_map (vertex_line (skeleton_of v) (darts (skeleton_of v)) (pins_in v)) (skeleton_of v).vertices in
-      let y : List ℕ = flat_map (edge_line (skeleton_of v)) (zip (skeleton_of v).edges (words_in v curves)) in
-      let w : List ℕ = flat_map (face_lines S (λ f. [])) (numbered 0 S.faces) in
-      let first : a ≡ from ++ t = h ∙ ap (λ (q : ℕ). from ++ title q m k) e ∙ ap (λ (q : ℕ). from ++ title (length (skeleton_of v).vertices) q k) f ∙ ap (λ (q : ℕ). from ++ title (length (skeleton_of v).vertices) (length (skeleton_of v).edges) q) g in
-      let two = then_appended from a b t x first i in
-      let three = then_appended from b c (t ++ x) y two j in
-      let four = then_appended from c d ((t ++ x) ++ y) w three l in
-      joined r from d z (((t ++ x) ++ y) ++ w) (codes "end\n") (text_in v curves) four p (in_all curves)
+    in_all :
+        (((title word (length (skeleton_of v).vertices) (length (skeleton_of v).edges) (length (subdivision (skeleton_of v)).faces) ++ x_of (skeleton_of v) (darts (skeleton_of v)))
+        ++ y_of (skeleton_of v)) ++ flat_map (face_lines (subdivision (skeleton_of v)) more) (numbered 0 (subdivision (skeleton_of v)).faces)) ++ codes "end\n" ≡ text_by word more (subdivision (skeleton_of v)) written
+    in_all =
+        let S : Subdivision = subdivision (skeleton_of v) in
+        turned (title word (length (skeleton_of v).vertices) (length (skeleton_of v).edges) (length S.faces)) (x_of (skeleton_of v) (darts (skeleton_of v))) (y_of (skeleton_of v)) (flat_map (face_lines S more) (numbered 0 S.faces)) (codes "end\n")
+        ∙ ap (λ (h : Skeleton). by_parts S h (darts (skeleton_of v))) (sym (graph_of (skeleton_of v)))
+        ∙ ap (λ (ds : List Dart). by_parts S S.graph ds) (sym (darts_of (skeleton_of v)))
+        ∙ sym (text_by_parts S)
+
+    pub assembled : {T E : Type 0} (r : Result T E) (n m k : ℕ) (from a b c d z : List ℕ) → n ≡ length (skeleton_of v).vertices → m ≡ length (skeleton_of v).edges → k ≡ length (subdivision (skeleton_of v)).faces
+        → a ≡ from ++ title word n m k → b ≡ a ++ flat_map (vertex_line (skeleton_of v) (darts (skeleton_of v)) (pins_in v)) (skeleton_of v).vertices → c ≡ b ++ flat_map (edge_line (skeleton_of v)) (zip (skeleton_of v).edges (map words (forward_darts v)))
+        → d ≡ c ++ flat_map (face_lines (subdivision (skeleton_of v)) more) (numbered 0 (subdivision (skeleton_of v)).faces) → OnOk r (z ≡ d ++ codes "end\n") → OnOk r (z ≡ from ++ text_by word more (subdivision (skeleton_of v)) written)
+    assembled r n m k from a b c d z e f g h i j l p =
+        let S : Subdivision = subdivision (skeleton_of v) in
+        let t : List ℕ = title word (length (skeleton_of v).vertices) (length (skeleton_of v).edges) (length S.faces) in
+        let x : List ℕ = flat_map (vertex_line (skeleton_of v) (darts (skeleton_of v)) (pins_in v)) (skeleton_of v).vertices in
+        let y : List ℕ = flat_map (edge_line (skeleton_of v)) (zip (skeleton_of v).edges (map words (forward_darts v))) in
+        let w : List ℕ = flat_map (face_lines S more) (numbered 0 S.faces) in
+        let first : a ≡ from ++ t = h ∙ ap (λ (q : ℕ). from ++ title word q m k) e ∙ ap (λ (q : ℕ). from ++ title word (length (skeleton_of v).vertices) q k) f ∙ ap (λ (q : ℕ). from ++ title word (length (skeleton_of v).vertices) (length (skeleton_of v).edges) q) g in
+        let two = then_appended from a b t x first i in
+        let three = then_appended from b c (t ++ x) y two j in
+        let four = then_appended from c d ((t ++ x) ++ y) w three l in
+        joined r from d z (((t ++ x) ++ y) ++ w) (codes "end\n") (text_by word more S written) four p in_all

@@ -1,6 +1,6 @@
 -- Texts by rank, which grow one line at a time.
 use Rattle.std.proofs.Common.{◌≡◌, ◌≢◌, ℕ, suc, ◌+◌, ◌<◌, Bool, true, false, cond, List, [], ◌∷◌, ◌++◌, map, length, get_or, set, drop, refl, sym, ap, ap₂, ◌∙◌, subst, append_assoc, arith, inl, inr, Result, Ok, Err}
-use Rattle.std.specs.Prelude.{flat_map, filter, ◌&&◌, ◌==◌, OnOk}
+use Rattle.std.specs.Prelude.{Some, slice_get, flat_map, filter, ◌&&◌, ◌==◌, OnOk}
 use Rattle.std.proofs.Math.Seq.{drop-cons}
 use Rattle.std.proofs.lemmas.Bool.{eqb-true, eq-eqb}
 use Rattle.std.proofs.lemmas.List.{length-set, get_or-set_same, get_or-set_other, append-nil}
@@ -96,13 +96,13 @@ filtered_between {X} {Z} {Y} take make line p q b (x ∷ xs) e = step (p (take x
 
 -- ---- one body for each face
 -- the bodies by rank, each after its head
-pub numbered_bodies : {F : Type 0} (head : ℕ → List ℕ) (lines : ℕ × F → List ℕ) (body : F → List ℕ) (i : ℕ) (fs : List F) → ((k : ℕ) (f : F) → lines (k, f) ≡ head k ++ body f)
+pub numbered_bodies : {F : Type 0} (head : ℕ → List ℕ) (lines : ℕ × F → List ℕ) (body : F → List ℕ) (i : ℕ) (fs : List F) → ((n k : ℕ) (f : F) → i + k ≡ n → slice_get fs k ≡ Some f → lines (n, f) ≡ head n ++ body f)
     → flat_map (λ b. head b.0 ++ b.1) (numbered i (map body fs)) ≡ flat_map lines (numbered i fs)
 unfolding numbered
 numbered_bodies head lines body i [] e = refl
 numbered_bodies head lines body i (f ∷ fs) e =
-    ap (λ (t : List ℕ). t ++ flat_map (λ b. head b.0 ++ b.1) (numbered (suc i) (map body fs))) (sym (e i f))
-    ∙ ap (λ (t : List ℕ). lines (i, f) ++ t) (numbered_bodies head lines body (suc i) fs e)
+    ap (λ (t : List ℕ). t ++ flat_map (λ b. head b.0 ++ b.1) (numbered (suc i) (map body fs))) (sym (e i 0 f (omega arith) refl))
+    ∙ ap (λ (t : List ℕ). lines (i, f) ++ t) (numbered_bodies head lines body (suc i) fs (λ n k g s t. e n (suc k) g (omega arith) t))
 
 -- the lines of the bodies that are still to come
 pub next_body : (write : ℕ × List ℕ → List ℕ) (from out next : List ℕ) (bs : List (List ℕ)) (i : ℕ) → i < length bs → from ++ flat_map write (numbered 0 bs) ≡ out ++ flat_map write (numbered i (drop i bs)) → next ≡ out ++ write (i, get_or bs i [])

@@ -1,8 +1,8 @@
 -- The bodies of faces by rank are what the text has of each face.
-use Rattle.std.proofs.Common.{◌≡◌, ℕ, ◌<◌, Bool, true, false, cond, not, refl, sym, ap, ap₂, ◌∙◌, List, [], ◌++◌, map, length, get_or, replicate, append_assoc, arith}
-use Rattle.std.specs.Prelude.{filter, flat_map, ◌==◌, codes}
+use Rattle.std.proofs.Common.{◌≡◌, ℕ, ◌<◌, Bool, true, false, cond, not, refl, sym, ap, ap₂, ◌∙◌, subst, ◌+◌, List, [], ◌++◌, map, length, get_or, replicate, append_assoc, arith}
+use Rattle.std.specs.Prelude.{Some, slice_get, filter, flat_map, ◌==◌, codes}
 use Rattle.std.specs.List.{position_or_len}
-use Rattle.std.proofs.lemmas.List.{ext_get_or, length-map, length-replicate, get_or-replicate, get_or-map, append-nil}
+use Rattle.std.proofs.lemmas.List.{ext_get_or, length-map, length-replicate, get_or-replicate, get_or-map}
 use Rattle.plane_graphs.specs.Ascending.{Member}
 use Rattle.plane_graphs.proofs.Lists.{not_out}
 use Rattle.exact_plane.specs.Point.{Point}
@@ -11,9 +11,9 @@ use Rattle.slab_laws.specs.declared.slab_cell.SlabCell.{SlabCell}
 use Rattle.slab_laws.specs.Faces.{face_labels, face_of, same_cell}
 use Rattle.slab_laws.specs.Slabs.{left_cell}
 use Rattle.slab_laws.specs.Sound.{skeleton_of}
-use Rattle.slab_laws.specs.Subdivision.{Cycle, Bare, Subdivision, subdivision, has_dart, first_cell}
+use Rattle.slab_laws.specs.Subdivision.{Cycle, Bare, Subdivision, subdivision, rank, has_dart, first_cell}
 use Rattle.slab_laws.specs.Text.{cycle_line, ended, face_lines, index, number, numbered}
-use Rattle.slab_laws.specs.View.{View, Faces, HasBareFace, point_in, bare_face_in}
+use Rattle.slab_laws.specs.View.{View, Faces, HasBareFace, face_id, point_in, bare_face_in}
 use Rattle.slab_laws.specs.FacesSound.{IsSound}
 use Rattle.sound_views.specs.Orders.{vertex_order}
 use Rattle.sound_views.proofs.IsolatedVertices.{bare_is_bare}
@@ -22,6 +22,10 @@ use Rattle.record_orders.specs.declared.vertices.VertexKey.{VertexKey}
 use Rattle.record_orders.specs.Keys.{vertex_key, vertex_keys}
 use Rattle.record_orders.specs.declared.cycles.CycleKey.{CycleKey}
 use Rattle.record_orders.specs.CycleKeys.{same_face, ranked_faces}
+use Rattle.slab_faces.proofs.FacesLemmas.{cells_exact}
+use Rattle.sound_views.proofs.ListedPlaces.{place_at}
+use Rattle.sound_views.proofs.RankedFaces.{faces_apart}
+use Rattle.arr_text.specs.Reading.{labels_by}
 use Rattle.arr_text.proofs.FaceBodies.{gain, filtered_twice, filtered_between, numbered_bodies}
 use Rattle.arr_text.proofs.FaceNames.{keys, model, map_map, cycles_named, outer_same, cycle_rank, bare_rank, vertex_at, faces_counted}
 
@@ -36,12 +40,12 @@ abbrev under : Subdivision → SlabCell → List ℕ
 under s c = some_cycles s true (codes "o") c ++ (some_cycles s false (codes "h") c ++ some_bare s c)
 
 -- the first line of a face
-abbrev head : ℕ → List ℕ
-head k = ended (codes "f" ++ number k)
+abbrev head : (ℕ → List ℕ) → ℕ → List ℕ
+head labels k = ended (codes "f" ++ (number k ++ labels k))
 
-lines_are : (s : Subdivision) (k : ℕ) (c : SlabCell) → face_lines s (λ f. []) (k, c) ≡ head k ++ under s c
+lines_are : (s : Subdivision) (more : SlabCell → List ℕ) (k : ℕ) (c : SlabCell) → face_lines s more (k, c) ≡ ended (codes "f" ++ (number k ++ more c)) ++ under s c
 unfolding face_lines
-lines_are s k c = ap (λ (t : List ℕ). ended (codes "f" ++ t) ++ under s c) (append-nil (number k))
+lines_are s more k c = refl
 
 -- three gains, one after the other
 three : (x a b c y z w : List ℕ) → x ≡ [] → y ≡ x ++ a → z ≡ y ++ b → w ≡ z ++ c → w ≡ a ++ (b ++ c)
@@ -120,11 +124,27 @@ module _ (v : View) (f : Faces) (s : IsSound v f) where
         ∙ ap₂ (λ (x y : List ℕ). x ++ y) (cycles_gain true (codes "o") cs ranks k e r here) (ap₂ (λ (x y : List ℕ). x ++ y) (cycles_gain false (codes "h") cs ranks k e r here) (bares_gain us ranks k h (r ∙ ap (ranked_faces f) e) here))
         ∙ sym (get_or-map (under sub) sub.faces k first_cell [] here))
 
-    pub face_lines_put : (none some more all : List (List ℕ)) → none ≡ replicate (length ranks) [] → length some ≡ length none → length more ≡ length some → length all ≡ length more
-        → ((k : ℕ) → k < length none → get_or some k [] ≡ get_or none k [] ++ cycle_gain true (codes "o") ranks k cs)
-        → ((k : ℕ) → k < length some → get_or more k [] ≡ get_or some k [] ++ cycle_gain false (codes "h") ranks k cs)
-        → ((k : ℕ) → k < length more → get_or all k [] ≡ get_or more k [] ++ bare_gain ranks k us)
-        → flat_map (λ b. ended (codes "f" ++ number b.0) ++ b.1) (numbered 0 all) ≡ flat_map (face_lines sub (λ f. [])) (numbered 0 sub.faces)
-    face_lines_put none some more all z l m n p q w =
-        ap (λ (ts : List (List ℕ)). flat_map (λ b. ended (codes "f" ++ number b.0) ++ b.1) (numbered 0 ts)) (bodies_are none some more all z l m n p q w)
-        ∙ numbered_bodies head (face_lines sub (λ f. [])) (under sub) 0 sub.faces (lines_are sub)
+    module _ (labels : FaceId → List ℕ) (faces : List FaceId) (q : faces ≡ ranks) where
+      -- what follows the rank of the face at a place
+      abbrev label_at : ℕ → List ℕ
+      label_at k = labels (get_or faces k (face_id 0))
+
+      face_ranked : (k : ℕ) (c : SlabCell) → slice_get sub.faces k ≡ Some c → labels_by v f labels c ≡ label_at k
+      unfolding rank
+      face_ranked k c t =
+          ap (λ (j : ℕ). labels (get_or (ranked_faces f (keys v f s)) j (face_id 0))) (place_at same_cell cells_exact sub.faces k c (faces_apart (skeleton_of v)) t)
+          ∙ ap (λ (fs : List FaceId). labels (get_or fs k (face_id 0))) (sym (q ∙ r ∙ ap (ranked_faces f) e))
+
+      head_is : (n k : ℕ) (c : SlabCell) → 0 + k ≡ n → slice_get sub.faces k ≡ Some c → face_lines sub (labels_by v f labels) (n, c) ≡ head label_at n ++ under sub c
+      head_is n k c i t =
+          let at : slice_get sub.faces n ≡ Some c = subst (λ (j : ℕ). slice_get sub.faces j ≡ Some c) (let z : k ≡ n = omega (arith, i) in z) t in
+          lines_are sub (labels_by v f labels) n c ∙ ap (λ (l : List ℕ). ended (codes "f" ++ (number n ++ l)) ++ under sub c) (face_ranked n c at)
+
+      pub face_lines_put : (none some more all : List (List ℕ)) → none ≡ replicate (length ranks) [] → length some ≡ length none → length more ≡ length some → length all ≡ length more
+          → ((k : ℕ) → k < length none → get_or some k [] ≡ get_or none k [] ++ cycle_gain true (codes "o") ranks k cs)
+          → ((k : ℕ) → k < length some → get_or more k [] ≡ get_or some k [] ++ cycle_gain false (codes "h") ranks k cs)
+          → ((k : ℕ) → k < length more → get_or all k [] ≡ get_or more k [] ++ bare_gain ranks k us)
+          → flat_map (λ b. ended (codes "f" ++ (number b.0 ++ labels (get_or faces b.0 (face_id 0)))) ++ b.1) (numbered 0 all) ≡ flat_map (face_lines sub (labels_by v f labels)) (numbered 0 sub.faces)
+      face_lines_put none some more all z l m n p g w =
+          ap (λ (ts : List (List ℕ)). flat_map (λ b. head label_at b.0 ++ b.1) (numbered 0 ts)) (bodies_are none some more all z l m n p g w)
+          ∙ numbered_bodies (head label_at) (face_lines sub (labels_by v f labels)) (under sub) 0 sub.faces head_is

@@ -189,7 +189,7 @@ module _ (v : View) (f : Faces) (s : IsSound v f) where
     abbrev met : List FaceId
     met = first_faces (face_after_in f None) ++ map (λ c. c.face) (filter (λ c. c.outer) keys)
 
-    first_face : (a : FaceId) × (face_after_in f None ≡ Some a) × HasFace f a × (cell a ≡ face_of (face_labels (skeleton_of v)) first_cell)
+    pub first_face : (a : FaceId) × (face_after_in f None ≡ Some a) × HasFace f a × (cell a ≡ face_of (face_labels (skeleton_of v)) first_cell)
     first_face =
         let some = by.all first_cell (first_there (skeleton_of v)) in
         let least = least_name f.faces s.complete.faces_ascend some.0.0 (to_member f.faces some.0.0 some.1) in
@@ -206,6 +206,10 @@ module _ (v : View) (f : Faces) (s : IsSound v f) where
         at (inr n) =
             let r = of_map (λ (c : CycleKey). c.face) a (filter (λ c. c.outer) keys) n in
             subst (HasFace f) (sym r.2) (key_face r.0 (of_filter (λ (c : CycleKey). c.outer) r.0 keys r.1).0)
+
+    pub ranked_has : (ranks : List FaceId) → ranks ≡ ranked_faces f keys → (k : ℕ) (d : FaceId) → k < length ranks → HasFace f (get_or ranks k d)
+    ranked_has ranks r k d l =
+        met_has (get_or ranks k d) (of_distinct same_face (get_or ranks k d) met (subst (Member (get_or ranks k d)) r (to_member ranks (get_or ranks k d) (Contains-get_or ranks k d l))))
 
     cells_met : map cell met ≡ face_of (face_labels (skeleton_of v)) first_cell ∷ map (λ c. c.face) (filter (λ c. c.outer) (subdivision (skeleton_of v)).cycles)
     cells_met =

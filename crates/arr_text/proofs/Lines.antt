@@ -13,7 +13,6 @@ use Rattle.plane_graphs.specs.Ascending.{Member}
 use Rattle.plane_graphs.specs.Graph.{Edge}
 use Rattle.plane_graphs.proofs.Ascending.{to_member}
 use Rattle.plane_graphs.proofs.Lists.{in_map, of_map, in_filter, of_filter, any_in, any_out, both_ways, then_appended}
-use Rattle.slab_laws.specs.declared.names.CurveId.{CurveId}
 use Rattle.slab_laws.specs.declared.names.DartId.{DartId}
 use Rattle.slab_laws.specs.declared.names.VertexId.{VertexId}
 use Rattle.slab_laws.specs.Skeleton.{same_point}
@@ -24,7 +23,7 @@ use Rattle.slab_laws.specs.Text.{number, index, triple, ended, vertex_line, edge
 use Rattle.slab_laws.specs.View.{View, HasVertex, HasDart, point_in, pinned_in}
 use Rattle.sound_views.specs.Orders.{vertex_order, dart_order}
 use Rattle.sound_views.proofs.NamesOrdered.{vertex_ordered, ordered_vertex, ordered_dart, points_in_order, edges_in_order_of}
-use Rattle.arr_text.specs.Reading.{pins_in, vertex_place, edge_ends, curve_words, words_in}
+use Rattle.arr_text.specs.Reading.{pins_in, vertex_place, edge_ends, forward_darts}
 use Rattle.record_orders.specs.declared.vertices.VertexKey.{VertexKey}
 use Rattle.record_orders.specs.declared.darts.DartKey.{DartKey}
 use Rattle.record_orders.specs.Keys.{vertex_key, vertex_keys, dart_key, dart_keys}
@@ -71,7 +70,7 @@ vertex_put r v ps p pinned pins s a b c d z e t f g h i j =
     five k n x y q w = simp append_assoc
 
 -- ---- through all vertices
-take_all : {X : Type 0} (n : ℕ) (xs : List X) → length xs ≤ n → take n xs ≡ xs
+pub take_all : {X : Type 0} (n : ℕ) (xs : List X) → length xs ≤ n → take n xs ≡ xs
 take_all n xs l = grind (arith, common_steps)
 
 module _ (v : View) where
@@ -92,15 +91,15 @@ module _ (v : View) where
 
 -- ---- edges
 -- the line of an edge is put at its dart from the lesser end
-module _ (v : View) (curves : DartId → List CurveId) where
+module _ (v : View) (words : DartId → List (List ℕ)) where
   abbrev pub edge_of_dart : DartId → List ℕ
-  edge_of_dart d = edge_line (skeleton_of v) ((dart_in v d).edge, curve_words (curves d))
+  edge_of_dart d = edge_line (skeleton_of v) ((dart_in v d).edge, words d)
 
   abbrev pub edge_part : DartKey → List ℕ
   edge_part k = cond (is_lt (point_cmp k.source k.target)) (edge_of_dart k.name) []
 
   one_by : (d : DartId) (b : Bool) (rest : List ℕ) (es : List Edge) (ws : List (List (List ℕ))) → rest ≡ flat_map (edge_line (skeleton_of v)) (zip es ws)
-      → cond b (edge_of_dart d) [] ++ rest ≡ flat_map (edge_line (skeleton_of v)) (zip (cond b ((dart_in v d).edge ∷ es) es) (cond b (curve_words (curves d) ∷ ws) ws))
+      → cond b (edge_of_dart d) [] ++ rest ≡ flat_map (edge_line (skeleton_of v)) (zip (cond b ((dart_in v d).edge ∷ es) es) (cond b (words d ∷ ws) ws))
   one_by d true rest es ws e = ap (λ (t : List ℕ). edge_of_dart d ++ t) e
   one_by d false rest es ws e = e
 
@@ -111,16 +110,16 @@ module _ (v : View) (curves : DartId → List CurveId) where
   abbrev forward : DartId → Bool
   forward d = (dart_in v d).forward
 
-  by_edges : (ds : List DartId) → flat_map edge_part (map (dart_key v) ds) ≡ flat_map (edge_line (skeleton_of v)) (zip (map (λ d. (dart_in v d).edge) (filter forward ds)) (map (λ d. curve_words (curves d)) (filter forward ds)))
+  by_edges : (ds : List DartId) → flat_map edge_part (map (dart_key v) ds) ≡ flat_map (edge_line (skeleton_of v)) (zip (map (λ d. (dart_in v d).edge) (filter forward ds)) (map words (filter forward ds)))
   by_edges [] = refl
   by_edges (d ∷ ds) =
-      rw (mapped (λ e. (dart_in v e).edge) (forward d) d (filter forward ds), mapped (λ e. curve_words (curves e)) (forward d) d (filter forward ds))
-      (one_by d (forward d) (flat_map edge_part (map (dart_key v) ds)) (map (λ e. (dart_in v e).edge) (filter forward ds)) (map (λ e. curve_words (curves e)) (filter forward ds)) (by_edges ds))
+      rw (mapped (λ e. (dart_in v e).edge) (forward d) d (filter forward ds), mapped words (forward d) d (filter forward ds))
+      (one_by d (forward d) (flat_map edge_part (map (dart_key v) ds)) (map (λ e. (dart_in v e).edge) (filter forward ds)) (map words (filter forward ds)) (by_edges ds))
 
-  pub all_edges : IsGraphSound v → (ks : List DartKey) (n : ℕ) (s z : List ℕ) → ks ≡ dart_keys v → length ks ≤ n → z ≡ s ++ flat_map edge_part (take n ks) → z ≡ s ++ flat_map (edge_line (skeleton_of v)) (zip (skeleton_of v).edges (words_in v curves))
+  pub all_edges : IsGraphSound v → (ks : List DartKey) (n : ℕ) (s z : List ℕ) → ks ≡ dart_keys v → length ks ≤ n → z ≡ s ++ flat_map edge_part (take n ks) → z ≡ s ++ flat_map (edge_line (skeleton_of v)) (zip (skeleton_of v).edges (map words (forward_darts v)))
   all_edges sound ks n s z e l i =
       i ∙ ap (λ (xs : List DartKey). s ++ flat_map edge_part xs) (take_all n ks l ∙ e)
-      ∙ ap (λ (t : List ℕ). s ++ t) (by_edges (dart_order v) ∙ ap (λ (es : List Edge). flat_map (edge_line (skeleton_of v)) (zip es (words_in v curves))) (edges_in_order_of v sound))
+      ∙ ap (λ (t : List ℕ). s ++ t) (by_edges (dart_order v) ∙ ap (λ (es : List Edge). flat_map (edge_line (skeleton_of v)) (zip es (map words (forward_darts v)))) (edges_in_order_of v sound))
 
   pub dart_item : IsGraphSound v → (ks : List DartKey) (i : ℕ) (k : DartKey) → ks ≡ dart_keys v → i < length ks → k ≡ get_or ks i k → HasDart v k.name × (k ≡ dart_key v k.name)
   dart_item s ks i k e l h =
@@ -155,25 +154,24 @@ low_of : (p q : Point) (b : Bool) → b ≡ true → cond b (from_to p q) (from_
 low_of p q true e = refl
 low_of p q false e = absurd cc
 
-pub edge_put : {T E : Type 0} (r : Result T E) (v : View) (ps : List Point) (k : DartKey) (cs ds : List CurveId) (s a b z : List ℕ) → ps ≡ (skeleton_of v).vertices → k ≡ dart_key v k.name → is_lt (point_cmp k.source k.target) ≡ true → cs ≡ ds
-    → a ≡ s ++ edge_ends ps k.source k.target → b ≡ a ++ flat_map word (curve_words cs) → OnOk r (z ≡ b ++ 10 ∷ []) → OnOk r (z ≡ s ++ edge_line (skeleton_of v) ((dart_in v k.name).edge, curve_words ds))
+pub edge_put : {T E : Type 0} (r : Result T E) (v : View) (ps : List Point) (k : DartKey) (ws : List (List ℕ)) (s a b z : List ℕ) → ps ≡ (skeleton_of v).vertices → k ≡ dart_key v k.name → is_lt (point_cmp k.source k.target) ≡ true
+    → a ≡ s ++ edge_ends ps k.source k.target → b ≡ a ++ flat_map word ws → OnOk r (z ≡ b ++ 10 ∷ []) → OnOk r (z ≡ s ++ edge_line (skeleton_of v) ((dart_in v k.name).edge, ws))
 unfolding edge_line edge_ends ended index
-edge_put r v ps k cs ds s a b z e key forward same f g h =
+edge_put r v ps k ws s a b z e key forward f g h =
     let here : (dart_in v k.name).edge ≡ from_to k.source k.target = low_of _ _ _ (subst (λ (x : DartKey). is_lt (point_cmp x.source x.target) ≡ true) key forward) ∙ ap (λ (x : DartKey). from_to x.source x.target) (sym key) in
     let n : Point → List ℕ = λ p. number (position_or_len (same_point p) (skeleton_of v).vertices + 1) in
-    let w : List ℕ = flat_map word (curve_words ds) in
+    let w : List ℕ = flat_map word ws in
     let ends : List ℕ = codes "e" ++ (n k.source ++ (n k.target ++ codes " :")) in
     let first : a ≡ s ++ ends = f ∙ ap (λ (qs : List Point). s ++ (codes "e" ++ (number (position_or_len (same_point k.source) qs + 1) ++ (number (position_or_len (same_point k.target) qs + 1) ++ codes " :")))) e in
-    let second : b ≡ a ++ w = g ∙ ap (λ (xs : List CurveId). a ++ flat_map word (curve_words xs)) same in
-    let both = then_appended s a b ends w first second in
+    let both = then_appended s a b ends w first g in
     joined r s b z (ends ++ w) (10 ∷ []) ((codes "e" ++ (n (dart_in v k.name).edge.low ++ (n (dart_in v k.name).edge.high ++ (codes " :" ++ w)))) ++ 10 ∷ []) both h
     (ap (λ (t : List ℕ). t ++ 10 ∷ []) (four (codes "e") (n k.source) (n k.target) (codes " :") w ∙ ap (λ (x : Edge). codes "e" ++ (n x.low ++ (n x.high ++ (codes " :" ++ w)))) (sym here)))
   where
     four : (k n x y t : List ℕ) → (k ++ (n ++ (x ++ y))) ++ t ≡ k ++ (n ++ (x ++ (y ++ t)))
     four k n x y t = simp append_assoc
 
-pub part_there : (v : View) (curves : DartId → List CurveId) (k : DartKey) (b : Bool) (a z : List ℕ) → b ≡ is_lt (point_cmp k.source k.target) → b ≡ true → z ≡ a ++ edge_of_dart v curves k.name → z ≡ a ++ edge_part v curves k
-part_there v curves k b a z e t h = h ∙ ap (λ (c : Bool). a ++ cond c (edge_of_dart v curves k.name) []) (sym t ∙ e)
+pub part_there : (v : View) (words : DartId → List (List ℕ)) (k : DartKey) (b : Bool) (a z : List ℕ) → b ≡ is_lt (point_cmp k.source k.target) → b ≡ true → z ≡ a ++ edge_of_dart v words k.name → z ≡ a ++ edge_part v words k
+part_there v words k b a z e t h = h ∙ ap (λ (c : Bool). a ++ cond c (edge_of_dart v words k.name) []) (sym t ∙ e)
 
-pub part_none : (v : View) (curves : DartId → List CurveId) (k : DartKey) (b : Bool) (a z : List ℕ) → b ≡ is_lt (point_cmp k.source k.target) → b ≡ false → z ≡ a → z ≡ a ++ edge_part v curves k
-part_none v curves k b a z e t h = h ∙ sym (append-nil a) ∙ ap (λ (c : Bool). a ++ cond c (edge_of_dart v curves k.name) []) (sym t ∙ e)
+pub part_none : (v : View) (words : DartId → List (List ℕ)) (k : DartKey) (b : Bool) (a z : List ℕ) → b ≡ is_lt (point_cmp k.source k.target) → b ≡ false → z ≡ a → z ≡ a ++ edge_part v words k
+part_none v words k b a z e t h = h ∙ sym (append-nil a) ∙ ap (λ (c : Bool). a ++ cond c (edge_of_dart v words k.name) []) (sym t ∙ e)

@@ -1,8 +1,7 @@
 -- What each part of the text says, of what is read by name.
-use Rattle.std.specs.Prelude.{◌≡◌, ◌<◌, ℕ, List, [], ◌++◌, Bool, cond, not, ◌&&◌, ◌==◌, filter, flat_map, length, codes, zip}
+use Rattle.std.specs.Prelude.{◌≡◌, ◌<◌, ℕ, List, [], ◌++◌, Bool, cond, not, ◌&&◌, ◌==◌, filter, flat_map, length, map, codes, zip}
 use Rattle.std.specs.List.{position_or_len, slice_index_or}
 use Rattle.exact_plane.specs.Point.{Point}
-use Rattle.slab_laws.specs.declared.names.CurveId.{CurveId}
 use Rattle.slab_laws.specs.declared.names.DartId.{DartId}
 use Rattle.slab_laws.specs.declared.names.FaceId.{FaceId}
 use Rattle.slab_laws.specs.Cycles.{dart_labels, trail}
@@ -13,13 +12,12 @@ use Rattle.slab_laws.specs.Skeleton.{Skeleton}
 use Rattle.slab_laws.specs.Sound.{skeleton_of, dart_in}
 use Rattle.slab_laws.specs.Subdivision.{Subdivision, cycle, subdivision, has_dart}
 use Rattle.slab_laws.specs.Text.{vertex_line, edge_line, cycle_line, ended, face_lines, index, number, numbered}
-use Rattle.slab_laws.specs.View.{View, Faces, bare_face_in}
-use Rattle.sound_views.specs.Orders.{dart_order}
+use Rattle.slab_laws.specs.View.{View, Faces, face_id, bare_face_in}
 use Rattle.sound_views.specs.VertexRounds.{round}
 use Rattle.record_orders.specs.declared.cycles.CycleKey.{CycleKey}
 use Rattle.record_orders.specs.declared.vertices.VertexKey.{VertexKey}
-use Rattle.record_orders.specs.CycleKeys.{cycle_keys, ranked_faces, same_face}
-use Rattle.arr_text.specs.Reading.{curve_words, pins_in, words_in}
+use Rattle.record_orders.specs.CycleKeys.{same_face}
+use Rattle.arr_text.specs.Reading.{forward_darts, labels_by, pins_in}
 
 -- ---- vertices
 -- the numbers of a vertex's neighbours, clockwise from the least (this project)
@@ -43,19 +41,15 @@ abbrev pub vertices_text : View → List ℕ
 vertices_text v = flat_map (vertex_line (skeleton_of v) (darts (skeleton_of v)) (pins_in v)) (skeleton_of v).vertices
 
 -- ---- edges
--- the line of a dart's edge, with the edge's curves (this project)
-abbrev pub edge_text : View → (DartId → List CurveId) → DartId → List ℕ
-edge_text v curves d = edge_line (skeleton_of v) ((dart_in v d).edge, curve_words (curves d))
+-- the line of a dart's edge, with the words of its curves (this project)
+abbrev pub edge_text : View → (DartId → List (List ℕ)) → DartId → List ℕ
+edge_text v words d = edge_line (skeleton_of v) ((dart_in v d).edge, words d)
 
 -- the lines of all edges, in their order (this project)
-abbrev pub edges_text : View → (DartId → List CurveId) → List ℕ
-edges_text v curves = flat_map (edge_line (skeleton_of v)) (zip (skeleton_of v).edges (words_in v curves))
+abbrev pub edges_text : View → (DartId → List (List ℕ)) → List ℕ
+edges_text v words = flat_map (edge_line (skeleton_of v)) (zip (skeleton_of v).edges (map words (forward_darts v)))
 
 -- ---- faces
--- the faces by rank: the unbounded one, then the others in the order of their outer cycles
-abbrev pub face_order : View → Faces → List FaceId
-face_order v f = ranked_faces f (cycle_keys f (dart_order v))
-
 -- the face has the rank
 abbrev pub has_rank : List FaceId → ℕ → FaceId → Bool
 has_rank ranks k f = position_or_len (same_face f) ranks == k
@@ -92,17 +86,21 @@ isolated_text v f ranks vertices k =
     flat_map (λ (u : VertexKey). isolated_line (index (skeleton_of v) u.point))
     (filter (λ (u : VertexKey). not (has_dart (skeleton_of v) u.point) && has_rank ranks k (bare_face_in f u.name)) vertices)
 
--- the first line of a face, by its rank (this project)
-abbrev pub face_line : ℕ → List ℕ
-face_line k = ended (codes "f" ++ number k)
+-- the first line of a face, by its rank and what follows it (this project)
+abbrev pub face_line : ℕ → List ℕ → List ℕ
+face_line k labels = ended (codes "f" ++ (number k ++ labels))
+
+-- what follows the rank of the face at a place
+abbrev pub labels_at : (FaceId → List ℕ) → List FaceId → ℕ → List ℕ
+labels_at labels faces k = labels (slice_index_or faces k (face_id 0))
 
 -- each face's first line, and what stands under it, by rank
-abbrev pub bodies_text : List (List ℕ) → List ℕ
-bodies_text bodies = flat_map (λ b. face_line b.0 ++ b.1) (numbered 0 bodies)
+abbrev pub bodies_text : (FaceId → List ℕ) → List FaceId → List (List ℕ) → List ℕ
+bodies_text labels faces bodies = flat_map (λ b. face_line b.0 (labels_at labels faces b.0) ++ b.1) (numbered 0 bodies)
 
 -- the lines of all faces by rank, each with its outer cycles, its inner cycles and its isolated vertices (this project)
-abbrev pub faces_text : View → List ℕ
-faces_text v = let s : Subdivision = subdivision (skeleton_of v) in flat_map (face_lines s (λ f. [])) (numbered 0 s.faces)
+abbrev pub faces_text : View → Faces → (FaceId → List ℕ) → List ℕ
+faces_text v f labels = let s : Subdivision = subdivision (skeleton_of v) in flat_map (face_lines s (labels_by v f labels)) (numbered 0 s.faces)
 
 -- each of the texts has gained at its end what is said for its place
 abbrev pub HaveGained : (ℕ → List ℕ) → List (List ℕ) → List (List ℕ) → Type 0

@@ -1,30 +1,20 @@
-ghost use Rattle.std.specs.Prelude.{◌≡◌, ◌++◌, flat_map, true, OnOk};
+ghost use Rattle.std.specs.Prelude.{◌≡◌, ◌++◌, true, OnOk};
 ghost use Rattle.std.specs.Ordering.{is_lt};
 ghost use Rattle.exact_plane.specs.PointOrder.{point_cmp};
 ghost use Rattle.plane_graphs.specs.Ascending.{IsAscending};
 ghost use Rattle.slab_laws.specs.Sound.{skeleton_of, IsGraphSound};
-ghost use Rattle.slab_laws.specs.Text.{word};
 ghost use Rattle.slab_laws.specs.View.{HasDart};
 ghost use Rattle.record_orders.specs.Keys.{dart_key, dart_keys};
-ghost use Rattle.arr_text.specs.Reading.{curve_words, edge_ends};
+ghost use Rattle.arr_text.specs.Reading.{edge_ends};
 ghost use Rattle.arr_text.specs.Parts.{edge_text, edges_text};
 
-use crate::put::{put_index, put_number, put_text};
+use crate::put::{put_index, put_text};
+use crate::words::Words;
 use exact_plane::Point;
 use no_memory::NoMemory;
 use record_orders::DartKey;
-use slab_laws::{CurveId, Curved};
+use slab_laws::Faced;
 use std::alloc::Global;
-
-// Puts the numbers of curves.
-fn put_curves(out: &mut Vec<u8>, curves: &[CurveId]) -> Result<(), NoMemory>
-    ensures { OnOk result (out.new.items ≡ out.old.items ++ flat_map word (curve_words curves.now)) }
-{
-    for curve in curves {
-        put_number(out, curve.0)?;
-    }
-    Ok(())
-}
 
 // Puts what stands in front of the curves: the numbers of the edge's two ends.
 fn put_ends(out: &mut Vec<u8>, points: &[Point], dart: &DartKey) -> Result<(), NoMemory>
@@ -38,7 +28,7 @@ fn put_ends(out: &mut Vec<u8>, points: &[Point], dart: &DartKey) -> Result<(), N
 }
 
 // Puts the line of the edge of a dart that goes from the lesser end.
-fn put_edge<R: Curved>(
+fn put_edge<R: Faced, W: Words<R>>(
     alloc: Global,
     out: &mut Vec<u8>,
     records: &R,
@@ -50,11 +40,10 @@ fn put_edge<R: Curved>(
     requires key { dart.now ≡ dart_key (R.graph records.now) dart.now.name }
     requires forward { is_lt (point_cmp dart.now.source dart.now.target) ≡ true }
     ensures { OnOk result
-        (out.new.items ≡ out.old.items ++ edge_text (R.graph records.now) (R.curve_list records.now) dart.now.name) }
+        (out.new.items ≡ out.old.items ++ edge_text (R.graph records.now) (W.curves records.now) dart.now.name) }
 {
     put_ends(out, points, dart)?;
-    let curves = records.curves(alloc, dart.name)?;
-    put_curves(out, &curves)?;
+    W::put_curves(alloc, out, records, dart.name)?;
     put_text(out, "\n")
 }
 
@@ -66,7 +55,7 @@ fn is_forward(dart: &DartKey) -> bool
 }
 
 // Puts the lines of all edges, in their order.
-pub(crate) fn put_edges<R: Curved>(
+pub(crate) fn put_edges<R: Faced, W: Words<R>>(
     alloc: Global,
     out: &mut Vec<u8>,
     records: &R,
@@ -77,11 +66,11 @@ pub(crate) fn put_edges<R: Curved>(
     requires points { points.now ≡ (skeleton_of (R.graph records.now)).vertices }
     requires darts { darts.now ≡ dart_keys (R.graph records.now) }
     ensures { OnOk result
-        (out.new.items ≡ out.old.items ++ edges_text (R.graph records.now) (R.curve_list records.now)) }
+        (out.new.items ≡ out.old.items ++ edges_text (R.graph records.now) (W.curves records.now)) }
 {
     for dart in darts {
         if is_forward(dart) {
-            put_edge(alloc, out, records, points, dart)?;
+            put_edge::<R, W>(alloc, out, records, points, dart)?;
         }
     }
     Ok(())

@@ -1,21 +1,23 @@
-ghost use Rattle.std.specs.Prelude.{◌≡◌, ◌++◌, length, OnOk};
+ghost use Rattle.std.specs.Prelude.{◌≡◌, ◌++◌, length, IfOk, OnOk};
+ghost use Rattle.std.specs.List.{All};
 ghost use Rattle.exact_plane.specs.PointOrder.{point_cmp};
 ghost use Rattle.plane_graphs.specs.Ascending.{IsAscending};
 ghost use Rattle.slab_laws.specs.Sound.{skeleton_of, IsGraphSound};
-ghost use Rattle.slab_laws.specs.View.{HasDart};
+ghost use Rattle.slab_laws.specs.View.{HasDart, HasFace};
 ghost use Rattle.slab_laws.specs.FacesSound.{IsSound};
 ghost use Rattle.sound_views.specs.Orders.{dart_order};
 ghost use Rattle.record_orders.specs.Keys.{vertex_keys};
 ghost use Rattle.record_orders.specs.CycleKeys.{cycle_keys, ranked_faces};
-ghost use Rattle.arr_text.specs.Reading.{place_in};
-ghost use Rattle.arr_text.specs.Parts.{face_order, letter_of, cycle_text, cycles_text, isolated_line, isolated_text, face_line, bodies_text, faces_text, HaveGained};
+ghost use Rattle.arr_text.specs.Reading.{place_in, face_order};
+ghost use Rattle.arr_text.specs.Parts.{letter_of, cycle_text, cycles_text, isolated_line, isolated_text, face_line, bodies_text, faces_text, HaveGained};
 
 use crate::put::{put_index, put_number, put_text};
 use crate::rounds::put_trail;
+use crate::words::Words;
 use exact_plane::Point;
 use no_memory::NoMemory;
 use record_orders::{Bodies, CycleKey, Ranks, VertexKey};
-use slab_laws::{DartId, Darts, Faced};
+use slab_laws::{DartId, Darts, FaceId, Faced};
 use std::alloc::Global;
 
 // Makes the line of a cycle, in place of what was there. There are so many darts in all.
@@ -114,21 +116,60 @@ fn put_isolated<R: Faced>(
     Ok(())
 }
 
+// The faces by rank.
+fn faces_by_rank<R: Faced>(
+    alloc: Global,
+    records: &R,
+    cycles: &[CycleKey],
+    ranks: &Ranks,
+) -> Result<Vec<FaceId>, NoMemory>
+    requires stands { IsSound (R.graph records.now) (R.faces records.now) }
+    requires cycles { cycles.now ≡ cycle_keys (R.faces records.now) (dart_order (R.graph records.now)) }
+    requires ranks { ranks.now ≡ ranked_faces (R.faces records.now) cycles.now }
+    ensures { IfOk result (λ v. v.items ≡ ranks.now) }
+{
+    let mut faces = Vec::new(alloc);
+    if let Some(first) = records.face_after(None) {
+        faces.resize(ranks.len(), first)?;
+    }
+    for cycle in cycles {
+        if cycle.outer {
+            faces[ranks.rank_of(cycle.face)] = cycle.face;
+        }
+    }
+    Ok(faces)
+}
+
 // Puts the first line of a face, with its rank.
-fn put_rank(out: &mut Vec<u8>, rank: usize) -> Result<(), NoMemory>
-    ensures { OnOk result (out.new.items ≡ out.old.items ++ face_line rank) }
+fn put_rank<R: Faced, W: Words<R>>(
+    out: &mut Vec<u8>,
+    records: &R,
+    rank: usize,
+    face: FaceId,
+) -> Result<(), NoMemory>
+    requires { HasFace (R.faces records.now) face }
+    ensures { OnOk result (out.new.items ≡ out.old.items ++ face_line rank (W.labels records.now face)) }
 {
     put_text(out, "f")?;
     put_number(out, rank)?;
+    W::put_labels(out, records, face)?;
     put_text(out, "\n")
 }
 
 // Puts the line of each face, with what stands under it.
-fn put_bodies(out: &mut Vec<u8>, bodies: &Bodies) -> Result<(), NoMemory>
-    ensures { OnOk result (out.new.items ≡ out.old.items ++ bodies_text bodies.now) }
+fn put_bodies<R: Faced, W: Words<R>>(
+    out: &mut Vec<u8>,
+    records: &R,
+    faces: &[FaceId],
+    bodies: &Bodies,
+) -> Result<(), NoMemory>
+    requires has { All (HasFace (R.faces records.now)) faces.now }
+    requires faces { length faces.now ≡ length bodies.now }
+    ensures { OnOk result
+        (out.new.items ≡ out.old.items ++ bodies_text (W.labels records.now) faces.now bodies.now) }
 {
     for rank in 0..bodies.len() {
-        put_rank(out, rank)?;
+        put_rank::<R, W>(out, records, rank, faces[rank])?;
         out.extend_from_slice(bodies.text(rank))?;
     }
     Ok(())
@@ -136,7 +177,7 @@ fn put_bodies(out: &mut Vec<u8>, bodies: &Bodies) -> Result<(), NoMemory>
 
 // Puts the lines of all faces by rank, each with its outer cycles, its inner cycles and its isolated vertices. There are so many
 // darts in all.
-pub(crate) fn put_faces<R: Faced>(
+pub(crate) fn put_faces<R: Faced, W: Words<R>>(
     alloc: Global,
     out: &mut Vec<u8>,
     records: &R,
@@ -152,8 +193,10 @@ pub(crate) fn put_faces<R: Faced>(
     requires cycles { cycles.now ≡ cycle_keys (R.faces records.now) (dart_order (R.graph records.now)) }
     requires ranks { ranks.now ≡ ranked_faces (R.faces records.now) cycles.now }
     requires darts { darts ≡ length (dart_order (R.graph records.now)) }
-    ensures { OnOk result (out.new.items ≡ out.old.items ++ faces_text (R.graph records.now)) }
+    ensures { OnOk result (out.new.items
+        ≡ out.old.items ++ faces_text (R.graph records.now) (R.faces records.now) (W.labels records.now)) }
 {
+    let faces = faces_by_rank(alloc, records, cycles, ranks)?;
     let mut bodies = Bodies::new(alloc, ranks.len())?;
     let mut line = Vec::new(alloc);
     put_cycles(
@@ -177,5 +220,5 @@ pub(crate) fn put_faces<R: Faced>(
         darts,
     )?;
     put_isolated(&mut bodies, &mut line, records, points, vertices, ranks)?;
-    put_bodies(out, &bodies)
+    put_bodies::<R, W>(out, records, &faces, &bodies)
 }

@@ -1,5 +1,6 @@
 //! The text of a subdivision, for anything that is read by name: its vertices with their neighbours clockwise, its edges with
-//! their curves, its faces with their boundary cycles and isolated vertices.
+//! their curves, its faces with their boundary cycles and isolated vertices; and that of an overlay, whose curves and faces
+//! also tell of its two layers.
 //!
 //! The format is this project's; the names are those of the field (CGAL manual, 2D Arrangements). Vertices are numbered from
 //! 1 in the order of their points, faces from 0 by rank.
@@ -11,5 +12,6 @@ mod put;
 mod rounds;
 mod vertices;
 mod whole;
+mod words;
 
-pub use whole::text;
+pub use whole::{overlay_text, text};

@@ -25,6 +25,20 @@ pub(crate) fn put_number<I: Integer>(out: &mut Vec<u8>, number: I) -> Result<(),
     put_text(out, digits.format(number))
 }
 
+// Puts a space, and a number after a letter.
+pub(crate) fn put_lettered<I: Integer>(
+    out: &mut Vec<u8>,
+    letter: &str,
+    number: I,
+) -> Result<(), NoMemory>
+    ensures { OnOk result (out.new.items ≡ out.old.items ++ word (letter.now ++ I.text number)) }
+{
+    let mut digits = Buffer::new();
+    put_text(out, " ")?;
+    put_text(out, letter)?;
+    put_text(out, digits.format(number))
+}
+
 // Puts the three numbers of a point.
 pub(crate) fn put_point(out: &mut Vec<u8>, point: &Point) -> Result<(), NoMemory>
     ensures { OnOk result (out.new.items ≡ out.old.items ++ triple point.now) }

@@ -4,14 +4,16 @@ ghost use Rattle.slab_laws.specs.FacesSound.{IsSound};
 ghost use Rattle.sound_views.specs.Orders.{dart_order};
 ghost use Rattle.record_orders.specs.Keys.{vertex_keys, dart_keys};
 ghost use Rattle.record_orders.specs.CycleKeys.{cycle_keys, ranked_faces};
-ghost use Rattle.arr_text.specs.Reading.{text_in, title};
+ghost use Rattle.arr_text.specs.Reading.{text_in, text_with, overlay_text_in, title};
 
 use crate::edges::put_edges;
 use crate::faces::put_faces;
 use crate::put::{put_number, put_text};
 use crate::vertices::put_vertices;
+use crate::words::{Coloured, Plain, Words};
 use exact_plane::Point;
 use no_memory::NoMemory;
+use overlay_laws::Layered;
 use record_orders::{
     CycleKey, DartKey, Ranks, VertexKey, cycles_of, darts_in_order, ranks_of, vertices_in_order,
 };
@@ -30,11 +32,17 @@ fn names_of(alloc: Global, darts: &[DartKey]) -> Result<Vec<DartId>, AllocError>
     darts.iter().map(|dart| dart.name).collect(alloc)
 }
 
-// Puts the first line: how many vertices, edges and faces there are.
-fn put_title(out: &mut Vec<u8>, vertices: usize, edges: usize, faces: usize) -> Result<(), NoMemory>
-    ensures { OnOk result (out.new.items ≡ out.old.items ++ title vertices edges faces) }
+// Puts the first line, after its first word: how many vertices, edges and faces there are.
+fn put_title(
+    out: &mut Vec<u8>,
+    word: &str,
+    vertices: usize,
+    edges: usize,
+    faces: usize,
+) -> Result<(), NoMemory>
+    ensures { OnOk result (out.new.items ≡ out.old.items ++ title word.now vertices edges faces) }
 {
-    put_text(out, "arrangement")?;
+    put_text(out, word)?;
     put_number(out, vertices)?;
     put_number(out, edges)?;
     put_number(out, faces)?;
@@ -42,7 +50,7 @@ fn put_title(out: &mut Vec<u8>, vertices: usize, edges: usize, faces: usize) -> 
 }
 
 // Puts all lines of a text.
-fn put_lines<R: Curved + Faced>(
+fn put_lines<R: Faced, W: Words<R>>(
     alloc: Global,
     out: &mut Vec<u8>,
     records: &R,
@@ -58,12 +66,19 @@ fn put_lines<R: Curved + Faced>(
     requires darts { darts.now ≡ dart_keys (R.graph records.now) }
     requires cycles { cycles.now ≡ cycle_keys (R.faces records.now) (dart_order (R.graph records.now)) }
     requires ranks { ranks.now ≡ ranked_faces (R.faces records.now) cycles.now }
-    ensures { OnOk result (out.new.items ≡ out.old.items ++ text_in (R.graph records.now) (R.curve_list records.now)) }
+    ensures { OnOk result (out.new.items ≡ out.old.items
+        ++ text_with W.title (R.graph records.now) (R.faces records.now) (W.curves records.now) (W.labels records.now)) }
 {
-    put_title(out, vertices.len(), darts.len() / 2, ranks.len())?;
+    put_title(
+        out,
+        W::title(),
+        vertices.len(),
+        darts.len() / 2,
+        ranks.len(),
+    )?;
     put_vertices(out, records, points, vertices, darts)?;
-    put_edges(alloc, out, records, points, darts)?;
-    put_faces(
+    put_edges::<R, W>(alloc, out, records, points, darts)?;
+    put_faces::<R, W>(
         alloc,
         out,
         records,
@@ -74,6 +89,25 @@ fn put_lines<R: Curved + Faced>(
         darts.len(),
     )?;
     put_text(out, "end\n")
+}
+
+// The text of what is read by name, by its words.
+fn text_by<R: Faced, W: Words<R>>(alloc: Global, records: &R) -> Result<Vec<u8>, NoMemory>
+    requires { IsSound (R.graph records.now) (R.faces records.now) }
+    ensures { IfOk result (λ bytes. bytes.items
+        ≡ text_with W.title (R.graph records.now) (R.faces records.now) (W.curves records.now) (W.labels records.now)) }
+{
+    let vertices = vertices_in_order(alloc, records)?;
+    let points = points_of(alloc, &vertices)?;
+    let darts = darts_in_order(alloc, records)?;
+    let names = names_of(alloc, &darts)?;
+    let cycles = cycles_of(alloc, records, &names)?;
+    let ranks = ranks_of(alloc, records, &cycles)?;
+    let mut out = Vec::new(alloc);
+    put_lines::<R, W>(
+        alloc, &mut out, records, &points, &vertices, &darts, &cycles, &ranks,
+    )?;
+    Ok(out)
 }
 
 /// The text of a subdivision that is read by name.
@@ -90,15 +124,22 @@ pub fn text<R: Curved + Faced>(alloc: Global, records: &R) -> Result<Vec<u8>, No
     requires { IsSound (R.graph records.now) (R.faces records.now) }
     ensures { IfOk result (λ bytes. bytes.items ≡ text_in (R.graph records.now) (R.curve_list records.now)) }
 {
-    let vertices = vertices_in_order(alloc, records)?;
-    let points = points_of(alloc, &vertices)?;
-    let darts = darts_in_order(alloc, records)?;
-    let names = names_of(alloc, &darts)?;
-    let cycles = cycles_of(alloc, records, &names)?;
-    let ranks = ranks_of(alloc, records, &cycles)?;
-    let mut out = Vec::new(alloc);
-    put_lines(
-        alloc, &mut out, records, &points, &vertices, &darts, &cycles, &ranks,
-    )?;
-    Ok(out)
+    text_by::<R, Plain>(alloc, records)
+}
+
+/// The text of an overlay of two layers, red and blue, that is read by name.
+///
+/// It is as [`text`] but for three things: the first word is `overlay`; of an edge's curves each red one is `r` and its
+/// number, each blue one `b` and its number, red before blue, each colour ascending; the line of a face is `f k r b`, with
+/// the ranks of the red face and of the blue face that hold it.
+///
+/// # Errors
+///
+/// There was no memory for the text or for a table on the way.
+pub fn overlay_text<R: Layered>(alloc: Global, records: &R) -> Result<Vec<u8>, NoMemory>
+    requires { IsSound (R.graph records.now) (R.faces records.now) }
+    ensures { IfOk result (λ bytes. bytes.items
+        ≡ overlay_text_in (R.graph records.now) (R.faces records.now) (R.red records.now) (R.blue records.now)) }
+{
+    text_by::<R, Coloured>(alloc, records)
 }

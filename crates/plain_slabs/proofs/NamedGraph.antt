@@ -82,7 +82,7 @@ module _ (v : View) (s : IsGraphSound v) where
       (in_map (λ (k : VertexKey). k.point) (vertex_key v w.0) (pinned_among v (vertex_keys v))
       (in_filter (λ (k : VertexKey). pinned_in v k.name) (vertex_key v w.0) (vertex_keys v) (in_map (vertex_key v) w.0 (vertex_order v) (vertex_ordered v s w.0 w.1.has)) w.2))
 
-  pins_are : (h : Curves) → pins ≡ (drawn_graph v h).pins
+  pub pins_are : (h : Curves) → pins ≡ (drawn_graph v h).pins
   pins_are h = ascending_unique point_cmp point_cmp_total pins (drawn_graph v h).pins pins_ascend (graph_pins_ascend v h) (pin_there h) (pin_back h)
 
 -- ---- the curves of forward darts alone, which make the same graph

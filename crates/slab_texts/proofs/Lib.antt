@@ -3,3 +3,4 @@ pub mod TextOrders
 pub mod TextWords
 pub mod TextPins
 pub mod GraphTexts
+pub mod OverlayTexts
