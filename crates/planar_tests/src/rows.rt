@@ -1,5 +1,5 @@
 // Scripts with the replies that are stated for them: what the definitions give, worked out by hand and by another program.
-pub const ROWS: [(&str, &str); 17] = [
+pub const ROWS: [(&str, &str); 21] = [
     // One segment.
     (
         "segment 0 0 4 0\nshow\n",
@@ -84,5 +84,25 @@ pub const ROWS: [(&str, &str); 17] = [
     (
         "layer\nlayer green\nlayer red blue\nlayer Red\nlayer 1\nlayer red\nlayer blue \n  layer   red\nlayers red\n# layer blue\ncount\n",
         "refused 2\nrefused 1\nrefused 2\nrefused 1\nrefused 1\nok\nok\nok\nrefused 1\ncounts 0 0 1 0 0 0\n",
+    ),
+    // Nothing in either layer.
+    (
+        "overlay\nlayer blue\noverlay\n",
+        "overlay 0 0 1\nf 0 0 0\nend\nok\noverlay 0 0 1\nf 0 0 0\nend\n",
+    ),
+    // A red square and a blue one that touches it.
+    (
+        "segment 0 0 4 0\nsegment 4 0 4 4\nsegment 4 4 0 4\nsegment 0 4 0 0\nlayer blue\nsegment 4 1 7 1\nsegment 7 1 7 3\nsegment 7 3 4 3\nsegment 4 3 4 1\noverlay\n",
+        "ok 1\nok 2\nok 3\nok 4\nok\nok 1\nok 2\nok 3\nok 4\noverlay 8 9 3\nv 1 0 0 1 : 2 3\nv 2 0 4 1 : 1 6\nv 3 4 0 1 : 1 4\nv 4 4 1 1 : 3 5 7\nv 5 4 3 1 : 4 6 8\nv 6 4 4 1 : 2 5\nv 7 7 1 1 : 4 8\nv 8 7 3 1 : 5 7\ne 1 2 : r4\ne 1 3 : r1\ne 2 6 : r3\ne 3 4 : r2\ne 4 5 : r2 b4\ne 4 7 : b1\ne 5 6 : r2\ne 5 8 : b3\ne 7 8 : b2\nf 0 0 0\nh 1 2 6 5 8 7 4 3\nf 1 1 0\no 1 3 4 5 6 2\nf 2 0 1\no 4 7 8 5\nend\n",
+    ),
+    // A red square within a blue one: the face between them has no red edge outside, and the inner one no blue edge at all.
+    (
+        "segment 1 1 2 1\nsegment 2 1 2 2\nsegment 2 2 1 2\nsegment 1 2 1 1\nlayer blue\nsegment 0 0 4 0\nsegment 4 0 4 4\nsegment 4 4 0 4\nsegment 0 4 0 0\noverlay\nlayer red\noverlay\n",
+        "ok 1\nok 2\nok 3\nok 4\nok\nok 1\nok 2\nok 3\nok 4\noverlay 8 8 3\nv 1 0 0 1 : 2 7\nv 2 0 4 1 : 1 8\nv 3 1 1 1 : 4 5\nv 4 1 2 1 : 3 6\nv 5 2 1 1 : 3 6\nv 6 2 2 1 : 4 5\nv 7 4 0 1 : 1 8\nv 8 4 4 1 : 2 7\ne 1 2 : b4\ne 1 7 : b1\ne 2 8 : b3\ne 3 4 : r4\ne 3 5 : r1\ne 4 6 : r3\ne 5 6 : r2\ne 7 8 : b2\nf 0 0 0\nh 1 2 8 7\nf 1 0 1\no 1 7 8 2\nh 3 4 6 5\nf 2 1 1\no 3 5 6 4\nend\nok\noverlay 8 8 3\nv 1 0 0 1 : 2 7\nv 2 0 4 1 : 1 8\nv 3 1 1 1 : 4 5\nv 4 1 2 1 : 3 6\nv 5 2 1 1 : 3 6\nv 6 2 2 1 : 4 5\nv 7 4 0 1 : 1 8\nv 8 4 4 1 : 2 7\ne 1 2 : b4\ne 1 7 : b1\ne 2 8 : b3\ne 3 4 : r4\ne 3 5 : r1\ne 4 6 : r3\ne 5 6 : r2\ne 7 8 : b2\nf 0 0 0\nh 1 2 8 7\nf 1 0 1\no 1 7 8 2\nh 3 4 6 5\nf 2 1 1\no 3 5 6 4\nend\n",
+    ),
+    // Edges that both layers share, and pins of one, of the other and of both.
+    (
+        "segment 0 0 2 0\npin 0 1 1\npin 1 1 1\nlayer blue\nsegment 1 0 3 0\nsegment 0 0 0 1\npin 1 1 1\npin 5 1 2\noverlay\noverlay 1\n",
+        "ok 1\nok\nok\nok\nok 1\nok 2\nok\nok\noverlay 7 4 1\nv 1 0 0 1 : 2 3\nv 2 0 1 1 pin : 1\nv 3 1 0 1 : 1 5\nv 4 1 1 1 pin :\nv 5 2 0 1 : 3 7\nv 6 5 1 2 pin :\nv 7 3 0 1 : 5\ne 1 2 : b2\ne 1 3 : r1\ne 3 5 : r1 b1\ne 5 7 : b1\nf 0 0 0\nh 1 2 1 3 5 7 5 3\np 4\np 6\nend\nrefused 2\n",
     ),
 ];
