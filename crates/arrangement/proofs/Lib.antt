@@ -3,3 +3,4 @@ pub mod Edits
 pub mod Watched
 pub mod Ends
 mod Located
+pub mod PresentsRead

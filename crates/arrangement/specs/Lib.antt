@@ -3,3 +3,4 @@ pub mod Arranged
 pub mod Edited
 pub mod Answers
 pub mod Questions
+pub mod Overlays

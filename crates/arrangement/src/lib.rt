@@ -7,6 +7,9 @@ mod edges;
 mod layer_records;
 mod limits;
 mod observers;
+mod overlaid;
+mod overlays;
+mod presents;
 mod questions;
 mod spots;
 
@@ -17,6 +20,8 @@ pub use exact_plane::{Point, Segment};
 pub use limits::{Limits, MAX_CURVES, MAX_PIECES, MAX_PINS};
 pub use no_memory::NoMemory;
 pub use observer_bus::{AttachError, Bus, NoSeat, ReportError, SEATS, Seat, Went};
+pub use overlaid::Overlay;
+pub use overlays::overlay;
 pub use pin_points::{MergeError, NotPinned, PinError, SplitError};
 pub use questions::{Counts, EdgeError};
 pub use segment_insert::InsertError;

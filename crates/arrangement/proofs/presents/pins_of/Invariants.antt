@@ -1,0 +1,6 @@
+use Rattle.std.proofs.Common.{◌≡◌, take}
+use Rattle.plain_slabs.specs.ByName.{points_at, pinned_among}
+use Rattle.arrangement.proofs.presents.pins_of.Given as goal
+
+abbrev pub invariant-loop-vertex : goal.invariant-loop-vertex
+invariant-loop-vertex l = l.pins ≡ points_at (pinned_among l.records.graph (take l.vertex-index l.vertices))
