@@ -27,12 +27,12 @@ impl World {
     pub fn overlay_text(&self) -> Result<Vec<u8>, NoMemory>
         ensures { IfOk result (λ bytes. bytes.items ≡ presents_text (red_of (world_row tells held left heard self.now)).layer.present (blue_of (world_row tells held left heard self.now)).layer.present) }
     {
-        let (red, blue) = if self.is_blue {
-            (&self.other, &self.arrangement)
+        let both = if self.is_blue {
+            overlay(self.alloc, &self.other, &self.arrangement)?
         } else {
-            (&self.arrangement, &self.other)
+            overlay(self.alloc, &self.arrangement, &self.other)?
         };
-        overlay(self.alloc, red, blue)?.text()
+        both.text()
     }
 }
 
