@@ -204,11 +204,10 @@ pub fn segment(line: &[u8]) -> Result<Command, LineError>
 pub fn layer(line: &[u8]) -> Result<Command, LineError>
     ensures { result ≡ forms_reading layer_forms (words line.now) }
 {
-    match only_word(line) {
-        None => Err(LineError::Count),
-        Some(b"red") => Ok(Command::LayerRed),
-        Some(b"blue") => Ok(Command::LayerBlue),
-        Some(_) => Err(LineError::Word),
+    match only_word(line).ok_or(LineError::Count)? {
+        b"red" => Ok(Command::LayerRed),
+        b"blue" => Ok(Command::LayerBlue),
+        _ => Err(LineError::Word),
     }
 }
 
