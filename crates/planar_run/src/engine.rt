@@ -38,10 +38,13 @@ impl Engine {
         ensures begun { IfOk result (λ e. e.line ≡ []) }
         ensures kept { IfOk result (λ e. IsKeptWorld tells held left heard e.world) }
     {
+        // The world is made last: where it is let go, it is proved anew that all of it may go.
+        let line = Line::new(alloc)?;
+        let reply = Reply::new(alloc)?;
         Ok(Engine {
             world: World::new(alloc, strategy, observers)?,
-            line: Line::new(alloc)?,
-            reply: Reply::new(alloc)?,
+            line,
+            reply,
         })
     }
 

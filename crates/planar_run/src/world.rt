@@ -50,11 +50,12 @@ impl World {
     {
         let red = Bus::new(alloc, Vec::with_capacity(alloc, SEATS)?)?;
         let blue = Bus::new(alloc, Vec::with_capacity(alloc, SEATS)?)?;
+        let observers = all_waiting(alloc, observers)?;
         Ok(World {
             arrangement: Arrangement::new(alloc, Limits::FULL, red)?,
             other: Arrangement::new(alloc, Limits::FULL, blue)?,
             is_blue: false,
-            observers: all_waiting(alloc, observers)?,
+            observers,
             alloc,
             strategy,
         })

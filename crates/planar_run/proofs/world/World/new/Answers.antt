@@ -5,7 +5,7 @@ pub returns-clause-first : goal.returns-clause-first
 returns-clause-first g c =
     let red = first_in _ _ c.in_ok-new.ensures.limits c.in_ok-new.ensures.bus c.in_ok-red.ensures.seats c.in_ok-new.ensures.empty in
     let blue = first_in _ _ c.in_ok-new-2.ensures.limits c.in_ok-new-2.ensures.bus c.in_ok-blue.ensures.seats c.in_ok-new-2.ensures.empty in
-    first_built _ c.in_ok-all_waiting.field-0.items c.args.observers.items _ _ red blue c.in_ok-all_waiting.ensures
+    first_built _ c.in_ok-observers.observers.items c.args.observers.items _ _ red blue c.in_ok-observers.ensures
 
 pub returns-clause-kept : goal.returns-clause-kept
 returns-clause-kept g c = record {
