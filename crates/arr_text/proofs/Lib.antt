@@ -5,7 +5,6 @@ pub mod Neighbours
 pub mod Lines
 pub mod FaceBodies
 pub mod FaceNames
-pub mod FaceList
 pub mod FaceLines
 pub mod Assembly
 pub mod Overlays

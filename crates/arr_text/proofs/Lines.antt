@@ -4,8 +4,8 @@ use Rattle.std.specs.Prelude.{OnOk, codes, flat_map, filter, zip}
 use Rattle.std.specs.List.{list_any, position_or_len}
 use Rattle.exact_plane.specs.Point.{Point}
 use Rattle.std.specs.Ordering.{is_lt}
-use Rattle.std.proofs.lemmas.Grind.{common_steps, flat_map-append}
-use Rattle.std.proofs.lemmas.List.{append-nil}
+use Rattle.std.proofs.lemmas.Grind.{flat_map-append}
+use Rattle.std.proofs.lemmas.List.{append-nil, take_all}
 use Rattle.std.proofs.Math.Seq.{take-suc}
 use Rattle.std.proofs.lemmas.List.Elements.{Contains-get_or}
 use Rattle.exact_plane.specs.PointOrder.{point_cmp}
@@ -70,9 +70,6 @@ vertex_put r v ps p pinned pins s a b c d z e t f g h i j =
     five k n x y q w = simp append_assoc
 
 -- ---- through all vertices
-pub take_all : {X : Type 0} (n : ℕ) (xs : List X) → length xs ≤ n → take n xs ≡ xs
-take_all n xs l = grind (arith, common_steps)
-
 module _ (v : View) where
   pub vertex_item : IsGraphSound v → (ks : List VertexKey) (i : ℕ) (k : VertexKey) → ks ≡ vertex_keys v → i < length ks → k ≡ get_or ks i k → HasVertex v k.name × (k.point ≡ point_in v k.name)
   vertex_item s ks i k e l h =

@@ -14,8 +14,8 @@ use Rattle.slab_laws.specs.Subdivision.{Subdivision, subdivision, rank}
 use Rattle.slab_laws.specs.Text.{Marks, ended, face_lines, number, numbered, text, text_by, vertex_line, edge_line}
 use Rattle.slab_laws.specs.View.{View, Faces, face_id}
 use Rattle.slab_faces.proofs.FacesLemmas.{cells_exact}
-use Rattle.overlay_laws.specs.Layers.{LayerView}
-use Rattle.overlay_laws.specs.OverlayText.{edge_words, face_labels, overlay_text}
+use Rattle.slab_laws.specs.Layers.{LayerView}
+use Rattle.slab_laws.specs.OverlayText.{edge_words, face_labels, overlay_text}
 use Rattle.sound_views.proofs.ListedPlaces.{place_within, from_in}
 use Rattle.arr_text.specs.Reading.{pins_in, forward_darts, curve_words, marks_in, text_in, face_order, labels_by, text_with, numbers_in, layer_words, layer_labels, rows_in, overlay_text_in}
 use Rattle.arr_text.proofs.FaceNames.{faces_counted}

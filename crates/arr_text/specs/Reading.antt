@@ -11,8 +11,8 @@ use Rattle.slab_laws.specs.Subdivision.{subdivision, rank}
 use Rattle.slab_laws.specs.Skeleton.{same_point}
 use Rattle.slab_laws.specs.Text.{Marks, text, text_by, number, triple, ended}
 use Rattle.slab_laws.specs.View.{View, Faces, face_id, point_in, pinned_in}
-use Rattle.overlay_laws.specs.Layers.{LayerRows, LayerView}
-use Rattle.overlay_laws.specs.OverlayText.{edge_words, overlay_text}
+use Rattle.slab_laws.specs.Layers.{LayerRows, LayerView}
+use Rattle.slab_laws.specs.OverlayText.{edge_words, overlay_text}
 use Rattle.sound_views.specs.Orders.{vertex_order, dart_order}
 use Rattle.record_orders.specs.CycleKeys.{cycle_keys, ranked_faces}
 

@@ -1,4 +1,4 @@
-ghost use Rattle.std.specs.Prelude.{◌≡◌, ◌++◌, length, IfOk, OnOk};
+ghost use Rattle.std.specs.Prelude.{◌≡◌, ◌++◌, length, OnOk};
 ghost use Rattle.std.specs.List.{All};
 ghost use Rattle.exact_plane.specs.PointOrder.{point_cmp};
 ghost use Rattle.plane_graphs.specs.Ascending.{IsAscending};
@@ -116,30 +116,6 @@ fn put_isolated<R: Faced>(
     Ok(())
 }
 
-// The faces by rank.
-fn faces_by_rank<R: Faced>(
-    alloc: Global,
-    records: &R,
-    cycles: &[CycleKey],
-    ranks: &Ranks,
-) -> Result<Vec<FaceId>, NoMemory>
-    requires stands { IsSound (R.graph records.now) (R.faces records.now) }
-    requires cycles { cycles.now ≡ cycle_keys (R.faces records.now) (dart_order (R.graph records.now)) }
-    requires ranks { ranks.now ≡ ranked_faces (R.faces records.now) cycles.now }
-    ensures { IfOk result (λ v. v.items ≡ ranks.now) }
-{
-    let mut faces = Vec::new(alloc);
-    if let Some(first) = records.face_after(None) {
-        faces.resize(ranks.len(), first)?;
-    }
-    for cycle in cycles {
-        if cycle.outer {
-            faces[ranks.rank_of(cycle.face)] = cycle.face;
-        }
-    }
-    Ok(faces)
-}
-
 // Puts the first line of a face, with its rank.
 fn put_rank<R: Faced, W: Words<R>>(
     out: &mut Vec<u8>,
@@ -196,7 +172,6 @@ pub(crate) fn put_faces<R: Faced, W: Words<R>>(
     ensures { OnOk result (out.new.items
         ≡ out.old.items ++ faces_text (R.graph records.now) (R.faces records.now) (W.labels records.now)) }
 {
-    let faces = faces_by_rank(alloc, records, cycles, ranks)?;
     let mut bodies = Bodies::new(alloc, ranks.len())?;
     let mut line = Vec::new(alloc);
     put_cycles(
@@ -220,5 +195,5 @@ pub(crate) fn put_faces<R: Faced, W: Words<R>>(
         darts,
     )?;
     put_isolated(&mut bodies, &mut line, records, points, vertices, ranks)?;
-    put_bodies::<R, W>(out, records, &faces, &bodies)
+    put_bodies::<R, W>(out, records, ranks.as_slice(), &bodies)
 }

@@ -13,11 +13,10 @@ use crate::vertices::put_vertices;
 use crate::words::{Coloured, Plain, Words};
 use exact_plane::Point;
 use no_memory::NoMemory;
-use overlay_laws::Layered;
 use record_orders::{
     CycleKey, DartKey, Ranks, VertexKey, cycles_of, darts_in_order, ranks_of, vertices_in_order,
 };
-use slab_laws::{Curved, DartId, Faced};
+use slab_laws::{Curved, DartId, Faced, Layered};
 use std::alloc::{AllocError, Global};
 
 fn points_of(alloc: Global, vertices: &[VertexKey]) -> Result<Vec<Point>, AllocError>

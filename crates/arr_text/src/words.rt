@@ -1,13 +1,12 @@
 ghost use Rattle.std.specs.Prelude.{◌≡◌, ◌++◌, flat_map, map, codes, OnOk};
 ghost use Rattle.slab_laws.specs.Text.{word};
 ghost use Rattle.slab_laws.specs.View.{HasDart, HasFace};
-ghost use Rattle.overlay_laws.specs.OverlayText.{lettered};
+ghost use Rattle.slab_laws.specs.OverlayText.{lettered};
 ghost use Rattle.arr_text.specs.Reading.{curve_words};
 
 use crate::put::{put_lettered, put_number};
 use no_memory::NoMemory;
-use overlay_laws::Layered;
-use slab_laws::{CurveId, Curved, DartId, FaceId, Faced};
+use slab_laws::{CurveId, Curved, DartId, FaceId, Faced, Layered};
 use std::alloc::Global;
 
 /// What differs between the text of a subdivision and that of an overlay.

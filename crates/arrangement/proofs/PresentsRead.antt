@@ -10,9 +10,9 @@ use Rattle.slab_laws.specs.declared.present.Piece.{Piece as PieceInMemory}
 use Rattle.slab_laws.specs.Pieces.{piece_of, present_of}
 use Rattle.slab_laws.specs.View.{View}
 use Rattle.arr_notes.specs.RecordGraph.{drawn_graph}
-use Rattle.overlay_laws.specs.Layers.{rows_of}
-use Rattle.overlay_laws.specs.Overlay.{both, overlay}
-use Rattle.overlay_laws.specs.OverlayText.{presents_text}
+use Rattle.slab_laws.specs.Layers.{rows_of}
+use Rattle.slab_laws.specs.Overlay.{both, overlay}
+use Rattle.slab_laws.specs.OverlayText.{presents_text}
 use Rattle.curve_history.specs.Past.{Past, curves_on}
 use Rattle.record_orders.specs.Keys.{vertex_keys}
 use Rattle.record_layers.specs.RecordLayers.{IsLayer, layer_of}

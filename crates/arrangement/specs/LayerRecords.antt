@@ -3,6 +3,6 @@ use Rattle.slab_laws.specs.View.{View}
 use Rattle.curve_history.specs.Past.{Past}
 
 -- the records by name, and the history (this project)
-pub record LayerView : Type 0 where
+pub record LayerRecordsView : Type 0 where
   pub graph : View
   pub past : Past

@@ -11,9 +11,9 @@ pub(crate) struct LayerRecords {
 
 impl Model for LayerRecords {
     ghost use Rattle.record_layers.specs.RecordLayers.{IsLayer};
-    ghost use Rattle.arrangement.specs.LayerRecords.{LayerView};
+    ghost use Rattle.arrangement.specs.LayerRecords.{LayerRecordsView};
 
-    ghost Value = { LayerView };
+    ghost Value = { LayerRecordsView };
 
     ghost view = { λ l. record { graph = l.records.graph; past = l.history } };
 

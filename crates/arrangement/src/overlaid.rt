@@ -4,9 +4,8 @@ ghost use Rattle.arrangement.specs.Overlays.{text_of};
 use arr_text::overlay_text;
 use exact_plane::{Line, Point};
 use no_memory::NoMemory;
-use overlay_laws::Layered;
 use plain_slabs::Both;
-use slab_laws::{CurveId, CycleId, CycleKind, DartId, Darts, FaceId, Faced, VertexId};
+use slab_laws::{CurveId, CycleId, CycleKind, DartId, Darts, FaceId, Faced, Layered, VertexId};
 use std::alloc::Global;
 use std::marker::Model;
 

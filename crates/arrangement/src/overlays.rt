@@ -1,5 +1,5 @@
 ghost use Rattle.std.specs.Prelude.{◌≡◌, IfOk};
-ghost use Rattle.overlay_laws.specs.OverlayText.{presents_text};
+ghost use Rattle.slab_laws.specs.OverlayText.{presents_text};
 ghost use Rattle.slab_laws.specs.FacesSound.{IsSound};
 ghost use Rattle.plain_slabs.specs.Listed.{subdivision_in, view_of, faces_of};
 ghost use Rattle.arrangement.specs.Arranged.{arranged_of, layer_in};

@@ -25,7 +25,7 @@ use lib.Dec.{ltb, leb}
 use Rattle.slab_faces.proofs.Sums.{each, sum_by-same, sum_by-none}
 use Rattle.slab_faces.proofs.FacesLemmas.{cells_exact, in_its_face, one_label}
 use Rattle.slab_faces.proofs.LocationLemmas.{cells_have_faces}
-use Rattle.overlay_laws.specs.Overlay.{renamed, red_name, blue_name, both, plane_of, runs_along, has_curve_along, cell_in, label}
+use Rattle.slab_laws.specs.Overlay.{renamed, red_name, blue_name, both, plane_of, runs_along, has_curve_along, cell_in, label}
 use Rattle.overlay_laws.specs.OverlayLaws.{empty, IsAlone, EmptyLayerAddsNothing}
 use Rattle.overlay_laws.proofs.Both.{same_along, Origin, from_red, from_blue, origin, pin_out, both_fit}
 use Rattle.overlay_laws.proofs.Counts.{cell_by}

@@ -9,7 +9,7 @@ use Rattle.plane_graphs.specs.Fit.{IsFit, IsFitPiece}
 use Rattle.plane_graphs.specs.Ascending.{Member}
 use Rattle.plane_graphs.proofs.Ascending.{IsAscending-ascending}
 use Rattle.plane_graphs.proofs.Lists.{of_ascending, in_ascending, in_left, in_right, in_either, in_map, of_map}
-use Rattle.overlay_laws.specs.Overlay.{renamed, red_name, blue_name, both}
+use Rattle.slab_laws.specs.Overlay.{renamed, red_name, blue_name, both}
 use Rattle.overlay_laws.specs.OverlayLaws.{OverlayIsFit}
 
 -- ---- a piece with another number

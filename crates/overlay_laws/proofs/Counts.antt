@@ -1,9 +1,9 @@
 -- The cell of a layer at a point, and the cell of the overlay there: one holds the other.
-use Rattle.std.proofs.Common.{◌≡◌, ℕ, ◌<◌, ◌≤◌, Bool, true, false, arith, refl, sym, ap, ◌∙◌, inl, inr}
+use Rattle.std.proofs.Common.{◌≡◌, Bool, true, false, arith, sym, ap, ◌∙◌, inl, inr}
 use Rattle.std.specs.Prelude.{ℤ, pos, ◌+ℤ◌, ◌*ℤ◌, not, ◌&&◌}
 use Rattle.std.specs.List.{Contains, count_by}
 use Rattle.std.proofs.lemmas.Int.{ints}
-use Rattle.std.proofs.lemmas.Bool.{false≢true, and_parts, not-true, not-false, false_from_ne_true, cases_Bool, le-ltb, lt-ltb, le-leb, lt-leb}
+use Rattle.std.proofs.lemmas.Bool.{false≢true, and_parts, not-true, not-false, false_from_ne_true, cases_Bool}
 use lib.Dec.{ltb, leb}
 use lib.IntN.{*ℤ-zero, zero-*ℤ}
 use Rattle.exact_plane.specs.Point.{Point}
@@ -20,7 +20,7 @@ use Rattle.slab_faces.proofs.Ints.{same_sign, zero_back, swapped}
 use Rattle.slab_faces.proofs.Sums.{fewer, fewer_than}
 use Rattle.slab_faces.proofs.Walls.{left_of-irrefl, left_of-asym, left_of-before, left_of-after, run_positive, side-lower, side-upper}
 use Rattle.slab_faces.proofs.Order.{gap_mean, gap-on_e, away_yes, away}
-use Rattle.slab_faces.proofs.Cells.{not_right_trans, IsSideOf, place_over, place_under, on_side}
+use Rattle.slab_faces.proofs.Cells.{leb_by, ltb_by, not_right_trans, IsSideOf, place_over, place_under, on_side}
 use Rattle.slab_faces.proofs.InnerPoints.{before_out}
 use Rattle.overlay_laws.proofs.Laid.{IsWithin}
 
@@ -67,14 +67,6 @@ cell_by own r g c = record {
   place = count_by (λ e. (spans g c.slab e && ltb (place g c.slab e) c.place) && own e) g.edges;
 }
 
-leb_is : (m n : ℕ) (b : Bool) → (b ≡ true → m ≤ n) → (b ≡ false → n < m) → leb m n ≡ b
-leb_is m n true h k = le-leb m n (h refl)
-leb_is m n false h k = lt-leb m n (k refl)
-
-ltb_is : (m n : ℕ) (b : Bool) → (b ≡ true → n ≤ m) → (b ≡ false → m < n) → ltb m n ≡ not b
-ltb_is m n true h k = le-ltb m n (h refl)
-ltb_is m n false h k = lt-ltb m n (k refl)
-
 -- ---- in one skeleton
 module _ (g : Skeleton) (plane : IsPlaneSkeleton g) (t : Point) (T : HasWeight t) (c : Point → Bool) (cut : IsCutAt t c) where
   pub turns : (v w : Point) → HasWeight v → HasWeight w → c v ≡ true → c w ≡ false → left_of v w ≡ true
@@ -87,14 +79,14 @@ module _ (g : Skeleton) (plane : IsPlaneSkeleton g) (t : Point) (T : HasWeight t
   pub slab_cut : (v : Point) → Contains g.vertices v → leb (slab_right g v) (count_by c g.vertices) ≡ c v
   slab_cut v V =
       let P = plane.proper v V in
-      leb_is (slab_right g v) (count_by c g.vertices) (c v)
+      leb_by (slab_right g v) (count_by c g.vertices) (c v)
       (λ h. fewer (λ w. not (left_of v w)) c g.vertices (λ w W k. cut.closed w v (plane.proper w W) P (not-true _ k) h))
       (λ h. fewer_than c (λ w. not (left_of v w)) g.vertices v V h (ap not (left_of-irrefl v)) (λ w W k. ap not (left_of-asym w v (turns w v (plane.proper w W) P k h))))
 
   after_cut : (v : Point) → Contains g.vertices v → ltb (count_by c g.vertices) (slab_right g v) ≡ not (c v)
   after_cut v V =
       let P = plane.proper v V in
-      ltb_is (count_by c g.vertices) (slab_right g v) (c v)
+      ltb_by (count_by c g.vertices) (slab_right g v) (c v)
       (λ h. fewer (λ w. not (left_of v w)) c g.vertices (λ w W k. cut.closed w v (plane.proper w W) P (not-true _ k) h))
       (λ h. fewer_than c (λ w. not (left_of v w)) g.vertices v V h (ap not (left_of-irrefl v)) (λ w W k. ap not (left_of-asym w v (turns w v (plane.proper w W) P k h))))
 
@@ -125,7 +117,7 @@ module _ (g : Skeleton) (plane : IsPlaneSkeleton g) (t : Point) (T : HasWeight t
   pub below_cut : (e : Edge) → Contains g.edges e → (spans g (count_by c g.vertices) e && ltb (place g (count_by c g.vertices) e) (count_by (λ f. reach c f && not (over f t)) g.edges)) ≡ (reach c e && not (over e t))
   below_cut e E =
       on_side _ _ (reach c e) (not (over e t)) (cut_side.spanned e E)
-      (λ h. ltb_is _ _ (over e t) (λ o. place_over g t (count_by c g.vertices) (reach c) e cut_side E h o) (λ o. place_under g t (count_by c g.vertices) (reach c) e plane cut_side E h o))
+      (λ h. ltb_by _ _ (over e t) (λ o. place_over g t (count_by c g.vertices) (reach c) e cut_side E h o) (λ o. place_under g t (count_by c g.vertices) (reach c) e plane cut_side E h o))
 
 -- ---- one edge within another
 module _ (f e : Edge) (fl : IsProper f.low) (fh : IsProper f.high) (el : IsProper e.low) (eh : IsProper e.high) (w : IsWithin f e) (long : left_of e.low e.high ≡ true) where

@@ -1,27 +1,20 @@
 -- The curves of an edge of the overlay, by layers.
-use Rattle.std.proofs.Common.{◌≡◌, ◌≢◌, ℕ, List, [], ◌++◌, map, true, ◌&&◌, refl, sym, ap, ◌∙◌, subst, ⊎_elim, nat_cmp}
+use Rattle.std.proofs.Common.{◌≡◌, ◌≢◌, ℕ, [], ◌++◌, map, true, ◌&&◌, refl, sym, ap, ◌∙◌, subst, ⊎_elim, nat_cmp}
 use Rattle.std.specs.List.{Contains, filter}
 use Rattle.std.proofs.lemmas.Cmp.{nat_cmp_total}
 use Rattle.plane_graphs.specs.Ascending.{ascending, Member}
 use Rattle.plane_graphs.specs.Piece.{Piece, Present}
 use Rattle.plane_graphs.specs.Fit.{IsFit}
 use Rattle.plane_graphs.specs.Graph.{Edge, graph, edges, is_at, curves}
-use Rattle.plane_graphs.proofs.Ascending.{ascending_unique, IsAscending-ascending, to_member}
-use Rattle.plane_graphs.proofs.Edges.{curves_of_edge}
+use Rattle.plane_graphs.proofs.Ascending.{to_member}
+use Rattle.plane_graphs.proofs.Edges.{curves_of_edge, same_list}
 use Rattle.plane_graphs.proofs.Lists.{and_in, any_in, any_out, in_map, of_map, in_filter, of_filter, of_ascending, in_ascending, in_left, in_right, in_either, some_of}
 use Rattle.plane_graphs.proofs.Meaning.{edge_out}
 use Rattle.plane_graphs.proofs.Order.{same_in}
 use Rattle.integers.proofs.Tests.{nat_exact}
-use Rattle.overlay_laws.specs.Overlay.{renamed, red_name, blue_name, both, plane_of, runs_along, curves_along, has_curve_along}
+use Rattle.slab_laws.specs.Overlay.{renamed, red_name, blue_name, both, plane_of, runs_along, curves_along, has_curve_along}
 use Rattle.overlay_laws.specs.OverlayLaws.{CurvesOfBoth}
 use Rattle.overlay_laws.proofs.Both.{same_on, Origin, from_red, from_blue, origin, red_in, blue_in, both_fit}
-
--- ---- lists with the same elements
-same_elements : (ms ns : List ℕ) → ((c : ℕ) → Member c ms → Member c ns) → ((c : ℕ) → Member c ns → Member c ms) → ascending nat_cmp ms ≡ ascending nat_cmp ns
-same_elements ms ns f g =
-    ascending_unique nat_cmp nat_cmp_total (ascending nat_cmp ms) (ascending nat_cmp ns) (IsAscending-ascending nat_cmp nat_cmp_total ms) (IsAscending-ascending nat_cmp nat_cmp_total ns)
-    (λ c h. in_ascending nat_cmp nat_cmp_total nat_exact c ns (f c (of_ascending nat_cmp nat_cmp_total nat_exact c ms h)))
-    (λ c h. in_ascending nat_cmp nat_cmp_total nat_exact c ms (g c (of_ascending nat_cmp nat_cmp_total nat_exact c ns h)))
 
 -- ---- a layer's curves along an edge are those of its pieces that run along it
 pub record IsCurveAlong (layer : Present) (e : Edge) (c : ℕ) : Type 0 where
@@ -81,7 +74,7 @@ module _ (red blue : Present) (e : Edge) where
       let low : w.0.low ≡ e.low = ap (λ (d : Edge). d.low) (sym w.2) in
       let high : w.0.high ≡ e.high = ap (λ (d : Edge). d.high) (sym w.2) in
       curves_of_edge (both red blue) e.low e.high (both_fit red blue fr fb) (any_in (is_at e.low e.high) w.0 g.marks w.1 (and_in (same_in w.0.low e.low low) (same_in w.0.high e.high high)))
-      ∙ same_elements (map (λ k. k.curve) (filter (runs_along e) (both red blue).pieces)) (map red_name (curves_along red e) ++ map blue_name (curves_along blue e))
+      ∙ same_list (map (λ k. k.curve) (filter (runs_along e) (both red blue).pieces)) (map red_name (curves_along red e) ++ map blue_name (curves_along blue e))
       (λ c i. let d = listed_out (both red blue) e c i in to_layers c d (origin red blue d.piece d.here))
       (λ c i. listed_in (both red blue) e c (from_layers c i))
 

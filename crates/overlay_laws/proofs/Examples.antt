@@ -2,7 +2,7 @@
 use Rattle.std.proofs.Common.{◌≡◌, ℕ, List, [], ◌∷◌, map, pos, negsuc, refl}
 use Rattle.plane_graphs.specs.Piece.{Present}
 use Rattle.slab_laws.proofs.Examples.{opened, at, piece}
-use Rattle.overlay_laws.specs.Overlay.{overlay_skeleton, overlay, curves_along, has_curve_along, cell_in, label}
+use Rattle.slab_laws.specs.Overlay.{overlay_skeleton, overlay, curves_along, has_curve_along, cell_in, label}
 
 -- the labels of a layer, by the ranks of the overlay's faces
 abbrev labels : Present → Present → Present → List ℕ

@@ -11,7 +11,7 @@ use Rattle.slab_laws.specs.Faces.{face_labels, face_of}
 use Rattle.slab_laws.specs.Subdivision.{subdivision, rank}
 use Rattle.slab_faces.proofs.PlaneGraphs.{graph_is_plane_skeleton}
 use Rattle.slab_faces.proofs.FacesLemmas.{one_label}
-use Rattle.overlay_laws.specs.Overlay.{both, plane_of, has_curve_along, cell_in, label}
+use Rattle.slab_laws.specs.Overlay.{both, plane_of, has_curve_along, cell_in, label}
 use Rattle.overlay_laws.specs.OverlayLaws.{HasConstantLabels, LabelsAreConstant}
 use Rattle.overlay_laws.proofs.Both.{both_fit}
 use Rattle.overlay_laws.proofs.Counts.{cell_by}

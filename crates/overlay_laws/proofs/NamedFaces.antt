@@ -10,7 +10,7 @@ use Rattle.slab_laws.specs.Subdivision.{subdivision}
 use Rattle.slab_faces.proofs.Member.{member_in, in_member}
 use Rattle.slab_faces.proofs.FacesLemmas.{in_its_face}
 use Rattle.slab_faces.proofs.LocationLemmas.{cells_have_faces}
-use Rattle.overlay_laws.specs.Overlay.{both, plane_of, has_curve_along, cell_in, label}
+use Rattle.slab_laws.specs.Overlay.{both, plane_of, has_curve_along, cell_in, label}
 use Rattle.overlay_laws.specs.OverlayLaws.{HasNamedFaces, LabelsNameFaces}
 use Rattle.overlay_laws.proofs.Both.{both_fit}
 use Rattle.overlay_laws.proofs.Parts.{IsLayerOf, red_layer, blue_layer, layer_laid}

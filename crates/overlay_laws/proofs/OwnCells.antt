@@ -3,7 +3,6 @@ use Rattle.std.proofs.Common.{◌≡◌, ℕ, ◌+◌, ◌≤◌, Bool, true, fa
 use Rattle.std.specs.Prelude.{not, ◌&&◌, ◌==◌, filter, Some}
 use Rattle.std.specs.List.{Contains, count_by, sum_by, position_or_len, slice_get}
 use Rattle.std.proofs.lemmas.Bool.{false≢true, and_parts, and_from, false_from_ne_true, eqb-true, ltb-true, leb-true, eq-eqb}
-use Rattle.std.proofs.lemmas.Bool.Decides.{nat_tests}
 use Rattle.std.proofs.lemmas.List.Sums.{sum_by-cons}
 use Rattle.std.proofs.lemmas.Option.{slice_get_within, get_or_from_slice_get}
 use lib.Dec.{ltb, leb}
@@ -29,15 +28,11 @@ use Rattle.slab_faces.proofs.WallsLemmas.{wall_vertex}
 use Rattle.slab_faces.proofs.ListedCells.{cell_out, first_listed, dart_cell}
 use Rattle.slab_faces.proofs.DartOrder.{dart_cmp_total}
 use Rattle.slab_faces.proofs.NextLemmas.{dart_out}
-use Rattle.slab_faces.proofs.EveryFace.{edge_at, none_counted, passing, first_width}
+use Rattle.slab_faces.proofs.EveryFace.{place_step, edge_at, none_counted, passing, first_width}
 use Rattle.overlay_laws.proofs.Pairs.{only_counted}
 use Rattle.overlay_laws.proofs.Counts.{right_cut, cell_by, slab_cut}
 
 -- ---- places are counts
-place_step : (s : Bool) (p j : ℕ) → cond {A = ℕ} (s && ltb p (suc j)) 1 0 ≡ cond (s && ltb p j) 1 0 + cond (s && (p == j)) 1 0
-place_step true p j = grind (arith, nat_tests)
-place_step false p j = refl
-
 module _ (g : Skeleton) (plane : IsPlaneSkeleton g) where
   below_none : (i : ℕ) → count_by (λ e. spans g i e && ltb (place g i e) 0) g.edges ≡ 0
   below_none i =

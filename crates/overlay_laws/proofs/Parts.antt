@@ -18,7 +18,7 @@ use Rattle.plane_graphs.proofs.Vertices.{vertices_closed}
 use Rattle.plane_graphs.proofs.Lines.{geometry}
 use Rattle.plane_graphs.proofs.Meaning.{vertices_are, edge_out, edge_in}
 use Rattle.integers.proofs.Tests.{not_true}
-use Rattle.overlay_laws.specs.Overlay.{renamed, red_name, blue_name, both, plane_of, runs_along, has_curve_along}
+use Rattle.slab_laws.specs.Overlay.{renamed, red_name, blue_name, both, plane_of, runs_along, has_curve_along}
 use Rattle.overlay_laws.proofs.Both.{same_along, same_on, red_in, blue_in, pin_in}
 use Rattle.overlay_laws.proofs.Laid.{IsCutPart, IsPartOf, IsLaid}
 

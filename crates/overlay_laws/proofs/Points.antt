@@ -28,7 +28,7 @@ use Rattle.slab_faces.proofs.Located.{location_is_one}
 use Rattle.slab_faces.proofs.LocationLemmas.{location_is}
 use Rattle.slab_faces.proofs.FaceOfPoint.{face_is_the_cells}
 use Rattle.slab_faces.proofs.FacesLemmas.{in_its_face, one_label}
-use Rattle.overlay_laws.specs.Overlay.{both, plane_of, has_curve_along, cell_in}
+use Rattle.slab_laws.specs.Overlay.{both, plane_of, has_curve_along, cell_in}
 use Rattle.overlay_laws.specs.OverlayLaws.{LieInLabels, FacesLieInFaces}
 use Rattle.overlay_laws.proofs.Both.{both_fit}
 use Rattle.overlay_laws.proofs.Laid.{IsLaid}

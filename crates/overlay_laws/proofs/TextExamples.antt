@@ -2,10 +2,10 @@
 use Rattle.std.proofs.Common.{◌≡◌, [], ◌∷◌, codes, pos, refl}
 use Rattle.plane_graphs.specs.Piece.{Present}
 use Rattle.slab_laws.proofs.Examples.{opened, at, piece}
-use Rattle.overlay_laws.specs.Overlay.{curves_along, has_curve_along, cell_in, label}
+use Rattle.slab_laws.specs.Overlay.{curves_along, has_curve_along, cell_in, label}
 use Rattle.overlay_laws.specs.OverlayLaws.{empty}
-use Rattle.overlay_laws.specs.Layers.{rows_of}
-use Rattle.overlay_laws.specs.OverlayText.{overlay_text, presents_text}
+use Rattle.slab_laws.specs.Layers.{rows_of}
+use Rattle.slab_laws.specs.OverlayText.{overlay_text, presents_text}
 
 empty-text : presents_text empty empty ≡ codes "overlay 0 0 1\nf 0 0 0\nend\n"
 unfolding opened curves_along has_curve_along cell_in label rows_of overlay_text presents_text

@@ -1,5 +1,1 @@
-pub mod Overlay
 pub mod OverlayLaws
-pub mod Layers
-pub mod OverlayText
-pub mod TriangleLayers

@@ -13,7 +13,7 @@ use Rattle.slab_laws.specs.declared.cell.Cell.TheVariants.{Face}
 use Rattle.slab_laws.specs.Meets.{SameFace}
 use Rattle.slab_laws.specs.Faces.{cells}
 use Rattle.slab_laws.specs.Subdivision.{subdivision, holds}
-use Rattle.overlay_laws.specs.Overlay.{red_name, blue_name, both, plane_of, overlay_skeleton, curves_along, has_curve_along, cell_in, label}
+use Rattle.slab_laws.specs.Overlay.{red_name, blue_name, both, plane_of, overlay_skeleton, curves_along, has_curve_along, cell_in, label}
 
 -- both layers together are fit where each is
 abbrev pub OverlayIsFit : Type 0

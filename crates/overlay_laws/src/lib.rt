@@ -1,16 +1,12 @@
-//! The overlay of two layers, red and blue: the subdivision of the plane by the pieces and pins of both (CGAL manual,
-//! `overlay`), each of its faces with the rank of the red face and of the blue face that hold it.
+//! What holds of each layer in the overlay of two, red and blue: that both are a fit present together, whose curves its edges
+//! keep, and that the labels of a face are the ranks of the faces that hold it (CGAL manual, `overlay`).
 //!
-//! `specs/` has the definitions. A cell of the overlay lies in one cell of each layer, which is found by counting: the
-//! layer's vertices up to the cell's slab, and the edges below it that have a curve of the layer. Each function here is a
-//! law of them, which its contract states and its body, being empty, does not compute.
+//! The definitions are those of `slab_laws`. A cell of the overlay lies in one cell of each layer, which is found by
+//! counting: the layer's vertices up to the cell's slab, and the edges below it that have a curve of the layer. Each
+//! function here is a law of them, which its contract states and its body, being empty, does not compute.
 #![tactic(auto)]
 
-mod layered;
-
 ghost use Rattle.overlay_laws.specs.OverlayLaws.{OverlayIsFit, CurvesOfBoth, LabelsAreConstant, LabelsNameFaces, FacesLieInFaces, EmptyLayerAddsNothing};
-
-pub use layered::Layered;
 
 /// Both layers together are fit where each is, so every law of graphs and faces holds for the overlay.
 pub fn overlay_is_fit()

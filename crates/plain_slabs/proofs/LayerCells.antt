@@ -16,7 +16,7 @@ use Rattle.slab_faces.proofs.Shift.{sum_by-map}
 use Rattle.slab_cells.specs.PlaceTables.{reach_in, table}
 use Rattle.slab_cells.proofs.Reached.{none_vertical}
 use Rattle.slab_cells.proofs.Counts.{count_filtered}
-use Rattle.overlay_laws.specs.Overlay.{plane_of, has_curve_along, cell_in}
+use Rattle.slab_laws.specs.Overlay.{plane_of, has_curve_along, cell_in}
 use Rattle.plain_slabs.specs.declared.layer_cells.LayerEdge.{LayerEdge}
 use Rattle.plain_slabs.specs.LayerTables.{slab_beside, layer_edge, is_across, AreSlanted, AreSlantedAcross, count_below, count_layer, cell_among}
 

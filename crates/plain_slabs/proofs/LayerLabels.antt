@@ -11,8 +11,8 @@ use Rattle.slab_laws.specs.SpansDrawn.{edge_of, drawn}
 use Rattle.slab_laws.specs.Skeleton.{Skeleton, IsPlaneSkeleton}
 use Rattle.slab_laws.specs.Faces.{same_cell}
 use Rattle.slab_laws.specs.Subdivision.{Subdivision, subdivision, rank}
-use Rattle.overlay_laws.specs.Overlay.{plane_of, label, curves_along}
-use Rattle.overlay_laws.specs.Layers.{LayerRows, rows_of}
+use Rattle.slab_laws.specs.Overlay.{plane_of, label, curves_along}
+use Rattle.slab_laws.specs.Layers.{LayerRows, rows_of}
 use Rattle.plain_slabs.specs.declared.layer_cells.LayerEdge.{LayerEdge}
 use Rattle.plain_slabs.specs.declared.plain.Plain.TheInside.{Inside}
 use Rattle.plain_slabs.specs.LayerTables.{slab_beside, layer_edge, cell_among, rank_in}

@@ -15,7 +15,7 @@ use Rattle.slab_laws.specs.declared.names.CurveId.{CurveId}
 use Rattle.slab_laws.specs.declared.present.Piece.{Piece as PieceInMemory}
 use Rattle.slab_laws.specs.declared.present.Present.{Present as PresentInMemory}
 use Rattle.slab_laws.specs.Pieces.{piece_of, present_of}
-use Rattle.overlay_laws.specs.Overlay.{runs_along, curves_along, has_curve_along}
+use Rattle.slab_laws.specs.Overlay.{runs_along, curves_along, has_curve_along}
 use Rattle.plain_slabs.specs.LayerTables.{numbers_in, numbers_along}
 
 -- ---- to run along an edge is to hold both its ends

@@ -5,7 +5,7 @@ use Rattle.plane_graphs.specs.Piece.{Piece}
 use Rattle.slab_laws.specs.declared.names.CurveId.{CurveId}
 use Rattle.slab_laws.specs.declared.present.Piece.{Piece as PieceInMemory}
 use Rattle.slab_laws.specs.Pieces.{piece_of}
-use Rattle.overlay_laws.specs.Overlay.{renamed}
+use Rattle.slab_laws.specs.Overlay.{renamed}
 use Rattle.plain_slabs.specs.United.{numbered_from}
 
 -- lists one after the other

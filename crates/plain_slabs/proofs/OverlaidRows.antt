@@ -20,8 +20,8 @@ use Rattle.slab_laws.specs.View.{HasFace, twin_in, curve_id}
 use Rattle.slab_faces.proofs.Member.{in_member}
 use Rattle.slab_faces.proofs.Searches.{range_below}
 use Rattle.arr_notes.proofs.Names.{numbers_of}
-use Rattle.overlay_laws.specs.Overlay.{curves_along, runs_along, label}
-use Rattle.overlay_laws.specs.Layers.{LayerRows, rows_of}
+use Rattle.slab_laws.specs.Overlay.{curves_along, runs_along, label}
+use Rattle.slab_laws.specs.Layers.{LayerRows, rows_of}
 use Rattle.plain_slabs.specs.Listed.{Drawing, skeleton_in, subdivision_in, view_of, faces_of}
 use Rattle.plain_slabs.specs.LayerTables.{numbers_in}
 use Rattle.plain_slabs.proofs.Numbers.{face_names}

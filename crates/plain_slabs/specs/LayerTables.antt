@@ -17,8 +17,8 @@ use Rattle.slab_laws.specs.SpansDrawn.{edge_of}
 use Rattle.slab_laws.specs.Skeleton.{left_of, below}
 use Rattle.slab_laws.specs.Faces.{face_of}
 use Rattle.slab_laws.specs.Subdivision.{Subdivision, rank}
-use Rattle.overlay_laws.specs.Overlay.{runs_along, has_curve_along}
-use Rattle.overlay_laws.specs.Layers.{LayerRows}
+use Rattle.slab_laws.specs.Overlay.{runs_along, has_curve_along}
+use Rattle.slab_laws.specs.Layers.{LayerRows}
 use Rattle.plain_slabs.specs.declared.layer_cells.LayerEdge.{LayerEdge}
 use Rattle.plain_slabs.specs.declared.layer_table.LayerTable.TheInside.{Inside}
 

@@ -5,7 +5,7 @@ use Rattle.std.specs.List.Sorted.{IsStrictlyIncreasing}
 use Rattle.plane_graphs.specs.Graph.{edges}
 use Rattle.slab_laws.specs.Rows.{edge_place}
 use Rattle.slab_laws.specs.View.{View, Faces, curve_id}
-use Rattle.overlay_laws.specs.Layers.{LayerRows, LayerView}
+use Rattle.slab_laws.specs.Layers.{LayerRows, LayerView}
 use Rattle.plain_slabs.specs.Listed.{Drawing, skeleton_in, subdivision_in, view_of, faces_of}
 use Rattle.plain_slabs.specs.Curves.{edge_at}
 

@@ -3,7 +3,7 @@ use Rattle.std.specs.Prelude.{ℕ, suc, List, [], ◌∷◌, ◌++◌}
 use Rattle.exact_plane.specs.PointOrder.{point_cmp}
 use Rattle.plane_graphs.specs.Ascending.{ascending}
 use Rattle.plane_graphs.specs.Piece.{Piece, Present}
-use Rattle.overlay_laws.specs.Overlay.{renamed}
+use Rattle.slab_laws.specs.Overlay.{renamed}
 
 -- the pieces, under the numbers from n on (this project)
 abbrev pub numbered_from : ℕ → List Piece → List Piece

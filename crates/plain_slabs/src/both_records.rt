@@ -8,8 +8,7 @@ use crate::both::Both;
 use crate::plain::Plain;
 use exact_plane::{Line, Point};
 use no_memory::NoMemory;
-use overlay_laws::Layered;
-use slab_laws::{CurveId, CycleId, CycleKind, DartId, Darts, FaceId, Faced, VertexId};
+use slab_laws::{CurveId, CycleId, CycleKind, DartId, Darts, FaceId, Faced, Layered, VertexId};
 use std::alloc::Global;
 
 // The place of the edge that a dart goes along.

@@ -3,8 +3,8 @@ ghost use Rattle.plane_graphs.specs.Fit.{IsFit};
 ghost use Rattle.slab_laws.specs.Pieces.{present_of};
 ghost use Rattle.slab_laws.specs.Faces.{face_of};
 ghost use Rattle.slab_laws.specs.Subdivision.{rank};
-ghost use Rattle.overlay_laws.specs.Overlay.{label};
-ghost use Rattle.overlay_laws.specs.Layers.{rows_of};
+ghost use Rattle.slab_laws.specs.Overlay.{label};
+ghost use Rattle.slab_laws.specs.Layers.{rows_of};
 ghost use Rattle.plain_slabs.specs.Listed.{skeleton_in, subdivision_in};
 ghost use Rattle.plain_slabs.specs.LayerTables.{AreSlantedAcross, cell_among, rank_in};
 

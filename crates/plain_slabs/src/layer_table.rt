@@ -6,7 +6,7 @@ ghost use Rattle.slab_laws.specs.Pieces.{piece_of, present_of};
 ghost use Rattle.slab_laws.specs.SpansDrawn.{edge_of};
 ghost use Rattle.slab_laws.specs.View.{curve_id};
 ghost use Rattle.present_graphs.specs.Spans.{span_of_piece, lies_on};
-ghost use Rattle.overlay_laws.specs.Overlay.{runs_along, curves_along};
+ghost use Rattle.slab_laws.specs.Overlay.{runs_along, curves_along};
 ghost use Rattle.plain_slabs.specs.LayerTables.{numbers_in, numbers_along};
 
 use exact_plane::{Point, Sign, Span, line_of, side};
@@ -25,7 +25,7 @@ pub(crate) struct LayerTable {
 }
 
 impl Model for LayerTable {
-    ghost use Rattle.overlay_laws.specs.Layers.{LayerRows};
+    ghost use Rattle.slab_laws.specs.Layers.{LayerRows};
 
     ghost Value = { LayerRows };
 

@@ -2,8 +2,8 @@ ghost use Rattle.std.specs.Prelude.{◌≡◌, IfOk};
 ghost use Rattle.plane_graphs.specs.Fit.{IsFit};
 ghost use Rattle.slab_laws.specs.FacesSound.{IsSound};
 ghost use Rattle.slab_laws.specs.Pieces.{present_of};
-ghost use Rattle.overlay_laws.specs.Overlay.{both, overlay};
-ghost use Rattle.overlay_laws.specs.Layers.{rows_of};
+ghost use Rattle.slab_laws.specs.Overlay.{both, overlay};
+ghost use Rattle.slab_laws.specs.Layers.{rows_of};
 ghost use Rattle.plain_slabs.specs.Listed.{subdivision_in, view_of, faces_of, AreLinesOf};
 
 use crate::both::Both;

@@ -6,6 +6,7 @@ ghost use Rattle.plain_slabs.specs.United.{numbered_from, united};
 
 use exact_plane::Point;
 use no_memory::NoMemory;
+use present_graphs::arrange_points;
 use slab_laws::{CurveId, Piece, Present, Sequence};
 use std::alloc::Global;
 
@@ -36,14 +37,6 @@ fn add_pieces(all: &mut Sequence<Piece>, pieces: &[Piece]) -> Result<(), NoMemor
     Ok(())
 }
 
-// Brings points into their order, each once.
-fn arrange(points: &mut Vec<Point>)
-    ensures { points.new.items ≡ ascending point_cmp points.old.items }
-{
-    points.sort_unstable();
-    points.dedup();
-}
-
 // The points of both lists, ascending.
 fn merged(alloc: Global, red: &[Point], blue: &[Point]) -> Result<Vec<Point>, NoMemory>
     ensures { IfOk result (λ v. v.items ≡ ascending point_cmp (red.now ++ blue.now)) }
@@ -51,7 +44,7 @@ fn merged(alloc: Global, red: &[Point], blue: &[Point]) -> Result<Vec<Point>, No
     let mut points = Vec::new(alloc);
     points.extend_from_slice(red)?;
     points.extend_from_slice(blue)?;
-    arrange(&mut points);
+    arrange_points(&mut points);
     Ok(points)
 }
 

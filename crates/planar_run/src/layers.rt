@@ -1,5 +1,5 @@
 ghost use Rattle.std.specs.Prelude.{◌≡◌, codes, IfOk};
-ghost use Rattle.overlay_laws.specs.OverlayText.{presents_text};
+ghost use Rattle.slab_laws.specs.OverlayText.{presents_text};
 ghost use Rattle.planar_run.specs.Rows.{world_row, IsKeptWorld};
 ghost use Rattle.planar_run.specs.Text.{line_of};
 ghost use Rattle.planar_run.specs.World.{blue_of, red_of, turned};

@@ -22,7 +22,7 @@ use Rattle.plane_graphs.proofs.Lines.{geometry}
 use Rattle.plane_graphs.proofs.Sorting.{all_members}
 use Rattle.integers.proofs.Tests.{nat_exact}
 
-same_list : (ms ns : List ℕ) → ((c : ℕ) → Member c ms → Member c ns) → ((c : ℕ) → Member c ns → Member c ms) → ascending nat_cmp ms ≡ ascending nat_cmp ns
+pub same_list : (ms ns : List ℕ) → ((c : ℕ) → Member c ms → Member c ns) → ((c : ℕ) → Member c ns → Member c ms) → ascending nat_cmp ms ≡ ascending nat_cmp ns
 same_list ms ns f g =
     ascending_unique nat_cmp nat_cmp_total (ascending nat_cmp ms) (ascending nat_cmp ns) (IsAscending-ascending nat_cmp nat_cmp_total ms) (IsAscending-ascending nat_cmp nat_cmp_total ns)
     (λ c h. in_ascending nat_cmp nat_cmp_total nat_exact c ns (f c (of_ascending nat_cmp nat_cmp_total nat_exact c ms h)))

@@ -2,8 +2,8 @@
 //!
 //! A *present* is a list of pieces of segments, each of a numbered curve, and a list of pins. Its vertices are the ends of
 //! pieces, the pins, and the points on two pieces of different lines; its edges join neighbouring vertices on a piece
-//! (CGAL manual, `Arrangement_2`; pins are this project's). All three calls take a present that is fit: its pieces lie on
-//! their segments, and those of one curve don't touch.
+//! (CGAL manual, `Arrangement_2`; pins are this project's). Calls that take a present ask that it is
+//! fit: its pieces lie on their segments, and those of one curve don't touch.
 #![tactic(auto)]
 
 mod edges;
@@ -13,4 +13,4 @@ mod vertices;
 
 pub use edges::edges_of;
 pub use marks::{Mark, marks_of};
-pub use vertices::vertices_of;
+pub use vertices::{arrange_points, vertices_of};

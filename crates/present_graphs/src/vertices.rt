@@ -60,8 +60,8 @@ fn add_all_crossings(points: &mut Vec<Point>, spans: &[Span]) -> Result<(), NoMe
     Ok(())
 }
 
-// Brings points into their order, each once.
-fn arrange(points: &mut Vec<Point>)
+/// Brings points into their order, each once.
+pub fn arrange_points(points: &mut Vec<Point>)
     ensures { points.new.items ≡ ascending point_cmp points.old.items }
 {
     points.sort_unstable();
@@ -82,6 +82,6 @@ pub fn vertices_of(alloc: Global, present: &Present) -> Result<Vec<Point>, NoMem
     add_ends(&mut points, present.pieces.as_slice())?;
     points.extend_from_slice(present.pins.as_slice())?;
     add_all_crossings(&mut points, &spans)?;
-    arrange(&mut points);
+    arrange_points(&mut points);
     Ok(points)
 }

@@ -78,6 +78,13 @@ impl Ranks {
         self.faces.len()
     }
 
+    /// The faces, by rank.
+    pub fn as_slice(&self) -> &[FaceId]
+        ensures { result.now ≡ self.now }
+    {
+        &self.faces
+    }
+
     /// The rank of a face; for another name, how many faces there are.
     ///
     /// It takes time logarithmic in the number of faces.

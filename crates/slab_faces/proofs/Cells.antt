@@ -48,11 +48,11 @@ right_many g p t plane in' T h =
 pub both : (a b c d : Bool) → a ≡ c → b ≡ d → (a && b) ≡ (c && d)
 both a b c d e f = rw (e, f) refl
 
-leb_by : (m n : ℕ) (b : Bool) → (b ≡ true → m ≤ n) → (b ≡ false → n < m) → leb m n ≡ b
+pub leb_by : (m n : ℕ) (b : Bool) → (b ≡ true → m ≤ n) → (b ≡ false → n < m) → leb m n ≡ b
 leb_by m n true h k = le-leb m n (h refl)
 leb_by m n false h k = lt-leb m n (k refl)
 
-ltb_by : (m n : ℕ) (b : Bool) → (b ≡ true → n ≤ m) → (b ≡ false → m < n) → ltb m n ≡ not b
+pub ltb_by : (m n : ℕ) (b : Bool) → (b ≡ true → n ≤ m) → (b ≡ false → m < n) → ltb m n ≡ not b
 ltb_by m n true h k = le-ltb m n (h refl)
 ltb_by m n false h k = lt-ltb m n (k refl)
 

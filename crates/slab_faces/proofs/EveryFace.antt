@@ -48,7 +48,7 @@ pub none_counted : {X : Type 0} (p : X → Bool) (xs : List X) → ((x : X) → 
 none_counted p xs h = sum_by-same (λ x. cond (p x) 1 0) (λ x. 0) xs (each (λ x. cond {A = ℕ} (p x) 1 0 ≡ 0) xs (λ x in'. ap (λ b. cond {A = ℕ} b 1 0) (h x in'))) ∙ sum_by-none xs
 
 -- ---- each place of a slab but the topmost is that of an edge
-place_step : (s : Bool) (p j : ℕ) → cond {A = ℕ} (s && ltb p (suc j)) 1 0 ≡ cond (s && ltb p j) 1 0 + cond (s && (p == j)) 1 0
+pub place_step : (s : Bool) (p j : ℕ) → cond {A = ℕ} (s && ltb p (suc j)) 1 0 ≡ cond (s && ltb p j) 1 0 + cond (s && (p == j)) 1 0
 place_step true p j = grind (arith, nat_tests)
 place_step false p j = refl
 

@@ -11,6 +11,7 @@ pub mod Rotation
 pub mod Cycles
 pub mod Subdivision
 pub mod Text
+pub mod Overlay
 pub mod Pieces
 pub mod SpansDrawn
 pub mod Rows
@@ -18,5 +19,8 @@ pub mod Tables
 pub mod View
 pub mod Sound
 pub mod FacesSound
+pub mod Layers
+pub mod OverlayText
 pub mod Triangle
 pub mod TriangleRows
+pub mod TriangleLayers

@@ -1,4 +1,4 @@
-//! The slab model of planar subdivisions: what vertices, edges, cells, faces, cycles, locations and texts are.
+//! The slab model of planar subdivisions: what vertices, edges, cells, faces, cycles, locations, overlays and texts are.
 //!
 //! The definitions stand in `specs/`. They know no linked records: slabs are the strips between walls, the vertical lines
 //! through vertices; a cell is told by its slab and by how many of the slab's edges lie below it; a face is a class of
@@ -11,6 +11,7 @@ mod classes;
 mod curved;
 mod darts;
 mod faced;
+mod layered;
 mod names;
 mod present;
 mod rows;
@@ -23,6 +24,7 @@ pub use classes::{Label, Link};
 pub use curved::Curved;
 pub use darts::Darts;
 pub use faced::Faced;
+pub use layered::Layered;
 pub use names::{CurveId, CycleId, CycleKind, DartId, FaceId, Strategy, VertexId};
 pub use present::{Piece, Present};
 pub use rows::{CycleRow, ListedDart};

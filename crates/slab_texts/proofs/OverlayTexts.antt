@@ -33,9 +33,9 @@ use Rattle.sound_views.specs.Orders.{dart_order}
 use Rattle.sound_views.proofs.ListedPlaces.{place_at}
 use Rattle.sound_views.proofs.RankedFaces.{faces_apart}
 use Rattle.face_changes.proofs.FacesByPairs.{outer_cycles_follow}
-use Rattle.overlay_laws.specs.Layers.{LayerRows, LayerView, rows_of}
-use Rattle.overlay_laws.specs.Overlay.{both, overlay, curves_along, label}
-use Rattle.overlay_laws.specs.OverlayText.{overlay_text, presents_text, edge_words, face_labels}
+use Rattle.slab_laws.specs.Layers.{LayerRows, LayerView, rows_of}
+use Rattle.slab_laws.specs.Overlay.{both, overlay, curves_along, label}
+use Rattle.slab_laws.specs.OverlayText.{overlay_text, presents_text, edge_words, face_labels}
 use Rattle.overlay_laws.proofs.Both.{overlay_is_fit}
 use Rattle.plain_slabs.specs.Listed.{Drawing, skeleton_in, subdivision_in, view_of, kind_by, faces_of, AreLinesOf}
 use Rattle.plain_slabs.specs.OverlayInMemory.{layer_view}

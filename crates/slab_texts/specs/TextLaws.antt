@@ -4,9 +4,9 @@ use Rattle.plane_graphs.specs.Fit.{IsFit}
 use Rattle.plane_graphs.specs.Piece.{Present}
 use Rattle.plane_graphs.specs.Plane.{IsPlane}
 use Rattle.slab_laws.specs.Text.{graph_text}
-use Rattle.overlay_laws.specs.Layers.{rows_of}
-use Rattle.overlay_laws.specs.Overlay.{both, overlay}
-use Rattle.overlay_laws.specs.OverlayText.{presents_text}
+use Rattle.slab_laws.specs.Layers.{rows_of}
+use Rattle.slab_laws.specs.Overlay.{both, overlay}
+use Rattle.slab_laws.specs.OverlayText.{presents_text}
 use Rattle.plain_slabs.specs.Listed.{Drawing, subdivision_in, view_of, faces_of, AreLinesOf}
 use Rattle.plain_slabs.specs.Curves.{curves_at}
 use Rattle.plain_slabs.specs.OverlayInMemory.{layer_view}

@@ -1,7 +1,7 @@
 use Rattle.std.proofs.Common.{◌≡◌, ◌++◌, take}
 use Rattle.std.specs.Prelude.{flat_map, map}
 use Rattle.slab_laws.specs.Text.{word}
-use Rattle.overlay_laws.specs.OverlayText.{lettered}
+use Rattle.slab_laws.specs.OverlayText.{lettered}
 use Rattle.arr_text.proofs.words.put_layer.Given as goal
 
 abbrev pub invariant-loop-curve : goal.invariant-loop-curve

@@ -1,5 +1,5 @@
 use Rattle.std.proofs.Common.{ap₂, ◌∙◌}
-use Rattle.overlay_laws.specs.Overlay.{overlay}
+use Rattle.slab_laws.specs.Overlay.{overlay}
 use Rattle.slab_laws.specs.Pieces.{present_of}
 use Rattle.arrangement.proofs.PresentsRead.{told}
 use Rattle.arrangement.proofs.overlays.overlay.Goals as goal

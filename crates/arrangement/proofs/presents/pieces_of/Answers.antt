@@ -1,7 +1,7 @@
 use Rattle.std.proofs.Common.{◌<◌, length, sym, ap, ◌∙◌, arith}
 use Rattle.std.specs.Option.{option_map, option_copied}
+use Rattle.std.proofs.lemmas.List.{take_all}
 use Rattle.slab_laws.specs.Pieces.{piece_of}
-use Rattle.arr_text.proofs.Lines.{take_all}
 use Rattle.arrangement.proofs.PresentsRead.{one_more, never_none}
 use Rattle.arrangement.proofs.presents.pieces_of.Goals.{in-Some+in_ok-push, in_default}
 use Rattle.arrangement.proofs.presents.pieces_of.Goals as goal

@@ -1,7 +1,7 @@
 use Rattle.std.proofs.Common.{ap, ◌∙◌, map}
 use Rattle.slab_laws.specs.Pieces.{present_of}
 use Rattle.slab_laws.specs.SpansDrawn.{edge_of}
-use Rattle.overlay_laws.specs.Overlay.{curves_along}
+use Rattle.slab_laws.specs.Overlay.{curves_along}
 use Rattle.plain_slabs.specs.Listed.{skeleton_in}
 use Rattle.plain_slabs.proofs.LayerLabels.{edges_here, rows_are}
 use Rattle.plain_slabs.proofs.labels.table_of.Goals as goal

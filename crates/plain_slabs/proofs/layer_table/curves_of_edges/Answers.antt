@@ -1,6 +1,6 @@
 use Rattle.slab_laws.specs.Pieces.{present_of}
 use Rattle.slab_laws.specs.SpansDrawn.{edge_of}
-use Rattle.overlay_laws.specs.Overlay.{curves_along}
+use Rattle.slab_laws.specs.Overlay.{curves_along}
 use Rattle.plane_graphs.proofs.Loops.{read_map, below_map, past_map, mapped, all_mapped}
 use Rattle.plain_slabs.proofs.LayerPieces.{row_added}
 use Rattle.plain_slabs.proofs.layer_table.curves_of_edges.Goals as goal

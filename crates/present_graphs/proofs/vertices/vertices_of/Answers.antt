@@ -18,5 +18,5 @@ returns c =
     let spans : c.in_ok-spans.spans.items ≡ map span_of_piece (present_of c.args.present.now).pieces = c.in_ok-spans.ensures.items ∙ ap (λ ks. map span_of_piece (map piece_of ks)) c.as_slice.ensures in
     let start = ap₂ (λ ps ks. ps ++ flat_map ends (map piece_of ks)) c.new-points.ensures.items c.as_slice-2.ensures in
     let was = c.in_ok-extend_from_slice.ensures.items ∙ ap₂ ◌++◌ (c.in_ok-add_ends.ensures ∙ start) c.as_slice-3.ensures in
-    c.arrange.ensures
+    c.arrange_points.ensures
     ∙ vertices_done p c.requires (subst AreSpans spans c.in_ok-spans.ensures.spans) old new was (subst (λ ss. IsGrownBy (IsSharedByTwo ss) old new) (c.deref.ensures.value ∙ spans) c.in_ok-add_all_crossings.ensures)

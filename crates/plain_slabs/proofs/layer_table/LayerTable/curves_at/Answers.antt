@@ -1,5 +1,5 @@
 use Rattle.std.proofs.Common.{ap, ◌∙◌}
-use Rattle.overlay_laws.specs.Layers.{LayerRows}
+use Rattle.slab_laws.specs.Layers.{LayerRows}
 use Rattle.plain_slabs.proofs.OverlaidRows.{row_is}
 use Rattle.plain_slabs.proofs.layer_table.LayerTable.curves_at.Goals as goal
 

@@ -1,6 +1,6 @@
 use Rattle.std.proofs.Common.{◌≡◌, List, ℕ, true, false, Result, Ok, Err, sym, ap, ◌∙◌}
 use Rattle.std.specs.Prelude.{IfOk, if◌then◌else◌}
-use Rattle.overlay_laws.specs.OverlayText.{presents_text}
+use Rattle.slab_laws.specs.OverlayText.{presents_text}
 use Rattle.arrangement.specs.Overlays.{text_of}
 use Rattle.planar_run.specs.Rows.{world_row}
 use Rattle.planar_run.specs.World.{blue_of, current, red_of, World}

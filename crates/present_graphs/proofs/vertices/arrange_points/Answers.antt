@@ -5,7 +5,7 @@ use Rattle.exact_plane.specs.PointOrder.{point_cmp}
 use Rattle.exact_plane.specs.PointOrderLaws.{point_cmp_total, point_cmp_ties, same_point}
 use Rattle.plane_graphs.specs.Ascending.{ascending}
 use Rattle.plane_graphs.proofs.Arranged.{arranged}
-use Rattle.plain_slabs.proofs.united.arrange.Goals as goal
+use Rattle.present_graphs.proofs.vertices.arrange_points.Goals as goal
 
 pub returns : goal.returns
 returns c =

@@ -1,6 +1,6 @@
 -- A red triangle in an overlay with nothing blue.
 use Rattle.std.specs.Prelude.{[], ◌∷◌}
-use Rattle.overlay_laws.specs.Layers.{LayerView}
+use Rattle.slab_laws.specs.Layers.{LayerView}
 
 -- each edge has curve 1, and each face is the red face of its own rank
 abbrev pub triangle_alone : LayerView

@@ -5,7 +5,7 @@ use Rattle.slab_laws.specs.declared.names.DartId.{DartId}
 use Rattle.slab_laws.specs.declared.names.FaceId.{FaceId}
 use Rattle.plane_graphs.specs.Piece.{Present}
 use Rattle.slab_laws.specs.Subdivision.{Subdivision}
-use Rattle.overlay_laws.specs.Overlay.{curves_along, label}
+use Rattle.slab_laws.specs.Overlay.{curves_along, label}
 
 -- by name: the layer's curves along each dart's edge, ascending, and the rank of the layer's face that holds each face (CGAL manual, overlay traits)
 pub record LayerView : Type 0 where

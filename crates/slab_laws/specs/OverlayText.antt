@@ -6,8 +6,8 @@ use Rattle.plane_graphs.specs.Piece.{Present}
 use Rattle.slab_laws.specs.declared.slab_cell.SlabCell.{SlabCell}
 use Rattle.slab_laws.specs.Subdivision.{Subdivision, rank}
 use Rattle.slab_laws.specs.Text.{number, text_by}
-use Rattle.overlay_laws.specs.Overlay.{both, overlay}
-use Rattle.overlay_laws.specs.Layers.{LayerRows, rows_of}
+use Rattle.slab_laws.specs.Overlay.{both, overlay}
+use Rattle.slab_laws.specs.Layers.{LayerRows, rows_of}
 
 -- the numbers of curves as they are written, each after the letter of its layer (this project)
 abbrev pub lettered : List ℕ → List ℕ → List (List ℕ)

@@ -2,14 +2,16 @@ ghost use Rattle.std.specs.Prelude.{◌≡◌, IfOk, map};
 ghost use Rattle.std.specs.List.Sorted.{IsStrictlyIncreasing};
 ghost use Rattle.slab_laws.specs.View.{HasDart, HasFace, twin_in};
 
+use crate::faced::Faced;
+use crate::names::{CurveId, DartId, FaceId};
+use crate::triangle::Triangle;
 use no_memory::NoMemory;
-use slab_laws::{CurveId, DartId, FaceId, Faced, Triangle};
 use std::alloc::Global;
 
 /// The overlay of two layers, red and blue: a graph with faces, whose edges know their curves of each layer and whose faces
 /// know the faces of each layer that hold them (CGAL manual, overlay traits).
 pub trait Layered: Faced {
-    ghost use Rattle.overlay_laws.specs.Layers.{LayerView};
+    ghost use Rattle.slab_laws.specs.Layers.{LayerView};
 
     /// What is known of the red layer.
     ghost red: { Self → LayerView };
@@ -44,7 +46,7 @@ pub trait Layered: Faced {
 
 /// The overlay of a red triangle, of curve 1, with an empty blue layer.
 impl Layered for Triangle {
-    ghost use Rattle.overlay_laws.specs.TriangleLayers.{triangle_alone, nothing_beside};
+    ghost use Rattle.slab_laws.specs.TriangleLayers.{triangle_alone, nothing_beside};
 
     ghost red = { λ _. triangle_alone };
 
