@@ -1,5 +1,5 @@
 -- The lines of vertices and edges.
-use Rattle.std.proofs.Common.{◌≡◌, ℕ, ◌+◌, ◌<◌, ◌≤◌, Bool, length, get_or, take, arith, add-one, true, false, cond, List, [], ◌∷◌, ◌++◌, map, Result, refl, sym, ap, ◌∙◌, subst, append_assoc}
+use Rattle.std.proofs.Common.{◌≡◌, ℕ, ◌+◌, ◌<◌, ◌≤◌, Bool, length, get_or, take, add-one, true, false, cond, List, [], ◌∷◌, ◌++◌, map, Result, refl, sym, ap, ◌∙◌, subst, append_assoc}
 use Rattle.std.specs.Prelude.{OnOk, codes, flat_map, filter, zip}
 use Rattle.std.specs.List.{list_any, position_or_len}
 use Rattle.exact_plane.specs.Point.{Point}

@@ -16,8 +16,10 @@ mod spots;
 pub use arr_notes::{Answer, Change, Intent, Note, Observer, View};
 pub use arrangement::Arrangement;
 pub use curve_history::HistoryError;
+pub use dcel_records::Records;
 pub use exact_plane::{Point, Segment};
 pub use limits::{Limits, MAX_CURVES, MAX_PIECES, MAX_PINS};
+pub use locate_naive::edge_dart;
 pub use no_memory::NoMemory;
 pub use observer_bus::{AttachError, Bus, NoSeat, ReportError, SEATS, Seat, Went};
 pub use overlaid::Overlay;
@@ -26,4 +28,6 @@ pub use pin_points::{MergeError, NotPinned, PinError, SplitError};
 pub use questions::{Counts, EdgeError};
 pub use segment_insert::InsertError;
 pub use segment_remove::{CutError, DropError};
-pub use slab_laws::{Cell, CurveId, Strategy};
+pub use slab_laws::{
+    Cell, CurveId, CycleId, CycleKind, DartId, Darts, FaceId, Faced, Layered, Strategy, VertexId,
+};

@@ -86,5 +86,7 @@ fn all_right(alloc: Global, layer: &mut Arrangement, calls: &[Call]) -> Result<b
 /// Whether each call answers as it has to, in turn, on a layer of nothing.
 pub fn are_right(alloc: Global, under: Under, calls: &[Call]) -> Result<bool, Fail> {
     let mut layer = layer_under(alloc, under)?;
-    all_right(alloc, &mut layer, calls)
+    let right = all_right(alloc, &mut layer, calls);
+    drop(layer);
+    right
 }

@@ -204,19 +204,33 @@ fn is_right(
     }
 }
 
-// Whether each call answers as it has to, one after the other, on a layer of nothing; the observers come with them, the last one first.
+// Whether each call answers as it has to, one after the other; the observers come with them, the last one first.
+fn all_right(
+    layer: &mut Arrangement,
+    calls: &[Call],
+    observers: &mut Vec<Box<dyn Observer>>,
+) -> Result<bool, Fail>
+    requires watched { IsWatched (arranged tells held left heard layer.old) }
+    ensures watched { IsWatched (arranged tells held left heard layer.new) }
+{
+    'calls: for call in calls {
+        if !is_right(layer, call, observers)? {
+            return Ok(false);
+        }
+    }
+    Ok(true)
+}
+
+// The same on a layer of nothing.
 fn are_right(
     alloc: Global,
     calls: &[Call],
     mut observers: Vec<Box<dyn Observer>>,
 ) -> Result<bool, Fail> {
     let mut layer = layer_under(alloc, Under::Script)?;
-    'calls: for call in calls {
-        if !is_right(&mut layer, call, &mut observers)? {
-            return Ok(false);
-        }
-    }
-    Ok(true)
+    let right = all_right(&mut layer, calls, &mut observers);
+    drop(layer);
+    right
 }
 
 #[test]

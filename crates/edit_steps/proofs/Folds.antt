@@ -17,7 +17,6 @@ use Rattle.plane_graphs.proofs.Closed.{IsClosed}
 use Rattle.plane_graphs.proofs.Inner.{old_or, old_in, new_in}
 use Rattle.edit_steps.proofs.Split.{vertex_step}
 use Rattle.edit_steps.proofs.Tidy.{vertex_less}
-use Rattle.edit_steps.specs.Edits.{steps}
 
 -- more points do no harm
 pub closed_more : (vs ws : List Point) (ks : List Piece) → IsClosed vs ks → IsAscending point_cmp ws → ((p : Point) → Member p vs → Member p ws) → ((p : Point) → Member p ws → IsProper p) → IsClosed ws ks

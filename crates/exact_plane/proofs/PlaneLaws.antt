@@ -14,7 +14,7 @@ use Rattle.exact_plane.specs.declared.meets.Meet.TheVariants.{Apart, At, Along}
 use Rattle.exact_plane.specs.Line.{Line, side_of, IsOn, IsLine}
 use Rattle.exact_plane.specs.Meet.{IsMeeting, IsCommonPart}
 use Rattle.exact_plane.specs.MeetOf.{weight_of, crossing, place_cmp}
-use Rattle.exact_plane.specs.Plane.{side, Before}
+use Rattle.exact_plane.specs.Plane.{Before}
 use Rattle.exact_plane.specs.Point.{Point, reduced, IsInRange, IsPoint}
 use Rattle.exact_plane.specs.PointOrder.{point_cmp}
 use Rattle.exact_plane.specs.PointOrderLaws.{point_cmp_total}

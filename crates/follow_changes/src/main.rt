@@ -69,18 +69,27 @@ fn edit(map: &mut Arrangement)
     let _gone = map.remove_curve(CurveId(2));
 }
 
-fn run(rt: &HostRuntime) -> Result<Vec<u8>, NoMemory> {
-    let alloc = rt.alloc();
-    let mut map = new_map(alloc)?;
-    let narrator = Box::new(alloc, Narrator::new(alloc))?;
-    if !seat(&mut map, narrator) {
+// Edits the map while the observer is seated, and tells what that has to report.
+fn narrated(map: &mut Arrangement, observer: Box<dyn Observer>) -> Result<Vec<u8>, NoMemory>
+    requires watched { IsWatched (arranged tells held left heard map.old) }
+{
+    if !seat(map, observer) {
         return Err(NoMemory);
     }
-    edit(&mut map);
+    edit(map);
     match map.report(NARRATOR) {
         Ok(words) => Ok(words),
         Err(_) => Err(NoMemory),
     }
+}
+
+fn run(rt: &HostRuntime) -> Result<Vec<u8>, NoMemory> {
+    let alloc = rt.alloc();
+    let narrator = Box::new(alloc, Narrator::new(alloc))?;
+    let mut map = new_map(alloc)?;
+    let words = narrated(&mut map, narrator);
+    drop(map);
+    words
 }
 
 fn main(rt: HostRuntime) -> ExitCode {

@@ -54,6 +54,10 @@ labels_are layer vs ss g own es ns cs fs ls d s e n f l =
     ∙ (λ i. map (λ c. label_of layer vs ss own es ns s e n c i) (f i))
     ∙ ap (λ g. map (label layer g) fs) d
 
+-- the ranks that are found are those at equal slabs and cells
+pub ranks_are : (own : Subdivision) (es : List LayerEdge) (ns ms : List ℕ) (cs fs : List SlabCell) (ls : List ℕ) → ns ≡ ms → cs ≡ fs → ls ≡ map (λ c. rank_in own (cell_among es ns c)) cs → ls ≡ map (λ c. rank_in own (cell_among es ms c)) fs
+ranks_are own es ns ms cs fs ls n f l = l ∙ λ i. map (λ c. rank_in own (cell_among es (n i) c)) (f i)
+
 -- the vertices of the layer's own subdivision
 pub vertices_are : (layer : Present) (d : Drawing) (vs : List Point) → vs ≡ d.graph.points → d.graph ≡ graph layer → vs ≡ (plane_of layer).vertices
 vertices_are layer d vs e g = e ∙ ap (λ (g : Graph). g.points) g

@@ -6,7 +6,7 @@ ghost use Rattle.slab_laws.specs.Subdivision.{rank};
 ghost use Rattle.slab_laws.specs.Overlay.{label};
 ghost use Rattle.slab_laws.specs.Layers.{rows_of};
 ghost use Rattle.plain_slabs.specs.Listed.{skeleton_in, subdivision_in};
-ghost use Rattle.plain_slabs.specs.LayerTables.{AreSlantedAcross, cell_among, rank_in};
+ghost use Rattle.plain_slabs.specs.LayerTables.{AreSlantedAcross, slab_beside, cell_among, rank_in};
 
 use crate::build::subdivide;
 use crate::layer_cells::{LayerEdge, cell_among, layer_edges, slabs_beside};
@@ -44,17 +44,31 @@ fn ranks_at(
     Ok(ranks)
 }
 
+// Of each face the rank of the face of the layer's own subdivision that holds it.
+fn labels_within(
+    alloc: Global,
+    plain: &Plain,
+    own: &Plain,
+    edges: &[LayerEdge],
+) -> Result<Vec<usize>, NoMemory>
+    requires { AreSlantedAcross edges.now }
+    ensures { IfOk result (λ v. v.items
+        ≡ map (λ c. rank_in (subdivision_in own.now) (cell_among edges.now
+        (map (slab_beside plain.now.graph.points) own.now.graph.points) c)) (subdivision_in plain.now).faces) }
+{
+    let slabs = slabs_beside(alloc, &plain.points, &own.points)?;
+    ranks_at(alloc, own, edges, &slabs, &plain.faces)
+}
+
 // Of each face the rank of the layer's face that holds it.
 fn labels_of(alloc: Global, plain: &Plain, layer: &Present) -> Result<Vec<usize>, NoMemory>
     requires { IsFit (present_of layer.now) }
     ensures { IfOk result (λ v. v.items
         ≡ map (label (present_of layer.now) (skeleton_in plain.now)) (subdivision_in plain.now).faces) }
 {
-    let own = subdivide(alloc, layer)?;
     let edges = layer_edges(alloc, layer, &plain.points, &plain.edges)?;
-    let slabs = slabs_beside(alloc, &plain.points, &own.points)?;
-    let labels = ranks_at(alloc, &own, &edges, &slabs, &plain.faces)?;
-    Ok(labels)
+    let own = subdivide(alloc, layer)?;
+    labels_within(alloc, plain, &own, &edges)
 }
 
 // What the subdivision by both layers tells of one of them.

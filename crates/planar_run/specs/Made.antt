@@ -18,14 +18,14 @@ EndWith world before (line ∷ more) out =
     (text : List ℕ) × (next : World) × Replies world line text next × (text ≢ no_memory_reply) × EndWith next text more out
 
 -- from this world on one of these lines finds no memory, and each line before it is answered
-abbrev pub FindNone : World → List (List ℕ) → Type 0
-FindNone world [] = ⊥
-FindNone world (line ∷ more) =
-    (text : List ℕ) × (next : World) × Replies world line text next × ((text ≡ no_memory_reply) ⊎ ((text ≢ no_memory_reply) × FindNone next more))
+abbrev pub RunOutOfMemory : World → List (List ℕ) → Type 0
+RunOutOfMemory world [] = ⊥
+RunOutOfMemory world (line ∷ more) =
+    (text : List ℕ) × (next : World) × Replies world line text next × ((text ≡ no_memory_reply) ⊎ ((text ≢ no_memory_reply) × RunOutOfMemory next more))
 
 -- the last reply to the lines from this world on; or, where one of them finds no memory, the reply to it
 abbrev pub IsLastReply : World → List (List ℕ) → List ℕ → Type 0
-IsLastReply world lines out = EndWith world [] lines out ⊎ (FindNone world lines × (out ≡ no_memory_reply))
+IsLastReply world lines out = EndWith world [] lines out ⊎ (RunOutOfMemory world lines × (out ≡ no_memory_reply))
 
 -- the sink took the last reply, or a part of it, from its front
 abbrev pub AnswersMade : Option (List ℕ) → Option (List ℕ) → World → List (List ℕ) → Type 0

@@ -58,8 +58,8 @@ fn answer_script<S: Source, K: Sink>(engine: &mut Engine, source: &mut S, sink: 
     }
 }
 
-// The same by a new engine, where there is memory for it. The engine goes at one place alone, since each proves anew
-// that all of it may go.
+// The same by a new engine, where there is memory for it. It is let go by a call, since what goes of itself at the end of a
+// function is proved there anew, in all its parts.
 fn run<S: Source, K: Sink>(
     alloc: Global,
     strategy: Strategy,
@@ -72,7 +72,11 @@ fn run<S: Source, K: Sink>(
     ensures reads { S.calls source.new ≤ S.calls source.old + (SCRIPT_LIMIT + 1) }
 {
     match Engine::new(alloc, strategy, observers) {
-        Ok(mut engine) => answer_script(&mut engine, source, sink),
+        Ok(mut engine) => {
+            let status = answer_script(&mut engine, source, sink);
+            drop(engine);
+            status
+        }
         Err(_) => Status::NoMemory,
     }
 }
@@ -108,7 +112,11 @@ fn run_made<K: Sink>(
     ensures causes { Causes result 0 0 (K.faults sink.old) (K.faults sink.new) }
 {
     match Engine::new(alloc, strategy, observers) {
-        Ok(mut engine) => answer_made(&mut engine, segments, seed, sink),
+        Ok(mut engine) => {
+            let status = answer_made(&mut engine, segments, seed, sink);
+            drop(engine);
+            status
+        }
         Err(_) => Status::NoMemory,
     }
 }

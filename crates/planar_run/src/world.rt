@@ -48,12 +48,13 @@ impl World {
         ensures first { IfOk result (λ w. world_row tells held left heard w ≡ first_world (waiting_rows tells left observers.items)) }
         ensures kept { IfOk result (λ w. IsKeptWorld tells held left heard w) }
     {
+        let observers = all_waiting(alloc, observers)?;
         let red = Bus::new(alloc, Vec::with_capacity(alloc, SEATS)?)?;
         let blue = Bus::new(alloc, Vec::with_capacity(alloc, SEATS)?)?;
-        let observers = all_waiting(alloc, observers)?;
+        // An arrangement of nothing takes no memory.
         Ok(World {
-            arrangement: Arrangement::new(alloc, Limits::FULL, red)?,
-            other: Arrangement::new(alloc, Limits::FULL, blue)?,
+            arrangement: Arrangement::new(alloc, Limits::FULL, red).unwrap(),
+            other: Arrangement::new(alloc, Limits::FULL, blue).unwrap(),
             is_blue: false,
             observers,
             alloc,

@@ -1,5 +1,5 @@
 -- The order of points and of marks.
-use Rattle.std.proofs.Common.{◌≡◌, ℕ, true, is_lt, is_eq, refl, sym, ap, ◌∙◌, Ordering, Less, Equal, Greater, nat_cmp, arith, ◌<ℤ◌, ⊎_elim}
+use Rattle.std.proofs.Common.{◌≡◌, ℕ, true, is_lt, is_eq, refl, sym, ap, ◌∙◌, Ordering, Less, Equal, Greater, nat_cmp, arith}
 use Rattle.std.specs.Cmp.{IsTotalOrder}
 use Rattle.std.proofs.lemmas.Cmp.{then_total, on_total, nat_cmp_total, tied_itself}
 use Rattle.std.specs.Ordering.{ordering_reverse, ordering_then}

@@ -1,8 +1,8 @@
-use crate::cases::{CASES, Case};
+use crate::cases::{CASES, Case, Row};
 use exact_plane::{Point, Segment, Span, line_of};
 use std::alloc::Global;
 use std::test::Fail;
-use sweep_events::Sweep;
+use sweep_events::{Event, Sweep};
 
 // The span of a whole segment.
 fn whole(segment: &Segment) -> Option<Span> {
@@ -38,24 +38,55 @@ fn sweep_of(alloc: Global, case: &Case) -> Result<Sweep, Fail> {
     Ok(Sweep::new(alloc, &pieces, &pins)?)
 }
 
+fn is_event(event: &Event, wanted: &Row) -> Result<bool, Fail> {
+    let ((x, y, w), ends, starts, passes, _status) = wanted;
+    let point = Point::new(*x, *y, *w)?;
+    Ok(
+        event.point == point
+            && event.ends.as_slice() == *ends
+            && event.starts.as_slice() == *starts
+            && event.passes.as_slice() == *passes,
+    )
+}
+
+// Whether the next event is this one.
+fn is_next(sweep: &mut Sweep, wanted: &Row) -> Result<bool, Fail> {
+    match sweep.next_event()? {
+        Some(event) => is_event(&event, wanted),
+        None => Ok(false),
+    }
+}
+
+fn has_status(sweep: &Sweep, wanted: &Row) -> bool {
+    let (_point, _ends, _starts, _passes, status) = wanted;
+    sweep.status() == *status
+}
+
+// The place of the first event that doesn't come, or leave its status, as it has to, or of one that comes after all, if there is one.
+fn first_wrong_in(sweep: &mut Sweep, case: &Case) -> Result<Option<usize>, Fail> {
+    for (place, wanted) in case.events.iter().enumerate() {
+        if !is_next(sweep, wanted)? || !has_status(sweep, wanted) {
+            return Ok(Some(place));
+        }
+    }
+    match sweep.next_event()? {
+        Some(_) => Ok(Some(case.events.len())),
+        None => Ok(None),
+    }
+}
+
+fn first_wrong(alloc: Global, case: &Case) -> Result<Option<usize>, Fail> {
+    let mut sweep = sweep_of(alloc, case)?;
+    let wrong = first_wrong_in(&mut sweep, case);
+    drop(sweep);
+    wrong
+}
+
 #[test]
 fn events_and_statuses_are_those_of_all_pairs(rt: HostRuntime) -> Result<(), Fail> {
     for case in &CASES {
-        let mut sweep = sweep_of(rt.alloc(), case)?;
-        for ((x, y, w), ends, starts, passes, status) in case.events {
-            let next = sweep.next_event()?;
-            assert!(rt; next.is_some(), "{}: an event", case.name);
-            let Some(event) = next else {
-                return Ok(());
-            };
-            let point = Point::new(*x, *y, *w)?;
-            assert!(rt; event.point == point, "{}: point", case.name);
-            assert!(rt; event.ends.as_slice() == *ends, "{}: ends", case.name);
-            assert!(rt; event.starts.as_slice() == *starts, "{}: starts", case.name);
-            assert!(rt; event.passes.as_slice() == *passes, "{}: passes", case.name);
-            assert!(rt; sweep.status() == *status, "{}: status", case.name);
-        }
-        assert!(rt; sweep.next_event()?.is_none(), "{}: end", case.name);
+        let wrong = first_wrong(rt.alloc(), case)?;
+        assert!(rt; wrong == None, "{}", case.name);
     }
     Ok(())
 }

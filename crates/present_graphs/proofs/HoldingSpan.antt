@@ -1,5 +1,5 @@
 -- The span that holds an edge.
-use Rattle.std.proofs.Common.{◌≡◌, ℕ, ◌+◌, ◌<◌, ◌≤◌, List, [], ◌∷◌, map, length, take, get_or, Bool, true, false, ◌&&◌, refl, sym, ap, ◌∙◌, subst, ⊎_elim}
+use Rattle.std.proofs.Common.{◌≡◌, ℕ, ◌+◌, ◌<◌, List, [], ◌∷◌, map, length, take, get_or, Bool, true, false, ◌&&◌, refl, sym, ap, ◌∙◌, subst, ⊎_elim}
 use Rattle.exact_plane.specs.Point.{Point}
 use Rattle.exact_plane.specs.Segment.{line_of_segment}
 use Rattle.exact_plane.specs.Span.{Span, AreOnWay}

@@ -1,6 +1,6 @@
 -- The edges of a layer by the darts of the records, and the edges of a curve.
-use Rattle.std.proofs.Common.{◌≡◌, ◌≢◌, ℕ, List, map, not, sym, ap, ap₂, ◌∙◌, subst, inl, inr}
-use Rattle.std.specs.Prelude.{◌↔◌, if◌then◌else◌}
+use Rattle.std.proofs.Common.{◌≡◌, ℕ, List, map, not, sym, ap, ap₂, ◌∙◌, subst, inl, inr}
+use Rattle.std.specs.Prelude.{◌↔◌}
 use Rattle.std.specs.List.{Contains, AllByRecursion}
 use Rattle.plane_graphs.specs.Ascending.{Member}
 use Rattle.plane_graphs.specs.Graph.{Edge, edge_cmp, graph, edges, curves}

@@ -1,5 +1,5 @@
 -- Records that stand for a layer name the vertices, edges and pins of its present.
-use Rattle.std.proofs.Common.{◌≡◌, ◌≢◌, [], ◌∷◌, map, refl, sym, ap, ◌∙◌, subst}
+use Rattle.std.proofs.Common.{◌≡◌, map, refl, sym, ap, ◌∙◌, subst}
 use Rattle.plane_graphs.specs.Ascending.{Member}
 use Rattle.plane_graphs.specs.Graph.{Graph, Mark, Edge, mark, edge_of, edge_cmp, edges}
 use Rattle.plane_graphs.proofs.Lists.{in_map, of_map, in_ascending, of_ascending, some_of}

@@ -1,6 +1,6 @@
 -- What passes the tests of a plane graph is one.
 use Rattle.std.proofs.Common.{◌≡◌, ℕ, ◌+◌, Bool, true, false, cond, arith, refl, sym, ap, subst, inl, inr, List, [], ◌∷◌, map}
-use Rattle.std.specs.Prelude.{pos, not, ◌&&◌, ◌||◌}
+use Rattle.std.specs.Prelude.{pos, not, ◌||◌}
 use Rattle.std.specs.List.{count_by, list_any, list_all, Contains}
 use Rattle.std.proofs.lemmas.Bool.{and_parts, not-true, cases_Bool, eqb-true}
 use Rattle.std.proofs.lemmas.Int.{ints}

@@ -1,5 +1,5 @@
 -- A vertex that just two darts leave, and what is asked of them where their edges become one.
-use Rattle.std.proofs.Common.{◌≡◌, ◌&&◌, true, inl, inr, sym, ap, subst, ◌∙◌}
+use Rattle.std.proofs.Common.{◌≡◌, true, inl, inr, sym, ap, subst, ◌∙◌}
 use Rattle.std.proofs.lemmas.Bool.{cases_eq}
 use Rattle.rotation_order.specs.RingOrder.{IsStrictOn, IsRoundOn, sooner_by}
 use Rattle.rotation_order.specs.Ring.{Out, IsApart, IsAfter}

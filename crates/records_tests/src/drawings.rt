@@ -1,4 +1,4 @@
-ghost use Rattle.std.specs.Prelude.{◌≡◌, ◌<◌, length, IfOk};
+ghost use Rattle.std.specs.Prelude.{◌≡◌, ◌<◌, [], length, IfOk};
 ghost use Rattle.plane_graphs.specs.Fit.{IsFit, IsFitPiece};
 ghost use Rattle.slab_laws.specs.Pieces.{piece_of, present_of};
 
@@ -107,11 +107,18 @@ fn square(alloc: Global) -> Result<Plain, Fail> {
     Ok(subdivision_of(alloc, &segments, point((2, 2, 1))?)?)
 }
 
+fn is_counted_and_held(alloc: Global) -> Result<bool, Fail> {
+    let plain = square(alloc)?;
+    let right = count(&plain) == SQUARE;
+    let held = are_held(&plain, &IN_SQUARE);
+    drop(plain);
+    let held = held?;
+    Ok(right && held)
+}
+
 #[test]
 fn a_square_with_its_diagonals_has_four_faces_inside(rt: HostRuntime) -> Result<(), Fail> {
-    let plain = square(rt.alloc())?;
-    assert!(rt; count(&plain) == SQUARE);
-    assert!(rt; are_held(&plain, &IN_SQUARE)?);
+    assert!(rt; is_counted_and_held(rt.alloc())?);
     Ok(())
 }
 
@@ -145,7 +152,17 @@ fn are_edges(marks: &[Mark], edges: &[Span], wanted: &[Row]) -> Result<bool, Fai
     Ok(marks.len() == wanted.len() && edges.len() == wanted.len())
 }
 
-// Whether the graph of two segments has these vertices, and edges of one curve each.
+// Whether the graph of a present has these vertices, and edges of one curve each.
+fn is_graph(alloc: Global, present: &Present, points: &[At], rows: &[Row]) -> Result<bool, Fail>
+    requires { IsFit (present_of present.now) }
+{
+    let found = vertices_of(alloc, present)?;
+    let marks = marks_of(alloc, present, &found)?;
+    let edges = edges_of(alloc, present, &marks)?;
+    Ok(are_points(&found, points)? && are_edges(&marks, &edges, rows)?)
+}
+
+// The same of the graph of two segments.
 fn has_graph(
     alloc: Global,
     segments: &[Segment; 2],
@@ -154,10 +171,9 @@ fn has_graph(
     rows: &[Row],
 ) -> Result<bool, Fail> {
     let present = present_of(alloc, segments, pin)?;
-    let found = vertices_of(alloc, &present)?;
-    let marks = marks_of(alloc, &present, &found)?;
-    let edges = edges_of(alloc, &present, &marks)?;
-    Ok(are_points(&found, points)? && are_edges(&marks, &edges, rows)?)
+    let right = is_graph(alloc, &present, points, rows);
+    drop(present);
+    right
 }
 
 const ORIGIN: At = (0, 0, 1);
@@ -185,15 +201,23 @@ fn two_segments_cross_at_a_fraction(rt: HostRuntime) -> Result<(), Fail> {
     Ok(())
 }
 
-// Whether a history tells the one piece that it got.
-fn tells_piece(alloc: Global, piece: Piece) -> Result<bool, NoMemory> {
-    let mut history = History::new(alloc, 1)?;
+// Whether a history tells the one piece that it gets.
+fn is_told(history: &mut History, piece: Piece) -> Result<bool, NoMemory>
+    requires { history.old.pieces ≡ [] }
+{
     history.reserve(0, 1, 0)?;
     history.add_piece(piece);
     match history.piece(0) {
         Some(found) => Ok(*found == piece && history.piece(1).is_none()),
         None => Ok(false),
     }
+}
+
+fn tells_piece(alloc: Global, piece: Piece) -> Result<bool, NoMemory> {
+    let mut history = History::new(alloc, 1)?;
+    let told = is_told(&mut history, piece);
+    drop(history);
+    told
 }
 
 #[test]

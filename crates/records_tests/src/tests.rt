@@ -204,10 +204,17 @@ const TABLES: [(&str, &[Call]); 8] = [
     ("all stays as it was without memory", &NO_ROOM),
 ];
 
-// Whether the star's calls, and then others, answer as they have to, over records of nothing.
+// Whether the star's calls, and then others, answer as they have to.
+fn both_right(alloc: Global, checked: &mut Checked, calls: &[Call]) -> Result<bool, Fail> {
+    Ok(are_right(alloc, checked, &STAR)? && are_right(alloc, checked, calls)?)
+}
+
+// The same over records of nothing.
 fn are_right_after_star(alloc: Global, calls: &[Call]) -> Result<bool, Fail> {
     let mut checked = Checked::new(alloc)?;
-    Ok(are_right(alloc, &mut checked, &STAR)? && are_right(alloc, &mut checked, calls)?)
+    let right = both_right(alloc, &mut checked, calls);
+    drop(checked);
+    right
 }
 
 #[test]

@@ -89,12 +89,25 @@ fn is_right(alloc: Global, checked: &Checked, row: &Row) -> Result<bool, Fail> {
     Ok(is_plan(&plan, row) && meets(plan.vertices.as_slice(), row.vertices)?)
 }
 
+// The place of the first row whose zone isn't told so, once the chain is there; how many rows there are where that isn't made so.
+fn first_wrong(alloc: Global, checked: &mut Checked) -> Result<Option<usize>, Fail> {
+    let rows: &[Row] = &ROWS;
+    if !are_right(alloc, checked, &CHAIN)? {
+        return Ok(Some(rows.len()));
+    }
+    for (place, row) in rows.iter().enumerate() {
+        if !is_right(alloc, checked, row)? {
+            return Ok(Some(place));
+        }
+    }
+    Ok(None)
+}
+
 #[test]
 fn a_zone_is_told_along_a_chain_and_across_it(rt: HostRuntime) -> Result<(), Fail> {
     let mut checked = Checked::new(rt.alloc())?;
-    assert!(rt; are_right(rt.alloc(), &mut checked, &CHAIN)?);
-    for row in &ROWS {
-        assert!(rt; is_right(rt.alloc(), &checked, row)?);
-    }
+    let wrong = first_wrong(rt.alloc(), &mut checked);
+    drop(checked);
+    assert!(rt; wrong? == None);
     Ok(())
 }

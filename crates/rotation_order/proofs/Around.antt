@@ -1,6 +1,6 @@
 -- The darts out of a vertex of a sound view, by the directions in which they leave it.
 use Rattle.std.proofs.Common.{◌≡◌, ◌≢◌, Bool, true, false, sym, ap, ◌∙◌, inl, inr}
-use Rattle.std.specs.Prelude.{ℤ, ◌*ℤ◌, ◌<ℤ◌, neg_ℤ, if◌then◌else◌}
+use Rattle.std.specs.Prelude.{◌*ℤ◌, neg_ℤ, if◌then◌else◌}
 use Rattle.integers.proofs.Signs.{mul_pos, neg_above, neg_below, more, more_right}
 use Rattle.exact_plane.specs.Line.{Line, IsOn}
 use Rattle.exact_plane.specs.Plane.{RunsForward}

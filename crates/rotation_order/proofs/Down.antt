@@ -1,6 +1,6 @@
 -- The exact order that begins with straight down, and the one that ends with it.
 use Rattle.std.proofs.Common.{◌≡◌, ◌≤◌, Bool, true, false, arith, refl, sym, ap, ap₂, ◌∙◌, ◌⊎◌, ◌<◌, inl, inr, [], ◌∷◌, Ordering, Less, Equal, Greater}
-use Rattle.std.specs.Prelude.{◌↔◌, cond, ◌==◌, ℤ, pos, ◌-ℤ◌, ◌<ℤ◌}
+use Rattle.std.specs.Prelude.{◌↔◌, cond, ◌==◌, pos, ◌<ℤ◌}
 use Rattle.std.specs.Ordering.{int_cmp, nat_cmp, is_lt, is_eq, ordering_then}
 use Rattle.std.proofs.lemmas.Bool.{cases_Bool, or_left, false≢true, false_from_ne_true, lt-ltb, ltb-true}
 use Rattle.std.proofs.lemmas.Int.{ints}

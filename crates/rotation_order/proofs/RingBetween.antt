@@ -1,5 +1,5 @@
 -- The follower, said by the order alone: the next by it, or the first of all after the last.
-use Rattle.std.proofs.Common.{◌≡◌, ◌≢◌, ◌↔◌, inl, inr, ℕ, Bool, true, false, cond, refl, sym, ◌∙◌, not, ◌&&◌, ◌||◌}
+use Rattle.std.proofs.Common.{◌≡◌, ◌≢◌, inl, inr, ℕ, Bool, true, false, cond, refl, sym, not, ◌&&◌, ◌||◌}
 use Rattle.std.proofs.lemmas.Bool.{cases_Bool, false≢true}
 use Rattle.rotation_order.specs.RingOrder.{IsStrictOn, sooner_by}
 use Rattle.rotation_order.specs.Ring.{Turns, Out, IsApart, IsAfter, IsNextOrFirst, is_next, is_first}

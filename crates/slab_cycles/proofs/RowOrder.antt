@@ -1,5 +1,5 @@
 -- The order of rows: by source, target, edge and way.
-use Rattle.std.proofs.Common.{◌≡◌, ◌<◌, Bool, true, false, cond, List, [], ◌∷◌, Ordering, Equal, refl, ap, ◌∙◌, subst}
+use Rattle.std.proofs.Common.{◌≡◌, Bool, true, false, cond, List, [], ◌∷◌, Ordering, Equal, refl, ap, ◌∙◌, subst}
 use Rattle.std.specs.List.{IsDistinct, dedup, dedup_from}
 use Rattle.std.specs.List.Sorted.{IsPermutation, IsSorted, IsStrictlySortedBy}
 use Rattle.std.specs.Ordering.{ordering_then, nat_cmp, bool_cmp, eq_by_cmp}

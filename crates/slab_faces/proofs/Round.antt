@@ -1,11 +1,10 @@
 -- Once round a vertex, clockwise: left bottom, the edges from the left upwards, left top, the vertical edge up, right top,
 -- the edges to the right downwards, right bottom, the vertical edge down, left bottom. Where nothing stands between two corners, they are in one face.
 use Rattle.std.proofs.Common.{◌≡◌, ℕ, Bool, false, cond, arith, refl, sym, ap, ◌∙◌, inl, inr, subst}
-use Rattle.std.specs.Prelude.{pos, ◌*ℤ◌, ◌<ℤ◌, not, ◌&&◌}
+use Rattle.std.specs.Prelude.{pos, not, ◌&&◌}
 use Rattle.std.specs.List.{count_by, Contains}
 use Rattle.std.proofs.lemmas.Int.{ints, by_lt_z}
 use Rattle.std.proofs.lemmas.Bool.{false_from_ne_true, cases_Bool}
-use lib.IntN.{*ℤ-zero, zero-*ℤ}
 use Rattle.exact_plane.specs.Point.{Point}
 use Rattle.plane_graphs.specs.Graph.{Edge}
 use Rattle.slab_laws.specs.Skeleton.{Skeleton, lower_than, side, over, under, IsPlaneSkeleton}

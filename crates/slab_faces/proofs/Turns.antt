@@ -1,11 +1,10 @@
 -- From one end of an edge to the other, and round its upper end.
-use Rattle.std.proofs.Common.{◌≡◌, ℕ, ◌+◌, ◌%◌, ◌<◌, ◌≤◌, Bool, true, false, cond, arith, refl, sym, ap, ◌∙◌, ◌⊎◌, inl, inr, List, [], ◌∷◌, subst, zero, suc}
+use Rattle.std.proofs.Common.{◌≡◌, ℕ, ◌+◌, ◌<◌, ◌≤◌, Bool, true, false, cond, arith, refl, sym, ap, ◌∙◌, ◌⊎◌, inl, inr, List, [], ◌∷◌, subst, zero, suc}
 use Rattle.std.specs.Prelude.{ℤ, pos, ◌+ℤ◌, ◌-ℤ◌, ◌*ℤ◌, ◌<ℤ◌, not, ◌&&◌}
 use Rattle.std.specs.List.{count_by, Contains}
 use Rattle.std.proofs.lemmas.Int.{ints}
 use Rattle.std.proofs.lemmas.Bool.{false≢true, and_parts, and_from, or_left, not-true, false_from_ne_true, cases_Bool}
 use Rattle.std.proofs.lemmas.List.Elements.{Contains-append_left, Contains-append_right, Contains-append_cases, Contains-push_cases, Contains-push}
-use lib.IntN.{*ℤ-zero}
 use lib.Signed.{lt_z}
 use Rattle.exact_plane.specs.Point.{Point}
 use Rattle.plane_graphs.specs.Graph.{Edge}
@@ -14,10 +13,10 @@ use Rattle.slab_laws.specs.Meets.{IsOnWall, SameFace, here, right, left}
 use Rattle.slab_laws.specs.Slabs.{place, slab_left, slab_right, reaches_left, forward_cell, backward_cell}
 use Rattle.slab_laws.specs.declared.slab_cell.SlabCell.{SlabCell}
 use Rattle.slab_faces.proofs.Ints.{dif, as_dif, dif_add, dif_sub, dif_mul, dif_same, dif_zero, pos_dif, lt_z-scale}
-use Rattle.slab_faces.proofs.Sums.{each, fewer}
+use Rattle.slab_faces.proofs.Sums.{fewer}
 use Rattle.slab_faces.proofs.Walls.{left_of-irrefl, left_of-asym, left_of-before, run_positive, side-upper, over-upper}
 use Rattle.slab_faces.proofs.Cells.{not_right_trans, left_few, right_few, right_many}
-use Rattle.slab_faces.proofs.Slabs.{IsThrough, through, no_order, zero_not_over}
+use Rattle.slab_faces.proofs.Slabs.{IsThrough, no_order, zero_not_over}
 use Rattle.slab_faces.proofs.Along.{IsOn, along_above, side_below}
 use Rattle.slab_faces.proofs.Beneath.{along_below}
 use Rattle.integers.proofs.Signs.{mul_pos'}

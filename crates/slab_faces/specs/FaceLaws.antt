@@ -1,5 +1,4 @@
 -- The laws of faces and of the edges round them.
-use Rattle.std.specs.Prelude.{◌≡◌, ◌+◌, ◌%◌}
 use Rattle.slab_laws.specs.Skeleton.{Skeleton}
 use Rattle.slab_laws.specs.declared.slab_cell.SlabCell.{SlabCell}
 use Rattle.slab_laws.specs.Meets.{SameFace}

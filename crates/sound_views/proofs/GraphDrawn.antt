@@ -1,5 +1,5 @@
 -- The vertices and edges of the graph of records are those that the records draw, and the graph is plane.
-use Rattle.std.proofs.Common.{◌≡◌, ◌≢◌, true, not, refl, sym, ap, ◌∙◌, subst, List, [], ◌∷◌, map, ⊎_elim}
+use Rattle.std.proofs.Common.{◌≡◌, true, not, refl, sym, ap, ◌∙◌, subst, List, map, ⊎_elim}
 use Rattle.std.specs.Prelude.{if◌then◌else◌}
 use Rattle.exact_plane.specs.Point.{Point}
 use Rattle.exact_plane.specs.PointOrder.{point_cmp}

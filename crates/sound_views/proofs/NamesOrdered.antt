@@ -1,5 +1,5 @@
 -- The names of a sound view in order are its points, darts and edges in order.
-use Rattle.std.proofs.Common.{◌≡◌, Bool, true, false, not, sym, ap, ap₂, ◌∙◌, subst, List, [], ◌∷◌, map, Less, Equal, ⊎_elim}
+use Rattle.std.proofs.Common.{◌≡◌, Bool, true, false, not, sym, ap, ap₂, ◌∙◌, subst, List, map, Less, Equal, ⊎_elim}
 use Rattle.std.specs.Prelude.{filter}
 use Rattle.std.specs.List.{Contains}
 use Rattle.std.specs.Cmp.{IsTotalOrder}

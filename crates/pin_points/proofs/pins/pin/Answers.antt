@@ -1,9 +1,9 @@
-use Rattle.std.proofs.Common.{refl, sym, ap, subst, ◌∙◌}
+use Rattle.std.proofs.Common.{refl, sym, ap, ◌∙◌}
 use Rattle.plane_graphs.proofs.Lines.{point_is_proper}
 use Rattle.edit_steps.proofs.Refusals.{no_memory, pin_again, pin_full, pin_allowed}
 use Rattle.curve_history.specs.Past.{curves_on}
 use Rattle.arr_notes.specs.RecordGraph.{drawn_graph}
-use Rattle.record_layers.specs.RecordLayers.{IsLayer, layer_of}
+use Rattle.record_layers.specs.RecordLayers.{layer_of}
 use Rattle.record_layers.proofs.Moved.{same_layers, layer_stays}
 use Rattle.told_steps.proofs.Begun.{begun_in_step, drawn_stays, moved, still_watched, told_of_edit}
 use Rattle.told_steps.proofs.ToldTogether.{told_runs_lawful}

@@ -18,14 +18,14 @@ one_of s (inr w) = inr (inl w)
 
 pub returns-in-Ok-clause-made : goal.returns-in-Ok-clause-made
 returns-in-Ok-clause-made g c = λ is.
-    subst (λ (w : World). AnswersMade (g.K.Sink.taken c.args.sink.now) (g.K.Sink.taken c.answer_made.new.sink) w (script c.args.segments c.args.seed)) c.in-Ok.ensures.first (c.answer_made.ensures.made is)
+    subst (λ (w : World). AnswersMade (g.K.Sink.taken c.args.sink.now) (g.K.Sink.taken c.answer_made-status.new.sink) w (script c.args.segments c.args.seed)) c.in-Ok.ensures.first (c.answer_made-status.ensures.made is)
 
 pub returns-in-Ok-clause-broken : goal.returns-in-Ok-clause-broken
 returns-in-Ok-clause-broken g c = λ is.
-    subst (λ (w : World). AnswersMadePart (g.K.Sink.taken c.args.sink.now) (g.K.Sink.taken c.answer_made.new.sink) w (script c.args.segments c.args.seed)) c.in-Ok.ensures.first (c.answer_made.ensures.broken is)
+    subst (λ (w : World). AnswersMadePart (g.K.Sink.taken c.args.sink.now) (g.K.Sink.taken c.answer_made-status.new.sink) w (script c.args.segments c.args.seed)) c.in-Ok.ensures.first (c.answer_made-status.ensures.broken is)
 
 pub returns-in-Ok-clause-no_memory : goal.returns-in-Ok-clause-no_memory
-returns-in-Ok-clause-no_memory g c = λ is. absurd (begun c.answer_made.result c.answer_made.ensures.only is)
+returns-in-Ok-clause-no_memory g c = λ is. absurd (begun c.answer_made-status.result c.answer_made-status.ensures.only is)
 
 pub returns-in-Ok-clause-only : goal.returns-in-Ok-clause-only
-returns-in-Ok-clause-only g c = one_of c.answer_made.result c.answer_made.ensures.only
+returns-in-Ok-clause-only g c = one_of c.answer_made-status.result c.answer_made-status.ensures.only

@@ -1,4 +1,4 @@
-use Rattle.std.proofs.Common.{◌≡◌, sym, ap, ◌∙◌, subst}
+use Rattle.std.proofs.Common.{sym, ap, ◌∙◌, subst}
 use Rattle.slab_laws.specs.View.{HasVertex, point_in, target_in}
 use Rattle.rotation_order.proofs.Points.{told_same, told_other}
 use Rattle.rotation_order.proofs.neighbours.leads_to.Goals as goal

@@ -1,4 +1,4 @@
-use Rattle.std.proofs.Common.{◌≡◌, ◌≢◌, sym, ap, ◌∙◌, subst}
+use Rattle.std.proofs.Common.{◌≢◌, sym, ap, ◌∙◌, subst}
 use Rattle.exact_plane.specs.Line.{Line}
 use Rattle.slab_laws.specs.View.{HasVertex, point_in, line_in}
 use Rattle.locate_naive.proofs.Within.{target_has}

@@ -1,5 +1,5 @@
 use Rattle.std.proofs.Common.{ℕ, List, [], length}
-use Rattle.planar_run.specs.Made.{EndWith, FindNone}
+use Rattle.planar_run.specs.Made.{EndWith, RunOutOfMemory}
 use Rattle.planar_run.specs.Rows.{world_row, IsKeptWorld}
 use Rattle.planar_run.proofs.engine.Engine.answer_made.Given as goal
 
@@ -10,9 +10,9 @@ invariant-lines g l = record {
       (λ b. (goal.Observer-dyn g (b.vtable, b.value)).left b.value) (λ b. (goal.Observer-dyn g (b.vtable, b.value)).heard b.value) l.self.world) l.self.reply l.maker out
       → EndWith (world_row (λ b. (goal.Observer-dyn g (b.vtable, b.value)).tells b.value) (λ b. (goal.Observer-dyn g (b.vtable, b.value)).held b.value)
       (λ b. (goal.Observer-dyn g (b.vtable, b.value)).left b.value) (λ b. (goal.Observer-dyn g (b.vtable, b.value)).heard b.value) l.fn.self.world) [] l.fn.maker out;
-  finds : FindNone (world_row (λ b. (goal.Observer-dyn g (b.vtable, b.value)).tells b.value) (λ b. (goal.Observer-dyn g (b.vtable, b.value)).held b.value)
+  finds : RunOutOfMemory (world_row (λ b. (goal.Observer-dyn g (b.vtable, b.value)).tells b.value) (λ b. (goal.Observer-dyn g (b.vtable, b.value)).held b.value)
       (λ b. (goal.Observer-dyn g (b.vtable, b.value)).left b.value) (λ b. (goal.Observer-dyn g (b.vtable, b.value)).heard b.value) l.self.world) l.maker
-      → FindNone (world_row (λ b. (goal.Observer-dyn g (b.vtable, b.value)).tells b.value) (λ b. (goal.Observer-dyn g (b.vtable, b.value)).held b.value)
+      → RunOutOfMemory (world_row (λ b. (goal.Observer-dyn g (b.vtable, b.value)).tells b.value) (λ b. (goal.Observer-dyn g (b.vtable, b.value)).held b.value)
       (λ b. (goal.Observer-dyn g (b.vtable, b.value)).left b.value) (λ b. (goal.Observer-dyn g (b.vtable, b.value)).heard b.value) l.fn.self.world) l.fn.maker;
   kept : IsKeptWorld (λ b. (goal.Observer-dyn g (b.vtable, b.value)).tells b.value) (λ b. (goal.Observer-dyn g (b.vtable, b.value)).held b.value)
       (λ b. (goal.Observer-dyn g (b.vtable, b.value)).left b.value) (λ b. (goal.Observer-dyn g (b.vtable, b.value)).heard b.value) l.self.world;
