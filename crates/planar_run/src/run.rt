@@ -58,8 +58,8 @@ fn answer_script<S: Source, K: Sink>(engine: &mut Engine, source: &mut S, sink: 
     }
 }
 
-// The same by a new engine, where there is memory for it. It is let go by a call, since what goes of itself at the end of a
-// function is proved there anew, in all its parts.
+// The same by a new engine, where there is memory for it. A call drops it, since what a scope drops at its end is proved there
+// anew, in all its parts.
 fn run<S: Source, K: Sink>(
     alloc: Global,
     strategy: Strategy,

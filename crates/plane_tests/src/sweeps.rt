@@ -62,7 +62,7 @@ fn has_status(sweep: &Sweep, wanted: &Row) -> bool {
     sweep.status() == *status
 }
 
-// The place of the first event that doesn't come, or leave its status, as it has to, or of one that comes after all, if there is one.
+// The place of the first event that is wrong, or whose status is; the number of events where one more comes.
 fn first_wrong_in(sweep: &mut Sweep, case: &Case) -> Result<Option<usize>, Fail> {
     for (place, wanted) in case.events.iter().enumerate() {
         if !is_next(sweep, wanted)? || !has_status(sweep, wanted) {

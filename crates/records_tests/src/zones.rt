@@ -89,7 +89,7 @@ fn is_right(alloc: Global, checked: &Checked, row: &Row) -> Result<bool, Fail> {
     Ok(is_plan(&plan, row) && meets(plan.vertices.as_slice(), row.vertices)?)
 }
 
-// The place of the first row whose zone isn't told so, once the chain is there; how many rows there are where that isn't made so.
+// The place of the first row whose zone is wrong, on the chain; the number of rows where the chain itself is.
 fn first_wrong(alloc: Global, checked: &mut Checked) -> Result<Option<usize>, Fail> {
     let rows: &[Row] = &ROWS;
     if !are_right(alloc, checked, &CHAIN)? {
