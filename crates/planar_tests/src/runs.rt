@@ -133,9 +133,15 @@ fn scripts_are_answered(rt: HostRuntime) -> Result<(), Fail> {
     Ok(())
 }
 
+// The first script of the table that isn't answered by its replies under these words. The table stands here alone: each
+// function that names it is proved with all of it.
+fn first_wrong_row(alloc: Global, behind: &[&str]) -> Result<Option<&'static str>, Fail> {
+    first_wrong(alloc, behind, &ROWS, 4096)
+}
+
 #[test]
 fn segments_are_answered(rt: HostRuntime) -> Result<(), Fail> {
-    assert!(rt; first_wrong(rt.alloc(), &[], &ROWS, 4096)? == None);
+    assert!(rt; first_wrong_row(rt.alloc(), &[])? == None);
     Ok(())
 }
 
@@ -149,7 +155,7 @@ fn no_strategy_changes_a_reply(rt: HostRuntime) -> Result<(), Fail> {
     ];
     for words in strategies {
         assert!(rt;
-            first_wrong(rt.alloc(), words, &ROWS, 4096)? == None,
+            first_wrong_row(rt.alloc(), words)? == None,
             "{words:?}"
         );
     }

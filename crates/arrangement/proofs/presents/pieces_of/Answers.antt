@@ -1,4 +1,4 @@
-use Rattle.std.proofs.Common.{◌<◌, length, sym, ap, ◌∙◌, arith}
+use Rattle.std.proofs.Common.{◌<◌, length, sym, ap, ◌∙◌, arith, rules}
 use Rattle.std.specs.Option.{option_map, option_copied}
 use Rattle.std.proofs.lemmas.List.{take_all}
 use Rattle.slab_laws.specs.Pieces.{piece_of}
@@ -18,3 +18,9 @@ loop-place-preserved c =
 
 pub returns : goal.returns
 returns c = c.loop-place.invariant ∙ take_all c.loop-place.place c.args.history.now.pieces (omega (arith, c.pieces-place-end.ensures))
+
+pub loop-place-init : goal.loop-place-init
+loop-place-init c = search rules
+
+pub same-pieces : goal.same-pieces
+same-pieces c = search rules

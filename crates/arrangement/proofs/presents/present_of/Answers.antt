@@ -1,4 +1,4 @@
-use Rattle.std.proofs.Common.{sym, ap, subst, ◌∙◌}
+use Rattle.std.proofs.Common.{sym, ap, subst, ◌∙◌, rules}
 use Rattle.plane_graphs.specs.Fit.{IsFit}
 use Rattle.plain_slabs.specs.ByName.{points_at, pinned_among}
 use Rattle.arrangement.proofs.PresentsRead.{read}
@@ -15,3 +15,6 @@ returns-clause-fit c =
     let v = c.layer.inside.records.graph in
     let vertices = c.deref.ensures.value ∙ c.in_ok-vertices.ensures in
     subst IsFit (sym (read v c.layer.inside.history c.layer.invariant c.in_ok-pieces.pieces c.in_ok-pins.pins c.in_ok-pieces.ensures (c.in_ok-pins.ensures ∙ ap (λ ks. points_at (pinned_among v ks)) vertices))) c.layer.invariant.lawful.fit
+
+pub same-pieces : goal.same-pieces
+same-pieces c = search rules

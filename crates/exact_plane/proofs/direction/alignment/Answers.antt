@@ -1,4 +1,4 @@
-use Rattle.std.proofs.Common.{arith, unsigned_abs, ◌<◌, ◌*◌, ◌*ℤ◌, subst, sym}
+use Rattle.std.proofs.Common.{arith, unsigned_abs, ◌<◌, ◌*◌, ◌*ℤ◌, subst, sym, rules}
 use Rattle.std.specs.Int.{w128}
 use Rattle.integers.proofs.Machine.{Sized, machine, fits, comes_to}
 use Rattle.integers.proofs.Sizes.{size_sum, size_product}
@@ -24,3 +24,9 @@ returns c =
     let second = size_product c.args.y1 c.args.y2 MAX_DIFFERENCE MAX_DIFFERENCE c.requires.first_y c.requires.second_y in
     let small = size_sum (c.args.x1 *ℤ c.args.x2) (c.args.y1 *ℤ c.args.y2) (MAX_DIFFERENCE * MAX_DIFFERENCE) (MAX_DIFFERENCE * MAX_DIFFERENCE) first second in
     record { value = value; small = subst (λ z. unsigned_abs z < TURN_LIMIT) (sym value) (omega arith) }
+
+pub overflow_mul-result : goal.overflow_mul-result
+overflow_mul-result c = search rules
+
+pub overflow_mul-result-2 : goal.overflow_mul-result-2
+overflow_mul-result-2 c = search rules

@@ -24,3 +24,6 @@ pub returns-clause-first_before : goal.returns-clause-first_before
 returns-clause-first_before c = λ h n.
     let e : c.then.result ≡ turn_cmp c.args.first c.args.a c.args.b = search rules in
     subst (λ (o : Ordering). o ≡ Less) (sym e) (first_before c.args.first c.args.a c.args.b h n)
+
+pub returns-clause-value : goal.returns-clause-value
+returns-clause-value c = search rules

@@ -36,3 +36,9 @@ returns-clause-left c =
     let h : AreEnds s = search rules in
     let e : c.lowest.result ≡ line_of_segment s = search rules in
     subst (λ (l : Line). (t : Point) → int_cmp (side_of l t) (pos 0) ≡ int_cmp (turn_at s.lower s.upper t) (pos 0)) (sym e) (left s h)
+
+pub returns-clause-value : goal.returns-clause-value
+returns-clause-value c = search rules
+
+pub returns-clause-line : goal.returns-clause-line
+returns-clause-line c = search rules

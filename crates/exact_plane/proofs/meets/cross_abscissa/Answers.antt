@@ -1,4 +1,4 @@
-use Rattle.std.proofs.Common.{arith, unsigned_abs, ◌<◌, ◌*◌, ◌*ℤ◌, subst, sym}
+use Rattle.std.proofs.Common.{arith, unsigned_abs, ◌<◌, ◌*◌, ◌*ℤ◌, subst, sym, rules}
 use Rattle.std.specs.Int.{w128}
 use Rattle.integers.proofs.Machine.{Sized, machine, fits, comes_to}
 use Rattle.integers.proofs.Sizes.{size_minus, size_product}
@@ -24,3 +24,9 @@ returns c =
     let second = size_product c.args.b2 c.args.c1 MAX_DIFFERENCE MAX_OFFSET c.requires.b2 c.requires.c1 in
     let small = size_minus (c.args.b1 *ℤ c.args.c2) (c.args.b2 *ℤ c.args.c1) (MAX_DIFFERENCE * MAX_OFFSET) (MAX_DIFFERENCE * MAX_OFFSET) first second in
     record { value = value; small = subst (λ z. unsigned_abs z < NUMERATOR_LIMIT) (sym value) (omega arith) }
+
+pub overflow_mul-result : goal.overflow_mul-result
+overflow_mul-result c = search rules
+
+pub overflow_mul-result-2 : goal.overflow_mul-result-2
+overflow_mul-result-2 c = search rules

@@ -1,4 +1,4 @@
-use Rattle.std.proofs.Common.{arith, unsigned_abs, ◌<◌, ◌*◌, ◌*ℤ◌, subst, sym}
+use Rattle.std.proofs.Common.{arith, unsigned_abs, ◌<◌, ◌*◌, ◌*ℤ◌, subst, sym, rules}
 use Rattle.std.specs.Int.{w128}
 use Rattle.integers.proofs.Machine.{Sized, machine, fits, comes_to}
 use Rattle.integers.proofs.Sizes.{size_minus, size_product}
@@ -24,3 +24,9 @@ returns c =
     let second = size_product c.args.a2 c.args.b1 MAX_DIFFERENCE MAX_DIFFERENCE c.requires.a2 c.requires.b1 in
     let small = size_minus (c.args.a1 *ℤ c.args.b2) (c.args.a2 *ℤ c.args.b1) (MAX_DIFFERENCE * MAX_DIFFERENCE) (MAX_DIFFERENCE * MAX_DIFFERENCE) first second in
     record { value = value; small = subst (λ z. unsigned_abs z < WEIGHT_LIMIT) (sym value) (omega arith) }
+
+pub overflow_mul-result : goal.overflow_mul-result
+overflow_mul-result c = search rules
+
+pub overflow_mul-result-2 : goal.overflow_mul-result-2
+overflow_mul-result-2 c = search rules

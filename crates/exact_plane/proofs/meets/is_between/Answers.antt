@@ -10,3 +10,6 @@ returns-then-starts_by c =
     let from : is_le (place_cmp c.args.span.now.lower (record { x = c.args.x; y = c.args.y; w = c.args.w })) ≡ true = search rules in
     let upto : c.ends_from.result ≡ is_le (place_cmp (record { x = c.args.x; y = c.args.y; w = c.args.w }) c.args.span.now.upper) = search rules in
     upto ∙ sym (ap (λ b. b && is_le (place_cmp p c.args.span.now.upper)) from)
+
+pub returns-else-starts_by : goal.returns-else-starts_by
+returns-else-starts_by c = search rules

@@ -5,3 +5,6 @@ use Rattle.exact_plane.proofs.point.lowest.Goals as goal
 
 pub invariant_of-result : goal.invariant_of-result
 invariant_of-result c = subst IsPoint (search rules) (reduced_point c.args.x c.args.y c.args.w (is_in_range c.args.x c.args.y c.args.w (search rules)))
+
+pub returns : goal.returns
+returns c = search rules

@@ -1,4 +1,5 @@
 use Rattle.std.proofs.Common.{arith, unsigned_abs, ◌<◌, subst, sym}
+use Rattle.std.proofs.lemmas.Grind.{common_steps}
 use Rattle.std.specs.Int.{w128}
 use Rattle.integers.proofs.Machine.{Sized, machine, comes_to}
 use Rattle.integers.proofs.Sizes.{size_product_below}
@@ -14,3 +15,6 @@ returns c =
       value = value;
       small = subst (λ z. unsigned_abs z < PRODUCT_LIMIT) (sym value) (size_product_below c.args.number c.args.weight NUMERATOR_LIMIT WEIGHT_LIMIT c.requires.number c.requires.weight);
     }
+
+pub overflow_mul-result : goal.overflow_mul-result
+overflow_mul-result c = grind (arith, common_steps)

@@ -14,3 +14,6 @@ returns-clause-value c =
     let first : to_z w128 (of_z w128 c.depth-of_first.result) ≡ (l.a *ℤ p.x +ℤ l.c *ℤ p.w) *ℤ m.b = search rules in
     let second : to_z w128 (of_z w128 c.depth-of_second.result) ≡ (m.a *ℤ p.x +ℤ m.c *ℤ p.w) *ℤ l.b = search rules in
     c.cmp.ensures ∙ ap₂ int_cmp second first ∙ height_cmp-is l m p h.range.positive
+
+pub returns-clause-limit : goal.returns-clause-limit
+returns-clause-limit c = search rules

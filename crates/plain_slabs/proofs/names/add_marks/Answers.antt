@@ -1,4 +1,5 @@
-use Rattle.std.proofs.Common.{◌++◌, map, sym, ap, ◌∙◌}
+use Rattle.std.proofs.Common.{◌++◌, map, sym, ap, ◌∙◌, rules, arith}
+use Rattle.std.proofs.lemmas.Grind.{common_steps}
 use Rattle.std.proofs.lemmas.List.{take_all}
 use Rattle.plane_graphs.specs.Graph.{mark}
 use Rattle.plane_graphs.proofs.Lists.{map_map}
@@ -14,3 +15,12 @@ returns-clause-marks g c =
     c.loop-curve.invariant
     ∙ ap (λ cs. old ++ map (λ (x : CurveId). mark k.source k.target x.0) cs) read
     ∙ ap (λ ms. old ++ ms) (sym (map_map (λ x. x.0) (mark k.source k.target) (g.R.Curved.curve_list c.args.records.now c.args.dart.now.name)))
+
+pub loop-curve-init : goal.loop-curve-init
+loop-curve-init g c = search rules
+
+pub loop-curve-preserved : goal.loop-curve-preserved
+loop-curve-preserved g c = grind (arith, common_steps)
+
+pub returns-clause-ascend : goal.returns-clause-ascend
+returns-clause-ascend g c = search rules

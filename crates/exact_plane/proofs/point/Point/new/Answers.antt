@@ -7,3 +7,27 @@ pub returns-clause-same_place : goal.returns-clause-same_place
 returns-clause-same_place c =
     let e : c.lowest.result ≡ reduced c.args.x c.args.y c.args.w = search rules in
     same_place c.args.x c.args.y c.args.w (is_in_range c.args.x c.args.y c.args.w (search rules)) c.lowest.result e
+
+pub returns-then-w-eq0 : goal.returns-then-w-eq0
+returns-then-w-eq0 c = search rules
+
+pub returns-then-not-is_in_range : goal.returns-then-not-is_in_range
+returns-then-not-is_in_range c = search rules
+
+pub returns-clause-value : goal.returns-clause-value
+returns-clause-value c = search rules
+
+pub returns-clause-zero_weight : goal.returns-clause-zero_weight
+returns-clause-zero_weight c = search rules
+
+pub returns-clause-range : goal.returns-clause-range
+returns-clause-range c = search rules
+
+pub returns-clause-in_range : goal.returns-clause-in_range
+returns-clause-in_range c = search rules
+
+pub returns-clause-lowest : goal.returns-clause-lowest
+returns-clause-lowest c = search rules
+
+pub returns-clause-limits : goal.returns-clause-limits
+returns-clause-limits c = search rules

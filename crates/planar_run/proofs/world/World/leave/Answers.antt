@@ -1,4 +1,4 @@
-use Rattle.std.proofs.Common.{sym, ◌∙◌}
+use Rattle.std.proofs.Common.{sym, ◌∙◌, rules}
 use Rattle.planar_run.proofs.Worlds.{if_left_there, if_not_left, left_here, left_kept, seated_here, seated_there}
 use Rattle.planar_run.proofs.world.World.leave.Goals as goal
 
@@ -30,3 +30,6 @@ returns-in-Err-clause-kept g c = record {
   current = left_kept c.leave.result c.args.number c.args.when _ _ c.requires.kept.current c.leave.ensures.layer c.leave.ensures.left c.leave.ensures.err c.leave.ensures.watched;
   other = left_kept c.leave-in-Err.result c.args.number c.args.when _ _ c.requires.kept.other c.leave-in-Err.ensures.layer c.leave-in-Err.ensures.left c.leave-in-Err.ensures.err c.leave-in-Err.ensures.watched;
 }
+
+pub returns-in-Ok-clause-err : goal.returns-in-Ok-clause-err
+returns-in-Ok-clause-err g c = search rules

@@ -1,4 +1,4 @@
-use Rattle.std.proofs.Common.{Err, ap, sym, ◌∙◌}
+use Rattle.std.proofs.Common.{Err, ap, sym, ◌∙◌, rules}
 use Rattle.planar_run.proofs.Worlds.{if_reported_there, reported_here, seat_told, seated_here, seated_there, told_by_seat}
 use Rattle.planar_run.proofs.world.World.report.Goals as goal
 
@@ -24,3 +24,6 @@ returns-in-Err-NoSeat-clause-report g c =
 pub returns-in-Err-NoMemory-clause-seat : goal.returns-in-Err-NoMemory-clause-seat
 returns-in-Err-NoMemory-clause-seat g c =
     told_by_seat _ _ _ (λ e. cc) (seated_here c.args.number _ _ c.requires.kept (seat_told _ _ _ (λ e. cc) c.in-Err-NoMemory.ensures.seat))
+
+pub returns-in-Err-NoMemory-clause-report : goal.returns-in-Err-NoMemory-clause-report
+returns-in-Err-NoMemory-clause-report g c = search rules
