@@ -154,10 +154,7 @@ fn no_strategy_changes_a_reply(rt: HostRuntime) -> Result<(), Fail> {
         &["--locate", "trapezoid"],
     ];
     for words in strategies {
-        assert!(rt;
-            first_wrong_row(rt.alloc(), words)? == None,
-            "{words:?}"
-        );
+        assert!(rt; first_wrong_row(rt.alloc(), words)? == None, "{words:?}");
     }
     Ok(())
 }
