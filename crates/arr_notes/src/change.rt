@@ -3,7 +3,7 @@ use slab_laws::{CurveId, DartId, VertexId};
 
 /// A change that was made, told by the names of the records, so that a view needs nothing else to follow it (CGAL manual,
 /// `Arr_observer`: what is notified after a change).
-#[derive(Clone, Copy, Debug, PartialEq, Eq)]
+#[derive(Clone, Copy)]
 pub enum Change {
     /// The vertex `v` came at `p`, unpinned and without darts.
     AddVertex {

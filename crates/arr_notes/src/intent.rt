@@ -2,7 +2,7 @@ use exact_plane::Point;
 use slab_laws::CurveId;
 
 /// A change that is about to be made, told by points (CGAL manual, `Arr_observer`: what is notified before a change).
-#[derive(Clone, Copy, Debug, PartialEq, Eq)]
+#[derive(Clone, Copy)]
 pub enum Intent {
     /// A vertex comes at the point.
     AddVertex(Point),

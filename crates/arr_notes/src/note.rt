@@ -3,7 +3,7 @@ use crate::intent::Intent;
 use crate::view::View;
 
 /// What an observer is told (CGAL manual, `Arr_observer`; a snapshot: this project).
-#[derive(Drop, Debug)]
+#[derive(Drop)]
 pub enum Note {
     /// The change is about to be made.
     Before(Intent),
@@ -14,7 +14,7 @@ pub enum Note {
 }
 
 /// What an observer answers to a note.
-#[derive(Clone, Copy, Debug, PartialEq, Eq)]
+#[derive(Clone, Copy, PartialEq, Eq)]
 pub enum Answer {
     /// It stays.
     Stay,

@@ -6,7 +6,7 @@ use slab_laws::{CurveId, DartId, Sequence, VertexId};
 use std::marker::Model;
 
 /// A vertex of a view: its name, its point, and whether it is pinned.
-#[derive(Clone, Copy, Debug, PartialEq, Eq)]
+#[derive(Clone, Copy)]
 pub struct VertexRow {
     pub name: VertexId,
     pub point: Point,
@@ -15,7 +15,7 @@ pub struct VertexRow {
 
 /// A dart of a view: its name, the vertex that it leaves, its opposite, the dart that follows on its cycle, and the line of
 /// its edge.
-#[derive(Clone, Copy, Debug, PartialEq, Eq)]
+#[derive(Clone, Copy)]
 pub struct DartRow {
     pub name: DartId,
     pub source: VertexId,
@@ -25,7 +25,7 @@ pub struct DartRow {
 }
 
 /// An edge of a view: the name of its dart from the lower to the upper end, its line, and the numbers of its curves, ascending.
-#[derive(Drop, Debug)]
+#[derive(Drop)]
 pub struct EdgeRow {
     pub dart: DartId,
     pub line: Line,
@@ -33,7 +33,7 @@ pub struct EdgeRow {
 }
 
 /// Records as they stand at one moment, handed over whole: vertices, darts and edges, each ascending by name.
-#[derive(Drop, Debug)]
+#[derive(Drop)]
 pub struct View {
     pub(crate) vertices: Sequence<VertexRow>,
     pub(crate) darts: Sequence<DartRow>,

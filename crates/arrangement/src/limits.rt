@@ -8,7 +8,7 @@ pub const MAX_PIECES: u32 = 10_000;
 pub const MAX_PINS: u32 = 10_000;
 
 /// The limits of a layer, and the number of its first curve.
-#[derive(Clone, Copy, Debug, PartialEq, Eq)]
+#[derive(Clone, Copy)]
 pub struct Limits {
     /// How many curves may have a name; at most `MAX_CURVES`.
     pub curves: u32,

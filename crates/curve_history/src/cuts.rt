@@ -11,7 +11,7 @@ use exact_plane::{Point, Segment, Sign, orientation};
 use slab_laws::Piece;
 
 /// What a cut between two points will leave of pieces, told before the first change.
-#[derive(Clone, Copy, Debug)]
+#[derive(Clone, Copy)]
 pub struct CutPlan {
     /// How many pieces will be left.
     pub left: u64,

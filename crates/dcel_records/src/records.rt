@@ -32,7 +32,7 @@ impl Model for Records {
 }
 
 /// How many vertices and edges more are to fit.
-#[derive(Clone, Copy, Debug, PartialEq, Eq)]
+#[derive(Clone, Copy, PartialEq, Eq)]
 pub struct Room {
     pub vertices: usize,
     pub edges: usize,

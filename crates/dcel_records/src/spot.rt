@@ -1,7 +1,7 @@
 use slab_laws::{DartId, VertexId};
 
 /// Where a point lies in the records (CGAL manual, point location).
-#[derive(Clone, Copy, Debug, PartialEq, Eq)]
+#[derive(Clone, Copy, PartialEq, Eq)]
 pub enum Spot {
     /// At the vertex.
     Vertex(VertexId),

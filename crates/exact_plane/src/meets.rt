@@ -13,7 +13,7 @@ use crate::spans::Span;
 use std::cmp::Ordering;
 
 /// What two segments or spans have in common.
-#[derive(Clone, Copy, Debug, PartialEq, Eq)]
+#[derive(Clone, Copy, PartialEq, Eq)]
 pub enum Meet {
     /// No point.
     Apart,

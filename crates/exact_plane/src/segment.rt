@@ -25,7 +25,7 @@ pub enum SegmentError {
 /// A segment between two points with whole coordinates, in plane units.
 ///
 /// Its lower end is the lesser of the two in point order.
-#[derive(Clone, Copy, Debug, PartialEq, Eq)]
+#[derive(Clone, Copy, PartialEq, Eq)]
 pub struct Segment {
     lower_x: i64,
     lower_y: i64,

@@ -14,7 +14,7 @@ use crate::segment::Segment;
 use std::cmp::Ordering;
 
 /// The sign of a number, or the side of a line on which a point is.
-#[derive(Clone, Copy, Debug, PartialEq, Eq)]
+#[derive(Clone, Copy, PartialEq, Eq)]
 pub enum Sign {
     /// Negative: on the right of the line.
     Minus,

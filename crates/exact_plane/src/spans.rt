@@ -9,7 +9,7 @@ use crate::sides::is_on;
 use std::marker::Model;
 
 /// The part of a line between two of its points, which it includes.
-#[derive(Clone, Copy, Debug)]
+#[derive(Clone, Copy)]
 pub struct Span {
     pub(crate) lower: Point,
     pub(crate) upper: Point,

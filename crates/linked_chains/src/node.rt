@@ -1,5 +1,5 @@
 /// What a node says: the key of its chain, what is kept for it, and the name of its twin, of which the chains know nothing.
-#[derive(Clone, Copy, Debug, PartialEq, Eq)]
+#[derive(Clone, Copy)]
 pub struct Entry {
     pub key: usize,
     pub item: usize,
@@ -7,7 +7,7 @@ pub struct Entry {
 }
 
 /// A node: its entry, and its neighbours in its chain.
-#[derive(Clone, Copy, Debug, PartialEq, Eq)]
+#[derive(Clone, Copy)]
 pub(crate) struct Node {
     pub(crate) entry: Entry,
     pub(crate) before: Option<usize>,

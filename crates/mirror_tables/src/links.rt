@@ -49,7 +49,7 @@ fn follows(darts: &BTreeMap<usize, DartEntry>, at: Option<DartId>, out: DartId) 
 }
 
 /// An end of a new edge: a vertex, and the dart out of it directly before the new one clockwise.
-#[derive(Clone, Copy, Debug, PartialEq, Eq)]
+#[derive(Clone, Copy)]
 pub(crate) struct End {
     pub(crate) vertex: VertexId,
     pub(crate) place: Option<DartId>,

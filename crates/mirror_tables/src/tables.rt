@@ -3,14 +3,14 @@ use slab_laws::{CurveId, DartId, Sequence, VertexId};
 use std::collections::BTreeMap;
 
 /// What is kept of a vertex.
-#[derive(Clone, Copy, Debug, PartialEq, Eq)]
+#[derive(Clone, Copy)]
 pub struct VertexEntry {
     pub point: Point,
     pub pinned: bool,
 }
 
 /// What is kept of a dart: beside what a view says, the dart that it follows.
-#[derive(Clone, Copy, Debug, PartialEq, Eq)]
+#[derive(Clone, Copy)]
 pub struct DartEntry {
     pub source: VertexId,
     pub twin: DartId,

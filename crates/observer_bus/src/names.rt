@@ -11,7 +11,7 @@ use std::marker::Model;
 pub(crate) const ROOM: usize = 8;
 
 /// Names of observers, ascending, each once, with room for eight: what contracts see as a list.
-#[derive(Drop, Debug)]
+#[derive(Drop)]
 pub struct Names {
     items: Vec<u32>,
 }

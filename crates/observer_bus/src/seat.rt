@@ -20,7 +20,7 @@ pub struct Seat {
 }
 
 /// What becomes of a seat in a round.
-#[derive(Clone, Copy, Debug, PartialEq, Eq)]
+#[derive(Clone, Copy)]
 pub enum Fate {
     /// It was told the note and stays.
     Told,
@@ -135,8 +135,10 @@ impl Seat {
         ensures heard { OnOk result (heard self.new.observer ≡ heard_after (heard self.old.observer) (Snapshot (view_by (R.graph records.now) (R.curve_list records.now)))) }
         ensures held { OnOk result (IsTrue (tells self.old.observer) → held self.new.observer ≡ Some (view_by (R.graph records.now) (R.curve_list records.now))) }
     {
-        let view = snapshot(alloc, records)?;
-        match self.observer.heed(&Note::Snapshot(view)) {
+        let note = Note::Snapshot(snapshot(alloc, records)?);
+        let answer = self.observer.heed(&note);
+        drop(note);
+        match answer {
             Answer::Stay => Ok(()),
             _ => Err(NoMemory),
         }

@@ -7,7 +7,7 @@ use no_memory::NoMemory;
 use std::alloc::Global;
 
 /// The names of the observers that joined, left and were lost since an edit began.
-#[derive(Drop, Debug)]
+#[derive(Drop)]
 pub struct Went {
     /// They were handed a snapshot.
     pub joined: Names,

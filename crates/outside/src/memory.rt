@@ -94,7 +94,7 @@ impl Source for MemorySource {
 }
 
 /// A source of one byte, again and again, which never fails. It tells its bytes.
-#[derive(Clone, Copy, Debug)]
+#[derive(Clone, Copy)]
 pub struct RepeatSource {
     byte: u8,
     n: u64,

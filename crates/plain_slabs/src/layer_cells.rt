@@ -14,7 +14,7 @@ use slab_laws::{Present, SlabCell};
 use std::alloc::{AllocError, Global};
 
 /// An edge with the slabs that it spans, and whether it is of a layer.
-#[derive(Clone, Copy, Debug)]
+#[derive(Clone, Copy)]
 pub(crate) struct LayerEdge {
     pub(crate) edge: Span,
     /// The number of the first slab that it spans.

@@ -9,7 +9,7 @@ use no_memory::NoMemory;
 use std::alloc::Global;
 
 /// Why an observer isn't attached.
-#[derive(Clone, Copy, Debug, PartialEq, Eq)]
+#[derive(Clone, Copy)]
 pub enum AttachRefusal {
     /// There is none of the number, or it has left or was lost.
     Gone,

@@ -10,12 +10,6 @@ mod memory;
 #[cfg(test)]
 mod observers;
 #[cfg(test)]
-mod removals;
-#[cfg(test)]
-mod rows;
-#[cfg(test)]
 mod runs;
 #[cfg(test)]
 mod streams;
-#[cfg(test)]
-mod words;

@@ -362,12 +362,12 @@ fn segments_meet(rt: HostRuntime) -> Result<(), Fail> {
             at(-1048575, -4398037073925, 8796072050701)?,
         ),
     ];
-    for (first, second, wanted) in rows {
+    for (place, (first, second, wanted)) in rows.into_iter().enumerate() {
         let (first, second) = (segment(first)?, segment(second)?);
-        assert!(rt; meeting(&first, &second) == wanted, "{wanted:?}");
+        assert!(rt; meeting(&first, &second) == wanted, "row {place}");
         assert!(rt;
             meeting(&second, &first) == wanted,
-            "{wanted:?} the other way"
+            "row {place}, the other way"
         );
     }
     Ok(())

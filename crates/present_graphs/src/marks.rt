@@ -12,7 +12,7 @@ use slab_laws::{CurveId, Piece, Present};
 use std::alloc::Global;
 
 /// One curve along one edge.
-#[derive(Clone, Copy, Debug, PartialEq, Eq, PartialOrd, Ord)]
+#[derive(Clone, Copy, PartialEq, Eq, PartialOrd, Ord)]
 pub struct Mark {
     /// The edge's lesser end.
     pub low: Point,

@@ -9,7 +9,7 @@ use std::alloc::Global;
 use std::collections::BTreeSet;
 
 /// A boundary cycle: the first of its darts, whether it bounds its face from outside, and that face.
-#[derive(Clone, Copy, Debug, PartialEq, Eq)]
+#[derive(Clone, Copy)]
 pub struct CycleKey {
     pub lead: DartId,
     pub outer: bool,

@@ -13,7 +13,7 @@ use slab_laws::{DartId, Darts};
 use std::alloc::Global;
 
 /// A dart with the points of its ends, by which it is ordered.
-#[derive(Clone, Copy, Debug, PartialEq, Eq, PartialOrd, Ord)]
+#[derive(Clone, Copy, PartialEq, Eq, PartialOrd, Ord)]
 pub struct DartKey {
     pub source: Point,
     pub target: Point,

@@ -11,7 +11,7 @@ use slab_laws::{Darts, VertexId};
 use std::alloc::Global;
 
 /// A vertex with its point, by which it is ordered.
-#[derive(Clone, Copy, Debug, PartialEq, Eq, PartialOrd, Ord)]
+#[derive(Clone, Copy, PartialEq, Eq, PartialOrd, Ord)]
 pub struct VertexKey {
     pub point: Point,
     pub name: VertexId,

@@ -67,10 +67,10 @@ fn join(
 }
 
 fn cuts(checked: &mut Checked, d: DartId, wanted: Option<DartId>) -> bool {
-    let change = checked.cut(d);
-    match wanted {
-        Some(m) => change == Some(Change::RemoveEdge { d, m }),
-        None => change.is_none(),
+    match (checked.cut(d), wanted) {
+        (Some(Change::RemoveEdge { d: gone, m }), Some(twin)) => gone == d && m == twin,
+        (None, None) => true,
+        _ => false,
     }
 }
 
@@ -86,10 +86,10 @@ fn split(checked: &mut Checked, d: DartId, at: Point) -> Option<(VertexId, DartI
 }
 
 fn merges(checked: &mut Checked, v: VertexId, wanted: Option<(DartId, DartId)>) -> bool {
-    let change = checked.merge(v);
-    match wanted {
-        Some((d, n)) => change == Some(Change::MergeEdge { v, d, n }),
-        None => change.is_none(),
+    match (checked.merge(v), wanted) {
+        (Some(Change::MergeEdge { v: gone, d, n }), Some(darts)) => gone == v && (d, n) == darts,
+        (None, None) => true,
+        _ => false,
     }
 }
 
@@ -117,6 +117,17 @@ fn direction(ends: Ends, along: bool) -> Result<Direction, Fail> {
     Ok(if along { direction } else { direction.back() })
 }
 
+fn are_one_place(found: Option<Place>, wanted: Option<Place>) -> bool {
+    match (found, wanted) {
+        (Some(Place::Between(before, after)), Some(Place::Between(first, second))) => {
+            before == first && after == second
+        }
+        (Some(Place::Along(dart)), Some(Place::Along(other))) => dart == other,
+        (Some(Place::Bare), Some(Place::Bare)) | (None, None) => true,
+        _ => false,
+    }
+}
+
 // Whether a call that changes nothing answers as it has to.
 fn is_told(checked: &Checked, call: &Call) -> Result<bool, Fail> {
     match call {
@@ -128,7 +139,8 @@ fn is_told(checked: &Checked, call: &Call) -> Result<bool, Fail> {
         Call::IsBare(v) => Ok(checked.out_of(VertexId(*v)).is_none()),
         Call::HasNone => Ok(checked.first_dart().is_none()),
         Call::HasPlace(v, ends, along, wanted) => {
-            Ok(checked.place(VertexId(*v), direction(*ends, *along)?) == *wanted)
+            let found = checked.place(VertexId(*v), direction(*ends, *along)?);
+            Ok(are_one_place(found, *wanted))
         }
         _ => Ok(false),
     }

@@ -208,7 +208,12 @@ fn is_told(history: &mut History, piece: Piece) -> Result<bool, NoMemory>
     history.reserve(0, 1, 0)?;
     history.add_piece(piece);
     match history.piece(0) {
-        Some(found) => Ok(*found == piece && history.piece(1).is_none()),
+        Some(found) => Ok(
+            found.curve == piece.curve
+                && found.segment == piece.segment
+                && (found.from, found.to) == (piece.from, piece.to)
+                && history.piece(1).is_none(),
+        ),
         None => Ok(false),
     }
 }

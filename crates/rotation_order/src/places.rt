@@ -8,7 +8,7 @@ use exact_plane::{Direction, turn_order};
 use slab_laws::{DartId, Darts, VertexId};
 
 /// Where a direction stands among the darts out of a vertex.
-#[derive(Clone, Copy, Debug, PartialEq, Eq)]
+#[derive(Clone, Copy)]
 pub enum Place {
     /// Between two neighbours, clockwise from the first; one dart twice where it is alone.
     Between(DartId, DartId),

@@ -17,7 +17,7 @@ use exact_plane::Point;
 pub const MAX_LINE: usize = 200;
 
 /// What a line asks for.
-#[derive(Clone, Copy, Debug, PartialEq, Eq)]
+#[derive(Clone, Copy)]
 pub enum Command {
     /// A comment, or a line without words: nothing is asked for, and nothing is replied.
     Nothing,

@@ -9,7 +9,7 @@ use no_memory::NoMemory;
 use std::alloc::Global;
 
 /// The places of the edges in one slab.
-#[derive(Drop, Debug)]
+#[derive(Drop)]
 pub(crate) struct Places {
     pub slab: usize,
     /// For each edge that spans the slab, how many of the slab's edges are below it; 0 for each other.

@@ -8,7 +8,7 @@ use no_memory::NoMemory;
 use std::alloc::Global;
 
 /// An edge with the slabs that it spans.
-#[derive(Clone, Copy, Debug)]
+#[derive(Clone, Copy)]
 pub(crate) struct Reach {
     pub edge: Span,
     /// The number of the first slab that it spans.

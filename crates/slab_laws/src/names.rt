@@ -19,14 +19,14 @@ pub struct CycleId(pub usize);
 pub struct FaceId(pub usize);
 
 /// Whether a cycle bounds its face from outside, counterclockwise, or is a hole in it, clockwise.
-#[derive(Clone, Copy, Debug, PartialEq, Eq)]
+#[derive(Clone, Copy, PartialEq, Eq)]
 pub enum CycleKind {
     Outer,
     Inner,
 }
 
 /// How a point is located.
-#[derive(Clone, Copy, Debug, PartialEq, Eq)]
+#[derive(Clone, Copy, PartialEq, Eq)]
 pub enum Strategy {
     /// All vertices, then all edges.
     Naive,

@@ -2,7 +2,7 @@ use crate::slab_cell::SlabCell;
 
 /// A dart of a subdivision that is kept in lists: the places of its two vertices and of its edge, and whether it goes from
 /// the edge's lower end to its upper one.
-#[derive(Clone, Copy, Debug, PartialEq, Eq, PartialOrd, Ord)]
+#[derive(Clone, Copy, PartialEq, Eq, PartialOrd, Ord)]
 pub struct ListedDart {
     pub source: usize,
     pub target: usize,
@@ -11,7 +11,7 @@ pub struct ListedDart {
 }
 
 /// A boundary cycle of such a subdivision: the place of its least dart, whether it is outer, and the least cell of its face.
-#[derive(Clone, Copy, Debug, PartialEq, Eq)]
+#[derive(Clone, Copy)]
 pub struct CycleRow {
     pub lead: usize,
     pub outer: bool,

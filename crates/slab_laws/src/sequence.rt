@@ -5,7 +5,7 @@ use std::alloc::Global;
 use std::marker::Model;
 
 /// Values in their order, which contracts see as a list: what a field of a public type holds in place of a `Vec`.
-#[derive(Drop, Debug)]
+#[derive(Drop)]
 pub struct Sequence<T> {
     items: Vec<T>,
 }

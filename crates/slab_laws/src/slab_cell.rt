@@ -1,5 +1,5 @@
 /// The part of a slab that has so many of the slab's edges below it. Cells are ordered by slab, then by place.
-#[derive(Clone, Copy, Debug, PartialEq, Eq, PartialOrd, Ord)]
+#[derive(Clone, Copy, PartialEq, Eq, PartialOrd, Ord)]
 pub struct SlabCell {
     /// How many vertices lie to the left of the slab.
     pub slab: usize,

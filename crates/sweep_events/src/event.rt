@@ -3,7 +3,7 @@ use slab_laws::Sequence;
 
 /// What a sweep comes to at one point: an end of a piece, a pin, or a common point of two pieces of different lines, with the
 /// pieces that it is on. These are told by their places in the list that the sweep was given, and each list ascends.
-#[derive(Drop, Debug)]
+#[derive(Drop)]
 pub struct Event {
     /// The point.
     pub point: Point,

@@ -16,14 +16,14 @@ use std::alloc::Global;
 use std::cmp::Ordering;
 
 // A piece that begins somewhere.
-#[derive(Clone, Copy, Debug, PartialEq, Eq, PartialOrd, Ord)]
+#[derive(Clone, Copy, PartialEq, Eq, PartialOrd, Ord)]
 pub(crate) struct Start {
     pub(crate) lower: Point,
     pub(crate) place: usize,
 }
 
 // The line of a piece, with its place.
-#[derive(Clone, Copy, Debug)]
+#[derive(Clone, Copy)]
 pub(crate) struct PlacedLine {
     pub(crate) line: Line,
     pub(crate) place: usize,

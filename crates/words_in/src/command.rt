@@ -1,27 +1,35 @@
 ghost use Rattle.std.specs.Prelude.{◌≡◌, ◌≢◌, ◌↔◌, [], ℕ, List, map, string_bytes, IfOk};
 ghost use Rattle.clap.specs.Faults.{fault_of};
 ghost use Rattle.clap.specs.Matches.{found_of, first_value};
-ghost use Rattle.clap.specs.Simple.{app_of, matches_of};
+ghost use Rattle.clap.specs.Simple.{app_of, matches_of, with_rule};
 ghost use Rattle.clap.specs.Walk.{first_of};
-ghost use Rattle.words_in.specs.Command.{planar_app};
+ghost use Rattle.words_in.specs.Command.{option_rule, planar_app};
 
 use crate::options::WordsError;
 use clap::error::ErrorKind;
 use clap::{Arg, ArgMatches, Command};
 use std::alloc::{AllocError, Global};
 
+// The command with one option more, which takes a text. The option is made where it is taken: one that waited would have to be let go
+// wherever another finds no memory.
+fn with_option<'a>(
+    alloc: Global,
+    command: Command<'a>,
+    name: &'a str,
+) -> Result<Command<'a>, AllocError>
+    ensures { IfOk result (λ c. app_of c ≡ with_rule (app_of command.entry) (option_rule name.entry.now)) }
+{
+    command.arg(Arg::new(alloc, name).long(name))
+}
+
 // The command whose options the words give.
 fn planar_command<'a>(alloc: Global) -> Result<Command<'a>, AllocError>
     ensures { IfOk result (λ c. app_of c ≡ planar_app) }
 {
-    let locate = Arg::new(alloc, "locate").long("locate");
-    let make = Arg::new(alloc, "make").long("make");
-    let seed = Arg::new(alloc, "seed").long("seed");
-    Command::new(alloc, "planar")
-        .disable_help_flag(true)
-        .arg(locate)?
-        .arg(make)?
-        .arg(seed)
+    let command = Command::new(alloc, "planar").disable_help_flag(true);
+    let command = with_option(alloc, command, "locate")?;
+    let command = with_option(alloc, command, "make")?;
+    with_option(alloc, command, "seed")
 }
 
 // What a refusal of `clap` means here.

@@ -6,7 +6,7 @@ use thiserror::Error;
 pub const MAX_SEGMENTS: u32 = 2000;
 
 /// What the words ask for.
-#[derive(Clone, Copy, Debug, PartialEq, Eq)]
+#[derive(Clone, Copy, PartialEq, Eq)]
 pub struct Options {
     /// By which way points are located; where the words name none, [`Strategy::Naive`].
     pub strategy: Strategy,

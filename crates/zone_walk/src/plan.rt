@@ -3,14 +3,14 @@ use exact_plane::Point;
 use slab_laws::{DartId, Sequence};
 
 /// A point where a segment meets a graph, and where it lies there.
-#[derive(Clone, Copy, Debug, PartialEq, Eq)]
+#[derive(Clone, Copy)]
 pub struct Meeting {
     pub point: Point,
     pub spot: Spot,
 }
 
 /// The plan of an insertion.
-#[derive(Drop, Debug)]
+#[derive(Drop)]
 pub struct ZonePlan {
     /// The vertices on the segment once it is inserted, ascending, each with its place before that.
     pub vertices: Sequence<Meeting>,

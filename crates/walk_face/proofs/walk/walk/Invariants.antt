@@ -1,6 +1,0 @@
-use Rattle.slab_laws.specs.View.{HasDart}
-use Rattle.walk_face.proofs.walk.walk.Given as goal
-
--- the dart that is looked at has a record
-abbrev pub invariant-boundary : goal.invariant-boundary
-invariant-boundary g l = HasDart (g.R.Darts.graph l.records) l.dart
