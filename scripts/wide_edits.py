@@ -1,8 +1,9 @@
 #!/usr/bin/env python3
 """The wide edits: wrong bodies that the prover must refuse, beside those of the gate (docs/GATE.md).
 
-    scripts/wide_edits.py [CRATE..]     tries those of these crates, without a name of all, by `rt must-fail` on a copy of the
-                                        repository; from nothing all of them take about an hour of processor time
+    scripts/wide_edits.py [CRATE..]     tries those of these crates and of the crates below them, without a name of all, by `rt ci` on
+                                        a copy of the repository in which they stand in the gate's place. What a run of the gate has
+                                        passed on this machine isn't proved again, so run it first
     scripts/wide_edits.py --read        only looks whether each can be applied still, and prints those that can't
 
 They stand in crates/NAME/must-fail-wide/, in the form that `rt help` gives for crates/NAME/must-fail/."""
@@ -46,16 +47,14 @@ def read():
 
 
 def attempt(names):
-    """Tries the edits of these crates, or of all, and returns the status of `rt must-fail`."""
+    """Tries the edits of these crates, or of all, and returns the status of `rt ci`."""
     with tempfile.TemporaryDirectory() as room:
         for name in ("HANDLES", "crates.txt"):
             shutil.copy(ROOT / name, room)
-        shutil.copytree(ROOT / "crates", Path(room, "crates"), symlinks=True)
-        for edits in Path(room).glob("crates/*/must-fail"):
-            shutil.rmtree(edits)
+        shutil.copytree(ROOT / "crates", Path(room, "crates"), ignore=shutil.ignore_patterns("must-fail", "out"))
         for edits in Path(room).glob("crates/*/must-fail-wide"):
             edits.rename(edits.with_name("must-fail"))
-        return subprocess.run(["rt", "must-fail", *names], cwd=room, check=False).returncode
+        return subprocess.run(["rt", "ci", *names], cwd=room, check=False).returncode
 
 
 if __name__ == "__main__":
