@@ -17,7 +17,7 @@ cp -r crates/integers crates/exact_plane "$folder/crates/"
 for file in main cases; do # the gate reads every .rt file of the repository, so they have other names here
   cp "benchmarks/plane_calls/$file.rt.txt" "$folder/crates/plane_calls/src/$file.rt"
 done
-printf 'integers:\nexact_plane: integers\nplane_calls: exact_plane\n' > "$folder/crates.txt"
+(grep -E '^(integers|exact_plane):' crates.txt; echo 'plane_calls: exact_plane') > "$folder/crates.txt"
 git init -q "$folder"
 (cd "$folder/crates/plane_calls" && echo 'nothing 0 0 0' | rt run > /dev/null)
 program=$folder/crates/plane_calls/out/plane_calls

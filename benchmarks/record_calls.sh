@@ -29,6 +29,12 @@ echo "record_calls: records_tests $below" >> "$folder/crates.txt"
 for place in edge_unlink/src/edges.rt:unlink edge_split_merge/src/joining.rt:merge edge_split_merge/src/parting.rt:split; do
   sed -i "s/^pub fn ${place#*:}(/#[inline(never)]\n&/" "$folder/crates/${place%:*}"
 done
+# What the tests build records by is read with tests alone, and here without them.
+tests=$folder/crates/records_tests/src/lib.rt
+for module in changes checked lists merges planes splits; do
+  sed -i "/^#\\[cfg(test)\\]\$/{N;s/.*\\n\\(mod $module;\\)/\\1/}" "$tests"
+done
+echo 'pub use checked::Checked;' >> "$tests"
 own=$folder/crates/record_calls
 mkdir -p "$own/src"
 for file in main stars; do # the gate reads every .rt file of the repository, so they have other names here

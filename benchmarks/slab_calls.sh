@@ -14,9 +14,18 @@ shift
 folder=$(mktemp -d)
 trap 'rm -rf "$folder"' EXIT
 engine=$(sed -n 's/^plain_slabs: //p' crates.txt)
+crates=$(awk -F': *' '
+  function add(name, list, count, k) {
+    if (!(name in below) || seen[name]++) return # (not in it: a crate of the kit)
+    print name
+    count = split(below[name], list, " ")
+    for (k = 1; k <= count; k++) add(list[k])
+  }
+  /^[a-z]/ { below[$1] = $2 }
+  END { add("plain_slabs") }' crates.txt)
 mkdir "$folder/crates"
 cp HANDLES "$folder/"
-for crate in plain_slabs $engine; do
+for crate in $crates; do
   cp -r "crates/$crate" "$folder/crates/"
   grep "^$crate:" crates.txt >> "$folder/crates.txt"
 done
