@@ -80,17 +80,9 @@ fn run(
     run_source(alloc, behind, &mut source)
 }
 
-// Whether a script that comes in pieces is run to its end and answered by just these replies, under these words.
-fn is_answered(
-    alloc: Global,
-    behind: &[&str],
-    script: &str,
-    piece: usize,
-    replies: &str,
-) -> Result<bool, Fail>
-    requires { 0 < piece }
-{
-    let (status, taken) = run(alloc, behind, script, piece, 0)?;
+// Whether a script that comes in pieces of three bytes is run to its end and answered by just these replies.
+fn is_answered(alloc: Global, script: &str, replies: &str) -> Result<bool, Fail> {
+    let (status, taken) = run(alloc, &[], script, 3, 0)?;
     Ok(status == Status::Done && taken.as_slice() == replies.as_bytes())
 }
 
@@ -99,8 +91,8 @@ fn a_script_comes_in_pieces(rt: HostRuntime) -> Result<(), Fail> {
     let script = "pin 3 0 2\npin -1 5 1\n\npin 4 -1 3\nshow\n# note";
     let replies =
         "ok\nok\nok\narrangement 3 0 1\nv 1 -1 5 1 pin :\nv 2 4 -1 3 pin :\nv 3 3 0 2 pin :\nf 0\np 1\np 2\np 3\nend\n";
-    assert!(rt; is_answered(rt.alloc(), &[], script, 3, replies)?);
-    assert!(rt; is_answered(rt.alloc(), &[], "", 3, "")?);
+    assert!(rt; is_answered(rt.alloc(), script, replies)?);
+    assert!(rt; is_answered(rt.alloc(), "", "")?);
     Ok(())
 }
 
