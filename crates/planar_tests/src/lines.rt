@@ -1,39 +1,5 @@
-use script_lines::{Command, LineError, read_line};
+use script_lines::LineError;
 use std::test::Fail;
-
-// Whether the line is refused by this error.
-fn is_refused(line: &[u8], error: LineError) -> bool {
-    read_line(line).err() == Some(error)
-}
-
-// Whether the line asks for nothing.
-fn asks_for_nothing(line: &[u8]) -> bool {
-    matches!(read_line(line), Ok(Command::Nothing))
-}
-
-#[test]
-fn long_lines_are_refused(rt: HostRuntime) {
-    let letters = [b'a'; 201];
-    assert!(rt; is_refused(&letters, LineError::Long));
-    assert!(rt; is_refused(&letters[..200], LineError::Word));
-
-    let spaces = [b' '; 201];
-    assert!(rt; is_refused(&spaces, LineError::Long));
-    assert!(rt; asks_for_nothing(&spaces[..200]));
-
-    let comment = [b'#'; 201];
-    assert!(rt; is_refused(&comment, LineError::Long));
-    assert!(rt; asks_for_nothing(&comment[..200]));
-
-    let other_bytes = [b'\t'; 201];
-    assert!(rt; is_refused(&other_bytes, LineError::Long));
-    assert!(rt; is_refused(&other_bytes[..200], LineError::Byte));
-
-    // A number of 190 digits.
-    let mut digits = [b'1'; 198];
-    digits[..8].copy_from_slice(b"pin 0 0 ");
-    assert!(rt; is_refused(&digits, LineError::Range));
-}
 
 #[test]
 fn errors_have_their_numbers(rt: HostRuntime) {
