@@ -6,22 +6,16 @@ use Rattle.script_maker.specs.Script.{script}
 use Rattle.planar_run.specs.Made.{AnswersMade, AnswersMadePart, AskForMade, AskForScript}
 use Rattle.planar_run.specs.World.{World}
 
-none_some : (n : ℕ) → None ≡ Some n → ⊥
-none_some n is = cc
-
-same_some : (m n : ℕ) → Some m ≡ Some n → m ≡ n
-same_some m n is = cc
-
 -- the options that words give
 module _ (words : List (List ℕ)) (options : Options) (alone : (other : Options) → HasOptions words other → other ≡ options) where
   pub no_script : (segments : ℕ) → options.make ≡ Some segments → AskForScript words → ⊥
-  no_script segments made asked = none_some segments (sym asked.2 ∙ ap (λ o. o.make) (alone asked.0 asked.1) ∙ made)
+  no_script segments made asked = let same : None ≡ Some segments = sym asked.2 ∙ ap (λ o. o.make) (alone asked.0 asked.1) ∙ made in cc
 
   pub not_made : options.make ≡ None → (segments seed : ℕ) → AskForMade words segments seed → ⊥
-  not_made none segments seed asked = none_some segments (sym none ∙ sym (ap (λ o. o.make) (alone asked.0 asked.1)) ∙ asked.2)
+  not_made none segments seed asked = let same : Some segments ≡ None = sym asked.2 ∙ ap (λ o. o.make) (alone asked.0 asked.1) ∙ none in cc
 
   so_many : (made : ℕ) → options.make ≡ Some made → (segments seed : ℕ) → AskForMade words segments seed → made ≡ segments
-  so_many made is segments seed asked = same_some made segments (sym is ∙ sym (ap (λ o. o.make) (alone asked.0 asked.1)) ∙ asked.2)
+  so_many made is segments seed asked = let same : Some made ≡ Some segments = sym is ∙ sym (ap (λ o. o.make) (alone asked.0 asked.1)) ∙ asked.2 in cc
 
   seeded : (segments seed : ℕ) → AskForMade words segments seed → options.seed ≡ seed
   seeded segments seed asked = sym (ap (λ o. o.seed) (alone asked.0 asked.1)) ∙ asked.3

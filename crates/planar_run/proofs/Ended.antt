@@ -6,6 +6,7 @@ use Rattle.planar_run.specs.declared.status.Status.TheVariants.{Done, Usage, Rea
 use Rattle.planar_run.specs.World.{Waiting}
 use Rattle.planar_run.specs.Clauses.{Causes, Ends}
 
+-- how a run ended that has this status
 pub ended : (observers : List Waiting) (status : Status) (left left' taken taken' : Option (List ℕ)) → Ends observers status left left' taken taken' → (s : Status) → status ≡ s → Ends observers s left left' taken taken'
 ended observers status left left' taken taken' e s is = subst (λ s. Ends observers s left left' taken taken') is e
 
@@ -41,6 +42,7 @@ made_of status s (inl d) is = subst IsMade (sym d ∙ is) tt
 made_of status s (inr (inl w)) is = subst IsMade (sym w ∙ is) tt
 made_of status s (inr (inr n)) is = subst IsMade (sym n ∙ is) tt
 
+-- ---- what ended with the usage line, or before it
 abbrev IsRefused : Status → Type 0
 IsRefused Usage = Unit {0}
 IsRefused WriteFault = Unit {0}
@@ -54,6 +56,7 @@ pub refused_only : (status : Status) → (status ≡ Usage) ⊎ (status ≡ Writ
 refused_only status (inl u) = inl u
 refused_only status (inr w) = inr (inl w)
 
+-- ---- what ended for want of memory
 abbrev IsNoMemory : Status → Type 0
 IsNoMemory NoMemory = Unit {0}
 IsNoMemory other = ⊥

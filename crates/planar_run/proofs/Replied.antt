@@ -175,10 +175,24 @@ obeyed_by (Err y) c d w text after e h = tt
 pub answered_as : (c d : Command) (w : World) (text : List ℕ) (after : World) → c ≡ d → IsAnswered w (Ok d) text after → IsObeyed w (Ok c) text after
 answered_as c d w text after e h = inl (subst (λ c. IsAnswered w (Ok c) text after) (sym e) h)
 
--- what may want memory may, by whatever command it is
+-- what may need memory may, by whatever command it is
 pub taken_by : {T E : Type 0} (o : Result T E) (c d : Command) (w after : World) → c ≡ d → OnErr o (MayTake w (Ok d) × (after ≡ w)) → OnErr o (MayTake w (Ok c) × (after ≡ w))
 taken_by (Ok x) c d w after e h = tt
 taken_by (Err y) c d w after e h = (subst (λ c. MayTake w (Ok c)) (sym e) h.0, h.1)
+
+-- the same of a line that may ask for an untold report
+pub mirrored_by : {T E : Type 0} (o : Result T E) (c d : Command) (w : World) (text : List ℕ) (after : World) → c ≡ d → OnOk o (IsObeyed w (Ok d) text after) → OnOk o (IsObeyed w (Ok c) text after)
+mirrored_by (Ok x) c d w text after e h = subst (λ c. IsObeyed w (Ok c) text after) (sym e) h
+mirrored_by (Err y) c d w text after e h = tt
+
+-- what may need memory and leaves the world as it is; a question that always may
+pub wanted_by : {T E : Type 0} (o : Result T E) (c d : Command) (w : World) → c ≡ d → OnErr o (MayTake w (Ok d)) → OnErr o (MayTake w (Ok c) × (w ≡ w))
+wanted_by (Ok x) c d w e h = tt
+wanted_by (Err y) c d w e h = (subst (λ c. MayTake w (Ok c)) (sym e) h, refl)
+
+pub always_wanted : {T E : Type 0} (o : Result T E) (c d : Command) (w : World) → c ≡ d → MayTake w (Ok d) → OnErr o (MayTake w (Ok c) × (w ≡ w))
+always_wanted (Ok x) c d w e h = tt
+always_wanted (Err y) c d w e h = (subst (λ c. MayTake w (Ok c)) (sym e) h, refl)
 
 -- a line that is no command
 pub refused_line : (e : LineError) (said : Result Command LineError) (w : World) (text : List ℕ) → Err e ≡ said → text ≡ line_of (codes "refused " ++ decimal (line_number e)) → Obeys w said text w

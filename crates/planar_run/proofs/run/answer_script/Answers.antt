@@ -1,5 +1,5 @@
 use Rattle.std.proofs.Common.{◌≡◌, ℕ, ◌+◌, ◌-◌, ◌≤◌, ◌<◌, List, [], ◌++◌, length, take, Option, Some, None, arith, refl, sym, subst, ◌∙◌}
-use Rattle.std.specs.Prelude.{IfSome, ◌↔◌, min}
+use Rattle.std.specs.Prelude.{IfSome, ◌↔◌, ◌≢◌, min}
 use Rattle.std.proofs.lemmas.List.{length-append, take-append-le}
 use Rattle.outside.specs.Bytes.{Loses, IsSpent}
 use Rattle.outside.specs.Counts.{next, Rose}
@@ -8,6 +8,7 @@ use Rattle.planar_run.specs.declared.status.Status.{Status}
 use Rattle.planar_run.specs.declared.status.Status.TheVariants.{Done, Usage, ReadFault, WriteFault, NoMemory, TooLong}
 use Rattle.planar_run.specs.World.{World}
 use Rattle.planar_run.specs.Clauses.{Used, Ends, Causes, Finishes}
+use Rattle.planar_run.proofs.Ended.{no_calls}
 use Rattle.planar_run.proofs.Loop.{Used-none, Used-more, HasSaid-first, HasSaid-fed, Ends-finished, Ends-read_fault, Ends-write_fault, Ends-too_long, Loses-none}
 use Rattle.planar_run.proofs.run.answer_script.Goals as goal
 
@@ -22,7 +23,31 @@ module _ (read part fits room : ℕ) (is : read ≡ part) (fit : part ≡ fits) 
 part_size : (read part fits back whole : ℕ) → read ≡ part → part ≡ fits → back + fits ≡ whole → whole ≡ BUFFER → read + back ≡ BUFFER
 part_size read part fits back whole is fit e f = omega arith
 
--- one more call is within the limit
+-- the room that is left is within the limit, and so is what was read
+at_limit : SCRIPT_LIMIT ≤ SCRIPT_LIMIT
+at_limit = omega arith
+
+used_within : (room : ℕ) → SCRIPT_LIMIT - room ≤ SCRIPT_LIMIT
+used_within room = omega arith
+
+no_room : (room : ℕ) → room ≤ 0 → SCRIPT_LIMIT - room ≡ SCRIPT_LIMIT
+no_room room h = omega arith
+
+room_left : (room count : ℕ) → room ≤ SCRIPT_LIMIT → room - count ≤ SCRIPT_LIMIT
+room_left room count h = omega arith
+
+-- what a call read is within the limit too
+module _ (room count buffer fed : ℕ) (is : fed ≡ count) (bound : count ≤ buffer) (few : buffer ≤ room) (within : room ≤ SCRIPT_LIMIT) where
+  fed_within : SCRIPT_LIMIT - room + fed ≤ SCRIPT_LIMIT
+  fed_within = omega arith
+
+  fed_counted : SCRIPT_LIMIT - room + fed ≡ SCRIPT_LIMIT - (room - count)
+  fed_counted = omega arith
+
+-- a call that read something, and one more call
+more_calls : (first before now room count buffer : ℕ) → now ≡ next before → before ≤ first + (SCRIPT_LIMIT - room) → count ≢ 0 → count ≤ buffer → buffer ≤ room → room ≤ SCRIPT_LIMIT → now ≤ first + (SCRIPT_LIMIT - (room - count))
+more_calls first before now room count buffer e h some bound few within = omega arith
+
 one_call : (first before now room : ℕ) → now ≡ next before → before ≤ first + (SCRIPT_LIMIT - room) → now ≤ first + (SCRIPT_LIMIT + 1)
 one_call first before now room e h = omega arith
 
@@ -40,10 +65,10 @@ reads-init g c = record {
   used = Used-none (g.S.Source.left c.args.source.now);
   said = λ observers first. HasSaid-first observers (g.S.Source.left c.args.source.now) (g.K.Sink.taken c.args.sink.now) _ c.args.engine.now.line first c.requires.line;
   kept = c.requires.kept;
-  within = omega arith;
+  within = at_limit;
   size = refl;
   read_faults = refl;
-  calls = omega arith;
+  calls = no_calls _ _;
   write_faults = refl;
 }
 
@@ -51,7 +76,7 @@ pub returns-in-Err-clause-ends : goal.returns-in-Err-clause-ends
 returns-in-Err-clause-ends g c = λ observers first.
     let i = c.reads.invariant in
     subst (λ (o : Option (List ℕ)). Ends observers ReadFault (g.S.Source.left c.args.source.now) o (g.K.Sink.taken c.args.sink.now) (g.K.Sink.taken c.reads.sink)) (sym c.in-Err.ensures.bytes)
-    (Ends-read_fault observers _ _ _ _ (SCRIPT_LIMIT - c.reads.room) _ _ i.used (omega arith) (i.said observers first))
+    (Ends-read_fault observers _ _ _ _ (SCRIPT_LIMIT - c.reads.room) _ _ i.used (used_within c.reads.room) (i.said observers first))
 
 -- a read of no byte met the end
 spent : (left : Option (List ℕ)) (n : ℕ) → IfSome left (λ xs. (n ≡ 0) ↔ (xs ≡ [])) → n ≡ 0 → IsSpent left
@@ -65,7 +90,7 @@ returns-then-count-eq0-clause-ends g c = λ observers first.
     let some : 0 < length c.read.new.buf = part_some _ _ _ _ c.read.auto.buf c.split_at_mut-part.ensures.front_len c.min.ensures c.reads-test.true in
     let none : Loses (g.S.Source.left c.reads.source) (g.S.Source.left c.read.new.self) [] = subst (λ (n : ℕ). Loses (g.S.Source.left c.reads.source) (g.S.Source.left c.read.new.self) (take n c.read.new.buf)) c.if-count-eq0.true given.front in
     subst (λ (o : Option (List ℕ)). Ends observers c.finish.result (g.S.Source.left c.args.source.now) o (g.K.Sink.taken c.args.sink.now) (g.K.Sink.taken c.finish.new.sink)) (sym (Loses-none _ _ none))
-    (Ends-finished observers c.finish.result _ _ _ _ _ (SCRIPT_LIMIT - c.reads.room) _ _ i.used (omega arith) (i.said observers first) (spent _ c.in-Ok.count (given.ended some) c.if-count-eq0.true) c.finish.ensures.finishes)
+    (Ends-finished observers c.finish.result _ _ _ _ _ (SCRIPT_LIMIT - c.reads.room) _ _ i.used (used_within c.reads.room) (i.said observers first) (spent _ c.in-Ok.count (given.ended some) c.if-count-eq0.true) c.finish.ensures.finishes)
 
 -- what was read is what the engine is fed
 fed_front : (left now : Option (List ℕ)) (n : ℕ) (buffer back bytes : List ℕ) → n ≤ length buffer → bytes ≡ take n (buffer ++ back) → Loses left now (take n buffer) → Loses left now bytes
@@ -77,7 +102,7 @@ returns-in-Err-feed-clause-ends g c = λ observers first.
     let given = c.in-Ok.ensures.bytes in
     let few : length c.read.new.buf ≤ c.reads.room = part_few _ _ _ _ c.read.auto.buf c.split_at_mut-part.ensures.front_len c.min.ensures in
     let front = fed_front (g.S.Source.left c.reads.source) (g.S.Source.left c.read.new.self) c.in-Ok.count c.read.new.buf c.split_at_mut-part.result.1.now c.split_at.result.0.now given.bound c.split_at.ensures.front given.front in
-    let small : SCRIPT_LIMIT - c.reads.room + length c.split_at.result.0.now ≤ SCRIPT_LIMIT = omega (arith, c.split_at.ensures.front_len, given.bound, i.within) in
+    let small : SCRIPT_LIMIT - c.reads.room + length c.split_at.result.0.now ≤ SCRIPT_LIMIT = fed_within _ _ _ _ c.split_at.ensures.front_len given.bound few i.within in
     Ends-write_fault observers _ _ _ _ _ _ c.split_at.result.0.now (SCRIPT_LIMIT - c.reads.room) _ _ i.used small (i.said observers first) front c.in-Err-feed.ensures.broken
 
 pub reads-preserved : goal.reads-preserved
@@ -86,14 +111,14 @@ reads-preserved g c =
     let given = c.in-Ok.ensures.bytes in
     let few : length c.read.new.buf ≤ c.reads.room = part_few _ _ _ _ c.read.auto.buf c.split_at_mut-part.ensures.front_len c.min.ensures in
     let front = fed_front (g.S.Source.left c.reads.source) (g.S.Source.left c.read.new.self) c.in-Ok.count c.read.new.buf c.split_at_mut-part.result.1.now c.split_at.result.0.now given.bound c.split_at.ensures.front given.front in
-    let counted : SCRIPT_LIMIT - c.reads.room + length c.split_at.result.0.now ≡ SCRIPT_LIMIT - (c.reads.room - c.in-Ok.count) = omega (arith, c.split_at.ensures.front_len, given.bound, i.within) in record {
+    let counted : SCRIPT_LIMIT - c.reads.room + length c.split_at.result.0.now ≡ SCRIPT_LIMIT - (c.reads.room - c.in-Ok.count) = fed_counted _ _ _ _ c.split_at.ensures.front_len given.bound few i.within in record {
       used = subst (λ (n : ℕ). Used (g.S.Source.left c.args.source.now) (g.S.Source.left c.read.new.self) (λ used. length used ≡ n)) counted (Used-more _ _ _ c.split_at.result.0.now (SCRIPT_LIMIT - c.reads.room) i.used front);
       said = λ observers first. HasSaid-fed observers _ _ _ _ _ _ c.split_at.result.0.now (SCRIPT_LIMIT - c.reads.room) _ _ _ _ _ (i.said observers first) front c.in-Ok-feed.ensures.fed counted;
       kept = c.feed.ensures.kept;
-      within = omega (arith, i.within);
+      within = room_left _ _ i.within;
       size = length-append c.read.new.buf c.split_at_mut-part.result.1.now ∙ part_size _ _ _ _ _ c.read.auto.buf c.split_at_mut-part.ensures.front_len c.split_at_mut-part.ensures.back_len i.size;
       read_faults = c.in-Ok.ensures.cause.same ∙ i.read_faults;
-      calls = omega (arith, i.calls, c.read.ensures.counted, given.bound);
+      calls = more_calls _ _ _ _ _ _ c.read.ensures.counted i.calls c.if-count-eq0.false given.bound few i.within;
       write_faults = c.in-Ok-feed.ensures.cause.same ∙ i.write_faults;
     }
 
@@ -101,20 +126,20 @@ pub returns-in-Err-read_byte-clause-ends : goal.returns-in-Err-read_byte-clause-
 returns-in-Err-read_byte-clause-ends g c = λ observers first.
     let i = c.reads.invariant in
     subst (λ (o : Option (List ℕ)). Ends observers ReadFault (g.S.Source.left c.args.source.now) o (g.K.Sink.taken c.args.sink.now) (g.K.Sink.taken c.reads.sink)) (sym c.in-Err-read_byte.ensures.err)
-    (Ends-read_fault observers _ _ _ _ (SCRIPT_LIMIT - c.reads.room) _ _ i.used (omega arith) (i.said observers first))
+    (Ends-read_fault observers _ _ _ _ (SCRIPT_LIMIT - c.reads.room) _ _ i.used (used_within c.reads.room) (i.said observers first))
 
 pub returns-in-Ok-None-clause-ends : goal.returns-in-Ok-None-clause-ends
 returns-in-Ok-None-clause-ends g c = λ observers first.
     let i = c.reads.invariant in
     let end = rw c.in-Ok-None.field-0-is at c.in-Ok-None.ensures.byte in
     subst (λ (o : Option (List ℕ)). Ends observers c.finish-in-Ok-None.result (g.S.Source.left c.args.source.now) o (g.K.Sink.taken c.args.sink.now) (g.K.Sink.taken c.finish-in-Ok-None.new.sink)) (sym end.1)
-    (Ends-finished observers c.finish-in-Ok-None.result _ _ _ _ _ (SCRIPT_LIMIT - c.reads.room) _ _ i.used (omega arith) (i.said observers first) end.0 c.finish-in-Ok-None.ensures.finishes)
+    (Ends-finished observers c.finish-in-Ok-None.result _ _ _ _ _ (SCRIPT_LIMIT - c.reads.room) _ _ i.used (used_within c.reads.room) (i.said observers first) end.0 c.finish-in-Ok-None.ensures.finishes)
 
 pub returns-in-Ok-Some-clause-ends : goal.returns-in-Ok-Some-clause-ends
 returns-in-Ok-Some-clause-ends g c = λ observers first.
     let i = c.reads.invariant in
     let byte = rw c.in-Ok-Some.field-0-is at c.in-Ok-Some.ensures.byte in
-    Ends-too_long observers _ _ _ _ _ _ (SCRIPT_LIMIT - c.reads.room) _ _ i.used (omega arith) (i.said observers first) byte
+    Ends-too_long observers _ _ _ _ _ _ (SCRIPT_LIMIT - c.reads.room) _ _ i.used (no_room c.reads.room c.reads-test.false) (i.said observers first) byte
 
 -- ---- faults
 pub returns-in-Err-clause-causes : goal.returns-in-Err-clause-causes
