@@ -2,7 +2,7 @@
 use Rattle.std.proofs.Common.{◌≡◌, ◌≢◌, ◌<◌, ◌≤◌, ℕ, ◌-◌, ◌==◌, ◌||◌, ◌&&◌, Bool, true, false, not, nat_lt, suc, zero, List, [], ◌∷◌, ◌++◌, Option, Some, None, length, map, option_map, get_or, set, refl, sym, ap, ◌∙◌, arith}
 use Rattle.std.specs.Prelude.{is_some, if◌then◌else◌}
 use Rattle.std.proofs.lemmas.Bool.Decides.{nat_tests}
-use Rattle.std.proofs.lemmas.List.{get_or-map, length-map, map-set, set-get_or}
+use Rattle.std.proofs.lemmas.List.{get_or-map, length-map, length-set, map-set, set-get_or}
 use Rattle.arr_notes.specs.CurvedView.{CurvedView}
 use Rattle.observer_bus.specs.Calls.{attach_refusal as bus_refusal, attach_said, has_name, IsAttached}
 use Rattle.observer_bus.specs.Seats.{SeatRow}
@@ -11,7 +11,7 @@ use Rattle.observer_bus.specs.declared.errors.AttachError.TheVariants.{Taken, Fu
 use Rattle.arrangement.specs.Arranged.{Arranged, IsWatched}
 use Rattle.arrangement.specs.Edited.{IsSameLayer}
 use Rattle.planar_run.specs.World.{Waiting, World}
-use Rattle.planar_run.specs.Observers.{attach_refusal, attached, error_number, is_above, newcomer, waiting_as, with_newcomer}
+use Rattle.planar_run.specs.Observers.{attach_refusal, attached, error_number, is_above, is_placed, newcomer, waiting_as, with_newcomer}
 use Rattle.planar_run.specs.Rows.{built, half_in, seat_row, AreKept}
 use Rattle.planar_run.proofs.Observed.{attached_rows, few_attached, length_rows, named_rows}
 use Rattle.planar_run.proofs.Worlds.{same_layer}
@@ -50,6 +50,11 @@ placed_told : (waits full : Bool) → by_tests false waits true full ≡ Some 15
 placed_told true full = refl
 placed_told false full = refl
 
+-- none of the number was handed in
+above_told : (above waits placed full : Bool) → false ≡ not above → Some 14 ≡ by_tests above waits placed full
+above_told true waits placed full h = refl
+above_told false waits placed full h = cc
+
 eight : (n : ℕ) → (n == 8) ≡ false → n ≢ 8
 eight n f e = cc
 
@@ -76,6 +81,9 @@ module _ {B : Type 0} (f : B → Waiting) (n : ℕ) (a o : Arranged) (blue : Boo
   waits : (b : Option B) → n - 1 < length places → get_or places (n - 1) None ≡ b → waiting_as n before ≡ option_map f b
   waits b within e = get_or-map (option_map f) places (n - 1) None None within ∙ ap (option_map f) e
 
+  pub unknown_refused : AreKept a o → false ≡ not (is_above n before) → Some 14 ≡ attach_refusal n before
+  unknown_refused kept h = above_told (is_above n before) (is_some (waiting_as n before)) (is_placed n before) (length before.seats == 8) h
+
   module _ (kept : AreKept a o) (one : 1 ≤ n) (has : Bool) (told : has ≡ not (is_above n before)) (enough : has ≡ true) where
     there : is_above n before ≡ false
     there = not_above has (is_above n before) told enough
@@ -87,8 +95,15 @@ module _ {B : Type 0} (f : B → Waiting) (n : ℕ) (a o : Arranged) (blue : Boo
     pub other_refused : has_name n o.bus.seats ≡ true → attach_refusal n before ≡ Some 15
     other_refused h = reason (is_some (waiting_as n before)) true refl h ∙ placed_told (is_some (waiting_as n before)) (length a.bus.seats == 8)
 
-    within : n - 1 < length places
+    pub within : n - 1 < length places
     within = within_places n (length places) one (ap (λ l. nat_lt l n) (sym (length-map places (option_map f))) ∙ there)
+
+    pub still_within : (left : List (Option B)) → left ≡ set places (n - 1) None → n - 1 < length left
+    still_within left e = rw (e, length-set) within
+
+    -- what is taken from the place of nobody
+    pub nobody_taken : (left : List (Option B)) → get_or places (n - 1) None ≡ None → left ≡ set places (n - 1) None → built a (half_in o) blue (map (option_map f) left) ≡ before
+    nobody_taken left none e = ap (λ xs. built a (half_in o) blue (map (option_map f) xs)) (e ∙ ap (set places (n - 1)) (sym none) ∙ set-get_or places (n - 1) None)
 
     pub gone_refused : has_name n o.bus.seats ≡ false → get_or places (n - 1) None ≡ None → has_name n a.bus.seats ≡ false → attach_refusal n before ≡ Some 14
     gone_refused other e h = reason false false (ap is_some (waits None within e)) other ∙ ap (λ b. by_tests false false b (length a.bus.seats == 8)) h

@@ -12,3 +12,4 @@ pub mod Replied
 pub mod Numbered
 pub mod Asked
 pub mod MadeLines
+pub mod Ended

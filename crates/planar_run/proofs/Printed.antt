@@ -1,6 +1,19 @@
 -- Bytes that are put one after the other.
-use Rattle.std.proofs.Common.{◌≡◌, ℕ, List, [], ◌++◌, append_assoc}
+use Rattle.std.proofs.Common.{◌≡◌, ℕ, List, [], ◌∷◌, ◌++◌, Result, Ok, Err, ap, ◌∙◌, append_assoc}
+use Rattle.std.specs.Prelude.{OnOk, ℤ}
+use Rattle.std.specs.Fmt.{signed_decimal}
 use Rattle.std.proofs.lemmas.List.{append-nil}
 
 pub eight : (a b c d e f g h : List ℕ) → (((((((a ++ b) ++ c) ++ d) ++ e) ++ f) ++ g) ++ h) ≡ (a ++ (b ++ (c ++ (d ++ (e ++ (f ++ (g ++ []))))))) ++ h
 eight a b c d e f g h = simp (append_assoc, append-nil)
+
+spaced_three : (start a b c : List ℕ) → ((((start ++ a) ++ 32 ∷ []) ++ b) ++ 32 ∷ []) ++ c ≡ start ++ (a ++ 32 ∷ b ++ 32 ∷ c)
+spaced_three start a b c = simp append_assoc
+
+-- three numbers with a space between them
+pub three_put : {T E : Type 0} (r : Result T E) (start one two three four five : List ℕ) (a b c x y w : ℤ) → a ≡ x → b ≡ y → c ≡ w → one ≡ start ++ signed_decimal a → two ≡ one ++ 32 ∷ [] → three ≡ two ++ signed_decimal b → four ≡ three ++ 32 ∷ [] → OnOk r (five ≡ four ++ signed_decimal c) →
+    OnOk r (five ≡ start ++ (signed_decimal x ++ 32 ∷ signed_decimal y ++ 32 ∷ signed_decimal w))
+three_put (Ok done) start one two three four five a b c x y w p q r e f g h k =
+    let last : four ≡ (((start ++ signed_decimal a) ++ 32 ∷ []) ++ signed_decimal b) ++ 32 ∷ [] = h ∙ ap (λ xs. xs ++ 32 ∷ []) (g ∙ ap (λ xs. xs ++ signed_decimal b) (f ∙ ap (λ xs. xs ++ 32 ∷ []) e)) in
+    k ∙ ap (λ xs. xs ++ signed_decimal c) last ∙ spaced_three start (signed_decimal a) (signed_decimal b) (signed_decimal c) ∙ λ i. start ++ (signed_decimal (p i) ++ 32 ∷ signed_decimal (q i) ++ 32 ∷ signed_decimal (r i))
+three_put (Err y') start one two three four five a b c x y w p q r e f g h k = tt

@@ -1,5 +1,5 @@
 -- What a line is answered that is refused, and what of a line is obeyed.
-use Rattle.std.proofs.Common.{◌≡◌, ℕ, Bool, true, false, List, [], ◌∷◌, ◌++◌, Option, Some, None, Result, Ok, Err, refl, sym, ap, subst, ◌∙◌, inl}
+use Rattle.std.proofs.Common.{◌≡◌, ℕ, Bool, true, false, List, [], ◌∷◌, ◌++◌, Option, Some, None, Result, Ok, Err, refl, sym, ap, subst, ◌∙◌, inl, inr}
 use Rattle.std.specs.Prelude.{OnErr, OnOk, not, ℤ, codes, decimal, if◌then◌else◌}
 use Rattle.std.specs.Fmt.{digits}
 use Rattle.exact_plane.specs.Segment.{Segment}
@@ -8,13 +8,16 @@ use Rattle.exact_plane.specs.declared.segment.SegmentError.{SegmentError}
 use Rattle.plane_graphs.specs.Graph.{Edge, curves}
 use Rattle.edit_steps.specs.Edits.{Edit, Insert}
 use Rattle.edit_steps.specs.Refusals.{Refusal}
+use Rattle.script_lines.specs.LineError.{refusal_number as line_number}
+use Rattle.script_lines.specs.declared.error.LineError.{LineError}
 use Rattle.script_lines.specs.declared.command.Command.{Command}
+use Rattle.script_lines.specs.declared.command.Command.TheVariants.{Mirror}
 use Rattle.planar_run.specs.Text.{line_of, spaced, curve_text}
 use Rattle.planar_run.specs.World.{World}
 use Rattle.planar_run.specs.Premises.{graph_of, is_named, is_edge}
 use Rattle.planar_run.specs.Refusals.{refusal_of, refusal_number}
-use Rattle.planar_run.specs.Observers.{seat_refusal, is_above, is_seated}
-use Rattle.planar_run.specs.Answer.{Answer, AreLossesOfEdit, refused, said, edited, edited_unless, edges_along, curves_told, curve_told, segment_refusal, unless, IsAnswered, IsDrawn, IsObeyed, MayDraw}
+use Rattle.planar_run.specs.Observers.{report_of, seat_refusal, is_above, is_seated, IsReportIn}
+use Rattle.planar_run.specs.Answer.{Answer, AreLossesOfEdit, refused, said, edited, edited_unless, edges_along, curves_told, curve_told, segment_refusal, unless, IsAnswered, IsDrawn, IsObeyed, MayDraw, MayTake, Obeys}
 
 -- the bytes and the world of an answer
 abbrev Gives : Answer → List ℕ → World → Type 0
@@ -61,6 +64,11 @@ pub not_obeyed : (n : ℕ) {reason : Option ℕ} (a : Answer) {w after : World} 
 not_obeyed n a {w = w} {after = after} {text = text} h t s =
     subst (λ o. List (List ℕ) × Unit {0} × (text ≡ (unless o a w).text) × (after ≡ (unless o a w).world)) h ([], tt, t, s)
 
+-- a line that there is none to refuse
+pub unrefused : {reason : Option ℕ} (a : Answer) (w : World) {after : World} {text : List ℕ} → reason ≡ None → text ≡ a.text → after ≡ a.world → List (List ℕ) × Unit {0} × (text ≡ (unless reason a w).text) × (after ≡ (unless reason a w).world)
+unrefused a w {after = after} {text = text} h t s =
+    subst (λ o. List (List ℕ) × Unit {0} × (text ≡ (unless o a w).text) × (after ≡ (unless o a w).world)) (sym h) ([], tt, t, s)
+
 -- an observer that wasn't handed in
 above_refused : (b : Bool) (x y : Option ℕ) → false ≡ not b → x ≡ (if b then x else y)
 above_refused true x y h = refl
@@ -77,6 +85,21 @@ unseated_refused false false x y z h s = refl
 
 pub none_seated : (i : ℕ) (w : World) → true ≡ not (is_above i w) → is_seated i w ≡ false → Some 16 ≡ seat_refusal i w
 none_seated i w h s = unseated_refused (is_above i w) (is_seated i w) (Some 14) None (Some 16) h s
+
+-- one that is
+seated_told : (b c : Bool) (x y : Option ℕ) → true ≡ not b → true ≡ c → (if b then x else (if c then None else y)) ≡ None
+seated_told true c x y h s = cc
+seated_told false true x y h s = refl
+seated_told false false x y h s = cc
+
+pub seated_asked : (i : ℕ) (w : World) → true ≡ not (is_above i w) → true ≡ is_seated i w → seat_refusal i w ≡ None
+seated_asked i w h s = seated_told (is_above i w) (is_seated i w) (Some 14) (Some 16) h s
+
+-- its report
+pub report_told : (i : ℕ) (w : World) (text bytes : List ℕ) → seat_refusal i w ≡ None → IsReportIn i w bytes → text ≡ bytes → IsObeyed w (Ok (Mirror i)) text w
+report_told i w text bytes none (inl untold) e = inr ((none, untold), refl)
+report_told i w text bytes none (inr told) e =
+    inl ([], tt, e ∙ told ∙ ap (λ o. (unless o (said (report_of i w) w) w).text) (sym none), ap (λ o. (unless o (said (report_of i w) w) w).world) (sym none))
 
 -- ---- numbers in decimal
 pub four : codes "refused 4" ++ 10 ∷ [] ≡ line_of (codes "refused " ++ decimal 4)
@@ -148,3 +171,37 @@ undrawn_by o r s w after is h = subst (λ r. OnErr o (MayDraw r w × (after ≡ 
 pub obeyed_by : {T E : Type 0} (o : Result T E) (c d : Command) (w : World) (text : List ℕ) (after : World) → c ≡ d → OnOk o (IsAnswered w (Ok d) text after) → OnOk o (IsObeyed w (Ok c) text after)
 obeyed_by (Ok x) c d w text after e h = inl (subst (λ c. IsAnswered w (Ok c) text after) (sym e) h)
 obeyed_by (Err y) c d w text after e h = tt
+
+pub answered_as : (c d : Command) (w : World) (text : List ℕ) (after : World) → c ≡ d → IsAnswered w (Ok d) text after → IsObeyed w (Ok c) text after
+answered_as c d w text after e h = inl (subst (λ c. IsAnswered w (Ok c) text after) (sym e) h)
+
+-- what may need memory may, by whatever command it is
+pub taken_by : {T E : Type 0} (o : Result T E) (c d : Command) (w after : World) → c ≡ d → OnErr o (MayTake w (Ok d) × (after ≡ w)) → OnErr o (MayTake w (Ok c) × (after ≡ w))
+taken_by (Ok x) c d w after e h = tt
+taken_by (Err y) c d w after e h = (subst (λ c. MayTake w (Ok c)) (sym e) h.0, h.1)
+
+-- the same of a line that may ask for an untold report
+pub mirrored_by : {T E : Type 0} (o : Result T E) (c d : Command) (w : World) (text : List ℕ) (after : World) → c ≡ d → OnOk o (IsObeyed w (Ok d) text after) → OnOk o (IsObeyed w (Ok c) text after)
+mirrored_by (Ok x) c d w text after e h = subst (λ c. IsObeyed w (Ok c) text after) (sym e) h
+mirrored_by (Err y) c d w text after e h = tt
+
+-- what may need memory and leaves the world as it is; a question that always may
+pub wanted_by : {T E : Type 0} (o : Result T E) (c d : Command) (w : World) → c ≡ d → OnErr o (MayTake w (Ok d)) → OnErr o (MayTake w (Ok c) × (w ≡ w))
+wanted_by (Ok x) c d w e h = tt
+wanted_by (Err y) c d w e h = (subst (λ c. MayTake w (Ok c)) (sym e) h, refl)
+
+pub always_wanted : {T E : Type 0} (o : Result T E) (c d : Command) (w : World) → c ≡ d → MayTake w (Ok d) → OnErr o (MayTake w (Ok c) × (w ≡ w))
+always_wanted (Ok x) c d w e h = tt
+always_wanted (Err y) c d w e h = (subst (λ c. MayTake w (Ok c)) (sym e) h, refl)
+
+-- a line that is no command
+pub refused_line : (e : LineError) (said : Result Command LineError) (w : World) (text : List ℕ) → Err e ≡ said → text ≡ line_of (codes "refused " ++ decimal (line_number e)) → Obeys w said text w
+refused_line e said w text is t = subst (λ said. Obeys w said text w) is (inl ([], tt, t, refl))
+
+-- one that is obeyed, and one that found no memory
+pub obeyed_line : (c : Command) (said : Result Command LineError) (w : World) (text : List ℕ) (after : World) → Ok c ≡ said → IsObeyed w (Ok c) text after → Obeys w said text after
+obeyed_line c said w text after is (inl a) = subst (λ said. Obeys w said text after) is (inl a)
+obeyed_line c said w text after is (inr u) = subst (λ said. Obeys w said text after) is (inr (inr u))
+
+pub wanting_line : (c : Command) (said : Result Command LineError) (w : World) (text : List ℕ) (after : World) → Ok c ≡ said → MayTake w (Ok c) × (after ≡ w) → text ≡ line_of (codes "no memory") → Obeys w said text after
+wanting_line c said w text after is m t = subst (λ said. Obeys w said text after) is (inr (inl (m.0, t, m.1)))

@@ -9,6 +9,8 @@ use Rattle.edit_steps.specs.Layer.{empty_layer}
 use Rattle.edit_steps.specs.Refusals.{Refusal, refusal, IsAnswerFor}
 use Rattle.plane_graphs.proofs.Lists.{decide}
 use Rattle.slab_laws.specs.Text.{present_text}
+use Rattle.observer_bus.specs.declared.errors.ReportError.{ReportError}
+use Rattle.observer_bus.specs.declared.errors.ReportError.TheVariants.{NoMemory, NoSeat}
 use Rattle.observer_bus.specs.Calls.{has_seat, with_seats, seat_of as row_of, seats_left as rows_left}
 use Rattle.observer_bus.specs.Seats.{SeatRow}
 use Rattle.observer_bus.specs.RoundLaws.{HaveNamesApart}
@@ -122,6 +124,13 @@ told_or_not i a bytes (Some s) e h = elim (decide s.tells) [ inl t ↦ inr (h t)
 pub seat_told : {T E : Type 0} (r s : Result T E) (b : Bool) → (r ≡ s → ⊥) → ((r ≡ s) ↔ (b ≡ false)) → true ≡ b
 seat_told r s true ne h = refl
 seat_told r s false ne h = absurd (ne (h.1 refl))
+
+-- a report, and what found no memory, aren't the answer that nobody is seated
+pub ok_apart : {T : Type 0} (x : T) (e : ReportError) → Ok x ≡ Err e → ⊥
+ok_apart x e is = cc
+
+pub no_memory_apart : {T : Type 0} (e : ReportError) → e ≡ NoMemory → ◌≡◌ {A = Result T ReportError} (Err e) (Err NoSeat) → ⊥
+no_memory_apart e is same = cc
 
 pub told_by_seat : {T E : Type 0} (r s : Result T E) (b : Bool) → (r ≡ s → ⊥) → true ≡ b → (r ≡ s) ↔ (b ≡ false)
 told_by_seat r s b ne h = (λ e. absurd (ne e), λ f. cc)

@@ -1,4 +1,5 @@
 ghost use Rattle.std.specs.Prelude.{◌≡◌, codes, IfOk};
+ghost use Rattle.arrangement.specs.Arranged.{arranged_of, layer_in};
 ghost use Rattle.slab_laws.specs.OverlayText.{presents_text};
 ghost use Rattle.planar_run.specs.Rows.{world_row, IsKeptWorld};
 ghost use Rattle.planar_run.specs.Text.{line_of};
@@ -6,8 +7,9 @@ ghost use Rattle.planar_run.specs.World.{blue_of, red_of, turned};
 
 use crate::reply::Reply;
 use crate::world::World;
-use arrangement::overlay;
+use arrangement::{Arrangement, overlay};
 use no_memory::NoMemory;
+use std::alloc::Global;
 use std::mem::swap;
 
 impl World {
@@ -27,13 +29,23 @@ impl World {
     pub fn overlay_text(&self) -> Result<Vec<u8>, NoMemory>
         ensures { IfOk result (λ bytes. bytes.items ≡ presents_text (red_of (world_row tells held left heard self.now)).layer.present (blue_of (world_row tells held left heard self.now)).layer.present) }
     {
-        let both = if self.is_blue {
-            overlay(self.alloc, &self.other, &self.arrangement)?
+        if self.is_blue {
+            text_of_both(self.alloc, &self.other, &self.arrangement)
         } else {
-            overlay(self.alloc, &self.arrangement, &self.other)?
-        };
-        both.text()
+            text_of_both(self.alloc, &self.arrangement, &self.other)
+        }
     }
+}
+
+// The text of the overlay of a red arrangement and a blue one. A call drops the overlay, since what a scope drops at its end is
+// proved there anew, in all its parts.
+fn text_of_both(alloc: Global, red: &Arrangement, blue: &Arrangement) -> Result<Vec<u8>, NoMemory>
+    ensures { IfOk result (λ bytes. bytes.items ≡ presents_text (layer_in (arranged_of tells held left heard red.now)).present (layer_in (arranged_of tells held left heard blue.now)).present) }
+{
+    let both = overlay(alloc, red, blue)?;
+    let text = both.text();
+    drop(both);
+    text
 }
 
 /// Lets later lines mean the blue layer, or the red one. It takes no memory.

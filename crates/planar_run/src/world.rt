@@ -1,16 +1,18 @@
 ghost use Rattle.std.specs.Prelude.{◌≡◌, ◌∷◌, [], true, length, map, IfOk, IfErr, OnOk, OnErr};
 ghost use Rattle.plane_graphs.specs.Graph.{curves};
+ghost use Rattle.observer_bus.specs.Rows.{bus_of};
+ghost use Rattle.arrangement.specs.Arranged.{arranged_of};
 ghost use Rattle.arrangement.specs.Answers.{insert_said, drop_said, cut_said, pin_said, unpin_said, split_said, merge_said, edge_of, cut_between, split_at};
 ghost use Rattle.edit_steps.specs.Edits.{Insert, Drop, Pin, Unpin, Merge, ClearAll};
 ghost use Rattle.edit_steps.specs.Refusals.{IsAnswerFor};
 ghost use Rattle.slab_laws.specs.Sound.{edge_between};
 ghost use Rattle.slab_laws.specs.Subdivision.{holds};
 ghost use Rattle.slab_laws.specs.Text.{present_text};
-ghost use Rattle.planar_run.specs.World.{first_world};
+ghost use Rattle.planar_run.specs.World.{first_half, first_world};
 ghost use Rattle.planar_run.specs.Premises.{graph_of, is_named, is_edge};
 ghost use Rattle.planar_run.specs.Answer.{counted, edges_along, subdivision_of, IsDone};
 ghost use Rattle.planar_run.specs.Refusals.{refusal_of, BarsEdge, BarsEdges};
-ghost use Rattle.planar_run.specs.Rows.{arranged_row, waiting_rows, world_row, IsKeptWorld};
+ghost use Rattle.planar_run.specs.Rows.{arranged_row, half_in, waiting_rows, world_row, IsKept, IsKeptWorld};
 
 use crate::places::all_waiting;
 use arr_notes::Observer;
@@ -38,6 +40,22 @@ pub struct World {
     strategy: Strategy,
 }
 
+// A bus with room for all its seats, and nobody in them.
+fn empty_bus(alloc: Global) -> Result<Bus, NoMemory>
+    ensures { IfOk result (λ b. (bus_of tells held left heard b).seats ≡ []) }
+{
+    Bus::new(alloc, Vec::with_capacity(alloc, SEATS)?)
+}
+
+// An arrangement of nothing, under the limits of a script. It takes no memory.
+fn empty_arrangement(alloc: Global, bus: Bus) -> Arrangement
+    requires { (bus_of tells held left heard bus).seats ≡ [] }
+    ensures first { half_in (arranged_of tells held left heard result) ≡ first_half }
+    ensures kept { IsKept (arranged_of tells held left heard result) }
+{
+    Arrangement::new(alloc, Limits::FULL, bus).unwrap()
+}
+
 impl World {
     /// The world before the first line, where lines mean the red arrangement and all observers wait.
     pub fn new(
@@ -49,12 +67,11 @@ impl World {
         ensures kept { IfOk result (λ w. IsKeptWorld tells held left heard w) }
     {
         let observers = all_waiting(alloc, observers)?;
-        let red = Bus::new(alloc, Vec::with_capacity(alloc, SEATS)?)?;
-        let blue = Bus::new(alloc, Vec::with_capacity(alloc, SEATS)?)?;
-        // An arrangement of nothing takes no memory.
+        let red = empty_bus(alloc)?;
+        let blue = empty_bus(alloc)?;
         Ok(World {
-            arrangement: Arrangement::new(alloc, Limits::FULL, red).unwrap(),
-            other: Arrangement::new(alloc, Limits::FULL, blue).unwrap(),
+            arrangement: empty_arrangement(alloc, red),
+            other: empty_arrangement(alloc, blue),
             is_blue: false,
             observers,
             alloc,

@@ -1,8 +1,8 @@
-use Rattle.std.proofs.Common.{◌≡◌, ℕ, suc, ◌<◌, List, ◌∷◌, ◌++◌, length, take, drop, get_or, Result, Ok, Err, Option, sym, ap, subst, ◌∙◌, drop-cons}
+use Rattle.std.proofs.Common.{◌≡◌, ℕ, suc, ◌+◌, ◌<◌, List, ◌∷◌, ◌++◌, length, take, drop, get_or, Result, Ok, Err, Option, sym, ap, subst, ◌∙◌, drop-cons}
 use Rattle.std.specs.Prelude.{OnErr}
 use Rattle.std.proofs.lemmas.List.{take_more, take-append-drop}
 use Rattle.planar_run.specs.World.{World}
-use Rattle.planar_run.specs.Engine.{Feeds, FeedsPart, AnswersPart}
+use Rattle.planar_run.specs.Engine.{Takes, Feeds, FeedsPart, AnswersPart}
 use Rattle.planar_run.proofs.Loop.{Feeds-push, Feeds-break}
 use Rattle.planar_run.proofs.engine.Engine.feed.Goals as goal
 
@@ -20,10 +20,12 @@ returns-in_err-take-clause-broken g c =
     OnErr-from c.from_residual.result _
     (broken c.args.bytes.now c.loop-byte.byte-index _ _ _ _ _ _ _ c.loop-byte-test.true c.loop-byte.invariant.fed c.in_err-take.ensures.broken)
 
+fed_more : (bytes : List ℕ) (i : ℕ) (old mid new : Option (List ℕ)) (p q r : World) (k l m : List ℕ) → i < length bytes → Feeds (take i bytes) old mid p k q l → Takes (get_or bytes i 0) mid new q l r m → Feeds (take (i + 1) bytes) old new p k r m
+fed_more bytes i old mid new p q r k l m lt f t = rw (take_more bytes i 0 lt) (Feeds-push (take i bytes) (get_or bytes i 0) old mid new p q r k l m f t)
+
 pub loop-byte-preserved : goal.loop-byte-preserved
-loop-byte-preserved g c =
-    let more = take_more c.args.bytes.now c.loop-byte.byte-index 0 c.loop-byte-test.true in record {
-      fed = rw more (Feeds-push _ _ _ _ _ _ _ _ _ _ _ c.loop-byte.invariant.fed c.in_ok-take.ensures.taken);
-      kept = c.take.ensures.kept;
-      faults = c.in_ok-take.ensures.cause.same ∙ c.loop-byte.invariant.faults;
-    }
+loop-byte-preserved g c = record {
+  fed = fed_more c.args.bytes.now c.loop-byte.byte-index _ _ _ _ _ _ _ _ _ c.loop-byte-test.true c.loop-byte.invariant.fed c.in_ok-take.ensures.taken;
+  kept = c.take.ensures.kept;
+  faults = c.in_ok-take.ensures.cause.same ∙ c.loop-byte.invariant.faults;
+}
