@@ -1,73 +1,56 @@
 use crate::layers::edits::at;
 use arrangement::{Arrangement, EdgeError, HistoryError};
+use dcel_records::Records;
 use exact_plane::Point;
 use locate_naive::vertex_at;
-use no_memory::NoMemory;
 use slab_laws::{CurveId, DartId, VertexId};
 use std::test::Fail;
 
 /// Names of records along the abscissa: of the vertices at 0, 1 and 4, and of the darts between the first two.
 #[derive(Clone, Copy, PartialEq)]
 pub struct Names {
-    pub left: Option<VertexId>,
-    pub middle: Option<VertexId>,
-    pub right: Option<VertexId>,
-    pub there: Option<DartId>,
-    pub back: Option<DartId>,
-}
-
-fn vertex(layer: &Arrangement, x: i128, y: i128) -> Result<Option<VertexId>, Fail> {
-    let point = at(x, y)?;
-    Ok(vertex_at(layer.records(), &point))
+    left: VertexId,
+    middle: VertexId,
+    right: VertexId,
+    there: DartId,
+    back: DartId,
 }
 
 // The name of the dart from one vertex to another, among the first hundred names.
-fn dart(layer: &Arrangement, from: Option<VertexId>, to: Option<VertexId>) -> Option<DartId> {
-    let ends = (from?, to?);
+fn dart(records: &Records, from: VertexId, to: VertexId) -> Option<DartId> {
     for name in 0..100 {
-        if layer.records().ends_of(DartId(name)) == Some(ends) {
+        if records.ends_of(DartId(name)) == Some((from, to)) {
             return Some(DartId(name));
         }
     }
     None
 }
 
-pub fn names_in(layer: &Arrangement) -> Result<Names, Fail> {
-    let left = vertex(layer, 0, 0)?;
-    let middle = vertex(layer, 1, 0)?;
-    let right = vertex(layer, 4, 0)?;
-    Ok(Names {
+fn names_at(records: &Records, left: &Point, middle: &Point, right: &Point) -> Option<Names> {
+    let left = vertex_at(records, left)?;
+    let middle = vertex_at(records, middle)?;
+    Some(Names {
         left,
         middle,
-        right,
-        there: dart(layer, left, middle),
-        back: dart(layer, middle, left),
+        right: vertex_at(records, right)?,
+        there: dart(records, left, middle)?,
+        back: dart(records, middle, left)?,
     })
 }
 
-/// Whether each of them is the name of a record.
-pub fn are_all_there(names: Names) -> bool {
-    names.left.is_some()
-        && names.middle.is_some()
-        && names.right.is_some()
-        && names.there.is_some()
-        && names.back.is_some()
+/// The names, where all are there.
+pub fn names_in(layer: &Arrangement) -> Result<Option<Names>, Fail> {
+    let (left, middle, right) = (at(0, 0)?, at(1, 0)?, at(4, 0)?);
+    Ok(names_at(layer.records(), &left, &middle, &right))
 }
 
-/// Whether just these curves run along the edge between two points of the abscissa.
+/// Whether just these curves run along the edge between two points of the abscissa; none where there is no edge.
 pub fn has_curves(layer: &Arrangement, x: i128, z: i128, wanted: &[CurveId]) -> Result<bool, Fail> {
     let (first, second) = (at(x, 0)?, at(z, 0)?);
     match layer.curves_of(&first, &second) {
         Ok(found) => Ok(found.as_slice() == wanted),
-        Err(_) => Ok(false),
-    }
-}
-
-pub fn has_no_edge(layer: &Arrangement, x: i128, z: i128) -> Result<bool, Fail> {
-    let (first, second) = (at(x, 0)?, at(z, 0)?);
-    match layer.curves_of(&first, &second) {
-        Err(EdgeError::NoEdge) => Ok(true),
-        _ => Ok(false),
+        Err(EdgeError::NoEdge) => Ok(wanted.is_empty()),
+        Err(EdgeError::NoMemory) => Ok(false),
     }
 }
 
@@ -112,10 +95,4 @@ pub fn counted(layer: &Arrangement) -> Result<[usize; 6], Fail> {
         counts.isolated,
         curves,
     ])
-}
-
-/// Whether the arrangement has the text.
-pub fn has_text(layer: &Arrangement, wanted: &[u8]) -> Result<bool, NoMemory> {
-    let text = layer.text()?;
-    Ok(text.as_slice() == wanted)
 }

@@ -1,11 +1,10 @@
 ghost use Rattle.arrangement.specs.Arranged.{arranged, arranged_of, IsWatched};
 
-use crate::layers::asked::{counted, has_curves, has_edges, has_no_edge, is_unknown};
+use crate::layers::asked::{counted, has_curves, has_edges, is_unknown};
 use crate::layers::edits::{Answer, Edit, Under, apply, layer_under};
 use crate::layers::kept::keeps_names;
-use crate::layers::places::{Place, lies_at};
-use crate::layers::seats::{is_gone, is_met, leaves, reports, reports_text};
-use crate::shapes::At;
+use crate::layers::places::lies_in;
+use crate::layers::seats::{is_gone, is_met, leaves, reports};
 use arrangement::{Arrangement, AttachError, Observer};
 use slab_laws::CurveId;
 use std::alloc::Global;
@@ -23,15 +22,13 @@ pub enum Call {
     IsRefused(u32, AttachError),
     /// Whether a seated observer of the name leaves.
     Leaves(u32, bool),
+    /// Just these curves run along the edge between two points; none where there is no edge.
     HasCurves(i128, i128, &'static [CurveId]),
-    HasNoEdge(i128, i128),
     HasEdges(u32, &'static [(i128, i128)]),
     IsUnknown(u32),
     Counts([usize; 6]),
-    /// The point lies there, under each strategy.
-    Lies(At, Place),
-    /// The observer of the name reports the text of the arrangement.
-    ReportsText(u32),
+    /// The point lies inside the edge between two others, under each strategy.
+    LiesIn(i128, i128, i128),
     /// The observer of the name reports this.
     Reports(u32, &'static [u8]),
     /// No observer of the name is seated.
@@ -39,14 +36,13 @@ pub enum Call {
 }
 
 // Whether an observer answers as it has to.
-fn is_seen(layer: &Arrangement, call: &Call) -> Result<bool, Fail>
+fn is_seen(layer: &Arrangement, call: &Call) -> bool
     requires watched { IsWatched (arranged_of tells held left heard layer.now) }
 {
     match call {
-        Call::ReportsText(name) => reports_text(layer, *name),
-        Call::Reports(name, wanted) => Ok(reports(layer, *name, wanted)),
-        Call::IsGone(name) => Ok(is_gone(layer, *name)),
-        _ => Ok(false),
+        Call::Reports(name, wanted) => reports(layer, *name, wanted),
+        Call::IsGone(name) => is_gone(layer, *name),
+        _ => false,
     }
 }
 
@@ -57,12 +53,11 @@ fn is_told(layer: &mut Arrangement, call: &Call) -> Result<bool, Fail>
 {
     match call {
         Call::HasCurves(x, z, wanted) => has_curves(layer, *x, *z, wanted),
-        Call::HasNoEdge(x, z) => has_no_edge(layer, *x, *z),
         Call::HasEdges(curve, wanted) => has_edges(layer, *curve, wanted),
         Call::IsUnknown(curve) => Ok(is_unknown(layer, *curve)),
         Call::Counts(wanted) => Ok(counted(layer)? == *wanted),
-        Call::Lies(point, place) => lies_at(layer, *point, *place),
-        _ => is_seen(layer, call),
+        Call::LiesIn(y, x, z) => lies_in(layer, *y, *x, *z),
+        _ => Ok(is_seen(layer, call)),
     }
 }
 

@@ -1,6 +1,6 @@
 ghost use Rattle.arrangement.specs.Arranged.{arranged_of, IsWatched};
 
-use crate::layers::asked::{are_all_there, names_in};
+use crate::layers::asked::names_in;
 use crate::layers::edits::{Answer, Edit, apply};
 use arrangement::Arrangement;
 use std::test::Fail;
@@ -11,5 +11,7 @@ pub fn keeps_names(layer: &mut Arrangement, edit: Edit, wanted: Answer) -> Resul
     ensures watched { IsWatched (arranged_of tells held left heard layer.new) }
 {
     let before = names_in(layer)?;
-    Ok(apply(layer, edit)? == wanted && are_all_there(before) && names_in(layer)? == before)
+    let answer = apply(layer, edit)?;
+    let after = names_in(layer)?;
+    Ok(answer == wanted && before.is_some() && after == before)
 }

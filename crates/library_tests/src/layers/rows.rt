@@ -1,10 +1,11 @@
 use crate::layers::calls::{Call, are_right};
 use crate::layers::edits::{Answer, Edit, Under};
-use crate::layers::places::Place;
 use crate::layers::scribe::Scribe;
 use arrangement::{AttachError, Observer};
 use mirror_observer::Mirror;
+use no_memory::NoMemory;
 use slab_laws::CurveId;
+use std::alloc::Global;
 use std::test::Fail;
 
 const LAST_NUMBER: [Call; 2] = [
@@ -33,7 +34,7 @@ const REMOVALS: [Call; 13] = [
     Call::HasCurves(2, 4, &[CurveId(4294967294), CurveId(4294967295)]),
     Call::Counts([4, 3, 1, 1, 0, 2]),
     Call::Makes(Edit::RemoveEdge(0, 2), Answer::Done),
-    Call::HasNoEdge(0, 2),
+    Call::HasCurves(0, 2, &[]),
     Call::Makes(Edit::RemoveCurve(4294967294), Answer::Done),
     Call::HasCurves(2, 4, &[CurveId(4294967295)]),
     Call::IsUnknown(4294967294),
@@ -52,12 +53,12 @@ const OVERLAPS: [Call; 21] = [
     Call::Makes(Edit::Insert(2, 0, 4, 0), Answer::Drawn(2)),
     Call::HasCurves(4, 2, &[CurveId(1), CurveId(2)]),
     Call::HasCurves(0, 2, &[CurveId(1)]),
-    Call::HasNoEdge(0, 4),
+    Call::HasCurves(0, 4, &[]),
     Call::HasEdges(1, &[(0, 2), (2, 4), (4, 6)]),
     Call::HasEdges(2, &[(2, 4)]),
     Call::IsUnknown(3),
     Call::Counts([4, 3, 1, 1, 0, 2]),
-    Call::Lies((3, 0, 1), Place::Edge((2, 0), (4, 0))),
+    Call::LiesIn(3, 2, 4),
     Call::Makes(Edit::SplitEdge(2, 6, 3), Answer::NoEdge),
     Call::Makes(Edit::SplitEdge(2, 4, 5), Answer::NotInside),
     Call::Makes(Edit::SplitEdge(2, 4, 3), Answer::Done),
@@ -119,16 +120,24 @@ const EIGHT_SEATS: [Call; 15] = [
     Call::Leaves(3, true),
     Call::IsGone(3),
     Call::Comes(9),
-    Call::ReportsText(9),
+    Call::Reports(9, b"arrangement 0 0 1\nf 0\nend\n"),
 ];
+
+fn has_eight_seats(alloc: Global, mirrors: Vec<Box<dyn Observer>>) -> Result<bool, Fail> {
+    are_right(alloc, Under::Script, &EIGHT_SEATS, mirrors)
+}
+
+fn mirror(alloc: Global) -> Result<Box<Mirror>, NoMemory> {
+    Ok(Box::new(alloc, Mirror::new(alloc, None)?)?)
+}
 
 #[test]
 fn nine_mirrors_want_eight_seats(rt: HostRuntime) -> Result<(), Fail> {
     let mut mirrors: Vec<Box<dyn Observer>> = Vec::new(rt.alloc());
     for _ in 0..9 {
-        mirrors.push(Box::new(rt.alloc(), Mirror::new(rt.alloc(), None)?)?)?;
+        mirrors.push(mirror(rt.alloc())?)?;
     }
-    assert!(rt; are_right(rt.alloc(), Under::Script, &EIGHT_SEATS, mirrors)?);
+    assert!(rt; has_eight_seats(rt.alloc(), mirrors)?);
     Ok(())
 }
 
@@ -152,10 +161,14 @@ const STEPS: [Call; 13] = [
     ),
 ];
 
+fn writes_each_step(alloc: Global, scribes: Vec<Box<dyn Observer>>) -> Result<bool, Fail> {
+    are_right(alloc, Under::Script, &STEPS, scribes)
+}
+
 #[test]
 fn an_observer_is_told_each_step(rt: HostRuntime) -> Result<(), Fail> {
-    let mut observers: Vec<Box<dyn Observer>> = Vec::new(rt.alloc());
-    observers.push(Box::new(rt.alloc(), Scribe::new(rt.alloc()))?)?;
-    assert!(rt; are_right(rt.alloc(), Under::Script, &STEPS, observers)?);
+    let mut scribes: Vec<Box<dyn Observer>> = Vec::new(rt.alloc());
+    scribes.push(Box::new(rt.alloc(), Scribe::new(rt.alloc()))?)?;
+    assert!(rt; writes_each_step(rt.alloc(), scribes)?);
     Ok(())
 }

@@ -1,6 +1,5 @@
 ghost use Rattle.arrangement.specs.Arranged.{arranged, arranged_of, IsWatched};
 
-use crate::layers::asked::has_text;
 use arrangement::{Arrangement, AttachError, Observer, ReportError};
 use std::test::Fail;
 
@@ -32,16 +31,6 @@ pub fn leaves(layer: &mut Arrangement, name: u32) -> bool
     ensures watched { IsWatched (arranged_of tells held left heard layer.new) }
 {
     layer.leave(name, None).is_ok()
-}
-
-/// Whether the observer of the name reports the text of the layer.
-pub fn reports_text(layer: &Arrangement, name: u32) -> Result<bool, Fail>
-    requires watched { IsWatched (arranged_of tells held left heard layer.now) }
-{
-    match layer.report(name) {
-        Ok(bytes) => Ok(has_text(layer, &bytes)?),
-        Err(_) => Ok(false),
-    }
 }
 
 /// Whether the observer of the name reports this.

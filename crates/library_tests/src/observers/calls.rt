@@ -18,8 +18,6 @@ pub enum Call {
     Comes(u32, u32, u64, u32),
     /// One comes that keeps its notes whole, under a name, at once or in a round.
     Listens(u32, u32),
-    /// A mirror comes under a name, at once or in a round.
-    Mirrors(u32, u32),
     /// One that comes under a name, at once or in a round, is refused.
     IsRefused(u32, u32, AttachError),
     /// Whether one of the name was seated.
@@ -63,20 +61,12 @@ pub fn is_listening(call: &Call) -> bool {
     }
 }
 
-/// Whether a mirror comes with a call.
-pub fn is_mirror(call: &Call) -> bool {
-    match call {
-        Call::Mirrors(_, _) => true,
-        _ => false,
-    }
-}
-
 /// The observer that comes with a call, if one does that writes a byte a note.
 pub fn recorder_of(alloc: Global, call: &Call) -> Option<Recorder> {
     match call {
         Call::Comes(_, _, notes, room) => Some(Recorder::new(alloc, notes_of(*notes), *room)),
         Call::IsRefused(_, _, _) => Some(Recorder::new(alloc, None, 9)),
-        Call::Listens(_, _) | Call::Mirrors(_, _) => None,
+        Call::Listens(_, _) => None,
         Call::Leaves(_, _, _) | Call::Edit(_) | Call::Hears(_, _) => None,
     }
 }
@@ -84,7 +74,7 @@ pub fn recorder_of(alloc: Global, call: &Call) -> Option<Recorder> {
 // Whether an observer comes with a call.
 fn is_coming(call: &Call) -> bool {
     match call {
-        Call::Comes(_, _, _, _) | Call::Listens(_, _) | Call::Mirrors(_, _) => true,
+        Call::Comes(_, _, _, _) | Call::Listens(_, _) => true,
         Call::IsRefused(_, _, _) => true,
         Call::Leaves(_, _, _) | Call::Edit(_) | Call::Hears(_, _) => false,
     }
@@ -163,8 +153,9 @@ fn is_met(
     ensures calm { IsCalm (bus_row tells held left heard bus.new) }
 {
     match call {
-        Call::Comes(name, round, _, _) | Call::Listens(name, round) | Call::Mirrors(name, round) =>
-            { attach(bus, alloc, plane, *name, observer, round_of(*round)).is_none() }
+        Call::Comes(name, round, _, _) | Call::Listens(name, round) => {
+            attach(bus, alloc, plane, *name, observer, round_of(*round)).is_none()
+        }
         Call::IsRefused(name, round, error) => {
             attach(bus, alloc, plane, *name, observer, round_of(*round)) == Some(*error)
         }
@@ -181,8 +172,7 @@ fn is_answered(bus: &mut Bus, alloc: Global, plane: &EmptyPlane, call: &Call) ->
         Call::Leaves(name, round, wanted) => leave(bus, *name, round_of(*round)).is_ok() == *wanted,
         Call::Edit(turns) => edit(bus, alloc, plane, turns),
         Call::Hears(name, wanted) => hears(bus, *name, wanted),
-        Call::Comes(_, _, _, _) | Call::Listens(_, _) | Call::Mirrors(_, _) => false,
-        Call::IsRefused(_, _, _) => false,
+        Call::Comes(_, _, _, _) | Call::Listens(_, _) | Call::IsRefused(_, _, _) => false,
     }
 }
 
@@ -206,7 +196,26 @@ fn is_right_with(
     }
 }
 
-/// Whether each call answers as it has to, one after the other, of a new bus; the observers come with them, the last one first.
+// Whether each call answers as it has to, one after the other; the observers come with them, the last one first.
+fn all_answered(
+    bus: &mut Bus,
+    alloc: Global,
+    plane: &EmptyPlane,
+    calls: &[Call],
+    observers: &mut Vec<Box<dyn Observer>>,
+) -> bool
+    requires calm { IsCalm (bus_row tells held left heard bus.old) }
+    ensures calm { IsCalm (bus_row tells held left heard bus.new) }
+{
+    'calls: for call in calls {
+        if !is_right_with(bus, alloc, plane, call, observers) {
+            return false;
+        }
+    }
+    true
+}
+
+/// The same of a new bus.
 pub fn are_answered(
     alloc: Global,
     plane: &EmptyPlane,
@@ -214,10 +223,7 @@ pub fn are_answered(
     mut observers: Vec<Box<dyn Observer>>,
 ) -> Result<bool, Fail> {
     let mut bus = Bus::new(alloc, Vec::with_capacity(alloc, SEATS)?)?;
-    'calls: for call in calls {
-        if !is_right_with(&mut bus, alloc, plane, call, &mut observers) {
-            return Ok(false);
-        }
-    }
-    Ok(true)
+    let right = all_answered(&mut bus, alloc, plane, calls, &mut observers);
+    drop(bus);
+    Ok(right)
 }

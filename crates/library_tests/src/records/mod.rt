@@ -1,5 +1,4 @@
-// What is computed from a present afresh, and the room that records ask for.
+// The room that records ask for, and the smallest view.
 
-mod drawings;
 mod room;
 mod triangles;

@@ -1,4 +1,4 @@
-use Rattle.library_tests.proofs.layers.places.lies_at.Goals as goal
+use Rattle.library_tests.proofs.layers.places.lies_in.Goals as goal
 
 pub returns-in_err-locate : goal.returns-in_err-locate
 returns-in_err-locate g c = record { watched = rw c.locate.ensures.same c.loop-strategy.invariant }
