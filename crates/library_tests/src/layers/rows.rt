@@ -93,14 +93,19 @@ const TABLES: [(&str, Under, &[Call]); 5] = [
     ),
 ];
 
+// What the first table shows that isn't so.
+fn first_wrong(alloc: Global) -> Result<Option<&'static str>, Fail> {
+    for (shown, under, calls) in &TABLES {
+        if !are_right(alloc, *under, calls, Vec::new(alloc))? {
+            return Ok(Some(*shown));
+        }
+    }
+    Ok(None)
+}
+
 #[test]
 fn an_arrangement_answers_as_each_table_says(rt: HostRuntime) -> Result<(), Fail> {
-    for (shown, under, calls) in &TABLES {
-        assert!(rt;
-            are_right(rt.alloc(), *under, calls, Vec::new(rt.alloc()))?,
-            "{shown}"
-        );
-    }
+    assert_eq!(rt; first_wrong(rt.alloc())?, None);
     Ok(())
 }
 

@@ -175,11 +175,19 @@ fn are_met(alloc: Global, plane: &EmptyPlane, calls: &[Call]) -> Result<bool, Fa
     are_answered(alloc, plane, calls, observers)
 }
 
-#[test]
-fn a_bus_answers_as_each_table_says(rt: HostRuntime) -> Result<(), Fail> {
+// What the first table shows that isn't so.
+fn first_wrong(alloc: Global) -> Result<Option<&'static str>, Fail> {
     let plane = plane()?;
     for (shown, calls) in &TABLES {
-        assert!(rt; are_met(rt.alloc(), &plane, calls)?, "{shown}");
+        if !are_met(alloc, &plane, calls)? {
+            return Ok(Some(*shown));
+        }
     }
+    Ok(None)
+}
+
+#[test]
+fn a_bus_answers_as_each_table_says(rt: HostRuntime) -> Result<(), Fail> {
+    assert_eq!(rt; first_wrong(rt.alloc())?, None);
     Ok(())
 }
