@@ -54,24 +54,11 @@ pub fn has_curves(layer: &Arrangement, x: i128, z: i128, wanted: &[CurveId]) -> 
     }
 }
 
-fn is_on_abscissa(found: &(Point, Point), wanted: (i128, i128)) -> Result<bool, Fail> {
-    let ends = (at(wanted.0, 0)?, at(wanted.1, 0)?);
-    Ok(*found == ends)
-}
-
-fn are_on_abscissa(found: &[(Point, Point)], wanted: &[(i128, i128)]) -> Result<bool, Fail> {
-    for (edge, ends) in found.iter().zip(wanted) {
-        if !is_on_abscissa(edge, *ends)? {
-            return Ok(false);
-        }
-    }
-    Ok(found.len() == wanted.len())
-}
-
-/// Whether the curve runs along just these edges of the abscissa, in their order.
-pub fn has_edges(layer: &Arrangement, curve: u32, wanted: &[(i128, i128)]) -> Result<bool, Fail> {
+/// Whether the curve runs along just the edge between two points of the abscissa, the lower one first.
+pub fn has_edge(layer: &Arrangement, curve: u32, x: i128, z: i128) -> Result<bool, Fail> {
+    let wanted = [(at(x, 0)?, at(z, 0)?)];
     match layer.edges_of(CurveId(curve)) {
-        Ok(found) => are_on_abscissa(&found, wanted),
+        Ok(found) => Ok(found.as_slice() == wanted.as_slice()),
         Err(_) => Ok(false),
     }
 }

@@ -1,10 +1,10 @@
 ghost use Rattle.arrangement.specs.Arranged.{arranged, arranged_of, IsWatched};
 
-use crate::layers::asked::{counted, has_curves, has_edges, is_unknown};
+use crate::layers::asked::{counted, has_curves, has_edge, is_unknown};
 use crate::layers::edits::{Answer, Edit, Under, apply, layer_under};
 use crate::layers::kept::keeps_names;
 use crate::layers::places::lies_in;
-use crate::layers::seats::{is_gone, is_met, leaves, reports};
+use crate::layers::seats::{is_met, leaves, reports};
 use arrangement::{Arrangement, AttachError, Observer};
 use slab_laws::CurveId;
 use std::alloc::Global;
@@ -24,26 +24,14 @@ pub enum Call {
     Leaves(u32, bool),
     /// Just these curves run along the edge between two points; none where there is no edge.
     HasCurves(i128, i128, &'static [CurveId]),
-    HasEdges(u32, &'static [(i128, i128)]),
+    /// The curve runs along just the edge between two points.
+    HasEdge(u32, i128, i128),
     IsUnknown(u32),
     Counts([usize; 6]),
     /// The point lies inside the edge between two others, under each strategy.
     LiesIn(i128, i128, i128),
-    /// The observer of the name reports this.
-    Reports(u32, &'static [u8]),
-    /// No observer of the name is seated.
-    IsGone(u32),
-}
-
-// Whether an observer answers as it has to.
-fn is_seen(layer: &Arrangement, call: &Call) -> bool
-    requires watched { IsWatched (arranged_of tells held left heard layer.now) }
-{
-    match call {
-        Call::Reports(name, wanted) => reports(layer, *name, wanted),
-        Call::IsGone(name) => is_gone(layer, *name),
-        _ => false,
-    }
+    /// The observer of the name reports this, or none is seated.
+    Reports(u32, Option<&'static [u8]>),
 }
 
 // Whether a call that changes nothing answers as it has to.
@@ -53,11 +41,12 @@ fn is_told(layer: &mut Arrangement, call: &Call) -> Result<bool, Fail>
 {
     match call {
         Call::HasCurves(x, z, wanted) => has_curves(layer, *x, *z, wanted),
-        Call::HasEdges(curve, wanted) => has_edges(layer, *curve, wanted),
+        Call::HasEdge(curve, x, z) => has_edge(layer, *curve, *x, *z),
         Call::IsUnknown(curve) => Ok(is_unknown(layer, *curve)),
         Call::Counts(wanted) => Ok(counted(layer)? == *wanted),
         Call::LiesIn(y, x, z) => lies_in(layer, *y, *x, *z),
-        _ => Ok(is_seen(layer, call)),
+        Call::Reports(name, wanted) => Ok(reports(layer, *name, *wanted)),
+        _ => Ok(false),
     }
 }
 

@@ -48,23 +48,22 @@ const PINNED_EDGE: [Call; 3] = [
 ];
 
 // One segment begins and ends inside an edge of the other; that edge goes in two, and is one again.
-const OVERLAPS: [Call; 21] = [
+const OVERLAPS: [Call; 20] = [
     Call::Makes(Edit::Insert(0, 0, 6, 0), Answer::Drawn(1)),
     Call::Makes(Edit::Insert(2, 0, 4, 0), Answer::Drawn(2)),
     Call::HasCurves(4, 2, &[CurveId(1), CurveId(2)]),
     Call::HasCurves(0, 2, &[CurveId(1)]),
     Call::HasCurves(0, 4, &[]),
-    Call::HasEdges(1, &[(0, 2), (2, 4), (4, 6)]),
-    Call::HasEdges(2, &[(2, 4)]),
+    Call::HasEdge(2, 2, 4),
     Call::IsUnknown(3),
     Call::Counts([4, 3, 1, 1, 0, 2]),
     Call::LiesIn(3, 2, 4),
     Call::Makes(Edit::SplitEdge(2, 6, 3), Answer::NoEdge),
     Call::Makes(Edit::SplitEdge(2, 4, 5), Answer::NotInside),
     Call::Makes(Edit::SplitEdge(2, 4, 3), Answer::Done),
-    Call::HasEdges(2, &[(2, 3), (3, 4)]),
+    Call::HasCurves(3, 4, &[CurveId(1), CurveId(2)]),
     Call::Makes(Edit::MergeEdge(3), Answer::Done),
-    Call::HasEdges(2, &[(2, 4)]),
+    Call::HasEdge(2, 2, 4),
     Call::Makes(Edit::MergeEdge(3), Answer::NoVertex),
     Call::Makes(Edit::MergeEdge(2), Answer::NotMergeable),
     Call::Makes(Edit::RemoveCurve(3), Answer::Unknown),
@@ -123,9 +122,9 @@ const EIGHT_SEATS: [Call; 15] = [
     Call::IsRefused(8, AttachError::Taken),
     Call::Leaves(9, false),
     Call::Leaves(3, true),
-    Call::IsGone(3),
+    Call::Reports(3, None),
     Call::Comes(9),
-    Call::Reports(9, b"arrangement 0 0 1\nf 0\nend\n"),
+    Call::Reports(9, Some(b"arrangement 0 0 1\nf 0\nend\n")),
 ];
 
 fn has_eight_seats(alloc: Global, mirrors: Vec<Box<dyn Observer>>) -> Result<bool, Fail> {
@@ -162,7 +161,9 @@ const STEPS: [Call; 13] = [
     Call::Makes(Edit::Clear, Answer::Done),
     Call::Reports(
         1,
-        b"#s008040.v44.e4044.+0040.+4080.-0040.-4080.s004020.p20.s408060.p60.u60.m60.d2040.u20.d4044.x44.c.",
+        Some(
+            b"#s008040.v44.e4044.+0040.+4080.-0040.-4080.s004020.p20.s408060.p60.u60.m60.d2040.u20.d4044.x44.c.",
+        ),
     ),
 ];
 

@@ -33,22 +33,13 @@ pub fn leaves(layer: &mut Arrangement, name: u32) -> bool
     layer.leave(name, None).is_ok()
 }
 
-/// Whether the observer of the name reports this.
-pub fn reports(layer: &Arrangement, name: u32, wanted: &[u8]) -> bool
+/// Whether the observer of the name reports this, or none is seated.
+pub fn reports(layer: &Arrangement, name: u32, wanted: Option<&[u8]>) -> bool
     requires watched { IsWatched (arranged_of tells held left heard layer.now) }
 {
-    match layer.report(name) {
-        Ok(bytes) => bytes.as_slice() == wanted,
-        Err(_) => false,
-    }
-}
-
-/// Whether no observer of the name is seated.
-pub fn is_gone(layer: &Arrangement, name: u32) -> bool
-    requires watched { IsWatched (arranged_of tells held left heard layer.now) }
-{
-    match layer.report(name) {
-        Err(ReportError::NoSeat) => true,
+    match (layer.report(name), wanted) {
+        (Ok(bytes), Some(wanted)) => bytes.as_slice() == wanted,
+        (Err(ReportError::NoSeat), None) => true,
         _ => false,
     }
 }
