@@ -29,8 +29,9 @@ echo "record_calls: $below" >> "$folder/crates.txt"
 for place in edge_unlink/src/edges.rt:unlink edge_split_merge/src/joining.rt:merge edge_split_merge/src/parting.rt:split; do
   sed -i "s/^pub fn ${place#*:}(/#[inline(never)]\n&/" "$folder/crates/${place%:*}"
 done
+# The gate reads every .rt and .antt file of the repository, so the program's files have other names here.
 own=$folder/crates/record_calls
-(cd benchmarks/record_calls && find . -name '*.txt') | while read -r file; do # the gate reads every .rt and .antt file of the repository, so they have other names here
+(cd benchmarks/record_calls && find . -name '*.txt') | while read -r file; do
   mkdir -p "$own/$(dirname "$file")"
   cp "benchmarks/record_calls/$file" "$own/${file%.txt}"
 done
