@@ -7,15 +7,15 @@
 # Builds the program in benchmarks/record_calls/ over copies of the crates. At the centre of a star of DEGREE edges an edge is
 # linked and unlinked, and an edge of the star is split and merged back. `count` runs that under callgrind (of valgrind), and
 # prints the instructions of each of the four calls, with all that it calls, but without the tests of premises that the
-# builder of records_tests makes before. `time` runs it COUNT times at degree 4, those tests included.
+# program's builder makes before. `time` runs it COUNT times at degree 4, those tests included.
 set -eu
 cd "$(dirname "$0")/.."
 what=${1:-count}
 [ $# = 0 ] || shift
 folder=$(mktemp -d)
 trap 'rm -rf "$folder"' EXIT
-below=$(sed -n 's/^records_tests: //p' crates.txt)
-crates=$(for crate in records_tests $below; do echo "$crate"; sed -n "s/^$crate: //p" crates.txt; done | tr ' ' '\n' | sort -u)
+below='zone_walk locate_naive record_orders edge_split_merge edge_unlink edge_link sound_changes rotation_order sound_views edge_predicates dcel_records arr_notes slab_faces slab_laws plane_graphs exact_plane no_memory'
+crates=$(for crate in $below; do echo "$crate"; sed -n "s/^$crate: //p" crates.txt; done | tr ' ' '\n' | sort -u)
 mkdir "$folder/crates"
 cp HANDLES "$folder/"
 for crate in $crates; do
@@ -24,21 +24,16 @@ for crate in $crates; do
     grep "^$crate:" crates.txt >> "$folder/crates.txt"
   fi
 done
-echo "record_calls: records_tests $below" >> "$folder/crates.txt"
+echo "record_calls: $below" >> "$folder/crates.txt"
 # A hint to the compiler, which changes no proof: so each of the calls is counted by its name.
 for place in edge_unlink/src/edges.rt:unlink edge_split_merge/src/joining.rt:merge edge_split_merge/src/parting.rt:split; do
   sed -i "s/^pub fn ${place#*:}(/#[inline(never)]\n&/" "$folder/crates/${place%:*}"
 done
-# What the tests build records by is read with tests alone, and here without them.
-tests=$folder/crates/records_tests/src/lib.rt
-for module in changes checked lists merges planes splits; do
-  sed -i "/^#\\[cfg(test)\\]\$/{N;s/.*\\n\\(mod $module;\\)/\\1/}" "$tests"
-done
-echo 'pub use checked::Checked;' >> "$tests"
+# The gate reads every .rt and .antt file of the repository, so the program's files have other names here.
 own=$folder/crates/record_calls
-mkdir -p "$own/src"
-for file in main stars; do # the gate reads every .rt file of the repository, so they have other names here
-  cp "benchmarks/record_calls/$file.rt.txt" "$own/src/$file.rt"
+(cd benchmarks/record_calls && find . -name '*.txt') | while read -r file; do
+  mkdir -p "$own/$(dirname "$file")"
+  cp "benchmarks/record_calls/$file" "$own/${file%.txt}"
 done
 git init -q "$folder"
 (cd "$own" && echo 'nothing 1 0' | rt run > /dev/null)

@@ -130,13 +130,21 @@ for words in '--seed 0' '--seed=4294967295' '--seed=20 --locate walk'; do
     check "no script made by $words" 0 $'pin 0 0 1\n' $'ok\n' $words
 done
 
-# The last curve and the last pin that are let in, and the first that aren't; a text of more than 64 KiB.
+# The last curve, the last pin and the last pieces that are let in, and the first that aren't; a text of more than 64 KiB.
 check 'two thousand and one curves' 0 \
     "$(awk 'BEGIN { for (k = 0; k <= 2000; k++) print "segment", k, 0, k, 1 }')"$'\n' \
     "$(awk 'BEGIN { for (k = 1; k <= 2000; k++) print "ok", k; print "refused 17" }')"$'\n'
 check 'ten thousand and one pins' 0 \
     "$(awk 'BEGIN { for (k = 0; k <= 10000; k++) print "pin", k, 0, 1 }')"$'\n' \
     "$(awk 'BEGIN { for (k = 0; k < 10000; k++) print "ok"; print "refused 17" }')"$'\n'
+# A cut that would make a piece too many leaves all as it was; one that takes a piece from each curve is let in.
+check 'ten thousand pieces' 0 \
+    "$(awk 'BEGIN { for (k = 1; k <= 2000; k++) print "segment 0 0 20 0"; for (k = 1; k < 20; k++) print "pin", k, 0, 1
+        for (k = 1; k < 10; k += 2) print "cut", k, 0, 1, k + 1, 0, 1
+        print "count"; print "edge 9 0 1 10 0 1"; print "cut 0 0 1 1 0 1"; print "count" }')"$'\n' \
+    "$(awk 'BEGIN { for (k = 1; k <= 2000; k++) print "ok", k; for (k = 1; k < 24; k++) print "ok"
+        print "refused 17"; print "counts 21 16 1 5 0 2000"; printf "curves"; for (k = 1; k <= 2000; k++) printf " %d", k
+        print ""; print "ok"; print "counts 20 15 1 4 1 2000" }')"$'\n'
 check 'a long text' 0 \
     "$(awk 'BEGIN { for (k = 0; k < 1000; k++) printf "pin 1000000000000000%03d -9000000000000000001 8796093022207\n", k; print "show" }')"$'\n' \
     "$(awk 'BEGIN { for (k = 0; k < 1000; k++) print "ok"; print "arrangement 1000 0 1"

@@ -1,0 +1,10 @@
+// Layers of an arrangement, by the calls of `Arrangement`.
+
+mod asked;
+mod calls;
+mod edits;
+mod kept;
+mod places;
+mod rows;
+mod scribe;
+mod seats;

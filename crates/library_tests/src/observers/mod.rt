@@ -1,0 +1,8 @@
+// The bus of observers, with observers that write down what they are told.
+
+mod calls;
+mod empty;
+mod listener;
+mod recorder;
+mod rounds;
+mod tests;

@@ -1,0 +1,4 @@
+// The room that records ask for, and the smallest view.
+
+mod room;
+mod triangles;

@@ -1,0 +1,70 @@
+use crate::shapes::point;
+use dcel_records::{Records, Room};
+use exact_plane::Point;
+use no_memory::NoMemory;
+use slab_laws::{DartId, VertexId};
+use std::test::Fail;
+
+// Whether a vertex comes, where there is room for it, and goes with all.
+fn comes_and_goes(records: &mut Records, point: Point) -> Result<bool, NoMemory> {
+    records.reserve(Room {
+        vertices: 7,
+        edges: 9,
+    })?;
+    let vertex = records.add_vertex(point);
+    let is_there = records.point_of(vertex) == Some(point);
+    records.clear();
+    Ok(is_there && records.point_of(vertex).is_none())
+}
+
+#[test]
+fn makes_room(rt: HostRuntime) -> Result<(), Fail> {
+    let mut records = Records::new(rt.alloc())?;
+    let right = comes_and_goes(&mut records, point((1, 2, 1))?);
+    drop(records);
+    assert!(rt; right?);
+    Ok(())
+}
+
+// More vertices or darts than any memory holds.
+const TOO_MUCH: [(usize, usize); 4] = [
+    (usize::MAX, 0),
+    (0, usize::MAX),
+    (0, usize::MAX / 2),
+    (usize::MAX, usize::MAX),
+];
+
+fn has_no_room(records: &mut Records, vertices: usize, edges: usize) -> bool {
+    records.reserve(Room { vertices, edges }) == Err(NoMemory)
+}
+
+// Whether the vertex is all that there is.
+fn is_alone(records: &Records, vertex: VertexId, point: Point) -> bool {
+    records.point_of(vertex) == Some(point)
+        && records.point_of(VertexId(1)).is_none()
+        && records.ends_of(DartId(0)).is_none()
+}
+
+// Whether records of one vertex have no room for so much, and are then as before.
+fn stay(records: &mut Records, point: Point) -> Result<bool, NoMemory> {
+    records.reserve(Room {
+        vertices: 1,
+        edges: 0,
+    })?;
+    let vertex = records.add_vertex(point);
+    for (vertices, edges) in TOO_MUCH {
+        if !has_no_room(records, vertices, edges) {
+            return Ok(false);
+        }
+    }
+    Ok(is_alone(records, vertex, point))
+}
+
+#[test]
+fn records_stay_without_room(rt: HostRuntime) -> Result<(), Fail> {
+    let mut records = Records::new(rt.alloc())?;
+    let right = stay(&mut records, point((1, 2, 1))?);
+    drop(records);
+    assert!(rt; right?);
+    Ok(())
+}

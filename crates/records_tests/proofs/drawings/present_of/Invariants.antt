@@ -1,7 +1,0 @@
-use Rattle.std.proofs.Common.{map}
-use Rattle.slab_laws.specs.Pieces.{piece_of}
-use Rattle.present_graphs.proofs.Drawings.{IsDrawing}
-use Rattle.records_tests.proofs.drawings.present_of.Given as goal
-
-abbrev pub invariant-loop-i : goal.invariant-loop-i
-invariant-loop-i l = IsDrawing (map piece_of l.pieces) l.i
