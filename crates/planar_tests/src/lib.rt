@@ -1,15 +1,16 @@
-//! Tests of the crates above the exact plane: replies, subdivisions, lines and streams, with values from outside.
+//! Tests of what no script shows: calls that the program doesn't reach, errors of the libraries' own, limits and observers of
+//! one's own, and how a run ends.
 #![tactic(auto)]
 
 #[cfg(test)]
-mod lines;
-#[cfg(test)]
-mod makers;
-#[cfg(test)]
-mod memory;
+mod layers;
 #[cfg(test)]
 mod observers;
 #[cfg(test)]
-mod runs;
+mod plane;
 #[cfg(test)]
-mod streams;
+mod program;
+#[cfg(test)]
+mod records;
+#[cfg(test)]
+mod shapes;

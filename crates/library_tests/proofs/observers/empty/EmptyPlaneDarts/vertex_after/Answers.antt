@@ -1,7 +1,0 @@
-use Rattle.std.proofs.Common.{refl}
-use Rattle.slab_laws.specs.Tables.{name_after}
-use Rattle.library_tests.proofs.observers.empty.EmptyPlaneDarts.vertex_after.Goals as goal
-
-pub returns-clause-after : goal.returns-clause-after
-unfolding name_after
-returns-clause-after c = refl

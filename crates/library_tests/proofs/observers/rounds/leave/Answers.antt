@@ -1,5 +1,0 @@
-use Rattle.library_tests.proofs.Calming.{calm_left}
-use Rattle.library_tests.proofs.observers.rounds.leave.Goals as goal
-
-pub returns-in-Ok-clause-calm : goal.returns-in-Ok-clause-calm
-returns-in-Ok-clause-calm g c = calm_left _ _ _ _ c.in-Ok.ensures.left c.requires.calm
