@@ -57,7 +57,11 @@ pub(crate) fn plain_of(
 {
     let pinned = pinned_among(alloc, &points, &pins)?;
     let orbits = orbits_of(alloc, &points, &edges)?;
-    let regions = regions_of(alloc, &points, &edges, &orbits)?;
+    let Ok(regions) = regions_of(alloc, &points, &edges, &orbits) else {
+        // By a call, which is proved once for the type; what a scope drops at its end is proved there anew.
+        drop(orbits);
+        return Err(NoMemory);
+    };
     Ok(Plain {
         points,
         pins,
