@@ -57,11 +57,7 @@ pub(crate) fn plain_of(
 {
     let pinned = pinned_among(alloc, &points, &pins)?;
     let orbits = orbits_of(alloc, &points, &edges)?;
-    let Ok(regions) = regions_of(alloc, &points, &edges, &orbits) else {
-        // By a call, which is proved once for the type; what a scope drops at its end is proved there anew.
-        drop(orbits);
-        return Err(NoMemory);
-    };
+    let regions = regions_of(alloc, &points, &edges, &orbits)?;
     Ok(Plain {
         points,
         pins,

@@ -17,8 +17,8 @@ regions_of-requires-clause-plane c =
 pub invariant_of-result : goal.invariant_of-result
 invariant_of-result c =
     let are = drawn_is c.args.points.items c.args.marks.items c.args.pins.items c.args.edges.items c.requires.edges in
-    kept c.args.points c.args.pins c.in_ok-pinned.pinned c.args.marks c.args.edges c.in_ok-orbits.orbits c.in-Ok.regions c.requires.plane c.requires.lines
+    kept c.args.points c.args.pins c.in_ok-pinned.pinned c.args.marks c.args.edges c.in_ok-orbits.orbits c.in_ok-regions.regions c.requires.plane c.requires.lines
     (c.in_ok-pinned.ensures ∙ (λ i. map (λ p. list_any (same_point p) (c.deref-2.ensures.value i)) (c.deref.ensures.value i)))
     c.requires.edges
     (subst (λ g. AreOrbits g c.in_ok-orbits.orbits) ((λ i. drawn (c.deref-3.ensures.value i) (c.deref-4.ensures.value i)) ∙ are) c.in_ok-orbits.ensures)
-    (subst (λ g. AreRegions g c.in-Ok.regions) ((λ i. drawn (c.deref-5.ensures.value i) (c.deref-6.ensures.value i)) ∙ are) c.in-Ok.ensures)
+    (subst (λ g. AreRegions g c.in_ok-regions.regions) ((λ i. drawn (c.deref-5.ensures.value i) (c.deref-6.ensures.value i)) ∙ are) c.in_ok-regions.ensures)
