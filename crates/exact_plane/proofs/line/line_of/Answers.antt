@@ -42,12 +42,3 @@ returns-clause-value c = search rules
 
 pub returns-clause-line : goal.returns-clause-line
 returns-clause-line c = search rules
-
-pub difference-across-requires : goal.difference-across-requires
-difference-across-requires c = record { first = search rules; second = search rules }
-
-pub difference-down-requires : goal.difference-down-requires
-difference-down-requires c = record { first = search rules; second = search rules }
-
-pub offset-offset-requires : goal.offset-offset-requires
-offset-offset-requires c = search rules

@@ -1,5 +1,0 @@
-use Rattle.std.proofs.Common.{rules}
-use Rattle.exact_plane.proofs.sides.side.Goals as goal
-
-pub side_value-value-requires : goal.side_value-value-requires
-side_value-value-requires c = record { a = search rules; b = search rules; c = search rules; point = search rules }
