@@ -69,11 +69,25 @@ module _ {P Q R : Type 0} where
   always : {A : Type 0} → A → TwoOf P Q R → A ↔ TwoOf P Q R
   always a b = (λ h. b, λ h. a)
 
+greater_isnt_less : Greater ≡ Less → ⊥
+greater_isnt_less h = cc
+
 not_less : (z : ℤ) → z ≡ pos 0 → z <ℤ pos 0 → ⊥
 not_less z e h = omega (arith, ints)
 
 not_below : (z : ℤ) → pos 0 <ℤ z → z <ℤ pos 0 → ⊥
 not_below z k h = omega (arith, ints)
+
+-- what a number says of its opposite
+module _ (z y : ℤ) (e : y ≡ neg_ℤ z) where
+  turned_below : pos 0 <ℤ z → y <ℤ pos 0
+  turned_below h = omega (arith, ints)
+
+  turned_above : z <ℤ pos 0 → y <ℤ pos 0 → ⊥
+  turned_above h k = omega (arith, ints)
+
+  turned_zero : z ≡ pos 0 → y <ℤ pos 0 → ⊥
+  turned_zero h k = omega (arith, ints)
 
 module _ (f a b : Direction) (hf : IsDirection f) (ha : IsDirection a) (hb : IsDirection b) (n : IsOneDirection f a → ⊥) where
   -- one of the two is opposite to f, or b is f itself
@@ -90,13 +104,13 @@ module _ (f a b : Direction) (hf : IsDirection f) (ha : IsDirection a) (hb : IsD
   both_opposite = zero_both (f.x *ℤ f.x +ℤ f.y *ℤ f.y) (turn a b) (along f a) (turn f b) (along f b) (turn f a) hf.some (turn_by f a b)
 
   back_below : pos 0 <ℤ turn f b → turn b f <ℤ pos 0
-  back_below h = let e = turn_back f b in omega (arith, ints)
+  back_below = turned_below (turn f b) (turn b f) (turn_back f b)
 
   back_above : turn f b <ℤ pos 0 → turn b f <ℤ pos 0 → ⊥
-  back_above h k = let e = turn_back f b in omega (arith, ints)
+  back_above = turned_above (turn f b) (turn b f) (turn_back f b)
 
   back_zero : turn f b ≡ pos 0 → turn b f <ℤ pos 0 → ⊥
-  back_zero h k = let e = turn_back f b in omega (arith, ints)
+  back_zero = turned_zero (turn f b) (turn b f) (turn_back f b)
 
   sorted : (o d o' d' : Ordering) → int_cmp (turn f a) (pos 0) ≡ o → int_cmp (along f a) (pos 0) ≡ d → int_cmp (turn f b) (pos 0) ≡ o' → int_cmp (along f b) (pos 0) ≡ d' →
       (ordering_then (nat_cmp (quarter o d) (quarter o' d')) (by_turn a b) ≡ Less) ↔ IsClockwise f a b
@@ -107,21 +121,21 @@ module _ (f a b : Direction) (hf : IsDirection f) (ha : IsDirection a) (hb : IsD
   sorted Less d Equal Less u v u' v' = always refl (inl (less_out (turn f a) (pos 0) u, b_opposite (equal_out (turn f b) (pos 0) u') (less_out (along f b) (pos 0) v') (less_out (turn f a) (pos 0) u)))
   sorted Less d Equal Equal u v u' v' = absurd (not_square f a b hf ha hb b hb (equal_out (turn f b) (pos 0) u') (equal_out (along f b) (pos 0) v'))
   sorted Less d Equal Greater u v u' v' =
-      neither (λ h. cc) (only_first (not_below (turn a b) (b_first (equal_out (turn f b) (pos 0) u') (greater_out (along f b) (pos 0) v') (less_out (turn f a) (pos 0) u))) (back_zero (equal_out (turn f b) (pos 0) u')))
+      neither greater_isnt_less (only_first (not_below (turn a b) (b_first (equal_out (turn f b) (pos 0) u') (greater_out (along f b) (pos 0) v') (less_out (turn f a) (pos 0) u))) (back_zero (equal_out (turn f b) (pos 0) u')))
   sorted Less d Greater d' u v u' v' = always refl (inr (inr (back_below (greater_out (turn f b) (pos 0) u'), less_out (turn f a) (pos 0) u)))
   sorted Equal Equal o' d' u v u' v' = absurd (not_square f a b hf ha hb a ha (equal_out (turn f a) (pos 0) u) (equal_out (along f a) (pos 0) v))
   sorted Equal Greater o' d' u v u' v' = absurd (n (record { straight = equal_out _ _ u; forward = greater_out _ _ v }))
-  sorted Equal Less Less d' u v u' v' = neither (λ h. cc) (only_second (not_less (turn f a) (equal_out (turn f a) (pos 0) u)) (back_above (less_out (turn f b) (pos 0) u')))
-  sorted Equal Less Equal Greater u v u' v' = neither (λ h. cc) (only_second (not_less (turn f a) (equal_out (turn f a) (pos 0) u)) (back_zero (equal_out (turn f b) (pos 0) u')))
+  sorted Equal Less Less d' u v u' v' = neither greater_isnt_less (only_second (not_less (turn f a) (equal_out (turn f a) (pos 0) u)) (back_above (less_out (turn f b) (pos 0) u')))
+  sorted Equal Less Equal Greater u v u' v' = neither greater_isnt_less (only_second (not_less (turn f a) (equal_out (turn f a) (pos 0) u)) (back_zero (equal_out (turn f b) (pos 0) u')))
   sorted Equal Less Equal Equal u v u' v' = absurd (not_square f a b hf ha hb b hb (equal_out (turn f b) (pos 0) u') (equal_out (along f b) (pos 0) v'))
   sorted Equal Less Equal Less u v u' v' =
       let z = both_opposite (equal_out (turn f b) (pos 0) u') (equal_out (turn f a) (pos 0) u) in
       neither (λ h. not_less (turn a b) z (less_out (turn a b) (pos 0) h)) (only_second (not_less (turn f a) (equal_out (turn f a) (pos 0) u)) (back_zero (equal_out (turn f b) (pos 0) u')))
   sorted Equal Less Greater d' u v u' v' = always refl (inr (inl (a_opposite (equal_out (turn f a) (pos 0) u) (less_out (along f a) (pos 0) v) (greater_out (turn f b) (pos 0) u'), back_below (greater_out (turn f b) (pos 0) u'))))
-  sorted Greater d Less d' u v u' v' = neither (λ h. cc) (only_second (not_below (turn f a) (greater_out (turn f a) (pos 0) u)) (back_above (less_out (turn f b) (pos 0) u')))
-  sorted Greater d Equal Less u v u' v' = neither (λ h. cc) (only_second (not_below (turn f a) (greater_out (turn f a) (pos 0) u)) (back_zero (equal_out (turn f b) (pos 0) u')))
-  sorted Greater d Equal Equal u v u' v' = neither (λ h. cc) (only_second (not_below (turn f a) (greater_out (turn f a) (pos 0) u)) (back_zero (equal_out (turn f b) (pos 0) u')))
-  sorted Greater d Equal Greater u v u' v' = neither (λ h. cc) (only_second (not_below (turn f a) (greater_out (turn f a) (pos 0) u)) (back_zero (equal_out (turn f b) (pos 0) u')))
+  sorted Greater d Less d' u v u' v' = neither greater_isnt_less (only_second (not_below (turn f a) (greater_out (turn f a) (pos 0) u)) (back_above (less_out (turn f b) (pos 0) u')))
+  sorted Greater d Equal Less u v u' v' = neither greater_isnt_less (only_second (not_below (turn f a) (greater_out (turn f a) (pos 0) u)) (back_zero (equal_out (turn f b) (pos 0) u')))
+  sorted Greater d Equal Equal u v u' v' = neither greater_isnt_less (only_second (not_below (turn f a) (greater_out (turn f a) (pos 0) u)) (back_zero (equal_out (turn f b) (pos 0) u')))
+  sorted Greater d Equal Greater u v u' v' = neither greater_isnt_less (only_second (not_below (turn f a) (greater_out (turn f a) (pos 0) u)) (back_zero (equal_out (turn f b) (pos 0) u')))
   sorted Greater d Greater d' u v u' v' = (
     λ h. inr (inl (less_out (turn a b) (pos 0) h, back_below (greater_out (turn f b) (pos 0) u'))),
     λ c. less_in (turn a b) (pos 0) (not_first (not_below (turn f a) (greater_out (turn f a) (pos 0) u)) c),

@@ -1,11 +1,12 @@
 -- Faces that are added one by one are the faces of the model, each once.
-use Rattle.std.proofs.Common.{◌≡◌, ℕ, ◌≤◌, Bool, true, false, cond, refl, sym, ap, subst, ◌∙◌, inl, inr, List, [], ◌∷◌, ◌++◌, map, length, fold, take}
+use Rattle.std.proofs.Common.{◌≡◌, ℕ, ◌+◌, ◌<◌, ◌≤◌, Bool, true, false, cond, refl, sym, ap, subst, ◌∙◌, inl, inr, List, [], ◌∷◌, ◌++◌, map, length, fold, get_or, take}
 use Rattle.std.specs.Prelude.{filter, not, ◌&&◌, ◌||◌}
 use Rattle.std.specs.List.{list_any}
 use Rattle.std.proofs.lemmas.Bool.{cases_Bool}
-use Rattle.std.proofs.lemmas.List.{append-nil, append_assoc, take_all}
+use Rattle.std.proofs.lemmas.List.{append-nil, append_assoc, take_all, take_more, map_push, map-append}
+use Rattle.std.proofs.lemmas.List.Elements.{filter-append}
 use Rattle.std.proofs.lemmas.List.Folds.{list_any-append}
-use Rattle.std.proofs.lemmas.List.Sums.{fold-append}
+use Rattle.std.proofs.lemmas.List.Sums.{fold_push, fold-append}
 use Rattle.slab_laws.specs.declared.slab_cell.SlabCell.{SlabCell}
 use Rattle.slab_laws.specs.declared.rows.CycleRow.{CycleRow}
 use Rattle.slab_laws.specs.Skeleton.{Skeleton}
@@ -119,6 +120,35 @@ module _ (g : Skeleton) where
   -- those, and those of the cells
   abbrev pub with_cells : List SlabCell → List SlabCell
   with_cells ds = fold added (with_cycles (cycle_rows g)) (map (face_of (face_labels g)) ds)
+
+  more_cycles : (cs : List CycleRow) (c : CycleRow) → with_cycles (cs ++ c ∷ []) ≡ fold added (with_cycles cs) (outer_of (c ∷ []))
+  more_cycles cs c =
+      ap (fold added (first_faces g)) (ap (map (λ (c : CycleRow). c.face)) (filter-append (λ (c : CycleRow). c.outer) cs (c ∷ [])) ∙ map-append (λ (c : CycleRow). c.face) (filter (λ c. c.outer) cs) (filter (λ c. c.outer) (c ∷ [])))
+      ∙ fold-append added (first_faces g) (outer_of cs) (outer_of (c ∷ []))
+
+  -- one more cycle, an outer one, and one that isn't
+  pub cycle_taken : (cs : List CycleRow) (i : ℕ) (d : CycleRow) (old now : List SlabCell) → i < length cs → (get_or cs i d).outer ≡ true → old ≡ with_cycles (take i cs) → now ≡ added old (get_or cs i d).face → now ≡ with_cycles (take (i + 1) cs)
+  cycle_taken cs i d old now h t o n =
+      let c : CycleRow = get_or cs i d in
+      n
+      ∙ ap (λ fs. added fs c.face) o
+      ∙ sym (ap with_cycles (take_more cs i d h) ∙ more_cycles (take i cs) c ∙ ap (λ b. fold added (with_cycles (take i cs)) (map (λ (c : CycleRow). c.face) (cond b (c ∷ []) []))) t)
+
+  pub cycle_passed : (cs : List CycleRow) (i : ℕ) (d : CycleRow) (old now : List SlabCell) → i < length cs → (get_or cs i d).outer ≡ false → old ≡ with_cycles (take i cs) → now ≡ old → now ≡ with_cycles (take (i + 1) cs)
+  cycle_passed cs i d old now h t o n =
+      let c : CycleRow = get_or cs i d in
+      n
+      ∙ o
+      ∙ sym (ap with_cycles (take_more cs i d h) ∙ more_cycles (take i cs) c ∙ ap (λ b. fold added (with_cycles (take i cs)) (map (λ (c : CycleRow). c.face) (cond b (c ∷ []) []))) t)
+
+  -- one more cell, whose face was asked of the labels
+  pub cell_taken : (ds : List SlabCell) (i : ℕ) (d f : SlabCell) (old now : List SlabCell) → i < length ds → f ≡ face_of (face_labels g) (get_or ds i d) → old ≡ with_cells (take i ds) → now ≡ added old f → now ≡ with_cells (take (i + 1) ds)
+  cell_taken ds i d f old now h e o n =
+      let faces : List SlabCell = map (face_of (face_labels g)) (take i ds) in
+      let c : SlabCell = get_or ds i d in
+      n
+      ∙ (λ j. added (o j) (e j))
+      ∙ sym (ap with_cells (take_more ds i d h) ∙ ap (fold added (with_cycles (cycle_rows g))) (map_push (face_of (face_labels g)) (take i ds) c) ∙ fold_push added (with_cycles (cycle_rows g)) faces (face_of (face_labels g) c))
 
   pub all_are : with_cells (cells g) ≡ (subdivision g).faces
   unfolding distinct

@@ -1,8 +1,12 @@
 -- Items of lists by their numbers.
-use Rattle.std.proofs.Common.{◌≡◌, ℕ, ◌<◌, arith, sym, ap, ◌∙◌, List, map, length, Some, get_or, false}
+use Rattle.std.proofs.Common.{◌≡◌, ℕ, ◌+◌, ◌<◌, ◌≤◌, arith, sym, ap, ◌∙◌, List, [], ◌∷◌, ◌++◌, map, length, take, Some, get_or, Bool, true, false, cond}
 use Rattle.std.specs.Prelude.{slice_get, vec_len, Vec}
+use Rattle.std.specs.List.{filter}
 use Rattle.std.specs.Option.{option_map}
+use Rattle.plane_graphs.proofs.Loops.{take_next}
 use Rattle.slab_laws.specs.declared.rows.ListedDart.{ListedDart}
+use Rattle.std.proofs.lemmas.List.{append-nil, map-append, take_all}
+use Rattle.std.proofs.lemmas.List.Elements.{filter-append}
 use Rattle.std.proofs.lemmas.Option.{slice_get-map, slice_get_within, get_or_from_slice_get, slice_get-get_or}
 
 -- the list of the values of the elements of another
@@ -31,3 +35,18 @@ no_row = record { source = 0; target = 0; edge = 0; forward = false }
 -- within the list the default doesn't matter
 pub get_or_default : {X : Type 0} (xs : List X) (k : ℕ) (d e : X) → k < length xs → get_or xs k d ≡ get_or xs k e
 get_or_default xs k d e h = sym (get_or_from_slice_get xs k (get_or xs k d) e (slice_get-get_or xs k d h))
+
+-- what a loop has made of the elements that pass a test
+module _ {X Y : Type 0} (p : X → Bool) (f : X → Y) where
+  passing : (xs : List X) (i : ℕ) (x : X) → i < length xs → x ≡ get_or xs i x → map f (filter p (take (i + 1) xs)) ≡ map f (filter p (take i xs)) ++ map f (cond (p x) (x ∷ []) [])
+  passing xs i x h e = ap (λ ys. map f (filter p ys)) (take_next xs i x h e) ∙ ap (map f) (filter-append p (take i xs) (x ∷ [])) ∙ map-append f (filter p (take i xs)) (filter p (x ∷ []))
+
+  pub kept : (xs : List X) (i : ℕ) (x : X) (old now : List Y) → i < length xs → x ≡ get_or xs i x → p x ≡ true → old ≡ map f (filter p (take i xs)) → now ≡ old ++ f x ∷ [] → now ≡ map f (filter p (take (i + 1) xs))
+  kept xs i x old now h e t o n = n ∙ ap (λ ys. ys ++ f x ∷ []) o ∙ sym (passing xs i x h e ∙ ap (λ b. map f (filter p (take i xs)) ++ map f (cond b (x ∷ []) [])) t)
+
+  pub passed : (xs : List X) (i : ℕ) (x : X) (old now : List Y) → i < length xs → x ≡ get_or xs i x → p x ≡ false → old ≡ map f (filter p (take i xs)) → now ≡ old → now ≡ map f (filter p (take (i + 1) xs))
+  passed xs i x old now h e t o n =
+      n ∙ o ∙ sym (passing xs i x h e ∙ ap (λ b. map f (filter p (take i xs)) ++ map f (cond b (x ∷ []) [])) t ∙ append-nil (map f (filter p (take i xs))))
+
+  pub all_passing : (xs : List X) (i : ℕ) (now : List Y) → length xs ≤ i → now ≡ map f (filter p (take i xs)) → now ≡ map f (filter p xs)
+  all_passing xs i now h n = n ∙ ap (λ ys. map f (filter p ys)) (take_all i xs h)

@@ -68,7 +68,10 @@ fn labels_of(alloc: Global, plain: &Plain, layer: &Present) -> Result<Vec<usize>
 {
     let edges = layer_edges(alloc, layer, &plain.points, &plain.edges)?;
     let own = subdivide(alloc, layer)?;
-    labels_within(alloc, plain, &own, &edges)
+    let labels = labels_within(alloc, plain, &own, &edges);
+    // By a call, which is proved once for the type; what a scope drops at its end is proved there anew.
+    drop(own);
+    labels
 }
 
 // What the subdivision by both layers tells of one of them.

@@ -84,15 +84,18 @@ pub(crate) fn have_along(pieces: &[Piece], edge: &Span) -> bool
 }
 
 // The curves of the pieces that run along an edge, in the order of the pieces.
-fn curves_among(alloc: Global, pieces: &[Piece], edge: &Span) -> Result<Vec<CurveId>, AllocError>
+fn curves_among(alloc: Global, pieces: &[Piece], edge: &Span) -> Result<Vec<CurveId>, NoMemory>
     ensures { IfOk result (λ v. v.items
         ≡ map (λ k. k.curve) (filter (λ k. runs_along (edge_of edge.now) (piece_of k)) pieces.now)) }
 {
-    pieces
-        .iter()
-        .filter(|piece| runs_along(edge, piece))
-        .map(|piece| piece.curve)
-        .collect(alloc)
+    // A loop, since the proof of two adaptors with a closure each takes twice as long.
+    let mut curves = Vec::new(alloc);
+    for piece in pieces {
+        if runs_along(edge, piece) {
+            curves.push(piece.curve)?;
+        }
+    }
+    Ok(curves)
 }
 
 // Brings curves into their order, each once.

@@ -128,12 +128,15 @@ fn parts_of<R: Curved>(alloc: Global, records: &R) -> Result<Parts, NoMemory>
     requires curves { (d : _) → IsForward (R.graph records.now) d → R.curve_list records.now d ≢ [] }
     ensures { IfOk result (AreParts (R.graph records.now) (R.curve_list records.now)) }
 {
+    // What isn't wanted any more goes at once: each way out drops what stands by then, and each drop is proved anew.
     let vertices = vertices_in_order(alloc, records)?;
+    let points = points_of(alloc, &vertices)?;
+    let pins = pins_of(alloc, records, &vertices)?;
+    drop(vertices);
     let darts = darts_in_order(alloc, records)?;
     let forward = forward_among(alloc, &darts)?;
-    let points = points_of(alloc, &vertices)?;
+    drop(darts);
     let marks = marks_of(alloc, records, &forward)?;
-    let pins = pins_of(alloc, records, &vertices)?;
     let edges = spans_of(alloc, records, &forward)?;
     Ok(Parts {
         points,

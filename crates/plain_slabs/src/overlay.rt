@@ -9,6 +9,7 @@ ghost use Rattle.plain_slabs.specs.Listed.{subdivision_in, view_of, faces_of, Ar
 use crate::both::Both;
 use crate::build::subdivide;
 use crate::labels::table_of;
+use crate::layer_table::LayerTable;
 use crate::plain::Plain;
 use crate::united::unite;
 use no_memory::NoMemory;
@@ -28,6 +29,23 @@ fn subdivide_united(alloc: Global, red: &Present, blue: &Present) -> Result<Plai
     let present = unite(alloc, red, blue)?;
     let plain = subdivide(alloc, &present)?;
     Ok(plain)
+}
+
+// What the subdivision by both layers tells of each of them.
+fn tables_of(
+    alloc: Global,
+    plain: &Plain,
+    red: &Present,
+    blue: &Present,
+) -> Result<(LayerTable, LayerTable), NoMemory>
+    requires red { IsFit (present_of red.now) }
+    requires blue { IsFit (present_of blue.now) }
+    ensures red { IfOk result (λ t. t.0 ≡ rows_of (present_of red.now) (subdivision_in plain.now)) }
+    ensures blue { IfOk result (λ t. t.1 ≡ rows_of (present_of blue.now) (subdivision_in plain.now)) }
+{
+    let of_red = table_of(alloc, plain, red)?;
+    let of_blue = table_of(alloc, plain, blue)?;
+    Ok((of_red, of_blue))
 }
 
 /// The overlay of two layers: the subdivision of the plane by the pieces and pins of both, of each of its edges the red and
@@ -52,11 +70,12 @@ pub fn subdivide_both(alloc: Global, red: &Present, blue: &Present) -> Result<Bo
     ensures stands { IfOk result (λ b. IsSound (view_of b.drawing) (faces_of b.drawing)) }
 {
     let plain = subdivide_united(alloc, red, blue)?;
-    let of_red = table_of(alloc, &plain, red)?;
-    let of_blue = table_of(alloc, &plain, blue)?;
-    Ok(Both {
-        plain,
-        red: of_red,
-        blue: of_blue,
-    })
+    match tables_of(alloc, &plain, red, blue) {
+        Ok((red, blue)) => Ok(Both { plain, red, blue }),
+        Err(no_memory) => {
+            // By a call, which is proved once for the type; what a scope drops at its end is proved there anew.
+            drop(plain);
+            Err(no_memory)
+        }
+    }
 }

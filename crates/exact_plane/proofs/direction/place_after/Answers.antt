@@ -15,3 +15,9 @@ returns-in-Less-cmp c = search rules
 
 pub returns-in-Equal-cmp : goal.returns-in-Equal-cmp
 returns-in-Equal-cmp c = search rules
+
+pub turn-turn-requires : goal.turn-turn-requires
+turn-turn-requires c = search rules
+
+pub alignment-along-requires : goal.alignment-along-requires
+alignment-along-requires c = search rules

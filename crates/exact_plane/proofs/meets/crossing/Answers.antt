@@ -38,3 +38,12 @@ returns-else-is_on_both c =
     let y : to_z w128 (of_z w128 c.cross_ordinate-y.result) ≡ (crossing l m).y = search rules in
     let w : to_z w128 (of_z w128 c.cross_weight-w.result) ≡ (crossing l m).w = search rules in
     crossing_missed c.args.first.now c.args.second.now _ _ _ x y w (search rules)
+
+pub cross_abscissa-x-requires : goal.cross_abscissa-x-requires
+cross_abscissa-x-requires c = record { b1 = search rules; c1 = search rules; b2 = search rules; c2 = search rules }
+
+pub cross_ordinate-y-requires : goal.cross_ordinate-y-requires
+cross_ordinate-y-requires c = record { c1 = search rules; a1 = search rules; c2 = search rules; a2 = search rules }
+
+pub cross_weight-w-requires : goal.cross_weight-w-requires
+cross_weight-w-requires c = record { a1 = search rules; b1 = search rules; a2 = search rules; b2 = search rules }

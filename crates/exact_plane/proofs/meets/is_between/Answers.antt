@@ -13,3 +13,9 @@ returns-then-starts_by c =
 
 pub returns-else-starts_by : goal.returns-else-starts_by
 returns-else-starts_by c = search rules
+
+pub starts_by-requires : goal.starts_by-requires
+starts_by-requires c = record { x = search rules; y = search rules }
+
+pub ends_from-requires : goal.ends_from-requires
+ends_from-requires c = record { x = search rules; y = search rules }

@@ -55,3 +55,6 @@ returns-in-Greater c =
     let o : int_cmp (weight_of c.args.first.now.line c.args.second.now.line) (pos 0) ≡ Greater = search rules in
     let e : c.crossing-in-Greater.result ≡ crossing_meet c.args.first.now c.args.second.now = search rules in
     subst (IsMeeting s t) (sym e) (crossing_is s t hs ht (greater_out _ _ o))
+
+pub cross_weight-weight-requires : goal.cross_weight-weight-requires
+cross_weight-weight-requires c = record { a1 = search rules; b1 = search rules; a2 = search rules; b2 = search rules }

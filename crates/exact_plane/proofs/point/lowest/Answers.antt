@@ -8,3 +8,12 @@ invariant_of-result c = subst IsPoint (search rules) (reduced_point c.args.x c.a
 
 pub returns : goal.returns
 returns c = search rules
+
+pub quotient-requires : goal.quotient-requires
+quotient-requires c = record { some = search rules; small = search rules }
+
+pub quotient-requires-2 : goal.quotient-requires-2
+quotient-requires-2 c = record { some = search rules; small = search rules }
+
+pub quotient-requires-3 : goal.quotient-requires-3
+quotient-requires-3 c = record { some = search rules; small = search rules }

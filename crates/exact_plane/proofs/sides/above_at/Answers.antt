@@ -17,3 +17,9 @@ returns-clause-value c =
 
 pub returns-clause-limit : goal.returns-clause-limit
 returns-clause-limit c = search rules
+
+pub depth-of_first-requires : goal.depth-of_first-requires
+depth-of_first-requires c = record { a = search rules; c = search rules; ratio = search rules; by = search rules }
+
+pub depth-of_second-requires : goal.depth-of_second-requires
+depth-of_second-requires c = record { a = search rules; c = search rules; ratio = search rules; by = search rules }

@@ -16,3 +16,15 @@ returns c =
     let beyond : to_z w128 (of_z w128 c.offset-offset.result) ≡ s.lower.x *ℤ s.upper.y -ℤ s.upper.x *ℤ s.lower.y = search rules in
     let value : to_z w128 (of_z w128 c.side_value-value.result) ≡ side (to_z w128 (of_z w128 c.difference-down.result)) (to_z w128 (of_z w128 c.difference-across.result)) (to_z w128 (of_z w128 c.offset-offset.result)) t.x t.y t.w = search rules in
     c.as_sign.ensures ∙ ap sign_of (value ∙ (λ i. side (down i) (across i) (beyond i) t.x t.y t.w)) ∙ ap sign_by (sym (by_ends s h t))
+
+pub difference-across-requires : goal.difference-across-requires
+difference-across-requires c = record { first = search rules; second = search rules }
+
+pub difference-down-requires : goal.difference-down-requires
+difference-down-requires c = record { first = search rules; second = search rules }
+
+pub offset-offset-requires : goal.offset-offset-requires
+offset-offset-requires c = search rules
+
+pub side_value-value-requires : goal.side_value-value-requires
+side_value-value-requires c = record { a = search rules; b = search rules; c = search rules; point = search rules }

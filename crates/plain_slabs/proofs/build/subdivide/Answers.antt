@@ -5,7 +5,7 @@ use Rattle.plane_graphs.proofs.Laws.{graph_is_plane}
 use Rattle.slab_laws.specs.Pieces.{present_of}
 use Rattle.slab_laws.specs.Subdivision.{subdivision}
 use Rattle.slab_laws.specs.Text.{skeleton}
-use Rattle.plain_slabs.specs.Listed.{Drawing, view_of, faces_of}
+use Rattle.plain_slabs.specs.Listed.{Drawing, view_of, faces_of, AreLinesOf}
 use Rattle.slab_laws.specs.FacesSound.{IsSound}
 use Rattle.plain_slabs.proofs.ListsSound.{lists_are_sound}
 use Rattle.plain_slabs.proofs.Building.{graph_is, lines_are}
@@ -41,6 +41,12 @@ returns-clause-subdivision c =
     let p = present_of c.args.present.now in
     let is = graph_is p c.in_ok-points.points.items c.in_ok-marks.marks.items c.in_ok-pins.pins.items c.in_ok-points.ensures c.in_ok-marks.ensures (c.in_ok-pins.ensures ∙ c.as_slice.ensures) in
     ap (λ (d : Drawing). subdivision (skeleton d.graph)) c.in_ok-plain.ensures ∙ ap (λ (g : Graph). subdivision (skeleton g)) is
+
+pub returns-clause-lines : goal.returns-clause-lines
+returns-clause-lines c =
+    let p = present_of c.args.present.now in
+    let is = graph_is p c.in_ok-points.points.items c.in_ok-marks.marks.items c.in_ok-pins.pins.items c.in_ok-points.ensures c.in_ok-marks.ensures (c.in_ok-pins.ensures ∙ c.as_slice.ensures) in
+    subst AreLinesOf (sym c.in_ok-plain.ensures) (lines_are p c.in_ok-points.points.items c.in_ok-marks.marks.items c.in_ok-pins.pins.items c.in_ok-edges.edges.items is c.in_ok-edges.ensures.edges c.in_ok-edges.ensures.lines c.requires)
 
 pub returns-clause-stands : goal.returns-clause-stands
 returns-clause-stands c =

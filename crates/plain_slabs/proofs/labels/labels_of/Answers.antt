@@ -7,8 +7,8 @@ use Rattle.plain_slabs.proofs.LayerCells.{none_vertical_across}
 use Rattle.plain_slabs.proofs.LayerLabels.{drawn_here, plane_here, points_here, labels_are, vertices_are}
 use Rattle.plain_slabs.proofs.labels.labels_of.Goals as goal
 
-pub labels_within-requires : goal.labels_within-requires
-labels_within-requires c =
+pub labels_within-labels-requires : goal.labels_within-labels-requires
+labels_within-labels-requires c =
     let l = present_of c.args.layer.now in
     let a = c.plain.inside in
     none_vertical_across l a.points.items a.edges.items _ (plane_here a c.args.plain.now c.plain.invariant c.plain.view_is)
@@ -18,7 +18,7 @@ pub returns : goal.returns
 returns c =
     let l = present_of c.args.layer.now in
     let a = c.plain.inside in
-    IfOk-weaker c.labels_within.result _ _
+    IfOk-weaker c.labels_within-labels.result _ _
     (λ v h.
     labels_are l a.points.items a.edges.items (skeleton_in c.args.plain.now) _ _ _ _ _ v.items (drawn_here a c.args.plain.now c.plain.invariant c.plain.view_is)
     c.in_ok-own.ensures.subdivision
@@ -26,4 +26,4 @@ returns c =
     (ap₂ (λ vs us. map (slab_beside vs) us) (sym (points_here a c.args.plain.now c.plain.invariant c.plain.view_is)) (vertices_are l c.in_ok-own.own _ refl c.in_ok-own.ensures.graph))
     refl
     h)
-    c.labels_within.ensures
+    c.labels_within-labels.ensures
