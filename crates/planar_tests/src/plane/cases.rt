@@ -9,7 +9,8 @@ pub(crate) struct Case {
     pub(crate) events: &'static [u8],
 }
 
-pub(crate) const CASES: [Case; 13] = [
+// Without a vertical piece.
+pub(crate) const SLANTED: [Case; 8] = [
     Case {
         name: "nothing",
         segments: &[],
@@ -30,34 +31,6 @@ pub(crate) const CASES: [Case; 13] = [
         events: b"\
             0 0 1 - + 0 * : 0 \n\
             4 2 1 - 0 + * : \n",
-    },
-    Case {
-        name: "a vertical piece, crossed and touched",
-        segments: &[(2, 0, 2, 4), (0, 2, 4, 2), (2, 1, 4, 0), (0, 4, 2, 4)],
-        pins: &[],
-        events: b"\
-            0 2 1 - + 1 * : 1 \n\
-            0 4 1 - + 3 * : 1 3 \n\
-            2 0 1 - + 0 * : 0 1 3 \n\
-            2 1 1 - + 2 * 0 : 2 0 1 3 \n\
-            2 2 1 - + * 0 1 : 2 1 0 3 \n\
-            2 4 1 - 0 3 + * : 2 1 \n\
-            4 0 1 - 2 + * : 1 \n\
-            4 2 1 - 1 + * : \n",
-    },
-    Case {
-        name: "vertical pieces of one line, overlapping",
-        segments: &[(1, 0, 1, 4), (1, 2, 1, 6), (1, 6, 1, 8), (0, 3, 2, 3)],
-        pins: &[],
-        events: b"\
-            0 3 1 - + 3 * : 3 \n\
-            1 0 1 - + 0 * : 0 3 \n\
-            1 2 1 - + 1 * 0 : 0 1 3 \n\
-            1 3 1 - + * 0 1 3 : 3 0 1 \n\
-            1 4 1 - 0 + * 1 : 3 1 \n\
-            1 6 1 - 1 + 2 * : 3 2 \n\
-            1 8 1 - 2 + * : 3 \n\
-            2 3 1 - 3 + * : \n",
     },
     Case {
         name: "overlaps of many",
@@ -111,6 +84,58 @@ pub(crate) const CASES: [Case; 13] = [
             2 0 1 - 2 + 1 * 0 : 0 1 \n\
             3 3 1 - 1 + * : 0 \n\
             4 0 1 - 0 + * : \n",
+    },
+    Case {
+        name: "crossings with weights",
+        segments: &[(0, 0, 7, 3), (0, 2, 5, 0), (0, 1, 7, 1), (1, 3, 6, -1)],
+        pins: &[],
+        events: b"\
+            0 0 1 - + 0 * : 0 \n\
+            0 1 1 - + 2 * : 0 2 \n\
+            0 2 1 - + 1 * : 0 2 1 \n\
+            1 3 1 - + 3 * : 0 2 1 3 \n\
+            7 3 3 - + * 0 2 : 2 0 1 3 \n\
+            70 30 29 - + * 0 1 : 2 1 0 3 \n\
+            5 2 2 - + * 1 2 : 1 2 0 3 \n\
+            133 57 43 - + * 0 3 : 1 2 3 0 \n\
+            7 2 2 - + * 2 3 : 1 3 2 0 \n\
+            45 2 10 - + * 1 3 : 3 1 2 0 \n\
+            5 0 1 - 1 + * : 3 2 0 \n\
+            6 -1 1 - 3 + * : 2 0 \n\
+            7 1 1 - 2 + * : 0 \n\
+            7 3 1 - 0 + * : \n",
+    },
+];
+
+// With one at least.
+pub(crate) const UPRIGHT: [Case; 5] = [
+    Case {
+        name: "a vertical piece, crossed and touched",
+        segments: &[(2, 0, 2, 4), (0, 2, 4, 2), (2, 1, 4, 0), (0, 4, 2, 4)],
+        pins: &[],
+        events: b"\
+            0 2 1 - + 1 * : 1 \n\
+            0 4 1 - + 3 * : 1 3 \n\
+            2 0 1 - + 0 * : 0 1 3 \n\
+            2 1 1 - + 2 * 0 : 2 0 1 3 \n\
+            2 2 1 - + * 0 1 : 2 1 0 3 \n\
+            2 4 1 - 0 3 + * : 2 1 \n\
+            4 0 1 - 2 + * : 1 \n\
+            4 2 1 - 1 + * : \n",
+    },
+    Case {
+        name: "vertical pieces of one line, overlapping",
+        segments: &[(1, 0, 1, 4), (1, 2, 1, 6), (1, 6, 1, 8), (0, 3, 2, 3)],
+        pins: &[],
+        events: b"\
+            0 3 1 - + 3 * : 3 \n\
+            1 0 1 - + 0 * : 0 3 \n\
+            1 2 1 - + 1 * 0 : 0 1 3 \n\
+            1 3 1 - + * 0 1 3 : 3 0 1 \n\
+            1 4 1 - 0 + * 1 : 3 1 \n\
+            1 6 1 - 1 + 2 * : 3 2 \n\
+            1 8 1 - 2 + * : 3 \n\
+            2 3 1 - 3 + * : \n",
     },
     Case {
         name: "six through one point",
@@ -183,25 +208,5 @@ pub(crate) const CASES: [Case; 13] = [
             1048575 -1048574 1 - 2 + * 4 : 4 3 0 \n\
             1048575 1 1 - 3 + * 4 : 4 0 \n\
             1048575 1048575 1 - 0 4 + * : \n",
-    },
-    Case {
-        name: "crossings with weights",
-        segments: &[(0, 0, 7, 3), (0, 2, 5, 0), (0, 1, 7, 1), (1, 3, 6, -1)],
-        pins: &[],
-        events: b"\
-            0 0 1 - + 0 * : 0 \n\
-            0 1 1 - + 2 * : 0 2 \n\
-            0 2 1 - + 1 * : 0 2 1 \n\
-            1 3 1 - + 3 * : 0 2 1 3 \n\
-            7 3 3 - + * 0 2 : 2 0 1 3 \n\
-            70 30 29 - + * 0 1 : 2 1 0 3 \n\
-            5 2 2 - + * 1 2 : 1 2 0 3 \n\
-            133 57 43 - + * 0 3 : 1 2 3 0 \n\
-            7 2 2 - + * 2 3 : 1 3 2 0 \n\
-            45 2 10 - + * 1 3 : 3 1 2 0 \n\
-            5 0 1 - 1 + * : 3 2 0 \n\
-            6 -1 1 - 3 + * : 2 0 \n\
-            7 1 1 - 2 + * : 0 \n\
-            7 3 1 - 0 + * : \n",
     },
 ];

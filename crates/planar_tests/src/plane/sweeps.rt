@@ -1,4 +1,4 @@
-use crate::plane::cases::{CASES, Case};
+use crate::plane::cases::{Case, SLANTED, UPRIGHT};
 use crate::shapes::{At, Ends, point, segment};
 use exact_plane::{Point, Segment, Span, line_of};
 use itoa::{Buffer, Integer};
@@ -94,8 +94,8 @@ fn is_right(alloc: Global, case: &Case) -> Result<bool, Fail> {
 }
 
 // The name of the first case whose events are others.
-fn first_wrong(alloc: Global) -> Result<Option<&'static str>, Fail> {
-    for case in &CASES {
+fn first_wrong(alloc: Global, cases: &[Case]) -> Result<Option<&'static str>, Fail> {
+    for case in cases {
         if !is_right(alloc, case)? {
             return Ok(Some(case.name));
         }
@@ -105,6 +105,12 @@ fn first_wrong(alloc: Global) -> Result<Option<&'static str>, Fail> {
 
 #[test]
 fn events_and_statuses_are_those_of_all_pairs(rt: HostRuntime) -> Result<(), Fail> {
-    assert_eq!(rt; first_wrong(rt.alloc())?, None);
+    assert_eq!(rt; first_wrong(rt.alloc(), &SLANTED)?, None);
+    Ok(())
+}
+
+#[test]
+fn events_and_statuses_are_so_with_vertical_pieces(rt: HostRuntime) -> Result<(), Fail> {
+    assert_eq!(rt; first_wrong(rt.alloc(), &UPRIGHT)?, None);
     Ok(())
 }
