@@ -3,6 +3,7 @@ pub mod Spotted
 pub mod Pinning
 pub mod Unpinning
 pub mod Fullness
+pub mod Outcomes
 pub mod Clearing
 pub mod Merging
 pub mod Splitting

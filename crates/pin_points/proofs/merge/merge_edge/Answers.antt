@@ -5,57 +5,94 @@ use Rattle.record_layers.specs.RecordLayers.{layer_of}
 use Rattle.told_steps.proofs.Begun.{begun_in_step, told_of_edit}
 use Rattle.pin_points.proofs.Merging.{no_vertex, is_vertex, not_pinned, not_passed, can_merge, merge_told, merge_layer}
 use Rattle.pin_points.proofs.Unpinning.{clear_has, clear_unpinned}
+use Rattle.pin_points.proofs.Outcomes.{history_kept, layer_kept, records_fit, records_kept}
 use Rattle.pin_points.proofs.merge.merge_edge.Goals as goal
 
-pub returns-in_default-clause-refused : goal.returns-in_default-clause-refused
-returns-in_default-clause-refused g c = merge_without (layer_of c.args.records.now.graph c.args.history.now) c.args.r.now (no_vertex c.args.records.now.graph c.args.history.now c.requires.layer c.args.r.now c.in_default.ensures)
+pub returns-in_default : goal.returns-in_default
+returns-in_default g c = record {
+  layer = c.requires.layer;
+  watched = c.requires.watched;
+  edit = tt;
+  told = tt;
+  refused = merge_without (layer_of c.args.records.now.graph c.args.history.now) c.args.r.now (no_vertex c.args.records.now.graph c.args.history.now c.requires.layer c.args.r.now c.in_default.ensures);
+  graph = refl;
+  same_layer = layer_kept _;
+  same_curves = λ d. refl;
+  records_capacity = records_kept _;
+  history_capacity = history_kept _;
+  untold = refl;
+}
 
-pub returns-then-not-pinned-clause-refused : goal.returns-then-not-pinned-clause-refused
-returns-then-not-pinned-clause-refused g c =
-    merge_barred (layer_of c.args.records.now.graph c.args.history.now) c.args.r.now (is_vertex c.args.records.now.graph c.args.history.now c.requires.layer c.args.r.now c.in-Some.vertex c.in-Some.ensures.0 c.in-Some.ensures.1)
-    (not_pinned c.args.records.now.graph c.args.history.now c.requires.layer c.args.r.now c.in-Some.vertex c.in-Some.ensures.0 c.in-Some.ensures.1 (sym c.pinned.ensures ∙ c.if-not-pinned.true))
+pub pinned-requires : goal.pinned-requires
+pinned-requires g c = c.in-Some.ensures.0
 
-pub returns-then-not-is_mergeable-clause-refused : goal.returns-then-not-is_mergeable-clause-refused
-returns-then-not-is_mergeable-clause-refused g c =
-    merge_barred (layer_of c.args.records.now.graph c.args.history.now) c.args.r.now (is_vertex c.args.records.now.graph c.args.history.now c.requires.layer c.args.r.now c.in-Some.vertex c.in-Some.ensures.0 c.in-Some.ensures.1)
-    (not_passed c.args.records.now.graph c.args.history.now c.requires.layer c.args.r.now c.in-Some.vertex c.in-Some.ensures.0 c.in-Some.ensures.1 (c.is_mergeable.ensures.not_passed c.if-not-is_mergeable.true))
+pub returns-then-not-pinned : goal.returns-then-not-pinned
+returns-then-not-pinned g c = record {
+  layer = c.requires.layer;
+  watched = c.requires.watched;
+  edit = tt;
+  told = tt;
+  refused = merge_barred (layer_of c.args.records.now.graph c.args.history.now) c.args.r.now (is_vertex c.args.records.now.graph c.args.history.now c.requires.layer c.args.r.now c.in-Some.vertex c.in-Some.ensures.0 c.in-Some.ensures.1)
+      (not_pinned c.args.records.now.graph c.args.history.now c.requires.layer c.args.r.now c.in-Some.vertex c.in-Some.ensures.0 c.in-Some.ensures.1 (sym c.pinned.ensures ∙ c.if-not-pinned.true));
+  graph = refl;
+  same_layer = layer_kept _;
+  same_curves = λ d. refl;
+  records_capacity = records_kept _;
+  history_capacity = history_kept _;
+  untold = refl;
+}
 
-pub clear_pin-requires-clause-in_step : goal.clear_pin-requires-clause-in_step
-clear_pin-requires-clause-in_step g c =
+pub is_mergeable-requires : goal.is_mergeable-requires
+is_mergeable-requires g c = record { sound = c.requires.layer.sound; curves = c.requires.layer.curves; vertex = c.in-Some.ensures.0 }
+
+pub returns-then-not-is_mergeable : goal.returns-then-not-is_mergeable
+returns-then-not-is_mergeable g c = record {
+  layer = c.requires.layer;
+  watched = c.requires.watched;
+  edit = tt;
+  told = tt;
+  refused = merge_barred (layer_of c.args.records.now.graph c.args.history.now) c.args.r.now (is_vertex c.args.records.now.graph c.args.history.now c.requires.layer c.args.r.now c.in-Some.vertex c.in-Some.ensures.0 c.in-Some.ensures.1)
+      (not_passed c.args.records.now.graph c.args.history.now c.requires.layer c.args.r.now c.in-Some.vertex c.in-Some.ensures.0 c.in-Some.ensures.1 (c.is_mergeable.ensures.not_passed c.if-not-is_mergeable.true));
+  graph = refl;
+  same_layer = layer_kept _;
+  same_curves = λ d. refl;
+  records_capacity = records_kept _;
+  history_capacity = history_kept _;
+  untold = refl;
+}
+
+pub clear_pin-requires : goal.clear_pin-requires
+clear_pin-requires g c =
     let v = c.args.records.now.graph in
-    let r = c.args.history.now in
-    begun_in_step v r v r refl (λ d. refl) c.begin.ensures.begun c.requires.layer c.requires.watched
+    let r = c.args.history.now in record {
+      in_step = begun_in_step v r v r refl (λ d. refl) c.begin.ensures.begun c.requires.layer c.requires.watched;
+      vertex = c.in-Some.ensures.0;
+    }
 
-pub remove_if_redundant-requires-clause-vertex : goal.remove_if_redundant-requires-clause-vertex
-remove_if_redundant-requires-clause-vertex g c = clear_has c.args.records.now.graph c.args.history.now c.requires.layer c.in-Some.vertex c.in-Some.ensures.0 (sym c.pinned.ensures ∙ c.if-not-pinned.false) c.clear_pin.new.records.graph c.clear_pin.ensures.graph
+pub remove_if_redundant-requires : goal.remove_if_redundant-requires
+remove_if_redundant-requires g c = record {
+  in_step = c.clear_pin.ensures.in_step;
+  vertex = clear_has c.args.records.now.graph c.args.history.now c.requires.layer c.in-Some.vertex c.in-Some.ensures.0 (sym c.pinned.ensures ∙ c.if-not-pinned.false) c.clear_pin.new.records.graph c.clear_pin.ensures.graph;
+  unpinned = clear_unpinned c.args.records.now.graph c.args.history.now c.requires.layer c.in-Some.vertex c.in-Some.ensures.0 (sym c.pinned.ensures ∙ c.if-not-pinned.false) c.clear_pin.new.records.graph c.clear_pin.ensures.graph;
+}
 
-pub remove_if_redundant-requires-clause-unpinned : goal.remove_if_redundant-requires-clause-unpinned
-remove_if_redundant-requires-clause-unpinned g c = clear_unpinned c.args.records.now.graph c.args.history.now c.requires.layer c.in-Some.vertex c.in-Some.ensures.0 (sym c.pinned.ensures ∙ c.if-not-pinned.false) c.clear_pin.new.records.graph c.clear_pin.ensures.graph
-
-pub returns-clause-told : goal.returns-clause-told
-returns-clause-told g c =
+pub returns : goal.returns
+returns g c =
     let v = c.args.records.now.graph in
     let r = c.args.history.now in
     let x = c.remove_if_redundant.new.records.graph in
     let q = c.remove_if_redundant.new.history in
-    told_of_edit v r v r refl (λ d. refl) c.begin.ensures.begun _ x (curves_on q) _
-    (merge_told v r c.requires.layer c.args.r.now c.in-Some.vertex c.in-Some.ensures.0 c.in-Some.ensures.1 (sym c.pinned.ensures ∙ c.if-not-pinned.false) (c.is_mergeable.ensures.passed c.if-not-is_mergeable.false) c.clear_pin.new.records.graph c.clear_pin.ensures.graph _ _ c.clear_pin.ensures.told x q _ c.remove_if_redundant.ensures.tidied)
-
-pub returns-clause-layer : goal.returns-clause-layer
-returns-clause-layer g c =
-    let v = c.args.records.now.graph in
-    let r = c.args.history.now in
-    let x = c.remove_if_redundant.new.records.graph in
-    let q = c.remove_if_redundant.new.history in
-    (merge_layer v r c.requires.layer c.args.r.now c.in-Some.vertex c.in-Some.ensures.0 c.in-Some.ensures.1 (sym c.pinned.ensures ∙ c.if-not-pinned.false) (c.is_mergeable.ensures.passed c.if-not-is_mergeable.false) c.clear_pin.new.records.graph c.clear_pin.ensures.graph _ _ c.clear_pin.ensures.told x q _ c.remove_if_redundant.ensures.tidied c.remove_if_redundant.ensures.layer).0
-
-pub returns-clause-edit : goal.returns-clause-edit
-returns-clause-edit g c =
-    let v = c.args.records.now.graph in
-    let r = c.args.history.now in
-    let x = c.remove_if_redundant.new.records.graph in
-    let q = c.remove_if_redundant.new.history in
-    (merge_layer v r c.requires.layer c.args.r.now c.in-Some.vertex c.in-Some.ensures.0 c.in-Some.ensures.1 (sym c.pinned.ensures ∙ c.if-not-pinned.false) (c.is_mergeable.ensures.passed c.if-not-is_mergeable.false) c.clear_pin.new.records.graph c.clear_pin.ensures.graph _ _ c.clear_pin.ensures.told x q _ c.remove_if_redundant.ensures.tidied c.remove_if_redundant.ensures.layer).1
-
-pub returns-clause-refused : goal.returns-clause-refused
-returns-clause-refused g c = merge_allowed (layer_of c.args.records.now.graph c.args.history.now) c.args.r.now (is_vertex c.args.records.now.graph c.args.history.now c.requires.layer c.args.r.now c.in-Some.vertex c.in-Some.ensures.0 c.in-Some.ensures.1) (can_merge c.args.records.now.graph c.args.history.now c.requires.layer c.args.r.now c.in-Some.vertex c.in-Some.ensures.0 c.in-Some.ensures.1 (sym c.pinned.ensures ∙ c.if-not-pinned.false) (c.is_mergeable.ensures.passed c.if-not-is_mergeable.false))
+    let after = merge_layer v r c.requires.layer c.args.r.now c.in-Some.vertex c.in-Some.ensures.0 c.in-Some.ensures.1 (sym c.pinned.ensures ∙ c.if-not-pinned.false) (c.is_mergeable.ensures.passed c.if-not-is_mergeable.false) c.clear_pin.new.records.graph c.clear_pin.ensures.graph _ _ c.clear_pin.ensures.told x q _ c.remove_if_redundant.ensures.tidied c.remove_if_redundant.ensures.layer in record {
+      layer = after.0;
+      watched = c.remove_if_redundant.ensures.in_step.holds;
+      edit = after.1;
+      told = told_of_edit v r v r refl (λ d. refl) c.begin.ensures.begun _ x (curves_on q) _
+          (merge_told v r c.requires.layer c.args.r.now c.in-Some.vertex c.in-Some.ensures.0 c.in-Some.ensures.1 (sym c.pinned.ensures ∙ c.if-not-pinned.false) (c.is_mergeable.ensures.passed c.if-not-is_mergeable.false) c.clear_pin.new.records.graph c.clear_pin.ensures.graph _ _ c.clear_pin.ensures.told x q _ c.remove_if_redundant.ensures.tidied);
+      refused = merge_allowed (layer_of c.args.records.now.graph c.args.history.now) c.args.r.now (is_vertex c.args.records.now.graph c.args.history.now c.requires.layer c.args.r.now c.in-Some.vertex c.in-Some.ensures.0 c.in-Some.ensures.1) (can_merge c.args.records.now.graph c.args.history.now c.requires.layer c.args.r.now c.in-Some.vertex c.in-Some.ensures.0 c.in-Some.ensures.1 (sym c.pinned.ensures ∙ c.if-not-pinned.false) (c.is_mergeable.ensures.passed c.if-not-is_mergeable.false));
+      graph = tt;
+      same_layer = tt;
+      same_curves = tt;
+      records_capacity = records_fit _ _ _ _ _ c.clear_pin.ensures.spare c.remove_if_redundant.ensures.records_capacity;
+      history_capacity = c.remove_if_redundant.ensures.history_capacity;
+      untold = tt;
+    }

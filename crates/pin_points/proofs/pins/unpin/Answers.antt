@@ -8,56 +8,77 @@ use Rattle.told_steps.proofs.Begun.{begun_in_step, told_of_edit}
 use Rattle.told_steps.proofs.ToldTogether.{told_runs_lawful}
 use Rattle.pin_points.proofs.Spotted.{none_pinned, pinned_vertex}
 use Rattle.pin_points.proofs.Unpinning.{clear_has, clear_unpinned, unpin_told, unpin_layer}
+use Rattle.pin_points.proofs.Outcomes.{history_kept, layer_kept, records_fit, records_kept}
 use Rattle.pin_points.proofs.pins.unpin.Goals as goal
 
-pub returns-in_default-clause-refused : goal.returns-in_default-clause-refused
-returns-in_default-clause-refused g c = unpin_none (layer_of c.args.records.now.graph c.args.history.now) c.args.p.now (none_pinned c.args.records.now.graph (curves_on c.args.history.now) c.requires.layer.sound c.args.p.now c.in_default.ensures)
+pub returns-in_default : goal.returns-in_default
+returns-in_default g c = record {
+  layer = c.requires.layer;
+  watched = c.requires.watched;
+  edit = tt;
+  told = tt;
+  refused = unpin_none (layer_of c.args.records.now.graph c.args.history.now) c.args.p.now (none_pinned c.args.records.now.graph (curves_on c.args.history.now) c.requires.layer.sound c.args.p.now c.in_default.ensures);
+  graph = refl;
+  same_layer = layer_kept _;
+  same_curves = λ d. refl;
+  records_capacity = records_kept _;
+  history_capacity = history_kept _;
+  untold = refl;
+}
 
-pub returns-then-not-pinned-clause-refused : goal.returns-then-not-pinned-clause-refused
-returns-then-not-pinned-clause-refused g c =
+pub pinned-requires : goal.pinned-requires
+pinned-requires g c = c.in-Some.ensures.0
+
+pub returns-then-not-pinned : goal.returns-then-not-pinned
+returns-then-not-pinned g c =
+    let e = c.in-Some.ensures in record {
+      layer = c.requires.layer;
+      watched = c.requires.watched;
+      edit = tt;
+      told = tt;
+      refused = unpin_none (layer_of c.args.records.now.graph c.args.history.now) c.args.p.now (pinned_vertex c.args.records.now.graph (curves_on c.args.history.now) c.requires.layer.sound c.args.p.now c.in-Some.vertex e.0 e.1 ∙ sym c.pinned.ensures ∙ c.if-not-pinned.true);
+      graph = refl;
+      same_layer = layer_kept _;
+      same_curves = λ d. refl;
+      records_capacity = records_kept _;
+      history_capacity = history_kept _;
+      untold = refl;
+    }
+
+pub clear_pin-requires : goal.clear_pin-requires
+clear_pin-requires g c =
+    let v = c.args.records.now.graph in
+    let r = c.args.history.now in record {
+      in_step = begun_in_step v r v r refl (λ d. refl) c.begin.ensures.begun c.requires.layer c.requires.watched;
+      vertex = c.in-Some.ensures.0;
+    }
+
+pub remove_if_redundant-requires : goal.remove_if_redundant-requires
+remove_if_redundant-requires g c = record {
+  in_step = c.clear_pin.ensures.in_step;
+  vertex = clear_has c.args.records.now.graph c.args.history.now c.requires.layer c.in-Some.vertex c.in-Some.ensures.0 (sym c.pinned.ensures ∙ c.if-not-pinned.false) c.clear_pin.new.records.graph c.clear_pin.ensures.graph;
+  unpinned = clear_unpinned c.args.records.now.graph c.args.history.now c.requires.layer c.in-Some.vertex c.in-Some.ensures.0 (sym c.pinned.ensures ∙ c.if-not-pinned.false) c.clear_pin.new.records.graph c.clear_pin.ensures.graph;
+}
+
+pub returns : goal.returns
+returns g c =
+    let v = c.args.records.now.graph in
+    let r = c.args.history.now in
+    let x = c.remove_if_redundant.new.records.graph in
+    let q = c.remove_if_redundant.new.history in
     let e = c.in-Some.ensures in
-    unpin_none (layer_of c.args.records.now.graph c.args.history.now) c.args.p.now (pinned_vertex c.args.records.now.graph (curves_on c.args.history.now) c.requires.layer.sound c.args.p.now c.in-Some.vertex e.0 e.1 ∙ sym c.pinned.ensures ∙ c.if-not-pinned.true)
-
-pub clear_pin-requires-clause-in_step : goal.clear_pin-requires-clause-in_step
-clear_pin-requires-clause-in_step g c =
-    let v = c.args.records.now.graph in
-    let r = c.args.history.now in
-    begun_in_step v r v r refl (λ d. refl) c.begin.ensures.begun c.requires.layer c.requires.watched
-
-pub remove_if_redundant-requires-clause-vertex : goal.remove_if_redundant-requires-clause-vertex
-remove_if_redundant-requires-clause-vertex g c = clear_has c.args.records.now.graph c.args.history.now c.requires.layer c.in-Some.vertex c.in-Some.ensures.0 (sym c.pinned.ensures ∙ c.if-not-pinned.false) c.clear_pin.new.records.graph c.clear_pin.ensures.graph
-
-pub remove_if_redundant-requires-clause-unpinned : goal.remove_if_redundant-requires-clause-unpinned
-remove_if_redundant-requires-clause-unpinned g c = clear_unpinned c.args.records.now.graph c.args.history.now c.requires.layer c.in-Some.vertex c.in-Some.ensures.0 (sym c.pinned.ensures ∙ c.if-not-pinned.false) c.clear_pin.new.records.graph c.clear_pin.ensures.graph
-
-pub returns-clause-told : goal.returns-clause-told
-returns-clause-told g c =
-    let v = c.args.records.now.graph in
-    let r = c.args.history.now in
-    let x = c.remove_if_redundant.new.records.graph in
-    let q = c.remove_if_redundant.new.history in
-    told_of_edit v r v r refl (λ d. refl) c.begin.ensures.begun _ x (curves_on q) _
-    (told_runs_lawful.same_steps v (curves_on r) _ _ _ x (curves_on q) _ (ap (λ z. steps (Unpin z) (layer_of v r).present) c.in-Some.ensures.1)
-    (unpin_told v r c.requires.layer c.in-Some.vertex c.in-Some.ensures.0 (sym c.pinned.ensures ∙ c.if-not-pinned.false) c.clear_pin.new.records.graph c.clear_pin.ensures.graph _ _ c.clear_pin.ensures.told x q _ c.remove_if_redundant.ensures.tidied))
-
-pub returns-clause-layer : goal.returns-clause-layer
-returns-clause-layer g c =
-    let v = c.args.records.now.graph in
-    let r = c.args.history.now in
-    let x = c.remove_if_redundant.new.records.graph in
-    let q = c.remove_if_redundant.new.history in
-    (unpin_layer v r c.requires.layer c.in-Some.vertex c.in-Some.ensures.0 (sym c.pinned.ensures ∙ c.if-not-pinned.false) c.clear_pin.new.records.graph c.clear_pin.ensures.graph _ _ c.clear_pin.ensures.told x q _ c.remove_if_redundant.ensures.tidied c.remove_if_redundant.ensures.layer).0
-
-pub returns-clause-edit : goal.returns-clause-edit
-returns-clause-edit g c =
-    let v = c.args.records.now.graph in
-    let r = c.args.history.now in
-    let x = c.remove_if_redundant.new.records.graph in
-    let q = c.remove_if_redundant.new.history in
-    (unpin_layer v r c.requires.layer c.in-Some.vertex c.in-Some.ensures.0 (sym c.pinned.ensures ∙ c.if-not-pinned.false) c.clear_pin.new.records.graph c.clear_pin.ensures.graph _ _ c.clear_pin.ensures.told x q _ c.remove_if_redundant.ensures.tidied c.remove_if_redundant.ensures.layer).1
-    ∙ ap (λ z. layer_after (Unpin z) (layer_of v r)) c.in-Some.ensures.1
-
-pub returns-clause-refused : goal.returns-clause-refused
-returns-clause-refused g c =
-    let e = c.in-Some.ensures in
-    unpin_allowed (layer_of c.args.records.now.graph c.args.history.now) c.args.p.now (pinned_vertex c.args.records.now.graph (curves_on c.args.history.now) c.requires.layer.sound c.args.p.now c.in-Some.vertex e.0 e.1 ∙ sym c.pinned.ensures ∙ c.if-not-pinned.false)
+    let after = unpin_layer v r c.requires.layer c.in-Some.vertex c.in-Some.ensures.0 (sym c.pinned.ensures ∙ c.if-not-pinned.false) c.clear_pin.new.records.graph c.clear_pin.ensures.graph _ _ c.clear_pin.ensures.told x q _ c.remove_if_redundant.ensures.tidied c.remove_if_redundant.ensures.layer in record {
+      layer = after.0;
+      watched = c.remove_if_redundant.ensures.in_step.holds;
+      edit = after.1 ∙ ap (λ z. layer_after (Unpin z) (layer_of v r)) c.in-Some.ensures.1;
+      told = told_of_edit v r v r refl (λ d. refl) c.begin.ensures.begun _ x (curves_on q) _
+          (told_runs_lawful.same_steps v (curves_on r) _ _ _ x (curves_on q) _ (ap (λ z. steps (Unpin z) (layer_of v r).present) c.in-Some.ensures.1)
+          (unpin_told v r c.requires.layer c.in-Some.vertex c.in-Some.ensures.0 (sym c.pinned.ensures ∙ c.if-not-pinned.false) c.clear_pin.new.records.graph c.clear_pin.ensures.graph _ _ c.clear_pin.ensures.told x q _ c.remove_if_redundant.ensures.tidied));
+      refused = unpin_allowed (layer_of c.args.records.now.graph c.args.history.now) c.args.p.now (pinned_vertex c.args.records.now.graph (curves_on c.args.history.now) c.requires.layer.sound c.args.p.now c.in-Some.vertex e.0 e.1 ∙ sym c.pinned.ensures ∙ c.if-not-pinned.false);
+      graph = tt;
+      same_layer = tt;
+      same_curves = tt;
+      records_capacity = records_fit _ _ _ _ _ c.clear_pin.ensures.spare c.remove_if_redundant.ensures.records_capacity;
+      history_capacity = c.remove_if_redundant.ensures.history_capacity;
+      untold = tt;
+    }
