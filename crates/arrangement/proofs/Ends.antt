@@ -1,7 +1,8 @@
 -- Edges of a curve, by their ends.
-use Rattle.std.proofs.Common.{◌≡◌, List, [], ◌∷◌, map, refl, sym, ap, ◌∙◌, subst, Result, Ok, Err, inl, inr}
-use Rattle.std.specs.Prelude.{◌↔◌, IfOk}
+use Rattle.std.proofs.Common.{◌≡◌, ℕ, ◌+◌, ◌<◌, List, [], ◌∷◌, ◌++◌, map, length, get_or, take, refl, sym, ap, ◌∙◌, subst, Result, Ok, Err, inl, inr}
+use Rattle.std.specs.Prelude.{◌↔◌, IfOk, IsErr, OnErr}
 use Rattle.std.specs.List.{AllByRecursion}
+use Rattle.std.proofs.lemmas.List.{map-append, take_more}
 use Rattle.exact_plane.specs.Point.{Point}
 use Rattle.plane_graphs.specs.Ascending.{Member, IsAscending}
 use Rattle.plane_graphs.specs.Graph.{Edge, edge_cmp}
@@ -19,8 +20,25 @@ pub if_ok : {T E : Type 0} → (r : Result T E) (P Q : T → Type 0) → ((x : T
 if_ok (Ok x) P Q f h = f x h
 if_ok (Err e) P Q f h = tt
 
+-- what isn't Ok
+pub never_ok : {T E : Type 0} (r : Result T E) (P : T → Type 0) → IsErr r → IfOk r P
+never_ok (Ok x) P e = cc
+never_ok (Err x) P e = tt
+
+pub on_err : {T E : Type 0} (r : Result T E) (P : Type 0) → P → OnErr r P
+on_err (Ok x) P h = tt
+on_err (Err x) P h = h
+
 abbrev pub two : DartKey → Point × Point
 two k = (k.source, k.target)
+
+-- the ends of one more edge are told
+pub one_more_edge : (ks : List DartKey) (us next : List (Point × Point)) (i : ℕ) (k : DartKey) → i < length ks → k ≡ get_or ks i k → us ≡ map two (take i ks) → next ≡ us ++ (two k ∷ []) → next ≡ map two (take (i + 1) ks)
+one_more_edge ks us next i k l e h n =
+    n
+    ∙ ap (λ (es : List (Point × Point)). es ++ (two k ∷ [])) h
+    ∙ sym (map-append two (take i ks) (k ∷ []))
+    ∙ ap (map two) (ap (λ (x : DartKey). take i ks ++ (x ∷ [])) e ∙ sym (take_more ks i k l))
 
 same_edges : (ks : List DartKey) → map edge_of (map two ks) ≡ map edge_of_key ks
 same_edges [] = refl

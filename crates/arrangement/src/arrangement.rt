@@ -1,4 +1,4 @@
-ghost use Rattle.std.specs.Prelude.{◌≡◌, [], IfOk, IsOk, OnOk, OnErr};
+ghost use Rattle.std.specs.Prelude.{◌≡◌, ◌≤◌, [], IfOk, IsOk, OnOk, OnErr};
 ghost use Rattle.plane_graphs.specs.Graph.{graph};
 ghost use Rattle.edit_steps.specs.Edits.{Insert, Drop, Pin, Unpin, Merge, ClearAll};
 ghost use Rattle.edit_steps.specs.Layer.{empty_layer};
@@ -10,7 +10,7 @@ ghost use Rattle.pin_points.specs.Pins.{pin_said, unpin_said};
 ghost use Rattle.pin_points.specs.Splits.{split_at, split_said};
 ghost use Rattle.pin_points.specs.Merges.{merge_said};
 ghost use Rattle.slab_laws.specs.Sound.{IsGraphSound};
-ghost use Rattle.record_layers.specs.RecordLayers.{IsLayer};
+ghost use Rattle.record_layers.specs.RecordLayers.{layer_of, IsLayer};
 ghost use Rattle.record_layers.specs.LayerNames.{IsNamedBy};
 ghost use Rattle.arrangement.specs.declared.limits.TheConstants.{MAX_CURVES, MAX_PIECES, MAX_PINS};
 ghost use Rattle.observer_bus.specs.RoundLaws.{HaveNamesApart};
@@ -47,6 +47,17 @@ pub struct Arrangement {
     pub(crate) bus: Bus,
 }
 
+// Records of nothing, and a history whose first curve gets the number `first`. Neither takes memory, which is a clause of each, so no
+// way leads out of what asks for them while it owns a bus.
+fn empty_records(alloc: Global, first: u32) -> LayerRecords
+    requires { 1 ≤ first }
+    ensures { layer_of result.graph result.past ≡ empty_layer first }
+{
+    let records = Records::new(alloc).unwrap();
+    let history = History::new(alloc, first).unwrap();
+    LayerRecords { records, history }
+}
+
 impl Arrangement {
     /// A layer of nothing, whose first curve gets the number `limits.first`, over a bus that has no observers yet. It takes no memory, and
     /// succeeds.
@@ -70,10 +81,7 @@ impl Arrangement {
         Ok(Arrangement {
             alloc,
             limits,
-            layer: LayerRecords {
-                records: Records::new(alloc)?,
-                history: History::new(alloc, limits.first)?,
-            },
+            layer: empty_records(alloc, limits.first),
             bus,
         })
     }

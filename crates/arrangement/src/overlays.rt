@@ -26,6 +26,10 @@ pub fn overlay(alloc: Global, red: &Arrangement, blue: &Arrangement) -> Result<O
 {
     let of_red = present_of(alloc, &red.layer)?;
     let of_blue = present_of(alloc, &blue.layer)?;
-    let both = subdivide_both(alloc, &of_red, &of_blue)?;
+    let both = subdivide_both(alloc, &of_red, &of_blue);
+    // What a scope drops at its end is proved there anew, in all its parts.
+    drop(of_red);
+    drop(of_blue);
+    let both = both?;
     Ok(Overlay { alloc, both })
 }

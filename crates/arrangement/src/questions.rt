@@ -95,7 +95,10 @@ impl Arrangement {
             Spot::Edge(dart) => Ok(edge_cell(&self.layer.records, dart)),
             Spot::Face => {
                 let subdivision = self.subdivide()?;
-                Ok(hold(&subdivision, p))
+                let cell = hold(&subdivision, p);
+                // A call drops the subdivision, here and below: what a scope drops at its end is proved there anew, in all its parts.
+                drop(subdivision);
+                Ok(cell)
             }
         }
     }
@@ -115,6 +118,7 @@ impl Arrangement {
     {
         let subdivision = self.subdivide()?;
         let cells = count(&subdivision);
+        drop(subdivision);
         Ok(Counts {
             vertices: cells.vertices,
             edges: cells.edges,
@@ -134,7 +138,9 @@ impl Arrangement {
         ensures { IfOk result (λ bytes. bytes.items ≡ present_text (layer_in (arranged_of tells held left heard self.now)).present) }
     {
         let subdivision = self.subdivide()?;
-        text(self.alloc, &subdivision)
+        let text = text(self.alloc, &subdivision);
+        drop(subdivision);
+        text
     }
 
     /// The curves along the edge between two points, which come in either order; their numbers ascend (CGAL manual,

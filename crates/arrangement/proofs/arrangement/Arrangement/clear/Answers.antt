@@ -1,9 +1,17 @@
+use Rattle.std.proofs.Common.{refl}
 use Rattle.edit_steps.specs.Edits.{ClearAll}
 use Rattle.arrangement.proofs.Edits.{edited_so}
 use Rattle.arrangement.proofs.arrangement.Arrangement.clear.Goals as goal
 
-pub clear-requires-clause-watched : goal.clear-requires-clause-watched
-clear-requires-clause-watched g c = rw (← c.self.view_is) at c.requires.watched
+pub clear-requires : goal.clear-requires
+clear-requires g c = record {
+  layer = c.self.invariant;
+  watched = rw (← c.self.view_is) at c.requires.watched;
+}
 
-pub returns-clause-edit : goal.returns-clause-edit
-returns-clause-edit g c = rw (← c.self.view_is) (edited_so _ _ ClearAll c.self.invariant c.clear.ensures.edit c.clear.ensures.told)
+pub returns : goal.returns
+returns g c = rw (← c.self.view_is) (record {
+  edit = edited_so _ _ ClearAll c.self.invariant c.clear.ensures.edit c.clear.ensures.told;
+  limits = refl;
+  watched = c.clear.ensures.watched;
+})

@@ -1,13 +1,37 @@
-use Rattle.std.proofs.Common.{◌∙◌}
+use Rattle.std.proofs.Common.{ap, ◌∙◌, refl}
 use Rattle.plane_graphs.proofs.Lines.{point_is_proper}
+use Rattle.slab_laws.specs.Subdivision.{holds}
+use Rattle.arrangement.proofs.Ends.{never_ok, on_err}
 use Rattle.arrangement.proofs.Located.{at_vertex, on_edge}
 use Rattle.arrangement.proofs.arrangement.Arrangement.locate.Goals as goal
 
-pub returns-in-Vertex-clause-cell : goal.returns-in-Vertex-clause-cell
-returns-in-Vertex-clause-cell g c = rw (← c.self.view_is) (at_vertex _ _ c.self.invariant c.args.p.now c.in-Vertex.field-0 c.in-Vertex.ensures.0 c.in-Vertex.ensures.1)
+pub returns-in-Vertex : goal.returns-in-Vertex
+returns-in-Vertex g c = rw (← c.self.view_is) (record {
+  cell = at_vertex _ _ c.self.invariant c.args.p.now c.in-Vertex.field-0 c.in-Vertex.ensures.0 c.in-Vertex.ensures.1;
+  no_memory = tt;
+  same = refl;
+})
 
-pub returns-in-Edge-clause-cell : goal.returns-in-Edge-clause-cell
-returns-in-Edge-clause-cell g c =
+pub returns-in-Edge : goal.returns-in-Edge
+returns-in-Edge g c =
     let p = c.args.p.now in
     let on = c.in-Edge.ensures in
-    rw (← c.self.view_is) (c.edge_cell.ensures ∙ on_edge _ _ c.self.invariant p c.in-Edge.dart (point_is_proper p c.w-weight.ensures.point) (on.0, on.1) on.2)
+    rw (← c.self.view_is) (record {
+      cell = c.edge_cell.ensures ∙ on_edge _ _ c.self.invariant p c.in-Edge.dart (point_is_proper p c.w-weight.ensures.point) (on.0, on.1) on.2;
+      no_memory = tt;
+      same = refl;
+    })
+
+pub returns-in_ok-subdivision-in-Face : goal.returns-in_ok-subdivision-in-Face
+returns-in_ok-subdivision-in-Face g c = record {
+  cell = c.hold-cell.ensures ∙ ap (λ s. holds s c.args.p.now) c.in_ok-subdivision-in-Face.ensures.subdivision;
+  no_memory = tt;
+  same = refl;
+}
+
+pub returns-in_err-subdivision-in-Face : goal.returns-in_err-subdivision-in-Face
+returns-in_err-subdivision-in-Face g c = rw (← c.self.view_is) (record {
+  cell = never_ok c.from_residual.result _ c.from_residual.ensures.0;
+  no_memory = on_err c.from_residual.result _ c.in-Face.ensures;
+  same = refl;
+})

@@ -8,4 +8,4 @@ pub returns : goal.returns
 unfolding present_text
 returns g c =
     let d = c.in_ok-subdivision.subdivision in
-    if_ok c.text.result _ _ (λ bytes h. h ∙ text_is_the_graphs d c.in_ok-subdivision.ensures.plane ∙ ap graph_text c.in_ok-subdivision.ensures.graph) c.text.ensures
+    if_ok c.text-text.result _ _ (λ bytes h. h ∙ text_is_the_graphs d c.in_ok-subdivision.ensures.plane ∙ ap graph_text c.in_ok-subdivision.ensures.graph) c.text-text.ensures
