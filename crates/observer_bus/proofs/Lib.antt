@@ -6,3 +6,5 @@ pub mod Holding
 pub mod Hearing
 pub mod Losses
 pub mod Apart
+pub mod Finding
+pub mod Heard

@@ -1,5 +1,5 @@
 -- The seat of a name, found by index: what leaving and reporting make of it.
-use Rattle.std.proofs.Common.{◌≡◌, ℕ, ◌+◌, ◌≤◌, ◌<◌, ◌||◌, ◌==◌, Bool, true, false, cond, List, [], ◌∷◌, ◌++◌, Option, Some, None, length, take, drop, set, map, refl, sym, ap, ◌∙◌, subst, arith, get_or, ◌≢◌, ◌&&◌, is_none, IsTrue, All, inl, inr}
+use Rattle.std.proofs.Common.{◌≡◌, ℕ, ◌+◌, ◌≤◌, ◌<◌, ◌||◌, ◌==◌, Bool, true, false, cond, List, [], ◌∷◌, ◌++◌, Option, Some, None, length, take, drop, set, map, refl, sym, ap, ◌∙◌, subst, arith, get_or, ◌≢◌, ◌&&◌, is_none, IsTrue, All, inl, inr, length-append}
 use Rattle.std.proofs.lemmas.Bool.{eqb-true, cases_Bool}
 use Rattle.std.proofs.Math.ListN.{get_or-map}
 use Rattle.arr_notes.specs.CurvedView.{CurvedView, IsSoundView, view_text}
@@ -132,6 +132,13 @@ module _ {S : Type 0} (r : S → SeatRow) (k : ℕ) (xs : List S) where
     -- its report
     pub reported : (bytes : List ℕ) → ((w : CurvedView) → IsTrue (r s).tells → IsHeld (r s).held w → bytes ≡ view_text w) → IsReport bytes (seat_of k (map r xs))
     reported bytes h = subst (IsReport bytes) (sym seat_by) (λ tl w hd. h w tl hd)
+
+-- one more where not all eight are there
+pub few_added : {S : Type 0} (xs zs : List S) (s : S) → zs ≡ xs ++ s ∷ [] → length xs ≤ 8 → length xs ≢ 8 → length zs ≤ 8
+few_added xs zs s e le ne = let l : length zs ≡ length xs + 1 = ap length e ∙ length-append xs (s ∷ []) in omega arith
+
+pub may_add : (len seats capacity : ℕ) → len ≡ seats → seats ≤ 8 → seats ≢ 8 → 8 ≤ capacity → len < capacity
+may_add len seats capacity e le ne room = omega arith
 
 -- ---- room between rounds
 module _ {S : Type 0} (j : S → Option ℕ) (xs : List S) (g : Went) where

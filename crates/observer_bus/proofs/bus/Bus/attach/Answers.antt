@@ -1,24 +1,71 @@
-use Rattle.std.proofs.Common.{arith, sym, map, subst, ◌==◌}
+use Rattle.std.proofs.Common.{◌∷◌, [], refl, sym, ap, map, subst, ◌∙◌, ◌==◌, ◌≤◌}
 use Rattle.std.specs.List.{IsDistinct}
+use Rattle.std.proofs.lemmas.Bool.{false≢true}
+use Rattle.std.proofs.lemmas.List.{map-append}
 use Rattle.observer_bus.specs.Rows.{row}
 use Rattle.observer_bus.proofs.Apart.{apart_added, placed_name}
-use Rattle.observer_bus.proofs.Seating.{taken_by, full_by, open_by}
+use Rattle.observer_bus.proofs.Seating.{few_added, full_by, may_add, open_by, taken_by}
 use Rattle.observer_bus.proofs.bus.Bus.attach.Goals as goal
 
-pub returns-then-has_name-clause-refused : goal.returns-then-has_name-clause-refused
-returns-then-has_name-clause-refused g c = let n = rw c.deref.ensures.value at c.has_name.ensures in taken_by (row (λ b. (goal.Observer-dyn g (b.vtable, b.value)).tells b.value) (λ b. (goal.Observer-dyn g (b.vtable, b.value)).held b.value) (λ b. (goal.Observer-dyn g (b.vtable, b.value)).left b.value) (λ b. (goal.Observer-dyn g (b.vtable, b.value)).heard b.value)) c.args.name c.args.self.now.seats.items _ n c.if-has_name.true
+pub returns-then-has_name : goal.returns-then-has_name
+returns-then-has_name g c =
+    let n = rw c.deref.ensures.value at c.has_name.ensures in record {
+      refused = taken_by (row (λ b. (goal.Observer-dyn g (b.vtable, b.value)).tells b.value) (λ b. (goal.Observer-dyn g (b.vtable, b.value)).held b.value) (λ b. (goal.Observer-dyn g (b.vtable, b.value)).left b.value) (λ b. (goal.Observer-dyn g (b.vtable, b.value)).heard b.value)) c.args.name c.args.self.now.seats.items _ n c.if-has_name.true;
+      same = λ e. refl;
+      back = (refl, refl);
+      err = refl;
+      attached = tt;
+    }
 
-pub returns-then-len-eq-SEATS-clause-refused : goal.returns-then-len-eq-SEATS-clause-refused
-returns-then-len-eq-SEATS-clause-refused g c = let n = rw c.deref.ensures.value at c.has_name.ensures in full_by (row (λ b. (goal.Observer-dyn g (b.vtable, b.value)).tells b.value) (λ b. (goal.Observer-dyn g (b.vtable, b.value)).held b.value) (λ b. (goal.Observer-dyn g (b.vtable, b.value)).left b.value) (λ b. (goal.Observer-dyn g (b.vtable, b.value)).heard b.value)) c.args.name c.args.self.now.seats.items _ n c.if-has_name.false (omega arith)
+pub returns-then-len-eq-SEATS : goal.returns-then-len-eq-SEATS
+returns-then-len-eq-SEATS g c =
+    let n = rw c.deref.ensures.value at c.has_name.ensures in record {
+      refused = full_by (row (λ b. (goal.Observer-dyn g (b.vtable, b.value)).tells b.value) (λ b. (goal.Observer-dyn g (b.vtable, b.value)).held b.value) (λ b. (goal.Observer-dyn g (b.vtable, b.value)).left b.value) (λ b. (goal.Observer-dyn g (b.vtable, b.value)).heard b.value)) c.args.name c.args.self.now.seats.items _ n c.if-has_name.false (sym c.args.self.now.seats.ok.0 ∙ sym c.len.ensures ∙ c.if-len-eq-SEATS.true);
+      same = λ e. refl;
+      back = (refl, refl);
+      err = refl;
+      attached = tt;
+    }
 
-pub returns-in-Err-clause-refused : goal.returns-in-Err-clause-refused
-returns-in-Err-clause-refused g c = let n = rw c.deref.ensures.value at c.has_name.ensures in sym (open_by (row (λ b. (goal.Observer-dyn g (b.vtable, b.value)).tells b.value) (λ b. (goal.Observer-dyn g (b.vtable, b.value)).held b.value) (λ b. (goal.Observer-dyn g (b.vtable, b.value)).left b.value) (λ b. (goal.Observer-dyn g (b.vtable, b.value)).heard b.value)) c.args.name c.args.self.now.seats.items _ n c.if-has_name.false (λ e. omega arith))
+pub placed-requires : goal.placed-requires
+placed-requires g c = record { when = c.requires.when; sound = c.requires.sound }
 
-pub returns-clause-refused : goal.returns-clause-refused
-returns-clause-refused g c = let n = rw c.deref.ensures.value at c.has_name.ensures in open_by (row (λ b. (goal.Observer-dyn g (b.vtable, b.value)).tells b.value) (λ b. (goal.Observer-dyn g (b.vtable, b.value)).held b.value) (λ b. (goal.Observer-dyn g (b.vtable, b.value)).left b.value) (λ b. (goal.Observer-dyn g (b.vtable, b.value)).heard b.value)) c.args.name c.args.self.now.seats.items _ n c.if-has_name.false (λ e. omega arith)
+pub returns-in-Err : goal.returns-in-Err
+returns-in-Err g c =
+    let n = rw c.deref.ensures.value at c.has_name.ensures in record {
+      refused = sym (open_by (row (λ b. (goal.Observer-dyn g (b.vtable, b.value)).tells b.value) (λ b. (goal.Observer-dyn g (b.vtable, b.value)).held b.value) (λ b. (goal.Observer-dyn g (b.vtable, b.value)).left b.value) (λ b. (goal.Observer-dyn g (b.vtable, b.value)).heard b.value)) c.args.name c.args.self.now.seats.items _ n c.if-has_name.false (λ e. c.if-len-eq-SEATS.false (c.len.ensures ∙ c.args.self.now.seats.ok.0 ∙ e)));
+      same = λ other. absurd (other refl);
+      back = c.in-Err.ensures.back;
+      err = refl;
+      attached = tt;
+    }
 
-pub invariant_of-self-clause-apart : goal.invariant_of-self-clause-apart
-invariant_of-self-clause-apart g c =
+pub returns : goal.returns
+returns g c =
+    let n = rw c.deref.ensures.value at c.has_name.ensures in record {
+      refused = open_by (row (λ b. (goal.Observer-dyn g (b.vtable, b.value)).tells b.value) (λ b. (goal.Observer-dyn g (b.vtable, b.value)).held b.value) (λ b. (goal.Observer-dyn g (b.vtable, b.value)).left b.value) (λ b. (goal.Observer-dyn g (b.vtable, b.value)).heard b.value)) c.args.name c.args.self.now.seats.items _ n c.if-has_name.false (λ e. c.if-len-eq-SEATS.false (c.len.ensures ∙ c.args.self.now.seats.ok.0 ∙ e));
+      same = tt;
+      back = tt;
+      err = tt;
+      attached = record {
+        seated = (row (λ b. (goal.Observer-dyn g (b.vtable, b.value)).tells b.value) (λ b. (goal.Observer-dyn g (b.vtable, b.value)).held b.value) (λ b. (goal.Observer-dyn g (b.vtable, b.value)).left b.value) (λ b. (goal.Observer-dyn g (b.vtable, b.value)).heard b.value)) c.in-Ok.seat;
+        placed = c.in-Ok.ensures.placed;
+        last = ap (map (row (λ b. (goal.Observer-dyn g (b.vtable, b.value)).tells b.value) (λ b. (goal.Observer-dyn g (b.vtable, b.value)).held b.value) (λ b. (goal.Observer-dyn g (b.vtable, b.value)).left b.value) (λ b. (goal.Observer-dyn g (b.vtable, b.value)).heard b.value))) c.push_reserved.ensures.items ∙ map-append (row (λ b. (goal.Observer-dyn g (b.vtable, b.value)).tells b.value) (λ b. (goal.Observer-dyn g (b.vtable, b.value)).held b.value) (λ b. (goal.Observer-dyn g (b.vtable, b.value)).left b.value) (λ b. (goal.Observer-dyn g (b.vtable, b.value)).heard b.value)) c.args.self.now.seats.items (c.in-Ok.seat ∷ []);
+        went = refl;
+        settled = refl;
+      };
+    }
+
+pub push_reserved-requires : goal.push_reserved-requires
+push_reserved-requires g c = may_add _ _ _ c.args.self.now.seats.ok.0 c.args.self.now.few (λ e. c.if-len-eq-SEATS.false (c.len.ensures ∙ c.args.self.now.seats.ok.0 ∙ e)) c.args.self.now.room
+
+pub invariant_of-self : goal.invariant_of-self
+invariant_of-self g c =
     let n = rw c.deref.ensures.value at c.has_name.ensures in
-    subst (λ ss. IsDistinct ◌==◌ (map (λ s. s.name) ss)) (sym c.push_reserved.ensures.items)
-    (apart_added (λ s. s.name) c.args.self.now.seats.items c.args.self.now.apart c.in-Ok.seat c.has_name.result c.args.name n c.if-has_name.false (placed_name _ _ _ _ c.in-Ok.ensures.placed))
+    let items = c.push_reserved.ensures.items in record {
+      few = few_added c.args.self.now.seats.items _ c.in-Ok.seat items c.args.self.now.few (λ e. c.if-len-eq-SEATS.false (c.len.ensures ∙ c.args.self.now.seats.ok.0 ∙ e));
+      room = subst (λ n. 8 ≤ n) (sym c.push_reserved.ensures.capacity) c.args.self.now.room;
+      apart = subst (λ ss. IsDistinct ◌==◌ (map (λ s. s.name) ss)) (sym items)
+          (apart_added (λ s. s.name) c.args.self.now.seats.items c.args.self.now.apart c.in-Ok.seat c.has_name.result c.args.name n c.if-has_name.false (placed_name _ _ _ _ c.in-Ok.ensures.placed));
+      name_room = λ t. absurd (false≢true t);
+    }

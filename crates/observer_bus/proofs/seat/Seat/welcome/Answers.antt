@@ -1,0 +1,52 @@
+use Rattle.std.proofs.Common.{Some, refl, sym, ap, subst, ◌∙◌}
+use mathlib.Core.List.{mem-append_right}
+use Rattle.arr_notes.specs.CurvedView.{IsSoundView}
+use Rattle.arr_notes.specs.Notes.{heard_after}
+use Rattle.arr_notes.specs.declared.note.Note.TheVariants.{Snapshot}
+use Rattle.observer_bus.proofs.Heard.{not_ok, stay_lost}
+use Rattle.observer_bus.proofs.seat.Seat.welcome.Goals as goal
+
+-- `same`: what the observer's box was before the note, read through `&mut`, is the box that the seat had
+pub returns-in_err-snapshot : goal.returns-in_err-snapshot
+returns-in_err-snapshot g c = record {
+  name = refl;
+  join = refl;
+  leave = refl;
+  tells = refl;
+  left = refl;
+  heard = not_ok c.from_residual.result _ _ c.from_residual.ensures.1;
+  held = not_ok c.from_residual.result _ _ c.from_residual.ensures.1;
+}
+
+pub heed-answer-requires : goal.heed-answer-requires
+heed-answer-requires g c κs = (refl, λ i. (tt, (λ a m. i a (mem-append_right κs.0 m), λ t. subst IsSoundView (sym c.in_ok-snapshot.ensures) c.requires)))
+
+pub invariant_of-self : goal.invariant_of-self
+invariant_of-self g c = record { join_counts = c.args.self.now.join_counts; leave_counts = c.args.self.now.leave_counts }
+
+pub returns-in-Stay : goal.returns-in-Stay
+returns-in-Stay g c =
+    let same = c.deref_box_mut-1.ensures.value.1 in
+    let h = c.heed-answer.ensures in record {
+      name = refl;
+      join = refl;
+      leave = refl;
+      tells = h.0 ∙ ap (λ b. (goal.Observer-dyn g b).tells b.1) same;
+      left = h.1.1.1.1.0 _ refl ∙ ap (λ b. (goal.Observer-dyn g b).left b.1) same;
+      heard = h.1.0 (λ l. stay_lost (sym c.in-Stay.is ∙ l)) ∙ ap (λ b. heard_after ((goal.Observer-dyn g b).heard b.1) (Snapshot c.in_ok-snapshot.field-0)) same ∙
+          ap (λ w. heard_after ((goal.Observer-dyn g (c.args.self.now.observer.vtable, c.args.self.now.observer.value)).heard c.args.self.now.observer.value) (Snapshot w)) c.in_ok-snapshot.ensures;
+      held = λ t. h.1.1.1.1.1 c.in-Stay.is (ap (λ b. (goal.Observer-dyn g b).tells b.1) same ∙ t) ∙ ap Some c.in_ok-snapshot.ensures;
+    }
+
+pub returns-in_default : goal.returns-in_default
+returns-in_default g c =
+    let same = c.deref_box_mut-1.ensures.value.1 in
+    let h = c.heed-answer.ensures in record {
+      name = refl;
+      join = refl;
+      leave = refl;
+      tells = h.0 ∙ ap (λ b. (goal.Observer-dyn g b).tells b.1) same;
+      left = h.1.1.1.1.0 _ refl ∙ ap (λ b. (goal.Observer-dyn g b).left b.1) same;
+      heard = tt;
+      held = tt;
+    }
