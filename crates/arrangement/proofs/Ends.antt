@@ -1,6 +1,6 @@
 -- Edges of a curve, by their ends.
 use Rattle.std.proofs.Common.{◌≡◌, ℕ, ◌+◌, ◌<◌, List, [], ◌∷◌, ◌++◌, map, length, get_or, take, refl, sym, ap, ◌∙◌, subst, Result, Ok, Err, inl, inr}
-use Rattle.std.specs.Prelude.{◌↔◌, IfOk, IsErr, OnErr}
+use Rattle.std.specs.Prelude.{◌↔◌, IfOk}
 use Rattle.std.specs.List.{AllByRecursion}
 use Rattle.std.proofs.lemmas.List.{map-append, take_more}
 use Rattle.exact_plane.specs.Point.{Point}
@@ -19,15 +19,6 @@ use Rattle.record_orders.proofs.EdgeEnds.{ahead}
 pub if_ok : {T E : Type 0} → (r : Result T E) (P Q : T → Type 0) → ((x : T) → P x → Q x) → IfOk r P → IfOk r Q
 if_ok (Ok x) P Q f h = f x h
 if_ok (Err e) P Q f h = tt
-
--- what isn't Ok
-pub never_ok : {T E : Type 0} (r : Result T E) (P : T → Type 0) → IsErr r → IfOk r P
-never_ok (Ok x) P e = cc
-never_ok (Err x) P e = tt
-
-pub on_err : {T E : Type 0} (r : Result T E) (P : Type 0) → P → OnErr r P
-on_err (Ok x) P h = tt
-on_err (Err x) P h = h
 
 abbrev pub two : DartKey → Point × Point
 two k = (k.source, k.target)

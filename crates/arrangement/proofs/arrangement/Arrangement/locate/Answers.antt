@@ -1,7 +1,8 @@
 use Rattle.std.proofs.Common.{ap, ◌∙◌, refl}
 use Rattle.plane_graphs.proofs.Lines.{point_is_proper}
 use Rattle.slab_laws.specs.Subdivision.{holds}
-use Rattle.arrangement.proofs.Ends.{never_ok, on_err}
+use Rattle.std.proofs.lemmas.Result.{IfOk-from_err}
+use Rattle.pin_points.proofs.Outcomes.{on_err}
 use Rattle.arrangement.proofs.Located.{at_vertex, on_edge}
 use Rattle.arrangement.proofs.arrangement.Arrangement.locate.Goals as goal
 
@@ -31,7 +32,7 @@ returns-in_ok-subdivision-in-Face g c = record {
 
 pub returns-in_err-subdivision-in-Face : goal.returns-in_err-subdivision-in-Face
 returns-in_err-subdivision-in-Face g c = rw (← c.self.view_is) (record {
-  cell = never_ok c.from_residual.result _ c.from_residual.ensures.0;
+  cell = IfOk-from_err c.from_residual.result _ c.from_residual.ensures.0;
   no_memory = on_err c.from_residual.result _ c.in-Face.ensures;
   same = refl;
 })
