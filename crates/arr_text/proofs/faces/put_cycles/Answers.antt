@@ -18,12 +18,16 @@ use Rattle.arr_text.proofs.faces.put_cycles.Goals as goal
 no_key : CycleKey
 no_key = record { lead = dart_id 0; outer = false; face = face_id 0 }
 
-pub make_cycle_line-requires-clause-lead : goal.make_cycle_line-requires-clause-lead
+pub make_cycle_line-requires : goal.make_cycle_line-requires
 unfolding no_key
-make_cycle_line-requires-clause-lead g c =
+make_cycle_line-requires g c =
     let v = g.R.Darts.graph c.args.records.now in
-    let f = g.R.Faced.faces c.args.records.now in
-    key_has v f c.requires.stands (get_or c.args.cycles.now c.loop-cycle.cycle-index no_key) (key_at v f c.requires.stands c.args.cycles.now c.loop-cycle.cycle-index no_key c.requires.cycles c.loop-cycle-test.true)
+    let f = g.R.Faced.faces c.args.records.now in record {
+      sound = c.requires.stands.graph;
+      points = c.requires.points;
+      darts = c.requires.darts;
+      lead = key_has v f c.requires.stands (get_or c.args.cycles.now c.loop-cycle.cycle-index no_key) (key_at v f c.requires.stands c.args.cycles.now c.loop-cycle.cycle-index no_key c.requires.cycles c.loop-cycle-test.true);
+    }
 
 pub append-requires : goal.append-requires
 unfolding no_key
