@@ -1,7 +1,7 @@
 -- What an outcome tells: an error's clauses where it is one, that want of memory is no other outcome, and what stays where nothing was changed.
 use Rattle.std.proofs.Common.{◌≡◌, ℕ, Result, Ok, Err, refl, ◌∙◌}
 use Rattle.std.proofs.lemmas.Bool.{false≢true}
-use Rattle.std.specs.Prelude.{IsOk, IsErrAnd, OnOk, OnErr}
+use Rattle.std.specs.Prelude.{IsOk, OnErr}
 use Rattle.dcel_records.specs.RecordsView.{RecordsView, IsSpare, SameRecordCapacity}
 use Rattle.curve_history.specs.Past.{Past, SameLayer, SameHistoryCapacity}
 
@@ -9,10 +9,6 @@ use Rattle.curve_history.specs.Past.{Past, SameLayer, SameHistoryCapacity}
 pub on_err : {T E : Type 0} (r : Result T E) (P : Type 0) → P → OnErr r P
 on_err (Ok x) P p = tt
 on_err (Err e) P p = p
-
-pub not_ok : {T E : Type 0} (r : Result T E) (Q : E → Type 0) (P : Type 0) → IsErrAnd r Q → OnOk r P
-not_ok (Ok x) Q P e = absurd e
-not_ok (Err e) Q P q = tt
 
 -- the result of a call that succeeds is no error
 pub not_both : {T E : Type 0} (r : Result T E) (e : E) → IsOk r → r ≡ Err e → ⊥

@@ -5,7 +5,7 @@ use Rattle.slab_laws.specs.Sound.{skeleton_of}
 use Rattle.slab_laws.specs.Text.{vertex_line}
 use Rattle.record_orders.specs.declared.vertices.VertexKey.{VertexKey}
 use Rattle.arr_text.specs.Reading.{pins_in}
-use Rattle.arr_text.proofs.Joined.{one_more_put}
+use Rattle.arr_text.proofs.Lines.{one_more}
 use Rattle.arr_text.proofs.Lines.{vertex_item, all_vertices}
 use Rattle.arr_text.proofs.vertices.put_vertices.Goals as goal
 
@@ -25,7 +25,7 @@ put_vertex-requires g c =
 pub loop-vertex-preserved : goal.loop-vertex-preserved
 loop-vertex-preserved g c =
     let v = g.R.Darts.graph c.args.records.now in
-    one_more_put (λ (k : VertexKey). vertex_line (skeleton_of v) (darts (skeleton_of v)) (pins_in v) k.point) c.args.vertices.now c.loop-vertex.vertex-index c.vertex-item.result c.args.out.now.items c.loop-vertex.out.items c.put_vertex.new.out.items
+    one_more (λ (k : VertexKey). vertex_line (skeleton_of v) (darts (skeleton_of v)) (pins_in v) k.point) c.args.vertices.now c.loop-vertex.vertex-index c.vertex-item.result c.args.out.now.items c.loop-vertex.out.items c.put_vertex.new.out.items
     c.loop-vertex-test.true c.vertex-item.is c.loop-vertex.invariant c.in_ok-put_vertex.ensures
 
 pub returns : goal.returns

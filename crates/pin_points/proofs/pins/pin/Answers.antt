@@ -11,7 +11,8 @@ use Rattle.told_steps.proofs.ToldTogether.{told_runs_lawful}
 use Rattle.pin_points.specs.Pins.{MayBecomeVertex, new_vertex_steps, pin_said}
 use Rattle.pin_points.specs.declared.pins.PinError.{PinError}
 use Rattle.pin_points.specs.declared.pins.PinError.TheVariants.{Pinned, Full, NoMemory}
-use Rattle.pin_points.proofs.Outcomes.{layer_kept, not_both, not_ok, on_err}
+use Rattle.observer_bus.proofs.Heard.{not_ok}
+use Rattle.pin_points.proofs.Outcomes.{layer_kept, not_both, on_err}
 use Rattle.pin_points.proofs.Pinning.{stays_plane, pin_told, pin_layer, counted}
 use Rattle.pin_points.proofs.Spotted.{pinned_spot}
 use Rattle.pin_points.proofs.Fullness.{full_out, not_full_out}
