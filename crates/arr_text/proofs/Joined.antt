@@ -1,6 +1,8 @@
 -- Texts that are put one after the other.
-use Rattle.std.proofs.Common.{◌≡◌, ℕ, List, ◌++◌, Result, Ok, Err, ap, ◌∙◌, append_assoc}
-use Rattle.std.specs.Prelude.{OnOk}
+use Rattle.std.proofs.Common.{◌≡◌, ℕ, ◌+◌, ◌<◌, List, [], ◌∷◌, ◌++◌, length, get_or, take, replicate, Result, Ok, Err, ap, sym, ◌∙◌, append_assoc}
+use Rattle.std.specs.Prelude.{OnOk, flat_map}
+use Rattle.std.proofs.lemmas.List.{append-nil, length-replicate, take_more}
+use Rattle.std.proofs.lemmas.Grind.{flat_map-append}
 use Rattle.std.specs.Fmt.{signed_decimal}
 use Rattle.exact_plane.specs.Point.{Point}
 use Rattle.slab_laws.specs.Text.{word, triple}
@@ -23,3 +25,28 @@ triple_put r p s a b z e f g =
     let y : List ℕ = word (signed_decimal p.y) in
     let w : List ℕ = word (signed_decimal p.w) in
     joined r s b z (x ++ y) w (x ++ (y ++ w)) (then_appended s a b x y e f) g (append_assoc x y w)
+
+-- one more of what is put one after the other
+pub one_more_put : {X : Type 0} (write : X → List ℕ) (xs : List X) (i : ℕ) (x : X) (out before next : List ℕ) → i < length xs → x ≡ get_or xs i x → before ≡ out ++ flat_map write (take i xs) → next ≡ before ++ write x → next ≡ out ++ flat_map write (take (i + 1) xs)
+one_more_put {X} write xs i x out before next l e h n =
+    let more : take (i + 1) xs ≡ take i xs ++ (x ∷ []) = take_more xs i x l ∙ ap (λ (y : X). take i xs ++ (y ∷ [])) (sym e) in
+    let put : flat_map write (take (i + 1) xs) ≡ flat_map write (take i xs) ++ write x = ap (flat_map write) more ∙ flat_map-append write (take i xs) (x ∷ []) ∙ ap (λ t. flat_map write (take i xs) ++ t) (append-nil (write x)) in
+    n
+    ∙ ap (λ (t : List ℕ). t ++ write x) h
+    ∙ append_assoc out (flat_map write (take i xs)) (write x)
+    ∙ ap (λ (t : List ℕ). out ++ t) (sym put)
+
+-- one more word
+pub one_more_word : {X : Type 0} (say : X → List ℕ) (says : List X → List (List ℕ)) (adds : (ys : List X) (y : X) → says (ys ++ (y ∷ [])) ≡ says ys ++ (say y ∷ [])) (xs : List X) (i : ℕ) (d : X) (out before next : List ℕ) → i < length xs → before ≡ out ++ flat_map word (says (take i xs)) → next ≡ before ++ word (say (get_or xs i d)) → next ≡ out ++ flat_map word (says (take (i + 1) xs))
+one_more_word say says adds xs i d out before next l h n =
+    let x = get_or xs i d in
+    let put : flat_map word (says (take (i + 1) xs)) ≡ flat_map word (says (take i xs)) ++ word (say x) =
+    ap (λ ys. flat_map word (says ys)) (take_more xs i d l) ∙ ap (flat_map word) (adds (take i xs) x) ∙ flat_map-append word (says (take i xs)) (say x ∷ []) ∙ ap (λ t. flat_map word (says (take i xs)) ++ t) (append-nil (word (say x))) in
+    n
+    ∙ ap (λ (t : List ℕ). t ++ word (say x)) h
+    ∙ append_assoc out (flat_map word (says (take i xs))) (word (say x))
+    ∙ ap (λ (t : List ℕ). out ++ t) (sym put)
+
+-- there is room for each
+pub as_many_rooms : {X : Type 0} (bodies : List (List ℕ)) (n : ℕ) (xs : List X) → bodies ≡ replicate n [] → n ≡ length xs → length bodies ≡ length xs
+as_many_rooms bodies n xs e l = ap (λ bs. length bs) e ∙ length-replicate n [] ∙ l

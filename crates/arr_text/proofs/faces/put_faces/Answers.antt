@@ -1,15 +1,46 @@
-use Rattle.std.proofs.Common.{◌∙◌, ap, List, ℕ, [], replicate}
-use Rattle.arr_text.proofs.Joined.{said}
+use Rattle.std.proofs.Common.{◌∙◌, ap, sym, length, List, ℕ, [], replicate}
+use Rattle.arr_text.proofs.Joined.{said, as_many_rooms}
 use Rattle.record_orders.specs.CycleKeys.{ranked_faces}
 use Rattle.arr_text.proofs.FaceNames.{ranked_has}
 use Rattle.arr_text.proofs.FaceLines.{face_lines_put}
 use Rattle.arr_text.proofs.faces.put_faces.Goals as goal
 
-pub put_bodies-requires-clause-has : goal.put_bodies-requires-clause-has
-put_bodies-requires-clause-has g c =
-    let f = g.R.Faced.faces c.args.records.now in
-    ranked_has (g.R.Darts.graph c.args.records.now) f c.requires.stands c.requires.stands.faced.0 c.requires.stands.faced.1 c.as_slice.result.now
-    (c.as_slice.ensures ∙ c.requires.ranks ∙ ap (ranked_faces f) c.requires.cycles)
+pub put_cycles-requires : goal.put_cycles-requires
+put_cycles-requires g c = record {
+  stands = c.requires.stands;
+  points = c.requires.points;
+  cycles = c.requires.cycles;
+  ranks = c.requires.ranks;
+  darts = c.requires.darts;
+  bodies = as_many_rooms c.in_ok-bodies.bodies c.len.result _ c.in_ok-bodies.ensures c.len.ensures;
+}
+
+pub put_cycles-requires-2 : goal.put_cycles-requires-2
+put_cycles-requires-2 g c = record {
+  stands = c.requires.stands;
+  points = c.requires.points;
+  cycles = c.requires.cycles;
+  ranks = c.requires.ranks;
+  darts = c.requires.darts;
+  bodies = c.in_ok-put_cycles.ensures.as_many ∙ as_many_rooms c.in_ok-bodies.bodies c.len.result _ c.in_ok-bodies.ensures c.len.ensures;
+}
+
+pub put_isolated-requires : goal.put_isolated-requires
+put_isolated-requires g c = record {
+  stands = c.requires.stands;
+  points = c.requires.points;
+  vertices = c.requires.vertices;
+  ranks = c.requires.ranks ∙ ap (ranked_faces (g.R.Faced.faces c.args.records.now)) c.requires.cycles;
+  bodies = c.in_ok-put_cycles-2.ensures.as_many ∙ c.in_ok-put_cycles.ensures.as_many ∙ as_many_rooms c.in_ok-bodies.bodies c.len.result _ c.in_ok-bodies.ensures c.len.ensures;
+}
+
+pub put_bodies-requires : goal.put_bodies-requires
+put_bodies-requires g c =
+    let f = g.R.Faced.faces c.args.records.now in record {
+      has = ranked_has (g.R.Darts.graph c.args.records.now) f c.requires.stands c.requires.stands.faced.0 c.requires.stands.faced.1 c.as_slice.result.now
+          (c.as_slice.ensures ∙ c.requires.ranks ∙ ap (ranked_faces f) c.requires.cycles);
+      faces = ap (λ fs. length fs) c.as_slice.ensures ∙ sym (c.in_ok-put_isolated.ensures.as_many ∙ c.in_ok-put_cycles-2.ensures.as_many ∙ c.in_ok-put_cycles.ensures.as_many ∙ as_many_rooms c.in_ok-bodies.bodies c.len.result _ c.in_ok-bodies.ensures c.len.ensures);
+    }
 
 pub returns : goal.returns
 returns g c =

@@ -1,11 +1,40 @@
 use Rattle.std.proofs.Common.{◌≡◌, ◌/◌, ◌++◌, length, ap, ◌∙◌}
+use Rattle.std.proofs.lemmas.List.{length-map}
 use Rattle.slab_laws.specs.Sound.{skeleton_of}
 use Rattle.slab_laws.specs.Subdivision.{subdivision}
+use Rattle.sound_views.specs.Orders.{dart_order}
+use Rattle.record_orders.specs.Keys.{dart_key}
 use Rattle.record_orders.specs.CycleKeys.{ranked_faces}
 use Rattle.arr_text.specs.Reading.{labels_by, text_with, title}
 use Rattle.arr_text.proofs.FaceNames.{faces_counted}
 use Rattle.arr_text.proofs.Assembly.{assembled, vertices_counted, edges_counted}
 use Rattle.arr_text.proofs.whole.put_lines.Goals as goal
+
+pub put_vertices-requires : goal.put_vertices-requires
+put_vertices-requires g c = record {
+  sound = c.requires.stands.graph;
+  points = c.requires.points;
+  vertices = c.requires.vertices;
+  darts = c.requires.darts;
+}
+
+pub put_edges-requires : goal.put_edges-requires
+put_edges-requires g c = record {
+  sound = c.requires.stands.graph;
+  points = c.requires.points;
+  darts = c.requires.darts;
+}
+
+pub put_faces-requires : goal.put_faces-requires
+put_faces-requires g c =
+    let v = g.R.Darts.graph c.args.records.now in record {
+      stands = c.requires.stands;
+      points = c.requires.points;
+      vertices = c.requires.vertices;
+      cycles = c.requires.cycles;
+      ranks = c.requires.ranks;
+      darts = ap (λ ks. length ks) c.requires.darts ∙ length-map (dart_order v) (dart_key v);
+    }
 
 pub returns : goal.returns
 unfolding text_with
