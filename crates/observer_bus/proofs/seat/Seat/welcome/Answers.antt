@@ -1,4 +1,4 @@
-use Rattle.std.proofs.Common.{Some, refl, sym, ap, subst, ◌∙◌}
+use Rattle.std.proofs.Common.{refl, sym, ap, subst, ◌∙◌}
 use mathlib.Core.List.{mem-append_right}
 use Rattle.arr_notes.specs.CurvedView.{IsSoundView}
 use Rattle.arr_notes.specs.Notes.{heard_after}
@@ -24,19 +24,25 @@ heed-answer-requires g c κs = (refl, λ i. (tt, (λ a m. i a (mem-append_right 
 pub invariant_of-self : goal.invariant_of-self
 invariant_of-self g c = record { join_counts = c.args.self.now.join_counts; leave_counts = c.args.self.now.leave_counts }
 
-pub returns-in-Stay : goal.returns-in-Stay
-returns-in-Stay g c =
+-- what it holds then is left to the search: a welcome without a snapshot is to fail there, and not by a name that is gone
+pub returns-in-Stay-clause-tells : goal.returns-in-Stay-clause-tells
+returns-in-Stay-clause-tells g c =
     let same = c.deref_box_mut-1.ensures.value.1 in
-    let h = c.heed-answer.ensures in record {
-      name = refl;
-      join = refl;
-      leave = refl;
-      tells = h.0 ∙ ap (λ b. (goal.Observer-dyn g b).tells b.1) same;
-      left = h.1.1.1.1.0 _ refl ∙ ap (λ b. (goal.Observer-dyn g b).left b.1) same;
-      heard = h.1.0 (λ l. stay_lost (sym c.in-Stay.is ∙ l)) ∙ ap (λ b. heard_after ((goal.Observer-dyn g b).heard b.1) (Snapshot c.in_ok-snapshot.field-0)) same ∙
-          ap (λ w. heard_after ((goal.Observer-dyn g (c.args.self.now.observer.vtable, c.args.self.now.observer.value)).heard c.args.self.now.observer.value) (Snapshot w)) c.in_ok-snapshot.ensures;
-      held = λ t. h.1.1.1.1.1 c.in-Stay.is (ap (λ b. (goal.Observer-dyn g b).tells b.1) same ∙ t) ∙ ap Some c.in_ok-snapshot.ensures;
-    }
+    let h = c.heed-answer.ensures in
+    h.0 ∙ ap (λ b. (goal.Observer-dyn g b).tells b.1) same
+
+pub returns-in-Stay-clause-left : goal.returns-in-Stay-clause-left
+returns-in-Stay-clause-left g c =
+    let same = c.deref_box_mut-1.ensures.value.1 in
+    let h = c.heed-answer.ensures in
+    h.1.1.1.1.0 _ refl ∙ ap (λ b. (goal.Observer-dyn g b).left b.1) same
+
+pub returns-in-Stay-clause-heard : goal.returns-in-Stay-clause-heard
+returns-in-Stay-clause-heard g c =
+    let same = c.deref_box_mut-1.ensures.value.1 in
+    let h = c.heed-answer.ensures in
+    h.1.0 (λ l. stay_lost (sym c.in-Stay.is ∙ l)) ∙ ap (λ b. heard_after ((goal.Observer-dyn g b).heard b.1) (Snapshot c.in_ok-snapshot.field-0)) same ∙
+    ap (λ w. heard_after ((goal.Observer-dyn g (c.args.self.now.observer.vtable, c.args.self.now.observer.value)).heard c.args.self.now.observer.value) (Snapshot w)) c.in_ok-snapshot.ensures
 
 pub returns-in_default : goal.returns-in_default
 returns-in_default g c =
