@@ -1,7 +1,5 @@
 -- What a caller sees of an arrangement: the layer that it is, its limits, its records by name, and its observers.
-use Rattle.std.specs.Prelude.{ℕ, ◌≤◌, All, Bool, List, Option}
-use Rattle.std.specs.declared.alloc.Global.{Global}
-use Rattle.std.specs.declared.dyn_box.DynBox.{DynBox}
+use Rattle.std.specs.Prelude.{◌≤◌, All, Option}
 use Rattle.plane_graphs.specs.Graph.{graph}
 use Rattle.edit_steps.specs.Edits.{Edit}
 use Rattle.edit_steps.specs.Layer.{Layer}
@@ -9,13 +7,11 @@ use Rattle.edit_steps.specs.Refusals.{Bounds, Refusal, refusal}
 use Rattle.slab_laws.specs.Subdivision.{Subdivision, subdivision}
 use Rattle.slab_laws.specs.Text.{skeleton}
 use Rattle.slab_laws.specs.View.{View}
-use Rattle.arr_notes.specs.CurvedView.{CurvedView}
-use Rattle.arr_notes.specs.declared.note.Note.{Note}
 use Rattle.curve_history.specs.Past.{Past, curves_on}
 use Rattle.curve_history.specs.declared.history.TheConstants.{LAST_CURVE}
 use Rattle.record_layers.specs.RecordLayers.{layer_of}
 use Rattle.observer_bus.specs.Rounds.{BusRow}
-use Rattle.observer_bus.specs.Rows.{bus_of, bus_row}
+use Rattle.observer_bus.specs.Rows.{Meanings, bus_row}
 use Rattle.observer_bus.specs.Seats.{Holds}
 use Rattle.told_steps.specs.ToldRuns.{seen}
 use Rattle.arrangement.specs.declared.arrangement.Arrangement.{Arrangement}
@@ -28,14 +24,9 @@ pub record Arranged : Type 0 where
   pub limits : Limits
   pub bus : BusRow
 
-module _ {X : Type 0} {F : X → Type 0} where
-  -- an arrangement as contracts see it that have no box at hand: what its observers mean is told of the two parts of a box
-  abbrev pub arranged_of : ((x : X) × F x → Bool) → ((x : X) × F x → Option CurvedView) → ((x : X) × F x → Option ℕ) → ((x : X) × F x → Option (List Note)) → Arrangement X F → Arranged
-  arranged_of tells held left heard a = record { graph = a.layer.graph; past = a.layer.past; limits = a.limits; bus = bus_of tells held left heard a.bus }
-
-  -- an arrangement as contracts see it that have a box at hand
-  abbrev pub arranged : (DynBox X Global F → Bool) → (DynBox X Global F → Option CurvedView) → (DynBox X Global F → Option ℕ) → (DynBox X Global F → Option (List Note)) → Arrangement X F → Arranged
-  arranged tells held left heard a = record { graph = a.layer.graph; past = a.layer.past; limits = a.limits; bus = bus_row tells held left heard a.bus }
+-- an arrangement as contracts see it: what its observers mean is handed in by one word, `Observer-dyn`
+abbrev pub arranged : {X : Type 0} {F : X → Type 0} → Meanings X F → Arrangement X F → Arranged
+arranged m a = record { graph = a.layer.graph; past = a.layer.past; limits = a.limits; bus = bus_row m a.bus }
 
 -- each seated observer that tells a view holds that of the records (this project)
 abbrev pub IsWatched : Arranged → Type 0

@@ -14,8 +14,8 @@ ghost use Rattle.record_layers.specs.RecordLayers.{layer_of, IsLayer};
 ghost use Rattle.record_layers.specs.LayerNames.{IsNamedBy};
 ghost use Rattle.arrangement.specs.declared.limits.TheConstants.{MAX_CURVES, MAX_PIECES, MAX_PINS};
 ghost use Rattle.observer_bus.specs.RoundLaws.{HaveNamesApart};
-ghost use Rattle.observer_bus.specs.Rows.{bus_of};
-ghost use Rattle.arrangement.specs.Arranged.{arranged_of, layer_in, AreLimits, IsWatched, refusal_in};
+ghost use Rattle.observer_bus.specs.Rows.{bus_row};
+ghost use Rattle.arrangement.specs.Arranged.{arranged, layer_in, AreLimits, IsWatched, refusal_in};
 ghost use Rattle.arrangement.specs.Edited.{IsEdited, IsAsBefore};
 
 use crate::layer_records::LayerRecords;
@@ -69,14 +69,14 @@ impl Arrangement {
     /// None comes; a caller passes this on like other wants of memory.
     pub fn new(alloc: Global, limits: Limits, bus: Bus) -> Result<Arrangement, NoMemory>
         requires limits { AreLimits limits }
-        requires alone { (bus_of tells held left heard bus).seats ≡ [] }
+        requires alone { (bus_row Observer-dyn bus).seats ≡ [] }
         ensures succeeds { IsOk result }
         ensures curves { MAX_CURVES ≡ 2000 }
         ensures pieces { MAX_PIECES ≡ 10000 }
         ensures pins { MAX_PINS ≡ 10000 }
-        ensures empty { IfOk result (λ a. layer_in (arranged_of tells held left heard a) ≡ empty_layer limits.first) }
-        ensures limits { IfOk result (λ a. (arranged_of tells held left heard a).limits ≡ limits) }
-        ensures bus { IfOk result (λ a. (arranged_of tells held left heard a).bus ≡ bus_of tells held left heard bus) }
+        ensures empty { IfOk result (λ a. layer_in (arranged Observer-dyn a) ≡ empty_layer limits.first) }
+        ensures limits { IfOk result (λ a. (arranged Observer-dyn a).limits ≡ limits) }
+        ensures bus { IfOk result (λ a. (arranged Observer-dyn a).bus ≡ bus_row Observer-dyn bus) }
     {
         Ok(Arrangement {
             alloc,
@@ -93,13 +93,13 @@ impl Arrangement {
     ///
     /// One more curve or one more piece would pass its limit, the last number was drawn, or there was no memory.
     pub fn insert(&mut self, segment: Segment) -> Result<CurveId, InsertError>
-        requires watched { IsWatched (arranged_of tells held left heard self.old) }
-        ensures number { IfOk result (λ c. c.0 ≡ (arranged_of tells held left heard self.old).past.next) }
-        ensures edit { OnOk result (IsEdited (arranged_of tells held left heard self.old) (arranged_of tells held left heard self.new) (Insert (arranged_of tells held left heard self.old).past.next segment)) }
-        ensures refused { IsAnswerFor insert_said (refusal_in (arranged_of tells held left heard self.old) (Insert (arranged_of tells held left heard self.old).past.next segment)) result }
-        ensures as_before { OnErr result (IsAsBefore (arranged_of tells held left heard self.old) (arranged_of tells held left heard self.new)) }
-        ensures limits { (arranged_of tells held left heard self.new).limits ≡ (arranged_of tells held left heard self.old).limits }
-        ensures watched { IsWatched (arranged_of tells held left heard self.new) }
+        requires watched { IsWatched (arranged Observer-dyn self.old) }
+        ensures number { IfOk result (λ c. c.0 ≡ (arranged Observer-dyn self.old).past.next) }
+        ensures edit { OnOk result (IsEdited (arranged Observer-dyn self.old) (arranged Observer-dyn self.new) (Insert (arranged Observer-dyn self.old).past.next segment)) }
+        ensures refused { IsAnswerFor insert_said (refusal_in (arranged Observer-dyn self.old) (Insert (arranged Observer-dyn self.old).past.next segment)) result }
+        ensures as_before { OnErr result (IsAsBefore (arranged Observer-dyn self.old) (arranged Observer-dyn self.new)) }
+        ensures limits { (arranged Observer-dyn self.new).limits ≡ (arranged Observer-dyn self.old).limits }
+        ensures watched { IsWatched (arranged Observer-dyn self.new) }
     {
         let start = locate(&self.layer.records, &segment.lower());
         insert(
@@ -121,12 +121,12 @@ impl Arrangement {
     ///
     /// No curve has the number, or there was no memory for the list of its edges.
     pub fn remove_curve(&mut self, curve: CurveId) -> Result<(), DropError>
-        requires watched { IsWatched (arranged_of tells held left heard self.old) }
-        ensures edit { OnOk result (IsEdited (arranged_of tells held left heard self.old) (arranged_of tells held left heard self.new) (Drop curve.0)) }
-        ensures refused { IsAnswerFor drop_said (refusal_in (arranged_of tells held left heard self.old) (Drop curve.0)) result }
-        ensures as_before { OnErr result (IsAsBefore (arranged_of tells held left heard self.old) (arranged_of tells held left heard self.new)) }
-        ensures limits { (arranged_of tells held left heard self.new).limits ≡ (arranged_of tells held left heard self.old).limits }
-        ensures watched { IsWatched (arranged_of tells held left heard self.new) }
+        requires watched { IsWatched (arranged Observer-dyn self.old) }
+        ensures edit { OnOk result (IsEdited (arranged Observer-dyn self.old) (arranged Observer-dyn self.new) (Drop curve.0)) }
+        ensures refused { IsAnswerFor drop_said (refusal_in (arranged Observer-dyn self.old) (Drop curve.0)) result }
+        ensures as_before { OnErr result (IsAsBefore (arranged Observer-dyn self.old) (arranged Observer-dyn self.new)) }
+        ensures limits { (arranged Observer-dyn self.new).limits ≡ (arranged Observer-dyn self.old).limits }
+        ensures watched { IsWatched (arranged Observer-dyn self.new) }
     {
         remove_curve(
             self.alloc,
@@ -144,12 +144,12 @@ impl Arrangement {
     ///
     /// No edge joins the points, the pieces that are left would pass their limit, or there was no memory for them.
     pub fn remove_edge(&mut self, p: &Point, q: &Point) -> Result<(), CutError>
-        requires watched { IsWatched (arranged_of tells held left heard self.old) }
-        ensures edit { OnOk result (IsEdited (arranged_of tells held left heard self.old) (arranged_of tells held left heard self.new) (cut_between p.now q.now)) }
-        ensures refused { IsAnswerFor cut_said (refusal_in (arranged_of tells held left heard self.old) (cut_between p.now q.now)) result }
-        ensures as_before { OnErr result (IsAsBefore (arranged_of tells held left heard self.old) (arranged_of tells held left heard self.new)) }
-        ensures limits { (arranged_of tells held left heard self.new).limits ≡ (arranged_of tells held left heard self.old).limits }
-        ensures watched { IsWatched (arranged_of tells held left heard self.new) }
+        requires watched { IsWatched (arranged Observer-dyn self.old) }
+        ensures edit { OnOk result (IsEdited (arranged Observer-dyn self.old) (arranged Observer-dyn self.new) (cut_between p.now q.now)) }
+        ensures refused { IsAnswerFor cut_said (refusal_in (arranged Observer-dyn self.old) (cut_between p.now q.now)) result }
+        ensures as_before { OnErr result (IsAsBefore (arranged Observer-dyn self.old) (arranged Observer-dyn self.new)) }
+        ensures limits { (arranged Observer-dyn self.new).limits ≡ (arranged Observer-dyn self.old).limits }
+        ensures watched { IsWatched (arranged Observer-dyn self.new) }
     {
         remove_edge(
             self.alloc,
@@ -168,12 +168,12 @@ impl Arrangement {
     ///
     /// The point is pinned, one more pin would pass the limit, or there was no memory.
     pub fn pin(&mut self, p: &Point) -> Result<(), PinError>
-        requires watched { IsWatched (arranged_of tells held left heard self.old) }
-        ensures edit { OnOk result (IsEdited (arranged_of tells held left heard self.old) (arranged_of tells held left heard self.new) (Pin p.now)) }
-        ensures refused { IsAnswerFor pin_said (refusal_in (arranged_of tells held left heard self.old) (Pin p.now)) result }
-        ensures as_before { OnErr result (IsAsBefore (arranged_of tells held left heard self.old) (arranged_of tells held left heard self.new)) }
-        ensures limits { (arranged_of tells held left heard self.new).limits ≡ (arranged_of tells held left heard self.old).limits }
-        ensures watched { IsWatched (arranged_of tells held left heard self.new) }
+        requires watched { IsWatched (arranged Observer-dyn self.old) }
+        ensures edit { OnOk result (IsEdited (arranged Observer-dyn self.old) (arranged Observer-dyn self.new) (Pin p.now)) }
+        ensures refused { IsAnswerFor pin_said (refusal_in (arranged Observer-dyn self.old) (Pin p.now)) result }
+        ensures as_before { OnErr result (IsAsBefore (arranged Observer-dyn self.old) (arranged Observer-dyn self.new)) }
+        ensures limits { (arranged Observer-dyn self.new).limits ≡ (arranged Observer-dyn self.old).limits }
+        ensures watched { IsWatched (arranged Observer-dyn self.new) }
     {
         let at = locate(&self.layer.records, p);
         pin(
@@ -193,12 +193,12 @@ impl Arrangement {
     ///
     /// The point isn't pinned, and nothing is changed.
     pub fn unpin(&mut self, p: &Point) -> Result<(), NotPinned>
-        requires watched { IsWatched (arranged_of tells held left heard self.old) }
-        ensures edit { OnOk result (IsEdited (arranged_of tells held left heard self.old) (arranged_of tells held left heard self.new) (Unpin p.now)) }
-        ensures refused { IsAnswerFor unpin_said (refusal_in (arranged_of tells held left heard self.old) (Unpin p.now)) result }
-        ensures as_before { OnErr result (IsAsBefore (arranged_of tells held left heard self.old) (arranged_of tells held left heard self.new)) }
-        ensures limits { (arranged_of tells held left heard self.new).limits ≡ (arranged_of tells held left heard self.old).limits }
-        ensures watched { IsWatched (arranged_of tells held left heard self.new) }
+        requires watched { IsWatched (arranged Observer-dyn self.old) }
+        ensures edit { OnOk result (IsEdited (arranged Observer-dyn self.old) (arranged Observer-dyn self.new) (Unpin p.now)) }
+        ensures refused { IsAnswerFor unpin_said (refusal_in (arranged Observer-dyn self.old) (Unpin p.now)) result }
+        ensures as_before { OnErr result (IsAsBefore (arranged Observer-dyn self.old) (arranged Observer-dyn self.new)) }
+        ensures limits { (arranged Observer-dyn self.new).limits ≡ (arranged Observer-dyn self.old).limits }
+        ensures watched { IsWatched (arranged Observer-dyn self.new) }
     {
         unpin(
             self.alloc,
@@ -216,12 +216,12 @@ impl Arrangement {
     ///
     /// No edge joins the points, the point isn't strictly inside it, one more pin would pass the limit, or there was no memory.
     pub fn split_edge(&mut self, p: &Point, q: &Point, r: &Point) -> Result<(), SplitError>
-        requires watched { IsWatched (arranged_of tells held left heard self.old) }
-        ensures edit { OnOk result (IsEdited (arranged_of tells held left heard self.old) (arranged_of tells held left heard self.new) (split_at p.now q.now r.now)) }
-        ensures refused { IsAnswerFor split_said (refusal_in (arranged_of tells held left heard self.old) (split_at p.now q.now r.now)) result }
-        ensures as_before { OnErr result (IsAsBefore (arranged_of tells held left heard self.old) (arranged_of tells held left heard self.new)) }
-        ensures limits { (arranged_of tells held left heard self.new).limits ≡ (arranged_of tells held left heard self.old).limits }
-        ensures watched { IsWatched (arranged_of tells held left heard self.new) }
+        requires watched { IsWatched (arranged Observer-dyn self.old) }
+        ensures edit { OnOk result (IsEdited (arranged Observer-dyn self.old) (arranged Observer-dyn self.new) (split_at p.now q.now r.now)) }
+        ensures refused { IsAnswerFor split_said (refusal_in (arranged Observer-dyn self.old) (split_at p.now q.now r.now)) result }
+        ensures as_before { OnErr result (IsAsBefore (arranged Observer-dyn self.old) (arranged Observer-dyn self.new)) }
+        ensures limits { (arranged Observer-dyn self.new).limits ≡ (arranged Observer-dyn self.old).limits }
+        ensures watched { IsWatched (arranged Observer-dyn self.new) }
     {
         split_edge(
             self.alloc,
@@ -242,12 +242,12 @@ impl Arrangement {
     ///
     /// No vertex is at the point; or it isn't pinned, would be a vertex without its pin, or has no edge. Nothing is changed.
     pub fn merge_edge(&mut self, r: &Point) -> Result<(), MergeError>
-        requires watched { IsWatched (arranged_of tells held left heard self.old) }
-        ensures edit { OnOk result (IsEdited (arranged_of tells held left heard self.old) (arranged_of tells held left heard self.new) (Merge r.now)) }
-        ensures refused { IsAnswerFor merge_said (refusal_in (arranged_of tells held left heard self.old) (Merge r.now)) result }
-        ensures as_before { OnErr result (IsAsBefore (arranged_of tells held left heard self.old) (arranged_of tells held left heard self.new)) }
-        ensures limits { (arranged_of tells held left heard self.new).limits ≡ (arranged_of tells held left heard self.old).limits }
-        ensures watched { IsWatched (arranged_of tells held left heard self.new) }
+        requires watched { IsWatched (arranged Observer-dyn self.old) }
+        ensures edit { OnOk result (IsEdited (arranged Observer-dyn self.old) (arranged Observer-dyn self.new) (Merge r.now)) }
+        ensures refused { IsAnswerFor merge_said (refusal_in (arranged Observer-dyn self.old) (Merge r.now)) result }
+        ensures as_before { OnErr result (IsAsBefore (arranged Observer-dyn self.old) (arranged Observer-dyn self.new)) }
+        ensures limits { (arranged Observer-dyn self.new).limits ≡ (arranged Observer-dyn self.old).limits }
+        ensures watched { IsWatched (arranged Observer-dyn self.new) }
     {
         merge_edge(
             self.alloc,
@@ -261,10 +261,10 @@ impl Arrangement {
     /// No segment and no pin is left; the next curve gets the number that it would have got (CGAL manual, `clear`). It takes
     /// no memory.
     pub fn clear(&mut self)
-        requires watched { IsWatched (arranged_of tells held left heard self.old) }
-        ensures edit { IsEdited (arranged_of tells held left heard self.old) (arranged_of tells held left heard self.new) ClearAll }
-        ensures limits { (arranged_of tells held left heard self.new).limits ≡ (arranged_of tells held left heard self.old).limits }
-        ensures watched { IsWatched (arranged_of tells held left heard self.new) }
+        requires watched { IsWatched (arranged Observer-dyn self.old) }
+        ensures edit { IsEdited (arranged Observer-dyn self.old) (arranged Observer-dyn self.new) ClearAll }
+        ensures limits { (arranged Observer-dyn self.new).limits ≡ (arranged Observer-dyn self.old).limits }
+        ensures watched { IsWatched (arranged Observer-dyn self.new) }
     {
         clear(
             self.alloc,
@@ -278,10 +278,10 @@ impl Arrangement {
     /// history they stand for the layer; their names are those of the vertices, edges and pins of the present; and no two observers
     /// have one name.
     pub fn laws(&self)
-        ensures sound { IsGraphSound (arranged_of tells held left heard self.now).graph }
-        ensures layer { IsLayer (arranged_of tells held left heard self.now).graph (arranged_of tells held left heard self.now).past }
-        ensures apart { HaveNamesApart (arranged_of tells held left heard self.now).bus.seats }
-        ensures named { IsNamedBy (arranged_of tells held left heard self.now).graph (curves_on (arranged_of tells held left heard self.now).past) (graph (layer_in (arranged_of tells held left heard self.now)).present) }
+        ensures sound { IsGraphSound (arranged Observer-dyn self.now).graph }
+        ensures layer { IsLayer (arranged Observer-dyn self.now).graph (arranged Observer-dyn self.now).past }
+        ensures apart { HaveNamesApart (arranged Observer-dyn self.now).bus.seats }
+        ensures named { IsNamedBy (arranged Observer-dyn self.now).graph (curves_on (arranged Observer-dyn self.now).past) (graph (layer_in (arranged Observer-dyn self.now)).present) }
     {
         // Any use of a field tells what is kept.
         let _records = &self.layer.records;
@@ -290,7 +290,7 @@ impl Arrangement {
 
     /// The records of vertices and darts, to be read by name.
     pub fn records(&self) -> &Records
-        ensures { result.now.graph ≡ (arranged_of tells held left heard self.now).graph }
+        ensures { result.now.graph ≡ (arranged Observer-dyn self.now).graph }
     {
         &self.layer.records
     }

@@ -3,7 +3,7 @@ ghost use Rattle.curve_history.specs.Past.{curves_on};
 ghost use Rattle.observer_bus.specs.Calls.{attach_refusal, has_name, has_seat, seat_of, seats_left, with_seats, IsAttachAnswer, IsAttached};
 ghost use Rattle.observer_bus.specs.Rows.{newcomer};
 ghost use Rattle.told_steps.specs.ToldRuns.{seen};
-ghost use Rattle.arrangement.specs.Arranged.{arranged, arranged_of, IsWatched};
+ghost use Rattle.arrangement.specs.Arranged.{arranged, IsWatched};
 ghost use Rattle.arrangement.specs.Edited.{IsSameLayer};
 ghost use Rattle.arrangement.specs.Questions.{IsReportOf};
 
@@ -28,14 +28,14 @@ impl Arrangement {
         when: Option<u32>,
     ) -> Result<(), (Box<dyn Observer>, AttachError)>
         requires when { when ≢ Some 0 }
-        ensures refused { IsAttachAnswer (attach_refusal name (arranged tells held left heard self.old).bus.seats) result }
+        ensures refused { IsAttachAnswer (attach_refusal name (arranged Observer-dyn self.old).bus.seats) result }
         ensures same { IfErr result (λ e. e.1 ≢ AttachError.NoMemory → e.0 ≡ observer) }
         ensures back { IfErr result (λ e. (tells e.0 ≡ tells observer) × (left e.0 ≡ left observer)) }
-        ensures err { OnErr result ((arranged tells held left heard self.new).bus ≡ (arranged tells held left heard self.old).bus) }
-        ensures attached { OnOk result (IsAttached (seen (arranged tells held left heard self.old).graph (curves_on (arranged tells held left heard self.old).past))
-            (newcomer tells held left heard name when observer) (arranged tells held left heard self.old).bus (arranged tells held left heard self.new).bus) }
-        ensures layer { IsSameLayer (arranged tells held left heard self.old) (arranged tells held left heard self.new) }
-        ensures watched { IsWatched (arranged tells held left heard self.old) → IsWatched (arranged tells held left heard self.new) }
+        ensures err { OnErr result ((arranged Observer-dyn self.new).bus ≡ (arranged Observer-dyn self.old).bus) }
+        ensures attached { OnOk result (IsAttached (seen (arranged Observer-dyn self.old).graph (curves_on (arranged Observer-dyn self.old).past))
+            (newcomer Observer-dyn name when observer) (arranged Observer-dyn self.old).bus (arranged Observer-dyn self.new).bus) }
+        ensures layer { IsSameLayer (arranged Observer-dyn self.old) (arranged Observer-dyn self.new) }
+        ensures watched { IsWatched (arranged Observer-dyn self.old) → IsWatched (arranged Observer-dyn self.new) }
     {
         let drawn = Drawn::new(&self.layer.records, &self.layer.history);
         self.bus.attach(self.alloc, &drawn, name, observer, when)
@@ -43,7 +43,7 @@ impl Arrangement {
 
     /// Whether a seated observer, or one whose join is planned, has the name.
     pub fn is_attached(&self, name: u32) -> bool
-        ensures { result ≡ has_name name (arranged_of tells held left heard self.now).bus.seats }
+        ensures { result ≡ has_name name (arranged Observer-dyn self.now).bus.seats }
     {
         self.bus.is_attached(name)
     }
@@ -56,19 +56,19 @@ impl Arrangement {
     /// No seated observer has the name: one whose join is planned isn't seated.
     pub fn leave(&mut self, name: u32, when: Option<u32>) -> Result<(), NoSeat>
         requires when { when ≢ Some 0 }
-        ensures seated { is_ok result ≡ has_seat name (arranged_of tells held left heard self.old).bus.seats }
-        ensures err { OnErr result ((arranged_of tells held left heard self.new).bus ≡ (arranged_of tells held left heard self.old).bus) }
-        ensures left { OnOk result ((arranged_of tells held left heard self.new).bus ≡
-            with_seats (seats_left name when (arranged_of tells held left heard self.old).bus.seats) (arranged_of tells held left heard self.old).bus) }
-        ensures layer { IsSameLayer (arranged_of tells held left heard self.old) (arranged_of tells held left heard self.new) }
-        ensures watched { IsWatched (arranged_of tells held left heard self.old) → IsWatched (arranged_of tells held left heard self.new) }
+        ensures seated { is_ok result ≡ has_seat name (arranged Observer-dyn self.old).bus.seats }
+        ensures err { OnErr result ((arranged Observer-dyn self.new).bus ≡ (arranged Observer-dyn self.old).bus) }
+        ensures left { OnOk result ((arranged Observer-dyn self.new).bus ≡
+            with_seats (seats_left name when (arranged Observer-dyn self.old).bus.seats) (arranged Observer-dyn self.old).bus) }
+        ensures layer { IsSameLayer (arranged Observer-dyn self.old) (arranged Observer-dyn self.new) }
+        ensures watched { IsWatched (arranged Observer-dyn self.old) → IsWatched (arranged Observer-dyn self.new) }
     {
         self.bus.leave(name, when)
     }
 
     /// The names of the observers that joined, left and were lost in the last edit.
     pub fn went(&self) -> &Went
-        ensures { result.now ≡ (arranged_of tells held left heard self.now).bus.went }
+        ensures { result.now ≡ (arranged Observer-dyn self.now).bus.went }
     {
         self.bus.went()
     }
@@ -79,9 +79,9 @@ impl Arrangement {
     ///
     /// `NoSeat` where no seated observer has the name; `NoMemory` where the observer found none.
     pub fn report(&self, name: u32) -> Result<Vec<u8>, ReportError>
-        requires watched { IsWatched (arranged_of tells held left heard self.now) }
-        ensures seat { (result ≡ Err ReportError.NoSeat) ↔ (has_seat name (arranged_of tells held left heard self.now).bus.seats ≡ false) }
-        ensures report { IfOk result (λ b. IsReportOf (arranged_of tells held left heard self.now) (seat_of name (arranged_of tells held left heard self.now).bus.seats) b.items) }
+        requires watched { IsWatched (arranged Observer-dyn self.now) }
+        ensures seat { (result ≡ Err ReportError.NoSeat) ↔ (has_seat name (arranged Observer-dyn self.now).bus.seats ≡ false) }
+        ensures report { IfOk result (λ b. IsReportOf (arranged Observer-dyn self.now) (seat_of name (arranged Observer-dyn self.now).bus.seats) b.items) }
     {
         // What observers hold is sound, since the records are.
         self.laws();

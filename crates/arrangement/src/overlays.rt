@@ -2,7 +2,7 @@ ghost use Rattle.std.specs.Prelude.{◌≡◌, IfOk};
 ghost use Rattle.slab_laws.specs.OverlayText.{presents_text};
 ghost use Rattle.slab_laws.specs.FacesSound.{IsSound};
 ghost use Rattle.plain_slabs.specs.Listed.{subdivision_in, view_of, faces_of};
-ghost use Rattle.arrangement.specs.Arranged.{arranged_of, layer_in};
+ghost use Rattle.arrangement.specs.Arranged.{arranged, layer_in};
 ghost use Rattle.arrangement.specs.Overlays.{text_of, overlay_of};
 
 use crate::arrangement::Arrangement;
@@ -19,10 +19,10 @@ use std::alloc::Global;
 /// There was no memory for the overlay or for a table on the way.
 pub fn overlay(alloc: Global, red: &Arrangement, blue: &Arrangement) -> Result<Overlay, NoMemory>
     ensures subdivision { IfOk result (λ o. subdivision_in o.drawing
-        ≡ overlay_of (arranged_of tells held left heard red.now) (arranged_of tells held left heard blue.now)) }
+        ≡ overlay_of (arranged Observer-dyn red.now) (arranged Observer-dyn blue.now)) }
     ensures stands { IfOk result (λ o. IsSound (view_of o.drawing) (faces_of o.drawing)) }
     ensures text { IfOk result (λ o. text_of o
-        ≡ presents_text (layer_in (arranged_of tells held left heard red.now)).present (layer_in (arranged_of tells held left heard blue.now)).present) }
+        ≡ presents_text (layer_in (arranged Observer-dyn red.now)).present (layer_in (arranged Observer-dyn blue.now)).present) }
 {
     let of_red = present_of(alloc, &red.layer)?;
     let of_blue = present_of(alloc, &blue.layer)?;

@@ -9,7 +9,7 @@ ghost use Rattle.slab_laws.specs.Text.{present_text};
 ghost use Rattle.dcel_records.specs.Spots.{IsInFace};
 ghost use Rattle.plain_slabs.specs.Listed.{subdivision_in, view_of, faces_of, AreLinesOf};
 ghost use Rattle.slab_laws.specs.FacesSound.{IsSound};
-ghost use Rattle.arrangement.specs.Arranged.{arranged_of, layer_in, subdivision_by};
+ghost use Rattle.arrangement.specs.Arranged.{arranged, layer_in, subdivision_by};
 ghost use Rattle.arrangement.specs.Questions.{curves_between, IsNoEdge, AreEdgesOf};
 
 use crate::arrangement::Arrangement;
@@ -63,8 +63,8 @@ impl From<NoMemory> for EdgeError {
 impl Arrangement {
     // The subdivision of the plane by the present segments and points, built afresh.
     fn subdivide(&self) -> Result<Plain, NoMemory>
-        ensures graph { IfOk result (λ s. s.graph ≡ graph (layer_in (arranged_of tells held left heard self.now)).present) }
-        ensures subdivision { IfOk result (λ s. subdivision_in s ≡ subdivision_by (arranged_of tells held left heard self.now)) }
+        ensures graph { IfOk result (λ s. s.graph ≡ graph (layer_in (arranged Observer-dyn self.now)).present) }
+        ensures subdivision { IfOk result (λ s. subdivision_in s ≡ subdivision_by (arranged Observer-dyn self.now)) }
         ensures plane { IfOk result (λ s. IsPlane s.graph) }
         ensures lines { IfOk result AreLinesOf }
         ensures stands { IfOk result (λ s. IsSound (view_of s) (faces_of s)) }
@@ -84,8 +84,8 @@ impl Arrangement {
     // The premise that always holds: other crates' checks take a call without any that has a box under `&mut` for one that makes boxes.
     pub fn locate(&mut self, strategy: Strategy, p: &Point) -> Result<Cell, NoMemory>
         requires always { ⊤ }
-        ensures cell { IfOk result (λ c. c ≡ holds (subdivision_by (arranged_of tells held left heard self.old)) p.now) }
-        ensures no_memory { OnErr result (IsInFace (arranged_of tells held left heard self.old).graph p.now) }
+        ensures cell { IfOk result (λ c. c ≡ holds (subdivision_by (arranged Observer-dyn self.old)) p.now) }
+        ensures no_memory { OnErr result (IsInFace (arranged Observer-dyn self.old).graph p.now) }
         ensures same { self.new ≡ self.old }
     {
         // A call on the point tells that its numbers are a point's.
@@ -109,12 +109,12 @@ impl Arrangement {
     ///
     /// There was no memory for the subdivision.
     pub fn counts(&self) -> Result<Counts, NoMemory>
-        ensures vertices { IfOk result (λ c. c.vertices ≡ length (subdivision_by (arranged_of tells held left heard self.now)).graph.vertices) }
-        ensures edges { IfOk result (λ c. c.edges ≡ length (subdivision_by (arranged_of tells held left heard self.now)).graph.edges) }
-        ensures faces { IfOk result (λ c. c.faces ≡ length (subdivision_by (arranged_of tells held left heard self.now)).faces) }
-        ensures inner { IfOk result (λ c. c.inner ≡ count_by (λ k. not k.outer) (subdivision_by (arranged_of tells held left heard self.now)).cycles) }
-        ensures isolated { IfOk result (λ c. c.isolated ≡ length (subdivision_by (arranged_of tells held left heard self.now)).bare) }
-        ensures curves { IfOk result (λ c. c.curves ≡ length (layer_in (arranged_of tells held left heard self.now)).names) }
+        ensures vertices { IfOk result (λ c. c.vertices ≡ length (subdivision_by (arranged Observer-dyn self.now)).graph.vertices) }
+        ensures edges { IfOk result (λ c. c.edges ≡ length (subdivision_by (arranged Observer-dyn self.now)).graph.edges) }
+        ensures faces { IfOk result (λ c. c.faces ≡ length (subdivision_by (arranged Observer-dyn self.now)).faces) }
+        ensures inner { IfOk result (λ c. c.inner ≡ count_by (λ k. not k.outer) (subdivision_by (arranged Observer-dyn self.now)).cycles) }
+        ensures isolated { IfOk result (λ c. c.isolated ≡ length (subdivision_by (arranged Observer-dyn self.now)).bare) }
+        ensures curves { IfOk result (λ c. c.curves ≡ length (layer_in (arranged Observer-dyn self.now)).names) }
     {
         let subdivision = self.subdivide()?;
         let cells = count(&subdivision);
@@ -135,7 +135,7 @@ impl Arrangement {
     ///
     /// There was no memory for the subdivision or for the text.
     pub fn text(&self) -> Result<Vec<u8>, NoMemory>
-        ensures { IfOk result (λ bytes. bytes.items ≡ present_text (layer_in (arranged_of tells held left heard self.now)).present) }
+        ensures { IfOk result (λ bytes. bytes.items ≡ present_text (layer_in (arranged Observer-dyn self.now)).present) }
     {
         let subdivision = self.subdivide()?;
         let text = text(self.alloc, &subdivision);
@@ -150,8 +150,8 @@ impl Arrangement {
     ///
     /// No edge has these two ends, whatever memory there is; or there was no memory for the list.
     pub fn curves_of(&self, p: &Point, q: &Point) -> Result<Vec<CurveId>, EdgeError>
-        ensures curves { IfOk result (λ v. map (λ c. c.0) v.items ≡ curves_between (arranged_of tells held left heard self.now) p.now q.now) }
-        ensures no_edge { IsErrOf result EdgeError.NoEdge ↔ IsNoEdge (arranged_of tells held left heard self.now) p.now q.now }
+        ensures curves { IfOk result (λ v. map (λ c. c.0) v.items ≡ curves_between (arranged Observer-dyn self.now) p.now q.now) }
+        ensures no_edge { IsErrOf result EdgeError.NoEdge ↔ IsNoEdge (arranged Observer-dyn self.now) p.now q.now }
     {
         // Whether there is such an edge takes no memory to tell.
         let Some(edge) = edge_dart(&self.layer.records, p, q) else {
@@ -167,9 +167,9 @@ impl Arrangement {
     ///
     /// No curve has this number, whatever memory there is; or there was no memory for the list.
     pub fn edges_of(&self, curve: CurveId) -> Result<Vec<(Point, Point)>, HistoryError>
-        ensures edges { IfOk result (λ v. AreEdgesOf (arranged_of tells held left heard self.now) curve.0 v.items) }
+        ensures edges { IfOk result (λ v. AreEdgesOf (arranged Observer-dyn self.now) curve.0 v.items) }
         ensures ascend { IfOk result (λ v. IsAscending edge_cmp (map (λ p. record { low = p.0; high = p.1 }) v.items)) }
-        ensures unknown { IsErrOf result HistoryError.Unknown ↔ ¬ Member curve.0 (layer_in (arranged_of tells held left heard self.now)).names }
+        ensures unknown { IsErrOf result HistoryError.Unknown ↔ ¬ Member curve.0 (layer_in (arranged Observer-dyn self.now)).names }
     {
         let darts = self.layer.history.edges_of(self.alloc, curve)?;
         match ends_in_order(self.alloc, &self.layer.records, &darts) {

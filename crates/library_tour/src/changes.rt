@@ -1,4 +1,4 @@
-ghost use Rattle.arrangement.specs.Arranged.{arranged, arranged_of, IsWatched};
+ghost use Rattle.arrangement.specs.Arranged.{arranged, IsWatched};
 
 use crate::maps::{draw, new_map};
 use crate::narrator::Narrator;
@@ -10,8 +10,8 @@ const NARRATOR: u32 = 1;
 
 // Whether the observer is seated.
 fn seat(map: &mut Arrangement, observer: Box<dyn Observer>) -> bool
-    requires watched { IsWatched (arranged tells held left heard map.old) }
-    ensures watched { IsWatched (arranged tells held left heard map.new) }
+    requires watched { IsWatched (arranged Observer-dyn map.old) }
+    ensures watched { IsWatched (arranged Observer-dyn map.new) }
 {
     match map.attach(NARRATOR, observer, None) {
         Ok(()) => true,
@@ -20,8 +20,8 @@ fn seat(map: &mut Arrangement, observer: Box<dyn Observer>) -> bool
 }
 
 fn dig(map: &mut Arrangement, x: i128, y: i128, w: i128)
-    requires watched { IsWatched (arranged_of tells held left heard map.old) }
-    ensures watched { IsWatched (arranged_of tells held left heard map.new) }
+    requires watched { IsWatched (arranged Observer-dyn map.old) }
+    ensures watched { IsWatched (arranged Observer-dyn map.new) }
 {
     match Point::new(x, y, w) {
         Ok(well) => {
@@ -33,8 +33,8 @@ fn dig(map: &mut Arrangement, x: i128, y: i128, w: i128)
 
 // Two roads that cross, a well at the crossing, and the second road is given up.
 fn edit(map: &mut Arrangement)
-    requires watched { IsWatched (arranged_of tells held left heard map.old) }
-    ensures watched { IsWatched (arranged_of tells held left heard map.new) }
+    requires watched { IsWatched (arranged Observer-dyn map.old) }
+    ensures watched { IsWatched (arranged Observer-dyn map.new) }
 {
     draw(map, 0, 0, 4, 0);
     draw(map, 1, -1, 2, 1);
@@ -44,7 +44,7 @@ fn edit(map: &mut Arrangement)
 
 // Edits the map while the observer is seated, and tells what that has to report.
 fn narrated(map: &mut Arrangement, observer: Box<dyn Observer>) -> Result<Vec<u8>, NoMemory>
-    requires watched { IsWatched (arranged tells held left heard map.old) }
+    requires watched { IsWatched (arranged Observer-dyn map.old) }
 {
     if !seat(map, observer) {
         return Err(NoMemory);

@@ -1,4 +1,4 @@
-ghost use Rattle.arrangement.specs.Arranged.{arranged_of, IsWatched};
+ghost use Rattle.arrangement.specs.Arranged.{arranged, IsWatched};
 
 use crate::maps::{draw, new_map};
 use crate::walk::walk;
@@ -8,8 +8,8 @@ use std::alloc::Global;
 
 // Two parcels, side by side, and a road across both.
 fn draw_map(map: &mut Arrangement)
-    requires watched { IsWatched (arranged_of tells held left heard map.old) }
-    ensures watched { IsWatched (arranged_of tells held left heard map.new) }
+    requires watched { IsWatched (arranged Observer-dyn map.old) }
+    ensures watched { IsWatched (arranged Observer-dyn map.new) }
 {
     draw(map, 0, 0, 6, 0);
     draw(map, 6, 0, 6, 4);

@@ -1,5 +1,5 @@
 ghost use Rattle.std.specs.Prelude.{IfOk};
-ghost use Rattle.arrangement.specs.Arranged.{arranged_of, IsWatched};
+ghost use Rattle.arrangement.specs.Arranged.{arranged, IsWatched};
 
 use arrangement::{Arrangement, Bus, Limits, NoMemory, SEATS, Segment};
 use std::alloc::Global;
@@ -7,7 +7,7 @@ use std::alloc::Global;
 /// A map of nothing, with room for observers. Each edit asks that its observers have followed it so far (`IsWatched`), and each call
 /// keeps that.
 pub fn new_map(alloc: Global) -> Result<Arrangement, NoMemory>
-    ensures watched { IfOk result (λ a. IsWatched (arranged_of tells held left heard a)) }
+    ensures watched { IfOk result (λ a. IsWatched (arranged Observer-dyn a)) }
 {
     let bus = Bus::new(alloc, Vec::with_capacity(alloc, SEATS)?)?;
     Arrangement::new(alloc, Limits::FULL, bus)
@@ -15,8 +15,8 @@ pub fn new_map(alloc: Global) -> Result<Arrangement, NoMemory>
 
 /// Draws a segment, if it is one.
 pub fn draw(map: &mut Arrangement, x1: i64, y1: i64, x2: i64, y2: i64)
-    requires watched { IsWatched (arranged_of tells held left heard map.old) }
-    ensures watched { IsWatched (arranged_of tells held left heard map.new) }
+    requires watched { IsWatched (arranged Observer-dyn map.old) }
+    ensures watched { IsWatched (arranged Observer-dyn map.new) }
 {
     match Segment::new(x1, y1, x2, y2) {
         Ok(segment) => {

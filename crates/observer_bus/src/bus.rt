@@ -42,8 +42,8 @@ impl Bus {
     pub fn new(alloc: Global, seats: Vec<Seat>) -> Result<Bus, NoMemory>
         requires none { seats.items ≡ [] }
         requires room { 8 ≤ vec_capacity seats }
-        ensures seats { IfOk result (λ b. (bus_row tells held left heard b).seats ≡ []) }
-        ensures begun { IfOk result (λ b. bus_row tells held left heard b ≡ begun (bus_row tells held left heard b)) }
+        ensures seats { IfOk result (λ b. (bus_row Observer-dyn b).seats ≡ []) }
+        ensures begun { IfOk result (λ b. bus_row Observer-dyn b ≡ begun (bus_row Observer-dyn b)) }
     {
         let went = Went::new(alloc)?;
         Ok(Bus {
@@ -55,7 +55,7 @@ impl Bus {
 
     /// What is true of all buses: no two seats have one name.
     pub fn laws(&self)
-        ensures apart { HaveNamesApart (bus_row tells held left heard self.now).seats }
+        ensures apart { HaveNamesApart (bus_row Observer-dyn self.now).seats }
     {}
 
     /// Takes an observer: without a round it is handed a snapshot at once and is seated; with one it joins at its turn in that round, the
@@ -76,12 +76,12 @@ impl Bus {
     ) -> Result<(), (Box<dyn Observer>, AttachError)>
         requires when { when ≢ Some 0 }
         requires sound { IsSoundView (view_by (R.graph records.now) (R.curve_list records.now)) }
-        ensures refused { IsAttachAnswer (attach_refusal name (bus_row tells held left heard self.old).seats) result }
+        ensures refused { IsAttachAnswer (attach_refusal name (bus_row Observer-dyn self.old).seats) result }
         ensures same { IfErr result (λ e. e.1 ≢ AttachError.NoMemory → e.0 ≡ observer) }
         ensures back { IfErr result (λ e. (tells e.0 ≡ tells observer) × (left e.0 ≡ left observer)) }
-        ensures err { OnErr result (bus_row tells held left heard self.new ≡ bus_row tells held left heard self.old) }
-        ensures attached { OnOk result (IsAttached (view_by (R.graph records.now) (R.curve_list records.now)) (newcomer tells held left heard name when observer)
-            (bus_row tells held left heard self.old) (bus_row tells held left heard self.new)) }
+        ensures err { OnErr result (bus_row Observer-dyn self.new ≡ bus_row Observer-dyn self.old) }
+        ensures attached { OnOk result (IsAttached (view_by (R.graph records.now) (R.curve_list records.now)) (newcomer Observer-dyn name when observer)
+            (bus_row Observer-dyn self.old) (bus_row Observer-dyn self.new)) }
     {
         if round::has_name(&self.seats, name) {
             return Err((observer, AttachError::Taken));
@@ -100,7 +100,7 @@ impl Bus {
 
     /// Whether a seated observer, or one whose join is planned, has the name.
     pub fn is_attached(&self, name: u32) -> bool
-        ensures { result ≡ has_name name (bus_row tells held left heard self.now).seats }
+        ensures { result ≡ has_name name (bus_row Observer-dyn self.now).seats }
     {
         round::has_name(&self.seats, name)
     }
@@ -113,10 +113,10 @@ impl Bus {
     /// No seated observer has the name: one whose join is planned isn't seated.
     pub fn leave(&mut self, name: u32, when: Option<u32>) -> Result<(), NoSeat>
         requires { when ≢ Some 0 }
-        ensures seated { is_ok result ≡ has_seat name (bus_row tells held left heard self.old).seats }
-        ensures err { OnErr result (bus_row tells held left heard self.new ≡ bus_row tells held left heard self.old) }
-        ensures left { OnOk result (bus_row tells held left heard self.new ≡
-            with_seats (seats_left name when (bus_row tells held left heard self.old).seats) (bus_row tells held left heard self.old)) }
+        ensures seated { is_ok result ≡ has_seat name (bus_row Observer-dyn self.old).seats }
+        ensures err { OnErr result (bus_row Observer-dyn self.new ≡ bus_row Observer-dyn self.old) }
+        ensures left { OnOk result (bus_row Observer-dyn self.new ≡
+            with_seats (seats_left name when (bus_row Observer-dyn self.old).seats) (bus_row Observer-dyn self.old)) }
     {
         let Some(at) = round::seat_at(&self.seats, name) else {
             return Err(NoSeat);
@@ -138,7 +138,7 @@ impl Bus {
     // The premise that always holds: other crates' checks take a call without any that has a box under `&mut` for one that makes boxes.
     pub fn begin(&mut self)
         requires always { ⊤ }
-        ensures begun { bus_row tells held left heard self.new ≡ begun (bus_row tells held left heard self.old) }
+        ensures begun { bus_row Observer-dyn self.new ≡ begun (bus_row Observer-dyn self.old) }
     {
         self.went.clear();
         self.settled = true;
@@ -150,22 +150,22 @@ impl Bus {
     ///
     /// It takes no memory where no join comes.
     pub fn say<R: Curved>(&mut self, alloc: Global, records: &R, note: &Note)
-        requires settled { (bus_row tells held left heard self.old).settled ≡ true }
+        requires settled { (bus_row Observer-dyn self.old).settled ≡ true }
         requires sound { IsSoundView (view_by (R.graph records.now) (R.curve_list records.now)) }
-        requires fits { All (MayHear note.now) (bus_row tells held left heard self.old).seats }
+        requires fits { All (MayHear note.now) (bus_row Observer-dyn self.old).seats }
         requires counted { IsRoundNote note.now }
-        ensures round { AreInRound note.now (view_by (R.graph records.now) (R.curve_list records.now)) (bus_row tells held left heard self.old)
-            (bus_row tells held left heard self.new) }
-        ensures holds { (v : CurvedView) → All (Holds v) (bus_row tells held left heard self.old).seats →
+        ensures round { AreInRound note.now (view_by (R.graph records.now) (R.curve_list records.now)) (bus_row Observer-dyn self.old)
+            (bus_row Observer-dyn self.new) }
+        ensures holds { (v : CurvedView) → All (Holds v) (bus_row Observer-dyn self.old).seats →
             Leads v note.now (view_by (R.graph records.now) (R.curve_list records.now)) →
-            All (Holds (view_by (R.graph records.now) (R.curve_list records.now))) (bus_row tells held left heard self.new).seats }
+            All (Holds (view_by (R.graph records.now) (R.curve_list records.now))) (bus_row Observer-dyn self.new).seats }
     {
         round::say(&mut self.seats, &mut self.went, alloc, records, note);
     }
 
     /// The names of the observers that joined, left and were lost since the last accepted edit began.
     pub fn went(&self) -> &Went
-        ensures { result.now ≡ (bus_row tells held left heard self.now).went }
+        ensures { result.now ≡ (bus_row Observer-dyn self.now).went }
     {
         &self.went
     }
@@ -176,9 +176,9 @@ impl Bus {
     ///
     /// `NoSeat` where no seated observer has the name; `NoMemory` where the observer found none.
     pub fn report(&self, name: u32) -> Result<Vec<u8>, ReportError>
-        requires { All IsHeldSound (bus_row tells held left heard self.now).seats }
-        ensures seat { (result ≡ Err ReportError.NoSeat) ↔ (has_seat name (bus_row tells held left heard self.now).seats ≡ false) }
-        ensures text { IfOk result (λ b. IsReport b.items (seat_of name (bus_row tells held left heard self.now).seats)) }
+        requires { All IsHeldSound (bus_row Observer-dyn self.now).seats }
+        ensures seat { (result ≡ Err ReportError.NoSeat) ↔ (has_seat name (bus_row Observer-dyn self.now).seats ≡ false) }
+        ensures text { IfOk result (λ b. IsReport b.items (seat_of name (bus_row Observer-dyn self.now).seats)) }
     {
         let Some(at) = round::seat_at(&self.seats, name) else {
             return Err(ReportError::NoSeat);

@@ -20,15 +20,15 @@ pub(crate) fn forward<R: Curved>(
     records: &R,
     note: &Note,
 )
-    requires fits { All (MayHear note.now) (rows tells held left heard seats.old.items) }
+    requires fits { All (MayHear note.now) (rows Observer-dyn seats.old.items) }
     requires sound { IsSoundView (view_by (R.graph records.now) (R.curve_list records.now)) }
     requires counted { IsRoundNote note.now }
     requires room { HaveRoom (map (λ s. s.join) seats.old.items) went.old }
     ensures capacity { vec_capacity seats.new ≡ vec_capacity seats.old }
     ensures shorter { length seats.new.items ≤ length seats.old.items }
     ensures room { HaveRoom (map (λ s. s.join) seats.new.items) went.new }
-    ensures round { IsRoundOf note.now (view_by (R.graph records.now) (R.curve_list records.now)) (rows tells held left heard seats.old.items) went.old
-        (rows tells held left heard seats.new.items) went.new }
+    ensures round { IsRoundOf note.now (view_by (R.graph records.now) (R.curve_list records.now)) (rows Observer-dyn seats.old.items) went.old
+        (rows Observer-dyn seats.new.items) went.new }
 {
     let mut i = 0;
     'turns: while i < seats.len() {
@@ -53,15 +53,15 @@ pub(crate) fn backward<R: Curved>(
     records: &R,
     note: &Note,
 )
-    requires fits { All (MayHear note.now) (rows tells held left heard seats.old.items) }
+    requires fits { All (MayHear note.now) (rows Observer-dyn seats.old.items) }
     requires sound { IsSoundView (view_by (R.graph records.now) (R.curve_list records.now)) }
     requires counted { IsRoundNote note.now }
     requires room { HaveRoom (map (λ s. s.join) seats.old.items) went.old }
     ensures capacity { vec_capacity seats.new ≡ vec_capacity seats.old }
     ensures shorter { length seats.new.items ≤ length seats.old.items }
     ensures room { HaveRoom (map (λ s. s.join) seats.new.items) went.new }
-    ensures round { IsRoundOf note.now (view_by (R.graph records.now) (R.curve_list records.now)) (rows tells held left heard seats.old.items) went.old
-        (rows tells held left heard seats.new.items) went.new }
+    ensures round { IsRoundOf note.now (view_by (R.graph records.now) (R.curve_list records.now)) (rows Observer-dyn seats.old.items) went.old
+        (rows Observer-dyn seats.new.items) went.new }
 {
     'turns: for i in (0..seats.len()).rev() {
         let seat = &mut seats[i];
@@ -83,15 +83,15 @@ pub(crate) fn say<R: Curved>(
     records: &R,
     note: &Note,
 )
-    requires fits { All (MayHear note.now) (rows tells held left heard seats.old.items) }
+    requires fits { All (MayHear note.now) (rows Observer-dyn seats.old.items) }
     requires sound { IsSoundView (view_by (R.graph records.now) (R.curve_list records.now)) }
     requires counted { IsRoundNote note.now }
     requires room { HaveRoom (map (λ s. s.join) seats.old.items) went.old }
     ensures capacity { vec_capacity seats.new ≡ vec_capacity seats.old }
     ensures shorter { length seats.new.items ≤ length seats.old.items }
     ensures room { HaveRoom (map (λ s. s.join) seats.new.items) went.new }
-    ensures round { IsRoundOf note.now (view_by (R.graph records.now) (R.curve_list records.now)) (rows tells held left heard seats.old.items) went.old
-        (rows tells held left heard seats.new.items) went.new }
+    ensures round { IsRoundOf note.now (view_by (R.graph records.now) (R.curve_list records.now)) (rows Observer-dyn seats.old.items) went.old
+        (rows Observer-dyn seats.new.items) went.new }
 {
     match note {
         Note::After(_) => backward(seats, went, alloc, records, note),

@@ -79,13 +79,13 @@ impl Seat {
 
     /// One turn in a round.
     pub(crate) fn turn<R: Curved>(&mut self, alloc: Global, records: &R, note: &Note) -> Fate
-        requires fits { MayHear note.now (row tells held left heard self.old) }
+        requires fits { MayHear note.now (row Observer-dyn self.old) }
         requires sound { IsSoundView (view_by (R.graph records.now) (R.curve_list records.now)) }
         requires round { IsRoundNote note.now }
-        ensures fate { IsFateOf result (row tells held left heard self.old) }
+        ensures fate { IsFateOf result (row Observer-dyn self.old) }
         ensures kept { IsTrue (stays result) → IsKept note.now (view_by (R.graph records.now) (R.curve_list records.now)) result
-            (row tells held left heard self.old) (row tells held left heard self.new) }
-        ensures untold { result ≡ Fate.LeftUntold → row tells held left heard self.new ≡ row tells held left heard self.old }
+            (row Observer-dyn self.old) (row Observer-dyn self.new) }
+        ensures untold { result ≡ Fate.LeftUntold → row Observer-dyn self.new ≡ row Observer-dyn self.old }
     {
         match self.join {
             None => self.hear(note),
@@ -106,12 +106,12 @@ impl Seat {
     // The turn of a seated observer.
     fn hear(&mut self, note: &Note) -> Fate
         requires seated { self.old.join ≡ None }
-        requires fits { MayHear note.now (row tells held left heard self.old) }
+        requires fits { MayHear note.now (row Observer-dyn self.old) }
         requires round { IsRoundNote note.now }
-        ensures fate { IsFateOf result (row tells held left heard self.old) }
+        ensures fate { IsFateOf result (row Observer-dyn self.old) }
         ensures stays { IsTrue (stays result) → result ≡ Fate.Told }
-        ensures untold { result ≡ Fate.LeftUntold → row tells held left heard self.new ≡ row tells held left heard self.old }
-        ensures told { result ≡ Fate.Told → IsTold note.now (row tells held left heard self.old) (row tells held left heard self.new) }
+        ensures untold { result ≡ Fate.LeftUntold → row Observer-dyn self.new ≡ row Observer-dyn self.old }
+        ensures told { result ≡ Fate.Told → IsTold note.now (row Observer-dyn self.old) (row Observer-dyn self.new) }
     {
         if self.leave == Some(1) {
             return Fate::LeftUntold;
@@ -147,7 +147,7 @@ impl Seat {
     /// A seat whose join may be planned, and whose observer has heard nothing here.
     pub(crate) fn planned(name: u32, observer: Box<dyn Observer>, when: Option<u32>) -> Seat
         requires { when ≢ Some 0 }
-        ensures row { row tells held left heard result ≡ newcomer tells held left heard name when observer }
+        ensures row { row Observer-dyn result ≡ newcomer Observer-dyn name when observer }
     {
         Seat {
             name,
@@ -168,7 +168,7 @@ impl Seat {
         requires when { when ≢ Some 0 }
         requires sound { IsSoundView (view_by (R.graph records.now) (R.curve_list records.now)) }
         ensures placed { IfOk result (λ s. IsPlaced when (view_by (R.graph records.now) (R.curve_list records.now))
-            (newcomer tells held left heard name when observer) (row tells held left heard s)) }
+            (newcomer Observer-dyn name when observer) (row Observer-dyn s)) }
         ensures back { IfErr result (λ b. (tells b ≡ tells observer) × (left b ≡ left observer)) }
     {
         let mut seat = Seat::planned(name, observer, when);
@@ -197,7 +197,7 @@ impl Seat {
     /// Plans to leave in a round, in place of an earlier plan.
     pub(crate) fn plan_leave(&mut self, when: u32)
         requires { when ≢ 0 }
-        ensures { row tells held left heard self.new ≡ leaving when (row tells held left heard self.old) }
+        ensures { row Observer-dyn self.new ≡ leaving when (row Observer-dyn self.old) }
     {
         self.leave = Some(when);
     }

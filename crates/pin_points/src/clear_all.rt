@@ -2,7 +2,7 @@ ghost use Rattle.edit_steps.specs.Edits.{ClearAll};
 ghost use Rattle.dcel_records.specs.RecordsView.{SameRecordCapacity};
 ghost use Rattle.curve_history.specs.Past.{SameHistoryCapacity};
 ghost use Rattle.record_layers.specs.RecordLayers.{IsLayer};
-ghost use Rattle.observer_bus.specs.Rows.{bus_of};
+ghost use Rattle.observer_bus.specs.Rows.{bus_row};
 ghost use Rattle.told_steps.specs.ToldEdits.{AreWatched, IsToldEdit};
 ghost use Rattle.record_layers.specs.LayerEdits.{IsAfter};
 
@@ -15,11 +15,11 @@ use std::alloc::Global;
 /// `clear`).
 pub fn clear(alloc: Global, records: &mut Records, history: &mut History, bus: &mut Bus)
     requires layer { IsLayer records.old.graph history.old }
-    requires watched { AreWatched records.old history.old (bus_of tells held left heard bus.old) }
+    requires watched { AreWatched records.old history.old (bus_row Observer-dyn bus.old) }
     ensures layer { IsLayer records.new.graph history.new }
-    ensures watched { AreWatched records.new history.new (bus_of tells held left heard bus.new) }
+    ensures watched { AreWatched records.new history.new (bus_row Observer-dyn bus.new) }
     ensures edit { IsAfter ClearAll records.old history.old records.new history.new }
-    ensures told { IsToldEdit ClearAll records.old history.old (bus_of tells held left heard bus.old) records.new history.new (bus_of tells held left heard bus.new) }
+    ensures told { IsToldEdit ClearAll records.old history.old (bus_row Observer-dyn bus.old) records.new history.new (bus_row Observer-dyn bus.new) }
     ensures records_capacity { SameRecordCapacity records.old records.new }
     ensures history_capacity { SameHistoryCapacity history.old history.new }
 {

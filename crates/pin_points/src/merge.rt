@@ -5,7 +5,7 @@ ghost use Rattle.dcel_records.specs.RecordsView.{SameRecordCapacity};
 ghost use Rattle.curve_history.specs.Past.{SameLayer, SameCurves, SameHistoryCapacity};
 ghost use Rattle.record_layers.specs.RecordLayers.{IsLayer};
 ghost use Rattle.pin_points.specs.Merges.{merge_said};
-ghost use Rattle.observer_bus.specs.Rows.{bus_of};
+ghost use Rattle.observer_bus.specs.Rows.{bus_row};
 ghost use Rattle.told_steps.specs.ToldEdits.{AreWatched, IsToldEdit};
 ghost use Rattle.record_layers.specs.LayerEdits.{layer_at, IsAfter};
 
@@ -41,18 +41,18 @@ pub fn merge_edge(
     r: &Point,
 ) -> Result<(), MergeError>
     requires layer { IsLayer records.old.graph history.old }
-    requires watched { AreWatched records.old history.old (bus_of tells held left heard bus.old) }
+    requires watched { AreWatched records.old history.old (bus_row Observer-dyn bus.old) }
     ensures layer { IsLayer records.new.graph history.new }
-    ensures watched { AreWatched records.new history.new (bus_of tells held left heard bus.new) }
+    ensures watched { AreWatched records.new history.new (bus_row Observer-dyn bus.new) }
     ensures edit { OnOk result (IsAfter (Merge r.now) records.old history.old records.new history.new) }
-    ensures told { OnOk result (IsToldEdit (Merge r.now) records.old history.old (bus_of tells held left heard bus.old) records.new history.new (bus_of tells held left heard bus.new)) }
+    ensures told { OnOk result (IsToldEdit (Merge r.now) records.old history.old (bus_row Observer-dyn bus.old) records.new history.new (bus_row Observer-dyn bus.new)) }
     ensures refused { IsAnswerFor merge_said (merge_refusal (layer_at records.old history.old) r.now) result }
     ensures graph { OnErr result (records.new.graph ≡ records.old.graph) }
     ensures same_layer { OnErr result (SameLayer history.old history.new) }
     ensures same_curves { OnErr result (SameCurves history.old history.new) }
     ensures records_capacity { SameRecordCapacity records.old records.new }
     ensures history_capacity { SameHistoryCapacity history.old history.new }
-    ensures untold { OnErr result (bus_of tells held left heard bus.new ≡ bus_of tells held left heard bus.old) }
+    ensures untold { OnErr result (bus_row Observer-dyn bus.new ≡ bus_row Observer-dyn bus.old) }
 {
     let Some(vertex) = vertex_at(&*records, r) else {
         return Err(MergeError::NoVertex);

@@ -10,7 +10,7 @@ ghost use Rattle.sound_views.specs.RecordGraphLaws.{IsVertexAt};
 ghost use Rattle.curve_history.specs.Past.{curves_on, SameLayer, SameCurves, SameHistoryCapacity};
 ghost use Rattle.record_layers.specs.RecordLayers.{IsLayer};
 ghost use Rattle.pin_points.specs.Pins.{pin_said, unpin_said, is_pinned_spot, pairs_parted, HasRoomFor, MayBecomeVertex, HasBecomeVertex};
-ghost use Rattle.observer_bus.specs.Rows.{bus_of};
+ghost use Rattle.observer_bus.specs.Rows.{bus_row};
 ghost use Rattle.told_steps.specs.ToldEdits.{AreWatched, IsToldEdit};
 ghost use Rattle.told_steps.specs.ToldRuns.{AreInStep};
 ghost use Rattle.record_layers.specs.LayerEdits.{layer_at, IsAfter};
@@ -113,15 +113,15 @@ fn make_vertex(
     at: Spot,
     p: Point,
 ) -> VertexId
-    requires in_step { AreInStep records.old.graph (curves_on history.old) (bus_of tells held left heard bus.old) }
+    requires in_step { AreInStep records.old.graph (curves_on history.old) (bus_row Observer-dyn bus.old) }
     requires point { IsProper p }
     requires spot { IsSpotOf records.old.graph p at }
     requires plane { MayBecomeVertex p (drawn_graph records.old.graph (curves_on history.old)) }
     requires vertices { 1 ≤ records.old.spare_vertices }
     requires darts { 2 ≤ records.old.spare_darts }
     requires pairs { pairs_parted history.old at ≤ history.old.spare_pairs }
-    ensures told { HasBecomeVertex records.old.graph (curves_on history.old) (bus_of tells held left heard bus.old) p records.new.graph (curves_on history.new) (bus_of tells held left heard bus.new) }
-    ensures in_step { AreInStep records.new.graph (curves_on history.new) (bus_of tells held left heard bus.new) }
+    ensures told { HasBecomeVertex records.old.graph (curves_on history.old) (bus_row Observer-dyn bus.old) p records.new.graph (curves_on history.new) (bus_row Observer-dyn bus.new) }
+    ensures in_step { AreInStep records.new.graph (curves_on history.new) (bus_row Observer-dyn bus.new) }
     ensures vertex { IsVertexAt records.new.graph p result }
     ensures layer { SameLayer history.old history.new }
 {
@@ -144,18 +144,18 @@ pub fn pin(
     p: &Point,
 ) -> Result<(), PinError>
     requires layer { IsLayer records.old.graph history.old }
-    requires watched { AreWatched records.old history.old (bus_of tells held left heard bus.old) }
+    requires watched { AreWatched records.old history.old (bus_row Observer-dyn bus.old) }
     requires spot { IsSpotOf records.old.graph p.now at }
     ensures layer { IsLayer records.new.graph history.new }
-    ensures watched { AreWatched records.new history.new (bus_of tells held left heard bus.new) }
+    ensures watched { AreWatched records.new history.new (bus_row Observer-dyn bus.new) }
     ensures edit { OnOk result (IsAfter (Pin p.now) records.old history.old records.new history.new) }
-    ensures told { OnOk result (IsToldEdit (Pin p.now) records.old history.old (bus_of tells held left heard bus.old) records.new history.new (bus_of tells held left heard bus.new)) }
+    ensures told { OnOk result (IsToldEdit (Pin p.now) records.old history.old (bus_row Observer-dyn bus.old) records.new history.new (bus_row Observer-dyn bus.new)) }
     ensures refused { IsAnswerFor pin_said (pin_refusal pins (layer_at records.old history.old) p.now) result }
     ensures room { HasRoomFor at records.old history.old → result ≢ Err PinError.NoMemory }
     ensures graph { OnErr result (records.new.graph ≡ records.old.graph) }
     ensures same_layer { OnErr result (SameLayer history.old history.new) }
     ensures same_curves { OnErr result (SameCurves history.old history.new) }
-    ensures untold { OnErr result (bus_of tells held left heard bus.new ≡ bus_of tells held left heard bus.old) }
+    ensures untold { OnErr result (bus_row Observer-dyn bus.new ≡ bus_row Observer-dyn bus.old) }
 {
     // A call on the point tells that its numbers are a point's.
     let _weight = p.w();
@@ -182,18 +182,18 @@ pub fn unpin(
     p: &Point,
 ) -> Result<(), NotPinned>
     requires layer { IsLayer records.old.graph history.old }
-    requires watched { AreWatched records.old history.old (bus_of tells held left heard bus.old) }
+    requires watched { AreWatched records.old history.old (bus_row Observer-dyn bus.old) }
     ensures layer { IsLayer records.new.graph history.new }
-    ensures watched { AreWatched records.new history.new (bus_of tells held left heard bus.new) }
+    ensures watched { AreWatched records.new history.new (bus_row Observer-dyn bus.new) }
     ensures edit { OnOk result (IsAfter (Unpin p.now) records.old history.old records.new history.new) }
-    ensures told { OnOk result (IsToldEdit (Unpin p.now) records.old history.old (bus_of tells held left heard bus.old) records.new history.new (bus_of tells held left heard bus.new)) }
+    ensures told { OnOk result (IsToldEdit (Unpin p.now) records.old history.old (bus_row Observer-dyn bus.old) records.new history.new (bus_row Observer-dyn bus.new)) }
     ensures refused { IsAnswerFor unpin_said (unpin_refusal (layer_at records.old history.old) p.now) result }
     ensures graph { OnErr result (records.new.graph ≡ records.old.graph) }
     ensures same_layer { OnErr result (SameLayer history.old history.new) }
     ensures same_curves { OnErr result (SameCurves history.old history.new) }
     ensures records_capacity { SameRecordCapacity records.old records.new }
     ensures history_capacity { SameHistoryCapacity history.old history.new }
-    ensures untold { OnErr result (bus_of tells held left heard bus.new ≡ bus_of tells held left heard bus.old) }
+    ensures untold { OnErr result (bus_row Observer-dyn bus.new ≡ bus_row Observer-dyn bus.old) }
 {
     let Some(vertex) = vertex_at(&*records, p) else {
         return Err(NotPinned);

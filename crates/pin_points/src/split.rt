@@ -6,7 +6,7 @@ ghost use Rattle.arr_notes.specs.Curves.{IsForward};
 ghost use Rattle.curve_history.specs.Past.{SameLayer, SameCurves};
 ghost use Rattle.record_layers.specs.RecordLayers.{IsLayer};
 ghost use Rattle.pin_points.specs.Splits.{split_at, split_said, split_refusal_at, HasRoomToSplit};
-ghost use Rattle.observer_bus.specs.Rows.{bus_of};
+ghost use Rattle.observer_bus.specs.Rows.{bus_row};
 ghost use Rattle.told_steps.specs.ToldEdits.{AreWatched, IsToldEdit};
 ghost use Rattle.record_layers.specs.LayerEdits.{IsAfter};
 
@@ -75,17 +75,17 @@ pub fn split_edge(
     r: &Point,
 ) -> Result<(), SplitError>
     requires layer { IsLayer records.old.graph history.old }
-    requires watched { AreWatched records.old history.old (bus_of tells held left heard bus.old) }
+    requires watched { AreWatched records.old history.old (bus_row Observer-dyn bus.old) }
     ensures layer { IsLayer records.new.graph history.new }
-    ensures watched { AreWatched records.new history.new (bus_of tells held left heard bus.new) }
+    ensures watched { AreWatched records.new history.new (bus_row Observer-dyn bus.new) }
     ensures edit { OnOk result (IsAfter (split_at p.now q.now r.now) records.old history.old records.new history.new) }
-    ensures told { OnOk result (IsToldEdit (split_at p.now q.now r.now) records.old history.old (bus_of tells held left heard bus.old) records.new history.new (bus_of tells held left heard bus.new)) }
+    ensures told { OnOk result (IsToldEdit (split_at p.now q.now r.now) records.old history.old (bus_row Observer-dyn bus.old) records.new history.new (bus_row Observer-dyn bus.new)) }
     ensures refused { IsAnswerFor split_said (split_refusal_at pins records.old history.old p.now q.now r.now) result }
     ensures room { HasRoomToSplit records.old history.old p.now q.now → result ≢ Err SplitError.NoMemory }
     ensures graph { OnErr result (records.new.graph ≡ records.old.graph) }
     ensures same_layer { OnErr result (SameLayer history.old history.new) }
     ensures same_curves { OnErr result (SameCurves history.old history.new) }
-    ensures untold { OnErr result (bus_of tells held left heard bus.new ≡ bus_of tells held left heard bus.old) }
+    ensures untold { OnErr result (bus_row Observer-dyn bus.new ≡ bus_row Observer-dyn bus.old) }
 {
     // A call on the point tells that its numbers are a point's.
     let _weight = r.w();

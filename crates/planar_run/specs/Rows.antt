@@ -2,10 +2,9 @@
 use Rattle.std.specs.Prelude.{◌≡◌, ◌≤◌, Bool, List, Option, length, map, option_map, ℕ}
 use Rattle.std.specs.declared.alloc.Global.{Global}
 use Rattle.std.specs.declared.dyn_box.DynBox.{DynBox}
-use Rattle.arr_notes.specs.CurvedView.{CurvedView}
-use Rattle.arr_notes.specs.declared.note.Note.{Note}
 use Rattle.arrangement.specs.Arranged.{arranged, layer_in, Arranged, IsWatched}
 use Rattle.arrangement.specs.declared.limits.TheConstants.Limits.{FULL}
+use Rattle.observer_bus.specs.Rows.{Meanings, meaning}
 use Rattle.observer_bus.specs.Seats.{SeatRow}
 use Rattle.planar_run.specs.World.{Half, Seat, Waiting, World as Built}
 use Rattle.planar_run.specs.declared.world.World.{World}
@@ -33,23 +32,22 @@ pub record AreKept (a b : Arranged) : Type 0 where
   pub current : IsKept a
   pub other : IsKept b
 
-module _ {X : Type 0} {F : X → Type 0} where
+module _ {X : Type 0} {F : X → Type 0} (m : Meanings X F) where
   -- an observer, as it waits
-  abbrev pub waiting_row : (DynBox X Global F → Bool) → (DynBox X Global F → Option ℕ) → DynBox X Global F → Waiting
-  waiting_row tells left b = record { tells = tells b; left = left b }
+  abbrev pub waiting_row : DynBox X Global F → Waiting
+  waiting_row b = record { tells = (meaning m b).tells b.value; left = (meaning m b).left b.value }
 
   -- observers, as they wait
-  abbrev pub waiting_rows : (DynBox X Global F → Bool) → (DynBox X Global F → Option ℕ) → List (DynBox X Global F) → List Waiting
-  waiting_rows tells left bs = map (waiting_row tells left) bs
+  abbrev pub waiting_rows : List (DynBox X Global F) → List Waiting
+  waiting_rows bs = map waiting_row bs
 
-module _ {X : Type 0} {F : X → Type 0} (tells : DynBox X Global F → Bool) (held : DynBox X Global F → Option CurvedView) (left : DynBox X Global F → Option ℕ) (heard : DynBox X Global F → Option (List Note)) where
   -- the arrangement that lines mean
   abbrev pub arranged_row : World X F → Arranged
-  arranged_row w = arranged tells held left heard w.arrangement
+  arranged_row w = arranged m w.arrangement
 
   -- the one that they don't mean
   abbrev pub other_row : World X F → Arranged
-  other_row w = arranged tells held left heard w.other
+  other_row w = arranged m w.other
 
   -- both of a world are kept
   abbrev pub IsKeptWorld : World X F → Type 0
@@ -57,4 +55,4 @@ module _ {X : Type 0} {F : X → Type 0} (tells : DynBox X Global F → Bool) (h
 
   -- a world as contracts see it
   abbrev pub world_row : World X F → Built
-  world_row w = built (arranged_row w) (half_in (other_row w)) w.is_blue (map (option_map (waiting_row tells left)) w.observers.items)
+  world_row w = built (arranged_row w) (half_in (other_row w)) w.is_blue (map (option_map waiting_row) w.observers.items)

@@ -17,10 +17,10 @@ use script_lines::{Command, LineError, read_line};
 fn obey(world: &mut World, command: Command, reply: &mut Reply) -> Result<(), NoMemory>
     requires empty { reply.old ≡ [] }
     requires numbered { IsNumbered command }
-    requires kept { IsKeptWorld tells held left heard world.old }
-    ensures obeyed { OnOk result (IsObeyed (world_row tells held left heard world.old) (Ok command) reply.new (world_row tells held left heard world.new)) }
-    ensures err { OnErr result (MayTake (world_row tells held left heard world.old) (Ok command) × (world_row tells held left heard world.new ≡ world_row tells held left heard world.old)) }
-    ensures kept { IsKeptWorld tells held left heard world.new }
+    requires kept { IsKeptWorld Observer-dyn world.old }
+    ensures obeyed { OnOk result (IsObeyed (world_row Observer-dyn world.old) (Ok command) reply.new (world_row Observer-dyn world.new)) }
+    ensures err { OnErr result (MayTake (world_row Observer-dyn world.old) (Ok command) × (world_row Observer-dyn world.new ≡ world_row Observer-dyn world.old)) }
+    ensures kept { IsKeptWorld Observer-dyn world.new }
 {
     match command {
         Command::Nothing => Ok(()),
@@ -81,9 +81,9 @@ fn refusal(error: LineError) -> &'static str
 
 /// Makes the reply to a line, and does to the world what the line says.
 pub fn answer(world: &mut World, line: &[u8], reply: &mut Reply)
-    requires kept { IsKeptWorld tells held left heard world.old }
-    ensures replied { Replies (world_row tells held left heard world.old) line.now reply.new (world_row tells held left heard world.new) }
-    ensures kept { IsKeptWorld tells held left heard world.new }
+    requires kept { IsKeptWorld Observer-dyn world.old }
+    ensures replied { Replies (world_row Observer-dyn world.old) line.now reply.new (world_row Observer-dyn world.new) }
+    ensures kept { IsKeptWorld Observer-dyn world.new }
 {
     reply.clear();
     match read_line(line) {

@@ -15,8 +15,8 @@ use slab_laws::CurveId;
 
 // The reply to an edit that is done. It takes no memory.
 fn tell_done(world: &World, reply: &mut Reply)
-    requires { AreFew (arranged_row tells held left heard world.now).bus.went }
-    ensures { reply.new ≡ line_of (codes "ok" ++ went_text (arranged_row tells held left heard world.now).bus.went) }
+    requires { AreFew (arranged_row Observer-dyn world.now).bus.went }
+    ensures { reply.new ≡ line_of (codes "ok" ++ went_text (arranged_row Observer-dyn world.now).bus.went) }
 {
     reply.set("ok");
     tell_went(reply, world.went());
@@ -24,8 +24,8 @@ fn tell_done(world: &World, reply: &mut Reply)
 
 // The reply to a new curve. It takes no memory, since the curve is there already.
 fn tell_curve(world: &World, curve: CurveId, reply: &mut Reply)
-    requires { AreFew (arranged_row tells held left heard world.now).bus.went }
-    ensures { reply.new ≡ line_of ((codes "ok " ++ decimal curve.0) ++ went_text (arranged_row tells held left heard world.now).bus.went) }
+    requires { AreFew (arranged_row Observer-dyn world.now).bus.went }
+    ensures { reply.new ≡ line_of ((codes "ok " ++ decimal curve.0) ++ went_text (arranged_row Observer-dyn world.now).bus.went) }
 {
     reply.set("ok ");
     reply.add_number(curve.0);
@@ -34,10 +34,10 @@ fn tell_curve(world: &World, curve: CurveId, reply: &mut Reply)
 
 // Makes a segment a new curve where there is room for one more and a number left.
 fn insert(world: &mut World, segment: Segment, reply: &mut Reply) -> Result<(), NoMemory>
-    requires kept { IsKeptWorld tells held left heard world.old }
-    ensures answered { OnOk result (IsDrawn (Ok segment) (world_row tells held left heard world.old) reply.new (world_row tells held left heard world.new)) }
-    ensures err { OnErr result (MayDraw (Ok segment) (world_row tells held left heard world.old) × (world_row tells held left heard world.new ≡ world_row tells held left heard world.old)) }
-    ensures kept { IsKeptWorld tells held left heard world.new }
+    requires kept { IsKeptWorld Observer-dyn world.old }
+    ensures answered { OnOk result (IsDrawn (Ok segment) (world_row Observer-dyn world.old) reply.new (world_row Observer-dyn world.new)) }
+    ensures err { OnErr result (MayDraw (Ok segment) (world_row Observer-dyn world.old) × (world_row Observer-dyn world.new ≡ world_row Observer-dyn world.old)) }
+    ensures kept { IsKeptWorld Observer-dyn world.new }
 {
     match world.insert(segment) {
         Ok(curve) => tell_curve(world, curve, reply),
@@ -57,10 +57,10 @@ pub fn segment(
     y2: i64,
     reply: &mut Reply,
 ) -> Result<(), NoMemory>
-    requires kept { IsKeptWorld tells held left heard world.old }
-    ensures answered { OnOk result (IsAnswered (world_row tells held left heard world.old) (Ok (AddSegment x1 y1 x2 y2)) reply.new (world_row tells held left heard world.new)) }
-    ensures err { OnErr result (MayTake (world_row tells held left heard world.old) (Ok (AddSegment x1 y1 x2 y2)) × (world_row tells held left heard world.new ≡ world_row tells held left heard world.old)) }
-    ensures kept { IsKeptWorld tells held left heard world.new }
+    requires kept { IsKeptWorld Observer-dyn world.old }
+    ensures answered { OnOk result (IsAnswered (world_row Observer-dyn world.old) (Ok (AddSegment x1 y1 x2 y2)) reply.new (world_row Observer-dyn world.new)) }
+    ensures err { OnErr result (MayTake (world_row Observer-dyn world.old) (Ok (AddSegment x1 y1 x2 y2)) × (world_row Observer-dyn world.new ≡ world_row Observer-dyn world.old)) }
+    ensures kept { IsKeptWorld Observer-dyn world.new }
 {
     match Segment::new(x1, y1, x2, y2) {
         Ok(segment) => return insert(world, segment, reply),
@@ -72,10 +72,10 @@ pub fn segment(
 
 /// Takes a curve away.
 pub fn drop_curve(world: &mut World, curve: u32, reply: &mut Reply) -> Result<(), NoMemory>
-    requires kept { IsKeptWorld tells held left heard world.old }
-    ensures answered { OnOk result (IsAnswered (world_row tells held left heard world.old) (Ok (Drop curve)) reply.new (world_row tells held left heard world.new)) }
-    ensures err { OnErr result (MayTake (world_row tells held left heard world.old) (Ok (Drop curve)) × (world_row tells held left heard world.new ≡ world_row tells held left heard world.old)) }
-    ensures kept { IsKeptWorld tells held left heard world.new }
+    requires kept { IsKeptWorld Observer-dyn world.old }
+    ensures answered { OnOk result (IsAnswered (world_row Observer-dyn world.old) (Ok (Drop curve)) reply.new (world_row Observer-dyn world.new)) }
+    ensures err { OnErr result (MayTake (world_row Observer-dyn world.old) (Ok (Drop curve)) × (world_row Observer-dyn world.new ≡ world_row Observer-dyn world.old)) }
+    ensures kept { IsKeptWorld Observer-dyn world.new }
 {
     match world.remove_curve(CurveId(curve)) {
         Ok(()) => tell_done(world, reply),
@@ -87,10 +87,10 @@ pub fn drop_curve(world: &mut World, curve: u32, reply: &mut Reply) -> Result<()
 
 /// Takes an edge from its curves.
 pub fn cut(world: &mut World, p: &Point, q: &Point, reply: &mut Reply) -> Result<(), NoMemory>
-    requires kept { IsKeptWorld tells held left heard world.old }
-    ensures answered { OnOk result (IsAnswered (world_row tells held left heard world.old) (Ok (Cut p.now q.now)) reply.new (world_row tells held left heard world.new)) }
-    ensures err { OnErr result (MayTake (world_row tells held left heard world.old) (Ok (Cut p.now q.now)) × (world_row tells held left heard world.new ≡ world_row tells held left heard world.old)) }
-    ensures kept { IsKeptWorld tells held left heard world.new }
+    requires kept { IsKeptWorld Observer-dyn world.old }
+    ensures answered { OnOk result (IsAnswered (world_row Observer-dyn world.old) (Ok (Cut p.now q.now)) reply.new (world_row Observer-dyn world.new)) }
+    ensures err { OnErr result (MayTake (world_row Observer-dyn world.old) (Ok (Cut p.now q.now)) × (world_row Observer-dyn world.new ≡ world_row Observer-dyn world.old)) }
+    ensures kept { IsKeptWorld Observer-dyn world.new }
 {
     match world.remove_edge(p, q) {
         Ok(()) => tell_done(world, reply),
@@ -103,10 +103,10 @@ pub fn cut(world: &mut World, p: &Point, q: &Point, reply: &mut Reply) -> Result
 
 /// Pins a point.
 pub fn pin(world: &mut World, point: &Point, reply: &mut Reply) -> Result<(), NoMemory>
-    requires kept { IsKeptWorld tells held left heard world.old }
-    ensures answered { OnOk result (IsAnswered (world_row tells held left heard world.old) (Ok (Pin point.now)) reply.new (world_row tells held left heard world.new)) }
-    ensures err { OnErr result (MayTake (world_row tells held left heard world.old) (Ok (Pin point.now)) × (world_row tells held left heard world.new ≡ world_row tells held left heard world.old)) }
-    ensures kept { IsKeptWorld tells held left heard world.new }
+    requires kept { IsKeptWorld Observer-dyn world.old }
+    ensures answered { OnOk result (IsAnswered (world_row Observer-dyn world.old) (Ok (Pin point.now)) reply.new (world_row Observer-dyn world.new)) }
+    ensures err { OnErr result (MayTake (world_row Observer-dyn world.old) (Ok (Pin point.now)) × (world_row Observer-dyn world.new ≡ world_row Observer-dyn world.old)) }
+    ensures kept { IsKeptWorld Observer-dyn world.new }
 {
     match world.pin(point) {
         Ok(()) => tell_done(world, reply),
@@ -119,9 +119,9 @@ pub fn pin(world: &mut World, point: &Point, reply: &mut Reply) -> Result<(), No
 
 /// Unpins a point. It takes no memory.
 pub fn unpin(world: &mut World, point: &Point, reply: &mut Reply)
-    requires kept { IsKeptWorld tells held left heard world.old }
-    ensures answered { IsAnswered (world_row tells held left heard world.old) (Ok (Unpin point.now)) reply.new (world_row tells held left heard world.new) }
-    ensures kept { IsKeptWorld tells held left heard world.new }
+    requires kept { IsKeptWorld Observer-dyn world.old }
+    ensures answered { IsAnswered (world_row Observer-dyn world.old) (Ok (Unpin point.now)) reply.new (world_row Observer-dyn world.new) }
+    ensures kept { IsKeptWorld Observer-dyn world.new }
 {
     match world.unpin(point) {
         Ok(()) => tell_done(world, reply),
@@ -137,10 +137,10 @@ pub fn split(
     r: &Point,
     reply: &mut Reply,
 ) -> Result<(), NoMemory>
-    requires kept { IsKeptWorld tells held left heard world.old }
-    ensures answered { OnOk result (IsAnswered (world_row tells held left heard world.old) (Ok (Split p.now q.now r.now)) reply.new (world_row tells held left heard world.new)) }
-    ensures err { OnErr result (MayTake (world_row tells held left heard world.old) (Ok (Split p.now q.now r.now)) × (world_row tells held left heard world.new ≡ world_row tells held left heard world.old)) }
-    ensures kept { IsKeptWorld tells held left heard world.new }
+    requires kept { IsKeptWorld Observer-dyn world.old }
+    ensures answered { OnOk result (IsAnswered (world_row Observer-dyn world.old) (Ok (Split p.now q.now r.now)) reply.new (world_row Observer-dyn world.new)) }
+    ensures err { OnErr result (MayTake (world_row Observer-dyn world.old) (Ok (Split p.now q.now r.now)) × (world_row Observer-dyn world.new ≡ world_row Observer-dyn world.old)) }
+    ensures kept { IsKeptWorld Observer-dyn world.new }
 {
     match world.split_edge(p, q, r) {
         Ok(()) => tell_done(world, reply),
@@ -154,9 +154,9 @@ pub fn split(
 
 /// Joins the two edges at a point that its pin alone makes a vertex. It takes no memory.
 pub fn merge(world: &mut World, r: &Point, reply: &mut Reply)
-    requires kept { IsKeptWorld tells held left heard world.old }
-    ensures answered { IsAnswered (world_row tells held left heard world.old) (Ok (Merge r.now)) reply.new (world_row tells held left heard world.new) }
-    ensures kept { IsKeptWorld tells held left heard world.new }
+    requires kept { IsKeptWorld Observer-dyn world.old }
+    ensures answered { IsAnswered (world_row Observer-dyn world.old) (Ok (Merge r.now)) reply.new (world_row Observer-dyn world.new) }
+    ensures kept { IsKeptWorld Observer-dyn world.new }
 {
     match world.merge_edge(r) {
         Ok(()) => tell_done(world, reply),
@@ -167,9 +167,9 @@ pub fn merge(world: &mut World, r: &Point, reply: &mut Reply)
 
 /// Takes every segment and pin away. It takes no memory.
 pub fn clear(world: &mut World, reply: &mut Reply)
-    requires kept { IsKeptWorld tells held left heard world.old }
-    ensures answered { IsAnswered (world_row tells held left heard world.old) (Ok Clear) reply.new (world_row tells held left heard world.new) }
-    ensures kept { IsKeptWorld tells held left heard world.new }
+    requires kept { IsKeptWorld Observer-dyn world.old }
+    ensures answered { IsAnswered (world_row Observer-dyn world.old) (Ok Clear) reply.new (world_row Observer-dyn world.new) }
+    ensures kept { IsKeptWorld Observer-dyn world.new }
 {
     world.clear();
     tell_done(world, reply);

@@ -34,9 +34,9 @@ impl Engine {
         strategy: Strategy,
         observers: Vec<Box<dyn Observer>>,
     ) -> Result<Engine, NoMemory>
-        ensures first { IfOk result (λ e. world_row tells held left heard e.world ≡ first_world (waiting_rows tells left observers.items)) }
+        ensures first { IfOk result (λ e. world_row Observer-dyn e.world ≡ first_world (waiting_rows Observer-dyn observers.items)) }
         ensures begun { IfOk result (λ e. e.line ≡ []) }
-        ensures kept { IfOk result (λ e. IsKeptWorld tells held left heard e.world) }
+        ensures kept { IfOk result (λ e. IsKeptWorld Observer-dyn e.world) }
     {
         // The world is made last: where it is let go, it is proved anew that all of it may go.
         let line = Line::new(alloc)?;
@@ -50,12 +50,12 @@ impl Engine {
 
     // Answers the line that was begun, and begins the next.
     fn end_line<K: Sink>(&mut self, sink: &mut K) -> Result<(), Failed>
-        requires kept { IsKeptWorld tells held left heard self.old.world }
-        ensures answered { OnOk result (Answers (K.taken sink.old) (K.taken sink.new) (world_row tells held left heard self.old.world) self.old.line (world_row tells held left heard self.new.world)) }
+        requires kept { IsKeptWorld Observer-dyn self.old.world }
+        ensures answered { OnOk result (Answers (K.taken sink.old) (K.taken sink.new) (world_row Observer-dyn self.old.world) self.old.line (world_row Observer-dyn self.new.world)) }
         ensures cleared { OnOk result (self.new.line ≡ []) }
-        ensures broken { OnErr result (AnswersPart (K.taken sink.old) (K.taken sink.new) (world_row tells held left heard self.old.world) self.old.line) }
+        ensures broken { OnErr result (AnswersPart (K.taken sink.old) (K.taken sink.new) (world_row Observer-dyn self.old.world) self.old.line) }
         ensures cause { HasCause (K.faults sink.old) (K.faults sink.new) result }
-        ensures kept { IsKeptWorld tells held left heard self.new.world }
+        ensures kept { IsKeptWorld Observer-dyn self.new.world }
     {
         answer(&mut self.world, self.line.as_slice(), &mut self.reply);
         self.line.clear();
@@ -64,11 +64,11 @@ impl Engine {
 
     // Answers a line that is there whole, and tells whether it found memory.
     fn answer_whole(&mut self, line: &[u8]) -> bool
-        requires kept { IsKeptWorld tells held left heard self.old.world }
-        ensures replied { Replies (world_row tells held left heard self.old.world) line.now self.new.reply (world_row tells held left heard self.new.world) }
+        requires kept { IsKeptWorld Observer-dyn self.old.world }
+        ensures replied { Replies (world_row Observer-dyn self.old.world) line.now self.new.reply (world_row Observer-dyn self.new.world) }
         ensures found { result ≡ true → self.new.reply ≢ no_memory_reply }
         ensures none { result ≡ false → self.new.reply ≡ no_memory_reply }
-        ensures kept { IsKeptWorld tells held left heard self.new.world }
+        ensures kept { IsKeptWorld Observer-dyn self.new.world }
     {
         answer(&mut self.world, line, &mut self.reply);
         self.reply.as_slice() != b"no memory\n".as_slice()
@@ -76,9 +76,9 @@ impl Engine {
 
     // Answers the lines of a made script to the last one, or to the first that finds no memory, and keeps the reply to it.
     fn answer_made(&mut self, maker: &mut Maker)
-        requires kept { IsKeptWorld tells held left heard self.old.world }
-        ensures last { IsLastReply (world_row tells held left heard self.old.world) maker.old self.new.reply }
-        ensures kept { IsKeptWorld tells held left heard self.new.world }
+        requires kept { IsKeptWorld Observer-dyn self.old.world }
+        ensures last { IsLastReply (world_row Observer-dyn self.old.world) maker.old self.new.reply }
+        ensures kept { IsKeptWorld Observer-dyn self.new.world }
     {
         let mut buffer = [0u8; LINE_ROOM];
         self.reply.clear();
@@ -97,9 +97,9 @@ impl Engine {
 
     /// Answers the lines of a made script, and writes the reply to the last one alone, or to the first that finds no memory.
     pub fn write_made<K: Sink>(&mut self, maker: &mut Maker, sink: &mut K) -> Result<(), Failed>
-        requires kept { IsKeptWorld tells held left heard self.old.world }
-        ensures written { OnOk result (AnswersMade (K.taken sink.old) (K.taken sink.new) (world_row tells held left heard self.old.world) maker.old) }
-        ensures broken { OnErr result (AnswersMadePart (K.taken sink.old) (K.taken sink.new) (world_row tells held left heard self.old.world) maker.old) }
+        requires kept { IsKeptWorld Observer-dyn self.old.world }
+        ensures written { OnOk result (AnswersMade (K.taken sink.old) (K.taken sink.new) (world_row Observer-dyn self.old.world) maker.old) }
+        ensures broken { OnErr result (AnswersMadePart (K.taken sink.old) (K.taken sink.new) (world_row Observer-dyn self.old.world) maker.old) }
         ensures cause { HasCause (K.faults sink.old) (K.faults sink.new) result }
     {
         self.answer_made(maker);
@@ -108,11 +108,11 @@ impl Engine {
 
     // One more byte of the script.
     fn take<K: Sink>(&mut self, byte: u8, sink: &mut K) -> Result<(), Failed>
-        requires kept { IsKeptWorld tells held left heard self.old.world }
-        ensures taken { OnOk result (Takes byte (K.taken sink.old) (K.taken sink.new) (world_row tells held left heard self.old.world) self.old.line (world_row tells held left heard self.new.world) self.new.line) }
-        ensures broken { OnErr result ((byte ≡ 10) × AnswersPart (K.taken sink.old) (K.taken sink.new) (world_row tells held left heard self.old.world) self.old.line) }
+        requires kept { IsKeptWorld Observer-dyn self.old.world }
+        ensures taken { OnOk result (Takes byte (K.taken sink.old) (K.taken sink.new) (world_row Observer-dyn self.old.world) self.old.line (world_row Observer-dyn self.new.world) self.new.line) }
+        ensures broken { OnErr result ((byte ≡ 10) × AnswersPart (K.taken sink.old) (K.taken sink.new) (world_row Observer-dyn self.old.world) self.old.line) }
         ensures cause { HasCause (K.faults sink.old) (K.faults sink.new) result }
-        ensures kept { IsKeptWorld tells held left heard self.new.world }
+        ensures kept { IsKeptWorld Observer-dyn self.new.world }
     {
         if byte == b'\n' {
             return self.end_line(sink);
@@ -123,11 +123,11 @@ impl Engine {
 
     /// More bytes of the script. Each line is answered when its end comes.
     pub fn feed<K: Sink>(&mut self, bytes: &[u8], sink: &mut K) -> Result<(), Failed>
-        requires kept { IsKeptWorld tells held left heard self.old.world }
-        ensures fed { OnOk result (Feeds bytes.now (K.taken sink.old) (K.taken sink.new) (world_row tells held left heard self.old.world) self.old.line (world_row tells held left heard self.new.world) self.new.line) }
-        ensures broken { OnErr result (FeedsPart bytes.now (K.taken sink.old) (K.taken sink.new) (world_row tells held left heard self.old.world) self.old.line) }
+        requires kept { IsKeptWorld Observer-dyn self.old.world }
+        ensures fed { OnOk result (Feeds bytes.now (K.taken sink.old) (K.taken sink.new) (world_row Observer-dyn self.old.world) self.old.line (world_row Observer-dyn self.new.world) self.new.line) }
+        ensures broken { OnErr result (FeedsPart bytes.now (K.taken sink.old) (K.taken sink.new) (world_row Observer-dyn self.old.world) self.old.line) }
         ensures cause { HasCause (K.faults sink.old) (K.faults sink.new) result }
-        ensures kept { IsKeptWorld tells held left heard self.new.world }
+        ensures kept { IsKeptWorld Observer-dyn self.new.world }
     {
         for byte in bytes {
             self.take(*byte, sink)?;
@@ -137,10 +137,10 @@ impl Engine {
 
     /// The end of the script.
     pub fn finish<K: Sink>(&mut self, sink: &mut K) -> Status
-        requires kept { IsKeptWorld tells held left heard self.old.world }
-        ensures finishes { Finishes result (K.taken sink.old) (K.taken sink.new) (world_row tells held left heard self.old.world) self.old.line }
+        requires kept { IsKeptWorld Observer-dyn self.old.world }
+        ensures finishes { Finishes result (K.taken sink.old) (K.taken sink.new) (world_row Observer-dyn self.old.world) self.old.line }
         ensures causes { Causes result 0 0 (K.faults sink.old) (K.faults sink.new) }
-        ensures kept { IsKeptWorld tells held left heard self.new.world }
+        ensures kept { IsKeptWorld Observer-dyn self.new.world }
     {
         if self.line.is_empty() {
             return Status::Done;

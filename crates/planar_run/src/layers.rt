@@ -1,5 +1,5 @@
 ghost use Rattle.std.specs.Prelude.{◌≡◌, codes, IfOk};
-ghost use Rattle.arrangement.specs.Arranged.{arranged_of, layer_in};
+ghost use Rattle.arrangement.specs.Arranged.{arranged, layer_in};
 ghost use Rattle.slab_laws.specs.OverlayText.{presents_text};
 ghost use Rattle.planar_run.specs.Rows.{world_row, IsKeptWorld};
 ghost use Rattle.planar_run.specs.Text.{line_of};
@@ -15,9 +15,9 @@ use std::mem::swap;
 impl World {
     /// Later lines mean the blue arrangement, or the red one. What the other holds stays, its observers and their plans too.
     pub fn turn(&mut self, blue: bool)
-        requires kept { IsKeptWorld tells held left heard self.old }
-        ensures turned { world_row tells held left heard self.new ≡ turned blue (world_row tells held left heard self.old) }
-        ensures kept { IsKeptWorld tells held left heard self.new }
+        requires kept { IsKeptWorld Observer-dyn self.old }
+        ensures turned { world_row Observer-dyn self.new ≡ turned blue (world_row Observer-dyn self.old) }
+        ensures kept { IsKeptWorld Observer-dyn self.new }
     {
         if self.is_blue != blue {
             swap(&mut self.arrangement, &mut self.other);
@@ -27,7 +27,7 @@ impl World {
 
     /// The text of the overlay of both arrangements.
     pub fn overlay_text(&self) -> Result<Vec<u8>, NoMemory>
-        ensures { IfOk result (λ bytes. bytes.items ≡ presents_text (red_of (world_row tells held left heard self.now)).layer.present (blue_of (world_row tells held left heard self.now)).layer.present) }
+        ensures { IfOk result (λ bytes. bytes.items ≡ presents_text (red_of (world_row Observer-dyn self.now)).layer.present (blue_of (world_row Observer-dyn self.now)).layer.present) }
     {
         if self.is_blue {
             text_of_both(self.alloc, &self.other, &self.arrangement)
@@ -40,7 +40,7 @@ impl World {
 // The text of the overlay of a red arrangement and a blue one. A call drops the overlay, since what a scope drops at its end is
 // proved there anew, in all its parts.
 fn text_of_both(alloc: Global, red: &Arrangement, blue: &Arrangement) -> Result<Vec<u8>, NoMemory>
-    ensures { IfOk result (λ bytes. bytes.items ≡ presents_text (layer_in (arranged_of tells held left heard red.now)).present (layer_in (arranged_of tells held left heard blue.now)).present) }
+    ensures { IfOk result (λ bytes. bytes.items ≡ presents_text (layer_in (arranged Observer-dyn red.now)).present (layer_in (arranged Observer-dyn blue.now)).present) }
 {
     let both = overlay(alloc, red, blue)?;
     let text = both.text();
@@ -50,10 +50,10 @@ fn text_of_both(alloc: Global, red: &Arrangement, blue: &Arrangement) -> Result<
 
 /// Lets later lines mean the blue layer, or the red one. It takes no memory.
 pub fn layer(world: &mut World, blue: bool, reply: &mut Reply)
-    requires kept { IsKeptWorld tells held left heard world.old }
+    requires kept { IsKeptWorld Observer-dyn world.old }
     ensures told { reply.new ≡ line_of (codes "ok") }
-    ensures turned { world_row tells held left heard world.new ≡ turned blue (world_row tells held left heard world.old) }
-    ensures kept { IsKeptWorld tells held left heard world.new }
+    ensures turned { world_row Observer-dyn world.new ≡ turned blue (world_row Observer-dyn world.old) }
+    ensures kept { IsKeptWorld Observer-dyn world.new }
 {
     world.turn(blue);
     reply.set("ok\n");

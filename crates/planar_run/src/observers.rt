@@ -18,10 +18,10 @@ pub fn attach(
 ) -> Result<(), NoMemory>
     requires number { 1 ≤ number }
     requires when { when ≢ Some 0 }
-    requires kept { IsKeptWorld tells held left heard world.old }
-    ensures answered { OnOk result (IsAnswered (world_row tells held left heard world.old) (Ok (Attach number when)) reply.new (world_row tells held left heard world.new)) }
-    ensures err { OnErr result (MayTake (world_row tells held left heard world.old) (Ok (Attach number when)) × (world_row tells held left heard world.new ≡ world_row tells held left heard world.old)) }
-    ensures kept { IsKeptWorld tells held left heard world.new }
+    requires kept { IsKeptWorld Observer-dyn world.old }
+    ensures answered { OnOk result (IsAnswered (world_row Observer-dyn world.old) (Ok (Attach number when)) reply.new (world_row Observer-dyn world.new)) }
+    ensures err { OnErr result (MayTake (world_row Observer-dyn world.old) (Ok (Attach number when)) × (world_row Observer-dyn world.new ≡ world_row Observer-dyn world.old)) }
+    ensures kept { IsKeptWorld Observer-dyn world.new }
 {
     match world.attach(number, when) {
         Ok(()) => reply.set("ok\n"),
@@ -36,9 +36,9 @@ pub fn attach(
 /// Lets a seated observer go, or plans it. It takes no memory.
 pub fn leave(world: &mut World, number: u32, when: Option<u32>, reply: &mut Reply)
     requires when { when ≢ Some 0 }
-    requires kept { IsKeptWorld tells held left heard world.old }
-    ensures answered { IsAnswered (world_row tells held left heard world.old) (Ok (Leave number when)) reply.new (world_row tells held left heard world.new) }
-    ensures kept { IsKeptWorld tells held left heard world.new }
+    requires kept { IsKeptWorld Observer-dyn world.old }
+    ensures answered { IsAnswered (world_row Observer-dyn world.old) (Ok (Leave number when)) reply.new (world_row Observer-dyn world.new) }
+    ensures kept { IsKeptWorld Observer-dyn world.new }
 {
     if !world.has(number) {
         reply.set("refused 14\n");
@@ -52,9 +52,9 @@ pub fn leave(world: &mut World, number: u32, when: Option<u32>, reply: &mut Repl
 
 /// Tells the report of a seated observer.
 pub fn mirror(world: &World, number: u32, reply: &mut Reply) -> Result<(), NoMemory>
-    requires kept { IsKeptWorld tells held left heard world.now }
-    ensures obeyed { OnOk result (IsObeyed (world_row tells held left heard world.now) (Ok (Mirror number)) reply.new (world_row tells held left heard world.now)) }
-    ensures err { OnErr result (MayTake (world_row tells held left heard world.now) (Ok (Mirror number))) }
+    requires kept { IsKeptWorld Observer-dyn world.now }
+    ensures obeyed { OnOk result (IsObeyed (world_row Observer-dyn world.now) (Ok (Mirror number)) reply.new (world_row Observer-dyn world.now)) }
+    ensures err { OnErr result (MayTake (world_row Observer-dyn world.now) (Ok (Mirror number))) }
 {
     if !world.has(number) {
         reply.set("refused 14\n");

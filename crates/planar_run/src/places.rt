@@ -73,7 +73,7 @@ fn put_waiting(
 impl World {
     /// Whether so many observers were handed in.
     pub fn has(&self, number: u32) -> bool
-        ensures { result ≡ not (is_above number (world_row tells held left heard self.now)) }
+        ensures { result ≡ not (is_above number (world_row Observer-dyn self.now)) }
     {
         number as usize <= self.observers.len()
     }
@@ -82,11 +82,11 @@ impl World {
     pub fn attach(&mut self, number: u32, when: Option<u32>) -> Result<(), AttachRefusal>
         requires number { 1 ≤ number }
         requires when { when ≢ Some 0 }
-        requires kept { IsKeptWorld tells held left heard self.old }
-        ensures refused { IsAttachAnswer (attach_refusal number (world_row tells held left heard self.old)) result }
-        ensures attached { OnOk result (world_row tells held left heard self.new ≡ attached number when (world_row tells held left heard self.old)) }
-        ensures err { OnErr result (world_row tells held left heard self.new ≡ world_row tells held left heard self.old) }
-        ensures kept { IsKeptWorld tells held left heard self.new }
+        requires kept { IsKeptWorld Observer-dyn self.old }
+        ensures refused { IsAttachAnswer (attach_refusal number (world_row Observer-dyn self.old)) result }
+        ensures attached { OnOk result (world_row Observer-dyn self.new ≡ attached number when (world_row Observer-dyn self.old)) }
+        ensures err { OnErr result (world_row Observer-dyn self.new ≡ world_row Observer-dyn self.old) }
+        ensures kept { IsKeptWorld Observer-dyn self.new }
     {
         if !self.has(number) {
             return Err(AttachRefusal::Gone);
@@ -115,11 +115,11 @@ impl World {
     /// Lets an observer go that is seated in either arrangement, or plans it. It takes no memory.
     pub fn leave(&mut self, number: u32, when: Option<u32>) -> Result<(), NoSeat>
         requires when { when ≢ Some 0 }
-        requires kept { IsKeptWorld tells held left heard self.old }
-        ensures seated { is_ok result ≡ is_seated number (world_row tells held left heard self.old) }
-        ensures left { OnOk result (world_row tells held left heard self.new ≡ leaving number when (world_row tells held left heard self.old)) }
-        ensures err { OnErr result (world_row tells held left heard self.new ≡ world_row tells held left heard self.old) }
-        ensures kept { IsKeptWorld tells held left heard self.new }
+        requires kept { IsKeptWorld Observer-dyn self.old }
+        ensures seated { is_ok result ≡ is_seated number (world_row Observer-dyn self.old) }
+        ensures left { OnOk result (world_row Observer-dyn self.new ≡ leaving number when (world_row Observer-dyn self.old)) }
+        ensures err { OnErr result (world_row Observer-dyn self.new ≡ world_row Observer-dyn self.old) }
+        ensures kept { IsKeptWorld Observer-dyn self.new }
     {
         match self.arrangement.leave(number, when) {
             Ok(()) => Ok(()),
@@ -129,9 +129,9 @@ impl World {
 
     /// The report of an observer that is seated in either arrangement.
     pub fn report(&self, number: u32) -> Result<Vec<u8>, ReportError>
-        requires kept { IsKeptWorld tells held left heard self.now }
-        ensures seat { (result ≡ Err ReportError.NoSeat) ↔ (is_seated number (world_row tells held left heard self.now) ≡ false) }
-        ensures report { IfOk result (λ b. IsReportIn number (world_row tells held left heard self.now) b.items) }
+        requires kept { IsKeptWorld Observer-dyn self.now }
+        ensures seat { (result ≡ Err ReportError.NoSeat) ↔ (is_seated number (world_row Observer-dyn self.now) ≡ false) }
+        ensures report { IfOk result (λ b. IsReportIn number (world_row Observer-dyn self.now) b.items) }
     {
         match self.arrangement.report(number) {
             Ok(bytes) => Ok(bytes),

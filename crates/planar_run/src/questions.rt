@@ -14,7 +14,7 @@ use slab_laws::CurveId;
 /// Tells where a point lies.
 pub fn locate(world: &mut World, point: &Point, reply: &mut Reply) -> Result<(), NoMemory>
     requires { reply.old ≡ [] }
-    ensures answered { OnOk result (IsAnswered (world_row tells held left heard world.old) (Ok (Locate point.now)) reply.new (world_row tells held left heard world.old)) }
+    ensures answered { OnOk result (IsAnswered (world_row Observer-dyn world.old) (Ok (Locate point.now)) reply.new (world_row Observer-dyn world.old)) }
     ensures same { world.new ≡ world.old }
 {
     put_cell(reply, world.locate(point)?)?;
@@ -24,8 +24,8 @@ pub fn locate(world: &mut World, point: &Point, reply: &mut Reply) -> Result<(),
 /// Tells the curves along an edge.
 pub fn edge(world: &World, p: &Point, q: &Point, reply: &mut Reply) -> Result<(), NoMemory>
     requires { reply.old ≡ [] }
-    ensures answered { OnOk result (IsAnswered (world_row tells held left heard world.now) (Ok (Edge p.now q.now)) reply.new (world_row tells held left heard world.now)) }
-    ensures err { OnErr result (MayTake (world_row tells held left heard world.now) (Ok (Edge p.now q.now))) }
+    ensures answered { OnOk result (IsAnswered (world_row Observer-dyn world.now) (Ok (Edge p.now q.now)) reply.new (world_row Observer-dyn world.now)) }
+    ensures err { OnErr result (MayTake (world_row Observer-dyn world.now) (Ok (Edge p.now q.now))) }
 {
     match world.curves_of(p, q) {
         Ok(curves) => return put_curves(reply, &curves),
@@ -38,8 +38,8 @@ pub fn edge(world: &World, p: &Point, q: &Point, reply: &mut Reply) -> Result<()
 /// Tells the edges along which a curve runs.
 pub fn curve(world: &World, curve: u32, reply: &mut Reply) -> Result<(), NoMemory>
     requires { reply.old ≡ [] }
-    ensures answered { OnOk result (IsAnswered (world_row tells held left heard world.now) (Ok (Curve curve)) reply.new (world_row tells held left heard world.now)) }
-    ensures err { OnErr result (MayTake (world_row tells held left heard world.now) (Ok (Curve curve))) }
+    ensures answered { OnOk result (IsAnswered (world_row Observer-dyn world.now) (Ok (Curve curve)) reply.new (world_row Observer-dyn world.now)) }
+    ensures err { OnErr result (MayTake (world_row Observer-dyn world.now) (Ok (Curve curve))) }
 {
     match world.edges_of(CurveId(curve)) {
         Ok(edges) => return put_curve(reply, curve, &edges),
@@ -52,7 +52,7 @@ pub fn curve(world: &World, curve: u32, reply: &mut Reply) -> Result<(), NoMemor
 /// Tells how many cells of each kind there are, and how many curves.
 pub fn count(world: &World, reply: &mut Reply) -> Result<(), NoMemory>
     requires { reply.old ≡ [] }
-    ensures { OnOk result (IsAnswered (world_row tells held left heard world.now) (Ok Count) reply.new (world_row tells held left heard world.now)) }
+    ensures { OnOk result (IsAnswered (world_row Observer-dyn world.now) (Ok Count) reply.new (world_row Observer-dyn world.now)) }
 {
     put_counts(reply, &world.counts()?)
 }
@@ -60,7 +60,7 @@ pub fn count(world: &World, reply: &mut Reply) -> Result<(), NoMemory>
 /// Tells the whole subdivision.
 pub fn show(world: &World, reply: &mut Reply) -> Result<(), NoMemory>
     requires { reply.old ≡ [] }
-    ensures { OnOk result (IsAnswered (world_row tells held left heard world.now) (Ok Show) reply.new (world_row tells held left heard world.now)) }
+    ensures { OnOk result (IsAnswered (world_row Observer-dyn world.now) (Ok Show) reply.new (world_row Observer-dyn world.now)) }
 {
     reply.set_bytes(world.text()?);
     Ok(())
@@ -69,7 +69,7 @@ pub fn show(world: &World, reply: &mut Reply) -> Result<(), NoMemory>
 /// Tells the whole overlay of both layers.
 pub fn overlay(world: &World, reply: &mut Reply) -> Result<(), NoMemory>
     requires { reply.old ≡ [] }
-    ensures { OnOk result (IsAnswered (world_row tells held left heard world.now) (Ok Overlay) reply.new (world_row tells held left heard world.now)) }
+    ensures { OnOk result (IsAnswered (world_row Observer-dyn world.now) (Ok Overlay) reply.new (world_row Observer-dyn world.now)) }
 {
     reply.set_bytes(world.overlay_text()?);
     Ok(())

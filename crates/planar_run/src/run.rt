@@ -28,8 +28,8 @@ const BUFFER: usize = 4096;
 // Reads the script and answers its lines, by an engine that stands before the first byte.
 fn answer_script<S: Source, K: Sink>(engine: &mut Engine, source: &mut S, sink: &mut K) -> Status
     requires line { engine.old.line ≡ [] }
-    requires kept { IsKeptWorld tells held (λ b. (⟦<dyn Observer as Observer>⟧ b.vtable).left b.value) heard engine.old.world }
-    ensures ends { (observers : List Waiting) → world_row tells held (λ b. (⟦<dyn Observer as Observer>⟧ b.vtable).left b.value) heard engine.old.world ≡ first_world observers →
+    requires kept { IsKeptWorld Observer-dyn engine.old.world }
+    ensures ends { (observers : List Waiting) → world_row Observer-dyn engine.old.world ≡ first_world observers →
         Ends observers result (S.left source.old) (S.left source.new) (K.taken sink.old) (K.taken sink.new) }
     ensures causes { Causes result (S.faults source.old) (S.faults source.new) (K.faults sink.old) (K.faults sink.new) }
     ensures reads { S.calls source.new ≤ S.calls source.old + (SCRIPT_LIMIT + 1) }
@@ -67,7 +67,7 @@ fn run<S: Source, K: Sink>(
     sink: &mut K,
     observers: Vec<Box<dyn Observer>>,
 ) -> Status
-    ensures ends { Ends (waiting_rows tells (λ b. (⟦<dyn Observer as Observer>⟧ b.vtable).left b.value) observers.items) result (S.left source.old) (S.left source.new) (K.taken sink.old) (K.taken sink.new) }
+    ensures ends { Ends (waiting_rows Observer-dyn observers.items) result (S.left source.old) (S.left source.new) (K.taken sink.old) (K.taken sink.new) }
     ensures causes { Causes result (S.faults source.old) (S.faults source.new) (K.faults sink.old) (K.faults sink.new) }
     ensures reads { S.calls source.new ≤ S.calls source.old + (SCRIPT_LIMIT + 1) }
 {
@@ -83,9 +83,9 @@ fn run<S: Source, K: Sink>(
 
 // Writes the last reply to a made script, by an engine that stands before the first line.
 fn answer_made<K: Sink>(engine: &mut Engine, segments: u32, seed: u32, sink: &mut K) -> Status
-    requires kept { IsKeptWorld tells held (λ b. (⟦<dyn Observer as Observer>⟧ b.vtable).left b.value) heard engine.old.world }
-    ensures made { result ≡ Status.Done → AnswersMade (K.taken sink.old) (K.taken sink.new) (world_row tells held (λ b. (⟦<dyn Observer as Observer>⟧ b.vtable).left b.value) heard engine.old.world) (script segments seed) }
-    ensures broken { result ≡ Status.WriteFault → AnswersMadePart (K.taken sink.old) (K.taken sink.new) (world_row tells held (λ b. (⟦<dyn Observer as Observer>⟧ b.vtable).left b.value) heard engine.old.world) (script segments seed) }
+    requires kept { IsKeptWorld Observer-dyn engine.old.world }
+    ensures made { result ≡ Status.Done → AnswersMade (K.taken sink.old) (K.taken sink.new) (world_row Observer-dyn engine.old.world) (script segments seed) }
+    ensures broken { result ≡ Status.WriteFault → AnswersMadePart (K.taken sink.old) (K.taken sink.new) (world_row Observer-dyn engine.old.world) (script segments seed) }
     ensures only { (result ≡ Status.Done) ⊎ (result ≡ Status.WriteFault) }
     ensures causes { Causes result 0 0 (K.faults sink.old) (K.faults sink.new) }
 {
@@ -105,8 +105,8 @@ fn run_made<K: Sink>(
     sink: &mut K,
     observers: Vec<Box<dyn Observer>>,
 ) -> Status
-    ensures made { result ≡ Status.Done → AnswersMade (K.taken sink.old) (K.taken sink.new) (first_world (waiting_rows tells (λ b. (⟦<dyn Observer as Observer>⟧ b.vtable).left b.value) observers.items)) (script segments seed) }
-    ensures broken { result ≡ Status.WriteFault → AnswersMadePart (K.taken sink.old) (K.taken sink.new) (first_world (waiting_rows tells (λ b. (⟦<dyn Observer as Observer>⟧ b.vtable).left b.value) observers.items)) (script segments seed) }
+    ensures made { result ≡ Status.Done → AnswersMade (K.taken sink.old) (K.taken sink.new) (first_world (waiting_rows Observer-dyn observers.items)) (script segments seed) }
+    ensures broken { result ≡ Status.WriteFault → AnswersMadePart (K.taken sink.old) (K.taken sink.new) (first_world (waiting_rows Observer-dyn observers.items)) (script segments seed) }
     ensures no_memory { result ≡ Status.NoMemory → K.taken sink.new ≡ K.taken sink.old }
     ensures only { (result ≡ Status.Done) ⊎ ((result ≡ Status.WriteFault) ⊎ (result ≡ Status.NoMemory)) }
     ensures causes { Causes result 0 0 (K.faults sink.old) (K.faults sink.new) }
@@ -152,16 +152,16 @@ pub fn planar<S: Source, K: Sink>(
 ) -> Status
     // Where the words ask for the script of the source, what the sink took is a run of its lines, and its end was reached.
     ensures read_to_end { AskForScript (map string_bytes words.now) → result ≡ Status.Done → ReadToEnd (S.left source.old) (S.left source.new) }
-    ensures answered { AskForScript (map string_bytes words.now) → result ≡ Status.Done → UsedAndWritten (S.left source.old) (S.left source.new) (K.taken sink.old) (K.taken sink.new) (λ used out. IsRun (waiting_rows tells (λ b. (⟦<dyn Observer as Observer>⟧ b.vtable).left b.value) observers.items) (lines used) out) }
+    ensures answered { AskForScript (map string_bytes words.now) → result ≡ Status.Done → UsedAndWritten (S.left source.old) (S.left source.new) (K.taken sink.old) (K.taken sink.new) (λ used out. IsRun (waiting_rows Observer-dyn observers.items) (lines used) out) }
 
     // After a fault, or past the limit, the lines whose end was read are answered.
-    ensures answered_to_read_fault { result ≡ Status.ReadFault → UsedAndWritten (S.left source.old) (S.left source.new) (K.taken sink.old) (K.taken sink.new) (λ used out. IsRun (waiting_rows tells (λ b. (⟦<dyn Observer as Observer>⟧ b.vtable).left b.value) observers.items) (ended_lines used) out) }
-    ensures answered_to_limit { result ≡ Status.TooLong → UsedAndWritten (S.left source.old) (S.left source.new) (K.taken sink.old) (K.taken sink.new) (λ used out. IsRun (waiting_rows tells (λ b. (⟦<dyn Observer as Observer>⟧ b.vtable).left b.value) observers.items) (ended_lines (take SCRIPT_LIMIT used)) out) }
-    ensures answered_to_write_fault { AskForScript (map string_bytes words.now) → result ≡ Status.WriteFault → UsedAndWritten (S.left source.old) (S.left source.new) (K.taken sink.old) (K.taken sink.new) (λ used out. BeginsRun (waiting_rows tells (λ b. (⟦<dyn Observer as Observer>⟧ b.vtable).left b.value) observers.items) (lines used) out) }
+    ensures answered_to_read_fault { result ≡ Status.ReadFault → UsedAndWritten (S.left source.old) (S.left source.new) (K.taken sink.old) (K.taken sink.new) (λ used out. IsRun (waiting_rows Observer-dyn observers.items) (ended_lines used) out) }
+    ensures answered_to_limit { result ≡ Status.TooLong → UsedAndWritten (S.left source.old) (S.left source.new) (K.taken sink.old) (K.taken sink.new) (λ used out. IsRun (waiting_rows Observer-dyn observers.items) (ended_lines (take SCRIPT_LIMIT used)) out) }
+    ensures answered_to_write_fault { AskForScript (map string_bytes words.now) → result ≡ Status.WriteFault → UsedAndWritten (S.left source.old) (S.left source.new) (K.taken sink.old) (K.taken sink.new) (λ used out. BeginsRun (waiting_rows Observer-dyn observers.items) (lines used) out) }
 
     // Where they ask for a made script, it took the last reply to its lines, and nothing is read.
-    ensures made { (segments seed : ℕ) → AskForMade (map string_bytes words.now) segments seed → result ≡ Status.Done → AnswersMade (K.taken sink.old) (K.taken sink.new) (first_world (waiting_rows tells (λ b. (⟦<dyn Observer as Observer>⟧ b.vtable).left b.value) observers.items)) (script segments seed) }
-    ensures made_to_write_fault { (segments seed : ℕ) → AskForMade (map string_bytes words.now) segments seed → result ≡ Status.WriteFault → AnswersMadePart (K.taken sink.old) (K.taken sink.new) (first_world (waiting_rows tells (λ b. (⟦<dyn Observer as Observer>⟧ b.vtable).left b.value) observers.items)) (script segments seed) }
+    ensures made { (segments seed : ℕ) → AskForMade (map string_bytes words.now) segments seed → result ≡ Status.Done → AnswersMade (K.taken sink.old) (K.taken sink.new) (first_world (waiting_rows Observer-dyn observers.items)) (script segments seed) }
+    ensures made_to_write_fault { (segments seed : ℕ) → AskForMade (map string_bytes words.now) segments seed → result ≡ Status.WriteFault → AnswersMadePart (K.taken sink.old) (K.taken sink.new) (first_world (waiting_rows Observer-dyn observers.items)) (script segments seed) }
     ensures made_without_source { (segments seed : ℕ) → AskForMade (map string_bytes words.now) segments seed → (source.new ≡ source.old) × ((result ≡ Status.Done) ⊎ ((result ≡ Status.WriteFault) ⊎ (result ≡ Status.NoMemory))) }
 
     // A run is done only where the words are in the grammar.

@@ -1,7 +1,7 @@
 ghost use Rattle.std.specs.Prelude.{◌≡◌, ◌∷◌, [], true, length, map, IfOk, IfErr, OnOk, OnErr};
 ghost use Rattle.plane_graphs.specs.Graph.{curves};
-ghost use Rattle.observer_bus.specs.Rows.{bus_of};
-ghost use Rattle.arrangement.specs.Arranged.{arranged_of};
+ghost use Rattle.observer_bus.specs.Rows.{bus_row};
+ghost use Rattle.arrangement.specs.Arranged.{arranged};
 ghost use Rattle.arrangement.specs.Answers.{insert_said, drop_said, cut_said, pin_said, unpin_said, split_said, merge_said, edge_of, cut_between, split_at};
 ghost use Rattle.edit_steps.specs.Edits.{Insert, Drop, Pin, Unpin, Merge, ClearAll};
 ghost use Rattle.edit_steps.specs.Refusals.{IsAnswerFor};
@@ -42,16 +42,16 @@ pub struct World {
 
 // A bus with room for all its seats, and nobody in them.
 fn empty_bus(alloc: Global) -> Result<Bus, NoMemory>
-    ensures { IfOk result (λ b. (bus_of tells held left heard b).seats ≡ []) }
+    ensures { IfOk result (λ b. (bus_row Observer-dyn b).seats ≡ []) }
 {
     Bus::new(alloc, Vec::with_capacity(alloc, SEATS)?)
 }
 
 // An arrangement of nothing, under the limits of a script. It takes no memory.
 fn empty_arrangement(alloc: Global, bus: Bus) -> Arrangement
-    requires { (bus_of tells held left heard bus).seats ≡ [] }
-    ensures first { half_in (arranged_of tells held left heard result) ≡ first_half }
-    ensures kept { IsKept (arranged_of tells held left heard result) }
+    requires { (bus_row Observer-dyn bus).seats ≡ [] }
+    ensures first { half_in (arranged Observer-dyn result) ≡ first_half }
+    ensures kept { IsKept (arranged Observer-dyn result) }
 {
     Arrangement::new(alloc, Limits::FULL, bus).unwrap()
 }
@@ -63,8 +63,8 @@ impl World {
         strategy: Strategy,
         observers: Vec<Box<dyn Observer>>,
     ) -> Result<World, NoMemory>
-        ensures first { IfOk result (λ w. world_row tells held left heard w ≡ first_world (waiting_rows tells left observers.items)) }
-        ensures kept { IfOk result (λ w. IsKeptWorld tells held left heard w) }
+        ensures first { IfOk result (λ w. world_row Observer-dyn w ≡ first_world (waiting_rows Observer-dyn observers.items)) }
+        ensures kept { IfOk result (λ w. IsKeptWorld Observer-dyn w) }
     {
         let observers = all_waiting(alloc, observers)?;
         let red = empty_bus(alloc)?;
@@ -81,12 +81,12 @@ impl World {
 
     /// Makes a segment a new curve, under the next number, which is answered.
     pub fn insert(&mut self, segment: Segment) -> Result<CurveId, InsertError>
-        requires kept { IsKeptWorld tells held left heard self.old }
-        ensures number { IfOk result (λ c. c.0 ≡ (world_row tells held left heard self.old).layer.next) }
-        ensures done { OnOk result (IsDone (Insert (world_row tells held left heard self.old).layer.next segment) (world_row tells held left heard self.old) (world_row tells held left heard self.new) (arranged_row tells held left heard self.new).bus.went) }
-        ensures refused { IsAnswerFor insert_said (refusal_of (world_row tells held left heard self.old) (Insert (world_row tells held left heard self.old).layer.next segment)) result }
-        ensures err { OnErr result (world_row tells held left heard self.new ≡ world_row tells held left heard self.old) }
-        ensures kept { IsKeptWorld tells held left heard self.new }
+        requires kept { IsKeptWorld Observer-dyn self.old }
+        ensures number { IfOk result (λ c. c.0 ≡ (world_row Observer-dyn self.old).layer.next) }
+        ensures done { OnOk result (IsDone (Insert (world_row Observer-dyn self.old).layer.next segment) (world_row Observer-dyn self.old) (world_row Observer-dyn self.new) (arranged_row Observer-dyn self.new).bus.went) }
+        ensures refused { IsAnswerFor insert_said (refusal_of (world_row Observer-dyn self.old) (Insert (world_row Observer-dyn self.old).layer.next segment)) result }
+        ensures err { OnErr result (world_row Observer-dyn self.new ≡ world_row Observer-dyn self.old) }
+        ensures kept { IsKeptWorld Observer-dyn self.new }
     {
         self.arrangement.laws();
         self.arrangement.insert(segment)
@@ -94,11 +94,11 @@ impl World {
 
     /// Takes a curve away.
     pub fn remove_curve(&mut self, curve: CurveId) -> Result<(), DropError>
-        requires kept { IsKeptWorld tells held left heard self.old }
-        ensures done { OnOk result (IsDone (Drop curve.0) (world_row tells held left heard self.old) (world_row tells held left heard self.new) (arranged_row tells held left heard self.new).bus.went) }
-        ensures refused { IsAnswerFor drop_said (refusal_of (world_row tells held left heard self.old) (Drop curve.0)) result }
-        ensures err { OnErr result (world_row tells held left heard self.new ≡ world_row tells held left heard self.old) }
-        ensures kept { IsKeptWorld tells held left heard self.new }
+        requires kept { IsKeptWorld Observer-dyn self.old }
+        ensures done { OnOk result (IsDone (Drop curve.0) (world_row Observer-dyn self.old) (world_row Observer-dyn self.new) (arranged_row Observer-dyn self.new).bus.went) }
+        ensures refused { IsAnswerFor drop_said (refusal_of (world_row Observer-dyn self.old) (Drop curve.0)) result }
+        ensures err { OnErr result (world_row Observer-dyn self.new ≡ world_row Observer-dyn self.old) }
+        ensures kept { IsKeptWorld Observer-dyn self.new }
     {
         self.arrangement.laws();
         self.arrangement.remove_curve(curve)
@@ -106,11 +106,11 @@ impl World {
 
     /// Takes the edge between two points, which come in either order, from all its curves.
     pub fn remove_edge(&mut self, p: &Point, q: &Point) -> Result<(), CutError>
-        requires kept { IsKeptWorld tells held left heard self.old }
-        ensures done { OnOk result (IsDone (cut_between p.now q.now) (world_row tells held left heard self.old) (world_row tells held left heard self.new) (arranged_row tells held left heard self.new).bus.went) }
-        ensures refused { IsAnswerFor cut_said (refusal_of (world_row tells held left heard self.old) (cut_between p.now q.now)) result }
-        ensures err { OnErr result (world_row tells held left heard self.new ≡ world_row tells held left heard self.old) }
-        ensures kept { IsKeptWorld tells held left heard self.new }
+        requires kept { IsKeptWorld Observer-dyn self.old }
+        ensures done { OnOk result (IsDone (cut_between p.now q.now) (world_row Observer-dyn self.old) (world_row Observer-dyn self.new) (arranged_row Observer-dyn self.new).bus.went) }
+        ensures refused { IsAnswerFor cut_said (refusal_of (world_row Observer-dyn self.old) (cut_between p.now q.now)) result }
+        ensures err { OnErr result (world_row Observer-dyn self.new ≡ world_row Observer-dyn self.old) }
+        ensures kept { IsKeptWorld Observer-dyn self.new }
     {
         self.arrangement.laws();
         self.arrangement.remove_edge(p, q)
@@ -118,11 +118,11 @@ impl World {
 
     /// Pins a point.
     pub fn pin(&mut self, point: &Point) -> Result<(), PinError>
-        requires kept { IsKeptWorld tells held left heard self.old }
-        ensures done { OnOk result (IsDone (Pin point.now) (world_row tells held left heard self.old) (world_row tells held left heard self.new) (arranged_row tells held left heard self.new).bus.went) }
-        ensures refused { IsAnswerFor pin_said (refusal_of (world_row tells held left heard self.old) (Pin point.now)) result }
-        ensures err { OnErr result (world_row tells held left heard self.new ≡ world_row tells held left heard self.old) }
-        ensures kept { IsKeptWorld tells held left heard self.new }
+        requires kept { IsKeptWorld Observer-dyn self.old }
+        ensures done { OnOk result (IsDone (Pin point.now) (world_row Observer-dyn self.old) (world_row Observer-dyn self.new) (arranged_row Observer-dyn self.new).bus.went) }
+        ensures refused { IsAnswerFor pin_said (refusal_of (world_row Observer-dyn self.old) (Pin point.now)) result }
+        ensures err { OnErr result (world_row Observer-dyn self.new ≡ world_row Observer-dyn self.old) }
+        ensures kept { IsKeptWorld Observer-dyn self.new }
     {
         self.arrangement.laws();
         self.arrangement.pin(point)
@@ -130,11 +130,11 @@ impl World {
 
     /// Unpins a point.
     pub fn unpin(&mut self, point: &Point) -> Result<(), NotPinned>
-        requires kept { IsKeptWorld tells held left heard self.old }
-        ensures done { OnOk result (IsDone (Unpin point.now) (world_row tells held left heard self.old) (world_row tells held left heard self.new) (arranged_row tells held left heard self.new).bus.went) }
-        ensures refused { IsAnswerFor unpin_said (refusal_of (world_row tells held left heard self.old) (Unpin point.now)) result }
-        ensures err { OnErr result (world_row tells held left heard self.new ≡ world_row tells held left heard self.old) }
-        ensures kept { IsKeptWorld tells held left heard self.new }
+        requires kept { IsKeptWorld Observer-dyn self.old }
+        ensures done { OnOk result (IsDone (Unpin point.now) (world_row Observer-dyn self.old) (world_row Observer-dyn self.new) (arranged_row Observer-dyn self.new).bus.went) }
+        ensures refused { IsAnswerFor unpin_said (refusal_of (world_row Observer-dyn self.old) (Unpin point.now)) result }
+        ensures err { OnErr result (world_row Observer-dyn self.new ≡ world_row Observer-dyn self.old) }
+        ensures kept { IsKeptWorld Observer-dyn self.new }
     {
         self.arrangement.laws();
         self.arrangement.unpin(point)
@@ -142,11 +142,11 @@ impl World {
 
     /// Pins a point inside the edge between two others, which come in either order.
     pub fn split_edge(&mut self, p: &Point, q: &Point, r: &Point) -> Result<(), SplitError>
-        requires kept { IsKeptWorld tells held left heard self.old }
-        ensures done { OnOk result (IsDone (split_at p.now q.now r.now) (world_row tells held left heard self.old) (world_row tells held left heard self.new) (arranged_row tells held left heard self.new).bus.went) }
-        ensures refused { IsAnswerFor split_said (refusal_of (world_row tells held left heard self.old) (split_at p.now q.now r.now)) result }
-        ensures err { OnErr result (world_row tells held left heard self.new ≡ world_row tells held left heard self.old) }
-        ensures kept { IsKeptWorld tells held left heard self.new }
+        requires kept { IsKeptWorld Observer-dyn self.old }
+        ensures done { OnOk result (IsDone (split_at p.now q.now r.now) (world_row Observer-dyn self.old) (world_row Observer-dyn self.new) (arranged_row Observer-dyn self.new).bus.went) }
+        ensures refused { IsAnswerFor split_said (refusal_of (world_row Observer-dyn self.old) (split_at p.now q.now r.now)) result }
+        ensures err { OnErr result (world_row Observer-dyn self.new ≡ world_row Observer-dyn self.old) }
+        ensures kept { IsKeptWorld Observer-dyn self.new }
     {
         self.arrangement.laws();
         self.arrangement.split_edge(p, q, r)
@@ -154,11 +154,11 @@ impl World {
 
     /// Unpins a point that its pin alone makes a vertex, where two edges meet.
     pub fn merge_edge(&mut self, r: &Point) -> Result<(), MergeError>
-        requires kept { IsKeptWorld tells held left heard self.old }
-        ensures done { OnOk result (IsDone (Merge r.now) (world_row tells held left heard self.old) (world_row tells held left heard self.new) (arranged_row tells held left heard self.new).bus.went) }
-        ensures refused { IsAnswerFor merge_said (refusal_of (world_row tells held left heard self.old) (Merge r.now)) result }
-        ensures err { OnErr result (world_row tells held left heard self.new ≡ world_row tells held left heard self.old) }
-        ensures kept { IsKeptWorld tells held left heard self.new }
+        requires kept { IsKeptWorld Observer-dyn self.old }
+        ensures done { OnOk result (IsDone (Merge r.now) (world_row Observer-dyn self.old) (world_row Observer-dyn self.new) (arranged_row Observer-dyn self.new).bus.went) }
+        ensures refused { IsAnswerFor merge_said (refusal_of (world_row Observer-dyn self.old) (Merge r.now)) result }
+        ensures err { OnErr result (world_row Observer-dyn self.new ≡ world_row Observer-dyn self.old) }
+        ensures kept { IsKeptWorld Observer-dyn self.new }
     {
         self.arrangement.laws();
         self.arrangement.merge_edge(r)
@@ -166,9 +166,9 @@ impl World {
 
     /// Takes every segment and pin away.
     pub fn clear(&mut self)
-        requires kept { IsKeptWorld tells held left heard self.old }
-        ensures done { IsDone ClearAll (world_row tells held left heard self.old) (world_row tells held left heard self.new) (arranged_row tells held left heard self.new).bus.went }
-        ensures kept { IsKeptWorld tells held left heard self.new }
+        requires kept { IsKeptWorld Observer-dyn self.old }
+        ensures done { IsDone ClearAll (world_row Observer-dyn self.old) (world_row Observer-dyn self.new) (arranged_row Observer-dyn self.new).bus.went }
+        ensures kept { IsKeptWorld Observer-dyn self.new }
     {
         self.arrangement.laws();
         self.arrangement.clear();
@@ -176,25 +176,25 @@ impl World {
 
     /// The curves along the edge between two points, which come in either order.
     pub fn curves_of(&self, p: &Point, q: &Point) -> Result<Vec<CurveId>, EdgeError>
-        ensures curves { IfOk result (λ v. map (λ c. c.0) v.items ≡ curves (graph_of (world_row tells held left heard self.now)) (edge_between p.now q.now).low (edge_between p.now q.now).high) }
-        ensures allowed { OnOk result (is_edge (edge_between p.now q.now) (world_row tells held left heard self.now) ≡ true) }
-        ensures barred { IfErr result (λ e. BarsEdge e (edge_between p.now q.now) (world_row tells held left heard self.now)) }
+        ensures curves { IfOk result (λ v. map (λ c. c.0) v.items ≡ curves (graph_of (world_row Observer-dyn self.now)) (edge_between p.now q.now).low (edge_between p.now q.now).high) }
+        ensures allowed { OnOk result (is_edge (edge_between p.now q.now) (world_row Observer-dyn self.now) ≡ true) }
+        ensures barred { IfErr result (λ e. BarsEdge e (edge_between p.now q.now) (world_row Observer-dyn self.now)) }
     {
         self.arrangement.curves_of(p, q)
     }
 
     /// The edges along which a curve runs, in their order.
     pub fn edges_of(&self, curve: CurveId) -> Result<Vec<(Point, Point)>, HistoryError>
-        ensures edges { IfOk result (λ v. map edge_of v.items ≡ edges_along curve.0 (graph_of (world_row tells held left heard self.now))) }
-        ensures allowed { OnOk result (is_named curve.0 (world_row tells held left heard self.now) ≡ true) }
-        ensures barred { IfErr result (λ e. BarsEdges e curve.0 (world_row tells held left heard self.now)) }
+        ensures edges { IfOk result (λ v. map edge_of v.items ≡ edges_along curve.0 (graph_of (world_row Observer-dyn self.now))) }
+        ensures allowed { OnOk result (is_named curve.0 (world_row Observer-dyn self.now) ≡ true) }
+        ensures barred { IfErr result (λ e. BarsEdges e curve.0 (world_row Observer-dyn self.now)) }
     {
         self.arrangement.edges_of(curve)
     }
 
     /// Where a point lies.
     pub fn locate(&mut self, point: &Point) -> Result<Cell, NoMemory>
-        ensures cell { IfOk result (λ c. c ≡ holds (subdivision_of (world_row tells held left heard self.old)) point.now) }
+        ensures cell { IfOk result (λ c. c ≡ holds (subdivision_of (world_row Observer-dyn self.old)) point.now) }
         ensures same { self.new ≡ self.old }
     {
         self.arrangement.locate(self.strategy, point)
@@ -202,21 +202,21 @@ impl World {
 
     /// How many vertices, edges, faces, inner cycles, isolated vertices and named curves there are.
     pub fn counts(&self) -> Result<Counts, NoMemory>
-        ensures { IfOk result (λ c. c.vertices ∷ c.edges ∷ c.faces ∷ c.inner ∷ c.isolated ∷ c.curves ∷ [] ≡ counted (subdivision_of (world_row tells held left heard self.now)) (length (world_row tells held left heard self.now).layer.names)) }
+        ensures { IfOk result (λ c. c.vertices ∷ c.edges ∷ c.faces ∷ c.inner ∷ c.isolated ∷ c.curves ∷ [] ≡ counted (subdivision_of (world_row Observer-dyn self.now)) (length (world_row Observer-dyn self.now).layer.names)) }
     {
         self.arrangement.counts()
     }
 
     /// The text of the subdivision.
     pub fn text(&self) -> Result<Vec<u8>, NoMemory>
-        ensures { IfOk result (λ bytes. bytes.items ≡ present_text (world_row tells held left heard self.now).layer.present) }
+        ensures { IfOk result (λ bytes. bytes.items ≡ present_text (world_row Observer-dyn self.now).layer.present) }
     {
         self.arrangement.text()
     }
 
     /// The names of the observers that joined, left and were lost in the last edit.
     pub fn went(&self) -> &Went
-        ensures { result.now ≡ (arranged_row tells held left heard self.now).bus.went }
+        ensures { result.now ≡ (arranged_row Observer-dyn self.now).bus.went }
     {
         self.arrangement.went()
     }

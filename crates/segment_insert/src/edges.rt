@@ -4,7 +4,7 @@ ghost use Rattle.slab_laws.specs.Sound.{IsGraphSound};
 ghost use Rattle.slab_laws.specs.View.{IsOutOf, target_in};
 ghost use Rattle.curve_history.specs.Past.{curves_on, SameLayer};
 ghost use Rattle.dcel_records.specs.declared.spot.Spot.TheVariants.{Vertex};
-ghost use Rattle.observer_bus.specs.Rows.{bus_of};
+ghost use Rattle.observer_bus.specs.Rows.{bus_row};
 ghost use Rattle.told_steps.specs.ToldRuns.{AreInStep};
 ghost use Rattle.zone_walk.specs.Zone.{is_on_segment, is_vertex, points_of_meetings};
 ghost use Rattle.segment_insert.specs.Parts.{IsOpenPart};
@@ -59,7 +59,7 @@ fn new_edge(
     at_u: Option<DartId>,
 )
     requires in_step { AreInStep records.old.graph (curves_on history.old)
-        (bus_of tells held left heard bus.old) }
+        (bus_row Observer-dyn bus.old) }
     requires part { IsOpenPart records.old.graph line.now u w }
     requires place { IsPlaceTo records.old.graph u w at_u }
     requires no_edge { (d : _) → IsOutOf records.old.graph u d → target_in records.old.graph d ≢ w }
@@ -67,10 +67,10 @@ fn new_edge(
     requires plane { MayBeAlong records.old.graph history.old u w curve.0 }
     requires darts { 2 ≤ records.old.spare_darts }
     requires pairs { 1 ≤ history.old.spare_pairs }
-    ensures told { ComesAlong records.old.graph history.old (bus_of tells held left heard bus.old) u w curve.0
-        records.new.graph history.new (bus_of tells held left heard bus.new) }
+    ensures told { ComesAlong records.old.graph history.old (bus_row Observer-dyn bus.old) u w curve.0
+        records.new.graph history.new (bus_row Observer-dyn bus.new) }
     ensures in_step { AreInStep records.new.graph (curves_on history.new)
-        (bus_of tells held left heard bus.new) }
+        (bus_row Observer-dyn bus.new) }
     ensures vertices { records.new.graph.vertices ≡ records.old.graph.vertices }
     ensures layer { SameLayer history.old history.new }
     ensures spare_darts { records.old.spare_darts ≤ records.new.spare_darts + 2 }
@@ -92,16 +92,16 @@ fn make_edge(
     w: VertexId,
 )
     requires in_step { AreInStep records.old.graph (curves_on history.old)
-        (bus_of tells held left heard bus.old) }
+        (bus_row Observer-dyn bus.old) }
     requires part { IsOpenPart records.old.graph line.now u w }
     requires curve_named { Member curve.0 history.old.names }
     requires plane { MayBeAlong records.old.graph history.old u w curve.0 }
     requires darts { 2 ≤ records.old.spare_darts }
     requires pairs { 1 ≤ history.old.spare_pairs }
-    ensures told { ComesAlong records.old.graph history.old (bus_of tells held left heard bus.old) u w curve.0
-        records.new.graph history.new (bus_of tells held left heard bus.new) }
+    ensures told { ComesAlong records.old.graph history.old (bus_row Observer-dyn bus.old) u w curve.0
+        records.new.graph history.new (bus_row Observer-dyn bus.new) }
     ensures in_step { AreInStep records.new.graph (curves_on history.new)
-        (bus_of tells held left heard bus.new) }
+        (bus_row Observer-dyn bus.new) }
     ensures vertices { records.new.graph.vertices ≡ records.old.graph.vertices }
     ensures layer { SameLayer history.old history.new }
     ensures spare_darts { records.old.spare_darts ≤ records.new.spare_darts + 2 }
@@ -126,7 +126,7 @@ pub(crate) fn make_edges(
     meetings: &[Meeting],
 )
     requires in_step { AreInStep records.old.graph (curves_on history.old)
-        (bus_of tells held left heard bus.old) }
+        (bus_row Observer-dyn bus.old) }
     requires named { AreVertices records.old.graph meetings.now }
     requires on { (m : _) → Contains meetings.now m → is_on_segment segment.now m.point ≡ true }
     requires all_on { AreAllOn records.old.graph segment.now (points_of_meetings meetings.now) }
@@ -134,10 +134,10 @@ pub(crate) fn make_edges(
     requires plane { MayBeAlongAll records.old.graph history.old curve.0 meetings.now }
     requires darts { 2 * length meetings.now ≤ records.old.spare_darts + 2 }
     requires pairs { length meetings.now ≤ history.old.spare_pairs }
-    ensures told { ComesAlongAll records.old.graph history.old (bus_of tells held left heard bus.old) curve.0 meetings.now
-        records.new.graph history.new (bus_of tells held left heard bus.new) }
+    ensures told { ComesAlongAll records.old.graph history.old (bus_row Observer-dyn bus.old) curve.0 meetings.now
+        records.new.graph history.new (bus_row Observer-dyn bus.new) }
     ensures in_step { AreInStep records.new.graph (curves_on history.new)
-        (bus_of tells held left heard bus.new) }
+        (bus_row Observer-dyn bus.new) }
     ensures layer { SameLayer history.old history.new }
 {
     let line = line_of(segment);

@@ -9,7 +9,7 @@ ghost use Rattle.curve_history.specs.declared.history.TheConstants.{LAST_CURVE};
 ghost use Rattle.record_layers.specs.RecordLayers.{IsLayer};
 ghost use Rattle.zone_walk.specs.Zone.{IsZoneOf};
 ghost use Rattle.segment_insert.specs.Insertion.{insert_said, refusal_at, pairs_needed, HasRoomFor};
-ghost use Rattle.observer_bus.specs.Rows.{bus_of};
+ghost use Rattle.observer_bus.specs.Rows.{bus_row};
 ghost use Rattle.told_steps.specs.ToldEdits.{AreWatched, IsToldEdit};
 ghost use Rattle.told_steps.specs.ToldRuns.{AreInStep, IsToldRun};
 ghost use Rattle.record_layers.specs.LayerEdits.{IsAfter, layer_at};
@@ -121,7 +121,7 @@ fn insert_by_plan(
 ) -> CurveId
     requires layer { IsLayer records.old.graph history.old }
     requires in_step { AreInStep records.old.graph (curves_on history.old)
-        (bus_of tells held left heard bus.old) }
+        (bus_row Observer-dyn bus.old) }
     requires zone { IsZoneOf records.old.graph segment.now plan }
     requires unspent { history.old.next ≤ LAST_CURVE }
     requires few { length history.old.pieces + 1 < 2 ^ 32 }
@@ -130,11 +130,11 @@ fn insert_by_plan(
     ensures number { result.0 ≡ history.old.next }
     ensures edit { IsAfter (Insert result.0 segment.now) records.old history.old records.new history.new }
     ensures told { IsToldRun records.old.graph (curves_on history.old)
-        (bus_of tells held left heard bus.old)
+        (bus_row Observer-dyn bus.old)
         (steps (Insert result.0 segment.now) (layer_at records.old history.old).present) records.new.graph (curves_on history.new)
-        (bus_of tells held left heard bus.new) }
+        (bus_row Observer-dyn bus.new) }
     ensures in_step { AreInStep records.new.graph (curves_on history.new)
-        (bus_of tells held left heard bus.new) }
+        (bus_row Observer-dyn bus.new) }
 {
     let lower = segment.lower();
     let upper = segment.upper();
@@ -168,18 +168,18 @@ pub fn insert(
     segment: &Segment,
 ) -> Result<CurveId, InsertError>
     requires layer { IsLayer records.old.graph history.old }
-    requires watched { AreWatched records.old history.old (bus_of tells held left heard bus.old) }
+    requires watched { AreWatched records.old history.old (bus_row Observer-dyn bus.old) }
     requires start { IsSpotOf records.old.graph segment.now.lower start }
     ensures layer { IsLayer records.new.graph history.new }
-    ensures watched { AreWatched records.new history.new (bus_of tells held left heard bus.new) }
+    ensures watched { AreWatched records.new history.new (bus_row Observer-dyn bus.new) }
     ensures number { IfOk result (λ c. c.0 ≡ history.old.next) }
     ensures edit { IfOk result (λ c. IsAfter (Insert c.0 segment.now) records.old history.old records.new history.new) }
-    ensures told { IfOk result (λ c. IsToldEdit (Insert c.0 segment.now) records.old history.old (bus_of tells held left heard bus.old) records.new history.new (bus_of tells held left heard bus.new)) }
+    ensures told { IfOk result (λ c. IsToldEdit (Insert c.0 segment.now) records.old history.old (bus_row Observer-dyn bus.old) records.new history.new (bus_row Observer-dyn bus.new)) }
     ensures refused { IsAnswerFor insert_said (refusal_at curves pieces records.old history.old) result }
     ensures graph { OnErr result (records.new.graph ≡ records.old.graph) }
     ensures same_layer { OnErr result (SameLayer history.old history.new) }
     ensures same_curves { OnErr result (SameCurves history.old history.new) }
-    ensures untold { OnErr result (bus_of tells held left heard bus.new ≡ bus_of tells held left heard bus.old) }
+    ensures untold { OnErr result (bus_row Observer-dyn bus.new ≡ bus_row Observer-dyn bus.old) }
 {
     if let Some(error) = refusal_of(&*history, curves, pieces) {
         return Err(error);

@@ -2,7 +2,7 @@ ghost use Rattle.std.specs.Prelude.{◌≡◌, ◌≤◌, ◌+◌, ◌*◌, [], 
 ghost use Rattle.plane_graphs.specs.Line.{IsProper};
 ghost use Rattle.slab_laws.specs.Sound.{IsGraphSound};
 ghost use Rattle.curve_history.specs.Past.{curves_on, SameLayer};
-ghost use Rattle.observer_bus.specs.Rows.{bus_of};
+ghost use Rattle.observer_bus.specs.Rows.{bus_row};
 ghost use Rattle.told_steps.specs.ToldRuns.{AreInStep};
 ghost use Rattle.zone_walk.specs.Zone.{vertices_needed, splits_needed, points_of_meetings};
 ghost use Rattle.segment_insert.specs.Coming.{HasPart, LeadsTo, IsSpotStill};
@@ -42,16 +42,16 @@ fn make_vertex(
     meeting: Meeting,
 ) -> VertexId
     requires in_step { AreInStep records.old.graph (curves_on history.old)
-        (bus_of tells held left heard bus.old) }
+        (bus_row Observer-dyn bus.old) }
     requires spot { IsSpotStill records.old.graph (curves_on history.old) meeting.point meeting.spot }
     requires plane { MayBeVertices records.old.graph history.old (meeting ∷ []) }
     requires vertices { vertices_needed (meeting ∷ []) ≤ records.old.spare_vertices }
     requires darts { 2 * splits_needed (meeting ∷ []) ≤ records.old.spare_darts }
     requires pairs { pairs_at (curves_on history.old) meeting.spot ≤ history.old.spare_pairs }
-    ensures told { BecomesVertex records.old.graph history.old (bus_of tells held left heard bus.old) meeting
-        records.new.graph history.new (bus_of tells held left heard bus.new) result }
+    ensures told { BecomesVertex records.old.graph history.old (bus_row Observer-dyn bus.old) meeting
+        records.new.graph history.new (bus_row Observer-dyn bus.new) result }
     ensures in_step { AreInStep records.new.graph (curves_on history.new)
-        (bus_of tells held left heard bus.new) }
+        (bus_row Observer-dyn bus.new) }
     ensures layer { SameLayer history.old history.new }
     ensures vertices { records.old.spare_vertices ≤ records.new.spare_vertices + vertices_needed (meeting ∷ []) }
     ensures darts { records.old.spare_darts ≤ records.new.spare_darts + 2 * splits_needed (meeting ∷ []) }
@@ -77,16 +77,16 @@ pub(crate) fn make_vertices(
     meetings: &mut Vec<Meeting>,
 )
     requires in_step { AreInStep records.old.graph (curves_on history.old)
-        (bus_of tells held left heard bus.old) }
+        (bus_row Observer-dyn bus.old) }
     requires meetings { AreMeetings records.old.graph meetings.old.items }
     requires plane { MayBeVertices records.old.graph history.old meetings.old.items }
     requires vertices { vertices_needed meetings.old.items ≤ records.old.spare_vertices }
     requires darts { 2 * splits_needed meetings.old.items ≤ records.old.spare_darts }
     requires pairs { new_pairs history.old meetings.old.items ≤ history.old.spare_pairs }
-    ensures told { BecomeVertices records.old.graph history.old (bus_of tells held left heard bus.old) meetings.old.items
-        records.new.graph history.new (bus_of tells held left heard bus.new) }
+    ensures told { BecomeVertices records.old.graph history.old (bus_row Observer-dyn bus.old) meetings.old.items
+        records.new.graph history.new (bus_row Observer-dyn bus.new) }
     ensures in_step { AreInStep records.new.graph (curves_on history.new)
-        (bus_of tells held left heard bus.new) }
+        (bus_row Observer-dyn bus.new) }
     ensures named { AreVertices records.new.graph meetings.new.items }
     ensures points { points_of_meetings meetings.new.items ≡ points_of_meetings meetings.old.items }
     ensures layer { SameLayer history.old history.new }

@@ -10,7 +10,7 @@ ghost use Rattle.record_orders.specs.Keys.{dart_key};
 ghost use Rattle.record_layers.specs.RecordLayers.{IsLayer};
 ghost use Rattle.record_orders.specs.Edges.{edge_of_key};
 ghost use Rattle.segment_remove.specs.Refused.{drop_said};
-ghost use Rattle.observer_bus.specs.Rows.{bus_of};
+ghost use Rattle.observer_bus.specs.Rows.{bus_row};
 ghost use Rattle.told_steps.specs.ToldEdits.{AreWatched, IsToldEdit};
 ghost use Rattle.record_layers.specs.LayerEdits.{layer_at, IsAfter};
 
@@ -87,16 +87,16 @@ pub fn remove_curve(
     curve: CurveId,
 ) -> Result<(), DropError>
     requires layer { IsLayer records.old.graph history.old }
-    requires watched { AreWatched records.old history.old (bus_of tells held left heard bus.old) }
+    requires watched { AreWatched records.old history.old (bus_row Observer-dyn bus.old) }
     ensures layer { IsLayer records.new.graph history.new }
-    ensures watched { AreWatched records.new history.new (bus_of tells held left heard bus.new) }
+    ensures watched { AreWatched records.new history.new (bus_row Observer-dyn bus.new) }
     ensures edit { OnOk result (IsAfter (Drop curve.0) records.old history.old records.new history.new) }
-    ensures told { OnOk result (IsToldEdit (Drop curve.0) records.old history.old (bus_of tells held left heard bus.old) records.new history.new (bus_of tells held left heard bus.new)) }
+    ensures told { OnOk result (IsToldEdit (Drop curve.0) records.old history.old (bus_row Observer-dyn bus.old) records.new history.new (bus_row Observer-dyn bus.new)) }
     ensures refused { IsAnswerFor drop_said (drop_refusal (layer_at records.old history.old) curve.0) result }
     ensures graph { OnErr result (records.new.graph ≡ records.old.graph) }
     ensures same_layer { OnErr result (SameLayer history.old history.new) }
     ensures same_curves { OnErr result (SameCurves history.old history.new) }
-    ensures untold { OnErr result (bus_of tells held left heard bus.new ≡ bus_of tells held left heard bus.old) }
+    ensures untold { OnErr result (bus_row Observer-dyn bus.new ≡ bus_row Observer-dyn bus.old) }
 {
     let edges = edges_of_curve(alloc, &*records, &*history, curve)?;
     let vertices = ends_in_order(alloc, &*records, &edges)?;

@@ -3,7 +3,7 @@ ghost use Rattle.std.specs.List.{AllByRecursion};
 ghost use Rattle.plane_graphs.specs.Ascending.{Member, IsAscending};
 ghost use Rattle.plane_graphs.specs.Graph.{edge_cmp};
 ghost use Rattle.curve_history.specs.Past.{curves_on, SameLayer};
-ghost use Rattle.observer_bus.specs.Rows.{bus_of};
+ghost use Rattle.observer_bus.specs.Rows.{bus_row};
 ghost use Rattle.record_orders.specs.Keys.{dart_key};
 ghost use Rattle.record_orders.specs.Edges.{edge_of_key};
 ghost use Rattle.told_steps.specs.ToldRuns.{AreInStep};
@@ -27,14 +27,14 @@ fn release_at(
     curve: CurveId,
 )
     requires in_step { AreInStep records.old.graph (curves_on history.old)
-        (bus_of tells held left heard bus.old) }
+        (bus_row Observer-dyn bus.old) }
     requires runs { Member curve.0 (curves_on history.old d) }
     ensures told { IsLossTold records.old.graph (curves_on history.old)
-        (bus_of tells held left heard bus.old)
+        (bus_row Observer-dyn bus.old)
         d curve records.new.graph (curves_on history.new)
-        (bus_of tells held left heard bus.new) }
+        (bus_row Observer-dyn bus.new) }
     ensures in_step { AreInStep records.new.graph (curves_on history.new)
-        (bus_of tells held left heard bus.new) }
+        (bus_row Observer-dyn bus.new) }
     ensures graph { HasLost records.old.graph (curves_on history.old) d curve records.new.graph }
     ensures curves { HaveLost records.old.graph (curves_on history.old) d curve (curves_on history.new) }
     ensures layer { SameLayer history.old history.new }
@@ -57,16 +57,16 @@ pub fn release_curve(
     curve: CurveId,
 )
     requires in_step { AreInStep records.old.graph (curves_on history.old)
-        (bus_of tells held left heard bus.old) }
+        (bus_row Observer-dyn bus.old) }
     requires keys { AllByRecursion (λ k. k ≡ dart_key records.old.graph k.name) edges.now }
     requires all { (d : DartId) → Member d (map (λ k. k.name) edges.now) ↔ Member curve.0 (curves_on history.old d) }
     requires ascend { IsAscending edge_cmp (map edge_of_key edges.now) }
     ensures told { IsCurveGone records.old.graph (curves_on history.old)
-        (bus_of tells held left heard bus.old)
+        (bus_row Observer-dyn bus.old)
         curve records.new.graph (curves_on history.new)
-        (bus_of tells held left heard bus.new) }
+        (bus_row Observer-dyn bus.new) }
     ensures in_step { AreInStep records.new.graph (curves_on history.new)
-        (bus_of tells held left heard bus.new) }
+        (bus_row Observer-dyn bus.new) }
     ensures gone { (d : DartId) → ¬ Member curve.0 (curves_on history.new d) }
     ensures vertices { records.new.graph.vertices ≡ records.old.graph.vertices }
     ensures layer { SameLayer history.old history.new }

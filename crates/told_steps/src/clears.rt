@@ -3,7 +3,7 @@ ghost use Rattle.edit_steps.specs.Steps.{Clear};
 ghost use Rattle.arr_notes.specs.ViewChanges.{no_rows};
 ghost use Rattle.curve_history.specs.Past.{curves_on, IsSpare, SameHistoryCapacity};
 ghost use Rattle.dcel_records.specs.RecordsView.{SameRecordCapacity};
-ghost use Rattle.observer_bus.specs.Rows.{bus_of};
+ghost use Rattle.observer_bus.specs.Rows.{bus_row};
 ghost use Rattle.told_steps.specs.ToldRuns.{AreInStep, IsToldRun};
 
 use crate::told::{tell_after, tell_before};
@@ -16,13 +16,13 @@ use std::alloc::Global;
 /// Nothing is left but the number of the next curve. Where no observer joins it takes no memory of its own (CGAL manual, `clear`).
 pub fn clear(alloc: Global, records: &mut Records, history: &mut History, bus: &mut Bus)
     requires in_step { AreInStep records.old.graph (curves_on history.old)
-        (bus_of tells held left heard bus.old) }
+        (bus_row Observer-dyn bus.old) }
     ensures told { IsToldRun records.old.graph (curves_on history.old)
-        (bus_of tells held left heard bus.old)
+        (bus_row Observer-dyn bus.old)
         (Clear ∷ []) records.new.graph (curves_on history.new)
-        (bus_of tells held left heard bus.new) }
+        (bus_row Observer-dyn bus.new) }
     ensures in_step { AreInStep records.new.graph (curves_on history.new)
-        (bus_of tells held left heard bus.new) }
+        (bus_row Observer-dyn bus.new) }
     ensures graph { records.new.graph ≡ no_rows }
     ensures names { history.new.names ≡ [] }
     ensures pieces { history.new.pieces ≡ [] }

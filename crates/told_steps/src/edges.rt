@@ -7,7 +7,7 @@ ghost use Rattle.curve_history.specs.Past.{curves_on, IsSpare, LosesCurves, Same
 ghost use Rattle.dcel_records.specs.RecordsView.{IsSpare as IsSpareRecords};
 ghost use Rattle.edge_split_merge.specs.Merges.{CanMerge};
 ghost use Rattle.edge_split_merge.specs.Splits.{CanSplit};
-ghost use Rattle.observer_bus.specs.Rows.{bus_of};
+ghost use Rattle.observer_bus.specs.Rows.{bus_row};
 ghost use Rattle.sound_changes.specs.ChangeFits.{FitsMerge};
 ghost use Rattle.sound_views.specs.RecordGraphLaws.{IsVertexAt};
 ghost use Rattle.told_steps.specs.StepsMade.{AreMergedAt, IsSplitAt};
@@ -35,14 +35,14 @@ pub fn remove_edge(
     d: DartId,
 )
     requires in_step { AreInStep records.old.graph (curves_on history.old)
-        (bus_of tells held left heard bus.old) }
+        (bus_row Observer-dyn bus.old) }
     requires forward { IsForward records.old.graph d }
     ensures told { IsToldRun records.old.graph (curves_on history.old)
-        (bus_of tells held left heard bus.old)
+        (bus_row Observer-dyn bus.old)
         (RemoveEdge (point_in records.old.graph (source_in records.old.graph d)) (point_in records.old.graph (target_in records.old.graph d)) ∷ []) records.new.graph (curves_on history.new)
-        (bus_of tells held left heard bus.new) }
+        (bus_row Observer-dyn bus.new) }
     ensures in_step { AreInStep records.new.graph (curves_on history.new)
-        (bus_of tells held left heard bus.new) }
+        (bus_row Observer-dyn bus.new) }
     ensures graph { records.new.graph ≡ edge_gone records.old.graph d (twin_in records.old.graph d) }
     ensures curves { LosesCurves history.old history.new d }
     ensures layer { SameLayer history.old history.new }
@@ -74,17 +74,17 @@ pub fn split_edge(
     p: Point,
 ) -> VertexId
     requires in_step { AreInStep records.old.graph (curves_on history.old)
-        (bus_of tells held left heard bus.old) }
+        (bus_row Observer-dyn bus.old) }
     requires fits { CanSplit records.old.graph d p }
     requires vertices { 1 ≤ records.old.spare_vertices }
     requires darts { 2 ≤ records.old.spare_darts }
     requires pairs { length (curves_on history.old d) ≤ history.old.spare_pairs }
     ensures told { IsToldRun records.old.graph (curves_on history.old)
-        (bus_of tells held left heard bus.old)
+        (bus_row Observer-dyn bus.old)
         (SplitEdge (point_in records.old.graph (source_in records.old.graph d)) (point_in records.old.graph (target_in records.old.graph d)) p ∷ []) records.new.graph (curves_on history.new)
-        (bus_of tells held left heard bus.new) }
+        (bus_row Observer-dyn bus.new) }
     ensures in_step { AreInStep records.new.graph (curves_on history.new)
-        (bus_of tells held left heard bus.new) }
+        (bus_row Observer-dyn bus.new) }
     ensures vertex { IsVertexAt records.new.graph p result }
     ensures graph { IsSplitAt records.old.graph d p result records.new.graph }
     ensures layer { SameLayer history.old history.new }
@@ -120,16 +120,16 @@ pub fn merge_edge(
     v: VertexId,
 )
     requires in_step { AreInStep records.old.graph (curves_on history.old)
-        (bus_of tells held left heard bus.old) }
+        (bus_row Observer-dyn bus.old) }
     requires fits { CanMerge records.old.graph v }
     requires unpinned { pinned_in records.old.graph v ≡ false }
     requires alike { (d n : DartId) → FitsMerge records.old.graph v d n → curves_on history.old d ≡ curves_on history.old n }
     ensures told { IsToldRun records.old.graph (curves_on history.old)
-        (bus_of tells held left heard bus.old)
+        (bus_row Observer-dyn bus.old)
         (MergeEdge (point_in records.old.graph v) ∷ []) records.new.graph (curves_on history.new)
-        (bus_of tells held left heard bus.new) }
+        (bus_row Observer-dyn bus.new) }
     ensures in_step { AreInStep records.new.graph (curves_on history.new)
-        (bus_of tells held left heard bus.new) }
+        (bus_row Observer-dyn bus.new) }
     ensures graph { AreMergedAt records.old.graph (curves_on history.old) v records.new.graph (curves_on history.new) }
     ensures layer { SameLayer history.old history.new }
     ensures spare { IsSpareRecords records.old records.new 1 2 }

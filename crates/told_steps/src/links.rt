@@ -8,7 +8,7 @@ ghost use Rattle.arr_notes.specs.Step.{add_edge as edge_more, step};
 ghost use Rattle.curve_history.specs.Past.{curves_on, GainsCurve, SameLayer, SpendsPairs};
 ghost use Rattle.dcel_records.specs.RecordsView.{IsSpare};
 ghost use Rattle.edge_link.specs.Links.{AreNewDarts, CanLink, NamesNewDarts, TellsOfLink};
-ghost use Rattle.observer_bus.specs.Rows.{bus_of};
+ghost use Rattle.observer_bus.specs.Rows.{bus_row};
 ghost use Rattle.told_steps.specs.ToldRuns.{AreInStep, IsToldRun};
 
 use crate::told::{tell_after, tell_before};
@@ -62,18 +62,18 @@ pub fn add_edge(
     curve: CurveId,
 ) -> (DartId, DartId)
     requires in_step { AreInStep records.old.graph (curves_on history.old)
-        (bus_of tells held left heard bus.old) }
+        (bus_row Observer-dyn bus.old) }
     requires fits { CanLink records.old.graph u w at_u at_w line }
     requires forward { precedes (point_in records.old.graph u) (point_in records.old.graph w) ≡ true }
     requires named { Member curve.0 history.old.names }
     requires darts { 2 ≤ records.old.spare_darts }
     requires pairs { 1 ≤ history.old.spare_pairs }
     ensures told { IsToldRun records.old.graph (curves_on history.old)
-        (bus_of tells held left heard bus.old)
+        (bus_row Observer-dyn bus.old)
         (AddEdge (point_in records.old.graph u) (point_in records.old.graph w) curve.0 ∷ []) records.new.graph (curves_on history.new)
-        (bus_of tells held left heard bus.new) }
+        (bus_row Observer-dyn bus.new) }
     ensures in_step { AreInStep records.new.graph (curves_on history.new)
-        (bus_of tells held left heard bus.new) }
+        (bus_row Observer-dyn bus.new) }
     ensures new_darts { AreNewDarts records.old.graph result.0 result.1 }
     ensures graph { records.new.graph ≡ edge_more records.old.graph result.0 result.1 u w at_u at_w line }
     ensures curves { GainsCurve history.old history.new result.0 curve.0 }

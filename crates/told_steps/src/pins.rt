@@ -4,7 +4,7 @@ ghost use Rattle.slab_laws.specs.View.{HasVertex, point_in};
 ghost use Rattle.arr_notes.specs.ViewChanges.{with_pin};
 ghost use Rattle.curve_history.specs.Past.{curves_on};
 ghost use Rattle.dcel_records.specs.RecordsView.{IsSpare};
-ghost use Rattle.observer_bus.specs.Rows.{bus_of};
+ghost use Rattle.observer_bus.specs.Rows.{bus_row};
 ghost use Rattle.told_steps.specs.ToldRuns.{AreInStep, IsToldRun};
 
 use crate::told::{tell_after, tell_before};
@@ -18,14 +18,14 @@ use std::alloc::Global;
 /// A vertex is pinned. Where no observer joins it takes no memory of its own.
 pub fn set_pin(alloc: Global, records: &mut Records, history: &History, bus: &mut Bus, v: VertexId)
     requires in_step { AreInStep records.old.graph (curves_on history.now)
-        (bus_of tells held left heard bus.old) }
+        (bus_row Observer-dyn bus.old) }
     requires vertex { HasVertex records.old.graph v }
     ensures told { IsToldRun records.old.graph (curves_on history.now)
-        (bus_of tells held left heard bus.old)
+        (bus_row Observer-dyn bus.old)
         (SetPin (point_in records.old.graph v) ∷ []) records.new.graph (curves_on history.now)
-        (bus_of tells held left heard bus.new) }
+        (bus_row Observer-dyn bus.new) }
     ensures in_step { AreInStep records.new.graph (curves_on history.now)
-        (bus_of tells held left heard bus.new) }
+        (bus_row Observer-dyn bus.new) }
     ensures graph { records.new.graph ≡ with_pin records.old.graph v true }
     ensures spare { IsSpare records.old records.new 0 0 }
 {
@@ -44,14 +44,14 @@ pub fn clear_pin(
     v: VertexId,
 )
     requires in_step { AreInStep records.old.graph (curves_on history.now)
-        (bus_of tells held left heard bus.old) }
+        (bus_row Observer-dyn bus.old) }
     requires vertex { HasVertex records.old.graph v }
     ensures told { IsToldRun records.old.graph (curves_on history.now)
-        (bus_of tells held left heard bus.old)
+        (bus_row Observer-dyn bus.old)
         (ClearPin (point_in records.old.graph v) ∷ []) records.new.graph (curves_on history.now)
-        (bus_of tells held left heard bus.new) }
+        (bus_row Observer-dyn bus.new) }
     ensures in_step { AreInStep records.new.graph (curves_on history.now)
-        (bus_of tells held left heard bus.new) }
+        (bus_row Observer-dyn bus.new) }
     ensures graph { records.new.graph ≡ with_pin records.old.graph v false }
     ensures spare { IsSpare records.old records.new 0 0 }
 {

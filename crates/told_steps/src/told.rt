@@ -1,7 +1,7 @@
 ghost use Rattle.arr_notes.specs.declared.note.Note.TheVariants.{Before, After};
 ghost use Rattle.curve_history.specs.Past.{curves_on};
 ghost use Rattle.observer_bus.specs.Rounds.{AreInRound};
-ghost use Rattle.observer_bus.specs.Rows.{bus_of};
+ghost use Rattle.observer_bus.specs.Rows.{bus_row};
 ghost use Rattle.told_steps.specs.ToldRuns.{seen, AreInStep, IsJustChanged};
 
 use arr_notes::{Change, Intent, Note};
@@ -19,12 +19,12 @@ pub(crate) fn tell_before(
     intent: Intent,
 )
     requires in_step { AreInStep records.now.graph (curves_on history.now)
-        (bus_of tells held left heard bus.old) }
+        (bus_row Observer-dyn bus.old) }
     ensures round { AreInRound (Before intent) (seen records.now.graph (curves_on history.now))
-        (bus_of tells held left heard bus.old)
-        (bus_of tells held left heard bus.new) }
+        (bus_row Observer-dyn bus.old)
+        (bus_row Observer-dyn bus.new) }
     ensures in_step { AreInStep records.now.graph (curves_on history.now)
-        (bus_of tells held left heard bus.new) }
+        (bus_row Observer-dyn bus.new) }
 {
     let drawn = Drawn::new(records, history);
     bus.say(alloc, &drawn, &Note::Before(intent));
@@ -39,12 +39,12 @@ pub(crate) fn tell_after(
     change: Change,
 )
     requires changed { IsJustChanged change records.now.graph (curves_on history.now)
-        (bus_of tells held left heard bus.old) }
+        (bus_row Observer-dyn bus.old) }
     ensures round { AreInRound (After change) (seen records.now.graph (curves_on history.now))
-        (bus_of tells held left heard bus.old)
-        (bus_of tells held left heard bus.new) }
+        (bus_row Observer-dyn bus.old)
+        (bus_row Observer-dyn bus.new) }
     ensures in_step { AreInStep records.now.graph (curves_on history.now)
-        (bus_of tells held left heard bus.new) }
+        (bus_row Observer-dyn bus.new) }
 {
     let drawn = Drawn::new(records, history);
     bus.say(alloc, &drawn, &Note::After(change));

@@ -6,7 +6,7 @@ ghost use Rattle.arr_notes.specs.RecordGraph.{drawn_graph};
 ghost use Rattle.arr_notes.specs.ViewChanges.{with_vertex, without_vertex};
 ghost use Rattle.curve_history.specs.Past.{curves_on};
 ghost use Rattle.dcel_records.specs.RecordsView.{IsSpare};
-ghost use Rattle.observer_bus.specs.Rows.{bus_of};
+ghost use Rattle.observer_bus.specs.Rows.{bus_row};
 ghost use Rattle.rotation_order.specs.VertexRings.{IsBare};
 ghost use Rattle.sound_views.specs.RecordGraphLaws.{IsVertexAt};
 ghost use Rattle.told_steps.specs.ToldRuns.{AreInStep, IsToldRun};
@@ -29,16 +29,16 @@ pub fn add_vertex(
     p: Point,
 ) -> VertexId
     requires in_step { AreInStep records.old.graph (curves_on history.now)
-        (bus_of tells held left heard bus.old) }
+        (bus_row Observer-dyn bus.old) }
     requires free { (u : _) → HasVertex records.old.graph u → point_in records.old.graph u ≢ p }
     requires plane { IsPlane (apply (AddVertex p) (drawn_graph records.old.graph (curves_on history.now))) }
     requires room { 1 ≤ records.old.spare_vertices }
     ensures told { IsToldRun records.old.graph (curves_on history.now)
-        (bus_of tells held left heard bus.old)
+        (bus_row Observer-dyn bus.old)
         (AddVertex p ∷ []) records.new.graph (curves_on history.now)
-        (bus_of tells held left heard bus.new) }
+        (bus_row Observer-dyn bus.new) }
     ensures in_step { AreInStep records.new.graph (curves_on history.now)
-        (bus_of tells held left heard bus.new) }
+        (bus_row Observer-dyn bus.new) }
     ensures fresh { ¬ HasVertex records.old.graph result }
     ensures vertex { IsVertexAt records.new.graph p result }
     ensures graph { records.new.graph ≡ with_vertex records.old.graph result p }
@@ -61,16 +61,16 @@ pub fn remove_vertex(
     v: VertexId,
 )
     requires in_step { AreInStep records.old.graph (curves_on history.now)
-        (bus_of tells held left heard bus.old) }
+        (bus_row Observer-dyn bus.old) }
     requires vertex { HasVertex records.old.graph v }
     requires bare { IsBare records.old.graph v }
     requires unpinned { pinned_in records.old.graph v ≡ false }
     ensures told { IsToldRun records.old.graph (curves_on history.now)
-        (bus_of tells held left heard bus.old)
+        (bus_row Observer-dyn bus.old)
         (RemoveVertex (point_in records.old.graph v) ∷ []) records.new.graph (curves_on history.now)
-        (bus_of tells held left heard bus.new) }
+        (bus_row Observer-dyn bus.new) }
     ensures in_step { AreInStep records.new.graph (curves_on history.now)
-        (bus_of tells held left heard bus.new) }
+        (bus_row Observer-dyn bus.new) }
     ensures graph { records.new.graph ≡ without_vertex records.old.graph v }
     ensures spare { IsSpare records.old records.new 1 0 }
 {

@@ -1,4 +1,4 @@
-ghost use Rattle.arrangement.specs.Arranged.{arranged, arranged_of, IsWatched};
+ghost use Rattle.arrangement.specs.Arranged.{arranged, IsWatched};
 
 use crate::layers::asked::{counted, has_curves, has_edge, is_unknown};
 use crate::layers::edits::{Answer, Edit, Under, apply, layer_under};
@@ -36,8 +36,8 @@ pub enum Call {
 
 // Whether a call that changes nothing answers as it has to.
 fn is_told(layer: &mut Arrangement, call: &Call) -> Result<bool, Fail>
-    requires watched { IsWatched (arranged_of tells held left heard layer.old) }
-    ensures watched { IsWatched (arranged_of tells held left heard layer.new) }
+    requires watched { IsWatched (arranged Observer-dyn layer.old) }
+    ensures watched { IsWatched (arranged Observer-dyn layer.new) }
 {
     match call {
         Call::HasCurves(x, z, wanted) => has_curves(layer, *x, *z, wanted),
@@ -52,8 +52,8 @@ fn is_told(layer: &mut Arrangement, call: &Call) -> Result<bool, Fail>
 
 // Whether a call with which no observer comes answers as it has to.
 fn is_answered(layer: &mut Arrangement, call: &Call) -> Result<bool, Fail>
-    requires watched { IsWatched (arranged_of tells held left heard layer.old) }
-    ensures watched { IsWatched (arranged_of tells held left heard layer.new) }
+    requires watched { IsWatched (arranged Observer-dyn layer.old) }
+    ensures watched { IsWatched (arranged Observer-dyn layer.new) }
 {
     match call {
         Call::Makes(edit, wanted) => Ok(apply(layer, *edit)? == *wanted),
@@ -69,8 +69,8 @@ fn is_right(
     call: &Call,
     observers: &mut Vec<Box<dyn Observer>>,
 ) -> Result<bool, Fail>
-    requires watched { IsWatched (arranged tells held left heard layer.old) }
-    ensures watched { IsWatched (arranged tells held left heard layer.new) }
+    requires watched { IsWatched (arranged Observer-dyn layer.old) }
+    ensures watched { IsWatched (arranged Observer-dyn layer.new) }
 {
     match call {
         Call::Comes(name) => is_met(layer, *name, None, observers),
@@ -85,8 +85,8 @@ fn all_right(
     calls: &[Call],
     observers: &mut Vec<Box<dyn Observer>>,
 ) -> Result<bool, Fail>
-    requires watched { IsWatched (arranged tells held left heard layer.old) }
-    ensures watched { IsWatched (arranged tells held left heard layer.new) }
+    requires watched { IsWatched (arranged Observer-dyn layer.old) }
+    ensures watched { IsWatched (arranged Observer-dyn layer.new) }
 {
     'calls: for call in calls {
         if !is_right(layer, call, observers)? {

@@ -1,5 +1,5 @@
 ghost use Rattle.std.specs.Prelude.{IfOk};
-ghost use Rattle.arrangement.specs.Arranged.{arranged_of, AreLimits, IsWatched};
+ghost use Rattle.arrangement.specs.Arranged.{arranged, AreLimits, IsWatched};
 
 use crate::shapes::{Ends, point, segment};
 use arrangement::{
@@ -86,15 +86,15 @@ fn limits_of(under: Under) -> Limits
 
 /// A layer of nothing, without observers.
 pub fn layer_under(alloc: Global, under: Under) -> Result<Arrangement, NoMemory>
-    ensures watched { IfOk result (λ a. IsWatched (arranged_of tells held left heard a)) }
+    ensures watched { IfOk result (λ a. IsWatched (arranged Observer-dyn a)) }
 {
     let bus = Bus::new(alloc, Vec::with_capacity(alloc, SEATS)?)?;
     Arrangement::new(alloc, limits_of(under), bus)
 }
 
 fn insert(layer: &mut Arrangement, ends: Ends) -> Result<Answer, Fail>
-    requires watched { IsWatched (arranged_of tells held left heard layer.old) }
-    ensures watched { IsWatched (arranged_of tells held left heard layer.new) }
+    requires watched { IsWatched (arranged Observer-dyn layer.old) }
+    ensures watched { IsWatched (arranged Observer-dyn layer.new) }
 {
     match layer.insert(segment(ends)?) {
         Ok(curve) => Ok(Answer::Drawn(curve.0)),
@@ -105,8 +105,8 @@ fn insert(layer: &mut Arrangement, ends: Ends) -> Result<Answer, Fail>
 }
 
 fn pin(layer: &mut Arrangement, x: i128) -> Result<Answer, Fail>
-    requires watched { IsWatched (arranged_of tells held left heard layer.old) }
-    ensures watched { IsWatched (arranged_of tells held left heard layer.new) }
+    requires watched { IsWatched (arranged Observer-dyn layer.old) }
+    ensures watched { IsWatched (arranged Observer-dyn layer.new) }
 {
     match layer.pin(&at(x, 0)?) {
         Ok(()) => Ok(Answer::Done),
@@ -117,8 +117,8 @@ fn pin(layer: &mut Arrangement, x: i128) -> Result<Answer, Fail>
 }
 
 fn unpin(layer: &mut Arrangement, x: i128) -> Result<Answer, Fail>
-    requires watched { IsWatched (arranged_of tells held left heard layer.old) }
-    ensures watched { IsWatched (arranged_of tells held left heard layer.new) }
+    requires watched { IsWatched (arranged Observer-dyn layer.old) }
+    ensures watched { IsWatched (arranged Observer-dyn layer.new) }
 {
     match layer.unpin(&at(x, 0)?) {
         Ok(()) => Ok(Answer::Done),
@@ -127,8 +127,8 @@ fn unpin(layer: &mut Arrangement, x: i128) -> Result<Answer, Fail>
 }
 
 fn remove_curve(layer: &mut Arrangement, curve: u32) -> Answer
-    requires watched { IsWatched (arranged_of tells held left heard layer.old) }
-    ensures watched { IsWatched (arranged_of tells held left heard layer.new) }
+    requires watched { IsWatched (arranged Observer-dyn layer.old) }
+    ensures watched { IsWatched (arranged Observer-dyn layer.new) }
 {
     match layer.remove_curve(CurveId(curve)) {
         Ok(()) => Answer::Done,
@@ -138,8 +138,8 @@ fn remove_curve(layer: &mut Arrangement, curve: u32) -> Answer
 }
 
 fn remove_edge(layer: &mut Arrangement, x: i128, z: i128) -> Result<Answer, Fail>
-    requires watched { IsWatched (arranged_of tells held left heard layer.old) }
-    ensures watched { IsWatched (arranged_of tells held left heard layer.new) }
+    requires watched { IsWatched (arranged Observer-dyn layer.old) }
+    ensures watched { IsWatched (arranged Observer-dyn layer.new) }
 {
     let (p, q) = (at(x, 0)?, at(z, 0)?);
     match layer.remove_edge(&p, &q) {
@@ -151,8 +151,8 @@ fn remove_edge(layer: &mut Arrangement, x: i128, z: i128) -> Result<Answer, Fail
 }
 
 fn split_edge(layer: &mut Arrangement, x: i128, z: i128, y: i128) -> Result<Answer, Fail>
-    requires watched { IsWatched (arranged_of tells held left heard layer.old) }
-    ensures watched { IsWatched (arranged_of tells held left heard layer.new) }
+    requires watched { IsWatched (arranged Observer-dyn layer.old) }
+    ensures watched { IsWatched (arranged Observer-dyn layer.new) }
 {
     let (p, q, r) = (at(x, 0)?, at(z, 0)?, at(y, 0)?);
     match layer.split_edge(&p, &q, &r) {
@@ -165,8 +165,8 @@ fn split_edge(layer: &mut Arrangement, x: i128, z: i128, y: i128) -> Result<Answ
 }
 
 fn merge_edge(layer: &mut Arrangement, x: i128) -> Result<Answer, Fail>
-    requires watched { IsWatched (arranged_of tells held left heard layer.old) }
-    ensures watched { IsWatched (arranged_of tells held left heard layer.new) }
+    requires watched { IsWatched (arranged Observer-dyn layer.old) }
+    ensures watched { IsWatched (arranged Observer-dyn layer.new) }
 {
     match layer.merge_edge(&at(x, 0)?) {
         Ok(()) => Ok(Answer::Done),
@@ -176,8 +176,8 @@ fn merge_edge(layer: &mut Arrangement, x: i128) -> Result<Answer, Fail>
 }
 
 fn clear(layer: &mut Arrangement) -> Answer
-    requires watched { IsWatched (arranged_of tells held left heard layer.old) }
-    ensures watched { IsWatched (arranged_of tells held left heard layer.new) }
+    requires watched { IsWatched (arranged Observer-dyn layer.old) }
+    ensures watched { IsWatched (arranged Observer-dyn layer.new) }
 {
     layer.clear();
     Answer::Done
@@ -185,8 +185,8 @@ fn clear(layer: &mut Arrangement) -> Answer
 
 /// What the edit answers.
 pub fn apply(layer: &mut Arrangement, edit: Edit) -> Result<Answer, Fail>
-    requires watched { IsWatched (arranged_of tells held left heard layer.old) }
-    ensures watched { IsWatched (arranged_of tells held left heard layer.new) }
+    requires watched { IsWatched (arranged Observer-dyn layer.old) }
+    ensures watched { IsWatched (arranged Observer-dyn layer.new) }
 {
     match edit {
         Edit::Insert(x1, y1, x2, y2) => insert(layer, (x1, y1, x2, y2)),

@@ -1,4 +1,4 @@
-ghost use Rattle.arrangement.specs.Arranged.{arranged_of, IsWatched};
+ghost use Rattle.arrangement.specs.Arranged.{arranged, IsWatched};
 
 use crate::layers::edits::at;
 use arrangement::Arrangement;
@@ -18,8 +18,8 @@ fn edge(x: i128, z: i128) -> Result<Cell, Fail> {
 
 /// Whether a point of the abscissa lies inside the edge between two others, under each strategy.
 pub fn lies_in(layer: &mut Arrangement, y: i128, x: i128, z: i128) -> Result<bool, Fail>
-    requires watched { IsWatched (arranged_of tells held left heard layer.old) }
-    ensures watched { IsWatched (arranged_of tells held left heard layer.new) }
+    requires watched { IsWatched (arranged Observer-dyn layer.old) }
+    ensures watched { IsWatched (arranged Observer-dyn layer.new) }
 {
     let point = at(y, 0)?;
     let wanted = edge(x, z)?;

@@ -1,4 +1,4 @@
-ghost use Rattle.arrangement.specs.Arranged.{arranged, arranged_of, IsWatched};
+ghost use Rattle.arrangement.specs.Arranged.{arranged, IsWatched};
 
 use arrangement::{Arrangement, AttachError, Observer, ReportError};
 use std::test::Fail;
@@ -10,8 +10,8 @@ pub fn is_met(
     wanted: Option<AttachError>,
     observers: &mut Vec<Box<dyn Observer>>,
 ) -> Result<bool, Fail>
-    requires watched { IsWatched (arranged tells held left heard layer.old) }
-    ensures watched { IsWatched (arranged tells held left heard layer.new) }
+    requires watched { IsWatched (arranged Observer-dyn layer.old) }
+    ensures watched { IsWatched (arranged Observer-dyn layer.new) }
 {
     let Some(observer) = observers.pop() else {
         return Ok(false);
@@ -27,15 +27,15 @@ pub fn is_met(
 
 /// Whether a seated observer of the name leaves.
 pub fn leaves(layer: &mut Arrangement, name: u32) -> bool
-    requires watched { IsWatched (arranged_of tells held left heard layer.old) }
-    ensures watched { IsWatched (arranged_of tells held left heard layer.new) }
+    requires watched { IsWatched (arranged Observer-dyn layer.old) }
+    ensures watched { IsWatched (arranged Observer-dyn layer.new) }
 {
     layer.leave(name, None).is_ok()
 }
 
 /// Whether the observer of the name reports this, or none is seated.
 pub fn reports(layer: &Arrangement, name: u32, wanted: Option<&[u8]>) -> bool
-    requires watched { IsWatched (arranged_of tells held left heard layer.now) }
+    requires watched { IsWatched (arranged Observer-dyn layer.now) }
 {
     match (layer.report(name), wanted) {
         (Ok(bytes), Some(wanted)) => bytes.as_slice() == wanted,

@@ -87,7 +87,7 @@ fn has_gone(bus: &Bus, joined: &[u32], left: &[u32], lost: &[u32]) -> bool {
 
 // Whether what the observer of the name wrote is this.
 fn hears(bus: &Bus, name: u32, wanted: &[u8]) -> bool
-    requires calm { IsCalm (bus_row (λ b. tells (b.vtable, b.value)) (λ b. held (b.vtable, b.value)) (λ b. left (b.vtable, b.value)) (λ b. heard (b.vtable, b.value)) bus.now) }
+    requires calm { IsCalm (bus_row Observer-dyn bus.now) }
 {
     match report(bus, name) {
         Ok(bytes) => bytes.as_slice() == wanted,
@@ -96,7 +96,7 @@ fn hears(bus: &Bus, name: u32, wanted: &[u8]) -> bool
 }
 
 fn is_gone(bus: &Bus, name: u32) -> bool
-    requires calm { IsCalm (bus_row (λ b. tells (b.vtable, b.value)) (λ b. held (b.vtable, b.value)) (λ b. left (b.vtable, b.value)) (λ b. heard (b.vtable, b.value)) bus.now) }
+    requires calm { IsCalm (bus_row Observer-dyn bus.now) }
 {
     match report(bus, name) {
         Err(ReportError::NoSeat) => true,
@@ -106,10 +106,10 @@ fn is_gone(bus: &Bus, name: u32) -> bool
 
 // Whether a call within an edit answers as it has to.
 fn is_right(bus: &mut Bus, alloc: Global, plane: &EmptyPlane, turn: &Turn) -> bool
-    requires calm { IsCalm (bus_row (λ b. tells (b.vtable, b.value)) (λ b. held (b.vtable, b.value)) (λ b. left (b.vtable, b.value)) (λ b. heard (b.vtable, b.value)) bus.old) }
-    requires ready { IsReady (bus_row (λ b. tells (b.vtable, b.value)) (λ b. held (b.vtable, b.value)) (λ b. left (b.vtable, b.value)) (λ b. heard (b.vtable, b.value)) bus.old) }
-    ensures calm { IsCalm (bus_row (λ b. tells (b.vtable, b.value)) (λ b. held (b.vtable, b.value)) (λ b. left (b.vtable, b.value)) (λ b. heard (b.vtable, b.value)) bus.new) }
-    ensures ready { IsReady (bus_row (λ b. tells (b.vtable, b.value)) (λ b. held (b.vtable, b.value)) (λ b. left (b.vtable, b.value)) (λ b. heard (b.vtable, b.value)) bus.new) }
+    requires calm { IsCalm (bus_row Observer-dyn bus.old) }
+    requires ready { IsReady (bus_row Observer-dyn bus.old) }
+    ensures calm { IsCalm (bus_row Observer-dyn bus.new) }
+    ensures ready { IsReady (bus_row Observer-dyn bus.new) }
 {
     match turn {
         Turn::Before => {
@@ -129,8 +129,8 @@ fn is_right(bus: &mut Bus, alloc: Global, plane: &EmptyPlane, turn: &Turn) -> bo
 
 // An edit, whose calls answer as they have to.
 fn edit(bus: &mut Bus, alloc: Global, plane: &EmptyPlane, turns: &[Turn]) -> bool
-    requires calm { IsCalm (bus_row (λ b. tells (b.vtable, b.value)) (λ b. held (b.vtable, b.value)) (λ b. left (b.vtable, b.value)) (λ b. heard (b.vtable, b.value)) bus.old) }
-    ensures calm { IsCalm (bus_row (λ b. tells (b.vtable, b.value)) (λ b. held (b.vtable, b.value)) (λ b. left (b.vtable, b.value)) (λ b. heard (b.vtable, b.value)) bus.new) }
+    requires calm { IsCalm (bus_row Observer-dyn bus.old) }
+    ensures calm { IsCalm (bus_row Observer-dyn bus.new) }
 {
     begin(bus);
     'turns: for turn in turns {
@@ -149,8 +149,8 @@ fn is_met(
     call: &Call,
     observer: Box<dyn Observer>,
 ) -> bool
-    requires calm { IsCalm (bus_row tells held left heard bus.old) }
-    ensures calm { IsCalm (bus_row tells held left heard bus.new) }
+    requires calm { IsCalm (bus_row Observer-dyn bus.old) }
+    ensures calm { IsCalm (bus_row Observer-dyn bus.new) }
 {
     match call {
         Call::Comes(name, round, _, _) | Call::Listens(name, round) => {
@@ -165,8 +165,8 @@ fn is_met(
 
 // Whether a call with which no observer comes answers as it has to.
 fn is_answered(bus: &mut Bus, alloc: Global, plane: &EmptyPlane, call: &Call) -> bool
-    requires calm { IsCalm (bus_row (λ b. tells (b.vtable, b.value)) (λ b. held (b.vtable, b.value)) (λ b. left (b.vtable, b.value)) (λ b. heard (b.vtable, b.value)) bus.old) }
-    ensures calm { IsCalm (bus_row (λ b. tells (b.vtable, b.value)) (λ b. held (b.vtable, b.value)) (λ b. left (b.vtable, b.value)) (λ b. heard (b.vtable, b.value)) bus.new) }
+    requires calm { IsCalm (bus_row Observer-dyn bus.old) }
+    ensures calm { IsCalm (bus_row Observer-dyn bus.new) }
 {
     match call {
         Call::Leaves(name, round, wanted) => leave(bus, *name, round_of(*round)).is_ok() == *wanted,
@@ -184,8 +184,8 @@ fn is_right_with(
     call: &Call,
     observers: &mut Vec<Box<dyn Observer>>,
 ) -> bool
-    requires calm { IsCalm (bus_row tells held left heard bus.old) }
-    ensures calm { IsCalm (bus_row tells held left heard bus.new) }
+    requires calm { IsCalm (bus_row Observer-dyn bus.old) }
+    ensures calm { IsCalm (bus_row Observer-dyn bus.new) }
 {
     if !is_coming(call) {
         return is_answered(bus, alloc, plane, call);
@@ -204,8 +204,8 @@ fn all_answered(
     calls: &[Call],
     observers: &mut Vec<Box<dyn Observer>>,
 ) -> bool
-    requires calm { IsCalm (bus_row tells held left heard bus.old) }
-    ensures calm { IsCalm (bus_row tells held left heard bus.new) }
+    requires calm { IsCalm (bus_row Observer-dyn bus.old) }
+    ensures calm { IsCalm (bus_row Observer-dyn bus.new) }
 {
     'calls: for call in calls {
         if !is_right_with(bus, alloc, plane, call, observers) {

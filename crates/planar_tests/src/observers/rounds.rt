@@ -19,8 +19,8 @@ pub fn attach(
     when: Option<u32>,
 ) -> Option<AttachError>
     requires when { when ≢ Some 0 }
-    requires calm { IsCalm (bus_row tells held left heard bus.old) }
-    ensures calm { IsCalm (bus_row tells held left heard bus.new) }
+    requires calm { IsCalm (bus_row Observer-dyn bus.old) }
+    ensures calm { IsCalm (bus_row Observer-dyn bus.new) }
 {
     match bus.attach(alloc, plane, name, observer, when) {
         Ok(()) => None,
@@ -31,9 +31,9 @@ pub fn attach(
 /// Lets an observer go.
 pub fn leave(bus: &mut Bus, name: u32, when: Option<u32>) -> Result<(), NoSeat>
     requires when { when ≢ Some 0 }
-    requires calm { IsCalm (bus_row (λ b. tells (b.vtable, b.value)) (λ b. held (b.vtable, b.value)) (λ b. left (b.vtable, b.value)) (λ b. heard (b.vtable, b.value)) bus.old) }
-    ensures calm { IsCalm (bus_row (λ b. tells (b.vtable, b.value)) (λ b. held (b.vtable, b.value)) (λ b. left (b.vtable, b.value)) (λ b. heard (b.vtable, b.value)) bus.new) }
-    ensures settled { (bus_row (λ b. tells (b.vtable, b.value)) (λ b. held (b.vtable, b.value)) (λ b. left (b.vtable, b.value)) (λ b. heard (b.vtable, b.value)) bus.new).settled ≡ (bus_row (λ b. tells (b.vtable, b.value)) (λ b. held (b.vtable, b.value)) (λ b. left (b.vtable, b.value)) (λ b. heard (b.vtable, b.value)) bus.old).settled }
+    requires calm { IsCalm (bus_row Observer-dyn bus.old) }
+    ensures calm { IsCalm (bus_row Observer-dyn bus.new) }
+    ensures settled { (bus_row Observer-dyn bus.new).settled ≡ (bus_row Observer-dyn bus.old).settled }
 {
     match bus.leave(name, when) {
         Ok(()) => Ok(()),
@@ -43,36 +43,36 @@ pub fn leave(bus: &mut Bus, name: u32, when: Option<u32>) -> Result<(), NoSeat>
 
 /// An edit begins.
 pub fn begin(bus: &mut Bus)
-    requires calm { IsCalm (bus_row (λ b. tells (b.vtable, b.value)) (λ b. held (b.vtable, b.value)) (λ b. left (b.vtable, b.value)) (λ b. heard (b.vtable, b.value)) bus.old) }
-    ensures calm { IsCalm (bus_row (λ b. tells (b.vtable, b.value)) (λ b. held (b.vtable, b.value)) (λ b. left (b.vtable, b.value)) (λ b. heard (b.vtable, b.value)) bus.new) }
-    ensures ready { IsReady (bus_row (λ b. tells (b.vtable, b.value)) (λ b. held (b.vtable, b.value)) (λ b. left (b.vtable, b.value)) (λ b. heard (b.vtable, b.value)) bus.new) }
+    requires calm { IsCalm (bus_row Observer-dyn bus.old) }
+    ensures calm { IsCalm (bus_row Observer-dyn bus.new) }
+    ensures ready { IsReady (bus_row Observer-dyn bus.new) }
 {
     bus.begin();
 }
 
 /// One round before a change.
 pub fn before(bus: &mut Bus, alloc: Global, plane: &EmptyPlane)
-    requires calm { IsCalm (bus_row (λ b. tells (b.vtable, b.value)) (λ b. held (b.vtable, b.value)) (λ b. left (b.vtable, b.value)) (λ b. heard (b.vtable, b.value)) bus.old) }
-    requires ready { IsReady (bus_row (λ b. tells (b.vtable, b.value)) (λ b. held (b.vtable, b.value)) (λ b. left (b.vtable, b.value)) (λ b. heard (b.vtable, b.value)) bus.old) }
-    ensures calm { IsCalm (bus_row (λ b. tells (b.vtable, b.value)) (λ b. held (b.vtable, b.value)) (λ b. left (b.vtable, b.value)) (λ b. heard (b.vtable, b.value)) bus.new) }
-    ensures ready { IsReady (bus_row (λ b. tells (b.vtable, b.value)) (λ b. held (b.vtable, b.value)) (λ b. left (b.vtable, b.value)) (λ b. heard (b.vtable, b.value)) bus.new) }
+    requires calm { IsCalm (bus_row Observer-dyn bus.old) }
+    requires ready { IsReady (bus_row Observer-dyn bus.old) }
+    ensures calm { IsCalm (bus_row Observer-dyn bus.new) }
+    ensures ready { IsReady (bus_row Observer-dyn bus.new) }
 {
     bus.say(alloc, plane, &Note::Before(Intent::Clear));
 }
 
 /// One round after a change.
 pub fn after(bus: &mut Bus, alloc: Global, plane: &EmptyPlane)
-    requires calm { IsCalm (bus_row (λ b. tells (b.vtable, b.value)) (λ b. held (b.vtable, b.value)) (λ b. left (b.vtable, b.value)) (λ b. heard (b.vtable, b.value)) bus.old) }
-    requires ready { IsReady (bus_row (λ b. tells (b.vtable, b.value)) (λ b. held (b.vtable, b.value)) (λ b. left (b.vtable, b.value)) (λ b. heard (b.vtable, b.value)) bus.old) }
-    ensures calm { IsCalm (bus_row (λ b. tells (b.vtable, b.value)) (λ b. held (b.vtable, b.value)) (λ b. left (b.vtable, b.value)) (λ b. heard (b.vtable, b.value)) bus.new) }
-    ensures ready { IsReady (bus_row (λ b. tells (b.vtable, b.value)) (λ b. held (b.vtable, b.value)) (λ b. left (b.vtable, b.value)) (λ b. heard (b.vtable, b.value)) bus.new) }
+    requires calm { IsCalm (bus_row Observer-dyn bus.old) }
+    requires ready { IsReady (bus_row Observer-dyn bus.old) }
+    ensures calm { IsCalm (bus_row Observer-dyn bus.new) }
+    ensures ready { IsReady (bus_row Observer-dyn bus.new) }
 {
     bus.say(alloc, plane, &Note::After(Change::Clear));
 }
 
 /// A report.
 pub fn report(bus: &Bus, name: u32) -> Result<Vec<u8>, ReportError>
-    requires calm { IsCalm (bus_row (λ b. tells (b.vtable, b.value)) (λ b. held (b.vtable, b.value)) (λ b. left (b.vtable, b.value)) (λ b. heard (b.vtable, b.value)) bus.now) }
+    requires calm { IsCalm (bus_row Observer-dyn bus.now) }
 {
     bus.report(name)
 }

@@ -8,8 +8,8 @@ abbrev pub invariant-turns : goal.invariant-turns
 invariant-turns g l = record {
   capacity : vec_capacity l.seats ≡ vec_capacity l.initial.seats;
   going : Going l.note (view_by (g.R.Darts.graph l.records) (g.R.Curved.curve_list l.records))
-      (rows (λ b. (goal.Observer-dyn g (b.vtable, b.value)).tells b.value) (λ b. (goal.Observer-dyn g (b.vtable, b.value)).held b.value) (λ b. (goal.Observer-dyn g (b.vtable, b.value)).left b.value) (λ b. (goal.Observer-dyn g (b.vtable, b.value)).heard b.value) l.initial.seats.items) l.initial.went
-      (rows (λ b. (goal.Observer-dyn g (b.vtable, b.value)).tells b.value) (λ b. (goal.Observer-dyn g (b.vtable, b.value)).held b.value) (λ b. (goal.Observer-dyn g (b.vtable, b.value)).left b.value) (λ b. (goal.Observer-dyn g (b.vtable, b.value)).heard b.value) l.seats.items) l.went l.i;
+      (rows (goal.Observer-dyn g) l.initial.seats.items) l.initial.went
+      (rows (goal.Observer-dyn g) l.seats.items) l.went l.i;
 }
 
 abbrev pub decreases-turns : goal.decreases-turns

@@ -6,5 +6,4 @@ use Rattle.planar_run.proofs.questions.curve.Goals as goal
 pub returns-clause-answered : goal.returns-clause-answered
 returns-clause-answered g c =
     let barred = rw c.in-Err-Unknown.field-0-is at c.in-Err-Unknown.ensures.barred in
-    no_curve_told c.args.curve (world_row (λ z. (goal.Observer-dyn g (z.vtable, z.value)).tells z.value) (λ z. (goal.Observer-dyn g (z.vtable, z.value)).held z.value)
-    (λ z. (goal.Observer-dyn g (z.vtable, z.value)).left z.value) (λ z. (goal.Observer-dyn g (z.vtable, z.value)).heard z.value) c.args.world.now) barred (c.set.ensures ∙ eight)
+    no_curve_told c.args.curve (world_row (goal.Observer-dyn g) c.args.world.now) barred (c.set.ensures ∙ eight)

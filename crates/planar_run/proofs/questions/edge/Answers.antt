@@ -7,5 +7,4 @@ use Rattle.planar_run.proofs.questions.edge.Goals as goal
 pub returns-clause-answered : goal.returns-clause-answered
 returns-clause-answered g c =
     let barred = rw c.in-Err-NoEdge.field-0-is at c.in-Err-NoEdge.ensures.barred in
-    no_edge_told (edge_between c.args.p.now c.args.q.now) (world_row (λ z. (goal.Observer-dyn g (z.vtable, z.value)).tells z.value) (λ z. (goal.Observer-dyn g (z.vtable, z.value)).held z.value)
-    (λ z. (goal.Observer-dyn g (z.vtable, z.value)).left z.value) (λ z. (goal.Observer-dyn g (z.vtable, z.value)).heard z.value) c.args.world.now) barred (c.set.ensures ∙ nine)
+    no_edge_told (edge_between c.args.p.now c.args.q.now) (world_row (goal.Observer-dyn g) c.args.world.now) barred (c.set.ensures ∙ nine)

@@ -9,13 +9,10 @@ use Rattle.planar_run.proofs.run.answer_script.Given as goal
 abbrev pub invariant-reads : goal.invariant-reads
 invariant-reads g l = record {
   used : Used (g.S.Source.left l.fn.source) (g.S.Source.left l.source) (λ used. length used ≡ SCRIPT_LIMIT - l.room);
-  said : (observers : List Waiting) → (world_row (λ b. (goal.Observer-dyn g (b.vtable, b.value)).tells b.value) (λ b. (goal.Observer-dyn g (b.vtable, b.value)).held b.value)
-      (λ b. (goal.Observer-dyn g (b.vtable, b.value)).left b.value) (λ b. (goal.Observer-dyn g (b.vtable, b.value)).heard b.value) l.fn.engine.world) ≡ first_world observers
+  said : (observers : List Waiting) → (world_row (goal.Observer-dyn g) l.fn.engine.world) ≡ first_world observers
       → HasSaid observers (g.S.Source.left l.fn.source) (g.S.Source.left l.source) (g.K.Sink.taken l.fn.sink) (g.K.Sink.taken l.sink) (SCRIPT_LIMIT - l.room)
-      (world_row (λ b. (goal.Observer-dyn g (b.vtable, b.value)).tells b.value) (λ b. (goal.Observer-dyn g (b.vtable, b.value)).held b.value)
-      (λ b. (goal.Observer-dyn g (b.vtable, b.value)).left b.value) (λ b. (goal.Observer-dyn g (b.vtable, b.value)).heard b.value) l.engine.world) l.engine.line;
-  kept : IsKeptWorld (λ b. (goal.Observer-dyn g (b.vtable, b.value)).tells b.value) (λ b. (goal.Observer-dyn g (b.vtable, b.value)).held b.value)
-      (λ b. (goal.Observer-dyn g (b.vtable, b.value)).left b.value) (λ b. (goal.Observer-dyn g (b.vtable, b.value)).heard b.value) l.engine.world;
+      (world_row (goal.Observer-dyn g) l.engine.world) l.engine.line;
+  kept : IsKeptWorld (goal.Observer-dyn g) l.engine.world;
   within : l.room ≤ SCRIPT_LIMIT;
   size : length l.buffer ≡ BUFFER;
   read_faults : g.S.Source.faults l.source ≡ g.S.Source.faults l.fn.source;

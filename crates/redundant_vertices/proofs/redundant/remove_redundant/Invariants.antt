@@ -1,16 +1,16 @@
 use Rattle.std.proofs.Common.{take, drop}
 use Rattle.dcel_records.specs.RecordsView.{SameRecordCapacity}
 use Rattle.curve_history.specs.Past.{curves_on, SameLayer, SameHistoryCapacity}
-use Rattle.observer_bus.specs.Rows.{bus_of}
+use Rattle.observer_bus.specs.Rows.{bus_row}
 use Rattle.redundant_vertices.proofs.Onward.{AreTidied}
 use Rattle.redundant_vertices.proofs.redundant.remove_redundant.Given as goal
 
 abbrev pub invariant-loop-vertex : goal.invariant-loop-vertex
 invariant-loop-vertex g l = record {
   tidied : AreTidied l.fn.records.graph (curves_on l.fn.history)
-      (bus_of (λ o. (goal.Observer-dyn g o).tells o.1) (λ o. (goal.Observer-dyn g o).held o.1) (λ o. (goal.Observer-dyn g o).left o.1) (λ o. (goal.Observer-dyn g o).heard o.1) l.fn.bus)
+      (bus_row (goal.Observer-dyn g) l.fn.bus)
       l.vertices (take l.vertex-index l.vertices) (drop l.vertex-index l.vertices) l.records.graph (curves_on l.history)
-      (bus_of (λ o. (goal.Observer-dyn g o).tells o.1) (λ o. (goal.Observer-dyn g o).held o.1) (λ o. (goal.Observer-dyn g o).left o.1) (λ o. (goal.Observer-dyn g o).heard o.1) l.bus);
+      (bus_row (goal.Observer-dyn g) l.bus);
   layer : SameLayer l.fn.history l.history;
   records : SameRecordCapacity l.fn.records l.records;
   history : SameHistoryCapacity l.fn.history l.history;

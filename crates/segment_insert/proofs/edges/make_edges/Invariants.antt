@@ -1,15 +1,15 @@
 use Rattle.std.proofs.Common.{◌+◌, ◌-◌, ◌*◌, ◌≤◌, length}
 use Rattle.plane_graphs.specs.Ascending.{Member}
 use Rattle.curve_history.specs.Past.{curves_on, SameLayer}
-use Rattle.observer_bus.specs.Rows.{bus_of}
+use Rattle.observer_bus.specs.Rows.{bus_row}
 use Rattle.segment_insert.proofs.Going.{IsGoing}
 use Rattle.segment_insert.proofs.edges.make_edges.Given as goal
 
 abbrev pub invariant-loop-i : goal.invariant-loop-i
 invariant-loop-i g l = record {
   going : IsGoing l.initial.records.graph (curves_on l.initial.history)
-      (bus_of (λ o. (goal.Observer-dyn g o).tells o.1) (λ o. (goal.Observer-dyn g o).held o.1) (λ o. (goal.Observer-dyn g o).left o.1) (λ o. (goal.Observer-dyn g o).heard o.1) l.initial.bus) l.curve.0 l.meetings (l.i - 1) l.records.graph (curves_on l.history)
-      (bus_of (λ o. (goal.Observer-dyn g o).tells o.1) (λ o. (goal.Observer-dyn g o).held o.1) (λ o. (goal.Observer-dyn g o).left o.1) (λ o. (goal.Observer-dyn g o).heard o.1) l.bus);
+      (bus_row (goal.Observer-dyn g) l.initial.bus) l.curve.0 l.meetings (l.i - 1) l.records.graph (curves_on l.history)
+      (bus_row (goal.Observer-dyn g) l.bus);
   layer : SameLayer l.initial.history l.history;
   named : Member l.curve.0 l.history.names;
   darts : 2 * length l.meetings ≤ l.records.spare_darts + 2 * l.i;

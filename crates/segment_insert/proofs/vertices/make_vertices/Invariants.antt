@@ -1,6 +1,6 @@
 use Rattle.std.proofs.Common.{◌≤◌, ◌+◌, ◌*◌, drop}
 use Rattle.curve_history.specs.Past.{curves_on, SameLayer}
-use Rattle.observer_bus.specs.Rows.{bus_of}
+use Rattle.observer_bus.specs.Rows.{bus_row}
 use Rattle.zone_walk.specs.Zone.{vertices_needed, splits_needed}
 use Rattle.segment_insert.specs.Insertion.{pairs_to_part}
 use Rattle.segment_insert.proofs.VerticesLoop.{IsMidway}
@@ -9,8 +9,8 @@ use Rattle.segment_insert.proofs.vertices.make_vertices.Given as goal
 abbrev pub invariant-loop-i : goal.invariant-loop-i
 invariant-loop-i g l = record {
   midway : IsMidway l.initial.records.graph (curves_on l.initial.history)
-      (bus_of (λ o. (goal.Observer-dyn g o).tells o.1) (λ o. (goal.Observer-dyn g o).held o.1) (λ o. (goal.Observer-dyn g o).left o.1) (λ o. (goal.Observer-dyn g o).heard o.1) l.initial.bus) l.initial.meetings.items l.records.graph (curves_on l.history)
-      (bus_of (λ o. (goal.Observer-dyn g o).tells o.1) (λ o. (goal.Observer-dyn g o).held o.1) (λ o. (goal.Observer-dyn g o).left o.1) (λ o. (goal.Observer-dyn g o).heard o.1) l.bus) l.meetings.items l.i;
+      (bus_row (goal.Observer-dyn g) l.initial.bus) l.initial.meetings.items l.records.graph (curves_on l.history)
+      (bus_row (goal.Observer-dyn g) l.bus) l.meetings.items l.i;
   layer : SameLayer l.initial.history l.history;
   vertices : l.initial.records.spare_vertices + vertices_needed (drop l.i l.initial.meetings.items) ≤ l.records.spare_vertices + vertices_needed l.initial.meetings.items;
   darts : l.initial.records.spare_darts + 2 * splits_needed (drop l.i l.initial.meetings.items) ≤ l.records.spare_darts + 2 * splits_needed l.initial.meetings.items;

@@ -1,14 +1,14 @@
 use Rattle.std.proofs.Common.{drop}
 use Rattle.curve_history.specs.Past.{curves_on, SameLayer}
-use Rattle.observer_bus.specs.Rows.{bus_of}
+use Rattle.observer_bus.specs.Rows.{bus_row}
 use Rattle.segment_remove.proofs.EdgesReleased.{IsGoing}
 use Rattle.segment_remove.proofs.release.release_curve.Given as goal
 
 abbrev pub invariant-loop-edge : goal.invariant-loop-edge
 invariant-loop-edge g l = record {
   going : IsGoing l.initial.records.graph (curves_on l.initial.history) l.curve
-      (bus_of (λ o. (goal.Observer-dyn g o).tells o.1) (λ o. (goal.Observer-dyn g o).held o.1) (λ o. (goal.Observer-dyn g o).left o.1) (λ o. (goal.Observer-dyn g o).heard o.1) l.initial.bus)
+      (bus_row (goal.Observer-dyn g) l.initial.bus)
       l.edges (drop l.edge-index l.edges) l.records.graph (curves_on l.history)
-      (bus_of (λ o. (goal.Observer-dyn g o).tells o.1) (λ o. (goal.Observer-dyn g o).held o.1) (λ o. (goal.Observer-dyn g o).left o.1) (λ o. (goal.Observer-dyn g o).heard o.1) l.bus);
+      (bus_row (goal.Observer-dyn g) l.bus);
   layer : SameLayer l.initial.history l.history;
 }

@@ -10,7 +10,7 @@ use Rattle.observer_bus.proofs.bus.Bus.attach.Goals as goal
 pub returns-then-has_name : goal.returns-then-has_name
 returns-then-has_name g c =
     let n = rw c.deref.ensures.value at c.has_name.ensures in record {
-      refused = taken_by (row (λ b. (goal.Observer-dyn g (b.vtable, b.value)).tells b.value) (λ b. (goal.Observer-dyn g (b.vtable, b.value)).held b.value) (λ b. (goal.Observer-dyn g (b.vtable, b.value)).left b.value) (λ b. (goal.Observer-dyn g (b.vtable, b.value)).heard b.value)) c.args.name c.args.self.now.seats.items _ n c.if-has_name.true;
+      refused = taken_by (row (goal.Observer-dyn g)) c.args.name c.args.self.now.seats.items _ n c.if-has_name.true;
       same = λ e. refl;
       back = (refl, refl);
       err = refl;
@@ -20,7 +20,7 @@ returns-then-has_name g c =
 pub returns-then-len-eq-SEATS : goal.returns-then-len-eq-SEATS
 returns-then-len-eq-SEATS g c =
     let n = rw c.deref.ensures.value at c.has_name.ensures in record {
-      refused = full_by (row (λ b. (goal.Observer-dyn g (b.vtable, b.value)).tells b.value) (λ b. (goal.Observer-dyn g (b.vtable, b.value)).held b.value) (λ b. (goal.Observer-dyn g (b.vtable, b.value)).left b.value) (λ b. (goal.Observer-dyn g (b.vtable, b.value)).heard b.value)) c.args.name c.args.self.now.seats.items _ n c.if-has_name.false (sym c.args.self.now.seats.ok.0 ∙ sym c.len.ensures ∙ c.if-len-eq-SEATS.true);
+      refused = full_by (row (goal.Observer-dyn g)) c.args.name c.args.self.now.seats.items _ n c.if-has_name.false (sym c.args.self.now.seats.ok.0 ∙ sym c.len.ensures ∙ c.if-len-eq-SEATS.true);
       same = λ e. refl;
       back = (refl, refl);
       err = refl;
@@ -33,7 +33,7 @@ placed-requires g c = record { when = c.requires.when; sound = c.requires.sound 
 pub returns-in-Err : goal.returns-in-Err
 returns-in-Err g c =
     let n = rw c.deref.ensures.value at c.has_name.ensures in record {
-      refused = sym (open_by (row (λ b. (goal.Observer-dyn g (b.vtable, b.value)).tells b.value) (λ b. (goal.Observer-dyn g (b.vtable, b.value)).held b.value) (λ b. (goal.Observer-dyn g (b.vtable, b.value)).left b.value) (λ b. (goal.Observer-dyn g (b.vtable, b.value)).heard b.value)) c.args.name c.args.self.now.seats.items _ n c.if-has_name.false (λ e. c.if-len-eq-SEATS.false (c.len.ensures ∙ c.args.self.now.seats.ok.0 ∙ e)));
+      refused = sym (open_by (row (goal.Observer-dyn g)) c.args.name c.args.self.now.seats.items _ n c.if-has_name.false (λ e. c.if-len-eq-SEATS.false (c.len.ensures ∙ c.args.self.now.seats.ok.0 ∙ e)));
       same = λ other. absurd (other refl);
       back = c.in-Err.ensures.back;
       err = refl;
@@ -43,14 +43,14 @@ returns-in-Err g c =
 pub returns : goal.returns
 returns g c =
     let n = rw c.deref.ensures.value at c.has_name.ensures in record {
-      refused = open_by (row (λ b. (goal.Observer-dyn g (b.vtable, b.value)).tells b.value) (λ b. (goal.Observer-dyn g (b.vtable, b.value)).held b.value) (λ b. (goal.Observer-dyn g (b.vtable, b.value)).left b.value) (λ b. (goal.Observer-dyn g (b.vtable, b.value)).heard b.value)) c.args.name c.args.self.now.seats.items _ n c.if-has_name.false (λ e. c.if-len-eq-SEATS.false (c.len.ensures ∙ c.args.self.now.seats.ok.0 ∙ e));
+      refused = open_by (row (goal.Observer-dyn g)) c.args.name c.args.self.now.seats.items _ n c.if-has_name.false (λ e. c.if-len-eq-SEATS.false (c.len.ensures ∙ c.args.self.now.seats.ok.0 ∙ e));
       same = tt;
       back = tt;
       err = tt;
       attached = record {
-        seated = (row (λ b. (goal.Observer-dyn g (b.vtable, b.value)).tells b.value) (λ b. (goal.Observer-dyn g (b.vtable, b.value)).held b.value) (λ b. (goal.Observer-dyn g (b.vtable, b.value)).left b.value) (λ b. (goal.Observer-dyn g (b.vtable, b.value)).heard b.value)) c.in-Ok.seat;
+        seated = (row (goal.Observer-dyn g)) c.in-Ok.seat;
         placed = c.in-Ok.ensures.placed;
-        last = ap (map (row (λ b. (goal.Observer-dyn g (b.vtable, b.value)).tells b.value) (λ b. (goal.Observer-dyn g (b.vtable, b.value)).held b.value) (λ b. (goal.Observer-dyn g (b.vtable, b.value)).left b.value) (λ b. (goal.Observer-dyn g (b.vtable, b.value)).heard b.value))) c.push_reserved.ensures.items ∙ map-append (row (λ b. (goal.Observer-dyn g (b.vtable, b.value)).tells b.value) (λ b. (goal.Observer-dyn g (b.vtable, b.value)).held b.value) (λ b. (goal.Observer-dyn g (b.vtable, b.value)).left b.value) (λ b. (goal.Observer-dyn g (b.vtable, b.value)).heard b.value)) c.args.self.now.seats.items (c.in-Ok.seat ∷ []);
+        last = ap (map (row (goal.Observer-dyn g))) c.push_reserved.ensures.items ∙ map-append (row (goal.Observer-dyn g)) c.args.self.now.seats.items (c.in-Ok.seat ∷ []);
         went = refl;
         settled = refl;
       };

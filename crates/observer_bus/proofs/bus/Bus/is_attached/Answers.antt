@@ -6,4 +6,4 @@ use Rattle.observer_bus.proofs.bus.Bus.is_attached.Goals as goal
 pub returns : goal.returns
 returns g c =
     let n = rw c.deref.ensures.value at c.has_name.ensures in
-    n ∙ sym (named_by (row (λ b. (goal.Observer-dyn g (b.vtable, b.value)).tells b.value) (λ b. (goal.Observer-dyn g (b.vtable, b.value)).held b.value) (λ b. (goal.Observer-dyn g (b.vtable, b.value)).left b.value) (λ b. (goal.Observer-dyn g (b.vtable, b.value)).heard b.value)) c.args.name c.args.self.now.seats.items)
+    n ∙ sym (named_by (row (goal.Observer-dyn g)) c.args.name c.args.self.now.seats.items)

@@ -9,7 +9,7 @@ use Rattle.observer_bus.proofs.seat.Seat.hear.Goals as goal
 -- `same`: what the observer's box was before the note, read through `&mut`, is the box that the seat had
 pub returns-then-eq : goal.returns-then-eq
 returns-then-eq g c =
-    let s = row (λ b. (goal.Observer-dyn g (b.vtable, b.value)).tells b.value) (λ b. (goal.Observer-dyn g (b.vtable, b.value)).held b.value) (λ b. (goal.Observer-dyn g (b.vtable, b.value)).left b.value) (λ b. (goal.Observer-dyn g (b.vtable, b.value)).heard b.value) c.args.self.now in record {
+    let s = row (goal.Observer-dyn g) c.args.self.now in record {
       fate = leaves_untold s c.requires.seated (sym (same_one s.leave) ∙ sym c.eq.ensures ∙ c.if-eq.true);
       stays = λ t. absurd (false≢true t);
       untold = λ e. refl;
@@ -40,7 +40,7 @@ invariant_of-self g c = record { join_counts = c.args.self.now.join_counts; leav
 
 pub returns-in-Stay : goal.returns-in-Stay
 returns-in-Stay g c =
-    let s = row (λ b. (goal.Observer-dyn g (b.vtable, b.value)).tells b.value) (λ b. (goal.Observer-dyn g (b.vtable, b.value)).held b.value) (λ b. (goal.Observer-dyn g (b.vtable, b.value)).left b.value) (λ b. (goal.Observer-dyn g (b.vtable, b.value)).heard b.value) c.args.self.now in
+    let s = row (goal.Observer-dyn g) c.args.self.now in
     let n = c.args.note.now in
     let same = c.deref_box_mut-1.ensures.value.1 in
     let h = c.heed.ensures in record {
@@ -60,7 +60,7 @@ returns-in-Stay g c =
 
 pub returns-in-Leave : goal.returns-in-Leave
 returns-in-Leave g c =
-    let s = row (λ b. (goal.Observer-dyn g (b.vtable, b.value)).tells b.value) (λ b. (goal.Observer-dyn g (b.vtable, b.value)).held b.value) (λ b. (goal.Observer-dyn g (b.vtable, b.value)).left b.value) (λ b. (goal.Observer-dyn g (b.vtable, b.value)).heard b.value) c.args.self.now in record {
+    let s = row (goal.Observer-dyn g) c.args.self.now in record {
       fate = told_last s c.requires.seated (sym (same_one s.leave) ∙ sym c.eq.ensures ∙ c.if-eq.false) c.args.note.now c.requires.round _ (ap (λ b. (goal.Observer-dyn g b).left b.1) c.deref_box_mut-1.ensures.value.1) c.heed.result c.heed.ensures.1.1.0 c.in-Leave.is;
       stays = λ t. absurd (false≢true t);
       untold = λ e. absurd (last_untold e);
@@ -69,7 +69,7 @@ returns-in-Leave g c =
 
 pub returns-in-NoMemory : goal.returns-in-NoMemory
 returns-in-NoMemory g c =
-    let s = row (λ b. (goal.Observer-dyn g (b.vtable, b.value)).tells b.value) (λ b. (goal.Observer-dyn g (b.vtable, b.value)).held b.value) (λ b. (goal.Observer-dyn g (b.vtable, b.value)).left b.value) (λ b. (goal.Observer-dyn g (b.vtable, b.value)).heard b.value) c.args.self.now in record {
+    let s = row (goal.Observer-dyn g) c.args.self.now in record {
       fate = told_lost s c.requires.seated (sym (same_one s.leave) ∙ sym c.eq.ensures ∙ c.if-eq.false) c.args.note.now c.requires.round _ (ap (λ b. (goal.Observer-dyn g b).left b.1) c.deref_box_mut-1.ensures.value.1) c.heed.result c.heed.ensures.1.1.0 c.in-NoMemory.is;
       stays = λ t. absurd (false≢true t);
       untold = λ e. absurd (lost_untold e);

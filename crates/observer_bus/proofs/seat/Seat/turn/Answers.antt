@@ -18,7 +18,7 @@ returns-in-None g c =
 pub returns-in-Ok : goal.returns-in-Ok
 returns-in-Ok g c =
     let h = c.welcome.ensures in
-    let s = row (λ b. (goal.Observer-dyn g (b.vtable, b.value)).tells b.value) (λ b. (goal.Observer-dyn g (b.vtable, b.value)).held b.value) (λ b. (goal.Observer-dyn g (b.vtable, b.value)).left b.value) (λ b. (goal.Observer-dyn g (b.vtable, b.value)).heard b.value) c.args.self.now in record {
+    let s = row (goal.Observer-dyn g) c.args.self.now in record {
       fate = joins_now s c.in-Some-eq1.field-0 c.in-Some-eq1.is (eq-eqb c.in-Some-eq1.field-0 1 (sym c.in-Some-eq1.field-0-is ∙ c.in-Some-eq1.field-0-test));
       kept = λ t. record { name = h.name; join = refl; leave = h.leave; tells = h.tells; left = h.left; heard = c.in-Ok.ensures.heard; held = c.in-Ok.ensures.held };
       untold = λ e. absurd (joined_untold e);
@@ -26,7 +26,7 @@ returns-in-Ok g c =
 
 pub returns-in-Err : goal.returns-in-Err
 returns-in-Err g c =
-    let s = row (λ b. (goal.Observer-dyn g (b.vtable, b.value)).tells b.value) (λ b. (goal.Observer-dyn g (b.vtable, b.value)).held b.value) (λ b. (goal.Observer-dyn g (b.vtable, b.value)).left b.value) (λ b. (goal.Observer-dyn g (b.vtable, b.value)).heard b.value) c.args.self.now in record {
+    let s = row (goal.Observer-dyn g) c.args.self.now in record {
       fate = lost_now s c.in-Some-eq1.field-0 c.in-Some-eq1.is (eq-eqb c.in-Some-eq1.field-0 1 (sym c.in-Some-eq1.field-0-is ∙ c.in-Some-eq1.field-0-test));
       kept = λ t. absurd (false≢true t);
       untold = λ e. absurd (lost_untold e);
@@ -34,7 +34,7 @@ returns-in-Err g c =
 
 pub returns-in-Some : goal.returns-in-Some
 returns-in-Some g c =
-    let s = row (λ b. (goal.Observer-dyn g (b.vtable, b.value)).tells b.value) (λ b. (goal.Observer-dyn g (b.vtable, b.value)).held b.value) (λ b. (goal.Observer-dyn g (b.vtable, b.value)).left b.value) (λ b. (goal.Observer-dyn g (b.vtable, b.value)).heard b.value) c.args.self.now in record {
+    let s = row (goal.Observer-dyn g) c.args.self.now in record {
       fate = waits_on s c.in-Some.k c.in-Some.is (ne_eqb c.in-Some.k 1 (rw c.in-Some.is at c.in-Some.k-test.1));
       kept = λ t. one_nearer s c.in-Some.k c.in-Some.is;
       untold = λ e. absurd (waits_untold e);

@@ -6,9 +6,7 @@ pub returns-clause-edges : goal.returns-clause-edges
 returns-clause-edges g c = listed c.args.curve.0 _ c.edges_of.result c.edges_of.ensures.edges c.edges_of.ensures.ascend
 
 pub returns-clause-allowed : goal.returns-clause-allowed
-returns-clause-allowed g c = (named_or_none c.edges_of.result c.args.curve.0 (world_row (λ z. (goal.Observer-dyn g (z.vtable, z.value)).tells z.value) (λ z. (goal.Observer-dyn g (z.vtable, z.value)).held z.value)
-    (λ z. (goal.Observer-dyn g (z.vtable, z.value)).left z.value) (λ z. (goal.Observer-dyn g (z.vtable, z.value)).heard z.value) c.args.self.now) c.edges_of.ensures.unknown).0
+returns-clause-allowed g c = (named_or_none c.edges_of.result c.args.curve.0 (world_row (goal.Observer-dyn g) c.args.self.now) c.edges_of.ensures.unknown).0
 
 pub returns-clause-barred : goal.returns-clause-barred
-returns-clause-barred g c = (named_or_none c.edges_of.result c.args.curve.0 (world_row (λ z. (goal.Observer-dyn g (z.vtable, z.value)).tells z.value) (λ z. (goal.Observer-dyn g (z.vtable, z.value)).held z.value)
-    (λ z. (goal.Observer-dyn g (z.vtable, z.value)).left z.value) (λ z. (goal.Observer-dyn g (z.vtable, z.value)).heard z.value) c.args.self.now) c.edges_of.ensures.unknown).1
+returns-clause-barred g c = (named_or_none c.edges_of.result c.args.curve.0 (world_row (goal.Observer-dyn g) c.args.self.now) c.edges_of.ensures.unknown).1

@@ -14,12 +14,10 @@ when_red w e = sym (ap (λ b. presents_text (if b then w.other else current w).l
 
 pub returns-then-self : goal.returns-then-self
 returns-then-self g c =
-    let world = world_row (λ z. (goal.Observer-dyn g (z.vtable, z.value)).tells z.value) (λ z. (goal.Observer-dyn g (z.vtable, z.value)).held z.value) (λ z. (goal.Observer-dyn g (z.vtable, z.value)).left z.value)
-    (λ z. (goal.Observer-dyn g (z.vtable, z.value)).heard z.value) c.args.self.now in
+    let world = world_row (goal.Observer-dyn g) c.args.self.now in
     IfOk-weaker c.text_of_both.result _ _ (λ bytes h. h ∙ when_blue world c.if-self.true) c.text_of_both.ensures
 
 pub returns-else-self : goal.returns-else-self
 returns-else-self g c =
-    let world = world_row (λ z. (goal.Observer-dyn g (z.vtable, z.value)).tells z.value) (λ z. (goal.Observer-dyn g (z.vtable, z.value)).held z.value) (λ z. (goal.Observer-dyn g (z.vtable, z.value)).left z.value)
-    (λ z. (goal.Observer-dyn g (z.vtable, z.value)).heard z.value) c.args.self.now in
+    let world = world_row (goal.Observer-dyn g) c.args.self.now in
     IfOk-weaker c.text_of_both-else-self.result _ _ (λ bytes h. h ∙ when_red world c.if-self.false) c.text_of_both-else-self.ensures

@@ -4,8 +4,6 @@ use Rattle.planar_tests.proofs.observers.calls.edit.Given as goal
 
 abbrev pub invariant-turns : goal.invariant-turns
 invariant-turns g l = record {
-  calm : IsCalm (bus_row (λ b. (goal.Observer-dyn g (b.vtable, b.value)).tells b.value) (λ b. (goal.Observer-dyn g (b.vtable, b.value)).held b.value)
-      (λ b. (goal.Observer-dyn g (b.vtable, b.value)).left b.value) (λ b. (goal.Observer-dyn g (b.vtable, b.value)).heard b.value) l.bus);
-  ready : IsReady (bus_row (λ b. (goal.Observer-dyn g (b.vtable, b.value)).tells b.value) (λ b. (goal.Observer-dyn g (b.vtable, b.value)).held b.value)
-      (λ b. (goal.Observer-dyn g (b.vtable, b.value)).left b.value) (λ b. (goal.Observer-dyn g (b.vtable, b.value)).heard b.value) l.bus);
+  calm : IsCalm (bus_row (goal.Observer-dyn g) l.bus);
+  ready : IsReady (bus_row (goal.Observer-dyn g) l.bus);
 }
