@@ -1,6 +1,6 @@
 ghost use Rattle.arrangement.specs.Arranged.{arranged, IsWatched};
 
-use crate::maps::{draw, new_map};
+use crate::maps::{draw_all, new_map};
 use crate::walk::walk;
 use crate::words::put_corners;
 use arrangement::{Arrangement, Darts, NoMemory, Segment, edge_dart};
@@ -11,12 +11,15 @@ fn draw_map(map: &mut Arrangement)
     requires watched { IsWatched (arranged Observer-dyn map.old) }
     ensures watched { IsWatched (arranged Observer-dyn map.new) }
 {
-    draw(map, 0, 0, 6, 0);
-    draw(map, 6, 0, 6, 4);
-    draw(map, 6, 4, 0, 4);
-    draw(map, 0, 4, 0, 0);
-    draw(map, 3, 0, 3, 4);
-    draw(map, -2, 1, 8, 3);
+    let segments = [
+        (0, 0, 6, 0),
+        (6, 0, 6, 4),
+        (6, 4, 0, 4),
+        (0, 4, 0, 0),
+        (3, 0, 3, 4),
+        (-2, 1, 8, 3),
+    ];
+    draw_all(map, &segments);
 }
 
 // The corners of the faces on both sides of an edge: the one on its left, going from its lower to its upper end, then the other.

@@ -25,3 +25,14 @@ pub fn draw(map: &mut Arrangement, x1: i64, y1: i64, x2: i64, y2: i64)
         Err(_) => {}
     }
 }
+
+/// Draws segments, each by its two ends, one after the other; what is none, or is refused, is passed over. What lasts from one to the next is
+/// that observers have followed the map: the loop's invariant says it in one line (`proofs/maps/draw_all/`).
+pub fn draw_all(map: &mut Arrangement, segments: &[(i64, i64, i64, i64)])
+    requires watched { IsWatched (arranged Observer-dyn map.old) }
+    ensures watched { IsWatched (arranged Observer-dyn map.new) }
+{
+    'segments: for (x1, y1, x2, y2) in segments {
+        draw(map, *x1, *y1, *x2, *y2);
+    }
+}
