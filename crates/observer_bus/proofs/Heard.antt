@@ -1,5 +1,5 @@
 -- What becomes of a seated observer that was told a note, by what it answered.
-use Rattle.std.proofs.Common.{◌≡◌, ℕ, ◌-◌, ◌==◌, Bool, true, false, cond, Option, Some, None, Result, Ok, Err, refl, sym, ap, ◌∙◌, subst, inl, inr, IsTrue}
+use Rattle.std.proofs.Common.{◌≡◌, ℕ, ◌-◌, ◌==◌, Bool, true, false, cond, Option, Some, None, Result, Ok, Err, refl, sym, ap, ◌∙◌, subst, inl, inr, IsSome, IsTrue}
 use Rattle.std.specs.Prelude.{◌↔◌, IsErrAnd, OnOk}
 use Rattle.std.specs.Option.{option_eq}
 use Rattle.std.proofs.lemmas.Bool.{false≢true}
@@ -10,7 +10,7 @@ use Rattle.arr_notes.specs.declared.note.Answer.TheVariants.{Stay, Leave, NoMemo
 use Rattle.arr_notes.specs.declared.note.Note.{Note}
 use Rattle.arr_notes.specs.declared.note.Note.TheVariants.{Before, After, Snapshot}
 use Rattle.integers.proofs.Tests.{not_true}
-use Rattle.observer_bus.specs.Seats.{SeatRow, IsFateOf, IsKept, IsRoundNote, IsTold, fate, fate_by, waiting}
+use Rattle.observer_bus.specs.Seats.{SeatRow, IsFateOf, IsGone, IsKept, IsLost, IsRoundNote, IsTold, IsToldLast, fate, fate_by, stays, waiting}
 use Rattle.observer_bus.specs.declared.seat.Fate.{Fate}
 use Rattle.observer_bus.specs.declared.seat.Fate.TheVariants.{Told, ToldLast, LeftUntold, Joined, Waits, Lost}
 
@@ -42,6 +42,9 @@ lost_leave e = cc
 
 pub stay_lost : Stay ≡ NoMemory → ⊥
 stay_lost e = cc
+
+pub leave_lost : Leave ≡ NoMemory → ⊥
+leave_lost e = cc
 
 -- ---- fates
 module _ (s : SeatRow) (seated : s.join ≡ None) where
@@ -86,15 +89,26 @@ lost_untold e = cc
 pub lost_told : Lost ≡ Told → ⊥
 lost_told e = cc
 
-pub joined_untold : Joined ≡ LeftUntold → ⊥
-joined_untold e = cc
+pub last_lost : ToldLast ≡ Lost → ⊥
+last_lost e = cc
 
-pub waits_untold : Waits ≡ LeftUntold → ⊥
-waits_untold e = cc
+-- no join is planned where an observer is seated
+pub not_planned : (o : Option ℕ) → IsSome o → o ≡ None → ⊥
+not_planned None p e = cc
+not_planned (Some k) p e = cc
 
 -- ---- what is kept of a seat that was told a note
 pub kept_told : (n : Note) (w : CurvedView) (f : Fate) (s t : SeatRow) → f ≡ Told → IsTold n s t → IsKept n w f s t
 kept_told n w f s t e k = subst (λ f. IsKept n w f s t) (sym e) k
+
+-- what is known of a seat that was emptied, by each fate at which it is
+pub gone_by : (n : Note) (f : Fate) (s t : SeatRow) → (f ≡ ToldLast → IsToldLast n s t) → (f ≡ LeftUntold → t ≡ s) → (f ≡ Lost → IsLost s t) → stays f ≡ false → IsGone n f s t
+gone_by n ToldLast s t a b c e = a refl
+gone_by n LeftUntold s t a b c e = b refl
+gone_by n Lost s t a b c e = c refl
+gone_by n Told s t a b c e = cc
+gone_by n Joined s t a b c e = cc
+gone_by n Waits s t a b c e = cc
 
 -- ---- planned joins
 module _ (s : SeatRow) (k : ℕ) (at : s.join ≡ Some k) where

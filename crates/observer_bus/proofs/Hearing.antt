@@ -1,5 +1,5 @@
 -- What seated observers have heard after rounds.
-use Rattle.std.proofs.Common.{◌≡◌, ℕ, ◌==◌, false, List, [], ◌∷◌, ◌++◌, Option, Some, None, refl, sym, ap, ◌∙◌, subst, inl, inr, All, IsSome}
+use Rattle.std.proofs.Common.{◌≡◌, ℕ, ◌==◌, false, List, [], ◌∷◌, ◌++◌, Option, Some, None, refl, sym, ap, ◌∙◌, subst, inl, inr, All}
 use Rattle.std.specs.List.{AllByRecursion, IsDistinct}
 use Rattle.std.proofs.lemmas.Bool.{eqb-false}
 use Rattle.plane_graphs.specs.Ascending.{Member}
@@ -7,6 +7,7 @@ use Rattle.arr_notes.specs.CurvedView.{CurvedView}
 use Rattle.arr_notes.specs.Notes.{FitsNote, heard_after}
 use Rattle.arr_notes.specs.declared.note.Note.{Note}
 use Rattle.arr_notes.specs.declared.note.Note.TheVariants.{After}
+use Rattle.observer_bus.proofs.Heard.{not_planned}
 use Rattle.observer_bus.proofs.Holding.{all_hold}
 use Rattle.observer_bus.proofs.Room.{FitsJoin, fits_join}
 use Rattle.observer_bus.specs.RoundLaws.{AreLed, AreRounds, AreRoundsLawful, HaveNamesApart, MayNotesBeHeard, heard_in, seat_names}
@@ -65,30 +66,26 @@ name_kept n w Lost s t k = absurd k
 all_after : (n : Note) (w : CurvedView) {fs : List Fate} {ss ts : List SeatRow} → IsRound n w fs ss ts → (P : ℕ → Type 0) → AllByRecursion P (seat_names ss) → AllByRecursion P (seat_names ts)
 all_after n w ended P a = tt
 all_after n w (kept {f = f} {s = s} {t = t} q k r) P a = (subst P (sym (name_kept n w f s t k)) a.0, all_after n w r P a.1)
-all_after n w (gone q g r) P a = all_after n w r P a.1
+all_after n w (gone q t g r) P a = all_after n w r P a.1
 
 pub apart_after : (n : Note) (w : CurvedView) {fs : List Fate} {ss ts : List SeatRow} → IsRound n w fs ss ts → HaveNamesApart ss → HaveNamesApart ts
 apart_after n w ended h = none_apart
 apart_after n w (kept {f = f} {s = s} {t = t} {ss = ss} {ts = ts} q k r) h =
     both_apart t ts (subst (λ x. AllByRecursion (λ y. (x == y) ≡ false) (seat_names ts)) (sym (name_kept n w f s t k)) (all_after n w r (λ y. (s.name == y) ≡ false) (head_apart s ss h)))
     (apart_after n w r (tail_apart s ss h))
-apart_after n w (gone {s = s} {ss = ss} q g r) h = apart_after n w r (tail_apart s ss h)
+apart_after n w (gone {s = s} {ss = ss} q t g r) h = apart_after n w r (tail_apart s ss h)
 
 -- a seat of the name was there before
 came_from : (n : Note) (w : CurvedView) {fs : List Fate} {ss ts : List SeatRow} → IsRound n w fs ss ts → (t : SeatRow) → Member t ts → (s : SeatRow) × Member s ss × (t.name ≡ s.name)
 came_from n w ended t m = absurd m
 came_from n w (kept {f = f} {s = s} {t = u} q k r) t (inl e) = (s, inl refl, ap (λ p. p.name) e ∙ name_kept n w f s u k)
 came_from n w (kept q k r) t (inr m) = let c = came_from n w r t m in (c.0, inr c.1, c.2)
-came_from n w (gone q g r) t m = let c = came_from n w r t m in (c.0, inr c.1, c.2)
-
-no_plan : (o : Option ℕ) → IsSome o → o ≡ None → ⊥
-no_plan None p e = cc
-no_plan (Some k) p e = cc
+came_from n w (gone q u g r) t m = let c = came_from n w r t m in (c.0, inr c.1, c.2)
 
 told_seated : (n : Note) (w : CurvedView) (f : Fate) (s t : SeatRow) → FitsJoin f s.join → IsKept n w f s t → s.join ≡ None → (t.join ≡ None) × (t.heard ≡ heard_after s.heard n)
 told_seated n w Told s t q k j = (k.join, k.heard)
 told_seated n w Joined s t q k j = let e : Some 1 ≡ None = sym q ∙ j in cc
-told_seated n w Waits s t q k j = absurd (no_plan s.join q j)
+told_seated n w Waits s t q k j = absurd (not_planned s.join q j)
 told_seated n w ToldLast s t q k j = absurd k
 told_seated n w LeftUntold s t q k j = absurd k
 told_seated n w Lost s t q k j = absurd k
@@ -105,10 +102,10 @@ heard_round n w (kept {f = f} {s = x} {t = y} {ss = ss} q k r) h s t (inl a) (in
 heard_round n w (kept {f = f} {s = x} {t = y} {ss = ss} q k r) h s t (inr m) (inl b) j e =
     absurd (apart_from x.name ss (head_apart x ss h) s m (sym (name_kept n w f x y k) ∙ sym (ap (λ p. p.name) b) ∙ e))
 heard_round n w (kept {s = x} {ss = ss} q k r) h s t (inr m) (inr l) j e = heard_round n w r (tail_apart x ss h) s t m l j e
-heard_round n w (gone {s = x} {ss = ss} q g r) h s t (inl a) m j e =
+heard_round n w (gone {s = x} {ss = ss} q u g r) h s t (inl a) m j e =
     let c = came_from n w r t m in
     absurd (apart_from x.name ss (head_apart x ss h) c.0 c.1 (sym (ap (λ p. p.name) a) ∙ sym e ∙ c.2))
-heard_round n w (gone {s = x} {ss = ss} q g r) h s t (inr m) l j e = heard_round n w r (tail_apart x ss h) s t m l j e
+heard_round n w (gone {s = x} {ss = ss} q u g r) h s t (inr m) l j e = heard_round n w r (tail_apart x ss h) s t m l j e
 
 -- ---- rounds, one after another
 follow : (rs qs : List (Note × CurvedView)) (a b c : BusRow) → AreRounds rs a b → AreRounds qs b c → AreRounds (rs ++ qs) a c

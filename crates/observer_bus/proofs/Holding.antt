@@ -32,7 +32,7 @@ holds_kept n v w Lost s t e r l h = absurd r
 holds_after : (n : Note) (v w : CurvedView) {fs : List Fate} {xs ys : List SeatRow} → IsRound n w fs xs ys → Leads v n w → AllByRecursion (Holds v) xs → AllByRecursion (Holds w) ys
 holds_after n v w ended l h = tt
 holds_after n v w (kept {f = f} {s = s} {t = t} a b r) l h = (holds_kept n v w f s t (fits_join f s a) b l h.0, holds_after n v w r l h.1)
-holds_after n v w (gone a b r) l h = holds_after n v w r l h.1
+holds_after n v w (gone a t b r) l h = holds_after n v w r l h.1
 
 -- after a round each seated observer that tells holds the records' view
 pub all_hold : (n : Note) (v w : CurvedView) (fs : List Fate) (xs ys : List SeatRow) → IsRound n w fs xs ys → Leads v n w → All (Holds v) xs → All (Holds w) ys

@@ -86,7 +86,7 @@ one_more f fs s ss q h e =
 by_losses : (n : Note) (w : CurvedView) {fs : List Fate} {ss ts : List SeatRow} → IsRound n w fs ss ts → HaveNamesApart ss → fs ≡ fates_by (lost_names fs ss) ss
 by_losses n w ended h = refl
 by_losses n w (kept {f = f} {fs = fs} {s = s} {ss = ss} q k r) h = one_more f fs s ss q h (by_losses n w r (tail_apart s ss h))
-by_losses n w (gone {f = f} {fs = fs} {s = s} {ss = ss} q g r) h = one_more f fs s ss q h (by_losses n w r (tail_apart s ss h))
+by_losses n w (gone {f = f} {fs = fs} {s = s} {ss = ss} q t g r) h = one_more f fs s ss q h (by_losses n w r (tail_apart s ss h))
 
 pub fates_by_losses : AreFatesByLosses
 fates_by_losses n w fs ss ts r h = by_losses n w r h

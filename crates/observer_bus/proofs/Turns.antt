@@ -10,8 +10,9 @@ use Rattle.arr_notes.specs.declared.note.Note.{Note}
 use Rattle.observer_bus.proofs.Placing.{noted_swap}
 use Rattle.observer_bus.proofs.Room.{fits_join, joins_on, room_here, room_kept, room_gone}
 use Rattle.observer_bus.specs.Rounds.{IsRound, ended, kept, gone, noted, went_after, HaveRoom, HasRoomFor, IsRoundOf}
-use Rattle.observer_bus.specs.Seats.{SeatRow, IsFateOf, IsKept, MayHear, stays}
+use Rattle.observer_bus.specs.Seats.{SeatRow, IsFateOf, IsGone, IsKept, MayHear, stays}
 use Rattle.observer_bus.specs.declared.seat.Fate.{Fate}
+use Rattle.observer_bus.specs.declared.seat.Fate.TheVariants.{Told, ToldLast, LeftUntold, Joined, Waits, Lost}
 use Rattle.observer_bus.specs.declared.went.Went.{Went}
 
 -- the plans to join of seats
@@ -24,6 +25,15 @@ pub record Going (n : Note) (w : CurvedView) (ss : List SeatRow) (g : Went) (xs 
   pub fits : All (MayHear n) (drop i xs)
   pub room : HaveRoom (joins xs) h
   pub so_far : (fs : List Fate) (ts : List SeatRow) → IsRound n w fs (drop i xs) ts → IsRoundOf n w ss g (take i xs ++ ts) (went_after fs (drop i xs) h)
+
+-- a seat that was emptied had a fate at which none stays
+gone_leaves : (n : Note) (f : Fate) (s t : SeatRow) → IsGone n f s t → stays f ≡ false
+gone_leaves n ToldLast s t o = refl
+gone_leaves n LeftUntold s t o = refl
+gone_leaves n Lost s t o = refl
+gone_leaves n Told s t o = absurd o
+gone_leaves n Joined s t o = absurd o
+gone_leaves n Waits s t o = absurd o
 
 -- what holds of each element from i on holds of each from i + 1 on
 later : {X : Type 0} (P : X → Type 0) (xs : List X) (i : ℕ) → All P (drop i xs) → All P (drop (i + 1) xs)
@@ -68,10 +78,10 @@ module _ (xs : List SeatRow) (h : Went) (i : ℕ) (s : SeatRow) (room : HaveRoom
       let e = joins_about (take i xs) t (drop (i + 1) xs) (set xs i t) (set_here xs i s lt here t) in
       rw e (room_kept (joins (take i xs)) s.join (joins (drop (i + 1) xs)) h room_at f s.name t.join (fits_join f s fate) (joins_on n w f s t k))
 
-  room_less : (zs : List SeatRow) → zs ≡ take i xs ++ drop (i + 1) xs → stays f ≡ false → HaveRoom (joins zs) (noted f s.name h)
-  room_less zs e q =
+  room_less : (zs : List SeatRow) → zs ≡ take i xs ++ drop (i + 1) xs → (n : Note) (t : SeatRow) → IsGone n f s t → HaveRoom (joins zs) (noted f s.name h)
+  room_less zs e n t q =
       let d = joins_both (take i xs) (drop (i + 1) xs) zs e in
-      rw d (room_gone (joins (take i xs)) s.join (joins (drop (i + 1) xs)) h room_at f s.name q)
+      rw d (room_gone (joins (take i xs)) s.join (joins (drop (i + 1) xs)) h room_at f s.name (gone_leaves n f s t q))
 
 -- ---- forward
 module _ (n : Note) (w : CurvedView) (ss : List SeatRow) (g : Went) (xs : List SeatRow) (h : Went) (i : ℕ) (s : SeatRow)
@@ -90,7 +100,7 @@ module _ (n : Note) (w : CurvedView) (ss : List SeatRow) (g : Went) (xs : List S
   }
 
   -- after a seat that was emptied
-  pub goes : (t : SeatRow) (zs : List SeatRow) → stays f ≡ false → zs ≡ take i (set xs i t) ++ drop (i + 1) (set xs i t) → Going n w ss g zs (noted f s.name h) i
+  pub goes : (t : SeatRow) (zs : List SeatRow) → IsGone n f s t → zs ≡ take i (set xs i t) ++ drop (i + 1) (set xs i t) → Going n w ss g zs (noted f s.name h) i
   goes t zs q e' =
       let e : zs ≡ take i xs ++ drop (i + 1) xs = without_here xs i s lt here t zs e' in
       let l : length (take i xs) ≡ i = simp length-take (omega arith) in
@@ -99,8 +109,8 @@ module _ (n : Note) (w : CurvedView) (ss : List SeatRow) (g : Went) (xs : List S
       record {
         within = rw (e, length-append) (omega (arith, l));
         fits = rw b (later (MayHear n) xs i so.fits);
-        room = room_less xs h i s so.room lt here f fate zs e q;
-        so_far = λ fs ts r. let p = rw b at r in rw (a, b) (rest_from (f ∷ fs) ts (gone fate q p));
+        room = room_less xs h i s so.room lt here f fate zs e n t q;
+        so_far = λ fs ts r. let p = rw b at r in rw (a, b) (rest_from (f ∷ fs) ts (gone fate t q p));
       }
 
 pub starts : (n : Note) (w : CurvedView) (ss : List SeatRow) (g : Went) → All (MayHear n) ss → HaveRoom (joins ss) g → Going n w ss g ss g 0
@@ -125,14 +135,14 @@ pub record GoingBack (n : Note) (w : CurvedView) (ss : List SeatRow) (g : Went) 
 pub round_both : (n : Note) (w : CurvedView) {fs hs : List Fate} {xs ys us vs : List SeatRow} → IsRound n w fs xs ys → IsRound n w hs us vs → IsRound n w (fs ++ hs) (xs ++ us) (ys ++ vs)
 round_both n w ended q = q
 round_both n w (kept a b r) q = kept a b (round_both n w r q)
-round_both n w (gone a b r) q = gone a b (round_both n w r q)
+round_both n w (gone a t b r) q = gone a t b (round_both n w r q)
 
 -- what the last seat writes may be written first
 last_first : (n : Note) (w : CurvedView) {fs : List Fate} {xs ys : List SeatRow} → IsRound n w fs xs ys → (f : Fate) (s : SeatRow) (g : Went) →
     went_after (fs ++ f ∷ []) (xs ++ s ∷ []) g ≡ went_after fs xs (noted f s.name g)
 last_first n w ended f s g = refl
 last_first n w (kept {f = e} {fs = fs} {s = x} {ss = xs} a b r) f s g = last_first n w r f s (noted e x.name g) ∙ ap (went_after fs xs) (noted_swap f e s.name x.name g)
-last_first n w (gone {f = e} {fs = fs} {s = x} {ss = xs} a b r) f s g = last_first n w r f s (noted e x.name g) ∙ ap (went_after fs xs) (noted_swap f e s.name x.name g)
+last_first n w (gone {f = e} {fs = fs} {s = x} {ss = xs} a t b r) f s g = last_first n w r f s (noted e x.name g) ∙ ap (went_after fs xs) (noted_swap f e s.name x.name g)
 
 module _ (n : Note) (w : CurvedView) (ss : List SeatRow) (g : Went) (xs : List SeatRow) (h : Went) (i j : ℕ) (s : SeatRow)
     (so : GoingBack n w ss g xs h i) (e : i ≡ j + 1) (lt : j < length xs) (here : s ≡ get_or xs j s) (f : Fate) (fate : IsFateOf f s) where
@@ -164,7 +174,7 @@ module _ (n : Note) (w : CurvedView) (ss : List SeatRow) (g : Went) (xs : List S
   }
 
   -- after a seat that was emptied
-  pub goes_back : (t : SeatRow) (zs : List SeatRow) → stays f ≡ false → zs ≡ take j (set xs j t) ++ drop (j + 1) (set xs j t) → GoingBack n w ss g zs (noted f s.name h) j
+  pub goes_back : (t : SeatRow) (zs : List SeatRow) → IsGone n f s t → zs ≡ take j (set xs j t) ++ drop (j + 1) (set xs j t) → GoingBack n w ss g zs (noted f s.name h) j
   goes_back t zs q c' =
       let c : zs ≡ take j xs ++ drop (j + 1) xs = without_here xs j s lt here t zs c' in
       let l : length (take j xs) ≡ j = simp length-take (omega arith) in
@@ -173,8 +183,8 @@ module _ (n : Note) (w : CurvedView) (ss : List SeatRow) (g : Went) (xs : List S
       record {
         within = rw (c, length-append) (omega (arith, l));
         fits = rw a (below (MayHear n) so.fits);
-        room = room_less xs h j s so.room lt here f fate zs c q;
-        so_far = λ fs ts r. let p = rw a at r in rw (a, b, ← e) (let m = rest_below [] fs ts (gone fate q ended) p in rw append-nil at m);
+        room = room_less xs h j s so.room lt here f fate zs c n t q;
+        so_far = λ fs ts r. let p = rw a at r in rw (a, b, ← e) (let m = rest_below [] fs ts (gone fate t q ended) p in rw append-nil at m);
       }
 
 pub starts_back : (n : Note) (w : CurvedView) (ss : List SeatRow) (g : Went) (k : ℕ) → k ≡ length ss → All (MayHear n) ss → HaveRoom (joins ss) g → GoingBack n w ss g ss g k
@@ -190,7 +200,7 @@ ends_back n w ss g xs h i so e = let q = so.so_far in let r = rw e at q in r [] 
 pub shorter : (n : Note) (w : CurvedView) {fs : List Fate} {xs ys : List SeatRow} → IsRound n w fs xs ys → length ys ≤ length xs
 shorter n w ended = omega arith
 shorter n w (kept a b r) = omega (arith, shorter n w r)
-shorter n w (gone a b r) = omega (arith, shorter n w r)
+shorter n w (gone a t b r) = omega (arith, shorter n w r)
 
 -- ---- the same of a list whose elements are seen as rows
 module _ {S : Type 0} (r : S → SeatRow) where
@@ -216,7 +226,7 @@ module _ {S : Type 0} (r : S → SeatRow) where
     pub goes_on_by : (t : S) → IsKept n w f (r s) (r t) → Going n w ss g (map r (set xs i t)) h' (i + 1)
     goes_on_by t k = rw (note, map-set) (goes_on n w ss g (map r xs) h i (r s) so (rows_lt xs i s lt here) (at_row xs i s lt here) f fate (r t) k)
 
-    pub goes_by : (t : S) (zs : List S) → stays f ≡ false → zs ≡ take i (set xs i t) ++ drop (i + 1) (set xs i t) → Going n w ss g (map r zs) h' i
+    pub goes_by : (t : S) (zs : List S) → IsGone n f (r s) (r t) → zs ≡ take i (set xs i t) ++ drop (i + 1) (set xs i t) → Going n w ss g (map r zs) h' i
     goes_by t zs q e = rw note (goes n w ss g (map r xs) h i (r s) so (rows_lt xs i s lt here) (at_row xs i s lt here) f fate (r t) (map r zs) q (rows_without xs zs i t e))
 
   module _ (n : Note) (w : CurvedView) (ss : List SeatRow) (g : Went) (xs : List S) (h : Went) (i j : ℕ) (s : S)
@@ -225,7 +235,7 @@ module _ {S : Type 0} (r : S → SeatRow) where
     pub goes_on_back_by : (t : S) → IsKept n w f (r s) (r t) → GoingBack n w ss g (map r (set xs j t)) h' j
     goes_on_back_by t k = rw (note, map-set) (goes_on_back n w ss g (map r xs) h i j (r s) so e (rows_lt xs j s lt here) (at_row xs j s lt here) f fate (r t) k)
 
-    pub goes_back_by : (t : S) (zs : List S) → stays f ≡ false → zs ≡ take j (set xs j t) ++ drop (j + 1) (set xs j t) → GoingBack n w ss g (map r zs) h' j
+    pub goes_back_by : (t : S) (zs : List S) → IsGone n f (r s) (r t) → zs ≡ take j (set xs j t) ++ drop (j + 1) (set xs j t) → GoingBack n w ss g (map r zs) h' j
     goes_back_by t zs q c = rw note (goes_back n w ss g (map r xs) h i j (r s) so e (rows_lt xs j s lt here) (at_row xs j s lt here) f fate (r t) (map r zs) q (rows_without xs zs j t c))
 
   -- what holds of each row from i on holds of the row at i

@@ -1,10 +1,10 @@
 -- Rounds: each seat has one turn, and those that joined, left and were lost are written down.
-use Rattle.std.specs.Prelude.{◌≡◌, ℕ, ◌+◌, ◌≤◌, ◌<◌, Bool, false, List, [], ◌∷◌, Option, Some, None, length, ⊤}
+use Rattle.std.specs.Prelude.{◌≡◌, ℕ, ◌+◌, ◌≤◌, ◌<◌, Bool, List, [], ◌∷◌, Option, Some, None, length, ⊤}
 use Rattle.std.specs.Ordering.{nat_cmp}
 use Rattle.plane_graphs.specs.Ascending.{place}
 use Rattle.arr_notes.specs.CurvedView.{CurvedView}
 use Rattle.arr_notes.specs.declared.note.Note.{Note}
-use Rattle.observer_bus.specs.Seats.{SeatRow, IsFateOf, IsKept, stays}
+use Rattle.observer_bus.specs.Seats.{SeatRow, IsFateOf, IsGone, IsKept}
 use Rattle.observer_bus.specs.declared.seat.Fate.{Fate}
 use Rattle.observer_bus.specs.declared.seat.Fate.TheVariants.{ToldLast, LeftUntold, Joined, Lost}
 use Rattle.observer_bus.specs.declared.went.Went.{Went}
@@ -15,13 +15,13 @@ pub record BusRow : Type 0 where
   pub went : Went
   pub settled : Bool
 
--- one round, seat by seat: each has a fate that it may have, and either stays in its place as that fate says, or is emptied (this project)
+-- one round, seat by seat: each has a fate that it may have, and either stays in its place as that fate says, or is emptied, and was then as that fate says (this project)
 pub data IsRound (n : Note) (w : CurvedView) : List Fate → List SeatRow → List SeatRow → Type 0 where
   ended : IsRound n w [] [] []
   kept : {f : Fate} {fs : List Fate} {s t : SeatRow} {ss ts : List SeatRow} →
       IsFateOf f s → IsKept n w f s t → IsRound n w fs ss ts → IsRound n w (f ∷ fs) (s ∷ ss) (t ∷ ts)
   gone : {f : Fate} {fs : List Fate} {s : SeatRow} {ss ts : List SeatRow} →
-      IsFateOf f s → stays f ≡ false → IsRound n w fs ss ts → IsRound n w (f ∷ fs) (s ∷ ss) ts
+      IsFateOf f s → (t : SeatRow) → IsGone n f s t → IsRound n w fs ss ts → IsRound n w (f ∷ fs) (s ∷ ss) ts
 
 -- the names, with one whose seat has this fate
 abbrev pub noted : Fate → ℕ → Went → Went

@@ -1,5 +1,5 @@
 -- Seats of a bus as contracts see them, and what a round makes of each.
-use Rattle.std.specs.Prelude.{◌≡◌, ℕ, ◌==◌, Bool, true, false, cond, List, Option, Some, None, IsTrue, ◌⊎◌, ⊤}
+use Rattle.std.specs.Prelude.{◌≡◌, ℕ, ◌==◌, Bool, true, false, cond, List, Option, Some, None, IsSome, IsTrue, ◌⊎◌, ⊤}
 use Rattle.arr_notes.specs.CurvedView.{CurvedView, step_view}
 use Rattle.arr_notes.specs.Notes.{FitsNote, held_after, heard_after, is_one, left_after, one_less}
 use Rattle.arr_notes.specs.declared.note.Note.{Note}
@@ -75,6 +75,28 @@ IsKept n w Told s t = IsTold n s t
 IsKept n w Joined s t = HasJoined w s t
 IsKept n w Waits s t = t ≡ waiting s
 IsKept n w other s t = ⊥
+
+-- a seated observer was told its last note, once (this project)
+pub record IsToldLast (n : Note) (s t : SeatRow) : Type 0 where
+  pub name : t.name ≡ s.name
+  pub join : t.join ≡ None
+  pub leave : t.leave ≡ one_less s.leave
+  pub tells : t.tells ≡ s.tells
+  pub heard : t.heard ≡ heard_after s.heard n
+
+-- an observer was lost: whether it has heard the note, and what it holds and counts then, isn't known; a newcomer counts no snapshot (this project)
+pub record IsLost (s t : SeatRow) : Type 0 where
+  pub name : t.name ≡ s.name
+  pub join : t.join ≡ s.join
+  pub tells : t.tells ≡ s.tells
+  pub left : IsSome s.join → t.left ≡ s.left
+
+-- what a seat that is emptied has become when its observer is dropped, by its fate (this project)
+abbrev pub IsGone : Note → Fate → SeatRow → SeatRow → Type 0
+IsGone n ToldLast s t = IsToldLast n s t
+IsGone n LeftUntold s t = t ≡ s
+IsGone n Lost s t = IsLost s t
+IsGone n other s t = ⊥
 
 -- ---- conditions
 -- the note is told in rounds: a snapshot is not

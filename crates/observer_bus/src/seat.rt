@@ -67,7 +67,7 @@ impl Seat {
     ghost use Rattle.arr_notes.specs.Notes.{heard_after, IsHeld, left_after};
     ghost use Rattle.arr_notes.specs.declared.note.Note.TheVariants.{Snapshot};
     ghost use Rattle.arr_notes.specs.CurvedView.{view_text};
-    ghost use Rattle.observer_bus.specs.Seats.{stays, fate_seated, IsFateOf, IsKept, IsTold, IsRoundNote, HasJoined, MayHear};
+    ghost use Rattle.observer_bus.specs.Seats.{stays, fate_seated, IsFateOf, IsGone, IsKept, IsLost, IsTold, IsToldLast, IsRoundNote, HasJoined, MayHear};
     ghost use Rattle.observer_bus.specs.Rows.{newcomer, row};
     ghost use Rattle.observer_bus.specs.Calls.{is_seated_as, leaving, IsHeldSound, IsPlaced};
 
@@ -85,7 +85,7 @@ impl Seat {
         ensures fate { IsFateOf result (row Observer-dyn self.old) }
         ensures kept { IsTrue (stays result) → IsKept note.now (view_by (R.graph records.now) (R.curve_list records.now)) result
             (row Observer-dyn self.old) (row Observer-dyn self.new) }
-        ensures untold { result ≡ Fate.LeftUntold → row Observer-dyn self.new ≡ row Observer-dyn self.old }
+        ensures gone { stays result ≡ false → IsGone note.now result (row Observer-dyn self.old) (row Observer-dyn self.new) }
     {
         match self.join {
             None => self.hear(note),
@@ -112,6 +112,8 @@ impl Seat {
         ensures stays { IsTrue (stays result) → result ≡ Fate.Told }
         ensures untold { result ≡ Fate.LeftUntold → row Observer-dyn self.new ≡ row Observer-dyn self.old }
         ensures told { result ≡ Fate.Told → IsTold note.now (row Observer-dyn self.old) (row Observer-dyn self.new) }
+        ensures last { result ≡ Fate.ToldLast → IsToldLast note.now (row Observer-dyn self.old) (row Observer-dyn self.new) }
+        ensures lost { result ≡ Fate.Lost → IsLost (row Observer-dyn self.old) (row Observer-dyn self.new) }
     {
         if self.leave == Some(1) {
             return Fate::LeftUntold;

@@ -17,7 +17,7 @@ use Rattle.observer_bus.proofs.Seating.{room_at_first}
 use Rattle.observer_bus.specs.Calls.{begun}
 use Rattle.observer_bus.specs.RoundLaws.{AreRounds, HaveNamesApart, fates_by, is_one_of, lost_names}
 use Rattle.observer_bus.specs.Rounds.{AreInRound, BusRow, HaveRoom, IsRound, ended, kept, gone, noted, went_after}
-use Rattle.observer_bus.specs.Seats.{SeatRow, IsFateOf, IsKept, IsRoundNote, fate, stays}
+use Rattle.observer_bus.specs.Seats.{SeatRow, IsFateOf, IsGone, IsKept, IsRoundNote, fate}
 use Rattle.observer_bus.specs.declared.seat.Fate.{Fate}
 use Rattle.observer_bus.specs.declared.seat.Fate.TheVariants.{Told, ToldLast, LeftUntold, Joined, Waits, Lost}
 use Rattle.observer_bus.specs.declared.went.Went.{Went}
@@ -44,13 +44,13 @@ kept_row n w r LeftUntold s t k = absurd k
 kept_row n w r Lost s t k = absurd k
 
 -- a seat that is emptied
-gone_row : (f : Fate) (s : Seat) → stays f ≡ false → [] ≡ seat_after f s
-gone_row ToldLast s e = refl
-gone_row LeftUntold s e = refl
-gone_row Lost s e = refl
-gone_row Told s e = cc
-gone_row Joined s e = cc
-gone_row Waits s e = cc
+gone_row : (n : Note) (f : Fate) (s t : SeatRow) → IsGone n f s t → [] ≡ seat_after f (seat_row s)
+gone_row n ToldLast s t o = refl
+gone_row n LeftUntold s t o = refl
+gone_row n Lost s t o = refl
+gone_row n Told s t o = absurd o
+gone_row n Joined s t o = absurd o
+gone_row n Waits s t o = absurd o
 
 -- ---- one round
 -- seats after a round, by their fates
@@ -62,7 +62,7 @@ rows_by (f ∷ fs) (s ∷ ss) = seat_after f (seat_row s) ++ rows_by fs ss
 by_fates : (n : Note) (w : CurvedView) → IsRoundNote n → {fs : List Fate} {ss ts : List SeatRow} → IsRound n w fs ss ts → map seat_row ts ≡ rows_by fs ss
 by_fates n w r ended = refl
 by_fates n w r (kept {f = f} {s = s} {t = t} q k m) = ap₂ (λ x y. x ++ y) (kept_row n w r f s t k) (by_fates n w r m)
-by_fates n w r (gone {f = f} {s = s} q g m) = ap₂ (λ x y. x ++ y) (gone_row f (seat_row s) g) (by_fates n w r m)
+by_fates n w r (gone {f = f} {s = s} q t g m) = ap₂ (λ x y. x ++ y) (gone_row n f s t g) (by_fates n w r m)
 
 -- fates by the names lost are those of the seats that a script knows
 rows_lost : (lost : List ℕ) (ss : List SeatRow) → rows_by (fates_by lost ss) ss ≡ seats_after lost (map seat_row ss)

@@ -23,7 +23,7 @@ turns-preserved-then-not-stays g c = record {
   capacity = search rules;
   within = search rules;
   going = goes_back_by _ _ _ _ _ _ _ _ _ _ c.turns.invariant.going (omega arith) (omega arith) c.index_mut-seat.ensures.value _ c.turn-fate.ensures.fate _
-      (c.note.ensures.noted ∙ ap (λ k. noted c.turn-fate.result k c.turns.went) c.name-name.ensures) _ _ (sym c.stays.ensures ∙ c.if-not-stays.true) c.remove-gone.ensures.by_index.2;
+      (c.note.ensures.noted ∙ ap (λ k. noted c.turn-fate.result k c.turns.went) c.name-name.ensures) _ _ (c.turn-fate.ensures.gone (sym c.stays.ensures ∙ c.if-not-stays.true)) c.remove-gone.ensures.by_index.2;
 }
 
 pub turns-preserved : goal.turns-preserved

@@ -28,7 +28,7 @@ pub turns-preserved : goal.turns-preserved
 turns-preserved g c = record {
   capacity = search rules;
   going = goes_by _ _ _ _ _ _ _ _ _ c.turns.invariant.going (omega arith) c.index_mut-seat.ensures.value _ c.turn-fate.ensures.fate _
-      (c.note.ensures.noted ∙ ap (λ k. noted c.turn-fate.result k c.turns.went) c.name-name.ensures) _ _ (sym c.stays.ensures ∙ c.if-stays.false) c.remove-gone.ensures.by_index.2;
+      (c.note.ensures.noted ∙ ap (λ k. noted c.turn-fate.result k c.turns.went) c.name-name.ensures) _ _ (c.turn-fate.ensures.gone (sym c.stays.ensures ∙ c.if-stays.false)) c.remove-gone.ensures.by_index.2;
 }
 
 pub returns-clause-shorter : goal.returns-clause-shorter

@@ -2,7 +2,7 @@ use Rattle.std.proofs.Common.{refl, sym, ap, subst, ◌∙◌, IsTrue}
 use mathlib.Core.List.{mem-append_right}
 use Rattle.arr_notes.specs.Notes.{heard_after, held_after, left_after, FitsNote}
 use Rattle.observer_bus.specs.Rows.{row}
-use Rattle.observer_bus.proofs.Heard.{last_untold, leaves_untold, lost_told, lost_untold, none_next, same_one, stay_lost, told_last, told_lost, told_on, told_untold, untold_told, last_told}
+use Rattle.observer_bus.proofs.Heard.{last_lost, last_told, last_untold, leave_lost, leaves_untold, lost_told, lost_untold, none_next, not_planned, same_one, stay_lost, told_last, told_lost, told_on, told_untold, untold_told}
 use Rattle.std.proofs.lemmas.Bool.{false≢true}
 use Rattle.observer_bus.proofs.seat.Seat.hear.Goals as goal
 
@@ -14,6 +14,8 @@ returns-then-eq g c =
       stays = λ t. absurd (false≢true t);
       untold = λ e. refl;
       told = λ e. absurd (untold_told e);
+      last = λ e. absurd (last_untold (sym e));
+      lost = λ e. absurd (lost_untold (sym e));
     }
 
 pub nearer-self-requires : goal.nearer-self-requires
@@ -56,22 +58,44 @@ returns-in-Stay g c =
         heard = h.1.0 (λ l. stay_lost (sym c.in-Stay.is ∙ l)) ∙ ap (λ b. heard_after ((goal.Observer-dyn g b).heard b.1) n) same;
         held = λ t. h.1.1.1.1.1 c.in-Stay.is (ap (λ b. (goal.Observer-dyn g b).tells b.1) same ∙ t) ∙ ap (λ b. held_after ((goal.Observer-dyn g b).held b.1) n) same;
       };
+      last = λ e. absurd (last_told (sym e));
+      lost = λ e. absurd (lost_told (sym e));
     }
 
 pub returns-in-Leave : goal.returns-in-Leave
 returns-in-Leave g c =
-    let s = row (goal.Observer-dyn g) c.args.self.now in record {
+    let s = row (goal.Observer-dyn g) c.args.self.now in
+    let n = c.args.note.now in
+    let same = c.deref_box_mut-1.ensures.value.1 in
+    let h = c.heed.ensures in record {
       fate = told_last s c.requires.seated (sym (same_one s.leave) ∙ sym c.eq.ensures ∙ c.if-eq.false) c.args.note.now c.requires.round _ (ap (λ b. (goal.Observer-dyn g b).left b.1) c.deref_box_mut-1.ensures.value.1) c.heed.result c.heed.ensures.1.1.0 c.in-Leave.is;
       stays = λ t. absurd (false≢true t);
       untold = λ e. absurd (last_untold e);
       told = λ e. absurd (last_told e);
+      last = λ e. record {
+        name = refl;
+        join = c.requires.seated;
+        leave = c.nearer-self.ensures.value;
+        tells = h.0 ∙ ap (λ b. (goal.Observer-dyn g b).tells b.1) same;
+        heard = h.1.0 (λ l. leave_lost (sym c.in-Leave.is ∙ l)) ∙ ap (λ b. heard_after ((goal.Observer-dyn g b).heard b.1) n) same;
+      };
+      lost = λ e. absurd (last_lost e);
     }
 
 pub returns-in-NoMemory : goal.returns-in-NoMemory
 returns-in-NoMemory g c =
-    let s = row (goal.Observer-dyn g) c.args.self.now in record {
+    let s = row (goal.Observer-dyn g) c.args.self.now in
+    let same = c.deref_box_mut-1.ensures.value.1 in
+    let h = c.heed.ensures in record {
       fate = told_lost s c.requires.seated (sym (same_one s.leave) ∙ sym c.eq.ensures ∙ c.if-eq.false) c.args.note.now c.requires.round _ (ap (λ b. (goal.Observer-dyn g b).left b.1) c.deref_box_mut-1.ensures.value.1) c.heed.result c.heed.ensures.1.1.0 c.in-NoMemory.is;
       stays = λ t. absurd (false≢true t);
       untold = λ e. absurd (lost_untold e);
       told = λ e. absurd (lost_told e);
+      last = λ e. absurd (last_lost (sym e));
+      lost = λ e. record {
+        name = refl;
+        join = refl;
+        tells = h.0 ∙ ap (λ b. (goal.Observer-dyn g b).tells b.1) same;
+        left = λ j. absurd (not_planned _ j c.requires.seated);
+      };
     }
