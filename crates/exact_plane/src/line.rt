@@ -34,6 +34,15 @@ impl Model for Line {
 }
 
 impl Line {
+    /// What is true of all lines: the numbers are those of a line through two whole points, in lowest terms, and it runs to the
+    /// right, or upwards.
+    pub fn laws(&self)
+        ensures { IsLine self.now }
+    {
+        // Any use of a field tells what is kept.
+        let _ = &self.b;
+    }
+
     /// Whether it is vertical, so that it has no height at an abscissa.
     pub fn is_vertical(&self) -> bool
         ensures line { IsLine self.now }

@@ -111,6 +111,14 @@ impl Point {
         }
     }
 
+    /// What is true of all points: the weight is positive, no number is out of its range, and no number but 1 divides all three.
+    pub fn laws(&self)
+        ensures { IsPoint self.now }
+    {
+        // Any use of a field tells what is kept.
+        let _ = &self.w;
+    }
+
     /// The abscissa times the weight.
     pub fn x(&self) -> i128
         ensures { result ≡ self.now.x }

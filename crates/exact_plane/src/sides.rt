@@ -72,12 +72,14 @@ pub fn orientation(segment: &Segment, point: &Point) -> Sign
     as_sign(value)
 }
 
-// Whether a point is on a line.
-pub(crate) fn is_on(line: &Line, point: &Point) -> bool
-    ensures { result ≡ int_eq (side_of line.now point.now) (pos 0) }
-{
-    let value = side_value(line.a, line.b, line.c, point.x, point.y, point.w);
-    value.cmp(&0).is_eq()
+impl Line {
+    /// Whether a point is on the line (CGAL, `Line_2::has_on`).
+    pub fn holds(&self, point: &Point) -> bool
+        ensures { result ≡ int_eq (side_of self.now point.now) (pos 0) }
+    {
+        let value = side_value(self.a, self.b, self.c, point.x, point.y, point.w);
+        value.cmp(&0).is_eq()
+    }
 }
 
 // How far a line is below 0, at the abscissa x / w, times its own b, another line's b and the weight.

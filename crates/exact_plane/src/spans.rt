@@ -5,7 +5,6 @@ ghost use Rattle.exact_plane.specs.SpanOf.{span_of};
 use crate::line::{Line, line_of};
 use crate::point::Point;
 use crate::segment::Segment;
-use crate::sides::is_on;
 use std::marker::Model;
 
 /// The part of a line between two of its points, which it includes.
@@ -31,7 +30,7 @@ impl Model for Span {
 fn on_way(lower: &Point, upper: &Point, line: &Line) -> bool
     ensures { result ≡ are_on_way lower.now upper.now line.now }
 {
-    lower.cmp(upper).is_lt() && is_on(line, lower) && is_on(line, upper)
+    lower.cmp(upper).is_lt() && line.holds(lower) && line.holds(upper)
 }
 
 impl Span {
@@ -46,9 +45,18 @@ impl Span {
         if !on_way(&lower, &upper, &line) {
             return None;
         }
-        // Looks into both, so that what is known of their fields is at hand for the span.
-        let _ = (lower.x, line.a);
+        lower.laws();
+        upper.laws();
+        line.laws();
         Some(Span { lower, upper, line })
+    }
+
+    /// What is true of all spans: the ends are two points of the line, in order.
+    pub fn laws(&self)
+        ensures { IsSpan self.now }
+    {
+        // Any use of a field tells what is kept.
+        let _ = &self.line;
     }
 
     /// Its lesser end.
@@ -80,8 +88,8 @@ impl Span {
         let lower = segment.lower();
         let upper = segment.upper();
         let line = line_of(segment);
-        // As in `new`.
-        let _ = (lower.x, upper.x);
+        lower.laws();
+        upper.laws();
         Span { lower, upper, line }
     }
 }
