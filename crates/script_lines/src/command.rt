@@ -143,6 +143,9 @@ pub fn read_line(line: &[u8]) -> Result<Command, LineError>
     ensures number { IsErrOf result LineError.Number ↔ (IsText line.now × HasNoNumber (words line.now)) }
     ensures range { IsErrOf result LineError.Range ↔ (IsText line.now × IsOutOfRange (words line.now)) }
     ensures nothing { (result ≡ Ok Command.Nothing) ↔ (IsText line.now × IsSilent (words line.now)) }
+
+    // The limit itself.
+    ensures limit { MAX_LINE ≡ 200 }
 {
     read(line)
 }

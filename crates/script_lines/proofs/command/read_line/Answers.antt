@@ -1,3 +1,4 @@
+use Rattle.std.proofs.Common.{refl}
 use Rattle.script_lines.proofs.LineAnswers.{long_exactly, byte_exactly, word_exactly, count_exactly, number_exactly, range_exactly, nothing_exactly}
 use Rattle.script_lines.proofs.command.read_line.Goals as goal
 
@@ -15,4 +16,5 @@ returns c =
       number = number_exactly line r is;
       range = range_exactly line r is;
       nothing = nothing_exactly line r is;
+      limit = refl;
     }
