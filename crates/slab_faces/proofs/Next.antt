@@ -42,7 +42,7 @@ level_at_lower g f v plane F in' r z =
         absurd (omega (arith, ints)))
 
 -- ---- the corners, clockwise
-abbrev corner : Skeleton → Point → ℕ → SlabCell
+abbrev pub corner : Skeleton → Point → ℕ → SlabCell
 corner g v zero = left_bottom g v
 corner g v (suc zero) = left_top g v
 corner g v (suc (suc zero)) = right_top g v
@@ -65,10 +65,10 @@ right_dart g v f plane in' a =
     (record { in' = a.in'; at = e }, ap (λ l. kind l true) long)
 
 -- where no dart is of a kind, the corners before and after it are in one face
-abbrev IsEmpty : Skeleton → Point → ℕ → Type 0
+abbrev pub IsEmpty : Skeleton → Point → ℕ → Type 0
 IsEmpty g v k = (c : Edge) (r : Bool) → IsOut g v c r → class c r ≡ k → ⊥
 
-corner_step : (g : Skeleton) (v : Point) (k : ℕ) → IsPlaneSkeleton g → Contains g.vertices v → k < 4 → IsEmpty g v k → SameFace g (corner g v k) (corner g v (suc k))
+pub corner_step : (g : Skeleton) (v : Point) (k : ℕ) → IsPlaneSkeleton g → Contains g.vertices v → k < 4 → IsEmpty g v k → SameFace g (corner g v k) (corner g v (suc k))
 corner_step g v zero plane in' l none = left_empty g v plane in' (λ f a. let d = left_dart g v f plane in' a in none f false d.0 d.1)
 corner_step g v (suc zero) plane in' l none =
     top_open g v plane in' (λ f F e u. none f true (record { in' = F; at = e }) (ap (λ l. kind l true) (subst (λ x. left_of x f.high ≡ false) (sym e) u.upper_2)))
@@ -78,7 +78,7 @@ corner_step g v (suc (suc (suc zero))) plane in' l none =
 corner_step g v (suc (suc (suc (suc n)))) plane in' l none = absurd (omega arith)
 
 -- and so along several kinds
-walk : (g : Skeleton) (v : Point) (k n : ℕ) → IsPlaneSkeleton g → Contains g.vertices v → k + n ≤ 4 → ((j : ℕ) → k ≤ j → j < k + n → IsEmpty g v j) → SameFace g (corner g v k) (corner g v (k + n))
+pub walk : (g : Skeleton) (v : Point) (k n : ℕ) → IsPlaneSkeleton g → Contains g.vertices v → k + n ≤ 4 → ((j : ℕ) → k ≤ j → j < k + n → IsEmpty g v j) → SameFace g (corner g v k) (corner g v (k + n))
 walk g v k zero plane in' l none = subst (λ j. SameFace g (corner g v k) (corner g v j)) (omega arith) (here _)
 walk g v k (suc n) plane in' l none =
     let a = walk g v k n plane in' (omega arith) (λ j x y. none j x (omega arith)) in
@@ -119,7 +119,7 @@ whole_upright g e plane E h =
 abbrev IsLast : Skeleton → Point → Edge → Bool → Type 0
 IsLast g v e f = (c : Edge) (r : Bool) → IsOut g v c r → class c r ≡ class e f → Earlier e c f r → ⊥
 
-abbrev IsFirst : Skeleton → Point → Edge → Bool → Type 0
+abbrev pub IsFirst : Skeleton → Point → Edge → Bool → Type 0
 IsFirst g v e f = (c : Edge) (r : Bool) → IsOut g v c r → class c r ≡ class e f → Earlier c e r f → ⊥
 
 last_left : (g : Skeleton) (e : Edge) → IsPlaneSkeleton g → Contains g.edges e → left_of e.low e.high ≡ true → IsLast g e.high e false → SameFace g (forward_cell g e) (left_top g e.high)
@@ -194,7 +194,7 @@ leaves g v e f plane o none =
     let a : P (start e f) = λ none. last_in g e f (left_of e.low e.high) plane o.in' refl none in
     subst P o.at a none
 
-enters : (g : Skeleton) (v : Point) (e : Edge) (f : Bool) → IsPlaneSkeleton g → IsOut g v e f → IsFirst g v e f → SameFace g (corner g v (class e f)) (cell_of g e f)
+pub enters : (g : Skeleton) (v : Point) (e : Edge) (f : Bool) → IsPlaneSkeleton g → IsOut g v e f → IsFirst g v e f → SameFace g (corner g v (class e f)) (cell_of g e f)
 enters g v e f plane o none =
     let P : Point → Type 0 = λ u. IsFirst g u e f → SameFace g (corner g u (class e f)) (cell_of g e f) in
     let a : P (start e f) = λ none. first_in g e f (left_of e.low e.high) plane o.in' refl none in
