@@ -10,3 +10,7 @@ pub mod CurvedView
 pub mod ViewRows
 pub mod Notes
 pub mod ViewLaws
+pub mod CycleNames
+pub mod FaceWriters
+pub mod FaceSteps
+pub mod NotedFaces
