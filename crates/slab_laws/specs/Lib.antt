@@ -24,3 +24,4 @@ pub mod OverlayText
 pub mod Triangle
 pub mod TriangleRows
 pub mod TriangleLayers
+pub mod FaceLists
