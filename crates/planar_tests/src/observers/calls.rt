@@ -39,6 +39,8 @@ pub enum Turn {
     Hears(u32, &'static [u8]),
     /// No observer of the name is seated.
     IsGone(u32),
+    /// Whether a snapshot was made since this was last asked: nothing else looks at the records.
+    Looks(bool),
 }
 
 // A round that is given; 0 stands for none.
@@ -124,6 +126,7 @@ fn is_right(bus: &mut Bus, alloc: Global, plane: &EmptyPlane, turn: &Turn) -> bo
         Turn::Went(joined, left, lost) => has_gone(bus, joined, left, lost),
         Turn::Hears(name, wanted) => hears(bus, *name, wanted),
         Turn::IsGone(name) => is_gone(bus, *name),
+        Turn::Looks(wanted) => plane.was_looked_at() == *wanted,
     }
 }
 

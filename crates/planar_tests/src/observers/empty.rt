@@ -2,18 +2,29 @@ use exact_plane::{Line, Point};
 use no_memory::NoMemory;
 use slab_laws::{CurveId, Curved, DartId, Darts, VertexId};
 use std::alloc::Global;
+use std::cell::Cell;
 
-/// Records of the empty plane. A call that takes a name is never made: no name has a record.
-#[derive(Clone, Copy)]
+/// Records of the empty plane, which know whether somebody looked at them. A call that takes a name is never made: no name has a record.
+#[derive(Drop)]
 pub struct EmptyPlane {
     point: Point,
     line: Line,
+    looked: Cell<bool>,
 }
 
 impl EmptyPlane {
     /// No records; the point and the line are never seen.
     pub fn new(point: Point, line: Line) -> EmptyPlane {
-        EmptyPlane { point, line }
+        EmptyPlane {
+            point,
+            line,
+            looked: Cell::new(false),
+        }
+    }
+
+    /// Whether somebody asked for the vertices since this was last asked; a snapshot does.
+    pub fn was_looked_at(&self) -> bool {
+        self.looked.replace(false)
     }
 }
 
@@ -56,6 +67,7 @@ impl Darts for EmptyPlane {
     }
 
     fn vertex_after(&self, _v: Option<VertexId>) -> Option<VertexId> {
+        self.looked.set(true);
         None
     }
 

@@ -96,6 +96,31 @@ const WITHOUT_MEMORY: [Call; 3] = [
     ]),
 ];
 
+// A round at which no join comes makes no snapshot, whatever becomes of its seats: told last (1), stays (2), left untold (3), waits (4),
+// lost (5). One at which one comes does.
+const SNAPSHOTS: [Call; 7] = [
+    Call::Comes(1, 0, 1, 9),
+    Call::Comes(2, 0, 0, 9),
+    Call::Comes(3, 0, 0, 9),
+    Call::Comes(4, 2, 0, 9),
+    Call::Comes(5, 0, 0, 1),
+    Call::Leaves(3, 1, true),
+    Call::Edit(&[
+        Turn::Looks(true),
+        Turn::Before,
+        Turn::Went(&[], &[1, 3], &[5]),
+        Turn::Looks(false),
+        Turn::After,
+        Turn::Went(&[4], &[1, 3], &[5]),
+        Turn::Looks(true),
+        Turn::Before,
+        Turn::After,
+        Turn::Hears(2, b"sbaba"),
+        Turn::Hears(4, b"sba"),
+        Turn::Looks(false),
+    ]),
+];
+
 // A second plan to leave takes the place of the first.
 const SECOND_PLAN: [Call; 4] = [
     Call::Comes(1, 0, 0, 9),
@@ -151,11 +176,12 @@ const EIGHT: [Call; 13] = [
     Call::Hears(9, b"s"),
 ];
 
-const TABLES: [(&str, &[Call]); 7] = [
+const TABLES: [(&str, &[Call]); 8] = [
     ("each fate before a change", &BEFORE),
     ("each fate after a change", &AFTER),
     ("two that leave side by side", &SIDE_BY_SIDE),
     ("no memory", &WITHOUT_MEMORY),
+    ("no snapshot", &SNAPSHOTS),
     ("a second plan", &SECOND_PLAN),
     ("joins and leaves", &JOINS_AND_LEAVES),
     ("eight seats", &EIGHT),
