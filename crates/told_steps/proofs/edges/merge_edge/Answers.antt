@@ -6,6 +6,7 @@ use Rattle.curve_history.specs.Past.{curves_on}
 use Rattle.told_steps.proofs.Parts.{merge_vertex}
 use Rattle.told_steps.proofs.ToldOnce.{HasMade, changed_by, told_by}
 use Rattle.told_steps.proofs.edges.merge_edge.Given as given
+use Rattle.told_steps.proofs.edges.merge_edge.Goals.{After-join}
 use Rattle.told_steps.proofs.edges.merge_edge.Goals as goal
 
 pub point-p-requires : goal.point-p-requires
@@ -14,19 +15,19 @@ point-p-requires g c = let f = c.requires.fits in merge_vertex c.args.records.no
 pub join-requires : goal.join-requires
 join-requires g c = c.requires.alike c.merge_at-met.result.d c.merge_at-met.result.n c.merge_at-met.ensures.met
 
-change : (g : given.Over) (c : goal.After-join g) → Change
+abbrev change : (g : given.Over) (c : After-join g) → Change
 change g c = MergeEdge c.args.v c.merge_at-met.result.d c.merge_at-met.result.n
 
-made : (g : given.Over) (c : goal.After-join g) → HasMade c.args.records.now.graph (curves_on c.args.history.now) (change g c) c.merge_at-met.new.records.graph (curves_on c.join.new.self)
+made : (g : given.Over) (c : After-join g) → HasMade c.args.records.now.graph (curves_on c.args.history.now) (change g c) c.merge_at-met.new.records.graph (curves_on c.join.new.self)
 made g c =
     let e = c.merge_at-met.ensures in
     record { view = e.graph; curves = c.join.ensures.curves; fits = (e.met, c.requires.unpinned, c.requires.alike c.merge_at-met.result.d c.merge_at-met.result.n e.met); sound = e.sound }
 
 pub tell_after-requires : goal.tell_after-requires
-tell_after-requires g c = record { changed = changed_by (made g c) c.tell_before.ensures.in_step }
+tell_after-requires g c = record { changed = changed_by (made g (goal.at.tell_after-requires g c).After-join) c.tell_before.ensures.in_step }
 
 pub returns-clause-graph : goal.returns-clause-graph
 returns-clause-graph g c = (c.merge_at-met.result.d, c.merge_at-met.result.n, c.merge_at-met.ensures.met, c.merge_at-met.ensures.graph, c.join.ensures.curves)
 
 pub returns-clause-told : goal.returns-clause-told
-returns-clause-told g c = told_by (made g c) _ refl _ (ap WillMergeEdge c.point-p.ensures) c.tell_before.ensures.round c.tell_after.ensures.round
+returns-clause-told g c = told_by (made g (goal.at.returns-clause-told g c).After-join) _ refl _ (ap WillMergeEdge c.point-p.ensures) c.tell_before.ensures.round c.tell_after.ensures.round

@@ -1,4 +1,4 @@
-use Rattle.std.proofs.Common.{◌≤◌, refl, subst}
+use Rattle.std.proofs.Common.{◌≤◌, arith, refl, subst}
 use Rattle.curve_history.specs.Past.{curves_on}
 use Rattle.dcel_records.specs.Spots.{IsSpotOf}
 use Rattle.told_steps.specs.VertexMade.{IsPlaneWith, darts_at, pairs_at, vertices_at}
@@ -14,8 +14,8 @@ returns-in-Vertex g c =
       vertex = record { has = o.0; at = o.1 };
       made = (refl, refl, λ d. refl);
       layer = record { names = refl; pieces = refl; next = refl };
-      spare = auto;
-      spare_history = auto;
+      spare = record { of_vertices = omega arith; of_darts = omega arith; capacity_of_vertices = refl; capacity_of_darts = refl };
+      spare_history = record { of_names = omega arith; of_pieces = omega arith; of_pairs = omega arith };
     })
 
 pub split_edge-requires : goal.split_edge-requires
@@ -48,5 +48,5 @@ returns-in-Face g c =
       made = (e.fresh, e.graph, λ d. refl);
       layer = record { names = refl; pieces = refl; next = refl };
       spare = e.spare;
-      spare_history = auto;
+      spare_history = record { of_names = omega arith; of_pieces = omega arith; of_pairs = omega arith };
     })
