@@ -34,16 +34,16 @@ fn part_at(records: &Records, dart: DartId, point: Point) -> DartId
     part
 }
 
-// Where the meeting's point lies now: in a part of its edge, where that went in several since the spot was told.
-fn spot_now(records: &Records, meeting: Meeting) -> Spot
-    requires proper { IsProper meeting.point }
+// Where a point lies now: in a part of its edge, where that went in several since the spot was told.
+fn spot_now(records: &Records, point: Point, told: Spot) -> Spot
+    requires proper { IsProper point }
     requires sound { IsGraphSound records.now.graph }
-    requires spot { (h : _) × IsSpotStill records.now.graph h meeting.point meeting.spot }
-    ensures { IsSpotNow records.now.graph meeting.point meeting.spot result }
+    requires spot { (h : _) × IsSpotStill records.now.graph h point told }
+    ensures { IsSpotNow records.now.graph point told result }
 {
-    match meeting.spot {
+    match told {
         Spot::Vertex(v) => Spot::Vertex(v),
-        Spot::Edge(dart) => Spot::Edge(part_at(records, dart, meeting.point)),
+        Spot::Edge(dart) => Spot::Edge(part_at(records, dart, point)),
         Spot::Face => Spot::Face,
     }
 }
@@ -72,7 +72,7 @@ fn vertex_of(
     ensures darts { records.old.spare_darts ≤ records.new.spare_darts + 2 * splits_needed (meeting ∷ []) }
     ensures pairs { history.old.spare_pairs ≤ history.new.spare_pairs + pairs_at (curves_on history.old) meeting.spot }
 {
-    let at = spot_now(&*records, meeting);
+    let at = spot_now(&*records, meeting.point, meeting.spot);
     make_vertex(alloc, records, history, bus, at, meeting.point)
 }
 
