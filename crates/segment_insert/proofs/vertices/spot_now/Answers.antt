@@ -1,5 +1,5 @@
-use Rattle.std.proofs.Common.{subst, sym, refl}
-use Rattle.segment_insert.specs.Coming.{IsSpotNow, IsSpotStill}
+use Rattle.std.proofs.Common.{subst, refl}
+use Rattle.segment_insert.specs.Coming.{IsSpotStill}
 use Rattle.segment_insert.proofs.vertices.spot_now.Goals as goal
 
 pub part_at-requires-clause-part : goal.part_at-requires-clause-part

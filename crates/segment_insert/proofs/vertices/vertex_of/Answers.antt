@@ -1,7 +1,6 @@
 use Rattle.std.proofs.Common.{[], ◌∷◌, arith, refl, inl}
 use Rattle.plane_graphs.specs.Line.{IsProper}
 use Rattle.curve_history.specs.Past.{curves_on}
-use Rattle.dcel_records.specs.Spots.{IsSpotOf}
 use Rattle.segment_insert.proofs.VerticesLoop.{proper_by_spot}
 use Rattle.segment_insert.proofs.VerticesMade.{darts_there, lies_now, made_there, pairs_now, plane_there, vertices_there}
 use Rattle.segment_insert.proofs.vertices.vertex_of.Given as given

@@ -1,4 +1,4 @@
-use Rattle.std.proofs.Common.{◌≡◌, refl, ap, subst}
+use Rattle.std.proofs.Common.{◌≡◌, refl, subst}
 use Rattle.arr_notes.specs.declared.change.Change.{Change}
 use Rattle.arr_notes.specs.declared.change.Change.TheVariants.{RemoveEdge}
 use Rattle.arr_notes.specs.declared.intent.Intent.TheVariants.{RemoveEdge as WillRemoveEdge}
