@@ -21,7 +21,7 @@ use Rattle.sound_views.proofs.NamesOrdered.{vertices_in_order}
 use Rattle.record_orders.specs.declared.vertices.VertexKey.{VertexKey}
 use Rattle.record_orders.specs.Keys.{vertex_key, vertex_keys}
 use Rattle.record_orders.specs.declared.cycles.CycleKey.{CycleKey}
-use Rattle.record_orders.specs.CycleKeys.{same_face, ranked_faces}
+use Rattle.record_orders.specs.CycleKeys.{is_outer, same_face, ranked_faces}
 use Rattle.slab_faces.proofs.FacesLemmas.{cells_exact}
 use Rattle.sound_views.proofs.ListedPlaces.{place_at}
 use Rattle.sound_views.proofs.RankedFaces.{faces_apart}
@@ -65,13 +65,13 @@ module _ (v : View) (f : Faces) (s : IsSound v f) where
 
   -- ---- cycles
   abbrev cycle_gain : Bool → List ℕ → List FaceId → ℕ → List CycleKey → List ℕ
-  cycle_gain outer letter ranks k cs = gain (λ (c : CycleKey). cond outer c.outer (not c.outer)) (λ (c : CycleKey). rank_in ranks c.face) (λ (c : CycleKey). cycle_line (skeleton_of v) letter (model v f s c)) k cs
+  cycle_gain outer letter ranks k cs = gain (λ (c : CycleKey). cond outer (is_outer c.kind) (not (is_outer c.kind))) (λ (c : CycleKey). rank_in ranks c.face) (λ (c : CycleKey). cycle_line (skeleton_of v) letter (model v f s c)) k cs
 
   cycles_gain : (outer : Bool) (letter : List ℕ) (cs : List CycleKey) (ranks : List FaceId) (k : ℕ) → cs ≡ keys v f s → ranks ≡ ranked_faces f cs → k < length sub.faces → cycle_gain outer letter ranks k cs ≡ some_cycles sub outer letter (face_at k)
   unfolding subdivision
   cycles_gain outer letter cs ranks k e r l =
       ap₂ (λ (xs : List CycleKey) (fs : List FaceId). cycle_gain outer letter fs k xs) e (r ∙ ap (ranked_faces f) e)
-      ∙ sym (filtered_twice (model v f s) (cycle_line (skeleton_of v) letter) (λ x. cond outer x.outer (not x.outer)) (λ x. same_cell x.face (face_at k)) (λ (c : CycleKey). cond outer c.outer (not c.outer)) (λ (c : CycleKey). rank_in (ranked_faces f (keys v f s)) c.face == k) (keys v f s)
+      ∙ sym (filtered_twice (model v f s) (cycle_line (skeleton_of v) letter) (λ x. cond outer x.outer (not x.outer)) (λ x. same_cell x.face (face_at k)) (λ (c : CycleKey). cond outer (is_outer c.kind) (not (is_outer c.kind))) (λ (c : CycleKey). rank_in (ranked_faces f (keys v f s)) c.face == k) (keys v f s)
       (λ c m. ap (λ (b : Bool). cond outer b (not b)) (outer_same v f s c m))
       (λ c m. cycle_rank v f s s.faced.0 s.faced.1 c m k first_cell l))
       ∙ ap (λ (xs : List Cycle). flat_map (cycle_line (skeleton_of v) letter) (filter (λ x. cond outer x.outer (not x.outer)) (filter (λ x. same_cell x.face (face_at k)) xs))) (cycles_named v f s)

@@ -163,8 +163,8 @@ module _ (v : View) (f : Faces) (s : IsSound v f) where
   outer_kind Outer = (λ e. refl, λ e. refl)
   outer_kind Inner = (λ e. absurd (false≢true e), λ e. ap is_outer e)
 
-  pub outer_same : (c : CycleKey) → Member c keys → (model c).outer ≡ c.outer
-  outer_same c m = let k = key_of c m in subst (λ (x : CycleKey). (model x).outer ≡ x.outer) (sym k.3) (at k.0 k.1 k.2)
+  pub outer_same : (c : CycleKey) → Member c keys → (model c).outer ≡ is_outer c.kind
+  outer_same c m = let k = key_of c m in subst (λ (x : CycleKey). (model x).outer ≡ is_outer x.kind) (sym k.3) (at k.0 k.1 k.2)
     where
       at : (d : DartId) → HasDart v d → lead_in v d ≡ dart_in v d → (cycle_of (skeleton_of v) (dart_in v d)).outer ≡ is_outer (kind_in f (cycle_in f d))
       at d has own =
@@ -187,7 +187,7 @@ module _ (v : View) (f : Faces) (s : IsSound v f) where
 
     -- the faces before repeats go
     abbrev met : List FaceId
-    met = first_faces (face_after_in f None) ++ map (λ c. c.face) (filter (λ c. c.outer) keys)
+    met = first_faces (face_after_in f None) ++ map (λ c. c.face) (filter (λ c. is_outer c.kind) keys)
 
     pub first_face : (a : FaceId) × (face_after_in f None ≡ Some a) × HasFace f a × (cell a ≡ face_of (face_labels (skeleton_of v)) first_cell)
     first_face =
@@ -199,13 +199,13 @@ module _ (v : View) (f : Faces) (s : IsSound v f) where
     firsts = ap first_faces first_face.1
 
     met_has : (a : FaceId) → Member a met → HasFace f a
-    met_has a m = at (subst (λ fs. Member a (fs ++ map (λ c. c.face) (filter (λ c. c.outer) keys))) firsts m)
+    met_has a m = at (subst (λ fs. Member a (fs ++ map (λ c. c.face) (filter (λ c. is_outer c.kind) keys))) firsts m)
       where
-        at : Member a (first_face.0 ∷ map (λ c. c.face) (filter (λ c. c.outer) keys)) → HasFace f a
+        at : Member a (first_face.0 ∷ map (λ c. c.face) (filter (λ c. is_outer c.kind) keys)) → HasFace f a
         at (inl e) = subst (HasFace f) (sym e) first_face.2
         at (inr n) =
-            let r = of_map (λ (c : CycleKey). c.face) a (filter (λ c. c.outer) keys) n in
-            subst (HasFace f) (sym r.2) (key_face r.0 (of_filter (λ (c : CycleKey). c.outer) r.0 keys r.1).0)
+            let r = of_map (λ (c : CycleKey). c.face) a (filter (λ c. is_outer c.kind) keys) n in
+            subst (HasFace f) (sym r.2) (key_face r.0 (of_filter (λ (c : CycleKey). is_outer c.kind) r.0 keys r.1).0)
 
     pub ranked_has : (ranks : List FaceId) → ranks ≡ ranked_faces f keys → (k : ℕ) (d : FaceId) → k < length ranks → HasFace f (get_or ranks k d)
     ranked_has ranks r k d l =
@@ -213,9 +213,9 @@ module _ (v : View) (f : Faces) (s : IsSound v f) where
 
     cells_met : map cell met ≡ face_of (face_labels (skeleton_of v)) first_cell ∷ map (λ c. c.face) (filter (λ c. c.outer) (subdivision (skeleton_of v)).cycles)
     cells_met =
-        ap (λ fs. map cell (fs ++ map (λ c. c.face) (filter (λ c. c.outer) keys))) firsts
+        ap (λ fs. map cell (fs ++ map (λ c. c.face) (filter (λ c. is_outer c.kind) keys))) firsts
         ∙ ap₂ (λ (x : SlabCell) (xs : List SlabCell). x ∷ xs) first_face.3
-        (kept_values model (λ (c : CycleKey). c.outer) (λ (c : Cycle). c.outer) (λ (c : CycleKey). c.face) (λ (c : Cycle). c.face) cell keys (λ c m. sym (outer_same c m)) face_same
+        (kept_values model (λ (c : CycleKey). is_outer c.kind) (λ (c : Cycle). c.outer) (λ (c : CycleKey). c.face) (λ (c : Cycle). c.face) cell keys (λ c m. sym (outer_same c m)) face_same
         ∙ ap (λ cs. map (λ (c : Cycle). c.face) (filter (λ c. c.outer) cs)) cycles_named)
 
     face_by_number : (a b : FaceId) → a.0 ≡ b.0 → a ≡ b

@@ -2,6 +2,7 @@
 use Rattle.std.specs.Prelude.{◌≡◌, ◌<◌, ℕ, List, [], ◌++◌, Bool, cond, not, ◌&&◌, ◌==◌, filter, flat_map, length, map, codes, zip}
 use Rattle.std.specs.List.{position_or_len, slice_index_or}
 use Rattle.exact_plane.specs.Point.{Point}
+use Rattle.slab_laws.specs.declared.names.CycleKind.{CycleKind}
 use Rattle.slab_laws.specs.declared.names.DartId.{DartId}
 use Rattle.slab_laws.specs.declared.names.FaceId.{FaceId}
 use Rattle.slab_laws.specs.Cycles.{dart_labels, trail}
@@ -16,7 +17,7 @@ use Rattle.slab_laws.specs.View.{View, Faces, face_id, bare_face_in}
 use Rattle.sound_views.specs.VertexRounds.{round}
 use Rattle.record_orders.specs.declared.cycles.CycleKey.{CycleKey}
 use Rattle.record_orders.specs.declared.vertices.VertexKey.{VertexKey}
-use Rattle.record_orders.specs.CycleKeys.{same_face}
+use Rattle.record_orders.specs.CycleKeys.{is_outer, is_of_kind, same_face}
 use Rattle.arr_text.specs.Reading.{forward_darts, labels_by, pins_in}
 
 -- ---- vertices
@@ -61,8 +62,8 @@ trail_numbers v count first =
     flat_map (λ h. number (index g (source h))) (trail (darts g) count (dart_in v first) (dart_in v first))
 
 -- o for an outer cycle, h for the boundary of a hole (this project)
-abbrev pub letter_of : Bool → List ℕ
-letter_of outer = cond outer (codes "o") (codes "h")
+abbrev pub letter_of : CycleKind → List ℕ
+letter_of kind = cond (is_outer kind) (codes "o") (codes "h")
 
 -- the line of a boundary cycle from one of its darts on, after its letter (this project)
 abbrev pub cycle_text : View → List ℕ → DartId → List ℕ
@@ -70,11 +71,11 @@ cycle_text v letter lead =
     let g : Skeleton = skeleton_of v in
     cycle_line g letter (cycle g (face_labels g) (darts g) (dart_labels (darts g)) (dart_in v lead))
 
--- the lines of the outer cycles, or of the inner ones, that bound the face of a rank
-abbrev pub cycles_text : View → Bool → List FaceId → List CycleKey → ℕ → List ℕ
-cycles_text v outer ranks cycles k =
-    flat_map (λ (c : CycleKey). cycle_text v (letter_of outer) c.lead)
-    (filter (λ (c : CycleKey). cond outer c.outer (not c.outer) && has_rank ranks k c.face) cycles)
+-- the lines of the cycles of a kind that bound the face of a rank
+abbrev pub cycles_text : View → CycleKind → List FaceId → List CycleKey → ℕ → List ℕ
+cycles_text v kind ranks cycles k =
+    flat_map (λ (c : CycleKey). cycle_text v (letter_of kind) c.lead)
+    (filter (λ (c : CycleKey). is_of_kind kind c && has_rank ranks k c.face) cycles)
 
 -- the line of an isolated vertex, by its number (this project)
 abbrev pub isolated_line : ℕ → List ℕ

@@ -12,7 +12,7 @@ use crate::put::{put_index, put_text};
 use crate::words::Words;
 use exact_plane::Point;
 use no_memory::NoMemory;
-use record_orders::DartKey;
+use record_orders::{DartKey, is_forward};
 use slab_laws::Faced;
 use std::alloc::Global;
 
@@ -45,13 +45,6 @@ fn put_edge<R: Faced, W: Words<R>>(
     put_ends(out, points, dart)?;
     W::put_curves(alloc, out, records, dart.name)?;
     put_text(out, "\n")
-}
-
-// Whether a dart goes from the lesser end of its edge.
-fn is_forward(dart: &DartKey) -> bool
-    ensures { result ≡ is_lt (point_cmp dart.now.source dart.now.target) }
-{
-    dart.source < dart.target
 }
 
 // Puts the lines of all edges, in their order.

@@ -17,7 +17,7 @@ use crate::words::Words;
 use exact_plane::Point;
 use no_memory::NoMemory;
 use record_orders::{Bodies, CycleKey, Ranks, VertexKey};
-use slab_laws::{DartId, Darts, FaceId, Faced};
+use slab_laws::{CycleKind, DartId, Darts, FaceId, Faced};
 use std::alloc::Global;
 
 // Makes the line of a cycle, in place of what was there. There are so many darts in all.
@@ -41,14 +41,17 @@ fn make_cycle_line<R: Darts>(
     put_text(line, "\n")
 }
 
-// What the line of an outer cycle begins with, or that of an inner one.
-fn letter_of(outer: bool) -> &'static str
-    ensures { result.now ≡ letter_of outer }
+// What the line of a cycle begins with.
+fn letter_of(kind: CycleKind) -> &'static str
+    ensures { result.now ≡ letter_of kind }
 {
-    if outer { "o" } else { "h" }
+    match kind {
+        CycleKind::Outer => "o",
+        CycleKind::Inner => "h",
+    }
 }
 
-// Appends the lines of outer cycles, or of inner ones, to the parts of their faces.
+// Appends the lines of the cycles of one kind to the parts of their faces.
 fn put_cycles<R: Faced>(
     bodies: &mut Bodies,
     line: &mut Vec<u8>,
@@ -56,7 +59,7 @@ fn put_cycles<R: Faced>(
     points: &[Point],
     cycles: &[CycleKey],
     ranks: &Ranks,
-    outer: bool,
+    kind: CycleKind,
     darts: usize,
 ) -> Result<(), NoMemory>
     requires stands { IsSound (R.graph records.now) (R.faces records.now) }
@@ -67,11 +70,11 @@ fn put_cycles<R: Faced>(
     requires bodies { length bodies.old ≡ length ranks.now }
     ensures as_many { OnOk result (length bodies.new ≡ length bodies.old) }
     ensures gain { OnOk result (HaveGained
-        (cycles_text (R.graph records.now) outer ranks.now cycles.now) bodies.old bodies.new) }
+        (cycles_text (R.graph records.now) kind ranks.now cycles.now) bodies.old bodies.new) }
 {
     for cycle in cycles {
-        if cycle.outer == outer {
-            make_cycle_line(line, records, points, letter_of(outer), cycle.lead, darts)?;
+        if cycle.is_of(kind) {
+            make_cycle_line(line, records, points, letter_of(kind), cycle.lead, darts)?;
             bodies.append(ranks.rank_of(cycle.face), line)?;
         }
     }
@@ -181,7 +184,7 @@ pub(crate) fn put_faces<R: Faced, W: Words<R>>(
         points,
         cycles,
         ranks,
-        true,
+        CycleKind::Outer,
         darts,
     )?;
     put_cycles(
@@ -191,7 +194,7 @@ pub(crate) fn put_faces<R: Faced, W: Words<R>>(
         points,
         cycles,
         ranks,
-        false,
+        CycleKind::Inner,
         darts,
     )?;
     put_isolated(&mut bodies, &mut line, records, points, vertices, ranks)?;

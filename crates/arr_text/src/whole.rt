@@ -14,16 +14,11 @@ use crate::words::{Coloured, Plain, Words};
 use exact_plane::Point;
 use no_memory::NoMemory;
 use record_orders::{
-    CycleKey, DartKey, Ranks, VertexKey, cycles_of, darts_in_order, ranks_of, vertices_in_order,
+    CycleKey, DartKey, Ranks, VertexKey, cycles_of, darts_in_order, points_of, ranks_of,
+    vertices_in_order,
 };
 use slab_laws::{Curved, DartId, Faced, Layered};
 use std::alloc::{AllocError, Global};
-
-fn points_of(alloc: Global, vertices: &[VertexKey]) -> Result<Vec<Point>, AllocError>
-    ensures { IfOk result (λ v. v.items ≡ map (λ k. k.point) vertices.now) }
-{
-    vertices.iter().map(|vertex| vertex.point).collect(alloc)
-}
 
 fn names_of(alloc: Global, darts: &[DartKey]) -> Result<Vec<DartId>, AllocError>
     ensures { IfOk result (λ v. v.items ≡ map (λ k. k.name) darts.now) }

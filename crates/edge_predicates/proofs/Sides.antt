@@ -1,7 +1,7 @@
 -- The side of a point by an edge's ends and by the edge's line.
 use Rattle.std.proofs.Common.{◌≡◌, Bool, true, false, arith, refl, sym, ap, ◌∙◌, inl, inr, [], ◌∷◌, Ordering, Less, Equal, Greater}
 use Rattle.std.specs.Prelude.{ℤ, pos, ◌+ℤ◌, ◌-ℤ◌, ◌*ℤ◌, ◌<ℤ◌, neg_ℤ, not, ◌&&◌}
-use Rattle.std.specs.Ordering.{int_cmp, is_lt, is_eq, is_gt}
+use Rattle.std.specs.Ordering.{int_cmp, int_eq, is_lt, is_eq, is_gt}
 use Rattle.std.proofs.lemmas.Int.{ints}
 use lib.Signed.{lt_z}
 use Rattle.integers.proofs.Compare.{less_out, less_in, equal_out, equal_in, greater_out, same_cmp}
@@ -225,6 +225,15 @@ under_by s t r e = plus_is (side (edge_of s) t) r e
 
 pub on_line_by : (s : Span) (t : Point) (r : Sign) → r ≡ sign_of (side (edge_of s) t) → is_zero r ≡ (not (over (edge_of s) t) && not (under (edge_of s) t))
 on_line_by s t r e = zero_is r ∙ (λ i. not (over_by s t r e i) && not (under_by s t r e i))
+
+-- the same, told by the edge's line
+zero_by : (o : Ordering) → is_eq o ≡ is_zero (sign_by o)
+zero_by Less = refl
+zero_by Equal = refl
+zero_by Greater = refl
+
+pub on_line_is : (s : Span) (t : Point) → IsSpan s → int_eq (side_of s.line t) (pos 0) ≡ (not (over (edge_of s) t) && not (under (edge_of s) t))
+on_line_is s t is = zero_by (int_cmp (side_of s.line t) (pos 0)) ∙ on_line_by s t _ (sign_same s t _ is refl)
 
 -- a point inside an edge is between its ends, and the edge passes neither over nor under it
 pub inside_by : (s : Span) (t : Point) (a b : Bool) → a ≡ (precedes s.lower t && precedes t s.upper) → b ≡ (not (over (edge_of s) t) && not (under (edge_of s) t)) → (a && b) ≡ inside (edge_of s) t

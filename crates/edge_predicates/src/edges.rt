@@ -1,4 +1,4 @@
-ghost use Rattle.std.specs.Prelude.{◌≡◌, not, ◌&&◌};
+ghost use Rattle.std.specs.Prelude.{◌≡◌, ◌&&◌};
 ghost use Rattle.exact_plane.specs.Sign.{sign_of};
 ghost use Rattle.slab_laws.specs.SpansDrawn.{edge_of};
 ghost use Rattle.slab_laws.specs.Skeleton.{left_of, over, under, inside, precedes as comes_before, side as side_number};
@@ -20,7 +20,7 @@ pub fn is_slanted(edge: &Span) -> bool
 fn side_of(edge: &Span, point: &Point) -> Sign
     ensures { result ≡ sign_of (side_number (edge_of edge.now) point.now) }
 {
-    let _ = edge.lower();
+    edge.laws();
     side(&edge.line(), point)
 }
 
@@ -51,21 +51,12 @@ fn is_between_ends(edge: &Span, point: &Point) -> bool
     precedes(&edge.lower(), point) && precedes(point, &edge.upper())
 }
 
-// Whether the point is on the edge's line.
-fn is_on_line(edge: &Span, point: &Point) -> bool
-    ensures { result ≡ (not (over (edge_of edge.now) point.now) && not (under (edge_of edge.now) point.now)) }
-{
-    match side_of(edge, point) {
-        Sign::Zero => true,
-        Sign::Minus | Sign::Plus => false,
-    }
-}
-
 /// Whether the point lies on the edge and is none of its ends.
 pub fn has_inside(edge: &Span, point: &Point) -> bool
     ensures { result ≡ inside (edge_of edge.now) point.now }
 {
-    is_between_ends(edge, point) && is_on_line(edge, point)
+    edge.laws();
+    is_between_ends(edge, point) && edge.line().holds(point)
 }
 
 /// Whether the edge is in the slab directly to the left of the point's wall.

@@ -19,8 +19,9 @@ fn is_line_below(edge: &Span, other: &Span, point: &Point) -> bool
     requires others { left_of other.now.lower other.now.upper ≡ true }
     ensures { result ≡ lt_z (pos 0) (gap (edge_of edge.now) (edge_of other.now) point.now) }
 {
-    // Looks into all three, so that what is known of them is at hand.
-    let _ = (edge.lower(), other.lower(), point.w());
+    edge.laws();
+    other.laws();
+    point.laws();
     above_at(&other.line(), &edge.line(), point).is_gt()
 }
 

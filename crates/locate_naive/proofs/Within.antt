@@ -16,9 +16,10 @@ use Rattle.slab_laws.specs.declared.names.DartId.{DartId}
 use Rattle.slab_laws.specs.Skeleton as counted
 use Rattle.slab_laws.specs.Skeleton.{inside}
 use Rattle.slab_laws.specs.Sound.{edge_in, dart_in, IsGraphSound}
-use Rattle.slab_laws.specs.View.{View, HasVertex, HasDart, point_in, source_in, twin_in, target_in, line_in}
+use Rattle.slab_laws.specs.View.{View, HasDart, point_in, source_in, target_in, line_in}
 use Rattle.slab_faces.proofs.InnerPoints.{inside_by, before_out}
 use Rattle.arr_notes.specs.Curves.{IsForward}
+use Rattle.sound_views.proofs.ForwardDarts.{target_has}
 use Rattle.rotation_order.proofs.Factors.{zero_between}
 
 -- ---- inside an edge that lies on a line
@@ -72,14 +73,11 @@ module _ (v : View) (s : IsGraphSound v) where
   abbrev high_end : DartId → Point
   high_end d = point_in v (target_in v d)
 
-  pub target_has : (d : DartId) → HasDart v d → HasVertex v (target_in v d)
-  target_has d has = s.linked.source (twin_in v d) (s.twinned.has d has)
-
   pub low_proper : (d : DartId) → HasDart v d → IsProper (low_end d)
   low_proper d has = s.drawn.proper (source_in v d) (s.linked.source d has)
 
   pub high_proper : (d : DartId) → HasDart v d → IsProper (high_end d)
-  high_proper d has = s.drawn.proper (target_in v d) (target_has d has)
+  high_proper d has = s.drawn.proper (target_in v d) (target_has v s d has)
 
   edge_is : (d : DartId) → IsForward v d → edge_in v d ≡ record { low = low_end d; high = high_end d }
   edge_is d f = ap (λ (b : Bool). if b then record { low = low_end d; high = high_end d } else record { low = high_end d; high = low_end d }) f.1

@@ -2,10 +2,8 @@
 //! and the edge between two points.
 #![tactic(auto)]
 
-mod darts;
 mod edges;
 mod naive;
 
-pub use darts::{forward_dart, is_first};
 pub use edges::edge_dart;
-pub use naive::{locate, span_of, vertex_at};
+pub use naive::{locate, vertex_at};

@@ -4,12 +4,12 @@ ghost use Rattle.slab_laws.specs.Skeleton.{inside};
 ghost use Rattle.slab_laws.specs.Sound.{IsGraphSound, edge_in};
 ghost use Rattle.slab_laws.specs.View.{HasDart, twin_in};
 ghost use Rattle.dcel_records.specs.Spots.{IsSpotOf};
-ghost use Rattle.locate_naive.specs.Found.{IsVertexAt, IsSpanAlong, IsEdgeThrough};
+ghost use Rattle.locate_naive.specs.Found.{IsVertexAt, IsEdgeThrough};
 
-use crate::darts::{forward_dart, is_first};
 use dcel_records::{Records, Spot};
-use exact_plane::{Point, Sign, Span, side};
+use exact_plane::Point;
 use slab_laws::{DartId, Darts, VertexId};
+use sound_views::{forward_dart, is_first};
 
 /// The vertex at a point, by a look at all vertices. It takes no memory.
 pub fn vertex_at(records: &Records, point: &Point) -> Option<VertexId>
@@ -23,17 +23,6 @@ pub fn vertex_at(records: &Records, point: &Point) -> Option<VertexId>
         last = Some(vertex);
     }
     None
-}
-
-/// The part of its line that a forward dart goes along; `None` for a dart that goes backward.
-pub fn span_of(records: &Records, dart: DartId) -> Option<Span>
-    requires sound { IsGraphSound records.now.graph }
-    requires dart { HasDart records.now.graph dart }
-    ensures { IsSpanAlong records.now.graph dart result }
-{
-    let lower = records.point(records.source(dart));
-    let upper = records.point(records.target(dart));
-    Span::new(lower, upper, records.line(dart))
 }
 
 // Whether a point comes after one and before another.
@@ -57,14 +46,12 @@ fn is_inside(records: &Records, dart: DartId, point: &Point) -> bool
     requires point { IsProper point.now }
     ensures { result ≡ inside (edge_in records.now.graph dart) point.now }
 {
-    match side(&records.line(dart), point) {
-        Sign::Zero => {
-            let source = records.point(records.source(dart));
-            let target = records.point(records.target(dart));
-            is_between_ends(&source, point, &target)
-        }
-        Sign::Minus | Sign::Plus => false,
+    if !records.line(dart).holds(point) {
+        return false;
     }
+    let source = records.point(records.source(dart));
+    let target = records.point(records.target(dart));
+    is_between_ends(&source, point, &target)
 }
 
 // Whether the dart is the first of its edge, and this has the point inside.
@@ -82,8 +69,7 @@ fn edge_at(records: &Records, point: &Point) -> Option<DartId>
     requires { IsGraphSound records.now.graph }
     ensures { IsEdgeThrough records.now.graph point.now result }
 {
-    // A call on the point tells that its numbers are a point's.
-    let _weight = point.w();
+    point.laws();
     let mut last = None;
     while let Some(dart) = records.dart_after(last) {
         if is_first_inside(records, dart, point) {

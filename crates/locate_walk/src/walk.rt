@@ -1,5 +1,5 @@
 ghost use Rattle.std.specs.Prelude.{◌≡◌, ◌&&◌, nat_lt};
-ghost use Rattle.plane_graphs.specs.Line.{IsProper, is_on as is_point_on};
+ghost use Rattle.plane_graphs.specs.Line.{IsProper};
 ghost use Rattle.slab_laws.specs.Skeleton.{inside};
 ghost use Rattle.slab_laws.specs.Sound.{IsGraphSound, edge_in};
 ghost use Rattle.slab_laws.specs.View.{HasDart, twin_in};
@@ -8,19 +8,10 @@ ghost use Rattle.locate_naive.specs.Found.{IsEdgeThrough};
 
 use crate::course::{Course, course_of, is_between_ordinates};
 use dcel_records::{Records, Spot};
-use exact_plane::{Line, Point, Sign, side};
-use locate_naive::{forward_dart, is_first, vertex_at};
+use exact_plane::Point;
+use locate_naive::vertex_at;
 use slab_laws::{DartId, Darts};
-
-// Whether a point is on a line.
-fn is_on(line: &Line, point: &Point) -> bool
-    ensures { result ≡ is_point_on line.now point.now }
-{
-    match side(line, point) {
-        Sign::Zero => true,
-        Sign::Minus | Sign::Plus => false,
-    }
-}
+use sound_views::{forward_dart, is_first};
 
 // Whether the edge of a dart has the point inside. Its ends are looked at first; the side of its line is told only where the
 // vertical through the point meets the edge between them.
@@ -34,7 +25,7 @@ fn is_met_at(records: &Records, dart: DartId, point: &Point) -> bool
     let target = records.point(records.target(dart));
     match course_of(&source, point, &target) {
         Course::Along => is_between_ordinates(&source, point, &target),
-        Course::Across => is_on(&records.line(dart), point),
+        Course::Across => records.line(dart).holds(point),
         Course::Apart => false,
     }
 }
@@ -54,8 +45,7 @@ fn edge_met_at(records: &Records, point: &Point) -> Option<DartId>
     requires { IsGraphSound records.now.graph }
     ensures { IsEdgeThrough records.now.graph point.now result }
 {
-    // A call on the point tells that its numbers are a point's.
-    let _weight = point.w();
+    point.laws();
     let mut last = None;
     while let Some(dart) = records.dart_after(last) {
         if is_first_met_at(records, dart, point) {

@@ -4,7 +4,7 @@ ghost use Rattle.plane_graphs.specs.Fit.{IsFitPiece};
 ghost use Rattle.slab_laws.specs.Pieces.{piece_of};
 ghost use Rattle.present_graphs.specs.Spans.{span_of_piece, lies_on, AreFit, AreSpans};
 
-use exact_plane::{Point, Sign, Span, line_of, side};
+use exact_plane::{Point, Span, line_of};
 use no_memory::NoMemory;
 use slab_laws::Piece;
 use std::alloc::Global;
@@ -16,8 +16,7 @@ pub(crate) fn span_of(piece: &Piece) -> Span
     ensures span { IsSpan result }
 {
     let span = Span::new(piece.from, piece.to, line_of(&piece.segment)).unwrap();
-    // Looks at an end, so that what is known of a span is at hand.
-    let _ = span.lower();
+    span.laws();
     span
 }
 
@@ -38,5 +37,5 @@ pub(crate) fn spans_of(alloc: Global, pieces: &[Piece]) -> Result<Vec<Span>, NoM
 pub(crate) fn holds(span: &Span, point: &Point) -> bool
     ensures { result ≡ lies_on span.now point.now }
 {
-    side(&span.line(), point) == Sign::Zero && span.lower() <= *point && *point <= span.upper()
+    span.line().holds(point) && span.lower() <= *point && *point <= span.upper()
 }

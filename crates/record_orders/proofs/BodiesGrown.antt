@@ -63,11 +63,11 @@ module _ (f : Faces) (ds : List DartId) (i : ℕ) (d : DartId) (below : i < leng
         not_path false true e = absurd cc
         not_path false false e = refl
 
-    pub cycle_pushed : (now pushed new : List CycleKey) (outer : Bool) (kind : CycleKind) (face : FaceId) → outer ≡ is_outer kind → kind ≡ kind_in f c → face ≡ face_in f c → true ≡ not (contains cycle_cmp seen c) → now ≡ cycle_keys f (take i ds) → pushed ≡ now ++ record { lead = at; outer = outer; face = face } ∷ [] → new ≡ pushed → new ≡ cycle_keys f (take (i + 1) ds)
-    cycle_pushed now pushed new outer kind face o k a e n h g = g ∙ h ∙ ap (λ xs. xs ++ record { lead = at; outer = outer; face = face } ∷ []) n ∙ ap (λ x. cycle_keys f (take i ds) ++ x ∷ []) key ∙ sym (keys_more false (stood false e))
+    pub cycle_pushed : (now pushed new : List CycleKey) (kind : CycleKind) (face : FaceId) → kind ≡ kind_in f c → face ≡ face_in f c → true ≡ not (contains cycle_cmp seen c) → now ≡ cycle_keys f (take i ds) → pushed ≡ now ++ record { lead = at; kind = kind; face = face } ∷ [] → new ≡ pushed → new ≡ cycle_keys f (take (i + 1) ds)
+    cycle_pushed now pushed new kind face k a e n h g = g ∙ h ∙ ap (λ xs. xs ++ record { lead = at; kind = kind; face = face } ∷ []) n ∙ ap (λ x. cycle_keys f (take i ds) ++ x ∷ []) key ∙ sym (keys_more false (stood false e))
       where
-        key : record { lead = at; outer = outer; face = face } ≡ cycle_key f at
-        key = λ j. record { lead = at; outer = (o ∙ ap is_outer (k ∙ ap (kind_in f) is)) j; face = (a ∙ ap (face_in f) is) j }
+        key : record { lead = at; kind = kind; face = face } ≡ cycle_key f at
+        key = λ j. record { lead = at; kind = (k ∙ ap (kind_in f) is) j; face = (a ∙ ap (face_in f) is) j }
 
     pub cycle_passed : (now new : List CycleKey) → false ≡ not (contains cycle_cmp seen c) → now ≡ cycle_keys f (take i ds) → new ≡ now → new ≡ cycle_keys f (take (i + 1) ds)
     cycle_passed now new e n h = h ∙ n ∙ sym (append-nil (cycle_keys f (take i ds))) ∙ sym (keys_more true (stood true e))
@@ -82,17 +82,17 @@ module _ (f : Faces) (ds : List DartId) (i : ℕ) (d : DartId) (below : i < leng
 -- ---- faces
 -- the faces of the outer cycles
 abbrev outer_of : List CycleKey → List FaceId
-outer_of cs = map (λ c. c.face) (filter (λ c. c.outer) cs)
+outer_of cs = map (λ c. c.face) (filter (λ c. is_outer c.kind) cs)
 
 module _ (f : Faces) (cs : List CycleKey) (i : ℕ) (d : CycleKey) (below : i < length cs) where
   abbrev of : CycleKey
   of = get_or cs i d
 
   -- one more cycle
-  outer_more : (b : Bool) → of.outer ≡ b → outer_of (take (i + 1) cs) ≡ outer_of (take i cs) ++ cond b (of.face ∷ []) []
+  outer_more : (b : Bool) → is_outer of.kind ≡ b → outer_of (take (i + 1) cs) ≡ outer_of (take i cs) ++ cond b (of.face ∷ []) []
   outer_more b e =
-      ap (map (λ (c : CycleKey). c.face)) (filter_more (λ (c : CycleKey). c.outer) cs i d below ∙ ap (λ b. filter (λ c. c.outer) (take i cs) ++ cond b (of ∷ []) []) e)
-      ∙ map-append (λ (c : CycleKey). c.face) (filter (λ c. c.outer) (take i cs)) (cond b (of ∷ []) [])
+      ap (map (λ (c : CycleKey). c.face)) (filter_more (λ (c : CycleKey). is_outer c.kind) cs i d below ∙ ap (λ b. filter (λ c. is_outer c.kind) (take i cs) ++ cond b (of ∷ []) []) e)
+      ∙ map-append (λ (c : CycleKey). c.face) (filter (λ c. is_outer c.kind) (take i cs)) (cond b (of ∷ []) [])
       ∙ ap (λ fs. outer_of (take i cs) ++ fs) (one b)
     where
       one : (b : Bool) → map (λ (c : CycleKey). c.face) (cond b (of ∷ []) []) ≡ cond b (of.face ∷ []) []
@@ -102,13 +102,13 @@ module _ (f : Faces) (cs : List CycleKey) (i : ℕ) (d : CycleKey) (below : i < 
   abbrev first : List FaceId
   first = first_faces (face_after_in f None)
 
-  pub face_added : (now new : List FaceId) → of.outer ≡ true → now ≡ ranked_faces f (take i cs) → new ≡ added now of.face → new ≡ ranked_faces f (take (i + 1) cs)
+  pub face_added : (now new : List FaceId) → is_outer of.kind ≡ true → now ≡ ranked_faces f (take i cs) → new ≡ added now of.face → new ≡ ranked_faces f (take (i + 1) cs)
   face_added now new e n a =
       a ∙ ap (λ fs. added fs of.face) n
       ∙ added_distinct (λ (a : FaceId). a.0) (first ++ outer_of (take i cs)) of.face
       ∙ ap (distinct same_face) (append_assoc first (outer_of (take i cs)) (of.face ∷ []) ∙ ap (λ fs. first ++ fs) (sym (outer_more true e)))
 
-  pub face_passed : (now new : List FaceId) → of.outer ≡ false → now ≡ ranked_faces f (take i cs) → new ≡ now → new ≡ ranked_faces f (take (i + 1) cs)
+  pub face_passed : (now new : List FaceId) → is_outer of.kind ≡ false → now ≡ ranked_faces f (take i cs) → new ≡ now → new ≡ ranked_faces f (take (i + 1) cs)
   face_passed now new e n h = h ∙ n ∙ ap (λ fs. distinct same_face (first ++ fs)) (sym (outer_more false e ∙ append-nil (outer_of (take i cs))))
 
 -- what stands before any cycle

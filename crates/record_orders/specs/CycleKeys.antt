@@ -1,5 +1,5 @@
 -- Cycles by their first darts, and faces by rank, of what is read by name.
-use Rattle.std.specs.Prelude.{◌≡◌, ℕ, Bool, true, false, cond, List, [], ◌∷◌, ◌++◌, map, filter, Option, Some, None, ◌==◌}
+use Rattle.std.specs.Prelude.{◌≡◌, ℕ, Bool, true, false, cond, not, List, [], ◌∷◌, ◌++◌, map, filter, Option, Some, None, ◌==◌}
 use Rattle.std.specs.BTreeMap.{BTreeMap, get}
 use Rattle.std.specs.List.{list_any, position}
 use Rattle.std.specs.Ordering.{nat_cmp}
@@ -24,9 +24,13 @@ abbrev pub is_outer : CycleKind → Bool
 is_outer Outer = true
 is_outer Inner = false
 
+-- the cycle is of the kind
+abbrev pub is_of_kind : CycleKind → CycleKey → Bool
+is_of_kind kind c = cond (is_outer kind) (is_outer c.kind) (not (is_outer c.kind))
+
 -- the cycle of a dart
 abbrev pub cycle_key : Faces → DartId → CycleKey
-cycle_key f d = record { lead = d; outer = is_outer (kind_in f (cycle_in f d)); face = face_in f (cycle_in f d) }
+cycle_key f d = record { lead = d; kind = kind_in f (cycle_in f d); face = face_in f (cycle_in f d) }
 
 -- the cycles of the darts, each by the first of them that is on it
 abbrev pub cycle_keys : Faces → List DartId → List CycleKey
@@ -39,7 +43,7 @@ first_faces (Some a) = a ∷ []
 
 -- the first face, then those of outer cycles in the order of these, each once
 abbrev pub ranked_faces : Faces → List CycleKey → List FaceId
-ranked_faces f cs = distinct same_face (first_faces (face_after_in f None) ++ map (λ c. c.face) (filter (λ c. c.outer) cs))
+ranked_faces f cs = distinct same_face (first_faces (face_after_in f None) ++ map (λ c. c.face) (filter (λ c. is_outer c.kind) cs))
 
 -- the faces with one more at their end, unless it stands among them
 abbrev pub added : List FaceId → FaceId → List FaceId

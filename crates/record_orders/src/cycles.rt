@@ -1,19 +1,28 @@
 ghost use Rattle.std.specs.Prelude.{◌≡◌, IfOk};
 ghost use Rattle.std.specs.List.{AllByRecursion};
 ghost use Rattle.slab_laws.specs.View.{HasDart};
-ghost use Rattle.record_orders.specs.CycleKeys.{cycle_keys};
+ghost use Rattle.record_orders.specs.CycleKeys.{cycle_keys, is_of_kind};
 
 use no_memory::NoMemory;
 use slab_laws::{CycleKind, DartId, FaceId, Faced};
 use std::alloc::Global;
 use std::collections::BTreeSet;
 
-/// A boundary cycle: the first of its darts, whether it bounds its face from outside, and that face.
+/// A boundary cycle: the first of its darts, its kind, and the face that it bounds.
 #[derive(Clone, Copy)]
 pub struct CycleKey {
     pub lead: DartId,
-    pub outer: bool,
+    pub kind: CycleKind,
     pub face: FaceId,
+}
+
+impl CycleKey {
+    /// Whether the cycle is of a kind.
+    pub fn is_of(&self, kind: CycleKind) -> bool
+        ensures { result ≡ is_of_kind kind self.now }
+    {
+        self.kind == kind
+    }
 }
 
 /// The cycles of darts, each by the first of them that is on it.
@@ -36,7 +45,7 @@ pub fn cycles_of<R: Faced>(
         if seen.insert(cycle)? {
             cycles.push(CycleKey {
                 lead: *dart,
-                outer: records.kind(cycle) == CycleKind::Outer,
+                kind: records.kind(cycle),
                 face: records.face(cycle),
             })?;
         }

@@ -20,6 +20,13 @@ pub struct DartKey {
     pub name: DartId,
 }
 
+/// Whether the dart goes from the lower to the upper end of its edge (CGAL manual, direction of a halfedge).
+pub fn is_forward(dart: &DartKey) -> bool
+    ensures { result ≡ is_lt (point_cmp dart.now.source dart.now.target) }
+{
+    dart.source < dart.target
+}
+
 fn key_of<R: Darts>(records: &R, name: DartId) -> DartKey
     requires sound { IsGraphSound (R.graph records.now) }
     requires has { HasDart (R.graph records.now) name }

@@ -15,7 +15,7 @@ mod vertices;
 
 pub use bodies::Bodies;
 pub use cycles::{CycleKey, cycles_of};
-pub use darts::{DartKey, darts_in_order, first_out_of};
+pub use darts::{DartKey, darts_in_order, first_out_of, is_forward};
 pub use edges::edges_in_order;
 pub use ranks::{Ranks, ranks_of};
-pub use vertices::{VertexKey, vertices_in_order};
+pub use vertices::{VertexKey, points_of, vertices_in_order};

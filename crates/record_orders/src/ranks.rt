@@ -4,7 +4,7 @@ ghost use Rattle.record_orders.specs.CycleKeys.{same_face, ranked_faces, added, 
 
 use crate::cycles::CycleKey;
 use no_memory::NoMemory;
-use slab_laws::{FaceId, Faced};
+use slab_laws::{CycleKind, FaceId, Faced};
 use std::alloc::Global;
 use std::collections::BTreeMap;
 use std::marker::Model;
@@ -63,7 +63,7 @@ pub fn ranks_of<R: Faced>(
         add_face(&mut faces, &mut ranks, face)?;
     }
     for cycle in cycles {
-        if cycle.outer {
+        if cycle.is_of(CycleKind::Outer) {
             add_face(&mut faces, &mut ranks, cycle.face)?;
         }
     }

@@ -8,13 +8,24 @@ use arr_notes::vertex_names;
 use exact_plane::Point;
 use no_memory::NoMemory;
 use slab_laws::{Darts, VertexId};
-use std::alloc::Global;
+use std::alloc::{AllocError, Global};
 
 /// A vertex with its point, by which it is ordered.
 #[derive(Clone, Copy, PartialEq, Eq, PartialOrd, Ord)]
 pub struct VertexKey {
     pub point: Point,
     pub name: VertexId,
+}
+
+/// The points of vertices, in their order.
+///
+/// # Errors
+///
+/// There was no memory for the list.
+pub fn points_of(alloc: Global, vertices: &[VertexKey]) -> Result<Vec<Point>, AllocError>
+    ensures { IfOk result (λ v. v.items ≡ map (λ k. k.point) vertices.now) }
+{
+    vertices.iter().map(|vertex| vertex.point).collect(alloc)
 }
 
 fn keys_of<R: Darts>(

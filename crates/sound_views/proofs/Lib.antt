@@ -18,3 +18,4 @@ pub mod NameTables
 pub mod NamedDarts
 pub mod NamesOrdered
 pub mod IsolatedVertices
+pub mod ForwardDarts

@@ -4,3 +4,4 @@ pub mod FaceOrderLaws
 pub mod RecordGraphLaws
 pub mod Orders
 pub mod OrderLaws
+pub mod ForwardDarts

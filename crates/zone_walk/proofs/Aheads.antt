@@ -27,7 +27,8 @@ use Rattle.rotation_order.specs.Place.{IsAlongDart}
 use Rattle.sound_changes.proofs.KnownNames.{point_known, edge_known}
 use Rattle.sound_views.proofs.NamedDarts.{by_points}
 use Rattle.zone_walk.specs.Walk.{IsAhead}
-use Rattle.locate_naive.proofs.Within.{target_has, high_proper, in_dart, dart_in_out}
+use Rattle.locate_naive.proofs.Within.{high_proper, in_dart, dart_in_out}
+use Rattle.sound_views.proofs.ForwardDarts.{target_has}
 
 -- ---- a line's own direction
 

@@ -11,7 +11,7 @@ use Rattle.slab_laws.specs.Skeleton.{inside}
 use Rattle.slab_laws.specs.Sound.{IsGraphSound, edge_in}
 use Rattle.slab_laws.specs.View.{View, HasDart, twin_in, line_in}
 use Rattle.locate_naive.proofs.Spans.{by_first}
-use Rattle.locate_naive.specs.Found.{IsForwardOf}
+use Rattle.sound_views.specs.ForwardDarts.{IsForwardOf}
 use Rattle.zone_walk.specs.Found.{MeetsInside}
 use Rattle.zone_walk.specs.Zone.{is_on_segment}
 

@@ -20,7 +20,7 @@ use Rattle.slab_laws.specs.declared.names.DartId.{DartId}
 use Rattle.slab_laws.specs.Sound.{dart_in, IsGraphSound}
 use Rattle.slab_laws.specs.View.{View, HasDart, point_in, source_in, twin_in, target_in, line_in}
 use Rattle.arr_notes.specs.Curves.{IsForward}
-use Rattle.locate_naive.proofs.Spans.{is_behind}
+use Rattle.sound_views.proofs.ForwardDarts.{is_behind}
 use Rattle.zone_walk.proofs.BothWays.{meets_along}
 use Rattle.locate_naive.proofs.Within.{IsWithinDart, low_proper, high_proper, in_dart, dart_in_out}
 use Rattle.zone_walk.specs.Found.{ends_of, is_left, is_right, IsWhole, IsPassAt, IsNoPass, MeetsInside, IsInnerPoint}
@@ -190,8 +190,8 @@ module _ (v : View) (s : IsGraphSound v) (whole : Span) (all : IsWhole whole) (d
             or_left (is_left whole.line low && is_right whole.line high) (is_right whole.line low && is_left whole.line high) (and_in (lt_yes (pos 0) (side_of whole.line low) above) (lt_yes (side_of whole.line high) (pos 0) below))
 
     -- what the exact crossing tells
-    pub no_crossing : ((dart_in v d).forward ≡ true → IsNoPass v g d) → IsInnerPoint v g d None
-    no_crossing f p h = not_empty (passes v g d) p (f ahead.1).none (passes_one v g d p (passed p h))
+    pub no_crossing : IsNoPass v g d → IsInnerPoint v g d None
+    no_crossing f p h = not_empty (passes v g d) p f.none (passes_one v g d p (passed p h))
 
     module _ (p : Point) (k : IsPassAt v g d p) where
       there : Member p (passes v g d)

@@ -151,12 +151,7 @@ module _ (v : View) (d : DartId) (whole span : Span) (all : IsWhole whole) (is_s
           });
         }
 
-  -- what the meeting of the two tells of the forward dart's edge
-  pub told : (r : Option Point) → (dart_in v d).forward ≡ true → MatchOption r (IsNoInnerMeeting whole span) (IsInnerMeeting whole span) → MatchOption r ((dart_in v d).forward ≡ true → IsNoPass v s d) (λ x. ((dart_in v d).forward ≡ true) × IsPassAt v s d x)
-  told None f h = λ g. passed_nowhere h
-  told (Some x) f h = (f, passed_at x h)
-
--- a dart that goes backward tells nothing
-pub untold : (v : View) (d : DartId) (s : Segment) (r : Option Point) → r ≡ None → (dart_in v d).forward ≡ false → MatchOption r ((dart_in v d).forward ≡ true → IsNoPass v s d) (λ x. ((dart_in v d).forward ≡ true) × IsPassAt v s d x)
-untold v d s None e f = λ g. clash g f
-untold v d s (Some x) e f = absurd cc
+  -- what the meeting of the two tells of the dart's edge
+  pub told : (r : Option Point) → MatchOption r (IsNoInnerMeeting whole span) (IsInnerMeeting whole span) → MatchOption r (IsNoPass v s d) (IsPassAt v s d)
+  told None h = passed_nowhere h
+  told (Some x) h = passed_at x h

@@ -22,7 +22,8 @@ use Rattle.dcel_records.specs.declared.spot.Spot.TheVariants.{Vertex, Edge as On
 use Rattle.sound_views.proofs.NamedDarts.{twin_dart}
 use Rattle.zone_walk.specs.Walk.{lesser, IsAhead, IsSpotAhead, IsStretch}
 use Rattle.zone_walk.specs.Zone.{meeting_points, IsSpotBetween, IsNextMeeting}
-use Rattle.locate_naive.proofs.Within.{target_has, in_dart, dart_in_out}
+use Rattle.locate_naive.proofs.Within.{in_dart, dart_in_out}
+use Rattle.sound_views.proofs.ForwardDarts.{target_has}
 use Rattle.zone_walk.proofs.Aheads.{at_most, no_vertex_inside, one_inside}
 use Rattle.zone_walk.proofs.Courses.{IsCourse, LiesOn, lies_out, lies_in, lower_lies, upper_lies, one_line, parallel_itself}
 use Rattle.zone_walk.proofs.LineCrossings.{crossing_proper, is_crossing}

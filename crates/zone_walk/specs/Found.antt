@@ -45,9 +45,9 @@ pub record IsPassAt (v : View) (s : Segment) (d : DartId) (p : Point) : Type 0 w
 pub record IsNoPass (v : View) (s : Segment) (d : DartId) : Type 0 where
   pub none : passes v s d ≡ []
 
--- the point where the segment passes through the inside of a forward dart's edge; none where it doesn't, or the dart isn't forward (this project)
-abbrev pub IsPassOfForward : View → Segment → DartId → Option Point → Type 0
-IsPassOfForward v s d r = MatchOption r ((dart_in v d).forward ≡ true → IsNoPass v s d) (λ p. ((dart_in v d).forward ≡ true) × IsPassAt v s d p)
+-- the point where the segment passes through the inside of a dart's edge; none where it doesn't (this project)
+abbrev pub IsPassOf : View → Segment → DartId → Option Point → Type 0
+IsPassOf v s d r = MatchOption r (IsNoPass v s d) (IsPassAt v s d)
 
 -- the point lies on both spans, as no other does, and is inside the second one (this project)
 pub record IsInnerMeeting (whole span : Span) (p : Point) : Type 0 where

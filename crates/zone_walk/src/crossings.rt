@@ -5,13 +5,13 @@ ghost use Rattle.plane_graphs.specs.Line.{precedes};
 ghost use Rattle.slab_laws.specs.Sound.{IsGraphSound};
 ghost use Rattle.slab_laws.specs.View.{HasDart, line_in};
 ghost use Rattle.arr_notes.specs.Curves.{IsForward};
-ghost use Rattle.zone_walk.specs.Found.{ends_of, is_left, is_right, IsWhole, IsPassOfForward, IsInnerMeeting, IsNoInnerMeeting, IsInnerPoint, MeetsInside};
+ghost use Rattle.zone_walk.specs.Found.{ends_of, is_left, is_right, IsWhole, IsPassOf, IsInnerMeeting, IsNoInnerMeeting, IsInnerPoint, MeetsInside};
 
 use dcel_records::Records;
 use edge_predicates::has_inside;
 use exact_plane::{Line, Meet, Point, Sign, Span, side, span_meeting};
-use locate_naive::span_of;
 use slab_laws::{DartId, Darts};
+use sound_views::span_of;
 
 // The one common point of two spans, where it is inside the second one.
 fn inner_meeting(whole: &Span, span: &Span) -> Option<Point>
@@ -29,16 +29,15 @@ fn inner_meeting(whole: &Span, span: &Span) -> Option<Point>
     }
 }
 
-// The point where the segment passes through the inside of an edge of another line, told by the edge's forward dart.
+// The point where the segment passes through the inside of a dart's edge, of another line.
 fn crossing_inside(records: &Records, whole: &Span, dart: DartId) -> Option<Point>
     requires sound { IsGraphSound records.now.graph }
     requires whole { IsWhole whole.now }
     requires dart { HasDart records.now.graph dart }
-    ensures { IsPassOfForward records.now.graph (ends_of whole.now) dart result }
+    ensures { IsPassOf records.now.graph (ends_of whole.now) dart result }
 {
-    let span = span_of(records, dart)?;
-    // A look at it tells that it is a span.
-    let _ = span.lower();
+    let span = span_of(records, dart);
+    span.laws();
     inner_meeting(whole, &span)
 }
 

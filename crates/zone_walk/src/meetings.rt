@@ -10,10 +10,10 @@ ghost use Rattle.zone_walk.specs.Found.{ends_of, IsWhole, AreFound, AreKept, Tak
 
 use crate::crossings::{inner_point, may_meet};
 use dcel_records::{Records, Spot};
-use exact_plane::{Point, Segment, Sign, Span, line_of, side};
-use locate_naive::{forward_dart, is_first};
+use exact_plane::{Point, Segment, Span, line_of};
 use no_memory::NoMemory;
 use slab_laws::{DartId, Darts, VertexId};
+use sound_views::{forward_dart, is_first};
 use std::alloc::Global;
 use std::collections::BTreeMap;
 
@@ -24,20 +24,10 @@ fn whole(segment: &Segment) -> Span
 {
     match Span::new(segment.lower(), segment.upper(), line_of(segment)) {
         Some(span) => {
-            // A look at it tells that it is a span.
-            let _ = span.lower();
+            span.laws();
             span
         }
         None => unreachable!(),
-    }
-}
-
-fn is_on_line(whole: &Span, point: &Point) -> bool
-    ensures { result ≡ is_on whole.now.line point.now }
-{
-    match side(&whole.line(), point) {
-        Sign::Zero => true,
-        Sign::Minus | Sign::Plus => false,
     }
 }
 
@@ -45,7 +35,7 @@ fn is_on_line(whole: &Span, point: &Point) -> bool
 fn is_later(whole: &Span, point: &Point) -> bool
     ensures { result ≡ (precedes whole.now.lower point.now && (not (precedes whole.now.upper point.now) && is_on whole.now.line point.now)) }
 {
-    whole.lower() < *point && !(whole.upper() < *point) && is_on_line(whole, point)
+    whole.lower() < *point && !(whole.upper() < *point) && whole.line().holds(point)
 }
 
 // Adds the vertex, where it lies on the segment after its lower end.

@@ -5,4 +5,4 @@ use Rattle.edge_predicates.proofs.Sides.{sign_same}
 use Rattle.edge_predicates.proofs.edges.side_of.Goals as goal
 
 pub returns : goal.returns
-returns c = sign_same c.args.edge.now c.args.point.now c.side.result c.lower.ensures.span (c.side.ensures ∙ ap (λ l. sign_of (side_of l c.args.point.now)) c.line.ensures)
+returns c = sign_same c.args.edge.now c.args.point.now c.side.result c.laws.ensures (c.side.ensures ∙ ap (λ l. sign_of (side_of l c.args.point.now)) c.line.ensures)

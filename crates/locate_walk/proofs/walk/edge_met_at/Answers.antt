@@ -21,7 +21,7 @@ pub is_first_met_at-requires-clause-dart : goal.is_first_met_at-requires-clause-
 is_first_met_at-requires-clause-dart c = dart_has c.args.records.now.graph c.loop-dart.last c.in-Some.dart c.in-Some.ensures.ascend c.in-Some.ensures.after
 
 pub is_first_met_at-requires-clause-point : goal.is_first_met_at-requires-clause-point
-is_first_met_at-requires-clause-point c = point_is_proper c.args.point.now c.w-weight.ensures.point
+is_first_met_at-requires-clause-point c = point_is_proper c.args.point.now c.laws.ensures
 
 pub forward_dart-requires-clause-dart : goal.forward_dart-requires-clause-dart
 forward_dart-requires-clause-dart c = dart_has c.args.records.now.graph c.loop-dart.last c.in-Some.dart c.in-Some.ensures.ascend c.in-Some.ensures.after

@@ -2,7 +2,7 @@ use Rattle.std.proofs.Common.{sym, subst, ap, ◌∙◌}
 use Rattle.exact_plane.specs.Line.{Line}
 use Rattle.plane_graphs.specs.Line.{is_on}
 use Rattle.slab_laws.specs.View.{HasVertex, point_in}
-use Rattle.locate_naive.proofs.Within.{target_has}
+use Rattle.sound_views.proofs.ForwardDarts.{target_has}
 use Rattle.locate_walk.proofs.DartCourses.{dart_along, dart_across, dart_apart}
 use Rattle.locate_walk.proofs.walk.is_met_at.Goals as goal
 
@@ -22,7 +22,7 @@ returns-in-Along c =
 pub returns-in-Across : goal.returns-in-Across
 returns-in-Across c =
     let v = c.args.records.now.graph in
-    c.is_on.ensures
+    c.holds.ensures
     ∙ ap (λ (l : Line). is_on l c.args.point.now) c.line.ensures.line
     ∙ dart_across v c.requires.sound c.args.dart c.requires.dart c.args.point.now c.requires.point c.point-source.result c.point-target.result
     (c.point-source.ensures ∙ ap (point_in v) c.source.ensures) (c.point-target.ensures ∙ ap (point_in v) c.target.ensures) c.in-Across.ensures

@@ -11,10 +11,10 @@ returns-in_err-point c =
     (no_crossing c.args.records.now.graph c.requires.sound c.args.whole.now c.requires.whole c.args.dart c.requires.forward c.requires.other_line c.in_err-point.ensures)
 
 pub returns-then-lt : goal.returns-then-lt
-returns-then-lt c = at_crossing c.args.records.now.graph c.requires.sound c.args.whole.now c.requires.whole c.args.dart c.requires.forward c.requires.other_line c.in_ok-point.point c.in_ok-point.ensures.1 (ap (λ (p : Point). precedes p c.in_ok-point.point) (sym c.lower.ensures.value) ∙ sym c.lt.ensures ∙ c.if-lt.true)
+returns-then-lt c = at_crossing c.args.records.now.graph c.requires.sound c.args.whole.now c.requires.whole c.args.dart c.requires.forward c.requires.other_line c.in_ok-point.point c.in_ok-point.ensures (ap (λ (p : Point). precedes p c.in_ok-point.point) (sym c.lower.ensures.value) ∙ sym c.lt.ensures ∙ c.if-lt.true)
 
 pub returns-else-lt : goal.returns-else-lt
-returns-else-lt c = at_lower c.args.records.now.graph c.requires.sound c.args.whole.now c.requires.whole c.args.dart c.requires.forward c.requires.other_line c.in_ok-point.point c.in_ok-point.ensures.1 (ap (λ (p : Point). precedes p c.in_ok-point.point) (sym c.lower.ensures.value) ∙ sym c.lt.ensures ∙ c.if-lt.false)
+returns-else-lt c = at_lower c.args.records.now.graph c.requires.sound c.args.whole.now c.requires.whole c.args.dart c.requires.forward c.requires.other_line c.in_ok-point.point c.in_ok-point.ensures (ap (λ (p : Point). precedes p c.in_ok-point.point) (sym c.lower.ensures.value) ∙ sym c.lt.ensures ∙ c.if-lt.false)
 
 pub crossing_inside-requires-clause-dart : goal.crossing_inside-requires-clause-dart
 crossing_inside-requires-clause-dart c = c.requires.forward.0

@@ -1,7 +1,7 @@
 use Rattle.std.proofs.Common.{◌≢◌, sym, ap, ◌∙◌, subst}
 use Rattle.exact_plane.specs.Line.{Line}
 use Rattle.slab_laws.specs.View.{HasVertex, point_in, line_in}
-use Rattle.locate_naive.proofs.Within.{target_has}
+use Rattle.sound_views.proofs.ForwardDarts.{target_has}
 use Rattle.zone_walk.proofs.Courses.{told_other_line}
 use Rattle.zone_walk.proofs.Inner.{not_parted}
 use Rattle.zone_walk.proofs.crossings.may_meet.Goals as goal
