@@ -1,4 +1,6 @@
 ghost use Rattle.std.specs.Prelude.{◌≡◌, IfOk};
+ghost use Rattle.slab_laws.specs.Layers.{rows_of};
+ghost use Rattle.slab_laws.specs.Overlay.{both};
 ghost use Rattle.slab_laws.specs.OverlayText.{presents_text};
 ghost use Rattle.slab_laws.specs.FacesSound.{IsSound};
 ghost use Rattle.plain_slabs.specs.Listed.{subdivision_in, view_of, faces_of};
@@ -20,6 +22,14 @@ use std::alloc::Global;
 pub fn overlay(alloc: Global, red: &Arrangement, blue: &Arrangement) -> Result<Overlay, NoMemory>
     ensures subdivision { IfOk result (λ o. subdivision_in o.drawing
         ≡ overlay_of (arranged Observer-dyn red.now) (arranged Observer-dyn blue.now)) }
+    ensures pins { IfOk result (λ o. o.drawing.graph.pins
+        ≡ (both (layer_in (arranged Observer-dyn red.now)).present (layer_in (arranged Observer-dyn blue.now)).present).pins) }
+
+    // What it tells of each layer: the curves along each of its edges, and the rank of the layer's face that holds each face.
+    ensures red { IfOk result (λ o. o.red ≡ rows_of (layer_in (arranged Observer-dyn red.now)).present
+        (overlay_of (arranged Observer-dyn red.now) (arranged Observer-dyn blue.now))) }
+    ensures blue { IfOk result (λ o. o.blue ≡ rows_of (layer_in (arranged Observer-dyn blue.now)).present
+        (overlay_of (arranged Observer-dyn red.now) (arranged Observer-dyn blue.now))) }
     ensures stands { IfOk result (λ o. IsSound (view_of o.drawing) (faces_of o.drawing)) }
     ensures text { IfOk result (λ o. text_of o
         ≡ presents_text (layer_in (arranged Observer-dyn red.now)).present (layer_in (arranged Observer-dyn blue.now)).present) }

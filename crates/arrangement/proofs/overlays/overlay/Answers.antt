@@ -1,5 +1,7 @@
 use Rattle.std.proofs.Common.{ap₂, ◌∙◌}
-use Rattle.slab_laws.specs.Overlay.{overlay}
+use Rattle.plane_graphs.specs.Piece.{Present}
+use Rattle.slab_laws.specs.Layers.{rows_of}
+use Rattle.slab_laws.specs.Overlay.{both, overlay}
 use Rattle.slab_laws.specs.Pieces.{present_of}
 use Rattle.arrangement.proofs.PresentsRead.{told}
 use Rattle.arrangement.proofs.overlays.overlay.Goals as goal
@@ -12,8 +14,13 @@ invariant_of-result g c = c.in_ok-both.ensures.stands
 
 pub returns : goal.returns
 returns g c =
-    let e = c.in_ok-both.ensures in record {
-      subdivision = e.subdivision ∙ ap₂ overlay c.in_ok-of_red.ensures.present c.in_ok-of_blue.ensures.present;
+    let e = c.in_ok-both.ensures in
+    let red = c.in_ok-of_red.ensures.present in
+    let blue = c.in_ok-of_blue.ensures.present in record {
+      subdivision = e.subdivision ∙ ap₂ overlay red blue;
+      pins = e.pins ∙ ap₂ (λ (r b : Present). (both r b).pins) red blue;
+      red = e.red ∙ ap₂ (λ (r b : Present). rows_of r (overlay r b)) red blue;
+      blue = e.blue ∙ ap₂ (λ (r b : Present). rows_of b (overlay r b)) red blue;
       stands = e.stands;
-      text = told c.in_ok-both.both (present_of c.in_ok-of_red.of_red) (present_of c.in_ok-of_blue.of_blue) _ _ c.in_ok-of_red.ensures.fit c.in_ok-of_blue.ensures.fit e.subdivision e.pins e.red e.blue e.lines c.in_ok-of_red.ensures.present c.in_ok-of_blue.ensures.present;
+      text = told c.in_ok-both.both (present_of c.in_ok-of_red.of_red) (present_of c.in_ok-of_blue.of_blue) _ _ c.in_ok-of_red.ensures.fit c.in_ok-of_blue.ensures.fit e.subdivision e.pins e.red e.blue e.lines red blue;
     }
