@@ -23,12 +23,12 @@ use Rattle.arr_notes.specs.Step.{step, merge_edge, remove_edge}
 use Rattle.arr_notes.proofs.Names.{cases_dart}
 use Rattle.rotation_order.specs.VertexRings.{IsBare}
 use Rattle.sound_changes.specs.EdgePlaces.{IsEdgeMore, IsDrawnLess}
+use Rattle.sound_changes.specs.SplitHalves.{IsHalved}
 use Rattle.sound_changes.proofs.RingsKept.{up, start_old, end_old, point_same, vertex_up, twinned_down}
 use Rattle.sound_changes.proofs.EdgeRemoved.{fewer, drawn_less}
 use Rattle.sound_changes.specs.ChangeFits.{FitsMerge}
 use Rattle.sound_changes.proofs.SplitCases.{edge_of_ends, ahead_by}
 use Rattle.sound_changes.proofs.Collinear.{flat_on_line}
-use Rattle.sound_changes.proofs.SplitHalves.{IsHalved}
 use Rattle.sound_changes.proofs.PointInside.{inside_in}
 use Rattle.sound_changes.proofs.KnownNames.{edge_known, known_edge}
 use Rattle.sound_changes.proofs.Merges.{merge_drawn}

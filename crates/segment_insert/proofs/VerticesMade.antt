@@ -14,7 +14,8 @@ use Rattle.slab_laws.specs.View.{View, HasVertex, HasDart, point_in, source_in, 
 use Rattle.arr_notes.specs.ViewChanges.{with_vertex}
 use Rattle.arr_notes.proofs.VertexReads.{vertex_is_added}
 use Rattle.sound_changes.specs.ChangeFits.{FitsSplit}
-use Rattle.sound_changes.proofs.SplitHalves.{IsHalved, not_n}
+use Rattle.sound_changes.specs.SplitHalves.{IsHalved}
+use Rattle.sound_changes.proofs.SplitHalves.{not_n}
 use Rattle.sound_changes.proofs.Splits.{halved}
 use Rattle.arr_notes.specs.declared.change.Change.{Change}
 use Rattle.arr_notes.specs.declared.change.Change.TheVariants.{AddVertex, RemoveVertex, SplitEdge, MergeEdge, AddEdge, RemoveEdge, AddCurve, RemoveCurve, SetPin, ClearPin, Clear}

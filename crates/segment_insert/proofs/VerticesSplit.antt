@@ -11,8 +11,9 @@ use Rattle.slab_laws.specs.Skeleton.{inside}
 use Rattle.slab_laws.specs.Sound.{edge_in, dart_in, IsGraphSound}
 use Rattle.slab_laws.specs.View.{View, HasDart, point_in, source_in, twin_in, target_in, next_in}
 use Rattle.sound_changes.specs.ChangeFits.{FitsSplit}
+use Rattle.sound_changes.specs.SplitHalves.{IsHalved}
 use Rattle.sound_changes.proofs.SplitCases.{edge_of_ends, ahead_by, back_by}
-use Rattle.sound_changes.proofs.SplitHalves.{IsHalved, three, not_n}
+use Rattle.sound_changes.proofs.SplitHalves.{three, not_n}
 use Rattle.sound_changes.proofs.SplitHalves as halves
 use Rattle.sound_changes.proofs.PointInside.{IsInside}
 use Rattle.sound_changes.proofs.Splits.{halved, at_w}

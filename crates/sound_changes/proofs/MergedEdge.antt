@@ -19,8 +19,9 @@ use Rattle.rotation_order.specs.VertexRings.{turns_in, RingOf}
 use Rattle.rotation_order.proofs.RingNames.{out_of}
 use Rattle.rotation_order.proofs.RingTurned.{strict_at}
 use Rattle.rotation_order.proofs.SoundRings.{sound_views_have_rings, rings_make_sound_views}
+use Rattle.sound_changes.specs.SplitHalves.{IsHalved}
 use Rattle.sound_changes.proofs.SplitCases.{edge_of_ends}
-use Rattle.sound_changes.proofs.SplitHalves.{IsHalved, not_n, not_m, not_w}
+use Rattle.sound_changes.proofs.SplitHalves.{not_n, not_m, not_w}
 use Rattle.sound_changes.proofs.SplitEdge.{after_source}
 use Rattle.sound_changes.proofs.SplitDirections as ways
 use Rattle.sound_changes.proofs.SplitDirections.{alike_left, alike_right, same_way, ends_apart}

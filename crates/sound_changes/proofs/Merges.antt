@@ -26,11 +26,11 @@ use Rattle.arr_notes.proofs.VertexReads.{vertex_is_removed}
 use Rattle.arr_notes.specs.Step.{merge_edge}
 use Rattle.sound_changes.specs.ChangeFits.{FitsMerge}
 use Rattle.sound_changes.specs.SplitLaws.{TwoEdgesInOneKeepViewsSound, TwoEdgesInOneAreDrawn}
+use Rattle.sound_changes.specs.SplitHalves.{IsHalved}
 use Rattle.sound_changes.proofs.SplitCases.{edge_of_ends, ahead_by}
 use Rattle.sound_changes.proofs.Collinear.{flat_on_line}
 use Rattle.sound_changes.proofs.SplitDrawn.{points_joined, edges_joined}
 use Rattle.sound_changes.proofs.VertexRemoved.{both_ends}
-use Rattle.sound_changes.proofs.SplitHalves.{IsHalved}
 use Rattle.sound_changes.proofs.MergedEdge.{IsRejoined, twinned_back, sourced_back, joined_sound}
 use Rattle.sound_changes.proofs.KnownNames.{point_known, edge_known, known_edge, points_proper, points_ascend, edges_ascend}
 use Rattle.sound_changes.proofs.PlaneParts.{joined_plane}
@@ -182,7 +182,7 @@ module _ (v : View) (w : VertexId) (d n : DartId) (s : IsGraphSound v) (c : Fits
   not_w : (u : VertexId) → HasVertex g u → u ≢ w
   not_w u o q = x5.gone (subst (HasVertex g) q o)
 
-  halved : IsHalved g v d t n m w
+  pub halved : IsHalved g v d t n m w
   halved = record {
     n_new = λ o. not_n n o refl;
     m_new = λ o. not_m m o refl;
@@ -213,7 +213,7 @@ module _ (v : View) (w : VertexId) (d n : DartId) (s : IsGraphSound v) (c : Fits
     vertex_point = λ u o. sym (vertex_g u (not_w u o)).point;
   }
 
-  rejoined : IsRejoined g v d t n m
+  pub rejoined : IsRejoined g v d t n m
   rejoined = record {
     after_t = λ ne. next_d ∙ ap (λ b. cond b t (next_in v n)) (other_number (next_in v n).0 m.0 (dart_number (next_in v n) m ne));
     alone = λ q. next_d ∙ ap (λ z. cond (z.0 == m.0) t (next_in v n)) q ∙ ap (λ b. cond b t (next_in v n)) (same_number m.0);
@@ -240,10 +240,10 @@ module _ (v : View) (w : VertexId) (d n : DartId) (s : IsGraphSound v) (c : Fits
   same_b : B ≡ point_in g (source_in g t)
   same_b = ap (point_in v) halved.source_m ∙ halved.vertex_point (source_in g t) (sourced_g t halved.has_t)
 
-  before_g : precedes (point_in g (source_in g d)) P ≡ true
+  pub before_g : precedes (point_in g (source_in g d)) P ≡ true
   before_g = subst (λ z. precedes z P ≡ true) same_a before
 
-  behind_g : precedes P (point_in g (source_in g t)) ≡ true
+  pub behind_g : precedes P (point_in g (source_in g t)) ≡ true
   behind_g = subst (λ z. precedes P z ≡ true) same_b behind
 
   proper_a : IsProper A
@@ -261,7 +261,7 @@ module _ (v : View) (w : VertexId) (d n : DartId) (s : IsGraphSound v) (c : Fits
       (ap (λ l. side_of l B) c.line ∙ s.drawn.ends n c.second)
       (ap (λ z. side_of (line_in v d) (point_in v z)) (sym c.arrives) ∙ s.drawn.ends d c.first)
 
-  between : inside (edge_of_ends A B) P ≡ true
+  pub between : inside (edge_of_ends A B) P ≡ true
   between =
       and_in
       (and_in (comes_before A P (span_runs A P proper_a proper_p (lt_out A P before))) (comes_before P B (span_runs P B proper_p proper_b (lt_out P B behind))))
@@ -282,7 +282,7 @@ module _ (v : View) (w : VertexId) (d n : DartId) (s : IsGraphSound v) (c : Fits
   far_is : edge_in v n ≡ edge_of_ends P (point_in g (source_in g t))
   far_is = ap (λ x. x.edge) (ways.far_ahead g v d t n m w halved twinned_g sourced_g P refl before_g behind_g)
 
-  whole_is : edge_between A B ≡ edge_of_ends (point_in g (source_in g d)) (point_in g (source_in g t))
+  pub whole_is : edge_between A B ≡ edge_of_ends (point_in g (source_in g d)) (point_in g (source_in g t))
   whole_is = ap₂ edge_between same_a same_b ∙ ap (λ x. x.edge) (ahead_by (point_in g (source_in g d)) (point_in g (source_in g t)) (ways.ends_ordered g v d t n m w halved twinned_g sourced_g P refl before_g behind_g))
 
   points_drawn : (q : Point) → Contains (skeleton_of g).vertices q ↔ (Contains (skeleton_of v).vertices q × (q ≢ P))
@@ -302,7 +302,7 @@ module _ (v : View) (w : VertexId) (d n : DartId) (s : IsGraphSound v) (c : Fits
   upper_is : edge_in v n ≡ upper_part (edge_of_ends A B) P
   upper_is = far_is ∙ ap (edge_of_ends P) (sym same_b)
 
-  straight : edge_between A B ≡ edge_of_ends A B
+  pub straight : edge_between A B ≡ edge_of_ends A B
   straight = ap (λ x. x.edge) (ahead_by A B (lt_in (lt_trans (lt_out A P before) (lt_out P B behind))))
 
   ends_known : (e : Edge) → Contains (skeleton_of g).edges e → Contains (skeleton_of g).vertices e.low × Contains (skeleton_of g).vertices e.high

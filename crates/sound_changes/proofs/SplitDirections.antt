@@ -10,8 +10,9 @@ use Rattle.slab_laws.specs.Darts.{Dart, source, ahead, back}
 use Rattle.slab_laws.specs.Rotation.{earlier}
 use Rattle.slab_laws.specs.Sound.{dart_in, IsTwinned}
 use Rattle.slab_laws.specs.View.{View, HasVertex, HasDart, point_in, source_in}
+use Rattle.sound_changes.specs.SplitHalves.{IsHalved}
 use Rattle.sound_changes.proofs.SplitCases.{edge_of_ends, ahead_by, back_by}
-use Rattle.sound_changes.proofs.SplitHalves.{IsHalved, whole_d, whole_t, half_d, half_t, half_n, half_m, way_old}
+use Rattle.sound_changes.proofs.SplitHalves.{whole_d, whole_t, half_d, half_t, half_n, half_m, way_old}
 
 -- as darts that turn alike compare with another one
 pub alike_left : (x y z x' y' : Dart) → x' ≡ x → y' ≡ y → IsTurningAs x y → source z ≡ source x → earlier y' z ≡ earlier x' z

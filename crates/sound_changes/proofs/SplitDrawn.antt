@@ -9,8 +9,9 @@ use Rattle.slab_laws.specs.declared.names.VertexId.{VertexId}
 use Rattle.slab_laws.specs.Darts.{ahead, back}
 use Rattle.slab_laws.specs.Sound.{skeleton_of, dart_in, edge_in, IsNamed, IsTwinned}
 use Rattle.slab_laws.specs.View.{View, HasVertex, HasDart, point_in, source_in}
+use Rattle.sound_changes.specs.SplitHalves.{IsHalved}
 use Rattle.sound_changes.proofs.SplitCases.{edge_of_ends}
-use Rattle.sound_changes.proofs.SplitHalves.{IsHalved, not_n, not_m, not_w, three}
+use Rattle.sound_changes.proofs.SplitHalves.{not_n, not_m, not_w, three}
 use Rattle.sound_changes.proofs.KnownNames.{point_known, known_point, edge_known, known_edge}
 use Rattle.sound_changes.proofs.SplitDirections as ways
 use Rattle.sound_changes.proofs.SplitDirections.{same_way}

@@ -19,8 +19,9 @@ use Rattle.rotation_order.specs.VertexRings.{turns_in, RingOf}
 use Rattle.rotation_order.proofs.RingNames.{out_of}
 use Rattle.rotation_order.proofs.RingTurned.{strict_at}
 use Rattle.rotation_order.proofs.SoundRings.{sound_views_have_rings, rings_make_sound_views}
+use Rattle.sound_changes.specs.SplitHalves.{IsHalved}
 use Rattle.sound_changes.proofs.SplitCases.{edge_of_ends}
-use Rattle.sound_changes.proofs.SplitHalves.{IsHalved, not_w, three, where_is, point_n, point_t, point_m, point_old}
+use Rattle.sound_changes.proofs.SplitHalves.{not_w, three, where_is, point_n, point_t, point_m, point_old}
 use Rattle.sound_changes.proofs.SplitDirections as ways
 use Rattle.sound_changes.proofs.SplitDirections.{alike_left, alike_right, ends_apart, same_way}
 use Rattle.arr_notes.proofs.Names.{cases_dart, cases_vertex}

@@ -28,10 +28,10 @@ use Rattle.arr_notes.proofs.VertexReads.{vertex_is_added}
 use Rattle.sound_changes.specs.ChangeFits.{FitsSplit}
 use Rattle.sound_changes.specs.SplitLaws.{EdgeInTwoKeepsViewsSound, EdgeInTwoIsDrawn}
 use Rattle.arr_notes.specs.Step.{split_edge}
+use Rattle.sound_changes.specs.SplitHalves.{IsHalved}
 use Rattle.sound_changes.proofs.SplitCases.{edge_of_ends, ahead_by}
 use Rattle.sound_changes.proofs.Collinear.{on_line_of_ends}
 use Rattle.sound_changes.proofs.SplitDrawn.{points_parted, edges_parted}
-use Rattle.sound_changes.proofs.SplitHalves.{IsHalved}
 use Rattle.sound_changes.proofs.PointInside.{inside_out}
 use Rattle.sound_changes.proofs.KnownNames.{point_known, edge_known, points_proper, points_ascend, edges_ascend}
 use Rattle.sound_changes.proofs.SplitEdge.{IsFollowed, IsCut, parted_sound}
@@ -152,7 +152,7 @@ module _ (v : View) (d : DartId) (w : VertexId) (p : Point) (n m : DartId) (s : 
   next_2 : (k : DartId) → HasDart v k → k ≢ d → next_in h k ≡ next_in v2 k
   next_2 k o nd = (x5.others k nd).next ∙ x4.next k ∙ (x3.others k (not_n k o) (not_m k o)).next
 
-  followed : IsFollowed v h d t n m
+  pub followed : IsFollowed v h d t n m
   followed = record {
     after_t = x5.next (x4.has d (has_3 d c.dart));
     after_n = (x5.others m (λ q. not_m d c.dart (sym q))).next ∙ x4.next m ∙ x3.second.next;

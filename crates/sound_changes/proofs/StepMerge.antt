@@ -13,7 +13,8 @@ use Rattle.slab_laws.specs.declared.names.VertexId.{VertexId}
 use Rattle.slab_laws.specs.Sound.{IsNamed, IsGraphSound}
 use Rattle.slab_laws.specs.View.{View, HasVertex, HasDart, point_in, pinned_in, source_in, twin_in, target_in}
 use Rattle.sound_changes.specs.ChangeFits.{FitsMerge}
-use Rattle.sound_changes.proofs.SplitHalves.{IsHalved, not_n}
+use Rattle.sound_changes.specs.SplitHalves.{IsHalved}
+use Rattle.sound_changes.proofs.SplitHalves.{not_n}
 use Rattle.edit_steps.specs.Steps.{MergeEdge as MergeEdgeAt, merged_marks, marks_across, apply}
 use Rattle.arr_notes.specs.declared.change.Change.TheVariants.{MergeEdge}
 use Rattle.arr_notes.specs.Curves.{Curves, AreCurvesOf, step_curves}

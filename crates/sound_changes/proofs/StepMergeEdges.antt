@@ -14,7 +14,7 @@ use Rattle.arr_notes.proofs.PairReads.{pair_is_removed, names_stay}
 use Rattle.arr_notes.proofs.VertexReads.{vertex_is_removed}
 use Rattle.arr_notes.specs.Step.{merge_edge}
 use Rattle.sound_changes.specs.ChangeFits.{FitsMerge}
-use Rattle.sound_changes.proofs.SplitHalves.{IsHalved}
+use Rattle.sound_changes.specs.SplitHalves.{IsHalved}
 use Rattle.sound_changes.proofs.MergedEdge.{twinned_back, sourced_back}
 use Rattle.sound_changes.proofs.Splits.{then_vertex}
 use Rattle.sound_changes.proofs.StepSplitEdge.{IsPartedAt}

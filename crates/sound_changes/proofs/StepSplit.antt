@@ -14,7 +14,8 @@ use Rattle.slab_laws.specs.Sound.{IsNamed, IsGraphSound}
 use Rattle.slab_laws.specs.View.{View, HasDart, point_in, source_in, twin_in, target_in}
 use Rattle.arr_notes.proofs.PairReads.{names_stay}
 use Rattle.sound_changes.specs.ChangeFits.{IsNewVertex, FitsSplit}
-use Rattle.sound_changes.proofs.SplitHalves.{IsHalved, not_n}
+use Rattle.sound_changes.specs.SplitHalves.{IsHalved}
+use Rattle.sound_changes.proofs.SplitHalves.{not_n}
 use Rattle.sound_changes.proofs.Splits.{halved, at_w, cut}
 use Rattle.edit_steps.specs.Steps.{SplitEdge as SplitEdgeAt, halves, apply}
 use Rattle.arr_notes.specs.declared.change.Change.TheVariants.{SplitEdge}

@@ -11,7 +11,8 @@ use Rattle.slab_laws.specs.declared.names.DartId.{DartId}
 use Rattle.slab_laws.specs.declared.names.VertexId.{VertexId}
 use Rattle.slab_laws.specs.Sound.{IsNamed, IsTwinned}
 use Rattle.slab_laws.specs.View.{View, HasVertex, HasDart, point_in, source_in, twin_in, target_in}
-use Rattle.sound_changes.proofs.SplitHalves.{IsHalved, three}
+use Rattle.sound_changes.specs.SplitHalves.{IsHalved}
+use Rattle.sound_changes.proofs.SplitHalves.{three}
 use Rattle.sound_changes.proofs.SplitHalves as halves
 use Rattle.arr_notes.specs.Curves.{Curves, AreCurvesOf, IsForward, is_forward}
 use Rattle.arr_notes.proofs.Names.{cases_dart}

@@ -2,6 +2,7 @@ pub mod EdgePlaces
 pub mod NextLaws
 pub mod EdgeLaws
 pub mod ChangeFits
+pub mod SplitHalves
 pub mod SplitLaws
 pub mod StepOfChange
 pub mod StepLaws
