@@ -16,7 +16,8 @@ use Rattle.slab_faces.proofs.Member.{Member, member_in, in_member, map_in, map_o
 use Rattle.slab_faces.proofs.ClassesLemmas.{IsExact, IsEquivalence, along_link, connected}
 use Rattle.slab_faces.proofs.NextLemmas.{darts_exact}
 use Rattle.sound_views.proofs.NamedDarts.{names_are_darts, dart_name, named_dart}
-use Rattle.face_changes.specs.CycleNames.{same_name, lower_name, dart_names, name_links, cycle_label, NamesTellCycles}
+use Rattle.arr_notes.specs.CycleNames.{same_name, lower_name, dart_names, name_links, cycle_label}
+use Rattle.face_changes.specs.CycleNames.{NamesTellCycles}
 use Rattle.face_changes.proofs.OrbitSplices.{told}
 use Rattle.face_changes.proofs.LinkedCycles.{labelled}
 

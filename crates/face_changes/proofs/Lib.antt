@@ -16,7 +16,6 @@ pub mod NewWall
 pub mod OneMoreVertex
 pub mod RecordsAfterSplits
 pub mod EdgeSplit
-pub mod AddedWithinACycle
 pub mod CycleNames
 pub mod SoundExamples
 pub mod Examples

@@ -296,17 +296,17 @@ module _ (v w : View) (f s : Faces) (x y a : DartId) (fresh : CycleId) (fresh_fa
     moved : (i : Item) (t : HasItem w i) → name (i, t) ≡ face_in f (cycle_in f a) → odd_at h X (cell_at w i) ≡ true → name_at s i ≡ fresh_face
     moved outside t e b = absurd (far e b)
     moved (beside k) t e b = dart_moved k t (sort k t) e b
-    moved (round u) t e b = p.bare_moved u (l.vertices u t.0).0 e b
+    moved (round u) t e b = p.bare_moved u ((l.vertices u t.0).0, l.bare u t.0 t.1) e b
 
     left : (i : Item) (t : HasItem w i) → name (i, t) ≡ face_in f (cycle_in f a) → (odd_at h X (cell_at w i) ≡ true → ⊥) → name_at s i ≡ face_in f (cycle_in f a)
     left outside t e b = p.first_stays ∙ e
     left (beside k) t e b = dart_left k t (sort k t) e b
-    left (round u) t e b = p.bare_left u (l.vertices u t.0).0 e b
+    left (round u) t e b = p.bare_left u ((l.vertices u t.0).0, l.bare u t.0 t.1) e b
 
     others : (i : Item) (t : HasItem w i) → (name (i, t) ≡ face_in f (cycle_in f a) → ⊥) → name_at s i ≡ name (i, t)
     others outside t e = p.first_stays
     others (beside k) t e = dart_off k t (sort k t) e
-    others (round u) t e = p.bare_off u (l.vertices u t.0).0 e
+    others (round u) t e = p.bare_off u ((l.vertices u t.0).0, l.bare u t.0 t.1) e
 
     is_moved : AreNamesParted h X new_cell name next (name place) fresh_face
     is_moved = record {

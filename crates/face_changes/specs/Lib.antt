@@ -6,6 +6,5 @@ pub mod FacesByPairs
 pub mod OneMoreVertex
 pub mod RecordsAfterSplits
 pub mod EdgeSplit
-pub mod AddedWithinACycle
 pub mod CycleNames
 pub mod SoundExamples

@@ -11,7 +11,7 @@ use Rattle.slab_laws.specs.Sound.{skeleton_of, dart_in, IsGraphSound}
 use Rattle.slab_laws.specs.View.{View, Faces, HasVertex, HasDart, HasCycle, HasFace, IsOutOf, point_in, cycle_in, kind_in, face_in, bare_face_in}
 use Rattle.face_changes.specs.Kinds.{odd_at, is_outer}
 use Rattle.face_changes.specs.OneMoreEdge.{IsOneMoreEdge, PartsCycle}
-use Rattle.face_changes.specs.FacesByPairs.{Item, beside, round, cell_at, first_or, AreFacesTold}
+use Rattle.face_changes.specs.FacesByPairs.{Item, beside, round, HasItem, cell_at, first_or, AreFacesTold}
 
 -- w has two more darts than v: x, the dart of the fresh cycle, and y, its twin; x comes after the dart a, and the edge parts the cycle of a
 pub record IsLinkedWithin (v w : View) (x y a : DartId) : Type 0 where
@@ -52,9 +52,9 @@ pub record IsSplitInto (v w : View) (f s : Faces) (x y a : DartId) (fresh : Cycl
   pub moved : (k : DartId) → HasDart v k → cycle_in f k ≢ cycle_in f a → face_in f (cycle_in f k) ≡ face_in f (cycle_in f a) → IsWithin w x (beside k) → face_in s (cycle_in f k) ≡ fresh_face
   pub left : (k : DartId) → HasDart v k → cycle_in f k ≢ cycle_in f a → face_in f (cycle_in f k) ≡ face_in f (cycle_in f a) → ¬ IsWithin w x (beside k) → face_in s (cycle_in f k) ≡ face_in f (cycle_in f a)
   pub off : (k : DartId) → HasDart v k → face_in f (cycle_in f k) ≢ face_in f (cycle_in f a) → face_in s (cycle_in f k) ≡ face_in f (cycle_in f k)
-  pub bare_moved : (u : VertexId) → HasVertex v u → bare_face_in f u ≡ face_in f (cycle_in f a) → IsWithin w x (round u) → bare_face_in s u ≡ fresh_face
-  pub bare_left : (u : VertexId) → HasVertex v u → bare_face_in f u ≡ face_in f (cycle_in f a) → ¬ IsWithin w x (round u) → bare_face_in s u ≡ face_in f (cycle_in f a)
-  pub bare_off : (u : VertexId) → HasVertex v u → bare_face_in f u ≢ face_in f (cycle_in f a) → bare_face_in s u ≡ bare_face_in f u
+  pub bare_moved : (u : VertexId) → HasItem v (round u) → bare_face_in f u ≡ face_in f (cycle_in f a) → IsWithin w x (round u) → bare_face_in s u ≡ fresh_face
+  pub bare_left : (u : VertexId) → HasItem v (round u) → bare_face_in f u ≡ face_in f (cycle_in f a) → ¬ IsWithin w x (round u) → bare_face_in s u ≡ face_in f (cycle_in f a)
+  pub bare_off : (u : VertexId) → HasItem v (round u) → bare_face_in f u ≢ face_in f (cycle_in f a) → bare_face_in s u ≡ bare_face_in f u
 
 -- so cycles and faces are told again; the half of x must be outer
 pub record RecordsAfterSplits : Type 0 where

@@ -16,7 +16,6 @@ ghost use Rattle.face_changes.specs.FaceNames.{FaceNamesStay, FaceNamesPart, Fac
 ghost use Rattle.face_changes.specs.FacesByPairs.{OuterCyclesFollow, FacesToldByPairs};
 ghost use Rattle.face_changes.specs.CycleNames.{NamesTellCycles};
 ghost use Rattle.face_changes.specs.RecordsAfterSplits.{RecordsAfterSplits};
-ghost use Rattle.face_changes.specs.AddedWithinACycle.{AddedWithinACycle};
 ghost use Rattle.face_changes.specs.SoundExamples.{ViewsThatAreSound};
 
 /// The darts of a cycle have one face on their left, and one kind, so that a kind may be read at any of them.
@@ -92,11 +91,6 @@ pub fn names_tell_cycles()
 /// Where one more edge parts a cycle, records that are written accordingly stand for cycles and faces again.
 pub fn records_after_splits()
     ensures { RecordsAfterSplits }
-{}
-
-/// `add_edge` between two places of one cycle is what the law of records after splits asks.
-pub fn added_within_a_cycle()
-    ensures { AddedWithinACycle }
 {}
 
 /// The empty plane with its one face is a sound view, and so is a triangle with its two.
