@@ -1,0 +1,17 @@
+pub mod Tabled
+pub mod EdgePairs
+pub mod OneFace
+pub mod TwoFaces
+pub mod VertexSteps
+pub mod SplitSteps
+pub mod SameGraph
+pub mod StepPremises
+pub mod StepLaws
+pub mod RecordsApart
+pub mod LinkLaws
+pub mod ChangeLaws
+pub mod Choices
+pub mod Within
+pub mod RowsWritten
+pub mod MapInSteps
+pub mod TriangleOpened
