@@ -1,6 +1,6 @@
 -- Names of darts, vertices and curves, told by their numbers.
-use Rattle.std.proofs.Common.{◌≡◌, ℕ, List, [], ◌∷◌, map, refl, ap, ◌≢◌, ◌⊎◌, inl, inr, Bool, true, sym, ◌∙◌}
-use Rattle.std.proofs.lemmas.Bool.{cases_eq, eqb-true}
+use Rattle.std.proofs.Common.{◌≡◌, ℕ, List, [], ◌∷◌, map, refl, ap, ◌≢◌, ◌⊎◌, inl, inr, Bool, true, false, sym, ◌∙◌}
+use Rattle.std.proofs.lemmas.Bool.{false≢true, cases_eq, eqb-true, eq-eqb}
 use Rattle.std.specs.Prelude.{◌==◌}
 use Rattle.slab_laws.specs.declared.names.CurveId.{CurveId}
 use Rattle.slab_laws.specs.declared.names.DartId.{DartId}
@@ -21,3 +21,6 @@ cases_vertex u w = elim (cases_eq u.0 w.0) [ inl q ↦ inl (ap vertex_id q) | in
 -- as the code compares names
 pub same_name : (d e : DartId) (b : Bool) → b ≡ (d.0 == e.0) → b ≡ true → d ≡ e
 same_name d e b i t = ap dart_id (eqb-true d.0 e.0 (sym i ∙ t))
+
+pub other_name : (d e : DartId) (b : Bool) → b ≡ (d.0 == e.0) → b ≡ false → d ≢ e
+other_name d e b i f q = false≢true (sym f ∙ i ∙ eq-eqb d.0 e.0 (ap (λ (x : DartId). x.0) q))

@@ -2,7 +2,7 @@
 use Rattle.std.proofs.Common.{◌≡◌, ℕ, zero, suc, ◌+◌, ◌-◌, ◌<◌, ◌≤◌, Bool, true, false, List, [], ◌∷◌, ◌++◌, refl, sym, ap, ◌∙◌, subst, append_assoc, arith}
 use Rattle.std.specs.Prelude.{flat_map, ◌==◌}
 use Rattle.std.specs.List.{position_or_len}
-use Rattle.std.proofs.lemmas.Bool.{false_from_ne_true, eq-eqb}
+use Rattle.std.proofs.lemmas.Bool.{false_from_ne_true}
 use Rattle.std.proofs.lemmas.List.{append-nil}
 use Rattle.exact_plane.specs.Point.{Point}
 use Rattle.exact_plane.specs.PointOrder.{point_cmp}
@@ -30,9 +30,6 @@ one_dart v d e h = subst (λ (x : DartId). same_dart (dart_in v d) (dart_in v x)
 
 pub two_darts : (v : View) → IsGraphSound v → (d e : DartId) → HasDart v d → HasDart v e → (d ≡ e → ⊥) → same_dart (dart_in v d) (dart_in v e) ≡ false
 two_darts v s d e hd he f = false_from_ne_true _ (λ h. f (s.turned.differ d e hd he (darts_exact.path (dart_in v d) (dart_in v e) h)))
-
-pub other_name : (d e : DartId) (b : Bool) → b ≡ (d.0 == e.0) → b ≡ false → d ≡ e → ⊥
-other_name d e b i f same = let t : (d.0 == e.0) ≡ true = eq-eqb d.0 e.0 (ap (λ (x : DartId). x.0) same) in cc
 
 -- the number of a vertex
 pub written_index : (v : View) (ps : List Point) (p q : Point) → ps ≡ (skeleton_of v).vertices → p ≡ q → number (position_or_len (same_point p) ps + 1) ≡ number (index (skeleton_of v) q)

@@ -1,2 +1,4 @@
 pub mod Sides
 pub mod Heights
+pub mod CellsBeside
+pub mod DartsAbove

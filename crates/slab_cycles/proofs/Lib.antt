@@ -10,6 +10,5 @@ pub mod NextPlaces
 pub mod LeadPlaces
 pub mod DartCells
 pub mod EdgeRows
-pub mod CellsBeside
 pub mod Oddness
 pub mod LeastDarts

@@ -1,4 +1,3 @@
 pub mod DartRows
 pub mod Turns
 pub mod Orbits
-pub mod CellsAbove

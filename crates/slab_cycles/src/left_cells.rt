@@ -5,7 +5,7 @@ ghost use Rattle.slab_laws.specs.Darts.{cell_of};
 ghost use Rattle.slab_laws.specs.SpansDrawn.{edge_of, drawn};
 ghost use Rattle.slab_laws.specs.Rows.{dart_at, dart_rows};
 ghost use Rattle.slab_laws.specs.Skeleton.{left_of, IsPlaneSkeleton};
-ghost use Rattle.slab_cycles.specs.CellsAbove.{is_beneath};
+ghost use Rattle.edge_predicates.specs.CellsAbove.{is_beneath};
 
 use edge_predicates::{cell_after, cell_before, is_below, is_slanted, reaches_right, slab_after};
 use exact_plane::{Point, Span};

@@ -4,7 +4,7 @@ ghost use Rattle.slab_laws.specs.Darts.{darts as all_darts};
 ghost use Rattle.slab_laws.specs.SpansDrawn.{edge_of, drawn};
 ghost use Rattle.slab_laws.specs.Rows.{dart_at, dart_rows, lead_places};
 ghost use Rattle.slab_laws.specs.Skeleton.{left_of, IsPlaneSkeleton};
-ghost use Rattle.slab_cycles.specs.CellsAbove.{above_by, is_above};
+ghost use Rattle.edge_predicates.specs.CellsAbove.{above_by, is_above};
 
 use edge_predicates::{is_below, is_over, is_slanted, reaches_left, reaches_right};
 use exact_plane::{Point, Span};

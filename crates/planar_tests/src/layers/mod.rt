@@ -2,7 +2,7 @@
 
 mod asked;
 mod calls;
-mod edits;
+pub mod edits;
 mod kept;
 mod places;
 mod rows;

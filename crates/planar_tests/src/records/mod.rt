@@ -1,4 +1,5 @@
-// The room that records ask for, and the smallest view.
+// The room that records ask for, the smallest view, and boundary cycles.
 
+mod cycles;
 mod room;
 mod triangles;

@@ -8,7 +8,8 @@ use Rattle.slab_laws.specs.Text.{number, index}
 use Rattle.slab_laws.specs.View.{HasDart, point_in}
 use Rattle.slab_laws.specs.Cycles.{trail}
 use Rattle.sound_views.proofs.NamedDarts.{names_are_darts}
-use Rattle.arr_text.proofs.Walks.{points_ascend, one_dart, two_darts, other_name, written_index, begun, walked, back_again, cut_off, trail_none, trail_on, trail_end}
+use Rattle.arr_notes.proofs.Names.{other_name}
+use Rattle.arr_text.proofs.Walks.{points_ascend, one_dart, two_darts, written_index, begun, walked, back_again, cut_off, trail_none, trail_on, trail_end}
 use Rattle.arr_text.proofs.rounds.put_trail.Goals as goal
 use Rattle.arr_notes.proofs.Names.{same_name}
 

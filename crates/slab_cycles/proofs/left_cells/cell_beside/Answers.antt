@@ -1,7 +1,7 @@
 use Rattle.std.proofs.Common.{sym, ap, ◌∙◌}
 use Rattle.slab_laws.specs.SpansDrawn.{drawn}
 use Rattle.slab_laws.specs.Slabs.{slab_right, left_cell, right_cell}
-use Rattle.slab_cycles.proofs.CellsBeside.{cell_above, cell_below, cell_left, cell_right}
+use Rattle.edge_predicates.proofs.CellsBeside.{cell_above, cell_below, cell_left, cell_right}
 use Rattle.slab_cycles.proofs.left_cells.cell_beside.Goals as goal
 
 pub returns-then-forward : goal.returns-then-forward

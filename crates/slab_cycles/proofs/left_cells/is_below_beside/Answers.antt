@@ -1,7 +1,7 @@
 use Rattle.std.proofs.Common.{sym, ◌∙◌, subst}
 use Rattle.slab_laws.specs.SpansDrawn.{edge_of}
 use Rattle.slab_laws.specs.Skeleton.{HasWeight}
-use Rattle.slab_cycles.proofs.CellsBeside.{reached_slants}
+use Rattle.edge_predicates.proofs.CellsBeside.{reached_slants}
 use Rattle.slab_cycles.proofs.left_cells.is_below_beside.Goals as goal
 
 pub is_below-requires-clause-own : goal.is_below-requires-clause-own

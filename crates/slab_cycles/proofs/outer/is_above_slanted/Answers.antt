@@ -1,7 +1,7 @@
 use Rattle.std.proofs.Common.{sym, ◌∙◌, subst}
 use Rattle.slab_laws.specs.SpansDrawn.{edge_of}
 use Rattle.slab_laws.specs.Skeleton.{HasWeight}
-use Rattle.slab_cycles.proofs.CellsBeside.{reached_slants}
+use Rattle.edge_predicates.proofs.CellsBeside.{reached_slants}
 use Rattle.slab_cycles.proofs.outer.is_above_slanted.Goals as goal
 
 pub is_below-requires-clause-others : goal.is_below-requires-clause-others

@@ -23,7 +23,7 @@ use Rattle.slab_faces.proofs.Order.{below_asym, gap-swap}
 use Rattle.slab_faces.proofs.Slabs.{IsSlab, through, by_gap, below_at, place_less}
 use Rattle.slab_faces.proofs.Nudge.{is_slab_right, right_inside}
 use Rattle.slab_faces.proofs.Turns.{on_own_wall}
-use Rattle.slab_cycles.specs.CellsAbove.{above_by, is_above}
+use Rattle.edge_predicates.specs.CellsAbove.{above_by, is_above}
 
 -- an edge that reaches a wall from its right isn't vertical
 pub reached_slants : (f : Edge) (t : Point) → HasWeight f.low → HasWeight t → HasWeight f.high → reaches_right f t ≡ true → left_of f.low f.high ≡ true
