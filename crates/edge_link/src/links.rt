@@ -2,9 +2,9 @@ ghost use Rattle.std.specs.Prelude.{◌≡◌, ◌⊎◌, ◌≤◌, Some, None,
 ghost use Rattle.slab_laws.specs.Sound.{IsGraphSound};
 ghost use Rattle.slab_laws.specs.View.{HasDart, twin_in};
 ghost use Rattle.dcel_records.specs.RecordsView.{IsSpare};
-ghost use Rattle.arr_notes.specs.Step.{step};
+ghost use Rattle.arr_notes.specs.Step.{add_edge, step};
 ghost use Rattle.arr_notes.specs.AfterAround.{after_in};
-ghost use Rattle.edge_link.specs.Links.{CanLink, CanLinkAtStart, CanLinkAtEnd, TellsOfLink, NamesNewDarts, AreKnown, led_by, led_to};
+ghost use Rattle.edge_link.specs.Links.{AreNewDarts, CanLink, CanLinkAtStart, CanLinkAtEnd, TellsOfLink, NamesNewDarts, AreKnown, led_by, led_to};
 
 use arr_notes::Change;
 use dcel_records::Records;
@@ -55,8 +55,48 @@ fn follow(records: &mut Records, dart: DartId, next: Option<DartId>)
     }
 }
 
-// One more edge from `u` to `v`, each bare or with the dart after which the new one comes clockwise.
-fn link(
+/// The darts of an edge that came: `d` goes from its first vertex to its second, and `m` is its twin.
+#[derive(Clone, Copy)]
+pub struct LinkNames {
+    pub d: DartId,
+    pub m: DartId,
+}
+
+/// One more edge from `u` to `v`, at each directly after the dart `at_u` or `at_v` clockwise, or, where the vertex is bare, after
+/// `None`; the names of its darts (CGAL manual, `insert_at_vertices`).
+pub fn link(
+    records: &mut Records,
+    u: VertexId,
+    v: VertexId,
+    at_u: Option<DartId>,
+    at_v: Option<DartId>,
+    line: Line,
+) -> LinkNames
+    requires sound { IsGraphSound records.old.graph }
+    requires room { 2 ≤ records.old.spare_darts }
+    requires fits { CanLink records.old.graph u v at_u at_v line }
+    ensures new_darts { AreNewDarts records.old.graph result.d result.m }
+    ensures graph { records.new.graph ≡ add_edge records.old.graph result.d result.m u v at_u at_v line }
+    ensures sound { IsGraphSound records.new.graph }
+    ensures spare { IsSpare records.new records.old 0 2 }
+{
+    // A call on the line tells that its numbers are a line's.
+    let _vertical = line.is_vertical();
+    // Both places are read before anything is written, since the new darts change what follows there.
+    let behind_u = behind(records, at_u);
+    let behind_v = behind(records, at_v);
+    let ahead_u = ahead(records, at_u);
+    let ahead_v = ahead(records, at_v);
+    let (d, m) = records.add_pair(u, v, line);
+    follow(records, d, ahead_v);
+    follow(records, m, ahead_u);
+    lead(records, behind_u, d);
+    lead(records, behind_v, m);
+    LinkNames { d, m }
+}
+
+// A link, told by its change.
+fn told_link(
     records: &mut Records,
     u: VertexId,
     v: VertexId,
@@ -74,21 +114,10 @@ fn link(
     ensures sound { IsGraphSound records.new.graph }
     ensures spare { IsSpare records.new records.old 0 2 }
 {
-    // A call on the line tells that its numbers are a line's.
-    let _vertical = line.is_vertical();
-    // Both places are read before anything is written, since the new darts change what follows there.
-    let behind_u = behind(records, at_u);
-    let behind_v = behind(records, at_v);
-    let ahead_u = ahead(records, at_u);
-    let ahead_v = ahead(records, at_v);
-    let (d, m) = records.add_pair(u, v, line);
-    follow(records, d, ahead_v);
-    follow(records, m, ahead_u);
-    lead(records, behind_u, d);
-    lead(records, behind_v, m);
+    let new = link(records, u, v, at_u, at_v, line);
     Change::AddEdge {
-        d,
-        m,
+        d: new.d,
+        m: new.m,
         u,
         v,
         at_u,
@@ -115,7 +144,7 @@ pub fn link_in_face(
     ensures sound { IsGraphSound records.new.graph }
     ensures spare { IsSpare records.new records.old 0 2 }
 {
-    link(records, u, v, None, None, line, curve)
+    told_link(records, u, v, None, None, line, curve)
 }
 
 /// One more edge between two vertices of which one is bare: at the other it comes directly after `at` clockwise.
@@ -138,9 +167,9 @@ pub fn link_at_one(
     ensures spare { IsSpare records.new records.old 0 2 }
 {
     if records.source(at) == u {
-        link(records, u, v, Some(at), None, line, curve)
+        told_link(records, u, v, Some(at), None, line, curve)
     } else {
-        link(records, u, v, None, Some(at), line, curve)
+        told_link(records, u, v, None, Some(at), line, curve)
     }
 }
 
@@ -163,5 +192,5 @@ pub fn link_at_two(
     ensures sound { IsGraphSound records.new.graph }
     ensures spare { IsSpare records.new records.old 0 2 }
 {
-    link(records, u, v, Some(at_u), Some(at_v), line, curve)
+    told_link(records, u, v, Some(at_u), Some(at_v), line, curve)
 }

@@ -1,7 +1,7 @@
 ghost use Rattle.std.specs.Prelude.{◌≡◌};
 ghost use Rattle.slab_laws.specs.Sound.{IsGraphSound};
 ghost use Rattle.dcel_records.specs.RecordsView.{IsSpare};
-ghost use Rattle.arr_notes.specs.Step.{step};
+ghost use Rattle.arr_notes.specs.Step.{merge_edge, step};
 ghost use Rattle.sound_changes.specs.ChangeFits.{FitsMerge};
 ghost use Rattle.edge_split_merge.specs.Merges.{CanMerge, TellsOfMerge};
 
@@ -32,13 +32,21 @@ fn meeting(records: &Records, v: VertexId) -> (DartId, DartId)
     }
 }
 
-/// The two edges that end at the vertex become one, and the vertex goes: the edge from the lower end keeps its darts (CGAL
-/// manual, `merge_edge`).
-pub fn merge(records: &mut Records, v: VertexId) -> Change
+/// The names of a merge: the dart that came into the vertex from the lower end, which has the whole edge now, and the dart that
+/// went on from there, which went.
+#[derive(Clone, Copy)]
+pub struct MergeNames {
+    pub d: DartId,
+    pub n: DartId,
+}
+
+/// The two edges that end at the vertex become one, and the vertex goes: the edge from the lower end keeps its darts; the names
+/// of both edges' darts (CGAL manual, `merge_edge`).
+pub fn merge_at(records: &mut Records, v: VertexId) -> MergeNames
     requires sound { IsGraphSound records.old.graph }
     requires fits { CanMerge records.old.graph v }
-    ensures change { TellsOfMerge records.old.graph result v }
-    ensures graph { records.new.graph ≡ step records.old.graph result }
+    ensures met { FitsMerge records.old.graph v result.d result.n }
+    ensures graph { records.new.graph ≡ merge_edge records.old.graph v result.d result.n }
     ensures sound { IsGraphSound records.new.graph }
     ensures spare { IsSpare records.old records.new 1 2 }
 {
@@ -56,5 +64,23 @@ pub fn merge(records: &mut Records, v: VertexId) -> Change
     records.set_next(d, beyond);
     records.remove_pair(n, None, Some(t));
     records.remove_vertex(v);
-    Change::MergeEdge { v, d, n }
+    MergeNames { d, n }
+}
+
+/// The two edges that end at the vertex become one, and the vertex goes: the edge from the lower end keeps its darts (CGAL
+/// manual, `merge_edge`).
+pub fn merge(records: &mut Records, v: VertexId) -> Change
+    requires sound { IsGraphSound records.old.graph }
+    requires fits { CanMerge records.old.graph v }
+    ensures change { TellsOfMerge records.old.graph result v }
+    ensures graph { records.new.graph ≡ step records.old.graph result }
+    ensures sound { IsGraphSound records.new.graph }
+    ensures spare { IsSpare records.old records.new 1 2 }
+{
+    let met = merge_at(records, v);
+    Change::MergeEdge {
+        v,
+        d: met.d,
+        n: met.n,
+    }
 }

@@ -1,14 +1,14 @@
 ghost use Rattle.std.specs.Prelude.{◌≡◌, ◌≤◌, ◌==◌, cond};
 ghost use Rattle.slab_laws.specs.Sound.{IsGraphSound};
 ghost use Rattle.dcel_records.specs.RecordsView.{IsSpare};
-ghost use Rattle.arr_notes.specs.Step.{step};
-ghost use Rattle.edge_split_merge.specs.Splits.{CanSplit, TellsOfSplit, NamesNewPlace};
+ghost use Rattle.arr_notes.specs.Step.{split_edge, step};
+ghost use Rattle.edge_split_merge.specs.Splits.{CanSplit, IsNewPlace, TellsOfSplit, NamesNewPlace};
 
 use arr_notes::Change;
 use dcel_records::Records;
 use exact_plane::Point;
 use rotation_order::previous_around_source;
-use slab_laws::{DartId, Darts};
+use slab_laws::{DartId, Darts, VertexId};
 
 // What follows a dart that ends where another did: what followed that one, or, where this was its twin, the twin's new name.
 pub(crate) fn onward(follower: DartId, twin: DartId, new_twin: DartId) -> DartId
@@ -17,16 +17,23 @@ pub(crate) fn onward(follower: DartId, twin: DartId, new_twin: DartId) -> DartId
     if follower == twin { new_twin } else { follower }
 }
 
+/// The names of a split: the vertex that came, and the darts of the upper part, `n` from there to the upper end and its twin `m`.
+#[derive(Clone, Copy)]
+pub struct SplitNames {
+    pub v: VertexId,
+    pub n: DartId,
+    pub m: DartId,
+}
+
 /// The edge of the dart, which goes from its lower to its upper end, is split at a new vertex at the point: the dart and
-/// its twin keep the lower part (CGAL manual, `split_edge`).
-pub fn split(records: &mut Records, d: DartId, p: Point) -> Change
+/// its twin keep the lower part; the names of what came (CGAL manual, `split_edge`).
+pub fn split_at(records: &mut Records, d: DartId, p: Point) -> SplitNames
     requires sound { IsGraphSound records.old.graph }
     requires fits { CanSplit records.old.graph d p }
     requires vertices { 1 ≤ records.old.spare_vertices }
     requires darts { 2 ≤ records.old.spare_darts }
-    ensures change { TellsOfSplit result d p }
-    ensures new_names { NamesNewPlace records.old.graph result }
-    ensures graph { records.new.graph ≡ step records.old.graph result }
+    ensures new_names { IsNewPlace records.old.graph result.v result.n result.m }
+    ensures graph { records.new.graph ≡ split_edge records.old.graph d result.v p result.n result.m }
     ensures sound { IsGraphSound records.new.graph }
     ensures spare { IsSpare records.new records.old 1 2 }
 {
@@ -47,5 +54,28 @@ pub fn split(records: &mut Records, d: DartId, p: Point) -> Change
     records.set_next(m, t);
     records.move_source(t, v, m);
     records.set_next(d, n);
-    Change::SplitEdge { d, v, p, n, m }
+    SplitNames { v, n, m }
+}
+
+/// The edge of the dart, which goes from its lower to its upper end, is split at a new vertex at the point: the dart and
+/// its twin keep the lower part (CGAL manual, `split_edge`).
+pub fn split(records: &mut Records, d: DartId, p: Point) -> Change
+    requires sound { IsGraphSound records.old.graph }
+    requires fits { CanSplit records.old.graph d p }
+    requires vertices { 1 ≤ records.old.spare_vertices }
+    requires darts { 2 ≤ records.old.spare_darts }
+    ensures change { TellsOfSplit result d p }
+    ensures new_names { NamesNewPlace records.old.graph result }
+    ensures graph { records.new.graph ≡ step records.old.graph result }
+    ensures sound { IsGraphSound records.new.graph }
+    ensures spare { IsSpare records.new records.old 1 2 }
+{
+    let new = split_at(records, d, p);
+    Change::SplitEdge {
+        d,
+        v: new.v,
+        p,
+        n: new.n,
+        m: new.m,
+    }
 }

@@ -3,7 +3,7 @@ ghost use Rattle.slab_laws.specs.Sound.{IsGraphSound};
 ghost use Rattle.slab_laws.specs.View.{HasDart, twin_in};
 ghost use Rattle.dcel_records.specs.RecordsView.{IsSpare};
 ghost use Rattle.arr_notes.specs.declared.change.Change.TheVariants.{RemoveEdge};
-ghost use Rattle.arr_notes.specs.Step.{step};
+ghost use Rattle.arr_notes.specs.Step.{remove_edge, step};
 
 use crate::rounds::rest_of;
 use arr_notes::Change;
@@ -11,12 +11,13 @@ use dcel_records::Records;
 use rotation_order::previous_around_source;
 use slab_laws::{DartId, Darts};
 
-/// The edge of the dart goes, and the darts round both its ends close up (CGAL manual, `remove_edge`).
-pub fn unlink(records: &mut Records, d: DartId) -> Change
+/// The edge of the dart goes, and the darts round both its ends close up; the name that its twin had (CGAL manual,
+/// `remove_edge`).
+pub fn unlink_edge(records: &mut Records, d: DartId) -> DartId
     requires sound { IsGraphSound records.old.graph }
     requires dart { HasDart records.old.graph d }
-    ensures change { result ≡ RemoveEdge d (twin_in records.old.graph d) }
-    ensures graph { records.new.graph ≡ step records.old.graph result }
+    ensures twin { result ≡ twin_in records.old.graph d }
+    ensures graph { records.new.graph ≡ remove_edge records.old.graph d result }
     ensures sound { IsGraphSound records.new.graph }
     ensures spare { IsSpare records.old records.new 0 2 }
 {
@@ -33,5 +34,18 @@ pub fn unlink(records: &mut Records, d: DartId) -> Change
     records.set_next(into_d, after_d);
     records.set_next(into_m, after_m);
     records.remove_pair(d, rest_d, rest_m);
+    m
+}
+
+/// The edge of the dart goes, and the darts round both its ends close up (CGAL manual, `remove_edge`).
+pub fn unlink(records: &mut Records, d: DartId) -> Change
+    requires sound { IsGraphSound records.old.graph }
+    requires dart { HasDart records.old.graph d }
+    ensures change { result ≡ RemoveEdge d (twin_in records.old.graph d) }
+    ensures graph { records.new.graph ≡ step records.old.graph result }
+    ensures sound { IsGraphSound records.new.graph }
+    ensures spare { IsSpare records.old records.new 0 2 }
+{
+    let m = unlink_edge(records, d);
     Change::RemoveEdge { d, m }
 }

@@ -1,7 +1,9 @@
 //! One edge fewer in the records of a doubly-connected edge list.
+//!
+//! `unlink_edge` answers the name that goes with the dart's; `unlink` tells both by a change.
 #![tactic(auto)]
 
 mod edges;
 mod rounds;
 
-pub use edges::unlink;
+pub use edges::{unlink, unlink_edge};

@@ -1,5 +1,5 @@
 -- What a spot tells of the graph that the records draw: whether its point is pinned, and by which step it becomes a vertex.
-use Rattle.std.proofs.Common.{◌≡◌, ◌≢◌, Bool, true, false, not, cond, [], ◌∷◌, refl, sym, ap, ap₂, ◌∙◌, subst, inl, inr}
+use Rattle.std.proofs.Common.{◌≡◌, ◌≢◌, ◌≤◌, arith, Bool, true, false, not, cond, [], ◌∷◌, refl, sym, ap, ap₂, ◌∙◌, subst, inl, inr}
 use Rattle.std.specs.List.{list_any}
 use Rattle.exact_plane.specs.Point.{Point}
 use Rattle.plane_graphs.specs.Ascending.{Member}
@@ -8,6 +8,7 @@ use Rattle.plane_graphs.specs.Line.{IsProper, precedes, same_point}
 use Rattle.plane_graphs.proofs.Closed.{inside_in as inside_mark_in, inside_out as inside_mark_out}
 use Rattle.plane_graphs.proofs.Lists.{and_in, any_in, any_out, both_ways, clash, not_in}
 use Rattle.plane_graphs.proofs.Order.{Lt, lt_out, lt_never, lt_both, same_in, same_out}
+use Rattle.edit_steps.specs.Allowed.{AreSound}
 use Rattle.edit_steps.specs.Steps.{AddVertex as AddVertexAt, SplitEdge as SplitEdgeAt, vertex_step_by, vertex_steps, missing_points}
 use Rattle.edit_steps.proofs.Split.{step_is}
 use Rattle.slab_laws.specs.declared.names.DartId.{DartId}
@@ -27,7 +28,8 @@ use Rattle.arr_notes.specs.RecordGraph.{drawn_graph}
 use Rattle.sound_views.specs.RecordGraphLaws.{IsMarkOf}
 use Rattle.sound_views.proofs.GraphDrawn.{graphs_are_plane}
 use Rattle.sound_changes.proofs.StepHolds.{held_mark, point_held, held_point, pin_held, held_pin}
-use Rattle.pin_points.specs.Pins.{is_pinned_spot, new_vertex_steps}
+use Rattle.told_steps.specs.VertexMade.{IsPlaneWith, darts_at, steps_at_spot, vertices_at}
+use Rattle.pin_points.specs.Pins.{MayBecomeVertex, is_pinned_spot, new_vertex_steps}
 use Rattle.redundant_vertices.proofs.Passed.{flat_in, flat_out, mark_there}
 use Rattle.integers.proofs.Tests.{not_true}
 
@@ -129,7 +131,7 @@ module _ (v : View) (h : Curves) (s : IsGraphSound v) (a : AreCurvesOf v h) (p :
   not_there none m = let w = held_point v s.named h p m in none w.0 w.1.has w.1.at
 
   -- the spot is inside an edge, in a face, a vertex
-  pub at_edge : (d : DartId) → IsSpotOf v p (InEdge d) → new_vertex_steps p g ≡ SplitEdgeAt (point_in v (source_in v d)) (point_in v (target_in v d)) p ∷ []
+  at_edge : (d : DartId) → IsSpotOf v p (InEdge d) → new_vertex_steps p g ≡ SplitEdgeAt (point_in v (source_in v d)) (point_in v (target_in v d)) p ∷ []
   at_edge d o =
       let m = mark_there v h s a d (o.0, o.1) in
       let i = mark_inside m.0 d m.2 o.2 in
@@ -138,12 +140,34 @@ module _ (v : View) (h : Curves) (s : IsGraphSound v) (a : AreCurvesOf v h) (p :
         | inr n ↦ absurd (n.0 m.0 m.1 i)
       ])
 
-  pub at_face : IsInFace v p → new_vertex_steps p g ≡ AddVertexAt p ∷ []
+  at_face : IsInFace v p → new_vertex_steps p g ≡ AddVertexAt p ∷ []
   at_face f =
       one_missing p g (not_there f.no_vertex) ∙ ap (λ z. z ∷ []) (elim (step_is p g.marks) [
         | inl n ↦ let d = held_mark v s.named h n.0 n.1 in clash (inside_edge n.0 d.0 d.1 n.2) (f.no_edge d.0 d.1.forward.0)
         | inr n ↦ n.1
       ])
 
-  pub at_vertex : (w : VertexId) → IsSpotOf v p (Vertex w) → new_vertex_steps p g ≡ []
+  at_vertex : (w : VertexId) → IsSpotOf v p (Vertex w) → new_vertex_steps p g ≡ []
   at_vertex w o = none_missing p g (subst (λ z. Member z g.points) o.1 (point_held v s.named h w o.0))
+
+  pub at_spot : (at : Spot) → IsSpotOf v p at → new_vertex_steps p g ≡ steps_at_spot v p at
+  at_spot (Vertex w) o = at_vertex w o
+  at_spot (InEdge d) o = at_edge d o
+  at_spot Face o = at_face o
+
+  -- where its step is sound, the graph is plane with it
+  pub plane_with : (at : Spot) → IsSpotOf v p at → MayBecomeVertex p g → IsPlaneWith v h p at
+  plane_with (Vertex w) o may = tt
+  plane_with (InEdge d) o may = tt
+  plane_with Face o may = (subst (λ ss. AreSound ss g) (at_face o) may).0.plane
+
+-- ---- room at a spot
+pub one_vertex : (at : Spot) → vertices_at at ≤ 1
+one_vertex (Vertex w) = omega arith
+one_vertex (InEdge d) = omega arith
+one_vertex Face = omega arith
+
+pub two_darts : (at : Spot) → darts_at at ≤ 2
+two_darts (Vertex w) = omega arith
+two_darts (InEdge d) = omega arith
+two_darts Face = omega arith

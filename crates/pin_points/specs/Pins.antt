@@ -1,5 +1,5 @@
 -- Which refusals the errors of pins stand for, and what a pin makes of its spot.
-use Rattle.std.specs.Prelude.{◌≤◌, ℕ, List, [], ◌∷◌, Bool, false, length, Option, Some, None}
+use Rattle.std.specs.Prelude.{◌≤◌, ℕ, List, [], ◌∷◌, Bool, false, Option, Some, None}
 use Rattle.exact_plane.specs.Point.{Point}
 use Rattle.plane_graphs.specs.Graph.{Graph}
 use Rattle.edit_steps.specs.Refusals.{Refusal, Full as Passed, Pinned as Again, NotPinned as Bare}
@@ -9,11 +9,12 @@ use Rattle.slab_laws.specs.View.{View, pinned_in}
 use Rattle.arr_notes.specs.Curves.{Curves}
 use Rattle.dcel_records.specs.RecordsView.{RecordsView}
 use Rattle.dcel_records.specs.declared.spot.Spot.{Spot}
-use Rattle.dcel_records.specs.declared.spot.Spot.TheVariants.{Vertex, Edge}
+use Rattle.dcel_records.specs.declared.spot.Spot.TheVariants.{Vertex}
 use Rattle.curve_history.specs.Past.{Past, curves_on}
 use Rattle.arr_notes.specs.RecordGraph.{drawn_graph}
 use Rattle.observer_bus.specs.Rounds.{BusRow}
 use Rattle.told_steps.specs.ToldRuns.{IsToldRun}
+use Rattle.told_steps.specs.VertexMade.{pairs_at}
 use Rattle.pin_points.specs.declared.pins.PinError.{PinError}
 use Rattle.pin_points.specs.declared.pins.PinError.TheVariants.{Pinned, Full, NoMemory}
 use Rattle.pin_points.specs.declared.pins.NotPinned.{NotPinned}
@@ -35,8 +36,7 @@ is_pinned_spot v other = false
 
 -- how many curves run along the edge that the spot is in (this project)
 abbrev pub pairs_parted : Past → Spot → ℕ
-pairs_parted p (Edge d) = length (curves_on p d)
-pairs_parted p other = 0
+pairs_parted p at = pairs_at (curves_on p) at
 
 -- without memory there is room for a vertex at the spot, and for the edge that it parts (this project)
 pub record HasRoomFor (at : Spot) (r : RecordsView) (p : Past) : Type 0 where

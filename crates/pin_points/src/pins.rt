@@ -1,18 +1,14 @@
-ghost use Rattle.std.specs.Prelude.{◌≡◌, ◌≢◌, ◌≤◌, length, nat_le, Err, IsOk, OnOk, OnErr};
+ghost use Rattle.std.specs.Prelude.{◌≡◌, ◌≢◌, length, nat_le, Err, IsOk, OnOk, OnErr};
 ghost use Rattle.std.specs.List.{filter};
-ghost use Rattle.plane_graphs.specs.Line.{IsProper};
 ghost use Rattle.edit_steps.specs.Edits.{Pin, Unpin};
 ghost use Rattle.edit_steps.specs.Refusals.{pin_refusal, unpin_refusal, IsAnswerFor};
 ghost use Rattle.dcel_records.specs.RecordsView.{SameRecordCapacity};
 ghost use Rattle.dcel_records.specs.Spots.{IsSpotOf};
-ghost use Rattle.arr_notes.specs.RecordGraph.{drawn_graph};
-ghost use Rattle.sound_views.specs.RecordGraphLaws.{IsVertexAt};
-ghost use Rattle.curve_history.specs.Past.{curves_on, SameLayer, SameCurves, SameHistoryCapacity};
+ghost use Rattle.curve_history.specs.Past.{SameLayer, SameCurves, SameHistoryCapacity};
 ghost use Rattle.record_layers.specs.RecordLayers.{IsLayer};
-ghost use Rattle.pin_points.specs.Pins.{pin_said, unpin_said, is_pinned_spot, pairs_parted, HasRoomFor, MayBecomeVertex, HasBecomeVertex};
+ghost use Rattle.pin_points.specs.Pins.{pin_said, unpin_said, is_pinned_spot, pairs_parted, HasRoomFor};
 ghost use Rattle.observer_bus.specs.Rows.{bus_row};
 ghost use Rattle.told_steps.specs.ToldEdits.{AreWatched, IsToldEdit};
-ghost use Rattle.told_steps.specs.ToldRuns.{AreInStep};
 ghost use Rattle.record_layers.specs.LayerEdits.{layer_at, IsAfter};
 
 use curve_history::History;
@@ -22,10 +18,10 @@ use locate_naive::vertex_at;
 use no_memory::NoMemory;
 use observer_bus::Bus;
 use redundant_vertices::remove_if_redundant;
-use slab_laws::{Darts, VertexId};
+use slab_laws::Darts;
 use std::alloc::Global;
 use thiserror::Error;
-use told_steps::{add_vertex, clear_pin, set_pin, split_edge};
+use told_steps::{clear_pin, make_vertex, set_pin};
 
 /// Why a point isn't pinned.
 #[derive(Clone, Copy, Debug, PartialEq, Eq, Error)]
@@ -102,34 +98,6 @@ pub(crate) fn make_room(
     })?;
     let pairs = count_parted(&*history, at);
     history.reserve(0, 0, pairs)
-}
-
-// The point becomes a vertex where it is none, in room that is there, by a told step.
-fn make_vertex(
-    alloc: Global,
-    records: &mut Records,
-    history: &mut History,
-    bus: &mut Bus,
-    at: Spot,
-    p: Point,
-) -> VertexId
-    requires in_step { AreInStep records.old.graph (curves_on history.old) (bus_row Observer-dyn bus.old) }
-    requires point { IsProper p }
-    requires spot { IsSpotOf records.old.graph p at }
-    requires plane { MayBecomeVertex p (drawn_graph records.old.graph (curves_on history.old)) }
-    requires vertices { 1 ≤ records.old.spare_vertices }
-    requires darts { 2 ≤ records.old.spare_darts }
-    requires pairs { pairs_parted history.old at ≤ history.old.spare_pairs }
-    ensures told { HasBecomeVertex records.old.graph (curves_on history.old) (bus_row Observer-dyn bus.old) p records.new.graph (curves_on history.new) (bus_row Observer-dyn bus.new) }
-    ensures in_step { AreInStep records.new.graph (curves_on history.new) (bus_row Observer-dyn bus.new) }
-    ensures vertex { IsVertexAt records.new.graph p result }
-    ensures layer { SameLayer history.old history.new }
-{
-    match at {
-        Spot::Vertex(vertex) => vertex,
-        Spot::Edge(d) => split_edge(alloc, records, history, bus, d, p),
-        Spot::Face => add_vertex(alloc, records, &*history, bus, p),
-    }
 }
 
 /// The point becomes a vertex where it is none, and is pinned; `at` is its spot, `pins` the limit of pins. All memory of its own

@@ -27,7 +27,8 @@ use Rattle.zone_walk.specs.Zone.{is_vertex, is_edge, vertices_needed, splits_nee
 use Rattle.zone_walk.specs.declared.plan.Meeting.{Meeting}
 use Rattle.segment_insert.specs.Coming.{steps_at, IsSpotStill, IsMadeAt}
 use Rattle.segment_insert.specs.Coming.LeadsTo.{here}
-use Rattle.segment_insert.specs.Insertion.{AreMeetings, IsNamedVertex, AreVertices, pairs_at, pairs_to_part}
+use Rattle.told_steps.specs.VertexMade.{pairs_at}
+use Rattle.segment_insert.specs.Insertion.{AreMeetings, IsNamedVertex, AreVertices, pairs_to_part}
 use Rattle.segment_insert.proofs.VerticesFound.{face_new, edge_new}
 use Rattle.segment_insert.proofs.VerticesTurns.{IsTurn, turn, none_left, first_sound, missing_in, proper_by_steps}
 use Rattle.segment_insert.proofs.VerticesWalk.{leads_forward, leads_inside}
@@ -51,7 +52,7 @@ all_coming : (v : View) (h : Curves) (ms : List Meeting) → IsGraphSound v → 
 all_coming v h ms s a k y = record { sound = s; curves = a; ascend = k.ascend; spots = λ m n. spot_still v h m.point m.spot (k.spots m (from_member ms m n)); plane = y }
 
 -- a point with a spot is a point of the plane: it is a vertex, or its step is sound
-proper_by_spot : (v : View) (h : Curves) (ps : List Point) (p : Point) (s : Spot) → IsGraphSound v → AreSound (steps_at v h ps) (drawn_graph v h) → Member p ps → IsSpotStill v h p s → IsProper p
+pub proper_by_spot : (v : View) (h : Curves) (ps : List Point) (p : Point) (s : Spot) → IsGraphSound v → AreSound (steps_at v h ps) (drawn_graph v h) → Member p ps → IsSpotStill v h p s → IsProper p
 proper_by_spot v h ps p (Vertex w) s y m k = subst IsProper k.1 (s.drawn.proper w k.0)
 proper_by_spot v h ps p (Edge d) s y m k =
     let i = leads_inside v p k.0 d k.1 in

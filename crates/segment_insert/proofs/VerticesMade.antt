@@ -1,5 +1,6 @@
 -- A meeting's point becomes a vertex: it is one, or its edge goes in two, or it comes inside a face.
-use Rattle.std.proofs.Common.{◌≡◌, [], ◌∷◌, length, true, refl, sym, ap, ◌∙◌, subst}
+use Rattle.std.proofs.Common.{arith, ◌≡◌, ◌*◌, ℕ, cond, not, [], ◌∷◌, length, true, refl, sym, ap, ◌∙◌, subst}
+use Rattle.std.proofs.lemmas.List.Sums.{sum_by-cons}
 use Rattle.exact_plane.specs.Point.{Point}
 use Rattle.plane_graphs.specs.Ascending.{Member}
 use Rattle.plane_graphs.specs.Line.{IsProper, precedes}
@@ -34,8 +35,10 @@ use Rattle.record_layers.specs.RecordLayers.{IsRunOfSteps}
 use Rattle.told_steps.proofs.ToldTogether.{told_runs_lawful}
 use Rattle.told_steps.specs.ToldRuns.{IsToldRun}
 use Rattle.zone_walk.specs.declared.plan.Meeting.{Meeting}
-use Rattle.segment_insert.specs.Coming.{steps_at, LeadsTo, IsSpotStill, IsMadeAt}
-use Rattle.segment_insert.specs.Insertion.{pairs_at}
+use Rattle.segment_insert.specs.Coming.{steps_at, LeadsTo, IsSpotNow, IsSpotStill, IsMadeAt}
+use Rattle.segment_insert.specs.Coming.LeadsTo.{here}
+use Rattle.told_steps.specs.VertexMade.{IsPlaneWith, IsVertexMade, darts_at, pairs_at, steps_at_spot, vertices_at}
+use Rattle.zone_walk.specs.Zone.{is_edge, is_vertex, splits_needed, vertices_needed}
 use Rattle.segment_insert.proofs.VerticesAdded.{old_vertex, leads_too, face_too}
 use Rattle.segment_insert.proofs.VerticesFound.{proper_by_step, face_step, edge_step, face_new, edge_new}
 use Rattle.segment_insert.proofs.VerticesSplit.{old_curves, leads_still, face_still}
@@ -43,7 +46,7 @@ use Rattle.segment_insert.proofs.VerticesTurns.{nothing_told, one_told, one_soun
 use Rattle.segment_insert.proofs.VerticesWalk.{leads_forward, leads_inside, leads_once}
 
 -- a part that has the point inside may be split there
-pub part_fits : (v : View) (p : Point) (e d : DartId) → LeadsTo v p e d → CanSplit v e p
+part_fits : (v : View) (p : Point) (e d : DartId) → LeadsTo v p e d → CanSplit v e p
 part_fits v p e d k = let i = leads_inside v p e d k in record { dart = i.0.0; forward = i.0.1; inside_edge = i.1 }
 
 -- names of vertices, the curves of old edges, and what was told of points after p, stay
@@ -102,7 +105,7 @@ module _ (v : View) (h : Curves) (s : IsGraphSound v) (a : AreCurvesOf v h) (m :
   p = m.point
 
   -- ---- a vertex
-  pub stays : {b : BusRow} (w : VertexId) → IsSpotOf v m.point (Vertex w) → IsMadeAt v h b v h b m w
+  stays : {b : BusRow} (w : VertexId) → IsSpotOf v m.point (Vertex w) → IsMadeAt v h b v h b m w
   stays {b} w k = record {
     told = nothing_told v h s a m.point [] tt (subst (λ q. Member q (drawn_graph v h).points) k.1 (point_held v s.named h w k.0)) b;
     has = k.0;
@@ -113,22 +116,13 @@ module _ (v : View) (h : Curves) (s : IsGraphSound v) (a : AreCurvesOf v h) (m :
   }
 
   -- ---- a part of an edge
-  pub part_proper : (e d : DartId) → LeadsTo v m.point e d → AreSound (steps_at v h (m.point ∷ [])) (drawn_graph v h) → IsProper m.point
+  part_proper : (e d : DartId) → LeadsTo v m.point e d → AreSound (steps_at v h (m.point ∷ [])) (drawn_graph v h) → IsProper m.point
   part_proper e d k y =
       let i = leads_inside v m.point e d k in
       proper_by_step m.point (drawn_graph v h) (one_sound v h s a m.point [] tt (edge_new v h s m.point e i.0.0 i.1) y)
 
-  pub part_curves : (d b : DartId) → IsProper m.point → IsSpotStill v h m.point (Edge d) → LeadsTo v m.point b d → h b ≡ h d
-  part_curves d b proper y k = ap h (leads_once v m.point s proper b y.0 d k y.1) ∙ y.2
-
-  -- so it takes as many pairs as the spot tells
-  pub part_pairs : (d b : DartId) → m.spot ≡ Edge d → IsSpotStill v h m.point m.spot → AreSound (steps_at v h (m.point ∷ [])) (drawn_graph v h) → LeadsTo v m.point b d → length (h b) ≡ pairs_at h m.spot
-  part_pairs d b e y plane k =
-      let z : IsSpotStill v h m.point (Edge d) = subst (IsSpotStill v h m.point) e y in
-      ap length (part_curves d b (part_proper b d k plane) z k) ∙ ap (pairs_at h) (sym e)
-
   -- the part is split
-  pub splits : {b c : BusRow} (w : View) (k : Curves) (e d : DartId) (x : VertexId) → LeadsTo v m.point e d → IsProper m.point → IsToldRun v h b (SplitEdgeAt (point_in v (source_in v e)) (point_in v (target_in v e)) m.point ∷ []) w k c → IsVertexAt w m.point x → IsMadeAt v h b w k c m x
+  splits : {b c : BusRow} (w : View) (k : Curves) (e d : DartId) (x : VertexId) → LeadsTo v m.point e d → IsProper m.point → IsToldRun v h b (SplitEdgeAt (point_in v (source_in v e)) (point_in v (target_in v e)) m.point ∷ []) w k c → IsVertexAt w m.point x → IsMadeAt v h b w k c m x
   splits {b} {c} w k e d x y proper t at =
       let f = part_fits v m.point e d y in
       let q = point_in v (source_in v e) in
@@ -154,7 +148,7 @@ module _ (v : View) (h : Curves) (s : IsGraphSound v) (a : AreCurvesOf v h) (m :
     added_by : vertex_step_by m.point (drawn_graph v h).marks ≡ AddVertexAt m.point
     added_by = face_step v h s m.point proper_here o
 
-    pub added_plane : IsPlane (apply (AddVertexAt m.point) (drawn_graph v h))
+    added_plane : IsPlane (apply (AddVertexAt m.point) (drawn_graph v h))
     added_plane = subst (λ z. IsPlane (apply z (drawn_graph v h))) added_by one.plane
 
     module _ (x : VertexId) (new : ¬ HasVertex v x) where
@@ -163,7 +157,7 @@ module _ (v : View) (h : Curves) (s : IsGraphSound v) (a : AreCurvesOf v h) (m :
       added_later q (Edge d) proper l k = (k.0, leads_too v x m.point s new q k.0 d k.1, k.2)
       added_later q Face proper l k = face_too v x m.point s new q (λ e. lt_never (subst (λ z. Lt m.point z) (sym e) (lt_out m.point q l))) k
 
-      pub comes : {b c : BusRow} (w : View) → w ≡ with_vertex v x m.point → IsToldRun v h b (AddVertexAt m.point ∷ []) w h c → IsMadeAt v h b w h c m x
+      comes : {b c : BusRow} (w : View) → w ≡ with_vertex v x m.point → IsToldRun v h b (AddVertexAt m.point ∷ []) w h c → IsMadeAt v h b w h c m x
       comes {b} {c} w e t =
           let g = with_vertex v x m.point in
           let told = one_told v h s a m.point [] tt (face_new v h s m.point o) (AddVertexAt m.point) (sym added_by) b w h c t in
@@ -175,3 +169,54 @@ module _ (v : View) (h : Curves) (s : IsGraphSound v) (a : AreCurvesOf v h) (m :
             curves = λ d k. refl;
             later = added_later;
           })
+
+-- ---- where the point lies now
+pub lies_now : (v : View) (p : Point) (told now : Spot) → IsSpotNow v p told now → IsSpotOf v p now
+lies_now v p (Vertex w) now k = subst (IsSpotOf v p) (sym k.0) k.1
+lies_now v p (Edge d) now k = let i = leads_inside v p k.0 d k.2 in subst (IsSpotOf v p) (sym k.1) (i.0.0, i.0.1, i.1)
+lies_now v p Face now k = subst (IsSpotOf v p) (sym k.0) k.1
+
+-- it takes the room that the spot tells
+vertices_now : (v : View) (p : Point) (told now : Spot) → IsSpotNow v p told now → vertices_at now ≡ cond (not (is_vertex told)) 1 0
+vertices_now v p (Vertex w) now k = ap vertices_at k.0
+vertices_now v p (Edge d) now k = ap vertices_at k.1
+vertices_now v p Face now k = ap vertices_at k.0
+
+darts_now : (v : View) (p : Point) (told now : Spot) → IsSpotNow v p told now → darts_at now ≡ 2 * cond (is_edge told) 1 0
+darts_now v p (Vertex w) now k = ap darts_at k.0
+darts_now v p (Edge d) now k = ap darts_at k.1
+darts_now v p Face now k = ap darts_at k.0
+
+pub pairs_now : (v : View) (h : Curves) (p : Point) (told now : Spot) → IsGraphSound v → IsProper p → IsSpotStill v h p told → IsSpotNow v p told now → pairs_at h now ≡ pairs_at h told
+pairs_now v h p (Vertex w) now s proper y k = ap (pairs_at h) k.0
+pairs_now v h p (Edge d) now s proper y k = ap (pairs_at h) k.1 ∙ ap length (ap h (leads_once v p s proper k.0 y.0 d k.2 y.1) ∙ y.2)
+pairs_now v h p Face now s proper y k = ap (pairs_at h) k.0
+
+module _ (v : View) (m : Meeting) (now : Spot) (k : IsSpotNow v m.point m.spot now) where
+  pub vertices_there : vertices_at now ≡ vertices_needed (m ∷ [])
+  vertices_there =
+      let f : Meeting → ℕ = λ n. cond (not (is_vertex n.spot)) 1 0 in
+      omega (arith, sum_by-cons f m [], vertices_now v m.point m.spot now k)
+
+  pub darts_there : darts_at now ≡ 2 * splits_needed (m ∷ [])
+  darts_there =
+      let f : Meeting → ℕ = λ n. cond (is_edge n.spot) 1 0 in
+      omega (arith, sum_by-cons f m [], darts_now v m.point m.spot now k)
+
+-- ---- the vertex is made there
+module _ (v : View) (h : Curves) (s : IsGraphSound v) (a : AreCurvesOf v h) (m : Meeting) (y : AreSound (steps_at v h (m.point ∷ [])) (drawn_graph v h)) where
+  pub plane_there : (now : Spot) → IsSpotOf v m.point now → IsPlaneWith v h m.point now
+  plane_there (Vertex u) o = tt
+  plane_there (Edge e) o = tt
+  plane_there Face o = added_plane v h s a m o y
+
+  pub made_there : {b c : BusRow} (now : Spot) → IsSpotOf v m.point now → IsProper m.point → (w : View) (k : Curves) (x : VertexId) →
+      IsToldRun v h b (steps_at_spot v m.point now) w k c → IsVertexAt w m.point x → IsVertexMade v h m.point now w k x → IsMadeAt v h b w k c m x
+  unfolding IsToldRun
+  made_there {b} {c} (Vertex u) o proper w k x t at made =
+      subst (λ z. IsMadeAt v h b z k c m x) (sym made.1) (subst (λ q. IsMadeAt v h b v q c m x) (sym (λ i d. made.2 d i))
+      (subst (λ q. IsMadeAt v h b v h q m x) (sym t.2) (subst (IsMadeAt v h b v h b m) (sym made.0) (stays v h s a m u o))))
+  made_there {b} {c} (Edge e) o proper w k x t at made = splits v h s a m w k e e x (here o) proper t at
+  made_there {b} {c} Face o proper w k x t at made =
+      let q : k ≡ h = λ i d. made.2 d i in
+      subst (λ z. IsMadeAt v h b w z c m x) (sym q) (comes v h s a m o y x made.0 w made.1 (subst (λ z. IsToldRun v h b (AddVertexAt m.point ∷ []) w z c) q t))

@@ -34,6 +34,12 @@ IsSpotStill v h p (Vertex w) = IsSpotOf v p (Vertex w)
 IsSpotStill v h p (Edge d) = (e : DartId) × LeadsTo v p e d × (h e ≡ h d)
 IsSpotStill v h p Face = IsSpotOf v p Face
 
+-- where the point lies, by the spot that was told before edges went in several: in the part of its edge that has the point inside (this project)
+abbrev pub IsSpotNow : View → Point → Spot → Spot → Type 0
+IsSpotNow v p (Vertex w) now = (now ≡ Vertex w) × IsSpotOf v p (Vertex w)
+IsSpotNow v p (Edge d) now = (e : DartId) × (now ≡ Edge e) × LeadsTo v p e d
+IsSpotNow v p Face now = (now ≡ Face) × IsSpotOf v p Face
+
 -- the meeting's point is the vertex x after its step, which observers are told, if it was none before; names of vertices stay, the curves of the old edges stay, and what was told of later points still says where they lie (this project)
 pub record IsMadeAt (v : View) (h : Curves) (b : BusRow) (w : View) (k : Curves) (c : BusRow) (m : Meeting) (x : VertexId) : Type 0 where
   pub told : IsToldRun v h b (steps_at v h (m.point ∷ [])) w k c

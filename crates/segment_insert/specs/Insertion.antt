@@ -11,9 +11,9 @@ use Rattle.curve_history.specs.declared.history.TheConstants.{LAST_CURVE}
 use Rattle.curve_history.specs.Past.{Past}
 use Rattle.record_layers.specs.LayerEdits.{layer_at}
 use Rattle.dcel_records.specs.RecordsView.{RecordsView}
-use Rattle.dcel_records.specs.declared.spot.Spot.{Spot}
-use Rattle.dcel_records.specs.declared.spot.Spot.TheVariants.{Vertex, Edge}
+use Rattle.dcel_records.specs.declared.spot.Spot.TheVariants.{Vertex}
 use Rattle.dcel_records.specs.Spots.{IsSpotOf}
+use Rattle.told_steps.specs.VertexMade.{pairs_at}
 use Rattle.zone_walk.specs.declared.plan.Meeting.{Meeting}
 use Rattle.zone_walk.specs.declared.plan.ZonePlan.{ZonePlan}
 use Rattle.zone_walk.specs.Zone.{is_on_segment, points_of_meetings}
@@ -46,11 +46,6 @@ pub record AreVertices (v : View) (ms : List Meeting) : Type 0 where
 -- every vertex on the segment is among the points (this project)
 abbrev pub AreAllOn : View → Segment → List Point → Type 0
 AreAllOn v s ps = (w : _) → HasVertex v w → is_on_segment s (point_in v w) ≡ true → Member (point_in v w) ps
-
--- the curves of an edge that is split
-abbrev pub pairs_at : Curves → Spot → ℕ
-pairs_at h (Edge d) = length (h d)
-pairs_at h other = 0
 
 -- how many pairs of an edge and a curve come with the splits: the curves of each edge that is split, on its new part
 abbrev pub pairs_to_part : Curves → List Meeting → ℕ

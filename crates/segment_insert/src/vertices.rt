@@ -4,9 +4,10 @@ ghost use Rattle.slab_laws.specs.Sound.{IsGraphSound};
 ghost use Rattle.curve_history.specs.Past.{curves_on, SameLayer};
 ghost use Rattle.observer_bus.specs.Rows.{bus_row};
 ghost use Rattle.told_steps.specs.ToldRuns.{AreInStep};
+ghost use Rattle.told_steps.specs.VertexMade.{pairs_at};
 ghost use Rattle.zone_walk.specs.Zone.{vertices_needed, splits_needed, points_of_meetings};
-ghost use Rattle.segment_insert.specs.Coming.{HasPart, LeadsTo, IsSpotStill};
-ghost use Rattle.segment_insert.specs.Insertion.{AreMeetings, AreVertices, pairs_at};
+ghost use Rattle.segment_insert.specs.Coming.{HasPart, LeadsTo, IsSpotNow, IsSpotStill};
+ghost use Rattle.segment_insert.specs.Insertion.{AreMeetings, AreVertices};
 ghost use Rattle.segment_insert.specs.StepsMade.{new_pairs, MayBeVertices, BecomeVertices, BecomesVertex};
 
 use curve_history::History;
@@ -15,7 +16,7 @@ use exact_plane::Point;
 use observer_bus::Bus;
 use slab_laws::{DartId, Darts, VertexId};
 use std::alloc::Global;
-use told_steps::{add_vertex, split_edge};
+use told_steps::make_vertex;
 use zone_walk::Meeting;
 
 // The part of an edge that has the point inside, by its dart. Where the edge went in several since its dart was told, that
@@ -33,8 +34,22 @@ fn part_at(records: &Records, dart: DartId, point: Point) -> DartId
     part
 }
 
+// Where a point lies now: in a part of its edge, where that went in several since the spot was told.
+fn spot_now(records: &Records, point: Point, told: Spot) -> Spot
+    requires proper { IsProper point }
+    requires sound { IsGraphSound records.now.graph }
+    requires spot { (h : _) × IsSpotStill records.now.graph h point told }
+    ensures { IsSpotNow records.now.graph point told result }
+{
+    match told {
+        Spot::Vertex(v) => Spot::Vertex(v),
+        Spot::Edge(dart) => Spot::Edge(part_at(records, dart, point)),
+        Spot::Face => Spot::Face,
+    }
+}
+
 // The vertex at the meeting's point, which comes where there is none.
-fn make_vertex(
+fn vertex_of(
     alloc: Global,
     records: &mut Records,
     history: &mut History,
@@ -57,14 +72,8 @@ fn make_vertex(
     ensures darts { records.old.spare_darts ≤ records.new.spare_darts + 2 * splits_needed (meeting ∷ []) }
     ensures pairs { history.old.spare_pairs ≤ history.new.spare_pairs + pairs_at (curves_on history.old) meeting.spot }
 {
-    match meeting.spot {
-        Spot::Vertex(v) => v,
-        Spot::Edge(dart) => {
-            let part = part_at(records, dart, meeting.point);
-            split_edge(alloc, records, history, bus, part, meeting.point)
-        }
-        Spot::Face => add_vertex(alloc, records, &*history, bus, meeting.point),
-    }
+    let at = spot_now(&*records, meeting.point, meeting.spot);
+    make_vertex(alloc, records, history, bus, at, meeting.point)
 }
 
 /// Makes every meeting point a vertex, in room that is there: an edge that has it inside goes in two, and inside a face a
@@ -94,7 +103,7 @@ pub(crate) fn make_vertices(
     ensures spare_pairs { history.old.spare_pairs ≤ history.new.spare_pairs + new_pairs history.old meetings.old.items }
 {
     for i in 0..meetings.len() {
-        let vertex = make_vertex(alloc, records, history, bus, meetings[i]);
+        let vertex = vertex_of(alloc, records, history, bus, meetings[i]);
         meetings[i].spot = Spot::Vertex(vertex);
     }
 }

@@ -1,4 +1,4 @@
--- The names that changes of edges tell.
+-- Edges in two, and two in one: that the change fits, and where its vertex is.
 use Rattle.std.proofs.Common.{◌≡◌, ◌≢◌, subst, sym}
 use Rattle.exact_plane.specs.Point.{Point}
 use Rattle.plane_graphs.specs.Line.{IsProper}
@@ -7,22 +7,12 @@ use Rattle.slab_laws.specs.declared.names.VertexId.{VertexId}
 use Rattle.slab_laws.specs.Sound.{IsGraphSound}
 use Rattle.slab_laws.specs.View.{View, HasDart, HasVertex, twin_in}
 use Rattle.arr_notes.specs.Step.{split_edge}
-use Rattle.arr_notes.specs.declared.change.Change.{Change}
-use Rattle.arr_notes.specs.declared.change.Change.TheVariants.{MergeEdge, SplitEdge}
-use Rattle.edge_split_merge.specs.Merges.{TellsOfMerge}
-use Rattle.edge_split_merge.specs.Splits.{CanSplit, IsNewPlace, NamesNewPlace, TellsOfSplit}
+use Rattle.edge_split_merge.specs.Splits.{CanSplit, IsNewPlace}
 use Rattle.sound_changes.specs.ChangeFits.{FitsMerge, FitsSplit}
 use Rattle.sound_changes.proofs.Splits.{halved, at_w}
 use Rattle.sound_views.specs.RecordGraphLaws.{IsVertexAt}
 
 -- ---- splits
--- the change that tells of a split has the names that a pattern of it has
-pub names_of_split : (r : Change) (d e : DartId) (w : VertexId) (p q : Point) (n m : DartId) → TellsOfSplit r d p → r ≡ SplitEdge e w q n m → r ≡ SplitEdge d w p n m
-names_of_split r d e w p q n m t f = let k = t.3 in cc
-
-pub new_place : (v : View) (r : Change) (d e : DartId) (w : VertexId) (p q : Point) (n m : DartId) → NamesNewPlace v r → r ≡ SplitEdge e w q n m → IsNewPlace v w n m
-new_place v r d e w p q n m k f = subst (NamesNewPlace v) f k
-
 module _ (v : View) (p : Point) where
   pub fits_split : IsProper p → (d : DartId) (w : VertexId) (n m : DartId) → CanSplit v d p → IsNewPlace v w n m → FitsSplit v d w p n m
   fits_split proper d w n m c k = record {
@@ -45,13 +35,5 @@ module _ (v : View) (p : Point) where
       subst (λ z. IsVertexAt z p w) (sym e) (record { has = i.w_has; at = at_w v d w p n m s f })
 
 -- ---- merges
--- the change that tells of a merge has the names that a pattern of it has
-pub names_of_merge : (v : View) (r : Change) (w u : VertexId) (d n : DartId) → TellsOfMerge v r w → r ≡ MergeEdge u d n → FitsMerge v w d n × (r ≡ MergeEdge w d n)
-names_of_merge v r w u d n t e =
-    let k = t.3 in
-    let first : t.0 ≡ d = cc in
-    let second : t.1 ≡ n = cc in
-    (subst (λ z. FitsMerge v w d z) second (subst (λ z. FitsMerge v w z t.1) first t.2), cc)
-
 pub merge_vertex : (v : View) (w : VertexId) (d n : DartId) → IsGraphSound v → FitsMerge v w d n → HasVertex v w
 merge_vertex v w d n s f = subst (HasVertex v) f.arrives (s.linked.source (twin_in v d) (s.twinned.has d f.first))

@@ -43,3 +43,19 @@ module _ (v : View) (h : Curves) (x : Change) (w : View) (k : Curves) (view : w 
           subst (λ z. AreInRound (After x) z c d) (λ i. seen (view i) (as_by i)) after,
           (view, curves, refl),
         )
+
+-- the records w, which are sound, and the curves k are what the change makes of v and h
+pub record HasMade (v : View) (h : Curves) (x : Change) (w : View) (k : Curves) : Type 0 where
+  pub view : w ≡ step v x
+  pub curves : (d : DartId) → k d ≡ step_curves h x d
+  pub fits : FitsChange v h x
+  pub sound : IsGraphSound w
+
+module _ {v : View} {h : Curves} {x : Change} {w : View} {k : Curves} (m : HasMade v h x w k) where
+  pub changed_by : {b : BusRow} → AreInStep v h b → IsJustChanged x w k b
+  changed_by t = just_changed v h x w k m.view m.curves m.fits m.sound t
+
+  pub told_by : (e : Step) → step_of_change v x ≡ e → (i : Intent) → i ≡ intent_of e → {ss ts us : List SeatRow} {p q r : Went} {l m n : Bool} →
+      IsRoundOf (Before i) (seen v h) ss p ts q × (m ≡ l) → IsRoundOf (After x) (seen w k) ts q us r × (n ≡ m) →
+      IsToldRun v h (record { seats = ss; went = p; settled = l }) (e ∷ []) w k (record { seats = us; went = r; settled = n })
+  told_by e t i j before after = told_once v h x w k m.view m.curves m.fits m.sound e t i j before after

@@ -18,8 +18,8 @@ use crate::told::{tell_after, tell_before};
 use arr_notes::{Change, Intent};
 use curve_history::History;
 use dcel_records::Records;
-use edge_split_merge::{merge, split};
-use edge_unlink::unlink;
+use edge_split_merge::{merge_at, split_at};
+use edge_unlink::unlink_edge;
 use exact_plane::Point;
 use observer_bus::Bus;
 use slab_laws::{DartId, Darts, VertexId};
@@ -58,7 +58,8 @@ pub fn remove_edge(
         bus,
         Intent::RemoveEdge(low, high),
     );
-    let change = unlink(records, d);
+    let m = unlink_edge(records, d);
+    let change = Change::RemoveEdge { d, m };
     history.release_all(d);
     tell_after(alloc, &*records, &*history, bus, change);
 }
@@ -101,13 +102,17 @@ pub fn split_edge(
         bus,
         Intent::SplitEdge(low, high, p),
     );
-    let change = split(records, d, p);
-    let Change::SplitEdge { v, n, .. } = change else {
-        unreachable!()
+    let new = split_at(records, d, p);
+    let change = Change::SplitEdge {
+        d,
+        v: new.v,
+        p,
+        n: new.n,
+        m: new.m,
     };
-    history.part(d, n);
+    history.part(d, new.n);
     tell_after(alloc, &*records, &*history, bus, change);
-    v
+    new.v
 }
 
 /// The two edges that meet at a vertex that is not pinned, and go straight on there with the same curves, become one, and the vertex
@@ -138,10 +143,12 @@ pub fn merge_edge(
 {
     let p = records.point(v);
     tell_before(alloc, &*records, &*history, bus, Intent::MergeEdge(p));
-    let change = merge(records, v);
-    let Change::MergeEdge { d, n, .. } = change else {
-        unreachable!()
+    let met = merge_at(records, v);
+    let change = Change::MergeEdge {
+        v,
+        d: met.d,
+        n: met.n,
     };
-    history.join(d, n);
+    history.join(met.d, met.n);
     tell_after(alloc, &*records, &*history, bus, change);
 }

@@ -10,6 +10,7 @@ mod ends;
 mod laws;
 mod links;
 mod pins;
+mod spots;
 mod told;
 mod vertices;
 
@@ -19,4 +20,5 @@ pub use edges::{merge_edge, remove_edge, split_edge};
 pub use laws::told_runs_are_lawful;
 pub use links::add_edge;
 pub use pins::{clear_pin, set_pin};
+pub use spots::make_vertex;
 pub use vertices::{add_vertex, remove_vertex};

@@ -1,20 +1,20 @@
-use Rattle.std.proofs.Common.{◌≡◌, Result, Ok, Err, refl, sym, ap, subst, ◌∙◌}
+use Rattle.std.proofs.Common.{arith, ◌≡◌, Result, Ok, Err, refl, sym, ap, subst, ◌∙◌}
 use Rattle.plane_graphs.proofs.Lines.{point_is_proper}
 use Rattle.edit_steps.proofs.Refusals.{no_memory, pin_again, pin_full, pin_allowed}
 use Rattle.curve_history.specs.Past.{curves_on}
-use Rattle.arr_notes.specs.RecordGraph.{drawn_graph}
 use Rattle.dcel_records.specs.Spots.{IsSpotOf}
 use Rattle.record_layers.specs.RecordLayers.{layer_of}
 use Rattle.record_layers.proofs.Moved.{same_layers, layer_stays}
-use Rattle.told_steps.proofs.Begun.{begun_in_step, drawn_stays, moved, still_watched, told_of_edit}
+use Rattle.told_steps.proofs.Begun.{begun_in_step, moved, still_watched, told_of_edit}
 use Rattle.told_steps.proofs.ToldTogether.{told_runs_lawful}
-use Rattle.pin_points.specs.Pins.{MayBecomeVertex, new_vertex_steps, pin_said}
+use Rattle.told_steps.specs.VertexMade.{IsPlaneWith, steps_at_spot}
+use Rattle.pin_points.specs.Pins.{pin_said}
 use Rattle.pin_points.specs.declared.pins.PinError.{PinError}
 use Rattle.pin_points.specs.declared.pins.PinError.TheVariants.{Pinned, Full, NoMemory}
 use Rattle.observer_bus.proofs.Heard.{not_ok}
 use Rattle.pin_points.proofs.Outcomes.{layer_kept, not_both, on_err}
 use Rattle.pin_points.proofs.Pinning.{stays_plane, pin_told, pin_layer, counted}
-use Rattle.pin_points.proofs.Spotted.{pinned_spot}
+use Rattle.pin_points.proofs.Spotted.{at_spot, one_vertex, pinned_spot, plane_with, two_darts}
 use Rattle.pin_points.proofs.Fullness.{full_out, not_full_out}
 use Rattle.pin_points.proofs.pins.pin.Goals as goal
 
@@ -88,16 +88,18 @@ make_vertex-vertex-requires g c =
     let r = c.args.history.now in
     let l = c.requires.layer in
     let p = c.args.p.now in
+    let at = c.args.at in
     let m = c.make_room.ensures in
-    let e = pinned_spot v (curves_on r) l.sound p c.args.at c.requires.spot in
-    let k = stays_plane v r l p (point_is_proper p c.w-weight.ensures.point) (e ∙ sym c.is_pinned.ensures ∙ c.if-is_pinned.false) in record {
-      in_step = begun_in_step c.args.records.now.graph c.args.history.now c.make_room.new.records.graph c.make_room.new.history c.make_room.ensures.graph c.make_room.ensures.curves c.begin.ensures.begun c.requires.layer c.requires.watched;
-      point = point_is_proper p c.w-weight.ensures.point;
-      spot = subst (λ z. IsSpotOf z p c.args.at) (sym m.graph) c.requires.spot;
-      plane = moved v r c.make_room.new.records.graph c.make_room.new.history m.graph m.curves (λ z h. MayBecomeVertex p (drawn_graph z h)) k;
-      vertices = c.in_ok-make_room.ensures.room.vertices;
-      darts = c.in_ok-make_room.ensures.room.darts;
-      pairs = c.in_ok-make_room.ensures.room.pairs;
+    let room = c.in_ok-make_room.ensures.room in
+    let e = pinned_spot v (curves_on r) l.sound p at c.requires.spot in
+    let proper = point_is_proper p c.w-weight.ensures.point in
+    let k = stays_plane v r l p proper (e ∙ sym c.is_pinned.ensures ∙ c.if-is_pinned.false) in record {
+      in_step = begun_in_step v r c.make_room.new.records.graph c.make_room.new.history m.graph m.curves c.begin.ensures.begun l c.requires.watched;
+      spot = subst (λ z. IsSpotOf z p at) (sym m.graph) c.requires.spot;
+      plane = moved v r c.make_room.new.records.graph c.make_room.new.history m.graph m.curves (λ z h. IsPlaneWith z h p at) (plane_with v (curves_on r) l.sound l.curves p proper at c.requires.spot k);
+      vertices = omega (arith, one_vertex at, room.vertices);
+      darts = omega (arith, two_darts at, room.darts);
+      pairs = room.pairs;
     }
 
 pub set_pin-requires : goal.set_pin-requires
@@ -114,7 +116,7 @@ returns g c =
     let k = curves_on c.make_vertex-vertex.new.history in
     let e = pinned_spot v (curves_on r) l.sound p c.args.at c.requires.spot in
     let here = told_of_edit v r c.make_room.new.records.graph c.make_room.new.history m.graph m.curves c.begin.ensures.begun _ x k _ c.make_vertex-vertex.ensures.told in
-    let there = told_runs_lawful.same_steps v (curves_on r) _ _ _ x k _ (ap (new_vertex_steps p) (drawn_stays v r c.make_room.new.records.graph c.make_room.new.history m.graph m.curves)) here in
+    let there = told_runs_lawful.same_steps v (curves_on r) _ _ _ x k _ (ap (λ z. steps_at_spot z p c.args.at) m.graph ∙ sym (at_spot v (curves_on r) l.sound l.curves p (point_is_proper p c.w-weight.ensures.point) c.args.at c.requires.spot)) here in
     let n = counted c.args.records.now.graph c.args.history.now l c.args.p.now (point_is_proper c.args.p.now c.w-weight.ensures.point) in
     let after = pin_layer v r l p (point_is_proper p c.w-weight.ensures.point) (e ∙ sym c.is_pinned.ensures ∙ c.if-is_pinned.false) _ x k _ there c.make_vertex-vertex.result c.make_vertex-vertex.ensures.vertex c.set_pin.new.records.graph c.make_vertex-vertex.new.history _ c.set_pin.ensures.told (same_layers r c.make_room.new.history c.make_vertex-vertex.new.history m.layer c.make_vertex-vertex.ensures.layer) in record {
       layer = after.0;

@@ -5,7 +5,8 @@ use Rattle.arr_notes.specs.Curves.{Curves}
 use Rattle.curve_history.specs.Past.{curves_on}
 use Rattle.zone_walk.specs.Zone.{vertices_needed, splits_needed}
 use Rattle.zone_walk.specs.declared.plan.Meeting.{Meeting}
-use Rattle.segment_insert.specs.Insertion.{pairs_at, pairs_to_part}
+use Rattle.told_steps.specs.VertexMade.{pairs_at}
+use Rattle.segment_insert.specs.Insertion.{pairs_to_part}
 use Rattle.segment_insert.proofs.VerticesLoop.{told_at, vertices_first, darts_first, next_first, at_start, same_length, spot_now, sound_now, onwards, same_pairs_left, all_told, all_named}
 use Rattle.segment_insert.proofs.vertices.make_vertices.Goals as goal
 
@@ -26,16 +27,16 @@ loop-i-init g c =
       pairs = omega arith;
     }
 
-pub make_vertex-vertex-requires-clause-in_step : goal.make_vertex-vertex-requires-clause-in_step
-make_vertex-vertex-requires-clause-in_step g c = c.loop-i.invariant.midway.in_step
+pub vertex_of-vertex-requires-clause-in_step : goal.vertex_of-vertex-requires-clause-in_step
+vertex_of-vertex-requires-clause-in_step g c = c.loop-i.invariant.midway.in_step
 
-pub make_vertex-vertex-requires-clause-spot : goal.make_vertex-vertex-requires-clause-spot
-make_vertex-vertex-requires-clause-spot g c =
+pub vertex_of-vertex-requires-clause-spot : goal.vertex_of-vertex-requires-clause-spot
+vertex_of-vertex-requires-clause-spot g c =
     spot_now c.args.records.now.graph (curves_on c.args.history.now) c.args.meetings.now.items c.loop-i.records.graph (curves_on c.loop-i.history) c.loop-i.meetings.items c.loop-i.i c.loop-i.invariant.midway c.index.result.now
     (omega (arith, c.loop-i-test.true, c.len-i-end.ensures, same_length c.args.records.now.graph (curves_on c.args.history.now) c.args.meetings.now.items c.loop-i.records.graph (curves_on c.loop-i.history) c.loop-i.meetings.items c.loop-i.i c.loop-i.invariant.midway)) c.index.ensures
 
-pub make_vertex-vertex-requires-clause-plane : goal.make_vertex-vertex-requires-clause-plane
-make_vertex-vertex-requires-clause-plane g c =
+pub vertex_of-vertex-requires-clause-plane : goal.vertex_of-vertex-requires-clause-plane
+vertex_of-vertex-requires-clause-plane g c =
     sound_now c.args.records.now.graph (curves_on c.args.history.now) c.args.meetings.now.items c.loop-i.records.graph (curves_on c.loop-i.history) c.loop-i.meetings.items c.loop-i.i c.loop-i.invariant.midway c.index.result.now
     (omega (arith, c.loop-i-test.true, c.len-i-end.ensures, same_length c.args.records.now.graph (curves_on c.args.history.now) c.args.meetings.now.items c.loop-i.records.graph (curves_on c.loop-i.history) c.loop-i.meetings.items c.loop-i.i c.loop-i.invariant.midway)) c.index.ensures
 
@@ -51,18 +52,18 @@ loop-i-preserved g c =
     omega (arith, c.loop-i-test.true, c.len-i-end.ensures, same_length v h ms c.loop-i.records.graph (curves_on c.loop-i.history) ns i c.loop-i.invariant.midway) in
     let same : c.index_mut.result.now ≡ c.index.result.now = c.index_mut.ensures.value ∙ get_or_default ns i c.index_mut.result.now m l ∙ sym c.index.ensures in
     let first : drop i ms ≡ m ∷ drop (i + 1) ms = next_first v h ms c.loop-i.records.graph (curves_on c.loop-i.history) ns i c.loop-i.invariant.midway m l c.index.ensures in
-    let k = c.make_vertex-vertex.ensures in
+    let k = c.vertex_of-vertex.ensures in
     let old = c.loop-i.invariant in
     record {
-      midway = onwards v h ms c.loop-i.records.graph (curves_on c.loop-i.history) ns i c.loop-i.invariant.midway m l c.index.ensures c.make_vertex-vertex.new.records.graph (curves_on c.make_vertex-vertex.new.history) c.make_vertex-vertex.result k.told
-          (told_at c.index_mut.result.now c.make_vertex-vertex.result) (ap (λ (o : Meeting). told_at o c.make_vertex-vertex.result) same) k.in_step;
+      midway = onwards v h ms c.loop-i.records.graph (curves_on c.loop-i.history) ns i c.loop-i.invariant.midway m l c.index.ensures c.vertex_of-vertex.new.records.graph (curves_on c.vertex_of-vertex.new.history) c.vertex_of-vertex.result k.told
+          (told_at c.index_mut.result.now c.vertex_of-vertex.result) (ap (λ (o : Meeting). told_at o c.vertex_of-vertex.result) same) k.in_step;
       layer = record { names = k.layer.names ∙ old.layer.names; pieces = k.layer.pieces ∙ old.layer.pieces; next = k.layer.next ∙ old.layer.next };
-      vertices = room_left c.args.records.now.spare_vertices c.loop-i.records.spare_vertices c.make_vertex-vertex.new.records.spare_vertices (vertices_needed ms) (vertices_needed (m ∷ [])) (vertices_needed (drop (i + 1) ms)) (vertices_needed (drop i ms))
+      vertices = room_left c.args.records.now.spare_vertices c.loop-i.records.spare_vertices c.vertex_of-vertex.new.records.spare_vertices (vertices_needed ms) (vertices_needed (m ∷ [])) (vertices_needed (drop (i + 1) ms)) (vertices_needed (drop i ms))
           (ap vertices_needed first ∙ vertices_first m (drop (i + 1) ms)) old.vertices k.vertices;
-      darts = room_left c.args.records.now.spare_darts c.loop-i.records.spare_darts c.make_vertex-vertex.new.records.spare_darts (2 * splits_needed ms) (2 * splits_needed (m ∷ [])) (2 * splits_needed (drop (i + 1) ms)) (2 * splits_needed (drop i ms))
+      darts = room_left c.args.records.now.spare_darts c.loop-i.records.spare_darts c.vertex_of-vertex.new.records.spare_darts (2 * splits_needed ms) (2 * splits_needed (m ∷ [])) (2 * splits_needed (drop (i + 1) ms)) (2 * splits_needed (drop i ms))
           (ap (λ (xs : List Meeting). 2 * splits_needed xs) first ∙ darts_first m (drop (i + 1) ms)) old.darts k.darts;
-      pairs = room_left c.args.history.now.spare_pairs c.loop-i.history.spare_pairs c.make_vertex-vertex.new.history.spare_pairs (pairs_to_part h ms) (pairs_at (curves_on c.loop-i.history) m.spot) (pairs_to_part (curves_on c.make_vertex-vertex.new.history) (drop (i + 1) ms)) (pairs_to_part (curves_on c.loop-i.history) (drop i ms))
-          (ap (pairs_to_part (curves_on c.loop-i.history)) first ∙ ap (λ (n : ℕ). pairs_at (curves_on c.loop-i.history) m.spot + n) (sym (same_pairs_left v h ms c.loop-i.records.graph (curves_on c.loop-i.history) ns i c.loop-i.invariant.midway m l c.index.ensures c.make_vertex-vertex.new.records.graph (curves_on c.make_vertex-vertex.new.history) c.make_vertex-vertex.result k.told)))
+      pairs = room_left c.args.history.now.spare_pairs c.loop-i.history.spare_pairs c.vertex_of-vertex.new.history.spare_pairs (pairs_to_part h ms) (pairs_at (curves_on c.loop-i.history) m.spot) (pairs_to_part (curves_on c.vertex_of-vertex.new.history) (drop (i + 1) ms)) (pairs_to_part (curves_on c.loop-i.history) (drop i ms))
+          (ap (pairs_to_part (curves_on c.loop-i.history)) first ∙ ap (λ (n : ℕ). pairs_at (curves_on c.loop-i.history) m.spot + n) (sym (same_pairs_left v h ms c.loop-i.records.graph (curves_on c.loop-i.history) ns i c.loop-i.invariant.midway m l c.index.ensures c.vertex_of-vertex.new.records.graph (curves_on c.vertex_of-vertex.new.history) c.vertex_of-vertex.result k.told)))
           old.pairs k.pairs;
     }
 

@@ -1,54 +1,39 @@
-use Rattle.std.proofs.Common.{◌≡◌, ap, subst, sym, ◌∙◌}
-use Rattle.slab_laws.specs.declared.names.DartId.{DartId}
-use Rattle.arr_notes.specs.Curves.{step_curves}
-use Rattle.sound_changes.specs.StepOfChange.{step_of_change, FitsChange}
-use Rattle.arr_notes.specs.declared.change.Change.TheVariants.{SplitEdge}
-use Rattle.arr_notes.specs.Step.{step}
-use Rattle.arr_notes.specs.declared.intent.Intent.TheVariants.{SplitEdge as WillSplitEdge}
+use Rattle.std.proofs.Common.{refl}
 use Rattle.plane_graphs.proofs.Lines.{point_is_proper}
-use Rattle.told_steps.proofs.Parts.{fits_split, names_of_split, new_dart, new_place, split_vertex}
+use Rattle.sound_changes.specs.ChangeFits.{FitsSplit}
+use Rattle.arr_notes.specs.declared.change.Change.{Change}
+use Rattle.arr_notes.specs.declared.change.Change.TheVariants.{SplitEdge}
+use Rattle.arr_notes.specs.declared.intent.Intent.TheVariants.{SplitEdge as WillSplitEdge}
 use Rattle.curve_history.specs.Past.{curves_on}
-use Rattle.told_steps.proofs.ToldOnce.{just_changed, told_once}
+use Rattle.told_steps.proofs.Parts.{fits_split, new_dart, split_vertex}
+use Rattle.told_steps.proofs.ToldOnce.{HasMade, changed_by, told_by}
+use Rattle.told_steps.proofs.edges.split_edge.Given as given
+use Rattle.told_steps.proofs.edges.split_edge.Goals.{After-part}
 use Rattle.told_steps.proofs.edges.split_edge.Goals as goal
 
 pub part-requires-clause-two : goal.part-requires-clause-two
-part-requires-clause-two g c = let n = new_place c.args.records.now.graph c.split-change.result c.args.d c.in-SplitEdge.d c.in-SplitEdge.v c.args.p c.in-SplitEdge.p c.in-SplitEdge.n c.in-SplitEdge.m c.split-change.ensures.new_names c.in-SplitEdge.is in new_dart c.args.records.now.graph c.args.p c.args.d c.in-SplitEdge.v c.in-SplitEdge.n c.in-SplitEdge.m c.requires.fits n
+part-requires-clause-two g c = new_dart c.args.records.now.graph c.args.p c.args.d c.split_at-new.result.v c.split_at-new.result.n c.split_at-new.result.m c.requires.fits c.split_at-new.ensures.new_names
 
 pub part-requires-clause-new : goal.part-requires-clause-new
-part-requires-clause-new g c = let n = new_place c.args.records.now.graph c.split-change.result c.args.d c.in-SplitEdge.d c.in-SplitEdge.v c.args.p c.in-SplitEdge.p c.in-SplitEdge.n c.in-SplitEdge.m c.split-change.ensures.new_names c.in-SplitEdge.is in c.requires.in_step.curves.without_dart c.in-SplitEdge.n n.first
+part-requires-clause-new g c = c.requires.in_step.curves.without_dart c.split_at-new.result.n c.split_at-new.ensures.new_names.first
 
-pub returns-clause-graph : goal.returns-clause-graph
-returns-clause-graph g c =
-    let v = c.args.records.now.graph in
-    let n = new_place c.args.records.now.graph c.split-change.result c.args.d c.in-SplitEdge.d c.in-SplitEdge.v c.args.p c.in-SplitEdge.p c.in-SplitEdge.n c.in-SplitEdge.m c.split-change.ensures.new_names c.in-SplitEdge.is in
-    let q = names_of_split c.split-change.result c.args.d c.in-SplitEdge.d c.in-SplitEdge.v c.args.p c.in-SplitEdge.p c.in-SplitEdge.n c.in-SplitEdge.m c.split-change.ensures.change c.in-SplitEdge.is in
-    (c.in-SplitEdge.n, c.in-SplitEdge.m, n, subst (λ z. c.split-change.new.records.graph ≡ step v z) q c.split-change.ensures.graph)
+fits : (g : given.Over) (c : After-part g) → FitsSplit c.args.records.now.graph c.args.d c.split_at-new.result.v c.args.p c.split_at-new.result.n c.split_at-new.result.m
+fits g c = fits_split c.args.records.now.graph c.args.p (point_is_proper c.args.p c.w-weight.ensures.point) c.args.d c.split_at-new.result.v c.split_at-new.result.n c.split_at-new.result.m c.requires.fits c.split_at-new.ensures.new_names
 
-pub returns-clause-vertex : goal.returns-clause-vertex
-returns-clause-vertex g c =
-    let v = c.args.records.now.graph in
-    let n = new_place c.args.records.now.graph c.split-change.result c.args.d c.in-SplitEdge.d c.in-SplitEdge.v c.args.p c.in-SplitEdge.p c.in-SplitEdge.n c.in-SplitEdge.m c.split-change.ensures.new_names c.in-SplitEdge.is in
-    let q = names_of_split c.split-change.result c.args.d c.in-SplitEdge.d c.in-SplitEdge.v c.args.p c.in-SplitEdge.p c.in-SplitEdge.n c.in-SplitEdge.m c.split-change.ensures.change c.in-SplitEdge.is in
-    split_vertex v c.args.p c.args.d c.in-SplitEdge.v c.in-SplitEdge.n c.in-SplitEdge.m c.requires.in_step.sound (fits_split v c.args.p (point_is_proper c.args.p c.w-weight.ensures.point) c.args.d c.in-SplitEdge.v c.in-SplitEdge.n c.in-SplitEdge.m c.requires.fits n) c.split-change.new.records.graph (subst (λ z. c.split-change.new.records.graph ≡ step v z) q c.split-change.ensures.graph)
+abbrev change : (g : given.Over) (c : After-part g) → Change
+change g c = SplitEdge c.args.d c.split_at-new.result.v c.args.p c.split_at-new.result.n c.split_at-new.result.m
+
+made : (g : given.Over) (c : After-part g) → HasMade c.args.records.now.graph (curves_on c.args.history.now) (change g c) c.split_at-new.new.records.graph (curves_on c.part.new.self)
+made g c = record { view = c.split_at-new.ensures.graph; curves = c.part.ensures.curves; fits = fits g c; sound = c.split_at-new.ensures.sound }
 
 pub tell_after-requires : goal.tell_after-requires
-tell_after-requires g c =
-    let v = c.args.records.now.graph in
-    let h = curves_on c.args.history.now in
-    let e = c.split-change.ensures in
-    let n = new_place c.args.records.now.graph c.split-change.result c.args.d c.in-SplitEdge.d c.in-SplitEdge.v c.args.p c.in-SplitEdge.p c.in-SplitEdge.n c.in-SplitEdge.m c.split-change.ensures.new_names c.in-SplitEdge.is in
-    let q = names_of_split c.split-change.result c.args.d c.in-SplitEdge.d c.in-SplitEdge.v c.args.p c.in-SplitEdge.p c.in-SplitEdge.n c.in-SplitEdge.m c.split-change.ensures.change c.in-SplitEdge.is in
-    let t = sym c.in-SplitEdge.is ∙ q in
-    let k = curves_on c.part.new.self in
-    record { changed = just_changed v h (SplitEdge c.in-SplitEdge.d c.in-SplitEdge.v c.in-SplitEdge.p c.in-SplitEdge.n c.in-SplitEdge.m) c.split-change.new.records.graph k (e.graph ∙ ap (step v) c.in-SplitEdge.is) (subst (λ z. (y : DartId) → k y ≡ step_curves h z y) (sym t) c.part.ensures.curves) (subst (FitsChange v h) (sym t) (fits_split v c.args.p (point_is_proper c.args.p c.w-weight.ensures.point) c.args.d c.in-SplitEdge.v c.in-SplitEdge.n c.in-SplitEdge.m c.requires.fits n)) e.sound c.tell_before.ensures.in_step }
+tell_after-requires g c = record { changed = changed_by (made g (goal.at.tell_after-requires g c).After-part) c.tell_before.ensures.in_step }
+
+pub returns-clause-vertex : goal.returns-clause-vertex
+returns-clause-vertex g c = split_vertex c.args.records.now.graph c.args.p c.args.d c.split_at-new.result.v c.split_at-new.result.n c.split_at-new.result.m c.requires.in_step.sound (fits g (goal.at.returns-clause-vertex g c).After-part) c.split_at-new.new.records.graph c.split_at-new.ensures.graph
+
+pub returns-clause-graph : goal.returns-clause-graph
+returns-clause-graph g c = (c.split_at-new.result.n, c.split_at-new.result.m, c.split_at-new.ensures.new_names, c.split_at-new.ensures.graph)
 
 pub returns-clause-told : goal.returns-clause-told
-returns-clause-told g c =
-    let v = c.args.records.now.graph in
-    let h = curves_on c.args.history.now in
-    let e = c.split-change.ensures in
-    let n = new_place c.args.records.now.graph c.split-change.result c.args.d c.in-SplitEdge.d c.in-SplitEdge.v c.args.p c.in-SplitEdge.p c.in-SplitEdge.n c.in-SplitEdge.m c.split-change.ensures.new_names c.in-SplitEdge.is in
-    let q = names_of_split c.split-change.result c.args.d c.in-SplitEdge.d c.in-SplitEdge.v c.args.p c.in-SplitEdge.p c.in-SplitEdge.n c.in-SplitEdge.m c.split-change.ensures.change c.in-SplitEdge.is in
-    let t = sym c.in-SplitEdge.is ∙ q in
-    let k = curves_on c.part.new.self in
-    told_once v h (SplitEdge c.in-SplitEdge.d c.in-SplitEdge.v c.in-SplitEdge.p c.in-SplitEdge.n c.in-SplitEdge.m) c.split-change.new.records.graph k (e.graph ∙ ap (step v) c.in-SplitEdge.is) (subst (λ z. (y : DartId) → k y ≡ step_curves h z y) (sym t) c.part.ensures.curves) (subst (FitsChange v h) (sym t) (fits_split v c.args.p (point_is_proper c.args.p c.w-weight.ensures.point) c.args.d c.in-SplitEdge.v c.in-SplitEdge.n c.in-SplitEdge.m c.requires.fits n)) e.sound _ (ap (step_of_change v) t) _ (λ i. WillSplitEdge (c.ends-low.ensures.low i) (c.ends-low.ensures.high i) c.args.p) c.tell_before.ensures.round c.tell_after.ensures.round
+returns-clause-told g c = told_by (made g (goal.at.returns-clause-told g c).After-part) _ refl _ (λ i. WillSplitEdge (c.ends-low.ensures.low i) (c.ends-low.ensures.high i) c.args.p) c.tell_before.ensures.round c.tell_after.ensures.round

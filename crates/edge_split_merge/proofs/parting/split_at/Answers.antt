@@ -5,7 +5,7 @@ use Rattle.slab_laws.specs.View.{View, HasVertex, next_in, twin_in}
 use Rattle.arr_notes.specs.Step.{split_edge}
 use Rattle.edge_split_merge.proofs.Parted.{split_is_sound}
 use Rattle.edge_split_merge.proofs.Written.{vertex_there, vertex_still, IsPlaced, placed, followed, rest_there, dart_kept, chained}
-use Rattle.edge_split_merge.proofs.parting.split.Goals as goal
+use Rattle.edge_split_merge.proofs.parting.split_at.Goals as goal
 
 pub add_pair-requires-clause-u : goal.add_pair-requires-clause-u
 add_pair-requires-clause-u c = vertex_there c.args.records.now.graph c.add_vertex-v.new.self.graph c.add_vertex-v.result c.args.p c.add_vertex-v.ensures.graph

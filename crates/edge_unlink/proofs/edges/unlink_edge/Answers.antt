@@ -8,7 +8,7 @@ use Rattle.arr_notes.specs.Step.{remove_edge}
 use Rattle.arr_notes.proofs.Redirected.{relinked as once_kept}
 use Rattle.sound_changes.proofs.EdgeRemoved.{fewer, removed}
 use Rattle.edge_unlink.proofs.Closing.{kept, written, comes_in, edge_gone, rest_kept, ends_kept}
-use Rattle.edge_unlink.proofs.edges.unlink.Goals as goal
+use Rattle.edge_unlink.proofs.edges.unlink_edge.Goals as goal
 
 pub set_next-requires-2 : goal.set_next-requires-2
 set_next-requires-2 c = (once_kept c.args.records.now.graph c.set_next.new.self.graph _ _ c.set_next.ensures.graph).has c.twin-into_m.result c.twin-into_m.ensures.has

@@ -6,7 +6,7 @@ use Rattle.arr_notes.specs.Step.{merge_edge}
 use Rattle.arr_notes.proofs.Redirected.{relinked}
 use Rattle.sound_changes.proofs.Merges.{merge_sound}
 use Rattle.edge_split_merge.proofs.Removed.{IsMoved, moved, still_out, source_kept, twin_out, far_out, far_there, not_twin, ends_apart, none_left, twin_left, vertex_still, bare, made}
-use Rattle.edge_split_merge.proofs.joining.merge.Goals as goal
+use Rattle.edge_split_merge.proofs.joining.merge_at.Goals as goal
 
 -- only followers were written
 one_write : (c : goal.After-move_source-arg-1) → IsRelinked c.args.records.now.graph c.set_next.new.self.graph

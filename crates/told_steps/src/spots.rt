@@ -1,0 +1,53 @@
+ghost use Rattle.std.specs.Prelude.{◌≤◌};
+ghost use Rattle.curve_history.specs.Past.{curves_on, SameLayer, SpendsPairs};
+ghost use Rattle.dcel_records.specs.RecordsView.{IsSpare};
+ghost use Rattle.dcel_records.specs.Spots.{IsSpotOf};
+ghost use Rattle.observer_bus.specs.Rows.{bus_row};
+ghost use Rattle.sound_views.specs.RecordGraphLaws.{IsVertexAt};
+ghost use Rattle.told_steps.specs.ToldRuns.{AreInStep, IsToldRun};
+ghost use Rattle.told_steps.specs.VertexMade.{darts_at, IsPlaneWith, IsVertexMade, pairs_at, steps_at_spot, vertices_at};
+
+use crate::edges::split_edge;
+use crate::vertices::add_vertex;
+use curve_history::History;
+use dcel_records::{Records, Spot};
+use exact_plane::Point;
+use observer_bus::Bus;
+use slab_laws::VertexId;
+use std::alloc::Global;
+
+/// The vertex at a point; where there is none, the point becomes one at its spot, in room that is there: the edge that has it inside
+/// is split, or a vertex comes inside a face. Where no observer joins it takes no memory of its own (CGAL manual, `insert_point`).
+pub fn make_vertex(
+    alloc: Global,
+    records: &mut Records,
+    history: &mut History,
+    bus: &mut Bus,
+    at: Spot,
+    p: Point,
+) -> VertexId
+    requires in_step { AreInStep records.old.graph (curves_on history.old)
+        (bus_row Observer-dyn bus.old) }
+    requires spot { IsSpotOf records.old.graph p at }
+    requires plane { IsPlaneWith records.old.graph (curves_on history.old) p at }
+    requires vertices { vertices_at at ≤ records.old.spare_vertices }
+    requires darts { darts_at at ≤ records.old.spare_darts }
+    requires pairs { pairs_at (curves_on history.old) at ≤ history.old.spare_pairs }
+    ensures told { IsToldRun records.old.graph (curves_on history.old)
+        (bus_row Observer-dyn bus.old)
+        (steps_at_spot records.old.graph p at) records.new.graph (curves_on history.new)
+        (bus_row Observer-dyn bus.new) }
+    ensures in_step { AreInStep records.new.graph (curves_on history.new)
+        (bus_row Observer-dyn bus.new) }
+    ensures vertex { IsVertexAt records.new.graph p result }
+    ensures made { IsVertexMade records.old.graph (curves_on history.old) p at records.new.graph (curves_on history.new) result }
+    ensures layer { SameLayer history.old history.new }
+    ensures spare { IsSpare records.new records.old (vertices_at at) (darts_at at) }
+    ensures spare_history { SpendsPairs history.old history.new (pairs_at (curves_on history.old) at) }
+{
+    match at {
+        Spot::Vertex(vertex) => vertex,
+        Spot::Edge(d) => split_edge(alloc, records, history, bus, d, p),
+        Spot::Face => add_vertex(alloc, records, &*history, bus, p),
+    }
+}
