@@ -5,10 +5,10 @@ use Rattle.edit_steps.specs.Edits.{Edit, steps}
 use Rattle.edit_steps.specs.Layer.{layer_after}
 use Rattle.slab_laws.specs.declared.names.CurveId.{CurveId}
 use Rattle.curve_history.specs.Past.{curves_on, SameLayer, SameCurves}
-use Rattle.record_layers.specs.RecordLayers.{IsLayer, IsRunOfSteps}
-use Rattle.record_layers.specs.LayerSteps.{NamesStay}
-use Rattle.record_layers.proofs.Edits.{edits_grow_or_shrink}
-use Rattle.record_layers.proofs.Names.{grown_names_stay, shrunk_names_stay}
+use Rattle.told_steps.specs.RecordLayers.{IsLayer, IsRunOfSteps}
+use Rattle.told_steps.specs.LayerSteps.{NamesStay}
+use Rattle.told_steps.proofs.Edits.{edits_grow_or_shrink}
+use Rattle.told_steps.proofs.Names.{grown_names_stay, shrunk_names_stay}
 use Rattle.observer_bus.specs.Calls.{begun}
 use Rattle.told_steps.specs.ToldRuns.{IsToldRun}
 use Rattle.told_steps.proofs.ToldTogether.{told_runs_lawful}

@@ -16,8 +16,8 @@ use Rattle.arr_notes.proofs.Names.{numbers_of as numbers}
 use Rattle.arr_notes.specs.RecordGraph.{drawn_graph, marks_along}
 use Rattle.curve_history.specs.Past.{Past, curves_on, SameLayer, SameCurves}
 use Rattle.curve_history.specs.DrawnRecords.{curves_in, forward_of}
-use Rattle.record_layers.specs.RecordLayers.{IsLayer, layer_of}
-use Rattle.record_layers.proofs.Layers.{nothing_is_a_layer}
+use Rattle.told_steps.specs.RecordLayers.{IsLayer, layer_of}
+use Rattle.told_steps.proofs.Layers.{nothing_is_a_layer}
 use Rattle.plain_slabs.specs.ByName.{numbers_of}
 
 -- ---- nothing

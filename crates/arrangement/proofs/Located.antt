@@ -19,9 +19,9 @@ use Rattle.arr_notes.specs.Curves.{IsForward}
 use Rattle.sound_views.proofs.GraphDrawn.{graphs_are_drawn}
 use Rattle.record_orders.proofs.EdgeEnds.{ahead}
 use Rattle.curve_history.specs.Past.{Past, curves_on}
-use Rattle.record_layers.specs.RecordLayers.{IsLayer, layer_of}
-use Rattle.record_layers.proofs.LayerEdges.{along_drawn}
-use Rattle.record_layers.proofs.NamedLayers.{layers_are_named}
+use Rattle.told_steps.specs.RecordLayers.{IsLayer, layer_of}
+use Rattle.told_steps.proofs.LayerEdges.{along_drawn}
+use Rattle.told_steps.proofs.NamedLayers.{layers_are_named}
 
 module _ (v : View) (h : Past) (l : IsLayer v h) where
   abbrev drawn : Skeleton

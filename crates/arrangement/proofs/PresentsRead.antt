@@ -15,7 +15,7 @@ use Rattle.slab_laws.specs.Overlay.{both, overlay}
 use Rattle.slab_laws.specs.OverlayText.{presents_text}
 use Rattle.curve_history.specs.Past.{Past, curves_on}
 use Rattle.record_orders.specs.Keys.{vertex_keys}
-use Rattle.record_layers.specs.RecordLayers.{IsLayer, layer_of}
+use Rattle.told_steps.specs.RecordLayers.{IsLayer, layer_of}
 use Rattle.plain_slabs.specs.ByName.{points_at, pinned_among}
 use Rattle.plain_slabs.specs.Listed.{subdivision_in, AreLinesOf}
 use Rattle.plain_slabs.specs.OverlayInMemory.{Overlaid, layer_view, graph_of, faces_in}

@@ -11,7 +11,7 @@ use Rattle.arr_notes.specs.RecordGraph.{drawn_graph}
 use Rattle.arr_notes.proofs.CurveRows.{curve_row, curves_of_row, read_views_are_sound}
 use Rattle.arr_notes.proofs.Names.{numbers_of}
 use Rattle.curve_history.specs.Past.{Past, curves_on}
-use Rattle.record_layers.specs.RecordLayers.{IsLayer, layer_of}
+use Rattle.told_steps.specs.RecordLayers.{IsLayer, layer_of}
 use Rattle.observer_bus.specs.Calls.{IsAttached, IsHeldSound, IsPlaced, IsReport, is_seat_of, seat_of, seats_left, with_leave, with_seats}
 use Rattle.observer_bus.specs.Rounds.{BusRow}
 use Rattle.observer_bus.specs.Seats.{SeatRow, Holds}

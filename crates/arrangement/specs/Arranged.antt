@@ -9,7 +9,7 @@ use Rattle.slab_laws.specs.Text.{skeleton}
 use Rattle.slab_laws.specs.View.{View}
 use Rattle.curve_history.specs.Past.{Past, curves_on}
 use Rattle.curve_history.specs.declared.history.TheConstants.{LAST_CURVE}
-use Rattle.record_layers.specs.RecordLayers.{layer_of}
+use Rattle.told_steps.specs.RecordLayers.{layer_of}
 use Rattle.observer_bus.specs.Rounds.{BusRow}
 use Rattle.observer_bus.specs.Rows.{Meanings, bus_row}
 use Rattle.observer_bus.specs.Seats.{Holds}

@@ -3,7 +3,7 @@ use Rattle.std.specs.Prelude.{◌≡◌}
 use Rattle.edit_steps.specs.Edits.{Edit, steps}
 use Rattle.edit_steps.specs.Layer.{layer_after}
 use Rattle.curve_history.specs.Past.{curves_on, SameCurves}
-use Rattle.record_layers.specs.LayerSteps.{NamesStay}
+use Rattle.told_steps.specs.LayerSteps.{NamesStay}
 use Rattle.observer_bus.specs.Calls.{begun}
 use Rattle.told_steps.specs.ToldRuns.{IsToldRun}
 use Rattle.arrangement.specs.Arranged.{Arranged, layer_in}

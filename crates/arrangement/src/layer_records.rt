@@ -10,7 +10,7 @@ pub(crate) struct LayerRecords {
 }
 
 impl Model for LayerRecords {
-    ghost use Rattle.record_layers.specs.RecordLayers.{IsLayer};
+    ghost use Rattle.told_steps.specs.RecordLayers.{IsLayer};
     ghost use Rattle.arrangement.specs.LayerRecords.{LayerRecordsView};
 
     ghost Value = { LayerRecordsView };

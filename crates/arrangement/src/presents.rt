@@ -2,7 +2,7 @@ ghost use Rattle.std.specs.Prelude.{◌≡◌, map, IfOk};
 ghost use Rattle.plane_graphs.specs.Fit.{IsFit};
 ghost use Rattle.slab_laws.specs.Pieces.{piece_of, present_of};
 ghost use Rattle.slab_laws.specs.Sound.{IsGraphSound};
-ghost use Rattle.record_layers.specs.RecordLayers.{layer_of};
+ghost use Rattle.told_steps.specs.RecordLayers.{layer_of};
 ghost use Rattle.record_orders.specs.Keys.{vertex_keys};
 ghost use Rattle.plain_slabs.specs.ByName.{points_at, pinned_among};
 

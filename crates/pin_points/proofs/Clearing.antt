@@ -6,8 +6,8 @@ use Rattle.edit_steps.specs.Steps.{Clear}
 use Rattle.slab_laws.specs.View.{View}
 use Rattle.curve_history.specs.Past.{Past, curves_on}
 use Rattle.observer_bus.specs.Rounds.{BusRow}
-use Rattle.record_layers.specs.RecordLayers.{IsLayer, layer_of}
-use Rattle.record_layers.proofs.Layers.{steps_make_layers}
+use Rattle.told_steps.specs.RecordLayers.{IsLayer, layer_of}
+use Rattle.told_steps.proofs.Layers.{steps_make_layers}
 use Rattle.told_steps.proofs.ToldTogether.{told_runs_lawful}
 use Rattle.told_steps.specs.ToldRuns.{IsToldRun}
 

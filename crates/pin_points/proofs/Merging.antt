@@ -24,8 +24,8 @@ use Rattle.arr_notes.specs.Curves.{Curves}
 use Rattle.curve_history.specs.Past.{Past, curves_on, SameLayer}
 use Rattle.arr_notes.specs.RecordGraph.{drawn_graph}
 use Rattle.observer_bus.specs.Rounds.{BusRow}
-use Rattle.record_layers.specs.RecordLayers.{IsLayer, layer_of}
-use Rattle.record_layers.proofs.Layers.{steps_make_layers}
+use Rattle.told_steps.specs.RecordLayers.{IsLayer, layer_of}
+use Rattle.told_steps.proofs.Layers.{steps_make_layers}
 use Rattle.sound_changes.proofs.StepHolds.{point_held, held_point}
 use Rattle.redundant_vertices.specs.Tidied.{IsTidied}
 use Rattle.told_steps.proofs.ToldTogether.{told_runs_lawful}

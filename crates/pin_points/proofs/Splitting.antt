@@ -22,8 +22,8 @@ use Rattle.curve_history.specs.Past.{Past, curves_on, SameLayer}
 use Rattle.arr_notes.specs.RecordGraph.{drawn_graph}
 use Rattle.observer_bus.specs.Rounds.{BusRow}
 use Rattle.sound_views.specs.RecordGraphLaws.{IsMarkOf, IsVertexAt}
-use Rattle.record_layers.specs.RecordLayers.{IsLayer, layer_of}
-use Rattle.record_layers.proofs.Layers.{steps_make_layers}
+use Rattle.told_steps.specs.RecordLayers.{IsLayer, layer_of}
+use Rattle.told_steps.proofs.Layers.{steps_make_layers}
 use Rattle.sound_changes.proofs.StepHolds.{held_mark}
 use Rattle.record_orders.specs.Edges.{IsDartAlong, RunsBetween}
 use Rattle.record_orders.proofs.EdgeEnds.{ahead, along_runs, edge_of_ends}

@@ -32,8 +32,8 @@ use Rattle.curve_history.specs.Past.{Past, curves_on, SameLayer}
 use Rattle.arr_notes.specs.RecordGraph.{drawn_graph}
 use Rattle.observer_bus.specs.Rounds.{BusRow}
 use Rattle.sound_changes.proofs.ChangesAreSteps.{changes_are_steps}
-use Rattle.record_layers.specs.RecordLayers.{IsLayer, layer_of}
-use Rattle.record_layers.proofs.Layers.{steps_make_layers}
+use Rattle.told_steps.specs.RecordLayers.{IsLayer, layer_of}
+use Rattle.told_steps.proofs.Layers.{steps_make_layers}
 use Rattle.told_steps.proofs.ToldTogether.{told_runs_lawful}
 use Rattle.told_steps.specs.ToldRuns.{IsToldRun}
 use Rattle.redundant_vertices.specs.Tidied.{IsTidied}

@@ -12,7 +12,7 @@ use Rattle.record_orders.specs.Edges.{IsDartAlong}
 use Rattle.pin_points.specs.Pins.{HasRoomFor}
 use Rattle.pin_points.specs.declared.split.SplitError.{SplitError}
 use Rattle.pin_points.specs.declared.split.SplitError.TheVariants.{NoEdge, NotInside, Full, NoMemory}
-use Rattle.record_layers.specs.LayerEdits.{layer_at}
+use Rattle.told_steps.specs.LayerEdits.{layer_at}
 
 -- the edge between two points, which come in either order, gets the pin r inside it (CGAL manual, `split_edge`; the pin: this project)
 abbrev pub split_at : Point → Point → Point → Edit

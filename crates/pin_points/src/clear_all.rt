@@ -1,10 +1,10 @@
 ghost use Rattle.edit_steps.specs.Edits.{ClearAll};
 ghost use Rattle.dcel_records.specs.RecordsView.{SameRecordCapacity};
 ghost use Rattle.curve_history.specs.Past.{SameHistoryCapacity};
-ghost use Rattle.record_layers.specs.RecordLayers.{IsLayer};
+ghost use Rattle.told_steps.specs.RecordLayers.{IsLayer};
 ghost use Rattle.observer_bus.specs.Rows.{bus_row};
 ghost use Rattle.told_steps.specs.ToldEdits.{AreWatched, IsToldEdit};
-ghost use Rattle.record_layers.specs.LayerEdits.{IsAfter};
+ghost use Rattle.told_steps.specs.LayerEdits.{IsAfter};
 
 use curve_history::History;
 use dcel_records::Records;

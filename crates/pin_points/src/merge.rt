@@ -3,11 +3,11 @@ ghost use Rattle.edit_steps.specs.Edits.{Merge};
 ghost use Rattle.edit_steps.specs.Refusals.{merge_refusal, IsAnswerFor};
 ghost use Rattle.dcel_records.specs.RecordsView.{SameRecordCapacity};
 ghost use Rattle.curve_history.specs.Past.{SameLayer, SameCurves, SameHistoryCapacity};
-ghost use Rattle.record_layers.specs.RecordLayers.{IsLayer};
+ghost use Rattle.told_steps.specs.RecordLayers.{IsLayer};
 ghost use Rattle.pin_points.specs.Merges.{merge_said};
 ghost use Rattle.observer_bus.specs.Rows.{bus_row};
 ghost use Rattle.told_steps.specs.ToldEdits.{AreWatched, IsToldEdit};
-ghost use Rattle.record_layers.specs.LayerEdits.{layer_at, IsAfter};
+ghost use Rattle.told_steps.specs.LayerEdits.{layer_at, IsAfter};
 
 use curve_history::History;
 use dcel_records::Records;

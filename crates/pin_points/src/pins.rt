@@ -5,11 +5,11 @@ ghost use Rattle.edit_steps.specs.Refusals.{pin_refusal, unpin_refusal, IsAnswer
 ghost use Rattle.dcel_records.specs.RecordsView.{SameRecordCapacity};
 ghost use Rattle.dcel_records.specs.Spots.{IsSpotOf};
 ghost use Rattle.curve_history.specs.Past.{SameLayer, SameCurves, SameHistoryCapacity};
-ghost use Rattle.record_layers.specs.RecordLayers.{IsLayer};
+ghost use Rattle.told_steps.specs.RecordLayers.{IsLayer};
 ghost use Rattle.pin_points.specs.Pins.{pin_said, unpin_said, is_pinned_spot, pairs_parted, HasRoomFor};
 ghost use Rattle.observer_bus.specs.Rows.{bus_row};
 ghost use Rattle.told_steps.specs.ToldEdits.{AreWatched, IsToldEdit};
-ghost use Rattle.record_layers.specs.LayerEdits.{layer_at, IsAfter};
+ghost use Rattle.told_steps.specs.LayerEdits.{layer_at, IsAfter};
 
 use curve_history::History;
 use dcel_records::{Records, Room, Spot};

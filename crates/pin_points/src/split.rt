@@ -4,11 +4,11 @@ ghost use Rattle.slab_laws.specs.Skeleton.{inside};
 ghost use Rattle.slab_laws.specs.Sound.{IsGraphSound, edge_in};
 ghost use Rattle.arr_notes.specs.Curves.{IsForward};
 ghost use Rattle.curve_history.specs.Past.{SameLayer, SameCurves};
-ghost use Rattle.record_layers.specs.RecordLayers.{IsLayer};
+ghost use Rattle.told_steps.specs.RecordLayers.{IsLayer};
 ghost use Rattle.pin_points.specs.Splits.{split_at, split_said, split_refusal_at, HasRoomToSplit};
 ghost use Rattle.observer_bus.specs.Rows.{bus_row};
 ghost use Rattle.told_steps.specs.ToldEdits.{AreWatched, IsToldEdit};
-ghost use Rattle.record_layers.specs.LayerEdits.{IsAfter};
+ghost use Rattle.told_steps.specs.LayerEdits.{IsAfter};
 
 use crate::pins::{is_full, make_room};
 use curve_history::History;

@@ -31,8 +31,8 @@ use Rattle.dcel_records.specs.RecordsView.{RecordsView, SameRecordCapacity}
 use Rattle.curve_history.specs.Past.{Past, SameHistoryCapacity}
 use Rattle.observer_bus.specs.Rounds.{BusRow}
 use Rattle.sound_changes.proofs.StepHolds.{held_pin, held_point, pin_held, point_held}
-use Rattle.record_layers.proofs.Runs.{made_is_run}
-use Rattle.record_layers.proofs.Stays.{IsSamePlace}
+use Rattle.told_steps.proofs.Runs.{made_is_run}
+use Rattle.told_steps.proofs.Stays.{IsSamePlace}
 use Rattle.told_steps.proofs.Begun.{none_told}
 use Rattle.told_steps.proofs.ToldTogether.{told_runs_lawful}
 use Rattle.told_steps.specs.ToldRuns.{AreInStep, IsToldRun}

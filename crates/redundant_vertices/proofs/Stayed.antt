@@ -14,11 +14,11 @@ use Rattle.arr_notes.specs.Curves.{Curves}
 use Rattle.arr_notes.specs.RecordGraph.{drawn_graph}
 use Rattle.observer_bus.specs.Rounds.{BusRow}
 use Rattle.sound_changes.proofs.StepHolds.{point_held}
-use Rattle.record_layers.specs.LayerSteps.{Shrinks}
-use Rattle.record_layers.proofs.Names.{shrunk_names_stay}
-use Rattle.record_layers.proofs.Runs.{made_is_run}
-use Rattle.record_layers.proofs.Stays.{IsSamePlace}
-use Rattle.record_layers.proofs.Edits.{one_of}
+use Rattle.told_steps.specs.LayerSteps.{Shrinks}
+use Rattle.told_steps.proofs.Names.{shrunk_names_stay}
+use Rattle.told_steps.proofs.Runs.{made_is_run}
+use Rattle.told_steps.proofs.Stays.{IsSamePlace}
+use Rattle.told_steps.proofs.Edits.{one_of}
 use Rattle.told_steps.proofs.ToldTogether.{told_runs_lawful}
 use Rattle.told_steps.specs.ToldRuns.{AreInStep}
 use Rattle.redundant_vertices.specs.Tidied.{IsTidied}

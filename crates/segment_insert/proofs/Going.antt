@@ -19,7 +19,7 @@ use Rattle.arr_notes.specs.Curves.{Curves}
 use Rattle.dcel_records.specs.declared.spot.Spot.TheVariants.{Vertex}
 use Rattle.arr_notes.specs.RecordGraph.{drawn_graph}
 use Rattle.observer_bus.specs.Rounds.{BusRow}
-use Rattle.record_layers.proofs.Runs.{made_is_run}
+use Rattle.told_steps.proofs.Runs.{made_is_run}
 use Rattle.told_steps.proofs.Begun.{none_told}
 use Rattle.told_steps.proofs.ToldTogether.{told_runs_lawful}
 use Rattle.told_steps.specs.ToldRuns.{AreInStep, IsToldRun}

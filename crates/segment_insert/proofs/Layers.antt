@@ -2,7 +2,7 @@
 use Rattle.std.proofs.Common.{sym, subst}
 use Rattle.curve_history.specs.Past.{Past, curves_on, SameCurves}
 use Rattle.dcel_records.specs.RecordsView.{RecordsView}
-use Rattle.record_layers.proofs.Moved.{one_curves}
+use Rattle.told_steps.proofs.Moved.{one_curves}
 use Rattle.zone_walk.specs.declared.plan.ZonePlan.{ZonePlan}
 use Rattle.segment_insert.specs.Insertion.{HasRoomFor}
 

@@ -23,14 +23,14 @@ use Rattle.arr_notes.specs.Curves.{Curves}
 use Rattle.curve_history.specs.Past.{Past, curves_on}
 use Rattle.arr_notes.specs.RecordGraph.{drawn_graph}
 use Rattle.observer_bus.specs.Rounds.{BusRow}
-use Rattle.record_layers.specs.RecordLayers.{IsLayer, layer_of, IsRunOfSteps}
+use Rattle.told_steps.specs.RecordLayers.{IsLayer, layer_of, IsRunOfSteps}
 use Rattle.told_steps.proofs.ToldTogether.{told_runs_lawful}
 use Rattle.told_steps.specs.ToldRuns.{IsToldRun}
 use Rattle.zone_walk.specs.declared.plan.Meeting.{Meeting}
 use Rattle.zone_walk.specs.declared.plan.ZonePlan.{ZonePlan}
 use Rattle.zone_walk.specs.Zone.{IsZoneOf, AreSpotsBetween, is_on_segment, meeting_points, splits_needed, points_of_meetings}
 use Rattle.segment_insert.specs.Insertion.{AreMeetings, AreAllOn}
-use Rattle.record_layers.proofs.Layers.{steps_make_layers}
+use Rattle.told_steps.proofs.Layers.{steps_make_layers}
 use Rattle.segment_insert.proofs.Passing.{points_ascend}
 use Rattle.segment_insert.proofs.Whole as whole
 use Rattle.segment_insert.specs.Coming.{steps_at}

@@ -32,7 +32,7 @@ use Rattle.sound_changes.specs.StepOfChange.{step_of_change, FitsChange}
 use Rattle.sound_changes.proofs.StepHolds.{point_held}
 use Rattle.sound_changes.proofs.StepCases.{at_other}
 use Rattle.sound_views.specs.RecordGraphLaws.{IsVertexAt}
-use Rattle.record_layers.specs.RecordLayers.{IsRunOfSteps}
+use Rattle.told_steps.specs.RecordLayers.{IsRunOfSteps}
 use Rattle.told_steps.proofs.ToldTogether.{told_runs_lawful}
 use Rattle.told_steps.specs.ToldRuns.{IsToldRun}
 use Rattle.zone_walk.specs.declared.plan.Meeting.{Meeting}

@@ -28,8 +28,8 @@ use Rattle.arr_notes.specs.Curves.{Curves, AreCurvesOf}
 use Rattle.arr_notes.specs.RecordGraph.{drawn_graph}
 use Rattle.sound_changes.proofs.StepHolds.{point_held}
 use Rattle.observer_bus.specs.Rounds.{BusRow}
-use Rattle.record_layers.specs.RecordLayers.{IsRunOfSteps}
-use Rattle.record_layers.proofs.Runs.{made_is_run}
+use Rattle.told_steps.specs.RecordLayers.{IsRunOfSteps}
+use Rattle.told_steps.proofs.Runs.{made_is_run}
 use Rattle.told_steps.proofs.ToldTogether.{told_runs_lawful}
 use Rattle.told_steps.specs.ToldRuns.{IsToldRun}
 use Rattle.zone_walk.specs.Zone.{is_on_segment, meeting_points}

@@ -9,7 +9,7 @@ use Rattle.slab_laws.specs.View.{View, HasVertex, point_in}
 use Rattle.arr_notes.specs.Curves.{Curves}
 use Rattle.curve_history.specs.declared.history.TheConstants.{LAST_CURVE}
 use Rattle.curve_history.specs.Past.{Past}
-use Rattle.record_layers.specs.LayerEdits.{layer_at}
+use Rattle.told_steps.specs.LayerEdits.{layer_at}
 use Rattle.dcel_records.specs.RecordsView.{RecordsView}
 use Rattle.dcel_records.specs.declared.spot.Spot.TheVariants.{Vertex}
 use Rattle.dcel_records.specs.Spots.{IsSpotOf}

@@ -6,13 +6,13 @@ ghost use Rattle.dcel_records.specs.RecordsView.{RecordsView};
 ghost use Rattle.dcel_records.specs.Spots.{IsSpotOf};
 ghost use Rattle.curve_history.specs.Past.{curves_on, SameLayer, SameCurves};
 ghost use Rattle.curve_history.specs.declared.history.TheConstants.{LAST_CURVE};
-ghost use Rattle.record_layers.specs.RecordLayers.{IsLayer};
+ghost use Rattle.told_steps.specs.RecordLayers.{IsLayer};
 ghost use Rattle.zone_walk.specs.Zone.{IsZoneOf};
 ghost use Rattle.segment_insert.specs.Insertion.{insert_said, refusal_at, pairs_needed, HasRoomFor};
 ghost use Rattle.observer_bus.specs.Rows.{bus_row};
 ghost use Rattle.told_steps.specs.ToldEdits.{AreWatched, IsToldEdit};
 ghost use Rattle.told_steps.specs.ToldRuns.{AreInStep, IsToldRun};
-ghost use Rattle.record_layers.specs.LayerEdits.{IsAfter, layer_at};
+ghost use Rattle.told_steps.specs.LayerEdits.{IsAfter, layer_at};
 
 use crate::edges::make_edges;
 use crate::vertices::make_vertices;

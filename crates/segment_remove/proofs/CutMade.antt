@@ -18,8 +18,8 @@ use Rattle.arr_notes.specs.Step.{remove_edge}
 use Rattle.curve_history.specs.Past.{Past, curves_on, SameCurves}
 use Rattle.arr_notes.specs.RecordGraph.{drawn_graph}
 use Rattle.observer_bus.specs.Rounds.{BusRow}
-use Rattle.record_layers.specs.RecordLayers.{IsLayer, layer_of}
-use Rattle.record_layers.proofs.Layers.{steps_make_layers}
+use Rattle.told_steps.specs.RecordLayers.{IsLayer, layer_of}
+use Rattle.told_steps.proofs.Layers.{steps_make_layers}
 use Rattle.record_orders.specs.Edges.{IsDartAlong, RunsBetween}
 use Rattle.record_orders.proofs.EdgeEnds.{along_runs}
 use Rattle.redundant_vertices.specs.Left.{AreLeft, tidying}

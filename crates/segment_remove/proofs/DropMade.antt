@@ -18,11 +18,11 @@ use Rattle.curve_history.specs.Past.{Past, curves_on, SameCurves}
 use Rattle.arr_notes.specs.RecordGraph.{drawn_graph}
 use Rattle.sound_views.proofs.GraphHolds.{graphs_hold}
 use Rattle.observer_bus.specs.Rounds.{BusRow}
-use Rattle.record_layers.specs.RecordLayers.{IsLayer, layer_of}
-use Rattle.record_layers.proofs.Layers.{steps_make_layers}
+use Rattle.told_steps.specs.RecordLayers.{IsLayer, layer_of}
+use Rattle.told_steps.proofs.Layers.{steps_make_layers}
 use Rattle.record_orders.specs.declared.darts.DartKey.{DartKey}
 use Rattle.record_orders.proofs.Sorting.{all_members}
-use Rattle.record_layers.proofs.LayerEdges.{curved_forward}
+use Rattle.told_steps.proofs.LayerEdges.{curved_forward}
 use Rattle.segment_remove.specs.Ends.{AreEnds}
 use Rattle.redundant_vertices.specs.Left.{AreLeft, tidying}
 use Rattle.told_steps.specs.ToldRuns.{IsToldRun}

@@ -25,8 +25,8 @@ use Rattle.observer_bus.specs.Rounds.{BusRow}
 use Rattle.record_orders.specs.declared.darts.DartKey.{DartKey}
 use Rattle.record_orders.specs.Keys.{dart_key}
 use Rattle.record_orders.specs.Edges.{edge_of_key}
-use Rattle.record_layers.proofs.LayerEdges.{forward_by_curve}
-use Rattle.record_layers.proofs.Stays.{way_on}
+use Rattle.told_steps.proofs.LayerEdges.{forward_by_curve}
+use Rattle.told_steps.proofs.Stays.{way_on}
 use Rattle.told_steps.specs.ToldRuns.{AreInStep, IsToldRun}
 use Rattle.told_steps.proofs.Begun.{none_told}
 use Rattle.told_steps.proofs.ToldTogether.{told_runs_lawful}

@@ -12,7 +12,7 @@ use Rattle.slab_laws.specs.View.{View, point_in, source_in, target_in}
 use Rattle.curve_history.specs.Past.{Past, curves_on}
 use Rattle.arr_notes.specs.RecordGraph.{drawn_graph}
 use Rattle.sound_views.proofs.GraphHolds.{graphs_hold}
-use Rattle.record_layers.specs.RecordLayers.{IsLayer, layer_of}
+use Rattle.told_steps.specs.RecordLayers.{IsLayer, layer_of}
 use Rattle.record_orders.specs.Edges.{IsDartAlong}
 use Rattle.record_orders.proofs.EdgeEnds.{ahead, along_runs, edge_of_ends}
 use Rattle.integers.proofs.Tests.{not_true}

@@ -7,7 +7,7 @@ use Rattle.edit_steps.specs.Steps.{with_cut}
 use Rattle.slab_laws.specs.Sound.{edge_between}
 use Rattle.dcel_records.specs.RecordsView.{RecordsView}
 use Rattle.curve_history.specs.Past.{Past}
-use Rattle.record_layers.specs.LayerEdits.{layer_at}
+use Rattle.told_steps.specs.LayerEdits.{layer_at}
 use Rattle.segment_remove.specs.declared.cuts.CutError.{CutError}
 use Rattle.segment_remove.specs.declared.cuts.CutError.TheVariants.{NoEdge, Full, NoMemory as NoMemoryToCut}
 use Rattle.segment_remove.specs.declared.drops.DropError.{DropError}

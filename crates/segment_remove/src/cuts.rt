@@ -1,11 +1,11 @@
 ghost use Rattle.std.specs.Prelude.{◌≡◌, ◌≢◌, ◌≤◌, ◌+◌, length, Err, IsOk, OnOk, OnErr};
 ghost use Rattle.edit_steps.specs.Refusals.{IsAnswerFor};
 ghost use Rattle.curve_history.specs.Past.{SameLayer, SameCurves};
-ghost use Rattle.record_layers.specs.RecordLayers.{IsLayer};
+ghost use Rattle.told_steps.specs.RecordLayers.{IsLayer};
 ghost use Rattle.segment_remove.specs.Refused.{cut_between, cut_refusal_at, cut_said, HasRoomToCut};
 ghost use Rattle.observer_bus.specs.Rows.{bus_row};
 ghost use Rattle.told_steps.specs.ToldEdits.{AreWatched, IsToldEdit};
-ghost use Rattle.record_layers.specs.LayerEdits.{IsAfter};
+ghost use Rattle.told_steps.specs.LayerEdits.{IsAfter};
 
 use curve_history::History;
 use dcel_records::Records;

@@ -7,12 +7,12 @@ ghost use Rattle.edit_steps.specs.Edits.{Drop};
 ghost use Rattle.edit_steps.specs.Refusals.{drop_refusal, IsAnswerFor};
 ghost use Rattle.curve_history.specs.Past.{curves_on, SameLayer, SameCurves};
 ghost use Rattle.record_orders.specs.Keys.{dart_key};
-ghost use Rattle.record_layers.specs.RecordLayers.{IsLayer};
+ghost use Rattle.told_steps.specs.RecordLayers.{IsLayer};
 ghost use Rattle.record_orders.specs.Edges.{edge_of_key};
 ghost use Rattle.segment_remove.specs.Refused.{drop_said};
 ghost use Rattle.observer_bus.specs.Rows.{bus_row};
 ghost use Rattle.told_steps.specs.ToldEdits.{AreWatched, IsToldEdit};
-ghost use Rattle.record_layers.specs.LayerEdits.{layer_at, IsAfter};
+ghost use Rattle.told_steps.specs.LayerEdits.{layer_at, IsAfter};
 
 use crate::ends::ends_in_order;
 use crate::release::release_curve;

@@ -7,8 +7,8 @@ use Rattle.arr_notes.specs.RecordGraph.{drawn_graph}
 use Rattle.curve_history.specs.Past.{Past, SameCurves, curves_on}
 use Rattle.observer_bus.specs.Rounds.{BusRow}
 use Rattle.observer_bus.specs.Seats.{Holds, SeatRow}
-use Rattle.record_layers.proofs.Moved.{one_curves}
-use Rattle.record_layers.specs.RecordLayers.{IsLayer}
+use Rattle.told_steps.proofs.Moved.{one_curves}
+use Rattle.told_steps.specs.RecordLayers.{IsLayer}
 use Rattle.told_steps.specs.ToldRuns.{AreInStep, IsToldRun, seen}
 
 -- the bus with these seats, when an edit begins

@@ -13,7 +13,7 @@ use Rattle.observer_bus.specs.Seats.{MayHear}
 use Rattle.observer_bus.proofs.Hearing.{notes_heard}
 use Rattle.sound_changes.proofs.ChangesAreSteps.{changes_are_steps}
 use Rattle.sound_changes.proofs.ViewsMade.{changes_make_views, changes_may_be_told}
-use Rattle.record_layers.specs.RecordLayers.{IsMade}
+use Rattle.told_steps.specs.RecordLayers.{IsMade}
 use Rattle.edit_steps.specs.Steps.{Step}
 use Rattle.told_steps.specs.ToldRuns.{IsJustChanged, seen}
 

@@ -1,3 +1,13 @@
+pub mod Runs
+pub mod Layers
+pub mod Edits
+pub mod Stays
+pub mod Grown
+pub mod Shrunk
+pub mod Names
+pub mod NamedLayers
+pub mod LayerEdges
+pub mod Moved
 pub mod Seen
 pub mod Changed
 pub mod ToldOnce

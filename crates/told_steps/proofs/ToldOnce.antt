@@ -11,7 +11,7 @@ use Rattle.arr_notes.specs.Step.{step}
 use Rattle.observer_bus.specs.Rounds.{AreInRound, BusRow, IsRoundOf}
 use Rattle.observer_bus.specs.Seats.{SeatRow}
 use Rattle.observer_bus.specs.declared.went.Went.{Went}
-use Rattle.record_layers.specs.RecordLayers.{IsMade}
+use Rattle.told_steps.specs.RecordLayers.{IsMade}
 use Rattle.sound_changes.specs.StepOfChange.{step_of_change, FitsChange}
 use Rattle.slab_laws.specs.Sound.{IsGraphSound}
 use Rattle.told_steps.specs.ToldRuns.{AreInStep, IsJustChanged, IsToldRun, intent_of, seen}

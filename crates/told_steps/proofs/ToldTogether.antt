@@ -14,7 +14,7 @@ use Rattle.observer_bus.proofs.Hearing.{rounds_lawful}
 use Rattle.observer_bus.specs.RoundLaws.{AreRounds}
 use Rattle.observer_bus.specs.Rounds.{AreInRound, BusRow}
 use Rattle.observer_bus.specs.Seats.{Holds}
-use Rattle.record_layers.specs.RecordLayers.{IsMade, IsRunOfSteps}
+use Rattle.told_steps.specs.RecordLayers.{IsMade, IsRunOfSteps}
 use Rattle.told_steps.proofs.Changed.{seen_after, curves_after}
 use Rattle.told_steps.specs.ToldLaws.{AreRoundsOf, AreToldRunsLawful}
 use Rattle.told_steps.specs.ToldRuns.{AreInStep, IsToldRun, intent_of, seen}

@@ -1,3 +1,7 @@
+pub mod RecordLayers
+pub mod LayerSteps
+pub mod LayerNames
+pub mod LayerEdits
 pub mod ToldRuns
 pub mod ToldLaws
 pub mod StepsMade

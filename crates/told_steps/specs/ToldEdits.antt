@@ -6,7 +6,7 @@ use Rattle.dcel_records.specs.RecordsView.{RecordsView}
 use Rattle.observer_bus.specs.Calls.{begun}
 use Rattle.observer_bus.specs.Rounds.{BusRow}
 use Rattle.observer_bus.specs.Seats.{Holds}
-use Rattle.record_layers.specs.LayerEdits.{layer_at}
+use Rattle.told_steps.specs.LayerEdits.{layer_at}
 use Rattle.told_steps.specs.ToldRuns.{IsToldRun, seen}
 
 -- each seated observer that tells a view holds that of the records and their history (this project)

@@ -14,7 +14,7 @@ use Rattle.arr_notes.specs.declared.note.Note.TheVariants.{Before, After}
 use Rattle.observer_bus.specs.RoundLaws.{AreRounds, HaveNamesApart, heard_in}
 use Rattle.observer_bus.specs.Rounds.{BusRow}
 use Rattle.observer_bus.specs.Seats.{Holds, SeatRow}
-use Rattle.record_layers.specs.RecordLayers.{IsMade, IsRunOfSteps}
+use Rattle.told_steps.specs.RecordLayers.{IsMade, IsRunOfSteps}
 use Rattle.told_steps.specs.ToldRuns.{AreInStep, IsToldRun, intent_of, seen}
 
 -- the rounds of these steps, two for each: the step by points, over the records before it, and the change that makes it, over those after it (this project)

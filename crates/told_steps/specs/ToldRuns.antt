@@ -13,7 +13,7 @@ use Rattle.arr_notes.specs.declared.intent.Intent.TheVariants.{AddVertex, Remove
 use Rattle.arr_notes.specs.declared.note.Note.TheVariants.{Before, After}
 use Rattle.observer_bus.specs.Rounds.{AreInRound, BusRow}
 use Rattle.observer_bus.specs.Seats.{Holds}
-use Rattle.record_layers.specs.RecordLayers.{IsMade}
+use Rattle.told_steps.specs.RecordLayers.{IsMade}
 use Rattle.sound_changes.specs.StepOfChange.{step_of_change}
 
 -- the view that observers have of records, with these curves of their forward darts (this project)

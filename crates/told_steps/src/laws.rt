@@ -1,4 +1,16 @@
+ghost use Rattle.told_steps.specs.LayerSteps.{StepsMakeLayers};
+ghost use Rattle.told_steps.specs.LayerNames.{LayersAreNamed};
 ghost use Rattle.told_steps.specs.ToldLaws.{AreToldRunsLawful};
+
+/// Records that stand for a layer stand, after the steps of an accepted edit, for the layer after it.
+pub fn steps_make_layers()
+    ensures { StepsMakeLayers }
+{}
+
+/// Records that stand for a layer name the vertices, edges and pins of its present, and their history has its curves.
+pub fn layers_are_named()
+    ensures { LayersAreNamed }
+{}
 
 /// Told steps are steps; they follow on each other; what observers hold stays the records' view; and a seated observer that stays
 /// has heard just their notes, in their order. This is a law: the body, being empty, computes nothing.

@@ -1,5 +1,8 @@
 //! Each step of an edit, made once in records and their history, and told to observers before and after it.
 //!
+//! Records and history that stand for a layer stand in `specs/RecordLayers.antt`, and what steps make of them in
+//! `specs/LayerSteps.antt`.
+//!
 //! A run of told steps stands in `specs/ToldRuns.antt`; what is true of all runs in `specs/ToldLaws.antt`.
 #![tactic(auto)]
 
@@ -17,7 +20,7 @@ mod vertices;
 pub use clears::clear;
 pub use curves::{add_curve, remove_curve};
 pub use edges::{merge_edge, remove_edge, split_edge};
-pub use laws::told_runs_are_lawful;
+pub use laws::{layers_are_named, steps_make_layers, told_runs_are_lawful};
 pub use links::add_edge;
 pub use pins::{clear_pin, set_pin};
 pub use spots::make_vertex;

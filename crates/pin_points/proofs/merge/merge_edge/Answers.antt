@@ -1,7 +1,7 @@
 use Rattle.std.proofs.Common.{refl, sym, ◌∙◌}
 use Rattle.edit_steps.proofs.Refusals.{merge_without, merge_barred, merge_allowed}
 use Rattle.curve_history.specs.Past.{curves_on}
-use Rattle.record_layers.specs.RecordLayers.{layer_of}
+use Rattle.told_steps.specs.RecordLayers.{layer_of}
 use Rattle.told_steps.proofs.Begun.{begun_in_step, told_of_edit}
 use Rattle.pin_points.proofs.Merging.{no_vertex, is_vertex, not_pinned, not_passed, can_merge, merge_told, merge_layer}
 use Rattle.pin_points.proofs.Unpinning.{clear_has, clear_unpinned}

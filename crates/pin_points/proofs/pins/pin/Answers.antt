@@ -3,8 +3,8 @@ use Rattle.plane_graphs.proofs.Lines.{point_is_proper}
 use Rattle.edit_steps.proofs.Refusals.{no_memory, pin_again, pin_full, pin_allowed}
 use Rattle.curve_history.specs.Past.{curves_on}
 use Rattle.dcel_records.specs.Spots.{IsSpotOf}
-use Rattle.record_layers.specs.RecordLayers.{layer_of}
-use Rattle.record_layers.proofs.Moved.{same_layers, layer_stays}
+use Rattle.told_steps.specs.RecordLayers.{layer_of}
+use Rattle.told_steps.proofs.Moved.{same_layers, layer_stays}
 use Rattle.told_steps.proofs.Begun.{begun_in_step, moved, still_watched, told_of_edit}
 use Rattle.told_steps.proofs.ToldTogether.{told_runs_lawful}
 use Rattle.told_steps.specs.VertexMade.{IsPlaneWith, steps_at_spot}

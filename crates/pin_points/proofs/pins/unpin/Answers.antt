@@ -3,7 +3,7 @@ use Rattle.edit_steps.specs.Edits.{Unpin, steps}
 use Rattle.edit_steps.specs.Layer.{layer_after}
 use Rattle.edit_steps.proofs.Refusals.{unpin_none, unpin_allowed}
 use Rattle.curve_history.specs.Past.{curves_on}
-use Rattle.record_layers.specs.RecordLayers.{layer_of}
+use Rattle.told_steps.specs.RecordLayers.{layer_of}
 use Rattle.told_steps.proofs.Begun.{begun_in_step, told_of_edit}
 use Rattle.told_steps.proofs.ToldTogether.{told_runs_lawful}
 use Rattle.pin_points.proofs.Spotted.{none_pinned, pinned_vertex}

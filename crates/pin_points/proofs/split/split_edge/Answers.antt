@@ -6,8 +6,8 @@ use Rattle.slab_laws.specs.Sound.{edge_between}
 use Rattle.slab_laws.specs.View.{point_in, source_in, target_in}
 use Rattle.curve_history.specs.Past.{curves_on}
 use Rattle.edge_split_merge.specs.Splits.{CanSplit}
-use Rattle.record_layers.specs.RecordLayers.{layer_of}
-use Rattle.record_layers.proofs.Moved.{same_layers, layer_stays}
+use Rattle.told_steps.specs.RecordLayers.{layer_of}
+use Rattle.told_steps.proofs.Moved.{same_layers, layer_stays}
 use Rattle.pin_points.specs.Splits.{split_said}
 use Rattle.pin_points.specs.declared.split.SplitError.{SplitError}
 use Rattle.pin_points.specs.declared.split.SplitError.TheVariants.{NoEdge, NotInside, Full, NoMemory}

@@ -4,7 +4,7 @@ use Rattle.curve_history.specs.Past.{curves_on}
 use Rattle.redundant_vertices.proofs.Onward.{all_next, none_tidied, pinned_next, same_histories, same_records, tidied_next}
 use Rattle.redundant_vertices.proofs.redundant.remove_redundant.Goals as goal
 use Rattle.redundant_vertices.proofs.redundant.remove_redundant.Goals.{then-not-pinned, else-not-pinned}
-use Rattle.record_layers.proofs.Moved.{same_layers}
+use Rattle.told_steps.proofs.Moved.{same_layers}
 
 pub loop-vertex-init : goal.loop-vertex-init
 loop-vertex-init g c = record {

@@ -4,9 +4,9 @@ use Rattle.curve_history.specs.declared.history.TheConstants.{LAST_CURVE}
 use Rattle.segment_insert.specs.Insertion.{refusal_at}
 use Rattle.told_steps.proofs.Begun.{begun_in_step, still_watched}
 use Rattle.segment_insert.proofs.Layers.{room_stays}
-use Rattle.record_layers.proofs.Moved.{layer_stays}
+use Rattle.told_steps.proofs.Moved.{layer_stays}
 use Rattle.segment_insert.proofs.insertion.insert.Goals as goal
-use Rattle.record_layers.specs.LayerEdits.{layer_at}
+use Rattle.told_steps.specs.LayerEdits.{layer_at}
 
 pub returns-in_default-prepare-clause-layer : goal.returns-in_default-prepare-clause-layer
 returns-in_default-prepare-clause-layer g c =

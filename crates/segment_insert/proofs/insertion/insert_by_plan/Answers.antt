@@ -4,7 +4,7 @@ use Rattle.plane_graphs.proofs.Lists.{in_right}
 use Rattle.curve_history.specs.Past.{curves_on}
 use Rattle.segment_insert.specs.Insertion.{pairs_to_part, AreMeetings}
 use Rattle.told_steps.proofs.Begun.{still_in_step}
-use Rattle.record_layers.proofs.Moved.{one_curves}
+use Rattle.told_steps.proofs.Moved.{one_curves}
 use Rattle.edit_steps.specs.Allowed.{AreSound}
 use Rattle.arr_notes.specs.RecordGraph.{drawn_graph}
 use Rattle.zone_walk.specs.Zone.{splits_needed, points_of_meetings}

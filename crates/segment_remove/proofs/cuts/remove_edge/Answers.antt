@@ -6,8 +6,8 @@ use Rattle.edit_steps.proofs.Refusals.{no_memory, cut_without, cut_full, cut_all
 use Rattle.slab_laws.specs.Sound.{edge_between}
 use Rattle.curve_history.specs.Cuts.{IsPlanOfCut}
 use Rattle.curve_history.specs.Past.{curves_on}
-use Rattle.record_layers.specs.RecordLayers.{IsLayer, layer_of}
-use Rattle.record_layers.proofs.Moved.{layer_moves}
+use Rattle.told_steps.specs.RecordLayers.{IsLayer, layer_of}
+use Rattle.told_steps.proofs.Moved.{layer_moves}
 use Rattle.told_steps.proofs.Begun.{begun_in_step, still_watched, told_of_edit}
 use Rattle.segment_remove.specs.Refused.{cut_between, cut_said}
 use Rattle.segment_remove.specs.declared.cuts.CutError.TheVariants.{NoMemory}

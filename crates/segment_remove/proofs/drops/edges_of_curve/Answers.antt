@@ -5,8 +5,8 @@ use Rattle.plane_graphs.proofs.Ascending.{from_member, to_member}
 use Rattle.curve_history.specs.declared.history.HistoryError.{HistoryError}
 use Rattle.curve_history.specs.declared.history.HistoryError.TheVariants.{Unknown, NoMemory as OutOfMemory}
 use Rattle.edit_steps.proofs.Refusals.{no_memory, drop_unknown, drop_allowed}
-use Rattle.record_layers.specs.RecordLayers.{layer_of}
-use Rattle.record_layers.proofs.LayerEdges.{all_forward}
+use Rattle.told_steps.specs.RecordLayers.{layer_of}
+use Rattle.told_steps.proofs.LayerEdges.{all_forward}
 use Rattle.segment_remove.specs.Refused.{drop_said}
 use Rattle.segment_remove.specs.declared.drops.DropError.TheVariants.{NoMemory}
 use Rattle.segment_remove.proofs.Refusals.{is_named, not_named, named_unless}

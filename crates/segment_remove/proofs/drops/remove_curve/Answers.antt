@@ -4,7 +4,7 @@ use Rattle.plane_graphs.specs.Graph.{same_curve}
 use Rattle.edit_steps.specs.Edits.{Drop}
 use Rattle.edit_steps.specs.Layer.{layer_after}
 use Rattle.curve_history.specs.Past.{curves_on}
-use Rattle.record_layers.specs.RecordLayers.{IsLayer, layer_of}
+use Rattle.told_steps.specs.RecordLayers.{IsLayer, layer_of}
 use Rattle.told_steps.proofs.Begun.{begun_in_step, still_in_step, told_of_edit}
 use Rattle.segment_remove.proofs.DropMade.{drop_layer, drop_told, keys_have}
 use Rattle.segment_remove.proofs.EndsOf.{one_ends}

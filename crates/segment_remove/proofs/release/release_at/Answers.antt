@@ -2,7 +2,7 @@ use Rattle.std.proofs.Common.{◌∙◌, sym, ap, rules}
 use Rattle.arr_notes.specs.Curves.{step_curves}
 use Rattle.arr_notes.specs.Step.{step}
 use Rattle.curve_history.specs.Past.{curves_on}
-use Rattle.record_layers.proofs.LayerEdges.{forward_by_curve}
+use Rattle.told_steps.proofs.LayerEdges.{forward_by_curve}
 use Rattle.segment_remove.proofs.CurveLost.{curve_lost, curve_told, edge_lost, edge_told}
 use Rattle.segment_remove.proofs.release.release_at.Goals as goal
 

@@ -3,7 +3,7 @@ use Rattle.std.specs.Prelude.{IsErrAnd, IsErrOf}
 use Rattle.slab_laws.specs.Sound.{edge_between}
 use Rattle.arrangement.specs.declared.questions.EdgeError.{EdgeError}
 use Rattle.arrangement.specs.declared.questions.EdgeError.TheVariants.{NoEdge, NoMemory}
-use Rattle.record_layers.proofs.LayerEdges.{along_drawn, drawn_along, curves_along}
+use Rattle.told_steps.proofs.LayerEdges.{along_drawn, drawn_along, curves_along}
 use Rattle.arrangement.proofs.arrangement.Arrangement.curves_of.Goals as goal
 
 -- want of memory is not that there is no edge

@@ -1,7 +1,7 @@
 use Rattle.std.proofs.Common.{ap, subst, sym, map}
 use Rattle.plane_graphs.specs.Ascending.{Member}
 use Rattle.slab_laws.specs.Sound.{edge_in}
-use Rattle.record_layers.proofs.LayerEdges.{all_forward, curve_edge, edge_curve}
+use Rattle.told_steps.proofs.LayerEdges.{all_forward, curve_edge, edge_curve}
 use Rattle.arrangement.proofs.arrangement.Arrangement.edges_of.Goals as goal
 
 pub ends_in_order-requires-clause-forward : goal.ends_in_order-requires-clause-forward

@@ -1,4 +1,4 @@
-use Rattle.record_layers.proofs.NamedLayers.{layers_are_named}
+use Rattle.told_steps.proofs.NamedLayers.{layers_are_named}
 use Rattle.arrangement.proofs.arrangement.Arrangement.laws.Goals as goal
 
 pub returns-clause-named : goal.returns-clause-named

@@ -12,7 +12,7 @@ use Rattle.slab_laws.specs.View.{View, HasVertex, HasDart, point_in}
 use Rattle.arr_notes.specs.Curves.{Curves, AreCurvesOf}
 use Rattle.curve_history.specs.Past.{Past, curves_on}
 use Rattle.arr_notes.specs.RecordGraph.{drawn_graph}
-use Rattle.record_layers.specs.RecordLayers.{layer_of, IsLayer, IsRunOfSteps}
+use Rattle.told_steps.specs.RecordLayers.{layer_of, IsLayer, IsRunOfSteps}
 
 -- after steps the records draw the graph after the steps, are sound, and have the curves of their edges
 pub record IsRun (v : View) (h : Curves) (ss : List Step) (w : View) (k : Curves) : Type 0 where

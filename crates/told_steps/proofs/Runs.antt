@@ -10,8 +10,8 @@ use Rattle.arr_notes.specs.declared.change.Change.{Change}
 use Rattle.arr_notes.specs.RecordGraph.{drawn_graph}
 use Rattle.sound_changes.proofs.ChangesAreSteps.{changes_are_steps}
 use Rattle.sound_changes.specs.StepOfChange.{step_of_change, FitsChange}
-use Rattle.record_layers.specs.RecordLayers.{IsRunOfSteps}
-use Rattle.record_layers.specs.LayerSteps.{IsRun, MadeIsRun, MadeInTurn}
+use Rattle.told_steps.specs.RecordLayers.{IsRunOfSteps}
+use Rattle.told_steps.specs.LayerSteps.{IsRun, MadeIsRun, MadeInTurn}
 
 -- what holds of a view and of curves holds of the same view with curves that are the same by name
 same_records : (P : View → Curves → Type 0) (v w : View) (h k : Curves) → w ≡ v → ((d : DartId) → k d ≡ h d) → P v h → P w k

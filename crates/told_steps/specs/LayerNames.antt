@@ -9,7 +9,7 @@ use Rattle.slab_laws.specs.View.{View, HasVertex, point_in, pinned_in, source_in
 use Rattle.arr_notes.specs.Curves.{Curves, IsForward}
 use Rattle.sound_views.specs.RecordGraphLaws.{IsVertexAt}
 use Rattle.curve_history.specs.Past.{Past, curves_on}
-use Rattle.record_layers.specs.RecordLayers.{IsLayer, layer_of}
+use Rattle.told_steps.specs.RecordLayers.{IsLayer, layer_of}
 
 -- the edge between the points of a dart's ends, the source's first
 abbrev pub edge_ahead : View → DartId → Edge

@@ -6,7 +6,7 @@ use Rattle.slab_laws.specs.View.{View}
 use Rattle.arr_notes.specs.Curves.{AreCurvesOf}
 use Rattle.arr_notes.specs.RecordGraph.{drawn_graph}
 use Rattle.curve_history.specs.Past.{Past, curves_on, SameCurves, SameLayer}
-use Rattle.record_layers.specs.RecordLayers.{IsLayer, layer_of}
+use Rattle.told_steps.specs.RecordLayers.{IsLayer, layer_of}
 
 pub one_curves : (p q : Past) → SameCurves p q → curves_on q ≡ curves_on p
 one_curves p q e = λ i d. e d i

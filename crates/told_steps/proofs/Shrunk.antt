@@ -37,9 +37,9 @@ use Rattle.sound_changes.proofs.ChangesAreSteps.{changes_are_steps}
 use Rattle.sound_changes.proofs.StepMergeEdges.{joined}
 use Rattle.sound_changes.proofs.StepSplitEdge.{IsPartedAt, way}
 use Rattle.sound_changes.proofs.StepCases.{IsSameWay, unchanged_way, turned_way}
-use Rattle.record_layers.specs.RecordLayers.{IsRunOfSteps}
-use Rattle.record_layers.specs.LayerSteps.{Shrinks, AllShrink}
-use Rattle.record_layers.proofs.Stays.{IsSamePlace, IsDivided, not_divided, way_on, way_edge, same_way, pin_way}
+use Rattle.told_steps.specs.RecordLayers.{IsRunOfSteps}
+use Rattle.told_steps.specs.LayerSteps.{Shrinks, AllShrink}
+use Rattle.told_steps.proofs.Stays.{IsSamePlace, IsDivided, not_divided, way_on, way_edge, same_way, pin_way}
 
 -- every vertex of w is one of v; an edge of w is one of v, or had a vertex of v inside; and a dart of v is one of w, unless its edge is no longer drawn
 pub record IsShrunk (v w : View) : Type 0 where

@@ -7,7 +7,7 @@ use Rattle.plane_graphs.specs.Line.{same_point}
 use Rattle.plane_graphs.specs.Piece.{Present}
 use Rattle.edit_steps.specs.Edits.{Insert, Drop, Cut, Pin, Unpin, Split, Merge, ClearAll, steps}
 use Rattle.edit_steps.specs.Steps.{Step, RemoveVertex, SplitEdge, MergeEdge, AddEdge, RemoveEdge, AddCurve, RemoveCurve, apply, vertex_step_by, vertex_steps, tidy_step, tidy_steps, more_step, less_step, segment_steps, with_tidying, drop_steps, cut_steps, pin_steps, unpin_steps, split_steps, merge_steps}
-use Rattle.record_layers.specs.LayerSteps.{Grows, AllGrow, Shrinks, AllShrink, EditsGrowOrShrink}
+use Rattle.told_steps.specs.LayerSteps.{Grows, AllGrow, Shrinks, AllShrink, EditsGrowOrShrink}
 
 pub one_of : (P : Step → Type 0) (b : Bool) (s t : Step) → P s → P t → P (cond b s t)
 one_of P true s t x y = x

@@ -26,9 +26,9 @@ use Rattle.sound_changes.specs.StepOfChange.{step_of_change, FitsChange}
 use Rattle.sound_changes.proofs.ChangesAreSteps.{changes_are_steps}
 use Rattle.sound_changes.proofs.StepSplitEdge.{IsPartedAt, way}
 use Rattle.sound_changes.proofs.StepCases.{IsSameWay, unchanged_way}
-use Rattle.record_layers.specs.RecordLayers.{IsRunOfSteps}
-use Rattle.record_layers.specs.LayerSteps.{Grows, AllGrow}
-use Rattle.record_layers.proofs.Stays.{IsSamePlace, IsDivided, way_on, way_edge, same_way, pin_way}
+use Rattle.told_steps.specs.RecordLayers.{IsRunOfSteps}
+use Rattle.told_steps.specs.LayerSteps.{Grows, AllGrow}
+use Rattle.told_steps.proofs.Stays.{IsSamePlace, IsDivided, way_on, way_edge, same_way, pin_way}
 
 -- every vertex of v is one of w; so is every dart, but where its edge was parted, and then a vertex is inside for good
 pub record IsGrown (v w : View) : Type 0 where

@@ -13,7 +13,7 @@ use Rattle.sound_views.specs.RecordGraphLaws.{IsMarkOf, GraphHolds}
 use Rattle.sound_views.proofs.DartCurves.{curves_of_darts}
 use Rattle.sound_views.proofs.GraphHolds.{graphs_hold}
 use Rattle.curve_history.specs.Past.{curves_on}
-use Rattle.record_layers.specs.LayerNames.{IsForwardOn, IsNamedBy, LayersAreNamed, edge_ahead}
+use Rattle.told_steps.specs.LayerNames.{IsForwardOn, IsNamedBy, LayersAreNamed, edge_ahead}
 
 module _ (v : View) (h : Curves) (s : IsGraphSound v) (a : AreCurvesOf v h) where
   abbrev drawn : Graph

@@ -2,7 +2,7 @@
 use Rattle.edit_steps.specs.Layer.{Layer, layer_after}
 use Rattle.edit_steps.specs.Edits.{Edit, steps}
 use Rattle.curve_history.specs.Past.{Past, curves_on}
-use Rattle.record_layers.specs.RecordLayers.{layer_of, IsRunOfSteps}
+use Rattle.told_steps.specs.RecordLayers.{layer_of, IsRunOfSteps}
 use Rattle.dcel_records.specs.RecordsView.{RecordsView}
 use Rattle.std.specs.Prelude.{◌≡◌}
 

@@ -17,9 +17,9 @@ use Rattle.sound_changes.proofs.VertexAdded.{no_rows_sound}
 use Rattle.arr_notes.specs.RecordGraph.{drawn_graph}
 use Rattle.sound_changes.proofs.StepCases.{curves_by}
 use Rattle.curve_history.specs.Past.{Past, curves_on}
-use Rattle.record_layers.specs.RecordLayers.{layer_of, IsLayer, IsRunOfSteps}
-use Rattle.record_layers.specs.LayerSteps.{IsRun, StepsMakeLayers, NothingIsALayer}
-use Rattle.record_layers.proofs.Runs.{made_is_run}
+use Rattle.told_steps.specs.RecordLayers.{layer_of, IsLayer, IsRunOfSteps}
+use Rattle.told_steps.specs.LayerSteps.{IsRun, StepsMakeLayers, NothingIsALayer}
+use Rattle.told_steps.proofs.Runs.{made_is_run}
 
 -- ---- after an edit
 module _ (e : Edit) (v : View) (p : Past) (w : View) (q : Past) (l : IsLayer v p) (accepted : IsAcceptedBy e (layer_of v p)) (made : IsRunOfSteps v (curves_on p) (steps e (layer_of v p).present) w (curves_on q)) where

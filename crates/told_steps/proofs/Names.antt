@@ -11,11 +11,11 @@ use Rattle.sound_changes.proofs.KnownNames.{known_point}
 use Rattle.arr_notes.specs.Curves.{Curves, AreCurvesOf}
 use Rattle.arr_notes.specs.RecordGraph.{drawn_graph}
 use Rattle.sound_views.proofs.GraphDrawn.{graphs_are_drawn}
-use Rattle.record_layers.specs.LayerSteps.{NamesStay, GrownNamesStay, ShrunkNamesStay}
-use Rattle.record_layers.proofs.Runs.{made_is_run}
-use Rattle.record_layers.proofs.Stays.{not_divided, way_dart}
-use Rattle.record_layers.proofs.Grown.{IsGrown, all_grown}
-use Rattle.record_layers.proofs.Shrunk.{IsShrunk, all_shrunk}
+use Rattle.told_steps.specs.LayerSteps.{NamesStay, GrownNamesStay, ShrunkNamesStay}
+use Rattle.told_steps.proofs.Runs.{made_is_run}
+use Rattle.told_steps.proofs.Stays.{not_divided, way_dart}
+use Rattle.told_steps.proofs.Grown.{IsGrown, all_grown}
+use Rattle.told_steps.proofs.Shrunk.{IsShrunk, all_shrunk}
 
 module _ (v w : View) (h k : Curves) (s : IsGraphSound w) (a : AreCurvesOf w k) where
   edge_there : (e : Edge) → Member e (edges (drawn_graph w k)) → Contains (skeleton_of w).edges e

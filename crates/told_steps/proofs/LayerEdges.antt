@@ -18,7 +18,7 @@ use Rattle.sound_views.proofs.GraphDrawn.{graphs_are_drawn, twins_are_directed}
 use Rattle.sound_changes.proofs.StepCases.{has_or_not, some_there}
 use Rattle.record_orders.proofs.EdgeEnds.{edge_of_ends, ahead}
 use Rattle.curve_history.specs.Past.{Past, curves_on}
-use Rattle.record_layers.specs.RecordLayers.{IsLayer, layer_of}
+use Rattle.told_steps.specs.RecordLayers.{IsLayer, layer_of}
 use Rattle.record_orders.specs.Edges.{IsDartAlong}
 
 -- only forward darts have curves

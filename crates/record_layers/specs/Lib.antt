@@ -1,4 +1,0 @@
-pub mod RecordLayers
-pub mod LayerSteps
-pub mod LayerNames
-pub mod LayerEdits
