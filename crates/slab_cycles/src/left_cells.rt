@@ -16,8 +16,7 @@ fn is_below_beside(edge: &Span, other: &Span) -> bool
     requires { left_of other.now.lower other.now.upper ≡ true }
     ensures { result ≡ is_beneath other.now edge.now }
 {
-    // Looks into the edge, so that what is known of its ends is at hand.
-    let _ = edge.lower();
+    edge.laws();
     reaches_right(edge, &other.lower()) && is_below(edge, other)
 }
 

@@ -15,8 +15,7 @@ fn is_above_slanted(edge: &Span, own: &Span, forward: bool) -> bool
     requires { left_of own.now.lower own.now.upper ≡ true }
     ensures { result ≡ above_by true forward (edge_of own.now) (edge_of edge.now) }
 {
-    // Looks into the edge, so that what is known of its ends is at hand.
-    let _ = edge.lower();
+    edge.laws();
     if !reaches_right(edge, &own.lower()) {
         return false;
     }

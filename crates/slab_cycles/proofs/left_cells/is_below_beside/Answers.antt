@@ -6,6 +6,6 @@ use Rattle.slab_cycles.proofs.left_cells.is_below_beside.Goals as goal
 
 pub is_below-requires-clause-own : goal.is_below-requires-clause-own
 is_below-requires-clause-own c =
-    let own = c.lower.ensures.span in
-    let other = subst HasWeight (sym c.lower-2.ensures.value) c.lower-2.ensures.span.lower.range.positive in
-    reached_slants (edge_of c.args.edge.now) c.lower-2.result own.lower.range.positive other own.upper.range.positive (sym c.reaches_right.ensures ∙ c.if-reaches_right.true)
+    let own = c.laws.ensures in
+    let other = subst HasWeight (sym c.lower.ensures.value) c.lower.ensures.span.lower.range.positive in
+    reached_slants (edge_of c.args.edge.now) c.lower.result own.lower.range.positive other own.upper.range.positive (sym c.reaches_right.ensures ∙ c.if-reaches_right.true)

@@ -6,12 +6,12 @@ use Rattle.slab_cycles.proofs.outer.is_above_slanted.Goals as goal
 
 pub is_below-requires-clause-others : goal.is_below-requires-clause-others
 is_below-requires-clause-others c =
-    let span = c.lower.ensures.span in
-    let own = subst HasWeight (sym c.lower-2.ensures.value) c.lower-2.ensures.span.lower.range.positive in
-    reached_slants (edge_of c.args.edge.now) c.lower-2.result span.lower.range.positive own span.upper.range.positive (sym c.reaches_right.ensures ∙ c.if-not-reaches_right.false)
+    let span = c.laws.ensures in
+    let own = subst HasWeight (sym c.lower.ensures.value) c.lower.ensures.span.lower.range.positive in
+    reached_slants (edge_of c.args.edge.now) c.lower.result span.lower.range.positive own span.upper.range.positive (sym c.reaches_right.ensures ∙ c.if-not-reaches_right.false)
 
 pub is_below-requires-else-forward-clause-own : goal.is_below-requires-else-forward-clause-own
 is_below-requires-else-forward-clause-own c =
-    let span = c.lower.ensures.span in
-    let own = subst HasWeight (sym c.lower-2.ensures.value) c.lower-2.ensures.span.lower.range.positive in
-    reached_slants (edge_of c.args.edge.now) c.lower-2.result span.lower.range.positive own span.upper.range.positive (sym c.reaches_right.ensures ∙ c.if-not-reaches_right.false)
+    let span = c.laws.ensures in
+    let own = subst HasWeight (sym c.lower.ensures.value) c.lower.ensures.span.lower.range.positive in
+    reached_slants (edge_of c.args.edge.now) c.lower.result span.lower.range.positive own span.upper.range.positive (sym c.reaches_right.ensures ∙ c.if-not-reaches_right.false)
