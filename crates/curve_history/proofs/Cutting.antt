@@ -107,11 +107,17 @@ six_out true false c true true false h = refl
 six_out true false true true true true h = refl
 six_out true false false true true true h = refl
 
+and_turned : (x y : Bool) → (x && y) ≡ (y && x)
+and_turned true true = refl
+and_turned true false = refl
+and_turned false true = refl
+and_turned false false = refl
+
 module _ (k : Piece) (a b : Point) where
   module _ (r : Bool) (h : r ≡ spans k a b) where
-    pub both_on : r ≡ true → (y : Bool) → y ≡ ((along k a && along k b) && spans k b a) → y ≡ (on k a && on k b)
+    pub both_on : r ≡ true → (y : Bool) → y ≡ ((along k b && along k a) && spans k b a) → y ≡ (on k a && on k b)
     unfolding on
-    both_on t y g = g ∙ six_in (not (precedes a k.from)) (not (precedes k.to b)) (not (precedes b k.from)) (not (precedes k.to a)) (along k a) (along k b) (sym h ∙ t)
+    both_on t y g = g ∙ ap (λ z. z && spans k b a) (and_turned (along k b) (along k a)) ∙ six_in (not (precedes a k.from)) (not (precedes k.to b)) (not (precedes b k.from)) (not (precedes k.to a)) (along k a) (along k b) (sym h ∙ t)
 
     pub one_off : r ≡ false → r ≡ (on k a && on k b)
     unfolding on

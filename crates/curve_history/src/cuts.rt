@@ -51,20 +51,21 @@ fn spans(piece: &Piece, p: &Point, q: &Point) -> bool
     !comes_before(p, &piece.from) && !comes_before(&piece.to, q)
 }
 
-// Whether both points are on a piece that spans them, or would be if it did.
+// Whether both points are on the line of a piece that neither begins after the first nor ends before the second.
 #[inline(never)]
 fn lies_along(piece: &Piece, p: &Point, q: &Point) -> bool
-    ensures { result ≡ ((along (piece_of piece.now) p.now && along (piece_of piece.now) q.now) && spans (piece_of piece.now) q.now p.now) }
+    ensures { result ≡ ((along (piece_of piece.now) p.now && along (piece_of piece.now) q.now) && spans (piece_of piece.now) p.now q.now) }
 {
-    runs_along(piece, p, q) && spans(piece, q, p)
+    runs_along(piece, p, q) && spans(piece, p, q)
 }
 
-// Whether both points are on a piece. Most pieces don't reach from the first to the second, which costs least to see.
+// Whether both points are on a piece, in whatever order they come. Most pieces don't reach from the first to the second, which
+// costs least to see.
 #[inline(always)]
 fn holds_both(piece: &Piece, p: &Point, q: &Point) -> bool
     ensures { result ≡ (on (piece_of piece.now) p.now && on (piece_of piece.now) q.now) }
 {
-    spans(piece, p, q) && lies_along(piece, p, q)
+    spans(piece, p, q) && lies_along(piece, q, p)
 }
 
 // Whether a piece begins before the first point or ends after the second one.

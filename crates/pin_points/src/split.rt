@@ -15,10 +15,11 @@ use curve_history::History;
 use dcel_records::{Records, Spot};
 use edge_predicates::has_inside;
 use exact_plane::Point;
-use locate_naive::{edge_dart, span_of};
+use locate_naive::edge_dart;
 use no_memory::NoMemory;
 use observer_bus::Bus;
 use slab_laws::DartId;
+use sound_views::span_of;
 use std::alloc::Global;
 use thiserror::Error;
 use told_steps::set_pin;
@@ -56,10 +57,7 @@ fn is_inside(records: &Records, dart: DartId, point: &Point) -> bool
     requires forward { IsForward records.now.graph dart }
     ensures { result ≡ inside (edge_in records.now.graph dart) point.now }
 {
-    let Some(span) = span_of(records, dart) else {
-        unreachable!()
-    };
-    has_inside(&span, point)
+    has_inside(&span_of(records, dart), point)
 }
 
 /// The edge between two points, which come in either order, is split at a point inside it, which is pinned (CGAL manual,

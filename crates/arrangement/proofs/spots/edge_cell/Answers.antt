@@ -1,6 +1,6 @@
 use Rattle.std.proofs.Common.{sym, subst}
 use Rattle.slab_laws.specs.View.{HasVertex}
-use Rattle.locate_naive.proofs.Within.{target_has}
+use Rattle.sound_views.proofs.ForwardDarts.{target_has}
 use Rattle.arrangement.proofs.spots.edge_cell.Goals as goal
 
 pub point-lower-requires : goal.point-lower-requires
