@@ -28,20 +28,36 @@ UsedAndWritten left left' taken taken' P =
 abbrev pub ReadToEnd : Option (List ℕ) → Option (List ℕ) → Type 0
 ReadToEnd left left' = IfSome left (λ script. left' ≡ Some [])
 
+-- the bytes written answer the lines of the bytes used
+abbrev pub AnswersScript : List Waiting → Option (List ℕ) → Option (List ℕ) → Option (List ℕ) → Option (List ℕ) → Type 0
+AnswersScript observers left left' taken taken' =
+    UsedAndWritten left left' taken taken' (λ used out. IsRun observers (lines used) out)
+
+-- they begin to answer these lines
+abbrev pub AnswersScriptPart : List Waiting → Option (List ℕ) → Option (List ℕ) → Option (List ℕ) → Option (List ℕ) → Type 0
+AnswersScriptPart observers left left' taken taken' =
+    UsedAndWritten left left' taken taken' (λ used out. BeginsRun observers (lines used) out)
+
+-- they answer the lines of the bytes used whose byte 10 is among these
+abbrev pub AnswersEnded : List Waiting → Option (List ℕ) → Option (List ℕ) → Option (List ℕ) → Option (List ℕ) → Type 0
+AnswersEnded observers left left' taken taken' =
+    UsedAndWritten left left' taken taken' (λ used out. IsRun observers (ended_lines used) out)
+
+-- they answer the lines whose byte 10 is among the first bytes used, up to the limit
+abbrev pub AnswersToLimit : List Waiting → Option (List ℕ) → Option (List ℕ) → Option (List ℕ) → Option (List ℕ) → Type 0
+AnswersToLimit observers left left' taken taken' =
+    UsedAndWritten left left' taken taken' (λ used out. IsRun observers (ended_lines (take SCRIPT_LIMIT used)) out)
+
 -- how many bytes were used, and what the bytes written are to them
 abbrev pub Ends : List Waiting → Status → Option (List ℕ) → Option (List ℕ) → Option (List ℕ) → Option (List ℕ) → Type 0
 Ends observers Done left left' taken taken' =
-    ReadToEnd left left' × Used left left' (λ used. length used ≤ SCRIPT_LIMIT)
-    × UsedAndWritten left left' taken taken' (λ used out. IsRun observers (lines used) out)
+    ReadToEnd left left' × Used left left' (λ used. length used ≤ SCRIPT_LIMIT) × AnswersScript observers left left' taken taken'
 Ends observers ReadFault left left' taken taken' =
-    Used left left' (λ used. length used ≤ SCRIPT_LIMIT)
-    × UsedAndWritten left left' taken taken' (λ used out. IsRun observers (ended_lines used) out)
+    Used left left' (λ used. length used ≤ SCRIPT_LIMIT) × AnswersEnded observers left left' taken taken'
 Ends observers WriteFault left left' taken taken' =
-    Used left left' (λ used. length used ≤ SCRIPT_LIMIT)
-    × UsedAndWritten left left' taken taken' (λ used out. BeginsRun observers (lines used) out)
+    Used left left' (λ used. length used ≤ SCRIPT_LIMIT) × AnswersScriptPart observers left left' taken taken'
 Ends observers TooLong left left' taken taken' =
-    Used left left' (λ used. length used ≡ SCRIPT_LIMIT + 1)
-    × UsedAndWritten left left' taken taken' (λ used out. IsRun observers (ended_lines (take SCRIPT_LIMIT used)) out)
+    Used left left' (λ used. length used ≡ SCRIPT_LIMIT + 1) × AnswersToLimit observers left left' taken taken'
 Ends observers NoMemory left left' taken taken' = (left' ≡ left) × (taken' ≡ taken)
 Ends observers Usage left left' taken taken' = ⊥
 

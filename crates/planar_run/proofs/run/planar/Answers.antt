@@ -34,6 +34,8 @@ returns-in-None g c =
       complete = λ asked f h s. completes _ c.run.result _ _ _ _ _ _ _ _ c.run.ensures.ends c.run.ensures.causes f h s;
       reads = c.run.ensures.reads;
       limit = refl;
+      line_limit = refl;
+      full = (refl, refl, refl);
     }
 
 -- ---- a made script
@@ -63,6 +65,8 @@ returns-in-Ok g c =
       complete = λ asked. absurd (no_script _ c.in-Ok.options c.in-Ok.ensures.alone c.in-Some.segments c.in-Some.is asked);
       reads = no_calls _ _;
       limit = refl;
+      line_limit = refl;
+      full = (refl, refl, refl);
     }
 
 -- ---- words outside the grammar
@@ -93,6 +97,8 @@ returns-in-Err-Usage g c =
       complete = λ asked. absurd (outside asked.0 asked.1);
       reads = no_calls _ _;
       limit = refl;
+      line_limit = refl;
+      full = (refl, refl, refl);
     }
 
 -- ---- no memory to read the words
@@ -121,4 +127,6 @@ returns g c = record {
   complete = λ asked f h s. inr refl;
   reads = no_calls _ _;
   limit = refl;
+  line_limit = refl;
+  full = (refl, refl, refl);
 }
