@@ -29,7 +29,7 @@ returns-clause-vertex g c =
     let v = c.args.records.now.graph in
     let n = new_place c.args.records.now.graph c.split-change.result c.args.d c.in-SplitEdge.d c.in-SplitEdge.v c.args.p c.in-SplitEdge.p c.in-SplitEdge.n c.in-SplitEdge.m c.split-change.ensures.new_names c.in-SplitEdge.is in
     let q = names_of_split c.split-change.result c.args.d c.in-SplitEdge.d c.in-SplitEdge.v c.args.p c.in-SplitEdge.p c.in-SplitEdge.n c.in-SplitEdge.m c.split-change.ensures.change c.in-SplitEdge.is in
-    split_vertex v c.args.p c.args.d c.in-SplitEdge.v c.in-SplitEdge.n c.in-SplitEdge.m c.requires.in_step.sound (fits_split v c.args.p (point_is_proper c.args.p c.w-weight.ensures.point) c.args.d c.in-SplitEdge.v c.in-SplitEdge.n c.in-SplitEdge.m c.requires.fits n) c.split-change.new.records.graph (subst (λ z. c.split-change.new.records.graph ≡ step v z) q c.split-change.ensures.graph)
+    split_vertex v c.args.p c.args.d c.in-SplitEdge.v c.in-SplitEdge.n c.in-SplitEdge.m c.requires.in_step.sound (fits_split v c.args.p (point_is_proper c.args.p c.laws.ensures) c.args.d c.in-SplitEdge.v c.in-SplitEdge.n c.in-SplitEdge.m c.requires.fits n) c.split-change.new.records.graph (subst (λ z. c.split-change.new.records.graph ≡ step v z) q c.split-change.ensures.graph)
 
 pub tell_after-requires : goal.tell_after-requires
 tell_after-requires g c =
@@ -40,7 +40,7 @@ tell_after-requires g c =
     let q = names_of_split c.split-change.result c.args.d c.in-SplitEdge.d c.in-SplitEdge.v c.args.p c.in-SplitEdge.p c.in-SplitEdge.n c.in-SplitEdge.m c.split-change.ensures.change c.in-SplitEdge.is in
     let t = sym c.in-SplitEdge.is ∙ q in
     let k = curves_on c.part.new.self in
-    record { changed = just_changed v h (SplitEdge c.in-SplitEdge.d c.in-SplitEdge.v c.in-SplitEdge.p c.in-SplitEdge.n c.in-SplitEdge.m) c.split-change.new.records.graph k (e.graph ∙ ap (step v) c.in-SplitEdge.is) (subst (λ z. (y : DartId) → k y ≡ step_curves h z y) (sym t) c.part.ensures.curves) (subst (FitsChange v h) (sym t) (fits_split v c.args.p (point_is_proper c.args.p c.w-weight.ensures.point) c.args.d c.in-SplitEdge.v c.in-SplitEdge.n c.in-SplitEdge.m c.requires.fits n)) e.sound c.tell_before.ensures.in_step }
+    record { changed = just_changed v h (SplitEdge c.in-SplitEdge.d c.in-SplitEdge.v c.in-SplitEdge.p c.in-SplitEdge.n c.in-SplitEdge.m) c.split-change.new.records.graph k (e.graph ∙ ap (step v) c.in-SplitEdge.is) (subst (λ z. (y : DartId) → k y ≡ step_curves h z y) (sym t) c.part.ensures.curves) (subst (FitsChange v h) (sym t) (fits_split v c.args.p (point_is_proper c.args.p c.laws.ensures) c.args.d c.in-SplitEdge.v c.in-SplitEdge.n c.in-SplitEdge.m c.requires.fits n)) e.sound c.tell_before.ensures.in_step }
 
 pub returns-clause-told : goal.returns-clause-told
 returns-clause-told g c =
@@ -51,4 +51,4 @@ returns-clause-told g c =
     let q = names_of_split c.split-change.result c.args.d c.in-SplitEdge.d c.in-SplitEdge.v c.args.p c.in-SplitEdge.p c.in-SplitEdge.n c.in-SplitEdge.m c.split-change.ensures.change c.in-SplitEdge.is in
     let t = sym c.in-SplitEdge.is ∙ q in
     let k = curves_on c.part.new.self in
-    told_once v h (SplitEdge c.in-SplitEdge.d c.in-SplitEdge.v c.in-SplitEdge.p c.in-SplitEdge.n c.in-SplitEdge.m) c.split-change.new.records.graph k (e.graph ∙ ap (step v) c.in-SplitEdge.is) (subst (λ z. (y : DartId) → k y ≡ step_curves h z y) (sym t) c.part.ensures.curves) (subst (FitsChange v h) (sym t) (fits_split v c.args.p (point_is_proper c.args.p c.w-weight.ensures.point) c.args.d c.in-SplitEdge.v c.in-SplitEdge.n c.in-SplitEdge.m c.requires.fits n)) e.sound _ (ap (step_of_change v) t) _ (λ i. WillSplitEdge (c.ends-low.ensures.low i) (c.ends-low.ensures.high i) c.args.p) c.tell_before.ensures.round c.tell_after.ensures.round
+    told_once v h (SplitEdge c.in-SplitEdge.d c.in-SplitEdge.v c.in-SplitEdge.p c.in-SplitEdge.n c.in-SplitEdge.m) c.split-change.new.records.graph k (e.graph ∙ ap (step v) c.in-SplitEdge.is) (subst (λ z. (y : DartId) → k y ≡ step_curves h z y) (sym t) c.part.ensures.curves) (subst (FitsChange v h) (sym t) (fits_split v c.args.p (point_is_proper c.args.p c.laws.ensures) c.args.d c.in-SplitEdge.v c.in-SplitEdge.n c.in-SplitEdge.m c.requires.fits n)) e.sound _ (ap (step_of_change v) t) _ (λ i. WillSplitEdge (c.ends-low.ensures.low i) (c.ends-low.ensures.high i) c.args.p) c.tell_before.ensures.round c.tell_after.ensures.round

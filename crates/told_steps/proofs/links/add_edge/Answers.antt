@@ -40,7 +40,7 @@ tell_after-requires g c =
     let n = new_names v c.link_at-change.result c.in-AddEdge.d c.in-AddEdge.m c.args.u c.args.w c.args.at_u c.args.at_w c.args.line c.args.curve c.link_at-change.ensures.new_darts q in
     let t = sym c.in-AddEdge.is ∙ q in
     let k = curves_on c.hold.new.self in
-    record { changed = just_changed v h (AddEdge c.in-AddEdge.d c.in-AddEdge.m c.in-AddEdge.u c.in-AddEdge.v c.in-AddEdge.at_u c.in-AddEdge.at_v c.in-AddEdge.line c.in-AddEdge.curve) c.link_at-change.new.records.graph k (e.graph ∙ ap (step v) c.in-AddEdge.is) (subst (λ z. (y : DartId) → k y ≡ step_curves h z y) (sym t) (λ y. c.hold.ensures.curves y ∙ one_curve h c.in-AddEdge.d c.args.curve.0 (c.requires.in_step.curves.without_dart c.in-AddEdge.d n.first) y)) (subst (FitsChange v h) (sym t) (fits_added v c.in-AddEdge.d c.in-AddEdge.m c.args.u c.args.w c.args.at_u c.args.at_w c.args.line c.requires.fits n (line_is_proper c.args.line c.is_vertical-vertical.ensures.line), c.requires.forward)) e.sound c.tell_before.ensures.in_step }
+    record { changed = just_changed v h (AddEdge c.in-AddEdge.d c.in-AddEdge.m c.in-AddEdge.u c.in-AddEdge.v c.in-AddEdge.at_u c.in-AddEdge.at_v c.in-AddEdge.line c.in-AddEdge.curve) c.link_at-change.new.records.graph k (e.graph ∙ ap (step v) c.in-AddEdge.is) (subst (λ z. (y : DartId) → k y ≡ step_curves h z y) (sym t) (λ y. c.hold.ensures.curves y ∙ one_curve h c.in-AddEdge.d c.args.curve.0 (c.requires.in_step.curves.without_dart c.in-AddEdge.d n.first) y)) (subst (FitsChange v h) (sym t) (fits_added v c.in-AddEdge.d c.in-AddEdge.m c.args.u c.args.w c.args.at_u c.args.at_w c.args.line c.requires.fits n (line_is_proper c.args.line c.laws.ensures), c.requires.forward)) e.sound c.tell_before.ensures.in_step }
 
 pub returns-clause-told : goal.returns-clause-told
 returns-clause-told g c =
@@ -51,4 +51,4 @@ returns-clause-told g c =
     let n = new_names v c.link_at-change.result c.in-AddEdge.d c.in-AddEdge.m c.args.u c.args.w c.args.at_u c.args.at_w c.args.line c.args.curve c.link_at-change.ensures.new_darts q in
     let t = sym c.in-AddEdge.is ∙ q in
     let k = curves_on c.hold.new.self in
-    told_once v h (AddEdge c.in-AddEdge.d c.in-AddEdge.m c.in-AddEdge.u c.in-AddEdge.v c.in-AddEdge.at_u c.in-AddEdge.at_v c.in-AddEdge.line c.in-AddEdge.curve) c.link_at-change.new.records.graph k (e.graph ∙ ap (step v) c.in-AddEdge.is) (subst (λ z. (y : DartId) → k y ≡ step_curves h z y) (sym t) (λ y. c.hold.ensures.curves y ∙ one_curve h c.in-AddEdge.d c.args.curve.0 (c.requires.in_step.curves.without_dart c.in-AddEdge.d n.first) y)) (subst (FitsChange v h) (sym t) (fits_added v c.in-AddEdge.d c.in-AddEdge.m c.args.u c.args.w c.args.at_u c.args.at_w c.args.line c.requires.fits n (line_is_proper c.args.line c.is_vertical-vertical.ensures.line), c.requires.forward)) e.sound _ (ap (step_of_change v) t) _ (λ i. WillAddEdge (c.point-low.ensures i) (c.point-high.ensures i)) c.tell_before.ensures.round c.tell_after.ensures.round
+    told_once v h (AddEdge c.in-AddEdge.d c.in-AddEdge.m c.in-AddEdge.u c.in-AddEdge.v c.in-AddEdge.at_u c.in-AddEdge.at_v c.in-AddEdge.line c.in-AddEdge.curve) c.link_at-change.new.records.graph k (e.graph ∙ ap (step v) c.in-AddEdge.is) (subst (λ z. (y : DartId) → k y ≡ step_curves h z y) (sym t) (λ y. c.hold.ensures.curves y ∙ one_curve h c.in-AddEdge.d c.args.curve.0 (c.requires.in_step.curves.without_dart c.in-AddEdge.d n.first) y)) (subst (FitsChange v h) (sym t) (fits_added v c.in-AddEdge.d c.in-AddEdge.m c.args.u c.args.w c.args.at_u c.args.at_w c.args.line c.requires.fits n (line_is_proper c.args.line c.laws.ensures), c.requires.forward)) e.sound _ (ap (step_of_change v) t) _ (λ i. WillAddEdge (c.point-low.ensures i) (c.point-high.ensures i)) c.tell_before.ensures.round c.tell_after.ensures.round
