@@ -88,8 +88,7 @@ impl Arrangement {
         ensures no_memory { OnErr result (IsInFace (arranged Observer-dyn self.old).graph p.now) }
         ensures same { self.new ≡ self.old }
     {
-        // A call on the point tells that its numbers are a point's.
-        let _weight = p.w();
+        p.laws();
         match spot_by(strategy, &self.layer.records, p) {
             Spot::Vertex(_) => Ok(Cell::Vertex(*p)),
             Spot::Edge(dart) => Ok(edge_cell(&self.layer.records, dart)),

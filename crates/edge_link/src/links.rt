@@ -80,8 +80,7 @@ pub fn link(
     ensures sound { IsGraphSound records.new.graph }
     ensures spare { IsSpare records.new records.old 0 2 }
 {
-    // A call on the line tells that its numbers are a line's.
-    let _vertical = line.is_vertical();
+    line.laws();
     // Both places are read before anything is written, since the new darts change what follows there.
     let behind_u = behind(records, at_u);
     let behind_v = behind(records, at_v);

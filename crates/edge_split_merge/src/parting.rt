@@ -37,8 +37,7 @@ pub fn split_at(records: &mut Records, d: DartId, p: Point) -> SplitNames
     ensures sound { IsGraphSound records.new.graph }
     ensures spare { IsSpare records.new records.old 1 2 }
 {
-    // A call on the point tells that its numbers are a point's.
-    let _weight = p.w();
+    p.laws();
     let t = records.twin(d);
     // Where the twin is alone at its end, the dart itself comes in before it, and its follower is written last.
     let before_t = previous_around_source(records, t);

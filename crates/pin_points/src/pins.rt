@@ -125,8 +125,7 @@ pub fn pin(
     ensures same_curves { OnErr result (SameCurves history.old history.new) }
     ensures untold { OnErr result (bus_row Observer-dyn bus.new ≡ bus_row Observer-dyn bus.old) }
 {
-    // A call on the point tells that its numbers are a point's.
-    let _weight = p.w();
+    p.laws();
     if is_pinned(&*records, at) {
         return Err(PinError::Pinned);
     }

@@ -85,8 +85,7 @@ pub fn split_edge(
     ensures same_curves { OnErr result (SameCurves history.old history.new) }
     ensures untold { OnErr result (bus_row Observer-dyn bus.new ≡ bus_row Observer-dyn bus.old) }
 {
-    // A call on the point tells that its numbers are a point's.
-    let _weight = r.w();
+    r.laws();
     let Some(dart) = edge_dart(&*records, p, q) else {
         return Err(SplitError::NoEdge);
     };

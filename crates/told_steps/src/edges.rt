@@ -92,8 +92,7 @@ pub fn split_edge(
     ensures spare { IsSpareRecords records.new records.old 1 2 }
     ensures spare_history { SpendsPairs history.old history.new (length (curves_on history.old d)) }
 {
-    // A call on the point tells that its numbers are a point's.
-    let _weight = p.w();
+    p.laws();
     let (low, high) = ends(&*records, d);
     tell_before(
         alloc,

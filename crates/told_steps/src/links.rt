@@ -54,8 +54,7 @@ pub fn add_edge(
     ensures spare { IsSpare records.new records.old 0 2 }
     ensures spare_history { SpendsPairs history.old history.new 1 }
 {
-    // A call on the line tells that its numbers are a line's.
-    let _vertical = line.is_vertical();
+    line.laws();
     let low = records.point(u);
     let high = records.point(w);
     tell_before(alloc, &*records, &*history, bus, Intent::AddEdge(low, high));

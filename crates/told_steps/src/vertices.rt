@@ -44,8 +44,7 @@ pub fn add_vertex(
     ensures graph { records.new.graph ≡ with_vertex records.old.graph result p }
     ensures spare { IsSpare records.new records.old 1 0 }
 {
-    // A call on the point tells that its numbers are a point's.
-    let _weight = p.w();
+    p.laws();
     tell_before(alloc, &*records, history, bus, Intent::AddVertex(p));
     let v = records.add_vertex(p);
     tell_after(alloc, &*records, history, bus, Change::AddVertex { v, p });

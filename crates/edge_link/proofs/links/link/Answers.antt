@@ -33,4 +33,4 @@ returns-clause-sound c =
     subst IsGraphSound (sym (chained c.args.records.now.graph c.add_pair.result.0 c.add_pair.result.1 c.args.u c.args.v c.args.line c.add_pair.ensures.dart c.add_pair.ensures.twin c.add_pair.ensures.two
     _ _ _ _ _ c.args.at_u c.args.at_v _ _ _ _ c.requires.sound.named c.add_pair.ensures.graph c.follow.ensures.graph c.follow-2.ensures.graph c.lead.ensures.graph c.lead-2.ensures.graph
     c.ahead-ahead_u.ensures c.ahead-ahead_v.ensures c.behind-behind_u.ensures c.behind-behind_v.ensures))
-    (linked_sound c.args.records.now.graph c.add_pair.result.0 c.add_pair.result.1 c.args.u c.args.v c.args.at_u c.args.at_v c.args.line c.requires.sound c.requires.fits c.is_vertical-vertical.ensures.line c.add_pair.ensures.dart c.add_pair.ensures.twin c.add_pair.ensures.two)
+    (linked_sound c.args.records.now.graph c.add_pair.result.0 c.add_pair.result.1 c.args.u c.args.v c.args.at_u c.args.at_v c.args.line c.requires.sound c.requires.fits c.laws.ensures c.add_pair.ensures.dart c.add_pair.ensures.twin c.add_pair.ensures.two)

@@ -88,4 +88,4 @@ returns-clause-graph c = made c
 pub returns-clause-sound : goal.returns-clause-sound
 returns-clause-sound c =
     subst (λ (g : View). IsGraphSound g) (sym (made c))
-    (split_is_sound c.args.records.now.graph c.args.d c.add_vertex-v.result c.args.p c.add_pair.result.0 c.add_pair.result.1 c.requires.sound c.requires.fits c.w-weight.ensures.point c.add_vertex-v.ensures.name (new_pair c).new_first (new_pair c).new_second c.add_pair.ensures.two)
+    (split_is_sound c.args.records.now.graph c.args.d c.add_vertex-v.result c.args.p c.add_pair.result.0 c.add_pair.result.1 c.requires.sound c.requires.fits c.laws.ensures c.add_vertex-v.ensures.name (new_pair c).new_first (new_pair c).new_second c.add_pair.ensures.two)

@@ -56,7 +56,7 @@ returns-then-not-is_inside g c = record {
   edit = tt;
   told = tt;
   refused = split_outside c.args.pins (layer_of c.args.records.now.graph c.args.history.now) (edge_between c.args.p.now c.args.q.now).low (edge_between c.args.p.now c.args.q.now).high c.args.r.now (is_edge c.args.records.now.graph c.args.history.now c.requires.layer (edge_between c.args.p.now c.args.q.now) c.in-Some.dart c.in-Some.ensures)
-      (not_inside c.args.records.now.graph c.args.history.now c.requires.layer (edge_between c.args.p.now c.args.q.now) c.in-Some.dart c.in-Some.ensures c.args.r.now (point_is_proper c.args.r.now c.w-weight.ensures.point) (sym c.is_inside.ensures ∙ c.if-not-is_inside.true));
+      (not_inside c.args.records.now.graph c.args.history.now c.requires.layer (edge_between c.args.p.now c.args.q.now) c.in-Some.dart c.in-Some.ensures c.args.r.now (point_is_proper c.args.r.now c.laws.ensures) (sym c.is_inside.ensures ∙ c.if-not-is_inside.true));
   room = λ room is. other _ tt is;
   graph = refl;
   same_layer = layer_kept _;
@@ -71,7 +71,7 @@ returns-then-is_full g c = record {
   edit = tt;
   told = tt;
   refused = split_full c.args.pins (layer_of c.args.records.now.graph c.args.history.now) (edge_between c.args.p.now c.args.q.now).low (edge_between c.args.p.now c.args.q.now).high c.args.r.now (is_edge c.args.records.now.graph c.args.history.now c.requires.layer (edge_between c.args.p.now c.args.q.now) c.in-Some.dart c.in-Some.ensures)
-      (is_inside c.args.records.now.graph c.args.history.now c.requires.layer (edge_between c.args.p.now c.args.q.now) c.in-Some.dart c.in-Some.ensures c.args.r.now (point_is_proper c.args.r.now c.w-weight.ensures.point) (sym c.is_inside.ensures ∙ c.if-not-is_inside.false)) (limit_met c.args.records.now.graph c.args.history.now c.requires.layer (edge_between c.args.p.now c.args.q.now) c.args.pins c.args.r.now (point_is_proper c.args.r.now c.w-weight.ensures.point) _ (sym c.is_full.ensures ∙ c.if-is_full.true));
+      (is_inside c.args.records.now.graph c.args.history.now c.requires.layer (edge_between c.args.p.now c.args.q.now) c.in-Some.dart c.in-Some.ensures c.args.r.now (point_is_proper c.args.r.now c.laws.ensures) (sym c.is_inside.ensures ∙ c.if-not-is_inside.false)) (limit_met c.args.records.now.graph c.args.history.now c.requires.layer (edge_between c.args.p.now c.args.q.now) c.args.pins c.args.r.now (point_is_proper c.args.r.now c.laws.ensures) _ (sym c.is_full.ensures ∙ c.if-is_full.true));
   room = λ room is. other _ tt is;
   graph = refl;
   same_layer = layer_kept _;
@@ -88,7 +88,7 @@ returns-in_err-make_room g c =
       edit = not_ok back _ _ c.from_residual.ensures.1;
       told = not_ok back _ _ c.from_residual.ensures.1;
       refused = no_memory split_said NoMemory _ c.from_residual.result c.from_residual.ensures.1 refl (split_allowed c.args.pins (layer_of c.args.records.now.graph c.args.history.now) (edge_between c.args.p.now c.args.q.now).low (edge_between c.args.p.now c.args.q.now).high c.args.r.now (is_edge c.args.records.now.graph c.args.history.now c.requires.layer (edge_between c.args.p.now c.args.q.now) c.in-Some.dart c.in-Some.ensures)
-          (is_inside c.args.records.now.graph c.args.history.now c.requires.layer (edge_between c.args.p.now c.args.q.now) c.in-Some.dart c.in-Some.ensures c.args.r.now (point_is_proper c.args.r.now c.w-weight.ensures.point) (sym c.is_inside.ensures ∙ c.if-not-is_inside.false)) (limit_met c.args.records.now.graph c.args.history.now c.requires.layer (edge_between c.args.p.now c.args.q.now) c.args.pins c.args.r.now (point_is_proper c.args.r.now c.w-weight.ensures.point) _ (sym c.is_full.ensures ∙ c.if-is_full.false)));
+          (is_inside c.args.records.now.graph c.args.history.now c.requires.layer (edge_between c.args.p.now c.args.q.now) c.in-Some.dart c.in-Some.ensures c.args.r.now (point_is_proper c.args.r.now c.laws.ensures) (sym c.is_inside.ensures ∙ c.if-not-is_inside.false)) (limit_met c.args.records.now.graph c.args.history.now c.requires.layer (edge_between c.args.p.now c.args.q.now) c.args.pins c.args.r.now (point_is_proper c.args.r.now c.laws.ensures) _ (sym c.is_full.ensures ∙ c.if-is_full.false)));
       room = λ room. absurd (not_both c.make_room.result _ (m.succeeds (room c.in-Some.dart c.in-Some.ensures)) c.in_err-make_room.was);
       graph = on_err back _ m.graph;
       same_layer = on_err back _ m.layer;
@@ -120,13 +120,13 @@ returns g c =
     let k = curves_on c.split_edge-vertex.new.history in
     let here = told_of_edit v r c.make_room.new.records.graph c.make_room.new.history m.graph m.curves c.begin.ensures.begun _ x k _ c.split_edge-vertex.ensures.told in
     let there = told_runs_lawful.same_steps v (curves_on r) _ _ _ x k _ (ap (λ z. SplitEdge (point_in z (source_in z c.in-Some.dart)) (point_in z (target_in z c.in-Some.dart)) p ∷ []) m.graph) here in
-    let after = split_layer v r c.requires.layer (edge_between c.args.p.now c.args.q.now) c.in-Some.dart c.in-Some.ensures p (point_is_proper p c.w-weight.ensures.point) (sym c.is_inside.ensures ∙ c.if-not-is_inside.false) _ x k _ there c.split_edge-vertex.result c.split_edge-vertex.ensures.vertex c.set_pin.new.records.graph c.split_edge-vertex.new.history _ c.set_pin.ensures.told (same_layers r c.make_room.new.history c.split_edge-vertex.new.history m.layer c.split_edge-vertex.ensures.layer) in record {
+    let after = split_layer v r c.requires.layer (edge_between c.args.p.now c.args.q.now) c.in-Some.dart c.in-Some.ensures p (point_is_proper p c.laws.ensures) (sym c.is_inside.ensures ∙ c.if-not-is_inside.false) _ x k _ there c.split_edge-vertex.result c.split_edge-vertex.ensures.vertex c.set_pin.new.records.graph c.split_edge-vertex.new.history _ c.set_pin.ensures.told (same_layers r c.make_room.new.history c.split_edge-vertex.new.history m.layer c.split_edge-vertex.ensures.layer) in record {
       layer = after.0;
       watched = c.set_pin.ensures.in_step.holds;
       edit = after.1;
-      told = split_told v r c.requires.layer (edge_between c.args.p.now c.args.q.now) c.in-Some.dart c.in-Some.ensures p (point_is_proper p c.w-weight.ensures.point) (sym c.is_inside.ensures ∙ c.if-not-is_inside.false) _ x k _ there c.split_edge-vertex.result c.split_edge-vertex.ensures.vertex c.set_pin.new.records.graph c.split_edge-vertex.new.history _ c.set_pin.ensures.told;
+      told = split_told v r c.requires.layer (edge_between c.args.p.now c.args.q.now) c.in-Some.dart c.in-Some.ensures p (point_is_proper p c.laws.ensures) (sym c.is_inside.ensures ∙ c.if-not-is_inside.false) _ x k _ there c.split_edge-vertex.result c.split_edge-vertex.ensures.vertex c.set_pin.new.records.graph c.split_edge-vertex.new.history _ c.set_pin.ensures.told;
       refused = split_allowed c.args.pins (layer_of c.args.records.now.graph c.args.history.now) (edge_between c.args.p.now c.args.q.now).low (edge_between c.args.p.now c.args.q.now).high c.args.r.now (is_edge c.args.records.now.graph c.args.history.now c.requires.layer (edge_between c.args.p.now c.args.q.now) c.in-Some.dart c.in-Some.ensures)
-          (is_inside c.args.records.now.graph c.args.history.now c.requires.layer (edge_between c.args.p.now c.args.q.now) c.in-Some.dart c.in-Some.ensures c.args.r.now (point_is_proper c.args.r.now c.w-weight.ensures.point) (sym c.is_inside.ensures ∙ c.if-not-is_inside.false)) (limit_met c.args.records.now.graph c.args.history.now c.requires.layer (edge_between c.args.p.now c.args.q.now) c.args.pins c.args.r.now (point_is_proper c.args.r.now c.w-weight.ensures.point) _ (sym c.is_full.ensures ∙ c.if-is_full.false));
+          (is_inside c.args.records.now.graph c.args.history.now c.requires.layer (edge_between c.args.p.now c.args.q.now) c.in-Some.dart c.in-Some.ensures c.args.r.now (point_is_proper c.args.r.now c.laws.ensures) (sym c.is_inside.ensures ∙ c.if-not-is_inside.false)) (limit_met c.args.records.now.graph c.args.history.now c.requires.layer (edge_between c.args.p.now c.args.q.now) c.args.pins c.args.r.now (point_is_proper c.args.r.now c.laws.ensures) _ (sym c.is_full.ensures ∙ c.if-is_full.false));
       room = λ room is. other _ tt is;
       graph = tt;
       same_layer = tt;

@@ -18,7 +18,7 @@ pub part-requires-clause-new : goal.part-requires-clause-new
 part-requires-clause-new g c = c.requires.in_step.curves.without_dart c.split_at-new.result.n c.split_at-new.ensures.new_names.first
 
 fits : (g : given.Over) (c : After-part g) → FitsSplit c.args.records.now.graph c.args.d c.split_at-new.result.v c.args.p c.split_at-new.result.n c.split_at-new.result.m
-fits g c = fits_split c.args.records.now.graph c.args.p (point_is_proper c.args.p c.w-weight.ensures.point) c.args.d c.split_at-new.result.v c.split_at-new.result.n c.split_at-new.result.m c.requires.fits c.split_at-new.ensures.new_names
+fits g c = fits_split c.args.records.now.graph c.args.p (point_is_proper c.args.p c.laws.ensures) c.args.d c.split_at-new.result.v c.split_at-new.result.n c.split_at-new.result.m c.requires.fits c.split_at-new.ensures.new_names
 
 abbrev change : (g : given.Over) (c : After-part g) → Change
 change g c = SplitEdge c.args.d c.split_at-new.result.v c.args.p c.split_at-new.result.n c.split_at-new.result.m

@@ -25,7 +25,7 @@ made g c =
     let e = c.link-new.ensures in record {
       view = e.graph;
       curves = λ y. c.hold.ensures.curves y ∙ one_curve h d c.args.curve.0 (c.requires.in_step.curves.without_dart d e.new_darts.first) y;
-      fits = (fits_added v d c.link-new.result.m c.args.u c.args.w c.args.at_u c.args.at_w c.args.line c.requires.fits e.new_darts (line_is_proper c.args.line c.is_vertical-vertical.ensures.line), c.requires.forward);
+      fits = (fits_added v d c.link-new.result.m c.args.u c.args.w c.args.at_u c.args.at_w c.args.line c.requires.fits e.new_darts (line_is_proper c.args.line c.laws.ensures), c.requires.forward);
       sound = e.sound;
     }
 

@@ -15,7 +15,7 @@ tell_after-requires g c =
     let h = curves_on c.args.history.now in
     let r = c.add_vertex-v.result in
     let e = c.add_vertex-v.ensures in
-    let n = new_vertex v r c.args.p e.name (point_is_proper c.args.p c.w-weight.ensures.point) c.requires.free in
+    let n = new_vertex v r c.args.p e.name (point_is_proper c.args.p c.laws.ensures) c.requires.free in
     record { changed = just_changed v h (AddVertex r c.args.p) c.add_vertex-v.new.self.graph h e.graph (λ d. refl) n (vertex_added v h r c.args.p c.requires.in_step.sound c.requires.in_step.curves n c.requires.plane c.add_vertex-v.new.self.graph e.graph) c.tell_before.ensures.in_step }
 
 pub returns-clause-told : goal.returns-clause-told
@@ -24,5 +24,5 @@ returns-clause-told g c =
     let h = curves_on c.args.history.now in
     let r = c.add_vertex-v.result in
     let e = c.add_vertex-v.ensures in
-    let n = new_vertex v r c.args.p e.name (point_is_proper c.args.p c.w-weight.ensures.point) c.requires.free in
+    let n = new_vertex v r c.args.p e.name (point_is_proper c.args.p c.laws.ensures) c.requires.free in
     told_once v h (AddVertex r c.args.p) c.add_vertex-v.new.self.graph h e.graph (λ d. refl) n (vertex_added v h r c.args.p c.requires.in_step.sound c.requires.in_step.curves n c.requires.plane c.add_vertex-v.new.self.graph e.graph) _ refl _ refl c.tell_before.ensures.round c.tell_after.ensures.round

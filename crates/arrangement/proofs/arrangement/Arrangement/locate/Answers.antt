@@ -18,7 +18,7 @@ returns-in-Edge g c =
     let p = c.args.p.now in
     let on = c.in-Edge.ensures in
     rw (← c.self.view_is) (record {
-      cell = c.edge_cell.ensures ∙ on_edge _ _ c.self.invariant p c.in-Edge.dart (point_is_proper p c.w-weight.ensures.point) (on.0, on.1) on.2;
+      cell = c.edge_cell.ensures ∙ on_edge _ _ c.self.invariant p c.in-Edge.dart (point_is_proper p c.laws.ensures) (on.0, on.1) on.2;
       no_memory = tt;
       same = refl;
     })
