@@ -21,8 +21,7 @@ fn extent_at(point: Point) -> Extent
     ensures wide { HasWeights result }
     ensures covers { Covers result point }
 {
-    // A call on the point tells that its numbers are a point's.
-    let _weight = point.w();
+    point.laws();
     Extent {
         left: point,
         right: point,
@@ -58,8 +57,7 @@ fn widened(extent: Extent, point: Point) -> Extent
     ensures covers { Covers result point }
     ensures keeps { (q : _) → HasWeight q → Covers extent q → Covers result q }
 {
-    // A call on the point tells that its numbers are a point's.
-    let _weight = point.w();
+    point.laws();
     Extent {
         left: left_one(point, extent.left),
         right: right_one(point, extent.right),

@@ -7,10 +7,10 @@
 #![tactic(auto)]
 
 mod asked;
+mod ends;
 mod extents;
 mod least;
 mod parities;
-mod spans;
 
 pub use extents::{Extent, extent_of, is_clear_of};
 pub use least::least_dart;

@@ -13,9 +13,9 @@ ghost use Rattle.boundary_cycles.specs.Counted.{is_odd_above as is_odd_count};
 
 use crate::asked::{Asked, asked_beside};
 use crate::extents::{Extent, is_clear_of};
-use crate::spans::span_of;
 use exact_plane::Point;
 use slab_laws::{CycleKind, DartId, Darts};
+use sound_views::span_of;
 
 // Whether the edge of a dart is above the cell. Of both ends it is known whether they are on the left of the cell's
 // slab.
@@ -95,8 +95,7 @@ pub fn parity<R: Darts>(records: &R, d: DartId, point: &Point) -> bool
     ensures strictly { let v = R.graph records.now in IsOffCycle v d point.now
         → result ≡ odd_at (skeleton_of v) (dart_in v d) (left_bottom (skeleton_of v) point.now) }
 {
-    // A call on the point tells that its numbers are a point's.
-    let _weight = point.w();
+    point.laws();
     is_odd_above(records, d, &Asked::Left(*point))
 }
 
@@ -145,7 +144,6 @@ pub fn parity_within<R: Darts>(records: &R, d: DartId, extent: &Extent, point: &
     ensures strictly { let v = R.graph records.now in IsOffCycle v d point.now
         → result ≡ odd_at (skeleton_of v) (dart_in v d) (left_bottom (skeleton_of v) point.now) }
 {
-    // A call on the point tells that its numbers are a point's.
-    let _weight = point.w();
+    point.laws();
     is_odd_within(records, d, extent, &Asked::Left(*point))
 }
