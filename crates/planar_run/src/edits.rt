@@ -40,7 +40,7 @@ fn insert(world: &mut World, segment: Segment, reply: &mut Reply) -> Result<(), 
     ensures kept { IsKeptWorld Observer-dyn world.new }
 {
     match world.insert(segment) {
-        Ok(_) => { reply.clear(); reply.add_text("refused 17\n"); }
+        Ok(curve) => tell_curve(world, curve, reply),
         Err(InsertError::Full(_)) => reply.set("refused 17\n"),
         Err(InsertError::Spent) => reply.set("refused 18\n"),
         Err(InsertError::NoMemory) => return Err(NoMemory),

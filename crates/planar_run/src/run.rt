@@ -42,7 +42,7 @@ fn answer_script<S: Source, K: Sink>(engine: &mut Engine, source: &mut S, sink: 
         let (part, _) = buffer.split_at_mut(room.min(BUFFER));
         let count = match source.read(part) {
             Ok(count) => count,
-            Err(_) => return Status::Done,
+            Err(_) => return Status::ReadFault,
         };
         if count == 0 {
             return engine.finish(sink);
@@ -231,7 +231,7 @@ pub fn planar<S: Source, K: Sink>(
 {
     match read_words(alloc, words) {
         Ok(options) => match options.make {
-            None => { let _ = run(alloc, options.strategy, source, sink, observers); Status::ReadFault }
+            None => run(alloc, options.strategy, source, sink, observers),
             Some(segments) => run_made(
                 alloc,
                 options.strategy,
