@@ -50,7 +50,11 @@ fn pins_of<R: Darts>(
 fn forward_among(alloc: Global, darts: &[DartKey]) -> Result<Vec<DartKey>, AllocError>
     ensures { IfOk result (λ v. v.items ≡ filter goes_forward darts.now) }
 {
-    darts.iter().copied().filter(is_forward).collect(alloc)
+    darts
+        .iter()
+        .copied()
+        .filter(|dart| is_forward(dart))
+        .collect(alloc)
 }
 
 // The edge of a forward dart, with its line.
