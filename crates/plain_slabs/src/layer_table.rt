@@ -9,7 +9,7 @@ ghost use Rattle.present_graphs.specs.Spans.{span_of_piece, lies_on};
 ghost use Rattle.slab_laws.specs.Overlay.{runs_along, curves_along};
 ghost use Rattle.plain_slabs.specs.LayerTables.{numbers_in, numbers_along};
 
-use exact_plane::{Point, Sign, Span, line_of, side};
+use exact_plane::{Point, Span, line_of};
 use no_memory::NoMemory;
 use slab_laws::{CurveId, Piece, Present};
 use std::alloc::{AllocError, Global};
@@ -64,9 +64,7 @@ fn holds(piece: &Piece, point: &Point) -> bool
     ensures { result ≡ lies_on (span_of_piece (piece_of piece.now)) point.now }
 {
     // Most points are told by their order, which is cheaper than a line.
-    piece.from <= *point
-        && *point <= piece.to
-        && side(&line_of(&piece.segment), point) == Sign::Zero
+    piece.from <= *point && *point <= piece.to && line_of(&piece.segment).holds(point)
 }
 
 // Whether a piece holds both ends of an edge.

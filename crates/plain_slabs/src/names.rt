@@ -14,7 +14,7 @@ use crate::plain::Plain;
 use exact_plane::{Point, Span};
 use no_memory::NoMemory;
 use present_graphs::Mark;
-use record_orders::{DartKey, VertexKey, darts_in_order, vertices_in_order};
+use record_orders::{DartKey, VertexKey, darts_in_order, is_forward, points_of, vertices_in_order};
 use slab_laws::{Curved, Darts};
 use std::alloc::{AllocError, Global};
 
@@ -25,12 +25,6 @@ struct Parts {
     marks: Vec<Mark>,
     pins: Vec<Point>,
     edges: Vec<Span>,
-}
-
-fn points_of(alloc: Global, vertices: &[VertexKey]) -> Result<Vec<Point>, AllocError>
-    ensures { IfOk result (λ v. v.items ≡ points_at vertices.now) }
-{
-    vertices.iter().map(|vertex| vertex.point).collect(alloc)
 }
 
 // The points of the pinned vertices.
@@ -52,17 +46,15 @@ fn pins_of<R: Darts>(
     Ok(pins)
 }
 
-fn is_forward(dart: &DartKey) -> bool
-    ensures { result ≡ goes_forward dart.now }
-{
-    dart.source < dart.target
-}
-
 // The darts that go from the lower to the upper end of their edge, of which each edge has one.
 fn forward_among(alloc: Global, darts: &[DartKey]) -> Result<Vec<DartKey>, AllocError>
     ensures { IfOk result (λ v. v.items ≡ filter goes_forward darts.now) }
 {
-    darts.iter().copied().filter(is_forward).collect(alloc)
+    darts
+        .iter()
+        .copied()
+        .filter(|dart| is_forward(dart))
+        .collect(alloc)
 }
 
 // The edge of a forward dart, with its line.

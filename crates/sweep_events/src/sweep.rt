@@ -142,7 +142,7 @@ fn add_pins(queue: &mut BTreeSet<Point>, pins: &[Point]) -> Result<(), NoMemory>
     ensures { OnOk result (HasPins pins.now (length pins.now) queue.old.keys queue.new.keys) }
 {
     for pin in pins {
-        let _ = pin.w();
+        pin.laws();
         queue.insert(*pin)?;
     }
     Ok(())
