@@ -36,7 +36,7 @@ module _ (v : View) (s : IsGraphSound v) where
   step d h = along_link same_name lower_name names_exact (name_links v) (record { one = d; other = next_in v d }) (map_in (λ d. record { one = d; other = next_in v d }) (dart_names v) d (listed d h))
 
   -- ---- from labels of names to leads of darts
-  lead_step : (d : DartId) → HasDart v d → lead_in v d ≡ lead_in v (next_in v d)
+  pub lead_step : (d : DartId) → HasDart v d → lead_in v d ≡ lead_in v (next_in v d)
   lead_step d h = (labelled (skeleton_of v)).step (dart_in v d) (names_are_darts.known v d s h) ∙ ap (least_dart_of (skeleton_of v)) (sym (names_are_darts.next v d s h))
 
   same_is : IsEquivalence (λ d e. (HasDart v d → HasDart v e) × (HasDart v e → HasDart v d) × (HasDart v d → lead_in v d ≡ lead_in v e))

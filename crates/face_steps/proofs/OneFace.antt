@@ -20,9 +20,10 @@ use Rattle.sound_changes.proofs.RingsKept.{source_old}
 use Rattle.face_changes.specs.OneMoreEdge.{LiesIn}
 use Rattle.face_changes.specs.FacesByPairs.{Item, outside, beside, round, HasItem, first_or, AreFacesTold}
 use Rattle.face_changes.proofs.OneMoreEdge.{one_kind_each, sides_of_one_more_edge}
+use Rattle.face_changes.proofs.CycleNames.{lead_step}
 use Rattle.face_steps.specs.EdgePairs.{IsEdgeApart}
 use Rattle.face_steps.specs.OneFace.{AreFacesKept, OneFaceOnBothSides}
-use Rattle.face_steps.proofs.Alike.{lead_next, IsLike, faces_follow, faces_followed}
+use Rattle.face_steps.proofs.Alike.{IsLike, faces_follow, faces_followed}
 use Rattle.face_steps.proofs.EdgePairs.{turned_round, up, sorted, twins, vertex_above, vertex_below, bare_below, has_start, is_more, start_cases, old_lies, vertex_lies, first_lies, real_first, bare_start, lead_second}
 
 -- ---- a new dart and what it is beside: e is the edge of x
@@ -57,7 +58,7 @@ module _ (v w : View) (f s : Faces) (x y : DartId) (p q : VertexId) (l : Line) (
   at_place a o n =
       let A = up v w x y p q l m a o in
       let z = lies_dart a o in
-      let t : lead_in w a ≡ lead_in w x = lead_next w a m.sound_more A ∙ ap (lead_in w) n in
+      let t : lead_in w a ≡ lead_in w x = lead_step w m.sound_more a A ∙ ap (lead_in w) n in
       let one = one_kind_each.face (skeleton_of w) (dart_in w a) (dart_in w x) m.sound_more.plane t in
       record {
         has = o;

@@ -32,6 +32,7 @@ use Rattle.slab_faces.proofs.Member.{member_in, in_member, filter_in, filter_out
 use Rattle.slab_faces.proofs.Slabs.{same_edge_is, same_edge_refl}
 use Rattle.slab_faces.proofs.Turns.{face_at, face_sym, member_cases}
 use Rattle.arr_notes.proofs.Names.{cases_dart}
+use Rattle.arr_notes.proofs.Reading.{dart_number}
 use Rattle.sound_views.proofs.NamedDarts.{names_are_darts}
 use Rattle.rotation_order.specs.EdgeParts.{lower_part, upper_part}
 use Rattle.rotation_order.specs.VertexRings.{IsBare}
@@ -54,21 +55,18 @@ use Rattle.face_steps.proofs.Counted.{in_front, behind, set_cons, point_set, edg
 use Rattle.face_steps.proofs.VertexSteps.{item_listed}
 
 -- ---- names
-number : (k n : DartId) → k ≢ n → k.0 ≢ n.0
-number k n e q = e (λ i. record { 0 = q i })
-
 pub of_first : (d t n m : DartId) → whole_name d t n m n ≡ d
 of_first d t n m = ap (λ b. cond b d (cond (n.0 == m.0) t n)) (same_number n.0)
 
 pub of_second : (d t n m : DartId) → n ≢ m → whole_name d t n m m ≡ t
 of_second d t n m e =
-    ap (λ b. cond b d (cond (m.0 == m.0) t m)) (other_number m.0 n.0 (number m n (λ q. e (sym q))))
+    ap (λ b. cond b d (cond (m.0 == m.0) t m)) (other_number m.0 n.0 (dart_number m n (λ q. e (sym q))))
     ∙ ap (λ b. cond b t m) (same_number m.0)
 
 pub of_other : (d t n m k : DartId) → k ≢ n → k ≢ m → whole_name d t n m k ≡ k
 of_other d t n m k a b =
-    ap (λ c. cond c d (cond (k.0 == m.0) t k)) (other_number k.0 n.0 (number k n a))
-    ∙ ap (λ c. cond c t k) (other_number k.0 m.0 (number k m b))
+    ap (λ c. cond c d (cond (k.0 == m.0) t k)) (other_number k.0 n.0 (dart_number k n a))
+    ∙ ap (λ c. cond c t k) (other_number k.0 m.0 (dart_number k m b))
 
 -- ---- darts of the parts as darts of the whole
 module _ (e : Edge) (p : Point) where

@@ -26,10 +26,10 @@ use Rattle.sound_changes.proofs.RingsKept.{source_old, twin_old}
 use Rattle.face_changes.specs.FacesByPairs.{beside, round}
 use Rattle.face_changes.specs.OneMoreEdge.{GrowsCycle}
 use Rattle.face_changes.proofs.OneMoreEdge.{one_kind_each, cycles_with_one_more_edge, sides_of_one_more_edge}
+use Rattle.face_changes.proofs.CycleNames.{lead_step}
 use Rattle.face_steps.specs.EdgePairs.{IsEdgeApart}
 use Rattle.face_steps.specs.OneFace.{AreFacesKept, IsGrowthApart}
 use Rattle.face_steps.specs.Tabled.{AreTabled}
-use Rattle.face_steps.proofs.Alike.{lead_next}
 use Rattle.face_steps.proofs.CyclesApart.{cycles_apart}
 use Rattle.face_steps.proofs.EdgePairs.{turned_round, up, sorted, bare_below, vertex_above, vertex_below, has_end, is_more, is_dart, twins, lead_second, comes, bare_start, old_lies, vertex_lies, bare_end}
 use Rattle.face_steps.proofs.OneFace.{one_face_on_both_sides}
@@ -72,7 +72,7 @@ module _ (v w : View) (x y : DartId) (p q : VertexId) (l : Line) (m : IsEdgeApar
   one = grown.first ∙ sym grown.second ∙ sym (lead_second v w x y p q l m)
 
   lead_a : lead_in w a ≡ lead_in w x
-  lead_a = lead_next w a m.sound_more (up v w x y p q l m a A) ∙ ap (lead_in w) na
+  lead_a = lead_step w m.sound_more a (up v w x y p q l m a A) ∙ ap (lead_in w) na
 
   -- the start has a dart without the edge
   start_out : IsOutOf v p (twin_in v a)

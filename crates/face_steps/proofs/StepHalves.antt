@@ -13,9 +13,9 @@ use Rattle.arr_notes.proofs.Reading.{dart_number, none_there}
 use Rattle.arr_notes.proofs.VertexReads.{put_hit, put_miss, del_hit, del_miss}
 use Rattle.sound_views.proofs.ListedRows.{is_some_by}
 use Rattle.rotation_order.specs.VertexRings.{IsBare}
+use Rattle.face_changes.proofs.CycleNames.{lead_step}
 use Rattle.face_steps.specs.SplitSteps.{IsSplitApart, AreHalvesTabled}
 use Rattle.face_steps.specs.Tabled.{AreTabled}
-use Rattle.face_steps.proofs.Alike.{lead_next}
 use Rattle.face_steps.proofs.SplitSteps.{split_steps}
 
 -- ---- an edge in two, and two in one
@@ -125,12 +125,12 @@ module _ (v w : View) (d t n m : DartId) (u : VertexId) (p : Point) (c : IsSplit
     cycle_n : cycle_in s n ≡ cycle_in s d
     cycle_n =
         let D = c.halves.has_old d c.halves.has_d in
-        (h.cycled.orbits n d c.halves.has_n D).1 (sym (lead_next w d c.sound_more D ∙ ap (lead_in w) c.onward))
+        (h.cycled.orbits n d c.halves.has_n D).1 (sym (lead_step w c.sound_more d D ∙ ap (lead_in w) c.onward))
 
     cycle_m : cycle_in s m ≡ cycle_in s t
     cycle_m =
         let T = c.halves.has_old t c.halves.has_t in
-        (h.cycled.orbits m t c.halves.has_m T).1 (lead_next w m c.sound_more c.halves.has_m ∙ ap (lead_in w) c.backward)
+        (h.cycled.orbits m t c.halves.has_m T).1 (lead_step w c.sound_more m c.halves.has_m ∙ ap (lead_in w) c.backward)
 
     halves_left : AreHalvesTabled v f s d t n m
     halves_left = record {

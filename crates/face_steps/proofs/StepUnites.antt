@@ -25,11 +25,12 @@ use Rattle.face_changes.specs.FacesByPairs.{outside, beside, round, HasItem, fir
 use Rattle.face_changes.specs.Kinds.{odd_at}
 use Rattle.face_changes.proofs.OneMoreEdge.{one_outer_cycle, faces_with_one_more_edge, sides_of_one_more_edge}
 use Rattle.face_changes.proofs.LinkedCycles.{there_dart}
+use Rattle.face_changes.proofs.CycleNames.{lead_step}
 use Rattle.face_steps.specs.EdgePairs.{IsEdgeApart}
 use Rattle.face_steps.specs.StepPremises.{FitsUnite}
 use Rattle.face_steps.specs.Tabled.{AreTabled}
 use Rattle.face_steps.specs.TwoFaces.{IsUniteApart}
-use Rattle.face_steps.proofs.Alike.{kind_at, lead_next}
+use Rattle.face_steps.proofs.Alike.{kind_at}
 use Rattle.face_steps.proofs.CyclesApart.{cycle_cases}
 use Rattle.face_steps.proofs.EdgePairs.{turned_round, up, sorted, bare_below, vertex_above, vertex_below, is_more, twins, lead_second, real_first, real_second}
 use Rattle.face_steps.proofs.FaceRows.{map_some, map_cycle, cycle_number, face_number, swap_hit, swap_miss, del_name_has, del_name_ascends, first_left}
@@ -164,7 +165,7 @@ module _ (v w : View) (x y : DartId) (p q : VertexId) (l : Line) (m : IsEdgeApar
   has_to_face = (has_faces (face_in s kept)).1 (h.complete.face_has kept has_kept, other_face)
 
   cycle_b : cycle_in s b ≡ kept
-  cycle_b = (h.cycled.orbits b y (has_up b B) m.more.second).1 (lead_next w b m.sound_more (has_up b B) ∙ ap (lead_in w) nb) ∙ t.second
+  cycle_b = (h.cycled.orbits b y (has_up b B) m.more.second).1 (lead_step w m.sound_more b (has_up b B) ∙ ap (lead_in w) nb) ∙ t.second
 
   rows : (k : DartId) → HasDart v k ↔ IsSome (row_at f.cycle_of k.0)
   rows k = (

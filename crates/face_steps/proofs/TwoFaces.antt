@@ -27,9 +27,10 @@ use Rattle.face_changes.proofs.CycleParities.{choose}
 use Rattle.face_changes.proofs.FaceNames.{face_names_merge}
 use Rattle.face_changes.proofs.LinkedCycles.{there_dart}
 use Rattle.face_changes.proofs.OneMoreEdge.{one_kind_each, one_outer_cycle, cycles_with_one_more_edge}
+use Rattle.face_changes.proofs.CycleNames.{lead_step}
 use Rattle.face_steps.specs.EdgePairs.{IsEdgeApart}
 use Rattle.face_steps.specs.TwoFaces.{IsUniteApart, TwoFacesApart}
-use Rattle.face_steps.proofs.Alike.{KindsAreTold, kind_at, cycled_by, lead_next}
+use Rattle.face_steps.proofs.Alike.{KindsAreTold, kind_at, cycled_by}
 use Rattle.face_steps.proofs.CyclesApart.{cycle_cases}
 use Rattle.face_steps.proofs.EdgePairs.{turned_round, up, sorted, drawn_old, twins, point_is, vertex_above, vertex_below, bare_below, listed, is_dart, lead_old, lead_second, is_more, comes, old_lies, vertex_lies, first_lies}
 
@@ -107,10 +108,10 @@ module _ (v w : View) (x y : DartId) (p q : VertexId) (l : Line) (m : IsEdgeApar
     apart e = two ((cy.orbits x y m.more.first m.more.second).0 (t.first ∙ sym e ∙ sym t.second))
 
     lead_a : lead_in w a ≡ lead_in w x
-    lead_a = lead_next w a m.sound_more (has_up a A) ∙ ap (lead_in w) na
+    lead_a = lead_step w m.sound_more a (has_up a A) ∙ ap (lead_in w) na
 
     lead_b : lead_in w b ≡ lead_in w y
-    lead_b = lead_next w b m.sound_more (has_up b B) ∙ ap (lead_in w) nb
+    lead_b = lead_step w m.sound_more b (has_up b B) ∙ ap (lead_in w) nb
 
     cycle_a : cycle_in s a ≡ gone
     cycle_a = (cy.orbits a x (has_up a A) m.more.first).1 lead_a ∙ t.first

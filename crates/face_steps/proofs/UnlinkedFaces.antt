@@ -11,11 +11,11 @@ use Rattle.arr_notes.specs.NotedFaces.{UnlinkedFaces, Vanishes, Shrinks, Breaks,
 use Rattle.arr_notes.proofs.Reading.{dart_number}
 use Rattle.rotation_order.specs.VertexRings.{IsBare}
 use Rattle.sound_changes.proofs.RingsKept.{source_old}
+use Rattle.face_changes.proofs.CycleNames.{lead_step}
 use Rattle.face_steps.specs.EdgePairs.{IsEdgeApart}
 use Rattle.face_steps.specs.LinkLaws.{FitsUnlinked, UnlinksKeepTables}
 use Rattle.face_steps.specs.StepPremises.{IsBetween}
 use Rattle.face_steps.specs.Tabled.{AreTabled}
-use Rattle.face_steps.proofs.Alike.{lead_next}
 use Rattle.face_steps.proofs.EdgePairs.{turned_round, up, sorted, start_cases}
 use Rattle.face_steps.proofs.RecordsApart.{edge_removed, before_it}
 use Rattle.face_steps.proofs.StepLaws.{steps_keep_tables}
@@ -89,8 +89,8 @@ module _ (v : View) (f : Faces) (d : DartId) (s : IsGraphSound v) (has : HasDart
   -- two cycles: then neither end becomes bare
   no_follow : (cycle_in f d ≢ cycle_in f t) → (next_in v t ≢ d) × (next_in v d ≢ t)
   no_follow n = (
-    λ q. n (sym ((h.cycled.orbits t d has_twin has).1 (lead_next v t s has_twin ∙ ap (lead_in v) q))),
-    λ q. n ((h.cycled.orbits d t has has_twin).1 (lead_next v d s has ∙ ap (lead_in v) q)),
+    λ q. n (sym ((h.cycled.orbits t d has_twin has).1 (lead_step v s t has_twin ∙ ap (lead_in v) q))),
+    λ q. n ((h.cycled.orbits d t has has_twin).1 (lead_step v s d has ∙ ap (lead_in v) q)),
   )
 
   old_up : (z : DartId) → HasDart less z → HasDart v z
