@@ -4,7 +4,7 @@ ghost use Rattle.slab_laws.specs.Rotation.{dart_below};
 ghost use Rattle.slab_laws.specs.Sound.{IsGraphSound, dart_in};
 ghost use Rattle.slab_laws.specs.View.{HasDart};
 
-use crate::spans::ends_of;
+use crate::ends::ends_of;
 use slab_laws::{DartId, Darts};
 use std::cmp::Ordering;
 
