@@ -1,0 +1,7 @@
+use Rattle.headline.proofs.rows.done.Goals as goal
+
+pub returns : goal.returns
+returns g c = record {
+  known = c.planar.ensures.known;
+  done = λ asked is. record { rest = c.planar.ensures.read_to_end asked is; out = c.planar.ensures.answered asked is };
+}
