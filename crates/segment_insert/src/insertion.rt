@@ -40,6 +40,17 @@ pub enum InsertError {
     NoMemory,
 }
 
+impl From<NoMemory> for InsertError {
+    ghost use Rattle.std.specs.Prelude.{◌≡◌};
+    ghost use Rattle.segment_insert.specs.declared.insertion.InsertError.TheVariants.{NoMemory as OutOfMemory};
+
+    ghost from_gives = { λ _ e. e ≡ OutOfMemory };
+
+    fn from(_error: NoMemory) -> InsertError {
+        InsertError::NoMemory
+    }
+}
+
 // Why one more curve is refused, the first reason first, whatever the records are.
 fn refusal_of(history: &History, curves: u32, pieces: u32) -> Option<InsertError>
     ensures { (r : RecordsView) → refusal_at curves pieces r history.now ≡ option_and_then insert_said result }
@@ -184,9 +195,7 @@ pub fn insert(
     if let Some(error) = refusal_of(&*history, curves, pieces) {
         return Err(error);
     }
-    let Ok(plan) = prepare(alloc, records, history, segment, start) else {
-        return Err(InsertError::NoMemory);
-    };
+    let plan = prepare(alloc, records, history, segment, start)?;
     bus.begin();
     Ok(insert_by_plan(alloc, records, history, bus, segment, plan))
 }

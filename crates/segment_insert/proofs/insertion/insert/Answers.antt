@@ -1,15 +1,16 @@
-use Rattle.std.proofs.Common.{◌≡◌, ◌<◌, None, length, sym, arith}
-use Rattle.edit_steps.proofs.Refusals.{insertion_allowed}
+use Rattle.std.proofs.Common.{◌≡◌, ◌<◌, None, length, refl, sym, arith}
+use Rattle.edit_steps.proofs.Refusals.{insertion_allowed, no_memory}
 use Rattle.curve_history.specs.declared.history.TheConstants.{LAST_CURVE}
-use Rattle.segment_insert.specs.Insertion.{refusal_at}
+use Rattle.segment_insert.specs.Insertion.{insert_said, refusal_at}
+use Rattle.segment_insert.specs.declared.insertion.InsertError.TheVariants.{NoMemory}
 use Rattle.told_steps.proofs.Begun.{begun_in_step, still_watched}
 use Rattle.segment_insert.proofs.Layers.{room_stays}
 use Rattle.told_steps.proofs.Moved.{layer_stays}
 use Rattle.segment_insert.proofs.insertion.insert.Goals as goal
 use Rattle.told_steps.specs.LayerEdits.{layer_at}
 
-pub returns-in_default-prepare-clause-layer : goal.returns-in_default-prepare-clause-layer
-returns-in_default-prepare-clause-layer g c =
+pub returns-in_err-plan-clause-layer : goal.returns-in_err-plan-clause-layer
+returns-in_err-plan-clause-layer g c =
     let e = c.prepare.ensures in
     layer_stays c.args.records.now.graph c.prepare.new.records.graph c.args.history.now c.prepare.new.history e.graph e.same_layer e.same_curves c.requires.layer
 
@@ -21,13 +22,13 @@ insert_by_plan-requires-clause-layer g c =
 pub insert_by_plan-requires-clause-room : goal.insert_by_plan-requires-clause-room
 insert_by_plan-requires-clause-room g c =
     let e = c.prepare.ensures in
-    room_stays c.in-Ok.plan c.prepare.new.records c.args.history.now c.prepare.new.history e.same_curves c.in-Ok.ensures.room
+    room_stays c.in_ok-plan.plan c.prepare.new.records c.args.history.now c.prepare.new.history e.same_curves c.in_ok-plan.ensures.room
 
 pub returns-in-Some-clause-refused : goal.returns-in-Some-clause-refused
 returns-in-Some-clause-refused g c = sym (c.in-Some.ensures c.args.records.now)
 
-pub returns-in_default-prepare-clause-refused : goal.returns-in_default-prepare-clause-refused
-returns-in_default-prepare-clause-refused g c = sym (c.in_default.ensures c.args.records.now)
+pub returns-in_err-plan-clause-refused : goal.returns-in_err-plan-clause-refused
+returns-in_err-plan-clause-refused g c = no_memory insert_said NoMemory _ c.from_residual.result c.from_residual.ensures.1 refl (c.in_default.ensures c.args.records.now)
 
 pub insert_by_plan-requires-clause-unspent : goal.insert_by_plan-requires-clause-unspent
 insert_by_plan-requires-clause-unspent g c =
@@ -43,8 +44,8 @@ insert_by_plan-requires-clause-few g c =
     let few : length c.args.history.now.pieces < c.args.pieces = k.0 in
     rw c.prepare.ensures.same_layer.pieces (omega arith)
 
-pub returns-in_default-prepare-clause-watched : goal.returns-in_default-prepare-clause-watched
-returns-in_default-prepare-clause-watched g c =
+pub returns-in_err-plan-clause-watched : goal.returns-in_err-plan-clause-watched
+returns-in_err-plan-clause-watched g c =
     let e = c.prepare.ensures in
     still_watched c.args.records.now.graph c.args.history.now c.prepare.new.records.graph c.prepare.new.history e.graph e.same_curves _ c.requires.watched
 
