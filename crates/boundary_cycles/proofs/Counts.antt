@@ -27,7 +27,7 @@ use Rattle.slab_laws.specs.Slabs.{left_cell}
 use Rattle.boundary_cycles.specs.declared.asked.Asked.TheVariants.{Left}
 use Rattle.boundary_cycles.proofs.Above.{left_weight_is}
 use Rattle.edge_predicates.proofs.DartsAbove.{same_sum, on_and_above, by_darts, cond_both, flips}
-use Rattle.face_changes.specs.CycleNames.{dart_names, same_name}
+use Rattle.arr_notes.specs.CycleNames.{dart_names, same_name}
 use Rattle.face_changes.specs.Kinds.{odd_at}
 use Rattle.face_changes.proofs.OneToOneMaps.{tally}
 use Rattle.boundary_cycles.specs.declared.asked.Asked.{Asked}

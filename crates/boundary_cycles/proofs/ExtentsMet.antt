@@ -14,7 +14,7 @@ use Rattle.slab_laws.specs.View.{View, HasVertex, HasDart, point_in, source_in, 
 use Rattle.slab_faces.proofs.NextLemmas.{darts_exact}
 use Rattle.slab_faces.proofs.Sums.{each, sum_by-same, sum_by-none}
 use Rattle.slab_faces.proofs.Walls.{left_of-irrefl, left_of-asym, left_of-before, left_of-after}
-use Rattle.face_changes.specs.CycleNames.{dart_names}
+use Rattle.arr_notes.specs.CycleNames.{dart_names}
 use Rattle.face_changes.proofs.OneToOneMaps.{tally}
 use Rattle.boundary_cycles.specs.declared.asked.Asked.{Asked}
 use Rattle.boundary_cycles.specs.declared.asked.Asked.TheVariants.{Left, Right, Above, Below}

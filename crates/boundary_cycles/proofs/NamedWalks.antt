@@ -23,7 +23,7 @@ use Rattle.sound_views.proofs.NameTables.{other_number, has_name}
 use Rattle.slab_faces.proofs.CyclesLemmas.{one_cycle}
 use Rattle.slab_laws.specs.Rows.{least_dart_of}
 use Rattle.slab_laws.specs.Sound.{skeleton_of, dart_in}
-use Rattle.face_changes.specs.CycleNames.{same_name, lower_name, dart_names, name_links, cycle_label}
+use Rattle.arr_notes.specs.CycleNames.{same_name, lower_name, dart_names, name_links, cycle_label}
 use Rattle.face_changes.proofs.CycleNames.{names_tell_cycles}
 use Rattle.face_changes.proofs.OneToOneMaps.{tally, closed_back}
 use Rattle.boundary_cycles.specs.Counted.{is_on_cycle}

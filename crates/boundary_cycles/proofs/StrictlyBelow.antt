@@ -28,7 +28,7 @@ use Rattle.slab_faces.proofs.Sums.{each, sum_by-same, fewer, fewer_than}
 use Rattle.slab_faces.proofs.Walls.{left_of-before, run_positive, side-upper, side_rises, over-upper}
 use Rattle.slab_faces.proofs.Cells.{leb_by, on_side, IsSideOf}
 use Rattle.sound_views.proofs.NamedDarts.{edge_known}
-use Rattle.face_changes.specs.CycleNames.{dart_names}
+use Rattle.arr_notes.specs.CycleNames.{dart_names}
 use Rattle.face_changes.specs.Kinds.{odd_at}
 use Rattle.face_changes.proofs.OneToOneMaps.{tally}
 use Rattle.boundary_cycles.specs.declared.asked.Asked.TheVariants.{Left}

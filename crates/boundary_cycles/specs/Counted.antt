@@ -6,7 +6,7 @@ use Rattle.slab_laws.specs.FacesSound.{lead_in}
 use Rattle.slab_laws.specs.Rotation.{same_dart}
 use Rattle.slab_laws.specs.Sound.{edge_in}
 use Rattle.slab_laws.specs.View.{View}
-use Rattle.face_changes.specs.CycleNames.{dart_names}
+use Rattle.arr_notes.specs.CycleNames.{dart_names}
 use Rattle.boundary_cycles.specs.declared.asked.Asked.{Asked}
 use Rattle.boundary_cycles.specs.Asked.{is_above_asked}
 

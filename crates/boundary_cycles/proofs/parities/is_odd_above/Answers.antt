@@ -4,7 +4,7 @@ use Rattle.std.specs.List.{count_by}
 use Rattle.slab_laws.specs.declared.names.DartId.{DartId}
 use Rattle.slab_laws.specs.Sound.{edge_in}
 use Rattle.slab_laws.specs.View.{HasDart, HasVertex, next_in, point_in, source_in, target_in}
-use Rattle.face_changes.specs.CycleNames.{dart_names}
+use Rattle.arr_notes.specs.CycleNames.{dart_names}
 use Rattle.boundary_cycles.specs.Asked.{is_behind_asked, is_above_asked}
 use Rattle.boundary_cycles.proofs.NamedWalks.{ways, IsWalked, begins, goes_on, ends, smaller, more}
 use Rattle.boundary_cycles.proofs.Counts.{odd_more, odd_same, odd_all, none_counted}
