@@ -79,8 +79,8 @@ fn is_right(
     }
 }
 
-// Whether each call answers as it has to, one after the other; the observers come with them, the last one first.
-fn all_right(
+/// Whether each call answers as it has to, one after the other; the observers come with them, the last one first.
+pub fn all_right(
     layer: &mut Arrangement,
     calls: &[Call],
     observers: &mut Vec<Box<dyn Observer>>,

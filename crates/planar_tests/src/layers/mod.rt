@@ -4,6 +4,7 @@ mod asked;
 mod calls;
 pub mod edits;
 mod kept;
+mod overlays;
 mod places;
 mod rows;
 mod scribe;

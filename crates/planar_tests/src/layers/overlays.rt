@@ -1,0 +1,114 @@
+ghost use Rattle.arrangement.specs.Arranged.{arranged, IsWatched};
+
+use crate::layers::calls::{Call, all_right};
+use crate::layers::edits::{Answer, Edit, Under, layer_under};
+use arrangement::{Arrangement, Overlay, overlay};
+use no_memory::NoMemory;
+use slab_laws::{CurveId, DartId, Darts, Faced, Layered};
+use std::alloc::Global;
+use std::test::Fail;
+
+// A red square, and a blue one whose left side is part of the red one's right side.
+const RED: [Call; 4] = [
+    Call::Makes(Edit::Insert(0, 0, 4, 0), Answer::Drawn(1)),
+    Call::Makes(Edit::Insert(4, 0, 4, 4), Answer::Drawn(2)),
+    Call::Makes(Edit::Insert(4, 4, 0, 4), Answer::Drawn(3)),
+    Call::Makes(Edit::Insert(0, 4, 0, 0), Answer::Drawn(4)),
+];
+
+const BLUE: [Call; 4] = [
+    Call::Makes(Edit::Insert(4, 1, 7, 1), Answer::Drawn(1)),
+    Call::Makes(Edit::Insert(7, 1, 7, 3), Answer::Drawn(2)),
+    Call::Makes(Edit::Insert(7, 3, 4, 3), Answer::Drawn(3)),
+    Call::Makes(Edit::Insert(4, 3, 4, 1), Answer::Drawn(4)),
+];
+
+// The overlay's 18 darts go by their sources, then by their targets. Behind these two come the darts of the edge that the squares
+// share: the eighth, from (4, 1) to (4, 3), and the tenth, its twin.
+const BEFORE_UPWARD: DartId = DartId(6);
+
+const BEFORE_DOWNWARD: DartId = DartId(8);
+
+// Whether this red curve and this blue one, and no others, run along the edge of the dart behind another.
+fn has_curves(
+    alloc: Global,
+    both: &Overlay,
+    before: DartId,
+    red: CurveId,
+    blue: CurveId,
+) -> Result<bool, NoMemory> {
+    match both.dart_after(Some(before)) {
+        None => Ok(false),
+        Some(dart) => {
+            let is_red = both.red_curves(alloc, dart)?.as_slice() == [red].as_slice();
+            let is_blue = both.blue_curves(alloc, dart)?.as_slice() == [blue].as_slice();
+            Ok(is_red && is_blue)
+        }
+    }
+}
+
+// The ranks of the red and of the blue face that hold the face left of the dart behind another.
+fn faces(both: &Overlay, before: DartId) -> Option<(usize, usize)> {
+    match both.dart_after(Some(before)) {
+        None => None,
+        Some(dart) => {
+            let face = both.face(both.cycle(dart));
+            Some((both.red_of(face), both.blue_of(face)))
+        }
+    }
+}
+
+// Whether the overlay tells of the shared edge what it has to: the second red curve and the fourth blue one; on its left, going
+// up, the red square outside the blue one, on its right the blue square outside the red one.
+fn tells_shared_edge(alloc: Global, both: &Overlay) -> Result<bool, NoMemory> {
+    let upward = has_curves(alloc, both, BEFORE_UPWARD, CurveId(2), CurveId(4))?;
+    let downward = has_curves(alloc, both, BEFORE_DOWNWARD, CurveId(2), CurveId(4))?;
+    let left = faces(both, BEFORE_UPWARD) == Some((1, 0));
+    let right = faces(both, BEFORE_DOWNWARD) == Some((0, 1));
+    Ok(upward && downward && left && right)
+}
+
+// Whether each segment is drawn.
+fn draw(alloc: Global, layer: &mut Arrangement, calls: &[Call]) -> Result<bool, Fail>
+    requires watched { IsWatched (arranged Observer-dyn layer.old) }
+    ensures watched { IsWatched (arranged Observer-dyn layer.new) }
+{
+    let mut nobody = Vec::new(alloc);
+    let drawn = all_right(layer, calls, &mut nobody);
+    drop(nobody);
+    drawn
+}
+
+// Whether the overlay of the layers tells what it has to.
+fn is_told(alloc: Global, red: &Arrangement, blue: &Arrangement) -> Result<bool, NoMemory> {
+    let both = overlay(alloc, red, blue)?;
+    let told = tells_shared_edge(alloc, &both);
+    drop(both);
+    told
+}
+
+// The same over a blue layer of its own.
+fn is_told_over(alloc: Global, red: &Arrangement) -> Result<bool, Fail> {
+    let mut blue = layer_under(alloc, Under::Script)?;
+    let drawn = draw(alloc, &mut blue, &BLUE);
+    let told = is_told(alloc, red, &blue);
+    drop(blue);
+    Ok(drawn? && told?)
+}
+
+// The same, where the squares are drawn.
+fn is_told_of_squares(alloc: Global, red: &mut Arrangement) -> Result<bool, Fail>
+    requires watched { IsWatched (arranged Observer-dyn red.old) }
+{
+    let drawn = draw(alloc, red, &RED)?;
+    Ok(is_told_over(alloc, red)? && drawn)
+}
+
+#[test]
+fn an_overlay_tells_of_each_layer(rt: HostRuntime) -> Result<(), Fail> {
+    let mut red = layer_under(rt.alloc(), Under::Script)?;
+    let told = is_told_of_squares(rt.alloc(), &mut red);
+    drop(red);
+    assert!(rt; told?);
+    Ok(())
+}
