@@ -1,5 +1,5 @@
 -- The rows of the headline: what each status of `planar` says. What is said of bytes is said of a source that tells what it has left, and of a sink that tells what it took.
-use Rattle.std.specs.Prelude.{◌≡◌, ◌⊎◌, ◌+◌, ◌^◌, ◌≤◌, ℕ, List, [], length, take, Option, Some, IfSome}
+use Rattle.std.specs.Prelude.{◌≡◌, ◌⊎◌, ◌+◌, ◌^◌, ℕ, List, [], length, take, Option, Some, IfSome}
 use Rattle.outside.specs.Bytes.{Gains, GainsPrefix}
 use Rattle.outside.specs.Counts.{Rose}
 use Rattle.script_maker.specs.Script.{script}

@@ -1,4 +1,4 @@
-ghost use Rattle.std.specs.Prelude.{◌≡◌, ◌⊎◌, ◌+◌, ◌^◌, ◌≤◌, length, map, string_bytes, IsSomeAnd};
+ghost use Rattle.std.specs.Prelude.{◌≡◌, ◌⊎◌, ◌+◌, ◌≤◌, length, map, string_bytes, IsSomeAnd};
 ghost use Rattle.outside.specs.Counts.{Rose};
 ghost use Rattle.words_in.specs.Grammar.{AreInGrammar, AreOutside};
 ghost use Rattle.script_lines.specs.declared.command.TheConstants.{MAX_LINE};

@@ -1,5 +1,5 @@
 -- The world of a script in memory, as contracts see it.
-use Rattle.std.specs.Prelude.{◌≡◌, ◌≤◌, Bool, List, Option, length, map, option_map, ℕ}
+use Rattle.std.specs.Prelude.{◌≡◌, ◌≤◌, Bool, List, Option, length, map, option_map}
 use Rattle.std.specs.declared.alloc.Global.{Global}
 use Rattle.std.specs.declared.dyn_box.DynBox.{DynBox}
 use Rattle.arrangement.specs.Arranged.{arranged, layer_in, Arranged, IsWatched}
