@@ -65,8 +65,11 @@ fn dart(records: &Records, ends: Ends) -> Option<DartId>
 // One dart of each boundary: of the face between the squares, of the plane round both, of the hole from without, and of
 // the face within it.
 const BETWEEN: Ends = (0, 0, 8, 0);
+
 const ROUND: Ends = (8, 0, 0, 0);
+
 const HOLE: Ends = (4, 2, 2, 2);
+
 const WITHIN: Ends = (2, 2, 4, 2);
 
 const LEAST: [(Ends, Ends); 4] = [
