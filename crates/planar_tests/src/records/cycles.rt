@@ -1,7 +1,7 @@
 // A square with a square hole: the cycles of its four boundaries, asked at records.
 
 ghost use Rattle.std.specs.Prelude.{IfSome};
-ghost use Rattle.arrangement.specs.Arranged.{arranged_of, IsWatched};
+ghost use Rattle.arrangement.specs.Arranged.{arranged, IsWatched};
 ghost use Rattle.slab_laws.specs.Sound.{IsGraphSound};
 ghost use Rattle.slab_laws.specs.View.{HasDart};
 
@@ -19,8 +19,8 @@ use slab_laws::{CycleKind, DartId, Darts};
 use std::test::Fail;
 
 fn draw(layer: &mut Arrangement, ends: Ends)
-    requires watched { IsWatched (arranged_of tells held left heard layer.old) }
-    ensures watched { IsWatched (arranged_of tells held left heard layer.new) }
+    requires watched { IsWatched (arranged Observer-dyn layer.old) }
+    ensures watched { IsWatched (arranged Observer-dyn layer.new) }
 {
     let (x1, y1, x2, y2) = ends;
     if let Ok(segment) = Segment::new(x1, y1, x2, y2) {
@@ -30,8 +30,8 @@ fn draw(layer: &mut Arrangement, ends: Ends)
 
 // The square from (0, 0) to (8, 8), and within it the one from (2, 2) to (4, 4).
 fn draw_squares(layer: &mut Arrangement)
-    requires watched { IsWatched (arranged_of tells held left heard layer.old) }
-    ensures watched { IsWatched (arranged_of tells held left heard layer.new) }
+    requires watched { IsWatched (arranged Observer-dyn layer.old) }
+    ensures watched { IsWatched (arranged Observer-dyn layer.new) }
 {
     draw(layer, (0, 0, 8, 0));
     draw(layer, (8, 0, 8, 8));
