@@ -9,6 +9,7 @@ use Rattle.exact_plane.specs.Point.{Point}
 use Rattle.slab_laws.specs.declared.names.FaceId.{FaceId}
 use Rattle.slab_laws.specs.declared.slab_cell.SlabCell.{SlabCell}
 use Rattle.slab_laws.specs.Faces.{face_labels, face_of, same_cell}
+use Rattle.slab_laws.specs.Kinds.{is_outer}
 use Rattle.slab_laws.specs.Slabs.{left_cell}
 use Rattle.slab_laws.specs.Sound.{skeleton_of}
 use Rattle.slab_laws.specs.Subdivision.{Cycle, Bare, Subdivision, subdivision, rank, has_dart, first_cell}
@@ -21,7 +22,7 @@ use Rattle.sound_views.proofs.NamesOrdered.{vertices_in_order}
 use Rattle.record_orders.specs.declared.vertices.VertexKey.{VertexKey}
 use Rattle.record_orders.specs.Keys.{vertex_key, vertex_keys}
 use Rattle.record_orders.specs.declared.cycles.CycleKey.{CycleKey}
-use Rattle.record_orders.specs.CycleKeys.{is_outer, same_face, ranked_faces}
+use Rattle.record_orders.specs.CycleKeys.{same_face, ranked_faces}
 use Rattle.slab_faces.proofs.FacesLemmas.{cells_exact}
 use Rattle.sound_views.proofs.ListedPlaces.{place_at}
 use Rattle.sound_views.proofs.RankedFaces.{faces_apart}

@@ -19,6 +19,7 @@ use Rattle.slab_laws.specs.declared.slab_cell.SlabCell.{SlabCell}
 use Rattle.slab_laws.specs.Cycles.{trail, dart_labels, odd, left_of_dart}
 use Rattle.slab_laws.specs.Darts.{Dart, darts, source}
 use Rattle.slab_laws.specs.Faces.{face_labels, face_of, same_cell, cells, slab_cells}
+use Rattle.slab_laws.specs.Kinds.{is_outer}
 use Rattle.slab_laws.specs.Listed.{distinct}
 use Rattle.slab_laws.specs.Rows.{lead_list}
 use Rattle.slab_laws.specs.Skeleton.{Skeleton, IsPlaneSkeleton}
@@ -48,7 +49,7 @@ use Rattle.sound_views.proofs.OuterFaces.{faces_are_ranked}
 use Rattle.record_orders.specs.declared.vertices.VertexKey.{VertexKey}
 use Rattle.record_orders.specs.Keys.{vertex_key, vertex_keys}
 use Rattle.record_orders.specs.declared.cycles.CycleKey.{CycleKey}
-use Rattle.record_orders.specs.CycleKeys.{same_cycle, is_outer, cycle_key, cycle_keys, same_face, first_faces, ranked_faces}
+use Rattle.record_orders.specs.CycleKeys.{same_cycle, cycle_key, cycle_keys, same_face, first_faces, ranked_faces}
 
 -- ---- lists of what is made of the elements
 module _ {X Y : Type 0} (make : X → Y) where

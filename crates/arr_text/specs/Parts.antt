@@ -8,6 +8,7 @@ use Rattle.slab_laws.specs.declared.names.FaceId.{FaceId}
 use Rattle.slab_laws.specs.Cycles.{dart_labels, trail}
 use Rattle.slab_laws.specs.Darts.{source, target, darts}
 use Rattle.slab_laws.specs.Faces.{face_labels}
+use Rattle.slab_laws.specs.Kinds.{is_outer}
 use Rattle.slab_laws.specs.Rotation.{rotation}
 use Rattle.slab_laws.specs.Skeleton.{Skeleton}
 use Rattle.slab_laws.specs.Sound.{skeleton_of, dart_in}
@@ -17,7 +18,7 @@ use Rattle.slab_laws.specs.View.{View, Faces, face_id, bare_face_in}
 use Rattle.sound_views.specs.VertexRounds.{round}
 use Rattle.record_orders.specs.declared.cycles.CycleKey.{CycleKey}
 use Rattle.record_orders.specs.declared.vertices.VertexKey.{VertexKey}
-use Rattle.record_orders.specs.CycleKeys.{is_outer, is_of_kind, same_face}
+use Rattle.record_orders.specs.CycleKeys.{is_of_kind, same_face}
 use Rattle.arr_text.specs.Reading.{forward_darts, labels_by, pins_in}
 
 -- ---- vertices

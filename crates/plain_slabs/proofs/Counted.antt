@@ -1,5 +1,5 @@
 -- How many cells of each kind the lists of a subdivision have.
-use Rattle.std.proofs.Common.{◌≡◌, ℕ, ◌+◌, Bool, cond, refl, sym, ap, ◌∙◌, List, [], ◌∷◌, map, length, fold}
+use Rattle.std.proofs.Common.{◌≡◌, ℕ, ◌+◌, Bool, true, false, cond, refl, sym, ap, ◌∙◌, List, [], ◌∷◌, map, length, fold}
 use Rattle.std.specs.Prelude.{not, ◌||◌, filter}
 use Rattle.std.specs.List.{count_by, list_any}
 use Rattle.std.proofs.lemmas.List.{length-map}
@@ -7,6 +7,7 @@ use Rattle.std.proofs.lemmas.List.Sums.{length-filter}
 use Rattle.exact_plane.specs.Span.{Span}
 use Rattle.slab_laws.specs.SpansDrawn.{edge_of, drawn}
 use Rattle.slab_laws.specs.Faces.{face_labels, face_of}
+use Rattle.slab_laws.specs.Kinds.{kind_by, is_outer}
 use Rattle.slab_laws.specs.Rows.{cycle_row, cycle_rows}
 use Rattle.slab_laws.specs.Skeleton.{Skeleton, same_point}
 use Rattle.slab_laws.specs.Slabs.{left_cell}
@@ -21,11 +22,15 @@ pub graph_is : (g : Skeleton) → (subdivision g).graph ≡ g
 unfolding subdivision
 graph_is g = refl
 
-rows_from : (g : Skeleton) (n : ℕ) (cs : List Cycle) → fold (λ m (r : CycleRow). m + cond (not r.outer) 1 0) n (map (cycle_row g) cs) ≡ fold (λ m (c : Cycle). m + cond (not c.outer) 1 0) n cs
-rows_from g n [] = refl
-rows_from g n (c ∷ cs) = rows_from g (n + cond (not c.outer) 1 0) cs
+as_it_was : (b : Bool) → is_outer (kind_by b) ≡ b
+as_it_was true = refl
+as_it_was false = refl
 
-rows_inner : (g : Skeleton) (cs : List Cycle) → count_by (λ (r : CycleRow). not r.outer) (map (cycle_row g) cs) ≡ count_by (λ (c : Cycle). not c.outer) cs
+rows_from : (g : Skeleton) (n : ℕ) (cs : List Cycle) → fold (λ m (r : CycleRow). m + cond (not (is_outer r.kind)) 1 0) n (map (cycle_row g) cs) ≡ fold (λ m (c : Cycle). m + cond (not c.outer) 1 0) n cs
+rows_from g n [] = refl
+rows_from g n (c ∷ cs) = ap (λ b. fold (λ m (r : CycleRow). m + cond (not (is_outer r.kind)) 1 0) (n + cond (not b) 1 0) (map (cycle_row g) cs)) (as_it_was c.outer) ∙ rows_from g (n + cond (not c.outer) 1 0) cs
+
+rows_inner : (g : Skeleton) (cs : List Cycle) → count_by (λ (r : CycleRow). not (is_outer r.kind)) (map (cycle_row g) cs) ≡ count_by (λ (c : Cycle). not c.outer) cs
 rows_inner g cs = rows_from g 0 cs
 
 same_tests : {X : Type 0} (p q : X → Bool) (xs : List X) → ((x : X) → p x ≡ q x) → count_by p xs ≡ count_by q xs
@@ -46,9 +51,9 @@ module _ (a : Inside) (d : Drawing) (k : IsSoundSubdivision a) (is : drawing_of 
   pub edges_many : (n : ℕ) → n ≡ length a.edges.items → n ≡ length (subdivision_in d).graph.edges
   edges_many n e = e ∙ sym (length-map a.edges.items edge_of) ∙ ap (λ g. length g.edges) (same_graph ∙ sym (graph_is (skeleton_in d)))
 
-  pub inner_many : (n : ℕ) → n ≡ count_by (λ (r : CycleRow). not r.outer) a.cycles.items → n ≡ count_by (λ (c : Cycle). not c.outer) (subdivision_in d).cycles
+  pub inner_many : (n : ℕ) → n ≡ count_by (λ (r : CycleRow). not (is_outer r.kind)) a.cycles.items → n ≡ count_by (λ (c : Cycle). not c.outer) (subdivision_in d).cycles
   unfolding cycle_rows
-  inner_many n e = e ∙ ap (count_by (λ (r : CycleRow). not r.outer)) (k.cycles ∙ ap (λ (d : Drawing). cycle_rows (skeleton_in d)) is) ∙ rows_inner (skeleton_in d) (subdivision_in d).cycles
+  inner_many n e = e ∙ ap (count_by (λ (r : CycleRow). not (is_outer r.kind))) (k.cycles ∙ ap (λ (d : Drawing). cycle_rows (skeleton_in d)) is) ∙ rows_inner (skeleton_in d) (subdivision_in d).cycles
 
   pub isolated_many : (n : ℕ) → n ≡ count_by (λ p. not (list_any (λ (s : Span). same_point s.lower p || same_point s.upper p) a.edges.items)) a.points.items → n ≡ length (subdivision_in d).bare
   isolated_many n e =

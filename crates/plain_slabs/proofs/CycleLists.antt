@@ -7,13 +7,14 @@ use Rattle.slab_laws.specs.Faces.{face_labels, face_of}
 use Rattle.slab_laws.specs.Darts.{Dart}
 use Rattle.slab_laws.specs.Slabs.{left_cell}
 use Rattle.slab_laws.specs.Subdivision.{Cycle, rank}
+use Rattle.slab_laws.specs.Kinds.{kind_by}
 use Rattle.slab_laws.specs.Rows.{dart_list, lead_list, cycle_place, cycle_places, cycle_row, cycle_rows}
 use Rattle.slab_laws.specs.declared.rows.CycleRow.{CycleRow}
 use Rattle.slab_laws.specs.declared.names.CycleId.{CycleId}
 use Rattle.slab_laws.specs.declared.names.DartId.{DartId}
 use Rattle.slab_laws.specs.declared.names.VertexId.{VertexId}
 use Rattle.slab_laws.specs.View.{HasDart, HasCycle, HasBareFace, cycle_id, face_id, cycle_in, kind_in, face_in, bare_face_in}
-use Rattle.plain_slabs.specs.Listed.{Drawing, skeleton_in, subdivision_in, kind_by, view_of, faces_of}
+use Rattle.plain_slabs.specs.Listed.{Drawing, skeleton_in, subdivision_in, view_of, faces_of}
 use Rattle.plain_slabs.proofs.ListedRecords.{dart_of}
 use Rattle.sound_views.proofs.RankedFaces.{cycle_of, cycles_are, outer_is, face_is}
 use Rattle.plain_slabs.proofs.ListedFaces.{IsCycle, cycle_is, cycle_by, kind_is, cycle_face, bare_out}
@@ -49,10 +50,10 @@ module _ (a : Inside) (k : IsSoundSubdivision a) where
   rank_below : (c : CycleId) → HasCycle (faces_of D) c → c.0 < length a.cycle_ranks.items
   rank_below c H = let x = cycle_by D c H in within (λ c. rank (subdivision_in D) c.face) (subdivision_in D).cycles a.cycle_ranks.items k.cycle_ranks c.0 (cycle_of (skeleton_in D) x.0) (cycle_at c x.0 x.1)
 
-  kind_there : (c : CycleId) (r : CycleRow) → HasCycle (faces_of D) c → r ≡ get_or a.cycles.items c.0 r → kind_by r.outer ≡ kind_in (faces_of D) c
+  kind_there : (c : CycleId) (r : CycleRow) → HasCycle (faces_of D) c → r ≡ get_or a.cycles.items c.0 r → r.kind ≡ kind_in (faces_of D) c
   kind_there c r H e =
       let x = cycle_by D c H in
-      ap (λ (r : CycleRow). kind_by r.outer) (item_is (cycle_row (skeleton_in D)) (subdivision_in D).cycles a.cycles.items cycles_kept c.0 (cycle_of (skeleton_in D) x.0) (cycle_at c x.0 x.1) r r e)
+      ap (λ (r : CycleRow). r.kind) (item_is (cycle_row (skeleton_in D)) (subdivision_in D).cycles a.cycles.items cycles_kept c.0 (cycle_of (skeleton_in D) x.0) (cycle_at c x.0 x.1) r r e)
       ∙ ap kind_by (outer_is (skeleton_in D) x.0)
       ∙ sym (kind_is D c x.0 x.1)
 
@@ -95,8 +96,8 @@ module _ (a : Inside) (d : Drawing) (k : IsSoundSubdivision a) (is : drawing_of 
   pub rank_within : (c : CycleId) → HasCycle (faces_of d) c → c.0 < length a.cycle_ranks.items
   rank_within c H = rank_below a k c (before_cycle c H)
 
-  pub kind_reads : (c : CycleId) (r : CycleRow) → HasCycle (faces_of d) c → r ≡ get_or a.cycles.items c.0 r → kind_by r.outer ≡ kind_in (faces_of d) c
-  kind_reads c r H e = subst (λ (d : Drawing). kind_by r.outer ≡ kind_in (faces_of d) c) is (kind_there a k c r (before_cycle c H) e)
+  pub kind_reads : (c : CycleId) (r : CycleRow) → HasCycle (faces_of d) c → r ≡ get_or a.cycles.items c.0 r → r.kind ≡ kind_in (faces_of d) c
+  kind_reads c r H e = subst (λ (d : Drawing). r.kind ≡ kind_in (faces_of d) c) is (kind_there a k c r (before_cycle c H) e)
 
   pub face_reads : (c : CycleId) (n : ℕ) → HasCycle (faces_of d) c → n ≡ get_or a.cycle_ranks.items c.0 n → face_id n ≡ face_in (faces_of d) c
   face_reads c n H e = subst (λ (d : Drawing). face_id n ≡ face_in (faces_of d) c) is (face_there a k c n (before_cycle c H) e)

@@ -12,6 +12,7 @@ use Rattle.slab_laws.specs.declared.rows.CycleRow.{CycleRow}
 use Rattle.slab_laws.specs.Skeleton.{Skeleton}
 use Rattle.slab_laws.specs.Faces.{same_cell, face_labels, face_of, cells}
 use Rattle.slab_laws.specs.Listed.{distinct}
+use Rattle.slab_laws.specs.Kinds.{kind_by, is_outer}
 use Rattle.slab_laws.specs.Rows.{cycle_row, cycle_rows}
 use Rattle.slab_laws.specs.Subdivision.{Cycle, subdivision, first_cell}
 use Rattle.slab_faces.proofs.FacesLemmas.{cells_exact}
@@ -93,13 +94,13 @@ folded fs (x ∷ xs) =
 
 -- ---- the faces of outer cycles
 abbrev pub outer_of : List CycleRow → List SlabCell
-outer_of cs = map (λ c. c.face) (filter (λ c. c.outer) cs)
+outer_of cs = map (λ c. c.face) (filter (λ c. is_outer c.kind) cs)
 
 rows_outer : (g : Skeleton) (cs : List Cycle) → outer_of (map (cycle_row g) cs) ≡ map (λ c. c.face) (filter (λ c. c.outer) cs)
 rows_outer g [] = refl
 rows_outer g (c ∷ cs) = step c.outer (rows_outer g cs)
   where
-    step : (b : Bool) → outer_of (map (cycle_row g) cs) ≡ map (λ c. c.face) (filter (λ c. c.outer) cs) → map (λ (c : CycleRow). c.face) (cond b (cycle_row g c ∷ filter (λ c. c.outer) (map (cycle_row g) cs)) (filter (λ c. c.outer) (map (cycle_row g) cs))) ≡ map (λ (c : Cycle). c.face) (cond b (c ∷ filter (λ c. c.outer) cs) (filter (λ c. c.outer) cs))
+    step : (b : Bool) → outer_of (map (cycle_row g) cs) ≡ map (λ c. c.face) (filter (λ c. c.outer) cs) → map (λ (c : CycleRow). c.face) (cond (is_outer (kind_by b)) (cycle_row g c ∷ filter (λ c. is_outer c.kind) (map (cycle_row g) cs)) (filter (λ c. is_outer c.kind) (map (cycle_row g) cs))) ≡ map (λ (c : Cycle). c.face) (cond b (c ∷ filter (λ c. c.outer) cs) (filter (λ c. c.outer) cs))
     step true e = ap (λ fs. c.face ∷ fs) e
     step false e = e
 
@@ -123,18 +124,18 @@ module _ (g : Skeleton) where
 
   more_cycles : (cs : List CycleRow) (c : CycleRow) → with_cycles (cs ++ c ∷ []) ≡ fold added (with_cycles cs) (outer_of (c ∷ []))
   more_cycles cs c =
-      ap (fold added (first_faces g)) (ap (map (λ (c : CycleRow). c.face)) (filter-append (λ (c : CycleRow). c.outer) cs (c ∷ [])) ∙ map-append (λ (c : CycleRow). c.face) (filter (λ c. c.outer) cs) (filter (λ c. c.outer) (c ∷ [])))
+      ap (fold added (first_faces g)) (ap (map (λ (c : CycleRow). c.face)) (filter-append (λ (c : CycleRow). is_outer c.kind) cs (c ∷ [])) ∙ map-append (λ (c : CycleRow). c.face) (filter (λ c. is_outer c.kind) cs) (filter (λ c. is_outer c.kind) (c ∷ [])))
       ∙ fold-append added (first_faces g) (outer_of cs) (outer_of (c ∷ []))
 
   -- one more cycle, an outer one, and one that isn't
-  pub cycle_taken : (cs : List CycleRow) (i : ℕ) (d : CycleRow) (old now : List SlabCell) → i < length cs → (get_or cs i d).outer ≡ true → old ≡ with_cycles (take i cs) → now ≡ added old (get_or cs i d).face → now ≡ with_cycles (take (i + 1) cs)
+  pub cycle_taken : (cs : List CycleRow) (i : ℕ) (d : CycleRow) (old now : List SlabCell) → i < length cs → is_outer (get_or cs i d).kind ≡ true → old ≡ with_cycles (take i cs) → now ≡ added old (get_or cs i d).face → now ≡ with_cycles (take (i + 1) cs)
   cycle_taken cs i d old now h t o n =
       let c : CycleRow = get_or cs i d in
       n
       ∙ ap (λ fs. added fs c.face) o
       ∙ sym (ap with_cycles (take_more cs i d h) ∙ more_cycles (take i cs) c ∙ ap (λ b. fold added (with_cycles (take i cs)) (map (λ (c : CycleRow). c.face) (cond b (c ∷ []) []))) t)
 
-  pub cycle_passed : (cs : List CycleRow) (i : ℕ) (d : CycleRow) (old now : List SlabCell) → i < length cs → (get_or cs i d).outer ≡ false → old ≡ with_cycles (take i cs) → now ≡ old → now ≡ with_cycles (take (i + 1) cs)
+  pub cycle_passed : (cs : List CycleRow) (i : ℕ) (d : CycleRow) (old now : List SlabCell) → i < length cs → is_outer (get_or cs i d).kind ≡ false → old ≡ with_cycles (take i cs) → now ≡ old → now ≡ with_cycles (take (i + 1) cs)
   cycle_passed cs i d old now h t o n =
       let c : CycleRow = get_or cs i d in
       n

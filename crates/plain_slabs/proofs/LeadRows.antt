@@ -11,6 +11,7 @@ use Rattle.slab_laws.specs.Darts.{Dart, darts}
 use Rattle.slab_laws.specs.SpansDrawn.{edge_of, drawn}
 use Rattle.slab_laws.specs.Faces.{face_labels, face_of}
 use Rattle.slab_laws.specs.Rotation.{same_dart}
+use Rattle.slab_laws.specs.Kinds.{kind_by}
 use Rattle.slab_laws.specs.Rows.{no_dart, dart_at, dart_list, dart_place, dart_row, dart_rows, lead_list, cycle_row, cycle_rows}
 use Rattle.slab_laws.specs.Skeleton.{Skeleton, IsPlaneSkeleton, same_point}
 use Rattle.slab_laws.specs.Subdivision.{cycle, has_dart}
@@ -35,7 +36,7 @@ module _ (g : Skeleton) (plane : IsPlaneSkeleton g) where
   unfolding cycle
   lead_is l h =
       let e = at_lead l h in
-      λ i. record { lead = dart_place g l; outer = odd g (dart_labels (darts g)) (e i) (left_of_dart g (e i)); face = face_of (face_labels g) (left_of_dart g (e i)) }
+      λ i. record { lead = dart_place g l; kind = kind_by (odd g (dart_labels (darts g)) (e i) (left_of_dart g (e i))); face = face_of (face_labels g) (left_of_dart g (e i)) }
 
   rows_of : (ls : List Dart) → ((l : Dart) → Member ls l → Member (lead_list g) l) → map (lead_row g) (map (dart_place g) ls) ≡ map (cycle_row g) (map (cycle_of g) ls)
   rows_of [] f = refl

@@ -11,6 +11,7 @@ use Rattle.slab_laws.specs.declared.names.CycleId.{CycleId}
 use Rattle.slab_laws.specs.declared.names.DartId.{DartId}
 use Rattle.slab_laws.specs.declared.names.FaceId.{FaceId}
 use Rattle.slab_laws.specs.declared.names.VertexId.{VertexId}
+use Rattle.slab_laws.specs.Kinds.{kind_by}
 use Rattle.slab_laws.specs.Slabs.{left_cell}
 use Rattle.slab_laws.specs.Darts.{Dart, darts}
 use Rattle.slab_laws.specs.Rotation.{same_dart}
@@ -24,7 +25,7 @@ use Rattle.slab_laws.specs.View.{cycle_id, face_id, HasCycle, HasFace, HasBareFa
 use Rattle.slab_faces.proofs.Member.{Member, member_in, in_member, map_in, map_out, filter_in, filter_out}
 use Rattle.slab_faces.proofs.Searches.{in_range, range_below}
 use Rattle.slab_faces.proofs.NextLemmas.{darts_exact}
-use Rattle.plain_slabs.specs.Listed.{Drawing, skeleton_in, subdivision_in, kind_by, cycle_record, faces_of}
+use Rattle.plain_slabs.specs.Listed.{Drawing, skeleton_in, subdivision_in, cycle_record, faces_of}
 use Rattle.sound_views.proofs.ListedRows.{is_some_by, numbered_row, slice_get_member, keyed_in, keyed_out}
 use Rattle.sound_views.proofs.ListedPlaces.{at_place, place_at, apart_ascending}
 use Rattle.slab_faces.proofs.DartOrder.{dart_cmp_total}

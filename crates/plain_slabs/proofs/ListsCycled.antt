@@ -5,6 +5,7 @@ use Rattle.std.specs.List.{position_or_len}
 use Rattle.plane_graphs.specs.Plane.{IsPlane}
 use Rattle.slab_laws.specs.declared.names.CycleKind.TheVariants.{Outer}
 use Rattle.slab_laws.specs.declared.names.DartId.{DartId}
+use Rattle.slab_laws.specs.Kinds.{kind_by}
 use Rattle.slab_laws.specs.Skeleton.{Skeleton}
 use Rattle.slab_laws.specs.Darts.{Dart, darts}
 use Rattle.slab_laws.specs.Rotation.{same_dart}
@@ -13,7 +14,7 @@ use Rattle.slab_laws.specs.Rows.{least_dart_of, lead_list}
 use Rattle.slab_laws.specs.Sound.{skeleton_of}
 use Rattle.slab_laws.specs.View.{cycle_id, cycle_in, kind_in}
 use Rattle.slab_laws.specs.FacesSound.{lead_in, IsCycled}
-use Rattle.plain_slabs.specs.Listed.{Drawing, skeleton_in, kind_by, view_of, faces_of}
+use Rattle.plain_slabs.specs.Listed.{Drawing, skeleton_in, view_of, faces_of}
 use Rattle.plain_slabs.proofs.ListedRecords.{IsDart, dart_of, dart_is}
 use Rattle.plain_slabs.proofs.ListsDrawn.{view_draws}
 use Rattle.plain_slabs.proofs.ListedFaces.{cycle_is, kind_is, cycle_of_dart}

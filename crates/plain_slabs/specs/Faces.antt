@@ -12,6 +12,7 @@ use Rattle.slab_laws.specs.Classes.{class_of}
 use Rattle.slab_laws.specs.Cycles.{dart_labels, odd, left_of_dart}
 use Rattle.slab_laws.specs.Darts.{darts}
 use Rattle.slab_laws.specs.Faces.{same_cell, face_labels, face_of}
+use Rattle.slab_laws.specs.Kinds.{kind_by}
 use Rattle.slab_laws.specs.Rows.{dart_at}
 use Rattle.slab_laws.specs.Skeleton.{Skeleton, same_point}
 use Rattle.slab_laws.specs.Slabs.{left_cell}
@@ -23,7 +24,7 @@ AreLabelsOf g ls = (c : SlabCell) → class_of same_cell ls c ≡ face_of (face_
 
 -- the cycle of the least dart at a place
 abbrev pub lead_row : Skeleton → ℕ → CycleRow
-lead_row g k = record { lead = k; outer = odd g (dart_labels (darts g)) (dart_at g k) (left_of_dart g (dart_at g k)); face = face_of (face_labels g) (left_of_dart g (dart_at g k)) }
+lead_row g k = record { lead = k; kind = kind_by (odd g (dart_labels (darts g)) (dart_at g k) (left_of_dart g (dart_at g k))); face = face_of (face_labels g) (left_of_dart g (dart_at g k)) }
 
 -- the point is an end of one of the edges
 abbrev pub is_end : List Span → Point → Bool

@@ -1,15 +1,14 @@
 -- What a subdivision that is kept in lists means as records: each name is the place in an ascending list.
-use Rattle.std.specs.Prelude.{◌≡◌, ℕ, pos, List, map, Bool, true, false, length, Some, slice_get, slice_index_or}
+use Rattle.std.specs.Prelude.{◌≡◌, ℕ, pos, List, map, length, Some, slice_get, slice_index_or}
 use Rattle.std.specs.List.{list_any, range_with_len}
 use Rattle.exact_plane.specs.Point.{Point}
 use Rattle.exact_plane.specs.Line.{Line, IsOn}
 use Rattle.plane_graphs.specs.Graph.{Graph, Edge, edges}
 use Rattle.plane_graphs.specs.Line.{IsProperLine}
-use Rattle.slab_laws.specs.declared.names.CycleKind.{CycleKind}
-use Rattle.slab_laws.specs.declared.names.CycleKind.TheVariants.{Outer, Inner}
 use Rattle.slab_laws.specs.Skeleton.{Skeleton, same_point}
 use Rattle.slab_laws.specs.Darts.{Dart, source, darts}
 use Rattle.slab_laws.specs.Rotation.{twin, next}
+use Rattle.slab_laws.specs.Kinds.{kind_by}
 use Rattle.slab_laws.specs.Subdivision.{Cycle, Subdivision, subdivision, rank}
 use Rattle.slab_laws.specs.Text.{skeleton, numbered}
 use Rattle.slab_laws.specs.Rows.{dart_list, vertex_place, edge_place, dart_place, cycle_place}
@@ -49,11 +48,6 @@ dart_record d h =
 -- vertices and darts by their places (this project)
 unfoldable pub view_of : Drawing → View
 view_of d = record { vertices = numbered 0 (map (vertex_record d) d.graph.points); darts = numbered 0 (map (dart_record d) (dart_list (skeleton_in d))) }
-
--- the kind of a cycle that bounds its face from outside, or doesn't
-abbrev pub kind_by : Bool → CycleKind
-kind_by true = Outer
-kind_by false = Inner
 
 -- the record of a cycle: its face goes by its rank
 abbrev pub cycle_record : Drawing → Cycle → CycleRecord

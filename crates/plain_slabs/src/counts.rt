@@ -1,5 +1,6 @@
 ghost use Rattle.std.specs.Prelude.{◌≡◌, not, length};
 ghost use Rattle.std.specs.List.{count_by};
+ghost use Rattle.slab_laws.specs.Kinds.{is_outer};
 ghost use Rattle.plain_slabs.specs.Faces.{is_end};
 ghost use Rattle.plain_slabs.specs.Listed.{subdivision_in};
 
@@ -21,9 +22,9 @@ pub struct Counts {
 }
 
 fn count_inner(cycles: &[CycleRow]) -> usize
-    ensures { result ≡ count_by (λ c. not c.outer) cycles.now }
+    ensures { result ≡ count_by (λ c. not (is_outer c.kind)) cycles.now }
 {
-    cycles.iter().filter(|cycle| !cycle.outer).count()
+    cycles.iter().filter(|cycle| !cycle.kind.is_outer()).count()
 }
 
 fn count_isolated(points: &[Point], edges: &[Span]) -> usize

@@ -14,7 +14,7 @@ use exact_plane::{Point, Span};
 use no_memory::NoMemory;
 use slab_cells::CellLabels;
 use slab_cycles::{is_outer, left_cell_at};
-use slab_laws::{CycleRow, ListedDart, SlabCell};
+use slab_laws::{CycleKind, CycleRow, ListedDart, SlabCell};
 use std::alloc::{AllocError, Global};
 use std::collections::BTreeSet;
 
@@ -37,7 +37,7 @@ fn cycle_at(
     let cell = left_cell_at(points, edges, darts, lead);
     CycleRow {
         lead,
-        outer: is_outer(points, edges, darts, leads, lead),
+        kind: CycleKind::by(is_outer(points, edges, darts, leads, lead)),
         face: labels.least_of(cell),
     }
 }
@@ -164,7 +164,7 @@ pub(crate) fn faces_of(
     let unbounded = labels.least_of(SlabCell { slab: 0, place: 0 });
     add_face(&mut faces, &mut seen, unbounded)?;
     for cycle in cycles {
-        if cycle.outer {
+        if cycle.kind.is_outer() {
             add_face(&mut faces, &mut seen, cycle.face)?;
         }
     }

@@ -154,11 +154,7 @@ impl Faced for Plain {
     }
 
     fn kind(&self, c: CycleId) -> CycleKind {
-        if self.cycles[c.0].outer {
-            CycleKind::Outer
-        } else {
-            CycleKind::Inner
-        }
+        self.cycles[c.0].kind
     }
 
     fn bare_face(&self, v: VertexId) -> FaceId {

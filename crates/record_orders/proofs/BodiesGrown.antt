@@ -13,6 +13,7 @@ use Rattle.std.proofs.lemmas.List.{append-nil, append_assoc, map-append, take_mo
 use Rattle.std.proofs.lemmas.List.Elements.{filter_more}
 use Rattle.std.proofs.lemmas.List.Folds.{list_any_more}
 use Rattle.std.proofs.lemmas.List.Sums.{prefix_len-le-length}
+use Rattle.slab_laws.specs.Kinds.{is_outer}
 use Rattle.slab_laws.specs.Listed.{distinct}
 use Rattle.slab_laws.specs.View.{Faces, cycle_in, kind_in, face_in, face_after_in}
 use Rattle.slab_laws.specs.declared.names.CycleId.{CycleId}
@@ -20,7 +21,7 @@ use Rattle.slab_laws.specs.declared.names.CycleKind.{CycleKind}
 use Rattle.slab_laws.specs.declared.names.DartId.{DartId}
 use Rattle.slab_laws.specs.declared.names.FaceId.{FaceId}
 use Rattle.record_orders.specs.declared.cycles.CycleKey.{CycleKey}
-use Rattle.record_orders.specs.CycleKeys.{same_cycle, is_outer, cycle_key, cycle_keys, same_face, face_cmp, first_faces, ranked_faces, added, AreRanks}
+use Rattle.record_orders.specs.CycleKeys.{same_cycle, cycle_key, cycle_keys, same_face, face_cmp, first_faces, ranked_faces, added, AreRanks}
 use Rattle.record_orders.proofs.CycleFirsts.{distinct_more, added_distinct}
 use Rattle.record_orders.proofs.CyclePlaces.{among, position_more}
 

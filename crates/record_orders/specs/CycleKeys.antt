@@ -5,9 +5,9 @@ use Rattle.std.specs.List.{list_any, position}
 use Rattle.std.specs.Ordering.{nat_cmp}
 use Rattle.std.specs.declared.cmp.Ordering.{Ordering}
 use Rattle.slab_laws.specs.declared.names.CycleKind.{CycleKind}
-use Rattle.slab_laws.specs.declared.names.CycleKind.TheVariants.{Outer, Inner}
 use Rattle.slab_laws.specs.declared.names.DartId.{DartId}
 use Rattle.slab_laws.specs.declared.names.FaceId.{FaceId}
+use Rattle.slab_laws.specs.Kinds.{is_outer}
 use Rattle.slab_laws.specs.Listed.{distinct}
 use Rattle.slab_laws.specs.View.{Faces, cycle_in, kind_in, face_in, face_after_in}
 use Rattle.record_orders.specs.declared.cycles.CycleKey.{CycleKey}
@@ -18,11 +18,6 @@ same_cycle f d e = (cycle_in f d).0 == (cycle_in f e).0
 
 abbrev pub same_face : FaceId → FaceId → Bool
 same_face a b = a.0 == b.0
-
--- the kind bounds a face from outside
-abbrev pub is_outer : CycleKind → Bool
-is_outer Outer = true
-is_outer Inner = false
 
 -- the cycle is of the kind
 abbrev pub is_of_kind : CycleKind → CycleKey → Bool

@@ -14,6 +14,7 @@ pub mod Text
 pub mod Overlay
 pub mod Pieces
 pub mod SpansDrawn
+pub mod Kinds
 pub mod Rows
 pub mod Tables
 pub mod View

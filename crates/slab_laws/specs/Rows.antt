@@ -6,6 +6,7 @@ use Rattle.plane_graphs.specs.Ascending.{ascending}
 use Rattle.plane_graphs.specs.Graph.{Edge}
 use Rattle.slab_laws.specs.declared.rows.ListedDart.{ListedDart}
 use Rattle.slab_laws.specs.declared.rows.CycleRow.{CycleRow}
+use Rattle.slab_laws.specs.Kinds.{kind_by}
 use Rattle.slab_laws.specs.Skeleton.{Skeleton, same_point, same_edge}
 use Rattle.slab_laws.specs.Darts.{Dart, source, target, darts}
 use Rattle.slab_laws.specs.Rotation.{twin, dart_cmp, same_dart, next}
@@ -70,7 +71,7 @@ cycle_places g = map (cycle_place g) (dart_list g)
 
 -- the cycles, by their least darts
 abbrev pub cycle_row : Skeleton → Cycle → CycleRow
-cycle_row g c = record { lead = dart_place g c.lead; outer = c.outer; face = c.face }
+cycle_row g c = record { lead = dart_place g c.lead; kind = kind_by c.outer; face = c.face }
 
 unfoldable pub cycle_rows : Skeleton → List CycleRow
 cycle_rows g = map (cycle_row g) (subdivision g).cycles

@@ -1,3 +1,6 @@
+ghost use Rattle.std.specs.Prelude.{◌≡◌};
+ghost use Rattle.slab_laws.specs.Kinds.{kind_by, is_outer as bounds_from_outside};
+
 /// The number of a curve, drawn 1, 2, 3, .. and never used again.
 #[derive(Clone, Copy, Debug, PartialEq, Eq, PartialOrd, Ord, Hash)]
 pub struct CurveId(pub u32);
@@ -23,6 +26,29 @@ pub struct FaceId(pub usize);
 pub enum CycleKind {
     Outer,
     Inner,
+}
+
+impl CycleKind {
+    /// The kind of a cycle that bounds its face from outside, or doesn't.
+    pub fn by(outer: bool) -> CycleKind
+        ensures { result ≡ kind_by outer }
+    {
+        if outer {
+            CycleKind::Outer
+        } else {
+            CycleKind::Inner
+        }
+    }
+
+    /// Whether it bounds its face from outside.
+    pub fn is_outer(self) -> bool
+        ensures { result ≡ bounds_from_outside self }
+    {
+        match self {
+            CycleKind::Outer => true,
+            CycleKind::Inner => false,
+        }
+    }
 }
 
 /// How a point is located.

@@ -1,3 +1,4 @@
+use crate::names::CycleKind;
 use crate::slab_cell::SlabCell;
 
 /// A dart of a subdivision that is kept in lists: the places of its two vertices and of its edge, and whether it goes from
@@ -10,10 +11,10 @@ pub struct ListedDart {
     pub forward: bool,
 }
 
-/// A boundary cycle of such a subdivision: the place of its least dart, whether it is outer, and the least cell of its face.
+/// A boundary cycle of such a subdivision: the place of its least dart, its kind, and the least cell of its face.
 #[derive(Clone, Copy)]
 pub struct CycleRow {
     pub lead: usize,
-    pub outer: bool,
+    pub kind: CycleKind,
     pub face: SlabCell,
 }

@@ -19,6 +19,7 @@ use Rattle.slab_laws.specs.declared.slab_cell.SlabCell.{SlabCell}
 use Rattle.slab_laws.specs.Darts.{Dart, source, darts}
 use Rattle.slab_laws.specs.Faces.{same_cell}
 use Rattle.slab_laws.specs.FacesSound.{IsSound, IsFaced}
+use Rattle.slab_laws.specs.Kinds.{kind_by}
 use Rattle.slab_laws.specs.Rotation.{twin, next}
 use Rattle.slab_laws.specs.Rows.{dart_list, dart_at, vertex_place, edge_place, dart_place, cycle_place, no_dart}
 use Rattle.slab_laws.specs.Skeleton.{Skeleton, same_point}
@@ -37,7 +38,7 @@ use Rattle.slab_laws.specs.Layers.{LayerRows, LayerView, rows_of}
 use Rattle.slab_laws.specs.Overlay.{both, overlay, curves_along, label}
 use Rattle.slab_laws.specs.OverlayText.{overlay_text, presents_text, edge_words, face_labels}
 use Rattle.overlay_laws.proofs.Both.{overlay_is_fit}
-use Rattle.plain_slabs.specs.Listed.{Drawing, skeleton_in, subdivision_in, view_of, kind_by, faces_of, AreLinesOf}
+use Rattle.plain_slabs.specs.Listed.{Drawing, skeleton_in, subdivision_in, view_of, faces_of, AreLinesOf}
 use Rattle.plain_slabs.specs.OverlayInMemory.{layer_view}
 use Rattle.plain_slabs.proofs.Counted.{graph_is}
 use Rattle.plain_slabs.proofs.ListedFaces.{face_within}

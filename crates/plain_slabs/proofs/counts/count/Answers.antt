@@ -1,6 +1,7 @@
 use Rattle.std.proofs.Common.{rules, ap, ◌∙◌}
 use Rattle.std.specs.Prelude.{not, ◌||◌}
 use Rattle.std.specs.List.{count_by, list_any}
+use Rattle.slab_laws.specs.Kinds.{is_outer}
 use Rattle.slab_laws.specs.Skeleton.{same_point}
 use Rattle.plain_slabs.proofs.Counted.{vertices_many, edges_many, inner_many, isolated_many}
 use Rattle.plain_slabs.proofs.counts.count.Goals as goal
@@ -14,7 +15,7 @@ returns-clause-edges c = edges_many c.plain.inside c.args.plain.now c.plain.inva
 pub returns-clause-inner : goal.returns-clause-inner
 returns-clause-inner c =
     inner_many c.plain.inside c.args.plain.now c.plain.invariant c.plain.view_is c.count_inner.result
-    (c.count_inner.ensures ∙ ap (count_by (λ c. not c.outer)) c.deref.ensures.value)
+    (c.count_inner.ensures ∙ ap (count_by (λ c. not (is_outer c.kind))) c.deref.ensures.value)
 
 pub returns-clause-isolated : goal.returns-clause-isolated
 returns-clause-isolated c =
