@@ -9,7 +9,7 @@ use Rattle.slab_laws.specs.SpansDrawn.{drawn}
 use Rattle.slab_laws.specs.Subdivision.{first_cell}
 use Rattle.plain_slabs.specs.Faces.{added, AreSeen}
 use Rattle.plain_slabs.proofs.FaceLists.{with_cycles, cycle_taken, cycle_passed, cell_taken, cells_done}
-use Rattle.plain_slabs.proofs.faces.faces_of.Goals.{then-cycle+in_ok-add_face-2, else-cycle}
+use Rattle.plain_slabs.proofs.faces.faces_of.Goals.{then-is_outer+in_ok-add_face-2, else-is_outer}
 use Rattle.plain_slabs.proofs.faces.faces_of.Goals as goal
 
 seen_as : (s t : BTreeSet SlabCell) (fs gs : List SlabCell) → s ≡ t → fs ≡ gs → AreSeen t gs → AreSeen s fs
@@ -26,11 +26,11 @@ loop-cycle-preserved c =
     let old = c.loop-cycle.faces.items in
     let now = c.if-cycle.faces.items in
     elim c.if-cycle.branch [
-      | then-cycle+in_ok-add_face-2 w ↦ (
+      | then-is_outer+in_ok-add_face-2 w ↦ (
         seen_as c.if-cycle.seen _ now _ w.seen-is (λ j. (w.faces-is j).items) w.in_ok-add_face-2.ensures.seen,
         cycle_taken g cycles i _ old now c.loop-cycle-test.true w.if-cycle.true c.loop-cycle.invariant.1 ((λ j. (w.faces-is j).items) ∙ w.in_ok-add_face-2.ensures.faces),
       )
-      | else-cycle w ↦ (
+      | else-is_outer w ↦ (
         seen_as c.if-cycle.seen _ now _ w.seen-is (λ j. (w.faces-is j).items) c.loop-cycle.invariant.0,
         cycle_passed g cycles i _ old now c.loop-cycle-test.true w.if-cycle.false c.loop-cycle.invariant.1 (λ j. (w.faces-is j).items),
       )
