@@ -24,15 +24,15 @@ loop-cycle-preserved c =
     let cycles = c.args.cycles.now in
     let i = c.loop-cycle.cycle-index in
     let old = c.loop-cycle.faces.items in
-    let now = c.if-cycle.faces.items in
-    elim c.if-cycle.branch [
+    let now = c.if-is_outer.faces.items in
+    elim c.if-is_outer.branch [
       | then-is_outer+in_ok-add_face-2 w ↦ (
-        seen_as c.if-cycle.seen _ now _ w.seen-is (λ j. (w.faces-is j).items) w.in_ok-add_face-2.ensures.seen,
-        cycle_taken g cycles i _ old now c.loop-cycle-test.true w.if-cycle.true c.loop-cycle.invariant.1 ((λ j. (w.faces-is j).items) ∙ w.in_ok-add_face-2.ensures.faces),
+        seen_as c.if-is_outer.seen _ now _ w.seen-is (λ j. (w.faces-is j).items) w.in_ok-add_face-2.ensures.seen,
+        cycle_taken g cycles i _ old now c.loop-cycle-test.true (sym c.is_outer.ensures ∙ w.if-is_outer.true) c.loop-cycle.invariant.1 ((λ j. (w.faces-is j).items) ∙ w.in_ok-add_face-2.ensures.faces),
       )
       | else-is_outer w ↦ (
-        seen_as c.if-cycle.seen _ now _ w.seen-is (λ j. (w.faces-is j).items) c.loop-cycle.invariant.0,
-        cycle_passed g cycles i _ old now c.loop-cycle-test.true w.if-cycle.false c.loop-cycle.invariant.1 (λ j. (w.faces-is j).items),
+        seen_as c.if-is_outer.seen _ now _ w.seen-is (λ j. (w.faces-is j).items) c.loop-cycle.invariant.0,
+        cycle_passed g cycles i _ old now c.loop-cycle-test.true (sym c.is_outer.ensures ∙ w.if-is_outer.false) c.loop-cycle.invariant.1 (λ j. (w.faces-is j).items),
       )
     ]
 
