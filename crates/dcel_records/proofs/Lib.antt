@@ -19,3 +19,4 @@ pub mod CycleColumn
 pub mod Started
 pub mod ListsRead
 pub mod Rooms
+pub mod Grown
