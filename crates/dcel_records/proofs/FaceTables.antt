@@ -90,6 +90,7 @@ module _ {X : Type 0} where
   names_del s t k u = sym (names_tabled nothing_of t) ∙ ap names (tabled_del nothing_of s t k u) ∙ del_names k (tabled nothing_of s) ∙ ap (del_name k) (names_tabled nothing_of s)
 
   pub names_same : (s t : Slab X) → ((k : ℕ) → is_some (get t k) ≡ is_some (get s k)) → names (entries t) ≡ names (entries s)
+  unfolding nothing_of
   names_same s t h =
       sym (names_tabled nothing_of t)
       ∙ ap names (one_table _ _ (ascend-tabled nothing_of t) (ascend-tabled nothing_of s) (λ k. row-tabled nothing_of t k ∙ by (get t k) (get s k) (h k) ∙ sym (row-tabled nothing_of s k)))

@@ -12,6 +12,7 @@ pub mod Places
 pub mod Chained
 pub mod FaceTables
 pub mod FacesKept
+pub mod FacesWritten
 pub mod Relinked
 pub mod CyclesWritten
 pub mod BareWritten

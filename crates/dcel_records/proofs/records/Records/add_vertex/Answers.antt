@@ -2,7 +2,7 @@ use Rattle.dcel_records.proofs.Rooms.{room_more, room_fits}
 use Rattle.dcel_records.proofs.Holding.{graph_seen}
 use Rattle.dcel_records.specs.Placing.{vertex_placing, node_or}
 use Rattle.dcel_records.proofs.FacesKept.{faces_sound, faces_column, nodes_updated}
-use Rattle.std.proofs.Common.{refl, sym, ap}
+use Rattle.std.proofs.Common.{refl, sym, ap, arith}
 use Rattle.slab_laws.specs.View.{vertex_id}
 use Rattle.dcel_records.proofs.Holding.{vertex_vacant}
 use Rattle.dcel_records.proofs.Writing.{vertex_graph, vertex_kept}

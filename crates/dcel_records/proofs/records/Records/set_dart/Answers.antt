@@ -31,7 +31,7 @@ returns-clause-spare c =
     let t = ap (λ v. v.faces.spare_faces) c.self.view_is in
     let p = ap (λ v. v.faces.capacity_of_cycles) c.self.view_is in
     let q = ap (λ v. v.faces.capacity_of_faces) c.self.view_is in
-    let a = len_written c.self.inside.cycles c.args.c.0 c.index_mut.result.now _ c.index_mut.ensures.value in
+    let a = len_written c.self.inside.cycles c.args.c.0 c.index_mut.result.now (record { kind = c.index_mut.result.now.kind; dart = c.args.dart; place = c.index_mut.result.now.place }) c.index_mut.ensures.value in
     record { of_cycles = omega arith; of_faces = omega arith; capacity_of_cycles = omega arith; capacity_of_faces = omega arith }
 
 pub returns-clause-graph : goal.returns-clause-graph
