@@ -2,7 +2,8 @@
 use Rattle.std.proofs.Common.{◌≡◌, ◌≢◌, ℕ, Bool, true, false, not, List, [], ◌∷◌, ◌++◌, map, Option, Some, None, is_some, refl, sym, ap, subst, ◌∙◌}
 use Rattle.std.proofs.lemmas.Bool.{false≢true}
 use Rattle.std.proofs.lemmas.List.{append-nil, append_cancel_left}
-use Rattle.linked_chains.specs.Chains.{Chained, IsWhole, entry_at, chain, head_of, comes_after}
+use Rattle.chain_laws.specs.Links.{head_of, comes_after}
+use Rattle.linked_chains.specs.Chains.{Chained, IsWhole, entry_at, chain}
 use Rattle.linked_chains.specs.declared.node.Entry.{Entry}
 use Rattle.curve_history.specs.HistoryInMemory.{entry, item_in, items_along}
 use Rattle.curve_history.proofs.Walking.{IsAt, apart, left, IsStepped, stepped, item_is, node_at, IsCollected, collect, collect_on, collected}

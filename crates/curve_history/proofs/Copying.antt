@@ -5,7 +5,8 @@ use Rattle.std.proofs.lemmas.List.{append-nil, append_assoc, map-append}
 use Rattle.plane_graphs.specs.Ascending.{Member}
 use Rattle.plane_graphs.proofs.Lists.{map_same}
 use Rattle.curve_history.specs.Changed.{AreSameKeys, IsPairMore, IsOfEdge, IsPutAt, IsCopied}
-use Rattle.linked_chains.specs.Chains.{Chained, IsWhole, HasKey, HasNode, entry_at, chain, head_of, comes_after}
+use Rattle.chain_laws.specs.Links.{head_of, comes_after}
+use Rattle.linked_chains.specs.Chains.{Chained, IsWhole, HasKey, HasNode, entry_at, chain}
 use Rattle.linked_chains.specs.declared.node.Entry.{Entry}
 use Rattle.curve_history.specs.HistoryInMemory.{entry, item_in, items_along, IsDescending, AreOrdered, Says, ArePairs}
 use Rattle.curve_history.proofs.Descending.{EndsIn, end_member, put_end}

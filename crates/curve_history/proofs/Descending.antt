@@ -7,7 +7,8 @@ use Rattle.std.proofs.lemmas.List.{map-append, reverse-append}
 use Rattle.plane_graphs.specs.Ascending.{Member, IsAscending}
 use Rattle.plane_graphs.proofs.Ascending.{All-member}
 use Rattle.plane_graphs.proofs.Lists.{in_map, in_left, in_right, in_either}
-use Rattle.linked_chains.specs.Chains.{head_of, comes_after, put_after}
+use Rattle.chain_laws.specs.Links.{head_of, comes_after}
+use Rattle.linked_chains.specs.Chains.{put_after}
 use Rattle.linked_chains.proofs.PutAfter.{put_hit, put_miss, put_nowhere, hit_is}
 use Rattle.curve_history.specs.Changed.{next_in, put_at}
 use Rattle.curve_history.specs.HistoryInMemory.{IsDescending}

@@ -4,7 +4,8 @@ use Rattle.std.proofs.lemmas.Bool.{cases_eq, eq-eqb}
 use Rattle.std.specs.List.{filter}
 use Rattle.plane_graphs.specs.Ascending.{Member}
 use Rattle.curve_history.specs.Changed.{IsPairLess, IsOneLess, IsEmptied}
-use Rattle.linked_chains.specs.Chains.{Chained, IsWhole, HasNode, entry_at, chain, head_of}
+use Rattle.chain_laws.specs.Links.{head_of}
+use Rattle.linked_chains.specs.Chains.{Chained, IsWhole, HasNode, entry_at, chain}
 use Rattle.curve_history.specs.HistoryInMemory.{entry, item_in, Says}
 use Rattle.curve_history.proofs.Walking.{at_head, IsAt, at_node, node_at, says_on}
 use Rattle.integers.proofs.Tests.{other_number}

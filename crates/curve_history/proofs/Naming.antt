@@ -18,7 +18,8 @@ use Rattle.slab_laws.specs.declared.names.CurveId.{CurveId}
 use Rattle.slab_laws.specs.Pieces.{piece_of}
 use Rattle.curve_history.proofs.Descending.{ascends_snoc, map_reverse}
 use Rattle.curve_history.proofs.Numbers.{fits}
-use Rattle.linked_chains.specs.Chains.{Chained, Link, IsWhole, HasKey, entry_at, first_in, after_in, trail, chain}
+use Rattle.chain_laws.specs.Links.{trail}
+use Rattle.linked_chains.specs.Chains.{Chained, Link, IsWhole, HasKey, entry_at, first_in, after_in, chain}
 use Rattle.linked_chains.specs.declared.node.Entry.{Entry}
 use Rattle.curve_history.specs.declared.history.History.TheInside.{Inside}
 use Rattle.curve_history.specs.Past.{Past, curves_on}

@@ -6,7 +6,8 @@ use Rattle.plane_graphs.specs.Ascending.{Member}
 use Rattle.plane_graphs.proofs.Ascending.{from_member}
 use Rattle.plane_graphs.proofs.Lists.{of_filter, map_same, not_out, clash}
 use Rattle.slab_laws.specs.Tables.{row_at}
-use Rattle.linked_chains.specs.Chains.{Chained, Link, IsWhole, HasNode, entry_at, chain, trail, first_or, head_of, comes_after, put_after}
+use Rattle.chain_laws.specs.Links.{trail, first_or, head_of, comes_after}
+use Rattle.linked_chains.specs.Chains.{Chained, Link, IsWhole, HasNode, entry_at, chain, put_after}
 use Rattle.linked_chains.specs.declared.node.Entry.{Entry}
 use Rattle.linked_chains.proofs.PutAfter.{put_absent}
 use Rattle.curve_history.specs.Changed.{IsPairMore, IsOfEdge, IsLastAbove, IsPutAt, IsRoomier, next_in, put_at}

@@ -7,7 +7,8 @@ use Rattle.plane_graphs.specs.Graph.{same_curve}
 use Rattle.plane_graphs.proofs.Lists.{any_in, any_out, not_in, not_out, decide, clash}
 use Rattle.plane_graphs.proofs.Order.{curve_in, curve_out}
 use Rattle.slab_laws.specs.declared.names.DartId.{DartId}
-use Rattle.linked_chains.specs.Chains.{Chained, IsWhole, entry_at, chain, head_of, comes_after}
+use Rattle.chain_laws.specs.Links.{head_of, comes_after}
+use Rattle.linked_chains.specs.Chains.{Chained, IsWhole, entry_at, chain}
 use Rattle.linked_chains.specs.declared.node.Entry.{Entry}
 use Rattle.curve_history.specs.declared.history.History.TheInside.{Inside}
 use Rattle.curve_history.specs.HistoryInMemory.{entry, item_in, Says}

@@ -6,7 +6,8 @@ use Rattle.std.proofs.lemmas.Map.Keys.{IsDistinct-head, IsDistinct-tail}
 use Rattle.std.specs.List.{IsDistinct, AllByRecursion}
 use Rattle.plane_graphs.specs.Ascending.{Member}
 use Rattle.plane_graphs.proofs.Ascending.{to_member, from_member}
-use Rattle.linked_chains.specs.Chains.{Chained, IsWhole, HasKey, HasNode, entry_at, chain, head_of, comes_after}
+use Rattle.chain_laws.specs.Links.{head_of, comes_after}
+use Rattle.linked_chains.specs.Chains.{Chained, IsWhole, HasKey, HasNode, entry_at, chain}
 use Rattle.linked_chains.specs.declared.node.Entry.{Entry}
 use Rattle.curve_history.specs.HistoryInMemory.{entry, item_in, item_or, Says, AreFilled}
 use Rattle.curve_history.proofs.Reading.{node_of}

@@ -2,7 +2,8 @@
 use Rattle.std.specs.Prelude.{◌≡◌, ◌≢◌, ◌⊎◌, ◌↔◌, ◌<◌, ◌≤◌, ◌==◌, ℕ, List, ◌∷◌, not, Option, Some, None}
 use Rattle.std.specs.List.{filter}
 use Rattle.plane_graphs.specs.Ascending.{Member}
-use Rattle.linked_chains.specs.Chains.{Chained, HasKey, entry_at, chain, head_of, comes_after, put_after}
+use Rattle.chain_laws.specs.Links.{head_of, comes_after}
+use Rattle.linked_chains.specs.Chains.{Chained, HasKey, entry_at, chain, put_after}
 use Rattle.linked_chains.specs.declared.node.Entry.{Entry}
 use Rattle.curve_history.specs.HistoryInMemory.{Says, entry, item_in}
 

@@ -5,8 +5,8 @@ use Rattle.slab_laws.specs.Tables.{names, is_after, name_after}
 use Rattle.slab_laws.specs.View.{VertexRecord, DartRecord}
 use Rattle.dcel_records.specs.declared.rows.StoredVertex.{StoredVertex}
 use Rattle.dcel_records.specs.declared.rows.StoredDart.{StoredDart}
-use Rattle.dcel_records.specs.RecordsView.{RecordsView}
-use Rattle.dcel_records.specs.StoredRows.{tabled, vertex_of, dart_of, records_view}
+use Rattle.dcel_records.specs.RecordsView.{GraphView}
+use Rattle.dcel_records.specs.StoredRows.{tabled, vertex_of, dart_of, graph_view}
 use Rattle.dcel_records.proofs.Tabled.{row-tabled, ascend-tabled}
 use Rattle.dcel_records.proofs.Holding.{vertices_are, darts_are}
 use Rattle.arr_notes.proofs.NamedTables.{none_after, least_after}
@@ -35,7 +35,7 @@ module _ {X : Type 0} where
       sym (ap (λ ns. name_after ns at) (sym (names_tabled (λ x. x) s)) ∙ none_after (tabled (λ x. x) s) at (λ n b. row-tabled (λ x. x) s n ∙ ap (option_map (λ x. x)) (h n b)))
 
 -- the names in the graph are the slabs' keys
-module _ (vs : Slab StoredVertex) (ds : Slab StoredDart) (h : RecordsView) (is : records_view vs ds ≡ h) where
+module _ (vs : Slab StoredVertex) (ds : Slab StoredDart) (h : GraphView) (is : graph_view vs ds ≡ h) where
   pub vertex_keys : names (entries vs) ≡ names h.graph.vertices
   vertex_keys = sym (names_tabled vertex_of vs) ∙ ap (λ (rs : List (ℕ × VertexRecord)). names rs) (vertices_are vs ds h is)
 

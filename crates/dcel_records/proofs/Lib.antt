@@ -8,3 +8,16 @@ pub mod Adding
 pub mod Removing
 pub mod Whole
 pub mod After
+pub mod Places
+pub mod Chained
+pub mod FaceTables
+pub mod FacesKept
+pub mod FacesWritten
+pub mod Relinked
+pub mod CyclesWritten
+pub mod BareWritten
+pub mod CycleColumn
+pub mod Started
+pub mod ListsRead
+pub mod Rooms
+pub mod Grown

@@ -12,8 +12,8 @@ use Rattle.arr_notes.specs.NamedRows.{del}
 use Rattle.arr_notes.proofs.RowLaws.{row_at-del, ascend-del, one_table}
 use Rattle.dcel_records.specs.declared.rows.StoredVertex.{StoredVertex}
 use Rattle.dcel_records.specs.declared.rows.StoredDart.{StoredDart}
-use Rattle.dcel_records.specs.RecordsView.{RecordsView}
-use Rattle.dcel_records.specs.StoredRows.{tabled, vertex_of, graph_in, records_view, pins_among, AreSoundRows, AreSoundRecords}
+use Rattle.dcel_records.specs.RecordsView.{GraphView}
+use Rattle.dcel_records.specs.StoredRows.{tabled, vertex_of, graph_in, graph_view, pins_among, AreSoundRows, AreSoundGraphs}
 use Rattle.dcel_records.proofs.Tabled.{row-tabled, ascend-tabled, length-tabled}
 use Rattle.dcel_records.proofs.Holding.{vertices_are}
 use Rattle.dcel_records.proofs.Writing.{row_pinned}
@@ -82,7 +82,7 @@ pins_fit s =
     omega arith
 
 -- a vertex more, which isn't pinned
-pub pins_put : (s t : Slab StoredVertex) (k : ℕ) (p : Point) (pins : ℕ) → get s k ≡ None → Updates s t k (Some (record { point = p; pinned = false; out = None })) → pins ≡ pins_among (tabled vertex_of s) → pins ≡ pins_among (tabled vertex_of t)
+pub pins_put : (s t : Slab StoredVertex) (k : ℕ) (p : Point) (pins : ℕ) → get s k ≡ None → Updates s t k (Some (record { point = p; pinned = false; out = None; place = None })) → pins ≡ pins_among (tabled vertex_of s) → pins ≡ pins_among (tabled vertex_of t)
 pins_put s t k p pins free u e =
     let m = pins_updated s t k _ u in
     let f = ap (λ (o : Option StoredVertex). pin_of (option_map vertex_of o)) free in
@@ -110,6 +110,6 @@ module _ (s : Slab StoredVertex) (k : ℕ) (r q : StoredVertex) (g : get s k ≡
   pin_less e = let m = pins_written false in let o = ap one_if e in omega arith
 
 -- what leaves the table of vertices leaves their pins
-pub pins_kept : (vs : Slab StoredVertex) (ds : Slab StoredDart) (h : RecordsView) (pins : ℕ) → records_view vs ds ≡ h → AreSoundRecords vs ds pins → (xs : Slab StoredVertex) (es : Slab StoredDart) (g : View) → graph_in xs es ≡ g → g.vertices ≡ h.graph.vertices → AreSoundRows xs es → AreSoundRecords xs es pins
+pub pins_kept : (vs : Slab StoredVertex) (ds : Slab StoredDart) (h : GraphView) (pins : ℕ) → graph_view vs ds ≡ h → AreSoundGraphs vs ds pins → (xs : Slab StoredVertex) (es : Slab StoredDart) (g : View) → graph_in xs es ≡ g → g.vertices ≡ h.graph.vertices → AreSoundRows xs es → AreSoundGraphs xs es pins
 pins_kept vs ds h pins is k xs es g e same rows =
     record { rows = rows; counted = k.counted ∙ ap pins_among (vertices_are vs ds h is ∙ sym same ∙ sym (ap (λ (v : View). v.vertices) e)) }

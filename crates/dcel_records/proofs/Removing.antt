@@ -5,10 +5,13 @@ use Rattle.slab.specs.Slab.{Slab, get, slab_len, with_value, Updates}
 use Rattle.slab.proofs.SlabLemmas.{Updates-with_value}
 use Rattle.slab_laws.specs.declared.names.DartId.{DartId}
 use Rattle.slab_laws.specs.View.{HasDart, target_in}
+use Rattle.slab_laws.specs.FaceLists.{MovedView}
+use Rattle.dcel_records.specs.declared.rows.StoredCycle.{StoredCycle}
+use Rattle.dcel_records.specs.declared.rows.StoredFace.{StoredFace}
 use Rattle.dcel_records.specs.declared.rows.StoredVertex.{StoredVertex}
 use Rattle.dcel_records.specs.declared.rows.StoredDart.{StoredDart}
-use Rattle.dcel_records.specs.RecordsView.{RecordsView, IsSpare}
-use Rattle.dcel_records.specs.StoredRows.{records_view, AreSoundRows}
+use Rattle.dcel_records.specs.RecordsView.{GraphView, RecordsView, IsSpare}
+use Rattle.dcel_records.specs.StoredRows.{graph_view, records_view, AreSoundRows}
 use Rattle.dcel_records.proofs.Tabled.{tabled_same, length-tabled}
 use Rattle.dcel_records.proofs.Holding.{source_is, twin_is, target_is, twinned, twin_key, out_key}
 use Rattle.dcel_records.proofs.Writing.{row_out}
@@ -26,7 +29,7 @@ module _ {X : Type 0} (s : Slab X) (k : ℕ) (x y : X) (g : get s k ≡ Some x) 
         | inr ne ↦ ap is_some (u.others j ne) ∙ h
       ]
 
-module _ (vs : Slab StoredVertex) (ds : Slab StoredDart) (h : RecordsView) (is : records_view vs ds ≡ h) (k : AreSoundRows vs ds) (d : DartId) (r : StoredDart) (o : HasDart h.graph d) (e : get ds d.0 ≡ Some r) where
+module _ (vs : Slab StoredVertex) (ds : Slab StoredDart) (h : GraphView) (is : graph_view vs ds ≡ h) (k : AreSoundRows vs ds) (d : DartId) (r : StoredDart) (o : HasDart h.graph d) (e : get ds d.0 ≡ Some r) where
   -- the source of a dart has a row
   pub source_key : IsSome (get vs r.source.0)
   source_key = out_key vs ds h is k r.source d (o, sym (source_is vs ds h is d r e))
@@ -53,14 +56,17 @@ module _ (vs : Slab StoredVertex) (ds : Slab StoredDart) (h : RecordsView) (is :
       pub target_key : IsSome (get vs q.source.0)
       target_key = out_key vs ds h is k q.source r.twin (twin_has, sym (source_is vs ds h is r.twin q twin_row))
 
+-- two vertices written leave the number of rows
+pub len_out_twice : (s : Slab StoredVertex) (u v : ℕ) (a b : Option DartId) (x y : StoredVertex) → get s u ≡ Some x → get (with_value s u (row_out a x)) v ≡ Some y → slab_len (with_value (with_value s u (row_out a x)) v (row_out b y)) ≡ slab_len s
+len_out_twice s u v a b x y f g = len_written (with_value s u (row_out a x)) v y (row_out b y) g ∙ len_written s u x (row_out a x) f
+
 -- two darts away, and two vertices written
-pub less_spare : (vs : Slab StoredVertex) (ds s t : Slab StoredDart) (h : RecordsView) (u v : ℕ) (a b : Option DartId) (x y : StoredVertex) → records_view vs ds ≡ h → get vs u ≡ Some x → get (with_value vs u (row_out a x)) v ≡ Some y → slab_len s + 1 ≡ slab_len ds → slab_len s + 1 ≤ s.capacity → s.capacity ≡ ds.capacity → slab_len t + 1 ≡ slab_len s → t.capacity ≡ s.capacity → IsSpare h (records_view (with_value (with_value vs u (row_out a x)) v (row_out b y)) t) 0 2
-less_spare vs ds s t h u v a b x y is f g l room cs m ct =
-    let first = len_written vs u x (row_out a x) f in
-    let second = len_written (with_value vs u (row_out a x)) v y (row_out b y) g in
-    let e : slab_len (with_value (with_value vs u (row_out a x)) v (row_out b y)) ≡ slab_len vs = second ∙ first in
-    let z = ap (λ k. k.spare_vertices) is in
-    let w = ap (λ k. k.spare_darts) is in
-    let p = ap (λ k. k.capacity_of_vertices) is in
-    let q = ap (λ k. k.capacity_of_darts) is in
-    record { of_vertices = omega arith; of_darts = omega arith; capacity_of_vertices = omega arith; capacity_of_darts = omega arith }
+module _ (vs : Slab StoredVertex) (ds : Slab StoredDart) (cs : Slab StoredCycle) (fs : Slab StoredFace) (mv : Option MovedView) (vr cr : ℕ) (h : RecordsView) (is : records_view vs ds cs fs mv vr cr ≡ h) where
+  pub less_spare : (s t : Slab StoredDart) (u v : ℕ) (a b : Option DartId) (x y : StoredVertex) → get vs u ≡ Some x → get (with_value vs u (row_out a x)) v ≡ Some y → slab_len s + 1 ≡ slab_len ds → slab_len s + 1 ≤ s.capacity → s.capacity ≡ ds.capacity → slab_len t + 1 ≡ slab_len s → t.capacity ≡ s.capacity → IsSpare h (records_view (with_value (with_value vs u (row_out a x)) v (row_out b y)) t cs fs mv vr cr) 0 2
+  less_spare s t u v a b x y f g l room sm m tm =
+      let e = len_out_twice vs u v a b x y f g in
+      let z = ap (λ k. k.spare_vertices) is in
+      let w = ap (λ k. k.spare_darts) is in
+      let p = ap (λ k. k.capacity_of_vertices) is in
+      let q = ap (λ k. k.capacity_of_darts) is in
+      record { of_vertices = omega arith; of_darts = omega arith; capacity_of_vertices = omega arith; capacity_of_darts = omega arith }

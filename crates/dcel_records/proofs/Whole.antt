@@ -1,17 +1,18 @@
 -- Slabs that keep all that they hold, and slabs that hold nothing.
-use Rattle.std.proofs.Common.{◌≡◌, ℕ, ◌+◌, ◌-◌, ◌≤◌, List, [], length, count_by, None, is_some, slice_index_or, sym, ap, subst, ◌∙◌, arith}
+use Rattle.std.proofs.Common.{◌≡◌, ℕ, ◌+◌, ◌-◌, ◌≤◌, [], length, count_by, Option, None, is_some, slice_index_or, sym, ap, subst, ◌∙◌, arith}
 use Rattle.slab.specs.Slab.{Slab, slab_len}
-use Rattle.slab_laws.specs.View.{VertexRecord, DartRecord}
+use Rattle.slab_laws.specs.FaceLists.{MovedView}
 use Rattle.arr_notes.specs.ViewChanges.{no_rows}
 use Rattle.dcel_records.specs.declared.rows.StoredVertex.{StoredVertex}
+use Rattle.dcel_records.specs.declared.rows.StoredCycle.{StoredCycle}
 use Rattle.dcel_records.specs.declared.rows.StoredDart.{StoredDart}
+use Rattle.dcel_records.specs.declared.rows.StoredFace.{StoredFace}
 use Rattle.dcel_records.specs.RecordsView.{RecordsView}
-use Rattle.dcel_records.specs.StoredRows.{vertex_of, dart_of, graph_in, records_view, out_or, pins_among, AreSoundRows, AreSoundRecords}
+use Rattle.dcel_records.specs.StoredRows.{vertex_of, dart_of, graph_in, records_view, out_or, pins_among, AreSoundRows, AreSoundGraphs}
 use Rattle.dcel_records.specs.Outs.{IsOut}
 use Rattle.dcel_records.proofs.Tabled.{tabled_slots, tabled_empty, length-tabled}
 use Rattle.dcel_records.proofs.Twins.{twinned_empty}
 use Rattle.dcel_records.proofs.Leaving.{out_empty}
-use Rattle.dcel_records.proofs.Holding.{vertices_are, darts_are}
 use Rattle.dcel_records.proofs.Writing.{kept_by}
 
 module _ (vs : Slab StoredVertex) (ds : Slab StoredDart) where
@@ -25,7 +26,7 @@ module _ (vs : Slab StoredVertex) (ds : Slab StoredDart) where
     kept_slots : AreSoundRows vs ds → AreSoundRows xs es
     kept_slots k = kept_by xs es (graph_in vs ds) graph_slots k.twinned (λ w. subst (λ o. IsOut (graph_in vs ds) w o) (sym (ap (λ os. out_or (slice_index_or os w.0 None)) a)) (k.outs w))
 
-    pub records_slots : (pins : ℕ) → AreSoundRecords vs ds pins → AreSoundRecords xs es pins
+    pub records_slots : (pins : ℕ) → AreSoundGraphs vs ds pins → AreSoundGraphs xs es pins
     records_slots pins k = record { rows = kept_slots k.rows; counted = k.counted ∙ sym (ap pins_among (tabled_slots vertex_of vs xs a)) }
 
   module _ (a : vs.slots ≡ []) (b : ds.slots ≡ []) where
@@ -38,16 +39,16 @@ module _ (vs : Slab StoredVertex) (ds : Slab StoredDart) where
     kept_empty : AreSoundRows vs ds
     kept_empty = kept_by vs ds no_rows graph_empty twinned_empty (λ w. subst (λ o. IsOut no_rows w o) (sym (ap (λ os. out_or (slice_index_or os w.0 None)) a)) (out_empty w))
 
-    pub records_empty : AreSoundRecords vs ds 0
+    pub records_empty : AreSoundGraphs vs ds 0
     records_empty = record { rows = kept_empty; counted = sym (ap pins_among (tabled_empty vertex_of vs a)) }
 
 -- what an emptied slab has room for
-spare_all : {X : Type 0} (s t : Slab X) (spare many : ℕ) → s.capacity - slab_len s ≡ spare → many ≡ slab_len s → slab_len s ≤ s.capacity → t.slots ≡ [] → t.capacity ≡ s.capacity → spare + many ≤ t.capacity - slab_len t
-spare_all s t spare many e m l z c = let n : slab_len t ≡ 0 = ap (λ os. count_by is_some os) z in omega arith
+spare_all : {X : Type 0} (s t : Slab X) (room spare many : ℕ) → room - slab_len s ≡ spare → many ≡ slab_len s → slab_len s ≤ room → t.slots ≡ [] → spare + many ≤ room - slab_len t
+spare_all s t room spare many e m l z = let n : slab_len t ≡ 0 = ap (λ os. count_by is_some os) z in omega arith
 
-module _ (vs : Slab StoredVertex) (ds : Slab StoredDart) (h : RecordsView) (is : records_view vs ds ≡ h) where
-  pub vertices_spare : (t : Slab StoredVertex) → slab_len vs ≤ vs.capacity → t.slots ≡ [] → t.capacity ≡ vs.capacity → h.spare_vertices + length h.graph.vertices ≤ t.capacity - slab_len t
-  vertices_spare t l z c = spare_all vs t h.spare_vertices (length h.graph.vertices) (ap (λ x. x.spare_vertices) is) (sym (ap (λ (rs : List (ℕ × VertexRecord)). length rs) (vertices_are vs ds h is)) ∙ length-tabled vertex_of vs) l z c
+module _ (vs : Slab StoredVertex) (ds : Slab StoredDart) (cs : Slab StoredCycle) (fs : Slab StoredFace) (mv : Option MovedView) (vr cr : ℕ) (h : RecordsView) (is : records_view vs ds cs fs mv vr cr ≡ h) where
+  pub vertices_spare : (t : Slab StoredVertex) → slab_len vs ≤ vr → t.slots ≡ [] → h.spare_vertices + length h.graph.vertices ≤ vr - slab_len t
+  vertices_spare t l z = spare_all vs t vr h.spare_vertices (length h.graph.vertices) (ap (λ x. x.spare_vertices) is) (sym (ap (λ x. length x.graph.vertices) is) ∙ length-tabled vertex_of vs) l z
 
   pub darts_spare : (t : Slab StoredDart) → slab_len ds ≤ ds.capacity → t.slots ≡ [] → t.capacity ≡ ds.capacity → h.spare_darts + length h.graph.darts ≤ t.capacity - slab_len t
-  darts_spare t l z c = spare_all ds t h.spare_darts (length h.graph.darts) (ap (λ x. x.spare_darts) is) (sym (ap (λ (rs : List (ℕ × DartRecord)). length rs) (darts_are vs ds h is)) ∙ length-tabled dart_of ds) l z c
+  darts_spare t l z c = let a = spare_all ds t ds.capacity h.spare_darts (length h.graph.darts) (ap (λ x. x.spare_darts) is) (sym (ap (λ x. length x.graph.darts) is) ∙ length-tabled dart_of ds) l z in omega (arith, a, c)

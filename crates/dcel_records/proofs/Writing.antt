@@ -16,8 +16,8 @@ use Rattle.arr_notes.proofs.Reading.{vertex_number}
 use Rattle.arr_notes.proofs.Names.{cases_vertex}
 use Rattle.dcel_records.specs.declared.rows.StoredVertex.{StoredVertex}
 use Rattle.dcel_records.specs.declared.rows.StoredDart.{StoredDart}
-use Rattle.dcel_records.specs.RecordsView.{RecordsView}
-use Rattle.dcel_records.specs.StoredRows.{vertex_of, dart_of, graph_in, records_view, out_or, out_at, AreSoundRows}
+use Rattle.dcel_records.specs.RecordsView.{GraphView}
+use Rattle.dcel_records.specs.StoredRows.{vertex_of, dart_of, graph_in, graph_view, out_or, out_at, AreSoundRows}
 use Rattle.dcel_records.specs.Outs.{IsOut, IsRest}
 use Rattle.dcel_records.proofs.Tabled.{tabled_put, tabled_del, tabled_edit, tabled_same}
 use Rattle.dcel_records.proofs.Twins.{twinned_relinked, twinned_source, twinned_same, twinned_less}
@@ -36,23 +36,23 @@ kept_by vs ds g e t o = record { twinned = subst (λ v. IsTwinned v) (sym e) t; 
 
 -- rows with a field written
 abbrev pub row_pinned : Bool → StoredVertex → StoredVertex
-row_pinned b r = record { point = r.point; pinned = b; out = r.out }
+row_pinned b r = record { point = r.point; pinned = b; out = r.out; place = r.place }
 
 abbrev pub row_out : Option DartId → StoredVertex → StoredVertex
-row_out o r = record { point = r.point; pinned = r.pinned; out = o }
+row_out o r = record { point = r.point; pinned = r.pinned; out = o; place = r.place }
 
 abbrev pub row_next : (n : DartId) (r : StoredDart) → StoredDart
-row_next n r = record { source = r.source; twin = r.twin; next = n; line = r.line }
+row_next n r = record { source = r.source; twin = r.twin; next = n; line = r.line; cycle = r.cycle }
 
 abbrev pub row_source : VertexId → StoredDart → StoredDart
-row_source w r = record { source = w; twin = r.twin; next = r.next; line = r.line }
+row_source w r = record { source = w; twin = r.twin; next = r.next; line = r.line; cycle = r.cycle }
 
-module _ (vs : Slab StoredVertex) (ds : Slab StoredDart) (h : RecordsView) (is : records_view vs ds ≡ h) where
+module _ (vs : Slab StoredVertex) (ds : Slab StoredDart) (h : GraphView) (is : graph_view vs ds ≡ h) where
   named : IsNamed h.graph
   named = record { vertices = vertex_names vs ds h is; darts = dart_names vs ds h is }
 
   -- ---- vertices
-  pub vertex_graph : (t : Slab StoredVertex) (w : VertexId) (p : Point) → Updates vs t w.0 (Some (record { point = p; pinned = false; out = None })) → graph_in t ds ≡ with_vertex h.graph w p
+  pub vertex_graph : (t : Slab StoredVertex) (w : VertexId) (p : Point) → Updates vs t w.0 (Some (record { point = p; pinned = false; out = None; place = None })) → graph_in t ds ≡ with_vertex h.graph w p
   vertex_graph t w p u =
       let e = tabled_put vertex_of vs t w.0 _ u ∙ ap (put w.0 (record { point = p; pinned = false })) (vertices_are vs ds h is) in
       (λ i. record { vertices = e i; darts = darts_are vs ds h is i })
@@ -102,7 +102,7 @@ module _ (vs : Slab StoredVertex) (ds : Slab StoredDart) (h : RecordsView) (is :
     ou : (w : VertexId) → IsOut h.graph w (out_at vs w)
     ou w = outs vs ds h is k w
 
-    pub vertex_kept : (t : Slab StoredVertex) (w : VertexId) (p : Point) → get vs w.0 ≡ None → Updates vs t w.0 (Some (record { point = p; pinned = false; out = None })) → AreSoundRows t ds
+    pub vertex_kept : (t : Slab StoredVertex) (w : VertexId) (p : Point) → get vs w.0 ≡ None → Updates vs t w.0 (Some (record { point = p; pinned = false; out = None; place = None })) → AreSoundRows t ds
     vertex_kept t w p n u =
         kept_by t ds (with_vertex h.graph w p) (vertex_graph t w p u)
         (twinned_same h.graph (with_vertex h.graph w p) (λ e o. o) (λ e o. o) (λ e. refl) (λ e. refl) tw)

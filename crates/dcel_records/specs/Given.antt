@@ -6,4 +6,4 @@ use Rattle.dcel_records.specs.declared.rows.StoredVertex.{StoredVertex}
 
 -- a vertex that keeps no dart out keeps d
 abbrev pub given : DartId → StoredVertex → StoredVertex
-given d r = record { point = r.point; pinned = r.pinned; out = option_or r.out (Some d) }
+given d r = record { point = r.point; pinned = r.pinned; out = option_or r.out (Some d); place = r.place }

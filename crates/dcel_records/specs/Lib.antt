@@ -1,4 +1,6 @@
 pub mod RecordsView
+pub mod Placing
+pub mod ListChanges
 pub mod StoredRows
 pub mod Outs
 pub mod Edges

@@ -1,14 +1,21 @@
 -- How two slabs of rows are a graph (this project).
-use Rattle.std.specs.Prelude.{◌≡◌, ℕ, ◌-◌, List, map, length, Option, Some, None}
+use Rattle.std.specs.Prelude.{◌≡◌, ◌==◌, ℕ, cond, ◌-◌, ◌≤◌, List, [], ◌∷◌, map, length, Option, Some, None, option_map, IsSome}
 use Rattle.std.specs.List.{filter}
 use Rattle.slab.specs.Slab.{Slab, get, entries, slab_len}
 use Rattle.slab_laws.specs.declared.names.DartId.{DartId}
+use Rattle.slab_laws.specs.declared.names.FaceId.{FaceId}
 use Rattle.slab_laws.specs.declared.names.VertexId.{VertexId}
+use Rattle.slab_laws.specs.FaceLists.{Lists, MovedView}
 use Rattle.slab_laws.specs.Sound.{IsTwinned}
-use Rattle.slab_laws.specs.View.{View, VertexRecord, DartRecord}
+use Rattle.slab_laws.specs.Tables.{names}
+use Rattle.slab_laws.specs.View.{View, VertexRecord, DartRecord, CycleRecord, Faces, vertex_id, dart_id, cycle_id}
+use Rattle.chain_laws.specs.Links.{key_at}
 use Rattle.dcel_records.specs.declared.rows.StoredVertex.{StoredVertex}
 use Rattle.dcel_records.specs.declared.rows.StoredDart.{StoredDart}
-use Rattle.dcel_records.specs.RecordsView.{RecordsView}
+use Rattle.dcel_records.specs.declared.rows.StoredCycle.{StoredCycle}
+use Rattle.dcel_records.specs.declared.rows.StoredFace.{StoredFace}
+use Rattle.dcel_records.specs.Placing.{cycle_placing, vertex_placing, nodes, own, AreChained, without, IsRelinked}
+use Rattle.dcel_records.specs.RecordsView.{GraphView, FacesView, RecordsView, FaceRow, MovedRoom}
 use Rattle.dcel_records.specs.Outs.{IsOut}
 
 -- what a slab holds, by its keys, each as f says
@@ -28,8 +35,58 @@ abbrev pub graph_in : Slab StoredVertex → Slab StoredDart → View
 graph_in vs ds = record { vertices = tabled vertex_of vs; darts = tabled dart_of ds }
 
 -- the graph, the room that the two slabs have left, and all that they have room for
-abbrev pub records_view : Slab StoredVertex → Slab StoredDart → RecordsView
-records_view vs ds = record { graph = graph_in vs ds; spare_vertices = vs.capacity - slab_len vs; spare_darts = ds.capacity - slab_len ds; capacity_of_vertices = vs.capacity; capacity_of_darts = ds.capacity }
+abbrev pub graph_view : Slab StoredVertex → Slab StoredDart → GraphView
+graph_view vs ds = record { graph = graph_in vs ds; spare_vertices = vs.capacity - slab_len vs; spare_darts = ds.capacity - slab_len ds; capacity_of_vertices = vs.capacity; capacity_of_darts = ds.capacity }
+
+-- what a row tells of a cycle
+abbrev pub cycle_record : StoredCycle → CycleRecord
+cycle_record r = record { kind = r.kind; face = r.place.face }
+
+-- the face of an isolated vertex
+abbrev pub bare_of : StoredVertex → Option FaceId
+bare_of r = option_map (λ p. p.face) r.place
+
+abbrev pub some_more : {X : Type 0} → ℕ → Option X → List (ℕ × X) → List (ℕ × X)
+some_more n None rs = rs
+some_more n (Some x) rs = (n, x) ∷ rs
+
+-- the rows that have something
+unfoldable pub somes : {X : Type 0} → List (ℕ × Option X) → List (ℕ × X)
+somes [] = []
+somes (r ∷ rs) = some_more r.0 r.1 (somes rs)
+
+-- the cycle of each dart, the face of each isolated vertex, the cycles, and the names of the faces
+abbrev pub tables_in : Slab StoredVertex → Slab StoredDart → Slab StoredCycle → Slab StoredFace → Faces
+tables_in vs ds cs fs = record { cycle_of = tabled (λ r. r.cycle) ds; bare = somes (tabled bare_of vs); cycles = tabled cycle_record cs; faces = names (entries fs) }
+
+abbrev pub dart_kept : Option StoredCycle → DartId
+dart_kept None = dart_id 0
+dart_kept (Some r) = r.dart
+
+-- what each face lists, and the dart that a cycle keeps
+abbrev pub lists_in : Slab StoredVertex → Slab StoredCycle → Slab StoredFace → Lists
+lists_in vs cs fs = record { cycles = λ a. map cycle_id (own cycle_placing cs fs a.0); bare = λ a. map vertex_id (own vertex_placing vs fs a.0); dart_on = λ c. dart_kept (get cs c.0) }
+
+-- what each face that has a record lists
+abbrev pub face_row : Slab StoredVertex → Slab StoredCycle → Slab StoredFace → ℕ → FaceRow
+face_row vs cs fs k = record { cycles = map cycle_id (own cycle_placing cs fs k); bare = map vertex_id (own vertex_placing vs fs k) }
+
+abbrev pub face_rows : Slab StoredVertex → Slab StoredCycle → Slab StoredFace → List (ℕ × FaceRow)
+face_rows vs cs fs = map (λ k. (k, face_row vs cs fs k)) (names (entries fs))
+
+abbrev pub moved_room : MovedView → MovedRoom
+moved_room m = record { cycles = m.room_of_cycles; vertices = m.room_of_vertices }
+
+abbrev pub faces_view : Slab StoredVertex → Slab StoredDart → Slab StoredCycle → Slab StoredFace → Option MovedView → ℕ → FacesView
+faces_view vs ds cs fs moved cycle_room = record { tables = tables_in vs ds cs fs; rows = face_rows vs cs fs; darts = tabled (λ r. r.dart) cs; spare_cycles = cycle_room - slab_len cs; spare_faces = fs.capacity - slab_len fs; capacity_of_cycles = cycle_room; capacity_of_faces = fs.capacity; moved = option_map moved_room moved }
+
+-- all that the slabs are; of what the slabs of vertices and cycles have room for, so much is promised
+abbrev pub records_view : Slab StoredVertex → Slab StoredDart → Slab StoredCycle → Slab StoredFace → Option MovedView → ℕ → ℕ → RecordsView
+records_view vs ds cs fs moved vertex_room cycle_room = record { graph = graph_in vs ds; spare_vertices = vertex_room - slab_len vs; spare_darts = ds.capacity - slab_len ds; capacity_of_vertices = vertex_room; capacity_of_darts = ds.capacity; faces = faces_view vs ds cs fs moved cycle_room }
+
+-- the graph of the records, and what the two slabs have room for
+abbrev pub graph_of_slabs : Slab StoredVertex → Slab StoredDart → RecordsView → GraphView
+graph_of_slabs vs ds h = record { graph = h.graph; spare_vertices = vs.capacity - slab_len vs; spare_darts = ds.capacity - slab_len ds; capacity_of_vertices = vs.capacity; capacity_of_darts = ds.capacity }
 
 -- the dart out that a row keeps, if there is a row that keeps one
 abbrev pub out_or : Option StoredVertex → Option DartId
@@ -50,6 +107,48 @@ abbrev pub pins_among : List (ℕ × VertexRecord) → ℕ
 pins_among rs = length (filter (λ r. r.1.pinned) rs)
 
 -- sound rows, and as many pins as are counted (this project)
-pub record AreSoundRecords (vs : Slab StoredVertex) (ds : Slab StoredDart) (pins : ℕ) : Type 0 where
+pub record AreSoundGraphs (vs : Slab StoredVertex) (ds : Slab StoredDart) (pins : ℕ) : Type 0 where
   pub rows : AreSoundRows vs ds
   pub counted : pins ≡ pins_among (graph_in vs ds).vertices
+
+-- the slab keeps its rows, and has no less room than before
+pub record IsGrown {X : Type 0} (old new : Slab X) : Type 0 where
+  pub rest : new ≡ record old { capacity = new.capacity }
+  pub capacity : old.capacity ≤ new.capacity
+
+-- the lists of what moves are empty, and have room for so many cycles and vertices
+pub record AreReady (m : MovedView) (cycles vertices : ℕ) : Type 0 where
+  pub no_cycles : m.cycles ≡ []
+  pub no_vertices : m.vertices ≡ []
+  pub room_of_cycles : cycles ≤ m.room_of_cycles
+  pub room_of_vertices : vertices ≤ m.room_of_vertices
+
+-- so they are, where they are there
+abbrev pub AreReadyWhere : Option MovedView → ℕ → ℕ → Type 0
+AreReadyWhere moved cycles vertices = (m : MovedView) → moved ≡ Some m → AreReady m cycles vertices
+
+-- what is promised holds all rows, and the slab can hold it
+pub record IsRoom {X : Type 0} (room : ℕ) (s : Slab X) : Type 0 where
+  pub holds : slab_len s ≤ room
+  pub within : room ≤ s.capacity
+
+-- each face has the chains of its cycles and of its isolated vertices, and the face named 0, the unbounded one, is there
+pub record AreSoundFaces (vs : Slab StoredVertex) (cs : Slab StoredCycle) (fs : Slab StoredFace) : Type 0 where
+  pub cycles : AreChained cycle_placing cs fs
+  pub bare : AreChained vertex_placing vs fs
+  pub unbounded : IsSome (get fs 0)
+
+-- all that is always true of the records
+pub record AreSoundRecords (vs : Slab StoredVertex) (ds : Slab StoredDart) (cs : Slab StoredCycle) (fs : Slab StoredFace) (pins : ℕ) (lists : Option MovedView) (vertices cycles : ℕ) : Type 0 where
+  pub graph : AreSoundGraphs vs ds pins
+  pub faces : AreSoundFaces vs cs fs
+  pub vertex_room : IsRoom vertices vs
+  pub cycle_room : IsRoom cycles cs
+  pub moved : AreReadyWhere lists cycles vertices
+
+-- the vertex c is in no face's list and has no place, and all else is as it was
+pub record HasLeft (c : ℕ) (vs ws : Slab StoredVertex) (fs gs : Slab StoredFace) : Type 0 where
+  pub chained : AreChained vertex_placing ws gs
+  pub owns : (k : ℕ) → own vertex_placing ws gs k ≡ without c (own vertex_placing vs fs k)
+  pub keys : (n : ℕ) → key_at (nodes vertex_placing ws) n ≡ cond (n == c) None (key_at (nodes vertex_placing vs) n)
+  pub kept : IsRelinked vertex_placing vs ws fs gs

@@ -4,7 +4,11 @@
 //! darts round vertices, the cycles and the faces.
 #![tactic(auto)]
 
+mod bare;
+mod cycles;
 mod keys;
+mod links;
+mod listing;
 mod pairs;
 mod reading;
 mod records;

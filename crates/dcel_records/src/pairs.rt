@@ -1,9 +1,11 @@
 ghost use Rattle.std.specs.Prelude.{◌≡◌, ◌≢◌, ◌≤◌, option_map};
 ghost use Rattle.slab.specs.Slab.{get, slab_len, ContainsKey, Updates};
-ghost use Rattle.slab_laws.specs.View.{HasVertex, HasDart, IsOutOf, source_in, twin_in, target_in};
+ghost use Rattle.slab_laws.specs.Tables.{row_at};
+ghost use Rattle.slab_laws.specs.View.{HasVertex, HasDart, IsOutOf, source_in, twin_in, target_in, cycle_id};
+ghost use Rattle.arr_notes.specs.FaceWriters.{on_cycle, off_cycles};
 ghost use Rattle.arr_notes.specs.ViewChanges.{without_pair, with_next, with_source};
 ghost use Rattle.dcel_records.specs.Edges.{with_edge};
-ghost use Rattle.dcel_records.specs.RecordsView.{ends_found, IsSpare};
+ghost use Rattle.dcel_records.specs.RecordsView.{ends_found, graph_part, IsSpare};
 ghost use Rattle.dcel_records.specs.Outs.{IsRest};
 ghost use Rattle.dcel_records.specs.Given.{given};
 
@@ -11,7 +13,7 @@ use crate::records::Records;
 use crate::rows::{StoredDart, StoredVertex};
 use crate::table::Table;
 use exact_plane::Line;
-use slab_laws::{DartId, VertexId};
+use slab_laws::{CycleId, DartId, VertexId};
 
 // A vertex that no dart leaves gets a dart out.
 fn give_out(vertices: &mut Table<StoredVertex>, v: VertexId, d: DartId)
@@ -35,7 +37,48 @@ impl Records {
         }
     }
 
-    /// Two new darts, from `u` to `v` and back, each the other's twin and followed by the other, in room that is there.
+    /// Two new darts, from `u` to `v` and back, each the other's twin and followed by the other, in room that is there. Both
+    /// keep the cycle's name, which needs no record yet.
+    pub fn add_pair_on(
+        &mut self,
+        u: VertexId,
+        v: VertexId,
+        line: Line,
+        cycle: CycleId,
+    ) -> (DartId, DartId)
+        requires room { 2 ≤ self.old.spare_darts }
+        requires u { HasVertex self.old.graph u }
+        requires v { HasVertex self.old.graph v }
+        ensures dart { ¬ HasDart self.old.graph result.0 }
+        ensures twin { ¬ HasDart self.old.graph result.1 }
+        ensures two { result.0 ≢ result.1 }
+        ensures graph { self.new.graph ≡ with_edge self.old.graph result.0 result.1 u v line }
+        ensures spare { IsSpare self.new self.old 0 2 }
+        ensures faces { self.new.faces ≡ record self.old.faces { tables = on_cycle result.1 cycle (on_cycle result.0 cycle self.old.faces.tables) } }
+    {
+        let d = self.darts.insert_reserved(StoredDart {
+            source: u,
+            twin: DartId(0),
+            next: DartId(0),
+            line,
+            cycle,
+        });
+        let m = self.darts.insert_reserved(StoredDart {
+            source: v,
+            twin: DartId(d),
+            next: DartId(d),
+            line,
+            cycle,
+        });
+        let dart = &mut self.darts[d];
+        dart.twin = DartId(m);
+        dart.next = DartId(m);
+        give_out(&mut self.vertices, u, DartId(d));
+        give_out(&mut self.vertices, v, DartId(m));
+        (DartId(d), DartId(m))
+    }
+
+    /// Two new darts, as by [`Records::add_pair_on`], that keep the cycle's name 0: for who writes no cycles.
     pub fn add_pair(&mut self, u: VertexId, v: VertexId, line: Line) -> (DartId, DartId)
         requires room { 2 ≤ self.old.spare_darts }
         requires u { HasVertex self.old.graph u }
@@ -45,25 +88,9 @@ impl Records {
         ensures two { result.0 ≢ result.1 }
         ensures graph { self.new.graph ≡ with_edge self.old.graph result.0 result.1 u v line }
         ensures spare { IsSpare self.new self.old 0 2 }
+        ensures faces { self.new.faces ≡ record self.old.faces { tables = on_cycle result.1 (cycle_id 0) (on_cycle result.0 (cycle_id 0) self.old.faces.tables) } }
     {
-        let d = self.darts.insert_reserved(StoredDart {
-            source: u,
-            twin: DartId(0),
-            next: DartId(0),
-            line,
-        });
-        let m = self.darts.insert_reserved(StoredDart {
-            source: v,
-            twin: DartId(d),
-            next: DartId(d),
-            line,
-        });
-        let dart = &mut self.darts[d];
-        dart.twin = DartId(m);
-        dart.next = DartId(m);
-        give_out(&mut self.vertices, u, DartId(d));
-        give_out(&mut self.vertices, v, DartId(m));
-        (DartId(d), DartId(m))
+        self.add_pair_on(u, v, line, CycleId(0))
     }
 
     /// The dart and its twin go; `rest_u` and `rest_v` are other darts out of their sources, `None` where none is left.
@@ -74,6 +101,7 @@ impl Records {
         requires rest_v { IsRest self.old.graph (twin_in self.old.graph d) rest_v }
         ensures graph { self.new.graph ≡ without_pair self.old.graph d (twin_in self.old.graph d) }
         ensures spare { IsSpare self.old self.new 0 2 }
+        ensures faces { self.new.faces ≡ record self.old.faces { tables = off_cycles (twin_in self.old.graph d) (off_cycles d self.old.faces.tables) } }
     {
         let dart = self.darts.remove(d.0);
         let twin = self.darts.remove(dart.twin.0);
@@ -86,8 +114,28 @@ impl Records {
         requires { HasDart self.old.graph d }
         ensures graph { self.new.graph ≡ with_next self.old.graph d n }
         ensures spare { IsSpare self.old self.new 0 0 }
+        ensures faces { self.new.faces ≡ self.old.faces }
     {
         self.darts[d.0].next = n;
+    }
+
+    /// The cycle that is kept for the dart, or `None` for a name without a record.
+    pub fn kept_cycle(&self, d: DartId) -> Option<CycleId>
+        ensures { result ≡ row_at self.now.faces.tables.cycle_of d.0 }
+    {
+        match self.darts.get(d.0) {
+            None => None,
+            Some(dart) => Some(dart.cycle),
+        }
+    }
+
+    /// The dart is on the cycle, whose name needs no record yet.
+    pub fn set_cycle(&mut self, d: DartId, c: CycleId)
+        requires { HasDart self.old.graph d }
+        ensures graph { graph_part self.new ≡ graph_part self.old }
+        ensures faces { self.new.faces ≡ record self.old.faces { tables = on_cycle d c self.old.faces.tables } }
+    {
+        self.darts[d.0].cycle = c;
     }
 
     /// The dart leaves `w`, which a dart leaves already; `rest` is another dart out of the vertex that it left.
@@ -98,6 +146,7 @@ impl Records {
         requires out { (e : _) × IsOutOf self.old.graph w e }
         ensures graph { self.new.graph ≡ with_source self.old.graph d w }
         ensures spare { IsSpare self.old self.new 0 0 }
+        ensures faces { self.new.faces ≡ self.old.faces }
     {
         let u = self.darts[d.0].source;
         self.darts[d.0].source = w;

@@ -53,6 +53,7 @@ impl<T: Drop> Table<T> {
     /// No rows, without room.
     pub(crate) fn new(alloc: Global) -> Table<T>
         ensures empty { result.slots ≡ [] }
+        ensures first_key { result.vacant_key ≡ 0 }
     {
         Table {
             slab: Slab::new(alloc),
@@ -68,10 +69,18 @@ impl<T: Drop> Table<T> {
         self.slab.capacity()
     }
 
+    /// How many rows there are.
+    pub(crate) fn len(&self) -> usize
+        ensures { result ≡ slab_len self.now }
+    {
+        self.slab.len()
+    }
+
     /// Makes room for so many rows more; the rows stay, whatever comes.
     pub(crate) fn reserve(&mut self, additional: usize) -> Result<(), AllocError>
         ensures room { OnOk result (HasRoomFor self.new additional) }
         ensures succeeds { HasRoomFor self.old additional → IsOk result }
+        ensures had_room { HasRoomFor self.old additional → self.new ≡ self.old }
         ensures capacity { self.old.capacity ≤ self.new.capacity }
         ensures rest_kept { self.new ≡ record self.old { capacity = self.new.capacity } }
     {
@@ -81,6 +90,7 @@ impl<T: Drop> Table<T> {
     /// All rows go; their room stays.
     pub(crate) fn clear(&mut self)
         ensures empty { self.new.slots ≡ [] }
+        ensures first_key { self.new.vacant_key ≡ 0 }
         ensures capacity { self.new.capacity ≡ self.old.capacity }
     {
         self.slab.clear();
@@ -104,6 +114,7 @@ impl<T: Drop> Table<T> {
     /// A row more, under a key that was free, in room that is there.
     pub(crate) fn insert_reserved(&mut self, row: T) -> usize
         requires { HasRoomFor self.old 1 }
+        ensures key { result ≡ self.old.vacant_key }
         ensures was_vacant { get self.old result ≡ None }
         ensures updates { Updates self.old self.new result (Some row) }
         ensures len { slab_len self.new ≡ slab_len self.old + 1 }

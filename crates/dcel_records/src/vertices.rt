@@ -2,8 +2,11 @@ ghost use Rattle.std.specs.Prelude.{◌≡◌, ◌≤◌, true, false, length};
 ghost use Rattle.std.specs.List.{filter};
 ghost use Rattle.slab_laws.specs.View.{HasVertex, IsOutOf};
 ghost use Rattle.arr_notes.specs.ViewChanges.{with_vertex, without_vertex, with_pin};
-ghost use Rattle.dcel_records.specs.RecordsView.{point_found, IsSpare};
+ghost use Rattle.arr_notes.specs.FaceWriters.{not_bare};
+ghost use Rattle.dcel_records.specs.ListChanges.{vertex_unlisted};
+ghost use Rattle.dcel_records.specs.RecordsView.{point_found, lists_of, IsSpare, IsSpareFaces};
 
+use crate::bare::leave_face;
 use crate::records::Records;
 use crate::rows::StoredVertex;
 use exact_plane::Point;
@@ -26,23 +29,30 @@ impl Records {
         ensures name { ¬ HasVertex self.old.graph result }
         ensures graph { self.new.graph ≡ with_vertex self.old.graph result point }
         ensures spare { IsSpare self.new self.old 1 0 }
+        ensures faces { self.new.faces ≡ self.old.faces }
     {
         VertexId(
             self.vertices.insert_reserved(StoredVertex {
                 point,
                 pinned: false,
                 out: None,
+                place: None,
             }),
         )
     }
 
-    /// A vertex that no dart leaves goes.
+    /// A vertex that no dart leaves goes, out of the list of its face too, where it is in one.
     pub fn remove_vertex(&mut self, v: VertexId)
         requires vertex { HasVertex self.old.graph v }
         requires bare { (d : _) → ¬ IsOutOf self.old.graph v d }
         ensures graph { self.new.graph ≡ without_vertex self.old.graph v }
         ensures spare { IsSpare self.old self.new 1 0 }
+        ensures tables { self.new.faces.tables ≡ not_bare v self.old.faces.tables }
+        ensures lists { lists_of self.new ≡ vertex_unlisted v (lists_of self.old) }
+        ensures spare_faces { IsSpareFaces self.old.faces self.new.faces 0 0 }
+        ensures moved { self.new.faces.moved ≡ self.old.faces.moved }
     {
+        leave_face(&mut self.vertices, &mut self.faces, v);
         let vertex = self.vertices.remove(v.0);
         if vertex.pinned {
             self.pins -= 1;
@@ -61,6 +71,7 @@ impl Records {
         requires { HasVertex self.old.graph v }
         ensures graph { self.new.graph ≡ with_pin self.old.graph v true }
         ensures spare { IsSpare self.old self.new 0 0 }
+        ensures faces { self.new.faces ≡ self.old.faces }
     {
         if self.vertices[v.0].pinned {
             return;
@@ -76,6 +87,7 @@ impl Records {
         requires { HasVertex self.old.graph v }
         ensures graph { self.new.graph ≡ with_pin self.old.graph v false }
         ensures spare { IsSpare self.old self.new 0 0 }
+        ensures faces { self.new.faces ≡ self.old.faces }
     {
         if !self.vertices[v.0].pinned {
             return;

@@ -7,7 +7,7 @@ use Rattle.std.proofs.lemmas.Bool.{cases_eq}
 use Rattle.indexmap.specs.IndexMap.{IndexMap, insert_entry}
 use Rattle.indexmap.proofs.CallerLemmas.{insert_entry-new}
 use Rattle.slab_laws.specs.Tables.{row_at}
-use Rattle.linked_chains.specs.Chains.{first_or}
+use Rattle.chain_laws.specs.Links.{first_or}
 use Rattle.linked_chains.specs.Writes.{IsHeaded}
 use Rattle.linked_chains.proofs.Reading.{row_lookup}
 use Rattle.integers.proofs.Tests.{other_number, same_number}

@@ -1,12 +1,6 @@
-pub mod Distinct
-pub mod Linked
-pub mod Joined
 pub mod PutAfter
 pub mod Reading
-pub mod Changes
-pub mod Listed
-pub mod Pushed
-pub mod Removed
+pub mod Rows
 pub mod Inserted
 pub mod Heads
 pub mod Seen

@@ -11,10 +11,12 @@ use Rattle.indexmap.specs.IndexMap.{IndexMap}
 use Rattle.arr_notes.proofs.RowLaws.{absent}
 use Rattle.linked_chains.specs.declared.node.Entry.{Entry}
 use Rattle.linked_chains.specs.declared.node.Node.{Node}
-use Rattle.linked_chains.specs.Chains.{Link, trail, chain, entry_at, HasKey, IsWhole, first_or, after_in, head_of, comes_after}
-use Rattle.linked_chains.specs.ChainsInMemory.{link_of, linked_nodes, chained, after_at, key_at, IsListed, AreSoundChains}
-use Rattle.linked_chains.proofs.Distinct.{here, there, once_from_distinct, no_more}
-use Rattle.linked_chains.proofs.Linked.{trail_is, trail_within, head_is, after_is}
+use Rattle.chain_laws.specs.Links.{trail, first_or, head_of, comes_after}
+use Rattle.linked_chains.specs.Chains.{Link, chain, entry_at, HasKey, IsWhole, after_in}
+use Rattle.chain_laws.specs.Links.{after_at, key_at, IsListed}
+use Rattle.linked_chains.specs.ChainsInMemory.{link_of, linked_nodes, chained, node_of, nodes_of, AreSoundChains}
+use Rattle.chain_laws.proofs.Distinct.{here, there, once_from_distinct, no_more}
+use Rattle.chain_laws.proofs.Linked.{trail_is, trail_within, head_is, after_is}
 use Rattle.plane_graphs.proofs.Lists.{some_mapped}
 use Rattle.integers.proofs.Tests.{other_number, same_number}
 
@@ -64,7 +66,7 @@ count_nodes s = length-map (entries s) _
 pub has_node : (s : Slab Node) (n : ℕ) → is_some (row_at (linked_nodes s) n) ≡ is_some (get s n)
 has_node s n = ap is_some (row_is s n) ∙ some_mapped link_of (get s n)
 
-after_seen : (o : Option Node) → first_or (option_map (λ l. l.after) (option_map link_of o)) ≡ first_or (option_map (λ x. x.after) o)
+after_seen : (o : Option Node) → first_or (option_map (λ l. l.after) (option_map link_of o)) ≡ first_or (option_map (λ x. x.after) (option_map node_of o))
 after_seen None = refl
 after_seen (Some x) = refl
 
@@ -89,15 +91,12 @@ named (e ∷ es) n x c = elim (Contains-cons_cases e (n, x) es c) [
   | inr d ↦ there e.0 n (map (λ r. r.0) es) (named es n x d)
 ]
 
-keyed_some : (o : Option Node) (k : ℕ) → option_map (λ x. x.entry.key) o ≡ Some k → (x : Node) × (o ≡ Some x)
-keyed_some None k e = absurd (cc)
-keyed_some (Some x) k e = (x, refl)
-
 -- the node of a key is there
-pub key_some : (node : ℕ → Option Node) (n k : ℕ) → key_at node n ≡ Some k → (x : Node) × (node n ≡ Some x)
-key_some node n k e = keyed_some (node n) k e
+node_there_is : (o : Option Node) (k : ℕ) → option_map (λ x. x.key) (option_map node_of o) ≡ Some k → (x : Node) × (o ≡ Some x)
+node_there_is None k e = absurd (cc)
+node_there_is (Some x) k e = (x, refl)
 
-key_entry : (o : Option Node) (k : ℕ) → (option_map (λ x. x.entry.key) o ≡ Some k) ↔ ((e : Entry) × (option_map (λ x. x.entry) o ≡ Some e) × (e.key ≡ k))
+key_entry : (o : Option Node) (k : ℕ) → (option_map (λ x. x.key) (option_map node_of o) ≡ Some k) ↔ ((e : Entry) × (option_map (λ x. x.entry) o ≡ Some e) × (e.key ≡ k))
 key_entry None k = (λ e. absurd (cc), λ r. let h : None ≡ Some r.0 = r.1 in absurd (cc))
 key_entry (Some x) k = (λ e. (x.entry, refl, let q : x.entry.key ≡ k = cc in q), λ r. let h : x.entry ≡ r.0 = (let g : Some x.entry ≡ Some r.0 = r.1 in cc) in ap (λ (z : Entry). Some z.key) h ∙ ap Some r.2)
 
@@ -105,23 +104,23 @@ module _ {S : Type 0} (heads : IndexMap ℕ (Option ℕ) S) (nodes : Slab Node) 
   pub entry_is : (n : ℕ) → entry_at (chained heads nodes) n ≡ option_map (λ x. x.entry) (get nodes n)
   entry_is n = ap (option_map (λ l. l.entry)) (row_is nodes n) ∙ entry_seen (get nodes n)
 
-  after_same : (n : ℕ) → after_in (chained heads nodes) n ≡ after_at (get nodes) n
+  after_same : (n : ℕ) → after_in (chained heads nodes) n ≡ after_at (nodes_of nodes) n
   after_same n = ap (λ o. first_or (option_map (λ l. l.after) o)) (row_is nodes n) ∙ after_seen (get nodes n)
 
-  fits : (f : Option ℕ) (k : ℕ) (xs : List ℕ) → IsListed (get nodes) f k xs → length xs ≤ length (linked_nodes nodes)
+  fits : (f : Option ℕ) (k : ℕ) (xs : List ℕ) → IsListed (nodes_of nodes) f k xs → length xs ≤ length (linked_nodes nodes)
   fits f k xs l =
-      let most : length xs ≤ length (map (λ r. r.0) (entries nodes)) = no_more xs (map (λ r. r.0) (entries nodes)) (once_from_distinct xs l.once) (λ n c. let x = key_some (get nodes) n k ((l.members n).0 c) in named (entries nodes) n x.0 ((Contains-entries nodes n x.0).1 x.1)) in
+      let most : length xs ≤ length (map (λ r. r.0) (entries nodes)) = no_more xs (map (λ r. r.0) (entries nodes)) (once_from_distinct xs l.once) (λ n c. let x = node_there_is (get nodes n) k ((l.members n).0 c) in named (entries nodes) n x.0 ((Contains-entries nodes n x.0).1 x.1)) in
       let a : length (map (λ r. r.0) (entries nodes)) ≡ length (entries nodes) = length-map (entries nodes) _ in
       omega (arith, most, a, count_nodes nodes)
 
   -- the chain of a key is its list
-  pub chain_is : (k : ℕ) (xs : List ℕ) → IsListed (get nodes) (first_or (row_at heads.entries k)) k xs → chain (chained heads nodes) k ≡ xs
+  pub chain_is : (k : ℕ) (xs : List ℕ) → IsListed (nodes_of nodes) (first_or (row_at heads.entries k)) k xs → chain (chained heads nodes) k ≡ xs
   unfolding chain
-  chain_is k xs l = trail_is (get nodes) (after_in (chained heads nodes)) after_same None _ xs _ l.linked (fits _ k xs l)
+  chain_is k xs l = trail_is (nodes_of nodes) (after_in (chained heads nodes)) after_same None _ xs _ l.linked (fits _ k xs l)
 
   module _ (kept : AreSoundChains heads nodes) where
-    pub listed : (k : ℕ) → IsListed (get nodes) (first_or (row_at heads.entries k)) k (chain (chained heads nodes) k)
-    listed k = let l = kept.lists k in subst (λ xs. IsListed (get nodes) (first_or (row_at heads.entries k)) k xs) (sym (chain_is k l.0 l.1)) l.1
+    pub listed : (k : ℕ) → IsListed (nodes_of nodes) (first_or (row_at heads.entries k)) k (chain (chained heads nodes) k)
+    listed k = let l = kept.lists k in subst (λ xs. IsListed (nodes_of nodes) (first_or (row_at heads.entries k)) k xs) (sym (chain_is k l.0 l.1)) l.1
 
     pub whole : (k : ℕ) → IsWhole (chained heads nodes) k
     whole k = record {
@@ -136,12 +135,12 @@ module _ {S : Type 0} (heads : IndexMap ℕ (Option ℕ) S) (nodes : Slab Node) 
     keys n e q = kept.keys n e.key ((key_entry (get nodes n) e.key).1 (e, sym (entry_is n) ∙ q, refl))
 
     pub first_is : (k : ℕ) → first_or (row_at heads.entries k) ≡ head_of (chain (chained heads nodes) k)
-    first_is k = head_is (get nodes) None _ (chain (chained heads nodes) k) (listed k).linked
+    first_is k = head_is (nodes_of nodes) None _ (chain (chained heads nodes) k) (listed k).linked
 
     pub next_is : (n : ℕ) (x : Node) → get nodes n ≡ Some x → x.after ≡ comes_after (chain (chained heads nodes) x.entry.key) n
     next_is n x q =
         let l = listed x.entry.key in
-        ap (λ o. first_or (option_map (λ z. z.after) o)) (sym q) ∙ after_is (get nodes) None _ (chain (chained heads nodes) x.entry.key) n l.linked ((l.members n).1 (ap (option_map (λ z. z.entry.key)) q)) (once_from_distinct _ l.once)
+        ap (λ o. first_or (option_map (λ z. z.after) (option_map node_of o))) (sym q) ∙ after_is (nodes_of nodes) None _ (chain (chained heads nodes) x.entry.key) n l.linked ((l.members n).1 (ap (λ o. option_map (λ z. z.key) (option_map node_of o)) q)) (once_from_distinct _ l.once)
 
 -- no chain has more nodes than the slab
 pub chain_within : {S : Type 0} (hs : IndexMap ℕ (Option ℕ) S) (ns : Slab Node) (k : ℕ) → length (chain (chained hs ns) k) ≤ slab_len ns

@@ -7,13 +7,16 @@ use Rattle.indexmap.specs.IndexMap.{IndexMap, insert_entry}
 use Rattle.slab.specs.Slab.{Slab, get, slab_len}
 use Rattle.slab_laws.specs.Tables.{row_at}
 use Rattle.linked_chains.specs.declared.node.Entry.{Entry}
+use Rattle.chain_laws.specs.Links.{Node as ChainNode}
 use Rattle.linked_chains.specs.declared.node.Node.{Node}
-use Rattle.linked_chains.specs.Chains.{Chained, HasKey, HasNode, entry_at, first_or, chain, IsWhole, head_of, comes_after}
-use Rattle.linked_chains.specs.ChainsInMemory.{chained, after_at, before_at, key_at, IsLinked, IsListed, AreListed, AreSoundChains}
-use Rattle.linked_chains.proofs.Distinct.{nowhere}
+use Rattle.chain_laws.specs.Links.{first_or, head_of, comes_after}
+use Rattle.linked_chains.specs.Chains.{Chained, HasKey, HasNode, entry_at, chain, IsWhole}
+use Rattle.chain_laws.specs.Links.{after_at, before_at, key_at, IsLinked, IsListed, AreListed}
+use Rattle.linked_chains.specs.ChainsInMemory.{chained, node_of, nodes_of, AreSoundChains}
+use Rattle.chain_laws.proofs.Distinct.{nowhere}
 use Rattle.linked_chains.proofs.Reading.{has_node, row_lookup, entry_is, chain_is, chain_within, whole, keys, first_is, next_is}
-use Rattle.linked_chains.proofs.Listed.{listed_heads, list_same, listed_nodes}
-use Rattle.linked_chains.proofs.Linked.{head_is}
+use Rattle.chain_laws.proofs.Listed.{listed_heads, list_same, listed_nodes}
+use Rattle.chain_laws.proofs.Linked.{head_is}
 use Rattle.linked_chains.proofs.Heads.{key_fewer, first_fewer, key_more, first_more, entries_more}
 
 module _ {S : Type 0} (hs : IndexMap ℕ (Option ℕ) S) (ns : Slab Node) (h : Chained) (is : chained hs ns ≡ h) where
@@ -40,7 +43,7 @@ module _ {S : Type 0} (hs : IndexMap ℕ (Option ℕ) S) (ns : Slab Node) (h : C
   pub entry_found : (n : ℕ) (x : Node) → get ns n ≡ Some x → entry_at h n ≡ Some x.entry
   entry_found n x e = entry_seen n ∙ ap (option_map (λ z. z.entry)) e
 
-  pub chain_seen : (k : ℕ) (xs : List ℕ) → IsListed (get ns) (first_or (row_at hs.entries k)) k xs → chain h k ≡ xs
+  pub chain_seen : (k : ℕ) (xs : List ℕ) → IsListed (nodes_of ns) (first_or (row_at hs.entries k)) k xs → chain h k ≡ xs
   chain_seen k xs l = ap (λ c. chain c k) (sym is) ∙ chain_is hs ns k xs l
 
   pub chain_short : (k : ℕ) → length (chain h k) ≤ slab_len ns
@@ -67,7 +70,7 @@ module _ {S : Type 0} (hs : IndexMap ℕ (Option ℕ) S) (ns : Slab Node) (h : C
       pub chain_heads : (k : ℕ) → chain (chained gs ns) k ≡ chain h k
       chain_heads k =
           let l = kept.lists k in
-          chain_is gs ns k l.0 (subst (λ o. IsListed (get ns) o k l.0) (sym (first k)) l.1) ∙ sym (chain_seen k l.0 l.1)
+          chain_is gs ns k l.0 (subst (λ o. IsListed (nodes_of ns) o k l.0) (sym (first k)) l.1) ∙ sym (chain_seen k l.0 l.1)
 
     pub more_keys : (gs : IndexMap ℕ (Option ℕ) S) (key : ℕ) → UpdatesKey nat_eq hs gs key (Some None) → (k : ℕ) → IsSome (row_at gs.entries k) ↔ (HasKey h k ⊎ (k ≡ key))
     more_keys gs key u k = subst (λ c. IsSome (row_at gs.entries k) ↔ (HasKey c k ⊎ (k ≡ key))) is (key_more hs gs key u k)
@@ -81,7 +84,7 @@ module _ {S : Type 0} (hs : IndexMap ℕ (Option ℕ) S) (ns : Slab Node) (h : C
     pub fewer_keys : (gs : IndexMap ℕ (Option ℕ) S) (key : ℕ) → UpdatesKey nat_eq hs gs key None → (k : ℕ) → IsSome (row_at gs.entries k) ↔ (HasKey h k × (k ≢ key))
     fewer_keys gs key u k = subst (λ c. IsSome (row_at gs.entries k) ↔ (HasKey c k × (k ≢ key))) is (key_fewer hs gs key u k)
 
-    nothing : (o : Option ℕ) (xs : List ℕ) → o ≡ None → IsLinked (get ns) None o xs → xs ≡ []
+    nothing : (o : Option ℕ) (xs : List ℕ) → o ≡ None → IsLinked (nodes_of ns) None o xs → xs ≡ []
     nothing o [] e l = refl
     nothing o (x ∷ xs) e l = let z : None ≡ Some x = sym e ∙ l.0 in absurd (cc)
 
@@ -93,34 +96,34 @@ module _ {S : Type 0} (hs : IndexMap ℕ (Option ℕ) S) (ns : Slab Node) (h : C
         none (Some x) s = absurd (s refl)
 
     pub kept_more : (gs : IndexMap ℕ (Option ℕ) S) (key : ℕ) → UpdatesKey nat_eq hs gs key (Some None) → ¬ HasKey h key → AreSoundChains gs ns
-    kept_more gs key u new = listed_heads (row_at hs.entries) (row_at gs.entries) (get ns) (first_more hs gs key u (λ s. new (subst (λ c. HasKey c key) is s))) (λ n k e s. (key_more hs gs key u k).1 (inl s)) kept
+    kept_more gs key u new = listed_heads (row_at hs.entries) (row_at gs.entries) (nodes_of ns) (first_more hs gs key u (λ s. new (subst (λ c. HasKey c key) is s))) (λ n k e s. (key_more hs gs key u k).1 (inl s)) kept
 
     empty_list : (key : ℕ) → chain h key ≡ [] → (kept.lists key).0 ≡ []
     empty_list key e = sym (chain_seen key (kept.lists key).0 (kept.lists key).1) ∙ e
 
     pub empty_first : (key : ℕ) → chain h key ≡ [] → first_or (row_at hs.entries key) ≡ None
-    empty_first key e = head_is (get ns) None _ (kept.lists key).0 (kept.lists key).1.linked ∙ ap head_of (empty_list key e)
+    empty_first key e = head_is (nodes_of ns) None _ (kept.lists key).0 (kept.lists key).1.linked ∙ ap head_of (empty_list key e)
 
     pub kept_fewer : (gs : IndexMap ℕ (Option ℕ) S) (key : ℕ) → UpdatesKey nat_eq hs gs key None → chain h key ≡ [] → AreSoundChains gs ns
-    kept_fewer gs key u e = listed_heads (row_at hs.entries) (row_at gs.entries) (get ns) (first_fewer hs gs key u (empty_first key e)) (λ n k q s. (key_fewer hs gs key u k).1 (s, λ z. free n (subst (λ y. key_at (get ns) n ≡ Some y) z q))) kept
+    kept_fewer gs key u e = listed_heads (row_at hs.entries) (row_at gs.entries) (nodes_of ns) (first_fewer hs gs key u (empty_first key e)) (λ n k q s. (key_fewer hs gs key u k).1 (s, λ z. free n (subst (λ y. key_at (nodes_of ns) n ≡ Some y) z q))) kept
       where
-        free : (n : ℕ) → key_at (get ns) n ≢ Some key
+        free : (n : ℕ) → key_at (nodes_of ns) n ≢ Some key
         free n q = nowhere n (subst (λ xs. Contains xs n) (empty_list key e) (((kept.lists key).1.members n).1 q))
 
     pub chain_fewer : (gs : IndexMap ℕ (Option ℕ) S) (key : ℕ) → UpdatesKey nat_eq hs gs key None → chain h key ≡ [] → (k : ℕ) → chain (chained gs ns) k ≡ chain h k
     chain_fewer gs key u e = chain_heads gs (first_fewer hs gs key u (empty_first key e))
 
     -- ---- after a change of nodes that leaves keys and neighbours
-    module _ (ts : Slab Node) (a : (n : ℕ) → after_at (get ts) n ≡ after_at (get ns) n) (b : (n : ℕ) → before_at (get ts) n ≡ before_at (get ns) n) (q : (n : ℕ) → key_at (get ts) n ≡ key_at (get ns) n) where
+    module _ (ts : Slab Node) (a : (n : ℕ) → after_at (nodes_of ts) n ≡ after_at (nodes_of ns) n) (b : (n : ℕ) → before_at (nodes_of ts) n ≡ before_at (nodes_of ns) n) (q : (n : ℕ) → key_at (nodes_of ts) n ≡ key_at (nodes_of ns) n) where
       pub chains_same : (k : ℕ) → chain (chained hs ts) k ≡ chain h k
-      chains_same k = let l = kept.lists k in chain_is hs ts k l.0 (list_same (get ns) (get ts) _ k l.0 a b q l.1) ∙ sym (chain_seen k l.0 l.1)
+      chains_same k = let l = kept.lists k in chain_is hs ts k l.0 (list_same (nodes_of ns) (nodes_of ts) _ k l.0 a b q l.1) ∙ sym (chain_seen k l.0 l.1)
 
       pub nodes_kept : AreSoundChains hs ts
-      nodes_kept = listed_nodes (row_at hs.entries) (get ns) (get ts) a b q kept
+      nodes_kept = listed_nodes (row_at hs.entries) (nodes_of ns) (nodes_of ts) a b q kept
 
 -- ---- slabs and maps that keep all that they hold, or hold nothing
-abbrev in_slots : List (Option Node) → ℕ → Option Node
-in_slots os n = slice_index_or os n None
+abbrev in_slots : List (Option Node) → ℕ → Option ChainNode
+in_slots os n = option_map node_of (slice_index_or os n None)
 
 pub kept_held : (es fs : List (ℕ × Option ℕ)) (os ps : List (Option Node)) → fs ≡ es → ps ≡ os → AreListed (row_at es) (in_slots os) → AreListed (row_at fs) (in_slots ps)
 kept_held es fs os ps a b l = subst (λ z. AreListed (row_at z) (in_slots ps)) (sym a) (subst (λ z. AreListed (row_at es) (in_slots z)) (sym b) l)

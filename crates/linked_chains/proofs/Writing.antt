@@ -7,16 +7,21 @@ use Rattle.slab.specs.Slab.{Slab, get, with_value, Updates}
 use Rattle.slab.proofs.SlabLemmas.{Updates-with_value}
 use Rattle.slab_laws.specs.Tables.{row_at}
 use Rattle.linked_chains.specs.declared.node.Entry.{Entry}
+use Rattle.chain_laws.specs.Links.{Node as ChainNode}
 use Rattle.linked_chains.specs.declared.node.Node.{Node}
-use Rattle.linked_chains.specs.Chains.{Chained, HasKey, entry_at, first_or, chain, head_of, put_after, SameChains}
-use Rattle.linked_chains.specs.ChainsInMemory.{chained, after_at, before_at, key_at, AreSoundChains}
-use Rattle.linked_chains.specs.Writes.{followed_by, led_by, twinned_with, IsChanged, IsHeaded}
-use Rattle.linked_chains.proofs.Distinct.{without}
+use Rattle.chain_laws.specs.Links.{first_or, head_of}
+use Rattle.linked_chains.specs.Chains.{Chained, HasKey, entry_at, chain, put_after, SameChains}
+use Rattle.chain_laws.specs.Links.{after_at, before_at, key_at}
+use Rattle.linked_chains.specs.ChainsInMemory.{chained, node_of, nodes_of, AreSoundChains}
+use Rattle.chain_laws.specs.Links.{followed_by, led_by}
+use Rattle.linked_chains.specs.Writes.{row_followed, row_led, twinned_with, IsChanged, IsHeaded}
+use Rattle.chain_laws.proofs.Distinct.{without}
 use Rattle.linked_chains.proofs.Reading.{entry_is, chain_is, first_is}
-use Rattle.linked_chains.proofs.Changes.{AreChanged, updated, unwritten}
-use Rattle.linked_chains.proofs.Pushed.{first_there, entry_pushed, list_pushed, list_beside, listed_pushed}
-use Rattle.linked_chains.proofs.Removed.{head_there, before_there, after_there, entry_removed, list_removed, head_kept, listed_removed}
-use Rattle.linked_chains.proofs.Inserted.{follower_there, place_there, entry_inserted, list_inserted, listed_inserted}
+use Rattle.chain_laws.proofs.Changes.{AreChanged, unwritten}
+use Rattle.linked_chains.proofs.Rows.{updated, map_cond, unwritten_row, node_changed, row_there}
+use Rattle.chain_laws.proofs.Pushed.{first_there, list_pushed, list_beside, listed_pushed}
+use Rattle.chain_laws.proofs.Removed.{head_there, before_there, after_there, list_removed, head_kept, listed_removed}
+use Rattle.linked_chains.proofs.Inserted.{follower_there, place_there, list_inserted, listed_inserted}
 use Rattle.linked_chains.proofs.Seen.{entry_seen, entry_found, chain_seen, nodes_kept, chains_same}
 use Rattle.integers.proofs.Tests.{other_number, same_number}
 
@@ -32,18 +37,29 @@ module _ {S : Type 0} (hs : IndexMap ℕ (Option ℕ) S) (ns : Slab Node) (h : C
     old_first : first ≡ first_or (head entry.key)
     old_first = is_first ∙ ap (λ c. head_of (chain c entry.key)) (sym is) ∙ sym (first_is hs ns kept entry.key)
 
-    added : (m : ℕ) → get t m ≡ cond (m == n) (Some (record { entry = entry; before = None; after = first_or (head entry.key) })) (get ns m)
-    added m = updated ns t n _ put m ∙ ap (λ f. cond (m == n) (Some (record { entry = entry; before = None; after = f })) (get ns m)) old_first
+    no_node : nodes_of ns n ≡ None
+    no_node = ap (option_map node_of) vacant
+
+    added : (m : ℕ) → nodes_of t m ≡ cond (m == n) (Some (record { key = entry.key; before = None; after = first_or (head entry.key) })) (nodes_of ns m)
+    added m =
+        ap (option_map node_of) (updated ns t n _ put m)
+        ∙ map_cond node_of (m == n) (Some (record { entry = entry; before = None; after = first })) (get ns m)
+        ∙ ap (λ f. cond (m == n) (Some (record { key = entry.key; before = None; after = f })) (nodes_of ns m)) old_first
 
     pub old_first_there : (m : ℕ) → first ≡ Some m → IsSome (get t m)
-    old_first_there m e = first_there head (get ns) (get t) n entry kept vacant added m (sym old_first ∙ e)
+    old_first_there m e = row_there t m (first_there head (nodes_of ns) (nodes_of t) n entry.key kept no_node added m (sym old_first ∙ e))
 
-    module _ (u : Slab Node) (told : IsChanged (led_by (Some n)) first t u) where
-      led : AreChanged (led_by (Some n)) (first_or (head entry.key)) (get t) (get u)
-      led = subst (λ f. AreChanged (led_by (Some n)) f (get t) (get u)) old_first told.nodes
+    module _ (u : Slab Node) (told : IsChanged (row_led (Some n)) first t u) where
+      led : AreChanged (led_by (Some n)) (first_or (head entry.key)) (nodes_of t) (nodes_of u)
+      led = subst (λ f. AreChanged (led_by (Some n)) f (nodes_of t) (nodes_of u)) old_first (node_changed (row_led (Some n)) (led_by (Some n)) (λ x. refl) first t u told)
 
       pub push_entries : (gs : IndexMap ℕ (Option ℕ) S) (m : ℕ) → entry_at (chained gs u) m ≡ cond (m == n) (Some entry) (entry_at h m)
-      push_entries gs m = entry_is gs u m ∙ entry_pushed head (get ns) (get t) n entry kept vacant added (get u) led m ∙ ap (λ o. cond (m == n) (Some entry) o) (sym (entry_seen hs ns h is m))
+      push_entries gs m =
+          entry_is gs u m
+          ∙ unwritten_row (λ x. x.entry) (row_led (Some n)) (λ x. refl) first t u told m
+          ∙ ap (option_map (λ x. x.entry)) (updated ns t n _ put m)
+          ∙ map_cond (λ x. x.entry) (m == n) (Some (record { entry = entry; before = None; after = first })) (get ns m)
+          ∙ ap (λ o. cond (m == n) (Some entry) o) (sym (entry_seen hs ns h is m))
 
       module _ (gs : IndexMap ℕ (Option ℕ) S) (newly : IsHeaded entry.key None (Some n) hs gs) where
         headed : (k : ℕ) → row_at gs.entries k ≡ cond (k == entry.key) (Some (Some n)) (head k)
@@ -54,101 +70,139 @@ module _ {S : Type 0} (hs : IndexMap ℕ (Option ℕ) S) (ns : Slab Node) (h : C
             by false = refl
 
         pub push_kept : AreSoundChains gs u
-        push_kept = listed_pushed head (get ns) (get t) n entry kept vacant added (get u) led (row_at gs.entries) headed
+        push_kept = listed_pushed head (nodes_of ns) (nodes_of t) n entry.key kept no_node added (nodes_of u) led (row_at gs.entries) headed
 
         pub push_here : chain (chained gs u) entry.key ≡ n ∷ chain h entry.key
         push_here =
             let l = kept.lists entry.key in
-            chain_is gs u entry.key (n ∷ l.0) (list_pushed head (get ns) (get t) n entry kept vacant added (get u) led (row_at gs.entries) headed l.0 l.1) ∙ ap (λ xs. n ∷ xs) (sym (chain_seen hs ns h is entry.key l.0 l.1))
+            chain_is gs u entry.key (n ∷ l.0) (list_pushed head (nodes_of ns) (nodes_of t) n entry.key kept no_node added (nodes_of u) led (row_at gs.entries) headed l.0 l.1) ∙ ap (λ xs. n ∷ xs) (sym (chain_seen hs ns h is entry.key l.0 l.1))
 
         pub push_others : (k : ℕ) → k ≢ entry.key → chain (chained gs u) k ≡ chain h k
         push_others k ne =
             let l = kept.lists k in
-            chain_is gs u k l.0 (list_beside head (get ns) (get t) n entry kept vacant added (get u) led (row_at gs.entries) headed k l.0 ne l.1) ∙ sym (chain_seen hs ns h is k l.0 l.1)
+            chain_is gs u k l.0 (list_beside head (nodes_of ns) (nodes_of t) n entry.key kept no_node added (nodes_of u) led (row_at gs.entries) headed k l.0 ne l.1) ∙ sym (chain_seen hs ns h is k l.0 l.1)
 
   -- ---- a node n more, directly after the node x of the name m
   module _ (m : ℕ) (x : Node) (was : get ns m ≡ Some x) (n item twin : ℕ) (t : Slab Node) (vacant : get ns n ≡ None) (put : Updates ns t n (Some (record { entry = record { key = x.entry.key; item = item; twin = twin }; before = Some m; after = x.after }))) where
     abbrev said : Entry
     said = record { key = x.entry.key; item = item; twin = twin }
 
-    between : (y : ℕ) → get t y ≡ cond (y == n) (Some (record { entry = said; before = Some m; after = x.after })) (get ns y)
-    between = updated ns t n _ put
+    node_m : nodes_of ns m ≡ Some (node_of x)
+    node_m = ap (option_map node_of) was
+
+    none_n : nodes_of ns n ≡ None
+    none_n = ap (option_map node_of) vacant
+
+    between : (y : ℕ) → nodes_of t y ≡ cond (y == n) (Some (record { key = x.entry.key; before = Some m; after = x.after })) (nodes_of ns y)
+    between y = ap (option_map node_of) (updated ns t n _ put y) ∙ map_cond node_of (y == n) (Some (record { entry = said; before = Some m; after = x.after })) (get ns y)
 
     pub follower_still : (y : ℕ) → x.after ≡ Some y → IsSome (get t y)
-    follower_still = follower_there head (get ns) m x kept was n said refl vacant (get t) between
+    follower_still y e = row_there t y (follower_there head (nodes_of ns) m (node_of x) kept node_m n none_n (nodes_of t) between y e)
 
-    module _ (u : Slab Node) (led : IsChanged (led_by (Some n)) x.after t u) where
+    module _ (u : Slab Node) (led : IsChanged (row_led (Some n)) x.after t u) where
+      led_nodes : AreChanged (led_by (Some n)) x.after (nodes_of t) (nodes_of u)
+      led_nodes = node_changed (row_led (Some n)) (led_by (Some n)) (λ z. refl) x.after t u led
+
       pub place_still : (y : ℕ) → Some m ≡ Some y → IsSome (get u y)
-      place_still = place_there head (get ns) m x kept was n said refl vacant (get t) between (get u) led.nodes
+      place_still y e = row_there u y (place_there head (nodes_of ns) m (node_of x) kept node_m n none_n (nodes_of t) between (nodes_of u) led_nodes y e)
 
-      module _ (w : Slab Node) (followed : IsChanged (followed_by (Some n)) (Some m) u w) where
+      module _ (w : Slab Node) (followed : IsChanged (row_followed (Some n)) (Some m) u w) where
+        followed_nodes : AreChanged (followed_by (Some n)) (Some m) (nodes_of u) (nodes_of w)
+        followed_nodes = node_changed (row_followed (Some n)) (followed_by (Some n)) (λ z. refl) (Some m) u w followed
+
         pub insert_entries : (e : Entry) → entry_at h m ≡ Some e → (y : ℕ) → entry_at (chained hs w) y ≡ cond (y == n) (Some (record { key = e.key; item = item; twin = twin })) (entry_at h y)
         insert_entries e q y =
             let z : Some x.entry ≡ Some e = sym (entry_found hs ns h is m x was) ∙ q in
             let same : x.entry ≡ e = cc in
             entry_is hs w y
-            ∙ entry_inserted head (get ns) m x kept was n said refl vacant (get t) between (get u) led.nodes (get w) followed.nodes y
+            ∙ unwritten_row (λ k. k.entry) (row_followed (Some n)) (λ k. refl) (Some m) u w followed y
+            ∙ unwritten_row (λ k. k.entry) (row_led (Some n)) (λ k. refl) x.after t u led y
+            ∙ ap (option_map (λ k. k.entry)) (updated ns t n _ put y)
+            ∙ map_cond (λ k. k.entry) (y == n) (Some (record { entry = said; before = Some m; after = x.after })) (get ns y)
             ∙ ap (λ o. cond (y == n) (Some said) o) (sym (entry_seen hs ns h is y))
             ∙ ap (λ (b : Entry). cond (y == n) (Some (record { key = b.key; item = item; twin = twin })) (entry_at h y)) same
 
         pub insert_kept : AreSoundChains hs w
-        insert_kept = listed_inserted head (get ns) m x kept was n said refl vacant (get t) between (get u) led.nodes (get w) followed.nodes
+        insert_kept = listed_inserted head (nodes_of ns) m (node_of x) kept node_m n none_n (nodes_of t) between (nodes_of u) led_nodes (nodes_of w) followed_nodes
 
         pub insert_chains : (k : ℕ) → chain (chained hs w) k ≡ put_after m n (chain h k)
         insert_chains k =
             let l = kept.lists k in
-            chain_is hs w k (put_after m n l.0) (list_inserted head (get ns) m x kept was n said refl vacant (get t) between (get u) led.nodes (get w) followed.nodes k l.0 l.1) ∙ ap (put_after m n) (sym (chain_seen hs ns h is k l.0 l.1))
+            chain_is hs w k (put_after m n l.0) (list_inserted head (nodes_of ns) m (node_of x) kept node_m n none_n (nodes_of t) between (nodes_of u) led_nodes (nodes_of w) followed_nodes k l.0 l.1) ∙ ap (put_after m n) (sym (chain_seen hs ns h is k l.0 l.1))
 
   -- ---- the node x of the name n fewer
   module _ (n : ℕ) (x : Node) (was : get ns n ≡ Some x) (t : Slab Node) (gone : Updates ns t n None) where
-    cut : (m : ℕ) → get t m ≡ cond (m == n) None (get ns m)
-    cut = updated ns t n None gone
+    node_n : nodes_of ns n ≡ Some (node_of x)
+    node_n = ap (option_map node_of) was
+
+    cut : (m : ℕ) → nodes_of t m ≡ cond (m == n) None (nodes_of ns m)
+    cut m = ap (option_map node_of) (updated ns t n None gone m) ∙ map_cond node_of (m == n) None (get ns m)
 
     pub own_head : IsSome (head x.entry.key)
-    own_head = head_there head (get ns) n x kept was
+    own_head = head_there head (nodes_of ns) n (node_of x) kept node_n
 
     pub before_there_still : (m : ℕ) → x.before ≡ Some m → IsSome (get t m)
-    before_there_still m e = before_there head (get ns) n x kept was (get t) cut m e
+    before_there_still m e = row_there t m (before_there head (nodes_of ns) n (node_of x) kept node_n (nodes_of t) cut m e)
 
-    module _ (u : Slab Node) (followed : IsChanged (followed_by x.after) x.before t u) where
+    module _ (u : Slab Node) (followed : IsChanged (row_followed x.after) x.before t u) where
+      followed_cut : AreChanged (followed_by x.after) x.before (nodes_of t) (nodes_of u)
+      followed_cut = node_changed (row_followed x.after) (followed_by x.after) (λ z. refl) x.before t u followed
+
       pub after_there_still : (m : ℕ) → x.after ≡ Some m → IsSome (get u m)
-      after_there_still m e = after_there head (get ns) n x kept was (get t) cut (get u) followed.nodes m e
+      after_there_still m e = row_there u m (after_there head (nodes_of ns) n (node_of x) kept node_n (nodes_of t) cut (nodes_of u) followed_cut m e)
 
-      module _ (w : Slab Node) (led : IsChanged (led_by x.before) x.after u w) where
+      module _ (w : Slab Node) (led : IsChanged (row_led x.before) x.after u w) where
+        led_cut : AreChanged (led_by x.before) x.after (nodes_of u) (nodes_of w)
+        led_cut = node_changed (row_led x.before) (led_by x.before) (λ z. refl) x.after u w led
+
         pub remove_entries : (gs : IndexMap ℕ (Option ℕ) S) (m : ℕ) → entry_at (chained gs w) m ≡ cond (m == n) None (entry_at h m)
-        remove_entries gs m = entry_is gs w m ∙ entry_removed head (get ns) n x kept was (get t) cut (get u) followed.nodes (get w) led.nodes m ∙ ap (λ o. cond (m == n) None o) (sym (entry_seen hs ns h is m))
+        remove_entries gs m =
+            entry_is gs w m
+            ∙ unwritten_row (λ z. z.entry) (row_led x.before) (λ z. refl) x.after u w led m
+            ∙ unwritten_row (λ z. z.entry) (row_followed x.after) (λ z. refl) x.before t u followed m
+            ∙ ap (option_map (λ z. z.entry)) (updated ns t n None gone m)
+            ∙ map_cond (λ z. z.entry) (m == n) None (get ns m)
+            ∙ ap (λ o. cond (m == n) None o) (sym (entry_seen hs ns h is m))
 
         module _ (gs : IndexMap ℕ (Option ℕ) S) (moved : IsHeaded x.entry.key x.before x.after hs gs) where
           pub remove_kept : AreSoundChains gs w
-          remove_kept = listed_removed head (get ns) n x kept was (get t) cut (get u) followed.nodes (get w) led.nodes (row_at gs.entries) moved.heads
+          remove_kept = listed_removed head (nodes_of ns) n (node_of x) kept node_n (nodes_of t) cut (nodes_of u) followed_cut (nodes_of w) led_cut (row_at gs.entries) moved.heads
 
           pub remove_chains : (k : ℕ) → chain (chained gs w) k ≡ filter (λ m. not (m == n)) (chain h k)
           remove_chains k =
               let l = kept.lists k in
-              chain_is gs w k (without n l.0) (list_removed head (get ns) n x kept was (get t) cut (get u) followed.nodes (get w) led.nodes (row_at gs.entries) moved.heads k l.0 l.1) ∙ ap (without n) (sym (chain_seen hs ns h is k l.0 l.1))
+              chain_is gs w k (without n l.0) (list_removed head (nodes_of ns) n (node_of x) kept node_n (nodes_of t) cut (nodes_of u) followed_cut (nodes_of w) led_cut (row_at gs.entries) moved.heads k l.0 l.1) ∙ ap (without n) (sym (chain_seen hs ns h is k l.0 l.1))
 
           pub remove_keys : (k : ℕ) → HasKey h k ↔ IsSome (row_at gs.entries k)
-          remove_keys = heads_kept gs (head_kept head (get ns) n x kept was (get t) cut (get u) followed.nodes (get w) led.nodes (row_at gs.entries) moved.heads)
+          remove_keys = heads_kept gs (head_kept head (nodes_of ns) n (node_of x) kept node_n (nodes_of t) cut (nodes_of u) followed_cut (nodes_of w) led_cut (row_at gs.entries) moved.heads)
 
   -- ---- another twin for the node x of the name n
   module _ (n : ℕ) (x : Node) (was : get ns n ≡ Some x) (twin : ℕ) where
     abbrev told : Slab Node
     told = with_value ns n (twinned_with twin x)
 
-    twinned : AreChanged (twinned_with twin) (Some n) (get ns) (get told)
+    twinned : (m : ℕ) → get told m ≡ cond (m == n) (option_map (twinned_with twin) (get ns m)) (get ns m)
     twinned m = updated ns told n _ (Updates-with_value ns n (twinned_with twin x) (ap is_some was)) m ∙ elim (cases_eq m n) [
       | inl q ↦ rw (q, same_number n) (ap (option_map (twinned_with twin)) (sym was))
       | inr ne ↦ rw (other_number m n ne) refl
     ]
 
-    afters : (m : ℕ) → after_at (get told) m ≡ after_at (get ns) m
-    afters m = ap first_or (unwritten (λ z. z.after) (twinned_with twin) (λ z. refl) (Some n) (get ns) (get told) twinned m)
+    nodes_stay : (m : ℕ) → nodes_of told m ≡ nodes_of ns m
+    nodes_stay m = ap (option_map node_of) (twinned m) ∙ by (m == n) (get ns m)
+      where
+        by : (b : Bool) (o : Option Node) → option_map node_of (cond b (option_map (twinned_with twin) o) o) ≡ option_map node_of o
+        by false o = refl
+        by true None = refl
+        by true (Some z) = refl
 
-    befores : (m : ℕ) → before_at (get told) m ≡ before_at (get ns) m
-    befores m = ap first_or (unwritten (λ z. z.before) (twinned_with twin) (λ z. refl) (Some n) (get ns) (get told) twinned m)
+    afters : (m : ℕ) → after_at (nodes_of told) m ≡ after_at (nodes_of ns) m
+    afters m = ap (λ o. first_or (option_map (λ (z : ChainNode). z.after) o)) (nodes_stay m)
 
-    keys_stay : (m : ℕ) → key_at (get told) m ≡ key_at (get ns) m
-    keys_stay = unwritten (λ z. z.entry.key) (twinned_with twin) (λ z. refl) (Some n) (get ns) (get told) twinned
+    befores : (m : ℕ) → before_at (nodes_of told) m ≡ before_at (nodes_of ns) m
+    befores m = ap (λ o. first_or (option_map (λ (z : ChainNode). z.before) o)) (nodes_stay m)
+
+    keys_stay : (m : ℕ) → key_at (nodes_of told) m ≡ key_at (nodes_of ns) m
+    keys_stay m = ap (option_map (λ (z : ChainNode). z.key)) (nodes_stay m)
 
     pub twin_kept : AreSoundChains hs told
     twin_kept = nodes_kept hs ns h is kept told afters befores keys_stay

@@ -1,7 +1,8 @@
 -- What a caller sees of chains: keys, nodes by name, and the order of each chain.
-use Rattle.std.specs.Prelude.{◌≡◌, ◌↔◌, ◌==◌, ℕ, zero, suc, ◌+◌, List, [], ◌∷◌, cond, Option, Some, None, option_map, IsSome, Contains, length, ◌≤◌}
+use Rattle.std.specs.Prelude.{◌≡◌, ◌↔◌, ◌==◌, ℕ, ◌+◌, List, [], ◌∷◌, cond, Option, Some, None, option_map, IsSome, Contains, length, ◌≤◌}
 use Rattle.std.specs.List.{IsDistinct}
 use Rattle.slab_laws.specs.Tables.{row_at}
+use Rattle.chain_laws.specs.Links.{first_or, trail}
 use Rattle.linked_chains.specs.declared.node.Entry.{Entry}
 
 -- a node: what it says, and the node after it in its chain
@@ -29,10 +30,6 @@ HasNode c n = IsSome (row_at c.nodes n)
 abbrev pub entry_at : Chained → ℕ → Option Entry
 entry_at c n = option_map (λ l. l.entry) (row_at c.nodes n)
 
-abbrev pub first_or : Option (Option ℕ) → Option ℕ
-first_or None = None
-first_or (Some n) = n
-
 -- the first node in the chain of the key
 abbrev pub first_in : Chained → ℕ → Option ℕ
 first_in c k = first_or (row_at c.heads k)
@@ -40,12 +37,6 @@ first_in c k = first_or (row_at c.heads k)
 -- the node after one in its chain
 abbrev pub after_in : Chained → ℕ → Option ℕ
 after_in c n = first_or (option_map (λ l. l.after) (row_at c.nodes n))
-
--- the nodes from one on, as far as so many steps go
-unfoldable pub trail : (ℕ → Option ℕ) → ℕ → Option ℕ → List ℕ
-trail after steps None = []
-trail after zero (Some n) = []
-trail after (suc steps) (Some n) = n ∷ trail after steps (after n)
 
 -- the nodes in the chain of the key, in order
 unfoldable pub chain : Chained → ℕ → List ℕ
@@ -71,16 +62,6 @@ with_twin twin e = record { key = e.key; item = e.item; twin = twin }
 -- the node has the twin now, and all others say what they said
 abbrev pub SetsTwin : Chained → Chained → ℕ → ℕ → Type 0
 SetsTwin old new node twin = (n : ℕ) → entry_at new n ≡ cond (n == node) (option_map (with_twin twin) (entry_at old n)) (entry_at old n)
-
--- the first of a list, if there is one
-abbrev pub head_of : List ℕ → Option ℕ
-head_of [] = None
-head_of (n ∷ ns) = Some n
-
--- n comes directly after m in the list, and None after its last
-unfoldable pub comes_after : List ℕ → ℕ → Option ℕ
-comes_after [] m = None
-comes_after (n ∷ ns) m = cond (n == m) (head_of ns) (comes_after ns m)
 
 -- the list with n put directly after m, where m stands in it
 unfoldable pub put_after : ℕ → ℕ → List ℕ → List ℕ

@@ -1,24 +1,20 @@
 -- What the writers do to nodes and heads (this project).
-use Rattle.std.specs.Prelude.{◌≡◌, ◌==◌, ◌&&◌, ℕ, Bool, false, cond, Option, Some, None, option_map, is_none, length}
+use Rattle.std.specs.Prelude.{◌≡◌, ◌==◌, ◌&&◌, ℕ, cond, Option, Some, None, option_map, is_none, length}
 use Rattle.indexmap.specs.IndexMap.{IndexMap, spare}
 use Rattle.slab.specs.Slab.{Slab, get, slab_len}
 use Rattle.slab_laws.specs.Tables.{row_at}
+use Rattle.chain_laws.specs.Links.{is_at}
 use Rattle.linked_chains.specs.declared.node.Node.{Node}
 
 -- a node with another one after it, or before it, or with another twin
-abbrev pub followed_by : Option ℕ → Node → Node
-followed_by after x = record { entry = x.entry; before = x.before; after = after }
+abbrev pub row_followed : Option ℕ → Node → Node
+row_followed after x = record { entry = x.entry; before = x.before; after = after }
 
-abbrev pub led_by : Option ℕ → Node → Node
-led_by before x = record { entry = x.entry; before = before; after = x.after }
+abbrev pub row_led : Option ℕ → Node → Node
+row_led before x = record { entry = x.entry; before = before; after = x.after }
 
 abbrev pub twinned_with : ℕ → Node → Node
 twinned_with twin x = record { entry = record { key = x.entry.key; item = x.entry.item; twin = twin }; before = x.before; after = x.after }
-
--- whether the name is the one that there may be
-abbrev pub is_at : Option ℕ → ℕ → Bool
-is_at None n = false
-is_at (Some m) n = n == m
 
 -- the node that there may be is changed, and no other
 pub record IsChanged (change : Node → Node) (at : Option ℕ) (old new : Slab Node) : Type 0 where

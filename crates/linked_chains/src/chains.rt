@@ -1,7 +1,8 @@
 ghost use Rattle.std.specs.Prelude.{◌≡◌, ◌≢◌, ◌↔◌, ◌==◌, ◌<◌, ◌≤◌, ◌⊎◌, suc, ◌+◌, ◌^◌, [], ◌∷◌, ◌++◌, length, not, Some, None, is_some, IsOk, OnOk};
 ghost use Rattle.std.specs.List.{filter, IsDistinct};
 ghost use Rattle.slab_laws.specs.Tables.{row_at, names, NamesAscend};
-ghost use Rattle.linked_chains.specs.Chains.{chain, entry_at, HasNode, HasKey, IsWhole, SetsEntry, SetsBeside, SetsTwin, SameChains, IsSpare, head_of, comes_after, put_after};
+ghost use Rattle.chain_laws.specs.Links.{head_of, comes_after};
+ghost use Rattle.linked_chains.specs.Chains.{chain, entry_at, HasNode, HasKey, IsWhole, SetsEntry, SetsBeside, SetsTwin, SameChains, IsSpare, put_after};
 
 use crate::links::{set_after, set_before, set_head};
 use crate::node::{Entry, Node};

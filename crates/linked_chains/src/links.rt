@@ -2,7 +2,7 @@
 ghost use Rattle.std.specs.Prelude.{◌≡◌, Some, IsSome};
 ghost use Rattle.slab.specs.Slab.{ContainsKey};
 ghost use Rattle.slab_laws.specs.Tables.{row_at};
-ghost use Rattle.linked_chains.specs.Writes.{followed_by, led_by, IsChanged, IsHeaded};
+ghost use Rattle.linked_chains.specs.Writes.{row_followed, row_led, IsChanged, IsHeaded};
 
 use crate::node::Node;
 use indexmap::IndexMap;
@@ -11,7 +11,7 @@ use slab::Slab;
 // The node, if there is one, has this one after it.
 pub(crate) fn set_after(nodes: &mut Slab<Node>, node: Option<usize>, after: Option<usize>)
     requires { (n : _) → node ≡ Some n → ContainsKey nodes.old n }
-    ensures { IsChanged (followed_by after) node nodes.old nodes.new }
+    ensures { IsChanged (row_followed after) node nodes.old nodes.new }
 {
     if let Some(node) = node {
         nodes[node].after = after;
@@ -21,7 +21,7 @@ pub(crate) fn set_after(nodes: &mut Slab<Node>, node: Option<usize>, after: Opti
 // The node, if there is one, has this one before it.
 pub(crate) fn set_before(nodes: &mut Slab<Node>, node: Option<usize>, before: Option<usize>)
     requires { (n : _) → node ≡ Some n → ContainsKey nodes.old n }
-    ensures { IsChanged (led_by before) node nodes.old nodes.new }
+    ensures { IsChanged (row_led before) node nodes.old nodes.new }
 {
     if let Some(node) = node {
         nodes[node].before = before;

@@ -1,1 +1,2 @@
 pub mod Calming
+pub mod ListsAsked

@@ -60,6 +60,8 @@ pairs_needed h ms = length ms + pairs_to_part h ms
 pub record HasRoomFor (z : ZonePlan) (h : Curves) (r : RecordsView) (p : Past) : Type 0 where
   pub vertices : z.room.vertices ≤ r.spare_vertices
   pub darts : 2 * z.room.edges ≤ r.spare_darts
+  pub cycles : z.room.cycles ≤ r.faces.spare_cycles
+  pub faces : z.room.faces ≤ r.faces.spare_faces
   pub names : 1 ≤ p.spare_names
   pub pieces : 1 ≤ p.spare_pieces
   pub pairs : pairs_needed h z.vertices ≤ p.spare_pairs

@@ -23,7 +23,7 @@ use Rattle.edge_predicates.proofs.Sides.{side_same}
 use Rattle.slab_laws.specs.declared.names.DartId.{DartId}
 use Rattle.slab_laws.specs.SpansDrawn.{edge_of}
 use Rattle.slab_laws.specs.Skeleton as counted
-use Rattle.slab_laws.specs.Sound.{edge_in, dart_in}
+use Rattle.slab_laws.specs.Sound.{edge_in}
 use Rattle.slab_laws.specs.View.{View, line_in}
 use Rattle.zone_walk.specs.Found.{ends_of, IsWhole, IsPassAt, IsNoPass, IsInnerMeeting, IsNoInnerMeeting}
 use Rattle.zone_walk.proofs.InPlane.{in_plane}

@@ -307,7 +307,7 @@ module _ (v : View) (s : IsGraphSound v) (g : Segment) (c : IsCourse g) where
   few_between (p ∷ q ∷ ps) [] h = absurd h
   few_between (p ∷ q ∷ ps) (x ∷ spots) h = let k = few_between (q ∷ ps) spots h.1 in omega arith
 
-  module _ (z : ZonePlan) (p : Point) (at : Spot) (w : IsWalked v g z.vertices z.between z.overlapped p at) (past : precedes p g.upper ≡ false) (vertices : z.room.vertices ≡ vertices_needed z.vertices) (edges : z.room.edges ≡ edges_needed z.vertices z.between) where
+  module _ (z : ZonePlan) (p : Point) (at : Spot) (w : IsWalked v g z.vertices z.between z.overlapped p at) (past : precedes p g.upper ≡ false) (vertices : z.room.vertices ≡ vertices_needed z.vertices) (edges : z.room.edges ≡ edges_needed z.vertices z.between) (cycles : z.room.cycles ≡ 0) (faces : z.room.faces ≡ 0) where
     at_upper : p ≡ g.upper
     at_upper = le_both (on_segment p w.meets).upto (at_most g.upper p past)
 
@@ -335,6 +335,8 @@ module _ (v : View) (s : IsGraphSound v) (g : Segment) (c : IsCourse g) where
       all_overlapped = λ d o. from_member z.overlapped d (w.all_overlapped d o (subst (Lt (point_in v (source_in v d))) (sym at_upper) (lt_out (point_in v (source_in v d)) g.upper o.begins)) (subst (Lt g.lower) (sym at_upper) c.ahead));
       vertices = vertices;
       edges = edges;
+      cycles = cycles;
+      faces = faces;
       vertices_fit = let a = count_by-le-length (λ (m : Meeting). not (is_vertex m.spot)) z.vertices in omega (arith, vertices, as_many);
       edges_fit = let a = count_by-le-length (λ (m : Meeting). is_edge m.spot) z.vertices in let b = few_between (meeting_points v g) z.between all_between in omega (arith, edges, as_many);
     }

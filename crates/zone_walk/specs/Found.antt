@@ -13,7 +13,7 @@ use Rattle.slab_laws.specs.declared.names.DartId.{DartId}
 use Rattle.slab_laws.specs.declared.names.VertexId.{VertexId}
 use Rattle.slab_laws.specs.SpansDrawn.{edge_of}
 use Rattle.slab_laws.specs.Skeleton.{inside}
-use Rattle.slab_laws.specs.Sound.{dart_in, edge_in}
+use Rattle.slab_laws.specs.Sound.{edge_in}
 use Rattle.slab_laws.specs.View.{View, HasVertex, HasDart, point_in, twin_in}
 use Rattle.dcel_records.specs.declared.spot.Spot.{Spot}
 use Rattle.dcel_records.specs.Spots.{IsSpotOf}

@@ -66,10 +66,12 @@ fn extend(plan: &mut ZonePlan, part: Spot, next: Meeting) -> Result<(), NoMemory
     Ok(())
 }
 
-// The room in which the steps of the insertion fit.
+// The room in which the steps of the insertion fit. They record no cycles and no faces.
 fn room_for(plan: &ZonePlan) -> Room
     ensures vertices { result.vertices ≡ vertices_needed plan.now.vertices }
     ensures edges { result.edges ≡ edges_needed plan.now.vertices plan.now.between }
+    ensures cycles { result.cycles ≡ 0 }
+    ensures faces { result.faces ≡ 0 }
 {
     let vertices = plan.vertices.as_slice();
     let new_vertices = vertices
@@ -83,6 +85,8 @@ fn room_for(plan: &ZonePlan) -> Room
     Room {
         vertices: new_vertices,
         edges: splits + plan.between.as_slice().len(),
+        cycles: 0,
+        faces: 0,
     }
 }
 
@@ -118,6 +122,8 @@ pub fn zone(
         room: Room {
             vertices: 0,
             edges: 0,
+            cycles: 0,
+            faces: 0,
         },
     };
     plan.vertices.push(here)?;

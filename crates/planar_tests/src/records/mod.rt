@@ -1,5 +1,6 @@
-// The room that records ask for, the smallest view, and boundary cycles.
+// The room that records ask for, the lists of their faces, the smallest view, and boundary cycles.
 
+mod chains;
 mod cycles;
 mod room;
 mod triangles;

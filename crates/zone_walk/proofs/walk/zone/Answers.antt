@@ -58,4 +58,4 @@ returns c =
     let k = course g c.lower.ensures.ends in
     zone_done v s g k
     (record { vertices = c.walk.plan.vertices; between = c.walk.plan.between; overlapped = c.walk.plan.overlapped; room = c.room_for-plan.result })
-    c.walk.here.point c.walk.here.spot c.walk.invariant.0 (past_upper v s g k c.walk.here.point c.walk.later.entries c.walk.invariant.1 (no_entries c.pop_first.result c.walk.later.entries c.in_default.is c.pop_first.ensures.variant)) c.room_for-plan.ensures.vertices c.room_for-plan.ensures.edges
+    c.walk.here.point c.walk.here.spot c.walk.invariant.0 (past_upper v s g k c.walk.here.point c.walk.later.entries c.walk.invariant.1 (no_entries c.pop_first.result c.walk.later.entries c.in_default.is c.pop_first.ensures.variant)) c.room_for-plan.ensures.vertices c.room_for-plan.ensures.edges c.room_for-plan.ensures.cycles c.room_for-plan.ensures.faces

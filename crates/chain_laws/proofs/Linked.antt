@@ -2,10 +2,8 @@
 use Rattle.std.proofs.Common.{◌≡◌, ◌≢◌, ◌⊎◌, inl, inr, ℕ, zero, suc, ◌≤◌, List, [], ◌∷◌, length, Option, Some, None, refl, sym, ap, subst, ◌∙◌, arith, Contains}
 use Rattle.std.proofs.lemmas.Bool.{cases_eq}
 use Rattle.slab.proofs.SlabLemmas.{Contains-cons_cases}
-use Rattle.linked_chains.specs.declared.node.Node.{Node}
-use Rattle.linked_chains.specs.Chains.{trail, head_of, comes_after}
-use Rattle.linked_chains.specs.ChainsInMemory.{after_at, before_at, IsLinked}
-use Rattle.linked_chains.proofs.Distinct.{here, there, nowhere, IsOnce}
+use Rattle.chain_laws.specs.Links.{Node, trail, head_of, comes_after, after_at, before_at, IsLinked}
+use Rattle.chain_laws.proofs.Distinct.{here, there, nowhere, IsOnce}
 use Rattle.integers.proofs.Tests.{other_number, same_number}
 
 pub head_is : (node : ℕ → Option Node) (p s : Option ℕ) (xs : List ℕ) → IsLinked node p s xs → s ≡ head_of xs

@@ -1,9 +1,7 @@
 -- Each key goes on having its list.
 use Rattle.std.proofs.Common.{◌≡◌, ℕ, List, Option, Some, None, IsSome, sym, subst, ◌∙◌}
-use Rattle.linked_chains.specs.declared.node.Node.{Node}
-use Rattle.linked_chains.specs.Chains.{first_or}
-use Rattle.linked_chains.specs.ChainsInMemory.{after_at, before_at, key_at, IsListed, AreListed}
-use Rattle.linked_chains.proofs.Linked.{linked_same}
+use Rattle.chain_laws.specs.Links.{Node, first_or, after_at, before_at, key_at, IsListed, AreListed}
+use Rattle.chain_laws.proofs.Linked.{linked_same}
 
 -- other heads, with the same first nodes
 pub listed_heads : (head head' : ℕ → Option (Option ℕ)) (node : ℕ → Option Node) → ((k : ℕ) → first_or (head' k) ≡ first_or (head k)) → ((n k : ℕ) → key_at node n ≡ Some k → IsSome (head k) → IsSome (head' k)) → AreListed head node → AreListed head' node

@@ -1,9 +1,6 @@
 -- What writes of single links make of the nodes.
-use Rattle.std.proofs.Common.{◌≡◌, ◌≢◌, inl, inr, ℕ, ◌==◌, Bool, true, false, cond, Option, Some, None, is_some, option_map, refl, sym, ap, ◌∙◌}
-use Rattle.std.proofs.lemmas.Bool.{cases_eq}
-use Rattle.slab.specs.Slab.{Slab, get, Updates}
-use Rattle.linked_chains.specs.declared.node.Node.{Node}
-use Rattle.linked_chains.specs.Writes.{is_at}
+use Rattle.std.proofs.Common.{◌≡◌, ◌≢◌, ℕ, Bool, true, false, cond, Option, Some, None, is_some, option_map, refl, sym, ap, ◌∙◌}
+use Rattle.chain_laws.specs.Links.{Node, is_at, key_at}
 use Rattle.integers.proofs.Tests.{other_number, same_number}
 
 pub at_hit : (at : Option ℕ) (m : ℕ) → at ≡ Some m → is_at at m ≡ true
@@ -12,13 +9,6 @@ at_hit at m e = ap (λ o. is_at o m) e ∙ same_number m
 pub at_miss : (at : Option ℕ) (m : ℕ) → at ≢ Some m → is_at at m ≡ false
 at_miss None m h = refl
 at_miss (Some n) m h = other_number m n (λ e. h (ap Some (sym e)))
-
--- what a slab has after a write of one key
-pub updated : (old new : Slab Node) (n : ℕ) (o : Option Node) → Updates old new n o → (m : ℕ) → get new m ≡ cond (m == n) o (get old m)
-updated old new n o u m = elim (cases_eq m n) [
-  | inl q ↦ rw (q, same_number n) u.changed
-  | inr ne ↦ rw (other_number m n ne) (u.others m ne)
-]
 
 -- the node that there may be is changed, and no other
 abbrev pub AreChanged : (Node → Node) → Option ℕ → (ℕ → Option Node) → (ℕ → Option Node) → Type 0
@@ -46,3 +36,11 @@ still_some f at old new c n = ap is_some (c n) ∙ by (is_at at n) (old n)
     by false o = refl
     by true None = refl
     by true (Some x) = refl
+
+keyed_some : (o : Option Node) (k : ℕ) → option_map (λ x. x.key) o ≡ Some k → (x : Node) × (o ≡ Some x)
+keyed_some None k e = absurd (cc)
+keyed_some (Some x) k e = (x, refl)
+
+-- the node of a key is there
+pub key_some : (node : ℕ → Option Node) (n k : ℕ) → key_at node n ≡ Some k → (x : Node) × (node n ≡ Some x)
+key_some node n k e = keyed_some (node n) k e
