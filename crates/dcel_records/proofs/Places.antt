@@ -1,19 +1,17 @@
 -- A row taken out of the chain of its face, and one put in front of it: from the rows that are written to the lists of nodes.
-use Rattle.std.proofs.Common.{◌≡◌, ◌≢◌, inl, inr, ℕ, ◌==◌, Bool, true, false, cond, List, ◌∷◌, Option, Some, None, is_some, IsSome, option_map, refl, sym, ap, subst, ◌∙◌}
+use Rattle.std.proofs.Common.{◌≡◌, ℕ, ◌==◌, Bool, true, false, cond, Option, Some, None, is_some, IsSome, option_map, refl, sym, ap, subst, ◌∙◌}
 use Rattle.std.specs.Prelude.{is_none, ◌&&◌}
-use Rattle.std.proofs.lemmas.Bool.{cases_eq, false≢true, eqb-true}
-use Rattle.slab.specs.Slab.{Slab, get, slab_len, ContainsKey, with_value, Updates}
-use Rattle.slab.proofs.SlabLemmas.{Updates-with_value}
+use Rattle.std.proofs.lemmas.Bool.{false≢true, eqb-true}
+use Rattle.slab.specs.Slab.{Slab, get, ContainsKey}
 use Rattle.slab_laws.specs.declared.names.FaceId.{FaceId}
-use Rattle.chain_laws.specs.Links.{Node, first_or, key_at, IsListed, AreListed, followed_by, led_by, is_at}
+use Rattle.chain_laws.specs.Links.{Node, first_or, key_at, followed_by, led_by, is_at}
 use Rattle.chain_laws.proofs.Changes.{AreChanged, key_some, unwritten, still_some}
 use Rattle.chain_laws.proofs.Removed as removed
 use Rattle.chain_laws.proofs.Pushed as pushed
 use Rattle.dcel_records.specs.declared.rows.Place.{Place}
 use Rattle.dcel_records.specs.declared.rows.StoredFace.{StoredFace}
-use Rattle.dcel_records.specs.Placing.{Placing, place_node, node_of, node_or, nodes, heads, AreChained, AreOthersChained, all_but, without, IsChanged, IsHeaded, nowhere, replaced, row_followed, row_led, row_placed, rest_of, rest_of_face, IsRelinked, IsUnlinked, IsLinkedFirst}
-use Rattle.dcel_records.proofs.Removing.{len_written}
-use Rattle.integers.proofs.Tests.{other_number, same_number}
+use Rattle.dcel_records.specs.Placing.{Placing, place_node, node_of, node_or, nodes, heads, AreChained, AreOthersChained, all_but, IsChanged, IsHeaded, nowhere, replaced, row_followed, row_led, row_placed, rest_of, rest_of_face, IsUnlinked, IsLinkedFirst}
+use Rattle.integers.proofs.Tests.{same_number}
 use Rattle.plane_graphs.proofs.Lists.{some_mapped}
 
 but_changed : (c : ℕ) (F : Node → Node) (at : Option ℕ) (old new : ℕ → Option Node) → AreChanged F at old new → AreChanged F at (all_but c old) (all_but c new)
@@ -104,26 +102,6 @@ module _ {R : Type 0} (g : Placing R) where
 
   rest_led : (before : Option ℕ) (r : R) → rest_of g (row_led g before r) ≡ rest_of g r
   rest_led before r = rest_replaced (λ p. record { face = p.face; before = before; after = p.after }) r
-
-  -- ---- rows written
-  pub changed_none : (f : R → R) (s : Slab R) → IsChanged f None s s
-  changed_none f s = record { rows = λ n. refl; len = refl; capacity = refl }
-
-  pub changed_some : (f : R → R) (s : Slab R) (n : ℕ) (r q : R) → get s n ≡ Some r → q ≡ f r → IsChanged f (Some n) s (with_value s n q)
-  changed_some f s n r q e qf = record { rows = rows; len = len_written s n r q e; capacity = refl }
-    where
-      u : Updates s (with_value s n q) n (Some q)
-      u = Updates-with_value s n q (ap is_some e)
-
-      rows : (m : ℕ) → get (with_value s n q) m ≡ cond (m == n) (option_map f (get s m)) (get s m)
-      rows m = elim (cases_eq m n) [
-        | inl k ↦ ap (get (with_value s n q)) k ∙ u.changed ∙ ap Some qf ∙ sym (ap (λ b. cond b (option_map f (get s m)) (get s m)) (ap (λ z. z == n) k ∙ same_number n) ∙ ap (λ z. option_map f (get s z)) k ∙ ap (option_map f) e)
-        | inr ne ↦ u.others m ne ∙ sym (ap (λ b. cond b (option_map f (get s m)) (get s m)) (other_number m n ne))
-      ]
-
-  -- a row with its place written, where it has one
-  pub replaced_is : (f : Place → Place) (r q : R) (p : Place) → g.place r ≡ Some p → q ≡ g.with_place (f p) r → q ≡ replaced g f r (g.place r)
-  replaced_is f r q p e qe = qe ∙ sym (ap (replaced g f r) e)
 
   pub row_has_place : (s : Slab R) (n : ℕ) (r : R) → get s n ≡ Some r → IsSome (nodes g s n) → IsSome (g.place r)
   row_has_place s n r e h = sym (some_mapped place_node (g.place r)) ∙ ap is_some (sym (ap (node_or g) e)) ∙ h
