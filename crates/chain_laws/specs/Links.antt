@@ -2,8 +2,6 @@
 use Rattle.std.specs.Prelude.{◌≡◌, ◌↔◌, ◌==◌, ℕ, zero, suc, Bool, false, not, List, [], ◌∷◌, Option, Some, None, option_map, IsSome, Contains}
 use Rattle.std.specs.List.{filter, IsDistinct}
 use Rattle.slab_laws.specs.FaceLists.{follower}
--- the first of a list, as dcel_records calls it
-pub use Rattle.slab_laws.specs.FaceLists.{first_of as head_of}
 
 -- a node: the key of its chain, and its neighbours there
 pub record Node : Type 0 where
