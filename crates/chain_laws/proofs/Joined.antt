@@ -2,8 +2,8 @@
 use Rattle.std.proofs.Common.{◌≡◌, ◌≢◌, inl, inr, ℕ, List, [], ◌∷◌, Option, Some, None, refl, sym, ap, subst, ◌∙◌, Contains}
 use Rattle.std.proofs.lemmas.Bool.{cases_eq}
 use Rattle.slab.proofs.SlabLemmas.{Contains-cons_cases}
-use Rattle.chain_laws.specs.Links.{Node, after_at, before_at, IsLinked}
-use Rattle.chain_laws.proofs.Distinct.{here, there, nowhere, IsOnce, without, without_hit, without_miss, without_absent}
+use Rattle.chain_laws.specs.Links.{Node, after_at, before_at, IsLinked, without}
+use Rattle.chain_laws.proofs.Distinct.{here, there, nowhere, IsOnce, without_hit, without_miss, without_absent}
 use Rattle.chain_laws.proofs.Linked.{after_within, before_within, linked_same}
 
 -- n is put before the node s that there may be, and no other links change

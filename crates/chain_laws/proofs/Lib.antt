@@ -5,3 +5,5 @@ pub mod Joined
 pub mod Listed
 pub mod Pushed
 pub mod Removed
+pub mod Rows
+pub mod Tabled

@@ -2,11 +2,12 @@
 use Rattle.std.proofs.Common.{◌≡◌, ◌≢◌, ◌⊎◌, inl, inr, ℕ, zero, suc, ◌≤◌, List, [], ◌∷◌, length, Option, Some, None, refl, sym, ap, subst, ◌∙◌, arith, Contains}
 use Rattle.std.proofs.lemmas.Bool.{cases_eq}
 use Rattle.slab.proofs.SlabLemmas.{Contains-cons_cases}
-use Rattle.chain_laws.specs.Links.{Node, trail, head_of, comes_after, after_at, before_at, IsLinked}
+use Rattle.slab_laws.specs.FaceLists.{first_of, follower}
+use Rattle.chain_laws.specs.Links.{Node, trail, comes_after, after_at, before_at, IsLinked}
 use Rattle.chain_laws.proofs.Distinct.{here, there, nowhere, IsOnce}
 use Rattle.integers.proofs.Tests.{other_number, same_number}
 
-pub head_is : (node : ℕ → Option Node) (p s : Option ℕ) (xs : List ℕ) → IsLinked node p s xs → s ≡ head_of xs
+pub head_is : (node : ℕ → Option Node) (p s : Option ℕ) (xs : List ℕ) → IsLinked node p s xs → s ≡ first_of xs
 head_is node p s [] l = l
 head_is node p s (x ∷ xs) l = l.0
 
@@ -28,7 +29,7 @@ trail_within after (suc steps) (Some n) = let h = trail_within after steps (afte
 
 -- the node after one of the list is the one that comes after it there
 pub after_is : (node : ℕ → Option Node) (p s : Option ℕ) (xs : List ℕ) (n : ℕ) → IsLinked node p s xs → Contains xs n → IsOnce xs → after_at node n ≡ comes_after xs n
-unfolding comes_after
+unfolding comes_after follower
 after_is node p s [] n l c o = absurd (nowhere n c)
 after_is node p s (x ∷ xs) n l c o = elim (cases_eq x n) [
   | inl q ↦ rw (q, same_number n) (ap (after_at node) (sym q) ∙ head_is node (Some x) (after_at node x) xs l.2)
@@ -37,6 +38,10 @@ after_is node p s (x ∷ xs) n l c o = elim (cases_eq x n) [
     | inr d ↦ after_is node (Some x) (after_at node x) xs n l.2 d o.1
   ])
 ]
+
+in_front : (m : ℕ) (xs : List ℕ) → Some m ≡ first_of xs → Contains xs m
+in_front m [] h = absurd (cc)
+in_front m (x ∷ xs) h = let q : x ≡ m = cc in subst (λ z. Contains (x ∷ xs) z) q (here x xs)
 
 -- the node after one of the list is of the list
 pub after_within : (node : ℕ → Option Node) (p s : Option ℕ) (xs : List ℕ) (n m : ℕ) → IsLinked node p s xs → Contains xs n → after_at node n ≡ Some m → Contains xs m
@@ -47,11 +52,7 @@ after_within node p s (x ∷ xs) n m l c e = elim (Contains-cons_cases x n xs c)
 ]
   where
     first_within : (o : Option ℕ) → o ≡ Some m → IsLinked node (Some x) o xs → Contains xs m
-    first_within o e k = in_front xs (sym e ∙ head_is node (Some x) o xs k)
-      where
-        in_front : (ys : List ℕ) → Some m ≡ head_of ys → Contains ys m
-        in_front [] h = absurd (cc)
-        in_front (y ∷ ys) h = let q : y ≡ m = cc in subst (λ z. Contains (y ∷ ys) z) q (here y ys)
+    first_within o e k = in_front m xs (sym e ∙ head_is node (Some x) o xs k)
 
 -- the node before one of the list is of the list, or the one before its first
 pub before_within : (node : ℕ → Option Node) (p s : Option ℕ) (xs : List ℕ) (n : ℕ) → IsLinked node p s xs → Contains xs n → (before_at node n ≡ p) ⊎ ((m : ℕ) × (before_at node n ≡ Some m) × Contains xs m)
@@ -75,16 +76,12 @@ linked_same old new p s (x ∷ xs) h l =
 pub after_other : (node : ℕ → Option Node) (p s : Option ℕ) (xs : List ℕ) (n : ℕ) → IsLinked node p s xs → IsOnce xs → Contains xs n → after_at node n ≢ Some n
 after_other node p s [] n l o c e = nowhere n c
 after_other node p s (x ∷ xs) n l o c e = elim (cases_eq x n) [
-  | inl q ↦ o.0 (subst (λ z. Contains xs z) (sym q) (in_front xs (sym e ∙ ap (after_at node) (sym q) ∙ head_is node (Some x) (after_at node x) xs l.2)))
+  | inl q ↦ o.0 (subst (λ z. Contains xs z) (sym q) (in_front n xs (sym e ∙ ap (after_at node) (sym q) ∙ head_is node (Some x) (after_at node x) xs l.2)))
   | inr ne ↦ elim (Contains-cons_cases x n xs c) [
     | inl q ↦ ne q
     | inr d ↦ after_other node (Some x) (after_at node x) xs n l.2 o.1 d e
   ]
 ]
-  where
-    in_front : (ys : List ℕ) → Some n ≡ head_of ys → Contains ys n
-    in_front [] h = absurd (cc)
-    in_front (y ∷ ys) h = let q : y ≡ n = cc in subst (λ z. Contains (y ∷ ys) z) q (here y ys)
 
 -- or the one before itself
 pub before_other : (node : ℕ → Option Node) (p s : Option ℕ) (xs : List ℕ) (n : ℕ) → IsLinked node p s xs → IsOnce xs → Contains xs n → p ≢ Some n → before_at node n ≢ Some n

@@ -6,8 +6,7 @@ use Rattle.chain_laws.specs.Links.{Node, first_or, after_at, before_at, key_at, 
 use Rattle.chain_laws.proofs.Distinct.{here, there, IsOnce, once_from_distinct, distinct_from_once}
 use Rattle.chain_laws.proofs.Linked.{linked_same}
 use Rattle.chain_laws.proofs.Joined.{IsInFront, linked_push}
-use Rattle.chain_laws.proofs.Changes.{key_some}
-use Rattle.chain_laws.proofs.Changes.{AreChanged, unwritten, elsewhere, written}
+use Rattle.chain_laws.proofs.Changes.{AreChanged, unwritten, elsewhere, written, key_some}
 use Rattle.integers.proofs.Tests.{other_number, same_number}
 
 -- n is a new node with the old first after it

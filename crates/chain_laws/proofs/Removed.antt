@@ -2,12 +2,11 @@
 use Rattle.std.proofs.Common.{◌≡◌, ◌≢◌, ◌↔◌, inl, inr, ℕ, ◌==◌, ◌&&◌, Bool, true, false, cond, List, Option, Some, None, is_some, IsSome, option_map, refl, sym, ap, subst, ◌∙◌, Contains}
 use Rattle.std.specs.Prelude.{is_none}
 use Rattle.std.proofs.lemmas.Bool.{cases_eq}
-use Rattle.chain_laws.specs.Links.{Node, first_or, after_at, before_at, key_at, IsLinked, IsListed, AreListed, followed_by, led_by}
-use Rattle.chain_laws.proofs.Distinct.{IsOnce, once_from_distinct, distinct_from_once, without, without_absent, left, was_there, once_without}
+use Rattle.chain_laws.specs.Links.{Node, first_or, after_at, before_at, key_at, IsLinked, IsListed, AreListed, followed_by, led_by, without}
+use Rattle.chain_laws.proofs.Distinct.{IsOnce, once_from_distinct, distinct_from_once, without_absent, left, was_there, once_without}
 use Rattle.chain_laws.proofs.Linked.{after_within, before_within, after_other, before_other, linked_same}
 use Rattle.chain_laws.proofs.Joined.{IsJoined, linked_without}
-use Rattle.chain_laws.proofs.Changes.{key_some}
-use Rattle.chain_laws.proofs.Changes.{AreChanged, unwritten, elsewhere, written, still_some}
+use Rattle.chain_laws.proofs.Changes.{AreChanged, unwritten, elsewhere, written, still_some, key_some}
 use Rattle.integers.proofs.Tests.{other_number, same_number}
 
 -- the node x of the name n, in the list of its key

@@ -1,6 +1,7 @@
 -- Chains of nodes: doubly linked lists whose links are names (Knuth, The Art of Computer Programming, doubly linked lists).
-use Rattle.std.specs.Prelude.{◌≡◌, ◌↔◌, ◌==◌, ℕ, zero, suc, Bool, false, List, [], ◌∷◌, cond, Option, Some, None, option_map, IsSome, Contains}
-use Rattle.std.specs.List.{IsDistinct}
+use Rattle.std.specs.Prelude.{◌≡◌, ◌↔◌, ◌==◌, ℕ, zero, suc, Bool, false, not, List, [], ◌∷◌, Option, Some, None, option_map, IsSome, Contains}
+use Rattle.std.specs.List.{filter, IsDistinct}
+use Rattle.slab_laws.specs.FaceLists.{follower}
 
 -- a node: the key of its chain, and its neighbours there
 pub record Node : Type 0 where
@@ -18,15 +19,13 @@ trail after steps None = []
 trail after zero (Some n) = []
 trail after (suc steps) (Some n) = n ∷ trail after steps (after n)
 
--- the first of a list, if there is one
-abbrev pub head_of : List ℕ → Option ℕ
-head_of [] = None
-head_of (n ∷ ns) = Some n
-
--- n comes directly after m in the list, and None after its last
+-- what comes directly after m in the list, and None after its last
 unfoldable pub comes_after : List ℕ → ℕ → Option ℕ
-comes_after [] m = None
-comes_after (n ∷ ns) m = cond (n == m) (head_of ns) (comes_after ns m)
+comes_after ns m = follower (λ n. n == m) ns
+
+-- the list without a name
+abbrev pub without : ℕ → List ℕ → List ℕ
+without n xs = filter (λ m. not (m == n)) xs
 
 -- the node after one, the node before it, and the key of its chain, where a name is known to be a node
 abbrev pub after_at : (ℕ → Option Node) → ℕ → Option ℕ

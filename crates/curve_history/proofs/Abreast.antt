@@ -2,7 +2,8 @@
 use Rattle.std.proofs.Common.{◌≡◌, ◌≢◌, ℕ, Bool, true, false, not, List, [], ◌∷◌, ◌++◌, map, Option, Some, None, is_some, refl, sym, ap, subst, ◌∙◌}
 use Rattle.std.proofs.lemmas.Bool.{false≢true}
 use Rattle.std.proofs.lemmas.List.{append-nil, append_cancel_left}
-use Rattle.chain_laws.specs.Links.{head_of, comes_after}
+use Rattle.slab_laws.specs.FaceLists.{first_of}
+use Rattle.chain_laws.specs.Links.{comes_after}
 use Rattle.linked_chains.specs.Chains.{Chained, IsWhole, entry_at, chain}
 use Rattle.linked_chains.specs.declared.node.Entry.{Entry}
 use Rattle.curve_history.specs.HistoryInMemory.{entry, item_in, items_along}
@@ -14,7 +15,7 @@ pub record IsAbreast (c : Chained) (k l : ℕ) (at beside : Option ℕ) : Type 0
   pub one : IsCollected c k items at
   pub other : IsCollected c l items beside
 
-pub abreast : (c : Chained) (k l : ℕ) (at beside : Option ℕ) → at ≡ head_of (chain c k) → beside ≡ head_of (chain c l) → IsAbreast c k l at beside
+pub abreast : (c : Chained) (k l : ℕ) (at beside : Option ℕ) → at ≡ first_of (chain c k) → beside ≡ first_of (chain c l) → IsAbreast c k l at beside
 abreast c k l at beside e f = record { items = []; one = collect c k [] at refl e; other = collect c l [] beside refl f }
 
 -- the item that a walk is at comes next

@@ -5,7 +5,8 @@ use Rattle.std.proofs.lemmas.List.{append-nil, append_assoc, map-append}
 use Rattle.plane_graphs.specs.Ascending.{Member}
 use Rattle.plane_graphs.proofs.Lists.{map_same}
 use Rattle.curve_history.specs.Changed.{AreSameKeys, IsPairMore, IsOfEdge, IsPutAt, IsCopied}
-use Rattle.chain_laws.specs.Links.{head_of, comes_after}
+use Rattle.slab_laws.specs.FaceLists.{first_of, AreOnce}
+use Rattle.chain_laws.specs.Links.{comes_after}
 use Rattle.linked_chains.specs.Chains.{Chained, IsWhole, HasKey, HasNode, entry_at, chain}
 use Rattle.linked_chains.specs.declared.node.Entry.{Entry}
 use Rattle.curve_history.specs.HistoryInMemory.{entry, item_in, items_along, IsDescending, AreOrdered, Says, ArePairs}
@@ -13,7 +14,7 @@ use Rattle.curve_history.proofs.Descending.{EndsIn, end_member, put_end}
 use Rattle.curve_history.proofs.Placing.{still_ordered}
 use Rattle.curve_history.proofs.Reading.{node_of}
 use Rattle.curve_history.proofs.Twins.{one_entry}
-use Rattle.curve_history.proofs.Walking.{IsAt, AreApart, at_head, left, left_head, left_apart, left_member, apart, IsStepped, stepped, node_at, says_on, item_is, none_there}
+use Rattle.curve_history.proofs.Walking.{IsAt, at_head, left, left_head, left_apart, left_member, apart, IsStepped, stepped, node_at, says_on, item_is, none_there}
 use Rattle.integers.proofs.Tests.{same_number}
 
 -- a walk on which all nodes passed have a copy at the part
@@ -25,7 +26,7 @@ pub record IsCopying (old new : Chained) (edge part : ℕ) (at : Option ℕ) : T
   pub said : (n : ℕ) → Member n (chain old edge) → Member n (left (chain old edge) at) ⊎ Says new part (item_in old n)
   pub keys : (k : ℕ) → HasKey new k → HasKey old k ⊎ ((i : ℕ) × Says new k i)
 
-pub copy : (old : Chained) (edge part : ℕ) (at : Option ℕ) → at ≡ head_of (chain old edge) → IsCopying old old edge part at
+pub copy : (old : Chained) (edge part : ℕ) (at : Option ℕ) → at ≡ first_of (chain old edge) → IsCopying old old edge part at
 copy old edge part at e = subst (IsCopying old old edge part) (sym e) (record {
   here = at_head (chain old edge);
   chains = λ k ne. refl;
@@ -43,7 +44,7 @@ pub record IsInStep (old new : Chained) (edge part : ℕ) (last at : Option ℕ)
 chain_none : (c : Chained) (k : ℕ) → IsWhole c k → ((i : ℕ) → ¬ Says c k i) → chain c k ≡ []
 chain_none c k w f = none_there (chain c k) (λ n m. let t = node_at c k n w m in f (item_in c n) (record { node = n; twin = t.0; is = t.1 }))
 
-pub first_step : (old : Chained) (edge part : ℕ) (at : Option ℕ) → IsWhole old part → ((i : ℕ) → ¬ Says old part i) → at ≡ head_of (chain old edge) → IsInStep old old edge part None at
+pub first_step : (old : Chained) (edge part : ℕ) (at : Option ℕ) → IsWhole old part → ((i : ℕ) → ¬ Says old part i) → at ≡ first_of (chain old edge) → IsInStep old old edge part None at
 first_step old edge part at w f e =
     let none : chain old part ≡ [] = chain_none old part w f in
     record {
@@ -87,7 +88,7 @@ module _ (old mid new curves : Chained) (edge part n : ℕ) (w : IsWhole old edg
   unfolding rest
   other_item x h q =
       let a = left_apart (chain old edge) (Some n) (apart (chain old edge) w.once) in
-      let b = subst (λ xs. AreApart xs) step.left_is a in
+      let b = subst (λ xs. AreOnce xs) step.left_is a in
       let u = node_at old edge x w (left_member (chain old edge) (comes_after (chain old edge) n) x h) in
       let v = node_at old edge n w p.here in
       let e : x ≡ n = t.once x n edge (item_in old n) u.0 v.0 (subst (λ i. entry_at old x ≡ Some (entry edge i u.0)) q u.1) v.1 in
@@ -220,7 +221,7 @@ all_copied old new edge part at w e ne p =
     }
 
 -- room as it goes
-pub room_first : (room : ℕ) (xs : List ℕ) (at : Option ℕ) → at ≡ head_of xs → room + length (left xs at) ≤ room + length xs
+pub room_first : (room : ℕ) (xs : List ℕ) (at : Option ℕ) → at ≡ first_of xs → room + length (left xs at) ≤ room + length xs
 room_first room xs at e =
     let l : length (left xs at) ≡ length xs = ap (λ o. length (left xs o)) e ∙ ap length (left_head xs) in
     omega arith

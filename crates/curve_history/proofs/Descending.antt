@@ -7,7 +7,8 @@ use Rattle.std.proofs.lemmas.List.{map-append, reverse-append}
 use Rattle.plane_graphs.specs.Ascending.{Member, IsAscending}
 use Rattle.plane_graphs.proofs.Ascending.{All-member}
 use Rattle.plane_graphs.proofs.Lists.{in_map, in_left, in_right, in_either}
-use Rattle.chain_laws.specs.Links.{head_of, comes_after}
+use Rattle.slab_laws.specs.FaceLists.{first_of, follower}
+use Rattle.chain_laws.specs.Links.{comes_after}
 use Rattle.linked_chains.specs.Chains.{put_after}
 use Rattle.linked_chains.proofs.PutAfter.{put_hit, put_miss, put_nowhere, hit_is}
 use Rattle.curve_history.specs.Changed.{next_in, put_at}
@@ -40,17 +41,17 @@ module _ (f : ℕ → ℕ) (p : ℕ → Bool) where
       step false h k = k
 
 -- ---- a number more, in its place
-comes_hit : (x m : ℕ) (xs : List ℕ) → x ≡ m → comes_after (x ∷ xs) m ≡ head_of xs
-unfolding comes_after
+comes_hit : (x m : ℕ) (xs : List ℕ) → x ≡ m → comes_after (x ∷ xs) m ≡ first_of xs
+unfolding comes_after follower
 comes_hit x m xs q = rw (eq-eqb x m q) refl
 
 comes_miss : (x m : ℕ) (xs : List ℕ) → x ≢ m → comes_after (x ∷ xs) m ≡ comes_after xs m
-unfolding comes_after
+unfolding comes_after follower
 comes_miss x m xs h = rw (other_number x m h) refl
 
 module _ (f : ℕ → ℕ) where
   -- where the first is below a bound, all are
-  below_first : (b : ℕ) (xs : List ℕ) → ((y : ℕ) → head_of xs ≡ Some y → f y < b) → IsDescending (map f xs) → AllBelow b (map f xs)
+  below_first : (b : ℕ) (xs : List ℕ) → ((y : ℕ) → first_of xs ≡ Some y → f y < b) → IsDescending (map f xs) → AllBelow b (map f xs)
   below_first b [] h d = tt
   below_first b (x ∷ xs) h d = (h x refl, lower b (f x) (map f xs) (h x refl) d.0)
 

@@ -13,6 +13,7 @@ use Rattle.plane_graphs.proofs.Lists.{in_filter, of_filter, IsAscending-filter, 
 use Rattle.plane_graphs.proofs.Lists as lists
 use Rattle.plane_graphs.proofs.Order.{curve_out, curve_in}
 use Rattle.slab_laws.specs.declared.names.DartId.{DartId}
+use Rattle.slab_laws.specs.FaceLists.{AreOnce}
 use Rattle.slab_laws.specs.declared.present.Piece.{Piece as PieceInMemory}
 use Rattle.curve_history.specs.declared.history.History.TheInside.{Inside}
 use Rattle.slab_laws.specs.Pieces.{piece_of}
@@ -25,7 +26,7 @@ use Rattle.curve_history.proofs.Reading.{row_of, of_row, listed, in_listed, of_l
 use Rattle.curve_history.proofs.Copying.{says_more}
 use Rattle.curve_history.proofs.Descending.{of_reverse, in_reverse, ascends_reverse}
 use Rattle.curve_history.proofs.Twins.{says_there}
-use Rattle.curve_history.proofs.Walking.{AreApart, apart, node_at, says_on}
+use Rattle.curve_history.proofs.Walking.{apart, node_at, says_on}
 use Rattle.integers.proofs.Tests.{nat_exact, other_number}
 
 -- ---- numbers that have a name
@@ -191,13 +192,13 @@ unfolding place
 longer x [] f = refl
 longer x (y ∷ ys) f = not_equal x (place nat_cmp x ys) (nat_cmp x y) y ys refl (λ e. f (inl e)) (longer x ys (λ m. f (inr m)))
 
-pub same_length : (xs : List ℕ) → AreApart xs → length (ascending nat_cmp xs) ≡ length xs
+pub same_length : (xs : List ℕ) → AreOnce xs → length (ascending nat_cmp xs) ≡ length xs
 unfolding ascending
 same_length [] a = refl
 same_length (x ∷ xs) a = longer x (ascending nat_cmp xs) (λ m. a.0 (lists.of_ascending nat_cmp nat_cmp_total nat_exact x xs m)) ∙ ap suc (same_length xs a.1)
 
 module _ (e c : Chained) (t : ArePairs e c) (k : ℕ) (w : IsWhole e k) where
-  items_apart : (ns : List ℕ) → ((n : ℕ) → Member n ns → Member n (chain e k)) → AreApart ns → AreApart (map (item_in e) ns)
+  items_apart : (ns : List ℕ) → ((n : ℕ) → Member n ns → Member n (chain e k)) → AreOnce ns → AreOnce (map (item_in e) ns)
   items_apart [] f a = tt
   items_apart (n ∷ ns) f a = (differs, items_apart ns (λ m h. f m (inr h)) a.1)
     where
@@ -209,7 +210,7 @@ module _ (e c : Chained) (t : ArePairs e c) (k : ℕ) (w : IsWhole e k) where
           let q : m.0 ≡ n = t.once m.0 n k (item_in e n) v.0 u.0 (subst (λ i. entry_at e m.0 ≡ Some (entry k i v.0)) (sym m.2) v.1) u.1 in
           a.0 (subst (λ x. Member x ns) q m.1)
 
-  pub items_differ : AreApart (map (item_in e) (chain e k))
+  pub items_differ : AreOnce (map (item_in e) (chain e k))
   items_differ = items_apart (chain e k) (λ n m. m) (apart (chain e k) w.once)
 
 -- the curves along an edge are what its chain's nodes say, from the last to the first

@@ -15,6 +15,7 @@ use Rattle.slab_laws.specs.declared.names.DartId.{DartId}
 use Rattle.slab_laws.specs.Tables.{row_at, names}
 use Rattle.slab_laws.specs.View.{dart_id}
 use Rattle.slab_laws.specs.declared.names.CurveId.{CurveId}
+use Rattle.slab_laws.specs.FaceLists.{AreOnce}
 use Rattle.slab_laws.specs.Pieces.{piece_of}
 use Rattle.curve_history.proofs.Descending.{ascends_snoc, map_reverse}
 use Rattle.curve_history.proofs.Numbers.{fits}
@@ -29,7 +30,7 @@ use Rattle.curve_history.proofs.Histories.{IsSeen, has_name, has_of_named, named
 use Rattle.curve_history.specs.Changed.{IsRoomier}
 use Rattle.curve_history.proofs.Placing.{ordered_roomier}
 use Rattle.curve_history.proofs.Twins.{one_entry, twins_with_key, says_there}
-use Rattle.curve_history.proofs.Walking.{AreApart, apart, node_at, item_is, none_there}
+use Rattle.curve_history.proofs.Walking.{apart, node_at, item_is, none_there}
 use Rattle.integers.proofs.Tests.{less_nat, other_number}
 
 -- ---- lists of numbers
@@ -172,7 +173,7 @@ same_number : {X : Type 0} (f : X → ℕ) (x : X) (ys : List X) → (Member (f 
 same_number f x [] g = tt
 same_number f x (y ∷ ys) g = (other_number (f x) (f y) (λ e. g (inl e)), same_number f x ys (λ m. g (inr m)))
 
-pub differ_by : {X : Type 0} (f : X → ℕ) (xs : List X) → AreApart (map f xs) → IsDistinct (λ a b. f a == f b) xs
+pub differ_by : {X : Type 0} (f : X → ℕ) (xs : List X) → AreOnce (map f xs) → IsDistinct (λ a b. f a == f b) xs
 unfolding IsDistinct
 differ_by f [] a = tt
 differ_by f (x ∷ xs) a = (same_number f x xs a.0, differ_by f xs a.1)
@@ -180,7 +181,7 @@ differ_by f (x ∷ xs) a = (same_number f x xs a.0, differ_by f xs a.1)
 -- the edges that a curve's nodes say
 module _ (i : Inside) (old : Past) (v : IsSeen i old) (t : ArePairs i.by_edge i.by_curve) (k : ℕ) (w : IsWhole i.by_curve k) (ds : List DartId) (h : map (λ (d : DartId). d.0) ds ≡ map (item_in i.by_curve) (chain i.by_curve k)) where
   pub edges_once : IsDistinct (λ a b. a.0 == b.0) ds
-  edges_once = differ_by (λ (d : DartId). d.0) ds (subst AreApart (sym h) (items_differ i.by_curve i.by_edge (flip_pairs i.by_edge i.by_curve t) k w))
+  edges_once = differ_by (λ (d : DartId). d.0) ds (subst AreOnce (sym h) (items_differ i.by_curve i.by_edge (flip_pairs i.by_edge i.by_curve t) k w))
 
   runs : (d : DartId) → Contains ds d → Member k (curves_on old d)
   runs d m =

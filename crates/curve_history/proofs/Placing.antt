@@ -6,7 +6,8 @@ use Rattle.plane_graphs.specs.Ascending.{Member}
 use Rattle.plane_graphs.proofs.Ascending.{from_member}
 use Rattle.plane_graphs.proofs.Lists.{of_filter, map_same, not_out, clash}
 use Rattle.slab_laws.specs.Tables.{row_at}
-use Rattle.chain_laws.specs.Links.{trail, first_or, head_of, comes_after}
+use Rattle.slab_laws.specs.FaceLists.{first_of, AreOnce}
+use Rattle.chain_laws.specs.Links.{trail, first_or, comes_after}
 use Rattle.linked_chains.specs.Chains.{Chained, Link, IsWhole, HasNode, entry_at, chain, put_after}
 use Rattle.linked_chains.specs.declared.node.Entry.{Entry}
 use Rattle.linked_chains.proofs.PutAfter.{put_absent}
@@ -14,17 +15,17 @@ use Rattle.curve_history.specs.Changed.{IsPairMore, IsOfEdge, IsLastAbove, IsPut
 use Rattle.curve_history.specs.HistoryInMemory.{entry, item_in, item_or, items_along, IsDescending, AreOrdered, Says}
 use Rattle.curve_history.proofs.Descending.{descends_filter, descends_at}
 use Rattle.curve_history.proofs.Twins.{IsNodeMore, IsNodeLess, same_entries}
-use Rattle.curve_history.proofs.Walking.{IsAt, AreApart, at_head, apart, stepped, node_at, at_node, item_is}
+use Rattle.curve_history.proofs.Walking.{IsAt, at_head, apart, stepped, node_at, at_node, item_is}
 
 -- ---- the walk to the place
 pub record IsClimbed (c : Chained) (k i : ℕ) (last at : Option ℕ) : Type 0 where
   pub above : (n : ℕ) → last ≡ Some n → Member n (chain c k) × (i < item_in c n)
   pub next : at ≡ next_in (chain c k) last
 
-pub climb : (c : Chained) (k i : ℕ) (at : Option ℕ) → at ≡ head_of (chain c k) → IsClimbed c k i None at
+pub climb : (c : Chained) (k i : ℕ) (at : Option ℕ) → at ≡ first_of (chain c k) → IsClimbed c k i None at
 climb c k i at e = record { above = λ n h. absurd cc; next = e }
 
-next_at : (xs : List ℕ) (last : Option ℕ) → AreApart xs → ((n : ℕ) → last ≡ Some n → Member n xs) → IsAt xs (next_in xs last)
+next_at : (xs : List ℕ) (last : Option ℕ) → AreOnce xs → ((n : ℕ) → last ≡ Some n → Member n xs) → IsAt xs (next_in xs last)
 next_at xs None a f = at_head xs
 next_at xs (Some n) a f = (stepped xs n a (f n refl)).at
 

@@ -7,33 +7,34 @@ use Rattle.plane_graphs.specs.Graph.{same_curve}
 use Rattle.plane_graphs.proofs.Lists.{any_in, any_out, not_in, not_out, decide, clash}
 use Rattle.plane_graphs.proofs.Order.{curve_in, curve_out}
 use Rattle.slab_laws.specs.declared.names.DartId.{DartId}
-use Rattle.chain_laws.specs.Links.{head_of, comes_after}
+use Rattle.slab_laws.specs.FaceLists.{first_of, AreOnce}
+use Rattle.chain_laws.specs.Links.{comes_after}
 use Rattle.linked_chains.specs.Chains.{Chained, IsWhole, entry_at, chain}
 use Rattle.linked_chains.specs.declared.node.Entry.{Entry}
 use Rattle.curve_history.specs.declared.history.History.TheInside.{Inside}
 use Rattle.curve_history.specs.HistoryInMemory.{entry, item_in, Says}
 use Rattle.curve_history.specs.Past.{Past, curves_on}
 use Rattle.curve_history.proofs.Histories.{IsSeen, says_held, held_says}
-use Rattle.curve_history.proofs.Walking.{IsAt, at_head, AreApart, apart, left, left_head, IsStepped, stepped, item_is, node_at, says_on}
+use Rattle.curve_history.proofs.Walking.{IsAt, at_head, apart, left, left_head, IsStepped, stepped, item_is, node_at, says_on}
 use Rattle.integers.proofs.Tests.{not_true}
 
 -- what is left from a member on begins with it
-from_it : (xs : List ℕ) (n : ℕ) → AreApart xs → Member n xs → Member n (left xs (Some n))
+from_it : (xs : List ℕ) (n : ℕ) → AreOnce xs → Member n xs → Member n (left xs (Some n))
 from_it xs n a m = subst (λ ys. Member n ys) (sym (stepped xs n a m).left_is) (inl refl)
 
 -- from the first on, all is left
-all_left : (xs : List ℕ) (n : ℕ) → head_of xs ≡ Some n → left xs (Some n) ≡ xs
+all_left : (xs : List ℕ) (n : ℕ) → first_of xs ≡ Some n → left xs (Some n) ≡ xs
 all_left xs n h = subst (λ o. left xs o ≡ xs) h (left_head xs)
 
 -- the second is not the first
-differs : (xs : List ℕ) (n m : ℕ) → AreApart xs → head_of xs ≡ Some n → comes_after xs n ≡ Some m → Member m xs → Member n xs → n ≢ m
+differs : (xs : List ℕ) (n m : ℕ) → AreOnce xs → first_of xs ≡ Some n → comes_after xs n ≡ Some m → Member m xs → Member n xs → n ≢ m
 differs xs n m a h f there here e =
     let g : IsStepped xs n = stepped xs n a here in
     let is : xs ≡ n ∷ left xs (Some m) = sym (all_left xs n h) ∙ g.left_is ∙ ap (λ o. n ∷ left xs o) f in
-    (subst AreApart is a).0 (subst (λ z. Member z (left xs (Some m))) (sym e) (from_it xs m a there))
+    (subst AreOnce is a).0 (subst (λ z. Member z (left xs (Some m))) (sym e) (from_it xs m a there))
 
 -- with no second, the first is all
-alone : (xs : List ℕ) (n : ℕ) → AreApart xs → head_of xs ≡ Some n → comes_after xs n ≡ None → Member n xs → xs ≡ n ∷ []
+alone : (xs : List ℕ) (n : ℕ) → AreOnce xs → first_of xs ≡ Some n → comes_after xs n ≡ None → Member n xs → xs ≡ n ∷ []
 unfolding left
 alone xs n a h f here = sym (all_left xs n h) ∙ (stepped xs n a here).left_is ∙ ap (λ o. n ∷ left xs o) f
 
@@ -41,11 +42,11 @@ one_only : (m n : ℕ) → Member m (n ∷ []) → m ≡ n
 one_only m n (inl e) = e
 one_only m n (inr x) = absurd x
 
-module _ (c : Chained) (k n : ℕ) (e : Entry) (first : Option ℕ) (w : IsWhole c k) (h : first ≡ head_of (chain c k)) (b : first ≡ Some n) (q : entry_at c n ≡ Some e) where
+module _ (c : Chained) (k n : ℕ) (e : Entry) (first : Option ℕ) (w : IsWhole c k) (h : first ≡ first_of (chain c k)) (b : first ≡ Some n) (q : entry_at c n ≡ Some e) where
   here : Member n (chain c k)
   here = subst (IsAt (chain c k)) (sym h ∙ b) (at_head (chain c k))
 
-  at_first : head_of (chain c k) ≡ Some n
+  at_first : first_of (chain c k) ≡ Some n
   at_first = sym h ∙ b
 
   says_item : (m : ℕ) → Member m (chain c k) → Says c k (item_in c m)

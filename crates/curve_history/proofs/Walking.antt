@@ -2,11 +2,12 @@
 use Rattle.std.proofs.Common.{◌≡◌, ◌≢◌, ◌⊎◌, ⊎_elim, inl, inr, ℕ, suc, ◌+◌, ◌<◌, ◌==◌, cond, not, Bool, true, false, List, [], ◌∷◌, ◌++◌, length, map, Option, Some, None, is_some, Contains, refl, sym, ap, subst, ◌∙◌, arith, append_assoc}
 use Rattle.std.proofs.lemmas.Bool.{cases_eq, eq-eqb, false≢true}
 use Rattle.std.proofs.lemmas.List.{append-nil, map-append}
-use Rattle.std.proofs.lemmas.Map.Keys.{IsDistinct-head, IsDistinct-tail}
-use Rattle.std.specs.List.{IsDistinct, AllByRecursion}
+use Rattle.std.specs.List.{IsDistinct}
 use Rattle.plane_graphs.specs.Ascending.{Member}
 use Rattle.plane_graphs.proofs.Ascending.{to_member, from_member}
-use Rattle.chain_laws.specs.Links.{head_of, comes_after}
+use Rattle.slab_laws.specs.FaceLists.{first_of, follower, AreOnce}
+use Rattle.chain_laws.specs.Links.{comes_after}
+use Rattle.chain_laws.proofs.Distinct.{IsOnce, once_from_distinct}
 use Rattle.linked_chains.specs.Chains.{Chained, IsWhole, HasKey, HasNode, entry_at, chain}
 use Rattle.linked_chains.specs.declared.node.Entry.{Entry}
 use Rattle.curve_history.specs.HistoryInMemory.{entry, item_in, item_or, Says, AreFilled}
@@ -15,18 +16,18 @@ use Rattle.curve_history.proofs.Twins.{says_there}
 use Rattle.integers.proofs.Tests.{other_number, same_number}
 
 -- ---- the first node
-pub none_first : (xs : List ℕ) → is_some (head_of xs) ≡ false → xs ≡ []
+pub none_first : (xs : List ℕ) → is_some (first_of xs) ≡ false → xs ≡ []
 none_first [] h = refl
 none_first (x ∷ xs) h = absurd cc
 
 -- as the code asks for it
-pub none_from : (xs : List ℕ) (o : Option ℕ) (b : Bool) → o ≡ head_of xs → is_some o ≡ not b → b ≡ true → xs ≡ []
+pub none_from : (xs : List ℕ) (o : Option ℕ) (b : Bool) → o ≡ first_of xs → is_some o ≡ not b → b ≡ true → xs ≡ []
 none_from xs o b e h t = none_first xs (ap is_some (sym e) ∙ h ∙ ap not t)
 
-pub some_from : (xs : List ℕ) (o : Option ℕ) (b : Bool) → o ≡ head_of xs → is_some o ≡ not b → b ≡ false → is_some (head_of xs) ≡ true
+pub some_from : (xs : List ℕ) (o : Option ℕ) (b : Bool) → o ≡ first_of xs → is_some o ≡ not b → b ≡ false → is_some (first_of xs) ≡ true
 some_from xs o b e h t = ap is_some (sym e) ∙ h ∙ ap not t
 
-some_first : (xs : List ℕ) → is_some (head_of xs) ≡ true → (x : ℕ) × Contains xs x
+some_first : (xs : List ℕ) → is_some (first_of xs) ≡ true → (x : ℕ) × Contains xs x
 some_first [] h = absurd (false≢true h)
 some_first (x ∷ xs) h = (x, from_member (x ∷ xs) x (inl refl))
 
@@ -36,14 +37,14 @@ says_in c k n w m =
     let e = (w.members n).0 m in
     (e.0.item, e.0.twin, subst (λ x. entry_at c n ≡ Some (entry x e.0.item e.0.twin)) e.2 e.1)
 
-pub says_first : (c : Chained) (k : ℕ) → IsWhole c k → is_some (head_of (chain c k)) ≡ true → (i : ℕ) × Says c k i
+pub says_first : (c : Chained) (k : ℕ) → IsWhole c k → is_some (first_of (chain c k)) ≡ true → (i : ℕ) × Says c k i
 says_first c k w h =
     let n = some_first (chain c k) h in
     let s = says_in c k n.0 w n.1 in
     (s.0, record { node = n.0; twin = s.1; is = s.2 })
 
 -- all keys have nodes where all but one have
-pub filled_all : (c : Chained) (edge : ℕ) → ((k : ℕ) → k ≢ edge → HasKey c k → (i : ℕ) × Says c k i) → IsWhole c edge → is_some (head_of (chain c edge)) ≡ true → AreFilled c
+pub filled_all : (c : Chained) (edge : ℕ) → ((k : ℕ) → k ≢ edge → HasKey c k → (i : ℕ) × Says c k i) → IsWhole c edge → is_some (first_of (chain c edge)) ≡ true → AreFilled c
 filled_all c edge f w h = record {
   key = λ k m. elim (cases_eq k edge) [
     | inl e ↦ subst (λ x. (i : ℕ) × Says c x i) (sym e) (says_first c edge w h)
@@ -65,25 +66,19 @@ abbrev pub IsAt : List ℕ → Option ℕ → Type 0
 IsAt xs None = Unit {0}
 IsAt xs (Some n) = Member n xs
 
+members_once : (xs : List ℕ) → IsOnce xs → AreOnce xs
+members_once [] o = tt
+members_once (x ∷ xs) o = (λ m. o.0 (from_member xs x m), members_once xs o.1)
+
 -- no number stands twice
-abbrev pub AreApart : List ℕ → Type 0
-AreApart [] = Unit {0}
-AreApart (x ∷ xs) = (Member x xs → ⊥) × AreApart xs
+pub apart : (xs : List ℕ) → IsDistinct ◌==◌ xs → AreOnce xs
+apart xs d = members_once xs (once_from_distinct xs d)
 
-all_apart : (x : ℕ) (xs : List ℕ) → AllByRecursion (λ y. (x == y) ≡ false) xs → Member x xs → ⊥
-all_apart x [] a m = m
-all_apart x (y ∷ ys) a (inl e) = false≢true (sym a.0 ∙ eq-eqb x y e)
-all_apart x (y ∷ ys) a (inr m) = all_apart x ys a.1 m
-
-pub apart : (xs : List ℕ) → IsDistinct ◌==◌ xs → AreApart xs
-apart [] d = tt
-apart (x ∷ xs) d = (all_apart x xs (IsDistinct-head ◌==◌ x xs d), apart xs (IsDistinct-tail ◌==◌ x xs d))
-
-pub at_head : (xs : List ℕ) → IsAt xs (head_of xs)
+pub at_head : (xs : List ℕ) → IsAt xs (first_of xs)
 at_head [] = tt
 at_head (x ∷ xs) = inl refl
 
-pub left_head : (xs : List ℕ) → left xs (head_of xs) ≡ xs
+pub left_head : (xs : List ℕ) → left xs (first_of xs) ≡ xs
 unfolding left
 left_head [] = refl
 left_head (x ∷ xs) = rw (same_number x) refl
@@ -102,13 +97,13 @@ pub record IsStepped (xs : List ℕ) (n : ℕ) : Type 0 where
   pub at : IsAt xs (comes_after xs n)
   pub left_is : left xs (Some n) ≡ n ∷ left xs (comes_after xs n)
 
-pub stepped : (xs : List ℕ) (n : ℕ) → AreApart xs → Member n xs → IsStepped xs n
-unfolding left comes_after
+pub stepped : (xs : List ℕ) (n : ℕ) → AreOnce xs → Member n xs → IsStepped xs n
+unfolding left comes_after follower
 stepped [] n a m = absurd m
 stepped (x ∷ xs) n a m = elim (cases_eq x n) [
   | inl e ↦ record {
-    at = rw (eq-eqb x n e) (at_later x xs (head_of xs) (at_head xs));
-    left_is = rw (eq-eqb x n e) (subst (λ z. x ∷ xs ≡ z ∷ left (x ∷ xs) (head_of xs)) e (ap (λ zs. x ∷ zs) (sym (left_later x xs (head_of xs) a.0 (at_head xs) ∙ left_head xs))));
+    at = rw (eq-eqb x n e) (at_later x xs (first_of xs) (at_head xs));
+    left_is = rw (eq-eqb x n e) (subst (λ z. x ∷ xs ≡ z ∷ left (x ∷ xs) (first_of xs)) e (ap (λ zs. x ∷ zs) (sym (left_later x xs (first_of xs) a.0 (at_head xs) ∙ left_head xs))));
   }
   | inr ne ↦ record {
     at = rw (other_number x n ne) (at_later x xs (comes_after xs n) (stepped xs n a.1 (beyond m ne)).at);
@@ -130,7 +125,7 @@ left_member (x ∷ xs) (Some k) n m = elim (cases_eq x k) [
   | inr ne ↦ inr (left_member xs (Some k) n (rw (other_number x k ne) at m))
 ]
 
-pub left_apart : (xs : List ℕ) (at : Option ℕ) → AreApart xs → AreApart (left xs at)
+pub left_apart : (xs : List ℕ) (at : Option ℕ) → AreOnce xs → AreOnce (left xs at)
 unfolding left
 left_apart xs None a = tt
 left_apart [] (Some k) a = tt
@@ -164,7 +159,7 @@ pub record IsSought (c : Chained) (k i : ℕ) (at : Option ℕ) : Type 0 where
   pub here : IsAt (chain c k) at
   pub rest : (n : ℕ) → Member n (chain c k) → item_in c n ≡ i → Member n (left (chain c k) at)
 
-pub seek : (c : Chained) (k i : ℕ) (at : Option ℕ) → at ≡ head_of (chain c k) → IsSought c k i at
+pub seek : (c : Chained) (k i : ℕ) (at : Option ℕ) → at ≡ first_of (chain c k) → IsSought c k i at
 seek c k i at e = subst (IsSought c k i) (sym e) (record {
   here = at_head (chain c k);
   rest = λ n m q. subst (λ xs. Member n xs) (sym (left_head (chain c k))) m;
@@ -212,7 +207,7 @@ pub record IsCollected (c : Chained) (k : ℕ) (items : List ℕ) (at : Option �
   pub here : IsAt (chain c k) at
   pub rest : items ++ map (item_in c) (left (chain c k) at) ≡ map (item_in c) (chain c k)
 
-pub collect : (c : Chained) (k : ℕ) (items : List ℕ) (at : Option ℕ) → items ≡ [] → at ≡ head_of (chain c k) → IsCollected c k items at
+pub collect : (c : Chained) (k : ℕ) (items : List ℕ) (at : Option ℕ) → items ≡ [] → at ≡ first_of (chain c k) → IsCollected c k items at
 collect c k items at i e = subst (λ is. IsCollected c k is at) (sym i) (subst (IsCollected c k []) (sym e) (record {
   here = at_head (chain c k);
   rest = ap (map (item_in c)) (left_head (chain c k));
@@ -256,8 +251,8 @@ pub record IsCounted (c : Chained) (k count : ℕ) (at : Option ℕ) : Type 0 wh
   pub here : IsAt (chain c k) at
   pub rest : count + length (left (chain c k) at) ≡ length (chain c k)
 
-pub count_first : (c : Chained) (k : ℕ) (at : Option ℕ) → at ≡ head_of (chain c k) → IsCounted c k 0 at
-count_first c k at e = subst (IsCounted c k 0) (sym e) (record { here = at_head (chain c k); rest = let q : length (left (chain c k) (head_of (chain c k))) ≡ length (chain c k) = ap length (left_head (chain c k)) in omega arith })
+pub count_first : (c : Chained) (k : ℕ) (at : Option ℕ) → at ≡ first_of (chain c k) → IsCounted c k 0 at
+count_first c k at e = subst (IsCounted c k 0) (sym e) (record { here = at_head (chain c k); rest = let q : length (left (chain c k) (first_of (chain c k))) ≡ length (chain c k) = ap length (left_head (chain c k)) in omega arith })
 
 pub count_on : (c : Chained) (k n count more : ℕ) (before at : Option ℕ) → IsWhole c k → before ≡ Some n → IsCounted c k count before → more ≡ count + 1 → ((e : Entry) → entry_at c n ≡ Some e → at ≡ comes_after (chain c e.key) n) → IsCounted c k more at
 count_on c k n count more before at w b s m f =

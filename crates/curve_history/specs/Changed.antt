@@ -2,7 +2,8 @@
 use Rattle.std.specs.Prelude.{◌≡◌, ◌≢◌, ◌⊎◌, ◌↔◌, ◌<◌, ◌≤◌, ◌==◌, ℕ, List, ◌∷◌, not, Option, Some, None}
 use Rattle.std.specs.List.{filter}
 use Rattle.plane_graphs.specs.Ascending.{Member}
-use Rattle.chain_laws.specs.Links.{head_of, comes_after}
+use Rattle.slab_laws.specs.FaceLists.{first_of}
+use Rattle.chain_laws.specs.Links.{comes_after}
 use Rattle.linked_chains.specs.Chains.{Chained, HasKey, entry_at, chain, put_after}
 use Rattle.linked_chains.specs.declared.node.Entry.{Entry}
 use Rattle.curve_history.specs.HistoryInMemory.{Says, entry, item_in}
@@ -27,7 +28,7 @@ IsOfEdge c edge last = (n : ℕ) → last ≡ Some n → Member n (chain c edge)
 
 -- the first of the list, or the one directly after another one
 abbrev pub next_in : List ℕ → Option ℕ → Option ℕ
-next_in xs None = head_of xs
+next_in xs None = first_of xs
 next_in xs (Some m) = comes_after xs m
 
 -- the list with n put first, or directly after another one

@@ -16,14 +16,15 @@ use Rattle.arr_notes.proofs.RowLaws.{row_at-put, ascend-put, one_table}
 use Rattle.arr_notes.proofs.PairReads.{pair_is_added}
 use Rattle.arr_notes.proofs.Reading.{vertex_number}
 use Rattle.arr_notes.proofs.Names.{cases_vertex}
+use Rattle.chain_laws.specs.Rows.{tabled}
+use Rattle.chain_laws.proofs.Tabled.{row-tabled, ascend-tabled}
 use Rattle.dcel_records.specs.declared.rows.StoredVertex.{StoredVertex}
 use Rattle.dcel_records.specs.declared.rows.StoredDart.{StoredDart}
 use Rattle.dcel_records.specs.Edges.{lone_dart, with_edge}
 use Rattle.dcel_records.specs.Given.{given}
 use Rattle.dcel_records.specs.RecordsView.{GraphView}
-use Rattle.dcel_records.specs.StoredRows.{tabled, vertex_of, dart_of, graph_in, graph_view, out_or, out_at, AreSoundRows}
+use Rattle.dcel_records.specs.StoredRows.{vertex_of, dart_of, graph_in, graph_view, out_or, out_at, AreSoundRows}
 use Rattle.dcel_records.specs.Outs.{IsOut}
-use Rattle.dcel_records.proofs.Tabled.{row-tabled, ascend-tabled}
 use Rattle.dcel_records.proofs.Twins.{twinned_more}
 use Rattle.dcel_records.proofs.Leaving.{more_apart, more_first, more_second, more_both}
 use Rattle.dcel_records.proofs.Holding.{vertices_are, darts_are, twinned, outs, dart_vacant}

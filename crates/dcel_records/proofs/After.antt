@@ -3,11 +3,12 @@ use Rattle.std.proofs.Common.{◌≡◌, ℕ, ◌+◌, ◌<◌, true, List, [], 
 use Rattle.slab.specs.Slab.{Slab, get, entries, entries_from}
 use Rattle.slab_laws.specs.Tables.{names, is_after, name_after}
 use Rattle.slab_laws.specs.View.{VertexRecord, DartRecord}
+use Rattle.chain_laws.specs.Rows.{tabled}
+use Rattle.chain_laws.proofs.Tabled.{row-tabled, ascend-tabled}
 use Rattle.dcel_records.specs.declared.rows.StoredVertex.{StoredVertex}
 use Rattle.dcel_records.specs.declared.rows.StoredDart.{StoredDart}
 use Rattle.dcel_records.specs.RecordsView.{GraphView}
-use Rattle.dcel_records.specs.StoredRows.{tabled, vertex_of, dart_of, graph_view}
-use Rattle.dcel_records.proofs.Tabled.{row-tabled, ascend-tabled}
+use Rattle.dcel_records.specs.StoredRows.{vertex_of, dart_of, graph_view}
 use Rattle.dcel_records.proofs.Holding.{vertices_are, darts_are}
 use Rattle.arr_notes.proofs.NamedTables.{none_after, least_after}
 

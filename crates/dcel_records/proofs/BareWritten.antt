@@ -14,8 +14,10 @@ use Rattle.slab_laws.specs.Tables.{row_at, names}
 use Rattle.slab_laws.specs.View.{Faces, HasBareFace, cycle_id, vertex_id, face_id}
 use Rattle.arr_notes.specs.FaceWriters.{bare_in, not_bare}
 use Rattle.arr_notes.proofs.RowLaws.{one_table}
-use Rattle.chain_laws.specs.Links.{Node, first_or, key_at}
+use Rattle.chain_laws.specs.Links.{Node, first_or, key_at, without}
 use Rattle.chain_laws.proofs.Distinct.{without_absent}
+use Rattle.chain_laws.specs.Rows.{tabled}
+use Rattle.chain_laws.proofs.Tabled.{row-tabled, ascend-tabled}
 use Rattle.dcel_records.specs.declared.rows.Place.{Place}
 use Rattle.dcel_records.specs.declared.rows.StoredCycle.{StoredCycle}
 use Rattle.dcel_records.specs.declared.rows.StoredDart.{StoredDart}
@@ -23,14 +25,13 @@ use Rattle.dcel_records.specs.declared.rows.StoredFace.{StoredFace}
 use Rattle.dcel_records.specs.declared.rows.StoredVertex.{StoredVertex}
 use Rattle.dcel_records.specs.ListChanges.{vertex_listed, vertex_unlisted, vertex_relisted}
 use Rattle.dcel_records.specs.Outs.{IsOut}
-use Rattle.dcel_records.specs.Placing.{cycle_placing, vertex_placing, place_node, node_or, nodes, heads, own, AreChained, AreOthersChained, all_but, without, rest_of, rest_of_face, IsRelinked, IsUnlinked, IsLinkedFirst}
+use Rattle.dcel_records.specs.Placing.{cycle_placing, vertex_placing, place_node, node_or, nodes, heads, own, AreChained, AreOthersChained, all_but, rest_of, rest_of_face, IsRelinked, IsUnlinked, IsLinkedFirst}
 use Rattle.dcel_records.specs.RecordsView.{RecordsView, GraphView, tables_of, graph_part}
-use Rattle.dcel_records.specs.StoredRows.{tabled, vertex_of, cycle_record, dart_kept, graph_in, graph_view, tables_in, lists_in, records_view, out_or, out_at, pins_among, AreSoundGraphs, AreSoundFaces, HasLeft}
+use Rattle.dcel_records.specs.StoredRows.{vertex_of, cycle_record, dart_kept, graph_in, graph_view, tables_in, lists_in, records_view, out_or, out_at, pins_among, AreSoundGraphs, AreSoundFaces, HasLeft}
 use Rattle.dcel_records.proofs.Chained.{own_list, own_same, chained_same, others_chained, more_own, fewer_chained, fewer_own, moved_own}
 use Rattle.dcel_records.proofs.FaceTables.{bare_seen, bare_put, bare_del, bare_same, names_same}
 use Rattle.dcel_records.proofs.FacesKept.{nodes_updated}
 use Rattle.dcel_records.proofs.Relinked.{through, some_same, node_none, map_without, map_cond, nodes_left, tables_after}
-use Rattle.dcel_records.proofs.Tabled.{row-tabled, ascend-tabled}
 use Rattle.dcel_records.proofs.Removing.{len_written}
 use Rattle.dcel_records.proofs.Writing.{kept_by}
 

@@ -1,37 +1,21 @@
 -- The names in the chain of each face, read from rows and firsts, and what they are after each change of a chain.
-use Rattle.std.proofs.Common.{◌≡◌, ◌≢◌, inl, inr, ℕ, ◌≤◌, ◌==◌, Bool, true, false, cond, List, [], ◌∷◌, length, Option, Some, None, is_some, IsSome, option_map, refl, sym, ap, subst, ◌∙◌, arith, Contains}
+use Rattle.std.proofs.Common.{◌≡◌, ◌≢◌, inl, inr, ℕ, ◌≤◌, ◌==◌, cond, List, [], ◌∷◌, length, Option, Some, None, IsSome, option_map, refl, sym, ap, subst, ◌∙◌}
 use Rattle.std.specs.List.{IsDistinct}
-use Rattle.std.proofs.lemmas.Bool.{cases_eq, false≢true, eqb-true}
-use Rattle.std.proofs.Math.ListN.{length-map}
+use Rattle.std.proofs.lemmas.Bool.{cases_eq}
 use Rattle.integers.proofs.Tests.{other_number, same_number}
-use Rattle.plane_graphs.proofs.Lists.{some_mapped}
-use Rattle.slab.specs.Slab.{Slab, get, entries, ContainsKey}
+use Rattle.slab.proofs.SlabLemmas.{length-entries}
+use Rattle.slab.specs.Slab.{Slab, get, entries}
 use Rattle.slab_laws.specs.declared.names.FaceId.{FaceId}
-use Rattle.slab_laws.specs.Tables.{row_at, names}
-use Rattle.chain_laws.specs.Links.{Node, first_or, trail, head_of, comes_after, after_at, key_at, IsListed, AreListed}
-use Rattle.chain_laws.proofs.Changes.{key_some}
-use Rattle.chain_laws.proofs.Distinct.{here, there, nowhere, once_from_distinct, no_more}
+use Rattle.slab_laws.specs.FaceLists.{first_of}
+use Rattle.chain_laws.specs.Links.{Node, first_or, trail, comes_after, after_at, key_at, IsListed, AreListed, without}
+use Rattle.chain_laws.proofs.Distinct.{nowhere, once_from_distinct}
 use Rattle.chain_laws.proofs.Linked.{head_is, trail_is, after_is}
 use Rattle.chain_laws.proofs.Listed.{listed_heads}
+use Rattle.chain_laws.proofs.Tabled.{listed_within}
 use Rattle.dcel_records.specs.declared.rows.Place.{Place}
 use Rattle.dcel_records.specs.declared.rows.StoredFace.{StoredFace}
-use Rattle.dcel_records.specs.Placing.{Placing, place_node, node_or, nodes, heads, own, AreChained, AreOthersChained, all_but, without, IsUnlinked, IsLinkedFirst}
-use Rattle.dcel_records.proofs.Tabled.{row-tabled}
-use Rattle.dcel_records.proofs.After.{names_tabled}
+use Rattle.dcel_records.specs.Placing.{Placing, place_node, node_or, nodes, heads, own, AreChained, AreOthersChained, all_but, IsUnlinked, IsLinkedFirst}
 use Rattle.dcel_records.proofs.Places.{node_row}
-
--- a name with a row is among the names
-row_named : {X : Type 0} (rs : List (ℕ × X)) (n : ℕ) → IsSome (row_at rs n) → Contains (names rs) n
-unfolding row_at
-row_named [] n h = absurd (false≢true h)
-row_named (r ∷ rs) n h = step (r.0 == n) refl h (λ k. there r.0 n (names rs) (row_named rs n k))
-  where
-    step : (b : Bool) → (r.0 == n) ≡ b → IsSome (cond b (Some r.1) (row_at rs n)) → (IsSome (row_at rs n) → Contains (names (r ∷ rs)) n) → Contains (names (r ∷ rs)) n
-    step true e k f = subst (Contains (names (r ∷ rs))) (eqb-true r.0 n e) (here r.0 (names rs))
-    step false e k f = f k
-
-pub key_named : {X : Type 0} (s : Slab X) (n : ℕ) → ContainsKey s n → Contains (names (entries s)) n
-key_named s n h = subst (λ ns. Contains ns n) (names_tabled (λ x. x) s) (row_named _ n (ap is_some (row-tabled (λ x. x) s n) ∙ some_mapped (λ x. x) (get s n) ∙ h))
 
 trail_none : (after : ℕ → Option ℕ) (steps : ℕ) → trail after steps None ≡ []
 unfolding trail
@@ -39,12 +23,7 @@ trail_none after steps = refl
 
 module _ {R : Type 0} (g : Placing R) where
   fits : (rs : Slab R) (f : Option ℕ) (k : ℕ) (xs : List ℕ) → IsListed (nodes g rs) f k xs → length xs ≤ length (entries rs)
-  fits rs f k xs l =
-      let most : length xs ≤ length (names (entries rs)) = no_more xs (names (entries rs)) (once_from_distinct xs l.once) (λ n c.
-      let y = key_some (nodes g rs) n k ((l.members n).0 c) in
-      key_named rs n (node_row g rs n (ap is_some y.1))) in
-      let a : length (names (entries rs)) ≡ length (entries rs) = length-map (entries rs) _ in
-      omega (arith, most, a)
+  fits rs f k xs l = subst (λ m. length xs ≤ m) (sym (length-entries rs)) (listed_within rs (nodes g rs) (node_row g rs) f k xs l)
 
   -- the names in the chain of a face are its list
   pub own_seen : (rs : Slab R) (fs : Slab StoredFace) (k : ℕ) (xs : List ℕ) → IsListed (nodes g rs) (first_or (heads g fs k)) k xs → own g rs fs k ≡ xs
@@ -65,7 +44,7 @@ module _ {R : Type 0} (g : Placing R) where
     pub own_list : (k : ℕ) → IsListed (nodes g rs) (first_or (heads g fs k)) k (own g rs fs k)
     own_list k = let l = kept.lists k in subst (λ xs. IsListed (nodes g rs) (first_or (heads g fs k)) k xs) (sym (own_seen rs fs k l.0 l.1)) l.1
 
-    pub first_seen : (k : ℕ) → first_or (heads g fs k) ≡ head_of (own g rs fs k)
+    pub first_seen : (k : ℕ) → first_or (heads g fs k) ≡ first_of (own g rs fs k)
     first_seen k = head_is (nodes g rs) None _ (own g rs fs k) (own_list k).linked
 
     pub next_seen : (n : ℕ) (p : Place) → nodes g rs n ≡ Some (place_node p) → p.after ≡ comes_after (own g rs fs p.face.0) n

@@ -7,6 +7,7 @@ use Rattle.slab_laws.specs.declared.names.DartId.{DartId}
 use Rattle.slab_laws.specs.FaceLists.{MovedView}
 use Rattle.slab_laws.specs.Sound.{IsTwinned}
 use Rattle.slab_laws.specs.Tables.{row_at}
+use Rattle.chain_laws.proofs.Tabled.{row-tabled}
 use Rattle.dcel_records.specs.declared.rows.StoredCycle.{StoredCycle}
 use Rattle.dcel_records.specs.declared.rows.StoredDart.{StoredDart}
 use Rattle.dcel_records.specs.declared.rows.StoredFace.{StoredFace}
@@ -15,7 +16,7 @@ use Rattle.dcel_records.specs.Outs.{IsOut}
 use Rattle.dcel_records.specs.RecordsView.{RecordsView, graph_part}
 use Rattle.dcel_records.specs.StoredRows.{dart_of, graph_in, records_view, out_at, AreSoundRows}
 use Rattle.dcel_records.proofs.Removing.{len_written}
-use Rattle.dcel_records.proofs.Tabled.{row-tabled, tabled_same}
+use Rattle.dcel_records.proofs.Tabled.{tabled_same}
 
 abbrev pub row_cycle : CycleId → StoredDart → StoredDart
 row_cycle c r = record { source = r.source; twin = r.twin; next = r.next; line = r.line; cycle = c }

@@ -15,20 +15,23 @@ use Rattle.slab_laws.specs.Tables.{row_at, names}
 use Rattle.slab_laws.specs.View.{Faces, CycleRecord, HasCycle, cycle_id, vertex_id, dart_id, kind_in, kind_or}
 use Rattle.arr_notes.specs.FaceWriters.{with_cycle, without_cycle}
 use Rattle.arr_notes.specs.NamedRows.{put, del}
-use Rattle.chain_laws.specs.Links.{Node, first_or, key_at}
+use Rattle.chain_laws.specs.Links.{Node, first_or, key_at, without}
+use Rattle.chain_laws.specs.Rows.{tabled}
+use Rattle.chain_laws.proofs.Tabled.{row-tabled}
+use Rattle.chain_laws.proofs.Rows.{updated}
 use Rattle.dcel_records.specs.declared.rows.StoredCycle.{StoredCycle}
 use Rattle.dcel_records.specs.declared.rows.StoredDart.{StoredDart}
 use Rattle.dcel_records.specs.declared.rows.StoredFace.{StoredFace}
 use Rattle.dcel_records.specs.declared.rows.StoredVertex.{StoredVertex}
 use Rattle.dcel_records.specs.ListChanges.{cycle_listed, cycle_unlisted, cycle_relisted, dart_listed}
-use Rattle.dcel_records.specs.Placing.{cycle_placing, vertex_placing, place_node, node_or, nodes, heads, own, AreChained, AreOthersChained, all_but, without, rest_of, rest_of_face, IsRelinked, IsUnlinked, IsLinkedFirst}
+use Rattle.dcel_records.specs.Placing.{cycle_placing, vertex_placing, place_node, node_or, nodes, heads, own, AreChained, AreOthersChained, all_but, rest_of, rest_of_face, IsRelinked, IsUnlinked, IsLinkedFirst}
 use Rattle.dcel_records.specs.RecordsView.{RecordsView, tables_of}
-use Rattle.dcel_records.specs.StoredRows.{tabled, cycle_record, bare_of, somes, dart_kept, tables_in, lists_in, records_view, AreSoundFaces}
+use Rattle.dcel_records.specs.StoredRows.{cycle_record, bare_of, somes, dart_kept, tables_in, lists_in, records_view, AreSoundFaces}
 use Rattle.dcel_records.proofs.Chained.{own_same, chained_same, others_chained, more_own, fewer_chained, fewer_own, moved_own}
 use Rattle.dcel_records.proofs.FaceTables.{kinds, cycles_same, cycle_put, names_same}
-use Rattle.dcel_records.proofs.Relinked.{through, some_same, updated, map_without, map_cond, nodes_left, tables_after}
+use Rattle.dcel_records.proofs.Relinked.{through, some_same, map_without, map_cond, nodes_left, tables_after}
 use Rattle.dcel_records.proofs.FacesKept.{nodes_updated}
-use Rattle.dcel_records.proofs.Tabled.{row-tabled, tabled_put, tabled_del, tabled_same}
+use Rattle.dcel_records.proofs.Tabled.{tabled_put, tabled_del, tabled_same}
 
 abbrev darts_of : Slab StoredCycle → ℕ → Option DartId
 darts_of s n = option_map (λ r. r.dart) (get s n)

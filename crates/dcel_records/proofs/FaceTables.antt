@@ -15,6 +15,8 @@ use Rattle.arr_notes.specs.NamedRows.{put, del}
 use Rattle.arr_notes.proofs.RowLaws.{absent, row_at-put, row_at-del, ascend-put, ascend-del, one_table}
 use Rattle.chain_laws.specs.Links.{Node, key_at}
 use Rattle.chain_laws.proofs.Distinct.{nowhere}
+use Rattle.chain_laws.specs.Rows.{tabled}
+use Rattle.chain_laws.proofs.Tabled.{row-tabled, ascend-tabled, key_named}
 use Rattle.dcel_records.specs.declared.rows.Place.{Place}
 use Rattle.dcel_records.specs.declared.rows.StoredCycle.{StoredCycle}
 use Rattle.dcel_records.specs.declared.rows.StoredDart.{StoredDart}
@@ -22,10 +24,10 @@ use Rattle.dcel_records.specs.declared.rows.StoredFace.{StoredFace}
 use Rattle.dcel_records.specs.declared.rows.StoredVertex.{StoredVertex}
 use Rattle.dcel_records.specs.Placing.{cycle_placing, vertex_placing, place_node, node_or, nodes, own}
 use Rattle.dcel_records.specs.RecordsView.{row_or, dart_or, lists_in_view}
-use Rattle.dcel_records.specs.StoredRows.{tabled, cycle_record, bare_of, somes, dart_kept, lists_in, face_row, face_rows, faces_view}
+use Rattle.dcel_records.specs.StoredRows.{cycle_record, bare_of, somes, dart_kept, lists_in, face_row, face_rows, faces_view}
 use Rattle.dcel_records.proofs.After.{names_tabled}
-use Rattle.dcel_records.proofs.Chained.{key_named, own_nowhere}
-use Rattle.dcel_records.proofs.Tabled.{row-tabled, ascend-tabled, tabled_put, tabled_del}
+use Rattle.dcel_records.proofs.Chained.{own_nowhere}
+use Rattle.dcel_records.proofs.Tabled.{tabled_put, tabled_del}
 
 -- ---- rows that have something
 abbrev pub flat : {X : Type 0} → Option (Option X) → Option X

@@ -9,6 +9,7 @@ use Rattle.slab_laws.specs.FaceLists.{MovedView}
 use Rattle.slab_laws.specs.Tables.{names}
 use Rattle.slab_laws.specs.View.{cycle_id, vertex_id}
 use Rattle.arr_notes.specs.NamedRows.{put, del}
+use Rattle.chain_laws.specs.Rows.{tabled}
 use Rattle.dcel_records.specs.declared.rows.StoredCycle.{StoredCycle}
 use Rattle.dcel_records.specs.declared.rows.StoredDart.{StoredDart}
 use Rattle.dcel_records.specs.declared.rows.StoredFace.{StoredFace}
@@ -16,7 +17,7 @@ use Rattle.dcel_records.specs.declared.rows.StoredVertex.{StoredVertex}
 use Rattle.dcel_records.specs.Given.{given}
 use Rattle.dcel_records.specs.Placing.{Placing, place_node, node_or, nodes, own, cycle_placing, vertex_placing}
 use Rattle.dcel_records.specs.RecordsView.{FacesView, RecordsView, faces_part}
-use Rattle.dcel_records.specs.StoredRows.{tabled, cycle_record, bare_of, somes, face_rows, faces_view, records_view, moved_room, AreSoundFaces}
+use Rattle.dcel_records.specs.StoredRows.{cycle_record, bare_of, somes, face_rows, faces_view, records_view, moved_room, AreSoundFaces}
 use Rattle.dcel_records.proofs.Chained.{own_same, chained_same}
 use Rattle.dcel_records.proofs.FaceTables.{bare_same}
 use Rattle.dcel_records.proofs.Tabled.{tabled_put, tabled_del, tabled_same}

@@ -3,18 +3,19 @@ use Rattle.std.proofs.Common.{◌≡◌, ◌≢◌, inl, inr, ℕ, List, [], ◌
 use Rattle.std.proofs.lemmas.Bool.{cases_eq, false≢true}
 use Rattle.slab.specs.Slab.{Slab, get, Updates}
 use Rattle.slab_laws.specs.declared.names.FaceId.{FaceId}
-use Rattle.slab_laws.specs.FaceLists.{Lists, MovedView}
+use Rattle.slab_laws.specs.FaceLists.{Lists, MovedView, first_of}
 use Rattle.slab_laws.specs.View.{HasFace, face_id, cycle_id, vertex_id}
 use Rattle.arr_notes.specs.FaceWriters.{with_face, without_face}
-use Rattle.chain_laws.specs.Links.{first_or, head_of, key_at}
+use Rattle.chain_laws.specs.Links.{first_or, key_at}
 use Rattle.chain_laws.proofs.Distinct.{nowhere}
+use Rattle.chain_laws.specs.Rows.{tabled}
 use Rattle.dcel_records.specs.declared.rows.StoredCycle.{StoredCycle}
 use Rattle.dcel_records.specs.declared.rows.StoredDart.{StoredDart}
 use Rattle.dcel_records.specs.declared.rows.StoredFace.{StoredFace}
 use Rattle.dcel_records.specs.declared.rows.StoredVertex.{StoredVertex}
 use Rattle.dcel_records.specs.Placing.{Placing, cycle_placing, vertex_placing, nodes, heads, own, AreChained}
 use Rattle.dcel_records.specs.RecordsView.{RecordsView, lists_of}
-use Rattle.dcel_records.specs.StoredRows.{tabled, cycle_record, bare_of, somes, dart_kept, tables_in, lists_in, records_view, AreSoundFaces}
+use Rattle.dcel_records.specs.StoredRows.{cycle_record, bare_of, somes, dart_kept, tables_in, lists_in, records_view, AreSoundFaces}
 use Rattle.dcel_records.proofs.Chained.{own_list, own_same, own_nowhere, chained_same, first_seen}
 use Rattle.dcel_records.proofs.FaceTables.{lists_seen, names_put, names_del}
 use Rattle.dcel_records.proofs.Relinked.{tables_after, face_key}
@@ -27,7 +28,7 @@ none_mapped f (x ∷ xs) e = absurd (cc)
 module _ {R : Type 0} (g : Placing R) (rs : Slab R) (fs gs : Slab StoredFace) (kept : AreChained g rs fs) (k : ℕ) (o : Option StoredFace) (u : Updates fs gs k o) (empty : own g rs fs k ≡ []) (none : first_or (option_map g.first o) ≡ None) where
   firsts : (j : ℕ) → first_or (heads g gs j) ≡ first_or (heads g fs j)
   firsts j = elim (cases_eq j k) [
-    | inl q ↦ ap (λ z. first_or (heads g gs z)) q ∙ ap (λ x. first_or (option_map g.first x)) u.changed ∙ none ∙ sym (ap (λ z. first_or (heads g fs z)) q ∙ first_seen g rs fs kept k ∙ ap head_of empty)
+    | inl q ↦ ap (λ z. first_or (heads g gs z)) q ∙ ap (λ x. first_or (option_map g.first x)) u.changed ∙ none ∙ sym (ap (λ z. first_or (heads g fs z)) q ∙ first_seen g rs fs kept k ∙ ap first_of empty)
     | inr ne ↦ ap (λ x. first_or (option_map g.first x)) (u.others j ne)
   ]
 

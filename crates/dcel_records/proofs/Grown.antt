@@ -2,13 +2,14 @@
 use Rattle.std.proofs.Common.{◌≡◌, ℕ, ◌+◌, count_by, max, Option, is_some, refl, sym, ap, subst, ◌∙◌, arith}
 use Rattle.slab.specs.Slab.{Slab, slab_len, HasRoomFor}
 use Rattle.slab_laws.specs.FaceLists.{MovedView}
+use Rattle.chain_laws.specs.Rows.{tabled}
 use Rattle.dcel_records.specs.declared.rows.StoredVertex.{StoredVertex}
 use Rattle.dcel_records.specs.declared.rows.StoredCycle.{StoredCycle}
 use Rattle.dcel_records.specs.declared.rows.StoredDart.{StoredDart}
 use Rattle.dcel_records.specs.declared.rows.StoredFace.{StoredFace}
 use Rattle.dcel_records.specs.Placing.{own}
 use Rattle.dcel_records.specs.RecordsView.{RecordsView, lists_of, tables_of}
-use Rattle.dcel_records.specs.StoredRows.{tabled, graph_in, tables_in, records_view, IsGrown, IsRoom, AreReadyWhere, AreSoundFaces, AreSoundRecords}
+use Rattle.dcel_records.specs.StoredRows.{graph_in, tables_in, records_view, IsGrown, IsRoom, AreReadyWhere, AreSoundFaces, AreSoundRecords}
 use Rattle.dcel_records.proofs.Whole.{graph_slots, records_slots}
 
 module _ {X : Type 0} (s t : Slab X) (g : IsGrown s t) where

@@ -8,14 +8,15 @@ use Rattle.slab_laws.specs.declared.names.VertexId.{VertexId}
 use Rattle.slab_laws.specs.Sound.{IsTwinned}
 use Rattle.slab_laws.specs.Tables.{row_at, names, NamesAscend}
 use Rattle.slab_laws.specs.View.{VertexRecord, DartRecord, HasVertex, HasDart, IsOutOf, point_or, pin_or, source_or, twin_or, next_or, line_or, point_in, pinned_in, source_in, twin_in, next_in, line_in, target_in}
+use Rattle.chain_laws.specs.Rows.{tabled}
+use Rattle.chain_laws.proofs.Tabled.{row-tabled, ascend-tabled}
 use Rattle.dcel_records.specs.declared.rows.StoredVertex.{StoredVertex}
 use Rattle.dcel_records.specs.declared.rows.StoredCycle.{StoredCycle}
 use Rattle.dcel_records.specs.declared.rows.StoredDart.{StoredDart}
 use Rattle.dcel_records.specs.declared.rows.StoredFace.{StoredFace}
 use Rattle.dcel_records.specs.RecordsView.{GraphView, RecordsView, point_found, ends_found}
-use Rattle.dcel_records.specs.StoredRows.{tabled, vertex_of, dart_of, graph_in, graph_view, graph_of_slabs, records_view, out_or, out_at, AreSoundRows}
+use Rattle.dcel_records.specs.StoredRows.{vertex_of, dart_of, graph_in, graph_view, graph_of_slabs, records_view, out_or, out_at, AreSoundRows}
 use Rattle.dcel_records.specs.Outs.{IsOut}
-use Rattle.dcel_records.proofs.Tabled.{row-tabled, ascend-tabled}
 use Rattle.plane_graphs.proofs.Lists.{some_mapped}
 
 module _ (vs : Slab StoredVertex) (ds : Slab StoredDart) (h : GraphView) (is : graph_view vs ds ≡ h) where

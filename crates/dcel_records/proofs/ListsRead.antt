@@ -6,7 +6,8 @@ use Rattle.slab_laws.specs.declared.names.FaceId.{FaceId}
 use Rattle.slab_laws.specs.declared.names.VertexId.{VertexId}
 use Rattle.slab_laws.specs.FaceLists.{Lists, MovedView, first_of, follower, cycle_follower, vertex_follower}
 use Rattle.slab_laws.specs.View.{HasBareFace, face_in, face_or, bare_face_in, bare_or, cycle_id, vertex_id, face_id}
-use Rattle.chain_laws.specs.Links.{Node, first_or, head_of, comes_after}
+use Rattle.chain_laws.specs.Links.{Node, first_or, comes_after}
+use Rattle.chain_laws.proofs.Tabled.{row-tabled}
 use Rattle.dcel_records.specs.declared.rows.Place.{Place}
 use Rattle.dcel_records.specs.declared.rows.StoredCycle.{StoredCycle}
 use Rattle.dcel_records.specs.declared.rows.StoredDart.{StoredDart}
@@ -19,10 +20,9 @@ use Rattle.dcel_records.proofs.BareWritten.{bare_node}
 use Rattle.dcel_records.proofs.Chained.{first_seen, next_seen}
 use Rattle.dcel_records.proofs.FaceTables.{lists_seen, bare_seen}
 use Rattle.dcel_records.proofs.Places.{node_row, row_has_place}
-use Rattle.dcel_records.proofs.Tabled.{row-tabled}
 
 module _ {X : Type 0} (f : ℕ → X) where
-  first_mapped : (xs : List ℕ) → option_map f (head_of xs) ≡ first_of (map f xs)
+  first_mapped : (xs : List ℕ) → option_map f (first_of xs) ≡ first_of (map f xs)
   first_mapped [] = refl
   first_mapped (x ∷ xs) = refl
 
@@ -31,7 +31,7 @@ module _ {X : Type 0} (f : ℕ → X) where
   follower_mapped p m q [] = refl
   follower_mapped p m q (x ∷ xs) = by (x == m) (follower_mapped p m q xs) ∙ ap (λ b. cond b (first_of (map f xs)) (follower p (map f xs))) (sym (q x))
     where
-      by : (b : Bool) → option_map f (comes_after xs m) ≡ follower p (map f xs) → option_map f (cond b (head_of xs) (comes_after xs m)) ≡ cond b (first_of (map f xs)) (follower p (map f xs))
+      by : (b : Bool) → option_map f (comes_after xs m) ≡ follower p (map f xs) → option_map f (cond b (first_of xs) (comes_after xs m)) ≡ cond b (first_of (map f xs)) (follower p (map f xs))
       by true e = first_mapped xs
       by false e = e
 

@@ -10,11 +10,12 @@ use Rattle.slab_laws.specs.Tables.{row_at, names, NamesAscend}
 use Rattle.slab_laws.specs.View.{View, VertexRecord}
 use Rattle.arr_notes.specs.NamedRows.{del}
 use Rattle.arr_notes.proofs.RowLaws.{row_at-del, ascend-del, one_table}
+use Rattle.chain_laws.specs.Rows.{tabled}
+use Rattle.chain_laws.proofs.Tabled.{row-tabled, ascend-tabled, length-tabled}
 use Rattle.dcel_records.specs.declared.rows.StoredVertex.{StoredVertex}
 use Rattle.dcel_records.specs.declared.rows.StoredDart.{StoredDart}
 use Rattle.dcel_records.specs.RecordsView.{GraphView}
-use Rattle.dcel_records.specs.StoredRows.{tabled, vertex_of, graph_in, graph_view, pins_among, AreSoundRows, AreSoundGraphs}
-use Rattle.dcel_records.proofs.Tabled.{row-tabled, ascend-tabled, length-tabled}
+use Rattle.dcel_records.specs.StoredRows.{vertex_of, graph_in, graph_view, pins_among, AreSoundRows, AreSoundGraphs}
 use Rattle.dcel_records.proofs.Holding.{vertices_are}
 use Rattle.dcel_records.proofs.Writing.{row_pinned}
 use Rattle.integers.proofs.Tests.{same_number}

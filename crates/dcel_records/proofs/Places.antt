@@ -8,9 +8,11 @@ use Rattle.chain_laws.specs.Links.{Node, first_or, key_at, followed_by, led_by, 
 use Rattle.chain_laws.proofs.Changes.{AreChanged, key_some, unwritten, still_some}
 use Rattle.chain_laws.proofs.Removed as removed
 use Rattle.chain_laws.proofs.Pushed as pushed
+use Rattle.chain_laws.specs.Rows.{IsChanged}
+use Rattle.chain_laws.proofs.Rows.{unwritten_row}
 use Rattle.dcel_records.specs.declared.rows.Place.{Place}
 use Rattle.dcel_records.specs.declared.rows.StoredFace.{StoredFace}
-use Rattle.dcel_records.specs.Placing.{Placing, place_node, node_of, node_or, nodes, heads, AreChained, AreOthersChained, all_but, IsChanged, IsHeaded, nowhere, replaced, row_followed, row_led, row_placed, rest_of, rest_of_face, IsUnlinked, IsLinkedFirst}
+use Rattle.dcel_records.specs.Placing.{Placing, place_node, node_of, node_or, nodes, heads, AreChained, AreOthersChained, all_but, IsHeaded, nowhere, replaced, row_followed, row_led, row_placed, rest_of, rest_of_face, IsUnlinked, IsLinkedFirst}
 use Rattle.integers.proofs.Tests.{same_number}
 use Rattle.plane_graphs.proofs.Lists.{some_mapped}
 
@@ -46,14 +48,6 @@ module _ {R : Type 0} (g : Placing R) where
       by false o = refl
       by true None = refl
       by true (Some r) = q r
-
-  rest_still : (f : R → R) → ((r : R) → rest_of g (f r) ≡ rest_of g r) → (at : Option ℕ) (old new : Slab R) → IsChanged f at old new → (n : ℕ) → option_map (rest_of g) (get new n) ≡ option_map (rest_of g) (get old n)
-  rest_still f q at old new c n = ap (option_map (rest_of g)) (c.rows n) ∙ by (is_at at n) (get old n)
-    where
-      by : (b : Bool) (o : Option R) → option_map (rest_of g) (cond b (option_map f o) o) ≡ option_map (rest_of g) o
-      by false o = refl
-      by true None = refl
-      by true (Some r) = ap Some (q r)
 
   pub node_row : (s : Slab R) (n : ℕ) → IsSome (nodes g s n) → ContainsKey s n
   node_row s n h = by (get s n) h
@@ -136,7 +130,7 @@ module _ {R : Type 0} (g : Placing R) where
           lists = removed.list_removed (heads g fs) (nodes g rs) c (place_node p) l was (all_but c (nodes g rs)) (λ m. refl) (all_but c (nodes g s)) followed (all_but c (nodes g t)) led (heads g hs) headed;
           keys = λ n. unwritten (λ x. x.key) (led_by p.before) (λ x. refl) p.after (nodes g s) (nodes g t) (node_led p.before p.after s t k2) n ∙ unwritten (λ x. x.key) (followed_by p.after) (λ x. refl) p.before (nodes g rs) (nodes g s) (node_followed p.after p.before rs s k1) n;
           kept = record {
-            rests = λ n. rest_still (row_led g p.before) (rest_led p.before) p.after s t k2 n ∙ rest_still (row_followed g p.after) (rest_followed p.after) p.before rs s k1 n;
+            rests = λ n. unwritten_row (rest_of g) (row_led g p.before) (rest_led p.before) p.after s t k2 n ∙ unwritten_row (rest_of g) (row_followed g p.after) (rest_followed p.after) p.before rs s k1 n;
             face_rests = face_rest_still p.face.0 p.before p.after fs hs hd;
             len = k2.len ∙ k1.len;
             capacity = k2.capacity ∙ k1.capacity;
@@ -192,7 +186,7 @@ module _ {R : Type 0} (g : Placing R) where
         beside = pushed.list_beside (heads g fs) (all_but c (nodes g rs)) (nodes g s) c face.0 l vacant added (nodes g t) led' (heads g hs) headed';
         keys = keys';
         kept = record {
-          rests = λ n. rest_still (row_led g (Some c)) (rest_led (Some c)) first s t k2 n ∙ rest_still (row_placed g face first) (g.again nowhere (record { face = face; before = None; after = first })) (Some c) rs s k1 n;
+          rests = λ n. unwritten_row (rest_of g) (row_led g (Some c)) (rest_led (Some c)) first s t k2 n ∙ unwritten_row (rest_of g) (row_placed g face first) (g.again nowhere (record { face = face; before = None; after = first })) (Some c) rs s k1 n;
           face_rests = face_rest_still face.0 None (Some c) fs hs hd;
           len = k2.len ∙ k1.len;
           capacity = k2.capacity ∙ k1.capacity;

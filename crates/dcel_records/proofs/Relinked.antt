@@ -10,18 +10,18 @@ use Rattle.slab_laws.specs.declared.names.FaceId.{FaceId}
 use Rattle.slab_laws.specs.FaceLists.{Lists, MovedView}
 use Rattle.slab_laws.specs.Tables.{row_at, names}
 use Rattle.slab_laws.specs.View.{Faces, HasFace}
-use Rattle.chain_laws.specs.Links.{Node}
+use Rattle.chain_laws.specs.Links.{Node, without}
 use Rattle.chain_laws.proofs.Distinct.{nowhere}
+use Rattle.chain_laws.proofs.Tabled.{row-tabled}
 use Rattle.dcel_records.specs.declared.rows.StoredCycle.{StoredCycle}
 use Rattle.dcel_records.specs.declared.rows.StoredDart.{StoredDart}
 use Rattle.dcel_records.specs.declared.rows.StoredFace.{StoredFace}
 use Rattle.dcel_records.specs.declared.rows.StoredVertex.{StoredVertex}
-use Rattle.dcel_records.specs.Placing.{Placing, node_or, nodes, all_but, without}
+use Rattle.dcel_records.specs.Placing.{Placing, node_or, nodes, all_but}
 use Rattle.dcel_records.specs.RecordsView.{RecordsView, tables_of, lists_of}
 use Rattle.dcel_records.specs.StoredRows.{tables_in, lists_in, records_view}
 use Rattle.dcel_records.proofs.After.{names_tabled}
 use Rattle.dcel_records.proofs.FaceTables.{lists_seen}
-use Rattle.dcel_records.proofs.Tabled.{row-tabled}
 
 -- what is read through a function that leaves it is read of both
 pub through : {X Y : Type 0} (r : X → X) (f : X → Y) → ((x : X) → f (r x) ≡ f x) → (o p : Option X) → option_map r o ≡ option_map r p → option_map f o ≡ option_map f p
@@ -33,17 +33,6 @@ through {X} {Y} r f q o p e = sym (again o) ∙ ap (option_map f) e ∙ again p
 
 pub some_same : {X Y : Type 0} (f : X → Y) (o p : Option X) → option_map f o ≡ option_map f p → is_some o ≡ is_some p
 some_same f o p e = sym (some_mapped f o) ∙ ap is_some e ∙ some_mapped f p
-
--- what a slab has after a write of one key
-pub updated : {X : Type 0} (old new : Slab X) (n : ℕ) (o : Option X) → Updates old new n o → (m : ℕ) → get new m ≡ cond (m == n) o (get old m)
-updated old new n o u m = elim (cases_eq m n) [
-  | inl q ↦ ap (get new) q ∙ u.changed ∙ sym (ap (λ b. cond b o (get old m)) (ap (λ z. z == n) q ∙ same_number n))
-  | inr ne ↦ u.others m ne ∙ sym (ap (λ b. cond b o (get old m)) (other_number m n ne))
-]
-
-pub cond_map : {X Y : Type 0} (f : X → Y) (b : Bool) (o p : Option X) → option_map f (cond b o p) ≡ cond b (option_map f o) (option_map f p)
-cond_map f true o p = refl
-cond_map f false o p = refl
 
 -- a name among the names has a row
 named_row : {X : Type 0} (rs : List (ℕ × X)) (n : ℕ) → Contains (names rs) n → IsSome (row_at rs n)

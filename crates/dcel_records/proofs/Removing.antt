@@ -6,13 +6,14 @@ use Rattle.slab.proofs.SlabLemmas.{Updates-with_value}
 use Rattle.slab_laws.specs.declared.names.DartId.{DartId}
 use Rattle.slab_laws.specs.View.{HasDart, target_in}
 use Rattle.slab_laws.specs.FaceLists.{MovedView}
+use Rattle.chain_laws.proofs.Tabled.{length-tabled}
 use Rattle.dcel_records.specs.declared.rows.StoredCycle.{StoredCycle}
 use Rattle.dcel_records.specs.declared.rows.StoredFace.{StoredFace}
 use Rattle.dcel_records.specs.declared.rows.StoredVertex.{StoredVertex}
 use Rattle.dcel_records.specs.declared.rows.StoredDart.{StoredDart}
 use Rattle.dcel_records.specs.RecordsView.{GraphView, RecordsView, IsSpare}
 use Rattle.dcel_records.specs.StoredRows.{graph_view, records_view, AreSoundRows}
-use Rattle.dcel_records.proofs.Tabled.{tabled_same, length-tabled}
+use Rattle.dcel_records.proofs.Tabled.{tabled_same}
 use Rattle.dcel_records.proofs.Holding.{source_is, twin_is, target_is, twinned, twin_key, out_key}
 use Rattle.dcel_records.proofs.Writing.{row_out}
 

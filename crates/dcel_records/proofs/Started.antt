@@ -7,6 +7,8 @@ use Rattle.slab_laws.specs.Tables.{names}
 use Rattle.slab_laws.specs.View.{cycle_id, vertex_id}
 use Rattle.chain_laws.specs.Links.{first_or}
 use Rattle.arr_notes.specs.FaceWriters.{put_name}
+use Rattle.chain_laws.specs.Rows.{tabled}
+use Rattle.chain_laws.proofs.Tabled.{tabled_empty}
 use Rattle.dcel_records.specs.declared.rows.StoredCycle.{StoredCycle}
 use Rattle.dcel_records.specs.declared.rows.StoredDart.{StoredDart}
 use Rattle.dcel_records.specs.declared.rows.StoredFace.{StoredFace}
@@ -14,11 +16,10 @@ use Rattle.dcel_records.specs.declared.rows.StoredVertex.{StoredVertex}
 use Rattle.dcel_records.specs.ListChanges.{lone_face, nothing_listed}
 use Rattle.dcel_records.specs.Placing.{cycle_placing, vertex_placing}
 use Rattle.dcel_records.specs.RecordsView.{lists_of}
-use Rattle.dcel_records.specs.StoredRows.{tabled, cycle_record, bare_of, somes, dart_kept, tables_in, records_view, AreReady, AreReadyWhere, AreSoundFaces}
+use Rattle.dcel_records.specs.StoredRows.{cycle_record, bare_of, somes, dart_kept, tables_in, records_view, AreReady, AreReadyWhere, AreSoundFaces}
 use Rattle.dcel_records.proofs.Chained.{chained_empty, own_first}
 use Rattle.dcel_records.proofs.FaceTables.{names_put, lists_seen}
 use Rattle.dcel_records.proofs.After.{names_tabled}
-use Rattle.dcel_records.proofs.Tabled.{tabled_empty}
 
 vacant_by : {X : Type 0} (s : Slab X) → s.slots ≡ [] → (n : ℕ) → get s n ≡ None
 vacant_by s e n = ap (λ os. slice_index_or os n None) e

@@ -3,6 +3,7 @@ use Rattle.std.proofs.Common.{◌≡◌, ℕ, ◌+◌, ◌-◌, ◌≤◌, [], l
 use Rattle.slab.specs.Slab.{Slab, slab_len}
 use Rattle.slab_laws.specs.FaceLists.{MovedView}
 use Rattle.arr_notes.specs.ViewChanges.{no_rows}
+use Rattle.chain_laws.proofs.Tabled.{tabled_slots, tabled_empty, length-tabled}
 use Rattle.dcel_records.specs.declared.rows.StoredVertex.{StoredVertex}
 use Rattle.dcel_records.specs.declared.rows.StoredCycle.{StoredCycle}
 use Rattle.dcel_records.specs.declared.rows.StoredDart.{StoredDart}
@@ -10,7 +11,6 @@ use Rattle.dcel_records.specs.declared.rows.StoredFace.{StoredFace}
 use Rattle.dcel_records.specs.RecordsView.{RecordsView}
 use Rattle.dcel_records.specs.StoredRows.{vertex_of, dart_of, graph_in, records_view, out_or, pins_among, AreSoundRows, AreSoundGraphs}
 use Rattle.dcel_records.specs.Outs.{IsOut}
-use Rattle.dcel_records.proofs.Tabled.{tabled_slots, tabled_empty, length-tabled}
 use Rattle.dcel_records.proofs.Twins.{twinned_empty}
 use Rattle.dcel_records.proofs.Leaving.{out_empty}
 use Rattle.dcel_records.proofs.Writing.{kept_by}

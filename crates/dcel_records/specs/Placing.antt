@@ -1,10 +1,9 @@
 -- Rows that may have a place in a chain of a face, the chains that run through them, and what the writers of links do.
-use Rattle.std.specs.Prelude.{◌≡◌, ◌≢◌, ◌==◌, ◌&&◌, ℕ, List, ◌∷◌, not, cond, length, Option, Some, None, option_map, is_none, refl}
-use Rattle.std.specs.List.{filter}
+use Rattle.std.specs.Prelude.{◌≡◌, ◌≢◌, ◌==◌, ◌&&◌, ℕ, List, ◌∷◌, cond, length, Option, Some, None, option_map, is_none, refl}
 use Rattle.slab.specs.Slab.{Slab, get, entries, slab_len}
 use Rattle.slab_laws.specs.declared.names.FaceId.{FaceId}
 use Rattle.slab_laws.specs.View.{face_id}
-use Rattle.chain_laws.specs.Links.{Node, first_or, trail, after_at, key_at, IsListed, AreListed, is_at}
+use Rattle.chain_laws.specs.Links.{Node, first_or, trail, after_at, key_at, IsListed, AreListed, without}
 use Rattle.dcel_records.specs.declared.rows.Place.{Place}
 use Rattle.dcel_records.specs.declared.rows.StoredCycle.{StoredCycle}
 use Rattle.dcel_records.specs.declared.rows.StoredFace.{StoredFace}
@@ -78,16 +77,6 @@ module _ {R : Type 0} (g : Placing R) where
 -- all but one
 abbrev pub all_but : ℕ → (ℕ → Option Node) → ℕ → Option Node
 all_but c node n = cond (n == c) None (node n)
-
--- the list without a name
-abbrev pub without : ℕ → List ℕ → List ℕ
-without n xs = filter (λ m. not (m == n)) xs
-
--- the row that there may be is changed, and no other
-pub record IsChanged {X : Type 0} (change : X → X) (at : Option ℕ) (old new : Slab X) : Type 0 where
-  pub rows : (n : ℕ) → get new n ≡ cond (is_at at n) (option_map change (get old n)) (get old n)
-  pub len : slab_len new ≡ slab_len old
-  pub capacity : new.capacity ≡ old.capacity
 
 -- no place at all
 abbrev pub nowhere : Place

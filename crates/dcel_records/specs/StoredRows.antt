@@ -9,18 +9,15 @@ use Rattle.slab_laws.specs.FaceLists.{Lists, MovedView}
 use Rattle.slab_laws.specs.Sound.{IsTwinned}
 use Rattle.slab_laws.specs.Tables.{names}
 use Rattle.slab_laws.specs.View.{View, VertexRecord, DartRecord, CycleRecord, Faces, vertex_id, dart_id, cycle_id}
-use Rattle.chain_laws.specs.Links.{key_at}
+use Rattle.chain_laws.specs.Links.{key_at, without}
+use Rattle.chain_laws.specs.Rows.{tabled}
 use Rattle.dcel_records.specs.declared.rows.StoredVertex.{StoredVertex}
 use Rattle.dcel_records.specs.declared.rows.StoredDart.{StoredDart}
 use Rattle.dcel_records.specs.declared.rows.StoredCycle.{StoredCycle}
 use Rattle.dcel_records.specs.declared.rows.StoredFace.{StoredFace}
-use Rattle.dcel_records.specs.Placing.{cycle_placing, vertex_placing, nodes, own, AreChained, without, IsRelinked}
+use Rattle.dcel_records.specs.Placing.{cycle_placing, vertex_placing, nodes, own, AreChained, IsRelinked}
 use Rattle.dcel_records.specs.RecordsView.{GraphView, FacesView, RecordsView, FaceRow, MovedRoom}
 use Rattle.dcel_records.specs.Outs.{IsOut}
-
--- what a slab holds, by its keys, each as f says
-unfoldable pub tabled : {X Y : Type 0} → (X → Y) → Slab X → List (ℕ × Y)
-tabled f s = map (λ e. (e.0, f e.1)) (entries s)
 
 -- what a row tells of a vertex: all but the dart that it keeps
 abbrev pub vertex_of : StoredVertex → VertexRecord

@@ -1,7 +1,8 @@
 //! Rows in the chains of faces: taken out, and put in front, in constant time.
 ghost use Rattle.std.specs.Prelude.{◌≡◌, Some, IsSome};
 ghost use Rattle.slab.specs.Slab.{ContainsKey};
-ghost use Rattle.dcel_records.specs.Placing.{nodes, row_followed, row_led, row_placed, IsChanged, IsHeaded, AreChained, AreOthersChained, IsUnlinked, IsLinkedFirst};
+ghost use Rattle.chain_laws.specs.Rows.{IsChanged};
+ghost use Rattle.dcel_records.specs.Placing.{nodes, row_followed, row_led, row_placed, IsHeaded, AreChained, AreOthersChained, IsUnlinked, IsLinkedFirst};
 
 use crate::rows::{Place, StoredFace};
 use crate::table::Table;

@@ -1,17 +1,13 @@
 -- The lists after a node is put directly after another one.
 use Rattle.std.proofs.Common.{◌≡◌, ◌≢◌, inl, inr, ℕ, ◌==◌, cond, List, Option, Some, None, is_some, IsSome, option_map, refl, sym, ap, subst, ◌∙◌, Contains}
 use Rattle.std.proofs.lemmas.Bool.{cases_eq}
-use Rattle.chain_laws.specs.Links.{Node}
-use Rattle.chain_laws.specs.Links.{first_or}
-use Rattle.linked_chains.specs.Chains.{put_after}
-use Rattle.chain_laws.specs.Links.{after_at, before_at, key_at, IsListed, AreListed}
-use Rattle.chain_laws.specs.Links.{followed_by, led_by}
+use Rattle.chain_laws.specs.Links.{Node, first_or, after_at, before_at, key_at, IsListed, AreListed, followed_by, led_by}
+use Rattle.chain_laws.proofs.Changes.{AreChanged, unwritten, elsewhere, written, still_some, key_some}
 use Rattle.chain_laws.proofs.Distinct.{IsOnce, once_from_distinct, distinct_from_once}
 use Rattle.chain_laws.proofs.Linked.{linked_same}
-use Rattle.linked_chains.proofs.PutAfter.{put_absent, put_new, put_has, put_was, put_once, IsInserted, linked_put}
-use Rattle.chain_laws.proofs.Changes.{key_some}
-use Rattle.chain_laws.proofs.Changes.{AreChanged, unwritten, elsewhere, written, still_some}
 use Rattle.chain_laws.proofs.Removed.{after_keyed, after_not}
+use Rattle.linked_chains.specs.Chains.{put_after}
+use Rattle.linked_chains.proofs.PutAfter.{put_absent, put_new, put_has, put_was, put_once, IsInserted, linked_put}
 use Rattle.integers.proofs.Tests.{other_number, same_number}
 
 -- the node x of the name m, and a new node n with the same key, between it and the one after it

@@ -2,11 +2,10 @@
 use Rattle.std.proofs.Common.{◌≡◌, ◌≢◌, ◌⊎◌, inl, inr, ℕ, List, [], ◌∷◌, Option, Some, refl, sym, ap, subst, ◌∙◌, Contains}
 use Rattle.std.proofs.lemmas.Bool.{cases_eq}
 use Rattle.slab.proofs.SlabLemmas.{Contains-cons_cases}
-use Rattle.chain_laws.specs.Links.{Node}
-use Rattle.linked_chains.specs.Chains.{put_after}
-use Rattle.chain_laws.specs.Links.{after_at, before_at, IsLinked}
+use Rattle.chain_laws.specs.Links.{Node, after_at, before_at, IsLinked}
 use Rattle.chain_laws.proofs.Distinct.{here, there, nowhere, IsOnce}
 use Rattle.chain_laws.proofs.Linked.{after_within, after_other, linked_same}
+use Rattle.linked_chains.specs.Chains.{put_after}
 use Rattle.integers.proofs.Tests.{other_number, same_number}
 
 pub put_hit : (m n : ℕ) (xs : List ℕ) → put_after m n (m ∷ xs) ≡ m ∷ n ∷ xs

@@ -5,13 +5,12 @@ use Rattle.std.specs.HashMap.{Updates as UpdatesKey}
 use Rattle.std.specs.Map.{lookup}
 use Rattle.indexmap.specs.IndexMap.{IndexMap, insert_entry}
 use Rattle.slab.specs.Slab.{Slab, get, slab_len}
+use Rattle.slab_laws.specs.FaceLists.{first_of}
 use Rattle.slab_laws.specs.Tables.{row_at}
+use Rattle.chain_laws.specs.Links.{Node as ChainNode, first_or, comes_after, after_at, before_at, key_at, IsLinked, IsListed, AreListed}
 use Rattle.linked_chains.specs.declared.node.Entry.{Entry}
-use Rattle.chain_laws.specs.Links.{Node as ChainNode}
 use Rattle.linked_chains.specs.declared.node.Node.{Node}
-use Rattle.chain_laws.specs.Links.{first_or, head_of, comes_after}
 use Rattle.linked_chains.specs.Chains.{Chained, HasKey, HasNode, entry_at, chain, IsWhole}
-use Rattle.chain_laws.specs.Links.{after_at, before_at, key_at, IsLinked, IsListed, AreListed}
 use Rattle.linked_chains.specs.ChainsInMemory.{chained, node_of, nodes_of, AreSoundChains}
 use Rattle.chain_laws.proofs.Distinct.{nowhere}
 use Rattle.linked_chains.proofs.Reading.{has_node, row_lookup, entry_is, chain_is, chain_within, whole, keys, first_is, next_is}
@@ -56,8 +55,8 @@ module _ {S : Type 0} (hs : IndexMap ℕ (Option ℕ) S) (ns : Slab Node) (h : C
     pub keys_seen : (n : ℕ) (e : Entry) → entry_at h n ≡ Some e → HasKey h e.key
     keys_seen n e q = subst (λ c. HasKey c e.key) is (keys hs ns kept n e (ap (λ c. entry_at c n) is ∙ q))
 
-    pub first_seen : (k : ℕ) (o : Option (Option ℕ)) → lookup (nat_eq k) hs.entries ≡ o → first_or o ≡ head_of (chain h k)
-    first_seen k o e = ap first_or (sym e ∙ sym (row_lookup hs.entries k)) ∙ first_is hs ns kept k ∙ ap (λ c. head_of (chain c k)) is
+    pub first_seen : (k : ℕ) (o : Option (Option ℕ)) → lookup (nat_eq k) hs.entries ≡ o → first_or o ≡ first_of (chain h k)
+    first_seen k o e = ap first_or (sym e ∙ sym (row_lookup hs.entries k)) ∙ first_is hs ns kept k ∙ ap (λ c. first_of (chain c k)) is
 
     pub next_seen : (n : ℕ) (x : Node) → get ns n ≡ Some x → (e : Entry) → entry_at h n ≡ Some e → x.after ≡ comes_after (chain h e.key) n
     next_seen n x g e q =
@@ -102,7 +101,7 @@ module _ {S : Type 0} (hs : IndexMap ℕ (Option ℕ) S) (ns : Slab Node) (h : C
     empty_list key e = sym (chain_seen key (kept.lists key).0 (kept.lists key).1) ∙ e
 
     pub empty_first : (key : ℕ) → chain h key ≡ [] → first_or (row_at hs.entries key) ≡ None
-    empty_first key e = head_is (nodes_of ns) None _ (kept.lists key).0 (kept.lists key).1.linked ∙ ap head_of (empty_list key e)
+    empty_first key e = head_is (nodes_of ns) None _ (kept.lists key).0 (kept.lists key).1.linked ∙ ap first_of (empty_list key e)
 
     pub kept_fewer : (gs : IndexMap ℕ (Option ℕ) S) (key : ℕ) → UpdatesKey nat_eq hs gs key None → chain h key ≡ [] → AreSoundChains gs ns
     kept_fewer gs key u e = listed_heads (row_at hs.entries) (row_at gs.entries) (nodes_of ns) (first_fewer hs gs key u (empty_first key e)) (λ n k q s. (key_fewer hs gs key u k).1 (s, λ z. free n (subst (λ y. key_at (nodes_of ns) n ≡ Some y) z q))) kept

@@ -5,20 +5,19 @@ use Rattle.std.specs.List.{filter}
 use Rattle.indexmap.specs.IndexMap.{IndexMap}
 use Rattle.slab.specs.Slab.{Slab, get, with_value, Updates}
 use Rattle.slab.proofs.SlabLemmas.{Updates-with_value}
+use Rattle.slab_laws.specs.FaceLists.{first_of}
 use Rattle.slab_laws.specs.Tables.{row_at}
+use Rattle.chain_laws.specs.Links.{Node as ChainNode, first_or, after_at, before_at, key_at, followed_by, led_by, without}
+use Rattle.chain_laws.specs.Rows.{IsChanged}
 use Rattle.linked_chains.specs.declared.node.Entry.{Entry}
-use Rattle.chain_laws.specs.Links.{Node as ChainNode}
 use Rattle.linked_chains.specs.declared.node.Node.{Node}
-use Rattle.chain_laws.specs.Links.{first_or, head_of}
 use Rattle.linked_chains.specs.Chains.{Chained, HasKey, entry_at, chain, put_after, SameChains}
-use Rattle.chain_laws.specs.Links.{after_at, before_at, key_at}
 use Rattle.linked_chains.specs.ChainsInMemory.{chained, node_of, nodes_of, AreSoundChains}
-use Rattle.chain_laws.specs.Links.{followed_by, led_by}
-use Rattle.linked_chains.specs.Writes.{row_followed, row_led, twinned_with, IsChanged, IsHeaded}
-use Rattle.chain_laws.proofs.Distinct.{without}
+use Rattle.linked_chains.specs.Writes.{row_followed, row_led, twinned_with, IsHeaded}
 use Rattle.linked_chains.proofs.Reading.{entry_is, chain_is, first_is}
-use Rattle.chain_laws.proofs.Changes.{AreChanged, unwritten}
-use Rattle.linked_chains.proofs.Rows.{updated, map_cond, unwritten_row, node_changed, row_there}
+use Rattle.chain_laws.proofs.Changes.{AreChanged}
+use Rattle.chain_laws.proofs.Rows.{updated, cond_map, unwritten_row}
+use Rattle.linked_chains.proofs.Rows.{node_changed, row_there}
 use Rattle.chain_laws.proofs.Pushed.{first_there, list_pushed, list_beside, listed_pushed}
 use Rattle.chain_laws.proofs.Removed.{head_there, before_there, after_there, list_removed, head_kept, listed_removed}
 use Rattle.linked_chains.proofs.Inserted.{follower_there, place_there, list_inserted, listed_inserted}
@@ -33,9 +32,9 @@ module _ {S : Type 0} (hs : IndexMap ℕ (Option ℕ) S) (ns : Slab Node) (h : C
   heads_kept gs e k = (λ s. e k ∙ ap (λ c. is_some (row_at c.heads k)) is ∙ s, λ s. ap (λ c. is_some (row_at c.heads k)) (sym is) ∙ sym (e k) ∙ s)
 
   -- ---- a node n more, before the old first
-  module _ (n : ℕ) (entry : Entry) (first : Option ℕ) (t : Slab Node) (vacant : get ns n ≡ None) (is_first : first ≡ head_of (chain h entry.key)) (put : Updates ns t n (Some (record { entry = entry; before = None; after = first }))) where
+  module _ (n : ℕ) (entry : Entry) (first : Option ℕ) (t : Slab Node) (vacant : get ns n ≡ None) (is_first : first ≡ first_of (chain h entry.key)) (put : Updates ns t n (Some (record { entry = entry; before = None; after = first }))) where
     old_first : first ≡ first_or (head entry.key)
-    old_first = is_first ∙ ap (λ c. head_of (chain c entry.key)) (sym is) ∙ sym (first_is hs ns kept entry.key)
+    old_first = is_first ∙ ap (λ c. first_of (chain c entry.key)) (sym is) ∙ sym (first_is hs ns kept entry.key)
 
     no_node : nodes_of ns n ≡ None
     no_node = ap (option_map node_of) vacant
@@ -43,7 +42,7 @@ module _ {S : Type 0} (hs : IndexMap ℕ (Option ℕ) S) (ns : Slab Node) (h : C
     added : (m : ℕ) → nodes_of t m ≡ cond (m == n) (Some (record { key = entry.key; before = None; after = first_or (head entry.key) })) (nodes_of ns m)
     added m =
         ap (option_map node_of) (updated ns t n _ put m)
-        ∙ map_cond node_of (m == n) (Some (record { entry = entry; before = None; after = first })) (get ns m)
+        ∙ cond_map node_of (m == n) (Some (record { entry = entry; before = None; after = first })) (get ns m)
         ∙ ap (λ f. cond (m == n) (Some (record { key = entry.key; before = None; after = f })) (nodes_of ns m)) old_first
 
     pub old_first_there : (m : ℕ) → first ≡ Some m → IsSome (get t m)
@@ -58,7 +57,7 @@ module _ {S : Type 0} (hs : IndexMap ℕ (Option ℕ) S) (ns : Slab Node) (h : C
           entry_is gs u m
           ∙ unwritten_row (λ x. x.entry) (row_led (Some n)) (λ x. refl) first t u told m
           ∙ ap (option_map (λ x. x.entry)) (updated ns t n _ put m)
-          ∙ map_cond (λ x. x.entry) (m == n) (Some (record { entry = entry; before = None; after = first })) (get ns m)
+          ∙ cond_map (λ x. x.entry) (m == n) (Some (record { entry = entry; before = None; after = first })) (get ns m)
           ∙ ap (λ o. cond (m == n) (Some entry) o) (sym (entry_seen hs ns h is m))
 
       module _ (gs : IndexMap ℕ (Option ℕ) S) (newly : IsHeaded entry.key None (Some n) hs gs) where
@@ -94,7 +93,7 @@ module _ {S : Type 0} (hs : IndexMap ℕ (Option ℕ) S) (ns : Slab Node) (h : C
     none_n = ap (option_map node_of) vacant
 
     between : (y : ℕ) → nodes_of t y ≡ cond (y == n) (Some (record { key = x.entry.key; before = Some m; after = x.after })) (nodes_of ns y)
-    between y = ap (option_map node_of) (updated ns t n _ put y) ∙ map_cond node_of (y == n) (Some (record { entry = said; before = Some m; after = x.after })) (get ns y)
+    between y = ap (option_map node_of) (updated ns t n _ put y) ∙ cond_map node_of (y == n) (Some (record { entry = said; before = Some m; after = x.after })) (get ns y)
 
     pub follower_still : (y : ℕ) → x.after ≡ Some y → IsSome (get t y)
     follower_still y e = row_there t y (follower_there head (nodes_of ns) m (node_of x) kept node_m n none_n (nodes_of t) between y e)
@@ -118,7 +117,7 @@ module _ {S : Type 0} (hs : IndexMap ℕ (Option ℕ) S) (ns : Slab Node) (h : C
             ∙ unwritten_row (λ k. k.entry) (row_followed (Some n)) (λ k. refl) (Some m) u w followed y
             ∙ unwritten_row (λ k. k.entry) (row_led (Some n)) (λ k. refl) x.after t u led y
             ∙ ap (option_map (λ k. k.entry)) (updated ns t n _ put y)
-            ∙ map_cond (λ k. k.entry) (y == n) (Some (record { entry = said; before = Some m; after = x.after })) (get ns y)
+            ∙ cond_map (λ k. k.entry) (y == n) (Some (record { entry = said; before = Some m; after = x.after })) (get ns y)
             ∙ ap (λ o. cond (y == n) (Some said) o) (sym (entry_seen hs ns h is y))
             ∙ ap (λ (b : Entry). cond (y == n) (Some (record { key = b.key; item = item; twin = twin })) (entry_at h y)) same
 
@@ -136,7 +135,7 @@ module _ {S : Type 0} (hs : IndexMap ℕ (Option ℕ) S) (ns : Slab Node) (h : C
     node_n = ap (option_map node_of) was
 
     cut : (m : ℕ) → nodes_of t m ≡ cond (m == n) None (nodes_of ns m)
-    cut m = ap (option_map node_of) (updated ns t n None gone m) ∙ map_cond node_of (m == n) None (get ns m)
+    cut m = ap (option_map node_of) (updated ns t n None gone m) ∙ cond_map node_of (m == n) None (get ns m)
 
     pub own_head : IsSome (head x.entry.key)
     own_head = head_there head (nodes_of ns) n (node_of x) kept node_n
@@ -161,7 +160,7 @@ module _ {S : Type 0} (hs : IndexMap ℕ (Option ℕ) S) (ns : Slab Node) (h : C
             ∙ unwritten_row (λ z. z.entry) (row_led x.before) (λ z. refl) x.after u w led m
             ∙ unwritten_row (λ z. z.entry) (row_followed x.after) (λ z. refl) x.before t u followed m
             ∙ ap (option_map (λ z. z.entry)) (updated ns t n None gone m)
-            ∙ map_cond (λ z. z.entry) (m == n) None (get ns m)
+            ∙ cond_map (λ z. z.entry) (m == n) None (get ns m)
             ∙ ap (λ o. cond (m == n) None o) (sym (entry_seen hs ns h is m))
 
         module _ (gs : IndexMap ℕ (Option ℕ) S) (moved : IsHeaded x.entry.key x.before x.after hs gs) where

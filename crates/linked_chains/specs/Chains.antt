@@ -1,5 +1,5 @@
 -- What a caller sees of chains: keys, nodes by name, and the order of each chain.
-use Rattle.std.specs.Prelude.{◌≡◌, ◌↔◌, ◌==◌, ℕ, ◌+◌, List, [], ◌∷◌, cond, Option, Some, None, option_map, IsSome, Contains, length, ◌≤◌}
+use Rattle.std.specs.Prelude.{◌≡◌, ◌↔◌, ◌==◌, ℕ, ◌+◌, List, [], ◌∷◌, cond, Option, Some, option_map, IsSome, Contains, length, ◌≤◌}
 use Rattle.std.specs.List.{IsDistinct}
 use Rattle.slab_laws.specs.Tables.{row_at}
 use Rattle.chain_laws.specs.Links.{first_or, trail}

@@ -1,9 +1,10 @@
 -- How a map of heads and a slab of nodes are chains (this project).
-use Rattle.std.specs.Prelude.{◌-◌, ℕ, List, map, Option, option_map}
+use Rattle.std.specs.Prelude.{◌-◌, ℕ, Option, option_map}
 use Rattle.indexmap.specs.IndexMap.{IndexMap, spare}
-use Rattle.slab.specs.Slab.{Slab, get, entries, slab_len}
+use Rattle.slab.specs.Slab.{Slab, get, slab_len}
 use Rattle.slab_laws.specs.Tables.{row_at}
 use Rattle.chain_laws.specs.Links.{Node as ChainNode, AreListed}
+use Rattle.chain_laws.specs.Rows.{tabled}
 use Rattle.linked_chains.specs.declared.node.Node.{Node}
 use Rattle.linked_chains.specs.Chains.{Link, Chained}
 
@@ -11,12 +12,8 @@ use Rattle.linked_chains.specs.Chains.{Link, Chained}
 abbrev pub link_of : Node → Link
 link_of x = record { entry = x.entry; after = x.after }
 
--- the nodes of a slab by name, as a caller sees them
-unfoldable pub linked_nodes : Slab Node → List (ℕ × Link)
-linked_nodes nodes = map (λ r. (r.0, link_of r.1)) (entries nodes)
-
 abbrev pub chained : {S : Type 0} → IndexMap ℕ (Option ℕ) S → Slab Node → Chained
-chained heads nodes = record { heads = heads.entries; nodes = linked_nodes nodes; spare_keys = spare heads; spare_nodes = nodes.capacity - slab_len nodes; capacity_of_nodes = nodes.capacity }
+chained heads nodes = record { heads = heads.entries; nodes = tabled link_of nodes; spare_keys = spare heads; spare_nodes = nodes.capacity - slab_len nodes; capacity_of_nodes = nodes.capacity }
 
 -- a node by the key of its chain and its neighbours there
 abbrev pub node_of : Node → ChainNode

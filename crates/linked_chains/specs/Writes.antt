@@ -1,9 +1,7 @@
 -- What the writers do to nodes and heads (this project).
-use Rattle.std.specs.Prelude.{◌≡◌, ◌==◌, ◌&&◌, ℕ, cond, Option, Some, None, option_map, is_none, length}
+use Rattle.std.specs.Prelude.{◌≡◌, ◌==◌, ◌&&◌, ℕ, cond, Option, Some, is_none, length}
 use Rattle.indexmap.specs.IndexMap.{IndexMap, spare}
-use Rattle.slab.specs.Slab.{Slab, get, slab_len}
 use Rattle.slab_laws.specs.Tables.{row_at}
-use Rattle.chain_laws.specs.Links.{is_at}
 use Rattle.linked_chains.specs.declared.node.Node.{Node}
 
 -- a node with another one after it, or before it, or with another twin
@@ -15,12 +13,6 @@ row_led before x = record { entry = x.entry; before = before; after = x.after }
 
 abbrev pub twinned_with : ℕ → Node → Node
 twinned_with twin x = record { entry = record { key = x.entry.key; item = x.entry.item; twin = twin }; before = x.before; after = x.after }
-
--- the node that there may be is changed, and no other
-pub record IsChanged (change : Node → Node) (at : Option ℕ) (old new : Slab Node) : Type 0 where
-  pub nodes : (n : ℕ) → get new n ≡ cond (is_at at n) (option_map change (get old n)) (get old n)
-  pub len : slab_len new ≡ slab_len old
-  pub capacity : new.capacity ≡ old.capacity
 
 -- the key has another head, unless a node is before it
 pub record IsHeaded {S : Type 0} (key : ℕ) (before first : Option ℕ) (old new : IndexMap ℕ (Option ℕ) S) : Type 0 where

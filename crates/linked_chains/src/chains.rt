@@ -1,7 +1,8 @@
 ghost use Rattle.std.specs.Prelude.{◌≡◌, ◌≢◌, ◌↔◌, ◌==◌, ◌<◌, ◌≤◌, ◌⊎◌, suc, ◌+◌, ◌^◌, [], ◌∷◌, ◌++◌, length, not, Some, None, is_some, IsOk, OnOk};
 ghost use Rattle.std.specs.List.{filter, IsDistinct};
 ghost use Rattle.slab_laws.specs.Tables.{row_at, names, NamesAscend};
-ghost use Rattle.chain_laws.specs.Links.{head_of, comes_after};
+ghost use Rattle.slab_laws.specs.FaceLists.{first_of};
+ghost use Rattle.chain_laws.specs.Links.{comes_after};
 ghost use Rattle.linked_chains.specs.Chains.{chain, entry_at, HasNode, HasKey, IsWhole, SetsEntry, SetsBeside, SetsTwin, SameChains, IsSpare, put_after};
 
 use crate::links::{set_after, set_before, set_head};
@@ -207,7 +208,7 @@ impl Chains {
 
     /// The first node in the chain of the key; `None` also for a key without one.
     pub fn first(&self, key: usize) -> Option<usize>
-        ensures { result ≡ head_of (chain self.now key) }
+        ensures { result ≡ first_of (chain self.now key) }
     {
         match self.heads.get(&key) {
             Some(first) => *first,

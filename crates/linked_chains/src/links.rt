@@ -2,7 +2,8 @@
 ghost use Rattle.std.specs.Prelude.{◌≡◌, Some, IsSome};
 ghost use Rattle.slab.specs.Slab.{ContainsKey};
 ghost use Rattle.slab_laws.specs.Tables.{row_at};
-ghost use Rattle.linked_chains.specs.Writes.{row_followed, row_led, IsChanged, IsHeaded};
+ghost use Rattle.chain_laws.specs.Rows.{IsChanged};
+ghost use Rattle.linked_chains.specs.Writes.{row_followed, row_led, IsHeaded};
 
 use crate::node::Node;
 use indexmap::IndexMap;
