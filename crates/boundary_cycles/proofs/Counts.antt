@@ -16,7 +16,7 @@ use Rattle.slab_laws.specs.Sound.{IsGraphSound, skeleton_of, dart_in, edge_in}
 use Rattle.slab_laws.specs.View.{View, HasDart, next_in}
 use Rattle.slab_laws.specs.Weights.{weight_above}
 use Rattle.slab_faces.proofs.Sums.{each, sum_by-same, sum_by-none}
-use Rattle.slab_faces.proofs.Shift.{sum_by-map}
+use Rattle.slab_faces.proofs.Shift.{same_sum, sum_by-map}
 use Rattle.slab_faces.proofs.NextLemmas.{darts_exact}
 use Rattle.slab_faces.proofs.CyclesLemmas.{is_set}
 use Rattle.slab_faces.proofs.Member.{member_in, in_member, map_in, map_out}
@@ -26,7 +26,7 @@ use Rattle.exact_plane.specs.Point.{Point}
 use Rattle.slab_laws.specs.Slabs.{left_cell}
 use Rattle.boundary_cycles.specs.declared.asked.Asked.TheVariants.{Left}
 use Rattle.boundary_cycles.proofs.Above.{left_weight_is}
-use Rattle.edge_predicates.proofs.DartsAbove.{same_sum, on_and_above, by_darts, cond_both, flips}
+use Rattle.edge_predicates.proofs.DartsAbove.{on_and_above, by_darts, cond_both, flips}
 use Rattle.arr_notes.specs.CycleNames.{dart_names, same_name}
 use Rattle.face_changes.specs.Kinds.{odd_at}
 use Rattle.face_changes.proofs.OneToOneMaps.{tally}
@@ -42,12 +42,7 @@ module _ (v : View) (s : IsGraphSound v) where
   -- the darts that names name are all the graph's, each once
   named_sum : (F : Dart → ℕ) → sum_by F (darts g) ≡ sum_by (λ x. F (dart_in v x)) (dart_names v)
   named_sum F =
-      same_sum same_dart darts_exact F (darts g) (map (dart_in v) (dart_names v)) (is_set g s.plane).once
-      (λ z c. let r = map_out (dart_in v) (dart_names v) z (in_member _ _ c) in
-      sum_by-map (λ y. cond (same_dart z y) 1 0) (dart_in v) (dart_names v)
-      ∙ sum_by-same (λ x. tally (same_dart z (dart_in v x))) (λ x. tally (same_name r.0 x)) (dart_names v)
-      (each (λ x. tally (same_dart z (dart_in v x)) ≡ tally (same_name r.0 x)) (dart_names v) (λ x k. ap tally (told z r.0 x r.2 (of_list v s r.0 (member_in _ _ r.1)) (of_list v s x k))))
-      ∙ (names_set v s).once r.0 (member_in _ _ r.1))
+      same_sum same_dart F (darts g) (map (dart_in v) (dart_names v)) (is_set g s.plane) (record { sound = darts_exact.path; self = darts_exact.itself; once = drawn_once })
       (λ z c. let k = names_are_darts.there v z s c in subst (Contains (map (dart_in v) (dart_names v))) k.2 (member_in _ _ (map_in (dart_in v) (dart_names v) k.0 (in_member _ _ (listed v s k.0 k.1)))))
       (λ z c. let r = map_out (dart_in v) (dart_names v) z (in_member _ _ c) in subst (Contains (darts g)) r.2 (names_are_darts.known v r.0 s (of_list v s r.0 (member_in _ _ r.1))))
       ∙ sum_by-map F (dart_in v) (dart_names v)
@@ -57,6 +52,14 @@ module _ (v : View) (s : IsGraphSound v) where
         | inl t ↦ subst (λ d. same_dart z (dart_in v d) ≡ true) (names_exact.path x y t) (subst (λ d. same_dart d (dart_in v x) ≡ true) e (darts_exact.itself (dart_in v x))) ∙ sym t
         | inr t ↦ not_true (same_dart z (dart_in v y)) (λ h. true≢false (sym (subst (λ d. same_name x d ≡ true) (s.turned.differ x y hx hy (e ∙ darts_exact.path z (dart_in v y) h)) (names_exact.itself x)) ∙ t)) ∙ sym t
       ]
+
+      drawn_once : (z : Dart) → Contains (map (dart_in v) (dart_names v)) z → count_by (same_dart z) (map (dart_in v) (dart_names v)) ≡ 1
+      drawn_once z c =
+          let r = map_out (dart_in v) (dart_names v) z (in_member _ _ c) in
+          sum_by-map (λ y. cond (same_dart z y) 1 0) (dart_in v) (dart_names v)
+          ∙ sum_by-same (λ x. tally (same_dart z (dart_in v x))) (λ x. tally (same_name r.0 x)) (dart_names v)
+          (each (λ x. tally (same_dart z (dart_in v x)) ≡ tally (same_name r.0 x)) (dart_names v) (λ x k. ap tally (told z r.0 x r.2 (of_list v s r.0 (member_in _ _ r.1)) (of_list v s x k))))
+          ∙ (names_set v s).once r.0 (member_in _ _ r.1)
 
   module _ (d : DartId) (above : Edge → Bool) where
     abbrev told : Dart → ℕ

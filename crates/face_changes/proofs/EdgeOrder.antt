@@ -2,9 +2,8 @@
 -- g is without the edge e, h has the vertices of g and the edges hs; `with_edge g e` has e in front of those of g; z and f are edges, fw the way of a dart.
 use Rattle.std.proofs.Common.{◌≡◌, ℕ, ◌+◌, Bool, true, false, cond, arith, refl, sym, ap, ◌∙◌, subst, inl, inr, List, ◌∷◌}
 use Rattle.std.specs.Prelude.{not, ◌&&◌}
-use Rattle.std.specs.List.{count_by, sum_by, Contains}
-use Rattle.std.proofs.lemmas.Bool.{false≢true, false_from_ne_true, and_parts, leb-true, ltb-true}
-use Rattle.std.proofs.lemmas.List.Sums.{sum_by-cons}
+use Rattle.std.specs.List.{sum_by, Contains}
+use Rattle.std.proofs.lemmas.Bool.{false_from_ne_true, and_parts, leb-true, ltb-true}
 use lib.Dec.{leb, ltb}
 use Rattle.exact_plane.specs.Point.{Point}
 use Rattle.plane_graphs.specs.Graph.{Edge}
@@ -16,54 +15,18 @@ use Rattle.slab_laws.specs.Weights.{weight_above}
 use Rattle.slab_laws.specs.Meets.{Meets, SameFace, across, here, right, left}
 use Rattle.slab_laws.specs.Changes.{merged, IsCell}
 use Rattle.slab_faces.specs.FaceLaws.{IsSplitBy, whole, over_under, under_over}
-use Rattle.slab_faces.proofs.Sums.{each, sum_by-same, sum_by-swap, sum_by-cond}
-use Rattle.slab_faces.proofs.Shift.{IsSetBy}
+use Rattle.slab_faces.proofs.Sums.{each, sum_by-same}
+use Rattle.slab_faces.proofs.Shift.{IsSetBy, same_sum}
 use Rattle.slab_faces.proofs.Slabs.{same_edge_is, same_edge_refl}
 use Rattle.slab_faces.proofs.Turns.{member_cases, on_own_wall, wall_before}
 use Rattle.slab_faces.proofs.Added.{first, rest, face_down, face_up, merged_left}
 use Rattle.slab_faces.proofs.AddedUpright.{upright_up}
 use Rattle.slab_faces.proofs.Cells.{right_few, spans_left}
-use Rattle.slab_faces.proofs.EveryFace.{none_counted, passing}
+use Rattle.slab_faces.proofs.EveryFace.{passing}
+use Rattle.slab_faces.proofs.Sets.{set_cons}
 use Rattle.slab_faces.proofs.Walls.{left_of-irrefl}
 use Rattle.face_changes.proofs.MergedCells.{merged_weight, cell_merged}
 use Rattle.sound_changes.specs.NextLaws.{HasEdgeMore}
-
--- ---- lists with the same members, each once
-module _ {X : Type 0} (eq : X → X → Bool) (F : X → ℕ) where
-  picked : (xs : List X) (x : X) → IsSetBy eq xs → Contains xs x → sum_by (λ y. cond (eq x y) (F y) 0) xs ≡ F x
-  picked xs x n c =
-      let a : sum_by (λ y. cond (eq x y) (F y) 0) xs ≡ sum_by (λ y. cond (eq x y) (F x) 0) xs =
-      sum_by-same _ _ xs (each (λ y. cond (eq x y) (F y) 0 ≡ cond (eq x y) (F x) 0) xs (λ y _. at (eq x y) (F y) (F x) (λ h. ap F (sym (n.sound x y h))))) in
-      let b = sum_by-cond (eq x) (F x) xs in
-      let b' = rw (n.once x c) at b in
-      a ∙ b' ∙ omega arith
-    where
-      at : (b : Bool) (m n : ℕ) → (b ≡ true → m ≡ n) → cond b m 0 ≡ cond b n 0
-      at true m n h = h refl
-      at false m n h = refl
-
-  -- they have the same sums
-  pub same_sum : (xs ys : List X) → IsSetBy eq xs → IsSetBy eq ys → ((x : X) → Contains xs x → Contains ys x) → ((y : X) → Contains ys y → Contains xs y) → sum_by F xs ≡ sum_by F ys
-  same_sum xs ys n k to back =
-      let a : sum_by F xs ≡ sum_by (λ x. sum_by (λ y. cond (eq x y) (F y) 0) ys) xs =
-      sum_by-same _ _ xs (each (λ x. F x ≡ sum_by (λ y. cond (eq x y) (F y) 0) ys) xs (λ x c. sym (picked ys x k (to x c)))) in
-      let b = sum_by-swap (λ x y. cond (eq x y) (F y) 0) xs ys in
-      let d : sum_by (λ y. sum_by (λ x. cond (eq x y) (F y) 0) xs) ys ≡ sum_by F ys =
-      sum_by-same _ _ ys (each (λ y. sum_by (λ x. cond (eq x y) (F y) 0) xs ≡ F y) ys (λ y c.
-      let p = sum_by-cond (λ x. eq x y) (F y) xs in
-      let q : count_by (λ x. eq x y) xs ≡ 1 = sum_by-same (λ x. cond (eq x y) 1 0) (λ x. cond (eq y x) 1 0) xs (each (λ x. cond {A = ℕ} (eq x y) 1 0 ≡ cond (eq y x) 1 0) xs (λ x _. ap (λ b. cond {A = ℕ} b 1 0) (turn x y))) ∙ n.once y (back y c) in
-      let p' = rw q at p in
-      p' ∙ omega arith)) in
-      a ∙ b ∙ d
-    where
-      turn : (x y : X) → eq x y ≡ eq y x
-      turn x y = go (eq x y) (eq y x) refl refl
-        where
-          go : (a b : Bool) → eq x y ≡ a → eq y x ≡ b → a ≡ b
-          go true true p q = refl
-          go false false p q = refl
-          go true false p q = absurd (false≢true (sym q ∙ subst (λ z. eq z x ≡ true) (n.sound x y p) (n.self x)))
-          go false true p q = absurd (false≢true (sym p ∙ subst (λ z. eq z y ≡ true) (n.sound y x q) (n.self y)))
 
 edges_are_set : (g : Skeleton) → IsPlaneSkeleton g → IsSetBy same_edge g.edges
 edges_are_set g plane = record { sound = same_edge_is; self = same_edge_refl; once = λ z Z. plane.edge_once z Z }
@@ -79,23 +42,12 @@ module _ (g : Skeleton) (hs : List Edge) (e : Edge) where
     back : (z : Edge) → Contains (e ∷ g.edges) z → Contains hs z
     back z Z = (more.edges z).1 (elim (member_cases e g.edges z Z) [ inl q ↦ inr (sym q) | inr k ↦ inl k ])
 
-    once : (z : Edge) → Contains (e ∷ g.edges) z → count_by (same_edge z) (e ∷ g.edges) ≡ 1
-    once z Z =
-        let a : count_by (same_edge z) (e ∷ g.edges) ≡ cond (same_edge z e) 1 0 + count_by (same_edge z) g.edges = sum_by-cons (λ x. cond (same_edge z x) 1 0) e g.edges in
-        elim (member_cases e g.edges z Z) [
-          | inl q ↦
-              let b : cond {A = ℕ} (same_edge z e) 1 0 ≡ 1 = ap (λ x. cond {A = ℕ} (same_edge x e) 1 0) (sym q) ∙ rw (same_edge_refl e) refl in
-              let c = none_counted (same_edge z) g.edges (λ x X. false_from_ne_true _ (λ k. more.fresh (subst (Contains g.edges) (sym (same_edge_is z x k) ∙ sym q) X))) in
-              omega arith
-          | inr k ↦
-              let b : cond {A = ℕ} (same_edge z e) 1 0 ≡ 0 = rw (false_from_ne_true (same_edge z e) (λ t. more.fresh (subst (Contains g.edges) (same_edge_is z e t) k))) refl in
-              let c = plane_g.edge_once z k in
-              omega arith
-        ]
+    wider : IsSetBy same_edge (e ∷ g.edges)
+    wider = set_cons same_edge e g.edges (edges_are_set g plane_g) more.fresh
 
     -- every sum over the edges
     pub sums : (F : Edge → ℕ) → sum_by F hs ≡ sum_by F (e ∷ g.edges)
-    sums F = same_sum same_edge F hs (e ∷ g.edges) (edges_are_set h plane) (record { sound = same_edge_is; self = same_edge_refl; once = once }) to back
+    sums F = same_sum same_edge F hs (e ∷ g.edges) (edges_are_set h plane) wider to back
 
     -- with e in front it is plane too
     pub plane_w : IsPlaneSkeleton (with_edge g e)
@@ -108,7 +60,7 @@ module _ (g : Skeleton) (hs : List Edge) (e : Edge) where
       proper_edge = λ z Z. plane.proper_edge z (back z Z);
       forward = λ z Z. plane.forward z (back z Z);
       upright = λ z Z. plane.upright z (back z Z);
-      edge_once = once;
+      edge_once = wider.once;
       distinct = plane.distinct;
       clear = λ z v Z V. plane.clear z v (back z Z) V;
       uncrossed = λ y z Y Z. plane.uncrossed y z (back y Y) (back z Z);

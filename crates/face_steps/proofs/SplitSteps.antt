@@ -30,6 +30,8 @@ use Rattle.slab_laws.specs.Subdivision.{first_cell}
 use Rattle.slab_laws.specs.View.{View, Faces, HasVertex, HasDart, point_in, source_in, next_in, cycle_in, face_in}
 use Rattle.slab_faces.proofs.Member.{member_in, in_member, filter_in, filter_out}
 use Rattle.slab_faces.proofs.Slabs.{same_edge_is, same_edge_refl}
+use Rattle.slab_faces.proofs.Sets.{set_cons}
+use Rattle.slab_faces.proofs.Shift.{same_sum}
 use Rattle.slab_faces.proofs.Turns.{face_at, face_sym, member_cases}
 use Rattle.arr_notes.proofs.Names.{cases_dart}
 use Rattle.arr_notes.proofs.Reading.{dart_number}
@@ -46,12 +48,11 @@ use Rattle.face_changes.specs.EdgeSplit.{HasEdgeSplit, whole_dart, FollowsSplit}
 use Rattle.face_changes.specs.Kinds.{is_outer}
 use Rattle.face_changes.specs.FacesByPairs.{Item, outside, beside, round, HasItem, first_or, AreFacesTold}
 use Rattle.face_changes.specs.OneMoreVertex.{widened}
-use Rattle.face_changes.proofs.EdgeOrder.{same_sum}
 use Rattle.face_changes.proofs.EdgeSplit.{edge_split_in_two}
 use Rattle.face_changes.proofs.LinkedCycles.{dart_there, there_dart}
 use Rattle.face_steps.specs.SplitSteps.{whole_name, IsSplitApart, AreHalvesTabled, SplitSteps}
 use Rattle.face_steps.proofs.Alike.{cycles_follow, cycles_followed, IsLike, faces_follow, faces_followed}
-use Rattle.face_steps.proofs.Counted.{in_front, behind, set_cons, point_set, edge_set}
+use Rattle.face_steps.proofs.Counted.{in_front, behind, point_set, edge_set}
 use Rattle.face_steps.proofs.VertexSteps.{item_listed}
 
 -- ---- names

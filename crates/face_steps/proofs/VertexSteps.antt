@@ -24,6 +24,8 @@ use Rattle.slab_laws.specs.Subdivision.{first_cell}
 use Rattle.slab_laws.specs.View.{View, Faces, HasVertex, HasDart, point_in, source_in, twin_in, target_in, face_in}
 use Rattle.slab_faces.proofs.ListedCells.{dart_cell, first_listed}
 use Rattle.slab_faces.proofs.Member.{member_in}
+use Rattle.slab_faces.proofs.Sets.{set_cons}
+use Rattle.slab_faces.proofs.Shift.{same_sum}
 use Rattle.slab_faces.proofs.Turns.{face_at, face_trans, face_sym, member_cases}
 use Rattle.slab_faces.proofs.WallsLemmas.{cell_there}
 use Rattle.arr_notes.proofs.Names.{cases_vertex}
@@ -34,14 +36,13 @@ use Rattle.sound_changes.proofs.KnownNames.{point_known, known_point, edge_known
 use Rattle.face_changes.specs.Kinds.{is_outer}
 use Rattle.face_changes.specs.FacesByPairs.{Item, outside, beside, round, HasItem, cell_at, name_at, first_or, AreFacesTold}
 use Rattle.face_changes.specs.OneMoreVertex.{HasOneMoreVertex, widened}
-use Rattle.face_changes.proofs.EdgeOrder.{same_sum}
 use Rattle.face_changes.proofs.FaceNames.{face_cases}
 use Rattle.face_changes.proofs.LinkedCycles.{dart_there, there_dart}
 use Rattle.face_changes.proofs.OneMoreEdge.{one_outer_cycle}
 use Rattle.face_changes.proofs.OneMoreVertex.{one_more_vertex}
 use Rattle.face_steps.specs.VertexSteps.{IsVertexApart, IsBareApart, IsFaceRound, VertexSteps}
 use Rattle.face_steps.proofs.Alike.{cycles_follow, cycles_followed, IsLike, faces_follow, faces_followed}
-use Rattle.face_steps.proofs.Counted.{in_front, behind, set_cons, point_set}
+use Rattle.face_steps.proofs.Counted.{in_front, behind, point_set}
 
 -- the cells of all that is there are listed
 pub item_listed : (v : View) → IsGraphSound v → (i : Item) → HasItem v i → Contains (cells (skeleton_of v)) (cell_at v i)

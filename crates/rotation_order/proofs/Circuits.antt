@@ -149,8 +149,3 @@ module _ (v : View) (s : IsGraphSound v) (d : DartId) (has : HasDart v d) where
 -- ---- what is read by two calls
 pub read_after : (v : View) (d t n : DartId) → t ≡ twin_in v d → n ≡ next_in v t → n ≡ after_in v d
 read_after v d t n e f = f ∙ ap (λ z. next_in v z) e
-
--- ---- tests of names
-
-pub names_other : (d e : DartId) (b : Bool) → b ≡ (d.0 == e.0) → b ≡ false → d ≢ e
-names_other d e b i f q = clash (eq-eqb d.0 e.0 (ap (λ (z : DartId). z.0) q)) (sym i ∙ f)

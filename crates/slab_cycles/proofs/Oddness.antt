@@ -11,13 +11,14 @@ use Rattle.slab_laws.specs.Rotation.{same_dart, dart_cmp}
 use Rattle.slab_laws.specs.Cycles.{dart_labels, darts_on, odd, left_of_dart}
 use Rattle.slab_laws.specs.Rows.{dart_list, least_dart_of}
 use Rattle.slab_faces.proofs.Sums.{each, sum_by-same}
+use Rattle.slab_faces.proofs.Shift.{same_sum}
 use Rattle.slab_faces.proofs.NextLemmas.{darts_exact}
 use Rattle.slab_faces.proofs.CyclesLemmas.{is_set}
 use Rattle.slab_faces.proofs.PlaneGraphs.{once}
 use Rattle.slab_faces.proofs.DartOrder.{dart_cmp_total, list_ascends}
 use Rattle.edge_predicates.specs.CellsAbove.{is_above}
 use Rattle.edge_predicates.proofs.CellsBeside.{weight_is}
-use Rattle.edge_predicates.proofs.DartsAbove.{same_sum, on_and_above, by_darts, cond_both, flips}
+use Rattle.edge_predicates.proofs.DartsAbove.{on_and_above, by_darts, cond_both, flips}
 use Rattle.slab_cycles.proofs.DartCells.{listed_in, listed_out, edge_there}
 
 -- ---- the darts above the left cell of a cycle's least dart
@@ -36,8 +37,12 @@ counts_not g l d s = ap (λ q. q && is_above l.edge l.forward d.edge) s
 module _ (g : Skeleton) (plane : IsPlaneSkeleton g) where
   pub listed_sum : (F : Dart → ℕ) → sum_by F (darts g) ≡ sum_by F (dart_list g)
   listed_sum F =
-      same_sum same_dart darts_exact F (darts g) (dart_list g) (is_set g plane).once
-      (λ d h. once dart_cmp dart_cmp_total (same_dart d) d (dart_list g) (list_ascends g plane) (to_member (dart_list g) d h) (darts_exact.itself d) (λ z e. sym (darts_exact.path d z e)))
+      same_sum same_dart F (darts g) (dart_list g) (is_set g plane)
+      (record {
+        sound = darts_exact.path;
+        self = darts_exact.itself;
+        once = λ d h. once dart_cmp dart_cmp_total (same_dart d) d (dart_list g) (list_ascends g plane) (to_member (dart_list g) d h) (darts_exact.itself d) (λ z e. sym (darts_exact.path d z e));
+      })
       (listed_in g plane) (listed_out g plane)
 
   module _ (l : Dart) where

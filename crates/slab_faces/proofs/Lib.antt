@@ -44,4 +44,5 @@ pub mod Located
 pub mod LocationLemmas
 pub mod PointLemmas
 pub mod EveryFace
+pub mod Sets
 pub mod FaceOfPoint

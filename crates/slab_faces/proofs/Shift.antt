@@ -1,8 +1,8 @@
--- A sum over a list is the same after a one-to-one map of the list to itself; so a union of orbits is even at each vertex.
+-- A sum over a list is the same over another list with the same members, and after a one-to-one map of the list to itself; so a union of orbits is even at each vertex.
 use Rattle.std.proofs.Common.{◌≡◌, ℕ, ◌+◌, ◌-◌, ◌≤◌, Bool, true, false, cond, arith, refl, sym, ap, ◌∙◌, inl, inr, List, [], ◌∷◌, subst, get_or}
 use Rattle.std.specs.Prelude.{map}
 use Rattle.std.specs.List.{sum_by, count_by, All, Contains}
-use Rattle.std.proofs.lemmas.Bool.{cases_lt}
+use Rattle.std.proofs.lemmas.Bool.{cases_lt, false≢true}
 use Rattle.std.proofs.lemmas.List.Sums.{sum_by-cons, sum_by-append, get_or-le-sum_by}
 use Rattle.slab_laws.specs.Darts.{Dart, source, target, ahead, back, darts}
 use Rattle.exact_plane.specs.Point.{Point}
@@ -43,6 +43,29 @@ pick eq F xs x n in' =
     at : (b : Bool) (m n : ℕ) → (b ≡ true → m ≡ n) → cond b m 0 ≡ cond b n 0
     at true m n h = h refl
     at false m n h = refl
+
+-- lists with the same members, each once, have the same sums
+pub same_sum : {X : Type 0} (eq : X → X → Bool) (F : X → ℕ) (xs ys : List X) → IsSetBy eq xs → IsSetBy eq ys → ((x : X) → Contains xs x → Contains ys x) → ((y : X) → Contains ys y → Contains xs y) → sum_by F xs ≡ sum_by F ys
+same_sum {X} eq F xs ys n k to back =
+    let a : sum_by F xs ≡ sum_by (λ x. sum_by (λ y. cond (eq x y) (F y) 0) ys) xs =
+    sum_by-same _ _ xs (each (λ x. F x ≡ sum_by (λ y. cond (eq x y) (F y) 0) ys) xs (λ x c. sym (pick eq F ys x k (to x c)))) in
+    let b = sum_by-swap (λ x y. cond (eq x y) (F y) 0) xs ys in
+    let d : sum_by (λ y. sum_by (λ x. cond (eq x y) (F y) 0) xs) ys ≡ sum_by F ys =
+    sum_by-same _ _ ys (each (λ y. sum_by (λ x. cond (eq x y) (F y) 0) xs ≡ F y) ys (λ y c.
+    let p = sum_by-cond (λ x. eq x y) (F y) xs in
+    let q : count_by (λ x. eq x y) xs ≡ 1 = sum_by-same (λ x. cond (eq x y) 1 0) (λ x. cond (eq y x) 1 0) xs (each (λ x. cond {A = ℕ} (eq x y) 1 0 ≡ cond (eq y x) 1 0) xs (λ x _. ap (λ b. cond {A = ℕ} b 1 0) (turn x y))) ∙ n.once y (back y c) in
+    let p' = rw q at p in
+    p' ∙ omega arith)) in
+    a ∙ b ∙ d
+  where
+    turn : (x y : X) → eq x y ≡ eq y x
+    turn x y = go (eq x y) (eq y x) refl refl
+      where
+        go : (a b : Bool) → eq x y ≡ a → eq y x ≡ b → a ≡ b
+        go true true p q = refl
+        go false false p q = refl
+        go true false p q = absurd (false≢true (sym q ∙ subst (λ z. eq z x ≡ true) (n.sound x y p) (n.self x)))
+        go false true p q = absurd (false≢true (sym p ∙ subst (λ z. eq z y ≡ true) (n.sound y x q) (n.self y)))
 
 -- how many members go to y: one
 hits : {X : Type 0} (eq : X → X → Bool) (s : X → X) (xs : List X) → IsSetBy eq xs → IsOneToOne s xs → All (λ y. count_by (λ x. eq (s x) y) xs ≡ 1) xs

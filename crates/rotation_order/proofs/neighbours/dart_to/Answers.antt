@@ -2,8 +2,8 @@ use Rattle.std.proofs.Common.{◌≡◌, ◌≢◌, ◌<◌, refl, sym, subst, �
 use Rattle.slab_laws.specs.declared.names.DartId.{DartId}
 use Rattle.slab_laws.specs.View.{View, HasDart, IsOutOf, point_in, source_in, target_in}
 use Rattle.arr_notes.specs.AfterAround.{after_in}
-use Rattle.arr_notes.proofs.Names.{same_name}
-use Rattle.rotation_order.proofs.Circuits.{left, nearer, after_out, read_after, names_other}
+use Rattle.arr_notes.proofs.Names.{same_name, other_name}
+use Rattle.rotation_order.proofs.Circuits.{left, nearer, after_out, read_after}
 use Rattle.rotation_order.proofs.Searches.{NoneTo, none_yet, one_more, none_at_all}
 use Rattle.rotation_order.proofs.neighbours.dart_to.Goals as goal
 
@@ -38,14 +38,14 @@ ring-smaller g c =
     let first : DartId = c.in_ok-first.first in
     let q : c.next-dart-in-ring.result ≡ after_in v c.ring.dart = read_after v c.ring.dart c.twin-in-ring.result c.next-dart-in-ring.result c.twin-in-ring.ensures.twin c.next-dart-in-ring.ensures in
     subst (λ (z : DartId). left v first z < left v first c.ring.dart) (sym q)
-    (nearer v c.requires.sound first c.in_ok-first.ensures.some.0 c.ring.dart c.ring.invariant.out (names_other c.ring.dart first c.eq.result c.eq.ensures c.if-eq.false))
+    (nearer v c.requires.sound first c.in_ok-first.ensures.some.0 c.ring.dart c.ring.invariant.out (other_name c.ring.dart first c.eq.result c.eq.ensures c.if-eq.false))
 
 pub ring-preserved : goal.ring-preserved
 ring-preserved g c =
     let v : View = g.R.Darts.graph c.args.records.now in
     let first : DartId = c.in_ok-first.first in
     let has : HasDart v first = c.in_ok-first.ensures.some.0 in
-    let other : c.ring.dart ≢ first = names_other c.ring.dart first c.eq.result c.eq.ensures c.if-eq.false in
+    let other : c.ring.dart ≢ first = other_name c.ring.dart first c.eq.result c.eq.ensures c.if-eq.false in
     let miss : point_in v (target_in v c.ring.dart) ≢ c.args.to.now = c.leads_to.ensures.elsewhere c.ring-test.true in
     let q : c.next-dart-in-ring.result ≡ after_in v c.ring.dart = read_after v c.ring.dart c.twin-in-ring.result c.next-dart-in-ring.result c.twin-in-ring.ensures.twin c.next-dart-in-ring.ensures in
     record {

@@ -24,7 +24,7 @@ heed-answer-requires g c κs = (refl, λ i. (tt, (λ a m. i a (mem-append_right 
 pub invariant_of-self : goal.invariant_of-self
 invariant_of-self g c = record { join_counts = c.args.self.now.join_counts; leave_counts = c.args.self.now.leave_counts }
 
--- what it holds then is left to the search: a welcome without a snapshot is to fail there, and not by a name that is gone
+-- what it holds then is left to the search
 pub returns-in-Stay-clause-tells : goal.returns-in-Stay-clause-tells
 returns-in-Stay-clause-tells g c =
     let same = c.deref_box_mut-1.ensures.value.1 in
