@@ -6,7 +6,8 @@
 # Builds the program in benchmarks/cycle_calls/ over copies of the crates. The boundary of a square, whose lower edge is cut
 # so that it has DARTS darts, is asked for its least dart, its kind and its abscissas; then whether it is odd beside a square
 # within it, first by a walk, then with its abscissas known; and, with these, beside a square on its right, which they leave
-# clear. It runs that under callgrind (of valgrind), and prints the instructions of a call, with all that it calls.
+# clear. It runs that ten times over under callgrind (of valgrind), and prints the instructions of each call, with all that it
+# calls.
 set -eu
 cd "$(dirname "$0")/.."
 folder=$(mktemp -d)
@@ -36,23 +37,17 @@ done
 mkdir -p "$own/specs"
 touch "$own/specs/Lib.antt" "$own/proofs/Lib.antt"
 git init -q "$folder"
-(cd "$own" && echo 'nothing 0 0' | rt run > /dev/null)
+(cd "$own" && echo '0 0' | rt run > /dev/null)
 program=$own/out/cycle_calls
-
-# WHAT DARTS NAME: the instructions of one call.
-one() {
-  echo "$1 $(($2 - 4)) 10" | valgrind --tool=callgrind --callgrind-out-file="$folder/profile" "$program" 2> /dev/null | grep -qx 10
-  total=$(callgrind_annotate --inclusive=yes --threshold=100 "$folder/profile" | sed -n "s/^ *\([0-9,]*\) .*:cycle_calls::asks::$3 \[.*/\1/p" | tr -d ,)
-  echo "$1, $2 darts: $((total / 10))"
-}
 
 for darts in "${@:-4 100 10000}"; do
   for n in $darts; do
-    one least "$n" ask_least
-    one kind "$n" ask_kind
-    one extent "$n" ask_extent
-    one beside "$n" ask_beside
-    one within "$n" ask_within
-    one clear "$n" ask_within
+    echo "$((n - 4)) 10" | valgrind --tool=callgrind --callgrind-out-file="$folder/profile" "$program" 2> /dev/null > "$folder/right"
+    [ "$(cat "$folder/right")" = 10 ] || { echo "cycle_calls.sh: not all answers were right" >&2; exit 1; }
+    callgrind_annotate --inclusive=yes --threshold=100 "$folder/profile" > "$folder/calls"
+    for call in least kind extent beside within clear; do
+      total=$(sed -n "s/^ *\([0-9,]*\) .*:cycle_calls::asks::ask_$call \[.*/\1/p" "$folder/calls" | tr -d ,)
+      echo "$call, $n darts: $((total / 10))"
+    done
   done
 done

@@ -14,7 +14,7 @@ what=${1:-count}
 [ $# = 0 ] || shift
 folder=$(mktemp -d)
 trap 'rm -rf "$folder"' EXIT
-below='zone_walk locate_naive record_orders edge_split_merge edge_unlink edge_link sound_changes rotation_order sound_views edge_predicates dcel_records arr_notes slab_faces slab_laws plane_graphs exact_plane no_memory'
+below='record_orders edge_split_merge edge_unlink edge_link sound_changes rotation_order sound_views edge_predicates dcel_records arr_notes slab_faces slab_laws plane_graphs exact_plane no_memory'
 crates=$(for crate in $below; do echo "$crate"; sed -n "s/^$crate: //p" crates.txt; done | tr ' ' '\n' | sort -u)
 mkdir "$folder/crates"
 cp HANDLES "$folder/"
@@ -25,8 +25,10 @@ for crate in $crates; do
   fi
 done
 echo "record_calls: $below" >> "$folder/crates.txt"
-# A hint to the compiler, which changes no proof: so each of the calls is counted by its name.
-for place in edge_unlink/src/edges.rt:unlink edge_split_merge/src/joining.rt:merge edge_split_merge/src/parting.rt:split; do
+# A hint to the compiler, which changes no proof: so each of the calls stands under its own name, with what it does itself and what
+# it hands to `link`, `unlink_edge`, `split_at` or `merge_at`.
+for place in edge_link/src/links.rt:link_at_one edge_unlink/src/edges.rt:unlink edge_split_merge/src/joining.rt:merge edge_split_merge/src/parting.rt:split; do
+  grep -q "^pub fn ${place#*:}(" "$folder/crates/${place%:*}" || { echo "record_calls.sh: no ${place#*:} in ${place%:*}" >&2; exit 1; }
   sed -i "s/^pub fn ${place#*:}(/#[inline(never)]\n&/" "$folder/crates/${place%:*}"
 done
 # The gate reads every .rt and .antt file of the repository, so the program's files have other names here.
@@ -39,10 +41,13 @@ git init -q "$folder"
 (cd "$own" && echo 'nothing 1 0' | rt run > /dev/null)
 program=$own/out/record_calls
 
-# WHAT DEGREE COUNT NAME: the instructions of all calls of NAME.
+# WHAT DEGREE COUNT NAME: the instructions of all calls of NAME, 0 where there is none. All COUNT changes have to go well.
 instructions() {
-  echo "$1 $2 $3" | valgrind --tool=callgrind --callgrind-out-file="$folder/profile" "$program" > /dev/null 2>&1
-  callgrind_annotate --inclusive=yes --threshold=100 "$folder/profile" | sed -n "s/^ *\([0-9,]*\) .*:$4 \[.*/\1/p" | tr -d ,
+  local found
+  echo "$1 $2 $3" | valgrind --tool=callgrind --callgrind-out-file="$folder/profile" "$program" 2> /dev/null > "$folder/done"
+  [ "$(cat "$folder/done")" = "$3" ] || { echo "record_calls.sh: not all changes went well" >&2; exit 1; }
+  found=$(callgrind_annotate --inclusive=yes --threshold=100 "$folder/profile" | sed -n "s/^ *\([0-9,]*\) .*:$4 \[.*/\1/p" | tr -d ,)
+  echo "${found:-0}"
 }
 
 # WHAT DEGREE NAME: those of one call, without those that build the star.
@@ -50,7 +55,8 @@ one() {
   local built changed
   built=$(instructions "$1" "$2" 0 "$3")
   changed=$(instructions "$1" "$2" 10 "$3")
-  echo "$3, degree $2: $(((changed - ${built:-0}) / 10))"
+  [ "$changed" -gt "$built" ] || { echo "record_calls.sh: no call of $3 was counted" >&2; exit 1; }
+  echo "$3, degree $2: $(((changed - built) / 10))"
 }
 
 if [ "$what" = count ]; then
