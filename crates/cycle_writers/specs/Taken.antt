@@ -1,0 +1,36 @@
+-- What is taken from a face.
+use Rattle.std.specs.Prelude.{Bool, true, ◌==◌, ◌&&◌, not, cond, List, ⊤}
+use Rattle.std.specs.List.{filter}
+use Rattle.slab_laws.specs.declared.names.CycleId.{CycleId}
+use Rattle.slab_laws.specs.declared.names.FaceId.{FaceId}
+use Rattle.slab_laws.specs.declared.names.VertexId.{VertexId}
+use Rattle.slab_laws.specs.FaceLists.{Lists}
+use Rattle.slab_laws.specs.Sound.{skeleton_of, dart_in}
+use Rattle.slab_laws.specs.View.{View, HasDart}
+use Rattle.boundary_cycles.specs.Extents.{IsExtent}
+use Rattle.face_changes.specs.FacesByPairs.{Item, beside, round, cell_at}
+use Rattle.face_changes.specs.Kinds.{odd_at}
+use Rattle.cycle_writers.specs.declared.moves.Which.{Which}
+use Rattle.cycle_writers.specs.declared.moves.Which.TheVariants.{All, Apart}
+
+-- one of both, not the other
+abbrev pub differ : Bool → Bool → Bool
+differ a b = cond a (not b) b
+
+-- whether a thing is taken: where not all are, it goes by the parity of a cycle at its cell (book, ray shooting)
+abbrev pub takes : View → Which → Item → Bool
+takes v All i = true
+takes v (Apart half extent side) i = differ (odd_at (skeleton_of v) (dart_in v half) (cell_at v i)) side
+
+-- the dart has a record, and the extent is that of its cycle
+abbrev pub IsWhich : View → Which → Type 0
+IsWhich v All = ⊤
+IsWhich v (Apart half extent side) = HasDart v half × IsExtent v half extent
+
+-- of the cycles that a face lists those that are taken, but one; each is asked at the dart that is kept for it
+abbrev pub cycles_taken : View → Which → CycleId → Lists → FaceId → List CycleId
+cycles_taken v which but l from = filter (λ c. not (c.0 == but.0) && takes v which (beside (l.dart_on c))) (l.cycles from)
+
+-- of the isolated vertices that a face lists those that are taken
+abbrev pub vertices_taken : View → Which → Lists → FaceId → List VertexId
+vertices_taken v which l from = filter (λ u. takes v which (round u)) (l.bare from)
