@@ -6,6 +6,7 @@
 
 mod bare;
 mod cycles;
+mod facing;
 mod keys;
 mod links;
 mod listing;
