@@ -41,8 +41,8 @@ module _ {R : Type 0} (g : Placing R) where
   fits : (rs : Slab R) (f : Option ℕ) (k : ℕ) (xs : List ℕ) → IsListed (nodes g rs) f k xs → length xs ≤ length (entries rs)
   fits rs f k xs l =
       let most : length xs ≤ length (names (entries rs)) = no_more xs (names (entries rs)) (once_from_distinct xs l.once) (λ n c.
-          let y = key_some (nodes g rs) n k ((l.members n).0 c) in
-          key_named rs n (node_row g rs n (ap is_some y.1))) in
+      let y = key_some (nodes g rs) n k ((l.members n).0 c) in
+      key_named rs n (node_row g rs n (ap is_some y.1))) in
       let a : length (names (entries rs)) ≡ length (entries rs) = length-map (entries rs) _ in
       omega (arith, most, a)
 

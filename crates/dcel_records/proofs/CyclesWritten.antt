@@ -12,7 +12,7 @@ use Rattle.slab_laws.specs.declared.names.DartId.{DartId}
 use Rattle.slab_laws.specs.declared.names.FaceId.{FaceId}
 use Rattle.slab_laws.specs.FaceLists.{Lists, MovedView}
 use Rattle.slab_laws.specs.Tables.{row_at, names}
-use Rattle.slab_laws.specs.View.{Faces, HasCycle, HasFace, cycle_id, vertex_id, dart_id, kind_in, kind_or}
+use Rattle.slab_laws.specs.View.{Faces, CycleRecord, HasCycle, HasFace, cycle_id, vertex_id, dart_id, kind_in, kind_or}
 use Rattle.arr_notes.specs.FaceWriters.{with_cycle, without_cycle, with_face, without_face}
 use Rattle.arr_notes.specs.NamedRows.{put, del}
 use Rattle.chain_laws.specs.Links.{Node, first_or, key_at, AreListed}
@@ -225,10 +225,16 @@ module _ (vs : Slab StoredVertex) (ds : Slab StoredDart) (cs : Slab StoredCycle)
             by true = refl
             by false = refl
 
--- what a reader of cycles answers
-pub cycle_found : (vs : Slab StoredVertex) (ds : Slab StoredDart) (cs : Slab StoredCycle) (fs : Slab StoredFace) (mv : Option MovedView) (vr cr : ℕ) (h : RecordsView) → records_view vs ds cs fs mv vr cr ≡ h → (c : CycleId) (o : Option StoredCycle) → get cs c.0 ≡ o → option_map (λ r. (r.kind, r.place.face)) o ≡ option_map (λ r. (r.kind, r.face)) (row_at h.faces.tables.cycles c.0)
-cycle_found vs ds cs fs mv vr cr h is c o e = by o ∙ ap (λ p. option_map (λ r. (r.kind, r.face)) (option_map cycle_record p)) (sym e) ∙ ap (option_map (λ r. (r.kind, r.face))) (sym (row-tabled cycle_record cs c.0)) ∙ ap (λ v. option_map (λ r. (r.kind, r.face)) (row_at v.faces.tables.cycles c.0)) is
+-- ---- what a reader of cycles answers
+abbrev told : CycleRecord → CycleKind × FaceId
+told r = (r.kind, r.face)
+
+abbrev told_by : StoredCycle → CycleKind × FaceId
+told_by r = (r.kind, r.place.face)
+
+pub cycle_found : (vs : Slab StoredVertex) (ds : Slab StoredDart) (cs : Slab StoredCycle) (fs : Slab StoredFace) (mv : Option MovedView) (vr cr : ℕ) (h : RecordsView) → records_view vs ds cs fs mv vr cr ≡ h → (c : CycleId) (o : Option StoredCycle) → get cs c.0 ≡ o → option_map told_by o ≡ option_map told (row_at h.faces.tables.cycles c.0)
+cycle_found vs ds cs fs mv vr cr h is c o e = by o ∙ ap (λ p. option_map told (option_map cycle_record p)) (sym e) ∙ ap (option_map told) (sym (row-tabled cycle_record cs c.0)) ∙ ap (λ (t : Faces). option_map told (row_at t.cycles c.0)) (ap tables_of is)
   where
-    by : (o : Option StoredCycle) → option_map (λ r. (r.kind, r.place.face)) o ≡ option_map (λ r. (r.kind, r.face)) (option_map cycle_record o)
+    by : (o : Option StoredCycle) → option_map told_by o ≡ option_map told (option_map cycle_record o)
     by None = refl
     by (Some r) = refl

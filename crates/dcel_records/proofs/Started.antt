@@ -24,7 +24,7 @@ vacant_by : {X : Type 0} (s : Slab X) → s.slots ≡ [] → (n : ℕ) → get s
 vacant_by s e n = ap (λ os. slice_index_or os n None) e
 
 no_names : {X : Type 0} (s : Slab X) → s.slots ≡ [] → names (entries s) ≡ []
-no_names s e = sym (names_tabled (λ x. 0) s) ∙ ap names (tabled_empty (λ x. 0) s e)
+no_names s e = sym (names_tabled {Y = ℕ} (λ x. 0) s) ∙ ap names (tabled_empty {Y = ℕ} (λ x. 0) s e)
 
 first_name : put_name 0 [] ≡ 0 ∷ []
 unfolding put_name
@@ -39,14 +39,14 @@ module _ (vs : Slab StoredVertex) (ds : Slab StoredDart) (cs : Slab StoredCycle)
   at_first : get gs 0 ≡ Some r
   at_first = ap (get gs) (sym z) ∙ put.changed
 
-  firsts : {f : StoredFace → Option ℕ} → f r ≡ None → (j : ℕ) → first_or (option_map f (get gs j)) ≡ None
-  firsts {f} q j = elim (cases_eq j k) [
+  firsts : (f : StoredFace → Option ℕ) → f r ≡ None → (j : ℕ) → first_or (option_map f (get gs j)) ≡ None
+  firsts f q j = elim (cases_eq j k) [
     | inl s ↦ ap (λ n. first_or (option_map f (get gs n))) s ∙ ap (λ o. first_or (option_map f o)) put.changed ∙ q
     | inr ne ↦ ap (λ o. first_or (option_map f o)) (put.others j ne ∙ vacant_by fs e j)
   ]
 
   pub lone_sound : AreSoundFaces vs cs gs
-  lone_sound = record { cycles = chained_empty cycle_placing cs gs (vacant_by cs d) (firsts no_cycle); bare = chained_empty vertex_placing vs gs (vacant_by vs a) (firsts no_bare); unbounded = ap is_some at_first }
+  lone_sound = record { cycles = chained_empty cycle_placing cs gs (vacant_by cs d) (firsts (λ x. x.first_cycle) no_cycle); bare = chained_empty vertex_placing vs gs (vacant_by vs a) (firsts (λ x. x.first_bare) no_bare); unbounded = ap is_some at_first }
 
   pub lone_tables : tables_in vs ds cs gs ≡ lone_face
   lone_tables = λ i. record { cycle_of = tabled_empty (λ r. r.cycle) ds b i; bare = bare i; cycles = tabled_empty cycle_record cs d i; faces = faces i }
@@ -58,7 +58,7 @@ module _ (vs : Slab StoredVertex) (ds : Slab StoredDart) (cs : Slab StoredCycle)
       faces = names_put fs gs k r put ∙ ap (put_name k) (no_names fs e) ∙ ap (λ n. put_name n []) z ∙ first_name
 
   pub lone_lists : (mv : Option MovedView) (vr cr : ℕ) → lists_of (records_view vs ds cs gs mv vr cr) ≡ nothing_listed
-  lone_lists mv vr cr = lists_seen vs cs gs ds mv cr ∙ (λ i. record { cycles = λ x. map cycle_id (own_first cycle_placing cs gs x.0 (firsts no_cycle x.0) i); bare = λ x. map vertex_id (own_first vertex_placing vs gs x.0 (firsts no_bare x.0) i); dart_on = λ c. dart_kept (vacant_by cs d c.0 i) })
+  lone_lists mv vr cr = lists_seen vs cs gs ds mv cr ∙ (λ i. record { cycles = λ x. map cycle_id (own_first cycle_placing cs gs x.0 (firsts (λ y. y.first_cycle) no_cycle x.0) i); bare = λ x. map vertex_id (own_first vertex_placing vs gs x.0 (firsts (λ y. y.first_bare) no_bare x.0) i); dart_on = λ c. dart_kept (vacant_by cs d c.0 i) })
 
 -- lists of what moves, just made
 pub lists_ready : (x : MovedView) → x.cycles ≡ [] → x.vertices ≡ [] → AreReadyWhere (Some x) 0 0
