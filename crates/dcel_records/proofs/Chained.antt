@@ -8,7 +8,7 @@ use Rattle.plane_graphs.proofs.Lists.{some_mapped}
 use Rattle.slab.specs.Slab.{Slab, get, entries, ContainsKey}
 use Rattle.slab_laws.specs.declared.names.FaceId.{FaceId}
 use Rattle.slab_laws.specs.Tables.{row_at, names}
-use Rattle.chain_laws.specs.Links.{Node, first_or, trail, head_of, comes_after, after_at, key_at, IsLinked, IsListed, AreListed}
+use Rattle.chain_laws.specs.Links.{Node, first_or, trail, head_of, comes_after, after_at, key_at, IsListed, AreListed}
 use Rattle.chain_laws.proofs.Changes.{key_some}
 use Rattle.chain_laws.proofs.Distinct.{here, there, nowhere, once_from_distinct, no_more}
 use Rattle.chain_laws.proofs.Linked.{head_is, trail_is, after_is}

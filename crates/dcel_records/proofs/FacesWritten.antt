@@ -1,11 +1,10 @@
 -- Faces after one more, and after one fewer.
-use Rattle.std.proofs.Common.{◌≡◌, ◌≢◌, inl, inr, ℕ, ◌-◌, List, [], ◌∷◌, map, Option, Some, None, is_some, IsSome, option_map, refl, sym, ap, subst, ◌∙◌, Contains}
+use Rattle.std.proofs.Common.{◌≡◌, ◌≢◌, inl, inr, ℕ, List, [], ◌∷◌, map, Option, Some, None, is_some, IsSome, option_map, refl, sym, ap, subst, ◌∙◌, Contains}
 use Rattle.std.proofs.lemmas.Bool.{cases_eq, false≢true}
-use Rattle.slab.specs.Slab.{Slab, get, entries, Updates}
+use Rattle.slab.specs.Slab.{Slab, get, Updates}
 use Rattle.slab_laws.specs.declared.names.FaceId.{FaceId}
 use Rattle.slab_laws.specs.FaceLists.{Lists, MovedView}
-use Rattle.slab_laws.specs.Tables.{names}
-use Rattle.slab_laws.specs.View.{Faces, HasFace, face_id, cycle_id, vertex_id}
+use Rattle.slab_laws.specs.View.{HasFace, face_id, cycle_id, vertex_id}
 use Rattle.arr_notes.specs.FaceWriters.{with_face, without_face}
 use Rattle.chain_laws.specs.Links.{first_or, head_of, key_at}
 use Rattle.chain_laws.proofs.Distinct.{nowhere}

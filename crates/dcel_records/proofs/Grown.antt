@@ -1,8 +1,7 @@
 -- Slabs that have grown keep all that they hold.
-use Rattle.std.proofs.Common.{◌≡◌, ℕ, ◌+◌, ◌≤◌, count_by, max, Option, is_some, refl, sym, ap, subst, ◌∙◌, arith}
+use Rattle.std.proofs.Common.{◌≡◌, ℕ, ◌+◌, count_by, max, Option, is_some, refl, sym, ap, subst, ◌∙◌, arith}
 use Rattle.slab.specs.Slab.{Slab, slab_len, HasRoomFor}
-use Rattle.slab_laws.specs.FaceLists.{Lists, MovedView}
-use Rattle.slab_laws.specs.View.{Faces}
+use Rattle.slab_laws.specs.FaceLists.{MovedView}
 use Rattle.dcel_records.specs.declared.rows.StoredVertex.{StoredVertex}
 use Rattle.dcel_records.specs.declared.rows.StoredCycle.{StoredCycle}
 use Rattle.dcel_records.specs.declared.rows.StoredDart.{StoredDart}

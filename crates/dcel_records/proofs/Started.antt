@@ -1,21 +1,21 @@
 -- The records of nothing but the unbounded face, and slabs that keep all that they hold.
-use Rattle.std.proofs.Common.{◌≡◌, ◌≢◌, inl, inr, ℕ, ◌-◌, List, [], ◌∷◌, map, slice_index_or, Option, Some, None, is_some, IsSome, option_map, refl, sym, ap, subst, ◌∙◌, arith}
+use Rattle.std.proofs.Common.{◌≡◌, inl, inr, ℕ, [], ◌∷◌, map, slice_index_or, Option, Some, None, is_some, option_map, refl, sym, ap, subst, ◌∙◌, arith}
 use Rattle.std.proofs.lemmas.Bool.{cases_eq}
-use Rattle.slab.specs.Slab.{Slab, get, entries, entries_from, slab_len, Updates}
-use Rattle.slab_laws.specs.FaceLists.{Lists, MovedView}
+use Rattle.slab.specs.Slab.{Slab, get, entries, Updates}
+use Rattle.slab_laws.specs.FaceLists.{MovedView}
 use Rattle.slab_laws.specs.Tables.{names}
-use Rattle.slab_laws.specs.View.{Faces, cycle_id, vertex_id, dart_id}
-use Rattle.chain_laws.specs.Links.{Node, first_or, AreListed}
+use Rattle.slab_laws.specs.View.{cycle_id, vertex_id}
+use Rattle.chain_laws.specs.Links.{first_or}
 use Rattle.arr_notes.specs.FaceWriters.{put_name}
 use Rattle.dcel_records.specs.declared.rows.StoredCycle.{StoredCycle}
 use Rattle.dcel_records.specs.declared.rows.StoredDart.{StoredDart}
 use Rattle.dcel_records.specs.declared.rows.StoredFace.{StoredFace}
 use Rattle.dcel_records.specs.declared.rows.StoredVertex.{StoredVertex}
 use Rattle.dcel_records.specs.ListChanges.{lone_face, nothing_listed}
-use Rattle.dcel_records.specs.Placing.{Placing, node_or, nodes, heads, own, cycle_placing, vertex_placing, AreChained}
-use Rattle.dcel_records.specs.RecordsView.{RecordsView, lists_of}
-use Rattle.dcel_records.specs.StoredRows.{tabled, cycle_record, bare_of, somes, dart_kept, tables_in, lists_in, face_rows, records_view, AreReady, AreReadyWhere, AreSoundFaces}
-use Rattle.dcel_records.proofs.Chained.{own_seen, chained_empty, own_first}
+use Rattle.dcel_records.specs.Placing.{cycle_placing, vertex_placing}
+use Rattle.dcel_records.specs.RecordsView.{lists_of}
+use Rattle.dcel_records.specs.StoredRows.{tabled, cycle_record, bare_of, somes, dart_kept, tables_in, records_view, AreReady, AreReadyWhere, AreSoundFaces}
+use Rattle.dcel_records.proofs.Chained.{chained_empty, own_first}
 use Rattle.dcel_records.proofs.FaceTables.{names_put, lists_seen}
 use Rattle.dcel_records.proofs.After.{names_tabled}
 use Rattle.dcel_records.proofs.Tabled.{tabled_empty}

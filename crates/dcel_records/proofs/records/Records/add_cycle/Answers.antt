@@ -1,5 +1,5 @@
 use Rattle.dcel_records.proofs.Rooms.{room_more, room_fits}
-use Rattle.std.proofs.Common.{sym, ap, refl, arith, is_some, ◌∙◌}
+use Rattle.std.proofs.Common.{ap, refl, arith, is_some, ◌∙◌}
 use Rattle.slab_laws.specs.View.{cycle_id}
 use Rattle.dcel_records.specs.RecordsView.{graph_part}
 use Rattle.dcel_records.specs.ListChanges.{cycle_listed}

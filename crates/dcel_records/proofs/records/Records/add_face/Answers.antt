@@ -1,4 +1,3 @@
-use Rattle.std.proofs.Common.{ap}
 use Rattle.slab_laws.specs.View.{face_id}
 use Rattle.dcel_records.proofs.FacesWritten.{face_new, face_more_sound, face_more_tables, face_more_lists}
 use Rattle.dcel_records.proofs.Relinked.{lists_after}

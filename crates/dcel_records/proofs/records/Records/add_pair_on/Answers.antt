@@ -2,7 +2,7 @@ use Rattle.dcel_records.proofs.Rooms.{room_same}
 use Rattle.dcel_records.proofs.Holding.{graph_seen}
 use Rattle.arr_notes.specs.NamedRows.{put}
 use Rattle.dcel_records.proofs.FacesKept.{faces_sound, faces_column, column_more, nodes_given}
-use Rattle.std.proofs.Common.{refl, ap, ◌∙◌}
+use Rattle.std.proofs.Common.{refl, ◌∙◌}
 use Rattle.slab_laws.specs.View.{dart_id}
 use Rattle.dcel_records.proofs.Holding.{vertex_key}
 use Rattle.dcel_records.proofs.Adding.{offered_key, edge_written, written_kept, no_d, no_m}

@@ -2,7 +2,7 @@ use Rattle.dcel_records.proofs.Removing.{len_written}
 use Rattle.dcel_records.proofs.Rooms.{room_same}
 use Rattle.dcel_records.proofs.Holding.{graph_seen}
 use Rattle.dcel_records.proofs.FacesKept.{faces_sound, faces_column, nodes_written}
-use Rattle.std.proofs.Common.{false, arith, refl, ap}
+use Rattle.std.proofs.Common.{false, arith, refl}
 use Rattle.dcel_records.proofs.Holding.{vertex_key}
 use Rattle.dcel_records.proofs.Writing.{pin_same, pin_graph, pin_kept}
 use Rattle.dcel_records.proofs.Pins.{pin_less}

@@ -1,6 +1,5 @@
 use Rattle.dcel_records.proofs.Rooms.{room_same}
-use Rattle.std.proofs.Common.{sym, ap, refl, arith, is_some, ◌∙◌}
-use Rattle.dcel_records.specs.RecordsView.{graph_part}
+use Rattle.std.proofs.Common.{ap, arith}
 use Rattle.dcel_records.specs.ListChanges.{vertex_relisted}
 use Rattle.dcel_records.proofs.Places.{node_row}
 use Rattle.dcel_records.specs.Placing.{vertex_placing}

@@ -1,5 +1,5 @@
 use Rattle.dcel_records.proofs.Rooms.{room_same}
-use Rattle.std.proofs.Common.{sym, ap, refl, arith, is_some, ◌∙◌}
+use Rattle.std.proofs.Common.{ap, arith, ◌∙◌}
 use Rattle.dcel_records.specs.RecordsView.{graph_part}
 use Rattle.slab_laws.specs.View.{kind_in}
 use Rattle.dcel_records.specs.ListChanges.{cycle_relisted}

@@ -2,7 +2,7 @@ use Rattle.dcel_records.proofs.Removing.{len_written}
 use Rattle.dcel_records.proofs.Rooms.{room_same}
 use Rattle.dcel_records.proofs.Holding.{graph_seen}
 use Rattle.dcel_records.proofs.FacesKept.{faces_sound, faces_column, column_written, nodes_written}
-use Rattle.std.proofs.Common.{refl, ap}
+use Rattle.std.proofs.Common.{refl}
 use Rattle.dcel_records.proofs.Holding.{dart_key, source_is}
 use Rattle.dcel_records.proofs.Removing.{source_key}
 use Rattle.dcel_records.proofs.Writing.{source_graph, source_kept}

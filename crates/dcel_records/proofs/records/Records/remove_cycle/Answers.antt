@@ -1,6 +1,5 @@
 use Rattle.dcel_records.proofs.Rooms.{room_less}
-use Rattle.std.proofs.Common.{sym, ap, refl, arith, is_some, ◌∙◌}
-use Rattle.slab_laws.specs.View.{cycle_id}
+use Rattle.std.proofs.Common.{ap, arith, ◌∙◌}
 use Rattle.dcel_records.specs.RecordsView.{graph_part}
 use Rattle.dcel_records.specs.ListChanges.{cycle_unlisted}
 use Rattle.dcel_records.proofs.Relinked.{lists_after}

@@ -4,7 +4,7 @@ use Rattle.arr_notes.specs.NamedRows.{del}
 use Rattle.slab_laws.specs.declared.names.DartId.{DartId}
 use Rattle.slab_laws.specs.View.{twin_in}
 use Rattle.dcel_records.proofs.FacesKept.{faces_sound, faces_column, column_less, nodes_out_twice}
-use Rattle.std.proofs.Common.{refl, ap, ◌∙◌}
+use Rattle.std.proofs.Common.{refl, ap}
 use Rattle.dcel_records.proofs.Holding.{dart_key, source_is, twin_is}
 use Rattle.dcel_records.proofs.Removing.{key_written, len_out_twice, less_spare, source_key, twin_there, twin_source, target_key}
 use Rattle.dcel_records.proofs.Writing.{less_graph, less_kept}

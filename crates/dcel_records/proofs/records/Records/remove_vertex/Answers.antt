@@ -1,7 +1,6 @@
 use Rattle.dcel_records.proofs.Rooms.{room_less}
 use Rattle.dcel_records.proofs.Holding.{graph_seen}
 use Rattle.std.proofs.Common.{ap, arith, ◌∙◌}
-use Rattle.dcel_records.specs.RecordsView.{graph_part}
 use Rattle.dcel_records.specs.ListChanges.{vertex_unlisted}
 use Rattle.dcel_records.proofs.Holding.{vertex_key}
 use Rattle.dcel_records.proofs.Writing.{gone_graph, gone_kept}

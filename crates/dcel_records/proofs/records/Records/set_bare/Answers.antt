@@ -1,7 +1,6 @@
 use Rattle.dcel_records.proofs.Rooms.{room_same}
 use Rattle.dcel_records.proofs.Holding.{graph_seen}
-use Rattle.std.proofs.Common.{sym, ap, refl, arith, is_some, ◌∙◌}
-use Rattle.dcel_records.specs.RecordsView.{graph_part}
+use Rattle.std.proofs.Common.{ap, arith}
 use Rattle.dcel_records.specs.ListChanges.{vertex_listed}
 use Rattle.dcel_records.proofs.Holding.{vertex_key}
 use Rattle.dcel_records.proofs.Relinked.{lists_after, face_key}

@@ -1,5 +1,5 @@
 use Rattle.dcel_records.proofs.Rooms.{room_same}
-use Rattle.std.proofs.Common.{sym, ap, refl, arith, is_some, ◌∙◌}
+use Rattle.std.proofs.Common.{ap, refl, arith}
 use Rattle.dcel_records.specs.RecordsView.{graph_part}
 use Rattle.dcel_records.specs.ListChanges.{dart_listed}
 use Rattle.dcel_records.proofs.Relinked.{lists_after}

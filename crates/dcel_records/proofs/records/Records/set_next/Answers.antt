@@ -1,6 +1,6 @@
 use Rattle.dcel_records.proofs.Holding.{graph_seen}
 use Rattle.dcel_records.proofs.FacesKept.{faces_sound, faces_column, column_written}
-use Rattle.std.proofs.Common.{refl, ap}
+use Rattle.std.proofs.Common.{refl}
 use Rattle.dcel_records.proofs.Holding.{dart_key}
 use Rattle.dcel_records.proofs.Writing.{next_graph, next_kept}
 use Rattle.dcel_records.proofs.Pins.{pins_kept}
