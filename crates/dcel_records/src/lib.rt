@@ -7,6 +7,7 @@
 mod bare;
 mod cycles;
 mod facing;
+mod face_laws;
 mod keys;
 mod links;
 mod listing;
