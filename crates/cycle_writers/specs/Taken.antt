@@ -1,5 +1,5 @@
 -- What is taken from a face.
-use Rattle.std.specs.Prelude.{Bool, true, ◌==◌, ◌&&◌, not, cond, List, ⊤}
+use Rattle.std.specs.Prelude.{Bool, true, ◌==◌, ◌&&◌, not, List, ⊤}
 use Rattle.std.specs.List.{filter}
 use Rattle.slab_laws.specs.declared.names.CycleId.{CycleId}
 use Rattle.slab_laws.specs.declared.names.FaceId.{FaceId}
@@ -11,21 +11,17 @@ use Rattle.boundary_cycles.specs.Extents.{IsExtent}
 use Rattle.face_changes.specs.FacesByPairs.{Item, beside, round, cell_at}
 use Rattle.face_changes.specs.Kinds.{odd_at}
 use Rattle.cycle_writers.specs.declared.moves.Which.{Which}
-use Rattle.cycle_writers.specs.declared.moves.Which.TheVariants.{All, Apart}
-
--- one of both, not the other
-abbrev pub differ : Bool → Bool → Bool
-differ a b = cond a (not b) b
+use Rattle.cycle_writers.specs.declared.moves.Which.TheVariants.{All, Inside}
 
 -- whether a thing is taken: where not all are, it goes by the parity of a cycle at its cell (book, ray shooting)
 abbrev pub takes : View → Which → Item → Bool
 takes v All i = true
-takes v (Apart half extent side) i = differ (odd_at (skeleton_of v) (dart_in v half) (cell_at v i)) side
+takes v (Inside half extent) i = odd_at (skeleton_of v) (dart_in v half) (cell_at v i)
 
 -- the dart has a record, and the extent is that of its cycle
 abbrev pub IsWhich : View → Which → Type 0
 IsWhich v All = ⊤
-IsWhich v (Apart half extent side) = HasDart v half × IsExtent v half extent
+IsWhich v (Inside half extent) = HasDart v half × IsExtent v half extent
 
 -- of the cycles that a face lists those that are taken, but one; each is asked at the dart that is kept for it
 abbrev pub cycles_taken : View → Which → CycleId → Lists → FaceId → List CycleId

@@ -15,13 +15,13 @@ use Rattle.face_changes.specs.Kinds.{is_outer}
 use Rattle.face_steps.specs.StepPremises.{IsBetween, FitsSplitting, FitsUnite}
 use Rattle.face_steps.specs.Tabled.{AreTabled}
 use Rattle.cycle_writers.specs.declared.moves.Which.{Which}
-use Rattle.cycle_writers.specs.declared.moves.Which.TheVariants.{All, Apart}
+use Rattle.cycle_writers.specs.declared.moves.Which.TheVariants.{All, Inside}
 use Rattle.cycle_writers.specs.Taken.{cycles_taken, vertices_taken}
 
--- v is the view before the edge and w after it, f the tables and l the lists before it; the half is x's, the outer one's, or y's, the other's
+-- v is the view before the edge and w after it, f the tables and l the lists before it; the half is x's, which is outer, or y's, where that isn't
 abbrev pub IsSideOf : View → DartId → DartId → Which → Type 0
 IsSideOf w x y All = ⊥
-IsSideOf w x y (Apart half extent side) = ((half ≡ x) × (side ≡ false)) ⊎ ((half ≡ y) × (side ≡ is_outer (skeleton_of w) (dart_in w y)))
+IsSideOf w x y (Inside half extent) = (half ≡ x) ⊎ ((half ≡ y) × (is_outer (skeleton_of w) (dart_in w y) ≡ false))
 
 pub record TakenFits : Type 0 where
   -- a split, where both places are on one cycle: what is taken of the face that the cycle had is what lies within the outer half

@@ -16,11 +16,10 @@ use slab_laws::{CycleId, DartId, Darts, FaceId, Moved, VertexId};
 pub enum Which {
     /// All of them.
     All,
-    /// Those in whose cells the parity of the cycle of `half` isn't `beside`. The extent is that of the cycle.
-    Apart {
+    /// Those in whose cells the parity of the cycle of `half` is odd. The extent is that of the cycle.
+    Inside {
         half: DartId,
         extent: Extent,
-        beside: bool,
     },
 }
 
@@ -34,11 +33,7 @@ impl Which {
     {
         match self {
             Which::All => true,
-            Which::Apart {
-                half,
-                extent,
-                beside,
-            } => is_odd_beside_within(records, *half, extent, d) != *beside,
+            Which::Inside { half, extent } => is_odd_beside_within(records, *half, extent, d),
         }
     }
 
@@ -51,11 +46,9 @@ impl Which {
     {
         match self {
             Which::All => true,
-            Which::Apart {
-                half,
-                extent,
-                beside,
-            } => parity_within(records, *half, extent, &records.point(v)) != *beside,
+            Which::Inside { half, extent } => {
+                parity_within(records, *half, extent, &records.point(v))
+            }
         }
     }
 }
