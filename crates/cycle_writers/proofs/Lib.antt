@@ -1,0 +1,6 @@
+pub mod RunLists
+pub mod RunOrbits
+pub mod FollowsMore
+pub mod RunsJoined
+pub mod RunsUnited
+pub mod RunWritten
