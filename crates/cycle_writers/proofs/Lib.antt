@@ -4,3 +4,4 @@ pub mod FollowsMore
 pub mod RunsJoined
 pub mod RunsUnited
 pub mod RunWritten
+pub mod RunSteps
