@@ -1,6 +1,5 @@
 -- What writes of single links make of the nodes.
-use Rattle.std.proofs.Common.{◌≡◌, ◌≢◌, inl, inr, ℕ, ◌==◌, Bool, true, false, cond, Option, Some, None, is_some, option_map, refl, sym, ap, ◌∙◌}
-use Rattle.std.proofs.lemmas.Bool.{cases_eq}
+use Rattle.std.proofs.Common.{◌≡◌, ◌≢◌, ℕ, Bool, true, false, cond, Option, Some, None, is_some, option_map, refl, sym, ap, ◌∙◌}
 use Rattle.chain_laws.specs.Links.{Node, is_at, key_at}
 use Rattle.integers.proofs.Tests.{other_number, same_number}
 

@@ -1,5 +1,5 @@
 -- Isolated vertices after each of their writers.
-use Rattle.std.proofs.Common.{◌≡◌, ◌≢◌, inl, inr, ℕ, ◌-◌, ◌==◌, Bool, true, false, not, cond, List, [], ◌∷◌, map, length, Option, Some, None, is_some, IsSome, option_map, refl, sym, ap, subst, ◌∙◌, Contains}
+use Rattle.std.proofs.Common.{◌≡◌, inl, inr, ℕ, ◌-◌, ◌==◌, Bool, true, false, not, cond, ◌∷◌, map, Option, Some, None, is_some, IsSome, option_map, refl, sym, ap, subst, ◌∙◌, Contains}
 use Rattle.std.specs.Prelude.{is_none}
 use Rattle.std.specs.List.{filter}
 use Rattle.std.proofs.lemmas.Bool.{cases_eq, false≢true}
@@ -9,11 +9,10 @@ use Rattle.slab.specs.Slab.{Slab, get, entries, slab_len, ContainsKey, with_valu
 use Rattle.slab.proofs.SlabLemmas.{Updates-with_value}
 use Rattle.slab_laws.specs.declared.names.FaceId.{FaceId}
 use Rattle.slab_laws.specs.declared.names.VertexId.{VertexId}
-use Rattle.slab_laws.specs.FaceLists.{Lists, MovedView}
+use Rattle.slab_laws.specs.FaceLists.{MovedView}
 use Rattle.slab_laws.specs.Tables.{row_at, names}
 use Rattle.slab_laws.specs.View.{Faces, HasBareFace, cycle_id, vertex_id, face_id}
 use Rattle.arr_notes.specs.FaceWriters.{bare_in, not_bare}
-use Rattle.arr_notes.specs.NamedRows.{put, del}
 use Rattle.arr_notes.proofs.RowLaws.{one_table}
 use Rattle.chain_laws.specs.Links.{Node, first_or, key_at}
 use Rattle.chain_laws.proofs.Distinct.{without_absent}
@@ -26,12 +25,12 @@ use Rattle.dcel_records.specs.ListChanges.{vertex_listed, vertex_unlisted, verte
 use Rattle.dcel_records.specs.Outs.{IsOut}
 use Rattle.dcel_records.specs.Placing.{cycle_placing, vertex_placing, place_node, node_or, nodes, heads, own, AreChained, AreOthersChained, all_but, without, rest_of, rest_of_face, IsRelinked, IsUnlinked, IsLinkedFirst}
 use Rattle.dcel_records.specs.RecordsView.{RecordsView, GraphView, tables_of, graph_part}
-use Rattle.dcel_records.specs.StoredRows.{tabled, vertex_of, cycle_record, bare_of, somes, dart_kept, graph_in, graph_view, tables_in, lists_in, records_view, out_or, out_at, pins_among, AreSoundRows, AreSoundGraphs, AreSoundFaces, HasLeft}
+use Rattle.dcel_records.specs.StoredRows.{tabled, vertex_of, cycle_record, dart_kept, graph_in, graph_view, tables_in, lists_in, records_view, out_or, out_at, pins_among, AreSoundGraphs, AreSoundFaces, HasLeft}
 use Rattle.dcel_records.proofs.Chained.{own_list, own_same, chained_same, others_chained, more_own, fewer_chained, fewer_own, moved_own}
 use Rattle.dcel_records.proofs.FaceTables.{bare_seen, bare_put, bare_del, bare_same, names_same}
 use Rattle.dcel_records.proofs.FacesKept.{nodes_updated}
-use Rattle.dcel_records.proofs.Relinked.{through, some_same, updated, node_none, map_without, map_cond, nodes_left, tables_after, lists_after}
-use Rattle.dcel_records.proofs.Tabled.{row-tabled, ascend-tabled, tabled_same}
+use Rattle.dcel_records.proofs.Relinked.{through, some_same, node_none, map_without, map_cond, nodes_left, tables_after}
+use Rattle.dcel_records.proofs.Tabled.{row-tabled, ascend-tabled}
 use Rattle.dcel_records.proofs.Removing.{len_written}
 use Rattle.dcel_records.proofs.Writing.{kept_by}
 

@@ -8,7 +8,7 @@ use Rattle.plane_graphs.proofs.Lists.{some_mapped}
 use Rattle.slab.specs.Slab.{Slab, get, entries, ContainsKey}
 use Rattle.slab_laws.specs.declared.names.FaceId.{FaceId}
 use Rattle.slab_laws.specs.Tables.{row_at, names}
-use Rattle.chain_laws.specs.Links.{Node, first_or, trail, head_of, comes_after, after_at, key_at, IsLinked, IsListed, AreListed}
+use Rattle.chain_laws.specs.Links.{Node, first_or, trail, head_of, comes_after, after_at, key_at, IsListed, AreListed}
 use Rattle.chain_laws.proofs.Changes.{key_some}
 use Rattle.chain_laws.proofs.Distinct.{here, there, nowhere, once_from_distinct, no_more}
 use Rattle.chain_laws.proofs.Linked.{head_is, trail_is, after_is}
@@ -41,8 +41,8 @@ module _ {R : Type 0} (g : Placing R) where
   fits : (rs : Slab R) (f : Option ℕ) (k : ℕ) (xs : List ℕ) → IsListed (nodes g rs) f k xs → length xs ≤ length (entries rs)
   fits rs f k xs l =
       let most : length xs ≤ length (names (entries rs)) = no_more xs (names (entries rs)) (once_from_distinct xs l.once) (λ n c.
-          let y = key_some (nodes g rs) n k ((l.members n).0 c) in
-          key_named rs n (node_row g rs n (ap is_some y.1))) in
+      let y = key_some (nodes g rs) n k ((l.members n).0 c) in
+      key_named rs n (node_row g rs n (ap is_some y.1))) in
       let a : length (names (entries rs)) ≡ length (entries rs) = length-map (entries rs) _ in
       omega (arith, most, a)
 

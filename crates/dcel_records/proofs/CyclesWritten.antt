@@ -1,21 +1,21 @@
 -- Cycles and faces after each of their writers.
-use Rattle.std.proofs.Common.{◌≡◌, ◌≢◌, ◌⊎◌, inl, inr, ℕ, ◌==◌, Bool, true, false, not, cond, List, [], ◌∷◌, map, Option, Some, None, is_some, IsSome, option_map, refl, sym, ap, subst, ◌∙◌, Contains}
+use Rattle.std.proofs.Common.{◌≡◌, ◌≢◌, inl, inr, ℕ, ◌==◌, Bool, true, false, not, cond, ◌∷◌, map, Option, Some, None, is_some, IsSome, option_map, refl, sym, ap, subst, ◌∙◌}
 use Rattle.std.specs.List.{filter}
 use Rattle.std.proofs.lemmas.Bool.{cases_eq, false≢true}
 use Rattle.integers.proofs.Tests.{other_number, same_number}
 use Rattle.plane_graphs.proofs.Lists.{some_mapped}
-use Rattle.slab.specs.Slab.{Slab, get, entries, slab_len, ContainsKey, with_value, Updates}
+use Rattle.slab.specs.Slab.{Slab, get, entries, ContainsKey, with_value, Updates}
 use Rattle.slab.proofs.SlabLemmas.{Updates-with_value}
 use Rattle.slab_laws.specs.declared.names.CycleId.{CycleId}
 use Rattle.slab_laws.specs.declared.names.CycleKind.{CycleKind}
 use Rattle.slab_laws.specs.declared.names.DartId.{DartId}
 use Rattle.slab_laws.specs.declared.names.FaceId.{FaceId}
-use Rattle.slab_laws.specs.FaceLists.{Lists, MovedView}
+use Rattle.slab_laws.specs.FaceLists.{MovedView}
 use Rattle.slab_laws.specs.Tables.{row_at, names}
-use Rattle.slab_laws.specs.View.{Faces, HasCycle, HasFace, cycle_id, vertex_id, dart_id, kind_in, kind_or}
-use Rattle.arr_notes.specs.FaceWriters.{with_cycle, without_cycle, with_face, without_face}
+use Rattle.slab_laws.specs.View.{Faces, CycleRecord, HasCycle, cycle_id, vertex_id, dart_id, kind_in, kind_or}
+use Rattle.arr_notes.specs.FaceWriters.{with_cycle, without_cycle}
 use Rattle.arr_notes.specs.NamedRows.{put, del}
-use Rattle.chain_laws.specs.Links.{Node, first_or, key_at, AreListed}
+use Rattle.chain_laws.specs.Links.{Node, first_or, key_at}
 use Rattle.dcel_records.specs.declared.rows.StoredCycle.{StoredCycle}
 use Rattle.dcel_records.specs.declared.rows.StoredDart.{StoredDart}
 use Rattle.dcel_records.specs.declared.rows.StoredFace.{StoredFace}
@@ -25,8 +25,8 @@ use Rattle.dcel_records.specs.Placing.{cycle_placing, vertex_placing, place_node
 use Rattle.dcel_records.specs.RecordsView.{RecordsView, tables_of}
 use Rattle.dcel_records.specs.StoredRows.{tabled, cycle_record, bare_of, somes, dart_kept, tables_in, lists_in, records_view, AreSoundFaces}
 use Rattle.dcel_records.proofs.Chained.{own_same, chained_same, others_chained, more_own, fewer_chained, fewer_own, moved_own}
-use Rattle.dcel_records.proofs.FaceTables.{kinds, cycle_seen, cycles_same, cycle_put, names_same}
-use Rattle.dcel_records.proofs.Relinked.{through, some_same, updated, cond_map, map_without, map_cond, nodes_left, tables_after, lists_after, face_key}
+use Rattle.dcel_records.proofs.FaceTables.{kinds, cycles_same, cycle_put, names_same}
+use Rattle.dcel_records.proofs.Relinked.{through, some_same, updated, map_without, map_cond, nodes_left, tables_after}
 use Rattle.dcel_records.proofs.FacesKept.{nodes_updated}
 use Rattle.dcel_records.proofs.Tabled.{row-tabled, tabled_put, tabled_del, tabled_same}
 
@@ -225,10 +225,16 @@ module _ (vs : Slab StoredVertex) (ds : Slab StoredDart) (cs : Slab StoredCycle)
             by true = refl
             by false = refl
 
--- what a reader of cycles answers
-pub cycle_found : (vs : Slab StoredVertex) (ds : Slab StoredDart) (cs : Slab StoredCycle) (fs : Slab StoredFace) (mv : Option MovedView) (vr cr : ℕ) (h : RecordsView) → records_view vs ds cs fs mv vr cr ≡ h → (c : CycleId) (o : Option StoredCycle) → get cs c.0 ≡ o → option_map (λ r. (r.kind, r.place.face)) o ≡ option_map (λ r. (r.kind, r.face)) (row_at h.faces.tables.cycles c.0)
-cycle_found vs ds cs fs mv vr cr h is c o e = by o ∙ ap (λ p. option_map (λ r. (r.kind, r.face)) (option_map cycle_record p)) (sym e) ∙ ap (option_map (λ r. (r.kind, r.face))) (sym (row-tabled cycle_record cs c.0)) ∙ ap (λ v. option_map (λ r. (r.kind, r.face)) (row_at v.faces.tables.cycles c.0)) is
+-- ---- what a reader of cycles answers
+abbrev told : CycleRecord → CycleKind × FaceId
+told r = (r.kind, r.face)
+
+abbrev told_by : StoredCycle → CycleKind × FaceId
+told_by r = (r.kind, r.place.face)
+
+pub cycle_found : (vs : Slab StoredVertex) (ds : Slab StoredDart) (cs : Slab StoredCycle) (fs : Slab StoredFace) (mv : Option MovedView) (vr cr : ℕ) (h : RecordsView) → records_view vs ds cs fs mv vr cr ≡ h → (c : CycleId) (o : Option StoredCycle) → get cs c.0 ≡ o → option_map told_by o ≡ option_map told (row_at h.faces.tables.cycles c.0)
+cycle_found vs ds cs fs mv vr cr h is c o e = by o ∙ ap (λ p. option_map told (option_map cycle_record p)) (sym e) ∙ ap (option_map told) (sym (row-tabled cycle_record cs c.0)) ∙ ap (λ (t : Faces). option_map told (row_at t.cycles c.0)) (ap tables_of is)
   where
-    by : (o : Option StoredCycle) → option_map (λ r. (r.kind, r.place.face)) o ≡ option_map (λ r. (r.kind, r.face)) (option_map cycle_record o)
+    by : (o : Option StoredCycle) → option_map told_by o ≡ option_map told (option_map cycle_record o)
     by None = refl
     by (Some r) = refl

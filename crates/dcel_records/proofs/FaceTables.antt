@@ -1,30 +1,28 @@
 -- The tables of cycles and faces, and what each face lists, read from the slabs.
-use Rattle.std.proofs.Common.{◌≡◌, ◌≢◌, ◌⊎◌, inl, inr, ℕ, ◌<◌, ◌==◌, nat_lt, Bool, true, false, cond, List, [], ◌∷◌, map, Option, Some, None, is_some, IsSome, option_map, refl, sym, ap, ap₂, subst, ◌∙◌, Contains}
+use Rattle.std.proofs.Common.{◌≡◌, ◌≢◌, ◌⊎◌, inl, inr, ℕ, ◌<◌, ◌==◌, cond, List, [], ◌∷◌, map, Option, Some, None, is_some, option_map, refl, sym, ap, ◌∙◌, Contains}
 use Rattle.std.specs.List.{AllByRecursion}
 use Rattle.std.proofs.lemmas.Bool.{cases_eq, cases_lt}
 use Rattle.integers.proofs.Tests.{nat_lt_yes, nat_lt_no, other_number, same_number}
 use Rattle.slab.specs.Slab.{Slab, get, entries, Updates}
 use Rattle.slab.proofs.SlabLemmas.{Contains-cons_cases}
-use Rattle.slab_laws.specs.declared.names.CycleId.{CycleId}
 use Rattle.slab_laws.specs.declared.names.CycleKind.{CycleKind}
-use Rattle.slab_laws.specs.declared.names.DartId.{DartId}
 use Rattle.slab_laws.specs.declared.names.FaceId.{FaceId}
-use Rattle.slab_laws.specs.FaceLists.{Lists, MovedView}
+use Rattle.slab_laws.specs.FaceLists.{MovedView}
 use Rattle.slab_laws.specs.Tables.{row_at, names, NamesAscend}
 use Rattle.slab_laws.specs.View.{CycleRecord, face_id, cycle_id, vertex_id}
 use Rattle.arr_notes.specs.FaceWriters.{put_name, del_name}
 use Rattle.arr_notes.specs.NamedRows.{put, del}
 use Rattle.arr_notes.proofs.RowLaws.{absent, row_at-put, row_at-del, ascend-put, ascend-del, one_table}
 use Rattle.chain_laws.specs.Links.{Node, key_at}
-use Rattle.chain_laws.proofs.Distinct.{here, there, nowhere}
+use Rattle.chain_laws.proofs.Distinct.{nowhere}
 use Rattle.dcel_records.specs.declared.rows.Place.{Place}
 use Rattle.dcel_records.specs.declared.rows.StoredCycle.{StoredCycle}
 use Rattle.dcel_records.specs.declared.rows.StoredDart.{StoredDart}
 use Rattle.dcel_records.specs.declared.rows.StoredFace.{StoredFace}
 use Rattle.dcel_records.specs.declared.rows.StoredVertex.{StoredVertex}
 use Rattle.dcel_records.specs.Placing.{cycle_placing, vertex_placing, place_node, node_or, nodes, own}
-use Rattle.dcel_records.specs.RecordsView.{FaceRow, row_or, dart_or, lists_in_view}
-use Rattle.dcel_records.specs.StoredRows.{tabled, cycle_record, bare_of, some_more, somes, dart_kept, lists_in, face_row, face_rows, faces_view}
+use Rattle.dcel_records.specs.RecordsView.{row_or, dart_or, lists_in_view}
+use Rattle.dcel_records.specs.StoredRows.{tabled, cycle_record, bare_of, somes, dart_kept, lists_in, face_row, face_rows, faces_view}
 use Rattle.dcel_records.proofs.After.{names_tabled}
 use Rattle.dcel_records.proofs.Chained.{key_named, own_nowhere}
 use Rattle.dcel_records.proofs.Tabled.{row-tabled, ascend-tabled, tabled_put, tabled_del}

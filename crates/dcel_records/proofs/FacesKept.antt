@@ -1,5 +1,5 @@
 -- What writers of vertices and darts leave of cycles and faces.
-use Rattle.std.proofs.Common.{◌≡◌, ◌≢◌, inl, inr, ℕ, ◌-◌, List, map, Option, Some, None, is_some, option_map, refl, sym, ap, ◌∙◌}
+use Rattle.std.proofs.Common.{◌≡◌, inl, inr, ℕ, ◌-◌, List, map, Option, Some, None, is_some, option_map, refl, sym, ap, ◌∙◌}
 use Rattle.std.proofs.lemmas.Bool.{cases_eq}
 use Rattle.slab.specs.Slab.{Slab, get, entries, slab_len, with_value, Updates}
 use Rattle.slab.proofs.SlabLemmas.{Updates-with_value}
@@ -20,6 +20,7 @@ use Rattle.dcel_records.specs.StoredRows.{tabled, cycle_record, bare_of, somes, 
 use Rattle.dcel_records.proofs.Chained.{own_same, chained_same}
 use Rattle.dcel_records.proofs.FaceTables.{bare_same}
 use Rattle.dcel_records.proofs.Tabled.{tabled_put, tabled_del, tabled_same}
+use Rattle.dcel_records.proofs.Writing.{row_out}
 
 -- the column of cycles changed, and nothing else
 abbrev pub with_column : (List (ℕ × CycleId) → List (ℕ × CycleId)) → FacesView → FacesView
@@ -37,6 +38,10 @@ nodes_updated g s t k o u e n = elim (cases_eq n k) [
 
 pub nodes_written : (s : Slab StoredVertex) (k : ℕ) (r q : StoredVertex) → get s k ≡ Some r → q.place ≡ r.place → (n : ℕ) → nodes vertex_placing (with_value s k q) n ≡ nodes vertex_placing s n
 nodes_written s k r q g e = nodes_updated vertex_placing s (with_value s k q) k (Some q) (Updates-with_value s k q (ap is_some g)) (ap (option_map place_node) e ∙ sym (ap (node_or vertex_placing) g))
+
+-- two vertices written with other darts out
+pub nodes_out_twice : (s : Slab StoredVertex) (u v : ℕ) (a b : Option DartId) (x y : StoredVertex) → get s u ≡ Some x → get (with_value s u (row_out a x)) v ≡ Some y → (n : ℕ) → nodes vertex_placing (with_value (with_value s u (row_out a x)) v (row_out b y)) n ≡ nodes vertex_placing s n
+nodes_out_twice s u v a b x y f g n = nodes_written (with_value s u (row_out a x)) v y (row_out b y) g refl n ∙ nodes_written s u x (row_out a x) f refl n
 
 pub nodes_given : (d : DartId) (s t : Slab StoredVertex) (k : ℕ) → Updates s t k (option_map (given d) (get s k)) → (n : ℕ) → nodes vertex_placing t n ≡ nodes vertex_placing s n
 nodes_given d s t k u = nodes_updated vertex_placing s t k (option_map (given d) (get s k)) u (by (get s k))

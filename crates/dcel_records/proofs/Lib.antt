@@ -12,6 +12,7 @@ pub mod Places
 pub mod Chained
 pub mod FaceTables
 pub mod FacesKept
+pub mod FacesWritten
 pub mod Relinked
 pub mod CyclesWritten
 pub mod BareWritten
@@ -19,3 +20,4 @@ pub mod CycleColumn
 pub mod Started
 pub mod ListsRead
 pub mod Rooms
+pub mod Grown

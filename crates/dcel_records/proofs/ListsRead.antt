@@ -1,21 +1,19 @@
 -- What the readers of the faces' lists answer.
-use Rattle.std.proofs.Common.{◌≡◌, ℕ, ◌==◌, Bool, true, false, cond, List, [], ◌∷◌, map, Option, Some, None, is_some, IsSome, option_map, refl, sym, ap, ◌∙◌}
-use Rattle.plane_graphs.proofs.Lists.{some_mapped}
+use Rattle.std.proofs.Common.{◌≡◌, ℕ, ◌==◌, Bool, true, false, cond, List, [], ◌∷◌, map, Option, Some, IsSome, option_map, refl, sym, ap, ◌∙◌}
 use Rattle.slab.specs.Slab.{Slab, get, ContainsKey}
 use Rattle.slab_laws.specs.declared.names.CycleId.{CycleId}
 use Rattle.slab_laws.specs.declared.names.FaceId.{FaceId}
 use Rattle.slab_laws.specs.declared.names.VertexId.{VertexId}
 use Rattle.slab_laws.specs.FaceLists.{Lists, MovedView, first_of, follower, cycle_follower, vertex_follower}
-use Rattle.slab_laws.specs.Tables.{row_at}
-use Rattle.slab_laws.specs.View.{Faces, HasBareFace, face_in, face_or, bare_face_in, bare_or, cycle_id, vertex_id, face_id}
-use Rattle.chain_laws.specs.Links.{Node, first_or, head_of, comes_after, key_at}
+use Rattle.slab_laws.specs.View.{HasBareFace, face_in, face_or, bare_face_in, bare_or, cycle_id, vertex_id, face_id}
+use Rattle.chain_laws.specs.Links.{Node, first_or, head_of, comes_after}
 use Rattle.dcel_records.specs.declared.rows.Place.{Place}
 use Rattle.dcel_records.specs.declared.rows.StoredCycle.{StoredCycle}
 use Rattle.dcel_records.specs.declared.rows.StoredDart.{StoredDart}
 use Rattle.dcel_records.specs.declared.rows.StoredFace.{StoredFace}
 use Rattle.dcel_records.specs.declared.rows.StoredVertex.{StoredVertex}
 use Rattle.dcel_records.specs.Placing.{place_node, node_or, nodes, own, cycle_placing, vertex_placing}
-use Rattle.dcel_records.specs.RecordsView.{RecordsView, lists_of, tables_of}
+use Rattle.dcel_records.specs.RecordsView.{RecordsView, lists_of}
 use Rattle.dcel_records.specs.StoredRows.{cycle_record, dart_kept, records_view, AreSoundFaces}
 use Rattle.dcel_records.proofs.BareWritten.{bare_node}
 use Rattle.dcel_records.proofs.Chained.{first_seen, next_seen}

@@ -1,17 +1,17 @@
 -- A row taken out of the chain of its face, and one put in front of it: from the rows that are written to the lists of nodes.
-use Rattle.std.proofs.Common.{◌≡◌, ◌≢◌, inl, inr, ℕ, ◌==◌, Bool, true, false, cond, List, ◌∷◌, Option, Some, None, is_some, IsSome, option_map, refl, sym, ap, subst, ◌∙◌}
+use Rattle.std.proofs.Common.{◌≡◌, inl, inr, ℕ, ◌==◌, Bool, true, false, cond, Option, Some, None, is_some, IsSome, option_map, refl, sym, ap, subst, ◌∙◌}
 use Rattle.std.specs.Prelude.{is_none, ◌&&◌}
 use Rattle.std.proofs.lemmas.Bool.{cases_eq, false≢true, eqb-true}
-use Rattle.slab.specs.Slab.{Slab, get, slab_len, ContainsKey, with_value, Updates}
+use Rattle.slab.specs.Slab.{Slab, get, ContainsKey, with_value, Updates}
 use Rattle.slab.proofs.SlabLemmas.{Updates-with_value}
 use Rattle.slab_laws.specs.declared.names.FaceId.{FaceId}
-use Rattle.chain_laws.specs.Links.{Node, first_or, key_at, IsListed, AreListed, followed_by, led_by, is_at}
+use Rattle.chain_laws.specs.Links.{Node, first_or, key_at, followed_by, led_by, is_at}
 use Rattle.chain_laws.proofs.Changes.{AreChanged, key_some, unwritten, still_some}
 use Rattle.chain_laws.proofs.Removed as removed
 use Rattle.chain_laws.proofs.Pushed as pushed
 use Rattle.dcel_records.specs.declared.rows.Place.{Place}
 use Rattle.dcel_records.specs.declared.rows.StoredFace.{StoredFace}
-use Rattle.dcel_records.specs.Placing.{Placing, place_node, node_of, node_or, nodes, heads, AreChained, AreOthersChained, all_but, without, IsChanged, IsHeaded, nowhere, replaced, row_followed, row_led, row_placed, rest_of, rest_of_face, IsRelinked, IsUnlinked, IsLinkedFirst}
+use Rattle.dcel_records.specs.Placing.{Placing, place_node, node_of, node_or, nodes, heads, AreChained, AreOthersChained, all_but, IsChanged, IsHeaded, nowhere, replaced, row_followed, row_led, row_placed, rest_of, rest_of_face, IsUnlinked, IsLinkedFirst}
 use Rattle.dcel_records.proofs.Removing.{len_written}
 use Rattle.integers.proofs.Tests.{other_number, same_number}
 use Rattle.plane_graphs.proofs.Lists.{some_mapped}

@@ -1,22 +1,22 @@
 -- What stays where links are written: all that a row has beside its place, and all that a face has beside its first.
-use Rattle.std.proofs.Common.{◌≡◌, ◌≢◌, ◌⊎◌, inl, inr, ℕ, ◌+◌, ◌-◌, ◌==◌, Bool, true, false, not, cond, List, [], ◌∷◌, map, Option, Some, None, is_some, IsSome, option_map, refl, sym, ap, subst, ◌∙◌, arith, Contains}
+use Rattle.std.proofs.Common.{◌≡◌, inl, inr, ℕ, ◌==◌, Bool, true, false, not, cond, List, [], ◌∷◌, map, Option, Some, None, is_some, IsSome, option_map, refl, sym, ap, subst, ◌∙◌, Contains}
 use Rattle.std.specs.List.{filter}
-use Rattle.std.proofs.lemmas.Bool.{cases_eq, false≢true}
+use Rattle.std.proofs.lemmas.Bool.{cases_eq}
 use Rattle.integers.proofs.Tests.{other_number, same_number}
 use Rattle.plane_graphs.proofs.Lists.{some_mapped}
-use Rattle.slab.specs.Slab.{Slab, get, entries, slab_len, ContainsKey, Updates}
+use Rattle.slab.specs.Slab.{Slab, get, entries, ContainsKey, Updates}
 use Rattle.slab.proofs.SlabLemmas.{Contains-cons_cases}
 use Rattle.slab_laws.specs.declared.names.FaceId.{FaceId}
 use Rattle.slab_laws.specs.FaceLists.{Lists, MovedView}
 use Rattle.slab_laws.specs.Tables.{row_at, names}
 use Rattle.slab_laws.specs.View.{Faces, HasFace}
-use Rattle.chain_laws.specs.Links.{Node, key_at}
+use Rattle.chain_laws.specs.Links.{Node}
 use Rattle.chain_laws.proofs.Distinct.{nowhere}
 use Rattle.dcel_records.specs.declared.rows.StoredCycle.{StoredCycle}
 use Rattle.dcel_records.specs.declared.rows.StoredDart.{StoredDart}
 use Rattle.dcel_records.specs.declared.rows.StoredFace.{StoredFace}
 use Rattle.dcel_records.specs.declared.rows.StoredVertex.{StoredVertex}
-use Rattle.dcel_records.specs.Placing.{Placing, node_or, nodes, all_but, without, rest_of, rest_of_face, IsRelinked}
+use Rattle.dcel_records.specs.Placing.{Placing, node_or, nodes, all_but, without}
 use Rattle.dcel_records.specs.RecordsView.{RecordsView, tables_of, lists_of}
 use Rattle.dcel_records.specs.StoredRows.{tables_in, lists_in, records_view}
 use Rattle.dcel_records.proofs.After.{names_tabled}

@@ -56,13 +56,15 @@ module _ (vs : Slab StoredVertex) (ds : Slab StoredDart) (h : GraphView) (is : g
       pub target_key : IsSome (get vs q.source.0)
       target_key = out_key vs ds h is k q.source r.twin (twin_has, sym (source_is vs ds h is r.twin q twin_row))
 
+-- two vertices written leave the number of rows
+pub len_out_twice : (s : Slab StoredVertex) (u v : ℕ) (a b : Option DartId) (x y : StoredVertex) → get s u ≡ Some x → get (with_value s u (row_out a x)) v ≡ Some y → slab_len (with_value (with_value s u (row_out a x)) v (row_out b y)) ≡ slab_len s
+len_out_twice s u v a b x y f g = len_written (with_value s u (row_out a x)) v y (row_out b y) g ∙ len_written s u x (row_out a x) f
+
 -- two darts away, and two vertices written
 module _ (vs : Slab StoredVertex) (ds : Slab StoredDart) (cs : Slab StoredCycle) (fs : Slab StoredFace) (mv : Option MovedView) (vr cr : ℕ) (h : RecordsView) (is : records_view vs ds cs fs mv vr cr ≡ h) where
   pub less_spare : (s t : Slab StoredDart) (u v : ℕ) (a b : Option DartId) (x y : StoredVertex) → get vs u ≡ Some x → get (with_value vs u (row_out a x)) v ≡ Some y → slab_len s + 1 ≡ slab_len ds → slab_len s + 1 ≤ s.capacity → s.capacity ≡ ds.capacity → slab_len t + 1 ≡ slab_len s → t.capacity ≡ s.capacity → IsSpare h (records_view (with_value (with_value vs u (row_out a x)) v (row_out b y)) t cs fs mv vr cr) 0 2
   less_spare s t u v a b x y f g l room sm m tm =
-      let first = len_written vs u x (row_out a x) f in
-      let second = len_written (with_value vs u (row_out a x)) v y (row_out b y) g in
-      let e : slab_len (with_value (with_value vs u (row_out a x)) v (row_out b y)) ≡ slab_len vs = second ∙ first in
+      let e = len_out_twice vs u v a b x y f g in
       let z = ap (λ k. k.spare_vertices) is in
       let w = ap (λ k. k.spare_darts) is in
       let p = ap (λ k. k.capacity_of_vertices) is in

@@ -1,5 +1,5 @@
 -- What is promised stays within what a slab can hold, whatever is written.
-use Rattle.std.proofs.Common.{◌≡◌, ℕ, ◌+◌, ◌-◌, ◌≤◌, List, [], count_by, is_some, ap, arith}
+use Rattle.std.proofs.Common.{◌≡◌, ℕ, ◌+◌, ◌-◌, ◌≤◌, [], count_by, is_some, ap, arith}
 use Rattle.slab.specs.Slab.{Slab, slab_len, HasRoomFor}
 use Rattle.dcel_records.specs.StoredRows.{IsRoom}
 

@@ -1,21 +1,21 @@
 -- The records of nothing but the unbounded face, and slabs that keep all that they hold.
-use Rattle.std.proofs.Common.{◌≡◌, ◌≢◌, inl, inr, ℕ, ◌-◌, List, [], ◌∷◌, map, slice_index_or, Option, Some, None, is_some, IsSome, option_map, refl, sym, ap, subst, ◌∙◌, arith}
+use Rattle.std.proofs.Common.{◌≡◌, inl, inr, ℕ, [], ◌∷◌, map, slice_index_or, Option, Some, None, is_some, option_map, refl, sym, ap, subst, ◌∙◌, arith}
 use Rattle.std.proofs.lemmas.Bool.{cases_eq}
-use Rattle.slab.specs.Slab.{Slab, get, entries, entries_from, slab_len, Updates}
-use Rattle.slab_laws.specs.FaceLists.{Lists, MovedView}
+use Rattle.slab.specs.Slab.{Slab, get, entries, Updates}
+use Rattle.slab_laws.specs.FaceLists.{MovedView}
 use Rattle.slab_laws.specs.Tables.{names}
-use Rattle.slab_laws.specs.View.{Faces, cycle_id, vertex_id, dart_id}
-use Rattle.chain_laws.specs.Links.{Node, first_or, AreListed}
+use Rattle.slab_laws.specs.View.{cycle_id, vertex_id}
+use Rattle.chain_laws.specs.Links.{first_or}
 use Rattle.arr_notes.specs.FaceWriters.{put_name}
 use Rattle.dcel_records.specs.declared.rows.StoredCycle.{StoredCycle}
 use Rattle.dcel_records.specs.declared.rows.StoredDart.{StoredDart}
 use Rattle.dcel_records.specs.declared.rows.StoredFace.{StoredFace}
 use Rattle.dcel_records.specs.declared.rows.StoredVertex.{StoredVertex}
 use Rattle.dcel_records.specs.ListChanges.{lone_face, nothing_listed}
-use Rattle.dcel_records.specs.Placing.{Placing, node_or, nodes, heads, own, cycle_placing, vertex_placing, AreChained}
-use Rattle.dcel_records.specs.RecordsView.{RecordsView, lists_of}
-use Rattle.dcel_records.specs.StoredRows.{tabled, cycle_record, bare_of, somes, dart_kept, tables_in, lists_in, face_rows, records_view, AreReady, AreReadyWhere, AreSoundFaces}
-use Rattle.dcel_records.proofs.Chained.{own_seen, chained_empty, own_first}
+use Rattle.dcel_records.specs.Placing.{cycle_placing, vertex_placing}
+use Rattle.dcel_records.specs.RecordsView.{lists_of}
+use Rattle.dcel_records.specs.StoredRows.{tabled, cycle_record, bare_of, somes, dart_kept, tables_in, records_view, AreReady, AreReadyWhere, AreSoundFaces}
+use Rattle.dcel_records.proofs.Chained.{chained_empty, own_first}
 use Rattle.dcel_records.proofs.FaceTables.{names_put, lists_seen}
 use Rattle.dcel_records.proofs.After.{names_tabled}
 use Rattle.dcel_records.proofs.Tabled.{tabled_empty}
@@ -24,7 +24,7 @@ vacant_by : {X : Type 0} (s : Slab X) → s.slots ≡ [] → (n : ℕ) → get s
 vacant_by s e n = ap (λ os. slice_index_or os n None) e
 
 no_names : {X : Type 0} (s : Slab X) → s.slots ≡ [] → names (entries s) ≡ []
-no_names s e = sym (names_tabled (λ x. 0) s) ∙ ap names (tabled_empty (λ x. 0) s e)
+no_names s e = sym (names_tabled {Y = ℕ} (λ x. 0) s) ∙ ap names (tabled_empty {Y = ℕ} (λ x. 0) s e)
 
 first_name : put_name 0 [] ≡ 0 ∷ []
 unfolding put_name
@@ -39,14 +39,14 @@ module _ (vs : Slab StoredVertex) (ds : Slab StoredDart) (cs : Slab StoredCycle)
   at_first : get gs 0 ≡ Some r
   at_first = ap (get gs) (sym z) ∙ put.changed
 
-  firsts : {f : StoredFace → Option ℕ} → f r ≡ None → (j : ℕ) → first_or (option_map f (get gs j)) ≡ None
-  firsts {f} q j = elim (cases_eq j k) [
+  firsts : (f : StoredFace → Option ℕ) → f r ≡ None → (j : ℕ) → first_or (option_map f (get gs j)) ≡ None
+  firsts f q j = elim (cases_eq j k) [
     | inl s ↦ ap (λ n. first_or (option_map f (get gs n))) s ∙ ap (λ o. first_or (option_map f o)) put.changed ∙ q
     | inr ne ↦ ap (λ o. first_or (option_map f o)) (put.others j ne ∙ vacant_by fs e j)
   ]
 
   pub lone_sound : AreSoundFaces vs cs gs
-  lone_sound = record { cycles = chained_empty cycle_placing cs gs (vacant_by cs d) (firsts no_cycle); bare = chained_empty vertex_placing vs gs (vacant_by vs a) (firsts no_bare); unbounded = ap is_some at_first }
+  lone_sound = record { cycles = chained_empty cycle_placing cs gs (vacant_by cs d) (firsts (λ x. x.first_cycle) no_cycle); bare = chained_empty vertex_placing vs gs (vacant_by vs a) (firsts (λ x. x.first_bare) no_bare); unbounded = ap is_some at_first }
 
   pub lone_tables : tables_in vs ds cs gs ≡ lone_face
   lone_tables = λ i. record { cycle_of = tabled_empty (λ r. r.cycle) ds b i; bare = bare i; cycles = tabled_empty cycle_record cs d i; faces = faces i }
@@ -58,7 +58,7 @@ module _ (vs : Slab StoredVertex) (ds : Slab StoredDart) (cs : Slab StoredCycle)
       faces = names_put fs gs k r put ∙ ap (put_name k) (no_names fs e) ∙ ap (λ n. put_name n []) z ∙ first_name
 
   pub lone_lists : (mv : Option MovedView) (vr cr : ℕ) → lists_of (records_view vs ds cs gs mv vr cr) ≡ nothing_listed
-  lone_lists mv vr cr = lists_seen vs cs gs ds mv cr ∙ (λ i. record { cycles = λ x. map cycle_id (own_first cycle_placing cs gs x.0 (firsts no_cycle x.0) i); bare = λ x. map vertex_id (own_first vertex_placing vs gs x.0 (firsts no_bare x.0) i); dart_on = λ c. dart_kept (vacant_by cs d c.0 i) })
+  lone_lists mv vr cr = lists_seen vs cs gs ds mv cr ∙ (λ i. record { cycles = λ x. map cycle_id (own_first cycle_placing cs gs x.0 (firsts (λ y. y.first_cycle) no_cycle x.0) i); bare = λ x. map vertex_id (own_first vertex_placing vs gs x.0 (firsts (λ y. y.first_bare) no_bare x.0) i); dart_on = λ c. dart_kept (vacant_by cs d c.0 i) })
 
 -- lists of what moves, just made
 pub lists_ready : (x : MovedView) → x.cycles ≡ [] → x.vertices ≡ [] → AreReadyWhere (Some x) 0 0

@@ -1,5 +1,5 @@
 -- Slabs that keep all that they hold, and slabs that hold nothing.
-use Rattle.std.proofs.Common.{◌≡◌, ℕ, ◌+◌, ◌-◌, ◌≤◌, List, [], length, count_by, Option, None, is_some, slice_index_or, sym, ap, subst, ◌∙◌, arith}
+use Rattle.std.proofs.Common.{◌≡◌, ℕ, ◌+◌, ◌-◌, ◌≤◌, [], length, count_by, Option, None, is_some, slice_index_or, sym, ap, subst, ◌∙◌, arith}
 use Rattle.slab.specs.Slab.{Slab, slab_len}
 use Rattle.slab_laws.specs.FaceLists.{MovedView}
 use Rattle.arr_notes.specs.ViewChanges.{no_rows}

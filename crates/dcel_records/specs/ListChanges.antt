@@ -1,5 +1,5 @@
 -- What the writers do to the lists of the faces, and to tables as a whole.
-use Rattle.std.specs.Prelude.{◌==◌, ℕ, List, [], ◌∷◌, not, cond}
+use Rattle.std.specs.Prelude.{◌==◌, List, [], ◌∷◌, not, cond}
 use Rattle.std.specs.List.{filter}
 use Rattle.slab_laws.specs.declared.names.CycleId.{CycleId}
 use Rattle.slab_laws.specs.declared.names.DartId.{DartId}

@@ -1,9 +1,9 @@
 -- Rows that may have a place in a chain of a face, the chains that run through them, and what the writers of links do.
-use Rattle.std.specs.Prelude.{◌≡◌, ◌≢◌, ◌==◌, ◌&&◌, ℕ, List, ◌∷◌, not, cond, length, Option, Some, None, option_map, is_none, IsSome, refl}
+use Rattle.std.specs.Prelude.{◌≡◌, ◌≢◌, ◌==◌, ◌&&◌, ℕ, List, ◌∷◌, not, cond, length, Option, Some, None, option_map, is_none, refl}
 use Rattle.std.specs.List.{filter}
 use Rattle.slab.specs.Slab.{Slab, get, entries, slab_len}
 use Rattle.slab_laws.specs.declared.names.FaceId.{FaceId}
-use Rattle.slab_laws.specs.View.{face_id, vertex_id}
+use Rattle.slab_laws.specs.View.{face_id}
 use Rattle.chain_laws.specs.Links.{Node, first_or, trail, after_at, key_at, IsListed, AreListed, is_at}
 use Rattle.dcel_records.specs.declared.rows.Place.{Place}
 use Rattle.dcel_records.specs.declared.rows.StoredCycle.{StoredCycle}

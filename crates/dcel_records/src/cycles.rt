@@ -65,7 +65,9 @@ impl Records {
             before: None,
             after: None,
         };
-        let cycle = self.cycles.insert_reserved(StoredCycle { kind, dart, place });
+        let cycle = self
+            .cycles
+            .insert_reserved(StoredCycle { kind, dart, place });
         link_first(&mut self.cycles, &mut self.faces, cycle, face);
         CycleId(cycle)
     }

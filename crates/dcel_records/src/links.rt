@@ -93,11 +93,7 @@ fn set_first<R: Placed>(
 }
 
 /// The row is taken out of the chain of its face.
-pub(crate) fn unlink<R: Placed>(
-    rows: &mut Table<R>,
-    faces: &mut Table<StoredFace>,
-    at: usize,
-)
+pub(crate) fn unlink<R: Placed>(rows: &mut Table<R>, faces: &mut Table<StoredFace>, at: usize)
     requires chained { AreChained R.placing rows.old faces.old }
     requires has { IsSome (nodes R.placing rows.old at) }
     ensures { IsUnlinked R.placing at rows.old rows.new faces.old faces.new }

@@ -1,5 +1,5 @@
-ghost use Rattle.std.specs.Prelude.{◌≡◌, ℕ, ◌*◌, ◌+◌, ◌≤◌, [], length, is_some, None, Some, IsOk, IfOk, OnOk};
-ghost use Rattle.slab.specs.Slab.{HasRoomFor};
+ghost use Rattle.std.specs.Prelude.{◌≡◌, ℕ, ◌*◌, ◌+◌, ◌≤◌, [], length, max, is_some, None, Some, IsOk, IfOk, OnOk};
+ghost use Rattle.slab.specs.Slab.{slab_len, HasRoomFor};
 ghost use Rattle.slab_laws.specs.Sound.{IsNamed, IsTwinned};
 ghost use Rattle.slab_laws.specs.View.{HasVertex, HasDart, source_in};
 ghost use Rattle.arr_notes.specs.ViewChanges.{no_rows};
@@ -90,14 +90,23 @@ fn grow(
     Ok(())
 }
 
+// What is promised of a table once so many rows more fit.
+fn promise<T: Drop>(table: &Table<T>, promised: usize, additional: usize) -> usize
+    requires { HasRoomFor table.now additional }
+    ensures { result ≡ max promised (slab_len table.now + additional) }
+{
+    // A `usize` counts what the table can hold.
+    let _capacity = table.capacity();
+    promised.max(table.len() + additional)
+}
+
 // Makes room for so many cycles and vertices in the lists of what moves, where they are there.
 fn grow_lists(moved: &mut Option<Moved>, cycles: usize, vertices: usize) -> Result<(), NoMemory>
-    ghost least: { ℕ × ℕ }
-    requires ready { AreReadyWhere moved.old least.0 least.1 }
-    ensures ready { AreReadyWhere moved.new least.0 least.1 }
+    requires ready { AreReadyWhere moved.old 0 0 }
+    ensures keeps { (c v : ℕ) → AreReadyWhere moved.old c v → AreReadyWhere moved.new c v }
     ensures there { is_some moved.new ≡ is_some moved.old }
     ensures room { OnOk result (AreReadyWhere moved.new cycles vertices) }
-    ensures succeeds { cycles ≤ least.0 → vertices ≤ least.1 → IsOk result }
+    ensures succeeds { AreReadyWhere moved.old cycles vertices → IsOk result }
 {
     match moved.take() {
         None => Ok(()),
@@ -176,9 +185,8 @@ impl Records {
                     room,
                     pairs,
                 )?;
-                // A `usize` counts what the tables can hold.
-                let cycles = self.cycle_room.max(self.cycles.len() + room.cycles);
-                let vertices = self.vertex_room.max(self.vertices.len() + room.vertices);
+                let cycles = promise(&self.cycles, self.cycle_room, room.cycles);
+                let vertices = promise(&self.vertices, self.vertex_room, room.vertices);
                 grow_lists(&mut self.moved, cycles, vertices)?;
                 self.cycle_room = cycles;
                 self.vertex_room = vertices;

@@ -1,11 +1,12 @@
+use Rattle.std.proofs.Common.{not, ap, ◌∙◌}
 use Rattle.dcel_records.proofs.BareWritten.{node_there, left_already, left_now, vertex_there}
 use Rattle.dcel_records.proofs.bare.leave_face.Goals as goal
 
 pub unlink-requires-clause-has : goal.unlink-requires-clause-has
-unlink-requires-clause-has c = node_there c.args.vertices.now c.args.faces.now c.requires.chained c.args.v.0 _ c.index.ensures c.if-is_none.false
+unlink-requires-clause-has c = node_there c.args.vertices.now c.args.faces.now c.requires.chained c.args.v.0 _ c.index.ensures (ap not (c.is_none.ensures ∙ ap not c.if-is_none.false))
 
 pub returns-then-is_none : goal.returns-then-is_none
-returns-then-is_none c = left_already c.args.vertices.now c.args.faces.now c.requires.chained c.args.v.0 _ c.index.ensures c.if-is_none.true
+returns-then-is_none c = left_already c.args.vertices.now c.args.faces.now c.requires.chained c.args.v.0 _ c.index.ensures (ap not (c.is_none.ensures ∙ ap not c.if-is_none.true))
 
 pub index_mut-requires : goal.index_mut-requires
 index_mut-requires c = vertex_there c.args.vertices.now c.unlink.new.rows c.args.faces.now c.unlink.new.faces c.unlink.ensures.kept c.args.v.0 c.requires.has

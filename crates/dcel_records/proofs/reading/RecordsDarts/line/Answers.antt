@@ -1,5 +1,4 @@
 use Rattle.dcel_records.proofs.Holding.{graph_seen}
-use Rattle.std.proofs.Common.{ap}
 use Rattle.dcel_records.proofs.Holding.{dart_key, line_is, twinned}
 use Rattle.dcel_records.proofs.reading.RecordsDarts.line.Goals as goal
 

@@ -1,5 +1,4 @@
 use Rattle.dcel_records.proofs.Holding.{graph_seen}
-use Rattle.std.proofs.Common.{ap}
 use Rattle.dcel_records.proofs.Holding.{dart_key, next_is}
 use Rattle.dcel_records.proofs.reading.RecordsDarts.next.Goals as goal
 

@@ -1,5 +1,4 @@
 use Rattle.dcel_records.proofs.Holding.{graph_seen}
-use Rattle.std.proofs.Common.{ap}
 use Rattle.dcel_records.proofs.Holding.{vertex_key, pin_is}
 use Rattle.dcel_records.proofs.reading.RecordsDarts.pinned.Goals as goal
 

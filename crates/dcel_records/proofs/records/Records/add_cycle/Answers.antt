@@ -1,5 +1,5 @@
 use Rattle.dcel_records.proofs.Rooms.{room_more, room_fits}
-use Rattle.std.proofs.Common.{sym, ap, refl, arith, is_some, ◌∙◌}
+use Rattle.std.proofs.Common.{ap, refl, arith, is_some, ◌∙◌}
 use Rattle.slab_laws.specs.View.{cycle_id}
 use Rattle.dcel_records.specs.RecordsView.{graph_part}
 use Rattle.dcel_records.specs.ListChanges.{cycle_listed}
@@ -21,7 +21,7 @@ invariant_of-self c = record {
   graph = c.self.invariant.graph;
   faces = more_sound c.self.inside.vertices c.self.inside.darts c.self.inside.cycles c.self.inside.faces c.self.inside.moved c.self.inside.vertex_room c.self.inside.cycle_room _ c.self.view_is c.self.invariant.faces c.insert_reserved-cycle.result c.args.kind c.args.dart c.args.face _ refl refl refl c.insert_reserved-cycle.new.self c.insert_reserved-cycle.ensures.was_vacant c.insert_reserved-cycle.ensures.updates c.link_first.new.rows c.link_first.new.faces c.link_first.ensures;
   vertex_room = c.self.invariant.vertex_room;
-  cycle_room = 
+  cycle_room =
       let z = ap (λ v. v.faces.spare_cycles) c.self.view_is in
       let r = c.requires.room in
       room_more c.self.inside.cycle_room c.self.inside.cycles c.link_first.new.rows c.self.invariant.cycle_room (omega arith) (c.link_first.ensures.kept.len ∙ c.insert_reserved-cycle.ensures.len) (c.link_first.ensures.kept.capacity ∙ c.insert_reserved-cycle.ensures.capacity);
@@ -38,7 +38,7 @@ pub returns-clause-lists : goal.returns-clause-lists
 returns-clause-lists c = lists_after c.self.inside.vertices c.self.inside.darts c.self.inside.cycles c.self.inside.faces c.self.inside.moved c.self.inside.vertex_room c.self.inside.cycle_room _ c.self.view_is c.self.inside.vertices c.self.inside.darts c.link_first.new.rows c.link_first.new.faces c.self.inside.moved c.self.inside.vertex_room c.self.inside.cycle_room (cycle_listed (cycle_id c.insert_reserved-cycle.result) c.args.face c.args.dart) (more_lists c.self.inside.vertices c.self.inside.darts c.self.inside.cycles c.self.inside.faces c.self.inside.moved c.self.inside.vertex_room c.self.inside.cycle_room _ c.self.view_is c.self.invariant.faces c.insert_reserved-cycle.result c.args.kind c.args.dart c.args.face _ refl refl refl c.insert_reserved-cycle.new.self c.insert_reserved-cycle.ensures.was_vacant c.insert_reserved-cycle.ensures.updates c.link_first.new.rows c.link_first.new.faces c.link_first.ensures)
 
 pub returns-clause-spare : goal.returns-clause-spare
-returns-clause-spare c = 
+returns-clause-spare c =
     let s = ap (λ v. v.faces.spare_cycles) c.self.view_is in
     let t = ap (λ v. v.faces.spare_faces) c.self.view_is in
     let p = ap (λ v. v.faces.capacity_of_cycles) c.self.view_is in

@@ -2,7 +2,7 @@ use Rattle.dcel_records.proofs.Rooms.{room_same}
 use Rattle.dcel_records.proofs.Holding.{graph_seen}
 use Rattle.arr_notes.specs.NamedRows.{put}
 use Rattle.dcel_records.proofs.FacesKept.{faces_sound, faces_column, column_more, nodes_given}
-use Rattle.std.proofs.Common.{refl, ap, ◌∙◌}
+use Rattle.std.proofs.Common.{refl, ◌∙◌}
 use Rattle.slab_laws.specs.View.{dart_id}
 use Rattle.dcel_records.proofs.Holding.{vertex_key}
 use Rattle.dcel_records.proofs.Adding.{offered_key, edge_written, written_kept, no_d, no_m}
@@ -18,13 +18,13 @@ give_out-requires-2 c = offered_key c.self.inside.vertices c.give_out.new.vertic
 pub invariant_of-self : goal.invariant_of-self
 invariant_of-self c = record {
   graph = pins_kept c.self.inside.vertices c.self.inside.darts _ _ (graph_seen c.self.inside.vertices c.self.inside.darts c.self.inside.cycles c.self.inside.faces c.self.inside.moved c.self.inside.vertex_room c.self.inside.cycle_room _ c.self.view_is) c.self.invariant.graph _ _ _
-    (edge_written c.self.inside.vertices c.self.inside.darts _ (graph_seen c.self.inside.vertices c.self.inside.darts c.self.inside.cycles c.self.inside.faces c.self.inside.moved c.self.inside.vertex_room c.self.inside.cycle_room _ c.self.view_is) (dart_id c.insert_reserved-d.result) (dart_id c.insert_reserved-m.result) c.args.u c.args.v c.args.line c.args.cycle c.insert_reserved-d.new.self c.insert_reserved-m.new.self c.give_out.new.vertices c.give_out-2.new.vertices
-    c.insert_reserved-d.ensures.was_vacant c.insert_reserved-m.ensures.was_vacant c.insert_reserved-d.ensures.updates c.insert_reserved-m.ensures.updates c.give_out.ensures.row c.give_out-2.ensures.row
-    c.index_mut-dart.result.now c.index_mut-dart.ensures.value)
-    refl
-    (written_kept c.self.inside.vertices c.self.inside.darts _ (graph_seen c.self.inside.vertices c.self.inside.darts c.self.inside.cycles c.self.inside.faces c.self.inside.moved c.self.inside.vertex_room c.self.inside.cycle_room _ c.self.view_is) (dart_id c.insert_reserved-d.result) (dart_id c.insert_reserved-m.result) c.args.u c.args.v c.args.line c.args.cycle c.insert_reserved-d.new.self c.insert_reserved-m.new.self c.give_out.new.vertices c.give_out-2.new.vertices
-    c.insert_reserved-d.ensures.was_vacant c.insert_reserved-m.ensures.was_vacant c.insert_reserved-d.ensures.updates c.insert_reserved-m.ensures.updates c.give_out.ensures.row c.give_out-2.ensures.row
-    c.self.invariant.graph.rows (vertex_key c.self.inside.vertices c.self.inside.darts _ (graph_seen c.self.inside.vertices c.self.inside.darts c.self.inside.cycles c.self.inside.faces c.self.inside.moved c.self.inside.vertex_room c.self.inside.cycle_room _ c.self.view_is) c.args.u c.requires.u) (vertex_key c.self.inside.vertices c.self.inside.darts _ (graph_seen c.self.inside.vertices c.self.inside.darts c.self.inside.cycles c.self.inside.faces c.self.inside.moved c.self.inside.vertex_room c.self.inside.cycle_room _ c.self.view_is) c.args.v c.requires.v) c.index_mut-dart.result.now c.index_mut-dart.ensures.value);
+      (edge_written c.self.inside.vertices c.self.inside.darts _ (graph_seen c.self.inside.vertices c.self.inside.darts c.self.inside.cycles c.self.inside.faces c.self.inside.moved c.self.inside.vertex_room c.self.inside.cycle_room _ c.self.view_is) (dart_id c.insert_reserved-d.result) (dart_id c.insert_reserved-m.result) c.args.u c.args.v c.args.line c.args.cycle c.insert_reserved-d.new.self c.insert_reserved-m.new.self c.give_out.new.vertices c.give_out-2.new.vertices
+      c.insert_reserved-d.ensures.was_vacant c.insert_reserved-m.ensures.was_vacant c.insert_reserved-d.ensures.updates c.insert_reserved-m.ensures.updates c.give_out.ensures.row c.give_out-2.ensures.row
+      c.index_mut-dart.result.now c.index_mut-dart.ensures.value)
+      refl
+      (written_kept c.self.inside.vertices c.self.inside.darts _ (graph_seen c.self.inside.vertices c.self.inside.darts c.self.inside.cycles c.self.inside.faces c.self.inside.moved c.self.inside.vertex_room c.self.inside.cycle_room _ c.self.view_is) (dart_id c.insert_reserved-d.result) (dart_id c.insert_reserved-m.result) c.args.u c.args.v c.args.line c.args.cycle c.insert_reserved-d.new.self c.insert_reserved-m.new.self c.give_out.new.vertices c.give_out-2.new.vertices
+      c.insert_reserved-d.ensures.was_vacant c.insert_reserved-m.ensures.was_vacant c.insert_reserved-d.ensures.updates c.insert_reserved-m.ensures.updates c.give_out.ensures.row c.give_out-2.ensures.row
+      c.self.invariant.graph.rows (vertex_key c.self.inside.vertices c.self.inside.darts _ (graph_seen c.self.inside.vertices c.self.inside.darts c.self.inside.cycles c.self.inside.faces c.self.inside.moved c.self.inside.vertex_room c.self.inside.cycle_room _ c.self.view_is) c.args.u c.requires.u) (vertex_key c.self.inside.vertices c.self.inside.darts _ (graph_seen c.self.inside.vertices c.self.inside.darts c.self.inside.cycles c.self.inside.faces c.self.inside.moved c.self.inside.vertex_room c.self.inside.cycle_room _ c.self.view_is) c.args.v c.requires.v) c.index_mut-dart.result.now c.index_mut-dart.ensures.value);
   faces = faces_sound c.self.inside.vertices c.self.inside.darts c.self.inside.cycles c.self.inside.faces c.self.inside.moved c.self.inside.vertex_room c.self.inside.cycle_room c.args.self.now c.self.view_is c.self.invariant.faces c.give_out-2.new.vertices (λ n. nodes_given (dart_id c.insert_reserved-m.result) c.give_out.new.vertices c.give_out-2.new.vertices c.args.v.0 c.give_out-2.ensures.row n ∙ nodes_given (dart_id c.insert_reserved-d.result) c.self.inside.vertices c.give_out.new.vertices c.args.u.0 c.give_out.ensures.row n);
   vertex_room = room_same c.self.inside.vertex_room c.self.inside.vertices c.give_out-2.new.vertices c.self.invariant.vertex_room (c.give_out-2.ensures.len ∙ c.give_out.ensures.len) (c.give_out-2.ensures.capacity ∙ c.give_out.ensures.capacity);
   cycle_room = c.self.invariant.cycle_room;

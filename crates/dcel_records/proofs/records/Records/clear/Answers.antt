@@ -1,6 +1,5 @@
 use Rattle.dcel_records.proofs.Rooms.{room_after}
-use Rattle.dcel_records.proofs.Holding.{graph_seen}
-use Rattle.std.proofs.Common.{◌≤◌, subst, ap, ◌∙◌}
+use Rattle.std.proofs.Common.{◌≤◌, subst, ◌∙◌}
 use Rattle.slab.specs.Slab.{slab_len}
 use Rattle.dcel_records.proofs.Whole.{graph_empty, records_empty, vertices_spare, darts_spare}
 use Rattle.dcel_records.proofs.Started.{lone_sound, lone_tables, lone_lists}

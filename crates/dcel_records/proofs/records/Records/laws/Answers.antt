@@ -1,5 +1,5 @@
 use Rattle.dcel_records.proofs.Holding.{graph_seen}
-use Rattle.std.proofs.Common.{refl, ap}
+use Rattle.std.proofs.Common.{refl}
 use Rattle.slab_laws.specs.View.{source_in}
 use Rattle.dcel_records.proofs.Holding.{vertex_names, dart_names, twinned, out_key, vertex_has}
 use Rattle.dcel_records.proofs.records.Records.laws.Goals as goal

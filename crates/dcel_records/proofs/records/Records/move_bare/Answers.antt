@@ -1,6 +1,5 @@
 use Rattle.dcel_records.proofs.Rooms.{room_same}
-use Rattle.std.proofs.Common.{sym, ap, refl, arith, is_some, ◌∙◌}
-use Rattle.dcel_records.specs.RecordsView.{graph_part}
+use Rattle.std.proofs.Common.{ap, arith}
 use Rattle.dcel_records.specs.ListChanges.{vertex_relisted}
 use Rattle.dcel_records.proofs.Places.{node_row}
 use Rattle.dcel_records.specs.Placing.{vertex_placing}
@@ -24,14 +23,14 @@ pub link_first-requires-clause-face : goal.link_first-requires-clause-face
 link_first-requires-clause-face c = bare_face_there c.self.inside.vertices c.unlink.new.rows c.self.inside.faces c.unlink.new.faces c.unlink.ensures.kept c.args.face.0 (face_key c.self.inside.vertices c.self.inside.darts c.self.inside.cycles c.self.inside.faces c.self.inside.moved c.self.inside.vertex_room c.self.inside.cycle_room _ c.self.view_is c.args.face c.requires.face)
 
 pub invariant_of-self : goal.invariant_of-self
-invariant_of-self c = 
+invariant_of-self c =
     let b = both c.self.inside.vertices c.self.inside.darts c.self.inside.cycles c.self.inside.faces c.self.inside.moved c.self.inside.vertex_room c.self.inside.cycle_room _ c.self.view_is c.self.invariant.faces c.args.v c.unlink.new.rows c.unlink.new.faces c.unlink.ensures c.args.face c.link_first.new.rows c.link_first.new.faces c.link_first.ensures in
     record {
       graph = graph_sound c.self.inside.vertices c.link_first.new.rows c.self.inside.darts b.rests _ c.self.invariant.graph;
       faces = moved_sound c.self.inside.vertices c.self.inside.darts c.self.inside.cycles c.self.inside.faces c.self.inside.moved c.self.inside.vertex_room c.self.inside.cycle_room _ c.self.view_is c.self.invariant.faces c.args.v c.unlink.new.rows c.unlink.new.faces c.unlink.ensures c.args.face c.link_first.new.rows c.link_first.new.faces c.link_first.ensures;
       vertex_room = room_same c.self.inside.vertex_room c.self.inside.vertices c.link_first.new.rows c.self.invariant.vertex_room b.len b.capacity;
-  cycle_room = c.self.invariant.cycle_room;
-  moved = c.self.invariant.moved;
+      cycle_room = c.self.invariant.cycle_room;
+      moved = c.self.invariant.moved;
     }
 
 pub returns-clause-tables : goal.returns-clause-tables
@@ -41,7 +40,7 @@ pub returns-clause-lists : goal.returns-clause-lists
 returns-clause-lists c = lists_after c.self.inside.vertices c.self.inside.darts c.self.inside.cycles c.self.inside.faces c.self.inside.moved c.self.inside.vertex_room c.self.inside.cycle_room _ c.self.view_is c.link_first.new.rows c.self.inside.darts c.self.inside.cycles c.link_first.new.faces c.self.inside.moved c.self.inside.vertex_room c.self.inside.cycle_room (vertex_relisted c.args.v c.args.face) (moved_lists c.self.inside.vertices c.self.inside.darts c.self.inside.cycles c.self.inside.faces c.self.inside.moved c.self.inside.vertex_room c.self.inside.cycle_room _ c.self.view_is c.self.invariant.faces c.args.v c.unlink.new.rows c.unlink.new.faces c.unlink.ensures c.args.face c.link_first.new.rows c.link_first.new.faces c.link_first.ensures)
 
 pub returns-clause-spare : goal.returns-clause-spare
-returns-clause-spare c = 
+returns-clause-spare c =
     let s = ap (λ v. v.faces.spare_cycles) c.self.view_is in
     let t = ap (λ v. v.faces.spare_faces) c.self.view_is in
     let p = ap (λ v. v.faces.capacity_of_cycles) c.self.view_is in

@@ -1,5 +1,5 @@
 use Rattle.dcel_records.proofs.Rooms.{room_same}
-use Rattle.std.proofs.Common.{sym, ap, refl, arith, is_some, ◌∙◌}
+use Rattle.std.proofs.Common.{ap, arith, ◌∙◌}
 use Rattle.dcel_records.specs.RecordsView.{graph_part}
 use Rattle.slab_laws.specs.View.{kind_in}
 use Rattle.dcel_records.specs.ListChanges.{cycle_relisted}
@@ -38,7 +38,7 @@ pub returns-clause-lists : goal.returns-clause-lists
 returns-clause-lists c = lists_after c.self.inside.vertices c.self.inside.darts c.self.inside.cycles c.self.inside.faces c.self.inside.moved c.self.inside.vertex_room c.self.inside.cycle_room _ c.self.view_is c.self.inside.vertices c.self.inside.darts c.link_first.new.rows c.link_first.new.faces c.self.inside.moved c.self.inside.vertex_room c.self.inside.cycle_room (cycle_relisted c.args.c c.args.face) (moved_lists c.self.inside.vertices c.self.inside.darts c.self.inside.cycles c.self.inside.faces c.self.inside.moved c.self.inside.vertex_room c.self.inside.cycle_room _ c.self.view_is c.self.invariant.faces c.args.c.0 c.unlink.new.rows c.unlink.new.faces c.unlink.ensures c.args.face c.link_first.new.rows c.link_first.new.faces c.link_first.ensures)
 
 pub returns-clause-spare : goal.returns-clause-spare
-returns-clause-spare c = 
+returns-clause-spare c =
     let s = ap (λ v. v.faces.spare_cycles) c.self.view_is in
     let t = ap (λ v. v.faces.spare_faces) c.self.view_is in
     let p = ap (λ v. v.faces.capacity_of_cycles) c.self.view_is in

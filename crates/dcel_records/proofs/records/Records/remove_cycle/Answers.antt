@@ -1,6 +1,5 @@
 use Rattle.dcel_records.proofs.Rooms.{room_less}
-use Rattle.std.proofs.Common.{sym, ap, refl, arith, is_some, ◌∙◌}
-use Rattle.slab_laws.specs.View.{cycle_id}
+use Rattle.std.proofs.Common.{ap, arith, ◌∙◌}
 use Rattle.dcel_records.specs.RecordsView.{graph_part}
 use Rattle.dcel_records.specs.ListChanges.{cycle_unlisted}
 use Rattle.dcel_records.proofs.Relinked.{lists_after}
@@ -32,7 +31,7 @@ pub returns-clause-lists : goal.returns-clause-lists
 returns-clause-lists c = lists_after c.self.inside.vertices c.self.inside.darts c.self.inside.cycles c.self.inside.faces c.self.inside.moved c.self.inside.vertex_room c.self.inside.cycle_room _ c.self.view_is c.self.inside.vertices c.self.inside.darts c.remove.new.self c.unlink.new.faces c.self.inside.moved c.self.inside.vertex_room c.self.inside.cycle_room (cycle_unlisted c.args.c) (fewer_lists c.self.inside.vertices c.self.inside.darts c.self.inside.cycles c.self.inside.faces c.self.inside.moved c.self.inside.vertex_room c.self.inside.cycle_room _ c.self.view_is c.self.invariant.faces c.args.c.0 c.unlink.new.rows c.unlink.new.faces c.unlink.ensures c.remove.new.self c.remove.ensures.updates)
 
 pub returns-clause-spare : goal.returns-clause-spare
-returns-clause-spare c = 
+returns-clause-spare c =
     let s = ap (λ v. v.faces.spare_cycles) c.self.view_is in
     let t = ap (λ v. v.faces.spare_faces) c.self.view_is in
     let p = ap (λ v. v.faces.capacity_of_cycles) c.self.view_is in

@@ -1,13 +1,12 @@
-use Rattle.dcel_records.proofs.Removing.{len_written}
 use Rattle.dcel_records.proofs.Rooms.{room_same}
 use Rattle.dcel_records.proofs.Holding.{graph_seen}
 use Rattle.arr_notes.specs.NamedRows.{del}
 use Rattle.slab_laws.specs.declared.names.DartId.{DartId}
 use Rattle.slab_laws.specs.View.{twin_in}
-use Rattle.dcel_records.proofs.FacesKept.{faces_sound, faces_column, column_less, nodes_written}
-use Rattle.std.proofs.Common.{refl, ap, ◌∙◌}
+use Rattle.dcel_records.proofs.FacesKept.{faces_sound, faces_column, column_less, nodes_out_twice}
+use Rattle.std.proofs.Common.{refl, ap}
 use Rattle.dcel_records.proofs.Holding.{dart_key, source_is, twin_is}
-use Rattle.dcel_records.proofs.Removing.{key_written, less_spare, source_key, twin_there, twin_source, target_key}
+use Rattle.dcel_records.proofs.Removing.{key_written, len_out_twice, less_spare, source_key, twin_there, twin_source, target_key}
 use Rattle.dcel_records.proofs.Writing.{less_graph, less_kept}
 use Rattle.dcel_records.proofs.Pins.{pins_kept}
 use Rattle.dcel_records.proofs.records.Records.remove_pair.Goals as goal
@@ -29,18 +28,18 @@ index_mut-requires-2 c =
 pub invariant_of-self : goal.invariant_of-self
 invariant_of-self c = record {
   graph = pins_kept c.self.inside.vertices c.self.inside.darts _ _ (graph_seen c.self.inside.vertices c.self.inside.darts c.self.inside.cycles c.self.inside.faces c.self.inside.moved c.self.inside.vertex_room c.self.inside.cycle_room _ c.self.view_is) c.self.invariant.graph _ _ _
-    (less_graph c.self.inside.vertices c.self.inside.darts _ (graph_seen c.self.inside.vertices c.self.inside.darts c.self.inside.cycles c.self.inside.faces c.self.inside.moved c.self.inside.vertex_room c.self.inside.cycle_room _ c.self.view_is) c.args.d c.remove-dart.result.twin c.remove-dart.result.source c.remove-twin.result.source c.args.rest_u c.args.rest_v c.remove-dart.new.self c.remove-twin.new.self _ _
-    c.remove-dart.ensures.updates c.remove-twin.ensures.updates c.index_mut.ensures.value c.index_mut-2.ensures.value
-    (twin_is c.self.inside.vertices c.self.inside.darts _ (graph_seen c.self.inside.vertices c.self.inside.darts c.self.inside.cycles c.self.inside.faces c.self.inside.moved c.self.inside.vertex_room c.self.inside.cycle_room _ c.self.view_is) c.args.d c.remove-dart.result c.remove-dart.ensures.value))
-    refl
-    (less_kept c.self.inside.vertices c.self.inside.darts _ (graph_seen c.self.inside.vertices c.self.inside.darts c.self.inside.cycles c.self.inside.faces c.self.inside.moved c.self.inside.vertex_room c.self.inside.cycle_room _ c.self.view_is) c.self.invariant.graph.rows c.args.d c.remove-dart.result.twin c.remove-dart.result.source c.remove-twin.result.source c.args.rest_u c.args.rest_v c.remove-dart.new.self c.remove-twin.new.self _ _ c.requires.dart
-    c.remove-dart.ensures.updates c.remove-twin.ensures.updates c.index_mut.ensures.value c.index_mut-2.ensures.value
-    (twin_is c.self.inside.vertices c.self.inside.darts _ (graph_seen c.self.inside.vertices c.self.inside.darts c.self.inside.cycles c.self.inside.faces c.self.inside.moved c.self.inside.vertex_room c.self.inside.cycle_room _ c.self.view_is) c.args.d c.remove-dart.result c.remove-dart.ensures.value)
-    (source_is c.self.inside.vertices c.self.inside.darts _ (graph_seen c.self.inside.vertices c.self.inside.darts c.self.inside.cycles c.self.inside.faces c.self.inside.moved c.self.inside.vertex_room c.self.inside.cycle_room _ c.self.view_is) c.args.d c.remove-dart.result c.remove-dart.ensures.value)
-    (twin_source c.self.inside.vertices c.self.inside.darts _ (graph_seen c.self.inside.vertices c.self.inside.darts c.self.inside.cycles c.self.inside.faces c.self.inside.moved c.self.inside.vertex_room c.self.inside.cycle_room _ c.self.view_is) c.self.invariant.graph.rows c.args.d c.remove-dart.result c.requires.dart c.remove-dart.ensures.value c.remove-dart.new.self c.remove-dart.ensures.updates c.remove-twin.result c.remove-twin.ensures.value)
-    c.requires.ends c.requires.rest_u c.requires.rest_v);
-  faces = faces_sound c.self.inside.vertices c.self.inside.darts c.self.inside.cycles c.self.inside.faces c.self.inside.moved c.self.inside.vertex_room c.self.inside.cycle_room c.args.self.now c.self.view_is c.self.invariant.faces _ (λ n. nodes_written _ _ _ _ c.index_mut-2.ensures.value refl n ∙ nodes_written c.self.inside.vertices _ _ _ c.index_mut.ensures.value refl n);
-  vertex_room = room_same c.self.inside.vertex_room c.self.inside.vertices _ c.self.invariant.vertex_room (len_written _ _ _ _ c.index_mut-2.ensures.value ∙ len_written c.self.inside.vertices _ _ _ c.index_mut.ensures.value) refl;
+      (less_graph c.self.inside.vertices c.self.inside.darts _ (graph_seen c.self.inside.vertices c.self.inside.darts c.self.inside.cycles c.self.inside.faces c.self.inside.moved c.self.inside.vertex_room c.self.inside.cycle_room _ c.self.view_is) c.args.d c.remove-dart.result.twin c.remove-dart.result.source c.remove-twin.result.source c.args.rest_u c.args.rest_v c.remove-dart.new.self c.remove-twin.new.self _ _
+      c.remove-dart.ensures.updates c.remove-twin.ensures.updates c.index_mut.ensures.value c.index_mut-2.ensures.value
+      (twin_is c.self.inside.vertices c.self.inside.darts _ (graph_seen c.self.inside.vertices c.self.inside.darts c.self.inside.cycles c.self.inside.faces c.self.inside.moved c.self.inside.vertex_room c.self.inside.cycle_room _ c.self.view_is) c.args.d c.remove-dart.result c.remove-dart.ensures.value))
+      refl
+      (less_kept c.self.inside.vertices c.self.inside.darts _ (graph_seen c.self.inside.vertices c.self.inside.darts c.self.inside.cycles c.self.inside.faces c.self.inside.moved c.self.inside.vertex_room c.self.inside.cycle_room _ c.self.view_is) c.self.invariant.graph.rows c.args.d c.remove-dart.result.twin c.remove-dart.result.source c.remove-twin.result.source c.args.rest_u c.args.rest_v c.remove-dart.new.self c.remove-twin.new.self _ _ c.requires.dart
+      c.remove-dart.ensures.updates c.remove-twin.ensures.updates c.index_mut.ensures.value c.index_mut-2.ensures.value
+      (twin_is c.self.inside.vertices c.self.inside.darts _ (graph_seen c.self.inside.vertices c.self.inside.darts c.self.inside.cycles c.self.inside.faces c.self.inside.moved c.self.inside.vertex_room c.self.inside.cycle_room _ c.self.view_is) c.args.d c.remove-dart.result c.remove-dart.ensures.value)
+      (source_is c.self.inside.vertices c.self.inside.darts _ (graph_seen c.self.inside.vertices c.self.inside.darts c.self.inside.cycles c.self.inside.faces c.self.inside.moved c.self.inside.vertex_room c.self.inside.cycle_room _ c.self.view_is) c.args.d c.remove-dart.result c.remove-dart.ensures.value)
+      (twin_source c.self.inside.vertices c.self.inside.darts _ (graph_seen c.self.inside.vertices c.self.inside.darts c.self.inside.cycles c.self.inside.faces c.self.inside.moved c.self.inside.vertex_room c.self.inside.cycle_room _ c.self.view_is) c.self.invariant.graph.rows c.args.d c.remove-dart.result c.requires.dart c.remove-dart.ensures.value c.remove-dart.new.self c.remove-dart.ensures.updates c.remove-twin.result c.remove-twin.ensures.value)
+      c.requires.ends c.requires.rest_u c.requires.rest_v);
+  faces = faces_sound c.self.inside.vertices c.self.inside.darts c.self.inside.cycles c.self.inside.faces c.self.inside.moved c.self.inside.vertex_room c.self.inside.cycle_room c.args.self.now c.self.view_is c.self.invariant.faces _ (nodes_out_twice c.self.inside.vertices c.remove-dart.result.source.0 c.remove-twin.result.source.0 c.args.rest_u c.args.rest_v _ _ c.index_mut.ensures.value c.index_mut-2.ensures.value);
+  vertex_room = room_same c.self.inside.vertex_room c.self.inside.vertices _ c.self.invariant.vertex_room (len_out_twice c.self.inside.vertices c.remove-dart.result.source.0 c.remove-twin.result.source.0 c.args.rest_u c.args.rest_v _ _ c.index_mut.ensures.value c.index_mut-2.ensures.value) refl;
   cycle_room = c.self.invariant.cycle_room;
   moved = c.self.invariant.moved;
 }
@@ -57,4 +56,4 @@ returns-clause-spare c =
     c.remove-dart.ensures.len c.remove-dart.ensures.room c.remove-dart.ensures.capacity c.remove-twin.ensures.len c.remove-twin.ensures.capacity
 
 pub returns-clause-faces : goal.returns-clause-faces
-returns-clause-faces c = faces_column c.self.inside.vertices c.self.inside.darts c.self.inside.cycles c.self.inside.faces c.self.inside.moved c.self.inside.vertex_room c.self.inside.cycle_room c.args.self.now c.self.view_is c.self.invariant.faces _ (λ n. nodes_written _ _ _ _ c.index_mut-2.ensures.value refl n ∙ nodes_written c.self.inside.vertices _ _ _ c.index_mut.ensures.value refl n) (λ xs. del (twin_in c.args.self.now.graph c.args.d).0 (del c.args.d.0 xs)) c.remove-twin.new.self (column_less c.self.inside.darts c.remove-dart.new.self c.remove-twin.new.self c.args.d.0 c.remove-dart.result.twin.0 (twin_in c.args.self.now.graph c.args.d) c.remove-dart.ensures.updates c.remove-twin.ensures.updates (ap (λ (x : DartId). x.0) (twin_is c.self.inside.vertices c.self.inside.darts _ (graph_seen c.self.inside.vertices c.self.inside.darts c.self.inside.cycles c.self.inside.faces c.self.inside.moved c.self.inside.vertex_room c.self.inside.cycle_room _ c.self.view_is) c.args.d c.remove-dart.result c.remove-dart.ensures.value)))
+returns-clause-faces c = faces_column c.self.inside.vertices c.self.inside.darts c.self.inside.cycles c.self.inside.faces c.self.inside.moved c.self.inside.vertex_room c.self.inside.cycle_room c.args.self.now c.self.view_is c.self.invariant.faces _ (nodes_out_twice c.self.inside.vertices c.remove-dart.result.source.0 c.remove-twin.result.source.0 c.args.rest_u c.args.rest_v _ _ c.index_mut.ensures.value c.index_mut-2.ensures.value) (λ xs. del (twin_in c.args.self.now.graph c.args.d).0 (del c.args.d.0 xs)) c.remove-twin.new.self (column_less c.self.inside.darts c.remove-dart.new.self c.remove-twin.new.self c.args.d.0 c.remove-dart.result.twin.0 (twin_in c.args.self.now.graph c.args.d) c.remove-dart.ensures.updates c.remove-twin.ensures.updates (ap (λ (x : DartId). x.0) (twin_is c.self.inside.vertices c.self.inside.darts _ (graph_seen c.self.inside.vertices c.self.inside.darts c.self.inside.cycles c.self.inside.faces c.self.inside.moved c.self.inside.vertex_room c.self.inside.cycle_room _ c.self.view_is) c.args.d c.remove-dart.result c.remove-dart.ensures.value)))

@@ -1,7 +1,6 @@
 use Rattle.dcel_records.proofs.Rooms.{room_less}
 use Rattle.dcel_records.proofs.Holding.{graph_seen}
 use Rattle.std.proofs.Common.{ap, arith, ◌∙◌}
-use Rattle.dcel_records.specs.RecordsView.{graph_part}
 use Rattle.dcel_records.specs.ListChanges.{vertex_unlisted}
 use Rattle.dcel_records.proofs.Holding.{vertex_key}
 use Rattle.dcel_records.proofs.Writing.{gone_graph, gone_kept}
@@ -20,7 +19,7 @@ pub remove-vertex-requires : goal.remove-vertex-requires
 remove-vertex-requires c = vertex_there c.self.inside.vertices c.leave_face.new.vertices c.self.inside.faces c.leave_face.new.faces c.leave_face.ensures.kept c.args.v.0 (vertex_key c.self.inside.vertices c.self.inside.darts _ (graph_seen c.self.inside.vertices c.self.inside.darts c.self.inside.cycles c.self.inside.faces c.self.inside.moved c.self.inside.vertex_room c.self.inside.cycle_room _ c.self.view_is) c.args.v c.requires.vertex)
 
 pub overflow_sub-self : goal.overflow_sub-self
-overflow_sub-self c = 
+overflow_sub-self c =
     let k = (graph_sound c.self.inside.vertices c.leave_face.new.vertices c.self.inside.darts c.leave_face.ensures.kept.rests _ c.self.invariant.graph).counted in
     let g = pins_gone c.leave_face.new.vertices c.remove-vertex.new.self c.args.v.0 c.remove-vertex.result c.remove-vertex.ensures.value c.remove-vertex.ensures.updates in
     let o = ap one_if c.if-vertex.true in
@@ -68,7 +67,7 @@ pub returns-then-vertex-clause-lists : goal.returns-then-vertex-clause-lists
 returns-then-vertex-clause-lists c = lists_after c.self.inside.vertices c.self.inside.darts c.self.inside.cycles c.self.inside.faces c.self.inside.moved c.self.inside.vertex_room c.self.inside.cycle_room _ c.self.view_is c.remove-vertex.new.self c.self.inside.darts c.self.inside.cycles c.leave_face.new.faces c.self.inside.moved c.self.inside.vertex_room c.self.inside.cycle_room (vertex_unlisted c.args.v) (gone_lists c.self.inside.vertices c.self.inside.darts c.self.inside.cycles c.self.inside.faces c.self.inside.moved c.self.inside.vertex_room c.self.inside.cycle_room _ c.self.view_is c.self.invariant.faces c.args.v c.leave_face.new.vertices c.leave_face.new.faces c.leave_face.ensures c.remove-vertex.new.self c.remove-vertex.ensures.updates)
 
 pub returns-then-vertex-clause-spare_faces : goal.returns-then-vertex-clause-spare_faces
-returns-then-vertex-clause-spare_faces c = 
+returns-then-vertex-clause-spare_faces c =
     let s = ap (λ v. v.faces.spare_cycles) c.self.view_is in
     let t = ap (λ v. v.faces.spare_faces) c.self.view_is in
     let p = ap (λ v. v.faces.capacity_of_cycles) c.self.view_is in
@@ -87,7 +86,7 @@ pub returns-else-vertex-clause-lists : goal.returns-else-vertex-clause-lists
 returns-else-vertex-clause-lists c = lists_after c.self.inside.vertices c.self.inside.darts c.self.inside.cycles c.self.inside.faces c.self.inside.moved c.self.inside.vertex_room c.self.inside.cycle_room _ c.self.view_is c.remove-vertex.new.self c.self.inside.darts c.self.inside.cycles c.leave_face.new.faces c.self.inside.moved c.self.inside.vertex_room c.self.inside.cycle_room (vertex_unlisted c.args.v) (gone_lists c.self.inside.vertices c.self.inside.darts c.self.inside.cycles c.self.inside.faces c.self.inside.moved c.self.inside.vertex_room c.self.inside.cycle_room _ c.self.view_is c.self.invariant.faces c.args.v c.leave_face.new.vertices c.leave_face.new.faces c.leave_face.ensures c.remove-vertex.new.self c.remove-vertex.ensures.updates)
 
 pub returns-else-vertex-clause-spare_faces : goal.returns-else-vertex-clause-spare_faces
-returns-else-vertex-clause-spare_faces c = 
+returns-else-vertex-clause-spare_faces c =
     let s = ap (λ v. v.faces.spare_cycles) c.self.view_is in
     let t = ap (λ v. v.faces.spare_faces) c.self.view_is in
     let p = ap (λ v. v.faces.capacity_of_cycles) c.self.view_is in

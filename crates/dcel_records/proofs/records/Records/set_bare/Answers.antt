@@ -1,7 +1,6 @@
 use Rattle.dcel_records.proofs.Rooms.{room_same}
 use Rattle.dcel_records.proofs.Holding.{graph_seen}
-use Rattle.std.proofs.Common.{sym, ap, refl, arith, is_some, ◌∙◌}
-use Rattle.dcel_records.specs.RecordsView.{graph_part}
+use Rattle.std.proofs.Common.{ap, arith}
 use Rattle.dcel_records.specs.ListChanges.{vertex_listed}
 use Rattle.dcel_records.proofs.Holding.{vertex_key}
 use Rattle.dcel_records.proofs.Relinked.{lists_after, face_key}
@@ -33,7 +32,7 @@ pub returns-clause-lists : goal.returns-clause-lists
 returns-clause-lists c = lists_after c.self.inside.vertices c.self.inside.darts c.self.inside.cycles c.self.inside.faces c.self.inside.moved c.self.inside.vertex_room c.self.inside.cycle_room _ c.self.view_is c.link_first.new.rows c.self.inside.darts c.self.inside.cycles c.link_first.new.faces c.self.inside.moved c.self.inside.vertex_room c.self.inside.cycle_room (vertex_listed c.args.v c.args.face) (set_lists c.self.inside.vertices c.self.inside.darts c.self.inside.cycles c.self.inside.faces c.self.inside.moved c.self.inside.vertex_room c.self.inside.cycle_room _ c.self.view_is c.self.invariant.faces c.args.v (bare_none c.self.inside.vertices c.self.inside.darts c.self.inside.cycles c.self.inside.faces c.self.inside.moved c.self.inside.vertex_room c.self.inside.cycle_room _ c.self.view_is c.self.invariant.faces c.args.v c.requires.elsewhere) c.args.face c.link_first.new.rows c.link_first.new.faces c.link_first.ensures)
 
 pub returns-clause-spare : goal.returns-clause-spare
-returns-clause-spare c = 
+returns-clause-spare c =
     let s = ap (λ v. v.faces.spare_cycles) c.self.view_is in
     let t = ap (λ v. v.faces.spare_faces) c.self.view_is in
     let p = ap (λ v. v.faces.capacity_of_cycles) c.self.view_is in

@@ -1,7 +1,6 @@
 use Rattle.dcel_records.proofs.Holding.{graph_seen}
-use Rattle.std.proofs.Common.{ap, refl, ◌∙◌}
+use Rattle.std.proofs.Common.{refl}
 use Rattle.arr_notes.specs.NamedRows.{put}
-use Rattle.dcel_records.specs.RecordsView.{graph_part}
 use Rattle.dcel_records.proofs.Holding.{dart_key}
 use Rattle.dcel_records.proofs.CycleColumn.{cycle_graph_part, cycle_kept}
 use Rattle.dcel_records.proofs.FacesKept.{column_put, faces_column}

@@ -1,5 +1,5 @@
 use Rattle.dcel_records.proofs.Rooms.{room_same}
-use Rattle.std.proofs.Common.{sym, ap, refl, arith, is_some, ◌∙◌}
+use Rattle.std.proofs.Common.{ap, refl, arith}
 use Rattle.dcel_records.specs.RecordsView.{graph_part}
 use Rattle.dcel_records.specs.ListChanges.{dart_listed}
 use Rattle.dcel_records.proofs.Relinked.{lists_after}
@@ -26,12 +26,12 @@ pub returns-clause-lists : goal.returns-clause-lists
 returns-clause-lists c = lists_after c.self.inside.vertices c.self.inside.darts c.self.inside.cycles c.self.inside.faces c.self.inside.moved c.self.inside.vertex_room c.self.inside.cycle_room _ c.self.view_is c.self.inside.vertices c.self.inside.darts _ c.self.inside.faces c.self.inside.moved c.self.inside.vertex_room c.self.inside.cycle_room (dart_listed c.args.c c.args.dart) (dart_lists c.self.inside.vertices c.self.inside.darts c.self.inside.cycles c.self.inside.faces c.self.inside.moved c.self.inside.vertex_room c.self.inside.cycle_room _ c.self.view_is c.self.invariant.faces c.args.c.0 c.index_mut.result.now _ c.index_mut.ensures.value refl refl)
 
 pub returns-clause-spare : goal.returns-clause-spare
-returns-clause-spare c = 
+returns-clause-spare c =
     let s = ap (λ v. v.faces.spare_cycles) c.self.view_is in
     let t = ap (λ v. v.faces.spare_faces) c.self.view_is in
     let p = ap (λ v. v.faces.capacity_of_cycles) c.self.view_is in
     let q = ap (λ v. v.faces.capacity_of_faces) c.self.view_is in
-    let a = len_written c.self.inside.cycles c.args.c.0 c.index_mut.result.now _ c.index_mut.ensures.value in
+    let a = len_written c.self.inside.cycles c.args.c.0 c.index_mut.result.now (record { kind = c.index_mut.result.now.kind; dart = c.args.dart; place = c.index_mut.result.now.place }) c.index_mut.ensures.value in
     record { of_cycles = omega arith; of_faces = omega arith; capacity_of_cycles = omega arith; capacity_of_faces = omega arith }
 
 pub returns-clause-graph : goal.returns-clause-graph

@@ -1,6 +1,6 @@
 use Rattle.dcel_records.proofs.Holding.{graph_seen}
 use Rattle.dcel_records.proofs.FacesKept.{faces_sound, faces_column, column_written}
-use Rattle.std.proofs.Common.{refl, ap}
+use Rattle.std.proofs.Common.{refl}
 use Rattle.dcel_records.proofs.Holding.{dart_key}
 use Rattle.dcel_records.proofs.Writing.{next_graph, next_kept}
 use Rattle.dcel_records.proofs.Pins.{pins_kept}
@@ -12,7 +12,7 @@ index_mut-requires c = dart_key c.self.inside.vertices c.self.inside.darts _ (gr
 pub invariant_of-self : goal.invariant_of-self
 invariant_of-self c = record {
   graph = pins_kept c.self.inside.vertices c.self.inside.darts _ _ (graph_seen c.self.inside.vertices c.self.inside.darts c.self.inside.cycles c.self.inside.faces c.self.inside.moved c.self.inside.vertex_room c.self.inside.cycle_room _ c.self.view_is) c.self.invariant.graph _ _ _ (next_graph c.self.inside.vertices c.self.inside.darts _ (graph_seen c.self.inside.vertices c.self.inside.darts c.self.inside.cycles c.self.inside.faces c.self.inside.moved c.self.inside.vertex_room c.self.inside.cycle_room _ c.self.view_is) c.args.d c.args.n _ c.index_mut.ensures.value) refl
-    (next_kept c.self.inside.vertices c.self.inside.darts _ (graph_seen c.self.inside.vertices c.self.inside.darts c.self.inside.cycles c.self.inside.faces c.self.inside.moved c.self.inside.vertex_room c.self.inside.cycle_room _ c.self.view_is) c.self.invariant.graph.rows c.args.d c.args.n _ c.index_mut.ensures.value);
+      (next_kept c.self.inside.vertices c.self.inside.darts _ (graph_seen c.self.inside.vertices c.self.inside.darts c.self.inside.cycles c.self.inside.faces c.self.inside.moved c.self.inside.vertex_room c.self.inside.cycle_room _ c.self.view_is) c.self.invariant.graph.rows c.args.d c.args.n _ c.index_mut.ensures.value);
   faces = faces_sound c.self.inside.vertices c.self.inside.darts c.self.inside.cycles c.self.inside.faces c.self.inside.moved c.self.inside.vertex_room c.self.inside.cycle_room c.args.self.now c.self.view_is c.self.invariant.faces c.self.inside.vertices (λ n. refl);
   vertex_room = c.self.invariant.vertex_room;
   cycle_room = c.self.invariant.cycle_room;

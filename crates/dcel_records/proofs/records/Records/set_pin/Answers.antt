@@ -2,7 +2,7 @@ use Rattle.dcel_records.proofs.Removing.{len_written}
 use Rattle.dcel_records.proofs.Rooms.{room_same}
 use Rattle.dcel_records.proofs.Holding.{graph_seen}
 use Rattle.dcel_records.proofs.FacesKept.{faces_sound, faces_column, nodes_written}
-use Rattle.std.proofs.Common.{true, arith, refl, ap}
+use Rattle.std.proofs.Common.{true, arith, refl}
 use Rattle.slab.specs.Slab.{with_value}
 use Rattle.dcel_records.proofs.Holding.{vertex_key}
 use Rattle.dcel_records.proofs.Writing.{row_pinned, pin_same, pin_graph, pin_kept}
@@ -28,9 +28,9 @@ overflow_add-self c =
 pub invariant_of-self : goal.invariant_of-self
 invariant_of-self c = record {
   graph = record {
-  rows = pin_kept c.self.inside.vertices c.self.inside.darts _ (graph_seen c.self.inside.vertices c.self.inside.darts c.self.inside.cycles c.self.inside.faces c.self.inside.moved c.self.inside.vertex_room c.self.inside.cycle_room _ c.self.view_is) c.self.invariant.graph.rows c.args.v true _ c.index_mut.ensures.value;
-  counted = let k = c.self.invariant.graph.counted in let m = pin_more c.self.inside.vertices c.args.v.0 _ _ c.index.ensures c.index_mut.ensures.value c.if-index.false in omega arith;
-};
+    rows = pin_kept c.self.inside.vertices c.self.inside.darts _ (graph_seen c.self.inside.vertices c.self.inside.darts c.self.inside.cycles c.self.inside.faces c.self.inside.moved c.self.inside.vertex_room c.self.inside.cycle_room _ c.self.view_is) c.self.invariant.graph.rows c.args.v true _ c.index_mut.ensures.value;
+    counted = let k = c.self.invariant.graph.counted in let m = pin_more c.self.inside.vertices c.args.v.0 _ _ c.index.ensures c.index_mut.ensures.value c.if-index.false in omega arith;
+  };
   faces = faces_sound c.self.inside.vertices c.self.inside.darts c.self.inside.cycles c.self.inside.faces c.self.inside.moved c.self.inside.vertex_room c.self.inside.cycle_room c.args.self.now c.self.view_is c.self.invariant.faces _ (nodes_written c.self.inside.vertices _ _ _ c.index_mut.ensures.value refl);
   vertex_room = room_same c.self.inside.vertex_room c.self.inside.vertices _ c.self.invariant.vertex_room (len_written c.self.inside.vertices _ _ _ c.index_mut.ensures.value) refl;
   cycle_room = c.self.invariant.cycle_room;
