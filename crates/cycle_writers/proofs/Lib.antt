@@ -1,0 +1,4 @@
+pub mod Listed
+pub mod MovedBoth
+pub mod TakenWithin
+pub mod Taken
