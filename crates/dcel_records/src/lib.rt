@@ -6,6 +6,7 @@
 
 mod bare;
 mod cycles;
+mod face_laws;
 mod keys;
 mod links;
 mod listing;

@@ -95,6 +95,8 @@ pub(crate) fn make_room(
     records.reserve(Room {
         vertices: 1,
         edges: 1,
+        cycles: 0,
+        faces: 0,
     })?;
     let pairs = count_parted(&*history, at);
     history.reserve(0, 0, pairs)

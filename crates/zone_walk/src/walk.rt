@@ -83,6 +83,8 @@ fn room_for(plan: &ZonePlan) -> Room
     Room {
         vertices: new_vertices,
         edges: splits + plan.between.as_slice().len(),
+        cycles: 0,
+        faces: 0,
     }
 }
 
@@ -118,6 +120,8 @@ pub fn zone(
         room: Room {
             vertices: 0,
             edges: 0,
+            cycles: 0,
+            faces: 0,
         },
     };
     plan.vertices.push(here)?;

@@ -10,6 +10,8 @@ fn comes_and_goes(records: &mut Records, point: Point) -> Result<bool, NoMemory>
     records.reserve(Room {
         vertices: 7,
         edges: 9,
+        cycles: 0,
+        faces: 0,
     })?;
     let vertex = records.add_vertex(point);
     let is_there = records.point_of(vertex) == Some(point);
@@ -35,7 +37,12 @@ const TOO_MUCH: [(usize, usize); 4] = [
 ];
 
 fn has_no_room(records: &mut Records, vertices: usize, edges: usize) -> bool {
-    records.reserve(Room { vertices, edges }) == Err(NoMemory)
+    records.reserve(Room {
+        vertices,
+        edges,
+        cycles: 0,
+        faces: 0,
+    }) == Err(NoMemory)
 }
 
 // Whether the vertex is all that there is.
@@ -50,6 +57,8 @@ fn stay(records: &mut Records, point: Point) -> Result<bool, NoMemory> {
     records.reserve(Room {
         vertices: 1,
         edges: 0,
+        cycles: 0,
+        faces: 0,
     })?;
     let vertex = records.add_vertex(point);
     for (vertices, edges) in TOO_MUCH {
