@@ -2,3 +2,8 @@ pub mod Listed
 pub mod MovedBoth
 pub mod TakenWithin
 pub mod Taken
+pub mod Moving
+pub mod MovedRows
+pub mod Still
+pub mod MovedCycles
+pub mod MovedVertices

@@ -29,12 +29,12 @@ both_true : (a b : Bool) → (a && b) ≡ true → (a ≡ true) × (b ≡ true)
 both_true true b e = (refl, e)
 both_true false b e = absurd (cc)
 
+pub another : (c but : CycleId) → not (c.0 == but.0) ≡ true → c ≢ but
+another c but n e = let z = sym (ap not (ap (λ (z : CycleId). z.0 == but.0) e ∙ same_number but.0)) ∙ n in absurd (cc)
+
 -- a cycle of another name that passes
 pub but_true : (c but : CycleId) (b : Bool) → (not (c.0 == but.0) && b) ≡ true ↔ ((c ≢ but) × (b ≡ true))
 but_true c but b = (
-  λ h. let r = both_true (not (c.0 == but.0)) b h in (λ e. differs (ap (λ (z : CycleId). z.0 == but.0) e ∙ same_number but.0) r.0, r.1),
+  λ h. let r = both_true (not (c.0 == but.0)) b h in (another c but r.0, r.1),
   λ h. ap (λ z. not z && b) (other_number c.0 but.0 (λ e. h.0 (λ i. record { 0 = e i }))) ∙ h.1,
 )
-  where
-    differs : (c.0 == but.0) ≡ true → not (c.0 == but.0) ≡ true → ⊥
-    differs e n = let z = sym (ap not e) ∙ n in absurd (cc)

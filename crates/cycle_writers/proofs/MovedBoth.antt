@@ -1,9 +1,9 @@
 -- What moves in two goes is what moves in one.
-use Rattle.std.proofs.Common.{◌≡◌, ℕ, List, [], ◌∷◌, cond, refl, ap, ap₂}
+use Rattle.std.proofs.Common.{◌≡◌, ℕ, List, [], ◌∷◌, cond, refl, ap}
 use Rattle.slab_laws.specs.declared.names.CycleId.{CycleId}
 use Rattle.slab_laws.specs.declared.names.FaceId.{FaceId}
 use Rattle.slab_laws.specs.declared.names.VertexId.{VertexId}
-use Rattle.slab_laws.specs.View.{Faces, CycleRecord}
+use Rattle.slab_laws.specs.View.{Faces}
 use Rattle.arr_notes.specs.FaceWriters.{moved_to, lists_cycle, lists_vertex}
 use Rattle.arr_notes.specs.NamedRows.{each}
 

@@ -1,5 +1,5 @@
 -- What is taken from a face is what a split or a union of faces asks for.
-use Rattle.std.proofs.Common.{◌≡◌, ◌≢◌, ◌↔◌, ◌<◌, true, List, [], refl, sym, ap, ◌∙◌, subst}
+use Rattle.std.proofs.Common.{◌≡◌, ◌≢◌, ◌↔◌, ◌<◌, true, refl, sym, ap, ◌∙◌}
 use Rattle.plane_graphs.specs.Ascending.{Member}
 use Rattle.slab_laws.specs.declared.names.CycleId.{CycleId}
 use Rattle.slab_laws.specs.declared.names.DartId.{DartId}

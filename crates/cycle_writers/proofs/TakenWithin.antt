@@ -1,6 +1,5 @@
 -- What is taken where a cycle is parted: what lies within the outer half.
-use Rattle.std.proofs.Common.{◌≡◌, ◌≢◌, ◌↔◌, Bool, true, false, cond, refl, sym, ap, ◌∙◌, subst, inl, inr}
-use Rattle.std.specs.Prelude.{not}
+use Rattle.std.proofs.Common.{◌≡◌, ◌≢◌, ◌↔◌, Bool, true, false, refl, sym, ◌∙◌, inl, inr}
 use Rattle.slab_laws.specs.declared.names.DartId.{DartId}
 use Rattle.slab_laws.specs.Cycles.{left_of_dart}
 use Rattle.slab_laws.specs.FacesSound.{lead_in}
@@ -36,11 +35,11 @@ pub taken_within : (w : View) (x y : DartId) (which : Which) (i : Item) → IsSi
 taken_within w x y All i s e = absurd s
 taken_within w x y (Apart half extent side) i (inl s) e =
     let t : takes w (Apart half extent side) i ≡ odd_at (skeleton_of w) (dart_in w x) (cell_at w i) =
-        (λ j. differ (odd_at (skeleton_of w) (dart_in w (s.0 j)) (cell_at w i)) (s.1 j)) ∙ differ_false (odd_at (skeleton_of w) (dart_in w x) (cell_at w i)) in
+    (λ j. differ (odd_at (skeleton_of w) (dart_in w (s.0 j)) (cell_at w i)) (s.1 j)) ∙ differ_false (odd_at (skeleton_of w) (dart_in w x) (cell_at w i)) in
     (λ h. sym t ∙ h, λ h. t ∙ h)
 taken_within w x y (Apart half extent side) i (inr s) e =
     let t : takes w (Apart half extent side) i ≡ differ (odd_at (skeleton_of w) (dart_in w y) (cell_at w i)) (is_outer (skeleton_of w) (dart_in w y)) =
-        (λ j. differ (odd_at (skeleton_of w) (dart_in w (s.0 j)) (cell_at w i)) (s.1 j)) in
+    (λ j. differ (odd_at (skeleton_of w) (dart_in w (s.0 j)) (cell_at w i)) (s.1 j)) in
     let d = differ_true (odd_at (skeleton_of w) (dart_in w y) (cell_at w i)) (is_outer (skeleton_of w) (dart_in w y)) in
     (λ h. e.1 (d.0 (sym t ∙ h)), λ h. t ∙ d.1 (e.0 h))
 
@@ -49,9 +48,9 @@ pub within_together : (v w : View) (f : Faces) (x y : DartId) (p q : VertexId) (
 within_together v w f x y p q a b k m i h ab K M km ka o =
     let part = parted v w x y p q i.line i.edge a b i.first i.second i.after_first i.after_second ((h.cycled.orbits a b i.first i.second).0 ab) in
     let one : lead_in w k ≡ lead_in w m =
-        lead_old v w x y p q i.line i.edge k K
-        ∙ part.cycles.still (dart_in v k) (dart_in v m) (listed v w x y p q i.line i.edge k K) (listed v w x y p q i.line i.edge m M) (λ e. ka ((h.cycled.orbits k a K i.first).1 e)) ((h.cycled.orbits k m K M).0 km)
-        ∙ sym (lead_old v w x y p q i.line i.edge m M) in
+    lead_old v w x y p q i.line i.edge k K
+    ∙ part.cycles.still (dart_in v k) (dart_in v m) (listed v w x y p q i.line i.edge k K) (listed v w x y p q i.line i.edge m M) (λ e. ka ((h.cycled.orbits k a K i.first).1 e)) ((h.cycled.orbits k m K M).0 km)
+    ∙ sym (lead_old v w x y p q i.line i.edge m M) in
     let same = one_kind_each.face (skeleton_of w) (dart_in w k) (dart_in w m) i.edge.sound_more.plane one in
     let l = faces_with_one_more_edge (skeleton_of v) (skeleton_of w) (dart_in w x) (left_of_dart (skeleton_of w) (dart_in w k)) (left_of_dart (skeleton_of w) (dart_in w m)) _ _ (is_more v w x y p q i.line i.edge) (old_lies v w x y p q i.line i.edge k K) (old_lies v w x y p q i.line i.edge m M) in
     sym (l.0 same).1 ∙ o

@@ -8,7 +8,6 @@ use Rattle.slab_laws.specs.declared.names.VertexId.{VertexId}
 use Rattle.slab_laws.specs.FaceLists.{Lists, AreLists, AreFacesListed}
 use Rattle.slab_laws.specs.Sound.{skeleton_of, dart_in}
 use Rattle.slab_laws.specs.View.{View, Faces, HasCycle, HasFace, cycle_in, kind_in, face_in}
-use Rattle.boundary_cycles.specs.declared.extents.Extent.{Extent}
 use Rattle.arr_notes.specs.FaceWriters.{moved_to}
 use Rattle.face_changes.specs.FacesByPairs.{first_or}
 use Rattle.face_changes.specs.Kinds.{is_outer}
