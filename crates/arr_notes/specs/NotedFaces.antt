@@ -1,6 +1,5 @@
 -- What a note says of cycles and faces beside its change, and what it makes of the tables.
-use Rattle.std.specs.Prelude.{◌==◌, cond, List, Option, Some, None}
-use Rattle.slab_laws.specs.declared.names.CycleId.{CycleId}
+use Rattle.std.specs.Prelude.{◌==◌, cond, Option, Some, None}
 use Rattle.slab_laws.specs.declared.names.DartId.{DartId}
 use Rattle.slab_laws.specs.declared.names.FaceId.{FaceId}
 use Rattle.slab_laws.specs.declared.names.VertexId.{VertexId}
@@ -9,56 +8,40 @@ use Rattle.arr_notes.specs.FaceSteps.{FaceChange, comes_bare, goes_bare, in_two,
 use Rattle.arr_notes.specs.Step.{step}
 use Rattle.arr_notes.specs.declared.change.Change.{Change}
 use Rattle.arr_notes.specs.declared.change.Change.TheVariants.{AddVertex, RemoveVertex, SplitEdge, MergeEdge, AddEdge, RemoveEdge, Clear}
+use Rattle.arr_notes.specs.declared.faces.Linked.{Linked}
+use Rattle.arr_notes.specs.declared.faces.Linked.TheVariants.{NewHole, Grows, Joins, Splits}
+use Rattle.arr_notes.specs.declared.faces.Unlinked.{Unlinked}
+use Rattle.arr_notes.specs.declared.faces.Unlinked.TheVariants.{Vanishes, Shrinks, Breaks, Unites}
 
 -- ---- an edge that comes (CGAL manual, `insert_at_vertices` and its kin: what becomes of boundaries and faces)
-pub data LinkedFaces : Type 0 where
-  -- both ends were bare: the two darts are a new inner cycle in the face
-  NewHole : (cycle : CycleId) (face : FaceId) → LinkedFaces
-  -- one was: both darts are on the cycle at the other
-  Grows : (cycle : CycleId) → LinkedFaces
-  -- the places are on two cycles of one face: the darts of gone are on kept
-  Joins : (kept gone : CycleId) → LinkedFaces
-  -- they are on one cycle: the orbit of the fresh dart is the outer cycle of the fresh face, to which the listed cycles and isolated vertices move
-  Splits : (kept fresh : CycleId) (fresh_dart : DartId) (fresh_face : FaceId) (cycles : List CycleId) (vertices : List VertexId) → LinkedFaces
-
 -- of the ends u and v of an edge that one of them had darts for: the one that was bare
 abbrev pub bare_end : Option DartId → VertexId → VertexId → VertexId
 bare_end None u v = u
 bare_end (Some at_u) u v = v
 
-abbrev pub linked_faces : DartId → DartId → VertexId → VertexId → Option DartId → LinkedFaces → FaceChange
+abbrev pub linked_faces : DartId → DartId → VertexId → VertexId → Option DartId → Linked → FaceChange
 linked_faces d m u v at_u (NewHole cycle face) = new_hole d m u v cycle face
 linked_faces d m u v at_u (Grows cycle) = grows d m (bare_end at_u u v) cycle
 linked_faces d m u v at_u (Joins kept gone) = joins d m kept gone
-linked_faces d m u v at_u (Splits kept fresh fresh_dart fresh_face cycles vertices) = splits d m kept fresh fresh_dart fresh_face cycles vertices
+linked_faces d m u v at_u (Splits kept fresh fresh_dart fresh_face moved) = splits d m kept fresh fresh_dart fresh_face moved.cycles moved.vertices
 
 -- ---- an edge that goes (CGAL manual, `remove_edge`)
-pub data UnlinkedFaces : Type 0 where
-  -- both ends become bare: their cycle goes, and both are isolated in the face
-  Vanishes : (cycle : CycleId) (face : FaceId) → UnlinkedFaces
-  -- one does: it is isolated in the face, that of the cycle
-  Shrinks : (cycle : CycleId) (face : FaceId) → UnlinkedFaces
-  -- neither does, and both darts are on one cycle: the orbit of the fresh dart is a new inner cycle of the same face
-  Breaks : (kept fresh : CycleId) (fresh_dart : DartId) → UnlinkedFaces
-  -- they are on two: the darts of gone are on kept, and what gone's face had, the listed cycles and isolated vertices, moves to the face of kept
-  Unites : (kept gone : CycleId) (gone_face : FaceId) (cycles : List CycleId) (vertices : List VertexId) → UnlinkedFaces
-
 -- where one end of the edge of d becomes bare: the source of d, where d comes after its twin, else the other end
 abbrev pub bared_end : View → DartId → VertexId
 bared_end v d = cond ((next_in v (twin_in v d)).0 == d.0) (source_in v d) (source_in v (twin_in v d))
 
-abbrev pub unlinked_faces : View → DartId → UnlinkedFaces → FaceChange
+abbrev pub unlinked_faces : View → DartId → Unlinked → FaceChange
 unlinked_faces v d (Vanishes cycle face) = vanishes d (twin_in v d) (source_in v d) (source_in v (twin_in v d)) cycle face
 unlinked_faces v d (Shrinks cycle face) = shrinks d (twin_in v d) (bared_end v d) cycle face
 unlinked_faces v d (Breaks kept fresh fresh_dart) = breaks d (twin_in v d) kept fresh fresh_dart
-unlinked_faces v d (Unites kept gone gone_face cycles vertices) = unites d (twin_in v d) kept gone gone_face cycles vertices
+unlinked_faces v d (Unites kept gone gone_face moved) = unites d (twin_in v d) kept gone gone_face moved.cycles moved.vertices
 
 -- ---- any change: the face of the new vertex, or the one that is left of all; what is said of an edge that comes or goes
 pub data NotedFaces : Type 0 where
   NoFaces : NotedFaces
   InFace : (face : FaceId) → NotedFaces
-  Linked : LinkedFaces → NotedFaces
-  Unlinked : UnlinkedFaces → NotedFaces
+  InLink : Linked → NotedFaces
+  InUnlink : Unlinked → NotedFaces
 
 -- the first layer: all names that the change takes of the view before it. What lacks its part changes nothing of the tables; no such thing is told
 abbrev pub face_change : View → Change → NotedFaces → FaceChange
@@ -66,8 +49,8 @@ face_change v (AddVertex u p) (InFace face) = comes_bare u face
 face_change v (RemoveVertex u) noted = goes_bare u
 face_change v (SplitEdge d u p n m) noted = in_two d (twin_in v d) n m
 face_change v (MergeEdge u d n) noted = in_one n (twin_in v n)
-face_change v (AddEdge d m u w at_u at_w line curve) (Linked linked) = linked_faces d m u w at_u linked
-face_change v (RemoveEdge d m) (Unlinked unlinked) = unlinked_faces v d unlinked
+face_change v (AddEdge d m u w at_u at_w line curve) (InLink linked) = linked_faces d m u w at_u linked
+face_change v (RemoveEdge d m) (InUnlink unlinked) = unlinked_faces v d unlinked
 face_change v Clear (InFace face) = cleared face
 face_change v other noted = as_it_was
 

@@ -9,6 +9,7 @@ ghost use Rattle.arr_notes.specs.ViewLaws.{ReadViewsAreSound};
 
 mod change;
 mod drawing;
+mod faces;
 mod intent;
 mod note;
 mod observer;
@@ -16,6 +17,7 @@ mod view;
 mod walks;
 
 pub use change::Change;
+pub use faces::{Linked, Unlinked};
 pub use intent::Intent;
 pub use note::{Answer, Note};
 pub use observer::Observer;

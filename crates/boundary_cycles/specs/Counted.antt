@@ -17,3 +17,7 @@ is_on_cycle v d x = same_dart (lead_in v x) (lead_in v d)
 -- the edges above the cell, each once for each dart of the cycle of d on it, are odd in number (Fogel, Halperin and Wein: ray shooting)
 abbrev pub is_odd_above : View → DartId → Asked → Bool
 is_odd_above v d a = count_by (λ x. is_on_cycle v d x && is_above_asked a (edge_in v x)) (dart_names v) % 2 == 1
+
+-- how many darts are on the cycle of d
+abbrev pub cycle_length : View → DartId → ℕ
+cycle_length v d = count_by (is_on_cycle v d) (dart_names v)

@@ -10,8 +10,10 @@ mod asked;
 mod ends;
 mod extents;
 mod least;
+mod lengths;
 mod parities;
 
 pub use extents::{Extent, extent_of, is_clear_of};
 pub use least::least_dart;
+pub use lengths::is_no_longer;
 pub use parities::{is_odd_beside, is_odd_beside_within, kind, parity, parity_within};

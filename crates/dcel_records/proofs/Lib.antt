@@ -21,3 +21,4 @@ pub mod Started
 pub mod ListsRead
 pub mod Rooms
 pub mod Grown
+pub mod FaceLaws

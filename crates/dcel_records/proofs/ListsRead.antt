@@ -5,6 +5,7 @@ use Rattle.slab_laws.specs.declared.names.CycleId.{CycleId}
 use Rattle.slab_laws.specs.declared.names.FaceId.{FaceId}
 use Rattle.slab_laws.specs.declared.names.VertexId.{VertexId}
 use Rattle.slab_laws.specs.FaceLists.{Lists, MovedView, first_of, follower, cycle_follower, vertex_follower}
+use Rattle.slab_laws.specs.Tables.{row_at}
 use Rattle.slab_laws.specs.View.{HasBareFace, face_in, face_or, bare_face_in, bare_or, cycle_id, vertex_id, face_id}
 use Rattle.chain_laws.specs.Links.{Node, first_or, comes_after}
 use Rattle.chain_laws.proofs.Tabled.{row-tabled}
@@ -53,8 +54,11 @@ module _ (vs : Slab StoredVertex) (ds : Slab StoredDart) (cs : Slab StoredCycle)
       ∙ first_mapped vertex_id (own vertex_placing vs fs a.0)
       ∙ ap (λ (l : Lists). first_of (l.bare a)) (sym lists_are)
 
+  pub cycle_row_read : (c : CycleId) (r : StoredCycle) → get cs c.0 ≡ Some r → Some (cycle_record r) ≡ row_at h.faces.tables.cycles c.0
+  cycle_row_read c r e = ap (option_map cycle_record) (sym e) ∙ sym (row-tabled cycle_record cs c.0) ∙ ap (λ v. row_at v.faces.tables.cycles c.0) is
+
   cycle_face : (c : CycleId) (r : StoredCycle) → get cs c.0 ≡ Some r → r.place.face ≡ face_in h.faces.tables c
-  cycle_face c r e = ap (λ o. face_or (option_map cycle_record o)) (sym e) ∙ ap face_or (sym (row-tabled cycle_record cs c.0)) ∙ ap (λ v. face_in v.faces.tables c) is
+  cycle_face c r e = ap face_or (cycle_row_read c r e)
 
   pub next_cycle_read : (c : CycleId) (r : StoredCycle) → get cs c.0 ≡ Some r → option_map cycle_id r.place.after ≡ cycle_follower c ((lists_of h).cycles (face_in h.faces.tables c))
   next_cycle_read c r e =
@@ -72,15 +76,16 @@ module _ (vs : Slab StoredVertex) (ds : Slab StoredDart) (cs : Slab StoredCycle)
   pub bare_place : (v : VertexId) (r : StoredVertex) → HasBareFace h.faces.tables v → get vs v.0 ≡ Some r → IsSome r.place
   bare_place v r s e = row_has_place vertex_placing vs v.0 r e (bare_node vs ds cs fs mv vr cr h is k v s)
 
-  pub next_bare_read : (v : VertexId) (r : StoredVertex) (p : Place) → get vs v.0 ≡ Some r → r.place ≡ Some p → option_map vertex_id p.after ≡ vertex_follower v ((lists_of h).bare (bare_face_in h.faces.tables v))
-  next_bare_read v r p e q =
-      ap (option_map vertex_id) (next_seen vertex_placing vs fs k.bare v.0 p node)
-      ∙ follower_mapped vertex_id (λ x. x.0 == v.0) v.0 (λ n. refl) (own vertex_placing vs fs p.face.0)
-      ∙ ap (λ (l : Lists). vertex_follower v (l.bare p.face)) (sym lists_are)
-      ∙ ap (λ a. vertex_follower v ((lists_of h).bare a)) face
-    where
-      node : nodes vertex_placing vs v.0 ≡ Some (place_node p)
-      node = ap (node_or vertex_placing) e ∙ ap (option_map place_node) q
+  module _ (v : VertexId) (r : StoredVertex) (p : Place) (e : get vs v.0 ≡ Some r) (q : r.place ≡ Some p) where
+    bare_node_read : nodes vertex_placing vs v.0 ≡ Some (place_node p)
+    bare_node_read = ap (node_or vertex_placing) e ∙ ap (option_map place_node) q
 
-      face : p.face ≡ bare_face_in h.faces.tables v
-      face = sym (ap bare_or (bare_seen vs v.0 ∙ ap (λ o. option_map face_id (option_map (λ (x : Node). x.key) o)) node)) ∙ ap (λ v'. bare_face_in v'.faces.tables v) is
+    pub bare_face_read : p.face ≡ bare_face_in h.faces.tables v
+    bare_face_read = sym (ap bare_or (bare_seen vs v.0 ∙ ap (λ o. option_map face_id (option_map (λ (x : Node). x.key) o)) bare_node_read)) ∙ ap (λ v'. bare_face_in v'.faces.tables v) is
+
+    pub next_bare_read : option_map vertex_id p.after ≡ vertex_follower v ((lists_of h).bare (bare_face_in h.faces.tables v))
+    next_bare_read =
+        ap (option_map vertex_id) (next_seen vertex_placing vs fs k.bare v.0 p bare_node_read)
+        ∙ follower_mapped vertex_id (λ x. x.0 == v.0) v.0 (λ n. refl) (own vertex_placing vs fs p.face.0)
+        ∙ ap (λ (l : Lists). vertex_follower v (l.bare p.face)) (sym lists_are)
+        ∙ ap (λ a. vertex_follower v ((lists_of h).bare a)) bare_face_read

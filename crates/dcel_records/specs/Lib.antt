@@ -1,6 +1,7 @@
 pub mod RecordsView
 pub mod Placing
 pub mod ListChanges
+pub mod SoundMaps
 pub mod StoredRows
 pub mod Outs
 pub mod Edges

@@ -6,6 +6,8 @@
 
 mod bare;
 mod cycles;
+mod facing;
+mod face_laws;
 mod keys;
 mod links;
 mod listing;

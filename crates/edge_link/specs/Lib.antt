@@ -1,2 +1,3 @@
 pub mod EdgePlaces
 pub mod Links
+pub mod FacedLinks

@@ -8,6 +8,9 @@
 //! `rotation_order` finds places by directions; the proofs say that a place by directions is one by that order.
 #![tactic(auto)]
 
+mod faces;
 mod links;
+mod splitting;
 
+pub use faces::{FacedLink, link_with_faces};
 pub use links::{LinkNames, link, link_at_one, link_at_two, link_in_face};

@@ -7,7 +7,9 @@ use Rattle.slab_laws.specs.Sound.{IsGraphSound}
 use Rattle.slab_laws.specs.View.{View, Faces, HasDart, source_in, target_in, twin_in, next_in, line_in, cycle_in}
 use Rattle.arr_notes.specs.Step.{remove_edge}
 use Rattle.arr_notes.specs.FaceSteps.{step_faces, vanishes, shrinks, breaks, unites}
-use Rattle.arr_notes.specs.NotedFaces.{UnlinkedFaces, Vanishes, Shrinks, Breaks, Unites, unlinked_faces}
+use Rattle.arr_notes.specs.NotedFaces.{unlinked_faces}
+use Rattle.arr_notes.specs.declared.faces.Unlinked.{Unlinked}
+use Rattle.arr_notes.specs.declared.faces.Unlinked.TheVariants.{Vanishes, Shrinks, Breaks, Unites}
 use Rattle.arr_notes.proofs.Reading.{dart_number}
 use Rattle.rotation_order.specs.VertexRings.{IsBare}
 use Rattle.sound_changes.proofs.RingsKept.{source_old}
@@ -96,7 +98,7 @@ module _ (v : View) (f : Faces) (d : DartId) (s : IsGraphSound v) (has : HasDart
   old_up : (z : DartId) → HasDart less z → HasDart v z
   old_up z o = up less v d t (source_in v d) (target_in v d) (line_in v d) e z o
 
-  unlinks : (c : UnlinkedFaces) → FitsUnlinked v f d c → AreTabled (remove_edge v d (twin_in v d)) (step_faces (remove_edge v d (twin_in v d)) f (unlinked_faces v d c))
+  unlinks : (c : Unlinked) → FitsUnlinked v f d c → AreTabled (remove_edge v d (twin_in v d)) (step_faces (remove_edge v d (twin_in v d)) f (unlinked_faces v d c))
   unlinks (Vanishes c a) k = steps_keep_tables v less f (vanishes d t (source_in v d) (source_in v t) c a) h (line_in v d, e, bare_first k.0, bare_second k.1, k.2, k.3)
   unlinks (Shrinks c a) k = elim k.0 [
     | inl r ↦
@@ -118,12 +120,12 @@ module _ (v : View) (f : Faces) (d : DartId) (s : IsGraphSound v) (has : HasDart
         | inr q ↦ inr (s.linked.once x j.0 k.5 (old_up j.0 j.1) (q ∙ sym j.2))
       ] in
       steps_keep_tables v less f (breaks d t kept fresh x) h (source_in v d, target_in v d, i.0, j.0, between i j, record { first = k.2; second = k.3; new = k.4; ends = ends; inner = k.7 })
-  unlinks (Unites kept gone a cs us) k =
+  unlinks (Unites kept gone a moved) k =
       let n : cycle_in f d ≢ cycle_in f t = λ q. elim k [ inl r ↦ r.two (sym r.second ∙ sym q ∙ r.first) | inr r ↦ r.two (sym r.second ∙ q ∙ r.first) ] in
       let m = no_follow n in
       let i = place_first m.0 in
       let j = place_second m.1 in
-      steps_keep_tables v less f (unites d t kept gone a cs us) h (source_in v d, target_in v d, i.0, j.0, between i j, k)
+      steps_keep_tables v less f (unites d t kept gone a moved.cycles moved.vertices) h (source_in v d, target_in v d, i.0, j.0, between i j, k)
 
 pub unlinks_keep_tables : UnlinksKeepTables
 unlinks_keep_tables v f d c s has h k = unlinks v f d s has h c k

@@ -4,7 +4,7 @@ use Rattle.slab_laws.specs.FacesSound.{IsSound}
 use Rattle.slab_laws.specs.Sound.{IsGraphSound}
 use Rattle.slab_laws.specs.View.{View, Faces}
 use Rattle.arr_notes.specs.Curves.{Curves}
-use Rattle.arr_notes.specs.NotedFaces.{NotedFaces, NoFaces, InFace, Linked, Unlinked, faces_after}
+use Rattle.arr_notes.specs.NotedFaces.{NotedFaces, NoFaces, InFace, InLink, InUnlink, faces_after}
 use Rattle.arr_notes.specs.Step.{step}
 use Rattle.arr_notes.specs.declared.change.Change.{Change}
 use Rattle.arr_notes.specs.declared.change.Change.TheVariants.{AddVertex, RemoveVertex, SplitEdge, MergeEdge, AddEdge, RemoveEdge, AddCurve, RemoveCurve, SetPin, ClearPin, Clear}
@@ -19,8 +19,8 @@ FitsNoted v f (AddVertex u p) (InFace face) = IsFaceRound v f face p
 FitsNoted v f (RemoveVertex u) NoFaces = Unit {0}
 FitsNoted v f (SplitEdge d u p n m) NoFaces = Unit {0}
 FitsNoted v f (MergeEdge u d n) NoFaces = Unit {0}
-FitsNoted v f (AddEdge d m p q at_p at_q l c) (Linked linked) = FitsLinked v (step v (AddEdge d m p q at_p at_q l c)) f d m p at_p at_q linked
-FitsNoted v f (RemoveEdge d m) (Unlinked unlinked) = FitsUnlinked v f d unlinked
+FitsNoted v f (AddEdge d m p q at_p at_q l c) (InLink linked) = FitsLinked v (step v (AddEdge d m p q at_p at_q l c)) f d m p at_p at_q linked
+FitsNoted v f (RemoveEdge d m) (InUnlink unlinked) = FitsUnlinked v f d unlinked
 FitsNoted v f (AddCurve d c) NoFaces = Unit {0}
 FitsNoted v f (RemoveCurve d c) NoFaces = Unit {0}
 FitsNoted v f (SetPin u) NoFaces = Unit {0}

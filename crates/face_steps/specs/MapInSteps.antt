@@ -1,15 +1,19 @@
 -- A small map in steps: each of the eleven changes, with a hole and an isolated vertex that move, and others that stay.
 -- The tables were made by hand, and compared with another program's, which turns round vertices by angles and tells kinds and faces by areas and rays.
-use Rattle.std.specs.Prelude.{◌≡◌, ℕ, pos, negsuc, true, false, [], ◌∷◌, Option, Some, None}
+use Rattle.std.specs.Prelude.{◌≡◌, ℕ, pos, negsuc, true, false, List, [], ◌∷◌, Option, Some, None}
 use Rattle.exact_plane.specs.Line.{Line}
 use Rattle.slab_laws.specs.declared.names.CycleId.{CycleId}
 use Rattle.slab_laws.specs.declared.names.CycleKind.TheVariants.{Inner, Outer}
 use Rattle.slab_laws.specs.declared.names.DartId.{DartId}
 use Rattle.slab_laws.specs.declared.names.FaceId.{FaceId}
+use Rattle.slab_laws.specs.declared.names.VertexId.{VertexId}
+use Rattle.slab_laws.specs.FaceLists.{MovedView}
 use Rattle.slab_laws.specs.Sound.{skeleton_of, dart_in}
 use Rattle.slab_laws.specs.Triangle.{corner, dart}
 use Rattle.slab_laws.specs.View.{View, Faces, CycleRecord, VertexRecord, vertex_id, dart_id, cycle_id, face_id, curve_id}
-use Rattle.arr_notes.specs.NotedFaces.{NoFaces, InFace, Linked, Unlinked, NewHole, Grows, Joins, Splits, Vanishes, Shrinks, Breaks, Unites, faces_after}
+use Rattle.arr_notes.specs.NotedFaces.{NoFaces, InFace, InLink, InUnlink, faces_after}
+use Rattle.arr_notes.specs.declared.faces.Linked.TheVariants.{NewHole, Grows, Joins, Splits}
+use Rattle.arr_notes.specs.declared.faces.Unlinked.TheVariants.{Vanishes, Shrinks, Breaks, Unites}
 use Rattle.arr_notes.specs.Step.{step}
 use Rattle.arr_notes.specs.declared.change.Change.{Change}
 use Rattle.arr_notes.specs.declared.change.Change.TheVariants.{AddVertex, RemoveVertex, SplitEdge, MergeEdge, AddEdge, RemoveEdge, AddCurve, RemoveCurve, SetPin, ClearPin, Clear}
@@ -35,6 +39,10 @@ outer c a = (c, record { kind = Outer; face = face_id a })
 
 abbrev pub edge : (d m u v : ℕ) → Option DartId → Option DartId → Line → Change
 edge d m u v at_u at_v line = AddEdge (dart_id d) (dart_id m) (vertex_id u) (vertex_id v) at_u at_v line (curve_id 1)
+
+-- what moves
+abbrev pub moving : List CycleId → List VertexId → MovedView
+moving cycles vertices = record { cycles = cycles; vertices = vertices; room_of_cycles = 1; room_of_vertices = 1 }
 
 -- ---- the lines of the edges: below, right, above, left, and the diagonal
 abbrev pub below : Line
@@ -311,20 +319,20 @@ vertex_gone_tables = record {
 -- ---- the tables after each change are those that its note makes of the tables before it
 pub record MapInSteps : Type 0 where
   pub vertex_comes : faces_after start start_tables with_vertex_by (InFace (face_id 0)) ≡ with_vertex_tables
-  pub new_hole : faces_after with_vertex with_vertex_tables side_below_by (Linked (NewHole (cycle_id 0) (face_id 0))) ≡ side_below_tables
-  pub grows_at_end : faces_after side_below side_below_tables side_right_by (Linked (Grows (cycle_id 0))) ≡ side_right_tables
-  pub grows_at_start : faces_after side_right side_right_tables side_above_by (Linked (Grows (cycle_id 0))) ≡ side_above_tables
-  pub another_hole : faces_after side_above side_above_tables hole_within_by (Linked (NewHole (cycle_id 1) (face_id 0))) ≡ hole_within_tables
-  pub splits : faces_after hole_within hole_within_tables closed_by (Linked (Splits (cycle_id 0) (cycle_id 2) (dart_id 9) (face_id 1) (cycle_id 1 ∷ []) (vertex_id 6 ∷ []))) ≡ closed_tables
-  pub joins : faces_after closed closed_tables tied_by (Linked (Joins (cycle_id 2) (cycle_id 1))) ≡ tied_tables
+  pub new_hole : faces_after with_vertex with_vertex_tables side_below_by (InLink (NewHole (cycle_id 0) (face_id 0))) ≡ side_below_tables
+  pub grows_at_end : faces_after side_below side_below_tables side_right_by (InLink (Grows (cycle_id 0))) ≡ side_right_tables
+  pub grows_at_start : faces_after side_right side_right_tables side_above_by (InLink (Grows (cycle_id 0))) ≡ side_above_tables
+  pub another_hole : faces_after side_above side_above_tables hole_within_by (InLink (NewHole (cycle_id 1) (face_id 0))) ≡ hole_within_tables
+  pub splits : faces_after hole_within hole_within_tables closed_by (InLink (Splits (cycle_id 0) (cycle_id 2) (dart_id 9) (face_id 1) (moving (cycle_id 1 ∷ []) (vertex_id 6 ∷ [])))) ≡ closed_tables
+  pub joins : faces_after closed closed_tables tied_by (InLink (Joins (cycle_id 2) (cycle_id 1))) ≡ tied_tables
   pub edge_in_two : faces_after tied tied_tables tied_in_two_by NoFaces ≡ tied_in_two_tables
-  pub splits_again : faces_after tied_in_two tied_in_two_tables halved_by (Linked (Splits (cycle_id 2) (cycle_id 3) (dart_id 14) (face_id 2) [] (vertex_id 6 ∷ []))) ≡ halved_tables
+  pub splits_again : faces_after tied_in_two tied_in_two_tables halved_by (InLink (Splits (cycle_id 2) (cycle_id 3) (dart_id 14) (face_id 2) (moving [] (vertex_id 6 ∷ [])))) ≡ halved_tables
   pub edges_in_one : faces_after halved halved_tables halved_by_one_by NoFaces ≡ halved_by_one_tables
-  pub unites : faces_after halved_by_one halved_by_one_tables united_by (Unlinked (Unites (cycle_id 2) (cycle_id 3) (face_id 2) [] (vertex_id 6 ∷ []))) ≡ united_tables
-  pub breaks : faces_after united united_tables untied_by (Unlinked (Breaks (cycle_id 2) (cycle_id 1) (dart_id 7))) ≡ untied_tables
-  pub unites_with_unbounded : faces_after untied untied_tables opened_by (Unlinked (Unites (cycle_id 0) (cycle_id 2) (face_id 1) (cycle_id 1 ∷ []) (vertex_id 6 ∷ []))) ≡ opened_tables
-  pub vanishes : faces_after opened opened_tables hole_gone_by (Unlinked (Vanishes (cycle_id 1) (face_id 0))) ≡ hole_gone_tables
-  pub shrinks : faces_after hole_gone hole_gone_tables side_gone_by (Unlinked (Shrinks (cycle_id 0) (face_id 0))) ≡ side_gone_tables
+  pub unites : faces_after halved_by_one halved_by_one_tables united_by (InUnlink (Unites (cycle_id 2) (cycle_id 3) (face_id 2) (moving [] (vertex_id 6 ∷ [])))) ≡ united_tables
+  pub breaks : faces_after united united_tables untied_by (InUnlink (Breaks (cycle_id 2) (cycle_id 1) (dart_id 7))) ≡ untied_tables
+  pub unites_with_unbounded : faces_after untied untied_tables opened_by (InUnlink (Unites (cycle_id 0) (cycle_id 2) (face_id 1) (moving (cycle_id 1 ∷ []) (vertex_id 6 ∷ [])))) ≡ opened_tables
+  pub vanishes : faces_after opened opened_tables hole_gone_by (InUnlink (Vanishes (cycle_id 1) (face_id 0))) ≡ hole_gone_tables
+  pub shrinks : faces_after hole_gone hole_gone_tables side_gone_by (InUnlink (Shrinks (cycle_id 0) (face_id 0))) ≡ side_gone_tables
   pub vertex_goes : faces_after side_gone side_gone_tables vertex_gone_by NoFaces ≡ vertex_gone_tables
   -- curves and pins change nothing, and where all goes the unbounded face is left
   pub curve_comes : faces_after closed closed_tables (AddCurve (dart_id 8) (curve_id 2)) NoFaces ≡ closed_tables

@@ -35,13 +35,21 @@ abbrev pub AreOnce : {X : Type 0} → List X → Type 0
 AreOnce [] = ⊤
 AreOnce (x ∷ xs) = (Member x xs → ⊥) × AreOnce xs
 
--- the lists have the cycles that bound the face, and the vertices without darts that lie in it, each once, and the dart of a cycle is on it (CGAL manual: outer and inner boundaries and isolated vertices of a face)
-pub record AreLists (v : View) (f : Faces) (l : Lists) : Type 0 where
+-- each face lists the cycles that bound it, and the vertices without darts that lie in it, each once (CGAL manual: outer and inner boundaries and isolated vertices of a face)
+pub record AreFacesListed (f : Faces) (l : Lists) : Type 0 where
   pub cycles : (a : FaceId) (c : CycleId) → Member c (l.cycles a) ↔ (HasCycle f c × (face_in f c ≡ a))
   pub bare : (a : FaceId) (w : VertexId) → Member w (l.bare a) ↔ (HasBareFace f w × (bare_face_in f w ≡ a))
   pub cycles_once : (a : FaceId) → AreOnce (l.cycles a)
   pub bare_once : (a : FaceId) → AreOnce (l.bare a)
-  pub darts : (c : CycleId) → HasCycle f c → HasDart v (l.dart_on c) × (cycle_in f (l.dart_on c) ≡ c)
+
+-- of each cycle a dart on it is kept (CGAL manual, a boundary is known by one of its halfedges)
+abbrev pub AreDartsOn : View → Faces → Lists → Type 0
+AreDartsOn v f l = (c : CycleId) → HasCycle f c → HasDart v (l.dart_on c) × (cycle_in f (l.dart_on c) ≡ c)
+
+-- the lists are those of the faces, and of each cycle a dart on it is kept
+pub record AreLists (v : View) (f : Faces) (l : Lists) : Type 0 where
+  pub listed : AreFacesListed f l
+  pub darts : AreDartsOn v f l
 
 -- the cycles and the vertices that move, in order, and how many of each the lists have room for in all
 pub record MovedView : Type 0 where

@@ -1,0 +1,27 @@
+ghost use Rattle.std.specs.Prelude.{◌≤◌, length};
+ghost use Rattle.slab_laws.specs.FaceLists.{AreFacesListed};
+ghost use Rattle.slab_laws.specs.Tables.{names, NamesAscend};
+ghost use Rattle.slab_laws.specs.View.{HasCycle, HasFace, HasBareFace, face_in, bare_face_in, face_id};
+ghost use Rattle.dcel_records.specs.RecordsView.{lists_of};
+
+use crate::records::Records;
+
+impl Records {
+    /// What is true of the faces of all records: each lists its own cycles and isolated vertices, the unbounded one is
+    /// there, no list is longer than what fits, and names ascend.
+    pub fn face_laws(&self)
+        ensures listed { AreFacesListed self.now.faces.tables (lists_of self.now) }
+        ensures unbounded { HasFace self.now.faces.tables (face_id 0) }
+        ensures cycle_faces { (c : _) → HasCycle self.now.faces.tables c → HasFace self.now.faces.tables (face_in self.now.faces.tables c) }
+        ensures bare_faces { (v : _) → HasBareFace self.now.faces.tables v → HasFace self.now.faces.tables (bare_face_in self.now.faces.tables v) }
+        ensures cycles_fit { (a : _) → length ((lists_of self.now).cycles a) ≤ self.now.faces.capacity_of_cycles }
+        ensures vertices_fit { (a : _) → length ((lists_of self.now).bare a) ≤ self.now.capacity_of_vertices }
+        ensures cycles_ascend { NamesAscend (names self.now.faces.tables.cycles) }
+        ensures faces_ascend { NamesAscend self.now.faces.tables.faces }
+        ensures cycle_of_ascend { NamesAscend (names self.now.faces.tables.cycle_of) }
+        ensures bare_ascend { NamesAscend (names self.now.faces.tables.bare) }
+    {
+        // Any use of a field tells what is kept.
+        let _faces = &self.faces;
+    }
+}
