@@ -50,6 +50,16 @@ module _ {X : Type 0} where
         ])
       ]
 
+  -- without a row that isn't there nothing changes
+  pub del_absent : (k : ℕ) (rs : List (ℕ × X)) → row_at rs k ≡ None → del k rs ≡ rs
+  unfolding row_at del
+  del_absent k [] e = refl
+  del_absent k (r ∷ rs) e = without (r.0 == k) e (λ q. del_absent k rs q)
+    where
+      without : (b : Bool) → cond b (Some r.1) (row_at rs k) ≡ None → (row_at rs k ≡ None → del k rs ≡ rs) → cond b rs (r ∷ del k rs) ≡ r ∷ rs
+      without true q f = absurd (cc)
+      without false q f = ap (λ ts. r ∷ ts) (f q)
+
   pub row_at-each : (f : ℕ → X → X) (rs : List (ℕ × X)) (n : ℕ) → row_at (each f rs) n ≡ option_map (f n) (row_at rs n)
   unfolding row_at each
   row_at-each f [] n = refl
