@@ -37,6 +37,29 @@ module _ {X : Type 0} where
       twice true = refl
       twice false = refl
 
+  -- of two rows for one name the later one stays
+  pub put_again : (k : ℕ) (x y : X) (rs : List (ℕ × X)) → put k x (put k y rs) ≡ put k x rs
+  unfolding put
+  put_again k x y [] = rw (nat_lt_no k k (omega arith), same_number k) refl
+  put_again k x y (r ∷ rs) =
+      elim (cases_lt k r.0) [
+        | inl l ↦ rw (nat_lt_yes k r.0 l, nat_lt_no k k (omega arith), same_number k) refl
+        | inr l ↦ rw (nat_lt_no k r.0 l) (elim (cases_eq k r.0) [
+          | inl q ↦ rw (q, same_number r.0, nat_lt_no r.0 r.0 (omega arith)) (ap (λ b. cond b ((r.0, x) ∷ rs) ((r.0, y) ∷ put r.0 x rs)) (same_number r.0))
+          | inr ne ↦ rw (other_number r.0 k (λ s. ne (sym s)), nat_lt_no k r.0 l) (rw (other_number r.0 k (λ s. ne (sym s))) (ap (λ ts. r ∷ ts) (put_again k x y rs)))
+        ])
+      ]
+
+  -- without a row that isn't there nothing changes
+  pub del_absent : (k : ℕ) (rs : List (ℕ × X)) → row_at rs k ≡ None → del k rs ≡ rs
+  unfolding row_at del
+  del_absent k [] e = refl
+  del_absent k (r ∷ rs) e = without (r.0 == k) e (λ q. del_absent k rs q)
+    where
+      without : (b : Bool) → cond b (Some r.1) (row_at rs k) ≡ None → (row_at rs k ≡ None → del k rs ≡ rs) → cond b rs (r ∷ del k rs) ≡ r ∷ rs
+      without true q f = absurd (cc)
+      without false q f = ap (λ ts. r ∷ ts) (f q)
+
   pub row_at-each : (f : ℕ → X → X) (rs : List (ℕ × X)) (n : ℕ) → row_at (each f rs) n ≡ option_map (f n) (row_at rs n)
   unfolding row_at each
   row_at-each f [] n = refl

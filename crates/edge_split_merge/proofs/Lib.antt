@@ -2,3 +2,4 @@ pub mod Parted
 pub mod Written
 pub mod Meeting
 pub mod Removed
+pub mod PartsInCycles

@@ -12,7 +12,7 @@ use Rattle.sound_changes.proofs.Splits.{split_sound}
 use Rattle.edge_split_merge.specs.Splits.{CanSplit}
 
 module _ (v : View) (d : DartId) (w : VertexId) (p : Point) (n m : DartId) (s : IsGraphSound v) (f : CanSplit v d p) (k : IsPoint p) (nw : ¬ HasVertex v w) (nn : ¬ HasDart v n) (nm : ¬ HasDart v m) (ne : n ≢ m) where
-  fits : FitsSplit v d w p n m
+  pub fits : FitsSplit v d w p n m
   fits = record { dart = f.dart; forward = f.forward; vertex = nw; first = nn; second = nm; differ = ne; proper = point_is_proper p k; inside_edge = f.inside_edge }
 
   pub split_is_sound : IsGraphSound (split_edge v d w p n m)

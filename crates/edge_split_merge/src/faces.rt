@@ -19,6 +19,7 @@ pub fn split_in_cycles(records: &mut Records, d: DartId, p: Point) -> SplitNames
     requires darts { 2 ≤ records.old.spare_darts }
     ensures { IsSplitMade records.old records.new d p result }
 {
+    p.laws();
     split_at(records, d, p)
 }
 

@@ -1,6 +1,9 @@
 ghost use Rattle.std.specs.Prelude.{◌≡◌};
 ghost use Rattle.slab_laws.specs.Sound.{IsGraphSound};
-ghost use Rattle.dcel_records.specs.RecordsView.{IsSpare};
+ghost use Rattle.slab_laws.specs.View.{twin_in};
+ghost use Rattle.dcel_records.specs.ListChanges.{vertex_unlisted};
+ghost use Rattle.dcel_records.specs.RecordsView.{IsSpare, IsSpareFaces, lists_of};
+ghost use Rattle.arr_notes.specs.FaceWriters.{not_bare, off_cycles};
 ghost use Rattle.arr_notes.specs.Step.{merge_edge, step};
 ghost use Rattle.sound_changes.specs.ChangeFits.{FitsMerge};
 ghost use Rattle.edge_split_merge.specs.Merges.{CanMerge, TellsOfMerge};
@@ -49,6 +52,10 @@ pub fn merge_at(records: &mut Records, v: VertexId) -> MergeNames
     ensures graph { records.new.graph ≡ merge_edge records.old.graph v result.d result.n }
     ensures sound { IsGraphSound records.new.graph }
     ensures spare { IsSpare records.old records.new 1 2 }
+    ensures tables { records.new.faces.tables ≡ not_bare v (off_cycles (twin_in records.old.graph result.n) (off_cycles result.n records.old.faces.tables)) }
+    ensures lists { lists_of records.new ≡ vertex_unlisted v (lists_of records.old) }
+    ensures spare_faces { IsSpareFaces records.old.faces records.new.faces 0 0 }
+    ensures moved { records.new.faces.moved ≡ records.old.faces.moved }
 {
     let (d, n) = meeting(records, v);
     let t = records.twin(d);

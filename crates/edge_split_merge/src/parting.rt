@@ -53,13 +53,13 @@ pub fn split_at(records: &mut Records, d: DartId, p: Point) -> SplitNames
     let twin_cycle = records.cycle(t);
     let v = records.add_vertex(p);
     let (n, m) = records.add_pair_on(v, end, line, cycle);
-    records.set_cycle(m, twin_cycle);
     let beyond = onward(follower, t, m);
     records.set_next(into_t, m);
     records.set_next(n, beyond);
     records.set_next(m, t);
     records.move_source(t, v, m);
     records.set_next(d, n);
+    records.set_cycle(m, twin_cycle);
     SplitNames { v, n, m }
 }
 

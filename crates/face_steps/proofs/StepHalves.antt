@@ -118,16 +118,16 @@ module _ (v w : View) (d t n m : DartId) (u : VertexId) (p : Point) (c : IsSplit
     row_left : (k : DartId) → k ≢ n → k ≢ m → row_at f.cycle_of k.0 ≡ row_at s.cycle_of k.0
     row_left k i j = del_miss m.0 _ k.0 (ascend-del n.0 s.cycle_of h.complete.cycle_of_ascend) (dart_number k m j) ∙ del_miss n.0 s.cycle_of k.0 h.complete.cycle_of_ascend (dart_number k n i)
 
-    left_reads : (k : DartId) → HasDart v k → cycle_in f k ≡ cycle_in s k
+    pub left_reads : (k : DartId) → HasDart v k → cycle_in f k ≡ cycle_in s k
     left_reads k o = ap cycle_or (row_left k (not_n k o) (not_m k o))
 
     -- n follows d, and t follows m
-    cycle_n : cycle_in s n ≡ cycle_in s d
+    pub cycle_n : cycle_in s n ≡ cycle_in s d
     cycle_n =
         let D = c.halves.has_old d c.halves.has_d in
         (h.cycled.orbits n d c.halves.has_n D).1 (sym (lead_step w c.sound_more d D ∙ ap (lead_in w) c.onward))
 
-    cycle_m : cycle_in s m ≡ cycle_in s t
+    pub cycle_m : cycle_in s m ≡ cycle_in s t
     cycle_m =
         let T = c.halves.has_old t c.halves.has_t in
         (h.cycled.orbits m t c.halves.has_m T).1 (lead_step w c.sound_more m c.halves.has_m ∙ ap (lead_in w) c.backward)

@@ -1,11 +1,15 @@
 use Rattle.std.proofs.Common.{◌≡◌, sym, ap, subst, ◌∙◌}
 use Rattle.slab_laws.specs.Sound.{IsGraphSound}
-use Rattle.slab_laws.specs.View.{View, next_in}
+use Rattle.slab_laws.specs.View.{View, next_in, twin_in}
 use Rattle.arr_notes.specs.Reads.{IsRelinked}
 use Rattle.arr_notes.specs.Step.{merge_edge}
 use Rattle.arr_notes.proofs.Redirected.{relinked}
 use Rattle.sound_changes.proofs.Merges.{merge_sound}
 use Rattle.edge_split_merge.proofs.Removed.{IsMoved, moved, still_out, source_kept, twin_out, far_out, far_there, not_twin, ends_apart, none_left, twin_left, vertex_still, bare, made}
+use Rattle.arr_notes.specs.FaceWriters.{not_bare, off_cycles}
+use Rattle.dcel_records.specs.ListChanges.{vertex_unlisted}
+use Rattle.dcel_records.specs.RecordsView.{FacesView, lists_in_view}
+use Rattle.edge_split_merge.proofs.PartsInCycles.{same_spare, spare_then}
 use Rattle.edge_split_merge.proofs.joining.merge_at.Goals as goal
 
 -- only followers were written
@@ -71,3 +75,23 @@ returns-clause-graph c = joined c
 
 pub returns-clause-sound : goal.returns-clause-sound
 returns-clause-sound c = subst (λ (g : View). IsGraphSound g) (sym (joined c)) (merge_sound c.args.records.now.graph c.args.v c.meeting.result.0 c.meeting.result.1 c.requires.sound c.meeting.ensures)
+
+-- the tables beside the graph without the two darts
+unpaired : (c : goal.After-remove_vertex) → c.remove_pair.new.self.faces ≡ record c.args.records.now.faces { tables = off_cycles (twin_in c.args.records.now.graph c.meeting.result.1) (off_cycles c.meeting.result.1 c.args.records.now.faces.tables) }
+unpaired c =
+    let n = c.meeting.result.1 in
+    let i : IsMoved c.args.records.now.graph c.set_next-2.new.self.graph c.twin-t.result c.source-end.result = moved c.args.records.now.graph c.set_next.new.self.graph c.move_source.new.self.graph c.set_next-2.new.self.graph c.twin-into_m.result c.twin-t.result c.meeting.result.0 c.onward-beyond.result c.source-end.result c.requires.sound.named c.twin-t.ensures.has c.set_next.ensures.graph c.move_source.ensures.graph c.set_next-2.ensures.graph in
+    c.remove_pair.ensures.faces
+    ∙ (λ j. let f : FacesView = (c.set_next-2.ensures.faces ∙ c.move_source.ensures.faces ∙ c.set_next.ensures.faces) j in record f { tables = off_cycles (i.twin n j) (off_cycles n f.tables) })
+
+pub returns-clause-tables : goal.returns-clause-tables
+returns-clause-tables c = c.remove_vertex.ensures.tables ∙ ap (λ (f : FacesView). not_bare c.args.v f.tables) (unpaired c)
+
+pub returns-clause-lists : goal.returns-clause-lists
+returns-clause-lists c = c.remove_vertex.ensures.lists ∙ ap (λ (f : FacesView). vertex_unlisted c.args.v (lists_in_view f)) (unpaired c)
+
+pub returns-clause-spare_faces : goal.returns-clause-spare_faces
+returns-clause-spare_faces c = spare_then (same_spare _ _ _ (unpaired c)) c.remove_vertex.ensures.spare_faces
+
+pub returns-clause-moved : goal.returns-clause-moved
+returns-clause-moved c = c.remove_vertex.ensures.moved ∙ ap (λ (f : FacesView). f.moved) (unpaired c)
