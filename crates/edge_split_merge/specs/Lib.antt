@@ -1,2 +1,3 @@
 pub mod Splits
 pub mod Merges
+pub mod FacedParts

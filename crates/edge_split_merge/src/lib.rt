@@ -5,8 +5,10 @@
 //! Memory was reserved before, so that neither can fail.
 #![tactic(auto)]
 
+mod faces;
 mod joining;
 mod parting;
 
+pub use faces::{merge_in_cycles, split_in_cycles};
 pub use joining::{MergeNames, merge, merge_at};
 pub use parting::{SplitNames, split, split_at};

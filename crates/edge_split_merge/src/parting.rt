@@ -1,6 +1,8 @@
 ghost use Rattle.std.specs.Prelude.{◌≡◌, ◌≤◌, ◌==◌, cond};
 ghost use Rattle.slab_laws.specs.Sound.{IsGraphSound};
+ghost use Rattle.slab_laws.specs.View.{cycle_in, twin_in};
 ghost use Rattle.dcel_records.specs.RecordsView.{IsSpare};
+ghost use Rattle.arr_notes.specs.FaceWriters.{on_cycle};
 ghost use Rattle.arr_notes.specs.Step.{split_edge, step};
 ghost use Rattle.edge_split_merge.specs.Splits.{CanSplit, IsNewPlace, TellsOfSplit, NamesNewPlace};
 
@@ -36,6 +38,7 @@ pub fn split_at(records: &mut Records, d: DartId, p: Point) -> SplitNames
     ensures graph { records.new.graph ≡ split_edge records.old.graph d result.v p result.n result.m }
     ensures sound { IsGraphSound records.new.graph }
     ensures spare { IsSpare records.new records.old 1 2 }
+    ensures faces { records.new.faces ≡ record records.old.faces { tables = on_cycle result.m (cycle_in records.old.faces.tables (twin_in records.old.graph d)) (on_cycle result.n (cycle_in records.old.faces.tables d) records.old.faces.tables) } }
 {
     p.laws();
     let t = records.twin(d);
@@ -45,8 +48,12 @@ pub fn split_at(records: &mut Records, d: DartId, p: Point) -> SplitNames
     let follower = records.next(d);
     let end = records.source(t);
     let line = records.line(d);
+    // Both parts are on the cycles on their sides.
+    let cycle = records.cycle(d);
+    let twin_cycle = records.cycle(t);
     let v = records.add_vertex(p);
-    let (n, m) = records.add_pair(v, end, line);
+    let (n, m) = records.add_pair_on(v, end, line, cycle);
+    records.set_cycle(m, twin_cycle);
     let beyond = onward(follower, t, m);
     records.set_next(into_t, m);
     records.set_next(n, beyond);

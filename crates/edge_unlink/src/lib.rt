@@ -4,6 +4,9 @@
 #![tactic(auto)]
 
 mod edges;
+mod faces;
 mod rounds;
+mod uniting;
 
 pub use edges::{unlink, unlink_edge};
+pub use faces::{FacedUnlink, unlink_with_faces};

@@ -1,0 +1,31 @@
+-- An edge that goes, with what that makes of cycles and faces.
+use Rattle.std.specs.Prelude.{◌≡◌, ◌≤◌, ◌+◌}
+use Rattle.slab_laws.specs.declared.names.DartId.{DartId}
+use Rattle.slab_laws.specs.View.{twin_in}
+use Rattle.arr_notes.specs.FaceSteps.{step_faces}
+use Rattle.arr_notes.specs.NotedFaces.{unlinked_faces}
+use Rattle.arr_notes.specs.Step.{remove_edge}
+use Rattle.arr_notes.specs.declared.faces.Unlinked.{Unlinked}
+use Rattle.arr_notes.specs.declared.faces.Unlinked.TheVariants.{Unites}
+use Rattle.dcel_records.specs.RecordsView.{RecordsView, IsReturned, IsSpare, tables_of}
+use Rattle.dcel_records.specs.SoundMaps.{IsSoundMap, IsCarriedOff}
+use Rattle.face_steps.specs.LinkLaws.{FitsUnlinked}
+
+-- where two faces were united, the lists of what moves are on their way, else they are there (this project)
+abbrev pub IsCarried : RecordsView → Unlinked → Type 0
+IsCarried h (Unites kept gone face moved) = IsCarriedOff h moved
+IsCarried h told = IsReturned h
+
+-- one edge fewer: the graph and the tables are those after it, which are a sound map again, and what is told of it fits (CGAL manual, `remove_edge`)
+pub record IsUnlinkMade (old new : RecordsView) (d m : DartId) (told : Unlinked) : Type 0 where
+  pub twin : m ≡ twin_in old.graph d
+  pub graph : new.graph ≡ remove_edge old.graph d m
+  pub tables : tables_of new ≡ step_faces new.graph (tables_of old) (unlinked_faces old.graph d told)
+  pub fits : FitsUnlinked old.graph (tables_of old) d told
+  pub map : IsSoundMap new
+  pub spare : IsSpare old new 0 2
+  pub spare_cycles : old.faces.spare_cycles ≤ new.faces.spare_cycles + 1
+  pub spare_faces : old.faces.spare_faces ≤ new.faces.spare_faces
+  pub capacity_of_cycles : new.faces.capacity_of_cycles ≡ old.faces.capacity_of_cycles
+  pub capacity_of_faces : new.faces.capacity_of_faces ≡ old.faces.capacity_of_faces
+  pub carried : IsCarried new told

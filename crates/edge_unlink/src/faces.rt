@@ -1,0 +1,169 @@
+ghost use Rattle.std.specs.Prelude.{◌≡◌, ◌≢◌, ◌⊎◌, ◌≤◌, true, false};
+ghost use Rattle.slab_laws.specs.View.{HasDart, cycle_in, kind_in, next_in, twin_in};
+ghost use Rattle.slab_laws.specs.declared.names.CycleKind.TheVariants.{Inner, Outer};
+ghost use Rattle.dcel_records.specs.RecordsView.{IsReturned, tables_of};
+ghost use Rattle.dcel_records.specs.SoundMaps.{IsSoundMap};
+ghost use Rattle.edge_unlink.specs.FacedUnlinks.{IsUnlinkMade};
+
+use crate::edges::close_up;
+use crate::uniting::unite;
+use arr_notes::Unlinked;
+use boundary_cycles::{is_no_longer, is_odd_beside};
+use cycle_writers::put_orbit;
+use dcel_records::Records;
+use slab_laws::{CycleKind, DartId, Darts};
+
+/// An edge that went: the name that the twin of its dart had, and what became of cycles and faces.
+#[derive(Drop)]
+pub struct FacedUnlink {
+    pub m: DartId,
+    pub faces: Unlinked,
+}
+
+// The edge is alone: its cycle goes, and both ends are isolated in the face that the cycle was in.
+fn vanish(records: &mut Records, d: DartId) -> FacedUnlink
+    requires map { IsSoundMap records.old }
+    requires returned { IsReturned records.old }
+    requires dart { HasDart records.old.graph d }
+    requires source { next_in records.old.graph (twin_in records.old.graph d) ≡ d }
+    requires target { next_in records.old.graph d ≡ twin_in records.old.graph d }
+    ensures { IsUnlinkMade records.old records.new d result.m result.faces }
+{
+    let u = records.source(d);
+    let v = records.target(d);
+    let cycle = records.cycle(d);
+    let face = records.face(cycle);
+    let names = close_up(records, d);
+    records.remove_cycle(cycle);
+    records.set_bare(u, face);
+    records.set_bare(v, face);
+    FacedUnlink {
+        m: names.m,
+        faces: Unlinked::Vanishes { cycle, face },
+    }
+}
+
+// One end of the edge, the source of d, becomes bare: the cycle keeps a dart that stays.
+fn shrink_at_source(records: &mut Records, d: DartId) -> FacedUnlink
+    requires map { IsSoundMap records.old }
+    requires returned { IsReturned records.old }
+    requires dart { HasDart records.old.graph d }
+    requires source { next_in records.old.graph (twin_in records.old.graph d) ≡ d }
+    requires target { next_in records.old.graph d ≢ twin_in records.old.graph d }
+    ensures { IsUnlinkMade records.old records.new d result.m result.faces }
+{
+    let u = records.source(d);
+    let cycle = records.cycle(d);
+    let face = records.face(cycle);
+    let stays = records.next(d);
+    let names = close_up(records, d);
+    records.set_dart(cycle, stays);
+    records.set_bare(u, face);
+    FacedUnlink {
+        m: names.m,
+        faces: Unlinked::Shrinks { cycle, face },
+    }
+}
+
+// The same, where it is the target of d.
+fn shrink_at_target(records: &mut Records, d: DartId) -> FacedUnlink
+    requires map { IsSoundMap records.old }
+    requires returned { IsReturned records.old }
+    requires dart { HasDart records.old.graph d }
+    requires source { next_in records.old.graph (twin_in records.old.graph d) ≢ d }
+    requires target { next_in records.old.graph d ≡ twin_in records.old.graph d }
+    ensures { IsUnlinkMade records.old records.new d result.m result.faces }
+{
+    let v = records.target(d);
+    let cycle = records.cycle(d);
+    let face = records.face(cycle);
+    let stays = records.next(records.twin(d));
+    let names = close_up(records, d);
+    records.set_dart(cycle, stays);
+    records.set_bare(v, face);
+    FacedUnlink {
+        m: names.m,
+        faces: Unlinked::Shrinks { cycle, face },
+    }
+}
+
+// Both darts were on one cycle: it breaks. The fresh cycle is an inner part: the shorter one where that is inner.
+fn break_cycle(records: &mut Records, d: DartId) -> FacedUnlink
+    requires map { IsSoundMap records.old }
+    requires returned { IsReturned records.old }
+    requires cycles { 1 ≤ records.old.faces.spare_cycles }
+    requires dart { HasDart records.old.graph d }
+    requires source { next_in records.old.graph (twin_in records.old.graph d) ≢ d }
+    requires target { next_in records.old.graph d ≢ twin_in records.old.graph d }
+    requires one { cycle_in (tables_of records.old) d ≡ cycle_in (tables_of records.old) (twin_in records.old.graph d) }
+    ensures { IsUnlinkMade records.old records.new d result.m result.faces }
+{
+    let kept = records.cycle(d);
+    let face = records.face(kept);
+    let names = close_up(records, d);
+    let (short, long) = if is_no_longer(records, names.into_d, names.into_m) {
+        (names.into_d, names.into_m)
+    } else {
+        (names.into_m, names.into_d)
+    };
+    // No part of an inner cycle is outer, and one of an outer one.
+    let is_short_outer = records.kind(kept).is_outer() && is_odd_beside(records, short, short);
+    let (fresh_dart, other) = if is_short_outer {
+        (long, short)
+    } else {
+        (short, long)
+    };
+    let fresh = records.add_cycle(CycleKind::Inner, face, fresh_dart);
+    put_orbit(records, fresh_dart, fresh);
+    records.set_dart(kept, other);
+    FacedUnlink {
+        m: names.m,
+        faces: Unlinked::Breaks {
+            kept,
+            fresh,
+            fresh_dart,
+        },
+    }
+}
+
+// Neither end becomes bare: where both darts were on one cycle it breaks, else two faces are united.
+fn part(records: &mut Records, d: DartId) -> FacedUnlink
+    requires map { IsSoundMap records.old }
+    requires returned { IsReturned records.old }
+    requires cycles { 1 ≤ records.old.faces.spare_cycles }
+    requires dart { HasDart records.old.graph d }
+    requires source { next_in records.old.graph (twin_in records.old.graph d) ≢ d }
+    requires target { next_in records.old.graph d ≢ twin_in records.old.graph d }
+    ensures { IsUnlinkMade records.old records.new d result.m result.faces }
+{
+    let first = records.cycle(d);
+    let second = records.cycle(records.twin(d));
+    if first == second {
+        break_cycle(records, d)
+    } else {
+        unite(records, d)
+    }
+}
+
+/// The edge of the dart goes, as by [`crate::unlink_edge`], with what becomes of cycles and faces: a cycle that vanishes,
+/// shrinks or breaks, or two faces that are united (CGAL manual, `remove_edge`).
+///
+/// It takes no memory. Where the edge breaks a cycle or unites two, the darts of the shorter one are written, where that is
+/// free; and where two faces are united, all that the one that goes had moves.
+pub fn unlink_with_faces(records: &mut Records, d: DartId) -> FacedUnlink
+    requires map { IsSoundMap records.old }
+    requires returned { IsReturned records.old }
+    requires cycles { 1 ≤ records.old.faces.spare_cycles }
+    requires dart { HasDart records.old.graph d }
+    ensures { IsUnlinkMade records.old records.new d result.m result.faces }
+{
+    let m = records.twin(d);
+    let bares_source = records.next(m) == d;
+    let bares_target = records.next(d) == m;
+    match (bares_source, bares_target) {
+        (true, true) => vanish(records, d),
+        (true, false) => shrink_at_source(records, d),
+        (false, true) => shrink_at_target(records, d),
+        (false, false) => part(records, d),
+    }
+}

@@ -1,0 +1,89 @@
+ghost use Rattle.std.specs.Prelude.{◌≡◌, ◌≢◌, ◌⊎◌, true, false};
+ghost use Rattle.slab_laws.specs.View.{HasDart, cycle_in, kind_in, twin_in};
+ghost use Rattle.slab_laws.specs.declared.names.CycleKind.TheVariants.{Outer};
+ghost use Rattle.dcel_records.specs.RecordsView.{IsReturned, tables_of};
+ghost use Rattle.dcel_records.specs.SoundMaps.{IsSoundMap};
+ghost use Rattle.edge_unlink.specs.FacedUnlinks.{IsUnlinkMade};
+
+use crate::edges::close_up;
+use crate::faces::FacedUnlink;
+use arr_notes::Unlinked;
+use boundary_cycles::is_no_longer;
+use cycle_writers::{Which, move_cycles, move_isolated, put_run};
+use dcel_records::Records;
+use slab_laws::{DartId, Darts};
+
+// Of two cycles on the sides of an edge, whether the first one goes: one that is outer, and of two that are the shorter.
+fn first_goes(records: &Records, d: DartId, m: DartId) -> bool
+    requires map { IsSoundMap records.now }
+    requires dart { HasDart records.now.graph d }
+    requires twin { m ≡ twin_in records.now.graph d }
+    requires two { cycle_in (tables_of records.now) d ≢ cycle_in (tables_of records.now) m }
+    ensures first { result ≡ true → kind_in (tables_of records.now) (cycle_in (tables_of records.now) d) ≡ Outer }
+    ensures second { result ≡ false → kind_in (tables_of records.now) (cycle_in (tables_of records.now) m) ≡ Outer }
+{
+    if !records.kind(records.cycle(d)).is_outer() {
+        return false;
+    }
+    if !records.kind(records.cycle(m)).is_outer() {
+        return true;
+    }
+    is_no_longer(records, d, m)
+}
+
+/// The darts of the edge were on two cycles: the outer one of one side goes with its face. `on_gone` is the dart of the edge
+/// that was on it, and `on_kept` its twin; `d` is one of both.
+fn unite_into(
+    records: &mut Records,
+    d: DartId,
+    on_gone: DartId,
+    on_kept: DartId,
+) -> FacedUnlink
+    requires map { IsSoundMap records.old }
+    requires returned { IsReturned records.old }
+    requires dart { HasDart records.old.graph d }
+    requires sides { ((on_gone ≡ d) × (on_kept ≡ twin_in records.old.graph d)) ⊎ ((on_kept ≡ d) × (on_gone ≡ twin_in records.old.graph d)) }
+    requires two { cycle_in (tables_of records.old) on_gone ≢ cycle_in (tables_of records.old) on_kept }
+    requires outer { kind_in (tables_of records.old) (cycle_in (tables_of records.old) on_gone) ≡ Outer }
+    ensures { IsUnlinkMade records.old records.new d result.m result.faces }
+{
+    let gone = records.cycle(on_gone);
+    let kept = records.cycle(on_kept);
+    let gone_face = records.face(gone);
+    let face = records.face(kept);
+    let from = records.next(on_gone);
+    let to = records.next(on_kept);
+    let names = close_up(records, d);
+    put_run(records, from, to, kept);
+    records.set_dart(kept, to);
+    let mut moved = records.take_moved();
+    move_cycles(records, &mut moved, &Which::All, gone, gone_face, face);
+    move_isolated(records, &mut moved, &Which::All, gone_face, face);
+    records.remove_cycle(gone);
+    records.remove_face(gone_face);
+    FacedUnlink {
+        m: names.m,
+        faces: Unlinked::Unites {
+            kept,
+            gone,
+            gone_face,
+            moved,
+        },
+    }
+}
+
+// The darts of the edge were on two cycles, of two faces, which are one then.
+pub(crate) fn unite(records: &mut Records, d: DartId) -> FacedUnlink
+    requires map { IsSoundMap records.old }
+    requires returned { IsReturned records.old }
+    requires dart { HasDart records.old.graph d }
+    requires two { cycle_in (tables_of records.old) d ≢ cycle_in (tables_of records.old) (twin_in records.old.graph d) }
+    ensures { IsUnlinkMade records.old records.new d result.m result.faces }
+{
+    let m = records.twin(d);
+    if first_goes(records, d, m) {
+        unite_into(records, d, d, m)
+    } else {
+        unite_into(records, d, m, d)
+    }
+}
