@@ -6,3 +6,4 @@ pub mod LinkedMaps
 pub mod LinkParts
 pub mod Grown
 pub mod NewHole
+pub mod Joined
