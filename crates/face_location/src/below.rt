@@ -1,4 +1,5 @@
-ghost use Rattle.std.specs.Prelude.{◌≡◌, IfSome};
+ghost use Rattle.std.specs.Prelude.{◌≡◌, ◌&&◌, IfSome};
+ghost use Rattle.slab_laws.specs.Skeleton.{precedes as comes_before};
 ghost use Rattle.slab_laws.specs.Sound.{IsGraphSound};
 ghost use Rattle.slab_laws.specs.View.{HasDart};
 ghost use Rattle.face_location.specs.Below.{IsHighestDart, sees, higher_of};
@@ -9,6 +10,13 @@ use exact_plane::Point;
 use slab_laws::{DartId, Darts};
 use sound_views::span_of;
 
+// Whether a point comes after one and before another.
+fn is_between(low: &Point, point: &Point, high: &Point) -> bool
+    ensures { result ≡ (comes_before low.now point.now && comes_before point.now high.now) }
+{
+    precedes(low, point) && precedes(point, high)
+}
+
 // Whether the point sees the dart's edge below it, and the dart goes forward along it. Its ends are compared first, which rules
 // out nearly all edges, and each dart that goes backward; the side of the line is told for the others.
 fn is_seen<R: Darts>(records: &R, dart: DartId, point: &Point) -> bool
@@ -16,9 +24,9 @@ fn is_seen<R: Darts>(records: &R, dart: DartId, point: &Point) -> bool
     requires dart { HasDart (R.graph records.now) dart }
     ensures { result ≡ sees (R.graph records.now) dart point.now }
 {
-    precedes(&records.point(records.source(dart)), point)
-        && precedes(point, &records.point(records.target(dart)))
-        && is_under(&span_of(records, dart), point)
+    let source = records.point(records.source(dart));
+    let target = records.point(records.target(dart));
+    is_between(&source, point, &target) && is_under(&span_of(records, dart), point)
 }
 
 // The higher of the highest edge so far and one more.
