@@ -1,5 +1,5 @@
 -- The face of a point off all vertices and edges is that over the highest edge below it.
-use Rattle.std.proofs.Common.{◌≡◌, ℕ, ◌<◌, true, false, arith, refl, sym, ap, ◌∙◌, inl, inr, subst, zero, suc, List, [], ◌∷◌}
+use Rattle.std.proofs.Common.{◌≡◌, ℕ, ◌<◌, false, arith, refl, sym, ap, ◌∙◌, inl, inr, subst, List, [], ◌∷◌}
 use Rattle.std.specs.Prelude.{Option, Some, None}
 use Rattle.std.specs.List.{AllByRecursion, Contains}
 use Rattle.std.proofs.lemmas.Bool.{false≢true}

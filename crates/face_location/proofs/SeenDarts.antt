@@ -1,7 +1,6 @@
 -- The edges that a point sees below it, by the forward darts along them.
-use Rattle.std.proofs.Common.{◌≡◌, ◌<◌, ◌≤◌, Bool, true, false, cond, arith, refl, sym, ap, ◌∙◌, subst, inl, inr}
+use Rattle.std.proofs.Common.{◌≡◌, ◌<◌, ◌≤◌, true, false, cond, arith, sym, ap, ◌∙◌, subst, inl, inr}
 use Rattle.std.specs.Prelude.{◌&&◌, Option, Some, None, IfSome}
-use Rattle.std.specs.List.{Contains}
 use Rattle.std.proofs.lemmas.Bool.{false≢true, and_parts, and_from, cases_Bool}
 use Rattle.exact_plane.specs.Point.{Point}
 use Rattle.plane_graphs.specs.Graph.{Edge}
@@ -10,16 +9,15 @@ use Rattle.plane_graphs.proofs.Order.{lt_in, lt_trans}
 use Rattle.slab_laws.specs.declared.names.DartId.{DartId}
 use Rattle.slab_laws.specs.Darts.{Dart, ahead}
 use Rattle.slab_laws.specs.Skeleton.{precedes, under}
-use Rattle.slab_laws.specs.Sound.{skeleton_of, edge_in, dart_in, IsGraphSound}
+use Rattle.slab_laws.specs.Sound.{skeleton_of, edge_in, IsGraphSound}
 use Rattle.slab_laws.specs.View.{View, HasDart, point_in, source_in, target_in}
-use Rattle.slab_faces.proofs.InnerPoints.{before_in, before_out}
-use Rattle.arr_notes.specs.Curves.{IsForward}
+use Rattle.slab_faces.proofs.InnerPoints.{before_out}
 use Rattle.sound_views.proofs.ForwardDarts.{target_has}
 use Rattle.sound_views.proofs.GraphDrawn.{between_forward}
 use Rattle.sound_views.proofs.NamedDarts.{edge_known, names_are_darts}
 use Rattle.face_changes.proofs.LinkedCycles.{dart_there}
 use Rattle.edges_below.specs.Above.{is_above}
-use Rattle.edges_below.specs.Highest.{IsSpanning, IsHighestBelow}
+use Rattle.edges_below.specs.Highest.{IsSpanning}
 use Rattle.edges_below.specs.Levels.{IsSeen, level, levels_to, IsSeenAtMost}
 use Rattle.edges_below.proofs.Levels.{levels_tell_highest}
 use Rattle.face_location.specs.Below.{IsSeenDart, sees, IsSeenOrNone, edge_along, higher_of, IsHighestDart}
@@ -42,9 +40,9 @@ module _ (v : View) (s : IsGraphSound v) (q : Point) (Q : IsProper q) where
     abbrev high : Point
     high = point_in v (target_in v d)
 
-    pub is_seen : sees v d q ≡ true → IsSeenDart v q d
+    pub is_seen : true ≡ sees v d q → IsSeenDart v q d
     is_seen h =
-        let a = and_parts (precedes (point_in v (source_in v d)) q && precedes q (point_in v (target_in v d))) (under (edge_in v d) q) h in
+        let a = and_parts (precedes (point_in v (source_in v d)) q && precedes q (point_in v (target_in v d))) (under (edge_in v d) q) (sym h) in
         let b = and_parts (precedes (point_in v (source_in v d)) q) (precedes q (point_in v (target_in v d))) a.0 in
         let f = lt_in (lt_trans (before_out low q (s.drawn.proper _ (s.linked.source d has)) Q b.0) (before_out q high Q (s.drawn.proper _ (target_has v s d has)) b.1)) in (
           (has, f),
@@ -55,10 +53,10 @@ module _ (v : View) (s : IsGraphSound v) (q : Point) (Q : IsProper q) where
           },
         )
 
-    pub not_seen : sees v d q ≡ false → IsSeenDart v q d → ⊥
+    pub not_seen : false ≡ sees v d q → IsSeenDart v q d → ⊥
     not_seen h k =
         let c : IsSpanning (record { low = point_in v (source_in v d); high = point_in v (target_in v d) }) q = subst (λ (e : Edge). IsSpanning e q) (between_forward low high k.0.1) k.1.spanning in
-        false≢true (sym h ∙ and_from _ _ (and_from _ _ c.from c.to) k.1.lies_under)
+        false≢true (h ∙ and_from _ _ (and_from _ _ c.from c.to) k.1.lies_under)
 
   -- ---- the higher of the highest so far and one more
   module _ (d : DartId) (k : IsSeenDart v q d) where

@@ -1,5 +1,5 @@
 -- The highest edge that a point of a view sees below it, by the forward dart along it.
-use Rattle.std.specs.Prelude.{◌≡◌, Bool, ◌&&◌, cond, ⊤, Option, Some, None}
+use Rattle.std.specs.Prelude.{Bool, ◌&&◌, cond, ⊤, Option, Some, None}
 use Rattle.std.specs.List.{Contains}
 use Rattle.exact_plane.specs.Point.{Point}
 use Rattle.plane_graphs.specs.Graph.{Edge}

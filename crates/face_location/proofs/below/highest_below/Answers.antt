@@ -1,8 +1,7 @@
-use Rattle.std.proofs.Common.{◌<◌, arith, sym, ◌∙◌, subst}
+use Rattle.std.proofs.Common.{arith, sym, ◌∙◌, subst}
 use Rattle.std.specs.Prelude.{Some, None}
 use Rattle.plane_graphs.proofs.Lines.{point_is_proper}
 use Rattle.locate_naive.proofs.Names.{no_dart_yet, dart_has, one_dart_more, fewer_darts, all_darts, darts_still}
-use Rattle.face_location.specs.Below.{higher_of}
 use Rattle.face_location.proofs.SeenDarts.{IsLower, there, is_seen, not_seen, IsHigher, is_higher, still_lower, all_lower}
 use Rattle.face_location.proofs.below.highest_below.Goals as goal
 
@@ -31,7 +30,7 @@ loop-dart-preserved-then-is_seen g c =
     let d = c.in-Some.dart in
     let o = c.loop-dart.highest in
     let Q = point_is_proper q c.laws.ensures in
-    let k = is_seen v c.requires q Q d (dart_has v c.loop-dart.last d c.in-Some.ensures.ascend c.in-Some.ensures.after) (sym c.if-is_seen.ensures) in
+    let k = is_seen v c.requires q Q d (dart_has v c.loop-dart.last d c.in-Some.ensures.ascend c.in-Some.ensures.after) c.if-is_seen.ensures in
     let h = subst (IsHigher v c.requires q Q d k o) (sym c.higher.ensures) (is_higher v c.requires q Q d k o c.loop-dart.invariant.seen) in
     record {
       seen = h.seen;
@@ -49,7 +48,7 @@ loop-dart-preserved g c =
     record {
       seen = c.loop-dart.invariant.seen;
       lower = one_dart_more v c.loop-dart.last d c.in-Some.ensures.ascend c.in-Some.ensures.after (IsLower v q c.loop-dart.highest) c.loop-dart.invariant.lower
-          (λ x. absurd (not_seen v c.requires q (point_is_proper q c.laws.ensures) d has (sym c.if-is_seen.ensures) x));
+          (λ x. absurd (not_seen v c.requires q (point_is_proper q c.laws.ensures) d has c.if-is_seen.ensures x));
     }
 
 pub returns : goal.returns

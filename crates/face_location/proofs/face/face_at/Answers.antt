@@ -1,12 +1,9 @@
 use Rattle.std.proofs.Common.{sym, ap, ◌∙◌, subst}
-use Rattle.std.specs.Prelude.{Some, None}
 use Rattle.plane_graphs.proofs.Lines.{point_is_proper}
-use Rattle.slab_laws.specs.declared.names.CycleId.{CycleId}
 use Rattle.slab_laws.specs.declared.names.FaceId.{FaceId}
 use Rattle.slab_laws.specs.View.{HasCycle, HasFace, cycle_in, face_in}
 use Rattle.dcel_records.specs.RecordsView.{tables_of}
 use Rattle.face_steps.specs.VertexSteps.{IsFaceRound}
-use Rattle.face_location.specs.Below.{IsHighestDart}
 use Rattle.face_location.proofs.PointFaces.{first_is_least, over_dart, far_outside}
 use Rattle.face_location.proofs.face.face_at.Goals as goal
 
