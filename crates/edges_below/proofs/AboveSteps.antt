@@ -1,4 +1,4 @@
--- What the code computes of two edges.
+-- What `is_above` computes of two spans is what it says of their edges.
 use Rattle.std.proofs.Common.{◌≡◌, Bool, true, false, sym, ap, ◌∙◌}
 use Rattle.exact_plane.specs.Point.{Point}
 use Rattle.plane_graphs.specs.Graph.{Edge}
@@ -14,4 +14,3 @@ is_earlier e f lo st b d r x y z t v w u = u ∙ ap (over e) y ∙ sym (above_ea
 
 pub is_fan : (e f : Edge) (lo st hi : Point) (b d r : Bool) → lo ≡ e.low → st ≡ f.low → hi ≡ e.high → b ≡ precedes st lo → b ≡ false → d ≡ precedes lo st → d ≡ false → r ≡ under f hi → r ≡ is_above e f
 is_fan e f lo st hi b d r x y h z t v w u = u ∙ ap (under f) h ∙ sym (above_fan e f ((λ i. precedes (sym y i) (sym x i)) ∙ sym z ∙ t) ((λ i. precedes (sym x i) (sym y i)) ∙ sym v ∙ w))
-

@@ -1,10 +1,9 @@
 -- The face of a point is that over the highest edge below it.
 use Rattle.std.proofs.Common.{◌≡◌, ℕ, ◌+◌, ◌<◌, ◌≤◌, Bool, true, false, cond, arith, refl, sym, ap, ◌∙◌, ◌⊎◌, inl, inr, subst, zero, suc}
-use Rattle.std.specs.Prelude.{ℤ, pos, not, ◌&&◌, ◌||◌, Some, None}
+use Rattle.std.specs.Prelude.{not, ◌&&◌, ◌||◌, Some, None}
 use Rattle.std.specs.List.{Contains}
 use Rattle.std.proofs.lemmas.Bool.{false≢true, and_parts, and_from, not-true, false_from_ne_true, cases_Bool, le-leb, lt-leb, le-ltb, lt-ltb}
 use lib.Dec.{leb, ltb}
-use lib.Signed.{lt_z}
 use Rattle.exact_plane.specs.Point.{Point}
 use Rattle.plane_graphs.specs.Graph.{Edge}
 use Rattle.slab_laws.specs.declared.slab_cell.SlabCell.{SlabCell}
@@ -18,7 +17,7 @@ use Rattle.slab_faces.specs.PointLaws.{IsApart}
 use Rattle.slab_faces.proofs.Sums.{each, sum_by-same, sum_by-plus, fewer}
 use Rattle.slab_faces.proofs.Walls.{left_of-irrefl, left_of-asym, left_of-before, left_of-after, run_positive, over-lower}
 use Rattle.slab_faces.proofs.Order.{below_from, below_asym, gap_positive}
-use Rattle.slab_faces.proofs.Cells.{right_few, right_many, IsSideOf, not_right_trans}
+use Rattle.slab_faces.proofs.Cells.{both, right_few, right_many, IsSideOf, not_right_trans}
 use Rattle.slab_faces.proofs.Slabs.{same_edge_is, same_edge_refl}
 use Rattle.slab_faces.proofs.Along.{below_self}
 use Rattle.slab_faces.proofs.Turns.{face_trans, face_sym, le_antisym, one_more, wall_before, greatest}
@@ -28,6 +27,7 @@ use Rattle.slab_faces.proofs.WallsLemmas.{wall_of_vertex, wall_vertex}
 use Rattle.slab_faces.proofs.FacesLemmas.{link_is_meet}
 use Rattle.slab_faces.proofs.Searches.{best_of}
 use Rattle.slab_faces.proofs.EveryFace.{none_counted, passing}
+use Rattle.slab_faces.proofs.InnerPoints.{no_sign}
 use Rattle.slab_faces.proofs.PointLemmas.{points_have_one_face}
 use Rattle.edges_below.specs.Highest.{IsSpanning, none_below, highest}
 use Rattle.edges_below.specs.FaceLaws.{FaceIsOverHighest}
@@ -68,9 +68,6 @@ side_right g q plane T = record {
         e_f = left_of-after e.low q f.high r.0 T p.1 b' a.1;
       };
 }
-  where
-    both : (a b c d : Bool) → a ≡ c → b ≡ d → (a && b) ≡ (c && d)
-    both a b c d e f = rw (e, f) refl
 
 -- ---- at q, off all vertices and edges: what reaches from the right at or below is what spans q below it
 module _ (g : Skeleton) (q : Point) (plane : IsPlaneSkeleton g) (T : HasWeight q) (apart : IsApart g q) where
@@ -94,16 +91,13 @@ module _ (g : Skeleton) (q : Point) (plane : IsPlaneSkeleton g) (T : HasWeight q
         s,
         elim (cases_Bool (under f q)) [
           | inl h ↦ h
-          | inr h ↦ absurd (false≢true (sym (apart.from_edges f F) ∙ and_from _ _ (and_from _ _ from to) (level (side f q) (neither f q o h))))
+          | inr h ↦ absurd (false≢true (sym (apart.from_edges f F) ∙ and_from _ _ (and_from _ _ from to) (no_sign (side f q) (neither f q o h))))
         ],
       )
     where
       none : (a b c : Bool) → a ≡ false → c ≡ false → (a || (not b && c)) ≡ false
       none a true c h k = rw h refl
       none a false c h k = rw (h, k) refl
-
-      level : (z : ℤ) → z ≡ pos 0 → (not (lt_z z (pos 0)) && not (lt_z (pos 0) z)) ≡ true
-      level z e = rw e refl
 
   reaching : (e : Edge) → Contains g.edges e → IsSpanning e q → under e q ≡ true → reaches_right e q ≡ true
   reaching e E s u =

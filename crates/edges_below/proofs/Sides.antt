@@ -37,21 +37,20 @@ ranged e u a b = rw (a, b) refl
 higher : (f e : Edge) (u : Point) → in_range f u ≡ true → in_range e u ≡ true → pos 0 <ℤ gap f e u → higher_at f e u ≡ true
 higher f e u a b h = let c : true ≡ lt_z (pos 0) (gap f e u) = omega (arith, ints) in and_from _ _ (and_from _ _ a b) (sym c)
 
--- positive factors
-up_times : (k x : ℤ) → pos 0 <ℤ k → pos 0 <ℤ x → pos 0 <ℤ (k *ℤ x)
-up_times k x K h = mul_pos' k x K h
-
+-- a positive number times a negative one
 down_times : (k x : ℤ) → pos 0 <ℤ k → x <ℤ pos 0 → (k *ℤ x) <ℤ pos 0
 down_times k x K h = let a = times_less k x (pos 0) K h in let z = *ℤ-zero k in omega (arith, ints)
 
+-- what isn't on the right of e isn't passed above by it
 weak_over : (e : Edge) (q : Point) → pos 0 ≤ℤ side e q → over e q ≡ false
 unfolding over
 weak_over e q y = sym (omega (arith, ints))
 
+-- what is above f, and not above e, has f below e there
 wide : (e f : Edge) (q : Point) → pos 0 <ℤ run e → pos 0 <ℤ run f → pos 0 <ℤ side f q → side e q ≤ℤ pos 0 → pos 0 <ℤ gap f e q
 unfolding gap
 wide e f q Re Rf x y =
-    let i = up_times (run e) (side f q) Re x in
+    let i = mul_pos' (run e) (side f q) Re x in
     let j = times_at_most (run f) (side e q) (pos 0) Rf y in
     let z = *ℤ-zero (run f) in
     omega (arith, ints)
@@ -116,13 +115,13 @@ module _ (g : Skeleton) (e f : Edge) (q : Point) (b : IsBeside g e f q) (long : 
   at_el : left_of e.low f.low ≡ false → pos 0 <ℤ side f e.low → below f e ≡ true
   at_el h k =
       let i = gap-on_e f e e.low (side-lower e) in
-      let m = up_times (run e) (side f e.low) Re k in
+      let m = mul_pos' (run e) (side f e.low) Re k in
       or_right _ _ (or_right _ _ (or_left _ _ (higher f e e.low (el_in_f h) el_in_e (omega (arith, ints)))))
 
   at_eh : left_of f.high e.high ≡ false → pos 0 <ℤ side f e.high → below f e ≡ true
   at_eh h k =
       let i = gap-on_e f e e.high (side-upper e) in
-      let m = up_times (run e) (side f e.high) Re k in
+      let m = mul_pos' (run e) (side f e.high) Re k in
       or_right (higher_at f e f.low) _ (or_right (higher_at f e f.high) _ (or_right (higher_at f e e.low) _ (higher f e e.high (eh_in_f h) eh_in_e (omega (arith, ints)))))
 
   at_fl : left_of f.low e.low ≡ false → side e f.low <ℤ pos 0 → below f e ≡ true
@@ -153,13 +152,13 @@ module _ (g : Skeleton) (e f : Edge) (q : Point) (b : IsBeside g e f q) (long : 
   at_fl' : left_of f.low e.low ≡ false → pos 0 <ℤ side e f.low → below e f ≡ true
   at_fl' h k =
       let i = gap-on_e e f f.low (side-lower f) in
-      let m = up_times (run f) (side e f.low) Rf k in
+      let m = mul_pos' (run f) (side e f.low) Rf k in
       or_right _ _ (or_right _ _ (or_left _ _ (higher e f f.low (fl_in_e h) fl_in_f (omega (arith, ints)))))
 
   at_fh' : left_of e.high f.high ≡ false → pos 0 <ℤ side e f.high → below e f ≡ true
   at_fh' h k =
       let i = gap-on_e e f f.high (side-upper f) in
-      let m = up_times (run f) (side e f.high) Rf k in
+      let m = mul_pos' (run f) (side e f.high) Rf k in
       or_right (higher_at e f e.low) _ (or_right (higher_at e f e.high) _ (or_right (higher_at e f f.low) _ (higher e f f.high (fh_in_e h) fh_in_f (omega (arith, ints)))))
 
   same_start : precedes f.low e.low ≡ false → precedes e.low f.low ≡ false → f.low ≡ e.low

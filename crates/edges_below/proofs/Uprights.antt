@@ -1,6 +1,6 @@
 -- A vertical edge against one that isn't.
 use Rattle.std.proofs.Common.{◌≡◌, true, false, arith, refl, sym, ap, ◌∙◌, inl, inr, subst}
-use Rattle.std.specs.Prelude.{ℤ, pos, ◌-ℤ◌, ◌*ℤ◌, ◌<ℤ◌, ◌≤ℤ◌, not, ◌&&◌}
+use Rattle.std.specs.Prelude.{ℤ, pos, ◌-ℤ◌, ◌*ℤ◌, ◌<ℤ◌, ◌≤ℤ◌, not}
 use Rattle.std.specs.List.{Contains}
 use Rattle.std.proofs.lemmas.Int.{ints, by_lt_z}
 use Rattle.std.proofs.lemmas.Bool.{false≢true, and_from, false_from_ne_true, cases_Bool}
@@ -9,6 +9,7 @@ use lib.Signed.{lt_z}
 use Rattle.exact_plane.specs.Point.{Point}
 use Rattle.plane_graphs.specs.Graph.{Edge}
 use Rattle.slab_laws.specs.Skeleton.{Skeleton, HasWeight, left_of, lower_than, run, side, over, under, precedes, inside, crosses, IsPlaneSkeleton}
+use Rattle.slab_faces.proofs.InnerPoints.{no_sign}
 use Rattle.slab_faces.proofs.Ints.{times_negatives, times_mixed, less_back}
 use Rattle.slab_faces.proofs.Walls.{left_of-before, left_of-after, lower_than-before, run_positive, side-lower, side_rises, side_keeps, over-upper}
 use Rattle.slab_faces.proofs.Cells.{not_right_trans}
@@ -17,12 +18,10 @@ use Rattle.edges_below.specs.Above.{is_above, IsBeside}
 use Rattle.edges_below.proofs.Points.{before_left, before_lower, before_weak, before_on_wall, not_before_left, not_before_lower}
 use Rattle.edges_below.proofs.Seen.{under_in, under_out, not_under, over_out, on_upright, slanted}
 
+-- ---- what is inside an edge
 -- a point on the line of an edge, between its ends, is inside it
 pub is_inside : (f : Edge) (v : Point) → precedes f.low v ≡ true → precedes v f.high ≡ true → side f v ≡ pos 0 → inside f v ≡ true
-is_inside f v a b z = and_from _ _ (and_from _ _ a b) (level (side f v) z)
-  where
-    level : (z : ℤ) → z ≡ pos 0 → (not (lt_z z (pos 0)) && not (lt_z (pos 0) z)) ≡ true
-    level z e = rw e refl
+is_inside f v a b z = and_from _ _ (and_from _ _ a b) (no_sign (side f v) z)
 
 pub never_inside : (g : Skeleton) (f : Edge) (v : Point) → IsPlaneSkeleton g → Contains g.edges f → Contains g.vertices v → precedes f.low v ≡ true → precedes v f.high ≡ true → side f v ≡ pos 0 → ⊥
 never_inside g f v plane F V a b z = false≢true (sym (plane.clear f v F V) ∙ is_inside f v a b z)

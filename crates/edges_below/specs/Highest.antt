@@ -5,17 +5,12 @@ use Rattle.exact_plane.specs.Point.{Point}
 use Rattle.plane_graphs.specs.Graph.{Edge}
 use Rattle.slab_laws.specs.Skeleton.{under, below, precedes}
 
--- the point is between the edge's ends, in point order
+-- the point is between the edge's ends, in point order (this project: the leant vertical meets the edge)
 pub record IsSpanning (e : Edge) (q : Point) : Type 0 where
   pub from : precedes e.low q ≡ true
   pub to : precedes q e.high ≡ true
 
--- neither comes before the other: one place
-pub record IsSamePlace (p q : Point) : Type 0 where
-  pub not_before : precedes p q ≡ false
-  pub not_after : precedes q p ≡ false
-
--- no edge spans q below it, or the named one is the highest of those that do (Fogel, Halperin and Wein: the trapezoid of q hangs over it)
+-- no edge spans q below it, or the named one is the highest of those that do (Fogel, Halperin and Wein: vertical ray shooting)
 pub data IsHighestBelow (In : Edge → Type 0) (q : Point) : Option Edge → Type 0 where
   none_below : ((f : Edge) → In f → IsSpanning f q → under f q ≡ false) → IsHighestBelow In q None
   highest : (e : Edge) → In e → IsSpanning e q → under e q ≡ true → ((f : Edge) → In f → IsSpanning f q → under f q ≡ true → (f ≡ e) ⊎ (below f e ≡ true)) → IsHighestBelow In q (Some e)

@@ -38,7 +38,11 @@ fn higher<R: Darts>(records: &R, highest: Option<DartId>, dart: DartId) -> DartI
 {
     match highest {
         Some(other) => {
-            if is_above(&span_of(records, dart), &span_of(records, other)) { dart } else { other }
+            if is_above(&span_of(records, dart), &span_of(records, other)) {
+                dart
+            } else {
+                other
+            }
         }
         None => dart,
     }
