@@ -10,7 +10,7 @@ use exact_plane::Point;
 use slab_laws::FaceId;
 
 /// The face that a point on no edge and no vertex lies in: the one above the highest edge below the point, or the unbounded
-/// one, whose name is the first (CGAL manual, point location). It looks at each edge once, and takes no memory.
+/// one, whose name is the first (CGAL manual, point location). It looks at each dart once, and takes no memory.
 pub fn face_at(records: &Records, point: &Point) -> FaceId
     requires map { IsSoundMap records.now }
     requires spot { IsInFace records.now.graph point.now }
