@@ -2,3 +2,4 @@ pub mod DartLines
 pub mod DirectionPlaces
 pub mod Written
 pub mod Placed
+pub mod LinkedMaps
