@@ -3,3 +3,6 @@ pub mod DirectionPlaces
 pub mod Written
 pub mod Placed
 pub mod LinkedMaps
+pub mod LinkParts
+pub mod Grown
+pub mod NewHole
