@@ -6,3 +6,5 @@ pub mod LinkedMaps
 pub mod LinkParts
 pub mod Grown
 pub mod NewHole
+pub mod SplitMaps
+pub mod FaceSplit
