@@ -6,5 +6,6 @@ pub mod LinkedMaps
 pub mod LinkParts
 pub mod Grown
 pub mod NewHole
+pub mod Joined
 pub mod SplitMaps
 pub mod FaceSplit

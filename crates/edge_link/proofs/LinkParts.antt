@@ -1,5 +1,5 @@
 -- What the link of darts leaves of the records, where cycles and faces are written before it and after it.
-use Rattle.std.proofs.Common.{◌≡◌, ◌≢◌, ◌+◌, Option, Some, refl, sym, ap, subst, ◌∙◌}
+use Rattle.std.proofs.Common.{◌≡◌, ◌+◌, Option, Some, sym, ap, subst, ◌∙◌}
 use Rattle.exact_plane.specs.Line.{Line}
 use Rattle.slab_laws.specs.declared.names.CycleId.{CycleId}
 use Rattle.slab_laws.specs.declared.names.DartId.{DartId}
@@ -46,5 +46,8 @@ module _ (v g : View) (d m : DartId) (u w : VertexId) (l : Line) (apart : IsEdge
   pub second_row : row_at s.cycle_of m.0 ≡ Some c
   second_row = put_hit m.0 c _
 
+  pub old_row : (k : DartId) → HasDart v k → row_at s.cycle_of k.0 ≡ row_at f.cycle_of k.0
+  old_row k o = put_miss m.0 c _ k.0 (dart_number k m (not_y v g d m u w l apart k o)) ∙ put_miss d.0 c f.cycle_of k.0 (dart_number k d (not_x v g d m u w l apart k o))
+
   pub old_cycle : (k : DartId) → HasDart v k → cycle_in s k ≡ cycle_in f k
-  old_cycle k o = ap cycle_or (put_miss m.0 c _ k.0 (dart_number k m (not_y v g d m u w l apart k o)) ∙ put_miss d.0 c f.cycle_of k.0 (dart_number k d (not_x v g d m u w l apart k o)))
+  old_cycle k o = ap cycle_or (old_row k o)

@@ -98,7 +98,7 @@ module _ (old one two held linked new : RecordsView) (names : LinkNames) (u w : 
             pub hole_made : IsLinkMade old new names u w None None l (NewHole c face)
             hole_made =
                 let cycles-4 : linked.faces.spare_cycles ≡ held.faces.spare_cycles = ap (λ f. f.spare_cycles) faces-4 in
-                let faces-5 : linked.faces.spare_faces ≡ held.faces.spare_faces = ap (λ f. f.spare_faces) faces-4 in
+                let rooms-4 : linked.faces.spare_faces ≡ held.faces.spare_faces = ap (λ f. f.spare_faces) faces-4 in
                 let c1 = room-1.of_cycles in
                 let c2 = room-2.of_cycles in
                 let c3 = room-3.of_cycles in
@@ -115,7 +115,7 @@ module _ (old one two held linked new : RecordsView) (names : LinkNames) (u w : 
                   map = record { sound = linked_map old.graph new.graph names.d names.m u w None None l map.sound.graph can nd made stays (tables_of old) (tables_of new) (NewHole c face) map.sound written (new_name, is_face); darts = darts };
                   spare = same_spare old held linked new names.d names.m u w None None l before graph-5 spare;
                   spare_cycles = omega (arith, c1, c2, c3, cycles-4, c5);
-                  spare_faces = omega (arith, f1, f2, f3, faces-5, f5);
+                  spare_faces = omega (arith, f1, f2, f3, rooms-4, f5);
                   capacity_of_cycles = room-5.capacity_of_cycles ∙ ap (λ f. f.capacity_of_cycles) faces-4 ∙ sym room-3.capacity_of_cycles ∙ room-2.capacity_of_cycles ∙ room-1.capacity_of_cycles;
                   capacity_of_faces = room-5.capacity_of_faces ∙ ap (λ f. f.capacity_of_faces) faces-4 ∙ sym room-3.capacity_of_faces ∙ room-2.capacity_of_faces ∙ room-1.capacity_of_faces;
                   carried = subst IsSome (sym (lent-5 ∙ ap (λ f. f.moved) faces-4 ∙ lent-3 ∙ lent-2 ∙ lent-1)) back;
