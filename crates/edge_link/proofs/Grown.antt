@@ -1,12 +1,11 @@
 -- A cycle that grows: both new darts are on it, and the end that was bare isn't in a face any more.
-use Rattle.std.proofs.Common.{◌≡◌, ◌+◌, Option, Some, None, IsSome, sym, ap, subst, ◌∙◌, arith}
+use Rattle.std.proofs.Common.{◌≡◌, Option, IsSome, sym, ap, subst, ◌∙◌, arith}
 use Rattle.exact_plane.specs.Line.{Line}
 use Rattle.slab_laws.specs.declared.names.CycleId.{CycleId}
 use Rattle.slab_laws.specs.declared.names.DartId.{DartId}
 use Rattle.slab_laws.specs.declared.names.VertexId.{VertexId}
-use Rattle.slab_laws.specs.FaceLists.{Lists, AreDartsOn}
+use Rattle.slab_laws.specs.FaceLists.{AreDartsOn}
 use Rattle.slab_laws.specs.Sound.{IsGraphSound}
-use Rattle.slab_laws.specs.View.{View, Faces, twin_in, cycle_in}
 use Rattle.arr_notes.specs.FaceSteps.{step_faces, grows}
 use Rattle.arr_notes.specs.FaceWriters.{on_cycle, not_bare}
 use Rattle.arr_notes.specs.NotedFaces.{linked_faces}
@@ -22,7 +21,7 @@ use Rattle.edge_link.specs.declared.links.LinkNames.{LinkNames}
 use Rattle.edge_link.specs.FacedLinks.{IsLinkMade}
 use Rattle.edge_link.specs.Links.{AreNewDarts, CanLink}
 use Rattle.edge_link.proofs.LinkedMaps.{edge_linked, linked_map}
-use Rattle.edge_link.proofs.LinkParts.{still_new, same_link, same_sound, same_spare, old_cycle}
+use Rattle.edge_link.proofs.LinkParts.{still_new, same_link, same_spare, old_cycle}
 
 -- z is the end that was bare
 module _ (old cleared new : RecordsView) (names : LinkNames) (u w z : VertexId) (at_u at_w : Option DartId) (l : Line) (cycle : CycleId) (map : IsSoundMap old) (back : IsReturned old) (can : CanLink old.graph u w at_u at_w l) (tables : cleared.faces.tables ≡ not_bare z old.faces.tables) (lists : lists_of cleared ≡ vertex_unlisted z (lists_of old)) (room : IsSpareFaces old.faces cleared.faces 0 0) (lent : cleared.faces.moved ≡ old.faces.moved) (graph : graph_part cleared ≡ graph_part old) where

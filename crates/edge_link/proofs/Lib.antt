@@ -7,3 +7,5 @@ pub mod LinkParts
 pub mod Grown
 pub mod NewHole
 pub mod Joined
+pub mod SplitMaps
+pub mod FaceSplit

@@ -1,5 +1,5 @@
 -- A new hole: both darts are a cycle of their own, in the face in which both ends were isolated.
-use Rattle.std.proofs.Common.{◌≡◌, ◌≢◌, ◌==◌, cond, Some, None, IsSome, refl, sym, ap, subst, ◌∙◌, arith, inl, inr}
+use Rattle.std.proofs.Common.{◌≡◌, ◌≢◌, ◌==◌, cond, None, IsSome, refl, sym, ap, subst, ◌∙◌, arith, inl, inr}
 use Rattle.integers.proofs.Tests.{other_number, same_number}
 use Rattle.exact_plane.specs.Line.{Line}
 use Rattle.slab_laws.specs.declared.names.CycleId.{CycleId}
@@ -9,7 +9,6 @@ use Rattle.slab_laws.specs.declared.names.FaceId.{FaceId}
 use Rattle.slab_laws.specs.declared.names.VertexId.{VertexId}
 use Rattle.slab_laws.specs.FaceLists.{Lists, AreDartsOn}
 use Rattle.slab_laws.specs.Sound.{IsGraphSound}
-use Rattle.slab_laws.specs.Tables.{row_at}
 use Rattle.slab_laws.specs.View.{View, Faces, HasDart, HasCycle, cycle_or, cycle_in, bare_face_in}
 use Rattle.arr_notes.specs.FaceSteps.{step_faces}
 use Rattle.arr_notes.specs.FaceWriters.{on_cycle, not_bare, with_cycle}
