@@ -3,6 +3,7 @@ pub mod NamedWalks
 pub mod EndsRead
 pub mod Above
 pub mod Counts
+pub mod LengthsMet
 pub mod LeastMet
 pub mod ExtentsMet
 pub mod StrictlyBelow

@@ -1,6 +1,6 @@
 -- Walks along a cycle of a sound view by the names of darts: what was met, what is left, and that all was met at the end.
-use Rattle.std.proofs.Common.{◌≡◌, ◌≢◌, ℕ, ◌+◌, ◌*◌, ◌<◌, Bool, true, false, cond, arith, refl, sym, ap, ◌∙◌, subst, ◌⊎◌, inl, inr, List, [], ◌∷◌, map}
-use Rattle.std.specs.Prelude.{not, ◌==◌, ◌||◌, ◌&&◌}
+use Rattle.std.proofs.Common.{◌≡◌, ◌≢◌, ℕ, ◌+◌, ◌*◌, ◌<◌, Bool, true, false, cond, arith, refl, sym, ap, ◌∙◌, subst, ◌⊎◌, inl, inr, List, [], ◌∷◌}
+use Rattle.std.specs.Prelude.{◌==◌, ◌||◌, ◌&&◌}
 use Rattle.std.specs.List.{sum_by, count_by, Contains, AllByRecursion}
 use Rattle.std.proofs.lemmas.Bool.{false≢true, true≢false, cases_Bool, eqb-true, eq-eqb, false_from_ne_true, or_cases, or_left, or_right}
 use Rattle.std.proofs.lemmas.List.Sums.{sum_by-cons}
@@ -113,6 +113,10 @@ module _ (v : View) (s : IsGraphSound v) where
   pub agrees : (p : DartId → Bool) → ((x : DartId) → HasDart v x → p x ≡ p (next_in v x)) → (x y : DartId) → HasDart v x → HasDart v y → lead_in v x ≡ lead_in v y → p x ≡ p y
   agrees p h x y hx hy e = label_agrees p h x ∙ ap p ((names_tell_cycles v x y s hx hy).1 e) ∙ sym (label_agrees p h y)
 
+  -- and what goes on from each dart to the next is true of a whole cycle, or of none of its darts
+  pub along : (p : DartId → Bool) → ((x : DartId) → HasDart v x → p x ≡ true → p (next_in v x) ≡ true) → (x y : DartId) → HasDart v x → HasDart v y → lead_in v x ≡ lead_in v y → p x ≡ p y
+  along p h = agrees p (λ y hy. closed_back same_name (next_in v) (dart_names v) names_set names_one p (λ z c. h z (of_list z c)) y (listed y hy))
+
   pub lead_step : (d : DartId) → HasDart v d → lead_in v (next_in v d) ≡ lead_in v d
   lead_step d h =
       ap (least_dart_of (skeleton_of v)) (names_are_darts.next v d s h)
@@ -185,14 +189,13 @@ module _ (v : View) (s : IsGraphSound v) where
       pub ends : next_in v at ≡ d → (x : DartId) → HasDart v x → more at seen x ≡ is_on_cycle v d x
       ends e x hx =
           let p = more at seen in
-          let closed : (y : DartId) → Contains (dart_names v) y → p y ≡ true → p (next_in v y) ≡ true = λ y c h.
+          let closed : (y : DartId) → HasDart v y → p y ≡ true → p (next_in v y) ≡ true = λ y c h.
           elim (closed_more y h) [
             | inl k ↦ k
             | inr k ↦ subst (λ z. p z ≡ true) (sym (k ∙ e)) begun_more
           ] in
-          let back = closed_back same_name (next_in v) (dart_names v) names_set names_one p closed in
           elim (cases_Bool (is_on_cycle v d x)) [
-            | inl t ↦ agrees p (λ y hy. back y (listed y hy)) x d hx D (darts_exact.path _ _ t) ∙ begun_more ∙ sym t
+            | inl t ↦ along p closed x d hx D (darts_exact.path _ _ t) ∙ begun_more ∙ sym t
             | inr t ↦ false_from_ne_true _ (λ h. false≢true (sym t ∙ subst (λ z. same_dart z (lead_in v d) ≡ true) (sym ((there_more x h).1)) (darts_exact.itself (lead_in v d)))) ∙ sym t
           ]
 

@@ -102,7 +102,7 @@ module _ (v w : View) (x y : DartId) (p q : VertexId) (l : Line) (m : IsEdgeApar
   apart e = m.more.two_ends (m.sound.drawn.points p q has_start has_end e)
 
   -- no old dart goes along the new edge, for it would be one of the new ones
-  not_along : (k : DartId) → HasDart v k → (dart_in w k).edge ≡ (dart_in w x).edge → ⊥
+  pub not_along : (k : DartId) → HasDart v k → (dart_in w k).edge ≡ (dart_in w x).edge → ⊥
   not_along k o e = step (dart_in w k).forward (dart_in w x).forward refl refl
     where
       same : (dart_in w k).forward ≡ (dart_in w x).forward → ⊥
