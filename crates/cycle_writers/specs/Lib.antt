@@ -1,4 +1,5 @@
 pub mod Runs
 pub mod RunLaws
+pub mod RunSteps
 pub mod Taken
 pub mod TakenLaws

@@ -5,6 +5,7 @@
 #![tactic(auto)]
 
 ghost use Rattle.cycle_writers.specs.RunLaws.{RunsAreCycles};
+ghost use Rattle.cycle_writers.specs.RunSteps.{RunsAreSteps};
 ghost use Rattle.cycle_writers.specs.TakenLaws.{TakenFits};
 
 mod moves;
@@ -17,6 +18,12 @@ pub use runs::{put_orbit, put_run};
 /// edge; or that of the one that goes, where two are united. This is a law: the body, being empty, computes nothing.
 pub fn runs_are_cycles()
     ensures { RunsAreCycles }
+{}
+
+/// What is written along a run is what the step of a join or of a union writes. This is a law: the body, being empty, computes
+/// nothing.
+pub fn runs_are_steps()
+    ensures { RunsAreSteps }
 {}
 
 /// What is taken from a face is what a split or a union of faces asks for. This is a law: the body, being empty, computes
