@@ -3,6 +3,7 @@
 //! `unlink_edge` answers the name that goes with the dart's; `unlink` tells both by a change.
 #![tactic(auto)]
 
+mod breaking;
 mod edges;
 mod faces;
 mod rounds;
