@@ -30,7 +30,7 @@ use Rattle.face_steps.proofs.StepBreaks.{on, off, apart as two_orbits, joins, of
 use Rattle.cycle_writers.proofs.RunSteps.{rows_of, runs_are_steps}
 use Rattle.integers.proofs.Tests.{other_number, same_number}
 use Rattle.edge_unlink.proofs.TwoParts.{AreBoth, of_first}
-use Rattle.edge_unlink.proofs.UnlinkedMaps.{apart, has_twin, dart_stays, not_after_itself}
+use Rattle.edge_unlink.proofs.UnlinkedMaps.{apart, dart_stays, not_after_itself}
 
 -- the edge of d goes, of which one cycle is on both sides and neither end becomes bare
 pub record IsBreaking (v w : View) (f : Faces) (d m a b : DartId) : Type 0 where

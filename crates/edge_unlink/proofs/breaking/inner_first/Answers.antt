@@ -1,5 +1,4 @@
 use Rattle.std.proofs.Common.{◌≡◌, false, sym, ◌∙◌}
-use Rattle.slab_laws.specs.declared.names.DartId.{DartId}
 use Rattle.slab_laws.specs.Sound.{skeleton_of, dart_in}
 use Rattle.slab_laws.specs.View.{HasDart}
 use Rattle.face_changes.specs.Kinds.{is_outer}
