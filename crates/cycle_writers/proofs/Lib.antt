@@ -5,3 +5,12 @@ pub mod RunsJoined
 pub mod RunsUnited
 pub mod RunWritten
 pub mod RunSteps
+pub mod Listed
+pub mod MovedBoth
+pub mod TakenWithin
+pub mod Taken
+pub mod Moving
+pub mod MovedRows
+pub mod Still
+pub mod MovedCycles
+pub mod MovedVertices

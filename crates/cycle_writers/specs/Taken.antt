@@ -23,10 +23,18 @@ abbrev pub IsWhich : View → Which → Type 0
 IsWhich v All = ⊤
 IsWhich v (Inside half extent) = HasDart v half × IsExtent v half extent
 
--- of the cycles that a face lists those that are taken, but one; each is asked at the dart that is kept for it
+-- whether a cycle is taken, which is asked at the dart that is kept for it; one stays
+abbrev pub takes_cycle : View → Which → CycleId → Lists → CycleId → Bool
+takes_cycle v which but l c = not (c.0 == but.0) && takes v which (beside (l.dart_on c))
+
+-- of the cycles that a face lists those that are taken
 abbrev pub cycles_taken : View → Which → CycleId → Lists → FaceId → List CycleId
-cycles_taken v which but l from = filter (λ c. not (c.0 == but.0) && takes v which (beside (l.dart_on c))) (l.cycles from)
+cycles_taken v which but l from = filter (takes_cycle v which but l) (l.cycles from)
+
+-- whether an isolated vertex is taken
+abbrev pub takes_vertex : View → Which → VertexId → Bool
+takes_vertex v which u = takes v which (round u)
 
 -- of the isolated vertices that a face lists those that are taken
 abbrev pub vertices_taken : View → Which → Lists → FaceId → List VertexId
-vertices_taken v which l from = filter (λ u. takes v which (round u)) (l.bare from)
+vertices_taken v which l from = filter (takes_vertex v which) (l.bare from)

@@ -1,5 +1,5 @@
 -- What is taken from a face is what a split or a union of faces asks for (this project).
-use Rattle.std.specs.Prelude.{◌≡◌, ◌≢◌, ◌⊎◌, ◌<◌, ⊥, true, false, [], List}
+use Rattle.std.specs.Prelude.{◌≡◌, ◌≢◌, ◌⊎◌, ◌<◌, true, false, [], List}
 use Rattle.slab_laws.specs.declared.names.CycleId.{CycleId}
 use Rattle.slab_laws.specs.declared.names.CycleKind.TheVariants.{Outer}
 use Rattle.slab_laws.specs.declared.names.DartId.{DartId}
@@ -8,7 +8,6 @@ use Rattle.slab_laws.specs.declared.names.VertexId.{VertexId}
 use Rattle.slab_laws.specs.FaceLists.{Lists, AreLists, AreFacesListed}
 use Rattle.slab_laws.specs.Sound.{skeleton_of, dart_in}
 use Rattle.slab_laws.specs.View.{View, Faces, HasCycle, HasFace, cycle_in, kind_in, face_in}
-use Rattle.boundary_cycles.specs.declared.extents.Extent.{Extent}
 use Rattle.arr_notes.specs.FaceWriters.{moved_to}
 use Rattle.face_changes.specs.FacesByPairs.{first_or}
 use Rattle.face_changes.specs.Kinds.{is_outer}
@@ -27,6 +26,6 @@ pub record TakenFits : Type 0 where
   -- a split, where both places are on one cycle: what is taken of the face that the cycle had is what lies within the outer half
   pub split : (v w : View) (f : Faces) (l : Lists) (x y : DartId) (p q : VertexId) (a b : DartId) (which : Which) (kept fresh : CycleId) (fresh_face : FaceId) → IsBetween v w x y p q a b → AreTabled v f → AreLists v f l → cycle_in f a ≡ kept → cycle_in f b ≡ kept → ¬ HasCycle f fresh → ¬ HasFace f fresh_face → (first_or f.faces).0 < fresh_face.0 → is_outer (skeleton_of w) (dart_in w x) ≡ true → IsSideOf w x y which → FitsSplitting v w f x a b kept fresh fresh_face (cycles_taken w which kept l (face_in f kept)) (vertices_taken w which l (face_in f kept))
   -- a union: all that the face of the cycle that goes has, but that cycle
-  pub unite : (w : View) (s : Faces) (l : Lists) (x y : DartId) (kept gone : CycleId) → AreTabled w s → AreFacesListed s l → cycle_in s x ≡ gone → cycle_in s y ≡ kept → kept ≢ gone → kind_in s gone ≡ Outer → FitsUnite s x y kept gone (face_in s gone) (cycles_taken w All gone l (face_in s gone)) (vertices_taken w All l (face_in s gone))
+  pub unite : (w : View) (s : Faces) (l : Lists) (x y : DartId) (kept gone : CycleId) → AreFacesListed s l → cycle_in s x ≡ gone → cycle_in s y ≡ kept → kept ≢ gone → kind_in s gone ≡ Outer → FitsUnite s x y kept gone (face_in s gone) (cycles_taken w All gone l (face_in s gone)) (vertices_taken w All l (face_in s gone))
   -- what moves in two goes is what moves in one
   pub both : (cs : List CycleId) (us : List VertexId) (a : FaceId) (f : Faces) → moved_to [] us a (moved_to cs [] a f) ≡ moved_to cs us a f

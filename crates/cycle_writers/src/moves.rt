@@ -1,11 +1,11 @@
 ghost use Rattle.std.specs.Prelude.{◌≡◌, ◌≢◌, ◌+◌, ◌≤◌, [], length, ◌++◌};
 ghost use Rattle.plane_graphs.specs.Ascending.{Member};
 ghost use Rattle.slab_laws.specs.Sound.{IsGraphSound};
-ghost use Rattle.slab_laws.specs.View.{HasDart, HasFace, HasVertex};
+ghost use Rattle.slab_laws.specs.View.{HasCycle, HasDart, HasFace, HasVertex};
 ghost use Rattle.arr_notes.specs.FaceWriters.{moved_to};
 ghost use Rattle.dcel_records.specs.RecordsView.{IsSpareFaces, graph_part, lists_of};
-ghost use Rattle.face_changes.specs.FacesByPairs.{beside, round};
-ghost use Rattle.cycle_writers.specs.Taken.{IsWhich, takes, cycles_taken, vertices_taken};
+ghost use Rattle.face_changes.specs.FacesByPairs.{beside};
+ghost use Rattle.cycle_writers.specs.Taken.{IsWhich, takes, takes_cycle, takes_vertex, cycles_taken, vertices_taken};
 
 use boundary_cycles::{Extent, is_odd_beside_within, parity_within};
 use dcel_records::Records;
@@ -37,12 +37,23 @@ impl Which {
         }
     }
 
+    // Whether a cycle is taken, which is asked at the dart that is kept for it; one stays.
+    fn takes_cycle(&self, records: &Records, but: CycleId, cycle: CycleId) -> bool
+        requires sound { IsGraphSound records.now.graph }
+        requires which { IsWhich records.now.graph self.now }
+        requires cycle { HasCycle records.now.faces.tables cycle }
+        requires dart { cycle ≢ but → HasDart records.now.graph ((lists_of records.now).dart_on cycle) }
+        ensures { result ≡ takes_cycle records.now.graph self.now but (lists_of records.now) cycle }
+    {
+        cycle != but && self.takes_dart(records, records.dart_on(cycle))
+    }
+
     // Whether an isolated vertex is taken.
     fn takes_vertex(&self, records: &Records, v: VertexId) -> bool
         requires sound { IsGraphSound records.now.graph }
         requires which { IsWhich records.now.graph self.now }
         requires vertex { HasVertex records.now.graph v }
-        ensures { result ≡ takes records.now.graph self.now (round v) }
+        ensures { result ≡ takes_vertex records.now.graph self.now v }
     {
         match self {
             Which::All => true,
@@ -79,10 +90,11 @@ pub fn move_cycles(
     ensures graph { graph_part records.new ≡ graph_part records.old }
 {
     let mut next = records.first_cycle_of(from);
-    while let Some(cycle) = next {
+    'cycles: while let Some(cycle) = next {
+        records.face_laws();
         // What follows is asked before the cycle moves.
         next = records.cycle_after_in_face(cycle);
-        if cycle != but && which.takes_dart(records, records.dart_on(cycle)) {
+        if which.takes_cycle(records, but, cycle) {
             records.move_cycle(cycle, to);
             moved.push_cycle(cycle);
         }
@@ -114,7 +126,8 @@ pub fn move_isolated(
     ensures graph { graph_part records.new ≡ graph_part records.old }
 {
     let mut next = records.first_isolated_in(from);
-    while let Some(vertex) = next {
+    'vertices: while let Some(vertex) = next {
+        records.face_laws();
         next = records.isolated_after_in_face(vertex);
         if which.takes_vertex(records, vertex) {
             records.move_bare(vertex, to);
