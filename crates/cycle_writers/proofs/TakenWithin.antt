@@ -1,5 +1,6 @@
 -- What is taken where a cycle is parted: what lies within the outer half.
-use Rattle.std.proofs.Common.{◌≡◌, ◌≢◌, ◌↔◌, Bool, true, false, refl, sym, ◌∙◌, inl, inr}
+use Rattle.std.proofs.Common.{◌≡◌, ◌≢◌, ◌↔◌, Bool, true, false, refl, sym, ap, ◌∙◌, inl, inr}
+use Rattle.std.proofs.lemmas.Bool.{true≢false, false≢true}
 use Rattle.slab_laws.specs.declared.names.DartId.{DartId}
 use Rattle.slab_laws.specs.Cycles.{left_of_dart}
 use Rattle.slab_laws.specs.FacesSound.{lead_in}
@@ -16,31 +17,24 @@ use Rattle.face_steps.specs.Within.{IsBesideHalf}
 use Rattle.face_steps.proofs.EdgePairs.{is_more, old_lies, listed, lead_old}
 use Rattle.face_steps.proofs.TwoFaces.{parted}
 use Rattle.cycle_writers.specs.declared.moves.Which.{Which}
-use Rattle.cycle_writers.specs.declared.moves.Which.TheVariants.{All, Apart}
-use Rattle.cycle_writers.specs.Taken.{differ, takes}
+use Rattle.cycle_writers.specs.declared.moves.Which.TheVariants.{All, Inside}
+use Rattle.cycle_writers.specs.Taken.{takes}
 use Rattle.cycle_writers.specs.TakenLaws.{IsSideOf}
 
-differ_false : (a : Bool) → differ a false ≡ a
-differ_false true = refl
-differ_false false = refl
-
-differ_true : (a b : Bool) → (differ a b ≡ true) ↔ (a ≢ b)
-differ_true true true = (λ e. absurd (cc), λ n. absurd (n refl))
-differ_true true false = (λ e k. absurd (cc), λ n. refl)
-differ_true false true = (λ e k. absurd (cc), λ n. refl)
-differ_true false false = (λ e. absurd (cc), λ n. absurd (n refl))
+-- not the false one, so the true one
+other_than_false : (a b : Bool) → b ≡ false → (a ≡ true) ↔ (a ≢ b)
+other_than_false true b e = (λ h n. true≢false (n ∙ e), λ n. refl)
+other_than_false false b e = (λ h. absurd (false≢true h), λ n. absurd (n (sym e)))
 
 -- either half tells what is within the outer one
 pub taken_within : (w : View) (x y : DartId) (which : Which) (i : Item) → IsSideOf w x y which → IsWithin w x i ↔ (¬ IsBesideHalf w y i) → (takes w which i ≡ true) ↔ IsWithin w x i
 taken_within w x y All i s e = absurd s
-taken_within w x y (Apart half extent side) i (inl s) e =
-    let t : takes w (Apart half extent side) i ≡ odd_at (skeleton_of w) (dart_in w x) (cell_at w i) =
-    (λ j. differ (odd_at (skeleton_of w) (dart_in w (s.0 j)) (cell_at w i)) (s.1 j)) ∙ differ_false (odd_at (skeleton_of w) (dart_in w x) (cell_at w i)) in
+taken_within w x y (Inside half extent) i (inl s) e =
+    let t : odd_at (skeleton_of w) (dart_in w half) (cell_at w i) ≡ odd_at (skeleton_of w) (dart_in w x) (cell_at w i) = ap (λ (d : DartId). odd_at (skeleton_of w) (dart_in w d) (cell_at w i)) s in
     (λ h. sym t ∙ h, λ h. t ∙ h)
-taken_within w x y (Apart half extent side) i (inr s) e =
-    let t : takes w (Apart half extent side) i ≡ differ (odd_at (skeleton_of w) (dart_in w y) (cell_at w i)) (is_outer (skeleton_of w) (dart_in w y)) =
-    (λ j. differ (odd_at (skeleton_of w) (dart_in w (s.0 j)) (cell_at w i)) (s.1 j)) in
-    let d = differ_true (odd_at (skeleton_of w) (dart_in w y) (cell_at w i)) (is_outer (skeleton_of w) (dart_in w y)) in
+taken_within w x y (Inside half extent) i (inr s) e =
+    let t : odd_at (skeleton_of w) (dart_in w half) (cell_at w i) ≡ odd_at (skeleton_of w) (dart_in w y) (cell_at w i) = ap (λ (d : DartId). odd_at (skeleton_of w) (dart_in w d) (cell_at w i)) s.0 in
+    let d = other_than_false (odd_at (skeleton_of w) (dart_in w y) (cell_at w i)) (is_outer (skeleton_of w) (dart_in w y)) s.1 in
     (λ h. e.1 (d.0 (sym t ∙ h)), λ h. t ∙ d.1 (e.0 h))
 
 -- the darts of another cycle than the one that is parted lie within it together
