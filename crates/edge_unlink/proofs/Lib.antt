@@ -1,3 +1,5 @@
 pub mod Rests
 pub mod Closing
 pub mod UnlinkedMaps
+pub mod Emptied
+pub mod UnitedMaps
