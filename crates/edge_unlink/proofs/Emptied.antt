@@ -33,36 +33,42 @@ both_moved v gone from to old taken mid last lm t m b e =
     let bare : vertices_taken v All lm from ≡ us = (λ i. vertices_taken v All (record { cycles = lm.cycles; bare = b i; dart_on = lm.dart_on }) from) ∙ (λ i. vertices_taken v All (lists_in_view (t i)) from) in
     e ∙ (λ i. moved_to [] (bare i) to (first i)) ∙ moved_both cs us to old.tables
 
-module _ (v : View) (f : Faces) (l : Lists) (gone : CycleId) (from to : FaceId) (two : from ≢ to) (listed : AreFacesListed f l) (ascend : NamesAscend (names f.cycles)) where
-  abbrev pub cs : List CycleId
-  cs = cycles_taken v All gone l from
+-- ---- what is there
+module _ (f : Faces) (gone : CycleId) (to : FaceId) (cs : List CycleId) (us : List VertexId) (ascend : NamesAscend (names f.cycles)) where
+  abbrev after : Faces
+  after = without_cycle gone (moved_to cs us to f)
 
-  abbrev pub us : List VertexId
-  us = vertices_taken v All l from
-
-  abbrev pub left : Faces
-  left = without_cycle gone (moved_to cs us to f)
-
-  row_kept : (e : CycleId) → e ≢ gone → row_at left.cycles e.0 ≡ row_at (moved_to cs us to f).cycles e.0
+  pub row_kept : (e : CycleId) → e ≢ gone → row_at (without_cycle gone (moved_to cs us to f)).cycles e.0 ≡ row_at (moved_to cs us to f).cycles e.0
   row_kept e n = del_miss gone.0 _ e.0 (ascend-each _ f.cycles ascend) (cycle_number e gone n)
 
-  row_moved : (e : CycleId) → row_at (moved_to cs us to f).cycles e.0 ≡ option_map (in_face cs e.0 to) (row_at f.cycles e.0)
+  pub row_moved : (e : CycleId) → row_at (moved_to cs us to f).cycles e.0 ≡ option_map (in_face cs e.0 to) (row_at f.cycles e.0)
   row_moved e = row_at-each _ f.cycles e.0
 
-  pub not_gone : (e : CycleId) → HasCycle left e → e ≢ gone
-  not_gone e o q = none_there _ (ap (λ (z : CycleId). row_at left.cycles z.0) q ∙ del_hit gone.0 _ (ascend-each _ f.cycles ascend)) o
+  pub not_gone : (e : CycleId) → HasCycle (without_cycle gone (moved_to cs us to f)) e → e ≢ gone
+  not_gone e o q = none_there _ (ap (λ (z : CycleId). row_at after.cycles z.0) q ∙ del_hit gone.0 _ (ascend-each _ f.cycles ascend)) o
 
   pub still_there : (e : CycleId) → HasCycle f e → HasCycle (moved_to cs us to f) e
   still_there e o = subst IsSome (sym (row_moved e)) ((map_some (in_face cs e.0 to) (row_at f.cycles e.0)).0 o)
 
-  pub was_there : (e : CycleId) → HasCycle left e → HasCycle f e
+  pub was_there : (e : CycleId) → HasCycle (without_cycle gone (moved_to cs us to f)) e → HasCycle f e
   was_there e o = (map_some (in_face cs e.0 to) (row_at f.cycles e.0)).1 (subst IsSome (row_kept e (not_gone e o) ∙ row_moved e) o)
+
+-- ---- what is left in the face
+module _ (v : View) (f : Faces) (l : Lists) (gone : CycleId) (from to : FaceId) (two : from ≢ to) (listed : AreFacesListed f l) (ascend : NamesAscend (names f.cycles)) where
+  abbrev cs : List CycleId
+  cs = cycles_taken v All gone l from
+
+  abbrev us : List VertexId
+  us = vertices_taken v All l from
+
+  abbrev pub left : Faces
+  left = without_cycle gone (moved_to (cycles_taken v All gone l from) (vertices_taken v All l from) to f)
 
   no_cycle : (e : CycleId) → HasCycle left e → face_in left e ≢ from
   no_cycle e o q =
-      let n = not_gone e o in
-      let had = was_there e o in
-      let reads : face_in left e ≡ cond (lists_cycle cs e.0) to (face_in f e) = ap face_or (row_kept e n ∙ row_moved e) ∙ map_face cs e.0 to (row_at f.cycles e.0) had in
+      let n = not_gone f gone to cs us ascend e o in
+      let had = was_there f gone to cs us ascend e o in
+      let reads : face_in left e ≡ cond (lists_cycle cs e.0) to (face_in f e) = ap face_or (row_kept f gone to cs us ascend e n ∙ row_moved f gone to cs us ascend e) ∙ map_face cs e.0 to (row_at f.cycles e.0) had in
       elim (cases_Bool (lists_cycle cs e.0)) [
         | inl y ↦ two (sym q ∙ reads ∙ ap (λ b. cond b to (face_in f e)) y)
         | inr z ↦

@@ -41,7 +41,7 @@ remove_cycle-requires c =
         both_moved v c.args.gone c.args.from c.args.to f c.take_moved-moved.new.self.faces c.move_cycles.new.records.faces.tables c.move_isolated.new.records.faces.tables (lists_of c.move_cycles.new.records)
         c.take_moved-moved.ensures.faces c.move_cycles.ensures.tables c.move_cycles.ensures.bare c.move_isolated.ensures.tables
     in
-    subst (λ (s : Faces). HasCycle s c.args.gone) (sym moved) (still_there v f.tables (lists_in_view f) c.args.gone c.args.from c.args.to c.requires.two c.face_laws.ensures.listed c.face_laws.ensures.cycles_ascend c.args.gone c.requires.gone)
+    subst (λ (s : Faces). HasCycle s c.args.gone) (sym moved) (still_there f.tables c.args.gone c.args.to _ (vertices_taken v All (lists_in_view f) c.args.from) c.face_laws.ensures.cycles_ascend c.args.gone c.requires.gone)
 
 pub remove_face-requires-clause-cycles : goal.remove_face-requires-clause-cycles
 remove_face-requires-clause-cycles c =
