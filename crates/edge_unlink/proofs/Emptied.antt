@@ -20,7 +20,7 @@ use Rattle.cycle_writers.specs.Taken.{cycles_taken, vertices_taken}
 use Rattle.cycle_writers.proofs.MovedBoth.{moved_both}
 use Rattle.cycle_writers.proofs.Taken.{listed_taken, listed_bare}
 
-pub no_member : {X : Type 0} (xs : List X) → ((x : X) → Member x xs → ⊥) → xs ≡ []
+no_member : {X : Type 0} (xs : List X) → ((x : X) → Member x xs → ⊥) → xs ≡ []
 no_member [] n = refl
 no_member (x ∷ xs) n = absurd (n x (inl refl))
 
@@ -38,10 +38,10 @@ module _ (f : Faces) (gone : CycleId) (to : FaceId) (cs : List CycleId) (us : Li
   abbrev after : Faces
   after = without_cycle gone (moved_to cs us to f)
 
-  pub row_kept : (e : CycleId) → e ≢ gone → row_at (without_cycle gone (moved_to cs us to f)).cycles e.0 ≡ row_at (moved_to cs us to f).cycles e.0
+  row_kept : (e : CycleId) → e ≢ gone → row_at (without_cycle gone (moved_to cs us to f)).cycles e.0 ≡ row_at (moved_to cs us to f).cycles e.0
   row_kept e n = del_miss gone.0 _ e.0 (ascend-each _ f.cycles ascend) (cycle_number e gone n)
 
-  pub row_moved : (e : CycleId) → row_at (moved_to cs us to f).cycles e.0 ≡ option_map (in_face cs e.0 to) (row_at f.cycles e.0)
+  row_moved : (e : CycleId) → row_at (moved_to cs us to f).cycles e.0 ≡ option_map (in_face cs e.0 to) (row_at f.cycles e.0)
   row_moved e = row_at-each _ f.cycles e.0
 
   pub not_gone : (e : CycleId) → HasCycle (without_cycle gone (moved_to cs us to f)) e → e ≢ gone

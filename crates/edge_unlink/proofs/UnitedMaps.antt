@@ -1,5 +1,5 @@
 -- Two faces become one where the edge between them goes: v and f are the view and the tables with the edge of d and its twin; x is the edge's dart on the cycle that goes, y the other one.
-use Rattle.std.proofs.Common.{◌≡◌, ◌≢◌, ◌⊎◌, ◌<◌, ◌==◌, cond, ℕ, List, inl, inr, refl, sym, ap, ◌∙◌, subst, arith}
+use Rattle.std.proofs.Common.{◌≡◌, ◌≢◌, ◌⊎◌, ◌==◌, cond, List, inl, inr, refl, sym, ap, ◌∙◌, subst, arith}
 use Rattle.slab_laws.specs.declared.names.CycleId.{CycleId}
 use Rattle.slab_laws.specs.declared.names.CycleKind.TheVariants.{Inner, Outer}
 use Rattle.slab_laws.specs.declared.names.DartId.{DartId}
@@ -8,7 +8,7 @@ use Rattle.slab_laws.specs.declared.names.VertexId.{VertexId}
 use Rattle.slab_laws.specs.FaceLists.{Lists, MovedView, AreDartsOn, AreFacesListed}
 use Rattle.slab_laws.specs.FacesSound.{lead_in, IsSound}
 use Rattle.slab_laws.specs.Tables.{row_at}
-use Rattle.slab_laws.specs.View.{View, Faces, HasVertex, HasDart, HasCycle, HasFace, HasBareFace, source_in, target_in, twin_in, next_in, cycle_or, cycle_in, kind_in, face_in, face_id, dart_id}
+use Rattle.slab_laws.specs.View.{View, Faces, HasVertex, HasDart, HasCycle, HasBareFace, source_in, target_in, twin_in, next_in, cycle_or, cycle_in, kind_in, face_in, face_id, dart_id}
 use Rattle.arr_notes.specs.FaceWriters.{off_cycles, recycled, moved_to, without_cycle, without_face}
 use Rattle.arr_notes.specs.Step.{remove_edge}
 use Rattle.arr_notes.specs.declared.faces.Unlinked.TheVariants.{Unites}
@@ -159,10 +159,10 @@ module _ (v : View) (f : Faces) (d x y : DartId) (gone kept : CycleId) (h : IsSo
         let stays = darts_stay c (was_there f gone a cs us h.complete.cycles_ascend c o) n in
         let j : DartId = (dart_listed kept (next_in v y) l).dart_on c in
         let reads : cycle_in (recycled gone kept off) j ≡ c =
-            ap cycle_or (row_at-each (λ m z. cond (z.0 == gone.0) kept z) off.cycle_of j.0)
-            ∙ map_cycle (λ z. cond (z.0 == gone.0) kept z) (row_at off.cycle_of j.0) ((rows_off.cycle_rows j).0 stays.0)
-            ∙ swap_miss gone kept (cycle_in off j) (λ q. n (sym stays.1 ∙ q))
-            ∙ stays.1
+        ap cycle_or (row_at-each (λ m z. cond (z.0 == gone.0) kept z) off.cycle_of j.0)
+        ∙ map_cycle (λ z. cond (z.0 == gone.0) kept z) (row_at off.cycle_of j.0) ((rows_off.cycle_rows j).0 stays.0)
+        ∙ swap_miss gone kept (cycle_in off j) (λ q. n (sym stays.1 ∙ q))
+        ∙ stays.1
         in
         subst (λ z. HasDart less z × (cycle_in (recycled gone kept off) z ≡ c)) (sym (ap (λ (g : CycleId → DartId). g c) e ∙ ap (λ t. cond t (dart_id 0) j) (other_number c.0 gone.0 (cycle_number c gone n)))) (stays.0, reads)
 

@@ -68,12 +68,7 @@ fn unite_faces(records: &mut Records, gone: CycleId, from: FaceId, to: FaceId) -
 
 // The edge goes, and the darts of one of the two cycles on its sides are on the other, for which a dart that stays is kept;
 // the name that the twin of d had.
-fn put_together(
-    records: &mut Records,
-    d: DartId,
-    on_gone: DartId,
-    on_kept: DartId,
-) -> DartId
+fn put_together(records: &mut Records, d: DartId, on_gone: DartId, on_kept: DartId) -> DartId
     requires map { IsSoundMap records.old }
     requires dart { HasDart records.old.graph d }
     requires sides { ((on_gone ≡ d) × (on_kept ≡ twin_in records.old.graph d)) ⊎ ((on_kept ≡ d) × (on_gone ≡ twin_in records.old.graph d)) }
@@ -98,12 +93,7 @@ fn put_together(
 
 // The darts of the edge were on two cycles: the outer one of one side goes with its face. `on_gone` is the dart of the edge
 // that was on it, and `on_kept` its twin; `d` is one of both.
-fn unite_into(
-    records: &mut Records,
-    d: DartId,
-    on_gone: DartId,
-    on_kept: DartId,
-) -> FacedUnlink
+fn unite_into(records: &mut Records, d: DartId, on_gone: DartId, on_kept: DartId) -> FacedUnlink
     requires map { IsSoundMap records.old }
     requires returned { IsReturned records.old }
     requires dart { HasDart records.old.graph d }

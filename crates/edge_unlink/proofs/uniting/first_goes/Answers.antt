@@ -1,4 +1,4 @@
-use Rattle.std.proofs.Common.{◌≡◌, ◌≢◌, inl, refl, sym, ap, ◌∙◌, subst}
+use Rattle.std.proofs.Common.{◌≡◌, inl, refl, sym, ap, ◌∙◌, subst}
 use Rattle.std.proofs.lemmas.Bool.{true≢false}
 use Rattle.slab_laws.specs.declared.names.CycleKind.TheVariants.{Inner}
 use Rattle.slab_laws.specs.Kinds.{is_outer as bounds_from_outside}
@@ -11,7 +11,7 @@ pub returns-then-not-is_outer-clause-second : goal.returns-then-not-is_outer-cla
 returns-then-not-is_outer-clause-second c =
     let f : Faces = c.args.records.now.faces.tables in
     let inner : kind_in f (cycle_in f c.args.d) ≡ Inner =
-        kinds_are_two _ (λ e. true≢false (sym (ap bounds_from_outside (c.kind.ensures ∙ ap (kind_in f) c.cycle.ensures ∙ e)) ∙ sym c.is_outer.ensures ∙ c.if-not-is_outer.true))
+    kinds_are_two _ (λ e. true≢false (sym (ap bounds_from_outside (c.kind.ensures ∙ ap (kind_in f) c.cycle.ensures ∙ e)) ∙ sym c.is_outer.ensures ∙ c.if-not-is_outer.true))
     in
     λ q. other_outer c.args.records.now.graph f c.args.d c.args.d c.args.m _ _ c.requires.map.sound c.requires.dart (inl (refl, c.requires.twin)) c.requires.two refl refl inner
 

@@ -1,12 +1,9 @@
 use Rattle.std.proofs.Common.{◌≡◌, refl, sym, ap, ◌∙◌, subst}
-use Rattle.slab_laws.specs.declared.names.DartId.{DartId}
 use Rattle.slab_laws.specs.FacesSound.{lead_in}
-use Rattle.slab_laws.specs.View.{View, Faces, HasDart, HasCycle, next_in, twin_in, cycle_in}
-use Rattle.arr_notes.specs.FaceWriters.{off_cycles, recycled}
+use Rattle.slab_laws.specs.View.{View, Faces, HasDart, HasCycle, twin_in}
 use Rattle.arr_notes.specs.Step.{remove_edge}
-use Rattle.dcel_records.specs.RecordsView.{RecordsView, FacesView}
+use Rattle.dcel_records.specs.RecordsView.{FacesView}
 use Rattle.face_steps.specs.RowsWritten.{all_on}
-use Rattle.cycle_writers.specs.Runs.{IsRun}
 use Rattle.edge_unlink.proofs.UnitedMaps.{ends, written, cycle_kept}
 use Rattle.edge_unlink.proofs.uniting.put_together.Goals as goal
 
@@ -38,8 +35,8 @@ set_dart-requires c =
     let closed = c.close_up.ensures in
     let run = c.put_run.ensures.run in
     let put = written v f c.args.d c.args.on_gone c.args.on_kept _ _ c.requires.map.sound c.requires.dart c.requires.sides c.requires.two refl refl
-        c.close_up.new.records.graph c.put_run.new.records.faces.tables c.close_up.result.m c.next-from.result c.next-to.result c.cycle-kept.result run.0 closed.graph closed.twin c.next-from.ensures c.next-to.ensures c.cycle-kept.ensures
-        (ap (λ (z : FacesView). z.tables) run.2 ∙ ap (λ (z : FacesView). all_on run.0 c.cycle-kept.result z.tables) closed.faces) run.1
+    c.close_up.new.records.graph c.put_run.new.records.faces.tables c.close_up.result.m c.next-from.result c.next-to.result c.cycle-kept.result run.0 closed.graph closed.twin c.next-from.ensures c.next-to.ensures c.cycle-kept.ensures
+    (ap (λ (z : FacesView). z.tables) run.2 ∙ ap (λ (z : FacesView). all_on run.0 c.cycle-kept.result z.tables) closed.faces) run.1
     in
     subst (λ (z : Faces). HasCycle z c.cycle-kept.result) (sym put) (cycle_kept v f c.args.d c.args.on_gone c.args.on_kept _ c.cycle-kept.result c.requires.map.sound c.requires.dart c.requires.sides c.requires.two refl c.cycle-kept.ensures)
 

@@ -1,4 +1,4 @@
-use Rattle.std.proofs.Common.{◌≡◌, ◌≢◌, ◌++◌, List, [], sym, ap, ◌∙◌, subst, arith, length}
+use Rattle.std.proofs.Common.{◌≡◌, ◌++◌, List, [], sym, ap, ◌∙◌, subst, arith, length}
 use Rattle.plane_graphs.specs.Ascending.{Member}
 use Rattle.slab_laws.specs.declared.names.CycleId.{CycleId}
 use Rattle.slab_laws.specs.declared.names.FaceId.{FaceId}
@@ -38,8 +38,8 @@ remove_cycle-requires c =
     let v : View = c.args.records.now.graph in
     let f : FacesView = c.args.records.now.faces in
     let moved : c.move_isolated.new.records.faces.tables ≡ emptied v c.args.gone c.args.from c.args.to f =
-        both_moved v c.args.gone c.args.from c.args.to f c.take_moved-moved.new.self.faces c.move_cycles.new.records.faces.tables c.move_isolated.new.records.faces.tables (lists_of c.move_cycles.new.records)
-        c.take_moved-moved.ensures.faces c.move_cycles.ensures.tables c.move_cycles.ensures.bare c.move_isolated.ensures.tables
+    both_moved v c.args.gone c.args.from c.args.to f c.take_moved-moved.new.self.faces c.move_cycles.new.records.faces.tables c.move_isolated.new.records.faces.tables (lists_of c.move_cycles.new.records)
+    c.take_moved-moved.ensures.faces c.move_cycles.ensures.tables c.move_cycles.ensures.bare c.move_isolated.ensures.tables
     in
     subst (λ (s : Faces). HasCycle s c.args.gone) (sym moved) (still_there f.tables c.args.gone c.args.to _ (vertices_taken v All (lists_in_view f) c.args.from) c.face_laws.ensures.cycles_ascend c.args.gone c.requires.gone)
 
@@ -48,8 +48,8 @@ remove_face-requires-clause-cycles c =
     let v : View = c.args.records.now.graph in
     let f : FacesView = c.args.records.now.faces in
     let moved : c.move_isolated.new.records.faces.tables ≡ emptied v c.args.gone c.args.from c.args.to f =
-        both_moved v c.args.gone c.args.from c.args.to f c.take_moved-moved.new.self.faces c.move_cycles.new.records.faces.tables c.move_isolated.new.records.faces.tables (lists_of c.move_cycles.new.records)
-        c.take_moved-moved.ensures.faces c.move_cycles.ensures.tables c.move_cycles.ensures.bare c.move_isolated.ensures.tables
+    both_moved v c.args.gone c.args.from c.args.to f c.take_moved-moved.new.self.faces c.move_cycles.new.records.faces.tables c.move_isolated.new.records.faces.tables (lists_of c.move_cycles.new.records)
+    c.take_moved-moved.ensures.faces c.move_cycles.ensures.tables c.move_cycles.ensures.bare c.move_isolated.ensures.tables
     in
     no_cycles v f.tables (lists_in_view f) c.args.gone c.args.from c.args.to c.requires.two c.face_laws.ensures.listed c.face_laws.ensures.cycles_ascend c.remove_cycle.new.self.faces.tables (lists_of c.remove_cycle.new.self)
     (c.remove_cycle.ensures.tables ∙ ap (without_cycle c.args.gone) moved) c.face_laws-2.ensures.listed
@@ -59,8 +59,8 @@ remove_face-requires-clause-bare c =
     let v : View = c.args.records.now.graph in
     let f : FacesView = c.args.records.now.faces in
     let moved : c.move_isolated.new.records.faces.tables ≡ emptied v c.args.gone c.args.from c.args.to f =
-        both_moved v c.args.gone c.args.from c.args.to f c.take_moved-moved.new.self.faces c.move_cycles.new.records.faces.tables c.move_isolated.new.records.faces.tables (lists_of c.move_cycles.new.records)
-        c.take_moved-moved.ensures.faces c.move_cycles.ensures.tables c.move_cycles.ensures.bare c.move_isolated.ensures.tables
+    both_moved v c.args.gone c.args.from c.args.to f c.take_moved-moved.new.self.faces c.move_cycles.new.records.faces.tables c.move_isolated.new.records.faces.tables (lists_of c.move_cycles.new.records)
+    c.take_moved-moved.ensures.faces c.move_cycles.ensures.tables c.move_cycles.ensures.bare c.move_isolated.ensures.tables
     in
     no_vertices v f.tables (lists_in_view f) c.args.gone c.args.from c.args.to c.requires.two c.face_laws.ensures.listed c.face_laws.ensures.cycles_ascend c.remove_cycle.new.self.faces.tables (lists_of c.remove_cycle.new.self)
     (c.remove_cycle.ensures.tables ∙ ap (without_cycle c.args.gone) moved) c.face_laws-2.ensures.listed
@@ -78,13 +78,13 @@ returns-clause-tables c =
     let v : View = c.args.records.now.graph in
     let f : FacesView = c.args.records.now.faces in
     let moved : c.move_isolated.new.records.faces.tables ≡ emptied v c.args.gone c.args.from c.args.to f =
-        both_moved v c.args.gone c.args.from c.args.to f c.take_moved-moved.new.self.faces c.move_cycles.new.records.faces.tables c.move_isolated.new.records.faces.tables (lists_of c.move_cycles.new.records)
-        c.take_moved-moved.ensures.faces c.move_cycles.ensures.tables c.move_cycles.ensures.bare c.move_isolated.ensures.tables
+    both_moved v c.args.gone c.args.from c.args.to f c.take_moved-moved.new.self.faces c.move_cycles.new.records.faces.tables c.move_isolated.new.records.faces.tables (lists_of c.move_cycles.new.records)
+    c.take_moved-moved.ensures.faces c.move_cycles.ensures.tables c.move_cycles.ensures.bare c.move_isolated.ensures.tables
     in
     let cycles : c.move_isolated.new.moved.cycles ≡ cycles_taken v All c.args.gone (lists_in_view f) c.args.from =
-        ap (λ (m : MovedView). m.cycles) c.move_isolated.ensures.moved
-        ∙ ap (λ (m : MovedView). m.cycles) c.move_cycles.ensures.moved
-        ∙ (λ i. c.take_moved-moved.ensures.cycles i ++ cycles_taken v All c.args.gone (lists_in_view (c.take_moved-moved.ensures.faces i)) c.args.from)
+    ap (λ (m : MovedView). m.cycles) c.move_isolated.ensures.moved
+    ∙ ap (λ (m : MovedView). m.cycles) c.move_cycles.ensures.moved
+    ∙ (λ i. c.take_moved-moved.ensures.cycles i ++ cycles_taken v All c.args.gone (lists_in_view (c.take_moved-moved.ensures.faces i)) c.args.from)
     in
     let vertices : c.move_isolated.new.moved.vertices ≡ vertices_taken v All (lists_in_view f) c.args.from = returns-clause-vertices c in
     c.remove_face.ensures.tables
@@ -94,7 +94,7 @@ returns-clause-tables c =
 pub returns-clause-darts : goal.returns-clause-darts
 returns-clause-darts c =
     let darts : (lists_of c.move_isolated.new.records).dart_on ≡ (lists_of c.args.records.now).dart_on =
-        c.move_isolated.ensures.darts ∙ c.move_cycles.ensures.darts ∙ ap (λ (f : FacesView). (lists_in_view f).dart_on) c.take_moved-moved.ensures.faces
+    c.move_isolated.ensures.darts ∙ c.move_cycles.ensures.darts ∙ ap (λ (f : FacesView). (lists_in_view f).dart_on) c.take_moved-moved.ensures.faces
     in
     ap (λ (l : Lists). l.dart_on) (c.remove_face.ensures.lists ∙ c.remove_cycle.ensures.lists)
     ∙ (λ i. (cycle_unlisted c.args.gone (record { cycles = (lists_of c.args.records.now).cycles; bare = (lists_of c.args.records.now).bare; dart_on = darts i })).dart_on)

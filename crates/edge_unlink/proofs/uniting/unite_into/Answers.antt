@@ -1,5 +1,4 @@
 use Rattle.std.proofs.Common.{◌≡◌, refl, sym, ap, ◌∙◌, subst, arith}
-use Rattle.slab_laws.specs.declared.names.CycleId.{CycleId}
 use Rattle.slab_laws.specs.FaceLists.{Lists, AreDartsOn}
 use Rattle.slab_laws.specs.View.{View, Faces, HasDart, HasCycle, HasFace, cycle_in, face_in, kind_in, twin_in, next_in}
 use Rattle.arr_notes.specs.FaceWriters.{off_cycles, recycled, moved_to, without_cycle, without_face}
@@ -38,9 +37,9 @@ unite_faces-moved-requires-clause-darts c =
     let made = c.put_together-m.ensures in
     let graph : c.put_together-m.new.records.graph ≡ remove_edge v c.args.d (twin_in v c.args.d) = made.graph ∙ ap (remove_edge v c.args.d) made.twin in
     λ k o n.
-        let stays = darts_stay v f c.args.d c.args.on_gone c.args.on_kept c.cycle-gone.result (cycle_in f c.args.on_kept) c.requires.map.sound c.requires.dart c.requires.sides c.requires.two c.cycle-gone.ensures refl
-        (lists_of c.args.records.now) c.requires.map.darts k (subst (λ (z : Faces). HasCycle z k) made.tables o) n in
-        subst (λ (z : View × Lists). HasDart z.0 (z.1.dart_on k)) (λ i. (sym graph i, sym made.lists i)) stays.0
+    let stays = darts_stay v f c.args.d c.args.on_gone c.args.on_kept c.cycle-gone.result (cycle_in f c.args.on_kept) c.requires.map.sound c.requires.dart c.requires.sides c.requires.two c.cycle-gone.ensures refl
+    (lists_of c.args.records.now) c.requires.map.darts k (subst (λ (z : Faces). HasCycle z k) made.tables o) n in
+    subst (λ (z : View × Lists). HasDart z.0 (z.1.dart_on k)) (λ i. (sym graph i, sym made.lists i)) stays.0
 
 pub returns : goal.returns
 returns c =
@@ -58,7 +57,7 @@ returns c =
     let made = c.put_together-m.ensures in
     let done = c.unite_faces-moved.ensures in
     let put : c.put_together-m.new.records.faces.tables ≡ recycled gone kept (off_cycles (twin_in v d) (off_cycles d f)) =
-        made.tables ∙ (λ i. recycled (sym c.cycle-gone.ensures i) (sym c.cycle-kept.ensures i) (off_cycles (made.twin i) (off_cycles d f)))
+    made.tables ∙ (λ i. recycled (sym c.cycle-gone.ensures i) (sym c.cycle-kept.ensures i) (off_cycles (made.twin i) (off_cycles d f)))
     in
     let lists : lists_of c.put_together-m.new.records ≡ dart_listed kept (next_in v y) (lists_of old) = made.lists ∙ (λ i. dart_listed (sym c.cycle-kept.ensures i) (next_in v y) (lists_of old)) in
     let s : Faces = without_face gone_face (without_cycle gone (moved_to moved.cycles moved.vertices (face_in f kept) (recycled gone kept (off_cycles (twin_in v d) (off_cycles d f))))) in
