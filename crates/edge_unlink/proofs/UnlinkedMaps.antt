@@ -28,7 +28,7 @@ use Rattle.face_steps.specs.LinkLaws.{FitsUnlinked}
 use Rattle.face_steps.specs.Tabled.{AreTabled}
 use Rattle.face_steps.proofs.Choices.{tables_are_sound}
 use Rattle.face_steps.proofs.CyclesApart.{cycle_cases}
-use Rattle.face_steps.proofs.EdgePairs.{sorted, has_start, has_end}
+use Rattle.face_steps.proofs.EdgePairs.{sorted, has_end}
 use Rattle.face_steps.proofs.FaceRows.{cycle_number}
 use Rattle.face_steps.proofs.RecordsApart.{edge_removed}
 use Rattle.face_steps.proofs.UnlinkedFaces.{unlinks_keep_tables}
@@ -41,7 +41,7 @@ pub unlinked_is_sound : (v w : View) (f s : Faces) (d m : DartId) (told : Unlink
 unlinked_is_sound v w f s d m told h has is_twin graph g tables fits =
     let removed : w ≡ remove_edge v d (twin_in v d) = graph ∙ ap (remove_edge v d) is_twin in
     let kept : AreTabled w (step_faces w f (unlinked_faces v d told)) =
-        subst (λ z. AreTabled z (step_faces z f (unlinked_faces v d told))) (sym removed) (unlinks_keep_tables v f d told h.graph has ((tables_are_sound v f h.graph).1 h) fits)
+    subst (λ z. AreTabled z (step_faces z f (unlinked_faces v d told))) (sym removed) (unlinks_keep_tables v f d told h.graph has ((tables_are_sound v f h.graph).1 h) fits)
     in
     (tables_are_sound w s g).0 (subst (AreTabled w) (sym tables) kept)
 
@@ -77,18 +77,12 @@ module _ (v w : View) (f : Faces) (d m : DartId) (h : IsSound v f) (has : HasDar
       subst (λ z. IsEdgeApart w v d z (source_in v d) (target_in v d) (line_in v d)) (sym is_twin)
       (subst (λ z. IsEdgeApart z v d (twin_in v d) (source_in v d) (target_in v d) (line_in v d)) (sym (removed ∙ ap (remove_edge v d) is_twin)) (edge_removed v d h.graph has))
 
-  pub has_twin : HasDart v m
-  has_twin = apart.more.second
-
   -- ---- what is there
   pub dart_stays : (k : DartId) → HasDart v k → k ≢ d → k ≢ m → HasDart w k
   dart_stays k o i j = elim (sorted w v d m (source_in v d) (target_in v d) (line_in v d) apart k o) [
     | inl z ↦ z
     | inr z ↦ elim z [ inl e ↦ absurd (i e) | inr e ↦ absurd (j e) ]
   ]
-
-  pub has_source : HasVertex w (source_in v d)
-  has_source = has_start w v d m (source_in v d) (target_in v d) (line_in v d) apart
 
   pub has_target : HasVertex w (target_in v d)
   has_target = has_end w v d m (source_in v d) (target_in v d) (line_in v d) apart
@@ -133,7 +127,7 @@ module _ (v w : View) (f : Faces) (d m : DartId) (h : IsSound v f) (has : HasDar
 
 -- ---- room
 -- who writes cycles and faces alone leaves that of darts
-pub spare_kept : (old mid new : RecordsView) → IsSpare old mid 0 2 → graph_part new ≡ graph_part mid → IsSpare old new 0 2
+spare_kept : (old mid new : RecordsView) → IsSpare old mid 0 2 → graph_part new ≡ graph_part mid → IsSpare old new 0 2
 spare_kept old mid new s e = record {
   of_vertices = ap (λ (g : GraphView). g.spare_vertices) e ∙ s.of_vertices;
   of_darts = ap (λ (g : GraphView). g.spare_darts) e ∙ s.of_darts;
