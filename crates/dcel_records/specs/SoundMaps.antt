@@ -2,12 +2,17 @@
 use Rattle.std.specs.Prelude.{◌≡◌, None}
 use Rattle.slab_laws.specs.FaceLists.{AreDartsOn, MovedView}
 use Rattle.slab_laws.specs.FacesSound.{IsSound}
-use Rattle.dcel_records.specs.RecordsView.{RecordsView, IsRoomFor, lists_of, tables_of}
+use Rattle.dcel_records.specs.RecordsView.{RecordsView, IsReturned, IsRoomFor, lists_of, tables_of}
 
 -- the view is sound with its cycles and faces, and the dart that is kept for a cycle is on it; that each face lists its own is true of all records (CGAL manual, a valid arrangement)
 pub record IsSoundMap (h : RecordsView) : Type 0 where
   pub sound : IsSound h.graph (tables_of h)
   pub darts : AreDartsOn h.graph (tables_of h) (lists_of h)
+
+-- a sound map, between two changes: none carries the lists of what moves (this project)
+pub record IsMapAtRest (h : RecordsView) : Type 0 where
+  pub map : IsSoundMap h
+  pub returned : IsReturned h
 
 -- a change carries the lists of what moves, and they can be given back (this project)
 pub record IsCarriedOff (h : RecordsView) (moved : MovedView) : Type 0 where

@@ -16,3 +16,5 @@ pub mod Steps
 pub mod Parts
 pub mod Linked
 pub mod Begun
+pub mod MapsKept
+pub mod Restored

@@ -3,6 +3,7 @@ ghost use Rattle.edit_steps.specs.Steps.{Clear};
 ghost use Rattle.arr_notes.specs.ViewChanges.{no_rows};
 ghost use Rattle.curve_history.specs.Past.{curves_on, IsSpare, SameHistoryCapacity};
 ghost use Rattle.dcel_records.specs.RecordsView.{SameRecordCapacity};
+ghost use Rattle.dcel_records.specs.SoundMaps.{IsMapAtRest};
 ghost use Rattle.observer_bus.specs.Rows.{bus_row};
 ghost use Rattle.told_steps.specs.ToldRuns.{AreInStep, IsToldRun};
 
@@ -17,12 +18,14 @@ use std::alloc::Global;
 pub fn clear(alloc: Global, records: &mut Records, history: &mut History, bus: &mut Bus)
     requires in_step { AreInStep records.old.graph (curves_on history.old)
         (bus_row Observer-dyn bus.old) }
+    requires map { IsMapAtRest records.old }
     ensures told { IsToldRun records.old.graph (curves_on history.old)
         (bus_row Observer-dyn bus.old)
         (Clear ∷ []) records.new.graph (curves_on history.new)
         (bus_row Observer-dyn bus.new) }
     ensures in_step { AreInStep records.new.graph (curves_on history.new)
         (bus_row Observer-dyn bus.new) }
+    ensures map { IsMapAtRest records.new }
     ensures graph { records.new.graph ≡ no_rows }
     ensures names { history.new.names ≡ [] }
     ensures pieces { history.new.pieces ≡ [] }
@@ -34,6 +37,8 @@ pub fn clear(alloc: Global, records: &mut Records, history: &mut History, bus: &
     ensures spare { IsSpare history.old history.new 0 0 0 }
 {
     tell_before(alloc, &*records, &*history, bus, Intent::Clear);
+    // These tell that the unbounded face's name is the first, which is the one that stays.
+    records.face_laws();
     records.clear();
     history.clear();
     tell_after(alloc, &*records, &*history, bus, Change::Clear);

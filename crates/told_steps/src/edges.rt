@@ -1,10 +1,11 @@
-ghost use Rattle.std.specs.Prelude.{◌≡◌, ◌≤◌, false, length, [], ◌∷◌};
+ghost use Rattle.std.specs.Prelude.{◌≡◌, ◌≤◌, ◌+◌, false, length, [], ◌∷◌};
 ghost use Rattle.edit_steps.specs.Steps.{MergeEdge, RemoveEdge, SplitEdge};
 ghost use Rattle.slab_laws.specs.View.{pinned_in, point_in, source_in, target_in, twin_in};
 ghost use Rattle.arr_notes.specs.Curves.{IsForward};
 ghost use Rattle.arr_notes.specs.Step.{remove_edge as edge_gone};
 ghost use Rattle.curve_history.specs.Past.{curves_on, IsSpare, LosesCurves, SameHistoryCapacity, SameLayer, SpendsPairs};
-ghost use Rattle.dcel_records.specs.RecordsView.{IsSpare as IsSpareRecords};
+ghost use Rattle.dcel_records.specs.RecordsView.{IsSpare as IsSpareRecords, IsSpareFaces};
+ghost use Rattle.dcel_records.specs.SoundMaps.{IsMapAtRest};
 ghost use Rattle.edge_split_merge.specs.Merges.{CanMerge};
 ghost use Rattle.edge_split_merge.specs.Splits.{CanSplit};
 ghost use Rattle.observer_bus.specs.Rows.{bus_row};
@@ -13,13 +14,13 @@ ghost use Rattle.sound_views.specs.RecordGraphLaws.{IsVertexAt};
 ghost use Rattle.told_steps.specs.StepsMade.{AreMergedAt, IsSplitAt};
 ghost use Rattle.told_steps.specs.ToldRuns.{AreInStep, IsToldRun};
 
+use crate::carried::unlink_at_rest;
 use crate::ends::ends;
 use crate::told::{tell_after, tell_before};
 use arr_notes::{Change, Intent};
 use curve_history::History;
 use dcel_records::Records;
-use edge_split_merge::{merge_at, split_at};
-use edge_unlink::unlink_edge;
+use edge_split_merge::{merge_in_cycles, split_in_cycles};
 use exact_plane::Point;
 use observer_bus::Bus;
 use slab_laws::{DartId, Darts, VertexId};
@@ -36,17 +37,22 @@ pub fn remove_edge(
 )
     requires in_step { AreInStep records.old.graph (curves_on history.old)
         (bus_row Observer-dyn bus.old) }
+    requires map { IsMapAtRest records.old }
     requires forward { IsForward records.old.graph d }
+    requires cycles { 1 ≤ records.old.faces.spare_cycles }
     ensures told { IsToldRun records.old.graph (curves_on history.old)
         (bus_row Observer-dyn bus.old)
         (RemoveEdge (point_in records.old.graph (source_in records.old.graph d)) (point_in records.old.graph (target_in records.old.graph d)) ∷ []) records.new.graph (curves_on history.new)
         (bus_row Observer-dyn bus.new) }
     ensures in_step { AreInStep records.new.graph (curves_on history.new)
         (bus_row Observer-dyn bus.new) }
+    ensures map { IsMapAtRest records.new }
     ensures graph { records.new.graph ≡ edge_gone records.old.graph d (twin_in records.old.graph d) }
     ensures curves { LosesCurves history.old history.new d }
     ensures layer { SameLayer history.old history.new }
     ensures spare { IsSpareRecords records.old records.new 0 2 }
+    ensures spare_cycles { records.old.faces.spare_cycles ≤ records.new.faces.spare_cycles + 1 }
+    ensures spare_faces { records.old.faces.spare_faces ≤ records.new.faces.spare_faces }
     ensures spare_history { IsSpare history.old history.new 0 0 0 }
     ensures capacity { SameHistoryCapacity history.old history.new }
 {
@@ -58,7 +64,7 @@ pub fn remove_edge(
         bus,
         Intent::RemoveEdge(low, high),
     );
-    let m = unlink_edge(records, d);
+    let m = unlink_at_rest(records, d);
     let change = Change::RemoveEdge { d, m };
     history.release_all(d);
     tell_after(alloc, &*records, &*history, bus, change);
@@ -76,6 +82,7 @@ pub fn split_edge(
 ) -> VertexId
     requires in_step { AreInStep records.old.graph (curves_on history.old)
         (bus_row Observer-dyn bus.old) }
+    requires map { IsMapAtRest records.old }
     requires fits { CanSplit records.old.graph d p }
     requires vertices { 1 ≤ records.old.spare_vertices }
     requires darts { 2 ≤ records.old.spare_darts }
@@ -86,10 +93,12 @@ pub fn split_edge(
         (bus_row Observer-dyn bus.new) }
     ensures in_step { AreInStep records.new.graph (curves_on history.new)
         (bus_row Observer-dyn bus.new) }
+    ensures map { IsMapAtRest records.new }
     ensures vertex { IsVertexAt records.new.graph p result }
     ensures graph { IsSplitAt records.old.graph d p result records.new.graph }
     ensures layer { SameLayer history.old history.new }
     ensures spare { IsSpareRecords records.new records.old 1 2 }
+    ensures spare_faces { IsSpareFaces records.old.faces records.new.faces 0 0 }
     ensures spare_history { SpendsPairs history.old history.new (length (curves_on history.old d)) }
 {
     p.laws();
@@ -101,7 +110,7 @@ pub fn split_edge(
         bus,
         Intent::SplitEdge(low, high, p),
     );
-    let new = split_at(records, d, p);
+    let new = split_in_cycles(records, d, p);
     let change = Change::SplitEdge {
         d,
         v: new.v,
@@ -125,6 +134,7 @@ pub fn merge_edge(
 )
     requires in_step { AreInStep records.old.graph (curves_on history.old)
         (bus_row Observer-dyn bus.old) }
+    requires map { IsMapAtRest records.old }
     requires fits { CanMerge records.old.graph v }
     requires unpinned { pinned_in records.old.graph v ≡ false }
     requires alike { (d n : DartId) → FitsMerge records.old.graph v d n → curves_on history.old d ≡ curves_on history.old n }
@@ -134,15 +144,17 @@ pub fn merge_edge(
         (bus_row Observer-dyn bus.new) }
     ensures in_step { AreInStep records.new.graph (curves_on history.new)
         (bus_row Observer-dyn bus.new) }
+    ensures map { IsMapAtRest records.new }
     ensures graph { AreMergedAt records.old.graph (curves_on history.old) v records.new.graph (curves_on history.new) }
     ensures layer { SameLayer history.old history.new }
     ensures spare { IsSpareRecords records.old records.new 1 2 }
+    ensures spare_faces { IsSpareFaces records.old.faces records.new.faces 0 0 }
     ensures spare_history { IsSpare history.old history.new 0 0 0 }
     ensures capacity { SameHistoryCapacity history.old history.new }
 {
     let p = records.point(v);
     tell_before(alloc, &*records, &*history, bus, Intent::MergeEdge(p));
-    let met = merge_at(records, v);
+    let met = merge_in_cycles(records, v);
     let change = Change::MergeEdge {
         v,
         d: met.d,

@@ -6,6 +6,7 @@
 //! A run of told steps stands in `specs/ToldRuns.antt`; what is true of all runs in `specs/ToldLaws.antt`.
 #![tactic(auto)]
 
+mod carried;
 mod clears;
 mod curves;
 mod edges;

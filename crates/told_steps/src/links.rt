@@ -1,4 +1,4 @@
-ghost use Rattle.std.specs.Prelude.{◌≡◌, ◌≤◌, true, [], ◌∷◌};
+ghost use Rattle.std.specs.Prelude.{◌≡◌, ◌≤◌, ◌+◌, true, [], ◌∷◌};
 ghost use Rattle.edit_steps.specs.Steps.{AddEdge};
 ghost use Rattle.plane_graphs.specs.Ascending.{Member};
 ghost use Rattle.plane_graphs.specs.Line.{precedes};
@@ -6,15 +6,16 @@ ghost use Rattle.slab_laws.specs.View.{point_in};
 ghost use Rattle.arr_notes.specs.Step.{add_edge as edge_more};
 ghost use Rattle.curve_history.specs.Past.{curves_on, GainsCurve, SameLayer, SpendsPairs};
 ghost use Rattle.dcel_records.specs.RecordsView.{IsSpare};
+ghost use Rattle.dcel_records.specs.SoundMaps.{IsMapAtRest};
 ghost use Rattle.edge_link.specs.Links.{AreNewDarts, CanLink};
 ghost use Rattle.observer_bus.specs.Rows.{bus_row};
 ghost use Rattle.told_steps.specs.ToldRuns.{AreInStep, IsToldRun};
 
+use crate::carried::link_at_rest;
 use crate::told::{tell_after, tell_before};
 use arr_notes::{Change, Intent};
 use curve_history::History;
 use dcel_records::Records;
-use edge_link::link;
 use exact_plane::Line;
 use observer_bus::Bus;
 use slab_laws::{CurveId, DartId, Darts, VertexId};
@@ -36,10 +37,13 @@ pub fn add_edge(
 ) -> (DartId, DartId)
     requires in_step { AreInStep records.old.graph (curves_on history.old)
         (bus_row Observer-dyn bus.old) }
+    requires map { IsMapAtRest records.old }
     requires fits { CanLink records.old.graph u w at_u at_w line }
     requires forward { precedes (point_in records.old.graph u) (point_in records.old.graph w) ≡ true }
     requires named { Member curve.0 history.old.names }
     requires darts { 2 ≤ records.old.spare_darts }
+    requires cycles { 1 ≤ records.old.faces.spare_cycles }
+    requires faces { 1 ≤ records.old.faces.spare_faces }
     requires pairs { 1 ≤ history.old.spare_pairs }
     ensures told { IsToldRun records.old.graph (curves_on history.old)
         (bus_row Observer-dyn bus.old)
@@ -47,18 +51,21 @@ pub fn add_edge(
         (bus_row Observer-dyn bus.new) }
     ensures in_step { AreInStep records.new.graph (curves_on history.new)
         (bus_row Observer-dyn bus.new) }
+    ensures map { IsMapAtRest records.new }
     ensures new_darts { AreNewDarts records.old.graph result.0 result.1 }
     ensures graph { records.new.graph ≡ edge_more records.old.graph result.0 result.1 u w at_u at_w line }
     ensures curves { GainsCurve history.old history.new result.0 curve.0 }
     ensures layer { SameLayer history.old history.new }
     ensures spare { IsSpare records.new records.old 0 2 }
+    ensures spare_cycles { records.old.faces.spare_cycles ≤ records.new.faces.spare_cycles + 1 }
+    ensures spare_faces { records.old.faces.spare_faces ≤ records.new.faces.spare_faces + 1 }
     ensures spare_history { SpendsPairs history.old history.new 1 }
 {
     line.laws();
     let low = records.point(u);
     let high = records.point(w);
     tell_before(alloc, &*records, &*history, bus, Intent::AddEdge(low, high));
-    let new = link(records, u, w, at_u, at_w, line);
+    let new = link_at_rest(records, u, w, at_u, at_w, line);
     let change = Change::AddEdge {
         d: new.d,
         m: new.m,

@@ -3,7 +3,8 @@ ghost use Rattle.edit_steps.specs.Steps.{SetPin, ClearPin};
 ghost use Rattle.slab_laws.specs.View.{HasVertex, point_in};
 ghost use Rattle.arr_notes.specs.ViewChanges.{with_pin};
 ghost use Rattle.curve_history.specs.Past.{curves_on};
-ghost use Rattle.dcel_records.specs.RecordsView.{IsSpare};
+ghost use Rattle.dcel_records.specs.RecordsView.{IsSpare, IsSpareFaces};
+ghost use Rattle.dcel_records.specs.SoundMaps.{IsMapAtRest};
 ghost use Rattle.observer_bus.specs.Rows.{bus_row};
 ghost use Rattle.told_steps.specs.ToldRuns.{AreInStep, IsToldRun};
 
@@ -19,6 +20,7 @@ use std::alloc::Global;
 pub fn set_pin(alloc: Global, records: &mut Records, history: &History, bus: &mut Bus, v: VertexId)
     requires in_step { AreInStep records.old.graph (curves_on history.now)
         (bus_row Observer-dyn bus.old) }
+    requires map { IsMapAtRest records.old }
     requires vertex { HasVertex records.old.graph v }
     ensures told { IsToldRun records.old.graph (curves_on history.now)
         (bus_row Observer-dyn bus.old)
@@ -26,8 +28,10 @@ pub fn set_pin(alloc: Global, records: &mut Records, history: &History, bus: &mu
         (bus_row Observer-dyn bus.new) }
     ensures in_step { AreInStep records.new.graph (curves_on history.now)
         (bus_row Observer-dyn bus.new) }
+    ensures map { IsMapAtRest records.new }
     ensures graph { records.new.graph ≡ with_pin records.old.graph v true }
     ensures spare { IsSpare records.old records.new 0 0 }
+    ensures spare_faces { IsSpareFaces records.old.faces records.new.faces 0 0 }
 {
     let p = records.point(v);
     tell_before(alloc, &*records, history, bus, Intent::SetPin(p));
@@ -45,6 +49,7 @@ pub fn clear_pin(
 )
     requires in_step { AreInStep records.old.graph (curves_on history.now)
         (bus_row Observer-dyn bus.old) }
+    requires map { IsMapAtRest records.old }
     requires vertex { HasVertex records.old.graph v }
     ensures told { IsToldRun records.old.graph (curves_on history.now)
         (bus_row Observer-dyn bus.old)
@@ -52,8 +57,10 @@ pub fn clear_pin(
         (bus_row Observer-dyn bus.new) }
     ensures in_step { AreInStep records.new.graph (curves_on history.now)
         (bus_row Observer-dyn bus.new) }
+    ensures map { IsMapAtRest records.new }
     ensures graph { records.new.graph ≡ with_pin records.old.graph v false }
     ensures spare { IsSpare records.old records.new 0 0 }
+    ensures spare_faces { IsSpareFaces records.old.faces records.new.faces 0 0 }
 {
     let p = records.point(v);
     tell_before(alloc, &*records, history, bus, Intent::ClearPin(p));

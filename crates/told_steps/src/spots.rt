@@ -1,6 +1,7 @@
 ghost use Rattle.std.specs.Prelude.{◌≤◌};
 ghost use Rattle.curve_history.specs.Past.{curves_on, SameLayer, SpendsPairs};
-ghost use Rattle.dcel_records.specs.RecordsView.{IsSpare};
+ghost use Rattle.dcel_records.specs.RecordsView.{IsSpare, IsSpareFaces};
+ghost use Rattle.dcel_records.specs.SoundMaps.{IsMapAtRest};
 ghost use Rattle.dcel_records.specs.Spots.{IsSpotOf};
 ghost use Rattle.observer_bus.specs.Rows.{bus_row};
 ghost use Rattle.sound_views.specs.RecordGraphLaws.{IsVertexAt};
@@ -12,6 +13,7 @@ use crate::vertices::add_vertex;
 use curve_history::History;
 use dcel_records::{Records, Spot};
 use exact_plane::Point;
+use face_location::face_at;
 use observer_bus::Bus;
 use slab_laws::VertexId;
 use std::alloc::Global;
@@ -28,6 +30,7 @@ pub fn make_vertex(
 ) -> VertexId
     requires in_step { AreInStep records.old.graph (curves_on history.old)
         (bus_row Observer-dyn bus.old) }
+    requires map { IsMapAtRest records.old }
     requires spot { IsSpotOf records.old.graph p at }
     requires plane { IsPlaneWith records.old.graph (curves_on history.old) p at }
     requires vertices { vertices_at at ≤ records.old.spare_vertices }
@@ -39,15 +42,20 @@ pub fn make_vertex(
         (bus_row Observer-dyn bus.new) }
     ensures in_step { AreInStep records.new.graph (curves_on history.new)
         (bus_row Observer-dyn bus.new) }
+    ensures map { IsMapAtRest records.new }
     ensures vertex { IsVertexAt records.new.graph p result }
     ensures made { IsVertexMade records.old.graph (curves_on history.old) p at records.new.graph (curves_on history.new) result }
     ensures layer { SameLayer history.old history.new }
     ensures spare { IsSpare records.new records.old (vertices_at at) (darts_at at) }
+    ensures spare_faces { IsSpareFaces records.old.faces records.new.faces 0 0 }
     ensures spare_history { SpendsPairs history.old history.new (pairs_at (curves_on history.old) at) }
 {
     match at {
         Spot::Vertex(vertex) => vertex,
         Spot::Edge(d) => split_edge(alloc, records, history, bus, d, p),
-        Spot::Face => add_vertex(alloc, records, &*history, bus, p),
+        Spot::Face => {
+            let face = face_at(&*records, &p);
+            add_vertex(alloc, records, &*history, bus, face, p)
+        }
     }
 }
