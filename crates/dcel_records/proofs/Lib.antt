@@ -22,3 +22,4 @@ pub mod ListsRead
 pub mod Rooms
 pub mod Grown
 pub mod FaceLaws
+pub mod Maps

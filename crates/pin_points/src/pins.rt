@@ -90,6 +90,7 @@ pub(crate) fn make_room(
     ensures room { OnOk result (HasRoomFor at records.new history.new) }
     ensures succeeds { HasRoomFor at records.old history.old → IsOk result }
     ensures graph { records.new.graph ≡ records.old.graph }
+    ensures map { IsMapAtRest records.old → IsMapAtRest records.new }
     ensures layer { SameLayer history.old history.new }
     ensures curves { SameCurves history.old history.new }
 {

@@ -91,6 +91,7 @@ fn make_room(records: &mut Records, history: &mut History, plan: &ZonePlan) -> R
     ensures room { OnOk result (HasRoomFor plan.now (curves_on history.old) records.new history.new) }
     ensures succeeds { HasRoomFor plan.now (curves_on history.old) records.old history.old → IsOk result }
     ensures graph { records.new.graph ≡ records.old.graph }
+    ensures map { IsMapAtRest records.old → IsMapAtRest records.new }
     ensures same_layer { SameLayer history.old history.new }
     ensures same_curves { SameCurves history.old history.new }
 {
@@ -114,6 +115,7 @@ fn prepare(
     ensures zone { IfOk result (IsZoneOf records.old.graph segment.now) }
     ensures room { IfOk result (λ z. HasRoomFor z (curves_on history.old) records.new history.new) }
     ensures graph { records.new.graph ≡ records.old.graph }
+    ensures map { IsMapAtRest records.old → IsMapAtRest records.new }
     ensures same_layer { SameLayer history.old history.new }
     ensures same_curves { SameCurves history.old history.new }
 {
