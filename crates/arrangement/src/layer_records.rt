@@ -17,5 +17,7 @@ impl Model for LayerRecords {
 
     ghost view = { λ l. record { graph = l.records.graph; past = l.history } };
 
-    ghost invariant = { λ l. IsLayer l.records.graph l.history };
+    ghost use Rattle.dcel_records.specs.SoundMaps.{IsMapAtRest};
+
+    ghost invariant = { λ l. IsLayer l.records.graph l.history × IsMapAtRest l.records };
 }

@@ -1,5 +1,6 @@
 ghost use Rattle.edit_steps.specs.Edits.{ClearAll};
 ghost use Rattle.dcel_records.specs.RecordsView.{SameRecordCapacity};
+ghost use Rattle.dcel_records.specs.SoundMaps.{IsMapAtRest};
 ghost use Rattle.curve_history.specs.Past.{SameHistoryCapacity};
 ghost use Rattle.told_steps.specs.RecordLayers.{IsLayer};
 ghost use Rattle.observer_bus.specs.Rows.{bus_row};
@@ -15,8 +16,10 @@ use std::alloc::Global;
 /// `clear`).
 pub fn clear(alloc: Global, records: &mut Records, history: &mut History, bus: &mut Bus)
     requires layer { IsLayer records.old.graph history.old }
+    requires map { IsMapAtRest records.old }
     requires watched { AreWatched records.old history.old (bus_row Observer-dyn bus.old) }
     ensures layer { IsLayer records.new.graph history.new }
+    ensures map { IsMapAtRest records.new }
     ensures watched { AreWatched records.new history.new (bus_row Observer-dyn bus.new) }
     ensures edit { IsAfter ClearAll records.old history.old records.new history.new }
     ensures told { IsToldEdit ClearAll records.old history.old (bus_row Observer-dyn bus.old) records.new history.new (bus_row Observer-dyn bus.new) }

@@ -2,6 +2,7 @@ ghost use Rattle.std.specs.Prelude.{◌≡◌, OnOk, OnErr};
 ghost use Rattle.edit_steps.specs.Edits.{Merge};
 ghost use Rattle.edit_steps.specs.Refusals.{merge_refusal, IsAnswerFor};
 ghost use Rattle.dcel_records.specs.RecordsView.{SameRecordCapacity};
+ghost use Rattle.dcel_records.specs.SoundMaps.{IsMapAtRest};
 ghost use Rattle.curve_history.specs.Past.{SameLayer, SameCurves, SameHistoryCapacity};
 ghost use Rattle.told_steps.specs.RecordLayers.{IsLayer};
 ghost use Rattle.pin_points.specs.Merges.{merge_said};
@@ -41,8 +42,10 @@ pub fn merge_edge(
     r: &Point,
 ) -> Result<(), MergeError>
     requires layer { IsLayer records.old.graph history.old }
+    requires map { IsMapAtRest records.old }
     requires watched { AreWatched records.old history.old (bus_row Observer-dyn bus.old) }
     ensures layer { IsLayer records.new.graph history.new }
+    ensures map { IsMapAtRest records.new }
     ensures watched { AreWatched records.new history.new (bus_row Observer-dyn bus.new) }
     ensures edit { OnOk result (IsAfter (Merge r.now) records.old history.old records.new history.new) }
     ensures told { OnOk result (IsToldEdit (Merge r.now) records.old history.old (bus_row Observer-dyn bus.old) records.new history.new (bus_row Observer-dyn bus.new)) }

@@ -4,6 +4,7 @@ ghost use Rattle.edit_steps.specs.Edits.{Pin, Unpin};
 ghost use Rattle.edit_steps.specs.Refusals.{pin_refusal, unpin_refusal, IsAnswerFor};
 ghost use Rattle.dcel_records.specs.RecordsView.{SameRecordCapacity};
 ghost use Rattle.dcel_records.specs.Spots.{IsSpotOf};
+ghost use Rattle.dcel_records.specs.SoundMaps.{IsMapAtRest};
 ghost use Rattle.curve_history.specs.Past.{SameLayer, SameCurves, SameHistoryCapacity};
 ghost use Rattle.told_steps.specs.RecordLayers.{IsLayer};
 ghost use Rattle.pin_points.specs.Pins.{pin_said, unpin_said, is_pinned_spot, pairs_parted, HasRoomFor};
@@ -89,6 +90,7 @@ pub(crate) fn make_room(
     ensures room { OnOk result (HasRoomFor at records.new history.new) }
     ensures succeeds { HasRoomFor at records.old history.old → IsOk result }
     ensures graph { records.new.graph ≡ records.old.graph }
+    ensures map { IsMapAtRest records.old → IsMapAtRest records.new }
     ensures layer { SameLayer history.old history.new }
     ensures curves { SameCurves history.old history.new }
 {
@@ -114,9 +116,11 @@ pub fn pin(
     p: &Point,
 ) -> Result<(), PinError>
     requires layer { IsLayer records.old.graph history.old }
+    requires map { IsMapAtRest records.old }
     requires watched { AreWatched records.old history.old (bus_row Observer-dyn bus.old) }
     requires spot { IsSpotOf records.old.graph p.now at }
     ensures layer { IsLayer records.new.graph history.new }
+    ensures map { IsMapAtRest records.new }
     ensures watched { AreWatched records.new history.new (bus_row Observer-dyn bus.new) }
     ensures edit { OnOk result (IsAfter (Pin p.now) records.old history.old records.new history.new) }
     ensures told { OnOk result (IsToldEdit (Pin p.now) records.old history.old (bus_row Observer-dyn bus.old) records.new history.new (bus_row Observer-dyn bus.new)) }
@@ -151,8 +155,10 @@ pub fn unpin(
     p: &Point,
 ) -> Result<(), NotPinned>
     requires layer { IsLayer records.old.graph history.old }
+    requires map { IsMapAtRest records.old }
     requires watched { AreWatched records.old history.old (bus_row Observer-dyn bus.old) }
     ensures layer { IsLayer records.new.graph history.new }
+    ensures map { IsMapAtRest records.new }
     ensures watched { AreWatched records.new history.new (bus_row Observer-dyn bus.new) }
     ensures edit { OnOk result (IsAfter (Unpin p.now) records.old history.old records.new history.new) }
     ensures told { OnOk result (IsToldEdit (Unpin p.now) records.old history.old (bus_row Observer-dyn bus.old) records.new history.new (bus_row Observer-dyn bus.new)) }

@@ -4,6 +4,7 @@ ghost use Rattle.slab_laws.specs.Sound.{IsGraphSound};
 ghost use Rattle.slab_laws.specs.View.{IsOutOf, target_in};
 ghost use Rattle.curve_history.specs.Past.{curves_on, SameLayer};
 ghost use Rattle.dcel_records.specs.declared.spot.Spot.TheVariants.{Vertex};
+ghost use Rattle.dcel_records.specs.SoundMaps.{IsMapAtRest};
 ghost use Rattle.observer_bus.specs.Rows.{bus_row};
 ghost use Rattle.told_steps.specs.ToldRuns.{AreInStep};
 ghost use Rattle.zone_walk.specs.Zone.{is_on_segment, is_vertex, points_of_meetings};
@@ -60,20 +61,26 @@ fn new_edge(
 )
     requires in_step { AreInStep records.old.graph (curves_on history.old)
         (bus_row Observer-dyn bus.old) }
+    requires map { IsMapAtRest records.old }
     requires part { IsOpenPart records.old.graph line.now u w }
     requires place { IsPlaceTo records.old.graph u w at_u }
     requires no_edge { (d : _) → IsOutOf records.old.graph u d → target_in records.old.graph d ≢ w }
     requires curve_named { Member curve.0 history.old.names }
     requires plane { MayBeAlong records.old.graph history.old u w curve.0 }
     requires darts { 2 ≤ records.old.spare_darts }
+    requires cycles { 1 ≤ records.old.faces.spare_cycles }
+    requires faces { 1 ≤ records.old.faces.spare_faces }
     requires pairs { 1 ≤ history.old.spare_pairs }
     ensures told { ComesAlong records.old.graph history.old (bus_row Observer-dyn bus.old) u w curve.0
         records.new.graph history.new (bus_row Observer-dyn bus.new) }
     ensures in_step { AreInStep records.new.graph (curves_on history.new)
         (bus_row Observer-dyn bus.new) }
+    ensures map { IsMapAtRest records.new }
     ensures vertices { records.new.graph.vertices ≡ records.old.graph.vertices }
     ensures layer { SameLayer history.old history.new }
     ensures spare_darts { records.old.spare_darts ≤ records.new.spare_darts + 2 }
+    ensures spare_cycles { records.old.faces.spare_cycles ≤ records.new.faces.spare_cycles + 1 }
+    ensures spare_faces { records.old.faces.spare_faces ≤ records.new.faces.spare_faces + 1 }
     ensures spare_pairs { history.old.spare_pairs ≤ history.new.spare_pairs + 1 }
 {
     let at_w = place_back(&*records, line, u, w);
@@ -93,18 +100,24 @@ fn make_edge(
 )
     requires in_step { AreInStep records.old.graph (curves_on history.old)
         (bus_row Observer-dyn bus.old) }
+    requires map { IsMapAtRest records.old }
     requires part { IsOpenPart records.old.graph line.now u w }
     requires curve_named { Member curve.0 history.old.names }
     requires plane { MayBeAlong records.old.graph history.old u w curve.0 }
     requires darts { 2 ≤ records.old.spare_darts }
+    requires cycles { 1 ≤ records.old.faces.spare_cycles }
+    requires faces { 1 ≤ records.old.faces.spare_faces }
     requires pairs { 1 ≤ history.old.spare_pairs }
     ensures told { ComesAlong records.old.graph history.old (bus_row Observer-dyn bus.old) u w curve.0
         records.new.graph history.new (bus_row Observer-dyn bus.new) }
     ensures in_step { AreInStep records.new.graph (curves_on history.new)
         (bus_row Observer-dyn bus.new) }
+    ensures map { IsMapAtRest records.new }
     ensures vertices { records.new.graph.vertices ≡ records.old.graph.vertices }
     ensures layer { SameLayer history.old history.new }
     ensures spare_darts { records.old.spare_darts ≤ records.new.spare_darts + 2 }
+    ensures spare_cycles { records.old.faces.spare_cycles ≤ records.new.faces.spare_cycles + 1 }
+    ensures spare_faces { records.old.faces.spare_faces ≤ records.new.faces.spare_faces + 1 }
     ensures spare_pairs { history.old.spare_pairs ≤ history.new.spare_pairs + 1 }
 {
     match place_at(&*records, u, Direction::along(line)) {
@@ -127,17 +140,21 @@ pub(crate) fn make_edges(
 )
     requires in_step { AreInStep records.old.graph (curves_on history.old)
         (bus_row Observer-dyn bus.old) }
+    requires map { IsMapAtRest records.old }
     requires named { AreVertices records.old.graph meetings.now }
     requires on { (m : _) → Contains meetings.now m → is_on_segment segment.now m.point ≡ true }
     requires all_on { AreAllOn records.old.graph segment.now (points_of_meetings meetings.now) }
     requires curve_named { Member curve.0 history.old.names }
     requires plane { MayBeAlongAll records.old.graph history.old curve.0 meetings.now }
     requires darts { 2 * length meetings.now ≤ records.old.spare_darts + 2 }
+    requires cycles { length meetings.now ≤ records.old.faces.spare_cycles + 1 }
+    requires faces { length meetings.now ≤ records.old.faces.spare_faces + 1 }
     requires pairs { length meetings.now ≤ history.old.spare_pairs }
     ensures told { ComesAlongAll records.old.graph history.old (bus_row Observer-dyn bus.old) curve.0 meetings.now
         records.new.graph history.new (bus_row Observer-dyn bus.new) }
     ensures in_step { AreInStep records.new.graph (curves_on history.new)
         (bus_row Observer-dyn bus.new) }
+    ensures map { IsMapAtRest records.new }
     ensures layer { SameLayer history.old history.new }
 {
     let line = line_of(segment);

@@ -4,6 +4,7 @@ ghost use Rattle.edit_steps.specs.Refusals.{IsAnswerFor};
 ghost use Rattle.slab_laws.specs.Sound.{IsGraphSound};
 ghost use Rattle.dcel_records.specs.RecordsView.{RecordsView};
 ghost use Rattle.dcel_records.specs.Spots.{IsSpotOf};
+ghost use Rattle.dcel_records.specs.SoundMaps.{IsMapAtRest};
 ghost use Rattle.curve_history.specs.Past.{curves_on, SameLayer, SameCurves};
 ghost use Rattle.curve_history.specs.declared.history.TheConstants.{LAST_CURVE};
 ghost use Rattle.told_steps.specs.RecordLayers.{IsLayer};
@@ -90,6 +91,7 @@ fn make_room(records: &mut Records, history: &mut History, plan: &ZonePlan) -> R
     ensures room { OnOk result (HasRoomFor plan.now (curves_on history.old) records.new history.new) }
     ensures succeeds { HasRoomFor plan.now (curves_on history.old) records.old history.old → IsOk result }
     ensures graph { records.new.graph ≡ records.old.graph }
+    ensures map { IsMapAtRest records.old → IsMapAtRest records.new }
     ensures same_layer { SameLayer history.old history.new }
     ensures same_curves { SameCurves history.old history.new }
 {
@@ -113,6 +115,7 @@ fn prepare(
     ensures zone { IfOk result (IsZoneOf records.old.graph segment.now) }
     ensures room { IfOk result (λ z. HasRoomFor z (curves_on history.old) records.new history.new) }
     ensures graph { records.new.graph ≡ records.old.graph }
+    ensures map { IsMapAtRest records.old → IsMapAtRest records.new }
     ensures same_layer { SameLayer history.old history.new }
     ensures same_curves { SameCurves history.old history.new }
 {
@@ -133,6 +136,7 @@ fn insert_by_plan(
     requires layer { IsLayer records.old.graph history.old }
     requires in_step { AreInStep records.old.graph (curves_on history.old)
         (bus_row Observer-dyn bus.old) }
+    requires map { IsMapAtRest records.old }
     requires zone { IsZoneOf records.old.graph segment.now plan }
     requires unspent { history.old.next ≤ LAST_CURVE }
     requires few { length history.old.pieces + 1 < 2 ^ 32 }
@@ -146,6 +150,7 @@ fn insert_by_plan(
         (bus_row Observer-dyn bus.new) }
     ensures in_step { AreInStep records.new.graph (curves_on history.new)
         (bus_row Observer-dyn bus.new) }
+    ensures map { IsMapAtRest records.new }
 {
     let lower = segment.lower();
     let upper = segment.upper();
@@ -179,9 +184,11 @@ pub fn insert(
     segment: &Segment,
 ) -> Result<CurveId, InsertError>
     requires layer { IsLayer records.old.graph history.old }
+    requires map { IsMapAtRest records.old }
     requires watched { AreWatched records.old history.old (bus_row Observer-dyn bus.old) }
     requires start { IsSpotOf records.old.graph segment.now.lower start }
     ensures layer { IsLayer records.new.graph history.new }
+    ensures map { IsMapAtRest records.new }
     ensures watched { AreWatched records.new history.new (bus_row Observer-dyn bus.new) }
     ensures number { IfOk result (λ c. c.0 ≡ history.old.next) }
     ensures edit { IfOk result (λ c. IsAfter (Insert c.0 segment.now) records.old history.old records.new history.new) }

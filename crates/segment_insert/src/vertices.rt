@@ -1,6 +1,8 @@
 ghost use Rattle.std.specs.Prelude.{◌≡◌, ◌≤◌, ◌+◌, ◌*◌, [], ◌∷◌};
 ghost use Rattle.plane_graphs.specs.Line.{IsProper};
 ghost use Rattle.slab_laws.specs.Sound.{IsGraphSound};
+ghost use Rattle.dcel_records.specs.RecordsView.{IsSpareFaces};
+ghost use Rattle.dcel_records.specs.SoundMaps.{IsMapAtRest};
 ghost use Rattle.curve_history.specs.Past.{curves_on, SameLayer};
 ghost use Rattle.observer_bus.specs.Rows.{bus_row};
 ghost use Rattle.told_steps.specs.ToldRuns.{AreInStep};
@@ -58,6 +60,7 @@ fn vertex_of(
 ) -> VertexId
     requires in_step { AreInStep records.old.graph (curves_on history.old)
         (bus_row Observer-dyn bus.old) }
+    requires map { IsMapAtRest records.old }
     requires spot { IsSpotStill records.old.graph (curves_on history.old) meeting.point meeting.spot }
     requires plane { MayBeVertices records.old.graph history.old (meeting ∷ []) }
     requires vertices { vertices_needed (meeting ∷ []) ≤ records.old.spare_vertices }
@@ -67,9 +70,11 @@ fn vertex_of(
         records.new.graph history.new (bus_row Observer-dyn bus.new) result }
     ensures in_step { AreInStep records.new.graph (curves_on history.new)
         (bus_row Observer-dyn bus.new) }
+    ensures map { IsMapAtRest records.new }
     ensures layer { SameLayer history.old history.new }
     ensures vertices { records.old.spare_vertices ≤ records.new.spare_vertices + vertices_needed (meeting ∷ []) }
     ensures darts { records.old.spare_darts ≤ records.new.spare_darts + 2 * splits_needed (meeting ∷ []) }
+    ensures spare_faces { IsSpareFaces records.old.faces records.new.faces 0 0 }
     ensures pairs { history.old.spare_pairs ≤ history.new.spare_pairs + pairs_at (curves_on history.old) meeting.spot }
 {
     let at = spot_now(&*records, meeting.point, meeting.spot);
@@ -87,6 +92,7 @@ pub(crate) fn make_vertices(
 )
     requires in_step { AreInStep records.old.graph (curves_on history.old)
         (bus_row Observer-dyn bus.old) }
+    requires map { IsMapAtRest records.old }
     requires meetings { AreMeetings records.old.graph meetings.old.items }
     requires plane { MayBeVertices records.old.graph history.old meetings.old.items }
     requires vertices { vertices_needed meetings.old.items ≤ records.old.spare_vertices }
@@ -96,10 +102,12 @@ pub(crate) fn make_vertices(
         records.new.graph history.new (bus_row Observer-dyn bus.new) }
     ensures in_step { AreInStep records.new.graph (curves_on history.new)
         (bus_row Observer-dyn bus.new) }
+    ensures map { IsMapAtRest records.new }
     ensures named { AreVertices records.new.graph meetings.new.items }
     ensures points { points_of_meetings meetings.new.items ≡ points_of_meetings meetings.old.items }
     ensures layer { SameLayer history.old history.new }
     ensures spare_darts { records.old.spare_darts ≤ records.new.spare_darts + 2 * splits_needed meetings.old.items }
+    ensures spare_faces { IsSpareFaces records.old.faces records.new.faces 0 0 }
     ensures spare_pairs { history.old.spare_pairs ≤ history.new.spare_pairs + new_pairs history.old meetings.old.items }
 {
     for i in 0..meetings.len() {

@@ -32,7 +32,7 @@ drop_said NoMemoryToDrop = None
 abbrev pub cut_refusal_at : ℕ → RecordsView → Past → Point → Point → Option Refusal
 cut_refusal_at pieces r p a b = cut_refusal pieces (layer_at r p) (edge_between a b).low (edge_between a b).high
 
--- there is room for the pieces that are left after a cut between two points (this project)
+-- there is room for the pieces that are left after a cut between two points, and for a cycle that it may leave behind (this project)
 abbrev pub HasRoomToCut : RecordsView → Past → Point → Point → Type 0
 HasRoomToCut r p a b =
-    length (with_cut (layer_at r p).present (edge_between a b).low (edge_between a b).high).pieces ≤ length p.pieces + p.spare_pieces
+    (length (with_cut (layer_at r p).present (edge_between a b).low (edge_between a b).high).pieces ≤ length p.pieces + p.spare_pieces) × (1 ≤ r.faces.spare_cycles)

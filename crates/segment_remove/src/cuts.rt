@@ -1,5 +1,6 @@
 ghost use Rattle.std.specs.Prelude.{◌≡◌, ◌≢◌, ◌≤◌, ◌+◌, length, Err, IsOk, OnOk, OnErr};
 ghost use Rattle.edit_steps.specs.Refusals.{IsAnswerFor};
+ghost use Rattle.dcel_records.specs.SoundMaps.{IsMapAtRest};
 ghost use Rattle.curve_history.specs.Past.{SameLayer, SameCurves};
 ghost use Rattle.told_steps.specs.RecordLayers.{IsLayer};
 ghost use Rattle.segment_remove.specs.Refused.{cut_between, cut_refusal_at, cut_said, HasRoomToCut};
@@ -8,7 +9,7 @@ ghost use Rattle.told_steps.specs.ToldEdits.{AreWatched, IsToldEdit};
 ghost use Rattle.told_steps.specs.LayerEdits.{IsAfter};
 
 use curve_history::History;
-use dcel_records::Records;
+use dcel_records::{Records, Room};
 use exact_plane::Point;
 use locate_naive::edge_dart;
 use no_memory::NoMemory;
@@ -42,13 +43,22 @@ impl From<NoMemory> for CutError {
     }
 }
 
-// Makes room for as many pieces; where it is there, no memory is taken.
-fn make_room(history: &mut History, pieces: u32) -> Result<(), NoMemory>
+// Makes room for as many pieces, and for a cycle that the edge may leave behind; where it is there, no memory is taken.
+fn make_room(records: &mut Records, history: &mut History, pieces: u32) -> Result<(), NoMemory>
     ensures room { OnOk result (pieces ≤ length history.new.pieces + history.new.spare_pieces) }
-    ensures succeeds { pieces ≤ length history.old.pieces + history.old.spare_pieces → IsOk result }
+    ensures cycles { OnOk result (1 ≤ records.new.faces.spare_cycles) }
+    ensures succeeds { pieces ≤ length history.old.pieces + history.old.spare_pieces → 1 ≤ records.old.faces.spare_cycles → IsOk result }
+    ensures graph { records.new.graph ≡ records.old.graph }
+    ensures map { IsMapAtRest records.old → IsMapAtRest records.new }
     ensures layer { SameLayer history.old history.new }
     ensures curves { SameCurves history.old history.new }
 {
+    records.reserve(Room {
+        vertices: 0,
+        edges: 0,
+        cycles: 1,
+        faces: 0,
+    })?;
     let more = pieces.saturating_sub(history.pieces());
     history.reserve(0, more, 0)
 }
@@ -73,8 +83,10 @@ pub fn remove_edge(
     q: &Point,
 ) -> Result<(), CutError>
     requires layer { IsLayer records.old.graph history.old }
+    requires map { IsMapAtRest records.old }
     requires watched { AreWatched records.old history.old (bus_row Observer-dyn bus.old) }
     ensures layer { IsLayer records.new.graph history.new }
+    ensures map { IsMapAtRest records.new }
     ensures watched { AreWatched records.new history.new (bus_row Observer-dyn bus.new) }
     ensures edit { OnOk result (IsAfter (cut_between p.now q.now) records.old history.old records.new history.new) }
     ensures told { OnOk result (IsToldEdit (cut_between p.now q.now) records.old history.old (bus_row Observer-dyn bus.old) records.new history.new (bus_row Observer-dyn bus.new)) }
@@ -96,7 +108,7 @@ pub fn remove_edge(
     if plan.left > u64::from(pieces) {
         return Err(CutError::Full(pieces));
     }
-    make_room(history, plan.left as u32)?;
+    make_room(records, history, plan.left as u32)?;
     bus.begin();
     history.cut_pieces(&low, &high, plan);
     told_steps::remove_edge(alloc, records, history, bus, d);

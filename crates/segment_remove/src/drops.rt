@@ -5,6 +5,7 @@ ghost use Rattle.plane_graphs.specs.Graph.{edge_cmp};
 ghost use Rattle.slab_laws.specs.declared.names.DartId.{DartId as Dart};
 ghost use Rattle.edit_steps.specs.Edits.{Drop};
 ghost use Rattle.edit_steps.specs.Refusals.{drop_refusal, IsAnswerFor};
+ghost use Rattle.dcel_records.specs.SoundMaps.{IsMapAtRest};
 ghost use Rattle.curve_history.specs.Past.{curves_on, SameLayer, SameCurves};
 ghost use Rattle.record_orders.specs.Keys.{dart_key};
 ghost use Rattle.told_steps.specs.RecordLayers.{IsLayer};
@@ -17,7 +18,7 @@ ghost use Rattle.told_steps.specs.LayerEdits.{layer_at, IsAfter};
 use crate::ends::ends_in_order;
 use crate::release::release_curve;
 use curve_history::{History, HistoryError};
-use dcel_records::Records;
+use dcel_records::{Records, Room};
 use no_memory::NoMemory;
 use observer_bus::Bus;
 use record_orders::{DartKey, edges_in_order};
@@ -78,7 +79,7 @@ fn edges_of_curve(
 ///
 /// # Errors
 ///
-/// No curve has the number, whatever memory there is; or there was no memory for the list of its edges.
+/// No curve has the number, whatever memory there is; or there was no memory for the list of its edges, or for the cycles that they leave behind.
 pub fn remove_curve(
     alloc: Global,
     records: &mut Records,
@@ -87,8 +88,10 @@ pub fn remove_curve(
     curve: CurveId,
 ) -> Result<(), DropError>
     requires layer { IsLayer records.old.graph history.old }
+    requires map { IsMapAtRest records.old }
     requires watched { AreWatched records.old history.old (bus_row Observer-dyn bus.old) }
     ensures layer { IsLayer records.new.graph history.new }
+    ensures map { IsMapAtRest records.new }
     ensures watched { AreWatched records.new history.new (bus_row Observer-dyn bus.new) }
     ensures edit { OnOk result (IsAfter (Drop curve.0) records.old history.old records.new history.new) }
     ensures told { OnOk result (IsToldEdit (Drop curve.0) records.old history.old (bus_row Observer-dyn bus.old) records.new history.new (bus_row Observer-dyn bus.new)) }
@@ -100,6 +103,13 @@ pub fn remove_curve(
 {
     let edges = edges_of_curve(alloc, &*records, &*history, curve)?;
     let vertices = ends_in_order(alloc, &*records, &edges)?;
+    // Each edge that goes may break a cycle in two.
+    records.reserve(Room {
+        vertices: 0,
+        edges: 0,
+        cycles: edges.len(),
+        faces: 0,
+    })?;
     bus.begin();
     release_curve(alloc, records, history, bus, &edges, curve);
     history.drop_name(curve);

@@ -2,6 +2,7 @@ ghost use Rattle.std.specs.Prelude.{◌≡◌, ◌↔◌, map};
 ghost use Rattle.std.specs.List.{AllByRecursion};
 ghost use Rattle.plane_graphs.specs.Ascending.{Member, IsAscending};
 ghost use Rattle.plane_graphs.specs.Graph.{edge_cmp};
+ghost use Rattle.dcel_records.specs.SoundMaps.{IsMapAtRest};
 ghost use Rattle.curve_history.specs.Past.{curves_on, SameLayer};
 ghost use Rattle.observer_bus.specs.Rows.{bus_row};
 ghost use Rattle.record_orders.specs.Keys.{dart_key};
@@ -28,13 +29,17 @@ fn release_at(
 )
     requires in_step { AreInStep records.old.graph (curves_on history.old)
         (bus_row Observer-dyn bus.old) }
+    requires map { IsMapAtRest records.old }
     requires runs { Member curve.0 (curves_on history.old d) }
+    requires cycles { 1 ≤ records.old.faces.spare_cycles }
     ensures told { IsLossTold records.old.graph (curves_on history.old)
         (bus_row Observer-dyn bus.old)
         d curve records.new.graph (curves_on history.new)
         (bus_row Observer-dyn bus.new) }
     ensures in_step { AreInStep records.new.graph (curves_on history.new)
         (bus_row Observer-dyn bus.new) }
+    ensures map { IsMapAtRest records.new }
+    ensures spare_cycles { records.old.faces.spare_cycles ≤ records.new.faces.spare_cycles + 1 }
     ensures graph { HasLost records.old.graph (curves_on history.old) d curve records.new.graph }
     ensures curves { HaveLost records.old.graph (curves_on history.old) d curve (curves_on history.new) }
     ensures layer { SameLayer history.old history.new }
@@ -58,15 +63,18 @@ pub fn release_curve(
 )
     requires in_step { AreInStep records.old.graph (curves_on history.old)
         (bus_row Observer-dyn bus.old) }
+    requires map { IsMapAtRest records.old }
     requires keys { AllByRecursion (λ k. k ≡ dart_key records.old.graph k.name) edges.now }
     requires all { (d : DartId) → Member d (map (λ k. k.name) edges.now) ↔ Member curve.0 (curves_on history.old d) }
     requires ascend { IsAscending edge_cmp (map edge_of_key edges.now) }
+    requires cycles { length edges.now ≤ records.old.faces.spare_cycles }
     ensures told { IsCurveGone records.old.graph (curves_on history.old)
         (bus_row Observer-dyn bus.old)
         curve records.new.graph (curves_on history.new)
         (bus_row Observer-dyn bus.new) }
     ensures in_step { AreInStep records.new.graph (curves_on history.new)
         (bus_row Observer-dyn bus.new) }
+    ensures map { IsMapAtRest records.new }
     ensures gone { (d : DartId) → ¬ Member curve.0 (curves_on history.new d) }
     ensures vertices { records.new.graph.vertices ≡ records.old.graph.vertices }
     ensures layer { SameLayer history.old history.new }

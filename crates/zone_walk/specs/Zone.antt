@@ -78,7 +78,7 @@ darts_among (other ∷ spots) = darts_among spots
 abbrev pub dart_of_spot : Spot → List DartId
 dart_of_spot spot = darts_among (spot ∷ [])
 
--- the plan of an insertion: the meeting points in order, each with its spot in the graph, the spots of the open parts between them, the edges that are overlapped, each once, and the room in which all steps fit: they record no cycles and no faces (Fogel, Halperin and Wein: insertion by the zone)
+-- the plan of an insertion: the meeting points in order, each with its spot in the graph, the spots of the open parts between them, the edges that are overlapped, each once, and the room in which all steps fit, where each new edge may part a cycle and a face (Fogel, Halperin and Wein: insertion by the zone)
 pub record IsZoneOf (v : View) (s : Segment) (z : ZonePlan) : Type 0 where
   pub points : map (λ m. m.point) z.vertices ≡ meeting_points v s
   pub spots : (m : Meeting) → Contains z.vertices m → IsSpotOf v m.point m.spot
@@ -88,8 +88,8 @@ pub record IsZoneOf (v : View) (s : Segment) (z : ZonePlan) : Type 0 where
   pub all_overlapped : (d : DartId) → IsOverlapped v s d → Contains z.overlapped d
   pub vertices : z.room.vertices ≡ vertices_needed z.vertices
   pub edges : z.room.edges ≡ edges_needed z.vertices z.between
-  pub cycles : z.room.cycles ≡ 0
-  pub faces : z.room.faces ≡ 0
+  pub cycles : z.room.cycles ≡ length z.between
+  pub faces : z.room.faces ≡ length z.between
   pub vertices_fit : z.room.vertices ≤ 2 * length (meeting_points v s)
   pub edges_fit : z.room.edges ≤ 2 * length (meeting_points v s)
 

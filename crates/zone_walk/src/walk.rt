@@ -66,12 +66,12 @@ fn extend(plan: &mut ZonePlan, part: Spot, next: Meeting) -> Result<(), NoMemory
     Ok(())
 }
 
-// The room in which the steps of the insertion fit. They record no cycles and no faces.
+// The room in which the steps of the insertion fit: each new edge may part a cycle, and a face.
 fn room_for(plan: &ZonePlan) -> Room
     ensures vertices { result.vertices ≡ vertices_needed plan.now.vertices }
     ensures edges { result.edges ≡ edges_needed plan.now.vertices plan.now.between }
-    ensures cycles { result.cycles ≡ 0 }
-    ensures faces { result.faces ≡ 0 }
+    ensures cycles { result.cycles ≡ length plan.now.between }
+    ensures faces { result.faces ≡ length plan.now.between }
 {
     let vertices = plan.vertices.as_slice();
     let new_vertices = vertices
@@ -85,8 +85,8 @@ fn room_for(plan: &ZonePlan) -> Room
     Room {
         vertices: new_vertices,
         edges: splits + plan.between.as_slice().len(),
-        cycles: 0,
-        faces: 0,
+        cycles: plan.between.as_slice().len(),
+        faces: plan.between.as_slice().len(),
     }
 }
 
