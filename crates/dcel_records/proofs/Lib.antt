@@ -22,4 +22,5 @@ pub mod ListsRead
 pub mod Rooms
 pub mod Grown
 pub mod FaceLaws
+pub mod Spared
 pub mod Maps
