@@ -99,12 +99,22 @@ module _ {v : View} {past : Past} {g : Segment} {plan : ZonePlan} {c : ℕ} (pla
     spots = planned.zone.spots;
   }
 
+  one_more : length ms ≡ length plan.between + 1
+  one_more = sym (length-map ms (λ (m : Meeting). m.point)) ∙ ap length planned.zone.points ∙ parts_fewer v g (meeting_points v g) plan.between planned.zone.between
+
   -- there are two darts for each open part
   pub room_left : (ns : List Meeting) (before left : ℕ) → points_of_meetings ns ≡ points_of_meetings ms → 2 * plan.room.edges ≤ before → before ≤ left + 2 * splits_needed ms → 2 * length ns ≤ left + 2
   room_left ns before left e fits uses =
       let a = same_length ms ns e in
-      let b : length ms ≡ length plan.between + 1 = sym (length-map ms (λ (m : Meeting). m.point)) ∙ ap length planned.zone.points ∙ parts_fewer v g (meeting_points v g) plan.between planned.zone.between in
+      let b = one_more in
       let d = planned.zone.edges in
+      omega arith
+
+  -- there is a cycle for each open part, and a face
+  pub one_for_each : (ns : List Meeting) (room before left : ℕ) → points_of_meetings ns ≡ points_of_meetings ms → room ≡ length plan.between → room ≤ before → left ≡ before + 0 → length ns ≤ left + 1
+  one_for_each ns room before left e many fits same =
+      let a = same_length ms ns e in
+      let b = one_more in
       omega arith
 
   pub pairs_left : (ns : List Meeting) (before left parted : ℕ) → points_of_meetings ns ≡ points_of_meetings ms → length ms + parted ≤ before → before ≤ left + parted → length ns ≤ left

@@ -307,7 +307,7 @@ module _ (v : View) (s : IsGraphSound v) (g : Segment) (c : IsCourse g) where
   few_between (p ∷ q ∷ ps) [] h = absurd h
   few_between (p ∷ q ∷ ps) (x ∷ spots) h = let k = few_between (q ∷ ps) spots h.1 in omega arith
 
-  module _ (z : ZonePlan) (p : Point) (at : Spot) (w : IsWalked v g z.vertices z.between z.overlapped p at) (past : precedes p g.upper ≡ false) (vertices : z.room.vertices ≡ vertices_needed z.vertices) (edges : z.room.edges ≡ edges_needed z.vertices z.between) (cycles : z.room.cycles ≡ 0) (faces : z.room.faces ≡ 0) where
+  module _ (z : ZonePlan) (p : Point) (at : Spot) (w : IsWalked v g z.vertices z.between z.overlapped p at) (past : precedes p g.upper ≡ false) (vertices : z.room.vertices ≡ vertices_needed z.vertices) (edges : z.room.edges ≡ edges_needed z.vertices z.between) (cycles : z.room.cycles ≡ length z.between) (faces : z.room.faces ≡ length z.between) where
     at_upper : p ≡ g.upper
     at_upper = le_both (on_segment p w.meets).upto (at_most g.upper p past)
 

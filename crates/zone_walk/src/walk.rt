@@ -1,4 +1,4 @@
-ghost use Rattle.std.specs.Prelude.{◌≡◌, ◌++◌, ◌∷◌, [], IfOk, OnOk};
+ghost use Rattle.std.specs.Prelude.{◌≡◌, ◌++◌, ◌∷◌, [], length, IfOk, OnOk};
 ghost use Rattle.exact_plane.specs.Line.{IsOn};
 ghost use Rattle.plane_graphs.specs.Line.{IsProper, IsProperLine};
 ghost use Rattle.slab_laws.specs.Sound.{IsGraphSound};

@@ -21,9 +21,12 @@ vertex_of-w-requires g c =
 pub loop-i-init : goal.loop-i-init
 loop-i-init g c = record {
   going = begins c.args.records.now.graph (curves_on c.args.history.now) c.args.curve.0 c.args.meetings.now c.requires.in_step c.requires.plane;
+  map = c.requires.map;
   layer = record { names = refl; pieces = refl; next = refl };
   named = c.requires.curve_named;
   darts = omega arith;
+  cycles = omega arith;
+  faces = omega arith;
   pairs = omega arith;
 }
 
@@ -66,9 +69,12 @@ loop-i-preserved g c =
     let more : suc k ≡ c.loop-i.i + 1 - 1 = omega arith in
     record {
       going = goes_on v (curves_on c.args.history.now) c.args.curve.0 c.args.meetings.now k c.loop-i.records.graph (curves_on c.loop-i.history) i.going u w chain c.make_edge.new.records.graph (curves_on c.make_edge.new.history) _ more e.told e.in_step e.vertices;
+      map = e.map;
       layer = record { names = e.layer.names ∙ i.layer.names; pieces = e.layer.pieces ∙ i.layer.pieces; next = e.layer.next ∙ i.layer.next };
       named = subst (Member c.args.curve.0) (sym e.layer.names) i.named;
       darts = omega arith;
+      cycles = omega arith;
+      faces = omega arith;
       pairs = omega arith;
     }
 
@@ -78,3 +84,9 @@ returns-clause-told g c =
 
 pub returns-clause-in_step : goal.returns-clause-in_step
 returns-clause-in_step g c = c.loop-i.invariant.going.in_step
+
+pub make_edge-requires-clause-map : goal.make_edge-requires-clause-map
+make_edge-requires-clause-map g c = c.loop-i.invariant.map
+
+pub returns-clause-map : goal.returns-clause-map
+returns-clause-map g c = c.loop-i.invariant.map

@@ -1,5 +1,6 @@
 use Rattle.std.proofs.Common.{◌+◌, ◌-◌, ◌*◌, ◌≤◌, length}
 use Rattle.plane_graphs.specs.Ascending.{Member}
+use Rattle.dcel_records.specs.SoundMaps.{IsMapAtRest}
 use Rattle.curve_history.specs.Past.{curves_on, SameLayer}
 use Rattle.observer_bus.specs.Rows.{bus_row}
 use Rattle.segment_insert.proofs.Going.{IsGoing}
@@ -10,8 +11,11 @@ invariant-loop-i g l = record {
   going : IsGoing l.initial.records.graph (curves_on l.initial.history)
       (bus_row (goal.Observer-dyn g) l.initial.bus) l.curve.0 l.meetings (l.i - 1) l.records.graph (curves_on l.history)
       (bus_row (goal.Observer-dyn g) l.bus);
+  map : IsMapAtRest l.records;
   layer : SameLayer l.initial.history l.history;
   named : Member l.curve.0 l.history.names;
   darts : 2 * length l.meetings ≤ l.records.spare_darts + 2 * l.i;
+  cycles : length l.meetings ≤ l.records.faces.spare_cycles + l.i;
+  faces : length l.meetings ≤ l.records.faces.spare_faces + l.i;
   pairs : length l.meetings ≤ l.history.spare_pairs + l.i;
 }

@@ -8,7 +8,7 @@ use Rattle.told_steps.proofs.Moved.{one_curves}
 use Rattle.edit_steps.specs.Allowed.{AreSound}
 use Rattle.arr_notes.specs.RecordGraph.{drawn_graph}
 use Rattle.zone_walk.specs.Zone.{splits_needed, points_of_meetings}
-use Rattle.segment_insert.proofs.Planned.{IsPlanned, told_of_plan, IsHalfMade, meetings, room_left, pairs_left, sound_first, all_on, each_on, plane_then, all_told, layer_made, one_piece, one_name}
+use Rattle.segment_insert.proofs.Planned.{IsPlanned, told_of_plan, IsHalfMade, meetings, room_left, one_for_each, pairs_left, sound_first, all_on, each_on, plane_then, all_told, layer_made, one_piece, one_name}
 use Rattle.segment_insert.proofs.insertion.insert_by_plan.Goals as goal
 use Rattle.segment_insert.specs.Coming.{steps_at}
 
@@ -73,6 +73,18 @@ make_edges-requires-clause-darts g c =
     let kept = ap points_of_meetings c.deref.ensures.value ∙ c.make_vertices.ensures.points ∙ ap points_of_meetings are in
     let s : splits_needed c.into_vec-meetings.result.items ≡ splits_needed c.args.plan.vertices = ap splits_needed are in
     room_left planned c.deref.result.now c.args.records.now.spare_darts c.make_vertices.new.records.spare_darts kept c.requires.room.darts (omega arith)
+
+pub make_edges-requires-clause-cycles : goal.make_edges-requires-clause-cycles
+make_edges-requires-clause-cycles g c =
+    let planned : IsPlanned c.args.records.now.graph c.args.history.now c.args.segment.now c.args.plan c.draw-curve.result.0 = record { layer = c.requires.layer; ends = c.lower-lower.ensures.ends; zone = c.requires.zone; number = c.draw-curve.ensures.number } in
+    let kept = ap points_of_meetings c.deref.ensures.value ∙ c.make_vertices.ensures.points ∙ ap points_of_meetings c.into_vec-meetings.ensures in
+    one_for_each planned c.deref.result.now c.args.plan.room.cycles c.args.records.now.faces.spare_cycles c.make_vertices.new.records.faces.spare_cycles kept c.requires.zone.cycles c.requires.room.cycles c.make_vertices.ensures.spare_faces.of_cycles
+
+pub make_edges-requires-clause-faces : goal.make_edges-requires-clause-faces
+make_edges-requires-clause-faces g c =
+    let planned : IsPlanned c.args.records.now.graph c.args.history.now c.args.segment.now c.args.plan c.draw-curve.result.0 = record { layer = c.requires.layer; ends = c.lower-lower.ensures.ends; zone = c.requires.zone; number = c.draw-curve.ensures.number } in
+    let kept = ap points_of_meetings c.deref.ensures.value ∙ c.make_vertices.ensures.points ∙ ap points_of_meetings c.into_vec-meetings.ensures in
+    one_for_each planned c.deref.result.now c.args.plan.room.faces c.args.records.now.faces.spare_faces c.make_vertices.new.records.faces.spare_faces kept c.requires.zone.faces c.requires.room.faces c.make_vertices.ensures.spare_faces.of_faces
 
 pub make_edges-requires-clause-pairs : goal.make_edges-requires-clause-pairs
 make_edges-requires-clause-pairs g c =

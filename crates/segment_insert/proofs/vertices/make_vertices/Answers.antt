@@ -2,6 +2,7 @@ use Rattle.std.proofs.Common.{arith, ◌≡◌, ◌<◌, ◌≤◌, ◌+◌, ◌
 use Rattle.std.proofs.lemmas.List.{get_or_default}
 use Rattle.slab_laws.specs.View.{View}
 use Rattle.arr_notes.specs.Curves.{Curves}
+use Rattle.dcel_records.proofs.Spared.{none_spent, spare_then}
 use Rattle.curve_history.specs.Past.{curves_on}
 use Rattle.zone_walk.specs.Zone.{vertices_needed, splits_needed}
 use Rattle.zone_walk.specs.declared.plan.Meeting.{Meeting}
@@ -21,9 +22,11 @@ loop-i-init g c =
     let ms : List Meeting = c.args.meetings.now.items in
     record {
       midway = at_start v h ms c.requires.in_step c.requires.meetings c.requires.plane;
+      map = c.requires.map;
       layer = record { names = refl; pieces = refl; next = refl };
       vertices = omega arith;
       darts = omega arith;
+      faces = none_spent c.args.records.now.faces;
       pairs = omega arith;
     }
 
@@ -57,11 +60,13 @@ loop-i-preserved g c =
     record {
       midway = onwards v h ms c.loop-i.records.graph (curves_on c.loop-i.history) ns i c.loop-i.invariant.midway m l c.index.ensures c.vertex_of-vertex.new.records.graph (curves_on c.vertex_of-vertex.new.history) c.vertex_of-vertex.result k.told
           (told_at c.index_mut.result.now c.vertex_of-vertex.result) (ap (λ (o : Meeting). told_at o c.vertex_of-vertex.result) same) k.in_step;
+      map = k.map;
       layer = record { names = k.layer.names ∙ old.layer.names; pieces = k.layer.pieces ∙ old.layer.pieces; next = k.layer.next ∙ old.layer.next };
       vertices = room_left c.args.records.now.spare_vertices c.loop-i.records.spare_vertices c.vertex_of-vertex.new.records.spare_vertices (vertices_needed ms) (vertices_needed (m ∷ [])) (vertices_needed (drop (i + 1) ms)) (vertices_needed (drop i ms))
           (ap vertices_needed first ∙ vertices_first m (drop (i + 1) ms)) old.vertices k.vertices;
       darts = room_left c.args.records.now.spare_darts c.loop-i.records.spare_darts c.vertex_of-vertex.new.records.spare_darts (2 * splits_needed ms) (2 * splits_needed (m ∷ [])) (2 * splits_needed (drop (i + 1) ms)) (2 * splits_needed (drop i ms))
           (ap (λ (xs : List Meeting). 2 * splits_needed xs) first ∙ darts_first m (drop (i + 1) ms)) old.darts k.darts;
+      faces = spare_then old.faces k.spare_faces;
       pairs = room_left c.args.history.now.spare_pairs c.loop-i.history.spare_pairs c.vertex_of-vertex.new.history.spare_pairs (pairs_to_part h ms) (pairs_at (curves_on c.loop-i.history) m.spot) (pairs_to_part (curves_on c.vertex_of-vertex.new.history) (drop (i + 1) ms)) (pairs_to_part (curves_on c.loop-i.history) (drop i ms))
           (ap (pairs_to_part (curves_on c.loop-i.history)) first ∙ ap (λ (n : ℕ). pairs_at (curves_on c.loop-i.history) m.spot + n) (sym (same_pairs_left v h ms c.loop-i.records.graph (curves_on c.loop-i.history) ns i c.loop-i.invariant.midway m l c.index.ensures c.vertex_of-vertex.new.records.graph (curves_on c.vertex_of-vertex.new.history) c.vertex_of-vertex.result k.told)))
           old.pairs k.pairs;
@@ -79,3 +84,12 @@ returns-clause-named g c =
 
 pub returns-clause-in_step : goal.returns-clause-in_step
 returns-clause-in_step g c = c.loop-i.invariant.midway.in_step
+
+pub vertex_of-vertex-requires-clause-map : goal.vertex_of-vertex-requires-clause-map
+vertex_of-vertex-requires-clause-map g c = c.loop-i.invariant.map
+
+pub returns-clause-map : goal.returns-clause-map
+returns-clause-map g c = c.loop-i.invariant.map
+
+pub returns-clause-spare_faces : goal.returns-clause-spare_faces
+returns-clause-spare_faces g c = c.loop-i.invariant.faces
