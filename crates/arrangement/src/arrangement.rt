@@ -1,4 +1,4 @@
-ghost use Rattle.std.specs.Prelude.{◌≡◌, ◌≤◌, [], IfOk, IsOk, OnOk, OnErr};
+ghost use Rattle.std.specs.Prelude.{◌≡◌, ◌≤◌, [], IfOk, OnOk, OnErr};
 ghost use Rattle.plane_graphs.specs.Graph.{graph};
 ghost use Rattle.edit_steps.specs.Edits.{Insert, Drop, Pin, Unpin, Merge, ClearAll};
 ghost use Rattle.edit_steps.specs.Layer.{empty_layer};
@@ -47,30 +47,28 @@ pub struct Arrangement {
     pub(crate) bus: Bus,
 }
 
-// Records of nothing, and a history whose first curve gets the number `first`. Neither takes memory, which is a clause of each, so no
-// way leads out of what asks for them while it owns a bus.
-fn empty_records(alloc: Global, first: u32) -> LayerRecords
+// Records of nothing but the unbounded face, and a history whose first curve gets the number `first`. The history takes no memory, which
+// is a clause of it, so no way leads out while the records stand.
+fn empty_records(alloc: Global, first: u32) -> Result<LayerRecords, NoMemory>
     requires { 1 ≤ first }
-    ensures { layer_of result.graph result.past ≡ empty_layer first }
+    ensures { IfOk result (λ l. layer_of l.graph l.past ≡ empty_layer first) }
 {
-    let records = Records::new(alloc).unwrap();
+    let records = Records::new(alloc)?;
     let history = History::new(alloc, first).unwrap();
-    LayerRecords { records, history }
+    Ok(LayerRecords { records, history })
 }
 
 impl Arrangement {
-    /// A layer of nothing, whose first curve gets the number `limits.first`, over a bus that has no observers yet. It takes no memory, and
-    /// succeeds.
+    /// A layer of nothing, whose first curve gets the number `limits.first`, over a bus that has no observers yet.
     ///
     /// At most 2,000 curves, 10,000 pieces and 10,000 pins can be asked for.
     ///
     /// # Errors
     ///
-    /// None comes; a caller passes this on like other wants of memory.
+    /// There was no memory for the record of the unbounded face.
     pub fn new(alloc: Global, limits: Limits, bus: Bus) -> Result<Arrangement, NoMemory>
         requires limits { AreLimits limits }
         requires alone { (bus_row Observer-dyn bus).seats ≡ [] }
-        ensures succeeds { IsOk result }
         ensures curves { MAX_CURVES ≡ 2000 }
         ensures pieces { MAX_PIECES ≡ 10000 }
         ensures pins { MAX_PINS ≡ 10000 }
@@ -78,10 +76,11 @@ impl Arrangement {
         ensures limits { IfOk result (λ a. (arranged Observer-dyn a).limits ≡ limits) }
         ensures bus { IfOk result (λ a. (arranged Observer-dyn a).bus ≡ bus_row Observer-dyn bus) }
     {
+        let layer = empty_records(alloc, limits.first)?;
         Ok(Arrangement {
             alloc,
             limits,
-            layer: empty_records(alloc, limits.first),
+            layer,
             bus,
         })
     }

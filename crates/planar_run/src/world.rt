@@ -1,6 +1,5 @@
 ghost use Rattle.std.specs.Prelude.{◌≡◌, ◌∷◌, [], true, length, map, IfOk, IfErr, OnOk, OnErr};
 ghost use Rattle.plane_graphs.specs.Graph.{curves};
-ghost use Rattle.observer_bus.specs.Rows.{bus_row};
 ghost use Rattle.arrangement.specs.Arranged.{arranged};
 ghost use Rattle.arrangement.specs.Answers.{insert_said, drop_said, cut_said, pin_said, unpin_said, split_said, merge_said, edge_of, cut_between, split_at};
 ghost use Rattle.edit_steps.specs.Edits.{Insert, Drop, Pin, Unpin, Merge, ClearAll};
@@ -40,20 +39,13 @@ pub struct World {
     strategy: Strategy,
 }
 
-// A bus with room for all its seats, and nobody in them.
-fn empty_bus(alloc: Global) -> Result<Bus, NoMemory>
-    ensures { IfOk result (λ b. (bus_row Observer-dyn b).seats ≡ []) }
+// An arrangement of nothing, under the limits of a script, over a bus with room for all its seats and nobody in them.
+fn empty_arrangement(alloc: Global) -> Result<Arrangement, NoMemory>
+    ensures first { IfOk result (λ a. half_in (arranged Observer-dyn a) ≡ first_half) }
+    ensures kept { IfOk result (λ a. IsKept (arranged Observer-dyn a)) }
 {
-    Bus::new(alloc, Vec::with_capacity(alloc, SEATS)?)
-}
-
-// An arrangement of nothing, under the limits of a script. It takes no memory.
-fn empty_arrangement(alloc: Global, bus: Bus) -> Arrangement
-    requires { (bus_row Observer-dyn bus).seats ≡ [] }
-    ensures first { half_in (arranged Observer-dyn result) ≡ first_half }
-    ensures kept { IsKept (arranged Observer-dyn result) }
-{
-    Arrangement::new(alloc, Limits::FULL, bus).unwrap()
+    let bus = Bus::new(alloc, Vec::with_capacity(alloc, SEATS)?)?;
+    Arrangement::new(alloc, Limits::FULL, bus)
 }
 
 impl World {
@@ -67,11 +59,11 @@ impl World {
         ensures kept { IfOk result (λ w. IsKeptWorld Observer-dyn w) }
     {
         let observers = all_waiting(alloc, observers)?;
-        let red = empty_bus(alloc)?;
-        let blue = empty_bus(alloc)?;
+        let red = empty_arrangement(alloc)?;
+        let blue = empty_arrangement(alloc)?;
         Ok(World {
-            arrangement: empty_arrangement(alloc, red),
-            other: empty_arrangement(alloc, blue),
+            arrangement: red,
+            other: blue,
             is_blue: false,
             observers,
             alloc,

@@ -5,13 +5,12 @@ use Rattle.arrangement.proofs.arrangement.empty_records.Goals as goal
 
 pub invariant_of-result : goal.invariant_of-result
 invariant_of-result c =
-    let records = c.unwrap-records.ensures in
     let history = c.unwrap-history.ensures in
     let e = c.new-2.ensures in
-    first_layer c.unwrap-records.result.graph c.unwrap-history.result (IfOk-at_ok _ records c.new.ensures.empty) (IfOk-at_ok _ history e.nothing) (IfOk-at_ok _ history e.names) (IfOk-at_ok _ history e.pieces) (subst (λ n. 1 ≤ n) (sym (IfOk-at_ok _ history e.next)) c.requires)
+    first_layer c.in_ok-records.records.graph c.unwrap-history.result c.in_ok-records.ensures.empty (IfOk-at_ok _ history e.nothing) (IfOk-at_ok _ history e.names) (IfOk-at_ok _ history e.pieces) (subst (λ n. 1 ≤ n) (sym (IfOk-at_ok _ history e.next)) c.requires)
 
 pub returns : goal.returns
 returns c =
     let history = c.unwrap-history.ensures in
     let e = c.new-2.ensures in
-    first_is_empty c.unwrap-records.result.graph c.unwrap-history.result c.args.first (IfOk-at_ok _ c.unwrap-records.ensures c.new.ensures.empty) (IfOk-at_ok _ history e.names) (IfOk-at_ok _ history e.pieces) (IfOk-at_ok _ history e.next)
+    first_is_empty c.in_ok-records.records.graph c.unwrap-history.result c.args.first c.in_ok-records.ensures.empty (IfOk-at_ok _ history e.names) (IfOk-at_ok _ history e.pieces) (IfOk-at_ok _ history e.next)
