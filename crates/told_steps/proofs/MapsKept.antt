@@ -14,7 +14,7 @@ use Rattle.arr_notes.specs.FaceSteps.{FaceChange, as_it_was, cleared, comes_bare
 use Rattle.arr_notes.specs.FaceWriters.{bare_in, not_bare}
 use Rattle.arr_notes.specs.ViewChanges.{no_rows, with_pin, with_vertex, without_vertex}
 use Rattle.dcel_records.specs.ListChanges.{lone_face, nothing_listed, vertex_listed, vertex_unlisted}
-use Rattle.dcel_records.specs.RecordsView.{FacesView, RecordsView, lists_in_view, lists_of, tables_of}
+use Rattle.dcel_records.specs.RecordsView.{FacesView, RecordsView, IsReturned, lists_in_view, lists_of, tables_of}
 use Rattle.dcel_records.specs.SoundMaps.{IsMapAtRest}
 use Rattle.rotation_order.specs.VertexRings.{IsBare}
 use Rattle.sound_changes.specs.ChangeFits.{IsNewVertex}
@@ -25,6 +25,8 @@ use Rattle.face_steps.specs.VertexSteps.{IsFaceRound}
 use Rattle.face_steps.proofs.Choices.{tables_are_sound}
 use Rattle.face_steps.proofs.MergesApart.{records_apart}
 use Rattle.face_steps.proofs.StepLaws.{steps_keep_tables}
+use Rattle.face_steps.proofs.StepVertices.{all_cleared as faces_cleared}
+use Rattle.sound_changes.proofs.VertexAdded.{no_rows_sound}
 
 -- darts that stay, on cycles that stay
 darts_kept : (v w : View) (f s : Faces) (l m : Lists) → AreDartsOn v f l → ((d : DartId) → HasDart v d → HasDart w d) → m.dart_on ≡ l.dart_on → s.cycle_of ≡ f.cycle_of → s.cycles ≡ f.cycles → AreDartsOn w s m
@@ -83,6 +85,19 @@ module _ (old new : RecordsView) (rest : IsMapAtRest old) (sound : IsGraphSound 
       let least : (first_or f.faces).0 ≤ 0 = first_least f.faces 0 ascend unbounded in
       let first : face_id 0 ≡ first_or f.faces = sym (ap face_id (omega (arith, least))) in
       at_rest no_rows (cleared (face_id 0)) nothing_listed graph tables lists (refl, first) (λ c o. absurd (no_row _ c.0 o))
+
+-- ---- the records at first: nothing but the unbounded face
+pub first_map : (h : RecordsView) → h.graph ≡ no_rows → tables_of h ≡ lone_face → IsReturned h → IsMapAtRest h
+first_map h graph tables back =
+    let sound : IsSound no_rows lone_face = (tables_are_sound no_rows lone_face no_rows_sound).0 (faces_cleared lone_face (face_id 0)) in
+    let none : AreDartsOn no_rows lone_face (lists_of h) = λ c o. absurd (no_row _ c.0 o) in
+    record {
+      map = record {
+        sound = subst (λ g. IsSound g (tables_of h)) (sym graph) (subst (IsSound no_rows) (sym tables) sound);
+        darts = subst (λ g. AreDartsOn g (tables_of h) (lists_of h)) (sym graph) (subst (λ t. AreDartsOn no_rows t (lists_of h)) (sym tables) none);
+      };
+      returned = back;
+    }
 
 -- ---- what the records ask where a vertex comes
 pub face_is_there : (h : RecordsView) (a : FaceId) (p : Point) → IsMapAtRest h → IsFaceRound h.graph h.faces.tables a p → HasFace h.faces.tables a

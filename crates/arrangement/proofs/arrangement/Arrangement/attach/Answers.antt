@@ -4,17 +4,17 @@ use Rattle.arrangement.proofs.Watched.{attached_seen, attached_watched}
 use Rattle.arrangement.proofs.arrangement.Arrangement.attach.Goals as goal
 
 pub new-drawn-requires : goal.new-drawn-requires
-new-drawn-requires g c = told_records _ _ c.self.invariant.sound c.self.invariant.curves
+new-drawn-requires g c = told_records _ _ c.self.invariant.0.sound c.self.invariant.0.curves
 
 pub attach-requires : goal.attach-requires
 attach-requires g c = record {
   when = c.requires.when;
-  sound = drawn_sound _ _ c.self.invariant.sound c.self.invariant.curves _ _ c.new-drawn.ensures.records c.new-drawn.ensures.history;
+  sound = drawn_sound _ _ c.self.invariant.0.sound c.self.invariant.0.curves _ _ c.new-drawn.ensures.records c.new-drawn.ensures.history;
 }
 
 pub returns : goal.returns
 returns g c =
-    let same = drawn_seen _ _ c.self.invariant.sound c.self.invariant.curves _ _ c.new-drawn.ensures.records c.new-drawn.ensures.history in
+    let same = drawn_seen _ _ c.self.invariant.0.sound c.self.invariant.0.curves _ _ c.new-drawn.ensures.records c.new-drawn.ensures.history in
     let attached = attached_seen c.attach.result _ _ _ _ _ same c.attach.ensures.attached in
     rw (← c.self.view_is) (record {
       refused = c.attach.ensures.refused;

@@ -5,13 +5,14 @@ use Rattle.arrangement.proofs.arrangement.Arrangement.clear.Goals as goal
 
 pub clear-requires : goal.clear-requires
 clear-requires g c = record {
-  layer = c.self.invariant;
+  layer = c.self.invariant.0;
+  map = c.self.invariant.1;
   watched = rw (← c.self.view_is) at c.requires.watched;
 }
 
 pub returns : goal.returns
 returns g c = rw (← c.self.view_is) (record {
-  edit = edited_so _ _ ClearAll c.self.invariant c.clear.ensures.edit c.clear.ensures.told;
+  edit = edited_so _ _ ClearAll c.self.invariant.0 c.clear.ensures.edit c.clear.ensures.told;
   limits = refl;
   watched = c.clear.ensures.watched;
 })

@@ -14,21 +14,21 @@ other_error (Err x) h e = cc
 pub returns-in_default-clause-no_edge : goal.returns-in_default-clause-no_edge
 returns-in_default-clause-no_edge g c =
     let e = edge_between c.args.p.now c.args.q.now in
-    rw (← c.self.view_is) (λ _ m. let d = drawn_along _ _ c.self.invariant e m in c.in_default.ensures d.0 d.1, λ _. refl)
+    rw (← c.self.view_is) (λ _ m. let d = drawn_along _ _ c.self.invariant.0 e m in c.in_default.ensures d.0 d.1, λ _. refl)
 
 pub returns-in_err-curves_of-clause-no_edge : goal.returns-in_err-curves_of-clause-no_edge
 returns-in_err-curves_of-clause-no_edge g c =
     let e = edge_between c.args.p.now c.args.q.now in
-    let there = along_drawn _ _ c.self.invariant e c.in-Some.edge c.in-Some.ensures in
+    let there = along_drawn _ _ c.self.invariant.0 e c.in-Some.edge c.in-Some.ensures in
     rw (← c.self.view_is) (λ x. absurd (other_error c.from_residual.result c.from_residual.ensures.1 x), λ none. absurd (none there))
 
 pub returns-clause-curves : goal.returns-clause-curves
 returns-clause-curves g c =
     let e = edge_between c.args.p.now c.args.q.now in
-    rw (← c.self.view_is) (c.in_ok-curves_of.ensures ∙ curves_along _ _ c.self.invariant e c.in-Some.edge c.in-Some.ensures)
+    rw (← c.self.view_is) (c.in_ok-curves_of.ensures ∙ curves_along _ _ c.self.invariant.0 e c.in-Some.edge c.in-Some.ensures)
 
 pub returns-clause-no_edge : goal.returns-clause-no_edge
 returns-clause-no_edge g c =
     let e = edge_between c.args.p.now c.args.q.now in
-    let there = along_drawn _ _ c.self.invariant e c.in-Some.edge c.in-Some.ensures in
+    let there = along_drawn _ _ c.self.invariant.0 e c.in-Some.edge c.in-Some.ensures in
     rw (← c.self.view_is) (λ x. absurd cc, λ none. absurd (none there))

@@ -5,7 +5,8 @@ use Rattle.arrangement.proofs.arrangement.Arrangement.insert.Goals as goal
 
 pub insert-requires : goal.insert-requires
 insert-requires g c = record {
-  layer = c.self.invariant;
+  layer = c.self.invariant.0;
+  map = c.self.invariant.1;
   watched = rw (← c.self.view_is) at c.requires.watched;
   start = let at : c.lower.result ≡ c.args.segment.lower = c.lower.ensures.value in rw (← at) c.locate-start.ensures;
 }
@@ -13,7 +14,7 @@ insert-requires g c = record {
 pub returns : goal.returns
 returns g c = rw (← c.self.view_is) (record {
   number = c.insert.ensures.number;
-  edit = edited_by _ _ c.insert.result _ (λ n. Insert n c.args.segment) c.self.invariant c.insert.ensures.number c.insert.ensures.edit c.insert.ensures.told;
+  edit = edited_by _ _ c.insert.result _ (λ n. Insert n c.args.segment) c.self.invariant.0 c.insert.ensures.number c.insert.ensures.edit c.insert.ensures.told;
   refused = c.insert.ensures.refused;
   as_before = as_before _ _ c.insert.result c.insert.ensures.graph c.insert.ensures.same_layer c.insert.ensures.same_curves c.insert.ensures.untold;
   limits = refl;

@@ -2,4 +2,4 @@ use Rattle.told_steps.proofs.NamedLayers.{layers_are_named}
 use Rattle.arrangement.proofs.arrangement.Arrangement.laws.Goals as goal
 
 pub returns-clause-named : goal.returns-clause-named
-returns-clause-named g c = rw (← c.self.view_is) (layers_are_named _ _ c.self.invariant)
+returns-clause-named g c = rw (← c.self.view_is) (layers_are_named _ _ c.self.invariant.0)

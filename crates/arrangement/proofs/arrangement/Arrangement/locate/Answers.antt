@@ -8,7 +8,7 @@ use Rattle.arrangement.proofs.arrangement.Arrangement.locate.Goals as goal
 
 pub returns-in-Vertex : goal.returns-in-Vertex
 returns-in-Vertex g c = rw (← c.self.view_is) (record {
-  cell = at_vertex _ _ c.self.invariant c.args.p.now c.in-Vertex.field-0 c.in-Vertex.ensures.0 c.in-Vertex.ensures.1;
+  cell = at_vertex _ _ c.self.invariant.0 c.args.p.now c.in-Vertex.field-0 c.in-Vertex.ensures.0 c.in-Vertex.ensures.1;
   no_memory = tt;
   same = refl;
 })
@@ -18,7 +18,7 @@ returns-in-Edge g c =
     let p = c.args.p.now in
     let on = c.in-Edge.ensures in
     rw (← c.self.view_is) (record {
-      cell = c.edge_cell.ensures ∙ on_edge _ _ c.self.invariant p c.in-Edge.dart (point_is_proper p c.laws.ensures) (on.0, on.1) on.2;
+      cell = c.edge_cell.ensures ∙ on_edge _ _ c.self.invariant.0 p c.in-Edge.dart (point_is_proper p c.laws.ensures) (on.0, on.1) on.2;
       no_memory = tt;
       same = refl;
     })

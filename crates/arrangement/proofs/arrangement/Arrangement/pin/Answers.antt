@@ -5,14 +5,15 @@ use Rattle.arrangement.proofs.arrangement.Arrangement.pin.Goals as goal
 
 pub pin-requires : goal.pin-requires
 pin-requires g c = record {
-  layer = c.self.invariant;
+  layer = c.self.invariant.0;
+  map = c.self.invariant.1;
   watched = rw (← c.self.view_is) at c.requires.watched;
   spot = c.locate-at.ensures;
 }
 
 pub returns : goal.returns
 returns g c = rw (← c.self.view_is) (record {
-  edit = edited _ _ c.pin.result (Pin c.args.p.now) c.self.invariant c.pin.ensures.edit c.pin.ensures.told;
+  edit = edited _ _ c.pin.result (Pin c.args.p.now) c.self.invariant.0 c.pin.ensures.edit c.pin.ensures.told;
   refused = c.pin.ensures.refused;
   as_before = as_before _ _ c.pin.result c.pin.ensures.graph c.pin.ensures.same_layer c.pin.ensures.same_curves c.pin.ensures.untold;
   limits = refl;

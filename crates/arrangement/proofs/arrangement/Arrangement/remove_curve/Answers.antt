@@ -5,13 +5,14 @@ use Rattle.arrangement.proofs.arrangement.Arrangement.remove_curve.Goals as goal
 
 pub remove_curve-requires : goal.remove_curve-requires
 remove_curve-requires g c = record {
-  layer = c.self.invariant;
+  layer = c.self.invariant.0;
+  map = c.self.invariant.1;
   watched = rw (← c.self.view_is) at c.requires.watched;
 }
 
 pub returns : goal.returns
 returns g c = rw (← c.self.view_is) (record {
-  edit = edited _ _ c.remove_curve.result (Drop c.args.curve.0) c.self.invariant c.remove_curve.ensures.edit c.remove_curve.ensures.told;
+  edit = edited _ _ c.remove_curve.result (Drop c.args.curve.0) c.self.invariant.0 c.remove_curve.ensures.edit c.remove_curve.ensures.told;
   refused = c.remove_curve.ensures.refused;
   as_before = as_before _ _ c.remove_curve.result c.remove_curve.ensures.graph c.remove_curve.ensures.same_layer c.remove_curve.ensures.same_curves c.remove_curve.ensures.untold;
   limits = refl;

@@ -5,13 +5,14 @@ use Rattle.arrangement.proofs.arrangement.Arrangement.unpin.Goals as goal
 
 pub unpin-requires : goal.unpin-requires
 unpin-requires g c = record {
-  layer = c.self.invariant;
+  layer = c.self.invariant.0;
+  map = c.self.invariant.1;
   watched = rw (← c.self.view_is) at c.requires.watched;
 }
 
 pub returns : goal.returns
 returns g c = rw (← c.self.view_is) (record {
-  edit = edited _ _ c.unpin.result (Unpin c.args.p.now) c.self.invariant c.unpin.ensures.edit c.unpin.ensures.told;
+  edit = edited _ _ c.unpin.result (Unpin c.args.p.now) c.self.invariant.0 c.unpin.ensures.edit c.unpin.ensures.told;
   refused = c.unpin.ensures.refused;
   as_before = as_before _ _ c.unpin.result c.unpin.ensures.graph c.unpin.ensures.same_layer c.unpin.ensures.same_curves c.unpin.ensures.untold;
   limits = refl;
