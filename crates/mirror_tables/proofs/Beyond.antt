@@ -4,12 +4,9 @@ use Rattle.std.specs.Prelude.{nat_lt}
 use Rattle.std.specs.BTreeMap.Range.{range_contains, entries_between}
 use Rattle.std.specs.declared.ops.Bound.TheVariants.{Unbounded}
 use Rattle.std.proofs.lemmas.Bool.Decides.{nat_tests}
+use Rattle.slab_laws.specs.FaceLists.{first_of}
 use Rattle.slab_laws.specs.Tables.{names, name_after, is_after}
 use Rattle.mirror_tables.specs.Reading.{start_after}
-
-abbrev head_of : {X : Type 0} → List X → Option X
-head_of [] = None
-head_of (x ∷ xs) = Some x
 
 and_true : (b : Bool) → b && true ≡ b
 and_true true = refl
@@ -23,18 +20,18 @@ in_range None n = refl
 in_range (Some m) n = and_true (is_lt (nat_cmp m n)) ∙ less_test m n
 
 module _ {X : Type 0} (at : Option ℕ) where
-  name_first : (es : List (ℕ × X)) → option_map (λ e. e.0) (head_of (entries_between nat_cmp (start_after at) Unbounded es)) ≡ name_after (names es) at
+  name_first : (es : List (ℕ × X)) → option_map (λ e. e.0) (first_of (entries_between nat_cmp (start_after at) Unbounded es)) ≡ name_after (names es) at
   unfolding name_after
   name_first [] = refl
   name_first (e ∷ es) =
-      ap (λ b. option_map (λ x. x.0) (head_of (cond b (e ∷ entries_between nat_cmp (start_after at) Unbounded es) (entries_between nat_cmp (start_after at) Unbounded es)))) (in_range at e.0)
-      ∙ elim (is_after at e.0) as (λ b. option_map (λ x. x.0) (head_of (cond b (e ∷ entries_between nat_cmp (start_after at) Unbounded es) (entries_between nat_cmp (start_after at) Unbounded es))) ≡ cond b (Some e.0) (name_after (names es) at)) [
+      ap (λ b. option_map (λ x. x.0) (first_of (cond b (e ∷ entries_between nat_cmp (start_after at) Unbounded es) (entries_between nat_cmp (start_after at) Unbounded es)))) (in_range at e.0)
+      ∙ elim (is_after at e.0) as (λ b. option_map (λ x. x.0) (first_of (cond b (e ∷ entries_between nat_cmp (start_after at) Unbounded es) (entries_between nat_cmp (start_after at) Unbounded es))) ≡ cond b (Some e.0) (name_after (names es) at)) [
         | true ↦ refl
         | false ↦ name_first es
       ]
 
   pub name_found : (es : List (ℕ × X)) (e : ℕ × X) (rest : List (ℕ × X)) → entries_between nat_cmp (start_after at) Unbounded es ≡ e ∷ rest → Some e.0 ≡ name_after (names es) at
-  name_found es e rest q = ap (λ ys. option_map (λ x. x.0) (head_of ys)) (sym q) ∙ name_first es
+  name_found es e rest q = ap (λ ys. option_map (λ x. x.0) (first_of ys)) (sym q) ∙ name_first es
 
   pub name_none : (es : List (ℕ × X)) → entries_between nat_cmp (start_after at) Unbounded es ≡ [] → None ≡ name_after (names es) at
-  name_none es q = ap (λ ys. option_map (λ x. x.0) (head_of ys)) (sym q) ∙ name_first es
+  name_none es q = ap (λ ys. option_map (λ x. x.0) (first_of ys)) (sym q) ∙ name_first es
