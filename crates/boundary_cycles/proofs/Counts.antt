@@ -21,6 +21,7 @@ use Rattle.slab_faces.proofs.NextLemmas.{darts_exact}
 use Rattle.slab_faces.proofs.CyclesLemmas.{is_set}
 use Rattle.slab_faces.proofs.Member.{member_in, in_member, map_in, map_out}
 use Rattle.sound_views.proofs.NamedDarts.{names_are_darts, edge_known}
+use Rattle.sound_views.proofs.NameTables.{names_exact}
 use Rattle.edge_predicates.proofs.CellsBeside.{weight_is}
 use Rattle.exact_plane.specs.Point.{Point}
 use Rattle.slab_laws.specs.Slabs.{left_cell}
@@ -33,7 +34,7 @@ use Rattle.face_changes.proofs.OneToOneMaps.{tally}
 use Rattle.boundary_cycles.specs.declared.asked.Asked.{Asked}
 use Rattle.boundary_cycles.specs.Asked.{is_above_asked, IsAskedBeside}
 use Rattle.boundary_cycles.specs.Counted.{is_on_cycle, is_odd_above}
-use Rattle.boundary_cycles.proofs.NamedWalks.{IsWalked, more, names_exact, names_set, listed, of_list, counted, counted_all}
+use Rattle.boundary_cycles.proofs.NamedWalks.{IsWalked, more, names_set, listed, of_list, counted, counted_all}
 
 module _ (v : View) (s : IsGraphSound v) where
   abbrev g : Skeleton
@@ -102,7 +103,7 @@ module _ (v : View) (s : IsGraphSound v) (d : DartId) where
   pub odd_beside : (k : DartId) → HasDart v k → (a : Asked) → IsAskedBeside (dart_in v k) a → is_odd_above v d a ≡ odd_at (skeleton_of v) (dart_in v d) (left_of_dart (skeleton_of v) (dart_in v k))
   odd_beside k K a A =
       odd_by_names v s d (is_above_asked a) (left_of_dart (skeleton_of v) (dart_in v k))
-      (λ m. weight_is (skeleton_of v) s.plane (edge_in v k) (edge_known v s k K) m (dart_in v k).forward
+      (λ m. weight_is (skeleton_of v) s.plane (edge_in v k) (edge_known v k K) m (dart_in v k).forward
       ∙ sum_by-same _ _ (skeleton_of v).edges (each _ (skeleton_of v).edges (λ f _. ap (λ b. cond {A = ℕ} b (m f) 0) (sym (A f)))))
 
   -- above the cell on the left of a point

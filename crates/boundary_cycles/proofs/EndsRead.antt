@@ -1,5 +1,5 @@
 -- The ends of a dart as they were read: which of two darts comes first, and what cells ask of its edge.
-use Rattle.std.proofs.Common.{◌≡◌, Bool, true, false, refl, sym, ap, ◌∙◌, subst, Ordering, Less, Equal, Greater, is_lt}
+use Rattle.std.proofs.Common.{◌≡◌, Bool, true, false, sym, ap, ◌∙◌, subst, Less, Equal, Greater, is_lt}
 use Rattle.std.specs.Ordering.{ordering_then}
 use Rattle.exact_plane.specs.Point.{Point}
 use Rattle.exact_plane.specs.PointOrder.{point_cmp}
@@ -33,6 +33,6 @@ module _ (v : View) (s : IsGraphSound v) (d : DartId) (has : HasDart v d) where
   -- what is asked of its edge by cells
   pub edge_weights : (f : Edge) → f ≡ edge_in v d → HasWeight f.low × HasWeight f.high × (left_of f.high f.low ≡ false)
   edge_weights f q =
-      let E = edge_known v s d has in
+      let E = edge_known v d has in
       let w = s.plane.proper_edge (edge_in v d) E in
       subst (λ (z : Edge). HasWeight z.low × HasWeight z.high × (left_of z.high z.low ≡ false)) (sym q) (w.0, w.1, s.plane.forward (edge_in v d) E)

@@ -1,7 +1,6 @@
 -- The extent of the darts that a walk has met; and that no dart of a cycle is above a cell beside a vertical that is clear of it.
-use Rattle.std.proofs.Common.{◌≡◌, ◌≢◌, ℕ, Bool, true, false, cond, refl, sym, ap, ◌∙◌, subst, inl, inr}
+use Rattle.std.proofs.Common.{◌≡◌, ◌≢◌, Bool, true, false, cond, refl, sym, ap, ◌∙◌, subst, inl, inr}
 use Rattle.std.specs.Prelude.{not, ◌&&◌, ◌||◌, ◌==◌, ◌%◌}
-use Rattle.std.specs.List.{count_by}
 use Rattle.std.proofs.Math.Bool.{beq}
 use Rattle.std.proofs.lemmas.Bool.{false≢true, cases_Bool, false_from_ne_true, or_cases}
 use Rattle.exact_plane.specs.Point.{Point}
@@ -10,10 +9,11 @@ use Rattle.slab_laws.specs.FacesSound.{lead_in}
 use Rattle.slab_laws.specs.Rotation.{same_dart}
 use Rattle.slab_laws.specs.Skeleton.{left_of, HasWeight}
 use Rattle.slab_laws.specs.Sound.{IsGraphSound, edge_in}
-use Rattle.slab_laws.specs.View.{View, HasVertex, HasDart, point_in, source_in, target_in, next_in}
+use Rattle.slab_laws.specs.View.{View, HasDart, point_in, source_in, target_in, next_in}
 use Rattle.slab_faces.proofs.NextLemmas.{darts_exact}
 use Rattle.slab_faces.proofs.Sums.{each, sum_by-same, sum_by-none}
 use Rattle.slab_faces.proofs.Walls.{left_of-irrefl, left_of-asym, left_of-before, left_of-after}
+use Rattle.sound_views.proofs.NameTables.{names_exact}
 use Rattle.arr_notes.specs.CycleNames.{dart_names}
 use Rattle.face_changes.proofs.OneToOneMaps.{tally}
 use Rattle.boundary_cycles.specs.declared.asked.Asked.{Asked}
@@ -24,7 +24,7 @@ use Rattle.boundary_cycles.specs.Counted.{is_on_cycle, is_odd_above}
 use Rattle.boundary_cycles.specs.Extents.{Covers, HasWeights, IsExtent}
 use Rattle.boundary_cycles.proofs.Above.{spans_slab}
 use Rattle.boundary_cycles.proofs.EndsRead.{edge_weights}
-use Rattle.boundary_cycles.proofs.NamedWalks.{IsWalked, more, names_exact, ends, of_list, lead_step}
+use Rattle.boundary_cycles.proofs.NamedWalks.{IsWalked, more, ends, of_list, lead_step}
 
 -- ---- one more point
 module _ (e : Extent) (p : Point) (W : HasWeights e) (P : HasWeight p) where

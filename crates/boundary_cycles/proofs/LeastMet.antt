@@ -4,24 +4,20 @@ use Rattle.std.specs.Ordering.{ordering_reverse}
 use Rattle.std.proofs.lemmas.Bool.{false≢true, true≢false, or_cases}
 use Rattle.plane_graphs.proofs.Ascending.{to_member}
 use Rattle.slab_laws.specs.declared.names.DartId.{DartId}
-use Rattle.slab_laws.specs.Darts.{Dart, darts}
 use Rattle.slab_laws.specs.FacesSound.{lead_in}
 use Rattle.slab_laws.specs.Rotation.{dart_cmp, dart_below, same_dart}
 use Rattle.slab_laws.specs.Rows.{least_dart_of}
 use Rattle.slab_laws.specs.Sound.{IsGraphSound, skeleton_of, dart_in}
-use Rattle.slab_laws.specs.View.{View, HasDart, next_in}
-use Rattle.slab_faces.proofs.ClassesLemmas.{IsOrder}
-use Rattle.slab_faces.proofs.DartOrder.{dart_cmp_total, tied_darts, lead_lead}
+use Rattle.slab_laws.specs.View.{View, HasDart}
+use Rattle.slab_faces.proofs.DartOrder.{dart_cmp_total, dart_below_order, tied_darts, lead_lead}
 use Rattle.slab_faces.proofs.NextLemmas.{darts_exact}
 use Rattle.plane_graphs.proofs.Ascending.{from_member}
-use Rattle.sound_views.proofs.CycleDartOrder.{lead_not_after, is_order}
+use Rattle.sound_views.proofs.CycleDartOrder.{lead_not_after}
 use Rattle.sound_views.proofs.CycleDartOrder.{lead_in as lead_there}
 use Rattle.sound_views.proofs.NamedDarts.{names_are_darts}
+use Rattle.sound_views.proofs.NameTables.{names_exact}
 use Rattle.boundary_cycles.specs.Counted.{is_on_cycle}
-use Rattle.boundary_cycles.proofs.NamedWalks.{IsWalked, more, names_exact, ends}
-
-dart_order : IsOrder dart_below
-dart_order = is_order dart_cmp dart_cmp_total
+use Rattle.boundary_cycles.proofs.NamedWalks.{IsWalked, more}
 
 -- it is on the cycle of d, and none of those met comes before it; before the walk it is d
 pub record IsLeastMet (v : View) (d least : DartId) (seen : DartId → Bool) : Type 0 where
@@ -40,8 +36,8 @@ module _ (v : View) (s : IsGraphSound v) (d : DartId) (D : HasDart v d) where
       there = w.at_there;
       on = w.at_on;
       none = λ x k. elim (or_cases (seen x) _ k) [
-        | inl t ↦ dart_order.down (dart_in v x) (dart_in v least) (dart_in v at) (m.none x t) (dart_order.asym (dart_in v at) (dart_in v least) h)
-        | inr t ↦ subst (λ y. dart_below (dart_in v y) (dart_in v at) ≡ false) (names_exact.path at x t) (dart_order.itself (dart_in v at))
+        | inl t ↦ dart_below_order.down (dart_in v x) (dart_in v least) (dart_in v at) (m.none x t) (dart_below_order.asym (dart_in v at) (dart_in v least) h)
+        | inr t ↦ subst (λ y. dart_below (dart_in v y) (dart_in v at) ≡ false) (names_exact.path at x t) (dart_below_order.itself (dart_in v at))
       ];
     }
 

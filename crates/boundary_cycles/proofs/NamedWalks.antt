@@ -16,26 +16,20 @@ use Rattle.slab_laws.specs.View.{View, HasDart, dart_id, next_in}
 use Rattle.slab_faces.proofs.Sums.{each, sum_by-same, sum_by-plus, sum_by-cond}
 use Rattle.slab_faces.proofs.Shift.{IsSetBy, IsOneToOne, sum_by-map}
 use Rattle.slab_faces.proofs.Member.{Member, member_in, in_member, map_out}
-use Rattle.slab_faces.proofs.ClassesLemmas.{IsExact, connected}
+use Rattle.slab_faces.proofs.ClassesLemmas.{connected}
 use Rattle.slab_faces.proofs.NextLemmas.{darts_exact}
 use Rattle.sound_views.proofs.NamedDarts.{names_are_darts, dart_name, named_dart}
-use Rattle.sound_views.proofs.NameTables.{other_number, has_name}
+use Rattle.sound_views.proofs.NameTables.{names_exact, other_number, has_name}
 use Rattle.slab_faces.proofs.CyclesLemmas.{one_cycle}
 use Rattle.slab_laws.specs.Rows.{least_dart_of}
 use Rattle.slab_laws.specs.Sound.{skeleton_of, dart_in}
 use Rattle.arr_notes.specs.CycleNames.{same_name, lower_name, dart_names, name_links, cycle_label}
 use Rattle.face_changes.proofs.CycleNames.{names_tell_cycles}
-use Rattle.face_changes.proofs.OneToOneMaps.{tally, closed_back}
+use Rattle.face_changes.proofs.OneToOneMaps.{tally, unlike, closed_back}
 use Rattle.boundary_cycles.specs.Counted.{is_on_cycle}
 use Rattle.boundary_cycles.proofs.Returns.{way, nearer}
 
 -- ---- names
-pub names_exact : IsExact same_name
-names_exact = record { itself = λ d. eq-eqb d.0 d.0 refl; path = λ d e h. let q = eqb-true d.0 e.0 h in λ i. record { 0 = q i } }
-
-pub other_name : (d e : DartId) → d ≢ e → same_name d e ≡ false
-other_name d e h = false_from_ne_true _ (λ t. h (names_exact.path d e t))
-
 -- a number that is less than all others stands among none of them
 none_later : (n : ℕ) (ns : List ℕ) → AllByRecursion (λ m. n < m) ns → count_by (λ m. n == m) ns ≡ 0
 none_later n [] h = refl
@@ -127,7 +121,7 @@ module _ (v : View) (s : IsGraphSound v) where
     unfolding ways
     closer x hx q ne =
         nearer same_name (next_in v) (dart_names v) d names_set names_one (listed d D) x (listed x hx)
-        (λ p h. agrees p (λ y hy. h y (listed y hy)) (next_in v x) d (s.linked.has x hx) D (lead_step x hx ∙ q)) (other_name x d ne)
+        (λ p h. agrees p (λ y hy. h y (listed y hy)) (next_in v x) d (s.linked.has x hx) D (lead_step x hx ∙ q)) (unlike same_name names_exact.path x d ne)
 
     -- ---- the walk
     pub begins : IsWalked v d d (λ x. false)

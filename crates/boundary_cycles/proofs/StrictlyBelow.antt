@@ -1,6 +1,6 @@
 -- The cell on the left of a point's wall by the edges strictly below the point; for a point off a cycle its parity is that of the cell by the edges at or below it.
 use Rattle.std.proofs.Common.{◌≡◌, ◌≢◌, ◌⊎◌, ℕ, ◌<◌, ◌≤◌, Bool, true, false, cond, arith, refl, sym, ap, ◌∙◌, subst, inl, inr, pos, ◌<ℤ◌}
-use Rattle.std.specs.Prelude.{not, ◌&&◌, ◌==◌, ◌%◌, if◌then◌else◌}
+use Rattle.std.specs.Prelude.{not, ◌&&◌, ◌==◌, ◌%◌}
 use Rattle.std.specs.List.{Contains, count_by, sum_by}
 use Rattle.std.proofs.lemmas.Int.{ints}
 use Rattle.std.proofs.lemmas.Bool.{false≢true, true≢false, and_parts, and_from, not-true, false_from_ne_true, cases_Bool}
@@ -14,7 +14,7 @@ use Rattle.plane_graphs.proofs.Order.Tri.{less, same, more}
 use Rattle.slab_laws.specs.declared.names.DartId.{DartId}
 use Rattle.slab_laws.specs.FacesSound.{lead_in}
 use Rattle.slab_laws.specs.Skeleton.{Skeleton, HasWeight, left_of, lower_than, run, side, gap, over, under, below, inside, precedes, IsPlaneSkeleton}
-use Rattle.slab_laws.specs.Slabs.{reaches_left, slab_left, spans, place, left_below, left_bottom}
+use Rattle.slab_laws.specs.Slabs.{reaches_left, slab_left, spans, place, left_bottom}
 use Rattle.slab_laws.specs.Sound.{IsGraphSound, skeleton_of, dart_in, edge_in, edge_between}
 use Rattle.slab_laws.specs.View.{View, HasDart, point_in, source_in, target_in, next_in}
 use Rattle.slab_laws.specs.Weights.{weight_above}
@@ -128,7 +128,7 @@ module _ (v : View) (s : IsGraphSound v) (d : DartId) (q : Point) (Q : IsProper 
   not_on : (x : DartId) → HasDart v x → lead_in v x ≡ lead_in v d → left_of (edge_in v x).low q ≡ true → left_of (edge_in v x).high q ≡ false → over (edge_in v x) q ≡ false → under (edge_in v x) q ≡ false → ⊥
   not_on x hx l a b o u =
       let e = edge_in v x in
-      let w = s.plane.proper_edge e (edge_known v s x hx) in
+      let w = s.plane.proper_edge e (edge_known v x hx) in
       let slants : left_of e.low e.high ≡ true = left_of-before e.low q e.high w.0 Q.positive w.1 a b in
       elim (cases_Bool (left_of q e.high)) [
         | inl c ↦ false≢true (sym (off x hx l).0 ∙ inside_by e q a c o u)

@@ -1,5 +1,5 @@
 -- The two darts that leave a vertex where two edges may become one.
-use Rattle.std.proofs.Common.{◌≡◌, ◌≢◌, inl, inr, true, false, refl, sym, ap, subst, ◌∙◌}
+use Rattle.std.proofs.Common.{◌≡◌, ◌≢◌, inl, inr, true, false, sym, ap, subst, ◌∙◌}
 use Rattle.plane_graphs.specs.Line.{precedes}
 use Rattle.plane_graphs.proofs.Lists.{clash}
 use Rattle.plane_graphs.proofs.Order.{lt_out, lt_both}
@@ -8,8 +8,8 @@ use Rattle.slab_laws.specs.declared.names.VertexId.{VertexId}
 use Rattle.slab_laws.specs.Sound.{IsGraphSound}
 use Rattle.slab_laws.specs.View.{View, HasVertex, HasDart, IsOutOf, point_in, source_in, twin_in, target_in}
 use Rattle.arr_notes.specs.AfterAround.{after_in}
-use Rattle.rotation_order.proofs.Circuits.{alone, after_out}
 use Rattle.sound_changes.specs.ChangeFits.{FitsMerge}
+use Rattle.sound_changes.proofs.MergedRing.{after_n, after_t}
 
 module _ (v : View) (w : VertexId) (s : IsGraphSound v) (d n : DartId) (f : FitsMerge v w d n) where
   abbrev t : DartId
@@ -37,32 +37,22 @@ module _ (v : View) (w : VertexId) (s : IsGraphSound v) (d n : DartId) (f : Fits
   t_n q = not_up (subst (λ z. precedes (point_in v w) (point_in v (target_in v z)) ≡ true) (sym q) behind)
 
   -- each comes after the other
-  after_n : after_in v n ≡ t
-  after_n =
-      let o = after_out v s n f.second n (f.second, refl) in
-      elim (f.only (after_in v n) o.0 (o.1 ∙ f.leaves)) [
-        | inl q ↦ absurd (t_n (alone v s n f.second q t (t_has, f.arrives ∙ sym f.leaves)))
-        | inr q ↦ q
-      ]
+  n_then_t : after_in v n ≡ t
+  n_then_t = after_n v w s d n f
 
-  after_t : after_in v t ≡ n
-  after_t =
-      let o = after_out v s t t_has t (t_has, refl) in
-      elim (f.only (after_in v t) o.0 (o.1 ∙ f.arrives)) [
-        | inl q ↦ q
-        | inr q ↦ absurd (t_n (sym (alone v s t t_has q n (f.second, f.leaves ∙ sym f.arrives))))
-      ]
+  t_then_n : after_in v t ≡ n
+  t_then_n = after_t v w s d n f
 
   pub after_has : (x : DartId) → IsOutOf v w x → HasDart v (after_in v x)
   after_has x o = elim (f.only x o.0 o.1) [
-    | inl q ↦ subst (λ z. HasDart v z) (sym (ap (after_in v) q ∙ after_n)) t_has
-    | inr q ↦ subst (λ z. HasDart v z) (sym (ap (after_in v) q ∙ after_t)) f.second
+    | inl q ↦ subst (λ z. HasDart v z) (sym (ap (after_in v) q ∙ n_then_t)) t_has
+    | inr q ↦ subst (λ z. HasDart v z) (sym (ap (after_in v) q ∙ t_then_n)) f.second
   ]
 
   pub found_up : (x y z : DartId) → IsOutOf v w x → precedes (point_in v w) (point_in v (target_in v x)) ≡ true → y ≡ after_in v x → z ≡ twin_in v y → FitsMerge v w z x
   found_up x y z o b qy qz = elim (f.only x o.0 o.1) [
     | inl q ↦
-        let e : z ≡ d = qz ∙ ap (twin_in v) (qy ∙ ap (after_in v) q ∙ after_n) ∙ s.twinned.back d f.first in
+        let e : z ≡ d = qz ∙ ap (twin_in v) (qy ∙ ap (after_in v) q ∙ n_then_t) ∙ s.twinned.back d f.first in
         subst (λ a. FitsMerge v w a x) (sym e) (subst (λ a. FitsMerge v w d a) (sym q) f)
     | inr q ↦ absurd (not_up (subst (λ a. precedes (point_in v w) (point_in v (target_in v a)) ≡ true) q b))
   ]
@@ -72,7 +62,7 @@ module _ (v : View) (w : VertexId) (s : IsGraphSound v) (d n : DartId) (f : Fits
     | inl q ↦ clash behind (subst (λ a. precedes (point_in v w) (point_in v (target_in v a)) ≡ false) q b)
     | inr q ↦
         let e : z ≡ d = qz ∙ ap (twin_in v) q ∙ s.twinned.back d f.first in
-        subst (λ a. FitsMerge v w a y) (sym e) (subst (λ a. FitsMerge v w d a) (sym (qy ∙ ap (after_in v) q ∙ after_t)) f)
+        subst (λ a. FitsMerge v w a y) (sym e) (subst (λ a. FitsMerge v w d a) (sym (qy ∙ ap (after_in v) q ∙ t_then_n)) f)
   ]
 
   -- ---- what the writers need

@@ -71,6 +71,10 @@ fit_part p q fit f g a = record {
   one_piece = λ k m h i e. fit.one_piece k m (f k h) (f m i) e;
 }
 
+-- a present with one piece less
+pub fit_before : (p : Present) (k : Piece) → IsFit (with_piece p k) → IsFit p
+fit_before p k fit = fit_part p (with_piece p k) fit (λ m h. in_left m p.pieces (k ∷ []) h) (λ r h. h) fit.pins_ascend
+
 module _ (geo : Geometry) where
   -- ---- the tidying
   pub tidied_leads : (old new : Present) (firsts : List Step) → IsFit old → IsFit new → ((x : Point) → Member x (vertices new) → Member x (vertices old)) →

@@ -24,7 +24,7 @@ use Rattle.edit_steps.proofs.Folds.{closed_more, put_back}
 use Rattle.edit_steps.proofs.Sound.{is_passed}
 use Rattle.plane_graphs.proofs.Vertices.{IsVertex, IsProperPiece, proper_piece, vertex_in, vertex_out, vertices_closed}
 use Rattle.plane_graphs.proofs.Vertices.IsVertex.{begins, finishes, pinned, crossed}
-use Rattle.edit_steps.proofs.Edits.{vertices_more, fit_part}
+use Rattle.edit_steps.proofs.Edits.{vertices_more, fit_before}
 use Rattle.plane_graphs.proofs.Lines.{geometry, crossing_is}
 use Rattle.integers.proofs.Tests.{not_true}
 
@@ -173,7 +173,7 @@ loose_is_no_vertex = record {
 -- ---- along a new piece
 module _ (p : Present) (k : Piece) (fit : IsFit (with_piece p k)) (x : Point) where
   old_fit : IsFit p
-  old_fit = fit_part p (with_piece p k) fit (λ m h. in_left m p.pieces (k ∷ []) h) (λ r h. h) fit.pins_ascend
+  old_fit = fit_before p k fit
 
   last_here : Member k (with_piece p k).pieces
   last_here = in_right k p.pieces (k ∷ []) (inl refl)

@@ -2,7 +2,7 @@
 use Rattle.std.proofs.Common.{◌≡◌, Bool, true, refl, sym, ap, ◌∙◌, subst, inl, inr}
 use Rattle.std.specs.Prelude.{◌&&◌}
 use Rattle.std.specs.List.{Contains, list_any}
-use Rattle.std.proofs.lemmas.Bool.{false≢true, and_parts, and_from, eqb-true, eq-eqb, cases_Bool, false_from_ne_true}
+use Rattle.std.proofs.lemmas.Bool.{false≢true, and_parts, and_from, cases_Bool, false_from_ne_true}
 use Rattle.plane_graphs.proofs.Ascending.{to_member, from_member}
 use Rattle.slab_laws.specs.declared.classes.Link.{Link}
 use Rattle.slab_laws.specs.declared.names.DartId.{DartId}
@@ -13,16 +13,14 @@ use Rattle.slab_laws.specs.Rows.{least_dart_of}
 use Rattle.slab_laws.specs.Sound.{skeleton_of, dart_in, IsGraphSound}
 use Rattle.slab_laws.specs.View.{View, HasDart, next_in}
 use Rattle.slab_faces.proofs.Member.{Member, member_in, in_member, map_in, map_out, none_passes, none_passing}
-use Rattle.slab_faces.proofs.ClassesLemmas.{IsExact, IsEquivalence, along_link, connected}
+use Rattle.slab_faces.proofs.ClassesLemmas.{IsEquivalence, along_link, connected}
 use Rattle.slab_faces.proofs.NextLemmas.{darts_exact}
 use Rattle.sound_views.proofs.NamedDarts.{names_are_darts, dart_name, named_dart}
+use Rattle.sound_views.proofs.NameTables.{names_exact}
 use Rattle.arr_notes.specs.CycleNames.{same_name, lower_name, dart_names, name_links, cycle_label}
 use Rattle.face_changes.specs.CycleNames.{NamesTellCycles}
 use Rattle.face_changes.proofs.OrbitSplices.{told}
 use Rattle.face_changes.proofs.LinkedCycles.{labelled}
-
-names_exact : IsExact same_name
-names_exact = record { itself = λ d. eq-eqb d.0 d.0 refl; path = λ d e h. let q = eqb-true d.0 e.0 h in λ i. record { 0 = q i } }
 
 module _ (v : View) (s : IsGraphSound v) where
   listed : (d : DartId) → HasDart v d → Member (dart_names v) d

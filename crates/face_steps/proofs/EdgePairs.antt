@@ -18,7 +18,7 @@ use Rattle.slab_laws.specs.Skeleton.{Skeleton}
 use Rattle.slab_laws.specs.Slabs.{left_cell}
 use Rattle.slab_laws.specs.Sound.{skeleton_of, dart_in, edge_between}
 use Rattle.slab_laws.specs.Subdivision.{first_cell}
-use Rattle.slab_laws.specs.View.{View, HasVertex, HasDart, point_in, source_in, next_in}
+use Rattle.slab_laws.specs.View.{View, HasVertex, HasDart, IsOutOf, point_in, source_in, twin_in, next_in}
 use Rattle.slab_faces.proofs.NextLemmas.{next_one}
 use Rattle.sound_views.proofs.NamedDarts.{names_are_darts}
 use Rattle.rotation_order.specs.VertexRings.{IsBare}
@@ -26,7 +26,7 @@ use Rattle.sound_changes.specs.EdgePlaces.{IsDrawnMore, dart_between}
 use Rattle.sound_changes.specs.NextLaws.{HasEdgeMore, IsDartOf, IsBareEnd, ComesBetween, IsNextWithMore}
 use Rattle.sound_changes.proofs.EdgeDrawn.{drawn_more, edge_drawn}
 use Rattle.sound_changes.proofs.NextDarts.{next_with_one_more_edge}
-use Rattle.sound_changes.proofs.RingsKept.{swapped, up as up_dart, source_old, point_same, vertex_up, vertex_down, three, way_old, way_new, not_first, not_second}
+use Rattle.sound_changes.proofs.RingsKept.{swapped, up as up_dart, source_old, twin_old, point_same, vertex_up, vertex_down, three, way_old, way_new, not_first, not_second}
 use Rattle.face_changes.specs.OneMoreEdge.{IsOneMoreEdge, LiesIn}
 use Rattle.face_changes.proofs.LinkedCycles.{dart_there, there_dart}
 use Rattle.face_changes.proofs.OneMoreEdge.{cells_with_one_more_edge}
@@ -72,6 +72,12 @@ module _ (v w : View) (x y : DartId) (p q : VertexId) (l : Line) (m : IsEdgeApar
 
   pub bare_below : (u : VertexId) → IsBare w u → IsBare v u
   bare_below u none k o = none k (up k o.0, source_old v w x y p q l m.more k o.0 ∙ o.1)
+
+  -- the vertex that x leaves has a dart without the edge, if a dart comes before x
+  pub start_dart : (a : DartId) → HasDart v a → next_in w a ≡ x → IsOutOf v p (twin_in v a)
+  start_dart a A na =
+      let T = m.sound.twinned.has a A in
+      (T, sym (source_old v w x y p q l m.more (twin_in v a) T) ∙ ap (source_in w) (sym (twin_old v w x y p q l m.more a A)) ∙ sym (m.sound_more.linked.joins a (up a A)) ∙ ap (source_in w) na ∙ m.more.source_first)
 
   pub listed : (k : DartId) → HasDart v k → Contains (darts (skeleton_of v)) (dart_in v k)
   listed k o = names_are_darts.known v k m.sound o

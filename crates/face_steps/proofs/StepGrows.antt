@@ -22,7 +22,7 @@ use Rattle.arr_notes.proofs.VertexReads.{put_hit, put_miss, del_hit, del_miss}
 use Rattle.sound_views.proofs.ListedRows.{is_some_by}
 use Rattle.rotation_order.specs.VertexRings.{IsBare}
 use Rattle.sound_changes.specs.NextLaws.{IsBareEnd}
-use Rattle.sound_changes.proofs.RingsKept.{source_old, twin_old}
+use Rattle.sound_changes.proofs.RingsKept.{source_old}
 use Rattle.face_changes.specs.FacesByPairs.{beside, round}
 use Rattle.face_changes.specs.OneMoreEdge.{GrowsCycle}
 use Rattle.face_changes.proofs.OneMoreEdge.{one_kind_each, cycles_with_one_more_edge, sides_of_one_more_edge}
@@ -31,7 +31,7 @@ use Rattle.face_steps.specs.EdgePairs.{IsEdgeApart}
 use Rattle.face_steps.specs.OneFace.{AreFacesKept, IsGrowthApart}
 use Rattle.face_steps.specs.Tabled.{AreTabled}
 use Rattle.face_steps.proofs.CyclesApart.{cycles_apart}
-use Rattle.face_steps.proofs.EdgePairs.{turned_round, up, sorted, bare_below, vertex_above, vertex_below, has_end, is_more, is_dart, twins, lead_second, comes, bare_start, old_lies, vertex_lies, bare_end}
+use Rattle.face_steps.proofs.EdgePairs.{turned_round, up, start_dart, sorted, bare_below, vertex_above, vertex_below, has_end, is_more, is_dart, twins, lead_second, comes, bare_start, old_lies, vertex_lies, bare_end}
 use Rattle.face_steps.proofs.OneFace.{one_face_on_both_sides}
 use Rattle.face_steps.proofs.StepHoles.{not_x, not_y, end_left}
 
@@ -76,9 +76,7 @@ module _ (v w : View) (x y : DartId) (p q : VertexId) (l : Line) (m : IsEdgeApar
 
   -- the start has a dart without the edge
   start_out : IsOutOf v p (twin_in v a)
-  start_out =
-      let T = m.sound.twinned.has a A in
-      (T, sym (source_old v w x y p q l m.more (twin_in v a) T) ∙ ap (source_in w) (sym (twin_old v w x y p q l m.more a A)) ∙ sym (m.sound_more.linked.joins a (up v w x y p q l m a A)) ∙ ap (source_in w) na ∙ m.more.source_first)
+  start_out = start_dart v w x y p q l m a A na
 
   start_full : IsBare v p → ⊥
   start_full none = none (twin_in v a) start_out

@@ -20,17 +20,17 @@ use Rattle.face_steps.specs.OneFace.{AreFacesKept, IsJoinApart}
 use Rattle.face_steps.specs.StepPremises.{FitsJoin}
 use Rattle.face_steps.specs.Tabled.{AreTabled}
 use Rattle.face_steps.proofs.CyclesApart.{cycle_cases, cycles_apart, made_one, two_by_tables}
-use Rattle.face_steps.proofs.EdgePairs.{turned_round, up, sorted, bare_below, vertex_above, vertex_below}
+use Rattle.face_steps.proofs.EdgePairs.{turned_round, up, start_dart, sorted, bare_below, vertex_above, vertex_below}
 use Rattle.face_steps.proofs.FaceRows.{map_some, map_cycle, cycle_number, swap_hit, swap_miss}
 use Rattle.face_steps.proofs.OneFace.{one_face_on_both_sides}
-use Rattle.face_steps.proofs.TwoFaces.{start_dart, bare_above}
+use Rattle.face_steps.proofs.TwoFaces.{bare_above}
 
 module _ (v w : View) (x y : DartId) (p q : VertexId) (l : Line) (m : IsEdgeApart v w x y p q l) (a b : DartId) (A : HasDart v a) (B : HasDart v b) (na : next_in w a ≡ x) (nb : next_in w b ≡ y) where
   pub no_bare_start : IsBare v p → ⊥
-  no_bare_start none = none _ (start_dart v w x y p q l m a b A B na nb)
+  no_bare_start none = none _ (start_dart v w x y p q l m a A na)
 
   pub no_bare_end : IsBare v q → ⊥
-  no_bare_end none = none _ (start_dart v w y x q p l (turned_round v w x y p q l m) b a B A nb na)
+  no_bare_end none = none _ (start_dart v w y x q p l (turned_round v w x y p q l m) b B nb)
 
   pub bare_up : (u : VertexId) → IsBare v u → IsBare w u
   bare_up u none = bare_above v w x y p q l m a b A B na nb u none

@@ -12,12 +12,12 @@ use Rattle.slab_laws.specs.FacesSound.{lead_in, IsCycled}
 use Rattle.slab_laws.specs.Meets.{SameFace}
 use Rattle.slab_laws.specs.Rotation.{twin}
 use Rattle.slab_laws.specs.Sound.{skeleton_of, dart_in}
-use Rattle.slab_laws.specs.View.{View, Faces, HasDart, HasFace, IsOutOf, source_in, twin_in, next_in, cycle_in, kind_in, face_in}
+use Rattle.slab_laws.specs.View.{View, Faces, HasDart, HasFace, source_in, twin_in, next_in, cycle_in, kind_in, face_in}
 use Rattle.slab_faces.proofs.Turns.{face_trans, face_sym}
 use Rattle.sound_views.proofs.NamedDarts.{names_are_darts}
 use Rattle.rotation_order.specs.VertexRings.{IsBare}
 use Rattle.sound_changes.specs.NextLaws.{ComesBetween}
-use Rattle.sound_changes.proofs.RingsKept.{source_old, twin_old}
+use Rattle.sound_changes.proofs.RingsKept.{source_old}
 use Rattle.face_changes.specs.Kinds.{is_outer}
 use Rattle.face_changes.specs.FaceNames.{AreNamesMerged}
 use Rattle.face_changes.specs.FacesByPairs.{Item, outside, beside, round, HasItem, cell_at, name_at, first_or, AreFacesTold}
@@ -32,7 +32,7 @@ use Rattle.face_steps.specs.EdgePairs.{IsEdgeApart}
 use Rattle.face_steps.specs.TwoFaces.{IsUniteApart, TwoFacesApart}
 use Rattle.face_steps.proofs.Alike.{KindsAreTold, kind_at, cycled_by}
 use Rattle.face_steps.proofs.CyclesApart.{cycle_cases}
-use Rattle.face_steps.proofs.EdgePairs.{turned_round, up, sorted, drawn_old, twins, point_is, vertex_above, vertex_below, bare_below, listed, is_dart, lead_old, lead_second, is_more, comes, old_lies, vertex_lies, first_lies}
+use Rattle.face_steps.proofs.EdgePairs.{turned_round, up, start_dart, sorted, drawn_old, twins, point_is, vertex_above, vertex_below, bare_below, listed, is_dart, lead_old, lead_second, is_more, comes, old_lies, vertex_lies, first_lies}
 
 module _ (v w : View) (x y : DartId) (p q : VertexId) (l : Line) (m : IsEdgeApart v w x y p q l) (a b : DartId) (A : HasDart v a) (B : HasDart v b) (na : next_in w a ≡ x) (nb : next_in w b ≡ y) where
   pub comes_twin : ComesBetween (skeleton_of v) (dart_in v b) (twin (dart_in w x))
@@ -55,12 +55,6 @@ module _ (v w : View) (x y : DartId) (p q : VertexId) (l : Line) (m : IsEdgeApar
         absurd (two (j.cycles.one ∙ sym (lead_second v w x y p q l m)))
   ]
 
-  -- the vertex that x leaves has a dart without the edge
-  pub start_dart : IsOutOf v p (twin_in v a)
-  start_dart =
-      let T = m.sound.twinned.has a A in
-      (T, sym (source_old v w x y p q l m.more (twin_in v a) T) ∙ ap (source_in w) (sym (twin_old v w x y p q l m.more a A)) ∙ sym (m.sound_more.linked.joins a (up v w x y p q l m a A)) ∙ ap (source_in w) na ∙ m.more.source_first)
-
 module _ (v w : View) (x y : DartId) (p q : VertexId) (l : Line) (m : IsEdgeApart v w x y p q l) (a b : DartId) (A : HasDart v a) (B : HasDart v b) (na : next_in w a ≡ x) (nb : next_in w b ≡ y) where
   back : IsEdgeApart v w y x q p l
   back = turned_round v w x y p q l m
@@ -69,8 +63,8 @@ module _ (v w : View) (x y : DartId) (p q : VertexId) (l : Line) (m : IsEdgeApar
   bare_above u none k o = elim (sorted v w x y p q l m k o.0) [
     | inl z ↦ none k (z, sym (source_old v w x y p q l m.more k z) ∙ o.1)
     | inr r ↦ elim r [
-      | inl z ↦ let d = start_dart v w x y p q l m a b A B na nb in none (twin_in v a) (d.0, d.1 ∙ sym m.more.source_first ∙ ap (source_in w) (sym z) ∙ o.1)
-      | inr z ↦ let d = start_dart v w y x q p l back b a B A nb na in none (twin_in v b) (d.0, d.1 ∙ sym m.more.source_second ∙ ap (source_in w) (sym z) ∙ o.1)
+      | inl z ↦ let d = start_dart v w x y p q l m a A na in none (twin_in v a) (d.0, d.1 ∙ sym m.more.source_first ∙ ap (source_in w) (sym z) ∙ o.1)
+      | inr z ↦ let d = start_dart v w y x q p l back b B nb in none (twin_in v b) (d.0, d.1 ∙ sym m.more.source_second ∙ ap (source_in w) (sym z) ∙ o.1)
     ]
   ]
 

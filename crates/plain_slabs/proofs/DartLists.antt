@@ -6,6 +6,7 @@ use Rattle.std.proofs.lemmas.Option.{get_or_from_slice_get, slice_get_within, sl
 use Rattle.std.proofs.Math.ListN.{length-map}
 use Rattle.exact_plane.specs.Span.{Span}
 use Rattle.plane_graphs.specs.Graph.{Edge, edges}
+use Rattle.plane_graphs.proofs.Sorting.{any_default}
 use Rattle.slab_laws.specs.SpansDrawn.{edge_of}
 use Rattle.slab_laws.specs.Skeleton.{same_edge}
 use Rattle.slab_laws.specs.Darts.{Dart, darts}
@@ -15,9 +16,8 @@ use Rattle.slab_laws.specs.declared.rows.ListedDart.{ListedDart}
 use Rattle.slab_laws.specs.declared.names.VertexId.{VertexId}
 use Rattle.slab_laws.specs.declared.names.DartId.{DartId}
 use Rattle.slab_laws.specs.View.{HasDart, IsOutOf, vertex_id, dart_id, source_in, target_in, twin_in, next_in, line_in}
-use Rattle.slab_faces.proofs.ClassesLemmas.{IsExact}
 use Rattle.slab_faces.proofs.Member.{in_member}
-use Rattle.slab_faces.proofs.Slabs.{same_edge_is, same_edge_refl}
+use Rattle.slab_faces.proofs.Places.{edges_exact}
 use Rattle.plain_slabs.specs.Listed.{Drawing, skeleton_in, line_at, view_of, faces_of}
 use Rattle.slab_laws.specs.FacesSound.{IsSound}
 use Rattle.sound_views.proofs.ListedPlaces.{at_place}
@@ -25,10 +25,7 @@ use Rattle.plain_slabs.proofs.ListedRecords.{IsDart, dart_of, has_dart, source_o
 use Rattle.plain_slabs.proofs.ListsSound.{lists_are_sound}
 use Rattle.plain_slabs.specs.declared.plain.Plain.TheInside.{Inside}
 use Rattle.plain_slabs.specs.SubdivisionInMemory.{drawing_of, IsSoundSubdivision}
-use Rattle.plain_slabs.proofs.Items.{within, item_is, read, no_row, get_or_default}
-
-edges_exact : IsExact same_edge
-edges_exact = record { itself = same_edge_refl; path = same_edge_is }
+use Rattle.plain_slabs.proofs.Items.{within, item_is, read, no_row}
 
 module _ (a : Inside) (k : IsSoundSubdivision a) where
   abbrev D : Drawing
@@ -167,5 +164,5 @@ module _ (a : Inside) (d : Drawing) (k : IsSoundSubdivision a) (is : drawing_of 
   none_out w n m f h o =
       let b = dart_within h o.0 in
       let r : ListedDart = get_or a.darts.items h.0 no_row in
-      let e : r ≡ get_or a.darts.items h.0 r = get_or_default a.darts.items h.0 no_row r b in
+      let e : r ≡ get_or a.darts.items h.0 r = any_default a.darts.items h.0 no_row r b in
       f h.0 (omega arith) (ap (λ w. w.0) (source_reads h r o.0 e ∙ o.1))

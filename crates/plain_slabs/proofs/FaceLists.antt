@@ -17,20 +17,8 @@ use Rattle.slab_laws.specs.Rows.{cycle_row, cycle_rows}
 use Rattle.slab_laws.specs.Subdivision.{Cycle, subdivision, first_cell}
 use Rattle.slab_faces.proofs.FacesLemmas.{cells_exact}
 use Rattle.sound_views.proofs.RankedFaces.{cycles_are, outer_faces, all_faces, faces_are}
+use Rattle.sound_views.proofs.FirstDarts.{all_kept, twice}
 use Rattle.plain_slabs.specs.Faces.{added}
-
--- a filter after a filter
-twice : {X : Type 0} (p q r : X → Bool) (xs : List X) → ((x : X) → r x ≡ (q x && p x)) → filter p (filter q xs) ≡ filter r xs
-twice p q r [] h = refl
-twice {X} p q r (x ∷ xs) h = step (q x) (h x) (twice p q r xs h)
-  where
-    step : (b : Bool) → r x ≡ (b && p x) → filter p (filter q xs) ≡ filter r xs → filter p (cond b (x ∷ filter q xs) (filter q xs)) ≡ cond (r x) (x ∷ filter r xs) (filter r xs)
-    step true e f = rw e (ap (λ ys. cond (p x) (x ∷ ys) ys) f)
-    step false e f = rw e f
-
-all_kept : {X : Type 0} (p : X → Bool) (xs : List X) → ((x : X) → p x ≡ true) → filter p xs ≡ xs
-all_kept p [] h = refl
-all_kept p (x ∷ xs) h = rw (h x) (ap (λ ys. x ∷ ys) (all_kept p xs h))
 
 -- the faces have no such one
 abbrev is_new : List SlabCell → SlabCell → Bool

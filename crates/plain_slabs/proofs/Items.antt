@@ -4,10 +4,10 @@ use Rattle.std.specs.Prelude.{slice_get, vec_len, Vec}
 use Rattle.std.specs.List.{filter}
 use Rattle.std.specs.Option.{option_map}
 use Rattle.plane_graphs.proofs.Loops.{take_next}
-use Rattle.slab_laws.specs.declared.rows.ListedDart.{ListedDart}
 use Rattle.std.proofs.lemmas.List.{append-nil, map-append, take_all}
 use Rattle.std.proofs.lemmas.List.Elements.{filter-append}
 use Rattle.std.proofs.lemmas.Option.{slice_get-map, slice_get_within, get_or_from_slice_get, slice_get-get_or}
+pub use Rattle.slab_cycles.proofs.TwinPlaces.{no_row}
 
 -- the list of the values of the elements of another
 module _ {X Y : Type 0} (f : X → Y) (xs : List X) (items : List Y) (are : items ≡ map f xs) (k : ℕ) (x : X) (at : slice_get xs k ≡ Some x) where
@@ -27,14 +27,6 @@ read xs k x h e = slice_get-get_or xs k x h ∙ ap Some (sym e)
 -- a number below the length of a list is one of the Vec's places
 pub place : {X A : Type 0} (v : Vec X A) (k : ℕ) → k < length v.items → k < vec_len v
 place v k h = let n = v.ok.0 in omega arith
-
--- a row for the places where there is none
-abbrev pub no_row : ListedDart
-no_row = record { source = 0; target = 0; edge = 0; forward = false }
-
--- within the list the default doesn't matter
-pub get_or_default : {X : Type 0} (xs : List X) (k : ℕ) (d e : X) → k < length xs → get_or xs k d ≡ get_or xs k e
-get_or_default xs k d e h = sym (get_or_from_slice_get xs k (get_or xs k d) e (slice_get-get_or xs k d h))
 
 -- what a loop has made of the elements that pass a test
 module _ {X Y : Type 0} (p : X → Bool) (f : X → Y) where

@@ -22,8 +22,8 @@ use Rattle.sound_views.proofs.ListedPlaces.{at_place, place_within, from_in}
 use Rattle.sound_views.proofs.ListedDarts.{dart_listed, listed_lead}
 use Rattle.sound_views.proofs.RankedFaces.{cycle_of, cycles_are}
 use Rattle.plane_graphs.proofs.Loops.{read_in}
+use Rattle.plane_graphs.proofs.Sorting.{any_default}
 use Rattle.plain_slabs.specs.Faces.{lead_row}
-use Rattle.plain_slabs.proofs.Items.{get_or_default}
 
 module _ (g : Skeleton) (plane : IsPlaneSkeleton g) where
   lead_there : (l : Dart) → Member (lead_list g) l → Member (dart_list g) l
@@ -51,7 +51,7 @@ module _ (g : Skeleton) (plane : IsPlaneSkeleton g) where
   leads_within ds ps e f = λ k d h. subst (λ n. get_or ps k d < n) (sym (ap length e ∙ length-map (dart_list g) (dart_row g))) (below (get_or ps k d) (subst (λ xs. Member xs (get_or ps k d)) f (from_in ps (get_or ps k d) (read_in ps k (get_or ps k d) h (default ps k d h)))))
     where
       default : (xs : List ℕ) (k d : ℕ) → k < length xs → get_or xs k d ≡ get_or xs k (get_or xs k d)
-      default xs k d h = get_or_default xs k d (get_or xs k d) h
+      default xs k d h = any_default xs k d (get_or xs k d) h
 
       below : (k : ℕ) → Member (map (dart_place g) (lead_list g)) k → k < length (dart_list g)
       below k h = let w = map_out (dart_place g) (lead_list g) k h in subst (λ n. n < length (dart_list g)) w.2 (place_within same_dart darts_exact (dart_list g) w.0 (lead_there w.0 w.1))

@@ -25,20 +25,17 @@ use Rattle.slab_laws.specs.Tables.{row_at}
 use Rattle.slab_laws.specs.View.{vertex_id, dart_id, HasVertex, HasDart, source_or, twin_or, next_or, line_or, point_or, point_in, source_in, twin_in, next_in, target_in, line_in}
 use Rattle.slab_laws.specs.Sound.{edge_between, dart_in}
 use Rattle.slab_faces.proofs.Member.{Member, in_member}
-use Rattle.slab_faces.proofs.ClassesLemmas.{IsExact}
 use Rattle.slab_faces.proofs.NextLemmas.{darts_exact, dart_out, dart_in as dart_there, start_in}
 use Rattle.slab_faces.proofs.PlaneGraphs.{counts}
 use Rattle.plain_slabs.specs.Listed.{Drawing, skeleton_in, line_at, vertex_record, dart_record, view_of}
 use Rattle.sound_views.proofs.ListedRows.{is_some_by, numbered_row, slice_get_member}
 use Rattle.sound_views.proofs.ListedPlaces.{at_place, place_at, apart_ascending}
 use Rattle.slab_faces.proofs.DartOrder.{dart_cmp_total, list_ascends}
-use Rattle.slab_faces.proofs.Parity.{same_point_is, same_point_refl}
+use Rattle.slab_faces.proofs.Places.{points_exact}
 use Rattle.sound_views.proofs.ListedDarts.{dart_listed, listed_dart, next_dart}
 use Rattle.sound_views.proofs.GraphDrawn.{between_forward}
+use Rattle.sound_views.proofs.NamedDarts.{by_points}
 use Rattle.integers.proofs.Tests.{not_true}
-
-pub points_exact : IsExact same_point
-points_exact = record { itself = same_point_refl; path = same_point_is }
 
 pub mapped_value : {X Y : Type 0} (f : X → Y) (o : Option X) → IsSome (option_map f o) → (x : X) × (o ≡ Some x)
 mapped_value f None h = absurd (false≢true h)
@@ -51,9 +48,6 @@ between_back p q h = rw h refl
 
 not_back : (p q : Point) → precedes p q ≡ true → precedes q p ≡ false
 not_back p q h = not_true (precedes q p) (λ k. lt_both (lt_out p q h) (lt_out q p k))
-
-abbrev by_points : Point → Point → Dart
-by_points p q = record { edge = edge_between p q; forward = precedes p q }
 
 pub dart_by_points : (e : Edge) (f : Bool) → precedes e.low e.high ≡ true → by_points (start e f) (start e (not f)) ≡ record { edge = e; forward = f }
 dart_by_points e true h = let a = between_forward e.low e.high h in λ i. record { edge = a i; forward = h i }

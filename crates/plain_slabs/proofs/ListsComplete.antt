@@ -24,10 +24,11 @@ use Rattle.slab_faces.proofs.NextLemmas.{dart_in as dart_there}
 use Rattle.plain_slabs.specs.Listed.{Drawing, skeleton_in, subdivision_in, cycle_record, view_of, faces_of}
 use Rattle.slab_faces.proofs.Searches.{range_ascend}
 use Rattle.slab_faces.proofs.Parity.{same_point_refl}
+use Rattle.slab_faces.proofs.Places.{points_exact}
 use Rattle.sound_views.proofs.ListedRows.{slice_get_member, numbered_ascend}
 use Rattle.sound_views.proofs.ListedPlaces.{Rising, rising_map, rising_weaker, rising_filter, rising_ascending, not_same, place_order}
 use Rattle.sound_views.proofs.ListedDarts.{listed_lead}
-use Rattle.plain_slabs.proofs.ListedRecords.{IsDart, IsVertex, points_exact, vertex_of, has_vertex, dart_of, has_dart as dart_has_record, source_of, plane, is_dart, of_edges, vertex_name, source_is}
+use Rattle.plain_slabs.proofs.ListedRecords.{IsDart, IsVertex, vertex_of, has_vertex, dart_of, has_dart as dart_has_record, source_of, plane, is_dart, of_edges, vertex_name, source_is}
 use Rattle.sound_views.proofs.RankedFaces.{rank_within, dart_face, vertex_face}
 use Rattle.plain_slabs.proofs.ListedFaces.{left_face, round_face, bare_of, dart_row, row_dart, cycle_is, has_cycle, cycle_by, cycle_face, has_face, bares_are, cycle_of_dart, cycle_name, IsBare, bare_out, bare_in}
 

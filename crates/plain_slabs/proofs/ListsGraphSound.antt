@@ -15,18 +15,14 @@ use Rattle.slab_laws.specs.Rotation.{twin, next}
 use Rattle.slab_laws.specs.Rows.{dart_list, vertex_place, edge_place, dart_place}
 use Rattle.slab_laws.specs.View.{vertex_id, dart_id, source_in, twin_in, next_in}
 use Rattle.slab_laws.specs.Sound.{IsNamed, IsTwinned, IsLinked, IsDrawn, IsTurned, IsGraphSound}
-use Rattle.slab_faces.proofs.Slabs.{same_edge_is, same_edge_refl}
 use Rattle.slab_faces.proofs.Member.{in_member}
-use Rattle.slab_faces.proofs.ClassesLemmas.{IsExact}
 use Rattle.slab_faces.proofs.NextLemmas.{next_from, next_one}
+use Rattle.slab_faces.proofs.Places.{edges_exact}
 use Rattle.plain_slabs.specs.Listed.{Drawing, skeleton_in, line_at, vertex_record, dart_record, view_of, AreLinesOf}
 use Rattle.sound_views.proofs.ListedRows.{numbered_ascend, slice_get_member}
 use Rattle.sound_views.proofs.ListedPlaces.{at_place, to_in}
 use Rattle.plain_slabs.proofs.ListedRecords.{IsDart, vertex_of, has_vertex, dart_of, has_dart, point_of, source_of, line_of, plane, of_edges, dart_name, vertex_name, source_is, twin_is, next_is, source_point, target_point, dart_is}
 use Rattle.plain_slabs.proofs.ListsDrawn.{view_draws}
-
-edges_exact : IsExact same_edge
-edges_exact = record { itself = same_edge_refl; path = same_edge_is }
 
 pub some_path : (h k : Dart) → Some h ≡ Some k → h ≡ k
 some_path h k e = cc

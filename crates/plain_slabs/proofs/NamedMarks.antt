@@ -20,8 +20,9 @@ use Rattle.slab_laws.specs.Rotation.{dart_cmp}
 use Rattle.slab_laws.specs.Sound.{IsGraphSound, dart_in}
 use Rattle.slab_laws.specs.Tables.{names}
 use Rattle.slab_laws.specs.View.{View, dart_id, point_in, source_in, target_in}
+use Rattle.slab_faces.proofs.DartOrder.{dart_cmp_total}
 use Rattle.sound_views.specs.Orders.{dart_order}
-use Rattle.sound_views.proofs.NamedDarts.{source_by, target_by, dart_cmp_total}
+use Rattle.sound_views.proofs.NamedDarts.{source_by, target_by}
 use Rattle.sound_views.proofs.NamesOrdered.{dart_ordered}
 use Rattle.sound_views.proofs.PulledOrders.{IsAscending-map}
 use Rattle.arr_notes.specs.Curves.{Curves}

@@ -14,7 +14,7 @@ use Rattle.plain_slabs.specs.declared.plain.Plain.TheInside.{Inside}
 use Rattle.plain_slabs.specs.SubdivisionInMemory.{drawing_of, IsSoundSubdivision}
 use Rattle.plain_slabs.proofs.Items.{within, item_is}
 
-pin_of : (d : Drawing) (w : VertexId) (p : Point) → IsVertex d w p → pinned_in (view_of d) w ≡ list_any (same_point p) d.graph.pins
+pub pin_of : (d : Drawing) (w : VertexId) (p : Point) → IsVertex d w p → pinned_in (view_of d) w ≡ list_any (same_point p) d.graph.pins
 unfolding view_of
 pin_of d w p i = ap pin_or (numbered_row (map (vertex_record d) d.graph.points) w.0 ∙ slice_get-map (vertex_record d) d.graph.points w.0 ∙ ap (option_map (vertex_record d)) i)
 

@@ -1,5 +1,5 @@
--- What `place` and `ascending` give.
-use Rattle.std.proofs.Common.{arith, Contains, zero, suc, ◌≡◌, List, [], ◌∷◌, refl, sym, ap, ◌∙◌, subst, inl, inr, ◌⊎◌, ⊎_elim, Ordering, Less, Equal, Greater, ap₂}
+-- What `place` and `ascending` give, and ascending lists.
+use Rattle.std.proofs.Common.{arith, Contains, zero, suc, ◌≡◌, List, [], ◌∷◌, map, refl, sym, ap, ◌∙◌, subst, inl, inr, ◌⊎◌, ⊎_elim, Ordering, Less, Equal, Greater, ap₂}
 use Rattle.std.specs.Cmp.{IsTotalOrder}
 use Rattle.std.specs.List.Sorted.{IsStrictlySortedBy}
 use Rattle.std.specs.List.{AllByRecursion}
@@ -12,6 +12,28 @@ module _ {X : Type 0} where
   All-member P x [] h m = absurd m
   All-member P x (y ∷ ys) h (inl e) = subst P (sym e) h.0
   All-member P x (y ∷ ys) h (inr m) = All-member P x ys h.1 m
+
+-- an order by which no two come one before the other both ways
+module _ {X : Type 0} (cmp : X → X → Ordering) (one_way : (x y : X) → cmp x y ≡ Less → cmp y x ≡ Less → ⊥) where
+  heads : (x y : X) (xs ys : List X) → IsAscending cmp (x ∷ xs) → IsAscending cmp (y ∷ ys) → Member x (y ∷ ys) → Member y (x ∷ xs) → x ≡ y
+  heads x y xs ys a b (inl e) n = e
+  heads x y xs ys a b (inr m) (inl f) = sym f
+  heads x y xs ys a b (inr m) (inr n) = absurd (one_way x y (All-member (λ z. cmp x z ≡ Less) y xs a.0 n) (All-member (λ z. cmp y z ≡ Less) x ys b.0 m))
+
+  tail_in : (x y : X) (xs ys : List X) → x ≡ y → IsAscending cmp (x ∷ xs) → ((z : X) → Member z (x ∷ xs) → Member z (y ∷ ys)) → (z : X) → Member z xs → Member z ys
+  tail_in x y xs ys e a f z m = elim (f z (inr m)) [
+    | inl g ↦ (let h : cmp x x ≡ Less = subst (λ w. cmp x w ≡ Less) (g ∙ sym e) (All-member (λ z. cmp x z ≡ Less) z xs a.0 m) in absurd (one_way x x h h))
+    | inr n ↦ n
+  ]
+
+  -- two ascending lists with the same members are one
+  pub only_list : (xs ys : List X) → IsAscending cmp xs → IsAscending cmp ys → ((z : X) → Member z xs → Member z ys) → ((z : X) → Member z ys → Member z xs) → xs ≡ ys
+  only_list [] [] a b f g = refl
+  only_list [] (y ∷ ys) a b f g = absurd (g y (inl refl))
+  only_list (x ∷ xs) [] a b f g = absurd (f x (inl refl))
+  only_list (x ∷ xs) (y ∷ ys) a b f g =
+      let e = heads x y xs ys a b (f x (inl refl)) (g y (inl refl)) in
+      ap₂ (λ z zs. z ∷ zs) e (only_list xs ys a.1 b.1 (tail_in x y xs ys e a f) (tail_in y x ys xs (sym e) b g))
 
 module _ {X : Type 0} (cmp : X → X → Ordering) (o : IsTotalOrder cmp) where
   above_all : (x y : X) (ys : List X) → cmp x y ≡ Less → AllByRecursion (λ z. cmp y z ≡ Less) ys → AllByRecursion (λ z. cmp x z ≡ Less) ys
@@ -53,25 +75,8 @@ module _ {X : Type 0} (cmp : X → X → Ordering) (o : IsTotalOrder cmp) where
   not_both : (x y : X) → cmp x y ≡ Less → cmp y x ≡ Less → ⊥
   not_both x y a b = not_itself x (o.trans x y x a b)
 
-  same_head : (x y : X) (xs ys : List X) → IsAscending cmp (x ∷ xs) → IsAscending cmp (y ∷ ys) → Member x (y ∷ ys) → Member y (x ∷ xs) → x ≡ y
-  same_head x y xs ys a b (inl e) m = e
-  same_head x y xs ys a b (inr k) (inl e) = sym e
-  same_head x y xs ys a b (inr k) (inr m) = absurd (not_both x y (All-member _ y xs a.0 m) (All-member (λ z. cmp y z ≡ Less) x ys b.0 k))
-
-  never : (x : X) (xs : List X) → AllByRecursion (λ z. cmp x z ≡ Less) xs → (z : X) → Member z xs → z ≡ x → ⊥
-  never x xs a z m e = not_itself x (subst (λ w. cmp x w ≡ Less) e (All-member _ z xs a m))
-
-  pass : (x y z : X) (xs ys : List X) → AllByRecursion (λ w. cmp x w ≡ Less) xs → x ≡ y → Member z xs → Member z (y ∷ ys) → Member z ys
-  pass x y z xs ys a e m (inl k) = absurd (never x xs a z m (k ∙ sym e))
-  pass x y z xs ys a e m (inr k) = k
-
   pub ascending_unique : (xs ys : List X) → IsAscending cmp xs → IsAscending cmp ys → ((x : X) → Member x xs → Member x ys) → ((x : X) → Member x ys → Member x xs) → xs ≡ ys
-  ascending_unique [] [] a b f g = refl
-  ascending_unique [] (y ∷ ys) a b f g = absurd (g y (inl refl))
-  ascending_unique (x ∷ xs) [] a b f g = absurd (f x (inl refl))
-  ascending_unique (x ∷ xs) (y ∷ ys) a b f g =
-      let e : x ≡ y = same_head x y xs ys a b (f x (inl refl)) (g y (inl refl)) in
-      ap₂ (λ z zs. z ∷ zs) e (ascending_unique xs ys a.1 b.1 (λ z m. pass x y z xs ys a.0 e m (f z (inr m))) (λ z m. pass y x z ys xs b.0 (sym e) m (g z (inr m))))
+  ascending_unique xs ys a b f g = only_list cmp not_both xs ys a b f g
 
   -- the elements are those that were given
   Member-placed : (z x : X) (t : Ordering) (y : X) (ys zs : List X) → (Member z zs → (z ≡ x) ⊎ Member z ys) → Member z (match_ordering t (x ∷ y ∷ ys) (y ∷ ys) (y ∷ zs)) → (z ≡ x) ⊎ Member z (y ∷ ys)
@@ -163,3 +168,13 @@ module _ {X : Type 0} where
   pub place_none : (cmp : X → X → Ordering) (x : X) → place cmp x [] ≡ x ∷ []
   unfolding place
   place_none cmp x = refl
+
+-- the images of an ascending list ascend where the map keeps the order of its elements
+module _ {X Y : Type 0} (cmp : X → X → Ordering) (cmp' : Y → Y → Ordering) (f : X → Y) where
+  All-map : (x : X) (xs : List X) → ((y : X) → Member y xs → cmp x y ≡ Less → cmp' (f x) (f y) ≡ Less) → AllByRecursion (λ y. cmp x y ≡ Less) xs → AllByRecursion (λ z. cmp' (f x) z ≡ Less) (map f xs)
+  All-map x [] h a = tt
+  All-map x (y ∷ ys) h a = (h y (inl refl) a.0, All-map x ys (λ z m. h z (inr m)) a.1)
+
+  pub IsAscending-map : (xs : List X) → ((x y : X) → Member x xs → Member y xs → cmp x y ≡ Less → cmp' (f x) (f y) ≡ Less) → IsAscending cmp xs → IsAscending cmp' (map f xs)
+  IsAscending-map [] h a = tt
+  IsAscending-map (x ∷ xs) h a = (All-map x xs (λ y m. h x y (inl refl) (inr m)) a.0, IsAscending-map xs (λ y z m n. h y z (inr m) (inr n)) a.1)

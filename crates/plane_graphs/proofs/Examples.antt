@@ -12,15 +12,15 @@ unfolding gcd_within gcd place ascending homogeneous_point crossing along on mar
 opened = tt
 
 -- the whole point (x, y)
-abbrev at : ℤ → ℤ → Point
+abbrev pub at : ℤ → ℤ → Point
 at x y = record { x = x; y = y; w = pos 1 }
 
 -- the point (x / w, y / w)
-abbrev over : ℤ → ℤ → ℕ → Point
+abbrev pub over : ℤ → ℤ → ℕ → Point
 over x y w = record { x = x; y = y; w = pos w }
 
 -- a whole segment, of the curve c
-abbrev piece : ℕ → Point → Point → Piece
+abbrev pub piece : ℕ → Point → Point → Piece
 piece c p q = record { curve = c; segment = record { lower = p; upper = q }; from = p; to = q }
 
 -- an empty present

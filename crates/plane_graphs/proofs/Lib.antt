@@ -4,7 +4,7 @@ pub mod Closed
 pub mod Crossed
 pub mod Crossings
 pub mod Edges
-mod Examples
+pub mod Examples
 pub mod Inner
 pub mod Laws
 pub mod Lines

@@ -14,9 +14,10 @@ use Rattle.slab_laws.specs.declared.names.DartId.{DartId}
 use Rattle.slab_laws.specs.Rotation.{dart_cmp}
 use Rattle.slab_laws.specs.View.{View, dart_id, point_in, source_in, target_in}
 use Rattle.slab_laws.specs.Sound.{dart_in, IsGraphSound}
+use Rattle.slab_faces.proofs.DartOrder.{dart_cmp_total}
 use Rattle.sound_views.specs.Orders.{dart_order}
 use Rattle.sound_views.proofs.PulledOrders.{IsAscending-map}
-use Rattle.sound_views.proofs.NamedDarts.{dart_name, named_dart, source_by, target_by, dart_cmp_total}
+use Rattle.sound_views.proofs.NamedDarts.{dart_name, named_dart, source_by, target_by}
 use Rattle.sound_views.proofs.NamesOrdered.{dart_ordered, ordered_dart}
 use Rattle.record_orders.specs.declared.darts.DartKey.{DartKey}
 use Rattle.record_orders.specs.Keys.{dart_key, dart_keys}

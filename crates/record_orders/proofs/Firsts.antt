@@ -12,8 +12,7 @@ use Rattle.exact_plane.specs.Point.{Point}
 use Rattle.exact_plane.specs.PointOrder.{point_cmp}
 use Rattle.exact_plane.specs.PointOrderLaws.{point_cmp_total, point_cmp_ties}
 use Rattle.slab_laws.specs.Skeleton.{same_point}
-use Rattle.slab_faces.proofs.ClassesLemmas.{IsExact}
-use Rattle.slab_faces.proofs.Parity.{same_point_is, same_point_refl}
+use Rattle.slab_faces.proofs.Places.{points_exact}
 use Rattle.record_orders.specs.declared.darts.DartKey.{DartKey}
 use Rattle.record_orders.specs.Keys.{AreBySource, first_out}
 
@@ -25,9 +24,6 @@ and_turned false b c = refl
 abbrev pub is_before : Point → DartKey → Bool
 is_before p k = is_lt (point_cmp k.source p)
 
-exact : IsExact same_point
-exact = record { itself = same_point_refl; path = same_point_is }
-
 -- as the code compares
 pub same_told : (q p : Point) → same_point q p ≡ (int_eq q.x p.x && (int_eq q.y p.y && int_eq q.w p.w))
 same_told q p = and_turned (int_eq q.x p.x) (int_eq q.y p.y) (int_eq q.w p.w)
@@ -38,7 +34,7 @@ tied q p e = same_told q p ∙ point_cmp_ties q p ∙ ap is_eq e
 
 module _ (p : Point) where
   not_here : (k : DartKey) → is_before p k ≡ true → same_point k.source p ≡ false
-  not_here k b = false_from_ne_true _ (λ h. let e : is_before p k ≡ false = ap (λ (q : Point). is_lt (point_cmp q p)) (exact.path k.source p h) ∙ ap is_lt (tied_itself point_cmp_total p) in cc)
+  not_here k b = false_from_ne_true _ (λ h. let e : is_before p k ≡ false = ap (λ (q : Point). is_lt (point_cmp q p)) (points_exact.path k.source p h) ∙ ap is_lt (tied_itself point_cmp_total p) in cc)
 
   -- what is skipped
   pub found_at : (ks : List DartKey) (i : ℕ) (d : DartKey) → i < length ks → ((j : ℕ) → j < i → is_before p (get_or ks j d) ≡ true) → same_point (get_or ks i d).source p ≡ true → find (λ k. same_point k.source p) ks ≡ Some (get_or ks i d)
@@ -58,7 +54,7 @@ module _ (p : Point) where
   passed k m Less e b h a s = cc
   passed k m Equal e b h a s = let t : same_point k.source p ≡ true = tied k.source p e in cc
   passed k m Greater e b h a s =
-      let t : is_lt (point_cmp m.source k.source) ≡ true = ap (λ (q : Point). is_lt (point_cmp q k.source)) (exact.path m.source p s) ∙ ap is_lt (reversed k.source e) in
+      let t : is_lt (point_cmp m.source k.source) ≡ true = ap (λ (q : Point). is_lt (point_cmp q k.source)) (points_exact.path m.source p s) ∙ ap is_lt (reversed k.source e) in
       cc
 
   behind : (k : DartKey) (ks : List DartKey) → is_before p k ≡ false → same_point k.source p ≡ false → AllByRecursion (λ m. is_lt (point_cmp m.source k.source) ≡ false) ks → AllByRecursion (λ m. same_point m.source p ≡ false) ks

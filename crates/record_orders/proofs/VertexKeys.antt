@@ -26,7 +26,7 @@ use Rattle.integers.proofs.Tests.{then_rest, not_tied}
 abbrev pub key_cmp : VertexKey → VertexKey → Ordering
 key_cmp k m = ordering_then (point_cmp k.point m.point) (nat_cmp k.name.0 m.name.0)
 
-key_cmp_total : IsTotalOrder key_cmp
+pub key_cmp_total : IsTotalOrder key_cmp
 key_cmp_total = then_total (on_total (λ k. k.point) point_cmp_total) (on_total (λ k. k.name.0) nat_cmp_total)
 
 module _ (v : View) where

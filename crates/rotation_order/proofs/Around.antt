@@ -18,7 +18,8 @@ use Rattle.slab_laws.specs.View.{View, HasVertex, HasDart, IsOutOf, vertex_id, d
 use Rattle.rotation_order.specs.Directions.{direction_before, dart_direction, IsAlong}
 use Rattle.rotation_order.proofs.ClockwiseEdges.{by_directions}
 use Rattle.rotation_order.specs.VertexRings.{turns_in, RingOf}
-use Rattle.rotation_order.proofs.RingNames.{edge_known, out_of}
+use Rattle.sound_views.proofs.NamedDarts.{edge_known}
+use Rattle.rotation_order.proofs.RingNames.{out_of}
 use Rattle.rotation_order.proofs.RingTurned.{strict_at}
 use Rattle.rotation_order.proofs.SoundRings.{sound_views_have_rings}
 use Rattle.rotation_order.specs.Place.{direction_in, sooner_way}
@@ -48,7 +49,7 @@ module _ (v : View) (s : IsGraphSound v) where
 
   pub along_line : (d : DartId) → HasDart v d → IsAlong (dart_in v d) (line_in v d)
   along_line d has =
-      let E = edge_known v s.twinned s.plane d has in
+      let E = edge_known v d has in
       let p = point_in v (source_in v d) in
       let q = point_in v (target_in v d) in
       let on = ends_on (line_in v d) (precedes p q) p q (s.drawn.starts d has) (s.drawn.ends d has) in

@@ -1,39 +1,26 @@
 -- The order of directions from straight down: total among all but the zero direction, with one direction for ties.
 use Rattle.std.proofs.Common.{◌≡◌, Bool, true, false, arith, refl, sym, ap, ◌∙◌, ◌⊎◌, ◌<◌, inl, inr, [], ◌∷◌, Ordering, Less, Equal, Greater}
-use Rattle.std.specs.Prelude.{ℤ, pos, ◌+ℤ◌, ◌-ℤ◌, ◌*ℤ◌, ◌<ℤ◌, ◌≤ℤ◌, ◌&&◌, ◌==◌, neg_ℤ}
+use Rattle.std.specs.Prelude.{ℤ, pos, ◌+ℤ◌, ◌-ℤ◌, ◌*ℤ◌, ◌<ℤ◌, ◌&&◌, ◌==◌, neg_ℤ}
 use Rattle.std.specs.Ordering.{is_lt, is_gt, ordering_reverse}
 use Rattle.std.specs.Cmp.{IsTotalOrder}
 use Rattle.std.proofs.lemmas.Bool.{and_parts, or_left, or_from, or_cases, false≢true, false_from_ne_true, lt-ltb, le-ltb, ltb-true, eqb-true}
-use Rattle.std.proofs.lemmas.Int.{ints, by_lt_z}
+use Rattle.std.proofs.lemmas.Int.{ints}
 use lib.Dec.{ltb}
 use lib.Signed.{lt_z}
 use Rattle.integers.proofs.Reify.{ring, sides}
-use Rattle.integers.proofs.Signs.{mul_pos, more, more_right}
+use Rattle.integers.proofs.Signs.{mul_pos, more}
 use Rattle.integers.proofs.Tests.{is_less, lt_is}
 use Rattle.exact_plane.specs.Direction.{Direction, IsOneDirection, turn, along, next_cmp}
 use Rattle.exact_plane.proofs.Directions.{square_nonneg}
 use Rattle.exact_plane.proofs.TurnLaws.{Proper, next_total}
 use Rattle.rotation_order.specs.Directions.{quarter, direction_before, straight_down}
-use Rattle.rotation_order.proofs.Quarters.{turn_order, one_quarter}
+use Rattle.rotation_order.proofs.Quarters.{squares, positive_factor, length_up, along_way, turn_order, one_quarter}
 
 -- it isn't the zero direction
 abbrev pub IsWay : Direction → Type 0
 IsWay d = pos 0 <ℤ (d.x *ℤ d.x +ℤ d.y *ℤ d.y)
 
 -- ---- some length
-squares : (a b : Direction) → turn a b *ℤ turn a b +ℤ along a b *ℤ along a b ≡ (a.x *ℤ a.x +ℤ a.y *ℤ a.y) *ℤ (b.x *ℤ b.x +ℤ b.y *ℤ b.y)
-squares a b = ring (a.x ∷ a.y ∷ b.x ∷ b.y ∷ []) (search sides depth 40 fits 20000) tt
-
-sum_up : (s t : ℤ) → pos 0 ≤ℤ s → pos 0 ≤ℤ t → pos 0 ≤ℤ (s +ℤ t)
-sum_up s t h k = omega (arith, ints)
-
-positive_factor : (n m s : ℤ) → pos 0 ≤ℤ n → pos 0 <ℤ s → s ≡ n *ℤ m → pos 0 <ℤ n
-positive_factor n m s h k e =
-    by_lt_z (pos 0) n (λ p. p)
-    (λ p. let z : n ≡ pos 0 = omega (arith, ints) in
-    let y : n *ℤ m ≡ pos 0 = ap (λ x. x *ℤ m) z ∙ ring (m ∷ []) (search sides depth 40 fits 20000) tt in
-    absurd (omega (arith, ints)))
-
 pub square_up : (z : ℤ) → z <ℤ pos 0 → pos 0 <ℤ (z *ℤ z)
 square_up z h =
     let k : pos 0 <ℤ neg_ℤ z = omega (arith, ints) in
@@ -41,18 +28,10 @@ square_up z h =
     let e : neg_ℤ z *ℤ neg_ℤ z ≡ z *ℤ z = ring (z ∷ []) (search sides depth 40 fits 20000) tt in
     omega (arith, ints)
 
-length_up : (a : Direction) → pos 0 ≤ℤ (a.x *ℤ a.x +ℤ a.y *ℤ a.y)
-length_up a = sum_up (a.x *ℤ a.x) (a.y *ℤ a.y) (square_nonneg a.x) (square_nonneg a.y)
-
 turning_way : (a b : Direction) → turn a b <ℤ pos 0 → IsWay a
 turning_way a b h =
     positive_factor (a.x *ℤ a.x +ℤ a.y *ℤ a.y) (b.x *ℤ b.x +ℤ b.y *ℤ b.y) (turn a b *ℤ turn a b +ℤ along a b *ℤ along a b) (length_up a)
     (more (turn a b *ℤ turn a b) (along a b *ℤ along a b) (square_up (turn a b) h) (square_nonneg (along a b))) (squares a b)
-
-along_way : (a b : Direction) → pos 0 <ℤ along a b → IsWay a
-along_way a b h =
-    positive_factor (a.x *ℤ a.x +ℤ a.y *ℤ a.y) (b.x *ℤ b.x +ℤ b.y *ℤ b.y) (turn a b *ℤ turn a b +ℤ along a b *ℤ along a b) (length_up a)
-    (more_right (turn a b *ℤ turn a b) (along a b *ℤ along a b) (square_nonneg (turn a b)) (mul_pos h h)) (squares a b)
 
 -- ---- the exact order, among ways
 abbrev proper : (a : Direction) → IsWay a → Proper

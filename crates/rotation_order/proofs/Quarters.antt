@@ -8,7 +8,7 @@ use Rattle.std.proofs.lemmas.Int.{ints, by_lt_z}
 use lib.Dec.{ltb}
 use lib.Signed.{lt_z}
 use Rattle.integers.proofs.Reify.{ring, sides}
-use Rattle.integers.proofs.Signs.{mul_pos}
+use Rattle.integers.proofs.Signs.{mul_pos, more_right}
 use Rattle.exact_plane.specs.Direction.{Direction, IsOneDirection, turn, along, last_quarter, last_place, next_cmp}
 use Rattle.exact_plane.proofs.Directions.{square_nonneg}
 use Rattle.edge_predicates.proofs.Sides.{less_is, greater_is}
@@ -48,6 +48,28 @@ turn_order a b =
     ∙ sym (then_is (quarter a) (quarter b) (nat_cmp (suc (quarter a)) (suc (quarter b))) (int_cmp (turn a b) (pos 0)) (ranked (suc (quarter a)) (suc (quarter b)) (nat_cmp (suc (quarter a)) (suc (quarter b))) refl))
     ∙ (λ i. is_lt (ordering_then (nat_cmp (sym (place_is a) i) (sym (place_is b) i)) (int_cmp (turn a b) (pos 0))))
 
+-- ---- some length
+pub squares : (a b : Direction) → turn a b *ℤ turn a b +ℤ along a b *ℤ along a b ≡ (a.x *ℤ a.x +ℤ a.y *ℤ a.y) *ℤ (b.x *ℤ b.x +ℤ b.y *ℤ b.y)
+squares a b = ring (a.x ∷ a.y ∷ b.x ∷ b.y ∷ []) (search sides depth 40 fits 20000) tt
+
+sum_up : (s t : ℤ) → pos 0 ≤ℤ s → pos 0 ≤ℤ t → pos 0 ≤ℤ (s +ℤ t)
+sum_up s t h k = omega (arith, ints)
+
+pub positive_factor : (n m s : ℤ) → pos 0 ≤ℤ n → pos 0 <ℤ s → s ≡ n *ℤ m → pos 0 <ℤ n
+positive_factor n m s h k e =
+    by_lt_z (pos 0) n (λ p. p)
+    (λ p. let z : n ≡ pos 0 = omega (arith, ints) in
+    let y : n *ℤ m ≡ pos 0 = ap (λ x. x *ℤ m) z ∙ ring (m ∷ []) (search sides depth 40 fits 20000) tt in
+    absurd (omega (arith, ints)))
+
+pub length_up : (a : Direction) → pos 0 ≤ℤ (a.x *ℤ a.x +ℤ a.y *ℤ a.y)
+length_up a = sum_up (a.x *ℤ a.x) (a.y *ℤ a.y) (square_nonneg a.x) (square_nonneg a.y)
+
+pub along_way : (a b : Direction) → pos 0 <ℤ along a b → pos 0 <ℤ (a.x *ℤ a.x +ℤ a.y *ℤ a.y)
+along_way a b h =
+    positive_factor (a.x *ℤ a.x +ℤ a.y *ℤ a.y) (b.x *ℤ b.x +ℤ b.y *ℤ b.y) (turn a b *ℤ turn a b +ℤ along a b *ℤ along a b) (length_up a)
+    (more_right (turn a b *ℤ turn a b) (along a b *ℤ along a b) (square_nonneg (turn a b)) (mul_pos h h)) (squares a b)
+
 -- ---- one direction goes one way
 scaled_x : (a b : Direction) → turn a b ≡ pos 0 → along a b *ℤ a.x ≡ (a.x *ℤ a.x +ℤ a.y *ℤ a.y) *ℤ b.x
 scaled_x a b e =
@@ -61,27 +83,9 @@ scaled_y a b e =
     ∙ (λ i. (a.x *ℤ a.x +ℤ a.y *ℤ a.y) *ℤ b.y -ℤ e i *ℤ a.x)
     ∙ ring (a.x ∷ a.y ∷ b.y ∷ []) (search sides depth 40 fits 20000) tt
 
-squares : (a b : Direction) → along a b *ℤ along a b +ℤ turn a b *ℤ turn a b ≡ (a.x *ℤ a.x +ℤ a.y *ℤ a.y) *ℤ (b.x *ℤ b.x +ℤ b.y *ℤ b.y)
-squares a b = ring (a.x ∷ a.y ∷ b.x ∷ b.y ∷ []) (search sides depth 40 fits 20000) tt
-
-positive_factor : (n m s t : ℤ) → pos 0 ≤ℤ n → pos 0 <ℤ s → pos 0 ≤ℤ t → s +ℤ t ≡ n *ℤ m → pos 0 <ℤ n
-positive_factor n m s t h k l e =
-    by_lt_z (pos 0) n (λ p. p)
-    (λ p. let z : n ≡ pos 0 = omega (arith, ints) in
-    let y : n *ℤ m ≡ pos 0 = ap (λ x. x *ℤ m) z ∙ ring (m ∷ []) (search sides depth 40 fits 20000) tt in
-    absurd (omega (arith, ints)))
-
-some_length : (a b : Direction) → IsOneDirection a b → pos 0 <ℤ (a.x *ℤ a.x +ℤ a.y *ℤ a.y)
-some_length a b h =
-    positive_factor (a.x *ℤ a.x +ℤ a.y *ℤ a.y) (b.x *ℤ b.x +ℤ b.y *ℤ b.y) (along a b *ℤ along a b) (turn a b *ℤ turn a b)
-    (sum_up (a.x *ℤ a.x) (a.y *ℤ a.y) (square_nonneg a.x) (square_nonneg a.y)) (mul_pos h.forward h.forward) (square_nonneg (turn a b)) (squares a b)
-  where
-    sum_up : (s t : ℤ) → pos 0 ≤ℤ s → pos 0 ≤ℤ t → pos 0 ≤ℤ (s +ℤ t)
-    sum_up s t h k = omega (arith, ints)
-
 pub one_quarter : (a b : Direction) → IsOneDirection a b → quarter a ≡ quarter b
 one_quarter a b h =
-    let N : pos 0 <ℤ (a.x *ℤ a.x +ℤ a.y *ℤ a.y) = some_length a b h in
+    let N : pos 0 <ℤ (a.x *ℤ a.x +ℤ a.y *ℤ a.y) = along_way a b h.forward in
     let ex = scaled_x a b h.straight in
     let ey = scaled_y a b h.straight in
     let l = same_sign (along a b) a.x (a.x *ℤ a.x +ℤ a.y *ℤ a.y) b.x h.forward N ex in

@@ -1,10 +1,7 @@
 -- The names of a view that draws a plane graph, and the darts that they name.
 use Rattle.std.proofs.Common.{◌≡◌, ℕ, Bool, true, false, not, refl, sym, ap, ◌∙◌, subst}
 use Rattle.std.specs.List.{Contains}
-use Rattle.plane_graphs.specs.Graph.{Edge, edge_cmp}
-use Rattle.plane_graphs.proofs.Ascending.{to_member, from_member}
-use Rattle.plane_graphs.proofs.Lists.{in_ascending, of_ascending}
-use Rattle.plane_graphs.proofs.Meaning.{edge_cmp_total, edge_cmp_exact}
+use Rattle.plane_graphs.specs.Graph.{Edge}
 use Rattle.rotation_order.specs.Ring.{Out}
 use Rattle.slab_laws.specs.declared.names.DartId.{DartId}
 use Rattle.slab_laws.specs.declared.names.VertexId.{VertexId}
@@ -13,7 +10,7 @@ use Rattle.slab_laws.specs.Rotation.{twin, OutOf}
 use Rattle.slab_laws.specs.Skeleton.{Skeleton, left_of, lower_than, IsPlaneSkeleton}
 use Rattle.slab_laws.specs.Sound.{skeleton_of, edge_in, dart_in, IsTwinned, IsDrawn}
 use Rattle.slab_laws.specs.View.{View, HasVertex, HasDart, vertex_id, dart_id, point_in, source_in, twin_in, target_in}
-use Rattle.sound_views.proofs.NamedDarts.{by_points, source_by, target_by, twin_by, row_edges, edge_row, row_edge}
+use Rattle.sound_views.proofs.NamedDarts.{source_by, target_by, edge_known, twin_drawn, named_along}
 use Rattle.rotation_order.specs.VertexRings.{turns_in}
 use Rattle.slab_faces.proofs.DartOrder.{lower_both}
 
@@ -32,51 +29,25 @@ edge_has_two_ends g plane e E q =
     lower_both e.low e.high up (subst (λ z. lower_than z e.low ≡ true) q (subst (λ z. lower_than e.low z ≡ true) (sym q) up))
 
 module _ (v : View) (twinned : IsTwinned v) (plane : IsPlaneSkeleton (skeleton_of v)) where
-  pub edge_known : (d : DartId) → HasDart v d → Contains (skeleton_of v).edges (edge_in v d)
-  edge_known d has = from_member (skeleton_of v).edges (edge_in v d) (in_ascending edge_cmp edge_cmp_total edge_cmp_exact (edge_in v d) (row_edges v) (edge_row v d has))
-
   ends_differ : (d : DartId) → HasDart v d → point_in v (source_in v d) ≡ point_in v (target_in v d) → ⊥
   ends_differ d has q =
       let a = point_in v (source_in v d) in
       let b = point_in v (target_in v d) in
-      edge_has_two_ends (skeleton_of v) plane (edge_in v d) (edge_known d has) (ends_meet (edge_in v d) (dart_in v d).forward (source_by a b ∙ q ∙ sym (target_by a b)))
+      edge_has_two_ends (skeleton_of v) plane (edge_in v d) (edge_known v d has) (ends_meet (edge_in v d) (dart_in v d).forward (source_by a b ∙ q ∙ sym (target_by a b)))
 
   pub twin_dart : (d : DartId) → HasDart v d → dart_in v (twin_in v d) ≡ twin (dart_in v d)
-  twin_dart d has =
-      ap (λ e. by_points (point_in v (target_in v d)) (point_in v (source_in v e))) (twinned.back d has)
-      ∙ twin_by (point_in v (source_in v d)) (point_in v (target_in v d)) (ends_differ d has)
-
-  -- a name whose dart goes along the edge, or that name's twin
-  either_way : (h : Dart) (d : DartId) → HasDart v d → h.edge ≡ edge_in v d → (d : DartId) × HasDart v d × (dart_in v d ≡ h)
-  either_way h d has e = step h.forward (dart_in v d).forward refl refl
-    where
-      along : (f : Bool) → (dart_in v d).forward ≡ f → f ≡ h.forward → (d : DartId) × HasDart v d × (dart_in v d ≡ h)
-      along f a b = (d, has, λ i. record { edge = (sym e) i; forward = (a ∙ b) i })
-
-      against : (f : Bool) → not (dart_in v d).forward ≡ f → f ≡ h.forward → (d : DartId) × HasDart v d × (dart_in v d ≡ h)
-      against f a b = (twin_in v d, twinned.has d has, twin_dart d has ∙ (λ i. record { edge = (sym e) i; forward = (a ∙ b) i }))
-
-      step : (f g : Bool) → h.forward ≡ f → (dart_in v d).forward ≡ g → (d : DartId) × HasDart v d × (dart_in v d ≡ h)
-      step true true a b = along true b (sym a)
-      step false false a b = along false b (sym a)
-      step true false a b = against true (ap not b) (sym a)
-      step false true a b = against false (ap not b) (sym a)
-
-  there : (h : Dart) → Contains (skeleton_of v).edges h.edge → (d : DartId) × HasDart v d × (dart_in v d ≡ h)
-  there h E =
-      let r = row_edge v h.edge (of_ascending edge_cmp edge_cmp_total edge_cmp_exact h.edge (row_edges v) (to_member (skeleton_of v).edges h.edge E)) in
-      either_way h r.0 r.1 r.2
+  twin_dart = twin_drawn v twinned ends_differ
 
   -- ---- the darts named out of a vertex are the graph's darts out of its point
   pub out_of : (w : VertexId) (n : ℕ) → Out (turns_in v) w.0 n → OutOf (skeleton_of v) (point_in v w) (dart_in v (dart_id n))
   out_of w n o = record {
-    in' = edge_known (dart_id n) o.0;
+    in' = edge_known v (dart_id n) o.0;
     at = source_by (point_in v (source_in v (dart_id n))) (point_in v (target_in v (dart_id n))) ∙ ap (λ m. point_in v (vertex_id m)) o.1;
   }
 
   pub named_out : IsDrawn v → ((d : DartId) → HasDart v d → HasVertex v (source_in v d)) → (w : VertexId) → HasVertex v w → (h : Dart) → OutOf (skeleton_of v) (point_in v w) h → (n : ℕ) × Out (turns_in v) w.0 n × (dart_in v (dart_id n) ≡ h)
   named_out drawn sourced w has h o =
-      let d = there h o.in' in
+      let d = named_along v twinned ends_differ h o.in' in
       let p = point_in v (source_in v d.0) in
       let q : p ≡ point_in v w = sym (source_by p (point_in v (target_in v d.0))) ∙ ap (λ k. start k.edge k.forward) d.2 ∙ o.at in
       (d.0.0, (d.1, ap (λ u. u.0) (drawn.points (source_in v d.0) w (sourced d.0 d.1) has q)), d.2)

@@ -24,7 +24,7 @@ use Rattle.slab_faces.proofs.InnerPoints.{before_out, inside_in as inside_counte
 use Rattle.edit_steps.specs.Edits.{whole_piece}
 use Rattle.edit_steps.specs.EditLaws.{PassesThrough}
 use Rattle.edit_steps.specs.Steps.{with_piece}
-use Rattle.edit_steps.proofs.Edits.{fit_part}
+use Rattle.edit_steps.proofs.Edits.{fit_before}
 use Rattle.edit_steps.proofs.Seen.{meeting_points as new_points}
 use Rattle.slab_laws.specs.declared.names.DartId.{DartId}
 use Rattle.slab_laws.specs.Skeleton.{inside, side, precedes}
@@ -54,7 +54,7 @@ module _ (v : View) (h : Curves) (s : IsGraphSound v) (a : AreCurvesOf v h) (p :
   l = line_of_segment g
 
   old_fit : IsFit p
-  old_fit = fit_part p q fit (λ m i. in_left m p.pieces (k ∷ []) i) (λ r i. i) fit.pins_ascend
+  old_fit = fit_before p k fit
 
   k_here : Member k q.pieces
   k_here = in_right k p.pieces (k ∷ []) (inl refl)

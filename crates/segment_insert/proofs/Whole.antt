@@ -12,13 +12,13 @@ use Rattle.plane_graphs.specs.Line.{same_point}
 use Rattle.plane_graphs.specs.Piece.{Piece, Present, on, along}
 use Rattle.plane_graphs.proofs.Ascending.{ascending_unique}
 use Rattle.plane_graphs.proofs.Edges.{edges_of_piece}
-use Rattle.plane_graphs.proofs.Lists.{in_left, in_right, any_in, not_out, clash, decide, in_filter, of_filter, of_place, IsAscending-filter}
+use Rattle.plane_graphs.proofs.Lists.{in_right, any_in, not_out, clash, decide, in_filter, of_filter, of_place, IsAscending-filter}
 use Rattle.plane_graphs.proofs.Order.{same_itself}
 use Rattle.plane_graphs.proofs.Vertices.{vertices_ascend}
 use Rattle.edit_steps.specs.Allowed.{AreSound}
 use Rattle.edit_steps.specs.Edits.{Insert, steps, whole_piece, IsAccepted}
 use Rattle.edit_steps.specs.Steps.{Step, apply, run, with_piece, segment_steps, vertex_step_by, vertex_steps, missing_points, more_step}
-use Rattle.edit_steps.proofs.Edits.{fit_part}
+use Rattle.edit_steps.proofs.Edits.{fit_before}
 use Rattle.edit_steps.proofs.Laws.{are_sound}
 use Rattle.edit_steps.proofs.Vertices.{vertices_change}
 use Rattle.edit_steps.proofs.Folds.{first_sound as sound_first}
@@ -74,7 +74,7 @@ module _ (v : View) (h : Curves) (s : IsGraphSound v) (a : AreCurvesOf v h) (p :
   k_here = in_right k p.pieces (k ∷ []) (inl refl)
 
   old_fit : IsFit p
-  old_fit = fit_part p q fit (λ m i. in_left m p.pieces (k ∷ []) i) (λ r i. i) fit.pins_ascend
+  old_fit = fit_before p k fit
 
   on_new : (x : Point) → Member x (meeting_points v g) → Member x (vertices q) × (on k x ≡ true)
   on_new x m = of_filter (on k) x (vertices q) (subst (Member x) (met v h s a p g c stands fit) m)

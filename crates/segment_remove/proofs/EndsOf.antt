@@ -5,12 +5,11 @@ use Rattle.std.specs.List.Sorted.{IsPermutation, IsSorted}
 use Rattle.std.specs.List.Retain.{IsFiltered, DiffersFromLast}
 use Rattle.std.specs.Ordering.{ordering_then, nat_cmp, eq_by_cmp}
 use Rattle.std.specs.Prelude.{Result, Ok, Err, IfOk}
-use Rattle.std.specs.Cmp.{IsTotalOrder, then_total, on_total, nat_cmp_total}
 use Rattle.std.proofs.lemmas.Cmp.{tied_itself}
 use Rattle.std.proofs.lemmas.List.{map-id}
 use Rattle.std.proofs.lemmas.List.Elements.{Contains-get_or}
 use Rattle.exact_plane.specs.PointOrder.{point_cmp}
-use Rattle.exact_plane.specs.PointOrderLaws.{point_cmp_ties, point_cmp_total, same_point}
+use Rattle.exact_plane.specs.PointOrderLaws.{point_cmp_ties, same_point}
 use Rattle.plane_graphs.specs.Ascending.{IsAscending, Member, ascending}
 use Rattle.plane_graphs.proofs.Ascending.{All-member, IsAscending-ascending, to_member}
 use Rattle.plane_graphs.proofs.Lists.{in_map, of_map, in_flat_map, of_flat_map, in_ascending, of_ascending}
@@ -21,16 +20,13 @@ use Rattle.sound_views.proofs.PulledOrders.{IsAscending-map}
 use Rattle.record_orders.specs.declared.darts.DartKey.{DartKey}
 use Rattle.record_orders.specs.declared.vertices.VertexKey.{VertexKey}
 use Rattle.record_orders.specs.Keys.{vertex_key}
-use Rattle.record_orders.proofs.VertexKeys.{key_cmp}
+use Rattle.record_orders.proofs.VertexKeys.{key_cmp, key_cmp_total}
 use Rattle.record_orders.proofs.Sorting.{all_members}
 use Rattle.plane_graphs.proofs.Arranged.{arranged}
 use Rattle.present_graphs.proofs.Ties.{same_numbers}
 use Rattle.segment_remove.specs.Ends.{two_ends, AreEnds}
 use Rattle.integers.proofs.Tests.{nat_exact, number_ties, both_equal}
 use Rattle.integers.proofs.Classes.{then_equal}
-
-key_cmp_total : IsTotalOrder key_cmp
-key_cmp_total = then_total (on_total (λ k. k.point) point_cmp_total) (on_total (λ k. k.name.0) nat_cmp_total)
 
 key_exact : (x y : VertexKey) → key_cmp x y ≡ Equal → x ≡ y
 key_exact x y e =

@@ -20,7 +20,7 @@ use Rattle.slab_cells.specs.CellLabels.{cell_cmp, ends, cell_at, link_at, labels
 use Rattle.slab_cells.proofs.LeastTransport.{least_number, least_number-le, StandsFor, transported, unlinked}
 use Rattle.slab_cells.proofs.LabelTables.{each_of, all_of}
 use Rattle.slab_cells.proofs.CellOrder.{cell_cmp_total, tied_is, less_below, less_differs, at_each, absent}
-use Rattle.slab_faces.proofs.Places.{rises}
+use Rattle.plane_graphs.proofs.Sorting.{rises}
 
 -- ---- a list of labels
 -- the label of the cell at k stands at k

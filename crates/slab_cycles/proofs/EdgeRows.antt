@@ -15,15 +15,12 @@ use Rattle.slab_laws.specs.declared.rows.ListedDart.{ListedDart}
 use Rattle.slab_laws.specs.Rotation.{same_dart}
 use Rattle.slab_faces.proofs.Slabs.{same_edge_is, same_edge_refl}
 use Rattle.slab_faces.proofs.Searches.{first_there}
+use Rattle.slab_cycles.proofs.Listed.{rows_length}
 use Rattle.slab_cycles.proofs.DartCells.{edge_there, dart_there, lead_there, place_of_dart, same_dart_place}
 use Rattle.integers.proofs.Tests.{not_true}
 
 -- ---- one row for each dart
 module _ (g : Skeleton) where
-  pub rows_length : length (dart_rows g) ≡ length (dart_list g)
-  unfolding dart_rows
-  rows_length = length-map (dart_list g) (dart_row g)
-
   pub leads_length : length (lead_places g) ≡ length (dart_list g)
   unfolding lead_places
   leads_length = length-map (dart_list g) (λ d. dart_place g (least_dart_of g d))

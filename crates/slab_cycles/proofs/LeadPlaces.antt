@@ -1,10 +1,8 @@
 -- The places of the least darts of cycles.
-use Rattle.std.proofs.Common.{◌≡◌, ℕ, zero, suc, ◌+◌, ◌<◌, ◌≤◌, true, false, List, [], ◌∷◌, ◌++◌, map, length, get_or, take, Result, Ok, Err, IfOk, Ordering, Less, Equal, Greater, is_lt, is_gt, refl, sym, ap, ◌∙◌, subst, arith, inl, inr}
+use Rattle.std.proofs.Common.{◌≡◌, ℕ, zero, suc, ◌+◌, ◌<◌, ◌≤◌, List, [], ◌∷◌, ◌++◌, map, length, get_or, take, Result, Ok, Err, IfOk, is_lt, is_gt, sym, ap, ◌∙◌, subst, arith, inl, inr}
 use Rattle.std.specs.List.{range_with_len}
-use Rattle.std.specs.Ordering.{ordering_reverse}
-use Rattle.std.specs.Cmp.{IsTotalOrder}
 use Rattle.std.proofs.lemmas.Bool.{cases_order, lt-ltb, le-ltb}
-use Rattle.std.proofs.lemmas.Cmp.{tied_itself, upto}
+use Rattle.std.proofs.lemmas.Cmp.{tied_itself}
 use Rattle.std.proofs.lemmas.List.{get_or-map, length-map, ext_get_or}
 use Rattle.std.proofs.lemmas.List.FromFn.{get_or-range_with_len, length-range_with_len}
 use Rattle.std.proofs.lemmas.List.Elements.{Contains-get_or}
@@ -15,41 +13,15 @@ use Rattle.slab_laws.specs.Cycles.{dart_labels}
 use Rattle.slab_laws.specs.Rotation.{dart_cmp, dart_below, same_dart, next}
 use Rattle.slab_laws.specs.Rows.{dart_list, no_dart, dart_at, dart_place, least_dart_of, next_places, lead_places}
 use Rattle.slab_faces.proofs.Member.{Member, in_member, map_in, map_out}
-use Rattle.slab_faces.proofs.ClassesLemmas.{IsOrder}
 use Rattle.slab_faces.proofs.Searches.{in_range as in_numbers}
 use Rattle.slab_faces.proofs.NextLemmas.{darts_exact, dart_in, dart_out, next_from}
 use Rattle.slab_cells.specs.LeastNumbers.{is_less, AreBelow}
 use Rattle.slab_cells.proofs.LeastTransport.{StandsFor, transported, least_number, least_number-le}
 use Rattle.slab_cycles.specs.Orbits.{link_at, place_links}
-use Rattle.slab_faces.proofs.DartOrder.{dart_cmp_total, list_ascends, link}
-use Rattle.slab_faces.proofs.Places.{rises as ascends}
+use Rattle.slab_faces.proofs.DartOrder.{dart_cmp_total, less_greater, dart_below_order, list_ascends, link}
+use Rattle.plane_graphs.proofs.Sorting.{rises as ascends}
 use Rattle.slab_cycles.proofs.Pushed.{pushed, all_pushed}
 use Rattle.slab_cycles.proofs.Listed.{dart_there, place_of_dart, dart_within, dart_at_place}
-
--- ---- what comes before, by a total order
-module _ {X : Type 0} (cmp : X → X → Ordering) (o : IsTotalOrder cmp) where
-  turned : (s : Ordering) → is_lt (ordering_reverse s) ≡ is_gt s
-  turned Less = refl
-  turned Equal = refl
-  turned Greater = refl
-
-  less_greater : (x y : X) → is_lt (cmp x y) ≡ is_gt (cmp y x)
-  less_greater x y = ap is_lt (o.antisymm x y) ∙ turned (cmp y x)
-
-  not_both : (s : Ordering) → is_lt s ≡ true → is_gt s ≡ false
-  not_both Less e = refl
-  not_both Equal e = refl
-  not_both Greater e = absurd cc
-
-  is_order : IsOrder (λ x y. is_lt (cmp x y))
-  is_order = record {
-    itself = λ x. ap is_lt (tied_itself o x);
-    down = λ x y z p q. less_greater x z ∙ upto o z y x (sym (less_greater y z) ∙ q) (sym (less_greater x y) ∙ p);
-    asym = λ x y p. less_greater y x ∙ not_both (cmp x y) p;
-  }
-
-dart_order : IsOrder dart_below
-dart_order = is_order dart_cmp dart_cmp_total
 
 module _ (g : Skeleton) (plane : IsPlaneSkeleton g) (nexts : List ℕ) (e : nexts ≡ next_places g) where
   nexts_length : length nexts ≡ length (dart_list g)
@@ -120,7 +92,7 @@ module _ (g : Skeleton) (plane : IsPlaneSkeleton g) (nexts : List ℕ) (e : next
 
   lead_is : (k : ℕ) → k < length (dart_list g) → dart_at g (least_number (place_links nexts) k) ≡ least_dart_of g (dart_at g k)
   unfolding dart_labels
-  lead_is k l = transported same_dart dart_below darts_exact dart_order (dart_at g) (length (dart_list g)) (place_links nexts) (map (link g) (darts g)) stands k l
+  lead_is k l = transported same_dart dart_below darts_exact dart_below_order (dart_at g) (length (dart_list g)) (place_links nexts) (map (link g) (darts g)) stands k l
 
   pub leads_are : (vs : List ℕ) → length vs ≡ length nexts → ((k : ℕ) → k < length nexts → get_or vs k 0 ≡ least_number (place_links nexts) k) → vs ≡ lead_places g
   unfolding lead_places

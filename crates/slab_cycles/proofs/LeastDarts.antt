@@ -19,7 +19,8 @@ use Rattle.slab_laws.specs.Rotation.{same_dart, dart_cmp}
 use Rattle.slab_laws.specs.Cycles.{leads}
 use Rattle.slab_laws.specs.Rows.{dart_list, dart_at, no_dart, dart_place, least_dart_of, lead_list, cycle_place, cycle_places, lead_places}
 use Rattle.slab_faces.proofs.NextLemmas.{darts_exact}
-use Rattle.slab_faces.proofs.Places.{rises, place_before}
+use Rattle.plane_graphs.proofs.Sorting.{rises}
+use Rattle.slab_faces.proofs.Places.{place_before}
 use Rattle.slab_faces.proofs.DartOrder.{dart_cmp_total, tied_darts, list_ascends}
 use Rattle.slab_cycles.proofs.DartCells.{listed_in, listed_out, lead_there, place_of_dart, same_dart_place}
 use Rattle.integers.proofs.Tests.{not_true}

@@ -1,5 +1,4 @@
 pub mod Placed
-pub mod Points
 pub mod RowOrder
 pub mod Listed
 pub mod Pushed

@@ -15,7 +15,8 @@ use Rattle.exact_plane.specs.PointOrder.{point_cmp}
 use Rattle.exact_plane.specs.PointOrderLaws.{point_cmp_total, same_point as one_point}
 use Rattle.plane_graphs.specs.Ascending.{Member, IsAscending}
 use Rattle.plane_graphs.specs.Graph.{Edge}
-use Rattle.plane_graphs.proofs.Ascending.{to_member, from_member, ascending_unique}
+use Rattle.plane_graphs.proofs.Ascending.{to_member, from_member, ascending_unique, IsAscending-map}
+use Rattle.plane_graphs.proofs.Sorting.{member_at, sorted_ascends}
 use Rattle.plane_graphs.proofs.Lists.{in_map, of_map, in_flat_map, of_flat_map}
 use Rattle.slab_laws.specs.declared.rows.ListedDart.{ListedDart}
 use Rattle.slab_laws.specs.Skeleton.{Skeleton, IsPlaneSkeleton, same_point, same_edge}
@@ -24,28 +25,18 @@ use Rattle.slab_laws.specs.SpansDrawn.{drawn, edge_of}
 use Rattle.slab_laws.specs.Rotation.{dart_cmp, same_dart, twin}
 use Rattle.slab_laws.specs.Rows.{dart_list, no_dart, dart_at, vertex_place, edge_place, dart_place, dart_row, dart_rows}
 use Rattle.slab_faces.proofs.Member.{member_in, in_member}
-use Rattle.slab_faces.proofs.Slabs.{same_edge_is, same_edge_refl}
-use Rattle.slab_faces.proofs.ClassesLemmas.{IsExact}
+use Rattle.slab_faces.proofs.Places.{points_exact, edges_exact}
 use Rattle.slab_faces.proofs.NextLemmas.{darts_exact, dart_out, dart_in}
 use Rattle.slab_faces.proofs.DartOrder.{dart_cmp_total, list_ascends, listed_out, listed_in}
 use Rattle.slab_cycles.specs.DartRows.{edge_rows, row_dart}
-use Rattle.slab_cycles.proofs.Placed.{AreApart, member_at, one_place, place_at, place_within, at_place, counted_apart, ascending_apart, lower}
-use Rattle.slab_cycles.proofs.Points.{points_exact}
-use Rattle.slab_cycles.proofs.RowOrder.{row_cmp, row_cmp_total, untied, sorted_ascends}
+use Rattle.slab_cycles.proofs.Placed.{AreApart, one_place, place_at, place_within, at_place, counted_apart, ascending_apart, lower}
+use Rattle.slab_cycles.proofs.RowOrder.{row_cmp, row_cmp_total, untied}
 use Rattle.integers.proofs.Tests.{nat_less}
 
-pub edges_exact : IsExact same_edge
-edges_exact = record { itself = same_edge_refl; path = same_edge_is }
-
--- a list whose order a map keeps
-module _ {X Y : Type 0} (cmp : X → X → Ordering) (cmp' : Y → Y → Ordering) (f : X → Y) where
-  All-map : (x : X) (xs : List X) → ((y : X) → Member y xs → cmp x y ≡ Less → cmp' (f x) (f y) ≡ Less) → AllByRecursion (λ y. cmp x y ≡ Less) xs → AllByRecursion (λ y. cmp' (f x) y ≡ Less) (map f xs)
-  All-map x [] h a = tt
-  All-map x (y ∷ ys) h a = (h y (inl refl) a.0, All-map x ys (λ z m. h z (inr m)) a.1)
-
-  IsAscending-map : (xs : List X) → ((x y : X) → Member x xs → Member y xs → cmp x y ≡ Less → cmp' (f x) (f y) ≡ Less) → IsAscending cmp xs → IsAscending cmp' (map f xs)
-  IsAscending-map [] h a = tt
-  IsAscending-map (x ∷ xs) h a = (All-map x xs (λ y m. h x y (inl refl) (inr m)) a.0, IsAscending-map xs (λ y z m n. h y z (inr m) (inr n)) a.1)
+-- one row for each dart
+pub rows_length : (g : Skeleton) → length (dart_rows g) ≡ length (dart_list g)
+unfolding dart_rows
+rows_length g = length-map (dart_list g) (dart_row g)
 
 module _ (g : Skeleton) (plane : IsPlaneSkeleton g) where
   -- ---- edges
@@ -88,10 +79,6 @@ module _ (g : Skeleton) (plane : IsPlaneSkeleton g) where
   dart_at_place d E = at_place same_dart darts_exact (dart_list g) d no_dart (in_list d E)
 
   -- ---- rows
-  pub rows_length : length (dart_rows g) ≡ length (dart_list g)
-  unfolding dart_rows
-  rows_length = length-map (dart_list g) (dart_row g)
-
   pub row_at : (k : ℕ) (r : ListedDart) → k < length (dart_list g) → get_or (dart_rows g) k r ≡ dart_row g (dart_at g k)
   unfolding dart_rows
   row_at k r l = get_or-map (dart_row g) (dart_list g) k no_dart r l
@@ -139,7 +126,7 @@ module _ (g : Skeleton) (plane : IsPlaneSkeleton g) where
     pub place_of_row : (d : Dart) (k : ℕ) (r : ListedDart) → Contains g.edges d.edge → k < length (dart_rows g) → get_or (dart_rows g) k r ≡ dart_row g d → k ≡ dart_place g d
     place_of_row d k r D l e =
         let w = dart_within d D in
-        let n = rows_length in
+        let n = rows_length g in
         one_place (dart_rows g) (ascending_apart row_cmp row_cmp_total (dart_rows g) rows_ascend) k (dart_place g d) r l (omega arith)
         (e ∙ sym (row_at (dart_place g d) r w ∙ ap (dart_row g) (dart_at_place d D)))
 
@@ -182,7 +169,7 @@ module _ (g : Skeleton) (plane : IsPlaneSkeleton g) where
     pub sorted_rows : (us vs : List ListedDart) → us ≡ flat_map (edge_rows g) g.edges → IsPermutation us vs → IsSorted row_cmp vs → vs ≡ dart_rows g
     sorted_rows us vs e p s =
         ascending_unique row_cmp row_cmp_total vs (dart_rows g)
-        (sorted_ascends us vs (subst (IsDistinct (eq_by_cmp row_cmp)) (sym e) (rows_distinct 0 g.edges (λ k l. edge_place_at k no_dart.edge l ∙ omega arith))) p s)
+        (sorted_ascends row_cmp row_cmp_total us vs (subst (IsDistinct (eq_by_cmp row_cmp)) (sym e) (rows_distinct 0 g.edges (λ k l. edge_place_at k no_dart.edge l ∙ omega arith))) p s)
         rows_ascend
         (λ r m. let w = of_flat_map (edge_rows g) r g.edges (subst (Member r) e (to_member us r (Contains-permutation vs us r (IsPermutation-sym us vs p) (from_member vs r m)))) in of_edge w.0 r (from_member g.edges w.0 w.1) w.2)
         (λ r m. to_member vs r (Contains-permutation us vs r p (from_member us r (subst (Member r) (sym e) (from_rows r m)))))

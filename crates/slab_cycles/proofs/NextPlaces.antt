@@ -36,7 +36,7 @@ module _ (points : List Point) (edges : List Span) (rows : List ListedDart) (pla
   row k = get_or rows k no_row
 
   pub within : (k : ℕ) → k < length rows → k < length (dart_list (drawn points edges))
-  within k l = let n = rows_length (drawn points edges) plane in let m = ap length e in omega arith
+  within k l = let n = rows_length (drawn points edges) in let m = ap length e in omega arith
 
   row_is : (k : ℕ) → k < length rows → get_or rows k no_row ≡ dart_row (drawn points edges) (dart_at (drawn points edges) k)
   row_is k l = ap (λ rs. get_or rs k no_row) e ∙ row_at G plane k no_row (within k l)
@@ -118,7 +118,7 @@ module _ (points : List Point) (edges : List Span) (rows : List ListedDart) (pla
       let V = source F in
       let W = vertex_there from f in
       let E = dart_there G plane from (within from f) in
-      let n = rows_length G plane in
+      let n = rows_length G in
       let m = ap length e in
       let follows = after_follows G V plane W F (ring_in G V plane W F.edge F.forward (record { in' = E; at = refl })) in
       let is : dart_at G best ≡ after F (ring (darts G) V) =
@@ -137,7 +137,7 @@ module _ (points : List Point) (edges : List Span) (rows : List ListedDart) (pla
       let r : k < length (dart_list G) = omega arith in
       let c : get_or twins k 0 ≡ dart_place G (twin (dart_at G k)) = ap (λ ts. get_or ts k 0) t ∙ get_or-map (λ d. dart_place G (twin d)) (dart_list G) k no_dart 0 r in
       let w = dart_within G plane (twin (dart_at G k)) (dart_there G plane k r) in
-      let n = rows_length G plane in
+      let n = rows_length G in
       let m = ap length e in
       omega arith
 

@@ -9,18 +9,16 @@ use Rattle.std.proofs.lemmas.Cmp.{tied_itself}
 use Rattle.std.proofs.lemmas.List.Elements.{Contains-get_or}
 use Rattle.std.proofs.lemmas.List.Sums.{position_or_len_is, sum_by-cons}
 use Rattle.plane_graphs.specs.Ascending.{Member, IsAscending}
-use Rattle.plane_graphs.proofs.Ascending.{to_member, from_member}
+use Rattle.plane_graphs.proofs.Ascending.{from_member}
+use Rattle.plane_graphs.proofs.Sorting.{rises}
 use Rattle.slab_faces.proofs.ClassesLemmas.{IsExact}
-use Rattle.slab_faces.proofs.Places.{rises, place_is, found_at}
+use Rattle.slab_faces.proofs.Places.{place_is, found_at}
 use Rattle.slab_cells.proofs.CellOrder.{absent}
 
 module _ {X : Type 0} where
   -- no element stands at two places
   pub record AreApart (xs : List X) : Type 0 where
     pub differ : (j k : ℕ) (d : X) → j < k → k < length xs → get_or xs j d ≡ get_or xs k d → ⊥
-
-  pub member_at : (xs : List X) (k : ℕ) (d : X) → k < length xs → Member (get_or xs k d) xs
-  member_at xs k d lt = to_member xs (get_or xs k d) (Contains-get_or xs k d lt)
 
   pub one_place : (xs : List X) → AreApart xs → (j k : ℕ) (d : X) → j < length xs → k < length xs → get_or xs j d ≡ get_or xs k d → j ≡ k
   one_place xs a j k d J K e =

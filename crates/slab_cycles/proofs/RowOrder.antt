@@ -1,17 +1,10 @@
 -- The order of rows: by source, target, edge and way.
-use Rattle.std.proofs.Common.{◌≡◌, Bool, true, false, cond, List, [], ◌∷◌, Ordering, Equal, refl, ap, ◌∙◌, subst}
-use Rattle.std.specs.List.{IsDistinct, dedup, dedup_from}
-use Rattle.std.specs.List.Sorted.{IsPermutation, IsSorted, IsStrictlySortedBy}
+use Rattle.std.proofs.Common.{◌≡◌, Bool, true, false, Ordering, Equal, refl}
 use Rattle.std.specs.Ordering.{ordering_then, nat_cmp, bool_cmp, eq_by_cmp}
 use Rattle.std.specs.Cmp.{IsTotalOrder, then_total, on_total, nat_cmp_total, bool_cmp_total}
 use Rattle.std.proofs.lemmas.Bool.{false_from_ne_true}
-use Rattle.std.proofs.lemmas.Cmp.{eq_by_cmp_equiv}
-use Rattle.std.proofs.lemmas.List.Kept.{IsStrictlySortedBy-dedup}
-use Rattle.std.proofs.lemmas.Map.Keys.{IsDistinct-IsPermutation}
 use Rattle.integers.proofs.Classes.{then_equal}
 use Rattle.integers.proofs.Tests.{nat_exact, is_equal}
-use Rattle.plane_graphs.specs.Ascending.{IsAscending}
-use Rattle.plane_graphs.proofs.Ascending.{from_std}
 use Rattle.slab_laws.specs.declared.rows.ListedDart.{ListedDart}
 
 abbrev pub row_cmp : ListedDart → ListedDart → Ordering
@@ -42,20 +35,3 @@ row_tied r s e =
 -- rows that differ are not tied
 pub untied : (r s : ListedDart) → (r ≡ s → ⊥) → eq_by_cmp row_cmp r s ≡ false
 untied r s h = false_from_ne_true _ (λ t. h (row_tied r s (is_equal (row_cmp r s) t)))
-
--- ---- what a sort of rows that differ leaves
-module _ {X : Type 0} (same : X → X → Bool) (flips : (x y : X) → same x y ≡ same y x) where
-  kept_from : (x : X) (xs : List X) → IsDistinct same (x ∷ xs) → dedup_from same x xs ≡ x ∷ xs
-  unfolding IsDistinct
-  kept_from x [] h = refl
-  kept_from x (y ∷ ys) h = ap (λ b. cond b (dedup_from same x ys) (x ∷ dedup_from same y ys)) (flips y x ∙ h.0.0) ∙ ap (λ zs. x ∷ zs) (kept_from y ys h.1)
-
-  all_kept : (xs : List X) → IsDistinct same xs → dedup same xs ≡ xs
-  all_kept [] h = refl
-  all_kept (x ∷ xs) h = kept_from x xs h
-
-pub sorted_ascends : (us vs : List ListedDart) → IsDistinct (eq_by_cmp row_cmp) us → IsPermutation us vs → IsSorted row_cmp vs → IsAscending row_cmp vs
-sorted_ascends us vs d p s =
-    from_std row_cmp vs
-    (subst (λ zs. IsStrictlySortedBy row_cmp zs) (all_kept (eq_by_cmp row_cmp) (eq_by_cmp_equiv row_cmp_total).symm vs (IsDistinct-IsPermutation (eq_by_cmp row_cmp) (eq_by_cmp_equiv row_cmp_total).symm us vs p d))
-    (IsStrictlySortedBy-dedup row_cmp_total (λ x y. refl) vs s))

@@ -1,5 +1,5 @@
 -- A cycle's darts are even in number at each vertex, so its weight above tells faces apart.
-use Rattle.std.proofs.Common.{◌≡◌, ℕ, ◌+◌, Bool, true, false, cond, arith, refl, sym, ap, ◌∙◌, List, map}
+use Rattle.std.proofs.Common.{◌≡◌, ℕ, ◌+◌, Bool, true, false, arith, refl, sym, ap, ◌∙◌, List, map}
 use Rattle.std.specs.Prelude.{◌&&◌}
 use Rattle.std.specs.List.{Contains, count_by, sum_by}
 use Rattle.std.proofs.lemmas.List.Sums.{sum_by-append}
@@ -10,7 +10,7 @@ use Rattle.slab_laws.specs.Weights.{IsEvenAtVertices, Even, weight_above}
 use Rattle.slab_laws.specs.Meets.{SameFace}
 use Rattle.slab_laws.specs.declared.slab_cell.SlabCell.{SlabCell}
 use Rattle.slab_faces.proofs.Sums.{sum_by-none}
-use Rattle.slab_faces.proofs.Shift.{IsSetBy, IsOneToOne, sum_by-map, handshake}
+use Rattle.slab_faces.proofs.Shift.{IsSetBy, IsOneToOne, sum_by-map, tally, handshake}
 use Rattle.slab_faces.proofs.Cells.{parity_face}
 use Rattle.slab_laws.specs.Classes.{class_of}
 use Rattle.slab_laws.specs.Rotation.{same_way, same_dart, dart_below, next}
@@ -20,9 +20,6 @@ use Rattle.slab_faces.proofs.ClassesLemmas.{along_link}
 use Rattle.slab_faces.proofs.NextLemmas.{darts_exact, dart_out, dart_in, next_from, next_one}
 
 -- ---- each dart is listed once
-abbrev tally : Bool → ℕ
-tally b = cond b 1 0
-
 once : (g : Skeleton) (d : Dart) → IsPlaneSkeleton g → Contains g.edges d.edge → count_by (same_dart d) (darts g) ≡ 1
 unfolding same_dart
 once g d plane E =

@@ -1,7 +1,8 @@
 -- The darts of a plane skeleton in their order: the order tells them apart, and what holds along `next` holds of a cycle's least dart.
-use Rattle.std.proofs.Common.{◌≡◌, Bool, true, false, refl, sym, ◌∙◌, subst, map, arith, Contains, Equal}
+use Rattle.std.proofs.Common.{◌≡◌, Bool, true, false, not, refl, sym, ap, ◌∙◌, subst, map, arith, Contains, Ordering, Less, Equal, Greater, is_lt, is_gt}
 use Rattle.std.specs.Cmp.{IsTotalOrder}
-use Rattle.std.proofs.lemmas.Cmp.{then_total, on_total}
+use Rattle.std.specs.Ordering.{ordering_reverse}
+use Rattle.std.proofs.lemmas.Cmp.{then_total, on_total, tied_itself, upto}
 use Rattle.std.proofs.lemmas.Int.{ints}
 use Rattle.integers.proofs.Classes.{then_equal}
 use Rattle.exact_plane.specs.Point.{Point}
@@ -12,17 +13,42 @@ use Rattle.plane_graphs.specs.Graph.{Edge}
 use Rattle.plane_graphs.proofs.Ascending.{IsAscending-ascending, Member-ascending, ascending-Member, from_member}
 use Rattle.slab_laws.specs.declared.classes.Link.{Link}
 use Rattle.slab_laws.specs.Skeleton.{Skeleton, left_of, lower_than, on_wall, IsPlaneSkeleton}
-use Rattle.slab_laws.specs.Darts.{Dart, darts, source, target}
+use Rattle.slab_laws.specs.Darts.{Dart, darts, start, source, target}
 use Rattle.slab_laws.specs.Rotation.{dart_cmp, dart_below, same_dart, next}
 use Rattle.slab_laws.specs.Cycles.{dart_labels}
 use Rattle.slab_laws.specs.Rows.{dart_list, least_dart_of}
 use Rattle.slab_faces.proofs.Member.{Member, in_member, map_out}
-use Rattle.slab_faces.proofs.ClassesLemmas.{connected, IsEquivalence}
+use Rattle.slab_faces.proofs.ClassesLemmas.{connected, IsEquivalence, IsOrder}
 use Rattle.slab_faces.proofs.NextLemmas.{darts_exact, dart_out}
 use Rattle.slab_faces.proofs.CyclesLemmas.{one_cycle}
 
 pub dart_cmp_total : IsTotalOrder dart_cmp
 dart_cmp_total = then_total (on_total source point_cmp_total) (on_total target point_cmp_total)
+
+-- what comes before, by a total order
+module _ {X : Type 0} (cmp : X → X → Ordering) (o : IsTotalOrder cmp) where
+  turned : (s : Ordering) → is_lt (ordering_reverse s) ≡ is_gt s
+  turned Less = refl
+  turned Equal = refl
+  turned Greater = refl
+
+  pub less_greater : (x y : X) → is_lt (cmp x y) ≡ is_gt (cmp y x)
+  less_greater x y = ap is_lt (o.antisymm x y) ∙ turned (cmp y x)
+
+  not_both : (s : Ordering) → is_lt s ≡ true → is_gt s ≡ false
+  not_both Less e = refl
+  not_both Equal e = refl
+  not_both Greater e = absurd cc
+
+  pub is_order : IsOrder (λ x y. is_lt (cmp x y))
+  is_order = record {
+    itself = λ x. ap is_lt (tied_itself o x);
+    down = λ x y z p q. less_greater x z ∙ upto o z y x (sym (less_greater y z) ∙ q) (sym (less_greater x y) ∙ p);
+    asym = λ x y p. less_greater y x ∙ not_both (cmp x y) p;
+  }
+
+pub dart_below_order : IsOrder dart_below
+dart_below_order = is_order dart_cmp dart_cmp_total
 
 pub lower_both : (p q : Point) → lower_than p q ≡ true → lower_than q p ≡ true → ⊥
 unfolding lower_than
@@ -42,17 +68,20 @@ module _ (g : Skeleton) (plane : IsPlaneSkeleton g) where
       let down : lower_than e.low e.high ≡ true = plane.upright e E (subst (λ z. on_wall z e.high ≡ true) b (subst (λ z. on_wall d.high z ≡ true) a (rw (left, right) refl))) in
       lower_both d.low d.high up (subst (λ z. lower_than z d.low ≡ true) (sym b) (subst (λ z. lower_than e.low z ≡ true) (sym a) down))
 
-  one_dart : (d e : Edge) (p q : Bool) → Contains g.edges d → Contains g.edges e → source (record { edge = d; forward = p }) ≡ source (record { edge = e; forward = q }) → target (record { edge = d; forward = p }) ≡ target (record { edge = e; forward = q }) → ◌≡◌ {A = Dart} (record { edge = d; forward = p }) (record { edge = e; forward = q })
-  one_dart d e true true D E a b = λ i. record { edge = record { low = a i; high = b i }; forward = true }
-  one_dart d e false false D E a b = λ i. record { edge = record { low = b i; high = a i }; forward = false }
-  one_dart d e true false D E a b = absurd (opposite d e D E a b)
-  one_dart d e false true D E a b = absurd (opposite d e D E b a)
+  pub one_dart : (d e : Dart) → Contains g.edges d.edge → Contains g.edges e.edge → source d ≡ source e → target d ≡ target e → d ≡ e
+  one_dart d e D E a b = go d.edge e.edge d.forward e.forward D E a b
+    where
+      go : (x y : Edge) (p q : Bool) → Contains g.edges x → Contains g.edges y → start x p ≡ start y q → start x (not p) ≡ start y (not q) → ◌≡◌ {A = Dart} (record { edge = x; forward = p }) (record { edge = y; forward = q })
+      go x y true true D E a b = λ i. record { edge = record { low = a i; high = b i }; forward = true }
+      go x y false false D E a b = λ i. record { edge = record { low = b i; high = a i }; forward = false }
+      go x y true false D E a b = absurd (opposite x y D E a b)
+      go x y false true D E a b = absurd (opposite x y D E b a)
 
   -- darts that the order doesn't tell apart are one
   pub tied_edges : (d e : Dart) → Contains g.edges d.edge → Contains g.edges e.edge → dart_cmp d e ≡ Equal → d ≡ e
   tied_edges d e D E h =
       let t = then_equal (point_cmp (source d) (source e)) (point_cmp (target d) (target e)) h in
-      one_dart d.edge e.edge d.forward e.forward D E (same_point (source d) (source e) t.0) (same_point (target d) (target e) t.1)
+      one_dart d e D E (same_point (source d) (source e) t.0) (same_point (target d) (target e) t.1)
 
   pub tied_darts : (x y : Dart) → In x (darts g) → In y (darts g) → dart_cmp x y ≡ Equal → x ≡ y
   tied_darts x y h k e = tied_edges x y (there x h) (there y k) e

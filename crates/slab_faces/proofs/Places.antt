@@ -1,19 +1,28 @@
 -- Places in a list whose elements ascend, and in one whose elements a test tells apart.
-use Rattle.std.proofs.Common.{◌≡◌, ℕ, ◌<◌, ◌≤◌, Bool, true, arith, sym, ap, ◌∙◌, subst, List, [], ◌∷◌, length, get_or, Contains, zero, suc, Ordering, Less, ⊎_elim}
+use Rattle.std.proofs.Common.{◌≡◌, ℕ, ◌<◌, ◌≤◌, Bool, true, arith, sym, ap, ◌∙◌, subst, List, length, get_or, Contains, Ordering, Less, ⊎_elim}
 use Rattle.std.specs.Prelude.{◌==◌}
 use Rattle.std.specs.List.{position_or_len}
 use Rattle.std.specs.Cmp.{IsTotalOrder}
 use Rattle.std.proofs.lemmas.Cmp.{tied_itself}
 use Rattle.std.proofs.lemmas.Bool.{eqb-true, eq-eqb, cases_lt}
-use Rattle.std.proofs.lemmas.List.Elements.{All-from_recursion}
 use Rattle.std.proofs.lemmas.List.Sums.{position_or_len_is, passes_at_first}
 use Rattle.plane_graphs.specs.Ascending.{IsAscending}
 use Rattle.plane_graphs.proofs.Lists.{both_ways}
+use Rattle.plane_graphs.proofs.Sorting.{rises}
+use Rattle.slab_laws.specs.Skeleton.{same_point, same_edge}
 use Rattle.slab_faces.proofs.ClassesLemmas.{IsExact}
+use Rattle.slab_faces.proofs.Parity.{same_point_is, same_point_refl}
 use Rattle.slab_faces.proofs.Searches.{first_there}
+use Rattle.slab_faces.proofs.Slabs.{same_edge_is, same_edge_refl}
 use Rattle.integers.proofs.Tests.{not_true}
 
 -- ---- a list, and a test that only an element and itself pass
+pub points_exact : IsExact same_point
+points_exact = record { itself = same_point_refl; path = same_point_is }
+
+pub edges_exact : IsExact same_edge
+edges_exact = record { itself = same_edge_refl; path = same_edge_is }
+
 module _ {X : Type 0} (same : X → X → Bool) (exact : IsExact same) (xs : List X) where
   pub place_is : (x : X) → Contains xs x → position_or_len (same x) xs < length xs
   place_is x m = first_there (same x) xs x m (exact.itself x)
@@ -30,14 +39,6 @@ module _ {X : Type 0} (same : X → X → Bool) (exact : IsExact same) (xs : Lis
       (λ h. eq-eqb _ _ (ap (λ z. position_or_len (same z) xs) (exact.path x y h)))
 
 -- ---- an ascending list
-module _ {X : Type 0} (cmp : X → X → Ordering) where
-  -- of two places the lower one has the lesser element
-  pub rises : (xs : List X) → IsAscending cmp xs → (j k : ℕ) (d : X) → j < k → k < length xs → cmp (get_or xs j d) (get_or xs k d) ≡ Less
-  rises [] a j k d h l = absurd (omega arith)
-  rises (x ∷ xs) a j zero d h l = absurd (omega arith)
-  rises (x ∷ xs) a zero (suc k) d h l = All-from_recursion (λ y. cmp x y ≡ Less) xs a.0 k d (omega arith)
-  rises (x ∷ xs) a (suc j) (suc k) d h l = rises xs a.1 j k d (omega arith) (omega arith)
-
 module _ {X : Type 0} (cmp : X → X → Ordering) (o : IsTotalOrder cmp) (same : X → X → Bool) (exact : IsExact same) where
   -- the place of what stands at k is k
   pub place_at : (xs : List X) → IsAscending cmp xs → (k : ℕ) (d : X) → k < length xs → position_or_len (same (get_or xs k d)) xs ≡ k

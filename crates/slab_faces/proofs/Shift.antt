@@ -103,12 +103,13 @@ sum_by-map f h [] = refl
 sum_by-map f h (x ∷ xs) = omega (arith, sum_by-cons f (h x) (map h xs), sum_by-cons (λ x. f (h x)) x xs, sum_by-map f h xs)
 
 -- ---- darts
-abbrev pub one_if : Bool → ℕ
-one_if b = cond b 1 0
+-- 1 for what passes, 0 for what doesn't
+abbrev pub tally : Bool → ℕ
+tally b = cond b 1 0
 
 -- how many of an edge's two darts are in the set
 abbrev pub darts_on : (Dart → Bool) → Edge → ℕ
-darts_on o e = one_if (o (ahead e)) + one_if (o (back e))
+darts_on o e = tally (o (ahead e)) + tally (o (back e))
 
 -- a set of darts that holds, with each, its next is even at each vertex
 pub handshake : (g : Skeleton) (eq : Dart → Dart → Bool) (next : Dart → Dart) (o : Dart → Bool) → IsSetBy eq (darts g) → IsOneToOne next (darts g) → ((h : Dart) → Contains (darts g) h → (source (next h) ≡ target h) × (o (next h) ≡ o h)) → IsEvenAtVertices g (darts_on o)
@@ -122,10 +123,10 @@ handshake g eq next o n s turns = record { even_at = λ v _. at v }
 
     at : (v : Point) → Even (sum_by (at_end (darts_on o) v) g.edges)
     at v =
-        let F : Dart → ℕ = λ h. cond (same_point (source h) v) (one_if (o h)) 0 in
-        let T : Dart → ℕ = λ h. cond (same_point (target h) v) (one_if (o h)) 0 in
+        let F : Dart → ℕ = λ h. cond (same_point (source h) v) (tally (o h)) 0 in
+        let T : Dart → ℕ = λ h. cond (same_point (target h) v) (tally (o h)) 0 in
         let a : sum_by T (darts g) ≡ sum_by (λ h. F (next h)) (darts g) =
-        sum_by-same T (λ h. F (next h)) (darts g) (each (λ h. T h ≡ F (next h)) (darts g) (λ h i. let k = turns h i in λ j. cond (same_point (sym k.0 j) v) (one_if (sym k.1 j)) 0)) in
+        sum_by-same T (λ h. F (next h)) (darts g) (each (λ h. T h ≡ F (next h)) (darts g) (λ h i. let k = turns h i in λ j. cond (same_point (sym k.0 j) v) (tally (sym k.1 j)) 0)) in
         let b = sum_by-shift eq next F (darts g) n s in
         let f1 = sum_by-append F (map ahead g.edges) (map back g.edges) in
         let f2 = sum_by-map F ahead g.edges in
@@ -138,5 +139,5 @@ handshake g eq next o n s turns = record { even_at = λ v _. at v }
         let r = sum_by-plus (λ e. T (ahead e)) (λ e. T (back e)) g.edges in
         let w : sum_by (at_end (darts_on o) v) g.edges ≡ sum_by (λ e. F (ahead e) + F (back e) + (T (ahead e) + T (back e))) g.edges =
         sum_by-same _ _ g.edges (each (λ e. at_end (darts_on o) v e ≡ F (ahead e) + F (back e) + (T (ahead e) + T (back e))) g.edges (λ e _.
-        deal (same_point e.low v) (same_point e.high v) (one_if (o (ahead e))) (one_if (o (back e))))) in
+        deal (same_point e.low v) (same_point e.high v) (tally (o (ahead e))) (tally (o (back e))))) in
         omega arith

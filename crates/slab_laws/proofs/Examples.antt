@@ -1,13 +1,15 @@
 -- The model computed on small presents. What it must give was found by another program, which works with exact fractions.
-use Rattle.std.proofs.Common.{◌≡◌, ℕ, ℤ, pos, negsuc, [], ◌∷◌, codes, map, true, false, refl}
+use Rattle.std.proofs.Common.{◌≡◌, ℕ, pos, negsuc, [], ◌∷◌, codes, map, true, false, refl}
 use Rattle.std.specs.Fmt.{digits}
 use Rattle.integers.specs.Divisor.{gcd_within, gcd}
 use Rattle.exact_plane.specs.Point.{Point}
 use Rattle.plane_graphs.specs.Ascending.{place, ascending}
 use Rattle.plane_graphs.specs.Line as line
-use Rattle.plane_graphs.specs.Piece.{Present, along, on, Piece}
+use Rattle.plane_graphs.specs.Piece.{Present, along, on}
 use Rattle.plane_graphs.specs.Graph as graphs
 use Rattle.plane_graphs.specs.Graph.{graph}
+pub use Rattle.plane_graphs.proofs.Examples.{at, piece}
+use Rattle.plane_graphs.proofs.Examples.{over}
 use Rattle.slab_laws.specs.declared.cell.Cell.{Cell}
 use Rattle.slab_laws.specs.declared.cell.Cell.TheVariants.{Vertex, Edge as OnEdge, Face}
 use Rattle.slab_laws.specs.declared.slab_cell.SlabCell.{SlabCell}
@@ -37,17 +39,6 @@ unfolding gcd_within gcd digits place ascending distinct line.homogeneous_point 
     whole.cycle whole.cycles whole.has_dart whole.ranked whole.subdivision whole.rank whole.spot_on whole.holds_in
     text.word text.number text.index text.triple text.ended text.vertex_line text.edge_line text.cycle_line text.face_lines text.numbered text.text_by text.text text.marks text.graph_text text.present_text
 opened = tt
-
--- the whole point (x, y)
-abbrev pub at : ℤ → ℤ → Point
-at x y = record { x = x; y = y; w = pos 1 }
-
--- the point (x / w, y / w)
-abbrev over : ℤ → ℤ → ℕ → Point
-over x y w = record { x = x; y = y; w = pos w }
-
-abbrev pub piece : ℕ → Point → Point → Piece
-piece c p q = record { curve = c; segment = record { lower = p; upper = q }; from = p; to = q }
 
 -- the cell that holds a point
 abbrev located : Present → Point → Cell

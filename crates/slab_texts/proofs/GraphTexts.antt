@@ -53,21 +53,19 @@ pub pins_read : (d : Drawing) → IsPlane d.graph → (word : List ℕ) (labels 
 pins_read d pl word labels words = text_alike word labels (subdivision (skeleton_in d)) (pins_in (view_of d)) d.graph.pins words (λ p m. pins_alike d pl p (subst (λ g. Member p g.vertices) (graph_is (skeleton_in d)) m))
 
 -- ---- the two texts
-abbrev plain_text : Subdivision → Marks → List ℕ
-plain_text s m = text_by (codes "arrangement") (λ f. []) s m
-
-by_name : (d : Drawing) → text_in (view_of d) (curves_at d) ≡ plain_text (subdivision (skeleton_of (view_of d))) (with_marks (pins_in (view_of d)) (words_in (view_of d) (curves_at d)))
+by_name : (d : Drawing) → text_in (view_of d) (curves_at d) ≡ text (subdivision (skeleton_of (view_of d))) (with_marks (pins_in (view_of d)) (words_in (view_of d) (curves_at d)))
 unfolding text_in marks_in text
 by_name d = refl
 
-of_graph : (d : Drawing) → graph_text d.graph ≡ plain_text (subdivision (skeleton_in d)) (with_marks d.graph.pins (map (edge_words d) (edges d.graph)))
+of_graph : (d : Drawing) → graph_text d.graph ≡ text (subdivision (skeleton_in d)) (with_marks d.graph.pins (map (edge_words d) (edges d.graph)))
 unfolding graph_text marks text
 of_graph d = refl
 
 pub text_is_the_graphs : TextIsTheGraphs
+unfolding text
 text_is_the_graphs d pl =
     let words : List (List (List ℕ)) = map (edge_words d) (edges d.graph) in
     by_name d
-    ∙ ap₂ (λ g ws. plain_text (subdivision g) (with_marks (pins_in (view_of d)) ws)) (view_draws d pl) (words_are d pl)
+    ∙ ap₂ (λ g ws. text (subdivision g) (with_marks (pins_in (view_of d)) ws)) (view_draws d pl) (words_are d pl)
     ∙ pins_read d pl (codes "arrangement") (λ f. []) words
     ∙ sym (of_graph d)

@@ -2,19 +2,17 @@
 use Rattle.std.proofs.Common.{◌≡◌, Bool, true, sym, ap, ◌∙◌, subst, map}
 use Rattle.std.specs.Prelude.{filter}
 use Rattle.std.specs.List.{list_any}
-use Rattle.std.specs.Option.{option_map}
-use Rattle.std.proofs.lemmas.Option.{slice_get-map}
 use Rattle.exact_plane.specs.Point.{Point}
 use Rattle.plane_graphs.specs.Ascending.{Member}
 use Rattle.plane_graphs.specs.Plane.{IsPlane}
 use Rattle.plane_graphs.proofs.Lists.{both_ways, in_filter, of_filter, any_in, any_out, filter_of_map}
 use Rattle.slab_laws.specs.declared.names.VertexId.{VertexId}
 use Rattle.slab_laws.specs.Skeleton.{same_point}
-use Rattle.slab_laws.specs.View.{point_in, pinned_in, pin_or}
+use Rattle.slab_laws.specs.View.{point_in, pinned_in}
 use Rattle.sound_views.specs.Orders.{vertex_order}
-use Rattle.plain_slabs.specs.Listed.{Drawing, vertex_record, view_of}
-use Rattle.sound_views.proofs.ListedRows.{numbered_row}
-use Rattle.plain_slabs.proofs.ListedRecords.{IsVertex, vertex_of, point_of}
+use Rattle.plain_slabs.specs.Listed.{Drawing, view_of}
+use Rattle.plain_slabs.proofs.ListedRecords.{vertex_of, point_of}
+use Rattle.plain_slabs.proofs.VertexLists.{pin_of}
 use Rattle.arr_text.specs.Reading.{pins_in}
 use Rattle.slab_texts.proofs.TextLists.{filter_same}
 use Rattle.slab_texts.proofs.TextOrders.{ordered_vertex, points_in_order}
@@ -24,12 +22,8 @@ use Rattle.slab_faces.proofs.Parity.{same_point_is, same_point_refl}
 abbrev pub is_pin : Drawing → Point → Bool
 is_pin d p = list_any (same_point p) d.graph.pins
 
-pinned_of : (d : Drawing) (w : VertexId) (p : Point) → IsVertex d w p → pinned_in (view_of d) w ≡ is_pin d p
-unfolding view_of
-pinned_of d w p i = ap pin_or (numbered_row (map (vertex_record d) d.graph.points) w.0 ∙ slice_get-map (vertex_record d) d.graph.points w.0 ∙ ap (option_map (vertex_record d)) i)
-
 pinned_is : (d : Drawing) (w : VertexId) → Member w (vertex_order (view_of d)) → pinned_in (view_of d) w ≡ is_pin d (point_in (view_of d) w)
-pinned_is d w m = let p = vertex_of d w (ordered_vertex d w m) in pinned_of d w p.0 p.1 ∙ ap (is_pin d) (sym (point_of d w p.0 p.1))
+pinned_is d w m = let p = vertex_of d w (ordered_vertex d w m) in pin_of d w p.0 p.1 ∙ ap (is_pin d) (sym (point_of d w p.0 p.1))
 
 module _ (d : Drawing) (pl : IsPlane d.graph) where
   -- the pins by name are the points of the graph that are among its pins

@@ -39,7 +39,7 @@ led_vertices : (v : View) (at : Option DartId) (x : DartId) (h : View) → (led 
 led_vertices v None x h = refl
 led_vertices v (Some a) x h = refl
 
-pub led_named : (v : View) (at : Option DartId) (x : DartId) (h : View) → IsNamed h → IsNamed (led v at x h)
+led_named : (v : View) (at : Option DartId) (x : DartId) (h : View) → IsNamed h → IsNamed (led v at x h)
 led_named v None x h n = n
 led_named v (Some a) x h n = (names_stay h n).next (twin_in v a) x
 
@@ -92,7 +92,7 @@ module _ (v : View) (d m : DartId) (u w : VertexId) (at_u at_w : Option DartId) 
     };
   }
 
-  named : IsNamed whole
+  pub named : IsNamed whole
   named = led_named v at_w m started (led_named v at_u d paired ((names_stay v s.named).pair d m first_row second_row))
 
   -- ---- the places at both ends

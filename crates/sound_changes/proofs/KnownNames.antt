@@ -5,16 +5,15 @@ use Rattle.exact_plane.specs.Point.{Point}
 use Rattle.exact_plane.specs.PointOrder.{point_cmp}
 use Rattle.exact_plane.specs.PointOrderLaws.{point_cmp_total, same_point as point_cmp_exact}
 use Rattle.plane_graphs.specs.Ascending.{Member, IsAscending}
-use Rattle.plane_graphs.specs.Graph.{Edge, edge_cmp}
+use Rattle.plane_graphs.specs.Graph.{edge_cmp}
 use Rattle.plane_graphs.specs.Line.{IsProper}
 use Rattle.plane_graphs.proofs.Ascending.{to_member, from_member, IsAscending-ascending}
 use Rattle.plane_graphs.proofs.Lists.{in_map, of_map, in_ascending, of_ascending}
-use Rattle.plane_graphs.proofs.Meaning.{edge_cmp_total, edge_cmp_exact}
-use Rattle.slab_laws.specs.declared.names.DartId.{DartId}
+use Rattle.plane_graphs.proofs.Meaning.{edge_cmp_total}
 use Rattle.slab_laws.specs.declared.names.VertexId.{VertexId}
 use Rattle.slab_laws.specs.Sound.{skeleton_of, edge_in, IsNamed, IsGraphSound}
-use Rattle.slab_laws.specs.View.{View, VertexRecord, HasVertex, HasDart, vertex_id, dart_id, point_in, point_or}
-use Rattle.sound_views.proofs.NamedDarts.{row_edges, edge_row, row_edge}
+use Rattle.slab_laws.specs.View.{View, VertexRecord, HasVertex, vertex_id, dart_id, point_in, point_or}
+pub use Rattle.sound_views.proofs.NamedDarts.{edge_known, known_edge}
 use Rattle.sound_views.proofs.NameTables.{has_name, name_has, row_found}
 
 module _ (v : View) (named : IsNamed v) where
@@ -32,12 +31,6 @@ module _ (v : View) (named : IsNamed v) where
   known_point q c =
       let r = of_map (λ (r : ℕ × VertexRecord). r.1.point) q v.vertices (of_ascending point_cmp point_cmp_total point_cmp_exact q _ (to_member (skeleton_of v).vertices q c)) in
       (vertex_id r.0.0, name_has v.vertices r.0.0 (in_map (λ (r : ℕ × VertexRecord). r.0) r.0 v.vertices r.1), r.2 ∙ sym (row_point r.0 r.1))
-
-pub edge_known : (v : View) (d : DartId) → HasDart v d → Contains (skeleton_of v).edges (edge_in v d)
-edge_known v d has = from_member (skeleton_of v).edges (edge_in v d) (in_ascending edge_cmp edge_cmp_total edge_cmp_exact (edge_in v d) (row_edges v) (edge_row v d has))
-
-pub known_edge : (v : View) (e : Edge) → Contains (skeleton_of v).edges e → (d : DartId) × HasDart v d × (e ≡ edge_in v d)
-known_edge v e c = row_edge v e (of_ascending edge_cmp edge_cmp_total edge_cmp_exact e (row_edges v) (to_member (skeleton_of v).edges e c))
 
 -- the points of a sound view are points of the plane
 pub points_proper : (v : View) → IsGraphSound v → (q : Point) → Contains (skeleton_of v).vertices q → IsProper q

@@ -69,7 +69,7 @@ module _ (v : View) (w : VertexId) (d n : DartId) (s : IsGraphSound v) (c : Fits
   named_4 : IsNamed v4
   named_4 = (names_stay v3 named_3).pair_less n m
 
-  named : IsNamed g
+  pub named : IsNamed g
   named = (names_stay v4 named_4).vertex_less w
 
   x1 : IsRedirected v v1 m t
@@ -227,10 +227,10 @@ module _ (v : View) (w : VertexId) (d n : DartId) (s : IsGraphSound v) (c : Fits
   only : (k : DartId) → HasDart v k → source_in v k ≡ w → (k ≡ n) ⊎ (k ≡ t)
   only = c.only
 
-  twinned_g : IsTwinned g
+  pub twinned_g : IsTwinned g
   twinned_g = twinned_back g v d t n m w halved s far_w only
 
-  sourced_g : (k : DartId) → HasDart g k → HasVertex g (source_in g k)
+  pub sourced_g : (k : DartId) → HasDart g k → HasVertex g (source_in g k)
   sourced_g = sourced_back g v d t n m w halved s far_w only
 
   -- ---- the point between

@@ -12,16 +12,14 @@ use Rattle.slab_laws.specs.declared.names.CurveId.{CurveId}
 use Rattle.slab_laws.specs.declared.names.DartId.{DartId}
 use Rattle.slab_laws.specs.declared.names.VertexId.{VertexId}
 use Rattle.slab_laws.specs.Sound.{IsNamed, IsGraphSound}
-use Rattle.slab_laws.specs.View.{View, DartRecord, HasDart, point_in, source_in, target_in}
-use Rattle.arr_notes.specs.ViewChanges.{with_pair}
-use Rattle.arr_notes.proofs.PairReads.{names_stay}
+use Rattle.slab_laws.specs.View.{View, HasDart, point_in, source_in, target_in}
 use Rattle.sound_changes.specs.EdgePlaces.{FitsAddedEdge, IsEdgeMore}
-use Rattle.sound_changes.proofs.EdgeAdded.{more, led_named}
+use Rattle.sound_changes.proofs.EdgeAdded.{more, named as added_named}
 use Rattle.sound_changes.proofs.RingsKept.{swapped, up, point_same, twinned_up, start_old, end_old}
 use Rattle.edit_steps.specs.Steps.{AddEdge as AddEdgeAt, apply}
 use Rattle.arr_notes.specs.declared.change.Change.TheVariants.{AddEdge}
 use Rattle.arr_notes.specs.Curves.{Curves, AreCurvesOf, step_curves, is_forward}
-use Rattle.arr_notes.specs.Step.{add_edge, led, followed}
+use Rattle.arr_notes.specs.Step.{add_edge}
 use Rattle.arr_notes.proofs.Names.{cases_dart}
 use Rattle.arr_notes.specs.RecordGraph.{drawn_graph}
 use Rattle.sound_views.specs.RecordGraphLaws.{IsMarkOf}
@@ -56,14 +54,8 @@ module _ (v : View) (d m : DartId) (u w : VertexId) (at_u at_w : Option DartId) 
   turned : IsEdgeMore v g m d w u l
   turned = swapped v g d m u w l edge_more
 
-  abbrev first_row : DartRecord
-  first_row = record { source = u; twin = m; next = followed v at_w m; line = l }
-
-  abbrev second_row : DartRecord
-  second_row = record { source = w; twin = d; next = followed v at_u d; line = l }
-
   named : IsNamed g
-  named = led_named v at_w m (led v at_u d (with_pair v d m first_row second_row)) (led_named v at_u d (with_pair v d m first_row second_row) ((names_stay v s.named).pair d m first_row second_row))
+  named = added_named v d m u w at_u at_w l s f
 
   apart : p ≢ q
   apart e = lt_never (lt_out p p (subst (λ z. precedes p z ≡ true) (sym e) forward))

@@ -25,7 +25,8 @@ use Rattle.sound_views.specs.RecordGraphLaws.{IsMarkOf}
 use Rattle.sound_changes.specs.StepLaws.{IsApplied}
 use Rattle.sound_changes.proofs.StepGraphs.{IsWithin, applied}
 use Rattle.sound_changes.proofs.StepHolds.{held_mark}
-use Rattle.sound_changes.proofs.StepMergeEdges.{joined, joined_named}
+use Rattle.sound_changes.proofs.Merges.{named as joined_named}
+use Rattle.sound_changes.proofs.StepMergeEdges.{joined}
 use Rattle.sound_changes.proofs.StepSplitEdge.{IsPartedAt, Part, part_of, of_part, whole_labelled, Whole, whole_of, of_whole, distinct, backward_m}
 use Rattle.sound_changes.proofs.StepSplitEdge.Part.{lower, upper, kept_too}
 use Rattle.sound_changes.proofs.StepSplitEdge.Whole.{whole, kept}

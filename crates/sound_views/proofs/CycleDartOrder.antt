@@ -1,8 +1,5 @@
 -- The darts of a plane graph in their order: the order tells them apart, and the least of a cycle is a dart.
-use Rattle.std.proofs.Common.{◌≡◌, true, false, refl, sym, ap, ◌∙◌, map, length, arith, Ordering, Less, Equal, Greater, is_lt, is_gt}
-use Rattle.std.specs.Cmp.{IsTotalOrder}
-use Rattle.std.specs.Ordering.{ordering_reverse}
-use Rattle.std.proofs.lemmas.Cmp.{tied_itself, upto}
+use Rattle.std.proofs.Common.{◌≡◌, false, map, length, arith}
 use Rattle.plane_graphs.specs.Ascending.{Member as In}
 use Rattle.plane_graphs.proofs.Ascending.{to_member, from_member}
 use Rattle.slab_laws.specs.Skeleton.{Skeleton, IsPlaneSkeleton}
@@ -13,41 +10,15 @@ use Rattle.slab_laws.specs.Cycles.{dart_labels}
 use Rattle.slab_faces.proofs.Member.{member_in}
 use Rattle.slab_faces.proofs.NextLemmas.{darts_exact}
 use Rattle.slab_faces.proofs.CyclesLemmas.{is_set, one_to_one}
-use Rattle.slab_faces.proofs.DartOrder.{dart_cmp_total, tied_darts, along, link}
-use Rattle.slab_faces.proofs.ClassesLemmas.{not_above, IsOrder}
+use Rattle.slab_faces.proofs.DartOrder.{dart_cmp_total, dart_below_order, tied_darts, along, link}
+use Rattle.slab_faces.proofs.ClassesLemmas.{not_above}
 use Rattle.sound_views.specs.FaceOrderLaws.{AllAreListed}
 use Rattle.sound_views.proofs.FacesAscend.{different, none_dropped}
-
--- ---- the order
--- what comes before, by a total order
-module _ {X : Type 0} (cmp : X → X → Ordering) (o : IsTotalOrder cmp) where
-  turned : (s : Ordering) → is_lt (ordering_reverse s) ≡ is_gt s
-  turned Less = refl
-  turned Equal = refl
-  turned Greater = refl
-
-  less_greater : (x y : X) → is_lt (cmp x y) ≡ is_gt (cmp y x)
-  less_greater x y = ap is_lt (o.antisymm x y) ∙ turned (cmp y x)
-
-  not_both : (s : Ordering) → is_lt s ≡ true → is_gt s ≡ false
-  not_both Less e = refl
-  not_both Equal e = refl
-  not_both Greater e = absurd cc
-
-  pub is_order : IsOrder (λ x y. is_lt (cmp x y))
-  is_order = record {
-    itself = λ x. ap is_lt (tied_itself o x);
-    down = λ x y z p q. less_greater x z ∙ upto o z y x (sym (less_greater y z) ∙ q) (sym (less_greater x y) ∙ p);
-    asym = λ x y p. less_greater y x ∙ not_both (cmp x y) p;
-  }
-
-dart_order : IsOrder dart_below
-dart_order = is_order dart_cmp dart_cmp_total
 
 -- no dart comes before the least of its cycle
 pub lead_not_after : (g : Skeleton) (d : Dart) → dart_below d (least_dart_of g d) ≡ false
 unfolding dart_labels
-lead_not_after g d = not_above same_dart dart_below darts_exact dart_order (map (link g) (darts g)) d
+lead_not_after g d = not_above same_dart dart_below darts_exact dart_below_order (map (link g) (darts g)) d
 
 module _ (g : Skeleton) (plane : IsPlaneSkeleton g) where
   -- none of the darts is dropped

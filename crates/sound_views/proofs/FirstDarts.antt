@@ -10,7 +10,7 @@ use Rattle.slab_laws.specs.Listed.{distinct}
 
 module _ {X : Type 0} where
   -- ---- what a filter keeps
-  all_kept : (p : X → Bool) (xs : List X) → ((x : X) → p x ≡ true) → filter p xs ≡ xs
+  pub all_kept : (p : X → Bool) (xs : List X) → ((x : X) → p x ≡ true) → filter p xs ≡ xs
   all_kept p [] h = refl
   all_kept p (x ∷ xs) h = rw (h x) (ap (λ ys. x ∷ ys) (all_kept p xs h))
 
@@ -19,7 +19,7 @@ module _ {X : Type 0} where
   none_kept p (x ∷ xs) h = rw (h x (inl refl)) (none_kept p xs (λ y m. h y (inr m)))
 
   -- a filter after a filter
-  twice : (p q r : X → Bool) (xs : List X) → ((x : X) → r x ≡ (q x && p x)) → filter p (filter q xs) ≡ filter r xs
+  pub twice : (p q r : X → Bool) (xs : List X) → ((x : X) → r x ≡ (q x && p x)) → filter p (filter q xs) ≡ filter r xs
   twice p q r [] h = refl
   twice p q r (x ∷ xs) h = step (q x) (h x) (twice p q r xs h)
     where

@@ -31,7 +31,7 @@ module _ (v : View) (s : IsGraphSound v) (w : VertexId) where
   none_leaves h d out =
       let p = point_in v (source_in v d) in
       let at : start (dart_in v d).edge (dart_in v d).forward ≡ point_in v w = source_by p (point_in v (target_in v d)) ∙ ap (point_in v) out.1 in
-      let m : Member (skeleton_of v).edges (dart_in v d).edge = in_member (skeleton_of v).edges (dart_in v d).edge (edge_known v s d out.0) in
+      let m : Member (skeleton_of v).edges (dart_in v d).edge = in_member (skeleton_of v).edges (dart_in v d).edge (edge_known v d out.0) in
       let a = none_passes (ends_at (point_in v w)) (skeleton_of v).edges h (dart_in v d).edge m in
       let b = starts_there (dart_in v d).edge (dart_in v d).forward (point_in v w) at in
       cc

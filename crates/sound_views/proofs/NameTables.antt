@@ -1,4 +1,4 @@
--- Rows of a table by their names.
+-- Names, and rows of a table by them.
 use Rattle.std.proofs.Common.{◌≡◌, ℕ, ◌<◌, Bool, true, false, cond, arith, refl, sym, ap, inl, inr, List, [], ◌∷◌, Some}
 use Rattle.std.specs.Prelude.{IsSome, ◌==◌}
 use Rattle.std.proofs.lemmas.Bool.{false≢true, eq-eqb, eqb-true}
@@ -7,6 +7,12 @@ use Rattle.plane_graphs.specs.Ascending.{Member}
 use Rattle.plane_graphs.proofs.Ascending.{All-member}
 use Rattle.plane_graphs.proofs.Lists.{in_map}
 use Rattle.slab_laws.specs.Tables.{row_at, names, NamesAscend}
+use Rattle.slab_faces.proofs.ClassesLemmas.{IsExact}
+use Rattle.arr_notes.specs.CycleNames.{same_name}
+
+-- the test of names tells them apart
+pub names_exact : IsExact same_name
+names_exact = record { itself = λ d. eq-eqb d.0 d.0 refl; path = λ d e h. let q = eqb-true d.0 e.0 h in λ i. record { 0 = q i } }
 
 pub other_number : (i n : ℕ) → i < n → (i == n) ≡ false
 other_number i n h = grind (arith, nat_tests)

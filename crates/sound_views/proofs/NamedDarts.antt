@@ -2,12 +2,10 @@
 use Rattle.std.proofs.Common.{◌≡◌, Bool, true, false, not, refl, sym, ap, ap₂, ◌∙◌, subst, List, map, Equal}
 use Rattle.std.specs.Prelude.{if◌then◌else◌}
 use Rattle.std.specs.List.{Contains}
-use Rattle.std.specs.Cmp.{IsTotalOrder}
 use Rattle.std.proofs.lemmas.Bool.{false≢true}
-use Rattle.std.proofs.lemmas.Cmp.{then_total, on_total}
 use Rattle.exact_plane.specs.Point.{Point}
 use Rattle.exact_plane.specs.PointOrder.{point_cmp}
-use Rattle.exact_plane.specs.PointOrderLaws.{point_cmp_total, same_point as point_cmp_exact}
+use Rattle.exact_plane.specs.PointOrderLaws.{same_point as point_cmp_exact}
 use Rattle.integers.proofs.Classes.{then_equal}
 use Rattle.integers.proofs.Tests.{not_true}
 use Rattle.plane_graphs.specs.Ascending.{Member}
@@ -24,7 +22,7 @@ use Rattle.slab_laws.specs.Darts.{Dart, darts, source, target}
 use Rattle.slab_laws.specs.Rotation.{twin, dart_cmp}
 use Rattle.slab_laws.specs.Tables.{names}
 use Rattle.slab_laws.specs.View.{View, HasVertex, HasDart, vertex_id, dart_id, point_in, source_in, twin_in, target_in}
-use Rattle.slab_laws.specs.Sound.{skeleton_of, edge_between, edge_in, dart_in, IsGraphSound}
+use Rattle.slab_laws.specs.Sound.{skeleton_of, edge_between, edge_in, dart_in, IsTwinned, IsGraphSound}
 use Rattle.slab_faces.proofs.Member.{member_in, in_member}
 use Rattle.slab_faces.proofs.NextLemmas.{dart_out, dart_in as dart_there}
 use Rattle.sound_views.specs.OrderLaws.{NamesAreDarts}
@@ -71,9 +69,6 @@ one_first p q f = step (tri p q)
 pub twin_by : (p q : Point) → (p ≡ q → ⊥) → by_points q p ≡ twin (by_points p q)
 twin_by p q f = turned_by (precedes p q) (precedes q p) p q (one_first p q f)
 
-pub dart_cmp_total : IsTotalOrder dart_cmp
-dart_cmp_total = then_total (on_total source point_cmp_total) (on_total target point_cmp_total)
-
 -- ---- the names of a view
 pub vertex_name : (v : View) (w : VertexId) → HasVertex v w → Member w (map vertex_id (names v.vertices))
 vertex_name v w has = in_map vertex_id w.0 (names v.vertices) (has_name v.vertices w.0 has)
@@ -101,6 +96,13 @@ row_edge v e m =
     let r = of_map (λ r. edge_in v (dart_id r.0)) e v.darts m in
     (dart_id r.0.0, name_has v.darts r.0.0 (in_map (λ r. r.0) r.0 v.darts r.1), r.2)
 
+-- the edges of the graph are those of the names
+pub edge_known : (v : View) (d : DartId) → HasDart v d → Contains (skeleton_of v).edges (edge_in v d)
+edge_known v d has = from_member (skeleton_of v).edges (edge_in v d) (in_ascending edge_cmp edge_cmp_total edge_cmp_exact (edge_in v d) (row_edges v) (edge_row v d has))
+
+pub known_edge : (v : View) (e : Edge) → Contains (skeleton_of v).edges e → (d : DartId) × HasDart v d × (e ≡ edge_in v d)
+known_edge v e c = row_edge v e (of_ascending edge_cmp edge_cmp_total edge_cmp_exact e (row_edges v) (to_member (skeleton_of v).edges e c))
+
 -- names whose darts the order does not tell apart have one dart
 pub same_dart_of : (v : View) (d e : DartId) → dart_cmp (dart_in v d) (dart_in v e) ≡ Equal → dart_in v d ≡ dart_in v e
 same_dart_of v d e k =
@@ -113,6 +115,33 @@ same_dart_of v d e k =
     let b : q ≡ y = sym (target_by p q) ∙ point_cmp_exact (target (dart_in v d)) (target (dart_in v e)) t.1 ∙ target_by x y in
     ap₂ by_points a b
 
+-- ---- the names of a view whose twins are twins, and no dart of which ends where it begins
+module _ (v : View) (twinned : IsTwinned v) (ends_differ : (d : DartId) → HasDart v d → point_in v (source_in v d) ≡ point_in v (target_in v d) → ⊥) where
+  pub twin_drawn : (d : DartId) → HasDart v d → dart_in v (twin_in v d) ≡ twin (dart_in v d)
+  twin_drawn d has =
+      ap (λ e. by_points (point_in v (target_in v d)) (point_in v (source_in v e))) (twinned.back d has)
+      ∙ twin_by (point_in v (source_in v d)) (point_in v (target_in v d)) (ends_differ d has)
+
+  -- a name whose dart goes along the edge, or that name's twin
+  either_way : (h : Dart) (d : DartId) → HasDart v d → h.edge ≡ edge_in v d → (d : DartId) × HasDart v d × (dart_in v d ≡ h)
+  either_way h d has e = step h.forward (dart_in v d).forward refl refl
+    where
+      along : (f : Bool) → (dart_in v d).forward ≡ f → f ≡ h.forward → (d : DartId) × HasDart v d × (dart_in v d ≡ h)
+      along f a b = (d, has, λ i. record { edge = (sym e) i; forward = (a ∙ b) i })
+
+      against : (f : Bool) → not (dart_in v d).forward ≡ f → f ≡ h.forward → (d : DartId) × HasDart v d × (dart_in v d ≡ h)
+      against f a b = (twin_in v d, twinned.has d has, twin_drawn d has ∙ (λ i. record { edge = (sym e) i; forward = (a ∙ b) i }))
+
+      step : (f g : Bool) → h.forward ≡ f → (dart_in v d).forward ≡ g → (d : DartId) × HasDart v d × (dart_in v d ≡ h)
+      step true true a b = along true b (sym a)
+      step false false a b = along false b (sym a)
+      step true false a b = against true (ap not b) (sym a)
+      step false true a b = against false (ap not b) (sym a)
+
+  -- a name of the dart
+  pub named_along : (h : Dart) → Contains (skeleton_of v).edges h.edge → (d : DartId) × HasDart v d × (dart_in v d ≡ h)
+  named_along h E = let r = known_edge v h.edge E in either_way h r.0 r.1 r.2
+
 -- ---- the names of a sound view
 module _ (v : View) (s : IsGraphSound v) where
   twin_points : (d : DartId) → HasDart v d → dart_in v (twin_in v d) ≡ by_points (point_in v (target_in v d)) (point_in v (source_in v d))
@@ -123,36 +152,13 @@ module _ (v : View) (s : IsGraphSound v) where
   ends_differ d has e = s.twinned.other d has (s.turned.differ (twin_in v d) d (s.twinned.has d has) has (twin_points d has ∙ ap₂ by_points (sym e) e))
 
   pub twin_dart : (d : DartId) → HasDart v d → dart_in v (twin_in v d) ≡ twin (dart_in v d)
-  twin_dart d has = twin_points d has ∙ twin_by (point_in v (source_in v d)) (point_in v (target_in v d)) (ends_differ d has)
-
-  pub edge_known : (d : DartId) → HasDart v d → Contains (skeleton_of v).edges (edge_in v d)
-  edge_known d has = from_member (skeleton_of v).edges (edge_in v d) (in_ascending edge_cmp edge_cmp_total edge_cmp_exact (edge_in v d) (row_edges v) (edge_row v d has))
+  twin_dart = twin_drawn v s.twinned ends_differ
 
   pub known : (d : DartId) → HasDart v d → Contains (darts (skeleton_of v)) (dart_in v d)
-  known d has = member_in (darts (skeleton_of v)) (dart_in v d) (dart_there (skeleton_of v) (edge_in v d) (dart_in v d).forward (edge_known d has))
-
-  -- a name whose dart goes along the edge, or that name's twin
-  either_way : (h : Dart) (d : DartId) → HasDart v d → h.edge ≡ edge_in v d → (d : DartId) × HasDart v d × (dart_in v d ≡ h)
-  either_way h d has e = step h.forward (dart_in v d).forward refl refl
-    where
-      along : (f : Bool) → (dart_in v d).forward ≡ f → f ≡ h.forward → (d : DartId) × HasDart v d × (dart_in v d ≡ h)
-      along f a b = (d, has, λ i. record { edge = (sym e) i; forward = (a ∙ b) i })
-
-      against : (f : Bool) → not (dart_in v d).forward ≡ f → f ≡ h.forward → (d : DartId) × HasDart v d × (dart_in v d ≡ h)
-      against f a b = (twin_in v d, s.twinned.has d has, twin_dart d has ∙ (λ i. record { edge = (sym e) i; forward = (a ∙ b) i }))
-
-      step : (f g : Bool) → h.forward ≡ f → (dart_in v d).forward ≡ g → (d : DartId) × HasDart v d × (dart_in v d ≡ h)
-      step true true a b = along true b (sym a)
-      step false false a b = along false b (sym a)
-      step true false a b = against true (ap not b) (sym a)
-      step false true a b = against false (ap not b) (sym a)
+  known d has = member_in (darts (skeleton_of v)) (dart_in v d) (dart_there (skeleton_of v) (edge_in v d) (dart_in v d).forward (edge_known v d has))
 
   pub there : (h : Dart) → Contains (darts (skeleton_of v)) h → (d : DartId) × HasDart v d × (dart_in v d ≡ h)
-  there h c =
-      let E = dart_out (skeleton_of v) h (in_member (darts (skeleton_of v)) h c) in
-      let m = of_ascending edge_cmp edge_cmp_total edge_cmp_exact h.edge (row_edges v) (to_member (skeleton_of v).edges h.edge E) in
-      let r = row_edge v h.edge m in
-      either_way h r.0 r.1 r.2
+  there h c = named_along v s.twinned ends_differ h (dart_out (skeleton_of v) h (in_member (darts (skeleton_of v)) h c))
 
 pub names_are_darts : NamesAreDarts
 names_are_darts = record {

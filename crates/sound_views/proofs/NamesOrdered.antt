@@ -20,11 +20,12 @@ use Rattle.slab_laws.specs.Rows.{dart_list}
 use Rattle.slab_laws.specs.Tables.{names}
 use Rattle.slab_laws.specs.View.{View, HasVertex, HasDart, vertex_id, dart_id, point_in, point_or, twin_in}
 use Rattle.slab_laws.specs.Sound.{skeleton_of, dart_in, IsGraphSound}
+use Rattle.slab_faces.proofs.DartOrder.{dart_cmp_total}
 use Rattle.sound_views.specs.Orders.{vertex_order, dart_order}
 use Rattle.sound_views.specs.OrderLaws.{VerticesInOrder, VerticesAreOrdered, DartsInOrder, DartsAreOrdered, EdgesInOrder}
 use Rattle.sound_views.proofs.PulledOrders.{map_ascending, ascending_same, IsAscending-map}
 use Rattle.sound_views.proofs.NameTables.{row_found}
-use Rattle.sound_views.proofs.NamedDarts.{dart_cmp_total, vertex_name, named_vertex, dart_name, named_dart, same_dart_of, row_edges, edge_row, row_edge, twin_dart, known, there}
+use Rattle.sound_views.proofs.NamedDarts.{vertex_name, named_vertex, dart_name, named_dart, same_dart_of, row_edges, edge_row, row_edge, twin_dart, known, there}
 
 -- the names of vertices and of darts, as they stand in the tables
 abbrev vertex_names : View → List VertexId

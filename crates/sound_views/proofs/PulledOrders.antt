@@ -1,10 +1,10 @@
--- Ascending lists under a comparison of images, and of images.
-use Rattle.std.proofs.Common.{◌≡◌, List, [], ◌∷◌, map, refl, ap, ◌∙◌, Ordering, Less, Equal, Greater, inl, inr}
+-- Ascending lists under a comparison of images.
+use Rattle.std.proofs.Common.{◌≡◌, List, [], ◌∷◌, map, refl, ap, ◌∙◌, Ordering, Less, Equal, Greater}
 use Rattle.std.specs.Cmp.{IsTotalOrder}
-use Rattle.std.specs.List.{AllByRecursion}
 use Rattle.std.specs.Ordering.{match_ordering}
-use Rattle.plane_graphs.specs.Ascending.{place, ascending, Member, IsAscending}
+use Rattle.plane_graphs.specs.Ascending.{place, ascending, Member}
 use Rattle.plane_graphs.proofs.Ascending.{IsAscending-ascending, Member-ascending, ascending-Member, ascending_is}
+pub use Rattle.plane_graphs.proofs.Ascending.{IsAscending-map}
 
 module _ {X Y : Type 0} (f : X → Y) (cmp : Y → Y → Ordering) where
   -- elements as their images compare
@@ -32,13 +32,3 @@ pub ascending_same : {X : Type 0} (cmp : X → X → Ordering) (o : IsTotalOrder
 ascending_same cmp o xs ys exact there back =
     ascending_is cmp o ys (ascending cmp xs) exact (IsAscending-ascending cmp o xs) (λ x m. there x (Member-ascending cmp o x xs m))
     (λ x m. ascending-Member cmp o x xs (λ y z a b e. exact y z (there y a) (there z b) e) (back x m))
-
--- the images of an ascending list ascend where the map keeps the order of its elements
-module _ {X Y : Type 0} (cmp : X → X → Ordering) (cmp' : Y → Y → Ordering) (f : X → Y) where
-  All-map : (x : X) (xs : List X) → ((y : X) → Member y xs → cmp x y ≡ Less → cmp' (f x) (f y) ≡ Less) → AllByRecursion (λ y. cmp x y ≡ Less) xs → AllByRecursion (λ z. cmp' (f x) z ≡ Less) (map f xs)
-  All-map x [] h a = tt
-  All-map x (y ∷ ys) h a = (h y (inl refl) a.0, All-map x ys (λ z m. h z (inr m)) a.1)
-
-  pub IsAscending-map : (xs : List X) → ((x y : X) → Member x xs → Member y xs → cmp x y ≡ Less → cmp' (f x) (f y) ≡ Less) → IsAscending cmp xs → IsAscending cmp' (map f xs)
-  IsAscending-map [] h a = tt
-  IsAscending-map (x ∷ xs) h a = (All-map x xs (λ y m. h x y (inl refl) (inr m)) a.0, IsAscending-map xs (λ y z m n. h y z (inr m) (inr n)) a.1)

@@ -1,5 +1,5 @@
 -- The darts out of a vertex in their ring: each once, and no more than there are in all.
-use Rattle.std.proofs.Common.{◌≡◌, suc, ◌≤◌, Bool, true, false, not, List, [], ◌∷◌, length, Ordering, Less, Equal, Greater, refl, sym, ap, ◌∙◌, subst, arith, inl, inr}
+use Rattle.std.proofs.Common.{◌≡◌, suc, ◌≤◌, Bool, true, false, List, [], ◌∷◌, length, Ordering, Less, Equal, Greater, refl, sym, ap, ◌∙◌, subst, arith, inl, inr}
 use Rattle.std.specs.Prelude.{filter, ◌||◌}
 use Rattle.std.specs.List.{Contains}
 use Rattle.std.specs.Ordering.{match_ordering}
@@ -8,38 +8,16 @@ use Rattle.std.proofs.lemmas.List.Sums.{length-filter, count_by-le-length}
 use Rattle.exact_plane.specs.Point.{Point}
 use Rattle.plane_graphs.specs.Ascending.{place, ascending}
 use Rattle.plane_graphs.specs.Graph.{Edge}
-use Rattle.slab_laws.specs.Skeleton.{Skeleton, same_point, left_of, lower_than, on_wall, IsPlaneSkeleton}
-use Rattle.slab_laws.specs.Darts.{Dart, start, source, target, darts}
+use Rattle.slab_laws.specs.Skeleton.{Skeleton, same_point, IsPlaneSkeleton}
+use Rattle.slab_laws.specs.Darts.{Dart, start, source, darts}
 use Rattle.slab_laws.specs.Rotation.{earlier, turn_cmp, ring, OutOf}
 use Rattle.slab_laws.specs.Subdivision.{has_dart}
 use Rattle.slab_faces.proofs.Member.{Member, in_member, filter_out, none_passes}
 use Rattle.slab_faces.proofs.RingLemmas.{IsRound, AllIn, Sorted, sorted_out, is_sorted}
 use Rattle.slab_faces.proofs.RotationLemmas.{round_at}
 use Rattle.slab_faces.proofs.NextLemmas.{dart_out}
-use Rattle.slab_faces.proofs.DartOrder.{lower_both}
 use Rattle.slab_faces.proofs.Parity.{same_point_is}
 use Rattle.sound_views.proofs.RoundFollowing.{Apart}
-
--- ---- two darts from one point to another are one
-
-module _ (g : Skeleton) (plane : IsPlaneSkeleton g) where
-  -- no edge goes back along another
-  opposite : (d e : Edge) → Contains g.edges d → Contains g.edges e → d.low ≡ e.high → d.high ≡ e.low → ⊥
-  opposite d e D E a b =
-      let left : left_of d.low d.high ≡ false = subst (λ z. left_of z d.high ≡ false) (sym a) (subst (λ z. left_of e.high z ≡ false) (sym b) (plane.forward e E)) in
-      let right : left_of d.high d.low ≡ false = plane.forward d D in
-      let up : lower_than d.low d.high ≡ true = plane.upright d D (rw (left, right) refl) in
-      let down : lower_than e.low e.high ≡ true = plane.upright e E (subst (λ z. on_wall z e.high ≡ true) b (subst (λ z. on_wall d.high z ≡ true) a (rw (left, right) refl))) in
-      lower_both d.low d.high up (subst (λ z. lower_than z d.low ≡ true) (sym b) (subst (λ z. lower_than e.low z ≡ true) (sym a) down))
-
-  pub one_dart : (d e : Dart) → Contains g.edges d.edge → Contains g.edges e.edge → source d ≡ source e → target d ≡ target e → d ≡ e
-  one_dart d e D E a b = go d.edge e.edge d.forward e.forward D E a b
-    where
-      go : (x y : Edge) (p q : Bool) → Contains g.edges x → Contains g.edges y → start x p ≡ start y q → start x (not p) ≡ start y (not q) → ◌≡◌ {A = Dart} (record { edge = x; forward = p }) (record { edge = y; forward = q })
-      go x y true true D E a b = λ i. record { edge = record { low = a i; high = b i }; forward = true }
-      go x y false false D E a b = λ i. record { edge = record { low = b i; high = a i }; forward = false }
-      go x y true false D E a b = absurd (opposite x y D E a b)
-      go x y false true D E a b = absurd (opposite x y D E b a)
 
 -- ---- no more than there are in all
 module _ {X : Type 0} (cmp : X → X → Ordering) where

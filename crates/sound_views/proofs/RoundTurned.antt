@@ -12,10 +12,11 @@ use Rattle.slab_laws.specs.Darts.{Dart, source, target, darts}
 use Rattle.slab_laws.specs.Rotation.{twin, after, ring, next, rotation, OutOf}
 use Rattle.slab_faces.proofs.Member.{Member, member_in, in_member, append_left, none_passes, none_passing}
 use Rattle.slab_faces.proofs.NextLemmas.{dart_out, dart_in, start_in, ring_in}
+use Rattle.slab_faces.proofs.DartOrder.{one_dart}
 use Rattle.sound_views.specs.VertexRoundLaws.{HasLeastTarget, RoundIsRotation, NoneRound}
 use Rattle.sound_views.specs.VertexRounds.{round}
 use Rattle.sound_views.proofs.RoundFollowing.{Apart, apart_before, parted, round_turns}
-use Rattle.sound_views.proofs.RoundRings.{one_dart, ring_within, ring_out, ring_apart, none_ring}
+use Rattle.sound_views.proofs.RoundRings.{ring_within, ring_out, ring_apart, none_ring}
 use Rattle.integers.proofs.Tests.{not_not}
 
 -- ---- the first that passes

@@ -1,5 +1,5 @@
 -- The status is determined by its members; and the part of it that some of the pieces make is their own status.
-use Rattle.std.proofs.Common.{◌≡◌, ℕ, ◌<◌, ℤ, pos, neg_ℤ, refl, ap, ap₂, sym, ◌∙◌, subst, arith, inl, inr, List, [], ◌∷◌, Ordering, Less, Equal, Greater, nat_cmp}
+use Rattle.std.proofs.Common.{◌≡◌, ℕ, ◌<◌, ℤ, pos, neg_ℤ, refl, ap, sym, ◌∙◌, subst, arith, inl, inr, List, [], ◌∷◌, Ordering, Less, Equal, Greater, nat_cmp}
 use Rattle.std.specs.Prelude.{◌≤◌, ◌+◌, ◌-◌, Bool, true, not, map, nat_lt, filter}
 use Rattle.std.proofs.lemmas.Bool.Decides.{nat_tests}
 use Rattle.plane_graphs.proofs.Lists.{in_filter, of_filter, IsAscending-filter, in_map, of_map}
@@ -12,34 +12,13 @@ use Rattle.exact_plane.specs.Span.{Span}
 use Rattle.integers.proofs.Compare.{less_out, greater_in, equal_out, equal_in}
 use Rattle.integers.proofs.Tests.{nat_less, less_nat}
 use Rattle.plane_graphs.specs.Ascending.{Member, IsAscending}
-use Rattle.plane_graphs.proofs.Ascending.{All-member}
+use Rattle.plane_graphs.proofs.Ascending.{All-member, only_list}
 use Rattle.plane_graphs.proofs.Sorting.{all_members}
 use Rattle.sweep_events.specs.Front.{across, upward, lean, after_cmp}
 use Rattle.sweep_events.specs.Status.{status_cmp, IsMet, IsStatus}
 use Rattle.sweep_events.proofs.FrontOrder.{not_behind_twice, turn_ahead}
 use Rattle.sweep_events.proofs.TwoNumbers.{lex_level, Lexed, lexed}
 use Rattle.sweep_events.proofs.TwoNumbers.Lexed.{ahead, level, behind}
-
-module _ {X : Type 0} (cmp : X → X → Ordering) (one_way : (x y : X) → cmp x y ≡ Less → cmp y x ≡ Less → ⊥) where
-  heads : (x y : X) (xs ys : List X) → IsAscending cmp (x ∷ xs) → IsAscending cmp (y ∷ ys) → Member x (y ∷ ys) → Member y (x ∷ xs) → x ≡ y
-  heads x y xs ys a b (inl e) n = e
-  heads x y xs ys a b (inr m) (inl f) = sym f
-  heads x y xs ys a b (inr m) (inr n) = absurd (one_way x y (All-member (λ z. cmp x z ≡ Less) y xs a.0 n) (All-member (λ z. cmp y z ≡ Less) x ys b.0 m))
-
-  tail_in : (x y : X) (xs ys : List X) → x ≡ y → IsAscending cmp (x ∷ xs) → ((z : X) → Member z (x ∷ xs) → Member z (y ∷ ys)) → (z : X) → Member z xs → Member z ys
-  tail_in x y xs ys e a f z m = elim (f z (inr m)) [
-    | inl g ↦ (let h : cmp x x ≡ Less = subst (λ w. cmp x w ≡ Less) (g ∙ sym e) (All-member (λ z. cmp x z ≡ Less) z xs a.0 m) in absurd (one_way x x h h))
-    | inr n ↦ n
-  ]
-
-  -- two ascending lists with the same members are one
-  pub only_list : (xs ys : List X) → IsAscending cmp xs → IsAscending cmp ys → ((z : X) → Member z xs → Member z ys) → ((z : X) → Member z ys → Member z xs) → xs ≡ ys
-  only_list [] [] a b f g = refl
-  only_list [] (y ∷ ys) a b f g = absurd (g y (inl refl))
-  only_list (x ∷ xs) [] a b f g = absurd (f x (inl refl))
-  only_list (x ∷ xs) (y ∷ ys) a b f g =
-      let e = heads x y xs ys a b (f x (inl refl)) (g y (inl refl)) in
-      ap₂ (λ z zs. z ∷ zs) e (only_list xs ys a.1 b.1 (tail_in x y xs ys e a f) (tail_in y x ys xs (sym e) b g))
 
 numbers : (i j : ℕ) → nat_cmp i j ≡ Less → nat_cmp j i ≡ Less → ⊥
 numbers i j h k = let t = tied_itself nat_cmp_total i in let u = nat_cmp_total.trans i j i h k in cc

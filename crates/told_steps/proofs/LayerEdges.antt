@@ -36,7 +36,7 @@ module _ (v : View) (h : Past) (l : IsLayer v h) where
   pub along_drawn : (e : Edge) (d : DartId) → IsDartAlong v e d → Member e (edges (graph (layer_of v h).present))
   along_drawn e d a =
       subst (Member e) (sym same_edges)
-      (subst (λ x. Member x (skeleton_of v).edges) a.edge (to_member (skeleton_of v).edges (edge_in v d) (edge_known v l.sound d a.forward.0)))
+      (subst (λ x. Member x (skeleton_of v).edges) a.edge (to_member (skeleton_of v).edges (edge_in v d) (edge_known v d a.forward.0)))
 
   -- of the dart of an edge and its twin one goes forward
   forward_one : (e : Edge) (d : DartId) → HasDart v d → e ≡ edge_in v d → (d : DartId) × IsDartAlong v e d

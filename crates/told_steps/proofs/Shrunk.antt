@@ -1,15 +1,12 @@
 -- What steps that shrink leave: no vertex comes, an edge that comes was divided before, and each dart stays, unless its edge is gone.
-use Rattle.std.proofs.Common.{◌≡◌, ◌≢◌, ◌⊎◌, List, [], ◌∷◌, Bool, true, false, pos, refl, sym, ap, ◌∙◌, subst, inl, inr}
+use Rattle.std.proofs.Common.{◌≡◌, ◌≢◌, ◌⊎◌, List, [], ◌∷◌, Bool, true, false, refl, sym, ap, ◌∙◌, subst, inl, inr}
 use Rattle.std.specs.List.{Contains}
-use Rattle.exact_plane.specs.Line.{side_of}
 use Rattle.exact_plane.specs.Point.{Point}
 use Rattle.plane_graphs.specs.Graph.{Edge}
-use Rattle.plane_graphs.specs.Line.{IsProper, precedes}
-use Rattle.plane_graphs.proofs.Order.{lt_in, lt_out, lt_trans}
 use Rattle.edit_steps.specs.Steps.{Step}
 use Rattle.slab_laws.specs.declared.names.DartId.{DartId}
 use Rattle.slab_laws.specs.declared.names.VertexId.{VertexId}
-use Rattle.slab_laws.specs.Skeleton.{inside, side}
+use Rattle.slab_laws.specs.Skeleton.{inside}
 use Rattle.slab_laws.specs.Sound.{edge_in, edge_between, skeleton_of, IsGraphSound}
 use Rattle.slab_laws.specs.View.{View, HasVertex, HasDart, point_in, source_in, target_in, twin_in, line_in}
 use Rattle.sound_views.proofs.NamedDarts.{twin_dart}
@@ -27,11 +24,8 @@ use Rattle.sound_changes.specs.SplitHalves.{IsHalved}
 use Rattle.sound_changes.proofs.RingsKept.{up, start_old, end_old, point_same, vertex_up, twinned_down}
 use Rattle.sound_changes.proofs.EdgeRemoved.{fewer, drawn_less}
 use Rattle.sound_changes.specs.ChangeFits.{FitsMerge}
-use Rattle.sound_changes.proofs.SplitCases.{edge_of_ends, ahead_by}
-use Rattle.sound_changes.proofs.Collinear.{flat_on_line}
-use Rattle.sound_changes.proofs.PointInside.{inside_in}
 use Rattle.sound_changes.proofs.KnownNames.{edge_known, known_edge}
-use Rattle.sound_changes.proofs.Merges.{merge_drawn}
+use Rattle.sound_changes.proofs.Merges.{between, straight, merge_drawn}
 use Rattle.sound_changes.specs.StepOfChange.{step_of_change, FitsChange}
 use Rattle.sound_changes.proofs.ChangesAreSteps.{changes_are_steps}
 use Rattle.sound_changes.proofs.StepMergeEdges.{joined}
@@ -152,30 +146,9 @@ module _ (v : View) (w : VertexId) (d n : DartId) (s : IsGraphSound v) (c : Fits
   i : IsHalved g v d t n m w
   i = parts.halved
 
-  before : precedes A P ≡ true
-  before = subst (λ z. precedes A (point_in v z) ≡ true) c.arrives c.first_forward
-
-  behind : precedes P B ≡ true
-  behind = subst (λ z. precedes (point_in v z) B ≡ true) c.leaves c.second_forward
-
-  proper : (k : DartId) → HasDart v k → IsProper (point_in v (source_in v k))
-  proper k o = s.drawn.proper (source_in v k) (s.linked.source k o)
-
-  flat : side (edge_of_ends A B) P ≡ pos 0
-  flat =
-      flat_on_line (line_in v d) A B P (s.drawn.line d c.first).runs (s.drawn.starts d c.first)
-      (ap (λ l. side_of l B) c.line ∙ s.drawn.ends n c.second)
-      (ap (λ z. side_of (line_in v d) (point_in v z)) (sym c.arrives) ∙ s.drawn.ends d c.first)
-
-  within : inside (edge_of_ends A B) P ≡ true
-  within = inside_in (edge_of_ends A B) P (proper d c.first) (proper m i.has_m) (s.drawn.proper w i.w_has) (record { after = lt_out A P before; before = lt_out P B behind; on = flat })
-
-  straight : edge_between A B ≡ edge_of_ends A B
-  straight = ap (λ x. x.edge) (ahead_by A B (lt_in (lt_trans (lt_out A P before) (lt_out P B behind))))
-
   -- the joined edge has w inside, and so it wasn't there before
   divided : IsDivided v (edge_between A B)
-  divided = record { vertex = w; has = i.w_has; within = subst (λ e. inside e P ≡ true) (sym straight) within }
+  divided = record { vertex = w; has = i.w_has; within = subst (λ e. inside e P ≡ true) (sym (straight v w d n s c)) (between v w d n s c) }
 
   come : (e : Edge) → Contains (skeleton_of g).edges e → (Contains (skeleton_of v).edges e × (e ≢ edge_in v d) × (e ≢ edge_in v n)) ⊎ IsDivided v e
   come e k = elim (((merge_drawn v w d n s c).1 e).0 k) [ inl x ↦ inl x | inr q ↦ inr (subst (IsDivided v) (sym q) divided) ]

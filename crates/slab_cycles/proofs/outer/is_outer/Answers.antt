@@ -4,7 +4,8 @@ use Rattle.std.specs.List.{count_by}
 use Rattle.std.proofs.lemmas.List.{take_all}
 use Rattle.slab_laws.specs.SpansDrawn.{drawn}
 use Rattle.slab_laws.specs.Rows.{dart_list, dart_at, no_dart}
-use Rattle.slab_cycles.proofs.EdgeRows.{rows_length, leads_length, listed, row_within, row_edge, row_forward, is_on_cycle, not_on_cycle}
+use Rattle.slab_cycles.proofs.Listed.{rows_length}
+use Rattle.slab_cycles.proofs.EdgeRows.{leads_length, listed, row_within, row_edge, row_forward, is_on_cycle, not_on_cycle}
 use Rattle.slab_cycles.proofs.DartCells.{dart_there}
 use Rattle.slab_cycles.proofs.Oddness.{counts, counts_by, counts_not, odd_is, one_counts, one_passes}
 use Rattle.slab_cycles.proofs.outer.is_outer.Goals as goal

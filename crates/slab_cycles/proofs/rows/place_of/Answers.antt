@@ -3,7 +3,7 @@ use Rattle.exact_plane.specs.PointOrder.{point_cmp}
 use Rattle.exact_plane.specs.PointOrderLaws.{point_cmp_total, same_point as one_point}
 use Rattle.slab_laws.specs.Skeleton.{same_point}
 use Rattle.slab_cycles.proofs.Placed.{search_places}
-use Rattle.slab_cycles.proofs.Points.{points_exact}
+use Rattle.slab_faces.proofs.Places.{points_exact}
 use Rattle.slab_cycles.proofs.rows.place_of.Goals as goal
 
 pub returns : goal.returns
