@@ -8,9 +8,11 @@ ghost use Rattle.cycle_writers.specs.RunLaws.{RunsAreCycles};
 ghost use Rattle.cycle_writers.specs.RunSteps.{RunsAreSteps};
 ghost use Rattle.cycle_writers.specs.TakenLaws.{TakenFits};
 
+mod carried;
 mod moves;
 mod runs;
 
+pub use carried::carry_off;
 pub use moves::{Which, move_cycles, move_isolated};
 pub use runs::{put_orbit, put_run};
 

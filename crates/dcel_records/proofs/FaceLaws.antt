@@ -15,6 +15,7 @@ use Rattle.slab_laws.specs.Tables.{names, NamesAscend}
 use Rattle.slab_laws.specs.View.{HasCycle, HasFace, HasBareFace, face_in, face_or, bare_face_in, bare_or, cycle_id, vertex_id, face_id}
 use Rattle.chain_laws.specs.Links.{Node, trail, after_at, first_or, key_at}
 use Rattle.chain_laws.proofs.Distinct.{IsOnce, once_from_distinct}
+use Rattle.chain_laws.proofs.Tabled.{row-tabled, ascend-tabled, key_named}
 use Rattle.dcel_records.specs.declared.rows.StoredCycle.{StoredCycle}
 use Rattle.dcel_records.specs.declared.rows.StoredDart.{StoredDart}
 use Rattle.dcel_records.specs.declared.rows.StoredFace.{StoredFace}
@@ -23,9 +24,8 @@ use Rattle.dcel_records.specs.Placing.{Placing, node_or, nodes, heads, own, AreC
 use Rattle.dcel_records.specs.RecordsView.{RecordsView, lists_of}
 use Rattle.dcel_records.specs.StoredRows.{cycle_record, tables_in, lists_in, records_view, AreSoundFaces, IsRoom}
 use Rattle.dcel_records.proofs.After.{names_tabled}
-use Rattle.dcel_records.proofs.Chained.{key_named, own_list}
+use Rattle.dcel_records.proofs.Chained.{own_list}
 use Rattle.dcel_records.proofs.FaceTables.{lists_seen, bare_seen, bare_ascend}
-use Rattle.dcel_records.proofs.Tabled.{row-tabled, ascend-tabled}
 
 -- ---- numbers as names
 module _ {X : Type 0} (name : ℕ → X) (number : X → ℕ) (same : (n : ℕ) → number (name n) ≡ n) where

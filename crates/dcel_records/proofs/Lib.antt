@@ -23,3 +23,4 @@ pub mod Rooms
 pub mod Grown
 pub mod FaceLaws
 pub mod Maps
+pub mod Spared

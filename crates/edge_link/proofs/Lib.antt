@@ -2,3 +2,10 @@ pub mod DartLines
 pub mod DirectionPlaces
 pub mod Written
 pub mod Placed
+pub mod LinkedMaps
+pub mod LinkParts
+pub mod Grown
+pub mod NewHole
+pub mod Joined
+pub mod SplitMaps
+pub mod FaceSplit

@@ -1,9 +1,8 @@
 -- A link with what it makes of cycles and faces.
-use Rattle.std.specs.Prelude.{◌≡◌, ◌≤◌, ◌+◌, Option, None}
+use Rattle.std.specs.Prelude.{◌≡◌, ◌≤◌, ◌+◌, Option}
 use Rattle.exact_plane.specs.Line.{Line}
 use Rattle.slab_laws.specs.declared.names.DartId.{DartId}
 use Rattle.slab_laws.specs.declared.names.VertexId.{VertexId}
-use Rattle.slab_laws.specs.FaceLists.{MovedView}
 use Rattle.arr_notes.specs.FaceSteps.{step_faces}
 use Rattle.arr_notes.specs.NotedFaces.{linked_faces}
 use Rattle.arr_notes.specs.Step.{add_edge}

@@ -1,3 +1,4 @@
 pub mod EdgePlaces
 pub mod Links
 pub mod FacedLinks
+pub mod Halves

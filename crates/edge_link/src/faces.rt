@@ -68,13 +68,7 @@ fn grow_at_start(
 }
 
 // The same, where the first vertex is the bare one.
-fn grow_at_end(
-    records: &mut Records,
-    u: VertexId,
-    v: VertexId,
-    at: DartId,
-    line: Line,
-) -> FacedLink
+fn grow_at_end(records: &mut Records, u: VertexId, v: VertexId, at: DartId, line: Line) -> FacedLink
     requires map { IsSoundMap records.old }
     requires returned { IsReturned records.old }
     requires darts { 2 ≤ records.old.spare_darts }

@@ -1,18 +1,102 @@
 ghost use Rattle.std.specs.Prelude.{◌≡◌, ◌≤◌, Some};
-ghost use Rattle.slab_laws.specs.View.{cycle_in, twin_in};
-ghost use Rattle.dcel_records.specs.RecordsView.{IsReturned, tables_of};
+ghost use Rattle.slab_laws.specs.Sound.{IsGraphSound};
+ghost use Rattle.slab_laws.specs.View.{HasCycle, HasDart, HasFace, cycle_in, twin_in};
+ghost use Rattle.slab_laws.specs.declared.names.CycleKind.TheVariants.{Outer};
+ghost use Rattle.arr_notes.specs.FaceWriters.{orbit_on, with_cycle, with_face};
+ghost use Rattle.dcel_records.specs.ListChanges.{cycle_listed, dart_listed};
+ghost use Rattle.dcel_records.specs.RecordsView.{IsReturned, IsSpareFaces, graph_part, lists_of, tables_of};
 ghost use Rattle.dcel_records.specs.SoundMaps.{IsSoundMap};
+ghost use Rattle.face_steps.specs.RowsWritten.{AreDartRows};
 ghost use Rattle.edge_link.specs.FacedLinks.{IsLinkMade};
+ghost use Rattle.edge_link.specs.Halves.{AreHalves};
 ghost use Rattle.edge_link.specs.Links.{CanLink};
 
 use crate::faces::FacedLink;
 use crate::links::link_on;
 use arr_notes::Linked;
 use boundary_cycles::{extent_of, is_no_longer, is_odd_beside};
-use cycle_writers::{Which, move_cycles, move_isolated, put_orbit};
+use cycle_writers::{Which, carry_off, put_orbit};
 use dcel_records::Records;
 use exact_plane::Line;
-use slab_laws::{CycleKind, DartId, Darts, VertexId};
+use slab_laws::{CycleId, CycleKind, DartId, Darts, FaceId, VertexId};
+
+// The halves of a cycle that an edge has parted: the dart of the one that becomes the fresh cycle, that of the other, and how
+// it is told what goes to the fresh face.
+#[derive(Clone, Copy)]
+struct Halves {
+    fresh: DartId,
+    other: DartId,
+    which: Which,
+}
+
+// The halves, by asking one of them: where that is outer it is the fresh one, else the other is. What lies within it is asked
+// of the same half later.
+fn halves_asked(records: &Records, asked: DartId, rest: DartId, both_outer: bool) -> Halves
+    requires sound { IsGraphSound records.now.graph }
+    requires asked { HasDart records.now.graph asked }
+    ensures { AreHalves records.now.graph asked rest both_outer result }
+{
+    let which = Which::Inside {
+        half: asked,
+        extent: extent_of(records, asked),
+    };
+    if both_outer || is_odd_beside(records, asked, asked) {
+        Halves {
+            fresh: asked,
+            other: rest,
+            which,
+        }
+    } else {
+        Halves {
+            fresh: rest,
+            other: asked,
+            which,
+        }
+    }
+}
+
+// Of an outer cycle both halves are outer, and one of an inner one. It is the shorter half that is asked.
+fn shorter_asked(records: &Records, d: DartId, m: DartId, both_outer: bool) -> Halves
+    requires sound { IsGraphSound records.now.graph }
+    requires first { HasDart records.now.graph d }
+    requires second { HasDart records.now.graph m }
+    ensures { AreHalves records.now.graph d m both_outer result }
+{
+    if is_no_longer(records, d, m) {
+        halves_asked(records, d, m, both_outer)
+    } else {
+        halves_asked(records, m, d, both_outer)
+    }
+}
+
+// The orbit of a dart of a cycle that is parted becomes a fresh cycle, the outer one of a fresh face; another dart is kept for
+// the rest.
+fn part_off(
+    records: &mut Records,
+    kept: CycleId,
+    fresh_dart: DartId,
+    other: DartId,
+) -> (CycleId, FaceId)
+    requires sound { IsGraphSound records.old.graph }
+    requires dart { HasDart records.old.graph fresh_dart }
+    requires rows { AreDartRows records.old.graph records.old.faces.tables }
+    requires kept { HasCycle records.old.faces.tables kept }
+    requires cycles { 1 ≤ records.old.faces.spare_cycles }
+    requires faces { 1 ≤ records.old.faces.spare_faces }
+    ensures cycle { ¬ HasCycle records.old.faces.tables result.0 }
+    ensures face { ¬ HasFace records.old.faces.tables result.1 }
+    ensures tables { records.new.faces.tables ≡ with_cycle result.0 Outer result.1 (with_face result.1 (orbit_on records.old.graph fresh_dart result.0 records.old.faces.tables)) }
+    ensures lists { lists_of records.new ≡ dart_listed kept other (cycle_listed result.0 result.1 fresh_dart (lists_of records.old)) }
+    ensures spare { IsSpareFaces records.new.faces records.old.faces 1 1 }
+    ensures moved { records.new.faces.moved ≡ records.old.faces.moved }
+    ensures graph { graph_part records.new ≡ graph_part records.old }
+{
+    let face = records.add_face();
+    let cycle = records.add_cycle(CycleKind::Outer, face, fresh_dart);
+    put_orbit(records, fresh_dart, cycle);
+    records.set_dart(kept, other);
+    (cycle, face)
+}
 
 // Between two places on one cycle: the edge parts the cycle, and its face. The fresh cycle is an outer half: the shorter one
 // where that is outer. What else the face had goes by the parity of the shorter half.
@@ -33,38 +117,21 @@ pub(crate) fn split_face(
     requires one { cycle_in (tables_of records.old) (twin_in records.old.graph at_u) ≡ cycle_in (tables_of records.old) (twin_in records.old.graph at_v) }
     ensures { IsLinkMade records.old records.new result.names u v (Some at_u) (Some at_v) line result.faces }
 {
+    // Each face lists its own, and the unbounded one's name is the least.
+    records.face_laws();
     let kept = records.cycle(records.twin(at_u));
     let face = records.face(kept);
+    let both_outer = records.kind(kept).is_outer();
     let names = link_on(records, u, v, Some(at_u), Some(at_v), line, kept);
-    let (short, long) = if is_no_longer(records, names.d, names.m) {
-        (names.d, names.m)
-    } else {
-        (names.m, names.d)
-    };
-    // Both halves of an outer cycle are outer, and one of an inner one.
-    let is_short_outer = records.kind(kept).is_outer() || is_odd_beside(records, short, short);
-    let (fresh_dart, other) = if is_short_outer {
-        (short, long)
-    } else {
-        (long, short)
-    };
-    let which = Which::Inside {
-        half: short,
-        extent: extent_of(records, short),
-    };
-    let fresh_face = records.add_face();
-    let fresh = records.add_cycle(CycleKind::Outer, fresh_face, fresh_dart);
-    put_orbit(records, fresh_dart, fresh);
-    records.set_dart(kept, other);
-    let mut moved = records.take_moved();
-    move_cycles(records, &mut moved, &which, kept, face, fresh_face);
-    move_isolated(records, &mut moved, &which, face, fresh_face);
+    let halves = shorter_asked(records, names.d, names.m, both_outer);
+    let (fresh, fresh_face) = part_off(records, kept, halves.fresh, halves.other);
+    let moved = carry_off(records, &halves.which, kept, face, fresh_face);
     FacedLink {
         names,
         faces: Linked::Splits {
             kept,
             fresh,
-            fresh_dart,
+            fresh_dart: halves.fresh,
             fresh_face,
             moved,
         },

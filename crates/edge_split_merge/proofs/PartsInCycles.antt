@@ -1,5 +1,5 @@
 -- An edge in two, and two edges in one, with their cycles: the records are a sound map again.
-use Rattle.std.proofs.Common.{◌≡◌, ◌≢◌, [], Option, Some, None, IsSome, Bool, true, false, cond, ◌==◌, refl, sym, ap, subst, ◌∙◌, arith, ◌+◌}
+use Rattle.std.proofs.Common.{◌≡◌, ◌≢◌, Option, Some, None, IsSome, Bool, true, false, cond, ◌==◌, refl, sym, ap, subst, ◌∙◌}
 use Rattle.std.proofs.lemmas.Bool.{eqb-true, eq-eqb, false≢true}
 use Rattle.exact_plane.specs.Point.{Point}
 use Rattle.slab_laws.specs.declared.names.CycleId.{CycleId}
@@ -16,7 +16,7 @@ use Rattle.arr_notes.specs.Step.{merge_edge}
 use Rattle.arr_notes.proofs.RowLaws.{del_absent}
 use Rattle.arr_notes.proofs.VertexReads.{put_miss}
 use Rattle.dcel_records.specs.ListChanges.{dart_listed, vertex_unlisted}
-use Rattle.dcel_records.specs.RecordsView.{RecordsView, FacesView, IsSpareFaces, lists_of, tables_of}
+use Rattle.dcel_records.specs.RecordsView.{RecordsView, lists_of, tables_of}
 use Rattle.dcel_records.specs.SoundMaps.{IsSoundMap}
 use Rattle.sound_changes.specs.ChangeFits.{FitsMerge}
 use Rattle.face_steps.specs.SplitSteps.{IsSplitApart}
@@ -29,21 +29,6 @@ use Rattle.face_steps.proofs.StepHalves.{left_reads, cycle_n, cycle_m}
 -- a dart that isn't written keeps its cycle
 pub other_on : (f : Faces) (d k : DartId) (c : CycleId) → k ≢ d → cycle_in (on_cycle d c f) k ≡ cycle_in f k
 other_on f d k c ne = ap cycle_or (put_miss d.0 c f.cycle_of k.0 (λ e. ne (λ i. record { 0 = e i })))
-
--- other tables alone spend no room
-pub same_spare : (f g : FacesView) (t : Faces) → g ≡ record f { tables = t } → IsSpareFaces f g 0 0
-same_spare f g t e =
-    let a = ap (λ (x : FacesView). x.spare_cycles) e in
-    let b = ap (λ (x : FacesView). x.spare_faces) e in
-    record { of_cycles = omega (arith, a); of_faces = omega (arith, b); capacity_of_cycles = ap (λ x. x.capacity_of_cycles) e; capacity_of_faces = ap (λ x. x.capacity_of_faces) e }
-
-pub spare_then : {f g h : FacesView} → IsSpareFaces f g 0 0 → IsSpareFaces g h 0 0 → IsSpareFaces f h 0 0
-spare_then a b =
-    let i = a.of_cycles in
-    let j = b.of_cycles in
-    let m = a.of_faces in
-    let n = b.of_faces in
-    record { of_cycles = omega (arith, i, j); of_faces = omega (arith, m, n); capacity_of_cycles = b.capacity_of_cycles ∙ a.capacity_of_cycles; capacity_of_faces = b.capacity_of_faces ∙ a.capacity_of_faces }
 
 -- both new darts aside, each dart that is kept is on its cycle still
 module _ (v w : View) (f : Faces) (l : Lists) (kept : AreDartsOn v f l) (n m : DartId) (new_n : ¬ HasDart v n) (new_m : ¬ HasDart v m) (old : (k : DartId) → HasDart v k → HasDart w k) where

@@ -1,17 +1,15 @@
-ghost use Rattle.std.specs.Prelude.{◌≡◌, ◌≢◌, ◌⊎◌, ◌≤◌, true, false};
-ghost use Rattle.slab_laws.specs.View.{HasDart, cycle_in, kind_in, next_in, twin_in};
-ghost use Rattle.slab_laws.specs.declared.names.CycleKind.TheVariants.{Inner, Outer};
-ghost use Rattle.dcel_records.specs.RecordsView.{IsReturned, tables_of};
+ghost use Rattle.std.specs.Prelude.{◌≡◌, ◌≢◌, ◌≤◌};
+ghost use Rattle.slab_laws.specs.View.{HasDart, next_in, twin_in};
+ghost use Rattle.dcel_records.specs.RecordsView.{IsReturned};
 ghost use Rattle.dcel_records.specs.SoundMaps.{IsSoundMap};
 ghost use Rattle.edge_unlink.specs.FacedUnlinks.{IsUnlinkMade};
 
+use crate::breaking::break_cycle;
 use crate::edges::close_up;
 use crate::uniting::unite;
 use arr_notes::Unlinked;
-use boundary_cycles::{is_no_longer, is_odd_beside};
-use cycle_writers::put_orbit;
 use dcel_records::Records;
-use slab_laws::{CycleKind, DartId, Darts};
+use slab_laws::{DartId, Darts};
 
 /// An edge that went: the name that the twin of its dart had, and what became of cycles and faces.
 #[derive(Drop)]
@@ -84,45 +82,6 @@ fn shrink_at_target(records: &mut Records, d: DartId) -> FacedUnlink
     FacedUnlink {
         m: names.m,
         faces: Unlinked::Shrinks { cycle, face },
-    }
-}
-
-// Both darts were on one cycle: it breaks. The fresh cycle is an inner part: the shorter one where that is inner.
-fn break_cycle(records: &mut Records, d: DartId) -> FacedUnlink
-    requires map { IsSoundMap records.old }
-    requires returned { IsReturned records.old }
-    requires cycles { 1 ≤ records.old.faces.spare_cycles }
-    requires dart { HasDart records.old.graph d }
-    requires source { next_in records.old.graph (twin_in records.old.graph d) ≢ d }
-    requires target { next_in records.old.graph d ≢ twin_in records.old.graph d }
-    requires one { cycle_in (tables_of records.old) d ≡ cycle_in (tables_of records.old) (twin_in records.old.graph d) }
-    ensures { IsUnlinkMade records.old records.new d result.m result.faces }
-{
-    let kept = records.cycle(d);
-    let face = records.face(kept);
-    let names = close_up(records, d);
-    let (short, long) = if is_no_longer(records, names.into_d, names.into_m) {
-        (names.into_d, names.into_m)
-    } else {
-        (names.into_m, names.into_d)
-    };
-    // No part of an inner cycle is outer, and one of an outer one.
-    let is_short_outer = records.kind(kept).is_outer() && is_odd_beside(records, short, short);
-    let (fresh_dart, other) = if is_short_outer {
-        (long, short)
-    } else {
-        (short, long)
-    };
-    let fresh = records.add_cycle(CycleKind::Inner, face, fresh_dart);
-    put_orbit(records, fresh_dart, fresh);
-    records.set_dart(kept, other);
-    FacedUnlink {
-        m: names.m,
-        faces: Unlinked::Breaks {
-            kept,
-            fresh,
-            fresh_dart,
-        },
     }
 }
 

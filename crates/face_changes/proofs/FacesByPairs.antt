@@ -46,7 +46,7 @@ has_or_not (k ∷ ns) n = elim (cases_Bool (k == n)) [
 ]
 
 -- of names that ascend the first is the least
-first_least : (ns : List ℕ) (n : ℕ) → NamesAscend ns → Contains ns n → (first_or ns).0 ≤ n
+pub first_least : (ns : List ℕ) (n : ℕ) → NamesAscend ns → Contains ns n → (first_or ns).0 ≤ n
 first_least [] n h c = absurd (in_member [] n c)
 first_least (k ∷ ns) n h c = elim (in_member (k ∷ ns) n c) [ inl e ↦ omega arith | inr m ↦ go ns h.0 m ]
   where

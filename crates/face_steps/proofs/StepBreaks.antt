@@ -64,10 +64,10 @@ module _ (v w : View) (x y : DartId) (p q : VertexId) (l : Line) (m : IsEdgeApar
   reads : (k : DartId) → HasDart v k → cycle_in f k ≡ swap k (cycle_in s k)
   reads k o = ap cycle_or (row_old k (not_x k o) (not_y k o)) ∙ map_cycle (swap k) (row_at s.cycle_of k.0) ((h.complete.cycle_rows k).0 (up v w x y p q l m k o))
 
-  on : (k : DartId) → HasDart v k → lead_in v k ≡ lead_in v c → cycle_in f k ≡ fresh
+  pub on : (k : DartId) → HasDart v k → lead_in v k ≡ lead_in v c → cycle_in f k ≡ fresh
   on k o e = reads k o ∙ orbit_hit v c fresh (cycle_in s k) k m.sound o C e
 
-  off : (k : DartId) → HasDart v k → lead_in v k ≢ lead_in v c → cycle_in f k ≡ cycle_in s k
+  pub off : (k : DartId) → HasDart v k → lead_in v k ≢ lead_in v c → cycle_in f k ≡ cycle_in s k
   off k o n = reads k o ∙ orbit_miss v c fresh (cycle_in s k) k m.sound o C n
 
   old_cycle : (k : DartId) → HasDart v k → HasCycle s (cycle_in s k)
@@ -92,7 +92,7 @@ module _ (v w : View) (x y : DartId) (p q : VertexId) (l : Line) (m : IsEdgeApar
   one : lead_in w x ≡ lead_in w y
   one = (h.cycled.orbits x y m.more.first m.more.second).0 (t.first ∙ sym t.second)
 
-  apart : lead_in v a ≢ lead_in v b
+  pub apart : lead_in v a ≢ lead_in v b
   apart e = (two_faces_apart.within v w x y p q l a b m A B na nb).0 e one
 
   made_one : JoinsCycles (skeleton_of v) (skeleton_of w) (dart_in w x) (dart_in v a) (dart_in v b)
@@ -100,10 +100,10 @@ module _ (v w : View) (x y : DartId) (p q : VertexId) (l : Line) (m : IsEdgeApar
       cycles_with_one_more_edge.joined (skeleton_of v) (skeleton_of w) (dart_in w x) (dart_in v a) (dart_in v b) (is_more v w x y p q l m)
       (is_dart v w x y p q l m a A) (is_dart v w x y p q l m b B) (comes v w x y p q l m a A na) (comes_twin v w x y p q l m a b A B na nb) apart
 
-  joins : (k : DartId) → HasDart v k → (lead_in v k ≡ lead_in v a) ⊎ (lead_in v k ≡ lead_in v b) → cycle_in s k ≡ kept
+  pub joins : (k : DartId) → HasDart v k → (lead_in v k ≡ lead_in v a) ⊎ (lead_in v k ≡ lead_in v b) → cycle_in s k ≡ kept
   joins k o r = (h.cycled.orbits k x (up v w x y p q l m k o) m.more.first).1 (lead_old v w x y p q l m k o ∙ made_one.cycles.within (dart_in v k) (listed v w x y p q l m k o) r) ∙ t.first
 
-  of_orbit : (k : DartId) → HasDart v k → lead_in v k ≡ lead_in v c → cycle_in s k ≡ kept
+  pub of_orbit : (k : DartId) → HasDart v k → lead_in v k ≡ lead_in v c → cycle_in s k ≡ kept
   of_orbit k o e = joins k o (elim t.ends [ inl z ↦ inl (e ∙ ap (lead_in v) z) | inr z ↦ inr (e ∙ ap (lead_in v) z) ])
 
   -- the end that isn't on the fresh orbit

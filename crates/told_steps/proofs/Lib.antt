@@ -16,3 +16,4 @@ pub mod Steps
 pub mod Parts
 pub mod Linked
 pub mod Begun
+pub mod MapsKept

@@ -37,6 +37,8 @@ pub fn clear(alloc: Global, records: &mut Records, history: &mut History, bus: &
     ensures spare { IsSpare history.old history.new 0 0 0 }
 {
     tell_before(alloc, &*records, &*history, bus, Intent::Clear);
+    // These tell that the unbounded face's name is the first, which is the one that stays.
+    records.face_laws();
     records.clear();
     history.clear();
     tell_after(alloc, &*records, &*history, bus, Change::Clear);

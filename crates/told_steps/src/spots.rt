@@ -12,7 +12,7 @@ use crate::edges::split_edge;
 use crate::vertices::add_vertex;
 use curve_history::History;
 use dcel_records::{Records, Spot};
-use edges_below::face_at;
+use face_location::face_at;
 use exact_plane::Point;
 use observer_bus::Bus;
 use slab_laws::VertexId;

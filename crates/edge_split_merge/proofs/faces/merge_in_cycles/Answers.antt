@@ -3,11 +3,11 @@ use Rattle.slab_laws.specs.declared.names.CycleId.{CycleId}
 use Rattle.slab_laws.specs.declared.names.DartId.{DartId}
 use Rattle.slab_laws.specs.FaceLists.{Lists, AreDartsOn}
 use Rattle.slab_laws.specs.FacesSound.{IsSound}
-use Rattle.slab_laws.specs.Sound.{IsGraphSound}
 use Rattle.slab_laws.specs.View.{View, Faces, HasDart, HasCycle, cycle_in, twin_in}
 use Rattle.dcel_records.specs.ListChanges.{dart_listed, vertex_unlisted}
 use Rattle.dcel_records.specs.RecordsView.{GraphView, IsSpare, graph_part, lists_of, tables_of}
-use Rattle.edge_split_merge.proofs.PartsInCycles.{tables_merged, merged_sound, stays, twin_stays, twin_is, kept_on, spare_then, merged}
+use Rattle.dcel_records.proofs.Spared.{spare_then}
+use Rattle.edge_split_merge.proofs.PartsInCycles.{tables_merged, merged_sound, stays, twin_stays, twin_is, kept_on, merged}
 use Rattle.edge_split_merge.proofs.faces.merge_in_cycles.Goals as goal
 
 pub twin-t-requires : goal.twin-t-requires

@@ -1,19 +1,18 @@
-use Rattle.std.proofs.Common.{◌≡◌, [], sym, ap, subst, ◌∙◌}
-use Rattle.slab_laws.specs.FaceLists.{Lists, AreDartsOn}
+use Rattle.std.proofs.Common.{◌≡◌, [], sym, ap, subst}
+use Rattle.slab_laws.specs.FaceLists.{AreDartsOn}
 use Rattle.slab_laws.specs.FacesSound.{IsSound}
 use Rattle.slab_laws.specs.Sound.{IsGraphSound}
 use Rattle.slab_laws.specs.View.{View, Faces, twin_in, cycle_in}
-use Rattle.arr_notes.specs.FaceSteps.{step_faces, in_two}
 use Rattle.arr_notes.specs.FaceWriters.{on_cycle}
 use Rattle.arr_notes.specs.NotedFaces.{NoFaces}
 use Rattle.arr_notes.specs.Step.{split_edge}
 use Rattle.arr_notes.specs.declared.change.Change.TheVariants.{SplitEdge}
 use Rattle.dcel_records.specs.RecordsView.{FacesView, lists_in_view, lists_of, tables_of}
-use Rattle.dcel_records.specs.SoundMaps.{IsSoundMap}
 use Rattle.face_steps.proofs.NotedFaces.{changes_keep_faces_sound}
 use Rattle.face_steps.proofs.MergesApart.{records_apart}
 use Rattle.edge_split_merge.proofs.Parted.{fits}
-use Rattle.edge_split_merge.proofs.PartsInCycles.{darts_on, same_spare}
+use Rattle.dcel_records.proofs.Spared.{same_spare}
+use Rattle.edge_split_merge.proofs.PartsInCycles.{darts_on}
 use Rattle.edge_split_merge.proofs.faces.split_in_cycles.Goals as goal
 
 pub returns : goal.returns

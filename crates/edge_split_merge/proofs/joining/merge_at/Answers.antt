@@ -9,7 +9,7 @@ use Rattle.edge_split_merge.proofs.Removed.{IsMoved, moved, still_out, source_ke
 use Rattle.arr_notes.specs.FaceWriters.{not_bare, off_cycles}
 use Rattle.dcel_records.specs.ListChanges.{vertex_unlisted}
 use Rattle.dcel_records.specs.RecordsView.{FacesView, lists_in_view}
-use Rattle.edge_split_merge.proofs.PartsInCycles.{same_spare, spare_then}
+use Rattle.dcel_records.proofs.Spared.{same_spare, spare_then}
 use Rattle.edge_split_merge.proofs.joining.merge_at.Goals as goal
 
 -- only followers were written

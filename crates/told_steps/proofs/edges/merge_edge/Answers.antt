@@ -1,4 +1,4 @@
-use Rattle.std.proofs.Common.{ap, refl}
+use Rattle.std.proofs.Common.{IsSome, ap, refl, subst, sym}
 use Rattle.arr_notes.specs.declared.change.Change.{Change}
 use Rattle.arr_notes.specs.declared.change.Change.TheVariants.{MergeEdge}
 use Rattle.arr_notes.specs.declared.intent.Intent.TheVariants.{MergeEdge as WillMergeEdge}
@@ -13,21 +13,24 @@ pub point-p-requires : goal.point-p-requires
 point-p-requires g c = let f = c.requires.fits in merge_vertex c.args.records.now.graph c.args.v f.0 f.1 c.requires.in_step.sound f.2
 
 pub join-requires : goal.join-requires
-join-requires g c = c.requires.alike c.merge_at-met.result.d c.merge_at-met.result.n c.merge_at-met.ensures.met
+join-requires g c = c.requires.alike c.merge_in_cycles-met.result.d c.merge_in_cycles-met.result.n c.merge_in_cycles-met.ensures.met
 
 abbrev change : (g : given.Over) (c : After-join g) → Change
-change g c = MergeEdge c.args.v c.merge_at-met.result.d c.merge_at-met.result.n
+change g c = MergeEdge c.args.v c.merge_in_cycles-met.result.d c.merge_in_cycles-met.result.n
 
-made : (g : given.Over) (c : After-join g) → HasMade c.args.records.now.graph (curves_on c.args.history.now) (change g c) c.merge_at-met.new.records.graph (curves_on c.join.new.self)
+made : (g : given.Over) (c : After-join g) → HasMade c.args.records.now.graph (curves_on c.args.history.now) (change g c) c.merge_in_cycles-met.new.records.graph (curves_on c.join.new.self)
 made g c =
-    let e = c.merge_at-met.ensures in
-    record { view = e.graph; curves = c.join.ensures.curves; fits = (e.met, c.requires.unpinned, c.requires.alike c.merge_at-met.result.d c.merge_at-met.result.n e.met); sound = e.sound }
+    let e = c.merge_in_cycles-met.ensures in
+    record { view = e.graph; curves = c.join.ensures.curves; fits = (e.met, c.requires.unpinned, c.requires.alike c.merge_in_cycles-met.result.d c.merge_in_cycles-met.result.n e.met); sound = e.map.sound.graph }
 
 pub tell_after-requires : goal.tell_after-requires
 tell_after-requires g c = record { changed = changed_by (made g (goal.at.tell_after-requires g c).After-join) c.tell_before.ensures.in_step }
 
 pub returns-clause-graph : goal.returns-clause-graph
-returns-clause-graph g c = (c.merge_at-met.result.d, c.merge_at-met.result.n, c.merge_at-met.ensures.met, c.merge_at-met.ensures.graph, c.join.ensures.curves)
+returns-clause-graph g c = (c.merge_in_cycles-met.result.d, c.merge_in_cycles-met.result.n, c.merge_in_cycles-met.ensures.met, c.merge_in_cycles-met.ensures.graph, c.join.ensures.curves)
 
 pub returns-clause-told : goal.returns-clause-told
 returns-clause-told g c = told_by (made g (goal.at.returns-clause-told g c).After-join) _ refl _ (ap WillMergeEdge c.point-p.ensures) c.tell_before.ensures.round c.tell_after.ensures.round
+
+pub returns-clause-map : goal.returns-clause-map
+returns-clause-map g c = let e = c.merge_in_cycles-met.ensures in record { map = e.map; returned = subst IsSome (sym e.moved) c.requires.map.returned }

@@ -1,4 +1,4 @@
-use Rattle.std.proofs.Common.{refl}
+use Rattle.std.proofs.Common.{IsSome, refl, subst, sym}
 use Rattle.plane_graphs.proofs.Lines.{point_is_proper}
 use Rattle.sound_changes.specs.ChangeFits.{FitsSplit}
 use Rattle.arr_notes.specs.declared.change.Change.{Change}
@@ -12,28 +12,31 @@ use Rattle.told_steps.proofs.edges.split_edge.Goals.{After-part}
 use Rattle.told_steps.proofs.edges.split_edge.Goals as goal
 
 pub part-requires-clause-two : goal.part-requires-clause-two
-part-requires-clause-two g c = new_dart c.args.records.now.graph c.args.p c.args.d c.split_at-new.result.v c.split_at-new.result.n c.split_at-new.result.m c.requires.fits c.split_at-new.ensures.new_names
+part-requires-clause-two g c = new_dart c.args.records.now.graph c.args.p c.args.d c.split_in_cycles-new.result.v c.split_in_cycles-new.result.n c.split_in_cycles-new.result.m c.requires.fits c.split_in_cycles-new.ensures.new_names
 
 pub part-requires-clause-new : goal.part-requires-clause-new
-part-requires-clause-new g c = c.requires.in_step.curves.without_dart c.split_at-new.result.n c.split_at-new.ensures.new_names.first
+part-requires-clause-new g c = c.requires.in_step.curves.without_dart c.split_in_cycles-new.result.n c.split_in_cycles-new.ensures.new_names.first
 
-fits : (g : given.Over) (c : After-part g) → FitsSplit c.args.records.now.graph c.args.d c.split_at-new.result.v c.args.p c.split_at-new.result.n c.split_at-new.result.m
-fits g c = fits_split c.args.records.now.graph c.args.p (point_is_proper c.args.p c.laws.ensures) c.args.d c.split_at-new.result.v c.split_at-new.result.n c.split_at-new.result.m c.requires.fits c.split_at-new.ensures.new_names
+fits : (g : given.Over) (c : After-part g) → FitsSplit c.args.records.now.graph c.args.d c.split_in_cycles-new.result.v c.args.p c.split_in_cycles-new.result.n c.split_in_cycles-new.result.m
+fits g c = fits_split c.args.records.now.graph c.args.p (point_is_proper c.args.p c.laws.ensures) c.args.d c.split_in_cycles-new.result.v c.split_in_cycles-new.result.n c.split_in_cycles-new.result.m c.requires.fits c.split_in_cycles-new.ensures.new_names
 
 abbrev change : (g : given.Over) (c : After-part g) → Change
-change g c = SplitEdge c.args.d c.split_at-new.result.v c.args.p c.split_at-new.result.n c.split_at-new.result.m
+change g c = SplitEdge c.args.d c.split_in_cycles-new.result.v c.args.p c.split_in_cycles-new.result.n c.split_in_cycles-new.result.m
 
-made : (g : given.Over) (c : After-part g) → HasMade c.args.records.now.graph (curves_on c.args.history.now) (change g c) c.split_at-new.new.records.graph (curves_on c.part.new.self)
-made g c = record { view = c.split_at-new.ensures.graph; curves = c.part.ensures.curves; fits = fits g c; sound = c.split_at-new.ensures.sound }
+made : (g : given.Over) (c : After-part g) → HasMade c.args.records.now.graph (curves_on c.args.history.now) (change g c) c.split_in_cycles-new.new.records.graph (curves_on c.part.new.self)
+made g c = record { view = c.split_in_cycles-new.ensures.graph; curves = c.part.ensures.curves; fits = fits g c; sound = c.split_in_cycles-new.ensures.map.sound.graph }
 
 pub tell_after-requires : goal.tell_after-requires
 tell_after-requires g c = record { changed = changed_by (made g (goal.at.tell_after-requires g c).After-part) c.tell_before.ensures.in_step }
 
 pub returns-clause-vertex : goal.returns-clause-vertex
-returns-clause-vertex g c = split_vertex c.args.records.now.graph c.args.p c.args.d c.split_at-new.result.v c.split_at-new.result.n c.split_at-new.result.m c.requires.in_step.sound (fits g (goal.at.returns-clause-vertex g c).After-part) c.split_at-new.new.records.graph c.split_at-new.ensures.graph
+returns-clause-vertex g c = split_vertex c.args.records.now.graph c.args.p c.args.d c.split_in_cycles-new.result.v c.split_in_cycles-new.result.n c.split_in_cycles-new.result.m c.requires.in_step.sound (fits g (goal.at.returns-clause-vertex g c).After-part) c.split_in_cycles-new.new.records.graph c.split_in_cycles-new.ensures.graph
 
 pub returns-clause-graph : goal.returns-clause-graph
-returns-clause-graph g c = (c.split_at-new.result.n, c.split_at-new.result.m, c.split_at-new.ensures.new_names, c.split_at-new.ensures.graph)
+returns-clause-graph g c = (c.split_in_cycles-new.result.n, c.split_in_cycles-new.result.m, c.split_in_cycles-new.ensures.new_names, c.split_in_cycles-new.ensures.graph)
 
 pub returns-clause-told : goal.returns-clause-told
 returns-clause-told g c = told_by (made g (goal.at.returns-clause-told g c).After-part) _ refl _ (λ i. WillSplitEdge (c.ends-low.ensures.low i) (c.ends-low.ensures.high i) c.args.p) c.tell_before.ensures.round c.tell_after.ensures.round
+
+pub returns-clause-map : goal.returns-clause-map
+returns-clause-map g c = let e = c.split_in_cycles-new.ensures in record { map = e.map; returned = subst IsSome (sym e.moved) c.requires.map.returned }

@@ -12,21 +12,21 @@ use Rattle.told_steps.proofs.links.add_edge.Goals.{After-hold}
 use Rattle.told_steps.proofs.links.add_edge.Goals as goal
 
 pub hold-requires-clause-new : goal.hold-requires-clause-new
-hold-requires-clause-new g c m = subst (Member c.args.curve.0) (c.requires.in_step.curves.without_dart c.link-new.result.d c.link-new.ensures.new_darts.first) m
+hold-requires-clause-new g c m = subst (Member c.args.curve.0) (c.requires.in_step.curves.without_dart c.link_at_rest-new.result.d c.link_at_rest-new.ensures.new_darts.first) m
 
 abbrev change : (g : given.Over) (c : After-hold g) → Change
-change g c = AddEdge c.link-new.result.d c.link-new.result.m c.args.u c.args.w c.args.at_u c.args.at_w c.args.line c.args.curve
+change g c = AddEdge c.link_at_rest-new.result.d c.link_at_rest-new.result.m c.args.u c.args.w c.args.at_u c.args.at_w c.args.line c.args.curve
 
-made : (g : given.Over) (c : After-hold g) → HasMade c.args.records.now.graph (curves_on c.args.history.now) (change g c) c.link-new.new.records.graph (curves_on c.hold.new.self)
+made : (g : given.Over) (c : After-hold g) → HasMade c.args.records.now.graph (curves_on c.args.history.now) (change g c) c.link_at_rest-new.new.records.graph (curves_on c.hold.new.self)
 made g c =
     let v = c.args.records.now.graph in
     let h = curves_on c.args.history.now in
-    let d = c.link-new.result.d in
-    let e = c.link-new.ensures in record {
+    let d = c.link_at_rest-new.result.d in
+    let e = c.link_at_rest-new.ensures in record {
       view = e.graph;
       curves = λ y. c.hold.ensures.curves y ∙ one_curve h d c.args.curve.0 (c.requires.in_step.curves.without_dart d e.new_darts.first) y;
-      fits = (fits_added v d c.link-new.result.m c.args.u c.args.w c.args.at_u c.args.at_w c.args.line c.requires.fits e.new_darts (line_is_proper c.args.line c.laws.ensures), c.requires.forward);
-      sound = e.sound;
+      fits = (fits_added v d c.link_at_rest-new.result.m c.args.u c.args.w c.args.at_u c.args.at_w c.args.line c.requires.fits e.new_darts (line_is_proper c.args.line c.laws.ensures), c.requires.forward);
+      sound = e.map.map.sound.graph;
     }
 
 pub tell_after-requires : goal.tell_after-requires

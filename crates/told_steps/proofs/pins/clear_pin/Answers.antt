@@ -1,6 +1,8 @@
 use Rattle.std.proofs.Common.{false, refl, ap}
 use Rattle.arr_notes.specs.declared.change.Change.TheVariants.{ClearPin}
 use Rattle.arr_notes.specs.declared.intent.Intent.TheVariants.{ClearPin as WillClearPin}
+use Rattle.dcel_records.specs.RecordsView.{FacesView}
+use Rattle.told_steps.proofs.MapsKept.{pin_is_set}
 use Rattle.told_steps.proofs.Steps.{pinned_now}
 use Rattle.curve_history.specs.Past.{curves_on}
 use Rattle.told_steps.proofs.ToldOnce.{just_changed, told_once}
@@ -19,3 +21,8 @@ returns-clause-told g c =
     let h = curves_on c.args.history.now in
     let e = c.clear_pin.ensures.graph in
     told_once v h (ClearPin c.args.v) c.clear_pin.new.self.graph h e (λ d. refl) c.requires.vertex (pinned_now v c.args.v false c.requires.in_step.sound c.clear_pin.new.self.graph e) _ refl _ (ap WillClearPin c.point-p.ensures) c.tell_before.ensures.round c.tell_after.ensures.round
+
+pub returns-clause-map : goal.returns-clause-map
+returns-clause-map g c =
+    let e = c.clear_pin.ensures in
+    pin_is_set c.args.records.now c.clear_pin.new.self c.requires.map (pinned_now c.args.records.now.graph c.args.v false c.requires.in_step.sound c.clear_pin.new.self.graph e.graph) (ap (λ (f : FacesView). f.moved) e.faces) c.args.v false e.graph e.faces

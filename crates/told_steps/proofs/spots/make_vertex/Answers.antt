@@ -1,5 +1,6 @@
 use Rattle.std.proofs.Common.{◌≤◌, arith, refl, subst}
 use Rattle.curve_history.specs.Past.{curves_on}
+use Rattle.dcel_records.proofs.Spared.{none_spent}
 use Rattle.dcel_records.specs.Spots.{IsSpotOf}
 use Rattle.told_steps.specs.VertexMade.{IsPlaneWith, darts_at, pairs_at, vertices_at}
 use Rattle.told_steps.proofs.Begun.{none_told}
@@ -11,10 +12,12 @@ returns-in-Vertex g c =
     let o = subst (IsSpotOf v c.args.p) c.in-Vertex.is c.requires.spot in rw c.in-Vertex.is (record {
       told = none_told v (curves_on c.args.history.now) _;
       in_step = c.requires.in_step;
+      map = c.requires.map;
       vertex = record { has = o.0; at = o.1 };
       made = (refl, refl, λ d. refl);
       layer = record { names = refl; pieces = refl; next = refl };
       spare = record { of_vertices = omega arith; of_darts = omega arith; capacity_of_vertices = refl; capacity_of_darts = refl };
+      spare_faces = none_spent c.args.records.now.faces;
       spare_history = record { of_names = omega arith; of_pieces = omega arith; of_pairs = omega arith };
     })
 
@@ -22,6 +25,7 @@ pub split_edge-requires : goal.split_edge-requires
 split_edge-requires g c =
     let o = subst (IsSpotOf c.args.records.now.graph c.args.p) c.in-Edge.is c.requires.spot in record {
       in_step = c.requires.in_step;
+      map = c.requires.map;
       fits = record { dart = o.0; forward = o.1; inside_edge = o.2 };
       vertices = subst (λ z. vertices_at z ≤ c.args.records.now.spare_vertices) c.in-Edge.is c.requires.vertices;
       darts = subst (λ z. darts_at z ≤ c.args.records.now.spare_darts) c.in-Edge.is c.requires.darts;
@@ -29,13 +33,18 @@ split_edge-requires g c =
     }
 
 pub returns-in-Edge : goal.returns-in-Edge
-returns-in-Edge g c = let e = c.split_edge.ensures in rw c.in-Edge.is (record { told = e.told; in_step = e.in_step; vertex = e.vertex; made = e.graph; layer = e.layer; spare = e.spare; spare_history = e.spare_history })
+returns-in-Edge g c = let e = c.split_edge.ensures in rw c.in-Edge.is (record { told = e.told; in_step = e.in_step; map = e.map; vertex = e.vertex; made = e.graph; layer = e.layer; spare = e.spare; spare_faces = e.spare_faces; spare_history = e.spare_history })
+
+pub face_at-face-requires : goal.face_at-face-requires
+face_at-face-requires g c = record { map = c.requires.map.map; spot = subst (IsSpotOf c.args.records.now.graph c.args.p) c.in-Face.is c.requires.spot }
 
 pub add_vertex-requires : goal.add_vertex-requires
 add_vertex-requires g c = record {
   in_step = c.requires.in_step;
+  map = c.requires.map;
   free = (subst (IsSpotOf c.args.records.now.graph c.args.p) c.in-Face.is c.requires.spot).no_vertex;
   plane = subst (IsPlaneWith c.args.records.now.graph (curves_on c.args.history.now) c.args.p) c.in-Face.is c.requires.plane;
+  face = c.face_at-face.ensures.face;
   room = subst (λ z. vertices_at z ≤ c.args.records.now.spare_vertices) c.in-Face.is c.requires.vertices;
 }
 
@@ -44,9 +53,11 @@ returns-in-Face g c =
     let e = c.add_vertex.ensures in rw c.in-Face.is (record {
       told = e.told;
       in_step = e.in_step;
+      map = e.map;
       vertex = e.vertex;
       made = (e.fresh, e.graph, λ d. refl);
       layer = record { names = refl; pieces = refl; next = refl };
       spare = e.spare;
+      spare_faces = e.spare_faces;
       spare_history = record { of_names = omega arith; of_pieces = omega arith; of_pairs = omega arith };
     })

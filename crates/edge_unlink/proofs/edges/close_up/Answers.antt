@@ -1,14 +1,16 @@
-use Rattle.std.proofs.Common.{sym, ap, ◌∙◌, subst}
+use Rattle.std.proofs.Common.{◌≡◌, sym, ap, ◌∙◌, subst}
 use Rattle.slab_laws.specs.declared.names.DartId.{DartId}
 use Rattle.slab_laws.specs.Sound.{IsGraphSound}
 use Rattle.slab_laws.specs.View.{View, twin_in}
 use Rattle.arr_notes.specs.Reads.{IsRelinked}
+use Rattle.arr_notes.specs.FaceWriters.{off_cycles}
 use Rattle.dcel_records.specs.Outs.{IsRest}
+use Rattle.dcel_records.specs.RecordsView.{FacesView}
 use Rattle.arr_notes.specs.Step.{remove_edge}
 use Rattle.arr_notes.proofs.Redirected.{relinked as once_kept}
 use Rattle.sound_changes.proofs.EdgeRemoved.{fewer, removed}
 use Rattle.edge_unlink.proofs.Closing.{kept, written, comes_in, edge_gone, rest_kept, ends_kept}
-use Rattle.edge_unlink.proofs.edges.unlink_edge.Goals as goal
+use Rattle.edge_unlink.proofs.edges.close_up.Goals as goal
 
 pub set_next-requires-2 : goal.set_next-requires-2
 set_next-requires-2 c = (once_kept c.args.records.now.graph c.set_next.new.self.graph _ _ c.set_next.ensures.graph).has c.twin-into_m.result c.twin-into_m.ensures.has
@@ -48,3 +50,15 @@ pub returns-clause-sound : goal.returns-clause-sound
 returns-clause-sound c =
     let v : View = c.args.records.now.graph in
     subst (λ (g : View). IsGraphSound g) (sym (returns-clause-graph c ∙ ap (λ (z : DartId). remove_edge v c.args.d z) c.twin-m.ensures.twin)) (removed v c.args.d c.requires.sound c.requires.dart)
+
+-- both darts have no rows; the faces are else as they were
+abbrev without_darts : DartId → FacesView → DartId → FacesView
+without_darts d f t = record f { tables = off_cycles t (off_cycles d f.tables) }
+
+pub returns-clause-faces : goal.returns-clause-faces
+returns-clause-faces c =
+    let before : c.set_next-2.new.self.faces ≡ c.args.records.now.faces = c.set_next-2.ensures.faces ∙ c.set_next.ensures.faces in
+    let same : IsRelinked c.args.records.now.graph c.set_next-2.new.self.graph = kept c.args.records.now.graph c.set_next.new.self.graph c.set_next-2.new.self.graph _ _ _ _ c.set_next.ensures.graph c.set_next-2.ensures.graph in
+    c.remove_pair.ensures.faces
+    ∙ (λ i. without_darts c.args.d (before i) (same.twin c.args.d i))
+    ∙ ap (λ (z : DartId). without_darts c.args.d c.args.records.now.faces z) (sym c.twin-m.ensures.twin)

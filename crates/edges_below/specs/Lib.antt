@@ -1,0 +1,4 @@
+pub mod Highest
+pub mod Above
+pub mod FaceLaws
+pub mod Levels

@@ -1,0 +1,2 @@
+pub mod SeenDarts
+pub mod PointFaces
