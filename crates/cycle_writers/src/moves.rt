@@ -17,10 +17,7 @@ pub enum Which {
     /// All of them.
     All,
     /// Those in whose cells the parity of the cycle of `half` is odd. The extent is that of the cycle.
-    Inside {
-        half: DartId,
-        extent: Extent,
-    },
+    Inside { half: DartId, extent: Extent },
 }
 
 impl Which {
