@@ -24,7 +24,7 @@ use Rattle.cycle_writers.proofs.MovedBoth.{moved_both}
 use Rattle.cycle_writers.proofs.TakenWithin.{taken_within, within_together}
 
 -- ---- what stands in the lists
-listed_taken : (v : View) (which : Which) (but : CycleId) (l : Lists) (a : FaceId) (e : CycleId) → (lists_cycle (cycles_taken v which but l a) e.0 ≡ true) ↔ (Member e (l.cycles a) × (e ≢ but) × (takes v which (beside (l.dart_on e)) ≡ true))
+pub listed_taken : (v : View) (which : Which) (but : CycleId) (l : Lists) (a : FaceId) (e : CycleId) → (lists_cycle (cycles_taken v which but l a) e.0 ≡ true) ↔ (Member e (l.cycles a) × (e ≢ but) × (takes v which (beside (l.dart_on e)) ≡ true))
 listed_taken v which but l a e =
     let m = lists_member (cycles_taken v which but l a) e in
     let t = filter_member _ e (l.cycles a) in
@@ -33,7 +33,7 @@ listed_taken v which but l a e =
       λ h. m.1 (t.1 (h.0, b.1 (h.1, h.2))),
     )
 
-listed_bare : (v : View) (which : Which) (l : Lists) (a : FaceId) (u : VertexId) → (lists_vertex (vertices_taken v which l a) u.0 ≡ true) ↔ (Member u (l.bare a) × (takes v which (round u) ≡ true))
+pub listed_bare : (v : View) (which : Which) (l : Lists) (a : FaceId) (u : VertexId) → (lists_vertex (vertices_taken v which l a) u.0 ≡ true) ↔ (Member u (l.bare a) × (takes v which (round u) ≡ true))
 listed_bare v which l a u =
     let m = lists_bare (vertices_taken v which l a) u in
     let t = filter_member _ u (l.bare a) in

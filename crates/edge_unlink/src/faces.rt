@@ -50,13 +50,13 @@ fn shrink_at_source(records: &mut Records, d: DartId) -> FacedUnlink
     requires target { next_in records.old.graph d ≢ twin_in records.old.graph d }
     ensures { IsUnlinkMade records.old records.new d result.m result.faces }
 {
-    let u = records.source(d);
+    let start = records.source(d);
     let cycle = records.cycle(d);
     let face = records.face(cycle);
     let stays = records.next(d);
     let names = close_up(records, d);
     records.set_dart(cycle, stays);
-    records.set_bare(u, face);
+    records.set_bare(start, face);
     FacedUnlink {
         m: names.m,
         faces: Unlinked::Shrinks { cycle, face },
@@ -72,13 +72,13 @@ fn shrink_at_target(records: &mut Records, d: DartId) -> FacedUnlink
     requires target { next_in records.old.graph d ≡ twin_in records.old.graph d }
     ensures { IsUnlinkMade records.old records.new d result.m result.faces }
 {
-    let v = records.target(d);
+    let end = records.target(d);
     let cycle = records.cycle(d);
     let face = records.face(cycle);
     let stays = records.next(records.twin(d));
     let names = close_up(records, d);
     records.set_dart(cycle, stays);
-    records.set_bare(v, face);
+    records.set_bare(end, face);
     FacedUnlink {
         m: names.m,
         faces: Unlinked::Shrinks { cycle, face },

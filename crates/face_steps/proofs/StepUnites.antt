@@ -50,6 +50,22 @@ pub record AreUniteRows (f s : Faces) (x y : DartId) (kept gone : CycleId) (gone
   pub cycle_of_ascend : NamesAscend (names f.cycle_of)
   pub bare_ascend : NamesAscend (names f.bare)
 
+-- the sides of an edge on two cycles are two faces
+module _ (v w : View) (x y : DartId) (p q : VertexId) (l : Line) (m : IsEdgeApart v w x y p q l) (s : Faces) (h : AreTabled w s) where
+  pub two_sides : cycle_in s x ≢ cycle_in s y → face_in s (cycle_in s x) ≢ face_in s (cycle_in s y)
+  two_sides n e =
+      let same = (h.told.same (beside x) (beside y) m.more.first m.more.second).0 e in
+      let two : lead_in w x ≢ lead_in w y = λ z. n ((h.cycled.orbits x y m.more.first m.more.second).1 z) in
+      let law = faces_with_one_more_edge (skeleton_of v) (skeleton_of w) (dart_in w x) (left_of_dart (skeleton_of w) (dart_in w x)) (left_of_dart (skeleton_of w) (dart_in w y)) _ _ (is_more v w x y p q l m)
+      (record { real = real_first v w x y p q l m; in' = refl }) (record { real = real_second v w x y p q l m; in' = refl }) in
+      let side = sides_of_one_more_edge.two (skeleton_of v) (skeleton_of w) (dart_in w x) (is_more v w x y p q l m) (λ z. two (z ∙ sym (lead_second v w x y p q l m))) in
+      clash (odd_at (skeleton_of w) (dart_in w x) (left_of_dart (skeleton_of w) (dart_in w x)))
+      (side ∙ ap not (ap (λ z. odd_at (skeleton_of w) (dart_in w x) (left_of_dart (skeleton_of w) z)) (sym (twins v w x y p q l m)) ∙ sym (law.0 same).1))
+    where
+      clash : (c : Bool) → c ≡ not c → ⊥
+      clash true k = true≢false k
+      clash false k = false≢true k
+
 module _ (v w : View) (x y : DartId) (p q : VertexId) (l : Line) (m : IsEdgeApart v w x y p q l) (a b : DartId) (A : HasDart v a) (B : HasDart v b) (na : next_in w a ≡ x) (nb : next_in w b ≡ y) (f s : Faces) (kept gone : CycleId) (gone_face : FaceId) (cs : List CycleId) (us : List VertexId) (t : FitsUnite s x y kept gone gone_face cs us) (r : AreUniteRows f s x y kept gone gone_face cs us) (h : AreTabled w s) where
   abbrev to_face : FaceId
   to_face = face_in s kept
@@ -63,19 +79,8 @@ module _ (v w : View) (x y : DartId) (p q : VertexId) (l : Line) (m : IsEdgeApar
   has_gone : HasCycle s gone
   has_gone = subst (HasCycle s) t.first (h.complete.cycle_has x m.more.first)
 
-  -- the two sides are two faces
   other_face : face_in s kept ≢ gone_face
-  other_face e =
-      let same = (h.told.same (beside x) (beside y) m.more.first m.more.second).0 (ap (face_in s) t.first ∙ t.face ∙ sym e ∙ ap (face_in s) (sym t.second)) in
-      let law = faces_with_one_more_edge (skeleton_of v) (skeleton_of w) (dart_in w x) (left_of_dart (skeleton_of w) (dart_in w x)) (left_of_dart (skeleton_of w) (dart_in w y)) _ _ (is_more v w x y p q l m)
-      (record { real = real_first v w x y p q l m; in' = refl }) (record { real = real_second v w x y p q l m; in' = refl }) in
-      let side = sides_of_one_more_edge.two (skeleton_of v) (skeleton_of w) (dart_in w x) (is_more v w x y p q l m) (λ z. two (z ∙ sym (lead_second v w x y p q l m))) in
-      clash (odd_at (skeleton_of w) (dart_in w x) (left_of_dart (skeleton_of w) (dart_in w x)))
-      (side ∙ ap not (ap (λ z. odd_at (skeleton_of w) (dart_in w x) (left_of_dart (skeleton_of w) z)) (sym (twins v w x y p q l m)) ∙ sym (law.0 same).1))
-    where
-      clash : (c : Bool) → c ≡ not c → ⊥
-      clash true k = true≢false k
-      clash false k = false≢true k
+  other_face e = two_sides v w x y p q l m s h (λ z. t.two (sym t.second ∙ sym z ∙ t.first)) (ap (face_in s) t.first ∙ t.face ∙ sym e ∙ ap (face_in s) (sym t.second))
 
   not_x : (k : DartId) → HasDart v k → k ≢ x
   not_x k o e = m.more.first_new (subst (HasDart v) e o)

@@ -24,10 +24,10 @@ use Rattle.face_steps.proofs.StepLaws.{steps_keep_tables}
 
 -- ---- an edge that goes
 module _ (v : View) (f : Faces) (d : DartId) (s : IsGraphSound v) (has : HasDart v d) (h : AreTabled v f) where
-  abbrev t : DartId
+  abbrev pub t : DartId
   t = twin_in v d
 
-  abbrev less : View
+  abbrev pub less : View
   less = remove_edge v d (twin_in v d)
 
   e : IsEdgeApart (remove_edge v d (twin_in v d)) v d (twin_in v d) (source_in v d) (target_in v d) (line_in v d)
@@ -49,10 +49,10 @@ module _ (v : View) (f : Faces) (d : DartId) (s : IsGraphSound v) (has : HasDart
   bare_second : next_in v d ≡ twin_in v d → IsBare less (target_in v d)
   bare_second n = elim (before_it less v t d (target_in v d) (source_in v d) (line_in v d) d back has n) [ inl r ↦ r.1 | inr o ↦ absurd (e.more.first_new o) ]
 
-  abbrev IsBefore : DartId → Type 0
+  abbrev pub IsBefore : DartId → Type 0
   IsBefore x = (k : DartId) × HasDart less k × (next_in v k ≡ x)
 
-  place_first : next_in v (twin_in v d) ≢ d → IsBefore d
+  pub place_first : next_in v (twin_in v d) ≢ d → IsBefore d
   place_first n = elim (start_cases less v d t (source_in v d) (target_in v d) (line_in v d) e) [
     | inl none ↦ absurd (n (alone none))
     | inr r ↦ r
@@ -69,7 +69,7 @@ module _ (v : View) (f : Faces) (d : DartId) (s : IsGraphSound v) (has : HasDart
             | inr r ↦ elim r [ inl q ↦ q | inr q ↦ absurd (e.more.two_ends (sym from ∙ ap (source_in v) q)) ]
           ]
 
-  place_second : next_in v d ≢ twin_in v d → IsBefore (twin_in v d)
+  pub place_second : next_in v d ≢ twin_in v d → IsBefore (twin_in v d)
   place_second n = elim (start_cases less v t d (target_in v d) (source_in v d) (line_in v d) back) [
     | inl none ↦ absurd (n (alone none))
     | inr r ↦ r
@@ -85,11 +85,11 @@ module _ (v : View) (f : Faces) (d : DartId) (s : IsGraphSound v) (has : HasDart
             | inr r ↦ elim r [ inl q ↦ absurd (e.more.two_ends (ap (source_in v) (sym q) ∙ from)) | inr q ↦ q ]
           ]
 
-  between : (i : IsBefore d) → (j : IsBefore (twin_in v d)) → IsBetween less v d (twin_in v d) (source_in v d) (target_in v d) i.0 j.0
+  pub between : (i : IsBefore d) → (j : IsBefore (twin_in v d)) → IsBetween less v d (twin_in v d) (source_in v d) (target_in v d) i.0 j.0
   between i j = record { line = line_in v d; edge = e; first = i.1; second = j.1; after_first = i.2; after_second = j.2 }
 
   -- two cycles: then neither end becomes bare
-  no_follow : (cycle_in f d ≢ cycle_in f t) → (next_in v t ≢ d) × (next_in v d ≢ t)
+  pub no_follow : (cycle_in f d ≢ cycle_in f t) → (next_in v t ≢ d) × (next_in v d ≢ t)
   no_follow n = (
     λ q. n (sym ((h.cycled.orbits t d has_twin has).1 (lead_step v s t has_twin ∙ ap (lead_in v) q))),
     λ q. n ((h.cycled.orbits d t has has_twin).1 (lead_step v s d has ∙ ap (lead_in v) q)),

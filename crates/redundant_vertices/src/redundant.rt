@@ -3,7 +3,7 @@ ghost use Rattle.std.specs.List.{AllByRecursion};
 ghost use Rattle.exact_plane.specs.PointOrder.{point_cmp};
 ghost use Rattle.plane_graphs.specs.Ascending.{IsAscending};
 ghost use Rattle.slab_laws.specs.View.{HasVertex, point_in, pinned_in};
-ghost use Rattle.dcel_records.specs.RecordsView.{SameRecordCapacity};
+ghost use Rattle.dcel_records.specs.RecordsView.{IsSpareFaces, SameRecordCapacity};
 ghost use Rattle.dcel_records.specs.SoundMaps.{IsMapAtRest};
 ghost use Rattle.curve_history.specs.Past.{curves_on, SameLayer, SameHistoryCapacity};
 ghost use Rattle.observer_bus.specs.Rows.{bus_row};
@@ -39,6 +39,7 @@ pub fn remove_if_redundant(
     ensures map { IsMapAtRest records.new }
     ensures layer { SameLayer history.old history.new }
     ensures records_capacity { SameRecordCapacity records.old records.new }
+    ensures spare_faces { IsSpareFaces records.old.faces records.new.faces 0 0 }
     ensures history_capacity { SameHistoryCapacity history.old history.new }
 {
     let Some(first) = records.out_of(w) else {
@@ -73,6 +74,7 @@ pub fn remove_redundant(
     ensures map { IsMapAtRest records.new }
     ensures layer { SameLayer history.old history.new }
     ensures records_capacity { SameRecordCapacity records.old records.new }
+    ensures spare_faces { IsSpareFaces records.old.faces records.new.faces 0 0 }
     ensures history_capacity { SameHistoryCapacity history.old history.new }
 {
     for vertex in vertices {

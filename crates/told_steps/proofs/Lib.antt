@@ -17,3 +17,4 @@ pub mod Parts
 pub mod Linked
 pub mod Begun
 pub mod MapsKept
+pub mod Restored

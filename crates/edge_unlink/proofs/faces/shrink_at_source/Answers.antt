@@ -13,7 +13,7 @@ use Rattle.edge_unlink.proofs.faces.shrink_at_source.Goals as goal
 pub set_bare-requires-clause-elsewhere : goal.set_bare-requires-clause-elsewhere
 set_bare-requires-clause-elsewhere c =
     not_isolated c.args.records.now.graph c.args.records.now.faces.tables c.args.d _ _ c.requires.map.sound c.requires.dart
-    (ap (λ (f : Faces). f.bare) c.set_dart.ensures.tables ∙ ap (λ (f : FacesView). f.tables.bare) c.close_up-names.ensures.faces) c.source-u.ensures
+    (ap (λ (f : Faces). f.bare) c.set_dart.ensures.tables ∙ ap (λ (f : FacesView). f.tables.bare) c.close_up-names.ensures.faces) c.source-start.ensures
 
 pub set_bare-requires-clause-face : goal.set_bare-requires-clause-face
 set_bare-requires-clause-face c =
@@ -29,7 +29,7 @@ returns c =
     let cycle = c.cycle-cycle.result in
     let face = c.face-face.result in
     let closed = c.close_up-names.ensures in
-    let end = c.source-u.result in
+    let end = c.source-start.result in
     let twin : HasDart old.graph (twin_in old.graph d) = c.requires.map.sound.graph.twinned.has d c.requires.dart in
     let bared : bared_end old.graph d ≡ source_in old.graph d = ap (λ b. cond b (source_in old.graph d) (target_in old.graph d)) (ap (λ (z : DartId). z.0 == d.0) c.requires.source ∙ same_number d.0) in
     let second : cycle_in f (twin_in old.graph d) ≡ cycle = sym (follower_on old.graph f (twin_in old.graph d) c.requires.map.sound twin) ∙ ap (cycle_in f) c.requires.source ∙ sym c.cycle-cycle.ensures in
@@ -41,7 +41,7 @@ returns c =
     c.requires.map c.requires.dart closed.twin closed.graph closed.sound closed.spare
     (c.set_bare.ensures.graph ∙ c.set_dart.ensures.graph)
     (c.set_bare.ensures.tables ∙ ap (bare_in end face) (c.set_dart.ensures.tables ∙ ap (λ (z : FacesView). z.tables) closed.faces))
-    (λ i. bare_in ((c.source-u.ensures ∙ sym bared) i) face (off_cycles (closed.twin i) (off_cycles d f)))
+    (λ i. bare_in ((c.source-start.ensures ∙ sym bared) i) face (off_cycles (closed.twin i) (off_cycles d f)))
     (inl (c.requires.source, c.requires.target), sym c.cycle-cycle.ensures, c.face-face.ensures)
     (c.set_bare.ensures.lists ∙ ap (vertex_listed end face) (c.set_dart.ensures.lists ∙ ap (λ z. dart_listed cycle c.next-stays.result (lists_in_view z)) closed.faces))
     (λ graph. darts_on_all old.graph c.set_bare.new.self.graph f d m c.requires.map.sound c.requires.dart closed.twin graph (lists_of old) c.requires.map.darts cycle (sym c.cycle-cycle.ensures) (ap (cycle_in f) closed.twin ∙ second)

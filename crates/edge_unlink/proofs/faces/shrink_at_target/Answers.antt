@@ -16,13 +16,13 @@ face-face-requires c = has_cycle c.args.records.now.graph c.args.records.now.fac
 pub set_bare-requires-clause-vertex : goal.set_bare-requires-clause-vertex
 set_bare-requires-clause-vertex c =
     let closed = c.close_up-names.ensures in
-    subst (λ g. HasVertex g c.target-v.result) (sym (ap (λ (g : GraphView). g.graph) c.set_dart.ensures.graph))
-    (subst (HasVertex c.close_up-names.new.records.graph) (sym c.target-v.ensures) (has_target c.args.records.now.graph c.close_up-names.new.records.graph c.args.records.now.faces.tables c.args.d c.close_up-names.result.m c.requires.map.sound c.requires.dart closed.twin closed.graph))
+    subst (λ g. HasVertex g c.target-end.result) (sym (ap (λ (g : GraphView). g.graph) c.set_dart.ensures.graph))
+    (subst (HasVertex c.close_up-names.new.records.graph) (sym c.target-end.ensures) (has_target c.args.records.now.graph c.close_up-names.new.records.graph c.args.records.now.faces.tables c.args.d c.close_up-names.result.m c.requires.map.sound c.requires.dart closed.twin closed.graph))
 
 pub set_bare-requires-clause-elsewhere : goal.set_bare-requires-clause-elsewhere
 set_bare-requires-clause-elsewhere c =
     not_isolated c.args.records.now.graph c.args.records.now.faces.tables (twin_in c.args.records.now.graph c.args.d) _ _ c.requires.map.sound (c.requires.map.sound.graph.twinned.has c.args.d c.requires.dart)
-    (ap (λ (f : Faces). f.bare) c.set_dart.ensures.tables ∙ ap (λ (f : FacesView). f.tables.bare) c.close_up-names.ensures.faces) c.target-v.ensures
+    (ap (λ (f : Faces). f.bare) c.set_dart.ensures.tables ∙ ap (λ (f : FacesView). f.tables.bare) c.close_up-names.ensures.faces) c.target-end.ensures
 
 pub set_bare-requires-clause-face : goal.set_bare-requires-clause-face
 set_bare-requires-clause-face c =
@@ -38,7 +38,7 @@ returns c =
     let cycle = c.cycle-cycle.result in
     let face = c.face-face.result in
     let closed = c.close_up-names.ensures in
-    let end = c.target-v.result in
+    let end = c.target-end.result in
     let twin : HasDart old.graph (twin_in old.graph d) = c.requires.map.sound.graph.twinned.has d c.requires.dart in
     let stays : c.next-stays.result ≡ next_in old.graph (twin_in old.graph d) = c.next-stays.ensures ∙ ap (next_in old.graph) c.twin.ensures.twin in
     let bared : bared_end old.graph d ≡ target_in old.graph d = ap (λ b. cond b (source_in old.graph d) (target_in old.graph d)) (other_number (next_in old.graph (twin_in old.graph d)).0 d.0 (dart_number (next_in old.graph (twin_in old.graph d)) d c.requires.source)) in
@@ -51,7 +51,7 @@ returns c =
     c.requires.map c.requires.dart closed.twin closed.graph closed.sound closed.spare
     (c.set_bare.ensures.graph ∙ c.set_dart.ensures.graph)
     (c.set_bare.ensures.tables ∙ ap (bare_in end face) (c.set_dart.ensures.tables ∙ ap (λ (z : FacesView). z.tables) closed.faces))
-    (λ i. bare_in ((c.target-v.ensures ∙ sym bared) i) face (off_cycles (closed.twin i) (off_cycles d f)))
+    (λ i. bare_in ((c.target-end.ensures ∙ sym bared) i) face (off_cycles (closed.twin i) (off_cycles d f)))
     (inr (c.requires.source, c.requires.target), sym c.cycle-cycle.ensures, c.face-face.ensures)
     (c.set_bare.ensures.lists ∙ ap (vertex_listed end face) (c.set_dart.ensures.lists ∙ ap (λ z. dart_listed cycle c.next-stays.result (lists_in_view z)) closed.faces))
     (λ graph. darts_on_all old.graph c.set_bare.new.self.graph f d m c.requires.map.sound c.requires.dart closed.twin graph (lists_of old) c.requires.map.darts cycle (sym c.cycle-cycle.ensures) (ap (cycle_in f) closed.twin ∙ second)

@@ -1,3 +1,4 @@
+use Rattle.dcel_records.proofs.Spared.{none_spent}
 use Rattle.curve_history.specs.Past.{curves_on}
 use Rattle.redundant_vertices.proofs.Loosened.{bare_goes, goes_told, joined_alike, joined_go, not_joinable, stays_told}
 use Rattle.redundant_vertices.proofs.redundant.remove_if_redundant.Goals as goal
@@ -29,3 +30,6 @@ returns-clause-tidied g c =
     let i = c.requires.in_step in
     let j = c.in-Some-joinable in
     goes_told v h _ _ _ _ _ _ (joined_go v h c.args.w i.sound i.curves c.requires.vertex c.in-Some.first c.in-Some.ensures.some j.field-0.0 j.field-0.1 j.ensures) c.merge_edge.ensures.told
+
+pub returns-in_default-joinable-clause-spare_faces : goal.returns-in_default-joinable-clause-spare_faces
+returns-in_default-joinable-clause-spare_faces g c = none_spent c.args.records.now.faces

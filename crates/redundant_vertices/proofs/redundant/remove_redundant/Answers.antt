@@ -1,5 +1,6 @@
 use Rattle.std.proofs.Common.{sym, refl, ◌∙◌}
 use Rattle.slab_laws.specs.View.{vertex_id}
+use Rattle.dcel_records.proofs.Spared.{none_spent, spare_then}
 use Rattle.curve_history.specs.Past.{curves_on}
 use Rattle.redundant_vertices.proofs.Onward.{all_next, none_tidied, pinned_next, same_histories, same_records, tidied_next}
 use Rattle.redundant_vertices.proofs.redundant.remove_redundant.Goals as goal
@@ -10,7 +11,9 @@ pub loop-vertex-init : goal.loop-vertex-init
 loop-vertex-init g c = record {
   tidied = none_tidied c.args.records.now.graph (curves_on c.args.history.now) _ c.args.vertices.now c.requires.in_step c.requires.have;
   layer = record { names = refl; pieces = refl; next = refl };
+  map = c.requires.map;
   records = record { of_vertices = refl; of_darts = refl };
+  faces = none_spent c.args.records.now.faces;
   history = record { by_edge = refl; by_curve = refl; of_pieces = refl };
 }
 
@@ -27,13 +30,17 @@ loop-vertex-preserved g c =
             tidied = tidied_next v h _ c.requires.in_step all c.requires.have c.requires.ascend l.vertex-index at (vertex_id 0) l.records.graph (curves_on l.history) _ l.invariant.tidied (sym c.pinned.ensures ∙ w.if-not-pinned.true) w.remove_if_redundant.new.records.graph (curves_on w.remove_if_redundant.new.history) _ w.remove_if_redundant.ensures.tidied;
             layer = same_layers c.args.history.now l.history w.remove_if_redundant.new.history l.invariant.layer w.remove_if_redundant.ensures.layer;
             records = same_records c.args.records.now l.records w.remove_if_redundant.new.records l.invariant.records w.remove_if_redundant.ensures.records_capacity;
+            map = w.remove_if_redundant.ensures.map;
+            faces = spare_then l.invariant.faces w.remove_if_redundant.ensures.spare_faces;
             history = same_histories c.args.history.now l.history w.remove_if_redundant.new.history l.invariant.history w.remove_if_redundant.ensures.history_capacity;
           })))
       | else-not-pinned w ↦
           rw w.records-is (rw w.history-is (rw w.bus-is (record {
             tidied = pinned_next v h _ c.requires.in_step all c.requires.have c.requires.ascend l.vertex-index at (vertex_id 0) l.records.graph (curves_on l.history) _ l.invariant.tidied (sym c.pinned.ensures ∙ w.if-not-pinned.false);
             layer = l.invariant.layer;
+            map = l.invariant.map;
             records = l.invariant.records;
+            faces = l.invariant.faces;
             history = l.invariant.history;
           })))
     ]

@@ -1,5 +1,6 @@
 use Rattle.std.proofs.Common.{take, drop}
-use Rattle.dcel_records.specs.RecordsView.{SameRecordCapacity}
+use Rattle.dcel_records.specs.RecordsView.{IsSpareFaces, SameRecordCapacity}
+use Rattle.dcel_records.specs.SoundMaps.{IsMapAtRest}
 use Rattle.curve_history.specs.Past.{curves_on, SameLayer, SameHistoryCapacity}
 use Rattle.observer_bus.specs.Rows.{bus_row}
 use Rattle.redundant_vertices.proofs.Onward.{AreTidied}
@@ -12,6 +13,8 @@ invariant-loop-vertex g l = record {
       l.vertices (take l.vertex-index l.vertices) (drop l.vertex-index l.vertices) l.records.graph (curves_on l.history)
       (bus_row (goal.Observer-dyn g) l.bus);
   layer : SameLayer l.fn.history l.history;
+  map : IsMapAtRest l.records;
   records : SameRecordCapacity l.fn.records l.records;
+  faces : IsSpareFaces l.fn.records.faces l.records.faces 0 0;
   history : SameHistoryCapacity l.fn.history l.history;
 }

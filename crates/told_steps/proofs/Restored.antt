@@ -1,0 +1,25 @@
+-- The lists of what moves come back to the records: all else is as it was.
+use Rattle.std.proofs.Common.{◌≡◌, Some, refl, sym, subst}
+use Rattle.dcel_records.specs.RecordsView.{MovedRoom, RecordsView, graph_part}
+use Rattle.dcel_records.specs.SoundMaps.{IsMapAtRest, IsSoundMap}
+
+module _ (mid new : RecordsView) (room : MovedRoom) (graph : graph_part new ≡ graph_part mid) (faces : new.faces ≡ record mid.faces { moved = Some room }) where
+  abbrev pub given_back : RecordsView
+  given_back = record mid { faces = record mid.faces { moved = Some room } }
+
+  as_given : new ≡ given_back
+  as_given i = record {
+    graph = (graph i).graph;
+    spare_vertices = (graph i).spare_vertices;
+    spare_darts = (graph i).spare_darts;
+    capacity_of_vertices = (graph i).capacity_of_vertices;
+    capacity_of_darts = (graph i).capacity_of_darts;
+    faces = faces i;
+  }
+
+  -- what holds once they are back
+  pub restored : (P : RecordsView → Type 0) → P given_back → P new
+  restored P = subst P (sym as_given)
+
+  pub map_restored : IsSoundMap mid → IsMapAtRest new
+  map_restored m = restored IsMapAtRest (record { map = record { sound = m.sound; darts = m.darts }; returned = refl })
