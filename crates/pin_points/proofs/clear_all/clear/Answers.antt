@@ -7,7 +7,7 @@ pub clear-requires : goal.clear-requires
 clear-requires g c =
     let v = c.args.records.now.graph in
     let p = c.args.history.now in
-    record { in_step = begun_in_step v p v p refl (λ d. refl) c.begin.ensures.begun c.requires.layer c.requires.watched }
+    record { in_step = begun_in_step v p v p refl (λ d. refl) c.begin.ensures.begun c.requires.layer c.requires.watched; map = c.requires.map }
 
 pub returns-clause-layer : goal.returns-clause-layer
 returns-clause-layer g c =

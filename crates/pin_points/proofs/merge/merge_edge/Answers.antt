@@ -11,6 +11,7 @@ use Rattle.pin_points.proofs.merge.merge_edge.Goals as goal
 pub returns-in_default : goal.returns-in_default
 returns-in_default g c = record {
   layer = c.requires.layer;
+  map = c.requires.map;
   watched = c.requires.watched;
   edit = tt;
   told = tt;
@@ -29,6 +30,7 @@ pinned-requires g c = c.in-Some.ensures.0
 pub returns-then-not-pinned : goal.returns-then-not-pinned
 returns-then-not-pinned g c = record {
   layer = c.requires.layer;
+  map = c.requires.map;
   watched = c.requires.watched;
   edit = tt;
   told = tt;
@@ -48,6 +50,7 @@ is_mergeable-requires g c = record { sound = c.requires.layer.sound; curves = c.
 pub returns-then-not-is_mergeable : goal.returns-then-not-is_mergeable
 returns-then-not-is_mergeable g c = record {
   layer = c.requires.layer;
+  map = c.requires.map;
   watched = c.requires.watched;
   edit = tt;
   told = tt;
@@ -66,12 +69,14 @@ clear_pin-requires g c =
     let v = c.args.records.now.graph in
     let r = c.args.history.now in record {
       in_step = begun_in_step v r v r refl (λ d. refl) c.begin.ensures.begun c.requires.layer c.requires.watched;
+      map = c.requires.map;
       vertex = c.in-Some.ensures.0;
     }
 
 pub remove_if_redundant-requires : goal.remove_if_redundant-requires
 remove_if_redundant-requires g c = record {
   in_step = c.clear_pin.ensures.in_step;
+  map = c.clear_pin.ensures.map;
   vertex = clear_has c.args.records.now.graph c.args.history.now c.requires.layer c.in-Some.vertex c.in-Some.ensures.0 (sym c.pinned.ensures ∙ c.if-not-pinned.false) c.clear_pin.new.records.graph c.clear_pin.ensures.graph;
   unpinned = clear_unpinned c.args.records.now.graph c.args.history.now c.requires.layer c.in-Some.vertex c.in-Some.ensures.0 (sym c.pinned.ensures ∙ c.if-not-pinned.false) c.clear_pin.new.records.graph c.clear_pin.ensures.graph;
 }
@@ -84,6 +89,7 @@ returns g c =
     let q = c.remove_if_redundant.new.history in
     let after = merge_layer v r c.requires.layer c.args.r.now c.in-Some.vertex c.in-Some.ensures.0 c.in-Some.ensures.1 (sym c.pinned.ensures ∙ c.if-not-pinned.false) (c.is_mergeable.ensures.passed c.if-not-is_mergeable.false) c.clear_pin.new.records.graph c.clear_pin.ensures.graph _ _ c.clear_pin.ensures.told x q _ c.remove_if_redundant.ensures.tidied c.remove_if_redundant.ensures.layer in record {
       layer = after.0;
+      map = c.remove_if_redundant.ensures.map;
       watched = c.remove_if_redundant.ensures.in_step.holds;
       edit = after.1;
       told = told_of_edit v r v r refl (λ d. refl) c.begin.ensures.begun _ x (curves_on q) _

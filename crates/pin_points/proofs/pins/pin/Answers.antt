@@ -35,6 +35,7 @@ pub returns-then-is_pinned : goal.returns-then-is_pinned
 returns-then-is_pinned g c =
     let e = pinned_spot c.args.records.now.graph (curves_on c.args.history.now) c.requires.layer.sound c.args.p.now c.args.at c.requires.spot in record {
       layer = c.requires.layer;
+      map = c.requires.map;
       watched = c.requires.watched;
       edit = tt;
       told = tt;
@@ -52,6 +53,7 @@ returns-then-is_full g c =
     let e = pinned_spot c.args.records.now.graph (curves_on c.args.history.now) l.sound c.args.p.now c.args.at c.requires.spot in
     let n = counted c.args.records.now.graph c.args.history.now l c.args.p.now (point_is_proper c.args.p.now c.laws.ensures) in record {
       layer = c.requires.layer;
+      map = c.requires.map;
       watched = c.requires.watched;
       edit = tt;
       told = tt;
@@ -71,6 +73,7 @@ returns-in_err-make_room g c =
     let e = pinned_spot c.args.records.now.graph (curves_on c.args.history.now) l.sound c.args.p.now c.args.at c.requires.spot in
     let n = counted c.args.records.now.graph c.args.history.now l c.args.p.now (point_is_proper c.args.p.now c.laws.ensures) in record {
       layer = layer_stays c.args.records.now.graph c.make_room.new.records.graph c.args.history.now c.make_room.new.history m.graph m.layer m.curves c.requires.layer;
+      map = m.map c.requires.map;
       watched = still_watched c.args.records.now.graph c.args.history.now c.make_room.new.records.graph c.make_room.new.history c.make_room.ensures.graph c.make_room.ensures.curves _ c.requires.watched;
       edit = not_ok back _ _ c.from_residual.ensures.1;
       told = not_ok back _ _ c.from_residual.ensures.1;
@@ -95,6 +98,7 @@ make_vertex-vertex-requires g c =
     let proper = point_is_proper p c.laws.ensures in
     let k = stays_plane v r l p proper (e ∙ sym c.is_pinned.ensures ∙ c.if-is_pinned.false) in record {
       in_step = begun_in_step v r c.make_room.new.records.graph c.make_room.new.history m.graph m.curves c.begin.ensures.begun l c.requires.watched;
+      map = m.map c.requires.map;
       spot = subst (λ z. IsSpotOf z p at) (sym m.graph) c.requires.spot;
       plane = moved v r c.make_room.new.records.graph c.make_room.new.history m.graph m.curves (λ z h. IsPlaneWith z h p at) (plane_with v (curves_on r) l.sound l.curves p proper at c.requires.spot k);
       vertices = omega (arith, one_vertex at, room.vertices);
@@ -103,7 +107,7 @@ make_vertex-vertex-requires g c =
     }
 
 pub set_pin-requires : goal.set_pin-requires
-set_pin-requires g c = record { in_step = c.make_vertex-vertex.ensures.in_step; vertex = c.make_vertex-vertex.ensures.vertex.has }
+set_pin-requires g c = record { in_step = c.make_vertex-vertex.ensures.in_step; map = c.make_vertex-vertex.ensures.map; vertex = c.make_vertex-vertex.ensures.vertex.has }
 
 pub returns : goal.returns
 returns g c =
@@ -120,6 +124,7 @@ returns g c =
     let n = counted c.args.records.now.graph c.args.history.now l c.args.p.now (point_is_proper c.args.p.now c.laws.ensures) in
     let after = pin_layer v r l p (point_is_proper p c.laws.ensures) (e ∙ sym c.is_pinned.ensures ∙ c.if-is_pinned.false) _ x k _ there c.make_vertex-vertex.result c.make_vertex-vertex.ensures.vertex c.set_pin.new.records.graph c.make_vertex-vertex.new.history _ c.set_pin.ensures.told (same_layers r c.make_room.new.history c.make_vertex-vertex.new.history m.layer c.make_vertex-vertex.ensures.layer) in record {
       layer = after.0;
+      map = c.set_pin.ensures.map;
       watched = c.set_pin.ensures.in_step.holds;
       edit = after.1;
       told = pin_told v r l p (point_is_proper p c.laws.ensures) (e ∙ sym c.is_pinned.ensures ∙ c.if-is_pinned.false) _ x k _ there c.make_vertex-vertex.result c.make_vertex-vertex.ensures.vertex c.set_pin.new.records.graph c.make_vertex-vertex.new.history _ c.set_pin.ensures.told;

@@ -14,6 +14,7 @@ use Rattle.pin_points.proofs.pins.unpin.Goals as goal
 pub returns-in_default : goal.returns-in_default
 returns-in_default g c = record {
   layer = c.requires.layer;
+  map = c.requires.map;
   watched = c.requires.watched;
   edit = tt;
   told = tt;
@@ -33,6 +34,7 @@ pub returns-then-not-pinned : goal.returns-then-not-pinned
 returns-then-not-pinned g c =
     let e = c.in-Some.ensures in record {
       layer = c.requires.layer;
+      map = c.requires.map;
       watched = c.requires.watched;
       edit = tt;
       told = tt;
@@ -50,12 +52,14 @@ clear_pin-requires g c =
     let v = c.args.records.now.graph in
     let r = c.args.history.now in record {
       in_step = begun_in_step v r v r refl (λ d. refl) c.begin.ensures.begun c.requires.layer c.requires.watched;
+      map = c.requires.map;
       vertex = c.in-Some.ensures.0;
     }
 
 pub remove_if_redundant-requires : goal.remove_if_redundant-requires
 remove_if_redundant-requires g c = record {
   in_step = c.clear_pin.ensures.in_step;
+  map = c.clear_pin.ensures.map;
   vertex = clear_has c.args.records.now.graph c.args.history.now c.requires.layer c.in-Some.vertex c.in-Some.ensures.0 (sym c.pinned.ensures ∙ c.if-not-pinned.false) c.clear_pin.new.records.graph c.clear_pin.ensures.graph;
   unpinned = clear_unpinned c.args.records.now.graph c.args.history.now c.requires.layer c.in-Some.vertex c.in-Some.ensures.0 (sym c.pinned.ensures ∙ c.if-not-pinned.false) c.clear_pin.new.records.graph c.clear_pin.ensures.graph;
 }
@@ -69,6 +73,7 @@ returns g c =
     let e = c.in-Some.ensures in
     let after = unpin_layer v r c.requires.layer c.in-Some.vertex c.in-Some.ensures.0 (sym c.pinned.ensures ∙ c.if-not-pinned.false) c.clear_pin.new.records.graph c.clear_pin.ensures.graph _ _ c.clear_pin.ensures.told x q _ c.remove_if_redundant.ensures.tidied c.remove_if_redundant.ensures.layer in record {
       layer = after.0;
+      map = c.remove_if_redundant.ensures.map;
       watched = c.remove_if_redundant.ensures.in_step.holds;
       edit = after.1 ∙ ap (λ z. layer_after (Unpin z) (layer_of v r)) c.in-Some.ensures.1;
       told = told_of_edit v r v r refl (λ d. refl) c.begin.ensures.begun _ x (curves_on q) _

@@ -35,6 +35,7 @@ edge_dart-requires g c = c.requires.layer.sound
 pub returns-in_default : goal.returns-in_default
 returns-in_default g c = record {
   layer = c.requires.layer;
+  map = c.requires.map;
   watched = c.requires.watched;
   edit = tt;
   told = tt;
@@ -52,6 +53,7 @@ is_inside-requires g c = record { sound = c.requires.layer.sound; forward = c.in
 pub returns-then-not-is_inside : goal.returns-then-not-is_inside
 returns-then-not-is_inside g c = record {
   layer = c.requires.layer;
+  map = c.requires.map;
   watched = c.requires.watched;
   edit = tt;
   told = tt;
@@ -67,6 +69,7 @@ returns-then-not-is_inside g c = record {
 pub returns-then-is_full : goal.returns-then-is_full
 returns-then-is_full g c = record {
   layer = c.requires.layer;
+  map = c.requires.map;
   watched = c.requires.watched;
   edit = tt;
   told = tt;
@@ -84,6 +87,7 @@ returns-in_err-make_room g c =
     let m = c.make_room.ensures in
     let back = c.from_residual.result in record {
       layer = layer_stays c.args.records.now.graph c.make_room.new.records.graph c.args.history.now c.make_room.new.history m.graph m.layer m.curves c.requires.layer;
+      map = m.map c.requires.map;
       watched = still_watched c.args.records.now.graph c.args.history.now c.make_room.new.records.graph c.make_room.new.history c.make_room.ensures.graph c.make_room.ensures.curves _ c.requires.watched;
       edit = not_ok back _ _ c.from_residual.ensures.1;
       told = not_ok back _ _ c.from_residual.ensures.1;
@@ -101,6 +105,7 @@ split_edge-vertex-requires g c =
     let a = c.in-Some.ensures in
     let m = c.make_room.ensures in record {
       in_step = begun_in_step c.args.records.now.graph c.args.history.now c.make_room.new.records.graph c.make_room.new.history c.make_room.ensures.graph c.make_room.ensures.curves c.begin.ensures.begun c.requires.layer c.requires.watched;
+      map = m.map c.requires.map;
       fits = subst (λ z. CanSplit z c.in-Some.dart c.args.r.now) (sym c.make_room.ensures.graph) (record { dart = a.forward.0; forward = a.forward.1; inside_edge = sym c.is_inside.ensures ∙ c.if-not-is_inside.false });
       vertices = c.in_ok-make_room.ensures.room.vertices;
       darts = c.in_ok-make_room.ensures.room.darts;
@@ -108,7 +113,7 @@ split_edge-vertex-requires g c =
     }
 
 pub set_pin-requires : goal.set_pin-requires
-set_pin-requires g c = record { in_step = c.split_edge-vertex.ensures.in_step; vertex = c.split_edge-vertex.ensures.vertex.has }
+set_pin-requires g c = record { in_step = c.split_edge-vertex.ensures.in_step; map = c.split_edge-vertex.ensures.map; vertex = c.split_edge-vertex.ensures.vertex.has }
 
 pub returns : goal.returns
 returns g c =
@@ -122,6 +127,7 @@ returns g c =
     let there = told_runs_lawful.same_steps v (curves_on r) _ _ _ x k _ (ap (λ z. SplitEdge (point_in z (source_in z c.in-Some.dart)) (point_in z (target_in z c.in-Some.dart)) p ∷ []) m.graph) here in
     let after = split_layer v r c.requires.layer (edge_between c.args.p.now c.args.q.now) c.in-Some.dart c.in-Some.ensures p (point_is_proper p c.laws.ensures) (sym c.is_inside.ensures ∙ c.if-not-is_inside.false) _ x k _ there c.split_edge-vertex.result c.split_edge-vertex.ensures.vertex c.set_pin.new.records.graph c.split_edge-vertex.new.history _ c.set_pin.ensures.told (same_layers r c.make_room.new.history c.split_edge-vertex.new.history m.layer c.split_edge-vertex.ensures.layer) in record {
       layer = after.0;
+      map = c.set_pin.ensures.map;
       watched = c.set_pin.ensures.in_step.holds;
       edit = after.1;
       told = split_told v r c.requires.layer (edge_between c.args.p.now c.args.q.now) c.in-Some.dart c.in-Some.ensures p (point_is_proper p c.laws.ensures) (sym c.is_inside.ensures ∙ c.if-not-is_inside.false) _ x k _ there c.split_edge-vertex.result c.split_edge-vertex.ensures.vertex c.set_pin.new.records.graph c.split_edge-vertex.new.history _ c.set_pin.ensures.told;
