@@ -8,8 +8,9 @@ ghost use Rattle.observer_bus.specs.Rows.{bus_row};
 ghost use Rattle.told_steps.specs.ToldEdits.{AreWatched, IsToldEdit};
 ghost use Rattle.told_steps.specs.LayerEdits.{IsAfter};
 
+use crate::room::make_room_of_cycles;
 use curve_history::History;
-use dcel_records::{Records, Room};
+use dcel_records::Records;
 use exact_plane::Point;
 use locate_naive::edge_dart;
 use no_memory::NoMemory;
@@ -53,12 +54,7 @@ fn make_room(records: &mut Records, history: &mut History, pieces: u32) -> Resul
     ensures layer { SameLayer history.old history.new }
     ensures curves { SameCurves history.old history.new }
 {
-    records.reserve(Room {
-        vertices: 0,
-        edges: 0,
-        cycles: 1,
-        faces: 0,
-    })?;
+    make_room_of_cycles(records, 1)?;
     let more = pieces.saturating_sub(history.pieces());
     history.reserve(0, more, 0)
 }
