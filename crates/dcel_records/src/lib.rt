@@ -6,8 +6,8 @@
 
 mod bare;
 mod cycles;
-mod facing;
 mod face_laws;
+mod facing;
 mod keys;
 mod links;
 mod listing;

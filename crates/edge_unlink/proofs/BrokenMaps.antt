@@ -12,7 +12,7 @@ use Rattle.slab_laws.specs.FaceLists.{Lists, AreDartsOn}
 use Rattle.slab_laws.specs.FacesSound.{lead_in, IsSound}
 use Rattle.slab_laws.specs.Kinds.{is_outer as bounds_from_outside}
 use Rattle.slab_laws.specs.Sound.{skeleton_of, dart_in}
-use Rattle.slab_laws.specs.View.{View, Faces, HasDart, HasCycle, source_in, target_in, twin_in, next_in, line_in, cycle_in, kind_in, face_in}
+use Rattle.slab_laws.specs.View.{View, Faces, HasDart, HasCycle, source_in, target_in, twin_in, next_in, line_in, cycle_in, kind_in}
 use Rattle.arr_notes.specs.FaceSteps.{step_faces, breaks}
 use Rattle.arr_notes.specs.FaceWriters.{off_cycles}
 use Rattle.arr_notes.specs.Step.{remove_edge}

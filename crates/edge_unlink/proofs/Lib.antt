@@ -1,7 +1,7 @@
 pub mod Rests
 pub mod Closing
 pub mod UnlinkedMaps
-pub mod Emptied
-pub mod UnitedMaps
 pub mod TwoParts
 pub mod BrokenMaps
+pub mod Emptied
+pub mod UnitedMaps

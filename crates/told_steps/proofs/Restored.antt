@@ -4,10 +4,7 @@ use Rattle.dcel_records.specs.RecordsView.{MovedRoom, RecordsView, graph_part}
 use Rattle.dcel_records.specs.SoundMaps.{IsMapAtRest, IsSoundMap}
 
 module _ (mid new : RecordsView) (room : MovedRoom) (graph : graph_part new ≡ graph_part mid) (faces : new.faces ≡ record mid.faces { moved = Some room }) where
-  abbrev pub given_back : RecordsView
-  given_back = record mid { faces = record mid.faces { moved = Some room } }
-
-  as_given : new ≡ given_back
+  as_given : new ≡ record mid { faces = record mid.faces { moved = Some room } }
   as_given i = record {
     graph = (graph i).graph;
     spare_vertices = (graph i).spare_vertices;
@@ -17,9 +14,5 @@ module _ (mid new : RecordsView) (room : MovedRoom) (graph : graph_part new ≡ 
     faces = faces i;
   }
 
-  -- what holds once they are back
-  pub restored : (P : RecordsView → Type 0) → P given_back → P new
-  restored P = subst P (sym as_given)
-
   pub map_restored : IsSoundMap mid → IsMapAtRest new
-  map_restored m = restored IsMapAtRest (record { map = record { sound = m.sound; darts = m.darts }; returned = refl })
+  map_restored m = subst IsMapAtRest (sym as_given) (record { map = record { sound = m.sound; darts = m.darts }; returned = refl })

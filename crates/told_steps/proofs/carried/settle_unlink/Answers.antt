@@ -1,0 +1,5 @@
+use Rattle.told_steps.proofs.Restored.{map_restored}
+use Rattle.told_steps.proofs.carried.settle_unlink.Goals as goal
+
+pub returns-in-Unites-clause-map : goal.returns-in-Unites-clause-map
+returns-in-Unites-clause-map c = map_restored c.args.records.now c.give_back.new.self _ c.give_back.ensures.graph c.give_back.ensures.faces c.requires.map
