@@ -29,7 +29,7 @@ pub enum CutError {
     /// The pieces that are left would pass this limit.
     #[error("the limit of {0} would be passed")]
     Full(u32),
-    /// There was no memory for the pieces that are left.
+    /// There was no memory for the pieces that are left, or for a cycle more.
     #[error("no memory")]
     NoMemory,
 }
@@ -67,8 +67,8 @@ fn make_room(records: &mut Records, history: &mut History, pieces: u32) -> Resul
 ///
 /// # Errors
 ///
-/// No edge joins the points; the pieces that are left would pass their limit; or there was no memory for them. The first two
-/// come whatever memory there is.
+/// No edge joins the points; the pieces that are left would pass their limit; or there was no memory for them, or for the cycle
+/// that the edge may leave behind. The first two come whatever memory there is.
 pub fn remove_edge(
     alloc: Global,
     records: &mut Records,

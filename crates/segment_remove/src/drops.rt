@@ -34,7 +34,7 @@ pub enum DropError {
     /// No curve has the number.
     #[error("no curve has this number")]
     Unknown,
-    /// There was no memory for the list of its edges.
+    /// There was no memory for the list of its edges, or for the cycles that they leave behind.
     #[error("no memory")]
     NoMemory,
 }
