@@ -1,5 +1,5 @@
 -- The cut of an edge from records and history: its steps, which are told, and the layer after them.
-use Rattle.std.proofs.Common.{◌≡◌, ℕ, true, [], ◌∷◌, length, map, refl, sym, ap, ap₂, ◌∙◌, subst, inl, inr, Less}
+use Rattle.std.proofs.Common.{◌≡◌, ℕ, true, List, [], ◌∷◌, length, map, refl, sym, ap, ap₂, ◌∙◌, subst, inl, inr, Less}
 use Rattle.std.specs.List.{AllByRecursion, flat_map, list_any}
 use Rattle.exact_plane.specs.Point.{Point}
 use Rattle.exact_plane.specs.PointOrder.{point_cmp}
@@ -9,7 +9,7 @@ use Rattle.plane_graphs.specs.Piece.{Present}
 use Rattle.plane_graphs.proofs.Order.{lt_out}
 use Rattle.edit_steps.specs.Edits.{Cut, IsAccepted, after, steps}
 use Rattle.edit_steps.specs.Layer.{IsAcceptedBy, layer_after}
-use Rattle.edit_steps.specs.Steps.{RemoveEdge, cut_piece, with_cut}
+use Rattle.edit_steps.specs.Steps.{RemoveEdge, Step, cut_piece, with_cut}
 use Rattle.slab_laws.specs.declared.names.DartId.{DartId}
 use Rattle.slab_laws.specs.declared.names.VertexId.{VertexId}
 use Rattle.slab_laws.specs.View.{View, HasVertex, point_in, source_in, target_in, twin_in}
@@ -62,10 +62,10 @@ module _ (v : View) (r : Past) (l : IsLayer v r) (e : Edge) (d : DartId) (a : Is
   pub counted : (low high : Point) → low ≡ point_in v s → high ≡ point_in v t → (n : ℕ) → n ≡ length (flat_map (cut_piece low high) r.pieces) → n ≡ length new.pieces
   counted low high at_low at_high n is = is ∙ ap₂ (λ p q. length (flat_map (cut_piece p q) r.pieces)) (at_low ∙ at_s) (at_high ∙ at_t)
 
-  -- ---- the edge is released
-  module _ (x : View) (gives : x ≡ remove_edge v d (twin_in v d)) where
+  -- ---- the edge is released, where room was made before
+  module _ (w : View) (view : w ≡ v) (x : View) (gives : x ≡ remove_edge w d (twin_in w d)) where
     same : x.vertices ≡ v.vertices
-    same = ap (λ (z : View). z.vertices) gives
+    same = ap (λ (z : View). z.vertices) gives ∙ ap (λ (z : View). z.vertices) view
 
     pub both_have : AllByRecursion (λ w. HasVertex x w) (s ∷ t ∷ [])
     both_have = still_have v x same (s ∷ t ∷ []) (has_s, (has_t, tt))
@@ -73,11 +73,14 @@ module _ (v : View) (r : Past) (l : IsLayer v r) (e : Edge) (d : DartId) (a : Is
     pub both_ascend : IsAscending point_cmp (map (point_in x) (s ∷ t ∷ []))
     both_ascend = still_ascend v x same (s ∷ t ∷ []) ((before, tt), (tt, tt))
 
-    module _ (r1 : Past) (c1 : SameCurves r r1) (b : BusRow) (k : Curves) (c : BusRow) (gone : IsToldRun v (curves_on r1) b (RemoveEdge (point_in v (source_in v d)) (point_in v (target_in v d)) ∷ []) x k c) where
+    abbrev step_there : View → List Step
+    step_there z = RemoveEdge (point_in z (source_in z d)) (point_in z (target_in z d)) ∷ []
+
+    module _ (r1 : Past) (c1 : SameCurves r r1) (b : BusRow) (k : Curves) (c : BusRow) (gone : IsToldRun w (curves_on r1) b (step_there w) x k c) where
       released : IsToldRun v (curves_on r) b (RemoveEdge e.low e.high ∷ []) x k c
       released =
-          told_runs_lawful.same_steps v (curves_on r) b _ (RemoveEdge e.low e.high ∷ []) x k c (ap₂ (λ p q. RemoveEdge p q ∷ []) runs.starts runs.ends)
-          (told_runs_lawful.same_curves v (curves_on r1) (curves_on r) b _ x k k c (λ n. sym (c1 n)) (λ n. refl) gone)
+          told_runs_lawful.same_steps v (curves_on r) b (step_there w) (RemoveEdge e.low e.high ∷ []) x k c (ap step_there view ∙ ap₂ (λ p q. RemoveEdge p q ∷ []) runs.starts runs.ends)
+          (subst (λ z. IsToldRun z (curves_on r) b (step_there w) x k c) view (told_runs_lawful.same_curves w (curves_on r1) (curves_on r) b (step_there w) x k k c (λ n. sym (c1 n)) (λ n. refl) gone))
 
       -- only these two may be tidied
       both_left : AreLeft x k new (map (point_in x) (s ∷ t ∷ []))

@@ -42,16 +42,20 @@ module _ (v : View) (r : Past) (l : IsLayer v r) (c : ℕ) where
   abbrev new : Present
   new = without_curve o c
 
-  module _ (b : BusRow) (x : View) (r1 r2 : Past) (c1 : SameCurves r1 r2) (e : BusRow) (gone : IsToldRun v (curves_on r) b (releases c (drawn_graph v (curves_on r))) x (curves_on r1) e) where
+  -- the records w have more room
+  module _ (b : BusRow) (w x : View) (view : w ≡ v) (r1 r2 : Past) (c1 : SameCurves r1 r2) (e : BusRow) (gone : IsToldRun w (curves_on r) b (releases c (drawn_graph w (curves_on r))) x (curves_on r1) e) where
     abbrev k : Curves
     k = curves_on r2
 
     released : IsToldRun v (curves_on r) b (releases c (graph o)) x k e
     released =
         told_runs_lawful.same_curves v (curves_on r) (curves_on r) b _ x (curves_on r1) k e (λ n. refl) c1
-        (told_runs_lawful.same_steps v (curves_on r) b _ (releases c (graph o)) x (curves_on r1) e (ap (releases c) l.stands) gone)
+        (told_runs_lawful.same_steps v (curves_on r) b _ (releases c (graph o)) x (curves_on r1) e (ap (releases c) l.stands) (subst (λ z. IsToldRun z (curves_on r) b (releases c (drawn_graph z (curves_on r))) x (curves_on r1) e) view gone))
 
-    module _ (same : x.vertices ≡ v.vertices) (ks : List DartKey) (all : (d : DartId) → Member d (map (λ k. k.name) ks) ↔ Member c (curves_on r d)) (ws : List VertexId) (ends : AreEnds v ks ws) where
+    module _ (kept : x.vertices ≡ w.vertices) (ks : List DartKey) (all : (d : DartId) → Member d (map (λ k. k.name) ks) ↔ Member c (curves_on r d)) (ws : List VertexId) (ends : AreEnds v ks ws) where
+      same : x.vertices ≡ v.vertices
+      same = kept ∙ ap (λ (z : View). z.vertices) view
+
       -- the point of an end is among theirs
       among : (p : Point) (w : VertexId) → Member w ws → point_in v w ≡ p → Member p (map (point_in x) ws)
       among p w m at = subst (λ z. Member z (map (point_in x) ws)) (point_stays v x same w ∙ at) (in_map (point_in x) w ws m)

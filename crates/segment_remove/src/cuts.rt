@@ -8,8 +8,9 @@ ghost use Rattle.observer_bus.specs.Rows.{bus_row};
 ghost use Rattle.told_steps.specs.ToldEdits.{AreWatched, IsToldEdit};
 ghost use Rattle.told_steps.specs.LayerEdits.{IsAfter};
 
+use crate::room::make_room_of_cycles;
 use curve_history::History;
-use dcel_records::{Records, Room};
+use dcel_records::Records;
 use exact_plane::Point;
 use locate_naive::edge_dart;
 use no_memory::NoMemory;
@@ -28,7 +29,7 @@ pub enum CutError {
     /// The pieces that are left would pass this limit.
     #[error("the limit of {0} would be passed")]
     Full(u32),
-    /// There was no memory for the pieces that are left.
+    /// There was no memory for the pieces that are left, or for a cycle more.
     #[error("no memory")]
     NoMemory,
 }
@@ -53,12 +54,7 @@ fn make_room(records: &mut Records, history: &mut History, pieces: u32) -> Resul
     ensures layer { SameLayer history.old history.new }
     ensures curves { SameCurves history.old history.new }
 {
-    records.reserve(Room {
-        vertices: 0,
-        edges: 0,
-        cycles: 1,
-        faces: 0,
-    })?;
+    make_room_of_cycles(records, 1)?;
     let more = pieces.saturating_sub(history.pieces());
     history.reserve(0, more, 0)
 }
@@ -71,8 +67,8 @@ fn make_room(records: &mut Records, history: &mut History, pieces: u32) -> Resul
 ///
 /// # Errors
 ///
-/// No edge joins the points; the pieces that are left would pass their limit; or there was no memory for them. The first two
-/// come whatever memory there is.
+/// No edge joins the points; the pieces that are left would pass their limit; or there was no memory for them, or for the cycle
+/// that the edge may leave behind. The first two come whatever memory there is.
 pub fn remove_edge(
     alloc: Global,
     records: &mut Records,

@@ -17,8 +17,9 @@ ghost use Rattle.told_steps.specs.LayerEdits.{layer_at, IsAfter};
 
 use crate::ends::ends_in_order;
 use crate::release::release_curve;
+use crate::room::make_room_of_cycles;
 use curve_history::{History, HistoryError};
-use dcel_records::{Records, Room};
+use dcel_records::Records;
 use no_memory::NoMemory;
 use observer_bus::Bus;
 use record_orders::{DartKey, edges_in_order};
@@ -33,7 +34,7 @@ pub enum DropError {
     /// No curve has the number.
     #[error("no curve has this number")]
     Unknown,
-    /// There was no memory for the list of its edges.
+    /// There was no memory for the list of its edges, or for the cycles that they leave behind.
     #[error("no memory")]
     NoMemory,
 }
@@ -103,13 +104,7 @@ pub fn remove_curve(
 {
     let edges = edges_of_curve(alloc, &*records, &*history, curve)?;
     let vertices = ends_in_order(alloc, &*records, &edges)?;
-    // Each edge that goes may break a cycle in two.
-    records.reserve(Room {
-        vertices: 0,
-        edges: 0,
-        cycles: edges.len(),
-        faces: 0,
-    })?;
+    make_room_of_cycles(records, edges.len())?;
     bus.begin();
     release_curve(alloc, records, history, bus, &edges, curve);
     history.drop_name(curve);

@@ -9,6 +9,7 @@ mod cuts;
 mod drops;
 mod ends;
 mod release;
+mod room;
 
 pub use cuts::{CutError, remove_edge};
 pub use drops::{DropError, remove_curve};

@@ -7,7 +7,7 @@ use Rattle.slab_laws.specs.Sound.{edge_between}
 use Rattle.curve_history.specs.Cuts.{IsPlanOfCut}
 use Rattle.curve_history.specs.Past.{curves_on}
 use Rattle.told_steps.specs.RecordLayers.{IsLayer, layer_of}
-use Rattle.told_steps.proofs.Moved.{layer_moves}
+use Rattle.told_steps.proofs.Moved.{layer_stays}
 use Rattle.told_steps.proofs.Begun.{begun_in_step, still_watched, told_of_edit}
 use Rattle.segment_remove.specs.Refused.{cut_between, cut_said}
 use Rattle.segment_remove.specs.declared.cuts.CutError.TheVariants.{NoMemory}
@@ -32,10 +32,10 @@ returns-then-plan-from-clause-refused g c =
     (passes c.args.pieces c.from.result c.plan_cut-plan.result.left (length (with_cut (layer_of c.args.records.now.graph c.args.history.now).present (edge_between c.args.p.now c.args.q.now).low (edge_between c.args.p.now c.args.q.now).high).pieces) c.from.ensures (counted c.args.records.now.graph c.args.history.now c.requires.layer (edge_between c.args.p.now c.args.q.now) c.in-Some.d c.in-Some.ensures c.source-source.result c.target-target.result c.source-source.ensures c.target-target.ensures c.point-low.result c.point-high.result c.point-low.ensures c.point-high.ensures c.plan_cut-plan.result.left c.plan_cut-plan.ensures.left) c.if-plan-from.true)
 
 pub returns-in_err-make_room-clause-layer : goal.returns-in_err-make_room-clause-layer
-returns-in_err-make_room-clause-layer g c = layer_moves c.args.records.now.graph c.args.history.now c.make_room.new.history c.make_room.ensures.layer c.make_room.ensures.curves c.requires.layer
+returns-in_err-make_room-clause-layer g c = layer_stays c.args.records.now.graph c.make_room.new.records.graph c.args.history.now c.make_room.new.history c.make_room.ensures.graph c.make_room.ensures.layer c.make_room.ensures.curves c.requires.layer
 
 pub returns-in_err-make_room-clause-watched : goal.returns-in_err-make_room-clause-watched
-returns-in_err-make_room-clause-watched g c = still_watched c.args.records.now.graph c.args.history.now c.args.records.now.graph c.make_room.new.history refl c.make_room.ensures.curves _ c.requires.watched
+returns-in_err-make_room-clause-watched g c = still_watched c.args.records.now.graph c.args.history.now c.make_room.new.records.graph c.make_room.new.history c.make_room.ensures.graph c.make_room.ensures.curves _ c.requires.watched
 
 pub returns-in_err-make_room-clause-refused : goal.returns-in_err-make_room-clause-refused
 returns-in_err-make_room-clause-refused g c =
@@ -46,18 +46,18 @@ pub cut_pieces-requires-clause-plan : goal.cut_pieces-requires-clause-plan
 cut_pieces-requires-clause-plan g c = subst (λ ks. IsPlanOfCut c.point-low.result c.point-high.result ks c.plan_cut-plan.result) (sym c.make_room.ensures.layer.pieces) c.plan_cut-plan.ensures
 
 pub remove_edge-requires-clause-in_step : goal.remove_edge-requires-clause-in_step
-remove_edge-requires-clause-in_step g c = begun_in_step c.args.records.now.graph c.args.history.now c.args.records.now.graph c.cut_pieces.new.self refl (λ d. c.cut_pieces.ensures.curves d ∙ c.make_room.ensures.curves d) c.begin.ensures.begun c.requires.layer c.requires.watched
+remove_edge-requires-clause-in_step g c = begun_in_step c.args.records.now.graph c.args.history.now c.make_room.new.records.graph c.cut_pieces.new.self c.make_room.ensures.graph (λ d. c.cut_pieces.ensures.curves d ∙ c.make_room.ensures.curves d) c.begin.ensures.begun c.requires.layer c.requires.watched
 
 pub remove_redundant-requires-clause-have : goal.remove_redundant-requires-clause-have
-remove_redundant-requires-clause-have g c = both_have c.args.records.now.graph c.args.history.now c.requires.layer (edge_between c.args.p.now c.args.q.now) c.in-Some.d c.in-Some.ensures c.source-source.result c.target-target.result c.source-source.ensures c.target-target.ensures c.remove_edge.new.records.graph c.remove_edge.ensures.graph
+remove_redundant-requires-clause-have g c = both_have c.args.records.now.graph c.args.history.now c.requires.layer (edge_between c.args.p.now c.args.q.now) c.in-Some.d c.in-Some.ensures c.source-source.result c.target-target.result c.source-source.ensures c.target-target.ensures c.make_room.new.records.graph c.make_room.ensures.graph c.remove_edge.new.records.graph c.remove_edge.ensures.graph
 
 pub remove_redundant-requires-clause-ascend : goal.remove_redundant-requires-clause-ascend
-remove_redundant-requires-clause-ascend g c = both_ascend c.args.records.now.graph c.args.history.now c.requires.layer (edge_between c.args.p.now c.args.q.now) c.in-Some.d c.in-Some.ensures c.source-source.result c.target-target.result c.source-source.ensures c.target-target.ensures c.remove_edge.new.records.graph c.remove_edge.ensures.graph
+remove_redundant-requires-clause-ascend g c = both_ascend c.args.records.now.graph c.args.history.now c.requires.layer (edge_between c.args.p.now c.args.q.now) c.in-Some.d c.in-Some.ensures c.source-source.result c.target-target.result c.source-source.ensures c.target-target.ensures c.make_room.new.records.graph c.make_room.ensures.graph c.remove_edge.new.records.graph c.remove_edge.ensures.graph
 
 pub returns-clause-told : goal.returns-clause-told
 returns-clause-told g c =
     told_of_edit c.args.records.now.graph c.args.history.now c.args.records.now.graph c.args.history.now refl (λ d. refl) c.begin.ensures.begun _ c.remove_redundant.new.records.graph (curves_on c.remove_redundant.new.history) _
-    (cut_told c.args.records.now.graph c.args.history.now c.requires.layer (edge_between c.args.p.now c.args.q.now) c.in-Some.d c.in-Some.ensures c.source-source.result c.target-target.result c.source-source.ensures c.target-target.ensures c.remove_edge.new.records.graph c.remove_edge.ensures.graph c.cut_pieces.new.self (λ d. c.cut_pieces.ensures.curves d ∙ c.make_room.ensures.curves d) _ (curves_on c.remove_edge.new.history) _ c.remove_edge.ensures.told c.remove_redundant.new.records.graph c.remove_redundant.new.history _ c.remove_redundant.ensures.tidied)
+    (cut_told c.args.records.now.graph c.args.history.now c.requires.layer (edge_between c.args.p.now c.args.q.now) c.in-Some.d c.in-Some.ensures c.source-source.result c.target-target.result c.source-source.ensures c.target-target.ensures c.make_room.new.records.graph c.make_room.ensures.graph c.remove_edge.new.records.graph c.remove_edge.ensures.graph c.cut_pieces.new.self (λ d. c.cut_pieces.ensures.curves d ∙ c.make_room.ensures.curves d) _ (curves_on c.remove_edge.new.history) _ c.remove_edge.ensures.told c.remove_redundant.new.records.graph c.remove_redundant.new.history _ c.remove_redundant.ensures.tidied)
 
 after : (g : given.Over) (c : goal.After-remove_redundant g) → IsLayer c.remove_redundant.new.records.graph c.remove_redundant.new.history × (layer_of c.remove_redundant.new.records.graph c.remove_redundant.new.history ≡ layer_after (cut_between c.args.p.now c.args.q.now) (layer_of c.args.records.now.graph c.args.history.now))
 after g c =

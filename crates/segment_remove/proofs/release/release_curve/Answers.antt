@@ -7,6 +7,8 @@ use Rattle.segment_remove.proofs.release.release_curve.Goals as goal
 pub loop-edge-init : goal.loop-edge-init
 loop-edge-init g c = record {
   going = starts c.args.records.now.graph (curves_on c.args.history.now) c.args.curve c.requires.in_step.sound c.requires.in_step.curves c.args.edges.now c.requires.keys c.requires.all c.requires.ascend _ c.requires.in_step;
+  map = c.requires.map;
+  spare = let e = c.requires.cycles in omega (arith, e);
   layer = record { names = refl; pieces = refl; next = refl };
 }
 
@@ -25,6 +27,8 @@ loop-edge-preserved g c =
       going = goes_on v h c.args.curve _ c.args.edges.now (drop (c.loop-edge.edge-index + 1) c.args.edges.now) c.edge-item.result c.loop-edge.records.graph (curves_on c.loop-edge.history) _
           (with_keys v h c.args.curve (next_key c.args.edges.now c.loop-edge.edge-index c.edge-item.result c.loop-edge-test.true c.edge-item.is) c.loop-edge.invariant.going)
           c.release_at.new.records.graph (curves_on c.release_at.new.history) e.graph e.curves _ e.in_step e.told;
+      map = e.map;
+      spare = let k = c.loop-edge.invariant.spare in let n = e.spare_cycles in omega (arith, k, n);
       layer = record { names = e.layer.names ∙ i.names; pieces = e.layer.pieces ∙ i.pieces; next = e.layer.next ∙ i.next };
     }
 

@@ -1,4 +1,5 @@
-use Rattle.std.proofs.Common.{drop}
+use Rattle.std.proofs.Common.{◌≤◌, ◌+◌, length, drop}
+use Rattle.dcel_records.specs.SoundMaps.{IsMapAtRest}
 use Rattle.curve_history.specs.Past.{curves_on, SameLayer}
 use Rattle.observer_bus.specs.Rows.{bus_row}
 use Rattle.segment_remove.proofs.EdgesReleased.{IsGoing}
@@ -10,5 +11,7 @@ invariant-loop-edge g l = record {
       (bus_row (goal.Observer-dyn g) l.initial.bus)
       l.edges (drop l.edge-index l.edges) l.records.graph (curves_on l.history)
       (bus_row (goal.Observer-dyn g) l.bus);
+  map : IsMapAtRest l.records;
+  spare : length l.edges ≤ l.records.faces.spare_cycles + l.edge-index;
   layer : SameLayer l.initial.history l.history;
 }
