@@ -1,3 +1,4 @@
+use Rattle.sound_views.proofs.NameTables.{names_exact}
 -- What is in a run: its first dart, what goes on from each to the next, and with a dart the next one, or that is where it ends.
 use Rattle.std.proofs.Common.{◌≡◌, ◌≢◌, Bool, true, false, refl, sym, ap, ◌∙◌, subst, ◌⊎◌, inl, inr, List, [], ◌∷◌}
 use Rattle.std.specs.Prelude.{◌||◌}
@@ -6,7 +7,7 @@ use Rattle.slab_laws.specs.declared.names.DartId.{DartId}
 use Rattle.slab_laws.specs.View.{View, next_in}
 use Rattle.slab_faces.proofs.Member.{Member}
 use Rattle.arr_notes.specs.CycleNames.{same_name}
-use Rattle.boundary_cycles.proofs.NamedWalks.{names_exact}
+
 use Rattle.cycle_writers.specs.Runs.{IsRun}
 
 -- ---- a list as a test

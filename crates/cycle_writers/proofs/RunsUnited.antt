@@ -10,7 +10,8 @@ use Rattle.slab_laws.specs.View.{View, Faces, HasDart, next_in, cycle_in}
 use Rattle.slab_faces.proofs.Member.{Member, member_in, in_member}
 use Rattle.arr_notes.specs.CycleNames.{same_name}
 use Rattle.arr_notes.proofs.Names.{cases_dart}
-use Rattle.boundary_cycles.proofs.NamedWalks.{along, lead_step, names_exact}
+use Rattle.sound_views.proofs.NameTables.{names_exact}
+use Rattle.boundary_cycles.proofs.NamedWalks.{along, lead_step}
 use Rattle.face_steps.specs.StepPremises.{IsBetween}
 use Rattle.face_steps.specs.Tabled.{AreTabled}
 use Rattle.face_steps.proofs.EdgePairs.{up}
