@@ -47,7 +47,7 @@ module _ (v : View) (s : IsGraphSound v) (q : Point) (Q : IsProper q) where
         let f = lt_in (lt_trans (before_out low q (s.drawn.proper _ (s.linked.source d has)) Q b.0) (before_out q high Q (s.drawn.proper _ (target_has v s d has)) b.1)) in (
           (has, f),
           record {
-            in' = edge_known v s d has;
+            in' = edge_known v d has;
             spanning = subst (λ (e : Edge). IsSpanning e q) (sym (between_forward low high f)) (record { from = b.0; to = b.1 });
             lies_under = a.1;
           },
