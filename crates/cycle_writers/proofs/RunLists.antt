@@ -7,7 +7,6 @@ use Rattle.slab_laws.specs.declared.names.DartId.{DartId}
 use Rattle.slab_laws.specs.View.{View, next_in}
 use Rattle.slab_faces.proofs.Member.{Member}
 use Rattle.arr_notes.specs.CycleNames.{same_name}
-
 use Rattle.cycle_writers.specs.Runs.{IsRun}
 
 -- ---- a list as a test
