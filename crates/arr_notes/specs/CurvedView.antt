@@ -69,11 +69,11 @@ pub record IsSoundView (w : CurvedView) : Type 0 where
 abbrev pub step_rows : List (ℕ × List ℕ) → Change → List (ℕ × List ℕ)
 step_rows rs (SplitEdge d w p n m) = put n.0 (curves_or (row_at rs d.0)) rs
 step_rows rs (MergeEdge w d n) = del n.0 rs
-step_rows rs (AddEdge d m u w at_u at_w l c) = put d.0 (c.0 ∷ []) rs
-step_rows rs (RemoveEdge d m) = del d.0 rs
+step_rows rs (AddEdge d m u w at_u at_w l c faces) = put d.0 (c.0 ∷ []) rs
+step_rows rs (RemoveEdge d m faces) = del d.0 rs
 step_rows rs (AddCurve d c) = edit d.0 (place nat_cmp c.0) rs
 step_rows rs (RemoveCurve d c) = edit d.0 (filter (λ k. not (same_curve k c.0))) rs
-step_rows rs Clear = []
+step_rows rs (Clear face) = []
 step_rows rs other = rs
 
 -- the view after a change (CGAL manual, `Arr_observer`; the list is this project's)
@@ -115,14 +115,14 @@ pub record AreNewParts (v : View) (d : DartId) (w : VertexId) (n m : DartId) : T
 
 -- the change names records that the view has, and new ones that it hasn't (this project)
 abbrev pub FitsView : View → Change → Type 0
-FitsView v (AddVertex w p) = ¬ HasVertex v w
+FitsView v (AddVertex w p face) = ¬ HasVertex v w
 FitsView v (RemoveVertex w) = HasVertex v w
 FitsView v (SplitEdge d w p n m) = AreNewParts v d w n m
 FitsView v (MergeEdge w d n) = AreNeighbours v w d n
-FitsView v (AddEdge d m u w at_u at_w l c) = IsNewPair v d m u w at_u at_w
-FitsView v (RemoveEdge d m) = HasDart v d × (m ≡ twin_in v d)
+FitsView v (AddEdge d m u w at_u at_w l c faces) = IsNewPair v d m u w at_u at_w
+FitsView v (RemoveEdge d m faces) = HasDart v d × (m ≡ twin_in v d)
 FitsView v (AddCurve d c) = HasDart v d
 FitsView v (RemoveCurve d c) = HasDart v d
 FitsView v (SetPin w) = HasVertex v w
 FitsView v (ClearPin w) = HasVertex v w
-FitsView v Clear = Unit {0}
+FitsView v (Clear face) = Unit {0}

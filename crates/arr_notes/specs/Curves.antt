@@ -37,9 +37,9 @@ pub record AreCurvesOf (v : View) (h : Curves) : Type 0 where
 abbrev pub step_curves : Curves → Change → Curves
 step_curves h (SplitEdge d w p n m) x = cond (x.0 == n.0) (h d) (h x)
 step_curves h (MergeEdge w d n) x = cond (x.0 == n.0) [] (h x)
-step_curves h (AddEdge d m u w at_u at_w l c) x = cond (x.0 == d.0) (c.0 ∷ []) (h x)
-step_curves h (RemoveEdge d m) x = cond (x.0 == d.0) [] (h x)
+step_curves h (AddEdge d m u w at_u at_w l c faces) x = cond (x.0 == d.0) (c.0 ∷ []) (h x)
+step_curves h (RemoveEdge d m faces) x = cond (x.0 == d.0) [] (h x)
 step_curves h (AddCurve d c) x = cond (x.0 == d.0) (place nat_cmp c.0 (h x)) (h x)
 step_curves h (RemoveCurve d c) x = cond (x.0 == d.0) (filter (λ k. not (same_curve k c.0)) (h x)) (h x)
-step_curves h Clear x = []
+step_curves h (Clear face) x = []
 step_curves h other x = h x

@@ -13,4 +13,5 @@ pub mod ViewLaws
 pub mod CycleNames
 pub mod FaceWriters
 pub mod FaceSteps
-pub mod NotedFaces
+pub mod FacesTold
+pub mod MapView

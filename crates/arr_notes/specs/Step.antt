@@ -49,14 +49,14 @@ merge_edge v w d n =
 
 -- ---- the view after a change; the curves of edges aside (CGAL manual, `Arr_observer`; the list is this project's)
 abbrev pub step : View → Change → View
-step v (AddVertex w p) = with_vertex v w p
+step v (AddVertex w p face) = with_vertex v w p
 step v (RemoveVertex w) = without_vertex v w
 step v (SplitEdge d w p n m) = split_edge v d w p n m
 step v (MergeEdge w d n) = merge_edge v w d n
-step v (AddEdge d m u w at_u at_w l c) = add_edge v d m u w at_u at_w l
-step v (RemoveEdge d m) = remove_edge v d m
+step v (AddEdge d m u w at_u at_w l c faces) = add_edge v d m u w at_u at_w l
+step v (RemoveEdge d m faces) = remove_edge v d m
 step v (AddCurve d c) = v
 step v (RemoveCurve d c) = v
 step v (SetPin w) = with_pin v w true
 step v (ClearPin w) = with_pin v w false
-step v Clear = no_rows
+step v (Clear face) = no_rows

@@ -1,14 +1,16 @@
+use crate::faces::{Linked, Unlinked};
 use exact_plane::{Line, Point};
-use slab_laws::{CurveId, DartId, VertexId};
+use slab_laws::{CurveId, DartId, FaceId, VertexId};
 
 /// A change that was made, told by the names of the records, so that a view needs nothing else to follow it (CGAL manual,
 /// `Arr_observer`: what is notified after a change).
-#[derive(Clone, Copy)]
+#[derive(Drop)]
 pub enum Change {
-    /// The vertex `v` came at `p`, unpinned and without darts.
+    /// The vertex `v` came at `p`, unpinned and without darts, isolated in the face.
     AddVertex {
         v: VertexId,
         p: Point,
+        face: FaceId,
     },
     /// The vertex `v`, which had no dart, went.
     RemoveVertex {
@@ -40,11 +42,13 @@ pub enum Change {
         at_v: Option<DartId>,
         line: Line,
         curve: CurveId,
+        faces: Linked,
     },
     /// The edge of `d` and its twin `m` went.
     RemoveEdge {
         d: DartId,
         m: DartId,
+        faces: Unlinked,
     },
     /// One more curve runs along the edge of `d`.
     AddCurve {
@@ -64,6 +68,8 @@ pub enum Change {
     ClearPin {
         v: VertexId,
     },
-    /// Nothing is left.
-    Clear,
+    /// Nothing is left but the face, the unbounded one.
+    Clear {
+        face: FaceId,
+    },
 }

@@ -2,7 +2,12 @@
 use Rattle.std.specs.Prelude.{◌≡◌, None}
 use Rattle.slab_laws.specs.FaceLists.{AreDartsOn, MovedView}
 use Rattle.slab_laws.specs.FacesSound.{IsSound}
+use Rattle.arr_notes.specs.MapView.{MapView}
 use Rattle.dcel_records.specs.RecordsView.{RecordsView, IsReturned, IsRoomFor, lists_of, tables_of}
+
+-- the graph of records with its cycles and faces (this project)
+abbrev pub map_of : RecordsView → MapView
+map_of h = record { graph = h.graph; faces = tables_of h }
 
 -- the view is sound with its cycles and faces, and the dart that is kept for a cycle is on it; that each face lists its own is true of all records (CGAL manual, a valid arrangement)
 pub record IsSoundMap (h : RecordsView) : Type 0 where

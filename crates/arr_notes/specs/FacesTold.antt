@@ -1,7 +1,6 @@
--- What a note says of cycles and faces beside its change, and what it makes of the tables.
+-- What a change says of cycles and faces, and what it makes of the tables.
 use Rattle.std.specs.Prelude.{◌==◌, cond, Option, Some, None}
 use Rattle.slab_laws.specs.declared.names.DartId.{DartId}
-use Rattle.slab_laws.specs.declared.names.FaceId.{FaceId}
 use Rattle.slab_laws.specs.declared.names.VertexId.{VertexId}
 use Rattle.slab_laws.specs.View.{View, Faces, source_in, twin_in, next_in}
 use Rattle.arr_notes.specs.FaceSteps.{FaceChange, comes_bare, goes_bare, in_two, in_one, new_hole, grows, joins, splits, vanishes, shrinks, breaks, unites, cleared, as_it_was, step_faces}
@@ -36,24 +35,18 @@ unlinked_faces v d (Shrinks cycle face) = shrinks d (twin_in v d) (bared_end v d
 unlinked_faces v d (Breaks kept fresh fresh_dart) = breaks d (twin_in v d) kept fresh fresh_dart
 unlinked_faces v d (Unites kept gone gone_face moved) = unites d (twin_in v d) kept gone gone_face moved.cycles moved.vertices
 
--- ---- any change: the face of the new vertex, or the one that is left of all; what is said of an edge that comes or goes
-pub data NotedFaces : Type 0 where
-  NoFaces : NotedFaces
-  InFace : (face : FaceId) → NotedFaces
-  InLink : Linked → NotedFaces
-  InUnlink : Unlinked → NotedFaces
+-- ---- any change
+-- all names that the change takes of the view before it (this project)
+abbrev pub face_change : View → Change → FaceChange
+face_change v (AddVertex u p face) = comes_bare u face
+face_change v (RemoveVertex u) = goes_bare u
+face_change v (SplitEdge d u p n m) = in_two d (twin_in v d) n m
+face_change v (MergeEdge u d n) = in_one n (twin_in v n)
+face_change v (AddEdge d m u w at_u at_w line curve faces) = linked_faces d m u w at_u faces
+face_change v (RemoveEdge d m faces) = unlinked_faces v d faces
+face_change v (Clear face) = cleared face
+face_change v other = as_it_was
 
--- the first layer: all names that the change takes of the view before it. What lacks its part changes nothing of the tables; no such thing is told
-abbrev pub face_change : View → Change → NotedFaces → FaceChange
-face_change v (AddVertex u p) (InFace face) = comes_bare u face
-face_change v (RemoveVertex u) noted = goes_bare u
-face_change v (SplitEdge d u p n m) noted = in_two d (twin_in v d) n m
-face_change v (MergeEdge u d n) noted = in_one n (twin_in v n)
-face_change v (AddEdge d m u w at_u at_w line curve) (InLink linked) = linked_faces d m u w at_u linked
-face_change v (RemoveEdge d m) (InUnlink unlinked) = unlinked_faces v d unlinked
-face_change v Clear (InFace face) = cleared face
-face_change v other noted = as_it_was
-
--- the tables after a change, by the view and the tables before it and the note (CGAL manual, `Arr_observer`; computed: this project)
-abbrev pub faces_after : View → Faces → Change → NotedFaces → Faces
-faces_after v f c noted = step_faces (step v c) f (face_change v c noted)
+-- the tables after a change, by the view and the tables before it (CGAL manual, `Arr_observer`; computed: this project)
+abbrev pub faces_after : View → Faces → Change → Faces
+faces_after v f c = step_faces (step v c) f (face_change v c)
