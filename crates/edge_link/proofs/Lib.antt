@@ -9,3 +9,4 @@ pub mod NewHole
 pub mod Joined
 pub mod SplitMaps
 pub mod FaceSplit
+pub mod ToldLinks
