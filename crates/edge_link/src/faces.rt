@@ -13,7 +13,7 @@ use boundary_cycles::is_no_longer;
 use cycle_writers::put_run;
 use dcel_records::Records;
 use exact_plane::Line;
-use slab_laws::{CycleKind, DartId, Darts, VertexId};
+use slab_laws::{CycleKind, DartId, Darts, Faced, VertexId};
 
 /// An edge that came: its darts, and what became of cycles and faces.
 #[derive(Drop)]
@@ -174,8 +174,9 @@ fn link_both(
     }
 }
 
-/// One more edge from `u` to `v`, as by [`crate::link`], with what becomes of cycles and faces: a new hole, a cycle that
-/// grows, two that are joined, or a face that is split (CGAL manual, `insert_at_vertices`).
+/// One more edge from `u` to `v`, at each directly after the dart `at_u` or `at_v` clockwise, or, where the vertex is bare, after
+/// `None`, with what becomes of cycles and faces: a new hole, a cycle that grows, two that are joined, or a face that is split
+/// (CGAL manual, `insert_at_vertices`).
 ///
 /// It takes no memory. Where the edge joins or splits, the darts of the shorter cycle are written, where that is free; and
 /// where a face is split, its other cycles and isolated vertices are asked for their sides.

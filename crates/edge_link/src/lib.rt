@@ -3,7 +3,7 @@
 //! Memory was reserved before, so that a link can't fail; the order of darts round a vertex is told by the dart that comes
 //! before the new one.
 //!
-//! `link` answers the names of what came; `link_in_face`, `link_at_one` and `link_at_two` tell it by a change.
+//! `link_with_faces` writes cycles and faces too, and tells what became of them.
 //!
 //! `rotation_order` finds places by directions; the proofs say that a place by directions is one by that order.
 #![tactic(auto)]
@@ -13,4 +13,4 @@ mod links;
 mod splitting;
 
 pub use faces::{FacedLink, link_with_faces};
-pub use links::{LinkNames, link, link_at_one, link_at_two, link_in_face};
+pub use links::LinkNames;

@@ -8,7 +8,7 @@ use crate::joining::{MergeNames, merge_at};
 use crate::parting::{SplitNames, split_at};
 use dcel_records::Records;
 use exact_plane::Point;
-use slab_laws::{DartId, Darts, VertexId};
+use slab_laws::{DartId, Darts, Faced, VertexId};
 
 /// The edge of the dart is split at a point inside it, as by [`split_at`]; both parts are on the cycles on their sides (CGAL
 /// manual, `split_edge`).
