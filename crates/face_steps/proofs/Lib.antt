@@ -27,6 +27,6 @@ pub mod MapInSteps
 pub mod TriangleOpened
 pub mod LinkedFaces
 pub mod UnlinkedFaces
-pub mod NotedFaces
+pub mod ChangeLaws
 pub mod Within
 pub mod TriangleClosed
