@@ -30,3 +30,4 @@ pub mod UnlinkedFaces
 pub mod ChangeLaws
 pub mod Within
 pub mod TriangleClosed
+pub mod ChangeNames

@@ -13,6 +13,7 @@ ghost use Rattle.face_steps.specs.ChangeLaws.{ChangesKeepFacesSound};
 ghost use Rattle.face_steps.specs.Choices.{ChoicesOfKinds};
 ghost use Rattle.face_steps.specs.LinkLaws.{LinksKeepTables, UnlinksKeepTables};
 ghost use Rattle.face_steps.specs.MapInSteps.{MapInSteps};
+ghost use Rattle.face_steps.specs.NameLaws.{ChangesKeepFirst, ChangesKeepNames};
 ghost use Rattle.face_steps.specs.OneFace.{OneFaceOnBothSides, CyclesApart};
 ghost use Rattle.face_steps.specs.RecordsApart.{RecordsApart};
 ghost use Rattle.face_steps.specs.RowsWritten.{RowsWritten};
@@ -27,6 +28,17 @@ ghost use Rattle.face_steps.specs.Within.{WithinByEither};
 /// A sound view with its tables of cycles and faces is one again after any change that says of faces what it has to.
 pub fn changes_keep_faces_sound()
     ensures { ChangesKeepFacesSound }
+{}
+
+/// The first face name, the unbounded face's, stays first after any such change.
+pub fn changes_keep_first()
+    ensures { ChangesKeepFirst }
+{}
+
+/// Names of cycles and faces stay, but for those that the change tells to go, and none is there but the old ones and those that
+/// it tells to come.
+pub fn changes_keep_names()
+    ensures { ChangesKeepNames }
 {}
 
 /// After each change the tables stand for the cycles and faces of what the view draws, whatever two views are meant.
