@@ -14,29 +14,43 @@ what=${1:-count}
 [ $# = 0 ] || shift
 folder=$(mktemp -d)
 trap 'rm -rf "$folder"' EXIT
-below='record_orders edge_split_merge edge_unlink edge_link sound_changes rotation_order sound_views edge_predicates dcel_records arr_notes slab_faces slab_laws plane_graphs exact_plane no_memory'
-crates=$(for crate in $below; do echo "$crate"; sed -n "s/^$crate: //p" crates.txt; done | tr ' ' '\n' | sort -u)
+uses='face_location locate_naive record_orders edge_split_merge edge_unlink edge_link face_steps face_changes sound_changes rotation_order sound_views edge_predicates dcel_records arr_notes slab_faces slab_laws plane_graphs exact_plane no_memory'
+crates=$(awk -v uses="$uses" -F': *' '
+  function add(name, list, count, k) {
+    if (!(name in below) || seen[name]++) return # (not in it: a crate of the kit)
+    print name
+    count = split(below[name], list, " ")
+    for (k = 1; k <= count; k++) add(list[k])
+  }
+  /^[a-z]/ { below[$1] = $2 }
+  END { total = split(uses, first, " "); for (n = 1; n <= total; n++) add(first[n]) }' crates.txt)
 mkdir "$folder/crates"
 cp HANDLES "$folder/"
 for crate in $crates; do
-  if [ -d "crates/$crate" ]; then # the others are the kit's
-    cp -r "crates/$crate" "$folder/crates/"
-    grep "^$crate:" crates.txt >> "$folder/crates.txt"
-  fi
+  cp -r "crates/$crate" "$folder/crates/"
+  grep "^$crate:" crates.txt >> "$folder/crates.txt"
 done
-echo "record_calls: $below" >> "$folder/crates.txt"
+echo "record_calls: $uses" >> "$folder/crates.txt"
 # A hint to the compiler, which changes no proof: so each of the calls stands under its own name, with what it does itself and what
-# it hands to `link`, `unlink_edge`, `split_at` or `merge_at`.
-for place in edge_link/src/links.rt:link_at_one edge_unlink/src/edges.rt:unlink edge_split_merge/src/joining.rt:merge edge_split_merge/src/parting.rt:split; do
+# it hands to others.
+for place in edge_link/src/faces.rt:link_with_faces edge_unlink/src/faces.rt:unlink_with_faces edge_split_merge/src/faces.rt:split_in_cycles edge_split_merge/src/faces.rt:merge_in_cycles; do
   grep -q "^pub fn ${place#*:}(" "$folder/crates/${place%:*}" || { echo "record_calls.sh: no ${place#*:} in ${place%:*}" >&2; exit 1; }
   sed -i "s/^pub fn ${place#*:}(/#[inline(never)]\n&/" "$folder/crates/${place%:*}"
 done
-# The gate reads every .rt and .antt file of the repository, so the program's files have other names here.
+# The gate reads every .rt and .antt file of the repository, so the program's files have other names here. The map that is changed
+# is that of faces_in_records.
 own=$folder/crates/record_calls
-(cd benchmarks/record_calls && find . -name '*.txt') | while read -r file; do
-  mkdir -p "$own/$(dirname "$file")"
-  cp "benchmarks/record_calls/$file" "$own/${file%.txt}"
-done
+copy() { # FOLDER FILE..
+  local from=$1 file
+  shift
+  for file; do
+    mkdir -p "$own/$(dirname "$file")"
+    sed 's/faces_in_records/record_calls/g' "benchmarks/$from/$file" > "$own/${file%.txt}"
+  done
+}
+shopt -s globstar
+copy faces_in_records $(cd benchmarks/faces_in_records && echo src/{maps,texts}.rt.txt specs/Maps.antt.txt proofs/Ready.antt.txt proofs/maps/**/*.txt)
+copy record_calls $(cd benchmarks/record_calls && echo **/*.txt)
 git init -q "$folder"
 (cd "$own" && echo 'nothing 1 0' | rt run > /dev/null)
 program=$own/out/record_calls
@@ -62,10 +76,10 @@ one() {
 if [ "$what" = count ]; then
   for degree in "${@:-4 40 100}"; do
     for n in $degree; do
-      one link "$n" edge_link::links::link_at_one
-      one link "$n" edge_unlink::edges::unlink
-      one split "$n" edge_split_merge::parting::split
-      one split "$n" edge_split_merge::joining::merge
+      one link "$n" edge_link::faces::link_with_faces
+      one link "$n" edge_unlink::faces::unlink_with_faces
+      one split "$n" edge_split_merge::faces::split_in_cycles
+      one split "$n" edge_split_merge::faces::merge_in_cycles
     done
   done
 else

@@ -14,3 +14,4 @@ pub mod MovedRows
 pub mod Still
 pub mod MovedCycles
 pub mod MovedVertices
+pub mod Recycled

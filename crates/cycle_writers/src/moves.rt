@@ -9,7 +9,7 @@ ghost use Rattle.cycle_writers.specs.Taken.{IsWhich, takes, takes_cycle, takes_v
 
 use boundary_cycles::{Extent, is_odd_beside_within, parity_within};
 use dcel_records::Records;
-use slab_laws::{CycleId, DartId, Darts, FaceId, Moved, VertexId};
+use slab_laws::{CycleId, DartId, Darts, FaceId, FaceLists, Moved, VertexId};
 
 /// Which of a face's cycles and isolated vertices are taken.
 #[derive(Clone, Copy)]

@@ -1,7 +1,7 @@
 ghost use Rattle.std.specs.Prelude.{◌≡◌};
 ghost use Rattle.slab_laws.specs.FacesSound.{lead_in};
 ghost use Rattle.slab_laws.specs.Sound.{IsGraphSound};
-ghost use Rattle.slab_laws.specs.View.{HasDart};
+ghost use Rattle.slab_laws.specs.View.{HasCycle, HasDart};
 ghost use Rattle.arr_notes.specs.FaceWriters.{orbit_on};
 ghost use Rattle.dcel_records.specs.RecordsView.{graph_part};
 ghost use Rattle.face_steps.specs.RowsWritten.{AreDartRows, all_on};
@@ -16,6 +16,7 @@ pub fn put_run(records: &mut Records, from: DartId, to: DartId, cycle: CycleId)
     requires sound { IsGraphSound records.old.graph }
     requires from { HasDart records.old.graph from }
     requires to { HasDart records.old.graph to }
+    requires cycle { HasCycle records.old.faces.tables cycle }
     requires together { lead_in records.old.graph from ≡ lead_in records.old.graph to }
     ensures graph { graph_part records.new ≡ graph_part records.old }
     ensures run { (ds : _) × IsRun records.old.graph from to ds
@@ -35,6 +36,7 @@ pub fn put_run(records: &mut Records, from: DartId, to: DartId, cycle: CycleId)
 pub fn put_orbit(records: &mut Records, d: DartId, cycle: CycleId)
     requires sound { IsGraphSound records.old.graph }
     requires dart { HasDart records.old.graph d }
+    requires cycle { HasCycle records.old.faces.tables cycle }
     requires rows { AreDartRows records.old.graph records.old.faces.tables }
     ensures graph { graph_part records.new ≡ graph_part records.old }
     ensures faces { records.new.faces ≡ record records.old.faces { tables = orbit_on records.old.graph d cycle records.old.faces.tables } }

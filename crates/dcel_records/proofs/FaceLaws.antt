@@ -139,6 +139,13 @@ module _ (vs : Slab StoredVertex) (ds : Slab StoredDart) (cs : Slab StoredCycle)
     pub vertices_within : IsRoom vr vs → (a : FaceId) → length ((lists_of h).bare a) ≤ h.capacity_of_vertices
     vertices_within i a = subst (λ (l : Lists). length (l.bare a) ≤ h.capacity_of_vertices) lists_are (subst (λ (v : RecordsView). length ((lists_in vs cs fs).bare a) ≤ v.capacity_of_vertices) is (named_short vertex_placing vs fs vertex_id vr a.0 i))
 
+    -- the names in the tables are the slabs' keys
+    pub cycle_keys : names (entries cs) ≡ names h.faces.tables.cycles
+    cycle_keys = sym (names_tabled cycle_record cs) ∙ ap (λ (v : RecordsView). names v.faces.tables.cycles) is
+
+    pub face_keys : names (entries fs) ≡ h.faces.tables.faces
+    face_keys = ap (λ (v : RecordsView). v.faces.tables.faces) is
+
     pub cycle_names : NamesAscend (names h.faces.tables.cycles)
     cycle_names = subst (λ (v : RecordsView). NamesAscend (names v.faces.tables.cycles)) is (ascend-tabled cycle_record cs)
 

@@ -10,6 +10,7 @@ use Rattle.dcel_records.specs.declared.rows.StoredFace.{StoredFace}
 use Rattle.dcel_records.specs.Placing.{own}
 use Rattle.dcel_records.specs.RecordsView.{RecordsView, lists_of, tables_of}
 use Rattle.dcel_records.specs.StoredRows.{graph_in, tables_in, records_view, IsGrown, IsRoom, AreReadyWhere, AreSoundFaces, AreSoundRecords}
+use Rattle.dcel_records.proofs.OnCycles.{on_slots}
 use Rattle.dcel_records.proofs.Whole.{graph_slots, records_slots}
 
 module _ {X : Type 0} (s t : Slab X) (g : IsGrown s t) where
@@ -46,6 +47,7 @@ module _ (vs ws : Slab StoredVertex) (ds es : Slab StoredDart) (cs os : Slab Sto
     faces = faces_grown k.faces;
     vertex_room = v;
     cycle_room = e;
+    on_cycles = on_slots ds es cs os (ap (λ s. s.slots) b.rest) (ap (λ s. s.slots) c.rest) k.on_cycles;
     moved = m;
   }
 

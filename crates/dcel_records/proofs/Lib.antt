@@ -17,6 +17,7 @@ pub mod Relinked
 pub mod CyclesWritten
 pub mod BareWritten
 pub mod CycleColumn
+pub mod OnCycles
 pub mod Started
 pub mod ListsRead
 pub mod Rooms

@@ -1,7 +1,7 @@
 -- How two slabs of rows are a graph (this project).
 use Rattle.std.specs.Prelude.{◌≡◌, ◌==◌, ℕ, cond, ◌-◌, ◌≤◌, List, [], ◌∷◌, map, length, Option, Some, None, option_map, IsSome}
 use Rattle.std.specs.List.{filter}
-use Rattle.slab.specs.Slab.{Slab, get, entries, slab_len}
+use Rattle.slab.specs.Slab.{Slab, get, entries, slab_len, ContainsKey}
 use Rattle.slab_laws.specs.declared.names.DartId.{DartId}
 use Rattle.slab_laws.specs.declared.names.FaceId.{FaceId}
 use Rattle.slab_laws.specs.declared.names.VertexId.{VertexId}
@@ -135,12 +135,17 @@ pub record AreSoundFaces (vs : Slab StoredVertex) (cs : Slab StoredCycle) (fs : 
   pub bare : AreChained vertex_placing vs fs
   pub unbounded : IsSome (get fs 0)
 
+-- the cycle of each dart has a row
+abbrev pub AreOnCycles : Slab StoredDart → Slab StoredCycle → Type 0
+AreOnCycles ds cs = (n : ℕ) (r : StoredDart) → get ds n ≡ Some r → ContainsKey cs r.cycle.0
+
 -- all that is always true of the records
 pub record AreSoundRecords (vs : Slab StoredVertex) (ds : Slab StoredDart) (cs : Slab StoredCycle) (fs : Slab StoredFace) (pins : ℕ) (lists : Option MovedView) (vertices cycles : ℕ) : Type 0 where
   pub graph : AreSoundGraphs vs ds pins
   pub faces : AreSoundFaces vs cs fs
   pub vertex_room : IsRoom vertices vs
   pub cycle_room : IsRoom cycles cs
+  pub on_cycles : AreOnCycles ds cs
   pub moved : AreReadyWhere lists cycles vertices
 
 -- the vertex c is in no face's list and has no place, and all else is as it was

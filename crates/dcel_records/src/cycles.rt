@@ -1,6 +1,6 @@
 ghost use Rattle.std.specs.Prelude.{◌≡◌, ◌≢◌, ◌≤◌, [], option_map};
 ghost use Rattle.slab_laws.specs.Tables.{row_at};
-ghost use Rattle.slab_laws.specs.View.{HasCycle, HasFace, face_id, kind_in};
+ghost use Rattle.slab_laws.specs.View.{HasDart, HasCycle, HasFace, cycle_in, face_id, kind_in};
 ghost use Rattle.arr_notes.specs.FaceWriters.{with_cycle, without_cycle, with_face, without_face};
 ghost use Rattle.dcel_records.specs.ListChanges.{cycle_listed, cycle_unlisted, cycle_relisted, dart_listed};
 ghost use Rattle.dcel_records.specs.RecordsView.{graph_part, lists_of, IsSpareFaces};
@@ -72,9 +72,10 @@ impl Records {
         CycleId(cycle)
     }
 
-    /// The cycle goes.
+    /// A cycle that no dart is on goes.
     pub fn remove_cycle(&mut self, c: CycleId)
-        requires { HasCycle self.old.faces.tables c }
+        requires cycle { HasCycle self.old.faces.tables c }
+        requires off { (d : _) → HasDart self.old.graph d → cycle_in self.old.faces.tables d ≢ c }
         ensures tables { self.new.faces.tables ≡ without_cycle c self.old.faces.tables }
         ensures lists { lists_of self.new ≡ cycle_unlisted c (lists_of self.old) }
         ensures spare { IsSpareFaces self.old.faces self.new.faces 1 0 }

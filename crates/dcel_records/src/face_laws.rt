@@ -1,7 +1,7 @@
 ghost use Rattle.std.specs.Prelude.{◌≤◌, length};
 ghost use Rattle.slab_laws.specs.FaceLists.{AreFacesListed};
 ghost use Rattle.slab_laws.specs.Tables.{names, NamesAscend};
-ghost use Rattle.slab_laws.specs.View.{HasCycle, HasFace, HasBareFace, face_in, bare_face_in, face_id};
+ghost use Rattle.slab_laws.specs.View.{HasFace, face_id};
 ghost use Rattle.dcel_records.specs.RecordsView.{lists_of};
 
 use crate::records::Records;
@@ -12,8 +12,6 @@ impl Records {
     pub fn face_laws(&self)
         ensures listed { AreFacesListed self.now.faces.tables (lists_of self.now) }
         ensures unbounded { HasFace self.now.faces.tables (face_id 0) }
-        ensures cycle_faces { (c : _) → HasCycle self.now.faces.tables c → HasFace self.now.faces.tables (face_in self.now.faces.tables c) }
-        ensures bare_faces { (v : _) → HasBareFace self.now.faces.tables v → HasFace self.now.faces.tables (bare_face_in self.now.faces.tables v) }
         ensures cycles_fit { (a : _) → length ((lists_of self.now).cycles a) ≤ self.now.faces.capacity_of_cycles }
         ensures vertices_fit { (a : _) → length ((lists_of self.now).bare a) ≤ self.now.capacity_of_vertices }
         ensures cycles_ascend { NamesAscend (names self.now.faces.tables.cycles) }

@@ -1,40 +1,53 @@
 ghost use Rattle.std.specs.Prelude.{◌≡◌};
-ghost use Rattle.slab_laws.specs.View.{HasDart, HasCycle, HasBareFace, bare_face_in, cycle_in, face_in, kind_in};
+ghost use Rattle.std.specs.Option.{option_map};
+ghost use Rattle.slab.specs.Slab.{entries};
+ghost use Rattle.slab_laws.specs.Tables.{name_after, names};
+ghost use Rattle.slab_laws.specs.View.{cycle_id, face_id};
 
 use crate::links::Placed;
 use crate::records::Records;
-use slab_laws::{CycleId, CycleKind, DartId, FaceId, VertexId};
+use crate::rows::{StoredCycle, StoredFace};
+use crate::table::Table;
+use slab_laws::{CycleId, CycleKind, DartId, FaceId, Faced, VertexId};
 
-impl Records {
-    /// The cycle whose name is kept for the dart.
-    pub fn cycle(&self, d: DartId) -> CycleId
-        requires { HasDart self.now.graph d }
-        ensures { result ≡ cycle_in self.now.faces.tables d }
-    {
+fn cycle_name_after(cycles: &Table<StoredCycle>, name: Option<CycleId>) -> Option<CycleId>
+    ensures { result ≡ option_map cycle_id (name_after (names (entries cycles.now)) (option_map (λ n. n.0) name)) }
+{
+    cycles.key_after(name.map(|n| n.0)).map(CycleId)
+}
+
+fn face_name_after(faces: &Table<StoredFace>, name: Option<FaceId>) -> Option<FaceId>
+    ensures { result ≡ option_map face_id (name_after (names (entries faces.now)) (option_map (λ n. n.0) name)) }
+{
+    faces.key_after(name.map(|n| n.0)).map(FaceId)
+}
+
+impl Faced for Records {
+    ghost use Rattle.dcel_records.specs.RecordsView.{tables_of};
+
+    ghost faces = { tables_of };
+
+    fn cycle(&self, d: DartId) -> CycleId {
         self.darts[d.0].cycle
     }
 
-    /// The face that the cycle bounds.
-    pub fn face(&self, c: CycleId) -> FaceId
-        requires { HasCycle self.now.faces.tables c }
-        ensures { result ≡ face_in self.now.faces.tables c }
-    {
+    fn face(&self, c: CycleId) -> FaceId {
         self.cycles[c.0].place.face
     }
 
-    /// Whether the cycle bounds its face from outside, or is a hole in it.
-    pub fn kind(&self, c: CycleId) -> CycleKind
-        requires { HasCycle self.now.faces.tables c }
-        ensures { result ≡ kind_in self.now.faces.tables c }
-    {
+    fn kind(&self, c: CycleId) -> CycleKind {
         self.cycles[c.0].kind
     }
 
-    /// The face in which an isolated vertex lies.
-    pub fn bare_face(&self, v: VertexId) -> FaceId
-        requires { HasBareFace self.now.faces.tables v }
-        ensures { result ≡ bare_face_in self.now.faces.tables v }
-    {
+    fn bare_face(&self, v: VertexId) -> FaceId {
         self.vertices[v.0].place().face
+    }
+
+    fn cycle_after(&self, c: Option<CycleId>) -> Option<CycleId> {
+        cycle_name_after(&self.cycles, c)
+    }
+
+    fn face_after(&self, f: Option<FaceId>) -> Option<FaceId> {
+        face_name_after(&self.faces, f)
     }
 }

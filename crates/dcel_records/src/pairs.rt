@@ -1,7 +1,6 @@
 ghost use Rattle.std.specs.Prelude.{◌≡◌, ◌≢◌, ◌≤◌, option_map};
 ghost use Rattle.slab.specs.Slab.{get, slab_len, ContainsKey, Updates};
-ghost use Rattle.slab_laws.specs.Tables.{row_at};
-ghost use Rattle.slab_laws.specs.View.{HasVertex, HasDart, IsOutOf, source_in, twin_in, target_in, cycle_id};
+ghost use Rattle.slab_laws.specs.View.{HasVertex, HasDart, HasCycle, IsOutOf, source_in, twin_in, target_in};
 ghost use Rattle.arr_notes.specs.FaceWriters.{on_cycle, off_cycles};
 ghost use Rattle.arr_notes.specs.ViewChanges.{without_pair, with_next, with_source};
 ghost use Rattle.dcel_records.specs.Edges.{with_edge};
@@ -38,7 +37,7 @@ impl Records {
     }
 
     /// Two new darts, from `u` to `v` and back, each the other's twin and followed by the other, in room that is there. Both
-    /// keep the cycle's name, which needs no record yet.
+    /// are on the cycle.
     pub fn add_pair_on(
         &mut self,
         u: VertexId,
@@ -49,6 +48,7 @@ impl Records {
         requires room { 2 ≤ self.old.spare_darts }
         requires u { HasVertex self.old.graph u }
         requires v { HasVertex self.old.graph v }
+        requires cycle { HasCycle self.old.faces.tables cycle }
         ensures dart { ¬ HasDart self.old.graph result.0 }
         ensures twin { ¬ HasDart self.old.graph result.1 }
         ensures two { result.0 ≢ result.1 }
@@ -78,21 +78,6 @@ impl Records {
         (DartId(d), DartId(m))
     }
 
-    /// Two new darts, as by [`Records::add_pair_on`], that keep the cycle's name 0: for who writes no cycles.
-    pub fn add_pair(&mut self, u: VertexId, v: VertexId, line: Line) -> (DartId, DartId)
-        requires room { 2 ≤ self.old.spare_darts }
-        requires u { HasVertex self.old.graph u }
-        requires v { HasVertex self.old.graph v }
-        ensures dart { ¬ HasDart self.old.graph result.0 }
-        ensures twin { ¬ HasDart self.old.graph result.1 }
-        ensures two { result.0 ≢ result.1 }
-        ensures graph { self.new.graph ≡ with_edge self.old.graph result.0 result.1 u v line }
-        ensures spare { IsSpare self.new self.old 0 2 }
-        ensures faces { self.new.faces ≡ record self.old.faces { tables = on_cycle result.1 (cycle_id 0) (on_cycle result.0 (cycle_id 0) self.old.faces.tables) } }
-    {
-        self.add_pair_on(u, v, line, CycleId(0))
-    }
-
     /// The dart and its twin go; `rest_u` and `rest_v` are other darts out of their sources, `None` where none is left.
     pub fn remove_pair(&mut self, d: DartId, rest_u: Option<DartId>, rest_v: Option<DartId>)
         requires dart { HasDart self.old.graph d }
@@ -119,19 +104,10 @@ impl Records {
         self.darts[d.0].next = n;
     }
 
-    /// The cycle that is kept for the dart, or `None` for a name without a record.
-    pub fn kept_cycle(&self, d: DartId) -> Option<CycleId>
-        ensures { result ≡ row_at self.now.faces.tables.cycle_of d.0 }
-    {
-        match self.darts.get(d.0) {
-            None => None,
-            Some(dart) => Some(dart.cycle),
-        }
-    }
-
-    /// The dart is on the cycle, whose name needs no record yet.
+    /// The dart is on the cycle.
     pub fn set_cycle(&mut self, d: DartId, c: CycleId)
-        requires { HasDart self.old.graph d }
+        requires dart { HasDart self.old.graph d }
+        requires cycle { HasCycle self.old.faces.tables c }
         ensures graph { graph_part self.new ≡ graph_part self.old }
         ensures faces { self.new.faces ≡ record self.old.faces { tables = on_cycle d c self.old.faces.tables } }
     {

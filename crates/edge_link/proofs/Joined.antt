@@ -32,7 +32,8 @@ use Rattle.face_steps.proofs.EdgePairs.{up}
 use Rattle.face_steps.proofs.FaceRows.{cycle_number, map_cycle, swap_miss}
 use Rattle.cycle_writers.specs.Runs.{IsRun}
 use Rattle.cycle_writers.proofs.FollowsMore.{turned}
-use Rattle.cycle_writers.proofs.RunSteps.{runs_are_steps}
+use Rattle.cycle_writers.proofs.Recycled.{none_left}
+use Rattle.cycle_writers.proofs.RunSteps.{rows_of, runs_are_steps}
 use Rattle.cycle_writers.proofs.RunsUnited.{runs_are_cycles}
 use Rattle.edge_link.specs.declared.links.LinkNames.{LinkNames}
 use Rattle.edge_link.specs.FacedLinks.{IsLinkMade}
@@ -146,6 +147,12 @@ module _ (old linked : RecordsView) (names : LinkNames) (u w : VertexId) (a b : 
 
     pub cycle_stays : (c : CycleId) (k : DartId) → c ≡ cycle_in (tables_of old) k → HasDart old.graph k → HasCycle run.faces.tables c
     cycle_stays c k e o = subst (λ t. HasCycle t c) (sym run_tables) (subst (HasCycle (tables_of old)) (sym e) (map.sound.complete.cycle_has k o))
+
+    -- and no dart is on the one that goes
+    pub none_on : kept ≢ gone → graph_part run ≡ graph_part linked → (k : DartId) → HasDart run.graph k → cycle_in run.faces.tables k ≢ gone
+    none_on n graph k o e =
+        let rows = runs_are_steps.rows_linked old.graph linked.graph (tables_of old) names.d names.m u w between.line kept between.edge (rows_of old.graph (tables_of old) tabled) in
+        none_left (both_on kept) gone kept n linked.graph rows k (subst (λ g. HasDart g k) (ap (λ p. p.graph) graph) o) (ap (λ t. cycle_in t k) (sym run_tables) ∙ e)
 
     module _ (new : RecordsView) (returned : IsReturned old) (fits : FitsJoin (tables_of old) A B kept gone) (spare : IsSpare linked old 0 2) (graph-2 : graph_part run ≡ graph_part linked) (tables-3 : new.faces.tables ≡ without_cycle gone run.faces.tables) (lists-3 : lists_of new ≡ cycle_unlisted gone (lists_of run)) (room : IsSpareFaces run.faces new.faces 1 0) (lent : new.faces.moved ≡ run.faces.moved) (graph-3 : graph_part new ≡ graph_part run) where
       whole : run.faces ≡ record old.faces { tables = all_on ds kept (both_on kept) }

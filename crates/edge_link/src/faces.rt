@@ -13,7 +13,7 @@ use boundary_cycles::is_no_longer;
 use cycle_writers::put_run;
 use dcel_records::Records;
 use exact_plane::Line;
-use slab_laws::{CycleKind, DartId, Darts, VertexId};
+use slab_laws::{CycleKind, DartId, Darts, Faced, VertexId};
 
 /// An edge that came: its darts, and what became of cycles and faces.
 #[derive(Drop)]

@@ -1,6 +1,6 @@
 ghost use Rattle.std.specs.Prelude.{◌≡◌, ◌≤◌, option_map};
 ghost use Rattle.slab_laws.specs.Sound.{IsGraphSound};
-ghost use Rattle.slab_laws.specs.View.{HasDart, twin_in};
+ghost use Rattle.slab_laws.specs.View.{HasCycle, HasDart, twin_in};
 ghost use Rattle.dcel_records.specs.RecordsView.{IsSpare};
 ghost use Rattle.arr_notes.specs.FaceWriters.{on_cycle};
 ghost use Rattle.arr_notes.specs.Step.{add_edge};
@@ -78,6 +78,7 @@ pub(crate) fn link_on(
     requires sound { IsGraphSound records.old.graph }
     requires room { 2 ≤ records.old.spare_darts }
     requires fits { CanLink records.old.graph u v at_u at_v line }
+    requires cycle { HasCycle records.old.faces.tables cycle }
     ensures new_darts { AreNewDarts records.old.graph result.d result.m }
     ensures graph { records.new.graph ≡ add_edge records.old.graph result.d result.m u v at_u at_v line }
     ensures sound { IsGraphSound records.new.graph }

@@ -18,7 +18,7 @@ use boundary_cycles::{extent_of, is_no_longer, is_odd_beside};
 use cycle_writers::{Which, carry_off, put_orbit};
 use dcel_records::Records;
 use exact_plane::Line;
-use slab_laws::{CycleId, CycleKind, DartId, Darts, FaceId, VertexId};
+use slab_laws::{CycleId, CycleKind, DartId, Darts, FaceId, Faced, VertexId};
 
 // The halves of a cycle that an edge has parted: the dart of the one that becomes the fresh cycle, that of the other, and how
 // it is told what goes to the fresh face.

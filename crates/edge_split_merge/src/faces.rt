@@ -8,7 +8,7 @@ use crate::joining::{MergeNames, merge_at};
 use crate::parting::{SplitNames, split_at};
 use dcel_records::Records;
 use exact_plane::Point;
-use slab_laws::{DartId, Darts, VertexId};
+use slab_laws::{DartId, Darts, Faced, VertexId};
 
 /// The edge of the dart, which goes from its lower to its upper end, is split at a new vertex at the point: the dart and its
 /// twin keep the lower part, and both parts are on the cycles on their sides; the names of what came (CGAL manual,

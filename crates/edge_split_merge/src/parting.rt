@@ -9,7 +9,7 @@ ghost use Rattle.edge_split_merge.specs.Splits.{CanSplit, IsNewPlace};
 use dcel_records::Records;
 use exact_plane::Point;
 use rotation_order::previous_around_source;
-use slab_laws::{DartId, Darts, VertexId};
+use slab_laws::{DartId, Darts, Faced, VertexId};
 
 // What follows a dart that ends where another did: what followed that one, or, where this was its twin, the twin's new name.
 pub(crate) fn onward(follower: DartId, twin: DartId, new_twin: DartId) -> DartId

@@ -29,6 +29,7 @@ use Rattle.cycle_writers.specs.declared.moves.Which.TheVariants.{All}
 use Rattle.cycle_writers.specs.Runs.{IsRun}
 use Rattle.cycle_writers.specs.Taken.{cycles_taken, vertices_taken}
 use Rattle.cycle_writers.proofs.FollowsMore.{turned}
+use Rattle.cycle_writers.proofs.Recycled.{none_left}
 use Rattle.cycle_writers.proofs.RunSteps.{rows_of, runs_are_steps}
 use Rattle.cycle_writers.proofs.RunsUnited.{runs_are_cycles}
 use Rattle.cycle_writers.proofs.Taken.{taken_is_fit}
@@ -134,6 +135,13 @@ module _ (v : View) (f : Faces) (d x y : DartId) (gone kept : CycleId) (h : IsSo
       ∙ follower_on v f y h has_kept
       ∙ sym on_kept
 
+  rows_off : AreDartRows less off
+  rows_off = runs_are_steps.rows_unlinked less v f d (twin_in v d) (source_in v d) (target_in v d) edge_by_d.line edge_by_d.edge (rows_of v f told)
+
+  -- no dart is on the cycle that goes
+  pub none_on : (w : View) (s : Faces) → w ≡ remove_edge v d (twin_in v d) → s ≡ recycled gone kept (off_cycles (twin_in v d) (off_cycles d f)) → (k : DartId) → HasDart w k → cycle_in s k ≢ gone
+  none_on w s removed put k o e = none_left off gone kept two_cycles less rows_off k (subst (λ g. HasDart g k) removed o) (ap (λ t. cycle_in t k) (sym put) ∙ e)
+
   module _ (l : Lists) (on : AreDartsOn v f l) where
     -- each cycle but the one that goes keeps a dart that stays
     pub darts_stay : (c : CycleId) → HasCycle f c → c ≢ gone → HasDart (remove_edge v d (twin_in v d)) ((dart_listed kept (next_in v y) l).dart_on c) × (cycle_in (off_cycles (twin_in v d) (off_cycles d f)) ((dart_listed kept (next_in v y) l).dart_on c) ≡ c)
@@ -148,9 +156,6 @@ module _ (v : View) (f : Faces) (d x y : DartId) (gone kept : CycleId) (h : IsSo
           (λ j k. still_on v less f d (twin_in v d) h has refl refl l on c o k j)
           (λ e. n (e ∙ sym on_gone)) (λ e. i (e ∙ sym on_kept)))
     ]
-
-    rows_off : AreDartRows less off
-    rows_off = runs_are_steps.rows_unlinked less v f d (twin_in v d) (source_in v d) (target_in v d) edge_by_d.line edge_by_d.edge (rows_of v f told)
 
     -- so it is on its cycle when all is done
     pub darts_on : (cs : List CycleId) (us : List VertexId) (a b : FaceId) (k : Lists) → k.dart_on ≡ (cycle_unlisted gone (dart_listed kept (next_in v y) l)).dart_on → AreDartsOn (remove_edge v d (twin_in v d)) (without_face b (without_cycle gone (moved_to cs us a (recycled gone kept (off_cycles (twin_in v d) (off_cycles d f)))))) k

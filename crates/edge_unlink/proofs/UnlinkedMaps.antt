@@ -8,12 +8,12 @@ use Rattle.slab_laws.specs.declared.names.VertexId.{VertexId}
 use Rattle.slab_laws.specs.FaceLists.{Lists, AreDartsOn}
 use Rattle.slab_laws.specs.FacesSound.{IsSound}
 use Rattle.slab_laws.specs.Sound.{IsGraphSound}
-use Rattle.slab_laws.specs.Tables.{row_at}
-use Rattle.slab_laws.specs.View.{View, Faces, HasVertex, HasDart, HasCycle, HasFace, HasBareFace, source_in, target_in, twin_in, next_in, line_in, cycle_or, cycle_in, face_in, dart_id}
+use Rattle.slab_laws.specs.Tables.{row_at, names, NamesAscend}
+use Rattle.slab_laws.specs.View.{View, CycleRecord, Faces, HasVertex, HasDart, HasCycle, HasFace, HasBareFace, source_in, target_in, twin_in, next_in, line_in, cycle_or, cycle_in, face_in, dart_id}
 use Rattle.arr_notes.specs.FaceSteps.{step_faces}
 use Rattle.arr_notes.specs.FaceWriters.{off_cycles, without_cycle}
-use Rattle.arr_notes.specs.NamedRows.{put}
 use Rattle.arr_notes.specs.FacesTold.{unlinked_faces}
+use Rattle.arr_notes.specs.NamedRows.{put, del}
 use Rattle.arr_notes.specs.Step.{remove_edge}
 use Rattle.arr_notes.specs.declared.faces.Unlinked.{Unlinked}
 use Rattle.arr_notes.proofs.Reading.{dart_number, vertex_number, none_there}
@@ -44,6 +44,10 @@ unlinked_is_sound v w f s d m told h has is_twin graph g tables fits =
     subst (λ z. AreTabled z (step_faces z f (unlinked_faces v d told))) (sym removed) (unlinks_keep_tables v f d told h.graph has ((tables_are_sound v f h.graph).1 h) fits)
     in
     (tables_are_sound w s g).0 (subst (AreTabled w) (sym tables) kept)
+
+-- no dart is on a cycle that the step takes away
+pub none_on : (w : View) (s : Faces) (c : CycleId) (cycles : List (ℕ × CycleRecord)) → IsSound w s → s.cycles ≡ del c.0 cycles → NamesAscend (names cycles) → (k : DartId) → HasDart w k → cycle_in s k ≢ c
+none_on w s c cycles h q ascend k o e = none_there _ (ap (λ rs. row_at rs c.0) q ∙ del_hit c.0 cycles ascend) (subst (HasCycle s) e (h.complete.cycle_has k o))
 
 -- ---- the cycle of a dart, and its face
 pub has_cycle : (v : View) (f : Faces) (d : DartId) (c : CycleId) → IsSound v f → HasDart v d → c ≡ cycle_in f d → HasCycle f c

@@ -13,7 +13,7 @@ use arr_notes::Unlinked;
 use boundary_cycles::{is_no_longer, is_odd_beside};
 use cycle_writers::put_orbit;
 use dcel_records::Records;
-use slab_laws::{CycleKind, DartId};
+use slab_laws::{CycleKind, DartId, Faced};
 
 // The two darts, first the one whose cycle is no longer.
 fn shorter_first(records: &Records, a: DartId, b: DartId) -> (DartId, DartId)

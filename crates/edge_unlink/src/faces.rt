@@ -9,7 +9,7 @@ use crate::edges::close_up;
 use crate::uniting::unite;
 use arr_notes::Unlinked;
 use dcel_records::Records;
-use slab_laws::{DartId, Darts};
+use slab_laws::{DartId, Darts, Faced};
 
 /// An edge that went: the name that the twin of its dart had, and what became of cycles and faces.
 #[derive(Drop)]

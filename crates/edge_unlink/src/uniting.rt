@@ -17,7 +17,7 @@ use arr_notes::Unlinked;
 use boundary_cycles::is_no_longer;
 use cycle_writers::{Which, move_cycles, move_isolated, put_run};
 use dcel_records::Records;
-use slab_laws::{CycleId, DartId, Darts, FaceId, Moved};
+use slab_laws::{CycleId, DartId, Darts, FaceId, Faced, Moved};
 
 // Of two cycles on the sides of an edge, whether the first one goes: one that is outer, and of two that are the shorter.
 fn first_goes(records: &Records, d: DartId, m: DartId) -> bool
@@ -42,6 +42,7 @@ fn unite_faces(records: &mut Records, gone: CycleId, from: FaceId, to: FaceId) -
     requires sound { IsGraphSound records.old.graph }
     requires returned { IsReturned records.old }
     requires gone { HasCycle records.old.faces.tables gone }
+    requires off { (d : _) → HasDart records.old.graph d → cycle_in records.old.faces.tables d ≢ gone }
     requires face { face_in records.old.faces.tables gone ≡ from }
     requires to { HasFace records.old.faces.tables to }
     requires two { from ≢ to }

@@ -7,7 +7,7 @@ ghost use Rattle.face_steps.specs.VertexSteps.{IsFaceRound};
 use crate::below::highest_below;
 use dcel_records::Records;
 use exact_plane::Point;
-use slab_laws::FaceId;
+use slab_laws::{FaceId, Faced};
 
 /// The face that a point on no edge and no vertex lies in: the one above the highest edge below the point, or the unbounded
 /// one, whose name is the first (CGAL manual, point location). It looks at each dart once, and takes no memory.

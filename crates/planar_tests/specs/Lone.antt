@@ -9,6 +9,10 @@ pub record AreTwo (h : RecordsView) : Type 0 where
   pub unbounded : HasFace h.faces.tables (face_id 0)
   pub other : HasFace h.faces.tables (face_id 1)
 
+-- no dart is there
+abbrev pub HasNoDarts : RecordsView → Type 0
+HasNoDarts h = h.graph.darts ≡ []
+
 -- no darts, and each isolated vertex, listed once, has a record
 pub record IsLone (h : RecordsView) : Type 0 where
   pub bare : (v : _) → HasBareFace h.faces.tables v → HasVertex h.graph v

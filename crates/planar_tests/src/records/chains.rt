@@ -3,18 +3,18 @@
 ghost use Rattle.std.specs.Prelude.{◌≡◌, ◌≢◌, IfOk, IsTrue};
 ghost use Rattle.slab_laws.specs.View.{HasFace, HasBareFace};
 ghost use Rattle.dcel_records.specs.ListChanges.{lone_face};
-ghost use Rattle.planar_tests.specs.Lone.{AreTwo, IsLone};
+ghost use Rattle.planar_tests.specs.Lone.{AreTwo, HasNoDarts, IsLone};
 
 use crate::shapes::point;
 use dcel_records::{Records, Room};
 use exact_plane::Point;
 use no_memory::NoMemory;
-use slab_laws::{CycleId, CycleKind, DartId, FaceId, VertexId};
+use slab_laws::{CycleId, CycleKind, DartId, FaceId, FaceLists, VertexId};
 use std::test::Fail;
 
-const UNBOUNDED: FaceId = FaceId(0);
+pub(crate) const UNBOUNDED: FaceId = FaceId(0);
 
-const OTHER: FaceId = FaceId(1);
+pub(crate) const OTHER: FaceId = FaceId(1);
 
 const NO_ROOM: Room = Room {
     vertices: 0,
@@ -24,10 +24,11 @@ const NO_ROOM: Room = Room {
 };
 
 // Whether one face more is the other one.
-fn face_more(records: &mut Records) -> Result<bool, NoMemory>
+pub(crate) fn face_more(records: &mut Records) -> Result<bool, NoMemory>
     requires { records.old.faces.tables ≡ lone_face }
     ensures two { IfOk result (λ right. IsTrue right → AreTwo records.new) }
     ensures lone { IsLone records.old → IsLone records.new }
+    ensures darts { HasNoDarts records.old → HasNoDarts records.new }
 {
     records.reserve(Room {
         faces: 1,
@@ -54,7 +55,9 @@ fn face_goes(records: &mut Records, face: FaceId) -> bool
 fn cycle_more(records: &mut Records, face: FaceId, dart: DartId) -> Result<CycleId, NoMemory>
     requires face { HasFace records.old.faces.tables face }
     requires two { AreTwo records.old }
+    requires darts { HasNoDarts records.old }
     ensures two { AreTwo records.new }
+    ensures darts { HasNoDarts records.new }
 {
     records.reserve(Room {
         cycles: 1,
@@ -67,7 +70,9 @@ fn cycle_more(records: &mut Records, face: FaceId, dart: DartId) -> Result<Cycle
 fn cycle_moves(records: &mut Records, cycle: CycleId, face: FaceId) -> bool
     requires face { HasFace records.old.faces.tables face }
     requires two { AreTwo records.old }
+    requires darts { HasNoDarts records.old }
     ensures two { AreTwo records.new }
+    ensures darts { HasNoDarts records.new }
 {
     if records.cycle_of(cycle).is_none() {
         return false;
@@ -79,7 +84,9 @@ fn cycle_moves(records: &mut Records, cycle: CycleId, face: FaceId) -> bool
 // Whether there is such a cycle; then it keeps the dart.
 fn cycle_keeps(records: &mut Records, cycle: CycleId, dart: DartId) -> bool
     requires two { AreTwo records.old }
+    requires darts { HasNoDarts records.old }
     ensures two { AreTwo records.new }
+    ensures darts { HasNoDarts records.new }
 {
     if records.cycle_of(cycle).is_none() {
         return false;
@@ -91,7 +98,9 @@ fn cycle_keeps(records: &mut Records, cycle: CycleId, dart: DartId) -> bool
 // Whether there is such a cycle; then it goes.
 fn cycle_goes(records: &mut Records, cycle: CycleId) -> bool
     requires two { AreTwo records.old }
+    requires darts { HasNoDarts records.old }
     ensures two { AreTwo records.new }
+    ensures darts { HasNoDarts records.new }
 {
     if records.cycle_of(cycle).is_none() {
         return false;
@@ -131,8 +140,10 @@ fn have_cycles(records: &Records, unbounded: &[CycleId], other: &[CycleId]) -> b
 // Whether three cycles of the unbounded face, listed from the third on, move to the other one: the middle one, and then the
 // last.
 fn cycles_move(records: &mut Records, first: CycleId, second: CycleId, third: CycleId) -> bool
-    requires { AreTwo records.old }
-    ensures { AreTwo records.new }
+    requires two { AreTwo records.old }
+    requires darts { HasNoDarts records.old }
+    ensures two { AreTwo records.new }
+    ensures darts { HasNoDarts records.new }
 {
     let kept = cycle_keeps(records, second, DartId(4))
         && have_cycles(records, &[third, second, first], &[]);
@@ -145,7 +156,8 @@ fn cycles_move(records: &mut Records, first: CycleId, second: CycleId, third: Cy
 
 // Whether then the first one goes, the second moves within its face and goes, and the other face is empty.
 fn cycles_go(records: &mut Records, first: CycleId, second: CycleId, third: CycleId) -> bool
-    requires { AreTwo records.old }
+    requires two { AreTwo records.old }
+    requires darts { HasNoDarts records.old }
 {
     let front = cycle_goes(records, first) && have_cycles(records, &[third], &[second]);
     let within = cycle_moves(records, second, OTHER) && have_cycles(records, &[third], &[second]);
@@ -154,7 +166,8 @@ fn cycles_go(records: &mut Records, first: CycleId, second: CycleId, third: Cycl
 }
 
 fn cycles_come(records: &mut Records) -> Result<bool, NoMemory>
-    requires { records.old.faces.tables ≡ lone_face }
+    requires unbounded { records.old.faces.tables ≡ lone_face }
+    requires darts { HasNoDarts records.old }
 {
     if !face_more(records)? {
         return Ok(false);
@@ -179,7 +192,7 @@ fn cycles_come_move_and_go(rt: HostRuntime) -> Result<(), Fail> {
 }
 
 // ---- isolated vertices
-fn vertex_more(records: &mut Records, at: Point, face: FaceId) -> Result<VertexId, NoMemory>
+pub(crate) fn vertex_more(records: &mut Records, at: Point, face: FaceId) -> Result<VertexId, NoMemory>
     requires face { HasFace records.old.faces.tables face }
     requires two { AreTwo records.old }
     requires lone { IsLone records.old }
@@ -210,7 +223,7 @@ fn vertex_moves(records: &mut Records, v: VertexId, face: FaceId)
 }
 
 // The vertex stays, but is in no face's list.
-fn vertex_joins(records: &mut Records, v: VertexId)
+pub(crate) fn vertex_joins(records: &mut Records, v: VertexId)
     requires two { AreTwo records.old }
     requires lone { IsLone records.old }
     requires bare { HasBareFace records.old.faces.tables v }

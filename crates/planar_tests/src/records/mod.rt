@@ -2,5 +2,6 @@
 
 mod chains;
 mod cycles;
+mod holes;
 mod room;
 mod triangles;

@@ -8,10 +8,13 @@ use Rattle.cycle_writers.proofs.RunWritten.{IsWriting, begins, goes_on, ends, sh
 use Rattle.cycle_writers.proofs.runs.put_run.Goals as goal
 
 pub run-init : goal.run-init
-run-init c = begins c.args.records.now c.args.from c.args.to c.args.cycle c.requires.from c.requires.together
+run-init c = begins c.args.records.now c.args.from c.args.to c.args.cycle c.requires.from c.requires.cycle c.requires.together
 
-pub set_cycle-requires : goal.set_cycle-requires
-set_cycle-requires c = subst (λ (z : GraphView). HasDart z.graph c.run.dart) (sym c.run.invariant.graph) c.run.invariant.there
+pub set_cycle-requires-clause-dart : goal.set_cycle-requires-clause-dart
+set_cycle-requires-clause-dart c = subst (λ (z : GraphView). HasDart z.graph c.run.dart) (sym c.run.invariant.graph) c.run.invariant.there
+
+pub set_cycle-requires-clause-cycle : goal.set_cycle-requires-clause-cycle
+set_cycle-requires-clause-cycle c = c.run.invariant.has
 
 pub next-dart-requires : goal.next-dart-requires
 next-dart-requires c = subst (λ (z : GraphView). HasDart z.graph c.run.dart) (sym (c.set_cycle.ensures.graph ∙ c.run.invariant.graph)) c.run.invariant.there

@@ -3,7 +3,7 @@ use Rattle.std.specs.List.{Contains}
 use Rattle.slab_laws.specs.View.{Faces, HasCycle}
 use Rattle.slab_laws.specs.declared.names.CycleKind.TheVariants.{Outer}
 use Rattle.arr_notes.specs.FaceWriters.{with_cycle, with_face}
-use Rattle.arr_notes.proofs.VertexReads.{put_miss}
+use Rattle.arr_notes.proofs.VertexReads.{put_hit, put_miss}
 use Rattle.dcel_records.specs.ListChanges.{cycle_listed, dart_listed}
 use Rattle.dcel_records.specs.RecordsView.{lists_in_view}
 use Rattle.face_steps.specs.RowsWritten.{AreDartRows}
@@ -14,6 +14,9 @@ pub add_cycle-cycle-requires-clause-face : goal.add_cycle-cycle-requires-clause-
 add_cycle-cycle-requires-clause-face c =
     let a = c.add_face-face.result in
     subst (λ (f : Faces). Contains f.faces a.0) (sym c.add_face-face.ensures.tables) ((put_name_has a.0 c.args.records.now.faces.tables.faces a.0).1 (inr refl))
+
+pub put_orbit-requires-clause-cycle : goal.put_orbit-requires-clause-cycle
+put_orbit-requires-clause-cycle c = let k = c.add_cycle-cycle.result in subst (λ (t : Faces). HasCycle t k) (sym c.add_cycle-cycle.ensures.tables) (subst IsSome (sym (put_hit k.0 _ c.add_face-face.new.self.faces.tables.cycles)) refl)
 
 pub put_orbit-requires-clause-rows : goal.put_orbit-requires-clause-rows
 put_orbit-requires-clause-rows c =

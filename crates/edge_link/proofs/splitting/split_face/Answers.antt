@@ -6,10 +6,10 @@ use Rattle.edge_link.proofs.splitting.split_face.Goals.{After-cycle-kept, After-
 use Rattle.edge_link.proofs.splitting.split_face.Goals as goal
 
 pub face-face-requires : goal.face-face-requires
-face-face-requires c = subst (HasCycle c.args.records.now.faces.tables) (sym c.cycle-kept.ensures) (c.requires.map.sound.complete.cycle_has c.twin.result c.twin.ensures.has)
+face-face-requires c = subst (HasCycle c.args.records.now.faces.tables) (sym c.cycle-kept.ensures.cycle) (c.requires.map.sound.complete.cycle_has c.twin.result c.twin.ensures.has)
 
 pub kind-requires : goal.kind-requires
-kind-requires c = subst (HasCycle c.args.records.now.faces.tables) (sym c.cycle-kept.ensures) (c.requires.map.sound.complete.cycle_has c.twin.result c.twin.ensures.has)
+kind-requires c = subst (HasCycle c.args.records.now.faces.tables) (sym c.cycle-kept.ensures.cycle) (c.requires.map.sound.complete.cycle_has c.twin.result c.twin.ensures.has)
 
 linked : (c : After-link_on-names) → IsLinkedOn c.args.records.now c.link_on-names.new.records c.link_on-names.result c.args.u c.args.v c.args.at_u c.args.at_v c.args.line c.cycle-kept.result c.face-face.result
 linked c =
@@ -20,8 +20,8 @@ linked c =
       unbounded = c.face_laws.ensures.unbounded;
       can = c.requires.fits;
       one = c.requires.one;
-      is_kept = c.cycle-kept.ensures ∙ ap (cycle_in c.args.records.now.faces.tables) c.twin.ensures.twin;
-      is_face = c.face-face.ensures;
+      is_kept = c.cycle-kept.ensures.cycle ∙ ap (cycle_in c.args.records.now.faces.tables) c.twin.ensures.twin;
+      is_face = c.face-face.ensures.face;
       new_darts = e.new_darts;
       graph = e.graph;
       sound = e.sound;

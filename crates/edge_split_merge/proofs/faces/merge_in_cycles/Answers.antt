@@ -22,7 +22,7 @@ set_dart-requires c =
     let n = c.merge_at-names.result.n in
     let is = merged_sound old mid c.args.v d n c.requires.map e.met e.graph e.sound e.tables in
     let t = tables_merged old mid c.args.v d n c.requires.map e.met e.graph e.sound e.tables in
-    subst (λ (k : CycleId). HasCycle (tables_of mid) k) (sym c.cycle.ensures) (subst (λ (f : Faces). HasCycle f (cycle_in f d)) (sym t) (is.complete.cycle_has d (stays old mid c.args.v d n c.requires.map e.met e.graph e.sound e.tables)))
+    subst (λ (k : CycleId). HasCycle (tables_of mid) k) (sym c.cycle.ensures.cycle) (subst (λ (f : Faces). HasCycle f (cycle_in f d)) (sym t) (is.complete.cycle_has d (stays old mid c.args.v d n c.requires.map e.met e.graph e.sound e.tables)))
 
 pub set_dart-requires-2 : goal.set_dart-requires-2
 set_dart-requires-2 c =
@@ -34,7 +34,7 @@ set_dart-requires-2 c =
     let is = merged_sound old mid c.args.v d n c.requires.map e.met e.graph e.sound e.tables in
     let t = c.set_dart.ensures.tables ∙ tables_merged old mid c.args.v d n c.requires.map e.met e.graph e.sound e.tables in
     let has = subst (λ (k : DartId). HasDart mid.graph k) (sym (c.twin-t.ensures.twin ∙ twin_is old mid c.args.v d n c.requires.map e.met e.graph e.sound e.tables)) (twin_stays old mid c.args.v d n c.requires.map e.met e.graph e.sound e.tables) in
-    subst (λ (k : CycleId). HasCycle (tables_of c.set_dart.new.self) k) (sym c.cycle-2.ensures) (subst (λ (f : Faces). HasCycle f (cycle_in f c.twin-t.result)) (sym t) (is.complete.cycle_has c.twin-t.result has))
+    subst (λ (k : CycleId). HasCycle (tables_of c.set_dart.new.self) k) (sym c.cycle-2.ensures.cycle) (subst (λ (f : Faces). HasCycle f (cycle_in f c.twin-t.result)) (sym t) (is.complete.cycle_has c.twin-t.result has))
 
 pub returns : goal.returns
 returns c =
@@ -51,8 +51,8 @@ returns c =
     let parts : graph_part new ≡ graph_part mid = c.set_dart-2.ensures.graph ∙ c.set_dart.ensures.graph in
     let graph : new.graph ≡ mid.graph = ap (λ (g : GraphView). g.graph) parts in
     let twin : c.twin-t.result ≡ t = c.twin-t.ensures.twin ∙ twin_is old mid c.args.v d n c.requires.map e.met e.graph e.sound e.tables in
-    let first : c.cycle.result ≡ cycle_in step d = c.cycle.ensures ∙ ap (λ (f : Faces). cycle_in f d) tables_mid in
-    let second : c.cycle-2.result ≡ cycle_in step t = c.cycle-2.ensures ∙ (λ i. cycle_in ((c.set_dart.ensures.tables ∙ tables_mid) i) (twin i)) in
+    let first : c.cycle.result ≡ cycle_in step d = c.cycle.ensures.cycle ∙ ap (λ (f : Faces). cycle_in f d) tables_mid in
+    let second : c.cycle-2.result ≡ cycle_in step t = c.cycle-2.ensures.cycle ∙ (λ i. cycle_in ((c.set_dart.ensures.tables ∙ tables_mid) i) (twin i)) in
     let lists : lists_of new ≡ dart_listed (cycle_in step t) t (dart_listed (cycle_in step d) d (vertex_unlisted c.args.v (lists_of old))) =
     c.set_dart-2.ensures.lists
     ∙ (λ i. dart_listed (second i) (twin i) ((c.set_dart.ensures.lists ∙ (λ j. dart_listed (first j) d (e.lists j))) i)) in

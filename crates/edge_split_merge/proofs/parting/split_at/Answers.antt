@@ -1,7 +1,7 @@
 use Rattle.std.proofs.Common.{◌≡◌, sym, ap, subst, ◌∙◌}
 use Rattle.slab_laws.specs.declared.names.VertexId.{VertexId}
 use Rattle.slab_laws.specs.Sound.{IsGraphSound}
-use Rattle.slab_laws.specs.View.{View, HasVertex, HasDart, cycle_in, next_in, twin_in}
+use Rattle.slab_laws.specs.View.{View, HasVertex, HasDart, HasCycle, cycle_in, next_in, twin_in}
 use Rattle.arr_notes.specs.Step.{split_edge}
 use Rattle.arr_notes.proofs.RowLaws.{put_again}
 use Rattle.arr_notes.specs.FaceWriters.{on_cycle}
@@ -18,6 +18,9 @@ pub add_pair_on-requires-clause-v : goal.add_pair_on-requires-clause-v
 add_pair_on-requires-clause-v c =
     vertex_still c.args.records.now.graph c.add_vertex-v.new.self.graph c.add_vertex-v.result c.args.p c.add_vertex-v.ensures.graph c.add_vertex-v.ensures.name c.source-end.result
     (subst (λ (z : VertexId). HasVertex c.args.records.now.graph z) (sym c.source-end.ensures) (c.requires.sound.linked.source c.twin-t.result c.twin-t.ensures.has))
+
+pub add_pair_on-requires-clause-cycle : goal.add_pair_on-requires-clause-cycle
+add_pair_on-requires-clause-cycle c = subst (λ (f : FacesView). HasCycle f.tables c.cycle-cycle.result) (sym c.add_vertex-v.ensures.faces) c.cycle-cycle.ensures.has
 
 pub set_next-requires : goal.set_next-requires
 set_next-requires c =
@@ -94,8 +97,14 @@ returns-clause-sound c =
     subst (λ (g : View). IsGraphSound g) (sym (returns-clause-graph c))
     (split_is_sound c.args.records.now.graph c.args.d c.add_vertex-v.result c.args.p c.add_pair_on.result.0 c.add_pair_on.result.1 c.requires.sound c.requires.fits c.laws.ensures c.add_vertex-v.ensures.name (new_pair c).new_first (new_pair c).new_second c.add_pair_on.ensures.two)
 
-pub set_cycle-requires : goal.set_cycle-requires
-set_cycle-requires c =
+pub set_cycle-requires-clause-cycle : goal.set_cycle-requires-clause-cycle
+set_cycle-requires-clause-cycle c =
+    let k = c.cycle-twin_cycle.result in
+    subst (λ (f : FacesView). HasCycle f.tables k) (sym (c.set_next-4.ensures.faces ∙ c.move_source.ensures.faces ∙ c.set_next-3.ensures.faces ∙ c.set_next-2.ensures.faces ∙ c.set_next.ensures.faces ∙ c.add_pair_on.ensures.faces))
+    (subst (λ (f : FacesView). HasCycle f.tables k) (sym c.add_vertex-v.ensures.faces) c.cycle-twin_cycle.ensures.has)
+
+pub set_cycle-requires-clause-dart : goal.set_cycle-requires-clause-dart
+set_cycle-requires-clause-dart c =
     let i : IsPlaced c.args.records.now.graph c.set_next-3.new.self.graph c.add_vertex-v.result c.source-end.result c.add_pair_on.result.0 c.add_pair_on.result.1 =
     followed c.args.records.now.graph c.set_next-2.new.self.graph c.set_next-3.new.self.graph c.add_vertex-v.result c.source-end.result c.add_pair_on.result.0 c.add_pair_on.result.1 c.add_pair_on.result.1 c.twin-t.result c.set_next-3.ensures.graph
     (followed c.args.records.now.graph c.set_next.new.self.graph c.set_next-2.new.self.graph c.add_vertex-v.result c.source-end.result c.add_pair_on.result.0 c.add_pair_on.result.1 c.add_pair_on.result.0 c.onward-beyond.result c.set_next-2.ensures.graph
@@ -116,4 +125,4 @@ returns-clause-faces c =
     c.set_cycle.ensures.faces
     ∙ ap (λ (f : FacesView). record f { tables = on_cycle m c.cycle-twin_cycle.result f.tables }) pair
     ∙ (λ i. record old { tables = record { cycle_of = put_again m.0 c.cycle-twin_cycle.result c.cycle-cycle.result (on_cycle n c.cycle-cycle.result old.tables).cycle_of i; bare = old.tables.bare; cycles = old.tables.cycles; faces = old.tables.faces } })
-    ∙ (λ i. record old { tables = on_cycle m ((c.cycle-twin_cycle.ensures ∙ ap (cycle_in old.tables) c.twin-t.ensures.twin) i) (on_cycle n (c.cycle-cycle.ensures i) old.tables) })
+    ∙ (λ i. record old { tables = on_cycle m ((c.cycle-twin_cycle.ensures.cycle ∙ ap (cycle_in old.tables) c.twin-t.ensures.twin) i) (on_cycle n (c.cycle-cycle.ensures.cycle i) old.tables) })

@@ -17,7 +17,7 @@ set_bare-requires-clause-elsewhere c =
 
 pub set_bare-requires-clause-face : goal.set_bare-requires-clause-face
 set_bare-requires-clause-face c =
-    has_face c.args.records.now.graph c.args.records.now.faces.tables c.args.d c.cycle-cycle.result c.face-face.result _ c.requires.map.sound c.requires.dart c.cycle-cycle.ensures c.face-face.ensures
+    has_face c.args.records.now.graph c.args.records.now.faces.tables c.args.d c.cycle-cycle.result c.face-face.result _ c.requires.map.sound c.requires.dart c.cycle-cycle.ensures.cycle c.face-face.ensures.face
     (ap (λ (f : Faces). f.faces) c.set_dart.ensures.tables ∙ ap (λ (f : FacesView). f.tables.faces) c.close_up-names.ensures.faces)
 
 pub returns : goal.returns
@@ -32,7 +32,7 @@ returns c =
     let end = c.source-start.result in
     let twin : HasDart old.graph (twin_in old.graph d) = c.requires.map.sound.graph.twinned.has d c.requires.dart in
     let bared : bared_end old.graph d ≡ source_in old.graph d = ap (λ b. cond b (source_in old.graph d) (target_in old.graph d)) (ap (λ (z : DartId). z.0 == d.0) c.requires.source ∙ same_number d.0) in
-    let second : cycle_in f (twin_in old.graph d) ≡ cycle = sym (follower_on old.graph f (twin_in old.graph d) c.requires.map.sound twin) ∙ ap (cycle_in f) c.requires.source ∙ sym c.cycle-cycle.ensures in
+    let second : cycle_in f (twin_in old.graph d) ≡ cycle = sym (follower_on old.graph f (twin_in old.graph d) c.requires.map.sound twin) ∙ ap (cycle_in f) c.requires.source ∙ sym c.cycle-cycle.ensures.cycle in
     let faces = c.set_bare.ensures.spare in
     let faces' = c.set_dart.ensures.spare in
     unlink_made old c.close_up-names.new.records c.set_bare.new.self d m (Shrinks cycle face)
@@ -42,10 +42,10 @@ returns c =
     (c.set_bare.ensures.graph ∙ c.set_dart.ensures.graph)
     (c.set_bare.ensures.tables ∙ ap (bare_in end face) (c.set_dart.ensures.tables ∙ ap (λ (z : FacesView). z.tables) closed.faces))
     (λ i. bare_in ((c.source-start.ensures ∙ sym bared) i) face (off_cycles (closed.twin i) (off_cycles d f)))
-    (inl (c.requires.source, c.requires.target), sym c.cycle-cycle.ensures, c.face-face.ensures)
+    (inl (c.requires.source, c.requires.target), sym c.cycle-cycle.ensures.cycle, c.face-face.ensures.face)
     (c.set_bare.ensures.lists ∙ ap (vertex_listed end face) (c.set_dart.ensures.lists ∙ ap (λ z. dart_listed cycle c.next-stays.result (lists_in_view z)) closed.faces))
-    (λ graph. darts_on_all old.graph c.set_bare.new.self.graph f d m c.requires.map.sound c.requires.dart closed.twin graph (lists_of old) c.requires.map.darts cycle (sym c.cycle-cycle.ensures) (ap (cycle_in f) closed.twin ∙ second)
-    c.next-stays.result (subst (HasDart old.graph) (sym c.next-stays.ensures) (c.requires.map.sound.graph.linked.has d c.requires.dart)) (ap (cycle_in f) c.next-stays.ensures ∙ follower_on old.graph f d c.requires.map.sound c.requires.dart ∙ sym c.cycle-cycle.ensures) (λ e. not_after_itself old.graph d c.requires.map.sound.graph c.requires.dart (sym c.next-stays.ensures ∙ e)) (λ e. c.requires.target (sym c.next-stays.ensures ∙ e ∙ closed.twin)))
+    (λ graph. darts_on_all old.graph c.set_bare.new.self.graph f d m c.requires.map.sound c.requires.dart closed.twin graph (lists_of old) c.requires.map.darts cycle (sym c.cycle-cycle.ensures.cycle) (ap (cycle_in f) closed.twin ∙ second)
+    c.next-stays.result (subst (HasDart old.graph) (sym c.next-stays.ensures) (c.requires.map.sound.graph.linked.has d c.requires.dart)) (ap (cycle_in f) c.next-stays.ensures ∙ follower_on old.graph f d c.requires.map.sound c.requires.dart ∙ sym c.cycle-cycle.ensures.cycle) (λ e. not_after_itself old.graph d c.requires.map.sound.graph c.requires.dart (sym c.next-stays.ensures ∙ e)) (λ e. c.requires.target (sym c.next-stays.ensures ∙ e ∙ closed.twin)))
     (record {
       spare_cycles = let e = ap (λ (z : FacesView). z.spare_cycles) closed.faces in omega (arith, faces.of_cycles, faces'.of_cycles, e);
       spare_faces = let e = ap (λ (z : FacesView). z.spare_faces) closed.faces in omega (arith, faces.of_faces, faces'.of_faces, e);

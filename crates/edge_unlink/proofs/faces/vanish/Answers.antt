@@ -1,12 +1,28 @@
-use Rattle.std.proofs.Common.{◌≢◌, sym, ap, ◌∙◌, subst, arith, IsSome}
+use Rattle.std.proofs.Common.{◌≢◌, refl, sym, ap, ◌∙◌, subst, arith, IsSome}
 use Rattle.slab_laws.specs.View.{View, Faces, HasVertex, cycle_in, source_in, target_in, twin_in}
+use Rattle.slab_laws.specs.FacesSound.{IsSound}
+use Rattle.arr_notes.specs.FaceSteps.{step_faces}
+use Rattle.arr_notes.specs.FacesTold.{unlinked_faces}
 use Rattle.arr_notes.specs.FaceWriters.{off_cycles, without_cycle, bare_in}
 use Rattle.arr_notes.specs.declared.faces.Unlinked.TheVariants.{Vanishes}
 use Rattle.dcel_records.specs.ListChanges.{cycle_unlisted, vertex_listed}
 use Rattle.dcel_records.specs.RecordsView.{GraphView, FacesView, lists_in_view, lists_of}
 use Rattle.sound_changes.proofs.EdgeRemoved.{fewer}
-use Rattle.edge_unlink.proofs.UnlinkedMaps.{unlink_made, not_isolated, other_not_isolated, has_target, has_face, follower_on, darts_on_others}
+use Rattle.edge_unlink.proofs.UnlinkedMaps.{unlink_made, unlinked_is_sound, none_on, not_isolated, other_not_isolated, has_target, has_face, follower_on, darts_on_others}
 use Rattle.edge_unlink.proofs.faces.vanish.Goals as goal
+
+pub remove_cycle-requires-clause-off : goal.remove_cycle-requires-clause-off
+remove_cycle-requires-clause-off c =
+    let v : View = c.args.records.now.graph in
+    let f : Faces = c.args.records.now.faces.tables in
+    let d = c.args.d in
+    let cycle = c.cycle-cycle.result in
+    let closed = c.close_up-names.ensures in
+    let w = c.close_up-names.new.records.graph in
+    let told = Vanishes cycle c.face-face.result in
+    let s : Faces = step_faces w f (unlinked_faces v d told) in
+    let sound : IsSound w s = unlinked_is_sound v w f s d c.close_up-names.result.m told c.requires.map.sound c.requires.dart closed.twin closed.graph closed.sound refl (c.requires.source, c.requires.target, sym c.cycle-cycle.ensures.cycle, c.face-face.ensures.face) in
+    λ k o e. none_on w s cycle f.cycles sound refl c.requires.map.sound.complete.cycles_ascend k o (sym (ap (λ (z : FacesView). cycle_in z.tables k) closed.faces ∙ (λ i. cycle_in (off_cycles (closed.twin i) (off_cycles d f)) k)) ∙ e)
 
 pub set_bare-requires-clause-elsewhere : goal.set_bare-requires-clause-elsewhere
 set_bare-requires-clause-elsewhere c =
@@ -15,7 +31,7 @@ set_bare-requires-clause-elsewhere c =
 
 pub set_bare-requires-clause-face : goal.set_bare-requires-clause-face
 set_bare-requires-clause-face c =
-    has_face c.args.records.now.graph c.args.records.now.faces.tables c.args.d c.cycle-cycle.result c.face-face.result _ c.requires.map.sound c.requires.dart c.cycle-cycle.ensures c.face-face.ensures
+    has_face c.args.records.now.graph c.args.records.now.faces.tables c.args.d c.cycle-cycle.result c.face-face.result _ c.requires.map.sound c.requires.dart c.cycle-cycle.ensures.cycle c.face-face.ensures.face
     (ap (λ (f : Faces). f.faces) c.remove_cycle.ensures.tables ∙ ap (λ (f : FacesView). f.tables.faces) c.close_up-names.ensures.faces)
 
 pub set_bare-requires-2-clause-vertex : goal.set_bare-requires-2-clause-vertex
@@ -34,7 +50,7 @@ set_bare-requires-2-clause-elsewhere c =
 
 pub set_bare-requires-2-clause-face : goal.set_bare-requires-2-clause-face
 set_bare-requires-2-clause-face c =
-    has_face c.args.records.now.graph c.args.records.now.faces.tables c.args.d c.cycle-cycle.result c.face-face.result _ c.requires.map.sound c.requires.dart c.cycle-cycle.ensures c.face-face.ensures
+    has_face c.args.records.now.graph c.args.records.now.faces.tables c.args.d c.cycle-cycle.result c.face-face.result _ c.requires.map.sound c.requires.dart c.cycle-cycle.ensures.cycle c.face-face.ensures.face
     (ap (λ (f : Faces). f.faces) (c.set_bare.ensures.tables ∙ ap (bare_in c.source-u.result c.face-face.result) c.remove_cycle.ensures.tables) ∙ ap (λ (f : FacesView). f.tables.faces) c.close_up-names.ensures.faces)
 
 pub returns : goal.returns
@@ -56,10 +72,10 @@ returns c =
     (c.set_bare-2.ensures.graph ∙ c.set_bare.ensures.graph ∙ c.remove_cycle.ensures.graph)
     (c.set_bare-2.ensures.tables ∙ ap (bare_in c.target-v.result face) (c.set_bare.ensures.tables ∙ ap (bare_in c.source-u.result face) (c.remove_cycle.ensures.tables ∙ ap (λ (z : FacesView). without_cycle cycle z.tables) closed.faces)))
     (λ i. bare_in (c.target-v.ensures i) face (bare_in (c.source-u.ensures i) face (without_cycle cycle (off_cycles (closed.twin i) (off_cycles d f)))))
-    (c.requires.source, c.requires.target, sym c.cycle-cycle.ensures, c.face-face.ensures)
+    (c.requires.source, c.requires.target, sym c.cycle-cycle.ensures.cycle, c.face-face.ensures.face)
     (c.set_bare-2.ensures.lists ∙ ap (vertex_listed c.target-v.result face) (c.set_bare.ensures.lists ∙ ap (vertex_listed c.source-u.result face) (c.remove_cycle.ensures.lists ∙ ap (λ z. cycle_unlisted cycle (lists_in_view z)) closed.faces)))
-    (λ graph. darts_on_others old.graph c.set_bare-2.new.self.graph f d m c.requires.map.sound c.requires.dart closed.twin graph (lists_of old) c.requires.map.darts cycle (sym c.cycle-cycle.ensures)
-    (ap (cycle_in f) (closed.twin ∙ sym c.requires.target) ∙ follower_on old.graph f d c.requires.map.sound c.requires.dart ∙ sym c.cycle-cycle.ensures))
+    (λ graph. darts_on_others old.graph c.set_bare-2.new.self.graph f d m c.requires.map.sound c.requires.dart closed.twin graph (lists_of old) c.requires.map.darts cycle (sym c.cycle-cycle.ensures.cycle)
+    (ap (cycle_in f) (closed.twin ∙ sym c.requires.target) ∙ follower_on old.graph f d c.requires.map.sound c.requires.dart ∙ sym c.cycle-cycle.ensures.cycle))
     (record {
       spare_cycles = let e = ap (λ (z : FacesView). z.spare_cycles) closed.faces in omega (arith, faces.of_cycles, faces'.of_cycles, faces''.of_cycles, e);
       spare_faces = let e = ap (λ (z : FacesView). z.spare_faces) closed.faces in omega (arith, faces.of_faces, faces'.of_faces, faces''.of_faces, e);

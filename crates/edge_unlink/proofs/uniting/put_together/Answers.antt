@@ -21,6 +21,9 @@ put_run-requires-clause-to c =
     let e = ends v c.args.records.now.faces.tables c.args.d c.args.on_gone c.args.on_kept _ _ c.requires.map.sound c.requires.dart c.requires.sides c.requires.two refl refl in
     subst (λ g. HasDart g c.next-to.result) (sym graph) (subst (HasDart (remove_edge v c.args.d (twin_in v c.args.d))) (sym c.next-to.ensures) e.1)
 
+pub put_run-requires-clause-cycle : goal.put_run-requires-clause-cycle
+put_run-requires-clause-cycle c = subst (λ (f : FacesView). HasCycle f.tables c.cycle-kept.result) (sym c.close_up.ensures.faces) c.cycle-kept.ensures.has
+
 pub put_run-requires-clause-together : goal.put_run-requires-clause-together
 put_run-requires-clause-together c =
     let v : View = c.args.records.now.graph in
@@ -35,10 +38,10 @@ set_dart-requires c =
     let closed = c.close_up.ensures in
     let run = c.put_run.ensures.run in
     let put = written v f c.args.d c.args.on_gone c.args.on_kept _ _ c.requires.map.sound c.requires.dart c.requires.sides c.requires.two refl refl
-    c.close_up.new.records.graph c.put_run.new.records.faces.tables c.close_up.result.m c.next-from.result c.next-to.result c.cycle-kept.result run.0 closed.graph closed.twin c.next-from.ensures c.next-to.ensures c.cycle-kept.ensures
+    c.close_up.new.records.graph c.put_run.new.records.faces.tables c.close_up.result.m c.next-from.result c.next-to.result c.cycle-kept.result run.0 closed.graph closed.twin c.next-from.ensures c.next-to.ensures c.cycle-kept.ensures.cycle
     (ap (λ (z : FacesView). z.tables) run.2 ∙ ap (λ (z : FacesView). all_on run.0 c.cycle-kept.result z.tables) closed.faces) run.1
     in
-    subst (λ (z : Faces). HasCycle z c.cycle-kept.result) (sym put) (cycle_kept v f c.args.d c.args.on_gone c.args.on_kept _ c.cycle-kept.result c.requires.map.sound c.requires.dart c.requires.sides c.requires.two refl c.cycle-kept.ensures)
+    subst (λ (z : Faces). HasCycle z c.cycle-kept.result) (sym put) (cycle_kept v f c.args.d c.args.on_gone c.args.on_kept _ c.cycle-kept.result c.requires.map.sound c.requires.dart c.requires.sides c.requires.two refl c.cycle-kept.ensures.cycle)
 
 pub returns-clause-tables : goal.returns-clause-tables
 returns-clause-tables c =
@@ -46,5 +49,5 @@ returns-clause-tables c =
     let run = c.put_run.ensures.run in
     c.set_dart.ensures.tables
     ∙ written c.args.records.now.graph c.args.records.now.faces.tables c.args.d c.args.on_gone c.args.on_kept _ _ c.requires.map.sound c.requires.dart c.requires.sides c.requires.two refl refl
-    c.close_up.new.records.graph c.put_run.new.records.faces.tables c.close_up.result.m c.next-from.result c.next-to.result c.cycle-kept.result run.0 closed.graph closed.twin c.next-from.ensures c.next-to.ensures c.cycle-kept.ensures
+    c.close_up.new.records.graph c.put_run.new.records.faces.tables c.close_up.result.m c.next-from.result c.next-to.result c.cycle-kept.result run.0 closed.graph closed.twin c.next-from.ensures c.next-to.ensures c.cycle-kept.ensures.cycle
     (ap (λ (z : FacesView). z.tables) run.2 ∙ ap (λ (z : FacesView). all_on run.0 c.cycle-kept.result z.tables) closed.faces) run.1

@@ -4,7 +4,7 @@ use Rattle.slab_laws.specs.declared.names.CycleId.{CycleId}
 use Rattle.slab_laws.specs.declared.names.FaceId.{FaceId}
 use Rattle.slab_laws.specs.declared.names.VertexId.{VertexId}
 use Rattle.slab_laws.specs.FaceLists.{Lists, MovedView}
-use Rattle.slab_laws.specs.View.{View, Faces, HasVertex, HasCycle}
+use Rattle.slab_laws.specs.View.{View, Faces, HasVertex, HasDart, HasCycle, cycle_in}
 use Rattle.arr_notes.specs.FaceWriters.{moved_to, without_cycle, without_face}
 use Rattle.dcel_records.specs.ListChanges.{cycle_unlisted}
 use Rattle.dcel_records.specs.RecordsView.{FacesView, GraphView, graph_part, lists_in_view, lists_of}
@@ -33,8 +33,8 @@ move_isolated-requires-clause-room c =
 abbrev emptied : View → CycleId → FaceId → FaceId → FacesView → Faces
 emptied v gone from to f = moved_to (cycles_taken v All gone (lists_in_view f) from) (vertices_taken v All (lists_in_view f) from) to f.tables
 
-pub remove_cycle-requires : goal.remove_cycle-requires
-remove_cycle-requires c =
+pub remove_cycle-requires-clause-cycle : goal.remove_cycle-requires-clause-cycle
+remove_cycle-requires-clause-cycle c =
     let v : View = c.args.records.now.graph in
     let f : FacesView = c.args.records.now.faces in
     let moved : c.move_isolated.new.records.faces.tables ≡ emptied v c.args.gone c.args.from c.args.to f =
@@ -42,6 +42,17 @@ remove_cycle-requires c =
     c.take_moved-moved.ensures.faces c.move_cycles.ensures.tables c.move_cycles.ensures.bare c.move_isolated.ensures.tables
     in
     subst (λ (s : Faces). HasCycle s c.args.gone) (sym moved) (still_there f.tables c.args.gone c.args.to _ (vertices_taken v All (lists_in_view f) c.args.from) c.face_laws.ensures.cycles_ascend c.args.gone c.requires.gone)
+
+pub remove_cycle-requires-clause-off : goal.remove_cycle-requires-clause-off
+remove_cycle-requires-clause-off c =
+    let v : View = c.args.records.now.graph in
+    let f : FacesView = c.args.records.now.faces in
+    let moved : c.move_isolated.new.records.faces.tables ≡ emptied v c.args.gone c.args.from c.args.to f =
+    both_moved v c.args.gone c.args.from c.args.to f c.take_moved-moved.new.self.faces c.move_cycles.new.records.faces.tables c.move_isolated.new.records.faces.tables (lists_of c.move_cycles.new.records)
+    c.take_moved-moved.ensures.faces c.move_cycles.ensures.tables c.move_cycles.ensures.bare c.move_isolated.ensures.tables
+    in
+    let graph = c.move_isolated.ensures.graph ∙ c.move_cycles.ensures.graph ∙ c.take_moved-moved.ensures.graph in
+    λ k o e. c.requires.off k (subst (λ (g : GraphView). HasDart g.graph k) graph o) (sym (ap (λ (s : Faces). cycle_in s k) moved) ∙ e)
 
 pub remove_face-requires-clause-cycles : goal.remove_face-requires-clause-cycles
 remove_face-requires-clause-cycles c =

@@ -8,20 +8,20 @@ use Rattle.face_location.proofs.PointFaces.{first_is_least, over_dart, far_outsi
 use Rattle.face_location.proofs.face.face_at.Goals as goal
 
 pub face-requires : goal.face-requires
-face-requires c = subst (HasCycle (tables_of c.args.records.now)) (sym c.cycle.ensures) (c.requires.map.sound.complete.cycle_has c.in-Some.dart c.in-Some.ensures.seen.0.0)
+face-requires c = subst (HasCycle (tables_of c.args.records.now)) (sym c.cycle.ensures.cycle) (c.requires.map.sound.complete.cycle_has c.in-Some.dart c.in-Some.ensures.seen.0.0)
 
 pub returns-in-Some-clause-face : goal.returns-in-Some-clause-face
 returns-in-Some-clause-face c =
     let v = c.args.records.now.graph in
     let f = tables_of c.args.records.now in
-    subst (λ (a : FaceId). IsFaceRound v f a c.args.point.now) (sym (c.face.ensures ∙ ap (face_in f) c.cycle.ensures))
+    subst (λ (a : FaceId). IsFaceRound v f a c.args.point.now) (sym (c.face.ensures.face ∙ ap (face_in f) c.cycle.ensures.cycle))
     (over_dart v f c.args.point.now c.requires.map.sound.graph (point_is_proper c.args.point.now c.laws.ensures) c.requires.spot c.in-Some.dart c.in-Some.ensures)
 
 pub returns-in-Some-clause-has : goal.returns-in-Some-clause-has
 returns-in-Some-clause-has c =
     let f = tables_of c.args.records.now in
     let full = c.requires.map.sound.complete in
-    subst (HasFace f) (sym (c.face.ensures ∙ ap (face_in f) c.cycle.ensures)) (full.face_has (cycle_in f c.in-Some.dart) (full.cycle_has c.in-Some.dart c.in-Some.ensures.seen.0.0))
+    subst (HasFace f) (sym (c.face.ensures.face ∙ ap (face_in f) c.cycle.ensures.cycle)) (full.face_has (cycle_in f c.in-Some.dart) (full.cycle_has c.in-Some.dart c.in-Some.ensures.seen.0.0))
 
 pub returns-in-None-clause-face : goal.returns-in-None-clause-face
 returns-in-None-clause-face c =

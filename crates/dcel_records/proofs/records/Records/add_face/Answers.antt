@@ -9,6 +9,7 @@ invariant_of-self c = record {
   faces = face_more_sound c.self.inside.vertices c.self.inside.darts c.self.inside.cycles c.self.inside.faces c.self.inside.moved c.self.inside.vertex_room c.self.inside.cycle_room _ c.self.view_is c.self.invariant.faces c.insert_reserved.new.self c.insert_reserved.result c.no_rows_of_face.result c.insert_reserved.ensures.was_vacant c.insert_reserved.ensures.updates c.no_rows_of_face.ensures.cycle c.no_rows_of_face.ensures.bare;
   vertex_room = c.self.invariant.vertex_room;
   cycle_room = c.self.invariant.cycle_room;
+  on_cycles = c.self.invariant.on_cycles;
   moved = c.self.invariant.moved;
 }
 

@@ -7,6 +7,8 @@ use Rattle.slab_laws.specs.View.{dart_id}
 use Rattle.dcel_records.proofs.Holding.{vertex_key}
 use Rattle.dcel_records.proofs.Adding.{offered_key, edge_written, written_kept, no_d, no_m}
 use Rattle.dcel_records.proofs.Pins.{pins_kept}
+use Rattle.dcel_records.proofs.OnCycles.{on_pair}
+use Rattle.dcel_records.proofs.CyclesWritten.{cycle_key}
 use Rattle.dcel_records.proofs.records.Records.add_pair_on.Goals as goal
 
 pub give_out-requires : goal.give_out-requires
@@ -28,6 +30,7 @@ invariant_of-self c = record {
   faces = faces_sound c.self.inside.vertices c.self.inside.darts c.self.inside.cycles c.self.inside.faces c.self.inside.moved c.self.inside.vertex_room c.self.inside.cycle_room c.args.self.now c.self.view_is c.self.invariant.faces c.give_out-2.new.vertices (λ n. nodes_given (dart_id c.insert_reserved-m.result) c.give_out.new.vertices c.give_out-2.new.vertices c.args.v.0 c.give_out-2.ensures.row n ∙ nodes_given (dart_id c.insert_reserved-d.result) c.self.inside.vertices c.give_out.new.vertices c.args.u.0 c.give_out.ensures.row n);
   vertex_room = room_same c.self.inside.vertex_room c.self.inside.vertices c.give_out-2.new.vertices c.self.invariant.vertex_room (c.give_out-2.ensures.len ∙ c.give_out.ensures.len) (c.give_out-2.ensures.capacity ∙ c.give_out.ensures.capacity);
   cycle_room = c.self.invariant.cycle_room;
+  on_cycles = on_pair c.self.inside.darts c.insert_reserved-d.new.self c.insert_reserved-m.new.self c.self.inside.cycles c.insert_reserved-d.result c.insert_reserved-m.result _ _ c.index_mut-dart.result.now _ c.insert_reserved-d.ensures.updates c.insert_reserved-m.ensures.updates c.index_mut-dart.ensures.value refl refl (cycle_key c.self.inside.vertices c.self.inside.darts c.self.inside.cycles c.self.inside.faces c.self.inside.moved c.self.inside.vertex_room c.self.inside.cycle_room _ c.self.view_is c.self.invariant.faces c.args.cycle c.requires.cycle) c.self.invariant.on_cycles;
   moved = c.self.invariant.moved;
 }
 

@@ -21,6 +21,7 @@ invariant_of-self c = record {
       let r = c.requires in
       room_more c.self.inside.vertex_room c.self.inside.vertices c.insert_reserved.new.self c.self.invariant.vertex_room (omega arith) c.insert_reserved.ensures.len c.insert_reserved.ensures.capacity;
   cycle_room = c.self.invariant.cycle_room;
+  on_cycles = c.self.invariant.on_cycles;
   moved = c.self.invariant.moved;
 }
 

@@ -32,6 +32,7 @@ invariant_of-self c = record {
   faces = faces_sound c.self.inside.vertices c.self.inside.darts c.self.inside.cycles c.self.inside.faces c.self.inside.moved c.self.inside.vertex_room c.self.inside.cycle_room c.args.self.now c.self.view_is c.self.invariant.faces _ (nodes_written c.self.inside.vertices _ _ _ c.index_mut.ensures.value refl);
   vertex_room = room_same c.self.inside.vertex_room c.self.inside.vertices _ c.self.invariant.vertex_room (len_written c.self.inside.vertices _ _ _ c.index_mut.ensures.value) refl;
   cycle_room = c.self.invariant.cycle_room;
+  on_cycles = c.self.invariant.on_cycles;
   moved = c.self.invariant.moved;
 }
 

@@ -1,4 +1,4 @@
-use Rattle.dcel_records.proofs.FaceLaws.{faces_listed, unbounded_there, cycle_face_there, bare_face_there, cycles_within, vertices_within, cycle_names, face_names, cycle_of_names, bare_names}
+use Rattle.dcel_records.proofs.FaceLaws.{faces_listed, unbounded_there, cycles_within, vertices_within, cycle_names, face_names, cycle_of_names, bare_names}
 use Rattle.dcel_records.proofs.records.Records.face_laws.Goals as goal
 
 pub returns-clause-listed : goal.returns-clause-listed
@@ -6,12 +6,6 @@ returns-clause-listed c = faces_listed c.self.inside.vertices c.self.inside.dart
 
 pub returns-clause-unbounded : goal.returns-clause-unbounded
 returns-clause-unbounded c = unbounded_there c.self.inside.vertices c.self.inside.darts c.self.inside.cycles c.self.inside.faces c.self.inside.moved c.self.inside.vertex_room c.self.inside.cycle_room _ c.self.view_is c.self.invariant.faces
-
-pub returns-clause-cycle_faces : goal.returns-clause-cycle_faces
-returns-clause-cycle_faces c = cycle_face_there c.self.inside.vertices c.self.inside.darts c.self.inside.cycles c.self.inside.faces c.self.inside.moved c.self.inside.vertex_room c.self.inside.cycle_room _ c.self.view_is c.self.invariant.faces
-
-pub returns-clause-bare_faces : goal.returns-clause-bare_faces
-returns-clause-bare_faces c = bare_face_there c.self.inside.vertices c.self.inside.darts c.self.inside.cycles c.self.inside.faces c.self.inside.moved c.self.inside.vertex_room c.self.inside.cycle_room _ c.self.view_is c.self.invariant.faces
 
 pub returns-clause-cycles_fit : goal.returns-clause-cycles_fit
 returns-clause-cycles_fit c = cycles_within c.self.inside.vertices c.self.inside.darts c.self.inside.cycles c.self.inside.faces c.self.inside.moved c.self.inside.vertex_room c.self.inside.cycle_room _ c.self.view_is c.self.invariant.cycle_room

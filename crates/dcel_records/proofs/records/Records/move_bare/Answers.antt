@@ -30,6 +30,7 @@ invariant_of-self c =
       faces = moved_sound c.self.inside.vertices c.self.inside.darts c.self.inside.cycles c.self.inside.faces c.self.inside.moved c.self.inside.vertex_room c.self.inside.cycle_room _ c.self.view_is c.self.invariant.faces c.args.v c.unlink.new.rows c.unlink.new.faces c.unlink.ensures c.args.face c.link_first.new.rows c.link_first.new.faces c.link_first.ensures;
       vertex_room = room_same c.self.inside.vertex_room c.self.inside.vertices c.link_first.new.rows c.self.invariant.vertex_room b.len b.capacity;
       cycle_room = c.self.invariant.cycle_room;
+      on_cycles = c.self.invariant.on_cycles;
       moved = c.self.invariant.moved;
     }
 

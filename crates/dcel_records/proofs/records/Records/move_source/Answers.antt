@@ -7,6 +7,7 @@ use Rattle.dcel_records.proofs.Holding.{dart_key, source_is}
 use Rattle.dcel_records.proofs.Removing.{source_key}
 use Rattle.dcel_records.proofs.Writing.{source_graph, source_kept}
 use Rattle.dcel_records.proofs.Pins.{pins_kept}
+use Rattle.dcel_records.proofs.OnCycles.{on_same}
 use Rattle.dcel_records.proofs.records.Records.move_source.Goals as goal
 
 pub index-requires : goal.index-requires
@@ -23,6 +24,7 @@ invariant_of-self c = record {
   faces = faces_sound c.self.inside.vertices c.self.inside.darts c.self.inside.cycles c.self.inside.faces c.self.inside.moved c.self.inside.vertex_room c.self.inside.cycle_room c.args.self.now c.self.view_is c.self.invariant.faces _ (nodes_written c.self.inside.vertices _ _ _ c.index_mut-2.ensures.value refl);
   vertex_room = room_same c.self.inside.vertex_room c.self.inside.vertices _ c.self.invariant.vertex_room (len_written c.self.inside.vertices _ _ _ c.index_mut-2.ensures.value) refl;
   cycle_room = c.self.invariant.cycle_room;
+  on_cycles = on_same c.self.inside.darts c.self.inside.cycles c.args.d.0 c.index_mut.result.now _ c.index_mut.ensures.value refl c.self.invariant.on_cycles;
   moved = c.self.invariant.moved;
 }
 

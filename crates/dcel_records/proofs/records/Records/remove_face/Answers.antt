@@ -11,6 +11,7 @@ invariant_of-self c = record {
   faces = face_less_sound c.self.inside.vertices c.self.inside.darts c.self.inside.cycles c.self.inside.faces c.self.inside.moved c.self.inside.vertex_room c.self.inside.cycle_room _ c.self.view_is c.self.invariant.faces c.remove.new.self c.args.face c.remove.ensures.updates c.requires.cycles c.requires.bare c.requires.bounded;
   vertex_room = c.self.invariant.vertex_room;
   cycle_room = c.self.invariant.cycle_room;
+  on_cycles = c.self.invariant.on_cycles;
   moved = c.self.invariant.moved;
 }
 

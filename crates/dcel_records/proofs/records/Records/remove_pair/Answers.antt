@@ -9,6 +9,7 @@ use Rattle.dcel_records.proofs.Holding.{dart_key, source_is, twin_is}
 use Rattle.dcel_records.proofs.Removing.{key_written, len_out_twice, less_spare, source_key, twin_there, twin_source, target_key}
 use Rattle.dcel_records.proofs.Writing.{less_graph, less_kept}
 use Rattle.dcel_records.proofs.Pins.{pins_kept}
+use Rattle.dcel_records.proofs.OnCycles.{on_less}
 use Rattle.dcel_records.proofs.records.Records.remove_pair.Goals as goal
 
 pub remove-dart-requires : goal.remove-dart-requires
@@ -41,6 +42,7 @@ invariant_of-self c = record {
   faces = faces_sound c.self.inside.vertices c.self.inside.darts c.self.inside.cycles c.self.inside.faces c.self.inside.moved c.self.inside.vertex_room c.self.inside.cycle_room c.args.self.now c.self.view_is c.self.invariant.faces _ (nodes_out_twice c.self.inside.vertices c.remove-dart.result.source.0 c.remove-twin.result.source.0 c.args.rest_u c.args.rest_v _ _ c.index_mut.ensures.value c.index_mut-2.ensures.value);
   vertex_room = room_same c.self.inside.vertex_room c.self.inside.vertices _ c.self.invariant.vertex_room (len_out_twice c.self.inside.vertices c.remove-dart.result.source.0 c.remove-twin.result.source.0 c.args.rest_u c.args.rest_v _ _ c.index_mut.ensures.value c.index_mut-2.ensures.value) refl;
   cycle_room = c.self.invariant.cycle_room;
+  on_cycles = on_less c.remove-dart.new.self c.remove-twin.new.self c.self.inside.cycles _ c.remove-twin.ensures.updates (on_less c.self.inside.darts c.remove-dart.new.self c.self.inside.cycles _ c.remove-dart.ensures.updates c.self.invariant.on_cycles);
   moved = c.self.invariant.moved;
 }
 

@@ -38,6 +38,7 @@ invariant_of-self c = record {
   faces = gone_sound c.self.inside.vertices c.self.inside.darts c.self.inside.cycles c.self.inside.faces c.self.inside.moved c.self.inside.vertex_room c.self.inside.cycle_room _ c.self.view_is c.self.invariant.faces c.args.v c.leave_face.new.vertices c.leave_face.new.faces c.leave_face.ensures c.remove-vertex.new.self c.remove-vertex.ensures.updates;
   vertex_room = room_less c.self.inside.vertex_room c.self.inside.vertices c.remove-vertex.new.self c.self.invariant.vertex_room (c.remove-vertex.ensures.len ∙ c.leave_face.ensures.kept.len) (c.remove-vertex.ensures.capacity ∙ c.leave_face.ensures.kept.capacity);
   cycle_room = c.self.invariant.cycle_room;
+  on_cycles = c.self.invariant.on_cycles;
   moved = c.self.invariant.moved;
 }
 
@@ -54,6 +55,7 @@ invariant_of-self-else-vertex c = record {
   faces = gone_sound c.self.inside.vertices c.self.inside.darts c.self.inside.cycles c.self.inside.faces c.self.inside.moved c.self.inside.vertex_room c.self.inside.cycle_room _ c.self.view_is c.self.invariant.faces c.args.v c.leave_face.new.vertices c.leave_face.new.faces c.leave_face.ensures c.remove-vertex.new.self c.remove-vertex.ensures.updates;
   vertex_room = room_less c.self.inside.vertex_room c.self.inside.vertices c.remove-vertex.new.self c.self.invariant.vertex_room (c.remove-vertex.ensures.len ∙ c.leave_face.ensures.kept.len) (c.remove-vertex.ensures.capacity ∙ c.leave_face.ensures.kept.capacity);
   cycle_room = c.self.invariant.cycle_room;
+  on_cycles = c.self.invariant.on_cycles;
   moved = c.self.invariant.moved;
 }
 

@@ -5,6 +5,7 @@ use Rattle.dcel_records.specs.ListChanges.{dart_listed}
 use Rattle.dcel_records.proofs.Relinked.{lists_after}
 use Rattle.dcel_records.proofs.Removing.{len_written}
 use Rattle.dcel_records.proofs.CyclesWritten.{cycle_key, dart_sound, dart_tables, dart_lists}
+use Rattle.dcel_records.proofs.OnCycles.{on_written}
 use Rattle.dcel_records.proofs.records.Records.set_dart.Goals as goal
 
 pub index_mut-requires : goal.index_mut-requires
@@ -16,6 +17,7 @@ invariant_of-self c = record {
   faces = dart_sound c.self.inside.vertices c.self.inside.darts c.self.inside.cycles c.self.inside.faces c.self.inside.moved c.self.inside.vertex_room c.self.inside.cycle_room _ c.self.view_is c.self.invariant.faces c.args.c.0 c.index_mut.result.now _ c.index_mut.ensures.value refl refl;
   vertex_room = c.self.invariant.vertex_room;
   cycle_room = room_same c.self.inside.cycle_room c.self.inside.cycles _ c.self.invariant.cycle_room (len_written c.self.inside.cycles _ _ _ c.index_mut.ensures.value) refl;
+  on_cycles = on_written c.self.inside.darts c.self.inside.cycles c.args.c.0 c.index_mut.result.now _ c.index_mut.ensures.value c.self.invariant.on_cycles;
   moved = c.self.invariant.moved;
 }
 

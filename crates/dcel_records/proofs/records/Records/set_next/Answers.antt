@@ -4,6 +4,7 @@ use Rattle.std.proofs.Common.{refl}
 use Rattle.dcel_records.proofs.Holding.{dart_key}
 use Rattle.dcel_records.proofs.Writing.{next_graph, next_kept}
 use Rattle.dcel_records.proofs.Pins.{pins_kept}
+use Rattle.dcel_records.proofs.OnCycles.{on_same}
 use Rattle.dcel_records.proofs.records.Records.set_next.Goals as goal
 
 pub index_mut-requires : goal.index_mut-requires
@@ -16,6 +17,7 @@ invariant_of-self c = record {
   faces = faces_sound c.self.inside.vertices c.self.inside.darts c.self.inside.cycles c.self.inside.faces c.self.inside.moved c.self.inside.vertex_room c.self.inside.cycle_room c.args.self.now c.self.view_is c.self.invariant.faces c.self.inside.vertices (λ n. refl);
   vertex_room = c.self.invariant.vertex_room;
   cycle_room = c.self.invariant.cycle_room;
+  on_cycles = on_same c.self.inside.darts c.self.inside.cycles c.args.d.0 c.index_mut.result.now _ c.index_mut.ensures.value refl c.self.invariant.on_cycles;
   moved = c.self.invariant.moved;
 }
 

@@ -1,7 +1,7 @@
 use Rattle.std.proofs.Common.{◌∙◌}
 use Rattle.dcel_records.proofs.Relinked.{face_key}
 use Rattle.dcel_records.proofs.ListsRead.{first_bare_read}
-use Rattle.dcel_records.proofs.records.Records.first_isolated_in.Goals as goal
+use Rattle.dcel_records.proofs.listing.RecordsFaceLists.first_isolated_in.Goals as goal
 
 pub index-requires : goal.index-requires
 index-requires c = face_key c.self.inside.vertices c.self.inside.darts c.self.inside.cycles c.self.inside.faces c.self.inside.moved c.self.inside.vertex_room c.self.inside.cycle_room _ c.self.view_is c.args.face c.requires

@@ -1,9 +1,0 @@
-use Rattle.std.proofs.Common.{sym, ap, ◌∙◌, option_copied}
-use Rattle.dcel_records.proofs.CycleColumn.{cycle_read}
-use Rattle.dcel_records.proofs.records.Records.kept_cycle.Goals as goal
-
-pub returns-in-None : goal.returns-in-None
-returns-in-None c = cycle_read c.self.inside.vertices c.self.inside.darts c.self.inside.cycles c.self.inside.faces c.self.inside.moved c.self.inside.vertex_room c.self.inside.cycle_room _ c.self.view_is c.args.d _ (sym c.get.ensures ∙ ap option_copied c.in-None.is)
-
-pub returns-in-Some : goal.returns-in-Some
-returns-in-Some c = cycle_read c.self.inside.vertices c.self.inside.darts c.self.inside.cycles c.self.inside.faces c.self.inside.moved c.self.inside.vertex_room c.self.inside.cycle_room _ c.self.view_is c.args.d _ (sym c.get.ensures ∙ ap option_copied c.in-Some.is)
