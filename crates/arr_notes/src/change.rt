@@ -1,6 +1,10 @@
+ghost use Rattle.std.specs.Prelude.{◌≡◌, IfOk};
+
 use crate::faces::{Linked, Unlinked};
 use exact_plane::{Line, Point};
+use no_memory::NoMemory;
 use slab_laws::{CurveId, DartId, FaceId, VertexId};
+use std::alloc::Global;
 
 /// A change that was made, told by the names of the records, so that a view needs nothing else to follow it (CGAL manual,
 /// `Arr_observer`: what is notified after a change).
@@ -72,4 +76,56 @@ pub enum Change {
     Clear {
         face: FaceId,
     },
+}
+
+impl Change {
+    /// The same once more, the spare room of its lists included.
+    ///
+    /// # Errors
+    ///
+    /// There was no memory for the lists.
+    pub fn copy(&self, alloc: Global) -> Result<Change, NoMemory>
+        ensures { IfOk result (λ c. c ≡ self.now) }
+    {
+        let copy = match *self {
+            Change::AddVertex { v, p, face } => Change::AddVertex { v, p, face },
+            Change::RemoveVertex { v } => Change::RemoveVertex { v },
+            Change::SplitEdge { d, v, p, n, m } => Change::SplitEdge { d, v, p, n, m },
+            Change::MergeEdge { v, d, n } => Change::MergeEdge { v, d, n },
+            Change::AddEdge {
+                d,
+                m,
+                u,
+                v,
+                at_u,
+                at_v,
+                line,
+                curve,
+                ref faces,
+            } => {
+                let faces = faces.copy(alloc)?;
+                Change::AddEdge {
+                    d,
+                    m,
+                    u,
+                    v,
+                    at_u,
+                    at_v,
+                    line,
+                    curve,
+                    faces,
+                }
+            }
+            Change::RemoveEdge { d, m, ref faces } => {
+                let faces = faces.copy(alloc)?;
+                Change::RemoveEdge { d, m, faces }
+            }
+            Change::AddCurve { d, curve } => Change::AddCurve { d, curve },
+            Change::RemoveCurve { d, curve } => Change::RemoveCurve { d, curve },
+            Change::SetPin { v } => Change::SetPin { v },
+            Change::ClearPin { v } => Change::ClearPin { v },
+            Change::Clear { face } => Change::Clear { face },
+        };
+        Ok(copy)
+    }
 }

@@ -1,4 +1,8 @@
+ghost use Rattle.std.specs.Prelude.{◌≡◌, IfOk};
+
+use no_memory::NoMemory;
 use slab_laws::{CycleId, DartId, FaceId, Moved};
+use std::alloc::Global;
 
 /// What becomes of cycles and faces where an edge comes, by the names of the records (CGAL manual, `Arr_observer`: what is
 /// notified of boundaries and faces; the list is this project's).
@@ -57,4 +61,84 @@ pub enum Unlinked {
         gone_face: FaceId,
         moved: Moved,
     },
+}
+
+impl Linked {
+    /// The same once more, the spare room of its lists included.
+    ///
+    /// # Errors
+    ///
+    /// There was no memory for the lists.
+    pub fn copy(&self, alloc: Global) -> Result<Linked, NoMemory>
+        ensures { IfOk result (λ l. l ≡ self.now) }
+    {
+        let copy = match self {
+            Linked::NewHole { cycle, face } => Linked::NewHole {
+                cycle: *cycle,
+                face: *face,
+            },
+            Linked::Grows { cycle } => Linked::Grows { cycle: *cycle },
+            Linked::Joins { kept, gone } => Linked::Joins {
+                kept: *kept,
+                gone: *gone,
+            },
+            Linked::Splits {
+                kept,
+                fresh,
+                fresh_dart,
+                fresh_face,
+                moved,
+            } => Linked::Splits {
+                kept: *kept,
+                fresh: *fresh,
+                fresh_dart: *fresh_dart,
+                fresh_face: *fresh_face,
+                moved: moved.copy(alloc)?,
+            },
+        };
+        Ok(copy)
+    }
+}
+
+impl Unlinked {
+    /// The same once more, the spare room of its lists included.
+    ///
+    /// # Errors
+    ///
+    /// There was no memory for the lists.
+    pub fn copy(&self, alloc: Global) -> Result<Unlinked, NoMemory>
+        ensures { IfOk result (λ u. u ≡ self.now) }
+    {
+        let copy = match self {
+            Unlinked::Vanishes { cycle, face } => Unlinked::Vanishes {
+                cycle: *cycle,
+                face: *face,
+            },
+            Unlinked::Shrinks { cycle, face } => Unlinked::Shrinks {
+                cycle: *cycle,
+                face: *face,
+            },
+            Unlinked::Breaks {
+                kept,
+                fresh,
+                fresh_dart,
+            } => Unlinked::Breaks {
+                kept: *kept,
+                fresh: *fresh,
+                fresh_dart: *fresh_dart,
+            },
+            Unlinked::Unites {
+                kept,
+                gone,
+                gone_face,
+                moved,
+            } => Unlinked::Unites {
+                kept: *kept,
+                gone: *gone,
+                gone_face: *gone_face,
+                moved: moved.copy(alloc)?,
+            },
+        };
+        Ok(copy)
+    }
 }

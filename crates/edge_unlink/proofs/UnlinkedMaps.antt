@@ -12,8 +12,8 @@ use Rattle.slab_laws.specs.Tables.{row_at, names, NamesAscend}
 use Rattle.slab_laws.specs.View.{View, CycleRecord, Faces, HasVertex, HasDart, HasCycle, HasFace, HasBareFace, source_in, target_in, twin_in, next_in, line_in, cycle_or, cycle_in, face_in, dart_id}
 use Rattle.arr_notes.specs.FaceSteps.{step_faces}
 use Rattle.arr_notes.specs.FaceWriters.{off_cycles, without_cycle}
-use Rattle.arr_notes.specs.NamedRows.{put, del}
 use Rattle.arr_notes.specs.FacesTold.{unlinked_faces}
+use Rattle.arr_notes.specs.NamedRows.{put, del}
 use Rattle.arr_notes.specs.Step.{remove_edge}
 use Rattle.arr_notes.specs.declared.faces.Unlinked.{Unlinked}
 use Rattle.arr_notes.proofs.Reading.{dart_number, vertex_number, none_there}

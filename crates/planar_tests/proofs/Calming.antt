@@ -4,7 +4,7 @@ use Rattle.std.specs.List.{AllByRecursion}
 use Rattle.std.proofs.lemmas.List.Elements.{recursion_from_All, All-from_recursion}
 use Rattle.slab_laws.specs.Tables.{row_at}
 use Rattle.arr_notes.specs.CurvedView.{CurvedView, IsSoundView}
-use Rattle.sound_changes.proofs.VertexAdded.{no_rows_sound}
+use Rattle.face_changes.proofs.SoundExamples.{views_that_are_sound}
 use Rattle.observer_bus.specs.Calls.{IsAttached, IsHeldSound, IsPlaced, is_seat_of, seats_left, with_leave, with_seats}
 use Rattle.observer_bus.specs.Rounds.{BusRow}
 use Rattle.observer_bus.specs.Seats.{SeatRow, Holds}
@@ -13,7 +13,7 @@ use Rattle.planar_tests.specs.Calm.{IsCalm, empty_view}
 pub empty_sound : IsSoundView empty_view
 unfolding row_at
 empty_sound = record {
-  graph = no_rows_sound;
+  map = views_that_are_sound.empty;
   curves = record {
     named = tt;
     row = λ d f. cc;

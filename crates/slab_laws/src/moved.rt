@@ -1,4 +1,4 @@
-ghost use Rattle.std.specs.Prelude.{◌≡◌, ◌<◌, ◌≤◌, ◌+◌, [], ◌∷◌, ◌++◌, length, IsOk, OnOk};
+ghost use Rattle.std.specs.Prelude.{◌≡◌, ◌<◌, ◌≤◌, ◌+◌, [], ◌∷◌, ◌++◌, length, IfOk, IsOk, OnOk, vec_capacity};
 
 use crate::names::{CycleId, VertexId};
 use no_memory::NoMemory;
@@ -19,6 +19,18 @@ impl Model for Moved {
     ghost Value = { MovedView };
 
     ghost view = { λ m. record { cycles = m.cycles.items; vertices = m.vertices.items; room_of_cycles = vec_capacity m.cycles; room_of_vertices = vec_capacity m.vertices } };
+}
+
+// The same items, with just as much room.
+fn copied<T: Copy + Drop>(alloc: Global, items: &Vec<T>) -> Result<Vec<T>, NoMemory>
+    ensures items { IfOk result (λ v. v.items ≡ items.now.items) }
+    ensures room { IfOk result (λ v. vec_capacity v ≡ vec_capacity items.now) }
+{
+    let mut copy = Vec::with_capacity(alloc, items.capacity())?;
+    for item in items {
+        copy.push_reserved(*item);
+    }
+    Ok(copy)
 }
 
 impl Moved {
@@ -93,5 +105,19 @@ impl Moved {
     {
         self.cycles.clear();
         self.vertices.clear();
+    }
+
+    /// The same lists once more, with just as much room.
+    ///
+    /// # Errors
+    ///
+    /// There was no memory for them.
+    pub fn copy(&self, alloc: Global) -> Result<Moved, NoMemory>
+        ensures { IfOk result (λ m. m ≡ self.now) }
+    {
+        Ok(Moved {
+            cycles: copied(alloc, &self.cycles)?,
+            vertices: copied(alloc, &self.vertices)?,
+        })
     }
 }

@@ -15,6 +15,7 @@ use Rattle.arr_notes.specs.declared.change.Change.{Change}
 use Rattle.arr_notes.specs.declared.change.Change.TheVariants.{AddVertex, RemoveVertex, SplitEdge, MergeEdge, AddEdge, RemoveEdge, AddCurve, RemoveCurve, SetPin, ClearPin, Clear}
 use Rattle.arr_notes.specs.Curves.{Curves, AreCurvesOf, IsForward, step_curves}
 use Rattle.arr_notes.specs.CurvedView.{AreListsOf, IsPlaceOut, IsSoundView, curve_rows, curves_or, step_rows}
+use Rattle.arr_notes.specs.FacesTold.{faces_after}
 use Rattle.arr_notes.specs.NamedRows.{put, del, edit}
 use Rattle.arr_notes.specs.Step.{step}
 use Rattle.arr_notes.proofs.CurveRows.{row_of, row_of_some, curves_of_row, curve_row, ascend_curve_rows, read_views_are_sound}
@@ -100,13 +101,13 @@ names_after rs (Clear face) up = tt
 
 -- ---- the view after a change
 pub changes_make_views : ChangesMakeViews
-changes_make_views v h k l c s a f t before after =
+changes_make_views v faces h k l c s a f t before after =
     let b : AreCurvesOf (step v c) (step_curves h c) = (changes_are_steps v h c s a f).curves in
     let up = ascend_curve_rows v h k a before s.named.darts in
     let rows : curve_rows (step v c) l ≡ step_rows (curve_rows v k) c =
     one_table _ _ (ascend_curve_rows (step v c) (step_curves h c) l b after t.named.darts) (names_after (curve_rows v k) c up)
     (λ n. curve_row (step v c) (step_curves h c) l b after n ∙ sym (rows_after v h a (curve_rows v k) up (curve_row v h k a before) c f b n)) in
-    λ i. record { graph = step v c; curves = rows i }
+    λ i. record { graph = step v c; faces = faces_after v faces c; curves = rows i }
 
 -- ---- it names what the view has, and new names
 place_out : (v : View) (u : VertexId) (o : Option DartId) (x : Dart) → IsPlaceFor v u o x → IsPlaceOut v u o
@@ -144,9 +145,9 @@ changes_fit_views v h (Clear face) s f = tt
 
 -- ---- what it makes of the view is sound
 pub changes_may_be_told : ChangesMayBeTold
-changes_may_be_told v h k c s a f t before =
+changes_may_be_told v faces h k c s a f t before =
     let l : DartId → List CurveId = λ d. map curve_id (step_curves h c d) in
     let after : AreListsOf (step v c) (step_curves h c) l = λ d o. numbers_of (step_curves h c d) in (
       changes_fit_views v h c s f,
-      subst IsSoundView (changes_make_views v h k l c s a f t before after) (read_views_are_sound (step v c) (step_curves h c) l t (changes_are_steps v h c s a f).curves after),
+      subst IsSoundView (changes_make_views v faces h k l c s a f t.graph before after) (read_views_are_sound (step v c) (faces_after v faces c) (step_curves h c) l t (changes_are_steps v h c s a f).curves after),
     )

@@ -1,10 +1,11 @@
 use exact_plane::{Line, Point};
 use no_memory::NoMemory;
-use slab_laws::{CurveId, Curved, DartId, Darts, VertexId};
+use slab_laws::{CurveId, Curved, CycleId, CycleKind, DartId, Darts, FaceId, Faced, VertexId};
 use std::alloc::Global;
 use std::cell::Cell;
 
-/// Records of the empty plane, which know whether somebody looked at them. A call that takes a name is never made: no name has a record.
+/// Records of the empty plane, which know whether somebody looked at them. A call that takes a name of a vertex, dart or cycle is never made:
+/// no name has a record.
 #[derive(Drop)]
 pub struct EmptyPlane {
     point: Point,
@@ -84,5 +85,39 @@ impl Curved for EmptyPlane {
 
     fn curves(&self, alloc: Global, _d: DartId) -> Result<Vec<CurveId>, NoMemory> {
         Ok(Vec::new(alloc))
+    }
+}
+
+#[tactic(auto, unfolding(slab_laws::specs::Tables::row_at, slab_laws::specs::Tables::name_after))]
+impl Faced for EmptyPlane {
+    ghost use Rattle.face_changes.specs.SoundExamples.{one_face};
+
+    ghost faces = { λ _. one_face };
+
+    fn cycle(&self, _d: DartId) -> CycleId {
+        CycleId(0)
+    }
+
+    fn face(&self, _c: CycleId) -> FaceId {
+        FaceId(0)
+    }
+
+    fn kind(&self, _c: CycleId) -> CycleKind {
+        CycleKind::Inner
+    }
+
+    fn bare_face(&self, _v: VertexId) -> FaceId {
+        FaceId(0)
+    }
+
+    fn cycle_after(&self, _c: Option<CycleId>) -> Option<CycleId> {
+        None
+    }
+
+    fn face_after(&self, f: Option<FaceId>) -> Option<FaceId> {
+        match f {
+            None => Some(FaceId(0)),
+            Some(_) => None,
+        }
     }
 }

@@ -27,7 +27,7 @@ fn copy_of(alloc: Global, note: &Note) -> Result<Note, NoMemory>
 {
     match note {
         Note::Before(intent) => Ok(Note::Before(*intent)),
-        Note::After(change) => Ok(Note::After(*change)),
+        Note::After(change) => Ok(Note::After(change.copy(alloc)?)),
         Note::Snapshot(view) => Ok(Note::Snapshot(view.copy(alloc)?)),
     }
 }

@@ -2,7 +2,7 @@ use Rattle.std.proofs.Common.{◌≢◌, refl, sym, ap, ◌∙◌, subst, arith,
 use Rattle.slab_laws.specs.View.{View, Faces, HasVertex, cycle_in, source_in, target_in, twin_in}
 use Rattle.slab_laws.specs.FacesSound.{IsSound}
 use Rattle.arr_notes.specs.FaceSteps.{step_faces}
-use Rattle.arr_notes.specs.NotedFaces.{unlinked_faces}
+use Rattle.arr_notes.specs.FacesTold.{unlinked_faces}
 use Rattle.arr_notes.specs.FaceWriters.{off_cycles, without_cycle, bare_in}
 use Rattle.arr_notes.specs.declared.faces.Unlinked.TheVariants.{Vanishes}
 use Rattle.dcel_records.specs.ListChanges.{cycle_unlisted, vertex_listed}
