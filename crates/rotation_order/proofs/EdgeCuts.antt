@@ -1,8 +1,8 @@
 -- The two parts of an edge at a point inside it.
 use Rattle.std.proofs.Common.{◌≡◌, true, false, arith, sym, ap, ◌∙◌, inl, inr, [], ◌∷◌}
-use Rattle.std.specs.Prelude.{ℤ, pos, ◌+ℤ◌, ◌-ℤ◌, ◌*ℤ◌, ◌<ℤ◌, ◌≤ℤ◌, not, ◌&&◌}
+use Rattle.std.specs.Prelude.{ℤ, pos, ◌+ℤ◌, ◌-ℤ◌, ◌*ℤ◌, ◌<ℤ◌, not, ◌&&◌}
 use Rattle.std.proofs.lemmas.Int.{ints}
-use Rattle.std.proofs.lemmas.Bool.{and_parts, not-true, or_cases, cases_Bool, false≢true, false_from_ne_true, true_from_ne_false}
+use Rattle.std.proofs.lemmas.Bool.{and_parts, not-true, cases_Bool, false≢true, false_from_ne_true, true_from_ne_false}
 use lib.Signed.{lt_z}
 use Rattle.integers.proofs.Reify.{ring, sides}
 use Rattle.exact_plane.specs.Point.{Point}
@@ -12,7 +12,7 @@ use Rattle.slab_laws.specs.Darts.{Dart, start, source, kind, ahead, back}
 use Rattle.slab_laws.specs.Rotation.{turn}
 use Rattle.slab_faces.proofs.Ints.{same_sign, zero_weak}
 use Rattle.slab_faces.proofs.Points.{before_weak, before_on_wall}
-use Rattle.slab_faces.proofs.Walls.{left_of-asym, left_of-before, left_of-after, run_positive, side-upper, side-lower, side_rises}
+use Rattle.slab_faces.proofs.Walls.{left_of-before, left_of-after, run_positive, side-upper, side-lower, side_rises}
 use Rattle.slab_faces.proofs.Next.{kind_zero, kind_two}
 use Rattle.rotation_order.specs.EdgeParts.{IsForwardEdge, lower_part, upper_part, IsParted}
 use Rattle.rotation_order.proofs.Factors.{zero_between, same_above, less_nothing, more_nothing}
