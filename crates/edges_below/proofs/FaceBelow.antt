@@ -13,6 +13,7 @@ use Rattle.slab_laws.specs.Meets.{SameFace, here, right}
 use Rattle.slab_laws.specs.Faces.{walls, wall_links, lowest_link, links}
 use Rattle.slab_laws.specs.Darts.{cell_by}
 use Rattle.slab_laws.specs.Subdivision.{first_cell}
+use Rattle.slab_faces.proofs.OverUnder.{on_neither, under_not_over}
 use Rattle.slab_faces.specs.PointLaws.{IsApart}
 use Rattle.slab_faces.proofs.Sums.{each, sum_by-same, sum_by-plus, fewer}
 use Rattle.slab_faces.proofs.Walls.{left_of-irrefl, left_of-asym, left_of-before, left_of-after, run_positive, over-lower}
@@ -31,8 +32,8 @@ use Rattle.slab_faces.proofs.InnerPoints.{no_sign}
 use Rattle.slab_faces.proofs.PointLemmas.{points_have_one_face}
 use Rattle.edges_below.specs.Highest.{IsSpanning, none_below, highest}
 use Rattle.edges_below.specs.FaceLaws.{FaceIsOverHighest}
-use Rattle.edges_below.proofs.Points.{before_left, before_lower, before_weak}
-use Rattle.edges_below.proofs.Seen.{under_not_over, neither, reaches}
+use Rattle.slab_faces.proofs.Points.{before_left, before_lower, before_weak}
+use Rattle.edges_below.proofs.Seen.{reaches}
 
 -- ---- the edges in the slab on the right of q, whether q is on a wall or not
 leb_not : (m n : ℕ) (b : Bool) → (b ≡ false → m ≤ n) → (b ≡ true → n < m) → leb m n ≡ not b
@@ -91,7 +92,7 @@ module _ (g : Skeleton) (q : Point) (plane : IsPlaneSkeleton g) (T : HasWeight q
         s,
         elim (cases_Bool (under f q)) [
           | inl h ↦ h
-          | inr h ↦ absurd (false≢true (sym (apart.from_edges f F) ∙ and_from _ _ (and_from _ _ from to) (no_sign (side f q) (neither f q o h))))
+          | inr h ↦ absurd (false≢true (sym (apart.from_edges f F) ∙ and_from _ _ (and_from _ _ from to) (no_sign (side f q) (on_neither f q o h))))
         ],
       )
     where

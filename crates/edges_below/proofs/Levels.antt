@@ -8,6 +8,7 @@ use Rattle.exact_plane.specs.Point.{Point}
 use Rattle.plane_graphs.specs.Graph.{Edge}
 use Rattle.slab_laws.specs.Skeleton.{Skeleton, HasWeight, left_of, below, IsPlaneSkeleton}
 use Rattle.slab_laws.specs.Slabs.{spans, slab_right}
+use Rattle.slab_faces.proofs.OverUnder.{under_out}
 use Rattle.slab_faces.proofs.EveryFace.{passing}
 use Rattle.slab_faces.proofs.Nudge.{right_inside, is_slab_right}
 use Rattle.slab_faces.proofs.Order.{gap-swap}
@@ -17,8 +18,8 @@ use Rattle.edges_below.specs.Above.{IsBeside}
 use Rattle.edges_below.specs.Highest.{IsHighestBelow, none_below, highest}
 use Rattle.edges_below.specs.Levels.{IsSeen, level, IsSeenAtMost, levels_to, LevelsTellHighest}
 use Rattle.edges_below.proofs.FaceBelow.{side_right, begins}
-use Rattle.edges_below.proofs.Points.{before_weak, before_asym}
-use Rattle.edges_below.proofs.Seen.{under_out, reaches}
+use Rattle.slab_faces.proofs.Points.{before_weak, before_asym}
+use Rattle.edges_below.proofs.Seen.{reaches}
 use Rattle.edges_below.proofs.Sides.{stays_below, stacked}
 
 module _ (g : Skeleton) (q : Point) (plane : IsPlaneSkeleton g) (T : HasWeight q) where

@@ -1,4 +1,3 @@
-pub mod Points
 pub mod Seen
 pub mod Uprights
 pub mod Sides

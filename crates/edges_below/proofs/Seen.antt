@@ -1,52 +1,19 @@
 -- What a point sees of the edges that span it.
 use Rattle.std.proofs.Common.{◌≡◌, true, false, arith, sym, ◌∙◌, inl, inr}
-use Rattle.std.specs.Prelude.{pos, ◌<ℤ◌, ◌≤ℤ◌}
+use Rattle.std.specs.Prelude.{pos}
 use Rattle.std.proofs.lemmas.Int.{ints}
 use Rattle.std.proofs.lemmas.Bool.{false≢true, false_from_ne_true, cases_Bool}
 use lib.IntN.{*ℤ-zero}
 use Rattle.exact_plane.specs.Point.{Point}
 use Rattle.plane_graphs.specs.Graph.{Edge}
-use Rattle.slab_laws.specs.Skeleton.{HasWeight, left_of, side, over, under}
+use Rattle.slab_laws.specs.Skeleton.{HasWeight, left_of, side, under}
 use Rattle.slab_faces.proofs.Ints.{zero_back}
+use Rattle.slab_faces.proofs.OverUnder.{under_not_over, under_out}
 use Rattle.slab_faces.proofs.Walls.{left_of-before, same_abscissa, over-upper}
 use Rattle.slab_faces.proofs.Cells.{not_right_trans}
 use Rattle.slab_faces.proofs.Along.{upright_side}
 use Rattle.edges_below.specs.Highest.{IsSpanning}
-use Rattle.edges_below.proofs.Points.{before_weak, before_on_wall}
-
--- ---- signs
-pub under_in : (e : Edge) (q : Point) → pos 0 <ℤ side e q → under e q ≡ true
-unfolding under
-under_in e q h = sym (omega (arith, ints))
-
-pub under_out : (e : Edge) (q : Point) → under e q ≡ true → pos 0 <ℤ side e q
-unfolding under
-under_out e q h = omega (arith, ints)
-
-pub not_under : (e : Edge) (q : Point) → under e q ≡ false → side e q ≤ℤ pos 0
-unfolding under
-not_under e q h = omega (arith, ints)
-
-pub over_in : (e : Edge) (q : Point) → side e q <ℤ pos 0 → over e q ≡ true
-unfolding over
-over_in e q h = sym (omega (arith, ints))
-
-pub over_out : (e : Edge) (q : Point) → over e q ≡ true → side e q <ℤ pos 0
-unfolding over
-over_out e q h = omega (arith, ints)
-
-pub not_over : (e : Edge) (q : Point) → over e q ≡ false → pos 0 ≤ℤ side e q
-unfolding over
-not_over e q h = omega (arith, ints)
-
--- what is under it is not over it
-pub under_not_over : (e : Edge) (q : Point) → under e q ≡ true → over e q ≡ false
-unfolding over
-under_not_over e q h = let k = under_out e q h in sym (omega (arith, ints))
-
-pub neither : (e : Edge) (q : Point) → over e q ≡ false → under e q ≡ false → side e q ≡ pos 0
-unfolding over under
-neither e q h k = omega (arith, ints)
+use Rattle.slab_faces.proofs.Points.{before_weak, before_on_wall}
 
 -- ---- vertical edges
 -- a vertical edge's side of a point of its wall is 0

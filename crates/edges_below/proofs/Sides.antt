@@ -11,13 +11,14 @@ use Rattle.exact_plane.specs.Point.{Point}
 use Rattle.plane_graphs.specs.Graph.{Edge}
 use Rattle.slab_laws.specs.Skeleton.{Skeleton, HasWeight, left_of, run, side, over, under, below, gap, in_range, higher_at, precedes}
 use Rattle.slab_faces.proofs.Ints.{times_at_most, times_less}
+use Rattle.slab_faces.proofs.OverUnder.{not_over, not_under, over_in, over_out, under_not_over, under_out}
 use Rattle.slab_faces.proofs.Walls.{left_of-irrefl, left_of-asym, left_of-before, left_of-after, lower_than-before, lower_than-after, run_positive, side-lower, side-upper, side_rises, over-upper}
 use Rattle.slab_faces.proofs.Cells.{not_right_trans}
 use Rattle.slab_faces.proofs.Order.{Passes, below_from, below_asym, gap_positive, gap-on_e, gap-on_f}
 use Rattle.edges_below.specs.Highest.{IsSpanning}
 use Rattle.edges_below.specs.Above.{is_above, IsBeside, EdgesKeepSides}
-use Rattle.edges_below.proofs.Points.{before_left, before_weak, before_on_wall, not_before_left, not_before_lower, before_asym, after_before, before_after}
-use Rattle.edges_below.proofs.Seen.{under_out, not_under, over_in, over_out, not_over, under_not_over, slanted_below}
+use Rattle.slab_faces.proofs.Points.{before_left, before_weak, before_on_wall, not_before_left, not_before_lower, before_asym, after_before, before_after}
+use Rattle.edges_below.proofs.Seen.{slanted_below}
 use Rattle.edges_below.proofs.Uprights.{f_long, zero_weak, above_later, above_earlier, above_fan, never_inside, upright_above, upright_not_above}
 
 -- from one lower end, each is as much on the left of the other's upper end as that one is on its right

@@ -11,12 +11,13 @@ use Rattle.plane_graphs.specs.Graph.{Edge}
 use Rattle.slab_laws.specs.Skeleton.{Skeleton, HasWeight, left_of, lower_than, run, side, over, under, precedes, inside, crosses, IsPlaneSkeleton}
 use Rattle.slab_faces.proofs.InnerPoints.{no_sign}
 use Rattle.slab_faces.proofs.Ints.{times_negatives, times_mixed, less_back}
+use Rattle.slab_faces.proofs.OverUnder.{not_under, over_out, under_in, under_out}
 use Rattle.slab_faces.proofs.Walls.{left_of-before, left_of-after, lower_than-before, run_positive, side-lower, side_rises, side_keeps, over-upper}
 use Rattle.slab_faces.proofs.Cells.{not_right_trans}
 use Rattle.slab_faces.proofs.Along.{upright_side}
 use Rattle.edges_below.specs.Above.{is_above, IsBeside}
-use Rattle.edges_below.proofs.Points.{before_left, before_lower, before_weak, before_on_wall, not_before_left, not_before_lower}
-use Rattle.edges_below.proofs.Seen.{under_in, under_out, not_under, over_out, on_upright, slanted}
+use Rattle.slab_faces.proofs.Points.{before_left, before_lower, before_weak, before_on_wall, not_before_left, not_before_lower}
+use Rattle.edges_below.proofs.Seen.{on_upright, slanted}
 
 -- ---- what is inside an edge
 -- a point on the line of an edge, between its ends, is inside it

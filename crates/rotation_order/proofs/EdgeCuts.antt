@@ -1,8 +1,8 @@
 -- The two parts of an edge at a point inside it.
 use Rattle.std.proofs.Common.{◌≡◌, true, false, arith, sym, ap, ◌∙◌, inl, inr, [], ◌∷◌}
-use Rattle.std.specs.Prelude.{ℤ, pos, ◌+ℤ◌, ◌-ℤ◌, ◌*ℤ◌, ◌<ℤ◌, ◌≤ℤ◌, not, ◌&&◌}
+use Rattle.std.specs.Prelude.{ℤ, pos, ◌+ℤ◌, ◌-ℤ◌, ◌*ℤ◌, ◌<ℤ◌, not, ◌&&◌}
 use Rattle.std.proofs.lemmas.Int.{ints}
-use Rattle.std.proofs.lemmas.Bool.{and_parts, not-true, or_cases, cases_Bool, false≢true, false_from_ne_true, true_from_ne_false}
+use Rattle.std.proofs.lemmas.Bool.{and_parts, not-true, cases_Bool, false≢true, false_from_ne_true, true_from_ne_false}
 use lib.Signed.{lt_z}
 use Rattle.integers.proofs.Reify.{ring, sides}
 use Rattle.exact_plane.specs.Point.{Point}
@@ -10,8 +10,9 @@ use Rattle.plane_graphs.specs.Graph.{Edge}
 use Rattle.slab_laws.specs.Skeleton.{HasWeight, left_of, lower_than, on_wall, run, side, precedes, inside, below}
 use Rattle.slab_laws.specs.Darts.{Dart, start, source, kind, ahead, back}
 use Rattle.slab_laws.specs.Rotation.{turn}
-use Rattle.slab_faces.proofs.Ints.{same_sign}
-use Rattle.slab_faces.proofs.Walls.{left_of-asym, left_of-before, left_of-after, run_positive, side-upper, side-lower, side_rises}
+use Rattle.slab_faces.proofs.Ints.{same_sign, zero_weak}
+use Rattle.slab_faces.proofs.Points.{before_weak, before_on_wall}
+use Rattle.slab_faces.proofs.Walls.{left_of-before, left_of-after, run_positive, side-upper, side-lower, side_rises}
 use Rattle.slab_faces.proofs.Next.{kind_zero, kind_two}
 use Rattle.rotation_order.specs.EdgeParts.{IsForwardEdge, lower_part, upper_part, IsParted}
 use Rattle.rotation_order.proofs.Factors.{zero_between, same_above, less_nothing, more_nothing}
@@ -30,23 +31,14 @@ module _ (a b c d e f g h i x y w : ℤ) (on : det a b c d e f g h i ≡ pos 0) 
   shorter_high = ring (a ∷ b ∷ c ∷ d ∷ e ∷ f ∷ g ∷ h ∷ i ∷ x ∷ y ∷ w ∷ []) (search sides depth 40 fits 20000) tt ∙ more_nothing ((d *ℤ i -ℤ g *ℤ f) *ℤ det a b c d e f x y w) (x *ℤ f -ℤ d *ℤ w) (det a b c d e f g h i) on
 
 -- ---- what it is to come before
-pub not_after : (p q : Point) → precedes p q ≡ true → left_of q p ≡ false
-not_after p q h = elim (or_cases (left_of p q) _ h) [ inl a ↦ left_of-asym p q a | inr b ↦ not-true (left_of q p) (and_parts (not (left_of q p)) (lower_than p q) b).0 ]
-
-climbs : (p q : Point) → precedes p q ≡ true → left_of p q ≡ false → lower_than p q ≡ true
-climbs p q h k = elim (or_cases (left_of p q) _ h) [ inl a ↦ absurd (false≢true (sym k ∙ a)) | inr b ↦ (and_parts (not (left_of q p)) (lower_than p q) b).1 ]
-
 pub climbs_on_wall : (p q : Point) → precedes p q ≡ true → on_wall p q ≡ true → lower_than p q ≡ true
-climbs_on_wall p q h k = climbs p q h (not-true (left_of p q) (and_parts (not (left_of p q)) (not (left_of q p)) k).0)
+climbs_on_wall p q h k = before_on_wall p q h (not-true (left_of p q) (and_parts (not (left_of p q)) (not (left_of q p)) k).0)
 
 pub edge_before : (p q : Point) → HasWeight p → HasWeight q → precedes p q ≡ true → IsForwardEdge (record { low = p; high = q })
-edge_before p q P Q h = record { low_weight = P; high_weight = Q; forward = not_after p q h; upright = climbs_on_wall p q h }
+edge_before p q P Q h = record { low_weight = P; high_weight = Q; forward = before_weak p q h; upright = climbs_on_wall p q h }
 
 not_zero_above : (s t : ℤ) → s ≡ pos 0 → pos 0 <ℤ s → ⊥
 not_zero_above s t e h = omega (arith, ints)
-
-at_most_zero : (s : ℤ) → s ≡ pos 0 → pos 0 ≤ℤ s
-at_most_zero s e = omega (arith, ints)
 
 -- ---- a point inside an edge
 module _ (e : Edge) (r : Point) (L : HasWeight e.low) (H : HasWeight e.high) (R : HasWeight r) (in' : inside e r ≡ true) where
@@ -61,18 +53,18 @@ module _ (e : Edge) (r : Point) (L : HasWeight e.low) (H : HasWeight e.high) (R 
   slants_low : left_of e.low e.high ≡ true → left_of e.low r ≡ true
   slants_low h =
       true_from_ne_false (left_of e.low r) (λ k. not_zero_above (side e r) (side e r) on
-      (side_rises e e.low r L R (run_positive e h) k (not_after e.low r between.0) (climbs e.low r between.0 k) (at_most_zero (side e e.low) (side-lower e))))
+      (side_rises e e.low r L R (run_positive e h) k (before_weak e.low r between.0) (before_on_wall e.low r between.0 k) (zero_weak (side e e.low) (side-lower e))))
 
   slants_high : left_of e.low e.high ≡ true → left_of r e.high ≡ true
   slants_high h =
       true_from_ne_false (left_of r e.high) (λ k. not_zero_above (side e e.high) (side e e.high) (side-upper e)
-      (side_rises e r e.high R H (run_positive e h) k (not_after r e.high between.1) (climbs r e.high between.1 k) (at_most_zero (side e r) on)))
+      (side_rises e r e.high R H (run_positive e h) k (before_weak r e.high between.1) (before_on_wall r e.high between.1 k) (zero_weak (side e r) on)))
 
   upright_low : left_of e.low e.high ≡ false → left_of e.low r ≡ false
-  upright_low h = false_from_ne_true (left_of e.low r) (λ k. false≢true (sym h ∙ left_of-before e.low r e.high L R H k (not_after r e.high between.1)))
+  upright_low h = false_from_ne_true (left_of e.low r) (λ k. false≢true (sym h ∙ left_of-before e.low r e.high L R H k (before_weak r e.high between.1)))
 
   upright_high : left_of e.low e.high ≡ false → left_of r e.high ≡ false
-  upright_high h = false_from_ne_true (left_of r e.high) (λ k. false≢true (sym h ∙ left_of-after e.low r e.high L R H (not_after e.low r between.0) k))
+  upright_high h = false_from_ne_true (left_of r e.high) (λ k. false≢true (sym h ∙ left_of-after e.low r e.high L R H (before_weak e.low r between.0) k))
 
   alike_low : left_of e.low r ≡ left_of e.low e.high
   alike_low = elim (cases_Bool (left_of e.low e.high)) [ inl h ↦ slants_low h ∙ sym h | inr h ↦ upright_low h ∙ sym h ]

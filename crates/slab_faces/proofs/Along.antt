@@ -12,11 +12,12 @@ use Rattle.slab_laws.specs.Skeleton.{Skeleton, HasWeight, left_of, lower_than, o
 use Rattle.slab_laws.specs.Meets.{IsOnWall, IsOpenAbove, covers_above, Meets, SameFace, across, here, right}
 use Rattle.slab_laws.specs.Slabs.{spans, place, slab_left, slab_right, reaches_left, reaches_right, left_count, right_count}
 use Rattle.slab_faces.proofs.Ints.{as_dif, dif_add, dif_sub, dif_mul, dif_same, times_less, less_back, zero_back, times_negatives, times_mixed}
+use Rattle.slab_faces.proofs.OverUnder.{over_in, positive_not_over, zero_not_over}
 use Rattle.slab_faces.proofs.Sums.{each, sum_by-same, sum_by-plus}
 use Rattle.slab_faces.proofs.Walls.{left_of-asym, left_of-before, left_of-after, run_positive, on_line, same_abscissa, side-lower, side-upper, on_wall_parts}
 use Rattle.slab_faces.proofs.Order.{below_from, below_asym, gap-on_e, gap-swap}
 use Rattle.slab_faces.proofs.Cells.{IsSideOf, left_side, right_side, not_right_trans}
-use Rattle.slab_faces.proofs.Slabs.{IsThrough, same_edge_from_touch, same_edge_is, same_edge_refl, zero_not_over}
+use Rattle.slab_faces.proofs.Slabs.{IsThrough, same_edge_from_touch, same_edge_is, same_edge_refl}
 use Rattle.integers.proofs.Signs.{mul_pos'}
 
 -- t lies on e, strictly between its ends, and on a wall
@@ -239,14 +240,6 @@ at_place true o s b false e h k = rw (e, k refl refl) (either (not o))
     either false = refl
 at_place false o s b false e h k = rw e refl
 
-pub not_negative : (f : Edge) (t : Point) → pos 0 <ℤ side f t → over f t ≡ false
-unfolding over
-not_negative f t h = sym (omega (arith, ints))
-
-pub negative : (f : Edge) (t : Point) → side f t <ℤ pos 0 → over f t ≡ true
-unfolding over
-negative f t h = sym (omega (arith, ints))
-
 pub below_self : (g : Skeleton) (e : Edge) → IsPlaneSkeleton g → Contains g.edges e → below e e ≡ false
 below_self g e plane E = false_from_ne_true _ (λ h. below_asym g e e plane E E h h)
 
@@ -271,8 +264,8 @@ count_above g e t i reach o r =
     other_case f F h n =
         elim (standing g e f t i reach o r F h) [
           | same k ↦ absurd (false≢true (sym n ∙ subst (λ x. same_edge e x ≡ true) k (same_edge_refl e)))
-          | under k b ↦ b ∙ sym (ap not (not_negative f t k))
-          | above k b ↦ b ∙ sym (ap not (negative f t k))
+          | under k b ↦ b ∙ sym (ap not (positive_not_over f t k))
+          | above k b ↦ b ∙ sym (ap not (over_in f t k))
         ]
 
 -- the cells directly above e

@@ -14,10 +14,11 @@ use Rattle.slab_laws.specs.Meets.{IsOnWall, IsOpenAbove, Meets, SameFace, across
 use Rattle.slab_laws.specs.Slabs.{spans, place, slab_left, slab_right, reaches_left, reaches_right, left_count, right_count}
 use Rattle.slab_laws.specs.declared.slab_cell.SlabCell.{SlabCell}
 use Rattle.slab_faces.proofs.Ints.{as_dif, dif_add, dif_sub, dif_mul, dif_same, times_at_most, less_back, lt_z-scale}
+use Rattle.slab_faces.proofs.OverUnder.{over_in, positive_not_over}
 use Rattle.slab_faces.proofs.Sums.{each, sum_by-same}
 use Rattle.slab_faces.proofs.Walls.{run_positive}
 use Rattle.slab_faces.proofs.Nudge.{moved, moved_proper, large, left_side_of, right_side_of, minus_one, gap_of, fine, fine_up, fine_over}
-use Rattle.slab_faces.proofs.Along.{IsOn, IsReach, IsUpright, same, under, above, standing, no_upright, no_vertex, covers_parts, side_level, left_reach, right_reach, below_self, not_negative, negative}
+use Rattle.slab_faces.proofs.Along.{IsOn, IsReach, IsUpright, same, under, above, standing, no_upright, no_vertex, covers_parts, side_level, left_reach, right_reach, below_self}
 
 -- a point just below t
 pub beneath : ℤ → Point → Point
@@ -97,14 +98,14 @@ still_under f k t K R h =
     let a = gap_of k (pos 0) (side f t) K h in
     let z = *ℤ-zero k in
     let e = side_beneath f k t in
-    not_negative f (beneath k t) (omega (arith, ints))
+    positive_not_over f (beneath k t) (omega (arith, ints))
 
 pub now_over : (f : Edge) (k : ℤ) (t : Point) → pos 0 <ℤ k → pos 0 <ℤ run f → side f t ≤ℤ pos 0 → over f (beneath k t) ≡ true
 now_over f k t K R h =
     let a = times_at_most k (side f t) (pos 0) K h in
     let z = *ℤ-zero k in
     let e = side_beneath f k t in
-    negative f (beneath k t) (omega (arith, ints))
+    over_in f (beneath k t) (omega (arith, ints))
 
 -- ---- the wall is open there
 pub beneath_on_wall : (g : Skeleton) (t : Point) → IsOnWall g t → IsOnWall g (beneath (deep g) t)

@@ -1,6 +1,6 @@
 -- Round a vertex: the places of the edges that reach it from one side follow one another, from those strictly below to those at or below.
 use Rattle.std.proofs.Common.{◌≡◌, ℕ, ◌+◌, Bool, true, false, cond, arith, refl, sym, ap, ◌∙◌, subst, inl, inr}
-use Rattle.std.specs.Prelude.{pos, ◌<ℤ◌, ◌≤ℤ◌, not, ◌&&◌}
+use Rattle.std.specs.Prelude.{pos, ◌<ℤ◌, not, ◌&&◌}
 use Rattle.std.specs.List.{count_by, Contains}
 use Rattle.std.proofs.lemmas.Int.{ints, by_lt_z}
 use Rattle.std.proofs.lemmas.Bool.{false≢true, false_from_ne_true, cases_Bool}
@@ -12,13 +12,14 @@ use Rattle.slab_laws.specs.Slabs.{spans, place, slab_left, slab_right, left_coun
 use Rattle.slab_laws.specs.Meets.{IsOnWall, IsOpenAbove, Meets, SameFace, across, here, right}
 use Rattle.slab_laws.specs.declared.slab_cell.SlabCell.{SlabCell}
 use Rattle.slab_faces.proofs.Ints.{times_less}
+use Rattle.slab_faces.proofs.OverUnder.{negative_not_under, not_over, over_in, over_out, positive_not_over, under_in, under_out, weak_under, zero_not_over, zero_not_under}
 use Rattle.slab_faces.proofs.Sums.{each, sum_by-same, sum_by-plus}
 use Rattle.slab_faces.proofs.Walls.{left_of-before, left_of-after, left_of-irrefl, run_positive, lower_than-after, side_rises}
 use Rattle.slab_faces.proofs.Order.{below_from, below_asym, gap-on_e, gap-swap}
 use Rattle.slab_faces.proofs.Cells.{left_side, right_side, not_right_trans as level_trans}
-use Rattle.slab_faces.proofs.Slabs.{IsSlab, through, by_gap, below_at, gap_at, gap_trans, run_through, same_edge_is, same_edge_refl, zero_not_over}
+use Rattle.slab_faces.proofs.Slabs.{IsSlab, through, by_gap, below_at, gap_at, gap_trans, run_through, same_edge_is, same_edge_refl}
 use Rattle.slab_faces.proofs.Nudge.{left_inside, right_inside, is_slab_left, is_slab_right}
-use Rattle.slab_faces.proofs.Along.{IsReach, left_reach, right_reach, IsUpright, no_upright, side_above, side_below, side_level, below_self, not_negative, negative, covers_parts}
+use Rattle.slab_faces.proofs.Along.{IsReach, left_reach, right_reach, IsUpright, no_upright, side_above, side_below, side_level, below_self, covers_parts}
 use Rattle.slab_faces.proofs.Beneath.{beneath, deep, deep_up, deep_vertex, deep_edge, beneath_before, beneath_after, vertex_below, vertex_not_below, still_under, now_over, beneath_on_wall}
 use Rattle.slab_faces.proofs.Turns.{one_more, foot_is_on, foot_before, foot_after}
 use Rattle.slab_faces.proofs.Upright.{not_inside}
@@ -76,18 +77,6 @@ stand g t i M reach e f n a F h =
     at_above o b (false_from_ne_true _ (λ x. below_asym g f e n.plane F E x b)))
     (λ u. same (sym u))))
 
-zero_not_under : (f : Edge) (t : Point) → side f t ≡ pos 0 → under f t ≡ false
-unfolding under
-zero_not_under f t h = rw h refl
-
-pub positive_under : (f : Edge) (t : Point) → pos 0 <ℤ side f t → under f t ≡ true
-unfolding under
-positive_under f t h = sym (omega (arith, ints))
-
-pub negative_not_under : (f : Edge) (t : Point) → side f t <ℤ pos 0 → under f t ≡ false
-unfolding under
-negative_not_under f t h = sym (omega (arith, ints))
-
 -- the edge just above e at t has the next place
 pub next_place : (g : Skeleton) (t : Point) (i : ℕ) (M : Point) (reach : Edge → Bool) (e d : Edge) → IsFan g t i M reach → IsAt g t reach e → IsAt g t reach d → below e d ≡ true → ((f : Edge) → IsAt g t reach f → below e f ≡ true → below f d ≡ true → ⊥) → place g i d ≡ place g i e + 1
 next_place g t i M reach e d n a b h none =
@@ -139,8 +128,8 @@ top_place g t i M reach e n a none =
     (λ rf o.
     elim (stand g t i M reach e f n a F rf) [
       | same q ↦ absurd (false≢true (sym o ∙ subst (λ x. same_edge e x ≡ true) q (same_edge_refl e)))
-      | lower q r ↦ ap not (not_negative f t q) ∙ sym r
-      | upper q r ↦ ap not (negative f t q) ∙ sym r
+      | lower q r ↦ ap not (positive_not_over f t q) ∙ sym r
+      | upper q r ↦ ap not (over_in f t q) ∙ sym r
       | at_below q r ↦ ap not (zero_not_over f t q) ∙ sym r
       | at_above q r w ↦ absurd (none f (record { in' = F; reaches = rf; on = q }) r)
     ])) in
@@ -156,7 +145,7 @@ bottom_place g t i M reach e n a none =
     subst (λ b. now f ≡ cond (b && below f e) 1 0) (sym (s.spanned f F)) (alike (reach f) (under f t) (below f e) (λ rf.
     elim (stand g t i M reach e f n a F rf) [
       | same q ↦ zero_not_under f t (subst (λ x. side x t ≡ pos 0) q a.on) ∙ sym (subst (λ x. below x e ≡ false) q (below_self g e n.plane a.in'))
-      | lower q r ↦ positive_under f t q ∙ sym r
+      | lower q r ↦ under_in f t q ∙ sym r
       | upper q r ↦ negative_not_under f t q ∙ sym r
       | at_below q r ↦ absurd (none f (record { in' = F; reaches = rf; on = q }) r)
       | at_above q r w ↦ zero_not_under f t q ∙ sym w
@@ -249,26 +238,14 @@ no_point g s f u i reach a r F h R x y =
           not_inside g s v.0 plane a.S v.1 (record { lower_1 = d1; lower_2 = d2; upper_1 = c1'; upper_2 = c2 }) m l
     ]
 
-pub not_over : (f : Edge) (t : Point) → over f t ≡ false → pos 0 ≤ℤ side f t
-unfolding over
-not_over f t h = omega (arith, ints)
-
-over_was : (f : Edge) (t : Point) → over f t ≡ true → side f t <ℤ pos 0
-unfolding over
-over_was f t h = omega (arith, ints)
-
-under_is : (f : Edge) (t : Point) → under f t ≡ true → pos 0 <ℤ side f t
-unfolding under
-under_is f t h = omega (arith, ints)
-
 -- what is at or below u is strictly below s's upper end
 along_same : (g : Skeleton) (s f : Edge) (u : Point) (i : ℕ) (reach : Edge → Bool) → IsAlong g s u → IsReach g u i reach → Contains g.edges f → reach f ≡ true → not (over f u) ≡ under f s.high
 along_same g s f u i reach a r F h =
     let R = run_positive f (r.sided.passes f f F F h h).f_long in
     let Q = (a.plane.proper_edge s a.S).1 in
     elim (cases_Bool (over f u)) [
-      | inl k ↦ ap not k ∙ sym (false_from_ne_true _ (λ l. no_point g s f u i reach a r F h R (over_was f u k) (under_is f s.high l)))
-      | inr k ↦ ap not k ∙ sym (positive_under f s.high (side_rises f u s.high a.wall.proper Q R a.upright.upper_2 a.upright.upper_1 a.to (not_over f u k)))
+      | inl k ↦ ap not k ∙ sym (false_from_ne_true _ (λ l. no_point g s f u i reach a r F h R (over_out f u k) (under_out f s.high l)))
+      | inr k ↦ ap not k ∙ sym (under_in f s.high (side_rises f u s.high a.wall.proper Q R a.upright.upper_2 a.upright.upper_1 a.to (not_over f u k)))
     ]
 
 pub alike : (r r' x y : Bool) → r ≡ r' → (r ≡ true → x ≡ y) → cond {A = ℕ} (r && x) 1 0 ≡ cond (r' && y) 1 0
@@ -300,10 +277,6 @@ along_right g s u a =
     alike (reaches_right f u) (reaches_right f s.high) (not (over f u)) (under f s.high)
     (λ i. not (same_after f.low u s.high p.0 U Q o.upper_2 o.upper_1 i) && same_after f.high u s.high p.1 U Q o.upper_2 o.upper_1 i)
     (λ h. along_same g s f u (slab_right g u) (λ e. reaches_right e u) a (right_reach g u a.plane a.wall) F h)))
-
-not_positive : (f : Edge) (v : Point) → side f v ≤ℤ pos 0 → under f v ≡ false
-unfolding under
-not_positive f v h = sym (omega (arith, ints))
 
 -- ---- below a vertex that ends no vertical edge from below, the cells on both sides meet
 pub meets_below : (g : Skeleton) (v : Point) → IsPlaneSkeleton g → Contains g.vertices v → IsOnWall g v → ((f : Edge) → Contains g.edges f → IsUpright f v → lower_than f.low v ≡ true → lower_than f.high v ≡ false → ⊥) → SameFace g (record { slab = slab_left g v; place = left_below g v }) (record { slab = slab_right g v; place = right_below g v })
@@ -339,5 +312,5 @@ meets_below g v plane in' wall none =
     sunk_to : (g : Skeleton) (f : Edge) (v : Point) → Contains g.edges f → pos 0 <ℤ deep g → pos 0 <ℤ run f → not (over f (beneath (deep g) v)) ≡ under f v
     sunk_to g f v F K R =
         by_lt_z (pos 0) (side f v)
-        (λ h. ap not (still_under f (deep g) v K (deep_edge g f F) h) ∙ sym (positive_under f v h))
-        (λ h. ap not (now_over f (deep g) v K R h) ∙ sym (not_positive f v h))
+        (λ h. ap not (still_under f (deep g) v K (deep_edge g f F) h) ∙ sym (under_in f v h))
+        (λ h. ap not (now_over f (deep g) v K R h) ∙ sym (weak_under f v h))

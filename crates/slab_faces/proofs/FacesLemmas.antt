@@ -17,11 +17,12 @@ use Rattle.slab_faces.proofs.Sums.{each, sum_by-same, sum_by-none}
 use Rattle.slab_faces.proofs.Walls.{run_positive}
 use Rattle.slab_faces.proofs.Cells.{left_side, right_side}
 use Rattle.slab_faces.proofs.Nudge.{large}
-use Rattle.slab_faces.proofs.Along.{covers_parts, negative, open_above}
+use Rattle.slab_faces.proofs.Along.{covers_parts, open_above}
 use Rattle.slab_faces.proofs.Outside.{at_least}
 use Rattle.slab_faces.proofs.Turns.{face_trans, face_sym, on_own_wall, foot_is_on}
 use Rattle.slab_laws.specs.declared.classes.Link.{Link}
 use Rattle.slab_laws.specs.Faces.{is_lowest, walls, passes, is_open, link_at, corner_links, foot_links, wall_links, links, face_labels, face_of, same_cell, cell_below}
+use Rattle.slab_faces.proofs.OverUnder.{over_in}
 use Rattle.slab_faces.proofs.Member.{Member, member_in, map_out, filter_out, flat_out, append_cases}
 use Rattle.slab_faces.proofs.ClassesLemmas.{IsExact, IsEquivalence, IsOrder, along_link, connected, not_above}
 use Rattle.slab_faces.proofs.Stops.{open_from, meet_is_link}
@@ -57,7 +58,7 @@ low_over g t e E R =
     let a = at_least (run e) (depth g t) R (depth_up g t) in
     let b = depth_edge g t e E in
     let c = side_low g t e in
-    negative e (low g t) (omega (arith, ints))
+    over_in e (low g t) (omega (arith, ints))
 
 spread : (y k w : ℤ) → (y -ℤ k) *ℤ w ≡ y *ℤ w -ℤ k *ℤ w
 spread y k w = rw (as_dif y, as_dif k, as_dif w) (simp (dif_add, dif_sub, dif_mul) (dif_same _ _ _ _ (omega arith)))

@@ -5,6 +5,8 @@ pub mod SkeletonsDrawn
 pub mod Found
 pub mod Ints
 pub mod Sums
+pub mod OverUnder
+pub mod Points
 pub mod Walls
 pub mod Parity
 pub mod Order

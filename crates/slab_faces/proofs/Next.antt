@@ -12,8 +12,9 @@ use Rattle.slab_laws.specs.Slabs.{slab_left, slab_right, reaches_left, reaches_r
 use Rattle.slab_laws.specs.declared.slab_cell.SlabCell.{SlabCell}
 use Rattle.slab_laws.specs.Meets.{SameFace, here}
 use Rattle.slab_laws.specs.Darts.{start, kind, class, cell_by, cell_of, Earlier, by_class, on_left, on_right, IsOut, IsTurn, on, round}
+use Rattle.slab_faces.proofs.OverUnder.{zero_not_over}
 use Rattle.slab_faces.proofs.Walls.{left_of-irrefl, left_of-after, run_positive, lower_than-irrefl, over-lower, side-lower, side-upper}
-use Rattle.slab_faces.proofs.Slabs.{no_order, zero_not_over}
+use Rattle.slab_faces.proofs.Slabs.{no_order}
 use Rattle.slab_faces.proofs.Along.{side_below}
 use Rattle.slab_faces.proofs.Turns.{face_trans, face_sym, on_own_wall, level_at, above_to_last, below_to_last}
 use Rattle.slab_faces.proofs.Corners.{IsAt, IsAlong, left_fan, right_fan, next_place, top_place, bottom_place, along_left, along_right}

@@ -15,13 +15,14 @@ use Rattle.slab_laws.specs.Meets.{IsOnWall, IsOpenAbove, Meets, SameFace, across
 use Rattle.slab_laws.specs.declared.slab_cell.SlabCell.{SlabCell}
 use Rattle.slab_laws.specs.Changes.{IsFaceSet}
 use Rattle.slab_faces.proofs.Ints.{as_dif, dif_add, dif_sub, dif_mul, dif_same, times_at_most, swapped}
+use Rattle.slab_faces.proofs.OverUnder.{positive_not_over}
 use Rattle.slab_faces.proofs.Sums.{each, sum_by-same, sum_by-plus, sum_by-none, fewer_than}
 use Rattle.slab_faces.proofs.Walls.{left_of-irrefl, run_positive}
 use Rattle.slab_faces.proofs.Order.{below_asym, gap-swap}
 use Rattle.slab_faces.proofs.Cells.{spans_left, spans_right, right_many, left_side, right_side, parity_face}
 use Rattle.slab_faces.proofs.Slabs.{IsSlab, through, by_gap, below_at, gap_at, gap_trans, run_through, same_edge_is, same_edge_refl, weight_step, place_less}
 use Rattle.slab_faces.proofs.Nudge.{large, right_inside, is_slab_right}
-use Rattle.slab_faces.proofs.Along.{not_negative, below_self, covers_parts}
+use Rattle.slab_faces.proofs.Along.{below_self, covers_parts}
 use Rattle.slab_faces.proofs.Turns.{face_trans, face_sym, one_more, wall_before, greatest, on_own_wall, chain, above_e, below_e, over_wall, under_wall}
 use Rattle.slab_faces.proofs.Found.{found}
 use Rattle.integers.proofs.Laws.{add-mul}
@@ -68,7 +69,7 @@ high_over g t e E R =
     let a = at_least (run e) (tall g t) R (tall_up g t) in
     let b = tall_edge g t e E in
     let c = side_high g t e in
-    not_negative e (high g t) (omega (arith, ints))
+    positive_not_over e (high g t) (omega (arith, ints))
 
 high_vertex : (g : Skeleton) (t v : Point) → Contains g.vertices v → HasWeight v → lower_than (high g t) v ≡ false
 unfolding lower_than high

@@ -10,12 +10,13 @@ use Rattle.plane_graphs.specs.Graph.{Edge}
 use Rattle.slab_laws.specs.Skeleton.{Skeleton, lower_than, side, over, under, IsPlaneSkeleton}
 use Rattle.slab_laws.specs.Meets.{IsOpenAbove, SameFace, across, here, right}
 use Rattle.slab_laws.specs.Slabs.{slab_left, slab_right, reaches_left, reaches_right, left_bottom, left_top, right_top, right_bottom}
+use Rattle.slab_faces.proofs.OverUnder.{negative_not_under, over_in, positive_not_over, under_in}
 use Rattle.slab_faces.proofs.Slabs.{no_order}
 use Rattle.slab_faces.proofs.Sums.{each, sum_by-same}
-use Rattle.slab_faces.proofs.Along.{IsUpright, covers_parts, negative, not_negative}
+use Rattle.slab_faces.proofs.Along.{IsUpright, covers_parts}
 use Rattle.slab_faces.proofs.Turns.{on_own_wall}
 use Rattle.slab_faces.proofs.Upright.{not_inside}
-use Rattle.slab_faces.proofs.Corners.{IsFan, IsAt, left_fan, right_fan, positive_under, negative_not_under, alike, meets_below}
+use Rattle.slab_faces.proofs.Corners.{IsFan, IsAt, left_fan, right_fan, alike, meets_below}
 
 -- no edge at t from a side: nothing between the corners on that side
 empty_side : (g : Skeleton) (t : Point) (i : ℕ) (M : Point) (reach : Edge → Bool) → IsFan g t i M reach → ((f : Edge) → IsAt g t reach f → ⊥) → count_by (λ f. reach f && under f t) g.edges ≡ count_by (λ f. reach f && not (over f t)) g.edges
@@ -23,9 +24,9 @@ empty_side g t i M reach n none =
     sum_by-same (λ f. cond (reach f && under f t) 1 0) (λ f. cond (reach f && not (over f t)) 1 0) g.edges (each (λ f. cond {A = ℕ} (reach f && under f t) 1 0 ≡ cond (reach f && not (over f t)) 1 0) g.edges (λ f F.
     alike (reach f) (reach f) (under f t) (not (over f t)) refl (λ h.
     by_lt_z (pos 0) (side f t)
-    (λ k. positive_under f t k ∙ sym (ap not (not_negative f t k)))
+    (λ k. under_in f t k ∙ sym (ap not (positive_not_over f t k)))
     (λ k. by_lt_z (side f t) (pos 0)
-    (λ l. negative_not_under f t l ∙ sym (ap not (negative f t l)))
+    (λ l. negative_not_under f t l ∙ sym (ap not (over_in f t l)))
     (λ l. absurd (none f (record { in' = F; reaches = h; on = omega (arith, ints) })))))))
 
 pub left_empty : (g : Skeleton) (v : Point) → IsPlaneSkeleton g → Contains g.vertices v → ((f : Edge) → IsAt g v (λ e. reaches_left e v) f → ⊥) → SameFace g (left_bottom g v) (left_top g v)

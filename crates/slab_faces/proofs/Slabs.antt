@@ -4,7 +4,7 @@ use Rattle.std.specs.Prelude.{ℤ, pos, ◌+ℤ◌, ◌-ℤ◌, ◌*ℤ◌, ◌<
 use Rattle.std.specs.List.{sum_by, count_by, Contains}
 use Rattle.std.proofs.lemmas.Int.{ints, by_lt_z}
 use Rattle.std.proofs.lemmas.Bool.{false≢true, and_parts, and_from, or_left, false_from_ne_true, cases_Bool, cases_lt, le-leb, lt-leb}
-use Rattle.slab_laws.specs.Skeleton.{same_point, Skeleton, HasWeight, left_of, lower_than, run, side, over, gap, below, IsPlaneSkeleton, precedes, same_edge}
+use Rattle.slab_laws.specs.Skeleton.{same_point, Skeleton, HasWeight, left_of, lower_than, run, side, gap, below, IsPlaneSkeleton, precedes, same_edge}
 use lib.Dec.{leb}
 use lib.IntN.{*ℤ-zero}
 use lib.Signed.{lt_z}
@@ -13,6 +13,7 @@ use Rattle.plane_graphs.specs.Graph.{Edge}
 use Rattle.slab_laws.specs.Slabs.{spans, place}
 use Rattle.slab_laws.specs.Weights.{weight_above}
 use Rattle.slab_faces.proofs.Ints.{as_dif, dif_add, dif_sub, dif_mul, dif_same, less_back, mean_zero, zero_back}
+use Rattle.slab_faces.proofs.OverUnder.{zero_not_over}
 use Rattle.slab_faces.proofs.Sums.{each, sum_by-same, sum_by-plus, sum_by-cond, fewer_than}
 use Rattle.slab_faces.proofs.Walls.{left_of-irrefl, left_of-asym, left_of-before, run_positive, over-lower, over-upper, side-lower, side-upper}
 use Rattle.slab_faces.proofs.Order.{Passes, IsHigherAt, below_from, below_asym, cross_at, gap_mean, away, away_yes, gap-on_f, gap-swap}
@@ -120,10 +121,6 @@ on_e f e u F s z = let k = gap-on_f f e u s in zero_back (run f) (side e u) F (o
 
 on_line : (e : Edge) (v : Point) → side e v ≡ pos 0 → (not (lt_z (side e v) (pos 0)) && not (lt_z (pos 0) (side e v))) ≡ true
 on_line e v z = rw z refl
-
-pub zero_not_over : (e : Edge) (v : Point) → side e v ≡ pos 0 → over e v ≡ false
-unfolding over
-zero_not_over e v z = rw z refl
 
 lower_clear : (g : Skeleton) (f e : Edge) (M : Point) → Touch g f e M → left_of e.low f.low ≡ false
 lower_clear g f e M t =

@@ -1,10 +1,9 @@
 -- The finite list of meets over the stops of the walls, against meets over any point of a wall.
 use Rattle.std.proofs.Common.{◌≡◌, ℕ, Bool, true, false, cond, arith, refl, sym, ap, subst, ◌∙◌, ◌⊎◌, inl, inr, List, [], ◌∷◌, ◌++◌, map}
-use Rattle.std.specs.Prelude.{pos, ◌<ℤ◌, ◌≤ℤ◌, not, ◌&&◌, filter}
+use Rattle.std.specs.Prelude.{pos, ◌<ℤ◌, not, ◌&&◌, filter}
 use Rattle.std.specs.List.{Contains, count_by}
 use Rattle.std.proofs.lemmas.Int.{ints}
 use Rattle.std.proofs.lemmas.Bool.{false≢true, and_parts, and_from, not-true, false_from_ne_true, cases_Bool}
-use lib.Signed.{lt_z}
 use Rattle.exact_plane.specs.Point.{Point}
 use Rattle.plane_graphs.specs.Graph.{Edge}
 use Rattle.slab_laws.specs.Skeleton.{Skeleton, HasWeight, left_of, lower_than, on_wall, run, side, over, foot, IsPlaneSkeleton}
@@ -16,8 +15,9 @@ use Rattle.slab_faces.proofs.Walls.{left_of-irrefl, left_of-asym, left_of-before
 use Rattle.slab_faces.proofs.Slabs.{IsThrough}
 use Rattle.slab_faces.proofs.Along.{IsReach, left_reach, right_reach, covers_parts, side_below}
 use Rattle.slab_faces.proofs.Turns.{foot_is_on, foot_before, foot_after, on_own_wall}
-use Rattle.slab_faces.proofs.Corners.{same_before, same_after, not_over}
+use Rattle.slab_faces.proofs.Corners.{same_before, same_after}
 use Rattle.slab_laws.specs.Faces.{is_lowest, walls, passes, is_open, link_at, corner_links, foot_links, wall_links, links}
+use Rattle.slab_faces.proofs.OverUnder.{not_over, weak_over}
 use Rattle.slab_faces.proofs.Member.{Member, member_in, in_member, append_cases, append_left, append_right, filter_in, filter_out, map_in, map_out, flat_in, none_passes, none_passing}
 
 -- ---- two points on one wall
@@ -142,10 +142,6 @@ highest t (x ∷ xs) T P =
 
 -- ---- an edge that reaches the wall at or below t does so at a stop
 
-isnt_over : (e : Edge) (t : Point) → pos 0 ≤ℤ side e t → over e t ≡ false
-unfolding over
-isnt_over e t h = let a : false ≡ lt_z (side e t) (pos 0) = omega (arith, ints) in sym a
-
 record Under (g : Skeleton) (v t : Point) (e : Edge) : Type 0 where
   at : Point
   in' : Member (stops g v) at
@@ -198,9 +194,9 @@ same_over g v t s e reach i site S w high E r h =
             let k = wall_trans u.at t s u.proper site.T S u.wall (wall_swap s t w) in
             let z = u.on in
             let n = side_keeps e u.at s u.proper S R k.there k.back m (omega (arith, ints)) in
-            absurd (false≢true (sym (isnt_over e s n) ∙ a))
+            absurd (false≢true (sym (weak_over e s n) ∙ a))
       ]
-      | inr a ↦ isnt_over e t (side_keeps e s t S site.T R w.there w.back high.low (not_over e s a)) ∙ sym a
+      | inr a ↦ weak_over e t (side_keeps e s t S site.T R w.there w.back high.low (not_over e s a)) ∙ sym a
     ]
 
 same_slab_left : (g : Skeleton) (s t : Point) → IsPlaneSkeleton g → HasWeight s → HasWeight t → OneWall s t → slab_left g t ≡ slab_left g s

@@ -13,10 +13,11 @@ use Rattle.slab_laws.specs.Meets.{IsOnWall, SameFace, here, right, left}
 use Rattle.slab_laws.specs.Slabs.{place, slab_left, slab_right, reaches_left, forward_cell, backward_cell}
 use Rattle.slab_laws.specs.declared.slab_cell.SlabCell.{SlabCell}
 use Rattle.slab_faces.proofs.Ints.{dif, as_dif, dif_add, dif_sub, dif_mul, dif_same, dif_zero, pos_dif, lt_z-scale}
+use Rattle.slab_faces.proofs.OverUnder.{zero_not_over}
 use Rattle.slab_faces.proofs.Sums.{fewer}
 use Rattle.slab_faces.proofs.Walls.{left_of-irrefl, left_of-asym, left_of-before, run_positive, side-upper, over-upper}
 use Rattle.slab_faces.proofs.Cells.{not_right_trans, left_few, right_few, right_many}
-use Rattle.slab_faces.proofs.Slabs.{IsThrough, no_order, zero_not_over}
+use Rattle.slab_faces.proofs.Slabs.{IsThrough, no_order}
 use Rattle.slab_faces.proofs.Along.{IsOn, along_above, side_below}
 use Rattle.slab_faces.proofs.Beneath.{along_below}
 use Rattle.integers.proofs.Signs.{mul_pos'}
