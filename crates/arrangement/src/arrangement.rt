@@ -10,6 +10,7 @@ ghost use Rattle.pin_points.specs.Pins.{pin_said, unpin_said};
 ghost use Rattle.pin_points.specs.Splits.{split_at, split_said};
 ghost use Rattle.pin_points.specs.Merges.{merge_said};
 ghost use Rattle.slab_laws.specs.Sound.{IsGraphSound};
+ghost use Rattle.dcel_records.specs.SoundMaps.{IsSoundMap};
 ghost use Rattle.told_steps.specs.RecordLayers.{layer_of, IsLayer};
 ghost use Rattle.told_steps.specs.LayerNames.{IsNamedBy};
 ghost use Rattle.arrangement.specs.declared.limits.TheConstants.{MAX_CURVES, MAX_PIECES, MAX_PINS};
@@ -289,8 +290,16 @@ impl Arrangement {
 
     /// The records of vertices and darts, to be read by name.
     pub fn records(&self) -> &Records
-        ensures { result.now.graph ≡ (arranged Observer-dyn self.now).graph }
+        ensures graph { result.now.graph ≡ (arranged Observer-dyn self.now).graph }
+        ensures map { IsSoundMap result.now }
     {
         &self.layer.records
+    }
+
+    /// The history of the curves, to be read beside the records.
+    pub fn history(&self) -> &History
+        ensures { result.now ≡ (arranged Observer-dyn self.now).past }
+    {
+        &self.layer.history
     }
 }

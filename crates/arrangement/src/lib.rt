@@ -15,7 +15,7 @@ mod spots;
 
 pub use arr_notes::{Answer, Change, Intent, Note, Observer, View};
 pub use arrangement::Arrangement;
-pub use curve_history::HistoryError;
+pub use curve_history::{History, HistoryError};
 pub use dcel_records::Records;
 pub use exact_plane::{Point, Segment};
 pub use limits::{Limits, MAX_CURVES, MAX_PIECES, MAX_PINS};
