@@ -30,3 +30,5 @@ pub mod UnlinkedFaces
 pub mod NotedFaces
 pub mod Within
 pub mod TriangleClosed
+pub mod AheadDrawn
+pub mod FaceAhead
