@@ -47,7 +47,7 @@ first_is_least (n ∷ ns) a c = elim (in_member (n ∷ ns) 0 c) [ inl e ↦ ap f
     none (k ∷ ms) l (inr m) = none ms l.1 m
 
 module _ (v : View) (f : Faces) (q : Point) (s : IsGraphSound v) (Q : IsProper q) (spot : IsInFace v q) where
-  apart : IsApart (skeleton_of v) q
+  pub apart : IsApart (skeleton_of v) q
   apart = record {
     from_vertices = λ p P a b.
         let w = known_point v s.named p P in

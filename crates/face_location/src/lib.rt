@@ -5,8 +5,10 @@
 //! below the point are no special case.
 #![tactic(auto)]
 
+mod ahead;
 mod below;
 mod face;
 
+pub use ahead::face_ahead;
 pub use below::highest_below;
 pub use face::face_at;

@@ -31,3 +31,5 @@ pub mod ChangeLaws
 pub mod Within
 pub mod TriangleClosed
 pub mod ChangeNames
+pub mod AheadDrawn
+pub mod FaceAhead

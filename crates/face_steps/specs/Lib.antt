@@ -16,3 +16,4 @@ pub mod Within
 pub mod RowsWritten
 pub mod MapInSteps
 pub mod TriangleOpened
+pub mod FaceAhead

@@ -11,6 +11,7 @@
 
 ghost use Rattle.face_steps.specs.ChangeLaws.{ChangesKeepFacesSound};
 ghost use Rattle.face_steps.specs.Choices.{ChoicesOfKinds};
+ghost use Rattle.face_steps.specs.FaceAhead.{FacesAhead};
 ghost use Rattle.face_steps.specs.LinkLaws.{LinksKeepTables, UnlinksKeepTables};
 ghost use Rattle.face_steps.specs.MapInSteps.{MapInSteps};
 ghost use Rattle.face_steps.specs.NameLaws.{ChangesKeepFirst, ChangesKeepNames};
@@ -104,6 +105,11 @@ pub fn two_faces_apart()
 /// Cycles and faces are told with a vertex without darts exactly where they are without it.
 pub fn vertex_steps()
     ensures { VertexSteps }
+{}
+
+/// A point that a vertex sees lies in the face at the place of its direction round the vertex.
+pub fn faces_ahead()
+    ensures { FacesAhead }
 {}
 
 /// They are told of an edge in two exactly where they are of the whole edge.

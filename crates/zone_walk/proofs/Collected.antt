@@ -20,8 +20,8 @@ use Rattle.slab_laws.specs.Skeleton.{inside}
 use Rattle.slab_laws.specs.Sound.{edge_in, IsGraphSound}
 use Rattle.slab_laws.specs.View.{View, HasVertex, point_in}
 use Rattle.arr_notes.specs.Curves.{IsForward}
-use Rattle.dcel_records.specs.declared.spot.Spot.{Spot}
-use Rattle.dcel_records.specs.declared.spot.Spot.TheVariants.{Vertex, Edge, Face}
+use Rattle.dcel_records.specs.declared.spot.Met.{Met}
+use Rattle.dcel_records.specs.declared.spot.Met.TheVariants.{Vertex, Edge, Nothing}
 use Rattle.zone_walk.specs.Found.{ends_of, IsWhole, MeetsInside, IsFound, AreFound, AreKept, TakesVertex, TakesDart, HasVertices, HasInnerPoints, AreLaterMeetings}
 use Rattle.zone_walk.specs.Zone.{is_on_segment, passes, meeting_points, later_points}
 use Rattle.zone_walk.proofs.Courses.{IsCourse, lies_in, upper_lies}
@@ -30,10 +30,10 @@ use Rattle.zone_walk.proofs.Inner.{whole_course}
 use Rattle.zone_walk.proofs.MeetingPoints.{MeetsAt, lower, upper, vertex, passed, passes_out, meetings_ascend, of_meetings, in_meetings}
 
 abbrev Entries : Type 0
-Entries = List (Point × Spot)
+Entries = List (Point × Met)
 
 -- ---- one more entry
-module _ (v : View) (s : Segment) (k : Point) (x : Spot) (old new : Entries) (is : new ≡ insert_entry point_cmp old k x) where
+module _ (v : View) (s : Segment) (k : Point) (x : Met) (old new : Entries) (is : new ≡ insert_entry point_cmp old k x) where
   pub found_more : AreFound v s old → IsFound v s k x → AreFound v s new
   found_more f h p y m = by (entry_from k x old p y (subst (λ (es : Entries). Member (p, y) es) is m))
     where
@@ -74,7 +74,7 @@ module _ (v : View) (s : IsGraphSound v) (whole : Span) (all : IsWhole whole) wh
     pub vertex_found : precedes whole.lower x && (not (precedes whole.upper x) && is_on whole.line x) ≡ true → IsFound v g x (Vertex w)
     vertex_found h =
         let a = and_true (precedes whole.lower x) (not (precedes whole.upper x) && is_on whole.line x) h in
-        record { meets = meets x (vertex w has read (on_by a.0 a.1)); later = a.0; spot = (has, sym read) }
+        record { meets = meets x (vertex w has read (on_by a.0 a.1)); later = a.0; met = (has, sym read) }
 
     -- a vertex that isn't taken isn't one of those
     pub vertex_passed : precedes whole.lower x && (not (precedes whole.upper x) && is_on whole.line x) ≡ false → is_on_segment g (point_in v w) ≡ true → precedes whole.lower (point_in v w) ≡ true → ⊥
@@ -89,7 +89,7 @@ module _ (v : View) (s : IsGraphSound v) (whole : Span) (all : IsWhole whole) wh
       record {
         meets = meets p (⊎_elim (λ m. passed d f.0 (to_member (passes v g d) p m)) (λ e. upper e) h.met);
         later = h.later;
-        spot = (f.0, f.1, h.inner);
+        met = (f.0, f.1, h.inner);
       }
 
   -- ---- the upper end
@@ -97,11 +97,11 @@ module _ (v : View) (s : IsGraphSound v) (whole : Span) (all : IsWhole whole) wh
   upper_inside d h = record { inner = h; later = lt_in course.ahead; met = inr refl }
 
   -- where nothing is found there, it lies in a face
-  pub upper_found : (es : Entries) → HasVertices v g es → HasInnerPoints v g es → is_some (lookup (λ q. is_eq (point_cmp whole.upper q)) es) ≡ false → IsFound v g whole.upper Face
+  pub upper_found : (es : Entries) → HasVertices v g es → HasInnerPoints v g es → is_some (lookup (λ q. is_eq (point_cmp whole.upper q)) es) ≡ false → IsFound v g whole.upper Nothing
   upper_found es vertices inner missing = record {
     meets = meets whole.upper (upper refl);
     later = lt_in course.ahead;
-    spot = record {
+    met = record {
       no_vertex = λ w has e. clash (is_there whole.upper es (subst (λ (q : Point). Member q (keys_of es)) e (vertices w has (ap (is_on_segment g) e ∙ lies_in g whole.upper (upper_lies g course)) (ap (precedes whole.lower) e ∙ lt_in course.ahead)))) missing;
       no_edge = λ d has. not_true (inside (edge_in v d) whole.upper) (λ h. clash (is_there whole.upper es (inner d has whole.upper (upper_inside d h))) missing);
     };
@@ -127,5 +127,5 @@ module _ (v : View) (s : IsGraphSound v) (whole : Span) (all : IsWhole whole) wh
     pub all_later : AreLaterMeetings v g es
     all_later = record {
       points = ascending_unique point_cmp point_cmp_total (keys_of es) (later_points v g g.lower) (from_std point_cmp (keys_of es) ordered) (IsAscending-filter point_cmp (precedes g.lower) (meeting_points v g) (meetings_ascend v g)) there back;
-      spots = λ p spot m. (found p spot m).spot;
+      met = λ p met m. (found p met m).met;
     }

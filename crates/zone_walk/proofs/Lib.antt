@@ -10,3 +10,4 @@ pub mod Courses
 pub mod Aheads
 pub mod Stretches
 pub mod Walked
+pub mod FaceEnds

@@ -17,11 +17,11 @@ use Rattle.slab_laws.specs.Sound.{edge_in, dart_in, IsGraphSound}
 use Rattle.slab_laws.specs.View.{View, HasDart, point_in, source_in, twin_in, target_in, line_in}
 use Rattle.plane_graphs.specs.Graph.{Edge}
 use Rattle.arr_notes.specs.Curves.{IsForward}
-use Rattle.dcel_records.specs.declared.spot.Spot.{Spot}
-use Rattle.dcel_records.specs.declared.spot.Spot.TheVariants.{Vertex, Edge as OnEdge, Face}
+use Rattle.dcel_records.specs.declared.spot.Met.{Met}
+use Rattle.dcel_records.specs.declared.spot.Met.TheVariants.{Vertex, Edge as OnEdge, Nothing}
 use Rattle.sound_views.proofs.NamedDarts.{twin_dart}
-use Rattle.zone_walk.specs.Walk.{lesser, IsAhead, IsSpotAhead, IsStretch}
-use Rattle.zone_walk.specs.Zone.{meeting_points, IsSpotBetween, IsNextMeeting}
+use Rattle.zone_walk.specs.Walk.{lesser, IsAhead, IsMetAhead, IsStretch}
+use Rattle.zone_walk.specs.Zone.{meeting_points, IsMetBetween, IsNextMeeting}
 use Rattle.locate_naive.proofs.Within.{in_dart, dart_in_out}
 use Rattle.sound_views.proofs.ForwardDarts.{target_has}
 use Rattle.zone_walk.proofs.Aheads.{at_most, no_vertex_inside, one_inside}
@@ -168,7 +168,7 @@ module _ (v : View) (s : IsGraphSound v) where
           no_edge_at d has =
               not_true (inside (edge_in v d) t) (λ i. let f = forward_one d has in no_edge_there f.dart f.forward (ap (λ (y : Edge). inside y t) f.edge ∙ i))
 
-        pub face_between : IsSpotBetween v g p q Face
+        pub face_between : IsMetBetween v g p q Nothing
         face_between t proper on k m =
             let l = lies_out g t on in
             let a = lt_out p t k in
@@ -187,9 +187,9 @@ module _ (v : View) (s : IsGraphSound v) where
           by (same e) = e
           by (more l) = clash (lt_in l) (h.none_between r k.meets k.later)
 
-      pub stretch_to : Lt p g.upper → (spot : Spot) → IsSpotAhead v line p spot → (q : Point) → IsNextMeeting v g p q → IsStretch v g p spot q
+      pub stretch_to : Lt p g.upper → (met : Met) → IsMetAhead v line p met → (q : Point) → IsNextMeeting v g p q → IsStretch v g p met q
       stretch_to before (Vertex w) h q next = absurd h
       stretch_to before (OnEdge d) h q next =
           let k = along_edge d h before (lesser g.upper (point_in v (target_in v d))) refl in
           subst (IsStretch v g p (OnEdge d)) (one_next (lesser g.upper (point_in v (target_in v d))) q k.next next) k
-      stretch_to before Face h q next = record { ahead = h; next = next; between = face_between h q next }
+      stretch_to before Nothing h q next = record { ahead = h; next = next; between = face_between h q next }

@@ -22,14 +22,14 @@ use Rattle.plane_graphs.proofs.Order.Tri.{less, same, more}
 use Rattle.slab_laws.specs.declared.names.DartId.{DartId}
 use Rattle.slab_laws.specs.Sound.{IsGraphSound}
 use Rattle.slab_laws.specs.View.{View, point_in, source_in, target_in}
-use Rattle.dcel_records.specs.declared.spot.Spot.{Spot}
-use Rattle.dcel_records.specs.declared.spot.Spot.TheVariants.{Vertex, Edge, Face}
-use Rattle.dcel_records.specs.Spots.{IsSpotOf}
+use Rattle.dcel_records.specs.declared.spot.Met.{Met}
+use Rattle.dcel_records.specs.declared.spot.Met.TheVariants.{Vertex, Edge, Nothing}
+use Rattle.dcel_records.specs.Spots.{IsMet}
 use Rattle.zone_walk.specs.declared.plan.Meeting.{Meeting}
 use Rattle.zone_walk.specs.declared.plan.ZonePlan.{ZonePlan}
 use Rattle.zone_walk.specs.Found.{AreLaterMeetings}
-use Rattle.zone_walk.specs.Walk.{IsAhead, IsSpotAhead, IsStretch}
-use Rattle.zone_walk.specs.Zone.{meeting_points, AreSpotsBetween, IsOverlapped, IsZoneOf, IsNextMeeting, is_vertex, is_edge, vertices_needed, edges_needed, darts_among, later_points, points_of_meetings}
+use Rattle.zone_walk.specs.Walk.{IsAhead, IsMetAhead, IsStretch}
+use Rattle.zone_walk.specs.Zone.{meeting_points, AreMetBetween, IsOverlapped, IsZoneOf, IsNextMeeting, is_vertex, is_edge, vertices_needed, edges_needed, darts_among, later_points, points_of_meetings}
 use Rattle.zone_walk.proofs.Aheads.{at_most, one_ahead}
 use Rattle.zone_walk.proofs.Courses.{IsCourse, LiesOn, lies_in}
 use Rattle.zone_walk.proofs.MeetingPoints.{MeetsAt, lower, upper, vertex, meetings_ascend}
@@ -97,23 +97,23 @@ same_rest q r qs rs e = cc
 -- ---- the walk so far
 
 -- the one meeting point at which the walk begins
-abbrev pub alone : Point → Spot → List Meeting
-alone p at = record { point = p; spot = at } ∷ []
+abbrev pub alone : Point → Met → List Meeting
+alone p at = record { point = p; met = at } ∷ []
 
-pub record IsWalked (v : View) (g : Segment) (ms : List Meeting) (spots : List Spot) (ds : List DartId) (here : Point) (at : Spot) : Type 0 where
+pub record IsWalked (v : View) (g : Segment) (ms : List Meeting) (parts : List Met) (ds : List DartId) (here : Point) (at : Met) : Type 0 where
   pub meets : Contains (meeting_points v g) here
-  pub here_spot : IsSpotOf v here at
+  pub here_met : IsMet v here at
   pub points : points_of_meetings ms ++ later_points v g here ≡ meeting_points v g
-  pub spots_met : (m : Meeting) → Member m ms → IsSpotOf v m.point m.spot
-  pub between : (qs : List Point) (rest : List Spot) → AreSpotsBetween v g (here ∷ qs) rest → AreSpotsBetween v g (points_of_meetings ms ++ qs) (spots ++ rest)
-  pub darts : ds ≡ darts_among spots
+  pub all_met : (m : Meeting) → Member m ms → IsMet v m.point m.met
+  pub between : (qs : List Point) (rest : List Met) → AreMetBetween v g (here ∷ qs) rest → AreMetBetween v g (points_of_meetings ms ++ qs) (parts ++ rest)
+  pub darts : ds ≡ darts_among parts
   pub overlapped : (d : DartId) → Member d ds → IsOverlapped v g d
   pub all_overlapped : (d : DartId) → IsOverlapped v g d → Lt (point_in v (source_in v d)) here → Lt g.lower here → Member d ds
 
--- the meeting points that are left after one, in order, each with its spot
-pub record AreLeft (v : View) (g : Segment) (here : Point) (es : List (Point × Spot)) : Type 0 where
+-- the meeting points that are left after one, in order, each with what it meets
+pub record AreLeft (v : View) (g : Segment) (here : Point) (es : List (Point × Met)) : Type 0 where
   pub points : keys_of es ≡ later_points v g here
-  pub spots : (p : Point) (spot : Spot) → Member (p, spot) es → IsSpotOf v p spot
+  pub met : (p : Point) (met : Met) → Member (p, met) es → IsMet v p met
 
 -- where a map gives no first entry, it has none
 pub no_entries : {X : Type 0} (r : Option (Point × X)) (es : List (Point × X)) → r ≡ None → (IsSome r ↔ (0 < length es)) → es ≡ []
@@ -124,11 +124,11 @@ map_more : (ms : List Meeting) (m : Meeting) (qs : List Point) → points_of_mee
 map_more [] m qs = refl
 map_more (n ∷ ms) m qs = ap (λ (ps : List Point). n.point ∷ ps) (map_more ms m qs)
 
-darts_more : (spots : List Spot) (spot : Spot) → darts_among (spots ++ (spot ∷ [])) ≡ darts_among spots ++ darts_among (spot ∷ [])
-darts_more [] spot = refl
-darts_more (Edge d ∷ spots) spot = ap (λ (ds : List DartId). d ∷ ds) (darts_more spots spot)
-darts_more (Vertex w ∷ spots) spot = darts_more spots spot
-darts_more (Face ∷ spots) spot = darts_more spots spot
+darts_more : (parts : List Met) (met : Met) → darts_among (parts ++ (met ∷ [])) ≡ darts_among parts ++ darts_among (met ∷ [])
+darts_more [] met = refl
+darts_more (Edge d ∷ parts) met = ap (λ (ds : List DartId). d ∷ ds) (darts_more parts met)
+darts_more (Vertex w ∷ parts) met = darts_more parts met
+darts_more (Nothing ∷ parts) met = darts_more parts met
 
 module _ (v : View) (s : IsGraphSound v) (g : Segment) (c : IsCourse g) where
   on_segment : (p : Point) → Contains (meeting_points v g) p → LiesOn g p
@@ -138,27 +138,27 @@ module _ (v : View) (s : IsGraphSound v) (g : Segment) (c : IsCourse g) where
   lower_meets = listed v s g c g.lower (lower refl)
 
   -- ---- at the lower end
-  pub begun : (at : Spot) → IsSpotOf v g.lower at → IsWalked v g (alone g.lower at) [] [] g.lower at
+  pub begun : (at : Met) → IsMet v g.lower at → IsWalked v g (alone g.lower at) [] [] g.lower at
   begun at h = record {
     meets = lower_meets;
-    here_spot = h;
+    here_met = h;
     points = first (meeting_points v g) (meetings_ascend v g) g.lower (to_member (meeting_points v g) g.lower lower_meets) (λ r m l. (on_segment r (from_member (meeting_points v g) r m)).from.never l);
-    spots_met = only;
+    all_met = only;
     between = λ qs rest k. k;
     darts = refl;
     overlapped = λ d m. absurd m;
     all_overlapped = λ d o l k. absurd (lt_never k);
   }
     where
-      only : (m : Meeting) → Member m (alone g.lower at) → IsSpotOf v m.point m.spot
-      only m (inl e) = subst (λ (n : Meeting). IsSpotOf v n.point n.spot) (sym e) h
+      only : (m : Meeting) → Member m (alone g.lower at) → IsMet v m.point m.met
+      only m (inl e) = subst (λ (n : Meeting). IsMet v n.point n.met) (sym e) h
       only m (inr k) = absurd k
 
-  pub starts : (at : Spot) → IsSpotOf v g.lower at → (p q : Point) → p ≡ g.lower → q ≡ g.lower → (ms : List Meeting) (spots : List Spot) (ds : List DartId) → ms ≡ alone p at → spots ≡ [] → ds ≡ [] → IsWalked v g ms spots ds q at
-  starts at h p q ep eq ms spots ds em es ed =
-      subst (λ (x : Point). IsWalked v g ms spots ds x at) (sym eq)
-      (subst (λ (xs : List DartId). IsWalked v g ms spots xs g.lower at) (sym ed)
-      (subst (λ (xs : List Spot). IsWalked v g ms xs [] g.lower at) (sym es)
+  pub starts : (at : Met) → IsMet v g.lower at → (p q : Point) → p ≡ g.lower → q ≡ g.lower → (ms : List Meeting) (parts : List Met) (ds : List DartId) → ms ≡ alone p at → parts ≡ [] → ds ≡ [] → IsWalked v g ms parts ds q at
+  starts at h p q ep eq ms parts ds em es ed =
+      subst (λ (x : Point). IsWalked v g ms parts ds x at) (sym eq)
+      (subst (λ (xs : List DartId). IsWalked v g ms parts xs g.lower at) (sym ed)
+      (subst (λ (xs : List Met). IsWalked v g ms xs [] g.lower at) (sym es)
       (subst (λ (xs : List Meeting). IsWalked v g xs [] [] g.lower at) (sym (em ∙ ap (λ (x : Point). alone x at) ep)) (begun at h))))
 
   -- ---- the next meeting point
@@ -183,7 +183,7 @@ module _ (v : View) (s : IsGraphSound v) (g : Segment) (c : IsCourse g) where
     pub rest_later : (rest : List Point) → q ∷ rest ≡ later_points v g p → rest ≡ later_points v g q
     rest_later rest e = same_rest q q rest (later_points v g q) (e ∙ fewer_later)
 
-  module _ (p q : Point) (spot : Spot) (here : MeetsAt v g p) (on : LiesOn g p) (before : Lt p g.upper) (k : IsStretch v g p spot q) where
+  module _ (p q : Point) (met : Met) (here : MeetsAt v g p) (on : LiesOn g p) (before : Lt p g.upper) (k : IsStretch v g p met q) where
     -- the lower end of an overlapped edge doesn't lie between
     begins_by : (d : DartId) → IsOverlapped v g d → Lt (point_in v (source_in v d)) q → (b : Bool) → precedes p (point_in v (source_in v d)) ≡ b → b ≡ false
     begins_by d o l false e = refl
@@ -194,24 +194,24 @@ module _ (v : View) (s : IsGraphSound v) (g : Segment) (c : IsCourse g) where
         clash (lt_in l) (k.next.none_between x m e)
 
     -- what goes on from p is the one edge that does
-    listed_there : (x : Spot) → IsSpotAhead v (line_of_segment g) p x → (d : DartId) → IsAhead v (line_of_segment g) p d → Member d (darts_among (x ∷ []))
+    listed_there : (x : Met) → IsMetAhead v (line_of_segment g) p x → (d : DartId) → IsAhead v (line_of_segment g) p d → Member d (darts_among (x ∷ []))
     listed_there (Vertex w) h d a = absurd h
-    listed_there Face h d a = absurd (h d a)
+    listed_there Nothing h d a = absurd (h d a)
     listed_there (Edge e) h d a = inl (one_ahead v s (line_of_segment g) p (meets_proper v s g c p here) on.on d e a h)
 
     -- an overlapped edge that begins before q is there already, or it goes on from p
     there_by : (ds : List DartId) → ((d : DartId) → IsOverlapped v g d → Lt (point_in v (source_in v d)) p → Lt g.lower p → Member d ds)
-        → (d : DartId) → IsOverlapped v g d → precedes p (point_in v (source_in v d)) ≡ false → (b : Bool) → precedes p (point_in v (target_in v d)) ≡ b → Member d (ds ++ darts_among (spot ∷ []))
-    there_by ds had d o f true e = in_right d ds (darts_among (spot ∷ [])) (listed_there spot k.ahead d (record { forward = o.forward; line = o.line; begins = f; ends = e }))
+        → (d : DartId) → IsOverlapped v g d → precedes p (point_in v (source_in v d)) ≡ false → (b : Bool) → precedes p (point_in v (target_in v d)) ≡ b → Member d (ds ++ darts_among (met ∷ []))
+    there_by ds had d o f true e = in_right d ds (darts_among (met ∷ [])) (listed_there met k.ahead d (record { forward = o.forward; line = o.line; begins = f; ends = e }))
     there_by ds had d o f false e =
         let x = point_in v (target_in v d) in
         let u : Le x p = at_most x p e in
-        in_left d ds (darts_among (spot ∷ [])) (had d o (lt_le_lt (lt_out (point_in v (source_in v d)) x o.forward.1) u) (lt_le_lt (lt_out g.lower x o.ends) u))
+        in_left d ds (darts_among (met ∷ [])) (had d o (lt_le_lt (lt_out (point_in v (source_in v d)) x o.forward.1) u) (lt_le_lt (lt_out g.lower x o.ends) u))
 
     -- what goes on from p is overlapped
-    ahead_overlapped : (x : Spot) → IsSpotAhead v (line_of_segment g) p x → (d : DartId) → Member d (darts_among (x ∷ [])) → IsOverlapped v g d
+    ahead_overlapped : (x : Met) → IsMetAhead v (line_of_segment g) p x → (d : DartId) → Member d (darts_among (x ∷ [])) → IsOverlapped v g d
     ahead_overlapped (Vertex w) h d m = absurd h
-    ahead_overlapped Face h d m = absurd m
+    ahead_overlapped Nothing h d m = absurd m
     ahead_overlapped (Edge e) h d (inr m) = absurd m
     ahead_overlapped (Edge e) h d (inl i) =
         subst (IsOverlapped v g) (sym i)
@@ -222,92 +222,92 @@ module _ (v : View) (s : IsGraphSound v) (g : Segment) (c : IsCourse g) where
           ends = lt_in (le_lt_lt on.from (lt_out p (point_in v (target_in v e)) h.ends));
         })
 
-  module _ (ms : List Meeting) (spots : List Spot) (ds : List DartId) (p : Point) (at : Spot) (w : IsWalked v g ms spots ds p at) (before : Lt p g.upper) (spot : Spot) (next : Meeting) (k : IsStretch v g p spot next.point) (there : IsSpotOf v next.point next.spot) where
+  module _ (ms : List Meeting) (parts : List Met) (ds : List DartId) (p : Point) (at : Met) (w : IsWalked v g ms parts ds p at) (before : Lt p g.upper) (met : Met) (next : Meeting) (k : IsStretch v g p met next.point) (there : IsMet v next.point next.met) where
     on : LiesOn g p
     on = on_segment p w.meets
 
     more_points : points_of_meetings (ms ++ (next ∷ [])) ++ later_points v g next.point ≡ meeting_points v g
     more_points = map_more ms next (later_points v g next.point) ∙ ap (λ (ps : List Point). points_of_meetings ms ++ ps) (sym (fewer_later p next.point k.next)) ∙ w.points
 
-    more_spots : (m : Meeting) → Member m (ms ++ (next ∷ [])) → IsSpotOf v m.point m.spot
-    more_spots m n = ⊎_elim (λ a. w.spots_met m a) (λ b. ⊎_elim (λ e. subst (λ (o : Meeting). IsSpotOf v o.point o.spot) (sym e) there) (λ z. absurd z) b) (in_either m ms (next ∷ []) n)
+    more_met : (m : Meeting) → Member m (ms ++ (next ∷ [])) → IsMet v m.point m.met
+    more_met m n = ⊎_elim (λ a. w.all_met m a) (λ b. ⊎_elim (λ e. subst (λ (o : Meeting). IsMet v o.point o.met) (sym e) there) (λ z. absurd z) b) (in_either m ms (next ∷ []) n)
 
-    more_between : (qs : List Point) (rest : List Spot) → AreSpotsBetween v g (next.point ∷ qs) rest → AreSpotsBetween v g (points_of_meetings (ms ++ (next ∷ [])) ++ qs) ((spots ++ (spot ∷ [])) ++ rest)
+    more_between : (qs : List Point) (rest : List Met) → AreMetBetween v g (next.point ∷ qs) rest → AreMetBetween v g (points_of_meetings (ms ++ (next ∷ [])) ++ qs) ((parts ++ (met ∷ [])) ++ rest)
     more_between qs rest h =
-        subst (λ (ps : List Point). AreSpotsBetween v g ps ((spots ++ (spot ∷ [])) ++ rest)) (sym (map_more ms next qs))
-        (subst (AreSpotsBetween v g (points_of_meetings ms ++ (next.point ∷ qs))) (sym (append_assoc spots (spot ∷ []) rest)) (w.between (next.point ∷ qs) (spot ∷ rest) (k.between, h)))
+        subst (λ (ps : List Point). AreMetBetween v g ps ((parts ++ (met ∷ [])) ++ rest)) (sym (map_more ms next qs))
+        (subst (AreMetBetween v g (points_of_meetings ms ++ (next.point ∷ qs))) (sym (append_assoc parts (met ∷ []) rest)) (w.between (next.point ∷ qs) (met ∷ rest) (k.between, h)))
 
-    more_overlapped : (d : DartId) → Member d (ds ++ darts_among (spot ∷ [])) → IsOverlapped v g d
-    more_overlapped d m = ⊎_elim (λ a. w.overlapped d a) (λ b. ahead_overlapped p next.point spot (told v s g c p w.meets) on before k spot k.ahead d b) (in_either d ds (darts_among (spot ∷ [])) m)
+    more_overlapped : (d : DartId) → Member d (ds ++ darts_among (met ∷ [])) → IsOverlapped v g d
+    more_overlapped d m = ⊎_elim (λ a. w.overlapped d a) (λ b. ahead_overlapped p next.point met (told v s g c p w.meets) on before k met k.ahead d b) (in_either d ds (darts_among (met ∷ [])) m)
 
-    pub walked_on : IsWalked v g (ms ++ (next ∷ [])) (spots ++ (spot ∷ [])) (ds ++ darts_among (spot ∷ [])) next.point next.spot
+    pub walked_on : IsWalked v g (ms ++ (next ∷ [])) (parts ++ (met ∷ [])) (ds ++ darts_among (met ∷ [])) next.point next.met
     walked_on = record {
       meets = k.next.meets;
-      here_spot = there;
+      here_met = there;
       points = more_points;
-      spots_met = more_spots;
+      all_met = more_met;
       between = more_between;
-      darts = ap (λ (es : List DartId). es ++ darts_among (spot ∷ [])) w.darts ∙ sym (darts_more spots spot);
+      darts = ap (λ (es : List DartId). es ++ darts_among (met ∷ [])) w.darts ∙ sym (darts_more parts met);
       overlapped = more_overlapped;
       all_overlapped = λ d o l m.
-          there_by p next.point spot (told v s g c p w.meets) on before k ds w.all_overlapped d o (begins_false d o l) (precedes p (point_in v (target_in v d))) refl;
+          there_by p next.point met (told v s g c p w.meets) on before k ds w.all_overlapped d o (begins_false d o l) (precedes p (point_in v (target_in v d))) refl;
     }
       where
         begins_false : (d : DartId) → IsOverlapped v g d → Lt (point_in v (source_in v d)) next.point → precedes p (point_in v (source_in v d)) ≡ false
         begins_false d o l = by (precedes p (point_in v (source_in v d))) refl
           where
             by : (b : Bool) → precedes p (point_in v (source_in v d)) ≡ b → precedes p (point_in v (source_in v d)) ≡ false
-            by b e = e ∙ begins_by p next.point spot (told v s g c p w.meets) on before k d o l b e
+            by b e = e ∙ begins_by p next.point met (told v s g c p w.meets) on before k d o l b e
 
-    pub continues : (grown : List Meeting) (parts : List Spot) (darts : List DartId) → grown ≡ ms ++ (next ∷ []) → parts ≡ spots ++ (spot ∷ []) → darts ≡ ds ++ darts_among (spot ∷ []) → IsWalked v g grown parts darts next.point next.spot
-    continues grown parts darts em es ed =
-        subst (λ (xs : List DartId). IsWalked v g grown parts xs next.point next.spot) (sym ed)
-        (subst (λ (xs : List Spot). IsWalked v g grown xs (ds ++ darts_among (spot ∷ [])) next.point next.spot) (sym es)
-        (subst (λ (xs : List Meeting). IsWalked v g xs (spots ++ (spot ∷ [])) (ds ++ darts_among (spot ∷ [])) next.point next.spot) (sym em) walked_on))
+    pub continues : (grown : List Meeting) (grown_parts : List Met) (darts : List DartId) → grown ≡ ms ++ (next ∷ []) → grown_parts ≡ parts ++ (met ∷ []) → darts ≡ ds ++ darts_among (met ∷ []) → IsWalked v g grown grown_parts darts next.point next.met
+    continues grown grown_parts darts em es ed =
+        subst (λ (xs : List DartId). IsWalked v g grown grown_parts xs next.point next.met) (sym ed)
+        (subst (λ (xs : List Met). IsWalked v g grown xs (ds ++ darts_among (met ∷ [])) next.point next.met) (sym es)
+        (subst (λ (xs : List Meeting). IsWalked v g xs (parts ++ (met ∷ [])) (ds ++ darts_among (met ∷ [])) next.point next.met) (sym em) walked_on))
 
   -- ---- the next of those that are left
-  module _ (p : Point) (next : Meeting) (es rest : List (Point × Spot)) (is : es ≡ (next.point, next.spot) ∷ rest) (left : AreLeft v g p es) where
+  module _ (p : Point) (next : Meeting) (es rest : List (Point × Met)) (is : es ≡ (next.point, next.met) ∷ rest) (left : AreLeft v g p es) where
     first_left : next.point ∷ keys_of rest ≡ later_points v g p
-    first_left = sym (ap (λ (xs : List (Point × Spot)). keys_of xs) is) ∙ left.points
+    first_left = sym (ap (λ (xs : List (Point × Met)). keys_of xs) is) ∙ left.points
 
     pub left_next : IsNextMeeting v g p next.point
     left_next = next_is p next.point (keys_of rest) first_left
 
-    pub left_spot : IsSpotOf v next.point next.spot
-    left_spot = left.spots next.point next.spot (subst (λ (xs : List (Point × Spot)). Member (next.point, next.spot) xs) (sym is) (inl refl))
+    pub left_met : IsMet v next.point next.met
+    left_met = left.met next.point next.met (subst (λ (xs : List (Point × Met)). Member (next.point, next.met) xs) (sym is) (inl refl))
 
     pub still_left : AreLeft v g next.point rest
     still_left = record {
       points = rest_later p next.point left_next (keys_of rest) first_left;
-      spots = λ q spot m. left.spots q spot (subst (λ (xs : List (Point × Spot)). Member (q, spot) xs) (sym is) (inr m));
+      met = λ q met m. left.met q met (subst (λ (xs : List (Point × Met)). Member (q, met) xs) (sym is) (inr m));
     }
 
     pub fewer_left : length rest < length es
-    fewer_left = let e = ap (λ (xs : List (Point × Spot)). length xs) is in omega arith
+    fewer_left = let e = ap (λ (xs : List (Point × Met)). length xs) is in omega arith
 
-  pub begins_left : (p : Point) → p ≡ g.lower → (es : List (Point × Spot)) → AreLaterMeetings v g es → AreLeft v g p es
-  begins_left p e es h = record { points = h.points ∙ ap (λ (q : Point). later_points v g q) (sym e); spots = h.spots }
+  pub begins_left : (p : Point) → p ≡ g.lower → (es : List (Point × Met)) → AreLaterMeetings v g es → AreLeft v g p es
+  begins_left p e es h = record { points = h.points ∙ ap (λ (q : Point). later_points v g q) (sym e); met = h.met }
 
   -- ---- a meeting point with another one after it comes before the upper end
   pub before_upper : (p q : Point) → IsNextMeeting v g p q → Lt p g.upper
   before_upper p q n = lt_le_lt (lt_out p q n.later) (on_segment q n.meets).upto
 
   -- none is left at the upper end
-  pub past_upper : (p : Point) (es : List (Point × Spot)) → AreLeft v g p es → es ≡ [] → precedes p g.upper ≡ false
+  pub past_upper : (p : Point) (es : List (Point × Met)) → AreLeft v g p es → es ≡ [] → precedes p g.upper ≡ false
   past_upper p es left none =
       not_true (precedes p g.upper)
-      (λ l. subst (λ (xs : List Point). Member g.upper xs) (sym left.points ∙ ap (λ (xs : List (Point × Spot)). keys_of xs) none) (in_filter (precedes p) g.upper (meeting_points v g) (to_member (meeting_points v g) g.upper (listed v s g c g.upper (upper refl))) l))
+      (λ l. subst (λ (xs : List Point). Member g.upper xs) (sym left.points ∙ ap (λ (xs : List (Point × Met)). keys_of xs) none) (in_filter (precedes p) g.upper (meeting_points v g) (to_member (meeting_points v g) g.upper (listed v s g c g.upper (upper refl))) l))
 
   -- ---- at the upper end
-  few_between : (ps : List Point) (spots : List Spot) → AreSpotsBetween v g ps spots → length spots ≤ length ps
+  few_between : (ps : List Point) (parts : List Met) → AreMetBetween v g ps parts → length parts ≤ length ps
   few_between [] [] h = absurd h
-  few_between [] (x ∷ spots) h = absurd h
+  few_between [] (x ∷ parts) h = absurd h
   few_between (p ∷ []) [] h = omega arith
-  few_between (p ∷ []) (x ∷ spots) h = absurd h
+  few_between (p ∷ []) (x ∷ parts) h = absurd h
   few_between (p ∷ q ∷ ps) [] h = absurd h
-  few_between (p ∷ q ∷ ps) (x ∷ spots) h = let k = few_between (q ∷ ps) spots h.1 in omega arith
+  few_between (p ∷ q ∷ ps) (x ∷ parts) h = let k = few_between (q ∷ ps) parts h.1 in omega arith
 
-  module _ (z : ZonePlan) (p : Point) (at : Spot) (w : IsWalked v g z.vertices z.between z.overlapped p at) (past : precedes p g.upper ≡ false) (vertices : z.room.vertices ≡ vertices_needed z.vertices) (edges : z.room.edges ≡ edges_needed z.vertices z.between) (cycles : z.room.cycles ≡ length z.between) (faces : z.room.faces ≡ length z.between) where
+  module _ (z : ZonePlan) (p : Point) (at : Met) (w : IsWalked v g z.vertices z.between z.overlapped p at) (past : precedes p g.upper ≡ false) (vertices : z.room.vertices ≡ vertices_needed z.vertices) (edges : z.room.edges ≡ edges_needed z.vertices z.between) (cycles : z.room.cycles ≡ length z.between) (faces : z.room.faces ≡ length z.between) where
     at_upper : p ≡ g.upper
     at_upper = le_both (on_segment p w.meets).upto (at_most g.upper p past)
 
@@ -317,10 +317,10 @@ module _ (v : View) (s : IsGraphSound v) (g : Segment) (c : IsCourse g) where
     all_points : points_of_meetings z.vertices ≡ meeting_points v g
     all_points = sym (append-nil (points_of_meetings z.vertices)) ∙ ap (λ (ps : List Point). points_of_meetings z.vertices ++ ps) (sym none_later) ∙ w.points
 
-    all_between : AreSpotsBetween v g (meeting_points v g) z.between
+    all_between : AreMetBetween v g (meeting_points v g) z.between
     all_between =
-        subst (λ (ps : List Point). AreSpotsBetween v g ps z.between) (append-nil (points_of_meetings z.vertices) ∙ all_points)
-        (subst (AreSpotsBetween v g (points_of_meetings z.vertices ++ [])) (append-nil z.between) (w.between [] [] tt))
+        subst (λ (ps : List Point). AreMetBetween v g ps z.between) (append-nil (points_of_meetings z.vertices) ∙ all_points)
+        (subst (AreMetBetween v g (points_of_meetings z.vertices ++ [])) (append-nil z.between) (w.between [] [] tt))
 
     as_many : length z.vertices ≡ length (meeting_points v g)
     as_many = sym (length-map z.vertices (λ (m : Meeting). m.point)) ∙ ap (λ (ps : List Point). length ps) all_points
@@ -328,7 +328,7 @@ module _ (v : View) (s : IsGraphSound v) (g : Segment) (c : IsCourse g) where
     pub zone_done : IsZoneOf v g z
     zone_done = record {
       points = all_points;
-      spots = λ m n. w.spots_met m (to_member z.vertices m n);
+      met = λ m n. w.all_met m (to_member z.vertices m n);
       between = all_between;
       listed = w.darts;
       overlapped = λ d m. w.overlapped d (to_member z.overlapped d m);
@@ -337,6 +337,6 @@ module _ (v : View) (s : IsGraphSound v) (g : Segment) (c : IsCourse g) where
       edges = edges;
       cycles = cycles;
       faces = faces;
-      vertices_fit = let a = count_by-le-length (λ (m : Meeting). not (is_vertex m.spot)) z.vertices in omega (arith, vertices, as_many);
-      edges_fit = let a = count_by-le-length (λ (m : Meeting). is_edge m.spot) z.vertices in let b = few_between (meeting_points v g) z.between all_between in omega (arith, edges, as_many);
+      vertices_fit = let a = count_by-le-length (λ (m : Meeting). not (is_vertex m.met)) z.vertices in omega (arith, vertices, as_many);
+      edges_fit = let a = count_by-le-length (λ (m : Meeting). is_edge m.met) z.vertices in let b = few_between (meeting_points v g) z.between all_between in omega (arith, edges, as_many);
     }

@@ -15,8 +15,8 @@ use Rattle.slab_laws.specs.SpansDrawn.{edge_of}
 use Rattle.slab_laws.specs.Skeleton.{inside}
 use Rattle.slab_laws.specs.Sound.{edge_in}
 use Rattle.slab_laws.specs.View.{View, HasVertex, HasDart, point_in, twin_in}
-use Rattle.dcel_records.specs.declared.spot.Spot.{Spot}
-use Rattle.dcel_records.specs.Spots.{IsSpotOf}
+use Rattle.dcel_records.specs.declared.spot.Met.{Met}
+use Rattle.dcel_records.specs.Spots.{IsMet}
 use Rattle.zone_walk.specs.Zone.{is_on_segment, passes, meeting_points, later_points}
 
 -- the segment between the ends of a span
@@ -70,37 +70,37 @@ IsInnerPoint v s d r = MatchOption r ((q : Point) → ¬ MeetsInside v s d q) (�
 
 -- ---- all vertices and edges
 
--- a meeting point after the segment's lower end, with its spot (this project)
-pub record IsFound (v : View) (s : Segment) (p : Point) (at : Spot) : Type 0 where
+-- a meeting point after the segment's lower end, with what it meets (this project)
+pub record IsFound (v : View) (s : Segment) (p : Point) (at : Met) : Type 0 where
   pub meets : Contains (meeting_points v s) p
   pub later : precedes s.lower p ≡ true
-  pub spot : IsSpotOf v p at
+  pub met : IsMet v p at
 
--- each that is found is a meeting point after the segment's lower end, with its spot (this project)
-abbrev pub AreFound : View → Segment → List (Point × Spot) → Type 0
-AreFound v s es = (p : Point) (spot : Spot) → Member (p, spot) es → IsFound v s p spot
+-- each that is found is a meeting point after the segment's lower end, with what it meets (this project)
+abbrev pub AreFound : View → Segment → List (Point × Met) → Type 0
+AreFound v s es = (p : Point) (met : Met) → Member (p, met) es → IsFound v s p met
 
 -- no point is lost (this project)
-abbrev pub AreKept : List (Point × Spot) → List (Point × Spot) → Type 0
+abbrev pub AreKept : List (Point × Met) → List (Point × Met) → Type 0
 AreKept old new = (p : Point) → Member p (keys_of old) → Member p (keys_of new)
 
 -- the vertex is there, where it lies on the segment after its lower end (this project)
-abbrev pub TakesVertex : View → Segment → List (Point × Spot) → VertexId → Type 0
+abbrev pub TakesVertex : View → Segment → List (Point × Met) → VertexId → Type 0
 TakesVertex v s es w = is_on_segment s (point_in v w) ≡ true → precedes s.lower (point_in v w) ≡ true → Member (point_in v w) (keys_of es)
 
 -- the meeting points inside the edge of a dart after the segment's lower end are there, where it has the lesser name of the two along its edge (this project)
-abbrev pub TakesDart : View → Segment → List (Point × Spot) → DartId → Type 0
+abbrev pub TakesDart : View → Segment → List (Point × Met) → DartId → Type 0
 TakesDart v s es d = nat_lt d.0 (twin_in v d).0 ≡ true → (p : Point) → MeetsInside v s d p → Member p (keys_of es)
 
 -- the vertices on the segment after its lower end are there (this project)
-abbrev pub HasVertices : View → Segment → List (Point × Spot) → Type 0
+abbrev pub HasVertices : View → Segment → List (Point × Met) → Type 0
 HasVertices v s es = (w : VertexId) → HasVertex v w → is_on_segment s (point_in v w) ≡ true → precedes s.lower (point_in v w) ≡ true → Member (point_in v w) (keys_of es)
 
 -- the meeting points inside edges after the segment's lower end are there (this project)
-abbrev pub HasInnerPoints : View → Segment → List (Point × Spot) → Type 0
+abbrev pub HasInnerPoints : View → Segment → List (Point × Met) → Type 0
 HasInnerPoints v s es = (d : DartId) → HasDart v d → (p : Point) → MeetsInside v s d p → Member p (keys_of es)
 
--- the meeting points after the segment's lower end, in order, each with its spot (this project)
-pub record AreLaterMeetings (v : View) (s : Segment) (es : List (Point × Spot)) : Type 0 where
+-- the meeting points after the segment's lower end, in order, each with what it meets (this project)
+pub record AreLaterMeetings (v : View) (s : Segment) (es : List (Point × Met)) : Type 0 where
   pub points : keys_of es ≡ later_points v s s.lower
-  pub spots : (p : Point) (spot : Spot) → Member (p, spot) es → IsSpotOf v p spot
+  pub met : (p : Point) (met : Met) → Member (p, met) es → IsMet v p met

@@ -11,9 +11,9 @@ use Rattle.slab_laws.specs.Skeleton.{inside}
 use Rattle.slab_laws.specs.Sound.{points_of, edge_in}
 use Rattle.slab_laws.specs.View.{View, dart_id, point_in, source_in, target_in, line_in}
 use Rattle.arr_notes.specs.Curves.{IsForward}
-use Rattle.dcel_records.specs.declared.spot.Spot.{Spot}
-use Rattle.dcel_records.specs.declared.spot.Spot.TheVariants.{Vertex, Edge}
-use Rattle.dcel_records.specs.Spots.{IsSpotOf}
+use Rattle.dcel_records.specs.declared.spot.Met.{Met}
+use Rattle.dcel_records.specs.declared.spot.Met.TheVariants.{Vertex, Edge}
+use Rattle.dcel_records.specs.Spots.{IsMet}
 use Rattle.zone_walk.specs.declared.plan.Meeting.{Meeting}
 use Rattle.zone_walk.specs.declared.plan.ZonePlan.{ZonePlan}
 
@@ -31,15 +31,15 @@ passes v s d =
 unfoldable pub meeting_points : View → Segment → List Point
 meeting_points v s = ascending point_cmp (s.lower ∷ s.upper ∷ filter (is_on_segment s) (points_of v) ++ flat_map (λ r. passes v s (dart_id r.0)) v.darts)
 
--- every point of the segment strictly between two has the spot (this project)
-abbrev pub IsSpotBetween : View → Segment → Point → Point → Spot → Type 0
-IsSpotBetween v s p q spot = (t : Point) → IsProper t → is_on_segment s t ≡ true → precedes p t ≡ true → precedes t q ≡ true → IsSpotOf v t spot
+-- every point of the segment strictly between two meets this (this project)
+abbrev pub IsMetBetween : View → Segment → Point → Point → Met → Type 0
+IsMetBetween v s p q met = (t : Point) → IsProper t → is_on_segment s t ≡ true → precedes p t ≡ true → precedes t q ≡ true → IsMet v t met
 
--- each spot is that of the open part between a point and the next one (this project)
-abbrev pub AreSpotsBetween : View → Segment → List Point → List Spot → Type 0
-AreSpotsBetween v s (p ∷ q ∷ ps) (spot ∷ spots) = IsSpotBetween v s p q spot × AreSpotsBetween v s (q ∷ ps) spots
-AreSpotsBetween v s (p ∷ []) [] = ⊤
-AreSpotsBetween v s ps spots = ⊥
+-- each is what the open part between a point and the next one meets (this project)
+abbrev pub AreMetBetween : View → Segment → List Point → List Met → Type 0
+AreMetBetween v s (p ∷ q ∷ ps) (met ∷ parts) = IsMetBetween v s p q met × AreMetBetween v s (q ∷ ps) parts
+AreMetBetween v s (p ∷ []) [] = ⊤
+AreMetBetween v s ps parts = ⊥
 
 -- the edge of a forward dart has more than one point of the segment (CGAL manual, overlapping curves)
 pub record IsOverlapped (v : View) (s : Segment) (d : DartId) : Type 0 where
@@ -48,41 +48,41 @@ pub record IsOverlapped (v : View) (s : Segment) (d : DartId) : Type 0 where
   pub begins : precedes (point_in v (source_in v d)) s.upper ≡ true
   pub ends : precedes s.lower (point_in v (target_in v d)) ≡ true
 
-abbrev pub is_vertex : Spot → Bool
+abbrev pub is_vertex : Met → Bool
 is_vertex (Vertex w) = true
 is_vertex other = false
 
-abbrev pub is_edge : Spot → Bool
+abbrev pub is_edge : Met → Bool
 is_edge (Edge d) = true
 is_edge other = false
 
 -- how many vertices the steps of the insertion make: one for each meeting point that is none
 abbrev pub vertices_needed : List Meeting → ℕ
-vertices_needed ms = count_by (λ m. not (is_vertex m.spot)) ms
+vertices_needed ms = count_by (λ m. not (is_vertex m.met)) ms
 
 -- how many of the meeting points are inside edges, which are split there
 abbrev pub splits_needed : List Meeting → ℕ
-splits_needed ms = count_by (λ m. is_edge m.spot) ms
+splits_needed ms = count_by (λ m. is_edge m.met) ms
 
 -- how many edges they make at most: one for each edge that is split, and one for each open part
-abbrev pub edges_needed : List Meeting → List Spot → ℕ
-edges_needed ms spots = splits_needed ms + length spots
+abbrev pub edges_needed : List Meeting → List Met → ℕ
+edges_needed ms parts = splits_needed ms + length parts
 
--- the edges among spots, by their darts
-abbrev pub darts_among : List Spot → List DartId
+-- the edges among what is met, by their darts
+abbrev pub darts_among : List Met → List DartId
 darts_among [] = []
-darts_among (Edge d ∷ spots) = d ∷ darts_among spots
-darts_among (other ∷ spots) = darts_among spots
+darts_among (Edge d ∷ parts) = d ∷ darts_among parts
+darts_among (other ∷ parts) = darts_among parts
 
--- the edge of a spot, by its dart; none where the spot is no edge (this project)
-abbrev pub dart_of_spot : Spot → List DartId
-dart_of_spot spot = darts_among (spot ∷ [])
+-- the edge that is met, by its dart; none where none is (this project)
+abbrev pub dart_of_met : Met → List DartId
+dart_of_met met = darts_among (met ∷ [])
 
--- the plan of an insertion: the meeting points in order, each with its spot in the graph, the spots of the open parts between them, the edges that are overlapped, each once, and the room in which all steps fit, where each new edge may part a cycle and a face (Fogel, Halperin and Wein: insertion by the zone)
+-- the plan of an insertion: the meeting points in order, each with what it meets, what the open parts between them meet, the edges that are overlapped, each once, and the room in which all steps fit, where each new edge may part a cycle and a face (Fogel, Halperin and Wein: insertion by the zone)
 pub record IsZoneOf (v : View) (s : Segment) (z : ZonePlan) : Type 0 where
   pub points : map (λ m. m.point) z.vertices ≡ meeting_points v s
-  pub spots : (m : Meeting) → Contains z.vertices m → IsSpotOf v m.point m.spot
-  pub between : AreSpotsBetween v s (meeting_points v s) z.between
+  pub met : (m : Meeting) → Contains z.vertices m → IsMet v m.point m.met
+  pub between : AreMetBetween v s (meeting_points v s) z.between
   pub listed : z.overlapped ≡ darts_among z.between
   pub overlapped : (d : DartId) → Contains z.overlapped d → IsOverlapped v s d
   pub all_overlapped : (d : DartId) → IsOverlapped v s d → Contains z.overlapped d

@@ -9,7 +9,7 @@ ghost use Rattle.std.specs.Map.{keys_of};
 ghost use Rattle.zone_walk.specs.Found.{ends_of, IsWhole, AreFound, AreKept, TakesVertex, TakesDart, HasVertices, HasInnerPoints, AreLaterMeetings};
 
 use crate::crossings::{inner_point, may_meet};
-use dcel_records::{Records, Spot};
+use dcel_records::{Met, Records};
 use exact_plane::{Point, Segment, Span, line_of};
 use no_memory::NoMemory;
 use slab_laws::{DartId, Darts, VertexId};
@@ -40,7 +40,7 @@ fn is_later(whole: &Span, point: &Point) -> bool
 
 // Adds the vertex, where it lies on the segment after its lower end.
 fn add_vertex(
-    found: &mut BTreeMap<Point, Spot>,
+    found: &mut BTreeMap<Point, Met>,
     records: &Records,
     whole: &Span,
     vertex: VertexId,
@@ -55,14 +55,14 @@ fn add_vertex(
 {
     let point = records.point(vertex);
     if is_later(whole, &point) {
-        found.insert(point, Spot::Vertex(vertex))?;
+        found.insert(point, Met::Vertex(vertex))?;
     }
     Ok(())
 }
 
 // Adds the vertices on the segment after its lower end.
 fn add_vertices(
-    found: &mut BTreeMap<Point, Spot>,
+    found: &mut BTreeMap<Point, Met>,
     records: &Records,
     whole: &Span,
 ) -> Result<(), NoMemory>
@@ -83,7 +83,7 @@ fn add_vertices(
 // Adds the meeting point inside the edge of a dart, where there is one after the segment's lower end. Of the two darts along an
 // edge only the first is looked at.
 fn add_inner_point(
-    found: &mut BTreeMap<Point, Spot>,
+    found: &mut BTreeMap<Point, Met>,
     records: &Records,
     whole: &Span,
     dart: DartId,
@@ -104,14 +104,14 @@ fn add_inner_point(
     }
     let forward = forward_dart(records, dart);
     if let Some(point) = inner_point(records, whole, forward) {
-        found.insert(point, Spot::Edge(forward))?;
+        found.insert(point, Met::Edge(forward))?;
     }
     Ok(())
 }
 
 // Adds the meeting points inside edges after the segment's lower end.
 fn add_inner_points(
-    found: &mut BTreeMap<Point, Spot>,
+    found: &mut BTreeMap<Point, Met>,
     records: &Records,
     whole: &Span,
 ) -> Result<(), NoMemory>
@@ -132,7 +132,7 @@ fn add_inner_points(
 
 // Adds the segment's upper end, which lies in a face where it isn't there yet.
 fn add_upper(
-    found: &mut BTreeMap<Point, Spot>,
+    found: &mut BTreeMap<Point, Met>,
     records: &Records,
     whole: &Span,
 ) -> Result<(), NoMemory>
@@ -147,12 +147,12 @@ fn add_upper(
 {
     let upper = whole.upper();
     if !found.contains_key(&upper) {
-        found.insert(upper, Spot::Face)?;
+        found.insert(upper, Met::Nothing)?;
     }
     Ok(())
 }
 
-/// The meeting points after a segment's lower end, in order, each with its spot.
+/// The meeting points after a segment's lower end, in order, each with what it meets.
 ///
 /// # Errors
 ///
@@ -161,7 +161,7 @@ pub(crate) fn later_meetings(
     alloc: Global,
     records: &Records,
     segment: &Segment,
-) -> Result<BTreeMap<Point, Spot>, NoMemory>
+) -> Result<BTreeMap<Point, Met>, NoMemory>
     requires { IsGraphSound records.now.graph }
     ensures { IfOk result (λ found. AreLaterMeetings records.now.graph segment.now found.entries) }
 {

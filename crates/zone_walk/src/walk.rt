@@ -3,62 +3,62 @@ ghost use Rattle.exact_plane.specs.Line.{IsOn};
 ghost use Rattle.plane_graphs.specs.Line.{IsProper, IsProperLine};
 ghost use Rattle.slab_laws.specs.Sound.{IsGraphSound};
 ghost use Rattle.slab_laws.specs.View.{HasVertex, point_in};
-ghost use Rattle.dcel_records.specs.Spots.{IsSpotOf};
-ghost use Rattle.zone_walk.specs.Walk.{IsSpotAhead};
-ghost use Rattle.zone_walk.specs.Zone.{vertices_needed, edges_needed, dart_of_spot, IsZoneOf};
+ghost use Rattle.dcel_records.specs.Spots.{IsMet, met_of};
+ghost use Rattle.zone_walk.specs.Walk.{IsMetAhead};
+ghost use Rattle.zone_walk.specs.Zone.{vertices_needed, edges_needed, dart_of_met, IsZoneOf};
 
 use crate::meetings::later_meetings;
 use crate::plan::{Meeting, ZonePlan};
-use dcel_records::{Records, Room, Spot};
+use dcel_records::{Met, Records, Room, Spot};
 use exact_plane::{Direction, Line, Point, Segment, line_of};
 use no_memory::NoMemory;
 use rotation_order::{Place, place_at};
 use slab_laws::{Darts, Sequence, VertexId};
 use std::alloc::Global;
 
-// The spot of what follows a vertex on a line through it: the edge that leaves in the line's direction, or a face.
-fn ahead_of_vertex(records: &Records, line: &Line, vertex: VertexId) -> Spot
+// What follows a vertex on a line through it: the edge that leaves in the line's direction, or nothing.
+fn ahead_of_vertex(records: &Records, line: &Line, vertex: VertexId) -> Met
     requires sound { IsGraphSound records.now.graph }
     requires vertex { HasVertex records.now.graph vertex }
     requires line { IsProperLine line.now }
     requires on { IsOn line.now (point_in records.now.graph vertex) }
-    ensures { IsSpotAhead records.now.graph line.now (point_in records.now.graph vertex) result }
+    ensures { IsMetAhead records.now.graph line.now (point_in records.now.graph vertex) result }
 {
     match place_at(records, vertex, Direction::along(line)) {
-        Place::Along(dart) => Spot::Edge(dart),
-        Place::Between(_, _) | Place::Bare => Spot::Face,
+        Place::Along(dart) => Met::Edge(dart),
+        Place::Between(_, _) | Place::Bare => Met::Nothing,
     }
 }
 
-// The spot of what follows a point on a line: the edge that goes on from there, or a face.
-fn spot_ahead(records: &Records, line: &Line, here: &Point, spot: Spot) -> Spot
+// What follows a point on a line: the edge that goes on from there, or nothing.
+fn met_ahead(records: &Records, line: &Line, here: &Point, met: Met) -> Met
     requires sound { IsGraphSound records.now.graph }
-    requires spot { IsSpotOf records.now.graph here.now spot }
+    requires met { IsMet records.now.graph here.now met }
     requires proper { IsProper here.now }
     requires line { IsProperLine line.now }
     requires on { IsOn line.now here.now }
-    ensures { IsSpotAhead records.now.graph line.now here.now result }
+    ensures { IsMetAhead records.now.graph line.now here.now result }
 {
-    match spot {
-        Spot::Vertex(vertex) => ahead_of_vertex(records, line, vertex),
-        Spot::Edge(dart) => {
+    match met {
+        Met::Vertex(vertex) => ahead_of_vertex(records, line, vertex),
+        Met::Edge(dart) => {
             if records.line(dart) == *line {
-                Spot::Edge(dart)
+                Met::Edge(dart)
             } else {
-                Spot::Face
+                Met::Nothing
             }
         }
-        Spot::Face => Spot::Face,
+        Met::Nothing => Met::Nothing,
     }
 }
 
 // Appends an open part and the meeting point at its end to the plan, but for the room.
-fn extend(plan: &mut ZonePlan, part: Spot, next: Meeting) -> Result<(), NoMemory>
+fn extend(plan: &mut ZonePlan, part: Met, next: Meeting) -> Result<(), NoMemory>
     ensures vertices { OnOk result (plan.new.vertices ≡ plan.old.vertices ++ (next ∷ [])) }
     ensures between { OnOk result (plan.new.between ≡ plan.old.between ++ (part ∷ [])) }
-    ensures overlapped { OnOk result (plan.new.overlapped ≡ plan.old.overlapped ++ dart_of_spot part) }
+    ensures overlapped { OnOk result (plan.new.overlapped ≡ plan.old.overlapped ++ dart_of_met part) }
 {
-    if let Spot::Edge(dart) = part {
+    if let Met::Edge(dart) = part {
         plan.overlapped.push(dart)?;
     }
     plan.between.push(part)?;
@@ -76,11 +76,11 @@ fn room_for(plan: &ZonePlan) -> Room
     let vertices = plan.vertices.as_slice();
     let new_vertices = vertices
         .iter()
-        .filter(|meeting| !matches!(meeting.spot, Spot::Vertex(_)))
+        .filter(|meeting| !matches!(meeting.met, Met::Vertex(_)))
         .count();
     let splits = vertices
         .iter()
-        .filter(|meeting| matches!(meeting.spot, Spot::Edge(_)))
+        .filter(|meeting| matches!(meeting.met, Met::Edge(_)))
         .count();
     Room {
         vertices: new_vertices,
@@ -91,7 +91,7 @@ fn room_for(plan: &ZonePlan) -> Room
 }
 
 /// The zone of a segment in the graph of the records, from the spot of its lower end: the meeting points in order and the
-/// open parts between them, each with its spot, the edges that are overlapped, and the room that the steps of the insertion
+/// open parts between them, each with what it meets, the edges that are overlapped, and the room that the steps of the insertion
 /// need (Fogel, Halperin and Wein, the zone of a curve).
 ///
 /// It looks once at each vertex and each edge, and at the darts round the vertices on the segment.
@@ -106,14 +106,14 @@ pub fn zone(
     start: Spot,
 ) -> Result<ZonePlan, NoMemory>
     requires sound { IsGraphSound records.now.graph }
-    requires start { IsSpotOf records.now.graph segment.now.lower start }
+    requires start { IsMet records.now.graph segment.now.lower (met_of start) }
     ensures { IfOk result (IsZoneOf records.now.graph segment.now) }
 {
     let line = line_of(segment);
     let mut later = later_meetings(alloc, records, segment)?;
     let mut here = Meeting {
         point: segment.lower(),
-        spot: start,
+        met: start.met(),
     };
     let mut plan = ZonePlan {
         vertices: Sequence::new(alloc),
@@ -128,9 +128,9 @@ pub fn zone(
     };
     plan.vertices.push(here)?;
     'walk: while let Some(next) = later.pop_first() {
-        let part = spot_ahead(records, &line, &here.point, here.spot);
-        let (point, spot) = next;
-        here = Meeting { point, spot };
+        let part = met_ahead(records, &line, &here.point, here.met);
+        let (point, met) = next;
+        here = Meeting { point, met };
         extend(&mut plan, part, here)?;
     }
     plan.room = room_for(&plan);

@@ -1,7 +1,7 @@
 use Rattle.std.proofs.Common.{arith, sym, ◌∙◌, subst}
 use Rattle.std.specs.Prelude.{Some, None}
 use Rattle.plane_graphs.proofs.Lines.{point_is_proper}
-use Rattle.locate_naive.proofs.Names.{no_dart_yet, dart_has, one_dart_more, fewer_darts, all_darts, darts_still}
+use Rattle.sound_views.proofs.NamesMet.{no_dart_yet, dart_has, one_dart_more, fewer_darts, all_darts, darts_still}
 use Rattle.face_location.proofs.SeenDarts.{IsLower, there, is_seen, not_seen, IsHigher, is_higher, still_lower, all_lower}
 use Rattle.face_location.proofs.below.highest_below.Goals as goal
 

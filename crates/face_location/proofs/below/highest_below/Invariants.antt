@@ -1,5 +1,5 @@
 use Rattle.std.proofs.Common.{length}
-use Rattle.locate_naive.proofs.Names.{AllDarts, darts_left}
+use Rattle.sound_views.proofs.NamesMet.{AllDarts, darts_left}
 use Rattle.face_location.specs.Below.{IsSeenOrNone}
 use Rattle.face_location.proofs.SeenDarts.{IsLower}
 use Rattle.face_location.proofs.below.highest_below.Given as goal

@@ -2,7 +2,7 @@ use Rattle.std.proofs.Common.{sym, subst}
 use Rattle.std.specs.Map.{keys_of}
 use Rattle.exact_plane.specs.Point.{Point}
 use Rattle.plane_graphs.specs.Ascending.{Member}
-use Rattle.dcel_records.specs.declared.spot.Spot.TheVariants.{Edge}
+use Rattle.dcel_records.specs.declared.spot.Met.TheVariants.{Edge}
 use Rattle.zone_walk.specs.Found.{ends_of}
 use Rattle.zone_walk.proofs.BothWays.{meets_along}
 use Rattle.zone_walk.proofs.Collected.{found_more, kept_more, there_now, inner_found}

@@ -2,7 +2,7 @@ use Rattle.std.proofs.Common.{sym, ◌∙◌, subst}
 use Rattle.std.specs.Map.{keys_of}
 use Rattle.exact_plane.specs.Point.{Point}
 use Rattle.plane_graphs.specs.Ascending.{Member}
-use Rattle.dcel_records.specs.declared.spot.Spot.TheVariants.{Vertex}
+use Rattle.dcel_records.specs.declared.spot.Met.TheVariants.{Vertex}
 use Rattle.zone_walk.specs.Found.{ends_of}
 use Rattle.zone_walk.proofs.Collected.{found_more, kept_more, there_now, vertex_found, vertex_passed}
 use Rattle.zone_walk.proofs.meetings.add_vertex.Goals as goal
