@@ -44,6 +44,7 @@ fn unite_faces(records: &mut Records, gone: CycleId, from: FaceId, to: FaceId) -
     requires gone { HasCycle records.old.faces.tables gone }
     requires off { (d : _) → HasDart records.old.graph d → cycle_in records.old.faces.tables d ≢ gone }
     requires face { face_in records.old.faces.tables gone ≡ from }
+    requires from { HasFace records.old.faces.tables from }
     requires to { HasFace records.old.faces.tables to }
     requires two { from ≢ to }
     requires bounded { from ≢ face_id 0 }

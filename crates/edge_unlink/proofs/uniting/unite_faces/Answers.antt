@@ -4,7 +4,7 @@ use Rattle.slab_laws.specs.declared.names.CycleId.{CycleId}
 use Rattle.slab_laws.specs.declared.names.FaceId.{FaceId}
 use Rattle.slab_laws.specs.declared.names.VertexId.{VertexId}
 use Rattle.slab_laws.specs.FaceLists.{Lists, MovedView}
-use Rattle.slab_laws.specs.View.{View, Faces, HasVertex, HasDart, HasCycle, cycle_in}
+use Rattle.slab_laws.specs.View.{View, Faces, HasVertex, HasDart, HasCycle, HasFace, cycle_in}
 use Rattle.arr_notes.specs.FaceWriters.{moved_to, without_cycle, without_face}
 use Rattle.dcel_records.specs.ListChanges.{cycle_unlisted}
 use Rattle.dcel_records.specs.RecordsView.{FacesView, GraphView, graph_part, lists_in_view, lists_of}
@@ -53,6 +53,16 @@ remove_cycle-requires-clause-off c =
     in
     let graph = c.move_isolated.ensures.graph ∙ c.move_cycles.ensures.graph ∙ c.take_moved-moved.ensures.graph in
     λ k o e. c.requires.off k (subst (λ (g : GraphView). HasDart g.graph k) graph o) (sym (ap (λ (s : Faces). cycle_in s k) moved) ∙ e)
+
+pub remove_face-requires-clause-face : goal.remove_face-requires-clause-face
+remove_face-requires-clause-face c =
+    let v : View = c.args.records.now.graph in
+    let f : FacesView = c.args.records.now.faces in
+    let moved : c.move_isolated.new.records.faces.tables ≡ emptied v c.args.gone c.args.from c.args.to f =
+    both_moved v c.args.gone c.args.from c.args.to f c.take_moved-moved.new.self.faces c.move_cycles.new.records.faces.tables c.move_isolated.new.records.faces.tables (lists_of c.move_cycles.new.records)
+    c.take_moved-moved.ensures.faces c.move_cycles.ensures.tables c.move_cycles.ensures.bare c.move_isolated.ensures.tables
+    in
+    subst (λ (s : Faces). HasFace s c.args.from) (sym (c.remove_cycle.ensures.tables ∙ ap (without_cycle c.args.gone) moved)) c.requires.from
 
 pub remove_face-requires-clause-cycles : goal.remove_face-requires-clause-cycles
 remove_face-requires-clause-cycles c =

@@ -22,6 +22,9 @@ unite_faces-moved-requires-clause-off c =
     c.put_together-m.new.records.graph c.put_together-m.new.records.faces.tables graph
     (made.tables ∙ (λ i. recycled (sym c.cycle-gone.ensures.cycle i) (sym c.cycle-kept.ensures.cycle i) (off_cycles (made.twin i) (off_cycles c.args.d f))))
 
+pub unite_faces-moved-requires-clause-from : goal.unite_faces-moved-requires-clause-from
+unite_faces-moved-requires-clause-from c = subst (λ (z : Faces). HasFace z c.face-gone_face.result) (sym c.put_together-m.ensures.tables) c.face-gone_face.ensures.has
+
 pub unite_faces-moved-requires-clause-to : goal.unite_faces-moved-requires-clause-to
 unite_faces-moved-requires-clause-to c =
     let f : Faces = c.args.records.now.faces.tables in
