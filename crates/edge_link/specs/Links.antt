@@ -1,8 +1,9 @@
--- When an edge may come between two vertices, and what is written then.
+-- When an edge may come between two vertices, what is written then, and the change that tells of it.
 use Rattle.std.specs.Prelude.{◌≡◌, ◌≢◌, pos, ◌∷◌, Option, Some, None}
 use Rattle.exact_plane.specs.Line.{Line, side_of}
 use Rattle.plane_graphs.specs.Ascending.{ascending}
 use Rattle.plane_graphs.specs.Graph.{edge_cmp}
+use Rattle.slab_laws.specs.declared.names.CurveId.{CurveId}
 use Rattle.slab_laws.specs.declared.names.DartId.{DartId}
 use Rattle.slab_laws.specs.declared.names.VertexId.{VertexId}
 use Rattle.slab_laws.specs.Skeleton.{Skeleton, IsPlaneSkeleton}
