@@ -12,7 +12,7 @@ set -eu
 cd "$(dirname "$0")/.."
 folder=$(mktemp -d)
 trap 'rm -rf "$folder"' EXIT
-uses='arrangement mirror_observer plain_slabs arr_text curve_history script_lines observer_bus dcel_records arr_notes slab_faces slab_laws plane_graphs exact_plane outside no_memory'
+uses='arrangement told_steps mirror_observer plain_slabs arr_text curve_history script_lines observer_bus dcel_records arr_notes slab_faces slab_laws plane_graphs exact_plane outside no_memory'
 crates=$(awk -v uses="$uses" -F': *' '
   function add(name, list, count, k) {
     if (!(name in below) || seen[name]++) return # (not in it: a crate of the kit)
