@@ -12,7 +12,7 @@ set -eu
 cd "$(dirname "$0")/.."
 folder=$(mktemp -d)
 trap 'rm -rf "$folder"' EXIT
-uses='arrangement mirror_observer plain_slabs arr_text curve_history script_lines observer_bus dcel_records arr_notes slab_faces slab_laws plane_graphs exact_plane outside no_memory'
+uses='arrangement told_steps mirror_observer plain_slabs arr_text curve_history script_lines observer_bus dcel_records arr_notes slab_faces slab_laws plane_graphs exact_plane outside no_memory'
 crates=$(awk -v uses="$uses" -F': *' '
   function add(name, list, count, k) {
     if (!(name in below) || seen[name]++) return # (not in it: a crate of the kit)
@@ -34,6 +34,12 @@ own=$folder/crates/records_text
 (cd benchmarks/records_text && find . -name '*.txt') | while read -r file; do
   mkdir -p "$own/$(dirname "$file")"
   cp "benchmarks/records_text/$file" "$own/${file%.txt}"
+done
+# The edits of a line, and the three texts of a layer, are those of the crates' tests.
+(cd crates/planar_tests && find . -path '*/layers/script_edits*' -o -path '*/layers/texts*') | while read -r file; do
+  [ -d "crates/planar_tests/$file" ] && continue
+  mkdir -p "$own/$(dirname "$file")"
+  sed 's/planar_tests/records_text/g' "crates/planar_tests/$file" > "$own/$file"
 done
 mkdir -p "$own/specs" "$own/proofs"
 touch "$own/specs/Lib.antt" "$own/proofs/Lib.antt"

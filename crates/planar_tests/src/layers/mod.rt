@@ -1,5 +1,6 @@
 // Layers of an arrangement, by the calls of `Arrangement`.
 
+mod afresh;
 mod asked;
 mod calls;
 pub mod edits;
@@ -8,4 +9,6 @@ mod overlays;
 mod places;
 mod rows;
 mod scribe;
+mod script_edits;
 mod seats;
+mod texts;

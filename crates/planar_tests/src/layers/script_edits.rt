@@ -44,15 +44,6 @@ fn mark(layer: &mut Arrangement, command: &Command)
     }
 }
 
-/// Whether a line asks for an edit.
-pub fn is_edit(command: &Command) -> bool {
-    match command {
-        Command::Segment(..) | Command::Drop(_) | Command::Cut(..) | Command::Clear => true,
-        Command::Pin(_) | Command::Unpin(_) | Command::Split(..) | Command::Merge(_) => true,
-        _ => false,
-    }
-}
-
 /// Makes the edit that a line asks for; what is refused changes nothing.
 pub fn apply(layer: &mut Arrangement, command: &Command)
     requires watched { IsWatched (arranged Observer-dyn layer.old) }
