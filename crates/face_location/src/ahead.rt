@@ -4,7 +4,7 @@ ghost use Rattle.dcel_records.specs.SoundMaps.{IsSoundMap};
 ghost use Rattle.face_location.specs.Ahead.{IsFaceAhead, IsPlaceRound};
 
 use dcel_records::Records;
-use slab_laws::{DartId, Darts, FaceId, VertexId};
+use slab_laws::{DartId, Darts, FaceId, Faced, VertexId};
 
 /// The face that lies ahead of a vertex in a direction in which no edge leaves it, by the place of the direction round the vertex:
 /// the dart after which an edge would come clockwise, or `None` where the vertex has no edge (CGAL manual, `insert_at_vertices`).
