@@ -6,6 +6,7 @@ use crate::observers::empty::EmptyPlane;
 use arr_notes::{Change, Intent, Note, Observer};
 use exact_plane::{Point, Segment, line_of};
 use observer_bus::{AttachError, Bus, NoSeat, ReportError};
+use slab_laws::FaceId;
 use std::alloc::Global;
 use std::test::Fail;
 
@@ -67,7 +68,7 @@ pub fn after(bus: &mut Bus, alloc: Global, plane: &EmptyPlane)
     ensures calm { IsCalm (bus_row Observer-dyn bus.new) }
     ensures ready { IsReady (bus_row Observer-dyn bus.new) }
 {
-    bus.say(alloc, plane, &Note::After(Change::Clear));
+    bus.say(alloc, plane, &Note::After(Change::Clear { face: FaceId(0) }));
 }
 
 /// A report.
