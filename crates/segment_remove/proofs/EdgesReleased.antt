@@ -66,7 +66,7 @@ module _ (v : MapView) (h : Curves) (c : CurveId) where
     pub left : (d : DartId) → Member c.0 (b d) → Member d (map (λ k. k.name) ks)
     pub told : (x : MapView) (z : Curves) (q : BusRow) → IsToldRun g b r (map step_of ks) x z q → IsToldRun v h e (map step_of all) x z q
 
-  pub with_keys : {e : BusRow} {all ks js : List DartKey} {g : View} {b : Curves} {r : BusRow} → ks ≡ js → IsGoing e all ks g b r → IsGoing e all js g b r
+  pub with_keys : {e : BusRow} {all ks js : List DartKey} {g : MapView} {b : Curves} {r : BusRow} → ks ≡ js → IsGoing e all ks g b r → IsGoing e all js g b r
   with_keys {e} {all} {ks} {js} {g} {b} {r} same i = subst (λ xs. IsGoing e all xs g b r) same i
 
   module _ (e : BusRow) (all ks : List DartKey) (k : DartKey) (g : MapView) (b : Curves) (r : BusRow) (i : IsGoing e all (k ∷ ks) g b r) where

@@ -19,3 +19,4 @@ pub mod Begun
 pub mod MapsKept
 pub mod Restored
 pub mod Settled
+pub mod FirstKept

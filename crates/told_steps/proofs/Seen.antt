@@ -5,7 +5,7 @@ use Rattle.slab_laws.specs.declared.names.DartId.{DartId}
 use Rattle.slab_laws.specs.Sound.{IsGraphSound}
 use Rattle.slab_laws.specs.View.{View, curve_id}
 use Rattle.arr_notes.specs.Curves.{Curves, AreCurvesOf}
-use Rattle.arr_notes.specs.CurvedView.{AreListsOf, IsSoundView, curve_rows, view_by}
+use Rattle.arr_notes.specs.CurvedView.{AreListsOf, CurvedView, IsSoundView, curve_rows, view_by}
 use Rattle.arr_notes.proofs.CurveRows.{curve_row, ascend_curve_rows, read_views_are_sound}
 use Rattle.arr_notes.proofs.Names.{numbers_of}
 use Rattle.arr_notes.proofs.RowLaws.{one_table}
@@ -14,7 +14,7 @@ use Rattle.arr_notes.specs.declared.note.Note.{Note}
 use Rattle.dcel_records.specs.RecordsView.{RecordsView}
 use Rattle.dcel_records.specs.SoundMaps.{map_of}
 use Rattle.observer_bus.specs.Rounds.{IsRoundOf}
-use Rattle.observer_bus.specs.Seats.{SeatRow, Holds}
+use Rattle.observer_bus.specs.Seats.{SeatRow, Holds, Leads}
 use Rattle.observer_bus.specs.declared.went.Went.{Went}
 use Rattle.curve_history.specs.DrawnRecords.{IsTold, curves_in}
 use Rattle.curve_history.specs.Past.{Past, curves_on}
@@ -58,3 +58,7 @@ module _ (r : RecordsView) (p : Past) (s : IsGraphSound r.graph) (a : AreCurvesO
 
   pub held_seen : (ss : List SeatRow) → All (Holds (view_by d.graph (curves_in d.graph q))) ss → All (Holds (seen (map_of r) (curves_on p))) ss
   held_seen ss o = subst (λ z. All (Holds z) ss) drawn_seen o
+
+-- a note leads to one view as it does to the same one
+pub leads_by : (v : CurvedView) (n : Note) {w x : CurvedView} → w ≡ x → Leads v n x → Leads v n w
+leads_by v n e l = subst (Leads v n) (sym e) l

@@ -6,9 +6,8 @@ use Rattle.arr_notes.specs.MapView.{MapView}
 use Rattle.observer_bus.specs.Rounds.{BusRow}
 use Rattle.told_steps.specs.ToldRuns.{AreInStep, IsToldRun}
 
-module _ {w x : MapView} (same : x ≡ w) where
-  pub told_then : {m : MapView} {h k : Curves} {b c : BusRow} {ss : List Step} → IsToldRun m h b ss w k c → IsToldRun m h b ss x k c
-  told_then {m} {h} {k} {b} {c} {ss} t = subst (λ z. IsToldRun m h b ss z k c) (sym same) t
+pub told_then : (m : MapView) (h : Curves) (b : BusRow) (ss : List Step) (w x : MapView) (k : Curves) (c : BusRow) → x ≡ w → IsToldRun m h b ss w k c → IsToldRun m h b ss x k c
+told_then m h b ss w x k c same t = subst (λ z. IsToldRun m h b ss z k c) (sym same) t
 
-  pub in_step_then : {k : Curves} {c : BusRow} → AreInStep w k c → AreInStep x k c
-  in_step_then {k} {c} t = subst (λ z. AreInStep z k c) (sym same) t
+pub in_step_then : (w x : MapView) (k : Curves) (c : BusRow) → x ≡ w → AreInStep w k c → AreInStep x k c
+in_step_then w x k c same t = subst (λ z. AreInStep z k c) (sym same) t
