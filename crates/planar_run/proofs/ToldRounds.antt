@@ -3,11 +3,10 @@ use Rattle.std.proofs.Common.{◌≡◌, ℕ, ◌+◌, ◌*◌, ◌≤◌, Bool,
 use Rattle.std.specs.Prelude.{⊤}
 use Rattle.std.proofs.lemmas.List.{length-map, map-append}
 use Rattle.edit_steps.specs.Steps.{Step}
-use Rattle.slab_laws.specs.View.{View}
 use Rattle.arr_notes.specs.Curves.{Curves, step_curves}
 use Rattle.arr_notes.specs.CurvedView.{CurvedView}
+use Rattle.arr_notes.specs.MapView.{MapView, step_map}
 use Rattle.arr_notes.specs.Notes.{left_after, one_less}
-use Rattle.arr_notes.specs.Step.{step}
 use Rattle.arr_notes.specs.declared.note.Note.{Note}
 use Rattle.arr_notes.specs.declared.note.Note.TheVariants.{Before, After, Snapshot}
 use Rattle.observer_bus.proofs.Hearing.{rounds_lawful}
@@ -100,19 +99,19 @@ by_losses (r ∷ rs) a b n h k =
     (z.0, omega (arith, z.1), z.2, z.3)
 
 -- two rounds for each step
-round_notes : (v : View) (h : Curves) (ss : List Step) (rs : List (Note × CurvedView)) → AreRoundsOf v h ss rs → AreRoundNotes rs × (length rs ≡ 2 * length ss)
-round_notes v h [] rs e = subst (λ qs. AreRoundNotes qs × (length qs ≡ 2 * 0)) (sym e) (tt, refl)
-round_notes v h (s ∷ ss) rs r =
-    let y : AreRoundNotes r.2 × (length r.2 ≡ 2 * length ss) = round_notes (step v r.0) (step_curves h r.0) ss r.2 r.4 in
+round_notes : (m : MapView) (h : Curves) (ss : List Step) (rs : List (Note × CurvedView)) → AreRoundsOf m h ss rs → AreRoundNotes rs × (length rs ≡ 2 * length ss)
+round_notes m h [] rs e = subst (λ qs. AreRoundNotes qs × (length qs ≡ 2 * 0)) (sym e) (tt, refl)
+round_notes m h (s ∷ ss) rs r =
+    let y : AreRoundNotes r.2 × (length r.2 ≡ 2 * length ss) = round_notes (step_map m r.0) (step_curves h r.0) ss r.2 r.4 in
     subst (λ qs. AreRoundNotes qs × (length qs ≡ 2 * length (s ∷ ss))) (sym r.3) ((tt, (tt, y.0)), omega (arith, y.1))
 
 -- told steps make the seats and the names of a bus, as a script knows them, by rounds, two for each step, each with the names lost in it
-pub told_rounds : (v : View) (h : Curves) (b : BusRow) (ss : List Step) (w : View) (k : Curves) (c : BusRow) → HaveNamesApart b.seats → IsToldRun v h (begun b) ss w k c →
+pub told_rounds : (m : MapView) (h : Curves) (b : BusRow) (ss : List Step) (w : MapView) (k : Curves) (c : BusRow) → HaveNamesApart b.seats → IsToldRun m h (begun b) ss w k c →
     (losses : List (List ℕ)) × (length losses ≡ 2 * length ss) × (map seat_row c.seats ≡ (after_rounds losses (map seat_row b.seats) nobody).seats) ×
     (c.went ≡ (after_rounds losses (map seat_row b.seats) nobody).went)
-told_rounds v h b ss w k c apart r =
-    let q = told_runs_lawful.rounds v h (begun b) ss w k c r in
-    let n = round_notes v h ss q.0 q.1 in
+told_rounds m h b ss w k c apart r =
+    let q = told_runs_lawful.rounds m h (begun b) ss w k c r in
+    let n = round_notes m h ss q.0 q.1 in
     let y : HaveLosses (length q.0) (begun b) c = by_losses q.0 (begun b) c n.0 q.2 apart in
     (y.0, y.1 ∙ n.1, y.2, y.3)
 

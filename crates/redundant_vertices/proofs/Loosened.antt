@@ -13,6 +13,7 @@ use Rattle.slab_laws.specs.declared.names.VertexId.{VertexId}
 use Rattle.slab_laws.specs.Sound.{IsGraphSound}
 use Rattle.slab_laws.specs.View.{View, HasVertex, IsOutOf, point_in}
 use Rattle.arr_notes.specs.Curves.{Curves, AreCurvesOf}
+use Rattle.arr_notes.specs.MapView.{MapView}
 use Rattle.arr_notes.specs.RecordGraph.{drawn_graph}
 use Rattle.observer_bus.specs.Rounds.{BusRow}
 use Rattle.rotation_order.specs.VertexRings.{IsBare}
@@ -69,8 +70,8 @@ module _ (v : View) (h : Curves) (w : VertexId) (s : IsGraphSound v) (a : AreCur
   not_joinable k o none l = let r = loose_fits v h w s a k has o l in none r.0 r.1 (r.2, r.3)
 
 -- the step that is told is the one that takes the vertex away
-pub goes_told : (v : View) (h : Curves) (b : BusRow) (p : Point) (s : Step) (x : View) (k : Curves) (c : BusRow) → IsLoose (drawn_graph v h) p × (tidy_step p (drawn_graph v h) ≡ s) → IsToldRun v h b (s ∷ []) x k c → IsTidied v h b p x k c
+pub goes_told : (v : MapView) (h : Curves) (b : BusRow) (p : Point) (s : Step) (x : MapView) (k : Curves) (c : BusRow) → IsLoose (drawn_graph v.graph h) p × (tidy_step p (drawn_graph v.graph h) ≡ s) → IsToldRun v h b (s ∷ []) x k c → IsTidied v h b p x k c
 goes_told v h b p s x k c l t = inl (l.0, subst (λ z. IsToldRun v h b (z ∷ []) x k c) (sym l.1) t)
 
-pub stays_told : (v : View) (h : Curves) (b : BusRow) (p : Point) → (IsLoose (drawn_graph v h) p → ⊥) → IsTidied v h b p v h b
+pub stays_told : (v : MapView) (h : Curves) (b : BusRow) (p : Point) → (IsLoose (drawn_graph v.graph h) p → ⊥) → IsTidied v h b p v h b
 stays_told v h b p n = inr (n, none_told v h b)

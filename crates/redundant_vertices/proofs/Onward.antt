@@ -26,6 +26,7 @@ use Rattle.slab_laws.specs.declared.names.VertexId.{VertexId}
 use Rattle.slab_laws.specs.Sound.{IsGraphSound}
 use Rattle.slab_laws.specs.View.{View, HasVertex, point_in, pinned_in}
 use Rattle.arr_notes.specs.Curves.{Curves, AreCurvesOf}
+use Rattle.arr_notes.specs.MapView.{MapView}
 use Rattle.arr_notes.specs.RecordGraph.{drawn_graph}
 use Rattle.dcel_records.specs.RecordsView.{RecordsView, SameRecordCapacity}
 use Rattle.curve_history.specs.Past.{Past, SameHistoryCapacity}
@@ -46,9 +47,9 @@ unfolding drawn_graph
 points_ascend v h = IsAscending-ascending point_cmp point_cmp_total _
 
 -- ---- what the records draw after the steps for some of the points
-module _ (v : View) (h : Curves) (b : BusRow) (s : IsGraphSound v) (a : AreCurvesOf v h) (p : Present) (all : List Point) (l : AreLeft v h p all) (done : List Point) (ascend : IsAscending point_cmp done) (there : (x : Point) → Member x done → Member x (drawn_graph v h).points) where
+module _ (v : MapView) (h : Curves) (b : BusRow) (s : IsGraphSound v.graph) (a : AreCurvesOf v.graph h) (p : Present) (all : List Point) (l : AreLeft v.graph h p all) (done : List Point) (ascend : IsAscending point_cmp done) (there : (x : Point) → Member x done → Member x (drawn_graph v.graph h).points) where
   abbrev g : Graph
-  g = drawn_graph v h
+  g = drawn_graph v.graph h
 
   abbrev vs : List Point
   vs = vertices p
@@ -60,7 +61,7 @@ module _ (v : View) (h : Curves) (b : BusRow) (s : IsGraphSound v) (a : AreCurve
   rest = missing_points g.points gone
 
   proper : (x : Point) → Member x g.points → IsProper x
-  proper x m = let w = held_point v s.named h x m in subst IsProper w.1.at (s.drawn.proper w.0 w.1.has)
+  proper x m = let w = held_point v.graph s.named h x m in subst IsProper w.1.at (s.drawn.proper w.0 w.1.has)
 
   gone_there : (x : Point) → Member x gone → Member x g.points
   gone_there x m = there x (missing_out done vs x m).0
@@ -70,7 +71,7 @@ module _ (v : View) (h : Curves) (b : BusRow) (s : IsGraphSound v) (a : AreCurve
 
   sum : IsSum g.points gone rest
   sum =
-      let t = missing_sum g.points gone (points_ascend v h) gone_there in
+      let t = missing_sum g.points gone (points_ascend v.graph h) gone_there in
       record {
         whole = t.whole;
         parts = missing_ascend done vs ascend;
@@ -81,7 +82,7 @@ module _ (v : View) (h : Curves) (b : BusRow) (s : IsGraphSound v) (a : AreCurve
       }
 
   rest_ascend : IsAscending point_cmp rest
-  rest_ascend = missing_ascend g.points gone (points_ascend v h)
+  rest_ascend = missing_ascend g.points gone (points_ascend v.graph h)
 
   vertices_rest : (x : Point) → Member x vs → Member x rest
   vertices_rest x m = missing_in g.points gone x (l.have x m) (λ k. (missing_out done vs x k).1 m)
@@ -92,45 +93,45 @@ module _ (v : View) (h : Curves) (b : BusRow) (s : IsGraphSound v) (a : AreCurve
   run_is : run (tidy_steps gone g) g ≡ graph_over rest p.pieces p.pins
   run_is = subst (λ z. run (tidy_steps gone z) z ≡ graph_over rest p.pieces p.pins) (sym l.draws) (shrunk p.pieces p.pins (tidy_sound p.pieces p.pins) gone g.points rest sum closed (λ x m. proper x (gone_there x m))).0
 
-  module _ (w : View) (k : Curves) (c : BusRow) (sw : IsGraphSound w) (told : IsToldRun v h b (tidy_steps gone g) w k c) (x : VertexId) (has : HasVertex w x) where
+  module _ (w : MapView) (k : Curves) (c : BusRow) (sw : IsGraphSound w.graph) (told : IsToldRun v h b (tidy_steps gone g) w k c) (x : VertexId) (has : HasVertex w.graph x) where
     abbrev r : Point
-    r = point_in w x
+    r = point_in w.graph x
 
-    ran : drawn_graph w k ≡ run (tidy_steps gone g) g
-    ran = (made_is_run v h (tidy_steps gone g) w k s a (told_runs_lawful.steps v h b (tidy_steps gone g) w k c told)).graph
+    ran : drawn_graph w.graph k ≡ run (tidy_steps gone g) g
+    ran = (made_is_run v.graph h (tidy_steps gone g) w.graph k s a (told_runs_lawful.steps v h b (tidy_steps gone g) w k c told)).graph
 
-    drawn : drawn_graph w k ≡ graph_over rest p.pieces p.pins
+    drawn : drawn_graph w.graph k ≡ graph_over rest p.pieces p.pins
     drawn = ran ∙ run_is
 
     here : Member r rest
-    here = subst (λ z. Member r z.points) drawn (point_held w sw.named k x has)
+    here = subst (λ z. Member r z.points) drawn (point_held w.graph sw.named k x has)
 
     -- a pinned vertex is one of the present
-    pub pinned_stays : pinned_in w x ≡ true → IsToldRun v h b (tidy_steps (missing_points (done ++ (r ∷ [])) vs) g) w k c
+    pub pinned_stays : pinned_in w.graph x ≡ true → IsToldRun v h b (tidy_steps (missing_points (done ++ (r ∷ [])) vs) g) w k c
     pinned_stays e =
-        let m : Member r vs = vertex_in p r (pinned (subst (λ z. Member r z.pins) drawn (pin_held w sw.named k x has e))) in
+        let m : Member r vs = vertex_in p r (pinned (subst (λ z. Member r z.pins) drawn (pin_held w.graph sw.named k x has e))) in
         told_runs_lawful.same_steps v h b _ _ w k c (ap (λ ps. tidy_steps ps g) (sym (none_missing done vs r m))) told
 
-    unpinned : pinned_in w x ≡ false → Member r p.pins → ⊥
+    unpinned : pinned_in w.graph x ≡ false → Member r p.pins → ⊥
     unpinned e m =
-        let u = held_pin w sw.named k r (subst (λ z. Member r z.pins) (sym drawn) m) in
-        clash (subst (λ z. pinned_in w z ≡ true) (sw.drawn.points u.0 x u.1.has has u.1.at) u.2) e
+        let u = held_pin w.graph sw.named k r (subst (λ z. Member r z.pins) (sym drawn) m) in
+        clash (subst (λ z. pinned_in w.graph z ≡ true) (sw.drawn.points u.0 x u.1.has has u.1.at) u.2) e
 
-    goes : pinned_in w x ≡ false → IsLoose (drawn_graph w k) r → Member r vs → ⊥
+    goes : pinned_in w.graph x ≡ false → IsLoose (drawn_graph w.graph k) r → Member r vs → ⊥
     goes e i = loose_is_no_vertex.go p rest r l.fit rest_ascend (λ q m. proper q (rest_there q m)) vertices_rest here (unpinned e) (subst (λ z. IsLoose z r) drawn i)
 
-    stays : (IsLoose (drawn_graph w k) r → ⊥) → Member r vs
+    stays : (IsLoose (drawn_graph w.graph k) r → ⊥) → Member r vs
     stays n = elim (decide (list_any (same_point r) vs)) [
       | inl e ↦ known vs r e
       | inr e ↦ absurd (n (subst (λ z. IsLoose z r) (sym drawn) (loose_is_no_vertex.stay p rest r l.fit rest_ascend (λ q m. proper q (rest_there q m)) vertices_rest here (unknown vs r e)).0))
     ]
 
     -- one that is not pinned stays just where it is one of the present
-    pub tidied_goes : pinned_in w x ≡ false → (w2 : View) (k2 : Curves) (c2 : BusRow) → IsTidied w k c r w2 k2 c2 → IsToldRun v h b (tidy_steps (missing_points (done ++ (r ∷ [])) vs) g) w2 k2 c2
+    pub tidied_goes : pinned_in w.graph x ≡ false → (w2 : MapView) (k2 : Curves) (c2 : BusRow) → IsTidied w k c r w2 k2 c2 → IsToldRun v h b (tidy_steps (missing_points (done ++ (r ∷ [])) vs) g) w2 k2 c2
     tidied_goes e w2 k2 c2 (inl t) =
-        told_runs_lawful.same_steps v h b (tidy_steps gone g ++ (tidy_step r (drawn_graph w k) ∷ [])) _ w2 k2 c2
+        told_runs_lawful.same_steps v h b (tidy_steps gone g ++ (tidy_step r (drawn_graph w.graph k) ∷ [])) _ w2 k2 c2
         (ap (λ z. tidy_steps gone g ++ (tidy_step r z ∷ [])) ran ∙ sym (one_step_on gone r g) ∙ ap (λ ps. tidy_steps ps g) (sym (one_missing done vs r (goes e t.0))))
-        (told_runs_lawful.follow v h b (tidy_steps gone g) (tidy_step r (drawn_graph w k) ∷ []) w k c w2 k2 c2 told t.1)
+        (told_runs_lawful.follow v h b (tidy_steps gone g) (tidy_step r (drawn_graph w.graph k) ∷ []) w k c w2 k2 c2 told t.1)
     tidied_goes e w2 k2 c2 (inr t) =
         told_runs_lawful.same_steps v h b (tidy_steps gone g ++ []) _ w2 k2 c2
         (append-nil (tidy_steps gone g) ∙ ap (λ ps. tidy_steps ps g) (sym (none_missing done vs r (stays t.0))))
@@ -144,89 +145,89 @@ same_histories a b c x y = record { by_edge = y.by_edge ∙ x.by_edge; by_curve 
 
 -- ---- the walk along the vertices
 -- the first of the vertices are tidied, the last ones have their records still; what the steps are is said for any present that the records are to stand for
-pub record AreTidied (v : View) (h : Curves) (b : BusRow) (all first last : List VertexId) (w : View) (k : Curves) (c : BusRow) : Type 0 where
+pub record AreTidied (v : MapView) (h : Curves) (b : BusRow) (all first last : List VertexId) (w : MapView) (k : Curves) (c : BusRow) : Type 0 where
   pub in_step : AreInStep w k c
-  pub stay : AllByRecursion (IsSamePlace v w) last
-  pub told : (p : Present) → AreLeft v h p (map (point_in v) all) → IsToldRun v h b (tidy_steps (missing_points (map (point_in v) first) (vertices p)) (drawn_graph v h)) w k c
+  pub stay : AllByRecursion (IsSamePlace v.graph w.graph) last
+  pub told : (p : Present) → AreLeft v.graph h p (map (point_in v.graph) all) → IsToldRun v h b (tidy_steps (missing_points (map (point_in v.graph) first) (vertices p)) (drawn_graph v.graph h)) w k c
 
 all_by : (P Q : VertexId → Type 0) (xs : List VertexId) → ((x : VertexId) → Member x xs → P x → Q x) → AllByRecursion P xs → AllByRecursion Q xs
 all_by P Q [] f a = tt
 all_by P Q (x ∷ xs) f a = (f x (inl refl) a.0, all_by P Q xs (λ y m. f y (inr m)) a.1)
 
 -- at first, nothing is
-pub none_tidied : (v : View) (h : Curves) (b : BusRow) (all : List VertexId) → AreInStep v h b → AllByRecursion (HasVertex v) all → AreTidied v h b all [] all v h b
+pub none_tidied : (v : MapView) (h : Curves) (b : BusRow) (all : List VertexId) → AreInStep v h b → AllByRecursion (HasVertex v.graph) all → AreTidied v h b all [] all v h b
 unfolding tidy_steps missing_points
 none_tidied v h b all i has = record {
   in_step = i;
-  stay = all_by (HasVertex v) (IsSamePlace v v) all (λ x m o. record { has = o; point = refl }) has;
+  stay = all_by (HasVertex v.graph) (IsSamePlace v.graph v.graph) all (λ x m o. record { has = o; point = refl }) has;
   told = λ p l. none_told v h b;
 }
 
-module _ (v : View) (h : Curves) (b : BusRow) (i : AreInStep v h b) (all : List VertexId) (have : AllByRecursion (HasVertex v) all) (ascend : IsAscending point_cmp (map (point_in v) all)) where
-  all_there : (x : Point) → Member x (map (point_in v) all) → Member x (drawn_graph v h).points
+module _ (v : MapView) (h : Curves) (b : BusRow) (i : AreInStep v h b) (all : List VertexId) (have : AllByRecursion (HasVertex v.graph) all) (ascend : IsAscending point_cmp (map (point_in v.graph) all)) where
+  all_there : (x : Point) → Member x (map (point_in v.graph) all) → Member x (drawn_graph v.graph h).points
   all_there x m =
-      let u = of_map (point_in v) x all m in
-      subst (λ z. Member z (drawn_graph v h).points) (sym u.2) (point_held v i.sound.named h u.0 (All-member (HasVertex v) u.0 all have u.1))
+      let u = of_map (point_in v.graph) x all m in
+      subst (λ z. Member z (drawn_graph v.graph h).points) (sym u.2) (point_held v.graph i.sound.graph.named h u.0 (All-member (HasVertex v.graph) u.0 all have u.1))
 
   -- in the end, all points that are no vertices of the present went
-  pub all_told : (w : View) (k : Curves) (c : BusRow) (last : List VertexId) → AreTidied v h b all all last w k c → (p : Present) → AreLeft v h p (map (point_in v) all) → IsToldRun v h b (tidying (drawn_graph v h) p) w k c
+  pub all_told : (w : MapView) (k : Curves) (c : BusRow) (last : List VertexId) → AreTidied v h b all all last w k c → (p : Present) → AreLeft v.graph h p (map (point_in v.graph) all) → IsToldRun v h b (tidying (drawn_graph v.graph h) p) w k c
   all_told w k c last t p l =
       told_runs_lawful.same_steps v h b _ _ w k c
-      (ap (λ ps. tidy_steps ps (drawn_graph v h)) (same_missing (map (point_in v) all) (drawn_graph v h).points (vertices p) ascend (points_ascend v h) all_there l.others))
+      (ap (λ ps. tidy_steps ps (drawn_graph v.graph h)) (same_missing (map (point_in v.graph) all) (drawn_graph v.graph h).points (vertices p) ascend (points_ascend v.graph h) all_there l.others))
       (t.told p l)
 
   -- the next vertex
-  module _ (first last : List VertexId) (x : VertexId) (split : first ++ (x ∷ last) ≡ all) (w : View) (k : Curves) (c : BusRow) (t : AreTidied v h b all first (x ∷ last) w k c) where
+  module _ (first last : List VertexId) (x : VertexId) (split : first ++ (x ∷ last) ≡ all) (w : MapView) (k : Curves) (c : BusRow) (t : AreTidied v h b all first (x ∷ last) w k c) where
     abbrev firsts : List Point
-    firsts = map (point_in v) first
+    firsts = map (point_in v.graph) first
 
-    parts : firsts ++ (point_in v x ∷ map (point_in v) last) ≡ map (point_in v) all
-    parts = sym (map-append (point_in v) first (x ∷ last)) ∙ ap (map (point_in v)) split
+    parts : firsts ++ (point_in v.graph x ∷ map (point_in v.graph) last) ≡ map (point_in v.graph) all
+    parts = sym (map-append (point_in v.graph) first (x ∷ last)) ∙ ap (map (point_in v.graph)) split
 
-    parts_ascend : IsAscending point_cmp (firsts ++ (point_in v x ∷ map (point_in v) last))
+    parts_ascend : IsAscending point_cmp (firsts ++ (point_in v.graph x ∷ map (point_in v.graph) last))
     parts_ascend = subst (IsAscending point_cmp) (sym parts) ascend
 
     firsts_ascend : IsAscending point_cmp firsts
-    firsts_ascend = first_ascend point_cmp firsts (point_in v x ∷ map (point_in v) last) parts_ascend
+    firsts_ascend = first_ascend point_cmp firsts (point_in v.graph x ∷ map (point_in v.graph) last) parts_ascend
 
-    firsts_there : (q : Point) → Member q firsts → Member q (drawn_graph v h).points
-    firsts_there q m = all_there q (subst (Member q) parts (in_left q firsts (point_in v x ∷ map (point_in v) last) m))
+    firsts_there : (q : Point) → Member q firsts → Member q (drawn_graph v.graph h).points
+    firsts_there q m = all_there q (subst (Member q) parts (in_left q firsts (point_in v.graph x ∷ map (point_in v.graph) last) m))
 
     -- it has its record, and the others that are left stand elsewhere
-    pub next_has : HasVertex w x
+    pub next_has : HasVertex w.graph x
     next_has = t.stay.0.has
 
-    later : (u : VertexId) → Member u last → point_in w u ≡ point_in v u → point_in w u ≡ point_in w x → ⊥
+    later : (u : VertexId) → Member u last → point_in w.graph u ≡ point_in v.graph u → point_in w.graph u ≡ point_in w.graph x → ⊥
     later u m at e =
-        let o = All-member (λ q. point_cmp (point_in v x) q ≡ Less) (point_in v u) (map (point_in v) last) (last_ascend point_cmp firsts (point_in v x ∷ map (point_in v) last) parts_ascend).0 (in_map (point_in v) u last m) in
-        lt_never {p = point_in v x} (record { is = subst (λ q. point_cmp (point_in v x) q ≡ Less) (sym at ∙ e ∙ t.stay.0.point) o })
+        let o = All-member (λ q. point_cmp (point_in v.graph x) q ≡ Less) (point_in v.graph u) (map (point_in v.graph) last) (last_ascend point_cmp firsts (point_in v.graph x ∷ map (point_in v.graph) last) parts_ascend).0 (in_map (point_in v.graph) u last m) in
+        lt_never {p = point_in v.graph x} (record { is = subst (λ q. point_cmp (point_in v.graph x) q ≡ Less) (sym at ∙ e ∙ t.stay.0.point) o })
 
-    named : (w2 : View) (k2 : Curves) (c2 : BusRow) (p : Present) → IsToldRun v h b (tidy_steps (missing_points (firsts ++ (point_in w x ∷ [])) (vertices p)) (drawn_graph v h)) w2 k2 c2 → IsToldRun v h b (tidy_steps (missing_points (map (point_in v) (first ++ (x ∷ []))) (vertices p)) (drawn_graph v h)) w2 k2 c2
+    named : (w2 : MapView) (k2 : Curves) (c2 : BusRow) (p : Present) → IsToldRun v h b (tidy_steps (missing_points (firsts ++ (point_in w.graph x ∷ [])) (vertices p)) (drawn_graph v.graph h)) w2 k2 c2 → IsToldRun v h b (tidy_steps (missing_points (map (point_in v.graph) (first ++ (x ∷ []))) (vertices p)) (drawn_graph v.graph h)) w2 k2 c2
     named w2 k2 c2 p m =
         told_runs_lawful.same_steps v h b _ _ w2 k2 c2
-        (ap (λ ps. tidy_steps (missing_points ps (vertices p)) (drawn_graph v h)) (ap (λ q. firsts ++ (q ∷ [])) t.stay.0.point ∙ sym (map-append (point_in v) first (x ∷ []))))
+        (ap (λ ps. tidy_steps (missing_points ps (vertices p)) (drawn_graph v.graph h)) (ap (λ q. firsts ++ (q ∷ [])) t.stay.0.point ∙ sym (map-append (point_in v.graph) first (x ∷ []))))
         m
 
-    pub pinned_on : pinned_in w x ≡ true → AreTidied v h b all (first ++ (x ∷ [])) last w k c
+    pub pinned_on : pinned_in w.graph x ≡ true → AreTidied v h b all (first ++ (x ∷ [])) last w k c
     pinned_on e = record {
       in_step = t.in_step;
       stay = t.stay.1;
-      told = λ p l. named w k c p (pinned_stays v h b i.sound i.curves p (map (point_in v) all) l firsts firsts_ascend firsts_there w k c t.in_step.sound (t.told p l) x next_has e);
+      told = λ p l. named w k c p (pinned_stays v h b i.sound.graph i.curves p (map (point_in v.graph) all) l firsts firsts_ascend firsts_there w k c t.in_step.sound.graph (t.told p l) x next_has e);
     }
 
-    pub tidied_on : pinned_in w x ≡ false → (w2 : View) (k2 : Curves) (c2 : BusRow) → IsTidied w k c (point_in w x) w2 k2 c2 → AreTidied v h b all (first ++ (x ∷ [])) last w2 k2 c2
+    pub tidied_on : pinned_in w.graph x ≡ false → (w2 : MapView) (k2 : Curves) (c2 : BusRow) → IsTidied w k c (point_in w.graph x) w2 k2 c2 → AreTidied v h b all (first ++ (x ∷ [])) last w2 k2 c2
     tidied_on e w2 k2 c2 d = record {
-      in_step = tidied_in_step w k c t.in_step (point_in w x) w2 k2 c2 d;
-      stay = all_by (IsSamePlace v w) (IsSamePlace v w2) last (
+      in_step = tidied_in_step w k c t.in_step (point_in w.graph x) w2 k2 c2 d;
+      stay = all_by (IsSamePlace v.graph w.graph) (IsSamePlace v.graph w2.graph) last (
           λ u m o.
-          let n = other_stays w k c t.in_step (point_in w x) w2 k2 c2 d u o.has (later u m o.point) in
+          let n = other_stays w k c t.in_step (point_in w.graph x) w2 k2 c2 d u o.has (later u m o.point) in
           record { has = n.has; point = n.point ∙ o.point }
           ) t.stay.1;
-      told = λ p l. named w2 k2 c2 p (tidied_goes v h b i.sound i.curves p (map (point_in v) all) l firsts firsts_ascend firsts_there w k c t.in_step.sound (t.told p l) x next_has e w2 k2 c2 d);
+      told = λ p l. named w2 k2 c2 p (tidied_goes v h b i.sound.graph i.curves p (map (point_in v.graph) all) l firsts firsts_ascend firsts_there w k c t.in_step.sound.graph (t.told p l) x next_has e w2 k2 c2 d);
     }
 
   -- ---- by the number of those that are done
-  module _ (n : ℕ) (lt : n < length all) (d : VertexId) (w : View) (k : Curves) (c : BusRow) (t : AreTidied v h b all (take n all) (drop n all) w k c) where
+  module _ (n : ℕ) (lt : n < length all) (d : VertexId) (w : MapView) (k : Curves) (c : BusRow) (t : AreTidied v h b all (take n all) (drop n all) w k c) where
     abbrev next : VertexId
     next = get_or all n d
 
@@ -236,14 +237,14 @@ module _ (v : View) (h : Curves) (b : BusRow) (i : AreInStep v h b) (all : List 
     split_next : take n all ++ (next ∷ drop (suc n) all) ≡ all
     split_next = ap (λ ys. take n all ++ ys) (sym (drop-cons all n d lt)) ∙ take-append-drop n all
 
-    one_done : (w2 : View) (k2 : Curves) (c2 : BusRow) → AreTidied v h b all (take n all ++ (next ∷ [])) (drop (suc n) all) w2 k2 c2 → AreTidied v h b all (take (n + 1) all) (drop (n + 1) all) w2 k2 c2
+    one_done : (w2 : MapView) (k2 : Curves) (c2 : BusRow) → AreTidied v h b all (take n all ++ (next ∷ [])) (drop (suc n) all) w2 k2 c2 → AreTidied v h b all (take (n + 1) all) (drop (n + 1) all) w2 k2 c2
     one_done w2 k2 c2 m = rw add-one (subst (λ ys. AreTidied v h b all ys (drop (suc n) all) w2 k2 c2) (sym (take-suc all n d lt)) m)
 
-    pub pinned_next : pinned_in w next ≡ true → AreTidied v h b all (take (n + 1) all) (drop (n + 1) all) w k c
+    pub pinned_next : pinned_in w.graph next ≡ true → AreTidied v h b all (take (n + 1) all) (drop (n + 1) all) w k c
     pinned_next e = one_done w k c (pinned_on (take n all) (drop (suc n) all) next split_next w k c at_next e)
 
-    pub tidied_next : pinned_in w next ≡ false → (w2 : View) (k2 : Curves) (c2 : BusRow) → IsTidied w k c (point_in w next) w2 k2 c2 → AreTidied v h b all (take (n + 1) all) (drop (n + 1) all) w2 k2 c2
+    pub tidied_next : pinned_in w.graph next ≡ false → (w2 : MapView) (k2 : Curves) (c2 : BusRow) → IsTidied w k c (point_in w.graph next) w2 k2 c2 → AreTidied v h b all (take (n + 1) all) (drop (n + 1) all) w2 k2 c2
     tidied_next e w2 k2 c2 m = one_done w2 k2 c2 (tidied_on (take n all) (drop (suc n) all) next split_next w k c at_next e w2 k2 c2 m)
 
-  pub all_next : (n : ℕ) → length all ≤ n → (w : View) (k : Curves) (c : BusRow) → AreTidied v h b all (take n all) (drop n all) w k c → (p : Present) → AreLeft v h p (map (point_in v) all) → IsToldRun v h b (tidying (drawn_graph v h) p) w k c
+  pub all_next : (n : ℕ) → length all ≤ n → (w : MapView) (k : Curves) (c : BusRow) → AreTidied v h b all (take n all) (drop n all) w k c → (p : Present) → AreLeft v.graph h p (map (point_in v.graph) all) → IsToldRun v h b (tidying (drawn_graph v.graph h) p) w k c
   all_next n le w k c t = all_told w k c (drop n all) (subst (λ xs. AreTidied v h b all xs (drop n all) w k c) (take_all n all le) t)

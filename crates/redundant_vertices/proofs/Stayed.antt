@@ -9,8 +9,9 @@ use Rattle.plane_graphs.proofs.Lists.{in_filter, not_in}
 use Rattle.plane_graphs.proofs.Order.{same_out}
 use Rattle.edit_steps.specs.Steps.{MergeEdge, RemoveVertex, apply, points_without, run, tidy_step}
 use Rattle.slab_laws.specs.declared.names.VertexId.{VertexId}
-use Rattle.slab_laws.specs.View.{View, HasVertex, point_in}
+use Rattle.slab_laws.specs.View.{HasVertex, point_in}
 use Rattle.arr_notes.specs.Curves.{Curves}
+use Rattle.arr_notes.specs.MapView.{MapView}
 use Rattle.arr_notes.specs.RecordGraph.{drawn_graph}
 use Rattle.observer_bus.specs.Rounds.{BusRow}
 use Rattle.sound_changes.proofs.StepHolds.{point_held}
@@ -33,21 +34,21 @@ others_stay r x g m other =
     let k : Member x (points_without r g.points) = in_filter _ x g.points m (not_in (same_point x r) (λ e. other (same_out x r e))) in
     one_of (λ s. Member x (apply s g).points) (list_any (λ m. same_point m.low r || same_point m.high r) g.marks) (MergeEdge r) (RemoveVertex r) k k
 
-module _ (v : View) (h : Curves) (b : BusRow) (i : AreInStep v h b) (r : Point) (w : View) (k : Curves) (c : BusRow) (t : IsTidied v h b r w k c) where
+module _ (v : MapView) (h : Curves) (b : BusRow) (i : AreInStep v h b) (r : Point) (w : MapView) (k : Curves) (c : BusRow) (t : IsTidied v h b r w k c) where
   abbrev g : Graph
-  g = drawn_graph v h
+  g = drawn_graph v.graph h
 
   pub tidied_in_step : AreInStep w k c
   tidied_in_step = elim t [ inl e ↦ told_runs_lawful.in_step v h b (tidy_step r g ∷ []) w k c e.1 i | inr e ↦ told_runs_lawful.in_step v h b [] w k c e.1 i ]
 
   -- a vertex at another point
-  pub other_stays : (u : VertexId) → HasVertex v u → (point_in v u ≡ r → ⊥) → IsSamePlace v w u
+  pub other_stays : (u : VertexId) → HasVertex v.graph u → (point_in v.graph u ≡ r → ⊥) → IsSamePlace v.graph w.graph u
   unfolding run
   other_stays u has other = elim t [
     | inl e ↦
         let made = told_runs_lawful.steps v h b (tidy_step r g ∷ []) w k c e.1 in
-        let m = subst (λ z. Member (point_in v u) z.points) (sym (made_is_run v h (tidy_step r g ∷ []) w k i.sound i.curves made).graph) (others_stay r (point_in v u) g (point_held v i.sound.named h u has) other) in
-        let n = (shrunk_names_stay v h (tidy_step r g ∷ []) w k i.sound i.curves made (step_shrinks r g, tt)).vertex u has m in
+        let m = subst (λ z. Member (point_in v.graph u) z.points) (sym (made_is_run v.graph h (tidy_step r g ∷ []) w.graph k i.sound.graph i.curves made).graph) (others_stay r (point_in v.graph u) g (point_held v.graph i.sound.graph.named h u has) other) in
+        let n = (shrunk_names_stay v.graph h (tidy_step r g ∷ []) w.graph k i.sound.graph i.curves made (step_shrinks r g, tt)).vertex u has m in
         record { has = n.0; point = n.1 }
-    | inr e ↦ subst (λ z. IsSamePlace v z u) (sym (told_runs_lawful.steps v h b [] w k c e.1).0) (record { has = has; point = refl })
+    | inr e ↦ subst (λ z. IsSamePlace v.graph z u) (sym (told_runs_lawful.steps v h b [] w k c e.1).0) (record { has = has; point = refl })
   ]

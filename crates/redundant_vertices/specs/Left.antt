@@ -9,6 +9,7 @@ use Rattle.edit_steps.specs.Steps.{Step, missing_points, tidy_steps}
 use Rattle.slab_laws.specs.declared.names.VertexId.{VertexId}
 use Rattle.slab_laws.specs.View.{View, point_in}
 use Rattle.arr_notes.specs.Curves.{Curves}
+use Rattle.arr_notes.specs.MapView.{MapView}
 use Rattle.arr_notes.specs.RecordGraph.{drawn_graph}
 use Rattle.curve_history.specs.Past.{Past, curves_on}
 use Rattle.observer_bus.specs.Rounds.{BusRow}
@@ -26,5 +27,5 @@ abbrev pub tidying : Graph → Present → List Step
 tidying g p = tidy_steps (missing_points g.points (vertices p)) g
 
 -- for each present that the records draw over its vertices and further points, which are all among the given ones: just the further points go, in ascending order, each step told (CGAL manual, removing a curve: vertices that become redundant)
-abbrev pub AreOthersGone : View → Past → BusRow → List VertexId → View → Past → BusRow → Type 0
-AreOthersGone v h b ws w k c = (p : Present) → AreLeft v (curves_on h) p (map (point_in v) ws) → IsToldRun v (curves_on h) b (tidying (drawn_graph v (curves_on h)) p) w (curves_on k) c
+abbrev pub AreOthersGone : MapView → Past → BusRow → List VertexId → MapView → Past → BusRow → Type 0
+AreOthersGone m h b ws w k c = (p : Present) → AreLeft m.graph (curves_on h) p (map (point_in m.graph) ws) → IsToldRun m (curves_on h) b (tidying (drawn_graph m.graph (curves_on h)) p) w (curves_on k) c

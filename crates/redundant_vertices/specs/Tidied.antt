@@ -8,6 +8,7 @@ use Rattle.slab_laws.specs.declared.names.DartId.{DartId}
 use Rattle.slab_laws.specs.declared.names.VertexId.{VertexId}
 use Rattle.slab_laws.specs.View.{View, point_in}
 use Rattle.arr_notes.specs.Curves.{Curves}
+use Rattle.arr_notes.specs.MapView.{MapView}
 use Rattle.arr_notes.specs.RecordGraph.{drawn_graph}
 use Rattle.curve_history.specs.Past.{Past, curves_on}
 use Rattle.observer_bus.specs.Rounds.{BusRow}
@@ -31,9 +32,9 @@ abbrev pub IsMergeableAt : View → Past → VertexId → Type 0
 IsMergeableAt v p w = IsPassed (drawn_graph v (curves_on p)) (point_in v w)
 
 -- the vertex at the point goes where it has no edge, or two along one line with the same curves, by a told step; else nothing changes (CGAL manual, removing a curve: vertices that become redundant)
-abbrev pub IsTidied : View → Curves → BusRow → Point → View → Curves → BusRow → Type 0
-IsTidied v h b p w k c = (IsLoose (drawn_graph v h) p × IsToldRun v h b (tidy_step p (drawn_graph v h) ∷ []) w k c) ⊎ ((IsLoose (drawn_graph v h) p → ⊥) × IsToldRun v h b [] w k c)
+abbrev pub IsTidied : MapView → Curves → BusRow → Point → MapView → Curves → BusRow → Type 0
+IsTidied m h b p w k c = (IsLoose (drawn_graph m.graph h) p × IsToldRun m h b (tidy_step p (drawn_graph m.graph h) ∷ []) w k c) ⊎ ((IsLoose (drawn_graph m.graph h) p → ⊥) × IsToldRun m h b [] w k c)
 
 -- the vertex goes where it has no edge, or two along one line with the same curves, by a told step; else nothing changes (CGAL manual, removing a curve: vertices that become redundant)
-abbrev pub IsVertexTidied : View → Past → BusRow → VertexId → View → Past → BusRow → Type 0
-IsVertexTidied v p b w x q c = IsTidied v (curves_on p) b (point_in v w) x (curves_on q) c
+abbrev pub IsVertexTidied : MapView → Past → BusRow → VertexId → MapView → Past → BusRow → Type 0
+IsVertexTidied m p b w x q c = IsTidied m (curves_on p) b (point_in m.graph w) x (curves_on q) c

@@ -4,7 +4,7 @@ ghost use Rattle.exact_plane.specs.PointOrder.{point_cmp};
 ghost use Rattle.plane_graphs.specs.Ascending.{IsAscending};
 ghost use Rattle.slab_laws.specs.View.{HasVertex, point_in, pinned_in};
 ghost use Rattle.dcel_records.specs.RecordsView.{IsSpareFaces, SameRecordCapacity};
-ghost use Rattle.dcel_records.specs.SoundMaps.{IsMapAtRest};
+ghost use Rattle.dcel_records.specs.SoundMaps.{IsMapAtRest, map_of};
 ghost use Rattle.curve_history.specs.Past.{curves_on, SameLayer, SameHistoryCapacity};
 ghost use Rattle.observer_bus.specs.Rows.{bus_row};
 ghost use Rattle.told_steps.specs.ToldRuns.{AreInStep};
@@ -30,12 +30,12 @@ pub fn remove_if_redundant(
     bus: &mut Bus,
     w: VertexId,
 )
-    requires in_step { AreInStep records.old.graph (curves_on history.old) (bus_row Observer-dyn bus.old) }
+    requires in_step { AreInStep (map_of records.old) (curves_on history.old) (bus_row Observer-dyn bus.old) }
     requires map { IsMapAtRest records.old }
     requires vertex { HasVertex records.old.graph w }
     requires unpinned { pinned_in records.old.graph w ≡ false }
-    ensures tidied { IsVertexTidied records.old.graph history.old (bus_row Observer-dyn bus.old) w records.new.graph history.new (bus_row Observer-dyn bus.new) }
-    ensures in_step { AreInStep records.new.graph (curves_on history.new) (bus_row Observer-dyn bus.new) }
+    ensures tidied { IsVertexTidied (map_of records.old) history.old (bus_row Observer-dyn bus.old) w (map_of records.new) history.new (bus_row Observer-dyn bus.new) }
+    ensures in_step { AreInStep (map_of records.new) (curves_on history.new) (bus_row Observer-dyn bus.new) }
     ensures map { IsMapAtRest records.new }
     ensures layer { SameLayer history.old history.new }
     ensures records_capacity { SameRecordCapacity records.old records.new }
@@ -65,12 +65,12 @@ pub fn remove_redundant(
     bus: &mut Bus,
     vertices: &[VertexId],
 )
-    requires in_step { AreInStep records.old.graph (curves_on history.old) (bus_row Observer-dyn bus.old) }
+    requires in_step { AreInStep (map_of records.old) (curves_on history.old) (bus_row Observer-dyn bus.old) }
     requires map { IsMapAtRest records.old }
     requires have { AllByRecursion (λ w. HasVertex records.old.graph w) vertices.now }
     requires ascend { IsAscending point_cmp (map (point_in records.old.graph) vertices.now) }
-    ensures tidied { AreOthersGone records.old.graph history.old (bus_row Observer-dyn bus.old) vertices.now records.new.graph history.new (bus_row Observer-dyn bus.new) }
-    ensures in_step { AreInStep records.new.graph (curves_on history.new) (bus_row Observer-dyn bus.new) }
+    ensures tidied { AreOthersGone (map_of records.old) history.old (bus_row Observer-dyn bus.old) vertices.now (map_of records.new) history.new (bus_row Observer-dyn bus.new) }
+    ensures in_step { AreInStep (map_of records.new) (curves_on history.new) (bus_row Observer-dyn bus.new) }
     ensures map { IsMapAtRest records.new }
     ensures layer { SameLayer history.old history.new }
     ensures records_capacity { SameRecordCapacity records.old records.new }

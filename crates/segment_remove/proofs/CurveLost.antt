@@ -16,9 +16,9 @@ use Rattle.slab_laws.specs.View.{View, HasDart, point_in, source_in, twin_in, ta
 use Rattle.sound_changes.specs.EdgePlaces.{IsEdgeMore}
 use Rattle.sound_changes.proofs.EdgeRemoved.{fewer}
 use Rattle.sound_changes.proofs.RingsKept.{twinned_down, start_old, end_old}
-use Rattle.arr_notes.specs.declared.change.Change.TheVariants.{RemoveEdge, RemoveCurve}
-use Rattle.arr_notes.specs.Curves.{Curves, IsForward, is_forward, step_curves}
-use Rattle.arr_notes.specs.Step.{step, remove_edge}
+use Rattle.arr_notes.specs.Curves.{Curves, IsForward, is_forward}
+use Rattle.arr_notes.specs.MapView.{MapView}
+use Rattle.arr_notes.specs.Step.{remove_edge}
 use Rattle.arr_notes.specs.RecordGraph.{drawn_graph}
 use Rattle.sound_views.proofs.GraphDrawn.{twins_are_directed}
 use Rattle.sound_changes.proofs.StepHolds.{mark_held, held_mark}
@@ -26,24 +26,18 @@ use Rattle.sound_changes.proofs.StepCases.{IsSameWay, turned_way, unchanged_way,
 use Rattle.observer_bus.specs.Rounds.{BusRow}
 use Rattle.told_steps.specs.ToldRuns.{IsToldRun}
 use Rattle.told_steps.proofs.ToldTogether.{told_runs_lawful}
-use Rattle.segment_remove.specs.CurveLosses.{is_shared, loss, loss_between, loss_step, IsLossTold}
-
-pub curve_lost : (v : View) (h : Curves) (d : DartId) (c : CurveId) → is_shared h d c.0 ≡ true → loss v h d c ≡ RemoveCurve d c
-curve_lost v h d c e = ap (λ b. cond b (RemoveCurve d c) (RemoveEdge d (twin_in v d))) e
-
-pub edge_lost : (v : View) (h : Curves) (d : DartId) (c : CurveId) → is_shared h d c.0 ≡ false → loss v h d c ≡ RemoveEdge d (twin_in v d)
-edge_lost v h d c e = ap (λ b. cond b (RemoveCurve d c) (RemoveEdge d (twin_in v d))) e
+use Rattle.segment_remove.specs.CurveLosses.{curves_lost, is_shared, loss_between, loss_step, view_lost, IsLossTold}
 
 -- the loss is told by its step
-pub curve_told : (v : View) (h : Curves) (b : BusRow) (d : DartId) (c : CurveId) (w : View) (k : Curves) (e : BusRow) (shared : Bool) → shared ≡ true → shared ≡ is_shared h d c.0 →
-    IsToldRun v h b (RemoveCurveAt (point_in v (source_in v d)) (point_in v (target_in v d)) c.0 ∷ []) w k e → IsLossTold v h b d c w k e
+pub curve_told : (v : MapView) (h : Curves) (b : BusRow) (d : DartId) (c : CurveId) (w : MapView) (k : Curves) (e : BusRow) (shared : Bool) → shared ≡ true → shared ≡ is_shared h d c.0 →
+    IsToldRun v h b (RemoveCurveAt (point_in v.graph (source_in v.graph d)) (point_in v.graph (target_in v.graph d)) c.0 ∷ []) w k e → IsLossTold v h b d c w k e
 curve_told v h b d c w k e shared is there told =
-    told_runs_lawful.same_steps v h b _ (loss_step v h d c ∷ []) w k e (ap (λ s. loss_between s (point_in v (source_in v d)) (point_in v (target_in v d)) c.0 ∷ []) (sym is ∙ there)) told
+    told_runs_lawful.same_steps v h b _ (loss_step v.graph h d c ∷ []) w k e (ap (λ s. loss_between s (point_in v.graph (source_in v.graph d)) (point_in v.graph (target_in v.graph d)) c.0 ∷ []) (sym is ∙ there)) told
 
-pub edge_told : (v : View) (h : Curves) (b : BusRow) (d : DartId) (c : CurveId) (w : View) (k : Curves) (e : BusRow) (shared : Bool) → shared ≡ false → shared ≡ is_shared h d c.0 →
-    IsToldRun v h b (RemoveEdgeAt (point_in v (source_in v d)) (point_in v (target_in v d)) ∷ []) w k e → IsLossTold v h b d c w k e
+pub edge_told : (v : MapView) (h : Curves) (b : BusRow) (d : DartId) (c : CurveId) (w : MapView) (k : Curves) (e : BusRow) (shared : Bool) → shared ≡ false → shared ≡ is_shared h d c.0 →
+    IsToldRun v h b (RemoveEdgeAt (point_in v.graph (source_in v.graph d)) (point_in v.graph (target_in v.graph d)) ∷ []) w k e → IsLossTold v h b d c w k e
 edge_told v h b d c w k e shared is there told =
-    told_runs_lawful.same_steps v h b _ (loss_step v h d c ∷ []) w k e (ap (λ s. loss_between s (point_in v (source_in v d)) (point_in v (target_in v d)) c.0 ∷ []) (sym is ∙ there)) told
+    told_runs_lawful.same_steps v h b _ (loss_step v.graph h d c ∷ []) w k e (ap (λ s. loss_between s (point_in v.graph (source_in v.graph d)) (point_in v.graph (target_in v.graph d)) c.0 ∷ []) (sym is ∙ there)) told
 
 module _ (v : View) (h : Curves) (s : IsGraphSound v) (d : DartId) (f : IsForward v d) where
   abbrev p : Point
@@ -96,35 +90,31 @@ module _ (v : View) (h : Curves) (s : IsGraphSound v) (d : DartId) (f : IsForwar
         end = end_old less v d t (source_in v d) (target_in v d) (line_in v d) edge_more (twinned_down less v d t (source_in v d) (target_in v d) (line_in v d) edge_more s.twinned) x k;
       })
 
-  way_by : (c : CurveId) (b : Bool) (x : DartId) → x ≢ d → IsForward v x → IsSameWay v (step v (cond b (RemoveCurve d c) (RemoveEdge d t))) x
-  way_by c true x ne o = unchanged_way v x o.0
-  way_by c false x ne o = way_without x ne o
+  way_by : (b : Bool) (x : DartId) → x ≢ d → IsForward v x → IsSameWay v (view_lost b v d) x
+  way_by true x ne o = unchanged_way v x o.0
+  way_by false x ne o = way_without x ne o
 
   -- another forward dart has its way still
-  pub way_stays : (c : CurveId) (x : DartId) → x ≢ d → IsForward v x → IsSameWay v (step v (loss v h d c)) x
-  way_stays c x ne o = way_by c (is_shared h d c.0) x ne o
-
-  curves_by : (c : CurveId) (b : Bool) (x : DartId) → x ≢ d → step_curves h (cond b (RemoveCurve d c) (RemoveEdge d t)) x ≡ h x
-  curves_by c true x ne = at_other x d _ (h x) ne
-  curves_by c false x ne = at_other x d [] (h x) ne
+  pub way_stays : (c : CurveId) (x : DartId) → x ≢ d → IsForward v x → IsSameWay v (view_lost (is_shared h d c.0) v d) x
+  way_stays c x ne o = way_by (is_shared h d c.0) x ne o
 
   -- and its curves
-  pub curves_stay : (c : CurveId) (x : DartId) → x ≢ d → step_curves h (loss v h d c) x ≡ h x
-  curves_stay c x ne = curves_by c (is_shared h d c.0) x ne
+  pub curves_stay : (c : CurveId) (x : DartId) → x ≢ d → curves_lost (is_shared h d c.0) h d c x ≡ h x
+  curves_stay c x ne = at_other x d _ (h x) ne
 
-  vertices_by : (c : CurveId) (b : Bool) → (step v (cond b (RemoveCurve d c) (RemoveEdge d t))).vertices ≡ v.vertices
-  vertices_by c true = refl
-  vertices_by c false = refl
+  vertices_by : (b : Bool) → (view_lost b v d).vertices ≡ v.vertices
+  vertices_by true = refl
+  vertices_by false = refl
 
-  pub vertices_stay : (c : CurveId) → (step v (loss v h d c)).vertices ≡ v.vertices
-  vertices_stay c = vertices_by c (is_shared h d c.0)
+  pub vertices_stay : (c : CurveId) → (view_lost (is_shared h d c.0) v d).vertices ≡ v.vertices
+  vertices_stay c = vertices_by (is_shared h d c.0)
 
   -- the curve is gone from d
-  lost_by : (c : CurveId) (b : Bool) → ¬ Member c.0 (step_curves h (cond b (RemoveCurve d c) (RemoveEdge d t)) d)
+  lost_by : (c : CurveId) (b : Bool) → ¬ Member c.0 (curves_lost b h d c d)
   lost_by c true m =
       let k = of_filter (λ k. not (same_curve k c.0)) c.0 (h d) (subst (Member c.0) (at_name d (filter (λ k. not (same_curve k c.0)) (h d)) (h d)) m) in
       clash (curve_in c.0 c.0 refl) (not_out (same_curve c.0 c.0) k.1)
   lost_by c false m = subst (Member c.0) (at_name d [] (h d)) m
 
-  pub lost : (c : CurveId) → ¬ Member c.0 (step_curves h (loss v h d c) d)
+  pub lost : (c : CurveId) → ¬ Member c.0 (curves_lost (is_shared h d c.0) h d c d)
   lost c = lost_by c (is_shared h d c.0)

@@ -14,6 +14,7 @@ use Rattle.slab_laws.specs.declared.names.DartId.{DartId}
 use Rattle.slab_laws.specs.declared.names.VertexId.{VertexId}
 use Rattle.slab_laws.specs.View.{View, HasVertex, point_in, source_in, target_in, twin_in}
 use Rattle.arr_notes.specs.Curves.{Curves}
+use Rattle.arr_notes.specs.MapView.{MapView}
 use Rattle.arr_notes.specs.Step.{remove_edge}
 use Rattle.curve_history.specs.Past.{Past, curves_on, SameCurves}
 use Rattle.arr_notes.specs.RecordGraph.{drawn_graph}
@@ -30,51 +31,51 @@ use Rattle.segment_remove.proofs.Joined.{joined}
 use Rattle.segment_remove.proofs.SameVertices.{point_stays, still_ascend, still_have}
 use Rattle.segment_remove.proofs.Left.{are_left, tidied_told}
 
-module _ (v : View) (r : Past) (l : IsLayer v r) (e : Edge) (d : DartId) (a : IsDartAlong v e d) (s t : VertexId) (is_s : s ≡ source_in v d) (is_t : t ≡ target_in v d) where
+module _ (v : MapView) (r : Past) (l : IsLayer v.graph r) (e : Edge) (d : DartId) (a : IsDartAlong v.graph e d) (s t : VertexId) (is_s : s ≡ source_in v.graph d) (is_t : t ≡ target_in v.graph d) where
   abbrev o : Present
-  o = (layer_of v r).present
+  o = (layer_of v.graph r).present
 
   abbrev new : Present
   new = with_cut o e.low e.high
 
-  runs : RunsBetween v e.low e.high d
-  runs = along_runs v l.sound e e.low e.high refl d a
+  runs : RunsBetween v.graph e.low e.high d
+  runs = along_runs v.graph l.sound e e.low e.high refl d a
 
   there : list_any (is_at e.low e.high) (graph o).marks ≡ true
-  there = joined v r l e d a
+  there = joined v.graph r l e d a
 
-  pub has_s : HasVertex v s
-  has_s = subst (HasVertex v) (sym is_s) (l.sound.linked.source d a.forward.0)
+  pub has_s : HasVertex v.graph s
+  has_s = subst (HasVertex v.graph) (sym is_s) (l.sound.linked.source d a.forward.0)
 
-  pub has_t : HasVertex v t
-  has_t = subst (HasVertex v) (sym is_t) (l.sound.linked.source _ (l.sound.twinned.has d a.forward.0))
+  pub has_t : HasVertex v.graph t
+  has_t = subst (HasVertex v.graph) (sym is_t) (l.sound.linked.source _ (l.sound.twinned.has d a.forward.0))
 
-  pub at_s : point_in v s ≡ e.low
-  at_s = ap (point_in v) is_s ∙ runs.starts
+  pub at_s : point_in v.graph s ≡ e.low
+  at_s = ap (point_in v.graph) is_s ∙ runs.starts
 
-  pub at_t : point_in v t ≡ e.high
-  at_t = ap (point_in v) is_t ∙ runs.ends
+  pub at_t : point_in v.graph t ≡ e.high
+  at_t = ap (point_in v.graph) is_t ∙ runs.ends
 
-  before : point_cmp (point_in v s) (point_in v t) ≡ Less
-  before = subst (λ z. point_cmp (point_in v z) (point_in v t) ≡ Less) (sym is_s) (subst (λ z. point_cmp (point_in v (source_in v d)) (point_in v z) ≡ Less) (sym is_t) (lt_out (point_in v (source_in v d)) (point_in v (target_in v d)) a.forward.1).is)
+  before : point_cmp (point_in v.graph s) (point_in v.graph t) ≡ Less
+  before = subst (λ z. point_cmp (point_in v.graph z) (point_in v.graph t) ≡ Less) (sym is_s) (subst (λ z. point_cmp (point_in v.graph (source_in v.graph d)) (point_in v.graph z) ≡ Less) (sym is_t) (lt_out (point_in v.graph (source_in v.graph d)) (point_in v.graph (target_in v.graph d)) a.forward.1).is)
 
   -- how many pieces there are after the cut
-  pub counted : (low high : Point) → low ≡ point_in v s → high ≡ point_in v t → (n : ℕ) → n ≡ length (flat_map (cut_piece low high) r.pieces) → n ≡ length new.pieces
+  pub counted : (low high : Point) → low ≡ point_in v.graph s → high ≡ point_in v.graph t → (n : ℕ) → n ≡ length (flat_map (cut_piece low high) r.pieces) → n ≡ length new.pieces
   counted low high at_low at_high n is = is ∙ ap₂ (λ p q. length (flat_map (cut_piece p q) r.pieces)) (at_low ∙ at_s) (at_high ∙ at_t)
 
   -- ---- the edge is released, where room was made before
-  module _ (w : View) (view : w ≡ v) (x : View) (gives : x ≡ remove_edge w d (twin_in w d)) where
-    same : x.vertices ≡ v.vertices
-    same = ap (λ (z : View). z.vertices) gives ∙ ap (λ (z : View). z.vertices) view
+  module _ (w : MapView) (view : w ≡ v) (x : MapView) (gives : x.graph ≡ remove_edge w.graph d (twin_in w.graph d)) where
+    same : x.graph.vertices ≡ v.graph.vertices
+    same = ap (λ (z : View). z.vertices) gives ∙ ap (λ (z : MapView). z.graph.vertices) view
 
-    pub both_have : AllByRecursion (λ w. HasVertex x w) (s ∷ t ∷ [])
-    both_have = still_have v x same (s ∷ t ∷ []) (has_s, (has_t, tt))
+    pub both_have : AllByRecursion (λ w. HasVertex x.graph w) (s ∷ t ∷ [])
+    both_have = still_have v.graph x.graph same (s ∷ t ∷ []) (has_s, (has_t, tt))
 
-    pub both_ascend : IsAscending point_cmp (map (point_in x) (s ∷ t ∷ []))
-    both_ascend = still_ascend v x same (s ∷ t ∷ []) ((before, tt), (tt, tt))
+    pub both_ascend : IsAscending point_cmp (map (point_in x.graph) (s ∷ t ∷ []))
+    both_ascend = still_ascend v.graph x.graph same (s ∷ t ∷ []) ((before, tt), (tt, tt))
 
-    abbrev step_there : View → List Step
-    step_there z = RemoveEdge (point_in z (source_in z d)) (point_in z (target_in z d)) ∷ []
+    abbrev step_there : MapView → List Step
+    step_there z = RemoveEdge (point_in z.graph (source_in z.graph d)) (point_in z.graph (target_in z.graph d)) ∷ []
 
     module _ (r1 : Past) (c1 : SameCurves r r1) (b : BusRow) (k : Curves) (c : BusRow) (gone : IsToldRun w (curves_on r1) b (step_there w) x k c) where
       released : IsToldRun v (curves_on r) b (RemoveEdge e.low e.high ∷ []) x k c
@@ -83,21 +84,21 @@ module _ (v : View) (r : Past) (l : IsLayer v r) (e : Edge) (d : DartId) (a : Is
           (subst (λ z. IsToldRun z (curves_on r) b (step_there w) x k c) view (told_runs_lawful.same_curves w (curves_on r1) (curves_on r) b (step_there w) x k k c (λ n. sym (c1 n)) (λ n. refl) gone))
 
       -- only these two may be tidied
-      both_left : AreLeft x k new (map (point_in x) (s ∷ t ∷ []))
+      both_left : AreLeft x.graph k new (map (point_in x.graph) (s ∷ t ∷ []))
       both_left =
-          are_left v r l new (RemoveEdge e.low e.high ∷ []) (cut_run o l.lawful.fit e.low e.high there) b x k c released (map (point_in x) (s ∷ t ∷ [])) (fit_cut o l.lawful.fit e.low e.high there) (cut_old o l.lawful.fit e.low e.high there)
-          (λ p m goes. elim (cut_gone o l.lawful.fit e.low e.high there p m goes) [ inl i ↦ inl (i ∙ sym at_s ∙ sym (point_stays v x same s)) | inr i ↦ inr (inl (i ∙ sym at_t ∙ sym (point_stays v x same t))) ])
+          are_left v r l new (RemoveEdge e.low e.high ∷ []) (cut_run o l.lawful.fit e.low e.high there) b x k c released (map (point_in x.graph) (s ∷ t ∷ [])) (fit_cut o l.lawful.fit e.low e.high there) (cut_old o l.lawful.fit e.low e.high there)
+          (λ p m goes. elim (cut_gone o l.lawful.fit e.low e.high there p m goes) [ inl i ↦ inl (i ∙ sym at_s ∙ sym (point_stays v.graph x.graph same s)) | inr i ↦ inr (inl (i ∙ sym at_t ∙ sym (point_stays v.graph x.graph same t))) ])
 
-      pub cut_told : (y : View) (q : Past) (f : BusRow) → ((p : Present) → AreLeft x k p (map (point_in x) (s ∷ t ∷ [])) → IsToldRun x k c (tidying (drawn_graph x k) p) y (curves_on q) f) → IsToldRun v (curves_on r) b (steps (Cut e.low e.high) o) y (curves_on q) f
+      pub cut_told : (y : MapView) (q : Past) (f : BusRow) → ((p : Present) → AreLeft x.graph k p (map (point_in x.graph) (s ∷ t ∷ [])) → IsToldRun x k c (tidying (drawn_graph x.graph k) p) y (curves_on q) f) → IsToldRun v (curves_on r) b (steps (Cut e.low e.high) o) y (curves_on q) f
       cut_told y q f tidied =
           told_runs_lawful.same_steps v (curves_on r) b _ (steps (Cut e.low e.high) o) y (curves_on q) f (sym (cut_is_tidied o e.low e.high))
           (tidied_told v r l new (RemoveEdge e.low e.high ∷ []) (cut_run o l.lawful.fit e.low e.high there) b x k c released y (curves_on q) f (tidied new both_left))
 
   -- ---- the layer after the cut
-  accepted : IsAcceptedBy (Cut e.low e.high) (layer_of v r)
+  accepted : IsAcceptedBy (Cut e.low e.high) (layer_of v.graph r)
   unfolding IsAccepted
   accepted = there
 
-  pub cut_layer : (b : BusRow) (y : View) (q : Past) (f : BusRow) → IsToldRun v (curves_on r) b (steps (Cut e.low e.high) o) y (curves_on q) f → q.pieces ≡ flat_map (cut_piece e.low e.high) r.pieces → q.names ≡ r.names → q.next ≡ r.next → IsLayer y q × (layer_of y q ≡ layer_after (Cut e.low e.high) (layer_of v r))
+  pub cut_layer : (b : BusRow) (y : MapView) (q : Past) (f : BusRow) → IsToldRun v (curves_on r) b (steps (Cut e.low e.high) o) y (curves_on q) f → q.pieces ≡ flat_map (cut_piece e.low e.high) r.pieces → q.names ≡ r.names → q.next ≡ r.next → IsLayer y.graph q × (layer_of y.graph q ≡ layer_after (Cut e.low e.high) (layer_of v.graph r))
   unfolding after
-  cut_layer b y q f told pieces names next = steps_make_layers (Cut e.low e.high) v r y q l accepted (told_runs_lawful.steps v (curves_on r) b (steps (Cut e.low e.high) o) y (curves_on q) f told) pieces names next
+  cut_layer b y q f told pieces names next = steps_make_layers (Cut e.low e.high) v.graph r y.graph q l accepted (told_runs_lawful.steps v (curves_on r) b (steps (Cut e.low e.high) o) y (curves_on q) f told) pieces names next

@@ -14,6 +14,7 @@ use Rattle.slab_laws.specs.declared.names.DartId.{DartId}
 use Rattle.slab_laws.specs.declared.names.VertexId.{VertexId}
 use Rattle.slab_laws.specs.View.{View, HasDart, point_in, source_in, target_in}
 use Rattle.arr_notes.specs.Curves.{Curves}
+use Rattle.arr_notes.specs.MapView.{MapView}
 use Rattle.curve_history.specs.Past.{Past, curves_on, SameCurves}
 use Rattle.arr_notes.specs.RecordGraph.{drawn_graph}
 use Rattle.sound_views.proofs.GraphHolds.{graphs_hold}
@@ -35,60 +36,60 @@ use Rattle.segment_remove.proofs.Left.{are_left, tidied_told}
 abbrev releases : ℕ → Graph → List Step
 releases c g = map (less_step g) (marks_of c g.marks)
 
-module _ (v : View) (r : Past) (l : IsLayer v r) (c : ℕ) where
+module _ (v : MapView) (r : Past) (l : IsLayer v.graph r) (c : ℕ) where
   abbrev o : Present
-  o = (layer_of v r).present
+  o = (layer_of v.graph r).present
 
   abbrev new : Present
   new = without_curve o c
 
   -- the records w have more room
-  module _ (b : BusRow) (w x : View) (view : w ≡ v) (r1 r2 : Past) (c1 : SameCurves r1 r2) (e : BusRow) (gone : IsToldRun w (curves_on r) b (releases c (drawn_graph w (curves_on r))) x (curves_on r1) e) where
+  module _ (b : BusRow) (w x : MapView) (view : w ≡ v) (r1 r2 : Past) (c1 : SameCurves r1 r2) (e : BusRow) (gone : IsToldRun w (curves_on r) b (releases c (drawn_graph w.graph (curves_on r))) x (curves_on r1) e) where
     abbrev k : Curves
     k = curves_on r2
 
     released : IsToldRun v (curves_on r) b (releases c (graph o)) x k e
     released =
         told_runs_lawful.same_curves v (curves_on r) (curves_on r) b _ x (curves_on r1) k e (λ n. refl) c1
-        (told_runs_lawful.same_steps v (curves_on r) b _ (releases c (graph o)) x (curves_on r1) e (ap (releases c) l.stands) (subst (λ z. IsToldRun z (curves_on r) b (releases c (drawn_graph z (curves_on r))) x (curves_on r1) e) view gone))
+        (told_runs_lawful.same_steps v (curves_on r) b _ (releases c (graph o)) x (curves_on r1) e (ap (releases c) l.stands) (subst (λ z. IsToldRun z (curves_on r) b (releases c (drawn_graph z.graph (curves_on r))) x (curves_on r1) e) view gone))
 
-    module _ (kept : x.vertices ≡ w.vertices) (ks : List DartKey) (all : (d : DartId) → Member d (map (λ k. k.name) ks) ↔ Member c (curves_on r d)) (ws : List VertexId) (ends : AreEnds v ks ws) where
-      same : x.vertices ≡ v.vertices
-      same = kept ∙ ap (λ (z : View). z.vertices) view
+    module _ (kept : x.graph.vertices ≡ w.graph.vertices) (ks : List DartKey) (all : (d : DartId) → Member d (map (λ k. k.name) ks) ↔ Member c (curves_on r d)) (ws : List VertexId) (ends : AreEnds v.graph ks ws) where
+      same : x.graph.vertices ≡ v.graph.vertices
+      same = kept ∙ ap (λ (z : MapView). z.graph.vertices) view
 
       -- the point of an end is among theirs
-      among : (p : Point) (w : VertexId) → Member w ws → point_in v w ≡ p → Member p (map (point_in x) ws)
-      among p w m at = subst (λ z. Member z (map (point_in x) ws)) (point_stays v x same w ∙ at) (in_map (point_in x) w ws m)
+      among : (p : Point) (w : VertexId) → Member w ws → point_in v.graph w ≡ p → Member p (map (point_in x.graph) ws)
+      among p w m at = subst (λ z. Member z (map (point_in x.graph) ws)) (point_stays v.graph x.graph same w ∙ at) (in_map (point_in x.graph) w ws m)
 
       -- a vertex that goes is one of the ends of the curve's edges
-      lost : (p : Point) → Member p (vertices o) → (Member p (vertices new) → ⊥) → Member p (map (point_in x) ws)
+      lost : (p : Point) → Member p (vertices o) → (Member p (vertices new) → ⊥) → Member p (map (point_in x.graph) ws)
       lost p m goes =
           let n = drop_gone o l.lawful.fit c p m goes in
-          let d = ((graphs_hold v (curves_on r) l.sound).marks n.0).0 (subst (Member n.0) (sym (ap (λ g. g.marks) l.stands)) n.1) in
+          let d = ((graphs_hold v.graph (curves_on r) l.sound).marks n.0).0 (subst (Member n.0) (sym (ap (λ g. g.marks) l.stands)) n.1) in
           let j = of_map (λ k. k.name) d.0 ks ((all d.0).1 (subst (λ z. Member z (curves_on r d.0)) n.3 d.1.curve)) in
           let both = ends.ends j.0 j.1 in
           elim n.2 [
-            | inl i ↦ among p (source_in v j.0.name) both.0 (ap (λ z. point_in v (source_in v z)) (sym j.2) ∙ d.1.low ∙ i)
-            | inr i ↦ among p (target_in v j.0.name) both.1 (ap (λ z. point_in v (target_in v z)) (sym j.2) ∙ d.1.high ∙ i)
+            | inl i ↦ among p (source_in v.graph j.0.name) both.0 (ap (λ z. point_in v.graph (source_in v.graph z)) (sym j.2) ∙ d.1.low ∙ i)
+            | inr i ↦ among p (target_in v.graph j.0.name) both.1 (ap (λ z. point_in v.graph (target_in v.graph z)) (sym j.2) ∙ d.1.high ∙ i)
           ]
 
-      all_left : AreLeft x k new (map (point_in x) ws)
-      all_left = are_left v r l new (releases c (graph o)) (drop_run o l.lawful.fit c) b x k e released (map (point_in x) ws) (fit_drop o l.lawful.fit c) (drop_old o l.lawful.fit c) lost
+      all_left : AreLeft x.graph k new (map (point_in x.graph) ws)
+      all_left = are_left v r l new (releases c (graph o)) (drop_run o l.lawful.fit c) b x k e released (map (point_in x.graph) ws) (fit_drop o l.lawful.fit c) (drop_old o l.lawful.fit c) lost
 
-      pub drop_told : (y : View) (q : Past) (f : BusRow) → ((p : Present) → AreLeft x k p (map (point_in x) ws) → IsToldRun x k e (tidying (drawn_graph x k) p) y (curves_on q) f) → IsToldRun v (curves_on r) b (steps (Drop c) o) y (curves_on q) f
+      pub drop_told : (y : MapView) (q : Past) (f : BusRow) → ((p : Present) → AreLeft x.graph k p (map (point_in x.graph) ws) → IsToldRun x k e (tidying (drawn_graph x.graph k) p) y (curves_on q) f) → IsToldRun v (curves_on r) b (steps (Drop c) o) y (curves_on q) f
       drop_told y q f tidied =
           told_runs_lawful.same_steps v (curves_on r) b _ (steps (Drop c) o) y (curves_on q) f (sym (drop_is_tidied o c))
           (tidied_told v r l new (releases c (graph o)) (drop_run o l.lawful.fit c) b x k e released y (curves_on q) f (tidied new all_left))
 
   -- the curve's edges are told by darts
-  pub keys_have : (ks : List DartKey) → ((d : DartId) → Member d (map (λ k. k.name) ks) ↔ Member c (curves_on r d)) → AllByRecursion (λ k. HasDart v k.name) ks
-  keys_have ks all = all_members (λ k. HasDart v k.name) ks (λ k m. (curved_forward v r l c k.name ((all k.name).0 (in_map (λ k. k.name) k ks m))).0)
+  pub keys_have : (ks : List DartKey) → ((d : DartId) → Member d (map (λ k. k.name) ks) ↔ Member c (curves_on r d)) → AllByRecursion (λ k. HasDart v.graph k.name) ks
+  keys_have ks all = all_members (λ k. HasDart v.graph k.name) ks (λ k m. (curved_forward v.graph r l c k.name ((all k.name).0 (in_map (λ k. k.name) k ks m))).0)
 
   -- ---- the layer after the drop
-  accepted : IsAcceptedBy (Drop c) (layer_of v r)
+  accepted : IsAcceptedBy (Drop c) (layer_of v.graph r)
   unfolding IsAccepted
   accepted = tt
 
-  pub drop_layer : (b : BusRow) (y : View) (q : Past) (f : BusRow) → IsToldRun v (curves_on r) b (steps (Drop c) o) y (curves_on q) f → q.pieces ≡ filter (λ k. not (same_curve k.curve c)) r.pieces → q.names ≡ filter (λ n. not (same_curve n c)) r.names → q.next ≡ r.next → IsLayer y q × (layer_of y q ≡ layer_after (Drop c) (layer_of v r))
+  pub drop_layer : (b : BusRow) (y : MapView) (q : Past) (f : BusRow) → IsToldRun v (curves_on r) b (steps (Drop c) o) y (curves_on q) f → q.pieces ≡ filter (λ k. not (same_curve k.curve c)) r.pieces → q.names ≡ filter (λ n. not (same_curve n c)) r.names → q.next ≡ r.next → IsLayer y.graph q × (layer_of y.graph q ≡ layer_after (Drop c) (layer_of v.graph r))
   unfolding after
-  drop_layer b y q f told pieces names next = steps_make_layers (Drop c) v r y q l accepted (told_runs_lawful.steps v (curves_on r) b (steps (Drop c) o) y (curves_on q) f told) pieces names next
+  drop_layer b y q f told pieces names next = steps_make_layers (Drop c) v.graph r y.graph q l accepted (told_runs_lawful.steps v (curves_on r) b (steps (Drop c) o) y (curves_on q) f told) pieces names next

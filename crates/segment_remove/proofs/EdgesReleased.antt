@@ -14,8 +14,8 @@ use Rattle.slab_laws.specs.declared.names.CurveId.{CurveId}
 use Rattle.slab_laws.specs.declared.names.DartId.{DartId}
 use Rattle.slab_laws.specs.Sound.{IsGraphSound}
 use Rattle.slab_laws.specs.View.{View, point_in, source_in, target_in}
-use Rattle.arr_notes.specs.Curves.{Curves, AreCurvesOf, IsForward, step_curves}
-use Rattle.arr_notes.specs.Step.{step}
+use Rattle.arr_notes.specs.Curves.{Curves, AreCurvesOf, IsForward}
+use Rattle.arr_notes.specs.MapView.{MapView}
 use Rattle.arr_notes.proofs.Names.{cases_dart}
 use Rattle.arr_notes.specs.RecordGraph.{drawn_graph}
 use Rattle.sound_changes.proofs.StepGraphs.{drawn_ordered}
@@ -30,7 +30,7 @@ use Rattle.told_steps.proofs.Stays.{way_on}
 use Rattle.told_steps.specs.ToldRuns.{AreInStep, IsToldRun}
 use Rattle.told_steps.proofs.Begun.{none_told}
 use Rattle.told_steps.proofs.ToldTogether.{told_runs_lawful}
-use Rattle.segment_remove.specs.CurveLosses.{is_shared, loss, loss_between, loss_step, IsCurveGone, IsLossTold}
+use Rattle.segment_remove.specs.CurveLosses.{is_shared, loss_between, loss_step, HasLost, HaveLost, IsCurveGone, IsLossTold}
 use Rattle.segment_remove.proofs.CurveLost.{less_is_loss, way_stays, curves_stay, vertices_stay, lost}
 use Rattle.integers.proofs.Tests.{less_then}
 
@@ -42,7 +42,7 @@ next_key ks i k l e =
     let more : suc i ≡ i + 1 = omega arith in
     drop-cons ks i k l ∙ (λ j. sym e j ∷ drop (more j) ks)
 
-module _ (v : View) (h : Curves) (c : CurveId) where
+module _ (v : MapView) (h : Curves) (c : CurveId) where
   -- the step that takes the curve from the edge of a key
   abbrev pub step_of : DartKey → Step
   step_of k = loss_between (is_shared h k.name c.0) k.source k.target c.0
@@ -52,58 +52,58 @@ module _ (v : View) (h : Curves) (c : CurveId) where
   mark_of k = mark k.source k.target c.0
 
   -- ---- keys still to come
-  pub record IsLater (g : View) (b : Curves) (k : DartKey) : Type 0 where
-    pub told : k ≡ dart_key v k.name
+  pub record IsLater (g : MapView) (b : Curves) (k : DartKey) : Type 0 where
+    pub told : k ≡ dart_key v.graph k.name
     pub runs : Member c.0 (h k.name)
-    pub way : IsSameWay v g k.name
+    pub way : IsSameWay v.graph g.graph k.name
     pub curves : b k.name ≡ h k.name
 
-  pub record IsGoing (e : BusRow) (all ks : List DartKey) (g : View) (b : Curves) (r : BusRow) : Type 0 where
+  pub record IsGoing (e : BusRow) (all ks : List DartKey) (g : MapView) (b : Curves) (r : BusRow) : Type 0 where
     pub in_step : AreInStep g b r
-    pub vertices : g.vertices ≡ v.vertices
+    pub vertices : g.graph.vertices ≡ v.graph.vertices
     pub ascend : IsAscending edge_cmp (map edge_of_key ks)
     pub later : (k : DartKey) → Member k ks → IsLater g b k
     pub left : (d : DartId) → Member c.0 (b d) → Member d (map (λ k. k.name) ks)
-    pub told : (x : View) (z : Curves) (q : BusRow) → IsToldRun g b r (map step_of ks) x z q → IsToldRun v h e (map step_of all) x z q
+    pub told : (x : MapView) (z : Curves) (q : BusRow) → IsToldRun g b r (map step_of ks) x z q → IsToldRun v h e (map step_of all) x z q
 
-  pub with_keys : {e : BusRow} {all ks js : List DartKey} {g : View} {b : Curves} {r : BusRow} → ks ≡ js → IsGoing e all ks g b r → IsGoing e all js g b r
+  pub with_keys : {e : BusRow} {all ks js : List DartKey} {g : MapView} {b : Curves} {r : BusRow} → ks ≡ js → IsGoing e all ks g b r → IsGoing e all js g b r
   with_keys {e} {all} {ks} {js} {g} {b} {r} same i = subst (λ xs. IsGoing e all xs g b r) same i
 
-  module _ (e : BusRow) (all ks : List DartKey) (k : DartKey) (g : View) (b : Curves) (r : BusRow) (i : IsGoing e all (k ∷ ks) g b r) where
+  module _ (e : BusRow) (all ks : List DartKey) (k : DartKey) (g : MapView) (b : Curves) (r : BusRow) (i : IsGoing e all (k ∷ ks) g b r) where
     here : IsLater g b k
     here = i.later k (inl refl)
 
     pub runs_here : Member c.0 (b k.name)
     runs_here = subst (Member c.0) (sym here.curves) here.runs
 
-    forward_here : IsForward g k.name
-    forward_here = forward_by_curve g b i.in_step.curves c.0 k.name runs_here
+    forward_here : IsForward g.graph k.name
+    forward_here = forward_by_curve g.graph b i.in_step.curves c.0 k.name runs_here
 
     -- the step is the one that the first graph asks for
-    same_step : loss_step g b k.name c ≡ step_of k
+    same_step : loss_step g.graph b k.name c ≡ step_of k
     same_step =
         let shared : is_shared b k.name c.0 ≡ is_shared h k.name c.0 = ap (λ cs. list_any (λ n. not (same_curve n c.0)) cs) here.curves in
-        let start : point_in g (source_in g k.name) ≡ k.source = here.way.start ∙ ap (λ (x : DartKey). x.source) (sym here.told) in
-        let end : point_in g (target_in g k.name) ≡ k.target = here.way.end ∙ ap (λ (x : DartKey). x.target) (sym here.told) in
+        let start : point_in g.graph (source_in g.graph k.name) ≡ k.source = here.way.start ∙ ap (λ (x : DartKey). x.source) (sym here.told) in
+        let end : point_in g.graph (target_in g.graph k.name) ≡ k.target = here.way.end ∙ ap (λ (x : DartKey). x.target) (sym here.told) in
         λ j. loss_between (shared j) (start j) (end j) c.0
 
     -- later keys are of other edges
     apart : (j : DartKey) → Member j ks → j.name ≢ k.name
     apart j m same =
         let less : edge_cmp (edge_of_key k) (edge_of_key j) ≡ Less = All-member (λ y. edge_cmp (edge_of_key k) y ≡ Less) (edge_of_key j) (map edge_of_key ks) i.ascend.0 (in_map edge_of_key j ks m) in
-        let one : j ≡ k = (i.later j (inr m)).told ∙ ap (dart_key v) same ∙ sym here.told in
+        let one : j ≡ k = (i.later j (inr m)).told ∙ ap (dart_key v.graph) same ∙ sym here.told in
         edge_itself (edge_of_key k) (subst (λ z. edge_cmp (edge_of_key k) (edge_of_key z) ≡ Less) one less)
 
-    module _ (x : View) (z : Curves) (is : x ≡ step g (loss g b k.name c)) (are : (d : DartId) → z d ≡ step_curves b (loss g b k.name c) d) where
+    module _ (x : MapView) (z : Curves) (is : HasLost g.graph b k.name c x.graph) (are : HaveLost b k.name c z) where
       later_still : (j : DartKey) → Member j ks → IsLater x z j
       later_still j m =
           let l = i.later j (inr m) in
-          let f = forward_by_curve g b i.in_step.curves c.0 j.name (subst (Member c.0) (sym l.curves) l.runs) in
+          let f = forward_by_curve g.graph b i.in_step.curves c.0 j.name (subst (Member c.0) (sym l.curves) l.runs) in
           record {
             told = l.told;
             runs = l.runs;
-            way = way_on v g x j.name l.way (subst (λ y. IsSameWay g y j.name) (sym is) (way_stays g b i.in_step.sound k.name forward_here c j.name (apart j m) f));
-            curves = are j.name ∙ curves_stay g b i.in_step.sound k.name forward_here c j.name (apart j m) ∙ l.curves;
+            way = way_on v.graph g.graph x.graph j.name l.way (subst (λ y. IsSameWay g.graph y j.name) (sym is) (way_stays g.graph b i.in_step.sound.graph k.name forward_here c j.name (apart j m) f));
+            curves = are j.name ∙ curves_stay g.graph b i.in_step.sound.graph k.name forward_here c j.name (apart j m) ∙ l.curves;
           }
 
       not_here : (d : DartId) → d ≢ k.name → Member d (map (λ j. j.name) (k ∷ ks)) → Member d (map (λ j. j.name) ks)
@@ -112,14 +112,14 @@ module _ (v : View) (h : Curves) (c : CurveId) where
 
       left_still : (d : DartId) → Member c.0 (z d) → Member d (map (λ j. j.name) ks)
       left_still d m = elim (cases_dart d k.name) [
-        | inl e ↦ absurd (lost g b i.in_step.sound k.name forward_here c (subst (Member c.0) (are k.name) (subst (λ y. Member c.0 (z y)) e m)))
-        | inr ne ↦ not_here d ne (i.left d (subst (Member c.0) (are d ∙ curves_stay g b i.in_step.sound k.name forward_here c d ne) m))
+        | inl e ↦ absurd (lost g.graph b i.in_step.sound.graph k.name forward_here c (subst (Member c.0) (are k.name) (subst (λ y. Member c.0 (z y)) e m)))
+        | inr ne ↦ not_here d ne (i.left d (subst (Member c.0) (are d ∙ curves_stay g.graph b i.in_step.sound.graph k.name forward_here c d ne) m))
       ]
 
       pub goes_on : (q : BusRow) → AreInStep x z q → IsLossTold g b r k.name c x z q → IsGoing e all ks x z q
       goes_on q now lost_here = record {
         in_step = now;
-        vertices = ap (λ (y : View). y.vertices) is ∙ vertices_stay g b i.in_step.sound k.name forward_here c ∙ i.vertices;
+        vertices = ap (λ (y : View). y.vertices) is ∙ vertices_stay g.graph b i.in_step.sound.graph k.name forward_here c ∙ i.vertices;
         ascend = i.ascend.1;
         later = later_still;
         left = left_still;
@@ -127,25 +127,25 @@ module _ (v : View) (h : Curves) (c : CurveId) where
       }
 
   -- ---- all keys of the curve
-  module _ (s : IsGraphSound v) (a : AreCurvesOf v h) (ks : List DartKey) (told : AllByRecursion (λ k. k ≡ dart_key v k.name) ks) (are : (d : DartId) → Member d (map (λ k. k.name) ks) ↔ Member c.0 (h d)) (ascend : IsAscending edge_cmp (map edge_of_key ks)) where
+  module _ (s : IsGraphSound v.graph) (a : AreCurvesOf v.graph h) (ks : List DartKey) (told : AllByRecursion (λ k. k ≡ dart_key v.graph k.name) ks) (are : (d : DartId) → Member d (map (λ k. k.name) ks) ↔ Member c.0 (h d)) (ascend : IsAscending edge_cmp (map edge_of_key ks)) where
     abbrev drawn : Graph
-    drawn = drawn_graph v h
+    drawn = drawn_graph v.graph h
 
-    told_by : (k : DartKey) → Member k ks → k ≡ dart_key v k.name
-    told_by k m = All-member (λ k. k ≡ dart_key v k.name) k ks told m
+    told_by : (k : DartKey) → Member k ks → k ≡ dart_key v.graph k.name
+    told_by k m = All-member (λ k. k ≡ dart_key v.graph k.name) k ks told m
 
     runs_by : (k : DartKey) → Member k ks → Member c.0 (h k.name)
     runs_by k m = (are k.name).0 (in_map (λ k. k.name) k ks m)
 
-    forward_by : (k : DartKey) → Member k ks → IsForward v k.name
-    forward_by k m = forward_by_curve v h a c.0 k.name (runs_by k m)
+    forward_by : (k : DartKey) → Member k ks → IsForward v.graph k.name
+    forward_by k m = forward_by_curve v.graph h a c.0 k.name (runs_by k m)
 
     pub starts : (e : BusRow) → AreInStep v h e → IsGoing e ks ks v h e
     starts e now = record {
       in_step = now;
       vertices = refl;
       ascend = ascend;
-      later = λ k m. record { told = told_by k m; runs = runs_by k m; way = unchanged_way v k.name (forward_by k m).0; curves = refl };
+      later = λ k m. record { told = told_by k m; runs = runs_by k m; way = unchanged_way v.graph k.name (forward_by k m).0; curves = refl };
       left = λ d m. (are d).1 m;
       told = λ x z q m. m;
     }
@@ -167,7 +167,7 @@ module _ (v : View) (h : Curves) (c : CurveId) where
     into m n =
         let k = of_map mark_of m ks n in
         let t = told_by k.0 k.1 in
-        let there = mark_held v s.named h (mark_of k.0) k.0.name (record {
+        let there = mark_held v.graph s.named h (mark_of k.0) k.0.name (record {
           forward = forward_by k.0 k.1;
           low = ap (λ (x : DartKey). x.source) (sym t);
           high = ap (λ (x : DartKey). x.target) (sym t);
@@ -178,10 +178,10 @@ module _ (v : View) (h : Curves) (c : CurveId) where
     from : (m : Mark) → Member m (filter is_its drawn.marks) → Member m (map mark_of ks)
     from m n =
         let f = of_filter is_its m drawn.marks n in
-        let d = held_mark v s.named h m f.0 in
+        let d = held_mark v.graph s.named h m f.0 in
         let e : m.curve ≡ c.0 = curve_out m.curve c.0 f.1 in
         let k = of_map (λ k. k.name) d.0 ks ((are d.0).1 (subst (λ z. Member z (h d.0)) e d.1.curve)) in
-        let t : k.0 ≡ dart_key v d.0 = told_by k.0 k.1 ∙ ap (dart_key v) (sym k.2) in
+        let t : k.0 ≡ dart_key v.graph d.0 = told_by k.0 k.1 ∙ ap (dart_key v.graph) (sym k.2) in
         let start : k.0.source ≡ m.low = ap (λ (x : DartKey). x.source) t ∙ d.1.low in
         let end : k.0.target ≡ m.high = ap (λ (x : DartKey). x.target) t ∙ d.1.high in
         let same : mark_of k.0 ≡ m = λ j. mark (start j) (end j) (sym e j) in
@@ -190,14 +190,14 @@ module _ (v : View) (h : Curves) (c : CurveId) where
     marks_are : filter is_its drawn.marks ≡ map mark_of ks
     marks_are =
         ascending_unique mark_cmp mark_cmp_total (filter is_its drawn.marks) (map mark_of ks)
-        (IsAscending-filter mark_cmp is_its drawn.marks (drawn_ordered v h).marks) (marks_ascend ks ascend) from into
+        (IsAscending-filter mark_cmp is_its drawn.marks (drawn_ordered v.graph h).marks) (marks_ascend ks ascend) from into
 
     step_is : (k : DartKey) → Member k ks → less_step drawn (mark_of k) ≡ step_of k
     step_is k m =
         let t = told_by k m in
-        let start : k.source ≡ point_in v (source_in v k.name) = ap (λ (x : DartKey). x.source) t in
-        let end : k.target ≡ point_in v (target_in v k.name) = ap (λ (x : DartKey). x.target) t in
-        (λ j. less_step drawn (mark (start j) (end j) c.0)) ∙ less_is_loss v h s k.name (forward_by k m) c.0 ∙ (λ j. loss_between (is_shared h k.name c.0) (sym start j) (sym end j) c.0)
+        let start : k.source ≡ point_in v.graph (source_in v.graph k.name) = ap (λ (x : DartKey). x.source) t in
+        let end : k.target ≡ point_in v.graph (target_in v.graph k.name) = ap (λ (x : DartKey). x.target) t in
+        (λ j. less_step drawn (mark (start j) (end j) c.0)) ∙ less_is_loss v.graph h s k.name (forward_by k m) c.0 ∙ (λ j. loss_between (is_shared h k.name c.0) (sym start j) (sym end j) c.0)
 
     steps_by : (js : List DartKey) → ((k : DartKey) → Member k js → Member k ks) → map (less_step drawn) (map mark_of js) ≡ map step_of js
     steps_by [] f = refl
@@ -206,7 +206,7 @@ module _ (v : View) (h : Curves) (c : CurveId) where
     steps_are : map step_of ks ≡ map (less_step drawn) (filter is_its drawn.marks)
     steps_are = sym (ap (map (less_step drawn)) marks_are ∙ steps_by ks (λ k m. m))
 
-    module _ (e : BusRow) (g : View) (b : Curves) (r : BusRow) (i : IsGoing e ks [] g b r) where
+    module _ (e : BusRow) (g : MapView) (b : Curves) (r : BusRow) (i : IsGoing e ks [] g b r) where
       pub ends : IsCurveGone v h e c g b r
       ends = told_runs_lawful.same_steps v h e _ (map (less_step drawn) (filter is_its drawn.marks)) g b r steps_are (i.told g b r (none_told g b r))
 

@@ -8,6 +8,7 @@ use Rattle.plane_graphs.specs.Piece.{Present}
 use Rattle.edit_steps.specs.Steps.{Step, missing_points, run, tidy_steps, with_tidying}
 use Rattle.slab_laws.specs.View.{View}
 use Rattle.arr_notes.specs.Curves.{Curves}
+use Rattle.arr_notes.specs.MapView.{MapView}
 use Rattle.curve_history.specs.Past.{Past, curves_on}
 use Rattle.arr_notes.specs.RecordGraph.{drawn_graph}
 use Rattle.observer_bus.specs.Rounds.{BusRow}
@@ -18,21 +19,21 @@ use Rattle.redundant_vertices.specs.Left.{AreLeft, tidying}
 use Rattle.told_steps.specs.ToldRuns.{IsToldRun}
 use Rattle.told_steps.proofs.ToldTogether.{told_runs_lawful}
 
-module _ (v : View) (p : Past) (l : IsLayer v p) (new : Present) (firsts : List Step) (is : run firsts (graph (layer_of v p).present) ≡ graph_over (vertices (layer_of v p).present) new.pieces new.pins)
-    (b : BusRow) (x : View) (k : Curves) (c : BusRow) (told : IsToldRun v (curves_on p) b firsts x k c) where
+module _ (v : MapView) (p : Past) (l : IsLayer v.graph p) (new : Present) (firsts : List Step) (is : run firsts (graph (layer_of v.graph p).present) ≡ graph_over (vertices (layer_of v.graph p).present) new.pieces new.pins)
+    (b : BusRow) (x : MapView) (k : Curves) (c : BusRow) (told : IsToldRun v (curves_on p) b firsts x k c) where
   abbrev o : Present
-  o = (layer_of v p).present
+  o = (layer_of v.graph p).present
 
-  ran : IsRun v (curves_on p) firsts x k
-  ran = made_is_run v (curves_on p) firsts x k l.sound l.curves (told_runs_lawful.steps v (curves_on p) b firsts x k c told)
+  ran : IsRun v.graph (curves_on p) firsts x.graph k
+  ran = made_is_run v.graph (curves_on p) firsts x.graph k l.sound l.curves (told_runs_lawful.steps v (curves_on p) b firsts x k c told)
 
-  left_drawn : drawn_graph x k ≡ graph_over (vertices o) new.pieces new.pins
+  left_drawn : drawn_graph x.graph k ≡ graph_over (vertices o) new.pieces new.pins
   left_drawn = ran.graph ∙ ap (run firsts) l.stands ∙ is
 
-  points : (drawn_graph x k).points ≡ vertices o
+  points : (drawn_graph x.graph k).points ≡ vertices o
   points = ap (λ g. g.points) left_drawn
 
-  pub are_left : (xs : List Point) → IsFit new → ((z : Point) → Member z (vertices new) → Member z (vertices o)) → ((z : Point) → Member z (vertices o) → (Member z (vertices new) → ⊥) → Member z xs) → AreLeft x k new xs
+  pub are_left : (xs : List Point) → IsFit new → ((z : Point) → Member z (vertices new) → Member z (vertices o)) → ((z : Point) → Member z (vertices o) → (Member z (vertices new) → ⊥) → Member z xs) → AreLeft x.graph k new xs
   are_left xs fit old gone = record {
     fit = fit;
     draws = left_drawn ∙ ap (λ ps. graph_over ps new.pieces new.pins) (sym points);
@@ -41,9 +42,9 @@ module _ (v : View) (p : Past) (l : IsLayer v p) (new : Present) (firsts : List 
   }
 
   -- the tidying goes on from there
-  pub tidied_told : (y : View) (j : Curves) (d : BusRow) → IsToldRun x k c (tidying (drawn_graph x k) new) y j d → IsToldRun v (curves_on p) b (with_tidying o new firsts) y j d
+  pub tidied_told : (y : MapView) (j : Curves) (d : BusRow) → IsToldRun x k c (tidying (drawn_graph x.graph k) new) y j d → IsToldRun v (curves_on p) b (with_tidying o new firsts) y j d
   unfolding with_tidying
   tidied_told y j d m =
       told_runs_lawful.follow v (curves_on p) b firsts (tidy_steps (missing_points (vertices o) (vertices new)) (run firsts (graph o))) x k c y j d told
-      (told_runs_lawful.same_steps x k c (tidying (drawn_graph x k) new) (tidy_steps (missing_points (vertices o) (vertices new)) (run firsts (graph o))) y j d
+      (told_runs_lawful.same_steps x k c (tidying (drawn_graph x.graph k) new) (tidy_steps (missing_points (vertices o) (vertices new)) (run firsts (graph o))) y j d
       (ap₂ (λ ps g. tidy_steps (missing_points ps (vertices new)) g) points (left_drawn ∙ sym is)) m)

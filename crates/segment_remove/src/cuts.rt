@@ -1,5 +1,6 @@
 ghost use Rattle.std.specs.Prelude.{◌≡◌, ◌≢◌, ◌≤◌, ◌+◌, length, Err, IsOk, OnOk, OnErr};
 ghost use Rattle.edit_steps.specs.Refusals.{IsAnswerFor};
+ghost use Rattle.dcel_records.specs.RecordsView.{tables_of};
 ghost use Rattle.dcel_records.specs.SoundMaps.{IsMapAtRest};
 ghost use Rattle.curve_history.specs.Past.{SameLayer, SameCurves};
 ghost use Rattle.told_steps.specs.RecordLayers.{IsLayer};
@@ -50,6 +51,7 @@ fn make_room(records: &mut Records, history: &mut History, pieces: u32) -> Resul
     ensures cycles { OnOk result (1 ≤ records.new.faces.spare_cycles) }
     ensures succeeds { pieces ≤ length history.old.pieces + history.old.spare_pieces → 1 ≤ records.old.faces.spare_cycles → IsOk result }
     ensures graph { records.new.graph ≡ records.old.graph }
+    ensures tables { tables_of records.new ≡ tables_of records.old }
     ensures map { IsMapAtRest records.old → IsMapAtRest records.new }
     ensures layer { SameLayer history.old history.new }
     ensures curves { SameCurves history.old history.new }
@@ -89,6 +91,7 @@ pub fn remove_edge(
     ensures refused { IsAnswerFor cut_said (cut_refusal_at pieces records.old history.old p.now q.now) result }
     ensures room { HasRoomToCut records.old history.old p.now q.now → result ≢ Err CutError.NoMemory }
     ensures graph { OnErr result (records.new.graph ≡ records.old.graph) }
+    ensures tables { OnErr result (tables_of records.new ≡ tables_of records.old) }
     ensures same_layer { OnErr result (SameLayer history.old history.new) }
     ensures same_curves { OnErr result (SameCurves history.old history.new) }
     ensures untold { OnErr result (bus_row Observer-dyn bus.new ≡ bus_row Observer-dyn bus.old) }

@@ -5,6 +5,7 @@ ghost use Rattle.plane_graphs.specs.Graph.{edge_cmp};
 ghost use Rattle.slab_laws.specs.declared.names.DartId.{DartId as Dart};
 ghost use Rattle.edit_steps.specs.Edits.{Drop};
 ghost use Rattle.edit_steps.specs.Refusals.{drop_refusal, IsAnswerFor};
+ghost use Rattle.dcel_records.specs.RecordsView.{tables_of};
 ghost use Rattle.dcel_records.specs.SoundMaps.{IsMapAtRest};
 ghost use Rattle.curve_history.specs.Past.{curves_on, SameLayer, SameCurves};
 ghost use Rattle.record_orders.specs.Keys.{dart_key};
@@ -98,6 +99,7 @@ pub fn remove_curve(
     ensures told { OnOk result (IsToldEdit (Drop curve.0) records.old history.old (bus_row Observer-dyn bus.old) records.new history.new (bus_row Observer-dyn bus.new)) }
     ensures refused { IsAnswerFor drop_said (drop_refusal (layer_at records.old history.old) curve.0) result }
     ensures graph { OnErr result (records.new.graph ≡ records.old.graph) }
+    ensures tables { OnErr result (tables_of records.new ≡ tables_of records.old) }
     ensures same_layer { OnErr result (SameLayer history.old history.new) }
     ensures same_curves { OnErr result (SameCurves history.old history.new) }
     ensures untold { OnErr result (bus_row Observer-dyn bus.new ≡ bus_row Observer-dyn bus.old) }

@@ -2,7 +2,7 @@ ghost use Rattle.std.specs.Prelude.{◌≡◌, ◌≤◌, ◌↔◌, ◌+◌, le
 ghost use Rattle.std.specs.List.{AllByRecursion};
 ghost use Rattle.plane_graphs.specs.Ascending.{Member, IsAscending};
 ghost use Rattle.plane_graphs.specs.Graph.{edge_cmp};
-ghost use Rattle.dcel_records.specs.SoundMaps.{IsMapAtRest};
+ghost use Rattle.dcel_records.specs.SoundMaps.{IsMapAtRest, map_of};
 ghost use Rattle.curve_history.specs.Past.{curves_on, SameLayer};
 ghost use Rattle.observer_bus.specs.Rows.{bus_row};
 ghost use Rattle.record_orders.specs.Keys.{dart_key};
@@ -27,21 +27,21 @@ fn release_at(
     d: DartId,
     curve: CurveId,
 )
-    requires in_step { AreInStep records.old.graph (curves_on history.old)
+    requires in_step { AreInStep (map_of records.old) (curves_on history.old)
         (bus_row Observer-dyn bus.old) }
     requires map { IsMapAtRest records.old }
     requires runs { Member curve.0 (curves_on history.old d) }
     requires cycles { 1 ≤ records.old.faces.spare_cycles }
-    ensures told { IsLossTold records.old.graph (curves_on history.old)
+    ensures told { IsLossTold (map_of records.old) (curves_on history.old)
         (bus_row Observer-dyn bus.old)
-        d curve records.new.graph (curves_on history.new)
+        d curve (map_of records.new) (curves_on history.new)
         (bus_row Observer-dyn bus.new) }
-    ensures in_step { AreInStep records.new.graph (curves_on history.new)
+    ensures in_step { AreInStep (map_of records.new) (curves_on history.new)
         (bus_row Observer-dyn bus.new) }
     ensures map { IsMapAtRest records.new }
     ensures spare_cycles { records.old.faces.spare_cycles ≤ records.new.faces.spare_cycles + 1 }
     ensures graph { HasLost records.old.graph (curves_on history.old) d curve records.new.graph }
-    ensures curves { HaveLost records.old.graph (curves_on history.old) d curve (curves_on history.new) }
+    ensures curves { HaveLost (curves_on history.old) d curve (curves_on history.new) }
     ensures layer { SameLayer history.old history.new }
 {
     if history.has_other(d, curve) {
@@ -61,18 +61,18 @@ pub fn release_curve(
     edges: &[DartKey],
     curve: CurveId,
 )
-    requires in_step { AreInStep records.old.graph (curves_on history.old)
+    requires in_step { AreInStep (map_of records.old) (curves_on history.old)
         (bus_row Observer-dyn bus.old) }
     requires map { IsMapAtRest records.old }
     requires keys { AllByRecursion (λ k. k ≡ dart_key records.old.graph k.name) edges.now }
     requires all { (d : DartId) → Member d (map (λ k. k.name) edges.now) ↔ Member curve.0 (curves_on history.old d) }
     requires ascend { IsAscending edge_cmp (map edge_of_key edges.now) }
     requires cycles { length edges.now ≤ records.old.faces.spare_cycles }
-    ensures told { IsCurveGone records.old.graph (curves_on history.old)
+    ensures told { IsCurveGone (map_of records.old) (curves_on history.old)
         (bus_row Observer-dyn bus.old)
-        curve records.new.graph (curves_on history.new)
+        curve (map_of records.new) (curves_on history.new)
         (bus_row Observer-dyn bus.new) }
-    ensures in_step { AreInStep records.new.graph (curves_on history.new)
+    ensures in_step { AreInStep (map_of records.new) (curves_on history.new)
         (bus_row Observer-dyn bus.new) }
     ensures map { IsMapAtRest records.new }
     ensures gone { (d : DartId) → ¬ Member curve.0 (curves_on history.new d) }

@@ -1,4 +1,5 @@
 ghost use Rattle.std.specs.Prelude.{◌≡◌, ◌≤◌, IsOk, OnOk};
+ghost use Rattle.dcel_records.specs.RecordsView.{tables_of};
 ghost use Rattle.dcel_records.specs.SoundMaps.{IsMapAtRest};
 
 use dcel_records::{Records, Room};
@@ -13,6 +14,7 @@ pub(crate) fn make_room_of_cycles(records: &mut Records, cycles: usize) -> Resul
     ensures room { OnOk result (cycles ≤ records.new.faces.spare_cycles) }
     ensures succeeds { cycles ≤ records.old.faces.spare_cycles → IsOk result }
     ensures graph { records.new.graph ≡ records.old.graph }
+    ensures tables { tables_of records.new ≡ tables_of records.old }
     ensures map { IsMapAtRest records.old → IsMapAtRest records.new }
 {
     records.reserve(Room {

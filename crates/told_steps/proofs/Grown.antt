@@ -94,17 +94,17 @@ edge_split v d w p n m s c =
 
 -- ---- and all of them
 grown_step : (v : View) (h : Curves) (c : Change) → IsGraphSound v → FitsChange v h c → Grows (step_of_change v c) → IsGrown v (step v c)
-grown_step v h (AddVertex w p) s f g = vertex_added v w p s f
+grown_step v h (AddVertex w p a) s f g = vertex_added v w p s f
 grown_step v h (RemoveVertex w) s f g = absurd g
 grown_step v h (SplitEdge d w p n m) s f g = edge_split v d w p n m s f
 grown_step v h (MergeEdge w d n) s f g = absurd g
-grown_step v h (AddEdge d m u w at_u at_w l c) s f g = edge_added v d m u w at_u at_w l s f.0
-grown_step v h (RemoveEdge d m) s f g = absurd g
+grown_step v h (AddEdge d m u w at_u at_w l c n) s f g = edge_added v d m u w at_u at_w l s f.0
+grown_step v h (RemoveEdge d m n) s f g = absurd g
 grown_step v h (AddCurve d c) s f g = grown_same v
 grown_step v h (RemoveCurve d c) s f g = grown_same v
 grown_step v h (SetPin w) s f g = pin_grown v w true s
 grown_step v h (ClearPin w) s f g = pin_grown v w false s
-grown_step v h Clear s f g = absurd g
+grown_step v h (Clear a) s f g = absurd g
 
 pub all_grown : (v : View) (h : Curves) (ss : List Step) (w : View) (k : Curves) → IsGraphSound v → AreCurvesOf v h → IsRunOfSteps v h ss w k → AllGrow ss → IsGrown v w
 all_grown v h [] w k s a m g = subst (IsGrown v) (sym m.0) (grown_same v)

@@ -18,3 +18,5 @@ pub mod Linked
 pub mod Begun
 pub mod MapsKept
 pub mod Restored
+pub mod Settled
+pub mod FirstKept

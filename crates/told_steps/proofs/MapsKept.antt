@@ -39,6 +39,12 @@ no_row : (X : Type 0) (n : ℕ) → ¬ IsSome (row_at {X = X} [] n)
 unfolding row_at
 no_row X n h = false≢true h
 
+-- the face of no name less than another is the first
+pub unbounded_first : (f : Faces) → NamesAscend f.faces → HasFace f (face_id 0) → face_id 0 ≡ first_or f.faces
+unbounded_first f ascend unbounded =
+    let least : (first_or f.faces).0 ≤ 0 = first_least f.faces 0 ascend unbounded in
+    sym (ap face_id (omega (arith, least)))
+
 module _ (old new : RecordsView) (rest : IsMapAtRest old) (sound : IsGraphSound new.graph) (moved : new.faces.moved ≡ old.faces.moved) where
   abbrev v : View
   v = old.graph
@@ -80,10 +86,8 @@ module _ (old new : RecordsView) (rest : IsMapAtRest old) (sound : IsGraphSound 
       at_rest w as_it_was (lists_of old) graph (ap (λ (g : FacesView). g.tables) faces) (ap lists_in_view faces) same (darts_kept v w f f (lists_of old) (lists_of old) rest.map.darts (λ d o. (same.darts d).has o) refl refl refl)
 
   -- ---- all gone
-  pub all_cleared : NamesAscend f.faces → HasFace f (face_id 0) → new.graph ≡ no_rows → tables_of new ≡ lone_face → lists_of new ≡ nothing_listed → IsMapAtRest new
-  all_cleared ascend unbounded graph tables lists =
-      let least : (first_or f.faces).0 ≤ 0 = first_least f.faces 0 ascend unbounded in
-      let first : face_id 0 ≡ first_or f.faces = sym (ap face_id (omega (arith, least))) in
+  pub all_cleared : face_id 0 ≡ first_or f.faces → new.graph ≡ no_rows → tables_of new ≡ lone_face → lists_of new ≡ nothing_listed → IsMapAtRest new
+  all_cleared first graph tables lists =
       at_rest no_rows (cleared (face_id 0)) nothing_listed graph tables lists (refl, first) (λ c o. absurd (no_row _ c.0 o))
 
 -- ---- the records at first: nothing but the unbounded face

@@ -5,14 +5,16 @@ use Rattle.slab_laws.specs.declared.names.DartId.{DartId}
 use Rattle.slab_laws.specs.Sound.{IsGraphSound}
 use Rattle.slab_laws.specs.View.{View, curve_id}
 use Rattle.arr_notes.specs.Curves.{Curves, AreCurvesOf}
-use Rattle.arr_notes.specs.CurvedView.{AreListsOf, IsSoundView, curve_rows, view_by}
+use Rattle.arr_notes.specs.CurvedView.{AreListsOf, CurvedView, IsSoundView, curve_rows, view_by}
 use Rattle.arr_notes.proofs.CurveRows.{curve_row, ascend_curve_rows, read_views_are_sound}
 use Rattle.arr_notes.proofs.Names.{numbers_of}
 use Rattle.arr_notes.proofs.RowLaws.{one_table}
+use Rattle.arr_notes.specs.MapView.{MapView}
 use Rattle.arr_notes.specs.declared.note.Note.{Note}
 use Rattle.dcel_records.specs.RecordsView.{RecordsView}
+use Rattle.dcel_records.specs.SoundMaps.{map_of}
 use Rattle.observer_bus.specs.Rounds.{IsRoundOf}
-use Rattle.observer_bus.specs.Seats.{SeatRow, Holds}
+use Rattle.observer_bus.specs.Seats.{SeatRow, Holds, Leads}
 use Rattle.observer_bus.specs.declared.went.Went.{Went}
 use Rattle.curve_history.specs.DrawnRecords.{IsTold, curves_in}
 use Rattle.curve_history.specs.Past.{Past, curves_on}
@@ -20,8 +22,11 @@ use Rattle.curve_history.proofs.Facing.{lists_read}
 use Rattle.sound_views.proofs.GraphDrawn.{twins_are_directed}
 use Rattle.told_steps.specs.ToldRuns.{seen}
 
-module _ (v : View) (h : Curves) (s : IsGraphSound v) (a : AreCurvesOf v h) where
-  pub seen_lists : (k : DartId → List CurveId) → AreListsOf v h k → view_by v k ≡ seen v h
+module _ (m : MapView) (h : Curves) (s : IsGraphSound m.graph) (a : AreCurvesOf m.graph h) where
+  abbrev v : View
+  v = m.graph
+
+  pub seen_lists : (k : DartId → List CurveId) → AreListsOf m.graph h k → view_by m.graph k ≡ seen m h
   seen_lists k lists =
       let own : AreListsOf v h (λ d. map curve_id (h d)) = λ d f. numbers_of (h d) in
       let rows : curve_rows v k ≡ curve_rows v (λ d. map curve_id (h d)) =
@@ -30,9 +35,6 @@ module _ (v : View) (h : Curves) (s : IsGraphSound v) (a : AreCurvesOf v h) wher
       λ i. record { graph = v; curves = rows i }
 
 module _ (v : View) (p : Past) (s : IsGraphSound v) (a : AreCurvesOf v (curves_on p)) where
-  pub seen_read : view_by v (curves_in v p) ≡ seen v (curves_on p)
-  seen_read = seen_lists v (curves_on p) s a (curves_in v p) (lists_read v p)
-
   pub sound_read : IsSoundView (view_by v (curves_in v p))
   sound_read = read_views_are_sound v (curves_on p) (curves_in v p) s a (lists_read v p)
 
@@ -47,12 +49,16 @@ module _ (r : RecordsView) (p : Past) (s : IsGraphSound r.graph) (a : AreCurvesO
   pub drawn_sound : IsSoundView (view_by d.graph (curves_in d.graph q))
   drawn_sound = subst IsSoundView (sym one_view) (sound_read r.graph p s a)
 
-  pub drawn_seen : view_by d.graph (curves_in d.graph q) ≡ seen r.graph (curves_on p)
-  drawn_seen = one_view ∙ seen_read r.graph p s a
+  pub drawn_seen : view_by d.graph (curves_in d.graph q) ≡ seen (map_of r) (curves_on p)
+  drawn_seen = one_view ∙ seen_lists (map_of r) (curves_on p) s a (curves_in r.graph p) (lists_read r.graph p)
 
   pub round_seen : (n : Note) {ss ts : List SeatRow} {g h : Went} {x y : Bool} →
-      IsRoundOf n (view_by d.graph (curves_in d.graph q)) ss g ts h × (y ≡ x) → IsRoundOf n (seen r.graph (curves_on p)) ss g ts h × (y ≡ x)
+      IsRoundOf n (view_by d.graph (curves_in d.graph q)) ss g ts h × (y ≡ x) → IsRoundOf n (seen (map_of r) (curves_on p)) ss g ts h × (y ≡ x)
   round_seen n {ss} {ts} {g} {h} {x} {y} o = (subst (λ z. IsRoundOf n z ss g ts h) drawn_seen o.0, o.1)
 
-  pub held_seen : (ss : List SeatRow) → All (Holds (view_by d.graph (curves_in d.graph q))) ss → All (Holds (seen r.graph (curves_on p))) ss
+  pub held_seen : (ss : List SeatRow) → All (Holds (view_by d.graph (curves_in d.graph q))) ss → All (Holds (seen (map_of r) (curves_on p))) ss
   held_seen ss o = subst (λ z. All (Holds z) ss) drawn_seen o
+
+-- a note leads to one view as it does to the same one
+pub leads_by : (v : CurvedView) (n : Note) {w x : CurvedView} → w ≡ x → Leads v n x → Leads v n w
+leads_by v n e l = subst (Leads v n) (sym e) l

@@ -188,17 +188,17 @@ module _ (v : View) (w : VertexId) (d n : DartId) (s : IsGraphSound v) (c : Fits
 
 -- ---- and all of them
 shrunk_step : (v : View) (h : Curves) (c : Change) → IsGraphSound v → FitsChange v h c → Shrinks (step_of_change v c) → IsShrunk v (step v c)
-shrunk_step v h (AddVertex w p) s f g = absurd g
+shrunk_step v h (AddVertex w p a) s f g = absurd g
 shrunk_step v h (RemoveVertex w) s f g = vertex_removed v w s f.1
 shrunk_step v h (SplitEdge d w p n m) s f g = absurd g
 shrunk_step v h (MergeEdge w d n) s f g = edges_merged v w d n s f.0
-shrunk_step v h (AddEdge d m u w at_u at_w l c) s f g = absurd g
-shrunk_step v h (RemoveEdge d m) s f g = subst (λ x. IsShrunk v (remove_edge v d x)) (sym f.1) (edge_removed v d s f.0.0)
+shrunk_step v h (AddEdge d m u w at_u at_w l c n) s f g = absurd g
+shrunk_step v h (RemoveEdge d m n) s f g = subst (λ x. IsShrunk v (remove_edge v d x)) (sym f.1) (edge_removed v d s f.0.0)
 shrunk_step v h (AddCurve d c) s f g = shrunk_same v
 shrunk_step v h (RemoveCurve d c) s f g = shrunk_same v
 shrunk_step v h (SetPin w) s f g = pin_changed v w true s
 shrunk_step v h (ClearPin w) s f g = pin_changed v w false s
-shrunk_step v h Clear s f g = all_removed v
+shrunk_step v h (Clear a) s f g = all_removed v
 
 pub all_shrunk : (v : View) (h : Curves) (ss : List Step) (w : View) (k : Curves) → IsGraphSound v → AreCurvesOf v h → IsRunOfSteps v h ss w k → AllShrink ss → IsShrunk v w
 all_shrunk v h [] w k s a m g = subst (IsShrunk v) (sym m.0) (shrunk_same v)

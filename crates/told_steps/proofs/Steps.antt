@@ -6,7 +6,7 @@ use Rattle.plane_graphs.specs.Plane.{IsPlane}
 use Rattle.edit_steps.specs.Steps.{AddVertex as AddVertexAt, apply}
 use Rattle.slab_laws.specs.declared.names.VertexId.{VertexId}
 use Rattle.slab_laws.specs.Sound.{IsGraphSound}
-use Rattle.slab_laws.specs.View.{View, HasVertex, point_in}
+use Rattle.slab_laws.specs.View.{View, HasVertex, face_id, point_in}
 use Rattle.arr_notes.specs.Curves.{Curves, AreCurvesOf}
 use Rattle.arr_notes.specs.RecordGraph.{drawn_graph}
 use Rattle.arr_notes.specs.ViewChanges.{with_pin, with_vertex, without_vertex}
@@ -27,7 +27,7 @@ pub new_vertex : (v : View) (u : VertexId) (p : Point) → ¬ HasVertex v u → 
 new_vertex v u p n k f = record { name = n; proper = k; free = f }
 
 pub vertex_added : (v : View) (h : Curves) (u : VertexId) (p : Point) → IsGraphSound v → AreCurvesOf v h → IsNewVertex v u p → IsPlane (apply (AddVertexAt p) (drawn_graph v h)) → (w : View) → w ≡ with_vertex v u p → IsGraphSound w
-vertex_added v h u p s a n k w e = subst IsGraphSound (sym e) (changes_keep_views_sound v h (AddVertex u p) s a n k)
+vertex_added v h u p s a n k w e = subst IsGraphSound (sym e) (changes_keep_views_sound v h (AddVertex u p (face_id 0)) s a n k)
 
 pub vertex_there : (v : View) (u : VertexId) (p : Point) (w : View) → w ≡ with_vertex v u p → IsVertexAt w p u
 vertex_there v u p w e = let i = vertex_is_added v u p in subst (λ z. IsVertexAt z p u) (sym e) (record { has = i.has; at = i.point })

@@ -4,13 +4,16 @@ use Rattle.plane_graphs.specs.Graph.{graph}
 use Rattle.edit_steps.specs.Layer.{Layer, IsLawful}
 use Rattle.edit_steps.specs.Steps.{Step}
 use Rattle.slab_laws.specs.declared.names.DartId.{DartId}
+use Rattle.slab_laws.specs.FacesSound.{IsSound}
 use Rattle.slab_laws.specs.Sound.{IsGraphSound}
 use Rattle.slab_laws.specs.View.{View}
 use Rattle.arr_notes.specs.declared.change.Change.{Change}
 use Rattle.arr_notes.specs.Curves.{Curves, AreCurvesOf, step_curves}
+use Rattle.arr_notes.specs.MapView.{MapView, step_map}
 use Rattle.arr_notes.specs.Step.{step}
 use Rattle.arr_notes.specs.RecordGraph.{drawn_graph}
 use Rattle.sound_changes.specs.StepOfChange.{step_of_change, FitsChange}
+use Rattle.face_steps.specs.ChangeLaws.{FitsNoted}
 use Rattle.curve_history.specs.Past.{Past, curves_on}
 
 -- the layer of records and their history: the history's pieces, names and next number, and the records' pins (CGAL manual, arrangements with history)
@@ -29,6 +32,12 @@ pub record IsMade (v : View) (h : Curves) (s : Step) (c : Change) : Type 0 where
   pub fits : FitsChange v h c
   pub tells : step_of_change v c ≡ s
   pub sound : IsGraphSound (step v c)
+
+-- so it does with the cycles and faces that it meets: what it says of them fits, and it leaves the whole map sound (CGAL manual, `Arr_observer`: what is notified of boundaries and faces)
+pub record IsMapMade (m : MapView) (h : Curves) (s : Step) (c : Change) : Type 0 where
+  pub made : IsMade m.graph h s c
+  pub fits : FitsNoted m.graph m.faces c
+  pub sound : IsSound (step_map m c).graph (step_map m c).faces
 
 -- the records w and the curves k come of v and h by changes that make just these steps, one after the other, and the graph is plane after each (CGAL manual, `Arr_observer`)
 abbrev pub IsRunOfSteps : View → Curves → List Step → View → Curves → Type 0

@@ -3,7 +3,7 @@ ghost use Rattle.edit_steps.specs.Steps.{Clear};
 ghost use Rattle.arr_notes.specs.ViewChanges.{no_rows};
 ghost use Rattle.curve_history.specs.Past.{curves_on, IsSpare, SameHistoryCapacity};
 ghost use Rattle.dcel_records.specs.RecordsView.{SameRecordCapacity};
-ghost use Rattle.dcel_records.specs.SoundMaps.{IsMapAtRest};
+ghost use Rattle.dcel_records.specs.SoundMaps.{IsMapAtRest, map_of};
 ghost use Rattle.observer_bus.specs.Rows.{bus_row};
 ghost use Rattle.told_steps.specs.ToldRuns.{AreInStep, IsToldRun};
 
@@ -12,18 +12,19 @@ use arr_notes::{Change, Intent};
 use curve_history::History;
 use dcel_records::Records;
 use observer_bus::Bus;
+use slab_laws::FaceId;
 use std::alloc::Global;
 
 /// Nothing is left but the number of the next curve. Where no observer joins it takes no memory of its own (CGAL manual, `clear`).
 pub fn clear(alloc: Global, records: &mut Records, history: &mut History, bus: &mut Bus)
-    requires in_step { AreInStep records.old.graph (curves_on history.old)
+    requires in_step { AreInStep (map_of records.old) (curves_on history.old)
         (bus_row Observer-dyn bus.old) }
     requires map { IsMapAtRest records.old }
-    ensures told { IsToldRun records.old.graph (curves_on history.old)
+    ensures told { IsToldRun (map_of records.old) (curves_on history.old)
         (bus_row Observer-dyn bus.old)
-        (Clear ∷ []) records.new.graph (curves_on history.new)
+        (Clear ∷ []) (map_of records.new) (curves_on history.new)
         (bus_row Observer-dyn bus.new) }
-    ensures in_step { AreInStep records.new.graph (curves_on history.new)
+    ensures in_step { AreInStep (map_of records.new) (curves_on history.new)
         (bus_row Observer-dyn bus.new) }
     ensures map { IsMapAtRest records.new }
     ensures graph { records.new.graph ≡ no_rows }
@@ -41,5 +42,11 @@ pub fn clear(alloc: Global, records: &mut Records, history: &mut History, bus: &
     records.face_laws();
     records.clear();
     history.clear();
-    tell_after(alloc, &*records, &*history, bus, Change::Clear);
+    tell_after(
+        alloc,
+        &*records,
+        &*history,
+        bus,
+        Change::Clear { face: FaceId(0) },
+    );
 }

@@ -6,6 +6,7 @@ ghost use Rattle.plane_graphs.specs.Graph.{same_curve};
 ghost use Rattle.slab_laws.specs.View.{point_in, source_in, target_in};
 ghost use Rattle.arr_notes.specs.Curves.{IsForward};
 ghost use Rattle.curve_history.specs.Past.{curves_on, GainsCurve, IsSpare, LosesCurve, SameHistoryCapacity, SameLayer, SpendsPairs};
+ghost use Rattle.dcel_records.specs.SoundMaps.{map_of};
 ghost use Rattle.observer_bus.specs.Rows.{bus_row};
 ghost use Rattle.told_steps.specs.ToldRuns.{AreInStep, IsToldRun};
 
@@ -28,17 +29,17 @@ pub fn add_curve(
     d: DartId,
     curve: CurveId,
 )
-    requires in_step { AreInStep records.now.graph (curves_on history.old)
+    requires in_step { AreInStep (map_of records.now) (curves_on history.old)
         (bus_row Observer-dyn bus.old) }
     requires forward { IsForward records.now.graph d }
     requires named { Member curve.0 history.old.names }
     requires new { ¬ Member curve.0 (curves_on history.old d) }
     requires room { 1 ≤ history.old.spare_pairs }
-    ensures told { IsToldRun records.now.graph (curves_on history.old)
+    ensures told { IsToldRun (map_of records.now) (curves_on history.old)
         (bus_row Observer-dyn bus.old)
-        (AddCurve (point_in records.now.graph (source_in records.now.graph d)) (point_in records.now.graph (target_in records.now.graph d)) curve.0 ∷ []) records.now.graph (curves_on history.new)
+        (AddCurve (point_in records.now.graph (source_in records.now.graph d)) (point_in records.now.graph (target_in records.now.graph d)) curve.0 ∷ []) (map_of records.now) (curves_on history.new)
         (bus_row Observer-dyn bus.new) }
-    ensures in_step { AreInStep records.now.graph (curves_on history.new)
+    ensures in_step { AreInStep (map_of records.now) (curves_on history.new)
         (bus_row Observer-dyn bus.new) }
     ensures curves { GainsCurve history.old history.new d curve.0 }
     ensures layer { SameLayer history.old history.new }
@@ -72,16 +73,16 @@ pub fn remove_curve(
     d: DartId,
     curve: CurveId,
 )
-    requires in_step { AreInStep records.now.graph (curves_on history.old)
+    requires in_step { AreInStep (map_of records.now) (curves_on history.old)
         (bus_row Observer-dyn bus.old) }
     requires forward { IsForward records.now.graph d }
     requires runs { Member curve.0 (curves_on history.old d) }
     requires other { list_any (λ k. not (same_curve k curve.0)) (curves_on history.old d) ≡ true }
-    ensures told { IsToldRun records.now.graph (curves_on history.old)
+    ensures told { IsToldRun (map_of records.now) (curves_on history.old)
         (bus_row Observer-dyn bus.old)
-        (RemoveCurve (point_in records.now.graph (source_in records.now.graph d)) (point_in records.now.graph (target_in records.now.graph d)) curve.0 ∷ []) records.now.graph (curves_on history.new)
+        (RemoveCurve (point_in records.now.graph (source_in records.now.graph d)) (point_in records.now.graph (target_in records.now.graph d)) curve.0 ∷ []) (map_of records.now) (curves_on history.new)
         (bus_row Observer-dyn bus.new) }
-    ensures in_step { AreInStep records.now.graph (curves_on history.new)
+    ensures in_step { AreInStep (map_of records.now) (curves_on history.new)
         (bus_row Observer-dyn bus.new) }
     ensures curves { LosesCurve history.old history.new d curve.0 }
     ensures layer { SameLayer history.old history.new }

@@ -5,7 +5,7 @@ ghost use Rattle.arr_notes.specs.Curves.{IsForward};
 ghost use Rattle.arr_notes.specs.Step.{remove_edge as edge_gone};
 ghost use Rattle.curve_history.specs.Past.{curves_on, IsSpare, LosesCurves, SameHistoryCapacity, SameLayer, SpendsPairs};
 ghost use Rattle.dcel_records.specs.RecordsView.{IsSpare as IsSpareRecords, IsSpareFaces};
-ghost use Rattle.dcel_records.specs.SoundMaps.{IsMapAtRest};
+ghost use Rattle.dcel_records.specs.SoundMaps.{IsMapAtRest, map_of};
 ghost use Rattle.edge_split_merge.specs.Merges.{CanMerge};
 ghost use Rattle.edge_split_merge.specs.Splits.{CanSplit};
 ghost use Rattle.observer_bus.specs.Rows.{bus_row};
@@ -14,13 +14,14 @@ ghost use Rattle.sound_views.specs.RecordGraphLaws.{IsVertexAt};
 ghost use Rattle.told_steps.specs.StepsMade.{AreMergedAt, IsSplitAt};
 ghost use Rattle.told_steps.specs.ToldRuns.{AreInStep, IsToldRun};
 
-use crate::carried::unlink_at_rest;
+use crate::carried::settle;
 use crate::ends::ends;
 use crate::told::{tell_after, tell_before};
 use arr_notes::{Change, Intent};
 use curve_history::History;
 use dcel_records::Records;
 use edge_split_merge::{merge_in_cycles, split_in_cycles};
+use edge_unlink::{FacedUnlink, unlink_with_faces};
 use exact_plane::Point;
 use observer_bus::Bus;
 use slab_laws::{DartId, Darts, VertexId};
@@ -35,16 +36,16 @@ pub fn remove_edge(
     bus: &mut Bus,
     d: DartId,
 )
-    requires in_step { AreInStep records.old.graph (curves_on history.old)
+    requires in_step { AreInStep (map_of records.old) (curves_on history.old)
         (bus_row Observer-dyn bus.old) }
     requires map { IsMapAtRest records.old }
     requires forward { IsForward records.old.graph d }
     requires cycles { 1 ≤ records.old.faces.spare_cycles }
-    ensures told { IsToldRun records.old.graph (curves_on history.old)
+    ensures told { IsToldRun (map_of records.old) (curves_on history.old)
         (bus_row Observer-dyn bus.old)
-        (RemoveEdge (point_in records.old.graph (source_in records.old.graph d)) (point_in records.old.graph (target_in records.old.graph d)) ∷ []) records.new.graph (curves_on history.new)
+        (RemoveEdge (point_in records.old.graph (source_in records.old.graph d)) (point_in records.old.graph (target_in records.old.graph d)) ∷ []) (map_of records.new) (curves_on history.new)
         (bus_row Observer-dyn bus.new) }
-    ensures in_step { AreInStep records.new.graph (curves_on history.new)
+    ensures in_step { AreInStep (map_of records.new) (curves_on history.new)
         (bus_row Observer-dyn bus.new) }
     ensures map { IsMapAtRest records.new }
     ensures graph { records.new.graph ≡ edge_gone records.old.graph d (twin_in records.old.graph d) }
@@ -64,10 +65,11 @@ pub fn remove_edge(
         bus,
         Intent::RemoveEdge(low, high),
     );
-    let m = unlink_at_rest(records, d);
-    let change = Change::RemoveEdge { d, m };
+    let FacedUnlink { m, faces } = unlink_with_faces(records, d);
+    let change = Change::RemoveEdge { d, m, faces };
     history.release_all(d);
-    tell_after(alloc, &*records, &*history, bus, change);
+    let told = tell_after(alloc, &*records, &*history, bus, change);
+    settle(records, told);
 }
 
 /// The edge of a dart from its lower to its upper end is split at a point inside it, in room that is there, and both parts have its
@@ -80,18 +82,18 @@ pub fn split_edge(
     d: DartId,
     p: Point,
 ) -> VertexId
-    requires in_step { AreInStep records.old.graph (curves_on history.old)
+    requires in_step { AreInStep (map_of records.old) (curves_on history.old)
         (bus_row Observer-dyn bus.old) }
     requires map { IsMapAtRest records.old }
     requires fits { CanSplit records.old.graph d p }
     requires vertices { 1 ≤ records.old.spare_vertices }
     requires darts { 2 ≤ records.old.spare_darts }
     requires pairs { length (curves_on history.old d) ≤ history.old.spare_pairs }
-    ensures told { IsToldRun records.old.graph (curves_on history.old)
+    ensures told { IsToldRun (map_of records.old) (curves_on history.old)
         (bus_row Observer-dyn bus.old)
-        (SplitEdge (point_in records.old.graph (source_in records.old.graph d)) (point_in records.old.graph (target_in records.old.graph d)) p ∷ []) records.new.graph (curves_on history.new)
+        (SplitEdge (point_in records.old.graph (source_in records.old.graph d)) (point_in records.old.graph (target_in records.old.graph d)) p ∷ []) (map_of records.new) (curves_on history.new)
         (bus_row Observer-dyn bus.new) }
-    ensures in_step { AreInStep records.new.graph (curves_on history.new)
+    ensures in_step { AreInStep (map_of records.new) (curves_on history.new)
         (bus_row Observer-dyn bus.new) }
     ensures map { IsMapAtRest records.new }
     ensures vertex { IsVertexAt records.new.graph p result }
@@ -132,17 +134,17 @@ pub fn merge_edge(
     bus: &mut Bus,
     v: VertexId,
 )
-    requires in_step { AreInStep records.old.graph (curves_on history.old)
+    requires in_step { AreInStep (map_of records.old) (curves_on history.old)
         (bus_row Observer-dyn bus.old) }
     requires map { IsMapAtRest records.old }
     requires fits { CanMerge records.old.graph v }
     requires unpinned { pinned_in records.old.graph v ≡ false }
     requires alike { (d n : DartId) → FitsMerge records.old.graph v d n → curves_on history.old d ≡ curves_on history.old n }
-    ensures told { IsToldRun records.old.graph (curves_on history.old)
+    ensures told { IsToldRun (map_of records.old) (curves_on history.old)
         (bus_row Observer-dyn bus.old)
-        (MergeEdge (point_in records.old.graph v) ∷ []) records.new.graph (curves_on history.new)
+        (MergeEdge (point_in records.old.graph v) ∷ []) (map_of records.new) (curves_on history.new)
         (bus_row Observer-dyn bus.new) }
-    ensures in_step { AreInStep records.new.graph (curves_on history.new)
+    ensures in_step { AreInStep (map_of records.new) (curves_on history.new)
         (bus_row Observer-dyn bus.new) }
     ensures map { IsMapAtRest records.new }
     ensures graph { AreMergedAt records.old.graph (curves_on history.old) v records.new.graph (curves_on history.new) }

@@ -6,16 +6,17 @@ ghost use Rattle.slab_laws.specs.View.{point_in};
 ghost use Rattle.arr_notes.specs.Step.{add_edge as edge_more};
 ghost use Rattle.curve_history.specs.Past.{curves_on, GainsCurve, SameLayer, SpendsPairs};
 ghost use Rattle.dcel_records.specs.RecordsView.{IsSpare};
-ghost use Rattle.dcel_records.specs.SoundMaps.{IsMapAtRest};
+ghost use Rattle.dcel_records.specs.SoundMaps.{IsMapAtRest, map_of};
 ghost use Rattle.edge_link.specs.Links.{AreNewDarts, CanLink};
 ghost use Rattle.observer_bus.specs.Rows.{bus_row};
 ghost use Rattle.told_steps.specs.ToldRuns.{AreInStep, IsToldRun};
 
-use crate::carried::link_at_rest;
+use crate::carried::settle;
 use crate::told::{tell_after, tell_before};
 use arr_notes::{Change, Intent};
 use curve_history::History;
 use dcel_records::Records;
+use edge_link::{FacedLink, link_with_faces};
 use exact_plane::Line;
 use observer_bus::Bus;
 use slab_laws::{CurveId, DartId, Darts, VertexId};
@@ -35,7 +36,7 @@ pub fn add_edge(
     line: Line,
     curve: CurveId,
 ) -> (DartId, DartId)
-    requires in_step { AreInStep records.old.graph (curves_on history.old)
+    requires in_step { AreInStep (map_of records.old) (curves_on history.old)
         (bus_row Observer-dyn bus.old) }
     requires map { IsMapAtRest records.old }
     requires fits { CanLink records.old.graph u w at_u at_w line }
@@ -45,11 +46,11 @@ pub fn add_edge(
     requires cycles { 1 ≤ records.old.faces.spare_cycles }
     requires faces { 1 ≤ records.old.faces.spare_faces }
     requires pairs { 1 ≤ history.old.spare_pairs }
-    ensures told { IsToldRun records.old.graph (curves_on history.old)
+    ensures told { IsToldRun (map_of records.old) (curves_on history.old)
         (bus_row Observer-dyn bus.old)
-        (AddEdge (point_in records.old.graph u) (point_in records.old.graph w) curve.0 ∷ []) records.new.graph (curves_on history.new)
+        (AddEdge (point_in records.old.graph u) (point_in records.old.graph w) curve.0 ∷ []) (map_of records.new) (curves_on history.new)
         (bus_row Observer-dyn bus.new) }
-    ensures in_step { AreInStep records.new.graph (curves_on history.new)
+    ensures in_step { AreInStep (map_of records.new) (curves_on history.new)
         (bus_row Observer-dyn bus.new) }
     ensures map { IsMapAtRest records.new }
     ensures new_darts { AreNewDarts records.old.graph result.0 result.1 }
@@ -65,18 +66,20 @@ pub fn add_edge(
     let low = records.point(u);
     let high = records.point(w);
     tell_before(alloc, &*records, &*history, bus, Intent::AddEdge(low, high));
-    let new = link_at_rest(records, u, w, at_u, at_w, line);
+    let FacedLink { names, faces } = link_with_faces(records, u, w, at_u, at_w, line);
     let change = Change::AddEdge {
-        d: new.d,
-        m: new.m,
+        d: names.d,
+        m: names.m,
         u,
         v: w,
         at_u,
         at_v: at_w,
         line,
         curve,
+        faces,
     };
-    history.hold(new.d, curve);
-    tell_after(alloc, &*records, &*history, bus, change);
-    (new.d, new.m)
+    history.hold(names.d, curve);
+    let told = tell_after(alloc, &*records, &*history, bus, change);
+    settle(records, told);
+    (names.d, names.m)
 }

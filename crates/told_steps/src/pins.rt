@@ -4,7 +4,7 @@ ghost use Rattle.slab_laws.specs.View.{HasVertex, point_in};
 ghost use Rattle.arr_notes.specs.ViewChanges.{with_pin};
 ghost use Rattle.curve_history.specs.Past.{curves_on};
 ghost use Rattle.dcel_records.specs.RecordsView.{IsSpare, IsSpareFaces};
-ghost use Rattle.dcel_records.specs.SoundMaps.{IsMapAtRest};
+ghost use Rattle.dcel_records.specs.SoundMaps.{IsMapAtRest, map_of};
 ghost use Rattle.observer_bus.specs.Rows.{bus_row};
 ghost use Rattle.told_steps.specs.ToldRuns.{AreInStep, IsToldRun};
 
@@ -18,15 +18,15 @@ use std::alloc::Global;
 
 /// A vertex is pinned. Where no observer joins it takes no memory of its own.
 pub fn set_pin(alloc: Global, records: &mut Records, history: &History, bus: &mut Bus, v: VertexId)
-    requires in_step { AreInStep records.old.graph (curves_on history.now)
+    requires in_step { AreInStep (map_of records.old) (curves_on history.now)
         (bus_row Observer-dyn bus.old) }
     requires map { IsMapAtRest records.old }
     requires vertex { HasVertex records.old.graph v }
-    ensures told { IsToldRun records.old.graph (curves_on history.now)
+    ensures told { IsToldRun (map_of records.old) (curves_on history.now)
         (bus_row Observer-dyn bus.old)
-        (SetPin (point_in records.old.graph v) ∷ []) records.new.graph (curves_on history.now)
+        (SetPin (point_in records.old.graph v) ∷ []) (map_of records.new) (curves_on history.now)
         (bus_row Observer-dyn bus.new) }
-    ensures in_step { AreInStep records.new.graph (curves_on history.now)
+    ensures in_step { AreInStep (map_of records.new) (curves_on history.now)
         (bus_row Observer-dyn bus.new) }
     ensures map { IsMapAtRest records.new }
     ensures graph { records.new.graph ≡ with_pin records.old.graph v true }
@@ -47,15 +47,15 @@ pub fn clear_pin(
     bus: &mut Bus,
     v: VertexId,
 )
-    requires in_step { AreInStep records.old.graph (curves_on history.now)
+    requires in_step { AreInStep (map_of records.old) (curves_on history.now)
         (bus_row Observer-dyn bus.old) }
     requires map { IsMapAtRest records.old }
     requires vertex { HasVertex records.old.graph v }
-    ensures told { IsToldRun records.old.graph (curves_on history.now)
+    ensures told { IsToldRun (map_of records.old) (curves_on history.now)
         (bus_row Observer-dyn bus.old)
-        (ClearPin (point_in records.old.graph v) ∷ []) records.new.graph (curves_on history.now)
+        (ClearPin (point_in records.old.graph v) ∷ []) (map_of records.new) (curves_on history.now)
         (bus_row Observer-dyn bus.new) }
-    ensures in_step { AreInStep records.new.graph (curves_on history.now)
+    ensures in_step { AreInStep (map_of records.new) (curves_on history.now)
         (bus_row Observer-dyn bus.new) }
     ensures map { IsMapAtRest records.new }
     ensures graph { records.new.graph ≡ with_pin records.old.graph v false }

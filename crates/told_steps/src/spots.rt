@@ -1,7 +1,7 @@
 ghost use Rattle.std.specs.Prelude.{◌≤◌};
 ghost use Rattle.curve_history.specs.Past.{curves_on, SameLayer, SpendsPairs};
 ghost use Rattle.dcel_records.specs.RecordsView.{IsSpare, IsSpareFaces};
-ghost use Rattle.dcel_records.specs.SoundMaps.{IsMapAtRest};
+ghost use Rattle.dcel_records.specs.SoundMaps.{IsMapAtRest, map_of};
 ghost use Rattle.dcel_records.specs.Spots.{IsSpotOf};
 ghost use Rattle.observer_bus.specs.Rows.{bus_row};
 ghost use Rattle.sound_views.specs.RecordGraphLaws.{IsVertexAt};
@@ -28,7 +28,7 @@ pub fn make_vertex(
     at: Spot,
     p: Point,
 ) -> VertexId
-    requires in_step { AreInStep records.old.graph (curves_on history.old)
+    requires in_step { AreInStep (map_of records.old) (curves_on history.old)
         (bus_row Observer-dyn bus.old) }
     requires map { IsMapAtRest records.old }
     requires spot { IsSpotOf records.old.graph p at }
@@ -36,11 +36,11 @@ pub fn make_vertex(
     requires vertices { vertices_at at ≤ records.old.spare_vertices }
     requires darts { darts_at at ≤ records.old.spare_darts }
     requires pairs { pairs_at (curves_on history.old) at ≤ history.old.spare_pairs }
-    ensures told { IsToldRun records.old.graph (curves_on history.old)
+    ensures told { IsToldRun (map_of records.old) (curves_on history.old)
         (bus_row Observer-dyn bus.old)
-        (steps_at_spot records.old.graph p at) records.new.graph (curves_on history.new)
+        (steps_at_spot records.old.graph p at) (map_of records.new) (curves_on history.new)
         (bus_row Observer-dyn bus.new) }
-    ensures in_step { AreInStep records.new.graph (curves_on history.new)
+    ensures in_step { AreInStep (map_of records.new) (curves_on history.new)
         (bus_row Observer-dyn bus.new) }
     ensures map { IsMapAtRest records.new }
     ensures vertex { IsVertexAt records.new.graph p result }

@@ -6,7 +6,7 @@ ghost use Rattle.arr_notes.specs.RecordGraph.{drawn_graph};
 ghost use Rattle.arr_notes.specs.ViewChanges.{with_vertex, without_vertex};
 ghost use Rattle.curve_history.specs.Past.{curves_on};
 ghost use Rattle.dcel_records.specs.RecordsView.{IsSpare, IsSpareFaces};
-ghost use Rattle.dcel_records.specs.SoundMaps.{IsMapAtRest};
+ghost use Rattle.dcel_records.specs.SoundMaps.{IsMapAtRest, map_of};
 ghost use Rattle.face_steps.specs.VertexSteps.{IsFaceRound};
 ghost use Rattle.observer_bus.specs.Rows.{bus_row};
 ghost use Rattle.rotation_order.specs.VertexRings.{IsBare};
@@ -31,18 +31,18 @@ pub fn add_vertex(
     face: FaceId,
     p: Point,
 ) -> VertexId
-    requires in_step { AreInStep records.old.graph (curves_on history.now)
+    requires in_step { AreInStep (map_of records.old) (curves_on history.now)
         (bus_row Observer-dyn bus.old) }
     requires map { IsMapAtRest records.old }
     requires free { (u : _) → HasVertex records.old.graph u → point_in records.old.graph u ≢ p }
     requires plane { IsPlane (apply (AddVertex p) (drawn_graph records.old.graph (curves_on history.now))) }
     requires face { IsFaceRound records.old.graph records.old.faces.tables face p }
     requires room { 1 ≤ records.old.spare_vertices }
-    ensures told { IsToldRun records.old.graph (curves_on history.now)
+    ensures told { IsToldRun (map_of records.old) (curves_on history.now)
         (bus_row Observer-dyn bus.old)
-        (AddVertex p ∷ []) records.new.graph (curves_on history.now)
+        (AddVertex p ∷ []) (map_of records.new) (curves_on history.now)
         (bus_row Observer-dyn bus.new) }
-    ensures in_step { AreInStep records.new.graph (curves_on history.now)
+    ensures in_step { AreInStep (map_of records.new) (curves_on history.now)
         (bus_row Observer-dyn bus.new) }
     ensures map { IsMapAtRest records.new }
     ensures fresh { ¬ HasVertex records.old.graph result }
@@ -55,7 +55,13 @@ pub fn add_vertex(
     tell_before(alloc, &*records, history, bus, Intent::AddVertex(p));
     let v = records.add_vertex(p);
     records.set_bare(v, face);
-    tell_after(alloc, &*records, history, bus, Change::AddVertex { v, p });
+    tell_after(
+        alloc,
+        &*records,
+        history,
+        bus,
+        Change::AddVertex { v, p, face },
+    );
     v
 }
 
@@ -67,17 +73,17 @@ pub fn remove_vertex(
     bus: &mut Bus,
     v: VertexId,
 )
-    requires in_step { AreInStep records.old.graph (curves_on history.now)
+    requires in_step { AreInStep (map_of records.old) (curves_on history.now)
         (bus_row Observer-dyn bus.old) }
     requires map { IsMapAtRest records.old }
     requires vertex { HasVertex records.old.graph v }
     requires bare { IsBare records.old.graph v }
     requires unpinned { pinned_in records.old.graph v ≡ false }
-    ensures told { IsToldRun records.old.graph (curves_on history.now)
+    ensures told { IsToldRun (map_of records.old) (curves_on history.now)
         (bus_row Observer-dyn bus.old)
-        (RemoveVertex (point_in records.old.graph v) ∷ []) records.new.graph (curves_on history.now)
+        (RemoveVertex (point_in records.old.graph v) ∷ []) (map_of records.new) (curves_on history.now)
         (bus_row Observer-dyn bus.new) }
-    ensures in_step { AreInStep records.new.graph (curves_on history.now)
+    ensures in_step { AreInStep (map_of records.new) (curves_on history.now)
         (bus_row Observer-dyn bus.new) }
     ensures map { IsMapAtRest records.new }
     ensures graph { records.new.graph ≡ without_vertex records.old.graph v }

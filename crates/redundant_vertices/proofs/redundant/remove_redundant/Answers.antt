@@ -1,5 +1,6 @@
 use Rattle.std.proofs.Common.{sym, refl, ◌∙◌}
 use Rattle.slab_laws.specs.View.{vertex_id}
+use Rattle.dcel_records.specs.SoundMaps.{map_of}
 use Rattle.dcel_records.proofs.Spared.{none_spent, spare_then}
 use Rattle.curve_history.specs.Past.{curves_on}
 use Rattle.redundant_vertices.proofs.Onward.{all_next, none_tidied, pinned_next, same_histories, same_records, tidied_next}
@@ -9,7 +10,7 @@ use Rattle.told_steps.proofs.Moved.{same_layers}
 
 pub loop-vertex-init : goal.loop-vertex-init
 loop-vertex-init g c = record {
-  tidied = none_tidied c.args.records.now.graph (curves_on c.args.history.now) _ c.args.vertices.now c.requires.in_step c.requires.have;
+  tidied = none_tidied (map_of c.args.records.now) (curves_on c.args.history.now) _ c.args.vertices.now c.requires.in_step c.requires.have;
   layer = record { names = refl; pieces = refl; next = refl };
   map = c.requires.map;
   records = record { of_vertices = refl; of_darts = refl };
@@ -19,7 +20,7 @@ loop-vertex-init g c = record {
 
 pub loop-vertex-preserved : goal.loop-vertex-preserved
 loop-vertex-preserved g c =
-    let v = c.args.records.now.graph in
+    let v = map_of c.args.records.now in
     let h = curves_on c.args.history.now in
     let all = c.args.vertices.now in
     let l = c.loop-vertex in
@@ -27,7 +28,7 @@ loop-vertex-preserved g c =
     elim c.if-not-pinned.branch [
       | then-not-pinned w ↦
           rw w.records-is (rw w.history-is (rw w.bus-is (record {
-            tidied = tidied_next v h _ c.requires.in_step all c.requires.have c.requires.ascend l.vertex-index at (vertex_id 0) l.records.graph (curves_on l.history) _ l.invariant.tidied (sym c.pinned.ensures ∙ w.if-not-pinned.true) w.remove_if_redundant.new.records.graph (curves_on w.remove_if_redundant.new.history) _ w.remove_if_redundant.ensures.tidied;
+            tidied = tidied_next v h _ c.requires.in_step all c.requires.have c.requires.ascend l.vertex-index at (vertex_id 0) (map_of l.records) (curves_on l.history) _ l.invariant.tidied (sym c.pinned.ensures ∙ w.if-not-pinned.true) (map_of w.remove_if_redundant.new.records) (curves_on w.remove_if_redundant.new.history) _ w.remove_if_redundant.ensures.tidied;
             layer = same_layers c.args.history.now l.history w.remove_if_redundant.new.history l.invariant.layer w.remove_if_redundant.ensures.layer;
             records = same_records c.args.records.now l.records w.remove_if_redundant.new.records l.invariant.records w.remove_if_redundant.ensures.records_capacity;
             map = w.remove_if_redundant.ensures.map;
@@ -36,7 +37,7 @@ loop-vertex-preserved g c =
           })))
       | else-not-pinned w ↦
           rw w.records-is (rw w.history-is (rw w.bus-is (record {
-            tidied = pinned_next v h _ c.requires.in_step all c.requires.have c.requires.ascend l.vertex-index at (vertex_id 0) l.records.graph (curves_on l.history) _ l.invariant.tidied (sym c.pinned.ensures ∙ w.if-not-pinned.false);
+            tidied = pinned_next v h _ c.requires.in_step all c.requires.have c.requires.ascend l.vertex-index at (vertex_id 0) (map_of l.records) (curves_on l.history) _ l.invariant.tidied (sym c.pinned.ensures ∙ w.if-not-pinned.false);
             layer = l.invariant.layer;
             map = l.invariant.map;
             records = l.invariant.records;
@@ -48,4 +49,4 @@ loop-vertex-preserved g c =
 pub returns-clause-tidied : goal.returns-clause-tidied
 returns-clause-tidied g c =
     let l = c.loop-vertex in
-    all_next c.args.records.now.graph (curves_on c.args.history.now) _ c.requires.in_step c.args.vertices.now c.requires.have c.requires.ascend l.vertex-index c.loop-vertex-test.false l.records.graph (curves_on l.history) _ l.invariant.tidied
+    all_next (map_of c.args.records.now) (curves_on c.args.history.now) _ c.requires.in_step c.args.vertices.now c.requires.have c.requires.ascend l.vertex-index c.loop-vertex-test.false (map_of l.records) (curves_on l.history) _ l.invariant.tidied

@@ -1,5 +1,5 @@
 use Rattle.std.proofs.Common.{◌≤◌, ◌+◌, length, drop}
-use Rattle.dcel_records.specs.SoundMaps.{IsMapAtRest}
+use Rattle.dcel_records.specs.SoundMaps.{IsMapAtRest, map_of}
 use Rattle.curve_history.specs.Past.{curves_on, SameLayer}
 use Rattle.observer_bus.specs.Rows.{bus_row}
 use Rattle.segment_remove.proofs.EdgesReleased.{IsGoing}
@@ -7,9 +7,9 @@ use Rattle.segment_remove.proofs.release.release_curve.Given as goal
 
 abbrev pub invariant-loop-edge : goal.invariant-loop-edge
 invariant-loop-edge g l = record {
-  going : IsGoing l.initial.records.graph (curves_on l.initial.history) l.curve
+  going : IsGoing (map_of l.initial.records) (curves_on l.initial.history) l.curve
       (bus_row (goal.Observer-dyn g) l.initial.bus)
-      l.edges (drop l.edge-index l.edges) l.records.graph (curves_on l.history)
+      l.edges (drop l.edge-index l.edges) (map_of l.records) (curves_on l.history)
       (bus_row (goal.Observer-dyn g) l.bus);
   map : IsMapAtRest l.records;
   spare : length l.edges ≤ l.records.faces.spare_cycles + l.edge-index;

@@ -1,29 +1,47 @@
-use Rattle.std.proofs.Common.{◌≡◌, refl, subst}
+use Rattle.std.proofs.Common.{◌≡◌, ap, refl, subst, sym, ◌∙◌}
 use Rattle.arr_notes.specs.declared.change.Change.{Change}
 use Rattle.arr_notes.specs.declared.change.Change.TheVariants.{RemoveEdge}
 use Rattle.arr_notes.specs.declared.intent.Intent.TheVariants.{RemoveEdge as WillRemoveEdge}
+use Rattle.arr_notes.specs.FaceSteps.{step_faces}
+use Rattle.arr_notes.specs.FacesTold.{unlinked_faces}
 use Rattle.arr_notes.specs.Step.{remove_edge}
 use Rattle.curve_history.specs.Past.{curves_on}
+use Rattle.dcel_records.specs.RecordsView.{tables_of}
+use Rattle.dcel_records.specs.SoundMaps.{map_of}
+use Rattle.told_steps.specs.StepsMade.{IsChangeCarried}
+use Rattle.told_steps.proofs.Begun.{one_map}
+use Rattle.told_steps.proofs.Settled.{in_step_then, told_then}
 use Rattle.told_steps.proofs.ToldOnce.{HasMade, changed_by, told_by}
 use Rattle.told_steps.proofs.edges.remove_edge.Given as given
-use Rattle.told_steps.proofs.edges.remove_edge.Goals.{After-release_all}
+use Rattle.told_steps.proofs.edges.remove_edge.Goals.{After-release_all, After-settle}
 use Rattle.told_steps.proofs.edges.remove_edge.Goals as goal
 
 abbrev change : (g : given.Over) (c : After-release_all g) → Change
-change g c = RemoveEdge c.args.d c.unlink_at_rest-m.result
+change g c = RemoveEdge c.args.d c.unlink_with_faces-faces.result.m c.unlink_with_faces-faces.result.faces
 
-made : (g : given.Over) (c : After-release_all g) → HasMade c.args.records.now.graph (curves_on c.args.history.now) (change g c) c.unlink_at_rest-m.new.records.graph (curves_on c.release_all.new.self)
+made : (g : given.Over) (c : After-release_all g) → HasMade (map_of c.args.records.now) (curves_on c.args.history.now) (change g c) (map_of c.unlink_with_faces-faces.new.records) (curves_on c.release_all.new.self)
 made g c =
-    let e = c.unlink_at_rest-m.ensures in
-    record { view = e.graph; curves = c.release_all.ensures.curves; fits = (c.requires.forward, e.twin); sound = e.map.map.sound.graph }
+    let e = c.unlink_with_faces-faces.ensures in
+    record { view = λ i. record { graph = e.graph i; faces = (e.tables ∙ ap (λ z. step_faces z (tables_of c.args.records.now) (unlinked_faces c.args.records.now.graph c.args.d c.unlink_with_faces-faces.result.faces)) e.graph) i }; curves = c.release_all.ensures.curves; fits = (c.requires.forward, e.twin); noted = e.fits; sound = e.map.sound.graph }
 
-pub tell_after-requires : goal.tell_after-requires
-tell_after-requires g c = record { changed = changed_by (made g (goal.at.tell_after-requires g c).After-release_all) c.tell_before.ensures.in_step }
+settled : (g : given.Over) (c : After-settle g) → map_of c.settle.new.records ≡ map_of c.unlink_with_faces-faces.new.records
+settled g c = let e = c.settle.ensures in one_map c.settle.new.records c.unlink_with_faces-faces.new.records (λ i. (e.graph i).graph) e.tables
+
+pub tell_after-told-requires : goal.tell_after-told-requires
+tell_after-told-requires g c = record { changed = changed_by (made g (goal.at.tell_after-told-requires g c).After-release_all) c.tell_before.ensures.in_step }
+
+pub settle-requires-clause-carried : goal.settle-requires-clause-carried
+settle-requires-clause-carried g c = subst (IsChangeCarried c.unlink_with_faces-faces.new.records) (sym c.tell_after-told.ensures.told) c.unlink_with_faces-faces.ensures.carried
 
 pub returns-clause-graph : goal.returns-clause-graph
 returns-clause-graph g c =
-    let e = c.unlink_at_rest-m.ensures in
-    subst (λ z. c.unlink_at_rest-m.new.records.graph ≡ remove_edge c.args.records.now.graph c.args.d z) e.twin e.graph
+    let e = c.unlink_with_faces-faces.ensures in
+    (λ i. (c.settle.ensures.graph i).graph) ∙ subst (λ z. c.unlink_with_faces-faces.new.records.graph ≡ remove_edge c.args.records.now.graph c.args.d z) e.twin e.graph
 
 pub returns-clause-told : goal.returns-clause-told
-returns-clause-told g c = told_by (made g (goal.at.returns-clause-told g c).After-release_all) _ refl _ (λ i. WillRemoveEdge (c.ends-low.ensures.low i) (c.ends-low.ensures.high i)) c.tell_before.ensures.round c.tell_after.ensures.round
+returns-clause-told g c =
+    let a = goal.at.returns-clause-told g c in
+    told_then _ _ _ _ _ _ _ _ (settled g a.After-settle) (told_by (made g a.After-release_all) c.requires.in_step.sound _ refl _ (λ i. WillRemoveEdge (c.ends-low.ensures.low i) (c.ends-low.ensures.high i)) c.tell_before.ensures.round c.tell_after-told.ensures.round)
+
+pub returns-clause-in_step : goal.returns-clause-in_step
+returns-clause-in_step g c = in_step_then _ _ _ _ (settled g (goal.at.returns-clause-in_step g c).After-settle) c.tell_after-told.ensures.in_step

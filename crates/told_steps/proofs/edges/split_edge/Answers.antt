@@ -5,6 +5,7 @@ use Rattle.arr_notes.specs.declared.change.Change.{Change}
 use Rattle.arr_notes.specs.declared.change.Change.TheVariants.{SplitEdge}
 use Rattle.arr_notes.specs.declared.intent.Intent.TheVariants.{SplitEdge as WillSplitEdge}
 use Rattle.curve_history.specs.Past.{curves_on}
+use Rattle.dcel_records.specs.SoundMaps.{map_of}
 use Rattle.told_steps.proofs.Parts.{fits_split, new_dart, split_vertex}
 use Rattle.told_steps.proofs.ToldOnce.{HasMade, changed_by, told_by}
 use Rattle.told_steps.proofs.edges.split_edge.Given as given
@@ -23,20 +24,22 @@ fits g c = fits_split c.args.records.now.graph c.args.p (point_is_proper c.args.
 abbrev change : (g : given.Over) (c : After-part g) → Change
 change g c = SplitEdge c.args.d c.split_in_cycles-new.result.v c.args.p c.split_in_cycles-new.result.n c.split_in_cycles-new.result.m
 
-made : (g : given.Over) (c : After-part g) → HasMade c.args.records.now.graph (curves_on c.args.history.now) (change g c) c.split_in_cycles-new.new.records.graph (curves_on c.part.new.self)
-made g c = record { view = c.split_in_cycles-new.ensures.graph; curves = c.part.ensures.curves; fits = fits g c; sound = c.split_in_cycles-new.ensures.map.sound.graph }
+made : (g : given.Over) (c : After-part g) → HasMade (map_of c.args.records.now) (curves_on c.args.history.now) (change g c) (map_of c.split_in_cycles-new.new.records) (curves_on c.part.new.self)
+made g c =
+    let e = c.split_in_cycles-new.ensures in
+    record { view = λ i. record { graph = e.graph i; faces = e.tables i }; curves = c.part.ensures.curves; fits = fits g c; noted = tt; sound = e.map.sound.graph }
 
 pub tell_after-requires : goal.tell_after-requires
 tell_after-requires g c = record { changed = changed_by (made g (goal.at.tell_after-requires g c).After-part) c.tell_before.ensures.in_step }
 
 pub returns-clause-vertex : goal.returns-clause-vertex
-returns-clause-vertex g c = split_vertex c.args.records.now.graph c.args.p c.args.d c.split_in_cycles-new.result.v c.split_in_cycles-new.result.n c.split_in_cycles-new.result.m c.requires.in_step.sound (fits g (goal.at.returns-clause-vertex g c).After-part) c.split_in_cycles-new.new.records.graph c.split_in_cycles-new.ensures.graph
+returns-clause-vertex g c = split_vertex c.args.records.now.graph c.args.p c.args.d c.split_in_cycles-new.result.v c.split_in_cycles-new.result.n c.split_in_cycles-new.result.m c.requires.in_step.sound.graph (fits g (goal.at.returns-clause-vertex g c).After-part) c.split_in_cycles-new.new.records.graph c.split_in_cycles-new.ensures.graph
 
 pub returns-clause-graph : goal.returns-clause-graph
 returns-clause-graph g c = (c.split_in_cycles-new.result.n, c.split_in_cycles-new.result.m, c.split_in_cycles-new.ensures.new_names, c.split_in_cycles-new.ensures.graph)
 
 pub returns-clause-told : goal.returns-clause-told
-returns-clause-told g c = told_by (made g (goal.at.returns-clause-told g c).After-part) _ refl _ (λ i. WillSplitEdge (c.ends-low.ensures.low i) (c.ends-low.ensures.high i) c.args.p) c.tell_before.ensures.round c.tell_after.ensures.round
+returns-clause-told g c = told_by (made g (goal.at.returns-clause-told g c).After-part) c.requires.in_step.sound _ refl _ (λ i. WillSplitEdge (c.ends-low.ensures.low i) (c.ends-low.ensures.high i) c.args.p) c.tell_before.ensures.round c.tell_after.ensures.round
 
 pub returns-clause-map : goal.returns-clause-map
 returns-clause-map g c = let e = c.split_in_cycles-new.ensures in record { map = e.map; returned = subst IsSome (sym e.moved) c.requires.map.returned }

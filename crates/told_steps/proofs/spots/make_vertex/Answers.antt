@@ -1,6 +1,7 @@
 use Rattle.std.proofs.Common.{◌≤◌, arith, refl, subst}
 use Rattle.curve_history.specs.Past.{curves_on}
 use Rattle.dcel_records.proofs.Spared.{none_spent}
+use Rattle.dcel_records.specs.SoundMaps.{map_of}
 use Rattle.dcel_records.specs.Spots.{IsSpotOf}
 use Rattle.told_steps.specs.VertexMade.{IsPlaneWith, darts_at, pairs_at, vertices_at}
 use Rattle.told_steps.proofs.Begun.{none_told}
@@ -10,7 +11,7 @@ pub returns-in-Vertex : goal.returns-in-Vertex
 returns-in-Vertex g c =
     let v = c.args.records.now.graph in
     let o = subst (IsSpotOf v c.args.p) c.in-Vertex.is c.requires.spot in rw c.in-Vertex.is (record {
-      told = none_told v (curves_on c.args.history.now) _;
+      told = none_told (map_of c.args.records.now) (curves_on c.args.history.now) _;
       in_step = c.requires.in_step;
       map = c.requires.map;
       vertex = record { has = o.0; at = o.1 };

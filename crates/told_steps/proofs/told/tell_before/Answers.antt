@@ -1,18 +1,11 @@
-use Rattle.std.proofs.Common.{◌∙◌}
-use Rattle.arr_notes.specs.declared.note.Note.TheVariants.{Before}
+use Rattle.std.proofs.Common.{refl, ◌∙◌}
 use Rattle.curve_history.specs.Past.{curves_on}
-use Rattle.told_steps.proofs.Seen.{drawn_seen, drawn_sound, held_seen, round_seen, told_records}
+use Rattle.dcel_records.specs.SoundMaps.{map_of}
 use Rattle.told_steps.specs.ToldRuns.{seen}
 use Rattle.told_steps.proofs.told.tell_before.Goals as goal
 
-pub new-drawn-requires : goal.new-drawn-requires
-new-drawn-requires g c = let t = c.requires.in_step in told_records c.args.records.now.graph c.args.history.now t.sound t.curves
-
-pub say-requires-clause-sound : goal.say-requires-clause-sound
-say-requires-clause-sound g c = let t = c.requires.in_step in drawn_sound c.args.records.now c.args.history.now t.sound t.curves _ _ c.new-drawn.ensures.records c.new-drawn.ensures.history
-
-pub returns-clause-round : goal.returns-clause-round
-returns-clause-round g c = let t = c.requires.in_step in round_seen c.args.records.now c.args.history.now t.sound t.curves _ _ c.new-drawn.ensures.records c.new-drawn.ensures.history (Before c.args.intent) c.say.ensures.round
+pub tell-requires-clause-sound : goal.tell-requires-clause-sound
+tell-requires-clause-sound g c = c.requires.in_step.sound.graph
 
 pub returns-clause-in_step : goal.returns-clause-in_step
 returns-clause-in_step g c =
@@ -20,8 +13,6 @@ returns-clause-in_step g c =
     record {
       sound = t.sound;
       curves = t.curves;
-      settled = c.say.ensures.round.1 ∙ t.settled;
-      holds = held_seen c.args.records.now c.args.history.now t.sound t.curves _ _ c.new-drawn.ensures.records c.new-drawn.ensures.history _
-          (c.say.ensures.holds (seen c.args.records.now.graph (curves_on c.args.history.now)) t.holds
-          (drawn_seen c.args.records.now c.args.history.now t.sound t.curves _ _ c.new-drawn.ensures.records c.new-drawn.ensures.history));
+      settled = c.tell.ensures.round.1 ∙ t.settled;
+      holds = c.tell.ensures.holds (seen (map_of c.args.records.now) (curves_on c.args.history.now)) t.holds refl;
     }

@@ -4,7 +4,8 @@ use Rattle.arr_notes.specs.FaceWriters.{bare_in}
 use Rattle.arr_notes.specs.ViewChanges.{with_vertex}
 use Rattle.arr_notes.specs.declared.change.Change.TheVariants.{AddVertex}
 use Rattle.dcel_records.specs.ListChanges.{vertex_listed}
-use Rattle.dcel_records.specs.RecordsView.{FacesView, GraphView, IsSpare, IsSpareFaces, lists_in_view}
+use Rattle.dcel_records.specs.RecordsView.{FacesView, GraphView, IsSpare, IsSpareFaces, lists_in_view, tables_of}
+use Rattle.dcel_records.specs.SoundMaps.{map_of}
 use Rattle.plane_graphs.proofs.Lines.{point_is_proper}
 use Rattle.sound_changes.specs.ChangeFits.{IsNewVertex}
 use Rattle.told_steps.proofs.MapsKept.{face_is_there, not_isolated, vertex_comes}
@@ -28,15 +29,19 @@ set_bare-requires g c =
 graph : (g : given.Over) (c : After-set_bare g) → c.set_bare.new.self.graph ≡ with_vertex c.args.records.now.graph c.add_vertex-v.result c.args.p
 graph g c = ap (λ (h : GraphView). h.graph) c.set_bare.ensures.graph ∙ c.add_vertex-v.ensures.graph
 
+tables : (g : given.Over) (c : After-set_bare g) → tables_of c.set_bare.new.self ≡ bare_in c.add_vertex-v.result c.args.face (tables_of c.args.records.now)
+tables g c = c.set_bare.ensures.tables ∙ ap (λ (f : FacesView). bare_in c.add_vertex-v.result c.args.face f.tables) c.add_vertex-v.ensures.faces
+
 fresh : (g : given.Over) (c : After-set_bare g) → IsNewVertex c.args.records.now.graph c.add_vertex-v.result c.args.p
 fresh g c = new_vertex c.args.records.now.graph c.add_vertex-v.result c.args.p c.add_vertex-v.ensures.name (point_is_proper c.args.p c.laws.ensures) c.requires.free
 
-made : (g : given.Over) (c : After-set_bare g) → HasMade c.args.records.now.graph (curves_on c.args.history.now) (AddVertex c.add_vertex-v.result c.args.p) c.set_bare.new.self.graph (curves_on c.args.history.now)
+made : (g : given.Over) (c : After-set_bare g) → HasMade (map_of c.args.records.now) (curves_on c.args.history.now) (AddVertex c.add_vertex-v.result c.args.p c.args.face) (map_of c.set_bare.new.self) (curves_on c.args.history.now)
 made g c = record {
-  view = graph g c;
+  view = λ i. record { graph = graph g c i; faces = tables g c i };
   curves = λ d. refl;
   fits = fresh g c;
-  sound = vertex_added c.args.records.now.graph (curves_on c.args.history.now) c.add_vertex-v.result c.args.p c.requires.in_step.sound c.requires.in_step.curves (fresh g c) c.requires.plane c.set_bare.new.self.graph (graph g c);
+  noted = c.requires.face;
+  sound = vertex_added c.args.records.now.graph (curves_on c.args.history.now) c.add_vertex-v.result c.args.p c.requires.in_step.sound.graph c.requires.in_step.curves (fresh g c) c.requires.plane c.set_bare.new.self.graph (graph g c);
 }
 
 pub tell_after-requires : goal.tell_after-requires
@@ -49,7 +54,7 @@ pub returns-clause-vertex : goal.returns-clause-vertex
 returns-clause-vertex g c = vertex_there c.args.records.now.graph c.add_vertex-v.result c.args.p c.set_bare.new.self.graph (graph g (goal.at.returns-clause-vertex g c).After-set_bare)
 
 pub returns-clause-told : goal.returns-clause-told
-returns-clause-told g c = told_by (made g (goal.at.returns-clause-told g c).After-set_bare) _ refl _ refl c.tell_before.ensures.round c.tell_after.ensures.round
+returns-clause-told g c = told_by (made g (goal.at.returns-clause-told g c).After-set_bare) c.requires.in_step.sound _ refl _ refl c.tell_before.ensures.round c.tell_after.ensures.round
 
 pub returns-clause-map : goal.returns-clause-map
 returns-clause-map g c =
@@ -57,7 +62,7 @@ returns-clause-map g c =
     let old = c.args.records.now in
     let faces = c.add_vertex-v.ensures.faces in
     let e = c.set_bare.ensures in
-    vertex_comes old c.set_bare.new.self c.requires.map (made g a).sound (e.moved ∙ ap (λ (f : FacesView). f.moved) faces) c.add_vertex-v.result c.args.p c.args.face (fresh g a) c.requires.face (graph g a) (e.tables ∙ ap (λ (f : FacesView). bare_in c.add_vertex-v.result c.args.face f.tables) faces) (e.lists ∙ ap (λ (f : FacesView). vertex_listed c.add_vertex-v.result c.args.face (lists_in_view f)) faces)
+    vertex_comes old c.set_bare.new.self c.requires.map (made g a).sound (e.moved ∙ ap (λ (f : FacesView). f.moved) faces) c.add_vertex-v.result c.args.p c.args.face (fresh g a) c.requires.face (graph g a) (tables g a) (e.lists ∙ ap (λ (f : FacesView). vertex_listed c.add_vertex-v.result c.args.face (lists_in_view f)) faces)
 
 pub returns-clause-spare : goal.returns-clause-spare
 returns-clause-spare g c =
