@@ -21,7 +21,7 @@ use Rattle.told_steps.specs.ToldRuns.{IsJustChanged, seen}
 module _ (m : MapView) (h : Curves) (s : IsGraphSound m.graph) (a : AreCurvesOf m.graph h) (e : Step) (x : Change) (o : IsMade m.graph h e x) where
   -- the view after the change is what the change makes of the view before
   pub seen_after : seen (step_map m x) (step_curves h x) ≡ step_view (seen m h) x
-  seen_after = changes_make_views m.graph h (λ d. map curve_id (h d)) (λ d. map curve_id (step_curves h x d)) x s a o.fits o.sound (λ d f. numbers_of (h d)) (λ d f. numbers_of (step_curves h x d))
+  seen_after = changes_make_views m.graph m.faces h (λ d. map curve_id (h d)) (λ d. map curve_id (step_curves h x d)) x s a o.fits o.sound (λ d f. numbers_of (h d)) (λ d f. numbers_of (step_curves h x d))
 
   pub curves_after : AreCurvesOf (step_map m x).graph (step_curves h x)
   curves_after = (changes_are_steps m.graph h x s a o.fits).curves
@@ -47,5 +47,5 @@ module _ {x : Change} {w : MapView} {k : Curves} {b : BusRow} (j : IsJustChanged
 
   pub may_hear : All (MayHear (After x)) b.seats
   may_hear =
-      let t = changes_may_be_told m.graph h (λ d. map curve_id (h d)) x j.in_step.sound.graph j.in_step.curves j.made.made.fits j.made.made.sound (λ d f. numbers_of (h d)) in
+      let t = changes_may_be_told m.graph m.faces h (λ d. map curve_id (h d)) x j.in_step.sound.graph j.in_step.curves j.made.made.fits j.made.sound (λ d f. numbers_of (h d)) in
       notes_heard.after (seen m h) x b.seats j.in_step.holds t.0 t.1

@@ -18,7 +18,7 @@ use Rattle.sound_changes.specs.StepOfChange.{step_of_change}
 
 -- the view that observers have of records, with these curves of their forward darts (this project)
 abbrev pub seen : MapView → Curves → CurvedView
-seen m h = view_by m.graph (λ d. map curve_id (h d))
+seen m h = view_by m.graph m.faces (λ d. map curve_id (h d))
 
 -- what observers are told by points before a step (CGAL manual, `Arr_observer`)
 abbrev pub intent_of : Step → Intent

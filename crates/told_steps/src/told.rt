@@ -1,9 +1,10 @@
 ghost use Rattle.std.specs.Prelude.{◌≡◌, true, All};
-ghost use Rattle.slab_laws.specs.Sound.{IsGraphSound};
+ghost use Rattle.slab_laws.specs.FacesSound.{IsSound};
 ghost use Rattle.arr_notes.specs.CurvedView.{CurvedView};
 ghost use Rattle.arr_notes.specs.Curves.{AreCurvesOf};
 ghost use Rattle.arr_notes.specs.declared.note.Note.TheVariants.{Before, After};
 ghost use Rattle.curve_history.specs.Past.{curves_on};
+ghost use Rattle.dcel_records.specs.RecordsView.{tables_of};
 ghost use Rattle.dcel_records.specs.SoundMaps.{map_of};
 ghost use Rattle.observer_bus.specs.Rounds.{AreInRound};
 ghost use Rattle.observer_bus.specs.Rows.{bus_row};
@@ -16,9 +17,9 @@ use dcel_records::Records;
 use observer_bus::Bus;
 use std::alloc::Global;
 
-// One round of observers, over the records as they stand: they need not be a map at rest.
+// One round of observers, over the records as they stand: they need not be a map at rest, since a change may carry the lists of what moves.
 fn tell(alloc: Global, records: &Records, history: &History, bus: &mut Bus, note: &Note)
-    requires sound { IsGraphSound records.now.graph }
+    requires sound { IsSound records.now.graph (tables_of records.now) }
     requires curves { AreCurvesOf records.now.graph (curves_on history.now) }
     requires settled { (bus_row Observer-dyn bus.old).settled ≡ true }
     requires fits { All (MayHear note.now) (bus_row Observer-dyn bus.old).seats }

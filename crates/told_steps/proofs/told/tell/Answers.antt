@@ -3,7 +3,7 @@ use Rattle.told_steps.proofs.Seen.{drawn_seen, drawn_sound, held_seen, leads_by,
 use Rattle.told_steps.proofs.told.tell.Goals as goal
 
 pub new-drawn-requires : goal.new-drawn-requires
-new-drawn-requires g c = told_records c.args.records.now.graph c.args.history.now c.requires.sound c.requires.curves
+new-drawn-requires g c = told_records c.args.records.now.graph c.args.history.now c.requires.sound.graph c.requires.curves
 
 pub say-requires-clause-sound : goal.say-requires-clause-sound
 say-requires-clause-sound g c = drawn_sound c.args.records.now c.args.history.now c.requires.sound c.requires.curves _ _ c.new-drawn.ensures.records c.new-drawn.ensures.history

@@ -4,7 +4,7 @@ use Rattle.told_steps.specs.ToldRuns.{seen}
 use Rattle.told_steps.proofs.told.tell_after.Goals as goal
 
 pub tell-requires-clause-sound : goal.tell-requires-clause-sound
-tell-requires-clause-sound g c = (sound_now c.requires.changed).graph
+tell-requires-clause-sound g c = sound_now c.requires.changed
 
 pub tell-requires-clause-curves : goal.tell-requires-clause-curves
 tell-requires-clause-curves g c = curves_now c.requires.changed

@@ -5,7 +5,7 @@ use Rattle.told_steps.specs.ToldRuns.{seen}
 use Rattle.told_steps.proofs.told.tell_before.Goals as goal
 
 pub tell-requires-clause-sound : goal.tell-requires-clause-sound
-tell-requires-clause-sound g c = c.requires.in_step.sound.graph
+tell-requires-clause-sound g c = c.requires.in_step.sound
 
 pub returns-clause-in_step : goal.returns-clause-in_step
 returns-clause-in_step g c =
