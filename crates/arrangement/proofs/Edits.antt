@@ -12,7 +12,7 @@ use Rattle.told_steps.proofs.Names.{grown_names_stay, shrunk_names_stay}
 use Rattle.observer_bus.specs.Calls.{begun}
 use Rattle.told_steps.specs.ToldRuns.{IsToldRun}
 use Rattle.told_steps.proofs.ToldTogether.{told_runs_lawful}
-use Rattle.arrangement.specs.Arranged.{Arranged, layer_in}
+use Rattle.arrangement.specs.Arranged.{Arranged, layer_in, map_in}
 use Rattle.arrangement.specs.Edited.{IsEdited, IsAsBefore}
 use Rattle.arrangement.proofs.Layers.{unchanged}
 
@@ -21,7 +21,7 @@ module _ (old new : Arranged) where
   Is e = layer_in new ≡ layer_after e (layer_in old)
 
   abbrev IsTold : Edit → Type 0
-  IsTold e = IsToldRun old.graph (curves_on old.past) (begun old.bus) (steps e (layer_in old).present) new.graph (curves_on new.past) new.bus
+  IsTold e = IsToldRun (map_in old) (curves_on old.past) (begun old.bus) (steps e (layer_in old).present) (map_in new) (curves_on new.past) new.bus
 
   names_stay : (e : Edit) → IsLayer old.graph old.past → IsRunOfSteps old.graph (curves_on old.past) (steps e (layer_in old).present) new.graph (curves_on new.past) → NamesStay old.graph new.graph (curves_on old.past) (curves_on new.past)
   names_stay e l m =
@@ -34,7 +34,7 @@ module _ (old new : Arranged) where
   edited_so e l after told = record {
     layer = after;
     told = told;
-    names = names_stay e l (told_runs_lawful.steps old.graph (curves_on old.past) (begun old.bus) (steps e (layer_in old).present) new.graph (curves_on new.past) new.bus told);
+    names = names_stay e l (told_runs_lawful.steps (map_in old) (curves_on old.past) (begun old.bus) (steps e (layer_in old).present) (map_in new) (curves_on new.past) new.bus told);
   }
 
   pub edited : {T E : Type 0} (r : Result T E) (e : Edit) → IsLayer old.graph old.past → OnOk r (Is e) → OnOk r (IsTold e) → OnOk r (IsEdited old new e)
@@ -46,6 +46,6 @@ module _ (old new : Arranged) where
   edited_by (Ok c) n e l is after told = edited_so (e n) l (subst (λ k. Is (e k)) is after) (subst (λ k. IsTold (e k)) is told)
   edited_by (Err x) n e l is after told = tt
 
-  pub as_before : {T E : Type 0} (r : Result T E) → OnErr r (new.graph ≡ old.graph) → OnErr r (SameLayer old.past new.past) → OnErr r (SameCurves old.past new.past) → OnErr r (new.bus ≡ old.bus) → OnErr r (IsAsBefore old new)
-  as_before (Ok c) e l s b = tt
-  as_before (Err x) e l s b = record { layer = unchanged old.graph old.past new.graph new.past e l s; graph = e; curves = s; bus = b }
+  pub as_before : {T E : Type 0} (r : Result T E) → OnErr r (new.graph ≡ old.graph) → OnErr r (new.faces ≡ old.faces) → OnErr r (SameLayer old.past new.past) → OnErr r (SameCurves old.past new.past) → OnErr r (new.bus ≡ old.bus) → OnErr r (IsAsBefore old new)
+  as_before (Ok c) e f l s b = tt
+  as_before (Err x) e f l s b = record { layer = unchanged old.graph old.past new.graph new.past e l s; graph = e; faces = f; curves = s; bus = b }

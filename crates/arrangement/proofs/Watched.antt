@@ -4,9 +4,10 @@ use Rattle.std.specs.Prelude.{IfOk, OnOk, OnErr}
 use Rattle.std.specs.List.{AllByRecursion}
 use Rattle.std.proofs.lemmas.List.Elements.{recursion_from_All, All-from_recursion}
 use Rattle.slab_laws.specs.Text.{present_text, graph_text}
-use Rattle.slab_laws.specs.View.{View, curve_id}
+use Rattle.slab_laws.specs.View.{curve_id}
 use Rattle.arr_notes.specs.Curves.{Curves}
 use Rattle.arr_notes.specs.CurvedView.{CurvedView, AreListsOf, IsSoundView, curves_or, curves_seen, view_text}
+use Rattle.arr_notes.specs.MapView.{MapView}
 use Rattle.arr_notes.specs.RecordGraph.{drawn_graph}
 use Rattle.arr_notes.proofs.CurveRows.{curve_row, curves_of_row, read_views_are_sound}
 use Rattle.arr_notes.proofs.Names.{numbers_of}
@@ -17,27 +18,27 @@ use Rattle.observer_bus.specs.Rounds.{BusRow}
 use Rattle.observer_bus.specs.Seats.{SeatRow, Holds}
 use Rattle.observer_bus.proofs.Seating.{no_plan}
 use Rattle.told_steps.specs.ToldRuns.{seen}
-use Rattle.arrangement.specs.Arranged.{Arranged, IsWatched}
+use Rattle.arrangement.specs.Arranged.{Arranged, IsWatched, map_in}
 use Rattle.arrangement.specs.Questions.{IsReportOf}
 
 -- ---- the view of a layer
-module _ (v : View) (p : Past) (l : IsLayer v p) where
-  own_lists : AreListsOf v (curves_on p) (λ d. map curve_id (curves_on p d))
+module _ (m : MapView) (p : Past) (l : IsLayer m.graph p) where
+  own_lists : AreListsOf m.graph (curves_on p) (λ d. map curve_id (curves_on p d))
   own_lists = λ d f. numbers_of (curves_on p d)
 
-  pub seen_sound : IsSoundView (seen v (curves_on p))
-  seen_sound = read_views_are_sound v (curves_on p) _ l.sound l.curves own_lists
+  pub seen_sound : IsSoundView (seen m (curves_on p))
+  seen_sound = read_views_are_sound m.graph (curves_on p) _ l.sound l.curves own_lists
 
-  same_curves : curves_seen (seen v (curves_on p)) ≡ curves_on p
-  same_curves = λ i d. (ap curves_or (curve_row v (curves_on p) _ l.curves own_lists d.0) ∙ curves_of_row (curves_on p d)) i
+  same_curves : curves_seen (seen m (curves_on p)) ≡ curves_on p
+  same_curves = λ i d. (ap curves_or (curve_row m.graph (curves_on p) _ l.curves own_lists d.0) ∙ curves_of_row (curves_on p d)) i
 
-  pub seen_text : view_text (seen v (curves_on p)) ≡ present_text (layer_of v p).present
+  pub seen_text : view_text (seen m (curves_on p)) ≡ present_text (layer_of m.graph p).present
   unfolding present_text
-  seen_text = ap (λ (h : Curves). graph_text (drawn_graph v h)) same_curves ∙ ap graph_text l.stands
+  seen_text = ap (λ (h : Curves). graph_text (drawn_graph m.graph h)) same_curves ∙ ap graph_text l.stands
 
 -- ---- no observers
 pub alone_is_watched : (a : Arranged) → a.bus.seats ≡ [] → IsWatched a
-alone_is_watched a e = subst (All (Holds (seen a.graph (curves_on a.past)))) (sym e) (All-from_recursion (Holds (seen a.graph (curves_on a.past))) [] tt)
+alone_is_watched a e = subst (All (Holds (seen (map_in a) (curves_on a.past)))) (sym e) (All-from_recursion (Holds (seen (map_in a) (curves_on a.past))) [] tt)
 
 -- ---- attach
 placed_holds : (j : Option ℕ) (w : CurvedView) (s t : SeatRow) → s.join ≡ j → IsPlaced j w s t → Holds w t
@@ -84,11 +85,11 @@ held_sound w ss sound h = λ k d lt j t u held. subst IsSoundView (same_view w u
 
 module _ (a : Arranged) (l : IsLayer a.graph a.past) (k : ℕ) (bytes : List ℕ) where
   abbrev view : CurvedView
-  view = seen a.graph (curves_on a.past)
+  view = seen (map_in a) (curves_on a.past)
 
   report_step : (b : Bool) (s : SeatRow) (ss : List SeatRow) → is_seat_of k s ≡ b → Holds view s → (IsReport bytes (seat_of k ss) → IsReportOf a (seat_of k ss) bytes) →
       IsReport bytes (cond b (Some s) (seat_of k ss)) → IsReportOf a (cond b (Some s) (seat_of k ss)) bytes
-  report_step true s ss e h rest r = λ t. r t view (h (no_plan s.join _ e) t) ∙ seen_text a.graph a.past l
+  report_step true s ss e h rest r = λ t. r t view (h (no_plan s.join _ e) t) ∙ seen_text (map_in a) a.past l
   report_step false s ss e h rest r = rest r
 
   pub report_by : (ss : List SeatRow) → AllByRecursion (Holds view) ss → IsReport bytes (seat_of k ss) → IsReportOf a (seat_of k ss) bytes
@@ -96,5 +97,5 @@ module _ (a : Arranged) (l : IsLayer a.graph a.past) (k : ℕ) (bytes : List ℕ
   report_by (s ∷ ss) h r = report_step (is_seat_of k s) s ss refl h.0 (report_by ss h.1) r
 
 pub reported : {T E : Type 0} (r : Result T E) (items : T → List ℕ) (a : Arranged) (k : ℕ) → IsLayer a.graph a.past → IsWatched a → IfOk r (λ b. IsReport (items b) (seat_of k a.bus.seats)) → IfOk r (λ b. IsReportOf a (seat_of k a.bus.seats) (items b))
-reported (Ok b) items a k l h r = report_by a l k (items b) a.bus.seats (recursion_from_All (Holds (seen a.graph (curves_on a.past))) a.bus.seats h) r
+reported (Ok b) items a k l h r = report_by a l k (items b) a.bus.seats (recursion_from_All (Holds (seen (map_in a) (curves_on a.past))) a.bus.seats h) r
 reported (Err e) items a k l h r = tt

@@ -6,7 +6,8 @@ use Rattle.edit_steps.specs.Layer.{Layer}
 use Rattle.edit_steps.specs.Refusals.{Bounds, Refusal, refusal}
 use Rattle.slab_laws.specs.Subdivision.{Subdivision, subdivision}
 use Rattle.slab_laws.specs.Text.{skeleton}
-use Rattle.slab_laws.specs.View.{View}
+use Rattle.slab_laws.specs.View.{View, Faces}
+use Rattle.arr_notes.specs.MapView.{MapView}
 use Rattle.curve_history.specs.Past.{Past, curves_on}
 use Rattle.curve_history.specs.declared.history.TheConstants.{LAST_CURVE}
 use Rattle.told_steps.specs.RecordLayers.{layer_of}
@@ -20,17 +21,22 @@ use Rattle.arrangement.specs.declared.limits.TheConstants.{MAX_CURVES, MAX_PIECE
 
 pub record Arranged : Type 0 where
   pub graph : View
+  pub faces : Faces
   pub past : Past
   pub limits : Limits
   pub bus : BusRow
 
 -- an arrangement as contracts see it: what its observers mean is handed in by one word, `Observer-dyn`
 abbrev pub arranged : {X : Type 0} {F : X → Type 0} → Meanings X F → Arrangement X F → Arranged
-arranged m a = record { graph = a.layer.graph; past = a.layer.past; limits = a.limits; bus = bus_row m a.bus }
+arranged m a = record { graph = a.layer.graph; faces = a.layer.faces; past = a.layer.past; limits = a.limits; bus = bus_row m a.bus }
+
+-- the records of the arrangement, whole: the graph with its cycles and faces (de Berg and others, doubly-connected edge list)
+abbrev pub map_in : Arranged → MapView
+map_in a = record { graph = a.graph; faces = a.faces }
 
 -- each seated observer that tells a view holds that of the records (this project)
 abbrev pub IsWatched : Arranged → Type 0
-IsWatched a = All (Holds (seen a.graph (curves_on a.past))) a.bus.seats
+IsWatched a = All (Holds (seen (map_in a) (curves_on a.past))) a.bus.seats
 
 -- the layer that the arrangement is (this project)
 abbrev pub layer_in : Arranged → Layer

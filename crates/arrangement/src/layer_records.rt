@@ -11,11 +11,12 @@ pub(crate) struct LayerRecords {
 
 impl Model for LayerRecords {
     ghost use Rattle.told_steps.specs.RecordLayers.{IsLayer};
+    ghost use Rattle.dcel_records.specs.RecordsView.{tables_of};
     ghost use Rattle.arrangement.specs.LayerRecords.{LayerRecordsView};
 
     ghost Value = { LayerRecordsView };
 
-    ghost view = { λ l. record { graph = l.records.graph; past = l.history } };
+    ghost view = { λ l. record { graph = l.records.graph; faces = tables_of l.records; past = l.history } };
 
     ghost use Rattle.dcel_records.specs.SoundMaps.{IsMapAtRest};
 

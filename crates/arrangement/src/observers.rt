@@ -3,7 +3,7 @@ ghost use Rattle.curve_history.specs.Past.{curves_on};
 ghost use Rattle.observer_bus.specs.Calls.{attach_refusal, has_name, has_seat, seat_of, seats_left, with_seats, IsAttachAnswer, IsAttached};
 ghost use Rattle.observer_bus.specs.Rows.{newcomer};
 ghost use Rattle.told_steps.specs.ToldRuns.{seen};
-ghost use Rattle.arrangement.specs.Arranged.{arranged, IsWatched};
+ghost use Rattle.arrangement.specs.Arranged.{arranged, map_in, IsWatched};
 ghost use Rattle.arrangement.specs.Edited.{IsSameLayer};
 ghost use Rattle.arrangement.specs.Questions.{IsReportOf};
 
@@ -32,7 +32,7 @@ impl Arrangement {
         ensures same { IfErr result (λ e. e.1 ≢ AttachError.NoMemory → e.0 ≡ observer) }
         ensures back { IfErr result (λ e. (tells e.0 ≡ tells observer) × (left e.0 ≡ left observer)) }
         ensures err { OnErr result ((arranged Observer-dyn self.new).bus ≡ (arranged Observer-dyn self.old).bus) }
-        ensures attached { OnOk result (IsAttached (seen (arranged Observer-dyn self.old).graph (curves_on (arranged Observer-dyn self.old).past))
+        ensures attached { OnOk result (IsAttached (seen (map_in (arranged Observer-dyn self.old)) (curves_on (arranged Observer-dyn self.old).past))
             (newcomer Observer-dyn name when observer) (arranged Observer-dyn self.old).bus (arranged Observer-dyn self.new).bus) }
         ensures layer { IsSameLayer (arranged Observer-dyn self.old) (arranged Observer-dyn self.new) }
         ensures watched { IsWatched (arranged Observer-dyn self.old) → IsWatched (arranged Observer-dyn self.new) }

@@ -5,22 +5,23 @@ use Rattle.edit_steps.specs.Layer.{IsAcceptedBy, layer_after}
 use Rattle.edit_steps.specs.Steps.{Clear}
 use Rattle.slab_laws.specs.View.{View}
 use Rattle.curve_history.specs.Past.{Past, curves_on}
+use Rattle.arr_notes.specs.MapView.{MapView}
 use Rattle.observer_bus.specs.Rounds.{BusRow}
 use Rattle.told_steps.specs.RecordLayers.{IsLayer, layer_of}
 use Rattle.told_steps.proofs.Layers.{steps_make_layers}
 use Rattle.told_steps.proofs.ToldTogether.{told_runs_lawful}
 use Rattle.told_steps.specs.ToldRuns.{IsToldRun}
 
-module _ (v : View) (p : Past) (b : BusRow) (w : View) (q : Past) (c : BusRow) (told : IsToldRun v (curves_on p) b (Clear ∷ []) w (curves_on q) c) where
-  pub clear_told : IsToldRun v (curves_on p) b (steps ClearAll (layer_of v p).present) w (curves_on q) c
+module _ (v : MapView) (p : Past) (b : BusRow) (w : MapView) (q : Past) (c : BusRow) (told : IsToldRun v (curves_on p) b (Clear ∷ []) w (curves_on q) c) where
+  pub clear_told : IsToldRun v (curves_on p) b (steps ClearAll (layer_of v.graph p).present) w (curves_on q) c
   unfolding steps
   clear_told = told
 
-  module _ (l : IsLayer v p) (names : q.names ≡ []) (pieces : q.pieces ≡ []) (next : q.next ≡ p.next) where
-    accepted : IsAcceptedBy ClearAll (layer_of v p)
+  module _ (l : IsLayer v.graph p) (names : q.names ≡ []) (pieces : q.pieces ≡ []) (next : q.next ≡ p.next) where
+    accepted : IsAcceptedBy ClearAll (layer_of v.graph p)
     unfolding IsAccepted
     accepted = tt
 
-    pub clear_layer : IsLayer w q × (layer_of w q ≡ layer_after ClearAll (layer_of v p))
+    pub clear_layer : IsLayer w.graph q × (layer_of w.graph q ≡ layer_after ClearAll (layer_of v.graph p))
     unfolding after
-    clear_layer = steps_make_layers ClearAll v p w q l accepted (told_runs_lawful.steps v (curves_on p) b (steps ClearAll (layer_of v p).present) w (curves_on q) c clear_told) pieces names next
+    clear_layer = steps_make_layers ClearAll v.graph p w.graph q l accepted (told_runs_lawful.steps v (curves_on p) b (steps ClearAll (layer_of v.graph p).present) w (curves_on q) c clear_told) pieces names next

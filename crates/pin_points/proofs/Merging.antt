@@ -21,6 +21,7 @@ use Rattle.slab_laws.specs.declared.names.VertexId.{VertexId}
 use Rattle.slab_laws.specs.View.{View, HasVertex, point_in, pinned_in}
 use Rattle.arr_notes.specs.ViewChanges.{with_pin}
 use Rattle.arr_notes.specs.Curves.{Curves}
+use Rattle.arr_notes.specs.MapView.{MapView}
 use Rattle.curve_history.specs.Past.{Past, curves_on, SameLayer}
 use Rattle.arr_notes.specs.RecordGraph.{drawn_graph}
 use Rattle.observer_bus.specs.Rounds.{BusRow}
@@ -100,41 +101,41 @@ module _ (o : Present) (fit : IsFit o) (p : Point) where
     merge_steps_are = all_steps o fit p there ∙ ap (λ ss. ClearPin p ∷ ss) (loose_steps o fit p there (inr still) ∙ ap (λ x. x ∷ []) (merges rest p still))
 
 -- ---- in records
-module _ (v : View) (r : Past) (l : IsLayer v r) where
+module _ (v : MapView) (r : Past) (l : IsLayer v.graph r) where
   abbrev h : Curves
   h = curves_on r
 
   abbrev o : Layer
-  o = layer_of v r
+  o = layer_of v.graph r
 
-  points_are : (drawn_graph v h).points ≡ vertices o.present
+  points_are : (drawn_graph v.graph h).points ≡ vertices o.present
   points_are = ap (λ (g : Graph). g.points) l.stands ∙ graph_points o.present
 
-  pub no_vertex : (p : Point) → ((w : VertexId) → HasVertex v w → point_in v w ≢ p) → list_any (same_point p) (vertices o.present) ≡ false
+  pub no_vertex : (p : Point) → ((w : VertexId) → HasVertex v.graph w → point_in v.graph w ≢ p) → list_any (same_point p) (vertices o.present) ≡ false
   no_vertex p none = not_true (list_any (same_point p) (vertices o.present)) (λ t.
       let y = any_out (same_point p) (vertices o.present) t in
-      let w = held_point v l.sound.named h y.0 (subst (Member y.0) (sym points_are) y.1) in
+      let w = held_point v.graph l.sound.named h y.0 (subst (Member y.0) (sym points_are) y.1) in
       none w.0 w.1.has (w.1.at ∙ sym (same_out p y.0 y.2)))
 
-  module _ (p : Point) (w : VertexId) (has : HasVertex v w) (at : point_in v w ≡ p) where
+  module _ (p : Point) (w : VertexId) (has : HasVertex v.graph w) (at : point_in v.graph w ≡ p) where
     pub is_vertex : list_any (same_point p) (vertices o.present) ≡ true
-    is_vertex = any_in (same_point p) p (vertices o.present) (subst (Member p) points_are (subst (λ z. Member z (drawn_graph v h).points) at (point_held v l.sound.named h w has))) (same_itself p)
+    is_vertex = any_in (same_point p) p (vertices o.present) (subst (Member p) points_are (subst (λ z. Member z (drawn_graph v.graph h).points) at (point_held v.graph l.sound.named h w has))) (same_itself p)
 
-    pub not_pinned : pinned_in v w ≡ false → is_mergeable o.present p ≡ false
-    not_pinned e = without_mark o.present p (pinned_vertex v h l.sound p w has at ∙ e)
+    pub not_pinned : pinned_in v.graph w ≡ false → is_mergeable o.present p ≡ false
+    not_pinned e = without_mark o.present p (pinned_vertex v.graph h l.sound p w has at ∙ e)
 
-    passed_there : IsPassed (graph o.present) p → IsPassed (drawn_graph v h) (point_in v w)
-    passed_there s = subst (λ g. IsPassed g (point_in v w)) (sym l.stands) (subst (IsPassed (graph o.present)) (sym at) s)
+    passed_there : IsPassed (graph o.present) p → IsPassed (drawn_graph v.graph h) (point_in v.graph w)
+    passed_there s = subst (λ g. IsPassed g (point_in v.graph w)) (sym l.stands) (subst (IsPassed (graph o.present)) (sym at) s)
 
-    pub not_passed : (IsPassed (drawn_graph v h) (point_in v w) → ⊥) → is_mergeable o.present p ≡ false
+    pub not_passed : (IsPassed (drawn_graph v.graph h) (point_in v.graph w) → ⊥) → is_mergeable o.present p ≡ false
     not_passed n = not_mergeable o.present l.lawful.fit p (λ s. n (passed_there s))
 
-    module _ (pin : pinned_in v w ≡ true) (s : IsPassed (drawn_graph v h) (point_in v w)) where
+    module _ (pin : pinned_in v.graph w ≡ true) (s : IsPassed (drawn_graph v.graph h) (point_in v.graph w)) where
       there : Member p o.present.pins
-      there = let y = any_out (same_point p) o.present.pins (pinned_vertex v h l.sound p w has at ∙ pin) in subst (λ z. Member z o.present.pins) (sym (same_out p y.0 y.2)) y.1
+      there = let y = any_out (same_point p) o.present.pins (pinned_vertex v.graph h l.sound p w has at ∙ pin) in subst (λ z. Member z o.present.pins) (sym (same_out p y.0 y.2)) y.1
 
       through : IsPassed (graph o.present) p
-      through = subst (IsPassed (graph o.present)) at (subst (λ g. IsPassed g (point_in v w)) l.stands s)
+      through = subst (IsPassed (graph o.present)) at (subst (λ g. IsPassed g (point_in v.graph w)) l.stands s)
 
       pub can_merge : is_mergeable o.present p ≡ true
       can_merge = mergeable o.present l.lawful.fit p there through
@@ -142,13 +143,13 @@ module _ (v : View) (r : Past) (l : IsLayer v r) where
       accepted : IsAcceptedBy (Merge p) o
       accepted = accepted_by o.present l.lawful.fit p can_merge
 
-      module _ (z : View) (is : z ≡ with_pin v w false) (b c : BusRow) (told : IsToldRun v h b (ClearPin (point_in v w) ∷ []) z h c) (x : View) (q : Past) (d : BusRow) (t : IsTidied z h c (point_in z w) x (curves_on q) d) where
+      module _ (z : MapView) (is : z.graph ≡ with_pin v.graph w false) (b c : BusRow) (told : IsToldRun v h b (ClearPin (point_in v.graph w) ∷ []) z h c) (x : MapView) (q : Past) (d : BusRow) (t : IsTidied z h c (point_in z.graph w) x (curves_on q) d) where
         pub merge_told : IsToldRun v h b (steps (Merge p) o.present) x (curves_on q) d
         merge_told =
-            told_runs_lawful.same_steps v h b (steps (Unpin (point_in v w)) o.present) (steps (Merge p) o.present) x (curves_on q) d
+            told_runs_lawful.same_steps v h b (steps (Unpin (point_in v.graph w)) o.present) (steps (Merge p) o.present) x (curves_on q) d
             (ap (λ y. steps (Unpin y) o.present) at ∙ merge_steps_are o.present l.lawful.fit p there through)
             (unpin_told v r l w has pin z is b c told x q d t)
 
-        pub merge_layer : SameLayer r q → IsLayer x q × (layer_of x q ≡ layer_after (Merge p) o)
+        pub merge_layer : SameLayer r q → IsLayer x.graph q × (layer_of x.graph q ≡ layer_after (Merge p) o)
         unfolding after
-        merge_layer n = steps_make_layers (Merge p) v r x q l accepted (told_runs_lawful.steps v h b (steps (Merge p) o.present) x (curves_on q) d merge_told) n.pieces n.names n.next
+        merge_layer n = steps_make_layers (Merge p) v.graph r x.graph q l accepted (told_runs_lawful.steps v h b (steps (Merge p) o.present) x (curves_on q) d merge_told) n.pieces n.names n.next

@@ -14,6 +14,7 @@ use Rattle.edit_steps.proofs.Folds.{first_sound}
 use Rattle.slab_laws.specs.declared.names.VertexId.{VertexId}
 use Rattle.slab_laws.specs.View.{View, point_in}
 use Rattle.arr_notes.specs.Curves.{Curves}
+use Rattle.arr_notes.specs.MapView.{MapView}
 use Rattle.curve_history.specs.Past.{Past, curves_on, SameLayer}
 use Rattle.arr_notes.specs.RecordGraph.{drawn_graph}
 use Rattle.observer_bus.specs.Rounds.{BusRow}
@@ -26,10 +27,10 @@ use Rattle.pin_points.specs.Pins.{HasBecomeVertex, new_vertex_steps}
 use Rattle.pin_points.proofs.Counted.{pins_counted}
 
 -- ---- a vertex at the point is pinned, after other steps
-pub pinned_on : (v : View) (h : Curves) (b : BusRow) (ss : List Step) (x : View) (k : Curves) (c : BusRow) → IsToldRun v h b ss x k c → (p : Point) (w : VertexId) → IsVertexAt x p w → (y : View) (l : Curves) (d : BusRow) → IsToldRun x k c (SetPinAt (point_in x w) ∷ []) y l d → IsToldRun v h b (ss ++ (SetPinAt p ∷ [])) y l d
+pub pinned_on : (v : MapView) (h : Curves) (b : BusRow) (ss : List Step) (x : MapView) (k : Curves) (c : BusRow) → IsToldRun v h b ss x k c → (p : Point) (w : VertexId) → IsVertexAt x.graph p w → (y : MapView) (l : Curves) (d : BusRow) → IsToldRun x k c (SetPinAt (point_in x.graph w) ∷ []) y l d → IsToldRun v h b (ss ++ (SetPinAt p ∷ [])) y l d
 pinned_on v h b ss x k c told p w at y l d set =
     told_runs_lawful.follow v h b ss (SetPinAt p ∷ []) x k c y l d told
-    (told_runs_lawful.same_steps x k c (SetPinAt (point_in x w) ∷ []) (SetPinAt p ∷ []) y l d (ap (λ z. SetPinAt z ∷ []) at.at) set)
+    (told_runs_lawful.same_steps x k c (SetPinAt (point_in x.graph w) ∷ []) (SetPinAt p ∷ []) y l d (ap (λ z. SetPinAt z ∷ []) at.at) set)
 
 -- ---- its steps
 
@@ -42,14 +43,14 @@ pin_steps_are : (o : Present) (p : Point) → steps (Pin p) o ≡ new_vertex_ste
 unfolding steps pin_steps
 pin_steps_are o p = ap (λ vs. vertex_steps (missing_points (p ∷ []) vs) (graph o) ++ (SetPinAt p ∷ [])) (sym (graph_points o))
 
-module _ (v : View) (q : Past) (l : IsLayer v q) (p : Point) (proper : IsProper p) where
+module _ (v : MapView) (q : Past) (l : IsLayer v.graph q) (p : Point) (proper : IsProper p) where
   abbrev h : Curves
   h = curves_on q
 
   abbrev o : Layer
-  o = layer_of v q
+  o = layer_of v.graph q
 
-  steps_are : steps (Pin p) o.present ≡ new_vertex_steps p (drawn_graph v h) ++ (SetPinAt p ∷ [])
+  steps_are : steps (Pin p) o.present ≡ new_vertex_steps p (drawn_graph v.graph h) ++ (SetPinAt p ∷ [])
   steps_are = pin_steps_are o.present p ∙ ap (λ g. new_vertex_steps p g ++ (SetPinAt p ∷ [])) (sym l.stands)
 
   module _ (bare : list_any (same_point p) o.present.pins ≡ false) where
@@ -58,21 +59,21 @@ module _ (v : View) (q : Past) (l : IsLayer v q) (p : Point) (proper : IsProper 
     accepted = (proper, bare)
 
     -- the graph stays plane while the point becomes a vertex
-    pub stays_plane : AreSound (new_vertex_steps p (drawn_graph v h)) (drawn_graph v h)
+    pub stays_plane : AreSound (new_vertex_steps p (drawn_graph v.graph h)) (drawn_graph v.graph h)
     stays_plane =
         let k = are_sound (Pin p) o.present l.lawful.fit accepted in
         subst (λ g. AreSound (new_vertex_steps p g) g) (sym l.stands) (first_sound (new_vertex_steps p (graph o.present)) (SetPinAt p ∷ []) (graph o.present) (subst (λ ss. AreSound ss (graph o.present)) (pin_steps_are o.present p) k))
 
-    module _ (b : BusRow) (x : View) (k : Curves) (c : BusRow) (told : HasBecomeVertex v h b p x k c) (w : VertexId) (at : IsVertexAt x p w) (y : View) (r : Past) (d : BusRow) (set : IsToldRun x k c (SetPinAt (point_in x w) ∷ []) y (curves_on r) d) where
+    module _ (b : BusRow) (x : MapView) (k : Curves) (c : BusRow) (told : HasBecomeVertex v h b p x k c) (w : VertexId) (at : IsVertexAt x.graph p w) (y : MapView) (r : Past) (d : BusRow) (set : IsToldRun x k c (SetPinAt (point_in x.graph w) ∷ []) y (curves_on r) d) where
       pub pin_told : IsToldRun v h b (steps (Pin p) o.present) y (curves_on r) d
       pin_told =
-          told_runs_lawful.same_steps v h b (new_vertex_steps p (drawn_graph v h) ++ (SetPinAt p ∷ [])) (steps (Pin p) o.present) y (curves_on r) d (sym steps_are)
-          (pinned_on v h b (new_vertex_steps p (drawn_graph v h)) x k c told p w at y (curves_on r) d set)
+          told_runs_lawful.same_steps v h b (new_vertex_steps p (drawn_graph v.graph h) ++ (SetPinAt p ∷ [])) (steps (Pin p) o.present) y (curves_on r) d (sym steps_are)
+          (pinned_on v h b (new_vertex_steps p (drawn_graph v.graph h)) x k c told p w at y (curves_on r) d set)
 
-      pub pin_layer : SameLayer q r → IsLayer y r × (layer_of y r ≡ layer_after (Pin p) o)
+      pub pin_layer : SameLayer q r → IsLayer y.graph r × (layer_of y.graph r ≡ layer_after (Pin p) o)
       unfolding after
-      pin_layer n = steps_make_layers (Pin p) v q y r l accepted (told_runs_lawful.steps v h b (steps (Pin p) o.present) y (curves_on r) d pin_told) n.pieces n.names n.next
+      pin_layer n = steps_make_layers (Pin p) v.graph q y.graph r l accepted (told_runs_lawful.steps v h b (steps (Pin p) o.present) y (curves_on r) d pin_told) n.pieces n.names n.next
 
   -- ---- how many pins there are
-  pub counted : length o.present.pins ≡ length (filter (λ r. r.1.pinned) v.vertices)
-  counted = pins_counted v h l.sound
+  pub counted : length o.present.pins ≡ length (filter (λ r. r.1.pinned) v.graph.vertices)
+  counted = pins_counted v.graph h l.sound

@@ -18,6 +18,7 @@ use Rattle.slab_laws.specs.Skeleton.{inside as is_inside_edge}
 use Rattle.slab_laws.specs.Sound.{edge_in}
 use Rattle.slab_laws.specs.View.{View, point_in, source_in, target_in}
 use Rattle.arr_notes.specs.Curves.{Curves}
+use Rattle.arr_notes.specs.MapView.{MapView}
 use Rattle.curve_history.specs.Past.{Past, curves_on, SameLayer}
 use Rattle.arr_notes.specs.RecordGraph.{drawn_graph}
 use Rattle.observer_bus.specs.Rounds.{BusRow}
@@ -34,37 +35,37 @@ use Rattle.pin_points.proofs.Pinning.{counted, pinned_on}
 use Rattle.pin_points.proofs.Spotted.{mark_inside, inside_edge}
 use Rattle.integers.proofs.Tests.{not_true}
 
-module _ (v : View) (q : Past) (l : IsLayer v q) (e : Edge) where
+module _ (v : MapView) (q : Past) (l : IsLayer v.graph q) (e : Edge) where
   abbrev h : Curves
   h = curves_on q
 
   abbrev o : Layer
-  o = layer_of v q
+  o = layer_of v.graph q
 
   abbrev drawn : Graph
-  drawn = drawn_graph v h
+  drawn = drawn_graph v.graph h
 
   -- ---- the edge between the points
-  along_mark : (m : Mark) (d : DartId) → IsMarkOf v h m d → is_at e.low e.high m ≡ true → IsDartAlong v e d
+  along_mark : (m : Mark) (d : DartId) → IsMarkOf v.graph h m d → is_at e.low e.high m ≡ true → IsDartAlong v.graph e d
   along_mark m d k t =
       let b = and_true (same_point m.low e.low) (same_point m.high e.high) t in
       record {
         forward = k.forward;
-        edge = ahead (point_in v (source_in v d)) (point_in v (target_in v d)) k.forward.1 ∙ ap₂ edge_of_ends (k.low ∙ same_out m.low e.low b.0) (k.high ∙ same_out m.high e.high b.1);
+        edge = ahead (point_in v.graph (source_in v.graph d)) (point_in v.graph (target_in v.graph d)) k.forward.1 ∙ ap₂ edge_of_ends (k.low ∙ same_out m.low e.low b.0) (k.high ∙ same_out m.high e.high b.1);
       }
 
-  pub no_edge : ((d : DartId) → ¬ IsDartAlong v e d) → list_any (is_at e.low e.high) (graph o.present).marks ≡ false
+  pub no_edge : ((d : DartId) → ¬ IsDartAlong v.graph e d) → list_any (is_at e.low e.high) (graph o.present).marks ≡ false
   no_edge none = subst (λ (g : Graph). list_any (is_at e.low e.high) g.marks ≡ false) l.stands (not_true (list_any (is_at e.low e.high) drawn.marks) (λ t.
       let m = any_out (is_at e.low e.high) drawn.marks t in
-      let d = held_mark v l.sound.named h m.0 m.1 in
+      let d = held_mark v.graph l.sound.named h m.0 m.1 in
       none d.0 (along_mark m.0 d.0 d.1 m.2)))
 
-  module _ (d : DartId) (a : IsDartAlong v e d) where
-    runs : RunsBetween v e.low e.high d
-    runs = along_runs v l.sound e e.low e.high refl d a
+  module _ (d : DartId) (a : IsDartAlong v.graph e d) where
+    runs : RunsBetween v.graph e.low e.high d
+    runs = along_runs v.graph l.sound e e.low e.high refl d a
 
-    the_mark : (m : Mark) × Member m drawn.marks × IsMarkOf v h m d
-    the_mark = mark_there v h l.sound l.curves d a.forward
+    the_mark : (m : Mark) × Member m drawn.marks × IsMarkOf v.graph h m d
+    the_mark = mark_there v.graph h l.sound l.curves d a.forward
 
     at_mark : is_at e.low e.high the_mark.0 ≡ true
     at_mark = let k = the_mark.2 in and_in (same_in the_mark.0.low e.low (sym k.low ∙ runs.starts)) (same_in the_mark.0.high e.high (sym k.high ∙ runs.ends))
@@ -76,34 +77,34 @@ module _ (v : View) (q : Past) (l : IsLayer v q) (e : Edge) where
       abbrev Holds : Graph → Bool
       Holds g = list_any (λ m. is_at e.low e.high m && inside r m) g.marks
 
-      pub is_inside : is_inside_edge (edge_in v d) r ≡ true → Holds (graph o.present) ≡ true
-      is_inside i = subst (λ g. Holds g ≡ true) l.stands (any_in (λ m. is_at e.low e.high m && inside r m) the_mark.0 drawn.marks the_mark.1 (and_in at_mark (mark_inside v h l.sound l.curves r proper the_mark.0 d the_mark.2 i)))
+      pub is_inside : is_inside_edge (edge_in v.graph d) r ≡ true → Holds (graph o.present) ≡ true
+      is_inside i = subst (λ g. Holds g ≡ true) l.stands (any_in (λ m. is_at e.low e.high m && inside r m) the_mark.0 drawn.marks the_mark.1 (and_in at_mark (mark_inside v.graph h l.sound l.curves r proper the_mark.0 d the_mark.2 i)))
 
-      pub not_inside : is_inside_edge (edge_in v d) r ≡ false → Holds (graph o.present) ≡ false
+      pub not_inside : is_inside_edge (edge_in v.graph d) r ≡ false → Holds (graph o.present) ≡ false
       not_inside f = subst (λ g. Holds g ≡ false) l.stands (not_true (Holds drawn) (λ t.
           let m = any_out (λ m. is_at e.low e.high m && inside r m) drawn.marks t in
           let b = and_true (is_at e.low e.high m.0) (inside r m.0) m.2 in
-          let k = held_mark v l.sound.named h m.0 m.1 in
-          let same : edge_in v k.0 ≡ edge_in v d = (along_mark m.0 k.0 k.1 b.0).edge ∙ sym a.edge in
-          clash (subst (λ z. is_inside_edge z r ≡ true) same (inside_edge v h l.sound l.curves r proper m.0 k.0 k.1 b.1)) f))
+          let k = held_mark v.graph l.sound.named h m.0 m.1 in
+          let same : edge_in v.graph k.0 ≡ edge_in v.graph d = (along_mark m.0 k.0 k.1 b.0).edge ∙ sym a.edge in
+          clash (subst (λ z. is_inside_edge z r ≡ true) same (inside_edge v.graph h l.sound l.curves r proper m.0 k.0 k.1 b.1)) f))
 
       -- ---- its steps
-      module _ (i : is_inside_edge (edge_in v d) r ≡ true) where
+      module _ (i : is_inside_edge (edge_in v.graph d) r ≡ true) where
         accepted : IsAcceptedBy (Split e.low e.high r) o
         unfolding IsAccepted
         accepted = (proper, is_inside i)
 
-        module _ (b : BusRow) (x : View) (k : Curves) (c : BusRow) (told : IsToldRun v h b (SplitEdge (point_in v (source_in v d)) (point_in v (target_in v d)) r ∷ []) x k c) (w : VertexId) (at : IsVertexAt x r w) (y : View) (t : Past) (f : BusRow) (set : IsToldRun x k c (SetPin (point_in x w) ∷ []) y (curves_on t) f) where
+        module _ (b : BusRow) (x : MapView) (k : Curves) (c : BusRow) (told : IsToldRun v h b (SplitEdge (point_in v.graph (source_in v.graph d)) (point_in v.graph (target_in v.graph d)) r ∷ []) x k c) (w : VertexId) (at : IsVertexAt x.graph r w) (y : MapView) (t : Past) (f : BusRow) (set : IsToldRun x k c (SetPin (point_in x.graph w) ∷ []) y (curves_on t) f) where
           pub split_told : IsToldRun v h b (steps (Split e.low e.high r) o.present) y (curves_on t) f
           unfolding steps split_steps
           split_told =
               pinned_on v h b (SplitEdge e.low e.high r ∷ []) x k c
               (told_runs_lawful.same_steps v h b _ _ x k c (λ j. SplitEdge (runs.starts j) (runs.ends j) r ∷ []) told) r w at y (curves_on t) f set
 
-          pub split_layer : SameLayer q t → IsLayer y t × (layer_of y t ≡ layer_after (Split e.low e.high r) o)
+          pub split_layer : SameLayer q t → IsLayer y.graph t × (layer_of y.graph t ≡ layer_after (Split e.low e.high r) o)
           unfolding after
-          split_layer n = steps_make_layers (Split e.low e.high r) v q y t l accepted (told_runs_lawful.steps v h b (steps (Split e.low e.high r) o.present) y (curves_on t) f split_told) n.pieces n.names n.next
+          split_layer n = steps_make_layers (Split e.low e.high r) v.graph q y.graph t l accepted (told_runs_lawful.steps v h b (steps (Split e.low e.high r) o.present) y (curves_on t) f split_told) n.pieces n.names n.next
 
   -- ---- whether one more pin passes the limit
-  pub limit_met : (limit : ℕ) (r : Point) → IsProper r → (b : Bool) → nat_le limit (length (filter (λ u. u.1.pinned) v.vertices)) ≡ b → nat_le limit (length o.present.pins) ≡ b
+  pub limit_met : (limit : ℕ) (r : Point) → IsProper r → (b : Bool) → nat_le limit (length (filter (λ u. u.1.pinned) v.graph.vertices)) ≡ b → nat_le limit (length o.present.pins) ≡ b
   limit_met limit r proper b f = ap (nat_le limit) (counted v q l r proper) ∙ f

@@ -28,6 +28,7 @@ use Rattle.arr_notes.specs.ViewChanges.{with_pin}
 use Rattle.arr_notes.proofs.VertexReads.{pin_is_set}
 use Rattle.arr_notes.specs.declared.change.Change.TheVariants.{ClearPin}
 use Rattle.arr_notes.specs.Curves.{Curves}
+use Rattle.arr_notes.specs.MapView.{MapView}
 use Rattle.curve_history.specs.Past.{Past, curves_on, SameLayer}
 use Rattle.arr_notes.specs.RecordGraph.{drawn_graph}
 use Rattle.observer_bus.specs.Rounds.{BusRow}
@@ -127,18 +128,18 @@ cleared_graph : (o : Present) (p : Point) → apply (ClearPinAt p) (graph o) ≡
 unfolding apply graph
 cleared_graph o p = refl
 
-module _ (v : View) (r : Past) (l : IsLayer v r) (w : VertexId) (has : HasVertex v w) (pin : pinned_in v w ≡ true) where
+module _ (v : MapView) (r : Past) (l : IsLayer v.graph r) (w : VertexId) (has : HasVertex v.graph w) (pin : pinned_in v.graph w ≡ true) where
   abbrev h : Curves
   h = curves_on r
 
   abbrev o : Layer
-  o = layer_of v r
+  o = layer_of v.graph r
 
   abbrev p : Point
-  p = point_in v w
+  p = point_in v.graph w
 
   was_pinned : list_any (same_point p) o.present.pins ≡ true
-  was_pinned = pinned_vertex v h l.sound p w has refl ∙ pin
+  was_pinned = pinned_vertex v.graph h l.sound p w has refl ∙ pin
 
   there : Member p o.present.pins
   there = let y = any_out (same_point p) o.present.pins was_pinned in subst (λ z. Member z o.present.pins) (sym (same_out p y.0 y.2)) y.1
@@ -149,45 +150,48 @@ module _ (v : View) (r : Past) (l : IsLayer v r) (w : VertexId) (has : HasVertex
 
   -- ---- without the pin
   abbrev v1 : View
-  v1 = with_pin v w false
+  v1 = with_pin v.graph w false
 
-  set : IsPinSet v v1 w false
-  set = pin_is_set v w false
+  set : IsPinSet v.graph v1 w false
+  set = pin_is_set v.graph w false
 
   abbrev rest : Graph
   rest = graph_over (vertices o.present) o.present.pieces (without_pin o.present p).pins
 
   drawn : drawn_graph v1 h ≡ rest
-  drawn = (changes_are_steps v h (ClearPin w) l.sound l.curves has).graph ∙ ap (apply (ClearPinAt p)) l.stands ∙ cleared_graph o.present p
+  drawn = (changes_are_steps v.graph h (ClearPin w) l.sound l.curves has).graph ∙ ap (apply (ClearPinAt p)) l.stands ∙ cleared_graph o.present p
 
-  module _ (z : View) (is : z ≡ v1) where
-    pub clear_has : HasVertex z w
+  module _ (z : MapView) (is : z.graph ≡ v1) where
+    pub clear_has : HasVertex z.graph w
     clear_has = subst (λ y. HasVertex y w) (sym is) (set.has w has)
 
-    pub clear_unpinned : pinned_in z w ≡ false
+    pub clear_unpinned : pinned_in z.graph w ≡ false
     clear_unpinned = subst (λ y. pinned_in y w ≡ false) (sym is) (set.pinned has)
 
     -- ---- and tidied
-    module _ (b c : BusRow) (told : IsToldRun v h b (ClearPinAt p ∷ []) z h c) (x : View) (q : Past) (d : BusRow) (t : IsTidied z h c (point_in z w) x (curves_on q) d) where
+    module _ (b c : BusRow) (told : IsToldRun v h b (ClearPinAt p ∷ []) z h c) (x : MapView) (q : Past) (d : BusRow) (t : IsTidied z h c (point_in z.graph w) x (curves_on q) d) where
       abbrev k : Curves
       k = curves_on q
 
-      tidied : IsTidied v1 h c p x k d
-      tidied = subst (λ y. IsTidied v1 h c y x k d) (set.point w) (subst (λ y. IsTidied y h c (point_in y w) x k d) is t)
+      tidied : IsTidied z h c p x k d
+      tidied = subst (λ y. IsTidied z h c y x k d) (ap (λ y. point_in y w) is ∙ set.point w) t
 
-      tidy_told : IsToldRun v1 h c (tidy_steps (missing_points (vertices o.present) (vertices (without_pin o.present p))) rest) x k d
+      drawn_now : drawn_graph z.graph h ≡ rest
+      drawn_now = ap (λ y. drawn_graph y h) is ∙ drawn
+
+      tidy_told : IsToldRun z h c (tidy_steps (missing_points (vertices o.present) (vertices (without_pin o.present p))) rest) x k d
       tidy_told = elim tidied [
         | inl e ↦
-            told_runs_lawful.same_steps v1 h c (tidy_step p (drawn_graph v1 h) ∷ []) _ x k d
-            (ap (λ g. tidy_step p g ∷ []) drawn ∙ sym (loose_steps o.present l.lawful.fit p there (subst (λ g. IsLoose g p) drawn e.0))) e.1
-        | inr e ↦ told_runs_lawful.same_steps v1 h c [] _ x k d (sym (held_steps o.present l.lawful.fit p there (λ i. e.0 (subst (λ g. IsLoose g p) (sym drawn) i)))) e.1
+            told_runs_lawful.same_steps z h c (tidy_step p (drawn_graph z.graph h) ∷ []) _ x k d
+            (ap (λ g. tidy_step p g ∷ []) drawn_now ∙ sym (loose_steps o.present l.lawful.fit p there (subst (λ g. IsLoose g p) drawn_now e.0))) e.1
+        | inr e ↦ told_runs_lawful.same_steps z h c [] _ x k d (sym (held_steps o.present l.lawful.fit p there (λ i. e.0 (subst (λ g. IsLoose g p) (sym drawn_now) i)))) e.1
       ]
 
       pub unpin_told : IsToldRun v h b (steps (Unpin p) o.present) x k d
       unpin_told =
           told_runs_lawful.same_steps v h b (ClearPinAt p ∷ tidy_steps (missing_points (vertices o.present) (vertices (without_pin o.present p))) rest) _ x k d (sym (all_steps o.present l.lawful.fit p there))
-          (told_runs_lawful.follow v h b (ClearPinAt p ∷ []) (tidy_steps (missing_points (vertices o.present) (vertices (without_pin o.present p))) rest) v1 h c x k d (subst (λ y. IsToldRun v h b (ClearPinAt p ∷ []) y h c) is told) tidy_told)
+          (told_runs_lawful.follow v h b (ClearPinAt p ∷ []) (tidy_steps (missing_points (vertices o.present) (vertices (without_pin o.present p))) rest) z h c x k d told tidy_told)
 
-      pub unpin_layer : SameLayer r q → IsLayer x q × (layer_of x q ≡ layer_after (Unpin p) o)
+      pub unpin_layer : SameLayer r q → IsLayer x.graph q × (layer_of x.graph q ≡ layer_after (Unpin p) o)
       unfolding after
-      unpin_layer n = steps_make_layers (Unpin p) v r x q l accepted (told_runs_lawful.steps v h b (steps (Unpin p) o.present) x k d unpin_told) n.pieces n.names n.next
+      unpin_layer n = steps_make_layers (Unpin p) v.graph r x.graph q l accepted (told_runs_lawful.steps v h b (steps (Unpin p) o.present) x k d unpin_told) n.pieces n.names n.next

@@ -7,6 +7,7 @@ use Rattle.edit_steps.specs.Allowed.{AreSound}
 use Rattle.edit_steps.specs.Steps.{Step, missing_points, vertex_steps}
 use Rattle.slab_laws.specs.View.{View, pinned_in}
 use Rattle.arr_notes.specs.Curves.{Curves}
+use Rattle.arr_notes.specs.MapView.{MapView}
 use Rattle.dcel_records.specs.RecordsView.{RecordsView}
 use Rattle.dcel_records.specs.declared.spot.Spot.{Spot}
 use Rattle.dcel_records.specs.declared.spot.Spot.TheVariants.{Vertex}
@@ -53,5 +54,5 @@ abbrev pub MayBecomeVertex : Point → Graph → Type 0
 MayBecomeVertex p g = AreSound (new_vertex_steps p g) g
 
 -- the point has become a vertex, by just these steps, each told
-abbrev pub HasBecomeVertex : View → Curves → BusRow → Point → View → Curves → BusRow → Type 0
-HasBecomeVertex v h b p w k c = IsToldRun v h b (new_vertex_steps p (drawn_graph v h)) w k c
+abbrev pub HasBecomeVertex : MapView → Curves → BusRow → Point → MapView → Curves → BusRow → Type 0
+HasBecomeVertex m h b p w k c = IsToldRun m h b (new_vertex_steps p (drawn_graph m.graph h)) w k c

@@ -1,7 +1,7 @@
 ghost use Rattle.std.specs.Prelude.{◌≡◌, OnOk, OnErr};
 ghost use Rattle.edit_steps.specs.Edits.{Merge};
 ghost use Rattle.edit_steps.specs.Refusals.{merge_refusal, IsAnswerFor};
-ghost use Rattle.dcel_records.specs.RecordsView.{SameRecordCapacity};
+ghost use Rattle.dcel_records.specs.RecordsView.{SameRecordCapacity, tables_of};
 ghost use Rattle.dcel_records.specs.SoundMaps.{IsMapAtRest};
 ghost use Rattle.curve_history.specs.Past.{SameLayer, SameCurves, SameHistoryCapacity};
 ghost use Rattle.told_steps.specs.RecordLayers.{IsLayer};
@@ -51,6 +51,7 @@ pub fn merge_edge(
     ensures told { OnOk result (IsToldEdit (Merge r.now) records.old history.old (bus_row Observer-dyn bus.old) records.new history.new (bus_row Observer-dyn bus.new)) }
     ensures refused { IsAnswerFor merge_said (merge_refusal (layer_at records.old history.old) r.now) result }
     ensures graph { OnErr result (records.new.graph ≡ records.old.graph) }
+    ensures tables { OnErr result (tables_of records.new ≡ tables_of records.old) }
     ensures same_layer { OnErr result (SameLayer history.old history.new) }
     ensures same_curves { OnErr result (SameCurves history.old history.new) }
     ensures records_capacity { SameRecordCapacity records.old records.new }

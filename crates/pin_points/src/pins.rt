@@ -2,7 +2,7 @@ ghost use Rattle.std.specs.Prelude.{◌≡◌, ◌≢◌, length, nat_le, Err, I
 ghost use Rattle.std.specs.List.{filter};
 ghost use Rattle.edit_steps.specs.Edits.{Pin, Unpin};
 ghost use Rattle.edit_steps.specs.Refusals.{pin_refusal, unpin_refusal, IsAnswerFor};
-ghost use Rattle.dcel_records.specs.RecordsView.{SameRecordCapacity};
+ghost use Rattle.dcel_records.specs.RecordsView.{SameRecordCapacity, tables_of};
 ghost use Rattle.dcel_records.specs.Spots.{IsSpotOf};
 ghost use Rattle.dcel_records.specs.SoundMaps.{IsMapAtRest};
 ghost use Rattle.curve_history.specs.Past.{SameLayer, SameCurves, SameHistoryCapacity};
@@ -90,6 +90,7 @@ pub(crate) fn make_room(
     ensures room { OnOk result (HasRoomFor at records.new history.new) }
     ensures succeeds { HasRoomFor at records.old history.old → IsOk result }
     ensures graph { records.new.graph ≡ records.old.graph }
+    ensures tables { tables_of records.new ≡ tables_of records.old }
     ensures map { IsMapAtRest records.old → IsMapAtRest records.new }
     ensures layer { SameLayer history.old history.new }
     ensures curves { SameCurves history.old history.new }
@@ -127,6 +128,7 @@ pub fn pin(
     ensures refused { IsAnswerFor pin_said (pin_refusal pins (layer_at records.old history.old) p.now) result }
     ensures room { HasRoomFor at records.old history.old → result ≢ Err PinError.NoMemory }
     ensures graph { OnErr result (records.new.graph ≡ records.old.graph) }
+    ensures tables { OnErr result (tables_of records.new ≡ tables_of records.old) }
     ensures same_layer { OnErr result (SameLayer history.old history.new) }
     ensures same_curves { OnErr result (SameCurves history.old history.new) }
     ensures untold { OnErr result (bus_row Observer-dyn bus.new ≡ bus_row Observer-dyn bus.old) }
@@ -164,6 +166,7 @@ pub fn unpin(
     ensures told { OnOk result (IsToldEdit (Unpin p.now) records.old history.old (bus_row Observer-dyn bus.old) records.new history.new (bus_row Observer-dyn bus.new)) }
     ensures refused { IsAnswerFor unpin_said (unpin_refusal (layer_at records.old history.old) p.now) result }
     ensures graph { OnErr result (records.new.graph ≡ records.old.graph) }
+    ensures tables { OnErr result (tables_of records.new ≡ tables_of records.old) }
     ensures same_layer { OnErr result (SameLayer history.old history.new) }
     ensures same_curves { OnErr result (SameCurves history.old history.new) }
     ensures records_capacity { SameRecordCapacity records.old records.new }

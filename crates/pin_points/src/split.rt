@@ -3,6 +3,7 @@ ghost use Rattle.edit_steps.specs.Refusals.{IsAnswerFor};
 ghost use Rattle.slab_laws.specs.Skeleton.{inside};
 ghost use Rattle.slab_laws.specs.Sound.{IsGraphSound, edge_in};
 ghost use Rattle.arr_notes.specs.Curves.{IsForward};
+ghost use Rattle.dcel_records.specs.RecordsView.{tables_of};
 ghost use Rattle.dcel_records.specs.SoundMaps.{IsMapAtRest};
 ghost use Rattle.curve_history.specs.Past.{SameLayer, SameCurves};
 ghost use Rattle.told_steps.specs.RecordLayers.{IsLayer};
@@ -84,6 +85,7 @@ pub fn split_edge(
     ensures refused { IsAnswerFor split_said (split_refusal_at pins records.old history.old p.now q.now r.now) result }
     ensures room { HasRoomToSplit records.old history.old p.now q.now → result ≢ Err SplitError.NoMemory }
     ensures graph { OnErr result (records.new.graph ≡ records.old.graph) }
+    ensures tables { OnErr result (tables_of records.new ≡ tables_of records.old) }
     ensures same_layer { OnErr result (SameLayer history.old history.new) }
     ensures same_curves { OnErr result (SameCurves history.old history.new) }
     ensures untold { OnErr result (bus_row Observer-dyn bus.new ≡ bus_row Observer-dyn bus.old) }

@@ -93,7 +93,7 @@ if_kept (Err y) e a b o k apart h n l w = record { current = record { limits = l
 
 -- ---- observers
 pub same_layer : (a b : Arranged) → IsSameLayer a b → layer_in b ≡ layer_in a
-same_layer a b h = λ i. layer_in (record { graph = h.graph i; past = h.past i; limits = b.limits; bus = b.bus })
+same_layer a b h = λ i. layer_in (record { graph = h.graph i; faces = h.faces i; past = h.past i; limits = b.limits; bus = b.bus })
 
 pub same_half : (a b : Arranged) → IsSameLayer a b → b.bus ≡ a.bus → half_in b ≡ half_in a
 same_half a b l h = λ i. record { layer = same_layer a b l i; seats = map seat_row (h i).seats }

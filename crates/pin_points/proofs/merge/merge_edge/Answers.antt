@@ -1,5 +1,6 @@
 use Rattle.std.proofs.Common.{refl, sym, ◌∙◌}
 use Rattle.edit_steps.proofs.Refusals.{merge_without, merge_barred, merge_allowed}
+use Rattle.dcel_records.specs.SoundMaps.{map_of}
 use Rattle.curve_history.specs.Past.{curves_on}
 use Rattle.told_steps.specs.RecordLayers.{layer_of}
 use Rattle.told_steps.proofs.Begun.{begun_in_step, told_of_edit}
@@ -15,8 +16,9 @@ returns-in_default g c = record {
   watched = c.requires.watched;
   edit = tt;
   told = tt;
-  refused = merge_without (layer_of c.args.records.now.graph c.args.history.now) c.args.r.now (no_vertex c.args.records.now.graph c.args.history.now c.requires.layer c.args.r.now c.in_default.ensures);
+  refused = merge_without (layer_of c.args.records.now.graph c.args.history.now) c.args.r.now (no_vertex (map_of c.args.records.now) c.args.history.now c.requires.layer c.args.r.now c.in_default.ensures);
   graph = refl;
+  tables = refl;
   same_layer = layer_kept _;
   same_curves = λ d. refl;
   records_capacity = records_kept _;
@@ -34,9 +36,10 @@ returns-then-not-pinned g c = record {
   watched = c.requires.watched;
   edit = tt;
   told = tt;
-  refused = merge_barred (layer_of c.args.records.now.graph c.args.history.now) c.args.r.now (is_vertex c.args.records.now.graph c.args.history.now c.requires.layer c.args.r.now c.in-Some.vertex c.in-Some.ensures.0 c.in-Some.ensures.1)
-      (not_pinned c.args.records.now.graph c.args.history.now c.requires.layer c.args.r.now c.in-Some.vertex c.in-Some.ensures.0 c.in-Some.ensures.1 (sym c.pinned.ensures ∙ c.if-not-pinned.true));
+  refused = merge_barred (layer_of c.args.records.now.graph c.args.history.now) c.args.r.now (is_vertex (map_of c.args.records.now) c.args.history.now c.requires.layer c.args.r.now c.in-Some.vertex c.in-Some.ensures.0 c.in-Some.ensures.1)
+      (not_pinned (map_of c.args.records.now) c.args.history.now c.requires.layer c.args.r.now c.in-Some.vertex c.in-Some.ensures.0 c.in-Some.ensures.1 (sym c.pinned.ensures ∙ c.if-not-pinned.true));
   graph = refl;
+  tables = refl;
   same_layer = layer_kept _;
   same_curves = λ d. refl;
   records_capacity = records_kept _;
@@ -54,9 +57,10 @@ returns-then-not-is_mergeable g c = record {
   watched = c.requires.watched;
   edit = tt;
   told = tt;
-  refused = merge_barred (layer_of c.args.records.now.graph c.args.history.now) c.args.r.now (is_vertex c.args.records.now.graph c.args.history.now c.requires.layer c.args.r.now c.in-Some.vertex c.in-Some.ensures.0 c.in-Some.ensures.1)
-      (not_passed c.args.records.now.graph c.args.history.now c.requires.layer c.args.r.now c.in-Some.vertex c.in-Some.ensures.0 c.in-Some.ensures.1 (c.is_mergeable.ensures.not_passed c.if-not-is_mergeable.true));
+  refused = merge_barred (layer_of c.args.records.now.graph c.args.history.now) c.args.r.now (is_vertex (map_of c.args.records.now) c.args.history.now c.requires.layer c.args.r.now c.in-Some.vertex c.in-Some.ensures.0 c.in-Some.ensures.1)
+      (not_passed (map_of c.args.records.now) c.args.history.now c.requires.layer c.args.r.now c.in-Some.vertex c.in-Some.ensures.0 c.in-Some.ensures.1 (c.is_mergeable.ensures.not_passed c.if-not-is_mergeable.true));
   graph = refl;
+  tables = refl;
   same_layer = layer_kept _;
   same_curves = λ d. refl;
   records_capacity = records_kept _;
@@ -66,9 +70,9 @@ returns-then-not-is_mergeable g c = record {
 
 pub clear_pin-requires : goal.clear_pin-requires
 clear_pin-requires g c =
-    let v = c.args.records.now.graph in
+    let v = map_of c.args.records.now in
     let r = c.args.history.now in record {
-      in_step = begun_in_step v r v r refl (λ d. refl) c.begin.ensures.begun c.requires.layer c.requires.watched;
+      in_step = begun_in_step v r v r refl (λ d. refl) c.begin.ensures.begun c.requires.map.map.sound c.requires.layer c.requires.watched;
       map = c.requires.map;
       vertex = c.in-Some.ensures.0;
     }
@@ -77,25 +81,26 @@ pub remove_if_redundant-requires : goal.remove_if_redundant-requires
 remove_if_redundant-requires g c = record {
   in_step = c.clear_pin.ensures.in_step;
   map = c.clear_pin.ensures.map;
-  vertex = clear_has c.args.records.now.graph c.args.history.now c.requires.layer c.in-Some.vertex c.in-Some.ensures.0 (sym c.pinned.ensures ∙ c.if-not-pinned.false) c.clear_pin.new.records.graph c.clear_pin.ensures.graph;
-  unpinned = clear_unpinned c.args.records.now.graph c.args.history.now c.requires.layer c.in-Some.vertex c.in-Some.ensures.0 (sym c.pinned.ensures ∙ c.if-not-pinned.false) c.clear_pin.new.records.graph c.clear_pin.ensures.graph;
+  vertex = clear_has (map_of c.args.records.now) c.args.history.now c.requires.layer c.in-Some.vertex c.in-Some.ensures.0 (sym c.pinned.ensures ∙ c.if-not-pinned.false) (map_of c.clear_pin.new.records) c.clear_pin.ensures.graph;
+  unpinned = clear_unpinned (map_of c.args.records.now) c.args.history.now c.requires.layer c.in-Some.vertex c.in-Some.ensures.0 (sym c.pinned.ensures ∙ c.if-not-pinned.false) (map_of c.clear_pin.new.records) c.clear_pin.ensures.graph;
 }
 
 pub returns : goal.returns
 returns g c =
-    let v = c.args.records.now.graph in
+    let v = map_of c.args.records.now in
     let r = c.args.history.now in
-    let x = c.remove_if_redundant.new.records.graph in
+    let x = map_of c.remove_if_redundant.new.records in
     let q = c.remove_if_redundant.new.history in
-    let after = merge_layer v r c.requires.layer c.args.r.now c.in-Some.vertex c.in-Some.ensures.0 c.in-Some.ensures.1 (sym c.pinned.ensures ∙ c.if-not-pinned.false) (c.is_mergeable.ensures.passed c.if-not-is_mergeable.false) c.clear_pin.new.records.graph c.clear_pin.ensures.graph _ _ c.clear_pin.ensures.told x q _ c.remove_if_redundant.ensures.tidied c.remove_if_redundant.ensures.layer in record {
+    let after = merge_layer v r c.requires.layer c.args.r.now c.in-Some.vertex c.in-Some.ensures.0 c.in-Some.ensures.1 (sym c.pinned.ensures ∙ c.if-not-pinned.false) (c.is_mergeable.ensures.passed c.if-not-is_mergeable.false) (map_of c.clear_pin.new.records) c.clear_pin.ensures.graph _ _ c.clear_pin.ensures.told x q _ c.remove_if_redundant.ensures.tidied c.remove_if_redundant.ensures.layer in record {
       layer = after.0;
       map = c.remove_if_redundant.ensures.map;
       watched = c.remove_if_redundant.ensures.in_step.holds;
       edit = after.1;
       told = told_of_edit v r v r refl (λ d. refl) c.begin.ensures.begun _ x (curves_on q) _
-          (merge_told v r c.requires.layer c.args.r.now c.in-Some.vertex c.in-Some.ensures.0 c.in-Some.ensures.1 (sym c.pinned.ensures ∙ c.if-not-pinned.false) (c.is_mergeable.ensures.passed c.if-not-is_mergeable.false) c.clear_pin.new.records.graph c.clear_pin.ensures.graph _ _ c.clear_pin.ensures.told x q _ c.remove_if_redundant.ensures.tidied);
-      refused = merge_allowed (layer_of c.args.records.now.graph c.args.history.now) c.args.r.now (is_vertex c.args.records.now.graph c.args.history.now c.requires.layer c.args.r.now c.in-Some.vertex c.in-Some.ensures.0 c.in-Some.ensures.1) (can_merge c.args.records.now.graph c.args.history.now c.requires.layer c.args.r.now c.in-Some.vertex c.in-Some.ensures.0 c.in-Some.ensures.1 (sym c.pinned.ensures ∙ c.if-not-pinned.false) (c.is_mergeable.ensures.passed c.if-not-is_mergeable.false));
+          (merge_told v r c.requires.layer c.args.r.now c.in-Some.vertex c.in-Some.ensures.0 c.in-Some.ensures.1 (sym c.pinned.ensures ∙ c.if-not-pinned.false) (c.is_mergeable.ensures.passed c.if-not-is_mergeable.false) (map_of c.clear_pin.new.records) c.clear_pin.ensures.graph _ _ c.clear_pin.ensures.told x q _ c.remove_if_redundant.ensures.tidied);
+      refused = merge_allowed (layer_of c.args.records.now.graph c.args.history.now) c.args.r.now (is_vertex (map_of c.args.records.now) c.args.history.now c.requires.layer c.args.r.now c.in-Some.vertex c.in-Some.ensures.0 c.in-Some.ensures.1) (can_merge (map_of c.args.records.now) c.args.history.now c.requires.layer c.args.r.now c.in-Some.vertex c.in-Some.ensures.0 c.in-Some.ensures.1 (sym c.pinned.ensures ∙ c.if-not-pinned.false) (c.is_mergeable.ensures.passed c.if-not-is_mergeable.false));
       graph = tt;
+      tables = tt;
       same_layer = tt;
       same_curves = tt;
       records_capacity = records_fit _ _ _ _ _ c.clear_pin.ensures.spare c.remove_if_redundant.ensures.records_capacity;

@@ -2,6 +2,7 @@ use Rattle.std.proofs.Common.{refl, sym, ap, ◌∙◌}
 use Rattle.edit_steps.specs.Edits.{Unpin, steps}
 use Rattle.edit_steps.specs.Layer.{layer_after}
 use Rattle.edit_steps.proofs.Refusals.{unpin_none, unpin_allowed}
+use Rattle.dcel_records.specs.SoundMaps.{map_of}
 use Rattle.curve_history.specs.Past.{curves_on}
 use Rattle.told_steps.specs.RecordLayers.{layer_of}
 use Rattle.told_steps.proofs.Begun.{begun_in_step, told_of_edit}
@@ -20,6 +21,7 @@ returns-in_default g c = record {
   told = tt;
   refused = unpin_none (layer_of c.args.records.now.graph c.args.history.now) c.args.p.now (none_pinned c.args.records.now.graph (curves_on c.args.history.now) c.requires.layer.sound c.args.p.now c.in_default.ensures);
   graph = refl;
+  tables = refl;
   same_layer = layer_kept _;
   same_curves = λ d. refl;
   records_capacity = records_kept _;
@@ -40,6 +42,7 @@ returns-then-not-pinned g c =
       told = tt;
       refused = unpin_none (layer_of c.args.records.now.graph c.args.history.now) c.args.p.now (pinned_vertex c.args.records.now.graph (curves_on c.args.history.now) c.requires.layer.sound c.args.p.now c.in-Some.vertex e.0 e.1 ∙ sym c.pinned.ensures ∙ c.if-not-pinned.true);
       graph = refl;
+      tables = refl;
       same_layer = layer_kept _;
       same_curves = λ d. refl;
       records_capacity = records_kept _;
@@ -49,9 +52,9 @@ returns-then-not-pinned g c =
 
 pub clear_pin-requires : goal.clear_pin-requires
 clear_pin-requires g c =
-    let v = c.args.records.now.graph in
+    let v = map_of c.args.records.now in
     let r = c.args.history.now in record {
-      in_step = begun_in_step v r v r refl (λ d. refl) c.begin.ensures.begun c.requires.layer c.requires.watched;
+      in_step = begun_in_step v r v r refl (λ d. refl) c.begin.ensures.begun c.requires.map.map.sound c.requires.layer c.requires.watched;
       map = c.requires.map;
       vertex = c.in-Some.ensures.0;
     }
@@ -60,27 +63,28 @@ pub remove_if_redundant-requires : goal.remove_if_redundant-requires
 remove_if_redundant-requires g c = record {
   in_step = c.clear_pin.ensures.in_step;
   map = c.clear_pin.ensures.map;
-  vertex = clear_has c.args.records.now.graph c.args.history.now c.requires.layer c.in-Some.vertex c.in-Some.ensures.0 (sym c.pinned.ensures ∙ c.if-not-pinned.false) c.clear_pin.new.records.graph c.clear_pin.ensures.graph;
-  unpinned = clear_unpinned c.args.records.now.graph c.args.history.now c.requires.layer c.in-Some.vertex c.in-Some.ensures.0 (sym c.pinned.ensures ∙ c.if-not-pinned.false) c.clear_pin.new.records.graph c.clear_pin.ensures.graph;
+  vertex = clear_has (map_of c.args.records.now) c.args.history.now c.requires.layer c.in-Some.vertex c.in-Some.ensures.0 (sym c.pinned.ensures ∙ c.if-not-pinned.false) (map_of c.clear_pin.new.records) c.clear_pin.ensures.graph;
+  unpinned = clear_unpinned (map_of c.args.records.now) c.args.history.now c.requires.layer c.in-Some.vertex c.in-Some.ensures.0 (sym c.pinned.ensures ∙ c.if-not-pinned.false) (map_of c.clear_pin.new.records) c.clear_pin.ensures.graph;
 }
 
 pub returns : goal.returns
 returns g c =
-    let v = c.args.records.now.graph in
+    let v = map_of c.args.records.now in
     let r = c.args.history.now in
-    let x = c.remove_if_redundant.new.records.graph in
+    let x = map_of c.remove_if_redundant.new.records in
     let q = c.remove_if_redundant.new.history in
     let e = c.in-Some.ensures in
-    let after = unpin_layer v r c.requires.layer c.in-Some.vertex c.in-Some.ensures.0 (sym c.pinned.ensures ∙ c.if-not-pinned.false) c.clear_pin.new.records.graph c.clear_pin.ensures.graph _ _ c.clear_pin.ensures.told x q _ c.remove_if_redundant.ensures.tidied c.remove_if_redundant.ensures.layer in record {
+    let after = unpin_layer v r c.requires.layer c.in-Some.vertex c.in-Some.ensures.0 (sym c.pinned.ensures ∙ c.if-not-pinned.false) (map_of c.clear_pin.new.records) c.clear_pin.ensures.graph _ _ c.clear_pin.ensures.told x q _ c.remove_if_redundant.ensures.tidied c.remove_if_redundant.ensures.layer in record {
       layer = after.0;
       map = c.remove_if_redundant.ensures.map;
       watched = c.remove_if_redundant.ensures.in_step.holds;
-      edit = after.1 ∙ ap (λ z. layer_after (Unpin z) (layer_of v r)) c.in-Some.ensures.1;
+      edit = after.1 ∙ ap (λ z. layer_after (Unpin z) (layer_of v.graph r)) c.in-Some.ensures.1;
       told = told_of_edit v r v r refl (λ d. refl) c.begin.ensures.begun _ x (curves_on q) _
-          (told_runs_lawful.same_steps v (curves_on r) _ _ _ x (curves_on q) _ (ap (λ z. steps (Unpin z) (layer_of v r).present) c.in-Some.ensures.1)
-          (unpin_told v r c.requires.layer c.in-Some.vertex c.in-Some.ensures.0 (sym c.pinned.ensures ∙ c.if-not-pinned.false) c.clear_pin.new.records.graph c.clear_pin.ensures.graph _ _ c.clear_pin.ensures.told x q _ c.remove_if_redundant.ensures.tidied));
+          (told_runs_lawful.same_steps v (curves_on r) _ _ _ x (curves_on q) _ (ap (λ z. steps (Unpin z) (layer_of v.graph r).present) c.in-Some.ensures.1)
+          (unpin_told v r c.requires.layer c.in-Some.vertex c.in-Some.ensures.0 (sym c.pinned.ensures ∙ c.if-not-pinned.false) (map_of c.clear_pin.new.records) c.clear_pin.ensures.graph _ _ c.clear_pin.ensures.told x q _ c.remove_if_redundant.ensures.tidied));
       refused = unpin_allowed (layer_of c.args.records.now.graph c.args.history.now) c.args.p.now (pinned_vertex c.args.records.now.graph (curves_on c.args.history.now) c.requires.layer.sound c.args.p.now c.in-Some.vertex e.0 e.1 ∙ sym c.pinned.ensures ∙ c.if-not-pinned.false);
       graph = tt;
+      tables = tt;
       same_layer = tt;
       same_curves = tt;
       records_capacity = records_fit _ _ _ _ _ c.clear_pin.ensures.spare c.remove_if_redundant.ensures.records_capacity;

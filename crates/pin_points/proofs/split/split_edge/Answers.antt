@@ -4,6 +4,7 @@ use Rattle.edit_steps.specs.Steps.{SplitEdge}
 use Rattle.edit_steps.proofs.Refusals.{no_memory, split_without, split_outside, split_full, split_allowed}
 use Rattle.slab_laws.specs.Sound.{edge_between}
 use Rattle.slab_laws.specs.View.{point_in, source_in, target_in}
+use Rattle.dcel_records.specs.SoundMaps.{map_of}
 use Rattle.curve_history.specs.Past.{curves_on}
 use Rattle.edge_split_merge.specs.Splits.{CanSplit}
 use Rattle.told_steps.specs.RecordLayers.{layer_of}
@@ -13,7 +14,7 @@ use Rattle.pin_points.specs.declared.split.SplitError.{SplitError}
 use Rattle.pin_points.specs.declared.split.SplitError.TheVariants.{NoEdge, NotInside, Full, NoMemory}
 use Rattle.observer_bus.proofs.Heard.{not_ok}
 use Rattle.pin_points.proofs.Outcomes.{layer_kept, not_both, on_err}
-use Rattle.told_steps.proofs.Begun.{begun_in_step, still_watched, told_of_edit}
+use Rattle.told_steps.proofs.Begun.{begun_in_step, one_map, still_watched, told_of_edit}
 use Rattle.told_steps.proofs.ToldTogether.{told_runs_lawful}
 use Rattle.pin_points.proofs.Splitting.{no_edge, is_edge, is_inside, not_inside, limit_met, split_told, split_layer}
 use Rattle.pin_points.proofs.split.split_edge.Goals as goal
@@ -39,9 +40,10 @@ returns-in_default g c = record {
   watched = c.requires.watched;
   edit = tt;
   told = tt;
-  refused = split_without c.args.pins (layer_of c.args.records.now.graph c.args.history.now) (edge_between c.args.p.now c.args.q.now).low (edge_between c.args.p.now c.args.q.now).high c.args.r.now (no_edge c.args.records.now.graph c.args.history.now c.requires.layer (edge_between c.args.p.now c.args.q.now) c.in_default.ensures);
+  refused = split_without c.args.pins (layer_of c.args.records.now.graph c.args.history.now) (edge_between c.args.p.now c.args.q.now).low (edge_between c.args.p.now c.args.q.now).high c.args.r.now (no_edge (map_of c.args.records.now) c.args.history.now c.requires.layer (edge_between c.args.p.now c.args.q.now) c.in_default.ensures);
   room = λ room is. other _ tt is;
   graph = refl;
+  tables = refl;
   same_layer = layer_kept _;
   same_curves = λ d. refl;
   untold = refl;
@@ -57,10 +59,11 @@ returns-then-not-is_inside g c = record {
   watched = c.requires.watched;
   edit = tt;
   told = tt;
-  refused = split_outside c.args.pins (layer_of c.args.records.now.graph c.args.history.now) (edge_between c.args.p.now c.args.q.now).low (edge_between c.args.p.now c.args.q.now).high c.args.r.now (is_edge c.args.records.now.graph c.args.history.now c.requires.layer (edge_between c.args.p.now c.args.q.now) c.in-Some.dart c.in-Some.ensures)
-      (not_inside c.args.records.now.graph c.args.history.now c.requires.layer (edge_between c.args.p.now c.args.q.now) c.in-Some.dart c.in-Some.ensures c.args.r.now (point_is_proper c.args.r.now c.laws.ensures) (sym c.is_inside.ensures ∙ c.if-not-is_inside.true));
+  refused = split_outside c.args.pins (layer_of c.args.records.now.graph c.args.history.now) (edge_between c.args.p.now c.args.q.now).low (edge_between c.args.p.now c.args.q.now).high c.args.r.now (is_edge (map_of c.args.records.now) c.args.history.now c.requires.layer (edge_between c.args.p.now c.args.q.now) c.in-Some.dart c.in-Some.ensures)
+      (not_inside (map_of c.args.records.now) c.args.history.now c.requires.layer (edge_between c.args.p.now c.args.q.now) c.in-Some.dart c.in-Some.ensures c.args.r.now (point_is_proper c.args.r.now c.laws.ensures) (sym c.is_inside.ensures ∙ c.if-not-is_inside.true));
   room = λ room is. other _ tt is;
   graph = refl;
+  tables = refl;
   same_layer = layer_kept _;
   same_curves = λ d. refl;
   untold = refl;
@@ -73,10 +76,11 @@ returns-then-is_full g c = record {
   watched = c.requires.watched;
   edit = tt;
   told = tt;
-  refused = split_full c.args.pins (layer_of c.args.records.now.graph c.args.history.now) (edge_between c.args.p.now c.args.q.now).low (edge_between c.args.p.now c.args.q.now).high c.args.r.now (is_edge c.args.records.now.graph c.args.history.now c.requires.layer (edge_between c.args.p.now c.args.q.now) c.in-Some.dart c.in-Some.ensures)
-      (is_inside c.args.records.now.graph c.args.history.now c.requires.layer (edge_between c.args.p.now c.args.q.now) c.in-Some.dart c.in-Some.ensures c.args.r.now (point_is_proper c.args.r.now c.laws.ensures) (sym c.is_inside.ensures ∙ c.if-not-is_inside.false)) (limit_met c.args.records.now.graph c.args.history.now c.requires.layer (edge_between c.args.p.now c.args.q.now) c.args.pins c.args.r.now (point_is_proper c.args.r.now c.laws.ensures) _ (sym c.is_full.ensures ∙ c.if-is_full.true));
+  refused = split_full c.args.pins (layer_of c.args.records.now.graph c.args.history.now) (edge_between c.args.p.now c.args.q.now).low (edge_between c.args.p.now c.args.q.now).high c.args.r.now (is_edge (map_of c.args.records.now) c.args.history.now c.requires.layer (edge_between c.args.p.now c.args.q.now) c.in-Some.dart c.in-Some.ensures)
+      (is_inside (map_of c.args.records.now) c.args.history.now c.requires.layer (edge_between c.args.p.now c.args.q.now) c.in-Some.dart c.in-Some.ensures c.args.r.now (point_is_proper c.args.r.now c.laws.ensures) (sym c.is_inside.ensures ∙ c.if-not-is_inside.false)) (limit_met (map_of c.args.records.now) c.args.history.now c.requires.layer (edge_between c.args.p.now c.args.q.now) c.args.pins c.args.r.now (point_is_proper c.args.r.now c.laws.ensures) _ (sym c.is_full.ensures ∙ c.if-is_full.true));
   room = λ room is. other _ tt is;
   graph = refl;
+  tables = refl;
   same_layer = layer_kept _;
   same_curves = λ d. refl;
   untold = refl;
@@ -88,13 +92,14 @@ returns-in_err-make_room g c =
     let back = c.from_residual.result in record {
       layer = layer_stays c.args.records.now.graph c.make_room.new.records.graph c.args.history.now c.make_room.new.history m.graph m.layer m.curves c.requires.layer;
       map = c.make_room.ensures.map c.requires.map;
-      watched = still_watched c.args.records.now.graph c.args.history.now c.make_room.new.records.graph c.make_room.new.history c.make_room.ensures.graph c.make_room.ensures.curves _ c.requires.watched;
+      watched = still_watched (map_of c.args.records.now) c.args.history.now (map_of c.make_room.new.records) c.make_room.new.history (one_map c.make_room.new.records c.args.records.now c.make_room.ensures.graph c.make_room.ensures.tables) c.make_room.ensures.curves _ c.requires.watched;
       edit = not_ok back _ _ c.from_residual.ensures.1;
       told = not_ok back _ _ c.from_residual.ensures.1;
-      refused = no_memory split_said NoMemory _ c.from_residual.result c.from_residual.ensures.1 refl (split_allowed c.args.pins (layer_of c.args.records.now.graph c.args.history.now) (edge_between c.args.p.now c.args.q.now).low (edge_between c.args.p.now c.args.q.now).high c.args.r.now (is_edge c.args.records.now.graph c.args.history.now c.requires.layer (edge_between c.args.p.now c.args.q.now) c.in-Some.dart c.in-Some.ensures)
-          (is_inside c.args.records.now.graph c.args.history.now c.requires.layer (edge_between c.args.p.now c.args.q.now) c.in-Some.dart c.in-Some.ensures c.args.r.now (point_is_proper c.args.r.now c.laws.ensures) (sym c.is_inside.ensures ∙ c.if-not-is_inside.false)) (limit_met c.args.records.now.graph c.args.history.now c.requires.layer (edge_between c.args.p.now c.args.q.now) c.args.pins c.args.r.now (point_is_proper c.args.r.now c.laws.ensures) _ (sym c.is_full.ensures ∙ c.if-is_full.false)));
+      refused = no_memory split_said NoMemory _ c.from_residual.result c.from_residual.ensures.1 refl (split_allowed c.args.pins (layer_of c.args.records.now.graph c.args.history.now) (edge_between c.args.p.now c.args.q.now).low (edge_between c.args.p.now c.args.q.now).high c.args.r.now (is_edge (map_of c.args.records.now) c.args.history.now c.requires.layer (edge_between c.args.p.now c.args.q.now) c.in-Some.dart c.in-Some.ensures)
+          (is_inside (map_of c.args.records.now) c.args.history.now c.requires.layer (edge_between c.args.p.now c.args.q.now) c.in-Some.dart c.in-Some.ensures c.args.r.now (point_is_proper c.args.r.now c.laws.ensures) (sym c.is_inside.ensures ∙ c.if-not-is_inside.false)) (limit_met (map_of c.args.records.now) c.args.history.now c.requires.layer (edge_between c.args.p.now c.args.q.now) c.args.pins c.args.r.now (point_is_proper c.args.r.now c.laws.ensures) _ (sym c.is_full.ensures ∙ c.if-is_full.false)));
       room = λ room. absurd (not_both c.make_room.result _ (m.succeeds (room c.in-Some.dart c.in-Some.ensures)) c.in_err-make_room.was);
       graph = on_err back _ m.graph;
+      tables = on_err back _ m.tables;
       same_layer = on_err back _ m.layer;
       same_curves = on_err back _ m.curves;
       untold = on_err back _ refl;
@@ -104,7 +109,7 @@ pub split_edge-vertex-requires : goal.split_edge-vertex-requires
 split_edge-vertex-requires g c =
     let a = c.in-Some.ensures in
     let m = c.make_room.ensures in record {
-      in_step = begun_in_step c.args.records.now.graph c.args.history.now c.make_room.new.records.graph c.make_room.new.history c.make_room.ensures.graph c.make_room.ensures.curves c.begin.ensures.begun c.requires.layer c.requires.watched;
+      in_step = begun_in_step (map_of c.args.records.now) c.args.history.now (map_of c.make_room.new.records) c.make_room.new.history (one_map c.make_room.new.records c.args.records.now c.make_room.ensures.graph c.make_room.ensures.tables) c.make_room.ensures.curves c.begin.ensures.begun c.requires.map.map.sound c.requires.layer c.requires.watched;
       map = c.make_room.ensures.map c.requires.map;
       fits = subst (λ z. CanSplit z c.in-Some.dart c.args.r.now) (sym c.make_room.ensures.graph) (record { dart = a.forward.0; forward = a.forward.1; inside_edge = sym c.is_inside.ensures ∙ c.if-not-is_inside.false });
       vertices = c.in_ok-make_room.ensures.room.vertices;
@@ -117,24 +122,25 @@ set_pin-requires g c = record { in_step = c.split_edge-vertex.ensures.in_step; m
 
 pub returns : goal.returns
 returns g c =
-    let v = c.args.records.now.graph in
+    let v = map_of c.args.records.now in
     let r = c.args.history.now in
     let p = c.args.r.now in
     let m = c.make_room.ensures in
-    let x = c.split_edge-vertex.new.records.graph in
+    let x = map_of c.split_edge-vertex.new.records in
     let k = curves_on c.split_edge-vertex.new.history in
-    let here = told_of_edit v r c.make_room.new.records.graph c.make_room.new.history m.graph m.curves c.begin.ensures.begun _ x k _ c.split_edge-vertex.ensures.told in
+    let here = told_of_edit v r (map_of c.make_room.new.records) c.make_room.new.history (one_map c.make_room.new.records c.args.records.now c.make_room.ensures.graph c.make_room.ensures.tables) m.curves c.begin.ensures.begun _ x k _ c.split_edge-vertex.ensures.told in
     let there = told_runs_lawful.same_steps v (curves_on r) _ _ _ x k _ (ap (λ z. SplitEdge (point_in z (source_in z c.in-Some.dart)) (point_in z (target_in z c.in-Some.dart)) p ∷ []) m.graph) here in
-    let after = split_layer v r c.requires.layer (edge_between c.args.p.now c.args.q.now) c.in-Some.dart c.in-Some.ensures p (point_is_proper p c.laws.ensures) (sym c.is_inside.ensures ∙ c.if-not-is_inside.false) _ x k _ there c.split_edge-vertex.result c.split_edge-vertex.ensures.vertex c.set_pin.new.records.graph c.split_edge-vertex.new.history _ c.set_pin.ensures.told (same_layers r c.make_room.new.history c.split_edge-vertex.new.history m.layer c.split_edge-vertex.ensures.layer) in record {
+    let after = split_layer v r c.requires.layer (edge_between c.args.p.now c.args.q.now) c.in-Some.dart c.in-Some.ensures p (point_is_proper p c.laws.ensures) (sym c.is_inside.ensures ∙ c.if-not-is_inside.false) _ x k _ there c.split_edge-vertex.result c.split_edge-vertex.ensures.vertex (map_of c.set_pin.new.records) c.split_edge-vertex.new.history _ c.set_pin.ensures.told (same_layers r c.make_room.new.history c.split_edge-vertex.new.history m.layer c.split_edge-vertex.ensures.layer) in record {
       layer = after.0;
       map = c.set_pin.ensures.map;
       watched = c.set_pin.ensures.in_step.holds;
       edit = after.1;
-      told = split_told v r c.requires.layer (edge_between c.args.p.now c.args.q.now) c.in-Some.dart c.in-Some.ensures p (point_is_proper p c.laws.ensures) (sym c.is_inside.ensures ∙ c.if-not-is_inside.false) _ x k _ there c.split_edge-vertex.result c.split_edge-vertex.ensures.vertex c.set_pin.new.records.graph c.split_edge-vertex.new.history _ c.set_pin.ensures.told;
-      refused = split_allowed c.args.pins (layer_of c.args.records.now.graph c.args.history.now) (edge_between c.args.p.now c.args.q.now).low (edge_between c.args.p.now c.args.q.now).high c.args.r.now (is_edge c.args.records.now.graph c.args.history.now c.requires.layer (edge_between c.args.p.now c.args.q.now) c.in-Some.dart c.in-Some.ensures)
-          (is_inside c.args.records.now.graph c.args.history.now c.requires.layer (edge_between c.args.p.now c.args.q.now) c.in-Some.dart c.in-Some.ensures c.args.r.now (point_is_proper c.args.r.now c.laws.ensures) (sym c.is_inside.ensures ∙ c.if-not-is_inside.false)) (limit_met c.args.records.now.graph c.args.history.now c.requires.layer (edge_between c.args.p.now c.args.q.now) c.args.pins c.args.r.now (point_is_proper c.args.r.now c.laws.ensures) _ (sym c.is_full.ensures ∙ c.if-is_full.false));
+      told = split_told v r c.requires.layer (edge_between c.args.p.now c.args.q.now) c.in-Some.dart c.in-Some.ensures p (point_is_proper p c.laws.ensures) (sym c.is_inside.ensures ∙ c.if-not-is_inside.false) _ x k _ there c.split_edge-vertex.result c.split_edge-vertex.ensures.vertex (map_of c.set_pin.new.records) c.split_edge-vertex.new.history _ c.set_pin.ensures.told;
+      refused = split_allowed c.args.pins (layer_of c.args.records.now.graph c.args.history.now) (edge_between c.args.p.now c.args.q.now).low (edge_between c.args.p.now c.args.q.now).high c.args.r.now (is_edge (map_of c.args.records.now) c.args.history.now c.requires.layer (edge_between c.args.p.now c.args.q.now) c.in-Some.dart c.in-Some.ensures)
+          (is_inside (map_of c.args.records.now) c.args.history.now c.requires.layer (edge_between c.args.p.now c.args.q.now) c.in-Some.dart c.in-Some.ensures c.args.r.now (point_is_proper c.args.r.now c.laws.ensures) (sym c.is_inside.ensures ∙ c.if-not-is_inside.false)) (limit_met (map_of c.args.records.now) c.args.history.now c.requires.layer (edge_between c.args.p.now c.args.q.now) c.args.pins c.args.r.now (point_is_proper c.args.r.now c.laws.ensures) _ (sym c.is_full.ensures ∙ c.if-is_full.false));
       room = λ room is. other _ tt is;
       graph = tt;
+      tables = tt;
       same_layer = tt;
       same_curves = tt;
       untold = tt;

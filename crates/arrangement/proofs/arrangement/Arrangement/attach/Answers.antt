@@ -22,6 +22,6 @@ returns g c =
       back = c.attach.ensures.back;
       err = c.attach.ensures.err;
       attached = attached;
-      layer = record { graph = refl; past = refl; limits = refl };
+      layer = record { graph = refl; faces = refl; past = refl; limits = refl };
       watched = attached_watched c.attach.result _ _ _ _ c.attach.ensures.err attached;
     })

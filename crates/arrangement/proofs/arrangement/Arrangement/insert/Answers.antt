@@ -16,7 +16,7 @@ returns g c = rw (← c.self.view_is) (record {
   number = c.insert.ensures.number;
   edit = edited_by _ _ c.insert.result _ (λ n. Insert n c.args.segment) c.self.invariant.0 c.insert.ensures.number c.insert.ensures.edit c.insert.ensures.told;
   refused = c.insert.ensures.refused;
-  as_before = as_before _ _ c.insert.result c.insert.ensures.graph c.insert.ensures.same_layer c.insert.ensures.same_curves c.insert.ensures.untold;
+  as_before = as_before _ _ c.insert.result c.insert.ensures.graph c.insert.ensures.tables c.insert.ensures.same_layer c.insert.ensures.same_curves c.insert.ensures.untold;
   limits = refl;
   watched = c.insert.ensures.watched;
 })

@@ -7,6 +7,6 @@ returns g c = record {
   seated = c.leave.ensures.seated;
   err = c.leave.ensures.err;
   left = c.leave.ensures.left;
-  layer = record { graph = refl; past = refl; limits = refl };
+  layer = record { graph = refl; faces = refl; past = refl; limits = refl };
   watched = left_watched _ c.args.name c.leave.result c.args.when _ _ c.leave.ensures.err c.leave.ensures.left;
 }

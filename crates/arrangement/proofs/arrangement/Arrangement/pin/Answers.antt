@@ -15,7 +15,7 @@ pub returns : goal.returns
 returns g c = rw (← c.self.view_is) (record {
   edit = edited _ _ c.pin.result (Pin c.args.p.now) c.self.invariant.0 c.pin.ensures.edit c.pin.ensures.told;
   refused = c.pin.ensures.refused;
-  as_before = as_before _ _ c.pin.result c.pin.ensures.graph c.pin.ensures.same_layer c.pin.ensures.same_curves c.pin.ensures.untold;
+  as_before = as_before _ _ c.pin.result c.pin.ensures.graph c.pin.ensures.tables c.pin.ensures.same_layer c.pin.ensures.same_curves c.pin.ensures.untold;
   limits = refl;
   watched = c.pin.ensures.watched;
 })

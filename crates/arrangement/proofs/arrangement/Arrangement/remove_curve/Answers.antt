@@ -14,7 +14,7 @@ pub returns : goal.returns
 returns g c = rw (← c.self.view_is) (record {
   edit = edited _ _ c.remove_curve.result (Drop c.args.curve.0) c.self.invariant.0 c.remove_curve.ensures.edit c.remove_curve.ensures.told;
   refused = c.remove_curve.ensures.refused;
-  as_before = as_before _ _ c.remove_curve.result c.remove_curve.ensures.graph c.remove_curve.ensures.same_layer c.remove_curve.ensures.same_curves c.remove_curve.ensures.untold;
+  as_before = as_before _ _ c.remove_curve.result c.remove_curve.ensures.graph c.remove_curve.ensures.tables c.remove_curve.ensures.same_layer c.remove_curve.ensures.same_curves c.remove_curve.ensures.untold;
   limits = refl;
   watched = c.remove_curve.ensures.watched;
 })

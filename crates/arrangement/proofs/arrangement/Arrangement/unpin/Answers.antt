@@ -14,7 +14,7 @@ pub returns : goal.returns
 returns g c = rw (← c.self.view_is) (record {
   edit = edited _ _ c.unpin.result (Unpin c.args.p.now) c.self.invariant.0 c.unpin.ensures.edit c.unpin.ensures.told;
   refused = c.unpin.ensures.refused;
-  as_before = as_before _ _ c.unpin.result c.unpin.ensures.graph c.unpin.ensures.same_layer c.unpin.ensures.same_curves c.unpin.ensures.untold;
+  as_before = as_before _ _ c.unpin.result c.unpin.ensures.graph c.unpin.ensures.tables c.unpin.ensures.same_layer c.unpin.ensures.same_curves c.unpin.ensures.untold;
   limits = refl;
   watched = c.unpin.ensures.watched;
 })
