@@ -3,6 +3,7 @@ use Rattle.std.proofs.Common.{◌≡◌, ℕ, Bool, true, false, cond, List, [],
 use Rattle.std.specs.Prelude.{IfOk, OnOk, OnErr}
 use Rattle.std.specs.List.{AllByRecursion}
 use Rattle.std.proofs.lemmas.List.Elements.{recursion_from_All, All-from_recursion}
+use Rattle.slab_laws.specs.FacesSound.{IsSound}
 use Rattle.slab_laws.specs.Text.{present_text, graph_text}
 use Rattle.slab_laws.specs.View.{curve_id}
 use Rattle.arr_notes.specs.Curves.{Curves}
@@ -26,8 +27,8 @@ module _ (m : MapView) (p : Past) (l : IsLayer m.graph p) where
   own_lists : AreListsOf m.graph (curves_on p) (λ d. map curve_id (curves_on p d))
   own_lists = λ d f. numbers_of (curves_on p d)
 
-  pub seen_sound : IsSoundView (seen m (curves_on p))
-  seen_sound = read_views_are_sound m.graph (curves_on p) _ l.sound l.curves own_lists
+  pub seen_sound : IsSound m.graph m.faces → IsSoundView (seen m (curves_on p))
+  seen_sound s = read_views_are_sound m.graph m.faces (curves_on p) _ s l.curves own_lists
 
   same_curves : curves_seen (seen m (curves_on p)) ≡ curves_on p
   same_curves = λ i d. (ap curves_or (curve_row m.graph (curves_on p) _ l.curves own_lists d.0) ∙ curves_of_row (curves_on p d)) i

@@ -9,6 +9,7 @@ ghost use Rattle.segment_remove.specs.Refused.{cut_between, cut_said, drop_said}
 ghost use Rattle.pin_points.specs.Pins.{pin_said, unpin_said};
 ghost use Rattle.pin_points.specs.Splits.{split_at, split_said};
 ghost use Rattle.pin_points.specs.Merges.{merge_said};
+ghost use Rattle.slab_laws.specs.FacesSound.{IsSound};
 ghost use Rattle.slab_laws.specs.Sound.{IsGraphSound};
 ghost use Rattle.dcel_records.specs.SoundMaps.{IsSoundMap};
 ghost use Rattle.told_steps.specs.RecordLayers.{layer_of, IsLayer};
@@ -274,11 +275,12 @@ impl Arrangement {
         );
     }
 
-    /// What is true of all arrangements: the records are sound, as calls on them ask (`zone_walk::zone`, for one); with the
-    /// history they stand for the layer; their names are those of the vertices, edges and pins of the present; and no two observers
-    /// have one name.
+    /// What is true of all arrangements: the records are sound, as calls on them ask (`zone_walk::zone`, for one), and so are
+    /// their cycles and faces; with the history they stand for the layer; their names are those of the vertices, edges and pins of
+    /// the present; and no two observers have one name.
     pub fn laws(&self)
         ensures sound { IsGraphSound (arranged Observer-dyn self.now).graph }
+        ensures faced { IsSound (arranged Observer-dyn self.now).graph (arranged Observer-dyn self.now).faces }
         ensures layer { IsLayer (arranged Observer-dyn self.now).graph (arranged Observer-dyn self.now).past }
         ensures apart { HaveNamesApart (arranged Observer-dyn self.now).bus.seats }
         ensures named { IsNamedBy (arranged Observer-dyn self.now).graph (curves_on (arranged Observer-dyn self.now).past) (graph (layer_in (arranged Observer-dyn self.now)).present) }

@@ -1,4 +1,3 @@
-use Rattle.std.proofs.Common.{◌∙◌}
 use Rattle.told_steps.proofs.Seen.{drawn_seen, drawn_sound, held_seen, leads_by, round_seen, told_records}
 use Rattle.told_steps.proofs.told.tell.Goals as goal
 

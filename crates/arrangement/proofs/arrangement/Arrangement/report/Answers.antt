@@ -2,7 +2,7 @@ use Rattle.arrangement.proofs.Watched.{held_sound, reported, seen_sound}
 use Rattle.arrangement.proofs.arrangement.Arrangement.report.Goals as goal
 
 pub report-requires : goal.report-requires
-report-requires g c = held_sound _ _ (seen_sound _ _ c.laws.ensures.layer) c.requires.watched
+report-requires g c = held_sound _ _ (seen_sound _ _ c.laws.ensures.layer c.laws.ensures.faced) c.requires.watched
 
 pub returns-clause-report : goal.returns-clause-report
 returns-clause-report g c =
