@@ -9,3 +9,6 @@ pub mod Changed
 pub mod Placing
 pub mod Filling
 pub mod Beyond
+pub mod NameKeys
+pub mod EachRow
+pub mod MovedRows

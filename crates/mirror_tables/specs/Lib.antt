@@ -1,4 +1,5 @@
 pub mod Tables
+pub mod FaceTables
 pub mod Standing
 pub mod Lists
 pub mod Reading

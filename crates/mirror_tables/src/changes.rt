@@ -152,7 +152,7 @@ impl Tables {
         ensures { OnOk result (HaveChanged self.old change self.new) }
     {
         match change {
-            Change::AddVertex { v, p } => self.add_vertex(v, p),
+            Change::AddVertex { v, p, face: _ } => self.add_vertex(v, p),
             Change::RemoveVertex { v } => {
                 self.remove_vertex(v);
                 Ok(())
@@ -171,6 +171,7 @@ impl Tables {
                 at_v,
                 line,
                 curve,
+                faces: _,
             } => {
                 let start = End {
                     vertex: u,
@@ -182,7 +183,7 @@ impl Tables {
                 };
                 self.add_edge(alloc, d, m, start, finish, line, curve)
             }
-            Change::RemoveEdge { d, m } => {
+            Change::RemoveEdge { d, m, faces: _ } => {
                 self.remove_edge(d, m);
                 Ok(())
             }
@@ -196,7 +197,7 @@ impl Tables {
                 self.clear_pin(v);
                 Ok(())
             }
-            Change::Clear => {
+            Change::Clear { face: _ } => {
                 self.clear();
                 Ok(())
             }

@@ -7,8 +7,10 @@
 mod changes;
 mod curves;
 mod darts;
+mod faces;
 mod fill;
 mod links;
+mod moves;
 mod reading;
 mod tables;
 
