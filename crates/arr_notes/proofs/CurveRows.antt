@@ -6,12 +6,13 @@ use Rattle.std.proofs.lemmas.Bool.{cases_Bool, cases_eq, false≢true}
 use Rattle.plane_graphs.specs.Ascending.{IsAscending}
 use Rattle.slab_laws.specs.declared.names.CurveId.{CurveId}
 use Rattle.slab_laws.specs.declared.names.DartId.{DartId}
-use Rattle.slab_laws.specs.Sound.{IsGraphSound}
+use Rattle.slab_laws.specs.FacesSound.{IsSound}
 use Rattle.slab_laws.specs.Tables.{row_at, names, NamesAscend}
-use Rattle.slab_laws.specs.View.{View, dart_id}
+use Rattle.slab_laws.specs.View.{View, Faces, dart_id}
 use Rattle.arr_notes.specs.Curves.{Curves, AreCurvesOf, IsForward, is_forward}
 use Rattle.arr_notes.specs.CurvedView.{AreListsOf, IsSoundView, curve_rows, curves_or, curves_seen, view_by}
 use Rattle.arr_notes.specs.ViewLaws.{ReadViewsAreSound}
+use Rattle.arr_notes.proofs.FacesDrawn.{none_from}
 use Rattle.integers.proofs.Tests.{other_number, same_number}
 
 -- the row of an edge with these curves; where there are none, there is no edge
@@ -30,10 +31,6 @@ curves_of_row (n ∷ ns) = refl
 some_row : (ns : List ℕ) → IsSome (row_of ns) → ns ≢ []
 some_row [] h = absurd (false≢true h)
 some_row (n ∷ ns) h = λ q. cc
-
-none_from : {X : Type 0} (o : Option X) → is_some o ≡ false → o ≡ None
-none_from None e = refl
-none_from (Some x) e = absurd (false≢true (sym e))
 
 -- ---- a table of the names that are chosen, each with what is made of it
 module _ {X Y : Type 0} (p : ℕ → Bool) (f : ℕ → Y) where
@@ -104,20 +101,20 @@ module _ (v : View) (h : Curves) (k : DartId → List CurveId) (a : AreCurvesOf 
     | inr t ↦ absurd (ne (a.without_dart d (λ o. false≢true (sym t ∙ o))))
   ]
 
-  seen : (d : DartId) → curves_seen (view_by v k) d ≡ h d
-  seen d = ap curves_or (curve_row d.0) ∙ curves_of_row (h d)
+  seen : (f : Faces) (d : DartId) → curves_seen (view_by v f k) d ≡ h d
+  seen f d = ap curves_or (curve_row d.0) ∙ curves_of_row (h d)
 
-  pub view_is_sound : IsGraphSound v → IsSoundView (view_by v k)
-  view_is_sound s = record {
-    graph = s;
+  pub view_is_sound : (f : Faces) → IsSound v f → IsSoundView (view_by v f k)
+  view_is_sound f s = record {
+    map = s;
     curves = record {
-      named = ascend_curve_rows s.named.darts;
-      row = λ d f. ap is_some (curve_row d.0 ∙ row_of_some (h d) (a.some d f));
+      named = ascend_curve_rows s.graph.named.darts;
+      row = λ d e. ap is_some (curve_row d.0 ∙ row_of_some (h d) (a.some d e));
       edge = λ d i. forward_by d (some_row (h d) (sym (ap is_some (curve_row d.0)) ∙ i));
-      some = λ d f q. a.some d f (sym (seen d) ∙ q);
-      ascend = λ d. subst (IsAscending nat_cmp) (sym (seen d)) (a.ascend d);
+      some = λ d e q. a.some d e (sym (seen f d) ∙ q);
+      ascend = λ d. subst (IsAscending nat_cmp) (sym (seen f d)) (a.ascend d);
     };
   }
 
 pub read_views_are_sound : ReadViewsAreSound
-read_views_are_sound v h k s a l = view_is_sound v h k a l s
+read_views_are_sound v f h k s a l = view_is_sound v h k a l f s

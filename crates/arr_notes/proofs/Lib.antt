@@ -8,5 +8,6 @@ pub mod NamesWritten
 pub mod Names
 pub mod After
 pub mod NamedTables
+pub mod FacesDrawn
 pub mod ViewDrawn
 pub mod CurveRows

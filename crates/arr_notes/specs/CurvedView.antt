@@ -1,4 +1,4 @@
--- Records as observers see them: vertices and darts by name, and the curves along each edge; and what a change makes of that.
+-- Records as observers see them: vertices and darts by name, cycles and faces by name, and the curves along each edge; and what a change makes of that.
 use Rattle.std.specs.Prelude.{◌≡◌, ◌≢◌, ℕ, List, [], ◌∷◌, map, not, Option, Some, None, IsSome}
 use Rattle.std.specs.List.{filter}
 use Rattle.std.specs.Ordering.{nat_cmp}
@@ -7,20 +7,22 @@ use Rattle.plane_graphs.specs.Graph.{Graph, same_curve}
 use Rattle.slab_laws.specs.declared.names.CurveId.{CurveId}
 use Rattle.slab_laws.specs.declared.names.DartId.{DartId}
 use Rattle.slab_laws.specs.declared.names.VertexId.{VertexId}
-use Rattle.slab_laws.specs.Sound.{IsGraphSound}
+use Rattle.slab_laws.specs.FacesSound.{IsSound}
 use Rattle.slab_laws.specs.Tables.{row_at, names, NamesAscend}
 use Rattle.slab_laws.specs.Text.{graph_text}
-use Rattle.slab_laws.specs.View.{View, dart_id, HasVertex, HasDart, IsOutOf, target_in, twin_in, next_in}
+use Rattle.slab_laws.specs.View.{View, Faces, dart_id, HasVertex, HasDart, IsOutOf, target_in, twin_in, next_in}
 use Rattle.arr_notes.specs.Curves.{Curves, is_forward, IsForward}
+use Rattle.arr_notes.specs.FacesTold.{faces_after}
 use Rattle.arr_notes.specs.NamedRows.{put, del, edit}
 use Rattle.arr_notes.specs.RecordGraph.{drawn_graph}
 use Rattle.arr_notes.specs.Step.{step}
 use Rattle.arr_notes.specs.declared.change.Change.{Change}
 use Rattle.arr_notes.specs.declared.change.Change.TheVariants.{AddVertex, RemoveVertex, SplitEdge, MergeEdge, AddEdge, RemoveEdge, AddCurve, RemoveCurve, SetPin, ClearPin, Clear}
 
--- vertices and darts by name, and for each edge, by the name of its dart from the lower to the upper end, the numbers of its curves (CGAL manual, `Arrangement_with_history_2`)
+-- vertices and darts, cycles and faces by name, and for each edge, by the name of its dart from the lower to the upper end, the numbers of its curves (CGAL manual, `Arrangement_with_history_2`)
 pub record CurvedView : Type 0 where
   pub graph : View
+  pub faces : Faces
   pub curves : List (ℕ × List ℕ)
 
 abbrev pub curves_or : Option (List ℕ) → List ℕ
@@ -36,8 +38,8 @@ abbrev pub curve_rows : View → (DartId → List CurveId) → List (ℕ × List
 curve_rows v k = map (λ r. (r.0, map (λ c. c.0) (k (dart_id r.0)))) (filter (λ r. is_forward v (dart_id r.0)) v.darts)
 
 -- records that are read by name, as observers see them (this project)
-abbrev pub view_by : View → (DartId → List CurveId) → CurvedView
-view_by v k = record { graph = v; curves = curve_rows v k }
+abbrev pub view_by : View → Faces → (DartId → List CurveId) → CurvedView
+view_by v f k = record { graph = v; faces = f; curves = curve_rows v k }
 
 -- along the edge of each forward dart run the listed curves (CGAL manual, originating curves)
 abbrev pub AreListsOf : View → Curves → (DartId → List CurveId) → Type 0
@@ -59,9 +61,9 @@ pub record AreRowsOfEdges (w : CurvedView) : Type 0 where
   pub some : (d : DartId) → IsForward w.graph d → curves_seen w d ≢ []
   pub ascend : (d : DartId) → IsAscending nat_cmp (curves_seen w d)
 
--- the graph is plane, the view stands for it, and its edges have their curves (this project)
+-- the graph is plane, the view stands for it with its cycles and faces, and its edges have their curves (this project)
 pub record IsSoundView (w : CurvedView) : Type 0 where
-  pub graph : IsGraphSound w.graph
+  pub map : IsSound w.graph w.faces
   pub curves : AreRowsOfEdges w
 
 -- ---- changes
@@ -78,7 +80,7 @@ step_rows rs other = rs
 
 -- the view after a change (CGAL manual, `Arr_observer`; the list is this project's)
 abbrev pub step_view : CurvedView → Change → CurvedView
-step_view w c = record { graph = step w.graph c; curves = step_rows w.curves c }
+step_view w c = record { graph = step w.graph c; faces = faces_after w.graph w.faces c; curves = step_rows w.curves c }
 
 -- the dart leaves the vertex, where one is named
 abbrev pub IsPlaceOut : View → VertexId → Option DartId → Type 0

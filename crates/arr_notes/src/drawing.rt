@@ -1,17 +1,18 @@
 ghost use Rattle.std.specs.Prelude.{◌≡◌, ◌≤◌, ◌↔◌, ℕ, pos, map, true, filter, IfOk};
 ghost use Rattle.std.specs.Option.{option_map};
 ghost use Rattle.std.specs.List.{AllByRecursion};
-ghost use Rattle.slab_laws.specs.Tables.{is_after};
-ghost use Rattle.slab_laws.specs.View.{HasVertex, HasDart, point_in};
+ghost use Rattle.slab_laws.specs.FacesSound.{IsComplete};
+ghost use Rattle.slab_laws.specs.Tables.{is_after, row_at};
+ghost use Rattle.slab_laws.specs.View.{HasVertex, HasDart, HasCycle, point_in};
 ghost use Rattle.arr_notes.specs.Curves.{is_forward};
 ghost use Rattle.arr_notes.specs.CurvedView.{view_by};
-ghost use Rattle.arr_notes.specs.ViewRows.{vertex_named, dart_named, edge_named};
+ghost use Rattle.arr_notes.specs.ViewRows.{vertex_named, dart_named, edge_named, cycle_named};
 
-use crate::view::{DartRow, EdgeRow, VertexRow, View};
-use crate::walks::{dart_names, vertex_names};
+use crate::view::{CycleRow, DartRow, EdgeRow, VertexRow, View};
+use crate::walks::{cycle_names, dart_names, face_names, vertex_names};
 use exact_plane::Point;
 use no_memory::NoMemory;
-use slab_laws::{Curved, DartId, Darts, Sequence, VertexId};
+use slab_laws::{Curved, CycleId, DartId, Darts, FaceId, Faced, Sequence, VertexId};
 use std::alloc::Global;
 
 // The greatest name below a name, whether it has a record or not; `None` below the least.
@@ -56,13 +57,26 @@ fn goes_forward<R: Darts>(records: &R, dart: DartId) -> bool
     point_of(records, records.source(dart)) < point_of(records, records.target(dart))
 }
 
-fn vertex_rows<R: Darts>(
+// The face of the vertex where no dart leaves it; `None` where one does.
+fn bare_face_of<R: Faced>(records: &R, vertex: VertexId) -> Option<FaceId>
+    requires vertex { HasVertex (R.graph records.now) vertex }
+    requires complete { IsComplete (R.graph records.now) (R.faces records.now) }
+    ensures { result ≡ row_at (R.faces records.now).bare vertex.0 }
+{
+    match records.out_of(vertex) {
+        Some(_) => None,
+        None => Some(records.bare_face(vertex)),
+    }
+}
+
+fn vertex_rows<R: Faced>(
     alloc: Global,
     records: &R,
     names: &[VertexId],
 ) -> Result<Sequence<VertexRow>, NoMemory>
-    requires { AllByRecursion (λ u. HasVertex (R.graph records.now) u) names.now }
-    ensures { IfOk result (λ rows. rows ≡ map (vertex_named (R.graph records.now)) names.now) }
+    requires have { AllByRecursion (λ u. HasVertex (R.graph records.now) u) names.now }
+    requires complete { IsComplete (R.graph records.now) (R.faces records.now) }
+    ensures { IfOk result (λ rows. rows ≡ map (vertex_named (R.graph records.now) (R.faces records.now)) names.now) }
 {
     let mut rows = Sequence::new(alloc);
     for name in names {
@@ -70,18 +84,19 @@ fn vertex_rows<R: Darts>(
             name: *name,
             point: records.point(*name),
             pinned: records.pinned(*name),
+            face: bare_face_of(records, *name),
         })?;
     }
     Ok(rows)
 }
 
-fn dart_rows<R: Darts>(
+fn dart_rows<R: Faced>(
     alloc: Global,
     records: &R,
     names: &[DartId],
 ) -> Result<Sequence<DartRow>, NoMemory>
     requires { AllByRecursion (λ d. HasDart (R.graph records.now) d) names.now }
-    ensures { IfOk result (λ rows. rows ≡ map (dart_named (R.graph records.now)) names.now) }
+    ensures { IfOk result (λ rows. rows ≡ map (dart_named (R.graph records.now) (R.faces records.now)) names.now) }
 {
     let mut rows = Sequence::new(alloc);
     for name in names {
@@ -91,6 +106,26 @@ fn dart_rows<R: Darts>(
             twin: records.twin(*name),
             next: records.next(*name),
             line: records.line(*name),
+            cycle: records.cycle(*name),
+        })?;
+    }
+    Ok(rows)
+}
+
+fn cycle_rows<R: Faced>(
+    alloc: Global,
+    records: &R,
+    names: &[CycleId],
+) -> Result<Sequence<CycleRow>, NoMemory>
+    requires { AllByRecursion (λ c. HasCycle (R.faces records.now) c) names.now }
+    ensures { IfOk result (λ rows. rows ≡ map (cycle_named (R.faces records.now)) names.now) }
+{
+    let mut rows = Sequence::new(alloc);
+    for name in names {
+        rows.push(CycleRow {
+            name: *name,
+            kind: records.kind(*name),
+            face: records.face(*name),
         })?;
     }
     Ok(rows)
@@ -153,20 +188,25 @@ fn copied_edges(alloc: Global, edges: &[EdgeRow]) -> Result<Sequence<EdgeRow>, N
 }
 
 impl View {
-    /// The view of records that are read by name, as they stand.
+    /// The view of records that are read by name, as they stand, with their cycles and faces.
     ///
     /// # Errors
     ///
     /// There was no memory for the view or for a table on the way.
-    pub fn of<R: Curved>(alloc: Global, records: &R) -> Result<View, NoMemory>
-        ensures { IfOk result (λ w. w ≡ view_by (R.graph records.now) (R.curve_list records.now)) }
+    pub fn of<R: Curved + Faced>(alloc: Global, records: &R) -> Result<View, NoMemory>
+        requires { IsComplete (R.graph records.now) (R.faces records.now) }
+        ensures { IfOk result (λ w. w ≡ view_by (R.graph records.now) (R.faces records.now) (R.curve_list records.now)) }
     {
         let vertices = vertex_names(alloc, records)?;
         let darts = dart_names(alloc, records)?;
+        let cycles = cycle_names(alloc, records)?;
+        let faces = face_names(alloc, records)?;
         Ok(View {
             vertices: vertex_rows(alloc, records, &vertices)?,
             darts: dart_rows(alloc, records, &darts)?,
             edges: edge_rows(alloc, records, &darts)?,
+            cycles: cycle_rows(alloc, records, &cycles)?,
+            faces: copied(alloc, &faces)?,
         })
     }
 
@@ -182,6 +222,8 @@ impl View {
             vertices: copied(alloc, self.vertices.as_slice())?,
             darts: copied(alloc, self.darts.as_slice())?,
             edges: copied_edges(alloc, self.edges.as_slice())?,
+            cycles: copied(alloc, self.cycles.as_slice())?,
+            faces: copied(alloc, self.faces.as_slice())?,
         })
     }
 }

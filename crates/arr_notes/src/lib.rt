@@ -21,8 +21,8 @@ pub use faces::{Linked, Unlinked};
 pub use intent::Intent;
 pub use note::{Answer, Note};
 pub use observer::Observer;
-pub use view::{DartRow, EdgeRow, VertexRow, View};
-pub use walks::{dart_names, vertex_names};
+pub use view::{CycleRow, DartRow, EdgeRow, VertexRow, View};
+pub use walks::{cycle_names, dart_names, face_names, vertex_names};
 
 /// Sound records with the curves of their edges are a sound view. This is a law: the body, being empty, computes nothing.
 pub fn read_views_are_sound()

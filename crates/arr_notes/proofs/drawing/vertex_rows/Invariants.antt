@@ -3,4 +3,4 @@ use Rattle.arr_notes.specs.ViewRows.{vertex_named}
 use Rattle.arr_notes.proofs.drawing.vertex_rows.Given as goal
 
 abbrev pub invariant-loop-name : goal.invariant-loop-name
-invariant-loop-name g l = l.rows ≡ map (vertex_named (g.R.Darts.graph l.records)) (take l.name-index l.names)
+invariant-loop-name g l = l.rows ≡ map (vertex_named (g.R.Darts.graph l.records) (g.R.Faced.faces l.records)) (take l.name-index l.names)
