@@ -12,3 +12,4 @@ pub mod Beyond
 pub mod NameKeys
 pub mod EachRow
 pub mod MovedRows
+pub mod OrbitWalk

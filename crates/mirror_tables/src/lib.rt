@@ -11,6 +11,7 @@ mod faces;
 mod fill;
 mod links;
 mod moves;
+mod orbits;
 mod reading;
 mod tables;
 
