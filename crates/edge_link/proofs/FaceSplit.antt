@@ -13,7 +13,7 @@ use Rattle.slab_laws.specs.Sound.{IsGraphSound}
 use Rattle.slab_laws.specs.View.{View, Faces, HasVertex, HasDart, HasCycle, HasFace, face_id, twin_in, cycle_or, cycle_in, kind_in, face_in}
 use Rattle.arr_notes.specs.FaceSteps.{step_faces}
 use Rattle.arr_notes.specs.FaceWriters.{on_cycle, orbit_on, with_cycle, with_face, moved_to}
-use Rattle.arr_notes.specs.NotedFaces.{linked_faces}
+use Rattle.arr_notes.specs.FacesTold.{linked_faces}
 use Rattle.arr_notes.specs.Step.{add_edge}
 use Rattle.arr_notes.specs.declared.faces.Linked.{Linked}
 use Rattle.arr_notes.specs.declared.faces.Linked.TheVariants.{Splits}

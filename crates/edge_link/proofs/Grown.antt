@@ -8,7 +8,7 @@ use Rattle.slab_laws.specs.FaceLists.{AreDartsOn}
 use Rattle.slab_laws.specs.Sound.{IsGraphSound}
 use Rattle.arr_notes.specs.FaceSteps.{step_faces, grows}
 use Rattle.arr_notes.specs.FaceWriters.{on_cycle, not_bare}
-use Rattle.arr_notes.specs.NotedFaces.{linked_faces}
+use Rattle.arr_notes.specs.FacesTold.{linked_faces}
 use Rattle.arr_notes.specs.Step.{add_edge}
 use Rattle.arr_notes.specs.declared.faces.Linked.TheVariants.{Grows}
 use Rattle.dcel_records.specs.ListChanges.{vertex_unlisted}

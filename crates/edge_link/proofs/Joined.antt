@@ -14,7 +14,7 @@ use Rattle.slab_laws.specs.Tables.{row_at, names as names_of, NamesAscend}
 use Rattle.slab_laws.specs.View.{View, Faces, HasDart, HasCycle, dart_id, twin_in, next_in, cycle_or, cycle_in, kind_in}
 use Rattle.arr_notes.specs.FaceSteps.{step_faces}
 use Rattle.arr_notes.specs.FaceWriters.{on_cycle, recycled, without_cycle}
-use Rattle.arr_notes.specs.NotedFaces.{linked_faces}
+use Rattle.arr_notes.specs.FacesTold.{linked_faces}
 use Rattle.arr_notes.specs.Step.{add_edge}
 use Rattle.arr_notes.specs.declared.faces.Linked.TheVariants.{Joins}
 use Rattle.arr_notes.proofs.RowLaws.{row_at-each}

@@ -8,7 +8,7 @@ use Rattle.slab_laws.specs.FacesSound.{IsSound}
 use Rattle.slab_laws.specs.Sound.{IsGraphSound}
 use Rattle.slab_laws.specs.View.{View, Faces, HasDart, twin_in, next_in, line_in}
 use Rattle.arr_notes.specs.FaceSteps.{step_faces}
-use Rattle.arr_notes.specs.NotedFaces.{linked_faces}
+use Rattle.arr_notes.specs.FacesTold.{linked_faces}
 use Rattle.arr_notes.specs.Step.{add_edge, followed, led}
 use Rattle.arr_notes.specs.ViewChanges.{with_pair}
 use Rattle.arr_notes.specs.declared.faces.Linked.{Linked}

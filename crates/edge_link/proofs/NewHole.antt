@@ -12,7 +12,7 @@ use Rattle.slab_laws.specs.Sound.{IsGraphSound}
 use Rattle.slab_laws.specs.View.{View, Faces, HasDart, HasCycle, cycle_or, cycle_in, bare_face_in}
 use Rattle.arr_notes.specs.FaceSteps.{step_faces}
 use Rattle.arr_notes.specs.FaceWriters.{on_cycle, not_bare, with_cycle}
-use Rattle.arr_notes.specs.NotedFaces.{linked_faces}
+use Rattle.arr_notes.specs.FacesTold.{linked_faces}
 use Rattle.arr_notes.specs.Step.{add_edge}
 use Rattle.arr_notes.specs.declared.faces.Linked.TheVariants.{NewHole}
 use Rattle.arr_notes.proofs.VertexReads.{put_hit, put_miss}

@@ -4,8 +4,10 @@ use Rattle.exact_plane.specs.Line.{Line}
 use Rattle.slab_laws.specs.declared.names.DartId.{DartId}
 use Rattle.slab_laws.specs.declared.names.VertexId.{VertexId}
 use Rattle.arr_notes.specs.FaceSteps.{step_faces}
-use Rattle.arr_notes.specs.NotedFaces.{linked_faces}
+use Rattle.arr_notes.specs.FacesTold.{linked_faces}
 use Rattle.arr_notes.specs.Step.{add_edge}
+use Rattle.arr_notes.specs.declared.change.Change.{Change}
+use Rattle.arr_notes.specs.declared.change.Change.TheVariants.{AddEdge}
 use Rattle.arr_notes.specs.declared.faces.Linked.{Linked}
 use Rattle.arr_notes.specs.declared.faces.Linked.TheVariants.{Splits}
 use Rattle.dcel_records.specs.RecordsView.{RecordsView, IsReturned, IsSpare, tables_of}
@@ -32,3 +34,8 @@ pub record IsLinkMade (old new : RecordsView) (names : LinkNames) (u w : VertexI
   pub capacity_of_cycles : new.faces.capacity_of_cycles ≡ old.faces.capacity_of_cycles
   pub capacity_of_faces : new.faces.capacity_of_faces ≡ old.faces.capacity_of_faces
   pub carried : IsCarried new told
+
+-- the change tells of an edge, and of what became of cycles and faces, as they were made (this project)
+abbrev pub IsLinkTold : RecordsView → RecordsView → Change → Type 0
+IsLinkTold old new (AddEdge d m u w at_u at_w l k faces) = IsLinkMade old new (record { d = d; m = m }) u w at_u at_w l faces
+IsLinkTold old new other = ⊥

@@ -12,6 +12,7 @@ use Rattle.slab_laws.specs.View.{View, HasVertex, HasDart, point_in}
 use Rattle.arr_notes.specs.ViewChanges.{with_next}
 use Rattle.arr_notes.specs.declared.change.Change.{Change}
 use Rattle.arr_notes.specs.declared.change.Change.TheVariants.{AddEdge}
+use Rattle.arr_notes.specs.declared.faces.Linked.{Linked}
 use Rattle.sound_changes.specs.EdgePlaces.{dart_between, IsPlaceFor}
 
 -- what is drawn with one more edge between two vertices (CGAL manual, `insert_at_vertices`)
@@ -37,20 +38,15 @@ CanLinkAtStart v u w at l = CanLink v u w (Some at) None l
 abbrev pub CanLinkAtEnd : View → VertexId → VertexId → DartId → Line → Type 0
 CanLinkAtEnd v u w at l = CanLink v u w None (Some at) l
 
--- the change tells of one more edge with these ends, places, line and curve, by two names (this project)
+-- the change tells of one more edge with these ends, places, line and curve, by two names, and of what became of cycles and faces (this project)
 abbrev pub TellsOfLink : Change → VertexId → VertexId → Option DartId → Option DartId → Line → CurveId → Type 0
-TellsOfLink c u w at_u at_w l k = (d : DartId) × (m : DartId) × (c ≡ AddEdge d m u w at_u at_w l k)
+TellsOfLink c u w at_u at_w l k = (d : DartId) × (m : DartId) × (faces : Linked) × (c ≡ AddEdge d m u w at_u at_w l k faces)
 
 -- two names of which no dart has one (this project)
 pub record AreNewDarts (v : View) (d m : DartId) : Type 0 where
   pub first : ¬ HasDart v d
   pub second : ¬ HasDart v m
   pub two : d ≢ m
-
--- the change tells of one more edge, whose darts have new names (this project)
-abbrev pub NamesNewDarts : View → Change → Type 0
-NamesNewDarts v (AddEdge d m u w at_u at_w l k) = AreNewDarts v d m
-NamesNewDarts v c = ⊥
 
 -- the dart, if there is one, has a record (this project)
 abbrev pub AreKnown : View → Option DartId → Type 0

@@ -23,7 +23,7 @@ pub struct FacedLink {
 }
 
 // Between two bare vertices: the two darts are a new inner cycle in the face that both lie in.
-fn new_hole(records: &mut Records, u: VertexId, v: VertexId, line: Line) -> FacedLink
+pub(crate) fn new_hole(records: &mut Records, u: VertexId, v: VertexId, line: Line) -> FacedLink
     requires map { IsSoundMap records.old }
     requires returned { IsReturned records.old }
     requires darts { 2 ≤ records.old.spare_darts }
@@ -45,7 +45,7 @@ fn new_hole(records: &mut Records, u: VertexId, v: VertexId, line: Line) -> Face
 }
 
 // Where a bare vertex is tied to a cycle: both darts are on it.
-fn grow_at_start(
+pub(crate) fn grow_at_start(
     records: &mut Records,
     u: VertexId,
     v: VertexId,
@@ -68,7 +68,13 @@ fn grow_at_start(
 }
 
 // The same, where the first vertex is the bare one.
-fn grow_at_end(records: &mut Records, u: VertexId, v: VertexId, at: DartId, line: Line) -> FacedLink
+pub(crate) fn grow_at_end(
+    records: &mut Records,
+    u: VertexId,
+    v: VertexId,
+    at: DartId,
+    line: Line,
+) -> FacedLink
     requires map { IsSoundMap records.old }
     requires returned { IsReturned records.old }
     requires darts { 2 ≤ records.old.spare_darts }
@@ -149,7 +155,7 @@ fn join(
 }
 
 // Between two vertices that have darts: on one cycle the edge splits its face, on two it joins them.
-fn link_both(
+pub(crate) fn link_both(
     records: &mut Records,
     u: VertexId,
     v: VertexId,
@@ -174,8 +180,9 @@ fn link_both(
     }
 }
 
-/// One more edge from `u` to `v`, as by [`crate::link`], with what becomes of cycles and faces: a new hole, a cycle that
-/// grows, two that are joined, or a face that is split (CGAL manual, `insert_at_vertices`).
+/// One more edge from `u` to `v`, at each directly after the dart `at_u` or `at_v` clockwise, or, where the vertex is bare, after
+/// `None`; the names of its darts, and what becomes of cycles and faces: a new hole, a cycle that grows, two that are joined, or
+/// a face that is split (CGAL manual, `insert_at_vertices`).
 ///
 /// It takes no memory. Where the edge joins or splits, the darts of the shorter cycle are written, where that is free; and
 /// where a face is split, its other cycles and isolated vertices are asked for their sides.

@@ -1,16 +1,15 @@
-ghost use Rattle.std.specs.Prelude.{◌≡◌, ◌⊎◌, ◌≤◌, Some, None, option_map};
+ghost use Rattle.std.specs.Prelude.{◌≡◌, ◌≤◌, option_map};
 ghost use Rattle.slab_laws.specs.Sound.{IsGraphSound};
 ghost use Rattle.slab_laws.specs.View.{HasDart, twin_in};
 ghost use Rattle.dcel_records.specs.RecordsView.{IsSpare};
 ghost use Rattle.arr_notes.specs.FaceWriters.{on_cycle};
-ghost use Rattle.arr_notes.specs.Step.{add_edge, step};
+ghost use Rattle.arr_notes.specs.Step.{add_edge};
 ghost use Rattle.arr_notes.specs.AfterAround.{after_in};
-ghost use Rattle.edge_link.specs.Links.{AreNewDarts, CanLink, CanLinkAtStart, CanLinkAtEnd, TellsOfLink, NamesNewDarts, AreKnown, led_by, led_to};
+ghost use Rattle.edge_link.specs.Links.{AreNewDarts, CanLink, AreKnown, led_by, led_to};
 
-use arr_notes::Change;
 use dcel_records::Records;
 use exact_plane::Line;
-use slab_laws::{CurveId, CycleId, DartId, Darts, VertexId};
+use slab_laws::{CycleId, DartId, Darts, VertexId};
 
 // The dart that comes in before a place: the twin of the dart after which the new one comes.
 fn behind(records: &Records, at: Option<DartId>) -> Option<DartId>
@@ -97,125 +96,4 @@ pub(crate) fn link_on(
     lead(records, behind_u, d);
     lead(records, behind_v, m);
     LinkNames { d, m }
-}
-
-/// One more edge from `u` to `v`, at each directly after the dart `at_u` or `at_v` clockwise, or, where the vertex is bare, after
-/// `None`; the names of its darts. Cycles aren't kept.
-pub fn link(
-    records: &mut Records,
-    u: VertexId,
-    v: VertexId,
-    at_u: Option<DartId>,
-    at_v: Option<DartId>,
-    line: Line,
-) -> LinkNames
-    requires sound { IsGraphSound records.old.graph }
-    requires room { 2 ≤ records.old.spare_darts }
-    requires fits { CanLink records.old.graph u v at_u at_v line }
-    ensures new_darts { AreNewDarts records.old.graph result.d result.m }
-    ensures graph { records.new.graph ≡ add_edge records.old.graph result.d result.m u v at_u at_v line }
-    ensures sound { IsGraphSound records.new.graph }
-    ensures spare { IsSpare records.new records.old 0 2 }
-{
-    link_on(records, u, v, at_u, at_v, line, CycleId(0))
-}
-
-// A link, told by its change.
-fn told_link(
-    records: &mut Records,
-    u: VertexId,
-    v: VertexId,
-    at_u: Option<DartId>,
-    at_v: Option<DartId>,
-    line: Line,
-    curve: CurveId,
-) -> Change
-    requires sound { IsGraphSound records.old.graph }
-    requires room { 2 ≤ records.old.spare_darts }
-    requires fits { CanLink records.old.graph u v at_u at_v line }
-    ensures change { TellsOfLink result u v at_u at_v line curve }
-    ensures new_darts { NamesNewDarts records.old.graph result }
-    ensures graph { records.new.graph ≡ step records.old.graph result }
-    ensures sound { IsGraphSound records.new.graph }
-    ensures spare { IsSpare records.new records.old 0 2 }
-{
-    let new = link(records, u, v, at_u, at_v, line);
-    Change::AddEdge {
-        d: new.d,
-        m: new.m,
-        u,
-        v,
-        at_u,
-        at_v,
-        line,
-        curve,
-    }
-}
-
-/// One more edge between two bare vertices, inside a face.
-pub fn link_in_face(
-    records: &mut Records,
-    u: VertexId,
-    v: VertexId,
-    line: Line,
-    curve: CurveId,
-) -> Change
-    requires sound { IsGraphSound records.old.graph }
-    requires room { 2 ≤ records.old.spare_darts }
-    requires fits { CanLink records.old.graph u v None None line }
-    ensures change { TellsOfLink result u v None None line curve }
-    ensures new_darts { NamesNewDarts records.old.graph result }
-    ensures graph { records.new.graph ≡ step records.old.graph result }
-    ensures sound { IsGraphSound records.new.graph }
-    ensures spare { IsSpare records.new records.old 0 2 }
-{
-    told_link(records, u, v, None, None, line, curve)
-}
-
-/// One more edge between two vertices of which one is bare: at the other it comes directly after `at` clockwise.
-pub fn link_at_one(
-    records: &mut Records,
-    u: VertexId,
-    v: VertexId,
-    at: DartId,
-    line: Line,
-    curve: CurveId,
-) -> Change
-    requires sound { IsGraphSound records.old.graph }
-    requires room { 2 ≤ records.old.spare_darts }
-    requires fits { CanLinkAtStart records.old.graph u v at line ⊎ CanLinkAtEnd records.old.graph u v at line }
-    ensures at_u { CanLinkAtStart records.old.graph u v at line → TellsOfLink result u v (Some at) None line curve }
-    ensures at_v { CanLinkAtEnd records.old.graph u v at line → TellsOfLink result u v None (Some at) line curve }
-    ensures new_darts { NamesNewDarts records.old.graph result }
-    ensures graph { records.new.graph ≡ step records.old.graph result }
-    ensures sound { IsGraphSound records.new.graph }
-    ensures spare { IsSpare records.new records.old 0 2 }
-{
-    if records.source(at) == u {
-        told_link(records, u, v, Some(at), None, line, curve)
-    } else {
-        told_link(records, u, v, None, Some(at), line, curve)
-    }
-}
-
-/// One more edge between two vertices that have darts: it comes directly after `at_u` and `at_v` clockwise.
-pub fn link_at_two(
-    records: &mut Records,
-    u: VertexId,
-    v: VertexId,
-    at_u: DartId,
-    at_v: DartId,
-    line: Line,
-    curve: CurveId,
-) -> Change
-    requires sound { IsGraphSound records.old.graph }
-    requires room { 2 ≤ records.old.spare_darts }
-    requires fits { CanLink records.old.graph u v (Some at_u) (Some at_v) line }
-    ensures change { TellsOfLink result u v (Some at_u) (Some at_v) line curve }
-    ensures new_darts { NamesNewDarts records.old.graph result }
-    ensures graph { records.new.graph ≡ step records.old.graph result }
-    ensures sound { IsGraphSound records.new.graph }
-    ensures spare { IsSpare records.new records.old 0 2 }
-{
-    told_link(records, u, v, Some(at_u), Some(at_v), line, curve)
 }

@@ -6,6 +6,8 @@ use Rattle.slab_laws.specs.declared.names.VertexId.{VertexId}
 use Rattle.slab_laws.specs.View.{twin_in}
 use Rattle.arr_notes.specs.FaceSteps.{step_faces, in_two, in_one}
 use Rattle.arr_notes.specs.Step.{split_edge, merge_edge}
+use Rattle.arr_notes.specs.declared.change.Change.{Change}
+use Rattle.arr_notes.specs.declared.change.Change.TheVariants.{SplitEdge, MergeEdge}
 use Rattle.dcel_records.specs.RecordsView.{RecordsView, IsSpare, IsSpareFaces, tables_of}
 use Rattle.dcel_records.specs.SoundMaps.{IsSoundMap}
 use Rattle.sound_changes.specs.ChangeFits.{FitsMerge}
@@ -32,3 +34,14 @@ pub record IsMergeMade (old new : RecordsView) (w : VertexId) (names : MergeName
   pub spare : IsSpare old new 1 2
   pub spare_faces : IsSpareFaces old.faces new.faces 0 0
   pub moved : new.faces.moved ≡ old.faces.moved
+
+-- ---- told by a change
+-- the change tells of an edge in two as it was made (this project)
+abbrev pub IsSplitTold : RecordsView → RecordsView → Change → Type 0
+IsSplitTold old new (SplitEdge d w p n m) = IsSplitMade old new d p (record { v = w; n = n; m = m })
+IsSplitTold old new other = ⊥
+
+-- it tells of two edges in one as they were made (this project)
+abbrev pub IsMergeTold : RecordsView → RecordsView → Change → Type 0
+IsMergeTold old new (MergeEdge w d n) = IsMergeMade old new w (record { d = d; n = n })
+IsMergeTold old new other = ⊥

@@ -25,8 +25,3 @@ pub record IsNewPlace (v : View) (w : VertexId) (n m : DartId) : Type 0 where
   pub first : ¬ HasDart v n
   pub second : ¬ HasDart v m
   pub two : n ≢ m
-
--- the change tells of an edge in two, whose vertex and whose two darts have new names (this project)
-abbrev pub NamesNewPlace : View → Change → Type 0
-NamesNewPlace v (SplitEdge d w p n m) = IsNewPlace v w n m
-NamesNewPlace v c = ⊥

@@ -10,8 +10,9 @@ use dcel_records::Records;
 use exact_plane::Point;
 use slab_laws::{DartId, Darts, VertexId};
 
-/// The edge of the dart is split at a point inside it, as by [`split_at`]; both parts are on the cycles on their sides (CGAL
-/// manual, `split_edge`).
+/// The edge of the dart, which goes from its lower to its upper end, is split at a new vertex at the point: the dart and its
+/// twin keep the lower part, and both parts are on the cycles on their sides; the names of what came (CGAL manual,
+/// `split_edge`).
 pub fn split_in_cycles(records: &mut Records, d: DartId, p: Point) -> SplitNames
     requires map { IsSoundMap records.old }
     requires fits { CanSplit records.old.graph d p }
@@ -23,8 +24,8 @@ pub fn split_in_cycles(records: &mut Records, d: DartId, p: Point) -> SplitNames
     split_at(records, d, p)
 }
 
-/// The two edges that end at a vertex become one, as by [`merge_at`]; the cycles on both sides keep darts of the edge that
-/// stays (CGAL manual, `merge_edge`).
+/// The two edges that end at the vertex become one, and the vertex goes: the edge from the lower end keeps its darts, and the
+/// cycles on both sides keep darts of that edge; the names of both edges' darts (CGAL manual, `merge_edge`).
 pub fn merge_in_cycles(records: &mut Records, v: VertexId) -> MergeNames
     requires map { IsSoundMap records.old }
     requires fits { CanMerge records.old.graph v }

@@ -4,12 +4,11 @@ ghost use Rattle.slab_laws.specs.View.{twin_in};
 ghost use Rattle.dcel_records.specs.ListChanges.{vertex_unlisted};
 ghost use Rattle.dcel_records.specs.RecordsView.{IsSpare, IsSpareFaces, lists_of};
 ghost use Rattle.arr_notes.specs.FaceWriters.{not_bare, off_cycles};
-ghost use Rattle.arr_notes.specs.Step.{merge_edge, step};
+ghost use Rattle.arr_notes.specs.Step.{merge_edge};
 ghost use Rattle.sound_changes.specs.ChangeFits.{FitsMerge};
-ghost use Rattle.edge_split_merge.specs.Merges.{CanMerge, TellsOfMerge};
+ghost use Rattle.edge_split_merge.specs.Merges.{CanMerge};
 
 use crate::parting::onward;
-use arr_notes::Change;
 use dcel_records::Records;
 use rotation_order::previous_around_source;
 use slab_laws::{DartId, Darts, VertexId};
@@ -45,7 +44,7 @@ pub struct MergeNames {
 
 /// The two edges that end at the vertex become one, and the vertex goes: the edge from the lower end keeps its darts; the names
 /// of both edges' darts (CGAL manual, `merge_edge`).
-pub fn merge_at(records: &mut Records, v: VertexId) -> MergeNames
+pub(crate) fn merge_at(records: &mut Records, v: VertexId) -> MergeNames
     requires sound { IsGraphSound records.old.graph }
     requires fits { CanMerge records.old.graph v }
     ensures met { FitsMerge records.old.graph v result.d result.n }
@@ -72,22 +71,4 @@ pub fn merge_at(records: &mut Records, v: VertexId) -> MergeNames
     records.remove_pair(n, None, Some(t));
     records.remove_vertex(v);
     MergeNames { d, n }
-}
-
-/// The two edges that end at the vertex become one, and the vertex goes: the edge from the lower end keeps its darts (CGAL
-/// manual, `merge_edge`).
-pub fn merge(records: &mut Records, v: VertexId) -> Change
-    requires sound { IsGraphSound records.old.graph }
-    requires fits { CanMerge records.old.graph v }
-    ensures change { TellsOfMerge records.old.graph result v }
-    ensures graph { records.new.graph ≡ step records.old.graph result }
-    ensures sound { IsGraphSound records.new.graph }
-    ensures spare { IsSpare records.old records.new 1 2 }
-{
-    let met = merge_at(records, v);
-    Change::MergeEdge {
-        v,
-        d: met.d,
-        n: met.n,
-    }
 }

@@ -3,10 +3,9 @@ ghost use Rattle.slab_laws.specs.Sound.{IsGraphSound};
 ghost use Rattle.slab_laws.specs.View.{cycle_in, twin_in};
 ghost use Rattle.dcel_records.specs.RecordsView.{IsSpare};
 ghost use Rattle.arr_notes.specs.FaceWriters.{on_cycle};
-ghost use Rattle.arr_notes.specs.Step.{split_edge, step};
-ghost use Rattle.edge_split_merge.specs.Splits.{CanSplit, IsNewPlace, TellsOfSplit, NamesNewPlace};
+ghost use Rattle.arr_notes.specs.Step.{split_edge};
+ghost use Rattle.edge_split_merge.specs.Splits.{CanSplit, IsNewPlace};
 
-use arr_notes::Change;
 use dcel_records::Records;
 use exact_plane::Point;
 use rotation_order::previous_around_source;
@@ -29,7 +28,7 @@ pub struct SplitNames {
 
 /// The edge of the dart, which goes from its lower to its upper end, is split at a new vertex at the point: the dart and
 /// its twin keep the lower part; the names of what came (CGAL manual, `split_edge`).
-pub fn split_at(records: &mut Records, d: DartId, p: Point) -> SplitNames
+pub(crate) fn split_at(records: &mut Records, d: DartId, p: Point) -> SplitNames
     requires sound { IsGraphSound records.old.graph }
     requires fits { CanSplit records.old.graph d p }
     requires vertices { 1 ≤ records.old.spare_vertices }
@@ -61,27 +60,4 @@ pub fn split_at(records: &mut Records, d: DartId, p: Point) -> SplitNames
     records.set_next(d, n);
     records.set_cycle(m, twin_cycle);
     SplitNames { v, n, m }
-}
-
-/// The edge of the dart, which goes from its lower to its upper end, is split at a new vertex at the point: the dart and
-/// its twin keep the lower part (CGAL manual, `split_edge`).
-pub fn split(records: &mut Records, d: DartId, p: Point) -> Change
-    requires sound { IsGraphSound records.old.graph }
-    requires fits { CanSplit records.old.graph d p }
-    requires vertices { 1 ≤ records.old.spare_vertices }
-    requires darts { 2 ≤ records.old.spare_darts }
-    ensures change { TellsOfSplit result d p }
-    ensures new_names { NamesNewPlace records.old.graph result }
-    ensures graph { records.new.graph ≡ step records.old.graph result }
-    ensures sound { IsGraphSound records.new.graph }
-    ensures spare { IsSpare records.new records.old 1 2 }
-{
-    let new = split_at(records, d, p);
-    Change::SplitEdge {
-        d,
-        v: new.v,
-        p,
-        n: new.n,
-        m: new.m,
-    }
 }

@@ -5,3 +5,4 @@ pub mod TwoParts
 pub mod BrokenMaps
 pub mod Emptied
 pub mod UnitedMaps
+pub mod ToldUnlinks

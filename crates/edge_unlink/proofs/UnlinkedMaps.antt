@@ -13,7 +13,7 @@ use Rattle.slab_laws.specs.View.{View, Faces, HasVertex, HasDart, HasCycle, HasF
 use Rattle.arr_notes.specs.FaceSteps.{step_faces}
 use Rattle.arr_notes.specs.FaceWriters.{off_cycles, without_cycle}
 use Rattle.arr_notes.specs.NamedRows.{put}
-use Rattle.arr_notes.specs.NotedFaces.{unlinked_faces}
+use Rattle.arr_notes.specs.FacesTold.{unlinked_faces}
 use Rattle.arr_notes.specs.Step.{remove_edge}
 use Rattle.arr_notes.specs.declared.faces.Unlinked.{Unlinked}
 use Rattle.arr_notes.proofs.Reading.{dart_number, vertex_number, none_there}

@@ -1,10 +1,12 @@
 -- An edge that goes, with what that makes of cycles and faces.
 use Rattle.std.specs.Prelude.{◌≡◌, ◌≤◌, ◌+◌}
 use Rattle.slab_laws.specs.declared.names.DartId.{DartId}
-use Rattle.slab_laws.specs.View.{twin_in}
+use Rattle.slab_laws.specs.View.{View, twin_in}
 use Rattle.arr_notes.specs.FaceSteps.{step_faces}
-use Rattle.arr_notes.specs.NotedFaces.{unlinked_faces}
+use Rattle.arr_notes.specs.FacesTold.{unlinked_faces}
 use Rattle.arr_notes.specs.Step.{remove_edge}
+use Rattle.arr_notes.specs.declared.change.Change.{Change}
+use Rattle.arr_notes.specs.declared.change.Change.TheVariants.{RemoveEdge}
 use Rattle.arr_notes.specs.declared.faces.Unlinked.{Unlinked}
 use Rattle.arr_notes.specs.declared.faces.Unlinked.TheVariants.{Unites}
 use Rattle.dcel_records.specs.RecordsView.{RecordsView, IsReturned, IsSpare, tables_of}
@@ -29,3 +31,12 @@ pub record IsUnlinkMade (old new : RecordsView) (d m : DartId) (told : Unlinked)
   pub capacity_of_cycles : new.faces.capacity_of_cycles ≡ old.faces.capacity_of_cycles
   pub capacity_of_faces : new.faces.capacity_of_faces ≡ old.faces.capacity_of_faces
   pub carried : IsCarried new told
+
+-- the change tells that the edge of d goes, its twin by name, and of what became of cycles and faces (this project)
+abbrev pub TellsOfUnlink : View → Change → DartId → Type 0
+TellsOfUnlink v c d = (faces : Unlinked) × (c ≡ RemoveEdge d (twin_in v d) faces)
+
+-- it tells of an edge that went, and of what became of cycles and faces, as they were made (this project)
+abbrev pub IsUnlinkTold : RecordsView → RecordsView → Change → Type 0
+IsUnlinkTold old new (RemoveEdge d m faces) = IsUnlinkMade old new d m faces
+IsUnlinkTold old new other = ⊥

@@ -2,12 +2,10 @@ ghost use Rattle.std.specs.Prelude.{◌≡◌};
 ghost use Rattle.slab_laws.specs.Sound.{IsGraphSound};
 ghost use Rattle.slab_laws.specs.View.{HasDart, next_in, twin_in};
 ghost use Rattle.dcel_records.specs.RecordsView.{IsSpare};
-ghost use Rattle.arr_notes.specs.declared.change.Change.TheVariants.{RemoveEdge};
 ghost use Rattle.arr_notes.specs.FaceWriters.{off_cycles};
-ghost use Rattle.arr_notes.specs.Step.{remove_edge, step};
+ghost use Rattle.arr_notes.specs.Step.{remove_edge};
 
 use crate::rounds::rest_of;
-use arr_notes::Change;
 use dcel_records::Records;
 use rotation_order::previous_around_source;
 use slab_laws::{DartId, Darts};
@@ -47,30 +45,4 @@ pub(crate) fn close_up(records: &mut Records, d: DartId) -> UnlinkNames
     records.set_next(into_m, after_m);
     records.remove_pair(d, rest_d, rest_m);
     UnlinkNames { m, into_d, into_m }
-}
-
-/// The edge of the dart goes, and the darts round both its ends close up; the name that its twin had (CGAL manual,
-/// `remove_edge`).
-pub fn unlink_edge(records: &mut Records, d: DartId) -> DartId
-    requires sound { IsGraphSound records.old.graph }
-    requires dart { HasDart records.old.graph d }
-    ensures twin { result ≡ twin_in records.old.graph d }
-    ensures graph { records.new.graph ≡ remove_edge records.old.graph d result }
-    ensures sound { IsGraphSound records.new.graph }
-    ensures spare { IsSpare records.old records.new 0 2 }
-{
-    close_up(records, d).m
-}
-
-/// The edge of the dart goes, and the darts round both its ends close up (CGAL manual, `remove_edge`).
-pub fn unlink(records: &mut Records, d: DartId) -> Change
-    requires sound { IsGraphSound records.old.graph }
-    requires dart { HasDart records.old.graph d }
-    ensures change { result ≡ RemoveEdge d (twin_in records.old.graph d) }
-    ensures graph { records.new.graph ≡ step records.old.graph result }
-    ensures sound { IsGraphSound records.new.graph }
-    ensures spare { IsSpare records.old records.new 0 2 }
-{
-    let m = unlink_edge(records, d);
-    Change::RemoveEdge { d, m }
 }

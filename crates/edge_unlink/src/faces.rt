@@ -104,8 +104,8 @@ fn part(records: &mut Records, d: DartId) -> FacedUnlink
     }
 }
 
-/// The edge of the dart goes, as by [`crate::unlink_edge`], with what becomes of cycles and faces: a cycle that vanishes,
-/// shrinks or breaks, or two faces that are united (CGAL manual, `remove_edge`).
+/// The edge of the dart goes, and the darts round both its ends close up; the name that its twin had, and what becomes of cycles
+/// and faces: a cycle that vanishes, shrinks or breaks, or two faces that are united (CGAL manual, `remove_edge`).
 ///
 /// It takes no memory. Where the edge breaks a cycle or unites two, the darts of the shorter one are written, where that is
 /// free; and where two faces are united, all that the one that goes had moves.

@@ -1,14 +1,15 @@
 //! One edge fewer in the records of a doubly-connected edge list.
 //!
-//! `unlink_edge` answers the name that goes with the dart's; `unlink` tells both by a change. `unlink_with_faces` writes cycles
-//! and faces too, and tells what became of them.
+//! `unlink_with_faces` answers the name that goes with the dart's, and what became of cycles and faces; `unlink` tells it by a
+//! change.
 #![tactic(auto)]
 
 mod breaking;
 mod edges;
 mod faces;
 mod rounds;
+mod told;
 mod uniting;
 
-pub use edges::{unlink, unlink_edge};
 pub use faces::{FacedUnlink, unlink_with_faces};
+pub use told::unlink;

@@ -27,6 +27,7 @@ pub mod MapInSteps
 pub mod TriangleOpened
 pub mod LinkedFaces
 pub mod UnlinkedFaces
-pub mod NotedFaces
+pub mod ChangeLaws
 pub mod Within
 pub mod TriangleClosed
+pub mod ChangeNames

@@ -8,7 +8,7 @@ use Rattle.slab_laws.specs.Sound.{skeleton_of, IsGraphSound}
 use Rattle.slab_laws.specs.View.{View, Faces, twin_in}
 use Rattle.arr_notes.specs.Step.{add_edge}
 use Rattle.arr_notes.specs.FaceSteps.{step_faces, new_hole, grows, joins, splits}
-use Rattle.arr_notes.specs.NotedFaces.{linked_faces}
+use Rattle.arr_notes.specs.FacesTold.{linked_faces}
 use Rattle.arr_notes.specs.declared.faces.Linked.{Linked}
 use Rattle.arr_notes.specs.declared.faces.Linked.TheVariants.{NewHole, Grows, Joins, Splits}
 use Rattle.sound_changes.specs.EdgePlaces.{FitsAddedEdge}

@@ -7,7 +7,7 @@ use Rattle.slab_laws.specs.Sound.{IsGraphSound}
 use Rattle.slab_laws.specs.View.{View, Faces, HasDart, source_in, target_in, twin_in, next_in, line_in, cycle_in}
 use Rattle.arr_notes.specs.Step.{remove_edge}
 use Rattle.arr_notes.specs.FaceSteps.{step_faces, vanishes, shrinks, breaks, unites}
-use Rattle.arr_notes.specs.NotedFaces.{unlinked_faces}
+use Rattle.arr_notes.specs.FacesTold.{unlinked_faces}
 use Rattle.arr_notes.specs.declared.faces.Unlinked.{Unlinked}
 use Rattle.arr_notes.specs.declared.faces.Unlinked.TheVariants.{Vanishes, Shrinks, Breaks, Unites}
 use Rattle.arr_notes.proofs.Reading.{dart_number}

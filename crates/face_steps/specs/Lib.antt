@@ -10,6 +10,7 @@ pub mod StepLaws
 pub mod RecordsApart
 pub mod LinkLaws
 pub mod ChangeLaws
+pub mod NameLaws
 pub mod Choices
 pub mod Within
 pub mod RowsWritten

@@ -7,7 +7,7 @@ use Rattle.slab_laws.specs.Skeleton.{IsPlaneSkeleton}
 use Rattle.slab_laws.specs.Sound.{skeleton_of, dart_in, IsGraphSound}
 use Rattle.slab_laws.specs.View.{View, Faces, HasDart, HasCycle, twin_in, next_in, cycle_in, face_in, bare_face_in}
 use Rattle.arr_notes.specs.FaceSteps.{step_faces}
-use Rattle.arr_notes.specs.NotedFaces.{linked_faces, unlinked_faces}
+use Rattle.arr_notes.specs.FacesTold.{linked_faces, unlinked_faces}
 use Rattle.arr_notes.specs.Step.{add_edge, remove_edge}
 use Rattle.arr_notes.specs.declared.faces.Linked.{Linked}
 use Rattle.arr_notes.specs.declared.faces.Linked.TheVariants.{NewHole, Grows, Joins, Splits}

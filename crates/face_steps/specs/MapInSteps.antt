@@ -11,7 +11,8 @@ use Rattle.slab_laws.specs.FaceLists.{MovedView}
 use Rattle.slab_laws.specs.Sound.{skeleton_of, dart_in}
 use Rattle.slab_laws.specs.Triangle.{corner, dart}
 use Rattle.slab_laws.specs.View.{View, Faces, CycleRecord, VertexRecord, vertex_id, dart_id, cycle_id, face_id, curve_id}
-use Rattle.arr_notes.specs.NotedFaces.{NoFaces, InFace, InLink, InUnlink, faces_after}
+use Rattle.arr_notes.specs.FacesTold.{faces_after}
+use Rattle.arr_notes.specs.declared.faces.Linked.{Linked}
 use Rattle.arr_notes.specs.declared.faces.Linked.TheVariants.{NewHole, Grows, Joins, Splits}
 use Rattle.arr_notes.specs.declared.faces.Unlinked.TheVariants.{Vanishes, Shrinks, Breaks, Unites}
 use Rattle.arr_notes.specs.Step.{step}
@@ -37,8 +38,8 @@ inner c a = (c, record { kind = Inner; face = face_id a })
 abbrev pub outer : ℕ → ℕ → ℕ × CycleRecord
 outer c a = (c, record { kind = Outer; face = face_id a })
 
-abbrev pub edge : (d m u v : ℕ) → Option DartId → Option DartId → Line → Change
-edge d m u v at_u at_v line = AddEdge (dart_id d) (dart_id m) (vertex_id u) (vertex_id v) at_u at_v line (curve_id 1)
+abbrev pub edge : (d m u v : ℕ) → Option DartId → Option DartId → Line → Linked → Change
+edge d m u v at_u at_v line faces = AddEdge (dart_id d) (dart_id m) (vertex_id u) (vertex_id v) at_u at_v line (curve_id 1) faces
 
 -- what moves
 abbrev pub moving : List CycleId → List VertexId → MovedView
@@ -78,7 +79,7 @@ start_tables = record {
 
 -- ---- a vertex above the diagonal
 abbrev pub with_vertex_by : Change
-with_vertex_by = AddVertex (vertex_id 6) (record { x = pos 2; y = pos 5; w = pos 1 })
+with_vertex_by = AddVertex (vertex_id 6) (record { x = pos 2; y = pos 5; w = pos 1 }) (face_id 0)
 
 abbrev pub with_vertex : View
 with_vertex = step start with_vertex_by
@@ -93,7 +94,7 @@ with_vertex_tables = record {
 
 -- ---- the side below
 abbrev pub side_below_by : Change
-side_below_by = edge 0 1 0 1 None None below
+side_below_by = edge 0 1 0 1 None None below (NewHole (cycle_id 0) (face_id 0))
 
 abbrev pub side_below : View
 side_below = step with_vertex side_below_by
@@ -108,7 +109,7 @@ side_below_tables = record {
 
 -- ---- the side on the right
 abbrev pub side_right_by : Change
-side_right_by = edge 2 3 1 2 (Some (dart_id 1)) None right
+side_right_by = edge 2 3 1 2 (Some (dart_id 1)) None right (Grows (cycle_id 0))
 
 abbrev pub side_right : View
 side_right = step side_below side_right_by
@@ -123,7 +124,7 @@ side_right_tables = record {
 
 -- ---- the side above
 abbrev pub side_above_by : Change
-side_above_by = edge 4 5 3 2 None (Some (dart_id 3)) above
+side_above_by = edge 4 5 3 2 None (Some (dart_id 3)) above (Grows (cycle_id 0))
 
 abbrev pub side_above : View
 side_above = step side_right side_above_by
@@ -138,7 +139,7 @@ side_above_tables = record {
 
 -- ---- a part of the diagonal, which is a hole of its own
 abbrev pub hole_within_by : Change
-hole_within_by = edge 6 7 4 5 None None diagonal
+hole_within_by = edge 6 7 4 5 None None diagonal (NewHole (cycle_id 1) (face_id 0))
 
 abbrev pub hole_within : View
 hole_within = step side_above hole_within_by
@@ -153,7 +154,7 @@ hole_within_tables = record {
 
 -- ---- the square is closed: the hole 1 and the vertex 6 move to the face inside, the hole 9 and the vertex 7 stay
 abbrev pub closed_by : Change
-closed_by = edge 8 9 0 3 (Some (dart_id 0)) (Some (dart_id 4)) left
+closed_by = edge 8 9 0 3 (Some (dart_id 0)) (Some (dart_id 4)) left (Splits (cycle_id 0) (cycle_id 2) (dart_id 9) (face_id 1) (moving (cycle_id 1 ∷ []) (vertex_id 6 ∷ [])))
 
 abbrev pub closed : View
 closed = step hole_within closed_by
@@ -168,7 +169,7 @@ closed_tables = record {
 
 -- ---- the hole is tied to the upper right corner
 abbrev pub tied_by : Change
-tied_by = edge 10 11 5 2 (Some (dart_id 7)) (Some (dart_id 3)) diagonal
+tied_by = edge 10 11 5 2 (Some (dart_id 7)) (Some (dart_id 3)) diagonal (Joins (cycle_id 2) (cycle_id 1))
 
 abbrev pub tied : View
 tied = step closed tied_by
@@ -198,7 +199,7 @@ tied_in_two_tables = record {
 
 -- ---- the diagonal is whole: the vertex 6 moves to the face above it
 abbrev pub halved_by : Change
-halved_by = edge 14 15 0 4 (Some (dart_id 8)) (Some (dart_id 6)) diagonal
+halved_by = edge 14 15 0 4 (Some (dart_id 8)) (Some (dart_id 6)) diagonal (Splits (cycle_id 2) (cycle_id 3) (dart_id 14) (face_id 2) (moving [] (vertex_id 6 ∷ [])))
 
 abbrev pub halved : View
 halved = step tied_in_two halved_by
@@ -228,7 +229,7 @@ halved_by_one_tables = record {
 
 -- ---- its upper part goes: one face again, and the vertex 6 moves back
 abbrev pub united_by : Change
-united_by = RemoveEdge (dart_id 10) (dart_id 11)
+united_by = RemoveEdge (dart_id 10) (dart_id 11) (Unites (cycle_id 2) (cycle_id 3) (face_id 2) (moving [] (vertex_id 6 ∷ [])))
 
 abbrev pub united : View
 united = step halved_by_one united_by
@@ -243,7 +244,7 @@ united_tables = record {
 
 -- ---- its lower part goes: what is left is a hole again
 abbrev pub untied_by : Change
-untied_by = RemoveEdge (dart_id 14) (dart_id 15)
+untied_by = RemoveEdge (dart_id 14) (dart_id 15) (Breaks (cycle_id 2) (cycle_id 1) (dart_id 7))
 
 abbrev pub untied : View
 untied = step united untied_by
@@ -258,7 +259,7 @@ untied_tables = record {
 
 -- ---- the left side goes: the hole 1 and the vertex 6 move to the unbounded face
 abbrev pub opened_by : Change
-opened_by = RemoveEdge (dart_id 8) (dart_id 9)
+opened_by = RemoveEdge (dart_id 8) (dart_id 9) (Unites (cycle_id 0) (cycle_id 2) (face_id 1) (moving (cycle_id 1 ∷ []) (vertex_id 6 ∷ [])))
 
 abbrev pub opened : View
 opened = step untied opened_by
@@ -273,7 +274,7 @@ opened_tables = record {
 
 -- ---- the hole goes
 abbrev pub hole_gone_by : Change
-hole_gone_by = RemoveEdge (dart_id 6) (dart_id 7)
+hole_gone_by = RemoveEdge (dart_id 6) (dart_id 7) (Vanishes (cycle_id 1) (face_id 0))
 
 abbrev pub hole_gone : View
 hole_gone = step opened hole_gone_by
@@ -288,7 +289,7 @@ hole_gone_tables = record {
 
 -- ---- the side above goes
 abbrev pub side_gone_by : Change
-side_gone_by = RemoveEdge (dart_id 4) (dart_id 5)
+side_gone_by = RemoveEdge (dart_id 4) (dart_id 5) (Shrinks (cycle_id 0) (face_id 0))
 
 abbrev pub side_gone : View
 side_gone = step hole_gone side_gone_by
@@ -316,30 +317,30 @@ vertex_gone_tables = record {
   faces = 0 ∷ [];
 }
 
--- ---- the tables after each change are those that its note makes of the tables before it
+-- ---- the tables after each change are those that it makes of the tables before it
 pub record MapInSteps : Type 0 where
-  pub vertex_comes : faces_after start start_tables with_vertex_by (InFace (face_id 0)) ≡ with_vertex_tables
-  pub new_hole : faces_after with_vertex with_vertex_tables side_below_by (InLink (NewHole (cycle_id 0) (face_id 0))) ≡ side_below_tables
-  pub grows_at_end : faces_after side_below side_below_tables side_right_by (InLink (Grows (cycle_id 0))) ≡ side_right_tables
-  pub grows_at_start : faces_after side_right side_right_tables side_above_by (InLink (Grows (cycle_id 0))) ≡ side_above_tables
-  pub another_hole : faces_after side_above side_above_tables hole_within_by (InLink (NewHole (cycle_id 1) (face_id 0))) ≡ hole_within_tables
-  pub splits : faces_after hole_within hole_within_tables closed_by (InLink (Splits (cycle_id 0) (cycle_id 2) (dart_id 9) (face_id 1) (moving (cycle_id 1 ∷ []) (vertex_id 6 ∷ [])))) ≡ closed_tables
-  pub joins : faces_after closed closed_tables tied_by (InLink (Joins (cycle_id 2) (cycle_id 1))) ≡ tied_tables
-  pub edge_in_two : faces_after tied tied_tables tied_in_two_by NoFaces ≡ tied_in_two_tables
-  pub splits_again : faces_after tied_in_two tied_in_two_tables halved_by (InLink (Splits (cycle_id 2) (cycle_id 3) (dart_id 14) (face_id 2) (moving [] (vertex_id 6 ∷ [])))) ≡ halved_tables
-  pub edges_in_one : faces_after halved halved_tables halved_by_one_by NoFaces ≡ halved_by_one_tables
-  pub unites : faces_after halved_by_one halved_by_one_tables united_by (InUnlink (Unites (cycle_id 2) (cycle_id 3) (face_id 2) (moving [] (vertex_id 6 ∷ [])))) ≡ united_tables
-  pub breaks : faces_after united united_tables untied_by (InUnlink (Breaks (cycle_id 2) (cycle_id 1) (dart_id 7))) ≡ untied_tables
-  pub unites_with_unbounded : faces_after untied untied_tables opened_by (InUnlink (Unites (cycle_id 0) (cycle_id 2) (face_id 1) (moving (cycle_id 1 ∷ []) (vertex_id 6 ∷ [])))) ≡ opened_tables
-  pub vanishes : faces_after opened opened_tables hole_gone_by (InUnlink (Vanishes (cycle_id 1) (face_id 0))) ≡ hole_gone_tables
-  pub shrinks : faces_after hole_gone hole_gone_tables side_gone_by (InUnlink (Shrinks (cycle_id 0) (face_id 0))) ≡ side_gone_tables
-  pub vertex_goes : faces_after side_gone side_gone_tables vertex_gone_by NoFaces ≡ vertex_gone_tables
+  pub vertex_comes : faces_after start start_tables with_vertex_by ≡ with_vertex_tables
+  pub new_hole : faces_after with_vertex with_vertex_tables side_below_by ≡ side_below_tables
+  pub grows_at_end : faces_after side_below side_below_tables side_right_by ≡ side_right_tables
+  pub grows_at_start : faces_after side_right side_right_tables side_above_by ≡ side_above_tables
+  pub another_hole : faces_after side_above side_above_tables hole_within_by ≡ hole_within_tables
+  pub splits : faces_after hole_within hole_within_tables closed_by ≡ closed_tables
+  pub joins : faces_after closed closed_tables tied_by ≡ tied_tables
+  pub edge_in_two : faces_after tied tied_tables tied_in_two_by ≡ tied_in_two_tables
+  pub splits_again : faces_after tied_in_two tied_in_two_tables halved_by ≡ halved_tables
+  pub edges_in_one : faces_after halved halved_tables halved_by_one_by ≡ halved_by_one_tables
+  pub unites : faces_after halved_by_one halved_by_one_tables united_by ≡ united_tables
+  pub breaks : faces_after united united_tables untied_by ≡ untied_tables
+  pub unites_with_unbounded : faces_after untied untied_tables opened_by ≡ opened_tables
+  pub vanishes : faces_after opened opened_tables hole_gone_by ≡ hole_gone_tables
+  pub shrinks : faces_after hole_gone hole_gone_tables side_gone_by ≡ side_gone_tables
+  pub vertex_goes : faces_after side_gone side_gone_tables vertex_gone_by ≡ vertex_gone_tables
   -- curves and pins change nothing, and where all goes the unbounded face is left
-  pub curve_comes : faces_after closed closed_tables (AddCurve (dart_id 8) (curve_id 2)) NoFaces ≡ closed_tables
-  pub curve_goes : faces_after closed closed_tables (RemoveCurve (dart_id 8) (curve_id 2)) NoFaces ≡ closed_tables
-  pub pin_set : faces_after closed closed_tables (SetPin (vertex_id 6)) NoFaces ≡ closed_tables
-  pub pin_cleared : faces_after closed closed_tables (ClearPin (vertex_id 6)) NoFaces ≡ closed_tables
-  pub all_gone : faces_after closed closed_tables Clear (InFace (face_id 0)) ≡ record { cycle_of = []; bare = []; cycles = []; faces = 0 ∷ [] }
+  pub curve_comes : faces_after closed closed_tables (AddCurve (dart_id 8) (curve_id 2)) ≡ closed_tables
+  pub curve_goes : faces_after closed closed_tables (RemoveCurve (dart_id 8) (curve_id 2)) ≡ closed_tables
+  pub pin_set : faces_after closed closed_tables (SetPin (vertex_id 6)) ≡ closed_tables
+  pub pin_cleared : faces_after closed closed_tables (ClearPin (vertex_id 6)) ≡ closed_tables
+  pub all_gone : faces_after closed closed_tables (Clear (face_id 0)) ≡ record { cycle_of = []; bare = []; cycles = []; faces = 0 ∷ [] }
   -- the fresh cycles are of the kinds that the tables give them, and what moves to a fresh face is where its outer cycle is odd
   pub closed_is_outer : is_outer (skeleton_of closed) (dart_in closed (dart_id 9)) ≡ true
   pub hole_is_within : IsWithin closed (dart_id 9) (beside (dart_id 6))

@@ -1,7 +1,7 @@
 //! What each change of an arrangement makes of its tables of cycles and faces, and that these go on standing for the cycles
 //! and faces of what the view draws.
 //!
-//! The tables after a change are computed in `arr_notes` (`specs/NotedFaces.antt`: `faces_after`). The law to cite is
+//! The tables after a change are computed in `arr_notes` (`specs/FacesTold.antt`: `faces_after`). The law to cite is
 //! `changes_keep_faces_sound`; the others are its parts, or say what code is free to choose. In the laws v is a view without
 //! an edge or a vertex and f its tables, w and s those with it, and each law holds both ways where it can: for what comes,
 //! and for what goes.
@@ -13,6 +13,7 @@ ghost use Rattle.face_steps.specs.ChangeLaws.{ChangesKeepFacesSound};
 ghost use Rattle.face_steps.specs.Choices.{ChoicesOfKinds};
 ghost use Rattle.face_steps.specs.LinkLaws.{LinksKeepTables, UnlinksKeepTables};
 ghost use Rattle.face_steps.specs.MapInSteps.{MapInSteps};
+ghost use Rattle.face_steps.specs.NameLaws.{ChangesKeepFirst, ChangesKeepNames};
 ghost use Rattle.face_steps.specs.OneFace.{OneFaceOnBothSides, CyclesApart};
 ghost use Rattle.face_steps.specs.RecordsApart.{RecordsApart};
 ghost use Rattle.face_steps.specs.RowsWritten.{RowsWritten};
@@ -24,9 +25,20 @@ ghost use Rattle.face_steps.specs.TwoFaces.{TwoFacesApart};
 ghost use Rattle.face_steps.specs.VertexSteps.{VertexSteps};
 ghost use Rattle.face_steps.specs.Within.{WithinByEither};
 
-/// A sound view with its tables of cycles and faces is one again after any change whose note says of faces what it has to.
+/// A sound view with its tables of cycles and faces is one again after any change that says of faces what it has to.
 pub fn changes_keep_faces_sound()
     ensures { ChangesKeepFacesSound }
+{}
+
+/// The first face name, the unbounded face's, stays first after any such change.
+pub fn changes_keep_first()
+    ensures { ChangesKeepFirst }
+{}
+
+/// Names of cycles and faces stay, but for those that the change tells to go, and none is there but the old ones and those that
+/// it tells to come.
+pub fn changes_keep_names()
+    ensures { ChangesKeepNames }
 {}
 
 /// After each change the tables stand for the cycles and faces of what the view draws, whatever two views are meant.
@@ -39,7 +51,7 @@ pub fn steps_keep_first()
     ensures { StepsKeepFirst }
 {}
 
-/// Where the records link an edge, what the note has to say follows from the places at both ends and from the tables.
+/// Where the records link an edge, what the change has to say follows from the places at both ends and from the tables.
 pub fn links_keep_tables()
     ensures { LinksKeepTables }
 {}

@@ -12,7 +12,7 @@ use crate::seat::Seat;
 use crate::went::Went;
 use arr_notes::{Note, Observer};
 use no_memory::NoMemory;
-use slab_laws::Curved;
+use slab_laws::{Curved, Faced};
 use std::alloc::Global;
 
 /// The seats of a bus, planned joins included.
@@ -66,7 +66,7 @@ impl Bus {
     /// The observer is handed back, with as many notes left as it had, and no seat or plan changes: `Taken` where a seated observer, or one
     /// whose join is planned, has the name; then `Full(8)` where eight are there; `NoMemory` where there was none for the snapshot, or the
     /// observer found none.
-    pub fn attach<R: Curved>(
+    pub fn attach<R: Curved + Faced>(
         &mut self,
         alloc: Global,
         records: &R,
@@ -75,12 +75,12 @@ impl Bus {
         when: Option<u32>,
     ) -> Result<(), (Box<dyn Observer>, AttachError)>
         requires when { when ≢ Some 0 }
-        requires sound { IsSoundView (view_by (R.graph records.now) (R.curve_list records.now)) }
+        requires sound { IsSoundView (view_by (R.graph records.now) (R.faces records.now) (R.curve_list records.now)) }
         ensures refused { IsAttachAnswer (attach_refusal name (bus_row Observer-dyn self.old).seats) result }
         ensures same { IfErr result (λ e. e.1 ≢ AttachError.NoMemory → e.0 ≡ observer) }
         ensures back { IfErr result (λ e. (tells e.0 ≡ tells observer) × (left e.0 ≡ left observer)) }
         ensures err { OnErr result (bus_row Observer-dyn self.new ≡ bus_row Observer-dyn self.old) }
-        ensures attached { OnOk result (IsAttached (view_by (R.graph records.now) (R.curve_list records.now)) (newcomer Observer-dyn name when observer)
+        ensures attached { OnOk result (IsAttached (view_by (R.graph records.now) (R.faces records.now) (R.curve_list records.now)) (newcomer Observer-dyn name when observer)
             (bus_row Observer-dyn self.old) (bus_row Observer-dyn self.new)) }
     {
         if round::has_name(&self.seats, name) {
@@ -149,16 +149,16 @@ impl Bus {
     /// are dropped on the spot.
     ///
     /// It takes no memory where no join comes.
-    pub fn say<R: Curved>(&mut self, alloc: Global, records: &R, note: &Note)
+    pub fn say<R: Curved + Faced>(&mut self, alloc: Global, records: &R, note: &Note)
         requires settled { (bus_row Observer-dyn self.old).settled ≡ true }
-        requires sound { IsSoundView (view_by (R.graph records.now) (R.curve_list records.now)) }
+        requires sound { IsSoundView (view_by (R.graph records.now) (R.faces records.now) (R.curve_list records.now)) }
         requires fits { All (MayHear note.now) (bus_row Observer-dyn self.old).seats }
         requires counted { IsRoundNote note.now }
-        ensures round { AreInRound note.now (view_by (R.graph records.now) (R.curve_list records.now)) (bus_row Observer-dyn self.old)
+        ensures round { AreInRound note.now (view_by (R.graph records.now) (R.faces records.now) (R.curve_list records.now)) (bus_row Observer-dyn self.old)
             (bus_row Observer-dyn self.new) }
         ensures holds { (v : CurvedView) → All (Holds v) (bus_row Observer-dyn self.old).seats →
-            Leads v note.now (view_by (R.graph records.now) (R.curve_list records.now)) →
-            All (Holds (view_by (R.graph records.now) (R.curve_list records.now))) (bus_row Observer-dyn self.new).seats }
+            Leads v note.now (view_by (R.graph records.now) (R.faces records.now) (R.curve_list records.now)) →
+            All (Holds (view_by (R.graph records.now) (R.faces records.now) (R.curve_list records.now))) (bus_row Observer-dyn self.new).seats }
     {
         round::say(&mut self.seats, &mut self.went, alloc, records, note);
     }

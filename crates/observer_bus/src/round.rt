@@ -9,11 +9,11 @@ ghost use Rattle.observer_bus.specs.Seats.{Holds, Leads, MayHear, IsRoundNote};
 use crate::seat::Seat;
 use crate::went::Went;
 use arr_notes::Note;
-use slab_laws::Curved;
+use slab_laws::{Curved, Faced};
 use std::alloc::Global;
 
 /// One round, from the first seat to the last.
-pub(crate) fn forward<R: Curved>(
+pub(crate) fn forward<R: Curved + Faced>(
     seats: &mut Vec<Seat>,
     went: &mut Went,
     alloc: Global,
@@ -21,13 +21,13 @@ pub(crate) fn forward<R: Curved>(
     note: &Note,
 )
     requires fits { All (MayHear note.now) (rows Observer-dyn seats.old.items) }
-    requires sound { IsSoundView (view_by (R.graph records.now) (R.curve_list records.now)) }
+    requires sound { IsSoundView (view_by (R.graph records.now) (R.faces records.now) (R.curve_list records.now)) }
     requires counted { IsRoundNote note.now }
     requires room { HaveRoom (map (λ s. s.join) seats.old.items) went.old }
     ensures capacity { vec_capacity seats.new ≡ vec_capacity seats.old }
     ensures shorter { length seats.new.items ≤ length seats.old.items }
     ensures room { HaveRoom (map (λ s. s.join) seats.new.items) went.new }
-    ensures round { IsRoundOf note.now (view_by (R.graph records.now) (R.curve_list records.now)) (rows Observer-dyn seats.old.items) went.old
+    ensures round { IsRoundOf note.now (view_by (R.graph records.now) (R.faces records.now) (R.curve_list records.now)) (rows Observer-dyn seats.old.items) went.old
         (rows Observer-dyn seats.new.items) went.new }
 {
     let mut i = 0;
@@ -46,7 +46,7 @@ pub(crate) fn forward<R: Curved>(
 }
 
 /// One round, from the last seat to the first.
-pub(crate) fn backward<R: Curved>(
+pub(crate) fn backward<R: Curved + Faced>(
     seats: &mut Vec<Seat>,
     went: &mut Went,
     alloc: Global,
@@ -54,13 +54,13 @@ pub(crate) fn backward<R: Curved>(
     note: &Note,
 )
     requires fits { All (MayHear note.now) (rows Observer-dyn seats.old.items) }
-    requires sound { IsSoundView (view_by (R.graph records.now) (R.curve_list records.now)) }
+    requires sound { IsSoundView (view_by (R.graph records.now) (R.faces records.now) (R.curve_list records.now)) }
     requires counted { IsRoundNote note.now }
     requires room { HaveRoom (map (λ s. s.join) seats.old.items) went.old }
     ensures capacity { vec_capacity seats.new ≡ vec_capacity seats.old }
     ensures shorter { length seats.new.items ≤ length seats.old.items }
     ensures room { HaveRoom (map (λ s. s.join) seats.new.items) went.new }
-    ensures round { IsRoundOf note.now (view_by (R.graph records.now) (R.curve_list records.now)) (rows Observer-dyn seats.old.items) went.old
+    ensures round { IsRoundOf note.now (view_by (R.graph records.now) (R.faces records.now) (R.curve_list records.now)) (rows Observer-dyn seats.old.items) went.old
         (rows Observer-dyn seats.new.items) went.new }
 {
     'turns: for i in (0..seats.len()).rev() {
@@ -76,7 +76,7 @@ pub(crate) fn backward<R: Curved>(
 }
 
 /// One round: before a change from the first seat to the last, after it from the last to the first.
-pub(crate) fn say<R: Curved>(
+pub(crate) fn say<R: Curved + Faced>(
     seats: &mut Vec<Seat>,
     went: &mut Went,
     alloc: Global,
@@ -84,13 +84,13 @@ pub(crate) fn say<R: Curved>(
     note: &Note,
 )
     requires fits { All (MayHear note.now) (rows Observer-dyn seats.old.items) }
-    requires sound { IsSoundView (view_by (R.graph records.now) (R.curve_list records.now)) }
+    requires sound { IsSoundView (view_by (R.graph records.now) (R.faces records.now) (R.curve_list records.now)) }
     requires counted { IsRoundNote note.now }
     requires room { HaveRoom (map (λ s. s.join) seats.old.items) went.old }
     ensures capacity { vec_capacity seats.new ≡ vec_capacity seats.old }
     ensures shorter { length seats.new.items ≤ length seats.old.items }
     ensures room { HaveRoom (map (λ s. s.join) seats.new.items) went.new }
-    ensures round { IsRoundOf note.now (view_by (R.graph records.now) (R.curve_list records.now)) (rows Observer-dyn seats.old.items) went.old
+    ensures round { IsRoundOf note.now (view_by (R.graph records.now) (R.faces records.now) (R.curve_list records.now)) (rows Observer-dyn seats.old.items) went.old
         (rows Observer-dyn seats.new.items) went.new }
 {
     match note {

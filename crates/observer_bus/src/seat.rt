@@ -5,7 +5,7 @@ ghost use Rattle.arr_notes.specs.Notes.{one_less};
 use crate::snapshot::snapshot;
 use arr_notes::{Answer, Note, Observer};
 use no_memory::NoMemory;
-use slab_laws::Curved;
+use slab_laws::{Curved, Faced};
 use std::alloc::Global;
 
 /// A seated observer, or one whose join is planned.
@@ -78,12 +78,17 @@ impl Seat {
     }
 
     /// One turn in a round.
-    pub(crate) fn turn<R: Curved>(&mut self, alloc: Global, records: &R, note: &Note) -> Fate
+    pub(crate) fn turn<R: Curved + Faced>(
+        &mut self,
+        alloc: Global,
+        records: &R,
+        note: &Note,
+    ) -> Fate
         requires fits { MayHear note.now (row Observer-dyn self.old) }
-        requires sound { IsSoundView (view_by (R.graph records.now) (R.curve_list records.now)) }
+        requires sound { IsSoundView (view_by (R.graph records.now) (R.faces records.now) (R.curve_list records.now)) }
         requires round { IsRoundNote note.now }
         ensures fate { IsFateOf result (row Observer-dyn self.old) }
-        ensures kept { IsTrue (stays result) → IsKept note.now (view_by (R.graph records.now) (R.curve_list records.now)) result
+        ensures kept { IsTrue (stays result) → IsKept note.now (view_by (R.graph records.now) (R.faces records.now) (R.curve_list records.now)) result
             (row Observer-dyn self.old) (row Observer-dyn self.new) }
         ensures gone { stays result ≡ false → IsGone note.now result (row Observer-dyn self.old) (row Observer-dyn self.new) }
     {
@@ -127,15 +132,15 @@ impl Seat {
     }
 
     // Hands the observer a snapshot.
-    fn welcome<R: Curved>(&mut self, alloc: Global, records: &R) -> Result<(), NoMemory>
-        requires { IsSoundView (view_by (R.graph records.now) (R.curve_list records.now)) }
+    fn welcome<R: Curved + Faced>(&mut self, alloc: Global, records: &R) -> Result<(), NoMemory>
+        requires { IsSoundView (view_by (R.graph records.now) (R.faces records.now) (R.curve_list records.now)) }
         ensures name { self.new.name ≡ self.old.name }
         ensures join { self.new.join ≡ self.old.join }
         ensures leave { self.new.leave ≡ self.old.leave }
         ensures tells { tells self.new.observer ≡ tells self.old.observer }
         ensures left { left self.new.observer ≡ left self.old.observer }
-        ensures heard { OnOk result (heard self.new.observer ≡ heard_after (heard self.old.observer) (Snapshot (view_by (R.graph records.now) (R.curve_list records.now)))) }
-        ensures held { OnOk result (IsTrue (tells self.old.observer) → held self.new.observer ≡ Some (view_by (R.graph records.now) (R.curve_list records.now))) }
+        ensures heard { OnOk result (heard self.new.observer ≡ heard_after (heard self.old.observer) (Snapshot (view_by (R.graph records.now) (R.faces records.now) (R.curve_list records.now)))) }
+        ensures held { OnOk result (IsTrue (tells self.old.observer) → held self.new.observer ≡ Some (view_by (R.graph records.now) (R.faces records.now) (R.curve_list records.now))) }
     {
         let note = Note::Snapshot(snapshot(alloc, records)?);
         let answer = self.observer.heed(&note);
@@ -160,7 +165,7 @@ impl Seat {
     }
 
     /// A seat that joins at once, with a snapshot, or at a later round.
-    pub(crate) fn placed<R: Curved>(
+    pub(crate) fn placed<R: Curved + Faced>(
         alloc: Global,
         records: &R,
         name: u32,
@@ -168,8 +173,8 @@ impl Seat {
         when: Option<u32>,
     ) -> Result<Seat, Box<dyn Observer>>
         requires when { when ≢ Some 0 }
-        requires sound { IsSoundView (view_by (R.graph records.now) (R.curve_list records.now)) }
-        ensures placed { IfOk result (λ s. IsPlaced when (view_by (R.graph records.now) (R.curve_list records.now))
+        requires sound { IsSoundView (view_by (R.graph records.now) (R.faces records.now) (R.curve_list records.now)) }
+        ensures placed { IfOk result (λ s. IsPlaced when (view_by (R.graph records.now) (R.faces records.now) (R.curve_list records.now))
             (newcomer Observer-dyn name when observer) (row Observer-dyn s)) }
         ensures back { IfErr result (λ b. (tells b ≡ tells observer) × (left b ≡ left observer)) }
     {

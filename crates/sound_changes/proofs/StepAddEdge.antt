@@ -18,6 +18,7 @@ use Rattle.sound_changes.proofs.EdgeAdded.{more, named as added_named}
 use Rattle.sound_changes.proofs.RingsKept.{swapped, up, point_same, twinned_up, start_old, end_old}
 use Rattle.edit_steps.specs.Steps.{AddEdge as AddEdgeAt, apply}
 use Rattle.arr_notes.specs.declared.change.Change.TheVariants.{AddEdge}
+use Rattle.arr_notes.specs.declared.faces.Linked.{Linked}
 use Rattle.arr_notes.specs.Curves.{Curves, AreCurvesOf, step_curves, is_forward}
 use Rattle.arr_notes.specs.Step.{add_edge}
 use Rattle.arr_notes.proofs.Names.{cases_dart}
@@ -105,9 +106,9 @@ module _ (v : View) (d m : DartId) (u w : VertexId) (at_u at_w : Option DartId) 
             (λ x o nd nm e. let k = way x o in ends_apart v x s o (sym k.start ∙ e ∙ k.end));
       }
 
-  module _ (h : Curves) (a : AreCurvesOf v h) (c : CurveId) where
+  module _ (h : Curves) (a : AreCurvesOf v h) (c : CurveId) (faces : Linked) where
     abbrev with_curve : Curves
-    with_curve = step_curves h (AddEdge d m u w at_u at_w l c)
+    with_curve = step_curves h (AddEdge d m u w at_u at_w l c faces)
 
     abbrev after : Graph
     after = apply (AddEdgeAt p q c.0) (drawn_graph v h)
@@ -168,5 +169,5 @@ module _ (v : View) (d m : DartId) (u w : VertexId) (at_u at_w : Option DartId) 
         (λ x o nd nm. label_moves v g h with_curve x (way x o) (elsewhere x nd) (labelled v h x a o)))
         (λ x none. elsewhere x (λ e. none (subst (HasDart g) (sym e) edge_more.first)) ∙ a.without_dart x (λ o. none (way x o).after))
 
-    pub edge_added : IsApplied v h (AddEdge d m u w at_u at_w l c)
-    edge_added = applied v h (AddEdge d m u w at_u at_w l c) right more_from more_into
+    pub edge_added : IsApplied v h (AddEdge d m u w at_u at_w l c faces)
+    edge_added = applied v h (AddEdge d m u w at_u at_w l c faces) right more_from more_into

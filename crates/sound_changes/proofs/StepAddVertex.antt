@@ -5,6 +5,7 @@ use Rattle.exact_plane.specs.Point.{Point}
 use Rattle.plane_graphs.specs.Ascending.{Member}
 use Rattle.plane_graphs.specs.Graph.{Graph}
 use Rattle.slab_laws.specs.declared.names.DartId.{DartId}
+use Rattle.slab_laws.specs.declared.names.FaceId.{FaceId}
 use Rattle.slab_laws.specs.declared.names.VertexId.{VertexId}
 use Rattle.slab_laws.specs.Sound.{IsNamed, IsGraphSound}
 use Rattle.slab_laws.specs.View.{View, HasVertex, HasDart, point_in, pinned_in, source_in}
@@ -76,5 +77,5 @@ module _ (v : View) (w : VertexId) (p : Point) (s : IsGraphSound v) (n : IsNewVe
           subst (λ z. Member z (drawn_graph g h).pins) (k.point ∙ r.1.at) (pin_held g named h r.0 (k.has r.1.has) (k.pinned ∙ r.2));
     }
 
-    pub vertex_added : IsApplied v h (AddVertex w p)
-    vertex_added = applied v h (AddVertex w p) (curves_kept v g s named more.darts at h a) more_from more_into
+    pub vertex_added : (face : FaceId) → IsApplied v h (AddVertex w p face)
+    vertex_added face = applied v h (AddVertex w p face) (curves_kept v g s named more.darts at h a) more_from more_into

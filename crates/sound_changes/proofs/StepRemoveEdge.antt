@@ -19,6 +19,7 @@ use Rattle.sound_changes.proofs.EdgeRemoved.{fewer}
 use Rattle.sound_changes.proofs.RingsKept.{twinned_down, start_old, end_old, up, not_first}
 use Rattle.edit_steps.specs.Steps.{RemoveEdge as RemoveEdgeAt, apply}
 use Rattle.arr_notes.specs.declared.change.Change.TheVariants.{RemoveEdge}
+use Rattle.arr_notes.specs.declared.faces.Unlinked.{Unlinked}
 use Rattle.arr_notes.specs.Curves.{Curves, AreCurvesOf, IsForward, step_curves, is_forward}
 use Rattle.arr_notes.specs.Step.{remove_edge}
 use Rattle.arr_notes.proofs.Names.{cases_dart}
@@ -69,9 +70,9 @@ module _ (v : View) (d : DartId) (s : IsGraphSound v) (f : IsForward v d) where
   backward_t : is_forward v t ≡ false
   backward_t = ap (λ x. x.forward) (twin_dart v s d f.0) ∙ ap not f.1
 
-  module _ (h : Curves) (a : AreCurvesOf v h) where
+  module _ (h : Curves) (a : AreCurvesOf v h) (faces : Unlinked) where
     abbrev less : Curves
-    less = step_curves h (RemoveEdge d t)
+    less = step_curves h (RemoveEdge d t faces)
 
     abbrev after : Graph
     after = apply (RemoveEdgeAt p q) (drawn_graph v h)
@@ -131,8 +132,8 @@ module _ (v : View) (d : DartId) (s : IsGraphSound v) (f : IsForward v d) where
         (λ x o. let k = way x o in label_moves v g h less x (turned_way g v x k) (elsewhere x (not_d x o)) (labelled v h x a k.after))
         none_elsewhere
 
-    edge_gone : IsApplied v h (RemoveEdge d t)
-    edge_gone = applied v h (RemoveEdge d t) right less_from less_into
+    edge_gone : IsApplied v h (RemoveEdge d t faces)
+    edge_gone = applied v h (RemoveEdge d t faces) right less_from less_into
 
-    pub edge_removed : (m : DartId) → m ≡ t → IsApplied v h (RemoveEdge d m)
-    edge_removed m e = subst (λ z. IsApplied v h (RemoveEdge d z)) (sym e) edge_gone
+    pub edge_removed : (m : DartId) → m ≡ t → IsApplied v h (RemoveEdge d m faces)
+    edge_removed m e = subst (λ z. IsApplied v h (RemoveEdge d z faces)) (sym e) edge_gone

@@ -4,11 +4,10 @@ use Rattle.slab_laws.specs.FacesSound.{IsSound}
 use Rattle.slab_laws.specs.Sound.{IsGraphSound}
 use Rattle.slab_laws.specs.View.{View, Faces, twin_in, cycle_in}
 use Rattle.arr_notes.specs.FaceWriters.{on_cycle}
-use Rattle.arr_notes.specs.NotedFaces.{NoFaces}
 use Rattle.arr_notes.specs.Step.{split_edge}
 use Rattle.arr_notes.specs.declared.change.Change.TheVariants.{SplitEdge}
 use Rattle.dcel_records.specs.RecordsView.{FacesView, lists_in_view, lists_of, tables_of}
-use Rattle.face_steps.proofs.NotedFaces.{changes_keep_faces_sound}
+use Rattle.face_steps.proofs.ChangeLaws.{changes_keep_faces_sound}
 use Rattle.face_steps.proofs.MergesApart.{records_apart}
 use Rattle.edge_split_merge.proofs.Parted.{fits}
 use Rattle.dcel_records.proofs.Spared.{same_spare}
@@ -29,7 +28,7 @@ returns c =
     let s : Faces = on_cycle names.m (cycle_in f (twin_in v c.args.d)) (on_cycle names.n (cycle_in f c.args.d) f) in
     let tables : tables_of new ≡ s = ap (λ (g : FacesView). g.tables) e.faces in
     let lists : lists_of new ≡ lists_of old = ap lists_in_view e.faces in
-    let sound : IsSound w s = changes_keep_faces_sound v (λ d. []) f (SplitEdge c.args.d names.v c.args.p names.n names.m) NoFaces c.requires.map.sound k (subst IsGraphSound e.graph e.sound) tt in
+    let sound : IsSound w s = changes_keep_faces_sound v (λ d. []) f (SplitEdge c.args.d names.v c.args.p names.n names.m) c.requires.map.sound k (subst IsGraphSound e.graph e.sound) tt in
     let darts : AreDartsOn w s (lists_of old) = darts_on v w f (lists_of old) c.requires.map.darts names.n names.m e.new_names.first e.new_names.second apart.halves.has_old (cycle_in f c.args.d) (cycle_in f (twin_in v c.args.d)) in
     record {
       new_names = e.new_names;

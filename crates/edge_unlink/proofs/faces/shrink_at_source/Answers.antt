@@ -2,7 +2,7 @@ use Rattle.std.proofs.Common.{◌≡◌, ◌==◌, cond, sym, ap, ◌∙◌, sub
 use Rattle.slab_laws.specs.declared.names.DartId.{DartId}
 use Rattle.slab_laws.specs.View.{Faces, HasDart, cycle_in, source_in, target_in, twin_in}
 use Rattle.arr_notes.specs.FaceWriters.{off_cycles, bare_in}
-use Rattle.arr_notes.specs.NotedFaces.{bared_end}
+use Rattle.arr_notes.specs.FacesTold.{bared_end}
 use Rattle.arr_notes.specs.declared.faces.Unlinked.TheVariants.{Shrinks}
 use Rattle.dcel_records.specs.ListChanges.{dart_listed, vertex_listed}
 use Rattle.dcel_records.specs.RecordsView.{FacesView, lists_in_view, lists_of}

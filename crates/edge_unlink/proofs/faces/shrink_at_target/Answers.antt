@@ -1,7 +1,7 @@
 use Rattle.std.proofs.Common.{◌≡◌, cond, sym, ap, ◌∙◌, subst, arith, IsSome, inr}
 use Rattle.slab_laws.specs.View.{Faces, HasVertex, HasDart, cycle_in, source_in, target_in, twin_in, next_in}
 use Rattle.arr_notes.specs.FaceWriters.{off_cycles, bare_in}
-use Rattle.arr_notes.specs.NotedFaces.{bared_end}
+use Rattle.arr_notes.specs.FacesTold.{bared_end}
 use Rattle.arr_notes.specs.declared.faces.Unlinked.TheVariants.{Shrinks}
 use Rattle.arr_notes.proofs.Reading.{dart_number}
 use Rattle.dcel_records.specs.ListChanges.{dart_listed, vertex_listed}

@@ -7,7 +7,7 @@ use Rattle.observer_bus.proofs.round.forward.Given as goal
 abbrev pub invariant-turns : goal.invariant-turns
 invariant-turns g l = record {
   capacity : vec_capacity l.seats ≡ vec_capacity l.initial.seats;
-  going : Going l.note (view_by (g.R.Darts.graph l.records) (g.R.Curved.curve_list l.records))
+  going : Going l.note (view_by (g.R.Darts.graph l.records) (g.R.Faced.faces l.records) (g.R.Curved.curve_list l.records))
       (rows (goal.Observer-dyn g) l.initial.seats.items) l.initial.went
       (rows (goal.Observer-dyn g) l.seats.items) l.went l.i;
 }
