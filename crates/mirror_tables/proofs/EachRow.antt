@@ -1,8 +1,9 @@
 -- Every row of a table changed: twice, alike, not at all, and beside one row more or fewer.
-use Rattle.std.proofs.Common.{◌≡◌, ℕ, ◌==◌, Bool, true, false, cond, List, [], ◌∷◌, Some, is_some, IsSome, refl, sym, ap, ap₂, ◌∙◌, inl, inr}
+use Rattle.std.proofs.Common.{◌≡◌, ℕ, ◌==◌, Bool, true, false, cond, List, [], ◌∷◌, Option, Some, None, is_some, IsSome, option_map, refl, sym, ap, ap₂, ◌∙◌, inl, inr}
 use Rattle.std.specs.Prelude.{nat_lt, ◌||◌}
 use Rattle.std.proofs.lemmas.Bool.{cases_eq}
-use Rattle.slab_laws.specs.Tables.{row_at}
+use Rattle.slab_laws.specs.Tables.{row_at, names, NamesAscend}
+use Rattle.arr_notes.proofs.RowLaws.{row_at-each, ascend-each, one_table}
 use Rattle.arr_notes.specs.NamedRows.{put, del, each, edit}
 use Rattle.integers.proofs.Tests.{other_number, same_number}
 
@@ -79,3 +80,11 @@ module _ {X : Type 0} where
         each_twice (λ n x. cond (n == k) (f x) x) (λ n x. cond (m n) (f x) x) rs
         ∙ each_alike (λ n x. cond (n == k) (f (cond (m n) (f x) x)) (cond (m n) (f x) x)) (λ n x. cond (m n || (k == n)) (f x) x)
         (λ n x. sym (in_turn (m n) (n == k) x) ∙ ap (λ b. cond (m n || b) (f x) x) (turned_test n k)) rs
+
+-- where two changes agree on each row that is read, they make one table
+pub each_read : {X : Type 0} (f g : ℕ → X → X) (rs : List (ℕ × X)) → NamesAscend (names rs) → ((n : ℕ) (x : X) → row_at rs n ≡ Some x → f n x ≡ g n x) → each f rs ≡ each g rs
+each_read {X} f g rs a h = one_table (each f rs) (each g rs) (ascend-each f rs a) (ascend-each g rs a) (λ n. row_at-each f rs n ∙ agree n (row_at rs n) refl ∙ sym (row_at-each g rs n))
+  where
+    agree : (n : ℕ) (o : Option X) → row_at rs n ≡ o → option_map (f n) o ≡ option_map (g n) o
+    agree n None e = refl
+    agree n (Some x) e = ap (λ y. Some y) (h n x e)

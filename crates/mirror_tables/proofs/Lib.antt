@@ -13,3 +13,8 @@ pub mod NameKeys
 pub mod EachRow
 pub mod MovedRows
 pub mod OrbitWalk
+pub mod CycleGone
+pub mod Recycling
+pub mod FillingFaces
+pub mod FaceParts
+pub mod CycleFound

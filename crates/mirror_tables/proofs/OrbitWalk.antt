@@ -3,24 +3,18 @@ use Rattle.std.proofs.Common.{◌≡◌, ◌≢◌, ℕ, ◌<◌, ◌==◌, Bool
 use Rattle.std.proofs.lemmas.Bool.{false≢true, true≢false, cases_Bool}
 use Rattle.slab_laws.specs.declared.names.CycleId.{CycleId}
 use Rattle.slab_laws.specs.declared.names.DartId.{DartId}
-use Rattle.slab_laws.specs.declared.classes.Link.{Link}
 use Rattle.slab_laws.specs.FacesSound.{lead_in}
 use Rattle.slab_laws.specs.Rotation.{same_dart}
 use Rattle.slab_laws.specs.Sound.{IsGraphSound}
 use Rattle.slab_laws.specs.Tables.{row_at}
 use Rattle.slab_laws.specs.View.{View, HasDart, dart_id, next_in}
-use Rattle.slab_faces.proofs.ClassesLemmas.{connected}
-use Rattle.slab_faces.proofs.Member.{Member, member_in, map_out}
 use Rattle.slab_faces.proofs.NextLemmas.{darts_exact}
-use Rattle.sound_views.proofs.NameTables.{names_exact}
-use Rattle.sound_views.proofs.NamedDarts.{named_dart}
-use Rattle.plane_graphs.proofs.Ascending.{to_member}
-use Rattle.arr_notes.specs.CycleNames.{same_name, lower_name, dart_names, name_links, cycle_label}
+use Rattle.arr_notes.specs.CycleNames.{cycle_label}
 use Rattle.arr_notes.specs.NamedRows.{each, edit}
 use Rattle.arr_notes.proofs.Reading.{dart_number}
 use Rattle.face_changes.proofs.CycleNames.{names_tell_cycles}
 use Rattle.boundary_cycles.specs.Counted.{is_on_cycle}
-use Rattle.boundary_cycles.proofs.NamedWalks.{ways, more, IsWalked, begins, smaller, ends}
+use Rattle.boundary_cycles.proofs.NamedWalks.{ways, more, IsWalked, label_agrees, begins, smaller, ends}
 use Rattle.boundary_cycles.proofs.NamedWalks.{goes_on as walk_goes_on}
 use Rattle.integers.proofs.Tests.{other_number, same_number}
 use Rattle.mirror_tables.specs.declared.tables.DartEntry.{DartEntry}
@@ -38,19 +32,9 @@ pub record IsPutting (ds : List (ℕ × DartEntry)) (d at : DartId) (c : CycleId
   pub walked : IsWalked (graph_of vertices ds) d at seen
   pub written : now ≡ each (λ n b. cond (seen (dart_id n)) c b) old
 
--- ---- labels
--- what agrees along next agrees with its label
-label_agrees : (v : View) (p : DartId → Bool) → ((x : DartId) → HasDart v x → p x ≡ p (next_in v x)) → (x : DartId) → p x ≡ p (cycle_label v x)
-unfolding cycle_label
-label_agrees v p h x =
-    connected same_name lower_name names_exact (λ x y. p x ≡ p y) (record { itself = λ x. refl; back = λ x y k. sym k; on = λ x y z k l. k ∙ l }) (name_links v)
-    (λ m k. go m (map_out (λ d. record { one = d; other = next_in v d }) (dart_names v) m k)) x
-  where
-    go : (m : Link DartId) → ((d : DartId) × Member (dart_names v) d × (◌≡◌ {A = Link DartId} (record { one = d; other = next_in v d }) m)) → p m.one ≡ p m.other
-    go m w = subst (λ (l : Link DartId). p l.one ≡ p l.other) w.2 (h w.0 (named_dart v w.0 (to_member (dart_names v) w.0 (member_in (dart_names v) w.0 w.1))))
-
 module _ (ds : List (ℕ × DartEntry)) (d : DartId) (c : CycleId) where
-  g : View
+  -- the darts alone
+  abbrev pub g : View
   g = darts_of ds
 
   same_label : (vs : List (ℕ × VertexEntry)) (x : DartId) → cycle_label (graph_of vs ds) x ≡ cycle_label g x
@@ -114,8 +98,9 @@ module _ (ds : List (ℕ × DartEntry)) (d : DartId) (c : CycleId) where
   -- ---- a name without an entry
   pub no_orbit : AreDartsSound ds → ¬ HasDart g d → (old : List (ℕ × CycleId)) → AreRowsOfDarts ds old → old ≡ orbit_rows g d c old
   no_orbit s n old rows =
-      let p : DartId → Bool = λ x. is_some (row_at g.darts x.0) in
-      let closed : (x : DartId) → HasDart g x → p x ≡ p (next_in g x) = λ x h. h ∙ sym (s.1.linked.has x h) in
-      let apart : (x : DartId) → HasDart g x → (cycle_label g x).0 ≢ (cycle_label g d).0 = λ x h r. n (label_agrees g p closed d ∙ ap (λ k. is_some (row_at g.darts k)) (sym r) ∙ sym (label_agrees g p closed x) ∙ h) in
+      let v : View = graph_of s.0 ds in
+      let p : DartId → Bool = λ x. is_some (row_at v.darts x.0) in
+      let told : (x : DartId) → p x ≡ is_some (row_at v.darts (cycle_label g x).0) = λ x. label_agrees v s.1 p (λ y h. h ∙ sym (s.1.linked.has y h)) x ∙ ap p (same_label s.0 x) in
+      let apart : (x : DartId) → HasDart g x → (cycle_label g x).0 ≢ (cycle_label g d).0 = λ x h r. n (told d ∙ ap (λ k. is_some (row_at v.darts k)) (sym r) ∙ sym (told x) ∙ h) in
       sym (each_known (λ n b. cond ((cycle_label g (dart_id n)).0 == (cycle_label g d).0) c b) (λ n b. b) old
       (λ n b h. ap (λ t. cond t c b) (other_number (cycle_label g (dart_id n)).0 (cycle_label g d).0 (apart (dart_id n) (rows (dart_id n) h)))) ∙ each_still (λ n b. b) (λ n b. refl) old)

@@ -1,5 +1,5 @@
 -- What a mirror's maps of cycles and faces say, and what a walk along an orbit makes of the cycles of darts.
-use Rattle.std.specs.Prelude.{◌==◌, cond, List, ℕ, IsSome}
+use Rattle.std.specs.Prelude.{◌==◌, cond, List, [], ◌∷◌, ℕ, IsSome}
 use Rattle.slab_laws.specs.declared.names.CycleId.{CycleId}
 use Rattle.slab_laws.specs.declared.names.DartId.{DartId}
 use Rattle.slab_laws.specs.declared.names.FaceId.{FaceId}
@@ -7,7 +7,7 @@ use Rattle.slab_laws.specs.Sound.{IsGraphSound}
 use Rattle.slab_laws.specs.Tables.{row_at}
 use Rattle.slab_laws.specs.View.{View, Faces, CycleRecord, HasDart, dart_id}
 use Rattle.arr_notes.specs.CycleNames.{cycle_label}
-use Rattle.arr_notes.specs.NamedRows.{each}
+use Rattle.arr_notes.specs.NamedRows.{put, each}
 use Rattle.mirror_tables.specs.declared.faces.CycleEntry.{CycleEntry}
 use Rattle.mirror_tables.specs.declared.faces.FaceTables.{FaceTables}
 use Rattle.mirror_tables.specs.declared.tables.DartEntry.{DartEntry}
@@ -40,3 +40,8 @@ AreDartsSound ds = (vs : List (ℕ × VertexEntry)) × IsGraphSound (graph_of vs
 -- what is on a cycle is a dart
 abbrev pub AreRowsOfDarts : List (ℕ × DartEntry) → List (ℕ × CycleId) → Type 0
 AreRowsOfDarts ds rs = (d : DartId) → IsSome (row_at rs d.0) → HasDart (darts_of ds) d
+
+-- a row for its name, where there is one
+abbrev pub put_row : List (ℕ × FaceId) → List (ℕ × FaceId) → List (ℕ × FaceId)
+put_row [] rs = rs
+put_row (r ∷ more) rs = put r.0 r.1 rs

@@ -5,12 +5,13 @@ ghost use Rattle.mirror_tables.specs.Tables.{with_pinned};
 ghost use Rattle.arr_notes.specs.NamedRows.{edit};
 
 use crate::curves::{add_curve, along, lay, lift, remove_curve};
+use crate::darts::twin_of;
 use crate::links::{End, link, merge, part, unlink};
 use crate::tables::{Tables, VertexEntry};
-use arr_notes::Change;
+use arr_notes::{Change, Linked, Unlinked};
 use exact_plane::{Line, Point};
 use no_memory::NoMemory;
-use slab_laws::{CurveId, DartId, Sequence, VertexId};
+use slab_laws::{CurveId, DartId, FaceId, Sequence, VertexId};
 use std::alloc::Global;
 use std::collections::BTreeMap;
 
@@ -24,15 +25,16 @@ fn pin(vertices: &mut BTreeMap<usize, VertexEntry>, v: VertexId, pinned: bool)
 }
 
 impl Tables {
-    fn add_vertex(&mut self, v: VertexId, p: Point) -> Result<(), NoMemory>
-        requires { AreToChange self.old (AddVertex v p) }
-        ensures { OnOk result (HaveChanged self.old (AddVertex v p) self.new) }
+    fn add_vertex(&mut self, v: VertexId, p: Point, face: FaceId) -> Result<(), NoMemory>
+        requires { AreToChange self.old (AddVertex v p face) }
+        ensures { OnOk result (HaveChanged self.old (AddVertex v p face) self.new) }
     {
         let entry = VertexEntry {
             point: p,
             pinned: false,
         };
         self.vertices.insert(v.0, entry)?;
+        self.faces.set_bare(v, face)?;
         Ok(())
     }
 
@@ -41,6 +43,7 @@ impl Tables {
         ensures { HaveChanged self.old (RemoveVertex v) self.new }
     {
         let _entry = self.vertices.remove(&v.0);
+        self.faces.drop_bare(v);
     }
 
     fn set_pin(&mut self, v: VertexId)
@@ -70,6 +73,7 @@ impl Tables {
         ensures { OnOk result (HaveChanged self.old (SplitEdge d v p n m) self.new) }
     {
         let curves = along(alloc, &self.curves, d)?;
+        let twin = twin_of(&self.darts, d);
         let entry = VertexEntry {
             point: p,
             pinned: false,
@@ -77,6 +81,7 @@ impl Tables {
         self.vertices.insert(v.0, entry)?;
         part(&mut self.darts, d, v, n, m)?;
         lay(&mut self.curves, n, curves)?;
+        self.faces.part(d, twin, n, m)?;
         Ok(())
     }
 
@@ -84,6 +89,8 @@ impl Tables {
         requires { AreToChange self.old (MergeEdge v d n) }
         ensures { HaveChanged self.old (MergeEdge v d n) self.new }
     {
+        let gone = twin_of(&self.darts, n);
+        self.faces.merge(n, gone);
         merge(&mut self.darts, d, n);
         lift(&mut self.curves, n);
         let _entry = self.vertices.remove(&v.0);
@@ -98,23 +105,29 @@ impl Tables {
         finish: End,
         line: Line,
         curve: CurveId,
+        faces: &Linked,
     ) -> Result<(), NoMemory>
-        requires { AreToChange self.old (AddEdge d m start.vertex finish.vertex start.place finish.place line curve) }
-        ensures { OnOk result (HaveChanged self.old (AddEdge d m start.vertex finish.vertex start.place finish.place line curve) self.new) }
+        requires { AreToChange self.old (AddEdge d m start.vertex finish.vertex start.place finish.place line curve faces.now) }
+        ensures { OnOk result (HaveChanged self.old (AddEdge d m start.vertex finish.vertex start.place finish.place line curve faces.now) self.new) }
     {
         let mut curves = Sequence::new(alloc);
         curves.push(curve)?;
+        self.faces.link_first(&self.darts, d, m, start, finish, faces)?;
         link(&mut self.darts, d, m, start, finish, line)?;
         lay(&mut self.curves, d, curves)?;
+        self.faces.link_then(&self.darts, faces)?;
         Ok(())
     }
 
-    fn remove_edge(&mut self, d: DartId, m: DartId)
-        requires { AreToChange self.old (RemoveEdge d m) }
-        ensures { HaveChanged self.old (RemoveEdge d m) self.new }
+    fn remove_edge(&mut self, d: DartId, m: DartId, faces: &Unlinked) -> Result<(), NoMemory>
+        requires { AreToChange self.old (RemoveEdge d m faces.now) }
+        ensures { OnOk result (HaveChanged self.old (RemoveEdge d m faces.now) self.new) }
     {
+        self.faces.unlink_first(&self.darts, d, m, faces)?;
         unlink(&mut self.darts, d, m);
         lift(&mut self.curves, d);
+        self.faces.unlink_then(&self.darts, faces)?;
+        Ok(())
     }
 
     fn add_curve(&mut self, alloc: Global, d: DartId, curve: CurveId) -> Result<(), NoMemory>
@@ -133,33 +146,35 @@ impl Tables {
         Ok(())
     }
 
-    fn clear(&mut self)
-        ensures { HaveChanged self.old Clear self.new }
+    fn clear(&mut self, face: FaceId) -> Result<(), NoMemory>
+        ensures { OnOk result (HaveChanged self.old (Clear face) self.new) }
     {
         self.vertices.clear();
         self.darts.clear();
         self.curves.clear();
+        self.faces.clear(face)?;
+        Ok(())
     }
 
     /// Makes a change. It takes a logarithm of what the maps have for each name that it writes, and copies the list of an edge's
-    /// curves where these change or the edge is split.
+    /// curves where these change or the edge is split. Where a cycle comes or goes beside another one, its darts are gone along.
     ///
     /// # Errors
     ///
     /// There was no memory for it; what the maps say then isn't told.
-    pub fn change(&mut self, alloc: Global, change: Change) -> Result<(), NoMemory>
-        requires { AreToChange self.old change }
-        ensures { OnOk result (HaveChanged self.old change self.new) }
+    pub fn change(&mut self, alloc: Global, change: &Change) -> Result<(), NoMemory>
+        requires { AreToChange self.old change.now }
+        ensures { OnOk result (HaveChanged self.old change.now self.new) }
     {
         match change {
-            Change::AddVertex { v, p, face: _ } => self.add_vertex(v, p),
+            Change::AddVertex { v, p, face } => self.add_vertex(*v, *p, *face),
             Change::RemoveVertex { v } => {
-                self.remove_vertex(v);
+                self.remove_vertex(*v);
                 Ok(())
             }
-            Change::SplitEdge { d, v, p, n, m } => self.split_edge(alloc, d, v, p, n, m),
+            Change::SplitEdge { d, v, p, n, m } => self.split_edge(alloc, *d, *v, *p, *n, *m),
             Change::MergeEdge { v, d, n } => {
-                self.merge_edge(v, d, n);
+                self.merge_edge(*v, *d, *n);
                 Ok(())
             }
             Change::AddEdge {
@@ -171,36 +186,30 @@ impl Tables {
                 at_v,
                 line,
                 curve,
-                faces: _,
+                faces,
             } => {
                 let start = End {
-                    vertex: u,
-                    place: at_u,
+                    vertex: *u,
+                    place: *at_u,
                 };
                 let finish = End {
-                    vertex: v,
-                    place: at_v,
+                    vertex: *v,
+                    place: *at_v,
                 };
-                self.add_edge(alloc, d, m, start, finish, line, curve)
+                self.add_edge(alloc, *d, *m, start, finish, *line, *curve, faces)
             }
-            Change::RemoveEdge { d, m, faces: _ } => {
-                self.remove_edge(d, m);
-                Ok(())
-            }
-            Change::AddCurve { d, curve } => self.add_curve(alloc, d, curve),
-            Change::RemoveCurve { d, curve } => self.remove_curve(alloc, d, curve),
+            Change::RemoveEdge { d, m, faces } => self.remove_edge(*d, *m, faces),
+            Change::AddCurve { d, curve } => self.add_curve(alloc, *d, *curve),
+            Change::RemoveCurve { d, curve } => self.remove_curve(alloc, *d, *curve),
             Change::SetPin { v } => {
-                self.set_pin(v);
+                self.set_pin(*v);
                 Ok(())
             }
             Change::ClearPin { v } => {
-                self.clear_pin(v);
+                self.clear_pin(*v);
                 Ok(())
             }
-            Change::Clear { face: _ } => {
-                self.clear();
-                Ok(())
-            }
+            Change::Clear { face } => self.clear(*face),
         }
     }
 }
