@@ -1,14 +1,13 @@
 -- What is written while the darts are as they were, and then what waits for them, is what a link or an unlink makes of the tables.
-use Rattle.std.proofs.Common.{◌≡◌, ℕ, List, Option, Some, None, is_some, IsSome, refl, sym, ap, ◌∙◌, subst}
-use Rattle.slab_laws.specs.declared.names.CycleId.{CycleId}
+use Rattle.std.proofs.Common.{◌≡◌, ℕ, Option, is_some, IsSome, refl, ap, ◌∙◌}
 use Rattle.slab_laws.specs.declared.names.DartId.{DartId}
 use Rattle.slab_laws.specs.declared.names.VertexId.{VertexId}
 use Rattle.slab_laws.specs.declared.names.CycleKind.TheVariants.{Inner, Outer}
 use Rattle.slab_laws.specs.Tables.{row_at}
-use Rattle.slab_laws.specs.View.{View, Faces, twin_in, face_in}
+use Rattle.slab_laws.specs.View.{View, Faces, face_in}
 use Rattle.arr_notes.specs.FaceSteps.{step_faces}
 use Rattle.arr_notes.specs.FacesTold.{linked_faces, unlinked_faces}
-use Rattle.arr_notes.specs.FaceWriters.{with_cycle, with_face, moved_to, orbit_on}
+use Rattle.arr_notes.specs.FaceWriters.{with_cycle, with_face, moved_to}
 use Rattle.arr_notes.specs.declared.faces.Linked.{Linked}
 use Rattle.arr_notes.specs.declared.faces.Linked.TheVariants.{NewHole, Grows, Joins, Splits}
 use Rattle.arr_notes.specs.declared.faces.Unlinked.{Unlinked}

@@ -1,7 +1,5 @@
 -- Maps of isolated vertices and names of faces, filled from rows whose names ascend.
-use Rattle.std.proofs.Common.{◌≡◌, ℕ, ◌<◌, ◌+◌, List, [], ◌∷◌, ◌++◌, length, take, drop, get_or, map, flat_map, Option, Some, None, nat_cmp, refl, sym, ap, ap₂, ◌∙◌, subst, arith}
-use Rattle.std.specs.List.{AllByRecursion}
-use Rattle.std.specs.BTreeMap.{insert_entry}
+use Rattle.std.proofs.Common.{◌≡◌, ℕ, ◌<◌, ◌+◌, List, [], ◌∷◌, ◌++◌, length, take, drop, get_or, map, flat_map, Option, Some, None, nat_cmp, refl, sym, ap, ◌∙◌, subst, arith}
 use Rattle.std.specs.BTreeSet.{insert_key}
 use Rattle.std.proofs.lemmas.List.{append-nil, take_more, take-append-drop}
 use Rattle.std.proofs.lemmas.List.Concat.{flat_map-append}
@@ -9,7 +7,6 @@ use Rattle.slab_laws.specs.declared.names.FaceId.{FaceId}
 use Rattle.slab_laws.specs.declared.names.VertexId.{VertexId}
 use Rattle.slab_laws.specs.Tables.{names, NamesAscend}
 use Rattle.arr_notes.specs.FaceWriters.{put_name}
-use Rattle.arr_notes.specs.NamedRows.{put}
 use Rattle.arr_notes.specs.ViewRows.{bare_row}
 use Rattle.arr_notes.specs.declared.view.VertexRow.{VertexRow}
 use Rattle.integers.proofs.Tests.{nat_lt_no, other_number}

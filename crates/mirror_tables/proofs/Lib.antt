@@ -18,3 +18,4 @@ pub mod Recycling
 pub mod FillingFaces
 pub mod FaceParts
 pub mod CycleFound
+pub mod FacesUnited

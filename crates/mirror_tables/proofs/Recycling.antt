@@ -1,9 +1,8 @@
 -- The darts of a cycle that goes are found at one of two darts, or there are none.
-use Rattle.std.proofs.Common.{◌≡◌, ◌≢◌, ℕ, ◌==◌, cond, List, Option, Some, None, refl, sym, ap, ◌∙◌, subst}
+use Rattle.std.proofs.Common.{◌≡◌, ◌≢◌, ℕ, ◌==◌, cond, List, Option, Some, refl, sym, ap, ◌∙◌, subst}
 use Rattle.slab_laws.specs.declared.names.CycleId.{CycleId}
 use Rattle.slab_laws.specs.declared.names.DartId.{DartId}
-use Rattle.slab_laws.specs.View.{View, Faces, HasDart, dart_id, next_in, next_or, cycle_in}
-use Rattle.slab_laws.specs.Tables.{row_at, names}
+use Rattle.slab_laws.specs.View.{View, Faces, HasDart, dart_id, cycle_in}
 use Rattle.arr_notes.specs.CycleNames.{cycle_label}
 use Rattle.arr_notes.specs.FaceWriters.{recycled, orbit_on}
 use Rattle.arr_notes.specs.NamedRows.{each}

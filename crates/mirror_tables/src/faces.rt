@@ -1,5 +1,5 @@
 ghost use Rattle.std.specs.Prelude.{◌≡◌, OnOk};
-ghost use Rattle.slab_laws.specs.View.{cycle_in, face_in};
+ghost use Rattle.slab_laws.specs.View.{cycle_in, face_in, kind_in, bare_face_in};
 ghost use Rattle.arr_notes.specs.FaceWriters.{on_cycle, off_cycles, bare_in, not_bare, with_cycle, without_cycle, with_face, without_face};
 ghost use Rattle.mirror_tables.specs.FaceTables.{faces_in};
 
@@ -106,6 +106,26 @@ impl FaceTables {
     {
         match self.cycles.get(&cycle.0).copied() {
             Some(entry) => entry.face,
+            None => FaceId(0),
+        }
+    }
+
+    // Whether a cycle bounds its face from outside; without an entry it is a hole.
+    pub(crate) fn kind_at(&self, cycle: CycleId) -> CycleKind
+        ensures { result ≡ kind_in (faces_in self.now) cycle }
+    {
+        match self.cycles.get(&cycle.0).copied() {
+            Some(entry) => entry.kind,
+            None => CycleKind::Inner,
+        }
+    }
+
+    // The face of an isolated vertex; without one, the one named 0.
+    pub(crate) fn bare_at(&self, v: VertexId) -> FaceId
+        ensures { result ≡ bare_face_in (faces_in self.now) v }
+    {
+        match self.bare.get(&v.0).copied() {
+            Some(face) => face,
             None => FaceId(0),
         }
     }

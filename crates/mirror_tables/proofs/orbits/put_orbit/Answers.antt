@@ -1,4 +1,4 @@
-use Rattle.std.proofs.Common.{◌≡◌, ◌≢◌, ◌<◌, sym, ◌∙◌, subst}
+use Rattle.std.proofs.Common.{◌≢◌, ◌<◌, sym, ◌∙◌, subst}
 use Rattle.slab_laws.specs.declared.names.DartId.{DartId}
 use Rattle.slab_laws.specs.View.{next_in}
 use Rattle.arr_notes.proofs.Names.{same_name as same_read, other_name as other_read}

@@ -1,4 +1,4 @@
-use Rattle.std.proofs.Common.{◌≡◌, ◌∙◌, sym, subst}
+use Rattle.std.proofs.Common.{◌∙◌, sym, subst}
 use Rattle.mirror_tables.specs.Standing.{IsOneToOne}
 use Rattle.mirror_tables.proofs.tables.Tables.of.Goals as goal
 

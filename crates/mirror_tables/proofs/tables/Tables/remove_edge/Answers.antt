@@ -2,7 +2,7 @@ use Rattle.std.proofs.Common.{◌∙◌, refl, ap}
 use Rattle.mirror_tables.specs.FaceParts.{unlinked_then}
 use Rattle.mirror_tables.specs.Tables.{darts_of}
 use Rattle.mirror_tables.proofs.Changed.{edge_removed, tables_named, twin_apart, less_sound, less_on}
-use Rattle.mirror_tables.proofs.CycleFound.{united_at}
+use Rattle.mirror_tables.proofs.FacesUnited.{united_at}
 use Rattle.mirror_tables.proofs.tables.Tables.remove_edge.Goals as goal
 
 pub returns : goal.returns
