@@ -8,3 +8,4 @@ pub mod FaceNames
 pub mod FaceLines
 pub mod Assembly
 pub mod Overlays
+pub mod RecordTexts

@@ -8,10 +8,12 @@
 
 mod edges;
 mod faces;
+mod laws;
 mod put;
 mod rounds;
 mod vertices;
 mod whole;
 mod words;
 
+pub use laws::records_tell_their_graph;
 pub use whole::{overlay_text, text};

@@ -54,7 +54,7 @@ once_among n (m ∷ ms) a (inr h) =
     sum_by-cons (λ k. cond (n == k) 1 0) m ms ∙ (λ i. t i + b i)
 
 -- how many steps of next are left from x until d comes
-pub ways : View → DartId → DartId → ℕ
+unfoldable pub ways : View → DartId → DartId → ℕ
 ways v d x = way same_name (next_in v) (dart_names v) d x
 
 -- one more was met
@@ -95,7 +95,7 @@ module _ (v : View) (s : IsGraphSound v) where
   }
 
   -- what agrees along next agrees on a cycle
-  label_agrees : (p : DartId → Bool) → ((x : DartId) → HasDart v x → p x ≡ p (next_in v x)) → (x : DartId) → p x ≡ p (cycle_label v x)
+  pub label_agrees : (p : DartId → Bool) → ((x : DartId) → HasDart v x → p x ≡ p (next_in v x)) → (x : DartId) → p x ≡ p (cycle_label v x)
   unfolding cycle_label
   label_agrees p h x =
       connected same_name lower_name names_exact (λ x y. p x ≡ p y) (record { itself = λ x. refl; back = λ x y k. sym k; on = λ x y z k l. k ∙ l }) (name_links v)

@@ -1,5 +1,5 @@
 -- The first entry of a range is that of the next name.
-use Rattle.std.proofs.Common.{◌≡◌, ℕ, Bool, true, false, cond, ◌&&◌, List, [], ◌∷◌, Option, Some, None, option_map, nat_cmp, is_lt, refl, sym, ap, ◌∙◌, arith}
+use Rattle.std.proofs.Common.{◌≡◌, ℕ, Bool, true, false, cond, ◌&&◌, List, [], ◌∷◌, Option, Some, None, option_map, filter, nat_cmp, is_lt, refl, sym, ap, ◌∙◌, arith}
 use Rattle.std.specs.Prelude.{nat_lt}
 use Rattle.std.specs.BTreeMap.Range.{range_contains, entries_between}
 use Rattle.std.specs.declared.ops.Bound.TheVariants.{Unbounded}
@@ -35,3 +35,21 @@ module _ {X : Type 0} (at : Option ℕ) where
 
   pub name_none : (es : List (ℕ × X)) → entries_between nat_cmp (start_after at) Unbounded es ≡ [] → None ≡ name_after (names es) at
   name_none es q = ap (λ ys. option_map (λ x. x.0) (first_of ys)) (sym q) ∙ name_first es
+
+-- ---- names alone
+module _ (at : Option ℕ) where
+  key_first : (ks : List ℕ) → first_of (filter (range_contains nat_cmp (start_after at) Unbounded) ks) ≡ name_after ks at
+  unfolding name_after
+  key_first [] = refl
+  key_first (k ∷ ks) =
+      ap (λ b. first_of (cond b (k ∷ filter (range_contains nat_cmp (start_after at) Unbounded) ks) (filter (range_contains nat_cmp (start_after at) Unbounded) ks))) (in_range at k)
+      ∙ elim (is_after at k) as (λ b. first_of (cond b (k ∷ filter (range_contains nat_cmp (start_after at) Unbounded) ks) (filter (range_contains nat_cmp (start_after at) Unbounded) ks)) ≡ cond b (Some k) (name_after ks at)) [
+        | true ↦ refl
+        | false ↦ key_first ks
+      ]
+
+  pub key_found : (ks : List ℕ) (k : ℕ) (rest : List ℕ) → filter (range_contains nat_cmp (start_after at) Unbounded) ks ≡ k ∷ rest → Some k ≡ name_after ks at
+  key_found ks k rest q = ap first_of (sym q) ∙ key_first ks
+
+  pub key_none : (ks : List ℕ) → filter (range_contains nat_cmp (start_after at) Unbounded) ks ≡ [] → None ≡ name_after ks at
+  key_none ks q = ap first_of (sym q) ∙ key_first ks

@@ -20,10 +20,10 @@ use Rattle.mirror_tables.specs.Tables.{rows}
 pub key_test : (k n : ℕ) → is_at (nat_cmp k) n ≡ (n == k)
 key_test k n = grind (arith, nat_tests)
 
-nat_tied : (m n : ℕ) → m ≡ n → nat_cmp m n ≡ Equal
+pub nat_tied : (m n : ℕ) → m ≡ n → nat_cmp m n ≡ Equal
 nat_tied m n e = grind (arith, nat_tests)
 
-nat_more : (m n : ℕ) → n < m → nat_cmp m n ≡ Greater
+pub nat_more : (m n : ℕ) → n < m → nat_cmp m n ≡ Greater
 nat_more m n l = grind (arith, nat_tests)
 
 all_above : (n : ℕ) (ns : List ℕ) → AllByRecursion (λ m. nat_cmp n m ≡ Less) ns → AllByRecursion (λ m. n < m) ns

@@ -21,17 +21,17 @@ use Rattle.mirror_tables.proofs.Readers.{has_each, each_has}
 use Rattle.mirror_tables.proofs.Around.{to, to_hit, to_miss}
 use Rattle.mirror_tables.proofs.Told.{IsTold, told_first, told_preceded}
 
-all_last : (P : ℕ → Type 0) (ns : List ℕ) (k : ℕ) → AllByRecursion P (ns ++ k ∷ []) → P k
+pub all_last : (P : ℕ → Type 0) (ns : List ℕ) (k : ℕ) → AllByRecursion P (ns ++ k ∷ []) → P k
 all_last P [] k h = h.0
 all_last P (n ∷ ns) k h = all_last P ns k h.1
 
 module _ {Y : Type 0} where
-  names_end : (rs : List (ℕ × Y)) (k : ℕ) (y : Y) → names (rs ++ (k, y) ∷ []) ≡ names rs ++ k ∷ []
+  pub names_end : (rs : List (ℕ × Y)) (k : ℕ) (y : Y) → names (rs ++ (k, y) ∷ []) ≡ names rs ++ k ∷ []
   names_end [] k y = refl
   names_end (r ∷ rs) k y = ap (λ ns. r.0 ∷ ns) (names_end rs k y)
 
   -- a name above all goes to the end
-  put_last : (k : ℕ) (y : Y) (rs : List (ℕ × Y)) → NamesAscend (names rs ++ k ∷ []) → put k y rs ≡ rs ++ (k, y) ∷ []
+  pub put_last : (k : ℕ) (y : Y) (rs : List (ℕ × Y)) → NamesAscend (names rs ++ k ∷ []) → put k y rs ≡ rs ++ (k, y) ∷ []
   unfolding put
   put_last k y [] h = refl
   put_last k y (r ∷ rs) h =
@@ -42,7 +42,7 @@ all_front : (P : ℕ → Type 0) (ns ms : List ℕ) → AllByRecursion P (ns ++ 
 all_front P [] ms h = tt
 all_front P (n ∷ ns) ms h = (h.0, all_front P ns ms h.1)
 
-ascend_front : (ns ms : List ℕ) → NamesAscend (ns ++ ms) → NamesAscend ns
+pub ascend_front : (ns ms : List ℕ) → NamesAscend (ns ++ ms) → NamesAscend ns
 ascend_front [] ms h = tt
 ascend_front (n ∷ ns) ms h = (all_front (λ m. n < m) ns ms h.0, ascend_front ns ms h.1)
 
@@ -59,12 +59,15 @@ module _ {R : Type 0} {Y : Type 0} (f : R → ℕ × Y) where
   ascend_take n xs h = ascend_front (names (map f (take n xs))) (names (map f (drop n xs))) (subst (λ ns. NamesAscend ns) (names_both (take n xs) (drop n xs)) (subst (λ ys. NamesAscend (names (map f ys))) (sym (take-append-drop n xs)) h))
 
   -- the next of rows whose names ascend goes to the end of the map
-  pub filled_more : {X : Type 0} (g : X → Y) (xs : List R) (i : ℕ) (r : R) (es fs : List (ℕ × X)) (x : X) → NamesAscend (names (map f xs)) → i < length xs → r ≡ get_or xs i r → rows g es ≡ map f (take i xs) → fs ≡ insert_entry nat_cmp es (f r).0 x → g x ≡ (f r).1 → rows g fs ≡ map f (take (i + 1) xs)
-  filled_more g xs i r es fs x asc l is so e y =
-      let more : take (i + 1) xs ≡ take i xs ++ r ∷ [] = take_more xs i r l ∙ ap (λ z. take i xs ++ z ∷ []) (sym is) in
+  pub filled_at : {X : Type 0} (g : X → Y) (xs : List R) (i : ℕ) (r z : R) (es fs : List (ℕ × X)) (x : X) → NamesAscend (names (map f xs)) → i < length xs → r ≡ get_or xs i z → rows g es ≡ map f (take i xs) → fs ≡ insert_entry nat_cmp es (f r).0 x → g x ≡ (f r).1 → rows g fs ≡ map f (take (i + 1) xs)
+  filled_at g xs i r z es fs x asc l is so e y =
+      let more : take (i + 1) xs ≡ take i xs ++ r ∷ [] = take_more xs i z l ∙ ap (λ z. take i xs ++ z ∷ []) (sym is) in
       let both : map f (take (i + 1) xs) ≡ map f (take i xs) ++ f r ∷ [] = ap (map f) more ∙ map_end (take i xs) r in
       let a : NamesAscend (names (map f (take i xs)) ++ (f r).0 ∷ []) = subst (λ ns. NamesAscend ns) (ap names both ∙ names_end (map f (take i xs)) (f r).0 (f r).1) (ascend_take (i + 1) xs asc) in
       ap (rows g) (e ∙ inserted (f r).0 x es) ∙ rows_put g (f r).0 x es ∙ ap₂ (put (f r).0) y so ∙ put_last (f r).0 (f r).1 (map f (take i xs)) a ∙ sym both
+
+  pub filled_more : {X : Type 0} (g : X → Y) (xs : List R) (i : ℕ) (r : R) (es fs : List (ℕ × X)) (x : X) → NamesAscend (names (map f xs)) → i < length xs → r ≡ get_or xs i r → rows g es ≡ map f (take i xs) → fs ≡ insert_entry nat_cmp es (f r).0 x → g x ≡ (f r).1 → rows g fs ≡ map f (take (i + 1) xs)
+  filled_more g xs i r es fs x asc l is so e y = filled_at g xs i r r es fs x asc l is so e y
 
 -- ---- who is before whom
 module _ (list : List DartRow) where

@@ -9,3 +9,13 @@ pub mod Changed
 pub mod Placing
 pub mod Filling
 pub mod Beyond
+pub mod NameKeys
+pub mod EachRow
+pub mod MovedRows
+pub mod OrbitWalk
+pub mod CycleGone
+pub mod Recycling
+pub mod FillingFaces
+pub mod FaceParts
+pub mod CycleFound
+pub mod FacesUnited

@@ -1,4 +1,6 @@
 pub mod Tables
+pub mod FaceTables
+pub mod FaceParts
 pub mod Standing
 pub mod Lists
 pub mod Reading

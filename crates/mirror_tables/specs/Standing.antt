@@ -7,6 +7,7 @@ use Rattle.arr_notes.specs.CurvedView.{CurvedView, IsSoundView, FitsView, step_v
 use Rattle.arr_notes.specs.declared.change.Change.{Change}
 use Rattle.mirror_tables.specs.declared.tables.DartEntry.{DartEntry}
 use Rattle.mirror_tables.specs.declared.tables.Tables.{Tables}
+use Rattle.mirror_tables.specs.FaceTables.{faces_in}
 use Rattle.mirror_tables.specs.Tables.{view_of, darts_of, previous_at}
 
 -- the dart that follows names the dart before it
@@ -19,7 +20,7 @@ IsLedByOne ds x = (d : DartId) → HasDart (darts_of ds) d → next_in (darts_of
 
 -- what the maps say
 abbrev pub view_in : Tables → CurvedView
-view_in t = view_of t.vertices.entries t.darts.entries t.curves.entries
+view_in t = view_of t.vertices.entries t.darts.entries t.curves.entries (faces_in t.faces)
 
 -- the maps stand for a sound view (this project)
 pub record AreStanding (t : Tables) : Type 0 where

@@ -4,7 +4,7 @@ use Rattle.slab_laws.specs.declared.names.CurveId.{CurveId}
 use Rattle.slab_laws.specs.declared.names.DartId.{DartId}
 use Rattle.slab_laws.specs.declared.names.VertexId.{VertexId}
 use Rattle.slab_laws.specs.Tables.{row_at}
-use Rattle.slab_laws.specs.View.{View, VertexRecord, DartRecord, twin_in, next_in, source_in, line_in}
+use Rattle.slab_laws.specs.View.{View, Faces, VertexRecord, DartRecord, twin_in, next_in, source_in, line_in}
 use Rattle.exact_plane.specs.Line.{Line}
 use Rattle.arr_notes.specs.NamedRows.{put, del, each, edit}
 use Rattle.arr_notes.specs.Step.{followed}
@@ -37,8 +37,8 @@ abbrev pub darts_of : List (ℕ × DartEntry) → View
 darts_of ds = graph_of [] ds
 
 -- what the maps say (this project)
-abbrev pub view_of : List (ℕ × VertexEntry) → List (ℕ × DartEntry) → List (ℕ × List CurveId) → CurvedView
-view_of vs ds cs = record { graph = graph_of vs ds; curves = rows numbers_in cs }
+abbrev pub view_of : List (ℕ × VertexEntry) → List (ℕ × DartEntry) → List (ℕ × List CurveId) → Faces → CurvedView
+view_of vs ds cs f = record { graph = graph_of vs ds; faces = f; curves = rows numbers_in cs }
 
 -- the dart before, by the entry; without one, the dart itself
 abbrev pub previous_or : DartId → Option DartEntry → DartId

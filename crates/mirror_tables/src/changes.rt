@@ -5,6 +5,7 @@ ghost use Rattle.mirror_tables.specs.Tables.{with_pinned};
 ghost use Rattle.arr_notes.specs.NamedRows.{edit};
 
 use crate::curves::{add_curve, along, lay, lift, remove_curve};
+use crate::darts::twin_of;
 use crate::links::{End, link, merge, part, unlink};
 use crate::tables::{Tables, VertexEntry};
 use arr_notes::{Change, Linked, Unlinked};
@@ -33,6 +34,7 @@ impl Tables {
             pinned: false,
         };
         self.vertices.insert(v.0, entry)?;
+        self.faces.set_bare(v, face)?;
         Ok(())
     }
 
@@ -41,6 +43,7 @@ impl Tables {
         ensures { HaveChanged self.old (RemoveVertex v) self.new }
     {
         let _entry = self.vertices.remove(&v.0);
+        self.faces.drop_bare(v);
     }
 
     fn set_pin(&mut self, v: VertexId)
@@ -70,6 +73,7 @@ impl Tables {
         ensures { OnOk result (HaveChanged self.old (SplitEdge d v p n m) self.new) }
     {
         let curves = along(alloc, &self.curves, d)?;
+        let twin = twin_of(&self.darts, d);
         let entry = VertexEntry {
             point: p,
             pinned: false,
@@ -77,6 +81,7 @@ impl Tables {
         self.vertices.insert(v.0, entry)?;
         part(&mut self.darts, d, v, n, m)?;
         lay(&mut self.curves, n, curves)?;
+        self.faces.part(d, twin, n, m)?;
         Ok(())
     }
 
@@ -84,6 +89,8 @@ impl Tables {
         requires { AreToChange self.old (MergeEdge v d n) }
         ensures { HaveChanged self.old (MergeEdge v d n) self.new }
     {
+        let gone = twin_of(&self.darts, n);
+        self.faces.merge(n, gone);
         merge(&mut self.darts, d, n);
         lift(&mut self.curves, n);
         let _entry = self.vertices.remove(&v.0);
@@ -105,17 +112,22 @@ impl Tables {
     {
         let mut curves = Sequence::new(alloc);
         curves.push(curve)?;
+        self.faces.link_first(&self.darts, d, m, start, finish, faces)?;
         link(&mut self.darts, d, m, start, finish, line)?;
         lay(&mut self.curves, d, curves)?;
+        self.faces.link_then(&self.darts, faces)?;
         Ok(())
     }
 
-    fn remove_edge(&mut self, d: DartId, m: DartId, faces: &Unlinked)
+    fn remove_edge(&mut self, d: DartId, m: DartId, faces: &Unlinked) -> Result<(), NoMemory>
         requires { AreToChange self.old (RemoveEdge d m faces.now) }
-        ensures { HaveChanged self.old (RemoveEdge d m faces.now) self.new }
+        ensures { OnOk result (HaveChanged self.old (RemoveEdge d m faces.now) self.new) }
     {
+        self.faces.unlink_first(&self.darts, d, m, faces)?;
         unlink(&mut self.darts, d, m);
         lift(&mut self.curves, d);
+        self.faces.unlink_then(&self.darts, faces)?;
+        Ok(())
     }
 
     fn add_curve(&mut self, alloc: Global, d: DartId, curve: CurveId) -> Result<(), NoMemory>
@@ -134,16 +146,18 @@ impl Tables {
         Ok(())
     }
 
-    fn clear(&mut self, face: FaceId)
-        ensures { HaveChanged self.old (Clear face) self.new }
+    fn clear(&mut self, face: FaceId) -> Result<(), NoMemory>
+        ensures { OnOk result (HaveChanged self.old (Clear face) self.new) }
     {
         self.vertices.clear();
         self.darts.clear();
         self.curves.clear();
+        self.faces.clear(face)?;
+        Ok(())
     }
 
     /// Makes a change. It takes a logarithm of what the maps have for each name that it writes, and copies the list of an edge's
-    /// curves where these change or the edge is split.
+    /// curves where these change or the edge is split. Where a cycle comes or goes beside another one, its darts are gone along.
     ///
     /// # Errors
     ///
@@ -184,10 +198,7 @@ impl Tables {
                 };
                 self.add_edge(alloc, *d, *m, start, finish, *line, *curve, faces)
             }
-            Change::RemoveEdge { d, m, faces } => {
-                self.remove_edge(*d, *m, faces);
-                Ok(())
-            }
+            Change::RemoveEdge { d, m, faces } => self.remove_edge(*d, *m, faces),
             Change::AddCurve { d, curve } => self.add_curve(alloc, *d, *curve),
             Change::RemoveCurve { d, curve } => self.remove_curve(alloc, *d, *curve),
             Change::SetPin { v } => {
@@ -198,10 +209,7 @@ impl Tables {
                 self.clear_pin(*v);
                 Ok(())
             }
-            Change::Clear { face } => {
-                self.clear(*face);
-                Ok(())
-            }
+            Change::Clear { face } => self.clear(*face),
         }
     }
 }

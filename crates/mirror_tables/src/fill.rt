@@ -7,6 +7,7 @@ ghost use Rattle.mirror_tables.specs.Standing.{IsBackLinked, view_in, AreStandin
 
 use crate::curves::copied;
 use crate::darts::{next_of, precede};
+use crate::faces::FaceTables;
 use crate::tables::{DartEntry, Tables, VertexEntry};
 use arr_notes::{DartRow, EdgeRow, VertexRow, View};
 use no_memory::NoMemory;
@@ -91,10 +92,12 @@ impl Tables {
         let mut darts = darts_apart(alloc, view.darts())?;
         name_previous(&mut darts, view.darts());
         let curves = curves_of(alloc, view.edges())?;
+        let faces = FaceTables::of(alloc, view)?;
         Ok(Tables {
             vertices,
             darts,
             curves,
+            faces,
         })
     }
 }

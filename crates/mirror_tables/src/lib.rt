@@ -7,8 +7,14 @@
 mod changes;
 mod curves;
 mod darts;
+mod face_links;
+mod face_steps;
+mod faces;
 mod fill;
+mod fill_faces;
 mod links;
+mod moves;
+mod orbits;
 mod reading;
 mod tables;
 

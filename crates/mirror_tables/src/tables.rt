@@ -1,3 +1,4 @@
+use crate::faces::FaceTables;
 use exact_plane::{Line, Point};
 use slab_laws::{CurveId, DartId, Sequence, VertexId};
 use std::collections::BTreeMap;
@@ -19,10 +20,11 @@ pub struct DartEntry {
     pub line: Line,
 }
 
-/// Vertices, darts and the curves along edges, each by name.
+/// Vertices, darts, the curves along edges, cycles and faces, each by name.
 #[derive(Drop)]
 pub struct Tables {
     pub(crate) vertices: BTreeMap<usize, VertexEntry>,
     pub(crate) darts: BTreeMap<usize, DartEntry>,
     pub(crate) curves: BTreeMap<usize, Sequence<CurveId>>,
+    pub(crate) faces: FaceTables,
 }

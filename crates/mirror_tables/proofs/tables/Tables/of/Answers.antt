@@ -4,4 +4,5 @@ use Rattle.mirror_tables.proofs.tables.Tables.of.Goals as goal
 
 pub name_previous-requires-clause-once : goal.name_previous-requires-clause-once
 name_previous-requires-clause-once c =
-    subst (λ rs. IsOneToOne rs) (sym (c.in_ok-darts.ensures ∙ c.darts.ensures)) (record { has = c.requires.graph.linked.has; once = c.requires.graph.linked.once })
+    let s = c.requires.map.graph in
+    subst (λ rs. IsOneToOne rs) (sym (c.in_ok-darts.ensures ∙ c.darts.ensures.darts)) (record { has = s.linked.has; once = s.linked.once })
