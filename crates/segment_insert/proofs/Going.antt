@@ -17,6 +17,7 @@ use Rattle.slab_laws.specs.declared.names.VertexId.{VertexId}
 use Rattle.slab_laws.specs.View.{View, HasVertex, point_in}
 use Rattle.arr_notes.specs.Curves.{Curves}
 use Rattle.dcel_records.specs.declared.spot.Spot.TheVariants.{Vertex}
+use Rattle.arr_notes.specs.MapView.{MapView}
 use Rattle.arr_notes.specs.RecordGraph.{drawn_graph}
 use Rattle.observer_bus.specs.Rounds.{BusRow}
 use Rattle.told_steps.proofs.Runs.{made_is_run}
@@ -143,44 +144,44 @@ part_stays v g l u w e o =
 abbrev pub steps_from : Graph → ℕ → List Meeting → ℕ → List Step
 steps_from f c ms k = map (more_step f) (chain c (points_of_meetings (drop k ms)))
 
-pub record IsGoing (v : View) (h : Curves) (old : BusRow) (c : ℕ) (ms : List Meeting) (k : ℕ) (g : View) (b : Curves) (now : BusRow) : Type 0 where
+pub record IsGoing (v : MapView) (h : Curves) (old : BusRow) (c : ℕ) (ms : List Meeting) (k : ℕ) (g : MapView) (b : Curves) (now : BusRow) : Type 0 where
   pub in_step : AreInStep g b now
-  pub vertices : g.vertices ≡ v.vertices
-  pub rest : AreSound (steps_from (drawn_graph v h) c ms k) (drawn_graph g b)
-  pub told : (x : View) (z : Curves) (new : BusRow) → IsToldRun g b now (steps_from (drawn_graph v h) c ms k) x z new → IsToldRun v h old (map (more_step (drawn_graph v h)) (chain c (points_of_meetings ms))) x z new
+  pub vertices : g.graph.vertices ≡ v.graph.vertices
+  pub rest : AreSound (steps_from (drawn_graph v.graph h) c ms k) (drawn_graph g.graph b)
+  pub told : (x : MapView) (z : Curves) (new : BusRow) → IsToldRun g b now (steps_from (drawn_graph v.graph h) c ms k) x z new → IsToldRun v h old (map (more_step (drawn_graph v.graph h)) (chain c (points_of_meetings ms))) x z new
 
 -- none before the first
-pub begins : (v : View) (h : Curves) {b : BusRow} (c : ℕ) (ms : List Meeting) → AreInStep v h b → AreSound (map (more_step (drawn_graph v h)) (chain c (points_of_meetings ms))) (drawn_graph v h) → IsGoing v h b c ms 0 v h b
+pub begins : (v : MapView) (h : Curves) {b : BusRow} (c : ℕ) (ms : List Meeting) → AreInStep v h b → AreSound (map (more_step (drawn_graph v.graph h)) (chain c (points_of_meetings ms))) (drawn_graph v.graph h) → IsGoing v h b c ms 0 v h b
 begins v h c ms t s = record { in_step = t; vertices = refl; rest = s; told = λ x z new y. y }
 
-pub ends : (v : View) (h : Curves) {old : BusRow} (c : ℕ) (ms : List Meeting) (k : ℕ) (g : View) (b : Curves) {now : BusRow} → IsGoing v h old c ms k g b now → length ms ≤ suc k → IsToldRun v h old (map (more_step (drawn_graph v h)) (chain c (points_of_meetings ms))) g b now
-ends v h c ms k g b {now} i e = i.told g b now (subst (λ z. IsToldRun g b now (map (more_step (drawn_graph v h)) z) g b now) (sym (chain_ends c ms k e)) (none_told g b now))
+pub ends : (v : MapView) (h : Curves) {old : BusRow} (c : ℕ) (ms : List Meeting) (k : ℕ) (g : MapView) (b : Curves) {now : BusRow} → IsGoing v h old c ms k g b now → length ms ≤ suc k → IsToldRun v h old (map (more_step (drawn_graph v.graph h)) (chain c (points_of_meetings ms))) g b now
+ends v h c ms k g b {now} i e = i.told g b now (subst (λ z. IsToldRun g b now (map (more_step (drawn_graph v.graph h)) z) g b now) (sym (chain_ends c ms k e)) (none_told g b now))
 
-module _ (v : View) (h : Curves) {old : BusRow} (c : ℕ) (ms : List Meeting) (k : ℕ) (g : View) (b : Curves) {now : BusRow} (i : IsGoing v h old c ms k g b now) (u w : VertexId) (next : chain c (points_of_meetings (drop k ms)) ≡ mark (point_in v u) (point_in v w) c ∷ chain c (points_of_meetings (drop (suc k) ms))) where
+module _ (v : MapView) (h : Curves) {old : BusRow} (c : ℕ) (ms : List Meeting) (k : ℕ) (g : MapView) (b : Curves) {now : BusRow} (i : IsGoing v h old c ms k g b now) (u w : VertexId) (next : chain c (points_of_meetings (drop k ms)) ≡ mark (point_in v.graph u) (point_in v.graph w) c ∷ chain c (points_of_meetings (drop (suc k) ms))) where
   abbrev first : Graph
-  first = drawn_graph v h
+  first = drawn_graph v.graph h
 
   abbrev here : Graph
-  here = drawn_graph g b
+  here = drawn_graph g.graph b
 
   abbrev m : Mark
-  m = mark (point_in v u) (point_in v w) c
+  m = mark (point_in v.graph u) (point_in v.graph w) c
 
   rest : AreSound (more_step first m ∷ steps_from first c ms (suc k)) here
   rest = subst (λ z. AreSound (map (more_step first) z) here) next i.rest
 
   -- the vertices are those of the first view
-  same_mark : mark (point_in g u) (point_in g w) c ≡ m
-  same_mark = ap (λ (vs : _). mark (point_in (record { vertices = vs; darts = g.darts }) u) (point_in (record { vertices = vs; darts = g.darts }) w) c) i.vertices
+  same_mark : mark (point_in g.graph u) (point_in g.graph w) c ≡ m
+  same_mark = ap (λ (vs : _). mark (point_in (record { vertices = vs; darts = g.graph.darts }) u) (point_in (record { vertices = vs; darts = g.graph.darts }) w) c) i.vertices
 
-  pub part_sound : IsSound (part_step here g u w c) here
+  pub part_sound : IsSound (part_step here g.graph u w c) here
   part_sound = subst (λ z. IsSound (more_step here z) here) (sym same_mark) (sound_here m first here rest.0)
 
-  pub goes_on : {new : BusRow} (x : View) (z : Curves) (j : ℕ) → suc k ≡ j → IsToldRun g b now (part_step here g u w c ∷ []) x z new → AreInStep x z new → x.vertices ≡ g.vertices → IsGoing v h old c ms j x z new
+  pub goes_on : {new : BusRow} (x : MapView) (z : Curves) (j : ℕ) → suc k ≡ j → IsToldRun g b now (part_step here g.graph u w c ∷ []) x z new → AreInStep x z new → x.graph.vertices ≡ g.graph.vertices → IsGoing v h old c ms j x z new
   unfolding run
   goes_on {new} x z j more t n e =
       let one : IsToldRun g b now (more_step first m ∷ []) x z new = told_runs_lawful.same_steps g b now _ (more_step first m ∷ []) x z new (ap (λ y. y ∷ []) (ap (more_step here) same_mark ∙ sym (one_step m first here rest.0.allowed))) t in
-      let r = made_is_run g b (more_step first m ∷ []) x z i.in_step.sound i.in_step.curves (told_runs_lawful.steps g b now (more_step first m ∷ []) x z new one) in
+      let r = made_is_run g.graph b (more_step first m ∷ []) x.graph z i.in_step.sound.graph i.in_step.curves (told_runs_lawful.steps g b now (more_step first m ∷ []) x z new one) in
       subst (λ y. IsGoing v h old c ms y x z new) more (record {
         in_step = n;
         vertices = e ∙ i.vertices;

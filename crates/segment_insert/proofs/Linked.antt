@@ -22,6 +22,7 @@ use Rattle.slab_laws.specs.Text.{skeleton}
 use Rattle.slab_laws.specs.View.{View, IsOutOf, point_in, source_in, target_in}
 use Rattle.slab_faces.proofs.PlaneGraphs.{counts}
 use Rattle.arr_notes.specs.Curves.{Curves, AreCurvesOf, IsForward}
+use Rattle.arr_notes.specs.MapView.{MapView}
 use Rattle.arr_notes.specs.RecordGraph.{drawn_graph}
 use Rattle.arr_notes.specs.Step.{add_edge}
 use Rattle.sound_views.proofs.GraphDrawn.{graphs_are_drawn}
@@ -79,8 +80,8 @@ module _ (v : View) (h : Curves) (s : IsGraphSound v) (a : AreCurvesOf v h) (l :
     unfolding IsAllowed
     not_held k m = (subst (λ t. IsAllowed t here) more_is_curve k.allowed).1 (mark_held v s.named h new_mark d (record { forward = f; low = starts; high = ends; curve = m }))
 
-    pub curve_told : (b e : BusRow) (k : Curves) → IsToldRun v h b (AddCurveAt (point_in v (source_in v d)) (point_in v (target_in v d)) c.0 ∷ []) v k e → IsToldRun v h b (more_step here new_mark ∷ []) v k e
-    curve_told b e k t = told_runs_lawful.same_steps v h b _ (more_step here new_mark ∷ []) v k e (ap₂ (λ x y. AddCurveAt x y c.0 ∷ []) starts ends ∙ ap (λ z. z ∷ []) (sym more_is_curve)) t
+    pub curve_told : (o : MapView) (b e : BusRow) (k : Curves) → IsToldRun o h b (AddCurveAt (point_in v (source_in v d)) (point_in v (target_in v d)) c.0 ∷ []) o k e → IsToldRun o h b (more_step here new_mark ∷ []) o k e
+    curve_told o b e k t = told_runs_lawful.same_steps o h b _ (more_step here new_mark ∷ []) o k e (ap₂ (λ x y. AddCurveAt x y c.0 ∷ []) starts ends ∙ ap (λ z. z ∷ []) (sym more_is_curve)) t
 
   -- ---- none does
   module _ (none : (d : DartId) → IsOutOf v u d → target_in v d ≢ w) where
@@ -152,5 +153,5 @@ module _ (v : View) (h : Curves) (s : IsGraphSound v) (a : AreCurvesOf v h) (l :
       plane = plane_after k;
     }
 
-    pub edge_told : (b d : BusRow) (g : View) (k : Curves) → IsToldRun v h b (AddEdgeAt p q c.0 ∷ []) g k d → IsToldRun v h b (more_step here new_mark ∷ []) g k d
-    edge_told b d g k t = told_runs_lawful.same_steps v h b _ (more_step here new_mark ∷ []) g k d (ap (λ z. z ∷ []) (sym more_is_edge)) t
+    pub edge_told : (o : MapView) (b d : BusRow) (g : MapView) (k : Curves) → IsToldRun o h b (AddEdgeAt p q c.0 ∷ []) g k d → IsToldRun o h b (more_step here new_mark ∷ []) g k d
+    edge_told o b d g k t = told_runs_lawful.same_steps o h b _ (more_step here new_mark ∷ []) g k d (ap (λ z. z ∷ []) (sym more_is_edge)) t

@@ -21,6 +21,7 @@ use Rattle.slab_laws.specs.View.{View}
 use Rattle.dcel_records.specs.declared.spot.Spot.{Spot}
 use Rattle.arr_notes.specs.Curves.{Curves}
 use Rattle.curve_history.specs.Past.{Past, curves_on}
+use Rattle.arr_notes.specs.MapView.{MapView}
 use Rattle.arr_notes.specs.RecordGraph.{drawn_graph}
 use Rattle.observer_bus.specs.Rounds.{BusRow}
 use Rattle.told_steps.specs.RecordLayers.{IsLayer, layer_of, IsRunOfSteps}
@@ -57,25 +58,25 @@ pub one_name : (old : List ℕ) (c n : ℕ) → c ≡ n → old ++ (n ∷ []) �
 one_name old c n e = ap (λ k. old ++ (k ∷ [])) (sym e)
 
 -- the steps for the meetings of a list are those for an equal one
-pub told_of_plan : (v : View) (b : Curves) (old : BusRow) (w : View) (d : Curves) (now : BusRow) {ms ns : List Meeting} → ms ≡ ns → IsToldRun v b old (steps_at v b (points_of_meetings ms)) w d now → IsToldRun v b old (steps_at v b (points_of_meetings ns)) w d now
-told_of_plan v b old w d now e m = subst (λ ms. IsToldRun v b old (steps_at v b (points_of_meetings ms)) w d now) e m
+pub told_of_plan : (v : MapView) (b : Curves) (old : BusRow) (w : MapView) (d : Curves) (now : BusRow) {ms ns : List Meeting} → ms ≡ ns → IsToldRun v b old (steps_at v.graph b (points_of_meetings ms)) w d now → IsToldRun v b old (steps_at v.graph b (points_of_meetings ns)) w d now
+told_of_plan v b old w d now e m = subst (λ ms. IsToldRun v b old (steps_at v.graph b (points_of_meetings ms)) w d now) e m
 
 -- records and history that are a layer, and the plan of a segment that gets the next number
-pub record IsPlanned (v : View) (past : Past) (g : Segment) (plan : ZonePlan) (c : ℕ) : Type 0 where
-  pub layer : IsLayer v past
+pub record IsPlanned (v : MapView) (past : Past) (g : Segment) (plan : ZonePlan) (c : ℕ) : Type 0 where
+  pub layer : IsLayer v.graph past
   pub ends : AreEnds g
-  pub zone : IsZoneOf v g plan
+  pub zone : IsZoneOf v.graph g plan
   pub number : c ≡ past.next
 
 -- the meetings are vertices now; b are the history's curves before that
-pub record IsHalfMade (v : View) (past : Past) (plan : ZonePlan) (b : Curves) (old : BusRow) (w : View) (d : Curves) (now : BusRow) (ns : List Meeting) : Type 0 where
+pub record IsHalfMade (v : MapView) (past : Past) (plan : ZonePlan) (b : Curves) (old : BusRow) (w : MapView) (d : Curves) (now : BusRow) (ns : List Meeting) : Type 0 where
   pub same : b ≡ curves_on past
-  pub told : IsToldRun v b old (steps_at v b (points_of_meetings plan.vertices)) w d now
+  pub told : IsToldRun v b old (steps_at v.graph b (points_of_meetings plan.vertices)) w d now
   pub kept : points_of_meetings ns ≡ points_of_meetings plan.vertices
 
-module _ {v : View} {past : Past} {g : Segment} {plan : ZonePlan} {c : ℕ} (planned : IsPlanned v past g plan c) where
+module _ {v : MapView} {past : Past} {g : Segment} {plan : ZonePlan} {c : ℕ} (planned : IsPlanned v past g plan c) where
   abbrev l : Layer
-  l = layer_of v past
+  l = layer_of v.graph past
 
   abbrev p : Present
   p = l.present
@@ -93,14 +94,14 @@ module _ {v : View} {past : Past} {g : Segment} {plan : ZonePlan} {c : ℕ} (pla
   unfolding after
   fit = keeps_fit (Insert c g) p planned.layer.lawful.fit accepted
 
-  pub meetings : AreMeetings v ms
+  pub meetings : AreMeetings v.graph ms
   meetings = record {
-    ascend = subst (IsAscending point_cmp) (sym planned.zone.points) (points_ascend v (curves_on past) planned.layer.sound planned.layer.curves p g c planned.layer.stands fit);
+    ascend = subst (IsAscending point_cmp) (sym planned.zone.points) (points_ascend v.graph (curves_on past) planned.layer.sound planned.layer.curves p g c planned.layer.stands fit);
     spots = planned.zone.spots;
   }
 
   one_more : length ms ≡ length plan.between + 1
-  one_more = sym (length-map ms (λ (m : Meeting). m.point)) ∙ ap length planned.zone.points ∙ parts_fewer v g (meeting_points v g) plan.between planned.zone.between
+  one_more = sym (length-map ms (λ (m : Meeting). m.point)) ∙ ap length planned.zone.points ∙ parts_fewer v.graph g (meeting_points v.graph g) plan.between planned.zone.between
 
   -- there are two darts for each open part
   pub room_left : (ns : List Meeting) (before left : ℕ) → points_of_meetings ns ≡ points_of_meetings ms → 2 * plan.room.edges ≤ before → before ≤ left + 2 * splits_needed ms → 2 * length ns ≤ left + 2
@@ -122,37 +123,37 @@ module _ {v : View} {past : Past} {g : Segment} {plan : ZonePlan} {c : ℕ} (pla
 
   -- ---- by curves that are the history's
   module _ (b : Curves) (same : b ≡ curves_on past) where
-    first_is : steps_at v b (points_of_meetings ms) ≡ steps_at v (curves_on past) (meeting_points v g)
-    first_is = ap₂ (steps_at v) same planned.zone.points
+    first_is : steps_at v.graph b (points_of_meetings ms) ≡ steps_at v.graph (curves_on past) (meeting_points v.graph g)
+    first_is = ap₂ (steps_at v.graph) same planned.zone.points
 
-    pub sound_first : AreSound (steps_at v b (points_of_meetings ms)) (drawn_graph v b)
-    sound_first = subst (λ z. AreSound z (drawn_graph v b)) (sym first_is) (subst (λ z. AreSound (steps_at v (curves_on past) (meeting_points v g)) (drawn_graph v z)) (sym same) (whole.first_sound v (curves_on past) planned.layer.sound planned.layer.curves p g c planned.layer.stands fit accepted))
+    pub sound_first : AreSound (steps_at v.graph b (points_of_meetings ms)) (drawn_graph v.graph b)
+    sound_first = subst (λ z. AreSound z (drawn_graph v.graph b)) (sym first_is) (subst (λ z. AreSound (steps_at v.graph (curves_on past) (meeting_points v.graph g)) (drawn_graph v.graph z)) (sym same) (whole.first_sound v.graph (curves_on past) planned.layer.sound planned.layer.curves p g c planned.layer.stands fit accepted))
 
-  module _ {b : Curves} {old : BusRow} {w : View} {d : Curves} {now : BusRow} {ns : List Meeting} (half : IsHalfMade v past plan b old w d now ns) where
-    told_here : IsToldRun v (curves_on past) old (steps_at v (curves_on past) (meeting_points v g)) w d now
-    told_here = subst (λ z. IsToldRun v z old (steps_at v (curves_on past) (meeting_points v g)) w d now) half.same (subst (λ z. IsToldRun v b old z w d now) (first_is b half.same) half.told)
+  module _ {b : Curves} {old : BusRow} {w : MapView} {d : Curves} {now : BusRow} {ns : List Meeting} (half : IsHalfMade v past plan b old w d now ns) where
+    told_here : IsToldRun v (curves_on past) old (steps_at v.graph (curves_on past) (meeting_points v.graph g)) w d now
+    told_here = subst (λ z. IsToldRun v z old (steps_at v.graph (curves_on past) (meeting_points v.graph g)) w d now) half.same (subst (λ z. IsToldRun v b old z w d now) (first_is b half.same) half.told)
 
-    made_here : IsRunOfSteps v (curves_on past) (steps_at v (curves_on past) (meeting_points v g)) w d
-    made_here = told_runs_lawful.steps v (curves_on past) old (steps_at v (curves_on past) (meeting_points v g)) w d now told_here
+    made_here : IsRunOfSteps v.graph (curves_on past) (steps_at v.graph (curves_on past) (meeting_points v.graph g)) w.graph d
+    made_here = told_runs_lawful.steps v (curves_on past) old (steps_at v.graph (curves_on past) (meeting_points v.graph g)) w d now told_here
 
-    points : points_of_meetings ns ≡ meeting_points v g
+    points : points_of_meetings ns ≡ meeting_points v.graph g
     points = half.kept ∙ planned.zone.points
 
-    pub all_on : AreAllOn w g (points_of_meetings ns)
-    all_on = subst (AreAllOn w g) (sym points) (whole.all_on v (curves_on past) planned.layer.sound planned.layer.curves p g c planned.layer.stands fit accepted w d made_here)
+    pub all_on : AreAllOn w.graph g (points_of_meetings ns)
+    all_on = subst (AreAllOn w.graph g) (sym points) (whole.all_on v.graph (curves_on past) planned.layer.sound planned.layer.curves p g c planned.layer.stands fit accepted w.graph d made_here)
 
     pub each_on : (m : Meeting) → Contains ns m → is_on_segment g m.point ≡ true
-    each_on m k = whole.on_segment v (curves_on past) planned.layer.sound planned.layer.curves p g c planned.layer.stands fit accepted m.point (subst (Member m.point) points (in_map (λ m. m.point) m ns (to_member ns m k)))
+    each_on m k = whole.on_segment v.graph (curves_on past) planned.layer.sound planned.layer.curves p g c planned.layer.stands fit accepted m.point (subst (Member m.point) points (in_map (λ m. m.point) m ns (to_member ns m k)))
 
-    pub plane_then : AreSound (edges_then w d c (points_of_meetings ns)) (drawn_graph w d)
-    plane_then = subst (λ z. AreSound (edges_then w d c z) (drawn_graph w d)) (sym points) (whole.last_sound v (curves_on past) planned.layer.sound planned.layer.curves p g c planned.layer.stands fit accepted w d made_here)
+    pub plane_then : AreSound (edges_then w.graph d c (points_of_meetings ns)) (drawn_graph w.graph d)
+    plane_then = subst (λ z. AreSound (edges_then w.graph d c z) (drawn_graph w.graph d)) (sym points) (whole.last_sound v.graph (curves_on past) planned.layer.sound planned.layer.curves p g c planned.layer.stands fit accepted w.graph d made_here)
 
-    module _ (x : View) (q : Past) (new : BusRow) (then : IsToldRun w d now (edges_then w d c (points_of_meetings ns)) x (curves_on q) new) where
+    module _ (x : MapView) (q : Past) (new : BusRow) (then : IsToldRun w d now (edges_then w.graph d c (points_of_meetings ns)) x (curves_on q) new) where
       pub all_told : IsToldRun v (curves_on past) old (steps (Insert c g) p) x (curves_on q) new
       all_told =
-          whole.told_whole v (curves_on past) planned.layer.sound planned.layer.curves p g c planned.layer.stands fit accepted w d made_here old now new x (curves_on q) told_here
-          (subst (λ z. IsToldRun w d now (edges_then w d c z) x (curves_on q) new) points then)
+          whole.told_whole v.graph (curves_on past) planned.layer.sound planned.layer.curves p g c planned.layer.stands fit accepted w.graph d made_here v w x old now new (curves_on q) told_here
+          (subst (λ z. IsToldRun w d now (edges_then w.graph d c z) x (curves_on q) new) points then)
 
-      pub layer_made : q.pieces ≡ past.pieces ++ (whole_piece c g ∷ []) → q.names ≡ past.names ++ (c ∷ []) → q.next ≡ past.next + 1 → IsLayer x q × (layer_of x q ≡ layer_after (Insert c g) l)
+      pub layer_made : q.pieces ≡ past.pieces ++ (whole_piece c g ∷ []) → q.names ≡ past.names ++ (c ∷ []) → q.next ≡ past.next + 1 → IsLayer x.graph q × (layer_of x.graph q ≡ layer_after (Insert c g) l)
       unfolding after
-      layer_made pieces names next = steps_make_layers (Insert c g) v past x q planned.layer accepted_by (told_runs_lawful.steps v (curves_on past) old (steps (Insert c g) p) x (curves_on q) new all_told) pieces names next
+      layer_made pieces names next = steps_make_layers (Insert c g) v.graph past x.graph q planned.layer accepted_by (told_runs_lawful.steps v (curves_on past) old (steps (Insert c g) p) x (curves_on q) new all_told) pieces names next

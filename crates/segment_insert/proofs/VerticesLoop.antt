@@ -18,6 +18,7 @@ use Rattle.arr_notes.specs.Curves.{Curves, AreCurvesOf}
 use Rattle.dcel_records.specs.declared.spot.Spot.{Spot}
 use Rattle.dcel_records.specs.declared.spot.Spot.TheVariants.{Vertex, Edge, Face}
 use Rattle.dcel_records.specs.Spots.{IsSpotOf}
+use Rattle.arr_notes.specs.MapView.{MapView}
 use Rattle.arr_notes.specs.RecordGraph.{drawn_graph}
 use Rattle.observer_bus.specs.Rounds.{BusRow}
 use Rattle.told_steps.proofs.Begun.{none_told}
@@ -60,38 +61,38 @@ proper_by_spot v h ps p (Edge d) s y m k =
 proper_by_spot v h ps p Face s y m k = proper_by_steps p _ (drawn_graph v h) y (missing_in p ps (drawn_graph v h).points m (face_new v h s p k))
 
 -- ---- the next one
-module _ (v : View) (h : Curves) (m : Meeting) (ms : List Meeting) (c : IsComing v h (m ∷ ms)) where
-  pub next_spot : IsSpotStill v h m.point m.spot
+module _ (v : MapView) (h : Curves) (m : Meeting) (ms : List Meeting) (c : IsComing v.graph h (m ∷ ms)) where
+  pub next_spot : IsSpotStill v.graph h m.point m.spot
   next_spot = c.spots m (inl refl)
 
-  pub next_sound : AreSound (steps_at v h (m.point ∷ [])) (drawn_graph v h)
-  next_sound = first_sound v h c.sound c.curves m.point (points_of_meetings ms) c.ascend.0 c.plane
+  pub next_sound : AreSound (steps_at v.graph h (m.point ∷ [])) (drawn_graph v.graph h)
+  next_sound = first_sound v.graph h c.sound c.curves m.point (points_of_meetings ms) c.ascend.0 c.plane
 
-  module _ {b : BusRow} (w : View) (k : Curves) {d : BusRow} (x : VertexId) (y : IsMadeAt v h b w k d m x) where
-    after : IsTurn v h m.point (points_of_meetings ms) w k
-    after = turn v h c.sound c.curves m.point (points_of_meetings ms) c.ascend.0 w k (told_runs_lawful.steps v h b (steps_at v h (m.point ∷ [])) w k d y.told)
+  module _ {b : BusRow} (w : MapView) (k : Curves) {d : BusRow} (x : VertexId) (y : IsMadeAt v h b w k d m x) where
+    after : IsTurn v.graph h m.point (points_of_meetings ms) w.graph k
+    after = turn v.graph h c.sound c.curves m.point (points_of_meetings ms) c.ascend.0 w.graph k (told_runs_lawful.steps v h b (steps_at v.graph h (m.point ∷ [])) w k d y.told)
 
-    spots_after : (n : Meeting) → Member n ms → IsSpotStill w k n.point n.spot
+    spots_after : (n : Meeting) → Member n ms → IsSpotStill w.graph k n.point n.spot
     spots_after n i =
         let j : Member n.point (points_of_meetings ms) = in_map (λ o. o.point) n ms i in
         let l : point_cmp m.point n.point ≡ Less = All-member (λ q. point_cmp m.point q ≡ Less) n.point (points_of_meetings ms) c.ascend.0 j in
-        y.later n.point n.spot (proper_by_spot v h (points_of_meetings (m ∷ ms)) n.point n.spot c.sound c.plane (inr j) (c.spots n (inr i))) (ap is_lt l) (c.spots n (inr i))
+        y.later n.point n.spot (proper_by_spot v.graph h (points_of_meetings (m ∷ ms)) n.point n.spot c.sound c.plane (inr j) (c.spots n (inr i))) (ap is_lt l) (c.spots n (inr i))
 
-    pub rest_coming : IsComing w k ms
+    pub rest_coming : IsComing w.graph k ms
     rest_coming = record { sound = after.sound; curves = after.curves; ascend = c.ascend.1; spots = spots_after; plane = after.plane c.plane }
 
-    rest_told : (u : View) (l : Curves) (e : BusRow) → IsToldRun w k d (steps_at w k (points_of_meetings ms)) u l e → IsToldRun v h b (steps_at v h (points_of_meetings (m ∷ ms))) u l e
+    rest_told : (u : MapView) (l : Curves) (e : BusRow) → IsToldRun w k d (steps_at w.graph k (points_of_meetings ms)) u l e → IsToldRun v h b (steps_at v.graph h (points_of_meetings (m ∷ ms))) u l e
     rest_told u l e z =
-        let ss = steps_at v h (m.point ∷ []) in
-        let ts = steps_at w k (points_of_meetings ms) in
-        told_runs_lawful.same_steps v h b (ss ++ ts) (steps_at v h (points_of_meetings (m ∷ ms))) u l e (sym after.steps) (told_runs_lawful.follow v h b ss ts w k d u l e y.told z)
+        let ss = steps_at v.graph h (m.point ∷ []) in
+        let ts = steps_at w.graph k (points_of_meetings ms) in
+        told_runs_lawful.same_steps v h b (ss ++ ts) (steps_at v.graph h (points_of_meetings (m ∷ ms))) u l e (sym after.steps) (told_runs_lawful.follow v h b ss ts w k d u l e y.told z)
 
-    pairs_still : (s : Spot) (p : Point) → IsSpotStill v h p s → pairs_at k s ≡ pairs_at h s
+    pairs_still : (s : Spot) (p : Point) → IsSpotStill v.graph h p s → pairs_at k s ≡ pairs_at h s
     pairs_still (Vertex u) p z = refl
-    pairs_still (Edge d) p z = ap length (y.curves d (leads_forward v p z.0 d z.1).0)
+    pairs_still (Edge d) p z = ap length (y.curves d (leads_forward v.graph p z.0 d z.1).0)
     pairs_still Face p z = refl
 
-    same_pairs : (ns : List Meeting) → ((n : Meeting) → Member n ns → IsSpotStill v h n.point n.spot) → pairs_to_part k ns ≡ pairs_to_part h ns
+    same_pairs : (ns : List Meeting) → ((n : Meeting) → Member n ns → IsSpotStill v.graph h n.point n.spot) → pairs_to_part k ns ≡ pairs_to_part h ns
     same_pairs [] f = refl
     same_pairs (n ∷ ns) f = ap₂ (λ a b. a + b) (pairs_still n.spot n.point (f n (inl refl))) (same_pairs ns (λ o i. f o (inr i)))
 
@@ -106,12 +107,12 @@ pub record AreNamed (v : View) (ms : List Meeting) : Type 0 where
 abbrev pub told_at : Meeting → VertexId → Meeting
 told_at m x = record { point = m.point; spot = Vertex x }
 
-named_more : {v : View} {h : Curves} {b : BusRow} (w : View) {k : Curves} {c : BusRow} (m : Meeting) (x : VertexId) (ms : List Meeting) → AreNamed v ms → IsMadeAt v h b w k c m x → AreNamed w (ms ++ told_at m x ∷ [])
+named_more : {v : MapView} {h : Curves} {b : BusRow} (w : MapView) {k : Curves} {c : BusRow} (m : Meeting) (x : VertexId) (ms : List Meeting) → AreNamed v.graph ms → IsMadeAt v h b w k c m x → AreNamed w.graph (ms ++ told_at m x ∷ [])
 named_more w m x ms a y = record {
   each = λ n i. elim (in_either n ms (told_at m x ∷ []) i) [
     | inl o ↦ let r = a.each n o in let z = y.vertices r.0 r.2 in (r.0, r.1, z.0, z.1 ∙ r.3)
     | inr o ↦ elim o [
-      | inl e ↦ subst (IsNamedVertex w) (sym e) (x, refl, y.has, y.point)
+      | inl e ↦ subst (IsNamedVertex w.graph) (sym e) (x, refl, y.has, y.point)
       | inr b ↦ absurd b
     ]
   ];
@@ -143,18 +144,18 @@ module _ {X : Type 0} where
       ap (λ n. drop n xs) (add-one i) ∙ ap tail_of (sym (drop-cons xs i x l) ∙ e ∙ drop-cons ys i x k) ∙ sym (ap (λ n. drop n ys) (add-one i))
 
 -- ---- midway: the first i meetings are named vertices, the others are to come, and what is told of the records so far leaves the steps of these
-pub record IsMidway (v : View) (h : Curves) (b : BusRow) (ms : List Meeting) (w : View) (k : Curves) (c : BusRow) (ns : List Meeting) (i : ℕ) : Type 0 where
-  pub coming : IsComing w k (drop i ms)
+pub record IsMidway (v : MapView) (h : Curves) (b : BusRow) (ms : List Meeting) (w : MapView) (k : Curves) (c : BusRow) (ns : List Meeting) (i : ℕ) : Type 0 where
+  pub coming : IsComing w.graph k (drop i ms)
   pub in_step : AreInStep w k c
-  pub then_told : (u : View) (l : Curves) (d : BusRow) → IsToldRun w k c (steps_at w k (points_of_meetings (drop i ms))) u l d → IsToldRun v h b (steps_at v h (points_of_meetings ms)) u l d
+  pub then_told : (u : MapView) (l : Curves) (d : BusRow) → IsToldRun w k c (steps_at w.graph k (points_of_meetings (drop i ms))) u l d → IsToldRun v h b (steps_at v.graph h (points_of_meetings ms)) u l d
   pub points : points_of_meetings ns ≡ points_of_meetings ms
   pub rest : drop i ns ≡ drop i ms
-  pub named : AreNamed w (take i ns)
+  pub named : AreNamed w.graph (take i ns)
 
-pub at_start : (v : View) (h : Curves) {b : BusRow} (ms : List Meeting) → AreInStep v h b → AreMeetings v ms → AreSound (steps_at v h (points_of_meetings ms)) (drawn_graph v h) → IsMidway v h b ms v h b ms 0
-at_start v h ms t k y = record { coming = all_coming v h ms t.sound t.curves k y; in_step = t; then_told = λ u l d y. y; points = refl; rest = refl; named = record { each = λ m i. absurd i } }
+pub at_start : (v : MapView) (h : Curves) {b : BusRow} (ms : List Meeting) → AreInStep v h b → AreMeetings v.graph ms → AreSound (steps_at v.graph h (points_of_meetings ms)) (drawn_graph v.graph h) → IsMidway v h b ms v h b ms 0
+at_start v h ms t k y = record { coming = all_coming v.graph h ms t.sound.graph t.curves k y; in_step = t; then_told = λ u l d y. y; points = refl; rest = refl; named = record { each = λ m i. absurd i } }
 
-module _ (v : View) (h : Curves) {b : BusRow} (ms : List Meeting) (w : View) (k : Curves) {d : BusRow} (ns : List Meeting) (i : ℕ) (c : IsMidway v h b ms w k d ns i) where
+module _ (v : MapView) (h : Curves) {b : BusRow} (ms : List Meeting) (w : MapView) (k : Curves) {d : BusRow} (ns : List Meeting) (i : ℕ) (c : IsMidway v h b ms w k d ns i) where
   pub same_length : length ns ≡ length ms
   same_length = sym (length-map ns (λ m. m.point)) ∙ ap length c.points ∙ length-map ms (λ m. m.point)
 
@@ -163,25 +164,25 @@ module _ (v : View) (h : Curves) {b : BusRow} (ms : List Meeting) (w : View) (k 
     pub next_first : drop i ms ≡ m ∷ drop (i + 1) ms
     next_first = sym c.rest ∙ first_left ns i m l e ∙ ap (λ ys. m ∷ ys) (left_after ns ms i m l (subst (λ n. i < n) same_length l) c.rest)
 
-    now_coming : IsComing w k (m ∷ drop (i + 1) ms)
-    now_coming = subst (IsComing w k) next_first c.coming
+    now_coming : IsComing w.graph k (m ∷ drop (i + 1) ms)
+    now_coming = subst (IsComing w.graph k) next_first c.coming
 
-    pub spot_now : IsSpotStill w k m.point m.spot
+    pub spot_now : IsSpotStill w.graph k m.point m.spot
     spot_now = next_spot w k m (drop (i + 1) ms) now_coming
 
-    pub sound_now : AreSound (steps_at w k (m.point ∷ [])) (drawn_graph w k)
+    pub sound_now : AreSound (steps_at w.graph k (m.point ∷ [])) (drawn_graph w.graph k)
     sound_now = next_sound w k m (drop (i + 1) ms) now_coming
 
     -- once it is a vertex, and is told so
-    module _ (u : View) (q : Curves) {f : BusRow} (x : VertexId) (y : IsMadeAt w k d u q f m x) where
+    module _ (u : MapView) (q : Curves) {f : BusRow} (x : VertexId) (y : IsMadeAt w k d u q f m x) where
       pub onwards : (o : Meeting) → o ≡ told_at m x → AreInStep u q f → IsMidway v h b ms u q f (set ns i o) (i + 1)
       onwards o same t = record {
         coming = rest_coming w k m (drop (i + 1) ms) now_coming u q x y;
         in_step = t;
-        then_told = λ r j g z. c.then_told r j g (subst (λ ls. IsToldRun w k d (steps_at w k (points_of_meetings ls)) r j g) (sym next_first) (rest_told w k m (drop (i + 1) ms) now_coming u q x y r j g z));
+        then_told = λ r j g z. c.then_told r j g (subst (λ ls. IsToldRun w k d (steps_at w.graph k (points_of_meetings ls)) r j g) (sym next_first) (rest_told w k m (drop (i + 1) ms) now_coming u q x y r j g z));
         points = map-set_same (λ n. n.point) ns i o m (ap (λ n. n.point) same ∙ ap (λ n. n.point) e) ∙ c.points;
         rest = drop-set-lt (i + 1) ns i o (omega arith) ∙ left_after ns ms i m l (subst (λ n. i < n) same_length l) c.rest;
-        named = subst (AreNamed u) (sym (ap (λ z. take (i + 1) (set ns i z)) same ∙ take-set_at ns i (i + 1) (told_at m x) refl l)) (named_more u m x (take i ns) c.named y);
+        named = subst (AreNamed u.graph) (sym (ap (λ z. take (i + 1) (set ns i z)) same ∙ take-set_at ns i (i + 1) (told_at m x) refl l)) (named_more u m x (take i ns) c.named y);
       }
 
       -- the others' edges have as many curves
@@ -193,11 +194,11 @@ module _ (v : View) (h : Curves) {b : BusRow} (ms : List Meeting) (w : View) (k 
     nothing_left = drop_all i ms (subst (λ n. n ≤ i) same_length done)
 
     -- at the end all steps are told
-    pub all_told : IsToldRun v h b (steps_at v h (points_of_meetings ms)) w k d
-    all_told = c.then_told w k d (subst (λ ss. IsToldRun w k d ss w k d) (sym (ap (λ ls. steps_at w k (points_of_meetings ls)) nothing_left ∙ none_left (drawn_graph w k) (drawn_graph w k))) (none_told w k d))
+    pub all_told : IsToldRun v h b (steps_at v.graph h (points_of_meetings ms)) w k d
+    all_told = c.then_told w k d (subst (λ ss. IsToldRun w k d ss w k d) (sym (ap (λ ls. steps_at w.graph k (points_of_meetings ls)) nothing_left ∙ none_left (drawn_graph w.graph k) (drawn_graph w.graph k))) (none_told w k d))
 
     -- and all meetings are named
-    pub all_named : IsAscending point_cmp (points_of_meetings ms) → AreVertices w ns
+    pub all_named : IsAscending point_cmp (points_of_meetings ms) → AreVertices w.graph ns
     all_named a = record {
       ascend = subst (IsAscending point_cmp) (sym c.points) a;
       named = λ m j. c.named.each m (subst (Member m) (sym (take_all i ns done)) (to_member ns m j));

@@ -26,6 +26,7 @@ use Rattle.dcel_records.specs.declared.spot.Spot.{Spot}
 use Rattle.dcel_records.specs.declared.spot.Spot.TheVariants.{Vertex, Edge, Face}
 use Rattle.dcel_records.specs.Spots.{IsSpotOf, IsInFace}
 use Rattle.edge_split_merge.specs.Splits.{CanSplit}
+use Rattle.arr_notes.specs.MapView.{MapView}
 use Rattle.arr_notes.specs.RecordGraph.{drawn_graph}
 use Rattle.observer_bus.specs.Rounds.{BusRow}
 use Rattle.sound_changes.specs.StepOfChange.{step_of_change, FitsChange}
@@ -85,30 +86,30 @@ module _ (v : View) (h : Curves) (s : IsGraphSound v) where
   -- by the step alone
   kept_by : (x : Change) (q r p : Point) → FitsChange v h x → step_of_change v x ≡ SplitEdgeAt q r p → IsKept v h (step v x) (step_curves h x) p
   kept_by (SplitEdge d x o n t) q r p f e = let k : o ≡ p = cc in subst (IsKept v h (split_edge v d x o n t) (step_curves h (SplitEdge d x o n t))) k (kept_by_split o d x n t f)
-  kept_by (AddVertex x o) q r p f e = absurd cc
+  kept_by (AddVertex x o a) q r p f e = absurd cc
   kept_by (RemoveVertex x) q r p f e = absurd cc
   kept_by (MergeEdge x d n) q r p f e = absurd cc
-  kept_by (AddEdge d m u x at_u at_x l c) q r p f e = absurd cc
-  kept_by (RemoveEdge d m) q r p f e = absurd cc
+  kept_by (AddEdge d m u x at_u at_x l c n) q r p f e = absurd cc
+  kept_by (RemoveEdge d m n) q r p f e = absurd cc
   kept_by (AddCurve d c) q r p f e = absurd cc
   kept_by (RemoveCurve d c) q r p f e = absurd cc
   kept_by (SetPin x) q r p f e = absurd cc
   kept_by (ClearPin x) q r p f e = absurd cc
-  kept_by Clear q r p f e = absurd cc
+  kept_by (Clear a) q r p f e = absurd cc
 
   kept_by_run : (q r p : Point) (w : View) (k : Curves) → IsRunOfSteps v h (SplitEdgeAt q r p ∷ []) w k → IsKept v h w k p
   kept_by_run q r p w k m =
       let e : k ≡ step_curves h m.0 = λ i d. m.2.1 d i in
       subst (λ z. IsKept v h z k p) (sym m.2.0) (subst (λ z. IsKept v h (step v m.0) z p) (sym e) (kept_by m.0 q r p m.1.fits m.1.tells))
 
-module _ (v : View) (h : Curves) (s : IsGraphSound v) (a : AreCurvesOf v h) (m : Meeting) where
+module _ (v : MapView) (h : Curves) (s : IsGraphSound v.graph) (a : AreCurvesOf v.graph h) (m : Meeting) where
   abbrev p : Point
   p = m.point
 
   -- ---- a vertex
-  stays : {b : BusRow} (w : VertexId) → IsSpotOf v m.point (Vertex w) → IsMadeAt v h b v h b m w
+  stays : {b : BusRow} (w : VertexId) → IsSpotOf v.graph m.point (Vertex w) → IsMadeAt v h b v h b m w
   stays {b} w k = record {
-    told = nothing_told v h s a m.point [] tt (subst (λ q. Member q (drawn_graph v h).points) k.1 (point_held v s.named h w k.0)) b;
+    told = nothing_told v.graph h s a m.point [] tt (subst (λ q. Member q (drawn_graph v.graph h).points) k.1 (point_held v.graph s.named h w k.0)) v b;
     has = k.0;
     point = k.1;
     vertices = λ u o. (o, refl);
@@ -117,20 +118,20 @@ module _ (v : View) (h : Curves) (s : IsGraphSound v) (a : AreCurvesOf v h) (m :
   }
 
   -- ---- a part of an edge
-  part_proper : (e d : DartId) → LeadsTo v m.point e d → AreSound (steps_at v h (m.point ∷ [])) (drawn_graph v h) → IsProper m.point
+  part_proper : (e d : DartId) → LeadsTo v.graph m.point e d → AreSound (steps_at v.graph h (m.point ∷ [])) (drawn_graph v.graph h) → IsProper m.point
   part_proper e d k y =
-      let i = leads_inside v m.point e d k in
-      proper_by_step m.point (drawn_graph v h) (one_sound v h s a m.point [] tt (edge_new v h s m.point e i.0.0 i.1) y)
+      let i = leads_inside v.graph m.point e d k in
+      proper_by_step m.point (drawn_graph v.graph h) (one_sound v.graph h s a m.point [] tt (edge_new v.graph h s m.point e i.0.0 i.1) y)
 
   -- the part is split
-  splits : {b c : BusRow} (w : View) (k : Curves) (e d : DartId) (x : VertexId) → LeadsTo v m.point e d → IsProper m.point → IsToldRun v h b (SplitEdgeAt (point_in v (source_in v e)) (point_in v (target_in v e)) m.point ∷ []) w k c → IsVertexAt w m.point x → IsMadeAt v h b w k c m x
+  splits : {b c : BusRow} (w : MapView) (k : Curves) (e d : DartId) (x : VertexId) → LeadsTo v.graph m.point e d → IsProper m.point → IsToldRun v h b (SplitEdgeAt (point_in v.graph (source_in v.graph e)) (point_in v.graph (target_in v.graph e)) m.point ∷ []) w k c → IsVertexAt w.graph m.point x → IsMadeAt v h b w k c m x
   splits {b} {c} w k e d x y proper t at =
-      let f = part_fits v m.point e d y in
-      let q = point_in v (source_in v e) in
-      let r = point_in v (target_in v e) in
-      let z = kept_by_run v h s q r m.point w k (told_runs_lawful.steps v h b (SplitEdgeAt q r m.point ∷ []) w k c t) in
+      let f = part_fits v.graph m.point e d y in
+      let q = point_in v.graph (source_in v.graph e) in
+      let r = point_in v.graph (target_in v.graph e) in
+      let z = kept_by_run v.graph h s q r m.point w.graph k (told_runs_lawful.steps v h b (SplitEdgeAt q r m.point ∷ []) w k c t) in
       record {
-        told = one_told v h s a m.point [] tt (edge_new v h s m.point e f.dart f.inside_edge) (SplitEdgeAt q r m.point) (sym (edge_step v h s m.point proper a e (f.dart, f.forward) f.inside_edge)) b w k c t;
+        told = one_told v.graph h s a m.point [] tt (edge_new v.graph h s m.point e f.dart f.inside_edge) (SplitEdgeAt q r m.point) (sym (edge_step v.graph h s m.point proper a e (f.dart, f.forward) f.inside_edge)) v b w k c t;
         has = at.has;
         point = at.at;
         vertices = z.vertices;
@@ -139,37 +140,35 @@ module _ (v : View) (h : Curves) (s : IsGraphSound v) (a : AreCurvesOf v h) (m :
       }
 
   -- ---- inside a face
-  module _ (o : IsInFace v m.point) (y : AreSound (steps_at v h (m.point ∷ [])) (drawn_graph v h)) where
-    one : IsSound (vertex_step_by m.point (drawn_graph v h).marks) (drawn_graph v h)
-    one = one_sound v h s a m.point [] tt (face_new v h s m.point o) y
+  module _ (o : IsInFace v.graph m.point) (y : AreSound (steps_at v.graph h (m.point ∷ [])) (drawn_graph v.graph h)) where
+    one : IsSound (vertex_step_by m.point (drawn_graph v.graph h).marks) (drawn_graph v.graph h)
+    one = one_sound v.graph h s a m.point [] tt (face_new v.graph h s m.point o) y
 
     proper_here : IsProper m.point
-    proper_here = proper_by_step m.point (drawn_graph v h) one
+    proper_here = proper_by_step m.point (drawn_graph v.graph h) one
 
-    added_by : vertex_step_by m.point (drawn_graph v h).marks ≡ AddVertexAt m.point
-    added_by = face_step v h s m.point proper_here o
+    added_by : vertex_step_by m.point (drawn_graph v.graph h).marks ≡ AddVertexAt m.point
+    added_by = face_step v.graph h s m.point proper_here o
 
-    added_plane : IsPlane (apply (AddVertexAt m.point) (drawn_graph v h))
-    added_plane = subst (λ z. IsPlane (apply z (drawn_graph v h))) added_by one.plane
+    added_plane : IsPlane (apply (AddVertexAt m.point) (drawn_graph v.graph h))
+    added_plane = subst (λ z. IsPlane (apply z (drawn_graph v.graph h))) added_by one.plane
 
-    module _ (x : VertexId) (new : ¬ HasVertex v x) where
-      added_later : (q : Point) (z : Spot) → IsProper q → precedes m.point q ≡ true → IsSpotStill v h q z → IsSpotStill (with_vertex v x m.point) h q z
-      added_later q (Vertex u) proper l k = let r = old_vertex v x m.point s new u k.0 in (r.has k.0, r.point ∙ k.1)
-      added_later q (Edge d) proper l k = (k.0, leads_too v x m.point s new q k.0 d k.1, k.2)
-      added_later q Face proper l k = face_too v x m.point s new q (λ e. lt_never (subst (λ z. Lt m.point z) (sym e) (lt_out m.point q l))) k
+    module _ (x : VertexId) (new : ¬ HasVertex v.graph x) where
+      added_later : (q : Point) (z : Spot) → IsProper q → precedes m.point q ≡ true → IsSpotStill v.graph h q z → IsSpotStill (with_vertex v.graph x m.point) h q z
+      added_later q (Vertex u) proper l k = let r = old_vertex v.graph x m.point s new u k.0 in (r.has k.0, r.point ∙ k.1)
+      added_later q (Edge d) proper l k = (k.0, leads_too v.graph x m.point s new q k.0 d k.1, k.2)
+      added_later q Face proper l k = face_too v.graph x m.point s new q (λ e. lt_never (subst (λ z. Lt m.point z) (sym e) (lt_out m.point q l))) k
 
-      comes : {b c : BusRow} (w : View) → w ≡ with_vertex v x m.point → IsToldRun v h b (AddVertexAt m.point ∷ []) w h c → IsMadeAt v h b w h c m x
+      comes : {b c : BusRow} (w : MapView) → w.graph ≡ with_vertex v.graph x m.point → IsToldRun v h b (AddVertexAt m.point ∷ []) w h c → IsMadeAt v h b w h c m x
       comes {b} {c} w e t =
-          let g = with_vertex v x m.point in
-          let told = one_told v h s a m.point [] tt (face_new v h s m.point o) (AddVertexAt m.point) (sym added_by) b w h c t in
-          subst (λ z. IsMadeAt v h b z h c m x) (sym e) (record {
-            told = subst (λ z. IsToldRun v h b (steps_at v h (m.point ∷ [])) z h c) e told;
-            has = (vertex_is_added v x m.point).has;
-            point = (vertex_is_added v x m.point).point;
-            vertices = λ u k. let r = old_vertex v x m.point s new u k in (r.has k, r.point);
+          record {
+            told = one_told v.graph h s a m.point [] tt (face_new v.graph h s m.point o) (AddVertexAt m.point) (sym added_by) v b w h c t;
+            has = subst (λ g. HasVertex g x) (sym e) (vertex_is_added v.graph x m.point).has;
+            point = subst (λ g. point_in g x ≡ m.point) (sym e) (vertex_is_added v.graph x m.point).point;
+            vertices = λ u k. let r = old_vertex v.graph x m.point s new u k in subst (λ g. HasVertex g u × (point_in g u ≡ point_in v.graph u)) (sym e) (r.has k, r.point);
             curves = λ d k. refl;
-            later = added_later;
-          })
+            later = λ q z proper l k. subst (λ g. IsSpotStill g h q z) (sym e) (added_later q z proper l k);
+          }
 
 -- ---- where the point lies now
 pub lies_now : (v : View) (p : Point) (told now : Spot) → IsSpotNow v p told now → IsSpotOf v p now
@@ -205,17 +204,17 @@ module _ (v : View) (m : Meeting) (now : Spot) (k : IsSpotNow v m.point m.spot n
       omega (arith, sum_by-cons f m [], darts_now v m.point m.spot now k)
 
 -- ---- the vertex is made there
-module _ (v : View) (h : Curves) (s : IsGraphSound v) (a : AreCurvesOf v h) (m : Meeting) (y : AreSound (steps_at v h (m.point ∷ [])) (drawn_graph v h)) where
-  pub plane_there : (now : Spot) → IsSpotOf v m.point now → IsPlaneWith v h m.point now
+module _ (v : MapView) (h : Curves) (s : IsGraphSound v.graph) (a : AreCurvesOf v.graph h) (m : Meeting) (y : AreSound (steps_at v.graph h (m.point ∷ [])) (drawn_graph v.graph h)) where
+  pub plane_there : (now : Spot) → IsSpotOf v.graph m.point now → IsPlaneWith v.graph h m.point now
   plane_there (Vertex u) o = tt
   plane_there (Edge e) o = tt
   plane_there Face o = added_plane v h s a m o y
 
-  pub made_there : {b c : BusRow} (now : Spot) → IsSpotOf v m.point now → IsProper m.point → (w : View) (k : Curves) (x : VertexId) →
-      IsToldRun v h b (steps_at_spot v m.point now) w k c → IsVertexAt w m.point x → IsVertexMade v h m.point now w k x → IsMadeAt v h b w k c m x
+  pub made_there : {b c : BusRow} (now : Spot) → IsSpotOf v.graph m.point now → IsProper m.point → (w : MapView) (k : Curves) (x : VertexId) →
+      IsToldRun v h b (steps_at_spot v.graph m.point now) w k c → IsVertexAt w.graph m.point x → IsVertexMade v.graph h m.point now w.graph k x → IsMadeAt v h b w k c m x
   unfolding IsToldRun
   made_there {b} {c} (Vertex u) o proper w k x t at made =
-      subst (λ z. IsMadeAt v h b z k c m x) (sym made.1) (subst (λ q. IsMadeAt v h b v q c m x) (sym (λ i d. made.2 d i))
+      subst (λ z. IsMadeAt v h b z k c m x) (sym t.0) (subst (λ q. IsMadeAt v h b v q c m x) (sym (λ i d. t.1 d i))
       (subst (λ q. IsMadeAt v h b v h q m x) (sym t.2) (subst (IsMadeAt v h b v h b m) (sym made.0) (stays v h s a m u o))))
   made_there {b} {c} (Edge e) o proper w k x t at made = splits v h s a m w k e e x (here o) proper t at
   made_there {b} {c} Face o proper w k x t at made =

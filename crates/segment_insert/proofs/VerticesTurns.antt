@@ -16,6 +16,7 @@ use Rattle.slab_laws.specs.Sound.{IsGraphSound}
 use Rattle.slab_laws.specs.View.{View}
 use Rattle.arr_notes.specs.Curves.{Curves, AreCurvesOf, step_curves}
 use Rattle.arr_notes.specs.Step.{step}
+use Rattle.arr_notes.specs.MapView.{MapView}
 use Rattle.arr_notes.specs.RecordGraph.{drawn_graph}
 use Rattle.sound_changes.specs.StepLaws.{IsApplied}
 use Rattle.sound_changes.proofs.ChangesAreSteps.{changes_are_steps}
@@ -168,11 +169,11 @@ module _ (v : View) (h : Curves) (s : IsGraphSound v) (a : AreCurvesOf v h) (p :
       ]
 
   -- ---- what a vertex and a new point ask of the first steps
-  pub nothing_told : Member p g.points → (b : BusRow) → IsToldRun v h b (steps_at v h (p ∷ [])) v h b
-  nothing_told there b = subst (λ ss. IsToldRun v h b ss v h b) (sym (none_first there)) (none_told v h b)
+  pub nothing_told : Member p g.points → (o : MapView) (b : BusRow) → IsToldRun o h b (steps_at v h (p ∷ [])) o h b
+  nothing_told there o b = subst (λ ss. IsToldRun o h b ss o h b) (sym (none_first there)) (none_told o h b)
 
-  pub one_told : (new : Member p g.points → ⊥) (t : Step) → t ≡ vertex_step_by p g.marks → (b : BusRow) (w : View) (k : Curves) (c : BusRow) → IsToldRun v h b (t ∷ []) w k c → IsToldRun v h b (steps_at v h (p ∷ [])) w k c
-  one_told new t e b w k c m = told_runs_lawful.same_steps v h b (t ∷ []) (steps_at v h (p ∷ [])) w k c (ap (λ z. z ∷ []) e ∙ sym (one_first new)) m
+  pub one_told : (new : Member p g.points → ⊥) (t : Step) → t ≡ vertex_step_by p g.marks → (o : MapView) (b : BusRow) (w : MapView) (k : Curves) (c : BusRow) → IsToldRun o h b (t ∷ []) w k c → IsToldRun o h b (steps_at v h (p ∷ [])) w k c
+  one_told new t e o b w k c m = told_runs_lawful.same_steps o h b (t ∷ []) (steps_at v h (p ∷ [])) w k c (ap (λ z. z ∷ []) e ∙ sym (one_first new)) m
 
   pub one_sound : (new : Member p g.points → ⊥) → AreSound (steps_at v h (p ∷ [])) g → IsSound (vertex_step_by p g.marks) g
   one_sound new y = (subst (λ ss. AreSound ss g) (one_first new) y).0

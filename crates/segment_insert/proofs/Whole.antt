@@ -25,6 +25,7 @@ use Rattle.edit_steps.proofs.Folds.{first_sound as sound_first}
 use Rattle.slab_laws.specs.Sound.{IsGraphSound}
 use Rattle.slab_laws.specs.View.{View, point_in}
 use Rattle.arr_notes.specs.Curves.{Curves, AreCurvesOf}
+use Rattle.arr_notes.specs.MapView.{MapView}
 use Rattle.arr_notes.specs.RecordGraph.{drawn_graph}
 use Rattle.sound_changes.proofs.StepHolds.{point_held}
 use Rattle.observer_bus.specs.Rounds.{BusRow}
@@ -149,10 +150,10 @@ module _ (v : View) (h : Curves) (s : IsGraphSound v) (a : AreCurvesOf v h) (p :
           | inr n ↦ new_on x (vertices_change.stay p k x (subst (Member x) drawn_points n)) o
         ]
 
-    pub told_whole : (old now new : BusRow) (x : View) (z : Curves) → IsToldRun v h old first_half w b now → IsToldRun w b now (last_half (drawn_graph w b)) x z new → IsToldRun v h old (steps (Insert c g) p) x z new
-    told_whole old now new x z m n =
+    pub told_whole : (o y x : MapView) (old now new : BusRow) (z : Curves) → IsToldRun o h old first_half y b now → IsToldRun y b now (last_half (drawn_graph w b)) x z new → IsToldRun o h old (steps (Insert c g) p) x z new
+    told_whole o y x old now new z m n =
         let ts = last_half (run first_half here) in
-        told_runs_lawful.same_steps v h old (first_half ++ ts) (steps (Insert c g) p) x z new (sym halves) (told_runs_lawful.follow v h old first_half ts w b now x z new m (told_runs_lawful.same_steps w b now _ ts x z new (ap last_half run_here) n))
+        told_runs_lawful.same_steps o h old (first_half ++ ts) (steps (Insert c g) p) x z new (sym halves) (told_runs_lawful.follow o h old first_half ts y b now x z new m (told_runs_lawful.same_steps y b now _ ts x z new (ap last_half run_here) n))
 
   pub on_segment : (x : Point) → Member x (meeting_points v g) → is_on_segment g x ≡ true
   unfolding on along

@@ -10,6 +10,7 @@ use Rattle.arr_notes.specs.Curves.{Curves, IsForward}
 use Rattle.dcel_records.specs.declared.spot.Spot.{Spot}
 use Rattle.dcel_records.specs.declared.spot.Spot.TheVariants.{Vertex, Edge, Face}
 use Rattle.dcel_records.specs.Spots.{IsSpotOf}
+use Rattle.arr_notes.specs.MapView.{MapView}
 use Rattle.arr_notes.specs.RecordGraph.{drawn_graph}
 use Rattle.observer_bus.specs.Rounds.{BusRow}
 use Rattle.told_steps.specs.ToldRuns.{IsToldRun}
@@ -41,10 +42,10 @@ IsSpotNow v p (Edge d) now = (e : DartId) × (now ≡ Edge e) × LeadsTo v p e d
 IsSpotNow v p Face now = (now ≡ Face) × IsSpotOf v p Face
 
 -- the meeting's point is the vertex x after its step, which observers are told, if it was none before; names of vertices stay, the curves of the old edges stay, and what was told of later points still says where they lie (this project)
-pub record IsMadeAt (v : View) (h : Curves) (b : BusRow) (w : View) (k : Curves) (c : BusRow) (m : Meeting) (x : VertexId) : Type 0 where
-  pub told : IsToldRun v h b (steps_at v h (m.point ∷ [])) w k c
-  pub has : HasVertex w x
-  pub point : point_in w x ≡ m.point
-  pub vertices : (u : VertexId) → HasVertex v u → HasVertex w u × (point_in w u ≡ point_in v u)
-  pub curves : (d : DartId) → HasDart v d → k d ≡ h d
-  pub later : (p : Point) (s : Spot) → IsProper p → precedes m.point p ≡ true → IsSpotStill v h p s → IsSpotStill w k p s
+pub record IsMadeAt (v : MapView) (h : Curves) (b : BusRow) (w : MapView) (k : Curves) (c : BusRow) (m : Meeting) (x : VertexId) : Type 0 where
+  pub told : IsToldRun v h b (steps_at v.graph h (m.point ∷ [])) w k c
+  pub has : HasVertex w.graph x
+  pub point : point_in w.graph x ≡ m.point
+  pub vertices : (u : VertexId) → HasVertex v.graph u → HasVertex w.graph u × (point_in w.graph u ≡ point_in v.graph u)
+  pub curves : (d : DartId) → HasDart v.graph d → k d ≡ h d
+  pub later : (p : Point) (s : Spot) → IsProper p → precedes m.point p ≡ true → IsSpotStill v.graph h p s → IsSpotStill w.graph k p s

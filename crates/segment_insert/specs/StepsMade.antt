@@ -7,6 +7,7 @@ use Rattle.slab_laws.specs.declared.names.DartId.{DartId}
 use Rattle.slab_laws.specs.declared.names.VertexId.{VertexId}
 use Rattle.slab_laws.specs.View.{View, point_in}
 use Rattle.curve_history.specs.Past.{Past, curves_on}
+use Rattle.arr_notes.specs.MapView.{MapView}
 use Rattle.arr_notes.specs.RecordGraph.{drawn_graph}
 use Rattle.observer_bus.specs.Rounds.{BusRow}
 use Rattle.told_steps.specs.ToldRuns.{IsToldRun}
@@ -23,11 +24,11 @@ abbrev pub MayBeVertices : View → Past → List Meeting → Type 0
 MayBeVertices v p ms = AreSound (steps_at v (curves_on p) (points_of_meetings ms)) (drawn_graph v (curves_on p))
 
 -- those meeting points that were no vertices have become some, one after the other, which observers are told, and nothing else has changed (this project)
-abbrev pub BecomeVertices : View → Past → BusRow → List Meeting → View → Past → BusRow → Type 0
-BecomeVertices v p b ms w q c = IsToldRun v (curves_on p) b (steps_at v (curves_on p) (points_of_meetings ms)) w (curves_on q) c
+abbrev pub BecomeVertices : MapView → Past → BusRow → List Meeting → MapView → Past → BusRow → Type 0
+BecomeVertices v p b ms w q c = IsToldRun v (curves_on p) b (steps_at v.graph (curves_on p) (points_of_meetings ms)) w (curves_on q) c
 
 -- the meeting's point is the vertex x, which came, and observers are told, if there was none; what was told of other vertices, edges and later points still holds (this project)
-abbrev pub BecomesVertex : View → Past → BusRow → Meeting → View → Past → BusRow → VertexId → Type 0
+abbrev pub BecomesVertex : MapView → Past → BusRow → Meeting → MapView → Past → BusRow → VertexId → Type 0
 BecomesVertex v p b m w q c x = IsMadeAt v (curves_on p) b w (curves_on q) c m x
 
 -- how many new pairs of an edge and a curve come of the edges that are split at the meetings (this project)
@@ -48,8 +49,8 @@ abbrev pub MayBeAlong : View → Past → VertexId → VertexId → ℕ → Type
 MayBeAlong v p u w c = IsSound (step_along v p u w c) (drawn_graph v (curves_on p))
 
 -- the curve has come along the part, which observers are told, and nothing else has changed (this project)
-abbrev pub ComesAlong : View → Past → BusRow → VertexId → VertexId → ℕ → View → Past → BusRow → Type 0
-ComesAlong v p b u w c x q d = IsToldRun v (curves_on p) b (step_along v p u w c ∷ []) x (curves_on q) d
+abbrev pub ComesAlong : MapView → Past → BusRow → VertexId → VertexId → ℕ → MapView → Past → BusRow → Type 0
+ComesAlong v p b u w c x q d = IsToldRun v (curves_on p) b (step_along v.graph p u w c ∷ []) x (curves_on q) d
 
 -- the curve comes along each open part between two neighbouring meeting points (this project)
 abbrev pub steps_along : View → Past → ℕ → List Meeting → List Step
@@ -60,5 +61,5 @@ abbrev pub MayBeAlongAll : View → Past → ℕ → List Meeting → Type 0
 MayBeAlongAll v p c ms = AreSound (steps_along v p c ms) (drawn_graph v (curves_on p))
 
 -- the curve has come along each of these parts, one after the other, which observers are told, and nothing else has changed (this project)
-abbrev pub ComesAlongAll : View → Past → BusRow → ℕ → List Meeting → View → Past → BusRow → Type 0
-ComesAlongAll v p b c ms w q d = IsToldRun v (curves_on p) b (steps_along v p c ms) w (curves_on q) d
+abbrev pub ComesAlongAll : MapView → Past → BusRow → ℕ → List Meeting → MapView → Past → BusRow → Type 0
+ComesAlongAll v p b c ms w q d = IsToldRun v (curves_on p) b (steps_along v.graph p c ms) w (curves_on q) d

@@ -4,7 +4,7 @@ ghost use Rattle.slab_laws.specs.Sound.{IsGraphSound};
 ghost use Rattle.slab_laws.specs.View.{IsOutOf, target_in};
 ghost use Rattle.curve_history.specs.Past.{curves_on, SameLayer};
 ghost use Rattle.dcel_records.specs.declared.spot.Spot.TheVariants.{Vertex};
-ghost use Rattle.dcel_records.specs.SoundMaps.{IsMapAtRest};
+ghost use Rattle.dcel_records.specs.SoundMaps.{IsMapAtRest, map_of};
 ghost use Rattle.observer_bus.specs.Rows.{bus_row};
 ghost use Rattle.told_steps.specs.ToldRuns.{AreInStep};
 ghost use Rattle.zone_walk.specs.Zone.{is_on_segment, is_vertex, points_of_meetings};
@@ -59,7 +59,7 @@ fn new_edge(
     w: VertexId,
     at_u: Option<DartId>,
 )
-    requires in_step { AreInStep records.old.graph (curves_on history.old)
+    requires in_step { AreInStep (map_of records.old) (curves_on history.old)
         (bus_row Observer-dyn bus.old) }
     requires map { IsMapAtRest records.old }
     requires part { IsOpenPart records.old.graph line.now u w }
@@ -71,9 +71,9 @@ fn new_edge(
     requires cycles { 1 ≤ records.old.faces.spare_cycles }
     requires faces { 1 ≤ records.old.faces.spare_faces }
     requires pairs { 1 ≤ history.old.spare_pairs }
-    ensures told { ComesAlong records.old.graph history.old (bus_row Observer-dyn bus.old) u w curve.0
-        records.new.graph history.new (bus_row Observer-dyn bus.new) }
-    ensures in_step { AreInStep records.new.graph (curves_on history.new)
+    ensures told { ComesAlong (map_of records.old) history.old (bus_row Observer-dyn bus.old) u w curve.0
+        (map_of records.new) history.new (bus_row Observer-dyn bus.new) }
+    ensures in_step { AreInStep (map_of records.new) (curves_on history.new)
         (bus_row Observer-dyn bus.new) }
     ensures map { IsMapAtRest records.new }
     ensures vertices { records.new.graph.vertices ≡ records.old.graph.vertices }
@@ -98,7 +98,7 @@ fn make_edge(
     u: VertexId,
     w: VertexId,
 )
-    requires in_step { AreInStep records.old.graph (curves_on history.old)
+    requires in_step { AreInStep (map_of records.old) (curves_on history.old)
         (bus_row Observer-dyn bus.old) }
     requires map { IsMapAtRest records.old }
     requires part { IsOpenPart records.old.graph line.now u w }
@@ -108,9 +108,9 @@ fn make_edge(
     requires cycles { 1 ≤ records.old.faces.spare_cycles }
     requires faces { 1 ≤ records.old.faces.spare_faces }
     requires pairs { 1 ≤ history.old.spare_pairs }
-    ensures told { ComesAlong records.old.graph history.old (bus_row Observer-dyn bus.old) u w curve.0
-        records.new.graph history.new (bus_row Observer-dyn bus.new) }
-    ensures in_step { AreInStep records.new.graph (curves_on history.new)
+    ensures told { ComesAlong (map_of records.old) history.old (bus_row Observer-dyn bus.old) u w curve.0
+        (map_of records.new) history.new (bus_row Observer-dyn bus.new) }
+    ensures in_step { AreInStep (map_of records.new) (curves_on history.new)
         (bus_row Observer-dyn bus.new) }
     ensures map { IsMapAtRest records.new }
     ensures vertices { records.new.graph.vertices ≡ records.old.graph.vertices }
@@ -138,7 +138,7 @@ pub(crate) fn make_edges(
     curve: CurveId,
     meetings: &[Meeting],
 )
-    requires in_step { AreInStep records.old.graph (curves_on history.old)
+    requires in_step { AreInStep (map_of records.old) (curves_on history.old)
         (bus_row Observer-dyn bus.old) }
     requires map { IsMapAtRest records.old }
     requires named { AreVertices records.old.graph meetings.now }
@@ -150,9 +150,9 @@ pub(crate) fn make_edges(
     requires cycles { length meetings.now ≤ records.old.faces.spare_cycles + 1 }
     requires faces { length meetings.now ≤ records.old.faces.spare_faces + 1 }
     requires pairs { length meetings.now ≤ history.old.spare_pairs }
-    ensures told { ComesAlongAll records.old.graph history.old (bus_row Observer-dyn bus.old) curve.0 meetings.now
-        records.new.graph history.new (bus_row Observer-dyn bus.new) }
-    ensures in_step { AreInStep records.new.graph (curves_on history.new)
+    ensures told { ComesAlongAll (map_of records.old) history.old (bus_row Observer-dyn bus.old) curve.0 meetings.now
+        (map_of records.new) history.new (bus_row Observer-dyn bus.new) }
+    ensures in_step { AreInStep (map_of records.new) (curves_on history.new)
         (bus_row Observer-dyn bus.new) }
     ensures map { IsMapAtRest records.new }
     ensures layer { SameLayer history.old history.new }

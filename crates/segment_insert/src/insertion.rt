@@ -2,9 +2,9 @@ ghost use Rattle.std.specs.Prelude.{◌≡◌, ◌≤◌, ◌<◌, ◌+◌, ◌^
 ghost use Rattle.edit_steps.specs.Edits.{Insert, steps};
 ghost use Rattle.edit_steps.specs.Refusals.{IsAnswerFor};
 ghost use Rattle.slab_laws.specs.Sound.{IsGraphSound};
-ghost use Rattle.dcel_records.specs.RecordsView.{RecordsView};
+ghost use Rattle.dcel_records.specs.RecordsView.{RecordsView, tables_of};
 ghost use Rattle.dcel_records.specs.Spots.{IsSpotOf};
-ghost use Rattle.dcel_records.specs.SoundMaps.{IsMapAtRest};
+ghost use Rattle.dcel_records.specs.SoundMaps.{IsMapAtRest, map_of};
 ghost use Rattle.curve_history.specs.Past.{curves_on, SameLayer, SameCurves};
 ghost use Rattle.curve_history.specs.declared.history.TheConstants.{LAST_CURVE};
 ghost use Rattle.told_steps.specs.RecordLayers.{IsLayer};
@@ -91,6 +91,7 @@ fn make_room(records: &mut Records, history: &mut History, plan: &ZonePlan) -> R
     ensures room { OnOk result (HasRoomFor plan.now (curves_on history.old) records.new history.new) }
     ensures succeeds { HasRoomFor plan.now (curves_on history.old) records.old history.old → IsOk result }
     ensures graph { records.new.graph ≡ records.old.graph }
+    ensures tables { tables_of records.new ≡ tables_of records.old }
     ensures map { IsMapAtRest records.old → IsMapAtRest records.new }
     ensures same_layer { SameLayer history.old history.new }
     ensures same_curves { SameCurves history.old history.new }
@@ -115,6 +116,7 @@ fn prepare(
     ensures zone { IfOk result (IsZoneOf records.old.graph segment.now) }
     ensures room { IfOk result (λ z. HasRoomFor z (curves_on history.old) records.new history.new) }
     ensures graph { records.new.graph ≡ records.old.graph }
+    ensures tables { tables_of records.new ≡ tables_of records.old }
     ensures map { IsMapAtRest records.old → IsMapAtRest records.new }
     ensures same_layer { SameLayer history.old history.new }
     ensures same_curves { SameCurves history.old history.new }
@@ -134,7 +136,7 @@ fn insert_by_plan(
     plan: ZonePlan,
 ) -> CurveId
     requires layer { IsLayer records.old.graph history.old }
-    requires in_step { AreInStep records.old.graph (curves_on history.old)
+    requires in_step { AreInStep (map_of records.old) (curves_on history.old)
         (bus_row Observer-dyn bus.old) }
     requires map { IsMapAtRest records.old }
     requires zone { IsZoneOf records.old.graph segment.now plan }
@@ -144,11 +146,11 @@ fn insert_by_plan(
     ensures layer { IsLayer records.new.graph history.new }
     ensures number { result.0 ≡ history.old.next }
     ensures edit { IsAfter (Insert result.0 segment.now) records.old history.old records.new history.new }
-    ensures told { IsToldRun records.old.graph (curves_on history.old)
+    ensures told { IsToldRun (map_of records.old) (curves_on history.old)
         (bus_row Observer-dyn bus.old)
-        (steps (Insert result.0 segment.now) (layer_at records.old history.old).present) records.new.graph (curves_on history.new)
+        (steps (Insert result.0 segment.now) (layer_at records.old history.old).present) (map_of records.new) (curves_on history.new)
         (bus_row Observer-dyn bus.new) }
-    ensures in_step { AreInStep records.new.graph (curves_on history.new)
+    ensures in_step { AreInStep (map_of records.new) (curves_on history.new)
         (bus_row Observer-dyn bus.new) }
     ensures map { IsMapAtRest records.new }
 {
@@ -195,6 +197,7 @@ pub fn insert(
     ensures told { IfOk result (λ c. IsToldEdit (Insert c.0 segment.now) records.old history.old (bus_row Observer-dyn bus.old) records.new history.new (bus_row Observer-dyn bus.new)) }
     ensures refused { IsAnswerFor insert_said (refusal_at curves pieces records.old history.old) result }
     ensures graph { OnErr result (records.new.graph ≡ records.old.graph) }
+    ensures tables { OnErr result (tables_of records.new ≡ tables_of records.old) }
     ensures same_layer { OnErr result (SameLayer history.old history.new) }
     ensures same_curves { OnErr result (SameCurves history.old history.new) }
     ensures untold { OnErr result (bus_row Observer-dyn bus.new ≡ bus_row Observer-dyn bus.old) }

@@ -2,7 +2,7 @@ ghost use Rattle.std.specs.Prelude.{◌≡◌, ◌≤◌, ◌+◌, ◌*◌, [], 
 ghost use Rattle.plane_graphs.specs.Line.{IsProper};
 ghost use Rattle.slab_laws.specs.Sound.{IsGraphSound};
 ghost use Rattle.dcel_records.specs.RecordsView.{IsSpareFaces};
-ghost use Rattle.dcel_records.specs.SoundMaps.{IsMapAtRest};
+ghost use Rattle.dcel_records.specs.SoundMaps.{IsMapAtRest, map_of};
 ghost use Rattle.curve_history.specs.Past.{curves_on, SameLayer};
 ghost use Rattle.observer_bus.specs.Rows.{bus_row};
 ghost use Rattle.told_steps.specs.ToldRuns.{AreInStep};
@@ -58,7 +58,7 @@ fn vertex_of(
     bus: &mut Bus,
     meeting: Meeting,
 ) -> VertexId
-    requires in_step { AreInStep records.old.graph (curves_on history.old)
+    requires in_step { AreInStep (map_of records.old) (curves_on history.old)
         (bus_row Observer-dyn bus.old) }
     requires map { IsMapAtRest records.old }
     requires spot { IsSpotStill records.old.graph (curves_on history.old) meeting.point meeting.spot }
@@ -66,9 +66,9 @@ fn vertex_of(
     requires vertices { vertices_needed (meeting ∷ []) ≤ records.old.spare_vertices }
     requires darts { 2 * splits_needed (meeting ∷ []) ≤ records.old.spare_darts }
     requires pairs { pairs_at (curves_on history.old) meeting.spot ≤ history.old.spare_pairs }
-    ensures told { BecomesVertex records.old.graph history.old (bus_row Observer-dyn bus.old) meeting
-        records.new.graph history.new (bus_row Observer-dyn bus.new) result }
-    ensures in_step { AreInStep records.new.graph (curves_on history.new)
+    ensures told { BecomesVertex (map_of records.old) history.old (bus_row Observer-dyn bus.old) meeting
+        (map_of records.new) history.new (bus_row Observer-dyn bus.new) result }
+    ensures in_step { AreInStep (map_of records.new) (curves_on history.new)
         (bus_row Observer-dyn bus.new) }
     ensures map { IsMapAtRest records.new }
     ensures layer { SameLayer history.old history.new }
@@ -90,7 +90,7 @@ pub(crate) fn make_vertices(
     bus: &mut Bus,
     meetings: &mut Vec<Meeting>,
 )
-    requires in_step { AreInStep records.old.graph (curves_on history.old)
+    requires in_step { AreInStep (map_of records.old) (curves_on history.old)
         (bus_row Observer-dyn bus.old) }
     requires map { IsMapAtRest records.old }
     requires meetings { AreMeetings records.old.graph meetings.old.items }
@@ -98,9 +98,9 @@ pub(crate) fn make_vertices(
     requires vertices { vertices_needed meetings.old.items ≤ records.old.spare_vertices }
     requires darts { 2 * splits_needed meetings.old.items ≤ records.old.spare_darts }
     requires pairs { new_pairs history.old meetings.old.items ≤ history.old.spare_pairs }
-    ensures told { BecomeVertices records.old.graph history.old (bus_row Observer-dyn bus.old) meetings.old.items
-        records.new.graph history.new (bus_row Observer-dyn bus.new) }
-    ensures in_step { AreInStep records.new.graph (curves_on history.new)
+    ensures told { BecomeVertices (map_of records.old) history.old (bus_row Observer-dyn bus.old) meetings.old.items
+        (map_of records.new) history.new (bus_row Observer-dyn bus.new) }
+    ensures in_step { AreInStep (map_of records.new) (curves_on history.new)
         (bus_row Observer-dyn bus.new) }
     ensures map { IsMapAtRest records.new }
     ensures named { AreVertices records.new.graph meetings.new.items }

@@ -2,6 +2,7 @@ use Rattle.std.proofs.Common.{◌≡◌, ℕ, suc, ◌+◌, ◌-◌, arith, refl
 use Rattle.exact_plane.specs.Segment.{line_of_segment}
 use Rattle.plane_graphs.specs.Ascending.{Member}
 use Rattle.plane_graphs.specs.Line.{IsProperLine}
+use Rattle.dcel_records.specs.SoundMaps.{map_of}
 use Rattle.curve_history.specs.Past.{curves_on}
 use Rattle.edge_link.proofs.Placed.{line_is_proper}
 use Rattle.segment_insert.specs.Parts.{IsOpenPart}
@@ -20,7 +21,7 @@ vertex_of-w-requires g c =
 
 pub loop-i-init : goal.loop-i-init
 loop-i-init g c = record {
-  going = begins c.args.records.now.graph (curves_on c.args.history.now) c.args.curve.0 c.args.meetings.now c.requires.in_step c.requires.plane;
+  going = begins (map_of c.args.records.now) (curves_on c.args.history.now) c.args.curve.0 c.args.meetings.now c.requires.in_step c.requires.plane;
   map = c.requires.map;
   layer = record { names = refl; pieces = refl; next = refl };
   named = c.requires.curve_named;
@@ -53,7 +54,7 @@ make_edge-requires-clause-plane g c =
     let met : AreMet c.args.records.now.graph c.args.segment.now c.args.meetings.now = record { named = c.requires.named; on = c.requires.on; all = c.requires.all_on; line = subst IsProperLine c.line_of-line.ensures.value (line_is_proper c.line_of-line.result c.line_of-line.ensures.line) } in
     let next : AreNext c.args.meetings.now k c.loop-i.i u w = record { first = c.index-meetings-i.result; second = c.index-meetings-i-in-loop-i.result; next = omega arith; below = c.loop-i-test.true; at_first = c.index-meetings-i.is; at_second = c.index-meetings-i-in-loop-i.is; is_first = c.vertex_of-u.ensures; is_second = c.vertex_of-w.ensures } in
     let chain = chain_here v c.args.segment.now c.args.meetings.now met k c.loop-i.i u w next c.args.curve.0 in
-    part_sound v (curves_on c.args.history.now) c.args.curve.0 c.args.meetings.now k c.loop-i.records.graph (curves_on c.loop-i.history) c.loop-i.invariant.going u w chain
+    part_sound (map_of c.args.records.now) (curves_on c.args.history.now) c.args.curve.0 c.args.meetings.now k (map_of c.loop-i.records) (curves_on c.loop-i.history) c.loop-i.invariant.going u w chain
 
 pub loop-i-preserved : goal.loop-i-preserved
 loop-i-preserved g c =
@@ -68,7 +69,7 @@ loop-i-preserved g c =
     let e = c.make_edge.ensures in
     let more : suc k ≡ c.loop-i.i + 1 - 1 = omega arith in
     record {
-      going = goes_on v (curves_on c.args.history.now) c.args.curve.0 c.args.meetings.now k c.loop-i.records.graph (curves_on c.loop-i.history) i.going u w chain c.make_edge.new.records.graph (curves_on c.make_edge.new.history) _ more e.told e.in_step e.vertices;
+      going = goes_on (map_of c.args.records.now) (curves_on c.args.history.now) c.args.curve.0 c.args.meetings.now k (map_of c.loop-i.records) (curves_on c.loop-i.history) i.going u w chain (map_of c.make_edge.new.records) (curves_on c.make_edge.new.history) _ more e.told e.in_step e.vertices;
       map = e.map;
       layer = record { names = e.layer.names ∙ i.layer.names; pieces = e.layer.pieces ∙ i.layer.pieces; next = e.layer.next ∙ i.layer.next };
       named = subst (Member c.args.curve.0) (sym e.layer.names) i.named;
@@ -80,7 +81,7 @@ loop-i-preserved g c =
 
 pub returns-clause-told : goal.returns-clause-told
 returns-clause-told g c =
-    ends c.args.records.now.graph (curves_on c.args.history.now) c.args.curve.0 c.args.meetings.now (c.loop-i.i - 1) c.loop-i.records.graph (curves_on c.loop-i.history) c.loop-i.invariant.going (omega arith)
+    ends (map_of c.args.records.now) (curves_on c.args.history.now) c.args.curve.0 c.args.meetings.now (c.loop-i.i - 1) (map_of c.loop-i.records) (curves_on c.loop-i.history) c.loop-i.invariant.going (omega arith)
 
 pub returns-clause-in_step : goal.returns-clause-in_step
 returns-clause-in_step g c = c.loop-i.invariant.going.in_step

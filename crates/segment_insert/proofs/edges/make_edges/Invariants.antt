@@ -1,6 +1,6 @@
 use Rattle.std.proofs.Common.{◌+◌, ◌-◌, ◌*◌, ◌≤◌, length}
 use Rattle.plane_graphs.specs.Ascending.{Member}
-use Rattle.dcel_records.specs.SoundMaps.{IsMapAtRest}
+use Rattle.dcel_records.specs.SoundMaps.{IsMapAtRest, map_of}
 use Rattle.curve_history.specs.Past.{curves_on, SameLayer}
 use Rattle.observer_bus.specs.Rows.{bus_row}
 use Rattle.segment_insert.proofs.Going.{IsGoing}
@@ -8,8 +8,8 @@ use Rattle.segment_insert.proofs.edges.make_edges.Given as goal
 
 abbrev pub invariant-loop-i : goal.invariant-loop-i
 invariant-loop-i g l = record {
-  going : IsGoing l.initial.records.graph (curves_on l.initial.history)
-      (bus_row (goal.Observer-dyn g) l.initial.bus) l.curve.0 l.meetings (l.i - 1) l.records.graph (curves_on l.history)
+  going : IsGoing (map_of l.initial.records) (curves_on l.initial.history)
+      (bus_row (goal.Observer-dyn g) l.initial.bus) l.curve.0 l.meetings (l.i - 1) (map_of l.records) (curves_on l.history)
       (bus_row (goal.Observer-dyn g) l.bus);
   map : IsMapAtRest l.records;
   layer : SameLayer l.initial.history l.history;

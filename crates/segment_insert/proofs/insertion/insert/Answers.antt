@@ -1,9 +1,10 @@
 use Rattle.std.proofs.Common.{◌≡◌, ◌<◌, None, length, refl, sym, arith}
 use Rattle.edit_steps.proofs.Refusals.{insertion_allowed, no_memory}
+use Rattle.dcel_records.specs.SoundMaps.{map_of}
 use Rattle.curve_history.specs.declared.history.TheConstants.{LAST_CURVE}
 use Rattle.segment_insert.specs.Insertion.{insert_said, refusal_at}
 use Rattle.segment_insert.specs.declared.insertion.InsertError.TheVariants.{NoMemory}
-use Rattle.told_steps.proofs.Begun.{begun_in_step, still_watched}
+use Rattle.told_steps.proofs.Begun.{begun_in_step, one_map, still_watched}
 use Rattle.segment_insert.proofs.Layers.{room_stays}
 use Rattle.told_steps.proofs.Moved.{layer_stays}
 use Rattle.segment_insert.proofs.insertion.insert.Goals as goal
@@ -47,9 +48,9 @@ insert_by_plan-requires-clause-few g c =
 pub returns-in_err-plan-clause-watched : goal.returns-in_err-plan-clause-watched
 returns-in_err-plan-clause-watched g c =
     let e = c.prepare.ensures in
-    still_watched c.args.records.now.graph c.args.history.now c.prepare.new.records.graph c.prepare.new.history e.graph e.same_curves _ c.requires.watched
+    still_watched (map_of c.args.records.now) c.args.history.now (map_of c.prepare.new.records) c.prepare.new.history (one_map c.prepare.new.records c.args.records.now e.graph e.tables) e.same_curves _ c.requires.watched
 
 pub insert_by_plan-requires-clause-in_step : goal.insert_by_plan-requires-clause-in_step
 insert_by_plan-requires-clause-in_step g c =
     let e = c.prepare.ensures in
-    begun_in_step c.args.records.now.graph c.args.history.now c.prepare.new.records.graph c.prepare.new.history e.graph e.same_curves c.begin.ensures.begun c.requires.layer c.requires.watched
+    begun_in_step (map_of c.args.records.now) c.args.history.now (map_of c.prepare.new.records) c.prepare.new.history (one_map c.prepare.new.records c.args.records.now e.graph e.tables) e.same_curves c.begin.ensures.begun c.requires.map.map.sound c.requires.layer c.requires.watched

@@ -1,8 +1,9 @@
 use Rattle.std.proofs.Common.{arith, ◌≡◌, ◌<◌, ◌≤◌, ◌+◌, ◌*◌, ℕ, List, [], ◌∷◌, length, drop, refl, sym, ap, ◌∙◌}
 use Rattle.std.proofs.lemmas.List.{get_or_default}
-use Rattle.slab_laws.specs.View.{View}
 use Rattle.arr_notes.specs.Curves.{Curves}
+use Rattle.arr_notes.specs.MapView.{MapView}
 use Rattle.dcel_records.proofs.Spared.{none_spent, spare_then}
+use Rattle.dcel_records.specs.SoundMaps.{map_of}
 use Rattle.curve_history.specs.Past.{curves_on}
 use Rattle.zone_walk.specs.Zone.{vertices_needed, splits_needed}
 use Rattle.zone_walk.specs.declared.plan.Meeting.{Meeting}
@@ -17,7 +18,7 @@ room_left start before after all one rest left e f g = omega arith
 
 pub loop-i-init : goal.loop-i-init
 loop-i-init g c =
-    let v : View = c.args.records.now.graph in
+    let v : MapView = map_of c.args.records.now in
     let h : Curves = curves_on c.args.history.now in
     let ms : List Meeting = c.args.meetings.now.items in
     record {
@@ -35,30 +36,30 @@ vertex_of-vertex-requires-clause-in_step g c = c.loop-i.invariant.midway.in_step
 
 pub vertex_of-vertex-requires-clause-spot : goal.vertex_of-vertex-requires-clause-spot
 vertex_of-vertex-requires-clause-spot g c =
-    spot_now c.args.records.now.graph (curves_on c.args.history.now) c.args.meetings.now.items c.loop-i.records.graph (curves_on c.loop-i.history) c.loop-i.meetings.items c.loop-i.i c.loop-i.invariant.midway c.index.result.now
-    (omega (arith, c.loop-i-test.true, c.len-i-end.ensures, same_length c.args.records.now.graph (curves_on c.args.history.now) c.args.meetings.now.items c.loop-i.records.graph (curves_on c.loop-i.history) c.loop-i.meetings.items c.loop-i.i c.loop-i.invariant.midway)) c.index.ensures
+    spot_now (map_of c.args.records.now) (curves_on c.args.history.now) c.args.meetings.now.items (map_of c.loop-i.records) (curves_on c.loop-i.history) c.loop-i.meetings.items c.loop-i.i c.loop-i.invariant.midway c.index.result.now
+    (omega (arith, c.loop-i-test.true, c.len-i-end.ensures, same_length (map_of c.args.records.now) (curves_on c.args.history.now) c.args.meetings.now.items (map_of c.loop-i.records) (curves_on c.loop-i.history) c.loop-i.meetings.items c.loop-i.i c.loop-i.invariant.midway)) c.index.ensures
 
 pub vertex_of-vertex-requires-clause-plane : goal.vertex_of-vertex-requires-clause-plane
 vertex_of-vertex-requires-clause-plane g c =
-    sound_now c.args.records.now.graph (curves_on c.args.history.now) c.args.meetings.now.items c.loop-i.records.graph (curves_on c.loop-i.history) c.loop-i.meetings.items c.loop-i.i c.loop-i.invariant.midway c.index.result.now
-    (omega (arith, c.loop-i-test.true, c.len-i-end.ensures, same_length c.args.records.now.graph (curves_on c.args.history.now) c.args.meetings.now.items c.loop-i.records.graph (curves_on c.loop-i.history) c.loop-i.meetings.items c.loop-i.i c.loop-i.invariant.midway)) c.index.ensures
+    sound_now (map_of c.args.records.now) (curves_on c.args.history.now) c.args.meetings.now.items (map_of c.loop-i.records) (curves_on c.loop-i.history) c.loop-i.meetings.items c.loop-i.i c.loop-i.invariant.midway c.index.result.now
+    (omega (arith, c.loop-i-test.true, c.len-i-end.ensures, same_length (map_of c.args.records.now) (curves_on c.args.history.now) c.args.meetings.now.items (map_of c.loop-i.records) (curves_on c.loop-i.history) c.loop-i.meetings.items c.loop-i.i c.loop-i.invariant.midway)) c.index.ensures
 
 pub loop-i-preserved : goal.loop-i-preserved
 loop-i-preserved g c =
-    let v : View = c.args.records.now.graph in
+    let v : MapView = map_of c.args.records.now in
     let h : Curves = curves_on c.args.history.now in
     let ms : List Meeting = c.args.meetings.now.items in
     let ns : List Meeting = c.loop-i.meetings.items in
     let i : ℕ = c.loop-i.i in
     let m : Meeting = c.index.result.now in
     let l : c.loop-i.i < length c.loop-i.meetings.items =
-    omega (arith, c.loop-i-test.true, c.len-i-end.ensures, same_length v h ms c.loop-i.records.graph (curves_on c.loop-i.history) ns i c.loop-i.invariant.midway) in
+    omega (arith, c.loop-i-test.true, c.len-i-end.ensures, same_length v h ms (map_of c.loop-i.records) (curves_on c.loop-i.history) ns i c.loop-i.invariant.midway) in
     let same : c.index_mut.result.now ≡ c.index.result.now = c.index_mut.ensures.value ∙ get_or_default ns i c.index_mut.result.now m l ∙ sym c.index.ensures in
-    let first : drop i ms ≡ m ∷ drop (i + 1) ms = next_first v h ms c.loop-i.records.graph (curves_on c.loop-i.history) ns i c.loop-i.invariant.midway m l c.index.ensures in
+    let first : drop i ms ≡ m ∷ drop (i + 1) ms = next_first v h ms (map_of c.loop-i.records) (curves_on c.loop-i.history) ns i c.loop-i.invariant.midway m l c.index.ensures in
     let k = c.vertex_of-vertex.ensures in
     let old = c.loop-i.invariant in
     record {
-      midway = onwards v h ms c.loop-i.records.graph (curves_on c.loop-i.history) ns i c.loop-i.invariant.midway m l c.index.ensures c.vertex_of-vertex.new.records.graph (curves_on c.vertex_of-vertex.new.history) c.vertex_of-vertex.result k.told
+      midway = onwards v h ms (map_of c.loop-i.records) (curves_on c.loop-i.history) ns i c.loop-i.invariant.midway m l c.index.ensures (map_of c.vertex_of-vertex.new.records) (curves_on c.vertex_of-vertex.new.history) c.vertex_of-vertex.result k.told
           (told_at c.index_mut.result.now c.vertex_of-vertex.result) (ap (λ (o : Meeting). told_at o c.vertex_of-vertex.result) same) k.in_step;
       map = k.map;
       layer = record { names = k.layer.names ∙ old.layer.names; pieces = k.layer.pieces ∙ old.layer.pieces; next = k.layer.next ∙ old.layer.next };
@@ -68,19 +69,19 @@ loop-i-preserved g c =
           (ap (λ (xs : List Meeting). 2 * splits_needed xs) first ∙ darts_first m (drop (i + 1) ms)) old.darts k.darts;
       faces = spare_then old.faces k.spare_faces;
       pairs = room_left c.args.history.now.spare_pairs c.loop-i.history.spare_pairs c.vertex_of-vertex.new.history.spare_pairs (pairs_to_part h ms) (pairs_at (curves_on c.loop-i.history) m.spot) (pairs_to_part (curves_on c.vertex_of-vertex.new.history) (drop (i + 1) ms)) (pairs_to_part (curves_on c.loop-i.history) (drop i ms))
-          (ap (pairs_to_part (curves_on c.loop-i.history)) first ∙ ap (λ (n : ℕ). pairs_at (curves_on c.loop-i.history) m.spot + n) (sym (same_pairs_left v h ms c.loop-i.records.graph (curves_on c.loop-i.history) ns i c.loop-i.invariant.midway m l c.index.ensures c.vertex_of-vertex.new.records.graph (curves_on c.vertex_of-vertex.new.history) c.vertex_of-vertex.result k.told)))
+          (ap (pairs_to_part (curves_on c.loop-i.history)) first ∙ ap (λ (n : ℕ). pairs_at (curves_on c.loop-i.history) m.spot + n) (sym (same_pairs_left v h ms (map_of c.loop-i.records) (curves_on c.loop-i.history) ns i c.loop-i.invariant.midway m l c.index.ensures (map_of c.vertex_of-vertex.new.records) (curves_on c.vertex_of-vertex.new.history) c.vertex_of-vertex.result k.told)))
           old.pairs k.pairs;
     }
 
 pub returns-clause-told : goal.returns-clause-told
 returns-clause-told g c =
-    all_told c.args.records.now.graph (curves_on c.args.history.now) c.args.meetings.now.items c.loop-i.records.graph (curves_on c.loop-i.history) c.loop-i.meetings.items c.loop-i.i c.loop-i.invariant.midway
-    (omega (arith, c.loop-i-test.false, c.len-i-end.ensures, same_length c.args.records.now.graph (curves_on c.args.history.now) c.args.meetings.now.items c.loop-i.records.graph (curves_on c.loop-i.history) c.loop-i.meetings.items c.loop-i.i c.loop-i.invariant.midway))
+    all_told (map_of c.args.records.now) (curves_on c.args.history.now) c.args.meetings.now.items (map_of c.loop-i.records) (curves_on c.loop-i.history) c.loop-i.meetings.items c.loop-i.i c.loop-i.invariant.midway
+    (omega (arith, c.loop-i-test.false, c.len-i-end.ensures, same_length (map_of c.args.records.now) (curves_on c.args.history.now) c.args.meetings.now.items (map_of c.loop-i.records) (curves_on c.loop-i.history) c.loop-i.meetings.items c.loop-i.i c.loop-i.invariant.midway))
 
 pub returns-clause-named : goal.returns-clause-named
 returns-clause-named g c =
-    all_named c.args.records.now.graph (curves_on c.args.history.now) c.args.meetings.now.items c.loop-i.records.graph (curves_on c.loop-i.history) c.loop-i.meetings.items c.loop-i.i c.loop-i.invariant.midway
-    (omega (arith, c.loop-i-test.false, c.len-i-end.ensures, same_length c.args.records.now.graph (curves_on c.args.history.now) c.args.meetings.now.items c.loop-i.records.graph (curves_on c.loop-i.history) c.loop-i.meetings.items c.loop-i.i c.loop-i.invariant.midway)) c.requires.meetings.ascend
+    all_named (map_of c.args.records.now) (curves_on c.args.history.now) c.args.meetings.now.items (map_of c.loop-i.records) (curves_on c.loop-i.history) c.loop-i.meetings.items c.loop-i.i c.loop-i.invariant.midway
+    (omega (arith, c.loop-i-test.false, c.len-i-end.ensures, same_length (map_of c.args.records.now) (curves_on c.args.history.now) c.args.meetings.now.items (map_of c.loop-i.records) (curves_on c.loop-i.history) c.loop-i.meetings.items c.loop-i.i c.loop-i.invariant.midway)) c.requires.meetings.ascend
 
 pub returns-clause-in_step : goal.returns-clause-in_step
 returns-clause-in_step g c = c.loop-i.invariant.midway.in_step

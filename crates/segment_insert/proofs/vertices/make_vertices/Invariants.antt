@@ -1,6 +1,6 @@
 use Rattle.std.proofs.Common.{◌≤◌, ◌+◌, ◌*◌, drop}
 use Rattle.dcel_records.specs.RecordsView.{IsSpareFaces}
-use Rattle.dcel_records.specs.SoundMaps.{IsMapAtRest}
+use Rattle.dcel_records.specs.SoundMaps.{IsMapAtRest, map_of}
 use Rattle.curve_history.specs.Past.{curves_on, SameLayer}
 use Rattle.observer_bus.specs.Rows.{bus_row}
 use Rattle.zone_walk.specs.Zone.{vertices_needed, splits_needed}
@@ -10,8 +10,8 @@ use Rattle.segment_insert.proofs.vertices.make_vertices.Given as goal
 
 abbrev pub invariant-loop-i : goal.invariant-loop-i
 invariant-loop-i g l = record {
-  midway : IsMidway l.initial.records.graph (curves_on l.initial.history)
-      (bus_row (goal.Observer-dyn g) l.initial.bus) l.initial.meetings.items l.records.graph (curves_on l.history)
+  midway : IsMidway (map_of l.initial.records) (curves_on l.initial.history)
+      (bus_row (goal.Observer-dyn g) l.initial.bus) l.initial.meetings.items (map_of l.records) (curves_on l.history)
       (bus_row (goal.Observer-dyn g) l.bus) l.meetings.items l.i;
   map : IsMapAtRest l.records;
   layer : SameLayer l.initial.history l.history;
