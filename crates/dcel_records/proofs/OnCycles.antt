@@ -1,5 +1,5 @@
 -- The cycle of each dart has a row: what keeps it, and what it tells a caller.
-use Rattle.std.proofs.Common.{◌≡◌, ◌≢◌, inl, inr, ℕ, [], slice_index_or, Option, Some, None, is_some, IsSome, option_map, refl, sym, ap, subst, ◌∙◌}
+use Rattle.std.proofs.Common.{◌≡◌, ◌≢◌, inl, inr, ℕ, [], slice_index_or, Option, Some, None, is_some, option_map, sym, ap, subst, ◌∙◌}
 use Rattle.std.proofs.lemmas.Bool.{cases_eq}
 use Rattle.plane_graphs.proofs.Lists.{some_mapped}
 use Rattle.slab.specs.Slab.{Slab, get, with_value, ContainsKey, Updates}
@@ -15,7 +15,7 @@ use Rattle.dcel_records.specs.declared.rows.StoredDart.{StoredDart}
 use Rattle.dcel_records.specs.declared.rows.StoredFace.{StoredFace}
 use Rattle.dcel_records.specs.declared.rows.StoredVertex.{StoredVertex}
 use Rattle.dcel_records.specs.RecordsView.{RecordsView, tables_of}
-use Rattle.dcel_records.specs.StoredRows.{dart_of, cycle_record, tables_in, records_view, AreOnCycles}
+use Rattle.dcel_records.specs.StoredRows.{dart_of, cycle_record, records_view, AreOnCycles}
 use Rattle.dcel_records.proofs.CycleColumn.{cycle_read}
 
 -- ---- darts written

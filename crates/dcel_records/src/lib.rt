@@ -1,7 +1,7 @@
 //! The records of a doubly-connected edge list: vertices and darts (halfedges) by name, with the writers of edges.
 //!
-//! Twins stay twins at every call, and each vertex knows one of the darts out of it. The crates above keep the order of
-//! darts round vertices, the cycles and the faces.
+//! Twins stay twins at every call, each vertex knows one of the darts out of it, and the cycle of each dart has a record.
+//! The crates above keep the order of darts round vertices, the cycles and the faces.
 #![tactic(auto)]
 
 mod bare;

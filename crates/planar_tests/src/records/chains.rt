@@ -192,7 +192,11 @@ fn cycles_come_move_and_go(rt: HostRuntime) -> Result<(), Fail> {
 }
 
 // ---- isolated vertices
-pub(crate) fn vertex_more(records: &mut Records, at: Point, face: FaceId) -> Result<VertexId, NoMemory>
+pub(crate) fn vertex_more(
+    records: &mut Records,
+    at: Point,
+    face: FaceId,
+) -> Result<VertexId, NoMemory>
     requires face { HasFace records.old.faces.tables face }
     requires two { AreTwo records.old }
     requires lone { IsLone records.old }

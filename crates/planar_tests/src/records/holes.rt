@@ -60,8 +60,8 @@ fn has_hole<R: FaceLists>(records: &R, dart: DartId) -> bool
         && records.dart_on(cycle) == dart;
     let is_listed = records.first_cycle_of(face) == Some(cycle)
         && records.cycle_after_in_face(cycle).is_none();
-    let is_only =
-        records.cycle_after(None) == Some(cycle) && records.cycle_after(Some(cycle)).is_none();
+    let is_only = records.cycle_after(None) == Some(cycle)
+        && records.cycle_after(Some(cycle)).is_none();
     let are_two = records.face_after(None) == Some(face)
         && records.face_after(Some(face)) == Some(OTHER)
         && records.face_after(Some(OTHER)).is_none();
