@@ -1,27 +1,18 @@
--- What is read of a sound view by name: each dart has the curves of its edge, and the graph drawn is the view's.
-use Rattle.std.proofs.Common.{◌≡◌, ◌≢◌, ℕ, Bool, true, false, cond, not, List, [], ◌∷◌, map, Option, Some, None, is_some, IsSome, refl, sym, ap, ◌∙◌, subst, nat_cmp}
-use Rattle.std.specs.Prelude.{flat_map, filter}
-use Rattle.exact_plane.specs.PointOrder.{point_cmp}
-use Rattle.plane_graphs.specs.Graph.{mark, mark_cmp}
-use Rattle.slab_laws.specs.Sound.{points_of}
+-- What is read of a sound view by name: each dart has the curves of its edge.
+use Rattle.std.proofs.Common.{◌≡◌, ℕ, not, List, [], ◌∷◌, map, Option, Some, None, is_some, IsSome, refl, sym, ap, ◌∙◌, subst, nat_cmp}
 use Rattle.std.specs.List.Sorted.{IsStrictlyIncreasing}
 use Rattle.std.proofs.lemmas.Bool.{false≢true}
 use Rattle.std.proofs.lemmas.Map.Keys.{IsStrictlyIncreasing-from_sorted}
-use Rattle.plane_graphs.specs.Ascending.{Member, IsAscending, ascending}
-use Rattle.plane_graphs.specs.Plane.{IsPlane}
+use Rattle.plane_graphs.specs.Ascending.{IsAscending}
 use Rattle.plane_graphs.proofs.Ascending.{to_std}
 use Rattle.slab_laws.specs.declared.names.CurveId.{CurveId}
 use Rattle.slab_laws.specs.declared.names.DartId.{DartId}
 use Rattle.slab_laws.specs.Tables.{row_at}
-use Rattle.slab_laws.specs.View.{View, DartRecord, HasDart, dart_id, curve_id, point_in, source_in, target_in, twin_in}
-use Rattle.arr_notes.specs.Curves.{Curves, is_forward, IsForward, AreCurvesOf}
-use Rattle.arr_notes.specs.CurvedView.{CurvedView, IsSoundView, curves_or, curves_seen, graph_seen}
-use Rattle.arr_notes.specs.RecordGraph.{marks_along, drawn_graph}
+use Rattle.slab_laws.specs.View.{HasDart, curve_id, twin_in}
+use Rattle.arr_notes.specs.Curves.{IsForward, AreCurvesOf}
+use Rattle.arr_notes.specs.CurvedView.{CurvedView, IsSoundView, curves_or, curves_seen}
 use Rattle.arr_notes.proofs.Names.{numbers_of as numbers_again}
-use Rattle.plain_slabs.specs.ByName.{numbers_of, graph_by}
-use Rattle.sound_views.proofs.GraphDrawn.{twins_are_directed, graphs_are_plane}
-use Rattle.sound_views.proofs.NameTables.{row_found}
-use Rattle.slab_texts.proofs.TextLists.{flat_map_same}
+use Rattle.sound_views.proofs.GraphDrawn.{twins_are_directed}
 use Rattle.mirror_tables.specs.Reading.{curves_found, curves_at_edge}
 use Rattle.mirror_observer.specs.SeenCurves.{curve_list_of}
 
@@ -48,24 +39,6 @@ none_found : (o : Option (List ℕ)) → (IsSome o → ⊥) → curves_or o ≡ 
 none_found None h = refl
 none_found (Some ks) h = absurd (h refl)
 
--- ---- graphs with curves that agree
-along_same : (v : View) (h k : Curves) (d : DartId) (b : Bool) → is_forward v d ≡ b → (is_forward v d ≡ true → h d ≡ k d) → marks_along v h d ≡ marks_along v k d
-along_same v h k d true e same = ap (λ ks. cond (is_forward v d) (map (mark (point_in v (source_in v d)) (point_in v (target_in v d))) ks) []) (same e)
-along_same v h k d false e same =
-    ap (λ b. cond b (map (mark (point_in v (source_in v d)) (point_in v (target_in v d))) (h d)) []) e
-    ∙ sym (ap (λ b. cond b (map (mark (point_in v (source_in v d)) (point_in v (target_in v d))) (k d)) []) e)
-
-same_graph : (v : View) (h k : Curves) → ((r : ℕ × DartRecord) → Member r v.darts → HasDart v (dart_id r.0)) → ((d : DartId) → IsForward v d → h d ≡ k d) → drawn_graph v h ≡ drawn_graph v k
-unfolding drawn_graph
-same_graph v h k there same =
-    let e : flat_map (λ r. marks_along v h (dart_id r.0)) v.darts ≡ flat_map (λ r. marks_along v k (dart_id r.0)) v.darts =
-    flat_map_same (λ r. marks_along v h (dart_id r.0)) (λ r. marks_along v k (dart_id r.0)) v.darts (λ r m. along_same v h k (dart_id r.0) (is_forward v (dart_id r.0)) refl (λ f. same (dart_id r.0) (there r m, f))) in
-    λ i. record {
-      points = points_of v;
-      marks = ascending mark_cmp (e i);
-      pins = ascending point_cmp (map (λ r. r.1.point) (filter (λ r. r.1.pinned) v.vertices));
-    }
-
 module _ (w : CurvedView) (s : IsSoundView w) where
   pub edge_curves : AreCurvesOf w.graph (curves_seen w)
   edge_curves = record {
@@ -75,20 +48,11 @@ module _ (w : CurvedView) (s : IsSoundView w) where
     backward = λ d b. none_found (row_at w.curves d.0) (λ h. false≢true (sym b ∙ (s.curves.edge d h).1));
   }
 
-  pub seen_plane : IsPlane (graph_seen w)
-  seen_plane = graphs_are_plane w.graph (curves_seen w) s.graph edge_curves
-
-  number_list : (d : DartId) → numbers_of (curve_list_of w) d ≡ curves_at_edge w d
+  number_list : (d : DartId) → map (λ (c : CurveId). c.0) (curve_list_of w d) ≡ curves_at_edge w d
   number_list d = numbers_again (curves_at_edge w d)
 
-  pub forward_curves : (d : DartId) → IsForward w.graph d → numbers_of (curve_list_of w) d ≡ curves_seen w d
+  pub forward_curves : (d : DartId) → IsForward w.graph d → map (λ (c : CurveId). c.0) (curve_list_of w d) ≡ curves_seen w d
   forward_curves d f = number_list d ∙ first_found (row_at w.curves d.0) (row_at w.curves (twin_in w.graph d).0) (s.curves.row d f)
-
-  pub drawn_seen : graph_by w.graph (curve_list_of w) ≡ graph_seen w
-  drawn_seen = same_graph w.graph (numbers_of (curve_list_of w)) (curves_seen w) (λ r m. ap is_some (row_found w.graph.darts r s.graph.named.darts m)) forward_curves
-
-  pub some_curves : (d : DartId) → IsForward w.graph d → curve_list_of w d ≢ []
-  some_curves d f e = s.curves.some d f (sym (forward_curves d f) ∙ ap (map (λ (c : CurveId). c.0)) e)
 
   pub list_ascends : (d : DartId) → IsStrictlyIncreasing (map (λ (c : CurveId). c.0) (curve_list_of w d))
   list_ascends d =
@@ -99,5 +63,5 @@ module _ (w : CurvedView) (s : IsSoundView w) where
   twins_alike d h =
       let t : DartId = twin_in w.graph d in
       let apart : IsSome (row_at w.curves d.0) → IsSome (row_at w.curves t.0) → ⊥ =
-      (λ a b. false≢true (ap not (sym (s.curves.edge d a).1) ∙ sym (twins_are_directed w.graph s.graph d h) ∙ (s.curves.edge t b).1)) in
-      ap (map curve_id) (ap (λ e. curves_found (row_at w.curves t.0) (row_at w.curves e.0)) (s.graph.twinned.back d h) ∙ either_way (row_at w.curves d.0) (row_at w.curves t.0) apart)
+      (λ a b. false≢true (ap not (sym (s.curves.edge d a).1) ∙ sym (twins_are_directed w.graph s.map.graph d h) ∙ (s.curves.edge t b).1)) in
+      ap (map curve_id) (ap (λ e. curves_found (row_at w.curves t.0) (row_at w.curves e.0)) (s.map.graph.twinned.back d h) ∙ either_way (row_at w.curves d.0) (row_at w.curves t.0) apart)

@@ -6,8 +6,7 @@ use arr_text::text;
 use exact_plane::{Line, Point};
 use mirror_tables::Tables;
 use no_memory::NoMemory;
-use plain_slabs::subdivide_of;
-use slab_laws::{CurveId, Curved, DartId, Darts, VertexId};
+use slab_laws::{CurveId, Curved, CycleId, CycleKind, DartId, Darts, FaceId, Faced, VertexId};
 use std::alloc::Global;
 use std::marker::Model;
 
@@ -92,17 +91,44 @@ impl<'a> Curved for Seen<'a> {
     }
 }
 
-/// The text of what the maps say.
+impl<'a> Faced for Seen<'a> {
+    ghost faces = { λ s. s.faces };
+
+    fn cycle(&self, d: DartId) -> CycleId {
+        self.tables.cycle(d)
+    }
+
+    fn face(&self, c: CycleId) -> FaceId {
+        self.tables.face(c)
+    }
+
+    fn kind(&self, c: CycleId) -> CycleKind {
+        self.tables.kind(c)
+    }
+
+    fn bare_face(&self, v: VertexId) -> FaceId {
+        self.tables.bare_face(v)
+    }
+
+    fn cycle_after(&self, c: Option<CycleId>) -> Option<CycleId> {
+        self.tables.cycle_after(c)
+    }
+
+    fn face_after(&self, f: Option<FaceId>) -> Option<FaceId> {
+        self.tables.face_after(f)
+    }
+}
+
+/// The text of what the maps say, cycles and faces included.
 ///
 /// # Errors
 ///
-/// There was no memory for the subdivision or for the text.
+/// There was no memory for the text or for a table on the way.
 pub(crate) fn text_of(alloc: Global, tables: &Tables) -> Result<Vec<u8>, NoMemory>
     requires { IsSoundView (view_in tables.now) }
     ensures { IfOk result (λ bytes. bytes.items ≡ view_text (view_in tables.now)) }
 {
     let seen = Seen::new(tables);
-    let plain = subdivide_of(alloc, &seen)?;
-    let bytes = text(alloc, &plain)?;
+    let bytes = text(alloc, &seen)?;
     Ok(bytes)
 }

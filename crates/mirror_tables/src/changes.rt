@@ -112,7 +112,8 @@ impl Tables {
     {
         let mut curves = Sequence::new(alloc);
         curves.push(curve)?;
-        self.faces.link_first(&self.darts, d, m, start, finish, faces)?;
+        self.faces
+            .link_first(&self.darts, d, m, start, finish, faces)?;
         link(&mut self.darts, d, m, start, finish, line)?;
         lay(&mut self.curves, d, curves)?;
         self.faces.link_then(&self.darts, faces)?;

@@ -67,9 +67,7 @@ impl FaceTables {
             Linked::NewHole { cycle, face } => {
                 self.make_hole(d, m, start.vertex, finish.vertex, *cycle, *face)
             }
-            Linked::Grows { cycle } => {
-                self.grow(d, m, end_that_was_bare(start, finish), *cycle)
-            }
+            Linked::Grows { cycle } => { self.grow(d, m, end_that_was_bare(start, finish), *cycle) }
             Linked::Joins { kept, gone } => {
                 let first = before(darts, start.place);
                 let second = before(darts, finish.place);

@@ -15,12 +15,7 @@ use std::collections::BTreeMap;
 
 impl FaceTables {
     // Both darts are on the cycle.
-    pub(crate) fn set_both(
-        &mut self,
-        d: DartId,
-        m: DartId,
-        cycle: CycleId,
-    ) -> Result<(), NoMemory>
+    pub(crate) fn set_both(&mut self, d: DartId, m: DartId, cycle: CycleId) -> Result<(), NoMemory>
         ensures { OnOk result (faces_in self.new ≡ on_cycle m cycle (on_cycle d cycle (faces_in self.old))) }
     {
         self.set_cycle(d, cycle)?;

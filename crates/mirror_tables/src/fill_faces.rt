@@ -34,10 +34,7 @@ fn keep_bare(bare: &mut BTreeMap<usize, FaceId>, row: &VertexRow) -> Result<(), 
     Ok(())
 }
 
-fn faces_of_vertices(
-    alloc: Global,
-    list: &[VertexRow],
-) -> Result<BTreeMap<usize, FaceId>, NoMemory>
+fn faces_of_vertices(alloc: Global, list: &[VertexRow]) -> Result<BTreeMap<usize, FaceId>, NoMemory>
     requires { NamesAscend (names (flat_map (λ r. bare_row r.name r.face) list.now)) }
     ensures { IfOk result (λ m. m.entries ≡ flat_map (λ r. bare_row r.name r.face) list.now) }
 {

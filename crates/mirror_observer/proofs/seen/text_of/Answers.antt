@@ -1,23 +1,19 @@
-use Rattle.std.proofs.Common.{◌≡◌, ◌∙◌, sym, ap, subst}
-use Rattle.plane_graphs.specs.Plane.{IsPlane}
-use Rattle.slab_laws.specs.Text.{graph_text}
-use Rattle.arr_notes.specs.CurvedView.{CurvedView, IsSoundView, graph_seen}
-use Rattle.plain_slabs.specs.ByName.{graph_by}
-use Rattle.slab_texts.proofs.GraphTexts.{text_is_the_graphs}
+use Rattle.std.proofs.Common.{◌∙◌, sym, ap, subst}
+use Rattle.arr_notes.specs.CurvedView.{CurvedView, IsSoundView, curves_seen}
+use Rattle.arr_text.specs.Reading.{text_in}
+use Rattle.arr_text.proofs.RecordTexts.{records_tell_their_graph}
 use Rattle.mirror_tables.specs.Standing.{view_in}
 use Rattle.mirror_observer.specs.SeenCurves.{curve_list_of}
-use Rattle.mirror_observer.proofs.GraphSeen.{drawn_seen, seen_plane, some_curves}
+use Rattle.mirror_observer.proofs.GraphSeen.{edge_curves, forward_curves}
 use Rattle.mirror_observer.proofs.seen.text_of.Goals as goal
 
-pub subdivide_of-requires : goal.subdivide_of-requires
-subdivide_of-requires c =
+pub text-requires : goal.text-requires
+text-requires c =
     let s : IsSoundView c.new-seen.result = subst (λ w. IsSoundView w) (sym c.new-seen.ensures) c.requires in
-    record { sound = s.graph; curves = some_curves c.new-seen.result s }
+    s.map
 
 pub returns : goal.returns
 returns c =
     let w : CurvedView = view_in c.args.tables.now in
-    let d = c.in_ok-plain.plain in
-    let same : d.graph ≡ graph_seen w = c.in_ok-plain.ensures.graph ∙ ap (λ z. graph_by z.graph (curve_list_of z)) c.new-seen.ensures ∙ drawn_seen w c.requires in
-    let plane : IsPlane d.graph = subst IsPlane (sym same) (seen_plane w c.requires) in
-    c.in_ok-bytes.ensures ∙ text_is_the_graphs d plane ∙ ap graph_text same
+    c.in_ok-bytes.ensures ∙ ap (λ z. text_in z.graph (curve_list_of z)) c.new-seen.ensures
+    ∙ records_tell_their_graph w.graph (curves_seen w) (curve_list_of w) c.requires.map.graph (edge_curves w c.requires) (forward_curves w c.requires)

@@ -1,0 +1,8 @@
+use Rattle.std.proofs.Common.{subst}
+use Rattle.arr_notes.specs.CurvedView.{IsSoundView}
+use Rattle.mirror_observer.proofs.seen.SeenFaced.cycle_after.Goals as goal
+
+pub returns-clause-ascend : goal.returns-clause-ascend
+returns-clause-ascend c =
+    let s : IsSoundView c.args.self.now = subst (λ w. IsSoundView w) c.self.view_is c.self.invariant in
+    s.map.complete.cycles_ascend
