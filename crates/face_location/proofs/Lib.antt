@@ -1,3 +1,4 @@
 pub mod SeenDarts
 pub mod PointFaces
 pub mod FacesAhead
+pub mod Passings

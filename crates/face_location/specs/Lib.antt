@@ -1,3 +1,4 @@
 pub mod Below
 pub mod Spots
 pub mod Ahead
+pub mod Passing

@@ -20,3 +20,4 @@ pub mod NamesOrdered
 pub mod IsolatedVertices
 pub mod ForwardDarts
 pub mod NamesMet
+pub mod EveryEdge
