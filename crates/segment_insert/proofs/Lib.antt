@@ -17,3 +17,5 @@ pub mod VerticesMade
 pub mod VerticesSplit
 pub mod VerticesTurns
 pub mod VerticesWalk
+pub mod Ahead
+pub mod VerticesClear

@@ -18,7 +18,7 @@ use Rattle.edit_steps.specs.Steps.{Step, with_piece, more_step}
 use Rattle.edit_steps.proofs.Laws.{keeps_fit}
 use Rattle.edit_steps.proofs.Layers.{layers_lawful}
 use Rattle.slab_laws.specs.View.{View}
-use Rattle.dcel_records.specs.declared.spot.Spot.{Spot}
+use Rattle.dcel_records.specs.declared.spot.Met.{Met}
 use Rattle.arr_notes.specs.Curves.{Curves}
 use Rattle.curve_history.specs.Past.{Past, curves_on}
 use Rattle.arr_notes.specs.MapView.{MapView}
@@ -29,7 +29,7 @@ use Rattle.told_steps.proofs.ToldTogether.{told_runs_lawful}
 use Rattle.told_steps.specs.ToldRuns.{IsToldRun}
 use Rattle.zone_walk.specs.declared.plan.Meeting.{Meeting}
 use Rattle.zone_walk.specs.declared.plan.ZonePlan.{ZonePlan}
-use Rattle.zone_walk.specs.Zone.{IsZoneOf, AreSpotsBetween, is_on_segment, meeting_points, splits_needed, points_of_meetings}
+use Rattle.zone_walk.specs.Zone.{IsZoneOf, AreMetBetween, is_on_segment, meeting_points, splits_needed, points_of_meetings}
 use Rattle.segment_insert.specs.Insertion.{AreMeetings, AreAllOn}
 use Rattle.told_steps.proofs.Layers.{steps_make_layers}
 use Rattle.segment_insert.proofs.Passing.{points_ascend}
@@ -40,12 +40,12 @@ abbrev pub edges_then : View → Curves → ℕ → List Point → List Step
 edges_then w d c ps = map (more_step (drawn_graph w d)) (chain c ps)
 
 -- there is one more point than open parts
-parts_fewer : (v : View) (s : Segment) (ps : List Point) (spots : List Spot) → AreSpotsBetween v s ps spots → length ps ≡ length spots + 1
-parts_fewer v s [] spots b = absurd b
+parts_fewer : (v : View) (s : Segment) (ps : List Point) (parts : List Met) → AreMetBetween v s ps parts → length ps ≡ length parts + 1
+parts_fewer v s [] parts b = absurd b
 parts_fewer v s (p ∷ []) [] b = omega arith
-parts_fewer v s (p ∷ []) (x ∷ spots) b = absurd b
+parts_fewer v s (p ∷ []) (x ∷ parts) b = absurd b
 parts_fewer v s (p ∷ q ∷ ps) [] b = absurd b
-parts_fewer v s (p ∷ q ∷ ps) (x ∷ spots) b = let k = parts_fewer v s (q ∷ ps) spots b.1 in omega arith
+parts_fewer v s (p ∷ q ∷ ps) (x ∷ parts) b = let k = parts_fewer v s (q ∷ ps) parts b.1 in omega arith
 
 same_length : (ms ns : List Meeting) → points_of_meetings ns ≡ points_of_meetings ms → length ns ≡ length ms
 same_length ms ns e = sym (length-map ns (λ (m : Meeting). m.point)) ∙ ap length e ∙ length-map ms (λ (m : Meeting). m.point)
@@ -97,7 +97,7 @@ module _ {v : MapView} {past : Past} {g : Segment} {plan : ZonePlan} {c : ℕ} (
   pub meetings : AreMeetings v.graph ms
   meetings = record {
     ascend = subst (IsAscending point_cmp) (sym planned.zone.points) (points_ascend v.graph (curves_on past) planned.layer.sound planned.layer.curves p g c planned.layer.stands fit);
-    spots = planned.zone.spots;
+    met = planned.zone.met;
   }
 
   one_more : length ms ≡ length plan.between + 1

@@ -22,9 +22,9 @@ use Rattle.arr_notes.specs.declared.change.Change.{Change}
 use Rattle.arr_notes.specs.declared.change.Change.TheVariants.{AddVertex, RemoveVertex, SplitEdge, MergeEdge, AddEdge, RemoveEdge, AddCurve, RemoveCurve, SetPin, ClearPin, Clear}
 use Rattle.arr_notes.specs.Curves.{Curves, AreCurvesOf, step_curves}
 use Rattle.arr_notes.specs.Step.{split_edge, step}
-use Rattle.dcel_records.specs.declared.spot.Spot.{Spot}
-use Rattle.dcel_records.specs.declared.spot.Spot.TheVariants.{Vertex, Edge, Face}
-use Rattle.dcel_records.specs.Spots.{IsSpotOf, IsInFace}
+use Rattle.dcel_records.specs.declared.spot.Met.{Met}
+use Rattle.dcel_records.specs.declared.spot.Met.TheVariants.{Vertex, Edge, Nothing}
+use Rattle.dcel_records.specs.Spots.{IsMet, IsInFace}
 use Rattle.edge_split_merge.specs.Splits.{CanSplit}
 use Rattle.arr_notes.specs.MapView.{MapView}
 use Rattle.arr_notes.specs.RecordGraph.{drawn_graph}
@@ -37,9 +37,9 @@ use Rattle.told_steps.specs.RecordLayers.{IsRunOfSteps}
 use Rattle.told_steps.proofs.ToldTogether.{told_runs_lawful}
 use Rattle.told_steps.specs.ToldRuns.{IsToldRun}
 use Rattle.zone_walk.specs.declared.plan.Meeting.{Meeting}
-use Rattle.segment_insert.specs.Coming.{steps_at, LeadsTo, IsSpotNow, IsSpotStill, IsMadeAt}
+use Rattle.segment_insert.specs.Coming.{steps_at, LeadsTo, IsMetNow, IsMetStill, IsMadeAt}
 use Rattle.segment_insert.specs.Coming.LeadsTo.{here}
-use Rattle.told_steps.specs.VertexMade.{IsPlaneWith, IsVertexMade, darts_at, pairs_at, steps_at_spot, vertices_at}
+use Rattle.told_steps.specs.VertexMade.{IsPlaneWith, IsVertexMade, darts_at, pairs_at, steps_at as steps_here, vertices_at}
 use Rattle.zone_walk.specs.Zone.{is_edge, is_vertex, splits_needed, vertices_needed}
 use Rattle.segment_insert.proofs.VerticesAdded.{old_vertex, leads_too, face_too}
 use Rattle.segment_insert.proofs.VerticesFound.{proper_by_step, face_step, edge_step, face_new, edge_new}
@@ -55,7 +55,7 @@ part_fits v p e d k = let i = leads_inside v p e d k in record { dart = i.0.0; f
 record IsKept (v : View) (h : Curves) (w : View) (k : Curves) (p : Point) : Type 0 where
   vertices : (u : VertexId) → HasVertex v u → HasVertex w u × (point_in w u ≡ point_in v u)
   curves : (d : DartId) → HasDart v d → k d ≡ h d
-  later : (q : Point) (o : Spot) → IsProper q → precedes p q ≡ true → IsSpotStill v h q o → IsSpotStill w k q o
+  later : (q : Point) (o : Met) → IsProper q → precedes p q ≡ true → IsMetStill v h q o → IsMetStill w k q o
 
 -- ---- an edge is split
 module _ (v : View) (h : Curves) (s : IsGraphSound v) where
@@ -69,12 +69,12 @@ module _ (v : View) (h : Curves) (s : IsGraphSound v) where
     i : IsHalved v g b (twin_in v b) n t x
     i = halved v b x p n t s c
 
-    split_later : (q : Point) (o : Spot) → IsProper q → precedes p q ≡ true → IsSpotStill v h q o → IsSpotStill g parts q o
+    split_later : (q : Point) (o : Met) → IsProper q → precedes p q ≡ true → IsMetStill v h q o → IsMetStill g parts q o
     split_later q (Vertex u) proper l y = (i.vertex_has u y.0, i.vertex_point u y.0 ∙ y.1)
     split_later q (Edge d) proper l y =
         let r = leads_still v b x p n t s c q proper (lt_out p q l) h y.0 d y.1 in
         (r.0, r.1, r.2 ∙ y.2 ∙ sym (old_curves v b x p n t s c q proper (lt_out p q l) h d (leads_forward v q y.0 d y.1).0))
-    split_later q Face proper l y = face_still v b x p n t s c q proper (lt_out p q l) y
+    split_later q Nothing proper l y = face_still v b x p n t s c q proper (lt_out p q l) y
 
     kept_by_split : IsKept v h g parts p
     kept_by_split = record {
@@ -107,7 +107,7 @@ module _ (v : MapView) (h : Curves) (s : IsGraphSound v.graph) (a : AreCurvesOf 
   p = m.point
 
   -- ---- a vertex
-  stays : {b : BusRow} (w : VertexId) → IsSpotOf v.graph m.point (Vertex w) → IsMadeAt v h b v h b m w
+  stays : {b : BusRow} (w : VertexId) → IsMet v.graph m.point (Vertex w) → IsMadeAt v h b v h b m w
   stays {b} w k = record {
     told = nothing_told v.graph h s a m.point [] tt (subst (λ q. Member q (drawn_graph v.graph h).points) k.1 (point_held v.graph s.named h w k.0)) v b;
     has = k.0;
@@ -154,10 +154,10 @@ module _ (v : MapView) (h : Curves) (s : IsGraphSound v.graph) (a : AreCurvesOf 
     added_plane = subst (λ z. IsPlane (apply z (drawn_graph v.graph h))) added_by one.plane
 
     module _ (x : VertexId) (new : ¬ HasVertex v.graph x) where
-      added_later : (q : Point) (z : Spot) → IsProper q → precedes m.point q ≡ true → IsSpotStill v.graph h q z → IsSpotStill (with_vertex v.graph x m.point) h q z
+      added_later : (q : Point) (z : Met) → IsProper q → precedes m.point q ≡ true → IsMetStill v.graph h q z → IsMetStill (with_vertex v.graph x m.point) h q z
       added_later q (Vertex u) proper l k = let r = old_vertex v.graph x m.point s new u k.0 in (r.has k.0, r.point ∙ k.1)
       added_later q (Edge d) proper l k = (k.0, leads_too v.graph x m.point s new q k.0 d k.1, k.2)
-      added_later q Face proper l k = face_too v.graph x m.point s new q (λ e. lt_never (subst (λ z. Lt m.point z) (sym e) (lt_out m.point q l))) k
+      added_later q Nothing proper l k = face_too v.graph x m.point s new q (λ e. lt_never (subst (λ z. Lt m.point z) (sym e) (lt_out m.point q l))) k
 
       comes : {b c : BusRow} (w : MapView) → w.graph ≡ with_vertex v.graph x m.point → IsToldRun v h b (AddVertexAt m.point ∷ []) w h c → IsMadeAt v h b w h c m x
       comes {b} {c} w e t =
@@ -171,52 +171,52 @@ module _ (v : MapView) (h : Curves) (s : IsGraphSound v.graph) (a : AreCurvesOf 
           }
 
 -- ---- where the point lies now
-pub lies_now : (v : View) (p : Point) (told now : Spot) → IsSpotNow v p told now → IsSpotOf v p now
-lies_now v p (Vertex w) now k = subst (IsSpotOf v p) (sym k.0) k.1
-lies_now v p (Edge d) now k = let i = leads_inside v p k.0 d k.2 in subst (IsSpotOf v p) (sym k.1) (i.0.0, i.0.1, i.1)
-lies_now v p Face now k = subst (IsSpotOf v p) (sym k.0) k.1
+pub lies_now : (v : View) (p : Point) (told now : Met) → IsMetNow v p told now → IsMet v p now
+lies_now v p (Vertex w) now k = subst (IsMet v p) (sym k.0) k.1
+lies_now v p (Edge d) now k = let i = leads_inside v p k.0 d k.2 in subst (IsMet v p) (sym k.1) (i.0.0, i.0.1, i.1)
+lies_now v p Nothing now k = subst (IsMet v p) (sym k.0) k.1
 
 -- it takes the room that the spot tells
-vertices_now : (v : View) (p : Point) (told now : Spot) → IsSpotNow v p told now → vertices_at now ≡ cond (not (is_vertex told)) 1 0
+vertices_now : (v : View) (p : Point) (told now : Met) → IsMetNow v p told now → vertices_at now ≡ cond (not (is_vertex told)) 1 0
 vertices_now v p (Vertex w) now k = ap vertices_at k.0
 vertices_now v p (Edge d) now k = ap vertices_at k.1
-vertices_now v p Face now k = ap vertices_at k.0
+vertices_now v p Nothing now k = ap vertices_at k.0
 
-darts_now : (v : View) (p : Point) (told now : Spot) → IsSpotNow v p told now → darts_at now ≡ 2 * cond (is_edge told) 1 0
+darts_now : (v : View) (p : Point) (told now : Met) → IsMetNow v p told now → darts_at now ≡ 2 * cond (is_edge told) 1 0
 darts_now v p (Vertex w) now k = ap darts_at k.0
 darts_now v p (Edge d) now k = ap darts_at k.1
-darts_now v p Face now k = ap darts_at k.0
+darts_now v p Nothing now k = ap darts_at k.0
 
-pub pairs_now : (v : View) (h : Curves) (p : Point) (told now : Spot) → IsGraphSound v → IsProper p → IsSpotStill v h p told → IsSpotNow v p told now → pairs_at h now ≡ pairs_at h told
+pub pairs_now : (v : View) (h : Curves) (p : Point) (told now : Met) → IsGraphSound v → IsProper p → IsMetStill v h p told → IsMetNow v p told now → pairs_at h now ≡ pairs_at h told
 pairs_now v h p (Vertex w) now s proper y k = ap (pairs_at h) k.0
 pairs_now v h p (Edge d) now s proper y k = ap (pairs_at h) k.1 ∙ ap length (ap h (leads_once v p s proper k.0 y.0 d k.2 y.1) ∙ y.2)
-pairs_now v h p Face now s proper y k = ap (pairs_at h) k.0
+pairs_now v h p Nothing now s proper y k = ap (pairs_at h) k.0
 
-module _ (v : View) (m : Meeting) (now : Spot) (k : IsSpotNow v m.point m.spot now) where
+module _ (v : View) (m : Meeting) (now : Met) (k : IsMetNow v m.point m.met now) where
   pub vertices_there : vertices_at now ≡ vertices_needed (m ∷ [])
   vertices_there =
-      let f : Meeting → ℕ = λ n. cond (not (is_vertex n.spot)) 1 0 in
-      omega (arith, sum_by-cons f m [], vertices_now v m.point m.spot now k)
+      let f : Meeting → ℕ = λ n. cond (not (is_vertex n.met)) 1 0 in
+      omega (arith, sum_by-cons f m [], vertices_now v m.point m.met now k)
 
   pub darts_there : darts_at now ≡ 2 * splits_needed (m ∷ [])
   darts_there =
-      let f : Meeting → ℕ = λ n. cond (is_edge n.spot) 1 0 in
-      omega (arith, sum_by-cons f m [], darts_now v m.point m.spot now k)
+      let f : Meeting → ℕ = λ n. cond (is_edge n.met) 1 0 in
+      omega (arith, sum_by-cons f m [], darts_now v m.point m.met now k)
 
 -- ---- the vertex is made there
 module _ (v : MapView) (h : Curves) (s : IsGraphSound v.graph) (a : AreCurvesOf v.graph h) (m : Meeting) (y : AreSound (steps_at v.graph h (m.point ∷ [])) (drawn_graph v.graph h)) where
-  pub plane_there : (now : Spot) → IsSpotOf v.graph m.point now → IsPlaneWith v.graph h m.point now
+  pub plane_there : (now : Met) → IsMet v.graph m.point now → IsPlaneWith v.graph h m.point now
   plane_there (Vertex u) o = tt
   plane_there (Edge e) o = tt
-  plane_there Face o = added_plane v h s a m o y
+  plane_there Nothing o = added_plane v h s a m o y
 
-  pub made_there : {b c : BusRow} (now : Spot) → IsSpotOf v.graph m.point now → IsProper m.point → (w : MapView) (k : Curves) (x : VertexId) →
-      IsToldRun v h b (steps_at_spot v.graph m.point now) w k c → IsVertexAt w.graph m.point x → IsVertexMade v.graph h m.point now w.graph k x → IsMadeAt v h b w k c m x
+  pub made_there : {b c : BusRow} (now : Met) → IsMet v.graph m.point now → IsProper m.point → (w : MapView) (k : Curves) (x : VertexId) →
+      IsToldRun v h b (steps_here v.graph m.point now) w k c → IsVertexAt w.graph m.point x → IsVertexMade v.graph h m.point now w.graph k x → IsMadeAt v h b w k c m x
   unfolding IsToldRun
   made_there {b} {c} (Vertex u) o proper w k x t at made =
       subst (λ z. IsMadeAt v h b z k c m x) (sym t.0) (subst (λ q. IsMadeAt v h b v q c m x) (sym (λ i d. t.1 d i))
       (subst (λ q. IsMadeAt v h b v h q m x) (sym t.2) (subst (IsMadeAt v h b v h b m) (sym made.0) (stays v h s a m u o))))
   made_there {b} {c} (Edge e) o proper w k x t at made = splits v h s a m w k e e x (here o) proper t at
-  made_there {b} {c} Face o proper w k x t at made =
+  made_there {b} {c} Nothing o proper w k x t at made =
       let q : k ≡ h = λ i d. made.2 d i in
       subst (λ z. IsMadeAt v h b w z c m x) (sym q) (comes v h s a m o y x made.0 w made.1 (subst (λ z. IsToldRun v h b (AddVertexAt m.point ∷ []) w z c) q t))

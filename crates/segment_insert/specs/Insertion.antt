@@ -1,22 +1,24 @@
 -- What an insertion makes and answers, and what its parts ask and do.
-use Rattle.std.specs.Prelude.{◌≡◌, ◌≤◌, ◌+◌, ◌*◌, ℕ, List, [], ◌∷◌, length, Option, Some, None, true, Contains}
+use Rattle.std.specs.Prelude.{◌≡◌, ◌≤◌, ◌+◌, ◌*◌, ℕ, List, [], ◌∷◌, ⊤, length, Option, Some, None, true, Contains}
 use Rattle.exact_plane.specs.Point.{Point}
 use Rattle.exact_plane.specs.PointOrder.{point_cmp}
 use Rattle.exact_plane.specs.Segment.{Segment}
 use Rattle.plane_graphs.specs.Ascending.{Member, IsAscending}
 use Rattle.edit_steps.specs.Refusals.{Refusal, Full as Passed, Spent as LastDrawn, insertion_refusal}
-use Rattle.slab_laws.specs.View.{View, HasVertex, point_in}
+use Rattle.slab_laws.specs.View.{View, Faces, HasVertex, point_in}
 use Rattle.arr_notes.specs.Curves.{Curves}
 use Rattle.curve_history.specs.declared.history.TheConstants.{LAST_CURVE}
 use Rattle.curve_history.specs.Past.{Past}
 use Rattle.told_steps.specs.LayerEdits.{layer_at}
 use Rattle.dcel_records.specs.RecordsView.{RecordsView}
-use Rattle.dcel_records.specs.declared.spot.Spot.TheVariants.{Vertex}
-use Rattle.dcel_records.specs.Spots.{IsSpotOf}
+use Rattle.dcel_records.specs.declared.spot.Met.TheVariants.{Vertex, Nothing}
+use Rattle.dcel_records.specs.declared.spot.Spot.{Spot}
+use Rattle.dcel_records.specs.Spots.{IsMet}
+use Rattle.face_location.specs.Spots.{IsSpotOf}
 use Rattle.told_steps.specs.VertexMade.{pairs_at}
 use Rattle.zone_walk.specs.declared.plan.Meeting.{Meeting}
 use Rattle.zone_walk.specs.declared.plan.ZonePlan.{ZonePlan}
-use Rattle.zone_walk.specs.Zone.{is_on_segment, points_of_meetings}
+use Rattle.zone_walk.specs.Zone.{is_on_segment, points_of_meetings, IsMetBetween}
 use Rattle.segment_insert.specs.declared.insertion.InsertError.{InsertError}
 use Rattle.segment_insert.specs.declared.insertion.InsertError.TheVariants.{Full, Spent, NoMemory}
 
@@ -30,14 +32,28 @@ insert_said NoMemory = None
 abbrev pub refusal_at : ℕ → ℕ → RecordsView → Past → Option Refusal
 refusal_at curves pieces r p = insertion_refusal curves pieces LAST_CURVE (layer_at r p)
 
--- the meetings ascend, each with its spot (this project)
+-- the meetings ascend, each with what it meets (this project)
 pub record AreMeetings (v : View) (ms : List Meeting) : Type 0 where
   pub ascend : IsAscending point_cmp (points_of_meetings ms)
-  pub spots : (m : Meeting) → Contains ms m → IsSpotOf v m.point m.spot
+  pub met : (m : Meeting) → Contains ms m → IsMet v m.point m.met
+
+-- the first of the meetings lies at the spot (this project)
+abbrev pub IsStart : View → Faces → Spot → List Meeting → Type 0
+IsStart v f start [] = ⊥
+IsStart v f start (m ∷ ms) = IsSpotOf v f m.point start
+
+-- from the point to the first of the meetings nothing lies on the segment where this meets nothing, and so from each to the next (this project)
+abbrev pub AreClearAfter : View → Segment → Point → List Meeting → Type 0
+AreClearAfter v s p [] = ⊤
+AreClearAfter v s p (m ∷ ms) = (m.met ≡ Nothing → IsMetBetween v s p m.point Nothing) × AreClearAfter v s m.point ms
+
+abbrev pub AreClear : View → Segment → List Meeting → Type 0
+AreClear v s [] = ⊤
+AreClear v s (m ∷ ms) = AreClearAfter v s m.point ms
 
 -- each meeting is a vertex, told by its name (this project)
 abbrev pub IsNamedVertex : View → Meeting → Type 0
-IsNamedVertex v m = (w : _) × (m.spot ≡ Vertex w) × HasVertex v w × (point_in v w ≡ m.point)
+IsNamedVertex v m = (w : _) × (m.met ≡ Vertex w) × HasVertex v w × (point_in v w ≡ m.point)
 
 pub record AreVertices (v : View) (ms : List Meeting) : Type 0 where
   pub ascend : IsAscending point_cmp (points_of_meetings ms)
@@ -50,7 +66,7 @@ AreAllOn v s ps = (w : _) → HasVertex v w → is_on_segment s (point_in v w) �
 -- how many pairs of an edge and a curve come with the splits: the curves of each edge that is split, on its new part
 abbrev pub pairs_to_part : Curves → List Meeting → ℕ
 pairs_to_part h [] = 0
-pairs_to_part h (m ∷ ms) = pairs_at h m.spot + pairs_to_part h ms
+pairs_to_part h (m ∷ ms) = pairs_at h m.met + pairs_to_part h ms
 
 -- how many pairs of an edge and a curve come: the curves of each edge that is split, and the new one on each open part
 abbrev pub pairs_needed : Curves → List Meeting → ℕ

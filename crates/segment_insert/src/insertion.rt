@@ -3,7 +3,8 @@ ghost use Rattle.edit_steps.specs.Edits.{Insert, steps};
 ghost use Rattle.edit_steps.specs.Refusals.{IsAnswerFor};
 ghost use Rattle.slab_laws.specs.Sound.{IsGraphSound};
 ghost use Rattle.dcel_records.specs.RecordsView.{RecordsView, tables_of};
-ghost use Rattle.dcel_records.specs.Spots.{IsSpotOf};
+ghost use Rattle.dcel_records.specs.Spots.{IsMet, met_of};
+ghost use Rattle.face_location.specs.Spots.{IsSpotOf};
 ghost use Rattle.dcel_records.specs.SoundMaps.{IsMapAtRest, map_of};
 ghost use Rattle.curve_history.specs.Past.{curves_on, SameLayer, SameCurves};
 ghost use Rattle.curve_history.specs.declared.history.TheConstants.{LAST_CURVE};
@@ -18,7 +19,7 @@ ghost use Rattle.told_steps.specs.LayerEdits.{IsAfter, layer_at};
 use crate::edges::make_edges;
 use crate::vertices::make_vertices;
 use curve_history::History;
-use dcel_records::{Records, Spot};
+use dcel_records::{Met, Records, Spot};
 use exact_plane::Segment;
 use no_memory::NoMemory;
 use observer_bus::Bus;
@@ -75,7 +76,7 @@ fn count_pairs(history: &History, meetings: &[Meeting]) -> Result<usize, NoMemor
 {
     let mut pairs = meetings.len();
     for meeting in meetings {
-        if let Spot::Edge(dart) = meeting.spot {
+        if let Met::Edge(dart) = meeting.met {
             match pairs.checked_add(history.count_on(dart)) {
                 Some(more) => pairs = more,
                 None => return Err(NoMemory),
@@ -112,7 +113,7 @@ fn prepare(
     start: Spot,
 ) -> Result<ZonePlan, NoMemory>
     requires sound { IsGraphSound records.old.graph }
-    requires start { IsSpotOf records.old.graph segment.now.lower start }
+    requires start { IsMet records.old.graph segment.now.lower (met_of start) }
     ensures zone { IfOk result (IsZoneOf records.old.graph segment.now) }
     ensures room { IfOk result (λ z. HasRoomFor z (curves_on history.old) records.new history.new) }
     ensures graph { records.new.graph ≡ records.old.graph }
@@ -133,6 +134,7 @@ fn insert_by_plan(
     history: &mut History,
     bus: &mut Bus,
     segment: &Segment,
+    start: Spot,
     plan: ZonePlan,
 ) -> CurveId
     requires layer { IsLayer records.old.graph history.old }
@@ -140,6 +142,7 @@ fn insert_by_plan(
         (bus_row Observer-dyn bus.old) }
     requires map { IsMapAtRest records.old }
     requires zone { IsZoneOf records.old.graph segment.now plan }
+    requires start { IsSpotOf records.old.graph (tables_of records.old) segment.now.lower start }
     requires unspent { history.old.next ≤ LAST_CURVE }
     requires few { length history.old.pieces + 1 < 2 ^ 32 }
     requires room { HasRoomFor plan (curves_on history.old) records.old history.old }
@@ -164,7 +167,7 @@ fn insert_by_plan(
         to: upper,
     });
     let mut meetings = plan.vertices.into_vec();
-    make_vertices(alloc, records, history, bus, &mut meetings);
+    make_vertices(alloc, records, history, bus, segment, start, &mut meetings);
     make_edges(alloc, records, history, bus, segment, curve, &meetings);
     curve
 }
@@ -173,8 +176,8 @@ fn insert_by_plan(
 /// observers before and after it; all of it, or, at a refusal or for want of memory, nothing, and then nothing is told (CGAL
 /// manual, `insert` and `Arr_observer`).
 ///
-/// `curves` and `pieces` are the limits of named curves and of pieces; `start` is the spot of the segment's lower end. All
-/// memory of its own is taken before the first note.
+/// `curves` and `pieces` are the limits of named curves and of pieces; `start` is the spot of the segment's lower end,
+/// with the name of the face where it is inside one. All memory of its own is taken before the first note.
 pub fn insert(
     alloc: Global,
     records: &mut Records,
@@ -188,7 +191,7 @@ pub fn insert(
     requires layer { IsLayer records.old.graph history.old }
     requires map { IsMapAtRest records.old }
     requires watched { AreWatched records.old history.old (bus_row Observer-dyn bus.old) }
-    requires start { IsSpotOf records.old.graph segment.now.lower start }
+    requires start { IsSpotOf records.old.graph (tables_of records.old) segment.now.lower start }
     ensures layer { IsLayer records.new.graph history.new }
     ensures map { IsMapAtRest records.new }
     ensures watched { AreWatched records.new history.new (bus_row Observer-dyn bus.new) }
@@ -207,5 +210,5 @@ pub fn insert(
     }
     let plan = prepare(alloc, records, history, segment, start)?;
     bus.begin();
-    Ok(insert_by_plan(alloc, records, history, bus, segment, plan))
+    Ok(insert_by_plan(alloc, records, history, bus, segment, start, plan))
 }

@@ -68,8 +68,8 @@ loop-i-preserved g c =
       darts = room_left c.args.records.now.spare_darts c.loop-i.records.spare_darts c.vertex_of-vertex.new.records.spare_darts (2 * splits_needed ms) (2 * splits_needed (m ∷ [])) (2 * splits_needed (drop (i + 1) ms)) (2 * splits_needed (drop i ms))
           (ap (λ (xs : List Meeting). 2 * splits_needed xs) first ∙ darts_first m (drop (i + 1) ms)) old.darts k.darts;
       faces = spare_then old.faces k.spare_faces;
-      pairs = room_left c.args.history.now.spare_pairs c.loop-i.history.spare_pairs c.vertex_of-vertex.new.history.spare_pairs (pairs_to_part h ms) (pairs_at (curves_on c.loop-i.history) m.spot) (pairs_to_part (curves_on c.vertex_of-vertex.new.history) (drop (i + 1) ms)) (pairs_to_part (curves_on c.loop-i.history) (drop i ms))
-          (ap (pairs_to_part (curves_on c.loop-i.history)) first ∙ ap (λ (n : ℕ). pairs_at (curves_on c.loop-i.history) m.spot + n) (sym (same_pairs_left v h ms (map_of c.loop-i.records) (curves_on c.loop-i.history) ns i c.loop-i.invariant.midway m l c.index.ensures (map_of c.vertex_of-vertex.new.records) (curves_on c.vertex_of-vertex.new.history) c.vertex_of-vertex.result k.told)))
+      pairs = room_left c.args.history.now.spare_pairs c.loop-i.history.spare_pairs c.vertex_of-vertex.new.history.spare_pairs (pairs_to_part h ms) (pairs_at (curves_on c.loop-i.history) m.met) (pairs_to_part (curves_on c.vertex_of-vertex.new.history) (drop (i + 1) ms)) (pairs_to_part (curves_on c.loop-i.history) (drop i ms))
+          (ap (pairs_to_part (curves_on c.loop-i.history)) first ∙ ap (λ (n : ℕ). pairs_at (curves_on c.loop-i.history) m.met + n) (sym (same_pairs_left v h ms (map_of c.loop-i.records) (curves_on c.loop-i.history) ns i c.loop-i.invariant.midway m l c.index.ensures (map_of c.vertex_of-vertex.new.records) (curves_on c.vertex_of-vertex.new.history) c.vertex_of-vertex.result k.told)))
           old.pairs k.pairs;
     }
 
