@@ -15,6 +15,7 @@ use Rattle.slab_laws.specs.Skeleton.{inside}
 use Rattle.slab_laws.specs.Sound.{IsGraphSound, edge_in}
 use Rattle.slab_laws.specs.View.{View, Faces, HasVertex, point_in}
 use Rattle.arr_notes.specs.Curves.{Curves}
+use Rattle.arr_notes.specs.MapView.{MapView}
 use Rattle.dcel_records.specs.declared.spot.Met.{Met}
 use Rattle.dcel_records.specs.declared.spot.Met.TheVariants.{Vertex, Edge, Nothing}
 use Rattle.dcel_records.specs.declared.spot.Spot.{Spot}
@@ -93,6 +94,9 @@ module _ (v : View) (s : IsGraphSound v) (g : Segment) (c : IsCourse g) where
     met = λ n i. met n (inr i);
   })
 
+  pub zone_on : (ms : List Meeting) → points_of_meetings ms ≡ meeting_points v g → (m : Meeting) → Member m ms → is_on_segment g m.point ≡ true
+  zone_on ms e m i = lies_in g m.point (meets_lies v s g c m.point (told v s g c m.point (there ms e m i)))
+
   -- the first is the segment's lower end
   pub zone_start : (f : Faces) (start : Spot) (ms : List Meeting) → points_of_meetings ms ≡ meeting_points v g → IsSpotOf v f g.lower start → IsStart v f start ms
   zone_start f start [] e k = absurd (among [] e g.lower (listed v s g c g.lower (lower refl)))
@@ -129,21 +133,21 @@ module _ (v : View) (h : Curves) (g : Segment) (u : VertexId) (m : Meeting) (ms 
         none_between = λ t T on k l. f.clear.0 e t T (lies_in g t (record { on = on; from = le_lt (le_lt_lt a.from (lt_out (point_in v u) t k)); upto = le_lt (lt_le_lt (lt_out t m.point l) b.upto) })) k l;
       }
 
-module _ (v : View) (h : Curves) {b : BusRow} (w : View) (k : Curves) {d : BusRow} (m : Meeting) (x : VertexId) (y : IsMadeAt v h b w k d m x) (g : Segment) where
-  clear_still : (p : Point) → Le m.point p → (ms : List Meeting) → IsAscending point_cmp (p ∷ points_of_meetings ms) → AreClearAfter v g p ms → AreClearAfter w g p ms
+module _ (v : MapView) (h : Curves) {b : BusRow} (w : MapView) (k : Curves) {d : BusRow} (m : Meeting) (x : VertexId) (y : IsMadeAt v h b w k d m x) (g : Segment) where
+  clear_still : (p : Point) → Le m.point p → (ms : List Meeting) → IsAscending point_cmp (p ∷ points_of_meetings ms) → AreClearAfter v.graph g p ms → AreClearAfter w.graph g p ms
   clear_still p l [] a c = tt
   clear_still p l (n ∷ ms) a c = (
     λ e t T on i j. y.later t Nothing T (lt_in (le_lt_lt l (lt_out p t i))) (c.0 e t T on i j),
     clear_still n.point (le_lt (le_lt_lt l (record { is = a.0.0 }))) ms a.1 c.1,
   )
 
-  pub made_followed : (ms : List Meeting) → IsAscending point_cmp (points_of_meetings (m ∷ ms)) → ((n : Meeting) → Member n (m ∷ ms) → is_on_segment g n.point ≡ true) → AreClearAfter v g m.point ms → IsFollowed w g x ms
+  pub made_followed : (ms : List Meeting) → IsAscending point_cmp (points_of_meetings (m ∷ ms)) → ((n : Meeting) → Member n (m ∷ ms) → is_on_segment g n.point ≡ true) → AreClearAfter v.graph g m.point ms → IsFollowed w.graph g x ms
   made_followed ms a on c = record {
     has = y.has;
     on = subst (λ p. is_on_segment g p ≡ true) (sym y.point) (on m (inl refl));
     rest_on = λ n i. on n (inr i);
     ascend = subst (λ p. IsAscending point_cmp (p ∷ points_of_meetings ms)) (sym y.point) a;
-    clear = subst (λ p. AreClearAfter w g p ms) (sym y.point) (clear_still m.point (le_same m.point) ms a c);
+    clear = subst (λ p. AreClearAfter w.graph g p ms) (sym y.point) (clear_still m.point (le_same m.point) ms a c);
   }
 
 -- ---- the first one

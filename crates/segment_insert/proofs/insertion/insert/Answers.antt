@@ -1,4 +1,6 @@
-use Rattle.std.proofs.Common.{◌≡◌, ◌<◌, None, length, refl, sym, arith}
+use Rattle.std.proofs.Common.{◌≡◌, ◌<◌, None, length, refl, subst, sym, arith}
+use Rattle.dcel_records.specs.RecordsView.{tables_of}
+use Rattle.face_location.specs.Spots.{IsSpotOf}
 use Rattle.edit_steps.proofs.Refusals.{insertion_allowed, no_memory}
 use Rattle.dcel_records.specs.SoundMaps.{map_of}
 use Rattle.curve_history.specs.declared.history.TheConstants.{LAST_CURVE}
@@ -54,3 +56,12 @@ pub insert_by_plan-requires-clause-in_step : goal.insert_by_plan-requires-clause
 insert_by_plan-requires-clause-in_step g c =
     let e = c.prepare.ensures in
     begun_in_step (map_of c.args.records.now) c.args.history.now (map_of c.prepare.new.records) c.prepare.new.history (one_map c.prepare.new.records c.args.records.now e.graph e.tables) e.same_curves c.begin.ensures.begun c.requires.map.map.sound c.requires.layer c.requires.watched
+
+pub prepare-requires-clause-start : goal.prepare-requires-clause-start
+prepare-requires-clause-start g c = c.requires.start.met
+
+pub insert_by_plan-requires-clause-start : goal.insert_by_plan-requires-clause-start
+insert_by_plan-requires-clause-start g c =
+    let e = c.prepare.ensures in
+    let p = c.args.segment.now.lower in
+    subst (λ v. IsSpotOf v (tables_of c.prepare.new.records) p c.args.start) (sym e.graph) (subst (λ f. IsSpotOf c.args.records.now.graph f p c.args.start) (sym e.tables) c.requires.start)
