@@ -66,11 +66,7 @@ fn count(left: &mut Option<u64>) -> Answer
 }
 
 // What is held after a change.
-fn changed(
-    alloc: Global,
-    held: Option<Tables>,
-    change: &Change,
-) -> Result<Option<Tables>, NoMemory>
+fn changed(alloc: Global, held: Option<Tables>, change: &Change) -> Result<Option<Tables>, NoMemory>
     requires standing { IsStanding held }
     requires fits { FitsHeld (held_in held) change.now }
     ensures held { IfOk result (λ t. held_in t ≡ changed_held (held_in held) change.now) }
