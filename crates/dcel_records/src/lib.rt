@@ -20,4 +20,4 @@ mod table;
 mod vertices;
 
 pub use records::{Records, Room};
-pub use spot::Spot;
+pub use spot::{Met, Spot};

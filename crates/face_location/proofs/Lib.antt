@@ -1,2 +1,3 @@
 pub mod SeenDarts
 pub mod PointFaces
+pub mod Passings

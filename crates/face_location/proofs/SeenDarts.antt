@@ -1,30 +1,33 @@
--- The edges that a point sees below it, by the forward darts along them.
+-- The edges that a point sees below it, by the forward darts along them, in a look at each edge.
 use Rattle.std.proofs.Common.{◌≡◌, ◌<◌, ◌≤◌, true, false, cond, arith, sym, ap, ◌∙◌, subst, inl, inr}
-use Rattle.std.specs.Prelude.{◌&&◌, Option, Some, None, IfSome}
-use Rattle.std.proofs.lemmas.Bool.{false≢true, and_parts, and_from, cases_Bool}
+use Rattle.std.specs.Prelude.{Option, Some, None, IfSome, nat_lt}
+use Rattle.std.proofs.lemmas.Bool.{cases_Bool}
+use Rattle.exact_plane.specs.Line.{Line}
 use Rattle.exact_plane.specs.Point.{Point}
 use Rattle.plane_graphs.specs.Graph.{Edge}
 use Rattle.plane_graphs.specs.Line.{IsProper}
-use Rattle.plane_graphs.proofs.Order.{lt_in, lt_trans}
 use Rattle.slab_laws.specs.declared.names.DartId.{DartId}
 use Rattle.slab_laws.specs.Darts.{Dart, ahead}
-use Rattle.slab_laws.specs.Skeleton.{precedes, under}
+use Rattle.slab_laws.specs.Skeleton.{inside}
 use Rattle.slab_laws.specs.Sound.{skeleton_of, edge_in, IsGraphSound}
-use Rattle.slab_laws.specs.View.{View, HasDart, point_in, source_in, target_in}
-use Rattle.slab_faces.proofs.InnerPoints.{before_out}
-use Rattle.sound_views.proofs.ForwardDarts.{target_has}
-use Rattle.sound_views.proofs.GraphDrawn.{between_forward}
-use Rattle.sound_views.proofs.NamedDarts.{edge_known, names_are_darts}
+use Rattle.slab_laws.specs.View.{View, HasDart, twin_in}
+use Rattle.sound_views.proofs.EveryEdge.{by_first}
+use Rattle.sound_views.proofs.NamedDarts.{names_are_darts}
 use Rattle.face_changes.proofs.LinkedCycles.{dart_there}
 use Rattle.edges_below.specs.Above.{is_above}
-use Rattle.edges_below.specs.Highest.{IsSpanning}
 use Rattle.edges_below.specs.Levels.{IsSeen, level, levels_to, IsSeenAtMost}
 use Rattle.edges_below.proofs.Levels.{levels_tell_highest}
-use Rattle.face_location.specs.Below.{IsSeenDart, sees, IsSeenOrNone, edge_along, higher_of, IsHighestDart}
+use Rattle.face_location.specs.Below.{IsSeenDart, IsSeenOrNone, edge_along, higher_of, IsOffEdges}
+use Rattle.face_location.specs.Passing.{IsBelow, IsPast}
 
--- what the point sees of a forward dart's edge isn't above the highest so far
-abbrev pub IsLower : View → Point → Option DartId → DartId → Type 0
-IsLower v q o d = IsSeenDart v q d → level (skeleton_of v) q (edge_in v d) < levels_to (skeleton_of v) q (edge_along v o)
+-- an edge hasn't the point inside, and what the point sees of it isn't above the highest so far
+pub record IsCleared (v : View) (q : Point) (o : Option DartId) (e : Edge) : Type 0 where
+  pub outside : inside e q ≡ false
+  pub lower : IsSeen (skeleton_of v) q e → level (skeleton_of v) q e < levels_to (skeleton_of v) q (edge_along v o)
+
+-- the same of the edge of a dart that is the first of its edge
+abbrev pub IsFirstCleared : View → Point → Option DartId → DartId → Type 0
+IsFirstCleared v q o d = nat_lt d.0 (twin_in v d).0 ≡ true → IsCleared v q o (edge_in v d)
 
 -- the highest so far has a record
 pub there : (v : View) (q : Point) (o : Option DartId) → IsSeenOrNone v q o → IfSome o (HasDart v)
@@ -32,32 +35,6 @@ there v q None p = tt
 there v q (Some d) p = p.0.0
 
 module _ (v : View) (s : IsGraphSound v) (q : Point) (Q : IsProper q) where
-  -- ---- what a dart is told by
-  module _ (d : DartId) (has : HasDart v d) where
-    abbrev low : Point
-    low = point_in v (source_in v d)
-
-    abbrev high : Point
-    high = point_in v (target_in v d)
-
-    pub is_seen : true ≡ sees v d q → IsSeenDart v q d
-    is_seen h =
-        let a = and_parts (precedes (point_in v (source_in v d)) q && precedes q (point_in v (target_in v d))) (under (edge_in v d) q) (sym h) in
-        let b = and_parts (precedes (point_in v (source_in v d)) q) (precedes q (point_in v (target_in v d))) a.0 in
-        let f = lt_in (lt_trans (before_out low q (s.drawn.proper _ (s.linked.source d has)) Q b.0) (before_out q high Q (s.drawn.proper _ (target_has v s d has)) b.1)) in (
-          (has, f),
-          record {
-            in' = edge_known v d has;
-            spanning = subst (λ (e : Edge). IsSpanning e q) (sym (between_forward low high f)) (record { from = b.0; to = b.1 });
-            lies_under = a.1;
-          },
-        )
-
-    pub not_seen : false ≡ sees v d q → IsSeenDart v q d → ⊥
-    not_seen h k =
-        let c : IsSpanning (record { low = point_in v (source_in v d); high = point_in v (target_in v d) }) q = subst (λ (e : Edge). IsSpanning e q) (between_forward low high k.0.1) k.1.spanning in
-        false≢true (h ∙ and_from _ _ (and_from _ _ c.from c.to) k.1.lies_under)
-
   -- ---- the higher of the highest so far and one more
   module _ (d : DartId) (k : IsSeenDart v q d) where
     -- it is one that is seen, and its level is at least that of both
@@ -77,19 +54,35 @@ module _ (v : View) (s : IsGraphSound v) (q : Point) (Q : IsProper q) where
           subst (IsHigher (Some c)) (sym (ap (λ b. cond b d c) a)) (record { seen = p; from_best = omega arith; from_new = omega arith })
     ]
 
-    pub still_lower : (o : Option DartId) (r : DartId) → IsHigher o r → (e : DartId) → IsLower v q o e → IsLower v q (Some r) e
-    still_lower o r h e l x = let a = l x in let b = h.from_best in omega arith
+    pub still_cleared : (o : Option DartId) (r : DartId) → IsHigher o r → (e : Edge) → IsCleared v q o e → IsCleared v q (Some r) e
+    still_cleared o r h e c = record { outside = c.outside; lower = λ x. let a = c.lower x in let b = h.from_best in omega arith }
+
+    -- d is the forward dart of the edge that is looked at
+    pub now_cleared : (o : Option DartId) (r x : DartId) → IsHigher o r → IsBelow v q x d → IsCleared v q (Some r) (edge_in v x)
+    now_cleared o r x h b =
+        subst (IsCleared v q (Some r)) b.along
+        (record { outside = ap (λ (e : Edge). inside e q) b.along ∙ b.outside; lower = λ z. let a = h.from_new in omega arith })
+
+  pub past_cleared : (o : Option DartId) (x : DartId) → IsPast v q x → IsCleared v q o (edge_in v x)
+  past_cleared o x p = record { outside = p.outside; lower = λ z. absurd (p.unseen z) }
 
   -- ---- what no other is above is the highest
-  pub all_lower : (o : Option DartId) → IsSeenOrNone v q o → ((d : DartId) → HasDart v d → IsLower v q o d) → IsHighestDart v q o
-  all_lower o p all = record {
-    seen = p;
-    highest = levels_tell_highest.highest (skeleton_of v) q (edge_along v o) s.plane Q.positive (at_most o p) (λ f F.
-        let d = names_are_darts.there v (ahead f) s (dart_there (skeleton_of v) (ahead f) F.in') in
-        let e : edge_in v d.0 ≡ f = ap (λ (x : Dart). x.edge) d.2 in
-        subst (λ (x : Edge). level (skeleton_of v) q x < levels_to (skeleton_of v) q (edge_along v o)) e (all d.0 d.1 ((d.1, ap (λ (x : Dart). x.forward) d.2), subst (IsSeen (skeleton_of v) q) (sym e) F)));
-  }
-    where
-      at_most : (o : Option DartId) → IsSeenOrNone v q o → IsSeenAtMost (skeleton_of v) q (edge_along v o)
-      at_most None p = tt
-      at_most (Some d) p = p.1
+  module _ (o : Option DartId) (p : IsSeenOrNone v q o) (all : (d : DartId) → HasDart v d → IsFirstCleared v q o d) where
+    cleared : (d : DartId) → HasDart v d → IsCleared v q o (edge_in v d)
+    cleared d has = by_first v s (λ (e : Edge) (l : Line). IsCleared v q o e) all d has
+
+    at_most : (o : Option DartId) → IsSeenOrNone v q o → IsSeenAtMost (skeleton_of v) q (edge_along v o)
+    at_most None p = tt
+    at_most (Some d) p = p.1
+
+    pub off_edges : IsOffEdges v q o
+    off_edges = record {
+      off = λ d has. (cleared d has).outside;
+      highest = record {
+        seen = p;
+        highest = levels_tell_highest.highest (skeleton_of v) q (edge_along v o) s.plane Q.positive (at_most o p) (λ f F.
+            let d = names_are_darts.there v (ahead f) s (dart_there (skeleton_of v) (ahead f) F.in') in
+            let e : edge_in v d.0 ≡ f = ap (λ (x : Dart). x.edge) d.2 in
+            subst (λ (x : Edge). level (skeleton_of v) q x < levels_to (skeleton_of v) q (edge_along v o)) e ((cleared d.0 d.1).lower (subst (IsSeen (skeleton_of v) q) (sym e) F)));
+      };
+    }

@@ -1,32 +1,21 @@
-ghost use Rattle.std.specs.Prelude.{◌≡◌, ◌&&◌, IfSome};
-ghost use Rattle.slab_laws.specs.Skeleton.{precedes as comes_before};
+ghost use Rattle.std.specs.Prelude.{◌≡◌, IfSome};
 ghost use Rattle.slab_laws.specs.Sound.{IsGraphSound};
 ghost use Rattle.slab_laws.specs.View.{HasDart};
-ghost use Rattle.face_location.specs.Below.{IsHighestDart, sees, higher_of};
+ghost use Rattle.face_location.specs.Below.{IsEdgeFound, higher_of};
 
-use edge_predicates::{is_under, precedes};
+use crate::passing::{Passing, passing_of};
 use edges_below::is_above;
 use exact_plane::Point;
 use slab_laws::{DartId, Darts};
-use sound_views::span_of;
+use sound_views::{is_first, span_of};
 
-// Whether a point comes after one and before another.
-fn is_between(low: &Point, point: &Point, high: &Point) -> bool
-    ensures { result ≡ (comes_before low.now point.now && comes_before point.now high.now) }
-{
-    precedes(low, point) && precedes(point, high)
-}
-
-// Whether the point sees the dart's edge below it, and the dart goes forward along it. Its ends are compared first, which rules
-// out nearly all edges, and each dart that goes backward; the side of the line is told for the others.
-fn is_seen<R: Darts>(records: &R, dart: DartId, point: &Point) -> bool
-    requires sound { IsGraphSound (R.graph records.now) }
-    requires dart { HasDart (R.graph records.now) dart }
-    ensures { result ≡ sees (R.graph records.now) dart point.now }
-{
-    let source = records.point(records.source(dart));
-    let target = records.point(records.target(dart));
-    is_between(&source, point, &target) && is_under(&span_of(records, dart), point)
+/// What a look at all edges finds for a point; an edge is told by its dart from the lower to the upper end.
+#[derive(Clone, Copy, PartialEq, Eq)]
+pub enum EdgeFound {
+    /// The edge that has the point inside.
+    Through(DartId),
+    /// No edge has it inside; the highest one below it, if one is below it.
+    Below(Option<DartId>),
 }
 
 // The higher of the highest edge so far and one more.
@@ -48,20 +37,24 @@ fn higher<R: Darts>(records: &R, highest: Option<DartId>, dart: DartId) -> DartI
     }
 }
 
-/// The forward dart of the highest edge below a point that lies anywhere; `None` where no edge is below it (Fogel, Halperin and
-/// Wein: vertical ray shooting). It looks at all darts, and takes no memory.
-pub fn highest_below<R: Darts>(records: &R, point: &Point) -> Option<DartId>
+/// The edge that has a point inside, or else the highest one below it (Fogel, Halperin and Wein: vertical ray shooting). It looks
+/// at each edge once, by the first of its two darts, and takes no memory.
+pub fn edge_at_or_below<R: Darts>(records: &R, point: &Point) -> EdgeFound
     requires { IsGraphSound (R.graph records.now) }
-    ensures { IsHighestDart (R.graph records.now) point.now result }
+    ensures { IsEdgeFound (R.graph records.now) point.now result }
 {
     point.laws();
     let mut highest = None;
     let mut last = None;
     while let Some(dart) = records.dart_after(last) {
-        if is_seen(records, dart, point) {
-            highest = Some(higher(records, highest, dart));
+        if is_first(records, dart) {
+            match passing_of(records, dart, point) {
+                Passing::Through(forward) => return EdgeFound::Through(forward),
+                Passing::Below(forward) => highest = Some(higher(records, highest, forward)),
+                Passing::Apart => {}
+            }
         }
         last = Some(dart);
     }
-    highest
+    EdgeFound::Below(highest)
 }

@@ -1,5 +1,5 @@
-//! The face in which a point lies, by its name in the records, from a look at all edges for the highest one below the point
-//! (Fogel, Halperin and Wein: vertical ray shooting).
+//! The face in which a point lies, by its name in the records, from one look at all edges: for the one that has the point inside,
+//! or else for the highest one below it (Fogel, Halperin and Wein: vertical ray shooting).
 //!
 //! The point looks along the vertical line through it, leant by less than any number, so that vertical edges and vertices
 //! below the point are no special case.
@@ -7,6 +7,7 @@
 
 mod below;
 mod face;
+mod passing;
 
-pub use below::highest_below;
-pub use face::face_at;
+pub use below::{EdgeFound, edge_at_or_below};
+pub use face::{face_at, face_over};

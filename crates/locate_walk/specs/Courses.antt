@@ -1,7 +1,10 @@
 -- How an edge lies to the vertical through a point.
-use Rattle.std.specs.Prelude.{◌≡◌, true, false, Bool, ◌&&◌, ◌||◌}
+use Rattle.std.specs.Prelude.{◌≡◌, true, false, Bool, ◌&&◌, ◌||◌, Option, MatchOption}
 use Rattle.exact_plane.specs.Point.{Point}
-use Rattle.slab_laws.specs.Skeleton.{left_of, on_wall}
+use Rattle.slab_laws.specs.declared.names.DartId.{DartId}
+use Rattle.slab_laws.specs.Skeleton.{inside, left_of, on_wall}
+use Rattle.slab_laws.specs.Sound.{edge_in, dart_in}
+use Rattle.slab_laws.specs.View.{View, HasDart}
 use Rattle.locate_walk.specs.declared.course.Course.{Course}
 use Rattle.locate_walk.specs.declared.course.Course.TheVariants.{Along, Across, Apart}
 
@@ -18,3 +21,9 @@ abbrev pub IsCourse : Point → Point → Point → Course → Type 0
 IsCourse s p t Along = are_on_wall s p t ≡ true
 IsCourse s p t Across = are_on_both_sides s p t ≡ true
 IsCourse s p t Apart = (are_on_wall s p t ≡ false) × (are_on_both_sides s p t ≡ false)
+
+-- the forward dart of an edge that has the point inside, or none where no edge has (CGAL manual, point location)
+abbrev pub IsEdgeThrough : View → Point → Option DartId → Type 0
+IsEdgeThrough v p found =
+    MatchOption found ((d : DartId) → HasDart v d → inside (edge_in v d) p ≡ false)
+    (λ d. HasDart v d × ((dart_in v d).forward ≡ true) × (inside (edge_in v d) p ≡ true))

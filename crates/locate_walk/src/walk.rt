@@ -3,12 +3,15 @@ ghost use Rattle.plane_graphs.specs.Line.{IsProper};
 ghost use Rattle.slab_laws.specs.Skeleton.{inside};
 ghost use Rattle.slab_laws.specs.Sound.{IsGraphSound, edge_in};
 ghost use Rattle.slab_laws.specs.View.{HasDart, twin_in};
-ghost use Rattle.dcel_records.specs.Spots.{IsSpotOf};
-ghost use Rattle.locate_naive.specs.Found.{IsEdgeThrough};
+ghost use Rattle.dcel_records.specs.RecordsView.{tables_of};
+ghost use Rattle.dcel_records.specs.SoundMaps.{IsSoundMap};
+ghost use Rattle.face_location.specs.Spots.{IsSpotOf};
+ghost use Rattle.locate_walk.specs.Courses.{IsEdgeThrough};
 
 use crate::course::{Course, course_of, is_between_ordinates};
 use dcel_records::{Records, Spot};
 use exact_plane::Point;
+use face_location::face_at;
 use locate_naive::vertex_at;
 use slab_laws::{DartId, Darts};
 use sound_views::{forward_dart, is_first};
@@ -56,24 +59,25 @@ fn edge_met_at(records: &Records, point: &Point) -> Option<DartId>
     None
 }
 
-/// Where a point lies: the vertex at it, else the edge that has it inside, else a face (CGAL manual,
+/// Where a point lies: the vertex at it, else the edge that has it inside, else the face that it lies in (CGAL manual,
 /// `Arr_walk_along_line_point_location`).
 ///
 /// It asks what the vertical through the point meets: vertices on it, edges along it, and edges across it. An edge is told
 /// by the abscissas of its ends first, and the side of its line is computed only for edges across the vertical. It takes no
 /// memory, and stops at the first thing that it meets at the point itself.
 ///
-/// No boundary of a face is kept in the records along which the walk could go on from edge to edge. So each vertex, then each
-/// edge, is asked whether the vertical meets it, and the walk differs from `locate_naive` by the order of its tests alone.
+/// It doesn't go on from edge to edge along the boundaries of faces yet. So each vertex, then each edge, is asked whether the
+/// vertical meets it, and the face of a point that is on none comes from a second look at all edges. The walk differs from
+/// `locate_naive` by the order of its tests alone.
 pub fn locate(records: &Records, point: &Point) -> Spot
-    requires { IsGraphSound records.now.graph }
-    ensures { IsSpotOf records.now.graph point.now result }
+    requires { IsSoundMap records.now }
+    ensures { IsSpotOf records.now.graph (tables_of records.now) point.now result }
 {
     if let Some(vertex) = vertex_at(records, point) {
         return Spot::Vertex(vertex);
     }
     match edge_met_at(records, point) {
         Some(dart) => Spot::Edge(dart),
-        None => Spot::Face,
+        None => Spot::Face(face_at(records, point)),
     }
 }

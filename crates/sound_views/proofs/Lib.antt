@@ -19,3 +19,5 @@ pub mod NamedDarts
 pub mod NamesOrdered
 pub mod IsolatedVertices
 pub mod ForwardDarts
+pub mod NamesMet
+pub mod EveryEdge

@@ -10,7 +10,7 @@ use Rattle.slab_laws.specs.declared.names.DartId.{DartId}
 use Rattle.slab_laws.specs.Skeleton.{inside}
 use Rattle.slab_laws.specs.Sound.{IsGraphSound, edge_in}
 use Rattle.slab_laws.specs.View.{View, HasDart, twin_in, line_in}
-use Rattle.locate_naive.proofs.Spans.{by_first}
+use Rattle.sound_views.proofs.EveryEdge.{by_first}
 use Rattle.sound_views.specs.ForwardDarts.{IsForwardOf}
 use Rattle.zone_walk.specs.Found.{MeetsInside}
 use Rattle.zone_walk.specs.Zone.{is_on_segment}

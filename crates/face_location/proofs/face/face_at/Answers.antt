@@ -1,31 +1,9 @@
-use Rattle.std.proofs.Common.{sym, ap, ◌∙◌, subst}
-use Rattle.plane_graphs.proofs.Lines.{point_is_proper}
-use Rattle.slab_laws.specs.declared.names.FaceId.{FaceId}
-use Rattle.slab_laws.specs.View.{HasCycle, HasFace, cycle_in, face_in}
-use Rattle.dcel_records.specs.RecordsView.{tables_of}
-use Rattle.face_steps.specs.VertexSteps.{IsFaceRound}
-use Rattle.face_location.proofs.PointFaces.{first_is_least, over_dart, far_outside}
+use Rattle.std.proofs.Common.{subst}
+use Rattle.plane_graphs.proofs.Lists.{clash}
+use Rattle.face_location.specs.Below.{IsEdgeFound}
 use Rattle.face_location.proofs.face.face_at.Goals as goal
 
-pub face-requires : goal.face-requires
-face-requires c = subst (HasCycle (tables_of c.args.records.now)) (sym c.cycle.ensures) (c.requires.map.sound.complete.cycle_has c.in-Some.dart c.in-Some.ensures.seen.0.0)
-
-pub returns-in-Some-clause-face : goal.returns-in-Some-clause-face
-returns-in-Some-clause-face c =
-    let v = c.args.records.now.graph in
-    let f = tables_of c.args.records.now in
-    subst (λ (a : FaceId). IsFaceRound v f a c.args.point.now) (sym (c.face.ensures ∙ ap (face_in f) c.cycle.ensures))
-    (over_dart v f c.args.point.now c.requires.map.sound.graph (point_is_proper c.args.point.now c.laws.ensures) c.requires.spot c.in-Some.dart c.in-Some.ensures)
-
-pub returns-in-Some-clause-has : goal.returns-in-Some-clause-has
-returns-in-Some-clause-has c =
-    let f = tables_of c.args.records.now in
-    let full = c.requires.map.sound.complete in
-    subst (HasFace f) (sym (c.face.ensures ∙ ap (face_in f) c.cycle.ensures)) (full.face_has (cycle_in f c.in-Some.dart) (full.cycle_has c.in-Some.dart c.in-Some.ensures.seen.0.0))
-
-pub returns-in-None-clause-face : goal.returns-in-None-clause-face
-returns-in-None-clause-face c =
-    let v = c.args.records.now.graph in
-    let f = tables_of c.args.records.now in
-    far_outside v f c.args.point.now c.requires.map.sound.graph (point_is_proper c.args.point.now c.laws.ensures) c.requires.spot
-    (first_is_least f.faces c.face_laws.ensures.faces_ascend c.face_laws.ensures.unbounded) c.in-None.ensures
+pub unreachable-requires : goal.unreachable-requires
+unreachable-requires c =
+    let m = subst (IsEdgeFound c.args.records.now.graph c.args.point.now) c.in-Through.is c.edge_at_or_below.ensures in
+    clash m.2 (c.requires.spot.no_edge c.in-Through.field-0 m.0)

@@ -1,6 +1,6 @@
 use Rattle.std.proofs.Common.{◌≢◌, sym, ◌∙◌}
 use Rattle.slab_laws.specs.View.{point_in}
-use Rattle.locate_naive.proofs.Names.{no_vertex_yet, vertex_has, one_vertex_more, fewer_vertices, all_vertices}
+use Rattle.sound_views.proofs.NamesMet.{no_vertex_yet, vertex_has, one_vertex_more, fewer_vertices, all_vertices}
 use Rattle.rotation_order.proofs.Points.{told_same, told_other}
 use Rattle.locate_naive.proofs.naive.vertex_at.Goals as goal
 

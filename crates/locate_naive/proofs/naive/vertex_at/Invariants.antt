@@ -1,6 +1,6 @@
 use Rattle.std.proofs.Common.{◌≢◌, length}
 use Rattle.slab_laws.specs.View.{point_in}
-use Rattle.locate_naive.proofs.Names.{AllVertices, vertices_left}
+use Rattle.sound_views.proofs.NamesMet.{AllVertices, vertices_left}
 use Rattle.locate_naive.proofs.naive.vertex_at.Given as goal
 
 abbrev pub invariant-loop-vertex : goal.invariant-loop-vertex

@@ -6,8 +6,8 @@ use Rattle.plane_graphs.proofs.Lines.{point_is_proper}
 use Rattle.slab_laws.specs.Skeleton.{inside}
 use Rattle.slab_laws.specs.Sound.{edge_in}
 use Rattle.slab_laws.specs.View.{twin_in}
-use Rattle.locate_naive.proofs.Names.{no_dart_yet, dart_has, one_dart_more, fewer_darts, all_darts}
-use Rattle.locate_naive.proofs.Spans.{by_first}
+use Rattle.sound_views.proofs.NamesMet.{no_dart_yet, dart_has, one_dart_more, fewer_darts, all_darts}
+use Rattle.sound_views.proofs.EveryEdge.{by_first}
 use Rattle.locate_walk.proofs.walk.edge_met_at.Goals as goal
 
 -- of two that aren't both true the second is false, where the first is true

@@ -3,7 +3,7 @@ use Rattle.std.specs.Prelude.{nat_lt}
 use Rattle.slab_laws.specs.Skeleton.{inside}
 use Rattle.slab_laws.specs.View.{twin_in}
 use Rattle.slab_laws.specs.Sound.{edge_in}
-use Rattle.locate_naive.proofs.Names.{AllDarts, darts_left}
+use Rattle.sound_views.proofs.NamesMet.{AllDarts, darts_left}
 use Rattle.locate_walk.proofs.walk.edge_met_at.Given as goal
 
 abbrev pub invariant-loop-dart : goal.invariant-loop-dart

@@ -1,7 +1,7 @@
 use Rattle.std.proofs.Common.{sym, ◌∙◌}
 use Rattle.std.specs.Map.{keys_of}
 use Rattle.plane_graphs.specs.Ascending.{Member}
-use Rattle.locate_naive.proofs.Names.{no_dart_yet, dart_has, one_dart_more, fewer_darts, darts_still, all_darts}
+use Rattle.sound_views.proofs.NamesMet.{no_dart_yet, dart_has, one_dart_more, fewer_darts, darts_still, all_darts}
 use Rattle.zone_walk.specs.Found.{ends_of, TakesDart}
 use Rattle.zone_walk.proofs.BothWays.{every_edge}
 use Rattle.zone_walk.proofs.Collected.{dart_still}

@@ -1,5 +1,5 @@
 use Rattle.std.proofs.Common.{length}
-use Rattle.locate_naive.proofs.Names.{AllDarts, darts_left}
+use Rattle.sound_views.proofs.NamesMet.{AllDarts, darts_left}
 use Rattle.zone_walk.specs.Found.{ends_of, TakesDart, AreFound, AreKept}
 use Rattle.zone_walk.proofs.meetings.add_inner_points.Given as goal
 

@@ -1,5 +1,5 @@
 use Rattle.std.proofs.Common.{sym, ◌∙◌}
-use Rattle.locate_naive.proofs.Names.{no_vertex_yet, vertex_has, one_vertex_more, fewer_vertices, vertices_still, all_vertices}
+use Rattle.sound_views.proofs.NamesMet.{no_vertex_yet, vertex_has, one_vertex_more, fewer_vertices, vertices_still, all_vertices}
 use Rattle.zone_walk.specs.Found.{ends_of, TakesVertex}
 use Rattle.zone_walk.proofs.Collected.{vertex_still}
 use Rattle.zone_walk.proofs.meetings.add_vertices.Goals as goal

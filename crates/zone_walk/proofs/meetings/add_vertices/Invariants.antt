@@ -1,5 +1,5 @@
 use Rattle.std.proofs.Common.{length}
-use Rattle.locate_naive.proofs.Names.{AllVertices, vertices_left}
+use Rattle.sound_views.proofs.NamesMet.{AllVertices, vertices_left}
 use Rattle.zone_walk.specs.Found.{ends_of, TakesVertex, AreFound}
 use Rattle.zone_walk.proofs.meetings.add_vertices.Given as goal
 

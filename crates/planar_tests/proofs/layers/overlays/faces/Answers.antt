@@ -1,5 +1,5 @@
 use Rattle.std.proofs.Common.{Some}
-use Rattle.locate_naive.proofs.Names.{dart_has}
+use Rattle.sound_views.proofs.NamesMet.{dart_has}
 use Rattle.plain_slabs.specs.OverlayInMemory.{graph_of}
 use Rattle.planar_tests.proofs.layers.overlays.faces.Goals as goal
 

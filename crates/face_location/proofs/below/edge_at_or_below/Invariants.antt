@@ -1,13 +1,13 @@
 use Rattle.std.proofs.Common.{length}
-use Rattle.locate_naive.proofs.Names.{AllDarts, darts_left}
+use Rattle.sound_views.proofs.NamesMet.{AllDarts, darts_left}
 use Rattle.face_location.specs.Below.{IsSeenOrNone}
-use Rattle.face_location.proofs.SeenDarts.{IsLower}
-use Rattle.face_location.proofs.below.highest_below.Given as goal
+use Rattle.face_location.proofs.SeenDarts.{IsFirstCleared}
+use Rattle.face_location.proofs.below.edge_at_or_below.Given as goal
 
 abbrev pub invariant-loop-dart : goal.invariant-loop-dart
 invariant-loop-dart g l = record {
   seen : IsSeenOrNone (g.R.Darts.graph l.records) l.point l.highest;
-  lower : AllDarts (g.R.Darts.graph l.records) (IsLower (g.R.Darts.graph l.records) l.point l.highest) l.last;
+  cleared : AllDarts (g.R.Darts.graph l.records) (IsFirstCleared (g.R.Darts.graph l.records) l.point l.highest) l.last;
 }
 
 abbrev pub decreases-loop-dart : goal.decreases-loop-dart
