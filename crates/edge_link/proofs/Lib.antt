@@ -9,4 +9,3 @@ pub mod NewHole
 pub mod Joined
 pub mod SplitMaps
 pub mod FaceSplit
-pub mod ToldLinks

@@ -1,6 +1,5 @@
 -- Where a link may be made, its edge fits, and the view with it is sound.
-use Rattle.std.proofs.Common.{◌≡◌, ◌≢◌, ◌⊎◌, inl, inr, ◌==◌, true, false, Option, Some, None, option_map, refl, sym, ap, subst, ◌∙◌}
-use Rattle.std.proofs.lemmas.Bool.{cases_eq, false≢true}
+use Rattle.std.proofs.Common.{◌≡◌, ◌≢◌, Option, Some, None, option_map, refl, sym, subst, ◌∙◌}
 use Rattle.exact_plane.specs.Line.{Line, IsLine}
 use Rattle.exact_plane.proofs.Meetings.{runs}
 use Rattle.plane_graphs.specs.Line.{IsProperLine}
@@ -9,14 +8,13 @@ use Rattle.slab_laws.specs.declared.names.VertexId.{VertexId}
 use Rattle.slab_laws.specs.Darts.{Dart}
 use Rattle.slab_laws.specs.Skeleton.{IsPlaneSkeleton}
 use Rattle.slab_laws.specs.Sound.{skeleton_of, IsTwinned, IsGraphSound}
-use Rattle.slab_laws.specs.View.{View, HasDart, vertex_id, twin_in, source_in}
+use Rattle.slab_laws.specs.View.{View, HasDart, twin_in}
 use Rattle.arr_notes.specs.Step.{add_edge}
 use Rattle.sound_changes.specs.EdgePlaces.{IsPlaceFor, FitsAddedEdge}
 use Rattle.sound_changes.proofs.EdgeAdded.{more, added}
 use Rattle.sound_changes.proofs.EdgeDrawn.{drawn_more}
 use Rattle.sound_changes.proofs.FreshNames.{fresh}
 use Rattle.edge_link.specs.Links.{CanLink, AreKnown, with_edge_between}
-use Rattle.integers.proofs.Tests.{other_number, same_number}
 
 -- ---- lines
 
@@ -62,27 +60,3 @@ behind_known v (Some c) b t k q e h =
     let both : Some (twin_in v c) ≡ Some e = sym q ∙ h in
     let same : twin_in v c ≡ e = cc in
     subst (HasDart v) same (t.has c (k c refl))
-
--- ---- names compared
-pub one_vertex : (u w : VertexId) → (u.0 == w.0) ≡ true → u ≡ w
-one_vertex u w e = elim (cases_eq u.0 w.0) [
-  | inl q ↦ ap vertex_id q
-  | inr ne ↦ absurd (false≢true (sym (other_number u.0 w.0 ne) ∙ e))
-]
-
-pub two_vertices : (u w : VertexId) → (u.0 == w.0) ≡ false → u ≢ w
-two_vertices u w e q = false≢true (sym e ∙ ap (λ x. x.0 == w.0) q ∙ same_number w.0)
-
--- ---- which of both ends is bare
-module _ (v : View) (u w : VertexId) (b : DartId) (l : Line) where
-  pub at_known : CanLink v u w (Some b) None l ⊎ CanLink v u w None (Some b) l → HasDart v b
-  at_known (inl f) = f.place_at_start.0.0
-  at_known (inr f) = f.place_at_end.0.0
-
-  pub at_first : CanLink v u w (Some b) None l ⊎ CanLink v u w None (Some b) l → source_in v b ≡ u → CanLink v u w (Some b) None l
-  at_first (inl f) e = f
-  at_first (inr f) e = absurd (f.two_ends (sym e ∙ f.place_at_end.0.1))
-
-  pub at_second : CanLink v u w (Some b) None l ⊎ CanLink v u w None (Some b) l → source_in v b ≢ u → CanLink v u w None (Some b) l
-  at_second (inl f) e = absurd (e f.place_at_start.0.1)
-  at_second (inr f) e = f

@@ -3,4 +3,3 @@ pub mod Written
 pub mod Meeting
 pub mod Removed
 pub mod PartsInCycles
-pub mod ToldParts

@@ -5,4 +5,3 @@ pub mod TwoParts
 pub mod BrokenMaps
 pub mod Emptied
 pub mod UnitedMaps
-pub mod ToldUnlinks

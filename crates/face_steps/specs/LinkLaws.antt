@@ -1,4 +1,4 @@
--- What a note has to say of cycles and faces where an edge comes or goes, by the records before it.
+-- What a change has to say of cycles and faces where an edge comes or goes, by the records before it.
 use Rattle.std.specs.Prelude.{◌≡◌, ◌≢◌, ◌⊎◌, false, Option, Some, None}
 use Rattle.exact_plane.specs.Line.{Line}
 use Rattle.slab_laws.specs.declared.names.DartId.{DartId}

@@ -66,10 +66,10 @@ fn count(left: &mut Option<u64>) -> Answer
 }
 
 // What is held after a change.
-fn changed(alloc: Global, held: Option<Tables>, change: Change) -> Result<Option<Tables>, NoMemory>
+fn changed(alloc: Global, held: Option<Tables>, change: &Change) -> Result<Option<Tables>, NoMemory>
     requires standing { IsStanding held }
-    requires fits { FitsHeld (held_in held) change }
-    ensures held { IfOk result (λ t. held_in t ≡ changed_held (held_in held) change) }
+    requires fits { FitsHeld (held_in held) change.now }
+    ensures held { IfOk result (λ t. held_in t ≡ changed_held (held_in held) change.now) }
     ensures standing { IfOk result IsStanding }
 {
     match held {
@@ -106,7 +106,7 @@ impl Observer for Mirror {
             Note::After(change) => match count(&mut self.left) {
                 Answer::Stay => {
                     let held = self.tables.take();
-                    match changed(self.alloc, held, *change) {
+                    match changed(self.alloc, held, change) {
                         Ok(tables) => {
                             self.tables = tables;
                             Answer::Stay

@@ -10,6 +10,7 @@ use Rattle.plane_graphs.specs.Ascending.{place}
 use Rattle.plane_graphs.specs.Graph.{same_curve}
 use Rattle.slab_laws.specs.declared.names.CurveId.{CurveId}
 use Rattle.slab_laws.specs.declared.names.DartId.{DartId}
+use Rattle.slab_laws.specs.declared.names.FaceId.{FaceId}
 use Rattle.slab_laws.specs.declared.names.VertexId.{VertexId}
 use Rattle.slab_laws.specs.Tables.{row_at, names, NamesAscend}
 use Rattle.slab_laws.specs.View.{View, DartRecord, HasDart, next_or, next_in}
@@ -18,6 +19,8 @@ use Rattle.arr_notes.specs.NamedRows.{put, del, edit}
 use Rattle.arr_notes.specs.Step.{led}
 use Rattle.arr_notes.specs.ViewChanges.{pinned_as}
 use Rattle.arr_notes.specs.declared.change.Change.TheVariants.{AddVertex, RemoveVertex, SplitEdge, MergeEdge, AddEdge, RemoveEdge, AddCurve, RemoveCurve, SetPin, ClearPin, Clear}
+use Rattle.arr_notes.specs.declared.faces.Linked.{Linked}
+use Rattle.arr_notes.specs.declared.faces.Unlinked.{Unlinked}
 use Rattle.mirror_tables.specs.declared.tables.Tables.{Tables}
 use Rattle.mirror_tables.specs.Tables.{rows, vertex_of, dart_of, numbers_in, darts_of, with_pinned, linked, unlinked, parted, merged}
 use Rattle.mirror_tables.specs.Standing.{IsBackLinked, view_in, AreStanding, AreToChange, HaveChanged}
@@ -37,8 +40,8 @@ pub tables_named : (t : Tables) → AreStanding t → NamesAscend (names t.darts
 tables_named t s = ascend_rows dart_of t.darts.entries s.sound.graph.named.darts
 
 -- the twin of a dart doesn't follow itself
-pub twin_apart : (t : Tables) (d m : DartId) → AreToChange t (RemoveEdge d m) → next_in (darts_of t.darts.entries) m ≢ m
-twin_apart t d m c = no_loop (view_in t).graph c.standing.sound.graph m (subst (λ z. HasDart (view_in t).graph z) (sym c.fits.1) (c.standing.sound.graph.twinned.has d c.fits.0))
+pub twin_apart : (t : Tables) (d m : DartId) (faces : Unlinked) → AreToChange t (RemoveEdge d m faces) → next_in (darts_of t.darts.entries) m ≢ m
+twin_apart t d m faces c = no_loop (view_in t).graph c.standing.sound.graph m (subst (λ z. HasDart (view_in t).graph z) (sym c.fits.1) (c.standing.sound.graph.twinned.has d c.fits.0))
 
 led_vertices : (v h : View) (o : Option DartId) (x : DartId) → (led v o x h).vertices ≡ h.vertices
 led_vertices v h None x = refl
@@ -55,9 +58,9 @@ module _ (t u : Tables) where
     rows_kept : rows dart_of u.darts.entries ≡ rows dart_of t.darts.entries
     rows_kept = ap (rows dart_of) same
 
-    pub vertex_added : (w : VertexId) (p : Point) → AreToChange t (AddVertex w p) → u.vertices.entries ≡ put w.0 (record { point = p; pinned = false }) t.vertices.entries → u.curves.entries ≡ t.curves.entries → HaveChanged t (AddVertex w p) u
-    vertex_added w p c a e = record {
-      view = view_is (step_view (view_in t) (AddVertex w p)) (ap (rows vertex_of) a ∙ rows_put vertex_of w.0 _ t.vertices.entries) rows_kept (ap (rows numbers_in) e);
+    pub vertex_added : (w : VertexId) (p : Point) (face : FaceId) → AreToChange t (AddVertex w p face) → u.vertices.entries ≡ put w.0 (record { point = p; pinned = false }) t.vertices.entries → u.curves.entries ≡ t.curves.entries → HaveChanged t (AddVertex w p face) u
+    vertex_added w p face c a e = record {
+      view = view_is (step_view (view_in t) (AddVertex w p face)) (ap (rows vertex_of) a ∙ rows_put vertex_of w.0 _ t.vertices.entries) rows_kept (ap (rows numbers_in) e);
       back = back_kept c.standing;
     }
 
@@ -94,21 +97,21 @@ module _ (t u : Tables) where
       back = back_kept c.standing;
     }
 
-  pub all_cleared : u.vertices.entries ≡ [] → u.darts.entries ≡ [] → u.curves.entries ≡ [] → HaveChanged t Clear u
-  all_cleared a b e = record {
-    view = view_is (step_view (view_in t) Clear) (ap (rows vertex_of) a) (ap (rows dart_of) b) (ap (rows numbers_in) e);
+  pub all_cleared : (face : FaceId) → u.vertices.entries ≡ [] → u.darts.entries ≡ [] → u.curves.entries ≡ [] → HaveChanged t (Clear face) u
+  all_cleared face a b e = record {
+    view = view_is (step_view (view_in t) (Clear face)) (ap (rows vertex_of) a) (ap (rows dart_of) b) (ap (rows numbers_in) e);
     back = subst (λ ds. IsBackLinked ds) (sym b) nothing_back;
   }
 
   -- ---- changes of edges
-  pub edge_removed : (d m : DartId) → AreToChange t (RemoveEdge d m) → u.vertices.entries ≡ t.vertices.entries → u.darts.entries ≡ unlinked t.darts.entries d m → u.curves.entries ≡ del d.0 t.curves.entries → HaveChanged t (RemoveEdge d m) u
-  edge_removed d m c a b e =
+  pub edge_removed : (d m : DartId) (faces : Unlinked) → AreToChange t (RemoveEdge d m faces) → u.vertices.entries ≡ t.vertices.entries → u.darts.entries ≡ unlinked t.darts.entries d m → u.curves.entries ≡ del d.0 t.curves.entries → HaveChanged t (RemoveEdge d m faces) u
+  edge_removed d m faces c a b e =
       let ds = t.darts.entries in
       let g : View = (view_in t).graph in
-      let r : rows dart_of (unlinked ds d m) ≡ (step_view (view_in t) (RemoveEdge d m)).graph.darts = unlinked_rows ds d m in
+      let r : rows dart_of (unlinked ds d m) ≡ (step_view (view_in t) (RemoveEdge d m faces)).graph.darts = unlinked_rows ds d m in
       let hm : HasDart g m = subst (λ z. HasDart g z) (sym c.fits.1) (c.standing.sound.graph.twinned.has d c.fits.0) in
       record {
-        view = view_is (step_view (view_in t) (RemoveEdge d m)) (ap (rows vertex_of) a) (ap (rows dart_of) b ∙ r) (ap (rows numbers_in) e ∙ rows_del numbers_in d.0 t.curves.entries);
+        view = view_is (step_view (view_in t) (RemoveEdge d m faces)) (ap (rows vertex_of) a) (ap (rows dart_of) b ∙ r) (ap (rows numbers_in) e ∙ rows_del numbers_in d.0 t.curves.entries);
         back = subst (λ xs. IsBackLinked xs) (sym b) (unlinked_back ds (tables_named t c.standing) c.standing.back d m c.fits.0 hm
             (λ q. c.standing.sound.graph.twinned.other d c.fits.0 (sym c.fits.1 ∙ sym q))
             (no_loop g c.standing.sound.graph m hm)
@@ -139,16 +142,16 @@ module _ (t u : Tables) where
             (subst (λ rs. AreClosed rs) (sym r) c.sound.graph.linked.has));
       }
 
-  pub edge_added : (d m : DartId) (v w : VertexId) (at_v at_w : Option DartId) (l : Line) (k : CurveId) → AreToChange t (AddEdge d m v w at_v at_w l k) → u.vertices.entries ≡ t.vertices.entries → u.darts.entries ≡ linked t.darts.entries d m v w at_v at_w l →
-      rows numbers_in u.curves.entries ≡ put d.0 (k.0 ∷ []) (rows numbers_in t.curves.entries) → HaveChanged t (AddEdge d m v w at_v at_w l k) u
-  edge_added d m v w at_v at_w l k c a b e =
+  pub edge_added : (d m : DartId) (v w : VertexId) (at_v at_w : Option DartId) (l : Line) (k : CurveId) (faces : Linked) → AreToChange t (AddEdge d m v w at_v at_w l k faces) → u.vertices.entries ≡ t.vertices.entries → u.darts.entries ≡ linked t.darts.entries d m v w at_v at_w l →
+      rows numbers_in u.curves.entries ≡ put d.0 (k.0 ∷ []) (rows numbers_in t.curves.entries) → HaveChanged t (AddEdge d m v w at_v at_w l k faces) u
+  edge_added d m v w at_v at_w l k faces c a b e =
       let ds = t.darts.entries in
       let g : View = (view_in t).graph in
       let s = c.standing.sound.graph in
-      let r : rows dart_of (linked ds d m v w at_v at_w l) ≡ (step_view (view_in t) (AddEdge d m v w at_v at_w l k)).graph.darts =
+      let r : rows dart_of (linked ds d m v w at_v at_w l) ≡ (step_view (view_in t) (AddEdge d m v w at_v at_w l k faces)).graph.darts =
       linked_rows (rows vertex_of t.vertices.entries) ds s.named.darts d m v w at_v at_w l c.fits.differ (led_not_first g s d m v at_v c.fits.differ c.fits.first c.fits.place_at_start) in
       record {
-        view = view_is (step_view (view_in t) (AddEdge d m v w at_v at_w l k)) (ap (rows vertex_of) a ∙ sym (led_vertices g _ at_w m ∙ led_vertices g _ at_v d)) (ap (rows dart_of) b ∙ r) e;
+        view = view_is (step_view (view_in t) (AddEdge d m v w at_v at_w l k faces)) (ap (rows vertex_of) a ∙ sym (led_vertices g _ at_w m ∙ led_vertices g _ at_v d)) (ap (rows dart_of) b ∙ r) e;
         back = subst (λ xs. IsBackLinked xs) (sym b) (linked_back ds (tables_named t c.standing) c.standing.back d m v w at_v at_w l c.fits.differ c.fits.first c.fits.second s.linked.has
             (end_of g s v at_v d m c.fits.place_at_start) (end_of g s w at_w m d c.fits.place_at_end)
             (ends_apart g s d m v w at_v at_w c.fits.two_ends c.fits.first c.fits.second c.fits.place_at_start c.fits.place_at_end)

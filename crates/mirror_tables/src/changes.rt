@@ -7,10 +7,10 @@ ghost use Rattle.arr_notes.specs.NamedRows.{edit};
 use crate::curves::{add_curve, along, lay, lift, remove_curve};
 use crate::links::{End, link, merge, part, unlink};
 use crate::tables::{Tables, VertexEntry};
-use arr_notes::Change;
+use arr_notes::{Change, Linked, Unlinked};
 use exact_plane::{Line, Point};
 use no_memory::NoMemory;
-use slab_laws::{CurveId, DartId, Sequence, VertexId};
+use slab_laws::{CurveId, DartId, FaceId, Sequence, VertexId};
 use std::alloc::Global;
 use std::collections::BTreeMap;
 
@@ -24,9 +24,9 @@ fn pin(vertices: &mut BTreeMap<usize, VertexEntry>, v: VertexId, pinned: bool)
 }
 
 impl Tables {
-    fn add_vertex(&mut self, v: VertexId, p: Point) -> Result<(), NoMemory>
-        requires { AreToChange self.old (AddVertex v p) }
-        ensures { OnOk result (HaveChanged self.old (AddVertex v p) self.new) }
+    fn add_vertex(&mut self, v: VertexId, p: Point, face: FaceId) -> Result<(), NoMemory>
+        requires { AreToChange self.old (AddVertex v p face) }
+        ensures { OnOk result (HaveChanged self.old (AddVertex v p face) self.new) }
     {
         let entry = VertexEntry {
             point: p,
@@ -98,9 +98,10 @@ impl Tables {
         finish: End,
         line: Line,
         curve: CurveId,
+        faces: &Linked,
     ) -> Result<(), NoMemory>
-        requires { AreToChange self.old (AddEdge d m start.vertex finish.vertex start.place finish.place line curve) }
-        ensures { OnOk result (HaveChanged self.old (AddEdge d m start.vertex finish.vertex start.place finish.place line curve) self.new) }
+        requires { AreToChange self.old (AddEdge d m start.vertex finish.vertex start.place finish.place line curve faces.now) }
+        ensures { OnOk result (HaveChanged self.old (AddEdge d m start.vertex finish.vertex start.place finish.place line curve faces.now) self.new) }
     {
         let mut curves = Sequence::new(alloc);
         curves.push(curve)?;
@@ -109,9 +110,9 @@ impl Tables {
         Ok(())
     }
 
-    fn remove_edge(&mut self, d: DartId, m: DartId)
-        requires { AreToChange self.old (RemoveEdge d m) }
-        ensures { HaveChanged self.old (RemoveEdge d m) self.new }
+    fn remove_edge(&mut self, d: DartId, m: DartId, faces: &Unlinked)
+        requires { AreToChange self.old (RemoveEdge d m faces.now) }
+        ensures { HaveChanged self.old (RemoveEdge d m faces.now) self.new }
     {
         unlink(&mut self.darts, d, m);
         lift(&mut self.curves, d);
@@ -133,8 +134,8 @@ impl Tables {
         Ok(())
     }
 
-    fn clear(&mut self)
-        ensures { HaveChanged self.old Clear self.new }
+    fn clear(&mut self, face: FaceId)
+        ensures { HaveChanged self.old (Clear face) self.new }
     {
         self.vertices.clear();
         self.darts.clear();
@@ -147,19 +148,19 @@ impl Tables {
     /// # Errors
     ///
     /// There was no memory for it; what the maps say then isn't told.
-    pub fn change(&mut self, alloc: Global, change: Change) -> Result<(), NoMemory>
-        requires { AreToChange self.old change }
-        ensures { OnOk result (HaveChanged self.old change self.new) }
+    pub fn change(&mut self, alloc: Global, change: &Change) -> Result<(), NoMemory>
+        requires { AreToChange self.old change.now }
+        ensures { OnOk result (HaveChanged self.old change.now self.new) }
     {
         match change {
-            Change::AddVertex { v, p } => self.add_vertex(v, p),
+            Change::AddVertex { v, p, face } => self.add_vertex(*v, *p, *face),
             Change::RemoveVertex { v } => {
-                self.remove_vertex(v);
+                self.remove_vertex(*v);
                 Ok(())
             }
-            Change::SplitEdge { d, v, p, n, m } => self.split_edge(alloc, d, v, p, n, m),
+            Change::SplitEdge { d, v, p, n, m } => self.split_edge(alloc, *d, *v, *p, *n, *m),
             Change::MergeEdge { v, d, n } => {
-                self.merge_edge(v, d, n);
+                self.merge_edge(*v, *d, *n);
                 Ok(())
             }
             Change::AddEdge {
@@ -171,33 +172,34 @@ impl Tables {
                 at_v,
                 line,
                 curve,
+                faces,
             } => {
                 let start = End {
-                    vertex: u,
-                    place: at_u,
+                    vertex: *u,
+                    place: *at_u,
                 };
                 let finish = End {
-                    vertex: v,
-                    place: at_v,
+                    vertex: *v,
+                    place: *at_v,
                 };
-                self.add_edge(alloc, d, m, start, finish, line, curve)
+                self.add_edge(alloc, *d, *m, start, finish, *line, *curve, faces)
             }
-            Change::RemoveEdge { d, m } => {
-                self.remove_edge(d, m);
+            Change::RemoveEdge { d, m, faces } => {
+                self.remove_edge(*d, *m, faces);
                 Ok(())
             }
-            Change::AddCurve { d, curve } => self.add_curve(alloc, d, curve),
-            Change::RemoveCurve { d, curve } => self.remove_curve(alloc, d, curve),
+            Change::AddCurve { d, curve } => self.add_curve(alloc, *d, *curve),
+            Change::RemoveCurve { d, curve } => self.remove_curve(alloc, *d, *curve),
             Change::SetPin { v } => {
-                self.set_pin(v);
+                self.set_pin(*v);
                 Ok(())
             }
             Change::ClearPin { v } => {
-                self.clear_pin(v);
+                self.clear_pin(*v);
                 Ok(())
             }
-            Change::Clear => {
-                self.clear();
+            Change::Clear { face } => {
+                self.clear(*face);
                 Ok(())
             }
         }

@@ -8,5 +8,5 @@ pub returns : goal.returns
 returns c =
     let s = c.args.start in
     let f = c.args.finish in
-    edge_added c.args.self.now _ c.args.d c.args.m s.vertex f.vertex s.place f.place c.args.line c.args.curve c.requires refl c.in_ok-link.ensures
+    edge_added c.args.self.now _ c.args.d c.args.m s.vertex f.vertex s.place f.place c.args.line c.args.curve c.args.faces.now c.requires refl c.in_ok-link.ensures
     (c.in_ok-lay.ensures ∙ ap (λ ks. put c.args.d.0 (numbers_in ks) (rows numbers_in c.args.self.now.curves.entries)) (c.in_ok-push.ensures.added ∙ ap (λ ks. ks ++ c.args.curve ∷ []) c.new-curves.ensures))
