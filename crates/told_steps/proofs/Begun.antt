@@ -5,18 +5,12 @@ use Rattle.slab_laws.specs.FacesSound.{IsSound}
 use Rattle.arr_notes.specs.Curves.{Curves}
 use Rattle.arr_notes.specs.MapView.{MapView}
 use Rattle.arr_notes.specs.RecordGraph.{drawn_graph}
-use Rattle.dcel_records.specs.RecordsView.{RecordsView, tables_of}
-use Rattle.dcel_records.specs.SoundMaps.{map_of}
 use Rattle.curve_history.specs.Past.{Past, SameCurves, curves_on}
 use Rattle.observer_bus.specs.Rounds.{BusRow}
 use Rattle.observer_bus.specs.Seats.{Holds, SeatRow}
 use Rattle.told_steps.proofs.Moved.{one_curves}
 use Rattle.told_steps.specs.RecordLayers.{IsLayer}
 use Rattle.told_steps.specs.ToldRuns.{AreInStep, IsToldRun, seen}
-
--- the whole map depends on the graph and the tables
-pub one_map : (new old : RecordsView) → new.graph ≡ old.graph → tables_of new ≡ tables_of old → map_of new ≡ map_of old
-one_map new old graph tables = λ i. record { graph = graph i; faces = tables i }
 
 -- the bus with these seats, when an edit begins
 abbrev opened : List SeatRow → BusRow

@@ -19,4 +19,3 @@ pub mod Begun
 pub mod MapsKept
 pub mod Restored
 pub mod Settled
-pub mod FirstKept

@@ -11,7 +11,7 @@ use Rattle.arr_notes.specs.declared.change.Change.{Change}
 use Rattle.arr_notes.specs.declared.note.Note.{Note}
 use Rattle.arr_notes.specs.declared.note.Note.TheVariants.{Before, After}
 use Rattle.face_changes.specs.FacesByPairs.{first_or}
-use Rattle.told_steps.proofs.FirstKept.{changes_keep_first}
+use Rattle.face_steps.proofs.ChangeNames.{changes_keep_first}
 use Rattle.observer_bus.proofs.Hearing.{rounds_lawful}
 use Rattle.observer_bus.specs.RoundLaws.{AreRounds}
 use Rattle.observer_bus.specs.Rounds.{AreInRound, BusRow}
@@ -38,7 +38,7 @@ sound m h b (e ∷ ss) w k c (x, o, p, q, one, two, r) s = sound (step_map m x) 
 first : (m : MapView) (h : Curves) (b : BusRow) (ss : List Step) (w : MapView) (k : Curves) (c : BusRow) → IsToldRun m h b ss w k c → IsSound m.graph m.faces → first_or w.faces.faces ≡ first_or m.faces.faces
 unfolding IsToldRun
 first m h b [] w k c r s = ap (λ (z : MapView). first_or z.faces.faces) r.0
-first m h b (e ∷ ss) w k c (x, o, p, q, one, two, r) s = first (step_map m x) (step_curves h x) q ss w k c r o.sound ∙ changes_keep_first m.graph h m.faces x s o.made.fits o.fits
+first m h b (e ∷ ss) w k c (x, o, p, q, one, two, r) s = first (step_map m x) (step_curves h x) q ss w k c r o.sound ∙ changes_keep_first m.graph m.faces x (record { sound = s; curves = h; fits = o.made.fits; noted = o.fits })
 
 same_curves : (m : MapView) (h g : Curves) (b : BusRow) (ss : List Step) (w : MapView) (k l : Curves) (c : BusRow) → ((d : DartId) → g d ≡ h d) → ((d : DartId) → l d ≡ k d) → IsToldRun m h b ss w k c → IsToldRun m g b ss w l c
 same_curves m h g b ss w k l c e f r = subst (λ z. IsToldRun m z b ss w l c) (sym (same e)) (subst (λ z. IsToldRun m h b ss w z c) (sym (same f)) r)

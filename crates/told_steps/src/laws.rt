@@ -12,8 +12,8 @@ pub fn layers_are_named()
     ensures { LayersAreNamed }
 {}
 
-/// Told steps are steps; they follow on each other; what observers hold stays the records' view; and a seated observer that stays
-/// has heard just their notes, in their order. This is a law: the body, being empty, computes nothing.
+/// Told steps are steps; they keep the whole map sound, with the first face name the first; they follow on each other; what observers
+/// hold stays the records' view; and a seated observer that stays has heard just their notes, in their order. This is a law: the body, being empty, computes nothing.
 pub fn told_runs_are_lawful()
     ensures { AreToldRunsLawful }
 {}

@@ -3,6 +3,9 @@
 //! Records and history that stand for a layer stand in `specs/RecordLayers.antt`, and what steps make of them in
 //! `specs/LayerSteps.antt`.
 //!
+//! What is told, and proved of it, covers vertices and darts with their cycles and faces. Where a change splits a face or unites two,
+//! it has the lists of what moves; once observers have been told it, the records get them back (`settle`).
+//!
 //! A run of told steps stands in `specs/ToldRuns.antt`; what is true of all runs in `specs/ToldLaws.antt`.
 #![tactic(auto)]
 

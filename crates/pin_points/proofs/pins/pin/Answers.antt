@@ -7,7 +7,8 @@ use Rattle.dcel_records.specs.Spots.{IsMet, met_of}
 use Rattle.face_location.specs.Spots.{IsSpotOf}
 use Rattle.told_steps.specs.RecordLayers.{layer_of}
 use Rattle.told_steps.proofs.Moved.{same_layers, layer_stays}
-use Rattle.told_steps.proofs.Begun.{begun_in_step, moved, one_map, still_watched, told_of_edit}
+use Rattle.dcel_records.proofs.Maps.{one_map}
+use Rattle.told_steps.proofs.Begun.{begun_in_step, moved, still_watched, told_of_edit}
 use Rattle.told_steps.proofs.ToldTogether.{told_runs_lawful}
 use Rattle.told_steps.specs.VertexMade.{IsPlaneWith, steps_at}
 use Rattle.pin_points.specs.Pins.{HasRoomFor, is_pinned_met, pin_said}

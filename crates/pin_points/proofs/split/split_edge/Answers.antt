@@ -14,7 +14,8 @@ use Rattle.pin_points.specs.declared.split.SplitError.{SplitError}
 use Rattle.pin_points.specs.declared.split.SplitError.TheVariants.{NoEdge, NotInside, Full, NoMemory}
 use Rattle.observer_bus.proofs.Heard.{not_ok}
 use Rattle.pin_points.proofs.Outcomes.{layer_kept, not_both, on_err}
-use Rattle.told_steps.proofs.Begun.{begun_in_step, one_map, still_watched, told_of_edit}
+use Rattle.dcel_records.proofs.Maps.{one_map}
+use Rattle.told_steps.proofs.Begun.{begun_in_step, still_watched, told_of_edit}
 use Rattle.told_steps.proofs.ToldTogether.{told_runs_lawful}
 use Rattle.pin_points.proofs.Splitting.{no_edge, is_edge, is_inside, not_inside, limit_met, split_told, split_layer}
 use Rattle.pin_points.proofs.split.split_edge.Goals as goal

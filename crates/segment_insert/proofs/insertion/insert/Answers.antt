@@ -6,7 +6,8 @@ use Rattle.dcel_records.specs.SoundMaps.{map_of}
 use Rattle.curve_history.specs.declared.history.TheConstants.{LAST_CURVE}
 use Rattle.segment_insert.specs.Insertion.{insert_said, refusal_at}
 use Rattle.segment_insert.specs.declared.insertion.InsertError.TheVariants.{NoMemory}
-use Rattle.told_steps.proofs.Begun.{begun_in_step, one_map, still_watched}
+use Rattle.dcel_records.proofs.Maps.{one_map}
+use Rattle.told_steps.proofs.Begun.{begun_in_step, still_watched}
 use Rattle.segment_insert.proofs.Layers.{room_stays}
 use Rattle.told_steps.proofs.Moved.{layer_stays}
 use Rattle.segment_insert.proofs.insertion.insert.Goals as goal

@@ -9,7 +9,8 @@ use Rattle.curve_history.specs.Cuts.{IsPlanOfCut}
 use Rattle.curve_history.specs.Past.{curves_on}
 use Rattle.told_steps.specs.RecordLayers.{IsLayer, layer_of}
 use Rattle.told_steps.proofs.Moved.{layer_stays}
-use Rattle.told_steps.proofs.Begun.{begun_in_step, one_map, still_watched, told_of_edit}
+use Rattle.dcel_records.proofs.Maps.{one_map}
+use Rattle.told_steps.proofs.Begun.{begun_in_step, still_watched, told_of_edit}
 use Rattle.segment_remove.specs.Refused.{cut_between, cut_said}
 use Rattle.segment_remove.specs.declared.cuts.CutError.TheVariants.{NoMemory}
 use Rattle.segment_remove.proofs.CutMade.{at_s, at_t, both_ascend, both_have, counted, cut_layer, cut_told, has_s, has_t}

@@ -7,7 +7,8 @@ use Rattle.slab_laws.specs.View.{View}
 use Rattle.dcel_records.specs.SoundMaps.{map_of}
 use Rattle.curve_history.specs.Past.{curves_on}
 use Rattle.told_steps.specs.RecordLayers.{IsLayer, layer_of}
-use Rattle.told_steps.proofs.Begun.{begun_in_step, one_map, still_in_step, told_of_edit}
+use Rattle.dcel_records.proofs.Maps.{one_map}
+use Rattle.told_steps.proofs.Begun.{begun_in_step, still_in_step, told_of_edit}
 use Rattle.segment_remove.proofs.DropMade.{drop_layer, drop_told, keys_have}
 use Rattle.segment_remove.proofs.EndsOf.{one_ends}
 use Rattle.segment_remove.proofs.SameVertices.{still_ascend, still_have}

@@ -12,7 +12,7 @@ use Rattle.curve_history.specs.Past.{curves_on}
 use Rattle.dcel_records.specs.RecordsView.{tables_of}
 use Rattle.dcel_records.specs.SoundMaps.{map_of}
 use Rattle.told_steps.specs.StepsMade.{IsChangeCarried}
-use Rattle.told_steps.proofs.Begun.{one_map}
+use Rattle.dcel_records.proofs.Maps.{one_map}
 use Rattle.told_steps.proofs.Linked.{fits_added, one_curve}
 use Rattle.told_steps.proofs.Settled.{in_step_then, told_then}
 use Rattle.told_steps.proofs.ToldOnce.{HasMade, changed_by, told_by}
