@@ -6,14 +6,14 @@ use Rattle.slab_laws.specs.declared.names.DartId.{DartId}
 use Rattle.slab_laws.specs.declared.names.FaceId.{FaceId}
 use Rattle.slab_laws.specs.declared.names.VertexId.{VertexId}
 use Rattle.slab_laws.specs.Tables.{row_at, names, NamesAscend}
-use Rattle.slab_laws.specs.View.{View, Faces, HasVertex, HasBareFace, IsOutOf, vertex_id}
+use Rattle.slab_laws.specs.View.{View, Faces, HasVertex, HasDart, HasBareFace, IsOutOf, vertex_id}
 use Rattle.arr_notes.specs.FaceWriters.{put_name, bare_in, not_bare, with_face}
 use Rattle.arr_notes.specs.ViewChanges.{no_rows, with_vertex}
 use Rattle.arr_notes.proofs.RowLaws.{ascend-put, ascend-del}
 use Rattle.arr_notes.proofs.VertexReads.{put_hit, put_miss, del_hit, del_miss}
 use Rattle.dcel_records.specs.ListChanges.{lone_face}
 use Rattle.dcel_records.specs.RecordsView.{RecordsView, graph_part}
-use Rattle.planar_tests.specs.Lone.{AreTwo, IsLone}
+use Rattle.planar_tests.specs.Lone.{AreTwo, HasNoDarts, IsLone}
 
 -- ---- new records
 module _ (h : RecordsView) where
@@ -94,3 +94,7 @@ module _ (h k : RecordsView) where
 pub none_out : (h : RecordsView) → IsLone h → (v : VertexId) (d : DartId) → ¬ IsOutOf h.graph v d
 unfolding row_at
 none_out h l v d o = false≢true (sym (ap (λ rs. is_some (row_at rs d.0)) l.darts) ∙ o.0)
+
+pub no_dart : (h : RecordsView) → HasNoDarts h → (d : DartId) → ¬ HasDart h.graph d
+unfolding row_at
+no_dart h e d o = false≢true (sym (ap (λ rs. is_some (row_at rs d.0)) e) ∙ o)
