@@ -9,7 +9,7 @@ use Rattle.plane_graphs.specs.Fit.{IsFit}
 use Rattle.plane_graphs.specs.Graph.{chain}
 use Rattle.plane_graphs.specs.Line.{precedes}
 use Rattle.plane_graphs.specs.Piece.{Piece, Present}
-use Rattle.plane_graphs.proofs.Ascending.{to_member}
+use Rattle.plane_graphs.proofs.Ascending.{to_member, from_member}
 use Rattle.plane_graphs.proofs.Lists.{in_map}
 use Rattle.edit_steps.specs.Allowed.{AreSound}
 use Rattle.edit_steps.specs.Edits.{Insert, after, steps, whole_piece, IsAccepted}
@@ -17,8 +17,10 @@ use Rattle.edit_steps.specs.Layer.{Layer, layer_after, IsAcceptedBy}
 use Rattle.edit_steps.specs.Steps.{Step, with_piece, more_step}
 use Rattle.edit_steps.proofs.Laws.{keeps_fit}
 use Rattle.edit_steps.proofs.Layers.{layers_lawful}
-use Rattle.slab_laws.specs.View.{View}
+use Rattle.slab_laws.specs.View.{View, Faces}
 use Rattle.dcel_records.specs.declared.spot.Met.{Met}
+use Rattle.dcel_records.specs.declared.spot.Spot.{Spot}
+use Rattle.face_location.specs.Spots.{IsSpotOf}
 use Rattle.arr_notes.specs.Curves.{Curves}
 use Rattle.curve_history.specs.Past.{Past, curves_on}
 use Rattle.arr_notes.specs.RecordGraph.{drawn_graph}
@@ -29,9 +31,11 @@ use Rattle.told_steps.specs.ToldRuns.{IsToldRun}
 use Rattle.zone_walk.specs.declared.plan.Meeting.{Meeting}
 use Rattle.zone_walk.specs.declared.plan.ZonePlan.{ZonePlan}
 use Rattle.zone_walk.specs.Zone.{IsZoneOf, AreMetBetween, is_on_segment, meeting_points, splits_needed, points_of_meetings}
-use Rattle.segment_insert.specs.Insertion.{AreMeetings, AreAllOn}
+use Rattle.zone_walk.proofs.Courses.{course}
+use Rattle.segment_insert.specs.Insertion.{AreMeetings, AreAllOn, AreClear, IsStart}
 use Rattle.told_steps.proofs.Layers.{steps_make_layers}
 use Rattle.segment_insert.proofs.Passing.{points_ascend}
+use Rattle.segment_insert.proofs.VerticesClear.{zone_clear, zone_on, zone_start}
 use Rattle.segment_insert.proofs.Whole as whole
 use Rattle.segment_insert.specs.Coming.{steps_at}
 
@@ -98,6 +102,15 @@ module _ {v : View} {past : Past} {g : Segment} {plan : ZonePlan} {c : ℕ} (pla
     ascend = subst (IsAscending point_cmp) (sym planned.zone.points) (points_ascend v (curves_on past) planned.layer.sound planned.layer.curves p g c planned.layer.stands fit);
     met = planned.zone.met;
   }
+
+  pub on_here : (m : Meeting) → Contains ms m → is_on_segment g m.point ≡ true
+  on_here m k = zone_on v planned.layer.sound g (course g planned.ends) ms planned.zone.points m (to_member ms m k)
+
+  pub clear_here : AreClear v g ms
+  clear_here = zone_clear v planned.layer.sound g (course g planned.ends) ms planned.zone.points (λ m i. planned.zone.met m (from_member ms m i))
+
+  pub start_here : (f : Faces) (start : Spot) → IsSpotOf v f g.lower start → IsStart v f start ms
+  start_here f start k = zone_start v planned.layer.sound g (course g planned.ends) f start ms planned.zone.points k
 
   one_more : length ms ≡ length plan.between + 1
   one_more = sym (length-map ms (λ (m : Meeting). m.point)) ∙ ap length planned.zone.points ∙ parts_fewer v g (meeting_points v g) plan.between planned.zone.between

@@ -93,6 +93,9 @@ module _ (v : View) (s : IsGraphSound v) (g : Segment) (c : IsCourse g) where
     met = λ n i. met n (inr i);
   })
 
+  pub zone_on : (ms : List Meeting) → points_of_meetings ms ≡ meeting_points v g → (m : Meeting) → Member m ms → is_on_segment g m.point ≡ true
+  zone_on ms e m i = lies_in g m.point (meets_lies v s g c m.point (told v s g c m.point (there ms e m i)))
+
   -- the first is the segment's lower end
   pub zone_start : (f : Faces) (start : Spot) (ms : List Meeting) → points_of_meetings ms ≡ meeting_points v g → IsSpotOf v f g.lower start → IsStart v f start ms
   zone_start f start [] e k = absurd (among [] e g.lower (listed v s g c g.lower (lower refl)))

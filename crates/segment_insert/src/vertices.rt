@@ -148,8 +148,9 @@ pub(crate) fn make_vertices(
     let mut before = vertex_of(alloc, records, history, bus, start, meetings[0]);
     meetings[0].met = Met::Vertex(before);
     for i in 1..meetings.len() {
-        let at = spot_now(&*records, &line, before, &meetings[i]);
-        before = vertex_of(alloc, records, history, bus, at, meetings[i]);
+        let meeting = meetings[i];
+        let at = spot_now(&*records, &line, before, &meeting);
+        before = vertex_of(alloc, records, history, bus, at, meeting);
         meetings[i].met = Met::Vertex(before);
     }
 }

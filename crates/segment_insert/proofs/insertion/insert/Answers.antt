@@ -1,4 +1,6 @@
-use Rattle.std.proofs.Common.{◌≡◌, ◌<◌, None, length, refl, sym, arith}
+use Rattle.std.proofs.Common.{◌≡◌, ◌<◌, None, length, refl, subst, sym, arith}
+use Rattle.dcel_records.specs.RecordsView.{tables_of}
+use Rattle.face_location.specs.Spots.{IsSpotOf}
 use Rattle.edit_steps.proofs.Refusals.{insertion_allowed, no_memory}
 use Rattle.curve_history.specs.declared.history.TheConstants.{LAST_CURVE}
 use Rattle.segment_insert.specs.Insertion.{insert_said, refusal_at}
@@ -53,3 +55,12 @@ pub insert_by_plan-requires-clause-in_step : goal.insert_by_plan-requires-clause
 insert_by_plan-requires-clause-in_step g c =
     let e = c.prepare.ensures in
     begun_in_step c.args.records.now.graph c.args.history.now c.prepare.new.records.graph c.prepare.new.history e.graph e.same_curves c.begin.ensures.begun c.requires.layer c.requires.watched
+
+pub prepare-requires-clause-start : goal.prepare-requires-clause-start
+prepare-requires-clause-start g c = c.requires.start.met
+
+pub insert_by_plan-requires-clause-start : goal.insert_by_plan-requires-clause-start
+insert_by_plan-requires-clause-start g c =
+    let e = c.prepare.ensures in
+    let p = c.args.segment.now.lower in
+    subst (λ v. IsSpotOf v (tables_of c.prepare.new.records) p c.args.start) (sym e.graph) (subst (λ f. IsSpotOf c.args.records.now.graph f p c.args.start) (sym e.tables) c.requires.start)

@@ -1,14 +1,16 @@
-use Rattle.std.proofs.Common.{◌≡◌, refl, sym, ap, ◌∙◌, subst, arith, inl}
+use Rattle.std.proofs.Common.{◌≡◌, true, Contains, refl, sym, ap, ◌∙◌, subst, arith, inl}
 use Rattle.plane_graphs.specs.Ascending.{Member}
 use Rattle.plane_graphs.proofs.Lists.{in_right}
 use Rattle.curve_history.specs.Past.{curves_on}
-use Rattle.segment_insert.specs.Insertion.{pairs_to_part, AreMeetings}
+use Rattle.segment_insert.specs.Insertion.{pairs_to_part, AreClear, AreMeetings, IsStart}
 use Rattle.told_steps.proofs.Begun.{still_in_step}
 use Rattle.told_steps.proofs.Moved.{one_curves}
 use Rattle.edit_steps.specs.Allowed.{AreSound}
 use Rattle.arr_notes.specs.RecordGraph.{drawn_graph}
-use Rattle.zone_walk.specs.Zone.{splits_needed, points_of_meetings}
-use Rattle.segment_insert.proofs.Planned.{IsPlanned, told_of_plan, IsHalfMade, meetings, room_left, one_for_each, pairs_left, sound_first, all_on, each_on, plane_then, all_told, layer_made, one_piece, one_name}
+use Rattle.dcel_records.specs.RecordsView.{tables_of}
+use Rattle.zone_walk.specs.declared.plan.Meeting.{Meeting}
+use Rattle.zone_walk.specs.Zone.{is_on_segment, splits_needed, points_of_meetings}
+use Rattle.segment_insert.proofs.Planned.{IsPlanned, told_of_plan, IsHalfMade, clear_here, meetings, on_here, start_here, room_left, one_for_each, pairs_left, sound_first, all_on, each_on, plane_then, all_told, layer_made, one_piece, one_name}
 use Rattle.segment_insert.proofs.insertion.insert_by_plan.Goals as goal
 use Rattle.segment_insert.specs.Coming.{steps_at}
 
@@ -20,6 +22,22 @@ pub make_vertices-requires-clause-meetings : goal.make_vertices-requires-clause-
 make_vertices-requires-clause-meetings g c =
     let planned : IsPlanned c.args.records.now.graph c.args.history.now c.args.segment.now c.args.plan c.draw-curve.result.0 = record { layer = c.requires.layer; ends = c.lower-lower.ensures.ends; zone = c.requires.zone; number = c.draw-curve.ensures.number } in
     subst (AreMeetings c.args.records.now.graph) (sym c.into_vec-meetings.ensures) (meetings planned)
+
+pub make_vertices-requires-clause-on : goal.make_vertices-requires-clause-on
+make_vertices-requires-clause-on g c =
+    let planned : IsPlanned c.args.records.now.graph c.args.history.now c.args.segment.now c.args.plan c.draw-curve.result.0 = record { layer = c.requires.layer; ends = c.lower-lower.ensures.ends; zone = c.requires.zone; number = c.draw-curve.ensures.number } in
+    subst (λ ms. (m : Meeting) → Contains ms m → is_on_segment c.args.segment.now m.point ≡ true) (sym c.into_vec-meetings.ensures) (on_here planned)
+
+pub make_vertices-requires-clause-start : goal.make_vertices-requires-clause-start
+make_vertices-requires-clause-start g c =
+    let planned : IsPlanned c.args.records.now.graph c.args.history.now c.args.segment.now c.args.plan c.draw-curve.result.0 = record { layer = c.requires.layer; ends = c.lower-lower.ensures.ends; zone = c.requires.zone; number = c.draw-curve.ensures.number } in
+    let f = tables_of c.args.records.now in
+    subst (IsStart c.args.records.now.graph f c.args.start) (sym c.into_vec-meetings.ensures) (start_here planned f c.args.start c.requires.start)
+
+pub make_vertices-requires-clause-clear : goal.make_vertices-requires-clause-clear
+make_vertices-requires-clause-clear g c =
+    let planned : IsPlanned c.args.records.now.graph c.args.history.now c.args.segment.now c.args.plan c.draw-curve.result.0 = record { layer = c.requires.layer; ends = c.lower-lower.ensures.ends; zone = c.requires.zone; number = c.draw-curve.ensures.number } in
+    subst (AreClear c.args.records.now.graph c.args.segment.now) (sym c.into_vec-meetings.ensures) (clear_here planned)
 
 pub make_vertices-requires-clause-plane : goal.make_vertices-requires-clause-plane
 make_vertices-requires-clause-plane g c =

@@ -1,6 +1,7 @@
-use Rattle.std.proofs.Common.{[], ◌∷◌, arith, refl, inl}
+use Rattle.std.proofs.Common.{[], ◌∷◌, arith, inl, refl}
 use Rattle.plane_graphs.specs.Line.{IsProper}
 use Rattle.curve_history.specs.Past.{curves_on}
+use Rattle.dcel_records.specs.Spots.{met_of}
 use Rattle.segment_insert.proofs.VerticesLoop.{proper_by_met}
 use Rattle.segment_insert.proofs.VerticesMade.{darts_there, lies_now, made_there, pairs_now, plane_there, vertices_there}
 use Rattle.segment_insert.proofs.vertices.vertex_of.Given as given
@@ -10,21 +11,18 @@ use Rattle.segment_insert.proofs.vertices.vertex_of.Goals as goal
 proper : (g : given.Over) (c : Start g) → IsProper c.args.meeting.point
 proper g c = let m = c.args.meeting in proper_by_met c.args.records.now.graph (curves_on c.args.history.now) (m.point ∷ []) m.point m.met c.requires.in_step.sound c.requires.plane (inl refl) c.requires.met
 
-pub spot_now-at-requires : goal.spot_now-at-requires
-spot_now-at-requires g c = record { proper = proper g (goal.at.spot_now-at-requires g c).Start; sound = c.requires.in_step.sound; met = (curves_on c.args.history.now, c.requires.met) }
-
 pub make_vertex-requires : goal.make_vertex-requires
 make_vertex-requires g c =
     let v = c.args.records.now.graph in
     let h = curves_on c.args.history.now in
     let m = c.args.meeting in
     let i = c.requires.in_step in
-    let at = c.spot_now-at.result in
-    let k = c.spot_now-at.ensures in
+    let at = met_of c.args.at in
+    let k = c.requires.now in
     let o = lies_now v m.point m.met at k in record {
       in_step = i;
       map = c.requires.map;
-      met = o;
+      spot = record { met = o; face = c.requires.face };
       plane = plane_there v h i.sound i.curves m c.requires.plane at o;
       vertices = omega (arith, vertices_there v m at k, c.requires.vertices);
       darts = omega (arith, darts_there v m at k, c.requires.darts);
@@ -37,8 +35,8 @@ returns g c =
     let h = curves_on c.args.history.now in
     let m = c.args.meeting in
     let i = c.requires.in_step in
-    let at = c.spot_now-at.result in
-    let k = c.spot_now-at.ensures in
+    let at = met_of c.args.at in
+    let k = c.requires.now in
     let e = c.make_vertex.ensures in record {
       told = made_there v h i.sound i.curves m c.requires.plane at (lies_now v m.point m.met at k) (proper g (goal.at.returns g c).Start) c.make_vertex.new.records.graph (curves_on c.make_vertex.new.history) c.make_vertex.result e.told e.vertex e.made;
       in_step = e.in_step;
