@@ -26,9 +26,6 @@ use Rattle.segment_insert.proofs.vertices.make_vertices.Goals as goal
 room_left : (start before after all one rest left : ℕ) → left ≡ one + rest → start + left ≤ before + all → before ≤ after + one → start + rest ≤ after + all
 room_left start before after all one rest left e f g = omega arith
 
-pub index-requires : goal.index-requires
-index-requires g c = some_first c.args.records.now.graph (tables_of c.args.records.now) c.args.start c.args.meetings.now.items c.requires.start
-
 pub vertex_of-before-requires-clause-met : goal.vertex_of-before-requires-clause-met
 vertex_of-before-requires-clause-met g c =
     let v : View = c.args.records.now.graph in
