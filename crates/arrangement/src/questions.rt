@@ -92,7 +92,7 @@ impl Arrangement {
         match spot_by(strategy, &self.layer.records, p) {
             Spot::Vertex(_) => Ok(Cell::Vertex(*p)),
             Spot::Edge(dart) => Ok(edge_cell(&self.layer.records, dart)),
-            Spot::Face => {
+            Spot::Face(_) => {
                 let subdivision = self.subdivide()?;
                 let cell = hold(&subdivision, p);
                 // A call drops the subdivision, here and below: what a scope drops at its end is proved there anew, in all its parts.

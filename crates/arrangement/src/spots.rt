@@ -2,7 +2,9 @@ ghost use Rattle.std.specs.Prelude.{◌≡◌};
 ghost use Rattle.slab_laws.specs.declared.cell.Cell.TheVariants.{Edge as OnEdge};
 ghost use Rattle.slab_laws.specs.Sound.{IsGraphSound};
 ghost use Rattle.slab_laws.specs.View.{HasDart, point_in, source_in, target_in};
-ghost use Rattle.dcel_records.specs.Spots.{IsSpotOf};
+ghost use Rattle.dcel_records.specs.RecordsView.{tables_of};
+ghost use Rattle.dcel_records.specs.SoundMaps.{IsSoundMap};
+ghost use Rattle.face_location.specs.Spots.{IsSpotOf};
 
 use dcel_records::{Records, Spot};
 use exact_plane::Point;
@@ -10,12 +12,12 @@ use locate_naive::locate as look_at_all;
 use locate_walk::locate as walk_along_vertical;
 use slab_laws::{Cell, DartId, Darts, Strategy};
 
-/// Where a point lies in the records: the vertex at it, the edge that has it inside, or a face, found by the strategy.
+/// Where a point lies in the records: the vertex at it, the edge that has it inside, or the face that it lies in, found by the strategy.
 ///
 /// Landmarks and the trapezoidal map are served by a look at all vertices and edges.
 pub(crate) fn spot_by(strategy: Strategy, records: &Records, p: &Point) -> Spot
-    requires { IsGraphSound records.now.graph }
-    ensures { IsSpotOf records.now.graph p.now result }
+    requires { IsSoundMap records.now }
+    ensures { IsSpotOf records.now.graph (tables_of records.now) p.now result }
 {
     match strategy {
         Strategy::Walk => walk_along_vertical(records, p),

@@ -1,18 +1,16 @@
 -- Whether a point is between the ends of an edge, and on which side of it, by the ends of one of its darts.
-use Rattle.std.proofs.Common.{◌≡◌, ◌⊎◌, inl, inr, ⊎_elim, Bool, true, false, not, ◌&&◌, sym, ap, ◌∙◌, subst, Less, Equal, Greater}
-use Rattle.std.specs.Ordering.{ordering_reverse}
+use Rattle.std.proofs.Common.{◌≡◌, ◌⊎◌, inl, inr, ⊎_elim, Bool, true, false, not, ◌&&◌, sym, ap, ◌∙◌, subst}
 use Rattle.std.specs.Prelude.{if◌then◌else◌}
 use Rattle.integers.proofs.Tests.{not_true}
 use Rattle.exact_plane.specs.Point.{Point}
-use Rattle.exact_plane.specs.PointOrder.{point_cmp}
-use Rattle.exact_plane.specs.PointOrderLaws.{and_true, point_cmp_total, same_point as point_cmp_exact}
+use Rattle.exact_plane.specs.PointOrderLaws.{and_true}
 use Rattle.exact_plane.specs.Sign.{sign_of}
 use Rattle.exact_plane.specs.declared.sides.Sign.{Sign}
 use Rattle.exact_plane.specs.declared.sides.Sign.TheVariants.{Minus, Zero, Plus}
 use Rattle.plane_graphs.specs.Graph.{Edge}
 use Rattle.plane_graphs.specs.Line.{IsProper, precedes}
-use Rattle.plane_graphs.proofs.Lists.{clash, decide}
-use Rattle.plane_graphs.proofs.Order.{Lt, lt_both, lt_in, lt_never, lt_out, lt_trans}
+use Rattle.plane_graphs.proofs.Lists.{and_in, clash, decide}
+use Rattle.plane_graphs.proofs.Order.{Lt, lt_both, lt_in, lt_out, lt_trans}
 use Rattle.slab_laws.specs.declared.names.DartId.{DartId}
 use Rattle.slab_laws.specs.Skeleton as counted
 use Rattle.slab_laws.specs.Skeleton.{inside, side, under}
@@ -89,44 +87,32 @@ module _ (v : View) (s : IsGraphSound v) (d : DartId) (has : HasDart v d) (q : P
     abbrev Spans : DartId → Type 0
     Spans f = IsForwardOf v d f × IsSpanning (edge_in v d) q
 
-    before : point_cmp a q ≡ Less → Lt low q
-    before e = record { is = ap (λ x. point_cmp x q) (sym ea) ∙ e }
+    starts_before : counted.precedes a q ≡ true → Lt low q
+    starts_before e = before_out low q low_proper Q (ap (λ x. counted.precedes x q) (sym ea) ∙ e)
 
-    after : point_cmp a q ≡ Greater → Lt q low
-    after e = record { is = point_cmp_total.antisymm q low ∙ ap (λ x. ordering_reverse (point_cmp x q)) (sym ea) ∙ ap ordering_reverse e }
+    ends_after : counted.precedes q b ≡ true → Lt q high
+    ends_after e = before_out q high Q high_proper (ap (counted.precedes q) (sym eb) ∙ e)
 
-    ends_after : precedes q b ≡ true → Lt q high
-    ends_after e = lt_out q high (ap (precedes q) (sym eb) ∙ e)
+    pub goes_ahead : counted.precedes a q ≡ true → counted.precedes q b ≡ true → Spans d
+    goes_ahead e f = spans_ahead (starts_before e) (ends_after f)
 
-    ends_before : precedes b q ≡ true → Lt high q
-    ends_before e = lt_out high q (ap (λ x. precedes x q) (sym eb) ∙ e)
+    pub goes_back : counted.precedes b q && counted.precedes q a ≡ true → (r : DartId) → r ≡ twin_in v d → Spans r
+    goes_back e r t =
+        let w = and_true (counted.precedes b q) (counted.precedes q a) e in
+        spans_behind (before_out high q high_proper Q (ap (λ x. counted.precedes x q) (sym eb) ∙ w.0)) (before_out q low Q low_proper (ap (counted.precedes q) (sym ea) ∙ w.1)) r t
 
-    pub goes_ahead : point_cmp a q ≡ Less → precedes q b ≡ true → Spans d
-    goes_ahead e f = spans_ahead (before e) (ends_after f)
-
-    pub goes_back : point_cmp a q ≡ Greater → precedes b q ≡ true → (r : DartId) → r ≡ twin_in v d → Spans r
-    goes_back e f r t = spans_behind (ends_before f) (after e) r t
-
-    pub ends_both_before : point_cmp a q ≡ Less → precedes q b ≡ false → IsSpanning (edge_in v d) q → ⊥
-    ends_both_before e f k =
+    pub both_before : counted.precedes a q ≡ true → counted.precedes q b ≡ false → IsSpanning (edge_in v d) q → ⊥
+    both_before e f k =
         ⊎_elim
-        (λ (h : Lt low q × Lt q high). clash (ap (precedes q) eb ∙ lt_in h.1) f)
-        (λ (h : Lt high q × Lt q low). lt_both (before e) h.1)
+        (λ (h : Lt low q × Lt q high). clash (ap (counted.precedes q) eb ∙ before_in q high Q high_proper h.1) f)
+        (λ (h : Lt high q × Lt q low). lt_both (starts_before e) h.1)
         (spans_out k)
 
-    pub ends_both_after : point_cmp a q ≡ Greater → precedes b q ≡ false → IsSpanning (edge_in v d) q → ⊥
-    ends_both_after e f k =
+    pub none_across : counted.precedes a q ≡ false → counted.precedes b q && counted.precedes q a ≡ false → IsSpanning (edge_in v d) q → ⊥
+    none_across e f k =
         ⊎_elim
-        (λ (h : Lt low q × Lt q high). lt_both h.0 (after e))
-        (λ (h : Lt high q × Lt q low). clash (ap (λ x. precedes x q) eb ∙ lt_in h.0) f)
-        (spans_out k)
-
-    pub starts_there : point_cmp a q ≡ Equal → IsSpanning (edge_in v d) q → ⊥
-    starts_there e k =
-        let same : low ≡ q = sym ea ∙ point_cmp_exact a q e in
-        ⊎_elim
-        (λ (h : Lt low q × Lt q high). lt_never (subst (λ x. Lt x q) same h.0))
-        (λ (h : Lt high q × Lt q low). lt_never (subst (λ x. Lt q x) same h.1))
+        (λ (h : Lt low q × Lt q high). clash (ap (λ x. counted.precedes x q) ea ∙ before_in low q low_proper Q h.0) e)
+        (λ (h : Lt high q × Lt q low). clash (and_in (ap (λ x. counted.precedes x q) eb ∙ before_in high q high_proper Q h.0) (ap (counted.precedes q) ea ∙ before_in q low Q low_proper h.1)) f)
         (spans_out k)
 
 -- ---- how the edge of a dart lies to the point, by the side of the edge

@@ -1,14 +1,14 @@
-ghost use Rattle.std.specs.Prelude.{◌≡◌};
+ghost use Rattle.std.specs.Prelude.{◌≡◌, ◌&&◌};
 ghost use Rattle.exact_plane.specs.Sign.{sign_of};
-ghost use Rattle.slab_laws.specs.Skeleton.{side as side_number};
+ghost use Rattle.slab_laws.specs.Skeleton.{precedes as comes_before, side as side_number};
 ghost use Rattle.slab_laws.specs.Sound.{IsGraphSound, edge_in};
 ghost use Rattle.slab_laws.specs.View.{HasDart};
 ghost use Rattle.face_location.specs.Passing.{IsPassing, IsSpanningDart};
 
+use edge_predicates::precedes;
 use exact_plane::{Point, Sign, side};
 use slab_laws::{DartId, Darts};
 use sound_views::span_of;
-use std::cmp::Ordering;
 
 /// How an edge lies to a point; it is told by its dart from the lower to the upper end.
 #[derive(Clone, Copy)]
@@ -21,7 +21,15 @@ pub enum Passing {
     Apart,
 }
 
-// The dart along the same edge from its lower to its upper end, where the point is between these. Each end is compared once.
+// Whether a point comes after one and before another.
+fn is_between(low: &Point, point: &Point, high: &Point) -> bool
+    ensures { result ≡ (comes_before low.now point.now && comes_before point.now high.now) }
+{
+    precedes(low, point) && precedes(point, high)
+}
+
+// The dart along the same edge from its lower to its upper end, where the point is between these. Two comparisons rule out an
+// edge with both ends on one side of the point, as nearly all edges have.
 fn spanning_dart<R: Darts>(records: &R, dart: DartId, point: &Point) -> Option<DartId>
     requires sound { IsGraphSound (R.graph records.now) }
     requires dart { HasDart (R.graph records.now) dart }
@@ -31,11 +39,16 @@ fn spanning_dart<R: Darts>(records: &R, dart: DartId, point: &Point) -> Option<D
     let source = records.point(records.source(dart));
     let target = records.point(records.source(twin));
     point.laws();
-    match source.cmp(point) {
-        Ordering::Less if *point < target => Some(dart),
-        Ordering::Greater if target < *point => Some(twin),
-        _ => None,
+    if precedes(&source, point) {
+        if precedes(point, &target) {
+            return Some(dart);
+        }
+        return None;
     }
+    if is_between(&target, point, &source) {
+        return Some(twin);
+    }
+    None
 }
 
 // The side of a dart's edge on which a point is, gone from its lower to its upper end.

@@ -1,4 +1,4 @@
--- What a spot tells of the graph that the records draw: whether its point is pinned, and by which step it becomes a vertex.
+-- What a point meets tells of the graph that the records draw: whether its point is pinned, and by which step it becomes a vertex.
 use Rattle.std.proofs.Common.{◌≡◌, ◌≢◌, ◌≤◌, arith, Bool, true, false, not, cond, [], ◌∷◌, refl, sym, ap, ap₂, ◌∙◌, subst, inl, inr}
 use Rattle.std.specs.List.{list_any}
 use Rattle.exact_plane.specs.Point.{Point}
@@ -21,15 +21,15 @@ use Rattle.sound_changes.proofs.SplitCases.{edge_of_ends, ahead_by}
 use Rattle.sound_changes.proofs.PointInside.{inside_in, inside_out}
 use Rattle.sound_changes.proofs.KnownNames.{point_known, edge_known}
 use Rattle.arr_notes.specs.Curves.{Curves, AreCurvesOf, is_forward}
-use Rattle.dcel_records.specs.declared.spot.Spot.{Spot}
-use Rattle.dcel_records.specs.declared.spot.Spot.TheVariants.{Vertex, Edge as InEdge, Face}
-use Rattle.dcel_records.specs.Spots.{IsInFace, IsSpotOf}
+use Rattle.dcel_records.specs.declared.spot.Met.{Met}
+use Rattle.dcel_records.specs.declared.spot.Met.TheVariants.{Vertex, Edge as InEdge, Nothing}
+use Rattle.dcel_records.specs.Spots.{IsInFace, IsMet}
 use Rattle.arr_notes.specs.RecordGraph.{drawn_graph}
 use Rattle.sound_views.specs.RecordGraphLaws.{IsMarkOf}
 use Rattle.sound_views.proofs.GraphDrawn.{graphs_are_plane}
 use Rattle.sound_changes.proofs.StepHolds.{held_mark, point_held, held_point, pin_held, held_pin}
-use Rattle.told_steps.specs.VertexMade.{IsPlaneWith, darts_at, steps_at_spot, vertices_at}
-use Rattle.pin_points.specs.Pins.{MayBecomeVertex, is_pinned_spot, new_vertex_steps}
+use Rattle.told_steps.specs.VertexMade.{IsPlaneWith, darts_at, steps_at, vertices_at}
+use Rattle.pin_points.specs.Pins.{MayBecomeVertex, is_pinned_met, new_vertex_steps}
 use Rattle.redundant_vertices.proofs.Passed.{flat_in, flat_out, mark_there}
 use Rattle.integers.proofs.Tests.{not_true}
 
@@ -78,12 +78,12 @@ module _ (v : View) (h : Curves) (s : IsGraphSound v) (p : Point) where
       subst (λ z. pinned_in v z ≡ true) (s.drawn.points u.0 w u.1.has has (u.1.at ∙ sym (same_out p q.0 q.2) ∙ sym at)) u.2)
       (λ t. any_in (same_point p) (point_in v w) drawn.pins (pin_held v s.named h w has t) (same_in p (point_in v w) (sym at)))
 
-  pub pinned_spot : (at : Spot) → IsSpotOf v p at → list_any (same_point p) drawn.pins ≡ is_pinned_spot v at
-  pinned_spot (Vertex w) o = pinned_vertex w o.0 o.1
-  pinned_spot (InEdge d) o = none_pinned (no_vertex_in_edge d o.0 o.2)
-  pinned_spot Face o = none_pinned o.no_vertex
+  pub pinned_met : (at : Met) → IsMet v p at → list_any (same_point p) drawn.pins ≡ is_pinned_met v at
+  pinned_met (Vertex w) o = pinned_vertex w o.0 o.1
+  pinned_met (InEdge d) o = none_pinned (no_vertex_in_edge d o.0 o.2)
+  pinned_met Nothing o = none_pinned o.no_vertex
 
--- ---- steps at a spot
+-- ---- steps where it is met
 module _ (v : View) (h : Curves) (s : IsGraphSound v) (a : AreCurvesOf v h) (p : Point) (proper : IsProper p) where
   abbrev g : Graph
   g = drawn_graph v h
@@ -130,8 +130,8 @@ module _ (v : View) (h : Curves) (s : IsGraphSound v) (a : AreCurvesOf v h) (p :
   not_there : ((w : VertexId) → HasVertex v w → point_in v w ≢ p) → Member p g.points → ⊥
   not_there none m = let w = held_point v s.named h p m in none w.0 w.1.has w.1.at
 
-  -- the spot is inside an edge, in a face, a vertex
-  at_edge : (d : DartId) → IsSpotOf v p (InEdge d) → new_vertex_steps p g ≡ SplitEdgeAt (point_in v (source_in v d)) (point_in v (target_in v d)) p ∷ []
+  -- it is inside an edge, in a face, at a vertex
+  at_edge : (d : DartId) → IsMet v p (InEdge d) → new_vertex_steps p g ≡ SplitEdgeAt (point_in v (source_in v d)) (point_in v (target_in v d)) p ∷ []
   at_edge d o =
       let m = mark_there v h s a d (o.0, o.1) in
       let i = mark_inside m.0 d m.2 o.2 in
@@ -147,27 +147,27 @@ module _ (v : View) (h : Curves) (s : IsGraphSound v) (a : AreCurvesOf v h) (p :
         | inr n ↦ n.1
       ])
 
-  at_vertex : (w : VertexId) → IsSpotOf v p (Vertex w) → new_vertex_steps p g ≡ []
+  at_vertex : (w : VertexId) → IsMet v p (Vertex w) → new_vertex_steps p g ≡ []
   at_vertex w o = none_missing p g (subst (λ z. Member z g.points) o.1 (point_held v s.named h w o.0))
 
-  pub at_spot : (at : Spot) → IsSpotOf v p at → new_vertex_steps p g ≡ steps_at_spot v p at
-  at_spot (Vertex w) o = at_vertex w o
-  at_spot (InEdge d) o = at_edge d o
-  at_spot Face o = at_face o
+  pub at_met : (at : Met) → IsMet v p at → new_vertex_steps p g ≡ steps_at v p at
+  at_met (Vertex w) o = at_vertex w o
+  at_met (InEdge d) o = at_edge d o
+  at_met Nothing o = at_face o
 
   -- where its step is sound, the graph is plane with it
-  pub plane_with : (at : Spot) → IsSpotOf v p at → MayBecomeVertex p g → IsPlaneWith v h p at
+  pub plane_with : (at : Met) → IsMet v p at → MayBecomeVertex p g → IsPlaneWith v h p at
   plane_with (Vertex w) o may = tt
   plane_with (InEdge d) o may = tt
-  plane_with Face o may = (subst (λ ss. AreSound ss g) (at_face o) may).0.plane
+  plane_with Nothing o may = (subst (λ ss. AreSound ss g) (at_face o) may).0.plane
 
--- ---- room at a spot
-pub one_vertex : (at : Spot) → vertices_at at ≤ 1
+-- ---- room there
+pub one_vertex : (at : Met) → vertices_at at ≤ 1
 one_vertex (Vertex w) = omega arith
 one_vertex (InEdge d) = omega arith
-one_vertex Face = omega arith
+one_vertex Nothing = omega arith
 
-pub two_darts : (at : Spot) → darts_at at ≤ 2
+pub two_darts : (at : Met) → darts_at at ≤ 2
 two_darts (Vertex w) = omega arith
 two_darts (InEdge d) = omega arith
-two_darts Face = omega arith
+two_darts Nothing = omega arith

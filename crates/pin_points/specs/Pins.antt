@@ -1,4 +1,4 @@
--- Which refusals the errors of pins stand for, and what a pin makes of its spot.
+-- Which refusals the errors of pins stand for, and what a pin makes of what its point meets.
 use Rattle.std.specs.Prelude.{◌≤◌, ℕ, List, [], ◌∷◌, Bool, false, Option, Some, None}
 use Rattle.exact_plane.specs.Point.{Point}
 use Rattle.plane_graphs.specs.Graph.{Graph}
@@ -8,8 +8,8 @@ use Rattle.edit_steps.specs.Steps.{Step, missing_points, vertex_steps}
 use Rattle.slab_laws.specs.View.{View, pinned_in}
 use Rattle.arr_notes.specs.Curves.{Curves}
 use Rattle.dcel_records.specs.RecordsView.{RecordsView}
-use Rattle.dcel_records.specs.declared.spot.Spot.{Spot}
-use Rattle.dcel_records.specs.declared.spot.Spot.TheVariants.{Vertex}
+use Rattle.dcel_records.specs.declared.spot.Met.{Met}
+use Rattle.dcel_records.specs.declared.spot.Met.TheVariants.{Vertex}
 use Rattle.curve_history.specs.Past.{Past, curves_on}
 use Rattle.arr_notes.specs.RecordGraph.{drawn_graph}
 use Rattle.observer_bus.specs.Rounds.{BusRow}
@@ -29,17 +29,17 @@ pin_said NoMemory = None
 abbrev pub unpin_said : NotPinned → Option Refusal
 unpin_said error = Some Bare
 
--- whether the spot is a pinned vertex (this project)
-abbrev pub is_pinned_spot : View → Spot → Bool
-is_pinned_spot v (Vertex w) = pinned_in v w
-is_pinned_spot v other = false
+-- whether a pinned vertex is met (this project)
+abbrev pub is_pinned_met : View → Met → Bool
+is_pinned_met v (Vertex w) = pinned_in v w
+is_pinned_met v other = false
 
--- how many curves run along the edge that the spot is in (this project)
-abbrev pub pairs_parted : Past → Spot → ℕ
+-- how many curves run along the edge that is met (this project)
+abbrev pub pairs_parted : Past → Met → ℕ
 pairs_parted p at = pairs_at (curves_on p) at
 
--- without memory there is room for a vertex at the spot, and for the edge that it parts (this project)
-pub record HasRoomFor (at : Spot) (r : RecordsView) (p : Past) : Type 0 where
+-- without memory there is room for a vertex there, and for the edge that it parts (this project)
+pub record HasRoomFor (at : Met) (r : RecordsView) (p : Past) : Type 0 where
   pub vertices : 1 ≤ r.spare_vertices
   pub darts : 2 ≤ r.spare_darts
   pub pairs : pairs_parted p at ≤ p.spare_pairs

@@ -6,7 +6,7 @@ use Rattle.edit_steps.specs.Refusals.{Refusal, Full as Passed, NoEdge as NotJoin
 use Rattle.slab_laws.specs.Sound.{edge_between}
 use Rattle.dcel_records.specs.RecordsView.{RecordsView}
 use Rattle.curve_history.specs.Past.{Past}
-use Rattle.dcel_records.specs.declared.spot.Spot.TheVariants.{Edge}
+use Rattle.dcel_records.specs.declared.spot.Met.TheVariants.{Edge}
 use Rattle.slab_laws.specs.declared.names.DartId.{DartId}
 use Rattle.record_orders.specs.Edges.{IsDartAlong}
 use Rattle.pin_points.specs.Pins.{HasRoomFor}

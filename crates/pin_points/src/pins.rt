@@ -2,18 +2,19 @@ ghost use Rattle.std.specs.Prelude.{◌≡◌, ◌≢◌, length, nat_le, Err, I
 ghost use Rattle.std.specs.List.{filter};
 ghost use Rattle.edit_steps.specs.Edits.{Pin, Unpin};
 ghost use Rattle.edit_steps.specs.Refusals.{pin_refusal, unpin_refusal, IsAnswerFor};
-ghost use Rattle.dcel_records.specs.RecordsView.{SameRecordCapacity};
-ghost use Rattle.dcel_records.specs.Spots.{IsSpotOf};
+ghost use Rattle.dcel_records.specs.RecordsView.{SameRecordCapacity, tables_of};
+ghost use Rattle.dcel_records.specs.Spots.{IsMet, met_of};
 ghost use Rattle.dcel_records.specs.SoundMaps.{IsMapAtRest};
+ghost use Rattle.face_location.specs.Spots.{IsSpotOf};
 ghost use Rattle.curve_history.specs.Past.{SameLayer, SameCurves, SameHistoryCapacity};
 ghost use Rattle.told_steps.specs.RecordLayers.{IsLayer};
-ghost use Rattle.pin_points.specs.Pins.{pin_said, unpin_said, is_pinned_spot, pairs_parted, HasRoomFor};
+ghost use Rattle.pin_points.specs.Pins.{pin_said, unpin_said, is_pinned_met, pairs_parted, HasRoomFor};
 ghost use Rattle.observer_bus.specs.Rows.{bus_row};
 ghost use Rattle.told_steps.specs.ToldEdits.{AreWatched, IsToldEdit};
 ghost use Rattle.told_steps.specs.LayerEdits.{layer_at, IsAfter};
 
 use curve_history::History;
-use dcel_records::{Records, Room, Spot};
+use dcel_records::{Met, Records, Room, Spot};
 use exact_plane::Point;
 use locate_naive::vertex_at;
 use no_memory::NoMemory;
@@ -53,14 +54,14 @@ impl From<NoMemory> for PinError {
 #[error("the point isn't pinned")]
 pub struct NotPinned;
 
-// Whether the spot is a pinned vertex.
-fn is_pinned(records: &Records, at: Spot) -> bool
-    requires { (p : _) × IsSpotOf records.now.graph p at }
-    ensures { result ≡ is_pinned_spot records.now.graph at }
+// Whether a pinned vertex is met.
+fn is_pinned(records: &Records, at: Met) -> bool
+    requires { (p : _) × IsMet records.now.graph p at }
+    ensures { result ≡ is_pinned_met records.now.graph at }
 {
     match at {
-        Spot::Vertex(vertex) => records.pinned(vertex),
-        Spot::Edge(_) | Spot::Face => false,
+        Met::Vertex(vertex) => records.pinned(vertex),
+        Met::Edge(_) | Met::Nothing => false,
     }
 }
 
@@ -71,25 +72,26 @@ pub(crate) fn is_full(records: &Records, limit: u32) -> bool
     limit as usize <= records.pins()
 }
 
-// How many curves run along the edge that is split at the spot.
-fn count_parted(history: &History, at: Spot) -> usize
+// How many curves run along the edge that is met.
+fn count_parted(history: &History, at: Met) -> usize
     ensures { result ≡ pairs_parted history.now at }
 {
     match at {
-        Spot::Edge(d) => history.count_on(d),
-        Spot::Vertex(_) | Spot::Face => 0,
+        Met::Edge(d) => history.count_on(d),
+        Met::Vertex(_) | Met::Nothing => 0,
     }
 }
 
-/// Makes room for a vertex at the spot; where it is there, no memory is taken.
+/// Makes room for a vertex where this is met; where it is there, no memory is taken.
 pub(crate) fn make_room(
     records: &mut Records,
     history: &mut History,
-    at: Spot,
+    at: Met,
 ) -> Result<(), NoMemory>
     ensures room { OnOk result (HasRoomFor at records.new history.new) }
     ensures succeeds { HasRoomFor at records.old history.old → IsOk result }
     ensures graph { records.new.graph ≡ records.old.graph }
+    ensures tables { tables_of records.new ≡ tables_of records.old }
     ensures map { IsMapAtRest records.old → IsMapAtRest records.new }
     ensures layer { SameLayer history.old history.new }
     ensures curves { SameCurves history.old history.new }
@@ -118,27 +120,28 @@ pub fn pin(
     requires layer { IsLayer records.old.graph history.old }
     requires map { IsMapAtRest records.old }
     requires watched { AreWatched records.old history.old (bus_row Observer-dyn bus.old) }
-    requires spot { IsSpotOf records.old.graph p.now at }
+    requires spot { IsSpotOf records.old.graph (tables_of records.old) p.now at }
     ensures layer { IsLayer records.new.graph history.new }
     ensures map { IsMapAtRest records.new }
     ensures watched { AreWatched records.new history.new (bus_row Observer-dyn bus.new) }
     ensures edit { OnOk result (IsAfter (Pin p.now) records.old history.old records.new history.new) }
     ensures told { OnOk result (IsToldEdit (Pin p.now) records.old history.old (bus_row Observer-dyn bus.old) records.new history.new (bus_row Observer-dyn bus.new)) }
     ensures refused { IsAnswerFor pin_said (pin_refusal pins (layer_at records.old history.old) p.now) result }
-    ensures room { HasRoomFor at records.old history.old → result ≢ Err PinError.NoMemory }
+    ensures room { HasRoomFor (met_of at) records.old history.old → result ≢ Err PinError.NoMemory }
     ensures graph { OnErr result (records.new.graph ≡ records.old.graph) }
     ensures same_layer { OnErr result (SameLayer history.old history.new) }
     ensures same_curves { OnErr result (SameCurves history.old history.new) }
     ensures untold { OnErr result (bus_row Observer-dyn bus.new ≡ bus_row Observer-dyn bus.old) }
 {
     p.laws();
-    if is_pinned(&*records, at) {
+    let met = at.met();
+    if is_pinned(&*records, met) {
         return Err(PinError::Pinned);
     }
     if is_full(&*records, pins) {
         return Err(PinError::Full(pins));
     }
-    make_room(records, history, at)?;
+    make_room(records, history, met)?;
     bus.begin();
     let vertex = make_vertex(alloc, records, history, bus, at, *p);
     set_pin(alloc, records, &*history, bus, vertex);

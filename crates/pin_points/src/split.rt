@@ -13,7 +13,7 @@ ghost use Rattle.told_steps.specs.LayerEdits.{IsAfter};
 
 use crate::pins::{is_full, make_room};
 use curve_history::History;
-use dcel_records::{Records, Spot};
+use dcel_records::{Met, Records};
 use edge_predicates::has_inside;
 use exact_plane::Point;
 use locate_naive::edge_dart;
@@ -98,7 +98,7 @@ pub fn split_edge(
     if is_full(&*records, pins) {
         return Err(SplitError::Full(pins));
     }
-    make_room(records, history, Spot::Edge(dart))?;
+    make_room(records, history, Met::Edge(dart))?;
     bus.begin();
     let vertex = told_steps::split_edge(alloc, records, history, bus, dart, *r);
     set_pin(alloc, records, &*history, bus, vertex);

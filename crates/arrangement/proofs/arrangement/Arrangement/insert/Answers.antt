@@ -3,6 +3,9 @@ use Rattle.edit_steps.specs.Edits.{Insert}
 use Rattle.arrangement.proofs.Edits.{edited_by, as_before}
 use Rattle.arrangement.proofs.arrangement.Arrangement.insert.Goals as goal
 
+pub locate-start-requires : goal.locate-start-requires
+locate-start-requires g c = c.self.invariant.1.map
+
 pub insert-requires : goal.insert-requires
 insert-requires g c = record {
   layer = c.self.invariant.0;

@@ -6,9 +6,12 @@ use Rattle.pin_points.proofs.Outcomes.{on_err}
 use Rattle.arrangement.proofs.Located.{at_vertex, on_edge}
 use Rattle.arrangement.proofs.arrangement.Arrangement.locate.Goals as goal
 
+pub spot_by-requires : goal.spot_by-requires
+spot_by-requires g c = c.self.invariant.1.map
+
 pub returns-in-Vertex : goal.returns-in-Vertex
 returns-in-Vertex g c = rw (← c.self.view_is) (record {
-  cell = at_vertex _ _ c.self.invariant.0 c.args.p.now c.in-Vertex.field-0 c.in-Vertex.ensures.0 c.in-Vertex.ensures.1;
+  cell = at_vertex _ _ c.self.invariant.0 c.args.p.now c.in-Vertex.field-0 c.in-Vertex.ensures.met.0 c.in-Vertex.ensures.met.1;
   no_memory = tt;
   same = refl;
 })
@@ -16,7 +19,7 @@ returns-in-Vertex g c = rw (← c.self.view_is) (record {
 pub returns-in-Edge : goal.returns-in-Edge
 returns-in-Edge g c =
     let p = c.args.p.now in
-    let on = c.in-Edge.ensures in
+    let on = c.in-Edge.ensures.met in
     rw (← c.self.view_is) (record {
       cell = c.edge_cell.ensures ∙ on_edge _ _ c.self.invariant.0 p c.in-Edge.dart (point_is_proper p c.laws.ensures) (on.0, on.1) on.2;
       no_memory = tt;
@@ -33,6 +36,6 @@ returns-in_ok-subdivision-in-Face g c = record {
 pub returns-in_err-subdivision-in-Face : goal.returns-in_err-subdivision-in-Face
 returns-in_err-subdivision-in-Face g c = rw (← c.self.view_is) (record {
   cell = IfOk-from_err c.from_residual.result _ c.from_residual.ensures.0;
-  no_memory = on_err c.from_residual.result _ c.in-Face.ensures;
+  no_memory = on_err c.from_residual.result _ c.in-Face.ensures.met;
   same = refl;
 })

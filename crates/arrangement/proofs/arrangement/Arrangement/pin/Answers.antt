@@ -3,6 +3,9 @@ use Rattle.edit_steps.specs.Edits.{Pin}
 use Rattle.arrangement.proofs.Edits.{edited, as_before}
 use Rattle.arrangement.proofs.arrangement.Arrangement.pin.Goals as goal
 
+pub locate-at-requires : goal.locate-at-requires
+locate-at-requires g c = c.self.invariant.1.map
+
 pub pin-requires : goal.pin-requires
 pin-requires g c = record {
   layer = c.self.invariant.0;
