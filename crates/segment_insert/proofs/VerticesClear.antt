@@ -1,5 +1,5 @@
 -- Nothing lies between a meeting that meets nothing and the one before it: so the zone tells, and it stays so while meetings become vertices.
-use Rattle.std.proofs.Common.{ℕ, ◌<◌, length, get_or, ap, ◌∙◌, arith, ◌≡◌, List, [], ◌∷◌, true, refl, sym, subst, inl, inr, Contains, Less}
+use Rattle.std.proofs.Common.{◌<◌, length, get_or, ap, ◌∙◌, arith, ◌≡◌, List, [], ◌∷◌, true, refl, sym, subst, inl, inr, Contains, Less}
 use Rattle.exact_plane.specs.Point.{Point}
 use Rattle.exact_plane.specs.PointOrder.{point_cmp}
 use Rattle.exact_plane.specs.Segment.{Segment, line_of_segment}

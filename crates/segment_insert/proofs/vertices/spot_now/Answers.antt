@@ -1,5 +1,4 @@
 use Rattle.std.proofs.Common.{subst, refl}
-use Rattle.dcel_records.specs.RecordsView.{tables_of}
 use Rattle.sound_changes.specs.EdgePlaces.{dart_between}
 use Rattle.slab_laws.specs.View.{point_in}
 use Rattle.segment_insert.specs.Coming.{IsMetStill}
