@@ -105,13 +105,13 @@ module _ {v : MapView} {past : Past} {g : Segment} {plan : ZonePlan} {c : ℕ} (
   }
 
   pub on_here : (m : Meeting) → Contains ms m → is_on_segment g m.point ≡ true
-  on_here m k = zone_on v planned.layer.sound g (course g planned.ends) ms planned.zone.points m (to_member ms m k)
+  on_here m k = zone_on v.graph planned.layer.sound g (course g planned.ends) ms planned.zone.points m (to_member ms m k)
 
-  pub clear_here : AreClear v g ms
-  clear_here = zone_clear v planned.layer.sound g (course g planned.ends) ms planned.zone.points (λ m i. planned.zone.met m (from_member ms m i))
+  pub clear_here : AreClear v.graph g ms
+  clear_here = zone_clear v.graph planned.layer.sound g (course g planned.ends) ms planned.zone.points (λ m i. planned.zone.met m (from_member ms m i))
 
-  pub start_here : (f : Faces) (start : Spot) → IsSpotOf v f g.lower start → IsStart v f start ms
-  start_here f start k = zone_start v planned.layer.sound g (course g planned.ends) f start ms planned.zone.points k
+  pub start_here : (f : Faces) (start : Spot) → IsSpotOf v.graph f g.lower start → IsStart v.graph f start ms
+  start_here f start k = zone_start v.graph planned.layer.sound g (course g planned.ends) f start ms planned.zone.points k
 
   one_more : length ms ≡ length plan.between + 1
   one_more = sym (length-map ms (λ (m : Meeting). m.point)) ∙ ap length planned.zone.points ∙ parts_fewer v.graph g (meeting_points v.graph g) plan.between planned.zone.between

@@ -167,7 +167,7 @@ module _ (v : MapView) (h : Curves) (s : IsGraphSound v.graph) (a : AreCurvesOf 
             point = subst (λ g. point_in g x ≡ m.point) (sym e) (vertex_is_added v.graph x m.point).point;
             vertices = λ u k. let r = old_vertex v.graph x m.point s new u k in subst (λ g. HasVertex g u × (point_in g u ≡ point_in v.graph u)) (sym e) (r.has k, r.point);
             curves = λ d k. refl;
-            later = λ q z proper l k. subst (λ g. IsSpotStill g h q z) (sym e) (added_later q z proper l k);
+            later = λ q z proper l k. subst (λ g. IsMetStill g h q z) (sym e) (added_later q z proper l k);
           }
 
 -- ---- where the point lies now

@@ -26,18 +26,18 @@ make_vertices-requires-clause-meetings g c =
 
 pub make_vertices-requires-clause-on : goal.make_vertices-requires-clause-on
 make_vertices-requires-clause-on g c =
-    let planned : IsPlanned c.args.records.now.graph c.args.history.now c.args.segment.now c.args.plan c.draw-curve.result.0 = record { layer = c.requires.layer; ends = c.lower-lower.ensures.ends; zone = c.requires.zone; number = c.draw-curve.ensures.number } in
+    let planned : IsPlanned (map_of c.args.records.now) c.args.history.now c.args.segment.now c.args.plan c.draw-curve.result.0 = record { layer = c.requires.layer; ends = c.lower-lower.ensures.ends; zone = c.requires.zone; number = c.draw-curve.ensures.number } in
     subst (λ ms. (m : Meeting) → Contains ms m → is_on_segment c.args.segment.now m.point ≡ true) (sym c.into_vec-meetings.ensures) (on_here planned)
 
 pub make_vertices-requires-clause-start : goal.make_vertices-requires-clause-start
 make_vertices-requires-clause-start g c =
-    let planned : IsPlanned c.args.records.now.graph c.args.history.now c.args.segment.now c.args.plan c.draw-curve.result.0 = record { layer = c.requires.layer; ends = c.lower-lower.ensures.ends; zone = c.requires.zone; number = c.draw-curve.ensures.number } in
+    let planned : IsPlanned (map_of c.args.records.now) c.args.history.now c.args.segment.now c.args.plan c.draw-curve.result.0 = record { layer = c.requires.layer; ends = c.lower-lower.ensures.ends; zone = c.requires.zone; number = c.draw-curve.ensures.number } in
     let f = tables_of c.args.records.now in
     subst (IsStart c.args.records.now.graph f c.args.start) (sym c.into_vec-meetings.ensures) (start_here planned f c.args.start c.requires.start)
 
 pub make_vertices-requires-clause-clear : goal.make_vertices-requires-clause-clear
 make_vertices-requires-clause-clear g c =
-    let planned : IsPlanned c.args.records.now.graph c.args.history.now c.args.segment.now c.args.plan c.draw-curve.result.0 = record { layer = c.requires.layer; ends = c.lower-lower.ensures.ends; zone = c.requires.zone; number = c.draw-curve.ensures.number } in
+    let planned : IsPlanned (map_of c.args.records.now) c.args.history.now c.args.segment.now c.args.plan c.draw-curve.result.0 = record { layer = c.requires.layer; ends = c.lower-lower.ensures.ends; zone = c.requires.zone; number = c.draw-curve.ensures.number } in
     subst (AreClear c.args.records.now.graph c.args.segment.now) (sym c.into_vec-meetings.ensures) (clear_here planned)
 
 pub make_vertices-requires-clause-plane : goal.make_vertices-requires-clause-plane

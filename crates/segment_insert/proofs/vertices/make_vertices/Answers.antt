@@ -6,7 +6,7 @@ use Rattle.exact_plane.specs.Segment.{Segment, line_of_segment}
 use Rattle.plane_graphs.specs.Ascending.{Member, IsAscending}
 use Rattle.plane_graphs.specs.Line.{IsProperLine}
 use Rattle.plane_graphs.proofs.Ascending.{from_member}
-use Rattle.slab_laws.specs.View.{View, point_in}
+use Rattle.slab_laws.specs.View.{point_in}
 use Rattle.arr_notes.specs.Curves.{Curves}
 use Rattle.arr_notes.specs.MapView.{MapView}
 use Rattle.dcel_records.specs.RecordsView.{tables_of}
