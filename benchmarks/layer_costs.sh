@@ -1,7 +1,8 @@
 #!/usr/bin/env bash
 # What one line costs in a layer of some 100, 1,000 and 10,000 vertices: grids of 8, 30 and 98 lines each way. For an insertion that crosses one
-# edge, the drop of such a segment, and a location on an edge or in a face, instructions by callgrind, the mean of up to 200, reading the line
-# included; for `count` and `show` those of one. It takes the program's path, and a minute.
+# edge, the drop of such a segment, and a location on an edge, instructions by callgrind, the mean of up to 200, reading the line included; for a
+# location in a face and for `show`, which subdivide the plane afresh, those of one, or in the largest layer the processor seconds of the
+# whole run. It takes the program's path, and a minute.
 set -eu
 program=${1:?the path of the program planar}
 folder=$(mktemp -d)
@@ -22,8 +23,7 @@ for lines in 8, 30, 98:
     more = [f'segment {10 * i + 3} {10 * j + 2} {10 * i + 13} {10 * j + 7}' for i, j in cells]
     drops = [f'drop {len(grid) + 1 + k}' for k in range(len(cells))]
     on = [f'locate {10 * i} {10 * j + 5} 1' for i, j in cells]
-    inside = [f'locate {10 * i + 5} {10 * j + 5} 1' for i, j in cells]
-    scripts = {'layer': [], 'more': more, 'fewer': more + drops, 'on': on, 'inside': inside, 'count': ['count'], 'show': ['show']}
+    scripts = {'layer': [], 'more': more, 'fewer': more + drops, 'on': on, 'inside': ['locate 15 15 1'], 'show': ['show']}
     with open(f'{folder}/{lines}.times', 'w') as times:
         times.write(str(len(cells)))
     for name, behind in scripts.items():
@@ -36,14 +36,26 @@ instructions() {
     valgrind --tool=callgrind --callgrind-out-file=/dev/null "$program" < "$1" 2>&1 >/dev/null | sed -n 's/.*Collected : //p'
 }
 
+# Processor seconds of a whole run.
+seconds() {
+    python3 -c 'import resource, subprocess, sys
+subprocess.run(sys.argv[1], stdin=open(sys.argv[2]), stdout=subprocess.DEVNULL)
+used = resource.getrusage(resource.RUSAGE_CHILDREN)
+print(f"{used.ru_utime + used.ru_stime:.3f}")' "$program" "$1"
+}
+
 for lines in 8 30 98; do
     times=$(cat "$folder/$lines.times")
     layer=$(instructions "$folder/$lines.layer")
     more=$(instructions "$folder/$lines.more")
     fewer=$(instructions "$folder/$lines.fewer")
     on=$(instructions "$folder/$lines.on")
-    inside=$(instructions "$folder/$lines.inside")
-    count=$(instructions "$folder/$lines.count")
-    show=$(instructions "$folder/$lines.show")
-    echo "grid of $lines by $lines: insertion $(((more - layer) / times)), drop $(((fewer - more) / times)), location on an edge $(((on - layer) / times)), in a face $(((inside - layer) / times)), count $((count - layer)), show $((show - layer))"
+    if [ "$lines" = 98 ]; then
+        faces="in a face $(seconds "$folder/$lines.inside") s, show $(seconds "$folder/$lines.show") s"
+    else
+        inside=$(instructions "$folder/$lines.inside")
+        show=$(instructions "$folder/$lines.show")
+        faces="in a face $((inside - layer)), show $((show - layer))"
+    fi
+    echo "grid of $lines by $lines: insertion $(((more - layer) / times)), drop $(((fewer - more) / times)), location on an edge $(((on - layer) / times)), $faces"
 done

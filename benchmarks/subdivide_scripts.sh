@@ -5,7 +5,7 @@
 #
 # Three kinds of scripts: `crossing`, random segments with ends up to 1000; `grid`, half of them from left to right and half
 # from bottom to top; `nested`, squares of four segments each, one inside the other. Each script ends
-# with `count` and `show`.
+# with `count` and `show`, which subdivide the plane once each.
 set -eu
 program=${1:-crates/planar/out/planar}
 shift || true
