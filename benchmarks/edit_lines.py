@@ -42,7 +42,8 @@ def random_script(oracle, seed, kind, lines):
 
 
 def write(path, lines):
-    edits = [line for line in lines if line.split(b' ')[0] in EDITS]
+    # A line with a byte that is no letter, digit or mark is refused, and the program here reads lines of text alone.
+    edits = [line for line in lines if line.split(b' ')[0] in EDITS and line.isascii()]
     with open(path, 'wb') as file:
         file.write(b''.join(line + b'\n' for line in edits))
 
