@@ -3,26 +3,18 @@ use Rattle.std.proofs.Common.{◌≡◌, true, false, arith, sym, ◌∙◌, inl
 use Rattle.std.specs.Prelude.{pos}
 use Rattle.std.proofs.lemmas.Int.{ints}
 use Rattle.std.proofs.lemmas.Bool.{false≢true, false_from_ne_true, cases_Bool}
-use lib.IntN.{*ℤ-zero}
 use Rattle.exact_plane.specs.Point.{Point}
 use Rattle.plane_graphs.specs.Graph.{Edge}
 use Rattle.slab_laws.specs.Skeleton.{HasWeight, left_of, side, under}
-use Rattle.slab_faces.proofs.Ints.{zero_back}
 use Rattle.slab_faces.proofs.OverUnder.{under_not_over, under_out}
-use Rattle.slab_faces.proofs.Walls.{left_of-before, same_abscissa, over-upper}
+use Rattle.slab_faces.proofs.Walls.{left_of-before, over-upper}
 use Rattle.slab_faces.proofs.Cells.{not_right_trans}
-use Rattle.slab_faces.proofs.Along.{upright_side}
 use Rattle.edges_below.specs.Highest.{IsSpanning}
 use Rattle.slab_faces.proofs.Points.{before_weak, before_on_wall}
+use Rattle.slab_faces.proofs.Upright.{upright_on}
 
 -- ---- vertical edges
 -- a vertical edge's side of a point of its wall is 0
-pub on_upright : (e : Edge) (q : Point) → HasWeight e.low → left_of e.low e.high ≡ false → left_of e.high e.low ≡ false → left_of e.low q ≡ false → left_of q e.low ≡ false → side e q ≡ pos 0
-on_upright e q P a b c d =
-    let i = upright_side e q a b in
-    let i' = rw (same_abscissa e.low q c d, *ℤ-zero) at i in
-    zero_back e.low.w (side e q) P i'
-
 -- an edge that q spans and that isn't through q isn't vertical
 pub slanted : (e : Edge) (q : Point) → HasWeight e.low → HasWeight e.high → HasWeight q → IsSpanning e q → (side e q ≡ pos 0 → ⊥) → left_of e.low e.high ≡ true
 slanted e q P Q W s n =
@@ -33,7 +25,7 @@ slanted e q P Q W s n =
           let b = before_weak q e.high s.to in
           let c : left_of e.high e.low ≡ false = not_right_trans e.low q e.high P W Q a b in
           let d : left_of e.low q ≡ false = false_from_ne_true _ (λ k. false≢true (sym h ∙ left_of-before e.low q e.high P W Q k b)) in
-          absurd (n (on_upright e q P h c d a))
+          absurd (n (upright_on e q P h c d a))
     ]
 
 pub slanted_below : (e : Edge) (q : Point) → HasWeight e.low → HasWeight e.high → HasWeight q → IsSpanning e q → under e q ≡ true → left_of e.low e.high ≡ true

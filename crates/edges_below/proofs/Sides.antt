@@ -1,25 +1,24 @@
 -- An edge goes the same way at another as each of its points does.
-use Rattle.std.proofs.Common.{◌≡◌, true, false, arith, refl, sym, ◌∙◌, ◌⊎◌, inl, inr, subst, [], ◌∷◌}
+use Rattle.std.proofs.Common.{◌≡◌, true, false, arith, sym, ◌∙◌, ◌⊎◌, inl, inr, subst, [], ◌∷◌}
 use Rattle.std.specs.Prelude.{ℤ, pos, ◌+ℤ◌, ◌-ℤ◌, ◌*ℤ◌, ◌<ℤ◌, ◌≤ℤ◌}
 use Rattle.std.proofs.lemmas.Int.{ints, by_lt_z}
-use Rattle.std.proofs.lemmas.Bool.{false≢true, and_from, or_left, or_right, false_from_ne_true, cases_Bool}
+use Rattle.std.proofs.lemmas.Bool.{false≢true, or_left, or_right, false_from_ne_true, cases_Bool}
 use lib.IntN.{*ℤ-zero}
-use lib.Signed.{lt_z}
 use Rattle.integers.proofs.Reify.{ring, sides}
 use Rattle.integers.proofs.Signs.{mul_pos'}
 use Rattle.exact_plane.specs.Point.{Point}
 use Rattle.plane_graphs.specs.Graph.{Edge}
-use Rattle.slab_laws.specs.Skeleton.{Skeleton, HasWeight, left_of, run, side, over, under, below, gap, in_range, higher_at, precedes}
-use Rattle.slab_faces.proofs.Ints.{times_at_most, times_less}
-use Rattle.slab_faces.proofs.OverUnder.{not_over, not_under, over_in, over_out, under_not_over, under_out}
+use Rattle.slab_laws.specs.Skeleton.{Skeleton, HasWeight, left_of, run, side, under, below, gap, in_range, higher_at, precedes}
+use Rattle.slab_faces.proofs.Ints.{times_at_most, times_less, zero_weak}
+use Rattle.slab_faces.proofs.OverUnder.{not_over, not_under, over_in, over_out, under_not_over, under_out, weak_over}
 use Rattle.slab_faces.proofs.Walls.{left_of-irrefl, left_of-asym, left_of-before, left_of-after, lower_than-before, lower_than-after, run_positive, side-lower, side-upper, side_rises, over-upper}
 use Rattle.slab_faces.proofs.Cells.{not_right_trans}
-use Rattle.slab_faces.proofs.Order.{Passes, below_from, below_asym, gap_positive, gap-on_e, gap-on_f}
+use Rattle.slab_faces.proofs.Order.{Passes, below_from, below_asym, gap_positive, gap-on_e, gap-on_f, ranged, higher}
 use Rattle.edges_below.specs.Highest.{IsSpanning}
 use Rattle.edges_below.specs.Above.{is_above, IsBeside, EdgesKeepSides}
 use Rattle.slab_faces.proofs.Points.{before_left, before_weak, before_on_wall, not_before_left, not_before_lower, before_asym, after_before, before_after}
 use Rattle.edges_below.proofs.Seen.{slanted_below}
-use Rattle.edges_below.proofs.Uprights.{f_long, zero_weak, above_later, above_earlier, above_fan, never_inside, upright_above, upright_not_above}
+use Rattle.edges_below.proofs.Uprights.{f_long, above_later, above_earlier, above_fan, never_inside, upright_above, upright_not_above}
 
 -- from one lower end, each is as much on the left of the other's upper end as that one is on its right
 turned : (e f : Edge) → f.low ≡ e.low → side e f.high ≡ pos 0 -ℤ side f e.high
@@ -32,20 +31,9 @@ turned e f h = by e f.high f.low h
         flip : (a b c d e f x y w : ℤ) → (b *ℤ f -ℤ e *ℤ c) *ℤ x +ℤ (d *ℤ c -ℤ a *ℤ f) *ℤ y +ℤ (a *ℤ e -ℤ d *ℤ b) *ℤ w ≡ pos 0 -ℤ ((b *ℤ w -ℤ y *ℤ c) *ℤ d +ℤ (x *ℤ c -ℤ a *ℤ w) *ℤ e +ℤ (a *ℤ y -ℤ x *ℤ b) *ℤ f)
         flip a b c d e f x y w = ring (a ∷ b ∷ c ∷ d ∷ e ∷ f ∷ x ∷ y ∷ w ∷ []) (search sides depth 40 fits 20000) tt
 
-ranged : (e : Edge) (u : Point) → left_of u e.low ≡ false → left_of e.high u ≡ false → in_range e u ≡ true
-ranged e u a b = rw (a, b) refl
-
-higher : (f e : Edge) (u : Point) → in_range f u ≡ true → in_range e u ≡ true → pos 0 <ℤ gap f e u → higher_at f e u ≡ true
-higher f e u a b h = let c : true ≡ lt_z (pos 0) (gap f e u) = omega (arith, ints) in and_from _ _ (and_from _ _ a b) (sym c)
-
 -- a positive number times a negative one
 down_times : (k x : ℤ) → pos 0 <ℤ k → x <ℤ pos 0 → (k *ℤ x) <ℤ pos 0
 down_times k x K h = let a = times_less k x (pos 0) K h in let z = *ℤ-zero k in omega (arith, ints)
-
--- what isn't on the right of e isn't passed above by it
-weak_over : (e : Edge) (q : Point) → pos 0 ≤ℤ side e q → over e q ≡ false
-unfolding over
-weak_over e q y = sym (omega (arith, ints))
 
 -- what is above f, and not above e, has f below e there
 wide : (e f : Edge) (q : Point) → pos 0 <ℤ run e → pos 0 <ℤ run f → pos 0 <ℤ side f q → side e q ≤ℤ pos 0 → pos 0 <ℤ gap f e q

@@ -1,23 +1,23 @@
 -- A vertical edge against one that isn't.
 use Rattle.std.proofs.Common.{◌≡◌, true, false, arith, refl, sym, ap, ◌∙◌, inl, inr, subst}
-use Rattle.std.specs.Prelude.{ℤ, pos, ◌-ℤ◌, ◌*ℤ◌, ◌<ℤ◌, ◌≤ℤ◌, not}
+use Rattle.std.specs.Prelude.{pos, ◌<ℤ◌, not}
 use Rattle.std.specs.List.{Contains}
 use Rattle.std.proofs.lemmas.Int.{ints, by_lt_z}
 use Rattle.std.proofs.lemmas.Bool.{false≢true, and_from, false_from_ne_true, cases_Bool}
-use lib.IntN.{*ℤ-zero}
 use lib.Signed.{lt_z}
 use Rattle.exact_plane.specs.Point.{Point}
 use Rattle.plane_graphs.specs.Graph.{Edge}
 use Rattle.slab_laws.specs.Skeleton.{Skeleton, HasWeight, left_of, lower_than, run, side, over, under, precedes, inside, crosses, IsPlaneSkeleton}
 use Rattle.slab_faces.proofs.InnerPoints.{no_sign}
-use Rattle.slab_faces.proofs.Ints.{times_negatives, times_mixed, less_back}
+use Rattle.slab_faces.proofs.Ints.{zero_weak}
 use Rattle.slab_faces.proofs.OverUnder.{not_under, over_out, under_in, under_out}
 use Rattle.slab_faces.proofs.Walls.{left_of-before, left_of-after, lower_than-before, run_positive, side-lower, side_rises, side_keeps, over-upper}
 use Rattle.slab_faces.proofs.Cells.{not_right_trans}
-use Rattle.slab_faces.proofs.Along.{upright_side}
+use Rattle.slab_faces.proofs.Along.{upright_left, upright_right}
 use Rattle.edges_below.specs.Above.{is_above, IsBeside}
 use Rattle.slab_faces.proofs.Points.{before_left, before_lower, before_weak, before_on_wall, not_before_left, not_before_lower}
-use Rattle.edges_below.proofs.Seen.{on_upright, slanted}
+use Rattle.slab_faces.proofs.Upright.{upright_on}
+use Rattle.edges_below.proofs.Seen.{slanted}
 
 -- ---- what is inside an edge
 -- a point on the line of an edge, between its ends, is inside it
@@ -26,32 +26,6 @@ is_inside f v a b z = and_from _ _ (and_from _ _ a b) (no_sign (side f v) z)
 
 pub never_inside : (g : Skeleton) (f : Edge) (v : Point) → IsPlaneSkeleton g → Contains g.edges f → Contains g.vertices v → precedes f.low v ≡ true → precedes v f.high ≡ true → side f v ≡ pos 0 → ⊥
 never_inside g f v plane F V a b z = false≢true (sym (plane.clear f v F V) ∙ is_inside f v a b z)
-
--- the sides of a vertical edge
-fall_left : (f : Edge) (v : Point) → lower_than f.low f.high ≡ true → left_of v f.low ≡ true → pos 0 <ℤ ((f.low.y *ℤ f.high.w -ℤ f.high.y *ℤ f.low.w) *ℤ (v.x *ℤ f.low.w -ℤ f.low.x *ℤ v.w))
-unfolding left_of lower_than
-fall_left f v c h = times_negatives (f.low.y *ℤ f.high.w -ℤ f.high.y *ℤ f.low.w) (v.x *ℤ f.low.w -ℤ f.low.x *ℤ v.w) (omega (arith, ints)) (omega (arith, ints))
-
-fall_right : (f : Edge) (v : Point) → lower_than f.low f.high ≡ true → left_of f.low v ≡ true → ((f.low.y *ℤ f.high.w -ℤ f.high.y *ℤ f.low.w) *ℤ (v.x *ℤ f.low.w -ℤ f.low.x *ℤ v.w)) <ℤ pos 0
-unfolding left_of lower_than
-fall_right f v c h = times_mixed (f.low.y *ℤ f.high.w -ℤ f.high.y *ℤ f.low.w) (v.x *ℤ f.low.w -ℤ f.low.x *ℤ v.w) (omega (arith, ints)) (omega (arith, ints))
-
-upright_left : (f : Edge) (v : Point) → HasWeight f.low → left_of f.low f.high ≡ false → left_of f.high f.low ≡ false → lower_than f.low f.high ≡ true → left_of v f.low ≡ true → pos 0 <ℤ side f v
-upright_left f v P a b c h =
-    let i = upright_side f v a b in
-    let k = fall_left f v c h in
-    let o = *ℤ-zero f.low.w in
-    less_back f.low.w (pos 0) (side f v) P (omega (arith, ints))
-
-upright_right : (f : Edge) (v : Point) → HasWeight f.low → left_of f.low f.high ≡ false → left_of f.high f.low ≡ false → lower_than f.low f.high ≡ true → left_of f.low v ≡ true → side f v <ℤ pos 0
-upright_right f v P a b c h =
-    let i = upright_side f v a b in
-    let k = fall_right f v c h in
-    let o = *ℤ-zero f.low.w in
-    less_back f.low.w (side f v) (pos 0) P (omega (arith, ints))
-
-pub zero_weak : (z : ℤ) → z ≡ pos 0 → pos 0 ≤ℤ z
-zero_weak z e = omega (arith, ints)
 
 pub f_long : (g : Skeleton) (e f : Edge) (q : Point) → IsBeside g e f q → left_of f.low f.high ≡ true
 f_long g e f q b = let p = b.plane.proper_edge f b.F in slanted f q p.0 p.1 b.Q b.spanning b.off
@@ -167,7 +141,7 @@ module _ (g : Skeleton) (e f : Edge) (q : Point) (b : IsBeside g e f q) (up : le
       let c = before_weak f.low q b.spanning.from in
       let l = before_on_wall f.low q b.spanning.from (at_wall a) in
       let to = before_lower f.low e.high (not_right_trans f.low q e.high fl b.Q high c high_q) (lower_than-before f.low q e.high fl b.Q high l weak_high) in
-      never_inside g e f.low b.plane b.E (b.plane.lower_in f b.F) h to (on_upright e f.low low up back (false_from_ne_true _ (λ k. false≢true (sym low_q ∙ left_of-before e.low f.low q low fl b.Q k c))) a)
+      never_inside g e f.low b.plane b.E (b.plane.lower_in f b.F) h to (upright_on e f.low low up back (false_from_ne_true _ (λ k. false≢true (sym low_q ∙ left_of-before e.low f.low q low fl b.Q k c))) a)
     where
       at_wall : left_of f.low e.low ≡ false → left_of f.low q ≡ false
       at_wall a = false_from_ne_true _ (λ k. false≢true (sym a ∙ left_of-before f.low q e.low fl b.Q low k low_q))

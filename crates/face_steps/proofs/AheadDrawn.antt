@@ -1,25 +1,25 @@
 -- A plane graph with one more vertex that an old one sees, and with the edge between both: both are plane.
-use Rattle.std.proofs.Common.{◌≡◌, ◌⊎◌, List, true, false, not, ◌&&◌, refl, sym, ap, ◌∙◌, subst, inl, inr}
+use Rattle.std.proofs.Common.{◌≡◌, ◌⊎◌, List, true, false, refl, sym, ap, ◌∙◌, subst, inl, inr}
 use Rattle.std.specs.List.{Contains}
 use Rattle.std.specs.Prelude.{if◌then◌else◌}
 use Rattle.exact_plane.specs.Point.{Point}
 use Rattle.exact_plane.specs.PointOrder.{point_cmp}
-use Rattle.exact_plane.specs.PointOrderLaws.{and_true, point_cmp_total, same_point as point_cmp_exact}
+use Rattle.exact_plane.specs.PointOrderLaws.{point_cmp_total, same_point as point_cmp_exact}
 use Rattle.plane_graphs.specs.Ascending.{Member, IsAscending, place}
-use Rattle.plane_graphs.specs.Graph.{Edge, edge_cmp, between, spans, collinear}
+use Rattle.plane_graphs.specs.Graph.{Edge, edge_cmp, between, spans}
 use Rattle.plane_graphs.specs.Line.{IsProper, precedes}
 use Rattle.plane_graphs.specs.Meaning.{IsEndOfEdge, IsStraightLineGraph}
 use Rattle.plane_graphs.proofs.Ascending.{IsAscending-place, from_member}
 use Rattle.plane_graphs.proofs.Lists.{clash, in_place, of_place}
-use Rattle.plane_graphs.proofs.Marks.{le_out, le_cases}
 use Rattle.plane_graphs.proofs.Meaning.{IsDistinct-from_IsAscending, edge_cmp_total, edge_cmp_exact}
 use Rattle.plane_graphs.proofs.Order.{Lt, lt_in, lt_out, lt_never, lt_both, lt_trans, Tri, less, same, more, tri}
 use Rattle.slab_laws.specs.Skeleton as counted
 use Rattle.slab_laws.specs.Skeleton.{Skeleton, IsPlaneSkeleton}
 use Rattle.slab_laws.specs.Sound.{edge_between}
 use Rattle.slab_faces.specs.PointLaws.{IsApart}
-use Rattle.slab_faces.proofs.InnerPoints.{before_out, inside_by, inside_in}
+use Rattle.slab_faces.proofs.InnerPoints.{before_out, inside_in}
 use Rattle.slab_faces.proofs.SkeletonsDrawn.{plane_skeletons_are_drawn}
+use Rattle.slab_faces.proofs.SharedEnds.{on_edge}
 use Rattle.sound_changes.proofs.PointInside.{inside_out}
 use Rattle.face_steps.specs.FaceAhead.{IsSeenFrom}
 use Rattle.integers.proofs.Tests.{not_true}
@@ -39,16 +39,6 @@ edge_of_two q p n = by (tri q p)
     by (less l) = subst (λ e. IsEdgeOfTwo e q p) (sym (picked true (lt_in l))) (record { forward = l; ends = inl (refl, refl) })
     by (same e) = absurd (n e)
     by (more l) = subst (λ e. IsEdgeOfTwo e q p) (sym (picked false (not_true (precedes q p) (λ k. lt_both (lt_out q p k) l)))) (record { forward = l; ends = inr (refl, refl) })
-
--- a point on an edge is an end of it, or inside it
-on_edge : (e : Edge) (t : Point) → IsProper e.low → IsProper e.high → IsProper t → spans e.low e.high t ≡ true → IsEndOfEdge t e ⊎ (counted.inside e t ≡ true)
-on_edge e t low high proper h =
-    let a = and_true (not (precedes t e.low) && not (precedes e.high t)) (collinear e.low e.high t) h in
-    let b = and_true (not (precedes t e.low)) (not (precedes e.high t)) a.0 in
-    elim (le_cases e.low t (le_out e.low t b.0)) [
-      | inl i ↦ inl (inl (sym i))
-      | inr l ↦ elim (le_cases t e.high (le_out t e.high b.1)) [ inl i ↦ inl (inr i) | inr k ↦ inr (inside_by e t low high proper l k a.1) ]
-    ]
 
 -- a point doesn't come before itself
 not_before : (p : Point) → IsProper p → counted.precedes p p ≡ false

@@ -110,14 +110,14 @@ fall_right : (f : Edge) (v : Point) → lower_than f.low f.high ≡ true → lef
 unfolding left_of lower_than
 fall_right f v c h = times_mixed (f.low.y *ℤ f.high.w -ℤ f.high.y *ℤ f.low.w) (v.x *ℤ f.low.w -ℤ f.low.x *ℤ v.w) (omega (arith, ints)) (omega (arith, ints))
 
-upright_left : (f : Edge) (v : Point) → HasWeight f.low → left_of f.low f.high ≡ false → left_of f.high f.low ≡ false → lower_than f.low f.high ≡ true → left_of v f.low ≡ true → pos 0 <ℤ side f v
+pub upright_left : (f : Edge) (v : Point) → HasWeight f.low → left_of f.low f.high ≡ false → left_of f.high f.low ≡ false → lower_than f.low f.high ≡ true → left_of v f.low ≡ true → pos 0 <ℤ side f v
 upright_left f v P a b c h =
     let i = upright_side f v a b in
     let k = fall_left f v c h in
     let o = *ℤ-zero f.low.w in
     less_back f.low.w (pos 0) (side f v) P (omega (arith, ints))
 
-upright_right : (f : Edge) (v : Point) → HasWeight f.low → left_of f.low f.high ≡ false → left_of f.high f.low ≡ false → lower_than f.low f.high ≡ true → left_of f.low v ≡ true → side f v <ℤ pos 0
+pub upright_right : (f : Edge) (v : Point) → HasWeight f.low → left_of f.low f.high ≡ false → left_of f.high f.low ≡ false → lower_than f.low f.high ≡ true → left_of f.low v ≡ true → side f v <ℤ pos 0
 upright_right f v P a b c h =
     let i = upright_side f v a b in
     let k = fall_right f v c h in

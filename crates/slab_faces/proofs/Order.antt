@@ -69,10 +69,10 @@ negative_after f e w u v a b c h k =
     mean_last (gap f e v) (away u w) (gap f e u) (away v w) (gap f e w) (away u v) (gap_mean f e v u w) (away_yes u w b) (away_no v w a) (away_yes u v c) k h
 
 -- ---- `below`, from a gap anywhere
-ranged : (e : Edge) (u : Point) → left_of u e.low ≡ false → left_of e.high u ≡ false → in_range e u ≡ true
+pub ranged : (e : Edge) (u : Point) → left_of u e.low ≡ false → left_of e.high u ≡ false → in_range e u ≡ true
 ranged e u a b = rw (a, b) refl
 
-higher : (f e : Edge) (u : Point) → in_range f u ≡ true → in_range e u ≡ true → pos 0 <ℤ gap f e u → higher_at f e u ≡ true
+pub higher : (f e : Edge) (u : Point) → in_range f u ≡ true → in_range e u ≡ true → pos 0 <ℤ gap f e u → higher_at f e u ≡ true
 higher f e u a b h =
     let c : true ≡ lt_z (pos 0) (gap f e u) = omega (arith, ints) in and_from _ _ (and_from _ _ a b) (sym c)
 

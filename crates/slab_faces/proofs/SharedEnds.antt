@@ -14,7 +14,7 @@ use Rattle.slab_faces.specs.PlaneSkeletons.{PlaneSkeletonsShareEnds}
 use Rattle.slab_faces.proofs.InnerPoints.{inside_by}
 
 -- a point on an edge is an end of it, or strictly inside it
-on_edge : (e : Edge) (t : Point) → IsProper e.low → IsProper e.high → IsProper t → spans e.low e.high t ≡ true → IsEndOfEdge t e ⊎ (inside e t ≡ true)
+pub on_edge : (e : Edge) (t : Point) → IsProper e.low → IsProper e.high → IsProper t → spans e.low e.high t ≡ true → IsEndOfEdge t e ⊎ (inside e t ≡ true)
 on_edge e t low high proper h =
     let a = and_true (not (precedes t e.low) && not (precedes e.high t)) (collinear e.low e.high t) h in
     let b = and_true (not (precedes t e.low)) (not (precedes e.high t)) a.0 in

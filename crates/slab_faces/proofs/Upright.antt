@@ -21,7 +21,7 @@ use Rattle.slab_faces.proofs.Slabs.{same_edge_is, same_edge_refl, no_order}
 use Rattle.slab_faces.proofs.Turns.{on_own_wall}
 
 -- no vertex lies strictly inside a vertical edge
-upright_on : (f : Edge) (v : Point) → HasWeight f.low → left_of f.low f.high ≡ false → left_of f.high f.low ≡ false → left_of f.low v ≡ false → left_of v f.low ≡ false → side f v ≡ pos 0
+pub upright_on : (f : Edge) (v : Point) → HasWeight f.low → left_of f.low f.high ≡ false → left_of f.high f.low ≡ false → left_of f.low v ≡ false → left_of v f.low ≡ false → side f v ≡ pos 0
 upright_on f v P a b c d =
     let i = upright_side f v a b in
     let i' = rw (same_abscissa f.low v c d, *ℤ-zero) at i in
