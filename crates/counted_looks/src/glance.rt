@@ -1,0 +1,151 @@
+ghost use Rattle.std.specs.Prelude.{◌≡◌, ◌+◌};
+ghost use Rattle.counted_looks.specs.Looks.{IsLookable, IsLookOf};
+
+use crate::name_calls::NameCalls;
+use dcel_records::{Records, Spot};
+use exact_plane::{Line, Point};
+use slab_laws::{CycleId, DartId, Darts, FaceId, FaceLists, Faced, VertexId};
+use std::marker::Model;
+use std::sync::ledger::Ledger;
+use work_steps::Steps;
+
+/// Records that tell where things lie only to a look that is counted; names they answer freely.
+#[derive(Drop)]
+pub struct Glance<'a> {
+    records: &'a Records,
+}
+
+impl<'a> Model for Glance<'a> {
+    ghost use Rattle.dcel_records.specs.RecordsView.{RecordsView};
+
+    ghost Value = { RecordsView };
+
+    ghost view = { λ g. g.records.now };
+}
+
+/// What one look tells: of a dart its two points and its line, of a vertex its point alone.
+#[derive(Clone, Copy)]
+pub struct Looked {
+    pub source: Point,
+    /// A vertex is its own target.
+    pub target: Point,
+    /// `None` exactly for a vertex.
+    pub line: Option<Line>,
+}
+
+impl<'a> Glance<'a> {
+    /// The records, to be looked at.
+    pub fn of(records: &'a Records) -> Glance<'a>
+        ensures { result ≡ records.now }
+    {
+        Glance { records }
+    }
+
+    /// One look, at a dart or a vertex, which is one step.
+    pub fn look<L: Ledger>(&self, at: Spot, steps: &mut Steps<L>) -> Looked
+        requires { IsLookable self.now.graph at }
+        ensures look { IsLookOf self.now.graph at result }
+        ensures one { steps.new ≡ steps.old + 1 }
+    {
+        steps.tick();
+        match at {
+            Spot::Edge(dart) => {
+                let source = self.records.point(Darts::source(self.records, dart));
+                let target = self.records.point(Darts::target(self.records, dart));
+                let line = Some(self.records.line(dart));
+                Looked {
+                    source,
+                    target,
+                    line,
+                }
+            }
+            Spot::Vertex(vertex) => {
+                let point = self.records.point(vertex);
+                Looked {
+                    source: point,
+                    target: point,
+                    line: None,
+                }
+            }
+            Spot::Face(_) => unreachable!(),
+        }
+    }
+}
+
+impl<'a> NameCalls for Glance<'a> {
+    ghost use Rattle.dcel_records.specs.RecordsView.{graph_of, tables_of, lists_of};
+
+    ghost graph = { graph_of };
+
+    ghost faces = { tables_of };
+
+    ghost lists = { lists_of };
+
+    fn source(&self, d: DartId) -> VertexId {
+        Darts::source(self.records, d)
+    }
+
+    fn target(&self, d: DartId) -> VertexId {
+        Darts::target(self.records, d)
+    }
+
+    fn twin(&self, d: DartId) -> DartId {
+        Darts::twin(self.records, d)
+    }
+
+    fn next(&self, d: DartId) -> DartId {
+        Darts::next(self.records, d)
+    }
+
+    fn out_of(&self, v: VertexId) -> Option<DartId> {
+        Darts::out_of(self.records, v)
+    }
+
+    fn vertex_after(&self, v: Option<VertexId>) -> Option<VertexId> {
+        Darts::vertex_after(self.records, v)
+    }
+
+    fn dart_after(&self, d: Option<DartId>) -> Option<DartId> {
+        Darts::dart_after(self.records, d)
+    }
+
+    fn cycle(&self, d: DartId) -> CycleId {
+        Faced::cycle(self.records, d)
+    }
+
+    fn face(&self, c: CycleId) -> FaceId {
+        Faced::face(self.records, c)
+    }
+
+    fn bare_face(&self, v: VertexId) -> FaceId {
+        Faced::bare_face(self.records, v)
+    }
+
+    fn cycle_after(&self, c: Option<CycleId>) -> Option<CycleId> {
+        Faced::cycle_after(self.records, c)
+    }
+
+    fn face_after(&self, f: Option<FaceId>) -> Option<FaceId> {
+        Faced::face_after(self.records, f)
+    }
+
+    fn first_cycle_of(&self, face: FaceId) -> Option<CycleId> {
+        FaceLists::first_cycle_of(self.records, face)
+    }
+
+    fn cycle_after_in_face(&self, cycle: CycleId) -> Option<CycleId> {
+        FaceLists::cycle_after_in_face(self.records, cycle)
+    }
+
+    fn dart_on(&self, cycle: CycleId) -> DartId {
+        FaceLists::dart_on(self.records, cycle)
+    }
+
+    fn first_isolated_in(&self, face: FaceId) -> Option<VertexId> {
+        FaceLists::first_isolated_in(self.records, face)
+    }
+
+    fn isolated_after_in_face(&self, v: VertexId) -> Option<VertexId> {
+        FaceLists::isolated_after_in_face(self.records, v)
+    }
+}
