@@ -17,7 +17,7 @@ use Rattle.dcel_records.specs.declared.rows.StoredCycle.{StoredCycle}
 use Rattle.dcel_records.specs.declared.rows.StoredFace.{StoredFace}
 use Rattle.dcel_records.specs.Placing.{cycle_placing, vertex_placing, nodes, own, AreChained, IsRelinked}
 use Rattle.dcel_records.specs.declared.ranks.RankKey.{RankKey}
-use Rattle.dcel_records.specs.RecordsView.{GraphView, FacesView, RecordsView, RanksView, FaceRow, MovedRoom}
+use Rattle.dcel_records.specs.RecordsView.{GraphView, FacesView, RecordsView, RanksView, FaceRow, MovedRoom, rank_or}
 use Rattle.dcel_records.specs.Outs.{IsOut}
 
 -- what a row tells of a vertex: all but the dart that it keeps
@@ -165,3 +165,17 @@ pub record HasLeft (c : ℕ) (vs ws : Slab StoredVertex) (fs gs : Slab StoredFac
   pub owns : (k : ℕ) → own vertex_placing ws gs k ≡ without c (own vertex_placing vs fs k)
   pub keys : (n : ℕ) → key_at (nodes vertex_placing ws) n ≡ cond (n == c) None (key_at (nodes vertex_placing vs) n)
   pub kept : IsRelinked vertex_placing vs ws fs gs
+
+-- the rank that a face has; without a row, 0
+abbrev pub rank_at : Slab StoredFace → FaceId → ℕ
+rank_at fs a = rank_or (option_map (λ r. r.rank) (get fs a.0))
+
+-- what a face has beside its rank
+abbrev pub unranked : StoredFace → StoredFace
+unranked r = record { first_cycle = r.first_cycle; first_bare = r.first_bare; rank = 0 }
+
+-- all is as it was, but for ranks
+pub record IsReranked (old new : Slab StoredFace) : Type 0 where
+  pub rests : (k : ℕ) → option_map unranked (get new k) ≡ option_map unranked (get old k)
+  pub len : slab_len new ≡ slab_len old
+  pub capacity : new.capacity ≡ old.capacity

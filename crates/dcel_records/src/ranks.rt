@@ -1,11 +1,15 @@
 ghost use Rattle.std.specs.Prelude.{◌≡◌, ◌==◌, ◌<◌, [], ◌∷◌, ◌++◌, length};
 ghost use Rattle.std.specs.List.{AllByRecursion, IsDistinct};
 ghost use Rattle.std.specs.List.Sorted.{IsPermutation};
+ghost use Rattle.slab.specs.Slab.{ContainsKey};
 ghost use Rattle.slab_laws.specs.View.{HasFace};
 ghost use Rattle.dcel_records.specs.RecordsView.{graph_part, rank_given};
 ghost use Rattle.dcel_records.specs.RankOrders.{AreInKeyOrder, AreRanked};
+ghost use Rattle.dcel_records.specs.StoredRows.{rank_at, IsReranked};
 
 use crate::records::Records;
+use crate::rows::StoredFace;
+use crate::table::Table;
 use exact_plane::Point;
 use slab_laws::FaceId;
 
@@ -15,6 +19,17 @@ pub struct RankKey {
     pub source: Point,
     pub target: Point,
     pub face: FaceId,
+}
+
+// The faces of the keys have the ranks from 1 on, in the order of the keys.
+fn give_ranks(faces: &mut Table<StoredFace>, order: &[RankKey])
+    requires { AllByRecursion (λ k. ContainsKey faces.old k.face.0) order.now }
+    ensures kept { IsReranked faces.old faces.new }
+    ensures ranked { IsDistinct (λ a b. a.face.0 == b.face.0) order.now → AreRanked (rank_at faces.new) 1 order.now }
+{
+    for (place, key) in order.iter().enumerate() {
+        faces[key.face.0].rank = place + 1;
+    }
 }
 
 impl Records {
@@ -37,6 +52,19 @@ impl Records {
         ensures faces { self.new.faces ≡ self.old.faces }
     {
         self.order.push_reserved(key);
+    }
+
+    /// Puts the faces in the order of their keys, and gives each the rank that is its place, from 1 on. It takes no memory.
+    pub fn rank_in_order(&mut self)
+        requires { AllByRecursion (λ k. HasFace self.old.faces.tables k.face) self.old.ranks.order }
+        ensures keys { IsPermutation self.old.ranks.order self.new.ranks.order }
+        ensures ordered { AreInKeyOrder self.new.ranks.order }
+        ensures ranked { IsDistinct (λ a b. a.face.0 == b.face.0) self.old.ranks.order → AreRanked (rank_given self.new) 1 self.new.ranks.order }
+        ensures graph { graph_part self.new ≡ graph_part self.old }
+        ensures faces { self.new.faces ≡ self.old.faces }
+    {
+        self.order.sort_unstable();
+        give_ranks(&mut self.faces, &self.order);
     }
 
     /// The rank that the face was given last; 0 where it was given none.
