@@ -1,5 +1,5 @@
 -- What is known once some cycles of a face, or some of its isolated vertices, were looked at.
-use Rattle.std.proofs.Common.{◌≡◌, ℕ, ◌+◌, ◌≤◌, Bool, true, false, cond, arith, refl, sym, ap, ◌∙◌, subst, ◌⊎◌, inl, inr, List, [], ◌∷◌, ◌++◌, length}
+use Rattle.std.proofs.Common.{◌≡◌, ℕ, ◌+◌, ◌≤◌, ◌<◌, Bool, true, false, cond, arith, refl, sym, ap, ◌∙◌, subst, ◌⊎◌, inl, inr, List, [], ◌∷◌, ◌++◌, length}
 use Rattle.std.specs.Prelude.{◌==◌, ◌&&◌, Option, None, Some, IsSome}
 use Rattle.std.specs.List.{count_by, sum_by}
 use Rattle.std.proofs.lemmas.Bool.{false≢true, and_parts, eqb-true, eq-eqb, cases_Bool, false_from_ne_true}
@@ -9,11 +9,11 @@ use Rattle.slab_laws.specs.declared.names.CycleId.{CycleId}
 use Rattle.slab_laws.specs.declared.names.DartId.{DartId}
 use Rattle.slab_laws.specs.declared.names.FaceId.{FaceId}
 use Rattle.slab_laws.specs.declared.names.VertexId.{VertexId}
-use Rattle.slab_laws.specs.FaceLists.{Lists, AreLists}
+use Rattle.slab_laws.specs.FaceLists.{Lists, AreLists, first_of, cycle_follower, vertex_follower}
 use Rattle.slab_laws.specs.FacesSound.{IsSound, lead_in}
 use Rattle.slab_laws.specs.Rotation.{same_dart}
 use Rattle.slab_laws.specs.Tables.{row_at}
-use Rattle.slab_laws.specs.View.{View, Faces, HasDart, HasBareFace, cycle_id, vertex_id, cycle_in, face_in, bare_face_in, bare_or}
+use Rattle.slab_laws.specs.View.{View, Faces, HasDart, HasCycle, HasBareFace, cycle_id, vertex_id, cycle_in, face_in, bare_face_in, bare_or}
 use Rattle.slab_faces.proofs.NextLemmas.{darts_exact}
 use Rattle.slab_faces.proofs.Sums.{each, sum_by-same}
 use Rattle.arr_notes.specs.CycleNames.{dart_names}
@@ -22,6 +22,7 @@ use Rattle.boundary_cycles.proofs.NamedWalks.{of_list}
 use Rattle.counted_looks.specs.declared.boundary_part.BoundaryPart.{BoundaryPart}
 use Rattle.counted_looks.specs.declared.boundary_part.BoundaryPart.TheVariants.{Dart, Isolated}
 use Rattle.counted_looks.specs.Boundaries.{IsOnBoundary, dart_size, isolated_size}
+use Rattle.counted_looks.proofs.ListReads.{IsReading, left_at, reads_first, one_more_read, fewer_left, there, all_read}
 use Rattle.counted_looks.proofs.Tallies.{matched, at_least, once_at_most}
 
 -- ---- names
@@ -62,7 +63,7 @@ abbrev pub cycle_size : View → Faces → CycleId → ℕ
 cycle_size v f c = count_by (λ d. cycle_same (cycle_in f d) c) (dart_names v)
 
 -- the orbit of a dart is its cycle
-pub size_is : (v : View) (f : Faces) → IsSound v f → (e : DartId) → HasDart v e → cycle_length v e ≡ cycle_size v f (cycle_in f e)
+size_is : (v : View) (f : Faces) → IsSound v f → (e : DartId) → HasDart v e → cycle_length v e ≡ cycle_size v f (cycle_in f e)
 size_is v f s e E =
     sum_by-same (λ d. cond {A = ℕ} (is_on_cycle v e d) 1 0) (λ d. cond {A = ℕ} (cycle_same (cycle_in f d) (cycle_in f e)) 1 0) (dart_names v)
     (each (λ d. cond {A = ℕ} (is_on_cycle v e d) 1 0 ≡ cond {A = ℕ} (cycle_same (cycle_in f d) (cycle_in f e)) 1 0) (dart_names v) (λ d m. ap (λ b. cond {A = ℕ} b 1 0) (both d (of_list v s.graph d m))))
@@ -79,11 +80,8 @@ pub record AreCyclesSeen (v : View) (f : Faces) (P : BoundaryPart → Type 0) (s
   pub seen : (c : CycleId) → Member c done → (d : DartId) → HasDart v d → cycle_in f d ≡ c → P (Dart d)
   pub count : now ≤ start + sum_by (cycle_size v f) done
 
-pub no_cycle_seen : (v : View) (f : Faces) (P : BoundaryPart → Type 0) (start : ℕ) → AreCyclesSeen v f P start start []
-no_cycle_seen v f P start = record { seen = λ c m. absurd m; count = omega arith }
-
 -- one more, of which the dart e was known
-pub one_cycle_seen : (v : View) (f : Faces) (s : IsSound v f) (P Q : BoundaryPart → Type 0) (start now later : ℕ) (c : CycleId) (e : DartId) → HasDart v e × (cycle_in f e ≡ c) → ((t : BoundaryPart) → P t → Q t) → ((d : DartId) → HasDart v d → lead_in v d ≡ lead_in v e → Q (Dart d)) → later ≡ now + cycle_length v e → (done : List CycleId) → AreCyclesSeen v f P start now done → AreCyclesSeen v f Q start later (done ++ (c ∷ []))
+one_cycle_seen : (v : View) (f : Faces) (s : IsSound v f) (P Q : BoundaryPart → Type 0) (start now later : ℕ) (c : CycleId) (e : DartId) → HasDart v e × (cycle_in f e ≡ c) → ((t : BoundaryPart) → P t → Q t) → ((d : DartId) → HasDart v d → lead_in v d ≡ lead_in v e → Q (Dart d)) → later ≡ now + cycle_length v e → (done : List CycleId) → AreCyclesSeen v f P start now done → AreCyclesSeen v f Q start later (done ++ (c ∷ []))
 one_cycle_seen v f s P Q start now later c e on still all n done k = record {
   seen = λ x m d D q. elim (member_cases x c done m) [ inl l ↦ still (Dart d) (k.seen x l d D q) | inr r ↦ all d D ((s.cycled.orbits d e D on.0).0 (q ∙ sym r ∙ sym on.1)) ];
   count = (
@@ -95,7 +93,7 @@ one_cycle_seen v f s P Q start now later c e on still all n done k = record {
 }
 
 -- all cycles of a face
-pub face_cycles_seen : (v : View) (f : Faces) (l : Lists) (a : FaceId) (P : BoundaryPart → Type 0) (start now : ℕ) → IsSound v f → AreLists v f l → AreCyclesSeen v f P start now (l.cycles a) → ((d : DartId) → IsOnBoundary v f a (Dart d) → P (Dart d)) × (now ≤ start + dart_size v f a)
+face_cycles_seen : (v : View) (f : Faces) (l : Lists) (a : FaceId) (P : BoundaryPart → Type 0) (start now : ℕ) → IsSound v f → AreLists v f l → AreCyclesSeen v f P start now (l.cycles a) → ((d : DartId) → IsOnBoundary v f a (Dart d) → P (Dart d)) × (now ≤ start + dart_size v f a)
 face_cycles_seen v f l a P start now s ls k =
     let m = matched (λ (c : CycleId) (d : DartId). cycle_same (cycle_in f d) c) (λ d. (face_in f (cycle_in f d)).0 == a.0) (l.cycles a) (dart_names v)
     (λ d. once_at_most (λ (c : CycleId). cycle_same (cycle_in f d) c) ((face_in f (cycle_in f d)).0 == a.0) (l.cycles a) (ls.listed.cycles_once a)
@@ -106,16 +104,57 @@ face_cycles_seen v f l a P start now s ls k =
       omega arith,
     )
 
+-- the face's cycles are read up to `at`, and what was read was seen
+abbrev pub AreCyclesRead : View → Faces → Lists → FaceId → (BoundaryPart → Type 0) → ℕ → ℕ → Option CycleId → Type 0
+AreCyclesRead v f l a P start now at = IsReading cycle_same cycle_exact cycle_itself (l.cycles a) at (AreCyclesSeen v f P start now)
+
+abbrev pub cycles_left : Lists → FaceId → Option CycleId → ℕ
+cycles_left l a at = left_at cycle_same cycle_exact cycle_itself (l.cycles a) at
+
+module _ (v : View) (f : Faces) (l : Lists) (a : FaceId) (s : IsSound v f) (ls : AreLists v f l) (P : BoundaryPart → Type 0) (start now : ℕ) (at : Option CycleId) where
+  pub cycles_begin : at ≡ first_of (l.cycles a) → now ≡ start → AreCyclesRead v f l a P start now at
+  cycles_begin e n =
+      subst (λ o. AreCyclesRead v f l a P start now o) (sym e)
+      (reads_first cycle_same cycle_exact cycle_itself (l.cycles a) (AreCyclesSeen v f P start now) (record { seen = λ c m. absurd m; count = omega (n, arith) }))
+
+  module _ (r : AreCyclesRead v f l a P start now at) where
+    pub cycles_end : at ≡ None → ((d : DartId) → IsOnBoundary v f a (Dart d) → P (Dart d)) × (now ≤ start + dart_size v f a)
+    cycles_end e =
+        face_cycles_seen v f l a P start now s ls
+        (all_read cycle_same cycle_exact cycle_itself (l.cycles a) (AreCyclesSeen v f P start now) (subst (λ o. AreCyclesRead v f l a P start now o) e r))
+
+    module _ (c : CycleId) (e : at ≡ Some c) where
+      here : AreCyclesRead v f l a P start now (Some c)
+      here = subst (λ o. AreCyclesRead v f l a P start now o) e r
+
+      pub cycle_listed : HasCycle f c × (face_in f c ≡ a)
+      cycle_listed = (ls.listed.cycles a c).0 (there cycle_same cycle_exact cycle_itself (l.cycles a) c (AreCyclesSeen v f P start now) here)
+
+      pub dart_kept : (d : DartId) → d ≡ l.dart_on c → HasDart v d × (cycle_in f d ≡ c)
+      dart_kept d q = subst (λ (z : DartId). HasDart v z × (cycle_in f z ≡ c)) (sym q) (ls.darts c cycle_listed.0)
+
+      module _ (next : Option CycleId) (n : next ≡ cycle_follower c (l.cycles (face_in f c))) where
+        next_is : cycle_follower c (l.cycles a) ≡ next
+        next_is = sym (n ∙ ap (λ b. cycle_follower c (l.cycles b)) cycle_listed.1)
+
+        pub cycles_nearer : cycles_left l a next < cycles_left l a at
+        cycles_nearer =
+            subst (λ (z : Option CycleId × Option CycleId). cycles_left l a z.0 < cycles_left l a z.1) (λ i. (next_is i, sym e i))
+            (fewer_left cycle_same cycle_exact cycle_itself (l.cycles a) c (AreCyclesSeen v f P start now) (ls.listed.cycles_once a) here)
+
+        pub cycles_go_on : (Q : BoundaryPart → Type 0) (later : ℕ) (d : DartId) → d ≡ l.dart_on c → ((t : BoundaryPart) → P t → Q t) → ((x : DartId) → HasDart v x → lead_in v x ≡ lead_in v d → Q (Dart x)) → later ≡ now + cycle_length v d → AreCyclesRead v f l a Q start later next
+        cycles_go_on Q later d q still all count =
+            subst (λ o. AreCyclesRead v f l a Q start later o) next_is
+            (one_more_read cycle_same cycle_exact cycle_itself (l.cycles a) c (AreCyclesSeen v f P start now) (AreCyclesSeen v f Q start later) (ls.listed.cycles_once a) here
+            (one_cycle_seen v f s P Q start now later c d (dart_kept d q) still all count))
+
 -- ---- isolated vertices
 -- these were seen
 pub record AreIsolatedSeen (P : BoundaryPart → Type 0) (start now : ℕ) (done : List VertexId) : Type 0 where
   pub seen : (w : VertexId) → Member w done → P (Isolated w)
   pub count : now ≤ start + length done
 
-pub no_isolated_seen : (P : BoundaryPart → Type 0) (start : ℕ) → AreIsolatedSeen P start start []
-no_isolated_seen P start = record { seen = λ w m. absurd m; count = omega arith }
-
-pub one_isolated_seen : (P Q : BoundaryPart → Type 0) (start now later : ℕ) (c : VertexId) → ((t : BoundaryPart) → P t → Q t) → Q (Isolated c) → later ≡ now + 1 → (done : List VertexId) → AreIsolatedSeen P start now done → AreIsolatedSeen Q start later (done ++ (c ∷ []))
+one_isolated_seen : (P Q : BoundaryPart → Type 0) (start now later : ℕ) (c : VertexId) → ((t : BoundaryPart) → P t → Q t) → Q (Isolated c) → later ≡ now + 1 → (done : List VertexId) → AreIsolatedSeen P start now done → AreIsolatedSeen Q start later (done ++ (c ∷ []))
 one_isolated_seen P Q start now later c still one n done k = record {
   seen = λ w m. elim (member_cases w c done m) [ inl l ↦ still (Isolated w) (k.seen w l) | inr q ↦ subst (λ z. Q (Isolated z)) q one ];
   count = let a = longer done c in let b = k.count in omega arith;
@@ -152,7 +191,7 @@ in_rows_with {X} p (r ∷ rs) n x h k = go (r.0 == n) refl (in_rows_with p rs n 
         omega arith
 
 -- all isolated vertices of a face
-pub face_isolated_seen : (v : View) (f : Faces) (l : Lists) (a : FaceId) (P : BoundaryPart → Type 0) (start now : ℕ) → AreLists v f l → AreIsolatedSeen P start now (l.bare a) → ((w : VertexId) → IsOnBoundary v f a (Isolated w) → P (Isolated w)) × (now ≤ start + isolated_size f a)
+face_isolated_seen : (v : View) (f : Faces) (l : Lists) (a : FaceId) (P : BoundaryPart → Type 0) (start now : ℕ) → AreLists v f l → AreIsolatedSeen P start now (l.bare a) → ((w : VertexId) → IsOnBoundary v f a (Isolated w) → P (Isolated w)) × (now ≤ start + isolated_size f a)
 face_isolated_seen v f l a P start now ls k =
     let m = matched (λ (w : VertexId) (r : ℕ × FaceId). (r.0 == w.0) && (r.1.0 == a.0)) (λ (r : ℕ × FaceId). r.1.0 == a.0) (l.bare a) f.bare
     (λ r. once_at_most (λ (w : VertexId). (r.0 == w.0) && (r.1.0 == a.0)) (r.1.0 == a.0) (l.bare a) (ls.listed.bare_once a)
@@ -170,3 +209,44 @@ face_isolated_seen v f l a P start now ls k =
         go : (o : Option FaceId) → row_at f.bare w.0 ≡ o → IsSome o → bare_or o ≡ a → 1 ≤ count_by (λ (r : ℕ × FaceId). (r.0 == w.0) && (r.1.0 == a.0)) f.bare
         go None q i e = absurd (false≢true i)
         go (Some x) q i e = in_rows_with (λ (y : FaceId). y.0 == a.0) f.bare w.0 x q (eq-eqb x.0 a.0 (ap (λ (z : FaceId). z.0) e))
+
+-- the face's isolated vertices are read up to `at`, and what was read was seen
+abbrev pub AreIsolatedRead : Lists → FaceId → (BoundaryPart → Type 0) → ℕ → ℕ → Option VertexId → Type 0
+AreIsolatedRead l a P start now at = IsReading vertex_same vertex_exact vertex_itself (l.bare a) at (AreIsolatedSeen P start now)
+
+abbrev pub isolated_left : Lists → FaceId → Option VertexId → ℕ
+isolated_left l a at = left_at vertex_same vertex_exact vertex_itself (l.bare a) at
+
+module _ (v : View) (f : Faces) (l : Lists) (a : FaceId) (ls : AreLists v f l) (P : BoundaryPart → Type 0) (start now : ℕ) (at : Option VertexId) where
+  pub isolated_begin : at ≡ first_of (l.bare a) → now ≡ start → AreIsolatedRead l a P start now at
+  isolated_begin e n =
+      subst (λ o. AreIsolatedRead l a P start now o) (sym e)
+      (reads_first vertex_same vertex_exact vertex_itself (l.bare a) (AreIsolatedSeen P start now) (record { seen = λ w m. absurd m; count = omega (n, arith) }))
+
+  module _ (r : AreIsolatedRead l a P start now at) where
+    pub isolated_end : at ≡ None → ((w : VertexId) → IsOnBoundary v f a (Isolated w) → P (Isolated w)) × (now ≤ start + isolated_size f a)
+    isolated_end e =
+        face_isolated_seen v f l a P start now ls
+        (all_read vertex_same vertex_exact vertex_itself (l.bare a) (AreIsolatedSeen P start now) (subst (λ o. AreIsolatedRead l a P start now o) e r))
+
+    module _ (w : VertexId) (e : at ≡ Some w) where
+      reached : AreIsolatedRead l a P start now (Some w)
+      reached = subst (λ o. AreIsolatedRead l a P start now o) e r
+
+      pub vertex_listed : HasBareFace f w × (bare_face_in f w ≡ a)
+      vertex_listed = (ls.listed.bare a w).0 (there vertex_same vertex_exact vertex_itself (l.bare a) w (AreIsolatedSeen P start now) reached)
+
+      module _ (next : Option VertexId) (n : next ≡ vertex_follower w (l.bare (bare_face_in f w))) where
+        then_is : vertex_follower w (l.bare a) ≡ next
+        then_is = sym (n ∙ ap (λ b. vertex_follower w (l.bare b)) vertex_listed.1)
+
+        pub isolated_nearer : isolated_left l a next < isolated_left l a at
+        isolated_nearer =
+            subst (λ (z : Option VertexId × Option VertexId). isolated_left l a z.0 < isolated_left l a z.1) (λ i. (then_is i, sym e i))
+            (fewer_left vertex_same vertex_exact vertex_itself (l.bare a) w (AreIsolatedSeen P start now) (ls.listed.bare_once a) reached)
+
+        pub isolated_go_on : (Q : BoundaryPart → Type 0) (later : ℕ) → ((t : BoundaryPart) → P t → Q t) → Q (Isolated w) → later ≡ now + 1 → AreIsolatedRead l a Q start later next
+        isolated_go_on Q later still one count =
+            subst (λ o. AreIsolatedRead l a Q start later o) then_is
+            (one_more_read vertex_same vertex_exact vertex_itself (l.bare a) w (AreIsolatedSeen P start now) (AreIsolatedSeen Q start later) (ls.listed.bare_once a) reached
+            (one_isolated_seen P Q start now later w still one count))

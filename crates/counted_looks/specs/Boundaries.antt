@@ -4,6 +4,8 @@ use Rattle.std.specs.List.{count_by}
 use Rattle.slab_laws.specs.declared.names.FaceId.{FaceId}
 use Rattle.slab_laws.specs.View.{View, Faces, HasVertex, HasDart, HasBareFace, cycle_in, face_in, bare_face_in}
 use Rattle.arr_notes.specs.CycleNames.{dart_names}
+use Rattle.dcel_records.specs.declared.spot.Spot.{Spot}
+use Rattle.dcel_records.specs.declared.spot.Spot.TheVariants.{Vertex, Edge}
 use Rattle.counted_looks.specs.declared.boundary_part.BoundaryPart.{BoundaryPart}
 use Rattle.counted_looks.specs.declared.boundary_part.BoundaryPart.TheVariants.{Dart, Isolated}
 
@@ -11,6 +13,11 @@ use Rattle.counted_looks.specs.declared.boundary_part.BoundaryPart.TheVariants.{
 abbrev pub HasPart : View → BoundaryPart → Type 0
 HasPart v (Dart d) = HasDart v d
 HasPart v (Isolated w) = HasVertex v w
+
+-- the part as a look is told it: a dart, whichever way it goes, or a vertex (this project)
+abbrev pub spot_of : BoundaryPart → Spot
+spot_of (Dart d) = Edge d
+spot_of (Isolated w) = Vertex w
 
 -- it is on the boundary of the face: a dart whose cycle bounds it, or a vertex without darts that lies in it (CGAL manual, outer and inner boundaries and isolated vertices of a face)
 abbrev pub IsOnBoundary : View → Faces → FaceId → BoundaryPart → Type 0

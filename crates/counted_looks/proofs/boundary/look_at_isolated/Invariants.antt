@@ -1,6 +1,5 @@
 use Rattle.counted_looks.specs.declared.boundary_part.BoundaryPart.{BoundaryPart}
-use Rattle.counted_looks.proofs.ListReads.{IsReading, left_at}
-use Rattle.counted_looks.proofs.PartsSeen.{AreIsolatedSeen, vertex_same, vertex_exact, vertex_itself}
+use Rattle.counted_looks.proofs.PartsSeen.{AreIsolatedRead, isolated_left}
 use Rattle.counted_looks.proofs.boundary.look_at_isolated.Given as goal
 
 -- the vertices that were read were looked at
@@ -10,8 +9,8 @@ invariant-vertices g l =
     record {
       kept : (k : _) → g.K.Looker.may_look v k l.fn.looker → g.K.Looker.may_look v k l.looker;
       still : (t : BoundaryPart) → g.K.Looker.has_seen v l.fn.looker t → g.K.Looker.has_seen v l.looker t;
-      reading : IsReading vertex_same vertex_exact vertex_itself ((g.S.NameCalls.lists l.sight).bare l.fn.face) l.at (AreIsolatedSeen (λ t. g.K.Looker.has_seen v l.looker t) l.fn.steps l.steps);
+      read : AreIsolatedRead (g.S.NameCalls.lists l.sight) l.fn.face (g.K.Looker.has_seen v l.looker) l.fn.steps l.steps l.at;
     }
 
 abbrev pub decreases-vertices : goal.decreases-vertices
-decreases-vertices g l = left_at vertex_same vertex_exact vertex_itself ((g.S.NameCalls.lists l.sight).bare l.fn.face) l.at
+decreases-vertices g l = isolated_left (g.S.NameCalls.lists l.sight) l.fn.face l.at
