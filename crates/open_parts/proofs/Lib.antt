@@ -5,4 +5,5 @@ pub mod SplitThere
 pub mod Turn
 pub mod FromEdges
 pub mod FromVertices
+pub mod OnTheWay
 pub mod PartLaws

@@ -1,5 +1,5 @@
 -- What is at an end of a part that meets nothing tells its face, and what is at the other end is on this face's boundary.
-use Rattle.std.proofs.Common.{◌≡◌, ◌≢◌, ◌⊎◌, Bool, true, false, not, Option, Some, None, arith, refl, sym, ap, ◌∙◌, subst, inl, inr}
+use Rattle.std.proofs.Common.{◌≡◌, ◌≢◌, ◌⊎◌, Bool, true, false, not, Some, None, arith, refl, sym, ap, ◌∙◌, subst, inl, inr}
 use Rattle.std.specs.Prelude.{pos, ◌-ℤ◌, ◌*ℤ◌}
 use Rattle.std.specs.List.{Contains}
 use Rattle.std.proofs.lemmas.Int.{ints, by_lt_z}
@@ -14,22 +14,19 @@ use Rattle.slab_laws.specs.declared.names.DartId.{DartId}
 use Rattle.slab_laws.specs.declared.names.FaceId.{FaceId}
 use Rattle.slab_laws.specs.declared.names.VertexId.{VertexId}
 use Rattle.slab_laws.specs.Cycles.{left_of_dart}
-use Rattle.slab_laws.specs.Darts.{Dart, source, target, start}
+use Rattle.slab_laws.specs.Darts.{Dart, target, start}
 use Rattle.slab_laws.specs.FacesSound.{IsSound}
 use Rattle.slab_laws.specs.Meets.{SameFace}
-use Rattle.slab_laws.specs.Rotation.{twin, earlier}
+use Rattle.slab_laws.specs.Rotation.{twin}
 use Rattle.slab_laws.specs.Skeleton.{inside, side}
 use Rattle.slab_laws.specs.Slabs.{left_cell}
 use Rattle.slab_laws.specs.Sound.{skeleton_of, edge_between, edge_in, dart_in, IsGraphSound}
-use Rattle.slab_laws.specs.View.{View, Faces, HasVertex, HasDart, HasBareFace, IsOutOf, point_in, source_in, twin_in, target_in, cycle_in, face_in, bare_face_in}
+use Rattle.slab_laws.specs.View.{View, Faces, HasVertex, HasDart, HasFace, HasBareFace, point_in, twin_in, target_in, cycle_in, face_in, bare_face_in}
 use Rattle.slab_faces.specs.PointLaws.{IsApart}
 use Rattle.slab_faces.proofs.Walls.{side-lower, side-upper}
 use Rattle.slab_faces.proofs.Turns.{face_trans, face_sym}
-use Rattle.sound_views.proofs.NamedDarts.{names_are_darts, source_by, edge_known, known_edge}
+use Rattle.sound_views.proofs.NamedDarts.{names_are_darts, edge_known, known_edge}
 use Rattle.rotation_order.specs.VertexRings.{IsBare}
-use Rattle.rotation_order.specs.RingOrder.{sooner_by}
-use Rattle.rotation_order.proofs.Turning.{soon}
-use Rattle.arr_notes.specs.AfterAround.{after_in}
 use Rattle.sound_changes.proofs.PointInside.{IsInside, inside_out, inside_in}
 use Rattle.sound_changes.specs.EdgePlaces.{dart_between, IsPlaceFor}
 use Rattle.sound_changes.proofs.KnownNames.{points_proper, points_ascend, edges_ascend, point_known, known_point}
@@ -39,14 +36,15 @@ use Rattle.face_steps.specs.VertexSteps.{IsFaceRound}
 use Rattle.face_steps.proofs.FaceAhead.{faces_ahead}
 use Rattle.dcel_records.specs.Spots.{IsInFace}
 use Rattle.open_parts.specs.Parts.{IsClearBetween, IsFaceBetween, IsOnSide, TellsFace, at_vertex, in_edge, in_face, HasDartInto, IsOnBoundary}
-use Rattle.open_parts.specs.PartLaws.{PartsHaveOneFace, PartsNameOneFace, FirstReachedIsOnBoundary}
+use Rattle.open_parts.specs.PartLaws.{FacesAreTold, PartsHaveOneFace, PartsNameOneFace, FirstReachedIsOnBoundary}
 use Rattle.open_parts.proofs.Between.{IsNearer, nearer, up_edge, down_edge, both_ways, some_between, on_one_line}
 use Rattle.open_parts.proofs.MorePoints.{IsListedPlane, one_point}
+use Rattle.open_parts.proofs.OnTheWay.{told_there}
 use Rattle.open_parts.proofs.FromFaces.{from_face}
 use Rattle.open_parts.proofs.FromEdges.{from_edge}
 use Rattle.open_parts.proofs.FromVertices.{before_it}
 use Rattle.face_changes.specs.FacesByPairs.{beside, AreFacesTold}
-use Rattle.face_changes.proofs.FacesByPairs.{faces_told_by_pairs}
+use Rattle.face_changes.proofs.FacesByPairs.{has_name, faces_told_by_pairs}
 use Rattle.face_changes.proofs.LinkedCycles.{dart_there}
 
 module _ (v : View) (s : IsGraphSound v) where
@@ -59,6 +57,12 @@ module _ (v : View) (s : IsGraphSound v) where
     from_edges = λ e E. let d = known_edge v e E in subst (λ (z : Edge). inside z r ≡ false) (sym d.2) (k.no_edge d.0 d.1);
   }
 
+  -- a point that p sees lies in the face that is told towards it
+  sees_face : (f : Faces) (p t : Point) (face : FaceId) → IsProper p → IsProper t → p ≢ t → IsSeenFrom (skeleton_of v) p t → TellsFace v f p t face → IsFaceRound v f face t
+  sees_face f p t _ P T n seen (at_vertex u at has e k) = faces_ahead v f u at t s has T (subst (λ y. IsPlaceFor v u at (dart_between y t)) (sym e) k) (subst (λ y. IsSeenFrom (skeleton_of v) y t) (sym e) seen)
+  sees_face f p t _ P T n seen (in_edge d has j k) = (beside d, has, refl, from_edge (skeleton_of v) drawn (edge_in v d) (edge_known v d has) p P j t T n (dart_in v d).forward k seen)
+  sees_face f p t face P T n seen (in_face face' k r) = (r.0, r.1, r.2, face_trans (skeleton_of v) _ _ _ r.3 (from_face (skeleton_of v) drawn p P (apart p P k) t T n seen))
+
   module _ (f : Faces) (p q : Point) (P : IsProper p) (Q : IsProper q) (clear : IsClearBetween v p q) (t : Point) (T : IsProper t) (i : inside (edge_between p q) t ≡ true) where
     n : IsNearer p q t
     n = nearer p q t P Q T i
@@ -66,48 +70,28 @@ module _ (v : View) (s : IsGraphSound v) where
     seen : IsSeenFrom (skeleton_of v) p t
     seen = record { off = apart t T (clear t T i); between = λ r R j. apart r R (clear r R (n.within r R j)) }
 
-    -- a place is for all points on the way
-    place_there : (u : VertexId) (at : Option DartId) → HasVertex v u → point_in v u ≡ p → IsPlaceFor v u at (dart_between p q) → IsPlaceFor v u at (dart_between p t)
-    place_there u None has e k = k
-    place_there u (Some a) has e k = (k.0, met)
-      where
-        there : (d : DartId) → IsOutOf v u d → source (dart_in v d) ≡ source (dart_between p q)
-        there d h = names_are_darts.source v d s h.0 ∙ ap (point_in v) h.1 ∙ e ∙ sym (source_by p q)
-
-        after : IsOutOf v u (after_in v a)
-        after = let A = s.twinned.has a k.0.0 in (s.linked.has (twin_in v a) A, s.linked.joins (twin_in v a) A ∙ ap (source_in v) (s.twinned.back a k.0.0) ∙ k.0.1)
-
-        itself : earlier (dart_in v a) (dart_in v (after_in v a)) ≡ earlier (dart_in v a) (dart_in v (after_in v a))
-        itself = refl
-
-        met : sooner_by earlier (dart_in v a) (dart_between p t) (dart_in v (after_in v a)) ≡ true
-        met = (λ j. soon (n.turns.behind (dart_in v a) (there a k.0) j) (itself j) (n.turns.before (dart_in v (after_in v a)) (there (after_in v a) after) j)) ∙ k.1
-
     told : (face : FaceId) → TellsFace v f p q face → IsFaceRound v f face t
-    told _ (at_vertex u at has e k) = faces_ahead v f u at t s has T (subst (λ y. IsPlaceFor v u at (dart_between y t)) (sym e) (place_there u at has e k)) (subst (λ y. IsSeenFrom (skeleton_of v) y t) (sym e) seen)
-    told _ (in_edge d has j k) = (beside d, has, refl, from_edge (skeleton_of v) drawn (edge_in v d) (edge_known v d has) p P j t T n.apart (dart_in v d).forward (side_there (dart_in v d).forward k) seen)
-      where
-        E : Contains (skeleton_of v).edges (edge_in v d)
-        E = edge_known v d has
-
-        on : side (edge_in v d) p ≡ pos 0
-        on = (inside_out (edge_in v d) p (points_proper v s _ (s.plane.lower_in (edge_in v d) E)) (points_proper v s _ (s.plane.upper_in (edge_in v d) E)) P j).on
-
-        side_there : (b : Bool) → IsOnSide (edge_in v d) b q → IsOnSide (edge_in v d) b t
-        side_there true k = n.left (edge_in v d) on k
-        side_there false k = n.right (edge_in v d) on k
-    told face (in_face face' k r) = (r.0, r.1, r.2, face_trans (skeleton_of v) _ _ _ r.3 (from_face (skeleton_of v) drawn p P (apart p P k) t T n.apart seen))
+    told face k = sees_face f p t face P T n.apart seen (told_there v s p q t P Q T i f face k)
 
 pub parts_have_one_face : PartsHaveOneFace
 parts_have_one_face v f p q face s P Q clear k t T i = told v s f p q P Q clear t T i face k
 
+told_by_pairs : (v : View) (f : Faces) → IsSound v f → AreFacesTold v f
+told_by_pairs v f s = faces_told_by_pairs.pairs v f s.faced.0 s.graph s.complete s.cycled s.faced.1
+
+told_is_there : (v : View) (f : Faces) (p q : Point) (face : FaceId) → IsSound v f → TellsFace v f p q face → HasFace f face
+told_is_there v f p q _ s (at_vertex u None has e k) = s.complete.bare_has u ((s.complete.bare u has).1 k)
+told_is_there v f p q _ s (at_vertex u (Some a) has e k) = s.complete.face_has (cycle_in f (twin_in v a)) (s.complete.cycle_has (twin_in v a) (s.graph.twinned.has a k.0.0))
+told_is_there v f p q _ s (in_edge d has j k) = s.complete.face_has (cycle_in f d) (s.complete.cycle_has d has)
+told_is_there v f p q face s (in_face face' k r) = subst (HasFace f) r.2 (has_name v f s.complete (told_by_pairs v f s).there r.0 r.1)
+
+pub faces_are_told : FacesAreTold
+faces_are_told = record { nearer = λ v f p z q face s P Z Q i k. told_there v s p z q P Z Q i f face k; has = told_is_there }
+
 -- ---- what is at the end
 module _ (v : View) (f : Faces) (s : IsSound v f) where
-  told_by_pairs : AreFacesTold v f
-  told_by_pairs = faces_told_by_pairs.pairs v f s.faced.0 s.graph s.complete s.cycled s.faced.1
-
   one_name : (a b : FaceId) (t : Point) → IsFaceRound v f a t → IsFaceRound v f b t → a ≡ b
-  one_name a b t k l = sym k.2 ∙ (told_by_pairs.same k.0 l.0 k.1 l.1).1 (face_trans (skeleton_of v) _ _ _ k.3 (face_sym (skeleton_of v) _ _ l.3)) ∙ l.2
+  one_name a b t k l = sym k.2 ∙ ((told_by_pairs v f s).same k.0 l.0 k.1 l.1).1 (face_trans (skeleton_of v) _ _ _ k.3 (face_sym (skeleton_of v) _ _ l.3)) ∙ l.2
 
   module _ (p q : Point) (P : IsProper p) (Q : IsProper q) (n : p ≢ q) (clear : IsClearBetween v p q) where
     back : IsClearBetween v q p

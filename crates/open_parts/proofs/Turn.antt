@@ -16,32 +16,10 @@ use Rattle.integers.proofs.Tests.{lt_yes}
 use Rattle.slab_laws.specs.Darts.{Dart, ahead, back, kind}
 use Rattle.slab_laws.specs.Rotation.{turn, earlier}
 use Rattle.slab_laws.specs.Skeleton.{HasWeight, left_of, lower_than, on_wall, side, below, precedes, inside}
-use Rattle.slab_faces.proofs.Ints.{zero_back, times_negatives, times_mixed, less_back}
+use Rattle.slab_faces.proofs.Ints.{zero_back}
 use Rattle.slab_faces.proofs.Walls.{left_of-before, left_of-after, same_abscissa, run_positive}
-use Rattle.slab_faces.proofs.Along.{side_above, side_below, upright_side}
+use Rattle.slab_faces.proofs.Along.{side_above, side_below, upright_side, upright_left, upright_right}
 use Rattle.sound_changes.proofs.PointInside.{MeanOf, lower_left, lower_right, upper_left, upper_right}
-
-fall_left : (f : Edge) (v : Point) → lower_than f.low f.high ≡ true → left_of v f.low ≡ true → pos 0 <ℤ ((f.low.y *ℤ f.high.w -ℤ f.high.y *ℤ f.low.w) *ℤ (v.x *ℤ f.low.w -ℤ f.low.x *ℤ v.w))
-unfolding left_of lower_than
-fall_left f v c h = times_negatives (f.low.y *ℤ f.high.w -ℤ f.high.y *ℤ f.low.w) (v.x *ℤ f.low.w -ℤ f.low.x *ℤ v.w) (omega (arith, ints)) (omega (arith, ints))
-
-fall_right : (f : Edge) (v : Point) → lower_than f.low f.high ≡ true → left_of f.low v ≡ true → ((f.low.y *ℤ f.high.w -ℤ f.high.y *ℤ f.low.w) *ℤ (v.x *ℤ f.low.w -ℤ f.low.x *ℤ v.w)) <ℤ pos 0
-unfolding left_of lower_than
-fall_right f v c h = times_mixed (f.low.y *ℤ f.high.w -ℤ f.high.y *ℤ f.low.w) (v.x *ℤ f.low.w -ℤ f.low.x *ℤ v.w) (omega (arith, ints)) (omega (arith, ints))
-
-upright_left : (f : Edge) (v : Point) → HasWeight f.low → left_of f.low f.high ≡ false → left_of f.high f.low ≡ false → lower_than f.low f.high ≡ true → left_of v f.low ≡ true → pos 0 <ℤ side f v
-upright_left f v P a b c h =
-    let i = upright_side f v a b in
-    let k = fall_left f v c h in
-    let o = *ℤ-zero f.low.w in
-    less_back f.low.w (pos 0) (side f v) P (omega (arith, ints))
-
-upright_right : (f : Edge) (v : Point) → HasWeight f.low → left_of f.low f.high ≡ false → left_of f.high f.low ≡ false → lower_than f.low f.high ≡ true → left_of f.low v ≡ true → side f v <ℤ pos 0
-upright_right f v P a b c h =
-    let i = upright_side f v a b in
-    let k = fall_right f v c h in
-    let o = *ℤ-zero f.low.w in
-    less_back f.low.w (side f v) (pos 0) P (omega (arith, ints))
 
 -- ---- which of two darts is met earlier
 by_turn : (d e : Dart) (m n : ℕ) → turn d ≡ m → turn e ≡ n → ltb m n ≡ true → earlier d e ≡ true
