@@ -6,6 +6,7 @@ use lib.IntN.{*ℤ-zero}
 use Rattle.integers.proofs.Reify.{ring, sides}
 use Rattle.integers.proofs.Tests.{not_true, lt_yes, lt_is}
 use Rattle.exact_plane.specs.Plane.{RunsForward}
+use Rattle.exact_plane.specs.Line.{Line, IsOn}
 use Rattle.exact_plane.specs.Point.{Point, reduced}
 use Rattle.plane_graphs.specs.Graph.{Edge}
 use Rattle.plane_graphs.specs.Line.{IsProper, precedes}
@@ -21,6 +22,7 @@ use Rattle.rotation_order.specs.EdgeParts.{lower_part, upper_part, IsTurningAs, 
 use Rattle.rotation_order.proofs.EdgeCuts.{parted}
 use Rattle.rotation_order.proofs.Factors.{same_above}
 use Rattle.sound_changes.specs.EdgePlaces.{dart_between}
+use Rattle.sound_changes.proofs.Collinear.{flat_on_line, on_line_of_ends}
 use Rattle.sound_changes.proofs.PlaneParts.{on_whole}
 use Rattle.sound_changes.proofs.PointInside.{IsInside, inside_out, inside_in, MeanOf, mean_of, from_low, from_high, lower_side, upper_side}
 
@@ -85,6 +87,7 @@ module _ (e : Edge) (t : Point) (L : IsProper e.low) (H : IsProper e.high) (T : 
 
 -- ---- t is strictly between p and q
 pub record IsNearer (p q t : Point) : Type 0 where
+  pub differ : p ≢ q
   pub apart : p ≢ t
   pub within : (r : Point) → IsProper r → inside (edge_between p t) r ≡ true → inside (edge_between p q) r ≡ true
   pub turns : IsTurningAs (dart_between p q) (dart_between p t)
@@ -101,6 +104,7 @@ module _ (p q t : Point) (P : IsProper p) (Q : IsProper q) (T : IsProper t) wher
           let i = within e t P Q T k in
           let m = mean e t P Q T k in
           record {
+            differ = λ z. lt_never (subst (Lt p) (sym z) l);
             apart = λ z. lt_never (subst (Lt p) (sym z) i.after);
             within = λ r R j. subst (λ (x : Edge). inside x r ≡ true) (sym (up_edge p q l)) (in_lower e t P Q T k r R (subst (λ (x : Edge). inside x r ≡ true) (up_edge p t i.after) j));
             turns = subst (λ z. IsTurningAs z (dart_between p t)) (sym (up_dart p q l)) (subst (IsTurningAs (ahead e)) (sym (up_dart p t i.after)) (cut e t P Q T k).at_low);
@@ -114,6 +118,7 @@ module _ (p q t : Point) (P : IsProper p) (Q : IsProper q) (T : IsProper t) wher
           let i = within e t Q P T k in
           let m = mean e t Q P T k in
           record {
+            differ = λ z. lt_never (subst (λ y. Lt y p) (sym z) l);
             apart = λ z. lt_never (subst (λ y. Lt y p) (sym z) i.before);
             within = λ r R j. subst (λ (x : Edge). inside x r ≡ true) (sym (down_edge p q l)) (in_upper e t Q P T k r R (subst (λ (x : Edge). inside x r ≡ true) (down_edge p t i.before) j));
             turns = subst (λ z. IsTurningAs z (dart_between p t)) (sym (down_dart p q l)) (subst (IsTurningAs (back e)) (sym (down_dart p t i.before)) (cut e t Q P T k).at_high);
@@ -208,3 +213,43 @@ some_between p q P Q n = by (tri p q)
     by (less l) = let r = in_order p q P Q l in (r.0, r.1, subst (λ (x : Edge). inside x r.0 ≡ true) (sym (up_edge p q l)) r.2)
     by (same e) = absurd (n e)
     by (more l) = let r = in_order q p Q P l in (r.0, r.1, subst (λ (x : Edge). inside x r.0 ≡ true) (sym (down_edge p q l)) r.2)
+
+-- ---- points of a line that runs from lower points to greater ones
+module _ (l : Line) (p q t : Point) (P : IsProper p) (Q : IsProper q) (T : IsProper t) (p_on : IsOn l p) (q_on : IsOn l q) where
+  -- what is strictly between two of them is one of them
+  pub on_way : Lt p q → inside (edge_between p q) t ≡ true → IsOn l t × Lt p t × Lt t q
+  on_way a h =
+      let i = inside_out (record { low = p; high = q }) t P Q T (subst (λ (x : Edge). inside x t ≡ true) (up_edge p q a) h) in
+      (on_line_of_ends l p q t (span_runs p q P Q a) p_on q_on i.on, i.after, i.before)
+
+  -- and one of them that comes between in order is strictly between
+  pub way_on : RunsForward l.a l.b → IsOn l t → Lt p t → Lt t q → inside (edge_between p q) t ≡ true
+  way_on runs on a b = subst (λ (x : Edge). inside x t ≡ true) (sym (up_edge p q (lt_trans a b))) (inside_in (record { low = p; high = q }) t P Q T (record { after = a; before = b; on = flat_on_line l p q t runs p_on q_on on }))
+
+-- what is strictly between two points between p and q is so too
+pub both_within : (p q t u r : Point) → IsProper p → IsProper q → IsProper t → IsProper u → IsProper r → inside (edge_between p q) t ≡ true → inside (edge_between p q) u ≡ true → inside (edge_between t u) r ≡ true → inside (edge_between p q) r ≡ true
+both_within p q t u r P Q T U R h k j = by (tri p q)
+  where
+    in_order : (e : Edge) → IsProper e.low → IsProper e.high → inside e t ≡ true → inside e u ≡ true → Tri t u → inside e r ≡ true
+    in_order e L H x y (less l) =
+        let a = inside_out e t L H T x in
+        let b = inside_out e u L H U y in
+        let m : inside (record { low = t; high = u }) r ≡ true = subst (λ (z : Edge). inside z r ≡ true) (up_edge t u l) j in
+        let i = inside_out (record { low = t; high = u }) r T U R m in
+        inside_in e r L H R (record { after = lt_trans a.after i.after; before = lt_trans i.before b.before; on = on_one_line (record { low = t; high = u }) r T U R m e a.on b.on })
+    in_order e L H x y (same z) = absurd ((nearer t u r T U R j).differ z)
+    in_order e L H x y (more l) =
+        let a = inside_out e t L H T x in
+        let b = inside_out e u L H U y in
+        let m : inside (record { low = u; high = t }) r ≡ true = subst (λ (z : Edge). inside z r ≡ true) (down_edge t u l) j in
+        let i = inside_out (record { low = u; high = t }) r U T R m in
+        inside_in e r L H R (record { after = lt_trans b.after i.after; before = lt_trans i.before a.before; on = on_one_line (record { low = u; high = t }) r U T R m e b.on a.on })
+
+    by : Tri p q → inside (edge_between p q) r ≡ true
+    by (less l) =
+        let e = up_edge p q l in
+        subst (λ (z : Edge). inside z r ≡ true) (sym e) (in_order (record { low = p; high = q }) P Q (subst (λ (z : Edge). inside z t ≡ true) e h) (subst (λ (z : Edge). inside z u ≡ true) e k) (tri t u))
+    by (same z) = absurd ((nearer p q t P Q T h).differ z)
+    by (more l) =
+        let e = down_edge p q l in
+        subst (λ (z : Edge). inside z r ≡ true) (sym e) (in_order (record { low = q; high = p }) Q P (subst (λ (z : Edge). inside z t ≡ true) e h) (subst (λ (z : Edge). inside z u ≡ true) e k) (tri t u))

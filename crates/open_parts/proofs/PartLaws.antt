@@ -18,11 +18,17 @@ use Rattle.slab_laws.specs.Darts.{Dart, target, start}
 use Rattle.slab_laws.specs.FacesSound.{IsSound}
 use Rattle.slab_laws.specs.Meets.{SameFace}
 use Rattle.slab_laws.specs.Rotation.{twin}
-use Rattle.slab_laws.specs.Skeleton.{inside, side}
+use Rattle.slab_laws.specs.Skeleton.{inside, side, same_point}
 use Rattle.slab_laws.specs.Slabs.{left_cell}
 use Rattle.slab_laws.specs.Sound.{skeleton_of, edge_between, edge_in, dart_in, IsGraphSound}
 use Rattle.slab_laws.specs.View.{View, Faces, HasVertex, HasDart, HasFace, HasBareFace, point_in, twin_in, target_in, cycle_in, face_in, bare_face_in}
+use Rattle.slab_laws.specs.Faces.{cells, face_labels, face_of}
 use Rattle.slab_faces.specs.PointLaws.{IsApart}
+use Rattle.slab_faces.proofs.FacesLemmas.{one_face}
+use Rattle.slab_faces.proofs.Member.{member_in}
+use Rattle.slab_faces.proofs.Parity.{same_point_is, same_point_refl}
+use Rattle.slab_faces.proofs.WallsLemmas.{cell_there}
+use Rattle.std.proofs.lemmas.Bool.{cases_Bool, false≢true}
 use Rattle.slab_faces.proofs.Walls.{side-lower, side-upper}
 use Rattle.slab_faces.proofs.Turns.{face_trans, face_sym}
 use Rattle.sound_views.proofs.NamedDarts.{names_are_darts, edge_known, known_edge}
@@ -36,15 +42,15 @@ use Rattle.face_steps.specs.VertexSteps.{IsFaceRound}
 use Rattle.face_steps.proofs.FaceAhead.{faces_ahead}
 use Rattle.dcel_records.specs.Spots.{IsInFace}
 use Rattle.open_parts.specs.Parts.{IsClearBetween, IsFaceBetween, IsOnSide, TellsFace, at_vertex, in_edge, in_face, HasDartInto, IsOnBoundary}
-use Rattle.open_parts.specs.PartLaws.{FacesAreTold, PartsHaveOneFace, PartsNameOneFace, FirstReachedIsOnBoundary}
-use Rattle.open_parts.proofs.Between.{IsNearer, nearer, up_edge, down_edge, both_ways, some_between, on_one_line}
+use Rattle.open_parts.specs.PartLaws.{FacesAreTold, PartsHaveAFace, PartsHaveOneFace, PartsNameOneFace, FirstReachedIsOnBoundary}
+use Rattle.open_parts.proofs.Between.{IsNearer, nearer, up_edge, down_edge, both_ways, some_between, on_one_line, both_within}
 use Rattle.open_parts.proofs.MorePoints.{IsListedPlane, one_point}
 use Rattle.open_parts.proofs.OnTheWay.{told_there}
 use Rattle.open_parts.proofs.FromFaces.{from_face}
 use Rattle.open_parts.proofs.FromEdges.{from_edge}
 use Rattle.open_parts.proofs.FromVertices.{before_it}
-use Rattle.face_changes.specs.FacesByPairs.{beside, AreFacesTold}
-use Rattle.face_changes.proofs.FacesByPairs.{has_name, faces_told_by_pairs}
+use Rattle.face_changes.specs.FacesByPairs.{Item, outside, beside, round, HasItem, cell_at, name_at, first_or, AreFacesTold}
+use Rattle.face_changes.proofs.FacesByPairs.{first_least, has_name, faces_told_by_pairs}
 use Rattle.face_changes.proofs.LinkedCycles.{dart_there}
 
 module _ (v : View) (s : IsGraphSound v) where
@@ -87,6 +93,36 @@ told_is_there v f p q face s (in_face face' k r) = subst (HasFace f) r.2 (has_na
 
 pub faces_are_told : FacesAreTold
 faces_are_told = record { nearer = λ v f p z q face s P Z Q i k. told_there v s p z q P Z Q i f face k; has = told_is_there }
+
+-- ---- there is such a face
+-- the cell of a thing has the label of the face that its name stands for
+cell_is : (v : View) (f : Faces) (s : IsSound v f) (i : Item) → HasItem v i → s.faced.0 (name_at f i) ≡ face_of (face_labels (skeleton_of v)) (cell_at v i)
+cell_is v f s outside h = (s.faced.1.unbounded (first_or f.faces) (told_by_pairs v f s).there (λ b B l. let k = first_least f.faces b.0 s.complete.faces_ascend B in absurd (omega arith))).0
+cell_is v f s (beside d) h = s.faced.1.darts d h
+cell_is v f s (round w) h = s.faced.1.bare w ((s.complete.bare w h.0).1 h.1)
+
+some_face : (v : View) (f : Faces) (t : Point) → IsSound v f → IsProper t → (a : FaceId) × HasFace f a × IsFaceRound v f a t
+some_face v f t s T =
+    let a = s.faced.1.all (left_cell (skeleton_of v) t) (member_in (cells (skeleton_of v)) _ (cell_there (skeleton_of v) t s.graph.plane T.positive)) in
+    let i = (told_by_pairs v f s).all a.0 a.1 in
+    (a.0, a.1, (i.0, i.1, i.2, one_face (skeleton_of v) (cell_at v i.0) (left_cell (skeleton_of v) t) s.graph.plane (sym (cell_is v f s i.0 i.1) ∙ ap s.faced.0 i.2 ∙ a.2)))
+
+pub parts_have_a_face : PartsHaveAFace
+parts_have_a_face v f p q s P Q n clear =
+    let m = some_between p q P Q n in
+    let a = some_face v f m.0 s m.1 in (
+      a.0,
+      a.1,
+      λ t T i. elim (choose_point m.0 t) [
+        | inl e ↦ subst (IsFaceRound v f a.0) e a.2
+        | inr ne ↦ sees_face v s.graph f m.0 t a.0 m.1 T ne
+            (record { off = apart v s.graph t T (clear t T i); between = λ r R j. apart v s.graph r R (clear r R (both_within p q m.0 t r P Q m.1 T R m.2 i j)) })
+            (in_face a.0 (clear m.0 m.1 m.2) a.2)
+      ],
+    )
+  where
+    choose_point : (x y : Point) → (x ≡ y) ⊎ (x ≢ y)
+    choose_point x y = elim (cases_Bool (same_point x y)) [ inl k ↦ inl (same_point_is x y k) | inr k ↦ inr (λ e. false≢true (sym k ∙ subst (λ z. same_point x z ≡ true) e (same_point_refl x))) ]
 
 -- ---- what is at the end
 module _ (v : View) (f : Faces) (s : IsSound v f) where

@@ -14,6 +14,10 @@ pub record FacesAreTold : Type 0 where
   pub nearer : (v : View) (f : Faces) (p z q : Point) (face : FaceId) → IsGraphSound v → IsProper p → IsProper z → IsProper q → inside (edge_between p z) q ≡ true → TellsFace v f p z face → TellsFace v f p q face
   pub has : (v : View) (f : Faces) (p q : Point) (face : FaceId) → IsSound v f → TellsFace v f p q face → HasFace f face
 
+-- a part that meets nothing lies in one face, which has a name (Fogel, Halperin and Wein: zone of a curve)
+abbrev pub PartsHaveAFace : Type 0
+PartsHaveAFace = (v : View) (f : Faces) (p q : Point) → IsSound v f → IsProper p → IsProper q → p ≢ q → IsClearBetween v p q → (face : FaceId) × HasFace f face × IsFaceBetween v f p q face
+
 -- the part lies in the face that is told at an end (Fogel, Halperin and Wein: zone of a curve)
 abbrev pub PartsHaveOneFace : Type 0
 PartsHaveOneFace = (v : View) (f : Faces) (p q : Point) (face : FaceId) → IsGraphSound v → IsProper p → IsProper q → IsClearBetween v p q → TellsFace v f p q face → IsFaceBetween v f p q face

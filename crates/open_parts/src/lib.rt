@@ -7,11 +7,16 @@
 //! Each function is a law: its contract states it, and its body, being empty, computes nothing.
 #![tactic(auto)]
 
-ghost use Rattle.open_parts.specs.PartLaws.{FacesAreTold, PartsHaveOneFace, PartsNameOneFace, FirstReachedIsOnBoundary};
+ghost use Rattle.open_parts.specs.PartLaws.{FacesAreTold, PartsHaveAFace, PartsHaveOneFace, PartsNameOneFace, FirstReachedIsOnBoundary};
 
 /// What is told towards a point is told towards every point before it, and the face told is there.
 pub fn faces_are_told()
     ensures { FacesAreTold }
+{}
+
+/// A part that meets nothing lies in a face.
+pub fn parts_have_a_face()
+    ensures { PartsHaveAFace }
 {}
 
 /// A part that meets nothing lies in the face that is told at an end of it.
