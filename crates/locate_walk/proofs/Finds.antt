@@ -1,11 +1,10 @@
 -- What a look at a dart tells of its edge, by the ends and the line that were read.
-use Rattle.std.proofs.Common.{◌≡◌, ◌≢◌, Bool, true, inl, inr, refl, sym, ap, ◌∙◌, subst}
+use Rattle.std.proofs.Common.{◌≡◌, true, inl, inr, sym, ap, ◌∙◌, subst}
 use Rattle.std.specs.Prelude.{Some, nat_eq}
 use Rattle.std.proofs.lemmas.Bool.{eqb-true}
 use Rattle.exact_plane.specs.Point.{Point}
 use Rattle.exact_plane.specs.Sign.{sign_of}
 use Rattle.exact_plane.specs.Span.{Span, AreOnWay}
-use Rattle.exact_plane.specs.declared.sides.Sign.TheVariants.{Minus, Zero, Plus}
 use Rattle.plane_graphs.specs.Graph.{Edge as PlaneEdge}
 use Rattle.plane_graphs.specs.Line.{IsProper}
 use Rattle.plane_graphs.proofs.Order.{Lt, lt_out, lt_both, lt_trans}
@@ -24,11 +23,10 @@ use Rattle.counted_looks.specs.declared.glance.Looked.{Looked}
 use Rattle.dcel_records.specs.declared.spot.Spot.TheVariants.{Edge}
 use Rattle.edges_below.specs.Highest.{IsSpanning}
 use Rattle.face_location.proofs.Passings.{spans_ahead, spans_behind, spans_out, apart_past, minus_past, zero_met, plus_below}
-use Rattle.face_location.specs.Passing.{IsPast, IsBelow}
+use Rattle.face_location.specs.Passing.{IsBelow}
 use Rattle.face_location.specs.Spots.{IsSpotOf}
-use Rattle.locate_walk.specs.Finds.{IsSided, IsOffEnds, IsTested, IsFound}
+use Rattle.locate_walk.specs.Finds.{IsSided, IsOffEnds, IsFound}
 use Rattle.locate_walk.specs.Passages.{IsBetween, IsApart}
-use Rattle.locate_walk.specs.declared.found.EdgeBelow.{EdgeBelow}
 use Rattle.locate_walk.specs.declared.found.Found.{Found}
 use Rattle.locate_walk.specs.declared.found.Found.TheVariants.{At, Below, Past}
 use Rattle.locate_walk.proofs.Compared.{differ}
@@ -109,10 +107,13 @@ module _ (v : View) (f : Faces) (s : IsGraphSound v) (a : FaceId) (q : Point) (Q
 
     -- where the twin is on the boundary of the face, the side is told there
     pub twin_tells : nat_eq (face_in f (cycle_in f r)).0 a.0 ≡ true → IsFound v f q a (Dart d) Past
-    twin_tells h = (behind_off, λ t. elim t [
-      | inl w ↦ absurd (lt_both (lt_out low high w.1) (lt_trans ends_first starts_last))
-      | inr n ↦ absurd (n (ap (λ x. face_in f (cycle_in f x)) (sym e) ∙ ap face_id (eqb-true (face_in f (cycle_in f r)).0 a.0 h)))
-    ])
+    twin_tells h = (
+      behind_off,
+      λ t. elim t [
+        | inl w ↦ absurd (lt_both (lt_out low high w.1) (lt_trans ends_first starts_last))
+        | inr n ↦ absurd (n (ap (λ x. face_in f (cycle_in f x)) (sym e) ∙ ap face_id (eqb-true (face_in f (cycle_in f r)).0 a.0 h)))
+      ],
+    )
 
   -- ---- one with both ends on one side of the point
   pub apart_found : IsApart l.source q l.target → IsFound v f q a (Dart d) Past
@@ -121,5 +122,5 @@ module _ (v : View) (f : Faces) (s : IsGraphSound v) (a : FaceId) (q : Point) (Q
     λ t. apart_past v d q (λ k. elim (spans_out v s d has q Q k) [
       | inl x ↦ h.not_ahead ((subst (λ y. Lt y q) (sym look.0) x.0).is, (subst (Lt q) (sym look.1) x.1).is)
       | inr x ↦ h.not_back ((subst (λ y. Lt y q) (sym look.1) x.0).is, (subst (Lt q) (sym look.0) x.1).is)
-    ])
+    ]),
   )

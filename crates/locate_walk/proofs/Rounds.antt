@@ -1,5 +1,5 @@
 -- What is known after a round of a face's boundary, and how the walk goes on from it.
-use Rattle.std.proofs.Common.{◌≡◌, ◌≢◌, ◌+◌, ◌<◌, ◌≤◌, ℕ, true, false, arith, refl, sym, ap, ◌∙◌, ◌⊎◌, inl, inr, subst}
+use Rattle.std.proofs.Common.{◌≡◌, ◌≢◌, ◌+◌, ◌<◌, ◌≤◌, ℕ, true, false, arith, refl, sym, ap, ◌∙◌, inl, inr, subst}
 use Rattle.std.specs.Prelude.{◌-◌, Option, Some, None, IfSome, ◌==◌}
 use Rattle.std.proofs.lemmas.Bool.{cases_Bool, eqb-true, eq-eqb, false≢true}
 use Rattle.exact_plane.specs.Point.{Point}
@@ -10,10 +10,8 @@ use Rattle.slab_laws.specs.declared.names.FaceId.{FaceId}
 use Rattle.slab_laws.specs.FacesSound.{IsSound}
 use Rattle.slab_laws.specs.Skeleton.{inside}
 use Rattle.slab_laws.specs.Slabs.{right_below}
-use Rattle.slab_laws.specs.Sound.{skeleton_of, edge_in, dart_in, IsGraphSound}
+use Rattle.slab_laws.specs.Sound.{skeleton_of, dart_in, IsGraphSound}
 use Rattle.slab_laws.specs.View.{View, Faces, HasDart, HasFace, face_id, twin_in, cycle_in, face_in}
-use Rattle.arr_notes.specs.Curves.{IsForward}
-use Rattle.sound_views.specs.ForwardDarts.{IsForwardOf}
 use Rattle.sound_views.proofs.ForwardDarts.{is_behind}
 use Rattle.counted_looks.specs.Boundaries.{IsOnBoundary, boundary_size}
 use Rattle.counted_looks.specs.declared.boundary_part.BoundaryPart.{BoundaryPart}
@@ -32,7 +30,6 @@ use Rattle.locate_walk.specs.Looks.{dart_of, IsBelowOrNone, IsRaised, IsDartClea
 use Rattle.locate_walk.specs.Rounds.{IsHighestRound, looks_below}
 use Rattle.locate_walk.specs.declared.found.EdgeBelow.{EdgeBelow}
 use Rattle.locate_walk.specs.declared.highest.Highest.{Highest}
-use Rattle.locate_walk.proofs.Takes.{raised_from}
 
 -- ---- all on the boundary is clear, so all is passed
 module _ (v : View) (f : Faces) (q : Point) (a : FaceId) (o : Option DartId) (s : IsGraphSound v) (clear : (t : BoundaryPart) → IsOnBoundary v f a t → IsPartClear v f q a o t) where
@@ -126,7 +123,7 @@ module _ (v : View) (f : Faces) (q : Point) (last : Option EdgeBelow) (face : Fa
       pub way_on : HasFace f over → (then : ℕ) → then ≤ now + size face → IsOnWay v f q best over before then
       way_on has then h =
           let n = faces_are_visited_once.next size v f q (dart_of last) (dart_of best) s (seen_or_none v q last w.below) (seen_or_none v q best r.below) higher
-              (subst (IsBoundaryPassed v f q (dart_of best)) w.over r.passed) (λ e. other (is ∙ e ∙ sym w.over)) in
+          (subst (IsBoundaryPassed v f q (dart_of best)) w.over r.passed) (λ e. other (is ∙ e ∙ sym w.over)) in
           let l = subst (λ (x : FaceId). size x + size_ahead size v f q (dart_of best) ≤ size_ahead size v f q (dart_of last)) (sym w.over) n in
           let k = w.looks in
           record { below = r.below; over = is; has = has; looks = omega arith }

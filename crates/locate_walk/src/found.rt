@@ -58,7 +58,13 @@ fn side_of(dart: DartId, edge: Span, point: &Point) -> Found
 
 // What a look at a dart of a face finds. Its ends are compared first, which rules out nearly all darts; where both darts of an
 // edge are on the boundary of the face, the side of the edge is told at the forward one alone.
-fn found_at_dart(glance: &Glance, face: FaceId, dart: DartId, looked: &Looked, point: &Point) -> Found
+fn found_at_dart(
+    glance: &Glance,
+    face: FaceId,
+    dart: DartId,
+    looked: &Looked,
+    point: &Point,
+) -> Found
     requires map { IsSoundMap glance.now }
     requires dart { HasDart glance.now.graph dart }
     requires looked { IsLookOf glance.now.graph (Edge dart) looked.now }
@@ -68,13 +74,21 @@ fn found_at_dart(glance: &Glance, face: FaceId, dart: DartId, looked: &Looked, p
     match passage_of(&looked.source, point, &looked.target) {
         Passage::FromPoint => Found::At(Spot::Vertex(glance.source(dart))),
         Passage::ToPoint => Found::At(Spot::Vertex(glance.target(dart))),
-        Passage::Forward => side_of(dart, span_between(looked.source, looked.target, looked.line), point),
+        Passage::Forward => side_of(
+            dart,
+            span_between(looked.source, looked.target, looked.line),
+            point,
+        ),
         Passage::Backward => {
             let twin = glance.twin(dart);
             if glance.face(glance.cycle(twin)) == face {
                 return Found::Past;
             }
-            side_of(twin, span_between(looked.target, looked.source, looked.line), point)
+            side_of(
+                twin,
+                span_between(looked.target, looked.source, looked.line),
+                point,
+            )
         }
         Passage::Apart => Found::Past,
     }

@@ -1,4 +1,4 @@
-ghost use Rattle.std.specs.Prelude.{◌≡◌, ◌+◌, ◌≤◌};
+ghost use Rattle.std.specs.Prelude.{◌+◌, ◌≤◌};
 ghost use Rattle.slab_laws.specs.View.{HasFace};
 ghost use Rattle.counted_looks.specs.Boundaries.{boundary_size};
 ghost use Rattle.dcel_records.specs.RecordsView.{tables_of};

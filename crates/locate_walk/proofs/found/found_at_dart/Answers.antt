@@ -1,7 +1,7 @@
 use Rattle.std.proofs.Common.{◌≡◌, sym, ap, ◌∙◌, subst}
 use Rattle.std.specs.Prelude.{nat_eq}
 use Rattle.plane_graphs.proofs.Lines.{point_is_proper}
-use Rattle.slab_laws.specs.View.{View, HasVertex, point_in, target_in, face_in, cycle_in}
+use Rattle.slab_laws.specs.View.{HasVertex, point_in, face_in}
 use Rattle.sound_views.proofs.ForwardDarts.{target_has}
 use Rattle.dcel_records.specs.RecordsView.{tables_of}
 use Rattle.locate_walk.specs.Passages.{IsPassage}

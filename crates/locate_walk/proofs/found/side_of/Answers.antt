@@ -1,4 +1,4 @@
-use Rattle.std.proofs.Common.{◌≡◌, refl, sym, ap, ◌∙◌}
+use Rattle.std.proofs.Common.{refl, sym, ap, ◌∙◌}
 use Rattle.exact_plane.specs.Line.{side_of as side_number}
 use Rattle.exact_plane.specs.Sign.{sign_of}
 use Rattle.edge_predicates.proofs.Sides.{sign_same}
