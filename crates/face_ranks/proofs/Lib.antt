@@ -1,0 +1,3 @@
+pub mod AscendingPlaces
+pub mod RankedOuter
+pub mod Located
