@@ -32,7 +32,7 @@ use Rattle.sound_views.proofs.CycleDartOrder.{lead_not_after}
 use Rattle.sound_views.proofs.CycleDartOrder.{lead_in as lead_there}
 use Rattle.sound_views.proofs.FacesAscend.{distinct_ascends, none_before, first_there}
 use Rattle.sound_views.proofs.FirstDarts.{of_distinct}
-use Rattle.sound_views.proofs.ListedPlaces.{rising_map, rising_ascending, to_in}
+use Rattle.sound_views.proofs.ListedPlaces.{Rising, rising_map, rising_ascending, to_in}
 use Rattle.sound_views.proofs.NamedDarts.{names_are_darts}
 use Rattle.sound_views.proofs.NamesOrdered.{darts_are_ordered}
 use Rattle.record_orders.specs.CycleKeys.{same_cycle, cycle_key, same_face, first_faces, ranked_faces, cycle_keys}
@@ -165,7 +165,7 @@ module _ (v : View) (f : Faces) (s : IsSound v f) where
       not_less (inl e) = absurd (omega arith)
       not_less (inr k) = absurd (omega arith)
 
-  no_outer_first : (c : CycleId) → ¬ IsOuterOf f first c
+  pub no_outer_first : (c : CycleId) → ¬ IsOuterOf f first c
   no_outer_first c o = (s.faced.1.unbounded first (subst (HasFace f) o.1 (s.complete.face_has c o.0)) none_less).1 c o
 
   pub bound : (a : FaceId) → HasFace f a → Bound a
@@ -206,26 +206,29 @@ module _ (v : View) (f : Faces) (s : IsSound v f) where
       by c M N (more h) = absurd (none_before (by_ends v) (ends_total v) (same_cycle f) (dart_order v) (order_ascends v) d e M (ordered e k.has) (on_one e d (sym c)) h)
 
   -- ---- the ranked faces
+  after_first : (b : FaceId) → ((d : DartId) × Member d outers × (b ≡ face_beside d)) → same_face first b ≡ false
+  after_first b r =
+      let l = outer_lead r.0 r.1 in
+      false_from_ne_true _ (λ t. no_outer_first (cycle_in f r.0) (subst (λ x. IsOuterOf f x (cycle_in f r.0)) (sym r.2 ∙ sym (by_number first b (eqb-true first.0 b.0 t))) l.outer))
+
+  apart : (d e : DartId) → Member d outers → Member e outers → by_ends v d e ≡ Less → same_face (face_beside d) (face_beside e) ≡ false
+  apart d e M N l =
+      false_from_ne_true _ (λ t.
+      let L = outer_lead d M in
+      let K = outer_lead e N in
+      let h = by_number (face_beside d) (face_beside e) (eqb-true (face_beside d).0 (face_beside e).0 t) in
+      none_before (by_ends v) (ends_total v) (same_cycle f) (dart_order v) (order_ascends v) e d (of_filter is_of_outer e firsts N).0 (ordered d L.has)
+      (on_one d e (one_outer (face_beside e) (cycle_in f d) (cycle_in f e) (subst (λ x. IsOuterOf f x (cycle_in f d)) h L.outer) K.outer)) l)
+
+  -- no two are one
+  pub ranked_rises : (a : FaceId) → HasFace f a → Rising (λ b c. same_face b c ≡ false) (first ∷ map face_beside outers)
+  ranked_rises a has = (
+    λ b m. after_first b (of_map face_beside b outers (to_in (map face_beside outers) b m)),
+    rising_map (λ d e. by_ends v d e ≡ Less) (λ b c. same_face b c ≡ false) face_beside outers (λ d e M N l. apart d e (to_in outers d M) (to_in outers e N) l) (rising_ascending (by_ends v) outers outers_ascend),
+  )
+
   pub ranked_are : (a : FaceId) → HasFace f a → ranked_faces f (cycle_keys f (dart_order v)) ≡ first ∷ map face_beside outers
   ranked_are a has =
       ap (λ fs. distinct same_face (fs ++ map (λ c. c.face) (filter (λ c. is_outer c.kind) (cycle_keys f (dart_order v))))) (first_after f.faces a.0 (to_member f.faces a.0 has))
       ∙ ap (λ (fs : List FaceId). distinct same_face (first ∷ fs)) (map_filter_map (cycle_key f) (λ c. is_outer c.kind) (λ c. c.face) firsts)
-      ∙ distinct_all same_face (first ∷ map face_beside outers) (
-        λ b m. after_first b (of_map face_beside b outers (from_in_list (map face_beside outers) b m)),
-        rising_map (λ d e. by_ends v d e ≡ Less) (λ b c. same_face b c ≡ false) face_beside outers (λ d e M N l. false_from_ne_true _ (λ t. apart d e (to_in outers d M) (to_in outers e N) l (by_number (face_beside d) (face_beside e) (eqb-true (face_beside d).0 (face_beside e).0 t)))) (rising_ascending (by_ends v) outers outers_ascend),
-      )
-    where
-      from_in_list : (fs : List FaceId) (b : FaceId) → In fs b → Member b fs
-      from_in_list fs b m = to_in fs b m
-
-      after_first : (b : FaceId) → ((d : DartId) × Member d outers × (b ≡ face_beside d)) → same_face first b ≡ false
-      after_first b r =
-          let l = outer_lead r.0 r.1 in
-          false_from_ne_true _ (λ t. no_outer_first (cycle_in f r.0) (subst (λ x. IsOuterOf f x (cycle_in f r.0)) (sym r.2 ∙ sym (by_number first b (eqb-true first.0 b.0 t))) l.outer))
-
-      apart : (d e : DartId) → Member d outers → Member e outers → by_ends v d e ≡ Less → face_beside d ≡ face_beside e → ⊥
-      apart d e M N l h =
-          let L = outer_lead d M in
-          let K = outer_lead e N in
-          none_before (by_ends v) (ends_total v) (same_cycle f) (dart_order v) (order_ascends v) e d (of_filter is_of_outer e firsts N).0 (ordered d L.has)
-          (on_one d e (one_outer (face_beside e) (cycle_in f d) (cycle_in f e) (subst (λ x. IsOuterOf f x (cycle_in f d)) h L.outer) K.outer)) l
+      ∙ distinct_all same_face (first ∷ map face_beside outers) (ranked_rises a has)

@@ -5,7 +5,13 @@
 //! computes nothing.
 #![tactic(auto)]
 
+mod count;
+mod leads;
+
 ghost use Rattle.face_ranks.specs.Ranks.{FaceIsLocated};
+
+pub use count::rank_by_count;
+pub use leads::outer_lead;
 
 /// A point on no vertex and no edge lies in the face of the rank that the name of its face has.
 pub fn face_is_located()
