@@ -5,3 +5,4 @@ pub mod EndOrder
 pub mod RankOrder
 pub mod ListWalks
 pub mod LeadsRead
+pub mod Counting

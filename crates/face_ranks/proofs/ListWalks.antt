@@ -1,5 +1,5 @@
 -- Going through the cycles that a face lists.
-use Rattle.std.proofs.Common.{◌≡◌, ℕ, ◌+◌, ◌<◌, Bool, true, false, cond, arith, refl, sym, ap, ◌∙◌, subst, ◌⊎◌, inl, inr, List, [], ◌∷◌, length}
+use Rattle.std.proofs.Common.{◌≡◌, ◌<◌, Bool, true, false, cond, arith, refl, sym, ap, ◌∙◌, subst, ◌⊎◌, inl, inr, List, [], ◌∷◌, length}
 use Rattle.std.specs.Prelude.{◌==◌, Option, Some, None}
 use Rattle.std.proofs.lemmas.Bool.{cases_Bool, eqb-true}
 use Rattle.integers.proofs.Tests.{same_number, other_number}
@@ -8,8 +8,8 @@ use Rattle.plane_graphs.proofs.Lists.{clash}
 use Rattle.slab_laws.specs.declared.names.CycleId.{CycleId}
 use Rattle.slab_laws.specs.FaceLists.{first_of, cycle_follower, follower, AreOnce}
 
-by_number : (c e : CycleId) → c.0 ≡ e.0 → c ≡ e
-by_number c e h = λ i. record { 0 = h i }
+pub cycle_by_number : (c e : CycleId) → c.0 ≡ e.0 → c ≡ e
+cycle_by_number c e h = λ i. record { 0 = h i }
 
 -- the cycles from the next one on
 unfoldable pub cycles_from : Option CycleId → List CycleId → List CycleId
@@ -43,7 +43,7 @@ follower_there c (x ∷ xs) e h =
 behind : (o : Option CycleId) (x : CycleId) (xs : List CycleId) → (Member x xs → ⊥) → ((e : CycleId) → o ≡ Some e → Member e xs) → cycles_from o (x ∷ xs) ≡ cycles_from o xs
 unfolding cycles_from
 behind None x xs once there = refl
-behind (Some e) x xs once there = rw (other_number x.0 e.0 (λ q. once (subst (λ z. Member z xs) (sym (by_number x e q)) (there e refl)))) refl
+behind (Some e) x xs once there = rw (other_number x.0 e.0 (λ q. once (subst (λ z. Member z xs) (sym (cycle_by_number x e q)) (there e refl)))) refl
 
 pub from_next : (c : CycleId) (cs : List CycleId) → Member c cs → AreOnce cs → cycles_from (Some c) cs ≡ c ∷ cycles_from (cycle_follower c cs) cs
 unfolding cycles_from follower
@@ -53,7 +53,7 @@ from_next c (x ∷ xs) m once = step (x.0 == c.0) refl m (λ n. from_next c xs n
     step : (b : Bool) → (x.0 == c.0) ≡ b → Member c (x ∷ xs) → (Member c xs → cycles_from (Some c) xs ≡ c ∷ cycles_from (cycle_follower c xs) xs)
         → cond b (x ∷ xs) (cycles_from (Some c) xs) ≡ c ∷ cycles_from (cond b (first_of xs) (cycle_follower c xs)) (x ∷ xs)
     step true t m f =
-        ap (λ (e : CycleId). e ∷ xs) (by_number x c (eqb-true x.0 c.0 t))
+        ap (λ (e : CycleId). e ∷ xs) (cycle_by_number x c (eqb-true x.0 c.0 t))
         ∙ ap (λ (es : List CycleId). c ∷ es) (sym (behind (first_of xs) x xs once.0 (first_there xs) ∙ from_first xs))
     step false t (inl e) f = clash (subst (λ (z : CycleId). (z.0 == c.0) ≡ true) e (same_number c.0)) t
     step false t (inr n) f = f n ∙ ap (λ (es : List CycleId). c ∷ es) (sym (behind (cycle_follower c xs) x xs once.0 (follower_there c xs)))

@@ -1,12 +1,12 @@
 -- Location answers the rank of the face that is named.
-use Rattle.std.proofs.Common.{◌≡◌, ℕ, ◌+◌, Bool, true, false, cond, refl, sym, ap, ap₂, ◌∙◌, subst, inl, inr, List, [], ◌∷◌, map}
+use Rattle.std.proofs.Common.{◌≡◌, ℕ, ◌+◌, Bool, true, false, cond, refl, sym, ap, ap₂, ◌∙◌, subst, inl, inr, List, [], ◌∷◌}
 use Rattle.std.specs.Prelude.{not, Some, None}
 use Rattle.std.specs.List.{position_or_len}
 use Rattle.std.specs.Option.{option_map}
 use Rattle.std.proofs.lemmas.Bool.{false_from_ne_true, eqb-true, eq-eqb}
 use Rattle.plane_graphs.specs.Ascending.{Member}
 use Rattle.plane_graphs.specs.Graph.{Edge}
-use Rattle.plane_graphs.proofs.Lists.{both_ways, of_map}
+use Rattle.plane_graphs.proofs.Lists.{both_ways}
 use Rattle.slab_laws.specs.declared.cell.Cell.TheVariants.{Face}
 use Rattle.slab_laws.specs.declared.names.FaceId.{FaceId}
 use Rattle.slab_laws.specs.declared.slab_cell.SlabCell.{SlabCell}
@@ -31,7 +31,7 @@ use Rattle.record_orders.specs.CycleKeys.{same_face, cycle_keys, ranked_faces}
 use Rattle.arr_text.proofs.FaceNames.{faces_named, first_face}
 use Rattle.face_ranks.specs.Ranks.{rank_in, FaceIsLocated}
 use Rattle.face_ranks.proofs.AscendingPlaces.{place_of_map}
-use Rattle.face_ranks.proofs.RankedOuter.{by_number, face_beside, outers, first, ranked_are, first_has_face, outer_lead}
+use Rattle.face_ranks.proofs.RankedOuter.{by_number, ranked_are, ranked_has}
 
 -- tests that agree on the elements find one place
 place_same : {X : Type 0} (p q : X → Bool) (xs : List X) → ((x : X) → Member x xs → p x ≡ q x) → position_or_len p xs ≡ position_or_len q xs
@@ -54,13 +54,6 @@ module _ (v : View) (f : Faces) (s : IsSound v f) where
       (λ t. subst (λ x. same_cell (cell a) (cell x) ≡ true) (by_number a b (eqb-true a.0 b.0 t)) (cells_exact.itself (cell a)))
       (λ t. eq-eqb a.0 b.0 (ap (λ (x : FaceId). x.0) (s.faced.1.differ a b A B (cells_exact.path (cell a) (cell b) t))))
 
-  ranked_has : (a b : FaceId) → HasFace f a → Member b (first v f s ∷ map (face_beside v f s) (outers v f s)) → HasFace f b
-  ranked_has a b A (inl e) = subst (HasFace f) (sym e) (first_has_face v f s a A)
-  ranked_has a b A (inr m) =
-      let r = of_map (face_beside v f s) b (outers v f s) m in
-      let o = (outer_lead v f s r.0 r.1).outer in
-      subst (HasFace f) (sym r.2) (s.complete.face_has _ o.0)
-
   -- the rank of a name is that of its cell
   pub rank_is : (a : FaceId) → HasFace f a → rank (subdivision (skeleton_of v)) (cell a) ≡ rank_in v f a
   unfolding rank rank_in
@@ -68,7 +61,7 @@ module _ (v : View) (f : Faces) (s : IsSound v f) where
       let fs = ranked_faces f (cycle_keys f (dart_order v)) in
       ap (position_or_len (same_cell (cell a))) (sym (faces_named v f s cell s.faced.1))
       ∙ place_of_map cell (same_cell (cell a)) fs
-      ∙ sym (place_same (same_face a) (λ b. same_cell (cell a) (cell b)) fs (λ b m. same_faces a b A (ranked_has a b A (subst (Member b) (ranked_are v f s a A) m))))
+      ∙ sym (place_same (same_face a) (λ b. same_cell (cell a) (cell b)) fs (λ b m. same_faces a b A (ranked_has v f s a b A (subst (Member b) (ranked_are v f s a A) m))))
 
   -- ---- what has a face
   item_face : (i : Item) → HasItem v i → HasFace f (name_at f i) × (cell (name_at f i) ≡ face_of (face_labels (skeleton_of v)) (cell_at v i))

@@ -1,8 +1,7 @@
 -- The ranks of faces: that of the unbounded one, which of two is less, and how many are less than one.
 use Rattle.std.proofs.Common.{◌≡◌, ℕ, zero, suc, ◌+◌, ◌<◌, ◌≤◌, Bool, true, false, cond, arith, refl, sym, ap, ◌∙◌, subst, ◌⊎◌, inl, inr, List, [], ◌∷◌, map, length, Less, is_lt}
 use Rattle.std.specs.Prelude.{nat_lt, ◌==◌}
-use Rattle.std.specs.List.{position_or_len, count_by, Contains}
-use Rattle.std.specs.Ordering.{ordering_reverse}
+use Rattle.std.specs.List.{position_or_len, count_by}
 use Rattle.std.proofs.lemmas.Bool.{cases_lt, false_from_ne_true, eqb-true, eq-eqb}
 use Rattle.std.proofs.lemmas.List.Sums.{sum_by-cons}
 use Rattle.integers.proofs.Tests.{nat_lt_yes, nat_lt_no}
@@ -12,19 +11,16 @@ use Rattle.plane_graphs.proofs.Lists.{in_map, of_map}
 use Rattle.slab_laws.specs.declared.names.CycleId.{CycleId}
 use Rattle.slab_laws.specs.declared.names.DartId.{DartId}
 use Rattle.slab_laws.specs.declared.names.FaceId.{FaceId}
-use Rattle.slab_laws.specs.Darts.{Dart}
 use Rattle.slab_laws.specs.FacesSound.{lead_in, IsSound, IsOuterOf}
-use Rattle.slab_laws.specs.Listed.{distinct}
-use Rattle.slab_laws.specs.Rotation.{dart_cmp, dart_below}
-use Rattle.slab_laws.specs.Rows.{least_dart_of}
+use Rattle.slab_laws.specs.Rotation.{dart_below}
 use Rattle.slab_laws.specs.Sound.{skeleton_of, dart_in}
 use Rattle.slab_laws.specs.Tables.{NamesAscend}
-use Rattle.slab_laws.specs.View.{View, Faces, HasDart, HasFace, cycle_in, face_in, face_id}
+use Rattle.slab_laws.specs.View.{View, Faces, HasFace, cycle_in, face_id}
 use Rattle.slab_faces.proofs.ClassesLemmas.{IsExact}
-use Rattle.slab_faces.proofs.DartOrder.{dart_cmp_total, dart_below_order, lead_lead}
+use Rattle.slab_faces.proofs.DartOrder.{dart_below_order}
 use Rattle.slab_faces.proofs.EveryFace.{none_counted}
 use Rattle.slab_faces.proofs.LocationLemmas.{distinct_once}
-use Rattle.slab_faces.proofs.Member.{Member as In, in_member, member_in}
+use Rattle.slab_faces.proofs.Member.{in_member}
 use Rattle.slab_faces.proofs.Shift.{IsSetBy, same_sum}
 use Rattle.slab_faces.proofs.Sums.{each, sum_by-same}
 use Rattle.sound_views.specs.Orders.{dart_order}
@@ -36,7 +32,7 @@ use Rattle.face_ranks.specs.OuterLeads.{IsLeadOf}
 use Rattle.face_ranks.specs.Ranks.{rank_in}
 use Rattle.face_ranks.proofs.AscendingPlaces.{place_here, place_later, place_of_map, distinct_all, lesser_first}
 use Rattle.face_ranks.proofs.LeadsRead.{lead_read}
-use Rattle.face_ranks.proofs.RankedOuter.{by_number, by_ends, ends_total, Compared, compared, face_beside, outers, outers_ascend, first, Bound, bound, outer_lead, lead_listed, one_lead, ranked_are, ranked_rises, no_outer_first, first_has_face}
+use Rattle.face_ranks.proofs.RankedOuter.{by_number, by_ends, ends_total, Compared, compared, face_beside, outers, outers_ascend, first, Bound, bound, outer_lead, lead_listed, one_lead, ranked_are, ranked_rises, ranked_has, no_outer_first}
 use Rattle.face_ranks.proofs.RankedOuter.Compared.{same, less, more}
 use Rattle.face_ranks.proofs.RankedOuter.Bound.{unbounded, bounded}
 
@@ -142,12 +138,6 @@ module _ (v : View) (f : Faces) (s : IsSound v f) where
       by (unbounded is n) = inl is
       by (bounded c o u) = let r = lead_of a c o in inr (subst (λ b. Member b (map (face_beside v f s) (outers v f s))) r.1.outer.1 (in_map (face_beside v f s) r.0 (outers v f s) (lead_listed v f s a r.0 r.1)))
 
-  ranked_has : (a b : FaceId) → HasFace f a → Member b ranked → HasFace f b
-  ranked_has a b A (inl e) = subst (HasFace f) (sym e) (first_has_face v f s a A)
-  ranked_has a b A (inr m) =
-      let r = of_map (face_beside v f s) b (outers v f s) m in
-      lead_face b r.0 (subst (λ x. IsLeadOf v f x r.0) (sym r.2) (outer_lead v f s r.0 r.1))
-
   -- as many faces come before a face as its rank says
   pub ranks_below : (a : FaceId) → HasFace f a → count_by (λ b. nat_lt (rank_in v f b) (rank_in v f a)) (map face_id f.faces) ≡ rank_in v f a
   unfolding rank_in
@@ -161,7 +151,7 @@ module _ (v : View) (f : Faces) (s : IsSound v f) where
       let moved : count_by p (map face_id f.faces) ≡ count_by p ranked =
       same_sum same_face (λ b. cond (p b) 1 0) (map face_id f.faces) ranked (set (map face_id f.faces) names) (set ranked rise)
       (λ b B. let r = of_map face_id b f.faces (to_member _ b B) in from_member ranked b (ranked_there b (subst (λ (x : FaceId). HasFace f x) (sym r.2) (from_member f.faces r.0 r.1))))
-      (λ b B. from_member _ b (in_map face_id b.0 f.faces (to_member f.faces b.0 (ranked_has a b A (to_member ranked b B))))) in
+      (λ b B. from_member _ b (in_map face_id b.0 f.faces (to_member f.faces b.0 (ranked_has v f s a b A (to_member ranked b B))))) in
       let inside : position_or_len (same_face a) ranked < length ranked = place_within same_face faces_exact ranked a (from_in ranked a (ranked_there a A)) in
       let count = places_below same_face faces_exact ranked rise (position_or_len (same_face a) ranked) (omega arith) in
       moved ∙ subst (λ fs. count_by (λ b. nat_lt (position_or_len (same_face b) fs) (position_or_len (same_face a) fs)) ranked ≡ position_or_len (same_face a) fs) (sym all) count

@@ -24,7 +24,6 @@ use Rattle.slab_laws.specs.Skeleton.{Skeleton}
 use Rattle.slab_laws.specs.Sound.{skeleton_of, dart_in}
 use Rattle.slab_laws.specs.Tables.{name_after, names, NamesAscend}
 use Rattle.slab_laws.specs.View.{View, Faces, HasDart, HasFace, cycle_in, kind_in, face_in, dart_id, face_id}
-use Rattle.slab_faces.proofs.Member.{Member as In}
 use Rattle.slab_faces.proofs.DartOrder.{dart_cmp_total, tied_darts, lead_lead}
 use Rattle.face_changes.specs.FacesByPairs.{first_or}
 use Rattle.sound_views.specs.Orders.{dart_order}
@@ -37,6 +36,7 @@ use Rattle.sound_views.proofs.NamedDarts.{names_are_darts}
 use Rattle.sound_views.proofs.NamesOrdered.{darts_are_ordered}
 use Rattle.record_orders.specs.CycleKeys.{same_cycle, cycle_key, same_face, first_faces, ranked_faces, cycle_keys}
 use Rattle.face_ranks.specs.OuterLeads.{IsLeadOf}
+use Rattle.face_ranks.proofs.ListWalks.{cycle_by_number}
 use Rattle.face_ranks.proofs.AscendingPlaces.{distinct_all, map_filter_map}
 
 pub outer_out : (k : CycleKind) → is_outer k ≡ true → k ≡ Outer
@@ -48,9 +48,6 @@ outer_in k e = ap is_outer e
 
 pub by_number : (a b : FaceId) → a.0 ≡ b.0 → a ≡ b
 by_number a b h = λ i. record { 0 = h i }
-
-cycle_number : (c e : CycleId) → c.0 ≡ e.0 → c ≡ e
-cycle_number c e h = λ i. record { 0 = h i }
 
 -- ---- the first of ascending names is the least
 first_least : (ns : List ℕ) → NamesAscend ns → (m : ℕ) → Member m ns → Member (first_or ns).0 ns × ((m ≡ (first_or ns).0) ⊎ ((first_or ns).0 < m))
@@ -143,7 +140,7 @@ module _ (v : View) (f : Faces) (s : IsSound v f) where
       first_there (by_ends v) (ends_total v) (same_cycle f) (dart_order v) (order_ascends v) d (ordered d D)
       (λ y m same less.
       let Y = (darts_are_ordered v y s.graph).1 (from_member (dart_order v) y m) in
-      let one = (s.cycled.orbits y d Y D).0 (cycle_number (cycle_in f y) (cycle_in f d) (eqb-true (cycle_in f y).0 (cycle_in f d).0 same)) in
+      let one = (s.cycled.orbits y d Y D).0 (cycle_by_number (cycle_in f y) (cycle_in f d) (eqb-true (cycle_in f y).0 (cycle_in f d).0 same)) in
       clash (ap is_lt less) (subst (λ (h : Dart). dart_below (dart_in v y) h ≡ false) (one ∙ sym own) (lead_not_after g (dart_in v y))))
 
   -- ---- the first face, and the bounded ones
@@ -232,3 +229,9 @@ module _ (v : View) (f : Faces) (s : IsSound v f) where
       ap (λ fs. distinct same_face (fs ++ map (λ c. c.face) (filter (λ c. is_outer c.kind) (cycle_keys f (dart_order v))))) (first_after f.faces a.0 (to_member f.faces a.0 has))
       ∙ ap (λ (fs : List FaceId). distinct same_face (first ∷ fs)) (map_filter_map (cycle_key f) (λ c. is_outer c.kind) (λ c. c.face) firsts)
       ∙ distinct_all same_face (first ∷ map face_beside outers) (ranked_rises a has)
+
+  pub ranked_has : (a b : FaceId) → HasFace f a → Member b (first ∷ map face_beside outers) → HasFace f b
+  ranked_has a b A (inl e) = subst (HasFace f) (sym e) (first_has_face a A)
+  ranked_has a b A (inr m) =
+      let r = of_map face_beside b outers m in
+      subst (HasFace f) (sym r.2) (s.complete.face_has (cycle_in f r.0) (outer_lead r.0 r.1).outer.0)

@@ -1,4 +1,3 @@
-use Rattle.face_ranks.proofs.RankOrder.{ranks_below}
 use Rattle.face_ranks.proofs.Located.{face_is_located}
 use Rattle.face_ranks.proofs.face_is_located.Goals as goal
 

@@ -1,13 +1,10 @@
-use Rattle.std.proofs.Common.{◌≡◌, nat_lt, ℕ, ◌+◌, ◌-◌, ◌*◌, ◌<◌, ◌≤◌, length}
-use Rattle.slab_laws.specs.View.{HasFace}
+use Rattle.std.proofs.Common.{length}
 use Rattle.dcel_records.specs.RecordsView.{tables_of}
-use Rattle.dcel_records.specs.SoundMaps.{IsSoundMap}
-use Rattle.face_ranks.specs.OuterLeads.{IsLeadOf}
-use Rattle.face_ranks.specs.Ranks.{rank_in}
+use Rattle.face_ranks.proofs.Counting.{IsCounted, faces_left}
 use Rattle.face_ranks.proofs.count.rank_by_count.Given as goal
 
 abbrev pub invariant-loop-other : goal.invariant-loop-other
-invariant-loop-other l = ?
+invariant-loop-other l = IsCounted l.records.graph (tables_of l.records) l.face l.rank l.last
 
 abbrev pub decreases-loop-other : goal.decreases-loop-other
-decreases-loop-other l = ?
+decreases-loop-other l = length (faces_left (tables_of l.records) l.last)

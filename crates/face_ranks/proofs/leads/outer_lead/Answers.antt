@@ -1,12 +1,9 @@
-use Rattle.std.proofs.Common.{◌≡◌, true, false, sym, ap, ◌∙◌, subst}
-use Rattle.plane_graphs.specs.Ascending.{Member}
+use Rattle.std.proofs.Common.{◌≡◌, sym, ap, ◌∙◌, subst}
 use Rattle.plane_graphs.proofs.Lists.{clash}
 use Rattle.slab_laws.specs.Kinds.{is_outer}
-use Rattle.slab_laws.specs.declared.names.CycleId.{CycleId}
 use Rattle.slab_laws.specs.declared.names.CycleKind.TheVariants.{Outer}
 use Rattle.slab_laws.specs.FaceLists.{cycle_follower}
-use Rattle.slab_laws.specs.FacesSound.{IsOuterOf}
-use Rattle.slab_laws.specs.View.{HasCycle, HasDart, HasFace, face_in, cycle_in, kind_in}
+use Rattle.slab_laws.specs.View.{HasDart, cycle_in, kind_in}
 use Rattle.dcel_records.specs.RecordsView.{tables_of, lists_of}
 use Rattle.face_ranks.proofs.LeadsRead.{outer_told, lead_read}
 use Rattle.face_ranks.proofs.ListWalks.{walk_begins, walk_goes, walk_less, walk_ends}
