@@ -16,6 +16,7 @@ use Rattle.slab_laws.specs.View.{HasCycle, HasFace, HasBareFace, face_in, face_o
 use Rattle.chain_laws.specs.Links.{Node, trail, after_at, first_or, key_at}
 use Rattle.chain_laws.proofs.Distinct.{IsOnce, once_from_distinct}
 use Rattle.chain_laws.proofs.Tabled.{row-tabled, ascend-tabled, key_named}
+use Rattle.dcel_records.specs.declared.ranks.RankKey.{RankKey}
 use Rattle.dcel_records.specs.declared.rows.StoredCycle.{StoredCycle}
 use Rattle.dcel_records.specs.declared.rows.StoredDart.{StoredDart}
 use Rattle.dcel_records.specs.declared.rows.StoredFace.{StoredFace}
@@ -116,7 +117,7 @@ module _ (vs : Slab StoredVertex) (ds : Slab StoredDart) (cs : Slab StoredCycle)
     bare_once = λ a. own_once vertex_placing vs fs k.bare vertex_id (λ x. x.0) (λ n. refl) a.0;
   }
 
-  module _ (mv : Option MovedView) (vr cr : ℕ) (h : RecordsView) (is : records_view vs ds cs fs mv vr cr ≡ h) where
+  module _ (mv : Option MovedView) (od : List RankKey) (vr cr : ℕ) (h : RecordsView) (is : records_view vs ds cs fs mv od vr cr ≡ h) where
     lists_are : lists_in vs cs fs ≡ lists_of h
     lists_are = sym (lists_seen vs cs fs ds mv cr) ∙ ap lists_of is
 
