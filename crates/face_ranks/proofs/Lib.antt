@@ -6,3 +6,5 @@ pub mod RankOrder
 pub mod ListWalks
 pub mod LeadsRead
 pub mod Counting
+pub mod KeysRanked
+pub mod KeysPushed

@@ -11,8 +11,8 @@ use dcel_records::Records;
 use exact_plane::Point;
 use slab_laws::{CycleKind, DartId, Darts, FaceId, FaceLists, Faced};
 
-// The points that a dart leaves and reaches.
-fn ends_of(records: &Records, d: DartId) -> (Point, Point)
+/// The points that a dart leaves and reaches.
+pub(crate) fn ends_of(records: &Records, d: DartId) -> (Point, Point)
     requires sound { IsGraphSound records.now.graph }
     requires dart { HasDart records.now.graph d }
     ensures source { result.0 ≡ point_in records.now.graph (source_in records.now.graph d) }

@@ -7,11 +7,13 @@
 
 mod count;
 mod leads;
+mod order;
 
 ghost use Rattle.face_ranks.specs.Ranks.{FaceIsLocated};
 
 pub use count::rank_by_count;
 pub use leads::outer_lead;
+pub use order::rank_faces;
 
 /// A point on no vertex and no edge lies in the face of the rank that the name of its face has.
 pub fn face_is_located()
