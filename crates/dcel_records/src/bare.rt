@@ -61,12 +61,7 @@ impl Records {
         ensures moved { self.new.faces.moved ≡ self.old.faces.moved }
         ensures graph { graph_part self.new ≡ graph_part self.old }
     {
-        leave_face(
-            &mut self.vertices,
-            &mut self.faces,
-            &mut self.isolated,
-            v,
-        );
+        leave_face(&mut self.vertices, &mut self.faces, &mut self.isolated, v);
     }
 
     /// An isolated vertex becomes the first in the list of another face, or of its own.
