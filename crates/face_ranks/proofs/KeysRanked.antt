@@ -38,6 +38,9 @@ use Rattle.face_ranks.proofs.RankOrder.{faces_exact, lead_on, rank_bounded}
 key_total : IsTotalOrder key_cmp
 key_total = then_total (on_total (λ (k : RankKey). k.source) point_cmp_total) (on_total (λ (k : RankKey). k.target) point_cmp_total)
 
+not_both : (c : Ordering) → c ≡ Less → c ≡ Equal → ⊥
+not_both c i j = cc
+
 -- the keys have one face
 abbrev pub same_key_face : RankKey → RankKey → Bool
 same_key_face a b = a.face.0 == b.face.0
@@ -50,17 +53,17 @@ all_of P (x ∷ xs) h = (h x (inl refl), all_of P xs (λ y m. h y (inr m)))
 ranked_place : (rank : FaceId → ℕ) (n : ℕ) (ks : List RankKey) (a : FaceId) → AreRanked rank n ks → Member a (map (λ k. k.face) ks) → rank a ≡ n + position_or_len (λ k. same_face a k.face) ks
 unfolding AreRanked
 ranked_place rank n [] a r m = absurd m
-ranked_place rank n (k ∷ ks) a r m = step (same_face a k.face) refl m
+ranked_place rank n (k ∷ ks) a r m = step (same_face a k.face) refl m (λ i. ranked_place rank (n + 1) ks a r.1 i)
   where
-    step : (b : Bool) → same_face a k.face ≡ b → Member a (map (λ k. k.face) (k ∷ ks)) → rank a ≡ n + position_or_len (λ k. same_face a k.face) (k ∷ ks)
-    step true t m =
+    step : (b : Bool) → same_face a k.face ≡ b → Member a (map (λ k. k.face) (k ∷ ks)) → (Member a (map (λ k. k.face) ks) → rank a ≡ n + 1 + position_or_len (λ k. same_face a k.face) ks) → rank a ≡ n + position_or_len (λ k. same_face a k.face) (k ∷ ks)
+    step true t m f =
         let e = ap rank (faces_exact.path a k.face t) in
         let p = place_here (λ (k : RankKey). same_face a k.face) k ks t in
         let q = r.0 in
         omega arith
-    step false t (inl e) = clash (subst (λ x. same_face a x ≡ true) e (faces_exact.itself a)) t
-    step false t (inr i) =
-        let ih = ranked_place rank (n + 1) ks a r.1 i in
+    step false t (inl e) f = clash (subst (λ x. same_face a x ≡ true) e (faces_exact.itself a)) t
+    step false t (inr i) f =
+        let ih = f i in
         let p = place_later (λ (k : RankKey). same_face a k.face) k ks t in
         omega arith
 
@@ -150,8 +153,8 @@ module _ (v : View) (f : Faces) (l : Lists) (s : IsSound v f) (on : AreDartsOn v
     where
       by : (x y : DartId) → k ≡ dart_key x → m ≡ dart_key y → by_ends v x y ≡ Equal → Compared (by_ends v) x y → same_key_face k m ≡ true
       by x y p q h (same i) = subst (λ z. same_key_face k z ≡ true) (p ∙ ap dart_key i ∙ sym q) (eq-eqb k.face.0 k.face.0 refl)
-      by x y p q h (less i) = absurd cc
-      by x y p q h (more i) = absurd (let t = (ends_total v).antisymm x y in cc)
+      by x y p q h (less i) = absurd (not_both (by_ends v x y) i h)
+      by x y p q h (more i) = absurd (not_both (by_ends v y x) i ((ends_total v).antisymm y x ∙ ap ordering_reverse h))
 
   ascend : (ks : List RankKey) → AreInKeyOrder ks → IsDistinct same_key_face ks → ((k : RankKey) → Member k ks → Member k ranked_keys) → IsAscending key_cmp ks
   unfolding AreInKeyOrder IsDistinct

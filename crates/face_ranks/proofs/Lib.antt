@@ -8,3 +8,4 @@ pub mod LeadsRead
 pub mod Counting
 pub mod KeysRanked
 pub mod KeysPushed
+pub mod GivenRanks

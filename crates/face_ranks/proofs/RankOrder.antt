@@ -15,7 +15,7 @@ use Rattle.slab_laws.specs.FacesSound.{lead_in, IsSound, IsOuterOf}
 use Rattle.slab_laws.specs.Rotation.{dart_below}
 use Rattle.slab_laws.specs.Sound.{skeleton_of, dart_in}
 use Rattle.slab_laws.specs.Tables.{NamesAscend}
-use Rattle.slab_laws.specs.View.{View, Faces, HasFace, cycle_in, face_id}
+use Rattle.slab_laws.specs.View.{View, Faces, HasDart, HasFace, cycle_in, face_id}
 use Rattle.slab_faces.proofs.ClassesLemmas.{IsExact}
 use Rattle.slab_faces.proofs.DartOrder.{dart_below_order}
 use Rattle.slab_faces.proofs.EveryFace.{none_counted}
