@@ -5,7 +5,7 @@ use Rattle.std.specs.Cmp.{IsTotalOrder}
 use Rattle.std.specs.List.{AllByRecursion, IsDistinct, position_or_len}
 use Rattle.std.specs.List.Sorted.{IsPermutation}
 use Rattle.std.specs.Ordering.{ordering_reverse}
-use Rattle.std.proofs.lemmas.Bool.{cases_Bool, false_from_ne_true, eqb-true, eq-eqb}
+use Rattle.std.proofs.lemmas.Bool.{false_from_ne_true, eqb-true, eq-eqb}
 use Rattle.std.proofs.lemmas.Cmp.{on_total, then_total}
 use Rattle.std.proofs.lemmas.List.Sorted.{Contains-permutation, IsPermutation-sym}
 use Rattle.std.proofs.lemmas.Map.Keys.{IsDistinct-IsPermutation}
@@ -16,13 +16,12 @@ use Rattle.plane_graphs.proofs.Lists.{clash, of_map, in_map, of_filter, in_filte
 use Rattle.slab_laws.specs.declared.names.CycleId.{CycleId}
 use Rattle.slab_laws.specs.declared.names.DartId.{DartId}
 use Rattle.slab_laws.specs.declared.names.FaceId.{FaceId}
-use Rattle.slab_laws.specs.Darts.{Dart, source, target}
+use Rattle.slab_laws.specs.Darts.{source, target}
 use Rattle.slab_laws.specs.FaceLists.{Lists, AreDartsOn}
 use Rattle.slab_laws.specs.FacesSound.{lead_in, IsSound, IsOuterOf}
-use Rattle.slab_laws.specs.Kinds.{is_outer}
 use Rattle.slab_laws.specs.Sound.{dart_in}
 use Rattle.slab_laws.specs.Tables.{names, NamesAscend}
-use Rattle.slab_laws.specs.View.{View, Faces, HasDart, HasCycle, HasFace, cycle_id, cycle_in, kind_in, face_in}
+use Rattle.slab_laws.specs.View.{View, Faces, HasFace, cycle_id, cycle_in, kind_in, face_in}
 use Rattle.sound_views.proofs.NameTables.{has_name, name_has}
 use Rattle.record_orders.specs.CycleKeys.{same_face}
 use Rattle.dcel_records.specs.declared.ranks.RankKey.{RankKey}
@@ -31,7 +30,7 @@ use Rattle.face_ranks.specs.OuterKeys.{cycle_rank_key, is_outer_in, outer_keys, 
 use Rattle.face_ranks.specs.OuterLeads.{IsLeadOf}
 use Rattle.face_ranks.specs.Ranks.{rank_in}
 use Rattle.face_ranks.proofs.AscendingPlaces.{place_here, place_later, place_of_map}
-use Rattle.face_ranks.proofs.RankedOuter.{by_number, by_ends, ends_total, outer_out, outer_in, Compared, compared, face_beside, outers, outers_ascend, outer_lead, lead_listed, one_outer, one_lead, first, no_outer_first}
+use Rattle.face_ranks.proofs.RankedOuter.{by_number, by_ends, ends_total, outer_out, outer_in, Compared, compared, face_beside, outers, outers_ascend, outer_lead, lead_listed, one_outer, first, no_outer_first}
 use Rattle.face_ranks.proofs.RankedOuter.Compared.{same, less, more}
 use Rattle.face_ranks.proofs.RankOrder.{faces_exact, lead_on, rank_bounded}
 
@@ -95,7 +94,9 @@ module _ (v : View) (f : Faces) (l : Lists) (s : IsSound v f) (on : AreDartsOn v
       let x = on c.0 o.0 in
       let d = lead_on v f s (face_in f c.0) c.0 o (l.dart_on c.0) x.0 x.1 in
       let one = one_outer v f s (face_in f c.0) (cycle_in f d.0) c.0 d.1.outer o in
-      subst (λ y. Member y ranked_keys) (sym (key_of (face_in f c.0) d.0 d.1) ∙ ap (cycle_rank_key v f l) one ∙ sym c.2) (in_map dart_key d.0 (outers v f s) (lead_listed v f s (face_in f c.0) d.0 d.1))
+      let key : dart_key d.0 ≡ cycle_rank_key v f l (cycle_in f d.0) = sym (key_of (face_in f c.0) d.0 d.1) in
+      let is : cycle_rank_key v f l (cycle_in f d.0) ≡ k = ap (cycle_rank_key v f l) one ∙ sym c.2 in
+      subst (λ y. Member y ranked_keys) (key ∙ is) (in_map dart_key d.0 (outers v f s) (lead_listed v f s (face_in f c.0) d.0 d.1))
 
   back : (k : RankKey) → Member k ranked_keys → Member k (outer_keys v f l)
   back k m =

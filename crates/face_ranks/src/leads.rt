@@ -38,7 +38,7 @@ pub(crate) fn is_less(records: &Records, d: DartId, e: DartId) -> bool
 /// (CGAL manual, outer boundary of a face).
 ///
 /// It looks at the cycles of the face up to that one, and goes along this once. It takes no memory.
-pub fn outer_lead(records: &Records, face: FaceId) -> Option<DartId>
+pub(crate) fn outer_lead(records: &Records, face: FaceId) -> Option<DartId>
     requires map { IsSoundMap records.now }
     requires face { HasFace (tables_of records.now) face }
     ensures { IsOuterLead records.now.graph (tables_of records.now) face result }

@@ -1,6 +1,4 @@
 use Rattle.face_ranks.proofs.Located.{face_is_located}
-use Rattle.face_ranks.proofs.KeysRanked.{ranks_given}
-use Rattle.face_ranks.proofs.KeysPushed.{all_pushed}
 use Rattle.face_ranks.proofs.face_is_located.Goals as goal
 
 pub returns : goal.returns

@@ -1,4 +1,4 @@
-use Rattle.std.proofs.Common.{◌≡◌, sym, ◌∙◌, subst}
+use Rattle.std.proofs.Common.{sym, ◌∙◌, subst}
 use Rattle.std.specs.List.{AllByRecursion}
 use Rattle.slab_laws.specs.View.{HasFace}
 use Rattle.dcel_records.specs.RecordsView.{FacesView}
@@ -19,4 +19,4 @@ returns-clause-ranks c =
     let old = c.args.records.now in
     let is = c.push_keys.ensures.order ∙ same_keys old c.clear_order.new.self c.clear_order.ensures.graph c.clear_order.ensures.faces in
     let r = c.rank_in_order.ensures in
-    all_given old c.requires c.push_keys.new.records.ranks.order is c.face_laws.ensures.unbounded c.rank_in_order.new.self r.keys r.ordered r.ranked ?
+    all_given old c.requires c.push_keys.new.records.ranks.order is c.face_laws.ensures.unbounded c.rank_in_order.new.self r.keys r.ordered r.ranked r.unbounded
