@@ -1,4 +1,4 @@
-ghost use Rattle.std.specs.Prelude.{◌≡◌};
+ghost use Rattle.std.specs.Prelude.{◌≡◌, ◌<◌};
 ghost use Rattle.slab_laws.specs.declared.cell.Cell.TheVariants.{Edge as OnEdge};
 ghost use Rattle.slab_laws.specs.Sound.{IsGraphSound};
 ghost use Rattle.slab_laws.specs.View.{HasDart, point_in, source_in, target_in};
@@ -6,11 +6,26 @@ ghost use Rattle.dcel_records.specs.RecordsView.{tables_of};
 ghost use Rattle.dcel_records.specs.SoundMaps.{IsSoundMap};
 ghost use Rattle.face_location.specs.Spots.{IsSpotOf};
 
+use counted_looks::Glance;
 use dcel_records::{Records, Spot};
 use exact_plane::Point;
 use locate_naive::locate as look_at_all;
-use locate_walk::locate as walk_along_vertical;
 use slab_laws::{Cell, DartId, Darts, Strategy};
+use std::marker::Brand;
+use std::sync::ledger::{Blank, Ledger};
+use work_steps::Steps;
+
+// Where a point lies, by the walk up to it, which counts its looks for itself.
+fn walk_up<L: Ledger>(blank: Blank, records: &Records, p: &Point) -> Spot
+    requires name { blank.name ≡ L.name }
+    requires parts { blank.parts ≡ L.parts }
+    requires some { 0 < L.parts }
+    requires map { IsSoundMap records.now }
+    ensures { IsSpotOf records.now.graph (tables_of records.now) p.now result }
+{
+    let mut steps = Steps::<L>::new(blank);
+    locate_walk::locate(&Glance::of(records), p, &mut steps)
+}
 
 /// Where a point lies in the records: the vertex at it, the edge that has it inside, or the face that it lies in, found by the strategy.
 ///
@@ -20,7 +35,7 @@ pub(crate) fn spot_by(strategy: Strategy, records: &Records, p: &Point) -> Spot
     ensures { IsSpotOf records.now.graph (tables_of records.now) p.now result }
 {
     match strategy {
-        Strategy::Walk => walk_along_vertical(records, p),
+        Strategy::Walk => walk_up::<Brand>(Blank::new(1), records, p),
         Strategy::Naive | Strategy::Landmarks | Strategy::Trapezoid => look_at_all(records, p),
     }
 }
