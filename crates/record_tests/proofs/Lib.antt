@@ -1,1 +1,2 @@
 pub mod ListsAsked
+pub mod NotedPoints

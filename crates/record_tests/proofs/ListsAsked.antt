@@ -1,16 +1,17 @@
 -- Faces and isolated vertices that are there after single writes.
-use Rattle.std.proofs.Common.{◌≡◌, ◌≢◌, inl, inr, false, [], ◌∷◌, is_some, IsSome, Contains, arith, refl, sym, ap, subst, ◌∙◌}
+use Rattle.std.proofs.Common.{◌≡◌, ◌≢◌, ℕ, ◌⊎◌, inl, inr, false, [], ◌∷◌, is_some, IsSome, Contains, arith, refl, sym, ap, subst, ◌∙◌}
 use Rattle.std.proofs.lemmas.Bool.{cases_eq, false≢true}
 use Rattle.exact_plane.specs.Point.{Point}
 use Rattle.slab_laws.specs.declared.names.DartId.{DartId}
 use Rattle.slab_laws.specs.declared.names.FaceId.{FaceId}
 use Rattle.slab_laws.specs.declared.names.VertexId.{VertexId}
 use Rattle.slab_laws.specs.Tables.{row_at, names, NamesAscend}
-use Rattle.slab_laws.specs.View.{View, Faces, HasVertex, HasDart, HasBareFace, IsOutOf, vertex_id}
+use Rattle.slab_laws.specs.View.{View, Faces, HasVertex, HasDart, HasFace, HasBareFace, IsOutOf, vertex_id, face_id}
 use Rattle.arr_notes.specs.FaceWriters.{put_name, bare_in, not_bare, with_face}
 use Rattle.arr_notes.specs.ViewChanges.{no_rows, with_vertex}
 use Rattle.arr_notes.proofs.RowLaws.{ascend-put, ascend-del}
 use Rattle.arr_notes.proofs.VertexReads.{put_hit, put_miss, del_hit, del_miss}
+use Rattle.face_steps.proofs.FaceRows.{put_name_has}
 use Rattle.dcel_records.specs.ListChanges.{lone_face}
 use Rattle.dcel_records.specs.RecordsView.{RecordsView, graph_part}
 use Rattle.record_tests.specs.Lone.{AreTwo, HasNoDarts, IsLone}
@@ -32,6 +33,17 @@ module _ (h : RecordsView) where
     where
       names_are : k.faces.tables.faces ≡ 0 ∷ 1 ∷ []
       names_are = ap (λ (f : Faces). f.faces) t ∙ (λ i. put_name (e i) (l i).faces)
+
+  -- one face more, whichever it is
+  module _ (k : RecordsView) (a : FaceId) (t : k.faces.tables ≡ with_face a h.faces.tables) where
+    name_there : (n : ℕ) → Contains h.faces.tables.faces n ⊎ (n ≡ a.0) → Contains k.faces.tables.faces n
+    name_there n c = subst (λ (f : Faces). Contains f.faces n) (sym t) ((put_name_has a.0 h.faces.tables.faces n).1 c)
+
+    pub third_face : a.0 ≡ 2 → HasFace k.faces.tables (face_id 2)
+    third_face e = name_there 2 (inr (sym e))
+
+    pub two_stay : AreTwo h → AreTwo k
+    two_stay w = record { unbounded = name_there 0 (inl w.unbounded); other = name_there 1 (inl w.other) }
 
 -- ---- single writes
 module _ (h k : RecordsView) where

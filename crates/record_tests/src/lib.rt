@@ -1,5 +1,5 @@
-//! Tests of what stands below arrangements, and what no script shows: the exact plane and the sweep over it, records row by row, boundary
-//! cycles, and looks that are counted.
+//! Tests of what needs no program, and what no script shows: the exact plane and the sweep over it, records row by row,
+//! boundary cycles, and looks that are counted.
 #![tactic(auto)]
 
 #[cfg(test)]

@@ -52,7 +52,11 @@ fn face_goes(records: &mut Records, face: FaceId) -> bool
 }
 
 // ---- cycles
-fn cycle_more(records: &mut Records, face: FaceId, dart: DartId) -> Result<CycleId, NoMemory>
+pub(crate) fn cycle_more(
+    records: &mut Records,
+    face: FaceId,
+    dart: DartId,
+) -> Result<CycleId, NoMemory>
     requires face { HasFace records.old.faces.tables face }
     requires two { AreTwo records.old }
     requires darts { HasNoDarts records.old }

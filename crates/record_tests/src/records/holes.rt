@@ -78,6 +78,18 @@ fn has_isolated<R: FaceLists>(records: &R, v: VertexId) -> bool
         && records.isolated_after_in_face(v).is_none()
 }
 
+// Whether three vertices, an edge's two darts, a cycle, two faces and an isolated vertex are counted.
+fn are_counted(records: &Records) -> bool {
+    let counts = records.counts();
+    (
+        counts.vertices,
+        counts.darts,
+        counts.cycles,
+        counts.faces,
+        counts.isolated,
+    ) == (3, 2, 1, 2, 1)
+}
+
 // Whether an edge comes between the first two points and is read back, with a vertex at the third.
 fn hole_comes(
     records: &mut Records,
@@ -101,7 +113,7 @@ fn hole_comes(
     let Some(dart) = hole_more(records, u, v, line)? else {
         return Ok(false);
     };
-    Ok(has_hole(records, dart) && has_isolated(records, beside))
+    Ok(has_hole(records, dart) && has_isolated(records, beside) && are_counted(records))
 }
 
 #[test]
