@@ -1,6 +1,5 @@
 -- Points of what is looked at.
 use Rattle.std.proofs.Common.{◌≡◌, subst}
-use Rattle.exact_plane.specs.Point.{Point}
 use Rattle.slab_laws.specs.View.{View}
 use Rattle.dcel_records.specs.declared.spot.Spot.{Spot}
 use Rattle.counted_looks.specs.declared.boundary_part.BoundaryPart.{BoundaryPart}
