@@ -1,2 +1,1 @@
 pub mod Calming
-pub mod ListsAsked

@@ -1,2 +1,1 @@
 pub mod Calm
-pub mod Lone

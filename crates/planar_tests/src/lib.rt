@@ -7,10 +7,6 @@ mod layers;
 #[cfg(test)]
 mod observers;
 #[cfg(test)]
-mod plane;
-#[cfg(test)]
 mod program;
-#[cfg(test)]
-mod records;
 #[cfg(test)]
 mod shapes;

@@ -1,0 +1,2 @@
+pub mod ListsAsked
+pub mod NotedPoints
