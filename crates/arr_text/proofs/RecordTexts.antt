@@ -32,7 +32,7 @@ module _ {X Y : Type 0} (cmp : Y → Y → Ordering) (f : X → Y) where
   all_back x [] a = tt
   all_back x (y ∷ ys) a = (a.0, all_back x ys a.1)
 
-  ascends_back : (xs : List X) → IsAscending cmp (map f xs) → IsAscending (λ x y. cmp (f x) (f y)) xs
+  pub ascends_back : (xs : List X) → IsAscending cmp (map f xs) → IsAscending (λ x y. cmp (f x) (f y)) xs
   ascends_back [] a = tt
   ascends_back (x ∷ xs) a = (all_back x xs a.0, ascends_back xs a.1)
 

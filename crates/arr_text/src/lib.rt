@@ -6,9 +6,11 @@
 //! 1 in the order of their points, faces from 0 by rank.
 #![tactic(auto)]
 
+mod darts;
 mod edges;
 mod faces;
 mod laws;
+mod numbers;
 mod put;
 mod rounds;
 mod vertices;
