@@ -26,12 +26,16 @@ use Rattle.sound_views.specs.VertexRoundLaws.{HasLeastTarget}
 use Rattle.sound_views.proofs.RoundTurned.{round_is_rotation, none_round}
 use Rattle.arr_text.proofs.FaceNames.{darts_counted}
 use Rattle.record_orders.specs.declared.darts.DartKey.{DartKey}
-use Rattle.record_orders.specs.Keys.{dart_key, dart_keys, first_out}
+use Rattle.record_orders.specs.Keys.{dart_key, dart_keys}
 use Rattle.record_orders.proofs.DartKeys.{key_cmp, ascends}
 use Rattle.integers.proofs.Decisions.{clash}
 use Rattle.slab_faces.proofs.Parity.{same_point_is, same_point_refl}
 
 -- ---- what is found first
+-- the first of the darts that goes out of a point
+abbrev pub first_at : List DartKey → Point → Option DartId
+first_at ks p = option_map (λ k. k.name) (find (λ k. same_point k.source p) ks)
+
 module _ (p : Point) where
   abbrev leaves : DartKey → Bool
   leaves k = same_point k.source p
@@ -105,7 +109,7 @@ module _ (v : View) (s : IsGraphSound v) where
     source_is : (d : DartId) → HasDart v d → source (dart_in v d) ≡ (dart_key v d).source
     source_is d has = names_are_darts.source v d s has
 
-    pub found : (d : DartId) → Some d ≡ first_out (dart_keys v) p → Found d
+    pub found : (d : DartId) → Some d ≡ first_at (dart_keys v) p → Found d
     found d e =
         let w = key_of d (find (leaves p) (dart_keys v)) e in
         let r = found_there p w.0 (dart_keys v) w.1 in
@@ -129,7 +133,7 @@ module _ (v : View) (s : IsGraphSound v) where
               ap (λ (q : Point). is_lt (point_cmp q (target (dart_in v d)))) (sym (ap target n.2)) ∙ ap (λ (q : Point). is_lt (point_cmp q (target (dart_in v d)))) other ∙ ap (λ (q : Point). is_lt (point_cmp (dart_key v n.0).target q)) mine ∙ l;
         }
 
-    pub way_round : (d : DartId) (n : ℕ) → Some d ≡ first_out (dart_keys v) p → n ≡ length (dart_order v) → round (darts (skeleton_of v)) n (dart_in v d) (dart_in v d) ≡ rotation (darts (skeleton_of v)) p
+    pub way_round : (d : DartId) (n : ℕ) → Some d ≡ first_at (dart_keys v) p → n ≡ length (dart_order v) → round (darts (skeleton_of v)) n (dart_in v d) (dart_in v d) ≡ rotation (darts (skeleton_of v)) p
     way_round d n e i =
         let f = found d e in
         round_is_rotation (skeleton_of v) (dart_in v d) n s.plane (names_are_darts.known v d s f.has) f.least (let c : n ≡ length (darts (skeleton_of v)) = i ∙ darts_counted v s in omega arith) ∙ ap (rotation (darts (skeleton_of v))) f.leaves_it
@@ -138,7 +142,7 @@ module _ (v : View) (s : IsGraphSound v) where
   no_key None e = refl
   no_key (Some k) e = absurd cc
 
-  pub nobody : (w : VertexId) → HasVertex v w → None ≡ first_out (dart_keys v) (point_in v w) → rotation (darts (skeleton_of v)) (point_in v w) ≡ []
+  pub nobody : (w : VertexId) → HasVertex v w → None ≡ first_at (dart_keys v) (point_in v w) → rotation (darts (skeleton_of v)) (point_in v w) ≡ []
   nobody w has e =
       let none = no_key (find (leaves (point_in v w)) (dart_keys v)) e in
       none_round (skeleton_of v) (point_in v w) s.plane ((bare_is_bare v w s has).1 (λ d out.

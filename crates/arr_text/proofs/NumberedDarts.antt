@@ -1,6 +1,6 @@
 -- Darts that are sorted by the numbers of their ends are the darts by source, then by target.
 use Rattle.std.proofs.Common.{◌≡◌, ℕ, ◌<◌, ◌≤◌, arith, Bool, true, false, cond, List, [], ◌∷◌, map, Ordering, Less, Option, Some, refl, sym, ap, ap₂, ◌∙◌, subst, inl, inr}
-use Rattle.std.specs.Prelude.{find, nat_lt, ◌==◌}
+use Rattle.std.specs.Prelude.{find, nat_lt, ◌==◌, ◌&&◌}
 use Rattle.std.specs.List.{AllByRecursion, IsDistinct, slice_index_or}
 use Rattle.std.specs.List.Sorted.{IsPermutation, IsSorted}
 use Rattle.std.specs.Option.{option_map}
@@ -22,14 +22,14 @@ use Rattle.sound_views.proofs.PulledOrders.{IsAscending-map}
 use Rattle.sound_views.proofs.NamedDarts.{dart_name, named_dart}
 use Rattle.sound_views.proofs.NamesOrdered.{dart_ordered, ordered_dart}
 use Rattle.record_orders.specs.declared.darts.DartKey.{DartKey}
-use Rattle.record_orders.specs.Keys.{dart_key, dart_keys, first_out as first_of_point}
+use Rattle.record_orders.specs.Keys.{dart_key, dart_keys}
 use Rattle.record_orders.proofs.DartKeys.{key_cmp as point_key_cmp, ascends as keys_ascend}
-use Rattle.record_orders.proofs.Firsts.{and_turned}
 use Rattle.record_orders.proofs.Sorting.{untied, sorted_is}
 use Rattle.integers.proofs.Tests.{less_nat, then_rest, not_tied, first_less, nat_exact}
 use Rattle.arr_text.specs.declared.darts.NumberedDart.{NumberedDart}
 use Rattle.arr_text.specs.Numbers.{AreNumbers, number_in, numbered_dart, numbered_darts, first_out, AreBySource}
 use Rattle.arr_text.proofs.VertexNumbers.{less_told, same_told, numbers_compare, number_is}
+use Rattle.arr_text.proofs.Neighbours.{first_at}
 use Rattle.arr_text.proofs.RecordTexts.{ascends_back}
 
 -- by source, then by target, then by name
@@ -54,6 +54,10 @@ all_later k (m ∷ ms) a = (no_later k m a.0, all_later k ms a.1)
 sources : (ks : List NumberedDart) → IsAscending key_cmp ks → AreBySource ks
 sources [] a = tt
 sources (k ∷ ks) a = (all_later k ks a.0, sources ks a.1)
+
+and_turned : (a b c : Bool) → ((a && b) && c) ≡ (a && (b && c))
+and_turned true b c = refl
+and_turned false b c = refl
 
 -- points are one where they compare alike
 tied : (p q : Point) → is_eq (point_cmp p q) ≡ same_point p q
@@ -123,16 +127,16 @@ module _ (v : View) where
     one_found d a true x y e h = rw e refl
     one_found d a false x y e h = rw e h
 
-    found_alike : (w : VertexId) → HasVertex v w → (ds : List DartId) → ((d : DartId) → Member d ds → HasDart v d) → first_out (map (numbered_dart v) ds) (number_in v w) ≡ first_of_point (map (dart_key v) ds) (point_in v w)
+    found_alike : (w : VertexId) → HasVertex v w → (ds : List DartId) → ((d : DartId) → Member d ds → HasDart v d) → first_out (map (numbered_dart v) ds) (number_in v w) ≡ first_at (map (dart_key v) ds) (point_in v w)
     found_alike w hw [] h = refl
     found_alike w hw (d ∷ ds) h =
         one_found d _ _ (find (λ k. k.source == number_in v w) (map (numbered_dart v) ds)) (find (λ k. same_point k.source (point_in v w)) (map (dart_key v) ds)) (leaves_alike d w (h d (inl refl)) hw)
         (found_alike w hw ds (λ e m. h e (inr m)))
 
     -- the first dart out of a vertex is found by its number as by its point
-    pub first_alike : (w : VertexId) → HasVertex v w → first_out (numbered_darts v) (number_in v w) ≡ first_of_point (dart_keys v) (point_in v w)
+    pub first_alike : (w : VertexId) → HasVertex v w → first_out (numbered_darts v) (number_in v w) ≡ first_at (dart_keys v) (point_in v w)
     first_alike w hw = found_alike w hw (dart_order v) (λ d m. ordered_dart v s d m)
 
     -- as the code looks it up
-    pub first_told : (w : VertexId) → HasVertex v w → (ns : List ℕ) → AreNumbers v ns → (n : ℕ) → n ≡ slice_index_or ns w.0 0 → (ks : List NumberedDart) → ks ≡ numbered_darts v → first_out ks n ≡ first_of_point (dart_keys v) (point_in v w)
+    pub first_told : (w : VertexId) → HasVertex v w → (ns : List ℕ) → AreNumbers v ns → (n : ℕ) → n ≡ slice_index_or ns w.0 0 → (ks : List NumberedDart) → ks ≡ numbered_darts v → first_out ks n ≡ first_at (dart_keys v) (point_in v w)
     first_told w hw ns a n e ks k = ap₂ first_out k (e ∙ number_is v ns a w hw) ∙ first_alike w hw

@@ -1,5 +1,5 @@
 -- Vertices are numbered in the order of their points, so their numbers compare as their points do.
-use Rattle.std.proofs.Common.{◌≡◌, ◌≢◌, ℕ, ◌+◌, ◌<◌, zero, suc, take, get_or, arith, refl, sym, ap, ◌∙◌, subst, inl, inr, List, [], ◌∷◌, length, Option, Some, None, Ordering, Less, Equal, Greater}
+use Rattle.std.proofs.Common.{◌≡◌, ℕ, ◌+◌, ◌<◌, zero, suc, take, get_or, arith, false, cond, refl, sym, ap, ◌∙◌, subst, inl, inr, List, [], ◌∷◌, length, Option, Some, None, Ordering, Less, Equal, Greater}
 use Rattle.std.specs.Prelude.{slice_get, nat_lt, ◌==◌}
 use Rattle.std.specs.Option.{option_map}
 use Rattle.std.specs.Ordering.{is_lt, is_eq, nat_cmp, ordering_reverse}
@@ -26,7 +26,8 @@ use Rattle.record_orders.specs.declared.vertices.VertexKey.{VertexKey}
 use Rattle.record_orders.specs.Keys.{vertex_key, vertex_keys}
 use Rattle.std.proofs.lemmas.Bool.{cases_lt}
 use Rattle.std.proofs.lemmas.Bool.Decides.{nat_tests}
-use Rattle.integers.proofs.Tests.{nat_less}
+use Rattle.integers.proofs.Tests.{nat_less, other_number, same_number}
+use Rattle.std.proofs.Math.ListN.{get_or-eq_default}
 use Rattle.arr_text.specs.Numbers.{AreApart, TellPlaces, AreNumbers, number_in}
 
 -- ---- numbers
@@ -66,19 +67,29 @@ in_front (suc n) [] j x l h = absurd cc
 in_front (suc n) (y ∷ ys) zero x l h = h
 in_front (suc n) (y ∷ ys) (suc j) x l h = in_front n ys j x (omega arith) h
 
-pub one_more_told : (ks : List VertexKey) (i : ℕ) (k : VertexKey) (old new : List ℕ) → AreApart ks → i < length ks → k ≡ get_or ks i k → TellPlaces old (take i ks) → slice_get new k.name.0 ≡ Some (i + 1)
-    → ((j n : ℕ) → j ≢ k.name.0 → slice_get old j ≡ Some n → slice_get new j ≡ Some n) → TellPlaces new (take (i + 1) ks)
-one_more_told ks i k old new apart l is told here others j m h =
+pub one_more_told : (ks : List VertexKey) (i : ℕ) (k : VertexKey) (old new : List ℕ) → AreApart ks → i < length ks → k ≡ get_or ks i k → TellPlaces old (take i ks) → ((j : ℕ) → get_or new j 0 ≡ cond (j == k.name.0) (i + 1) (get_or old j 0)) → TellPlaces new (take (i + 1) ks)
+one_more_told ks i k old new apart l is told writes j m h =
     let t = taken (i + 1) ks j m h in
     let own : slice_get ks i ≡ Some k = slice_get-get_or ks i k l ∙ ap Some (sym is) in
     let within = t.0 in
-    elim (cases_lt j i) [
-      | inl less ↦ others m.name.0 (j + 1) (λ e. let same = apart j i m k t.1 own e in omega (arith, less, same)) (told j m (in_front i ks j m less t.1))
+    writes m.name.0
+    ∙ elim (cases_lt j i) [
+      | inl less ↦
+          let other : (m.name.0 == k.name.0) ≡ false = other_number m.name.0 k.name.0 (λ e. let same = apart j i m k t.1 own e in omega (arith, less, same)) in
+          ap (λ b. cond b (i + 1) (get_or old m.name.0 0)) other ∙ told j m (in_front i ks j m less t.1)
       | inr more ↦
           let same : j ≡ i = omega (arith, within, more) in
           let one : Some m ≡ Some k = sym t.1 ∙ ap (slice_get ks) same ∙ own in
           let key : m ≡ k = cc in
-          ap (λ (x : VertexKey). slice_get new x.name.0) key ∙ here ∙ ap (λ n. Some (n + 1)) (sym same)
+          ap (λ (x : VertexKey). cond (x.name.0 == k.name.0) (i + 1) (get_or old x.name.0 0)) key ∙ ap (λ b. cond b (i + 1) (get_or old k.name.0 0)) (same_number k.name.0) ∙ ap (λ n. n + 1) (sym same)
+    ]
+
+-- a number that is no filler stands there
+stands : (ns : List ℕ) (i n : ℕ) → get_or ns i 0 ≡ n + 1 → slice_get ns i ≡ Some (n + 1)
+stands ns i n e =
+    elim (cases_lt i (length ns)) [
+      | inl less ↦ slice_get-get_or ns i 0 less ∙ ap Some e
+      | inr more ↦ let zero = get_or-eq_default ns 0 more in absurd (omega (arith, e, zero))
     ]
 
 module _ (v : View) (s : IsGraphSound v) where
@@ -109,7 +120,7 @@ module _ (v : View) (s : IsGraphSound v) where
   numbers_told ns t w has =
       let r = placed w (vertex_order v) (vertex_ordered v s w has) in
       let k : slice_get (vertex_keys v) r.0 ≡ Some (vertex_key v w) = slice_get-map (vertex_key v) (vertex_order v) r.0 ∙ ap (option_map (vertex_key v)) r.1 in
-      t r.0 (vertex_key v w) k ∙ ap Some (sym (key_index r.0 (vertex_key v w) k))
+      stands ns w.0 r.0 (t r.0 (vertex_key v w) k) ∙ ap Some (sym (key_index r.0 (vertex_key v w) k))
 
   -- ---- the order of numbers
   listed : (w : VertexId) → HasVertex v w → Member (point_in v w) points

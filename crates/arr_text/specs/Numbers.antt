@@ -1,6 +1,6 @@
 -- Vertices by their numbers, and darts by the numbers of their ends.
 use Rattle.std.specs.Prelude.{◌≡◌, ◌≤◌, ◌==◌, ⊤, ℕ, ◌+◌, List, [], ◌∷◌, map, find, Option, Some, slice_get}
-use Rattle.std.specs.List.{AllByRecursion}
+use Rattle.std.specs.List.{AllByRecursion, slice_index_or}
 use Rattle.std.specs.Option.{option_map}
 use Rattle.slab_laws.specs.declared.names.DartId.{DartId}
 use Rattle.slab_laws.specs.declared.names.VertexId.{VertexId}
@@ -18,7 +18,7 @@ AreApart ks = (i j : ℕ) (k m : VertexKey) → slice_get ks i ≡ Some k → sl
 
 -- at each vertex's name stands its place in the list, from 1 on
 abbrev pub TellPlaces : List ℕ → List VertexKey → Type 0
-TellPlaces ns ks = (i : ℕ) (k : VertexKey) → slice_get ks i ≡ Some k → slice_get ns k.name.0 ≡ Some (i + 1)
+TellPlaces ns ks = (i : ℕ) (k : VertexKey) → slice_get ks i ≡ Some k → slice_index_or ns k.name.0 0 ≡ i + 1
 
 -- the number of a vertex of the view
 abbrev pub number_in : View → VertexId → ℕ

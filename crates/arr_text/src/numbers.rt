@@ -1,27 +1,11 @@
-ghost use Rattle.std.specs.Prelude.{◌≡◌, ◌≢◌, ◌<◌, ℕ, Some, length, slice_get, IfOk, OnOk};
+ghost use Rattle.std.specs.Prelude.{◌≡◌, ◌<◌, length, IfOk};
 ghost use Rattle.std.specs.List.{slice_index_or};
 ghost use Rattle.arr_text.specs.Numbers.{AreApart, TellPlaces};
 
 use no_memory::NoMemory;
-use record_orders::VertexKey;
+use record_orders::{VertexKey, write_at};
 use slab_laws::VertexId;
 use std::alloc::Global;
-
-// Writes a number at a place. What is missing in front of it is filled up.
-fn write_at(numbers: &mut Vec<usize>, place: usize, number: usize) -> Result<(), NoMemory>
-    ensures here { OnOk result (slice_get numbers.new.items place ≡ Some number) }
-    ensures others { OnOk result ((i n : ℕ) → i ≢ place → slice_get numbers.old.items i ≡ Some n
-        → slice_get numbers.new.items i ≡ Some n) }
-{
-    let Some(room) = place.checked_add(1) else {
-        return Err(NoMemory);
-    };
-    if numbers.len() < room {
-        numbers.resize(room, 0)?;
-    }
-    numbers[place] = number;
-    Ok(())
-}
 
 /// A table by the names of vertices: at each name stands the vertex's place in the list, from 1 on.
 pub(crate) fn numbers_of(alloc: Global, vertices: &[VertexKey]) -> Result<Vec<usize>, NoMemory>
@@ -30,7 +14,7 @@ pub(crate) fn numbers_of(alloc: Global, vertices: &[VertexKey]) -> Result<Vec<us
 {
     let mut numbers = Vec::new(alloc);
     for place in 0..vertices.len() {
-        write_at(&mut numbers, vertices[place].name.0, place + 1)?;
+        write_at(&mut numbers, vertices[place].name.0, 0, place + 1)?;
     }
     Ok(numbers)
 }

@@ -8,4 +8,4 @@ loop-place-preserved c =
     let ks = c.args.vertices.now in
     let i = c.loop-place.place in
     let k = get_or ks i c.index-vertices-place.result in
-    one_more_told ks i k c.loop-place.numbers.items c.write_at.new.numbers.items c.requires c.loop-place-test.true (get_or_default ks i c.index-vertices-place.result k c.loop-place-test.true) c.loop-place.invariant c.in_ok-write_at.ensures.here c.in_ok-write_at.ensures.others
+    one_more_told ks i k c.loop-place.numbers.items c.write_at.new.table.items c.requires c.loop-place-test.true (get_or_default ks i c.index-vertices-place.result k c.loop-place-test.true) c.loop-place.invariant c.in_ok-write_at.ensures
