@@ -1,6 +1,7 @@
 -- Darts that are sorted by the numbers of their ends are the darts by source, then by target.
 use Rattle.std.proofs.Common.{◌≡◌, ℕ, ◌<◌, ◌≤◌, arith, Bool, true, false, cond, List, [], ◌∷◌, map, Ordering, Less, Option, Some, refl, sym, ap, ap₂, ◌∙◌, subst, inl, inr}
-use Rattle.std.specs.Prelude.{find, nat_lt, ◌==◌, ◌&&◌}
+use Rattle.std.specs.Prelude.{find, nat_lt, ◌==◌}
+use Rattle.std.proofs.Math.Bool.{and_assoc}
 use Rattle.std.specs.List.{AllByRecursion, IsDistinct, slice_index_or}
 use Rattle.std.specs.List.Sorted.{IsPermutation, IsSorted}
 use Rattle.std.specs.Option.{option_map}
@@ -55,13 +56,9 @@ sources : (ks : List NumberedDart) → IsAscending key_cmp ks → AreBySource ks
 sources [] a = tt
 sources (k ∷ ks) a = (all_later k ks a.0, sources ks a.1)
 
-and_turned : (a b c : Bool) → ((a && b) && c) ≡ (a && (b && c))
-and_turned true b c = refl
-and_turned false b c = refl
-
 -- points are one where they compare alike
 tied : (p q : Point) → is_eq (point_cmp p q) ≡ same_point p q
-tied p q = sym (point_cmp_ties p q) ∙ sym (and_turned (int_eq p.x q.x) (int_eq p.y q.y) (int_eq p.w q.w))
+tied p q = sym (point_cmp_ties p q) ∙ sym (and_assoc (int_eq p.x q.x) (int_eq p.y q.y) (int_eq p.w q.w))
 
 module _ (v : View) where
   abbrev all_names : List DartId
