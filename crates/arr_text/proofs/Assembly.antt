@@ -5,7 +5,6 @@ use Rattle.std.specs.List.{AllByRecursion}
 use Rattle.std.proofs.lemmas.List.{length-map, length-append}
 use Rattle.exact_plane.specs.Point.{Point}
 use Rattle.slab_laws.specs.declared.names.DartId.{DartId}
-use Rattle.slab_laws.specs.declared.names.VertexId.{VertexId}
 use Rattle.slab_laws.specs.declared.slab_cell.SlabCell.{SlabCell}
 use Rattle.slab_laws.specs.Darts.{Dart, darts, ahead, back}
 use Rattle.slab_laws.specs.Sound.{skeleton_of, IsGraphSound}
@@ -15,12 +14,12 @@ use Rattle.slab_laws.specs.Text.{Marks, number, ended, vertex_line, edge_line, f
 use Rattle.slab_laws.specs.View.{View, HasDart, point_in}
 use Rattle.sound_views.specs.Orders.{vertex_order, dart_order}
 use Rattle.sound_views.proofs.NamesOrdered.{points_in_order, ordered_dart}
-use Rattle.record_orders.specs.Keys.{vertex_key, vertex_keys, dart_key, dart_keys}
-use Rattle.record_orders.specs.declared.vertices.VertexKey.{VertexKey}
-use Rattle.record_orders.specs.declared.darts.DartKey.{DartKey}
+use Rattle.record_orders.specs.Keys.{vertex_key, vertex_keys}
+use Rattle.arr_text.specs.declared.darts.NumberedDart.{NumberedDart}
+use Rattle.arr_text.specs.Numbers.{numbered_dart, numbered_darts}
 use Rattle.record_orders.proofs.Sorting.{all_members}
 use Rattle.arr_text.specs.Reading.{pins_in, forward_darts, title}
-use Rattle.arr_text.proofs.Neighbours.{count}
+use Rattle.arr_text.proofs.FaceNames.{darts_counted}
 use Rattle.arr_text.proofs.Joined.{joined}
 use Rattle.plane_graphs.proofs.Lists.{then_appended}
 
@@ -36,18 +35,11 @@ title_put r word n m k s a b c d z e f g h i =
     turned w x y t = simp append_assoc
 
 module _ (v : View) (s : IsGraphSound v) where
-  points_of_keys : (us : List VertexId) → map (λ (k : VertexKey). k.point) (map (vertex_key v) us) ≡ map (point_in v) us
-  points_of_keys [] = refl
-  points_of_keys (u ∷ us) = ap (λ (ps : List Point). point_in v u ∷ ps) (points_of_keys us)
-
-  pub points_are : map (λ (k : VertexKey). k.point) (vertex_keys v) ≡ (skeleton_of v).vertices
-  points_are = points_of_keys (vertex_order v) ∙ points_in_order v s
-
-  names_of_keys : (ds : List DartId) → map (λ (k : DartKey). k.name) (map (dart_key v) ds) ≡ ds
+  names_of_keys : (ds : List DartId) → map (λ (k : NumberedDart). k.name) (map (numbered_dart v) ds) ≡ ds
   names_of_keys [] = refl
   names_of_keys (d ∷ ds) = ap (λ (es : List DartId). d ∷ es) (names_of_keys ds)
 
-  pub names_are : map (λ (k : DartKey). k.name) (dart_keys v) ≡ dart_order v
+  pub names_are : map (λ (k : NumberedDart). k.name) (numbered_darts v) ≡ dart_order v
   names_are = names_of_keys (dart_order v)
 
   pub names_have : AllByRecursion (λ d. HasDart v d) (dart_order v)
@@ -56,13 +48,13 @@ module _ (v : View) (s : IsGraphSound v) where
   pub vertices_counted : length (vertex_keys v) ≡ length (skeleton_of v).vertices
   vertices_counted = length-map (vertex_order v) (vertex_key v) ∙ sym (length-map (vertex_order v) (point_in v)) ∙ ap (λ (ps : List Point). length ps) (points_in_order v s)
 
-  pub edges_counted : length (dart_keys v) / 2 ≡ length (skeleton_of v).edges
+  pub edges_counted : length (numbered_darts v) / 2 ≡ length (skeleton_of v).edges
   edges_counted =
       let g = skeleton_of v in
       let a : length (darts g) ≡ length (map ahead g.edges) + length (map back g.edges) = length-append (map ahead g.edges) (map back g.edges) in
       let b = length-map g.edges ahead in
       let c = length-map g.edges back in
-      let d = count v s in
+      let d = length-map (dart_order v) (numbered_dart v) ∙ darts_counted v s in
       omega (arith, a, b, c, d)
 
   -- ---- by the first word, the words of edges, and what follows the number of a face

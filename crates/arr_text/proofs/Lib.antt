@@ -1,5 +1,4 @@
 pub mod Joined
-pub mod Found
 pub mod Walks
 pub mod Neighbours
 pub mod Lines
@@ -9,3 +8,7 @@ pub mod FaceLines
 pub mod Assembly
 pub mod Overlays
 pub mod RecordTexts
+pub mod VertexNumbers
+pub mod NumberedDarts
+pub mod Firsts
+pub mod LayerTexts

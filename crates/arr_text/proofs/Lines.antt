@@ -1,14 +1,12 @@
 -- The lines of vertices and edges.
-use Rattle.std.proofs.Common.{◌≡◌, ℕ, ◌+◌, ◌<◌, ◌≤◌, Bool, length, get_or, take, add-one, true, false, cond, List, [], ◌∷◌, ◌++◌, map, Result, refl, sym, ap, ◌∙◌, subst, append_assoc}
-use Rattle.std.specs.Prelude.{OnOk, codes, flat_map, filter, zip}
-use Rattle.std.specs.List.{list_any, position_or_len}
+use Rattle.std.proofs.Common.{◌≡◌, ℕ, ◌+◌, ◌<◌, ◌≤◌, Bool, length, get_or, take, add-one, true, false, cond, List, [], ◌∷◌, ◌++◌, map, Result, refl, sym, ap, ap₂, ◌∙◌, subst, append_assoc, inl, inr}
+use Rattle.std.specs.Prelude.{OnOk, nat_lt, codes, flat_map, filter, zip}
+use Rattle.std.specs.List.{list_any}
 use Rattle.exact_plane.specs.Point.{Point}
-use Rattle.std.specs.Ordering.{is_lt}
 use Rattle.std.proofs.lemmas.Grind.{flat_map-append}
 use Rattle.std.proofs.lemmas.List.{append-nil, take_all}
 use Rattle.std.proofs.Math.Seq.{take-suc}
 use Rattle.std.proofs.lemmas.List.Elements.{Contains-get_or}
-use Rattle.exact_plane.specs.PointOrder.{point_cmp}
 use Rattle.plane_graphs.specs.Ascending.{Member}
 use Rattle.plane_graphs.specs.Graph.{Edge}
 use Rattle.plane_graphs.proofs.Ascending.{to_member}
@@ -20,13 +18,15 @@ use Rattle.slab_laws.specs.Darts.{target, darts}
 use Rattle.slab_laws.specs.Rotation.{rotation}
 use Rattle.slab_laws.specs.Sound.{skeleton_of, dart_in, IsGraphSound}
 use Rattle.slab_laws.specs.Text.{number, index, triple, ended, vertex_line, edge_line, word}
-use Rattle.slab_laws.specs.View.{View, HasVertex, HasDart, point_in, pinned_in}
+use Rattle.slab_laws.specs.View.{View, HasVertex, HasDart, point_in, pinned_in, source_in, target_in}
 use Rattle.sound_views.specs.Orders.{vertex_order, dart_order}
 use Rattle.sound_views.proofs.NamesOrdered.{vertex_ordered, ordered_vertex, ordered_dart, points_in_order, edges_in_order_of}
 use Rattle.arr_text.specs.Reading.{pins_in, vertex_place, edge_ends, forward_darts}
 use Rattle.record_orders.specs.declared.vertices.VertexKey.{VertexKey}
-use Rattle.record_orders.specs.declared.darts.DartKey.{DartKey}
-use Rattle.record_orders.specs.Keys.{vertex_key, vertex_keys, dart_key, dart_keys}
+use Rattle.record_orders.specs.Keys.{vertex_key, vertex_keys}
+use Rattle.arr_text.specs.declared.darts.NumberedDart.{NumberedDart}
+use Rattle.arr_text.specs.Numbers.{numbered_dart, numbered_darts}
+use Rattle.arr_text.proofs.NumberedDarts.{goes_forward}
 use Rattle.arr_text.proofs.Joined.{joined}
 use Rattle.slab_faces.proofs.Parity.{same_point_is, same_point_refl}
 
@@ -49,16 +49,16 @@ pin_told v s u has = both_ways (pinned_in v u) (list_any (same_point (point_in v
         ap (pinned_in v) same ∙ k.1
 
 -- the parts of a vertex's line, one after the other
-pub vertex_put : {T E : Type 0} (r : Result T E) (v : View) (ps : List Point) (p : Point) (pinned : Bool) (pins : List Point) (s a b c d z : List ℕ) → ps ≡ (skeleton_of v).vertices → pinned ≡ list_any (same_point p) pins
-    → a ≡ s ++ vertex_place ps p → b ≡ a ++ cond pinned (codes " pin") [] → c ≡ b ++ codes " :" → d ≡ c ++ flat_map (λ h. number (index (skeleton_of v) (target h))) (rotation (darts (skeleton_of v)) p)
+pub vertex_put : {T E : Type 0} (r : Result T E) (v : View) (m : ℕ) (p : Point) (pinned : Bool) (pins : List Point) (s a b c d z : List ℕ) → m ≡ index (skeleton_of v) p → pinned ≡ list_any (same_point p) pins
+    → a ≡ s ++ vertex_place m p → b ≡ a ++ cond pinned (codes " pin") [] → c ≡ b ++ codes " :" → d ≡ c ++ flat_map (λ h. number (index (skeleton_of v) (target h))) (rotation (darts (skeleton_of v)) p)
     → OnOk r (z ≡ d ++ 10 ∷ []) → OnOk r (z ≡ s ++ vertex_line (skeleton_of v) (darts (skeleton_of v)) pins p)
-unfolding vertex_line ended vertex_place index
-vertex_put r v ps p pinned pins s a b c d z e t f g h i j =
-    let n : List ℕ = number (position_or_len (same_point p) (skeleton_of v).vertices + 1) in
+unfolding vertex_line ended vertex_place
+vertex_put r v m p pinned pins s a b c d z e t f g h i j =
+    let n : List ℕ = number (index (skeleton_of v) p) in
     let x : List ℕ = triple p in
     let y : List ℕ = cond (list_any (same_point p) pins) (codes " pin") [] in
     let w : List ℕ = flat_map (λ h. number (index (skeleton_of v) (target h))) (rotation (darts (skeleton_of v)) p) in
-    let place : a ≡ s ++ (codes "v" ++ (n ++ x)) = f ∙ ap (λ (qs : List Point). s ++ (codes "v" ++ (number (position_or_len (same_point p) qs + 1) ++ x))) e in
+    let place : a ≡ s ++ (codes "v" ++ (n ++ x)) = f ∙ ap (λ (k : ℕ). s ++ (codes "v" ++ (number k ++ x))) e in
     let pin : b ≡ a ++ y = g ∙ ap (λ (q : Bool). a ++ cond q (codes " pin") []) t in
     let two = then_appended s a b (codes "v" ++ (n ++ x)) y place pin in
     let three = then_appended s b c ((codes "v" ++ (n ++ x)) ++ y) (codes " :") two h in
@@ -92,8 +92,8 @@ module _ (v : View) (words : DartId → List (List ℕ)) where
   abbrev pub edge_of_dart : DartId → List ℕ
   edge_of_dart d = edge_line (skeleton_of v) ((dart_in v d).edge, words d)
 
-  abbrev pub edge_part : DartKey → List ℕ
-  edge_part k = cond (is_lt (point_cmp k.source k.target)) (edge_of_dart k.name) []
+  abbrev pub edge_part : NumberedDart → List ℕ
+  edge_part k = cond (nat_lt k.source k.target) (edge_of_dart k.name) []
 
   one_by : (d : DartId) (b : Bool) (rest : List ℕ) (es : List Edge) (ws : List (List (List ℕ))) → rest ≡ flat_map (edge_line (skeleton_of v)) (zip es ws)
       → cond b (edge_of_dart d) [] ++ rest ≡ flat_map (edge_line (skeleton_of v)) (zip (cond b ((dart_in v d).edge ∷ es) es) (cond b (words d ∷ ws) ws))
@@ -107,22 +107,22 @@ module _ (v : View) (words : DartId → List (List ℕ)) where
   abbrev forward : DartId → Bool
   forward d = (dart_in v d).forward
 
-  by_edges : (ds : List DartId) → flat_map edge_part (map (dart_key v) ds) ≡ flat_map (edge_line (skeleton_of v)) (zip (map (λ d. (dart_in v d).edge) (filter forward ds)) (map words (filter forward ds)))
-  by_edges [] = refl
-  by_edges (d ∷ ds) =
-      rw (mapped (λ e. (dart_in v e).edge) (forward d) d (filter forward ds), mapped words (forward d) d (filter forward ds))
-      (one_by d (forward d) (flat_map edge_part (map (dart_key v) ds)) (map (λ e. (dart_in v e).edge) (filter forward ds)) (map words (filter forward ds)) (by_edges ds))
+  by_edges : IsGraphSound v → (ds : List DartId) → ((d : DartId) → Member d ds → HasDart v d) → flat_map edge_part (map (numbered_dart v) ds) ≡ flat_map (edge_line (skeleton_of v)) (zip (map (λ d. (dart_in v d).edge) (filter forward ds)) (map words (filter forward ds)))
+  by_edges s [] h = refl
+  by_edges s (d ∷ ds) h =
+      rw (goes_forward v s d (h d (inl refl)), mapped (λ e. (dart_in v e).edge) (forward d) d (filter forward ds), mapped words (forward d) d (filter forward ds))
+      (one_by d (forward d) (flat_map edge_part (map (numbered_dart v) ds)) (map (λ e. (dart_in v e).edge) (filter forward ds)) (map words (filter forward ds)) (by_edges s ds (λ e m. h e (inr m))))
 
-  pub all_edges : IsGraphSound v → (ks : List DartKey) (n : ℕ) (s z : List ℕ) → ks ≡ dart_keys v → length ks ≤ n → z ≡ s ++ flat_map edge_part (take n ks) → z ≡ s ++ flat_map (edge_line (skeleton_of v)) (zip (skeleton_of v).edges (map words (forward_darts v)))
+  pub all_edges : IsGraphSound v → (ks : List NumberedDart) (n : ℕ) (s z : List ℕ) → ks ≡ numbered_darts v → length ks ≤ n → z ≡ s ++ flat_map edge_part (take n ks) → z ≡ s ++ flat_map (edge_line (skeleton_of v)) (zip (skeleton_of v).edges (map words (forward_darts v)))
   all_edges sound ks n s z e l i =
-      i ∙ ap (λ (xs : List DartKey). s ++ flat_map edge_part xs) (take_all n ks l ∙ e)
-      ∙ ap (λ (t : List ℕ). s ++ t) (by_edges (dart_order v) ∙ ap (λ (es : List Edge). flat_map (edge_line (skeleton_of v)) (zip es (map words (forward_darts v)))) (edges_in_order_of v sound))
+      i ∙ ap (λ (xs : List NumberedDart). s ++ flat_map edge_part xs) (take_all n ks l ∙ e)
+      ∙ ap (λ (t : List ℕ). s ++ t) (by_edges sound (dart_order v) (λ d m. ordered_dart v sound d m) ∙ ap (λ (es : List Edge). flat_map (edge_line (skeleton_of v)) (zip es (map words (forward_darts v)))) (edges_in_order_of v sound))
 
-  pub dart_item : IsGraphSound v → (ks : List DartKey) (i : ℕ) (k : DartKey) → ks ≡ dart_keys v → i < length ks → k ≡ get_or ks i k → HasDart v k.name × (k ≡ dart_key v k.name)
+  pub dart_item : IsGraphSound v → (ks : List NumberedDart) (i : ℕ) (k : NumberedDart) → ks ≡ numbered_darts v → i < length ks → k ≡ get_or ks i k → HasDart v k.name × (k ≡ numbered_dart v k.name)
   dart_item s ks i k e l h =
-      let m : Member k ks = subst (λ (x : DartKey). Member x ks) (sym h) (to_member ks (get_or ks i k) (Contains-get_or ks i k l)) in
-      let w = of_map (dart_key v) k (dart_order v) (subst (λ (xs : List DartKey). Member k xs) e m) in
-      (subst (λ (x : DartKey). HasDart v x.name) (sym w.2) (ordered_dart v s w.0 w.1), subst (λ (x : DartKey). x ≡ dart_key v x.name) (sym w.2) refl)
+      let m : Member k ks = subst (λ (x : NumberedDart). Member x ks) (sym h) (to_member ks (get_or ks i k) (Contains-get_or ks i k l)) in
+      let w = of_map (numbered_dart v) k (dart_order v) (subst (λ (xs : List NumberedDart). Member k xs) e m) in
+      (subst (λ (x : NumberedDart). HasDart v x.name) (sym w.2) (ordered_dart v s w.0 w.1), subst (λ (x : NumberedDart). x ≡ numbered_dart v x.name) (sym w.2) refl)
 
 -- ---- one more
 pub one_more : {X : Type 0} (f : X → List ℕ) (ks : List X) (i : ℕ) (k : X) (s a z : List ℕ) → i < length ks → k ≡ get_or ks i k → a ≡ s ++ flat_map f (take i ks) → z ≡ a ++ f k → z ≡ s ++ flat_map f (take (i + 1) ks)
@@ -132,11 +132,11 @@ one_more f ks i k s a z l e g h =
     h ∙ ap (λ t. t ++ f k) g ∙ append_assoc s (flat_map f (take i ks)) (f k) ∙ ap (λ t. s ++ t) (sym last)
 
 -- ---- the line of an edge
-pub ends_put : {T E : Type 0} (r : Result T E) (ps : List Point) (p q : Point) (s a b c z : List ℕ) → a ≡ s ++ codes "e" → b ≡ a ++ number (position_or_len (same_point p) ps + 1) → c ≡ b ++ number (position_or_len (same_point q) ps + 1) → OnOk r (z ≡ c ++ codes " :") → OnOk r (z ≡ s ++ edge_ends ps p q)
+pub ends_put : {T E : Type 0} (r : Result T E) (n m : ℕ) (s a b c z : List ℕ) → a ≡ s ++ codes "e" → b ≡ a ++ number n → c ≡ b ++ number m → OnOk r (z ≡ c ++ codes " :") → OnOk r (z ≡ s ++ edge_ends n m)
 unfolding edge_ends
-ends_put r ps p q s a b c z e f g h =
-    let i : List ℕ = number (position_or_len (same_point p) ps + 1) in
-    let j : List ℕ = number (position_or_len (same_point q) ps + 1) in
+ends_put r n m s a b c z e f g h =
+    let i : List ℕ = number n in
+    let j : List ℕ = number m in
     let two = then_appended s a b (codes "e") i e f in
     let three = then_appended s b c (codes "e" ++ i) j two g in
     joined r s c z ((codes "e" ++ i) ++ j) (codes " :") (codes "e" ++ (i ++ (j ++ codes " :"))) three h (four (codes "e") i j (codes " :"))
@@ -151,24 +151,27 @@ low_of : (p q : Point) (b : Bool) → b ≡ true → cond b (from_to p q) (from_
 low_of p q true e = refl
 low_of p q false e = absurd cc
 
-pub edge_put : {T E : Type 0} (r : Result T E) (v : View) (ps : List Point) (k : DartKey) (ws : List (List ℕ)) (s a b z : List ℕ) → ps ≡ (skeleton_of v).vertices → k ≡ dart_key v k.name → is_lt (point_cmp k.source k.target) ≡ true
-    → a ≡ s ++ edge_ends ps k.source k.target → b ≡ a ++ flat_map word ws → OnOk r (z ≡ b ++ 10 ∷ []) → OnOk r (z ≡ s ++ edge_line (skeleton_of v) ((dart_in v k.name).edge, ws))
-unfolding edge_line edge_ends ended index
-edge_put r v ps k ws s a b z e key forward f g h =
-    let here : (dart_in v k.name).edge ≡ from_to k.source k.target = low_of _ _ _ (subst (λ (x : DartKey). is_lt (point_cmp x.source x.target) ≡ true) key forward) ∙ ap (λ (x : DartKey). from_to x.source x.target) (sym key) in
-    let n : Point → List ℕ = λ p. number (position_or_len (same_point p) (skeleton_of v).vertices + 1) in
+pub edge_put : {T E : Type 0} (r : Result T E) (v : View) (sound : IsGraphSound v) (k : NumberedDart) (ws : List (List ℕ)) (s a b z : List ℕ) → HasDart v k.name → k ≡ numbered_dart v k.name → nat_lt k.source k.target ≡ true
+    → a ≡ s ++ edge_ends k.source k.target → b ≡ a ++ flat_map word ws → OnOk r (z ≡ b ++ 10 ∷ []) → OnOk r (z ≡ s ++ edge_line (skeleton_of v) ((dart_in v k.name).edge, ws))
+unfolding edge_line edge_ends ended
+edge_put r v sound k ws s a b z has key forward f g h =
+    let d : DartId = k.name in
+    let up : (dart_in v d).forward ≡ true = sym (goes_forward v sound d has) ∙ subst (λ (x : NumberedDart). nat_lt x.source x.target ≡ true) key forward in
+    let here : (dart_in v d).edge ≡ from_to (point_in v (source_in v d)) (point_in v (target_in v d)) = low_of _ _ _ up in
+    let n : Point → List ℕ = λ p. number (index (skeleton_of v) p) in
     let w : List ℕ = flat_map word ws in
-    let ends : List ℕ = codes "e" ++ (n k.source ++ (n k.target ++ codes " :")) in
-    let first : a ≡ s ++ ends = f ∙ ap (λ (qs : List Point). s ++ (codes "e" ++ (number (position_or_len (same_point k.source) qs + 1) ++ (number (position_or_len (same_point k.target) qs + 1) ++ codes " :")))) e in
-    let both = then_appended s a b ends w first g in
-    joined r s b z (ends ++ w) (10 ∷ []) ((codes "e" ++ (n (dart_in v k.name).edge.low ++ (n (dart_in v k.name).edge.high ++ (codes " :" ++ w)))) ++ 10 ∷ []) both h
-    (ap (λ (t : List ℕ). t ++ 10 ∷ []) (four (codes "e") (n k.source) (n k.target) (codes " :") w ∙ ap (λ (x : Edge). codes "e" ++ (n x.low ++ (n x.high ++ (codes " :" ++ w)))) (sym here)))
+    let low : number k.source ≡ n (dart_in v d).edge.low = ap (λ (x : NumberedDart). number x.source) key ∙ ap (λ (x : Edge). n x.low) (sym here) in
+    let high : number k.target ≡ n (dart_in v d).edge.high = ap (λ (x : NumberedDart). number x.target) key ∙ ap (λ (x : Edge). n x.high) (sym here) in
+    let ends : List ℕ = codes "e" ++ (number k.source ++ (number k.target ++ codes " :")) in
+    let both = then_appended s a b ends w f g in
+    joined r s b z (ends ++ w) (10 ∷ []) ((codes "e" ++ (n (dart_in v d).edge.low ++ (n (dart_in v d).edge.high ++ (codes " :" ++ w)))) ++ 10 ∷ []) both h
+    (ap (λ (t : List ℕ). t ++ 10 ∷ []) (four (codes "e") (number k.source) (number k.target) (codes " :") w ∙ ap₂ (λ (x y : List ℕ). codes "e" ++ (x ++ (y ++ (codes " :" ++ w)))) low high))
   where
     four : (k n x y t : List ℕ) → (k ++ (n ++ (x ++ y))) ++ t ≡ k ++ (n ++ (x ++ (y ++ t)))
     four k n x y t = simp append_assoc
 
-pub part_there : (v : View) (words : DartId → List (List ℕ)) (k : DartKey) (b : Bool) (a z : List ℕ) → b ≡ is_lt (point_cmp k.source k.target) → b ≡ true → z ≡ a ++ edge_of_dart v words k.name → z ≡ a ++ edge_part v words k
+pub part_there : (v : View) (words : DartId → List (List ℕ)) (k : NumberedDart) (b : Bool) (a z : List ℕ) → b ≡ nat_lt k.source k.target → b ≡ true → z ≡ a ++ edge_of_dart v words k.name → z ≡ a ++ edge_part v words k
 part_there v words k b a z e t h = h ∙ ap (λ (c : Bool). a ++ cond c (edge_of_dart v words k.name) []) (sym t ∙ e)
 
-pub part_none : (v : View) (words : DartId → List (List ℕ)) (k : DartKey) (b : Bool) (a z : List ℕ) → b ≡ is_lt (point_cmp k.source k.target) → b ≡ false → z ≡ a → z ≡ a ++ edge_part v words k
+pub part_none : (v : View) (words : DartId → List (List ℕ)) (k : NumberedDart) (b : Bool) (a z : List ℕ) → b ≡ nat_lt k.source k.target → b ≡ false → z ≡ a → z ≡ a ++ edge_part v words k
 part_none v words k b a z e t h = h ∙ sym (append-nil a) ∙ ap (λ (c : Bool). a ++ cond c (edge_of_dart v words k.name) []) (sym t ∙ e)

@@ -1,11 +1,9 @@
 -- The first dart out of a vertex, and the way round from it.
 use Rattle.std.proofs.Common.{◌≡◌, ℕ, Bool, true, false, cond, List, [], ◌∷◌, length, Option, Some, None, Ordering, Less, Equal, Greater, refl, sym, ap, ◌∙◌, subst, inl, inr, ◌⊎◌, arith}
 use Rattle.std.specs.Prelude.{find}
-use Rattle.std.specs.List.{AllByRecursion}
 use Rattle.std.specs.Option.{option_map}
 use Rattle.std.specs.Ordering.{is_lt, ordering_then, ordering_reverse, nat_cmp}
 use Rattle.std.proofs.lemmas.Cmp.{tied_itself}
-use Rattle.std.proofs.lemmas.List.{length-map}
 use Rattle.exact_plane.specs.Point.{Point}
 use Rattle.exact_plane.specs.PointOrder.{point_cmp}
 use Rattle.exact_plane.specs.PointOrderLaws.{point_cmp_total}
@@ -15,25 +13,29 @@ use Rattle.plane_graphs.proofs.Lists.{in_map, of_map}
 use Rattle.slab_laws.specs.declared.names.DartId.{DartId}
 use Rattle.slab_laws.specs.declared.names.VertexId.{VertexId}
 use Rattle.slab_laws.specs.Skeleton.{same_point}
-use Rattle.slab_laws.specs.Darts.{Dart, source, target, darts}
+use Rattle.slab_laws.specs.Darts.{source, target, darts}
 use Rattle.slab_laws.specs.Rotation.{rotation}
 use Rattle.slab_laws.specs.Sound.{skeleton_of, dart_in, IsGraphSound}
 use Rattle.slab_laws.specs.View.{View, HasVertex, HasDart, point_in}
 use Rattle.sound_views.specs.Orders.{dart_order}
 use Rattle.sound_views.proofs.NamedDarts.{names_are_darts}
-use Rattle.sound_views.proofs.NamesOrdered.{dart_ordered, ordered_dart, darts_in_order_of}
+use Rattle.sound_views.proofs.NamesOrdered.{dart_ordered, ordered_dart}
 use Rattle.sound_views.proofs.IsolatedVertices.{bare_is_bare}
 use Rattle.sound_views.specs.VertexRounds.{round}
 use Rattle.sound_views.specs.VertexRoundLaws.{HasLeastTarget}
 use Rattle.sound_views.proofs.RoundTurned.{round_is_rotation, none_round}
-use Rattle.sound_views.proofs.CycleDartOrder.{all_are_listed}
+use Rattle.arr_text.proofs.FaceNames.{darts_counted}
 use Rattle.record_orders.specs.declared.darts.DartKey.{DartKey}
-use Rattle.record_orders.specs.Keys.{dart_key, dart_keys, first_out, AreBySource}
+use Rattle.record_orders.specs.Keys.{dart_key, dart_keys}
 use Rattle.record_orders.proofs.DartKeys.{key_cmp, ascends}
 use Rattle.integers.proofs.Decisions.{clash}
 use Rattle.slab_faces.proofs.Parity.{same_point_is, same_point_refl}
 
 -- ---- what is found first
+-- the first of the darts that goes out of a point
+abbrev pub first_at : List DartKey → Point → Option DartId
+first_at ks p = option_map (λ k. k.name) (find (λ k. same_point k.source p) ks)
+
 module _ (p : Point) where
   abbrev leaves : DartKey → Bool
   leaves k = same_point k.source p
@@ -93,28 +95,6 @@ module _ (v : View) (s : IsGraphSound v) where
   key_there : (d : DartId) → HasDart v d → Member (dart_key v d) (dart_keys v)
   key_there d has = in_map (dart_key v) d (dart_order v) (dart_ordered v s d has)
 
-  pub count : length (dart_keys v) ≡ length (darts (skeleton_of v))
-  count = length-map (dart_order v) (dart_key v) ∙ sym (length-map (dart_order v) (dart_in v)) ∙ ap (λ (ds : List Dart). length ds) (darts_in_order_of v s) ∙ all_are_listed (skeleton_of v) s.plane
-
-  by_less : (k m : DartKey) → key_cmp k m ≡ Less → is_lt (point_cmp m.source k.source) ≡ false
-  by_less k m e = at (point_cmp k.source m.source) refl e
-    where
-      at : (o : Ordering) → point_cmp k.source m.source ≡ o → ordering_then o (ordering_then (point_cmp k.target m.target) (nat_cmp k.name.0 m.name.0)) ≡ Less → is_lt (point_cmp m.source k.source) ≡ false
-      at Less e h = reversed k.source m.source e
-      at Equal e h = equal_not_less k.source m.source e
-      at Greater e h = absurd cc
-
-  all_less : (k : DartKey) (ms : List DartKey) → AllByRecursion (λ m. key_cmp k m ≡ Less) ms → AllByRecursion (λ m. is_lt (point_cmp m.source k.source) ≡ false) ms
-  all_less k [] a = tt
-  all_less k (m ∷ ms) a = (by_less k m a.0, all_less k ms a.1)
-
-  sources : (ks : List DartKey) → IsAscending key_cmp ks → AreBySource ks
-  sources [] a = tt
-  sources (k ∷ ks) a = (all_less k ks a.0, sources ks a.1)
-
-  pub by_source : AreBySource (dart_keys v)
-  by_source = sources (dart_keys v) (ascends v s)
-
   module _ (p : Point) where
     -- the dart that is found
     pub record Found (d : DartId) : Type 0 where
@@ -129,7 +109,7 @@ module _ (v : View) (s : IsGraphSound v) where
     source_is : (d : DartId) → HasDart v d → source (dart_in v d) ≡ (dart_key v d).source
     source_is d has = names_are_darts.source v d s has
 
-    pub found : (d : DartId) → Some d ≡ first_out (dart_keys v) p → Found d
+    pub found : (d : DartId) → Some d ≡ first_at (dart_keys v) p → Found d
     found d e =
         let w = key_of d (find (leaves p) (dart_keys v)) e in
         let r = found_there p w.0 (dart_keys v) w.1 in
@@ -153,16 +133,16 @@ module _ (v : View) (s : IsGraphSound v) where
               ap (λ (q : Point). is_lt (point_cmp q (target (dart_in v d)))) (sym (ap target n.2)) ∙ ap (λ (q : Point). is_lt (point_cmp q (target (dart_in v d)))) other ∙ ap (λ (q : Point). is_lt (point_cmp (dart_key v n.0).target q)) mine ∙ l;
         }
 
-    pub way_round : (d : DartId) (n : ℕ) → Some d ≡ first_out (dart_keys v) p → n ≡ length (dart_keys v) → round (darts (skeleton_of v)) n (dart_in v d) (dart_in v d) ≡ rotation (darts (skeleton_of v)) p
+    pub way_round : (d : DartId) (n : ℕ) → Some d ≡ first_at (dart_keys v) p → n ≡ length (dart_order v) → round (darts (skeleton_of v)) n (dart_in v d) (dart_in v d) ≡ rotation (darts (skeleton_of v)) p
     way_round d n e i =
         let f = found d e in
-        round_is_rotation (skeleton_of v) (dart_in v d) n s.plane (names_are_darts.known v d s f.has) f.least (let c : n ≡ length (darts (skeleton_of v)) = i ∙ count in omega arith) ∙ ap (rotation (darts (skeleton_of v))) f.leaves_it
+        round_is_rotation (skeleton_of v) (dart_in v d) n s.plane (names_are_darts.known v d s f.has) f.least (let c : n ≡ length (darts (skeleton_of v)) = i ∙ darts_counted v s in omega arith) ∙ ap (rotation (darts (skeleton_of v))) f.leaves_it
 
   no_key : (o : Option DartKey) → None ≡ option_map (λ (k : DartKey). k.name) o → o ≡ None
   no_key None e = refl
   no_key (Some k) e = absurd cc
 
-  pub nobody : (w : VertexId) → HasVertex v w → None ≡ first_out (dart_keys v) (point_in v w) → rotation (darts (skeleton_of v)) (point_in v w) ≡ []
+  pub nobody : (w : VertexId) → HasVertex v w → None ≡ first_at (dart_keys v) (point_in v w) → rotation (darts (skeleton_of v)) (point_in v w) ≡ []
   nobody w has e =
       let none = no_key (find (leaves (point_in v w)) (dart_keys v)) e in
       none_round (skeleton_of v) (point_in v w) s.plane ((bare_is_bare v w s has).1 (λ d out.

@@ -1,28 +1,16 @@
 -- Going round a vertex, and along a cycle.
-use Rattle.std.proofs.Common.{◌≡◌, ℕ, zero, suc, ◌+◌, ◌-◌, ◌<◌, ◌≤◌, Bool, true, false, List, [], ◌∷◌, ◌++◌, refl, sym, ap, ◌∙◌, subst, append_assoc, arith}
+use Rattle.std.proofs.Common.{◌≡◌, ℕ, zero, suc, ◌+◌, ◌-◌, ◌<◌, ◌≤◌, true, false, List, [], ◌∷◌, ◌++◌, refl, sym, ap, ◌∙◌, subst, append_assoc, arith}
 use Rattle.std.specs.Prelude.{flat_map}
-use Rattle.std.specs.List.{position_or_len}
 use Rattle.std.proofs.lemmas.Bool.{false_from_ne_true}
 use Rattle.std.proofs.lemmas.List.{append-nil}
-use Rattle.exact_plane.specs.Point.{Point}
-use Rattle.exact_plane.specs.PointOrder.{point_cmp}
-use Rattle.exact_plane.specs.PointOrderLaws.{point_cmp_total}
-use Rattle.plane_graphs.specs.Ascending.{IsAscending}
-use Rattle.plane_graphs.proofs.Ascending.{IsAscending-ascending}
 use Rattle.slab_laws.specs.declared.names.DartId.{DartId}
 use Rattle.slab_laws.specs.Cycles.{trail}
 use Rattle.slab_laws.specs.Darts.{Dart}
 use Rattle.slab_laws.specs.Rotation.{twin, next, same_dart}
-use Rattle.slab_laws.specs.Skeleton.{same_point}
-use Rattle.slab_laws.specs.Text.{number, index}
-use Rattle.slab_laws.specs.Sound.{skeleton_of, dart_in, IsGraphSound}
+use Rattle.slab_laws.specs.Sound.{dart_in, IsGraphSound}
 use Rattle.slab_laws.specs.View.{View, HasDart}
 use Rattle.slab_faces.proofs.NextLemmas.{darts_exact}
 use Rattle.sound_views.specs.VertexRounds.{round}
-
--- the points of a view ascend
-pub points_ascend : (v : View) (ps : List Point) → ps ≡ (skeleton_of v).vertices → IsAscending point_cmp ps
-points_ascend v ps e = subst (λ (qs : List Point). IsAscending point_cmp qs) (sym e) (IsAscending-ascending point_cmp point_cmp_total _)
 
 -- names are one where their darts are
 pub one_dart : (v : View) (d e : DartId) → d ≡ e → same_dart (dart_in v d) (dart_in v e) ≡ true
@@ -30,11 +18,6 @@ one_dart v d e h = subst (λ (x : DartId). same_dart (dart_in v d) (dart_in v x)
 
 pub two_darts : (v : View) → IsGraphSound v → (d e : DartId) → HasDart v d → HasDart v e → (d ≡ e → ⊥) → same_dart (dart_in v d) (dart_in v e) ≡ false
 two_darts v s d e hd he f = false_from_ne_true _ (λ h. f (s.turned.differ d e hd he (darts_exact.path (dart_in v d) (dart_in v e) h)))
-
--- the number of a vertex
-pub written_index : (v : View) (ps : List Point) (p q : Point) → ps ≡ (skeleton_of v).vertices → p ≡ q → number (position_or_len (same_point p) ps + 1) ≡ number (index (skeleton_of v) q)
-unfolding index
-written_index v ps p q e f = ap (λ (qs : List Point). number (position_or_len (same_point p) qs + 1)) e ∙ ap (λ (r : Point). number (position_or_len (same_point r) (skeleton_of v).vertices + 1)) f
 
 -- ---- a walk that stops where it began
 module _ (step : Dart → Dart) (go : ℕ → Dart → Dart → List Dart) (none : (d e : Dart) → go zero d e ≡ [])

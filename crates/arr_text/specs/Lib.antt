@@ -1,3 +1,5 @@
+pub mod LayerTexts
+pub mod Numbers
 pub mod Parts
 pub mod Reading
 pub mod RecordTexts

@@ -1,6 +1,6 @@
 -- The text of what is read by name.
-use Rattle.std.specs.Prelude.{ℕ, ◌+◌, List, ◌++◌, map, filter, decimal, codes}
-use Rattle.std.specs.List.{position_or_len, slice_index_or}
+use Rattle.std.specs.Prelude.{ℕ, List, ◌++◌, map, filter, decimal, codes}
+use Rattle.std.specs.List.{slice_index_or}
 use Rattle.exact_plane.specs.Point.{Point}
 use Rattle.slab_laws.specs.declared.names.CurveId.{CurveId}
 use Rattle.slab_laws.specs.declared.names.DartId.{DartId}
@@ -8,7 +8,6 @@ use Rattle.slab_laws.specs.declared.names.FaceId.{FaceId}
 use Rattle.slab_laws.specs.declared.slab_cell.SlabCell.{SlabCell}
 use Rattle.slab_laws.specs.Sound.{skeleton_of, dart_in}
 use Rattle.slab_laws.specs.Subdivision.{subdivision, rank}
-use Rattle.slab_laws.specs.Skeleton.{same_point}
 use Rattle.slab_laws.specs.Text.{Marks, text, text_by, number, triple, ended}
 use Rattle.slab_laws.specs.View.{View, Faces, face_id, point_in, pinned_in}
 use Rattle.slab_laws.specs.Layers.{LayerRows, LayerView}
@@ -74,17 +73,13 @@ unfoldable pub overlay_text_in : View → Faces → LayerView → LayerView → 
 overlay_text_in v f red blue = overlay_text (subdivision (skeleton_of v)) (pins_in v) (rows_in v f red) (rows_in v f blue)
 
 -- ---- parts
--- a point's place among points, from 1 on; where it isn't there, one more than their number
-abbrev pub place_in : List Point → Point → ℕ
-place_in ps p = position_or_len (same_point p) ps + 1
-
 -- a vertex's number and its point
-unfoldable pub vertex_place : List Point → Point → List ℕ
-vertex_place ps p = codes "v" ++ (number (place_in ps p) ++ triple p)
+unfoldable pub vertex_place : ℕ → Point → List ℕ
+vertex_place n p = codes "v" ++ (number n ++ triple p)
 
 -- the numbers of an edge's two ends
-unfoldable pub edge_ends : List Point → Point → Point → List ℕ
-edge_ends ps p q = codes "e" ++ (number (place_in ps p) ++ (number (place_in ps q) ++ codes " :"))
+unfoldable pub edge_ends : ℕ → ℕ → List ℕ
+edge_ends n m = codes "e" ++ (number n ++ (number m ++ codes " :"))
 
 -- the first line
 unfoldable pub title : List ℕ → ℕ → ℕ → ℕ → List ℕ

@@ -1,43 +1,41 @@
-ghost use Rattle.std.specs.Prelude.{◌≡◌, ◌++◌, length, OnOk};
-ghost use Rattle.std.specs.List.{All};
-ghost use Rattle.exact_plane.specs.PointOrder.{point_cmp};
-ghost use Rattle.plane_graphs.specs.Ascending.{IsAscending};
-ghost use Rattle.slab_laws.specs.Sound.{skeleton_of, IsGraphSound};
+ghost use Rattle.std.specs.Prelude.{◌≡◌, ◌<◌, ◌++◌, length, OnOk};
+ghost use Rattle.std.specs.List.{All, slice_index_or};
+ghost use Rattle.slab_laws.specs.Sound.{IsGraphSound};
 ghost use Rattle.slab_laws.specs.View.{HasDart, HasFace};
 ghost use Rattle.slab_laws.specs.FacesSound.{IsSound};
 ghost use Rattle.sound_views.specs.Orders.{dart_order};
 ghost use Rattle.record_orders.specs.Keys.{vertex_keys};
 ghost use Rattle.record_orders.specs.CycleKeys.{cycle_keys, ranked_faces};
-ghost use Rattle.arr_text.specs.Reading.{place_in, face_order};
+ghost use Rattle.arr_text.specs.Numbers.{AreNumbers};
+ghost use Rattle.arr_text.specs.Reading.{face_order};
 ghost use Rattle.arr_text.specs.Parts.{letter_of, cycle_text, cycles_text, isolated_line, isolated_text, face_line, bodies_text, faces_text, HaveGained};
 
 use crate::put::{put_index, put_number, put_text};
 use crate::rounds::put_trail;
 use crate::words::Words;
-use exact_plane::Point;
 use no_memory::NoMemory;
 use record_orders::{Bodies, CycleKey, Ranks, VertexKey};
-use slab_laws::{CycleKind, DartId, Darts, FaceId, Faced};
+use slab_laws::{CycleKind, DartId, Darts, FaceId, Faced, VertexId};
 use std::alloc::Global;
 
 // Makes the line of a cycle, in place of what was there. There are so many darts in all.
 fn make_cycle_line<R: Darts>(
     line: &mut Vec<u8>,
     records: &R,
-    points: &[Point],
+    numbers: &[usize],
     letter: &str,
     lead: DartId,
     darts: usize,
 ) -> Result<(), NoMemory>
     requires sound { IsGraphSound (R.graph records.now) }
-    requires points { points.now ≡ (skeleton_of (R.graph records.now)).vertices }
+    requires numbers { AreNumbers (R.graph records.now) numbers.now }
     requires darts { darts ≡ length (dart_order (R.graph records.now)) }
     requires lead { HasDart (R.graph records.now) lead }
     ensures { OnOk result (line.new.items ≡ cycle_text (R.graph records.now) letter.now lead) }
 {
     line.clear();
     put_text(line, letter)?;
-    put_trail(line, records, points, lead, darts)?;
+    put_trail(line, records, numbers, lead, darts)?;
     put_text(line, "\n")
 }
 
@@ -56,14 +54,14 @@ fn put_cycles<R: Faced>(
     bodies: &mut Bodies,
     line: &mut Vec<u8>,
     records: &R,
-    points: &[Point],
+    numbers: &[usize],
     cycles: &[CycleKey],
     ranks: &Ranks,
     kind: CycleKind,
     darts: usize,
 ) -> Result<(), NoMemory>
     requires stands { IsSound (R.graph records.now) (R.faces records.now) }
-    requires points { points.now ≡ (skeleton_of (R.graph records.now)).vertices }
+    requires numbers { AreNumbers (R.graph records.now) numbers.now }
     requires cycles { cycles.now ≡ cycle_keys (R.faces records.now) (dart_order (R.graph records.now)) }
     requires ranks { ranks.now ≡ ranked_faces (R.faces records.now) cycles.now }
     requires darts { darts ≡ length (dart_order (R.graph records.now)) }
@@ -74,7 +72,7 @@ fn put_cycles<R: Faced>(
 {
     for cycle in cycles {
         if cycle.is_of(kind) {
-            make_cycle_line(line, records, points, letter_of(kind), cycle.lead, darts)?;
+            make_cycle_line(line, records, numbers, letter_of(kind), cycle.lead, darts)?;
             bodies.append(ranks.rank_of(cycle.face), line)?;
         }
     }
@@ -82,13 +80,17 @@ fn put_cycles<R: Faced>(
 }
 
 // Makes the line of an isolated vertex, in place of what was there.
-fn make_isolated_line(line: &mut Vec<u8>, points: &[Point], point: &Point) -> Result<(), NoMemory>
-    requires { IsAscending point_cmp points.now }
-    ensures { OnOk result (line.new.items ≡ isolated_line (place_in points.now point.now)) }
+fn make_isolated_line(
+    line: &mut Vec<u8>,
+    numbers: &[usize],
+    vertex: VertexId,
+) -> Result<(), NoMemory>
+    requires { vertex.0 < length numbers.now }
+    ensures { OnOk result (line.new.items ≡ isolated_line (slice_index_or numbers.now vertex.0 0)) }
 {
     line.clear();
     put_text(line, "p")?;
-    put_index(line, points, point)?;
+    put_index(line, numbers, vertex)?;
     put_text(line, "\n")
 }
 
@@ -97,12 +99,12 @@ fn put_isolated<R: Faced>(
     bodies: &mut Bodies,
     line: &mut Vec<u8>,
     records: &R,
-    points: &[Point],
+    numbers: &[usize],
     vertices: &[VertexKey],
     ranks: &Ranks,
 ) -> Result<(), NoMemory>
     requires stands { IsSound (R.graph records.now) (R.faces records.now) }
-    requires points { points.now ≡ (skeleton_of (R.graph records.now)).vertices }
+    requires numbers { AreNumbers (R.graph records.now) numbers.now }
     requires vertices { vertices.now ≡ vertex_keys (R.graph records.now) }
     requires ranks { ranks.now ≡ face_order (R.graph records.now) (R.faces records.now) }
     requires bodies { length bodies.old ≡ length ranks.now }
@@ -112,7 +114,7 @@ fn put_isolated<R: Faced>(
 {
     for vertex in vertices {
         if records.out_of(vertex.name).is_none() {
-            make_isolated_line(line, points, &vertex.point)?;
+            make_isolated_line(line, numbers, vertex.name)?;
             bodies.append(ranks.rank_of(records.bare_face(vertex.name)), line)?;
         }
     }
@@ -160,14 +162,14 @@ pub(crate) fn put_faces<R: Faced, W: Words<R>>(
     alloc: Global,
     out: &mut Vec<u8>,
     records: &R,
-    points: &[Point],
+    numbers: &[usize],
     vertices: &[VertexKey],
     cycles: &[CycleKey],
     ranks: &Ranks,
     darts: usize,
 ) -> Result<(), NoMemory>
     requires stands { IsSound (R.graph records.now) (R.faces records.now) }
-    requires points { points.now ≡ (skeleton_of (R.graph records.now)).vertices }
+    requires numbers { AreNumbers (R.graph records.now) numbers.now }
     requires vertices { vertices.now ≡ vertex_keys (R.graph records.now) }
     requires cycles { cycles.now ≡ cycle_keys (R.faces records.now) (dart_order (R.graph records.now)) }
     requires ranks { ranks.now ≡ ranked_faces (R.faces records.now) cycles.now }
@@ -181,7 +183,7 @@ pub(crate) fn put_faces<R: Faced, W: Words<R>>(
         &mut bodies,
         &mut line,
         records,
-        points,
+        numbers,
         cycles,
         ranks,
         CycleKind::Outer,
@@ -191,12 +193,12 @@ pub(crate) fn put_faces<R: Faced, W: Words<R>>(
         &mut bodies,
         &mut line,
         records,
-        points,
+        numbers,
         cycles,
         ranks,
         CycleKind::Inner,
         darts,
     )?;
-    put_isolated(&mut bodies, &mut line, records, points, vertices, ranks)?;
+    put_isolated(&mut bodies, &mut line, records, numbers, vertices, ranks)?;
     put_bodies::<R, W>(out, records, ranks.as_slice(), &bodies)
 }

@@ -6,14 +6,16 @@
 //! 1 in the order of their points, faces from 0 by rank.
 #![tactic(auto)]
 
+mod darts;
 mod edges;
 mod faces;
 mod laws;
+mod numbers;
 mod put;
 mod rounds;
 mod vertices;
 mod whole;
 mod words;
 
-pub use laws::records_tell_their_graph;
+pub use laws::{overlay_text_is_the_layers, records_tell_their_graph};
 pub use whole::{overlay_text, text};

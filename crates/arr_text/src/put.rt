@@ -1,12 +1,12 @@
-ghost use Rattle.std.specs.Prelude.{◌≡◌, ◌++◌, OnOk};
-ghost use Rattle.exact_plane.specs.PointOrder.{point_cmp};
-ghost use Rattle.plane_graphs.specs.Ascending.{IsAscending};
+ghost use Rattle.std.specs.Prelude.{◌≡◌, ◌<◌, ◌++◌, length, OnOk};
+ghost use Rattle.std.specs.List.{slice_index_or};
 ghost use Rattle.slab_laws.specs.Text.{word, number, triple};
-ghost use Rattle.arr_text.specs.Reading.{place_in};
 
+use crate::numbers::number_of;
 use exact_plane::Point;
 use itoa::{Buffer, Integer};
 use no_memory::NoMemory;
+use slab_laws::VertexId;
 
 // Appends a text.
 pub(crate) fn put_text(out: &mut Vec<u8>, text: &str) -> Result<(), NoMemory>
@@ -48,19 +48,14 @@ pub(crate) fn put_point(out: &mut Vec<u8>, point: &Point) -> Result<(), NoMemory
     put_number(out, point.w())
 }
 
-// The place of a point among ascending points, from 1 on; where it isn't there, one more than their number.
-fn number_of(points: &[Point], point: &Point) -> usize
-    requires { IsAscending point_cmp points.now }
-    ensures { result ≡ place_in points.now point.now }
+// Puts the number of a vertex, from 1, by its name.
+pub(crate) fn put_index(
+    out: &mut Vec<u8>,
+    numbers: &[usize],
+    vertex: VertexId,
+) -> Result<(), NoMemory>
+    requires { vertex.0 < length numbers.now }
+    ensures { OnOk result (out.new.items ≡ out.old.items ++ number (slice_index_or numbers.now vertex.0 0)) }
 {
-    let count = points.len();
-    points.binary_search(point).unwrap_or(count) + 1
-}
-
-// Puts the number of a vertex, from 1, by its point.
-pub(crate) fn put_index(out: &mut Vec<u8>, points: &[Point], point: &Point) -> Result<(), NoMemory>
-    requires { IsAscending point_cmp points.now }
-    ensures { OnOk result (out.new.items ≡ out.old.items ++ number (place_in points.now point.now)) }
-{
-    put_number(out, number_of(points, point))
+    put_number(out, number_of(numbers, vertex))
 }

@@ -1,30 +1,22 @@
-ghost use Rattle.std.specs.Prelude.{◌≡◌, ◌++◌, map, IfOk, OnOk};
-ghost use Rattle.slab_laws.specs.Sound.{skeleton_of};
+ghost use Rattle.std.specs.Prelude.{◌≡◌, ◌++◌, IfOk, OnOk};
 ghost use Rattle.slab_laws.specs.FacesSound.{IsSound};
 ghost use Rattle.sound_views.specs.Orders.{dart_order};
-ghost use Rattle.record_orders.specs.Keys.{vertex_keys, dart_keys};
+ghost use Rattle.record_orders.specs.Keys.{vertex_keys};
 ghost use Rattle.record_orders.specs.CycleKeys.{cycle_keys, ranked_faces};
+ghost use Rattle.arr_text.specs.Numbers.{AreNumbers, numbered_darts};
 ghost use Rattle.arr_text.specs.Reading.{text_in, text_with, overlay_text_in, title};
 
+use crate::darts::{NumberedDart, darts_by_number, names_of};
 use crate::edges::put_edges;
 use crate::faces::put_faces;
+use crate::numbers::numbers_of;
 use crate::put::{put_number, put_text};
 use crate::vertices::put_vertices;
 use crate::words::{Coloured, Plain, Words};
-use exact_plane::Point;
 use no_memory::NoMemory;
-use record_orders::{
-    CycleKey, DartKey, Ranks, VertexKey, cycles_of, darts_in_order, points_of, ranks_of,
-    vertices_in_order,
-};
-use slab_laws::{Curved, DartId, Faced, Layered};
-use std::alloc::{AllocError, Global};
-
-fn names_of(alloc: Global, darts: &[DartKey]) -> Result<Vec<DartId>, AllocError>
-    ensures { IfOk result (λ v. v.items ≡ map (λ k. k.name) darts.now) }
-{
-    darts.iter().map(|dart| dart.name).collect(alloc)
-}
+use record_orders::{CycleKey, Ranks, VertexKey, cycles_of, ranks_of, vertices_in_order};
+use slab_laws::{Curved, Faced, Layered};
+use std::alloc::Global;
 
 // Puts the first line, after its first word: how many vertices, edges and faces there are.
 fn put_title(
@@ -48,16 +40,16 @@ fn put_lines<R: Faced, W: Words<R>>(
     alloc: Global,
     out: &mut Vec<u8>,
     records: &R,
-    points: &[Point],
+    numbers: &[usize],
     vertices: &[VertexKey],
-    darts: &[DartKey],
+    darts: &[NumberedDart],
     cycles: &[CycleKey],
     ranks: &Ranks,
 ) -> Result<(), NoMemory>
     requires stands { IsSound (R.graph records.now) (R.faces records.now) }
-    requires points { points.now ≡ (skeleton_of (R.graph records.now)).vertices }
+    requires numbers { AreNumbers (R.graph records.now) numbers.now }
     requires vertices { vertices.now ≡ vertex_keys (R.graph records.now) }
-    requires darts { darts.now ≡ dart_keys (R.graph records.now) }
+    requires darts { darts.now ≡ numbered_darts (R.graph records.now) }
     requires cycles { cycles.now ≡ cycle_keys (R.faces records.now) (dart_order (R.graph records.now)) }
     requires ranks { ranks.now ≡ ranked_faces (R.faces records.now) cycles.now }
     ensures { OnOk result (out.new.items ≡ out.old.items
@@ -70,13 +62,13 @@ fn put_lines<R: Faced, W: Words<R>>(
         darts.len() / 2,
         ranks.len(),
     )?;
-    put_vertices(out, records, points, vertices, darts)?;
-    put_edges::<R, W>(alloc, out, records, points, darts)?;
+    put_vertices(out, records, numbers, vertices, darts)?;
+    put_edges::<R, W>(alloc, out, records, darts)?;
     put_faces::<R, W>(
         alloc,
         out,
         records,
-        points,
+        numbers,
         vertices,
         cycles,
         ranks,
@@ -92,14 +84,14 @@ fn text_by<R: Faced, W: Words<R>>(alloc: Global, records: &R) -> Result<Vec<u8>,
         ≡ text_with W.title (R.graph records.now) (R.faces records.now) (W.curves records.now) (W.labels records.now)) }
 {
     let vertices = vertices_in_order(alloc, records)?;
-    let points = points_of(alloc, &vertices)?;
-    let darts = darts_in_order(alloc, records)?;
+    let numbers = numbers_of(alloc, &vertices)?;
+    let darts = darts_by_number(alloc, records, &numbers)?;
     let names = names_of(alloc, &darts)?;
     let cycles = cycles_of(alloc, records, &names)?;
     let ranks = ranks_of(alloc, records, &cycles)?;
     let mut out = Vec::new(alloc);
     put_lines::<R, W>(
-        alloc, &mut out, records, &points, &vertices, &darts, &cycles, &ranks,
+        alloc, &mut out, records, &numbers, &vertices, &darts, &cycles, &ranks,
     )?;
     Ok(out)
 }

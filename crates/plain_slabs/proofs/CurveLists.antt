@@ -40,13 +40,13 @@ use Rattle.plain_slabs.proofs.DartLists.{edge_reads}
 use Rattle.plain_slabs.specs.Curves.{edge_at, curves_at}
 use Rattle.integers.proofs.Tests.{nat_exact}
 use Rattle.arr_notes.proofs.Names.{numbers_of}
-use Rattle.record_orders.proofs.Firsts.{and_turned}
+use Rattle.std.proofs.Math.Bool.{and_assoc}
 use Rattle.slab_faces.proofs.Parity.{same_point_is}
 
 -- ---- the two tests for one point
 
 one_test : (p q : Point) → same_point p q ≡ line.same_point p q
-one_test p q = and_turned (int_eq p.x q.x) (int_eq p.y q.y) (int_eq p.w q.w) ∙ point_cmp_ties p q
+one_test p q = and_assoc (int_eq p.x q.x) (int_eq p.y q.y) (int_eq p.w q.w) ∙ point_cmp_ties p q
 
 at_test : (p q : Point) (m : MarkInMemory) → (same_point m.low p && same_point m.high q) ≡ is_at p q (mark_of m)
 at_test p q m = λ i. one_test m.low p i && one_test m.high q i

@@ -1,12 +1,7 @@
 -- The cycles and the faces, as the list that they are made of grows at its end.
-use Rattle.std.proofs.Common.{◌≡◌, ℕ, ◌+◌, ◌<◌, Bool, true, false, cond, refl, sym, ap, subst, is_some, ◌∙◌, inl, inr, List, [], ◌∷◌, ◌++◌, map, length, take, get_or, arith, Some, None}
+use Rattle.std.proofs.Common.{◌≡◌, ℕ, ◌+◌, ◌<◌, Bool, true, false, cond, refl, sym, ap, subst, is_some, ◌∙◌, Option, inl, inr, List, [], ◌∷◌, ◌++◌, map, length, take, get_or, arith, Some, None}
 use Rattle.std.specs.Prelude.{filter, not, ◌||◌, ◌==◌}
-use Rattle.std.specs.BTreeMap.{BTreeMap, get}
-use Rattle.std.specs.BTreeSet.{BTreeSet, contains}
 use Rattle.std.specs.List.{list_any, position, position_or_len}
-use Rattle.std.specs.Map.{lookup}
-use Rattle.std.specs.Ordering.{nat_cmp, is_eq}
-use Rattle.std.specs.declared.cmp.Ordering.{Ordering}
 use Rattle.std.proofs.lemmas.Bool.{cases_Bool, eqb-true}
 use Rattle.std.proofs.lemmas.Bool.Decides.{nat_tests}
 use Rattle.std.proofs.lemmas.List.{append-nil, append_assoc, map-append, take_more}
@@ -21,21 +16,17 @@ use Rattle.slab_laws.specs.declared.names.CycleKind.{CycleKind}
 use Rattle.slab_laws.specs.declared.names.DartId.{DartId}
 use Rattle.slab_laws.specs.declared.names.FaceId.{FaceId}
 use Rattle.record_orders.specs.declared.cycles.CycleKey.{CycleKey}
-use Rattle.record_orders.specs.CycleKeys.{same_cycle, cycle_key, cycle_keys, same_face, face_cmp, first_faces, ranked_faces, added, AreRanks}
+use Rattle.record_orders.specs.CycleKeys.{same_cycle, cycle_key, cycle_keys, same_face, first_faces, ranked_faces, added, AreRanks}
 use Rattle.record_orders.proofs.CycleFirsts.{distinct_more, added_distinct}
 use Rattle.record_orders.proofs.CyclePlaces.{among, position_more}
 
 -- ---- cycles
--- cycles are ordered by their numbers
-abbrev cycle_cmp : CycleId → CycleId → Ordering
-cycle_cmp c d = nat_cmp c.0 d.0
+-- the table has the cycles of the darts marked
+abbrev pub AreSeen : Faces → List Bool → List DartId → Type 0
+AreSeen f seen ds = (n : ℕ) → get_or seen n false ≡ list_any (λ d. n == (cycle_in f d).0) ds
 
--- the set holds the cycles of the darts
-abbrev pub AreSeen : Faces → BTreeSet CycleId → List DartId → Type 0
-AreSeen f seen ds = (c : CycleId) → contains cycle_cmp seen c ≡ list_any (λ d. c.0 == (cycle_in f d).0) ds
-
-pub seen_none : (f : Faces) (seen : BTreeSet CycleId) → seen.keys ≡ [] → AreSeen f seen []
-seen_none f seen e q = ap (list_any (λ k. is_eq (cycle_cmp q k))) e
+pub seen_none : (f : Faces) (seen : List Bool) → seen ≡ [] → AreSeen f seen []
+seen_none f seen e n = ap (λ bs. get_or bs n false) e
 
 module _ (f : Faces) (ds : List DartId) (i : ℕ) (d : DartId) (below : i < length ds) where
   abbrev at : DartId
@@ -53,30 +44,24 @@ module _ (f : Faces) (ds : List DartId) (i : ℕ) (d : DartId) (below : i < leng
       one true = refl
       one false = refl
 
-  module _ (seen : BTreeSet CycleId) (c : CycleId) (is : c ≡ cycle_in f at) (are : AreSeen f seen (take i ds)) where
-    -- the set tells whether a dart before is on the cycle
-    stood : (b : Bool) → not b ≡ not (contains cycle_cmp seen c) → list_any (same_cycle f at) (take i ds) ≡ b
-    stood b e = sym (ap (λ c. list_any (λ e. c.0 == (cycle_in f e).0) (take i ds)) is) ∙ sym (are c) ∙ sym (not_path b (contains cycle_cmp seen c) e)
-      where
-        not_path : (a b : Bool) → not a ≡ not b → a ≡ b
-        not_path true true e = refl
-        not_path true false e = absurd cc
-        not_path false true e = absurd cc
-        not_path false false e = refl
+  module _ (seen : List Bool) (c : CycleId) (is : c ≡ cycle_in f at) (are : AreSeen f seen (take i ds)) where
+    -- the table tells whether a dart before is on the cycle
+    stood : (b : Bool) → get_or seen c.0 false ≡ b → list_any (same_cycle f at) (take i ds) ≡ b
+    stood b e = sym (ap (λ c. list_any (λ e. c.0 == (cycle_in f e).0) (take i ds)) is) ∙ sym (are c.0) ∙ e
 
-    pub cycle_pushed : (now pushed new : List CycleKey) (kind : CycleKind) (face : FaceId) → kind ≡ kind_in f c → face ≡ face_in f c → true ≡ not (contains cycle_cmp seen c) → now ≡ cycle_keys f (take i ds) → pushed ≡ now ++ record { lead = at; kind = kind; face = face } ∷ [] → new ≡ pushed → new ≡ cycle_keys f (take (i + 1) ds)
+    pub cycle_pushed : (now pushed new : List CycleKey) (kind : CycleKind) (face : FaceId) → kind ≡ kind_in f c → face ≡ face_in f c → get_or seen c.0 false ≡ false → now ≡ cycle_keys f (take i ds) → pushed ≡ now ++ record { lead = at; kind = kind; face = face } ∷ [] → new ≡ pushed → new ≡ cycle_keys f (take (i + 1) ds)
     cycle_pushed now pushed new kind face k a e n h g = g ∙ h ∙ ap (λ xs. xs ++ record { lead = at; kind = kind; face = face } ∷ []) n ∙ ap (λ x. cycle_keys f (take i ds) ++ x ∷ []) key ∙ sym (keys_more false (stood false e))
       where
         key : record { lead = at; kind = kind; face = face } ≡ cycle_key f at
         key = λ j. record { lead = at; kind = (k ∙ ap (kind_in f) is) j; face = (a ∙ ap (face_in f) is) j }
 
-    pub cycle_passed : (now new : List CycleKey) → false ≡ not (contains cycle_cmp seen c) → now ≡ cycle_keys f (take i ds) → new ≡ now → new ≡ cycle_keys f (take (i + 1) ds)
+    pub cycle_passed : (now new : List CycleKey) → get_or seen c.0 false ≡ true → now ≡ cycle_keys f (take i ds) → new ≡ now → new ≡ cycle_keys f (take (i + 1) ds)
     cycle_passed now new e n h = h ∙ n ∙ sym (append-nil (cycle_keys f (take i ds))) ∙ sym (keys_more true (stood true e))
 
-    pub seen_more : (new : BTreeSet CycleId) → ((q : CycleId) → contains cycle_cmp new q ≡ cond (is_eq (cycle_cmp c q)) true (contains cycle_cmp seen q)) → AreSeen f new (take (i + 1) ds)
-    seen_more new u q = u q ∙ ap (cond (is_eq (cycle_cmp c q)) true) (are q) ∙ step (list_any (λ d. q.0 == (cycle_in f d).0) (take i ds)) (ap (λ c. c.0) is) ∙ sym (list_any_more (λ d. q.0 == (cycle_in f d).0) ds i d below)
+    pub seen_more : (new : List Bool) → ((n : ℕ) → get_or new n false ≡ cond (n == c.0) true (get_or seen n false)) → AreSeen f new (take (i + 1) ds)
+    seen_more new u n = u n ∙ ap (cond (n == c.0) true) (are n) ∙ step (list_any (λ d. n == (cycle_in f d).0) (take i ds)) (ap (λ c. c.0) is) ∙ sym (list_any_more (λ d. n == (cycle_in f d).0) ds i d below)
       where
-        step : (b : Bool) → c.0 ≡ (cycle_in f at).0 → cond (is_eq (cycle_cmp c q)) true b ≡ (b || (q.0 == (cycle_in f at).0))
+        step : (b : Bool) → c.0 ≡ (cycle_in f at).0 → cond (n == c.0) true b ≡ (b || (n == (cycle_in f at).0))
         step true e = grind (arith, nat_tests)
         step false e = grind (arith, nat_tests)
 
@@ -122,30 +107,30 @@ unfolding distinct
 first_none f now e n = n ∙ ap (λ o. distinct same_face (first_faces o ++ [])) (sym e)
 
 -- ---- ranks
-pub ranks_moved : (m n : BTreeMap FaceId ℕ) (fs gs : List FaceId) → m ≡ n → fs ≡ gs → AreRanks n gs → AreRanks m fs
-ranks_moved m n fs gs e h are a = ap (λ m. get face_cmp m a) e ∙ are a ∙ ap (position (same_face a)) (sym h)
+pub ranks_moved : (m n : List (Option ℕ)) (fs gs : List FaceId) → m ≡ n → fs ≡ gs → AreRanks n gs → AreRanks m fs
+ranks_moved m n fs gs e h are a = ap (λ m. get_or m a.0 None) e ∙ are a ∙ ap (position (same_face a)) (sym h)
 
-pub ranks_none : (ranks : BTreeMap FaceId ℕ) (fs : List FaceId) → ranks.entries ≡ [] → fs ≡ [] → AreRanks ranks fs
-ranks_none ranks fs e n a = ap (lookup (λ k. is_eq (face_cmp a k))) e ∙ ap (position (same_face a)) (sym n)
+pub ranks_none : (ranks : List (Option ℕ)) (fs : List FaceId) → ranks ≡ [] → fs ≡ [] → AreRanks ranks fs
+ranks_none ranks fs e n a = ap (λ m. get_or m a.0 None) e ∙ ap (position (same_face a)) (sym n)
 
-module _ (ranks : BTreeMap FaceId ℕ) (fs : List FaceId) (are : AreRanks ranks fs) where
+module _ (ranks : List (Option ℕ)) (fs : List FaceId) (are : AreRanks ranks fs) where
   -- a face without a rank isn't in the list
-  pub found_none : (a : FaceId) → get face_cmp ranks a ≡ None → length fs ≡ position_or_len (same_face a) fs
+  pub found_none : (a : FaceId) → get_or ranks a.0 None ≡ None → length fs ≡ position_or_len (same_face a) fs
   found_none a e = let h = prefix_len-le-length (λ x. not (same_face a x)) fs in grind (arith, nat_tests, are a)
 
-  -- the map tells whether a face is in the list
-  pub stands : (a : FaceId) (b : Bool) → b ≡ is_some (get face_cmp ranks a) → list_any (same_face a) fs ≡ b
+  -- the table tells whether a face is in the list
+  pub stands : (a : FaceId) (b : Bool) → b ≡ is_some (get_or ranks a.0 None) → list_any (same_face a) fs ≡ b
   stands a b e = among (same_face a) fs ∙ grind (arith, nat_tests, are a)
 
   -- a new face gets the place after the last
-  pub ranks_more : (new : BTreeMap FaceId ℕ) (a : FaceId) → list_any (same_face a) fs ≡ false → ((q : FaceId) → get face_cmp new q ≡ cond (is_eq (face_cmp a q)) (Some (length fs)) (get face_cmp ranks q)) → AreRanks new (fs ++ a ∷ [])
+  pub ranks_more : (new : List (Option ℕ)) (a : FaceId) → list_any (same_face a) fs ≡ false → ((n : ℕ) → get_or new n None ≡ cond (n == a.0) (Some (length fs)) (get_or ranks n None)) → AreRanks new (fs ++ a ∷ [])
   ranks_more new a e u q =
-      u q ∙ ap (cond (is_eq (face_cmp a q)) (Some (length fs))) (are q) ∙ step ∙ sym (position_more (same_face q) fs a)
+      u q.0 ∙ ap (cond (same_face q a) (Some (length fs))) (are q) ∙ step ∙ sym (position_more (same_face q) fs a)
     where
       here : a.0 ≡ q.0 → list_any (same_face q) fs ≡ false
       here h = subst (λ n. list_any (λ b. n == b.0) fs ≡ false) h e
 
-      step : cond (is_eq (face_cmp a q)) (Some (length fs)) (position (same_face q) fs) ≡ cond (list_any (same_face q) fs) (position (same_face q) fs) (cond (same_face q a) (Some (length fs)) None)
+      step : cond (same_face q a) (Some (length fs)) (position (same_face q) fs) ≡ cond (list_any (same_face q) fs) (position (same_face q) fs) (cond (same_face q a) (Some (length fs)) None)
       step = let m = among (same_face q) fs in elim (cases_Bool (same_face q a)) [
         | inl s ↦ let e = here (sym (eqb-true q.0 a.0 s)) in grind (arith, nat_tests)
         | inr s ↦ grind (arith, nat_tests)

@@ -5,6 +5,5 @@ pub mod BodyTexts
 pub mod Sorting
 pub mod VertexKeys
 pub mod DartKeys
-pub mod Firsts
 pub mod EdgeEnds
 pub mod EdgeOrders

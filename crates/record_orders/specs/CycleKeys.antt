@@ -1,9 +1,6 @@
 -- Cycles by their first darts, and faces by rank, of what is read by name.
-use Rattle.std.specs.Prelude.{◌≡◌, ℕ, Bool, true, false, cond, not, List, [], ◌∷◌, ◌++◌, map, filter, Option, Some, None, ◌==◌}
-use Rattle.std.specs.BTreeMap.{BTreeMap, get}
-use Rattle.std.specs.List.{list_any, position}
-use Rattle.std.specs.Ordering.{nat_cmp}
-use Rattle.std.specs.declared.cmp.Ordering.{Ordering}
+use Rattle.std.specs.Prelude.{◌≡◌, ℕ, Bool, cond, not, List, [], ◌∷◌, ◌++◌, map, filter, Option, Some, None, ◌==◌}
+use Rattle.std.specs.List.{list_any, position, slice_index_or}
 use Rattle.slab_laws.specs.declared.names.CycleKind.{CycleKind}
 use Rattle.slab_laws.specs.declared.names.DartId.{DartId}
 use Rattle.slab_laws.specs.declared.names.FaceId.{FaceId}
@@ -44,10 +41,6 @@ ranked_faces f cs = distinct same_face (first_faces (face_after_in f None) ++ ma
 abbrev pub added : List FaceId → FaceId → List FaceId
 added fs a = cond (list_any (same_face a) fs) fs (fs ++ a ∷ [])
 
--- faces are ordered by their numbers
-abbrev pub face_cmp : FaceId → FaceId → Ordering
-face_cmp a b = nat_cmp a.0 b.0
-
--- the map has for each face of the list its place, and nothing for other faces
-abbrev pub AreRanks : BTreeMap FaceId ℕ → List FaceId → Type 0
-AreRanks ranks fs = (a : FaceId) → get face_cmp ranks a ≡ position (same_face a) fs
+-- the table has at the name of each face of the list its place, and nothing at other names
+abbrev pub AreRanks : List (Option ℕ) → List FaceId → Type 0
+AreRanks ranks fs = (a : FaceId) → slice_index_or ranks a.0 None ≡ position (same_face a) fs

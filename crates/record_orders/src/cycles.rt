@@ -3,10 +3,10 @@ ghost use Rattle.std.specs.List.{AllByRecursion};
 ghost use Rattle.slab_laws.specs.View.{HasDart};
 ghost use Rattle.record_orders.specs.CycleKeys.{cycle_keys, is_of_kind};
 
+use crate::tables::{read_at, write_at};
 use no_memory::NoMemory;
 use slab_laws::{CycleKind, DartId, FaceId, Faced};
 use std::alloc::Global;
-use std::collections::BTreeSet;
 
 /// A boundary cycle: the first of its darts, its kind, and the face that it bounds.
 #[derive(Clone, Copy)]
@@ -39,10 +39,13 @@ pub fn cycles_of<R: Faced>(
     ensures { IfOk result (λ v. v.items ≡ cycle_keys (R.faces records.now) darts.now) }
 {
     let mut cycles = Vec::new(alloc);
-    let mut seen = BTreeSet::new(alloc);
+    // By the name of a cycle, whether a dart so far is on it.
+    let mut seen = Vec::new(alloc);
     for dart in darts {
         let cycle = records.cycle(*dart);
-        if seen.insert(cycle)? {
+        let met = read_at(&seen, cycle.0, false);
+        write_at(&mut seen, cycle.0, false, true)?;
+        if !met {
             cycles.push(CycleKey {
                 lead: *dart,
                 kind: records.kind(cycle),

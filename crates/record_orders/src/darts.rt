@@ -4,7 +4,7 @@ ghost use Rattle.std.specs.Ordering.{is_lt};
 ghost use Rattle.exact_plane.specs.PointOrder.{point_cmp};
 ghost use Rattle.slab_laws.specs.Sound.{IsGraphSound};
 ghost use Rattle.slab_laws.specs.View.{HasDart};
-ghost use Rattle.record_orders.specs.Keys.{dart_key, dart_keys, first_out, AreBySource};
+ghost use Rattle.record_orders.specs.Keys.{dart_key, dart_keys};
 
 use arr_notes::dart_names;
 use exact_plane::Point;
@@ -69,23 +69,4 @@ pub fn darts_in_order<R: Darts>(alloc: Global, records: &R) -> Result<Vec<DartKe
     // No two darts have one source and one target, so the names never decide.
     keys.sort_unstable();
     Ok(keys)
-}
-
-fn comes_before(first: &Point, second: &Point) -> bool
-    ensures { result ≡ is_lt (point_cmp first.now second.now) }
-{
-    first < second
-}
-
-/// The first of the darts that goes out of a point: the one with the least target. It takes about log n comparisons among n
-/// darts.
-pub fn first_out_of(darts: &[DartKey], point: &Point) -> Option<DartId>
-    requires { AreBySource darts.now }
-    ensures { result ≡ first_out darts.now point.now }
-{
-    let place = darts.partition_point(|dart| comes_before(&dart.source, point));
-    match darts.get(place) {
-        Some(dart) if dart.source == *point => Some(dart.name),
-        _ => None,
-    }
 }

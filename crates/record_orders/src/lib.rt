@@ -11,11 +11,13 @@ mod cycles;
 mod darts;
 mod edges;
 mod ranks;
+mod tables;
 mod vertices;
 
 pub use bodies::Bodies;
 pub use cycles::{CycleKey, cycles_of};
-pub use darts::{DartKey, darts_in_order, first_out_of, is_forward};
+pub use darts::{DartKey, darts_in_order, is_forward};
 pub use edges::edges_in_order;
 pub use ranks::{Ranks, ranks_of};
+pub use tables::{read_at, write_at};
 pub use vertices::{VertexKey, points_of, vertices_in_order};

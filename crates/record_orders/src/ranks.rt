@@ -3,17 +3,18 @@ ghost use Rattle.std.specs.List.{position_or_len};
 ghost use Rattle.record_orders.specs.CycleKeys.{same_face, ranked_faces, added, AreRanks};
 
 use crate::cycles::CycleKey;
+use crate::tables::{read_at, write_at};
 use no_memory::NoMemory;
 use slab_laws::{CycleKind, FaceId, Faced};
 use std::alloc::Global;
-use std::collections::BTreeMap;
 use std::marker::Model;
 
 /// Faces by rank, and the rank of each.
 #[derive(Drop)]
 pub struct Ranks {
     faces: Vec<FaceId>,
-    ranks: BTreeMap<FaceId, usize>,
+    // By the name of a face, its rank.
+    ranks: Vec<Option<usize>>,
 }
 
 impl Model for Ranks {
@@ -25,21 +26,22 @@ impl Model for Ranks {
 
     ghost view = { λ r. r.faces.items };
 
-    ghost invariant = { λ r. AreRanks r.ranks r.faces.items };
+    ghost invariant = { λ r. AreRanks r.ranks.items r.faces.items };
 }
 
 // Appends a face to the others, unless it is among them.
 fn add_face(
     faces: &mut Vec<FaceId>,
-    ranks: &mut BTreeMap<FaceId, usize>,
+    ranks: &mut Vec<Option<usize>>,
     face: FaceId,
 ) -> Result<(), NoMemory>
-    requires { AreRanks ranks.old faces.old.items }
-    ensures ranks { OnOk result (AreRanks ranks.new faces.new.items) }
+    requires { AreRanks ranks.old.items faces.old.items }
+    ensures ranks { OnOk result (AreRanks ranks.new.items faces.new.items) }
     ensures faces { OnOk result (faces.new.items ≡ added faces.old.items face) }
 {
-    if !ranks.contains_key(&face) {
-        ranks.insert(face, faces.len())?;
+    let ranked = read_at(ranks, face.0, None).is_some();
+    if !ranked {
+        write_at(ranks, face.0, None, Some(faces.len()))?;
         faces.push(face)?;
     }
     Ok(())
@@ -58,7 +60,7 @@ pub fn ranks_of<R: Faced>(
     ensures { IfOk result (λ r. r ≡ ranked_faces (R.faces records.now) cycles.now) }
 {
     let mut faces = Vec::new(alloc);
-    let mut ranks = BTreeMap::new(alloc);
+    let mut ranks = Vec::new(alloc);
     if let Some(face) = records.face_after(None) {
         add_face(&mut faces, &mut ranks, face)?;
     }
@@ -86,13 +88,11 @@ impl Ranks {
     }
 
     /// The rank of a face; for another name, how many faces there are.
-    ///
-    /// It takes time logarithmic in the number of faces.
     pub fn rank_of(&self, face: FaceId) -> usize
         ensures { result ≡ position_or_len (same_face face) self.now }
     {
-        match self.ranks.get(&face) {
-            Some(rank) => *rank,
+        match read_at(&self.ranks, face.0, None) {
+            Some(rank) => rank,
             None => self.faces.len(),
         }
     }

@@ -23,7 +23,7 @@ make_cycle_line-requires g c =
     let v = g.R.Darts.graph c.args.records.now in
     let f = g.R.Faced.faces c.args.records.now in record {
       sound = c.requires.stands.graph;
-      points = c.requires.points;
+      numbers = c.requires.numbers;
       darts = c.requires.darts;
       lead = key_has v f c.requires.stands (get_or c.args.cycles.now c.loop-cycle.cycle-index no_key) (key_at v f c.requires.stands c.args.cycles.now c.loop-cycle.cycle-index no_key c.requires.cycles c.loop-cycle-test.true);
     }

@@ -8,7 +8,7 @@ use Rattle.arr_text.proofs.faces.put_faces.Goals as goal
 pub put_cycles-requires : goal.put_cycles-requires
 put_cycles-requires g c = record {
   stands = c.requires.stands;
-  points = c.requires.points;
+  numbers = c.requires.numbers;
   cycles = c.requires.cycles;
   ranks = c.requires.ranks;
   darts = c.requires.darts;
@@ -18,7 +18,7 @@ put_cycles-requires g c = record {
 pub put_cycles-requires-2 : goal.put_cycles-requires-2
 put_cycles-requires-2 g c = record {
   stands = c.requires.stands;
-  points = c.requires.points;
+  numbers = c.requires.numbers;
   cycles = c.requires.cycles;
   ranks = c.requires.ranks;
   darts = c.requires.darts;
@@ -28,7 +28,7 @@ put_cycles-requires-2 g c = record {
 pub put_isolated-requires : goal.put_isolated-requires
 put_isolated-requires g c = record {
   stands = c.requires.stands;
-  points = c.requires.points;
+  numbers = c.requires.numbers;
   vertices = c.requires.vertices;
   ranks = c.requires.ranks ∙ ap (ranked_faces (g.R.Faced.faces c.args.records.now)) c.requires.cycles;
   bodies = c.in_ok-put_cycles-2.ensures.as_many ∙ c.in_ok-put_cycles.ensures.as_many ∙ as_many_rooms c.in_ok-bodies.bodies c.len.result _ c.in_ok-bodies.ensures c.len.ensures;

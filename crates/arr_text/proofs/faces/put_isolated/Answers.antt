@@ -1,4 +1,4 @@
-use Rattle.std.proofs.Common.{◌≡◌, ◌+◌, ◌∙◌, ◌++◌, Bool, true, false, not, sym, ap, refl, subst, drop, is_some}
+use Rattle.std.proofs.Common.{◌≡◌, ◌+◌, ◌∙◌, ◌++◌, Bool, true, false, not, sym, ap, subst, drop, is_some}
 use Rattle.std.specs.Prelude.{codes}
 use Rattle.std.specs.List.{position_or_len}
 use Rattle.slab_laws.specs.declared.names.FaceId.{FaceId}
@@ -8,7 +8,7 @@ use Rattle.slab_laws.specs.Text.{ended, number, index}
 use Rattle.slab_laws.specs.View.{bare_face_in}
 use Rattle.record_orders.specs.declared.vertices.VertexKey.{VertexKey}
 use Rattle.record_orders.specs.CycleKeys.{same_face}
-use Rattle.arr_text.proofs.Walks.{points_ascend, written_index}
+use Rattle.arr_text.proofs.VertexNumbers.{number_within, written_number}
 use Rattle.arr_text.proofs.FaceBodies.{IsGaining, passed, gained}
 use Rattle.arr_text.proofs.FaceNames.{bare_place, bare_has, vertex_here, vertex_bare}
 use Rattle.arr_text.proofs.faces.put_isolated.Goals.{then-is_none+in_ok-make_isolated_line+in_ok-append, else-is_none}
@@ -26,7 +26,9 @@ pub out_of-requires : goal.out_of-requires
 out_of-requires g c = (vertex_here (g.R.Darts.graph c.args.records.now) c.requires.stands.graph c.args.vertices.now c.loop-vertex.vertex-index c.vertex-item.result c.requires.vertices c.loop-vertex-test.true c.vertex-item.is).0
 
 pub make_isolated_line-requires : goal.make_isolated_line-requires
-make_isolated_line-requires g c = points_ascend (g.R.Darts.graph c.args.records.now) c.args.points.now c.requires.points
+make_isolated_line-requires g c =
+    let v = g.R.Darts.graph c.args.records.now in
+    number_within v c.args.numbers.now c.requires.numbers c.vertex-item.result.name (vertex_here v c.requires.stands.graph c.args.vertices.now c.loop-vertex.vertex-index c.vertex-item.result c.requires.vertices c.loop-vertex-test.true c.vertex-item.is).0
 
 pub bare_face-requires : goal.bare_face-requires
 bare_face-requires g c =
@@ -64,7 +66,7 @@ loop-vertex-preserved g c =
           gained bare rank line c.args.bodies.now c.loop-vertex.bodies next c.args.vertices.now i u w.rank_of.result w.deref.result.now c.loop-vertex-test.true (sym (ap bare c.vertex-item.is) ∙ test ∙ w.if-is_none.true)
           (bare_place v f s c.args.ranks.now u.name has c.requires.ranks c.loop-vertex.bodies c.args.bodies.now w.rank_of.result place c.loop-vertex.invariant.0 c.requires.bodies)
           (place ∙ ap rank c.vertex-item.is)
-          (w.deref.ensures.value ∙ w.in_ok-make_isolated_line.ensures ∙ ap (λ t. ended (codes "p" ++ t)) (written_index v c.args.points.now u.point u.point c.requires.points refl) ∙ ap line c.vertex-item.is)
+          (w.deref.ensures.value ∙ w.in_ok-make_isolated_line.ensures ∙ ap (λ t. ended (codes "p" ++ t)) (written_number v c.args.numbers.now c.requires.numbers u.name at.0 u.point (sym at.1)) ∙ ap line c.vertex-item.is)
           (w.bodies-is ∙ w.in_ok-append.ensures.appends) c.loop-vertex.invariant
       | else-is_none w ↦
           subst (λ bodies. IsGaining bare rank line c.args.bodies.now bodies c.args.vertices.now (drop (i + 1) c.args.vertices.now)) (sym w.bodies-is)

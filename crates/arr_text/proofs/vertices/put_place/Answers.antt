@@ -1,7 +1,6 @@
-use Rattle.std.proofs.Common.{◌+◌, ◌++◌, List, ℕ, append_assoc}
+use Rattle.std.proofs.Common.{◌++◌, List, ℕ, append_assoc}
 use Rattle.std.specs.Prelude.{codes}
-use Rattle.std.specs.List.{position_or_len}
-use Rattle.slab_laws.specs.Skeleton.{same_point}
+use Rattle.std.specs.List.{slice_index_or}
 use Rattle.slab_laws.specs.Text.{number, triple}
 use Rattle.arr_text.specs.Reading.{vertex_place}
 use Rattle.arr_text.proofs.Joined.{joined}
@@ -11,7 +10,7 @@ use Rattle.plane_graphs.proofs.Lists.{then_appended}
 pub returns : goal.returns
 unfolding vertex_place
 returns c =
-    let i : List ℕ = number (position_or_len (same_point c.args.point.now) c.args.points.now + 1) in
-    let t : List ℕ = triple c.args.point.now in
+    let i : List ℕ = number (slice_index_or c.args.numbers.now c.args.vertex.now.name.0 0) in
+    let t : List ℕ = triple c.args.vertex.now.point in
     joined c.put_point.result c.args.out.now.items c.put_index.new.out.items c.put_point.new.out.items (codes "v" ++ i) t (codes "v" ++ (i ++ t))
     (then_appended c.args.out.now.items c.put_text.new.out.items c.put_index.new.out.items (codes "v") i c.in_ok-put_text.ensures c.in_ok-put_index.ensures) c.put_point.ensures (append_assoc (codes "v") i t)

@@ -16,7 +16,7 @@ pub put_vertex-requires : goal.put_vertex-requires
 put_vertex-requires g c =
     let item = vertex_item (g.R.Darts.graph c.args.records.now) c.requires.sound c.args.vertices.now c.loop-vertex.vertex-index c.vertex-item.result c.requires.vertices c.loop-vertex-test.true c.vertex-item.is in record {
       sound = c.requires.sound;
-      points = c.requires.points;
+      numbers = c.requires.numbers;
       darts = c.requires.darts;
       has = item.0;
       point = item.1;

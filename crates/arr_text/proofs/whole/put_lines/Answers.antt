@@ -3,7 +3,7 @@ use Rattle.std.proofs.lemmas.List.{length-map}
 use Rattle.slab_laws.specs.Sound.{skeleton_of}
 use Rattle.slab_laws.specs.Subdivision.{subdivision}
 use Rattle.sound_views.specs.Orders.{dart_order}
-use Rattle.record_orders.specs.Keys.{dart_key}
+use Rattle.arr_text.specs.Numbers.{numbered_dart}
 use Rattle.record_orders.specs.CycleKeys.{ranked_faces}
 use Rattle.arr_text.specs.Reading.{labels_by, text_with, title}
 use Rattle.arr_text.proofs.FaceNames.{faces_counted}
@@ -13,7 +13,7 @@ use Rattle.arr_text.proofs.whole.put_lines.Goals as goal
 pub put_vertices-requires : goal.put_vertices-requires
 put_vertices-requires g c = record {
   sound = c.requires.stands.graph;
-  points = c.requires.points;
+  numbers = c.requires.numbers;
   vertices = c.requires.vertices;
   darts = c.requires.darts;
 }
@@ -21,7 +21,6 @@ put_vertices-requires g c = record {
 pub put_edges-requires : goal.put_edges-requires
 put_edges-requires g c = record {
   sound = c.requires.stands.graph;
-  points = c.requires.points;
   darts = c.requires.darts;
 }
 
@@ -29,11 +28,11 @@ pub put_faces-requires : goal.put_faces-requires
 put_faces-requires g c =
     let v = g.R.Darts.graph c.args.records.now in record {
       stands = c.requires.stands;
-      points = c.requires.points;
+      numbers = c.requires.numbers;
       vertices = c.requires.vertices;
       cycles = c.requires.cycles;
       ranks = c.requires.ranks;
-      darts = ap (λ ks. length ks) c.requires.darts ∙ length-map (dart_order v) (dart_key v);
+      darts = ap (λ ks. length ks) c.requires.darts ∙ length-map (dart_order v) (numbered_dart v);
     }
 
 pub returns : goal.returns

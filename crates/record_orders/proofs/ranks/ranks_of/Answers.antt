@@ -9,8 +9,8 @@ use Rattle.record_orders.proofs.ranks.ranks_of.Goals as goal
 pub loop-cycle-init : goal.loop-cycle-init
 loop-cycle-init g c = record {
   ranks = elim c.match-face_after.branch [
-    | in-Some+in_ok-add_face w ↦ ranks_moved c.match-face_after.ranks w.add_face.new.ranks c.match-face_after.faces.items w.add_face.new.faces.items w.ranks-is (ap (λ v. v.items) w.faces-is) w.in_ok-add_face.ensures.ranks
-    | in_default w ↦ ranks_none c.match-face_after.ranks c.match-face_after.faces.items (ap (λ m. m.entries) w.ranks-is ∙ c.new-ranks.ensures.empty) (ap (λ v. v.items) w.faces-is ∙ c.new-faces.ensures.items)
+    | in-Some+in_ok-add_face w ↦ ranks_moved c.match-face_after.ranks.items w.add_face.new.ranks.items c.match-face_after.faces.items w.add_face.new.faces.items (ap (λ r. r.items) w.ranks-is) (ap (λ v. v.items) w.faces-is) w.in_ok-add_face.ensures.ranks
+    | in_default w ↦ ranks_none c.match-face_after.ranks.items c.match-face_after.faces.items (ap (λ r. r.items) w.ranks-is ∙ c.new-ranks.ensures.items) (ap (λ v. v.items) w.faces-is ∙ c.new-faces.ensures.items)
   ];
   faces = elim c.match-face_after.branch [
     | in-Some+in_ok-add_face w ↦ first_some (g.R.Faced.faces c.args.records.now) w.in-Some.face c.new-faces.result.items c.match-face_after.faces.items (sym c.face_after.ensures.after ∙ w.in-Some.is) c.new-faces.ensures.items (ap (λ v. v.items) w.faces-is ∙ w.in_ok-add_face.ensures.faces)
@@ -26,8 +26,8 @@ pub loop-cycle-preserved : goal.loop-cycle-preserved
 unfolding no_key
 loop-cycle-preserved g c = record {
   ranks = elim c.if-is_of.branch [
-    | then-is_of+in_ok-add_face-2 w ↦ ranks_moved c.if-is_of.ranks w.add_face-then-is_of.new.ranks c.if-is_of.faces.items w.add_face-then-is_of.new.faces.items w.ranks-is (ap (λ v. v.items) w.faces-is) w.in_ok-add_face-2.ensures.ranks
-    | else-is_of w ↦ ranks_moved c.if-is_of.ranks c.loop-cycle.ranks c.if-is_of.faces.items c.loop-cycle.faces.items w.ranks-is (ap (λ v. v.items) w.faces-is) c.loop-cycle.invariant.ranks
+    | then-is_of+in_ok-add_face-2 w ↦ ranks_moved c.if-is_of.ranks.items w.add_face-then-is_of.new.ranks.items c.if-is_of.faces.items w.add_face-then-is_of.new.faces.items (ap (λ r. r.items) w.ranks-is) (ap (λ v. v.items) w.faces-is) w.in_ok-add_face-2.ensures.ranks
+    | else-is_of w ↦ ranks_moved c.if-is_of.ranks.items c.loop-cycle.ranks.items c.if-is_of.faces.items c.loop-cycle.faces.items (ap (λ r. r.items) w.ranks-is) (ap (λ v. v.items) w.faces-is) c.loop-cycle.invariant.ranks
   ];
   faces = elim c.if-is_of.branch [
     | then-is_of+in_ok-add_face-2 w ↦ face_added (g.R.Faced.faces c.args.records.now) c.args.cycles.now c.loop-cycle.cycle-index no_key c.loop-cycle-test.true c.loop-cycle.faces.items c.if-is_of.faces.items (sym c.is_of.ensures ∙ w.if-is_of.true) c.loop-cycle.invariant.faces (ap (λ v. v.items) w.faces-is ∙ w.in_ok-add_face-2.ensures.faces)
