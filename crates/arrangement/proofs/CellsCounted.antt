@@ -1,5 +1,5 @@
 -- A sound view names each vertex, dart, cycle, face and isolated vertex of the graph that it draws once, so they are as many; and each face but the unbounded one has one outer cycle.
-use Rattle.std.proofs.Common.{◌≡◌, ◌⊎◌, ℕ, ◌+◌, ◌<◌, ◌≤◌, suc, Bool, true, arith, refl, sym, ap, ◌∙◌, subst, inl, inr, List, [], ◌∷◌, ◌++◌, map, length}
+use Rattle.std.proofs.Common.{◌≡◌, ◌⊎◌, ℕ, ◌+◌, ◌-◌, ◌/◌, ◌<◌, ◌≤◌, suc, Bool, true, arith, refl, sym, ap, ◌∙◌, subst, inl, inr, List, [], ◌∷◌, ◌++◌, map, length}
 use Rattle.std.specs.Prelude.{filter, not}
 use Rattle.std.specs.List.{Contains, count_by, range_with_len}
 use Rattle.std.proofs.lemmas.Bool.{eqb-true, eq-eqb}
@@ -46,6 +46,11 @@ use Rattle.sound_views.proofs.NamedDarts.{names_are_darts}
 use Rattle.sound_views.proofs.NamesOrdered.{points_in_order, vertex_ordered, ordered_vertex}
 use Rattle.sound_views.proofs.NameTables.{has_name, name_has}
 use Rattle.sound_views.proofs.RankedFaces.{cycle_of, cycles_are, outer_is, faces_are, faces_apart, first_face, outer_faces, all_faces, of_outer, dart_face}
+use Rattle.slab_laws.specs.Text.{skeleton}
+use Rattle.plane_graphs.specs.Graph.{graph}
+use Rattle.sound_views.proofs.GraphDrawn.{graphs_are_drawn}
+use Rattle.curve_history.specs.Past.{Past, curves_on}
+use Rattle.told_steps.specs.RecordLayers.{IsLayer, layer_of}
 use Rattle.arrangement.proofs.OneToOne.{ascending_differ, names_differ, apart_differ, as_many}
 
 -- ---- names that ascend: the first one, and the rest
@@ -411,3 +416,44 @@ module _ (v : View) (f : Faces) (s : IsSound v f) where
       let i = length-map outer_leads (cycle_of (skeleton_of v)) in
       let j = bounded_counted s.faced.0 s.faced.1 in
       omega arith
+
+-- ---- the numbers of a layer's subdivision, by those of its records
+module _ (v : View) (f : Faces) (h : Past) (l : IsLayer v h) (s : IsSound v f) where
+  abbrev present_skeleton : Skeleton
+  present_skeleton = skeleton (graph (layer_of v h).present)
+
+  drawn : skeleton_of v ≡ present_skeleton
+  drawn = sym (ap skeleton (sym l.stands) ∙ graphs_are_drawn v (curves_on h) l.sound l.curves)
+
+  graph_is : (k : Skeleton) → k ≡ (subdivision k).graph
+  unfolding subdivision
+  graph_is k = refl
+
+  pub layer_vertices : length v.vertices ≡ length (subdivision present_skeleton).graph.vertices
+  layer_vertices = vertices_counted v s.graph ∙ ap (λ (k : Skeleton). length k.vertices) (drawn ∙ graph_is present_skeleton)
+
+  pub layer_edges : (n : ℕ) → n ≡ length v.darts → n / 2 ≡ length (subdivision present_skeleton).graph.edges
+  layer_edges n e =
+      let a = edges_counted v s.graph in
+      let b = ap (λ (k : Skeleton). length k.edges) (drawn ∙ graph_is present_skeleton) in
+      omega arith
+
+  pub layer_faces : length f.faces ≡ length (subdivision present_skeleton).faces
+  layer_faces = faces_counted v f s ∙ ap (λ (k : Skeleton). length (subdivision k).faces) drawn
+
+  pub layer_bare : length f.bare ≡ length (subdivision present_skeleton).bare
+  layer_bare = bare_counted v f s ∙ ap (λ (k : Skeleton). length (subdivision k).bare) drawn
+
+  pub layer_inner : (cycles faces : ℕ) → cycles ≡ length f.cycles → faces ≡ length f.faces → cycles - (faces - 1) ≡ count_by (λ k. not k.outer) (subdivision present_skeleton).cycles
+  layer_inner cycles faces c d =
+      let a = inner_counted v f s in
+      let b = some_face_there v f s in
+      let k = ap (λ (k : Skeleton). count_by (λ (c : Cycle). not c.outer) (subdivision k).cycles) drawn in
+      omega arith
+
+  -- no more faces are bounded than there are cycles, and one isn't
+  pub layer_few : (cycles faces : ℕ) → cycles ≡ length f.cycles → faces ≡ length f.faces → (1 ≤ faces) × (faces - 1 ≤ cycles)
+  layer_few cycles faces c d =
+      let a = inner_counted v f s in
+      let b = some_face_there v f s in
+      (omega arith, omega arith)
