@@ -1,6 +1,8 @@
 -- The next name in a table is the next key of the slab.
-use Rattle.std.proofs.Common.{◌≡◌, ℕ, ◌+◌, ◌<◌, true, List, [], ◌∷◌, map, Option, Some, None, is_some, IsSome, option_map, refl, sym, ap, ◌∙◌}
-use Rattle.slab.specs.Slab.{Slab, get, entries, entries_from}
+use Rattle.std.proofs.Common.{◌≡◌, ℕ, ◌+◌, ◌<◌, true, List, [], ◌∷◌, map, length, Option, Some, None, is_some, IsSome, option_map, refl, sym, ap, ◌∙◌}
+use Rattle.std.proofs.lemmas.List.{length-map}
+use Rattle.slab.specs.Slab.{Slab, get, entries, entries_from, slab_len}
+use Rattle.slab.proofs.SlabLemmas.{length-entries}
 use Rattle.slab_laws.specs.Tables.{names, is_after, name_after}
 use Rattle.slab_laws.specs.View.{VertexRecord, DartRecord}
 use Rattle.chain_laws.specs.Rows.{tabled}
@@ -22,6 +24,10 @@ module _ {X : Type 0} where
   pub names_tabled : {Y : Type 0} (f : X → Y) (s : Slab X) → names (tabled f s) ≡ names (entries s)
   unfolding tabled
   names_tabled f s = names_from f 0 s.slots
+
+  -- and as many
+  pub length-keys : (s : Slab X) → length (names (entries s)) ≡ slab_len s
+  length-keys s = length-map (entries s) (λ e. e.0) ∙ length-entries s
 
   pub key_found : (s : Slab X) (at : Option ℕ) (n : ℕ) → is_after at n ≡ true → IsSome (get s n) → ((j : ℕ) → j < n → is_after at j ≡ true → get s j ≡ None) → Some n ≡ name_after (names (entries s)) at
   key_found s at n a k h =

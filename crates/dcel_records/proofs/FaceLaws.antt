@@ -15,7 +15,8 @@ use Rattle.slab_laws.specs.Tables.{names, NamesAscend}
 use Rattle.slab_laws.specs.View.{HasCycle, HasFace, HasBareFace, face_in, face_or, bare_face_in, bare_or, cycle_id, vertex_id, face_id}
 use Rattle.chain_laws.specs.Links.{Node, trail, after_at, first_or, key_at}
 use Rattle.chain_laws.proofs.Distinct.{IsOnce, once_from_distinct}
-use Rattle.chain_laws.proofs.Tabled.{row-tabled, ascend-tabled, key_named}
+use Rattle.chain_laws.proofs.Tabled.{row-tabled, ascend-tabled, length-tabled, key_named}
+use Rattle.dcel_records.specs.declared.ranks.RankKey.{RankKey}
 use Rattle.dcel_records.specs.declared.rows.StoredCycle.{StoredCycle}
 use Rattle.dcel_records.specs.declared.rows.StoredDart.{StoredDart}
 use Rattle.dcel_records.specs.declared.rows.StoredFace.{StoredFace}
@@ -116,7 +117,7 @@ module _ (vs : Slab StoredVertex) (ds : Slab StoredDart) (cs : Slab StoredCycle)
     bare_once = λ a. own_once vertex_placing vs fs k.bare vertex_id (λ x. x.0) (λ n. refl) a.0;
   }
 
-  module _ (mv : Option MovedView) (vr cr : ℕ) (h : RecordsView) (is : records_view vs ds cs fs mv vr cr ≡ h) where
+  module _ (mv : Option MovedView) (od : List RankKey) (vr cr : ℕ) (h : RecordsView) (is : records_view vs ds cs fs mv od vr cr ≡ h) where
     lists_are : lists_in vs cs fs ≡ lists_of h
     lists_are = sym (lists_seen vs cs fs ds mv cr) ∙ ap lists_of is
 
@@ -135,6 +136,14 @@ module _ (vs : Slab StoredVertex) (ds : Slab StoredDart) (cs : Slab StoredCycle)
 
     pub cycles_within : IsRoom cr cs → (a : FaceId) → length ((lists_of h).cycles a) ≤ h.faces.capacity_of_cycles
     cycles_within i a = subst (λ (l : Lists). length (l.cycles a) ≤ h.faces.capacity_of_cycles) lists_are (subst (λ (v : RecordsView). length ((lists_in vs cs fs).cycles a) ≤ v.faces.capacity_of_cycles) is (named_short cycle_placing cs fs cycle_id cr a.0 i))
+
+    pub all_cycles_within : IsRoom cr cs → length h.faces.tables.cycles ≤ h.faces.capacity_of_cycles
+    all_cycles_within i =
+        let l = length-tabled cycle_record cs in
+        let a = ap (λ v. length v.faces.tables.cycles) is in
+        let b = ap (λ v. v.faces.capacity_of_cycles) is in
+        let m = i.holds in
+        omega arith
 
     pub vertices_within : IsRoom vr vs → (a : FaceId) → length ((lists_of h).bare a) ≤ h.capacity_of_vertices
     vertices_within i a = subst (λ (l : Lists). length (l.bare a) ≤ h.capacity_of_vertices) lists_are (subst (λ (v : RecordsView). length ((lists_in vs cs fs).bare a) ≤ v.capacity_of_vertices) is (named_short vertex_placing vs fs vertex_id vr a.0 i))

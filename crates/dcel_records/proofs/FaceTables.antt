@@ -34,6 +34,10 @@ abbrev pub flat : {X : Type 0} → Option (Option X) → Option X
 flat None = None
 flat (Some o) = o
 
+pub no_somes : {X : Type 0} → somes {X = X} [] ≡ []
+unfolding somes
+no_somes = refl
+
 module _ {X : Type 0} where
   pub row_somes : (rs : List (ℕ × Option X)) → NamesAscend (names rs) → (n : ℕ) → row_at (somes rs) n ≡ flat (row_at rs n)
   unfolding row_at somes

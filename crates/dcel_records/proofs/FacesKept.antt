@@ -10,6 +10,7 @@ use Rattle.slab_laws.specs.Tables.{names}
 use Rattle.slab_laws.specs.View.{cycle_id, vertex_id}
 use Rattle.arr_notes.specs.NamedRows.{put, del}
 use Rattle.chain_laws.specs.Rows.{tabled}
+use Rattle.dcel_records.specs.declared.ranks.RankKey.{RankKey}
 use Rattle.dcel_records.specs.declared.rows.StoredCycle.{StoredCycle}
 use Rattle.dcel_records.specs.declared.rows.StoredDart.{StoredDart}
 use Rattle.dcel_records.specs.declared.rows.StoredFace.{StoredFace}
@@ -64,7 +65,7 @@ column_more ds s t d m r q x y u w g e = column_written t d x y g e ∙ tabled_p
 pub column_less : (ds s t : Slab StoredDart) (d m : ℕ) (twin : DartId) → Updates ds s d None → Updates s t m None → m ≡ twin.0 → column t ≡ del twin.0 (del d (column ds))
 column_less ds s t d m twin u w e = tabled_del (λ z. z.cycle) s t m w ∙ ap (del m) (tabled_del (λ z. z.cycle) ds s d u) ∙ ap (λ n. del n (del d (column ds))) e
 
-module _ (vs : Slab StoredVertex) (ds : Slab StoredDart) (cs : Slab StoredCycle) (fs : Slab StoredFace) (mv : Option MovedView) (vr cr : ℕ) (h : RecordsView) (is : records_view vs ds cs fs mv vr cr ≡ h) (k : AreSoundFaces vs cs fs)
+module _ (vs : Slab StoredVertex) (ds : Slab StoredDart) (cs : Slab StoredCycle) (fs : Slab StoredFace) (mv : Option MovedView) (od : List RankKey) (vr cr : ℕ) (h : RecordsView) (is : records_view vs ds cs fs mv od vr cr ≡ h) (k : AreSoundFaces vs cs fs)
     (ws : Slab StoredVertex) (same : (n : ℕ) → nodes vertex_placing ws n ≡ nodes vertex_placing vs n) where
   pub faces_sound : AreSoundFaces ws cs fs
   faces_sound = record { cycles = k.cycles; bare = chained_same vertex_placing vs fs k.bare ws fs (λ i n. same n i) (λ a. refl) (λ n a e s. s); unbounded = k.unbounded }

@@ -10,6 +10,7 @@ use Rattle.slab_laws.specs.Tables.{row_at, names, NamesAscend}
 use Rattle.slab_laws.specs.View.{VertexRecord, DartRecord, HasVertex, HasDart, IsOutOf, point_or, pin_or, source_or, twin_or, next_or, line_or, point_in, pinned_in, source_in, twin_in, next_in, line_in, target_in}
 use Rattle.chain_laws.specs.Rows.{tabled}
 use Rattle.chain_laws.proofs.Tabled.{row-tabled, ascend-tabled}
+use Rattle.dcel_records.specs.declared.ranks.RankKey.{RankKey}
 use Rattle.dcel_records.specs.declared.rows.StoredVertex.{StoredVertex}
 use Rattle.dcel_records.specs.declared.rows.StoredCycle.{StoredCycle}
 use Rattle.dcel_records.specs.declared.rows.StoredDart.{StoredDart}
@@ -123,5 +124,5 @@ module _ (vs : Slab StoredVertex) (ds : Slab StoredDart) (h : GraphView) (is : g
   dart_names = subst (λ (rs : List (ℕ × DartRecord)). NamesAscend (names rs)) darts_are (ascend-tabled dart_of ds)
 
 -- the graph of the records, from all their slabs
-pub graph_seen : (vs : Slab StoredVertex) (ds : Slab StoredDart) (cs : Slab StoredCycle) (fs : Slab StoredFace) (mv : Option MovedView) (vr cr : ℕ) (h : RecordsView) → records_view vs ds cs fs mv vr cr ≡ h → graph_view vs ds ≡ graph_of_slabs vs ds h
-graph_seen vs ds cs fs mv vr cr h is = λ i. record { graph = (is i).graph; spare_vertices = vs.capacity - slab_len vs; spare_darts = ds.capacity - slab_len ds; capacity_of_vertices = vs.capacity; capacity_of_darts = ds.capacity }
+pub graph_seen : (vs : Slab StoredVertex) (ds : Slab StoredDart) (cs : Slab StoredCycle) (fs : Slab StoredFace) (mv : Option MovedView) (od : List RankKey) (vr cr : ℕ) (h : RecordsView) → records_view vs ds cs fs mv od vr cr ≡ h → graph_view vs ds ≡ graph_of_slabs vs ds h
+graph_seen vs ds cs fs mv od vr cr h is = λ i. record { graph = (is i).graph; spare_vertices = vs.capacity - slab_len vs; spare_darts = ds.capacity - slab_len ds; capacity_of_vertices = vs.capacity; capacity_of_darts = ds.capacity }

@@ -4,6 +4,9 @@ pub mod Leaving
 pub mod Holding
 pub mod Writing
 pub mod Pins
+pub mod Isolated
+pub mod Ranked
+pub mod Reranked
 pub mod Adding
 pub mod Removing
 pub mod Whole

@@ -1,4 +1,5 @@
 pub mod RecordsView
+pub mod RankOrders
 pub mod Placing
 pub mod ListChanges
 pub mod SoundMaps

@@ -26,7 +26,7 @@ cycle_placing = record {
   place = λ r. Some r.place;
   with_place = λ p r. record { kind = r.kind; dart = r.dart; place = p };
   first = λ f. f.first_cycle;
-  with_first = λ o f. record { first_cycle = o; first_bare = f.first_bare };
+  with_first = λ o f. record { first_cycle = o; first_bare = f.first_bare; rank = f.rank };
   placed = λ p r. refl;
   again = λ p q r. refl;
   headed = λ o f. refl;
@@ -39,7 +39,7 @@ vertex_placing = record {
   place = λ r. r.place;
   with_place = λ p r. record { point = r.point; pinned = r.pinned; out = r.out; place = Some p };
   first = λ f. f.first_bare;
-  with_first = λ o f. record { first_cycle = f.first_cycle; first_bare = o };
+  with_first = λ o f. record { first_cycle = f.first_cycle; first_bare = o; rank = f.rank };
   placed = λ p r. refl;
   again = λ p q r. refl;
   headed = λ o f. refl;

@@ -3,10 +3,12 @@ use Rattle.std.specs.Prelude.{◌≡◌, ℕ, ◌+◌, ◌≤◌, List, [], Opti
 use Rattle.exact_plane.specs.Point.{Point}
 use Rattle.slab_laws.specs.declared.names.CycleId.{CycleId}
 use Rattle.slab_laws.specs.declared.names.DartId.{DartId}
+use Rattle.slab_laws.specs.declared.names.FaceId.{FaceId}
 use Rattle.slab_laws.specs.declared.names.VertexId.{VertexId}
 use Rattle.slab_laws.specs.Tables.{row_at}
 use Rattle.slab_laws.specs.View.{View, Faces, dart_id, target_in}
 use Rattle.slab_laws.specs.FaceLists.{Lists}
+use Rattle.dcel_records.specs.declared.ranks.RankKey.{RankKey}
 
 -- the vertices and darts by name, how many more of each fit with no memory, and how many fit in all (this project)
 pub record GraphView : Type 0 where
@@ -37,7 +39,12 @@ pub record FacesView : Type 0 where
   pub capacity_of_faces : ℕ
   pub moved : Option MovedRoom
 
--- the graph, and beside it the faces
+-- the faces in the order that is being made, each with the ends of a dart, and the rank that each face has (this project)
+pub record RanksView : Type 0 where
+  pub order : List RankKey
+  pub ranks : List (ℕ × ℕ)
+
+-- the graph, and beside it the faces, with the ranks that they were given
 pub record RecordsView : Type 0 where
   pub graph : View
   pub spare_vertices : ℕ
@@ -45,6 +52,7 @@ pub record RecordsView : Type 0 where
   pub capacity_of_vertices : ℕ
   pub capacity_of_darts : ℕ
   pub faces : FacesView
+  pub ranks : RanksView
 
 -- the part of vertices and darts
 abbrev pub graph_part : RecordsView → GraphView
@@ -72,6 +80,14 @@ lists_in_view f = record { cycles = λ a. (row_or (row_at f.rows a.0)).cycles; b
 
 abbrev pub lists_of : RecordsView → Lists
 lists_of h = lists_in_view h.faces
+
+abbrev pub rank_or : Option ℕ → ℕ
+rank_or None = 0
+rank_or (Some k) = k
+
+-- the rank that the face was given last; a face that was given none has 0 (this project)
+abbrev pub rank_given : RecordsView → FaceId → ℕ
+rank_given h a = rank_or (row_at h.ranks.ranks a.0)
 
 -- the graph alone
 abbrev pub graph_of : RecordsView → View

@@ -16,7 +16,8 @@ use Rattle.dcel_records.specs.declared.rows.StoredDart.{StoredDart}
 use Rattle.dcel_records.specs.declared.rows.StoredCycle.{StoredCycle}
 use Rattle.dcel_records.specs.declared.rows.StoredFace.{StoredFace}
 use Rattle.dcel_records.specs.Placing.{cycle_placing, vertex_placing, nodes, own, AreChained, IsRelinked}
-use Rattle.dcel_records.specs.RecordsView.{GraphView, FacesView, RecordsView, FaceRow, MovedRoom}
+use Rattle.dcel_records.specs.declared.ranks.RankKey.{RankKey}
+use Rattle.dcel_records.specs.RecordsView.{GraphView, FacesView, RecordsView, RanksView, FaceRow, MovedRoom, rank_or}
 use Rattle.dcel_records.specs.Outs.{IsOut}
 
 -- what a row tells of a vertex: all but the dart that it keeps
@@ -77,9 +78,13 @@ moved_room m = record { cycles = m.room_of_cycles; vertices = m.room_of_vertices
 abbrev pub faces_view : Slab StoredVertex → Slab StoredDart → Slab StoredCycle → Slab StoredFace → Option MovedView → ℕ → FacesView
 faces_view vs ds cs fs moved cycle_room = record { tables = tables_in vs ds cs fs; rows = face_rows vs cs fs; darts = tabled (λ r. r.dart) cs; spare_cycles = cycle_room - slab_len cs; spare_faces = fs.capacity - slab_len fs; capacity_of_cycles = cycle_room; capacity_of_faces = fs.capacity; moved = option_map moved_room moved }
 
+-- the faces in the order that is being made, and the rank of each
+abbrev pub ranks_view : Slab StoredFace → List RankKey → RanksView
+ranks_view fs order = record { order = order; ranks = tabled (λ r. r.rank) fs }
+
 -- all that the slabs are; of what the slabs of vertices and cycles have room for, so much is promised
-abbrev pub records_view : Slab StoredVertex → Slab StoredDart → Slab StoredCycle → Slab StoredFace → Option MovedView → ℕ → ℕ → RecordsView
-records_view vs ds cs fs moved vertex_room cycle_room = record { graph = graph_in vs ds; spare_vertices = vertex_room - slab_len vs; spare_darts = ds.capacity - slab_len ds; capacity_of_vertices = vertex_room; capacity_of_darts = ds.capacity; faces = faces_view vs ds cs fs moved cycle_room }
+abbrev pub records_view : Slab StoredVertex → Slab StoredDart → Slab StoredCycle → Slab StoredFace → Option MovedView → List RankKey → ℕ → ℕ → RecordsView
+records_view vs ds cs fs moved order vertex_room cycle_room = record { graph = graph_in vs ds; spare_vertices = vertex_room - slab_len vs; spare_darts = ds.capacity - slab_len ds; capacity_of_vertices = vertex_room; capacity_of_darts = ds.capacity; faces = faces_view vs ds cs fs moved cycle_room; ranks = ranks_view fs order }
 
 -- the graph of the records, and what the two slabs have room for
 abbrev pub graph_of_slabs : Slab StoredVertex → Slab StoredDart → RecordsView → GraphView
@@ -102,6 +107,10 @@ pub record AreSoundRows (vs : Slab StoredVertex) (ds : Slab StoredDart) : Type 0
 -- how many rows of a table of vertices are pinned
 abbrev pub pins_among : List (ℕ × VertexRecord) → ℕ
 pins_among rs = length (filter (λ r. r.1.pinned) rs)
+
+-- how many rows of vertices are in the list of a face
+abbrev pub isolated_among : Slab StoredVertex → ℕ
+isolated_among vs = length (somes (tabled bare_of vs))
 
 -- sound rows, and as many pins as are counted (this project)
 pub record AreSoundGraphs (vs : Slab StoredVertex) (ds : Slab StoredDart) (pins : ℕ) : Type 0 where
@@ -139,14 +148,16 @@ pub record AreSoundFaces (vs : Slab StoredVertex) (cs : Slab StoredCycle) (fs : 
 abbrev pub AreOnCycles : Slab StoredDart → Slab StoredCycle → Type 0
 AreOnCycles ds cs = (n : ℕ) (r : StoredDart) → get ds n ≡ Some r → ContainsKey cs r.cycle.0
 
--- all that is always true of the records
-pub record AreSoundRecords (vs : Slab StoredVertex) (ds : Slab StoredDart) (cs : Slab StoredCycle) (fs : Slab StoredFace) (pins : ℕ) (lists : Option MovedView) (vertices cycles : ℕ) : Type 0 where
+-- all that is always true of the records; there is room for a key of each cycle that is promised
+pub record AreSoundRecords (vs : Slab StoredVertex) (ds : Slab StoredDart) (cs : Slab StoredCycle) (fs : Slab StoredFace) (pins lone : ℕ) (lists : Option MovedView) (key_room vertices cycles : ℕ) : Type 0 where
   pub graph : AreSoundGraphs vs ds pins
   pub faces : AreSoundFaces vs cs fs
   pub vertex_room : IsRoom vertices vs
   pub cycle_room : IsRoom cycles cs
   pub on_cycles : AreOnCycles ds cs
   pub moved : AreReadyWhere lists cycles vertices
+  pub isolated : lone ≡ isolated_among vs
+  pub keys : cycles ≤ key_room
 
 -- the vertex c is in no face's list and has no place, and all else is as it was
 pub record HasLeft (c : ℕ) (vs ws : Slab StoredVertex) (fs gs : Slab StoredFace) : Type 0 where
@@ -154,3 +165,17 @@ pub record HasLeft (c : ℕ) (vs ws : Slab StoredVertex) (fs gs : Slab StoredFac
   pub owns : (k : ℕ) → own vertex_placing ws gs k ≡ without c (own vertex_placing vs fs k)
   pub keys : (n : ℕ) → key_at (nodes vertex_placing ws) n ≡ cond (n == c) None (key_at (nodes vertex_placing vs) n)
   pub kept : IsRelinked vertex_placing vs ws fs gs
+
+-- the rank that a face has; without a row, 0
+abbrev pub rank_at : Slab StoredFace → FaceId → ℕ
+rank_at fs a = rank_or (option_map (λ r. r.rank) (get fs a.0))
+
+-- what a face has beside its rank
+abbrev pub unranked : StoredFace → StoredFace
+unranked r = record { first_cycle = r.first_cycle; first_bare = r.first_bare; rank = 0 }
+
+-- all is as it was, but for ranks
+pub record IsReranked (old new : Slab StoredFace) : Type 0 where
+  pub rests : (k : ℕ) → option_map unranked (get new k) ≡ option_map unranked (get old k)
+  pub len : slab_len new ≡ slab_len old
+  pub capacity : new.capacity ≡ old.capacity

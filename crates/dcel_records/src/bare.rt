@@ -4,7 +4,7 @@ ghost use Rattle.slab_laws.specs.View.{HasVertex, HasFace, HasBareFace};
 ghost use Rattle.arr_notes.specs.FaceWriters.{bare_in, not_bare};
 ghost use Rattle.dcel_records.specs.ListChanges.{vertex_listed, vertex_unlisted, vertex_relisted};
 ghost use Rattle.dcel_records.specs.Placing.{vertex_placing, AreChained};
-ghost use Rattle.dcel_records.specs.StoredRows.{HasLeft};
+ghost use Rattle.dcel_records.specs.StoredRows.{isolated_among, HasLeft};
 ghost use Rattle.dcel_records.specs.RecordsView.{graph_part, lists_of, IsSpareFaces};
 
 use crate::links::{link_first, unlink};
@@ -13,21 +13,25 @@ use crate::rows::{StoredFace, StoredVertex};
 use crate::table::Table;
 use slab_laws::{FaceId, VertexId};
 
-/// The vertex is taken out of the list of its face, where it is in one, and has no place.
+/// The vertex is taken out of the list of its face, where it is in one, and has no place; fewer are isolated then.
 pub(crate) fn leave_face(
     vertices: &mut Table<StoredVertex>,
     faces: &mut Table<StoredFace>,
+    isolated: &mut usize,
     v: VertexId,
 )
     requires chained { AreChained vertex_placing vertices.old faces.old }
     requires has { ContainsKey vertices.old v.0 }
-    ensures { HasLeft v.0 vertices.old vertices.new faces.old faces.new }
+    requires counted { isolated.old ≡ isolated_among vertices.old }
+    ensures left { HasLeft v.0 vertices.old vertices.new faces.old faces.new }
+    ensures counted { isolated.new ≡ isolated_among vertices.new }
 {
     if vertices[v.0].place.is_none() {
         return;
     }
     unlink(vertices, faces, v.0);
     vertices[v.0].place = None;
+    *isolated -= 1;
 }
 
 impl Records {
@@ -43,6 +47,9 @@ impl Records {
         ensures graph { graph_part self.new ≡ graph_part self.old }
     {
         link_first(&mut self.vertices, &mut self.faces, v.0, face);
+        // No more vertices are isolated than there is room for, which a `usize` counts.
+        let _vertices = self.vertices.capacity();
+        self.isolated += 1;
     }
 
     /// The vertex isn't isolated any more; where it wasn't, nothing is done.
@@ -54,7 +61,7 @@ impl Records {
         ensures moved { self.new.faces.moved ≡ self.old.faces.moved }
         ensures graph { graph_part self.new ≡ graph_part self.old }
     {
-        leave_face(&mut self.vertices, &mut self.faces, v);
+        leave_face(&mut self.vertices, &mut self.faces, &mut self.isolated, v);
     }
 
     /// An isolated vertex becomes the first in the list of another face, or of its own.

@@ -8,11 +8,12 @@ use crate::records::Records;
 
 impl Records {
     /// What is true of the faces of all records: each lists its own cycles and isolated vertices, the unbounded one is
-    /// there, no list is longer than what fits, and names ascend.
+    /// there, no list is longer than what fits, no more cycles are there than fit, and names ascend.
     pub fn face_laws(&self)
         ensures listed { AreFacesListed self.now.faces.tables (lists_of self.now) }
         ensures unbounded { HasFace self.now.faces.tables (face_id 0) }
         ensures cycles_fit { (a : _) → length ((lists_of self.now).cycles a) ≤ self.now.faces.capacity_of_cycles }
+        ensures all_cycles_fit { length self.now.faces.tables.cycles ≤ self.now.faces.capacity_of_cycles }
         ensures vertices_fit { (a : _) → length ((lists_of self.now).bare a) ≤ self.now.capacity_of_vertices }
         ensures cycles_ascend { NamesAscend (names self.now.faces.tables.cycles) }
         ensures faces_ascend { NamesAscend self.now.faces.tables.faces }

@@ -5,6 +5,7 @@
 #![tactic(auto)]
 
 mod bare;
+mod counts;
 mod cycles;
 mod face_laws;
 mod facing;
@@ -12,6 +13,7 @@ mod keys;
 mod links;
 mod listing;
 mod pairs;
+mod ranks;
 mod reading;
 mod records;
 mod rows;
@@ -19,5 +21,7 @@ mod spot;
 mod table;
 mod vertices;
 
+pub use counts::RecordCounts;
+pub use ranks::RankKey;
 pub use records::{Records, Room};
 pub use spot::{Met, Spot};

@@ -1,4 +1,4 @@
-ghost use Rattle.std.specs.Prelude.{◌≡◌, ℕ, ◌*◌, ◌+◌, ◌≤◌, [], length, max, is_some, None, Some, IsOk, IfOk, OnOk};
+ghost use Rattle.std.specs.Prelude.{◌≡◌, ℕ, ◌*◌, ◌+◌, ◌≤◌, [], length, max, is_some, None, Some, IsOk, IfOk, OnOk, vec_capacity};
 ghost use Rattle.slab.specs.Slab.{slab_len, HasRoomFor};
 ghost use Rattle.slab_laws.specs.Sound.{IsNamed, IsTwinned};
 ghost use Rattle.slab_laws.specs.View.{HasVertex, HasDart, source_in};
@@ -7,6 +7,7 @@ ghost use Rattle.dcel_records.specs.ListChanges.{lone_face, nothing_listed};
 ghost use Rattle.dcel_records.specs.StoredRows.{IsGrown, AreReadyWhere};
 ghost use Rattle.dcel_records.specs.RecordsView.{SameRecordCapacity, graph_part, lists_of, IsReturned, IsRoomFor};
 
+use crate::ranks::RankKey;
 use crate::rows::{StoredCycle, StoredDart, StoredFace, StoredVertex};
 use crate::table::Table;
 use no_memory::NoMemory;
@@ -24,8 +25,12 @@ pub struct Records {
     pub(crate) faces: Table<StoredFace>,
     // How many of the vertices are pinned.
     pub(crate) pins: usize,
+    // How many of the vertices are isolated.
+    pub(crate) isolated: usize,
     // What moves from face to face is listed in here; `None` while a change carries it.
     pub(crate) moved: Option<Moved>,
+    // The faces in the order that is being made; there is room for as many as cycles are promised.
+    pub(crate) order: Vec<RankKey>,
     // How many vertices and cycles fit in all. Their tables may be larger: no more is promised than the lists of what moves
     // can take.
     pub(crate) vertex_room: usize,
@@ -37,11 +42,12 @@ impl Model for Records {
 
     ghost Value = { RecordsView };
 
+    ghost use Rattle.std.specs.Prelude.{vec_capacity};
     ghost use Rattle.dcel_records.specs.StoredRows.{records_view, AreSoundRecords};
 
-    ghost view = { λ r. records_view r.vertices r.darts r.cycles r.faces r.moved r.vertex_room r.cycle_room };
+    ghost view = { λ r. records_view r.vertices r.darts r.cycles r.faces r.moved r.order.items r.vertex_room r.cycle_room };
 
-    ghost invariant = { λ r. AreSoundRecords r.vertices r.darts r.cycles r.faces r.pins r.moved r.vertex_room r.cycle_room };
+    ghost invariant = { λ r. AreSoundRecords r.vertices r.darts r.cycles r.faces r.pins r.isolated r.moved (vec_capacity r.order) r.vertex_room r.cycle_room };
 }
 
 /// How many vertices, edges, cycles and faces more are to fit.
@@ -57,10 +63,12 @@ pub struct Room {
 pub(crate) fn no_rows_of_face() -> StoredFace
     ensures cycle { result.first_cycle ≡ None }
     ensures bare { result.first_bare ≡ None }
+    ensures rank { result.rank ≡ 0 }
 {
     StoredFace {
         first_cycle: None,
         first_bare: None,
+        rank: 0,
     }
 }
 
@@ -119,6 +127,17 @@ fn grow_lists(moved: &mut Option<Moved>, cycles: usize, vertices: usize) -> Resu
     }
 }
 
+// Makes room for so many keys in all; those that are there stay, whatever comes.
+fn grow_order(order: &mut Vec<RankKey>, keys: usize) -> Result<(), NoMemory>
+    ensures items { order.new.items ≡ order.old.items }
+    ensures keeps { vec_capacity order.old ≤ vec_capacity order.new }
+    ensures room { OnOk result (keys ≤ vec_capacity order.new) }
+    ensures succeeds { keys ≤ vec_capacity order.old → IsOk result }
+{
+    order.reserve(keys.saturating_sub(order.len()))?;
+    Ok(())
+}
+
 impl Records {
     /// Records of nothing but the unbounded face, whose name is 0 for ever, without room.
     pub fn new(alloc: Global) -> Result<Records, NoMemory>
@@ -136,7 +155,9 @@ impl Records {
             cycles: Table::new(alloc),
             faces,
             pins: 0,
+            isolated: 0,
             moved: Some(Moved::new(alloc)),
+            order: Vec::new(alloc),
             vertex_room: 0,
             cycle_room: 0,
         })
@@ -188,6 +209,7 @@ impl Records {
                 let cycles = promise(&self.cycles, self.cycle_room, room.cycles);
                 let vertices = promise(&self.vertices, self.vertex_room, room.vertices);
                 grow_lists(&mut self.moved, cycles, vertices)?;
+                grow_order(&mut self.order, cycles)?;
                 self.cycle_room = cycles;
                 self.vertex_room = vertices;
                 Ok(())
@@ -241,5 +263,6 @@ impl Records {
         self.faces.clear();
         self.faces.insert_reserved(no_rows_of_face());
         self.pins = 0;
+        self.isolated = 0;
     }
 }

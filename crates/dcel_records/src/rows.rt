@@ -40,11 +40,12 @@ pub(crate) struct StoredCycle {
     pub(crate) place: Place,
 }
 
-/// What is kept of a face: the first of its cycles, and the first of its isolated vertices.
+/// What is kept of a face: the first of its cycles, the first of its isolated vertices, and the rank that it was given last.
 #[derive(Clone, Copy)]
 pub(crate) struct StoredFace {
     pub(crate) first_cycle: Option<usize>,
     pub(crate) first_bare: Option<usize>,
+    pub(crate) rank: usize,
 }
 
 impl Placed for StoredCycle {
@@ -72,6 +73,7 @@ impl Placed for StoredCycle {
         StoredFace {
             first_cycle: first,
             first_bare: face.first_bare,
+            rank: face.rank,
         }
     }
 }
@@ -102,6 +104,7 @@ impl Placed for StoredVertex {
         StoredFace {
             first_cycle: face.first_cycle,
             first_bare: first,
+            rank: face.rank,
         }
     }
 }

@@ -52,7 +52,7 @@ impl Records {
         ensures spare_faces { IsSpareFaces self.old.faces self.new.faces 0 0 }
         ensures moved { self.new.faces.moved ≡ self.old.faces.moved }
     {
-        leave_face(&mut self.vertices, &mut self.faces, v);
+        leave_face(&mut self.vertices, &mut self.faces, &mut self.isolated, v);
         let vertex = self.vertices.remove(v.0);
         if vertex.pinned {
             self.pins -= 1;
