@@ -163,26 +163,32 @@ pub fn planar<S: Source, K: Sink>(
     ensures read_to_end { AskForScript (map string_bytes words.now) → result ≡ Status.Done →
         ReadToEnd (S.left source.old) (S.left source.new) }
     ensures answered { AskForScript (map string_bytes words.now) → result ≡ Status.Done →
-        LocateBy (map string_bytes words.now) (λ strategy. AnswersScript (first_world strategy (waiting_rows Observer-dyn observers.items))
+        LocateBy (map string_bytes words.now) (λ strategy.
+        AnswersScript (first_world strategy (waiting_rows Observer-dyn observers.items))
         (S.left source.old) (S.left source.new) (K.taken sink.old) (K.taken sink.new)) }
 
     // After a fault, or past the limit, the lines whose end was read are answered.
     ensures answered_to_read_fault { result ≡ Status.ReadFault →
-        LocateBy (map string_bytes words.now) (λ strategy. AnswersEnded (first_world strategy (waiting_rows Observer-dyn observers.items))
+        LocateBy (map string_bytes words.now) (λ strategy.
+        AnswersEnded (first_world strategy (waiting_rows Observer-dyn observers.items))
         (S.left source.old) (S.left source.new) (K.taken sink.old) (K.taken sink.new)) }
     ensures answered_to_limit { result ≡ Status.TooLong →
-        LocateBy (map string_bytes words.now) (λ strategy. AnswersToLimit (first_world strategy (waiting_rows Observer-dyn observers.items))
+        LocateBy (map string_bytes words.now) (λ strategy.
+        AnswersToLimit (first_world strategy (waiting_rows Observer-dyn observers.items))
         (S.left source.old) (S.left source.new) (K.taken sink.old) (K.taken sink.new)) }
     ensures answered_to_write_fault { AskForScript (map string_bytes words.now) → result ≡ Status.WriteFault →
-        LocateBy (map string_bytes words.now) (λ strategy. AnswersScriptPart (first_world strategy (waiting_rows Observer-dyn observers.items))
+        LocateBy (map string_bytes words.now) (λ strategy.
+        AnswersScriptPart (first_world strategy (waiting_rows Observer-dyn observers.items))
         (S.left source.old) (S.left source.new) (K.taken sink.old) (K.taken sink.new)) }
 
     // Where they ask for a made script, it took the last reply to its lines, and nothing is read.
     ensures made { (segments seed : ℕ) → AskForMade (map string_bytes words.now) segments seed →
-        result ≡ Status.Done → LocateBy (map string_bytes words.now) (λ strategy. AnswersMade (K.taken sink.old) (K.taken sink.new)
+        result ≡ Status.Done → LocateBy (map string_bytes words.now) (λ strategy.
+        AnswersMade (K.taken sink.old) (K.taken sink.new)
         (first_world strategy (waiting_rows Observer-dyn observers.items)) (script segments seed)) }
     ensures made_to_write_fault { (segments seed : ℕ) → AskForMade (map string_bytes words.now) segments seed →
-        result ≡ Status.WriteFault → LocateBy (map string_bytes words.now) (λ strategy. AnswersMadePart (K.taken sink.old) (K.taken sink.new)
+        result ≡ Status.WriteFault → LocateBy (map string_bytes words.now) (λ strategy.
+        AnswersMadePart (K.taken sink.old) (K.taken sink.new)
         (first_world strategy (waiting_rows Observer-dyn observers.items)) (script segments seed)) }
     ensures made_without_source { (segments seed : ℕ) → AskForMade (map string_bytes words.now) segments seed →
         (source.new ≡ source.old)
