@@ -1,3 +1,4 @@
-mod Courses
-mod DartCourses
-mod Verticals
+pub mod Compared
+pub mod Finds
+pub mod Takes
+pub mod Rounds

@@ -1,1 +1,4 @@
-pub mod Courses
+pub mod Passages
+pub mod Finds
+pub mod Looks
+pub mod Rounds

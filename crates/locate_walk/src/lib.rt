@@ -1,7 +1,14 @@
-//! Point location along the vertical through the point (CGAL manual, `Arr_walk_along_line_point_location`).
+//! Point location by a walk up to the point, from face to face (CGAL manual, `Arr_walk_along_line_point_location`).
+//!
+//! The walk starts in the unbounded face, since this is the one whose name is known, and looks at all of its boundary, the outside
+//! of each component of the arrangement, as CGAL's walk looks at all holes of the unbounded face first. Each look is counted, and
+//! no boundary is looked at twice.
 #![tactic(auto)]
 
-mod course;
+mod found;
+mod highest;
+mod passage;
+mod round;
 mod walk;
 
 pub use walk::locate;

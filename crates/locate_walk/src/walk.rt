@@ -1,83 +1,62 @@
-ghost use Rattle.std.specs.Prelude.{◌≡◌, ◌&&◌, nat_lt};
-ghost use Rattle.plane_graphs.specs.Line.{IsProper};
-ghost use Rattle.slab_laws.specs.Skeleton.{inside};
-ghost use Rattle.slab_laws.specs.Sound.{IsGraphSound, edge_in};
-ghost use Rattle.slab_laws.specs.View.{HasDart, twin_in};
+ghost use Rattle.std.specs.Prelude.{◌≡◌, ◌+◌, ◌≤◌};
+ghost use Rattle.slab_laws.specs.View.{HasFace};
 ghost use Rattle.dcel_records.specs.RecordsView.{tables_of};
 ghost use Rattle.dcel_records.specs.SoundMaps.{IsSoundMap};
 ghost use Rattle.face_location.specs.Spots.{IsSpotOf};
-ghost use Rattle.locate_walk.specs.Courses.{IsEdgeThrough};
+ghost use Rattle.walk_laws.specs.Walks.{face_above};
+ghost use Rattle.locate_walk.specs.Looks.{IsBelowOrNone, dart_of};
+ghost use Rattle.locate_walk.specs.Rounds.{looks_below};
 
-use crate::course::{Course, course_of, is_between_ordinates};
-use dcel_records::{Records, Spot};
+use crate::found::EdgeBelow;
+use crate::round::{Round, look_round};
+use counted_looks::{Glance, NameCalls};
+use dcel_records::Spot;
 use exact_plane::Point;
-use face_location::face_at;
-use locate_naive::vertex_at;
-use slab_laws::{DartId, Darts};
-use sound_views::{forward_dart, is_first};
+use slab_laws::FaceId;
+use std::sync::ledger::Ledger;
+use work_steps::Steps;
 
-// Whether the edge of a dart has the point inside. Its ends are looked at first; the side of its line is told only where the
-// vertical through the point meets the edge between them.
-fn is_met_at(records: &Records, dart: DartId, point: &Point) -> bool
-    requires sound { IsGraphSound records.now.graph }
-    requires dart { HasDart records.now.graph dart }
-    requires point { IsProper point.now }
-    ensures { result ≡ inside (edge_in records.now.graph dart) point.now }
+// The face over an edge; with none, the unbounded one, whose name is the first.
+fn face_over(glance: &Glance, edge: &Option<EdgeBelow>) -> FaceId
+    requires map { IsSoundMap glance.now }
+    requires edge { (q : _) × IsBelowOrNone glance.now.graph q edge.now }
+    ensures face { result ≡ face_above (tables_of glance.now) (dart_of edge.now) }
+    ensures has { HasFace (tables_of glance.now) result }
 {
-    let source = records.point(records.source(dart));
-    let target = records.point(records.target(dart));
-    match course_of(&source, point, &target) {
-        Course::Along => is_between_ordinates(&source, point, &target),
-        Course::Across => records.line(dart).holds(point),
-        Course::Apart => false,
+    // This tells that the first face is there.
+    glance.laws();
+    match edge {
+        Some(below) => glance.face(glance.cycle(below.dart)),
+        None => FaceId(0),
     }
-}
-
-// Whether the dart is the first of its edge, and this has the point inside.
-fn is_first_met_at(records: &Records, dart: DartId, point: &Point) -> bool
-    requires sound { IsGraphSound records.now.graph }
-    requires dart { HasDart records.now.graph dart }
-    requires point { IsProper point.now }
-    ensures { result ≡ (nat_lt dart.0 (twin_in records.now.graph dart).0 && inside (edge_in records.now.graph dart) point.now) }
-{
-    is_first(records, dart) && is_met_at(records, dart, point)
-}
-
-// The forward dart of the edge that the vertical through a point meets at the point, between the edge's ends.
-fn edge_met_at(records: &Records, point: &Point) -> Option<DartId>
-    requires { IsGraphSound records.now.graph }
-    ensures { IsEdgeThrough records.now.graph point.now result }
-{
-    point.laws();
-    let mut last = None;
-    while let Some(dart) = records.dart_after(last) {
-        if is_first_met_at(records, dart, point) {
-            return Some(forward_dart(records, dart));
-        }
-        last = Some(dart);
-    }
-    None
 }
 
 /// Where a point lies: the vertex at it, else the edge that has it inside, else the face that it lies in (CGAL manual,
 /// `Arr_walk_along_line_point_location`).
 ///
-/// It asks what the vertical through the point meets: vertices on it, edges along it, and edges across it. An edge is told
-/// by the abscissas of its ends first, and the side of its line is computed only for edges across the vertical. It takes no
-/// memory, and stops at the first thing that it meets at the point itself.
-///
-/// It doesn't go on from edge to edge along the boundaries of faces yet. So each vertex, then each edge, is asked whether the
-/// vertical meets it, and the face of a point that is on none comes from a second look at all edges. The walk differs from
-/// `locate_naive` by the order of its tests alone.
-pub fn locate(records: &Records, point: &Point) -> Spot
-    requires { IsSoundMap records.now }
-    ensures { IsSpotOf records.now.graph (tables_of records.now) point.now result }
+/// It walks from the unbounded face up to the point. In each face it looks once at all that is on the boundary, by the face's own
+/// lists, for what has the point, or else for the highest edge that the point sees below it; from there it goes on into the face
+/// over that edge, until this is the one that it is in. So it looks at each boundary once at most, and only at those of faces that
+/// the vertical below the point, leant by less than any number, passes. It takes no memory.
+pub fn locate<L: Ledger>(glance: &Glance, point: &Point, steps: &mut Steps<L>) -> Spot
+    requires { IsSoundMap glance.now }
+    ensures spot { IsSpotOf glance.now.graph (tables_of glance.now) point.now result }
+    ensures looks { steps.new ≤ steps.old + looks_below glance.now.graph (tables_of glance.now) point.now }
 {
-    if let Some(vertex) = vertex_at(records, point) {
-        return Spot::Vertex(vertex);
-    }
-    match edge_met_at(records, point) {
-        Some(dart) => Spot::Edge(dart),
-        None => Spot::Face(face_at(records, point)),
+    point.laws();
+    let mut last = None;
+    let mut face = face_over(glance, &last);
+    'faces: loop {
+        match look_round(glance, face, point, last, steps) {
+            Round::At(spot) => return spot,
+            Round::Over(highest) => {
+                let over = face_over(glance, &highest);
+                if over == face {
+                    return Spot::Face(face);
+                }
+                last = highest;
+                face = over;
+            }
+        }
     }
 }

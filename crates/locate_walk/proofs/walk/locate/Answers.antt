@@ -1,21 +1,45 @@
-use Rattle.dcel_records.specs.Spots.{IsInFace}
+use Rattle.std.proofs.Common.{arith, sym, ap, ◌∙◌}
+use Rattle.std.proofs.lemmas.Bool.{eqb-true, eq-eqb, false≢true}
+use Rattle.plane_graphs.proofs.Lines.{point_is_proper}
+use Rattle.slab_laws.specs.declared.names.FaceId.{FaceId}
+use Rattle.slab_laws.specs.View.{face_id}
+use Rattle.dcel_records.specs.RecordsView.{tables_of}
+use Rattle.locate_walk.proofs.Rounds.{way_looks, way_ends, way_smaller, way_on}
 use Rattle.locate_walk.proofs.walk.locate.Goals as goal
 
-pub edge_met_at-requires : goal.edge_met_at-requires
-edge_met_at-requires c = c.requires.sound.graph
+pub faces-init : goal.faces-init
+faces-init g c = record { below = tt; over = c.face_over-face.ensures.face; has = c.face_over-face.ensures.has; looks = omega arith }
 
-pub face_at-requires : goal.face_at-requires
-face_at-requires c = record { map = c.requires; spot = record { no_vertex = c.in_default.ensures; no_edge = c.in-None.ensures } }
+pub look_round-requires-clause-face : goal.look_round-requires-clause-face
+look_round-requires-clause-face g c = c.faces.invariant.has
 
-pub returns-in-Some : goal.returns-in-Some
-returns-in-Some c = record { met = c.in-Some.ensures; face = tt }
+pub look_round-requires-clause-last : goal.look_round-requires-clause-last
+look_round-requires-clause-last g c = c.faces.invariant.below
 
-pub returns-in-Some-edge_met_at : goal.returns-in-Some-edge_met_at
-returns-in-Some-edge_met_at c = record { met = c.in-Some-edge_met_at.ensures; face = tt }
+pub returns-in-At-clause-looks : goal.returns-in-At-clause-looks
+returns-in-At-clause-looks g c =
+    way_looks c.args.glance.now.graph (tables_of c.args.glance.now) c.args.point.now c.faces.last c.faces.face c.args.steps.now c.faces.steps c.requires.sound (point_is_proper _ c.laws.ensures) c.faces.invariant
+    c.look_round.new.steps c.look_round.ensures.count
 
-pub returns-in-None : goal.returns-in-None
-returns-in-None c =
-    let spot : IsInFace c.args.records.now.graph c.args.point.now = record { no_vertex = c.in_default.ensures; no_edge = c.in-None.ensures } in record {
-      met = spot;
-      face = c.face_at.ensures.face;
-    }
+pub returns-then-eq-clause-spot : goal.returns-then-eq-clause-spot
+returns-then-eq-clause-spot g c =
+    way_ends c.args.glance.now.graph (tables_of c.args.glance.now) c.args.point.now c.faces.last c.faces.face c.args.steps.now c.faces.steps c.requires.sound (point_is_proper _ c.laws.ensures) c.faces.invariant
+    c.in-Over.highest c.in-Over.ensures.round c.face_over-over.result c.face_over-over.ensures.face (ap face_id (eqb-true c.face_over-over.result.0 c.faces.face.0 (sym c.eq.ensures ∙ c.if-eq.true)))
+
+pub returns-then-eq-clause-looks : goal.returns-then-eq-clause-looks
+returns-then-eq-clause-looks g c =
+    way_looks c.args.glance.now.graph (tables_of c.args.glance.now) c.args.point.now c.faces.last c.faces.face c.args.steps.now c.faces.steps c.requires.sound (point_is_proper _ c.laws.ensures) c.faces.invariant
+    c.look_round.new.steps c.look_round.ensures.count
+
+pub faces-smaller : goal.faces-smaller
+faces-smaller g c =
+    way_smaller c.args.glance.now.graph (tables_of c.args.glance.now) c.args.point.now c.faces.last c.faces.face c.args.steps.now c.faces.steps c.requires.sound (point_is_proper _ c.laws.ensures) c.faces.invariant
+    c.in-Over.highest c.in-Over.ensures.round c.face_over-over.result c.face_over-over.ensures.face
+    (λ e. false≢true (sym c.if-eq.false ∙ c.eq.ensures ∙ eq-eqb c.face_over-over.result.0 c.faces.face.0 (ap (λ (x : FaceId). x.0) e)))
+
+pub faces-preserved : goal.faces-preserved
+faces-preserved g c =
+    way_on c.args.glance.now.graph (tables_of c.args.glance.now) c.args.point.now c.faces.last c.faces.face c.args.steps.now c.faces.steps c.requires.sound (point_is_proper _ c.laws.ensures) c.faces.invariant
+    c.in-Over.highest c.in-Over.ensures.round c.face_over-over.result c.face_over-over.ensures.face
+    (λ e. false≢true (sym c.if-eq.false ∙ c.eq.ensures ∙ eq-eqb c.face_over-over.result.0 c.faces.face.0 (ap (λ (x : FaceId). x.0) e)))
+    c.face_over-over.ensures.has c.look_round.new.steps c.look_round.ensures.count

@@ -1,0 +1,16 @@
+use Rattle.counted_looks.specs.declared.boundary_part.BoundaryPart.{BoundaryPart}
+use Rattle.counted_looks.proofs.PartsSeen.{AreIsolatedRead, isolated_left}
+use Rattle.counted_looks.proofs.boundary.look_at_isolated.Given as goal
+
+-- the vertices that were read were looked at
+abbrev pub invariant-vertices : goal.invariant-vertices
+invariant-vertices g l =
+    let v = g.S.NameCalls.graph l.sight in
+    record {
+      kept : (k : _) → g.K.Looker.may_look v k l.fn.looker → g.K.Looker.may_look v k l.looker;
+      still : (t : BoundaryPart) → g.K.Looker.has_seen v l.fn.looker t → g.K.Looker.has_seen v l.looker t;
+      read : AreIsolatedRead (g.S.NameCalls.lists l.sight) l.fn.face (g.K.Looker.has_seen v l.looker) l.fn.steps l.steps l.at;
+    }
+
+abbrev pub decreases-vertices : goal.decreases-vertices
+decreases-vertices g l = isolated_left (g.S.NameCalls.lists l.sight) l.fn.face l.at

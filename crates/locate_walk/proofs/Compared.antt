@@ -1,0 +1,34 @@
+-- A point among the ends of a dart, by two comparisons.
+use Rattle.std.proofs.Common.{◌≡◌, sym, ap, ◌∙◌, subst, Less, Greater}
+use Rattle.std.specs.Ordering.{ordering_reverse}
+use Rattle.exact_plane.specs.Point.{Point}
+use Rattle.exact_plane.specs.PointOrder.{point_cmp}
+use Rattle.exact_plane.specs.PointOrderLaws.{point_cmp_total}
+use Rattle.plane_graphs.proofs.Order.{Lt, lt_never, lt_both}
+use Rattle.locate_walk.specs.Passages.{IsApart}
+
+pub before_out : (p q : Point) → point_cmp p q ≡ Less → Lt p q
+before_out p q e = record { is = e }
+
+pub after_out : (p q : Point) → point_cmp p q ≡ Greater → Lt q p
+after_out p q e = record { is = point_cmp_total.antisymm q p ∙ ap ordering_reverse e }
+
+-- two points of which one comes before the other are two
+pub differ : {p q : Point} → Lt p q → p ≡ q → ⊥
+differ {p} {q} h e = lt_never (subst (λ x. Lt x q) e h)
+
+pub both_before : (s p t : Point) → Lt s p → Lt t p → IsApart s p t
+both_before s p t a b = record {
+  off_source = differ a;
+  off_target = differ b;
+  not_ahead = λ k. lt_both b (record { is = k.1 });
+  not_back = λ k. lt_both a (record { is = k.1 });
+}
+
+pub both_after : (s p t : Point) → Lt p s → Lt p t → IsApart s p t
+both_after s p t a b = record {
+  off_source = λ e. differ a (sym e);
+  off_target = λ e. differ b (sym e);
+  not_ahead = λ k. lt_both a (record { is = k.0 });
+  not_back = λ k. lt_both b (record { is = k.0 });
+}

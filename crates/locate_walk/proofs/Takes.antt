@@ -1,0 +1,124 @@
+-- What a look keeps: the highest edge so far rises, and what was clear stays clear.
+use Rattle.std.proofs.Common.{◌≡◌, ◌<◌, ◌≤◌, cond, arith, refl, sym, ap, ◌∙◌, inl, inr, subst}
+use Rattle.std.specs.Prelude.{Option, Some, None}
+use Rattle.std.proofs.lemmas.Bool.{cases_Bool}
+use Rattle.exact_plane.specs.Point.{Point}
+use Rattle.plane_graphs.specs.Graph.{Edge}
+use Rattle.plane_graphs.specs.Line.{IsProper}
+use Rattle.slab_laws.specs.declared.names.DartId.{DartId}
+use Rattle.slab_laws.specs.declared.names.FaceId.{FaceId}
+use Rattle.slab_laws.specs.Sound.{skeleton_of, edge_in, IsGraphSound}
+use Rattle.slab_laws.specs.SpansDrawn.{edge_of}
+use Rattle.slab_laws.specs.View.{View, Faces}
+use Rattle.counted_looks.specs.declared.boundary_part.BoundaryPart.{BoundaryPart}
+use Rattle.counted_looks.specs.declared.boundary_part.BoundaryPart.TheVariants.{Dart, Isolated}
+use Rattle.dcel_records.specs.RecordsView.{tables_of}
+use Rattle.edges_below.specs.Above.{is_above}
+use Rattle.edges_below.specs.Levels.{level}
+use Rattle.edges_below.proofs.Levels.{levels_tell_highest}
+use Rattle.walk_laws.specs.Walks.{height}
+use Rattle.locate_walk.specs.Finds.{IsFound}
+use Rattle.locate_walk.specs.Looks.{dart_of, higher_edge, IsBelowOrNone, IsRaised, taken, IsPartClear, MayLook, HasSeen}
+use Rattle.locate_walk.specs.declared.found.EdgeBelow.{EdgeBelow}
+use Rattle.locate_walk.specs.declared.found.Found.{Found}
+use Rattle.locate_walk.specs.declared.found.Found.TheVariants.{At, Below, Past}
+use Rattle.locate_walk.specs.declared.highest.Highest.{Highest}
+
+module _ (v : View) (q : Point) where
+  pub raised_from : {o p : Option DartId} → IsRaised v q o p → height v q o ≤ height v q p
+  raised_from {o} {p} (inl e) = subst (λ x. height v q o ≤ height v q x) (sym e) (omega arith)
+  raised_from (inr l) = omega arith
+
+  raised_trans : {o p r : Option DartId} → IsRaised v q o p → IsRaised v q p r → IsRaised v q o r
+  raised_trans {o} {p} {r} a (inl e) = subst (IsRaised v q o) (sym e) a
+  raised_trans {o} {p} {r} a (inr l) = let k = raised_from a in inr (omega arith)
+
+  -- ---- the higher of the highest so far and one more
+  -- it is one that the point sees, and is as high as both
+  record IsHigher (o : Option EdgeBelow) (e r : EdgeBelow) : Type 0 where
+    below : IsBelowOrNone v q (Some r)
+    raised : IsRaised v q (dart_of o) (Some r.dart)
+    covers : level (skeleton_of v) q (edge_in v e.dart) < height v q (Some r.dart)
+
+  is_higher : IsGraphSound v → IsProper q → (o : Option EdgeBelow) (e : EdgeBelow) → IsBelowOrNone v q o → IsBelowOrNone v q (Some e) → IsHigher o e (higher_edge o e)
+  is_higher s Q None e p k = record { below = k; raised = inr (omega arith); covers = omega arith }
+  is_higher s Q (Some b) e p k =
+      let same : is_above (edge_of e.edge) (edge_of b.edge) ≡ is_above (edge_in v e.dart) (edge_in v b.dart) = λ i. is_above (k.1 i) (p.1 i) in
+      elim (cases_Bool (is_above (edge_of e.edge) (edge_of b.edge))) [
+        | inl a ↦
+            let l = levels_tell_highest.above (skeleton_of v) q (edge_in v e.dart) (edge_in v b.dart) s.plane Q.positive k.0.1 p.0.1 (sym same ∙ a) in
+            subst (IsHigher (Some b) e) (sym (ap (λ x. cond x e b) a)) (record { below = k; raised = inr (omega arith); covers = omega arith })
+        | inr a ↦
+            let l = levels_tell_highest.not_above (skeleton_of v) q (edge_in v e.dart) (edge_in v b.dart) s.plane Q.positive k.0.1 p.0.1 (sym same ∙ a) in
+            subst (IsHigher (Some b) e) (sym (ap (λ x. cond x e b) a)) (record { below = p; raised = inl refl; covers = omega arith })
+      ]
+
+  -- ---- what is clear
+  clear_still : (f : Faces) (a : FaceId) (o p : Option DartId) (t : BoundaryPart) → IsRaised v q o p → IsPartClear v f q a o t → IsPartClear v f q a p t
+  clear_still f a o p (Dart d) r c = record { ends = c.ends; off_edge = c.off_edge; no_higher = λ x y. let l = c.no_higher x y in let k = raised_from r in omega arith }
+  clear_still f a o p (Isolated w) r c = c
+
+  past_clear : (f : Faces) (a : FaceId) (o : Option DartId) (t : BoundaryPart) → IsFound v f q a t Past → IsPartClear v f q a o t
+  past_clear f a o (Dart d) c = record { ends = c.0; off_edge = λ x. (c.1 x).outside; no_higher = λ x y. absurd ((c.1 x).unseen y) }
+  past_clear f a o (Isolated w) c = c
+
+  below_seen : (f : Faces) (a : FaceId) (t : BoundaryPart) (b : EdgeBelow) → IsFound v f q a t (Below b) → IsBelowOrNone v q (Some b)
+  below_seen f a (Dart d) b c = (c.1.seen, c.2)
+  below_seen f a (Isolated w) b c = absurd c
+
+  below_clear : (f : Faces) (a : FaceId) (p : Option DartId) (t : BoundaryPart) (b : EdgeBelow) → IsFound v f q a t (Below b) → level (skeleton_of v) q (edge_in v b.dart) < height v q p → IsPartClear v f q a p t
+  below_clear f a p (Dart d) b c l = record {
+    ends = c.0;
+    off_edge = λ x. c.1.outside;
+    no_higher = λ x y. subst (λ (e : Edge). level (skeleton_of v) q e < height v q p) c.1.along l;
+  }
+  below_clear f a p (Isolated w) b c l = absurd c
+
+-- ---- one look
+module _ (k h : Highest) (t : BoundaryPart) (m : MayLook h.glance.now.graph k h) where
+  abbrev v : View
+  v = h.glance.now.graph
+
+  abbrev f : Faces
+  f = tables_of h.glance.now
+
+  up : (b : EdgeBelow) → IsFound v f h.point h.face t (Below b) → IsHigher v h.point h.best b (higher_edge h.best b)
+  up b c = is_higher v h.point m.map.sound.graph m.proper h.best b m.best (below_seen v h.point f h.face t b c)
+
+  may : (r : Found) → IsFound v f h.point h.face t r → MayLook v k (taken h r)
+  may (At s) c = record { graph = m.graph; map = m.map; glance = m.glance; face = m.face; point = m.point; proper = m.proper; best = m.best; hit = c; raised = m.raised }
+  may (Below b) c = record {
+    graph = m.graph;
+    map = m.map;
+    glance = m.glance;
+    face = m.face;
+    point = m.point;
+    proper = m.proper;
+    best = (up b c).below;
+    hit = m.hit;
+    raised = raised_trans v h.point m.raised (up b c).raised;
+  }
+  may Past c = m
+
+  seen : (r : Found) → IsFound v f h.point h.face t r → HasSeen v (taken h r) t
+  seen (At s) c = λ e. absurd cc
+  seen (Below b) c = λ e. below_clear v h.point f h.face (Some (higher_edge h.best b).dart) t b c (up b c).covers
+  seen Past c = λ e. past_clear v h.point f h.face (dart_of h.best) t c
+
+  still : (r : Found) → IsFound v f h.point h.face t r → (x : BoundaryPart) → HasSeen v h x → HasSeen v (taken h r) x
+  still (At s) c x y = λ e. absurd cc
+  still (Below b) c x y = λ e. clear_still v h.point f h.face (dart_of h.best) (Some (higher_edge h.best b).dart) x (up b c).raised (y e)
+  still Past c x y = y
+
+-- the same for the graph that is walked on, and for what stands after the look
+module _ (v : View) (h l : Highest) (t : BoundaryPart) (r : Found) (found : IsFound h.glance.now.graph (tables_of h.glance.now) h.point h.face t r) (e : l ≡ taken h r) where
+  pub look_may : (k : Highest) → MayLook v k h → MayLook v k l
+  look_may k m = subst (MayLook v k) (sym e) (subst (λ (w : View). MayLook w k h → MayLook w k (taken h r)) m.graph (λ n. may k h t n r found) m)
+
+  pub look_seen : (k : Highest) → MayLook v k h → HasSeen v l t
+  look_seen k m = subst (λ (x : Highest). HasSeen v x t) (sym e) (subst (λ (w : View). MayLook w k h → HasSeen w (taken h r) t) m.graph (λ n. seen k h t n r found) m)
+
+  pub look_still : (k : Highest) → MayLook v k h → (x : BoundaryPart) → HasSeen v h x → HasSeen v l x
+  look_still k m x y =
+      subst (λ (z : Highest). HasSeen v z x) (sym e)
+      (subst (λ (w : View). MayLook w k h → HasSeen w h x → HasSeen w (taken h r) x) m.graph (λ n z. still k h t n r found x z) m y)

@@ -1,0 +1,77 @@
+-- What is known of the looks at the boundary of a face.
+use Rattle.std.specs.Prelude.{◌≡◌, ◌≢◌, ◌⊎◌, ◌<◌, ⊤, false, cond, Option, Some, None, IfSome}
+use Rattle.exact_plane.specs.Point.{Point}
+use Rattle.plane_graphs.specs.Line.{IsProper}
+use Rattle.slab_laws.specs.declared.names.DartId.{DartId}
+use Rattle.slab_laws.specs.declared.names.FaceId.{FaceId}
+use Rattle.slab_laws.specs.Skeleton.{inside}
+use Rattle.slab_laws.specs.Sound.{skeleton_of, edge_in}
+use Rattle.slab_laws.specs.SpansDrawn.{edge_of}
+use Rattle.slab_laws.specs.View.{View, Faces, point_in}
+use Rattle.counted_looks.specs.declared.boundary_part.BoundaryPart.{BoundaryPart}
+use Rattle.counted_looks.specs.declared.boundary_part.BoundaryPart.TheVariants.{Dart, Isolated}
+use Rattle.dcel_records.specs.RecordsView.{tables_of}
+use Rattle.dcel_records.specs.SoundMaps.{IsSoundMap}
+use Rattle.edges_below.specs.Above.{is_above}
+use Rattle.edges_below.specs.Levels.{IsSeen, level}
+use Rattle.face_location.specs.Below.{IsSeenDart}
+use Rattle.face_location.specs.Spots.{IsSpotOf}
+use Rattle.walk_laws.specs.Walks.{height}
+use Rattle.locate_walk.specs.Finds.{IsOffEnds, IsTested}
+use Rattle.locate_walk.specs.declared.found.EdgeBelow.{EdgeBelow}
+use Rattle.locate_walk.specs.declared.found.Found.{Found}
+use Rattle.locate_walk.specs.declared.found.Found.TheVariants.{At, Below, Past}
+use Rattle.locate_walk.specs.declared.highest.Highest.{Highest}
+
+-- ---- the highest edge so far
+-- its forward dart, if there is one
+abbrev pub dart_of : Option EdgeBelow → Option DartId
+dart_of None = None
+dart_of (Some b) = Some b.dart
+
+-- the second, if the first is none, or isn't above it (Fogel, Halperin and Wein: vertical ray shooting)
+abbrev pub higher_edge : Option EdgeBelow → EdgeBelow → EdgeBelow
+higher_edge None e = e
+higher_edge (Some b) e = cond (is_above (edge_of e.edge) (edge_of b.edge)) e b
+
+-- none, or one that the point sees, with its edge
+abbrev pub IsBelowOrNone : View → Point → Option EdgeBelow → Type 0
+IsBelowOrNone v q None = ⊤
+IsBelowOrNone v q (Some b) = IsSeenDart v q b.dart × (edge_of b.edge ≡ edge_in v b.dart)
+
+-- the second is the first, or is higher (this project)
+abbrev pub IsRaised : View → Point → Option DartId → Option DartId → Type 0
+IsRaised v q o p = (p ≡ o) ⊎ (height v q o < height v q p)
+
+-- ---- looks
+-- what was found is kept
+abbrev pub taken : Highest → Found → Highest
+taken h (At s) = record h { hit = Some s }
+taken h (Below e) = record h { best = Some (higher_edge h.best e) }
+taken h Past = h
+
+-- the point is off the dart's ends; if the side of its edge is told at it, then the edge hasn't the point inside, and the point sees it no higher than the highest so far (this project)
+pub record IsDartClear (v : View) (f : Faces) (q : Point) (a : FaceId) (o : Option DartId) (d : DartId) : Type 0 where
+  pub ends : IsOffEnds v q d
+  pub off_edge : IsTested v f a d → inside (edge_in v d) q ≡ false
+  pub no_higher : IsTested v f a d → IsSeen (skeleton_of v) q (edge_in v d) → level (skeleton_of v) q (edge_in v d) < height v q o
+
+abbrev pub IsPartClear : View → Faces → Point → FaceId → Option DartId → BoundaryPart → Type 0
+IsPartClear v f q a o (Dart d) = IsDartClear v f q a o d
+IsPartClear v f q a o (Isolated w) = point_in v w ≢ q
+
+-- the graph looked at is that of the records; the highest so far is one that the point sees, no lower than at first; and what was met is where the point lies
+pub record MayLook (v : View) (k l : Highest) : Type 0 where
+  pub graph : l.glance.now.graph ≡ v
+  pub map : IsSoundMap l.glance.now
+  pub glance : l.glance.now ≡ k.glance.now
+  pub face : l.face ≡ k.face
+  pub point : l.point ≡ k.point
+  pub proper : IsProper l.point
+  pub best : IsBelowOrNone v l.point l.best
+  pub hit : IfSome l.hit (IsSpotOf v (tables_of l.glance.now) l.point)
+  pub raised : IsRaised v l.point (dart_of k.best) (dart_of l.best)
+
+-- until the point was met, all that was looked at is clear
+abbrev pub HasSeen : View → Highest → BoundaryPart → Type 0
+HasSeen v l t = l.hit ≡ None → IsPartClear v (tables_of l.glance.now) l.point l.face (dart_of l.best) t

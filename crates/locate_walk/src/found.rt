@@ -1,0 +1,123 @@
+ghost use Rattle.std.specs.Prelude.{◌≡◌, ◌+◌, Some};
+ghost use Rattle.exact_plane.specs.Span.{AreOnWay};
+ghost use Rattle.exact_plane.specs.Line.{Line as LineRow};
+ghost use Rattle.slab_laws.specs.View.{HasDart};
+ghost use Rattle.counted_looks.specs.Boundaries.{HasPart};
+ghost use Rattle.counted_looks.specs.Looks.{IsLookOf};
+ghost use Rattle.counted_looks.specs.declared.boundary_part.BoundaryPart.TheVariants.{Dart};
+ghost use Rattle.dcel_records.specs.RecordsView.{tables_of};
+ghost use Rattle.dcel_records.specs.SoundMaps.{IsSoundMap};
+ghost use Rattle.dcel_records.specs.declared.spot.Spot.TheVariants.{Edge};
+ghost use Rattle.locate_walk.specs.Finds.{IsFound, IsSided};
+
+use crate::passage::{Passage, passage_of};
+use counted_looks::{BoundaryPart, Glance, Looked, NameCalls};
+use dcel_records::Spot;
+use exact_plane::{Line, Point, Sign, Span, side};
+use slab_laws::{DartId, FaceId};
+use std::sync::ledger::Ledger;
+use work_steps::Steps;
+
+/// An edge that a point sees below it, with its dart from the lower to the upper end.
+#[derive(Clone, Copy)]
+pub struct EdgeBelow {
+    pub dart: DartId,
+    pub edge: Span,
+}
+
+/// What one look at a part of a boundary finds for a point.
+#[derive(Clone, Copy)]
+pub enum Found {
+    /// The point is there.
+    At(Spot),
+    /// The point sees the edge below it.
+    Below(EdgeBelow),
+    /// Neither.
+    Past,
+}
+
+// The edge between two ends that were read.
+fn span_between(lower: Point, upper: Point, line: Option<Line>) -> Span
+    requires { (l : LineRow) × (line ≡ Some l) × AreOnWay lower upper l }
+    ensures { (result.lower ≡ lower) × (result.upper ≡ upper) }
+{
+    Span::new(lower, upper, line.unwrap()).unwrap()
+}
+
+// Where a point is that an edge spans: on it, over it, or under it.
+fn side_of(dart: DartId, edge: Span, point: &Point) -> Found
+    ensures { IsSided dart edge point.now result }
+{
+    edge.laws();
+    match side(&edge.line(), point) {
+        Sign::Minus => Found::Past,
+        Sign::Zero => Found::At(Spot::Edge(dart)),
+        Sign::Plus => Found::Below(EdgeBelow { dart, edge }),
+    }
+}
+
+// What a look at a dart of a face finds. Its ends are compared first, which rules out nearly all darts; where both darts of an
+// edge are on the boundary of the face, the side of the edge is told at the forward one alone.
+fn found_at_dart(
+    glance: &Glance,
+    face: FaceId,
+    dart: DartId,
+    looked: &Looked,
+    point: &Point,
+) -> Found
+    requires map { IsSoundMap glance.now }
+    requires dart { HasDart glance.now.graph dart }
+    requires looked { IsLookOf glance.now.graph (Edge dart) looked.now }
+    ensures { IsFound glance.now.graph (tables_of glance.now) point.now face (Dart dart) result }
+{
+    point.laws();
+    match passage_of(&looked.source, point, &looked.target) {
+        Passage::FromPoint => Found::At(Spot::Vertex(glance.source(dart))),
+        Passage::ToPoint => Found::At(Spot::Vertex(glance.target(dart))),
+        Passage::Forward => side_of(
+            dart,
+            span_between(looked.source, looked.target, looked.line),
+            point,
+        ),
+        Passage::Backward => {
+            let twin = glance.twin(dart);
+            if glance.face(glance.cycle(twin)) == face {
+                return Found::Past;
+            }
+            side_of(
+                twin,
+                span_between(looked.target, looked.source, looked.line),
+                point,
+            )
+        }
+        Passage::Apart => Found::Past,
+    }
+}
+
+/// What one look at a part of the boundary of a face finds for a point.
+pub fn find<L: Ledger>(
+    glance: &Glance,
+    face: FaceId,
+    at: BoundaryPart,
+    point: &Point,
+    steps: &mut Steps<L>,
+) -> Found
+    requires map { IsSoundMap glance.now }
+    requires at { HasPart glance.now.graph at }
+    ensures found { IsFound glance.now.graph (tables_of glance.now) point.now face at result }
+    ensures one { steps.new ≡ steps.old + 1 }
+{
+    match at {
+        BoundaryPart::Dart(dart) => {
+            let looked = glance.look(Spot::Edge(dart), steps);
+            found_at_dart(glance, face, dart, &looked, point)
+        }
+        BoundaryPart::Isolated(vertex) => {
+            let looked = glance.look(Spot::Vertex(vertex), steps);
+            if looked.source == *point {
+                return Found::At(Spot::Vertex(vertex));
+            }
+            Found::Past
+        }
+    }
+}
