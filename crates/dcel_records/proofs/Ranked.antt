@@ -1,5 +1,5 @@
 -- Keys in order, and the ranks that their faces are given.
-use Rattle.std.proofs.Common.{◌≡◌, ℕ, zero, suc, ◌+◌, ◌<◌, ◌≤◌, ◌==◌, Bool, false, List, [], ◌∷◌, ◌++◌, length, take, get_or, take_all, Ordering, Less, Equal, Greater, Some, is_some, option_map, refl, sym, ap, subst, ◌∙◌, arith, inl, inr}
+use Rattle.std.proofs.Common.{◌≡◌, ◌≢◌, ℕ, zero, suc, ◌+◌, ◌<◌, ◌≤◌, ◌==◌, Bool, false, List, [], ◌∷◌, ◌++◌, length, take, get_or, take_all, Ordering, Less, Equal, Greater, Some, is_some, option_map, refl, sym, ap, subst, ◌∙◌, arith, inl, inr}
 use Rattle.std.specs.List.{AllByRecursion, IsDistinct}
 use Rattle.std.specs.List.Sorted.{IsPermutation, IsSorted}
 use Rattle.std.specs.Ordering.{is_lt, ordering_then, nat_cmp}
@@ -18,6 +18,7 @@ use Rattle.slab_laws.specs.declared.names.FaceId.{FaceId}
 use Rattle.chain_laws.specs.Rows.{tabled}
 use Rattle.chain_laws.proofs.Tabled.{row-tabled}
 use Rattle.slab_laws.specs.Tables.{row_at}
+use Rattle.slab_laws.specs.View.{face_id}
 use Rattle.dcel_records.specs.declared.ranks.RankKey.{RankKey}
 use Rattle.dcel_records.specs.declared.rows.StoredFace.{StoredFace}
 use Rattle.dcel_records.specs.RankOrders.{key_cmp, AreInKeyOrder, AreRanked}
@@ -101,6 +102,22 @@ ranked_none rank ks = tt
 pub ranked_all : (rank : FaceId → ℕ) (ks : List RankKey) (i : ℕ) → length ks ≤ i → AreRanked rank 1 (take i ks) → AreRanked rank 1 ks
 ranked_all rank ks i l r = subst (λ ms. AreRanked rank 1 ms) (take_all i ks l) r
 
+-- one face more has a rank
+pub one_ranked : (old s : Slab StoredFace) (a n : ℕ) (q : StoredFace) → get s a ≡ Some q → IsReranked old s → IsReranked old (with_value s a (row_ranked n q))
+one_ranked old s a n q g r = record { rests = λ j. same j ∙ r.rests j; len = len_written s a q (row_ranked n q) g ∙ r.len; capacity = r.capacity }
+  where
+    u : Updates s (with_value s a (row_ranked n q)) a (Some (row_ranked n q))
+    u = Updates-with_value s a (row_ranked n q) (ap is_some g)
+
+    same : (j : ℕ) → option_map unranked (get (with_value s a (row_ranked n q)) j) ≡ option_map unranked (get s j)
+    same j = elim (cases_eq j a) [
+      | inl z ↦ ap (λ m. option_map unranked (get (with_value s a (row_ranked n q)) m)) z ∙ ap (option_map unranked) u.changed ∙ sym (ap (option_map unranked) g) ∙ ap (λ m. option_map unranked (get s m)) (sym z)
+      | inr ne ↦ ap (option_map unranked) (u.others j ne)
+    ]
+
+pub zero_written : (s : Slab StoredFace) (q : StoredFace) → get s 0 ≡ Some q → rank_at (with_value s 0 (row_ranked 0 q)) (face_id 0) ≡ 0
+zero_written s q g = ap (λ o. rank_or (option_map (λ r. r.rank) o)) (Updates-with_value s 0 (row_ranked 0 q) (ap is_some g)).changed
+
 module _ (old s : Slab StoredFace) (ks : List RankKey) (i : ℕ) (k : RankKey) (e : k ≡ get_or ks i k) (l : i < length ks) where
   pub key_there : IsReranked old s → AllByRecursion (λ m. ContainsKey old m.face.0) ks → ContainsKey s k.face.0
   key_there r a = some_same unranked (get s k.face.0) (get old k.face.0) (r.rests k.face.0) ∙ subst (λ (m : RankKey). ContainsKey old m.face.0) (sym e) (All-member (λ m. ContainsKey old m.face.0) (get_or ks i k) ks a (member_at ks i k l))
@@ -113,13 +130,12 @@ module _ (old s : Slab StoredFace) (ks : List RankKey) (i : ℕ) (k : RankKey) (
     u = Updates-with_value s k.face.0 (row_ranked (i + 1) q) (ap is_some g)
 
     pub rank_written : IsReranked old s → IsReranked old written
-    rank_written r = record { rests = λ j. same j ∙ r.rests j; len = len_written s k.face.0 q (row_ranked (i + 1) q) g ∙ r.len; capacity = r.capacity }
-      where
-        same : (j : ℕ) → option_map unranked (get written j) ≡ option_map unranked (get s j)
-        same j = elim (cases_eq j k.face.0) [
-          | inl z ↦ ap (λ n. option_map unranked (get written n)) z ∙ ap (option_map unranked) u.changed ∙ sym (ap (option_map unranked) g) ∙ ap (λ n. option_map unranked (get s n)) (sym z)
-          | inr ne ↦ ap (option_map unranked) (u.others j ne)
-        ]
+    rank_written = one_ranked old s k.face.0 (i + 1) q g
+
+    pub zero_kept : (AllByRecursion (λ m. m.face ≢ face_id 0) ks → rank_at s (face_id 0) ≡ 0) → AllByRecursion (λ m. m.face ≢ face_id 0) ks → rank_at written (face_id 0) ≡ 0
+    zero_kept h z =
+        let ne = All-member (λ (m : RankKey). m.face ≢ face_id 0) (get_or ks i k) ks z (member_at ks i k l) in
+        ap (λ o. rank_or (option_map (λ r. r.rank) o)) (u.others 0 (λ w. ne (ap (λ (m : RankKey). m.face) (sym e) ∙ (λ j. record { 0 = sym w j })))) ∙ h z
 
     kept : (m : RankKey) → same_face m (get_or ks i k) ≡ false → rank_at written m.face ≡ rank_at s m.face
     kept m b = ap (λ o. rank_or (option_map (λ r. r.rank) o)) (u.others m.face.0 (λ w. true≢false (sym (same_number k.face.0) ∙ ap (λ n. n == k.face.0) (sym w) ∙ ap (λ (x : RankKey). m.face.0 == x.face.0) e ∙ b)))

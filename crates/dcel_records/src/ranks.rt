@@ -1,8 +1,8 @@
-ghost use Rattle.std.specs.Prelude.{◌≡◌, ◌==◌, ◌<◌, [], ◌∷◌, ◌++◌, length};
+ghost use Rattle.std.specs.Prelude.{◌≡◌, ◌≢◌, ◌==◌, ◌<◌, [], ◌∷◌, ◌++◌, length};
 ghost use Rattle.std.specs.List.{AllByRecursion, IsDistinct};
 ghost use Rattle.std.specs.List.Sorted.{IsPermutation};
 ghost use Rattle.slab.specs.Slab.{ContainsKey};
-ghost use Rattle.slab_laws.specs.View.{HasFace};
+ghost use Rattle.slab_laws.specs.View.{HasFace, face_id};
 ghost use Rattle.dcel_records.specs.RecordsView.{graph_part, rank_given};
 ghost use Rattle.dcel_records.specs.RankOrders.{AreInKeyOrder, AreRanked};
 ghost use Rattle.dcel_records.specs.StoredRows.{rank_at, IsReranked};
@@ -21,12 +21,15 @@ pub struct RankKey {
     pub face: FaceId,
 }
 
-// The faces of the keys have the ranks from 1 on, in the order of the keys.
+// The faces of the keys have the ranks from 1 on, in the order of the keys; the unbounded face has 0, unless it is one of them.
 fn give_ranks(faces: &mut Table<StoredFace>, order: &[RankKey])
-    requires { AllByRecursion (λ k. ContainsKey faces.old k.face.0) order.now }
+    requires unbounded { ContainsKey faces.old 0 }
+    requires keys { AllByRecursion (λ k. ContainsKey faces.old k.face.0) order.now }
     ensures kept { IsReranked faces.old faces.new }
     ensures ranked { IsDistinct (λ a b. a.face.0 == b.face.0) order.now → AreRanked (rank_at faces.new) 1 order.now }
+    ensures unbounded { AllByRecursion (λ k. k.face ≢ face_id 0) order.now → rank_at faces.new (face_id 0) ≡ 0 }
 {
+    faces[0].rank = 0;
     for (place, key) in order.iter().enumerate() {
         faces[key.face.0].rank = place + 1;
     }
@@ -54,12 +57,14 @@ impl Records {
         self.order.push_reserved(key);
     }
 
-    /// Puts the faces in the order of their keys, and gives each the rank that is its place, from 1 on. It takes no memory.
+    /// Puts the faces in the order of their keys, and gives each the rank that is its place, from 1 on. The unbounded face has the
+    /// rank 0 where it has no key. It takes no memory.
     pub fn rank_in_order(&mut self)
         requires { AllByRecursion (λ k. HasFace self.old.faces.tables k.face) self.old.ranks.order }
         ensures keys { IsPermutation self.old.ranks.order self.new.ranks.order }
         ensures ordered { AreInKeyOrder self.new.ranks.order }
         ensures ranked { IsDistinct (λ a b. a.face.0 == b.face.0) self.old.ranks.order → AreRanked (rank_given self.new) 1 self.new.ranks.order }
+        ensures unbounded { AllByRecursion (λ k. k.face ≢ face_id 0) self.old.ranks.order → rank_given self.new (face_id 0) ≡ 0 }
         ensures graph { graph_part self.new ≡ graph_part self.old }
         ensures faces { self.new.faces ≡ self.old.faces }
     {

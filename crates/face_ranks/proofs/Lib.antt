@@ -6,3 +6,6 @@ pub mod RankOrder
 pub mod ListWalks
 pub mod LeadsRead
 pub mod Counting
+pub mod KeysRanked
+pub mod KeysPushed
+pub mod GivenRanks

@@ -15,7 +15,7 @@ use Rattle.slab_laws.specs.FacesSound.{lead_in, IsSound, IsOuterOf}
 use Rattle.slab_laws.specs.Rotation.{dart_below}
 use Rattle.slab_laws.specs.Sound.{skeleton_of, dart_in}
 use Rattle.slab_laws.specs.Tables.{NamesAscend}
-use Rattle.slab_laws.specs.View.{View, Faces, HasFace, cycle_in, face_id}
+use Rattle.slab_laws.specs.View.{View, Faces, HasDart, HasFace, cycle_in, face_id}
 use Rattle.slab_faces.proofs.ClassesLemmas.{IsExact}
 use Rattle.slab_faces.proofs.DartOrder.{dart_below_order}
 use Rattle.slab_faces.proofs.EveryFace.{none_counted}
@@ -72,7 +72,7 @@ names_rise (n ∷ ns) a = (
   names_rise ns a.1,
 )
 
-faces_exact : IsExact same_face
+pub faces_exact : IsExact same_face
 faces_exact = record { itself = λ a. eq-eqb a.0 a.0 refl; path = λ a b h. by_number a b (eqb-true a.0 b.0 h) }
 
 module _ (v : View) (f : Faces) (s : IsSound v f) where
@@ -120,13 +120,16 @@ module _ (v : View) (f : Faces) (s : IsSound v f) where
   rank_first a b e has none k = sym (nat_lt_yes (rank_in v f a) (rank_in v f b) (let i = rank_unbounded a has none in let j = rank_bounded b e k in omega arith))
 
   -- ---- every face has its rank
-  pub lead_of : (a : FaceId) (c : CycleId) → IsOuterOf f a c → (d : DartId) × IsLeadOf v f a d
-  lead_of a c o =
-      let x = s.complete.dart_has c o.0 in
+  -- a dart on an outer cycle tells the least one
+  pub lead_on : (a : FaceId) (c : CycleId) → IsOuterOf f a c → (x : DartId) → HasDart v x → cycle_in f x ≡ c → (d : DartId) × IsLeadOf v f a d
+  lead_on a c o x X on =
       let g = skeleton_of v in
-      let H = to_member _ _ (names_are_darts.known v x.0 s.graph x.1) in
-      let k = names_are_darts.there v (lead_in v x.0) s.graph (from_member _ _ (lead_there g s.graph.plane (dart_in v x.0) H)) in
-      (k.0, lead_read v f s a c o x.0 x.1 x.2 k.0 k.1 k.2)
+      let H = to_member _ _ (names_are_darts.known v x s.graph X) in
+      let k = names_are_darts.there v (lead_in v x) s.graph (from_member _ _ (lead_there g s.graph.plane (dart_in v x) H)) in
+      (k.0, lead_read v f s a c o x X on k.0 k.1 k.2)
+
+  lead_of : (a : FaceId) (c : CycleId) → IsOuterOf f a c → (d : DartId) × IsLeadOf v f a d
+  lead_of a c o = let x = s.complete.dart_has c o.0 in lead_on a c o x.0 x.1 x.2
 
   abbrev ranked : List FaceId
   ranked = first v f s ∷ map (face_beside v f s) (outers v f s)

@@ -50,7 +50,7 @@ pub by_number : (a b : FaceId) → a.0 ≡ b.0 → a ≡ b
 by_number a b h = λ i. record { 0 = h i }
 
 -- ---- the first of ascending names is the least
-first_least : (ns : List ℕ) → NamesAscend ns → (m : ℕ) → Member m ns → Member (first_or ns).0 ns × ((m ≡ (first_or ns).0) ⊎ ((first_or ns).0 < m))
+pub first_least : (ns : List ℕ) → NamesAscend ns → (m : ℕ) → Member m ns → Member (first_or ns).0 ns × ((m ≡ (first_or ns).0) ⊎ ((first_or ns).0 < m))
 first_least [] a m h = absurd h
 first_least (n ∷ ns) a m (inl e) = (inl refl, inl e)
 first_least (n ∷ ns) a m (inr h) = (inl refl, inr (All-member (λ k. n < k) m ns a.0 h))

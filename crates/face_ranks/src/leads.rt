@@ -11,8 +11,8 @@ use dcel_records::Records;
 use exact_plane::Point;
 use slab_laws::{CycleKind, DartId, Darts, FaceId, FaceLists, Faced};
 
-// The points that a dart leaves and reaches.
-fn ends_of(records: &Records, d: DartId) -> (Point, Point)
+/// The points that a dart leaves and reaches.
+pub(crate) fn ends_of(records: &Records, d: DartId) -> (Point, Point)
     requires sound { IsGraphSound records.now.graph }
     requires dart { HasDart records.now.graph d }
     ensures source { result.0 ≡ point_in records.now.graph (source_in records.now.graph d) }
@@ -38,7 +38,7 @@ pub(crate) fn is_less(records: &Records, d: DartId, e: DartId) -> bool
 /// (CGAL manual, outer boundary of a face).
 ///
 /// It looks at the cycles of the face up to that one, and goes along this once. It takes no memory.
-pub fn outer_lead(records: &Records, face: FaceId) -> Option<DartId>
+pub(crate) fn outer_lead(records: &Records, face: FaceId) -> Option<DartId>
     requires map { IsSoundMap records.now }
     requires face { HasFace (tables_of records.now) face }
     ensures { IsOuterLead records.now.graph (tables_of records.now) face result }

@@ -1,18 +1,21 @@
-use Rattle.std.proofs.Common.{List, ap, sym, subst, arith}
+use Rattle.std.proofs.Common.{◌≢◌, List, ap, sym, subst, ◌∙◌, arith}
 use Rattle.std.specs.List.{AllByRecursion, IsDistinct}
 use Rattle.std.proofs.lemmas.Map.Keys.{IsDistinct-IsPermutation}
 use Rattle.slab.specs.Slab.{ContainsKey}
-use Rattle.slab_laws.specs.View.{HasFace}
+use Rattle.slab_laws.specs.View.{HasFace, face_id}
 use Rattle.dcel_records.specs.declared.ranks.RankKey.{RankKey}
 use Rattle.dcel_records.specs.RankOrders.{AreRanked}
 use Rattle.dcel_records.specs.StoredRows.{rank_at}
-use Rattle.dcel_records.proofs.Ranked.{all_permuted, sorted_keys, same_face, face_flips, ranked_seen}
+use Rattle.dcel_records.proofs.Ranked.{all_permuted, sorted_keys, same_face, face_flips, rank_seen, ranked_seen}
 use Rattle.dcel_records.proofs.Relinked.{face_key}
 use Rattle.dcel_records.proofs.Reranked.{reranked_sound, reranked_faces}
 use Rattle.dcel_records.proofs.records.Records.rank_in_order.Goals as goal
 
-pub give_ranks-requires : goal.give_ranks-requires
-give_ranks-requires c =
+pub give_ranks-requires-clause-unbounded : goal.give_ranks-requires-clause-unbounded
+give_ranks-requires-clause-unbounded c = c.self.invariant.faces.unbounded
+
+pub give_ranks-requires-clause-keys : goal.give_ranks-requires-clause-keys
+give_ranks-requires-clause-keys c =
     let had = subst (AllByRecursion (λ k. HasFace c.args.self.now.faces.tables k.face)) (sym (ap (λ v. v.ranks.order) c.self.view_is)) c.requires in
     subst (AllByRecursion (λ (k : RankKey). ContainsKey c.self.inside.faces k.face.0)) (sym c.deref.ensures.value)
     (all_permuted _ _ c.self.inside.order.items c.sort_unstable.new.self.items c.sort_unstable.ensures.permutation (λ k h. face_key c.self.inside.vertices c.self.inside.darts c.self.inside.cycles c.self.inside.faces c.self.inside.moved c.self.inside.order.items c.self.inside.vertex_room c.self.inside.cycle_room _ c.self.view_is k.face h) had)
@@ -41,3 +44,9 @@ returns-clause-ranked c d =
 
 pub returns-clause-faces : goal.returns-clause-faces
 returns-clause-faces c = reranked_faces c.self.inside.faces c.give_ranks.new.faces c.give_ranks.ensures.kept c.self.inside.vertices c.self.inside.darts c.self.inside.cycles c.self.inside.moved c.self.inside.order.items c.self.inside.vertex_room c.self.inside.cycle_room _ c.self.view_is c.self.invariant.faces
+
+pub returns-clause-unbounded : goal.returns-clause-unbounded
+returns-clause-unbounded c d =
+    let had = subst (AllByRecursion (λ (k : RankKey). k.face ≢ face_id 0)) (sym (ap (λ v. v.ranks.order) c.self.view_is)) d in
+    let has = all_permuted _ _ c.self.inside.order.items c.sort_unstable.new.self.items c.sort_unstable.ensures.permutation (λ k h. h) had in
+    rank_seen c.give_ranks.new.faces (face_id 0) ∙ c.give_ranks.ensures.unbounded (subst (AllByRecursion (λ (k : RankKey). k.face ≢ face_id 0)) (sym c.deref.ensures.value) has)
