@@ -208,9 +208,11 @@ module _ (v : View) (f : Faces) (s : IsSound v f) where
             let r = of_map (λ (c : CycleKey). c.face) a (filter (λ c. is_outer c.kind) keys) n in
             subst (HasFace f) (sym r.2) (key_face r.0 (of_filter (λ (c : CycleKey). is_outer c.kind) r.0 keys r.1).0)
 
+    pub ranked_face : (a : FaceId) → Member a (ranked_faces f keys) → HasFace f a
+    ranked_face a m = met_has a (of_distinct same_face a met m)
+
     pub ranked_has : (ranks : List FaceId) → ranks ≡ ranked_faces f keys → (k : ℕ) (d : FaceId) → k < length ranks → HasFace f (get_or ranks k d)
-    ranked_has ranks r k d l =
-        met_has (get_or ranks k d) (of_distinct same_face (get_or ranks k d) met (subst (Member (get_or ranks k d)) r (to_member ranks (get_or ranks k d) (Contains-get_or ranks k d l))))
+    ranked_has ranks r k d l = ranked_face (get_or ranks k d) (subst (Member (get_or ranks k d)) r (to_member ranks (get_or ranks k d) (Contains-get_or ranks k d l)))
 
     cells_met : map cell met ≡ face_of (face_labels (skeleton_of v)) first_cell ∷ map (λ c. c.face) (filter (λ c. c.outer) (subdivision (skeleton_of v)).cycles)
     cells_met =

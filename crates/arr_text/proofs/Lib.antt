@@ -9,3 +9,4 @@ pub mod FaceLines
 pub mod Assembly
 pub mod Overlays
 pub mod RecordTexts
+pub mod LayerTexts

@@ -36,6 +36,12 @@ module _ {X Y : Type 0} (cmp : Y → Y → Ordering) (f : X → Y) where
   ascends_back [] a = tt
   ascends_back (x ∷ xs) a = (all_back x xs a.0, ascends_back xs a.1)
 
+-- a dart from the lesser end is one that goes forward
+pub there : (v : View) → IsGraphSound v → (d : DartId) → Member d (forward_darts v) → IsForward v d
+there v s d m =
+    let f = of_filter (λ e. (dart_in v e).forward) d (dart_order v) m in
+    ((darts_are_ordered v d s).1 (from_member (dart_order v) d f.0), f.1)
+
 -- the words of an edge's curves
 abbrev edge_words : Graph → Edge → List (List ℕ)
 edge_words g e = map decimal (curves g e.low e.high)
@@ -79,14 +85,9 @@ module _ (v : View) (h : Curves) (k : DartId → List CurveId) (s : IsGraphSound
       ∙ ap (map decimal) (lists d f ∙ sym (curves_of_darts v h d s c f))
       ∙ sym (ap (edge_words g) (between_forward (point_in v (source_in v d)) (point_in v (target_in v d)) f.1))
 
-  there : (d : DartId) → Member d (forward_darts v) → IsForward v d
-  there d m =
-      let f = of_filter (λ e. (dart_in v e).forward) d (dart_order v) m in
-      ((darts_are_ordered v d s).1 (from_member (dart_order v) d f.0), f.1)
-
   words_are : words_in v k ≡ map (edge_words g) (edges g)
   words_are =
-      map_same (λ d. curve_words (k d)) (λ d. edge_words g (dart_in v d).edge) (forward_darts v) (λ d m. edge_told d (there d m))
+      map_same (λ d. curve_words (k d)) (λ d. edge_words g (dart_in v d).edge) (forward_darts v) (λ d m. edge_told d (there v s d m))
       ∙ sym (map_map (λ d. (dart_in v d).edge) (edge_words g) (forward_darts v))
       ∙ ap (map (edge_words g)) (edges_in_order v s ∙ sym (ap (λ (z : Skeleton). z.edges) drawn))
 

@@ -1,3 +1,4 @@
+pub mod LayerTexts
 pub mod Parts
 pub mod Reading
 pub mod RecordTexts

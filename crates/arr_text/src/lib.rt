@@ -15,5 +15,5 @@ mod vertices;
 mod whole;
 mod words;
 
-pub use laws::records_tell_their_graph;
+pub use laws::{overlay_text_is_the_layers, records_tell_their_graph};
 pub use whole::{overlay_text, text};

@@ -9,9 +9,11 @@ use Rattle.edit_steps.specs.Layer.{empty_layer}
 use Rattle.slab_laws.specs.declared.names.CurveId.{CurveId}
 use Rattle.slab_laws.specs.declared.names.DartId.{DartId}
 use Rattle.slab_laws.specs.Sound.{points_of}
+use Rattle.slab_laws.specs.Text.{graph_text, present_text}
 use Rattle.slab_laws.specs.View.{View, dart_id, point_in, source_in, target_in, twin_in, curve_id}
 use Rattle.arr_notes.specs.ViewChanges.{no_rows}
 use Rattle.arr_notes.specs.Curves.{Curves, is_forward, IsForward}
+use Rattle.arr_notes.specs.CurvedView.{AreListsOf}
 use Rattle.arr_notes.proofs.Names.{numbers_of as numbers}
 use Rattle.arr_notes.specs.RecordGraph.{drawn_graph, marks_along}
 use Rattle.curve_history.specs.Past.{Past, curves_on, SameLayer, SameCurves}
@@ -19,6 +21,8 @@ use Rattle.curve_history.specs.DrawnRecords.{curves_in, forward_of}
 use Rattle.told_steps.specs.RecordLayers.{IsLayer, layer_of}
 use Rattle.told_steps.proofs.Layers.{nothing_is_a_layer}
 use Rattle.plain_slabs.specs.ByName.{numbers_of}
+use Rattle.arr_text.specs.Reading.{text_in}
+use Rattle.arr_text.proofs.RecordTexts.{records_tell_their_graph}
 
 -- ---- nothing
 nothing_pinned : (h : Curves) → (drawn_graph no_rows h).pins ≡ []
@@ -67,6 +71,15 @@ module _ (v : View) (p : Past) (w : View) (q : Past) (e : w ≡ v) (f : q ≡ p)
 
   pub drawn_present : drawn_graph w (numbers_of (curves_in w q)) ≡ graph (layer_of v p).present
   drawn_present = ap₂ (λ z y. drawn_graph z (numbers_of (curves_in z y))) e f ∙ present_drawn v p l
+
+-- ---- the text that both tell
+-- the curves along each edge, as they are read
+read_lists : (v : View) (p : Past) → AreListsOf v (curves_on p) (curves_in v p)
+read_lists v p d f = numbers (curves_on p (forward_of v d)) ∙ ap (λ b. curves_on p (if b then d else twin_in v d)) f.1
+
+pub told_text : (v : View) (p : Past) → IsLayer v p → text_in v (curves_in v p) ≡ present_text (layer_of v p).present
+unfolding present_text
+told_text v p l = records_tell_their_graph v (curves_on p) (curves_in v p) l.sound l.curves (read_lists v p) ∙ ap graph_text l.stands
 
 no_numbers : (ns : List ℕ) → map curve_id ns ≡ [] → ns ≡ []
 no_numbers [] e = refl

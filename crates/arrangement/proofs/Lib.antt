@@ -6,3 +6,4 @@ pub mod Watched
 pub mod Ends
 mod Located
 pub mod PresentsRead
+pub mod OverlayRows

@@ -1,28 +1,19 @@
 -- A layer's present in memory, from the pieces of its history and the pins of its records.
-use Rattle.std.proofs.Common.{◌≡◌, ℕ, ◌+◌, ◌<◌, sym, ap, ap₂, ◌∙◌, List, [], ◌∷◌, ◌++◌, map, length, take, Some, None, inl, inr, arith}
+use Rattle.std.proofs.Common.{◌≡◌, ℕ, ◌+◌, ◌<◌, sym, ap, ◌∙◌, List, [], ◌∷◌, ◌++◌, map, length, take, Some, None, inl, inr, arith}
 use Rattle.std.specs.Prelude.{slice_get}
 use Rattle.std.proofs.lemmas.List.{map-append, take_more}
 use Rattle.std.proofs.lemmas.Option.{get_or_from_slice_get, slice_get_cases, slice_get_within}
 use Rattle.exact_plane.specs.Point.{Point}
-use Rattle.plane_graphs.specs.Fit.{IsFit}
-use Rattle.plane_graphs.specs.Piece.{Piece, Present}
+use Rattle.plane_graphs.specs.Piece.{Piece}
 use Rattle.slab_laws.specs.declared.present.Piece.{Piece as PieceInMemory}
 use Rattle.slab_laws.specs.Pieces.{piece_of, present_of}
 use Rattle.slab_laws.specs.View.{View}
 use Rattle.arr_notes.specs.RecordGraph.{drawn_graph}
-use Rattle.slab_laws.specs.Layers.{rows_of}
-use Rattle.slab_laws.specs.Overlay.{both, overlay}
-use Rattle.slab_laws.specs.OverlayText.{presents_text}
 use Rattle.curve_history.specs.Past.{Past, curves_on}
 use Rattle.record_orders.specs.Keys.{vertex_keys}
 use Rattle.told_steps.specs.RecordLayers.{IsLayer, layer_of}
 use Rattle.plain_slabs.specs.ByName.{points_at, pinned_among}
-use Rattle.plain_slabs.specs.Listed.{subdivision_in, AreLinesOf}
-use Rattle.plain_slabs.specs.OverlayInMemory.{Overlaid, layer_view, graph_of, faces_in}
 use Rattle.plain_slabs.proofs.NamedGraph.{pins_are}
-use Rattle.arr_text.specs.Reading.{overlay_text_in}
-use Rattle.slab_texts.proofs.OverlayTexts.{overlay_text_is_the_layers}
-use Rattle.arrangement.specs.Overlays.{text_of}
 
 -- one more piece is read
 pub one_more : (all : List Piece) (some next : List PieceInMemory) (i : ℕ) (k : PieceInMemory) → map piece_of some ≡ take i all → Some (piece_of k) ≡ slice_get all i → next ≡ some ++ (k ∷ []) → map piece_of next ≡ take (i + 1) all
@@ -45,11 +36,3 @@ pub read : (v : View) (p : Past) → IsLayer v p → (ks : List PieceInMemory) (
 read v p l ks ps e f =
     let pins : ps ≡ (drawn_graph v (curves_on p)).pins = f ∙ pins_are v l.sound (curves_on p) in
     λ i. record { pieces = e i; pins = pins i }
-
--- the text of the overlay of two presents
-pub told : (o : Overlaid) (r b red blue : Present) → IsFit r → IsFit b → subdivision_in o.drawing ≡ overlay r b → o.drawing.graph.pins ≡ (both r b).pins → o.red ≡ rows_of r (overlay r b) → o.blue ≡ rows_of b (overlay r b) → AreLinesOf o.drawing → r ≡ red → b ≡ blue
-    → text_of o ≡ presents_text red blue
-told o r b red blue fit_r fit_b whole pins of_r of_b lines e f =
-    (λ i. overlay_text_in (graph_of o) (faces_in o) (layer_view o.drawing (of_r i)) (layer_view o.drawing (of_b i)))
-    ∙ overlay_text_is_the_layers o.drawing r b fit_r fit_b whole pins lines
-    ∙ ap₂ presents_text e f

@@ -122,14 +122,12 @@ impl Arrangement {
     ///
     /// # Errors
     ///
-    /// There was no memory for the subdivision or for the text.
+    /// There was no memory for the text or for a table on the way.
     pub fn text(&self) -> Result<Vec<u8>, NoMemory>
         ensures { IfOk result (λ bytes. bytes.items ≡ present_text (layer_in (arranged Observer-dyn self.now)).present) }
     {
-        let subdivision = self.subdivide()?;
-        let text = text(self.alloc, &subdivision);
-        drop(subdivision);
-        text
+        let drawn = Drawn::new(&self.layer.records, &self.layer.history);
+        text(self.alloc, &drawn)
     }
 
     /// The curves along the edge between two points, which come in either order; their numbers ascend (CGAL manual,

@@ -1,5 +1,6 @@
 ghost use Rattle.std.specs.Prelude.{◌≡◌, IfOk};
 ghost use Rattle.plane_graphs.specs.Fit.{IsFit};
+ghost use Rattle.plane_graphs.specs.Plane.{IsPlane};
 ghost use Rattle.slab_laws.specs.FacesSound.{IsSound};
 ghost use Rattle.slab_laws.specs.Pieces.{present_of};
 ghost use Rattle.slab_laws.specs.Overlay.{both, overlay};
@@ -23,6 +24,7 @@ fn subdivide_united(alloc: Global, red: &Present, blue: &Present) -> Result<Plai
     ensures subdivision { IfOk result (λ s.
         subdivision_in s ≡ overlay (present_of red.now) (present_of blue.now)) }
     ensures pins { IfOk result (λ s. s.graph.pins ≡ (both (present_of red.now) (present_of blue.now)).pins) }
+    ensures plane { IfOk result (λ s. IsPlane s.graph) }
     ensures lines { IfOk result AreLinesOf }
     ensures stands { IfOk result (λ s. IsSound (view_of s) (faces_of s)) }
 {
@@ -66,6 +68,7 @@ pub fn subdivide_both(alloc: Global, red: &Present, blue: &Present) -> Result<Bo
         b.red ≡ rows_of (present_of red.now) (overlay (present_of red.now) (present_of blue.now))) }
     ensures blue { IfOk result (λ b.
         b.blue ≡ rows_of (present_of blue.now) (overlay (present_of red.now) (present_of blue.now))) }
+    ensures plane { IfOk result (λ b. IsPlane b.drawing.graph) }
     ensures lines { IfOk result (λ b. AreLinesOf b.drawing) }
     ensures stands { IfOk result (λ b. IsSound (view_of b.drawing) (faces_of b.drawing)) }
 {

@@ -16,6 +16,7 @@ returns-in-Ok c = record {
   pins = c.in_ok-plain.ensures.pins;
   red = c.in-Ok.ensures.red ∙ ap (rows_of (present_of c.args.red.now)) c.in_ok-plain.ensures.subdivision;
   blue = c.in-Ok.ensures.blue ∙ ap (rows_of (present_of c.args.blue.now)) c.in_ok-plain.ensures.subdivision;
+  plane = c.in_ok-plain.ensures.plane;
   lines = c.in_ok-plain.ensures.lines;
   stands = c.in_ok-plain.ensures.stands;
 }

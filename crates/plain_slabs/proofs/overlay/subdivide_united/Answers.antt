@@ -2,6 +2,8 @@ use Rattle.std.proofs.Common.{sym, ap, subst, ◌∙◌}
 use Rattle.plane_graphs.specs.Fit.{IsFit}
 use Rattle.plane_graphs.specs.Graph.{Graph, graph}
 use Rattle.plane_graphs.specs.Piece.{Present}
+use Rattle.plane_graphs.specs.Plane.{IsPlane}
+use Rattle.plane_graphs.proofs.Laws.{graph_is_plane}
 use Rattle.slab_laws.specs.Pieces.{present_of}
 use Rattle.slab_laws.specs.Subdivision.{subdivision}
 use Rattle.slab_laws.specs.Text.{skeleton}
@@ -22,3 +24,8 @@ returns-clause-pins c =
     ap (λ (g : Graph). g.pins) c.in_ok-plain.ensures.graph
     ∙ ap (λ (p : Present). (graph p).pins) c.in_ok-present.ensures
     ∙ united_pins (present_of c.args.red.now) (present_of c.args.blue.now)
+
+pub returns-clause-plane : goal.returns-clause-plane
+returns-clause-plane c =
+    let whole = c.in_ok-plain.ensures.graph ∙ ap (λ (p : Present). graph p) c.in_ok-present.ensures in
+    subst IsPlane (sym whole) (graph_is_plane _ (united_fit (present_of c.args.red.now) (present_of c.args.blue.now) c.requires.red c.requires.blue))

@@ -1,11 +1,22 @@
-use Rattle.std.proofs.Common.{ap, ◌∙◌}
-use Rattle.slab_laws.specs.Text.{graph_text, present_text}
-use Rattle.slab_texts.proofs.GraphTexts.{text_is_the_graphs}
+use Rattle.std.proofs.Common.{sym, ap, ap₂, subst, ◌∙◌}
+use Rattle.dcel_records.specs.RecordsView.{RecordsView, tables_of}
+use Rattle.slab_laws.specs.FacesSound.{IsSound}
+use Rattle.slab_laws.specs.Text.{present_text}
+use Rattle.told_steps.specs.RecordLayers.{layer_of}
+use Rattle.told_steps.proofs.Seen.{told_records}
 use Rattle.arrangement.proofs.Ends.{if_ok}
+use Rattle.arrangement.proofs.Layers.{drawn_layer, told_text}
 use Rattle.arrangement.proofs.arrangement.Arrangement.text.Goals as goal
 
+pub new-drawn-requires : goal.new-drawn-requires
+new-drawn-requires g c = told_records _ _ c.self.invariant.0.sound c.self.invariant.0.curves
+
+pub text-requires : goal.text-requires
+text-requires g c = subst (λ (h : RecordsView). IsSound h.graph (tables_of h)) (sym c.new-drawn.ensures.records) c.self.invariant.1.map.sound
+
 pub returns : goal.returns
-unfolding present_text
 returns g c =
-    let d = c.in_ok-subdivision.subdivision in
-    if_ok c.text-text.result _ _ (λ bytes h. h ∙ text_is_the_graphs d c.in_ok-subdivision.ensures.plane ∙ ap graph_text c.in_ok-subdivision.ensures.graph) c.text-text.ensures
+    let d = c.new-drawn.result in
+    let layer = drawn_layer _ _ d.records.graph d.history (ap (λ r. r.graph) c.new-drawn.ensures.records) c.new-drawn.ensures.history c.self.invariant.0 in
+    let same = ap₂ (λ v p. present_text (layer_of v p).present) (ap (λ r. r.graph) c.new-drawn.ensures.records) c.new-drawn.ensures.history in
+    rw (← c.self.view_is) (if_ok c.text.result _ _ (λ bytes h. h ∙ told_text d.records.graph d.history layer ∙ same) c.text.ensures)
