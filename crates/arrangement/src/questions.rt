@@ -3,11 +3,8 @@ ghost use Rattle.std.specs.List.{count_by};
 ghost use Rattle.exact_plane.specs.Point.{Point};
 ghost use Rattle.plane_graphs.specs.Ascending.{Member, IsAscending};
 ghost use Rattle.plane_graphs.specs.Graph.{graph, edges, curves, edge_cmp};
-ghost use Rattle.plane_graphs.specs.Plane.{IsPlane};
 ghost use Rattle.slab_laws.specs.Subdivision.{holds};
 ghost use Rattle.slab_laws.specs.Text.{present_text};
-ghost use Rattle.plain_slabs.specs.Listed.{subdivision_in, view_of, faces_of, AreLinesOf};
-ghost use Rattle.slab_laws.specs.FacesSound.{IsSound};
 ghost use Rattle.arrangement.specs.Arranged.{arranged, layer_in, subdivision_by};
 ghost use Rattle.arrangement.specs.Questions.{curves_between, IsNoEdge, AreEdgesOf, TakesMemory};
 
@@ -18,10 +15,8 @@ use arr_text::text;
 use curve_history::{Drawn, HistoryError};
 use dcel_records::Spot;
 use exact_plane::Point;
-use face_ranks::rank_by_count;
 use locate_naive::edge_dart;
 use no_memory::NoMemory;
-use plain_slabs::{Plain, subdivide_of};
 use slab_laws::{Cell, CurveId, DartId, Darts, Strategy};
 use thiserror::Error;
 
@@ -61,21 +56,10 @@ impl From<NoMemory> for EdgeError {
 }
 
 impl Arrangement {
-    // The subdivision of the plane by the present segments and points, built afresh.
-    fn subdivide(&self) -> Result<Plain, NoMemory>
-        ensures graph { IfOk result (λ s. s.graph ≡ graph (layer_in (arranged Observer-dyn self.now)).present) }
-        ensures subdivision { IfOk result (λ s. subdivision_in s ≡ subdivision_by (arranged Observer-dyn self.now)) }
-        ensures plane { IfOk result (λ s. IsPlane s.graph) }
-        ensures lines { IfOk result AreLinesOf }
-        ensures stands { IfOk result (λ s. IsSound (view_of s) (faces_of s)) }
-    {
-        let drawn = Drawn::new(&self.layer.records, &self.layer.history);
-        subdivide_of(self.alloc, &drawn)
-    }
-
     /// Where a point lies: at a vertex, on an edge, or in a face, told by its rank (CGAL manual, point location).
     ///
     /// The answer is the same under every strategy. Naive and walking location take no memory; the other two may come to ask for some.
+    /// Of a point in a face, the first question after an edit ranks all faces, and the next ones look the rank up.
     ///
     /// # Errors
     ///
@@ -88,12 +72,11 @@ impl Arrangement {
         ensures same { self.new ≡ self.old }
     {
         p.laws();
-        let records = &self.layer.records;
-        Ok(match spot_by(strategy, records, p) {
-            Spot::Vertex(_) => Cell::Vertex(*p),
-            Spot::Edge(dart) => edge_cell(records, dart),
-            Spot::Face(face) => Cell::Face(rank_by_count(records, face)),
-        })
+        match spot_by(strategy, &self.layer.records, p) {
+            Spot::Vertex(_) => Ok(Cell::Vertex(*p)),
+            Spot::Edge(dart) => Ok(edge_cell(&self.layer.records, dart)),
+            Spot::Face(face) => Ok(Cell::Face(self.layer.rank_of(face))),
+        }
     }
 
     /// How many vertices, edges, faces, inner cycles, isolated vertices and named curves there are. Each number is kept, or comes from

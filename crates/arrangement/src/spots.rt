@@ -1,4 +1,4 @@
-ghost use Rattle.std.specs.Prelude.{◌≡◌};
+ghost use Rattle.std.specs.Prelude.{◌≡◌, ◌<◌};
 ghost use Rattle.slab_laws.specs.declared.cell.Cell.TheVariants.{Edge as OnEdge};
 ghost use Rattle.slab_laws.specs.Sound.{IsGraphSound};
 ghost use Rattle.slab_laws.specs.View.{HasDart, point_in, source_in, target_in};
@@ -6,11 +6,35 @@ ghost use Rattle.dcel_records.specs.RecordsView.{tables_of};
 ghost use Rattle.dcel_records.specs.SoundMaps.{IsSoundMap};
 ghost use Rattle.face_location.specs.Spots.{IsSpotOf};
 
+use counted_looks::Glance;
 use dcel_records::{Records, Spot};
 use exact_plane::Point;
 use locate_naive::locate as look_at_all;
-use locate_walk::locate as walk_along_vertical;
+use locate_walk::locate as walk_up;
 use slab_laws::{Cell, DartId, Darts, Strategy};
+use std::marker::Brand;
+use std::sync::ledger::{Blank, Ledger};
+use work_steps::Steps;
+
+// The walk, with a counter of its own.
+fn walk_counted<L: Ledger>(blank: Blank, records: &Records, p: &Point) -> Spot
+    requires name { blank.name ≡ L.name }
+    requires parts { blank.parts ≡ L.parts }
+    requires some { 0 < L.parts }
+    requires map { IsSoundMap records.now }
+    ensures { IsSpotOf records.now.graph (tables_of records.now) p.now result }
+{
+    let mut steps = Steps::<L>::new(blank);
+    walk_up(&Glance::of(records), p, &mut steps)
+}
+
+/// Where a point lies in the records, by a walk up to it from face to face. It takes no memory.
+pub(crate) fn walk_to(records: &Records, p: &Point) -> Spot
+    requires { IsSoundMap records.now }
+    ensures { IsSpotOf records.now.graph (tables_of records.now) p.now result }
+{
+    walk_counted::<Brand>(Blank::new(1), records, p)
+}
 
 /// Where a point lies in the records: the vertex at it, the edge that has it inside, or the face that it lies in, found by the strategy.
 ///
@@ -20,7 +44,7 @@ pub(crate) fn spot_by(strategy: Strategy, records: &Records, p: &Point) -> Spot
     ensures { IsSpotOf records.now.graph (tables_of records.now) p.now result }
 {
     match strategy {
-        Strategy::Walk => walk_along_vertical(records, p),
+        Strategy::Walk => walk_to(records, p),
         Strategy::Naive | Strategy::Landmarks | Strategy::Trapezoid => look_at_all(records, p),
     }
 }
