@@ -2,3 +2,4 @@ pub mod Compared
 pub mod Finds
 pub mod Takes
 pub mod Rounds
+pub mod Examples

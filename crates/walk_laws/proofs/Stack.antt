@@ -9,7 +9,7 @@ use Rattle.plane_graphs.specs.Graph.{Edge}
 use Rattle.slab_laws.specs.Cycles.{left_of_dart}
 use Rattle.slab_laws.specs.Darts.{cell_by, ahead, back}
 use Rattle.slab_laws.specs.Meets.{SameFace, here}
-use Rattle.slab_laws.specs.Skeleton.{Skeleton, HasWeight, left_of, lower_than, over, under, below, IsPlaneSkeleton}
+use Rattle.slab_laws.specs.Skeleton.{Skeleton, HasWeight, left_of, lower_than, under, IsPlaneSkeleton}
 use Rattle.slab_laws.specs.Slabs.{spans, place, slab_right, right_below, right_bottom, reaches_right, forward_cell, backward_cell}
 use Rattle.slab_laws.specs.Subdivision.{first_cell}
 use Rattle.slab_faces.proofs.Walls.{over-lower, side-lower}
