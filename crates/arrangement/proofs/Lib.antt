@@ -1,3 +1,5 @@
+pub mod OneToOne
+pub mod CellsCounted
 pub mod Layers
 pub mod Edits
 pub mod Watched

@@ -22,10 +22,10 @@ ghost use Rattle.arrangement.specs.Edited.{IsEdited, IsAsBefore};
 
 use crate::layer_records::LayerRecords;
 use crate::limits::Limits;
+use crate::spots::walk_to;
 use curve_history::History;
 use dcel_records::Records;
 use exact_plane::{Point, Segment};
-use locate_naive::locate;
 use no_memory::NoMemory;
 use observer_bus::Bus;
 use pin_points::{
@@ -57,7 +57,11 @@ fn empty_records(alloc: Global, first: u32) -> Result<LayerRecords, NoMemory>
 {
     let records = Records::new(alloc)?;
     let history = History::new(alloc, first).unwrap();
-    Ok(LayerRecords { records, history })
+    Ok(LayerRecords {
+        records,
+        history,
+        ranked: false,
+    })
 }
 
 impl Arrangement {
@@ -102,7 +106,8 @@ impl Arrangement {
         ensures limits { (arranged Observer-dyn self.new).limits ≡ (arranged Observer-dyn self.old).limits }
         ensures watched { IsWatched (arranged Observer-dyn self.new) }
     {
-        let start = locate(&self.layer.records, &segment.lower());
+        let start = walk_to(&self.layer.records, &segment.lower());
+        self.layer.ranked = false;
         insert(
             self.alloc,
             &mut self.layer.records,
@@ -129,6 +134,7 @@ impl Arrangement {
         ensures limits { (arranged Observer-dyn self.new).limits ≡ (arranged Observer-dyn self.old).limits }
         ensures watched { IsWatched (arranged Observer-dyn self.new) }
     {
+        self.layer.ranked = false;
         remove_curve(
             self.alloc,
             &mut self.layer.records,
@@ -152,6 +158,7 @@ impl Arrangement {
         ensures limits { (arranged Observer-dyn self.new).limits ≡ (arranged Observer-dyn self.old).limits }
         ensures watched { IsWatched (arranged Observer-dyn self.new) }
     {
+        self.layer.ranked = false;
         remove_edge(
             self.alloc,
             &mut self.layer.records,
@@ -176,7 +183,8 @@ impl Arrangement {
         ensures limits { (arranged Observer-dyn self.new).limits ≡ (arranged Observer-dyn self.old).limits }
         ensures watched { IsWatched (arranged Observer-dyn self.new) }
     {
-        let at = locate(&self.layer.records, p);
+        let at = walk_to(&self.layer.records, p);
+        self.layer.ranked = false;
         pin(
             self.alloc,
             &mut self.layer.records,
@@ -201,6 +209,7 @@ impl Arrangement {
         ensures limits { (arranged Observer-dyn self.new).limits ≡ (arranged Observer-dyn self.old).limits }
         ensures watched { IsWatched (arranged Observer-dyn self.new) }
     {
+        self.layer.ranked = false;
         unpin(
             self.alloc,
             &mut self.layer.records,
@@ -224,6 +233,7 @@ impl Arrangement {
         ensures limits { (arranged Observer-dyn self.new).limits ≡ (arranged Observer-dyn self.old).limits }
         ensures watched { IsWatched (arranged Observer-dyn self.new) }
     {
+        self.layer.ranked = false;
         split_edge(
             self.alloc,
             &mut self.layer.records,
@@ -250,6 +260,7 @@ impl Arrangement {
         ensures limits { (arranged Observer-dyn self.new).limits ≡ (arranged Observer-dyn self.old).limits }
         ensures watched { IsWatched (arranged Observer-dyn self.new) }
     {
+        self.layer.ranked = false;
         merge_edge(
             self.alloc,
             &mut self.layer.records,
@@ -267,6 +278,7 @@ impl Arrangement {
         ensures limits { (arranged Observer-dyn self.new).limits ≡ (arranged Observer-dyn self.old).limits }
         ensures watched { IsWatched (arranged Observer-dyn self.new) }
     {
+        self.layer.ranked = false;
         clear(
             self.alloc,
             &mut self.layer.records,

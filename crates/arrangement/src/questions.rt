@@ -3,14 +3,10 @@ ghost use Rattle.std.specs.List.{count_by};
 ghost use Rattle.exact_plane.specs.Point.{Point};
 ghost use Rattle.plane_graphs.specs.Ascending.{Member, IsAscending};
 ghost use Rattle.plane_graphs.specs.Graph.{graph, edges, curves, edge_cmp};
-ghost use Rattle.plane_graphs.specs.Plane.{IsPlane};
 ghost use Rattle.slab_laws.specs.Subdivision.{holds};
 ghost use Rattle.slab_laws.specs.Text.{present_text};
-ghost use Rattle.dcel_records.specs.Spots.{IsInFace};
-ghost use Rattle.plain_slabs.specs.Listed.{subdivision_in, view_of, faces_of, AreLinesOf};
-ghost use Rattle.slab_laws.specs.FacesSound.{IsSound};
 ghost use Rattle.arrangement.specs.Arranged.{arranged, layer_in, subdivision_by};
-ghost use Rattle.arrangement.specs.Questions.{curves_between, IsNoEdge, AreEdgesOf};
+ghost use Rattle.arrangement.specs.Questions.{curves_between, IsNoEdge, AreEdgesOf, TakesMemory};
 
 use crate::arrangement::Arrangement;
 use crate::edges::ends_in_order;
@@ -21,7 +17,6 @@ use dcel_records::Spot;
 use exact_plane::Point;
 use locate_naive::edge_dart;
 use no_memory::NoMemory;
-use plain_slabs::{Plain, count, hold, subdivide_of};
 use slab_laws::{Cell, CurveId, DartId, Darts, Strategy};
 use thiserror::Error;
 
@@ -61,71 +56,49 @@ impl From<NoMemory> for EdgeError {
 }
 
 impl Arrangement {
-    // The subdivision of the plane by the present segments and points, built afresh.
-    fn subdivide(&self) -> Result<Plain, NoMemory>
-        ensures graph { IfOk result (λ s. s.graph ≡ graph (layer_in (arranged Observer-dyn self.now)).present) }
-        ensures subdivision { IfOk result (λ s. subdivision_in s ≡ subdivision_by (arranged Observer-dyn self.now)) }
-        ensures plane { IfOk result (λ s. IsPlane s.graph) }
-        ensures lines { IfOk result AreLinesOf }
-        ensures stands { IfOk result (λ s. IsSound (view_of s) (faces_of s)) }
-    {
-        let drawn = Drawn::new(&self.layer.records, &self.layer.history);
-        subdivide_of(self.alloc, &drawn)
-    }
-
     /// Where a point lies: at a vertex, on an edge, or in a face, told by its rank (CGAL manual, point location).
     ///
-    /// The answer is the same under every strategy. At a vertex or on an edge it takes no memory; the face of any other point
-    /// comes from the subdivision, which is built afresh.
+    /// The answer is the same under every strategy. Naive and walking location take no memory; the other two may come to ask for some.
+    /// Of a point in a face, the first question after an edit ranks all faces, and the next ones look the rank up.
     ///
     /// # Errors
     ///
-    /// The point lies in a face, and there was no memory for the subdivision.
+    /// There was no memory, under landmarks or the trapezoidal map.
     // The premise that always holds: other crates' checks take a call without any that has a box under `&mut` for one that makes boxes.
     pub fn locate(&mut self, strategy: Strategy, p: &Point) -> Result<Cell, NoMemory>
         requires always { ⊤ }
         ensures cell { IfOk result (λ c. c ≡ holds (subdivision_by (arranged Observer-dyn self.old)) p.now) }
-        ensures no_memory { OnErr result (IsInFace (arranged Observer-dyn self.old).graph p.now) }
+        ensures no_memory { OnErr result (TakesMemory strategy) }
         ensures same { self.new ≡ self.old }
     {
         p.laws();
         match spot_by(strategy, &self.layer.records, p) {
             Spot::Vertex(_) => Ok(Cell::Vertex(*p)),
             Spot::Edge(dart) => Ok(edge_cell(&self.layer.records, dart)),
-            Spot::Face(_) => {
-                let subdivision = self.subdivide()?;
-                let cell = hold(&subdivision, p);
-                // A call drops the subdivision, here and below: what a scope drops at its end is proved there anew, in all its parts.
-                drop(subdivision);
-                Ok(cell)
-            }
+            Spot::Face(face) => Ok(Cell::Face(self.layer.rank_of(face))),
         }
     }
 
-    /// How many vertices, edges, faces, inner cycles, isolated vertices and named curves there are.
-    ///
-    /// # Errors
-    ///
-    /// There was no memory for the subdivision.
-    pub fn counts(&self) -> Result<Counts, NoMemory>
-        ensures vertices { IfOk result (λ c. c.vertices ≡ length (subdivision_by (arranged Observer-dyn self.now)).graph.vertices) }
-        ensures edges { IfOk result (λ c. c.edges ≡ length (subdivision_by (arranged Observer-dyn self.now)).graph.edges) }
-        ensures faces { IfOk result (λ c. c.faces ≡ length (subdivision_by (arranged Observer-dyn self.now)).faces) }
-        ensures inner { IfOk result (λ c. c.inner ≡ count_by (λ k. not k.outer) (subdivision_by (arranged Observer-dyn self.now)).cycles) }
-        ensures isolated { IfOk result (λ c. c.isolated ≡ length (subdivision_by (arranged Observer-dyn self.now)).bare) }
-        ensures curves { IfOk result (λ c. c.curves ≡ length (layer_in (arranged Observer-dyn self.now)).names) }
+    /// How many vertices, edges, faces, inner cycles, isolated vertices and named curves there are. Each number is kept, or comes from
+    /// such numbers, so it takes constant time, and no memory.
+    pub fn counts(&self) -> Counts
+        ensures vertices { result.vertices ≡ length (subdivision_by (arranged Observer-dyn self.now)).graph.vertices }
+        ensures edges { result.edges ≡ length (subdivision_by (arranged Observer-dyn self.now)).graph.edges }
+        ensures faces { result.faces ≡ length (subdivision_by (arranged Observer-dyn self.now)).faces }
+        ensures inner { result.inner ≡ count_by (λ k. not k.outer) (subdivision_by (arranged Observer-dyn self.now)).cycles }
+        ensures isolated { result.isolated ≡ length (subdivision_by (arranged Observer-dyn self.now)).bare }
+        ensures curves { result.curves ≡ length (layer_in (arranged Observer-dyn self.now)).names }
     {
-        let subdivision = self.subdivide()?;
-        let cells = count(&subdivision);
-        drop(subdivision);
-        Ok(Counts {
-            vertices: cells.vertices,
-            edges: cells.edges,
-            faces: cells.faces,
-            inner: cells.inner,
-            isolated: cells.isolated,
+        let rows = self.layer.records.counts();
+        Counts {
+            vertices: rows.vertices,
+            edges: rows.darts / 2,
+            faces: rows.faces,
+            // Each face but the unbounded one has one outer cycle.
+            inner: rows.cycles - (rows.faces - 1),
+            isolated: rows.isolated,
             curves: self.layer.history.named(),
-        })
+        }
     }
 
     /// The text of the subdivision.

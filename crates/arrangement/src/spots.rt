@@ -10,13 +10,14 @@ use counted_looks::Glance;
 use dcel_records::{Records, Spot};
 use exact_plane::Point;
 use locate_naive::locate as look_at_all;
+use locate_walk::locate as walk_up;
 use slab_laws::{Cell, DartId, Darts, Strategy};
 use std::marker::Brand;
 use std::sync::ledger::{Blank, Ledger};
 use work_steps::Steps;
 
-// Where a point lies, by the walk up to it, which counts its looks for itself.
-fn walk_up<L: Ledger>(blank: Blank, records: &Records, p: &Point) -> Spot
+// The walk, with a counter of its own.
+fn walk_counted<L: Ledger>(blank: Blank, records: &Records, p: &Point) -> Spot
     requires name { blank.name ≡ L.name }
     requires parts { blank.parts ≡ L.parts }
     requires some { 0 < L.parts }
@@ -24,7 +25,15 @@ fn walk_up<L: Ledger>(blank: Blank, records: &Records, p: &Point) -> Spot
     ensures { IsSpotOf records.now.graph (tables_of records.now) p.now result }
 {
     let mut steps = Steps::<L>::new(blank);
-    locate_walk::locate(&Glance::of(records), p, &mut steps)
+    walk_up(&Glance::of(records), p, &mut steps)
+}
+
+/// Where a point lies in the records, by a walk up to it from face to face. It takes no memory.
+pub(crate) fn walk_to(records: &Records, p: &Point) -> Spot
+    requires { IsSoundMap records.now }
+    ensures { IsSpotOf records.now.graph (tables_of records.now) p.now result }
+{
+    walk_counted::<Brand>(Blank::new(1), records, p)
 }
 
 /// Where a point lies in the records: the vertex at it, the edge that has it inside, or the face that it lies in, found by the strategy.
@@ -35,7 +44,7 @@ pub(crate) fn spot_by(strategy: Strategy, records: &Records, p: &Point) -> Spot
     ensures { IsSpotOf records.now.graph (tables_of records.now) p.now result }
 {
     match strategy {
-        Strategy::Walk => walk_up::<Brand>(Blank::new(1), records, p),
+        Strategy::Walk => walk_to(records, p),
         Strategy::Naive | Strategy::Landmarks | Strategy::Trapezoid => look_at_all(records, p),
     }
 }

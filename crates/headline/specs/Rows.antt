@@ -2,6 +2,7 @@
 use Rattle.std.specs.Prelude.{◌≡◌, ◌⊎◌, ◌+◌, ◌^◌, ℕ, List, [], length, take, Option, Some, IfSome}
 use Rattle.outside.specs.Bytes.{Gains, GainsPrefix}
 use Rattle.outside.specs.Counts.{Rose}
+use Rattle.slab_laws.specs.declared.names.Strategy.{Strategy}
 use Rattle.script_maker.specs.Script.{script}
 use Rattle.planar_run.specs.Clauses.{Used, UsedAndWritten}
 use Rattle.planar_run.specs.Lines.{lines, ended_lines}
@@ -15,32 +16,32 @@ use Rattle.planar_run.specs.declared.status.Status.TheVariants.{Done, Usage, Rea
 abbrev pub script_limit : ℕ
 script_limit = 2 ^ 26
 
--- ---- the script of the source, where all these observers wait before its first line
+-- ---- the script of the source, where points are located so, and all these observers wait before its first line
 -- nothing of the script is left, and what was written is a run of its lines
-pub record IsDone (observers : List Waiting) (left left' taken taken' : Option (List ℕ)) : Type 0 where
+pub record IsDone (strategy : Strategy) (observers : List Waiting) (left left' taken taken' : Option (List ℕ)) : Type 0 where
   pub rest : IfSome left (λ script. left' ≡ Some [])
-  pub out : UsedAndWritten left left' taken taken' (λ used out. IsRun observers (lines used) out)
+  pub out : UsedAndWritten left left' taken taken' (λ used out. IsRun (first_world strategy observers) (lines used) out)
 
 -- what was written is a run of the lines whose end was read
-pub record IsReadFault (observers : List Waiting) (left left' taken taken' : Option (List ℕ)) : Type 0 where
-  pub out : UsedAndWritten left left' taken taken' (λ used out. IsRun observers (ended_lines used) out)
+pub record IsReadFault (strategy : Strategy) (observers : List Waiting) (left left' taken taken' : Option (List ℕ)) : Type 0 where
+  pub out : UsedAndWritten left left' taken taken' (λ used out. IsRun (first_world strategy observers) (ended_lines used) out)
 
 -- one byte past the limit was read, and what was written is a run of the lines that end within it
-pub record IsTooLong (observers : List Waiting) (left left' taken taken' : Option (List ℕ)) : Type 0 where
+pub record IsTooLong (strategy : Strategy) (observers : List Waiting) (left left' taken taken' : Option (List ℕ)) : Type 0 where
   pub used : Used left left' (λ used. length used ≡ script_limit + 1)
-  pub out : UsedAndWritten left left' taken taken' (λ used out. IsRun observers (ended_lines (take script_limit used)) out)
+  pub out : UsedAndWritten left left' taken taken' (λ used out. IsRun (first_world strategy observers) (ended_lines (take script_limit used)) out)
 
 -- what was written begins a run of the lines of what was read
-pub record IsWriteFault (observers : List Waiting) (left left' taken taken' : Option (List ℕ)) : Type 0 where
-  pub out : UsedAndWritten left left' taken taken' (λ used out. BeginsRun observers (lines used) out)
+pub record IsWriteFault (strategy : Strategy) (observers : List Waiting) (left left' taken taken' : Option (List ℕ)) : Type 0 where
+  pub out : UsedAndWritten left left' taken taken' (λ used out. BeginsRun (first_world strategy observers) (lines used) out)
 
--- ---- a made script of so many segments and this seed
-module _ (observers : List Waiting) (segments seed : ℕ) where
+-- ---- a made script of so many segments and this seed, run so
+module _ (strategy : Strategy) (observers : List Waiting) (segments seed : ℕ) where
   -- the last reply of a run of its lines, none of whose replies is `no memory`; or `no memory`, where one of its lines is answered so, and none before it
   abbrev pub IsMadeReply : List ℕ → Type 0
   IsMadeReply out =
-      EndWith (first_world observers) [] (script segments seed) out
-      ⊎ (RunOutOfMemory (first_world observers) (script segments seed) × (out ≡ no_memory_reply))
+      EndWith (first_world strategy observers) [] (script segments seed) out
+      ⊎ (RunOutOfMemory (first_world strategy observers) (script segments seed) × (out ≡ no_memory_reply))
 
   -- this reply was written, or a part of it, from its front
   abbrev pub WritesMadeReply : Option (List ℕ) → Option (List ℕ) → Type 0

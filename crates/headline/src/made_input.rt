@@ -1,5 +1,5 @@
 ghost use Rattle.std.specs.Prelude.{◌≡◌, ◌⊎◌, ℕ, map, string_bytes};
-ghost use Rattle.planar_run.specs.Made.{AskForMade};
+ghost use Rattle.planar_run.specs.Made.{AskForMade, LocateBy};
 ghost use Rattle.planar_run.specs.Rows.{waiting_rows};
 ghost use Rattle.headline.specs.Rows.{WritesMadeReply, WritesPartOfMadeReply};
 
@@ -21,11 +21,13 @@ pub fn made<S: Source, K: Sink>(
     ensures unread { (segments seed : ℕ) → AskForMade (map string_bytes words.now) segments seed →
         source.new ≡ source.old }
     ensures done { (segments seed : ℕ) → AskForMade (map string_bytes words.now) segments seed →
-        result ≡ Status.Done → WritesMadeReply (waiting_rows Observer-dyn observers.items) segments seed
-        (K.taken sink.old) (K.taken sink.new) }
+        result ≡ Status.Done → LocateBy (map string_bytes words.now) (λ strategy.
+        WritesMadeReply strategy (waiting_rows Observer-dyn observers.items) segments seed
+        (K.taken sink.old) (K.taken sink.new)) }
     ensures broken { (segments seed : ℕ) → AskForMade (map string_bytes words.now) segments seed →
-        result ≡ Status.WriteFault → WritesPartOfMadeReply (waiting_rows Observer-dyn observers.items) segments seed
-        (K.taken sink.old) (K.taken sink.new) }
+        result ≡ Status.WriteFault → LocateBy (map string_bytes words.now) (λ strategy.
+        WritesPartOfMadeReply strategy (waiting_rows Observer-dyn observers.items) segments seed
+        (K.taken sink.old) (K.taken sink.new)) }
 {
     planar(alloc, words, source, sink, observers)
 }

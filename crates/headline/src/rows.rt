@@ -1,7 +1,7 @@
 ghost use Rattle.std.specs.Prelude.{◌≡◌, ◌≢◌, ◌≤◌, length, map, string_bytes};
 ghost use Rattle.outside.specs.Bytes.{Gains, GainsPrefix};
 ghost use Rattle.words_in.specs.Grammar.{AreInGrammar, AreOutside};
-ghost use Rattle.planar_run.specs.Made.{AskForScript};
+ghost use Rattle.planar_run.specs.Made.{AskForScript, LocateBy};
 ghost use Rattle.planar_run.specs.Rows.{waiting_rows};
 ghost use Rattle.planar_run.specs.Clauses.{usage_line, Used};
 ghost use Rattle.headline.specs.Rows.{script_limit, IsDone, IsReadFault, IsTooLong, IsWriteFault};
@@ -21,8 +21,9 @@ pub fn done<S: Source, K: Sink>(
 ) -> Status
     ensures known { result ≡ Status.Done → AreInGrammar (map string_bytes words.now) }
     ensures done { AskForScript (map string_bytes words.now) → result ≡ Status.Done →
-        IsDone (waiting_rows Observer-dyn observers.items)
-        (S.left source.old) (S.left source.new) (K.taken sink.old) (K.taken sink.new) }
+        LocateBy (map string_bytes words.now) (λ strategy.
+        IsDone strategy (waiting_rows Observer-dyn observers.items)
+        (S.left source.old) (S.left source.new) (K.taken sink.old) (K.taken sink.new)) }
 {
     planar(alloc, words, source, sink, observers)
 }
@@ -36,8 +37,9 @@ pub fn read_fault<S: Source, K: Sink>(
     observers: Vec<Box<dyn Observer>>,
 ) -> Status
     ensures { result ≡ Status.ReadFault →
-        IsReadFault (waiting_rows Observer-dyn observers.items)
-        (S.left source.old) (S.left source.new) (K.taken sink.old) (K.taken sink.new) }
+        LocateBy (map string_bytes words.now) (λ strategy.
+        IsReadFault strategy (waiting_rows Observer-dyn observers.items)
+        (S.left source.old) (S.left source.new) (K.taken sink.old) (K.taken sink.new)) }
 {
     planar(alloc, words, source, sink, observers)
 }
@@ -52,8 +54,9 @@ pub fn too_long<S: Source, K: Sink>(
     observers: Vec<Box<dyn Observer>>,
 ) -> Status
     ensures too_long { result ≡ Status.TooLong →
-        IsTooLong (waiting_rows Observer-dyn observers.items)
-        (S.left source.old) (S.left source.new) (K.taken sink.old) (K.taken sink.new) }
+        LocateBy (map string_bytes words.now) (λ strategy.
+        IsTooLong strategy (waiting_rows Observer-dyn observers.items)
+        (S.left source.old) (S.left source.new) (K.taken sink.old) (K.taken sink.new)) }
     ensures within { result ≢ Status.TooLong →
         Used (S.left source.old) (S.left source.new) (λ used. length used ≤ script_limit) }
 {
@@ -69,8 +72,9 @@ pub fn write_fault<S: Source, K: Sink>(
     observers: Vec<Box<dyn Observer>>,
 ) -> Status
     ensures script { AskForScript (map string_bytes words.now) → result ≡ Status.WriteFault →
-        IsWriteFault (waiting_rows Observer-dyn observers.items)
-        (S.left source.old) (S.left source.new) (K.taken sink.old) (K.taken sink.new) }
+        LocateBy (map string_bytes words.now) (λ strategy.
+        IsWriteFault strategy (waiting_rows Observer-dyn observers.items)
+        (S.left source.old) (S.left source.new) (K.taken sink.old) (K.taken sink.new)) }
     ensures usage { AreOutside (map string_bytes words.now) → result ≡ Status.WriteFault →
         GainsPrefix (K.taken sink.old) (K.taken sink.new) usage_line }
 {

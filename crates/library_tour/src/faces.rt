@@ -29,7 +29,7 @@ fn put_sides(
     map: &Arrangement,
     edge: &Segment,
 ) -> Result<(), NoMemory> {
-    let darts = map.counts()?.edges.saturating_mul(2);
+    let darts = map.counts().edges.saturating_mul(2);
     // The walk asks for sound records, which those of all arrangements are.
     map.laws();
     let records = map.records();

@@ -4,6 +4,7 @@ use Rattle.std.specs.Prelude.{is_some, if◌then◌else◌}
 use Rattle.std.proofs.lemmas.Bool.Decides.{nat_tests}
 use Rattle.std.proofs.lemmas.List.{get_or-map, length-map, length-set, map-set, set-get_or}
 use Rattle.arr_notes.specs.CurvedView.{CurvedView}
+use Rattle.slab_laws.specs.declared.names.Strategy.{Strategy}
 use Rattle.observer_bus.specs.Calls.{attach_refusal as bus_refusal, attach_said, has_name, IsAttached}
 use Rattle.observer_bus.specs.Seats.{SeatRow}
 use Rattle.observer_bus.specs.declared.errors.AttachError.{AttachError}
@@ -74,9 +75,9 @@ not_above h false e t = refl
 pub same_waiting : (v w : Waiting) → (v.tells ≡ w.tells) × (v.left ≡ w.left) → v ≡ w
 same_waiting v w e = λ i. record { tells = e.0 i; left = e.1 i }
 
-module _ {B : Type 0} (f : B → Waiting) (n : ℕ) (a o : Arranged) (blue : Bool) (places : List (Option B)) where
+module _ {B : Type 0} (f : B → Waiting) (n : ℕ) (a o : Arranged) (how : Strategy) (blue : Bool) (places : List (Option B)) where
   abbrev before : World
-  before = built a (half_in o) blue (map (option_map f) places)
+  before = built a (half_in o) how blue (map (option_map f) places)
 
   waits : (b : Option B) → n - 1 < length places → get_or places (n - 1) None ≡ b → waiting_as n before ≡ option_map f b
   waits b within e = get_or-map (option_map f) places (n - 1) None None within ∙ ap (option_map f) e
@@ -102,8 +103,8 @@ module _ {B : Type 0} (f : B → Waiting) (n : ℕ) (a o : Arranged) (blue : Boo
     still_within left e = rw (e, length-set) within
 
     -- what is taken from the place of nobody
-    pub nobody_taken : (left : List (Option B)) → get_or places (n - 1) None ≡ None → left ≡ set places (n - 1) None → built a (half_in o) blue (map (option_map f) left) ≡ before
-    nobody_taken left none e = ap (λ xs. built a (half_in o) blue (map (option_map f) xs)) (e ∙ ap (set places (n - 1)) (sym none) ∙ set-get_or places (n - 1) None)
+    pub nobody_taken : (left : List (Option B)) → get_or places (n - 1) None ≡ None → left ≡ set places (n - 1) None → built a (half_in o) how blue (map (option_map f) left) ≡ before
+    nobody_taken left none e = ap (λ xs. built a (half_in o) how blue (map (option_map f) xs)) (e ∙ ap (set places (n - 1)) (sym none) ∙ set-get_or places (n - 1) None)
 
     pub gone_refused : has_name n o.bus.seats ≡ false → get_or places (n - 1) None ≡ None → has_name n a.bus.seats ≡ false → attach_refusal n before ≡ Some 14
     gone_refused other e h = reason false false (ap is_some (waits None within e)) other ∙ ap (λ b. by_tests false false b (length a.bus.seats == 8)) h
@@ -123,11 +124,11 @@ module _ {B : Type 0} (f : B → Waiting) (n : ℕ) (a o : Arranged) (blue : Boo
 
       -- the newcomer has left its place
       pub newly_attached : (v : CurvedView) (s : SeatRow) (when : Option ℕ) (b : Arranged) (left : List (Option B)) → s.name ≡ n → s.join ≡ when → s.leave ≡ None → f one_waits ≡ record { tells = s.tells; left = s.left } →
-          IsAttached v s a.bus b.bus → IsSameLayer a b → left ≡ set places (n - 1) None → built b (half_in o) blue (map (option_map f) left) ≡ attached n when before
+          IsAttached v s a.bus b.bus → IsSameLayer a b → left ≡ set places (n - 1) None → built b (half_in o) how blue (map (option_map f) left) ≡ attached n when before
       newly_attached v s when b left sn sj sl fo h l e =
           let seats : map seat_row b.bus.seats ≡ map seat_row a.bus.seats ++ newcomer n when (f one_waits) ∷ [] = rw fo (attached_rows v s a.bus b.bus h n when sn sj sl) in
           let places' : map (option_map f) left ≡ set (map (option_map f) places) (n - 1) None = ap (map (option_map f)) e ∙ map-set (option_map f) places (n - 1) None in
-          (λ i. record { layer = same_layer a b l i; seats = seats i; waiting = places' i; other = half_in o; is_blue = blue }) ∙ ap (λ w. with_newcomer n when w before) (sym (waits (Some one_waits) within waited))
+          (λ i. record { layer = same_layer a b l i; seats = seats i; waiting = places' i; other = half_in o; is_blue = blue; strategy = how }) ∙ ap (λ w. with_newcomer n when w before) (sym (waits (Some one_waits) within waited))
 
       pub newcomer_kept : (v : CurvedView) (s : SeatRow) (b : Arranged) → IsAttached v s a.bus b.bus → IsSameLayer a b → bus_refusal n a.bus.seats ≡ None → (IsWatched a → IsWatched b) → AreKept b o
       newcomer_kept v s b h l r w = record {
@@ -141,13 +142,13 @@ module _ {B : Type 0} (f : B → Waiting) (n : ℕ) (a o : Arranged) (blue : Boo
 
       -- one that was handed back waits again
       pub handed_back : (p : B) (b : Arranged) (left back : List (Option B)) → f p ≡ f one_waits → b.bus ≡ a.bus → IsSameLayer a b → left ≡ set places (n - 1) None → back ≡ set left (n - 1) (Some p) →
-          built b (half_in o) blue (map (option_map f) back) ≡ before
+          built b (half_in o) how blue (map (option_map f) back) ≡ before
       handed_back p b left back fp h l e g =
           let was : option_map f (Some p) ≡ get_or (map (option_map f) places) (n - 1) None = ap Some fp ∙ sym (waits (Some one_waits) within waited) in
           let same : map (option_map f) back ≡ map (option_map f) places =
           ap (map (option_map f)) (g ∙ ap (λ xs. set xs (n - 1) (Some p)) e ∙ set_again places (n - 1) None (Some p)) ∙ map-set (option_map f) places (n - 1) (Some p) ∙
           ap (set (map (option_map f) places) (n - 1)) was ∙ set-get_or (map (option_map f) places) (n - 1) None in
-          λ i. record { layer = same_layer a b l i; seats = map seat_row (h i).seats; waiting = same i; other = half_in o; is_blue = blue }
+          λ i. record { layer = same_layer a b l i; seats = map seat_row (h i).seats; waiting = same i; other = half_in o; is_blue = blue; strategy = how }
 
       pub back_kept : (b : Arranged) → b.bus ≡ a.bus → IsSameLayer a b → (IsWatched a → IsWatched b) → AreKept b o
       back_kept b h l w = record { current = record { limits = l.limits ∙ kept.current.limits; few = rw h kept.current.few; watched = w kept.current.watched }; other = kept.other }

@@ -3,12 +3,12 @@ use Rattle.std.proofs.Common.{◌≡◌, ℕ, ◌+◌, ◌≤◌, List, Option, 
 use Rattle.std.specs.Prelude.{◌⊎◌}
 use Rattle.planar_run.specs.declared.status.Status.{Status}
 use Rattle.planar_run.specs.declared.status.Status.TheVariants.{Done, Usage, ReadFault, WriteFault, NoMemory, TooLong}
-use Rattle.planar_run.specs.World.{Waiting}
+use Rattle.planar_run.specs.World.{World}
 use Rattle.planar_run.specs.Clauses.{Causes, Ends}
 
 -- how a run ended that has this status
-pub ended : (observers : List Waiting) (status : Status) (left left' taken taken' : Option (List ℕ)) → Ends observers status left left' taken taken' → (s : Status) → status ≡ s → Ends observers s left left' taken taken'
-ended observers status left left' taken taken' e s is = subst (λ s. Ends observers s left left' taken taken') is e
+pub ended : (first : World) (status : Status) (left left' taken taken' : Option (List ℕ)) → Ends first status left left' taken taken' → (s : Status) → status ≡ s → Ends first s left left' taken taken'
+ended first status left left' taken taken' e s is = subst (λ s. Ends first s left left' taken taken') is e
 
 -- ---- counts of faults
 pub caused : (status : Status) (source source' sink sink' : ℕ) → Causes status source source' sink sink' → (s : Status) → status ≡ s → Causes s source source' sink sink'

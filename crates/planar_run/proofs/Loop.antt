@@ -9,7 +9,7 @@ use Rattle.planar_run.specs.declared.run.TheConstants.{SCRIPT_LIMIT}
 use Rattle.planar_run.specs.declared.status.Status.{Status}
 use Rattle.planar_run.specs.declared.status.Status.TheVariants.{Done, Usage, ReadFault, WriteFault, NoMemory, TooLong}
 use Rattle.planar_run.specs.Lines.{lines, ended_lines}
-use Rattle.planar_run.specs.World.{Waiting, World, first_world}
+use Rattle.planar_run.specs.World.{World}
 use Rattle.planar_run.specs.Run.{IsRun, BeginsRun}
 use Rattle.planar_run.specs.Engine.{Answers, AnswersPart, Takes, Feeds, FeedsPart}
 use Rattle.planar_run.specs.Clauses.{Used, UsedAndWritten, ReadToEnd, Ends, Causes, Finishes}
@@ -79,64 +79,64 @@ written : (before had out text : List ℕ) (had' : Option (List ℕ)) → had' �
 written before had out text had' e f = e ∙ ap Some (ap (λ (xs : List ℕ). xs ++ text) f ∙ append_assoc before out text)
 
 -- where both are told, the script stands so
-abbrev pub HasSaid : List Waiting → Option (List ℕ) → Option (List ℕ) → Option (List ℕ) → Option (List ℕ) → ℕ → World → List ℕ → Type 0
-HasSaid observers left left' taken taken' count world line =
+abbrev pub HasSaid : World → Option (List ℕ) → Option (List ℕ) → Option (List ℕ) → Option (List ℕ) → ℕ → World → List ℕ → Type 0
+HasSaid first left left' taken taken' count world line =
     IfSome left (λ script. IfSome taken (λ before.
-    (rest : List ℕ) × (had : List ℕ) × (left' ≡ Some rest) × (taken' ≡ Some had) × Stands observers count script rest before had world line))
+    (rest : List ℕ) × (had : List ℕ) × (left' ≡ Some rest) × (taken' ≡ Some had) × Stands first count script rest before had world line))
 
-module _ (observers : List Waiting) where
-  pub HasSaid-first : (left taken : Option (List ℕ)) (world : World) (line : List ℕ) → world ≡ first_world observers → line ≡ [] → HasSaid observers left left taken taken 0 world line
+module _ (first : World) where
+  pub HasSaid-first : (left taken : Option (List ℕ)) (world : World) (line : List ℕ) → world ≡ first → line ≡ [] → HasSaid first left left taken taken 0 world line
   HasSaid-first None taken world line e f = tt
   HasSaid-first (Some script) None world line e f = tt
   HasSaid-first (Some script) (Some before) world line e f = (script, before, refl, refl, Stands-first script before world line e f)
 
-  took : (script more before had : List ℕ) (next had' : Option (List ℕ)) (b count : ℕ) (world world' : World) (line line' : List ℕ) → (b ≡ 10) ⊎ (b ≡ 10 → ⊥) → next ≡ Some more → Stands observers count script (b ∷ more) before had world line → Takes b (Some had) had' world line world' line'
-      → (rest : List ℕ) × (now : List ℕ) × (next ≡ Some rest) × (had' ≡ Some now) × Stands observers (count + 1) script rest before now world' line'
+  took : (script more before had : List ℕ) (next had' : Option (List ℕ)) (b count : ℕ) (world world' : World) (line line' : List ℕ) → (b ≡ 10) ⊎ (b ≡ 10 → ⊥) → next ≡ Some more → Stands first count script (b ∷ more) before had world line → Takes b (Some had) had' world line world' line'
+      → (rest : List ℕ) × (now : List ℕ) × (next ≡ Some rest) × (had' ≡ Some now) × Stands first (count + 1) script rest before now world' line'
   took script more before had next had' b count world world' line line' (inl e) n s t =
       let a = t.0 e in
-      let stood : Stands observers count script (10 ∷ more) before had world line = subst (λ (x : ℕ). Stands observers count script (x ∷ more) before had world line) e s in
+      let stood : Stands first count script (10 ∷ more) before had world line = subst (λ (x : ℕ). Stands first count script (x ∷ more) before had world line) e s in
       (more, had ++ a.0.0, n, gained had a.0.0 had' a.0.2, Stands-end count script more before had (had ++ a.0.0) world world' line a.0.0 line' stood a.0.1 refl a.1)
   took script more before had next had' b count world world' line line' (inr ne) n s t =
       let a = t.1 ne in
-      (more, had, n, a.2, subst (λ (w : World). Stands observers (count + 1) script more before had w line') (sym a.0) (Stands-byte count script more before had b world line line' s ne a.1))
+      (more, had, n, a.2, subst (λ (w : World). Stands first (count + 1) script more before had w line') (sym a.0) (Stands-byte count script more before had b world line line' s ne a.1))
 
-  pub HasSaid-took : (left now next taken had had' : Option (List ℕ)) (b count : ℕ) (world world' : World) (line line' : List ℕ) → HasSaid observers left now taken had count world line → Loses now next (b ∷ []) → Takes b had had' world line world' line' → HasSaid observers left next taken had' (count + 1) world' line'
+  pub HasSaid-took : (left now next taken had had' : Option (List ℕ)) (b count : ℕ) (world world' : World) (line line' : List ℕ) → HasSaid first left now taken had count world line → Loses now next (b ∷ []) → Takes b had had' world line world' line' → HasSaid first left next taken had' (count + 1) world' line'
   HasSaid-took None now next taken had had' b count world world' line line' h l t = tt
   HasSaid-took (Some script) now next None had had' b count world world' line line' h l t = tt
   HasSaid-took (Some script) now next (Some before) had had' b count world world' line line' h l t =
       let m = lost h.0 (b ∷ []) next (subst (λ (o : Option (List ℕ)). Loses o next (b ∷ [])) h.2 l) in
       took script m.0 before h.1 next had' b count world world' line line' (cases_eq b 10) m.2
-      (subst (λ (xs : List ℕ). Stands observers count script xs before h.1 world line) m.1 h.4)
+      (subst (λ (xs : List ℕ). Stands first count script xs before h.1 world line) m.1 h.4)
       (subst (λ (o : Option (List ℕ)). Takes b o had' world line world' line') h.3 t)
 
-  fed : (left taken had had' : Option (List ℕ)) (more bytes : List ℕ) (count : ℕ) (world world' : World) (line line' : List ℕ) → HasSaid observers left (Some (bytes ++ more)) taken had count world line → Feeds bytes had had' world line world' line' → HasSaid observers left (Some more) taken had' (count + length bytes) world' line'
+  fed : (left taken had had' : Option (List ℕ)) (more bytes : List ℕ) (count : ℕ) (world world' : World) (line line' : List ℕ) → HasSaid first left (Some (bytes ++ more)) taken had count world line → Feeds bytes had had' world line world' line' → HasSaid first left (Some more) taken had' (count + length bytes) world' line'
   fed left taken had had' more [] count world world' line line' h f =
-      let a : HasSaid observers left (Some more) taken had' count world line = subst (λ (o : Option (List ℕ)). HasSaid observers left (Some more) taken o count world line) (sym f.0) h in
-      let b : HasSaid observers left (Some more) taken had' count world' line = subst (λ (w : World). HasSaid observers left (Some more) taken had' count w line) (sym f.1) a in
-      subst (λ (n : ℕ). HasSaid observers left (Some more) taken had' n world' line') (omega arith) (subst (λ (xs : List ℕ). HasSaid observers left (Some more) taken had' count world' xs) (sym f.2) b)
+      let a : HasSaid first left (Some more) taken had' count world line = subst (λ (o : Option (List ℕ)). HasSaid first left (Some more) taken o count world line) (sym f.0) h in
+      let b : HasSaid first left (Some more) taken had' count world' line = subst (λ (w : World). HasSaid first left (Some more) taken had' count w line) (sym f.1) a in
+      subst (λ (n : ℕ). HasSaid first left (Some more) taken had' n world' line') (omega arith) (subst (λ (xs : List ℕ). HasSaid first left (Some more) taken had' count world' xs) (sym f.2) b)
   fed left taken had had' more (b ∷ bytes) count world world' line line' h f =
-      subst (λ (n : ℕ). HasSaid observers left (Some more) taken had' n world' line') (one_more count (length bytes))
+      subst (λ (n : ℕ). HasSaid first left (Some more) taken had' n world' line') (one_more count (length bytes))
       (fed left taken f.0 had' more bytes (count + 1) f.1 world' f.2 line' (HasSaid-took left (Some (b ∷ (bytes ++ more))) (Some (bytes ++ more)) taken had f.0 b count world f.1 line f.2 h refl f.3) f.4)
 
-  pub HasSaid-fed : (left now next taken had had' : Option (List ℕ)) (bytes : List ℕ) (count count' : ℕ) (world world' : World) (line line' : List ℕ) → HasSaid observers left now taken had count world line → Loses now next bytes → Feeds bytes had had' world line world' line' → count + length bytes ≡ count' → HasSaid observers left next taken had' count' world' line'
+  pub HasSaid-fed : (left now next taken had had' : Option (List ℕ)) (bytes : List ℕ) (count count' : ℕ) (world world' : World) (line line' : List ℕ) → HasSaid first left now taken had count world line → Loses now next bytes → Feeds bytes had had' world line world' line' → count + length bytes ≡ count' → HasSaid first left next taken had' count' world' line'
   HasSaid-fed None now next taken had had' bytes count count' world world' line line' h l f e = tt
   HasSaid-fed (Some script) now next None had had' bytes count count' world world' line line' h l f e = tt
   HasSaid-fed (Some script) now next (Some before) had had' bytes count count' world world' line line' h l f e =
       let m = lost h.0 bytes next (subst (λ (o : Option (List ℕ)). Loses o next bytes) h.2 l) in
-      let h' : HasSaid observers (Some script) (Some (bytes ++ m.0)) (Some before) had count world line = (bytes ++ m.0, h.1, refl, h.3, subst (λ (xs : List ℕ). Stands observers count script xs before h.1 world line) m.1 h.4) in
+      let h' : HasSaid first (Some script) (Some (bytes ++ m.0)) (Some before) had count world line = (bytes ++ m.0, h.1, refl, h.3, subst (λ (xs : List ℕ). Stands first count script xs before h.1 world line) m.1 h.4) in
       let all = fed (Some script) (Some before) had had' m.0 bytes count world world' line line' h' f in
-      subst (λ (n : ℕ). HasSaid observers (Some script) next (Some before) had' n world' line') e
-      (subst (λ (o : Option (List ℕ)). HasSaid observers (Some script) o (Some before) had' (count + length bytes) world' line') (sym m.2) all)
+      subst (λ (n : ℕ). HasSaid first (Some script) next (Some before) had' n world' line') e
+      (subst (λ (o : Option (List ℕ)). HasSaid first (Some script) o (Some before) had' (count + length bytes) world' line') (sym m.2) all)
 
   -- ---- ends
 
-  pub said-ended : (left now taken had : Option (List ℕ)) (count : ℕ) (world : World) (line : List ℕ) → HasSaid observers left now taken had count world line → UsedAndWritten left now taken had (λ used out. IsRun observers (ended_lines used) out)
+  pub said-ended : (left now taken had : Option (List ℕ)) (count : ℕ) (world : World) (line : List ℕ) → HasSaid first left now taken had count world line → UsedAndWritten left now taken had (λ used out. IsRun first (ended_lines used) out)
   said-ended None now taken had count world line h = tt
   said-ended (Some script) now None had count world line h = tt
   said-ended (Some script) now (Some before) had count world line h =
       let s = h.4 in (read s, h.0, s.out, s.split, h.2, h.3 ∙ ap Some s.told, Stands-ended s)
 
-  pub said-to_limit : (left now next taken had : Option (List ℕ)) (b count limit : ℕ) (world : World) (line : List ℕ) → HasSaid observers left now taken had count world line → count ≡ limit → Loses now next (b ∷ []) → UsedAndWritten left next taken had (λ used out. IsRun observers (ended_lines (take limit used)) out)
+  pub said-to_limit : (left now next taken had : Option (List ℕ)) (b count limit : ℕ) (world : World) (line : List ℕ) → HasSaid first left now taken had count world line → count ≡ limit → Loses now next (b ∷ []) → UsedAndWritten left next taken had (λ used out. IsRun first (ended_lines (take limit used)) out)
   said-to_limit None now next taken had b count limit world line h e l = tt
   said-to_limit (Some script) now next None had b count limit world line h e l = tt
   said-to_limit (Some script) now next (Some before) had b count limit world line h e l =
@@ -148,12 +148,12 @@ module _ (observers : List Waiting) where
         s.split ∙ ap (λ (xs : List ℕ). read s ++ xs) m.1 ∙ sym (append_assoc (read s) (b ∷ []) m.0),
         m.2,
         h.3 ∙ ap Some s.told,
-        subst (λ (xs : List ℕ). IsRun observers (ended_lines xs) s.out) (sym (take_full limit (read s) (b ∷ []) (s.size ∙ e))) (Stands-ended s),
+        subst (λ (xs : List ℕ). IsRun first (ended_lines xs) s.out) (sym (take_full limit (read s) (b ∷ []) (s.size ∙ e))) (Stands-ended s),
       )
 
   -- of the bytes that came last some were fed, and of the reply to the line that they ended a part was written
-  part : (script before : List ℕ) (had had' : Option (List ℕ)) (more bytes : List ℕ) (count : ℕ) (world : World) (line : List ℕ) → HasSaid observers (Some script) (Some (bytes ++ more)) (Some before) had count world line → FeedsPart bytes had had' world line
-      → (used : List ℕ) × (out : List ℕ) × (script ≡ used ++ more) × (had' ≡ Some (before ++ out)) × BeginsRun observers (lines used) out
+  part : (script before : List ℕ) (had had' : Option (List ℕ)) (more bytes : List ℕ) (count : ℕ) (world : World) (line : List ℕ) → HasSaid first (Some script) (Some (bytes ++ more)) (Some before) had count world line → FeedsPart bytes had had' world line
+      → (used : List ℕ) × (out : List ℕ) × (script ≡ used ++ more) × (had' ≡ Some (before ++ out)) × BeginsRun first (lines used) out
   part script before had had' more [] count world line h f = absurd f
   part script before had had' more (b ∷ bytes) count world line h (inl f) =
       let s = h.4 in
@@ -169,34 +169,34 @@ module _ (observers : List Waiting) where
   part script before had had' more (b ∷ bytes) count world line h (inr f) =
       part script before f.0 had' more bytes (count + 1) f.1 f.2 (HasSaid-took (Some script) (Some (b ∷ (bytes ++ more))) (Some (bytes ++ more)) (Some before) had f.0 b count world f.1 line f.2 h refl f.3) f.4
 
-  pub said-part : (left now next taken had had' : Option (List ℕ)) (bytes : List ℕ) (count : ℕ) (world : World) (line : List ℕ) → HasSaid observers left now taken had count world line → Loses now next bytes → FeedsPart bytes had had' world line → UsedAndWritten left next taken had' (λ used out. BeginsRun observers (lines used) out)
+  pub said-part : (left now next taken had had' : Option (List ℕ)) (bytes : List ℕ) (count : ℕ) (world : World) (line : List ℕ) → HasSaid first left now taken had count world line → Loses now next bytes → FeedsPart bytes had had' world line → UsedAndWritten left next taken had' (λ used out. BeginsRun first (lines used) out)
   said-part None now next taken had had' bytes count world line h l f = tt
   said-part (Some script) now next None had had' bytes count world line h l f = tt
   said-part (Some script) now next (Some before) had had' bytes count world line h l f =
       let m = lost h.0 bytes next (subst (λ (o : Option (List ℕ)). Loses o next bytes) h.2 l) in
-      let h' : HasSaid observers (Some script) (Some (bytes ++ m.0)) (Some before) had count world line = (bytes ++ m.0, h.1, refl, h.3, subst (λ (xs : List ℕ). Stands observers count script xs before h.1 world line) m.1 h.4) in
+      let h' : HasSaid first (Some script) (Some (bytes ++ m.0)) (Some before) had count world line = (bytes ++ m.0, h.1, refl, h.3, subst (λ (xs : List ℕ). Stands first count script xs before h.1 world line) m.1 h.4) in
       let r = part script before had had' m.0 bytes count world line h' f in
       (r.0, m.0, r.1, r.2, m.2, r.3, r.4)
 
   -- the script was read to its end
-  finished : (script before had : List ℕ) (had' : Option (List ℕ)) (count : ℕ) (world : World) (line : List ℕ) (s : Stands observers count script [] before had world line)
+  finished : (script before had : List ℕ) (had' : Option (List ℕ)) (count : ℕ) (world : World) (line : List ℕ) (s : Stands first count script [] before had world line)
       → ((line ≡ []) × (had' ≡ Some had)) ⊎ ((line ≢ []) × ((after : World) × Answers (Some had) had' world line after))
-      → (out : List ℕ) × (had' ≡ Some (before ++ out)) × IsRun observers (lines (read s)) out
+      → (out : List ℕ) × (had' ≡ Some (before ++ out)) × IsRun first (lines (read s)) out
   finished script before had had' count world line s (inl e) = (s.out, e.1 ∙ ap Some s.told, Stands-done s e.0)
   finished script before had had' count world line s (inr e) =
       let a = e.1.1 in
       (s.out ++ a.0, written before had s.out a.0 had' (gained had a.0 had' a.2) s.told, Stands-last s a.0 e.1.0 e.0 a.1)
 
-  said-finished : (left now taken had had' : Option (List ℕ)) (count : ℕ) (world : World) (line : List ℕ) → HasSaid observers left now taken had count world line → IsSpent now → Finishes Done had had' world line → UsedAndWritten left now taken had' (λ used out. IsRun observers (lines used) out)
+  said-finished : (left now taken had had' : Option (List ℕ)) (count : ℕ) (world : World) (line : List ℕ) → HasSaid first left now taken had count world line → IsSpent now → Finishes Done had had' world line → UsedAndWritten left now taken had' (λ used out. IsRun first (lines used) out)
   said-finished None now taken had had' count world line h z f = tt
   said-finished (Some script) now None had had' count world line h z f = tt
   said-finished (Some script) now (Some before) had had' count world line h z f =
       let none : h.0 ≡ [] = subst IsSpent h.2 z in
-      let s : Stands observers count script [] before h.1 world line = subst (λ (xs : List ℕ). Stands observers count script xs before h.1 world line) none h.4 in
+      let s : Stands first count script [] before h.1 world line = subst (λ (xs : List ℕ). Stands first count script xs before h.1 world line) none h.4 in
       let r = finished script before h.1 had' count world line s (subst (λ (o : Option (List ℕ)). Finishes Done o had' world line) h.3 f) in
       (read s, [], r.0, s.split, h.2 ∙ ap Some none, r.1, r.2)
 
-  said-broken : (left now taken had had' : Option (List ℕ)) (count : ℕ) (world : World) (line : List ℕ) → HasSaid observers left now taken had count world line → Finishes WriteFault had had' world line → UsedAndWritten left now taken had' (λ used out. BeginsRun observers (lines used) out)
+  said-broken : (left now taken had had' : Option (List ℕ)) (count : ℕ) (world : World) (line : List ℕ) → HasSaid first left now taken had count world line → Finishes WriteFault had had' world line → UsedAndWritten left now taken had' (λ used out. BeginsRun first (lines used) out)
   said-broken None now taken had had' count world line h f = tt
   said-broken (Some script) now None had had' count world line h f = tt
   said-broken (Some script) now (Some before) had had' count world line h f =
@@ -213,7 +213,7 @@ module _ (observers : List Waiting) where
       )
 
   -- the source has no more bytes, and the line that was begun was answered
-  pub Ends-finished : (status : Status) (left now taken had had' : Option (List ℕ)) (count : ℕ) (world : World) (line : List ℕ) → Used left now (λ used. length used ≡ count) → count ≤ SCRIPT_LIMIT → HasSaid observers left now taken had count world line → IsSpent now → Finishes status had had' world line → Ends observers status left now taken had'
+  pub Ends-finished : (status : Status) (left now taken had had' : Option (List ℕ)) (count : ℕ) (world : World) (line : List ℕ) → Used left now (λ used. length used ≡ count) → count ≤ SCRIPT_LIMIT → HasSaid first left now taken had count world line → IsSpent now → Finishes status had had' world line → Ends first status left now taken had'
   Ends-finished Done left now taken had had' count world line u le h z f =
       (to_end left now (λ used. length used ≡ count) u z, Used-map (λ used. length used ≡ count) (λ used. length used ≤ SCRIPT_LIMIT) left now (λ used e. omega arith) u, said-finished left now taken had had' count world line h z f)
   Ends-finished WriteFault left now taken had had' count world line u le h z f =
@@ -223,20 +223,20 @@ module _ (observers : List Waiting) where
   Ends-finished NoMemory left now taken had had' count world line u le h z f = absurd f
   Ends-finished TooLong left now taken had had' count world line u le h z f = absurd f
 
-  pub Ends-read_fault : (left now taken had : Option (List ℕ)) (count : ℕ) (world : World) (line : List ℕ) → Used left now (λ used. length used ≡ count) → count ≤ SCRIPT_LIMIT → HasSaid observers left now taken had count world line → Ends observers ReadFault left now taken had
+  pub Ends-read_fault : (left now taken had : Option (List ℕ)) (count : ℕ) (world : World) (line : List ℕ) → Used left now (λ used. length used ≡ count) → count ≤ SCRIPT_LIMIT → HasSaid first left now taken had count world line → Ends first ReadFault left now taken had
   Ends-read_fault left now taken had count world line u le h =
       (Used-map (λ used. length used ≡ count) (λ used. length used ≤ SCRIPT_LIMIT) left now (λ used e. omega arith) u, said-ended left now taken had count world line h)
 
-  pub Ends-write_fault : (left now next taken had had' : Option (List ℕ)) (bytes : List ℕ) (count : ℕ) (world : World) (line : List ℕ) → Used left now (λ used. length used ≡ count) → count + length bytes ≤ SCRIPT_LIMIT → HasSaid observers left now taken had count world line → Loses now next bytes → FeedsPart bytes had had' world line → Ends observers WriteFault left next taken had'
+  pub Ends-write_fault : (left now next taken had had' : Option (List ℕ)) (bytes : List ℕ) (count : ℕ) (world : World) (line : List ℕ) → Used left now (λ used. length used ≡ count) → count + length bytes ≤ SCRIPT_LIMIT → HasSaid first left now taken had count world line → Loses now next bytes → FeedsPart bytes had had' world line → Ends first WriteFault left next taken had'
   Ends-write_fault left now next taken had had' bytes count world line u le h l f =
       (Used-map (λ used. length used ≡ count + length bytes) (λ used. length used ≤ SCRIPT_LIMIT) left next (λ used e. omega arith) (Used-more left now next bytes count u l), said-part left now next taken had had' bytes count world line h l f)
 
-  pub Ends-too_long : (left now next taken had : Option (List ℕ)) (b count : ℕ) (world : World) (line : List ℕ) → Used left now (λ used. length used ≡ count) → count ≡ SCRIPT_LIMIT → HasSaid observers left now taken had count world line → Loses now next (b ∷ []) → Ends observers TooLong left next taken had
+  pub Ends-too_long : (left now next taken had : Option (List ℕ)) (b count : ℕ) (world : World) (line : List ℕ) → Used left now (λ used. length used ≡ count) → count ≡ SCRIPT_LIMIT → HasSaid first left now taken had count world line → Loses now next (b ∷ []) → Ends first TooLong left next taken had
   Ends-too_long left now next taken had b count world line u e h l =
       (Used-map (λ used. length used ≡ count + 1) (λ used. length used ≡ SCRIPT_LIMIT + 1) left next (λ used f. omega arith) (Used-more left now next (b ∷ []) count u l), said-to_limit left now next taken had b count SCRIPT_LIMIT world line h e l)
 
   -- past the limit nothing was used but at TooLong
-  pub within_limit : (status : Status) (left left' taken taken' : Option (List ℕ)) → Ends observers status left left' taken taken' → (status ≡ TooLong → ⊥) → Used left left' (λ used. length used ≤ SCRIPT_LIMIT)
+  pub within_limit : (status : Status) (left left' taken taken' : Option (List ℕ)) → Ends first status left left' taken taken' → (status ≡ TooLong → ⊥) → Used left left' (λ used. length used ≤ SCRIPT_LIMIT)
   within_limit Done left left' taken taken' e n = e.1
   within_limit ReadFault left left' taken taken' e n = e.0
   within_limit WriteFault left left' taken taken' e n = e.0
@@ -245,7 +245,7 @@ module _ (observers : List Waiting) where
   within_limit TooLong left left' taken taken' e n = absurd (n refl)
 
   -- a run that meets no fault within the limit is done, or found no memory
-  pub completes : (status : Status) (left left' taken taken' : Option (List ℕ)) (source source' sink sink' : ℕ) → Ends observers status left left' taken taken' → Causes status source source' sink sink' → (Rose source source' → ⊥) → (Rose sink sink' → ⊥) → IsSomeAnd left (λ script. length script ≤ SCRIPT_LIMIT)
+  pub completes : (status : Status) (left left' taken taken' : Option (List ℕ)) (source source' sink sink' : ℕ) → Ends first status left left' taken taken' → Causes status source source' sink sink' → (Rose source source' → ⊥) → (Rose sink sink' → ⊥) → IsSomeAnd left (λ script. length script ≤ SCRIPT_LIMIT)
       → (status ≡ Done) ⊎ (status ≡ NoMemory)
   completes Done left left' taken taken' source source' sink sink' e c f g s = inl refl
   completes NoMemory left left' taken taken' source source' sink sink' e c f g s = inr refl

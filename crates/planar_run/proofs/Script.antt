@@ -8,7 +8,7 @@ use Rattle.script_lines.specs.declared.error.LineError.{LineError}
 use Rattle.script_lines.proofs.LongLine.{cut_command}
 use Rattle.planar_run.specs.declared.line.TheConstants.{KEPT}
 use Rattle.planar_run.specs.Lines.{lines, ended_lines}
-use Rattle.planar_run.specs.World.{Waiting, World, first_world}
+use Rattle.planar_run.specs.World.{World}
 use Rattle.planar_run.specs.Answer.{Obeys, Replies, answer_to}
 use Rattle.planar_run.specs.Run.{AnswersLines, IsRun, BeginsRun}
 use Rattle.planar_run.proofs.Takes.{take-cut}
@@ -117,7 +117,7 @@ one_begun (b ∷ begun) line e f h = lines-open b begun h
 -- ---- where a script stands
 
 -- so many bytes were read: lines that were answered, and one that was begun
-pub record Stands (observers : List Waiting) (count : ℕ) (script rest before taken : List ℕ) (world : World) (line : List ℕ) : Type 0 where
+pub record Stands (first : World) (count : ℕ) (script rest before taken : List ℕ) (world : World) (line : List ℕ) : Type 0 where
   pub whole : List (List ℕ)
   pub begun : List ℕ
   pub out : List ℕ
@@ -126,15 +126,15 @@ pub record Stands (observers : List Waiting) (count : ℕ) (script rest before t
   pub each : AreOpen whole
   pub inside : IsOpen begun
   pub kept : line ≡ take KEPT begun
-  pub run : AnswersLines (first_world observers) whole out world
+  pub run : AnswersLines (first) whole out world
   pub told : taken ≡ before ++ out
 
-module _ {observers : List Waiting} where
+module _ {first : World} where
   -- the bytes that were read
-  abbrev pub read : {count : ℕ} {script rest before taken : List ℕ} {world : World} {line : List ℕ} → Stands observers count script rest before taken world line → List ℕ
+  abbrev pub read : {count : ℕ} {script rest before taken : List ℕ} {world : World} {line : List ℕ} → Stands first count script rest before taken world line → List ℕ
   read s = joined s.whole ++ s.begun
 
-  pub Stands-first : (script before : List ℕ) (world : World) (line : List ℕ) → world ≡ first_world observers → line ≡ [] → Stands observers 0 script script before before world line
+  pub Stands-first : (script before : List ℕ) (world : World) (line : List ℕ) → world ≡ first → line ≡ [] → Stands first 0 script script before before world line
   Stands-first script before world line e f = record {
     whole = [];
     begun = [];
@@ -149,7 +149,7 @@ module _ {observers : List Waiting} where
   }
 
   -- the end of a line, which is answered
-  pub Stands-end : (count : ℕ) (script rest before taken now : List ℕ) (world after : World) (line text next : List ℕ) → Stands observers count script (10 ∷ rest) before taken world line → Replies world line text after → now ≡ taken ++ text → next ≡ [] → Stands observers (count + 1) script rest before now after next
+  pub Stands-end : (count : ℕ) (script rest before taken now : List ℕ) (world after : World) (line text next : List ℕ) → Stands first count script (10 ∷ rest) before taken world line → Replies world line text after → now ≡ taken ++ text → next ≡ [] → Stands first (count + 1) script rest before now after next
   Stands-end count script rest before taken now world after line text next s step e f = record {
     whole = s.whole ++ s.begun ∷ [];
     begun = [];
@@ -159,12 +159,12 @@ module _ {observers : List Waiting} where
     each = AreOpen-push s.whole s.begun s.each s.inside;
     inside = tt;
     kept = f;
-    run = Runs-push (first_world observers) s.whole s.out world s.begun text after s.run (Replies-cut world s.begun line text after s.kept step);
+    run = Runs-push (first) s.whole s.out world s.begun text after s.run (Replies-cut world s.begun line text after s.kept step);
     told = e ∙ ap (λ (xs : List ℕ). xs ++ text) s.told ∙ append_assoc before s.out text;
   }
 
   -- another byte
-  pub Stands-byte : (count : ℕ) (script rest before taken : List ℕ) (b : ℕ) (world : World) (line next : List ℕ) → Stands observers count script (b ∷ rest) before taken world line → (b ≡ 10 → ⊥) → next ≡ take KEPT (line ++ b ∷ []) → Stands observers (count + 1) script rest before taken world next
+  pub Stands-byte : (count : ℕ) (script rest before taken : List ℕ) (b : ℕ) (world : World) (line next : List ℕ) → Stands first count script (b ∷ rest) before taken world line → (b ≡ 10 → ⊥) → next ≡ take KEPT (line ++ b ∷ []) → Stands first (count + 1) script rest before taken world next
   Stands-byte count script rest before taken b world line next s ne e = record {
     whole = s.whole;
     begun = s.begun ++ b ∷ [];
@@ -181,39 +181,39 @@ module _ {observers : List Waiting} where
   -- ---- what was written, to the bytes that were read
 
   -- the lines whose end was read are answered
-  pub Stands-ended : {count : ℕ} {script rest before taken : List ℕ} {world : World} {line : List ℕ} (s : Stands observers count script rest before taken world line) → IsRun observers (ended_lines (read s)) s.out
+  pub Stands-ended : {count : ℕ} {script rest before taken : List ℕ} {world : World} {line : List ℕ} (s : Stands first count script rest before taken world line) → IsRun first (ended_lines (read s)) s.out
   Stands-ended {world = world} s =
       let all : ended_lines (joined s.whole ++ s.begun) ≡ s.whole = ended_lines-joined s.whole s.begun s.each ∙ ap (λ (ls : List (List ℕ)). s.whole ++ ls) (ended_lines-open s.begun s.inside) ∙ append-nil s.whole in
-      (world, subst (λ (ls : List (List ℕ)). AnswersLines (first_world observers) ls s.out world) (sym all) s.run)
+      (world, subst (λ (ls : List (List ℕ)). AnswersLines (first) ls s.out world) (sym all) s.run)
 
   -- no line was begun: all are answered
-  pub Stands-done : {count : ℕ} {script rest before taken : List ℕ} {world : World} {line : List ℕ} (s : Stands observers count script rest before taken world line) → line ≡ [] → IsRun observers (lines (read s)) s.out
+  pub Stands-done : {count : ℕ} {script rest before taken : List ℕ} {world : World} {line : List ℕ} (s : Stands first count script rest before taken world line) → line ≡ [] → IsRun first (lines (read s)) s.out
   Stands-done {world = world} {line = line} s e =
       let none : s.begun ≡ [] = none_begun s.begun line s.kept e in
       let all : lines (joined s.whole ++ s.begun) ≡ s.whole = lines-joined s.whole s.begun s.each ∙ ap (λ (xs : List ℕ). s.whole ++ lines xs) none ∙ append-nil s.whole in
-      (world, subst (λ (ls : List (List ℕ)). AnswersLines (first_world observers) ls s.out world) (sym all) s.run)
+      (world, subst (λ (ls : List (List ℕ)). AnswersLines (first) ls s.out world) (sym all) s.run)
 
   -- the line that was begun is the last
-  pub lines-last : {count : ℕ} {script rest before taken : List ℕ} {world : World} {line : List ℕ} (s : Stands observers count script rest before taken world line) → (line ≡ [] → ⊥) → lines (read s) ≡ s.whole ++ s.begun ∷ []
+  pub lines-last : {count : ℕ} {script rest before taken : List ℕ} {world : World} {line : List ℕ} (s : Stands first count script rest before taken world line) → (line ≡ [] → ⊥) → lines (read s) ≡ s.whole ++ s.begun ∷ []
   lines-last {line = line} s some = lines-joined s.whole s.begun s.each ∙ ap (λ (ls : List (List ℕ)). s.whole ++ ls) (one_begun s.begun line s.kept some s.inside)
 
   -- the line that was begun ends at once
-  pub lines-next : {count : ℕ} {script rest before taken : List ℕ} {world : World} {line : List ℕ} (s : Stands observers count script rest before taken world line) (more : List ℕ) → lines (read s ++ 10 ∷ more) ≡ s.whole ++ s.begun ∷ lines more
+  pub lines-next : {count : ℕ} {script rest before taken : List ℕ} {world : World} {line : List ℕ} (s : Stands first count script rest before taken world line) (more : List ℕ) → lines (read s ++ 10 ∷ more) ≡ s.whole ++ s.begun ∷ lines more
   lines-next s more =
       ap lines (append_assoc (joined s.whole) s.begun (10 ∷ more)) ∙ lines-joined s.whole (s.begun ++ 10 ∷ more) s.each ∙ ap (λ (ls : List (List ℕ)). s.whole ++ ls) (lines-end s.begun more s.inside)
 
   -- it is answered, and no line comes after it
-  pub Stands-last : {count : ℕ} {script rest before taken : List ℕ} {world : World} {line : List ℕ} (s : Stands observers count script rest before taken world line) (text : List ℕ) (after : World) → (line ≡ [] → ⊥) → Replies world line text after → IsRun observers (lines (read s)) (s.out ++ text)
+  pub Stands-last : {count : ℕ} {script rest before taken : List ℕ} {world : World} {line : List ℕ} (s : Stands first count script rest before taken world line) (text : List ℕ) (after : World) → (line ≡ [] → ⊥) → Replies world line text after → IsRun first (lines (read s)) (s.out ++ text)
   Stands-last {world = world} {line = line} s text after some step =
-      let run : AnswersLines (first_world observers) (s.whole ++ s.begun ∷ []) (s.out ++ text) after = Runs-push (first_world observers) s.whole s.out world s.begun text after s.run (Replies-cut world s.begun line text after s.kept step) in
-      (after, subst (λ (ls : List (List ℕ)). AnswersLines (first_world observers) ls (s.out ++ text) after) (sym (lines-last s some)) run)
+      let run : AnswersLines (first) (s.whole ++ s.begun ∷ []) (s.out ++ text) after = Runs-push (first) s.whole s.out world s.begun text after s.run (Replies-cut world s.begun line text after s.kept step) in
+      (after, subst (λ (ls : List (List ℕ)). AnswersLines (first) ls (s.out ++ text) after) (sym (lines-last s some)) run)
 
   -- a part of its reply was written, whatever lines come after it
-  pub Stands-part : {count : ℕ} {script rest before taken : List ℕ} {world : World} {line : List ℕ} (s : Stands observers count script rest before taken world line) (ls more : List (List ℕ)) (text part back : List ℕ) (after : World)
-      → ls ≡ s.whole ++ s.begun ∷ more → Replies world line text after → text ≡ part ++ back → BeginsRun observers ls (s.out ++ part)
+  pub Stands-part : {count : ℕ} {script rest before taken : List ℕ} {world : World} {line : List ℕ} (s : Stands first count script rest before taken world line) (ls more : List (List ℕ)) (text part back : List ℕ) (after : World)
+      → ls ≡ s.whole ++ s.begun ∷ more → Replies world line text after → text ≡ part ++ back → BeginsRun first ls (s.out ++ part)
   Stands-part {world = world} {line = line} s ls more text part back after e step f =
       let tail = ample after more in
       let said : Replies world s.begun text after = Replies-cut world s.begun line text after s.kept step in
-      let run : AnswersLines (first_world observers) (s.whole ++ s.begun ∷ more) (s.out ++ (text ++ tail.0)) tail.1 = Runs-append (first_world observers) s.whole (s.begun ∷ more) s.out (text ++ tail.0) world tail.1 s.run (text, tail.0, after, said, refl, tail.2) in
+      let run : AnswersLines (first) (s.whole ++ s.begun ∷ more) (s.out ++ (text ++ tail.0)) tail.1 = Runs-append (first) s.whole (s.begun ∷ more) s.out (text ++ tail.0) world tail.1 s.run (text, tail.0, after, said, refl, tail.2) in
       let same : s.out ++ (text ++ tail.0) ≡ (s.out ++ part) ++ (back ++ tail.0) = ap (λ (xs : List ℕ). s.out ++ (xs ++ tail.0)) f ∙ ap (λ (xs : List ℕ). s.out ++ xs) (append_assoc part back tail.0) ∙ sym (append_assoc s.out part (back ++ tail.0)) in
-      (back ++ tail.0, (tail.1, subst (λ (xs : List ℕ). AnswersLines (first_world observers) ls xs tail.1) same (subst (λ (all : List (List ℕ)). AnswersLines (first_world observers) all (s.out ++ (text ++ tail.0)) tail.1) (sym e) run)))
+      (back ++ tail.0, (tail.1, subst (λ (xs : List ℕ). AnswersLines (first) ls xs tail.1) same (subst (λ (all : List (List ℕ)). AnswersLines (first) all (s.out ++ (text ++ tail.0)) tail.1) (sym e) run)))

@@ -9,6 +9,7 @@ use Rattle.edit_steps.specs.Layer.{empty_layer}
 use Rattle.edit_steps.specs.Refusals.{Refusal, refusal, IsAnswerFor}
 use Rattle.plane_graphs.proofs.Lists.{decide}
 use Rattle.slab_laws.specs.Text.{present_text}
+use Rattle.slab_laws.specs.declared.names.Strategy.{Strategy}
 use Rattle.observer_bus.specs.declared.errors.ReportError.{ReportError}
 use Rattle.observer_bus.specs.declared.errors.ReportError.TheVariants.{NoMemory, NoSeat}
 use Rattle.observer_bus.specs.Calls.{has_seat, with_seats, seat_of as row_of, seats_left as rows_left}
@@ -43,10 +44,10 @@ module _ (a : Arranged) (b : BusRow) (full : a.limits ≡ FULL) (is : a.bus ≡ 
   pub first_kept : IsKept a
   first_kept = record { limits = full; few = rw nobody_seated (omega arith); watched = rw nobody_seated (λ k d h. absurd (omega (arith, h))) }
 
-pub first_built : {A : Type 0} (f : A → Waiting) (places : List (Option A)) (bs : List A) (h o : Half) → h ≡ first_half → o ≡ first_half → places ≡ map Some bs →
-    record { layer = h.layer; seats = h.seats; waiting = map (option_map f) places; other = o; is_blue = false } ≡ first_world (map f bs)
-first_built f places bs h o e g p =
-    λ i. record { layer = (e i).layer; seats = (e i).seats; waiting = (ap (map (option_map f)) p ∙ all_wait f bs) i; other = g i; is_blue = false }
+pub first_built : (how : Strategy) {A : Type 0} (f : A → Waiting) (places : List (Option A)) (bs : List A) (h o : Half) → h ≡ first_half → o ≡ first_half → places ≡ map Some bs →
+    record { layer = h.layer; seats = h.seats; waiting = map (option_map f) places; other = o; is_blue = false; strategy = how } ≡ first_world how (map f bs)
+first_built how f places bs h o e g p =
+    λ i. record { layer = (e i).layer; seats = (e i).seats; waiting = (ap (map (option_map f)) p ∙ all_wait f bs) i; other = g i; is_blue = false; strategy = how }
 
 -- ---- edits
 -- what the arrangement refuses, its world does
@@ -58,24 +59,24 @@ pub if_insert_answered : {T E : Type 0} (said : E → Option Refusal) (r : Resul
 if_insert_answered said r s a k h = if_answered said r (Insert (layer_in a).next s) a k h
 
 -- an edit that is done, and who came and went in it
-pub done_so : (e : Edit) (a b : Arranged) (o : Half) (blue : Bool) (ws : List (Option Waiting)) → IsKept a → HaveNamesApart a.bus.seats → IsEdited a b e → IsDone e (built a o blue ws) (built b o blue ws) b.bus.went
-done_so e a b o blue ws k apart h =
+pub done_so : (e : Edit) (a b : Arranged) (o : Half) (how : Strategy) (blue : Bool) (ws : List (Option Waiting)) → IsKept a → HaveNamesApart a.bus.seats → IsEdited a b e → IsDone e (built a o how blue ws) (built b o how blue ws) b.bus.went
+done_so e a b o how blue ws k apart h =
     let t = told_rounds _ _ a.bus (steps e (layer_in a).present) _ _ b.bus apart h.told in
     let few = few_went t.0 (map seat_row a.bus.seats) (rw length_rows k.few) in record {
       losses = t.0;
       are = t.1;
-      world = λ i. record { layer = h.layer i; seats = t.2 i; waiting = ws; other = o; is_blue = blue };
+      world = λ i. record { layer = h.layer i; seats = t.2 i; waiting = ws; other = o; is_blue = blue; strategy = how };
       went = t.3;
       few = rw t.3 (record { joined = few.0; gone = few.1 });
     }
 
-pub if_done : {T E : Type 0} (r : Result T E) (e : Edit) (a b : Arranged) (o : Half) (blue : Bool) (ws : List (Option Waiting)) → IsKept a → HaveNamesApart a.bus.seats → OnOk r (IsEdited a b e) → OnOk r (IsDone e (built a o blue ws) (built b o blue ws) b.bus.went)
-if_done (Ok x) e a b o blue ws k apart h = done_so e a b o blue ws k apart h
-if_done (Err y) e a b o blue ws k apart h = tt
+pub if_done : {T E : Type 0} (r : Result T E) (e : Edit) (a b : Arranged) (o : Half) (how : Strategy) (blue : Bool) (ws : List (Option Waiting)) → IsKept a → HaveNamesApart a.bus.seats → OnOk r (IsEdited a b e) → OnOk r (IsDone e (built a o how blue ws) (built b o how blue ws) b.bus.went)
+if_done (Ok x) e a b o how blue ws k apart h = done_so e a b o how blue ws k apart h
+if_done (Err y) e a b o how blue ws k apart h = tt
 
-pub if_refused : {T E : Type 0} (r : Result T E) (a b : Arranged) (o : Half) (blue : Bool) (ws : List (Option Waiting)) → OnErr r (IsAsBefore a b) → OnErr r (built b o blue ws ≡ built a o blue ws)
-if_refused (Ok x) a b o blue ws h = tt
-if_refused (Err y) a b o blue ws h = λ i. record { layer = h.layer i; seats = map seat_row (h.bus i).seats; waiting = ws; other = o; is_blue = blue }
+pub if_refused : {T E : Type 0} (r : Result T E) (a b : Arranged) (o : Half) (how : Strategy) (blue : Bool) (ws : List (Option Waiting)) → OnErr r (IsAsBefore a b) → OnErr r (built b o how blue ws ≡ built a o how blue ws)
+if_refused (Ok x) a b o how blue ws h = tt
+if_refused (Err y) a b o how blue ws h = λ i. record { layer = h.layer i; seats = map seat_row (h.bus i).seats; waiting = ws; other = o; is_blue = blue; strategy = how }
 
 -- at most eight stay
 few_done : (e : Edit) (a b : Arranged) → IsKept a → HaveNamesApart a.bus.seats → IsEdited a b e → length b.bus.seats ≤ 8
@@ -166,9 +167,9 @@ module _ (i : ℕ) (a o : Arranged) (kept : AreKept a o) where
     if_reported_there (Ok b) h = reported_there b.items h
     if_reported_there (Err y) h = tt
 
-  module _ (blue : Bool) (ws : List (Option Waiting)) where
+  module _ (how : Strategy) (blue : Bool) (ws : List (Option Waiting)) where
     abbrev before : World
-    before = built a (half_in o) blue ws
+    before = built a (half_in o) how blue ws
 
     -- the world after it left this layer or the other
     abbrev left_by : Option ℕ → Bool → World
@@ -176,25 +177,25 @@ module _ (i : ℕ) (a o : Arranged) (kept : AreKept a o) where
         if here then record before { seats = seats_left i when before.seats }
         else record before { other = record { layer = before.other.layer; seats = seats_left i when before.other.seats } }
 
-    pub left_here : true ≡ has_seat i a.bus.seats → (when : Option ℕ) (b : Arranged) → IsSameLayer a b → b.bus ≡ with_seats (rows_left i when a.bus.seats) a.bus → built b (half_in o) blue ws ≡ leaving i when before
+    pub left_here : true ≡ has_seat i a.bus.seats → (when : Option ℕ) (b : Arranged) → IsSameLayer a b → b.bus ≡ with_seats (rows_left i when a.bus.seats) a.bus → built b (half_in o) how blue ws ≡ leaving i when before
     left_here here when b l h =
         let left : half_in b ≡ record { layer = layer_in a; seats = seats_left i when before.seats } = half_left i when a b l h in
-        (λ j. record { layer = (left j).layer; seats = (left j).seats; waiting = ws; other = half_in o; is_blue = blue }) ∙ ap (left_by when) (sym (is_here here))
+        (λ j. record { layer = (left j).layer; seats = (left j).seats; waiting = ws; other = half_in o; is_blue = blue; strategy = how }) ∙ ap (left_by when) (sym (is_here here))
 
-    left_there : false ≡ has_seat i a.bus.seats → (when : Option ℕ) (b p : Arranged) → IsSameLayer a b → b.bus ≡ a.bus → IsSameLayer o p → p.bus ≡ with_seats (rows_left i when o.bus.seats) o.bus → built b (half_in p) blue ws ≡ leaving i when before
+    left_there : false ≡ has_seat i a.bus.seats → (when : Option ℕ) (b p : Arranged) → IsSameLayer a b → b.bus ≡ a.bus → IsSameLayer o p → p.bus ≡ with_seats (rows_left i when o.bus.seats) o.bus → built b (half_in p) how blue ws ≡ leaving i when before
     left_there none when b p l h m g =
         let stays : half_in b ≡ half_in a = same_half a b l h in
         let left : half_in p ≡ record { layer = layer_in o; seats = seats_left i when before.other.seats } = half_left i when o p m g in
-        (λ j. record { layer = (stays j).layer; seats = (stays j).seats; waiting = ws; other = left j; is_blue = blue }) ∙ ap (left_by when) (sym (not_here none))
+        (λ j. record { layer = (stays j).layer; seats = (stays j).seats; waiting = ws; other = left j; is_blue = blue; strategy = how }) ∙ ap (left_by when) (sym (not_here none))
 
     pub if_left_there : {T E : Type 0} (r : Result T E) → false ≡ has_seat i a.bus.seats → (when : Option ℕ) (b p : Arranged) → IsSameLayer a b → b.bus ≡ a.bus → IsSameLayer o p → OnOk r (p.bus ≡ with_seats (rows_left i when o.bus.seats) o.bus) →
-        OnOk r (built b (half_in p) blue ws ≡ leaving i when before)
+        OnOk r (built b (half_in p) how blue ws ≡ leaving i when before)
     if_left_there (Ok x) none when b p l h m g = left_there none when b p l h m g
     if_left_there (Err y) none when b p l h m g = tt
 
     -- where it isn't seated in either
-    pub if_not_left : {T E : Type 0} (r : Result T E) (b p : Arranged) → IsSameLayer a b → b.bus ≡ a.bus → IsSameLayer o p → OnErr r (p.bus ≡ o.bus) → OnErr r (built b (half_in p) blue ws ≡ before)
+    pub if_not_left : {T E : Type 0} (r : Result T E) (b p : Arranged) → IsSameLayer a b → b.bus ≡ a.bus → IsSameLayer o p → OnErr r (p.bus ≡ o.bus) → OnErr r (built b (half_in p) how blue ws ≡ before)
     if_not_left (Ok x) b p l h m g = tt
     if_not_left (Err y) b p l h m g =
         let stays : half_in b ≡ half_in a = same_half a b l h in
-        λ j. record { layer = (stays j).layer; seats = (stays j).seats; waiting = ws; other = same_half o p m g j; is_blue = blue }
+        λ j. record { layer = (stays j).layer; seats = (stays j).seats; waiting = ws; other = same_half o p m g j; is_blue = blue; strategy = how }

@@ -20,6 +20,7 @@ use Rattle.script_lines.specs.declared.error.LineError.{LineError}
 use Rattle.script_lines.specs.LineError.{refusal_number as line_number}
 use Rattle.script_lines.specs.Command.{command_of}
 use Rattle.arrangement.specs.Answers.{cut_between, split_at}
+use Rattle.arrangement.specs.Questions.{TakesMemory}
 use Rattle.planar_run.specs.World.{blue_of, red_of, turned, World}
 use Rattle.planar_run.specs.Observers.{attach_refusal, attached, leaving, report_of, seat_refusal, IsUntold}
 use Rattle.planar_run.specs.Rounds.{seated_after, AreFew, AreRoundsOf, Seated}
@@ -168,10 +169,10 @@ MayTake world (Ok (Unpin p)) = ⊥
 MayTake world (Ok (Split p q r)) = refusal_of world (split_at p q r) ≡ None
 MayTake world (Ok (Merge r)) = ⊥
 MayTake world (Ok Clear) = ⊥
-MayTake world (Ok (Locate p)) = ⊤
+MayTake world (Ok (Locate p)) = TakesMemory world.strategy
 MayTake world (Ok (CurvesOf p q)) = is_edge (edge_between p q) world ≡ true
 MayTake world (Ok (Curve c)) = is_named c world ≡ true
-MayTake world (Ok Count) = ⊤
+MayTake world (Ok Count) = ⊥
 MayTake world (Ok Show) = ⊤
 MayTake world (Ok Overlay) = ⊤
 MayTake world (Ok (Attach i when)) = attach_refusal i world ≡ None

@@ -5,7 +5,7 @@ use Rattle.planar_run.specs.declared.run.TheConstants.{SCRIPT_LIMIT}
 use Rattle.planar_run.specs.declared.status.Status.{Status}
 use Rattle.planar_run.specs.declared.status.Status.TheVariants.{Done, Usage, ReadFault, WriteFault, NoMemory, TooLong}
 use Rattle.planar_run.specs.Lines.{lines, ended_lines}
-use Rattle.planar_run.specs.World.{Waiting, World}
+use Rattle.planar_run.specs.World.{World}
 use Rattle.planar_run.specs.Run.{IsRun, BeginsRun}
 use Rattle.planar_run.specs.Engine.{Answers, AnswersPart}
 
@@ -29,37 +29,37 @@ abbrev pub ReadToEnd : Option (List ℕ) → Option (List ℕ) → Type 0
 ReadToEnd left left' = IfSome left (λ script. left' ≡ Some [])
 
 -- the bytes written answer the lines of the bytes used
-abbrev pub AnswersScript : List Waiting → Option (List ℕ) → Option (List ℕ) → Option (List ℕ) → Option (List ℕ) → Type 0
-AnswersScript observers left left' taken taken' =
-    UsedAndWritten left left' taken taken' (λ used out. IsRun observers (lines used) out)
+abbrev pub AnswersScript : World → Option (List ℕ) → Option (List ℕ) → Option (List ℕ) → Option (List ℕ) → Type 0
+AnswersScript first left left' taken taken' =
+    UsedAndWritten left left' taken taken' (λ used out. IsRun first (lines used) out)
 
 -- they begin to answer these lines
-abbrev pub AnswersScriptPart : List Waiting → Option (List ℕ) → Option (List ℕ) → Option (List ℕ) → Option (List ℕ) → Type 0
-AnswersScriptPart observers left left' taken taken' =
-    UsedAndWritten left left' taken taken' (λ used out. BeginsRun observers (lines used) out)
+abbrev pub AnswersScriptPart : World → Option (List ℕ) → Option (List ℕ) → Option (List ℕ) → Option (List ℕ) → Type 0
+AnswersScriptPart first left left' taken taken' =
+    UsedAndWritten left left' taken taken' (λ used out. BeginsRun first (lines used) out)
 
 -- they answer the lines of the bytes used whose byte 10 is among these
-abbrev pub AnswersEnded : List Waiting → Option (List ℕ) → Option (List ℕ) → Option (List ℕ) → Option (List ℕ) → Type 0
-AnswersEnded observers left left' taken taken' =
-    UsedAndWritten left left' taken taken' (λ used out. IsRun observers (ended_lines used) out)
+abbrev pub AnswersEnded : World → Option (List ℕ) → Option (List ℕ) → Option (List ℕ) → Option (List ℕ) → Type 0
+AnswersEnded first left left' taken taken' =
+    UsedAndWritten left left' taken taken' (λ used out. IsRun first (ended_lines used) out)
 
 -- they answer the lines whose byte 10 is among the first bytes used, up to the limit
-abbrev pub AnswersToLimit : List Waiting → Option (List ℕ) → Option (List ℕ) → Option (List ℕ) → Option (List ℕ) → Type 0
-AnswersToLimit observers left left' taken taken' =
-    UsedAndWritten left left' taken taken' (λ used out. IsRun observers (ended_lines (take SCRIPT_LIMIT used)) out)
+abbrev pub AnswersToLimit : World → Option (List ℕ) → Option (List ℕ) → Option (List ℕ) → Option (List ℕ) → Type 0
+AnswersToLimit first left left' taken taken' =
+    UsedAndWritten left left' taken taken' (λ used out. IsRun first (ended_lines (take SCRIPT_LIMIT used)) out)
 
 -- how many bytes were used, and what the bytes written are to them
-abbrev pub Ends : List Waiting → Status → Option (List ℕ) → Option (List ℕ) → Option (List ℕ) → Option (List ℕ) → Type 0
-Ends observers Done left left' taken taken' =
-    ReadToEnd left left' × Used left left' (λ used. length used ≤ SCRIPT_LIMIT) × AnswersScript observers left left' taken taken'
-Ends observers ReadFault left left' taken taken' =
-    Used left left' (λ used. length used ≤ SCRIPT_LIMIT) × AnswersEnded observers left left' taken taken'
-Ends observers WriteFault left left' taken taken' =
-    Used left left' (λ used. length used ≤ SCRIPT_LIMIT) × AnswersScriptPart observers left left' taken taken'
-Ends observers TooLong left left' taken taken' =
-    Used left left' (λ used. length used ≡ SCRIPT_LIMIT + 1) × AnswersToLimit observers left left' taken taken'
-Ends observers NoMemory left left' taken taken' = (left' ≡ left) × (taken' ≡ taken)
-Ends observers Usage left left' taken taken' = ⊥
+abbrev pub Ends : World → Status → Option (List ℕ) → Option (List ℕ) → Option (List ℕ) → Option (List ℕ) → Type 0
+Ends first Done left left' taken taken' =
+    ReadToEnd left left' × Used left left' (λ used. length used ≤ SCRIPT_LIMIT) × AnswersScript first left left' taken taken'
+Ends first ReadFault left left' taken taken' =
+    Used left left' (λ used. length used ≤ SCRIPT_LIMIT) × AnswersEnded first left left' taken taken'
+Ends first WriteFault left left' taken taken' =
+    Used left left' (λ used. length used ≤ SCRIPT_LIMIT) × AnswersScriptPart first left left' taken taken'
+Ends first TooLong left left' taken taken' =
+    Used left left' (λ used. length used ≡ SCRIPT_LIMIT + 1) × AnswersToLimit first left left' taken taken'
+Ends first NoMemory left left' taken taken' = (left' ≡ left) × (taken' ≡ taken)
+Ends first Usage left left' taken taken' = ⊥
 
 -- which count of faults rose, the source's or the sink's; the other stays, and both do where neither is named
 abbrev pub Causes : Status → ℕ → ℕ → ℕ → ℕ → Type 0

@@ -1,5 +1,6 @@
 -- A made script: its lines are answered as those of a script are, and one reply alone is written.
 use Rattle.std.specs.Prelude.{◌≡◌, ◌≢◌, ◌⊎◌, ℕ, List, [], ◌∷◌, Option, Some, None, codes}
+use Rattle.slab_laws.specs.declared.names.Strategy.{Strategy}
 use Rattle.words_in.specs.declared.options.Options.{Options}
 use Rattle.words_in.specs.Grammar.{HasOptions}
 use Rattle.outside.specs.Bytes.{Gains, GainsPrefix}
@@ -33,6 +34,10 @@ AnswersMade old new world lines = (text : List ℕ) × IsLastReply world lines t
 
 abbrev pub AnswersMadePart : Option (List ℕ) → Option (List ℕ) → World → List (List ℕ) → Type 0
 AnswersMadePart old new world lines = (text : List ℕ) × IsLastReply world lines text × GainsPrefix old new text
+
+-- the words are in the grammar, and the way of location that they give has P
+abbrev pub LocateBy : List (List ℕ) → (Strategy → Type 0) → Type 0
+LocateBy words P = (options : Options) × HasOptions words options × P options.strategy
 
 -- the words are in the grammar, and ask for the script of the source
 abbrev pub AskForScript : List (List ℕ) → Type 0

@@ -4,6 +4,7 @@ use Rattle.std.specs.declared.alloc.Global.{Global}
 use Rattle.std.specs.declared.dyn_box.DynBox.{DynBox}
 use Rattle.arrangement.specs.Arranged.{arranged, layer_in, Arranged, IsWatched}
 use Rattle.arrangement.specs.declared.limits.TheConstants.Limits.{FULL}
+use Rattle.slab_laws.specs.declared.names.Strategy.{Strategy}
 use Rattle.observer_bus.specs.Rows.{Meanings, meaning}
 use Rattle.observer_bus.specs.Seats.{SeatRow}
 use Rattle.planar_run.specs.World.{Half, Seat, Waiting, World as Built}
@@ -17,9 +18,16 @@ seat_row s = record { name = s.name; join = s.join; leave = s.leave; tells = s.t
 abbrev pub half_in : Arranged → Half
 half_in a = record { layer = layer_in a; seats = map seat_row a.bus.seats }
 
--- what it knows of the arrangement that lines mean, of the other, whether the first is the blue one, and of the observers that wait
-abbrev pub built : Arranged → Half → Bool → List (Option Waiting) → Built
-built a other is_blue waiting = record { layer = layer_in a; seats = map seat_row a.bus.seats; waiting = waiting; other = other; is_blue = is_blue }
+-- what it knows of the arrangement that lines mean, of the other, by which way points are located, whether the first is the blue one, and of the observers that wait
+abbrev pub built : Arranged → Half → Strategy → Bool → List (Option Waiting) → Built
+built a other strategy is_blue waiting = record {
+  layer = layer_in a;
+  seats = map seat_row a.bus.seats;
+  waiting = waiting;
+  other = other;
+  is_blue = is_blue;
+  strategy = strategy;
+}
 
 -- the limits are those of a script, at most eight observers are seated or planned, and each seated one that tells a view holds that of the records (this project)
 pub record IsKept (a : Arranged) : Type 0 where
@@ -55,4 +63,4 @@ module _ {X : Type 0} {F : X → Type 0} (m : Meanings X F) where
 
   -- a world as contracts see it
   abbrev pub world_row : World X F → Built
-  world_row w = built (arranged_row w) (half_in (other_row w)) w.is_blue (map (option_map waiting_row) w.observers.items)
+  world_row w = built (arranged_row w) (half_in (other_row w)) w.strategy w.is_blue (map (option_map waiting_row) w.observers.items)

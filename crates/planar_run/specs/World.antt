@@ -1,6 +1,7 @@
 -- The world of a script: what its lines have built so far, and its observers.
 use Rattle.std.specs.Prelude.{ℕ, Bool, true, false, not, List, [], Option, Some, map, if◌then◌else◌}
 use Rattle.edit_steps.specs.Layer.{Layer, empty_layer}
+use Rattle.slab_laws.specs.declared.names.Strategy.{Strategy}
 
 -- an observer while it waits: whether it tells a view, and how many notes it still hears, where it counts them (this project)
 pub record Waiting : Type 0 where
@@ -31,13 +32,22 @@ pub record World : Type 0 where
   pub other : Half
   -- whether they mean the blue layer
   pub is_blue : Bool
+  -- by which way points are located: no reply depends on it, only whether a line may find no memory
+  pub strategy : Strategy
 
 abbrev pub first_half : Half
 first_half = record { layer = empty_layer 1; seats = [] }
 
--- before the first line all observers wait, lines mean the red layer, and the first curve of each layer gets the number 1
-abbrev pub first_world : List Waiting → World
-first_world observers = record { layer = first_half.layer; seats = first_half.seats; waiting = map Some observers; other = first_half; is_blue = false }
+-- before the first line points are located as the words say, all observers wait, lines mean the red layer, and the first curve of each layer gets the number 1
+abbrev pub first_world : Strategy → List Waiting → World
+first_world strategy observers = record {
+  layer = first_half.layer;
+  seats = first_half.seats;
+  waiting = map Some observers;
+  other = first_half;
+  is_blue = false;
+  strategy = strategy;
+}
 
 -- the layer that lines mean, with its observers
 abbrev pub current : World → Half
@@ -58,6 +68,7 @@ exchanged world = record {
   waiting = world.waiting;
   other = current world;
   is_blue = not world.is_blue;
+  strategy = world.strategy;
 }
 
 -- the world in which lines mean the blue layer, or the red one

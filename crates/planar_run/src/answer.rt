@@ -44,7 +44,10 @@ fn obey(world: &mut World, command: Command, reply: &mut Reply) -> Result<(), No
         Command::Locate(point) => locate(world, &point, reply),
         Command::Edge(p, q) => edge(world, &p, &q, reply),
         Command::Curve(number) => curve(world, number, reply),
-        Command::Count => count(world, reply),
+        Command::Count => {
+            count(world, reply);
+            Ok(())
+        }
         Command::Show => show(world, reply),
         Command::Overlay => overlay(world, reply),
         Command::Attach(number, when) => attach(world, number, when, reply),

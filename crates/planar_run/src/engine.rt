@@ -34,7 +34,7 @@ impl Engine {
         strategy: Strategy,
         observers: Vec<Box<dyn Observer>>,
     ) -> Result<Engine, NoMemory>
-        ensures first { IfOk result (λ e. world_row Observer-dyn e.world ≡ first_world (waiting_rows Observer-dyn observers.items)) }
+        ensures first { IfOk result (λ e. world_row Observer-dyn e.world ≡ first_world strategy (waiting_rows Observer-dyn observers.items)) }
         ensures begun { IfOk result (λ e. e.line ≡ []) }
         ensures kept { IfOk result (λ e. IsKeptWorld Observer-dyn e.world) }
     {

@@ -4,21 +4,23 @@ ghost use Rattle.planar_run.specs.Answer.{IsAnswered, MayTake};
 ghost use Rattle.planar_run.specs.Rows.{world_row};
 
 use crate::reply::Reply;
-use crate::text::{put_cell, put_counts, put_curve, put_curves};
+use crate::text::{add_cell, add_counts, put_curve, put_curves};
 use crate::world::World;
 use arrangement::{EdgeError, HistoryError};
 use exact_plane::Point;
 use no_memory::NoMemory;
 use slab_laws::CurveId;
 
-/// Tells where a point lies.
+/// Tells where a point lies. The reply fits in the room that is there, so only the search may want memory.
 pub fn locate(world: &mut World, point: &Point, reply: &mut Reply) -> Result<(), NoMemory>
     requires { reply.old ≡ [] }
     ensures answered { OnOk result (IsAnswered (world_row Observer-dyn world.old) (Ok (Locate point.now)) reply.new (world_row Observer-dyn world.old)) }
+    ensures err { OnErr result (MayTake (world_row Observer-dyn world.old) (Ok (Locate point.now))) }
     ensures same { world.new ≡ world.old }
 {
-    put_cell(reply, world.locate(point)?)?;
-    reply.put_text("\n")
+    add_cell(reply, world.locate(point)?);
+    reply.add_text("\n");
+    Ok(())
 }
 
 /// Tells the curves along an edge.
@@ -42,19 +44,19 @@ pub fn curve(world: &World, curve: u32, reply: &mut Reply) -> Result<(), NoMemor
     ensures err { OnErr result (MayTake (world_row Observer-dyn world.now) (Ok (Curve curve))) }
 {
     match world.edges_of(CurveId(curve)) {
-        Ok(edges) => return put_curve(reply, curve, &edges),
+        Ok(edges) => return put_curve(world.alloc, reply, curve, &edges),
         Err(HistoryError::Unknown) => reply.set("refused 8\n"),
         Err(HistoryError::NoMemory) => return Err(NoMemory),
     }
     Ok(())
 }
 
-/// Tells how many cells of each kind there are, and how many curves.
-pub fn count(world: &World, reply: &mut Reply) -> Result<(), NoMemory>
+/// Tells how many cells of each kind there are, and how many curves. It takes no memory.
+pub fn count(world: &World, reply: &mut Reply)
     requires { reply.old ≡ [] }
-    ensures { OnOk result (IsAnswered (world_row Observer-dyn world.now) (Ok Count) reply.new (world_row Observer-dyn world.now)) }
+    ensures { IsAnswered (world_row Observer-dyn world.now) (Ok Count) reply.new (world_row Observer-dyn world.now) }
 {
-    put_counts(reply, &world.counts()?)
+    add_counts(reply, &world.counts());
 }
 
 /// Tells the whole subdivision.

@@ -1,4 +1,4 @@
-ghost use Rattle.std.specs.Prelude.{◌≡◌, ◌+◌, ◌++◌, ◌≤◌, [], length, decimal, IfOk, OnOk};
+ghost use Rattle.std.specs.Prelude.{◌≡◌, ◌+◌, ◌++◌, ◌≤◌, [], length, IfOk, OnOk};
 
 use itoa::{Buffer, Integer};
 use no_memory::NoMemory;
@@ -79,22 +79,29 @@ impl Reply {
         self.bytes.extend_from_slice(text.as_bytes()).unwrap();
     }
 
-    /// Appends a number in decimal, of at most 10 digits, within that room. It takes no memory.
-    pub fn add_number(&mut self, number: u32)
-        requires { length self.old + 10 ≤ REPLY_ROOM }
-        ensures put { self.new ≡ self.old ++ decimal number }
-        ensures short { length self.new ≤ length self.old + 10 }
+    /// Appends a number in decimal, within that room. It takes no memory.
+    pub fn add_number<I: Integer>(&mut self, number: I)
+        requires { length self.old + I.MAX_STR_LEN ≤ REPLY_ROOM }
+        ensures put { self.new ≡ self.old ++ I.text number }
+        ensures short { length self.new ≤ length self.old + I.MAX_STR_LEN }
     {
         let mut digits = Buffer::new();
         self.add_text(digits.format(number));
+    }
+
+    /// Appends bytes.
+    pub fn put_bytes(&mut self, bytes: &[u8]) -> Result<(), NoMemory>
+        ensures { OnOk result (self.new ≡ self.old ++ bytes.now) }
+    {
+        self.bytes.extend_from_slice(bytes)?;
+        Ok(())
     }
 
     /// Appends a text.
     pub fn put_text(&mut self, text: &str) -> Result<(), NoMemory>
         ensures { OnOk result (self.new ≡ self.old ++ text.now) }
     {
-        self.bytes.extend_from_slice(text.as_bytes())?;
-        Ok(())
+        self.put_bytes(text.as_bytes())
     }
 
     /// Appends a number in decimal.

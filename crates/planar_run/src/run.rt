@@ -1,12 +1,12 @@
-ghost use Rattle.std.specs.Prelude.{◌≡◌, ◌≢◌, ◌⊎◌, ◌+◌, ◌^◌, ◌≤◌, ℕ, List, [], length, map, string_bytes, IsSomeAnd};
+ghost use Rattle.std.specs.Prelude.{◌≡◌, ◌≢◌, ◌⊎◌, ◌+◌, ◌^◌, ◌≤◌, ℕ, [], length, map, string_bytes, IsSomeAnd};
 ghost use Rattle.outside.specs.Bytes.{Gains, GainsPrefix};
 ghost use Rattle.outside.specs.Counts.{Rose};
 ghost use Rattle.words_in.specs.Grammar.{AreInGrammar, AreOutside};
 ghost use Rattle.script_maker.specs.Script.{script};
 ghost use Rattle.script_lines.specs.declared.command.TheConstants.{MAX_LINE};
 ghost use Rattle.arrangement.specs.declared.limits.TheConstants.Limits.{FULL};
-ghost use Rattle.planar_run.specs.Made.{AnswersMade, AnswersMadePart, AskForMade, AskForScript};
-ghost use Rattle.planar_run.specs.World.{first_world, Waiting};
+ghost use Rattle.planar_run.specs.Made.{AnswersMade, AnswersMadePart, AskForMade, AskForScript, LocateBy};
+ghost use Rattle.planar_run.specs.World.{first_world};
 ghost use Rattle.planar_run.specs.Rows.{waiting_rows, world_row, IsKeptWorld};
 ghost use Rattle.planar_run.specs.Clauses.{usage_line, Used, ReadToEnd, AnswersScript, AnswersScriptPart};
 ghost use Rattle.planar_run.specs.Clauses.{AnswersEnded, AnswersToLimit, Ends, Causes};
@@ -30,8 +30,8 @@ const BUFFER: usize = 4096;
 fn answer_script<S: Source, K: Sink>(engine: &mut Engine, source: &mut S, sink: &mut K) -> Status
     requires line { engine.old.line ≡ [] }
     requires kept { IsKeptWorld Observer-dyn engine.old.world }
-    ensures ends { (observers : List Waiting) → world_row Observer-dyn engine.old.world ≡ first_world observers →
-        Ends observers result (S.left source.old) (S.left source.new) (K.taken sink.old) (K.taken sink.new) }
+    ensures ends { Ends (world_row Observer-dyn engine.old.world) result
+        (S.left source.old) (S.left source.new) (K.taken sink.old) (K.taken sink.new) }
     ensures causes { Causes result
         (S.faults source.old) (S.faults source.new) (K.faults sink.old) (K.faults sink.new) }
     ensures reads { S.calls source.new ≤ S.calls source.old + (SCRIPT_LIMIT + 1) }
@@ -69,7 +69,7 @@ fn run<S: Source, K: Sink>(
     sink: &mut K,
     observers: Vec<Box<dyn Observer>>,
 ) -> Status
-    ensures ends { Ends (waiting_rows Observer-dyn observers.items) result
+    ensures ends { Ends (first_world strategy (waiting_rows Observer-dyn observers.items)) result
         (S.left source.old) (S.left source.new) (K.taken sink.old) (K.taken sink.new) }
     ensures causes { Causes result
         (S.faults source.old) (S.faults source.new) (K.faults sink.old) (K.faults sink.new) }
@@ -112,9 +112,9 @@ fn run_made<K: Sink>(
     observers: Vec<Box<dyn Observer>>,
 ) -> Status
     ensures made { result ≡ Status.Done → AnswersMade (K.taken sink.old) (K.taken sink.new)
-        (first_world (waiting_rows Observer-dyn observers.items)) (script segments seed) }
+        (first_world strategy (waiting_rows Observer-dyn observers.items)) (script segments seed) }
     ensures broken { result ≡ Status.WriteFault → AnswersMadePart (K.taken sink.old) (K.taken sink.new)
-        (first_world (waiting_rows Observer-dyn observers.items)) (script segments seed) }
+        (first_world strategy (waiting_rows Observer-dyn observers.items)) (script segments seed) }
     ensures no_memory { result ≡ Status.NoMemory → K.taken sink.new ≡ K.taken sink.old }
     ensures only { (result ≡ Status.Done) ⊎ ((result ≡ Status.WriteFault) ⊎ (result ≡ Status.NoMemory)) }
     ensures causes { Causes result 0 0 (K.faults sink.old) (K.faults sink.new) }
@@ -148,7 +148,7 @@ fn refuse_words<K: Sink>(sink: &mut K) -> Status
 /// Runs the script that the source gives, and hands the replies to the sink.
 ///
 /// `words` are those of the command line, the program's name first, which [`read_words`] reads; how points are located
-/// shows in no reply. Where they ask for a made script, the source isn't read, and the reply to the last line of that script
+/// shows in no reply but `no memory`. Where they ask for a made script, the source isn't read, and the reply to the last line of that script
 /// alone is written, or, where a line of it finds no memory, the reply to the first such line. Each line is answered when its
 /// end was read. A line that was begun isn't answered after a failed read, and the first failed read or write ends the run.
 /// Lines and scripts of any length take bounded memory.
@@ -163,27 +163,33 @@ pub fn planar<S: Source, K: Sink>(
     ensures read_to_end { AskForScript (map string_bytes words.now) → result ≡ Status.Done →
         ReadToEnd (S.left source.old) (S.left source.new) }
     ensures answered { AskForScript (map string_bytes words.now) → result ≡ Status.Done →
-        AnswersScript (waiting_rows Observer-dyn observers.items)
-        (S.left source.old) (S.left source.new) (K.taken sink.old) (K.taken sink.new) }
+        LocateBy (map string_bytes words.now) (λ strategy.
+        AnswersScript (first_world strategy (waiting_rows Observer-dyn observers.items))
+        (S.left source.old) (S.left source.new) (K.taken sink.old) (K.taken sink.new)) }
 
     // After a fault, or past the limit, the lines whose end was read are answered.
     ensures answered_to_read_fault { result ≡ Status.ReadFault →
-        AnswersEnded (waiting_rows Observer-dyn observers.items)
-        (S.left source.old) (S.left source.new) (K.taken sink.old) (K.taken sink.new) }
+        LocateBy (map string_bytes words.now) (λ strategy.
+        AnswersEnded (first_world strategy (waiting_rows Observer-dyn observers.items))
+        (S.left source.old) (S.left source.new) (K.taken sink.old) (K.taken sink.new)) }
     ensures answered_to_limit { result ≡ Status.TooLong →
-        AnswersToLimit (waiting_rows Observer-dyn observers.items)
-        (S.left source.old) (S.left source.new) (K.taken sink.old) (K.taken sink.new) }
+        LocateBy (map string_bytes words.now) (λ strategy.
+        AnswersToLimit (first_world strategy (waiting_rows Observer-dyn observers.items))
+        (S.left source.old) (S.left source.new) (K.taken sink.old) (K.taken sink.new)) }
     ensures answered_to_write_fault { AskForScript (map string_bytes words.now) → result ≡ Status.WriteFault →
-        AnswersScriptPart (waiting_rows Observer-dyn observers.items)
-        (S.left source.old) (S.left source.new) (K.taken sink.old) (K.taken sink.new) }
+        LocateBy (map string_bytes words.now) (λ strategy.
+        AnswersScriptPart (first_world strategy (waiting_rows Observer-dyn observers.items))
+        (S.left source.old) (S.left source.new) (K.taken sink.old) (K.taken sink.new)) }
 
     // Where they ask for a made script, it took the last reply to its lines, and nothing is read.
     ensures made { (segments seed : ℕ) → AskForMade (map string_bytes words.now) segments seed →
-        result ≡ Status.Done → AnswersMade (K.taken sink.old) (K.taken sink.new)
-        (first_world (waiting_rows Observer-dyn observers.items)) (script segments seed) }
+        result ≡ Status.Done → LocateBy (map string_bytes words.now) (λ strategy.
+        AnswersMade (K.taken sink.old) (K.taken sink.new)
+        (first_world strategy (waiting_rows Observer-dyn observers.items)) (script segments seed)) }
     ensures made_to_write_fault { (segments seed : ℕ) → AskForMade (map string_bytes words.now) segments seed →
-        result ≡ Status.WriteFault → AnswersMadePart (K.taken sink.old) (K.taken sink.new)
-        (first_world (waiting_rows Observer-dyn observers.items)) (script segments seed) }
+        result ≡ Status.WriteFault → LocateBy (map string_bytes words.now) (λ strategy.
+        AnswersMadePart (K.taken sink.old) (K.taken sink.new)
+        (first_world strategy (waiting_rows Observer-dyn observers.items)) (script segments seed)) }
     ensures made_without_source { (segments seed : ℕ) → AskForMade (map string_bytes words.now) segments seed →
         (source.new ≡ source.old)
         × ((result ≡ Status.Done) ⊎ ((result ≡ Status.WriteFault) ⊎ (result ≡ Status.NoMemory))) }

@@ -1,4 +1,4 @@
-ghost use Rattle.std.specs.Prelude.{◌≡◌, ◌++◌, ◌∷◌, [], codes, map, OnOk};
+ghost use Rattle.std.specs.Prelude.{◌≡◌, ◌≤◌, ◌+◌, ◌++◌, ◌∷◌, [], codes, length, map, OnOk};
 ghost use Rattle.std.specs.List.{flat_map};
 ghost use Rattle.planar_run.specs.Text.{line_of, point_text, cell_text, spaced, edge_line, curve_text};
 ghost use Rattle.arrangement.specs.Answers.{edge_of};
@@ -9,70 +9,85 @@ use exact_plane::Point;
 use itoa::Integer;
 use no_memory::NoMemory;
 use slab_laws::{Cell, CurveId};
+use std::alloc::Global;
 
-/// Appends the three numbers of a point.
-pub fn put_point(reply: &mut Reply, point: &Point) -> Result<(), NoMemory>
-    ensures { OnOk result (reply.new ≡ reply.old ++ point_text point.now) }
+// The three numbers of a point, within the room that is there.
+fn add_point(reply: &mut Reply, point: &Point)
+    requires { length reply.old ≤ 300 }
+    ensures text { reply.new ≡ reply.old ++ point_text point.now }
+    ensures short { length reply.new ≤ length reply.old + 122 }
 {
-    reply.put_number(point.x())?;
-    reply.put_text(" ")?;
-    reply.put_number(point.y())?;
-    reply.put_text(" ")?;
-    reply.put_number(point.w())
+    reply.add_number(point.x());
+    reply.add_text(" ");
+    reply.add_number(point.y());
+    reply.add_text(" ");
+    reply.add_number(point.w());
 }
 
-// Appends a text and a number.
+// A word and the two ends of an edge, within the room that is there.
+fn add_ends(reply: &mut Reply, word: &str, low: &Point, high: &Point)
+    requires word { length word.now ≤ 8 }
+    requires room { length reply.old ≤ 100 }
+    ensures text { reply.new ≡ reply.old ++ (word.now ++ (point_text low.now ++ 32 ∷ point_text high.now)) }
+    ensures short { length reply.new ≤ 400 }
+{
+    reply.add_text(word);
+    add_point(reply, low);
+    reply.add_text(" ");
+    add_point(reply, high);
+}
+
+/// Appends what holds a point, within the room that is there. It takes no memory.
+pub fn add_cell(reply: &mut Reply, cell: Cell)
+    requires { length reply.old ≤ 100 }
+    ensures text { reply.new ≡ reply.old ++ cell_text cell }
+    ensures short { length reply.new ≤ 400 }
+{
+    match cell {
+        Cell::Vertex(point) => {
+            reply.add_text("vertex ");
+            add_point(reply, &point);
+        }
+        Cell::Edge(low, high) => add_ends(reply, "edge ", &low, &high),
+        Cell::Face(rank) => {
+            reply.add_text("face ");
+            reply.add_number(rank);
+        }
+    }
+}
+
+// A space and a number, within the room that is there.
+fn add_spaced<I: Integer>(reply: &mut Reply, number: I)
+    requires long { I.MAX_STR_LEN ≤ 40 }
+    requires room { length reply.old ≤ 400 }
+    ensures text { reply.new ≡ reply.old ++ 32 ∷ I.text number }
+    ensures short { length reply.new ≤ length reply.old + 41 }
+{
+    reply.add_text(" ");
+    reply.add_number(number);
+}
+
+/// Appends the line of counts, within the room that is there. It takes no memory.
+pub fn add_counts(reply: &mut Reply, counts: &Counts)
+    requires { length reply.old ≤ 100 }
+    ensures { reply.new ≡ reply.old ++ line_of (codes "counts" ++ spaced (counts.now.vertices ∷ counts.now.edges ∷ counts.now.faces ∷ counts.now.inner ∷ counts.now.isolated ∷ counts.now.curves ∷ [])) }
+{
+    reply.add_text("counts");
+    add_spaced(reply, counts.vertices);
+    add_spaced(reply, counts.edges);
+    add_spaced(reply, counts.faces);
+    add_spaced(reply, counts.inner);
+    add_spaced(reply, counts.isolated);
+    add_spaced(reply, counts.curves);
+    reply.add_text("\n");
+}
+
+// Appends a word and a number.
 fn put_labelled<I: Integer>(reply: &mut Reply, label: &str, number: I) -> Result<(), NoMemory>
     ensures { OnOk result (reply.new ≡ reply.old ++ (label.now ++ I.text number)) }
 {
     reply.put_text(label)?;
     reply.put_number(number)
-}
-
-// Appends a word and the two ends of an edge.
-fn put_ends(reply: &mut Reply, word: &str, low: &Point, high: &Point) -> Result<(), NoMemory>
-    ensures { OnOk result (reply.new ≡ reply.old ++ (word.now ++ (point_text low.now ++ 32 ∷ point_text high.now))) }
-{
-    reply.put_text(word)?;
-    put_point(reply, low)?;
-    reply.put_text(" ")?;
-    put_point(reply, high)
-}
-
-/// Appends what holds a point.
-pub fn put_cell(reply: &mut Reply, cell: Cell) -> Result<(), NoMemory>
-    ensures { OnOk result (reply.new ≡ reply.old ++ cell_text cell) }
-{
-    match cell {
-        Cell::Vertex(point) => {
-            reply.put_text("vertex ")?;
-            put_point(reply, &point)
-        }
-        Cell::Edge(low, high) => put_ends(reply, "edge ", &low, &high),
-        Cell::Face(rank) => put_labelled(reply, "face ", rank),
-    }
-}
-
-// Appends a space and a number.
-fn put_spaced<I: Integer>(reply: &mut Reply, number: I) -> Result<(), NoMemory>
-    ensures { OnOk result (reply.new ≡ reply.old ++ 32 ∷ I.text number) }
-{
-    put_labelled(reply, " ", number)
-}
-
-/// Appends the line of counts.
-pub fn put_counts(reply: &mut Reply, counts: &Counts) -> Result<(), NoMemory>
-    ensures { OnOk result (reply.new ≡ reply.old ++ line_of (codes "counts" ++ spaced (counts.now.vertices ∷ counts.now.edges ∷ counts.now.faces ∷ counts.now.inner ∷ counts.now.isolated ∷ counts.now.curves ∷ []))) }
-{
-    reply.put_text("counts")?;
-    put_spaced(reply, counts.vertices)?;
-    put_spaced(reply, counts.edges)?;
-    put_spaced(reply, counts.faces)?;
-    put_spaced(reply, counts.inner)?;
-    put_spaced(reply, counts.isolated)?;
-    put_spaced(reply, counts.curves)?;
-    reply.put_text("\n")?;
-    Ok(())
 }
 
 /// Appends the line of the curves along an edge.
@@ -81,36 +96,41 @@ pub fn put_curves(reply: &mut Reply, curves: &[CurveId]) -> Result<(), NoMemory>
 {
     reply.put_text("curves")?;
     for curve in curves {
-        put_spaced(reply, curve.0)?;
+        put_labelled(reply, " ", curve.0)?;
     }
     reply.put_text("\n")
 }
 
-// Appends the line of an edge.
-fn put_edge_line(reply: &mut Reply, ends: &(Point, Point)) -> Result<(), NoMemory>
-    ensures { OnOk result (reply.new ≡ reply.old ++ edge_line (edge_of ends.now)) }
-{
-    let (low, high) = ends;
-    put_ends(reply, "e ", low, high)?;
-    reply.put_text("\n")
-}
-
-// Appends a line for each of the edges.
-fn put_edge_lines(reply: &mut Reply, edges: &[(Point, Point)]) -> Result<(), NoMemory>
+// Appends a line for each of the edges, which is made in the room of another reply.
+fn put_edge_lines(
+    reply: &mut Reply,
+    line: &mut Reply,
+    edges: &[(Point, Point)],
+) -> Result<(), NoMemory>
     ensures { OnOk result (reply.new ≡ reply.old ++ flat_map edge_line (map edge_of edges.now)) }
 {
     for ends in edges {
-        put_edge_line(reply, ends)?;
+        let (low, high) = ends;
+        line.clear();
+        add_ends(line, "e ", low, high);
+        line.add_text("\n");
+        reply.put_bytes(line.as_slice())?;
     }
     Ok(())
 }
 
 /// Appends the text of a curve: its number, then its edges, each by its lower and its upper end.
-pub fn put_curve(reply: &mut Reply, curve: u32, edges: &[(Point, Point)]) -> Result<(), NoMemory>
+pub fn put_curve(
+    alloc: Global,
+    reply: &mut Reply,
+    curve: u32,
+    edges: &[(Point, Point)],
+) -> Result<(), NoMemory>
     ensures { OnOk result (reply.new ≡ reply.old ++ curve_text curve (map edge_of edges.now)) }
 {
+    let mut line = Reply::new(alloc)?;
     put_labelled(reply, "curve ", curve)?;
     reply.put_text("\n")?;
-    put_edge_lines(reply, edges)?;
+    put_edge_lines(reply, &mut line, edges)?;
     reply.put_text("end\n")
 }

@@ -1,6 +1,7 @@
 ghost use Rattle.std.specs.Prelude.{◌≡◌, ◌∷◌, [], true, length, map, IfOk, IfErr, OnOk, OnErr};
 ghost use Rattle.plane_graphs.specs.Graph.{curves};
 ghost use Rattle.arrangement.specs.Arranged.{arranged};
+ghost use Rattle.arrangement.specs.Questions.{TakesMemory};
 ghost use Rattle.arrangement.specs.Answers.{insert_said, drop_said, cut_said, pin_said, unpin_said, split_said, merge_said, edge_of, cut_between, split_at};
 ghost use Rattle.edit_steps.specs.Edits.{Insert, Drop, Pin, Unpin, Merge, ClearAll};
 ghost use Rattle.edit_steps.specs.Refusals.{IsAnswerFor};
@@ -25,7 +26,7 @@ use slab_laws::{Cell, CurveId, Strategy};
 use std::alloc::Global;
 
 /// What the lines of a script have built so far, two arrangements, each under the limits of a script, the one that lines mean and the
-/// other; the observers that wait, each at the place of its number; and how points are located, which shows in no reply.
+/// other; the observers that wait, each at the place of its number; and how points are located, which shows in no reply but `no memory`.
 ///
 /// Contracts see it as a row (`specs/Rows.antt`): what a boxed observer means is handed to them by the observers' own words.
 #[derive(Drop)]
@@ -36,7 +37,7 @@ pub struct World {
     pub(crate) is_blue: bool,
     pub(crate) observers: Vec<Option<Box<dyn Observer>>>,
     pub(crate) alloc: Global,
-    strategy: Strategy,
+    pub(crate) strategy: Strategy,
 }
 
 // An arrangement of nothing, under the limits of a script, over a bus with room for all its seats and nobody in them.
@@ -55,7 +56,7 @@ impl World {
         strategy: Strategy,
         observers: Vec<Box<dyn Observer>>,
     ) -> Result<World, NoMemory>
-        ensures first { IfOk result (λ w. world_row Observer-dyn w ≡ first_world (waiting_rows Observer-dyn observers.items)) }
+        ensures first { IfOk result (λ w. world_row Observer-dyn w ≡ first_world strategy (waiting_rows Observer-dyn observers.items)) }
         ensures kept { IfOk result (λ w. IsKeptWorld Observer-dyn w) }
     {
         let observers = all_waiting(alloc, observers)?;
@@ -184,17 +185,18 @@ impl World {
         self.arrangement.edges_of(curve)
     }
 
-    /// Where a point lies.
+    /// Where a point lies. Naive and walking location take no memory.
     pub fn locate(&mut self, point: &Point) -> Result<Cell, NoMemory>
         ensures cell { IfOk result (λ c. c ≡ holds (subdivision_of (world_row Observer-dyn self.old)) point.now) }
+        ensures no_memory { OnErr result (TakesMemory self.old.strategy) }
         ensures same { self.new ≡ self.old }
     {
         self.arrangement.locate(self.strategy, point)
     }
 
-    /// How many vertices, edges, faces, inner cycles, isolated vertices and named curves there are.
-    pub fn counts(&self) -> Result<Counts, NoMemory>
-        ensures { IfOk result (λ c. c.vertices ∷ c.edges ∷ c.faces ∷ c.inner ∷ c.isolated ∷ c.curves ∷ [] ≡ counted (subdivision_of (world_row Observer-dyn self.now)) (length (world_row Observer-dyn self.now).layer.names)) }
+    /// How many vertices, edges, faces, inner cycles, isolated vertices and named curves there are. It takes no memory.
+    pub fn counts(&self) -> Counts
+        ensures { result.vertices ∷ result.edges ∷ result.faces ∷ result.inner ∷ result.isolated ∷ result.curves ∷ [] ≡ counted (subdivision_of (world_row Observer-dyn self.now)) (length (world_row Observer-dyn self.now).layer.names) }
     {
         self.arrangement.counts()
     }

@@ -72,7 +72,7 @@ pub fn is_unknown(layer: &Arrangement, curve: u32) -> bool {
 
 /// Vertices, edges, faces, inner cycles, isolated vertices and curves.
 pub fn counted(layer: &Arrangement) -> Result<[usize; 6], Fail> {
-    let counts = layer.counts()?;
+    let counts = layer.counts();
     let curves = usize::try_from(counts.curves)?;
     Ok([
         counts.vertices,

@@ -63,11 +63,7 @@ returns-in-Curve g c = record {
 }
 
 pub returns-in-Count : goal.returns-in-Count
-returns-in-Count g c = record {
-  obeyed = obeyed_by c.count.result c.args.command _ _ _ _ c.in-Count.is c.count.ensures;
-  err = always_wanted c.count.result c.args.command _ _ c.in-Count.is tt;
-  kept = c.requires.kept;
-}
+returns-in-Count g c = record { obeyed = answered_as c.args.command _ _ _ _ c.in-Count.is c.count.ensures; err = tt; kept = c.requires.kept }
 
 pub returns-in-Show : goal.returns-in-Show
 returns-in-Show g c = record {

@@ -7,6 +7,7 @@ use Rattle.planar_run.specs.declared.run.TheConstants.{SCRIPT_LIMIT, BUFFER}
 use Rattle.planar_run.specs.declared.status.Status.{Status}
 use Rattle.planar_run.specs.declared.status.Status.TheVariants.{Done, Usage, ReadFault, WriteFault, NoMemory, TooLong}
 use Rattle.planar_run.specs.World.{World}
+use Rattle.planar_run.specs.Rows.{world_row}
 use Rattle.planar_run.specs.Clauses.{Used, Ends, Causes, Finishes}
 use Rattle.planar_run.proofs.Ended.{no_calls}
 use Rattle.planar_run.proofs.Loop.{Used-none, Used-more, HasSaid-first, HasSaid-fed, Ends-finished, Ends-read_fault, Ends-write_fault, Ends-too_long, Loses-none}
@@ -63,7 +64,7 @@ finished TooLong old new world line source source' first sink sink' f c e g = ab
 pub reads-init : goal.reads-init
 reads-init g c = record {
   used = Used-none (g.S.Source.left c.args.source.now);
-  said = λ observers first. HasSaid-first observers (g.S.Source.left c.args.source.now) (g.K.Sink.taken c.args.sink.now) _ c.args.engine.now.line first c.requires.line;
+  said = HasSaid-first _ (g.S.Source.left c.args.source.now) (g.K.Sink.taken c.args.sink.now) _ c.args.engine.now.line refl c.requires.line;
   kept = c.requires.kept;
   within = at_limit;
   size = refl;
@@ -73,10 +74,10 @@ reads-init g c = record {
 }
 
 pub returns-in-Err-clause-ends : goal.returns-in-Err-clause-ends
-returns-in-Err-clause-ends g c = λ observers first.
+returns-in-Err-clause-ends g c =
     let i = c.reads.invariant in
-    subst (λ (o : Option (List ℕ)). Ends observers ReadFault (g.S.Source.left c.args.source.now) o (g.K.Sink.taken c.args.sink.now) (g.K.Sink.taken c.reads.sink)) (sym c.in-Err.ensures.bytes)
-    (Ends-read_fault observers _ _ _ _ (SCRIPT_LIMIT - c.reads.room) _ _ i.used (used_within c.reads.room) (i.said observers first))
+    subst (λ (o : Option (List ℕ)). Ends (world_row (goal.Observer-dyn g) c.args.engine.now.world) ReadFault (g.S.Source.left c.args.source.now) o (g.K.Sink.taken c.args.sink.now) (g.K.Sink.taken c.reads.sink)) (sym c.in-Err.ensures.bytes)
+    (Ends-read_fault _ _ _ _ _ (SCRIPT_LIMIT - c.reads.room) _ _ i.used (used_within c.reads.room) i.said)
 
 -- a read of no byte met the end
 spent : (left : Option (List ℕ)) (n : ℕ) → IfSome left (λ xs. (n ≡ 0) ↔ (xs ≡ [])) → n ≡ 0 → IsSpent left
@@ -84,26 +85,26 @@ spent None n ended e = tt
 spent (Some xs) n ended e = ended.0 e
 
 pub returns-then-count-eq0-clause-ends : goal.returns-then-count-eq0-clause-ends
-returns-then-count-eq0-clause-ends g c = λ observers first.
+returns-then-count-eq0-clause-ends g c =
     let i = c.reads.invariant in
     let given = c.in-Ok.ensures.bytes in
     let some : 0 < length c.read.new.buf = part_some _ _ _ _ c.read.auto.buf c.split_at_mut-part.ensures.front_len c.min.ensures c.reads-test.true in
     let none : Loses (g.S.Source.left c.reads.source) (g.S.Source.left c.read.new.self) [] = subst (λ (n : ℕ). Loses (g.S.Source.left c.reads.source) (g.S.Source.left c.read.new.self) (take n c.read.new.buf)) c.if-count-eq0.true given.front in
-    subst (λ (o : Option (List ℕ)). Ends observers c.finish.result (g.S.Source.left c.args.source.now) o (g.K.Sink.taken c.args.sink.now) (g.K.Sink.taken c.finish.new.sink)) (sym (Loses-none _ _ none))
-    (Ends-finished observers c.finish.result _ _ _ _ _ (SCRIPT_LIMIT - c.reads.room) _ _ i.used (used_within c.reads.room) (i.said observers first) (spent _ c.in-Ok.count (given.ended some) c.if-count-eq0.true) c.finish.ensures.finishes)
+    subst (λ (o : Option (List ℕ)). Ends (world_row (goal.Observer-dyn g) c.args.engine.now.world) c.finish.result (g.S.Source.left c.args.source.now) o (g.K.Sink.taken c.args.sink.now) (g.K.Sink.taken c.finish.new.sink)) (sym (Loses-none _ _ none))
+    (Ends-finished _ c.finish.result _ _ _ _ _ (SCRIPT_LIMIT - c.reads.room) _ _ i.used (used_within c.reads.room) i.said (spent _ c.in-Ok.count (given.ended some) c.if-count-eq0.true) c.finish.ensures.finishes)
 
 -- what was read is what the engine is fed
 fed_front : (left now : Option (List ℕ)) (n : ℕ) (buffer back bytes : List ℕ) → n ≤ length buffer → bytes ≡ take n (buffer ++ back) → Loses left now (take n buffer) → Loses left now bytes
 fed_front left now n buffer back bytes le e l = subst (Loses left now) (sym (e ∙ take-append-le n buffer back le)) l
 
 pub returns-in-Err-feed-clause-ends : goal.returns-in-Err-feed-clause-ends
-returns-in-Err-feed-clause-ends g c = λ observers first.
+returns-in-Err-feed-clause-ends g c =
     let i = c.reads.invariant in
     let given = c.in-Ok.ensures.bytes in
     let few : length c.read.new.buf ≤ c.reads.room = part_few _ _ _ _ c.read.auto.buf c.split_at_mut-part.ensures.front_len c.min.ensures in
     let front = fed_front (g.S.Source.left c.reads.source) (g.S.Source.left c.read.new.self) c.in-Ok.count c.read.new.buf c.split_at_mut-part.result.1.now c.split_at.result.0.now given.bound c.split_at.ensures.front given.front in
     let small : SCRIPT_LIMIT - c.reads.room + length c.split_at.result.0.now ≤ SCRIPT_LIMIT = fed_within _ _ _ _ c.split_at.ensures.front_len given.bound few i.within in
-    Ends-write_fault observers _ _ _ _ _ _ c.split_at.result.0.now (SCRIPT_LIMIT - c.reads.room) _ _ i.used small (i.said observers first) front c.in-Err-feed.ensures.broken
+    Ends-write_fault _ _ _ _ _ _ _ c.split_at.result.0.now (SCRIPT_LIMIT - c.reads.room) _ _ i.used small i.said front c.in-Err-feed.ensures.broken
 
 pub reads-preserved : goal.reads-preserved
 reads-preserved g c =
@@ -113,7 +114,7 @@ reads-preserved g c =
     let front = fed_front (g.S.Source.left c.reads.source) (g.S.Source.left c.read.new.self) c.in-Ok.count c.read.new.buf c.split_at_mut-part.result.1.now c.split_at.result.0.now given.bound c.split_at.ensures.front given.front in
     let counted : SCRIPT_LIMIT - c.reads.room + length c.split_at.result.0.now ≡ SCRIPT_LIMIT - (c.reads.room - c.in-Ok.count) = fed_counted _ _ _ _ c.split_at.ensures.front_len given.bound few i.within in record {
       used = subst (λ (n : ℕ). Used (g.S.Source.left c.args.source.now) (g.S.Source.left c.read.new.self) (λ used. length used ≡ n)) counted (Used-more _ _ _ c.split_at.result.0.now (SCRIPT_LIMIT - c.reads.room) i.used front);
-      said = λ observers first. HasSaid-fed observers _ _ _ _ _ _ c.split_at.result.0.now (SCRIPT_LIMIT - c.reads.room) _ _ _ _ _ (i.said observers first) front c.in-Ok-feed.ensures.fed counted;
+      said = HasSaid-fed _ _ _ _ _ _ _ c.split_at.result.0.now (SCRIPT_LIMIT - c.reads.room) _ _ _ _ _ i.said front c.in-Ok-feed.ensures.fed counted;
       kept = c.feed.ensures.kept;
       within = room_left _ _ i.within;
       size = length-append c.read.new.buf c.split_at_mut-part.result.1.now ∙ part_size _ _ _ _ _ c.read.auto.buf c.split_at_mut-part.ensures.front_len c.split_at_mut-part.ensures.back_len i.size;
@@ -123,23 +124,23 @@ reads-preserved g c =
     }
 
 pub returns-in-Err-read_byte-clause-ends : goal.returns-in-Err-read_byte-clause-ends
-returns-in-Err-read_byte-clause-ends g c = λ observers first.
+returns-in-Err-read_byte-clause-ends g c =
     let i = c.reads.invariant in
-    subst (λ (o : Option (List ℕ)). Ends observers ReadFault (g.S.Source.left c.args.source.now) o (g.K.Sink.taken c.args.sink.now) (g.K.Sink.taken c.reads.sink)) (sym c.in-Err-read_byte.ensures.err)
-    (Ends-read_fault observers _ _ _ _ (SCRIPT_LIMIT - c.reads.room) _ _ i.used (used_within c.reads.room) (i.said observers first))
+    subst (λ (o : Option (List ℕ)). Ends (world_row (goal.Observer-dyn g) c.args.engine.now.world) ReadFault (g.S.Source.left c.args.source.now) o (g.K.Sink.taken c.args.sink.now) (g.K.Sink.taken c.reads.sink)) (sym c.in-Err-read_byte.ensures.err)
+    (Ends-read_fault _ _ _ _ _ (SCRIPT_LIMIT - c.reads.room) _ _ i.used (used_within c.reads.room) i.said)
 
 pub returns-in-Ok-None-clause-ends : goal.returns-in-Ok-None-clause-ends
-returns-in-Ok-None-clause-ends g c = λ observers first.
+returns-in-Ok-None-clause-ends g c =
     let i = c.reads.invariant in
     let end = rw c.in-Ok-None.field-0-is at c.in-Ok-None.ensures.byte in
-    subst (λ (o : Option (List ℕ)). Ends observers c.finish-in-Ok-None.result (g.S.Source.left c.args.source.now) o (g.K.Sink.taken c.args.sink.now) (g.K.Sink.taken c.finish-in-Ok-None.new.sink)) (sym end.1)
-    (Ends-finished observers c.finish-in-Ok-None.result _ _ _ _ _ (SCRIPT_LIMIT - c.reads.room) _ _ i.used (used_within c.reads.room) (i.said observers first) end.0 c.finish-in-Ok-None.ensures.finishes)
+    subst (λ (o : Option (List ℕ)). Ends (world_row (goal.Observer-dyn g) c.args.engine.now.world) c.finish-in-Ok-None.result (g.S.Source.left c.args.source.now) o (g.K.Sink.taken c.args.sink.now) (g.K.Sink.taken c.finish-in-Ok-None.new.sink)) (sym end.1)
+    (Ends-finished _ c.finish-in-Ok-None.result _ _ _ _ _ (SCRIPT_LIMIT - c.reads.room) _ _ i.used (used_within c.reads.room) i.said end.0 c.finish-in-Ok-None.ensures.finishes)
 
 pub returns-in-Ok-Some-clause-ends : goal.returns-in-Ok-Some-clause-ends
-returns-in-Ok-Some-clause-ends g c = λ observers first.
+returns-in-Ok-Some-clause-ends g c =
     let i = c.reads.invariant in
     let byte = rw c.in-Ok-Some.field-0-is at c.in-Ok-Some.ensures.byte in
-    Ends-too_long observers _ _ _ _ _ _ (SCRIPT_LIMIT - c.reads.room) _ _ i.used (no_room c.reads.room c.reads-test.false) (i.said observers first) byte
+    Ends-too_long _ _ _ _ _ _ _ (SCRIPT_LIMIT - c.reads.room) _ _ i.used (no_room c.reads.room c.reads-test.false) i.said byte
 
 -- ---- faults
 pub returns-in-Err-clause-causes : goal.returns-in-Err-clause-causes

@@ -9,12 +9,12 @@ new-drawn-requires g c = told_records _ _ c.self.invariant.0.sound c.self.invari
 pub attach-requires : goal.attach-requires
 attach-requires g c = record {
   when = c.requires.when;
-  sound = drawn_sound _ _ c.self.invariant.1.map.sound c.self.invariant.0.curves _ _ c.new-drawn.ensures.records c.new-drawn.ensures.history;
+  sound = drawn_sound _ _ c.self.invariant.1.0.map.sound c.self.invariant.0.curves _ _ c.new-drawn.ensures.records c.new-drawn.ensures.history;
 }
 
 pub returns : goal.returns
 returns g c =
-    let same = drawn_seen _ _ c.self.invariant.1.map.sound c.self.invariant.0.curves _ _ c.new-drawn.ensures.records c.new-drawn.ensures.history in
+    let same = drawn_seen _ _ c.self.invariant.1.0.map.sound c.self.invariant.0.curves _ _ c.new-drawn.ensures.records c.new-drawn.ensures.history in
     let attached = attached_seen c.attach.result _ _ _ _ _ same c.attach.ensures.attached in
     rw (← c.self.view_is) (record {
       refused = c.attach.ensures.refused;

@@ -1,16 +1,23 @@
-use Rattle.std.proofs.Common.{ap, length, ◌∙◌}
-use Rattle.std.specs.Prelude.{not}
-use Rattle.std.specs.List.{count_by}
+use Rattle.std.proofs.Common.{◌∙◌}
+use Rattle.arrangement.proofs.CellsCounted.{layer_vertices, layer_edges, layer_faces, layer_inner, layer_bare, layer_few}
 use Rattle.arrangement.proofs.arrangement.Arrangement.counts.Goals as goal
+
+pub overflow_sub-result : goal.overflow_sub-result
+overflow_sub-result g c = let e = c.record_counts-rows.ensures in (layer_few _ _ _ c.self.invariant.0 c.self.invariant.1.0.map.sound _ _ e.cycles e.faces).0
+
+pub overflow_sub-result-2 : goal.overflow_sub-result-2
+overflow_sub-result-2 g c = let e = c.record_counts-rows.ensures in (layer_few _ _ _ c.self.invariant.0 c.self.invariant.1.0.map.sound _ _ e.cycles e.faces).1
 
 pub returns : goal.returns
 returns g c =
-    let same = c.in_ok-subdivision.ensures.subdivision in
-    let e = c.count-cells.ensures in record {
-      vertices = e.vertices ∙ ap (λ s. length s.graph.vertices) same;
-      edges = e.edges ∙ ap (λ s. length s.graph.edges) same;
-      faces = e.faces ∙ ap (λ s. length s.faces) same;
-      inner = e.inner ∙ ap (λ s. count_by (λ k. not k.outer) s.cycles) same;
-      isolated = e.isolated ∙ ap (λ s. length s.bare) same;
-      curves = rw (← c.self.view_is) c.named.ensures;
-    }
+    let l = c.self.invariant.0 in
+    let s = c.self.invariant.1.0.map.sound in
+    let e = c.record_counts-rows.ensures in
+    rw (← c.self.view_is) (record {
+      vertices = e.vertices ∙ layer_vertices _ _ _ l s;
+      edges = layer_edges _ _ _ l s _ e.darts;
+      faces = e.faces ∙ layer_faces _ _ _ l s;
+      inner = layer_inner _ _ _ l s _ _ e.cycles e.faces;
+      isolated = e.isolated ∙ layer_bare _ _ _ l s;
+      curves = c.named.ensures;
+    })

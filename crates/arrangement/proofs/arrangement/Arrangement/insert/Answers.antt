@@ -3,15 +3,15 @@ use Rattle.edit_steps.specs.Edits.{Insert}
 use Rattle.arrangement.proofs.Edits.{edited_by, as_before}
 use Rattle.arrangement.proofs.arrangement.Arrangement.insert.Goals as goal
 
-pub locate-start-requires : goal.locate-start-requires
-locate-start-requires g c = c.self.invariant.1.map
+pub walk_to-start-requires : goal.walk_to-start-requires
+walk_to-start-requires g c = c.self.invariant.1.0.map
 
 pub insert-requires : goal.insert-requires
 insert-requires g c = record {
   layer = c.self.invariant.0;
-  map = c.self.invariant.1;
+  map = c.self.invariant.1.0;
   watched = rw (← c.self.view_is) at c.requires.watched;
-  start = let at : c.lower.result ≡ c.args.segment.lower = c.lower.ensures.value in rw (← at) c.locate-start.ensures;
+  start = let at : c.lower.result ≡ c.args.segment.lower = c.lower.ensures.value in rw (← at) c.walk_to-start.ensures;
 }
 
 pub returns : goal.returns

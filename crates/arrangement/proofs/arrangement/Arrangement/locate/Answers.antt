@@ -1,13 +1,13 @@
-use Rattle.std.proofs.Common.{ap, ◌∙◌, refl}
+use Rattle.std.proofs.Common.{◌∙◌, refl}
 use Rattle.plane_graphs.proofs.Lines.{point_is_proper}
-use Rattle.slab_laws.specs.Subdivision.{holds}
-use Rattle.std.proofs.lemmas.Result.{IfOk-from_err}
-use Rattle.pin_points.proofs.Outcomes.{on_err}
-use Rattle.arrangement.proofs.Located.{at_vertex, on_edge}
+use Rattle.arrangement.proofs.Located.{at_vertex, on_edge, in_face, face_there}
 use Rattle.arrangement.proofs.arrangement.Arrangement.locate.Goals as goal
 
 pub spot_by-requires : goal.spot_by-requires
-spot_by-requires g c = c.self.invariant.1.map
+spot_by-requires g c = c.self.invariant.1.0.map
+
+pub rank_of-requires : goal.rank_of-requires
+rank_of-requires g c = face_there _ _ c.self.invariant.1.0.map.sound _ _ c.in-Face.ensures.face
 
 pub returns-in-Vertex : goal.returns-in-Vertex
 returns-in-Vertex g c = rw (← c.self.view_is) (record {
@@ -26,16 +26,11 @@ returns-in-Edge g c =
       same = refl;
     })
 
-pub returns-in_ok-subdivision-in-Face : goal.returns-in_ok-subdivision-in-Face
-returns-in_ok-subdivision-in-Face g c = record {
-  cell = c.hold-cell.ensures ∙ ap (λ s. holds s c.args.p.now) c.in_ok-subdivision-in-Face.ensures.subdivision;
-  no_memory = tt;
-  same = refl;
-}
-
-pub returns-in_err-subdivision-in-Face : goal.returns-in_err-subdivision-in-Face
-returns-in_err-subdivision-in-Face g c = rw (← c.self.view_is) (record {
-  cell = IfOk-from_err c.from_residual.result _ c.from_residual.ensures.0;
-  no_memory = on_err c.from_residual.result _ c.in-Face.ensures.met;
-  same = refl;
-})
+pub returns-in-Face : goal.returns-in-Face
+returns-in-Face g c =
+    let spot = c.in-Face.ensures in
+    rw (← c.self.view_is) (record {
+      cell = in_face _ _ c.self.invariant.0 _ c.self.invariant.1.0.map.sound c.args.p.now _ _ (point_is_proper c.args.p.now c.laws.ensures) spot.met spot.face c.rank_of.ensures.rank;
+      no_memory = tt;
+      same = refl;
+    })

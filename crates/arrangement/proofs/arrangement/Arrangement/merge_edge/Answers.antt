@@ -6,7 +6,7 @@ use Rattle.arrangement.proofs.arrangement.Arrangement.merge_edge.Goals as goal
 pub merge_edge-requires : goal.merge_edge-requires
 merge_edge-requires g c = record {
   layer = c.self.invariant.0;
-  map = c.self.invariant.1;
+  map = c.self.invariant.1.0;
   watched = rw (← c.self.view_is) at c.requires.watched;
 }
 

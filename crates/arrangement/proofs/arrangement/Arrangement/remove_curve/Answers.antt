@@ -6,7 +6,7 @@ use Rattle.arrangement.proofs.arrangement.Arrangement.remove_curve.Goals as goal
 pub remove_curve-requires : goal.remove_curve-requires
 remove_curve-requires g c = record {
   layer = c.self.invariant.0;
-  map = c.self.invariant.1;
+  map = c.self.invariant.1.0;
   watched = rw (← c.self.view_is) at c.requires.watched;
 }
 

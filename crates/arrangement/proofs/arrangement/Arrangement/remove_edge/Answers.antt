@@ -6,7 +6,7 @@ use Rattle.arrangement.proofs.arrangement.Arrangement.remove_edge.Goals as goal
 pub remove_edge-requires : goal.remove_edge-requires
 remove_edge-requires g c = record {
   layer = c.self.invariant.0;
-  map = c.self.invariant.1;
+  map = c.self.invariant.1.0;
   watched = rw (← c.self.view_is) at c.requires.watched;
 }
 

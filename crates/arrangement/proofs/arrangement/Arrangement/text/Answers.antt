@@ -12,7 +12,7 @@ pub new-drawn-requires : goal.new-drawn-requires
 new-drawn-requires g c = told_records _ _ c.self.invariant.0.sound c.self.invariant.0.curves
 
 pub text-requires : goal.text-requires
-text-requires g c = subst (λ (h : RecordsView). IsSound h.graph (tables_of h)) (sym c.new-drawn.ensures.records) c.self.invariant.1.map.sound
+text-requires g c = subst (λ (h : RecordsView). IsSound h.graph (tables_of h)) (sym c.new-drawn.ensures.records) c.self.invariant.1.0.map.sound
 
 pub returns : goal.returns
 returns g c =

@@ -6,7 +6,7 @@ use Rattle.arrangement.proofs.arrangement.Arrangement.unpin.Goals as goal
 pub unpin-requires : goal.unpin-requires
 unpin-requires g c = record {
   layer = c.self.invariant.0;
-  map = c.self.invariant.1;
+  map = c.self.invariant.1.0;
   watched = rw (← c.self.view_is) at c.requires.watched;
 }
 

@@ -3,13 +3,13 @@ use Rattle.planar_run.proofs.Worlds.{if_done, if_insert_answered, if_kept, if_re
 use Rattle.planar_run.proofs.world.World.insert.Goals as goal
 
 pub returns-clause-done : goal.returns-clause-done
-returns-clause-done g c = if_done c.insert.result _ _ _ _ _ _ c.requires.kept.current c.laws.ensures.apart c.insert.ensures.edit
+returns-clause-done g c = if_done c.insert.result _ _ _ _ _ _ _ c.requires.kept.current c.laws.ensures.apart c.insert.ensures.edit
 
 pub returns-clause-refused : goal.returns-clause-refused
 returns-clause-refused g c = if_insert_answered insert_said c.insert.result c.args.segment _ c.requires.kept.current c.insert.ensures.refused
 
 pub returns-clause-err : goal.returns-clause-err
-returns-clause-err g c = if_refused c.insert.result _ _ _ _ _ c.insert.ensures.as_before
+returns-clause-err g c = if_refused c.insert.result _ _ _ _ _ _ c.insert.ensures.as_before
 
 pub returns-clause-kept : goal.returns-clause-kept
 returns-clause-kept g c = if_kept c.insert.result _ _ _ _ c.requires.kept c.laws.ensures.apart c.insert.ensures.edit c.insert.ensures.as_before c.insert.ensures.limits c.insert.ensures.watched

@@ -6,7 +6,7 @@ pub returns-in-Ok-clause-seated : goal.returns-in-Ok-clause-seated
 returns-in-Ok-clause-seated g c = seated_here c.args.number _ _ c.requires.kept c.in-Ok.ensures.seated
 
 pub returns-in-Ok-clause-left : goal.returns-in-Ok-clause-left
-returns-in-Ok-clause-left g c = left_here c.args.number _ _ c.requires.kept _ _ c.in-Ok.ensures.seated c.args.when _ c.leave.ensures.layer c.in-Ok.ensures.left
+returns-in-Ok-clause-left g c = left_here c.args.number _ _ c.requires.kept _ _ _ c.in-Ok.ensures.seated c.args.when _ c.leave.ensures.layer c.in-Ok.ensures.left
 
 pub returns-in-Ok-clause-kept : goal.returns-in-Ok-clause-kept
 returns-in-Ok-clause-kept g c = record {
@@ -19,11 +19,11 @@ returns-in-Err-clause-seated g c = c.leave-in-Err.ensures.seated ∙ sym (seated
 
 pub returns-in-Err-clause-left : goal.returns-in-Err-clause-left
 returns-in-Err-clause-left g c =
-    if_left_there c.args.number _ _ c.requires.kept _ _ c.leave-in-Err.result c.in-Err.ensures.seated c.args.when _ _ c.leave.ensures.layer c.in-Err.ensures.err c.leave-in-Err.ensures.layer c.leave-in-Err.ensures.left
+    if_left_there c.args.number _ _ c.requires.kept _ _ _ c.leave-in-Err.result c.in-Err.ensures.seated c.args.when _ _ c.leave.ensures.layer c.in-Err.ensures.err c.leave-in-Err.ensures.layer c.leave-in-Err.ensures.left
 
 pub returns-in-Err-clause-err : goal.returns-in-Err-clause-err
 returns-in-Err-clause-err g c =
-    if_not_left c.args.number _ _ c.requires.kept _ _ c.leave-in-Err.result _ _ c.leave.ensures.layer c.in-Err.ensures.err c.leave-in-Err.ensures.layer c.leave-in-Err.ensures.err
+    if_not_left c.args.number _ _ c.requires.kept _ _ _ c.leave-in-Err.result _ _ c.leave.ensures.layer c.in-Err.ensures.err c.leave-in-Err.ensures.layer c.leave-in-Err.ensures.err
 
 pub returns-in-Err-clause-kept : goal.returns-in-Err-clause-kept
 returns-in-Err-clause-kept g c = record {
