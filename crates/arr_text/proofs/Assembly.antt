@@ -34,6 +34,11 @@ title_put r word n m k s a b c d z e f g h i =
     turned : (w x y t : List ℕ) → ((w ++ x) ++ y) ++ t ≡ w ++ (x ++ (y ++ t))
     turned w x y t = simp append_assoc
 
+-- a subdivision is of its graph
+pub graph_of : (g : Skeleton) → (subdivision g).graph ≡ g
+unfolding subdivision
+graph_of g = refl
+
 module _ (v : View) (s : IsGraphSound v) where
   names_of_keys : (ds : List DartId) → map (λ (k : NumberedDart). k.name) (map (numbered_dart v) ds) ≡ ds
   names_of_keys [] = refl
@@ -75,10 +80,6 @@ module _ (v : View) (s : IsGraphSound v) where
     text_by_parts : (S : Subdivision) → text_by word more S written ≡ by_parts S S.graph S.darts
     unfolding text_by title ended
     text_by_parts S = refl
-
-    graph_of : (g : Skeleton) → (subdivision g).graph ≡ g
-    unfolding subdivision
-    graph_of g = refl
 
     darts_of : (g : Skeleton) → (subdivision g).darts ≡ darts g
     unfolding subdivision

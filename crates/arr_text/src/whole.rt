@@ -101,7 +101,8 @@ fn text_by<R: Faced, W: Words<R>>(alloc: Global, records: &R) -> Result<Vec<u8>,
 /// Its lines, each with byte 10 at its end: `arrangement V E F`; for each vertex in point order `v i X Y W`, ` pin` where it is
 /// pinned, ` :` and the numbers of its neighbours clockwise from the least; for each edge `e i j :` and its curves; for each
 /// face by rank `f k`, `o` and the vertices of its outer cycle, `h` and those of each inner cycle, `p i` for each
-/// vertex that is isolated in it; `end`. For n vertices and edges it takes some n log n steps beside reading.
+/// vertex that is isolated in it; `end`. The vertices are sorted once by their points, the darts once by the numbers of their
+/// ends; all else takes time in proportion to the text and to the greatest name.
 ///
 /// # Errors
 ///

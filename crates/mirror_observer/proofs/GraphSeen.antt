@@ -13,7 +13,7 @@ use Rattle.arr_notes.specs.Curves.{IsForward, AreCurvesOf}
 use Rattle.arr_notes.specs.CurvedView.{CurvedView, IsSoundView, curves_or, curves_seen}
 use Rattle.arr_notes.proofs.Names.{numbers_of as numbers_again}
 use Rattle.sound_views.proofs.GraphDrawn.{twins_are_directed}
-use Rattle.mirror_tables.specs.Reading.{curves_found, curves_at_edge}
+use Rattle.mirror_observer.specs.Reading.{curves_found, curves_at_edge}
 use Rattle.mirror_observer.specs.SeenCurves.{curve_list_of}
 
 -- ---- lists of curves by their numbers

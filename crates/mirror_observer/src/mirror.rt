@@ -1,11 +1,11 @@
 ghost use Rattle.std.specs.Prelude.{◌≡◌, ◌≢◌, ◌<◌, ◌↔◌, IfOk, IfSome, IsTrue, true, None};
 ghost use Rattle.arr_notes.specs.Notes.{FitsHeld, FitsNote, changed_held, held_after, is_last, is_one, left_after, one_less};
 ghost use Rattle.arr_notes.specs.declared.note.Note.TheVariants.{Before, Snapshot};
-ghost use Rattle.mirror_tables.specs.Standing.{IsStanding, held_in};
+ghost use Rattle.mirror_observer.specs.Standing.{IsStanding, held_in};
 
 use crate::seen::text_of;
+use crate::tables::Tables;
 use arr_notes::{Answer, Change, Note, Observer};
-use mirror_tables::Tables;
 use no_memory::NoMemory;
 use std::alloc::Global;
 use std::marker::Model;
@@ -20,7 +20,7 @@ pub struct Mirror {
 
 impl Model for Mirror {
     ghost use Rattle.mirror_observer.specs.MirrorState.{MirrorState};
-    ghost use Rattle.mirror_tables.specs.Standing.{IsStanding, held_in};
+    ghost use Rattle.mirror_observer.specs.Standing.{IsStanding, held_in};
 
     ghost Value = { MirrorState };
 

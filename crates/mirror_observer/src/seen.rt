@@ -1,10 +1,10 @@
 ghost use Rattle.std.specs.Prelude.{◌≡◌, IfOk};
 ghost use Rattle.arr_notes.specs.CurvedView.{IsSoundView, view_text};
-ghost use Rattle.mirror_tables.specs.Standing.{view_in};
+ghost use Rattle.mirror_observer.specs.Standing.{view_in};
 
+use crate::tables::Tables;
 use arr_text::text;
 use exact_plane::{Line, Point};
-use mirror_tables::Tables;
 use no_memory::NoMemory;
 use slab_laws::{CurveId, Curved, CycleId, CycleKind, DartId, Darts, FaceId, Faced, VertexId};
 use std::alloc::Global;
@@ -18,7 +18,7 @@ pub(crate) struct Seen<'a> {
 
 impl<'a> Model for Seen<'a> {
     ghost use Rattle.arr_notes.specs.CurvedView.{CurvedView, IsSoundView};
-    ghost use Rattle.mirror_tables.specs.Standing.{view_in};
+    ghost use Rattle.mirror_observer.specs.Standing.{view_in};
 
     ghost Value = { CurvedView };
 

@@ -2,7 +2,7 @@ use Rattle.std.proofs.Common.{◌∙◌, sym, ap, subst}
 use Rattle.arr_notes.specs.CurvedView.{CurvedView, IsSoundView, curves_seen}
 use Rattle.arr_text.specs.Reading.{text_in}
 use Rattle.arr_text.proofs.RecordTexts.{records_tell_their_graph}
-use Rattle.mirror_tables.specs.Standing.{view_in}
+use Rattle.mirror_observer.specs.Standing.{view_in}
 use Rattle.mirror_observer.specs.SeenCurves.{curve_list_of}
 use Rattle.mirror_observer.proofs.GraphSeen.{edge_curves, forward_curves}
 use Rattle.mirror_observer.proofs.seen.text_of.Goals as goal

@@ -1,7 +1,7 @@
 use Rattle.std.proofs.Common.{◌∙◌, sym, ap, subst, map}
 use Rattle.slab_laws.specs.View.{curve_id}
 use Rattle.arr_notes.specs.CurvedView.{IsSoundView}
-use Rattle.mirror_tables.specs.Reading.{curves_at_edge}
+use Rattle.mirror_observer.specs.Reading.{curves_at_edge}
 use Rattle.mirror_observer.proofs.GraphSeen.{names_again, list_ascends, twins_alike}
 use Rattle.mirror_observer.proofs.seen.SeenCurved.curves.Goals as goal
 

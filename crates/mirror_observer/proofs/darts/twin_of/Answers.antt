@@ -1,0 +1,11 @@
+use Rattle.std.proofs.Common.{◌∙◌, sym, ap, option_map}
+use Rattle.slab_laws.specs.View.{twin_or}
+use Rattle.mirror_observer.specs.Tables.{dart_of}
+use Rattle.mirror_observer.proofs.Readers.{twin_is}
+use Rattle.mirror_observer.proofs.darts.twin_of.Goals as goal
+
+pub returns-in-Some : goal.returns-in-Some
+returns-in-Some c = ap (λ o. twin_or c.args.d (option_map dart_of o)) (sym c.in-Some.is ∙ c.entry_of.ensures) ∙ sym (twin_is c.args.darts.now.entries c.args.d)
+
+pub returns-in-None : goal.returns-in-None
+returns-in-None c = ap (λ o. twin_or c.args.d (option_map dart_of o)) (sym c.in-None.is ∙ c.entry_of.ensures) ∙ sym (twin_is c.args.darts.now.entries c.args.d)

@@ -1,6 +1,0 @@
-use Rattle.std.proofs.Common.{◌∙◌}
-use Rattle.mirror_tables.proofs.Entries.{found}
-use Rattle.mirror_tables.proofs.darts.entry_of.Goals as goal
-
-pub returns : goal.returns
-returns c = c.copied.ensures ∙ c.get.ensures.value ∙ found c.args.darts.now.entries c.args.d.0

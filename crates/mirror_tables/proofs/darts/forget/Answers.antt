@@ -1,6 +1,0 @@
-use Rattle.std.proofs.Common.{◌∙◌}
-use Rattle.mirror_tables.proofs.Entries.{removed}
-use Rattle.mirror_tables.proofs.darts.forget.Goals as goal
-
-pub returns : goal.returns
-returns c = c.remove-entry.ensures.entries ∙ removed c.args.d.0 c.args.darts.now.entries

@@ -1,6 +1,0 @@
-use Rattle.std.proofs.Common.{◌∙◌}
-use Rattle.mirror_tables.proofs.Entries.{inserted}
-use Rattle.mirror_tables.proofs.darts.keep.Goals as goal
-
-pub returns : goal.returns
-returns c = c.in_ok-insert.ensures.entries ∙ inserted c.args.d.0 c.args.entry c.args.darts.now.entries

@@ -1,9 +1,0 @@
-use Rattle.std.proofs.Common.{◌∙◌, ap}
-use Rattle.mirror_tables.specs.FaceTables.{faces_of}
-use Rattle.mirror_tables.proofs.Entries.{removed}
-use Rattle.mirror_tables.proofs.faces.FaceTables.drop_bare.Goals as goal
-
-pub returns : goal.returns
-returns c =
-    let t = c.args.self.now in
-    ap (λ vs. faces_of t.cycle_of.entries vs t.cycles.entries t.faces.keys) (c.remove-face.ensures.entries ∙ removed c.args.v.0 t.bare.entries)

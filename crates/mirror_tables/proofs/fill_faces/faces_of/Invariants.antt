@@ -1,6 +1,0 @@
-use Rattle.std.proofs.Common.{◌≡◌, take}
-use Rattle.mirror_tables.proofs.FillingFaces.{face_numbers}
-use Rattle.mirror_tables.proofs.fill_faces.faces_of.Given as goal
-
-abbrev pub invariant-loop-face : goal.invariant-loop-face
-invariant-loop-face l = l.faces.keys ≡ face_numbers (take l.face-index l.list)

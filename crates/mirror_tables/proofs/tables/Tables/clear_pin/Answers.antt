@@ -1,6 +1,0 @@
-use Rattle.std.proofs.Common.{refl}
-use Rattle.mirror_tables.proofs.Changed.{pin_cleared}
-use Rattle.mirror_tables.proofs.tables.Tables.clear_pin.Goals as goal
-
-pub returns : goal.returns
-returns c = pin_cleared c.args.self.now _ refl c.args.v c.requires c.pin.ensures refl refl

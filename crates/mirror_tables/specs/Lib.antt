@@ -1,6 +1,0 @@
-pub mod Tables
-pub mod FaceTables
-pub mod FaceParts
-pub mod Standing
-pub mod Lists
-pub mod Reading
