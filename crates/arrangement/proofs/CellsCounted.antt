@@ -1,8 +1,7 @@
 -- A sound view names each vertex, dart, cycle, face and isolated vertex of the graph that it draws once, so they are as many; and each face but the unbounded one has one outer cycle.
-use Rattle.std.proofs.Common.{◌≡◌, ◌⊎◌, ℕ, ◌+◌, ◌-◌, ◌/◌, ◌<◌, ◌≤◌, suc, Bool, true, arith, refl, sym, ap, ◌∙◌, subst, inl, inr, List, [], ◌∷◌, ◌++◌, map, length}
+use Rattle.std.proofs.Common.{◌≡◌, ◌⊎◌, ℕ, ◌+◌, ◌-◌, ◌/◌, ◌<◌, ◌≤◌, suc, Bool, true, arith, refl, sym, ap, ◌∙◌, subst, inl, inr, List, [], ◌∷◌, map, length}
 use Rattle.std.specs.Prelude.{filter, not}
 use Rattle.std.specs.List.{Contains, count_by, range_with_len}
-use Rattle.std.proofs.lemmas.Bool.{eqb-true, eq-eqb}
 use Rattle.std.proofs.lemmas.List.{length-map, length-append}
 use Rattle.std.proofs.lemmas.List.Filters.{length-filter_both}
 use Rattle.std.proofs.lemmas.List.Sums.{length-filter}
@@ -13,7 +12,6 @@ use Rattle.plane_graphs.specs.Ascending.{Member, IsAscending}
 use Rattle.plane_graphs.proofs.Ascending.{to_member, from_member, All-member, IsAscending-ascending}
 use Rattle.plane_graphs.proofs.Lists.{in_left, in_map, of_map, in_filter, of_filter, in_either, filter_of_map, IsAscending-filter, not_out}
 use Rattle.slab_laws.specs.declared.names.CycleId.{CycleId}
-use Rattle.slab_laws.specs.declared.names.CycleKind.TheVariants.{Outer}
 use Rattle.slab_laws.specs.declared.names.DartId.{DartId}
 use Rattle.slab_laws.specs.declared.names.FaceId.{FaceId}
 use Rattle.slab_laws.specs.declared.names.VertexId.{VertexId}
@@ -29,10 +27,9 @@ use Rattle.slab_laws.specs.Skeleton.{Skeleton, IsPlaneSkeleton}
 use Rattle.slab_laws.specs.Sound.{IsGraphSound, skeleton_of, dart_in}
 use Rattle.slab_laws.specs.Subdivision.{Cycle, subdivision, has_dart, first_cell}
 use Rattle.slab_laws.specs.Tables.{names, NamesAscend}
-use Rattle.slab_laws.specs.View.{View, Faces, HasVertex, HasDart, HasCycle, HasFace, HasBareFace, vertex_id, dart_id, cycle_id, face_id, point_in, cycle_in, face_in, kind_in}
+use Rattle.slab_laws.specs.View.{View, Faces, HasVertex, HasDart, HasCycle, HasFace, HasBareFace, vertex_id, dart_id, cycle_id, face_id, point_in, cycle_in, face_in}
 use Rattle.slab_faces.proofs.CyclesLemmas.{is_set}
 use Rattle.slab_faces.proofs.DartOrder.{dart_cmp_total}
-use Rattle.slab_faces.proofs.FacesLemmas.{cells_exact}
 use Rattle.slab_faces.proofs.NextLemmas.{darts_exact, dart_out}
 use Rattle.slab_faces.proofs.ListedCells.{dart_cell}
 use Rattle.slab_faces.proofs.Member.{Member as In, member_in}

@@ -7,7 +7,7 @@ pub spot_by-requires : goal.spot_by-requires
 spot_by-requires g c = c.self.invariant.1.0.map
 
 pub rank_of-requires : goal.rank_of-requires
-rank_of-requires g c = face_there _ _ c.self.invariant.1.0.map.sound _ _ c.in-Face.ensures.face
+rank_of-requires g c = rw (← c.self.view_is) (face_there _ _ c.self.invariant.1.0.map.sound _ _ c.in-Face.ensures.face)
 
 pub returns-in-Vertex : goal.returns-in-Vertex
 returns-in-Vertex g c = rw (← c.self.view_is) (record {
@@ -26,11 +26,11 @@ returns-in-Edge g c =
       same = refl;
     })
 
-pub returns-in-Face : goal.returns-in-Face
-returns-in-Face g c =
+pub returns-in-Face-clause-cell : goal.returns-in-Face-clause-cell
+returns-in-Face-clause-cell g c =
     let spot = c.in-Face.ensures in
-    rw (← c.self.view_is) (record {
-      cell = in_face _ _ c.self.invariant.0 _ c.self.invariant.1.0.map.sound c.args.p.now _ _ (point_is_proper c.args.p.now c.laws.ensures) spot.met spot.face c.rank_of.ensures.rank;
-      no_memory = tt;
-      same = refl;
-    })
+    let rank = rw (← c.self.view_is) at c.rank_of.ensures.rank in
+    rw (← c.self.view_is) (in_face _ _ c.self.invariant.0 _ c.self.invariant.1.0.map.sound c.args.p.now _ _ (point_is_proper c.args.p.now c.laws.ensures) spot.met spot.face rank)
+
+pub returns-in-Face-clause-same : goal.returns-in-Face-clause-same
+returns-in-Face-clause-same g c = let a = c.args.self.now in λ i. record { alloc = a.alloc; limits = a.limits; layer = c.rank_of.ensures.same i; bus = a.bus }
