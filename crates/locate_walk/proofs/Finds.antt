@@ -1,37 +1,34 @@
 -- What a look at a dart tells of its edge, by the ends and the line that were read.
-use Rattle.std.proofs.Common.{◌≡◌, true, inl, inr, sym, ap, ◌∙◌, subst}
-use Rattle.std.specs.Prelude.{Some, nat_eq}
-use Rattle.std.proofs.lemmas.Bool.{eqb-true}
+use Rattle.std.proofs.Common.{◌≡◌, inl, inr, sym, ap, ◌∙◌, subst}
+use Rattle.std.specs.Prelude.{Some}
 use Rattle.exact_plane.specs.Point.{Point}
 use Rattle.exact_plane.specs.Sign.{sign_of}
 use Rattle.exact_plane.specs.Span.{Span, AreOnWay}
 use Rattle.plane_graphs.specs.Graph.{Edge as PlaneEdge}
 use Rattle.plane_graphs.specs.Line.{IsProper}
-use Rattle.plane_graphs.proofs.Order.{Lt, lt_out, lt_both, lt_trans}
+use Rattle.plane_graphs.proofs.Order.{Lt}
 use Rattle.slab_laws.specs.declared.names.DartId.{DartId}
-use Rattle.slab_laws.specs.declared.names.FaceId.{FaceId}
 use Rattle.slab_laws.specs.Skeleton.{side}
 use Rattle.slab_laws.specs.Sound.{edge_in, IsGraphSound}
 use Rattle.slab_laws.specs.SpansDrawn.{edge_of}
-use Rattle.slab_laws.specs.View.{View, Faces, HasDart, face_id, point_in, source_in, target_in, twin_in, line_in, cycle_in, face_in}
+use Rattle.slab_laws.specs.View.{View, Faces, HasDart, point_in, source_in, target_in, twin_in, line_in}
 use Rattle.sound_views.specs.ForwardDarts.{IsForwardOf}
 use Rattle.sound_views.proofs.ForwardDarts.{way_along}
 use Rattle.sound_views.proofs.GraphDrawn.{between_forward}
 use Rattle.counted_looks.specs.Looks.{IsLookOf}
-use Rattle.counted_looks.specs.declared.boundary_part.BoundaryPart.TheVariants.{Dart}
 use Rattle.counted_looks.specs.declared.glance.Looked.{Looked}
 use Rattle.dcel_records.specs.declared.spot.Spot.TheVariants.{Edge}
 use Rattle.edges_below.specs.Highest.{IsSpanning}
 use Rattle.face_location.proofs.Passings.{spans_ahead, spans_behind, spans_out, apart_past, minus_past, zero_met, plus_below}
 use Rattle.face_location.specs.Passing.{IsBelow}
 use Rattle.face_location.specs.Spots.{IsSpotOf}
-use Rattle.locate_walk.specs.Finds.{IsSided, IsOffEnds, IsFound}
+use Rattle.locate_walk.specs.Finds.{IsSided, IsOffEnds, IsFoundAtDart}
 use Rattle.locate_walk.specs.Passages.{IsBetween, IsApart}
 use Rattle.locate_walk.specs.declared.found.Found.{Found}
 use Rattle.locate_walk.specs.declared.found.Found.TheVariants.{At, Below, Past}
 use Rattle.locate_walk.proofs.Compared.{differ}
 
-module _ (v : View) (f : Faces) (s : IsGraphSound v) (a : FaceId) (q : Point) (Q : IsProper q) (d : DartId) (has : HasDart v d) (l : Looked) (look : IsLookOf v (Edge d) l) where
+module _ (v : View) (f : Faces) (s : IsGraphSound v) (q : Point) (Q : IsProper q) (d : DartId) (has : HasDart v d) (l : Looked) (look : IsLookOf v (Edge d) l) where
   abbrev low : Point
   low = point_in v (source_in v d)
 
@@ -43,13 +40,13 @@ module _ (v : View) (f : Faces) (s : IsGraphSound v) (a : FaceId) (q : Point) (Q
 
   -- r is the forward dart along an edge that spans the point
   module _ (r : DartId) (w : IsForwardOf v d r) (k : IsSpanning (edge_in v d) q) (off : IsOffEnds v q d) where
-    pub sided : (e : Span) → edge_of e ≡ edge_in v r → (found : Found) → IsSided r e q found → IsFound v f q a (Dart d) found
+    pub sided : (e : Span) → edge_of e ≡ edge_in v r → (found : Found) → IsSided r e q found → IsFoundAtDart v f q d found
     sided e i (At x) h =
         subst (IsSpotOf v f q) (sym h.1) (record { met = zero_met v d q r w k (h.0 ∙ ap (λ (y : PlaneEdge). sign_of (side y q)) i); face = tt })
     sided e i (Below b) h =
         let c = plus_below v d q r w k (h.0 ∙ ap (λ (y : PlaneEdge). sign_of (side y q)) i) in
         (off, subst (IsBelow v q d) (sym h.1) c, ap edge_of h.2 ∙ i ∙ ap (edge_in v) (sym h.1))
-    sided e i Past h = (off, λ t. minus_past v d q r w k (h ∙ ap (λ (y : PlaneEdge). sign_of (side y q)) i))
+    sided e i Past h = (off, minus_past v d q r w k (h ∙ ap (λ (y : PlaneEdge). sign_of (side y q)) i))
 
     -- its edge is that between its ends as they were read
     pub drawn : (e : Span) (x y : Point) → x ≡ point_in v (source_in v r) → y ≡ point_in v (target_in v r) → (e.lower ≡ x) × (e.upper ≡ y) → edge_of e ≡ edge_in v r
@@ -76,7 +73,7 @@ module _ (v : View) (f : Faces) (s : IsGraphSound v) (a : FaceId) (q : Point) (Q
     pub ahead_way : (m : _) × (l.line ≡ Some m) × AreOnWay l.source l.target m
     ahead_way = way d ahead.0 ahead.1 ahead_off l.source l.target look.0 look.1
 
-    pub ahead_found : (e : Span) → (e.lower ≡ l.source) × (e.upper ≡ l.target) → (found : Found) → IsSided d e q found → IsFound v f q a (Dart d) found
+    pub ahead_found : (e : Span) → (e.lower ≡ l.source) × (e.upper ≡ l.target) → (found : Found) → IsSided d e q found → IsFoundAtDart v f q d found
     ahead_found e h = sided d ahead.0 ahead.1 ahead_off e (drawn d ahead.0 ahead.1 ahead_off e l.source l.target look.0 look.1 h)
 
   -- ---- one that starts after the point and ends before it, and its twin
@@ -102,24 +99,14 @@ module _ (v : View) (f : Faces) (s : IsGraphSound v) (a : FaceId) (q : Point) (Q
     pub behind_way : (m : _) × (l.line ≡ Some m) × AreOnWay l.target l.source m
     behind_way = way r behind.0 behind.1 behind_off l.target l.source at_source at_target
 
-    pub behind_found : (g : Span) → (g.lower ≡ l.target) × (g.upper ≡ l.source) → (found : Found) → IsSided r g q found → IsFound v f q a (Dart d) found
+    pub behind_found : (g : Span) → (g.lower ≡ l.target) × (g.upper ≡ l.source) → (found : Found) → IsSided r g q found → IsFoundAtDart v f q d found
     behind_found g h = sided r behind.0 behind.1 behind_off g (drawn r behind.0 behind.1 behind_off g l.target l.source at_source at_target h)
 
-    -- where the twin is on the boundary of the face, the side is told there
-    pub twin_tells : nat_eq (face_in f (cycle_in f r)).0 a.0 ≡ true → IsFound v f q a (Dart d) Past
-    twin_tells h = (
-      behind_off,
-      λ t. elim t [
-        | inl w ↦ absurd (lt_both (lt_out low high w.1) (lt_trans ends_first starts_last))
-        | inr n ↦ absurd (n (ap (λ x. face_in f (cycle_in f x)) (sym e) ∙ ap face_id (eqb-true (face_in f (cycle_in f r)).0 a.0 h)))
-      ],
-    )
-
   -- ---- one with both ends on one side of the point
-  pub apart_found : IsApart l.source q l.target → IsFound v f q a (Dart d) Past
+  pub apart_found : IsApart l.source q l.target → IsFoundAtDart v f q d Past
   apart_found h = (
     off_ends (λ e. h.off_source (look.0 ∙ e)) (λ e. h.off_target (look.1 ∙ e)),
-    λ t. apart_past v d q (λ k. elim (spans_out v s d has q Q k) [
+    apart_past v d q (λ k. elim (spans_out v s d has q Q k) [
       | inl x ↦ h.not_ahead ((subst (λ y. Lt y q) (sym look.0) x.0).is, (subst (Lt q) (sym look.1) x.1).is)
       | inr x ↦ h.not_back ((subst (λ y. Lt y q) (sym look.1) x.0).is, (subst (Lt q) (sym look.0) x.1).is)
     ]),

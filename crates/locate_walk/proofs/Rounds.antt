@@ -1,18 +1,21 @@
 -- What is known after a round of a face's boundary, and how the walk goes on from it.
-use Rattle.std.proofs.Common.{◌≡◌, ◌+◌, ◌<◌, ◌≤◌, ℕ, false, arith, refl, sym, ap, ◌∙◌, inl, inr, subst}
-use Rattle.std.specs.Prelude.{◌-◌, Option, Some, None, IfSome, ◌==◌}
-use Rattle.std.proofs.lemmas.Bool.{cases_Bool, eqb-true, eq-eqb, false≢true}
+use Rattle.std.proofs.Common.{◌≡◌, ◌+◌, ◌<◌, ◌≤◌, ℕ, true, false, arith, sym, ap, ◌∙◌, inl, inr, subst}
+use Rattle.std.specs.Prelude.{◌≢◌, ◌-◌, ◌&&◌, Option, Some, None, IfSome, nat_lt, ◌==◌}
+use Rattle.std.proofs.lemmas.Bool.{cases_Bool, eqb-true}
+use Rattle.std.proofs.lemmas.Bool.Decides.{nat_tests}
 use Rattle.exact_plane.specs.Point.{Point}
+use Rattle.exact_plane.specs.PointOrderLaws.{and_true}
 use Rattle.plane_graphs.specs.Graph.{Edge}
 use Rattle.plane_graphs.specs.Line.{IsProper}
 use Rattle.slab_laws.specs.declared.names.DartId.{DartId}
 use Rattle.slab_laws.specs.declared.names.FaceId.{FaceId}
+use Rattle.slab_laws.specs.Darts.{Dart as DrawnDart}
 use Rattle.slab_laws.specs.FacesSound.{IsSound}
 use Rattle.slab_laws.specs.Skeleton.{inside}
 use Rattle.slab_laws.specs.Slabs.{right_below}
-use Rattle.slab_laws.specs.Sound.{skeleton_of, dart_in, IsGraphSound}
-use Rattle.slab_laws.specs.View.{View, Faces, HasDart, HasFace, face_id, twin_in, cycle_in, face_in}
-use Rattle.sound_views.proofs.ForwardDarts.{is_behind}
+use Rattle.slab_laws.specs.Sound.{skeleton_of, edge_in, IsGraphSound}
+use Rattle.slab_laws.specs.View.{View, Faces, HasDart, HasFace, face_id, point_in, source_in, twin_in, cycle_in, face_in}
+use Rattle.sound_views.proofs.NamedDarts.{twin_dart}
 use Rattle.counted_looks.specs.Boundaries.{IsOnBoundary, boundary_size}
 use Rattle.counted_looks.specs.declared.boundary_part.BoundaryPart.{BoundaryPart}
 use Rattle.counted_looks.specs.declared.boundary_part.BoundaryPart.TheVariants.{Dart, Isolated}
@@ -25,40 +28,43 @@ use Rattle.face_location.specs.Spots.{IsSpotOf}
 use Rattle.walk_laws.specs.Walks.{face_above, height, IsDartPassed, IsBoundaryPassed, size_ahead}
 use Rattle.walk_laws.proofs.Named.{walk_ends_in_face}
 use Rattle.walk_laws.proofs.Once.{faces_are_visited_once}
-use Rattle.locate_walk.specs.Finds.{IsTested}
-use Rattle.locate_walk.specs.Looks.{dart_of, IsBelowOrNone, IsRaised, IsDartClear, IsPartClear, MayLook, HasSeen}
+use Rattle.locate_walk.specs.Finds.{is_told_at_twin}
+use Rattle.locate_walk.specs.Looks.{dart_of, IsBelowOrNone, IsRaised, IsPartClear, MayLook, HasSeen}
 use Rattle.locate_walk.specs.Rounds.{IsHighestRound, looks_below}
 use Rattle.locate_walk.specs.declared.found.EdgeBelow.{EdgeBelow}
 use Rattle.locate_walk.specs.declared.highest.Highest.{Highest}
 
 -- ---- all on the boundary is clear, so all is passed
 module _ (v : View) (f : Faces) (q : Point) (a : FaceId) (o : Option DartId) (s : IsGraphSound v) (clear : (t : BoundaryPart) → IsOnBoundary v f a t → IsPartClear v f q a o t) where
-  by_test : (d : DartId) → IsDartClear v f q a o d → IsTested v f a d → IsDartPassed v q o d
-  by_test d c t = record { off_source = c.ends.off_source; off_target = c.ends.off_target; off_edge = c.off_edge t; no_higher = c.no_higher t }
+  -- twins have one edge and the same ends
+  by_twin : (d : DartId) → HasDart v d → IsDartPassed v q o (twin_in v d) → IsDartPassed v q o d
+  by_twin d has t =
+      let e : edge_in v (twin_in v d) ≡ edge_in v d = ap (λ (h : DrawnDart). h.edge) (twin_dart v s d has) in
+      record {
+        off_source = subst (λ (x : DartId). point_in v (source_in v x) ≢ q) (s.twinned.back d has) t.off_target;
+        off_target = t.off_source;
+        off_edge = subst (λ (x : Edge). inside x q ≡ false) e t.off_edge;
+        no_higher = subst (λ (x : Edge). IsSeen (skeleton_of v) q x → level (skeleton_of v) q x < height v q o) e t.no_higher;
+      }
 
-  -- a backward dart is told by its twin, where both are on the boundary
-  by_twin : (d : DartId) → HasDart v d → (dart_in v d).forward ≡ false → face_in f (cycle_in f d) ≡ a → IsDartPassed v q o d
-  by_twin d has back on =
+  after_less : (m n : ℕ) → nat_lt m n ≡ true → nat_lt n m ≡ false
+  after_less m n l = grind (arith, nat_tests)
+
+  -- of two twins, the one with the lesser name is told where it is
+  not_both : (d : DartId) → HasDart v d → nat_lt (twin_in v d).0 d.0 ≡ true → is_told_at_twin v f a (twin_in v d) ≡ false
+  not_both d has l =
       let e = twin_in v d in
-      let c = clear (Dart d) (has, on) in
-      elim (cases_Bool ((face_in f (cycle_in f e)).0 == a.0)) [
-        | inl h ↦
-            let w = is_behind v s d has back e refl in
-            let t = by_test e (clear (Dart e) (s.twinned.has d has, ap face_id (eqb-true (face_in f (cycle_in f e)).0 a.0 h))) (inl w.forward) in
-            record {
-              off_source = c.ends.off_source;
-              off_target = c.ends.off_target;
-              off_edge = subst (λ (x : Edge). inside x q ≡ false) w.edge t.off_edge;
-              no_higher = subst (λ (x : Edge). IsSeen (skeleton_of v) q x → level (skeleton_of v) q x < height v q o) w.edge t.no_higher;
-            }
-        | inr h ↦ by_test d c (inr (λ i. false≢true (sym h ∙ eq-eqb (face_in f (cycle_in f e)).0 a.0 (ap (λ (x : FaceId). x.0) i))))
-      ]
+      ap (λ b. b && (face_in f (cycle_in f (twin_in v e))).0 == a.0)
+      (ap (λ (x : DartId). nat_lt x.0 e.0) (s.twinned.back d has) ∙ after_less e.0 d.0 l)
 
   pub all_passed : IsBoundaryPassed v f q o a
   all_passed = record {
-    darts = λ d has on. elim (cases_Bool (dart_in v d).forward) [
-      | inl h ↦ by_test d (clear (Dart d) (has, on)) (inl (has, h))
-      | inr h ↦ by_twin d has h on
+    darts = λ d has on. elim (cases_Bool (is_told_at_twin v f a d)) [
+      | inl h ↦
+          let k = and_true _ _ h in
+          by_twin d has
+          (clear (Dart (twin_in v d)) (s.twinned.has d has, ap face_id (eqb-true (face_in f (cycle_in f (twin_in v d))).0 a.0 k.1)) (not_both d has k.0))
+      | inr h ↦ clear (Dart d) (has, on) h
     ];
     bare = λ w B on. clear (Isolated w) (B, on);
   }

@@ -55,11 +55,11 @@ module _ (v : View) (q : Point) where
 
   -- ---- what is clear
   clear_still : (f : Faces) (a : FaceId) (o p : Option DartId) (t : BoundaryPart) → IsRaised v q o p → IsPartClear v f q a o t → IsPartClear v f q a p t
-  clear_still f a o p (Dart d) r c = record { ends = c.ends; off_edge = c.off_edge; no_higher = λ x y. let l = c.no_higher x y in let k = raised_from r in omega arith }
+  clear_still f a o p (Dart d) r c = λ n. let e = c n in record { off_source = e.off_source; off_target = e.off_target; off_edge = e.off_edge; no_higher = λ y. let l = e.no_higher y in let k = raised_from r in omega arith }
   clear_still f a o p (Isolated w) r c = c
 
   past_clear : (f : Faces) (a : FaceId) (o : Option DartId) (t : BoundaryPart) → IsFound v f q a t Past → IsPartClear v f q a o t
-  past_clear f a o (Dart d) c = record { ends = c.0; off_edge = λ x. (c.1 x).outside; no_higher = λ x y. absurd ((c.1 x).unseen y) }
+  past_clear f a o (Dart d) c = λ n. let e = c n in record { off_source = e.0.off_source; off_target = e.0.off_target; off_edge = e.1.outside; no_higher = λ y. absurd (e.1.unseen y) }
   past_clear f a o (Isolated w) c = c
 
   below_seen : (f : Faces) (a : FaceId) (t : BoundaryPart) (b : EdgeBelow) → IsFound v f q a t (Below b) → IsBelowOrNone v q (Some b)
@@ -67,10 +67,11 @@ module _ (v : View) (q : Point) where
   below_seen f a (Isolated w) b c = absurd c
 
   below_clear : (f : Faces) (a : FaceId) (p : Option DartId) (t : BoundaryPart) (b : EdgeBelow) → IsFound v f q a t (Below b) → level (skeleton_of v) q (edge_in v b.dart) < height v q p → IsPartClear v f q a p t
-  below_clear f a p (Dart d) b c l = record {
-    ends = c.0;
-    off_edge = λ x. c.1.outside;
-    no_higher = λ x y. subst (λ (e : Edge). level (skeleton_of v) q e < height v q p) c.1.along l;
+  below_clear f a p (Dart d) b c l = λ n. record {
+    off_source = c.0.off_source;
+    off_target = c.0.off_target;
+    off_edge = c.1.outside;
+    no_higher = λ y. subst (λ (e : Edge). level (skeleton_of v) q e < height v q p) c.1.along l;
   }
   below_clear f a p (Isolated w) b c l = absurd c
 

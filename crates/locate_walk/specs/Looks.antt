@@ -4,8 +4,7 @@ use Rattle.exact_plane.specs.Point.{Point}
 use Rattle.plane_graphs.specs.Line.{IsProper}
 use Rattle.slab_laws.specs.declared.names.DartId.{DartId}
 use Rattle.slab_laws.specs.declared.names.FaceId.{FaceId}
-use Rattle.slab_laws.specs.Skeleton.{inside}
-use Rattle.slab_laws.specs.Sound.{skeleton_of, edge_in}
+use Rattle.slab_laws.specs.Sound.{edge_in}
 use Rattle.slab_laws.specs.SpansDrawn.{edge_of}
 use Rattle.slab_laws.specs.View.{View, Faces, point_in}
 use Rattle.counted_looks.specs.declared.boundary_part.BoundaryPart.{BoundaryPart}
@@ -13,11 +12,10 @@ use Rattle.counted_looks.specs.declared.boundary_part.BoundaryPart.TheVariants.{
 use Rattle.dcel_records.specs.RecordsView.{tables_of}
 use Rattle.dcel_records.specs.SoundMaps.{IsSoundMap}
 use Rattle.edges_below.specs.Above.{is_above}
-use Rattle.edges_below.specs.Levels.{IsSeen, level}
 use Rattle.face_location.specs.Below.{IsSeenDart}
 use Rattle.face_location.specs.Spots.{IsSpotOf}
-use Rattle.walk_laws.specs.Walks.{height}
-use Rattle.locate_walk.specs.Finds.{IsOffEnds, IsTested}
+use Rattle.walk_laws.specs.Walks.{height, IsDartPassed}
+use Rattle.locate_walk.specs.Finds.{is_told_at_twin}
 use Rattle.locate_walk.specs.declared.found.EdgeBelow.{EdgeBelow}
 use Rattle.locate_walk.specs.declared.found.Found.{Found}
 use Rattle.locate_walk.specs.declared.found.Found.TheVariants.{At, Below, Past}
@@ -50,14 +48,9 @@ taken h (At s) = record h { hit = Some s }
 taken h (Below e) = record h { best = Some (higher_edge h.best e) }
 taken h Past = h
 
--- the point is off the dart's ends; if the side of its edge is told at it, then the edge hasn't the point inside, and the point sees it no higher than the highest so far (this project)
-pub record IsDartClear (v : View) (f : Faces) (q : Point) (a : FaceId) (o : Option DartId) (d : DartId) : Type 0 where
-  pub ends : IsOffEnds v q d
-  pub off_edge : IsTested v f a d → inside (edge_in v d) q ≡ false
-  pub no_higher : IsTested v f a d → IsSeen (skeleton_of v) q (edge_in v d) → level (skeleton_of v) q (edge_in v d) < height v q o
-
+-- the dart is passed, unless it is told at its twin; the point is not at the vertex (this project)
 abbrev pub IsPartClear : View → Faces → Point → FaceId → Option DartId → BoundaryPart → Type 0
-IsPartClear v f q a o (Dart d) = IsDartClear v f q a o d
+IsPartClear v f q a o (Dart d) = is_told_at_twin v f a d ≡ false → IsDartPassed v q o d
 IsPartClear v f q a o (Isolated w) = point_in v w ≢ q
 
 -- the graph looked at is that of the records; the highest so far is one that the point sees, no lower than at first; and what was met is where the point lies

@@ -8,7 +8,7 @@ ghost use Rattle.counted_looks.specs.declared.boundary_part.BoundaryPart.TheVari
 ghost use Rattle.dcel_records.specs.RecordsView.{tables_of};
 ghost use Rattle.dcel_records.specs.SoundMaps.{IsSoundMap};
 ghost use Rattle.dcel_records.specs.declared.spot.Spot.TheVariants.{Edge};
-ghost use Rattle.locate_walk.specs.Finds.{IsFound, IsSided};
+ghost use Rattle.locate_walk.specs.Finds.{IsFound, IsFoundAtDart, IsSided, is_told_at_twin};
 
 use crate::passage::{Passage, passage_of};
 use counted_looks::{BoundaryPart, Glance, Looked, NameCalls};
@@ -56,19 +56,22 @@ fn side_of(dart: DartId, edge: Span, point: &Point) -> Found
     }
 }
 
-// What a look at a dart of a face finds. Its ends are compared first, which rules out nearly all darts; where both darts of an
-// edge are on the boundary of the face, the side of the edge is told at the forward one alone.
-fn found_at_dart(
-    glance: &Glance,
-    face: FaceId,
-    dart: DartId,
-    looked: &Looked,
-    point: &Point,
-) -> Found
+// Whether the edge of a dart is told at its other dart: that one is on the boundary of the face too, and has the lesser name.
+// In a map of few faces nearly all edges border one face from both sides, and names are cheaper than points.
+fn is_told_at_twin(glance: &Glance, face: FaceId, dart: DartId) -> bool
+    requires { HasDart glance.now.graph dart }
+    ensures { result ≡ is_told_at_twin glance.now.graph (tables_of glance.now) face dart }
+{
+    let twin = glance.twin(dart);
+    twin.0 < dart.0 && glance.face(glance.cycle(twin)) == face
+}
+
+// What a look at a dart finds, whichever way it goes. Its ends are compared first, which rules out nearly all darts.
+fn found_at_dart(glance: &Glance, dart: DartId, looked: &Looked, point: &Point) -> Found
     requires map { IsSoundMap glance.now }
     requires dart { HasDart glance.now.graph dart }
     requires looked { IsLookOf glance.now.graph (Edge dart) looked.now }
-    ensures { IsFound glance.now.graph (tables_of glance.now) point.now face (Dart dart) result }
+    ensures { IsFoundAtDart glance.now.graph (tables_of glance.now) point.now dart result }
 {
     point.laws();
     match passage_of(&looked.source, point, &looked.target) {
@@ -79,22 +82,17 @@ fn found_at_dart(
             span_between(looked.source, looked.target, looked.line),
             point,
         ),
-        Passage::Backward => {
-            let twin = glance.twin(dart);
-            if glance.face(glance.cycle(twin)) == face {
-                return Found::Past;
-            }
-            side_of(
-                twin,
-                span_between(looked.target, looked.source, looked.line),
-                point,
-            )
-        }
+        Passage::Backward => side_of(
+            glance.twin(dart),
+            span_between(looked.target, looked.source, looked.line),
+            point,
+        ),
         Passage::Apart => Found::Past,
     }
 }
 
-/// What one look at a part of the boundary of a face finds for a point.
+/// What one look at a part of the boundary of a face finds for a point. An edge of which both darts are there is told at one of
+/// them; the other one only ticks.
 pub fn find<L: Ledger>(
     glance: &Glance,
     face: FaceId,
@@ -109,8 +107,12 @@ pub fn find<L: Ledger>(
 {
     match at {
         BoundaryPart::Dart(dart) => {
+            if is_told_at_twin(glance, face, dart) {
+                steps.tick();
+                return Found::Past;
+            }
             let looked = glance.look(Spot::Edge(dart), steps);
-            found_at_dart(glance, face, dart, &looked, point)
+            found_at_dart(glance, dart, &looked, point)
         }
         BoundaryPart::Isolated(vertex) => {
             let looked = glance.look(Spot::Vertex(vertex), steps);

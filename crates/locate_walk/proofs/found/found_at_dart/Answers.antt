@@ -1,47 +1,38 @@
 use Rattle.std.proofs.Common.{◌≡◌, sym, ap, ◌∙◌, subst}
-use Rattle.std.specs.Prelude.{nat_eq}
 use Rattle.plane_graphs.proofs.Lines.{point_is_proper}
-use Rattle.slab_laws.specs.View.{HasVertex, point_in, face_in}
+use Rattle.slab_laws.specs.View.{HasVertex, point_in}
 use Rattle.sound_views.proofs.ForwardDarts.{target_has}
 use Rattle.dcel_records.specs.RecordsView.{tables_of}
 use Rattle.locate_walk.specs.Passages.{IsPassage}
-use Rattle.locate_walk.proofs.Finds.{ahead_way, ahead_found, behind_way, behind_found, twin_tells, apart_found}
+use Rattle.locate_walk.proofs.Finds.{ahead_way, ahead_found, behind_way, behind_found, apart_found}
 use Rattle.locate_walk.proofs.found.found_at_dart.Goals as goal
 
 pub span_between-requires : goal.span_between-requires
 span_between-requires c =
-    ahead_way c.args.glance.now.graph (tables_of c.args.glance.now) c.requires.map.sound.graph c.args.face c.args.point.now (point_is_proper c.args.point.now c.laws.ensures) c.args.dart c.requires.dart c.args.looked.now c.requires.looked
+    ahead_way c.args.glance.now.graph (tables_of c.args.glance.now) c.requires.map.sound.graph c.args.point.now (point_is_proper c.args.point.now c.laws.ensures) c.args.dart c.requires.dart c.args.looked.now c.requires.looked
     (subst (IsPassage c.args.looked.now.source c.args.point.now c.args.looked.now.target) c.in-Forward.is c.passage_of.ensures)
 
 pub returns-in-Forward : goal.returns-in-Forward
 returns-in-Forward c =
-    ahead_found c.args.glance.now.graph (tables_of c.args.glance.now) c.requires.map.sound.graph c.args.face c.args.point.now (point_is_proper c.args.point.now c.laws.ensures) c.args.dart c.requires.dart c.args.looked.now c.requires.looked
+    ahead_found c.args.glance.now.graph (tables_of c.args.glance.now) c.requires.map.sound.graph c.args.point.now (point_is_proper c.args.point.now c.laws.ensures) c.args.dart c.requires.dart c.args.looked.now c.requires.looked
     (subst (IsPassage c.args.looked.now.source c.args.point.now c.args.looked.now.target) c.in-Forward.is c.passage_of.ensures)
     c.span_between.result c.span_between.ensures c.side_of.result c.side_of.ensures
 
 pub span_between-requires-in-Backward : goal.span_between-requires-in-Backward
 span_between-requires-in-Backward c =
-    behind_way c.args.glance.now.graph (tables_of c.args.glance.now) c.requires.map.sound.graph c.args.face c.args.point.now (point_is_proper c.args.point.now c.laws.ensures) c.args.dart c.requires.dart c.args.looked.now c.requires.looked
+    behind_way c.args.glance.now.graph (tables_of c.args.glance.now) c.requires.map.sound.graph c.args.point.now (point_is_proper c.args.point.now c.laws.ensures) c.args.dart c.requires.dart c.args.looked.now c.requires.looked
     (subst (IsPassage c.args.looked.now.source c.args.point.now c.args.looked.now.target) c.in-Backward.is c.passage_of.ensures)
-    c.twin-twin.result c.twin-twin.ensures.twin
+    c.twin.result c.twin.ensures.twin
 
-pub returns-else-eq : goal.returns-else-eq
-returns-else-eq c =
-    behind_found c.args.glance.now.graph (tables_of c.args.glance.now) c.requires.map.sound.graph c.args.face c.args.point.now (point_is_proper c.args.point.now c.laws.ensures) c.args.dart c.requires.dart c.args.looked.now c.requires.looked
+pub returns-in-Backward : goal.returns-in-Backward
+returns-in-Backward c =
+    behind_found c.args.glance.now.graph (tables_of c.args.glance.now) c.requires.map.sound.graph c.args.point.now (point_is_proper c.args.point.now c.laws.ensures) c.args.dart c.requires.dart c.args.looked.now c.requires.looked
     (subst (IsPassage c.args.looked.now.source c.args.point.now c.args.looked.now.target) c.in-Backward.is c.passage_of.ensures)
-    c.twin-twin.result c.twin-twin.ensures.twin c.span_between-in-Backward.result c.span_between-in-Backward.ensures c.side_of-in-Backward.result c.side_of-in-Backward.ensures
-
-pub returns-then-eq : goal.returns-then-eq
-returns-then-eq c =
-    let f = tables_of c.args.glance.now in
-    twin_tells c.args.glance.now.graph f c.requires.map.sound.graph c.args.face c.args.point.now (point_is_proper c.args.point.now c.laws.ensures) c.args.dart c.requires.dart c.args.looked.now c.requires.looked
-    (subst (IsPassage c.args.looked.now.source c.args.point.now c.args.looked.now.target) c.in-Backward.is c.passage_of.ensures)
-    c.twin-twin.result c.twin-twin.ensures.twin
-    (ap (λ x. nat_eq x.0 c.args.face.0) (sym (c.face.ensures.face ∙ ap (face_in f) c.cycle.ensures.cycle)) ∙ sym c.eq.ensures ∙ c.if-eq.true)
+    c.twin.result c.twin.ensures.twin c.span_between-in-Backward.result c.span_between-in-Backward.ensures c.side_of-in-Backward.result c.side_of-in-Backward.ensures
 
 pub returns-in-Apart : goal.returns-in-Apart
 returns-in-Apart c =
-    apart_found c.args.glance.now.graph (tables_of c.args.glance.now) c.requires.map.sound.graph c.args.face c.args.point.now (point_is_proper c.args.point.now c.laws.ensures) c.args.dart c.requires.dart c.args.looked.now c.requires.looked
+    apart_found c.args.glance.now.graph (tables_of c.args.glance.now) c.requires.map.sound.graph c.args.point.now (point_is_proper c.args.point.now c.laws.ensures) c.args.dart c.requires.dart c.args.looked.now c.requires.looked
     (subst (IsPassage c.args.looked.now.source c.args.point.now c.args.looked.now.target) c.in-Apart.is c.passage_of.ensures)
 
 pub returns-in-ToPoint : goal.returns-in-ToPoint
