@@ -32,7 +32,7 @@ use Rattle.edges_below.proofs.FaceBelow.{bottom_all}
 use Rattle.edges_below.proofs.Seen.{reaches}
 
 -- ---- at a vertex, an edge is spanned and below exactly where it reaches the wall from the right and is below
-reaching : (g : Skeleton) (v : Point) (e : Edge) → IsPlaneSkeleton g → Contains g.vertices v → IsSeen g v e → reaches_right e v ≡ true
+pub reaching : (g : Skeleton) (v : Point) (e : Edge) → IsPlaneSkeleton g → Contains g.vertices v → IsSeen g v e → reaches_right e v ≡ true
 reaching g v e plane in' s =
     let p = plane.proper_edge e s.in' in
     and_from _ _ (ap not (before_weak e.low v s.spanning.from)) (reaches e v p.0 p.1 (plane.proper v in') s.spanning s.lies_under)
