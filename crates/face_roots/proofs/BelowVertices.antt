@@ -1,5 +1,5 @@
 -- What is below a vertex: the cell at its lower right corner is directly above the highest edge below it, and in the unbounded face where there is none.
-use Rattle.std.proofs.Common.{◌≡◌, ℕ, ◌+◌, Bool, true, false, cond, arith, refl, sym, ap, ◌∙◌, subst, inl, inr}
+use Rattle.std.proofs.Common.{◌≡◌, ℕ, ◌+◌, true, false, cond, arith, refl, sym, ap, ◌∙◌, subst, inl, inr}
 use Rattle.std.specs.Prelude.{pos, ◌<ℤ◌, ◌≤ℤ◌, not, ◌&&◌, ◌⊎◌, Option, Some, None}
 use Rattle.std.specs.List.{Contains}
 use Rattle.std.proofs.lemmas.Int.{ints, by_lt_z}
@@ -22,7 +22,7 @@ use Rattle.slab_faces.proofs.Points.{before_left, before_lower, before_weak}
 use Rattle.slab_faces.proofs.Cells.{right_side, spans_right}
 use Rattle.slab_faces.proofs.Slabs.{same_edge_is, same_edge_refl}
 use Rattle.slab_faces.proofs.Along.{below_self, side_below, side_level}
-use Rattle.slab_faces.proofs.Turns.{face_sym, on_own_wall}
+use Rattle.slab_faces.proofs.Turns.{face_sym, one_more, on_own_wall}
 use Rattle.slab_faces.proofs.EveryFace.{none_counted}
 use Rattle.slab_faces.proofs.Outside.{to_first}
 use Rattle.edges_below.specs.FaceLaws.{cell_over}
@@ -86,15 +86,6 @@ under_too g v e f plane in' t F rf b =
     under_in f v (lower_side e f v (run_positive e P.e_long) (run_positive f P.f_long) n (under_out e v t.lies_under))
 
 -- so the place of the corner is directly above the highest of them
-one_more_below : (r u s b q : Bool) → s ≡ r → (q ≡ true → (r ≡ true) × (u ≡ true) × (b ≡ false)) → (r ≡ true → q ≡ false → u ≡ b) → cond {A = ℕ} (r && u) 1 0 ≡ cond (s && b) 1 0 + cond q 1 0
-one_more_below r u s b true e h k = let a = h refl in rw (e, a.0, a.1, a.2) refl
-one_more_below true u s b false e h k = rw (e, k refl refl) (either b)
-  where
-    either : (b : Bool) → cond {A = ℕ} b 1 0 ≡ cond b 1 0 + 0
-    either true = refl
-    either false = refl
-one_more_below false u s b false e h k = rw e refl
-
 corner_place : (g : Skeleton) (v : Point) (e : Edge) → IsPlaneSkeleton g → Contains g.vertices v → IsSeen g v e → ((f : Edge) → Contains g.edges f → IsSpanning f v → under f v ≡ true → (f ≡ e) ⊎ (below f e ≡ true)) → right_below g v ≡ place g (slab_right g v) e + 1
 corner_place g v e plane in' t most =
     let i = slab_right g v in
@@ -103,12 +94,12 @@ corner_place g v e plane in' t most =
     let low : Edge → ℕ = λ f. cond (spans g i f && below f e) 1 0 in
     let own : Edge → ℕ = λ f. cond (same_edge e f) 1 0 in
     let pair : (f : Edge) → Contains g.edges f → now f ≡ low f + own f = λ f F.
-    one_more_below (reaches_right f v) (under f v) (spans g i f) (below f e) (same_edge e f) (spans_right g v f plane wall F)
+    subst (λ b. now f ≡ cond (b && below f e) 1 0 + own f) (sym (spans_right g v f plane wall F)) (one_more (reaches_right f v) (under f v) (below f e) (same_edge e f)
     (λ k. subst (λ x. (reaches_right x v ≡ true) × (under x v ≡ true) × (below x e ≡ false)) (same_edge_is e f k) (reaching g v e plane in' t, t.lies_under, below_self g e plane t.in'))
     (λ r n. elim (cases_Bool (under f v)) [
       | inl u ↦ u ∙ sym (elim (let s = seen g v f plane in' F r u in most f F s.spanning s.lies_under) [ inl q ↦ absurd (false≢true (sym n ∙ subst (λ x. same_edge e x ≡ true) (sym q) (same_edge_refl e))) | inr b ↦ b ])
       | inr u ↦ u ∙ sym (false_from_ne_true _ (λ b. false≢true (sym u ∙ under_too g v e f plane in' t F r b)))
-    ]) in
+    ])) in
     sum_by-same now (λ f. low f + own f) g.edges (each (λ f. now f ≡ low f + own f) g.edges pair) ∙ sum_by-plus low own g.edges ∙ ap (λ n. place g i e + n) (plane.edge_once e t.in')
 
 -- ---- the corner is in the face of what is below

@@ -1,0 +1,5 @@
+pub mod BesideWalls
+pub mod FrontEdges
+pub mod TraceLists
+pub mod Tracing
+pub mod TraceGraph

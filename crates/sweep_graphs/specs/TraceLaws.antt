@@ -1,0 +1,37 @@
+-- What a sweep leaves of a present is the present's graph, with what is directly below each vertex.
+use Rattle.std.specs.Prelude.{◌≡◌, ◌<◌, ℕ, length, map, slice_index_or, Some, None}
+use Rattle.std.specs.List.{Contains}
+use Rattle.exact_plane.specs.Point.{Point, IsPoint}
+use Rattle.plane_graphs.specs.Ascending.{Member}
+use Rattle.plane_graphs.specs.Fit.{IsFit}
+use Rattle.plane_graphs.specs.Graph.{Edge, graph, edges, vertices}
+use Rattle.plane_graphs.specs.Piece.{Present}
+use Rattle.present_graphs.specs.Spans.{span_of_piece}
+use Rattle.slab_laws.specs.Text.{skeleton}
+use Rattle.edges_below.specs.Highest.{IsHighestBelow}
+use Rattle.sweep_events.specs.Places.{AreSpans}
+use Rattle.sweep_graphs.specs.declared.trace.OpenStretch.{OpenStretch}
+use Rattle.sweep_graphs.specs.declared.trace.Stretch.{Stretch}
+use Rattle.sweep_graphs.specs.declared.trace.Trace.{Trace}
+use Rattle.sweep_graphs.specs.Traces.{point_at, IsTrace}
+
+-- the edge that a stretch runs along
+abbrev pub edge_of_stretch : Trace → Stretch → Edge
+edge_of_stretch t s = record { low = point_at t.points s.low; high = point_at t.points s.high }
+
+-- it is the stretch that was told while it was open
+abbrev pub IsOpened : OpenStretch → Stretch → Type 0
+IsOpened o s = (s.low ≡ o.low) × (s.piece ≡ o.piece)
+
+-- the points are the vertices, and the stretches run along the edges; the stretch below a vertex is one of these, and its edge is the highest below the vertex (this project)
+pub record IsTraceOf (p : Present) (t : Trace) : Type 0 where
+  pub points : t.points ≡ vertices p
+  pub sound : (s : Stretch) → Member s t.stretches → Member (edge_of_stretch t s) (edges (graph p))
+  pub complete : (e : Edge) → Member e (edges (graph p)) → (s : Stretch) × Member s t.stretches × (edge_of_stretch t s ≡ e)
+  pub nothing : (k : ℕ) → k < length t.points → slice_index_or t.below k None ≡ None → IsHighestBelow (Contains (skeleton (graph p)).edges) (point_at t.points k) None
+  pub closed : (k : ℕ) (o : OpenStretch) → k < length t.points → slice_index_or t.below k None ≡ Some o → (s : Stretch) × Member s t.stretches × IsOpened o s
+  pub something : (k : ℕ) (o : OpenStretch) (s : Stretch) → k < length t.points → slice_index_or t.below k None ≡ Some o → Member s t.stretches → IsOpened o s → IsHighestBelow (Contains (skeleton (graph p)).edges) (point_at t.points k) (Some (edge_of_stretch t s))
+
+-- of the spans and pins of a fit present
+abbrev pub TracesAreGraphs : Type 0
+TracesAreGraphs = (p : Present) (t : Trace) → IsFit p → AreSpans (map span_of_piece p.pieces) → ((r : Point) → Member r p.pins → IsPoint r) → IsTrace (map span_of_piece p.pieces) p.pins t → IsTraceOf p t
