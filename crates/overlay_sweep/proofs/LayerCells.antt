@@ -201,10 +201,12 @@ module _ (r g : Skeleton) (own : Edge → Bool) (pr : IsPlaneSkeleton r) (pg : I
           let k = pg.forward e E in
           let t = e.low in
           let T = (part_low e E).positive in
-          let free : IsOpenAbove r t = record { open_at = λ f F. false_from_ne_true (covers_above f t) (λ h.
-              let c = covered f t F T h in
-              let same = one_cover g e c.0 pg E c.1 (rw (q, k) refl) c.2 in
-              false≢true (sym other ∙ subst (λ x. own x ≡ true) (sym same) c.3)) } in
+          let free : IsOpenAbove r t = record {
+            open_at = λ f F. false_from_ne_true (covers_above f t) (λ h.
+                let c = covered f t F T h in
+                let same = one_cover g e c.0 pg E c.1 (rw (q, k) refl) c.2 in
+                false≢true (sym other ∙ subst (λ x. own x ≡ true) (sym same) c.3));
+          } in
           ⊎_elim
           (λ some. let w = any_out (λ v. on_wall v t) r.vertices some in
           right _ _ _ (here (left_cell r t)) (across t (record { proper = T; vertex = w.0; is_vertex = from_member r.vertices w.0 w.1; same = w.2 }) free))

@@ -1,10 +1,9 @@
 -- The labels of an overlay's faces, told by edges.
-use Rattle.std.proofs.Common.{◌≡◌, ℕ, zero, suc, ◌≤◌, Bool, true, false, arith, refl, sym, ap, ◌∙◌, subst, ◌⊎◌, inl, inr}
-use Rattle.std.specs.Prelude.{not, ◌&&◌, map, ◌∷◌}
-use Rattle.std.specs.List.{count_by, Contains}
-use Rattle.std.proofs.lemmas.Bool.{and_parts, false_from_ne_true, cases_Bool, leb-true, ltb-true}
+use Rattle.std.proofs.Common.{◌≡◌, true, arith, sym, ap, ◌∙◌}
+use Rattle.std.specs.Prelude.{not, ◌&&◌}
+use Rattle.std.specs.List.{count_by}
+use Rattle.std.proofs.lemmas.Bool.{and_parts, false_from_ne_true, leb-true, ltb-true}
 use lib.Dec.{ltb, leb}
-use Rattle.exact_plane.specs.Point.{Point}
 use Rattle.exact_plane.specs.PointOrderLaws.{and_true}
 use Rattle.plane_graphs.specs.Piece.{Present}
 use Rattle.plane_graphs.specs.Fit.{IsFit}
@@ -12,24 +11,17 @@ use Rattle.plane_graphs.specs.Line.{precedes}
 use Rattle.plane_graphs.specs.Graph.{Edge, collinear, spans as holds}
 use Rattle.plane_graphs.proofs.Marks.{le_out}
 use Rattle.slab_laws.specs.declared.slab_cell.SlabCell.{SlabCell}
-use Rattle.slab_laws.specs.Skeleton.{Skeleton, IsPlaneSkeleton, left_of}
-use Rattle.slab_laws.specs.Slabs.{spans, place, slab_right, width, forward_cell, backward_cell}
-use Rattle.slab_laws.specs.Meets.{SameFace, here}
+use Rattle.slab_laws.specs.Skeleton.{Skeleton, left_of}
+use Rattle.slab_laws.specs.Slabs.{spans, place, slab_right}
+use Rattle.slab_laws.specs.Meets.{SameFace}
 use Rattle.slab_laws.specs.Darts.{ahead, back}
 use Rattle.slab_laws.specs.Cycles.{left_of_dart}
-use Rattle.slab_laws.specs.Faces.{face_labels, face_of, walls}
-use Rattle.slab_laws.specs.Subdivision.{subdivision, rank, ranked, first_cell}
-use Rattle.slab_laws.specs.Listed.{distinct}
+use Rattle.slab_laws.specs.Faces.{face_labels, face_of}
+use Rattle.slab_laws.specs.Subdivision.{subdivision, rank, first_cell}
 use Rattle.slab_laws.specs.Overlay.{both, plane_of, has_curve_along, label}
 use Rattle.slab_faces.proofs.Walls.{left_of-irrefl}
-use Rattle.slab_faces.proofs.Nudge.{right_inside, is_slab_right}
-use Rattle.slab_faces.proofs.Turns.{face_trans, face_sym, on_own_wall}
-use Rattle.slab_faces.proofs.EveryFace.{edge_at, first_width, passing, none_counted}
-use Rattle.slab_faces.proofs.Outside.{to_first}
-use Rattle.slab_faces.proofs.Member.{Member, map_out}
-use Rattle.slab_faces.proofs.FacesLemmas.{cells_exact, one_label}
-use Rattle.slab_faces.proofs.WallsLemmas.{wall_vertex, cell_there}
-use Rattle.slab_faces.proofs.ListedCells.{IsListed, cell_out, dart_cell}
+use Rattle.slab_faces.proofs.EveryFace.{passing, none_counted}
+use Rattle.slab_faces.proofs.FacesLemmas.{one_label}
 use Rattle.overlay_laws.proofs.Laid.{IsWithin, IsLaid}
 use Rattle.overlay_laws.proofs.Counts.{cell_by}
 use Rattle.overlay_laws.proofs.Both.{both_fit}

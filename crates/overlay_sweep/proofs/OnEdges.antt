@@ -1,11 +1,10 @@
 -- A point inside an edge, off all walls: the cell on its left is directly above the edge.
-use Rattle.std.proofs.Common.{◌≡◌, ℕ, ◌+◌, ◌<◌, Bool, true, false, cond, arith, refl, sym, ap, ◌∙◌, subst, [], ◌∷◌}
-use Rattle.std.specs.Prelude.{pos, ◌<ℤ◌, ◌*ℤ◌, ◌+ℤ◌, ℤ, not, ◌&&◌}
+use Rattle.std.proofs.Common.{◌≡◌, ℕ, ◌+◌, ◌<◌, Bool, true, false, cond, arith, refl, sym, ap, ◌∙◌, subst}
+use Rattle.std.specs.Prelude.{pos, ◌<ℤ◌, not, ◌&&◌}
 use Rattle.std.specs.List.{Contains}
 use Rattle.std.proofs.lemmas.Int.{ints, by_lt_z}
 use Rattle.std.proofs.lemmas.Bool.{false≢true, and_from, false_from_ne_true}
 use lib.IntN.{*ℤ-zero}
-use Rattle.integers.proofs.Reify.{ring, sides}
 use Rattle.exact_plane.specs.Point.{Point}
 use Rattle.plane_graphs.specs.Graph.{Edge}
 use Rattle.slab_laws.specs.Skeleton.{Skeleton, HasWeight, IsPlaneSkeleton, left_of, on_wall, run, side, over, below, same_edge}
@@ -17,7 +16,6 @@ use Rattle.slab_faces.proofs.Walls.{left_of-asym, left_of-before, left_of-irrefl
 use Rattle.slab_faces.proofs.Order.{below_asym, gap-on_e, gap-swap}
 use Rattle.slab_faces.proofs.Cells.{left_few, leb_by, ltb_by, both}
 use Rattle.slab_faces.proofs.Slabs.{IsThrough, IsSlab, through, by_gap, below_at, run_through, same_edge_is, same_edge_refl}
-use Rattle.slab_faces.proofs.Nudge.{moved, moved_proper, gap_of, right_side_of, fine, fine_up, fine_over}
 use Rattle.slab_faces.proofs.Along.{below_self}
 use Rattle.slab_faces.proofs.OverUnder.{over_in, positive_not_over, zero_not_over}
 use Rattle.slab_faces.proofs.Turns.{face_sym, one_more, wall_before}

@@ -9,10 +9,10 @@
 
 mod labels;
 
-pub use labels::{Source, labels_of};
-
 ghost use Rattle.overlay_sweep.specs.EdgeLabels.{LabelsBySources};
 ghost use Rattle.overlay_sweep.specs.LayerLabels.{LabelsByOwnEdges};
+
+pub use labels::{Source, labels_of};
 
 /// The labels of an overlay's faces are told by the edges of each layer.
 pub fn labels_by_own_edges()
