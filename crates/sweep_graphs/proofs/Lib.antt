@@ -1,4 +1,5 @@
 pub mod BesideWalls
+pub mod EdgeOrders
 pub mod FrontEdges
 pub mod TraceLists
 pub mod Tracing

@@ -1,5 +1,5 @@
 -- What a sweep leaves of a present: its vertices, its edges, and what is directly below each vertex.
-use Rattle.std.proofs.Common.{◌≡◌, ℕ, pos, ◌<ℤ◌, ◌<◌, Bool, true, false, arith, refl, sym, ap, ◌∙◌, subst, inl, inr, List, length, map, Less, int_cmp, is_lt}
+use Rattle.std.proofs.Common.{◌≡◌, ℕ, pos, ◌<ℤ◌, ◌<◌, Bool, true, false, arith, refl, sym, ap, ◌∙◌, subst, inl, inr, List, [], ◌∷◌, zero, suc, length, map, Less, int_cmp, is_lt}
 use Rattle.std.specs.Prelude.{not, ◌&&◌, slice_index_or, Option, Some, None}
 use Rattle.std.specs.List.{Contains}
 use Rattle.std.proofs.lemmas.Int.{ints}
@@ -15,16 +15,17 @@ use Rattle.edges_below.specs.Levels.{IsSeen}
 use Rattle.face_roots.proofs.BelowVertices.{reaching}
 use Rattle.face_roots.proofs.PointOrder.{before}
 use Rattle.exact_plane.specs.Span.{Span, IsSpan, LiesOn, IsAtMost}
-use Rattle.plane_graphs.specs.Ascending.{Member}
+use Rattle.plane_graphs.specs.Ascending.{Member, IsAscending, ascending}
 use Rattle.plane_graphs.specs.Fit.{IsFit}
-use Rattle.plane_graphs.specs.Graph.{Edge, graph, edges, vertices}
+use Rattle.plane_graphs.specs.Graph.{Edge, Mark, graph, edges, edge_cmp, mark_cmp, vertices}
 use Rattle.plane_graphs.specs.Line.{IsProper, precedes as comes_first}
-use Rattle.plane_graphs.specs.Piece.{Present, on}
-use Rattle.plane_graphs.proofs.Ascending.{ascending_unique, to_member, from_member}
+use Rattle.plane_graphs.specs.Piece.{Piece, Present, on}
+use Rattle.plane_graphs.proofs.Ascending.{ascending_unique, ascending_is, Member-ascending, ascending-Member, IsAscending-ascending, IsAscending-map, to_member, from_member}
 use Rattle.plane_graphs.proofs.Laws.{graph_is_plane}
-use Rattle.plane_graphs.proofs.Lists.{clash}
-use Rattle.plane_graphs.proofs.Meaning.{edges_are, vertices_are}
-use Rattle.plane_graphs.proofs.Order.{lt_in, lt_out, lt_trans, lt_never}
+use Rattle.plane_graphs.proofs.Lists.{clash, in_map, of_map}
+use Rattle.plane_graphs.proofs.Marks.{On, on_in, on_out, on_between, le_lt, mark_in, mark_out, marks_ascend}
+use Rattle.plane_graphs.proofs.Meaning.{edges_are, edges_ascend, edge_cmp_total, vertices_are}
+use Rattle.plane_graphs.proofs.Order.{lt_in, lt_out, lt_trans, lt_never, mark_cmp_total, mark_cmp_exact}
 use Rattle.plane_graphs.proofs.Sorting.{rises, member_at}
 use Rattle.plane_graphs.proofs.Vertices.{vertices_ascend}
 use Rattle.present_graphs.specs.Spans.{span_of_piece, lies_on}
@@ -45,9 +46,28 @@ use Rattle.sweep_events.proofs.Queue.{event_point}
 use Rattle.sweep_graphs.specs.declared.trace.OpenStretch.{OpenStretch}
 use Rattle.sweep_graphs.specs.declared.trace.Trace.{Trace}
 use Rattle.sweep_graphs.specs.Traces.{point_at, no_point, IsStep, IsLastOn, IsOpenBelow, IsTrace}
+use Rattle.sweep_graphs.specs.declared.edges.EdgeEnds.{EdgeEnds}
+use Rattle.sweep_graphs.specs.declared.trace.Stretch.{Stretch}
+use Rattle.sweep_graphs.specs.Edges.{ends_of, ends_cmp, edge_between, curve_at, mark_along}
+use Rattle.sweep_graphs.proofs.EdgeOrders.{ends_cmp_total, ends_cmp_exact, edges_rise}
 use Rattle.sweep_graphs.specs.TraceLaws.{IsTraceOf, TracesAreGraphs}
 use Rattle.sweep_graphs.proofs.FrontEdges.{in_order_below}
 use Rattle.sweep_graphs.proofs.Tracing.{at_most_less, antisym, same_at_most}
+
+-- ---- pieces by place, with their curves
+curved_piece : (ks : List Piece) (i : ℕ) → i < length (map span_of_piece ks) → (k : Piece) × Member k ks × (piece_at (map span_of_piece ks) i ≡ span_of_piece k) × (slice_index_or (map (λ x. x.curve) ks) i 0 ≡ k.curve)
+curved_piece [] i h = absurd (omega arith)
+curved_piece (k ∷ ks) zero h = (k, inl refl, refl, refl)
+curved_piece (k ∷ ks) (suc i) h = let w = curved_piece ks i (omega arith) in (w.0, inr w.1, w.2, w.3)
+
+curved_place : (ks : List Piece) (k : Piece) → Member k ks → (i : ℕ) × (i < length (map span_of_piece ks)) × (piece_at (map span_of_piece ks) i ≡ span_of_piece k) × (slice_index_or (map (λ x. x.curve) ks) i 0 ≡ k.curve)
+curved_place [] k m = elim m [ ]
+curved_place (x ∷ ks) k (inl e) = (0, omega arith, ap span_of_piece (sym e), ap (λ y. y.curve) (sym e))
+curved_place (x ∷ ks) k (inr m) = let w = curved_place ks k m in (suc w.0, (let l = w.1 in omega arith), w.2, w.3)
+
+marks_up : (p : Present) → IsAscending mark_cmp (graph p).marks
+unfolding graph
+marks_up p = marks_ascend (vertices p) p.pieces
 
 module _ (p : Present) (fit : IsFit p) (spans : AreSpans (map span_of_piece p.pieces)) (pinned : (r : Point) → Member r p.pins → IsPoint r) where
   abbrev piece : ℕ → Span
@@ -115,6 +135,46 @@ module _ (p : Present) (fit : IsFit p) (spans : AreSpans (map span_of_piece p.pi
           ahead = (lt_out e.low e.high h.forward).is;
           none = λ r R x y. clash (lies_on_piece h.piece r (subst (λ (t : Span). LiesOn t r) w.2 R.1)) (h.none_between r (vertex_of r R.0) (ap is_lt x) (ap is_lt y));
         },
+      )
+
+  -- ---- steps and marks
+  step_mark : (i : ℕ) (a b : Point) → Step i a b → Member (record { low = a; high = b; curve = curve_at p i }) (graph p).marks
+  unfolding graph
+  step_mark i a b s =
+      let w = curved_piece p.pieces i s.within in
+      let k = w.0 in
+      let at : (r : Point) → LiesOn (piece i) r → On k r = λ r h. on_out k r (lies_on_piece k r (subst (λ (t : Span). LiesOn t r) w.2 h)) in
+      let A = at a s.first.1 in
+      let B = at b s.second.1 in
+      mark_in (vertices p) p.pieces (record { low = a; high = b; curve = curve_at p i }) (record {
+        piece = k;
+        here = w.1;
+        curve = w.3;
+        low_in = vertex_of a s.first.0;
+        high_in = vertex_of b s.second.0;
+        next = record {
+          lt = record { is = s.ahead };
+          at_p = A;
+          at_q = B;
+          none = λ r m x y o. s.none r (event_of r m, subst (λ (t : Span). LiesOn t r) (sym w.2) (on_lies k r (on_in k r (on_between k a r b A B (le_lt x) (le_lt y) o)))) x.is y.is;
+        };
+      })
+
+  mark_step : (m : Mark) → Member m (graph p).marks → (i : ℕ) × Step i m.low m.high × (curve_at p i ≡ m.curve)
+  unfolding graph
+  mark_step m h =
+      let k = mark_out (vertices p) p.pieces m h in
+      let w = curved_place p.pieces k.piece k.here in
+      let lies : (r : Point) → On k.piece r → LiesOn (piece w.0) r = λ r o. subst (λ (t : Span). LiesOn t r) (sym w.2) (on_lies k.piece r (on_in k.piece r o)) in (
+        w.0,
+        record {
+          within = w.1;
+          first = (event_of m.low k.low_in, lies m.low k.next.at_p);
+          second = (event_of m.high k.high_in, lies m.high k.next.at_q);
+          ahead = k.next.lt.is;
+          none = λ r R x y. k.next.none r (vertex_of r R.0) (record { is = x }) (record { is = y }) (on_out k.piece r (lies_on_piece k.piece r (subst (λ (t : Span). LiesOn t r) w.2 R.1))).line;
+        },
+        w.3 ∙ sym k.curve,
       )
 
   -- ---- an edge's span
@@ -301,14 +361,51 @@ module _ (p : Present) (fit : IsFit p) (spans : AreSpans (map span_of_piece p.pi
     below_at : (k : ℕ) (o : Option OpenStretch) → k < length t.points → slice_index_or t.below k None ≡ o → IsOpenBelow (piece_at (map span_of_piece p.pieces)) (length (map span_of_piece p.pieces)) p.pins t.points (point_at t.points k) o
     below_at k o l z = subst (IsOpenBelow (piece_at (map span_of_piece p.pieces)) (length (map span_of_piece p.pieces)) p.pins t.points (point_at t.points k)) z (h.below_are k l)
 
+    -- ---- edges and marks
+    abbrev along : List EdgeEnds
+    along = ascending ends_cmp (map ends_of t.stretches)
+
+    stretch_of : (e : EdgeEnds) → Member e along → (s : Stretch) × Member s t.stretches × (e ≡ ends_of s)
+    stretch_of e m = of_map ends_of e t.stretches (Member-ascending ends_cmp ends_cmp_total e (map ends_of t.stretches) m)
+
+    along_in : (s : Stretch) → Member s t.stretches → Member (ends_of s) along
+    along_in s m = ascending-Member ends_cmp ends_cmp_total (ends_of s) (map ends_of t.stretches) (λ x y _ _ q. ends_cmp_exact x y q) (in_map ends_of s t.stretches m)
+
+    edges_told : map (edge_between t.points) along ≡ edges (graph p)
+    edges_told =
+        ascending_unique edge_cmp edge_cmp_total (map (edge_between t.points) along) (edges (graph p))
+        (IsAscending-map ends_cmp edge_cmp (edge_between t.points) along (λ e f _ m l.
+        let s = stretch_of f m in
+        let g = h.sound s.0 s.1 in
+        edges_rise t.points h.ascends e f (subst (λ x. x.low < length t.points) (sym s.2) g.low_in) (subst (λ x. x.high < length t.points) (sym s.2) g.high_in) l) (IsAscending-ascending ends_cmp ends_cmp_total (map ends_of t.stretches)))
+        (edges_ascend (graph p))
+        (λ d m.
+        let e = of_map (edge_between t.points) d along m in
+        let s = stretch_of e.0 e.1 in
+        subst (λ x. Member x (edges (graph p))) (sym (e.2 ∙ ap (edge_between t.points) s.2)) (step_edge s.0.piece (point_at t.points s.0.low) (point_at t.points s.0.high) (h.sound s.0 s.1).step))
+        (λ d m.
+        let k = edge_step d m in
+        let s = h.complete k.0 d.low d.high k.1 in
+        let e : edge_between t.points (ends_of s.0) ≡ d = λ i. record { low = s.3 i; high = s.4 i } in
+        subst (λ x. Member x (map (edge_between t.points) along)) e (in_map (edge_between t.points) (ends_of s.0) along (along_in s.0 s.1)))
+
+    marks_told : ascending mark_cmp (map (mark_along p t.points) t.stretches) ≡ (graph p).marks
+    marks_told =
+        sym (ascending_is mark_cmp mark_cmp_total (map (mark_along p t.points) t.stretches) (graph p).marks (λ x y _ _ q. mark_cmp_exact x y q) (marks_up p)
+        (λ m k.
+        let w = mark_step m k in
+        let s = h.complete w.0 m.low m.high w.1 in
+        let e : mark_along p t.points s.0 ≡ m = (let c = ap (curve_at p) s.2 ∙ w.2 in λ i. record { low = s.3 i; high = s.4 i; curve = c i }) in
+        subst (λ x. Member x (map (mark_along p t.points) t.stretches)) e (in_map (mark_along p t.points) s.0 t.stretches s.1))
+        (λ m k.
+        let s = of_map (mark_along p t.points) m t.stretches k in
+        subst (λ x. Member x (graph p).marks) (sym s.2) (step_mark s.0.piece (point_at t.points s.0.low) (point_at t.points s.0.high) (h.sound s.0 s.1).step)))
+
     trace_of_present : IsTraceOf p t
     trace_of_present = record {
       points = ascending_unique point_cmp point_cmp_total t.points (vertices p) h.ascends (vertices_ascend p) (λ r m. vertex_of r ((h.points_are r).0 m)) (λ r m. (h.points_are r).1 (event_of r m));
-      sound = λ s m. let k = h.sound s m in step_edge s.piece (point_at t.points s.low) (point_at t.points s.high) k.step;
-      complete = λ e m.
-          let k = edge_step e m in
-          let s = h.complete k.0 e.low e.high k.1 in
-          (s.0, s.1, λ i. record { low = s.3 i; high = s.4 i });
+      edges = edges_told;
+      marks = marks_told;
       nothing = λ k l z. nothing_below (point_at t.points k) (event_at k l) (below_at k None l z);
       closed = λ k o l z.
           let b = below_at k (Some o) l z in

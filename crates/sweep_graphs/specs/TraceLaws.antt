@@ -2,9 +2,9 @@
 use Rattle.std.specs.Prelude.{◌≡◌, ◌<◌, ℕ, length, map, slice_index_or, Some, None}
 use Rattle.std.specs.List.{Contains}
 use Rattle.exact_plane.specs.Point.{Point, IsPoint}
-use Rattle.plane_graphs.specs.Ascending.{Member}
+use Rattle.plane_graphs.specs.Ascending.{Member, ascending}
 use Rattle.plane_graphs.specs.Fit.{IsFit}
-use Rattle.plane_graphs.specs.Graph.{Edge, graph, edges, vertices}
+use Rattle.plane_graphs.specs.Graph.{graph, edges, mark_cmp, vertices}
 use Rattle.plane_graphs.specs.Piece.{Present}
 use Rattle.present_graphs.specs.Spans.{span_of_piece}
 use Rattle.slab_laws.specs.Text.{skeleton}
@@ -13,24 +13,21 @@ use Rattle.sweep_events.specs.Places.{AreSpans}
 use Rattle.sweep_graphs.specs.declared.trace.OpenStretch.{OpenStretch}
 use Rattle.sweep_graphs.specs.declared.trace.Stretch.{Stretch}
 use Rattle.sweep_graphs.specs.declared.trace.Trace.{Trace}
+use Rattle.sweep_graphs.specs.Edges.{ends_of, ends_cmp, edge_between, mark_along}
 use Rattle.sweep_graphs.specs.Traces.{point_at, IsTrace}
-
--- the edge that a stretch runs along
-abbrev pub edge_of_stretch : Trace → Stretch → Edge
-edge_of_stretch t s = record { low = point_at t.points s.low; high = point_at t.points s.high }
 
 -- it is the stretch that was told while it was open
 abbrev pub IsOpened : OpenStretch → Stretch → Type 0
 IsOpened o s = (s.low ≡ o.low) × (s.piece ≡ o.piece)
 
--- the points are the vertices, and the stretches run along the edges; the stretch below a vertex is one of these, and its edge is the highest below the vertex (this project)
+-- the points are the vertices, and the edges that the stretches run along are the edges, with the curves of their pieces; the stretch below a vertex is one of these, and its edge is the highest below the vertex (this project)
 pub record IsTraceOf (p : Present) (t : Trace) : Type 0 where
   pub points : t.points ≡ vertices p
-  pub sound : (s : Stretch) → Member s t.stretches → Member (edge_of_stretch t s) (edges (graph p))
-  pub complete : (e : Edge) → Member e (edges (graph p)) → (s : Stretch) × Member s t.stretches × (edge_of_stretch t s ≡ e)
+  pub edges : map (edge_between t.points) (ascending ends_cmp (map ends_of t.stretches)) ≡ edges (graph p)
+  pub marks : ascending mark_cmp (map (mark_along p t.points) t.stretches) ≡ (graph p).marks
   pub nothing : (k : ℕ) → k < length t.points → slice_index_or t.below k None ≡ None → IsHighestBelow (Contains (skeleton (graph p)).edges) (point_at t.points k) None
   pub closed : (k : ℕ) (o : OpenStretch) → k < length t.points → slice_index_or t.below k None ≡ Some o → (s : Stretch) × Member s t.stretches × IsOpened o s
-  pub something : (k : ℕ) (o : OpenStretch) (s : Stretch) → k < length t.points → slice_index_or t.below k None ≡ Some o → Member s t.stretches → IsOpened o s → IsHighestBelow (Contains (skeleton (graph p)).edges) (point_at t.points k) (Some (edge_of_stretch t s))
+  pub something : (k : ℕ) (o : OpenStretch) (s : Stretch) → k < length t.points → slice_index_or t.below k None ≡ Some o → Member s t.stretches → IsOpened o s → IsHighestBelow (Contains (skeleton (graph p)).edges) (point_at t.points k) (Some (edge_between t.points (ends_of s)))
 
 -- of the spans and pins of a fit present
 abbrev pub TracesAreGraphs : Type 0

@@ -6,10 +6,12 @@
 //! its contract states it, and its body, being empty, computes nothing.
 #![tactic(auto)]
 
+mod edges;
 mod trace;
 
 ghost use Rattle.sweep_graphs.specs.TraceLaws.{TracesAreGraphs};
 
+pub use edges::{EdgeEnds, edges_along, stretches_by_edges};
 pub use trace::{OpenStretch, Stretch, Trace, trace_of};
 
 /// What a sweep leaves of a fit present is the present's graph, with what is directly below each vertex.
