@@ -2,6 +2,7 @@
 use Rattle.std.proofs.Common.{◌≡◌, ℕ, pos, ◌<ℤ◌, ◌<◌, Bool, true, false, arith, refl, sym, ap, ◌∙◌, subst, inl, inr, List, [], ◌∷◌, zero, suc, length, map, Less, int_cmp, is_lt}
 use Rattle.std.specs.Prelude.{not, ◌&&◌, slice_index_or, Option, Some, None}
 use Rattle.std.specs.List.{Contains}
+use Rattle.std.specs.Option.{option_map}
 use Rattle.std.proofs.lemmas.Int.{ints}
 use Rattle.std.proofs.lemmas.Bool.{false≢true, and_parts, and_from, not-true, false_from_ne_true, cases_lt}
 use Rattle.integers.proofs.Compare.{greater_out, greater_in}
@@ -50,7 +51,7 @@ use Rattle.sweep_graphs.specs.declared.edges.EdgeEnds.{EdgeEnds}
 use Rattle.sweep_graphs.specs.declared.trace.Stretch.{Stretch}
 use Rattle.sweep_graphs.specs.Edges.{ends_of, ends_cmp, edge_between, curve_at, mark_along}
 use Rattle.sweep_graphs.proofs.EdgeOrders.{ends_cmp_total, ends_cmp_exact, edges_rise}
-use Rattle.sweep_graphs.specs.TraceLaws.{IsTraceOf, TracesAreGraphs}
+use Rattle.sweep_graphs.specs.TraceLaws.{IsTraceOf, TracesAreGraphs, EdgesBelowAreHighest}
 use Rattle.sweep_graphs.proofs.FrontEdges.{in_order_below}
 use Rattle.sweep_graphs.proofs.Tracing.{at_most_less, antisym, same_at_most}
 
@@ -407,7 +408,9 @@ module _ (p : Present) (fit : IsFit p) (spans : AreSpans (map span_of_piece p.pi
       edges = edges_told;
       marks = marks_told;
       nothing = λ k l z. nothing_below (point_at t.points k) (event_at k l) (below_at k None l z);
-      closed = λ k o l z.
+      paired = h.paired;
+      closed = λ k o m z.
+          let l : k < length t.points = (let w = h.paired in omega arith) in
           let b = below_at k (Some o) l z in
           let c = goes_past (point_at t.points k) (event_at k l) o.piece b.0.0 in
           let s = h.complete o.piece c.0 c.1 c.2 in
@@ -425,3 +428,16 @@ module _ (p : Present) (fit : IsFit p) (spans : AreSpans (map span_of_piece p.pi
 
 pub traces_are_graphs : TracesAreGraphs
 traces_are_graphs p t fit spans pinned h = trace_of_present p fit spans pinned t h
+
+pub edges_below_are_highest : EdgesBelowAreHighest
+edges_below_are_highest p t es h u k l = by (slice_index_or t.below k None) refl
+  where
+    Highest : Option EdgeEnds → Type 0
+    Highest e = IsHighestBelow (Contains (skeleton (graph p)).edges) (point_at t.points k) (option_map (edge_between t.points) e)
+
+    within : k < length t.below
+    within = let w = h.paired in omega arith
+
+    by : (o : Option OpenStretch) → slice_index_or t.below k None ≡ o → Highest (slice_index_or es k None)
+    by None z = subst Highest (sym (u.nothing k within z)) (h.nothing k l z)
+    by (Some o) z = let s = u.something k o within z in subst Highest (sym s.3) (h.something k o s.0 l z s.1 s.2)

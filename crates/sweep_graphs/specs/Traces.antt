@@ -39,6 +39,7 @@ pub record Traced : Type 0 where
   pub below : List (Option OpenStretch)
   pub lasts : List ℕ
 
+-- its lists
 abbrev pub traced_of : Tracer → Traced
 traced_of t = record { points = t.trace.points; stretches = t.trace.stretches; below = t.trace.below; lasts = t.lasts.items }
 

@@ -20,7 +20,7 @@ pub struct Stretch {
 }
 
 /// A stretch that is told while the sweep hasn't come to its upper vertex yet.
-#[derive(Clone, Copy, PartialEq, Eq)]
+#[derive(Clone, Copy, PartialEq, Eq, PartialOrd, Ord)]
 pub struct OpenStretch {
     /// The lower vertex.
     pub low: usize,
