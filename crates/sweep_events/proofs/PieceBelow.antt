@@ -1,5 +1,5 @@
 -- The piece directly below the last event is the last of the status that passes below it.
-use Rattle.std.proofs.Common.{◌≡◌, ℕ, suc, ◌-◌, ◌<◌, ◌≤◌, true, arith, sym, ap, ◌∙◌, subst, inl, inr, List, [], ◌∷◌, length, get_or, ℤ, pos, ◌<ℤ◌, ◌≤ℤ◌}
+use Rattle.std.proofs.Common.{◌≡◌, ℕ, ◌-◌, ◌<◌, ◌≤◌, true, arith, sym, ap, ◌∙◌, subst, inl, inr, List, length, get_or, ℤ, pos, ◌<ℤ◌, ◌≤ℤ◌}
 use Rattle.std.specs.Prelude.{slice_index_or, Option, None, Some}
 use Rattle.std.specs.Ordering.{ordering_then, int_cmp, nat_cmp}
 use Rattle.std.specs.declared.cmp.Ordering.TheVariants.{Less}
@@ -11,6 +11,7 @@ use Rattle.exact_plane.specs.Line.{side_of}
 use Rattle.exact_plane.specs.Point.{Point}
 use Rattle.exact_plane.specs.Span.{Span}
 use Rattle.plane_graphs.specs.Ascending.{Member}
+use Rattle.plane_graphs.proofs.Ascending.{from_member}
 use Rattle.plane_graphs.proofs.Sorting.{parted, rises, member_at, any_default}
 use Rattle.sweep_events.specs.Below.{PassesBelow, IsPieceBelow, IsPieceBelowAfter, IsBelowLast}
 use Rattle.sweep_events.specs.Events.{IsStatusAfter}
@@ -19,12 +20,6 @@ use Rattle.sweep_events.specs.Places.{piece_at, is_below, IsCutBelow, AreSpans}
 use Rattle.sweep_events.specs.Status.{IsStatus, status_cmp}
 use Rattle.sweep_events.specs.Sweep.{Swept, HasStatus}
 use Rattle.sweep_events.proofs.FrontOrder.{upper_side, then_assoc}
-
--- a member of a list has a place
-member_place : {X : Type 0} (xs : List X) (x d : X) → Member x xs → (k : ℕ) × (k < length xs) × (get_or xs k d ≡ x)
-member_place [] x d m = elim m [ ]
-member_place (y ∷ ys) x d (inl e) = (0, omega arith, sym e)
-member_place (y ∷ ys) x d (inr m) = let r = member_place ys x d m in (suc r.0, (let k = r.1 in omega arith), r.2)
 
 module _ (pieces : List Span) (q : Point) (status : List ℕ) (spans : AreSpans pieces) (s : IsStatus (piece_at pieces) (length pieces) q status) where
   within : (i : ℕ) → Member i status → i < length pieces
@@ -42,6 +37,9 @@ module _ (pieces : List Span) (q : Point) (status : List ℕ) (spans : AreSpans 
       both_ways : (z : ℤ) → pos 0 <ℤ z → z ≤ℤ pos 0 → ⊥
       both_ways z h k = omega (arith, ints)
 
+  place_of : (i : ℕ) → Member i status → (k : ℕ) × (k < length status) × (get_or status k 0 ≡ i)
+  place_of i m = let k = from_member status i m in (k.0, k.1, any_default status k.0 0 i k.1 ∙ k.2)
+
   passes_in : (i : ℕ) → PassesBelow (piece_at pieces) (length pieces) q i → Member i status × (is_below pieces q i ≡ true)
   passes_in i (h, m, k) = ((s.met i).1 (h, m), lt_in (pos 0) (side_of (piece_at pieces i).line q) k)
 
@@ -51,7 +49,7 @@ module _ (pieces : List Span) (q : Point) (status : List ℕ) (spans : AreSpans 
   none_below : (n : ℕ) → IsCutBelow pieces q status n → n ≡ 0 → IsPieceBelow (piece_at pieces) (length pieces) q None
   none_below n cut z i h =
       let a = passes_in i h in
-      let k = member_place status i 0 a.0 in
+      let k = place_of i a.0 in
       let l = k.1 in
       false≢true (sym (cut.1 k.0 0 (omega arith) l) ∙ subst (λ x. is_below pieces q x ≡ true) (sym k.2) a.1)
 
@@ -60,7 +58,7 @@ module _ (pieces : List Span) (q : Point) (status : List ℕ) (spans : AreSpans 
     passes_out (slice_index_or status (n - 1) 0) (member_at status (n - 1) 0 (omega arith)) (cut.0 (n - 1) 0 (omega arith) (omega arith)),
     λ i h.
         let a = passes_in i h in
-        let k = member_place status i 0 a.0 in
+        let k = place_of i a.0 in
         let l = k.1 in
         elim (cases_lt k.0 n) [
           | inl t ↦ elim (cases_lt k.0 (n - 1)) [

@@ -1,5 +1,5 @@
 -- Open stretches are found among the stretches by their order.
-use Rattle.std.proofs.Common.{◌≡◌, ℕ, suc, ◌+◌, ◌<◌, ◌≤◌, Bool, true, false, ◌&&◌, eqb, arith, sym, ap, ap₂, subst, ◌∙◌, inl, inr, nat_cmp, Less, Equal, List, [], ◌∷◌, ◌++◌, length, map, get_or}
+use Rattle.std.proofs.Common.{◌≡◌, ℕ, ◌+◌, ◌<◌, ◌≤◌, Bool, true, false, ◌&&◌, eqb, arith, sym, ap, ap₂, subst, ◌∙◌, inl, inr, nat_cmp, Less, Equal, List, [], ◌∷◌, ◌++◌, length, map, get_or}
 use Rattle.std.specs.Prelude.{slice_index_or, nat_lt, Option, None, Some}
 use Rattle.std.specs.Ordering.{eq_by_cmp, is_lt}
 use Rattle.std.specs.Cmp.{IsTotalOrder, then_total, on_total, nat_cmp_total, tied_itself}
@@ -9,7 +9,7 @@ use Rattle.std.proofs.lemmas.List.{get_or_append_left, get_or_push, length-appen
 use Rattle.integers.proofs.Classes.{then_equal}
 use Rattle.integers.proofs.Tests.{nat_exact, number_ties, both_equal, is_less}
 use Rattle.plane_graphs.specs.Ascending.{Member, IsAscending, ascending}
-use Rattle.plane_graphs.proofs.Ascending.{Member-ascending, ascending-Member, IsAscending-ascending}
+use Rattle.plane_graphs.proofs.Ascending.{Member-ascending, ascending-Member, IsAscending-ascending, from_member}
 use Rattle.plane_graphs.proofs.Lists.{in_map, of_map}
 use Rattle.plane_graphs.proofs.Sorting.{parted, rises, member_at, any_default}
 use Rattle.sweep_graphs.specs.declared.below.ClosedStretch.{ClosedStretch}
@@ -66,12 +66,7 @@ module _ (cs : List ClosedStretch) (up : IsAscending closed_cmp cs) (o : OpenStr
 
   module _ (n : ℕ) (cut : IsPartitionPoint (λ c. opens o c ≡ true) (λ c. opens o c ≡ false) cs n) (c : ClosedStretch) (m : Member c cs) (is : c.start ≡ o) where
     own : (k : ℕ) × (k < length cs) × (get_or cs k c ≡ c)
-    own = member_place cs c c m
-      where
-        member_place : (xs : List ClosedStretch) (x d : ClosedStretch) → Member x xs → (k : ℕ) × (k < length xs) × (get_or xs k d ≡ x)
-        member_place [] x d m = elim m [ ]
-        member_place (y ∷ ys) x d (inl e) = (0, omega arith, sym e)
-        member_place (y ∷ ys) x d (inr m) = let r = member_place ys x d m in (suc r.0, (let k = r.1 in omega arith), r.2)
+    own = from_member cs c m
 
     at_or_after : n ≤ own.0
     at_or_after = elim (cases_lt own.0 n) [
