@@ -10,6 +10,7 @@ pub mod FrontOrder
 pub mod Neighbours
 pub mod NextEvent
 pub mod OneStatus
+pub mod PieceBelow
 pub mod PlacesTold
 pub mod Queue
 pub mod QueueInserts

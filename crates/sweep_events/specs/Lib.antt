@@ -1,3 +1,4 @@
+pub mod Below
 pub mod Edges
 pub mod EventList
 pub mod Events

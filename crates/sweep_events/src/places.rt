@@ -1,5 +1,6 @@
 ghost use Rattle.std.specs.Prelude.{◌≡◌, ◌≤◌, ◌++◌, ℕ, ◌<◌, length, map, IfOk, OnOk, OnErr};
 ghost use Rattle.std.specs.List.{splice};
+ghost use Rattle.std.specs.List.Sorted.{IsPartitionedBy};
 ghost use Rattle.std.specs.Ordering.{nat_cmp, is_lt, is_le};
 ghost use Rattle.exact_plane.specs.PointOrder.{point_cmp};
 ghost use Rattle.exact_plane.specs.Point.{IsPoint};
@@ -57,11 +58,9 @@ pub(crate) fn passes_upto(pieces: &[Span], place: usize, point: &Point) -> bool
     }
 }
 
-// How many pieces of the status pass below the point.
+// How many pieces of a list pass below the point, where they stand before all others.
 pub(crate) fn count_below(pieces: &[Span], status: &[usize], point: &Point) -> usize
-    requires spans { AreSpans pieces.now }
-    requires places { ArePlaces pieces.now status.now }
-    requires waits { IsAscending (waiting_cmp (piece_at pieces.now) point.now) status.now }
+    requires { IsPartitionedBy (is_below pieces.now point.now) status.now }
     ensures bound { result ≤ length status.now }
     ensures cut { IsCutBelow pieces.now point.now status.now result }
 {

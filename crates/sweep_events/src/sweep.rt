@@ -4,14 +4,15 @@ ghost use Rattle.exact_plane.specs.Span.{Span};
 ghost use Rattle.sweep_events.specs.Events.{AreMeeting};
 ghost use Rattle.sweep_events.specs.EventList.{events_left};
 ghost use Rattle.sweep_events.specs.Exchange.{exchanged};
-ghost use Rattle.sweep_events.specs.Places.{ArePlaces};
+ghost use Rattle.sweep_events.specs.Places.{ArePlaces, AreSpans};
 ghost use Rattle.sweep_events.specs.Seams.{IsGrown, AreThere, MeetAt, MeetBelowRun, MeetAboveRun, MeetAtRun};
 ghost use Rattle.sweep_events.specs.Sweep.{Swept, IsNextEvent, IsOver, HasStatus, HasSlab};
+ghost use Rattle.sweep_events.specs.Below.{IsBelowLast};
 ghost use Rattle.sweep_events.specs.FirstQueue.{HasEnds, HasPins};
 
 use crate::event::Event;
 use crate::exchange::{Exchange, exchange_at, place_after};
-use crate::places::{Start, at_place, replace, starts_of};
+use crate::places::{Start, at_place, count_below, replace, starts_of};
 use exact_plane::{Meet, Point, Span, span_meeting};
 use no_memory::NoMemory;
 use std::alloc::Global;
@@ -155,7 +156,8 @@ impl Sweep {
     ///
     /// There was no memory.
     pub fn new(alloc: Global, pieces: &[Span], pins: &[Point]) -> Result<Sweep, NoMemory>
-        ensures { IfOk result (λ s. s ≡ record { pieces = pieces.now; pins = pins.now; last = None; status = [] }) }
+        ensures starts { IfOk result (λ s. s ≡ record { pieces = pieces.now; pins = pins.now; last = None; status = [] }) }
+        ensures spans { OnOk result (AreSpans pieces.now) }
     {
         let mut kept = Vec::new(alloc);
         kept.extend_from_slice(pieces)?;
@@ -222,5 +224,18 @@ impl Sweep {
         ensures slab { HasSlab self.now }
     {
         &self.status
+    }
+
+    /// The place of the piece directly below the last event: the highest of those that the sweep meets strictly below it. `None`
+    /// where there is none, and before the first event.
+    pub fn below(&self) -> Option<usize>
+        ensures { IsBelowLast self.now result }
+    {
+        let point = self.last?;
+        let count = count_below(&self.pieces, &self.status, &point);
+        if count == 0 {
+            return None;
+        }
+        Some(self.status[count - 1])
     }
 }

@@ -7,10 +7,11 @@ use Rattle.sweep_events.specs.Places.{ArePlaces}
 use Rattle.sweep_events.specs.Runs.{ends_there}
 use Rattle.sweep_events.specs.Sweep.{IsEventAt}
 use Rattle.sweep_events.proofs.ExchangeParts.{in_turn, passes_places, passes_ascend, starts_places, starts_apart, exchange_is, event_is}
+use Rattle.sweep_events.proofs.StatusCuts.{parted_below}
 use Rattle.sweep_events.proofs.exchange.exchange_at.Goals as goal
 
-pub count_below-low-requires-clause-places : goal.count_below-low-requires-clause-places
-count_below-low-requires-clause-places c = λ i m. ((c.requires.waits.met i).0 m).0
+pub count_below-low-requires : goal.count_below-low-requires
+count_below-low-requires c = parted_below c.args.pieces.now c.args.point.now c.args.status.now c.requires.spans (λ i m. ((c.requires.waits.met i).0 m).0) c.requires.waits.ascends
 
 pub count_upto-high-requires-clause-places : goal.count_upto-high-requires-clause-places
 count_upto-high-requires-clause-places c = λ i m. ((c.requires.waits.met i).0 m).0

@@ -1,0 +1,3 @@
+pub mod CycleLinks
+pub mod CycleRanks
+pub mod LowestDarts

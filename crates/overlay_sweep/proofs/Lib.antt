@@ -1,0 +1,4 @@
+pub mod OnEdges
+pub mod LayerCells
+pub mod LayerLabels
+pub mod EdgeLabels

@@ -1,0 +1,2 @@
+pub mod LayerLabels
+pub mod EdgeLabels

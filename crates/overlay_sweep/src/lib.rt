@@ -1,0 +1,25 @@
+//! The overlay of two layers by a plane sweep.
+//!
+//! The faces of the overlay have the labels of the faces of each layer that they lie in (CGAL manual, overlay of arrangements; Fogel,
+//! Halperin and Wein: an overlay by one sweep over the curves of both). An edge that has a curve of a layer lies on an edge of that
+//! layer, whose upper side tells the label above it; any other edge has one label on both sides, which is that of what is below it.
+//! So each edge has a source, an earlier edge or one of the layer, and the labels are one pass: no faces are joined, and no cells are
+//! made. What holds of the two layers are laws: their contracts state them, and their bodies, being empty, compute nothing.
+#![tactic(auto)]
+
+mod labels;
+
+ghost use Rattle.overlay_sweep.specs.EdgeLabels.{LabelsBySources};
+ghost use Rattle.overlay_sweep.specs.LayerLabels.{LabelsByOwnEdges};
+
+pub use labels::{Source, labels_of};
+
+/// The labels of an overlay's faces are told by the edges of each layer.
+pub fn labels_by_own_edges()
+    ensures { LabelsByOwnEdges }
+{}
+
+/// The labels of the faces above the edges of an overlay are told one after the other.
+pub fn labels_by_sources()
+    ensures { LabelsBySources }
+{}

@@ -1,0 +1,4 @@
+pub mod Edges
+pub mod EdgesBelow
+pub mod Traces
+pub mod TraceLaws
