@@ -62,9 +62,6 @@ returns-in-Curve g c = record {
   kept = c.requires.kept;
 }
 
-pub returns-in-Count : goal.returns-in-Count
-returns-in-Count g c = record { obeyed = answered_as c.args.command _ _ _ _ c.in-Count.is c.count.ensures; err = tt; kept = c.requires.kept }
-
 pub returns-in-Show : goal.returns-in-Show
 returns-in-Show g c = record {
   obeyed = obeyed_by c.show.result c.args.command _ _ _ _ c.in-Show.is c.show.ensures;
