@@ -5,6 +5,7 @@ mod asked;
 mod calls;
 pub mod edits;
 mod kept;
+mod looks;
 mod overlays;
 mod places;
 mod rows;
