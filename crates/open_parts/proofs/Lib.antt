@@ -1,0 +1,9 @@
+pub mod Linked
+pub mod Free
+pub mod SplitCells
+pub mod Turn
+pub mod Split
+pub mod Whole
+pub mod NamedPoints
+pub mod Named
+pub mod Clear

@@ -1,0 +1,3 @@
+pub mod Parts
+pub mod PartNames
+pub mod PartReach
