@@ -1,4 +1,9 @@
 ghost use Rattle.std.specs.Prelude.{◌≡◌, ◌+◌};
+ghost use Rattle.slab_laws.specs.FaceLists.{AreLists};
+ghost use Rattle.slab_laws.specs.Sound.{IsTwinned};
+ghost use Rattle.slab_laws.specs.View.{HasVertex, HasDart, HasFace, face_id, source_in};
+ghost use Rattle.dcel_records.specs.RecordsView.{tables_of, lists_of};
+ghost use Rattle.dcel_records.specs.SoundMaps.{IsSoundMap};
 ghost use Rattle.counted_looks.specs.Looks.{IsLookable, IsLookOf};
 
 use crate::name_calls::NameCalls;
@@ -41,12 +46,26 @@ impl<'a> Glance<'a> {
         Glance { records }
     }
 
+    /// What is true of all records: twins are twins, a dart leaves a vertex that has a record, the unbounded face is there,
+    /// and each face lists its own; so the lists of a sound map are those that its faces have.
+    pub fn laws(&self)
+        ensures twinned { IsTwinned self.now.graph }
+        ensures sources { (d : _) → HasDart self.now.graph d → HasVertex self.now.graph (source_in self.now.graph d) }
+        ensures unbounded { HasFace (tables_of self.now) (face_id 0) }
+        ensures lists { IsSoundMap self.now → AreLists self.now.graph (tables_of self.now) (lists_of self.now) }
+    {
+        self.records.laws();
+        self.records.face_laws();
+    }
+
     /// One look, at a dart or a vertex, which is one step.
     pub fn look<L: Ledger>(&self, at: Spot, steps: &mut Steps<L>) -> Looked
         requires { IsLookable self.now.graph at }
         ensures look { IsLookOf self.now.graph at result }
         ensures one { steps.new ≡ steps.old + 1 }
     {
+        // The source of a dart has a record.
+        self.records.laws();
         steps.tick();
         match at {
             Spot::Edge(dart) => {

@@ -1,9 +1,16 @@
-//! Looks at records that are counted: names are answered freely, where things lie only at a step each.
+//! Looks at records that are counted: names are answered freely, where things lie only at a step each; and the boundary of a
+//! face, looked at once round.
 #![tactic(auto)]
 
+mod boundary;
+mod boundary_part;
 mod glance;
+mod looker;
 mod name_calls;
 mod naming;
 
+pub use boundary::look_at_boundary;
+pub use boundary_part::BoundaryPart;
 pub use glance::{Glance, Looked};
+pub use looker::Looker;
 pub use name_calls::NameCalls;

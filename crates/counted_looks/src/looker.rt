@@ -1,0 +1,32 @@
+ghost use Rattle.std.specs.Prelude.{◌≡◌, ◌+◌};
+ghost use Rattle.counted_looks.specs.Boundaries.{HasPart};
+
+use crate::boundary_part::BoundaryPart;
+use crate::name_calls::NameCalls;
+use std::sync::ledger::Ledger;
+use work_steps::Steps;
+
+/// One who looks at the parts of a boundary, one at a time: each look is one step (CGAL manual, the visitor of a zone).
+///
+/// A look has no answer for want of memory. A looker that may find none remembers that it failed: its `has_seen` says
+/// "failed, or else ..", and after a failure its looks only tick. So steps are counted whatever memory there is, and the
+/// walks don't stop halfway.
+pub trait Looker<S: NameCalls> {
+    ghost use Rattle.slab_laws.specs.View.{View};
+    ghost use Rattle.counted_looks.specs.declared.boundary_part.BoundaryPart.{BoundaryPart};
+
+    /// What holds of the graph, of the looker as it was at first, and of the looker after some looks.
+    ghost may_look: { View → Self → Self → Type 0 };
+
+    /// What is known of a part of the boundary once it was looked at.
+    ghost has_seen: { View → Self → BoundaryPart → Type 0 };
+
+    /// One look at a part that has a record. What was seen before stays seen.
+    fn look<L: Ledger>(&mut self, sight: &S, at: BoundaryPart, steps: &mut Steps<L>)
+        requires ready { (k : _) × may_look (S.graph sight.now) k self.old }
+        requires at { HasPart (S.graph sight.now) at }
+        ensures ready { (k : _) → may_look (S.graph sight.now) k self.old → may_look (S.graph sight.now) k self.new }
+        ensures seen { has_seen (S.graph sight.now) self.new at }
+        ensures still { (t : BoundaryPart) → has_seen (S.graph sight.now) self.old t → has_seen (S.graph sight.now) self.new t }
+        ensures one { steps.new ≡ steps.old + 1 };
+}
