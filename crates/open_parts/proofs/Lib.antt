@@ -1,9 +1,9 @@
-pub mod Linked
-pub mod Free
-pub mod SplitCells
+pub mod Between
+pub mod MorePoints
+pub mod FromFaces
+pub mod SplitThere
 pub mod Turn
-pub mod Split
-pub mod Whole
-pub mod NamedPoints
-pub mod Named
-pub mod Clear
+pub mod FromEdges
+pub mod FromVertices
+pub mod OnTheWay
+pub mod PartLaws

@@ -2,7 +2,7 @@
 use Rattle.std.proofs.Common.{◌≡◌, ℕ, Bool, true, false, cond, arith, refl, sym, ap, ◌∙◌, subst, ◌⊎◌, inl, inr}
 use Rattle.std.specs.Prelude.{not, ◌&&◌, ◌||◌, ◌==◌, pos, ◌<ℤ◌, ◌*ℤ◌, ◌-ℤ◌}
 use Rattle.std.proofs.lemmas.Int.{ints}
-use Rattle.std.proofs.lemmas.Bool.{false≢true, cases_Bool, false_from_ne_true, and_parts, or_cases}
+use Rattle.std.proofs.lemmas.Bool.{false≢true, cases_Bool, false_from_ne_true, and_parts}
 use lib.Dec.{ltb}
 use lib.IntN.{*ℤ-zero}
 use Rattle.exact_plane.specs.Point.{Point}
@@ -16,35 +16,10 @@ use Rattle.integers.proofs.Tests.{lt_yes}
 use Rattle.slab_laws.specs.Darts.{Dart, ahead, back, kind}
 use Rattle.slab_laws.specs.Rotation.{turn, earlier}
 use Rattle.slab_laws.specs.Skeleton.{HasWeight, left_of, lower_than, on_wall, side, below, precedes, inside}
-use Rattle.slab_faces.proofs.Ints.{zero_back, times_negatives, times_mixed, less_back}
+use Rattle.slab_faces.proofs.Ints.{zero_back}
 use Rattle.slab_faces.proofs.Walls.{left_of-before, left_of-after, same_abscissa, run_positive}
-use Rattle.slab_faces.proofs.Along.{side_above, side_below, upright_side}
+use Rattle.slab_faces.proofs.Along.{side_above, side_below, upright_side, upright_left, upright_right}
 use Rattle.sound_changes.proofs.PointInside.{MeanOf, lower_left, lower_right, upper_left, upper_right}
-
-climbs : (p q : Point) → precedes p q ≡ true → left_of p q ≡ false → lower_than p q ≡ true
-climbs p q h k = elim (or_cases (left_of p q) _ h) [ inl a ↦ absurd (false≢true (sym k ∙ a)) | inr b ↦ (and_parts (not (left_of q p)) (lower_than p q) b).1 ]
-
-fall_left : (f : Edge) (v : Point) → lower_than f.low f.high ≡ true → left_of v f.low ≡ true → pos 0 <ℤ ((f.low.y *ℤ f.high.w -ℤ f.high.y *ℤ f.low.w) *ℤ (v.x *ℤ f.low.w -ℤ f.low.x *ℤ v.w))
-unfolding left_of lower_than
-fall_left f v c h = times_negatives (f.low.y *ℤ f.high.w -ℤ f.high.y *ℤ f.low.w) (v.x *ℤ f.low.w -ℤ f.low.x *ℤ v.w) (omega (arith, ints)) (omega (arith, ints))
-
-fall_right : (f : Edge) (v : Point) → lower_than f.low f.high ≡ true → left_of f.low v ≡ true → ((f.low.y *ℤ f.high.w -ℤ f.high.y *ℤ f.low.w) *ℤ (v.x *ℤ f.low.w -ℤ f.low.x *ℤ v.w)) <ℤ pos 0
-unfolding left_of lower_than
-fall_right f v c h = times_mixed (f.low.y *ℤ f.high.w -ℤ f.high.y *ℤ f.low.w) (v.x *ℤ f.low.w -ℤ f.low.x *ℤ v.w) (omega (arith, ints)) (omega (arith, ints))
-
-upright_left : (f : Edge) (v : Point) → HasWeight f.low → left_of f.low f.high ≡ false → left_of f.high f.low ≡ false → lower_than f.low f.high ≡ true → left_of v f.low ≡ true → pos 0 <ℤ side f v
-upright_left f v P a b c h =
-    let i = upright_side f v a b in
-    let k = fall_left f v c h in
-    let o = *ℤ-zero f.low.w in
-    less_back f.low.w (pos 0) (side f v) P (omega (arith, ints))
-
-upright_right : (f : Edge) (v : Point) → HasWeight f.low → left_of f.low f.high ≡ false → left_of f.high f.low ≡ false → lower_than f.low f.high ≡ true → left_of f.low v ≡ true → side f v <ℤ pos 0
-upright_right f v P a b c h =
-    let i = upright_side f v a b in
-    let k = fall_right f v c h in
-    let o = *ℤ-zero f.low.w in
-    less_back f.low.w (side f v) (pos 0) P (omega (arith, ints))
 
 -- ---- which of two darts is met earlier
 by_turn : (d e : Dart) (m n : ℕ) → turn d ≡ m → turn e ≡ n → ltb m n ≡ true → earlier d e ≡ true
@@ -176,7 +151,7 @@ module _ (f : Edge) (p t : Point) (L : HasWeight f.low) (H : HasWeight f.high) (
         | inl r ↦
             let b : below (record { low = p; high = t }) (upper_part f p) ≡ true = from_low (upper_part f p) (record { low = p; high = t }) (high_long nv) r refl ∙ upper_right f p mean t ∙ lt_yes _ _ s in
             round_first _ _ _ (not_by_turn au bl 2 0 (au_turn true nv) (bl_turn true nv) refl refl) (both_right au up_x (au_turn true nv) (ap (λ b. kind b true) r) b)
-        | inr n ↦ let k = side_above f p t P (run_positive f nv) on (before_weak p t h) n (climbs p t h n) in absurd (omega (arith, ints))
+        | inr n ↦ let k = side_above f p t P (run_positive f nv) on (before_weak p t h) n (before_on_wall p t h n) in absurd (omega (arith, ints))
       ]
     ]
 
@@ -193,7 +168,7 @@ module _ (f : Edge) (p t : Point) (L : HasWeight f.low) (H : HasWeight f.high) (
         | inl r ↦
             let b : below (lower_part f p) (record { low = t; high = p }) ≡ true = from_high_too (record { low = t; high = p }) (lower_part f p) r (low_long nv) refl ∙ lower_left f p mean t ∙ lt_yes _ _ s in
             within _ _ _ (both_left bl down_x (bl_turn true nv) (ap (λ b. kind b false) r) b) (by_turn down_x au 0 2 (ap (λ b. kind b false) r) (au_turn true nv) refl)
-        | inr n ↦ let k = side_below f p t P (run_positive f nv) on n (before_weak t p h) (climbs t p h n) in absurd (omega (arith, ints))
+        | inr n ↦ let k = side_below f p t P (run_positive f nv) on n (before_weak t p h) (before_on_wall t p h n) in absurd (omega (arith, ints))
       ]
     ]
 

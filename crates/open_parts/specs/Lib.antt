@@ -1,3 +1,2 @@
 pub mod Parts
-pub mod PartNames
-pub mod PartReach
+pub mod PartLaws

@@ -1,26 +1,35 @@
-//! Parts of a segment that meet nothing of a plane graph: what lies at the two ends of one tells the same face.
+//! Parts of a segment that meet no vertex and no edge: the face in which one lies, and what it ends at.
+//!
+//! The face is told by what is at either end: at a vertex by the place of the direction round it, inside an edge by the side on
+//! which the part leaves it. What the part ends at is on the boundary of this face, so that the first thing that a segment
+//! meets from a point on is found by looking at one face's boundary (Fogel, Halperin and Wein: zone of a curve).
+//!
+//! Each function is a law: its contract states it, and its body, being empty, computes nothing.
 #![tactic(auto)]
 
-ghost use Rattle.open_parts.specs.Parts.{PartsHaveOneFace, ClearPartsAreOpen};
-ghost use Rattle.open_parts.specs.PartNames.{PartsNameOneFace};
-ghost use Rattle.open_parts.specs.PartReach.{FirstReachedIsOnBoundary};
+ghost use Rattle.open_parts.specs.PartLaws.{FacesAreTold, PartsHaveAFace, PartsHaveOneFace, PartsNameOneFace, FirstReachedIsOnBoundary};
 
-/// What is told of the face at one end of an open part of a segment is told at the other.
+/// What is told towards a point is told towards every point before it, and the face told is there.
+pub fn faces_are_told()
+    ensures { FacesAreTold }
+{}
+
+/// A part that meets nothing lies in a face.
+pub fn parts_have_a_face()
+    ensures { PartsHaveAFace }
+{}
+
+/// A part that meets nothing lies in the face that is told at an end of it.
 pub fn parts_have_one_face()
     ensures { PartsHaveOneFace }
 {}
 
-/// What an open part's end names is what its other end names.
+/// Both ends of a part that meets nothing name one face.
 pub fn parts_name_one_face()
     ensures { PartsNameOneFace }
 {}
 
-/// A part none of whose points is at a vertex or inside an edge is open by signs and order.
-pub fn clear_parts_are_open()
-    ensures { ClearPartsAreOpen }
-{}
-
-/// What an open part reaches lies on the boundary of the face that its beginning names.
+/// What a part that meets nothing ends at is on the boundary of the face in which it lies.
 pub fn first_reached_is_on_boundary()
     ensures { FirstReachedIsOnBoundary }
 {}
