@@ -21,9 +21,10 @@ use Rattle.slab_laws.specs.Sound.{dart_in, IsGraphSound}
 use Rattle.slab_laws.specs.View.{View, HasDart, point_in, source_in, twin_in, target_in, line_in}
 use Rattle.arr_notes.specs.Curves.{IsForward}
 use Rattle.sound_views.proofs.ForwardDarts.{is_behind}
+use Rattle.sound_views.specs.ForwardDarts.{IsForwardOf}
 use Rattle.zone_walk.proofs.BothWays.{meets_along}
 use Rattle.locate_naive.proofs.Within.{IsWithinDart, low_proper, high_proper, in_dart, dart_in_out}
-use Rattle.zone_walk.specs.Found.{ends_of, is_left, is_right, IsWhole, IsPassAt, IsNoPass, MeetsInside, IsInnerPoint}
+use Rattle.zone_walk.specs.Found.{ends_of, is_left, is_right, is_near, IsWhole, IsPassAt, IsNoPass, MeetsInside, IsInnerPoint}
 use Rattle.zone_walk.specs.Zone.{passes}
 use Rattle.zone_walk.proofs.Courses.{IsCourse, LiesOn, lies_out, lies_in, upper_lies, one_line, parallel_itself}
 use Rattle.zone_walk.proofs.InPlane.{falls, rises}
@@ -119,6 +120,23 @@ module _ (v : View) (s : IsGraphSound v) (whole : Span) (all : IsWhole whole) (d
       (and_in (lt_in (lt_le_lt w.after on.upto)) (lt_in (lt_trans (lt_out g.lower r h.later) w.before)))
       (sym ((λ i. precedes (e i) whole.upper && precedes whole.lower (f i))) ∙ b)
 
+  -- it comes near, whichever of its ends is named first
+  near_by : (b : Bool) → precedes whole.lower low ≡ b → (p : Point) → MeetsInside v g d p → is_near whole low high ≡ true
+  near_by true e p h =
+      (λ i. cond (e i) (precedes low whole.upper || precedes high whole.upper) (precedes whole.lower high))
+      ∙ or_left (precedes low whole.upper) (precedes high whole.upper) (lt_in (lt_le_lt (within p h).after (on_segment p h).upto))
+  near_by false e p h =
+      (λ i. cond (e i) (precedes low whole.upper || precedes high whole.upper) (precedes whole.lower high))
+      ∙ lt_in (lt_trans (lt_out whole.lower p h.later) (within p h).before)
+
+  pub near : (p : Point) → MeetsInside v g d p → is_near whole low high ≡ true
+  near p h = near_by (precedes whole.lower low) refl p h
+
+  pub near_turned : (p : Point) → MeetsInside v g d p → is_near whole high low ≡ true
+  near_turned p h =
+      (λ i. cond (lt_in (lt_trans (lt_out whole.lower p h.later) (within p h).before) i) (precedes high whole.upper || precedes low whole.upper) (precedes whole.lower low))
+      ∙ or_right (precedes high whole.upper) (precedes low whole.upper) (lt_in (lt_le_lt (within p h).after (on_segment p h).upto))
+
   -- ---- an edge of the segment's own line
   module _ (same : line_in v d ≡ whole.line) where
     no_pass : (p : Point) → Contains (passes v g d) p → ⊥
@@ -207,7 +225,7 @@ module _ (v : View) (s : IsGraphSound v) (whole : Span) (all : IsWhole whole) (d
       at_lower l q h = clash (ap (precedes whole.lower) (sym (only q h)) ∙ h.later) l
 
 -- ---- the edge of any dart, forward or not
-module _ (v : View) (s : IsGraphSound v) (whole : Span) (all : IsWhole whole) (d : DartId) (has : HasDart v d) (differ : line_in v d ≢ whole.line) where
+module _ (v : View) (s : IsGraphSound v) (whole : Span) (all : IsWhole whole) (d : DartId) (has : HasDart v d) where
   abbrev ends : Segment
   ends = ends_of whole
 
@@ -217,15 +235,27 @@ module _ (v : View) (s : IsGraphSound v) (whole : Span) (all : IsWhole whole) (d
   abbrev target : Point
   target = point_in v (target_in v d)
 
-  either_way : (p : Point) → MeetsInside v ends d p → (b : Bool) → (dart_in v d).forward ≡ b → are_parted whole.line source target ≡ true
-  either_way p h true f = parted v s whole all d (has, f) differ p h
-  either_way p h false f =
-      let t = twin_in v d in
-      let k = is_behind v s d has f t refl in
-      let turned = parted v s whole all t k.forward (λ e. differ (sym k.line ∙ e)) p (meets_along v ends d t k p h) in
-      parted_turned (is_left whole.line target) (is_right whole.line source) (is_right whole.line target) (is_left whole.line source)
-      ((λ i. are_parted whole.line target (point_in v (source_in v (sym (s.twinned.back d has) i)))) ∙ turned)
+  back : (p : Point) → (dart_in v d).forward ≡ false → MeetsInside v ends d p → IsForwardOf v d (twin_in v d) × MeetsInside v ends (twin_in v d) p
+  back p f h = let k = is_behind v s d has f (twin_in v d) refl in (k, meets_along v ends d (twin_in v d) k p h)
+
+  near_either_way : (p : Point) → MeetsInside v ends d p → (b : Bool) → (dart_in v d).forward ≡ b → is_near whole source target ≡ true
+  near_either_way p h true f = near v s whole all d (has, f) p h
+  near_either_way p h false f =
+      let t = back p f h in
+      (λ i. is_near whole (point_in v (source_in v (sym (s.twinned.back d has) i))) target) ∙ near_turned v s whole all (twin_in v d) t.0.forward p t.1
 
   -- p and q are its ends as they were read
-  pub not_parted : (p q : Point) → p ≡ source → q ≡ target → (l : Line) → l ≡ whole.line → are_parted l p q ≡ false → (r : Point) → ¬ MeetsInside v ends d r
-  not_parted p q e f l is b r h = clash (either_way r h (dart_in v d).forward refl) (sym (λ i. are_parted (is i) (e i) (f i)) ∙ b)
+  pub not_near : (p q : Point) → p ≡ source → q ≡ target → is_near whole p q ≡ false → (r : Point) → ¬ MeetsInside v ends d r
+  not_near p q e f b r h = clash (near_either_way r h (dart_in v d).forward refl) (sym (λ i. is_near whole (e i) (f i)) ∙ b)
+
+  module _ (differ : line_in v d ≢ whole.line) where
+    either_way : (p : Point) → MeetsInside v ends d p → (b : Bool) → (dart_in v d).forward ≡ b → are_parted whole.line source target ≡ true
+    either_way p h true f = parted v s whole all d (has, f) differ p h
+    either_way p h false f =
+        let t = back p f h in
+        let turned = parted v s whole all (twin_in v d) t.0.forward (λ e. differ (sym t.0.line ∙ e)) p t.1 in
+        parted_turned (is_left whole.line target) (is_right whole.line source) (is_right whole.line target) (is_left whole.line source)
+        ((λ i. are_parted whole.line target (point_in v (source_in v (sym (s.twinned.back d has) i)))) ∙ turned)
+
+    pub not_parted : (p q : Point) → p ≡ source → q ≡ target → (l : Line) → l ≡ whole.line → are_parted l p q ≡ false → (r : Point) → ¬ MeetsInside v ends d r
+    not_parted p q e f l is b r h = clash (either_way r h (dart_in v d).forward refl) (sym (λ i. are_parted (is i) (e i) (f i)) ∙ b)

@@ -1,5 +1,5 @@
 -- What the look at all vertices and edges has found so far.
-use Rattle.std.specs.Prelude.{◌≡◌, ◌≢◌, ◌⊎◌, true, false, Bool, List, [], ◌∷◌, Contains, Option, MatchOption, pos, nat_lt}
+use Rattle.std.specs.Prelude.{◌≡◌, ◌≢◌, ◌⊎◌, ◌||◌, cond, true, false, Bool, List, [], ◌∷◌, Contains, Option, MatchOption, pos, nat_lt}
 use lib.Signed.{lt_z}
 use Rattle.std.specs.Map.{keys_of}
 use Rattle.exact_plane.specs.Line.{Line, side_of}
@@ -34,6 +34,10 @@ is_left l p = lt_z (pos 0) (side_of l p)
 
 abbrev pub is_right : Line → Point → Bool
 is_right l p = lt_z (side_of l p) (pos 0)
+
+-- whether not both points are at the lower end or before it, nor both at the upper end or after it
+abbrev pub is_near : Span → Point → Point → Bool
+is_near s p q = cond (precedes s.lower p) (precedes p s.upper || precedes q s.upper) (precedes s.lower q)
 
 -- ---- one edge
 

@@ -5,7 +5,7 @@ ghost use Rattle.plane_graphs.specs.Line.{precedes};
 ghost use Rattle.slab_laws.specs.Sound.{IsGraphSound};
 ghost use Rattle.slab_laws.specs.View.{HasDart, line_in};
 ghost use Rattle.arr_notes.specs.Curves.{IsForward};
-ghost use Rattle.zone_walk.specs.Found.{ends_of, is_left, is_right, IsWhole, IsPassOf, IsInnerMeeting, IsNoInnerMeeting, IsInnerPoint, MeetsInside};
+ghost use Rattle.zone_walk.specs.Found.{ends_of, is_left, is_right, is_near, IsWhole, IsPassOf, IsInnerMeeting, IsNoInnerMeeting, IsInnerPoint, MeetsInside};
 
 use dcel_records::Records;
 use edge_predicates::has_inside;
@@ -63,11 +63,27 @@ fn is_on_right(line: &Line, point: &Point) -> bool
 fn are_parted(line: &Line, low: &Point, high: &Point) -> bool
     ensures { result ≡ ((is_left line.now low.now && is_right line.now high.now) || (is_right line.now low.now && is_left line.now high.now)) }
 {
-    (is_on_left(line, low) && is_on_right(line, high))
-        || (is_on_right(line, low) && is_on_left(line, high))
+    match side(line, low) {
+        Sign::Plus => is_on_right(line, high),
+        Sign::Minus => is_on_left(line, high),
+        Sign::Zero => false,
+    }
 }
 
-// Whether points between two others can be the segment's, by the order of points alone.
+// Whether points between two others, of which either may come first, can be the segment's after its lower end, by the order of
+// points alone.
+fn comes_near(whole: &Span, source: &Point, target: &Point) -> bool
+    ensures { result ≡ is_near whole.now source.now target.now }
+{
+    if whole.lower() < *source {
+        let upper = whole.upper();
+        *source < upper || *target < upper
+    } else {
+        whole.lower() < *target
+    }
+}
+
+// Whether points between two others, the first of which comes first, can be the segment's, by the order of points alone.
 fn reaches(whole: &Span, low: &Point, high: &Point) -> bool
     ensures { result ≡ (precedes low.now whole.now.upper && precedes whole.now.lower high.now) }
 {
@@ -102,19 +118,23 @@ fn later_crossing(records: &Records, whole: &Span, dart: DartId) -> Option<Point
     }
 }
 
-/// Whether the segment can meet the inside of a dart's edge, by the sides of its line on which the ends are: an edge of its own
-/// line, or one whose ends are on different sides. It rules out nearly all edges.
+/// Whether the segment can meet the inside of a dart's edge, by where the edge's ends are: not both before the segment or after
+/// it in the order of points, which rules out nearly all edges far away, nor both on one side of its line, unless that is the
+/// edge's own.
 pub(crate) fn may_meet(records: &Records, whole: &Span, dart: DartId) -> bool
     requires sound { IsGraphSound records.now.graph }
     requires whole { IsWhole whole.now }
     requires dart { HasDart records.now.graph dart }
     ensures { result ≡ false → (q : Coordinates) → ¬ MeetsInside records.now.graph (ends_of whole.now) dart q }
 {
+    let source = records.point(records.source(dart));
+    let target = records.point(records.target(dart));
+    if !comes_near(whole, &source, &target) {
+        return false;
+    }
     if records.line(dart) == whole.line() {
         return true;
     }
-    let source = records.point(records.source(dart));
-    let target = records.point(records.target(dart));
     are_parted(&whole.line(), &source, &target)
 }
 

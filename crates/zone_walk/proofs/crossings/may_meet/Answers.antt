@@ -3,7 +3,7 @@ use Rattle.exact_plane.specs.Line.{Line}
 use Rattle.slab_laws.specs.View.{HasVertex, point_in, line_in}
 use Rattle.sound_views.proofs.ForwardDarts.{target_has}
 use Rattle.zone_walk.proofs.Courses.{told_other_line}
-use Rattle.zone_walk.proofs.Inner.{not_parted}
+use Rattle.zone_walk.proofs.Inner.{not_near, not_parted}
 use Rattle.zone_walk.proofs.crossings.may_meet.Goals as goal
 
 pub point-source-requires : goal.point-source-requires
@@ -19,3 +19,10 @@ returns c = λ b.
     (subst (λ (l : Line). line_in v c.args.dart ≢ l) c.line-2.ensures (told_other_line c.line.result c.line-2.result _ c.eq.result c.line.ensures.line c.eq.ensures c.if-eq.false))
     c.point-source.result c.point-target.result (c.point-source.ensures ∙ ap (point_in v) c.source.ensures) (c.point-target.ensures ∙ ap (point_in v) c.target.ensures)
     c.line-3.result c.line-3.ensures (sym c.are_parted.ensures ∙ b)
+
+pub returns-then-not-comes_near : goal.returns-then-not-comes_near
+returns-then-not-comes_near c = λ b.
+    let v = c.args.records.now.graph in
+    not_near v c.requires.sound c.args.whole.now c.requires.whole c.args.dart c.requires.dart
+    c.point-source.result c.point-target.result (c.point-source.ensures ∙ ap (point_in v) c.source.ensures) (c.point-target.ensures ∙ ap (point_in v) c.target.ensures)
+    (sym c.comes_near.ensures ∙ c.if-not-comes_near.true)
