@@ -11,3 +11,7 @@ pub mod Aheads
 pub mod Stretches
 pub mod Walked
 pub mod FaceEnds
+pub mod SeenSpans
+pub mod Degrees
+pub mod SeenMeetings
+pub mod Searched

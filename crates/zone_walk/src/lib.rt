@@ -8,7 +8,11 @@
 mod crossings;
 mod meetings;
 mod plan;
+mod records_sight;
+mod search;
+mod sight;
 mod walk;
 
 pub use plan::{Meeting, ZonePlan};
+pub use sight::{Seen, Sight};
 pub use walk::zone;
