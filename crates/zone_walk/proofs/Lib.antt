@@ -2,10 +2,7 @@ pub mod MeetingPoints
 pub mod LineCrossings
 pub mod InPlane
 pub mod Passing
-pub mod Inner
 pub mod Entries
-pub mod Collected
-pub mod BothWays
 pub mod Courses
 pub mod Aheads
 pub mod Stretches
@@ -15,3 +12,8 @@ pub mod SeenSpans
 pub mod Degrees
 pub mod SeenMeetings
 pub mod Searched
+pub mod PartsAhead
+pub mod InFaces
+pub mod Looks
+pub mod Nexts
+pub mod Counted

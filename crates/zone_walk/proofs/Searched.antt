@@ -60,7 +60,7 @@ pub kept_on : (a b c : List (Point × Spot)) → AreKept a b → AreKept b c →
 kept_on a b c f g p m = g p (f p m)
 
 -- a part that is taken stays so
-part_kept : (v : View) (s : Segment) (here : Point) (es fs : List (Point × Spot)) → AreKept es fs → (t : BoundaryPart) → IsPartTaken v s here es t → IsPartTaken v s here fs t
+pub part_kept : (v : View) (s : Segment) (here : Point) (es fs : List (Point × Spot)) → AreKept es fs → (t : BoundaryPart) → IsPartTaken v s here es t → IsPartTaken v s here fs t
 part_kept v s here es fs k (Dart d) h = λ p o c l. k p (h p o c l)
 part_kept v s here es fs k (Isolated w) h = λ c l. k (point_in v w) (h c l)
 

@@ -1,5 +1,5 @@
 pub mod Zone
 pub mod Found
-pub mod Walk
 pub mod Sights
 pub mod Searches
+pub mod Walk

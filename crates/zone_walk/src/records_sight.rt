@@ -22,7 +22,7 @@ use std::sync::ledger::Ledger;
 use work_steps::Steps;
 
 // The whole segment as a span.
-fn whole(segment: &Segment) -> Span
+pub(crate) fn whole(segment: &Segment) -> Span
     ensures { result ≡ span_of_segment segment.now }
 {
     match Span::new(segment.lower(), segment.upper(), line_of(segment)) {

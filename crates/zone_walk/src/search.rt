@@ -12,7 +12,7 @@ use crate::sight::{Seen, Sight};
 use counted_looks::{BoundaryPart, Looker, NameCalls};
 use dcel_records::Spot;
 use exact_plane::{Meet, Point, Segment};
-use slab_laws::{DartId, FaceId, VertexId};
+use slab_laws::{DartId, VertexId};
 use std::collections::{BTreeMap, BTreeSet};
 use std::sync::ledger::Ledger;
 use work_steps::Steps;
@@ -24,8 +24,8 @@ pub(crate) struct Search {
     pub(crate) here: Point,
     /// Those that were found, each with the vertex or edge at which it is.
     pub(crate) found: BTreeMap<Point, Spot>,
-    /// The faces whose boundaries were looked at.
-    pub(crate) visited: BTreeSet<FaceId>,
+    /// The names of the faces whose boundaries were looked at.
+    pub(crate) visited: BTreeSet<usize>,
     /// Whether there was no memory for one that was found.
     pub(crate) failed: bool,
 }
