@@ -17,3 +17,4 @@ pub mod InFaces
 pub mod Looks
 pub mod Nexts
 pub mod Counted
+pub mod Zoned

@@ -198,7 +198,7 @@ fn onward<T: Sight, L: Ledger>(
     sight: &T,
     here: &Meeting,
     steps: &mut Steps<L>,
-) -> Result<(Spot, Meeting), NoMemory>
+) -> Result<(Spot, Point, Spot), NoMemory>
     requires sound { IsSound (T.graph sight.now) (T.faces sight.now) }
     requires lists { AreLists (T.graph sight.now) (T.faces sight.now) (T.lists sight.now) }
     requires search { IsSearchAt (T.graph sight.now) (T.faces sight.now) search.old.segment search.old.here search.old }
@@ -206,16 +206,20 @@ fn onward<T: Sight, L: Ledger>(
     requires spot { IsSpotOf (T.graph sight.now) (T.faces sight.now) here.now.point here.now.spot }
     requires on { is_on_segment search.old.segment here.now.point ≡ true }
     requires before { precedes here.now.point search.old.segment.upper ≡ true }
-    ensures next { IfOk result (λ r. IsNextOf (T.graph sight.now) (T.faces sight.now) search.old.segment here.now.point r.0 r.1 search.new) }
+    ensures next { IfOk result (λ r. IsNextOf (T.graph sight.now) (T.faces sight.now) search.old.segment here.now.point r.0 (record { point = r.1; spot = r.2 }) search.new) }
     ensures looks { (n : _) → ((q : _) (a : _) → IsNextMeeting (T.graph sight.now) search.old.segment here.now.point q → IsSpotBetween (T.graph sight.now) (T.faces sight.now) search.old.segment here.now.point q (InFace a) → boundary_size (T.graph sight.now) (T.faces sight.now) a ≤ n) → steps.new ≤ steps.old + (stop_looks (T.graph sight.now) search.old.segment here.now.point + n) }
 {
     here.point.laws();
     let (part, end) = part_ahead(sight, &search.segment, here, steps);
     match part {
-        Spot::Edge(dart) => Ok((part, next_along(search, sight, dart, end))),
+        Spot::Edge(dart) => {
+            let next = next_along(search, sight, dart, end);
+            Ok((part, next.point, next.spot))
+        }
         Spot::Face(face) => {
             visit(search, sight, face, steps)?;
-            Ok((part, next_inside(search, sight, face)))
+            let next = next_inside(search, sight, face);
+            Ok((part, next.point, next.spot))
         }
         Spot::Vertex(_) => unreachable!(),
     }
@@ -321,10 +325,10 @@ pub fn zone<T: Sight, L: Ledger>(
     plan.vertices.push(Meeting { point, spot })?;
     'walk: while point < upper {
         let here = Meeting { point, spot };
-        let (part, next) = onward(&mut search, sight, &here, steps)?;
-        extend(&mut plan, part, next)?;
-        point = next.point;
-        spot = next.spot;
+        let (part, next_point, next_spot) = onward(&mut search, sight, &here, steps)?;
+        point = next_point;
+        spot = next_spot;
+        extend(&mut plan, part, Meeting { point, spot })?;
     }
     plan.room = room_for(&plan);
     Ok(plan)

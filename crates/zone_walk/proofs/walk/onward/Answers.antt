@@ -5,8 +5,8 @@ use Rattle.plane_graphs.specs.Line.{precedes}
 use Rattle.plane_graphs.proofs.Lines.{point_is_proper}
 use Rattle.plane_graphs.proofs.Order.{lt_out}
 use Rattle.dcel_records.specs.declared.spot.Spot.{Spot}
-use Rattle.dcel_records.specs.declared.spot.Spot.TheVariants.{Face}
-use Rattle.zone_walk.specs.Walk.{IsPartAhead}
+use Rattle.dcel_records.specs.declared.spot.Spot.TheVariants.{Edge, Face}
+use Rattle.zone_walk.specs.Walk.{IsPartAhead, IsNextOf}
 use Rattle.zone_walk.proofs.Courses.{course, lies_out}
 use Rattle.zone_walk.proofs.Nexts.{size_fits, named_face}
 use Rattle.zone_walk.proofs.walk.onward.Goals as goal
@@ -47,8 +47,8 @@ returns-in_ok-visit-in-Face-clause-looks g c = λ n h.
     let b = c.visit.ensures.count in
     omega arith
 
-pub next_inside-requires-clause-part : goal.next_inside-requires-clause-part
-next_inside-requires-clause-part g c =
+pub next_inside-next-requires-clause-part : goal.next_inside-next-requires-clause-part
+next_inside-next-requires-clause-part g c =
     let v = g.T.NameCalls.graph c.args.sight.now in
     let f = g.T.NameCalls.faces c.args.sight.now in
     let s : Segment = c.args.search.now.segment in
@@ -57,3 +57,19 @@ next_inside-requires-clause-part g c =
     let at = c.in_ok-visit-in-Face.ensures.search in
     subst (λ (z : Segment). IsPartAhead v f z c.visit.new.search.here (Face c.in-Face.face) z.lower) (sym at.segment)
     (subst (λ (x : Point). IsPartAhead v f s x (Face c.in-Face.face) s.lower) (sym (at.here ∙ c.requires.here)) part)
+
+pub returns-in-Edge-clause-next : goal.returns-in-Edge-clause-next
+returns-in-Edge-clause-next g c =
+    let v = g.T.NameCalls.graph c.args.sight.now in
+    let f = g.T.NameCalls.faces c.args.sight.now in
+    let s : Segment = c.args.search.now.segment in
+    subst (λ (x : Point). IsNextOf v f s x (Edge c.in-Edge.dart) c.next_along-next.result c.next_along-next.new.search) c.requires.here c.next_along-next.ensures
+
+pub returns-in_ok-visit-in-Face-clause-next : goal.returns-in_ok-visit-in-Face-clause-next
+returns-in_ok-visit-in-Face-clause-next g c =
+    let v = g.T.NameCalls.graph c.args.sight.now in
+    let f = g.T.NameCalls.faces c.args.sight.now in
+    let s : Segment = c.args.search.now.segment in
+    let at = c.in_ok-visit-in-Face.ensures.search in
+    subst (λ (x : Point). IsNextOf v f s x (Face c.in-Face.face) c.next_inside-next.result c.next_inside-next.new.search) (at.here ∙ c.requires.here)
+    (subst (λ (w : Segment). IsNextOf v f w c.visit.new.search.here (Face c.in-Face.face) c.next_inside-next.result c.next_inside-next.new.search) at.segment c.next_inside-next.ensures)
