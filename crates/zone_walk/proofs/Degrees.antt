@@ -1,5 +1,5 @@
 -- How many darts a round of a vertex has left is at most the vertex's degree.
-use Rattle.std.proofs.Common.{◌≡◌, ℕ, ◌+◌, ◌<◌, ◌≤◌, Bool, true, false, cond, arith, refl, sym, ap, ◌∙◌, subst, List, [], ◌∷◌, is_some, map, eq-eqb, inl, inr}
+use Rattle.std.proofs.Common.{◌≡◌, ℕ, ◌+◌, ◌<◌, ◌≤◌, Bool, true, false, cond, arith, refl, ap, ◌∙◌, List, [], ◌∷◌, is_some, map, eq-eqb, inl, inr}
 use Rattle.std.specs.Prelude.{◌&&◌, ◌==◌, not}
 use Rattle.std.specs.List.{count_by}
 use Rattle.std.proofs.lemmas.Bool.{cases_Bool, and_parts, and_from}
@@ -9,8 +9,7 @@ use Rattle.slab_laws.specs.declared.names.DartId.{DartId}
 use Rattle.slab_laws.specs.Rotation.{earlier}
 use Rattle.slab_laws.specs.Sound.{IsGraphSound, dart_in}
 use Rattle.slab_laws.specs.Tables.{row_at, names}
-use Rattle.slab_laws.specs.View.{View, HasDart, IsOutOf, dart_id, source_in}
-use Rattle.arr_notes.specs.CycleNames.{dart_names}
+use Rattle.slab_laws.specs.View.{View, HasDart, dart_id, source_in}
 use Rattle.rotation_order.specs.Place.{direction_in}
 use Rattle.rotation_order.specs.RingOrder.{sooner_by}
 use Rattle.rotation_order.proofs.Around.{same_order}
@@ -57,6 +56,6 @@ module _ (v : View) (s : IsGraphSound v) (d : DartId) (has : HasDart v d) where
   pub some_left : 0 < left v d d
   some_left =
       let k = fewer (λ n. false) (is_left v d d) (λ n h. absurd (clash h refl)) v.darts d.0 has refl
-          (and_from _ _ has (and_from _ _ (eq-eqb (source_in v d).0 (source_in v d).0 refl) (not_in (sooner_by earlier (dart_in v d) (dart_in v d) (dart_in v d)) (λ h. clash h never)))) in
+      (and_from _ _ has (and_from _ _ (eq-eqb (source_in v d).0 (source_in v d).0 refl) (not_in (sooner_by earlier (dart_in v d) (dart_in v d) (dart_in v d)) (λ h. clash h never)))) in
       let z = count_none v.darts in
       omega arith

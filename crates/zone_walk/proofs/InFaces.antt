@@ -1,5 +1,5 @@
 -- Where the segment enters a face, what it meets next is on the boundary of the face, or is its upper end in it.
-use Rattle.std.proofs.Common.{◌≡◌, ◌≢◌, ◌⊎◌, Bool, true, false, Contains, List, [], ◌∷◌, refl, sym, ap, ◌∙◌, subst, inl, inr, ⊎_elim}
+use Rattle.std.proofs.Common.{◌≡◌, ◌≢◌, true, false, Contains, List, sym, ap, ◌∙◌, subst, inl, inr}
 use Rattle.std.specs.Map.{keys_of}
 use Rattle.exact_plane.specs.Line.{Line, IsOn}
 use Rattle.exact_plane.specs.Point.{Point}
@@ -7,10 +7,9 @@ use Rattle.exact_plane.specs.Segment.{Segment, line_of_segment}
 use Rattle.plane_graphs.specs.Ascending.{Member}
 use Rattle.plane_graphs.specs.Graph.{Edge}
 use Rattle.plane_graphs.specs.Line.{IsProper, precedes}
-use Rattle.plane_graphs.proofs.Ascending.{to_member}
 use Rattle.plane_graphs.proofs.Lines.{span_runs}
 use Rattle.plane_graphs.proofs.Lists.{clash}
-use Rattle.plane_graphs.proofs.Marks.{Le, le_cases, le_same, le_lt, le_lt_lt, lt_le_lt}
+use Rattle.plane_graphs.proofs.Marks.{le_cases, le_same, le_lt, le_lt_lt, lt_le_lt}
 use Rattle.plane_graphs.proofs.Order.{Lt, lt_out, lt_in, lt_never}
 use Rattle.integers.proofs.Tests.{not_true}
 use Rattle.slab_laws.specs.declared.names.DartId.{DartId}
@@ -20,7 +19,7 @@ use Rattle.slab_laws.specs.Darts.{Dart}
 use Rattle.slab_laws.specs.FacesSound.{IsSound}
 use Rattle.slab_laws.specs.Skeleton.{inside}
 use Rattle.slab_laws.specs.Sound.{edge_in, edge_between, IsGraphSound}
-use Rattle.slab_laws.specs.View.{View, Faces, HasVertex, HasDart, point_in, twin_in, target_in}
+use Rattle.slab_laws.specs.View.{View, Faces, HasVertex, HasDart, point_in, twin_in}
 use Rattle.sound_views.proofs.NamedDarts.{twin_dart}
 use Rattle.sound_changes.proofs.Collinear.{flat_on_line, on_line_of_ends}
 use Rattle.sound_changes.proofs.PointInside.{inside_out, inside_in}
@@ -34,13 +33,12 @@ use Rattle.dcel_records.specs.Spots.{IsInFace}
 use Rattle.dcel_records.specs.declared.spot.Spot.{Spot}
 use Rattle.dcel_records.specs.declared.spot.Spot.TheVariants.{Face}
 use Rattle.face_location.specs.Spots.{IsSpotOf}
-use Rattle.face_steps.specs.VertexSteps.{IsFaceRound}
 use Rattle.zone_walk.specs.Searches.{IsPartTaken}
 use Rattle.zone_walk.specs.Walk.{IsAhead}
-use Rattle.zone_walk.specs.Zone.{is_on_segment, meeting_points, later_points, IsNextMeeting, IsSpotBetween}
+use Rattle.zone_walk.specs.Zone.{meeting_points, IsNextMeeting, IsSpotBetween}
 use Rattle.zone_walk.proofs.Courses.{IsCourse, LiesOn, lies_out, lies_in}
 use Rattle.zone_walk.proofs.MeetingPoints.{MeetsAt, lower, upper, vertex, passed, passes_out}
-use Rattle.zone_walk.proofs.Stretches.{face_between, told, listed, meets_lies, meets_proper}
+use Rattle.zone_walk.proofs.Stretches.{face_between, told, meets_lies, meets_proper}
 
 module _ (v : View) (f : Faces) (S : IsSound v f) (g : Segment) (c : IsCourse g) (p : Point) (proper : IsProper p) (on : LiesOn g p) (before : Lt p g.upper) where
   s : IsGraphSound v

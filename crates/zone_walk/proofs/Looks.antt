@@ -1,12 +1,11 @@
 -- The looks by which the walk tells what follows a meeting point are within its bound.
-use Rattle.std.proofs.Common.{◌≡◌, ℕ, ◌+◌, ◌≤◌, Bool, true, false, cond, arith, refl, sym, ap, ◌∙◌, subst, List, [], ◌∷◌, inl, inr, eq-eqb}
-use Rattle.std.specs.Prelude.{◌==◌, ◌&&◌, ◌||◌}
+use Rattle.std.proofs.Common.{◌≡◌, ◌+◌, ◌≤◌, Bool, true, false, cond, arith, sym, ap, ◌∙◌, List, [], ◌∷◌, inl, inr}
+use Rattle.std.specs.Prelude.{◌==◌}
 use Rattle.std.specs.List.{count_by}
 use Rattle.std.specs.Ordering.{is_eq}
 use Rattle.std.proofs.lemmas.Bool.{cases_Bool, eqb-true}
 use Rattle.std.proofs.lemmas.Cmp.{tied_itself}
 use Rattle.std.proofs.lemmas.List.Sums.{sum_by-cons}
-use Rattle.exact_plane.specs.Direction.{direction_of}
 use Rattle.exact_plane.specs.Point.{Point}
 use Rattle.exact_plane.specs.PointOrder.{point_cmp}
 use Rattle.exact_plane.specs.PointOrderLaws.{point_cmp_total}
@@ -22,11 +21,10 @@ use Rattle.slab_laws.specs.Tables.{names}
 use Rattle.slab_laws.specs.View.{View, HasDart, vertex_id, dart_id, point_in, source_in}
 use Rattle.arr_notes.specs.Curves.{IsForward}
 use Rattle.arr_notes.specs.CycleNames.{dart_names}
-use Rattle.rotation_order.specs.Place.{IsAlongDart}
 use Rattle.sound_views.proofs.NameTables.{has_name}
 use Rattle.zone_walk.specs.Sights.{degree}
 use Rattle.zone_walk.specs.Walk.{IsAhead, goes_on, stop_looks}
-use Rattle.zone_walk.specs.Zone.{degree_at, are_one}
+use Rattle.zone_walk.specs.Zone.{degree_at}
 use Rattle.zone_walk.proofs.Courses.{line-itself}
 
 -- ---- counts
@@ -44,7 +42,7 @@ module _ {X : Type 0} where
   some_count q x (y ∷ ys) (inl i) e = let a = count_yes q y ys (ap q (sym i) ∙ e) in omega arith
   some_count q x (y ∷ ys) (inr m) e =
       let k = some_count q x ys m e in
-      elim (cases_Bool (q y)) [ | inl t ↦ let a = count_yes q y ys t in omega arith | inr n ↦ let a = count_no q y ys n in omega arith ]
+      elim (cases_Bool (q y)) [ inl t ↦ let a = count_yes q y ys t in omega arith | inr n ↦ let a = count_no q y ys n in omega arith ]
 
   pub more_count : (p q : X → Bool) → ((x : X) → p x ≡ true → q x ≡ true) → (xs : List X) → count_by p xs ≤ count_by q xs
   more_count p q f [] = omega arith
@@ -52,7 +50,7 @@ module _ {X : Type 0} where
       let k = more_count p q f ys in
       elim (cases_Bool (p y)) [
         | inl t ↦ let a = count_yes p y ys t in let b = count_yes q y ys (f y t) in omega arith
-        | inr n ↦ let a = count_no p y ys n in elim (cases_Bool (q y)) [ | inl t ↦ let b = count_yes q y ys t in omega arith | inr m ↦ let b = count_no q y ys m in omega arith ]
+        | inr n ↦ let a = count_no p y ys n in elim (cases_Bool (q y)) [ inl t ↦ let b = count_yes q y ys t in omega arith | inr m ↦ let b = count_no q y ys m in omega arith ]
       ]
 
 pub named : (v : View) (d : DartId) → HasDart v d → Member d (dart_names v)

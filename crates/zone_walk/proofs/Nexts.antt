@@ -1,6 +1,6 @@
 -- The next meeting point, along an edge or through a face, and where the search stands then.
 use Rattle.std.specs.Prelude.{◌↔◌, IsSome}
-use Rattle.std.proofs.Common.{◌≡◌, ◌≢◌, ◌⊎◌, ◌<◌, ◌≤◌, ℕ, Bool, true, false, cond, is_eq, is_some, Contains, Option, Some, None, List, [], ◌∷◌, length, arith, refl, sym, ap, ◌∙◌, subst, inl, inr, ⊎_elim}
+use Rattle.std.proofs.Common.{◌≡◌, ◌≢◌, ◌⊎◌, ◌<◌, ◌≤◌, ℕ, Bool, true, false, cond, is_eq, is_some, Contains, Option, None, List, [], ◌∷◌, length, arith, refl, sym, ap, ◌∙◌, subst, inl, inr}
 use Rattle.std.specs.Map.{keys_of, lookup, remove_entry}
 use Rattle.std.specs.List.Sorted.{IsStrictlySortedBy}
 use Rattle.std.specs.BTreeSet.{contains}
@@ -15,7 +15,7 @@ use Rattle.plane_graphs.specs.Ascending.{Member}
 use Rattle.plane_graphs.specs.Line.{IsProper, precedes}
 use Rattle.plane_graphs.proofs.Ascending.{All-member, to_member, from_std}
 use Rattle.plane_graphs.proofs.Lists.{clash, in_filter}
-use Rattle.plane_graphs.proofs.Marks.{Le, le_cases, le_lt, le_lt_lt, lt_le_lt}
+use Rattle.plane_graphs.proofs.Marks.{le_lt_lt}
 use Rattle.plane_graphs.proofs.Order.{Lt, lt_out, lt_in, lt_trans, lt_never, Tri, tri}
 use Rattle.plane_graphs.proofs.Order.Tri.{less, same, more}
 use Rattle.integers.proofs.Tests.{not_true, is_equal, number_ties}
@@ -39,18 +39,18 @@ use Rattle.face_location.specs.Spots.{IsSpotOf}
 use Rattle.locate_naive.proofs.Within.{in_dart}
 use Rattle.open_parts.specs.Parts.{TellsFace}
 use Rattle.sound_views.proofs.ForwardDarts.{target_has}
-use Rattle.zone_walk.specs.Searches.{IsThere, IsFoundAfter, AreFoundAfter, IsPartTaken, IsOneSearch, IsSearchFrom, HasSeen}
-use Rattle.zone_walk.specs.Walk.{IsAhead, IsSpotStretch, IsSearchAt, has_visited, lesser}
-use Rattle.zone_walk.specs.Zone.{is_on_segment, meeting_points, later_points, IsNextMeeting, IsSpotBetween}
+use Rattle.zone_walk.specs.Searches.{IsThere, IsFoundAfter, AreFoundAfter, IsPartTaken, IsSearchFrom, HasSeen}
+use Rattle.zone_walk.specs.Walk.{IsAhead, IsSpotStretch, IsSearchAt, lesser}
+use Rattle.zone_walk.specs.Zone.{meeting_points, later_points, IsNextMeeting, IsSpotBetween}
 use Rattle.zone_walk.specs.declared.plan.Meeting.{Meeting}
 use Rattle.zone_walk.specs.declared.search.Search.{Search}
 use Rattle.zone_walk.proofs.Aheads.{at_most}
 use Rattle.zone_walk.proofs.Courses.{IsCourse, LiesOn}
-use Rattle.zone_walk.proofs.Entries.{key_of_entry, is_there}
+use Rattle.zone_walk.proofs.Entries.{is_there}
 use Rattle.zone_walk.proofs.InFaces.{spots, face_at, nothing_met, alone_is_upper}
 use Rattle.zone_walk.proofs.MeetingPoints.{upper}
 use Rattle.zone_walk.proofs.Searched.{part_kept}
-use Rattle.zone_walk.proofs.Stretches.{along_edge, stretch_to, told, listed, meets_lies, meets_proper}
+use Rattle.zone_walk.proofs.Stretches.{along_edge, stretch_to, told, listed, meets_lies}
 use Rattle.zone_walk.proofs.Walked.{next_is}
 
 same_number : (x y : ℕ) → is_eq (nat_cmp x y) ≡ true → x ≡ y

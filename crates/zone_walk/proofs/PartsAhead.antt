@@ -1,6 +1,5 @@
 -- What follows a meeting point on the segment: an edge, or the face that what lies at the point tells.
-use Rattle.std.proofs.Common.{◌≡◌, ◌≢◌, ◌⊎◌, Bool, true, false, cond, not, ℤ, pos, neg_ℤ, ◌<ℤ◌, Some, None, refl, sym, ap, ◌∙◌, subst, inl, inr, ⊎_elim}
-use Rattle.std.specs.Ordering.{int_cmp}
+use Rattle.std.proofs.Common.{◌≡◌, ◌≢◌, Bool, true, false, cond, not, pos, neg_ℤ, ◌<ℤ◌, Some, None, refl, sym, ap, ◌∙◌, subst, ⊎_elim}
 use Rattle.integers.proofs.Compare.{equal_in, equal_out}
 use Rattle.integers.proofs.Tests.{lt_is}
 use Rattle.exact_plane.specs.Direction.{direction_of}
@@ -20,8 +19,6 @@ use Rattle.slab_laws.specs.declared.names.DartId.{DartId}
 use Rattle.slab_laws.specs.declared.names.FaceId.{FaceId}
 use Rattle.slab_laws.specs.declared.names.VertexId.{VertexId}
 use Rattle.slab_laws.specs.Darts.{Dart}
-use Rattle.slab_laws.specs.FacesSound.{IsSound}
-use Rattle.slab_laws.specs.Rotation.{twin}
 use Rattle.slab_laws.specs.Skeleton.{inside, side}
 use Rattle.slab_laws.specs.Sound.{edge_in, dart_in, IsGraphSound}
 use Rattle.slab_laws.specs.View.{View, Faces, HasVertex, HasDart, point_in, twin_in, line_in, cycle_in, face_in, bare_face_in}
@@ -31,7 +28,7 @@ use Rattle.rotation_order.specs.Directions.{dart_direction}
 use Rattle.rotation_order.specs.Place.{IsPlaceOf, IsAlongDart, IsBetween}
 use Rattle.rotation_order.specs.VertexRings.{IsBare}
 use Rattle.rotation_order.specs.declared.places.Place.{Place}
-use Rattle.rotation_order.specs.declared.places.Place.TheVariants.{Between, Along, Bare}
+use Rattle.rotation_order.specs.declared.places.Place.TheVariants.{Between, Bare}
 use Rattle.edge_link.proofs.DirectionPlaces.{place_to_point}
 use Rattle.locate_naive.proofs.Within.{dart_in_out}
 use Rattle.open_parts.specs.Parts.{TellsFace, IsOnSide}

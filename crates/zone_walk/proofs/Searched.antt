@@ -1,5 +1,5 @@
 -- A search goes on as points are taken, and finds what it looks at.
-use Rattle.std.proofs.Common.{◌≡◌, ◌≢◌, Bool, true, false, Option, Some, None, Contains, List, refl, sym, ap, ◌∙◌, subst, inl, inr, ◌⊎◌, ⊎_elim}
+use Rattle.std.proofs.Common.{◌≡◌, ◌≢◌, true, false, Some, None, Contains, List, sym, ap, ◌∙◌, subst, inl, inr, ◌⊎◌}
 use Rattle.std.specs.Map.{keys_of}
 use Rattle.exact_plane.specs.Meet.{IsMeeting}
 use Rattle.exact_plane.specs.Point.{Point}
@@ -11,7 +11,7 @@ use Rattle.plane_graphs.specs.Ascending.{Member}
 use Rattle.plane_graphs.specs.Graph.{Edge as PlaneEdge}
 use Rattle.plane_graphs.specs.Line.{precedes}
 use Rattle.plane_graphs.proofs.Lists.{clash}
-use Rattle.plane_graphs.proofs.Marks.{Le, le_lt_lt}
+use Rattle.plane_graphs.proofs.Marks.{le_lt_lt}
 use Rattle.plane_graphs.proofs.Order.{Lt, lt_out}
 use Rattle.slab_laws.specs.declared.names.DartId.{DartId}
 use Rattle.slab_laws.specs.declared.names.VertexId.{VertexId}
@@ -21,9 +21,9 @@ use Rattle.slab_laws.specs.View.{View, HasVertex, HasDart, point_in, source_in, 
 use Rattle.counted_looks.specs.declared.boundary_part.BoundaryPart.{BoundaryPart}
 use Rattle.counted_looks.specs.declared.boundary_part.BoundaryPart.TheVariants.{Dart, Isolated}
 use Rattle.dcel_records.specs.declared.spot.Spot.{Spot}
-use Rattle.dcel_records.specs.declared.spot.Spot.TheVariants.{Vertex, Edge, Face}
+use Rattle.dcel_records.specs.declared.spot.Spot.TheVariants.{Vertex, Edge}
 use Rattle.sound_views.proofs.ForwardDarts.{is_behind, target_has}
-use Rattle.zone_walk.specs.Searches.{AreKept, IsOnEdge, IsThere, IsFoundAfter, AreFoundAfter, IsTaken, IsPartTaken, IsOneSearch, IsSearchFrom, HasSeen, points_of_meet}
+use Rattle.zone_walk.specs.Searches.{AreKept, IsOnEdge, IsThere, AreFoundAfter, IsPartTaken, IsOneSearch, IsSearchFrom, HasSeen, points_of_meet}
 use Rattle.zone_walk.specs.Sights.{span_in, IsPointMeet}
 use Rattle.zone_walk.specs.Zone.{is_on_segment, meeting_points}
 use Rattle.zone_walk.specs.declared.search.Search.{Search}
@@ -77,7 +77,7 @@ TakesOnly v k l P = (p : Point) (at : Spot) → Member (p, at) l.found.entries �
 pub both_takes : (v : View) (P Q R : Point → Type 0) (k l m : Search) → IsOneSearch k l → TakesOnly v k l P → TakesOnly v l m Q → ((p : Point) → P p → R p) → ((p : Point) → Q p → R p) → TakesOnly v k m R
 both_takes v P Q R k l m one f g a b p at i = elim (g p at i) [
   | inr w ↦ inr (b p w.0, w.1, ap (λ (x : Point). precedes x p) (sym one.here) ∙ w.2)
-  | inl n ↦ elim (f p at n) [ | inl o ↦ inl o | inr w ↦ inr (a p w.0, w.1, w.2) ]
+  | inl n ↦ elim (f p at n) [ inl o ↦ inl o | inr w ↦ inr (a p w.0, w.1, w.2) ]
 ]
 
 pub goes_on : (v : View) (P : Point → Type 0) (o k l : Search) → IsSearchFrom v o k → IsOneSearch k l → AreKept k.found.entries l.found.entries → ((p : Point) → P p → Contains (meeting_points v k.segment) p) → TakesOnly v k l P → IsSearchFrom v o l
@@ -90,7 +90,7 @@ goes_on v P o k l h one kept sound only = record {
   found =
       subst (λ (z : Segment). AreFoundAfter v z l.here l.found.entries) (sym one.segment)
       (subst (λ (z : Point). AreFoundAfter v k.segment z l.found.entries) (sym one.here)
-      (λ p at m. elim (only p at m) [ | inl n ↦ h.found p at n | inr w ↦ record { meets = sound p w.0; later = w.2; there = w.1 } ]));
+      (λ p at m. elim (only p at m) [ inl n ↦ h.found p at n | inr w ↦ record { meets = sound p w.0; later = w.2; there = w.1 } ]));
   kept = kept_on o.found.entries k.found.entries l.found.entries h.kept kept;
 }
 

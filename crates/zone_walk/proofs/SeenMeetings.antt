@@ -1,5 +1,5 @@
 -- What a segment and the edge of a dart have in common tells the meeting points on the edge and at its ends.
-use Rattle.std.proofs.Common.{◌≡◌, Option, Some, None, Bool, true, false, Contains, List, [], ◌∷◌, refl, sym, ap, ◌∙◌, subst, inl, inr, ◌⊎◌, ⊎_elim}
+use Rattle.std.proofs.Common.{◌≡◌, Some, Bool, true, false, Contains, List, refl, sym, ap, ◌∙◌, subst, inl, inr, ◌⊎◌, ⊎_elim}
 use Rattle.exact_plane.specs.Line.{Line, IsOn}
 use Rattle.exact_plane.specs.Meet.{IsMeeting, IsCommonPart}
 use Rattle.exact_plane.specs.MeetOf.{later, earlier}
@@ -14,21 +14,20 @@ use Rattle.plane_graphs.specs.Graph.{Edge}
 use Rattle.plane_graphs.specs.Line.{IsProper, are_parallel, crossing}
 use Rattle.plane_graphs.proofs.Lines.{point_is_proper}
 use Rattle.plane_graphs.proofs.Lists.{clash}
-use Rattle.plane_graphs.proofs.Marks.{Le, le_cases}
+use Rattle.plane_graphs.proofs.Marks.{le_cases}
 use Rattle.plane_graphs.proofs.Order.{Lt, lt_never}
 use Rattle.slab_laws.specs.declared.names.DartId.{DartId}
-use Rattle.slab_laws.specs.declared.names.VertexId.{VertexId}
 use Rattle.slab_laws.specs.Skeleton.{inside}
 use Rattle.slab_laws.specs.Sound.{edge_in, dart_in, IsGraphSound}
-use Rattle.slab_laws.specs.View.{View, HasVertex, HasDart, point_in, source_in, twin_in, target_in, line_in}
+use Rattle.slab_laws.specs.View.{View, HasDart, point_in, source_in, target_in, line_in}
 use Rattle.locate_naive.proofs.Within.{within_inside}
-use Rattle.sound_views.proofs.ForwardDarts.{target_has, is_behind}
+use Rattle.sound_views.proofs.ForwardDarts.{target_has}
 use Rattle.zone_walk.specs.Found.{IsWhole}
 use Rattle.zone_walk.specs.Searches.{IsOnEdge, points_of_meet}
 use Rattle.zone_walk.specs.Sights.{span_in}
-use Rattle.zone_walk.specs.Zone.{is_on_segment, passes, meeting_points}
+use Rattle.zone_walk.specs.Zone.{is_on_segment, meeting_points}
 use Rattle.zone_walk.proofs.Aheads.{no_vertex_inside, one_inside}
-use Rattle.zone_walk.proofs.Courses.{IsCourse, LiesOn, lies_in, parallel_itself}
+use Rattle.zone_walk.proofs.Courses.{IsCourse, lies_in, parallel_itself}
 use Rattle.zone_walk.proofs.MeetingPoints.{MeetsAt, lower, upper, vertex, passed, IsPassed, passes_out}
 use Rattle.zone_walk.proofs.Passing.{at_most_in, within_out, passed_lies, passed_at}
 use Rattle.zone_walk.proofs.SeenSpans.{at_most_out, edge_ahead, edge_back}

@@ -1,15 +1,13 @@
 -- The edge of a dart as a span: its ends, the side of a point, and what rules out that a segment meets it.
-use Rattle.std.proofs.Common.{◌≡◌, Bool, true, false, cond, ◌&&◌, ◌||◌, ℤ, pos, neg_ℤ, ◌<ℤ◌, refl, sym, ap, ◌∙◌, subst, inl, inr, ⊎_elim, arith, Ordering, Less, Equal, Greater}
+use Rattle.std.proofs.Common.{◌≡◌, Bool, true, false, cond, ◌&&◌, ◌||◌, ℤ, pos, neg_ℤ, ◌<ℤ◌, refl, sym, ap, ◌∙◌, subst, inl, inr, arith, Ordering, Less, Equal, Greater}
 use Rattle.std.specs.Prelude.{if◌then◌else◌}
 use Rattle.std.specs.Ordering.{int_cmp}
-use lib.Signed.{lt_z}
 use Rattle.std.proofs.lemmas.Int.{ints}
 use Rattle.integers.proofs.Compare.{less_out, less_in, equal_out, equal_in, greater_out, greater_in}
 use Rattle.integers.proofs.Tests.{lt_is}
 use Rattle.exact_plane.specs.Line.{Line, side_of, IsOn, IsLine}
 use Rattle.exact_plane.specs.Meet.{AreApart}
 use Rattle.exact_plane.specs.Point.{Point, IsPoint}
-use Rattle.exact_plane.specs.PointOrder.{point_cmp}
 use Rattle.exact_plane.specs.PointOrderLaws.{and_true}
 use Rattle.exact_plane.specs.Segment.{Segment, line_of_segment}
 use Rattle.exact_plane.specs.Sign.{sign_by, sign_of}
@@ -17,15 +15,13 @@ use Rattle.exact_plane.specs.Span.{Span, IsAtMost, LiesOn, IsSpan, span_of_segme
 use Rattle.exact_plane.specs.declared.sides.Sign.{Sign}
 use Rattle.exact_plane.proofs.Orders.{at_most_both, less_at_most}
 use Rattle.plane_graphs.specs.Graph.{Edge}
-use Rattle.plane_graphs.specs.Line.{IsProper, precedes}
+use Rattle.plane_graphs.specs.Line.{precedes}
 use Rattle.plane_graphs.proofs.Lines.{point_is_proper}
-use Rattle.plane_graphs.proofs.Lists.{or_out, clash}
+use Rattle.plane_graphs.proofs.Lists.{or_out}
 use Rattle.plane_graphs.proofs.Marks.{Le, le_cases, le_lt_lt, lt_le_lt}
-use Rattle.plane_graphs.proofs.Order.{Lt, lt_out, lt_in, lt_trans, lt_never}
+use Rattle.plane_graphs.proofs.Order.{Lt, lt_out, lt_never}
 use Rattle.edge_predicates.proofs.Sides.{sign_same}
 use Rattle.slab_laws.specs.declared.names.DartId.{DartId}
-use Rattle.slab_laws.specs.declared.names.VertexId.{VertexId}
-use Rattle.slab_laws.specs.SpansDrawn.{edge_of}
 use Rattle.slab_laws.specs.Skeleton.{side}
 use Rattle.slab_laws.specs.Sound.{edge_in, dart_in, IsGraphSound}
 use Rattle.slab_laws.specs.View.{View, HasDart, point_in, source_in, twin_in, target_in, line_in}

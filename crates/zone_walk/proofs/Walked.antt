@@ -1,5 +1,5 @@
 -- What the walk has when it stands at a meeting point, and the zone that it has at the upper end.
-use Rattle.std.proofs.Common.{◌≡◌, ◌<◌, ◌≤◌, Option, None, Bool, true, false, not, List, [], ◌∷◌, ◌++◌, length, Contains, refl, sym, ap, ◌∙◌, subst, append_assoc, arith, inl, inr, ⊎_elim}
+use Rattle.std.proofs.Common.{◌≡◌, ◌≤◌, Bool, true, false, not, List, [], ◌∷◌, ◌++◌, length, Contains, refl, sym, ap, ◌∙◌, subst, append_assoc, arith, inl, inr, ⊎_elim}
 use Rattle.std.specs.List.{filter, AllByRecursion}
 use Rattle.std.proofs.lemmas.List.{append-nil, length-map}
 use Rattle.std.proofs.lemmas.List.Sums.{count_by-le-length}
@@ -30,7 +30,7 @@ use Rattle.zone_walk.specs.Walk.{IsAhead, IsMetAhead, IsSpotStretch}
 use Rattle.zone_walk.specs.Zone.{meeting_points, AreSpotsBetween, IsOverlapped, IsZoneOf, IsNextMeeting, is_vertex, is_edge, vertices_needed, edges_needed, darts_among, later_points, points_of_meetings}
 use Rattle.zone_walk.proofs.Aheads.{at_most, one_ahead}
 use Rattle.zone_walk.proofs.Courses.{IsCourse, LiesOn, lies_in}
-use Rattle.zone_walk.proofs.MeetingPoints.{MeetsAt, lower, upper, vertex, meetings_ascend}
+use Rattle.zone_walk.proofs.MeetingPoints.{MeetsAt, lower, vertex, meetings_ascend}
 use Rattle.zone_walk.proofs.Stretches.{told, listed, meets_lies, meets_proper}
 
 -- ---- an ascending list, cut after an element

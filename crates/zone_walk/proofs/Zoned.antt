@@ -1,6 +1,5 @@
 -- Where the walk begins, and what it asks of the next step.
-use Rattle.std.proofs.Common.{◌≡◌, ◌≤◌, Bool, true, false, Contains, List, [], ◌∷◌, length, arith, refl, sym, ap, ◌∙◌, subst}
-use Rattle.std.specs.BTreeSet.{contains}
+use Rattle.std.proofs.Common.{◌≡◌, List, [], refl, sym, ap, ◌∙◌, subst}
 use Rattle.std.specs.List.{list_any}
 use Rattle.std.specs.Ordering.{is_eq, nat_cmp}
 use Rattle.exact_plane.specs.Point.{Point}
@@ -11,7 +10,6 @@ use Rattle.plane_graphs.specs.Line.{precedes}
 use Rattle.plane_graphs.proofs.Lists.{clash}
 use Rattle.plane_graphs.proofs.Order.{lt_out, lt_never}
 use Rattle.integers.proofs.Tests.{not_true}
-use Rattle.slab_laws.specs.declared.names.FaceId.{FaceId}
 use Rattle.slab_laws.specs.Sound.{IsGraphSound}
 use Rattle.slab_laws.specs.View.{View, Faces}
 use Rattle.dcel_records.specs.declared.spot.Spot.{Spot}

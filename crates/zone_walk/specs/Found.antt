@@ -1,23 +1,16 @@
 -- Where a segment passes through an edge, by spans.
-use Rattle.std.specs.Prelude.{◌≡◌, ◌≢◌, ◌⊎◌, ◌||◌, cond, true, false, Bool, List, [], ◌∷◌, Contains, Option, MatchOption, pos, nat_lt}
+use Rattle.std.specs.Prelude.{◌≡◌, ◌≢◌, true, false, Bool, [], ◌∷◌, pos}
 use lib.Signed.{lt_z}
-use Rattle.std.specs.Map.{keys_of}
 use Rattle.exact_plane.specs.Line.{Line, side_of}
 use Rattle.exact_plane.specs.Meet.{IsOnlyCommon}
 use Rattle.exact_plane.specs.Point.{Point, IsPoint}
 use Rattle.exact_plane.specs.Segment.{Segment, line_of_segment}
 use Rattle.exact_plane.specs.Span.{Span, LiesOn, IsSpan}
-use Rattle.plane_graphs.specs.Ascending.{Member}
-use Rattle.plane_graphs.specs.Line.{precedes}
 use Rattle.slab_laws.specs.declared.names.DartId.{DartId}
-use Rattle.slab_laws.specs.declared.names.VertexId.{VertexId}
 use Rattle.slab_laws.specs.SpansDrawn.{edge_of}
 use Rattle.slab_laws.specs.Skeleton.{inside}
-use Rattle.slab_laws.specs.Sound.{edge_in}
-use Rattle.slab_laws.specs.View.{View, HasVertex, HasDart, point_in, twin_in}
-use Rattle.dcel_records.specs.declared.spot.Met.{Met}
-use Rattle.dcel_records.specs.Spots.{IsMet}
-use Rattle.zone_walk.specs.Zone.{is_on_segment, passes, meeting_points, later_points}
+use Rattle.slab_laws.specs.View.{View}
+use Rattle.zone_walk.specs.Zone.{passes}
 
 -- the segment between the ends of a span
 abbrev pub ends_of : Span → Segment

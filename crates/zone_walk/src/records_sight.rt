@@ -14,7 +14,9 @@ ghost use Rattle.zone_walk.specs.Zone.{is_on_segment};
 
 use crate::sight::{Seen, Sight};
 use dcel_records::{Records, Spot};
-use exact_plane::{Direction, Line, Meet, Point, Segment, Sign, Span, line_of, orientation, side, span_meeting};
+use exact_plane::{
+    Direction, Line, Meet, Point, Segment, Sign, Span, line_of, orientation, side, span_meeting,
+};
 use rotation_order::{Place, place_at};
 use slab_laws::{DartId, Darts, VertexId};
 use sound_views::span_of;
@@ -128,7 +130,11 @@ fn side_of_dart(
     target.laws();
     line.laws();
     let along = side(&line, point);
-    if *source < *target { along } else { turned(along) }
+    if *source < *target {
+        along
+    } else {
+        turned(along)
+    }
 }
 
 // Whether a point lies on the segment.
@@ -174,7 +180,11 @@ impl Sight for Records {
             }
             Spot::Vertex(vertex) => {
                 let point = self.point(vertex);
-                let meet = if is_on(segment, &point) { Meet::At(point) } else { Meet::Apart };
+                let meet = if is_on(segment, &point) {
+                    Meet::At(point)
+                } else {
+                    Meet::Apart
+                };
                 Seen {
                     meet,
                     side: Sign::Zero,

@@ -1,4 +1,4 @@
-use Rattle.std.proofs.Common.{◌≡◌, sym, ap, ◌∙◌, subst}
+use Rattle.std.proofs.Common.{◌≡◌, sym, ◌∙◌, subst}
 use Rattle.exact_plane.specs.Meet.{IsMeeting}
 use Rattle.exact_plane.specs.Span.{Span, IsSpan}
 use Rattle.zone_walk.specs.Sights.{span_in}

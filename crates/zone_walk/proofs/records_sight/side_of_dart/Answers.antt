@@ -1,6 +1,5 @@
 use Rattle.std.proofs.Common.{sym, ap, ◌∙◌}
 use Rattle.exact_plane.specs.Line.{side_of}
-use Rattle.exact_plane.specs.Point.{Point}
 use Rattle.exact_plane.specs.Sign.{sign_of}
 use Rattle.plane_graphs.specs.Line.{precedes}
 use Rattle.zone_walk.proofs.SeenSpans.{span_is, side_ahead, side_back}

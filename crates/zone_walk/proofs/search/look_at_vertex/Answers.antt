@@ -1,12 +1,10 @@
 use Rattle.std.proofs.Common.{◌≡◌, Contains, sym, ap, ◌∙◌, subst, ⊎_elim, inl, inr}
 use Rattle.std.specs.Prelude.{Option}
 use Rattle.exact_plane.specs.Point.{Point}
-use Rattle.exact_plane.specs.Segment.{Segment}
 use Rattle.plane_graphs.specs.Ascending.{Member}
 use Rattle.plane_graphs.specs.Line.{precedes}
 use Rattle.std.specs.Map.{keys_of}
 use Rattle.slab_laws.specs.View.{point_in}
-use Rattle.dcel_records.specs.declared.spot.Spot.TheVariants.{Vertex}
 use Rattle.zone_walk.specs.Searches.{IsThere}
 use Rattle.zone_walk.specs.Zone.{meeting_points}
 use Rattle.zone_walk.proofs.Searched.{goes_on, still_seen, vertex_meets, vertex_missed}

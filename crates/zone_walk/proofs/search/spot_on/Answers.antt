@@ -1,7 +1,6 @@
-use Rattle.std.proofs.Common.{◌≢◌, sym, ap, ◌∙◌, subst}
+use Rattle.std.proofs.Common.{sym, ◌∙◌}
 use Rattle.plane_graphs.specs.Line.{precedes}
 use Rattle.rotation_order.proofs.Points.{told_same, told_other}
-use Rattle.slab_laws.specs.View.{point_in, source_in, target_in}
 use Rattle.zone_walk.proofs.Searched.{at_source, at_target, at_forward, at_backward}
 use Rattle.zone_walk.proofs.search.spot_on.Goals as goal
 

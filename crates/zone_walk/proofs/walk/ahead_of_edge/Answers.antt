@@ -1,13 +1,11 @@
-use Rattle.std.proofs.Common.{◌≡◌, ◌≢◌, true, arith, refl, sym, ap, ◌∙◌, subst}
-use Rattle.exact_plane.specs.Point.{Point}
-use Rattle.plane_graphs.specs.Line.{precedes}
+use Rattle.std.proofs.Common.{◌≡◌, ◌≢◌, arith, sym, ap, ◌∙◌, subst}
 use Rattle.plane_graphs.proofs.Lines.{point_is_proper}
 use Rattle.plane_graphs.proofs.Order.{lt_out}
 use Rattle.exact_plane.specs.declared.sides.Sign.{Sign}
 use Rattle.exact_plane.specs.declared.sides.Sign.TheVariants.{Minus, Zero, Plus}
 use Rattle.open_parts.specs.Parts.{TellsFace}
 use Rattle.slab_laws.specs.declared.names.FaceId.{FaceId}
-use Rattle.slab_laws.specs.View.{View, point_in, cycle_in, face_in}
+use Rattle.slab_laws.specs.View.{cycle_in, face_in}
 use Rattle.zone_walk.proofs.Courses.{course, lies_out}
 use Rattle.zone_walk.proofs.Looks.{edge_inside}
 use Rattle.zone_walk.proofs.PartsAhead.{off_line, on_left, on_right, goes_along}
@@ -39,7 +37,7 @@ returns-in-Plus-clause-part g c =
     let seen = c.see-seen.ensures.seen in (
       off_line v f c.requires.sound.graph s k p proper on before c.args.dart (m.0, m.1) m.2 seen.span c.see-seen.result.side seen.side (plus_off c.see-seen.result.side c.in-Plus.is),
       subst (λ (a : FaceId). TellsFace v f p s.upper a) (sym (c.face.ensures.face ∙ ap (face_in f) c.cycle.ensures.cycle))
-      (on_left v f c.requires.sound.graph s k p proper on before c.args.dart (m.0, m.1) m.2 seen.span c.see-seen.result.side seen.side c.in-Plus.is),
+          (on_left v f c.requires.sound.graph s k p proper on before c.args.dart (m.0, m.1) m.2 seen.span c.see-seen.result.side seen.side c.in-Plus.is),
     )
 
 pub returns-in-Minus-clause-part : goal.returns-in-Minus-clause-part
@@ -56,7 +54,7 @@ returns-in-Minus-clause-part g c =
     let seen = c.see-seen.ensures.seen in (
       off_line v f c.requires.sound.graph s k p proper on before c.args.dart (m.0, m.1) m.2 seen.span c.see-seen.result.side seen.side (minus_off c.see-seen.result.side c.in-Minus.is),
       subst (λ (a : FaceId). TellsFace v f p s.upper a) (sym (c.face-face.ensures.face ∙ ap (face_in f) (c.cycle-in-Minus.ensures.cycle ∙ ap (cycle_in f) c.twin.ensures.twin)))
-      (on_right v f c.requires.sound.graph s k p proper on before c.args.dart (m.0, m.1) m.2 seen.span c.see-seen.result.side seen.side c.in-Minus.is),
+          (on_right v f c.requires.sound.graph s k p proper on before c.args.dart (m.0, m.1) m.2 seen.span c.see-seen.result.side seen.side c.in-Minus.is),
     )
 
 pub returns-in-Zero-clause-part : goal.returns-in-Zero-clause-part

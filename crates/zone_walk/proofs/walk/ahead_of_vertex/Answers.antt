@@ -1,13 +1,8 @@
-use Rattle.std.proofs.Common.{◌≡◌, ◌≢◌, true, arith, refl, sym, ap, ◌∙◌, subst}
-use Rattle.exact_plane.specs.Point.{Point}
-use Rattle.plane_graphs.specs.Line.{precedes}
-use Rattle.plane_graphs.proofs.Lines.{point_is_proper}
+use Rattle.std.proofs.Common.{arith, refl, sym, ap, ◌∙◌, subst}
 use Rattle.plane_graphs.proofs.Order.{lt_out}
-use Rattle.exact_plane.specs.declared.sides.Sign.{Sign}
-use Rattle.exact_plane.specs.declared.sides.Sign.TheVariants.{Minus, Zero, Plus}
 use Rattle.open_parts.specs.Parts.{TellsFace}
 use Rattle.slab_laws.specs.declared.names.FaceId.{FaceId}
-use Rattle.slab_laws.specs.View.{View, point_in, cycle_in, face_in}
+use Rattle.slab_laws.specs.View.{point_in, cycle_in, face_in}
 use Rattle.zone_walk.proofs.Courses.{course, lies_out}
 use Rattle.zone_walk.proofs.Looks.{vertex_turn, vertex_along}
 use Rattle.zone_walk.proofs.PartsAhead.{leaves_along, none_between, none_bare, at_place, at_bare}
@@ -43,7 +38,7 @@ returns-in-Between-clause-part g c =
     let h = c.in-Between.ensures.place in (
       none_between v f c.requires.sound.graph s k c.args.vertex c.requires.vertex on before c.in-Between.dart c.in-Between.field-1 h,
       subst (λ (a : FaceId). TellsFace v f (point_in v c.args.vertex) s.upper a) (sym (c.face-face.ensures.face ∙ ap (face_in f) (c.cycle.ensures.cycle ∙ ap (cycle_in f) c.twin.ensures.twin)))
-      (at_place v f c.requires.sound.graph s k c.args.vertex c.requires.vertex on before c.in-Between.dart c.in-Between.field-1 h),
+          (at_place v f c.requires.sound.graph s k c.args.vertex c.requires.vertex on before c.in-Between.dart c.in-Between.field-1 h),
     )
 
 pub returns-in-Between-clause-count : goal.returns-in-Between-clause-count
@@ -64,7 +59,7 @@ returns-in-Bare-clause-part g c =
     let h = c.in-Bare.ensures.place in (
       none_bare v f c.requires.sound.graph s k c.args.vertex c.requires.vertex on before h,
       subst (λ (a : FaceId). TellsFace v f (point_in v c.args.vertex) s.upper a) (sym c.bare_face.ensures.face)
-      (at_bare v f c.requires.sound.graph s k c.args.vertex c.requires.vertex on before h),
+          (at_bare v f c.requires.sound.graph s k c.args.vertex c.requires.vertex on before h),
     )
 
 pub returns-in-Bare-clause-count : goal.returns-in-Bare-clause-count

@@ -1,4 +1,4 @@
-use Rattle.std.proofs.Common.{◌≡◌, ◌⊎◌, true, false, Some, None, cond, refl, sym, ap, ◌∙◌, subst, inl, inr, List}
+use Rattle.std.proofs.Common.{◌≡◌, ◌⊎◌, true, false, refl, sym, ap, ◌∙◌, subst, inl, inr, List}
 use Rattle.std.specs.Map.{keys_of}
 use Rattle.exact_plane.specs.Point.{Point}
 use Rattle.plane_graphs.specs.Ascending.{Member}
@@ -38,8 +38,8 @@ returns g c =
       search =
           moved v f s l (record { segment = l.segment; here = q; found = c.remove.new.self; visited = l.visited; failed = l.failed }) p q c.requires.search w.0.stretch.next refl refl refl
           (λ r at i. (
-          removed_from q l.found.entries r at (subst (λ (es : List (Point × Spot)). Member (r, at) es) c.remove.ensures.entries i),
-          λ e. none_there q c.remove.new.self.entries c.remove.ensures.updates.1 (subst (λ (x : Point). Member x (keys_of c.remove.new.self.entries)) e (key_of_entry c.remove.new.self.entries r at i)),
+            removed_from q l.found.entries r at (subst (λ (es : List (Point × Spot)). Member (r, at) es) c.remove.ensures.entries i),
+            λ e. none_there q c.remove.new.self.entries c.remove.ensures.updates.1 (subst (λ (x : Point). Member x (keys_of c.remove.new.self.entries)) e (key_of_entry c.remove.new.self.entries r at i)),
           ))
           (λ r i d. subst (λ (es : List (Point × Spot)). Member r (keys_of es)) (sym c.remove.ensures.entries) (others_kept q l.found.entries r d i));
     }

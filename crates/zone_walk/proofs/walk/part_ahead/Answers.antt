@@ -1,15 +1,10 @@
-use Rattle.std.proofs.Common.{◌≡◌, ◌≤◌, ◌+◌, true, sym, ap, ◌∙◌, subst}
+use Rattle.std.proofs.Common.{◌≤◌, ◌+◌, subst}
 use Rattle.exact_plane.specs.Point.{Point}
-use Rattle.exact_plane.specs.Segment.{AreEnds}
-use Rattle.plane_graphs.specs.Line.{precedes}
 use Rattle.plane_graphs.proofs.Lines.{point_is_proper}
 use Rattle.plane_graphs.proofs.Order.{lt_out}
-use Rattle.dcel_records.specs.declared.spot.Spot.{Spot}
-use Rattle.dcel_records.specs.declared.spot.Spot.TheVariants.{Vertex, Edge, Face}
 use Rattle.face_location.specs.Spots.{IsSpotOf}
-use Rattle.zone_walk.specs.Walk.{IsPartAhead, stop_looks}
+use Rattle.zone_walk.specs.Walk.{stop_looks}
 use Rattle.zone_walk.proofs.Courses.{course, lies_out}
-use Rattle.zone_walk.proofs.InFaces.{alone_is_upper}
 use Rattle.zone_walk.proofs.PartsAhead.{nothing_there, face_there}
 use Rattle.zone_walk.proofs.walk.part_ahead.Goals as goal
 

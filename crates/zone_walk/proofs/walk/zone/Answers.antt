@@ -1,15 +1,13 @@
-use Rattle.std.proofs.Common.{◌≡◌, ◌<◌, ◌≤◌, ◌+◌, true, false, arith, refl, sym, ap, ◌∙◌, subst, List, [], ◌∷◌, ◌++◌, length}
+use Rattle.std.proofs.Common.{◌≡◌, ◌≤◌, ◌+◌, arith, refl, sym, ap, ◌∙◌, subst, List, [], ◌∷◌, ◌++◌, length}
 use Rattle.exact_plane.specs.Point.{Point}
 use Rattle.exact_plane.specs.Segment.{Segment}
 use Rattle.plane_graphs.specs.Line.{precedes}
 use Rattle.plane_graphs.proofs.Order.{lt_out}
-use Rattle.dcel_records.specs.declared.spot.Spot.{Spot}
-use Rattle.zone_walk.specs.Walk.{IsNextOf, IsSearchAt, IsSpotStretch, stop_looks}
+use Rattle.zone_walk.specs.Walk.{IsNextOf, stop_looks}
 use Rattle.zone_walk.specs.Zone.{is_on_segment, later_points, meeting_points, IsNextMeeting, IsSpotBetween}
 use Rattle.counted_looks.specs.Boundaries.{boundary_size}
 use Rattle.dcel_records.specs.declared.spot.Spot.TheVariants.{Face}
 use Rattle.zone_walk.specs.declared.plan.Meeting.{Meeting}
-use Rattle.zone_walk.specs.declared.search.Search.{Search}
 use Rattle.zone_walk.proofs.Counted.{begins, goes_on, in_all}
 use Rattle.zone_walk.proofs.Courses.{course, lies_in}
 use Rattle.zone_walk.proofs.Nexts.{next_one}
