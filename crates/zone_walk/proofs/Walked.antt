@@ -296,6 +296,6 @@ module _ (v : View) (f : Faces) (s : IsGraphSound v) (g : Segment) (c : IsCourse
       edges = edges;
       cycles = cycles;
       faces = faces;
-      vertices_fit = let a = count_by-le-length (λ (m : Meeting). not (is_vertex m.spot)) z.vertices in omega (arith, vertices, as_many);
-      edges_fit = let a = count_by-le-length (λ (m : Meeting). is_edge m.spot) z.vertices in let b = few_between (meeting_points v g) z.between all_between in omega (arith, edges, as_many);
+      vertices_fit = let a = count_by-le-length (λ (m : Meeting). not (is_vertex (met_of m.spot))) z.vertices in omega (arith, vertices, as_many);
+      edges_fit = let a = count_by-le-length (λ (m : Meeting). is_edge (met_of m.spot)) z.vertices in let b = few_between (meeting_points v g) z.between all_between in omega (arith, edges, as_many);
     }

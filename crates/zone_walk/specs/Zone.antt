@@ -17,9 +17,10 @@ use Rattle.arr_notes.specs.Curves.{IsForward, is_forward}
 use Rattle.arr_notes.specs.CycleNames.{dart_names}
 use Rattle.counted_looks.specs.Boundaries.{boundary_size}
 use Rattle.dcel_records.specs.declared.spot.Met.{Met}
+use Rattle.dcel_records.specs.declared.spot.Met.TheVariants as met
 use Rattle.dcel_records.specs.declared.spot.Spot.{Spot}
 use Rattle.dcel_records.specs.declared.spot.Spot.TheVariants.{Vertex, Edge, Face}
-use Rattle.dcel_records.specs.Spots.{IsMet}
+use Rattle.dcel_records.specs.Spots.{IsMet, met_of}
 use Rattle.face_location.specs.Spots.{IsSpotOf}
 use Rattle.zone_walk.specs.declared.plan.Meeting.{Meeting}
 use Rattle.zone_walk.specs.declared.plan.ZonePlan.{ZonePlan}
@@ -40,7 +41,7 @@ meeting_points v s = ascending point_cmp (s.lower ∷ s.upper ∷ filter (is_on_
 
 -- every point of the segment strictly between two meets this (this project)
 abbrev pub IsMetBetween : View → Segment → Point → Point → Met → Type 0
-IsMetBetween v s p q met = (t : Point) → IsProper t → is_on_segment s t ≡ true → precedes p t ≡ true → precedes t q ≡ true → IsMet v t met
+IsMetBetween v s p q at = (t : Point) → IsProper t → is_on_segment s t ≡ true → precedes p t ≡ true → precedes t q ≡ true → IsMet v t at
 
 -- every point of the segment strictly between two lies at this spot (this project)
 abbrev pub IsSpotBetween : View → Faces → Segment → Point → Point → Spot → Type 0
@@ -59,21 +60,21 @@ pub record IsOverlapped (v : View) (s : Segment) (d : DartId) : Type 0 where
   pub begins : precedes (point_in v (source_in v d)) s.upper ≡ true
   pub ends : precedes s.lower (point_in v (target_in v d)) ≡ true
 
-abbrev pub is_vertex : Spot → Bool
-is_vertex (Vertex w) = true
+abbrev pub is_vertex : Met → Bool
+is_vertex (met.Vertex w) = true
 is_vertex other = false
 
-abbrev pub is_edge : Spot → Bool
-is_edge (Edge d) = true
+abbrev pub is_edge : Met → Bool
+is_edge (met.Edge d) = true
 is_edge other = false
 
 -- how many vertices the steps of the insertion make: one for each meeting point that is none
 abbrev pub vertices_needed : List Meeting → ℕ
-vertices_needed ms = count_by (λ m. not (is_vertex m.spot)) ms
+vertices_needed ms = count_by (λ m. not (is_vertex (met_of m.spot))) ms
 
 -- how many of the meeting points are inside edges, which are split there
 abbrev pub splits_needed : List Meeting → ℕ
-splits_needed ms = count_by (λ m. is_edge m.spot) ms
+splits_needed ms = count_by (λ m. is_edge (met_of m.spot)) ms
 
 -- how many edges they make at most: one for each edge that is split, and one for each open part
 abbrev pub edges_needed : List Meeting → List Spot → ℕ
