@@ -18,3 +18,4 @@ pub mod Looks
 pub mod Nexts
 pub mod Counted
 pub mod Zoned
+pub mod EdgeLooks

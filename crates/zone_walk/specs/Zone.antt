@@ -19,7 +19,7 @@ use Rattle.counted_looks.specs.Boundaries.{boundary_size}
 use Rattle.dcel_records.specs.declared.spot.Met.{Met}
 use Rattle.dcel_records.specs.declared.spot.Met.TheVariants as met
 use Rattle.dcel_records.specs.declared.spot.Spot.{Spot}
-use Rattle.dcel_records.specs.declared.spot.Spot.TheVariants.{Vertex, Edge, Face}
+use Rattle.dcel_records.specs.declared.spot.Spot.TheVariants.{Edge, Face}
 use Rattle.dcel_records.specs.Spots.{IsMet, met_of}
 use Rattle.face_location.specs.Spots.{IsSpotOf}
 use Rattle.zone_walk.specs.declared.plan.Meeting.{Meeting}

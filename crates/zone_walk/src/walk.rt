@@ -305,7 +305,7 @@ pub fn zone<T: Sight, L: Ledger>(
     requires start { IsSpotOf (T.graph sight.now) (T.faces sight.now) segment.now.lower start }
     ensures zone { IfOk result (IsZoneOf (T.graph sight.now) (T.faces sight.now) segment.now) }
     ensures looks { (n : _) → CoversVisits (T.graph sight.now) (T.faces sight.now) segment.now (meeting_points (T.graph sight.now) segment.now) n →
-        steps.new ≤ steps.old + (n + sum_by (stop_looks (T.graph sight.now) segment.now) (meeting_points (T.graph sight.now) segment.now)) }
+        steps.new ≤ steps.old + (n + (sum_by (degree_at (T.graph sight.now)) (meeting_points (T.graph sight.now) segment.now) + 2 * edges_met (T.graph sight.now) segment.now)) }
 {
     let upper = segment.upper();
     let mut point = segment.lower();

@@ -1,4 +1,4 @@
-use Rattle.std.proofs.Common.{◌≡◌, ◌≤◌, ◌+◌, arith, refl, sym, ap, ◌∙◌, subst, List, [], ◌∷◌, ◌++◌, length}
+use Rattle.std.proofs.Common.{◌≡◌, ◌≤◌, ◌+◌, ◌*◌, ℕ, arith, refl, sym, ap, ◌∙◌, subst, List, [], ◌∷◌, ◌++◌, length}
 use Rattle.exact_plane.specs.Point.{Point}
 use Rattle.exact_plane.specs.Segment.{Segment}
 use Rattle.plane_graphs.specs.Line.{precedes}
@@ -9,12 +9,20 @@ use Rattle.counted_looks.specs.Boundaries.{boundary_size}
 use Rattle.dcel_records.specs.declared.spot.Spot.TheVariants.{Face}
 use Rattle.zone_walk.specs.declared.plan.Meeting.{Meeting}
 use Rattle.zone_walk.proofs.Counted.{begins, goes_on, in_all}
-use Rattle.zone_walk.proofs.Courses.{course, lies_in}
+use Rattle.std.specs.List.{sum_by}
+use Rattle.slab_laws.specs.Sound.{IsGraphSound}
+use Rattle.slab_laws.specs.View.{View}
+use Rattle.zone_walk.specs.Zone.{degree_at, edges_met}
+use Rattle.zone_walk.proofs.EdgeLooks.{looks_fit}
+use Rattle.zone_walk.proofs.Courses.{IsCourse, course, lies_in}
 use Rattle.zone_walk.proofs.Nexts.{next_one}
 use Rattle.zone_walk.proofs.Stretches.{told, meets_lies, meets_proper, one_next}
 use Rattle.zone_walk.proofs.Walked.{starts, continues, zone_done, fewer_later}
 use Rattle.zone_walk.proofs.Zoned.{began, at_itself}
 use Rattle.zone_walk.proofs.walk.zone.Goals as goal
+
+in_bound : (v : View) → IsGraphSound v → (s : Segment) → IsCourse s → (start now n : ℕ) → now ≤ start + (n + sum_by (stop_looks v s) (meeting_points v s)) → now ≤ start + (n + (sum_by (degree_at v) (meeting_points v s) + 2 * edges_met v s))
+in_bound v S s k start now n h = let a = looks_fit v S s k in omega arith
 
 pub walk-init : goal.walk-init
 walk-init g c =
@@ -71,8 +79,8 @@ returns-in_err-part-clause-looks g c = λ n h.
     let before = lt_out p s.upper (ap (precedes p) (sym c.upper-upper.ensures) ∙ sym c.lt.ensures ∙ c.walk-test.true) in
     let z = next_one v f c.requires.sound s k p (meets_proper v S s k p m) on before in
     let looks = subst (λ (w : Segment). (n : _) → ((q : Point) (a : _) → IsNextMeeting v w p q → IsSpotBetween v f w p q (Face a) → boundary_size v f a ≤ n) → c.onward.new.steps ≤ c.walk.steps + (stop_looks v w p + n)) c.walk.invariant.at.segment c.in_err-part.ensures.looks in
-    in_all v f s c.args.steps.now c.onward.new.steps z.0
-    (goes_on v f s c.args.steps.now c.walk.steps c.onward.new.steps p z.0 c.walk.invariant.counted (fewer_later v f S s k p z.0 z.1) (λ r i. one_next v S s k p on r z.0 i z.1) looks) n h
+    in_bound v c.requires.sound.graph s k c.args.steps.now c.onward.new.steps n (in_all v f s c.args.steps.now c.onward.new.steps z.0
+    (goes_on v f s c.args.steps.now c.walk.steps c.onward.new.steps p z.0 c.walk.invariant.counted (fewer_later v f S s k p z.0 z.1) (λ r i. one_next v S s k p on r z.0 i z.1) looks) n h)
 
 pub walk-smaller : goal.walk-smaller
 walk-smaller g c =
@@ -122,8 +130,8 @@ returns-in_err-extend-clause-looks g c = λ n h.
     let on = meets_lies v S s k p (told v S s k p c.walk.invariant.walked.meets) in
     let next = subst (λ (w : Segment). IsNextOf v f w p c.in_ok-part.part there c.onward.new.search) c.walk.invariant.at.segment c.in_ok-part.ensures.next in
     let looks = subst (λ (w : Segment). (n : _) → ((q : Point) (a : _) → IsNextMeeting v w p q → IsSpotBetween v f w p q (Face a) → boundary_size v f a ≤ n) → c.onward.new.steps ≤ c.walk.steps + (stop_looks v w p + n)) c.walk.invariant.at.segment c.in_ok-part.ensures.looks in
-    in_all v f s c.args.steps.now c.onward.new.steps q
-    (goes_on v f s c.args.steps.now c.walk.steps c.onward.new.steps p q c.walk.invariant.counted (fewer_later v f S s k p q next.stretch.stretch.next) (λ r i. one_next v S s k p on r q i next.stretch.stretch.next) looks) n h
+    in_bound v c.requires.sound.graph s k c.args.steps.now c.onward.new.steps n (in_all v f s c.args.steps.now c.onward.new.steps q
+    (goes_on v f s c.args.steps.now c.walk.steps c.onward.new.steps p q c.walk.invariant.counted (fewer_later v f S s k p q next.stretch.stretch.next) (λ r i. one_next v S s k p on r q i next.stretch.stretch.next) looks) n h)
 
 pub returns-clause-zone : goal.returns-clause-zone
 returns-clause-zone g c =
@@ -138,4 +146,7 @@ returns-clause-zone g c =
 
 pub returns-clause-looks : goal.returns-clause-looks
 returns-clause-looks g c = λ n h.
-    in_all (g.T.NameCalls.graph c.args.sight.now) (g.T.NameCalls.faces c.args.sight.now) c.args.segment.now c.args.steps.now c.walk.steps c.walk.point c.walk.invariant.counted n h
+    let v = g.T.NameCalls.graph c.args.sight.now in
+    let s : Segment = c.args.segment.now in
+    in_bound v c.requires.sound.graph s (course s c.lower-point.ensures.ends) c.args.steps.now c.walk.steps n
+    (in_all v (g.T.NameCalls.faces c.args.sight.now) s c.args.steps.now c.walk.steps c.walk.point c.walk.invariant.counted n h)
