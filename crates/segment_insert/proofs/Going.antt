@@ -17,6 +17,7 @@ use Rattle.slab_laws.specs.declared.names.VertexId.{VertexId}
 use Rattle.slab_laws.specs.View.{View, HasVertex, point_in}
 use Rattle.arr_notes.specs.Curves.{Curves}
 use Rattle.dcel_records.specs.declared.spot.Met.TheVariants.{Vertex}
+use Rattle.dcel_records.specs.Spots.{met_of}
 use Rattle.arr_notes.specs.MapView.{MapView}
 use Rattle.arr_notes.specs.RecordGraph.{drawn_graph}
 use Rattle.observer_bus.specs.Rounds.{BusRow}
@@ -48,8 +49,8 @@ pub record AreNext (ms : List Meeting) (k j : ℕ) (u w : VertexId) : Type 0 whe
   pub below : j < length ms
   pub at_first : first ≡ get_or ms k first
   pub at_second : second ≡ get_or ms j second
-  pub is_first : first.met ≡ Vertex u
-  pub is_second : second.met ≡ Vertex w
+  pub is_first : (met_of first.spot) ≡ Vertex u
+  pub is_second : (met_of second.spot) ≡ Vertex w
 
 module _ (v : View) (s : Segment) (ms : List Meeting) (met : AreMet v s ms) where
   abbrev l : Line
@@ -61,7 +62,7 @@ module _ (v : View) (s : Segment) (ms : List Meeting) (met : AreMet v s ms) wher
     at : point_in v u ≡ p
     on_segment : is_on_segment s p ≡ true
 
-  vertex_at : (m : Meeting) (u : VertexId) → Contains ms m → m.met ≡ Vertex u → IsAt u m.point
+  vertex_at : (m : Meeting) (u : VertexId) → Contains ms m → (met_of m.spot) ≡ Vertex u → IsAt u m.point
   vertex_at m u k e =
       let n = met.named.named m k in
       let q : n.0 ≡ u = let f = n.1 in cc in
@@ -78,7 +79,7 @@ module _ (v : View) (s : Segment) (ms : List Meeting) (met : AreMet v s ms) wher
       and_in (zero_in _ o) (and_in (le_in (le_lt (le_lt_lt (le_out s.lower p kp.0) a))) (le_in (le_lt (lt_le_lt b (le_out q s.upper kq.1)))))
 
   -- the meeting at a place is at a vertex
-  pub vertex_here : (k : ℕ) (m : Meeting) → k < length ms → m ≡ get_or ms k m → is_vertex m.met ≡ true
+  pub vertex_here : (k : ℕ) (m : Meeting) → k < length ms → m ≡ get_or ms k m → is_vertex (met_of m.spot) ≡ true
   vertex_here k m h e = ap is_vertex (met.named.named m (k, h, sym e)).1
 
   module _ (k j : ℕ) (u w : VertexId) (n : AreNext ms k j u w) where

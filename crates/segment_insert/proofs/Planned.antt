@@ -18,7 +18,6 @@ use Rattle.edit_steps.specs.Steps.{Step, with_piece, more_step}
 use Rattle.edit_steps.proofs.Laws.{keeps_fit}
 use Rattle.edit_steps.proofs.Layers.{layers_lawful}
 use Rattle.slab_laws.specs.View.{View, Faces}
-use Rattle.dcel_records.specs.declared.spot.Met.{Met}
 use Rattle.dcel_records.specs.declared.spot.Spot.{Spot}
 use Rattle.face_location.specs.Spots.{IsSpotOf}
 use Rattle.arr_notes.specs.Curves.{Curves}
@@ -31,7 +30,7 @@ use Rattle.told_steps.proofs.ToldTogether.{told_runs_lawful}
 use Rattle.told_steps.specs.ToldRuns.{IsToldRun}
 use Rattle.zone_walk.specs.declared.plan.Meeting.{Meeting}
 use Rattle.zone_walk.specs.declared.plan.ZonePlan.{ZonePlan}
-use Rattle.zone_walk.specs.Zone.{IsZoneOf, AreMetBetween, is_on_segment, meeting_points, splits_needed, points_of_meetings}
+use Rattle.zone_walk.specs.Zone.{IsZoneOf, AreSpotsBetween, is_on_segment, meeting_points, splits_needed, points_of_meetings}
 use Rattle.zone_walk.proofs.Courses.{course}
 use Rattle.segment_insert.specs.Insertion.{AreMeetings, AreAllOn, AreClear, IsStart}
 use Rattle.told_steps.proofs.Layers.{steps_make_layers}
@@ -44,12 +43,12 @@ abbrev pub edges_then : View → Curves → ℕ → List Point → List Step
 edges_then w d c ps = map (more_step (drawn_graph w d)) (chain c ps)
 
 -- there is one more point than open parts
-parts_fewer : (v : View) (s : Segment) (ps : List Point) (parts : List Met) → AreMetBetween v s ps parts → length ps ≡ length parts + 1
-parts_fewer v s [] parts b = absurd b
-parts_fewer v s (p ∷ []) [] b = omega arith
-parts_fewer v s (p ∷ []) (x ∷ parts) b = absurd b
-parts_fewer v s (p ∷ q ∷ ps) [] b = absurd b
-parts_fewer v s (p ∷ q ∷ ps) (x ∷ parts) b = let k = parts_fewer v s (q ∷ ps) parts b.1 in omega arith
+parts_fewer : (v : View) (f : Faces) (s : Segment) (ps : List Point) (parts : List Spot) → AreSpotsBetween v f s ps parts → length ps ≡ length parts + 1
+parts_fewer v f s [] parts b = absurd b
+parts_fewer v f s (p ∷ []) [] b = omega arith
+parts_fewer v f s (p ∷ []) (x ∷ parts) b = absurd b
+parts_fewer v f s (p ∷ q ∷ ps) [] b = absurd b
+parts_fewer v f s (p ∷ q ∷ ps) (x ∷ parts) b = let k = parts_fewer v f s (q ∷ ps) parts b.1 in omega arith
 
 same_length : (ms ns : List Meeting) → points_of_meetings ns ≡ points_of_meetings ms → length ns ≡ length ms
 same_length ms ns e = sym (length-map ns (λ (m : Meeting). m.point)) ∙ ap length e ∙ length-map ms (λ (m : Meeting). m.point)
@@ -69,7 +68,7 @@ told_of_plan v b old w d now e m = subst (λ ms. IsToldRun v b old (steps_at v.g
 pub record IsPlanned (v : MapView) (past : Past) (g : Segment) (plan : ZonePlan) (c : ℕ) : Type 0 where
   pub layer : IsLayer v.graph past
   pub ends : AreEnds g
-  pub zone : IsZoneOf v.graph g plan
+  pub zone : IsZoneOf v.graph v.faces g plan
   pub number : c ≡ past.next
 
 -- the meetings are vertices now; b are the history's curves before that
@@ -101,20 +100,20 @@ module _ {v : MapView} {past : Past} {g : Segment} {plan : ZonePlan} {c : ℕ} (
   pub meetings : AreMeetings v.graph ms
   meetings = record {
     ascend = subst (IsAscending point_cmp) (sym planned.zone.points) (points_ascend v.graph (curves_on past) planned.layer.sound planned.layer.curves p g c planned.layer.stands fit);
-    met = planned.zone.met;
+    met = λ m k. (planned.zone.spots m k).met;
   }
 
   pub on_here : (m : Meeting) → Contains ms m → is_on_segment g m.point ≡ true
   on_here m k = zone_on v.graph planned.layer.sound g (course g planned.ends) ms planned.zone.points m (to_member ms m k)
 
   pub clear_here : AreClear v.graph g ms
-  clear_here = zone_clear v.graph planned.layer.sound g (course g planned.ends) ms planned.zone.points (λ m i. planned.zone.met m (from_member ms m i))
+  clear_here = zone_clear v.graph planned.layer.sound g (course g planned.ends) ms planned.zone.points (λ m i. (planned.zone.spots m (from_member ms m i)).met)
 
   pub start_here : (f : Faces) (start : Spot) → IsSpotOf v.graph f g.lower start → IsStart v.graph f start ms
   start_here f start k = zone_start v.graph planned.layer.sound g (course g planned.ends) f start ms planned.zone.points k
 
   one_more : length ms ≡ length plan.between + 1
-  one_more = sym (length-map ms (λ (m : Meeting). m.point)) ∙ ap length planned.zone.points ∙ parts_fewer v.graph g (meeting_points v.graph g) plan.between planned.zone.between
+  one_more = sym (length-map ms (λ (m : Meeting). m.point)) ∙ ap length planned.zone.points ∙ parts_fewer v.graph v.faces g (meeting_points v.graph g) plan.between planned.zone.between
 
   -- there are two darts for each open part
   pub room_left : (ns : List Meeting) (before left : ℕ) → points_of_meetings ns ≡ points_of_meetings ms → 2 * plan.room.edges ≤ before → before ≤ left + 2 * splits_needed ms → 2 * length ns ≤ left + 2

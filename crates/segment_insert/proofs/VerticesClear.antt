@@ -19,7 +19,7 @@ use Rattle.arr_notes.specs.MapView.{MapView}
 use Rattle.dcel_records.specs.declared.spot.Met.{Met}
 use Rattle.dcel_records.specs.declared.spot.Met.TheVariants.{Vertex, Edge, Nothing}
 use Rattle.dcel_records.specs.declared.spot.Spot.{Spot}
-use Rattle.dcel_records.specs.Spots.{IsMet}
+use Rattle.dcel_records.specs.Spots.{IsMet, met_of}
 use Rattle.face_location.specs.Spots.{IsSpotOf}
 use Rattle.observer_bus.specs.Rounds.{BusRow}
 use Rattle.zone_walk.specs.declared.plan.Meeting.{Meeting}
@@ -42,7 +42,7 @@ module _ (v : View) (s : IsGraphSound v) (g : Segment) (c : IsCourse g) where
     ascend : IsAscending point_cmp (p ∷ points_of_meetings ms)
     all : (r : Point) → Contains (meeting_points v g) r → Lt p r → Member r (points_of_meetings ms)
     meets : (m : Meeting) → Member m ms → Contains (meeting_points v g) m.point
-    met : (m : Meeting) → Member m ms → IsMet v m.point m.met
+    met : (m : Meeting) → Member m ms → IsMet v m.point (met_of m.spot)
 
   module _ (p : Point) (m : Meeting) (ms : List Meeting) (a : AreLeft p (m ∷ ms)) where
     before : Lt p m.point
@@ -84,7 +84,7 @@ module _ (v : View) (s : IsGraphSound v) (g : Segment) (c : IsCourse g) where
     ascending : IsAscending point_cmp (points_of_meetings ms)
     ascending = subst (IsAscending point_cmp) (sym points) (meetings_ascend v g)
 
-  pub zone_clear : (ms : List Meeting) → points_of_meetings ms ≡ meeting_points v g → ((m : Meeting) → Member m ms → IsMet v m.point m.met) → AreClear v g ms
+  pub zone_clear : (ms : List Meeting) → points_of_meetings ms ≡ meeting_points v g → ((m : Meeting) → Member m ms → IsMet v m.point (met_of m.spot)) → AreClear v g ms
   zone_clear [] e met = tt
   zone_clear (m ∷ ms) e met = clear_left m.point ms (record {
     here = meets_lies v s g c m.point (told v s g c m.point (there (m ∷ ms) e m (inl refl)));
@@ -118,7 +118,7 @@ pub record IsFollowed (v : View) (g : Segment) (u : VertexId) (ms : List Meeting
 
 -- the next meeting, where it meets nothing, lies ahead
 module _ (v : View) (h : Curves) (g : Segment) (u : VertexId) (m : Meeting) (ms : List Meeting) (f : IsFollowed v g u (m ∷ ms)) where
-  pub next_ahead : IsProperLine (line_of_segment g) → IsProper m.point → IsMetStill v h m.point m.met → m.met ≡ Nothing → IsClearAhead v (line_of_segment g) u m.point
+  pub next_ahead : IsProperLine (line_of_segment g) → IsProper m.point → IsMetStill v h m.point (met_of m.spot) → (met_of m.spot) ≡ Nothing → IsClearAhead v (line_of_segment g) u m.point
   next_ahead line proper still e =
       let a = lies_out g (point_in v u) f.on in
       let b = lies_out g m.point (f.rest_on m (inl refl)) in

@@ -17,7 +17,8 @@ use Rattle.slab_laws.specs.View.{View}
 use Rattle.arr_notes.specs.Curves.{Curves, AreCurvesOf}
 use Rattle.dcel_records.specs.declared.spot.Met.{Met}
 use Rattle.dcel_records.specs.declared.spot.Met.TheVariants.{Vertex, Edge, Nothing}
-use Rattle.dcel_records.specs.Spots.{IsMet}
+use Rattle.dcel_records.specs.Spots.{IsMet, met_of}
+use Rattle.dcel_records.specs.declared.spot.Spot.TheVariants as spot
 use Rattle.arr_notes.specs.MapView.{MapView}
 use Rattle.arr_notes.specs.RecordGraph.{drawn_graph}
 use Rattle.observer_bus.specs.Rounds.{BusRow}
@@ -39,7 +40,7 @@ pub record IsComing (v : View) (h : Curves) (ms : List Meeting) : Type 0 where
   pub sound : IsGraphSound v
   pub curves : AreCurvesOf v h
   pub ascend : IsAscending point_cmp (points_of_meetings ms)
-  pub met : (m : Meeting) → Member m ms → IsMetStill v h m.point m.met
+  pub met : (m : Meeting) → Member m ms → IsMetStill v h m.point (met_of m.spot)
   pub plane : AreSound (steps_at v h (points_of_meetings ms)) (drawn_graph v h)
 
 -- a spot that is right says where the point lies
@@ -50,7 +51,7 @@ met_still v h p Nothing k = k
 
 -- all are to come before the first
 all_coming : (v : View) (h : Curves) (ms : List Meeting) → IsGraphSound v → AreCurvesOf v h → AreMeetings v ms → AreSound (steps_at v h (points_of_meetings ms)) (drawn_graph v h) → IsComing v h ms
-all_coming v h ms s a k y = record { sound = s; curves = a; ascend = k.ascend; met = λ m n. met_still v h m.point m.met (k.met m (from_member ms m n)); plane = y }
+all_coming v h ms s a k y = record { sound = s; curves = a; ascend = k.ascend; met = λ m n. met_still v h m.point (met_of m.spot) (k.met m (from_member ms m n)); plane = y }
 
 -- a point with a spot is a point of the plane: it is a vertex, or its step is sound
 pub proper_by_met : (v : View) (h : Curves) (ps : List Point) (p : Point) (s : Met) → IsGraphSound v → AreSound (steps_at v h ps) (drawn_graph v h) → Member p ps → IsMetStill v h p s → IsProper p
@@ -62,7 +63,7 @@ proper_by_met v h ps p Nothing s y m k = proper_by_steps p _ (drawn_graph v h) y
 
 -- ---- the next one
 module _ (v : MapView) (h : Curves) (m : Meeting) (ms : List Meeting) (c : IsComing v.graph h (m ∷ ms)) where
-  pub next_met : IsMetStill v.graph h m.point m.met
+  pub next_met : IsMetStill v.graph h m.point (met_of m.spot)
   next_met = c.met m (inl refl)
 
   pub next_sound : AreSound (steps_at v.graph h (m.point ∷ [])) (drawn_graph v.graph h)
@@ -72,11 +73,11 @@ module _ (v : MapView) (h : Curves) (m : Meeting) (ms : List Meeting) (c : IsCom
     after : IsTurn v.graph h m.point (points_of_meetings ms) w.graph k
     after = turn v.graph h c.sound c.curves m.point (points_of_meetings ms) c.ascend.0 w.graph k (told_runs_lawful.steps v h b (steps_at v.graph h (m.point ∷ [])) w k d y.told)
 
-    met_after : (n : Meeting) → Member n ms → IsMetStill w.graph k n.point n.met
+    met_after : (n : Meeting) → Member n ms → IsMetStill w.graph k n.point (met_of n.spot)
     met_after n i =
         let j : Member n.point (points_of_meetings ms) = in_map (λ o. o.point) n ms i in
         let l : point_cmp m.point n.point ≡ Less = All-member (λ q. point_cmp m.point q ≡ Less) n.point (points_of_meetings ms) c.ascend.0 j in
-        y.later n.point n.met (proper_by_met v.graph h (points_of_meetings (m ∷ ms)) n.point n.met c.sound c.plane (inr j) (c.met n (inr i))) (ap is_lt l) (c.met n (inr i))
+        y.later n.point (met_of n.spot) (proper_by_met v.graph h (points_of_meetings (m ∷ ms)) n.point (met_of n.spot) c.sound c.plane (inr j) (c.met n (inr i))) (ap is_lt l) (c.met n (inr i))
 
     pub rest_coming : IsComing w.graph k ms
     rest_coming = record { sound = after.sound; curves = after.curves; ascend = c.ascend.1; met = met_after; plane = after.plane c.plane }
@@ -92,9 +93,9 @@ module _ (v : MapView) (h : Curves) (m : Meeting) (ms : List Meeting) (c : IsCom
     pairs_still (Edge d) p z = ap length (y.curves d (leads_forward v.graph p z.0 d z.1).0)
     pairs_still Nothing p z = refl
 
-    same_pairs : (ns : List Meeting) → ((n : Meeting) → Member n ns → IsMetStill v.graph h n.point n.met) → pairs_to_part k ns ≡ pairs_to_part h ns
+    same_pairs : (ns : List Meeting) → ((n : Meeting) → Member n ns → IsMetStill v.graph h n.point (met_of n.spot)) → pairs_to_part k ns ≡ pairs_to_part h ns
     same_pairs [] f = refl
-    same_pairs (n ∷ ns) f = ap₂ (λ a b. a + b) (pairs_still n.met n.point (f n (inl refl))) (same_pairs ns (λ o i. f o (inr i)))
+    same_pairs (n ∷ ns) f = ap₂ (λ a b. a + b) (pairs_still (met_of n.spot) n.point (f n (inl refl))) (same_pairs ns (λ o i. f o (inr i)))
 
     pub rest_pairs : pairs_to_part k ms ≡ pairs_to_part h ms
     rest_pairs = same_pairs ms (λ n i. c.met n (inr i))
@@ -105,7 +106,7 @@ pub record AreNamed (v : View) (ms : List Meeting) : Type 0 where
 
 -- the meeting is told its vertex
 abbrev pub told_at : Meeting → VertexId → Meeting
-told_at m x = record { point = m.point; met = Vertex x }
+told_at m x = record { point = m.point; spot = spot.Vertex x }
 
 named_more : {v : MapView} {h : Curves} {b : BusRow} (w : MapView) {k : Curves} {c : BusRow} (m : Meeting) (x : VertexId) (ms : List Meeting) → AreNamed v.graph ms → IsMadeAt v h b w k c m x → AreNamed w.graph (ms ++ told_at m x ∷ [])
 named_more w m x ms a y = record {
@@ -121,12 +122,12 @@ named_more w m x ms a y = record {
 -- ---- what the first of some meetings needs
 pub vertices_first : (m : Meeting) (ms : List Meeting) → vertices_needed (m ∷ ms) ≡ vertices_needed (m ∷ []) + vertices_needed ms
 vertices_first m ms =
-    let f : Meeting → ℕ = λ n. cond (not (is_vertex n.met)) 1 0 in
+    let f : Meeting → ℕ = λ n. cond (not (is_vertex (met_of n.spot))) 1 0 in
     omega (arith, sum_by-cons f m ms, sum_by-cons f m [])
 
 pub darts_first : (m : Meeting) (ms : List Meeting) → 2 * splits_needed (m ∷ ms) ≡ 2 * splits_needed (m ∷ []) + 2 * splits_needed ms
 darts_first m ms =
-    let f : Meeting → ℕ = λ n. cond (is_edge n.met) 1 0 in
+    let f : Meeting → ℕ = λ n. cond (is_edge (met_of n.spot)) 1 0 in
     omega (arith, sum_by-cons f m ms, sum_by-cons f m [])
 
 -- ---- a list and its next element
@@ -167,7 +168,7 @@ module _ (v : MapView) (h : Curves) {b : BusRow} (ms : List Meeting) (w : MapVie
     now_coming : IsComing w.graph k (m ∷ drop (i + 1) ms)
     now_coming = subst (IsComing w.graph k) next_first c.coming
 
-    pub spot_now : IsMetStill w.graph k m.point m.met
+    pub spot_now : IsMetStill w.graph k m.point (met_of m.spot)
     spot_now = next_met w k m (drop (i + 1) ms) now_coming
 
     pub sound_now : AreSound (steps_at w.graph k (m.point ∷ [])) (drawn_graph w.graph k)

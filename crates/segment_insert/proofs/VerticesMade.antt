@@ -24,7 +24,7 @@ use Rattle.arr_notes.specs.Curves.{Curves, AreCurvesOf, step_curves}
 use Rattle.arr_notes.specs.Step.{split_edge, step}
 use Rattle.dcel_records.specs.declared.spot.Met.{Met}
 use Rattle.dcel_records.specs.declared.spot.Met.TheVariants.{Vertex, Edge, Nothing}
-use Rattle.dcel_records.specs.Spots.{IsMet, IsInFace}
+use Rattle.dcel_records.specs.Spots.{IsMet, IsInFace, met_of}
 use Rattle.edge_split_merge.specs.Splits.{CanSplit}
 use Rattle.arr_notes.specs.MapView.{MapView}
 use Rattle.arr_notes.specs.RecordGraph.{drawn_graph}
@@ -192,16 +192,16 @@ pairs_now v h p (Vertex w) now s proper y k = ap (pairs_at h) k.0
 pairs_now v h p (Edge d) now s proper y k = ap (pairs_at h) k.1 ∙ ap length (ap h (leads_once v p s proper k.0 y.0 d k.2 y.1) ∙ y.2)
 pairs_now v h p Nothing now s proper y k = ap (pairs_at h) k.0
 
-module _ (v : View) (m : Meeting) (now : Met) (k : IsMetNow v m.point m.met now) where
+module _ (v : View) (m : Meeting) (now : Met) (k : IsMetNow v m.point (met_of m.spot) now) where
   pub vertices_there : vertices_at now ≡ vertices_needed (m ∷ [])
   vertices_there =
-      let f : Meeting → ℕ = λ n. cond (not (is_vertex n.met)) 1 0 in
-      omega (arith, sum_by-cons f m [], vertices_now v m.point m.met now k)
+      let f : Meeting → ℕ = λ n. cond (not (is_vertex (met_of n.spot))) 1 0 in
+      omega (arith, sum_by-cons f m [], vertices_now v m.point (met_of m.spot) now k)
 
   pub darts_there : darts_at now ≡ 2 * splits_needed (m ∷ [])
   darts_there =
-      let f : Meeting → ℕ = λ n. cond (is_edge n.met) 1 0 in
-      omega (arith, sum_by-cons f m [], darts_now v m.point m.met now k)
+      let f : Meeting → ℕ = λ n. cond (is_edge (met_of n.spot)) 1 0 in
+      omega (arith, sum_by-cons f m [], darts_now v m.point (met_of m.spot) now k)
 
 -- ---- the vertex is made there
 module _ (v : MapView) (h : Curves) (s : IsGraphSound v.graph) (a : AreCurvesOf v.graph h) (m : Meeting) (y : AreSound (steps_at v.graph h (m.point ∷ [])) (drawn_graph v.graph h)) where

@@ -13,7 +13,7 @@ use Rattle.told_steps.specs.LayerEdits.{layer_at}
 use Rattle.dcel_records.specs.RecordsView.{RecordsView}
 use Rattle.dcel_records.specs.declared.spot.Met.TheVariants.{Vertex, Nothing}
 use Rattle.dcel_records.specs.declared.spot.Spot.{Spot}
-use Rattle.dcel_records.specs.Spots.{IsMet}
+use Rattle.dcel_records.specs.Spots.{IsMet, met_of}
 use Rattle.face_location.specs.Spots.{IsSpotOf}
 use Rattle.told_steps.specs.VertexMade.{pairs_at}
 use Rattle.zone_walk.specs.declared.plan.Meeting.{Meeting}
@@ -35,7 +35,7 @@ refusal_at curves pieces r p = insertion_refusal curves pieces LAST_CURVE (layer
 -- the meetings ascend, each with what it meets (this project)
 pub record AreMeetings (v : View) (ms : List Meeting) : Type 0 where
   pub ascend : IsAscending point_cmp (points_of_meetings ms)
-  pub met : (m : Meeting) → Contains ms m → IsMet v m.point m.met
+  pub met : (m : Meeting) → Contains ms m → IsMet v m.point (met_of m.spot)
 
 -- the first of the meetings lies at the spot (this project)
 abbrev pub IsStart : View → Faces → Spot → List Meeting → Type 0
@@ -45,7 +45,7 @@ IsStart v f start (m ∷ ms) = IsSpotOf v f m.point start
 -- from the point to the first of the meetings nothing lies on the segment where this meets nothing, and so from each to the next (this project)
 abbrev pub AreClearAfter : View → Segment → Point → List Meeting → Type 0
 AreClearAfter v s p [] = ⊤
-AreClearAfter v s p (m ∷ ms) = (m.met ≡ Nothing → IsMetBetween v s p m.point Nothing) × AreClearAfter v s m.point ms
+AreClearAfter v s p (m ∷ ms) = ((met_of m.spot) ≡ Nothing → IsMetBetween v s p m.point Nothing) × AreClearAfter v s m.point ms
 
 abbrev pub AreClear : View → Segment → List Meeting → Type 0
 AreClear v s [] = ⊤
@@ -53,7 +53,7 @@ AreClear v s (m ∷ ms) = AreClearAfter v s m.point ms
 
 -- each meeting is a vertex, told by its name (this project)
 abbrev pub IsNamedVertex : View → Meeting → Type 0
-IsNamedVertex v m = (w : _) × (m.met ≡ Vertex w) × HasVertex v w × (point_in v w ≡ m.point)
+IsNamedVertex v m = (w : _) × ((met_of m.spot) ≡ Vertex w) × HasVertex v w × (point_in v w ≡ m.point)
 
 pub record AreVertices (v : View) (ms : List Meeting) : Type 0 where
   pub ascend : IsAscending point_cmp (points_of_meetings ms)
@@ -66,7 +66,7 @@ AreAllOn v s ps = (w : _) → HasVertex v w → is_on_segment s (point_in v w) �
 -- how many pairs of an edge and a curve come with the splits: the curves of each edge that is split, on its new part
 abbrev pub pairs_to_part : Curves → List Meeting → ℕ
 pairs_to_part h [] = 0
-pairs_to_part h (m ∷ ms) = pairs_at h m.met + pairs_to_part h ms
+pairs_to_part h (m ∷ ms) = pairs_at h (met_of m.spot) + pairs_to_part h ms
 
 -- how many pairs of an edge and a curve come: the curves of each edge that is split, and the new one on each open part
 abbrev pub pairs_needed : Curves → List Meeting → ℕ

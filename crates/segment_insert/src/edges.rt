@@ -4,6 +4,7 @@ ghost use Rattle.slab_laws.specs.Sound.{IsGraphSound};
 ghost use Rattle.slab_laws.specs.View.{IsOutOf, target_in};
 ghost use Rattle.curve_history.specs.Past.{curves_on, SameLayer};
 ghost use Rattle.dcel_records.specs.declared.spot.Met.TheVariants.{Vertex};
+ghost use Rattle.dcel_records.specs.Spots.{met_of};
 ghost use Rattle.dcel_records.specs.SoundMaps.{IsMapAtRest, map_of};
 ghost use Rattle.observer_bus.specs.Rows.{bus_row};
 ghost use Rattle.told_steps.specs.ToldRuns.{AreInStep};
@@ -13,7 +14,7 @@ ghost use Rattle.segment_insert.specs.Insertion.{AreVertices, AreAllOn};
 ghost use Rattle.segment_insert.specs.StepsMade.{IsPlaceTo, MayBeAlong, ComesAlong, MayBeAlongAll, ComesAlongAll};
 
 use curve_history::History;
-use dcel_records::{Met, Records};
+use dcel_records::{Records, Spot};
 use exact_plane::{Direction, Line, Segment, line_of};
 use observer_bus::Bus;
 use rotation_order::{Place, place_at};
@@ -24,12 +25,12 @@ use zone_walk::Meeting;
 
 // The vertex that a meeting point is.
 fn vertex_of(meeting: &Meeting) -> VertexId
-    requires { is_vertex meeting.now.met ≡ true }
-    ensures { meeting.now.met ≡ Vertex result }
+    requires { is_vertex (met_of meeting.now.spot) ≡ true }
+    ensures { (met_of meeting.now.spot) ≡ Vertex result }
 {
-    match meeting.met {
-        Met::Vertex(vertex) => vertex,
-        Met::Edge(_) | Met::Nothing => unreachable!(),
+    match meeting.spot {
+        Spot::Vertex(vertex) => vertex,
+        Spot::Edge(_) | Spot::Face(_) => unreachable!(),
     }
 }
 

@@ -1,11 +1,9 @@
 ghost use Rattle.std.specs.Prelude.{◌≡◌, ◌≤◌, ◌<◌, ◌+◌, ◌^◌, length, option_and_then, IsOk, IfOk, OnOk, OnErr};
 ghost use Rattle.edit_steps.specs.Edits.{Insert, steps};
 ghost use Rattle.edit_steps.specs.Refusals.{IsAnswerFor};
-ghost use Rattle.slab_laws.specs.Sound.{IsGraphSound};
 ghost use Rattle.dcel_records.specs.RecordsView.{RecordsView, tables_of};
-ghost use Rattle.dcel_records.specs.Spots.{IsMet, met_of};
 ghost use Rattle.face_location.specs.Spots.{IsSpotOf};
-ghost use Rattle.dcel_records.specs.SoundMaps.{IsMapAtRest, map_of};
+ghost use Rattle.dcel_records.specs.SoundMaps.{IsMapAtRest, IsSoundMap, map_of};
 ghost use Rattle.curve_history.specs.Past.{curves_on, SameLayer, SameCurves};
 ghost use Rattle.curve_history.specs.declared.history.TheConstants.{LAST_CURVE};
 ghost use Rattle.told_steps.specs.RecordLayers.{IsLayer};
@@ -19,13 +17,15 @@ ghost use Rattle.told_steps.specs.LayerEdits.{IsAfter, layer_at};
 use crate::edges::make_edges;
 use crate::vertices::make_vertices;
 use curve_history::History;
-use dcel_records::{Met, Records, Spot};
+use dcel_records::{Records, Spot};
 use exact_plane::Segment;
 use no_memory::NoMemory;
 use observer_bus::Bus;
 use slab_laws::{CurveId, Piece};
 use std::alloc::Global;
+use std::sync::ledger::Ledger;
 use thiserror::Error;
+use work_steps::Steps;
 use zone_walk::{Meeting, ZonePlan, zone};
 
 /// Why a segment isn't inserted.
@@ -76,7 +76,7 @@ fn count_pairs(history: &History, meetings: &[Meeting]) -> Result<usize, NoMemor
 {
     let mut pairs = meetings.len();
     for meeting in meetings {
-        if let Met::Edge(dart) = meeting.met {
+        if let Spot::Edge(dart) = meeting.spot {
             match pairs.checked_add(history.count_on(dart)) {
                 Some(more) => pairs = more,
                 None => return Err(NoMemory),
@@ -105,16 +105,17 @@ fn make_room(records: &mut Records, history: &mut History, plan: &ZonePlan) -> R
 }
 
 // The plan of the insertion, and room for all that it makes; only the room changes.
-fn prepare(
+fn prepare<L: Ledger>(
     alloc: Global,
     records: &mut Records,
     history: &mut History,
     segment: &Segment,
     start: Spot,
+    steps: &mut Steps<L>,
 ) -> Result<ZonePlan, NoMemory>
-    requires sound { IsGraphSound records.old.graph }
-    requires start { IsMet records.old.graph segment.now.lower (met_of start) }
-    ensures zone { IfOk result (IsZoneOf records.old.graph segment.now) }
+    requires map { IsSoundMap records.old }
+    requires start { IsSpotOf records.old.graph (tables_of records.old) segment.now.lower start }
+    ensures zone { IfOk result (IsZoneOf records.old.graph (tables_of records.old) segment.now) }
     ensures room { IfOk result (λ z. HasRoomFor z (curves_on history.old) records.new history.new) }
     ensures graph { records.new.graph ≡ records.old.graph }
     ensures tables { tables_of records.new ≡ tables_of records.old }
@@ -122,7 +123,9 @@ fn prepare(
     ensures same_layer { SameLayer history.old history.new }
     ensures same_curves { SameCurves history.old history.new }
 {
-    let plan = zone(alloc, &*records, segment, start)?;
+    // Each face lists its own cycles and isolated vertices.
+    records.face_laws();
+    let plan = zone(alloc, &*records, segment, start, steps)?;
     make_room(records, history, &plan)?;
     Ok(plan)
 }
@@ -141,7 +144,7 @@ fn insert_by_plan(
     requires in_step { AreInStep (map_of records.old) (curves_on history.old)
         (bus_row Observer-dyn bus.old) }
     requires map { IsMapAtRest records.old }
-    requires zone { IsZoneOf records.old.graph segment.now plan }
+    requires zone { IsZoneOf records.old.graph (tables_of records.old) segment.now plan }
     requires start { IsSpotOf records.old.graph (tables_of records.old) segment.now.lower start }
     requires unspent { history.old.next ≤ LAST_CURVE }
     requires few { length history.old.pieces + 1 < 2 ^ 32 }
@@ -177,8 +180,9 @@ fn insert_by_plan(
 /// manual, `insert` and `Arr_observer`).
 ///
 /// `curves` and `pieces` are the limits of named curves and of pieces; `start` is the spot of the segment's lower end,
-/// with the name of the face where it is inside one. All memory of its own is taken before the first note.
-pub fn insert(
+/// with the name of the face where it is inside one; `steps` counts the looks of the zone. All memory of its own is taken before the
+/// first note.
+pub fn insert<L: Ledger>(
     alloc: Global,
     records: &mut Records,
     history: &mut History,
@@ -187,6 +191,7 @@ pub fn insert(
     pieces: u32,
     start: Spot,
     segment: &Segment,
+    steps: &mut Steps<L>,
 ) -> Result<CurveId, InsertError>
     requires layer { IsLayer records.old.graph history.old }
     requires map { IsMapAtRest records.old }
@@ -208,7 +213,7 @@ pub fn insert(
     if let Some(error) = refusal_of(&*history, curves, pieces) {
         return Err(error);
     }
-    let plan = prepare(alloc, records, history, segment, start)?;
+    let plan = prepare(alloc, records, history, segment, start, steps)?;
     bus.begin();
     Ok(insert_by_plan(alloc, records, history, bus, segment, start, plan))
 }

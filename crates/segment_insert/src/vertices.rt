@@ -18,7 +18,7 @@ ghost use Rattle.segment_insert.specs.Insertion.{AreClear, AreMeetings, AreVerti
 ghost use Rattle.segment_insert.specs.StepsMade.{new_pairs, MayBeVertices, BecomeVertices, BecomesVertex};
 
 use curve_history::History;
-use dcel_records::{Met, Records, Spot};
+use dcel_records::{Records, Spot};
 use exact_plane::{Direction, Line, Point, Segment, line_of};
 use face_location::face_ahead;
 use observer_bus::Bus;
@@ -61,15 +61,15 @@ fn place_ahead(records: &Records, line: &Line, before: VertexId, point: &Point) 
 fn spot_now(records: &Records, line: &Line, before: VertexId, meeting: &Meeting) -> Spot
     requires proper { IsProper meeting.now.point }
     requires map { IsSoundMap records.now }
-    requires met { (h : _) × IsMetStill records.now.graph h meeting.now.point meeting.now.met }
-    requires ahead { meeting.now.met ≡ Nothing → IsClearAhead records.now.graph line.now before meeting.now.point }
-    ensures met { IsMetNow records.now.graph meeting.now.point meeting.now.met (met_of result) }
+    requires met { (h : _) × IsMetStill records.now.graph h meeting.now.point (met_of meeting.now.spot) }
+    requires ahead { (met_of meeting.now.spot) ≡ Nothing → IsClearAhead records.now.graph line.now before meeting.now.point }
+    ensures met { IsMetNow records.now.graph meeting.now.point (met_of meeting.now.spot) (met_of result) }
     ensures face { IsFaceNamed records.now.graph (tables_of records.now) meeting.now.point result }
 {
-    match meeting.met {
-        Met::Vertex(v) => Spot::Vertex(v),
-        Met::Edge(dart) => Spot::Edge(part_at(records, dart, meeting.point)),
-        Met::Nothing => {
+    match meeting.spot {
+        Spot::Vertex(v) => Spot::Vertex(v),
+        Spot::Edge(dart) => Spot::Edge(part_at(records, dart, meeting.point)),
+        Spot::Face(_) => {
             let place = place_ahead(records, line, before, &meeting.point);
             Spot::Face(face_ahead(records, before, place))
         }
@@ -88,13 +88,13 @@ fn vertex_of(
     requires in_step { AreInStep (map_of records.old) (curves_on history.old)
         (bus_row Observer-dyn bus.old) }
     requires map { IsMapAtRest records.old }
-    requires met { IsMetStill records.old.graph (curves_on history.old) meeting.point meeting.met }
-    requires now { IsMetNow records.old.graph meeting.point meeting.met (met_of at) }
+    requires met { IsMetStill records.old.graph (curves_on history.old) meeting.point (met_of meeting.spot) }
+    requires now { IsMetNow records.old.graph meeting.point (met_of meeting.spot) (met_of at) }
     requires face { IsFaceNamed records.old.graph (tables_of records.old) meeting.point at }
     requires plane { MayBeVertices records.old.graph history.old (meeting ∷ []) }
     requires vertices { vertices_needed (meeting ∷ []) ≤ records.old.spare_vertices }
     requires darts { 2 * splits_needed (meeting ∷ []) ≤ records.old.spare_darts }
-    requires pairs { pairs_at (curves_on history.old) meeting.met ≤ history.old.spare_pairs }
+    requires pairs { pairs_at (curves_on history.old) (met_of meeting.spot) ≤ history.old.spare_pairs }
     ensures told { BecomesVertex (map_of records.old) history.old (bus_row Observer-dyn bus.old) meeting
         (map_of records.new) history.new (bus_row Observer-dyn bus.new) result }
     ensures in_step { AreInStep (map_of records.new) (curves_on history.new)
@@ -104,7 +104,7 @@ fn vertex_of(
     ensures vertices { records.old.spare_vertices ≤ records.new.spare_vertices + vertices_needed (meeting ∷ []) }
     ensures darts { records.old.spare_darts ≤ records.new.spare_darts + 2 * splits_needed (meeting ∷ []) }
     ensures spare_faces { IsSpareFaces records.old.faces records.new.faces 0 0 }
-    ensures pairs { history.old.spare_pairs ≤ history.new.spare_pairs + pairs_at (curves_on history.old) meeting.met }
+    ensures pairs { history.old.spare_pairs ≤ history.new.spare_pairs + pairs_at (curves_on history.old) (met_of meeting.spot) }
 {
     make_vertex(alloc, records, history, bus, at, meeting.point)
 }
@@ -146,11 +146,11 @@ pub(crate) fn make_vertices(
 {
     let line = line_of(segment);
     let mut before = vertex_of(alloc, records, history, bus, start, meetings[0]);
-    meetings[0].met = Met::Vertex(before);
+    meetings[0].spot = Spot::Vertex(before);
     for i in 1..meetings.len() {
         let meeting = meetings[i];
         let at = spot_now(&*records, &line, before, &meeting);
         before = vertex_of(alloc, records, history, bus, at, meeting);
-        meetings[i].met = Met::Vertex(before);
+        meetings[i].spot = Spot::Vertex(before);
     }
 }

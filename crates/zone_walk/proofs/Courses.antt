@@ -71,7 +71,7 @@ pub parallel_itself : (l m : Line) → l ≡ m → are_parallel l m ≡ true
 parallel_itself l m e = ap (λ (n : Line). are_parallel l n) (sym e) ∙ eq_in (l.a *ℤ l.b) (l.a *ℤ l.b) refl
 
 -- ---- what a test of two lines tells
-line-itself : (l m : Line) → l ≡ m → int_eq l.a m.a && (int_eq l.b m.b && int_eq l.c m.c) ≡ true
+pub line-itself : (l m : Line) → l ≡ m → int_eq l.a m.a && (int_eq l.b m.b && int_eq l.c m.c) ≡ true
 line-itself l m e = and_in (eq_in l.a m.a (ap (λ (n : Line). n.a) e)) (and_in (eq_in l.b m.b (ap (λ (n : Line). n.b) e)) (eq_in l.c m.c (ap (λ (n : Line). n.c) e)))
 
 module _ (l m n : Line) (b : Bool) (read : l ≡ n) (is : b ≡ (int_eq l.a m.a && (int_eq l.b m.b && int_eq l.c m.c))) where

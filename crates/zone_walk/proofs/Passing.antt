@@ -31,10 +31,10 @@ use Rattle.zone_walk.proofs.LineCrossings.{crossing_proper, is_crossing}
 use Rattle.zone_walk.proofs.MeetingPoints.{IsPassed, passes_one, passes_none, on_by}
 
 -- ---- orders
-at_most_never : (p q : Point) → IsAtMost p q → Lt q p → ⊥
+pub at_most_never : (p q : Point) → IsAtMost p q → Lt q p → ⊥
 at_most_never p q h l = lt_never (subst (λ (x : Point). Lt q x) (at_most_both p q h (less_at_most q p l.is)) l)
 
-at_most_in : (p q : Point) → (Lt q p → ⊥) → IsAtMost p q
+pub at_most_in : (p q : Point) → (Lt q p → ⊥) → IsAtMost p q
 at_most_in p q f = step (tri p q)
   where
     step : Tri p q → IsAtMost p q
@@ -101,7 +101,7 @@ module _ (v : View) (d : DartId) (whole span : Span) (all : IsWhole whole) (is_s
   crosses_too : are_parallel (line_of_segment s) (line_in v d) ≡ are_parallel whole.line span.line
   crosses_too = λ i. are_parallel (sym all.line i) (sym line i)
 
-  passed_lies : (p : Point) → IsPassed v s d p → IsPoint p × LiesOn whole p × LiesOn span p
+  pub passed_lies : (p : Point) → IsPassed v s d p → IsPoint p × LiesOn whole p × LiesOn span p
   passed_lies p h =
       let c : are_parallel whole.line span.line ≡ false = sym crosses_too ∙ h.crosses in
       let proper : IsProper p = subst IsProper (sym h.crossing) (crossing_proper (line_of_segment s) (line_in v d) h.crosses) in

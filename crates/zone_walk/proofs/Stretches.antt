@@ -179,7 +179,7 @@ module _ (v : View) (s : IsGraphSound v) where
             }
 
       -- ---- whatever lies ahead
-      one_next : (q r : Point) → IsNextMeeting v g p q → IsNextMeeting v g p r → q ≡ r
+      pub one_next : (q r : Point) → IsNextMeeting v g p q → IsNextMeeting v g p r → q ≡ r
       one_next q r h k = by (tri q r)
         where
           by : Tri q r → q ≡ r

@@ -1,8 +1,6 @@
 -- What the walk has when it stands at a meeting point, and the zone that it has at the upper end.
-use Rattle.std.specs.Prelude.{◌↔◌, IsSome}
-use Rattle.std.proofs.Common.{◌≡◌, ◌<◌, ◌≤◌, Option, None, Bool, true, false, not, List, [], ◌∷◌, ◌++◌, length, Contains, refl, sym, ap, ◌∙◌, subst, append_assoc, arith, inl, inr, ⊎_elim}
+use Rattle.std.proofs.Common.{◌≡◌, ◌≤◌, Bool, true, false, not, List, [], ◌∷◌, ◌++◌, length, Contains, refl, sym, ap, ◌∙◌, subst, append_assoc, arith, inl, inr, ⊎_elim}
 use Rattle.std.specs.List.{filter, AllByRecursion}
-use Rattle.std.specs.Map.{keys_of}
 use Rattle.std.proofs.lemmas.List.{append-nil, length-map}
 use Rattle.std.proofs.lemmas.List.Sums.{count_by-le-length}
 use Rattle.exact_plane.specs.Line.{Line, IsOn}
@@ -21,18 +19,18 @@ use Rattle.plane_graphs.proofs.Order.{Lt, lt_out, lt_in, lt_trans, lt_never, Tri
 use Rattle.plane_graphs.proofs.Order.Tri.{less, same, more}
 use Rattle.slab_laws.specs.declared.names.DartId.{DartId}
 use Rattle.slab_laws.specs.Sound.{IsGraphSound}
-use Rattle.slab_laws.specs.View.{View, point_in, source_in, target_in}
-use Rattle.dcel_records.specs.declared.spot.Met.{Met}
-use Rattle.dcel_records.specs.declared.spot.Met.TheVariants.{Vertex, Edge, Nothing}
-use Rattle.dcel_records.specs.Spots.{IsMet}
+use Rattle.slab_laws.specs.View.{View, Faces, point_in, source_in, target_in}
+use Rattle.dcel_records.specs.declared.spot.Spot.{Spot}
+use Rattle.dcel_records.specs.declared.spot.Spot.TheVariants.{Vertex, Edge, Face}
+use Rattle.dcel_records.specs.Spots.{met_of}
+use Rattle.face_location.specs.Spots.{IsSpotOf}
 use Rattle.zone_walk.specs.declared.plan.Meeting.{Meeting}
 use Rattle.zone_walk.specs.declared.plan.ZonePlan.{ZonePlan}
-use Rattle.zone_walk.specs.Found.{AreLaterMeetings}
-use Rattle.zone_walk.specs.Walk.{IsAhead, IsMetAhead, IsStretch}
-use Rattle.zone_walk.specs.Zone.{meeting_points, AreMetBetween, IsOverlapped, IsZoneOf, IsNextMeeting, is_vertex, is_edge, vertices_needed, edges_needed, darts_among, later_points, points_of_meetings}
+use Rattle.zone_walk.specs.Walk.{IsAhead, IsMetAhead, IsSpotStretch}
+use Rattle.zone_walk.specs.Zone.{meeting_points, AreSpotsBetween, IsOverlapped, IsZoneOf, IsNextMeeting, is_vertex, is_edge, vertices_needed, edges_needed, darts_among, later_points, points_of_meetings}
 use Rattle.zone_walk.proofs.Aheads.{at_most, one_ahead}
 use Rattle.zone_walk.proofs.Courses.{IsCourse, LiesOn, lies_in}
-use Rattle.zone_walk.proofs.MeetingPoints.{MeetsAt, lower, upper, vertex, meetings_ascend}
+use Rattle.zone_walk.proofs.MeetingPoints.{MeetsAt, lower, vertex, meetings_ascend}
 use Rattle.zone_walk.proofs.Stretches.{told, listed, meets_lies, meets_proper}
 
 -- ---- an ascending list, cut after an element
@@ -97,40 +95,30 @@ same_rest q r qs rs e = cc
 -- ---- the walk so far
 
 -- the one meeting point at which the walk begins
-abbrev pub alone : Point → Met → List Meeting
-alone p at = record { point = p; met = at } ∷ []
+abbrev pub alone : Point → Spot → List Meeting
+alone p at = record { point = p; spot = at } ∷ []
 
-pub record IsWalked (v : View) (g : Segment) (ms : List Meeting) (parts : List Met) (ds : List DartId) (here : Point) (at : Met) : Type 0 where
+pub record IsWalked (v : View) (f : Faces) (g : Segment) (ms : List Meeting) (parts : List Spot) (ds : List DartId) (here : Point) (at : Spot) : Type 0 where
   pub meets : Contains (meeting_points v g) here
-  pub here_met : IsMet v here at
+  pub here_spot : IsSpotOf v f here at
   pub points : points_of_meetings ms ++ later_points v g here ≡ meeting_points v g
-  pub all_met : (m : Meeting) → Member m ms → IsMet v m.point m.met
-  pub between : (qs : List Point) (rest : List Met) → AreMetBetween v g (here ∷ qs) rest → AreMetBetween v g (points_of_meetings ms ++ qs) (parts ++ rest)
+  pub all_spots : (m : Meeting) → Member m ms → IsSpotOf v f m.point m.spot
+  pub between : (qs : List Point) (rest : List Spot) → AreSpotsBetween v f g (here ∷ qs) rest → AreSpotsBetween v f g (points_of_meetings ms ++ qs) (parts ++ rest)
   pub darts : ds ≡ darts_among parts
   pub overlapped : (d : DartId) → Member d ds → IsOverlapped v g d
   pub all_overlapped : (d : DartId) → IsOverlapped v g d → Lt (point_in v (source_in v d)) here → Lt g.lower here → Member d ds
-
--- the meeting points that are left after one, in order, each with what it meets
-pub record AreLeft (v : View) (g : Segment) (here : Point) (es : List (Point × Met)) : Type 0 where
-  pub points : keys_of es ≡ later_points v g here
-  pub met : (p : Point) (met : Met) → Member (p, met) es → IsMet v p met
-
--- where a map gives no first entry, it has none
-pub no_entries : {X : Type 0} (r : Option (Point × X)) (es : List (Point × X)) → r ≡ None → (IsSome r ↔ (0 < length es)) → es ≡ []
-no_entries r [] e h = refl
-no_entries {X} r (x ∷ es) e h = let z : IsSome {T = Point × X} None = subst (λ (o : Option (Point × X)). IsSome o) e (h.1 (omega arith)) in absurd cc
 
 map_more : (ms : List Meeting) (m : Meeting) (qs : List Point) → points_of_meetings (ms ++ (m ∷ [])) ++ qs ≡ points_of_meetings ms ++ (m.point ∷ qs)
 map_more [] m qs = refl
 map_more (n ∷ ms) m qs = ap (λ (ps : List Point). n.point ∷ ps) (map_more ms m qs)
 
-darts_more : (parts : List Met) (met : Met) → darts_among (parts ++ (met ∷ [])) ≡ darts_among parts ++ darts_among (met ∷ [])
+darts_more : (parts : List Spot) (met : Spot) → darts_among (parts ++ (met ∷ [])) ≡ darts_among parts ++ darts_among (met ∷ [])
 darts_more [] met = refl
 darts_more (Edge d ∷ parts) met = ap (λ (ds : List DartId). d ∷ ds) (darts_more parts met)
 darts_more (Vertex w ∷ parts) met = darts_more parts met
-darts_more (Nothing ∷ parts) met = darts_more parts met
+darts_more (Face a ∷ parts) met = darts_more parts met
 
-module _ (v : View) (s : IsGraphSound v) (g : Segment) (c : IsCourse g) where
+module _ (v : View) (f : Faces) (s : IsGraphSound v) (g : Segment) (c : IsCourse g) where
   on_segment : (p : Point) → Contains (meeting_points v g) p → LiesOn g p
   on_segment p m = meets_lies v s g c p (told v s g c p m)
 
@@ -138,28 +126,28 @@ module _ (v : View) (s : IsGraphSound v) (g : Segment) (c : IsCourse g) where
   lower_meets = listed v s g c g.lower (lower refl)
 
   -- ---- at the lower end
-  pub begun : (at : Met) → IsMet v g.lower at → IsWalked v g (alone g.lower at) [] [] g.lower at
+  pub begun : (at : Spot) → IsSpotOf v f g.lower at → IsWalked v f g (alone g.lower at) [] [] g.lower at
   begun at h = record {
     meets = lower_meets;
-    here_met = h;
+    here_spot = h;
     points = first (meeting_points v g) (meetings_ascend v g) g.lower (to_member (meeting_points v g) g.lower lower_meets) (λ r m l. (on_segment r (from_member (meeting_points v g) r m)).from.never l);
-    all_met = only;
+    all_spots = only;
     between = λ qs rest k. k;
     darts = refl;
     overlapped = λ d m. absurd m;
     all_overlapped = λ d o l k. absurd (lt_never k);
   }
     where
-      only : (m : Meeting) → Member m (alone g.lower at) → IsMet v m.point m.met
-      only m (inl e) = subst (λ (n : Meeting). IsMet v n.point n.met) (sym e) h
+      only : (m : Meeting) → Member m (alone g.lower at) → IsSpotOf v f m.point m.spot
+      only m (inl e) = subst (λ (n : Meeting). IsSpotOf v f n.point n.spot) (sym e) h
       only m (inr k) = absurd k
 
-  pub starts : (at : Met) → IsMet v g.lower at → (p q : Point) → p ≡ g.lower → q ≡ g.lower → (ms : List Meeting) (parts : List Met) (ds : List DartId) → ms ≡ alone p at → parts ≡ [] → ds ≡ [] → IsWalked v g ms parts ds q at
+  pub starts : (at : Spot) → IsSpotOf v f g.lower at → (p q : Point) → p ≡ g.lower → q ≡ g.lower → (ms : List Meeting) (parts : List Spot) (ds : List DartId) → ms ≡ alone p at → parts ≡ [] → ds ≡ [] → IsWalked v f g ms parts ds q at
   starts at h p q ep eq ms parts ds em es ed =
-      subst (λ (x : Point). IsWalked v g ms parts ds x at) (sym eq)
-      (subst (λ (xs : List DartId). IsWalked v g ms parts xs g.lower at) (sym ed)
-      (subst (λ (xs : List Met). IsWalked v g ms xs [] g.lower at) (sym es)
-      (subst (λ (xs : List Meeting). IsWalked v g xs [] [] g.lower at) (sym (em ∙ ap (λ (x : Point). alone x at) ep)) (begun at h))))
+      subst (λ (x : Point). IsWalked v f g ms parts ds x at) (sym eq)
+      (subst (λ (xs : List DartId). IsWalked v f g ms parts xs g.lower at) (sym ed)
+      (subst (λ (xs : List Spot). IsWalked v f g ms xs [] g.lower at) (sym es)
+      (subst (λ (xs : List Meeting). IsWalked v f g xs [] [] g.lower at) (sym (em ∙ ap (λ (x : Point). alone x at) ep)) (begun at h))))
 
   -- ---- the next meeting point
   module _ (p q : Point) (rest : List Point) (e : q ∷ rest ≡ later_points v g p) where
@@ -183,7 +171,7 @@ module _ (v : View) (s : IsGraphSound v) (g : Segment) (c : IsCourse g) where
     pub rest_later : (rest : List Point) → q ∷ rest ≡ later_points v g p → rest ≡ later_points v g q
     rest_later rest e = same_rest q q rest (later_points v g q) (e ∙ fewer_later)
 
-  module _ (p q : Point) (met : Met) (here : MeetsAt v g p) (on : LiesOn g p) (before : Lt p g.upper) (k : IsStretch v g p met q) where
+  module _ (p q : Point) (met : Spot) (here : MeetsAt v g p) (on : LiesOn g p) (before : Lt p g.upper) (k : IsSpotStretch v f g p met q) where
     -- the lower end of an overlapped edge doesn't lie between
     begins_by : (d : DartId) → IsOverlapped v g d → Lt (point_in v (source_in v d)) q → (b : Bool) → precedes p (point_in v (source_in v d)) ≡ b → b ≡ false
     begins_by d o l false e = refl
@@ -191,27 +179,27 @@ module _ (v : View) (s : IsGraphSound v) (g : Segment) (c : IsCourse g) where
         let x = point_in v (source_in v d) in
         let on_line : IsOn (line_of_segment g) x = subst (λ (n : Line). IsOn n x) o.line (s.drawn.starts d o.forward.0) in
         let m = listed v s g c x (vertex (source_in v d) (s.linked.source d o.forward.0) refl (lies_in g x (record { on = on_line; from = le_lt (le_lt_lt on.from (lt_out p x e)); upto = le_lt (lt_out x g.upper o.begins) }))) in
-        clash (lt_in l) (k.next.none_between x m e)
+        clash (lt_in l) (k.stretch.next.none_between x m e)
 
     -- what goes on from p is the one edge that does
-    listed_there : (x : Met) → IsMetAhead v (line_of_segment g) p x → (d : DartId) → IsAhead v (line_of_segment g) p d → Member d (darts_among (x ∷ []))
+    listed_there : (x : Spot) → IsMetAhead v (line_of_segment g) p (met_of x) → (d : DartId) → IsAhead v (line_of_segment g) p d → Member d (darts_among (x ∷ []))
     listed_there (Vertex w) h d a = absurd h
-    listed_there Nothing h d a = absurd (h d a)
+    listed_there (Face b) h d a = absurd (h d a)
     listed_there (Edge e) h d a = inl (one_ahead v s (line_of_segment g) p (meets_proper v s g c p here) on.on d e a h)
 
     -- an overlapped edge that begins before q is there already, or it goes on from p
     there_by : (ds : List DartId) → ((d : DartId) → IsOverlapped v g d → Lt (point_in v (source_in v d)) p → Lt g.lower p → Member d ds)
         → (d : DartId) → IsOverlapped v g d → precedes p (point_in v (source_in v d)) ≡ false → (b : Bool) → precedes p (point_in v (target_in v d)) ≡ b → Member d (ds ++ darts_among (met ∷ []))
-    there_by ds had d o f true e = in_right d ds (darts_among (met ∷ [])) (listed_there met k.ahead d (record { forward = o.forward; line = o.line; begins = f; ends = e }))
+    there_by ds had d o f true e = in_right d ds (darts_among (met ∷ [])) (listed_there met k.stretch.ahead d (record { forward = o.forward; line = o.line; begins = f; ends = e }))
     there_by ds had d o f false e =
         let x = point_in v (target_in v d) in
         let u : Le x p = at_most x p e in
         in_left d ds (darts_among (met ∷ [])) (had d o (lt_le_lt (lt_out (point_in v (source_in v d)) x o.forward.1) u) (lt_le_lt (lt_out g.lower x o.ends) u))
 
     -- what goes on from p is overlapped
-    ahead_overlapped : (x : Met) → IsMetAhead v (line_of_segment g) p x → (d : DartId) → Member d (darts_among (x ∷ [])) → IsOverlapped v g d
+    ahead_overlapped : (x : Spot) → IsMetAhead v (line_of_segment g) p (met_of x) → (d : DartId) → Member d (darts_among (x ∷ [])) → IsOverlapped v g d
     ahead_overlapped (Vertex w) h d m = absurd h
-    ahead_overlapped Nothing h d m = absurd m
+    ahead_overlapped (Face b) h d m = absurd m
     ahead_overlapped (Edge e) h d (inr m) = absurd m
     ahead_overlapped (Edge e) h d (inl i) =
         subst (IsOverlapped v g) (sym i)
@@ -222,30 +210,30 @@ module _ (v : View) (s : IsGraphSound v) (g : Segment) (c : IsCourse g) where
           ends = lt_in (le_lt_lt on.from (lt_out p (point_in v (target_in v e)) h.ends));
         })
 
-  module _ (ms : List Meeting) (parts : List Met) (ds : List DartId) (p : Point) (at : Met) (w : IsWalked v g ms parts ds p at) (before : Lt p g.upper) (met : Met) (next : Meeting) (k : IsStretch v g p met next.point) (there : IsMet v next.point next.met) where
+  module _ (ms : List Meeting) (parts : List Spot) (ds : List DartId) (p : Point) (at : Spot) (w : IsWalked v f g ms parts ds p at) (before : Lt p g.upper) (met : Spot) (next : Meeting) (k : IsSpotStretch v f g p met next.point) (there : IsSpotOf v f next.point next.spot) where
     on : LiesOn g p
     on = on_segment p w.meets
 
     more_points : points_of_meetings (ms ++ (next ∷ [])) ++ later_points v g next.point ≡ meeting_points v g
-    more_points = map_more ms next (later_points v g next.point) ∙ ap (λ (ps : List Point). points_of_meetings ms ++ ps) (sym (fewer_later p next.point k.next)) ∙ w.points
+    more_points = map_more ms next (later_points v g next.point) ∙ ap (λ (ps : List Point). points_of_meetings ms ++ ps) (sym (fewer_later p next.point k.stretch.next)) ∙ w.points
 
-    more_met : (m : Meeting) → Member m (ms ++ (next ∷ [])) → IsMet v m.point m.met
-    more_met m n = ⊎_elim (λ a. w.all_met m a) (λ b. ⊎_elim (λ e. subst (λ (o : Meeting). IsMet v o.point o.met) (sym e) there) (λ z. absurd z) b) (in_either m ms (next ∷ []) n)
+    more_spots : (m : Meeting) → Member m (ms ++ (next ∷ [])) → IsSpotOf v f m.point m.spot
+    more_spots m n = ⊎_elim (λ a. w.all_spots m a) (λ b. ⊎_elim (λ e. subst (λ (o : Meeting). IsSpotOf v f o.point o.spot) (sym e) there) (λ z. absurd z) b) (in_either m ms (next ∷ []) n)
 
-    more_between : (qs : List Point) (rest : List Met) → AreMetBetween v g (next.point ∷ qs) rest → AreMetBetween v g (points_of_meetings (ms ++ (next ∷ [])) ++ qs) ((parts ++ (met ∷ [])) ++ rest)
+    more_between : (qs : List Point) (rest : List Spot) → AreSpotsBetween v f g (next.point ∷ qs) rest → AreSpotsBetween v f g (points_of_meetings (ms ++ (next ∷ [])) ++ qs) ((parts ++ (met ∷ [])) ++ rest)
     more_between qs rest h =
-        subst (λ (ps : List Point). AreMetBetween v g ps ((parts ++ (met ∷ [])) ++ rest)) (sym (map_more ms next qs))
-        (subst (AreMetBetween v g (points_of_meetings ms ++ (next.point ∷ qs))) (sym (append_assoc parts (met ∷ []) rest)) (w.between (next.point ∷ qs) (met ∷ rest) (k.between, h)))
+        subst (λ (ps : List Point). AreSpotsBetween v f g ps ((parts ++ (met ∷ [])) ++ rest)) (sym (map_more ms next qs))
+        (subst (AreSpotsBetween v f g (points_of_meetings ms ++ (next.point ∷ qs))) (sym (append_assoc parts (met ∷ []) rest)) (w.between (next.point ∷ qs) (met ∷ rest) (k.spots, h)))
 
     more_overlapped : (d : DartId) → Member d (ds ++ darts_among (met ∷ [])) → IsOverlapped v g d
-    more_overlapped d m = ⊎_elim (λ a. w.overlapped d a) (λ b. ahead_overlapped p next.point met (told v s g c p w.meets) on before k met k.ahead d b) (in_either d ds (darts_among (met ∷ [])) m)
+    more_overlapped d m = ⊎_elim (λ a. w.overlapped d a) (λ b. ahead_overlapped p next.point met (told v s g c p w.meets) on before k met k.stretch.ahead d b) (in_either d ds (darts_among (met ∷ [])) m)
 
-    pub walked_on : IsWalked v g (ms ++ (next ∷ [])) (parts ++ (met ∷ [])) (ds ++ darts_among (met ∷ [])) next.point next.met
+    pub walked_on : IsWalked v f g (ms ++ (next ∷ [])) (parts ++ (met ∷ [])) (ds ++ darts_among (met ∷ [])) next.point next.spot
     walked_on = record {
-      meets = k.next.meets;
-      here_met = there;
+      meets = k.stretch.next.meets;
+      here_spot = there;
       points = more_points;
-      all_met = more_met;
+      all_spots = more_spots;
       between = more_between;
       darts = ap (λ (es : List DartId). es ++ darts_among (met ∷ [])) w.darts ∙ sym (darts_more parts met);
       overlapped = more_overlapped;
@@ -259,47 +247,18 @@ module _ (v : View) (s : IsGraphSound v) (g : Segment) (c : IsCourse g) where
             by : (b : Bool) → precedes p (point_in v (source_in v d)) ≡ b → precedes p (point_in v (source_in v d)) ≡ false
             by b e = e ∙ begins_by p next.point met (told v s g c p w.meets) on before k d o l b e
 
-    pub continues : (grown : List Meeting) (grown_parts : List Met) (darts : List DartId) → grown ≡ ms ++ (next ∷ []) → grown_parts ≡ parts ++ (met ∷ []) → darts ≡ ds ++ darts_among (met ∷ []) → IsWalked v g grown grown_parts darts next.point next.met
+    pub continues : (grown : List Meeting) (grown_parts : List Spot) (darts : List DartId) → grown ≡ ms ++ (next ∷ []) → grown_parts ≡ parts ++ (met ∷ []) → darts ≡ ds ++ darts_among (met ∷ []) → IsWalked v f g grown grown_parts darts next.point next.spot
     continues grown grown_parts darts em es ed =
-        subst (λ (xs : List DartId). IsWalked v g grown grown_parts xs next.point next.met) (sym ed)
-        (subst (λ (xs : List Met). IsWalked v g grown xs (ds ++ darts_among (met ∷ [])) next.point next.met) (sym es)
-        (subst (λ (xs : List Meeting). IsWalked v g xs (parts ++ (met ∷ [])) (ds ++ darts_among (met ∷ [])) next.point next.met) (sym em) walked_on))
-
-  -- ---- the next of those that are left
-  module _ (p : Point) (next : Meeting) (es rest : List (Point × Met)) (is : es ≡ (next.point, next.met) ∷ rest) (left : AreLeft v g p es) where
-    first_left : next.point ∷ keys_of rest ≡ later_points v g p
-    first_left = sym (ap (λ (xs : List (Point × Met)). keys_of xs) is) ∙ left.points
-
-    pub left_next : IsNextMeeting v g p next.point
-    left_next = next_is p next.point (keys_of rest) first_left
-
-    pub left_met : IsMet v next.point next.met
-    left_met = left.met next.point next.met (subst (λ (xs : List (Point × Met)). Member (next.point, next.met) xs) (sym is) (inl refl))
-
-    pub still_left : AreLeft v g next.point rest
-    still_left = record {
-      points = rest_later p next.point left_next (keys_of rest) first_left;
-      met = λ q met m. left.met q met (subst (λ (xs : List (Point × Met)). Member (q, met) xs) (sym is) (inr m));
-    }
-
-    pub fewer_left : length rest < length es
-    fewer_left = let e = ap (λ (xs : List (Point × Met)). length xs) is in omega arith
-
-  pub begins_left : (p : Point) → p ≡ g.lower → (es : List (Point × Met)) → AreLaterMeetings v g es → AreLeft v g p es
-  begins_left p e es h = record { points = h.points ∙ ap (λ (q : Point). later_points v g q) (sym e); met = h.met }
+        subst (λ (xs : List DartId). IsWalked v f g grown grown_parts xs next.point next.spot) (sym ed)
+        (subst (λ (xs : List Spot). IsWalked v f g grown xs (ds ++ darts_among (met ∷ [])) next.point next.spot) (sym es)
+        (subst (λ (xs : List Meeting). IsWalked v f g xs (parts ++ (met ∷ [])) (ds ++ darts_among (met ∷ [])) next.point next.spot) (sym em) walked_on))
 
   -- ---- a meeting point with another one after it comes before the upper end
   pub before_upper : (p q : Point) → IsNextMeeting v g p q → Lt p g.upper
   before_upper p q n = lt_le_lt (lt_out p q n.later) (on_segment q n.meets).upto
 
-  -- none is left at the upper end
-  pub past_upper : (p : Point) (es : List (Point × Met)) → AreLeft v g p es → es ≡ [] → precedes p g.upper ≡ false
-  past_upper p es left none =
-      not_true (precedes p g.upper)
-      (λ l. subst (λ (xs : List Point). Member g.upper xs) (sym left.points ∙ ap (λ (xs : List (Point × Met)). keys_of xs) none) (in_filter (precedes p) g.upper (meeting_points v g) (to_member (meeting_points v g) g.upper (listed v s g c g.upper (upper refl))) l))
-
   -- ---- at the upper end
-  few_between : (ps : List Point) (parts : List Met) → AreMetBetween v g ps parts → length parts ≤ length ps
+  few_between : (ps : List Point) (parts : List Spot) → AreSpotsBetween v f g ps parts → length parts ≤ length ps
   few_between [] [] h = absurd h
   few_between [] (x ∷ parts) h = absurd h
   few_between (p ∷ []) [] h = omega arith
@@ -307,7 +266,7 @@ module _ (v : View) (s : IsGraphSound v) (g : Segment) (c : IsCourse g) where
   few_between (p ∷ q ∷ ps) [] h = absurd h
   few_between (p ∷ q ∷ ps) (x ∷ parts) h = let k = few_between (q ∷ ps) parts h.1 in omega arith
 
-  module _ (z : ZonePlan) (p : Point) (at : Met) (w : IsWalked v g z.vertices z.between z.overlapped p at) (past : precedes p g.upper ≡ false) (vertices : z.room.vertices ≡ vertices_needed z.vertices) (edges : z.room.edges ≡ edges_needed z.vertices z.between) (cycles : z.room.cycles ≡ length z.between) (faces : z.room.faces ≡ length z.between) where
+  module _ (z : ZonePlan) (p : Point) (at : Spot) (w : IsWalked v f g z.vertices z.between z.overlapped p at) (past : precedes p g.upper ≡ false) (vertices : z.room.vertices ≡ vertices_needed z.vertices) (edges : z.room.edges ≡ edges_needed z.vertices z.between) (cycles : z.room.cycles ≡ length z.between) (faces : z.room.faces ≡ length z.between) where
     at_upper : p ≡ g.upper
     at_upper = le_both (on_segment p w.meets).upto (at_most g.upper p past)
 
@@ -317,18 +276,18 @@ module _ (v : View) (s : IsGraphSound v) (g : Segment) (c : IsCourse g) where
     all_points : points_of_meetings z.vertices ≡ meeting_points v g
     all_points = sym (append-nil (points_of_meetings z.vertices)) ∙ ap (λ (ps : List Point). points_of_meetings z.vertices ++ ps) (sym none_later) ∙ w.points
 
-    all_between : AreMetBetween v g (meeting_points v g) z.between
+    all_between : AreSpotsBetween v f g (meeting_points v g) z.between
     all_between =
-        subst (λ (ps : List Point). AreMetBetween v g ps z.between) (append-nil (points_of_meetings z.vertices) ∙ all_points)
-        (subst (AreMetBetween v g (points_of_meetings z.vertices ++ [])) (append-nil z.between) (w.between [] [] tt))
+        subst (λ (ps : List Point). AreSpotsBetween v f g ps z.between) (append-nil (points_of_meetings z.vertices) ∙ all_points)
+        (subst (AreSpotsBetween v f g (points_of_meetings z.vertices ++ [])) (append-nil z.between) (w.between [] [] tt))
 
     as_many : length z.vertices ≡ length (meeting_points v g)
     as_many = sym (length-map z.vertices (λ (m : Meeting). m.point)) ∙ ap (λ (ps : List Point). length ps) all_points
 
-    pub zone_done : IsZoneOf v g z
+    pub zone_done : IsZoneOf v f g z
     zone_done = record {
       points = all_points;
-      met = λ m n. w.all_met m (to_member z.vertices m n);
+      spots = λ m n. w.all_spots m (to_member z.vertices m n);
       between = all_between;
       listed = w.darts;
       overlapped = λ d m. w.overlapped d (to_member z.overlapped d m);
@@ -337,6 +296,6 @@ module _ (v : View) (s : IsGraphSound v) (g : Segment) (c : IsCourse g) where
       edges = edges;
       cycles = cycles;
       faces = faces;
-      vertices_fit = let a = count_by-le-length (λ (m : Meeting). not (is_vertex m.met)) z.vertices in omega (arith, vertices, as_many);
-      edges_fit = let a = count_by-le-length (λ (m : Meeting). is_edge m.met) z.vertices in let b = few_between (meeting_points v g) z.between all_between in omega (arith, edges, as_many);
+      vertices_fit = let a = count_by-le-length (λ (m : Meeting). not (is_vertex (met_of m.spot))) z.vertices in omega (arith, vertices, as_many);
+      edges_fit = let a = count_by-le-length (λ (m : Meeting). is_edge (met_of m.spot)) z.vertices in let b = few_between (meeting_points v g) z.between all_between in omega (arith, edges, as_many);
     }

@@ -1,3 +1,5 @@
 pub mod Zone
 pub mod Found
+pub mod Sights
+pub mod Searches
 pub mod Walk

@@ -1,64 +1,237 @@
-ghost use Rattle.std.specs.Prelude.{◌≡◌, ◌++◌, ◌∷◌, [], length, IfOk, OnOk};
-ghost use Rattle.exact_plane.specs.Line.{IsOn};
-ghost use Rattle.plane_graphs.specs.Line.{IsProper, IsProperLine};
-ghost use Rattle.slab_laws.specs.Sound.{IsGraphSound};
-ghost use Rattle.slab_laws.specs.View.{HasVertex, point_in};
+ghost use Rattle.std.specs.Prelude.{◌≡◌, ◌≤◌, ◌+◌, ◌*◌, ◌++◌, ◌∷◌, [], true, false, length, IfOk, OnOk};
+ghost use Rattle.std.specs.List.{sum_by};
+ghost use Rattle.exact_plane.specs.Segment.{Segment as Ends, AreEnds};
+ghost use Rattle.exact_plane.specs.Span.{span_of_segment, IsSpan};
+ghost use Rattle.plane_graphs.specs.Line.{precedes};
+ghost use Rattle.slab_laws.specs.FaceLists.{AreLists};
+ghost use Rattle.slab_laws.specs.FacesSound.{IsSound};
+ghost use Rattle.slab_laws.specs.View.{HasVertex, HasDart, HasFace, point_in};
+ghost use Rattle.counted_looks.specs.Boundaries.{boundary_size, IsOnBoundary};
+ghost use Rattle.dcel_records.specs.declared.spot.Spot.TheVariants.{Edge as OnEdge, Face as InFace};
 ghost use Rattle.dcel_records.specs.Spots.{IsMet, met_of};
-ghost use Rattle.zone_walk.specs.Walk.{IsMetAhead};
-ghost use Rattle.zone_walk.specs.Zone.{vertices_needed, edges_needed, dart_of_met, IsZoneOf};
+ghost use Rattle.face_location.specs.Spots.{IsSpotOf};
+ghost use Rattle.zone_walk.specs.Searches.{IsPartTaken};
+ghost use Rattle.zone_walk.specs.Walk.{IsPartAhead, IsSpotStretch, IsSearchAt, IsNextOf, stop_looks, has_visited};
+ghost use Rattle.zone_walk.specs.Zone.{is_on_segment, meeting_points, vertices_needed, edges_needed, edges_met, degree_at, dart_of_spot, CoversVisits, IsSpotBetween, IsNextMeeting, IsZoneOf};
 
-use crate::meetings::later_meetings;
 use crate::plan::{Meeting, ZonePlan};
-use dcel_records::{Met, Records, Room, Spot};
-use exact_plane::{Direction, Line, Point, Segment, line_of};
+use crate::records_sight::whole;
+use crate::search::Search;
+use crate::sight::Sight;
+use counted_looks::{NameCalls, look_at_boundary};
+use dcel_records::{Room, Spot};
+use exact_plane::{Point, Segment, Sign};
 use no_memory::NoMemory;
-use rotation_order::{Place, place_at};
-use slab_laws::{Darts, Sequence, VertexId};
+use rotation_order::Place;
+use slab_laws::{DartId, FaceId, Sequence, VertexId};
 use std::alloc::Global;
+use std::collections::{BTreeMap, BTreeSet};
+use std::sync::ledger::Ledger;
+use work_steps::Steps;
 
-// What follows a vertex on a line through it: the edge that leaves in the line's direction, or nothing.
-fn ahead_of_vertex(records: &Records, line: &Line, vertex: VertexId) -> Met
-    requires sound { IsGraphSound records.now.graph }
-    requires vertex { HasVertex records.now.graph vertex }
-    requires line { IsProperLine line.now }
-    requires on { IsOn line.now (point_in records.now.graph vertex) }
-    ensures { IsMetAhead records.now.graph line.now (point_in records.now.graph vertex) result }
+// What follows a vertex on the segment: the edge that leaves towards the segment's upper end, with its upper end, or the face at
+// the place of this direction round the vertex.
+fn ahead_of_vertex<T: Sight, L: Ledger>(
+    sight: &T,
+    segment: &Segment,
+    vertex: VertexId,
+    steps: &mut Steps<L>,
+) -> (Spot, Point)
+    requires sound { IsSound (T.graph sight.now) (T.faces sight.now) }
+    requires vertex { HasVertex (T.graph sight.now) vertex }
+    requires on { is_on_segment segment.now (point_in (T.graph sight.now) vertex) ≡ true }
+    requires before { precedes (point_in (T.graph sight.now) vertex) segment.now.upper ≡ true }
+    ensures part { IsPartAhead (T.graph sight.now) (T.faces sight.now) segment.now (point_in (T.graph sight.now) vertex) result.0 result.1 }
+    ensures count { steps.new ≤ steps.old + stop_looks (T.graph sight.now) segment.now (point_in (T.graph sight.now) vertex) }
 {
-    match place_at(records, vertex, Direction::along(line)) {
-        Place::Along(dart) => Met::Edge(dart),
-        Place::Between(_, _) | Place::Bare => Met::Nothing,
+    // The ends of a segment are two points, in order.
+    let lower = segment.lower();
+    match sight.turn(vertex, segment, steps) {
+        Place::Along(dart) => {
+            let seen = sight.see(Spot::Edge(dart), segment, steps);
+            (Spot::Edge(dart), seen.target)
+        }
+        Place::Between(dart, _) => {
+            let face = sight.face(sight.cycle(sight.twin(dart)));
+            (Spot::Face(face), lower)
+        }
+        Place::Bare => (Spot::Face(sight.bare_face(vertex)), lower),
     }
 }
 
-// What follows a point on a line: the edge that goes on from there, or nothing.
-fn met_ahead(records: &Records, line: &Line, here: &Point, met: Met) -> Met
-    requires sound { IsGraphSound records.now.graph }
-    requires met { IsMet records.now.graph here.now met }
-    requires proper { IsProper here.now }
-    requires line { IsProperLine line.now }
-    requires on { IsOn line.now here.now }
-    ensures { IsMetAhead records.now.graph line.now here.now result }
+// What follows a point inside an edge on the segment: the edge, where it is along the segment, or the face on the side of it on
+// which the segment's upper end is.
+fn ahead_of_edge<T: Sight, L: Ledger>(
+    sight: &T,
+    segment: &Segment,
+    here: &Point,
+    dart: DartId,
+    steps: &mut Steps<L>,
+) -> (Spot, Point)
+    requires sound { IsSound (T.graph sight.now) (T.faces sight.now) }
+    requires met { IsMet (T.graph sight.now) here.now (met_of (OnEdge dart)) }
+    requires on { is_on_segment segment.now here.now ≡ true }
+    requires before { precedes here.now segment.now.upper ≡ true }
+    ensures part { IsPartAhead (T.graph sight.now) (T.faces sight.now) segment.now here.now result.0 result.1 }
+    ensures count { steps.new ≤ steps.old + stop_looks (T.graph sight.now) segment.now here.now }
 {
-    match met {
-        Met::Vertex(vertex) => ahead_of_vertex(records, line, vertex),
-        Met::Edge(dart) => {
-            if records.line(dart) == *line {
-                Met::Edge(dart)
-            } else {
-                Met::Nothing
-            }
+    let lower = segment.lower();
+    here.laws();
+    let seen = sight.see(Spot::Edge(dart), segment, steps);
+    match seen.side {
+        Sign::Plus => (Spot::Face(sight.face(sight.cycle(dart))), lower),
+        Sign::Minus => {
+            let face = sight.face(sight.cycle(sight.twin(dart)));
+            (Spot::Face(face), lower)
         }
-        Met::Nothing => Met::Nothing,
+        Sign::Zero => (Spot::Edge(dart), seen.target),
+    }
+}
+
+// What follows a meeting point on the segment.
+fn part_ahead<T: Sight, L: Ledger>(
+    sight: &T,
+    segment: &Segment,
+    here: &Meeting,
+    steps: &mut Steps<L>,
+) -> (Spot, Point)
+    requires sound { IsSound (T.graph sight.now) (T.faces sight.now) }
+    requires spot { IsSpotOf (T.graph sight.now) (T.faces sight.now) here.now.point here.now.spot }
+    requires on { is_on_segment segment.now here.now.point ≡ true }
+    requires before { precedes here.now.point segment.now.upper ≡ true }
+    ensures part { IsPartAhead (T.graph sight.now) (T.faces sight.now) segment.now here.now.point result.0 result.1 }
+    ensures count { steps.new ≤ steps.old + stop_looks (T.graph sight.now) segment.now here.now.point }
+{
+    match here.spot {
+        Spot::Vertex(vertex) => ahead_of_vertex(sight, segment, vertex, steps),
+        Spot::Edge(dart) => ahead_of_edge(sight, segment, &here.point, dart, steps),
+        Spot::Face(face) => {
+            here.point.laws();
+            (Spot::Face(face), segment.lower())
+        }
+    }
+}
+
+// Looks at a face's boundary, unless it was looked at.
+fn visit<T: Sight, L: Ledger>(
+    search: &mut Search,
+    sight: &T,
+    face: FaceId,
+    steps: &mut Steps<L>,
+) -> Result<(), NoMemory>
+    requires sound { IsSound (T.graph sight.now) (T.faces sight.now) }
+    requires lists { AreLists (T.graph sight.now) (T.faces sight.now) (T.lists sight.now) }
+    requires face { HasFace (T.faces sight.now) face }
+    requires search { IsSearchAt (T.graph sight.now) (T.faces sight.now) search.old.segment search.old.here search.old }
+    ensures search { OnOk result (IsSearchAt (T.graph sight.now) (T.faces sight.now) search.old.segment search.old.here search.new) }
+    ensures visited { OnOk result (has_visited search.new face ≡ true) }
+    ensures count { steps.new ≤ steps.old + boundary_size (T.graph sight.now) (T.faces sight.now) face }
+{
+    if search.visited.contains(&face.0) {
+        return Ok(());
+    }
+    look_at_boundary(search, sight, face, steps);
+    if search.failed {
+        search.failed = false;
+        return Err(NoMemory);
+    }
+    search.visited.insert(face.0)?;
+    Ok(())
+}
+
+// The next meeting point along an edge: the edge's end, or the segment's, whichever comes first.
+fn next_along<T: Sight>(search: &mut Search, sight: &T, dart: DartId, end: Point) -> Meeting
+    requires sound { IsSound (T.graph sight.now) (T.faces sight.now) }
+    requires search { IsSearchAt (T.graph sight.now) (T.faces sight.now) search.old.segment search.old.here search.old }
+    requires part { IsPartAhead (T.graph sight.now) (T.faces sight.now) search.old.segment search.old.here (OnEdge dart) end }
+    requires on { is_on_segment search.old.segment search.old.here ≡ true }
+    requires before { precedes search.old.here search.old.segment.upper ≡ true }
+    ensures { IsNextOf (T.graph sight.now) (T.faces sight.now) search.old.segment search.old.here (OnEdge dart) result search.new }
+{
+    let upper = search.segment.upper();
+    let next = if upper < end {
+        Meeting {
+            point: upper,
+            spot: Spot::Edge(dart),
+        }
+    } else {
+        Meeting {
+            point: end,
+            spot: Spot::Vertex(sight.target(dart)),
+        }
+    };
+    search.found.remove(&next.point);
+    search.here = next.point;
+    next
+}
+
+// The next meeting point through a face: the first that was found on the boundary, or the segment's upper end in the face.
+fn next_inside<T: Sight>(search: &mut Search, sight: &T, face: FaceId) -> Meeting
+    requires sound { IsSound (T.graph sight.now) (T.faces sight.now) }
+    requires search { IsSearchAt (T.graph sight.now) (T.faces sight.now) search.old.segment search.old.here search.old }
+    requires visited { has_visited search.old face ≡ true }
+    requires part { IsPartAhead (T.graph sight.now) (T.faces sight.now) search.old.segment search.old.here (InFace face) search.old.segment.lower }
+    requires on { is_on_segment search.old.segment search.old.here ≡ true }
+    requires before { precedes search.old.here search.old.segment.upper ≡ true }
+    ensures { IsNextOf (T.graph sight.now) (T.faces sight.now) search.old.segment search.old.here (InFace face) result search.new }
+{
+    search.here.laws();
+    // Its length tells that its keys ascend.
+    let _count = search.found.len();
+    let next = match search.found.pop_first() {
+        Some(first) => {
+            let (point, spot) = first;
+            Meeting { point, spot }
+        }
+        None => Meeting {
+            point: search.segment.upper(),
+            spot: Spot::Face(face),
+        },
+    };
+    search.here = next.point;
+    next
+}
+
+// From a meeting point to the next one: the spot of the part between, and that point.
+fn onward<T: Sight, L: Ledger>(
+    search: &mut Search,
+    sight: &T,
+    here: &Meeting,
+    steps: &mut Steps<L>,
+) -> Result<(Spot, Point, Spot), NoMemory>
+    requires sound { IsSound (T.graph sight.now) (T.faces sight.now) }
+    requires lists { AreLists (T.graph sight.now) (T.faces sight.now) (T.lists sight.now) }
+    requires search { IsSearchAt (T.graph sight.now) (T.faces sight.now) search.old.segment search.old.here search.old }
+    requires here { search.old.here ≡ here.now.point }
+    requires spot { IsSpotOf (T.graph sight.now) (T.faces sight.now) here.now.point here.now.spot }
+    requires on { is_on_segment search.old.segment here.now.point ≡ true }
+    requires before { precedes here.now.point search.old.segment.upper ≡ true }
+    ensures next { IfOk result (λ r. IsNextOf (T.graph sight.now) (T.faces sight.now) search.old.segment here.now.point r.0 (record { point = r.1; spot = r.2 }) search.new) }
+    ensures looks { (n : _) → ((q : _) (a : _) → IsNextMeeting (T.graph sight.now) search.old.segment here.now.point q → IsSpotBetween (T.graph sight.now) (T.faces sight.now) search.old.segment here.now.point q (InFace a) → boundary_size (T.graph sight.now) (T.faces sight.now) a ≤ n) → steps.new ≤ steps.old + (stop_looks (T.graph sight.now) search.old.segment here.now.point + n) }
+{
+    here.point.laws();
+    let (part, end) = part_ahead(sight, &search.segment, here, steps);
+    match part {
+        Spot::Edge(dart) => {
+            let next = next_along(search, sight, dart, end);
+            Ok((part, next.point, next.spot))
+        }
+        Spot::Face(face) => {
+            visit(search, sight, face, steps)?;
+            let next = next_inside(search, sight, face);
+            Ok((part, next.point, next.spot))
+        }
+        Spot::Vertex(_) => unreachable!(),
     }
 }
 
 // Appends an open part and the meeting point at its end to the plan, but for the room.
-fn extend(plan: &mut ZonePlan, part: Met, next: Meeting) -> Result<(), NoMemory>
+fn extend(plan: &mut ZonePlan, part: Spot, next: Meeting) -> Result<(), NoMemory>
     ensures vertices { OnOk result (plan.new.vertices ≡ plan.old.vertices ++ (next ∷ [])) }
     ensures between { OnOk result (plan.new.between ≡ plan.old.between ++ (part ∷ [])) }
-    ensures overlapped { OnOk result (plan.new.overlapped ≡ plan.old.overlapped ++ dart_of_met part) }
+    ensures overlapped { OnOk result (plan.new.overlapped ≡ plan.old.overlapped ++ dart_of_spot part) }
 {
-    if let Met::Edge(dart) = part {
+    if let Spot::Edge(dart) = part {
         plan.overlapped.push(dart)?;
     }
     plan.between.push(part)?;
@@ -76,11 +249,11 @@ fn room_for(plan: &ZonePlan) -> Room
     let vertices = plan.vertices.as_slice();
     let new_vertices = vertices
         .iter()
-        .filter(|meeting| !matches!(meeting.met, Met::Vertex(_)))
+        .filter(|meeting| !matches!(meeting.spot, Spot::Vertex(_)))
         .count();
     let splits = vertices
         .iter()
-        .filter(|meeting| matches!(meeting.met, Met::Edge(_)))
+        .filter(|meeting| matches!(meeting.spot, Spot::Edge(_)))
         .count();
     Room {
         vertices: new_vertices,
@@ -90,31 +263,54 @@ fn room_for(plan: &ZonePlan) -> Room
     }
 }
 
-/// The zone of a segment in the graph of the records, from the spot of its lower end: the meeting points in order and the
-/// open parts between them, each with what it meets, the edges that are overlapped, and the room that the steps of the insertion
-/// need (Fogel, Halperin and Wein, the zone of a curve).
+// A search at the lower end of a segment, which has found and visited nothing.
+fn begin(alloc: Global, segment: &Segment) -> Search
+    ensures segment { result.segment ≡ segment.now }
+    ensures here { result.here ≡ segment.now.lower }
+    ensures found { result.found.entries ≡ [] }
+    ensures visited { result.visited.keys ≡ [] }
+    ensures ends { AreEnds segment.now }
+    ensures whole { IsSpan (span_of_segment segment.now) }
+{
+    let lower = segment.lower();
+    whole(segment).laws();
+    Search {
+        segment: *segment,
+        here: lower,
+        found: BTreeMap::new(alloc),
+        visited: BTreeSet::new(alloc),
+        failed: false,
+    }
+}
+
+/// The zone of a segment in a graph, from the spot of its lower end: the meeting points in order and the open parts between them,
+/// each with its spot, the edges that are overlapped, and the room that the steps of the insertion need (Fogel, Halperin and
+/// Wein, the zone of a curve).
 ///
-/// It looks once at each vertex and each edge, and at the darts round the vertices on the segment.
+/// It looks once at the boundary of each face that the segment visits, once at each dart out of a vertex that it meets, and at
+/// edges that it passes or goes along. No other look is taken, whether there is memory or not.
 ///
 /// # Errors
 ///
 /// There was no memory for the plan.
-pub fn zone(
+pub fn zone<T: Sight, L: Ledger>(
     alloc: Global,
-    records: &Records,
+    sight: &T,
     segment: &Segment,
     start: Spot,
+    steps: &mut Steps<L>,
 ) -> Result<ZonePlan, NoMemory>
-    requires sound { IsGraphSound records.now.graph }
-    requires start { IsMet records.now.graph segment.now.lower (met_of start) }
-    ensures { IfOk result (IsZoneOf records.now.graph segment.now) }
+    requires sound { IsSound (T.graph sight.now) (T.faces sight.now) }
+    requires lists { AreLists (T.graph sight.now) (T.faces sight.now) (T.lists sight.now) }
+    requires start { IsSpotOf (T.graph sight.now) (T.faces sight.now) segment.now.lower start }
+    ensures zone { IfOk result (IsZoneOf (T.graph sight.now) (T.faces sight.now) segment.now) }
+    ensures looks { (n : _) → CoversVisits (T.graph sight.now) (T.faces sight.now) segment.now (meeting_points (T.graph sight.now) segment.now) n →
+        steps.new ≤ steps.old + (n + (sum_by (degree_at (T.graph sight.now)) (meeting_points (T.graph sight.now) segment.now) + 2 * edges_met (T.graph sight.now) segment.now)) }
 {
-    let line = line_of(segment);
-    let mut later = later_meetings(alloc, records, segment)?;
-    let mut here = Meeting {
-        point: segment.lower(),
-        met: start.met(),
-    };
+    let upper = segment.upper();
+    let mut point = segment.lower();
+    let mut spot = start;
+    let mut search = begin(alloc, segment);
     let mut plan = ZonePlan {
         vertices: Sequence::new(alloc),
         between: Sequence::new(alloc),
@@ -126,12 +322,13 @@ pub fn zone(
             faces: 0,
         },
     };
-    plan.vertices.push(here)?;
-    'walk: while let Some(next) = later.pop_first() {
-        let part = met_ahead(records, &line, &here.point, here.met);
-        let (point, met) = next;
-        here = Meeting { point, met };
-        extend(&mut plan, part, here)?;
+    plan.vertices.push(Meeting { point, spot })?;
+    'walk: while point < upper {
+        let here = Meeting { point, spot };
+        let (part, next_point, next_spot) = onward(&mut search, sight, &here, steps)?;
+        point = next_point;
+        spot = next_spot;
+        extend(&mut plan, part, Meeting { point, spot })?;
     }
     plan.room = room_for(&plan);
     Ok(plan)

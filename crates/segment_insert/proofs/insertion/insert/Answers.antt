@@ -59,7 +59,7 @@ insert_by_plan-requires-clause-in_step g c =
     begun_in_step (map_of c.args.records.now) c.args.history.now (map_of c.prepare.new.records) c.prepare.new.history (one_map c.prepare.new.records c.args.records.now e.graph e.tables) e.same_curves c.begin.ensures.begun c.requires.map.map.sound c.requires.layer c.requires.watched
 
 pub prepare-requires-clause-start : goal.prepare-requires-clause-start
-prepare-requires-clause-start g c = c.requires.start.met
+prepare-requires-clause-start g c = c.requires.start
 
 pub insert_by_plan-requires-clause-start : goal.insert_by_plan-requires-clause-start
 insert_by_plan-requires-clause-start g c =

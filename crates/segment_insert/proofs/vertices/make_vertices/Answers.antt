@@ -47,8 +47,8 @@ vertex_of-before-requires-clause-now g c =
     let l : 0 < length c.args.meetings.now.items = some_first v.graph (tables_of c.args.records.now) c.args.start ms c.requires.start in
     let begun = at_start v h ms c.requires.in_step c.requires.meetings c.requires.plane in
     let still = spot_now v h ms v h ms 0 begun m l c.index.ensures in
-    let proper = proper_by_met v.graph h (m.point ∷ []) m.point m.met c.requires.in_step.sound.graph (sound_now v h ms v h ms 0 begun m l c.index.ensures) (inl refl) still in
-    met_now v.graph c.requires.in_step.sound.graph m.point proper m.met (met_of c.args.start) (c.requires.meetings.met m (0, l, sym c.index.ensures)) (first_spot v.graph (tables_of c.args.records.now) c.args.start ms m c.index.ensures c.requires.start).met
+    let proper = proper_by_met v.graph h (m.point ∷ []) m.point (met_of m.spot) c.requires.in_step.sound.graph (sound_now v h ms v h ms 0 begun m l c.index.ensures) (inl refl) still in
+    met_now v.graph c.requires.in_step.sound.graph m.point proper (met_of m.spot) (met_of c.args.start) (c.requires.meetings.met m (0, l, sym c.index.ensures)) (first_spot v.graph (tables_of c.args.records.now) c.args.start ms m c.index.ensures c.requires.start).met
 
 pub vertex_of-before-requires-clause-face : goal.vertex_of-before-requires-clause-face
 vertex_of-before-requires-clause-face g c =
@@ -129,8 +129,8 @@ loop-i-init g c =
       darts = room_left c.args.records.now.spare_darts c.args.records.now.spare_darts c.vertex_of-before.new.records.spare_darts (2 * splits_needed ms) (2 * splits_needed (m ∷ [])) (2 * splits_needed (drop 1 ms)) (2 * splits_needed ms)
           (ap (λ (xs : List Meeting). 2 * splits_needed xs) first ∙ darts_first m (drop 1 ms)) (omega arith) k.darts;
       faces = k.spare_faces;
-      pairs = room_left c.args.history.now.spare_pairs c.args.history.now.spare_pairs c.vertex_of-before.new.history.spare_pairs (pairs_to_part h ms) (pairs_at h m.met) (pairs_to_part u (drop 1 ms)) (pairs_to_part h ms)
-          (ap (pairs_to_part h) first ∙ ap (λ (n : ℕ). pairs_at h m.met + n) (sym (same_pairs_left v h ms v h ms 0 begun m l c.index.ensures w u x k.told))) (omega arith) k.pairs;
+      pairs = room_left c.args.history.now.spare_pairs c.args.history.now.spare_pairs c.vertex_of-before.new.history.spare_pairs (pairs_to_part h ms) (pairs_at h (met_of m.spot)) (pairs_to_part u (drop 1 ms)) (pairs_to_part h ms)
+          (ap (pairs_to_part h) first ∙ ap (λ (n : ℕ). pairs_at h (met_of m.spot) + n) (sym (same_pairs_left v h ms v h ms 0 begun m l c.index.ensures w u x k.told))) (omega arith) k.pairs;
     }
 
 pub spot_now-at-requires-clause-proper : goal.spot_now-at-requires-clause-proper
@@ -147,7 +147,7 @@ spot_now-at-requires-clause-proper g c =
     let l : c.loop-i.i < length c.loop-i.meetings.items = omega (arith, c.loop-i-test.true, c.len-i-end.ensures, length-set c.args.meetings.now.items 0 (told_at c.index_mut.result.now c.vertex_of-before.result), same_length v h ms w k ns i now.midway) in
     let still = spot_now v h ms w k ns i now.midway m l c.index-in-loop-i.ensures in
     let sound = sound_now v h ms w k ns i now.midway m l c.index-in-loop-i.ensures in
-    proper_by_met w.graph k (m.point ∷ []) m.point m.met now.midway.coming.sound sound (inl refl) still
+    proper_by_met w.graph k (m.point ∷ []) m.point (met_of m.spot) now.midway.coming.sound sound (inl refl) still
 
 pub spot_now-at-requires-clause-map : goal.spot_now-at-requires-clause-map
 spot_now-at-requires-clause-map g c =
@@ -186,7 +186,7 @@ spot_now-at-requires-clause-ahead g c =
     let first : drop c.loop-i.i c.args.meetings.now.items ≡ c.index-in-loop-i.result.now ∷ drop (c.loop-i.i + 1) c.args.meetings.now.items = next_first v h ms w k ns i now.midway m l c.index-in-loop-i.ensures in
     let s : Segment = c.args.segment.now in
     let u = c.loop-i.before in
-    let proper = proper_by_met w.graph k (m.point ∷ []) m.point m.met now.midway.coming.sound sound (inl refl) still in
+    let proper = proper_by_met w.graph k (m.point ∷ []) m.point (met_of m.spot) now.midway.coming.sound sound (inl refl) still in
     let line : IsProperLine (line_of_segment c.args.segment.now) = subst IsProperLine c.line_of-line.ensures.value (line_is_proper c.line_of-line.result c.line_of-line.ensures.line) in
     λ e. subst (λ n. IsClearAhead w.graph n u m.point) (sym c.line_of-line.ensures.value) (next_ahead w.graph k s u m (drop (i + 1) ms) (subst (IsFollowed w.graph s u) first now.followed) line proper still e)
 
@@ -255,8 +255,8 @@ loop-i-preserved g c =
       darts = room_left c.args.records.now.spare_darts c.loop-i.records.spare_darts c.vertex_of-before-in-loop-i.new.records.spare_darts (2 * splits_needed ms) (2 * splits_needed (m ∷ [])) (2 * splits_needed (drop (i + 1) ms)) (2 * splits_needed (drop i ms))
           (ap (λ (xs : List Meeting). 2 * splits_needed xs) first ∙ darts_first m (drop (i + 1) ms)) now.darts e.darts;
       faces = spare_then now.faces e.spare_faces;
-      pairs = room_left c.args.history.now.spare_pairs c.loop-i.history.spare_pairs c.vertex_of-before-in-loop-i.new.history.spare_pairs (pairs_to_part h ms) (pairs_at k m.met) (pairs_to_part q (drop (i + 1) ms)) (pairs_to_part k (drop i ms))
-          (ap (pairs_to_part k) first ∙ ap (λ (n : ℕ). pairs_at k m.met + n) (sym (same_pairs_left v h ms w k ns i now.midway m l c.index-in-loop-i.ensures (map_of c.vertex_of-before-in-loop-i.new.records) q x e.told))) now.pairs e.pairs;
+      pairs = room_left c.args.history.now.spare_pairs c.loop-i.history.spare_pairs c.vertex_of-before-in-loop-i.new.history.spare_pairs (pairs_to_part h ms) (pairs_at k (met_of m.spot)) (pairs_to_part q (drop (i + 1) ms)) (pairs_to_part k (drop i ms))
+          (ap (pairs_to_part k) first ∙ ap (λ (n : ℕ). pairs_at k (met_of m.spot) + n) (sym (same_pairs_left v h ms w k ns i now.midway m l c.index-in-loop-i.ensures (map_of c.vertex_of-before-in-loop-i.new.records) q x e.told))) now.pairs e.pairs;
     }
 
 pub returns-clause-told : goal.returns-clause-told

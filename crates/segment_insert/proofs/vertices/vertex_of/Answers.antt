@@ -10,7 +10,7 @@ use Rattle.segment_insert.proofs.vertices.vertex_of.Goals.{Start}
 use Rattle.segment_insert.proofs.vertices.vertex_of.Goals as goal
 
 proper : (g : given.Over) (c : Start g) → IsProper c.args.meeting.point
-proper g c = let m = c.args.meeting in proper_by_met c.args.records.now.graph (curves_on c.args.history.now) (m.point ∷ []) m.point m.met c.requires.in_step.sound.graph c.requires.plane (inl refl) c.requires.met
+proper g c = let m = c.args.meeting in proper_by_met c.args.records.now.graph (curves_on c.args.history.now) (m.point ∷ []) m.point (met_of m.spot) c.requires.in_step.sound.graph c.requires.plane (inl refl) c.requires.met
 
 pub make_vertex-requires : goal.make_vertex-requires
 make_vertex-requires g c =
@@ -20,14 +20,14 @@ make_vertex-requires g c =
     let i = c.requires.in_step in
     let at = met_of c.args.at in
     let k = c.requires.now in
-    let o = lies_now v m.point m.met at k in record {
+    let o = lies_now v m.point (met_of m.spot) at k in record {
       in_step = i;
       map = c.requires.map;
       spot = record { met = o; face = c.requires.face };
       plane = plane_there (map_of c.args.records.now) h i.sound.graph i.curves m c.requires.plane at o;
       vertices = omega (arith, vertices_there v m at k, c.requires.vertices);
       darts = omega (arith, darts_there v m at k, c.requires.darts);
-      pairs = omega (arith, pairs_now v h m.point m.met at i.sound.graph (proper g (goal.at.make_vertex-requires g c).Start) c.requires.met k, c.requires.pairs);
+      pairs = omega (arith, pairs_now v h m.point (met_of m.spot) at i.sound.graph (proper g (goal.at.make_vertex-requires g c).Start) c.requires.met k, c.requires.pairs);
     }
 
 pub returns : goal.returns
@@ -39,12 +39,12 @@ returns g c =
     let at = met_of c.args.at in
     let k = c.requires.now in
     let e = c.make_vertex.ensures in record {
-      told = made_there (map_of c.args.records.now) h i.sound.graph i.curves m c.requires.plane at (lies_now v m.point m.met at k) (proper g (goal.at.returns g c).Start) (map_of c.make_vertex.new.records) (curves_on c.make_vertex.new.history) c.make_vertex.result e.told e.vertex e.made;
+      told = made_there (map_of c.args.records.now) h i.sound.graph i.curves m c.requires.plane at (lies_now v m.point (met_of m.spot) at k) (proper g (goal.at.returns g c).Start) (map_of c.make_vertex.new.records) (curves_on c.make_vertex.new.history) c.make_vertex.result e.told e.vertex e.made;
       in_step = e.in_step;
       map = e.map;
       layer = e.layer;
       vertices = omega (arith, vertices_there v m at k, e.spare.of_vertices);
       darts = omega (arith, darts_there v m at k, e.spare.of_darts);
       spare_faces = e.spare_faces;
-      pairs = omega (arith, pairs_now v h m.point m.met at i.sound.graph (proper g (goal.at.returns g c).Start) c.requires.met k, e.spare_history.of_pairs);
+      pairs = omega (arith, pairs_now v h m.point (met_of m.spot) at i.sound.graph (proper g (goal.at.returns g c).Start) c.requires.met k, e.spare_history.of_pairs);
     }

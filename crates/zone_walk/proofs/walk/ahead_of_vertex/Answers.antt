@@ -1,31 +1,70 @@
-use Rattle.std.proofs.Common.{◌≡◌, ◌⊎◌, inl, inr, subst}
-use Rattle.exact_plane.specs.Direction.{Direction, direction_of}
-use Rattle.exact_plane.specs.Line.{Line, IsOn}
-use Rattle.plane_graphs.specs.Line.{IsProperLine}
-use Rattle.slab_laws.specs.declared.names.DartId.{DartId}
-use Rattle.slab_laws.specs.declared.names.VertexId.{VertexId}
-use Rattle.slab_laws.specs.Sound.{IsGraphSound}
-use Rattle.slab_laws.specs.View.{View, HasVertex, point_in}
-use Rattle.rotation_order.specs.declared.places.Place.{Place}
-use Rattle.rotation_order.specs.declared.places.Place.TheVariants.{Between, Along, Bare}
-use Rattle.rotation_order.specs.Place.{IsPlaceOf, IsAlongDart}
-use Rattle.zone_walk.specs.Walk.{IsAhead}
-use Rattle.zone_walk.proofs.Aheads.{ahead_along, along_ahead}
+use Rattle.std.proofs.Common.{arith, refl, sym, ap, ◌∙◌, subst}
+use Rattle.plane_graphs.proofs.Order.{lt_out}
+use Rattle.open_parts.specs.Parts.{TellsFace}
+use Rattle.slab_laws.specs.declared.names.FaceId.{FaceId}
+use Rattle.slab_laws.specs.View.{point_in, cycle_in, face_in}
+use Rattle.zone_walk.proofs.Courses.{course, lies_out}
+use Rattle.zone_walk.proofs.Looks.{vertex_turn, vertex_along}
+use Rattle.zone_walk.proofs.PartsAhead.{leaves_along, none_between, none_bare, at_place, at_bare}
 use Rattle.zone_walk.proofs.walk.ahead_of_vertex.Goals as goal
 
-none_by : (v : View) (s : IsGraphSound v) (l : Line) (line : IsProperLine l) (w : VertexId) (has : HasVertex v w) (on : IsOn l (point_in v w)) (p : Place) → IsPlaceOf v w (direction_of l) p
-    → ((a : DartId) × (b : DartId) × (p ≡ Between a b)) ⊎ (p ≡ Bare) → (d : DartId) → IsAhead v l (point_in v w) d → ⊥
-none_by v s l line w has on Bare h e d k = h d (along_ahead v s l line w has on d k).out
-none_by v s l line w has on (Between a b) h e d k = let r = along_ahead v s l line w has on d k in h.free d r.out r.way
-none_by v s l line w has on (Along a) h (inl e) d k = let f = e.2 in absurd cc
-none_by v s l line w has on (Along a) h (inr e) d k = absurd cc
+pub returns-in-Along-clause-part : goal.returns-in-Along-clause-part
+returns-in-Along-clause-part g c =
+    let v = g.T.NameCalls.graph c.args.sight.now in
+    let f = g.T.NameCalls.faces c.args.sight.now in
+    let s = c.args.segment.now in
+    let k = course s c.lower-lower.ensures.ends in
+    let on = lies_out s (point_in v c.args.vertex) c.requires.on in
+    let before = lt_out (point_in v c.args.vertex) s.upper c.requires.before in
+    (leaves_along v f c.requires.sound.graph s k c.args.vertex c.requires.vertex on before c.in-Along.dart c.in-Along.ensures.place, c.see-seen.ensures.seen.target)
 
-pub returns-in-Along : goal.returns-in-Along
-returns-in-Along c =
-    ahead_along c.args.records.now.graph c.requires.sound c.args.line.now c.requires.line c.args.vertex c.requires.vertex c.requires.on c.in-Along.dart
-    (subst (λ (x : Direction). IsAlongDart c.args.records.now.graph c.args.vertex x c.in-Along.dart) c.along.ensures c.in-Along.ensures)
+pub returns-in-Along-clause-count : goal.returns-in-Along-clause-count
+returns-in-Along-clause-count g c =
+    let v = g.T.NameCalls.graph c.args.sight.now in
+    let h = returns-in-Along-clause-part g c in
+    let k = vertex_along v c.args.segment.now (point_in v c.args.vertex) c.args.vertex refl c.requires.before c.in-Along.dart c.in-Along.ensures.place.out.1 h.0 in
+    let m = c.turn.ensures.count in
+    let o = c.see-seen.ensures.one in
+    omega arith
 
-pub returns-in-Between : goal.returns-in-Between
-returns-in-Between c =
-    none_by c.args.records.now.graph c.requires.sound c.args.line.now c.requires.line c.args.vertex c.requires.vertex c.requires.on c.place_at.result
-    (subst (λ (x : Direction). IsPlaceOf c.args.records.now.graph c.args.vertex x c.place_at.result) c.along.ensures c.place_at.ensures) c.in-Between.is
+pub returns-in-Between-clause-part : goal.returns-in-Between-clause-part
+returns-in-Between-clause-part g c =
+    let v = g.T.NameCalls.graph c.args.sight.now in
+    let f = g.T.NameCalls.faces c.args.sight.now in
+    let s = c.args.segment.now in
+    let k = course s c.lower-lower.ensures.ends in
+    let on = lies_out s (point_in v c.args.vertex) c.requires.on in
+    let before = lt_out (point_in v c.args.vertex) s.upper c.requires.before in
+    let h = c.in-Between.ensures.place in (
+      none_between v f c.requires.sound.graph s k c.args.vertex c.requires.vertex on before c.in-Between.dart c.in-Between.field-1 h,
+      subst (λ (a : FaceId). TellsFace v f (point_in v c.args.vertex) s.upper a) (sym (c.face-face.ensures.face ∙ ap (face_in f) (c.cycle.ensures.cycle ∙ ap (cycle_in f) c.twin.ensures.twin)))
+          (at_place v f c.requires.sound.graph s k c.args.vertex c.requires.vertex on before c.in-Between.dart c.in-Between.field-1 h),
+    )
+
+pub returns-in-Between-clause-count : goal.returns-in-Between-clause-count
+returns-in-Between-clause-count g c =
+    let v = g.T.NameCalls.graph c.args.sight.now in
+    let k = vertex_turn v c.args.segment.now (point_in v c.args.vertex) c.args.vertex refl in
+    let m = c.turn.ensures.count in
+    omega arith
+
+pub returns-in-Bare-clause-part : goal.returns-in-Bare-clause-part
+returns-in-Bare-clause-part g c =
+    let v = g.T.NameCalls.graph c.args.sight.now in
+    let f = g.T.NameCalls.faces c.args.sight.now in
+    let s = c.args.segment.now in
+    let k = course s c.lower-lower.ensures.ends in
+    let on = lies_out s (point_in v c.args.vertex) c.requires.on in
+    let before = lt_out (point_in v c.args.vertex) s.upper c.requires.before in
+    let h = c.in-Bare.ensures.place in (
+      none_bare v f c.requires.sound.graph s k c.args.vertex c.requires.vertex on before h,
+      subst (λ (a : FaceId). TellsFace v f (point_in v c.args.vertex) s.upper a) (sym c.bare_face.ensures.face)
+          (at_bare v f c.requires.sound.graph s k c.args.vertex c.requires.vertex on before h),
+    )
+
+pub returns-in-Bare-clause-count : goal.returns-in-Bare-clause-count
+returns-in-Bare-clause-count g c =
+    let v = g.T.NameCalls.graph c.args.sight.now in
+    let k = vertex_turn v c.args.segment.now (point_in v c.args.vertex) c.args.vertex refl in
+    let m = c.turn.ensures.count in
+    omega arith

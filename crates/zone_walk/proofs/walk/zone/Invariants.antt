@@ -1,9 +1,19 @@
 use Rattle.std.proofs.Common.{length}
-use Rattle.zone_walk.proofs.Walked.{IsWalked, AreLeft}
+use Rattle.zone_walk.specs.Walk.{IsSearchAt}
+use Rattle.zone_walk.specs.Zone.{later_points}
+use Rattle.zone_walk.proofs.Counted.{IsCounted}
+use Rattle.zone_walk.proofs.Walked.{IsWalked}
 use Rattle.zone_walk.proofs.walk.zone.Given as goal
 
 abbrev pub invariant-walk : goal.invariant-walk
-invariant-walk l = IsWalked l.records.graph l.segment l.plan.vertices l.plan.between l.plan.overlapped l.here.point l.here.met × AreLeft l.records.graph l.segment l.here.point l.later.entries
+invariant-walk g l =
+    let v = g.T.NameCalls.graph l.sight in
+    let f = g.T.NameCalls.faces l.sight in
+    record {
+      walked : IsWalked v f l.segment l.plan.vertices l.plan.between l.plan.overlapped l.point l.spot;
+      at : IsSearchAt v f l.segment l.point l.search;
+      counted : IsCounted v f l.segment l.fn.steps l.steps l.point;
+    }
 
 abbrev pub decreases-walk : goal.decreases-walk
-decreases-walk l = length l.later.entries
+decreases-walk g l = length (later_points (g.T.NameCalls.graph l.sight) l.segment l.point)

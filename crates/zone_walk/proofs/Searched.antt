@@ -1,0 +1,132 @@
+-- A search goes on as points are taken, and finds what it looks at.
+use Rattle.std.proofs.Common.{◌≡◌, ◌≢◌, true, false, Some, None, Contains, List, sym, ap, ◌∙◌, subst, inl, inr, ◌⊎◌}
+use Rattle.std.specs.Map.{keys_of}
+use Rattle.exact_plane.specs.Meet.{IsMeeting}
+use Rattle.exact_plane.specs.Point.{Point}
+use Rattle.exact_plane.specs.Segment.{Segment, AreEnds}
+use Rattle.exact_plane.specs.Span.{IsSpan, span_of_segment}
+use Rattle.exact_plane.specs.declared.meets.Meet.{Meet}
+use Rattle.exact_plane.specs.declared.meets.Meet.TheVariants.{Apart, At, Along}
+use Rattle.plane_graphs.specs.Ascending.{Member}
+use Rattle.plane_graphs.specs.Graph.{Edge as PlaneEdge}
+use Rattle.plane_graphs.specs.Line.{precedes}
+use Rattle.plane_graphs.proofs.Lists.{clash}
+use Rattle.plane_graphs.proofs.Marks.{le_lt_lt}
+use Rattle.plane_graphs.proofs.Order.{Lt, lt_out}
+use Rattle.slab_laws.specs.declared.names.DartId.{DartId}
+use Rattle.slab_laws.specs.declared.names.VertexId.{VertexId}
+use Rattle.slab_laws.specs.Skeleton.{inside}
+use Rattle.slab_laws.specs.Sound.{edge_in, dart_in, IsGraphSound}
+use Rattle.slab_laws.specs.View.{View, HasVertex, HasDart, point_in, source_in, twin_in, target_in}
+use Rattle.counted_looks.specs.declared.boundary_part.BoundaryPart.{BoundaryPart}
+use Rattle.counted_looks.specs.declared.boundary_part.BoundaryPart.TheVariants.{Dart, Isolated}
+use Rattle.dcel_records.specs.declared.spot.Spot.{Spot}
+use Rattle.dcel_records.specs.declared.spot.Spot.TheVariants.{Vertex, Edge}
+use Rattle.sound_views.proofs.ForwardDarts.{is_behind, target_has}
+use Rattle.zone_walk.specs.Searches.{AreKept, IsOnEdge, IsThere, AreFoundAfter, IsPartTaken, IsOneSearch, IsSearchFrom, HasSeen, points_of_meet}
+use Rattle.zone_walk.specs.Sights.{span_in, IsPointMeet}
+use Rattle.zone_walk.specs.Zone.{is_on_segment, meeting_points}
+use Rattle.zone_walk.specs.declared.search.Search.{Search}
+use Rattle.zone_walk.proofs.Aheads.{at_most}
+use Rattle.zone_walk.proofs.Courses.{course, lies_in}
+use Rattle.zone_walk.proofs.MeetingPoints.{vertex}
+use Rattle.zone_walk.proofs.SeenMeetings.{is_told, is_sound}
+use Rattle.zone_walk.proofs.Stretches.{listed, told, meets_lies}
+
+-- ---- what is at a point of an edge
+module _ (v : View) (s : IsGraphSound v) (d : DartId) (has : HasDart v d) (p : Point) where
+  pub at_source : p ≡ point_in v (source_in v d) → (w : VertexId) → w ≡ source_in v d → IsThere v p (Vertex w)
+  at_source e w q = subst (λ (u : VertexId). HasVertex v u × (point_in v u ≡ p)) (sym q) (s.linked.source d has, sym e)
+
+  pub at_target : p ≡ point_in v (target_in v d) → (w : VertexId) → w ≡ target_in v d → IsThere v p (Vertex w)
+  at_target e w q = subst (λ (u : VertexId). HasVertex v u × (point_in v u ≡ p)) (sym q) (target_has v s d has, sym e)
+
+  within : p ≢ point_in v (source_in v d) → p ≢ point_in v (target_in v d) → IsOnEdge v d p → inside (edge_in v d) p ≡ true
+  within f g (inl e) = absurd (f e)
+  within f g (inr (inl e)) = absurd (g e)
+  within f g (inr (inr i)) = i
+
+  pub at_forward : p ≢ point_in v (source_in v d) → p ≢ point_in v (target_in v d) → (dart_in v d).forward ≡ true → IsOnEdge v d p → IsThere v p (Edge d)
+  at_forward f g b o = (has, b, within f g o)
+
+  pub at_backward : p ≢ point_in v (source_in v d) → p ≢ point_in v (target_in v d) → (dart_in v d).forward ≡ false → (t : DartId) → t ≡ twin_in v d → IsOnEdge v d p → IsThere v p (Edge t)
+  at_backward f g b t e o = let k = is_behind v s d has b t e in (k.forward.0, k.forward.1, ap (λ (z : PlaneEdge). inside z p) k.edge ∙ within f g o)
+
+-- ---- searches
+pub one_on : (k l m : Search) → IsOneSearch k l → IsOneSearch l m → IsOneSearch k m
+one_on k l m a b = record { segment = b.segment ∙ a.segment; here = b.here ∙ a.here; visited = b.visited ∙ a.visited; failed = λ e. a.failed (b.failed e) }
+
+pub kept_on : (a b c : List (Point × Spot)) → AreKept a b → AreKept b c → AreKept a c
+kept_on a b c f g p m = g p (f p m)
+
+-- a part that is taken stays so
+pub part_kept : (v : View) (s : Segment) (here : Point) (es fs : List (Point × Spot)) → AreKept es fs → (t : BoundaryPart) → IsPartTaken v s here es t → IsPartTaken v s here fs t
+part_kept v s here es fs k (Dart d) h = λ p o c l. k p (h p o c l)
+part_kept v s here es fs k (Isolated w) h = λ c l. k (point_in v w) (h c l)
+
+pub still_seen : (v : View) (k l : Search) → IsOneSearch k l → AreKept k.found.entries l.found.entries → (t : BoundaryPart) → HasSeen v k t → HasSeen v l t
+still_seen v k l one kept t h failed =
+    subst (λ (z : Segment). IsPartTaken v z l.here l.found.entries t) (sym one.segment)
+    (subst (λ (z : Point). IsPartTaken v k.segment z l.found.entries t) (sym one.here)
+    (part_kept v k.segment k.here k.found.entries l.found.entries kept t (h (one.failed failed))))
+
+-- what one look takes
+abbrev TakesOnly : View → Search → Search → (Point → Type 0) → Type 0
+TakesOnly v k l P = (p : Point) (at : Spot) → Member (p, at) l.found.entries → Member (p, at) k.found.entries ⊎ (P p × IsThere v p at × (precedes k.here p ≡ true))
+
+pub both_takes : (v : View) (P Q R : Point → Type 0) (k l m : Search) → IsOneSearch k l → TakesOnly v k l P → TakesOnly v l m Q → ((p : Point) → P p → R p) → ((p : Point) → Q p → R p) → TakesOnly v k m R
+both_takes v P Q R k l m one f g a b p at i = elim (g p at i) [
+  | inr w ↦ inr (b p w.0, w.1, ap (λ (x : Point). precedes x p) (sym one.here) ∙ w.2)
+  | inl n ↦ elim (f p at n) [ inl o ↦ inl o | inr w ↦ inr (a p w.0, w.1, w.2) ]
+]
+
+pub goes_on : (v : View) (P : Point → Type 0) (o k l : Search) → IsSearchFrom v o k → IsOneSearch k l → AreKept k.found.entries l.found.entries → ((p : Point) → P p → Contains (meeting_points v k.segment) p) → TakesOnly v k l P → IsSearchFrom v o l
+goes_on v P o k l h one kept sound only = record {
+  one = one_on o k l h.one one;
+  sound = h.sound;
+  ends = subst (λ (z : Segment). AreEnds z) (sym one.segment) h.ends;
+  whole = subst (λ (z : Segment). IsSpan (span_of_segment z)) (sym one.segment) h.whole;
+  from = (λ i. precedes (one.here i) (one.segment i).lower) ∙ h.from;
+  found =
+      subst (λ (z : Segment). AreFoundAfter v z l.here l.found.entries) (sym one.segment)
+      (subst (λ (z : Point). AreFoundAfter v k.segment z l.found.entries) (sym one.here)
+      (λ p at m. elim (only p at m) [ inl n ↦ h.found p at n | inr w ↦ record { meets = sound p w.0; later = w.2; there = w.1 } ]));
+  kept = kept_on o.found.entries k.found.entries l.found.entries h.kept kept;
+}
+
+-- ---- a look at a dart
+module _ (v : View) (o k : Search) (h : IsSearchFrom v o k) (d : DartId) (has : HasDart v d) (is : IsSpan (span_in v d)) (m : Meet) (meet : IsMeeting (span_of_segment k.segment) (span_in v d) m) where
+  pub is_point : (p : Point) → ((points_of_meet m).0 ≡ Some p) ⊎ ((points_of_meet m).1 ≡ Some p) → Contains (meeting_points v k.segment) p × IsOnEdge v d p
+  is_point p e = is_sound v h.sound k.segment (course k.segment h.ends) h.whole d has is m meet p e
+
+  after_lower : (p : Point) → precedes k.here p ≡ true → Lt k.segment.lower p
+  after_lower p l = le_lt_lt (at_most k.segment.lower k.here h.from) (lt_out k.here p l)
+
+  pub dart_taken : (es : List (Point × Spot)) → ((p : Point) → ((points_of_meet m).0 ≡ Some p) ⊎ ((points_of_meet m).1 ≡ Some p) → precedes k.here p ≡ true → Member p (keys_of es)) → IsPartTaken v k.segment k.here es (Dart d)
+  dart_taken es f p on c l = f p (is_told v h.sound k.segment (course k.segment h.ends) h.whole d has is m meet p (after_lower p l) c on) l
+
+-- ---- a look at a vertex
+module _ (v : View) (o k : Search) (h : IsSearchFrom v o k) (w : VertexId) (has : HasVertex v w) (m : Meet) (meet : IsPointMeet k.segment (point_in v w) m) where
+  pub vertex_meets : (p : Point) → (points_of_meet m).0 ≡ Some p → (p ≡ point_in v w) × Contains (meeting_points v k.segment) p
+  vertex_meets p e = by m meet e
+    where
+      by : (m : Meet) → IsPointMeet k.segment (point_in v w) m → (points_of_meet m).0 ≡ Some p → (p ≡ point_in v w) × Contains (meeting_points v k.segment) p
+      by Apart x e = absurd cc
+      by (Along a b) x e = absurd x
+      by (At q) x e =
+          let z : p ≡ point_in v w = some_is q p e ∙ x.0 in
+          (z, listed v h.sound k.segment (course k.segment h.ends) p (vertex w has z (ap (is_on_segment k.segment) z ∙ x.1)))
+        where
+          some_is : (a b : Point) → Some a ≡ Some b → b ≡ a
+          some_is a b e = cc
+
+  pub vertex_missed : (points_of_meet m).0 ≡ None → Contains (meeting_points v k.segment) (point_in v w) → ⊥
+  vertex_missed e c = by m meet e
+    where
+      by : (m : Meet) → IsPointMeet k.segment (point_in v w) m → (points_of_meet m).0 ≡ None → ⊥
+      by Apart x e = clash (on_segment (point_in v w) c) x
+        where
+          on_segment : (p : Point) → Contains (meeting_points v k.segment) p → is_on_segment k.segment p ≡ true
+          on_segment p m = lies_in k.segment p (meets_lies v h.sound k.segment (course k.segment h.ends) p (told v h.sound k.segment (course k.segment h.ends) p m))
+      by (Along a b) x e = absurd x
+      by (At q) x e = absurd cc

@@ -1,0 +1,42 @@
+-- Where the walk begins, and what it asks of the next step.
+use Rattle.std.proofs.Common.{◌≡◌, List, [], refl, sym, ap, ◌∙◌, subst}
+use Rattle.std.specs.List.{list_any}
+use Rattle.std.specs.Ordering.{is_eq, nat_cmp}
+use Rattle.exact_plane.specs.Point.{Point}
+use Rattle.exact_plane.specs.Segment.{Segment, AreEnds}
+use Rattle.exact_plane.specs.Span.{IsSpan, span_of_segment}
+use Rattle.plane_graphs.specs.Ascending.{Member}
+use Rattle.plane_graphs.specs.Line.{precedes}
+use Rattle.plane_graphs.proofs.Lists.{clash}
+use Rattle.plane_graphs.proofs.Order.{lt_out, lt_never}
+use Rattle.integers.proofs.Tests.{not_true}
+use Rattle.slab_laws.specs.Sound.{IsGraphSound}
+use Rattle.slab_laws.specs.View.{View, Faces}
+use Rattle.dcel_records.specs.declared.spot.Spot.{Spot}
+use Rattle.zone_walk.specs.Searches.{AreFoundAfter}
+use Rattle.zone_walk.specs.Walk.{IsSearchAt}
+use Rattle.zone_walk.specs.declared.search.Search.{Search}
+
+none_found : (v : View) (g : Segment) (p : Point) (es : List (Point × Spot)) → es ≡ [] → AreFoundAfter v g p es
+none_found v g p es e q at m = absurd (subst (λ (xs : List (Point × Spot)). Member (q, at) xs) e m)
+
+module _ (v : View) (f : Faces) (s : IsGraphSound v) (g : Segment) (l : Search) where
+  pub began : (p : Point) → p ≡ g.lower → l.segment ≡ g → l.here ≡ g.lower → l.found.entries ≡ [] → l.visited.keys ≡ [] → AreEnds g → IsSpan (span_of_segment g) → IsSearchAt v f g p l
+  began p e segment here found visited ends whole = record {
+    search = record {
+      one = record { segment = refl; here = refl; visited = refl; failed = λ z. z };
+      sound = s;
+      ends = subst AreEnds (sym segment) ends;
+      whole = subst (λ (z : Segment). IsSpan (span_of_segment z)) (sym segment) whole;
+      from = (λ i. precedes (here i) (segment i).lower) ∙ not_true (precedes g.lower g.lower) (λ z. lt_never (lt_out g.lower g.lower z));
+      found = none_found v l.segment l.here l.found.entries found;
+      kept = λ r m. m;
+    };
+    segment = segment;
+    here = here ∙ sym e;
+    visited = λ b h. absurd (clash h (ap (λ ks. list_any (λ k. is_eq (nat_cmp b.0 k)) ks) visited));
+  }
+
+  module _ (p : Point) (a : IsSearchAt v f g p l) where
+    pub at_itself : IsSearchAt v f l.segment l.here l
+    at_itself = subst (λ (z : Segment). IsSearchAt v f z l.here l) (sym a.segment) (subst (λ (x : Point). IsSearchAt v f g x l) (sym a.here) a)

@@ -1,0 +1,81 @@
+-- What a search of a face's boundary for meeting points has found.
+use Rattle.std.specs.Prelude.{◌≡◌, ◌⊎◌, true, false, List, Contains, Option, Some, None}
+use Rattle.std.specs.Map.{keys_of}
+use Rattle.exact_plane.specs.Point.{Point}
+use Rattle.exact_plane.specs.declared.meets.Meet.{Meet}
+use Rattle.exact_plane.specs.declared.meets.Meet.TheVariants.{Apart, At, Along}
+use Rattle.exact_plane.specs.Segment.{Segment, AreEnds}
+use Rattle.exact_plane.specs.Span.{IsSpan, span_of_segment}
+use Rattle.plane_graphs.specs.Ascending.{Member}
+use Rattle.plane_graphs.specs.Line.{precedes}
+use Rattle.slab_laws.specs.declared.names.DartId.{DartId}
+use Rattle.slab_laws.specs.Skeleton.{inside}
+use Rattle.slab_laws.specs.Sound.{edge_in, IsGraphSound}
+use Rattle.slab_laws.specs.View.{View, point_in, source_in, target_in}
+use Rattle.counted_looks.specs.declared.boundary_part.BoundaryPart.{BoundaryPart}
+use Rattle.counted_looks.specs.declared.boundary_part.BoundaryPart.TheVariants.{Dart, Isolated}
+use Rattle.dcel_records.specs.declared.spot.Spot.{Spot}
+use Rattle.dcel_records.specs.declared.spot.Spot.TheVariants.{Vertex, Edge, Face}
+use Rattle.dcel_records.specs.Spots.{IsMet, met_of}
+use Rattle.zone_walk.specs.Zone.{meeting_points}
+use Rattle.zone_walk.specs.declared.search.Search.{Search}
+
+-- no point is lost (this project)
+abbrev pub AreKept : List (Point × Spot) → List (Point × Spot) → Type 0
+AreKept old new = (p : Point) → Member p (keys_of old) → Member p (keys_of new)
+
+-- the point is inside the edge of the dart, or one of its ends
+abbrev pub IsOnEdge : View → DartId → Point → Type 0
+IsOnEdge v d p = (p ≡ point_in v (source_in v d)) ⊎ ((p ≡ point_in v (target_in v d)) ⊎ (inside (edge_in v d) p ≡ true))
+
+-- the vertex at the point, or the edge that has it inside
+abbrev pub IsThere : View → Point → Spot → Type 0
+IsThere v p (Vertex w) = IsMet v p (met_of (Vertex w))
+IsThere v p (Edge d) = IsMet v p (met_of (Edge d))
+IsThere v p (Face a) = ⊥
+
+-- a meeting point after another one, with the vertex or edge that it meets (this project)
+pub record IsFoundAfter (v : View) (s : Segment) (here p : Point) (spot : Spot) : Type 0 where
+  pub meets : Contains (meeting_points v s) p
+  pub later : precedes here p ≡ true
+  pub there : IsThere v p spot
+
+-- each that is found is such a point (this project)
+abbrev pub AreFoundAfter : View → Segment → Point → List (Point × Spot) → Type 0
+AreFoundAfter v s here es = (p : Point) (spot : Spot) → Member (p, spot) es → IsFoundAfter v s here p spot
+
+-- the point is found, if it is a meeting point after another one (this project)
+abbrev pub IsTaken : View → Segment → Point → List (Point × Spot) → Point → Type 0
+IsTaken v s here es p = Contains (meeting_points v s) p → precedes here p ≡ true → Member p (keys_of es)
+
+-- the later meeting points on the edge of a dart or at a vertex are found (this project)
+abbrev pub IsPartTaken : View → Segment → Point → List (Point × Spot) → BoundaryPart → Type 0
+IsPartTaken v s here es (Dart d) = (p : Point) → IsOnEdge v d p → IsTaken v s here es p
+IsPartTaken v s here es (Isolated w) = IsTaken v s here es (point_in v w)
+
+-- the point, or the ends of the part, that is common
+abbrev pub points_of_meet : Meet → Option Point × Option Point
+points_of_meet Apart = (None, None)
+points_of_meet (At p) = (Some p, None)
+points_of_meet (Along p q) = (Some p, Some q)
+
+-- both are searches from one point of one segment, and have visited the same faces; what failed stays so (this project)
+pub record IsOneSearch (k l : Search) : Type 0 where
+  pub segment : l.segment ≡ k.segment
+  pub here : l.here ≡ k.here
+  pub visited : l.visited ≡ k.visited
+  pub failed : l.failed ≡ false → k.failed ≡ false
+
+-- the search l has gone on from k in a sound view: it has found what k had, and later meeting points alone (this project)
+pub record IsSearchFrom (v : View) (k l : Search) : Type 0 where
+  pub one : IsOneSearch k l
+  pub sound : IsGraphSound v
+  pub ends : AreEnds l.segment
+  pub whole : IsSpan (span_of_segment l.segment)
+  pub from : precedes l.here l.segment.lower ≡ false
+  pub found : AreFoundAfter v l.segment l.here l.found.entries
+  pub kept : AreKept k.found.entries l.found.entries
+
+-- unless memory was wanting, the later meeting points on the part of the boundary are found (this project)
+abbrev pub HasSeen : View → Search → BoundaryPart → Type 0
+HasSeen v l t = l.failed ≡ false → IsPartTaken v l.segment l.here l.found.entries t

@@ -1,0 +1,158 @@
+//! The look at a face's boundary for meeting points.
+ghost use Rattle.std.specs.Prelude.{◌≡◌, ◌⊎◌, ◌+◌, true, false, Some, IfSome};
+ghost use Rattle.std.specs.Map.{keys_of};
+ghost use Rattle.plane_graphs.specs.Ascending.{Member};
+ghost use Rattle.plane_graphs.specs.Line.{precedes};
+ghost use Rattle.slab_laws.specs.Sound.{IsGraphSound};
+ghost use Rattle.slab_laws.specs.View.{HasVertex, HasDart, point_in, source_in, target_in};
+ghost use Rattle.counted_looks.specs.declared.boundary_part.BoundaryPart.TheVariants.{Dart, Isolated};
+ghost use Rattle.zone_walk.specs.Searches.{AreKept, IsOnEdge, IsThere, IsOneSearch, IsSearchFrom, HasSeen, points_of_meet};
+
+use crate::sight::{Seen, Sight};
+use counted_looks::{BoundaryPart, Looker, NameCalls};
+use dcel_records::Spot;
+use exact_plane::{Meet, Point, Segment};
+use slab_laws::{DartId, VertexId};
+use std::collections::{BTreeMap, BTreeSet};
+use std::sync::ledger::Ledger;
+use work_steps::Steps;
+
+/// A search for the meeting points of a segment after one of its points.
+#[derive(Drop)]
+pub(crate) struct Search {
+    pub(crate) segment: Segment,
+    pub(crate) here: Point,
+    /// Those that were found, each with the vertex or edge at which it is.
+    pub(crate) found: BTreeMap<Point, Spot>,
+    /// The names of the faces whose boundaries were looked at.
+    pub(crate) visited: BTreeSet<usize>,
+    /// Whether there was no memory for one that was found.
+    pub(crate) failed: bool,
+}
+
+impl Search {
+    // Keeps a point, where it comes later.
+    fn take(&mut self, point: Point, spot: Spot)
+        ensures same { IsOneSearch self.old self.new }
+        ensures kept { AreKept self.old.found.entries self.new.found.entries }
+        ensures taken { self.new.failed ≡ false → precedes self.old.here point ≡ true → Member point (keys_of self.new.found.entries) }
+        ensures only { (p : _) (at : _) → Member (p, at) self.new.found.entries → Member (p, at) self.old.found.entries ⊎ ((p ≡ point) × (at ≡ spot) × (precedes self.old.here p ≡ true)) }
+    {
+        if self.here < point {
+            match self.found.insert(point, spot) {
+                Ok(_) => {}
+                Err(_) => self.failed = true,
+            }
+        }
+    }
+}
+
+// The vertex at a point on the edge of a dart between two points, or the edge.
+fn spot_on<T: Sight>(sight: &T, dart: DartId, source: &Point, target: &Point, point: &Point) -> Spot
+    requires sound { IsGraphSound (T.graph sight.now) }
+    requires dart { HasDart (T.graph sight.now) dart }
+    requires source { source.now ≡ point_in (T.graph sight.now) (source_in (T.graph sight.now) dart) }
+    requires target { target.now ≡ point_in (T.graph sight.now) (target_in (T.graph sight.now) dart) }
+    ensures { IsOnEdge (T.graph sight.now) dart point.now → IsThere (T.graph sight.now) point.now result }
+{
+    if *point == *source {
+        Spot::Vertex(sight.source(dart))
+    } else if *point == *target {
+        Spot::Vertex(sight.target(dart))
+    } else if *source < *target {
+        Spot::Edge(dart)
+    } else {
+        Spot::Edge(sight.twin(dart))
+    }
+}
+
+// Keeps a point on the edge of a dart that was seen, where there is one.
+fn take_on<T: Sight>(
+    search: &mut Search,
+    sight: &T,
+    dart: DartId,
+    seen: &Seen,
+    point: Option<Point>,
+)
+    requires sound { IsGraphSound (T.graph sight.now) }
+    requires dart { HasDart (T.graph sight.now) dart }
+    requires source { seen.now.source ≡ point_in (T.graph sight.now) (source_in (T.graph sight.now) dart) }
+    requires target { seen.now.target ≡ point_in (T.graph sight.now) (target_in (T.graph sight.now) dart) }
+    requires on { IfSome point (IsOnEdge (T.graph sight.now) dart) }
+    ensures same { IsOneSearch search.old search.new }
+    ensures kept { AreKept search.old.found.entries search.new.found.entries }
+    ensures taken { search.new.failed ≡ false → IfSome point (λ p. precedes search.old.here p ≡ true → Member p (keys_of search.new.found.entries)) }
+    ensures only { (p : _) (at : _) → Member (p, at) search.new.found.entries → Member (p, at) search.old.found.entries ⊎ ((point ≡ Some p) × IsThere (T.graph sight.now) p at × (precedes search.old.here p ≡ true)) }
+{
+    if let Some(point) = point {
+        let spot = spot_on(sight, dart, &seen.source, &seen.target, &point);
+        search.take(point, spot);
+    }
+}
+
+// The point, or the ends of the part, that a segment has in common with an edge.
+fn common_points(meet: Meet) -> (Option<Point>, Option<Point>)
+    ensures { result ≡ points_of_meet meet }
+{
+    match meet {
+        Meet::Apart => (None, None),
+        Meet::At(point) => (Some(point), None),
+        Meet::Along(first, last) => (Some(first), Some(last)),
+    }
+}
+
+// Looks at a dart, and keeps the meeting points on its edge and its ends.
+fn look_at_dart<T: Sight, L: Ledger>(
+    search: &mut Search,
+    sight: &T,
+    dart: DartId,
+    steps: &mut Steps<L>,
+)
+    requires ready { (k : _) × IsSearchFrom (T.graph sight.now) k search.old }
+    requires dart { HasDart (T.graph sight.now) dart }
+    ensures ready { (k : _) → IsSearchFrom (T.graph sight.now) k search.old → IsSearchFrom (T.graph sight.now) k search.new }
+    ensures seen { HasSeen (T.graph sight.now) search.new (Dart dart) }
+    ensures still { (t : _) → HasSeen (T.graph sight.now) search.old t → HasSeen (T.graph sight.now) search.new t }
+    ensures one { steps.new ≡ steps.old + 1 }
+{
+    let seen = sight.see(Spot::Edge(dart), &search.segment, steps);
+    let (first, last) = common_points(seen.meet);
+    take_on(search, sight, dart, &seen, first);
+    take_on(search, sight, dart, &seen, last);
+}
+
+// Looks at a vertex, and keeps it where the segment meets it.
+fn look_at_vertex<T: Sight, L: Ledger>(
+    search: &mut Search,
+    sight: &T,
+    vertex: VertexId,
+    steps: &mut Steps<L>,
+)
+    requires ready { (k : _) × IsSearchFrom (T.graph sight.now) k search.old }
+    requires vertex { HasVertex (T.graph sight.now) vertex }
+    ensures ready { (k : _) → IsSearchFrom (T.graph sight.now) k search.old → IsSearchFrom (T.graph sight.now) k search.new }
+    ensures seen { HasSeen (T.graph sight.now) search.new (Isolated vertex) }
+    ensures still { (t : _) → HasSeen (T.graph sight.now) search.old t → HasSeen (T.graph sight.now) search.new t }
+    ensures one { steps.new ≡ steps.old + 1 }
+{
+    let seen = sight.see(Spot::Vertex(vertex), &search.segment, steps);
+    let (point, _) = common_points(seen.meet);
+    if let Some(point) = point {
+        search.take(point, Spot::Vertex(vertex));
+    }
+}
+
+impl<T: Sight> Looker<T> for Search {
+    ghost use Rattle.zone_walk.specs.Searches.{IsSearchFrom as GoesOn, HasSeen as HasFound};
+
+    ghost may_look = { λ v k l. GoesOn v k l };
+
+    ghost has_seen = { λ v l t. HasFound v l t };
+
+    fn look<L: Ledger>(&mut self, sight: &T, at: BoundaryPart, steps: &mut Steps<L>) {
+        match at {
+            BoundaryPart::Dart(dart) => look_at_dart(self, sight, dart, steps),
+            BoundaryPart::Isolated(vertex) => look_at_vertex(self, sight, vertex, steps),
+        }
+    }
+}
