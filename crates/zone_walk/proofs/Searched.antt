@@ -1,12 +1,12 @@
 -- A search goes on as points are taken, and finds what it looks at.
-use Rattle.std.proofs.Common.{◌≡◌, ◌≢◌, true, false, Some, None, Contains, List, sym, ap, ◌∙◌, subst, inl, inr, ◌⊎◌}
+use Rattle.std.proofs.Common.{◌≡◌, ◌≢◌, true, false, Some, None, Contains, Option, List, refl, sym, ap, ◌∙◌, subst, inl, inr, ◌⊎◌, ⊎_elim}
 use Rattle.std.specs.Map.{keys_of}
 use Rattle.exact_plane.specs.Meet.{IsMeeting}
 use Rattle.exact_plane.specs.Point.{Point}
 use Rattle.exact_plane.specs.Segment.{Segment, AreEnds}
-use Rattle.exact_plane.specs.Span.{IsSpan, span_of_segment}
+use Rattle.exact_plane.specs.Span.{Span, IsSpan, span_of_segment}
 use Rattle.exact_plane.specs.declared.meets.Meet.{Meet}
-use Rattle.exact_plane.specs.declared.meets.Meet.TheVariants.{Apart, At, Along}
+use Rattle.exact_plane.specs.declared.meets.Meet.TheVariants.{Apart}
 use Rattle.plane_graphs.specs.Ascending.{Member}
 use Rattle.plane_graphs.specs.Graph.{Edge as PlaneEdge}
 use Rattle.plane_graphs.specs.Line.{precedes}
@@ -24,7 +24,8 @@ use Rattle.dcel_records.specs.declared.spot.Spot.{Spot}
 use Rattle.dcel_records.specs.declared.spot.Spot.TheVariants.{Vertex, Edge}
 use Rattle.sound_views.proofs.ForwardDarts.{is_behind, target_has}
 use Rattle.zone_walk.specs.Searches.{AreKept, IsOnEdge, IsThere, AreFoundAfter, IsPartTaken, IsOneSearch, IsSearchFrom, HasSeen, points_of_meet}
-use Rattle.zone_walk.specs.Sights.{span_in, IsPointMeet}
+use Rattle.zone_walk.specs.Sights.{IsDartMet, IsVertexMet, span_in, is_on_span, meet_between}
+use Rattle.zone_walk.specs.declared.sight.CommonPoints.{CommonPoints}
 use Rattle.zone_walk.specs.Zone.{is_on_segment, meeting_points}
 use Rattle.zone_walk.specs.declared.search.Search.{Search}
 use Rattle.zone_walk.proofs.Aheads.{at_most}
@@ -54,7 +55,7 @@ module _ (v : View) (s : IsGraphSound v) (d : DartId) (has : HasDart v d) (p : P
 
 -- ---- searches
 pub one_on : (k l m : Search) → IsOneSearch k l → IsOneSearch l m → IsOneSearch k m
-one_on k l m a b = record { segment = b.segment ∙ a.segment; here = b.here ∙ a.here; visited = b.visited ∙ a.visited; failed = λ e. a.failed (b.failed e) }
+one_on k l m a b = record { segment = b.segment ∙ a.segment; here = b.here ∙ a.here; visited = b.visited ∙ a.visited; whole = b.whole ∙ a.whole; failed = λ e. a.failed (b.failed e) }
 
 pub kept_on : (a b c : List (Point × Spot)) → AreKept a b → AreKept b c → AreKept a c
 kept_on a b c f g p m = g p (f p m)
@@ -86,6 +87,7 @@ goes_on v P o k l h one kept sound only = record {
   sound = h.sound;
   ends = subst (λ (z : Segment). AreEnds z) (sym one.segment) h.ends;
   whole = subst (λ (z : Segment). IsSpan (span_of_segment z)) (sym one.segment) h.whole;
+  spanned = one.whole ∙ h.spanned ∙ ap span_of_segment (sym one.segment);
   from = (λ i. precedes (one.here i) (one.segment i).lower) ∙ h.from;
   found =
       subst (λ (z : Segment). AreFoundAfter v z l.here l.found.entries) (sym one.segment)
@@ -95,38 +97,49 @@ goes_on v P o k l h one kept sound only = record {
 }
 
 -- ---- a look at a dart
-module _ (v : View) (o k : Search) (h : IsSearchFrom v o k) (d : DartId) (has : HasDart v d) (is : IsSpan (span_in v d)) (m : Meet) (meet : IsMeeting (span_of_segment k.segment) (span_in v d) m) where
-  pub is_point : (p : Point) → ((points_of_meet m).0 ≡ Some p) ⊎ ((points_of_meet m).1 ≡ Some p) → Contains (meeting_points v k.segment) p × IsOnEdge v d p
-  is_point p e = is_sound v h.sound k.segment (course k.segment h.ends) h.whole d has is m meet p e
+points_between : (p : Point) (o : Option Point) → points_of_meet (meet_between p o) ≡ (Some p, o)
+points_between p None = refl
+points_between p (Some q) = refl
 
+module _ (v : View) (o k : Search) (h : IsSearchFrom v o k) (d : DartId) (has : HasDart v d) where
   after_lower : (p : Point) → precedes k.here p ≡ true → Lt k.segment.lower p
   after_lower p l = le_lt_lt (at_most k.segment.lower k.here h.from) (lt_out k.here p l)
 
-  pub dart_taken : (es : List (Point × Spot)) → ((p : Point) → ((points_of_meet m).0 ≡ Some p) ⊎ ((points_of_meet m).1 ≡ Some p) → precedes k.here p ≡ true → Member p (keys_of es)) → IsPartTaken v k.segment k.here es (Dart d)
-  dart_taken es f p on c l = f p (is_told v h.sound k.segment (course k.segment h.ends) h.whole d has is m meet p (after_lower p l) c on) l
+  of_segment : (m : Meet) → IsMeeting k.whole (span_in v d) m → IsMeeting (span_of_segment k.segment) (span_in v d) m
+  of_segment m = subst (λ (w : Span). IsMeeting w (span_in v d) m) h.spanned
+
+  -- nothing is common
+  pub none_taken : IsSpan (span_in v d) → IsMeeting k.whole (span_in v d) Apart → (es : List (Point × Spot)) → IsPartTaken v k.segment k.here es (Dart d)
+  none_taken is meet es = λ p on c l.
+      ⊎_elim (λ e. absurd (no_point e)) (λ e. absurd (no_point e))
+      (is_told v h.sound k.segment (course k.segment h.ends) h.whole d has is Apart (of_segment Apart meet) p (after_lower p l) c on)
+    where
+      no_point : {p : Point} → None ≡ Some p → ⊥
+      no_point e = cc
+
+  module _ (c : CommonPoints) (met : IsDartMet v k.whole d c) where
+    is_meet : IsMeeting (span_of_segment k.segment) (span_in v d) (meet_between c.first c.last)
+    is_meet = of_segment (meet_between c.first c.last) met.meet
+
+    pub is_point : (p : Point) → (Some c.first ≡ Some p) ⊎ (c.last ≡ Some p) → Contains (meeting_points v k.segment) p × IsOnEdge v d p
+    is_point p e =
+        is_sound v h.sound k.segment (course k.segment h.ends) h.whole d has met.span (meet_between c.first c.last) is_meet p
+        (subst (λ (z : Option Point × Option Point). (z.0 ≡ Some p) ⊎ (z.1 ≡ Some p)) (sym (points_between c.first c.last)) e)
+
+    pub dart_taken : (es : List (Point × Spot)) → ((p : Point) → (Some c.first ≡ Some p) ⊎ (c.last ≡ Some p) → precedes k.here p ≡ true → Member p (keys_of es)) → IsPartTaken v k.segment k.here es (Dart d)
+    dart_taken es f p on m l =
+        f p
+        (subst (λ (z : Option Point × Option Point). (z.0 ≡ Some p) ⊎ (z.1 ≡ Some p)) (points_between c.first c.last)
+        (is_told v h.sound k.segment (course k.segment h.ends) h.whole d has met.span (meet_between c.first c.last) is_meet p (after_lower p l) m on))
+        l
 
 -- ---- a look at a vertex
-module _ (v : View) (o k : Search) (h : IsSearchFrom v o k) (w : VertexId) (has : HasVertex v w) (m : Meet) (meet : IsPointMeet k.segment (point_in v w) m) where
-  pub vertex_meets : (p : Point) → (points_of_meet m).0 ≡ Some p → (p ≡ point_in v w) × Contains (meeting_points v k.segment) p
-  vertex_meets p e = by m meet e
-    where
-      by : (m : Meet) → IsPointMeet k.segment (point_in v w) m → (points_of_meet m).0 ≡ Some p → (p ≡ point_in v w) × Contains (meeting_points v k.segment) p
-      by Apart x e = absurd cc
-      by (Along a b) x e = absurd x
-      by (At q) x e =
-          let z : p ≡ point_in v w = some_is q p e ∙ x.0 in
-          (z, listed v h.sound k.segment (course k.segment h.ends) p (vertex w has z (ap (is_on_segment k.segment) z ∙ x.1)))
-        where
-          some_is : (a b : Point) → Some a ≡ Some b → b ≡ a
-          some_is a b e = cc
+module _ (v : View) (o k : Search) (h : IsSearchFrom v o k) (w : VertexId) (has : HasVertex v w) where
+  of_whole : is_on_span k.whole (point_in v w) ≡ is_on_segment k.segment (point_in v w)
+  of_whole = ap (λ (z : Span). is_on_span z (point_in v w)) h.spanned
 
-  pub vertex_missed : (points_of_meet m).0 ≡ None → Contains (meeting_points v k.segment) (point_in v w) → ⊥
-  vertex_missed e c = by m meet e
-    where
-      by : (m : Meet) → IsPointMeet k.segment (point_in v w) m → (points_of_meet m).0 ≡ None → ⊥
-      by Apart x e = clash (on_segment (point_in v w) c) x
-        where
-          on_segment : (p : Point) → Contains (meeting_points v k.segment) p → is_on_segment k.segment p ≡ true
-          on_segment p m = lies_in k.segment p (meets_lies v h.sound k.segment (course k.segment h.ends) p (told v h.sound k.segment (course k.segment h.ends) p m))
-      by (Along a b) x e = absurd x
-      by (At q) x e = absurd cc
+  pub vertex_meets : (c : CommonPoints) → IsVertexMet v k.whole w c → Contains (meeting_points v k.segment) c.first
+  vertex_meets c met = listed v h.sound k.segment (course k.segment h.ends) c.first (vertex w has met.first (ap (is_on_segment k.segment) met.first ∙ sym of_whole ∙ met.on))
+
+  pub vertex_missed : is_on_span k.whole (point_in v w) ≡ false → Contains (meeting_points v k.segment) (point_in v w) → ⊥
+  vertex_missed e c = clash (lies_in k.segment (point_in v w) (meets_lies v h.sound k.segment (course k.segment h.ends) (point_in v w) (told v h.sound k.segment (course k.segment h.ends) (point_in v w) c))) (sym of_whole ∙ e)

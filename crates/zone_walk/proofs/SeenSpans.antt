@@ -91,11 +91,8 @@ module _ (v : View) (s : IsGraphSound v) (d : DartId) (has : HasDart v d) where
           by Equal e = let h = equal_out z (pos 0) e in ap (λ k. other_side (sign_by k)) e ∙ ap sign_by (sym (equal_in (neg_ℤ z) (pos 0) (omega (arith, ints))))
           by Greater e = let h = greater_out z (pos 0) e in ap (λ k. other_side (sign_by k)) e ∙ ap sign_by (sym (less_in (neg_ℤ z) (pos 0) (omega (arith, ints))))
 
-  -- ---- what rules out that a segment meets it
-  module _ (g : Segment) (is : IsSpan (span_in v d)) where
-    abbrev whole : Span
-    whole = span_of_segment g
-
+  -- ---- what rules out that a span meets it
+  module _ (whole : Span) (is : IsSpan (span_in v d)) where
     abbrev low : Point
     low = (span_in v d).lower
 
@@ -103,22 +100,22 @@ module _ (v : View) (s : IsGraphSound v) (d : DartId) (has : HasDart v d) where
     high = (span_in v d).upper
 
     -- both ends before it, or both after it
-    pub away : (p q : Point) → p ≡ from → q ≡ to → cond (precedes p g.lower) (precedes q g.lower) (precedes g.upper p && precedes g.upper q) ≡ true → AreApart whole (span_in v d)
-    away p q e f h r R a b = by (precedes from g.lower) refl (sym (λ i. cond (precedes (e i) g.lower) (precedes (f i) g.lower) (precedes g.upper (e i) && precedes g.upper (f i))) ∙ h)
+    pub away : (p q : Point) → p ≡ from → q ≡ to → cond (precedes p whole.lower) (precedes q whole.lower) (precedes whole.upper p && precedes whole.upper q) ≡ true → AreApart whole (span_in v d)
+    away p q e f h r R a b = by (precedes from whole.lower) refl (sym (λ i. cond (precedes (e i) whole.lower) (precedes (f i) whole.lower) (precedes whole.upper (e i) && precedes whole.upper (f i))) ∙ h)
       where
-        by : (z : Bool) → precedes from g.lower ≡ z → cond (precedes from g.lower) (precedes to g.lower) (precedes g.upper from && precedes g.upper to) ≡ true → ⊥
+        by : (z : Bool) → precedes from whole.lower ≡ z → cond (precedes from whole.lower) (precedes to whole.lower) (precedes whole.upper from && precedes whole.upper to) ≡ true → ⊥
         by true z k =
-            let w = both_ends (λ x. Lt x g.lower) (lt_out from g.lower z) (lt_out to g.lower (sym (ap (λ (y : Bool). cond y (precedes to g.lower) (precedes g.upper from && precedes g.upper to)) z) ∙ k)) in
-            lt_never (le_lt_lt (at_most_out g.lower r a.from) (le_lt_lt (at_most_out r high b.upto) w.1))
+            let w = both_ends (λ x. Lt x whole.lower) (lt_out from whole.lower z) (lt_out to whole.lower (sym (ap (λ (y : Bool). cond y (precedes to whole.lower) (precedes whole.upper from && precedes whole.upper to)) z) ∙ k)) in
+            lt_never (le_lt_lt (at_most_out whole.lower r a.from) (le_lt_lt (at_most_out r high b.upto) w.1))
         by false z k =
-            let m = and_true (precedes g.upper from) (precedes g.upper to) (sym (ap (λ (y : Bool). cond y (precedes to g.lower) (precedes g.upper from && precedes g.upper to)) z) ∙ k) in
-            let w = both_ends (λ x. Lt g.upper x) (lt_out g.upper from m.0) (lt_out g.upper to m.1) in
-            lt_never (lt_le_lt w.0 (record { never = λ l. (at_most_out low r b.from).never (le_lt_lt (at_most_out r g.upper a.upto) l) }))
+            let m = and_true (precedes whole.upper from) (precedes whole.upper to) (sym (ap (λ (y : Bool). cond y (precedes to whole.lower) (precedes whole.upper from && precedes whole.upper to)) z) ∙ k) in
+            let w = both_ends (λ x. Lt whole.upper x) (lt_out whole.upper from m.0) (lt_out whole.upper to m.1) in
+            lt_never (lt_le_lt w.0 (record { never = λ l. (at_most_out low r b.from).never (le_lt_lt (at_most_out r whole.upper a.upto) l) }))
 
     -- both ends on one side of its line
     module _ (r : Point) (R : IsPoint r) (a : LiesOn whole r) (b : LiesOn (span_in v d) r) where
       abbrev m : Line
-      m = line_of_segment g
+      m = whole.line
 
       not_left : pos 0 <ℤ side_of m low → pos 0 <ℤ side_of m high → ⊥
       not_left x y = elim (le_cases low r (at_most_out low r b.from)) [
@@ -142,7 +139,7 @@ module _ (v : View) (s : IsGraphSound v) (d : DartId) (has : HasDart v d) where
         ]
       ]
 
-    pub aside : (p q : Point) → p ≡ from → q ≡ to → (is_left (line_of_segment g) p && is_left (line_of_segment g) q) || (is_right (line_of_segment g) p && is_right (line_of_segment g) q) ≡ true → AreApart whole (span_in v d)
+    pub aside : (p q : Point) → p ≡ from → q ≡ to → (is_left (whole.line) p && is_left (whole.line) q) || (is_right (whole.line) p && is_right (whole.line) q) ≡ true → AreApart whole (span_in v d)
     aside p q e f h r R a b = elim (or_out (is_left n from && is_left n to) (is_right n from && is_right n to) (sym (λ i. (is_left n (e i) && is_left n (f i)) || (is_right n (e i) && is_right n (f i))) ∙ h)) [
       | inl k ↦
           let z = and_true (is_left n from) (is_left n to) k in
@@ -155,4 +152,4 @@ module _ (v : View) (s : IsGraphSound v) (d : DartId) (has : HasDart v d) where
     ]
       where
         n : Line
-        n = line_of_segment g
+        n = whole.line

@@ -21,13 +21,14 @@ none_found : (v : View) (g : Segment) (p : Point) (es : List (Point × Spot)) �
 none_found v g p es e q at m = absurd (subst (λ (xs : List (Point × Spot)). Member (q, at) xs) e m)
 
 module _ (v : View) (f : Faces) (s : IsGraphSound v) (g : Segment) (l : Search) where
-  pub began : (p : Point) → p ≡ g.lower → l.segment ≡ g → l.here ≡ g.lower → l.found.entries ≡ [] → l.visited.keys ≡ [] → AreEnds g → IsSpan (span_of_segment g) → IsSearchAt v f g p l
+  pub began : (p : Point) → p ≡ g.lower → l.segment ≡ g → l.here ≡ g.lower → l.found.entries ≡ [] → l.visited.keys ≡ [] → AreEnds g → IsSpan (span_of_segment g) × (l.whole ≡ span_of_segment g) → IsSearchAt v f g p l
   began p e segment here found visited ends whole = record {
     search = record {
-      one = record { segment = refl; here = refl; visited = refl; failed = λ z. z };
+      one = record { segment = refl; here = refl; visited = refl; whole = refl; failed = λ z. z };
       sound = s;
       ends = subst AreEnds (sym segment) ends;
-      whole = subst (λ (z : Segment). IsSpan (span_of_segment z)) (sym segment) whole;
+      whole = subst (λ (z : Segment). IsSpan (span_of_segment z)) (sym segment) whole.0;
+      spanned = whole.1 ∙ ap span_of_segment (sym segment);
       from = (λ i. precedes (here i) (segment i).lower) ∙ not_true (precedes g.lower g.lower) (λ z. lt_never (lt_out g.lower g.lower z));
       found = none_found v l.segment l.here l.found.entries found;
       kept = λ r m. m;

@@ -64,6 +64,7 @@ pub record IsOneSearch (k l : Search) : Type 0 where
   pub segment : l.segment ≡ k.segment
   pub here : l.here ≡ k.here
   pub visited : l.visited ≡ k.visited
+  pub whole : l.whole ≡ k.whole
   pub failed : l.failed ≡ false → k.failed ≡ false
 
 -- the search l has gone on from k in a sound view: it has found what k had, and later meeting points alone (this project)
@@ -72,6 +73,7 @@ pub record IsSearchFrom (v : View) (k l : Search) : Type 0 where
   pub sound : IsGraphSound v
   pub ends : AreEnds l.segment
   pub whole : IsSpan (span_of_segment l.segment)
+  pub spanned : l.whole ≡ span_of_segment l.segment
   pub from : precedes l.here l.segment.lower ≡ false
   pub found : AreFoundAfter v l.segment l.here l.found.entries
   pub kept : AreKept k.found.entries l.found.entries

@@ -1,5 +1,5 @@
 -- What a look at a dart or a vertex tells of it and of a segment, and how many darts a turn at a vertex looks at.
-use Rattle.std.specs.Prelude.{◌≡◌, ℕ, ℤ, neg_ℤ, cond, true, false, ◌==◌}
+use Rattle.std.specs.Prelude.{◌≡◌, ℕ, ℤ, neg_ℤ, Bool, not, ◌&&◌, cond, true, false, ◌==◌, Option, Some, None}
 use Rattle.std.specs.List.{count_by}
 use Rattle.exact_plane.specs.Meet.{IsMeeting}
 use Rattle.exact_plane.specs.Point.{Point}
@@ -10,6 +10,7 @@ use Rattle.exact_plane.specs.declared.meets.Meet.{Meet}
 use Rattle.exact_plane.specs.declared.meets.Meet.TheVariants.{Apart, At, Along}
 use Rattle.exact_plane.specs.declared.sides.Sign.{Sign}
 use Rattle.exact_plane.specs.declared.sides.Sign.TheVariants.{Minus, Zero, Plus}
+use Rattle.plane_graphs.specs.Line.{precedes, is_on}
 use Rattle.slab_laws.specs.declared.names.DartId.{DartId}
 use Rattle.slab_laws.specs.declared.names.VertexId.{VertexId}
 use Rattle.slab_laws.specs.Skeleton.{side}
@@ -19,6 +20,7 @@ use Rattle.arr_notes.specs.CycleNames.{dart_names}
 use Rattle.dcel_records.specs.declared.spot.Spot.{Spot}
 use Rattle.dcel_records.specs.declared.spot.Spot.TheVariants.{Vertex, Edge, Face}
 use Rattle.zone_walk.specs.Zone.{is_on_segment}
+use Rattle.zone_walk.specs.declared.sight.CommonPoints.{CommonPoints}
 use Rattle.zone_walk.specs.declared.sight.Seen.{Seen}
 
 -- the edge of a dart with its line, its ends included
@@ -60,6 +62,39 @@ abbrev pub IsSeenOf : View → Segment → Spot → Seen → Type 0
 IsSeenOf v s (Vertex w) seen = IsVertexSeen v s w seen
 IsSeenOf v s (Edge d) seen = IsDartSeen v s d seen
 IsSeenOf v s (Face a) seen = ⊥
+
+-- ---- the points that are common
+-- the point lies on the span
+abbrev pub is_on_span : Span → Point → Bool
+is_on_span s p = is_on s.line p && (not (precedes p s.lower) && not (precedes s.upper p))
+
+-- one point, or the part between two
+abbrev pub meet_between : Point → Option Point → Meet
+meet_between p None = At p
+meet_between p (Some q) = Along p q
+
+-- what the span and the dart's edge, with its ends, have in common, and the dart's two points (this project)
+pub record IsDartMet (v : View) (s : Span) (d : DartId) (c : CommonPoints) : Type 0 where
+  pub source : c.source ≡ point_in v (source_in v d)
+  pub target : c.target ≡ point_in v (target_in v d)
+  pub span : IsSpan (span_in v d)
+  pub meet : IsMeeting s (span_in v d) (meet_between c.first c.last)
+
+-- the vertex lies on the span, and its point is told three times (this project)
+pub record IsVertexMet (v : View) (s : Span) (w : VertexId) (c : CommonPoints) : Type 0 where
+  pub first : c.first ≡ point_in v w
+  pub last : c.last ≡ None
+  pub source : c.source ≡ point_in v w
+  pub target : c.target ≡ point_in v w
+  pub on : is_on_span s (point_in v w) ≡ true
+
+-- the points that the span has in common with the dart's edge or with the vertex, and nothing exactly where there are none (this project)
+abbrev pub IsMetOf : View → Span → Spot → Option CommonPoints → Type 0
+IsMetOf v s (Vertex w) None = is_on_span s (point_in v w) ≡ false
+IsMetOf v s (Vertex w) (Some c) = IsVertexMet v s w c
+IsMetOf v s (Edge d) None = IsSpan (span_in v d) × IsMeeting s (span_in v d) Apart
+IsMetOf v s (Edge d) (Some c) = IsDartMet v s d c
+IsMetOf v s (Face a) r = ⊥
 
 -- how many darts leave the vertex (CGAL manual, degree)
 abbrev pub degree : View → VertexId → ℕ

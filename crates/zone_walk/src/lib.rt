@@ -13,5 +13,5 @@ mod sight;
 mod walk;
 
 pub use plan::{Meeting, ZonePlan};
-pub use sight::{Seen, Sight};
+pub use sight::{CommonPoints, Seen, Sight};
 pub use walk::zone;

@@ -1,21 +1,20 @@
-//! Looks at the records: cheap tests by the order of points and by sides rule out nearly all edges, an exact meeting comes last.
+//! Looks at the records: cheap tests by sides and by the order of points rule out nearly all edges, an exact meeting comes last.
 ghost use Rattle.std.specs.Prelude.{◌≡◌, ◌≤◌, ◌+◌, ◌&&◌, ◌||◌, cond};
 ghost use Rattle.exact_plane.specs.Meet.{IsMeeting};
 ghost use Rattle.exact_plane.specs.Point.{Point as Coordinates};
-ghost use Rattle.exact_plane.specs.Segment.{line_of_segment};
 ghost use Rattle.exact_plane.specs.Sign.{sign_of};
 ghost use Rattle.exact_plane.specs.Span.{IsSpan, span_of_segment};
 ghost use Rattle.plane_graphs.specs.Line.{precedes};
 ghost use Rattle.slab_laws.specs.Sound.{IsGraphSound};
 ghost use Rattle.slab_laws.specs.View.{HasVertex, HasDart, point_in, source_in, target_in};
+ghost use Rattle.dcel_records.specs.declared.spot.Spot.TheVariants.{Edge as OnEdge, Vertex as AtVertex};
 ghost use Rattle.zone_walk.specs.Found.{is_left, is_right};
-ghost use Rattle.zone_walk.specs.Sights.{span_in, side_from, other_side, degree};
-ghost use Rattle.zone_walk.specs.Zone.{is_on_segment};
+ghost use Rattle.zone_walk.specs.Sights.{IsMetOf, span_in, is_on_span, side_from, other_side, degree};
 
-use crate::sight::{Seen, Sight};
+use crate::sight::{CommonPoints, Seen, Sight};
 use dcel_records::{Records, Spot};
 use exact_plane::{
-    Direction, Line, Meet, Point, Segment, Sign, Span, line_of, orientation, side, span_meeting,
+    Direction, Line, Meet, Point, Segment, Sign, Span, line_of, side, span_meeting,
 };
 use rotation_order::{Place, place_at};
 use slab_laws::{DartId, Darts, VertexId};
@@ -33,71 +32,108 @@ pub(crate) fn whole(segment: &Segment) -> Span
     }
 }
 
-// Whether two points both come before the segment or both after it.
-fn are_away(segment: &Segment, source: &Point, target: &Point) -> bool
-    ensures { result ≡ cond (precedes source.now segment.now.lower) (precedes target.now segment.now.lower) (precedes segment.now.upper source.now && precedes segment.now.upper target.now) }
+// Whether two points both come before the span or both after it.
+fn are_away(whole: &Span, source: &Point, target: &Point) -> bool
+    ensures { result ≡ cond (precedes source.now whole.now.lower) (precedes target.now whole.now.lower) (precedes whole.now.upper source.now && precedes whole.now.upper target.now) }
 {
-    let lower = segment.lower();
+    let lower = whole.lower();
     if *source < lower {
         *target < lower
     } else {
-        let upper = segment.upper();
+        let upper = whole.upper();
         upper < *source && upper < *target
     }
 }
 
-fn is_on_left(segment: &Segment, point: &Point) -> bool
-    ensures { result ≡ is_left (line_of_segment segment.now) point.now }
+fn is_on_left(line: &Line, point: &Point) -> bool
+    ensures { result ≡ is_left line.now point.now }
 {
-    match orientation(segment, point) {
+    match side(line, point) {
         Sign::Plus => true,
         Sign::Minus | Sign::Zero => false,
     }
 }
 
-fn is_on_right(segment: &Segment, point: &Point) -> bool
-    ensures { result ≡ is_right (line_of_segment segment.now) point.now }
+fn is_on_right(line: &Line, point: &Point) -> bool
+    ensures { result ≡ is_right line.now point.now }
 {
-    match orientation(segment, point) {
+    match side(line, point) {
         Sign::Minus => true,
         Sign::Zero | Sign::Plus => false,
     }
 }
 
-// Whether two points are both on the left of the segment's line or both on its right.
-fn are_aside(segment: &Segment, source: &Point, target: &Point) -> bool
-    ensures { result ≡ ((is_left (line_of_segment segment.now) source.now && is_left (line_of_segment segment.now) target.now) || (is_right (line_of_segment segment.now) source.now && is_right (line_of_segment segment.now) target.now)) }
+// Whether two points are both on the left of the line or both on its right.
+fn are_aside(line: &Line, source: &Point, target: &Point) -> bool
+    ensures { result ≡ ((is_left line.now source.now && is_left line.now target.now) || (is_right line.now source.now && is_right line.now target.now)) }
 {
-    match orientation(segment, source) {
-        Sign::Plus => is_on_left(segment, target),
-        Sign::Minus => is_on_right(segment, target),
+    match side(line, source) {
+        Sign::Plus => is_on_left(line, target),
+        Sign::Minus => is_on_right(line, target),
         Sign::Zero => false,
     }
 }
 
-// What the segment has in common with the edge of a dart between two points, its ends included.
-fn meet_of(
-    records: &Records,
-    dart: DartId,
-    segment: &Segment,
-    source: &Point,
-    target: &Point,
-) -> Meet
+// What the segment has in common with the edge of a dart, its ends included.
+fn meet_of(records: &Records, dart: DartId, segment: &Segment) -> Meet
     requires sound { IsGraphSound records.now.graph }
     requires dart { HasDart records.now.graph dart }
-    requires source { source.now ≡ point_in records.now.graph (source_in records.now.graph dart) }
-    requires target { target.now ≡ point_in records.now.graph (target_in records.now.graph dart) }
     ensures { IsMeeting (span_of_segment segment.now) (span_in records.now.graph dart) result }
 {
+    let span = span_of(records, dart);
+    span_meeting(&whole(segment), &span)
+}
+
+// The points that a span has in common with the edge of a dart, its ends included. Nearly all edges have none, and the side of
+// the span's line on which they are tells it.
+fn points_on_edge(records: &Records, dart: DartId, whole: &Span) -> Option<CommonPoints>
+    requires sound { IsGraphSound records.now.graph }
+    requires dart { HasDart records.now.graph dart }
+    ensures { IsMetOf records.now.graph whole.now (OnEdge dart) result }
+{
+    let source = records.point(Darts::source(records, dart));
+    let target = records.point(Darts::target(records, dart));
     // The laws of points and lines tell that the edge is a span.
     source.laws();
     target.laws();
     records.line(dart).laws();
-    if are_away(segment, source, target) || are_aside(segment, source, target) {
-        return Meet::Apart;
+    if are_aside(&whole.line(), &source, &target) || are_away(whole, &source, &target) {
+        return None;
     }
     let span = span_of(records, dart);
-    span_meeting(&whole(segment), &span)
+    match span_meeting(whole, &span) {
+        Meet::Apart => None,
+        Meet::At(point) => Some(CommonPoints {
+            first: point,
+            last: None,
+            source,
+            target,
+        }),
+        Meet::Along(first, last) => Some(CommonPoints {
+            first,
+            last: Some(last),
+            source,
+            target,
+        }),
+    }
+}
+
+// A vertex's point, where a span has it.
+fn point_at_vertex(records: &Records, vertex: VertexId, whole: &Span) -> Option<CommonPoints>
+    requires vertex { HasVertex records.now.graph vertex }
+    ensures { IsMetOf records.now.graph whole.now (AtVertex vertex) result }
+{
+    let point = records.point(vertex);
+    if lies_on(whole, &point) {
+        Some(CommonPoints {
+            first: point,
+            last: None,
+            source: point,
+            target: point,
+        })
+    } else {
+        None
+    }
 }
 
 fn turned(side: Sign) -> Sign
@@ -137,11 +173,11 @@ fn side_of_dart(
     }
 }
 
-// Whether a point lies on the segment.
-fn is_on(segment: &Segment, point: &Point) -> bool
-    ensures { result ≡ is_on_segment segment.now point.now }
+// Whether a point lies on a span.
+fn lies_on(whole: &Span, point: &Point) -> bool
+    ensures { result ≡ is_on_span whole.now point.now }
 {
-    line_of(segment).holds(point) && (!(*point < segment.lower()) && !(segment.upper() < *point))
+    whole.line().holds(point) && (!(*point < whole.lower()) && !(whole.upper() < *point))
 }
 
 // One step for each dart out of the vertex.
@@ -172,7 +208,7 @@ impl Sight for Records {
                 let source = self.point(Darts::source(self, dart));
                 let target = self.point(Darts::target(self, dart));
                 Seen {
-                    meet: meet_of(self, dart, segment, &source, &target),
+                    meet: meet_of(self, dart, segment),
                     side: side_of_dart(self, dart, &source, &target, &segment.upper()),
                     source,
                     target,
@@ -180,7 +216,7 @@ impl Sight for Records {
             }
             Spot::Vertex(vertex) => {
                 let point = self.point(vertex);
-                let meet = if is_on(segment, &point) {
+                let meet = if lies_on(&whole(segment), &point) {
                     Meet::At(point)
                 } else {
                     Meet::Apart
@@ -192,6 +228,20 @@ impl Sight for Records {
                     target: point,
                 }
             }
+            Spot::Face(_) => unreachable!(),
+        }
+    }
+
+    fn meet<L: Ledger>(
+        &self,
+        at: Spot,
+        whole: &Span,
+        steps: &mut Steps<L>,
+    ) -> Option<CommonPoints> {
+        steps.tick();
+        match at {
+            Spot::Edge(dart) => points_on_edge(self, dart, whole),
+            Spot::Vertex(vertex) => point_at_vertex(self, vertex, whole),
             Spot::Face(_) => unreachable!(),
         }
     }

@@ -6,12 +6,12 @@ ghost use Rattle.plane_graphs.specs.Line.{precedes};
 ghost use Rattle.slab_laws.specs.Sound.{IsGraphSound};
 ghost use Rattle.slab_laws.specs.View.{HasVertex, HasDart, point_in, source_in, target_in};
 ghost use Rattle.counted_looks.specs.declared.boundary_part.BoundaryPart.TheVariants.{Dart, Isolated};
-ghost use Rattle.zone_walk.specs.Searches.{AreKept, IsOnEdge, IsThere, IsOneSearch, IsSearchFrom, HasSeen, points_of_meet};
+ghost use Rattle.zone_walk.specs.Searches.{AreKept, IsOnEdge, IsThere, IsOneSearch, IsSearchFrom, HasSeen};
 
-use crate::sight::{Seen, Sight};
+use crate::sight::{CommonPoints, Sight};
 use counted_looks::{BoundaryPart, Looker, NameCalls};
 use dcel_records::Spot;
-use exact_plane::{Meet, Point, Segment};
+use exact_plane::{Point, Segment, Span};
 use slab_laws::{DartId, VertexId};
 use std::collections::{BTreeMap, BTreeSet};
 use std::sync::ledger::Ledger;
@@ -21,6 +21,8 @@ use work_steps::Steps;
 #[derive(Drop)]
 pub(crate) struct Search {
     pub(crate) segment: Segment,
+    /// The same, with its line.
+    pub(crate) whole: Span,
     pub(crate) here: Point,
     /// Those that were found, each with the vertex or edge at which it is.
     pub(crate) found: BTreeMap<Point, Spot>,
@@ -66,18 +68,18 @@ fn spot_on<T: Sight>(sight: &T, dart: DartId, source: &Point, target: &Point, po
     }
 }
 
-// Keeps a point on the edge of a dart that was seen, where there is one.
+// Keeps a point on the edge of a dart that was met, where there is one.
 fn take_on<T: Sight>(
     search: &mut Search,
     sight: &T,
     dart: DartId,
-    seen: &Seen,
+    common: &CommonPoints,
     point: Option<Point>,
 )
     requires sound { IsGraphSound (T.graph sight.now) }
     requires dart { HasDart (T.graph sight.now) dart }
-    requires source { seen.now.source ≡ point_in (T.graph sight.now) (source_in (T.graph sight.now) dart) }
-    requires target { seen.now.target ≡ point_in (T.graph sight.now) (target_in (T.graph sight.now) dart) }
+    requires source { common.now.source ≡ point_in (T.graph sight.now) (source_in (T.graph sight.now) dart) }
+    requires target { common.now.target ≡ point_in (T.graph sight.now) (target_in (T.graph sight.now) dart) }
     requires on { IfSome point (IsOnEdge (T.graph sight.now) dart) }
     ensures same { IsOneSearch search.old search.new }
     ensures kept { AreKept search.old.found.entries search.new.found.entries }
@@ -85,19 +87,8 @@ fn take_on<T: Sight>(
     ensures only { (p : _) (at : _) → Member (p, at) search.new.found.entries → Member (p, at) search.old.found.entries ⊎ ((point ≡ Some p) × IsThere (T.graph sight.now) p at × (precedes search.old.here p ≡ true)) }
 {
     if let Some(point) = point {
-        let spot = spot_on(sight, dart, &seen.source, &seen.target, &point);
+        let spot = spot_on(sight, dart, &common.source, &common.target, &point);
         search.take(point, spot);
-    }
-}
-
-// The point, or the ends of the part, that a segment has in common with an edge.
-fn common_points(meet: Meet) -> (Option<Point>, Option<Point>)
-    ensures { result ≡ points_of_meet meet }
-{
-    match meet {
-        Meet::Apart => (None, None),
-        Meet::At(point) => (Some(point), None),
-        Meet::Along(first, last) => (Some(first), Some(last)),
     }
 }
 
@@ -115,10 +106,10 @@ fn look_at_dart<T: Sight, L: Ledger>(
     ensures still { (t : _) → HasSeen (T.graph sight.now) search.old t → HasSeen (T.graph sight.now) search.new t }
     ensures one { steps.new ≡ steps.old + 1 }
 {
-    let seen = sight.see(Spot::Edge(dart), &search.segment, steps);
-    let (first, last) = common_points(seen.meet);
-    take_on(search, sight, dart, &seen, first);
-    take_on(search, sight, dart, &seen, last);
+    if let Some(common) = sight.meet(Spot::Edge(dart), &search.whole, steps) {
+        take_on(search, sight, dart, &common, Some(common.first));
+        take_on(search, sight, dart, &common, common.last);
+    }
 }
 
 // Looks at a vertex, and keeps it where the segment meets it.
@@ -135,10 +126,8 @@ fn look_at_vertex<T: Sight, L: Ledger>(
     ensures still { (t : _) → HasSeen (T.graph sight.now) search.old t → HasSeen (T.graph sight.now) search.new t }
     ensures one { steps.new ≡ steps.old + 1 }
 {
-    let seen = sight.see(Spot::Vertex(vertex), &search.segment, steps);
-    let (point, _) = common_points(seen.meet);
-    if let Some(point) = point {
-        search.take(point, Spot::Vertex(vertex));
+    if let Some(common) = sight.meet(Spot::Vertex(vertex), &search.whole, steps) {
+        search.take(common.first, Spot::Vertex(vertex));
     }
 }
 

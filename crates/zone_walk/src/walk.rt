@@ -270,12 +270,14 @@ fn begin(alloc: Global, segment: &Segment) -> Search
     ensures found { result.found.entries ≡ [] }
     ensures visited { result.visited.keys ≡ [] }
     ensures ends { AreEnds segment.now }
-    ensures whole { IsSpan (span_of_segment segment.now) }
+    ensures whole { IsSpan (span_of_segment segment.now) × (result.whole ≡ span_of_segment segment.now) }
 {
     let lower = segment.lower();
-    whole(segment).laws();
+    let whole = whole(segment);
+    whole.laws();
     Search {
         segment: *segment,
+        whole,
         here: lower,
         found: BTreeMap::new(alloc),
         visited: BTreeSet::new(alloc),
