@@ -20,6 +20,7 @@ ghost use Rattle.observer_bus.specs.Rows.{bus_row};
 ghost use Rattle.arrangement.specs.Arranged.{arranged, layer_in, AreLimits, IsWatched, refusal_in};
 ghost use Rattle.arrangement.specs.Edited.{IsEdited, IsAsBefore};
 
+use crate::counted::insert_counted;
 use crate::layer_records::LayerRecords;
 use crate::limits::Limits;
 use crate::spots::walk_to;
@@ -31,10 +32,12 @@ use observer_bus::Bus;
 use pin_points::{
     MergeError, NotPinned, PinError, SplitError, clear, merge_edge, pin, split_edge, unpin,
 };
-use segment_insert::{InsertError, insert};
+use segment_insert::InsertError;
 use segment_remove::{CutError, DropError, remove_curve, remove_edge};
 use slab_laws::CurveId;
 use std::alloc::Global;
+use std::marker::Brand;
+use std::sync::ledger::Blank;
 
 /// A layer: segments that are curves with numbers, pinned points, and the subdivision of the plane that they make (CGAL
 /// manual, `Arrangement_with_history_2`).
@@ -108,7 +111,8 @@ impl Arrangement {
     {
         let start = walk_to(&self.layer.records, &segment.lower());
         self.layer.ranked = false;
-        insert(
+        insert_counted::<Brand>(
+            Blank::new(1),
             self.alloc,
             &mut self.layer.records,
             &mut self.layer.history,

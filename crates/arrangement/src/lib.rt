@@ -3,6 +3,7 @@
 #![tactic(auto)]
 
 mod arrangement;
+mod counted;
 mod edges;
 mod layer_records;
 mod limits;
