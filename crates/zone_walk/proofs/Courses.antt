@@ -1,5 +1,5 @@
 -- The course of a segment along its line, and lines that are one.
-use Rattle.std.proofs.Common.{◌≡◌, ◌≢◌, Bool, true, false, not, ◌&&◌, ◌*ℤ◌, refl, sym, ap, ◌∙◌}
+use Rattle.std.proofs.Common.{◌≡◌, true, not, ◌&&◌, ◌*ℤ◌, refl, sym, ap, ◌∙◌}
 use Rattle.integers.proofs.Decisions.{eq_in}
 use Rattle.std.specs.Ordering.{int_eq}
 use Rattle.exact_plane.specs.Line.{Line, side_of, IsOn}
@@ -8,11 +8,10 @@ use Rattle.exact_plane.specs.PointOrder.{point_cmp}
 use Rattle.exact_plane.specs.Segment.{Segment, line_of_segment, AreEnds}
 use Rattle.plane_graphs.specs.Line.{IsProper, IsProperLine, IsWhole, precedes, is_on, are_parallel}
 use Rattle.plane_graphs.proofs.Lines.{whole_is_proper, line_of_segment-runs, line_of_segment-lowest, lower_on, upper_on, zero_out, zero_in, apart_out}
-use Rattle.plane_graphs.proofs.Lists.{and_in, clash}
+use Rattle.plane_graphs.proofs.Lists.{and_in}
 use Rattle.plane_graphs.proofs.Marks.{Le, le_out, le_in, le_same, le_lt}
 use Rattle.plane_graphs.proofs.Order.{Lt}
 use Rattle.exact_plane.proofs.Crossings.{parallel_share, same_line}
-use Rattle.exact_plane.proofs.Meetings.{same_line-is}
 use Rattle.exact_plane.specs.PointOrderLaws.{and_true}
 use Rattle.zone_walk.specs.Zone.{is_on_segment}
 
@@ -73,10 +72,3 @@ parallel_itself l m e = ap (λ (n : Line). are_parallel l n) (sym e) ∙ eq_in (
 -- ---- what a test of two lines tells
 pub line-itself : (l m : Line) → l ≡ m → int_eq l.a m.a && (int_eq l.b m.b && int_eq l.c m.c) ≡ true
 line-itself l m e = and_in (eq_in l.a m.a (ap (λ (n : Line). n.a) e)) (and_in (eq_in l.b m.b (ap (λ (n : Line). n.b) e)) (eq_in l.c m.c (ap (λ (n : Line). n.c) e)))
-
-module _ (l m n : Line) (b : Bool) (read : l ≡ n) (is : b ≡ (int_eq l.a m.a && (int_eq l.b m.b && int_eq l.c m.c))) where
-  pub told_line : b ≡ true → n ≡ m
-  told_line h = sym read ∙ same_line-is l m (sym is ∙ h)
-
-  pub told_other_line : b ≡ false → n ≢ m
-  told_other_line h e = clash (is ∙ line-itself l m (read ∙ e)) h

@@ -1,5 +1,5 @@
 -- Where a whole segment and the span of an edge meet in one point inside the edge, the segment passes through the edge there, and nowhere else.
-use Rattle.std.proofs.Common.{◌≡◌, ◌≢◌, MatchOption, Option, Some, None, arith, is_lt, true, false, not, ◌&&◌, ℤ, pos, ◌*ℤ◌, sym, ap, ◌∙◌, subst}
+use Rattle.std.proofs.Common.{◌≡◌, arith, is_lt, true, false, not, ◌&&◌, ℤ, pos, ◌*ℤ◌, sym, ap, ◌∙◌, subst}
 use lib.Signed.{lt_z}
 use Rattle.std.proofs.lemmas.Int.{ints}
 use Rattle.integers.proofs.Compare.{equal_in, equal_out}
@@ -17,7 +17,6 @@ use Rattle.plane_graphs.specs.Line.{IsProper, precedes, is_on, are_parallel}
 use Rattle.plane_graphs.proofs.Lines.{point_is_proper, zero_out, zero_in, apart_out}
 use Rattle.plane_graphs.proofs.Lists.{not_out, clash}
 use Rattle.plane_graphs.proofs.Order.{Lt, Tri, tri, less, same, more, lt_never}
-use Rattle.plane_graphs.proofs.Meaning.{parallel_itself}
 use Rattle.slab_faces.proofs.InnerPoints.{before_out}
 use Rattle.edge_predicates.proofs.Sides.{side_same}
 use Rattle.slab_laws.specs.declared.names.DartId.{DartId}
@@ -25,10 +24,10 @@ use Rattle.slab_laws.specs.SpansDrawn.{edge_of}
 use Rattle.slab_laws.specs.Skeleton as counted
 use Rattle.slab_laws.specs.Sound.{edge_in}
 use Rattle.slab_laws.specs.View.{View, line_in}
-use Rattle.zone_walk.specs.Found.{ends_of, IsWhole, IsPassAt, IsNoPass, IsInnerMeeting, IsNoInnerMeeting}
+use Rattle.zone_walk.specs.Found.{ends_of, IsWhole, IsPassAt, IsInnerMeeting}
 use Rattle.zone_walk.proofs.InPlane.{in_plane}
 use Rattle.zone_walk.proofs.LineCrossings.{crossing_proper, is_crossing}
-use Rattle.zone_walk.proofs.MeetingPoints.{IsPassed, passes_one, passes_none, on_by}
+use Rattle.zone_walk.proofs.MeetingPoints.{IsPassed, passes_one, on_by}
 
 -- ---- orders
 pub at_most_never : (p q : Point) → IsAtMost p q → Lt q p → ⊥
@@ -118,14 +117,6 @@ module _ (v : View) (d : DartId) (whole span : Span) (all : IsWhole whole) (is_s
         record { on = w.on; from = less_at_most span.lower p w.low.is; upto = less_at_most p span.upper w.high.is },
       )
 
-  pub passed_nowhere : IsNoInnerMeeting whole span → IsNoPass v s d
-  passed_nowhere f = record {
-    none = passes_none v s d (λ p h.
-        let l = passed_lies p h in
-        let differ : whole.line ≢ span.line = λ e. clash (ap (are_parallel whole.line) (sym e) ∙ parallel_itself whole.line) (sym crosses_too ∙ h.crosses) in
-        clash (ap (λ e. counted.inside e p) edge ∙ h.inner) (f.none p l.0 l.1 l.2 differ));
-  }
-
   module _ (p : Point) (h : IsInnerMeeting whole span p) where
     proper : IsProper p
     proper = point_is_proper p h.meeting.point
@@ -150,8 +141,3 @@ module _ (v : View) (d : DartId) (whole span : Span) (all : IsWhole whole) (is_s
             inner = ap (λ e. counted.inside e p) (sym edge) ∙ h.inner;
           });
         }
-
-  -- what the meeting of the two tells of the dart's edge
-  pub told : (r : Option Point) → MatchOption r (IsNoInnerMeeting whole span) (IsInnerMeeting whole span) → MatchOption r (IsNoPass v s d) (IsPassAt v s d)
-  told None h = passed_nowhere h
-  told (Some x) h = passed_at x h

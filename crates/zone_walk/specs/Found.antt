@@ -1,11 +1,11 @@
 -- Where a segment passes through an edge, by spans.
-use Rattle.std.specs.Prelude.{◌≡◌, ◌≢◌, true, false, Bool, [], ◌∷◌, pos}
+use Rattle.std.specs.Prelude.{◌≡◌, true, Bool, [], ◌∷◌, pos}
 use lib.Signed.{lt_z}
 use Rattle.exact_plane.specs.Line.{Line, side_of}
 use Rattle.exact_plane.specs.Meet.{IsOnlyCommon}
-use Rattle.exact_plane.specs.Point.{Point, IsPoint}
+use Rattle.exact_plane.specs.Point.{Point}
 use Rattle.exact_plane.specs.Segment.{Segment, line_of_segment}
-use Rattle.exact_plane.specs.Span.{Span, LiesOn, IsSpan}
+use Rattle.exact_plane.specs.Span.{Span, IsSpan}
 use Rattle.slab_laws.specs.declared.names.DartId.{DartId}
 use Rattle.slab_laws.specs.SpansDrawn.{edge_of}
 use Rattle.slab_laws.specs.Skeleton.{inside}
@@ -34,15 +34,7 @@ is_right l p = lt_z (side_of l p) (pos 0)
 pub record IsPassAt (v : View) (s : Segment) (d : DartId) (p : Point) : Type 0 where
   pub one : passes v s d ≡ p ∷ []
 
--- the segment doesn't pass through the inside of the edge (this project)
-pub record IsNoPass (v : View) (s : Segment) (d : DartId) : Type 0 where
-  pub none : passes v s d ≡ []
-
 -- the point lies on both spans, as no other does, and is inside the second one (this project)
 pub record IsInnerMeeting (whole span : Span) (p : Point) : Type 0 where
   pub meeting : IsOnlyCommon whole span p
   pub inner : inside (edge_of span) p ≡ true
-
--- spans of different lines have no common point inside the second one (this project)
-pub record IsNoInnerMeeting (whole span : Span) : Type 0 where
-  pub none : (p : Point) → IsPoint p → LiesOn whole p → LiesOn span p → whole.line ≢ span.line → inside (edge_of span) p ≡ false
