@@ -1,11 +1,9 @@
 -- A visit looks at a face's boundary, where it passes a dart whose twin it looks at.
-use Rattle.std.proofs.Common.{◌≡◌, ◌<◌, true, false, arith, sym, ap, ◌∙◌, subst, inl, inr}
+use Rattle.std.proofs.Common.{◌<◌, arith, sym, ap, ◌∙◌, subst, inl, inr}
 use Rattle.exact_plane.specs.Point.{Point}
-use Rattle.exact_plane.specs.Segment.{Segment}
-use Rattle.plane_graphs.specs.Graph.{Edge}
 use Rattle.slab_laws.specs.Darts.{Dart as PlaneDart}
 use Rattle.slab_laws.specs.Skeleton.{inside}
-use Rattle.slab_laws.specs.Sound.{edge_in, IsGraphSound}
+use Rattle.slab_laws.specs.Sound.{IsGraphSound}
 use Rattle.slab_laws.specs.View.{View, Faces, HasDart, point_in, source_in, twin_in}
 use Rattle.slab_laws.specs.declared.names.DartId.{DartId}
 use Rattle.slab_laws.specs.declared.names.FaceId.{FaceId}
