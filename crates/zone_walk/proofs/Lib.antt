@@ -12,6 +12,7 @@ pub mod SeenSpans
 pub mod Degrees
 pub mod SeenMeetings
 pub mod Searched
+pub mod Visited
 pub mod PartsAhead
 pub mod InFaces
 pub mod Looks

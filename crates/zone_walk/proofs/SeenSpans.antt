@@ -9,9 +9,8 @@ use Rattle.exact_plane.specs.Line.{Line, side_of, IsOn, IsLine}
 use Rattle.exact_plane.specs.Meet.{AreApart}
 use Rattle.exact_plane.specs.Point.{Point, IsPoint}
 use Rattle.exact_plane.specs.PointOrderLaws.{and_true}
-use Rattle.exact_plane.specs.Segment.{Segment, line_of_segment}
 use Rattle.exact_plane.specs.Sign.{sign_by, sign_of}
-use Rattle.exact_plane.specs.Span.{Span, IsAtMost, LiesOn, IsSpan, span_of_segment}
+use Rattle.exact_plane.specs.Span.{Span, IsAtMost, LiesOn, IsSpan}
 use Rattle.exact_plane.specs.declared.sides.Sign.{Sign}
 use Rattle.exact_plane.proofs.Orders.{at_most_both, less_at_most}
 use Rattle.plane_graphs.specs.Graph.{Edge}

@@ -1,5 +1,5 @@
 -- What a search of a face's boundary for meeting points has found.
-use Rattle.std.specs.Prelude.{◌≡◌, ◌⊎◌, true, false, List, Contains, Option, Some, None}
+use Rattle.std.specs.Prelude.{◌≡◌, ◌⊎◌, ◌<◌, true, false, List, Contains, Option, Some, None}
 use Rattle.std.specs.Map.{keys_of}
 use Rattle.exact_plane.specs.Point.{Point}
 use Rattle.exact_plane.specs.declared.meets.Meet.{Meet}
@@ -9,9 +9,11 @@ use Rattle.exact_plane.specs.Span.{IsSpan, span_of_segment}
 use Rattle.plane_graphs.specs.Ascending.{Member}
 use Rattle.plane_graphs.specs.Line.{precedes}
 use Rattle.slab_laws.specs.declared.names.DartId.{DartId}
+use Rattle.slab_laws.specs.declared.names.FaceId.{FaceId}
 use Rattle.slab_laws.specs.Skeleton.{inside}
 use Rattle.slab_laws.specs.Sound.{edge_in, IsGraphSound}
-use Rattle.slab_laws.specs.View.{View, point_in, source_in, target_in}
+use Rattle.slab_laws.specs.View.{View, Faces, point_in, source_in, twin_in, target_in}
+use Rattle.counted_looks.specs.Boundaries.{IsOnBoundary}
 use Rattle.counted_looks.specs.declared.boundary_part.BoundaryPart.{BoundaryPart}
 use Rattle.counted_looks.specs.declared.boundary_part.BoundaryPart.TheVariants.{Dart, Isolated}
 use Rattle.dcel_records.specs.declared.spot.Spot.{Spot}
@@ -81,3 +83,21 @@ pub record IsSearchFrom (v : View) (k l : Search) : Type 0 where
 -- unless memory was wanting, the later meeting points on the part of the boundary are found (this project)
 abbrev pub HasSeen : View → Search → BoundaryPart → Type 0
 HasSeen v l t = l.failed ≡ false → IsPartTaken v l.segment l.here l.found.entries t
+
+-- ---- visits
+-- the dart's twin is on the boundary of the face too, and has the lesser name of the two (this project)
+pub record IsPassed (v : View) (f : Faces) (a : FaceId) (d : DartId) : Type 0 where
+  pub twin : IsOnBoundary v f a (Dart (twin_in v d))
+  pub lesser : (twin_in v d).0 < d.0
+
+-- the part of the boundary was looked at, or is a dart of which the twin is looked at (this project)
+abbrev pub HasLooked : View → Faces → FaceId → Search → BoundaryPart → Type 0
+HasLooked v f a l (Dart d) = HasSeen v l (Dart d) ⊎ IsPassed v f a d
+HasLooked v f a l (Isolated w) = HasSeen v l (Isolated w)
+
+-- a visit of the face a, with the search l, has gone on from one of the face b with the search k (this project)
+pub record IsVisitFrom (v : View) (known : View) (g f : Faces) (b a : FaceId) (k l : Search) : Type 0 where
+  pub graph : known ≡ v
+  pub faces : f ≡ g
+  pub face : a ≡ b
+  pub search : IsSearchFrom v k l

@@ -13,9 +13,7 @@ ghost use Rattle.zone_walk.specs.Sights.{IsMetOf, span_in, is_on_span, side_from
 
 use crate::sight::{CommonPoints, Seen, Sight};
 use dcel_records::{Records, Spot};
-use exact_plane::{
-    Direction, Line, Meet, Point, Segment, Sign, Span, line_of, side, span_meeting,
-};
+use exact_plane::{Direction, Line, Meet, Point, Segment, Sign, Span, line_of, side, span_meeting};
 use rotation_order::{Place, place_at};
 use slab_laws::{DartId, Darts, VertexId};
 use sound_views::span_of;

@@ -1,18 +1,20 @@
 //! The look at a face's boundary for meeting points.
 ghost use Rattle.std.specs.Prelude.{◌≡◌, ◌⊎◌, ◌+◌, true, false, Some, IfSome};
+ghost use Rattle.std.specs.Bool.{OnTrue};
 ghost use Rattle.std.specs.Map.{keys_of};
 ghost use Rattle.plane_graphs.specs.Ascending.{Member};
 ghost use Rattle.plane_graphs.specs.Line.{precedes};
 ghost use Rattle.slab_laws.specs.Sound.{IsGraphSound};
 ghost use Rattle.slab_laws.specs.View.{HasVertex, HasDart, point_in, source_in, target_in};
 ghost use Rattle.counted_looks.specs.declared.boundary_part.BoundaryPart.TheVariants.{Dart, Isolated};
-ghost use Rattle.zone_walk.specs.Searches.{AreKept, IsOnEdge, IsThere, IsOneSearch, IsSearchFrom, HasSeen};
+ghost use Rattle.zone_walk.specs.Searches.{AreKept, IsOnEdge, IsThere, IsOneSearch, IsSearchFrom, IsPassed, HasSeen};
 
 use crate::sight::{CommonPoints, Sight};
 use counted_looks::{BoundaryPart, Looker, NameCalls};
 use dcel_records::Spot;
 use exact_plane::{Point, Segment, Span};
-use slab_laws::{DartId, VertexId};
+use slab_laws::{DartId, FaceId, VertexId};
+use std::alloc::Global;
 use std::collections::{BTreeMap, BTreeSet};
 use std::sync::ledger::Ledger;
 use work_steps::Steps;
@@ -20,6 +22,7 @@ use work_steps::Steps;
 /// A search for the meeting points of a segment after one of its points.
 #[derive(Drop)]
 pub(crate) struct Search {
+    pub(crate) alloc: Global,
     pub(crate) segment: Segment,
     /// The same, with its line.
     pub(crate) whole: Span,
@@ -33,6 +36,19 @@ pub(crate) struct Search {
 }
 
 impl Search {
+    // One that has found and visited nothing.
+    pub(crate) fn spare(&self) -> Search {
+        Search {
+            alloc: self.alloc,
+            segment: self.segment,
+            whole: self.whole,
+            here: self.here,
+            found: BTreeMap::new(self.alloc),
+            visited: BTreeSet::new(self.alloc),
+            failed: false,
+        }
+    }
+
     // Keeps a point, where it comes later.
     fn take(&mut self, point: Point, spot: Spot)
         ensures same { IsOneSearch self.old self.new }
@@ -131,17 +147,44 @@ fn look_at_vertex<T: Sight, L: Ledger>(
     }
 }
 
-impl<T: Sight> Looker<T> for Search {
-    ghost use Rattle.zone_walk.specs.Searches.{IsSearchFrom as GoesOn, HasSeen as HasFound};
+// Whether a dart's twin is on the boundary of the face too, and has the lesser name of the two. Then the look at the twin finds all
+// that a look at the dart would find.
+fn is_passed<T: Sight>(sight: &T, face: FaceId, dart: DartId) -> bool
+    requires dart { HasDart (T.graph sight.now) dart }
+    ensures { OnTrue result (IsPassed (T.graph sight.now) (T.faces sight.now) face dart) }
+{
+    let twin = sight.twin(dart);
+    twin.0 < dart.0 && sight.face(sight.cycle(twin)).0 == face.0
+}
 
-    ghost may_look = { λ v k l. GoesOn v k l };
+/// A search at the boundary of a face.
+#[derive(Drop)]
+pub(crate) struct Visit<'a, T: Sight> {
+    pub(crate) sight: &'a T,
+    pub(crate) face: FaceId,
+    pub(crate) search: Search,
+}
 
-    ghost has_seen = { λ v l t. HasFound v l t };
+impl<'a, T: Sight> Looker<T> for Visit<'a, T> {
+    ghost use Rattle.zone_walk.specs.Searches.{IsVisitFrom, HasLooked};
 
+    ghost may_look = { λ v k l. IsVisitFrom v (T.graph l.sight.now) (T.faces k.sight.now) (T.faces l.sight.now) k.face l.face k.search l.search };
+
+    ghost has_seen = { λ v l t. HasLooked v (T.faces l.sight.now) l.face l.search t };
+
+    // The faces are known of the visit's own sight, which has the graph that is looked at.
     fn look<L: Ledger>(&mut self, sight: &T, at: BoundaryPart, steps: &mut Steps<L>) {
         match at {
-            BoundaryPart::Dart(dart) => look_at_dart(self, sight, dart, steps),
-            BoundaryPart::Isolated(vertex) => look_at_vertex(self, sight, vertex, steps),
+            BoundaryPart::Dart(dart) => {
+                if is_passed(self.sight, self.face, dart) {
+                    steps.tick();
+                } else {
+                    look_at_dart(&mut self.search, sight, dart, steps);
+                }
+            }
+            BoundaryPart::Isolated(vertex) => {
+                look_at_vertex(&mut self.search, sight, vertex, steps);
+            }
         }
     }
 }

@@ -50,12 +50,7 @@ pub trait Sight: NameCalls {
 
     /// One look at a dart or a vertex for the points that it has in common with a segment, given as a span; it is one step, and
     /// `None` where there are none. It tells less than `see` does, so that a look that finds nothing is cheap.
-    fn meet<L: Ledger>(
-        &self,
-        at: Spot,
-        whole: &Span,
-        steps: &mut Steps<L>,
-    ) -> Option<CommonPoints>
+    fn meet<L: Ledger>(&self, at: Spot, whole: &Span, steps: &mut Steps<L>) -> Option<CommonPoints>
         requires sound { IsGraphSound (Self.graph self.now) }
         requires at { IsLookable (Self.graph self.now) at }
         ensures met { IsMetOf (Self.graph self.now) whole.now at result }

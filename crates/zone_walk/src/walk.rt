@@ -16,7 +16,7 @@ ghost use Rattle.zone_walk.specs.Zone.{is_on_segment, meeting_points, vertices_n
 
 use crate::plan::{Meeting, ZonePlan};
 use crate::records_sight::whole;
-use crate::search::Search;
+use crate::search::{Search, Visit};
 use crate::sight::Sight;
 use counted_looks::{NameCalls, look_at_boundary};
 use dcel_records::{Room, Spot};
@@ -26,6 +26,7 @@ use rotation_order::Place;
 use slab_laws::{DartId, FaceId, Sequence, VertexId};
 use std::alloc::Global;
 use std::collections::{BTreeMap, BTreeSet};
+use std::mem::replace;
 use std::sync::ledger::Ledger;
 use work_steps::Steps;
 
@@ -130,7 +131,14 @@ fn visit<T: Sight, L: Ledger>(
     if search.visited.contains(&face.0) {
         return Ok(());
     }
-    look_at_boundary(search, sight, face, steps);
+    let spare = search.spare();
+    let mut visit = Visit {
+        sight,
+        face,
+        search: replace(search, spare),
+    };
+    look_at_boundary(&mut visit, sight, face, steps);
+    *search = visit.search;
     if search.failed {
         search.failed = false;
         return Err(NoMemory);
@@ -276,6 +284,7 @@ fn begin(alloc: Global, segment: &Segment) -> Search
     let whole = whole(segment);
     whole.laws();
     Search {
+        alloc,
         segment: *segment,
         whole,
         here: lower,

@@ -1,4 +1,4 @@
-use Rattle.std.proofs.Common.{◌≡◌, ◌⊎◌, true, ap, ◌∙◌, subst, sym, ⊎_elim, inl, inr, List}
+use Rattle.std.proofs.Common.{◌≡◌, ◌⊎◌, true, ap, ◌∙◌, subst, sym, ⊎_elim, inl, inr}
 use Rattle.std.specs.Prelude.{Option, Some, None, IfSome}
 use Rattle.exact_plane.specs.Point.{Point}
 use Rattle.exact_plane.specs.Segment.{Segment}

@@ -1,5 +1,4 @@
-use Rattle.std.proofs.Common.{◌≡◌, Contains, sym, ap, ◌∙◌, subst, ⊎_elim, inl, inr, List}
-use Rattle.std.specs.Prelude.{Option}
+use Rattle.std.proofs.Common.{◌≡◌, Contains, sym, ap, ◌∙◌, subst, ⊎_elim, inl, inr}
 use Rattle.exact_plane.specs.Point.{Point}
 use Rattle.plane_graphs.specs.Ascending.{Member}
 use Rattle.plane_graphs.specs.Line.{precedes}
@@ -9,7 +8,6 @@ use Rattle.dcel_records.specs.declared.spot.Spot.TheVariants.{Vertex}
 use Rattle.zone_walk.specs.Searches.{IsThere}
 use Rattle.zone_walk.specs.Sights.{IsMetOf}
 use Rattle.zone_walk.specs.Zone.{meeting_points}
-use Rattle.zone_walk.specs.declared.sight.CommonPoints.{CommonPoints}
 use Rattle.zone_walk.proofs.Searched.{goes_on, still_seen, vertex_meets, vertex_missed}
 use Rattle.zone_walk.proofs.search.look_at_vertex.Goals as goal
 

@@ -35,7 +35,7 @@ returns g c =
     let tells = c.requires.part.1 in
     let found : AreFoundAfter v s p old = c.requires.search.search.found in
     let taken = c.requires.search.visited c.args.face c.requires.visited in
-    let now : Meeting → Search = λ m. record { segment = s; whole = l.whole; here = m.point; found = c.pop_first.new.self; visited = l.visited; failed = l.failed } in
+    let now : Meeting → Search = λ m. record { alloc = l.alloc; segment = s; whole = l.whole; here = m.point; found = c.pop_first.new.self; visited = l.visited; failed = l.failed } in
     elim c.match-pop_first.branch [
       | in-Some w ↦
           let q = w.in-Some.first.0 in

@@ -1,0 +1,34 @@
+use Rattle.std.proofs.Common.{sym, subst, inl}
+use Rattle.zone_walk.specs.Searches.{HasLooked}
+use Rattle.zone_walk.proofs.Visited.{looked_on, visit_on}
+use Rattle.zone_walk.proofs.search.VisitLooker.look.Goals as goal
+
+pub returns-else-is_passed-clause-ready : goal.returns-else-is_passed-clause-ready
+returns-else-is_passed-clause-ready g c = λ k i.
+    let v = g.T.NameCalls.graph c.args.sight.now in
+    let now = c.args.self.now in
+    visit_on v (g.T.NameCalls.graph now.sight.now) (g.T.NameCalls.faces k.sight.now) (g.T.NameCalls.faces now.sight.now) k.face now.face k.search now.search c.look_at_dart.new.search (c.look_at_dart.ensures.ready k.search) i
+
+pub returns-else-is_passed-clause-seen : goal.returns-else-is_passed-clause-seen
+returns-else-is_passed-clause-seen g c =
+    let v = g.T.NameCalls.graph c.args.sight.now in
+    subst (HasLooked v (g.T.NameCalls.faces c.args.self.now.sight.now) c.args.self.now.face c.look_at_dart.new.search) (sym c.in-Dart.is) (inl c.look_at_dart.ensures.seen)
+
+pub returns-else-is_passed-clause-still : goal.returns-else-is_passed-clause-still
+returns-else-is_passed-clause-still g c =
+    looked_on (g.T.NameCalls.graph c.args.sight.now) (g.T.NameCalls.faces c.args.self.now.sight.now) c.args.self.now.face c.args.self.now.search c.look_at_dart.new.search c.look_at_dart.ensures.still
+
+pub returns-in-Isolated-clause-ready : goal.returns-in-Isolated-clause-ready
+returns-in-Isolated-clause-ready g c = λ k i.
+    let v = g.T.NameCalls.graph c.args.sight.now in
+    let now = c.args.self.now in
+    visit_on v (g.T.NameCalls.graph now.sight.now) (g.T.NameCalls.faces k.sight.now) (g.T.NameCalls.faces now.sight.now) k.face now.face k.search now.search c.look_at_vertex.new.search (c.look_at_vertex.ensures.ready k.search) i
+
+pub returns-in-Isolated-clause-seen : goal.returns-in-Isolated-clause-seen
+returns-in-Isolated-clause-seen g c =
+    let v = g.T.NameCalls.graph c.args.sight.now in
+    subst (HasLooked v (g.T.NameCalls.faces c.args.self.now.sight.now) c.args.self.now.face c.look_at_vertex.new.search) (sym c.in-Isolated.is) c.look_at_vertex.ensures.seen
+
+pub returns-in-Isolated-clause-still : goal.returns-in-Isolated-clause-still
+returns-in-Isolated-clause-still g c =
+    looked_on (g.T.NameCalls.graph c.args.sight.now) (g.T.NameCalls.faces c.args.self.now.sight.now) c.args.self.now.face c.args.self.now.search c.look_at_vertex.new.search c.look_at_vertex.ensures.still
