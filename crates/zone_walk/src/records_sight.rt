@@ -1,7 +1,6 @@
 //! Looks at the records: cheap tests by sides and by the order of points rule out nearly all edges, an exact meeting comes last.
 ghost use Rattle.std.specs.Prelude.{◌≡◌, ◌≤◌, ◌+◌, ◌&&◌, ◌||◌, cond};
 ghost use Rattle.exact_plane.specs.Meet.{IsMeeting};
-ghost use Rattle.exact_plane.specs.Point.{Point as Coordinates};
 ghost use Rattle.exact_plane.specs.Sign.{sign_of};
 ghost use Rattle.exact_plane.specs.Span.{IsSpan, span_of_segment};
 ghost use Rattle.plane_graphs.specs.Line.{precedes};
@@ -82,8 +81,47 @@ fn meet_of(records: &Records, dart: DartId, segment: &Segment) -> Meet
     span_meeting(&whole(segment), &span)
 }
 
+// The points that a span has in common with the edge of a dart between two points, its ends included, where sides rule out none.
+#[inline(never)]
+fn points_across(
+    records: &Records,
+    dart: DartId,
+    whole: &Span,
+    source: &Point,
+    target: &Point,
+) -> Option<CommonPoints>
+    requires sound { IsGraphSound records.now.graph }
+    requires dart { HasDart records.now.graph dart }
+    requires source { source.now ≡ point_in records.now.graph (source_in records.now.graph dart) }
+    requires target { target.now ≡ point_in records.now.graph (target_in records.now.graph dart) }
+    ensures { IsMetOf records.now.graph whole.now (OnEdge dart) result }
+{
+    source.laws();
+    target.laws();
+    records.line(dart).laws();
+    if are_away(whole, source, target) {
+        return None;
+    }
+    let span = span_of(records, dart);
+    match span_meeting(whole, &span) {
+        Meet::Apart => None,
+        Meet::At(point) => Some(CommonPoints {
+            first: point,
+            last: None,
+            source: *source,
+            target: *target,
+        }),
+        Meet::Along(first, last) => Some(CommonPoints {
+            first,
+            last: Some(last),
+            source: *source,
+            target: *target,
+        }),
+    }
+}
+
 // The points that a span has in common with the edge of a dart, its ends included. Nearly all edges have none, and the side of
-// the span's line on which they are tells it.
+// the span's line on which they are tells it, so the rest is kept out of line.
 fn points_on_edge(records: &Records, dart: DartId, whole: &Span) -> Option<CommonPoints>
     requires sound { IsGraphSound records.now.graph }
     requires dart { HasDart records.now.graph dart }
@@ -95,25 +133,10 @@ fn points_on_edge(records: &Records, dart: DartId, whole: &Span) -> Option<Commo
     source.laws();
     target.laws();
     records.line(dart).laws();
-    if are_aside(&whole.line(), &source, &target) || are_away(whole, &source, &target) {
+    if are_aside(&whole.line(), &source, &target) {
         return None;
     }
-    let span = span_of(records, dart);
-    match span_meeting(whole, &span) {
-        Meet::Apart => None,
-        Meet::At(point) => Some(CommonPoints {
-            first: point,
-            last: None,
-            source,
-            target,
-        }),
-        Meet::Along(first, last) => Some(CommonPoints {
-            first,
-            last: Some(last),
-            source,
-            target,
-        }),
-    }
+    points_across(records, dart, whole, &source, &target)
 }
 
 // A vertex's point, where a span has it.

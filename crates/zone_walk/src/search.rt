@@ -84,7 +84,8 @@ fn spot_on<T: Sight>(sight: &T, dart: DartId, source: &Point, target: &Point, po
     }
 }
 
-// Keeps a point on the edge of a dart that was met, where there is one.
+// Keeps a point on the edge of a dart that was met, where there is one. Few looks come here.
+#[inline(never)]
 fn take_on<T: Sight>(
     search: &mut Search,
     sight: &T,
@@ -157,7 +158,8 @@ fn is_passed<T: Sight>(sight: &T, face: FaceId, dart: DartId) -> bool
     twin.0 < dart.0 && sight.face(sight.cycle(twin)).0 == face.0
 }
 
-/// A search at the boundary of a face.
+/// A search at the boundary of a face. Of two darts of one edge on it the search looks at one: an edge's common points don't
+/// depend on the dart.
 #[derive(Drop)]
 pub(crate) struct Visit<'a, T: Sight> {
     pub(crate) sight: &'a T,
