@@ -64,11 +64,11 @@ fn is_beside(records: &Records, dart: DartId, one: FaceId, other: FaceId) -> boo
     }
 }
 
-// How many darts have the unbounded face or another one on their left, among the first thousand names.
-fn darts_beside(records: &Records, other: FaceId) -> usize {
+/// How many darts have one of two faces on their left, among the first thousand names.
+pub fn darts_beside(records: &Records, one: FaceId, other: FaceId) -> usize {
     let mut count: usize = 0;
     'names: for name in 0..1000 {
-        if is_beside(records, DartId(name), FaceId(0), other) {
+        if is_beside(records, DartId(name), one, other) {
             count = count.saturating_add(1);
         }
     }
@@ -80,9 +80,19 @@ fn size_below(records: &Records, point: &Point) -> Option<usize>
     requires { IsSoundMap records.now }
 {
     match locate(records, point) {
-        Spot::Face(face) => Some(darts_beside(records, face)),
+        Spot::Face(face) => Some(darts_beside(records, FaceId(0), face)),
         _ => None,
     }
+}
+
+/// Draws the two outlines and the fence, and tells whether the layer has what they make: three faces, and no isolated vertex.
+pub fn draw_state(layer: &mut Arrangement) -> Result<bool, Fail>
+    requires watched { IsWatched (arranged Observer-dyn layer.old) }
+    ensures watched { IsWatched (arranged Observer-dyn layer.new) }
+{
+    draw_outlines(layer)?;
+    draw_fence(layer)?;
+    Ok(counted(layer)? == [608, 308, 3, 302, 0, 308])
 }
 
 // A walk into the square looks at the twelve parts of the two boundaries below the point, where sixty are allowed; the fence is in a
@@ -90,11 +100,9 @@ fn size_below(records: &Records, point: &Point) -> Option<usize>
 fn is_walk_short(layer: &mut Arrangement) -> Result<bool, Fail>
     requires watched { IsWatched (arranged Observer-dyn layer.old) }
 {
-    draw_outlines(layer)?;
-    draw_fence(layer)?;
+    let is_state = draw_state(layer)?;
     let point = at(1, 1)?;
     let size = size_below(layer.records(), &point);
-    let is_state = counted(layer)? == [608, 308, 3, 302, 0, 308];
     let cell = layer.locate(Strategy::Walk, &point)?;
     Ok(is_state && size == Some(12) && cell == Cell::Face(1))
 }

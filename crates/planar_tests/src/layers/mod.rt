@@ -13,3 +13,4 @@ mod scribe;
 mod script_edits;
 mod seats;
 mod texts;
+mod zones;
