@@ -2,3 +2,4 @@ pub mod OnEdges
 pub mod LayerCells
 pub mod LayerLabels
 pub mod EdgeLabels
+pub mod EdgePlaces

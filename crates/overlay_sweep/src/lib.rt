@@ -7,11 +7,13 @@
 //! made. What holds of the two layers are laws: their contracts state them, and their bodies, being empty, compute nothing.
 #![tactic(auto)]
 
+mod edges;
 mod labels;
 
 ghost use Rattle.overlay_sweep.specs.EdgeLabels.{LabelsBySources};
 ghost use Rattle.overlay_sweep.specs.LayerLabels.{LabelsByOwnEdges};
 
+pub use edges::place_of_edge;
 pub use labels::{Source, labels_of};
 
 /// The labels of an overlay's faces are told by the edges of each layer.
