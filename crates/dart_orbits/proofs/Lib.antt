@@ -1,2 +1,4 @@
 pub mod Ranges
 pub mod WayOrders
+pub mod Neighbours
+pub mod Afters

@@ -1,11 +1,11 @@
 -- The order of ways: it tells darts apart, and round one vertex it is the clockwise order.
-use Rattle.std.proofs.Common.{◌≡◌, ℕ, zero, suc, ◌+◌, ◌<◌, ◌≤◌, Bool, true, false, arith, refl, sym, ap, ap₂, ◌∙◌, subst, ◌⊎◌, inl, inr, List, [], ◌∷◌, map, length, get_or, Ordering, Less, Equal, Greater, nat_cmp, is_eq}
-use Rattle.std.specs.Prelude.{ℤ, pos, ◌-ℤ◌, ◌*ℤ◌, ◌<ℤ◌, ◌==◌}
+use Rattle.std.proofs.Common.{◌≡◌, ℕ, zero, suc, ◌+◌, ◌<◌, ◌≤◌, true, false, arith, refl, sym, ap, ◌∙◌, subst, inl, inr, List, map, length, get_or, Less, Equal, nat_cmp}
+use Rattle.std.specs.Prelude.{ℤ, pos, ◌-ℤ◌, ◌*ℤ◌, ◌<ℤ◌}
 use Rattle.std.specs.List.{AllByRecursion, IsDistinct, range_with_len}
 use Rattle.std.specs.List.Sorted.{IsPermutation, IsSorted}
 use Rattle.std.specs.Ordering.{ordering_then, eq_by_cmp}
 use Rattle.std.specs.Cmp.{IsTotalOrder, then_total, on_total, nat_cmp_total, back_total, tied_itself}
-use Rattle.std.proofs.lemmas.Bool.{false_from_ne_true, false≢true, cases_Bool, ltb-true}
+use Rattle.std.proofs.lemmas.Bool.{false_from_ne_true, cases_Bool, ltb-true}
 use Rattle.std.proofs.lemmas.Int.{ints}
 use Rattle.std.proofs.lemmas.List.{length-map, get_or-map}
 use Rattle.std.proofs.lemmas.List.Sorted.{Contains-permutation, IsPermutation-sym}
@@ -15,17 +15,17 @@ use Rattle.exact_plane.specs.Line.{Line, IsOn, IsForward}
 use Rattle.exact_plane.specs.MeetOf.{weight_of}
 use Rattle.exact_plane.specs.Point.{Point}
 use Rattle.exact_plane.specs.Slope.{rise_cmp}
-use Rattle.exact_plane.specs.Span.{Span, IsSpan}
+use Rattle.exact_plane.specs.Span.{Span}
 use Rattle.exact_plane.specs.Direction.{turn as cross}
 use Rattle.exact_plane.proofs.SlopeLaws.{rise_cmp_total, rise_is}
 use Rattle.plane_graphs.specs.Ascending.{Member, IsAscending}
 use Rattle.plane_graphs.specs.Graph.{Edge}
 use Rattle.plane_graphs.proofs.Ascending.{to_member, from_member}
 use Rattle.plane_graphs.proofs.Lists.{in_map, of_map}
-use Rattle.plane_graphs.proofs.Sorting.{sorted_ascends, rises, member_at, any_default}
+use Rattle.plane_graphs.proofs.Sorting.{sorted_ascends, rises, member_at}
 use Rattle.slab_laws.specs.declared.rows.ListedDart.{ListedDart}
 use Rattle.slab_laws.specs.Darts.{Dart, source, class, by_class, on_left, on_right}
-use Rattle.slab_laws.specs.Rotation.{turn, earlier, OutOf}
+use Rattle.slab_laws.specs.Rotation.{turn, earlier}
 use Rattle.slab_laws.specs.Rows.{dart_list, no_dart, dart_at, vertex_place, dart_place, dart_row, dart_rows}
 use Rattle.slab_laws.specs.Skeleton.{Skeleton, IsPlaneSkeleton, left_of}
 use Rattle.slab_laws.specs.SpansDrawn.{drawn, edge_of}
@@ -34,7 +34,7 @@ use Rattle.slab_faces.proofs.RotationLemmas.{Early, earlier_out, round_at}
 use Rattle.slab_cycles.specs.DartRows.{row_dart}
 use Rattle.slab_cycles.proofs.NextPlaces.{edge_there}
 use Rattle.slab_cycles.proofs.Listed.{dart_there, place_of_dart, rows_length, row_at, row_dart_is, source_in}
-use Rattle.rotation_order.specs.Directions.{direction_before, dart_direction, IsAlong}
+use Rattle.rotation_order.specs.Directions.{dart_direction, IsAlong}
 use Rattle.rotation_order.proofs.ClockwiseEdges.{by_directions}
 use Rattle.rotation_order.proofs.EdgeCourses.{quarter_is, turn_of_ways}
 use Rattle.rotation_order.proofs.LineDirections.{quarters}

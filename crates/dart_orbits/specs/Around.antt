@@ -1,9 +1,12 @@
 -- The places of darts by their sources, those of one source clockwise.
-use Rattle.std.specs.Prelude.{◌≡◌, ◌<◌, ◌≤◌, ℕ, true, List, length, slice_index_or}
+use Rattle.std.specs.Prelude.{◌≡◌, ◌≢◌, ◌+◌, ◌<◌, ◌≤◌, ℕ, true, List, length, slice_index_or, Option, None, Some}
 use Rattle.slab_laws.specs.Darts.{Dart, source}
 use Rattle.slab_laws.specs.Rotation.{earlier}
 use Rattle.slab_laws.specs.Rows.{dart_list, dart_at, vertex_place}
 use Rattle.slab_laws.specs.Skeleton.{Skeleton}
+use Rattle.slab_laws.specs.declared.rows.ListedDart.{ListedDart}
+use Rattle.slab_cycles.specs.DartRows.{place_after}
+use Rattle.dart_orbits.specs.Ways.{row_in}
 
 -- the dart whose place stands at i
 abbrev pub dart_placed : Skeleton → List ℕ → ℕ → Dart
@@ -15,3 +18,30 @@ pub record AreAround (g : Skeleton) (ps : List ℕ) : Type 0 where
   pub all : (k : ℕ) → k < length (dart_list g) → (i : ℕ) × (i < length ps) × (slice_index_or ps i 0 ≡ k)
   pub sources : (i k : ℕ) → i < k → k < length ps → vertex_place g (source (dart_placed g ps i)) ≤ vertex_place g (source (dart_placed g ps k))
   pub turns : (i k : ℕ) → i < k → k < length ps → source (dart_placed g ps i) ≡ source (dart_placed g ps k) → earlier (dart_placed g ps i) (dart_placed g ps k) ≡ true
+
+-- ---- by rows
+-- the source of the dart whose place stands at i
+abbrev pub source_placed : List ListedDart → List ℕ → ℕ → ℕ
+source_placed rows ps i = (row_in rows (slice_index_or ps i 0)).source
+
+-- their sources don't fall
+abbrev pub AreBySource : List ListedDart → List ℕ → Type 0
+AreBySource rows ps = (i k : ℕ) → i < k → k < length ps → source_placed rows ps i ≤ source_placed rows ps k
+
+-- what stands after i, where it has the same source (this project)
+abbrev pub IsNextBeside : List ListedDart → List ℕ → ℕ → Option ℕ → Type 0
+IsNextBeside rows ps i None = i + 1 < length ps → source_placed rows ps (i + 1) ≢ source_placed rows ps i
+IsNextBeside rows ps i (Some k) = (i + 1 < length ps) × (k ≡ slice_index_or ps (i + 1) 0) × (source_placed rows ps (i + 1) ≡ source_placed rows ps i)
+
+-- what stands first of those with the same source as at i (this project)
+pub record IsFirstBeside (rows : List ListedDart) (ps : List ℕ) (i r : ℕ) : Type 0 where
+  pub at : ℕ
+  pub upto : at ≤ i
+  pub there : r ≡ slice_index_or ps at 0
+  pub same : source_placed rows ps at ≡ source_placed rows ps i
+  pub first : (j : ℕ) → j < length ps → source_placed rows ps j ≡ source_placed rows ps i → at ≤ j
+
+-- of each dart the one that follows it clockwise round its source
+pub record AreAfters (g : Skeleton) (vs : List ℕ) : Type 0 where
+  pub counted : length vs ≡ length (dart_list g)
+  pub each : (k : ℕ) → k < length (dart_list g) → slice_index_or vs k 0 ≡ place_after g k

@@ -4,6 +4,8 @@
 //! that follows one is then its neighbour in that list.
 #![tactic(auto)]
 
+mod nexts;
 mod ways;
 
+pub use nexts::nexts_around;
 pub use ways::darts_around;
