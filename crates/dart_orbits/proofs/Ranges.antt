@@ -4,6 +4,9 @@ use Rattle.std.specs.List.{range_with_len}
 use Rattle.std.proofs.lemmas.Bool.{cases_lt}
 use Rattle.std.proofs.lemmas.List.FromFn.{get_or-range_with_len, length-range_with_len}
 use Rattle.plane_graphs.specs.Ascending.{Member}
+use Rattle.plane_graphs.proofs.Ascending.{to_member}
+use Rattle.slab_faces.proofs.Member.{Member as Listed, member_in}
+use Rattle.slab_faces.proofs.Searches.{in_range as in_numbers}
 use Rattle.slab_cycles.proofs.Pushed.{pushed, all_pushed}
 
 from : (a n k : ℕ) → Member k (range_with_len a n) → (a ≤ k) × (k < a + n)
@@ -20,6 +23,13 @@ into a (suc n) k l m = elim (cases_lt a k) [ inl h ↦ inr (into (a + 1) n k (om
 
 pub range_in : (n k : ℕ) → k < n → Member k (range_with_len 0 n)
 range_in n k l = into 0 n k (omega arith) (omega arith)
+
+-- the same, as the model's lists have it
+pub numbers_in : (n k : ℕ) → k < n → Listed (range_with_len 0 n) k
+numbers_in n k l = in_numbers 0 n k (omega arith) (omega arith)
+
+pub numbers_out : (n k : ℕ) → Listed (range_with_len 0 n) k → k < n
+numbers_out n k m = in_range n k (to_member (range_with_len 0 n) k (member_in (range_with_len 0 n) k m))
 
 -- a list that is made number by number
 module _ {Y : Type 0} (f : ℕ → Y) (n : ℕ) where

@@ -1,4 +1,4 @@
-ghost use Rattle.std.specs.Prelude.{◌≡◌, ◌<◌, ℕ, length, slice_index_or, slice_set, None, Some, IfOk};
+ghost use Rattle.std.specs.Prelude.{◌≡◌, ◌<◌, ℕ, length, slice_index_or, None, Some, IfOk};
 ghost use Rattle.slab_laws.specs.Rows.{dart_rows, twin_places, next_places};
 ghost use Rattle.slab_laws.specs.Skeleton.{IsPlaneSkeleton};
 ghost use Rattle.slab_laws.specs.SpansDrawn.{drawn};
@@ -6,6 +6,7 @@ ghost use Rattle.slab_cycles.specs.DartRows.{place_after};
 ghost use Rattle.dart_orbits.specs.Ways.{row_in};
 ghost use Rattle.dart_orbits.specs.Around.{source_placed, AreAround, AreBySource, IsNextBeside, IsFirstBeside, AreAfters};
 
+use crate::tables::{number_at, set_number};
 use exact_plane::{Point, Span};
 use no_memory::NoMemory;
 use slab_laws::ListedDart;
@@ -64,20 +65,6 @@ fn after_at(
     }
 }
 
-fn set_after(afters: &mut Vec<usize>, place: usize, after: usize)
-    requires { place < length afters.old.items }
-    ensures { afters.new.items ≡ slice_set afters.old.items place after }
-{
-    afters[place] = after;
-}
-
-fn after_of(afters: &[usize], place: usize) -> usize
-    requires { place < length afters.now }
-    ensures { result ≡ slice_index_or afters.now place 0 }
-{
-    afters[place]
-}
-
 // Of each dart the one that follows it clockwise round its source.
 fn afters_of(
     alloc: Global,
@@ -95,7 +82,7 @@ fn afters_of(
     afters.resize(darts.len(), 0)?;
     for index in 0..around.len() {
         let after = after_at(points, edges, darts, around, index);
-        set_after(&mut afters, around[index], after);
+        set_number(&mut afters, around[index], after);
     }
     Ok(afters)
 }
@@ -127,7 +114,7 @@ pub fn nexts_around(
     let afters = afters_of(alloc, points, edges, darts, around)?;
     let mut nexts = Vec::with_capacity(alloc, twins.len())?;
     for twin in twins {
-        nexts.push(after_of(&afters, *twin))?;
+        nexts.push(number_at(&afters, *twin))?;
     }
     Ok(nexts)
 }

@@ -8,8 +8,8 @@ use Rattle.dart_orbits.proofs.nexts.afters_of.Goals as goal
 pub loop-index-init : goal.loop-index-init
 loop-index-init c = record { counted = search rules; each = λ i l. absurd (omega arith) }
 
-pub set_after-requires : goal.set_after-requires
-set_after-requires c =
+pub set_number-requires : goal.set_number-requires
+set_number-requires c =
     let w = inside (drawn c.args.points.now c.args.edges.now) c.args.darts.now c.requires.darts c.args.around.now c.requires.around c.loop-index.index c.loop-index-test.true in
     let e = c.loop-index.invariant.counted in
     omega arith
@@ -23,8 +23,8 @@ loop-index-preserved c =
     let w = inside g c.args.darts.now c.requires.darts ps c.requires.around k c.loop-index-test.true in
     let e = c.loop-index.invariant.counted in
     record {
-      counted = ap length c.set_after.ensures ∙ length-set now (get_or ps k 0) c.after_at-after.result ∙ e;
-      each = placed_more (place_after g) ps k c.after_at-after.result now c.set_after.new.afters.items (omega arith) c.loop-index.invariant.each c.after_at-after.ensures c.set_after.ensures;
+      counted = ap length c.set_number.ensures ∙ length-set now (get_or ps k 0) c.after_at-after.result ∙ e;
+      each = placed_more (place_after g) ps k c.after_at-after.result now c.set_number.new.numbers.items (omega arith) c.loop-index.invariant.each c.after_at-after.ensures c.set_number.ensures;
     }
 
 pub returns : goal.returns
