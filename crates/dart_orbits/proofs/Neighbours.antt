@@ -16,22 +16,22 @@ use Rattle.slab_cycles.specs.DartRows.{place_after}
 use Rattle.slab_cycles.specs.Turns.{comes_first}
 use Rattle.slab_cycles.proofs.Listed.{dart_there, rows_length, row_at, source_in, one_vertex}
 use Rattle.slab_cycles.proofs.NextPlaces.{first_is}
-use Rattle.dart_orbits.specs.Around.{source_placed, AreAround, AreBySource, IsFirstBeside}
+use Rattle.dart_orbits.specs.Around.{source_placed, AreAround, AreBySource, IsFirstPlaced, IsFirstAround}
 use Rattle.dart_orbits.specs.Ways.{no_row, row_in}
 
 -- ---- the first of a source
-module _ (rows : List ListedDart) (ps : List ℕ) (up : AreBySource rows ps) (i : ℕ) (l : i < length ps) where
+module _ (rows : List ListedDart) (ps : List ℕ) (up : AreBySource rows ps) (v i : ℕ) (l : i < length ps) (own : source_placed rows ps i ≡ v) where
   -- whether the source of the dart at a place comes before
   abbrev pub is_before : ℕ → Bool
-  is_before p = ltb (row_in rows p).source (source_placed rows ps i)
+  is_before p = ltb (row_in rows p).source v
 
   pub parted_before : IsPartitionedBy is_before ps
   parted_before = λ k j d h m t.
       let M : row_in rows (get_or ps j d) ≡ row_in rows (get_or ps j 0) = ap (row_in rows) (any_default ps j d 0 m) in
       let K : row_in rows (get_or ps k d) ≡ row_in rows (get_or ps k 0) = ap (row_in rows) (any_default ps k d 0 (omega arith)) in
-      let a = ltb-true _ _ (subst (λ (r : ListedDart). ltb r.source (source_placed rows ps i) ≡ true) M t) in
+      let a = ltb-true _ _ (subst (λ (r : ListedDart). ltb r.source v ≡ true) M t) in
       let b : source_placed rows ps k ≤ source_placed rows ps j = elim (cases_lt k j) [ inl u ↦ up k j u m | inr u ↦ (let q : k ≡ j = omega arith in let w = ap (source_placed rows ps) q in omega arith) ] in
-      subst (λ (r : ListedDart). ltb r.source (source_placed rows ps i) ≡ true) (sym K) (lt-ltb (source_placed rows ps k) (source_placed rows ps i) (omega arith))
+      subst (λ (r : ListedDart). ltb r.source v ≡ true) (sym K) (lt-ltb (source_placed rows ps k) v (omega arith))
 
   module _ (n : ℕ) (cut : IsPartitionPoint (λ p. is_before p ≡ true) (λ p. is_before p ≡ false) ps n) where
     pub upto : n ≤ i
@@ -40,22 +40,22 @@ module _ (rows : List ListedDart) (ps : List ℕ) (up : AreBySource rows ps) (i 
       | inr h ↦ h
     ]
 
-    after_all : (j : ℕ) → j < length ps → source_placed rows ps j ≡ source_placed rows ps i → n ≤ j
+    after_all : (j : ℕ) → j < length ps → source_placed rows ps j ≡ v → n ≤ j
     after_all j m e = elim (cases_lt j n) [
       | inl h ↦ absurd (let t = ltb-true _ _ (cut.0 j 0 (omega arith) h) in omega arith)
       | inr h ↦ h
     ]
 
-    pub first_found : (r : ℕ) → r ≡ get_or ps n 0 → IsFirstBeside rows ps i r
+    pub first_found : (r : ℕ) → r ≡ get_or ps n 0 → IsFirstPlaced rows ps v r
     first_found r e =
         let u = upto in
         let m : n < length ps = omega arith in
-        let t : source_placed rows ps i ≤ source_placed rows ps n = ltb-false (source_placed rows ps n) (source_placed rows ps i) (cut.1 n 0 (omega arith) m) in
+        let t : v ≤ source_placed rows ps n = ltb-false (source_placed rows ps n) v (cut.1 n 0 (omega arith) m) in
         record {
           at = n;
-          upto = u;
+          within = m;
           there = e;
-          same = elim (cases_lt n i) [ inl h ↦ (let k = up n i h l in omega arith) | inr h ↦ (let k : n ≡ i = omega arith in ap (source_placed rows ps) k) ];
+          same = elim (cases_lt n i) [ inl h ↦ (let k = up n i h l in omega arith) | inr h ↦ (let k : n ≡ i = omega arith in ap (source_placed rows ps) k ∙ own) ];
           first = after_all;
         }
 
@@ -140,10 +140,10 @@ module _ (points : List Point) (edges : List Span) (rows : List ListedDart) (pla
         | inr v ↦ absurd (false≢true (sym (not_back m i v I t) ∙ u))
       ]))
 
-  pub first_is_next : (i r : ℕ) → i < length ps → (i + 1 < length ps → source_placed rows ps (i + 1) ≡ source_placed rows ps i → ⊥) → IsFirstBeside rows ps i r → r ≡ place_after (drawn points edges) (get_or ps i 0)
+  pub first_is_next : (i r : ℕ) → i < length ps → (i + 1 < length ps → source_placed rows ps (i + 1) ≡ source_placed rows ps i → ⊥) → IsFirstPlaced rows ps (source_placed rows ps i) r → r ≡ place_after (drawn points edges) (get_or ps i 0)
   unfolding dart place comes_first
   first_is_next i r l last f =
-      let K : f.at < length ps = (let u = f.upto in omega arith) in
+      let K : f.at < length ps = f.within in
       let same = one_source f.at i K l f.same in
       f.there ∙ followed i f.at l K same (λ m M t.
       let s = same_place m i M l t in
@@ -154,4 +154,25 @@ module _ (points : List Point) (edges : List Span) (rows : List ListedDart) (pla
         ]))
         | inr v ↦ v
       ] in
-      by_first (earlier (dart i) (dart m)) (earlier (dart i) (dart f.at)) (earlier (dart m) (dart f.at)) (not_back m i low l t) (not_back f.at i f.upto l same) (not_back f.at m (f.first m M s) M (same ∙ sym t)))
+      by_first (earlier (dart i) (dart m)) (earlier (dart i) (dart f.at)) (earlier (dart m) (dart f.at)) (not_back m i low l t) (not_back f.at i (f.first i l refl) l same) (not_back f.at m (f.first m M s) M (same ∙ sym t)))
+
+  -- the first of a dart's source comes first clockwise
+  pub first_around : (k r : ℕ) → k < length (dart_list (drawn points edges)) → IsFirstPlaced rows ps (row_in rows k).source r → IsFirstAround (drawn points edges) k r
+  unfolding dart place
+  first_around k r l f =
+      let w = h.all k l in
+      let K = subst (λ (c : ℕ). source_placed rows ps f.at ≡ (row_in rows c).source) (sym w.2) f.same in
+      let same = one_source f.at w.0 f.within w.1 K in
+      subst (λ (a : ℕ). IsFirstAround G k a) (sym f.there) (record {
+        within = h.within f.at f.within;
+        same = same ∙ ap (λ c. source (dart_at G c)) w.2;
+        first = λ j J s.
+            let z = h.all j J in
+            let t : source (dart z.0) ≡ source (dart f.at) = ap (λ c. source (dart_at G c)) z.2 ∙ s ∙ ap (λ c. source (dart_at G c)) (sym w.2) ∙ sym same in
+            let low = f.first z.0 z.1 (same_place z.0 f.at z.1 f.within t ∙ f.same) in
+            subst (λ (c : ℕ). earlier (dart_at G c) (dart f.at) ≡ false) z.2 (not_back f.at z.0 low z.1 (sym t));
+      })
+
+  -- a dart stands somewhere
+  pub stands : (k : ℕ) → k < length rows → (i : ℕ) × (i < length ps) × (source_placed rows ps i ≡ (row_in rows k).source)
+  stands k l = let n = rows_length G in let m = ap length e in let w = h.all k (omega arith) in (w.0, w.1, ap (λ c. (row_in rows c).source) w.2)

@@ -1,5 +1,5 @@
 -- The places of darts by their sources, those of one source clockwise.
-use Rattle.std.specs.Prelude.{◌≡◌, ◌≢◌, ◌+◌, ◌<◌, ◌≤◌, ℕ, true, List, length, slice_index_or, Option, None, Some}
+use Rattle.std.specs.Prelude.{◌≡◌, ◌≢◌, ◌+◌, ◌<◌, ◌≤◌, ℕ, true, false, List, length, slice_index_or, Option, None, Some}
 use Rattle.slab_laws.specs.Darts.{Dart, source}
 use Rattle.slab_laws.specs.Rotation.{earlier}
 use Rattle.slab_laws.specs.Rows.{dart_list, dart_at, vertex_place}
@@ -33,13 +33,19 @@ abbrev pub IsNextBeside : List ListedDart → List ℕ → ℕ → Option ℕ �
 IsNextBeside rows ps i None = i + 1 < length ps → source_placed rows ps (i + 1) ≢ source_placed rows ps i
 IsNextBeside rows ps i (Some k) = (i + 1 < length ps) × (k ≡ slice_index_or ps (i + 1) 0) × (source_placed rows ps (i + 1) ≡ source_placed rows ps i)
 
--- what stands first of those with the same source as at i (this project)
-pub record IsFirstBeside (rows : List ListedDart) (ps : List ℕ) (i r : ℕ) : Type 0 where
+-- what stands first of those with the source v (this project)
+pub record IsFirstPlaced (rows : List ListedDart) (ps : List ℕ) (v r : ℕ) : Type 0 where
   pub at : ℕ
-  pub upto : at ≤ i
+  pub within : at < length ps
   pub there : r ≡ slice_index_or ps at 0
-  pub same : source_placed rows ps at ≡ source_placed rows ps i
-  pub first : (j : ℕ) → j < length ps → source_placed rows ps j ≡ source_placed rows ps i → at ≤ j
+  pub same : source_placed rows ps at ≡ v
+  pub first : (j : ℕ) → j < length ps → source_placed rows ps j ≡ v → at ≤ j
+
+-- the dart at r is the first one clockwise, from straight down on, out of the source of the dart at k (CGAL manual, circulator around a vertex)
+pub record IsFirstAround (g : Skeleton) (k r : ℕ) : Type 0 where
+  pub within : r < length (dart_list g)
+  pub same : source (dart_at g r) ≡ source (dart_at g k)
+  pub first : (j : ℕ) → j < length (dart_list g) → source (dart_at g j) ≡ source (dart_at g k) → earlier (dart_at g j) (dart_at g r) ≡ false
 
 -- of each dart the one that follows it clockwise round its source
 pub record AreAfters (g : Skeleton) (vs : List ℕ) : Type 0 where

@@ -11,5 +11,5 @@ mod tables;
 mod ways;
 
 pub use leads::least_darts_by_walks;
-pub use nexts::nexts_around;
+pub use nexts::{first_around, nexts_around};
 pub use ways::darts_around;

@@ -4,7 +4,7 @@ ghost use Rattle.slab_laws.specs.Skeleton.{IsPlaneSkeleton};
 ghost use Rattle.slab_laws.specs.SpansDrawn.{drawn};
 ghost use Rattle.slab_cycles.specs.DartRows.{place_after};
 ghost use Rattle.dart_orbits.specs.Ways.{row_in};
-ghost use Rattle.dart_orbits.specs.Around.{source_placed, AreAround, AreBySource, IsNextBeside, IsFirstBeside, AreAfters};
+ghost use Rattle.dart_orbits.specs.Around.{source_placed, AreAround, AreBySource, IsNextBeside, IsFirstPlaced, IsFirstAround, AreAfters};
 
 use crate::tables::{number_at, set_number};
 use exact_plane::{Point, Span};
@@ -34,15 +34,32 @@ fn next_beside(darts: &[ListedDart], around: &[usize], index: usize) -> Option<u
     }
 }
 
-// The first dart with the same source as the one at an index.
-fn first_beside(darts: &[ListedDart], around: &[usize], index: usize) -> usize
+// The first dart out of a vertex that some dart leaves.
+fn first_of(darts: &[ListedDart], around: &[usize], source: usize) -> usize
     requires sources { AreBySource darts.now around.now }
-    requires index { index < length around.now }
-    ensures { IsFirstBeside darts.now around.now index result }
+    requires some { (i : ℕ) × (i < length around.now) × (source_placed darts.now around.now i ≡ source) }
+    ensures { IsFirstPlaced darts.now around.now source result }
 {
-    let source = source_at(darts, around[index]);
     let first = around.partition_point(|place| source_at(darts, *place) < source);
     around[first]
+}
+
+/// The first dart clockwise, from straight down on, out of a dart's source (CGAL manual, circulator around a vertex). The darts
+/// round their sources are those of `darts_around`; one search.
+pub fn first_around(
+    points: &[Point],
+    edges: &[Span],
+    darts: &[ListedDart],
+    around: &[usize],
+    dart: usize,
+) -> usize
+    requires plane { IsPlaneSkeleton (drawn points.now edges.now) }
+    requires darts { darts.now ≡ dart_rows (drawn points.now edges.now) }
+    requires around { AreAround (drawn points.now edges.now) around.now }
+    requires dart { dart < length darts.now }
+    ensures { IsFirstAround (drawn points.now edges.now) dart result }
+{
+    first_of(darts, around, source_at(darts, dart))
 }
 
 // The dart that follows clockwise round its source the one at an index.
@@ -61,7 +78,7 @@ fn after_at(
 {
     match next_beside(darts, around, index) {
         Some(next) => next,
-        None => first_beside(darts, around, index),
+        None => first_of(darts, around, source_at(darts, around[index])),
     }
 }
 
