@@ -1,5 +1,5 @@
 -- An edge is found among edges in their order.
-use Rattle.std.proofs.Common.{◌≡◌, ◌<◌, ℕ, List, length, get_or, Ok, Err, Result}
+use Rattle.std.proofs.Common.{◌≡◌, ◌<◌, ℕ, List, length, get_or, Result}
 use Rattle.std.specs.List.Sorted.{IsBinarySearchResult, IsSearchInRange}
 use Rattle.std.specs.Result.{result_unwrap_or}
 use Rattle.plane_graphs.specs.Ascending.{Member, IsAscending}

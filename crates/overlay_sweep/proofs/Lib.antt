@@ -3,3 +3,4 @@ pub mod LayerCells
 pub mod LayerLabels
 pub mod EdgeLabels
 pub mod EdgePlaces
+pub mod FirstDarts

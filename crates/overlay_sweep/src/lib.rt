@@ -8,12 +8,14 @@
 #![tactic(auto)]
 
 mod edges;
+mod kinds;
 mod labels;
 
 ghost use Rattle.overlay_sweep.specs.EdgeLabels.{LabelsBySources};
 ghost use Rattle.overlay_sweep.specs.LayerLabels.{LabelsByOwnEdges};
 
 pub use edges::place_of_edge;
+pub use kinds::is_inner;
 pub use labels::{Source, labels_of};
 
 /// The labels of an overlay's faces are told by the edges of each layer.
