@@ -7,9 +7,11 @@
 
 mod leads;
 mod nexts;
+mod orbits;
 mod tables;
 mod ways;
 
 pub use leads::least_darts_by_walks;
 pub use nexts::{first_around, nexts_around};
+pub use orbits::{Orbits, orbits_of};
 pub use ways::darts_around;
