@@ -4,3 +4,4 @@ pub mod LayerLabels
 pub mod EdgeLabels
 pub mod EdgePlaces
 pub mod FirstDarts
+pub mod ForwardDarts

@@ -1,2 +1,3 @@
 pub mod LayerLabels
 pub mod EdgeLabels
+pub mod DartEnds

@@ -7,6 +7,7 @@
 //! made. What holds of the two layers are laws: their contracts state them, and their bodies, being empty, compute nothing.
 #![tactic(auto)]
 
+mod darts;
 mod edges;
 mod kinds;
 mod labels;
@@ -14,6 +15,7 @@ mod labels;
 ghost use Rattle.overlay_sweep.specs.EdgeLabels.{LabelsBySources};
 ghost use Rattle.overlay_sweep.specs.LayerLabels.{LabelsByOwnEdges};
 
+pub use darts::forward_dart;
 pub use edges::place_of_edge;
 pub use kinds::is_inner;
 pub use labels::{Source, labels_of};
