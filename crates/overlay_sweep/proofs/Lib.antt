@@ -5,3 +5,4 @@ pub mod EdgeLabels
 pub mod EdgePlaces
 pub mod FirstDarts
 pub mod ForwardDarts
+pub mod CycleRoots

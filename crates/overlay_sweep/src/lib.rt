@@ -11,6 +11,7 @@ mod darts;
 mod edges;
 mod kinds;
 mod labels;
+mod roots;
 
 ghost use Rattle.overlay_sweep.specs.EdgeLabels.{LabelsBySources};
 ghost use Rattle.overlay_sweep.specs.LayerLabels.{LabelsByOwnEdges};
