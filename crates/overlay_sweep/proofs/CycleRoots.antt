@@ -1,13 +1,11 @@
 -- The roots of cycles, by the edges directly below their least vertices.
-use Rattle.std.proofs.Common.{◌≡◌, ℕ, ◌<◌, Bool, true, false, not, arith, refl, sym, ap, ap₂, ◌∙◌, subst, List, map, length, get_or, Contains, Less}
+use Rattle.std.proofs.Common.{◌≡◌, ℕ, ◌<◌, Bool, true, false, not, arith, sym, ap, ◌∙◌, subst, List, length, get_or, Contains}
 use Rattle.std.specs.Prelude.{Option, Some, None}
 use Rattle.std.specs.Option.{option_map}
 use Rattle.std.proofs.lemmas.List.{get_or-map, length-map}
 use Rattle.integers.proofs.Tests.{is_less, not_not}
 use Rattle.exact_plane.specs.Point.{Point}
-use Rattle.exact_plane.specs.PointOrder.{point_cmp}
 use Rattle.plane_graphs.specs.Ascending.{IsAscending, Member}
-use Rattle.plane_graphs.specs.Graph.{Edge}
 use Rattle.plane_graphs.proofs.Ascending.{to_member, from_member}
 use Rattle.plane_graphs.proofs.Lists.{of_filter, in_filter, IsAscending-filter}
 use Rattle.plane_graphs.proofs.Sorting.{member_at}
@@ -15,17 +13,16 @@ use Rattle.slab_laws.specs.Cycles.{left_of_dart}
 use Rattle.slab_laws.specs.Darts.{Dart, source, ahead}
 use Rattle.slab_laws.specs.Meets.{SameFace}
 use Rattle.slab_laws.specs.Rotation.{dart_cmp, dart_below, same_dart}
-use Rattle.slab_laws.specs.Rows.{dart_list, no_dart, dart_at, dart_place, dart_rows, lead_places, cycle_places, cycle_place, lead_list, least_dart_of, vertex_place}
+use Rattle.slab_laws.specs.Rows.{dart_list, no_dart, dart_at, dart_place, lead_places, cycle_places, cycle_place, lead_list, least_dart_of, vertex_place}
 use Rattle.slab_laws.specs.Skeleton.{Skeleton, IsPlaneSkeleton, same_point}
 use Rattle.slab_laws.specs.Subdivision.{first_cell}
 use Rattle.slab_faces.proofs.DartOrder.{dart_cmp_total, list_ascends, lead_lead}
 use Rattle.slab_faces.proofs.NextLemmas.{darts_exact}
 use Rattle.slab_faces.proofs.Places.{points_exact}
 use Rattle.slab_faces.proofs.Turns.{face_trans}
-use Rattle.slab_cycles.specs.Orbits.{cycle_leads}
 use Rattle.slab_cycles.proofs.DartCells.{edge_there, lead_there}
 use Rattle.slab_cycles.proofs.LeastDarts.{is_least, least_listed, least_there}
-use Rattle.slab_cycles.proofs.Listed.{dart_within, dart_at_place, place_of_dart, rows_length, row_at, source_in, in_list}
+use Rattle.slab_cycles.proofs.Listed.{dart_within, dart_at_place, rows_length, row_at, source_in, in_list}
 use Rattle.slab_cycles.proofs.Placed.{at_place, place_within, lower}
 use Rattle.edges_below.specs.Highest.{IsHighestBelow, highest}
 use Rattle.face_changes.specs.Kinds.{is_outer}

@@ -6,3 +6,4 @@ pub mod EdgePlaces
 pub mod FirstDarts
 pub mod ForwardDarts
 pub mod CycleRoots
+pub mod RootLists

@@ -20,6 +20,7 @@ pub use darts::forward_dart;
 pub use edges::place_of_edge;
 pub use kinds::is_inner;
 pub use labels::{Source, labels_of};
+pub use roots::{cycle_ranks, roots_of};
 
 /// The labels of an overlay's faces are told by the edges of each layer.
 pub fn labels_by_own_edges()

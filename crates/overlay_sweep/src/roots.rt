@@ -6,13 +6,14 @@ ghost use Rattle.slab_laws.specs.SpansDrawn.{drawn};
 ghost use Rattle.face_roots.specs.CycleRanks.{IsRootOf, AreRootsOf};
 ghost use Rattle.dart_orbits.specs.Orbits.{AreOrbits};
 ghost use Rattle.dart_orbits.specs.Ways.{row_in};
+ghost use Rattle.overlay_sweep.specs.CycleFaces.{AreCycleRanks};
 ghost use Rattle.overlay_sweep.specs.EdgesUnder.{AreUnder};
 
 use crate::darts::forward_dart;
 use crate::kinds::is_inner;
 use dart_orbits::Orbits;
 use exact_plane::{Point, Span};
-use face_roots::Root;
+use face_roots::{Root, ranks_of};
 use no_memory::NoMemory;
 use std::alloc::Global;
 use sweep_graphs::EdgeEnds;
@@ -78,4 +79,57 @@ fn root_of(
         }
         None => Root::Outside,
     }
+}
+
+/// What tells the face of each cycle: nothing else, where it bounds its face from outside; else the edge directly below its least
+/// vertex (CGAL manual, outer and inner boundary cycles). Two searches for each cycle.
+///
+/// The darts and their cycles are those of `orbits_of` for these points and edges, and of each vertex the edge below it is known.
+///
+/// # Errors
+///
+/// There was no memory.
+pub fn roots_of(
+    alloc: Global,
+    points: &[Point],
+    edges: &[Span],
+    orbits: &Orbits,
+    below: &[Option<EdgeEnds>],
+) -> Result<Vec<Root>, NoMemory>
+    requires plane { IsPlaneSkeleton (drawn points.now edges.now) }
+    requires ascend { IsAscending point_cmp points.now }
+    requires orbits { AreOrbits (drawn points.now edges.now) orbits.now }
+    requires below { AreUnder (drawn points.now edges.now) below.now }
+    ensures { IfOk result (λ v. AreRootsOf (drawn points.now edges.now) v.items) }
+{
+    let count = orbits.cycles.len();
+    let mut roots = Vec::with_capacity(alloc, count)?;
+    for cycle in 0..count {
+        roots.push(root_of(points, edges, orbits, below, cycle))?;
+    }
+    Ok(roots)
+}
+
+/// The ranks of the faces of all cycles, in the order of these: the unbounded face has rank 0, and the others follow by the least
+/// darts of their outer cycles.
+///
+/// # Errors
+///
+/// There was no memory.
+pub fn cycle_ranks(
+    alloc: Global,
+    points: &[Point],
+    edges: &[Span],
+    orbits: &Orbits,
+    below: &[Option<EdgeEnds>],
+) -> Result<Vec<usize>, NoMemory>
+    requires plane { IsPlaneSkeleton (drawn points.now edges.now) }
+    requires ascend { IsAscending point_cmp points.now }
+    requires orbits { AreOrbits (drawn points.now edges.now) orbits.now }
+    requires below { AreUnder (drawn points.now edges.now) below.now }
+    ensures { IfOk result (λ v. AreCycleRanks (drawn points.now edges.now) v.items) }
+{
+    let roots = roots_of(alloc, points, edges, orbits, below)?;
+    let ranks = ranks_of(alloc, &roots)?;
+    Ok(ranks)
 }
