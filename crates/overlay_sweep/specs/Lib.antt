@@ -1,2 +1,5 @@
 pub mod LayerLabels
 pub mod EdgeLabels
+pub mod DartEnds
+pub mod EdgesUnder
+pub mod CycleFaces

@@ -7,12 +7,20 @@
 //! made. What holds of the two layers are laws: their contracts state them, and their bodies, being empty, compute nothing.
 #![tactic(auto)]
 
+mod darts;
+mod edges;
+mod kinds;
 mod labels;
+mod roots;
 
 ghost use Rattle.overlay_sweep.specs.EdgeLabels.{LabelsBySources};
 ghost use Rattle.overlay_sweep.specs.LayerLabels.{LabelsByOwnEdges};
 
+pub use darts::forward_dart;
+pub use edges::place_of_edge;
+pub use kinds::is_inner;
 pub use labels::{Source, labels_of};
+pub use roots::{cycle_ranks, roots_of};
 
 /// The labels of an overlay's faces are told by the edges of each layer.
 pub fn labels_by_own_edges()

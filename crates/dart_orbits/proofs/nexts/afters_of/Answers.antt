@@ -1,0 +1,31 @@
+use Rattle.std.proofs.Common.{rules, ◌∙◌, ap, length, get_or, arith}
+use Rattle.std.proofs.lemmas.List.{length-set}
+use Rattle.slab_laws.specs.SpansDrawn.{drawn}
+use Rattle.slab_cycles.specs.DartRows.{place_after}
+use Rattle.dart_orbits.proofs.Afters.{placed_more, inside, all_placed}
+use Rattle.dart_orbits.proofs.nexts.afters_of.Goals as goal
+
+pub loop-index-init : goal.loop-index-init
+loop-index-init c = record { counted = search rules; each = λ i l. absurd (omega arith) }
+
+pub set_number-requires : goal.set_number-requires
+set_number-requires c =
+    let w = inside (drawn c.args.points.now c.args.edges.now) c.args.darts.now c.requires.darts c.args.around.now c.requires.around c.loop-index.index c.loop-index-test.true in
+    let e = c.loop-index.invariant.counted in
+    omega arith
+
+pub loop-index-preserved : goal.loop-index-preserved
+loop-index-preserved c =
+    let g = drawn c.args.points.now c.args.edges.now in
+    let ps = c.args.around.now in
+    let k = c.loop-index.index in
+    let now = c.loop-index.afters.items in
+    let w = inside g c.args.darts.now c.requires.darts ps c.requires.around k c.loop-index-test.true in
+    let e = c.loop-index.invariant.counted in
+    record {
+      counted = ap length c.set_number.ensures ∙ length-set now (get_or ps k 0) c.after_at-after.result ∙ e;
+      each = placed_more (place_after g) ps k c.after_at-after.result now c.set_number.new.numbers.items (omega arith) c.loop-index.invariant.each c.after_at-after.ensures c.set_number.ensures;
+    }
+
+pub returns : goal.returns
+returns c = all_placed (drawn c.args.points.now c.args.edges.now) c.args.darts.now c.requires.darts c.args.around.now c.requires.around c.loop-index.index c.loop-index.afters.items c.loop-index.invariant.counted c.loop-index-test.false c.loop-index.invariant.each

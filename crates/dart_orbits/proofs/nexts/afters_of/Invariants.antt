@@ -1,0 +1,10 @@
+use Rattle.std.proofs.Common.{◌≡◌, ◌<◌, ℕ, length, get_or}
+use Rattle.slab_laws.specs.SpansDrawn.{drawn}
+use Rattle.slab_cycles.specs.DartRows.{place_after}
+use Rattle.dart_orbits.proofs.nexts.afters_of.Given as goal
+
+abbrev pub invariant-loop-index : goal.invariant-loop-index
+invariant-loop-index l = record {
+  counted : length l.afters.items ≡ length l.darts;
+  each : (i : ℕ) → i < l.index → get_or l.afters.items (get_or l.around i 0) 0 ≡ place_after (drawn l.points l.edges) (get_or l.around i 0);
+}

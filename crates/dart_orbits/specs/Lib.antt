@@ -1,0 +1,4 @@
+pub mod Ways
+pub mod Around
+pub mod Walks
+pub mod Orbits
