@@ -1,8 +1,7 @@
 #!/usr/bin/env bash
-# What one line costs in a layer of some 100, 1,000 and 10,000 vertices: grids of 8, 30 and 98 lines each way. For an insertion that crosses one
-# edge, the drop of such a segment, and a location on an edge, instructions by callgrind, the mean of up to 200, reading the line included; for a
-# location in a face and for `show`, which subdivide the plane afresh, those of one, or in the largest layer the processor seconds of the
-# whole run. It takes the program's path, and a minute.
+# What one line costs in a layer of some 100, 1,000 and 10,000 vertices, in instructions by callgrind, reading the line included: grids of 8, 30
+# and 98 lines each way. An insertion that crosses one edge, the drop of such a segment, and a location on an edge: the mean of up to 200; a
+# location in a face, the first one since the edits and another one; `show`. Locations go by the walk. It takes the program's path, and a minute.
 set -eu
 program=${1:?the path of the program planar}
 folder=$(mktemp -d)
@@ -23,7 +22,7 @@ for lines in 8, 30, 98:
     more = [f'segment {10 * i + 3} {10 * j + 2} {10 * i + 13} {10 * j + 7}' for i, j in cells]
     drops = [f'drop {len(grid) + 1 + k}' for k in range(len(cells))]
     on = [f'locate {10 * i} {10 * j + 5} 1' for i, j in cells]
-    scripts = {'layer': [], 'more': more, 'fewer': more + drops, 'on': on, 'inside': ['locate 15 15 1'], 'show': ['show']}
+    scripts = {'layer': [], 'more': more, 'fewer': more + drops, 'on': on, 'inside': ['locate 15 15 1'], 'again': ['locate 15 15 1'] * 2, 'show': ['show']}
     with open(f'{folder}/{lines}.times', 'w') as times:
         times.write(str(len(cells)))
     for name, behind in scripts.items():
@@ -31,17 +30,9 @@ for lines in 8, 30, 98:
             script.write('\n'.join(grid + behind) + '\n')
 PYTHON
 
-# Instructions of a whole run.
+# Instructions of a whole run, locations by the walk.
 instructions() {
-    valgrind --tool=callgrind --callgrind-out-file=/dev/null "$program" < "$1" 2>&1 >/dev/null | sed -n 's/.*Collected : //p'
-}
-
-# Processor seconds of a whole run.
-seconds() {
-    python3 -c 'import resource, subprocess, sys
-subprocess.run(sys.argv[1], stdin=open(sys.argv[2]), stdout=subprocess.DEVNULL)
-used = resource.getrusage(resource.RUSAGE_CHILDREN)
-print(f"{used.ru_utime + used.ru_stime:.3f}")' "$program" "$1"
+    valgrind --tool=callgrind --callgrind-out-file=/dev/null "$program" --locate walk < "$1" 2>&1 >/dev/null | sed -n 's/.*Collected : //p'
 }
 
 for lines in 8 30 98; do
@@ -50,12 +41,8 @@ for lines in 8 30 98; do
     more=$(instructions "$folder/$lines.more")
     fewer=$(instructions "$folder/$lines.fewer")
     on=$(instructions "$folder/$lines.on")
-    if [ "$lines" = 98 ]; then
-        faces="in a face $(seconds "$folder/$lines.inside") s, show $(seconds "$folder/$lines.show") s"
-    else
-        inside=$(instructions "$folder/$lines.inside")
-        show=$(instructions "$folder/$lines.show")
-        faces="in a face $((inside - layer)), show $((show - layer))"
-    fi
-    echo "grid of $lines by $lines: insertion $(((more - layer) / times)), drop $(((fewer - more) / times)), location on an edge $(((on - layer) / times)), $faces"
+    inside=$(instructions "$folder/$lines.inside")
+    again=$(instructions "$folder/$lines.again")
+    show=$(instructions "$folder/$lines.show")
+    echo "grid of $lines by $lines: insertion $(((more - layer) / times)), drop $(((fewer - more) / times)), location on an edge $(((on - layer) / times)), in a face $((inside - layer)), again $((again - inside)), show $((show - layer))"
 done
