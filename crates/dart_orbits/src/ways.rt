@@ -1,4 +1,4 @@
-ghost use Rattle.std.specs.Prelude.{◌≡◌, ◌<◌, ℕ, length, map, IfOk, OnOk};
+ghost use Rattle.std.specs.Prelude.{◌≡◌, ◌<◌, length, map, IfOk, OnOk};
 ghost use Rattle.slab_laws.specs.Darts.{class};
 ghost use Rattle.slab_laws.specs.Rows.{dart_rows};
 ghost use Rattle.slab_laws.specs.Skeleton.{IsPlaneSkeleton};

@@ -7,3 +7,4 @@ pub mod FirstDarts
 pub mod ForwardDarts
 pub mod CycleRoots
 pub mod RootLists
+pub mod UnderTraces
