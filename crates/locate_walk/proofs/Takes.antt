@@ -18,6 +18,8 @@ use Rattle.edges_below.specs.Levels.{level}
 use Rattle.edges_below.proofs.Levels.{levels_tell_highest}
 use Rattle.walk_laws.specs.Walks.{height}
 use Rattle.locate_walk.specs.Finds.{IsFound}
+use Rattle.locate_walk.specs.Passages.{IsComparedOrNone}
+use Rattle.locate_walk.specs.declared.passage.Compared.{Compared}
 use Rattle.locate_walk.specs.Looks.{dart_of, higher_edge, IsBelowOrNone, IsRaised, taken, IsPartClear, MayLook, HasSeen}
 use Rattle.locate_walk.specs.declared.found.EdgeBelow.{EdgeBelow}
 use Rattle.locate_walk.specs.declared.found.Found.{Found}
@@ -87,7 +89,7 @@ module _ (k h : Highest) (t : BoundaryPart) (m : MayLook h.glance.now.graph k h)
   up b c = is_higher v h.point m.map.sound.graph m.proper h.best b m.best (below_seen v h.point f h.face t b c)
 
   may : (r : Found) → IsFound v f h.point h.face t r → MayLook v k (taken h r)
-  may (At s) c = record { graph = m.graph; map = m.map; glance = m.glance; face = m.face; point = m.point; proper = m.proper; best = m.best; hit = c; raised = m.raised }
+  may (At s) c = record { graph = m.graph; map = m.map; glance = m.glance; face = m.face; point = m.point; proper = m.proper; best = m.best; last = m.last; hit = c; raised = m.raised }
   may (Below b) c = record {
     graph = m.graph;
     map = m.map;
@@ -96,6 +98,7 @@ module _ (k h : Highest) (t : BoundaryPart) (m : MayLook h.glance.now.graph k h)
     point = m.point;
     proper = m.proper;
     best = (up b c).below;
+    last = m.last;
     hit = m.hit;
     raised = raised_trans v h.point m.raised (up b c).raised;
   }
@@ -110,6 +113,21 @@ module _ (k h : Highest) (t : BoundaryPart) (m : MayLook h.glance.now.graph k h)
   still (At s) c x y = λ e. absurd cc
   still (Below b) c x y = λ e. clear_still v h.point f h.face (dart_of h.best) (Some (higher_edge h.best b).dart) x (up b c).raised (y e)
   still Past c x y = y
+
+-- the vertex that was compared last is kept
+pub keep_may : (v : View) (k h : Highest) (o : Option Compared) → MayLook v k h → IsComparedOrNone h.glance.now.graph h.point o → MayLook v k (record h { last = o })
+keep_may v k h o m c = record {
+  graph = m.graph;
+  map = m.map;
+  glance = m.glance;
+  face = m.face;
+  point = m.point;
+  proper = m.proper;
+  best = m.best;
+  last = subst (λ (w : View). IsComparedOrNone w h.point o) m.graph c;
+  hit = m.hit;
+  raised = m.raised;
+}
 
 -- the same for the graph that is walked on, and for what stands after the look
 module _ (v : View) (h l : Highest) (t : BoundaryPart) (r : Found) (found : IsFound h.glance.now.graph (tables_of h.glance.now) h.point h.face t r) (e : l ≡ taken h r) where
