@@ -20,7 +20,7 @@ pub struct Highest<'a, 'r> {
     pub point: Point,
     pub hit: Option<Spot>,
     pub best: Option<EdgeBelow>,
-    pub last: Option<Compared>,
+    pub compared: Option<Compared>,
 }
 
 // The higher of the highest edge so far and one more.
@@ -65,9 +65,16 @@ impl<'a, 'r> Looker<Glance<'r>> for Highest<'a, 'r> {
             steps.tick();
             return;
         }
-        let mut last = self.last;
-        let found = find(self.glance, self.face, at, &self.point, &mut last, steps);
-        self.last = last;
+        let mut compared = self.compared;
+        let found = find(
+            self.glance,
+            self.face,
+            at,
+            &self.point,
+            &mut compared,
+            steps,
+        );
+        self.compared = compared;
         self.take(found);
     }
 }
