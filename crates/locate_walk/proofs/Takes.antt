@@ -18,6 +18,8 @@ use Rattle.edges_below.specs.Levels.{level}
 use Rattle.edges_below.proofs.Levels.{levels_tell_highest}
 use Rattle.walk_laws.specs.Walks.{height}
 use Rattle.locate_walk.specs.Finds.{IsFound}
+use Rattle.locate_walk.specs.Passages.{IsComparedOrNone}
+use Rattle.locate_walk.specs.declared.passage.Compared.{Compared}
 use Rattle.locate_walk.specs.Looks.{dart_of, higher_edge, IsBelowOrNone, IsRaised, taken, IsPartClear, MayLook, HasSeen}
 use Rattle.locate_walk.specs.declared.found.EdgeBelow.{EdgeBelow}
 use Rattle.locate_walk.specs.declared.found.Found.{Found}
@@ -87,7 +89,7 @@ module _ (k h : Highest) (t : BoundaryPart) (m : MayLook h.glance.now.graph k h)
   up b c = is_higher v h.point m.map.sound.graph m.proper h.best b m.best (below_seen v h.point f h.face t b c)
 
   may : (r : Found) → IsFound v f h.point h.face t r → MayLook v k (taken h r)
-  may (At s) c = record { graph = m.graph; map = m.map; glance = m.glance; face = m.face; point = m.point; proper = m.proper; best = m.best; hit = c; raised = m.raised }
+  may (At s) c = record { graph = m.graph; map = m.map; glance = m.glance; face = m.face; point = m.point; proper = m.proper; best = m.best; compared = m.compared; hit = c; raised = m.raised }
   may (Below b) c = record {
     graph = m.graph;
     map = m.map;
@@ -96,6 +98,7 @@ module _ (k h : Highest) (t : BoundaryPart) (m : MayLook h.glance.now.graph k h)
     point = m.point;
     proper = m.proper;
     best = (up b c).below;
+    compared = m.compared;
     hit = m.hit;
     raised = raised_trans v h.point m.raised (up b c).raised;
   }
@@ -111,15 +114,32 @@ module _ (k h : Highest) (t : BoundaryPart) (m : MayLook h.glance.now.graph k h)
   still (Below b) c x y = λ e. clear_still v h.point f h.face (dart_of h.best) (Some (higher_edge h.best b).dart) x (up b c).raised (y e)
   still Past c x y = y
 
--- the same for the graph that is walked on, and for what stands after the look
-module _ (v : View) (h l : Highest) (t : BoundaryPart) (r : Found) (found : IsFound h.glance.now.graph (tables_of h.glance.now) h.point h.face t r) (e : l ≡ taken h r) where
+-- the same for the graph that is walked on, for what stands after the look, and with the vertex that was compared last
+module _ (v : View) (h l : Highest) (o : Option Compared) (t : BoundaryPart) (r : Found) (kept : IsComparedOrNone h.glance.now.graph h.point o) (found : IsFound h.glance.now.graph (tables_of h.glance.now) h.point h.face t r) (e : l ≡ taken (record h { compared = o }) r) where
+  abbrev held : Highest
+  held = record h { compared = o }
+
+  keeps : (k : Highest) → MayLook v k h → MayLook v k held
+  keeps k m = record {
+    graph = m.graph;
+    map = m.map;
+    glance = m.glance;
+    face = m.face;
+    point = m.point;
+    proper = m.proper;
+    best = m.best;
+    compared = subst (λ (w : View). IsComparedOrNone w h.point o) m.graph kept;
+    hit = m.hit;
+    raised = m.raised;
+  }
+
   pub look_may : (k : Highest) → MayLook v k h → MayLook v k l
-  look_may k m = subst (MayLook v k) (sym e) (subst (λ (w : View). MayLook w k h → MayLook w k (taken h r)) m.graph (λ n. may k h t n r found) m)
+  look_may k m = subst (MayLook v k) (sym e) (subst (λ (w : View). MayLook w k held → MayLook w k (taken held r)) m.graph (λ n. may k held t n r found) (keeps k m))
 
   pub look_seen : (k : Highest) → MayLook v k h → HasSeen v l t
-  look_seen k m = subst (λ (x : Highest). HasSeen v x t) (sym e) (subst (λ (w : View). MayLook w k h → HasSeen w (taken h r) t) m.graph (λ n. seen k h t n r found) m)
+  look_seen k m = subst (λ (x : Highest). HasSeen v x t) (sym e) (subst (λ (w : View). MayLook w k held → HasSeen w (taken held r) t) m.graph (λ n. seen k held t n r found) (keeps k m))
 
   pub look_still : (k : Highest) → MayLook v k h → (x : BoundaryPart) → HasSeen v h x → HasSeen v l x
   look_still k m x y =
       subst (λ (z : Highest). HasSeen v z x) (sym e)
-      (subst (λ (w : View). MayLook w k h → HasSeen w h x → HasSeen w (taken h r) x) m.graph (λ n z. still k h t n r found x z) m y)
+      (subst (λ (w : View). MayLook w k held → HasSeen w held x → HasSeen w (taken held r) x) m.graph (λ n z. still k held t n r found x z) (keeps k m) y)

@@ -16,6 +16,7 @@ use Rattle.face_location.specs.Below.{IsSeenDart}
 use Rattle.face_location.specs.Spots.{IsSpotOf}
 use Rattle.walk_laws.specs.Walks.{height, IsDartPassed}
 use Rattle.locate_walk.specs.Finds.{is_told_at_twin}
+use Rattle.locate_walk.specs.Passages.{IsComparedOrNone}
 use Rattle.locate_walk.specs.declared.found.EdgeBelow.{EdgeBelow}
 use Rattle.locate_walk.specs.declared.found.Found.{Found}
 use Rattle.locate_walk.specs.declared.found.Found.TheVariants.{At, Below, Past}
@@ -53,7 +54,7 @@ abbrev pub IsPartClear : View → Faces → Point → FaceId → Option DartId �
 IsPartClear v f q a o (Dart d) = is_told_at_twin v f a d ≡ false → IsDartPassed v q o d
 IsPartClear v f q a o (Isolated w) = point_in v w ≢ q
 
--- the graph looked at is that of the records; the highest so far is one that the point sees, no lower than at first; and what was met is where the point lies
+-- the graph looked at is that of the records; the highest so far is one that the point sees, no lower than at first; what was met is where the point lies; and the vertex that was compared last has the order that was kept
 pub record MayLook (v : View) (k l : Highest) : Type 0 where
   pub graph : l.glance.now.graph ≡ v
   pub map : IsSoundMap l.glance.now
@@ -62,6 +63,7 @@ pub record MayLook (v : View) (k l : Highest) : Type 0 where
   pub point : l.point ≡ k.point
   pub proper : IsProper l.point
   pub best : IsBelowOrNone v l.point l.best
+  pub compared : IsComparedOrNone v l.point l.compared
   pub hit : IfSome l.hit (IsSpotOf v (tables_of l.glance.now) l.point)
   pub raised : IsRaised v l.point (dart_of k.best) (dart_of l.best)
 

@@ -9,8 +9,9 @@ ghost use Rattle.dcel_records.specs.RecordsView.{tables_of};
 ghost use Rattle.dcel_records.specs.SoundMaps.{IsSoundMap};
 ghost use Rattle.dcel_records.specs.declared.spot.Spot.TheVariants.{Edge};
 ghost use Rattle.locate_walk.specs.Finds.{IsFound, IsFoundAtDart, IsSided, is_told_at_twin};
+ghost use Rattle.locate_walk.specs.Passages.{IsPassage, IsComparedOrNone};
 
-use crate::passage::{Passage, passage_of};
+use crate::passage::{Compared, Passage, passage_of};
 use counted_looks::{BoundaryPart, Glance, Looked, NameCalls};
 use dcel_records::Spot;
 use exact_plane::{Line, Point, Sign, Span, side};
@@ -66,15 +67,22 @@ fn is_told_at_twin(glance: &Glance, face: FaceId, dart: DartId) -> bool
     twin.0 < dart.0 && glance.face(glance.cycle(twin)) == face
 }
 
-// What a look at a dart finds, whichever way it goes. Its ends are compared first, which rules out nearly all darts.
-fn found_at_dart(glance: &Glance, dart: DartId, looked: &Looked, point: &Point) -> Found
+// What a look at a dart finds, whichever way it goes. Its ends were compared first, which rules out nearly all darts.
+fn found_at_dart(
+    glance: &Glance,
+    dart: DartId,
+    looked: &Looked,
+    point: &Point,
+    passage: Passage,
+) -> Found
     requires map { IsSoundMap glance.now }
     requires dart { HasDart glance.now.graph dart }
     requires looked { IsLookOf glance.now.graph (Edge dart) looked.now }
+    requires passage { IsPassage looked.now.source point.now looked.now.target passage }
     ensures { IsFoundAtDart glance.now.graph (tables_of glance.now) point.now dart result }
 {
     point.laws();
-    match passage_of(&looked.source, point, &looked.target) {
+    match passage {
         Passage::FromPoint => Found::At(Spot::Vertex(glance.source(dart))),
         Passage::ToPoint => Found::At(Spot::Vertex(glance.target(dart))),
         Passage::Forward => side_of(
@@ -92,17 +100,20 @@ fn found_at_dart(glance: &Glance, dart: DartId, looked: &Looked, point: &Point) 
 }
 
 /// What one look at a part of the boundary of a face finds for a point. An edge of which both darts are there is told at one of
-/// them; the other one only ticks.
+/// them; the other one only ticks. How the vertex that was compared last lies to the point is kept.
 pub fn find<L: Ledger>(
     glance: &Glance,
     face: FaceId,
     at: BoundaryPart,
     point: &Point,
+    last: &mut Option<Compared>,
     steps: &mut Steps<L>,
 ) -> Found
     requires map { IsSoundMap glance.now }
     requires at { HasPart glance.now.graph at }
+    requires last { IsComparedOrNone glance.now.graph point.now last.old }
     ensures found { IsFound glance.now.graph (tables_of glance.now) point.now face at result }
+    ensures last { IsComparedOrNone glance.now.graph point.now last.new }
     ensures one { steps.new ≡ steps.old + 1 }
 {
     match at {
@@ -112,7 +123,8 @@ pub fn find<L: Ledger>(
                 return Found::Past;
             }
             let looked = glance.look(Spot::Edge(dart), steps);
-            found_at_dart(glance, dart, &looked, point)
+            let passage = passage_of(glance, dart, &looked, point, last);
+            found_at_dart(glance, dart, &looked, point, passage)
         }
         BoundaryPart::Isolated(vertex) => {
             let looked = glance.look(Spot::Vertex(vertex), steps);

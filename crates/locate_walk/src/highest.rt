@@ -2,6 +2,7 @@ ghost use Rattle.std.specs.Prelude.{◌≡◌};
 ghost use Rattle.locate_walk.specs.Looks.{higher_edge, taken};
 
 use crate::found::{EdgeBelow, Found, find};
+use crate::passage::Compared;
 use counted_looks::{BoundaryPart, Glance, Looker};
 use dcel_records::Spot;
 use edges_below::is_above;
@@ -11,7 +12,7 @@ use std::sync::ledger::Ledger;
 use work_steps::Steps;
 
 /// What looks at the boundary of a face find for a point: where the point is, once it was met, and until then the highest edge that
-/// the point sees below it.
+/// the point sees below it. The vertex that was compared with the point last is kept, since the next dart on a cycle starts there.
 #[derive(Drop)]
 pub struct Highest<'a, 'r> {
     pub glance: &'a Glance<'r>,
@@ -19,6 +20,7 @@ pub struct Highest<'a, 'r> {
     pub point: Point,
     pub hit: Option<Spot>,
     pub best: Option<EdgeBelow>,
+    pub compared: Option<Compared>,
 }
 
 // The higher of the highest edge so far and one more.
@@ -63,7 +65,16 @@ impl<'a, 'r> Looker<Glance<'r>> for Highest<'a, 'r> {
             steps.tick();
             return;
         }
-        let found = find(self.glance, self.face, at, &self.point, steps);
+        let mut compared = self.compared;
+        let found = find(
+            self.glance,
+            self.face,
+            at,
+            &self.point,
+            &mut compared,
+            steps,
+        );
+        self.compared = compared;
         self.take(found);
     }
 }

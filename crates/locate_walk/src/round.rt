@@ -47,6 +47,7 @@ pub fn look_round<L: Ledger>(
         point: *point,
         hit: None,
         best: last,
+        compared: None,
     };
     look_at_boundary(&mut highest, glance, face, steps);
     match highest.hit {

@@ -10,35 +10,35 @@ use Rattle.locate_walk.proofs.found.found_at_dart.Goals as goal
 pub span_between-requires : goal.span_between-requires
 span_between-requires c =
     ahead_way c.args.glance.now.graph (tables_of c.args.glance.now) c.requires.map.sound.graph c.args.point.now (point_is_proper c.args.point.now c.laws.ensures) c.args.dart c.requires.dart c.args.looked.now c.requires.looked
-    (subst (IsPassage c.args.looked.now.source c.args.point.now c.args.looked.now.target) c.in-Forward.is c.passage_of.ensures)
+    (subst (IsPassage c.args.looked.now.source c.args.point.now c.args.looked.now.target) c.in-Forward.is c.requires.passage)
 
 pub returns-in-Forward : goal.returns-in-Forward
 returns-in-Forward c =
     ahead_found c.args.glance.now.graph (tables_of c.args.glance.now) c.requires.map.sound.graph c.args.point.now (point_is_proper c.args.point.now c.laws.ensures) c.args.dart c.requires.dart c.args.looked.now c.requires.looked
-    (subst (IsPassage c.args.looked.now.source c.args.point.now c.args.looked.now.target) c.in-Forward.is c.passage_of.ensures)
+    (subst (IsPassage c.args.looked.now.source c.args.point.now c.args.looked.now.target) c.in-Forward.is c.requires.passage)
     c.span_between.result c.span_between.ensures c.side_of.result c.side_of.ensures
 
 pub span_between-requires-in-Backward : goal.span_between-requires-in-Backward
 span_between-requires-in-Backward c =
     behind_way c.args.glance.now.graph (tables_of c.args.glance.now) c.requires.map.sound.graph c.args.point.now (point_is_proper c.args.point.now c.laws.ensures) c.args.dart c.requires.dart c.args.looked.now c.requires.looked
-    (subst (IsPassage c.args.looked.now.source c.args.point.now c.args.looked.now.target) c.in-Backward.is c.passage_of.ensures)
+    (subst (IsPassage c.args.looked.now.source c.args.point.now c.args.looked.now.target) c.in-Backward.is c.requires.passage)
     c.twin.result c.twin.ensures.twin
 
 pub returns-in-Backward : goal.returns-in-Backward
 returns-in-Backward c =
     behind_found c.args.glance.now.graph (tables_of c.args.glance.now) c.requires.map.sound.graph c.args.point.now (point_is_proper c.args.point.now c.laws.ensures) c.args.dart c.requires.dart c.args.looked.now c.requires.looked
-    (subst (IsPassage c.args.looked.now.source c.args.point.now c.args.looked.now.target) c.in-Backward.is c.passage_of.ensures)
+    (subst (IsPassage c.args.looked.now.source c.args.point.now c.args.looked.now.target) c.in-Backward.is c.requires.passage)
     c.twin.result c.twin.ensures.twin c.span_between-in-Backward.result c.span_between-in-Backward.ensures c.side_of-in-Backward.result c.side_of-in-Backward.ensures
 
 pub returns-in-Apart : goal.returns-in-Apart
 returns-in-Apart c =
     apart_found c.args.glance.now.graph (tables_of c.args.glance.now) c.requires.map.sound.graph c.args.point.now (point_is_proper c.args.point.now c.laws.ensures) c.args.dart c.requires.dart c.args.looked.now c.requires.looked
-    (subst (IsPassage c.args.looked.now.source c.args.point.now c.args.looked.now.target) c.in-Apart.is c.passage_of.ensures)
+    (subst (IsPassage c.args.looked.now.source c.args.point.now c.args.looked.now.target) c.in-Apart.is c.requires.passage)
 
 pub returns-in-ToPoint : goal.returns-in-ToPoint
 returns-in-ToPoint c =
     let v = c.args.glance.now.graph in
-    let there : c.args.looked.now.target ≡ c.args.point.now = subst (IsPassage c.args.looked.now.source c.args.point.now c.args.looked.now.target) c.in-ToPoint.is c.passage_of.ensures in
+    let there : c.args.looked.now.target ≡ c.args.point.now = subst (IsPassage c.args.looked.now.source c.args.point.now c.args.looked.now.target) c.in-ToPoint.is c.requires.passage in
     record {
       met = (subst (HasVertex v) (sym c.target.ensures) (target_has v c.requires.map.sound.graph c.args.dart c.requires.dart), ap (point_in v) c.target.ensures ∙ sym c.requires.looked.1 ∙ there);
       face = tt;

@@ -12,7 +12,7 @@ look_at_boundary-requires-clause-lists g c = c.laws-2.ensures.lists c.requires.m
 
 pub look_at_boundary-requires-clause-ready : goal.look_at_boundary-requires-clause-ready
 look_at_boundary-requires-clause-ready g c = (
-  record { glance = c.args.glance; face = c.args.face; point = c.args.point.now; hit = None; best = c.args.last },
+  record { glance = c.args.glance; face = c.args.face; point = c.args.point.now; hit = None; best = c.args.last; compared = None },
   record {
     graph = refl;
     map = c.requires.map;
@@ -21,6 +21,7 @@ look_at_boundary-requires-clause-ready g c = (
     point = refl;
     proper = point_is_proper c.args.point.now c.laws.ensures;
     best = c.requires.last;
+    compared = tt;
     hit = tt;
     raised = inl refl;
   },
@@ -28,7 +29,7 @@ look_at_boundary-requires-clause-ready g c = (
 
 pub returns-in-Some-clause-round : goal.returns-in-Some-clause-round
 returns-in-Some-clause-round g c =
-    let k : Highest = record { glance = c.args.glance; face = c.args.face; point = c.args.point.now; hit = None; best = c.args.last } in
+    let k : Highest = record { glance = c.args.glance; face = c.args.face; point = c.args.point.now; hit = None; best = c.args.last; compared = None } in
     let m : MayLook (graph_of c.args.glance.now) k k = record {
       graph = refl;
       map = c.requires.map;
@@ -37,6 +38,7 @@ returns-in-Some-clause-round g c =
       point = refl;
       proper = point_is_proper c.args.point.now c.laws.ensures;
       best = c.requires.last;
+      compared = tt;
       hit = tt;
       raised = inl refl;
     } in
@@ -44,7 +46,7 @@ returns-in-Some-clause-round g c =
 
 pub returns-in-None-clause-round : goal.returns-in-None-clause-round
 returns-in-None-clause-round g c =
-    let k : Highest = record { glance = c.args.glance; face = c.args.face; point = c.args.point.now; hit = None; best = c.args.last } in
+    let k : Highest = record { glance = c.args.glance; face = c.args.face; point = c.args.point.now; hit = None; best = c.args.last; compared = None } in
     let m : MayLook (graph_of c.args.glance.now) k k = record {
       graph = refl;
       map = c.requires.map;
@@ -53,6 +55,7 @@ returns-in-None-clause-round g c =
       point = refl;
       proper = point_is_proper c.args.point.now c.laws.ensures;
       best = c.requires.last;
+      compared = tt;
       hit = tt;
       raised = inl refl;
     } in
