@@ -6,7 +6,7 @@
 //! boundary, which has all meeting points that the segment reaches through the face. Looks are counted.
 //!
 //! Nearly all looks at a boundary find nothing, and are cheap: names first, then on which side of the segment's line both ends of
-//! an edge are; an exact meeting comes last.
+//! an edge are, of which the look before has told one along a cycle; an exact meeting comes last.
 #![tactic(auto)]
 
 mod plan;
