@@ -49,9 +49,10 @@ pub trait Sight: NameCalls {
         ensures one { steps.new ≡ steps.old + 1 };
 
     /// One look at a dart or a vertex for the points that it has in common with a segment, given as a span; it is one step, and
-    /// `None` where there are none. It tells less than `see` does, so that a look that finds nothing is cheap. It tells too on which
-    /// side of the span's line the dart's target or the vertex is: along a cycle that is the source of the dart after it, and one
-    /// who knows the side of the source says it.
+    /// `None` where there are none. It tells less than `see` does, so that a look that finds nothing is cheap.
+    ///
+    /// It also tells on which side of the span's line the dart's target is, or the vertex. `known` is the side of the dart's source,
+    /// or of the vertex, where an earlier look told it: along a cycle the target of a dart is the source of the next one.
     fn meet<L: Ledger>(
         &self,
         at: Spot,
