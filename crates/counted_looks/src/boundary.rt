@@ -31,8 +31,10 @@ fn look_round<S: NameCalls, K: Looker<S>, L: Ledger>(
 {
     let mut dart = first;
     'round: loop {
+        // What a look and a name read of one record is read together.
+        let next = sight.next(dart);
         looker.look(sight, BoundaryPart::Dart(dart), steps);
-        dart = sight.next(dart);
+        dart = next;
         if dart == first {
             return;
         }
@@ -80,8 +82,9 @@ fn look_at_isolated<S: NameCalls, K: Looker<S>, L: Ledger>(
 {
     let mut at = sight.first_isolated_in(face);
     'vertices: while let Some(vertex) = at {
+        let after = sight.isolated_after_in_face(vertex);
         looker.look(sight, BoundaryPart::Isolated(vertex), steps);
-        at = sight.isolated_after_in_face(vertex);
+        at = after;
     }
 }
 

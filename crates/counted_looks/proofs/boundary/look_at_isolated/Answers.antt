@@ -24,8 +24,8 @@ look-requires-clause-at g c =
     c.requires.sound.complete.bare_vertex c.in-Some.vertex
     (vertex_listed v f l c.args.face c.requires.lists (g.K.Looker.has_seen v c.vertices.looker) c.args.steps.now c.vertices.steps c.vertices.at c.vertices.invariant.read c.in-Some.vertex c.in-Some.is).0
 
-pub isolated_after_in_face-at-requires : goal.isolated_after_in_face-at-requires
-isolated_after_in_face-at-requires g c =
+pub isolated_after_in_face-after-requires : goal.isolated_after_in_face-after-requires
+isolated_after_in_face-after-requires g c =
     let v = g.S.NameCalls.graph c.args.sight.now in
     let f = g.S.NameCalls.faces c.args.sight.now in
     let l = g.S.NameCalls.lists c.args.sight.now in
@@ -36,7 +36,7 @@ vertices-smaller g c =
     let v = g.S.NameCalls.graph c.args.sight.now in
     let f = g.S.NameCalls.faces c.args.sight.now in
     let l = g.S.NameCalls.lists c.args.sight.now in
-    isolated_nearer v f l c.args.face c.requires.lists (g.K.Looker.has_seen v c.vertices.looker) c.args.steps.now c.vertices.steps c.vertices.at c.vertices.invariant.read c.in-Some.vertex c.in-Some.is c.isolated_after_in_face-at.result c.isolated_after_in_face-at.ensures
+    isolated_nearer v f l c.args.face c.requires.lists (g.K.Looker.has_seen v c.vertices.looker) c.args.steps.now c.vertices.steps c.vertices.at c.vertices.invariant.read c.in-Some.vertex c.in-Some.is c.isolated_after_in_face-after.result c.isolated_after_in_face-after.ensures
 
 pub vertices-preserved : goal.vertices-preserved
 vertices-preserved g c =
@@ -47,7 +47,7 @@ vertices-preserved g c =
     record {
       kept = λ k m. e.ready k (c.vertices.invariant.kept k m);
       still = λ t k. e.still t (c.vertices.invariant.still t k);
-      read = isolated_go_on v f l c.args.face c.requires.lists (g.K.Looker.has_seen v c.vertices.looker) c.args.steps.now c.vertices.steps c.vertices.at c.vertices.invariant.read c.in-Some.vertex c.in-Some.is c.isolated_after_in_face-at.result c.isolated_after_in_face-at.ensures
+      read = isolated_go_on v f l c.args.face c.requires.lists (g.K.Looker.has_seen v c.vertices.looker) c.args.steps.now c.vertices.steps c.vertices.at c.vertices.invariant.read c.in-Some.vertex c.in-Some.is c.isolated_after_in_face-after.result c.isolated_after_in_face-after.ensures
           (g.K.Looker.has_seen v c.look.new.self) c.look.new.steps e.still e.seen e.one;
     }
 

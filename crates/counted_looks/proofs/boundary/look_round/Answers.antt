@@ -38,8 +38,8 @@ look-requires-clause-ready g c = (c.requires.ready.0, c.round.invariant.1.kept c
 pub look-requires-clause-at : goal.look-requires-clause-at
 look-requires-clause-at g c = c.round.invariant.1.walked.at_there
 
-pub next-dart-requires : goal.next-dart-requires
-next-dart-requires g c = c.round.invariant.1.walked.at_there
+pub next-next-requires : goal.next-next-requires
+next-next-requires g c = c.round.invariant.1.walked.at_there
 
 pub returns-then-eq-clause-ready : goal.returns-then-eq-clause-ready
 returns-then-eq-clause-ready g c = λ k m. c.look.ensures.ready k (c.round.invariant.1.kept k m)
@@ -48,7 +48,7 @@ pub returns-then-eq-clause-seen : goal.returns-then-eq-clause-seen
 returns-then-eq-clause-seen g c =
     let v = g.S.NameCalls.graph c.args.sight.now in
     let w = c.round.invariant in
-    let back : next_in v c.round.dart ≡ c.args.first = sym c.next-dart.ensures ∙ same_read c.next-dart.result c.args.first c.eq.result c.eq.ensures c.if-eq.true in
+    let back : next_in v c.round.dart ≡ c.args.first = sym c.next-next.ensures ∙ same_read c.next-next.result c.args.first c.eq.result c.eq.ensures c.if-eq.true in
     λ d D q.
     let on : same_dart (lead_in v d) (lead_in v c.args.first) ≡ true = subst (λ z. same_dart z (lead_in v c.args.first) ≡ true) (sym q) (darts_exact.itself (lead_in v c.args.first)) in
     elim (or_cases (w.0 d) _ (ends v c.requires.sound c.args.first c.requires.first c.round.dart w.0 w.1.walked back d D ∙ on)) [
@@ -63,7 +63,7 @@ pub returns-then-eq-clause-count : goal.returns-then-eq-clause-count
 returns-then-eq-clause-count g c =
     let v = g.S.NameCalls.graph c.args.sight.now in
     let w = c.round.invariant in
-    let back : next_in v c.round.dart ≡ c.args.first = sym c.next-dart.ensures ∙ same_read c.next-dart.result c.args.first c.eq.result c.eq.ensures c.if-eq.true in
+    let back : next_in v c.round.dart ≡ c.args.first = sym c.next-next.ensures ∙ same_read c.next-next.result c.args.first c.eq.result c.eq.ensures c.if-eq.true in
     let a : cycle_length v c.args.first ≡ met v w.0 + 1 = all_met v c.requires.sound c.args.first c.requires.first c.round.dart w.0 w.1.walked back in
     let n : c.round.steps ≡ c.args.steps.now + met v w.0 = w.1.count in
     let o : c.look.new.steps ≡ c.round.steps + 1 = c.look.ensures.one in
@@ -73,8 +73,8 @@ pub round-smaller : goal.round-smaller
 round-smaller g c =
     let v = g.S.NameCalls.graph c.args.sight.now in
     let w = c.round.invariant in
-    let ne : next_in v c.round.dart ≡ c.args.first → ⊥ = λ e. other_read c.next-dart.result c.args.first c.eq.result c.eq.ensures c.if-eq.false (c.next-dart.ensures ∙ e) in
-    subst (λ (z : DartId). ways v c.args.first (next_in v z) < ways v c.args.first (next_in v c.round.dart)) (sym c.next-dart.ensures)
+    let ne : next_in v c.round.dart ≡ c.args.first → ⊥ = λ e. other_read c.next-next.result c.args.first c.eq.result c.eq.ensures c.if-eq.false (c.next-next.ensures ∙ e) in
+    subst (λ (z : DartId). ways v c.args.first (next_in v z) < ways v c.args.first (next_in v c.round.dart)) (sym c.next-next.ensures)
     (smaller v c.requires.sound c.args.first c.requires.first c.round.dart w.0 w.1.walked ne)
 
 pub round-preserved : goal.round-preserved
@@ -82,10 +82,10 @@ round-preserved g c =
     let v = g.S.NameCalls.graph c.args.sight.now in
     let s = c.requires.sound in
     let w = c.round.invariant in
-    let ne : next_in v c.round.dart ≡ c.args.first → ⊥ = λ e. other_read c.next-dart.result c.args.first c.eq.result c.eq.ensures c.if-eq.false (c.next-dart.ensures ∙ e) in (
+    let ne : next_in v c.round.dart ≡ c.args.first → ⊥ = λ e. other_read c.next-next.result c.args.first c.eq.result c.eq.ensures c.if-eq.false (c.next-next.ensures ∙ e) in (
       more c.round.dart w.0,
       record {
-        walked = subst (λ (z : DartId). IsWalked v c.args.first z (more c.round.dart w.0)) (sym c.next-dart.ensures) (goes_on v s c.args.first c.requires.first c.round.dart w.0 w.1.walked ne);
+        walked = subst (λ (z : DartId). IsWalked v c.args.first z (more c.round.dart w.0)) (sym c.next-next.ensures) (goes_on v s c.args.first c.requires.first c.round.dart w.0 w.1.walked ne);
         kept = λ k m. c.look.ensures.ready k (w.1.kept k m);
         still = λ t k. c.look.ensures.still t (w.1.still t k);
         seen = λ d h. elim (or_cases (w.0 d) _ h) [
