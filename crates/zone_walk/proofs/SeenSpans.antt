@@ -1,5 +1,5 @@
 -- The edge of a dart as a span: its ends, the side of a point, and what rules out that a segment meets it.
-use Rattle.std.proofs.Common.{◌≡◌, Bool, true, false, cond, ◌&&◌, ℤ, pos, neg_ℤ, ◌<ℤ◌, refl, sym, ap, ◌∙◌, subst, inl, inr, arith, Ordering, Less, Equal, Greater}
+use Rattle.std.proofs.Common.{◌≡◌, Bool, true, false, cond, ◌&&◌, ◌||◌, ℤ, pos, neg_ℤ, ◌<ℤ◌, refl, sym, ap, ◌∙◌, subst, inl, inr, arith, Ordering, Less, Equal, Greater}
 use Rattle.std.specs.Prelude.{if◌then◌else◌}
 use Rattle.std.specs.Ordering.{int_cmp}
 use Rattle.std.proofs.lemmas.Int.{ints}
@@ -12,20 +12,21 @@ use Rattle.exact_plane.specs.PointOrderLaws.{and_true}
 use Rattle.exact_plane.specs.Sign.{sign_by, sign_of}
 use Rattle.exact_plane.specs.Span.{Span, IsAtMost, LiesOn, IsSpan}
 use Rattle.exact_plane.specs.declared.sides.Sign.{Sign}
-use Rattle.exact_plane.specs.declared.sides.Sign.TheVariants.{Minus, Zero, Plus}
 use Rattle.exact_plane.proofs.Orders.{at_most_both, less_at_most}
 use Rattle.plane_graphs.specs.Graph.{Edge}
 use Rattle.plane_graphs.specs.Line.{precedes}
 use Rattle.plane_graphs.proofs.Lines.{point_is_proper}
+use Rattle.plane_graphs.proofs.Lists.{or_out}
 use Rattle.plane_graphs.proofs.Marks.{Le, le_cases, le_lt_lt, lt_le_lt}
 use Rattle.plane_graphs.proofs.Order.{Lt, lt_out, lt_never}
-use Rattle.edge_predicates.proofs.Sides.{sign_same, above_zero, below_zero}
+use Rattle.edge_predicates.proofs.Sides.{sign_same}
 use Rattle.slab_laws.specs.declared.names.DartId.{DartId}
 use Rattle.slab_laws.specs.Skeleton.{side}
 use Rattle.slab_laws.specs.Sound.{edge_in, dart_in, IsGraphSound}
 use Rattle.slab_laws.specs.View.{View, HasDart, point_in, source_in, twin_in, target_in, line_in}
 use Rattle.sound_views.proofs.ForwardDarts.{is_behind}
-use Rattle.zone_walk.specs.Sights.{span_in, side_from, other_side, on_one_side}
+use Rattle.zone_walk.specs.Found.{is_left, is_right}
+use Rattle.zone_walk.specs.Sights.{span_in, side_from, other_side}
 use Rattle.zone_walk.proofs.InPlane.{falls, rises}
 
 -- ---- orders
@@ -137,15 +138,17 @@ module _ (v : View) (s : IsGraphSound v) (d : DartId) (has : HasDart v d) where
         ]
       ]
 
-    pub aside : (a b : Sign) → a ≡ sign_of (side_of whole.line from) → b ≡ sign_of (side_of whole.line to) → on_one_side a b ≡ true → AreApart whole (span_in v d)
-    aside Plus Plus e f h r R a b =
-        let w = both_ends (λ x. pos 0 <ℤ side_of whole.line x) (lt_is (pos 0) (side_of whole.line from) (above_zero (side_of whole.line from) (sym e))) (lt_is (pos 0) (side_of whole.line to) (above_zero (side_of whole.line to) (sym f))) in
-        not_left r R a b w.0 w.1
-    aside Minus Minus e f h r R a b =
-        let w = both_ends (λ x. side_of whole.line x <ℤ pos 0) (lt_is (side_of whole.line from) (pos 0) (below_zero (side_of whole.line from) (sym e))) (lt_is (side_of whole.line to) (pos 0) (below_zero (side_of whole.line to) (sym f))) in
-        not_right r R a b w.0 w.1
-    aside Minus Zero e f h r R a b = cc
-    aside Minus Plus e f h r R a b = cc
-    aside Zero y e f h r R a b = cc
-    aside Plus Minus e f h r R a b = cc
-    aside Plus Zero e f h r R a b = cc
+    pub aside : (p q : Point) → p ≡ from → q ≡ to → (is_left (whole.line) p && is_left (whole.line) q) || (is_right (whole.line) p && is_right (whole.line) q) ≡ true → AreApart whole (span_in v d)
+    aside p q e f h r R a b = elim (or_out (is_left n from && is_left n to) (is_right n from && is_right n to) (sym (λ i. (is_left n (e i) && is_left n (f i)) || (is_right n (e i) && is_right n (f i))) ∙ h)) [
+      | inl k ↦
+          let z = and_true (is_left n from) (is_left n to) k in
+          let w = both_ends (λ x. pos 0 <ℤ side_of n x) (lt_is (pos 0) (side_of n from) z.0) (lt_is (pos 0) (side_of n to) z.1) in
+          not_left r R a b w.0 w.1
+      | inr k ↦
+          let z = and_true (is_right n from) (is_right n to) k in
+          let w = both_ends (λ x. side_of n x <ℤ pos 0) (lt_is (side_of n from) (pos 0) z.0) (lt_is (side_of n to) (pos 0) z.1) in
+          not_right r R a b w.0 w.1
+    ]
+      where
+        n : Line
+        n = whole.line

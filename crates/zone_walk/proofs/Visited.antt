@@ -1,22 +1,17 @@
 -- A visit looks at a face's boundary, where it passes a dart whose twin it looks at.
-use Rattle.std.proofs.Common.{◌≡◌, ◌<◌, Option, Some, arith, sym, ap, ◌∙◌, subst, inl, inr}
-use Rattle.std.specs.Prelude.{IfSome}
+use Rattle.std.proofs.Common.{◌<◌, arith, sym, ap, ◌∙◌, subst, inl, inr}
 use Rattle.exact_plane.specs.Point.{Point}
-use Rattle.exact_plane.specs.Span.{Span}
-use Rattle.exact_plane.specs.declared.sides.Sign.{Sign}
 use Rattle.slab_laws.specs.Darts.{Dart as PlaneDart}
 use Rattle.slab_laws.specs.Skeleton.{inside}
 use Rattle.slab_laws.specs.Sound.{IsGraphSound}
 use Rattle.slab_laws.specs.View.{View, Faces, HasDart, point_in, source_in, twin_in}
 use Rattle.slab_laws.specs.declared.names.DartId.{DartId}
 use Rattle.slab_laws.specs.declared.names.FaceId.{FaceId}
-use Rattle.slab_laws.specs.declared.names.VertexId.{VertexId}
 use Rattle.sound_views.proofs.NamedDarts.{twin_dart}
 use Rattle.counted_looks.specs.Boundaries.{IsOnBoundary}
 use Rattle.counted_looks.specs.declared.boundary_part.BoundaryPart.{BoundaryPart}
 use Rattle.counted_looks.specs.declared.boundary_part.BoundaryPart.TheVariants.{Dart, Isolated}
 use Rattle.zone_walk.specs.Searches.{IsOnEdge, IsSearchFrom, IsPassed, IsVisitFrom, HasSeen, HasLooked}
-use Rattle.zone_walk.specs.Sights.{IsToldSide, side_at}
 use Rattle.zone_walk.specs.declared.search.Search.{Search}
 
 -- ---- one look more
@@ -25,17 +20,8 @@ looked_on v f a k l h (Dart d) (inl s) = inl (h (Dart d) s)
 looked_on v f a k l h (Dart d) (inr p) = inr p
 looked_on v f a k l h (Isolated w) s = h (Isolated w) s
 
--- the search goes on, and keeps what it kept
-pub visit_on : (v w : View) (g f : Faces) (b a : FaceId) (k l m : Search) (told : Option (VertexId × Sign)) → (IsSearchFrom v k l → IsSearchFrom v k m) → IsVisitFrom v w g f b a k l told → IsVisitFrom v w g f b a k m told
-visit_on v w g f b a k l m told h i =
-    let n = h i.search in
-    record { graph = i.graph; faces = i.faces; face = i.face; search = n; told = subst (λ (z : Span). IfSome told (IsToldSide v z)) (i.search.one.whole ∙ sym n.one.whole) i.told }
-
--- the search goes on, and a side was told
-pub visit_told : (v w : View) (g f : Faces) (b a : FaceId) (k l m : Search) (told : Option (VertexId × Sign)) (t : VertexId) (r : Sign) → (IsSearchFrom v k l → IsSearchFrom v k m) → r ≡ side_at v l.whole t → IsVisitFrom v w g f b a k l told → IsVisitFrom v w g f b a k m (Some (t, r))
-visit_told v w g f b a k l m told t r h e i =
-    let n = h i.search in
-    record { graph = i.graph; faces = i.faces; face = i.face; search = n; told = e ∙ ap (λ (z : Span). side_at v z t) (i.search.one.whole ∙ sym n.one.whole) }
+pub visit_on : (v w : View) (g f : Faces) (b a : FaceId) (k l m : Search) → (IsSearchFrom v k l → IsSearchFrom v k m) → IsVisitFrom v w g f b a k l → IsVisitFrom v w g f b a k m
+visit_on v w g f b a k l m h i = record { graph = i.graph; faces = i.faces; face = i.face; search = h i.search }
 
 -- ---- all of the boundary
 module _ (v : View) (s : IsGraphSound v) (f : Faces) (a : FaceId) (l : Search) where

@@ -1,5 +1,7 @@
 -- Where a segment passes through an edge, by spans.
-use Rattle.std.specs.Prelude.{◌≡◌, true, [], ◌∷◌}
+use Rattle.std.specs.Prelude.{◌≡◌, true, Bool, [], ◌∷◌, pos}
+use lib.Signed.{lt_z}
+use Rattle.exact_plane.specs.Line.{Line, side_of}
 use Rattle.exact_plane.specs.Meet.{IsOnlyCommon}
 use Rattle.exact_plane.specs.Point.{Point}
 use Rattle.exact_plane.specs.Segment.{Segment, line_of_segment}
@@ -18,6 +20,13 @@ ends_of s = record { lower = s.lower; upper = s.upper }
 pub record IsWhole (s : Span) : Type 0 where
   pub span : IsSpan s
   pub line : s.line ≡ line_of_segment (ends_of s)
+
+-- whether the point is strictly on the left of the line, or on its right
+abbrev pub is_left : Line → Point → Bool
+is_left l p = lt_z (pos 0) (side_of l p)
+
+abbrev pub is_right : Line → Point → Bool
+is_right l p = lt_z (side_of l p) (pos 0)
 
 -- ---- one edge
 

@@ -1,17 +1,15 @@
 -- What a search of a face's boundary for meeting points has found.
-use Rattle.std.specs.Prelude.{◌≡◌, ◌⊎◌, ◌<◌, true, false, List, Contains, Option, Some, None, IfSome}
+use Rattle.std.specs.Prelude.{◌≡◌, ◌⊎◌, ◌<◌, true, false, List, Contains, Option, Some, None}
 use Rattle.std.specs.Map.{keys_of}
 use Rattle.exact_plane.specs.Point.{Point}
 use Rattle.exact_plane.specs.declared.meets.Meet.{Meet}
 use Rattle.exact_plane.specs.declared.meets.Meet.TheVariants.{Apart, At, Along}
 use Rattle.exact_plane.specs.Segment.{Segment, AreEnds}
 use Rattle.exact_plane.specs.Span.{IsSpan, span_of_segment}
-use Rattle.exact_plane.specs.declared.sides.Sign.{Sign}
 use Rattle.plane_graphs.specs.Ascending.{Member}
 use Rattle.plane_graphs.specs.Line.{precedes}
 use Rattle.slab_laws.specs.declared.names.DartId.{DartId}
 use Rattle.slab_laws.specs.declared.names.FaceId.{FaceId}
-use Rattle.slab_laws.specs.declared.names.VertexId.{VertexId}
 use Rattle.slab_laws.specs.Skeleton.{inside}
 use Rattle.slab_laws.specs.Sound.{edge_in, IsGraphSound}
 use Rattle.slab_laws.specs.View.{View, Faces, point_in, source_in, twin_in, target_in}
@@ -21,7 +19,6 @@ use Rattle.counted_looks.specs.declared.boundary_part.BoundaryPart.TheVariants.{
 use Rattle.dcel_records.specs.declared.spot.Spot.{Spot}
 use Rattle.dcel_records.specs.declared.spot.Spot.TheVariants.{Vertex, Edge, Face}
 use Rattle.dcel_records.specs.Spots.{IsMet, met_of}
-use Rattle.zone_walk.specs.Sights.{IsToldSide}
 use Rattle.zone_walk.specs.Zone.{meeting_points}
 use Rattle.zone_walk.specs.declared.search.Search.{Search}
 
@@ -98,10 +95,9 @@ abbrev pub HasLooked : View → Faces → FaceId → Search → BoundaryPart →
 HasLooked v f a l (Dart d) = HasSeen v l (Dart d) ⊎ IsPassed v f a d
 HasLooked v f a l (Isolated w) = HasSeen v l (Isolated w)
 
--- a visit of the face a, with the search l, has gone on from one of the face b with the search k; the side that it keeps is that of the vertex (this project)
-pub record IsVisitFrom (v : View) (known : View) (g f : Faces) (b a : FaceId) (k l : Search) (last : Option (VertexId × Sign)) : Type 0 where
+-- a visit of the face a, with the search l, has gone on from one of the face b with the search k (this project)
+pub record IsVisitFrom (v : View) (known : View) (g f : Faces) (b a : FaceId) (k l : Search) : Type 0 where
   pub graph : known ≡ v
   pub faces : f ≡ g
   pub face : a ≡ b
   pub search : IsSearchFrom v k l
-  pub told : IfSome last (IsToldSide v l.whole)

@@ -1,7 +1,6 @@
 -- What a look at a dart or a vertex tells of it and of a segment, and how many darts a turn at a vertex looks at.
 use Rattle.std.specs.Prelude.{◌≡◌, ℕ, ℤ, neg_ℤ, Bool, not, ◌&&◌, cond, true, false, ◌==◌, Option, Some, None}
 use Rattle.std.specs.List.{count_by}
-use Rattle.exact_plane.specs.Line.{side_of}
 use Rattle.exact_plane.specs.Meet.{IsMeeting}
 use Rattle.exact_plane.specs.Point.{Point}
 use Rattle.exact_plane.specs.Segment.{Segment}
@@ -96,37 +95,6 @@ IsMetOf v s (Vertex w) (Some c) = IsVertexMet v s w c
 IsMetOf v s (Edge d) None = IsSpan (span_in v d) × IsMeeting s (span_in v d) Apart
 IsMetOf v s (Edge d) (Some c) = IsDartMet v s d c
 IsMetOf v s (Face a) r = ⊥
-
--- ---- sides that are told
--- the side of the span's line on which the vertex is
-abbrev pub side_at : View → Span → VertexId → Sign
-side_at v s w = sign_of (side_of s.line (point_in v w))
-
--- the side is that of the dart's source, or of the vertex (this project)
-abbrev pub StartsOn : View → Span → Spot → Sign → Type 0
-StartsOn v s (Vertex w) r = r ≡ side_at v s w
-StartsOn v s (Edge d) r = r ≡ side_at v s (source_in v d)
-StartsOn v s (Face a) r = ⊥
-
--- the side is that of the dart's target, or of the vertex (this project)
-abbrev pub EndsOn : View → Span → Spot → Sign → Type 0
-EndsOn v s (Vertex w) r = r ≡ side_at v s w
-EndsOn v s (Edge d) r = r ≡ side_at v s (target_in v d)
-EndsOn v s (Face a) r = ⊥
-
--- the side is that of the vertex
-abbrev pub IsToldSide : View → Span → VertexId × Sign → Type 0
-IsToldSide v s t = t.1 ≡ side_at v s t.0
-
--- whether points on these sides of a line are both on its left or both on its right
-abbrev pub on_one_side : Sign → Sign → Bool
-on_one_side Minus Minus = true
-on_one_side Minus Zero = false
-on_one_side Minus Plus = false
-on_one_side Zero r = false
-on_one_side Plus Minus = false
-on_one_side Plus Zero = false
-on_one_side Plus Plus = true
 
 -- how many darts leave the vertex (CGAL manual, degree)
 abbrev pub degree : View → VertexId → ℕ

@@ -4,9 +4,6 @@
 //! The walk goes from each meeting point to the next. The darts round a vertex, or the edge that has the point inside, tell
 //! whether the part between lies along an edge or in which face; in a face that it hasn't visited it looks once at the
 //! boundary, which has all meeting points that the segment reaches through the face. Looks are counted.
-//!
-//! Nearly all looks at a boundary find nothing, and are cheap: names first, then on which side of the segment's line both ends of
-//! an edge are, of which the look before has told one along a cycle; an exact meeting comes last.
 #![tactic(auto)]
 
 mod plan;

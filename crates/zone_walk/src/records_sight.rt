@@ -1,14 +1,15 @@
 //! Looks at the records: cheap tests by sides and by the order of points rule out nearly all edges, an exact meeting comes last.
-ghost use Rattle.std.specs.Prelude.{◌≡◌, ◌≤◌, ◌+◌, ◌&&◌, cond, IfSome};
-ghost use Rattle.exact_plane.specs.Line.{side_of};
+ghost use Rattle.std.specs.Prelude.{◌≡◌, ◌≤◌, ◌+◌, ◌&&◌, ◌||◌, cond};
 ghost use Rattle.exact_plane.specs.Meet.{IsMeeting};
+ghost use Rattle.exact_plane.specs.Point.{Point as Coordinates};
 ghost use Rattle.exact_plane.specs.Sign.{sign_of};
 ghost use Rattle.exact_plane.specs.Span.{IsSpan, span_of_segment};
 ghost use Rattle.plane_graphs.specs.Line.{precedes};
 ghost use Rattle.slab_laws.specs.Sound.{IsGraphSound};
 ghost use Rattle.slab_laws.specs.View.{HasVertex, HasDart, point_in, source_in, target_in};
 ghost use Rattle.dcel_records.specs.declared.spot.Spot.TheVariants.{Edge as OnEdge, Vertex as AtVertex};
-ghost use Rattle.zone_walk.specs.Sights.{IsMetOf, StartsOn, EndsOn, span_in, is_on_span, side_from, other_side, on_one_side, degree};
+ghost use Rattle.zone_walk.specs.Found.{is_left, is_right};
+ghost use Rattle.zone_walk.specs.Sights.{IsMetOf, span_in, is_on_span, side_from, other_side, degree};
 
 use crate::sight::{CommonPoints, Seen, Sight};
 use dcel_records::{Records, Spot};
@@ -42,24 +43,31 @@ fn are_away(whole: &Span, source: &Point, target: &Point) -> bool
     }
 }
 
-// The side of a line on which a point is, told before or now.
-fn side_told(known: Option<Sign>, line: &Line, point: &Point) -> Sign
-    requires { IfSome known (λ s. s ≡ sign_of (side_of line.now point.now)) }
-    ensures { result ≡ sign_of (side_of line.now point.now) }
+fn is_on_left(line: &Line, point: &Point) -> bool
+    ensures { result ≡ is_left line.now point.now }
 {
-    match known {
-        Some(told) => told,
-        None => side(line, point),
+    match side(line, point) {
+        Sign::Plus => true,
+        Sign::Minus | Sign::Zero => false,
     }
 }
 
-// Whether points on two sides of a line are both on its left or both on its right.
-fn are_aside(source: Sign, target: Sign) -> bool
-    ensures { result ≡ on_one_side source target }
+fn is_on_right(line: &Line, point: &Point) -> bool
+    ensures { result ≡ is_right line.now point.now }
 {
-    match source {
-        Sign::Plus => matches!(target, Sign::Plus),
-        Sign::Minus => matches!(target, Sign::Minus),
+    match side(line, point) {
+        Sign::Minus => true,
+        Sign::Zero | Sign::Plus => false,
+    }
+}
+
+// Whether two points are both on the left of the line or both on its right.
+fn are_aside(line: &Line, source: &Point, target: &Point) -> bool
+    ensures { result ≡ ((is_left line.now source.now && is_left line.now target.now) || (is_right line.now source.now && is_right line.now target.now)) }
+{
+    match side(line, source) {
+        Sign::Plus => is_on_left(line, target),
+        Sign::Minus => is_on_right(line, target),
         Sign::Zero => false,
     }
 }
@@ -74,19 +82,20 @@ fn meet_of(records: &Records, dart: DartId, segment: &Segment) -> Meet
     span_meeting(&whole(segment), &span)
 }
 
-// The points that a span has in common with the edge of a dart, its ends included, where sides rule out none.
-#[inline(never)]
-fn points_across(records: &Records, dart: DartId, whole: &Span) -> Option<CommonPoints>
+// The points that a span has in common with the edge of a dart, its ends included. Nearly all edges have none, and the side of
+// the span's line on which they are tells it.
+fn points_on_edge(records: &Records, dart: DartId, whole: &Span) -> Option<CommonPoints>
     requires sound { IsGraphSound records.now.graph }
     requires dart { HasDart records.now.graph dart }
     ensures { IsMetOf records.now.graph whole.now (OnEdge dart) result }
 {
     let source = records.point(Darts::source(records, dart));
     let target = records.point(Darts::target(records, dart));
+    // The laws of points and lines tell that the edge is a span.
     source.laws();
     target.laws();
     records.line(dart).laws();
-    if are_away(whole, &source, &target) {
+    if are_aside(&whole.line(), &source, &target) || are_away(whole, &source, &target) {
         return None;
     }
     let span = span_of(records, dart);
@@ -107,58 +116,21 @@ fn points_across(records: &Records, dart: DartId, whole: &Span) -> Option<Common
     }
 }
 
-// The points that a span has in common with the edge of a dart, its ends included, and the side of the dart's target. Nearly all
-// edges have none, and the side of the span's line on which they are tells it, so the rest is kept out of line.
-fn points_on_edge(
-    records: &Records,
-    dart: DartId,
-    whole: &Span,
-    known: Option<Sign>,
-) -> (Option<CommonPoints>, Sign)
-    requires sound { IsGraphSound records.now.graph }
-    requires dart { HasDart records.now.graph dart }
-    requires known { IfSome known (StartsOn records.now.graph whole.now (OnEdge dart)) }
-    ensures met { IsMetOf records.now.graph whole.now (OnEdge dart) result.0 }
-    ensures side { EndsOn records.now.graph whole.now (OnEdge dart) result.1 }
-{
-    let source = records.point(Darts::source(records, dart));
-    let target = records.point(Darts::target(records, dart));
-    // The laws of points and lines tell that the edge is a span.
-    source.laws();
-    target.laws();
-    records.line(dart).laws();
-    let line = whole.line();
-    let end = side(&line, &target);
-    if are_aside(side_told(known, &line, &source), end) {
-        return (None, end);
-    }
-    (points_across(records, dart, whole), end)
-}
-
-// A vertex's point, where a span has it, and its side.
-fn point_at_vertex(
-    records: &Records,
-    vertex: VertexId,
-    whole: &Span,
-    known: Option<Sign>,
-) -> (Option<CommonPoints>, Sign)
+// A vertex's point, where a span has it.
+fn point_at_vertex(records: &Records, vertex: VertexId, whole: &Span) -> Option<CommonPoints>
     requires vertex { HasVertex records.now.graph vertex }
-    requires known { IfSome known (StartsOn records.now.graph whole.now (AtVertex vertex)) }
-    ensures met { IsMetOf records.now.graph whole.now (AtVertex vertex) result.0 }
-    ensures side { EndsOn records.now.graph whole.now (AtVertex vertex) result.1 }
+    ensures { IsMetOf records.now.graph whole.now (AtVertex vertex) result }
 {
     let point = records.point(vertex);
-    let on = side_told(known, &whole.line(), &point);
     if lies_on(whole, &point) {
-        let common = CommonPoints {
+        Some(CommonPoints {
             first: point,
             last: None,
             source: point,
             target: point,
-        };
-        (Some(common), on)
+        })
     } else {
-        (None, on)
+        None
     }
 }
 
@@ -262,13 +234,12 @@ impl Sight for Records {
         &self,
         at: Spot,
         whole: &Span,
-        known: Option<Sign>,
         steps: &mut Steps<L>,
-    ) -> (Option<CommonPoints>, Sign) {
+    ) -> Option<CommonPoints> {
         steps.tick();
         match at {
-            Spot::Edge(dart) => points_on_edge(self, dart, whole, known),
-            Spot::Vertex(vertex) => point_at_vertex(self, vertex, whole, known),
+            Spot::Edge(dart) => points_on_edge(self, dart, whole),
+            Spot::Vertex(vertex) => point_at_vertex(self, vertex, whole),
             Spot::Face(_) => unreachable!(),
         }
     }

@@ -7,14 +7,12 @@ ghost use Rattle.plane_graphs.specs.Line.{precedes};
 ghost use Rattle.slab_laws.specs.Sound.{IsGraphSound};
 ghost use Rattle.slab_laws.specs.View.{HasVertex, HasDart, point_in, source_in, target_in};
 ghost use Rattle.counted_looks.specs.declared.boundary_part.BoundaryPart.TheVariants.{Dart, Isolated};
-ghost use Rattle.dcel_records.specs.declared.spot.Spot.TheVariants.{Edge as OnEdge};
-ghost use Rattle.zone_walk.specs.Sights.{IsToldSide, StartsOn, EndsOn, side_at};
 ghost use Rattle.zone_walk.specs.Searches.{AreKept, IsOnEdge, IsThere, IsOneSearch, IsSearchFrom, IsPassed, HasSeen};
 
 use crate::sight::{CommonPoints, Sight};
 use counted_looks::{BoundaryPart, Looker, NameCalls};
 use dcel_records::Spot;
-use exact_plane::{Point, Segment, Sign, Span};
+use exact_plane::{Point, Segment, Span};
 use slab_laws::{DartId, FaceId, VertexId};
 use std::alloc::Global;
 use std::collections::{BTreeMap, BTreeSet};
@@ -86,8 +84,7 @@ fn spot_on<T: Sight>(sight: &T, dart: DartId, source: &Point, target: &Point, po
     }
 }
 
-// Keeps a point on the edge of a dart that was met, where there is one. Few looks come here.
-#[inline(never)]
+// Keeps a point on the edge of a dart that was met, where there is one.
 fn take_on<T: Sight>(
     search: &mut Search,
     sight: &T,
@@ -111,29 +108,24 @@ fn take_on<T: Sight>(
     }
 }
 
-// Looks at a dart, and keeps the meeting points on its edge and its ends. It tells the side of the target.
+// Looks at a dart, and keeps the meeting points on its edge and its ends.
 fn look_at_dart<T: Sight, L: Ledger>(
     search: &mut Search,
     sight: &T,
     dart: DartId,
-    known: Option<Sign>,
     steps: &mut Steps<L>,
-) -> Sign
+)
     requires ready { (k : _) × IsSearchFrom (T.graph sight.now) k search.old }
     requires dart { HasDart (T.graph sight.now) dart }
-    requires known { IfSome known (StartsOn (T.graph sight.now) search.old.whole (OnEdge dart)) }
     ensures ready { (k : _) → IsSearchFrom (T.graph sight.now) k search.old → IsSearchFrom (T.graph sight.now) k search.new }
     ensures seen { HasSeen (T.graph sight.now) search.new (Dart dart) }
     ensures still { (t : _) → HasSeen (T.graph sight.now) search.old t → HasSeen (T.graph sight.now) search.new t }
     ensures one { steps.new ≡ steps.old + 1 }
-    ensures side { EndsOn (T.graph sight.now) search.old.whole (OnEdge dart) result }
 {
-    let (met, side) = sight.meet(Spot::Edge(dart), &search.whole, known, steps);
-    if let Some(common) = met {
+    if let Some(common) = sight.meet(Spot::Edge(dart), &search.whole, steps) {
         take_on(search, sight, dart, &common, Some(common.first));
         take_on(search, sight, dart, &common, common.last);
     }
-    side
 }
 
 // Looks at a vertex, and keeps it where the segment meets it.
@@ -150,8 +142,7 @@ fn look_at_vertex<T: Sight, L: Ledger>(
     ensures still { (t : _) → HasSeen (T.graph sight.now) search.old t → HasSeen (T.graph sight.now) search.new t }
     ensures one { steps.new ≡ steps.old + 1 }
 {
-    let (met, _) = sight.meet(Spot::Vertex(vertex), &search.whole, None, steps);
-    if let Some(common) = met {
+    if let Some(common) = sight.meet(Spot::Vertex(vertex), &search.whole, steps) {
         search.take(common.first, Spot::Vertex(vertex));
     }
 }
@@ -166,31 +157,18 @@ fn is_passed<T: Sight>(sight: &T, face: FaceId, dart: DartId) -> bool
     twin.0 < dart.0 && sight.face(sight.cycle(twin)).0 == face.0
 }
 
-// The side that was told last, if it is this vertex's.
-fn side_kept(told: Option<(VertexId, Sign)>, vertex: VertexId) -> Option<Sign>
-    ensures { (v : _) (s : _) → IfSome told (IsToldSide v s) → IfSome result (λ r. r ≡ side_at v s vertex) }
-{
-    let Some((of, side)) = told else {
-        return None;
-    };
-    if of.0 == vertex.0 { Some(side) } else { None }
-}
-
-/// A search at the boundary of a face. Of two darts of one edge on it the search looks at one: an edge's common points don't
-/// depend on the dart.
+/// A search at the boundary of a face.
 #[derive(Drop)]
 pub(crate) struct Visit<'a, T: Sight> {
     pub(crate) sight: &'a T,
     pub(crate) face: FaceId,
     pub(crate) search: Search,
-    /// The vertex whose side of the segment's line was told last, with that side: along a cycle it is the next dart's source.
-    pub(crate) told: Option<(VertexId, Sign)>,
 }
 
 impl<'a, T: Sight> Looker<T> for Visit<'a, T> {
     ghost use Rattle.zone_walk.specs.Searches.{IsVisitFrom, HasLooked};
 
-    ghost may_look = { λ v k l. IsVisitFrom v (T.graph l.sight.now) (T.faces k.sight.now) (T.faces l.sight.now) k.face l.face k.search l.search l.told };
+    ghost may_look = { λ v k l. IsVisitFrom v (T.graph l.sight.now) (T.faces k.sight.now) (T.faces l.sight.now) k.face l.face k.search l.search };
 
     ghost has_seen = { λ v l t. HasLooked v (T.faces l.sight.now) l.face l.search t };
 
@@ -201,9 +179,7 @@ impl<'a, T: Sight> Looker<T> for Visit<'a, T> {
                 if is_passed(self.sight, self.face, dart) {
                     steps.tick();
                 } else {
-                    let known = side_kept(self.told, sight.source(dart));
-                    let side = look_at_dart(&mut self.search, sight, dart, known, steps);
-                    self.told = Some((sight.target(dart), side));
+                    look_at_dart(&mut self.search, sight, dart, steps);
                 }
             }
             BoundaryPart::Isolated(vertex) => {

@@ -1,11 +1,11 @@
-ghost use Rattle.std.specs.Prelude.{◌≡◌, ◌≤◌, ◌+◌, IfSome};
+ghost use Rattle.std.specs.Prelude.{◌≡◌, ◌≤◌, ◌+◌};
 ghost use Rattle.exact_plane.specs.Direction.{direction_of};
 ghost use Rattle.exact_plane.specs.Segment.{line_of_segment};
 ghost use Rattle.rotation_order.specs.Place.{IsPlaceOf};
 ghost use Rattle.slab_laws.specs.Sound.{IsGraphSound};
 ghost use Rattle.slab_laws.specs.View.{HasVertex};
 ghost use Rattle.counted_looks.specs.Looks.{IsLookable};
-ghost use Rattle.zone_walk.specs.Sights.{IsSeenOf, IsMetOf, StartsOn, EndsOn, degree};
+ghost use Rattle.zone_walk.specs.Sights.{IsSeenOf, IsMetOf, degree};
 
 use counted_looks::NameCalls;
 use dcel_records::Spot;
@@ -50,21 +50,10 @@ pub trait Sight: NameCalls {
 
     /// One look at a dart or a vertex for the points that it has in common with a segment, given as a span; it is one step, and
     /// `None` where there are none. It tells less than `see` does, so that a look that finds nothing is cheap.
-    ///
-    /// It also tells on which side of the span's line the dart's target is, or the vertex. `known` is the side of the dart's source,
-    /// or of the vertex, where an earlier look told it: along a cycle the target of a dart is the source of the next one.
-    fn meet<L: Ledger>(
-        &self,
-        at: Spot,
-        whole: &Span,
-        known: Option<Sign>,
-        steps: &mut Steps<L>,
-    ) -> (Option<CommonPoints>, Sign)
+    fn meet<L: Ledger>(&self, at: Spot, whole: &Span, steps: &mut Steps<L>) -> Option<CommonPoints>
         requires sound { IsGraphSound (Self.graph self.now) }
         requires at { IsLookable (Self.graph self.now) at }
-        requires known { IfSome known (StartsOn (Self.graph self.now) whole.now at) }
-        ensures met { IsMetOf (Self.graph self.now) whole.now at result.0 }
-        ensures side { EndsOn (Self.graph self.now) whole.now at result.1 }
+        ensures met { IsMetOf (Self.graph self.now) whole.now at result }
         ensures one { steps.new ≡ steps.old + 1 };
 
     /// The place round a vertex of the direction towards the segment's upper end. It takes a step for each dart out of the

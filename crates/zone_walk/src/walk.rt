@@ -136,7 +136,6 @@ fn visit<T: Sight, L: Ledger>(
         sight,
         face,
         search: replace(search, spare),
-        told: None,
     };
     look_at_boundary(&mut visit, sight, face, steps);
     *search = visit.search;

@@ -6,9 +6,7 @@ use Rattle.plane_graphs.specs.Ascending.{Member}
 use Rattle.plane_graphs.specs.Line.{precedes}
 use Rattle.std.specs.Map.{keys_of}
 use Rattle.counted_looks.specs.declared.boundary_part.BoundaryPart.TheVariants.{Dart}
-use Rattle.dcel_records.specs.declared.spot.Spot.TheVariants.{Edge}
 use Rattle.zone_walk.specs.Searches.{IsOnEdge, IsPartTaken}
-use Rattle.zone_walk.specs.Sights.{IsMetOf}
 use Rattle.zone_walk.proofs.Searched.{both_takes, goes_on, one_on, kept_on, still_seen, is_point, dart_taken, none_taken}
 use Rattle.zone_walk.proofs.search.look_at_dart.Goals as goal
 
@@ -25,13 +23,13 @@ take_on-requires-clause-on g c =
     let v = g.T.NameCalls.graph c.args.sight.now in
     let h = c.requires.ready in
     let p : Point = c.in-Some.common.first in
-    (is_point v h.0 c.args.search.now h.1 c.args.dart c.requires.dart c.in-Some.common (subst (IsMetOf v c.args.search.now.whole (Edge c.args.dart)) c.in-Some.is c.meet-side.ensures.met) p (inl (λ i. Some p))).1
+    (is_point v h.0 c.args.search.now h.1 c.args.dart c.requires.dart c.in-Some.common c.in-Some.ensures.met p (inl (λ i. Some p))).1
 
 pub take_on-requires-in-Some-clause-on : goal.take_on-requires-in-Some-clause-on
 take_on-requires-in-Some-clause-on g c =
     let v = g.T.NameCalls.graph c.args.sight.now in
     let h = c.requires.ready in
-    if_some (IsOnEdge v c.args.dart) c.in-Some.common.last (λ p e. (is_point v h.0 c.args.search.now h.1 c.args.dart c.requires.dart c.in-Some.common (subst (IsMetOf v c.args.search.now.whole (Edge c.args.dart)) c.in-Some.is c.meet-side.ensures.met) p (inr e)).1)
+    if_some (IsOnEdge v c.args.dart) c.in-Some.common.last (λ p e. (is_point v h.0 c.args.search.now h.1 c.args.dart c.requires.dart c.in-Some.common c.in-Some.ensures.met p (inr e)).1)
 
 pub returns-in-Some-clause-ready : goal.returns-in-Some-clause-ready
 returns-in-Some-clause-ready g c = λ k h.
@@ -41,7 +39,7 @@ returns-in-Some-clause-ready g c = λ k h.
     goes_on v (λ p. (Some first ≡ Some p) ⊎ (last ≡ Some p)) k c.args.search.now c.take_on-in-Some.new.search h
     (one_on c.args.search.now c.take_on.new.search c.take_on-in-Some.new.search c.take_on.ensures.same c.take_on-in-Some.ensures.same)
     (kept_on c.args.search.now.found.entries c.take_on.new.search.found.entries c.take_on-in-Some.new.search.found.entries c.take_on.ensures.kept c.take_on-in-Some.ensures.kept)
-    (λ p e. (is_point v k c.args.search.now h c.args.dart c.requires.dart c.in-Some.common (subst (IsMetOf v c.args.search.now.whole (Edge c.args.dart)) c.in-Some.is c.meet-side.ensures.met) p e).0)
+    (λ p e. (is_point v k c.args.search.now h c.args.dart c.requires.dart c.in-Some.common c.in-Some.ensures.met p e).0)
     (both_takes v (λ p. Some first ≡ Some p) (λ p. last ≡ Some p) (λ p. (Some first ≡ Some p) ⊎ (last ≡ Some p)) c.args.search.now c.take_on.new.search c.take_on-in-Some.new.search c.take_on.ensures.same c.take_on.ensures.only c.take_on-in-Some.ensures.only
     (λ p e. inl e) (λ p e. inr e))
 
@@ -59,7 +57,7 @@ returns-in-Some-clause-seen g c = λ failed.
     let one = one_on c.args.search.now c.take_on.new.search c.take_on-in-Some.new.search c.take_on.ensures.same c.take_on-in-Some.ensures.same in
     subst (λ (z : Segment). IsPartTaken v z c.take_on-in-Some.new.search.here c.take_on-in-Some.new.search.found.entries (Dart c.args.dart)) (sym one.segment)
     (subst (λ (z : Point). IsPartTaken v c.args.search.now.segment z c.take_on-in-Some.new.search.found.entries (Dart c.args.dart)) (sym one.here)
-    (dart_taken v h.0 c.args.search.now h.1 c.args.dart c.requires.dart c.in-Some.common (subst (IsMetOf v c.args.search.now.whole (Edge c.args.dart)) c.in-Some.is c.meet-side.ensures.met) c.take_on-in-Some.new.search.found.entries
+    (dart_taken v h.0 c.args.search.now h.1 c.args.dart c.requires.dart c.in-Some.common c.in-Some.ensures.met c.take_on-in-Some.new.search.found.entries
     (λ p o l.
     ⊎_elim
     (λ e. c.take_on-in-Some.ensures.kept p (some_of (λ q. precedes c.args.search.now.here q ≡ true → Member q (keys_of c.take_on.new.search.found.entries)) (Some c.in-Some.common.first) p e (c.take_on.ensures.taken (c.take_on-in-Some.ensures.same.failed failed)) l))
@@ -70,5 +68,4 @@ pub returns-in_default-clause-seen : goal.returns-in_default-clause-seen
 returns-in_default-clause-seen g c = λ failed.
     let v = g.T.NameCalls.graph c.args.sight.now in
     let h = c.requires.ready in
-    let met = subst (IsMetOf v c.args.search.now.whole (Edge c.args.dart)) c.in_default.is c.meet-side.ensures.met in
-    none_taken v h.0 c.args.search.now h.1 c.args.dart c.requires.dart met.0 met.1 c.args.search.now.found.entries
+    none_taken v h.0 c.args.search.now h.1 c.args.dart c.requires.dart c.in_default.ensures.met.0 c.in_default.ensures.met.1 c.args.search.now.found.entries

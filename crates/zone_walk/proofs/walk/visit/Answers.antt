@@ -1,4 +1,4 @@
-use Rattle.std.proofs.Common.{None, refl, sym, subst}
+use Rattle.std.proofs.Common.{refl, sym, subst}
 use Rattle.slab_laws.specs.View.{Faces}
 use Rattle.slab_laws.specs.declared.names.FaceId.{FaceId}
 use Rattle.zone_walk.specs.Searches.{IsSearchFrom, HasLooked}
@@ -10,8 +10,8 @@ use Rattle.zone_walk.proofs.walk.visit.Goals as goal
 pub look_at_boundary-requires-clause-ready : goal.look_at_boundary-requires-clause-ready
 look_at_boundary-requires-clause-ready g c =
     let v = g.T.NameCalls.graph c.args.sight.now in (
-      record { sight = c.args.sight; face = c.args.face; search = c.replace.result; told = None },
-      record { graph = refl; faces = refl; face = refl; search = subst (λ (z : Search). IsSearchFrom v z z) (sym c.replace.ensures.value) c.requires.search.search; told = tt },
+      record { sight = c.args.sight; face = c.args.face; search = c.replace.result },
+      record { graph = refl; faces = refl; face = refl; search = subst (λ (z : Search). IsSearchFrom v z z) (sym c.replace.ensures.value) c.requires.search.search },
     )
 
 pub returns-clause-search : goal.returns-clause-search
@@ -22,8 +22,8 @@ returns-clause-search g c =
     let m : Search = c.look_at_boundary.new.looker.search in
     let begun : IsSearchFrom v c.replace.result c.replace.result = subst (λ (z : Search). IsSearchFrom v z z) (sym c.replace.ensures.value) c.requires.search.search in
     let ready =
-    c.look_at_boundary.ensures.ready (record { sight = c.args.sight; face = c.args.face; search = c.replace.result; told = None })
-    (record { graph = refl; faces = refl; face = refl; search = begun; told = tt }) in
+    c.look_at_boundary.ensures.ready (record { sight = c.args.sight; face = c.args.face; search = c.replace.result })
+    (record { graph = refl; faces = refl; face = refl; search = begun }) in
     let from : IsSearchFrom v l m = subst (λ (z : Search). IsSearchFrom v z m) c.replace.ensures.value ready.search in
     visited_one v f l m
     (record { alloc = m.alloc; segment = m.segment; whole = m.whole; here = m.here; found = m.found; visited = c.insert.new.self; failed = m.failed })
