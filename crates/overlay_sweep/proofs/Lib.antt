@@ -5,6 +5,8 @@ pub mod EdgeLabels
 pub mod EdgePlaces
 pub mod FirstDarts
 pub mod ForwardDarts
+pub mod EdgeCycles
 pub mod CycleRoots
+pub mod BareVertices
 pub mod RootLists
 pub mod UnderTraces

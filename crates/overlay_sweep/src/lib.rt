@@ -7,6 +7,7 @@
 //! made. What holds of the two layers are laws: their contracts state them, and their bodies, being empty, compute nothing.
 #![tactic(auto)]
 
+mod bare;
 mod darts;
 mod edges;
 mod kinds;
@@ -16,6 +17,7 @@ mod roots;
 ghost use Rattle.overlay_sweep.specs.EdgeLabels.{LabelsBySources};
 ghost use Rattle.overlay_sweep.specs.LayerLabels.{LabelsByOwnEdges};
 
+pub use bare::{bare_ranks, rank_above};
 pub use darts::forward_dart;
 pub use edges::place_of_edge;
 pub use kinds::is_inner;
