@@ -10,3 +10,4 @@ pub mod CycleRoots
 pub mod BareVertices
 pub mod RootLists
 pub mod UnderTraces
+pub mod LabelRounds

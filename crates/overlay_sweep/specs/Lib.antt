@@ -3,3 +3,4 @@ pub mod EdgeLabels
 pub mod DartEnds
 pub mod EdgesUnder
 pub mod CycleFaces
+pub mod LabelsAbove

@@ -12,6 +12,7 @@ mod darts;
 mod edges;
 mod kinds;
 mod labels;
+mod layers;
 mod roots;
 
 ghost use Rattle.overlay_sweep.specs.EdgeLabels.{LabelsBySources};
@@ -22,6 +23,7 @@ pub use darts::forward_dart;
 pub use edges::place_of_edge;
 pub use kinds::is_inner;
 pub use labels::{Source, labels_of};
+pub use layers::labels_above;
 pub use roots::{cycle_ranks, roots_of};
 
 /// The labels of an overlay's faces are told by the edges of each layer.
