@@ -10,7 +10,7 @@ use Rattle.plane_graphs.proofs.Ascending.{to_member}
 use Rattle.plane_graphs.proofs.Lists.{of_filter}
 use Rattle.plane_graphs.proofs.Sorting.{member_at}
 use Rattle.slab_laws.specs.Cycles.{left_of_dart}
-use Rattle.slab_laws.specs.Darts.{source, ahead}
+use Rattle.slab_laws.specs.Darts.{Dart, source, ahead}
 use Rattle.slab_laws.specs.Meets.{SameFace}
 use Rattle.slab_laws.specs.Rotation.{dart_cmp, dart_below}
 use Rattle.slab_laws.specs.Rows.{dart_list, no_dart, dart_at, dart_place, lead_places, cycle_place, lead_list, least_dart_of, vertex_place}
@@ -66,6 +66,9 @@ module _ (g : Skeleton) (plane : IsPlaneSkeleton g) where
     -- it leads itself
     own : least_dart_of g (lead_at g c) ≡ lead_at g c
     own = sym (darts_exact.path (lead_at g c) (least_dart_of g (lead_at g c)) (of_filter (is_least g) (lead_at g c) (dart_list g) (subst (Member (lead_at g c)) (sym (least_listed g plane)) in_leads)).1)
+
+    pub lead_forward : (lead_at g c).forward ≡ true
+    lead_forward = subst (λ (x : Dart). x.forward ≡ true) own (ranks_by_roots.forward g (lead_at g c) plane there)
 
     pub leads_itself : get_or o.leads.items (get_or o.cycles.items c 0) 0 ≡ get_or o.cycles.items c 0
     unfolding lead_places lead

@@ -11,3 +11,5 @@ pub mod BareVertices
 pub mod RootLists
 pub mod UnderTraces
 pub mod LabelRounds
+pub mod KnownLabels
+pub mod FaceLabels

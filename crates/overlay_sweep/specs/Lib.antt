@@ -4,3 +4,4 @@ pub mod DartEnds
 pub mod EdgesUnder
 pub mod CycleFaces
 pub mod LabelsAbove
+pub mod KnownLabels

@@ -30,7 +30,7 @@ fn label_above(known: &[Option<usize>], edge: usize, below: usize) -> usize
 }
 
 // The label at a place.
-fn label_at(labels: &[usize], place: usize) -> usize
+pub(crate) fn label_at(labels: &[usize], place: usize) -> usize
     requires { place < length labels.now }
     ensures { result ≡ slice_index_or labels.now place 0 }
 {

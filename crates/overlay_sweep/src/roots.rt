@@ -25,7 +25,7 @@ pub(crate) fn edge_under(below: &[Option<EdgeEnds>], vertex: usize) -> Option<Ed
     below[vertex]
 }
 
-fn lead_of(orbits: &Orbits, cycle: usize) -> usize
+pub(crate) fn lead_of(orbits: &Orbits, cycle: usize) -> usize
     requires { cycle < length orbits.now.cycles.items }
     ensures { result ≡ slice_index_or orbits.now.cycles.items cycle 0 }
 {
