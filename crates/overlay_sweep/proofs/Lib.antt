@@ -13,3 +13,4 @@ pub mod UnderTraces
 pub mod LabelRounds
 pub mod KnownLabels
 pub mod FaceLabels
+pub mod PiecesAlong

@@ -5,3 +5,4 @@ pub mod EdgesUnder
 pub mod CycleFaces
 pub mod LabelsAbove
 pub mod KnownLabels
+pub mod PiecesAlong

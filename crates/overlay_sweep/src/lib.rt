@@ -14,6 +14,7 @@ mod faces;
 mod kinds;
 mod labels;
 mod layers;
+mod pieces;
 mod roots;
 
 ghost use Rattle.overlay_sweep.specs.EdgeLabels.{LabelsBySources};
@@ -27,6 +28,7 @@ pub use faces::labels_of_faces;
 pub use kinds::is_inner;
 pub use labels::{Source, labels_of};
 pub use layers::labels_above;
+pub use pieces::piece_along;
 pub use roots::{cycle_ranks, roots_of};
 
 /// The labels of an overlay's faces are told by the edges of each layer.
