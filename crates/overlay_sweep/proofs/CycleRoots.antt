@@ -5,28 +5,27 @@ use Rattle.std.specs.Option.{option_map}
 use Rattle.std.proofs.lemmas.List.{get_or-map, length-map}
 use Rattle.integers.proofs.Tests.{is_less, not_not}
 use Rattle.exact_plane.specs.Point.{Point}
-use Rattle.plane_graphs.specs.Ascending.{IsAscending, Member}
-use Rattle.plane_graphs.proofs.Ascending.{to_member, from_member}
-use Rattle.plane_graphs.proofs.Lists.{of_filter, in_filter, IsAscending-filter}
+use Rattle.plane_graphs.specs.Ascending.{Member}
+use Rattle.plane_graphs.proofs.Ascending.{to_member}
+use Rattle.plane_graphs.proofs.Lists.{of_filter}
 use Rattle.plane_graphs.proofs.Sorting.{member_at}
 use Rattle.slab_laws.specs.Cycles.{left_of_dart}
 use Rattle.slab_laws.specs.Darts.{Dart, source, ahead}
 use Rattle.slab_laws.specs.Meets.{SameFace}
-use Rattle.slab_laws.specs.Rotation.{dart_cmp, dart_below, same_dart}
-use Rattle.slab_laws.specs.Rows.{dart_list, no_dart, dart_at, dart_place, lead_places, cycle_places, cycle_place, lead_list, least_dart_of, vertex_place}
+use Rattle.slab_laws.specs.Rotation.{dart_cmp, dart_below}
+use Rattle.slab_laws.specs.Rows.{dart_list, no_dart, dart_at, dart_place, lead_places, cycle_place, lead_list, least_dart_of, vertex_place}
 use Rattle.slab_laws.specs.Skeleton.{Skeleton, IsPlaneSkeleton, same_point}
 use Rattle.slab_laws.specs.Subdivision.{first_cell}
-use Rattle.slab_faces.proofs.DartOrder.{dart_cmp_total, list_ascends, lead_lead}
+use Rattle.slab_faces.proofs.DartOrder.{dart_cmp_total}
 use Rattle.slab_faces.proofs.NextLemmas.{darts_exact}
 use Rattle.slab_faces.proofs.Places.{points_exact}
 use Rattle.slab_faces.proofs.Turns.{face_trans}
-use Rattle.slab_cycles.proofs.DartCells.{edge_there, lead_there}
+use Rattle.slab_cycles.proofs.DartCells.{edge_there}
 use Rattle.slab_cycles.proofs.LeastDarts.{is_least, least_listed, least_there}
-use Rattle.slab_cycles.proofs.Listed.{dart_within, dart_at_place, rows_length, row_at, source_in, in_list}
+use Rattle.slab_cycles.proofs.Listed.{dart_within, dart_at_place, rows_length, row_at, source_in}
 use Rattle.slab_cycles.proofs.Placed.{at_place, place_within, lower}
 use Rattle.edges_below.specs.Highest.{IsHighestBelow, highest}
 use Rattle.face_changes.specs.Kinds.{is_outer}
-use Rattle.face_changes.proofs.OneMoreEdge.{one_kind_each}
 use Rattle.face_roots.specs.CycleRanks.{lead_at}
 use Rattle.face_roots.proofs.OuterRanks.{ranks_by_roots}
 use Rattle.sweep_graphs.specs.declared.edges.EdgeEnds.{EdgeEnds}
@@ -36,18 +35,9 @@ use Rattle.dart_orbits.specs.declared.orbits.Orbits.{Orbits}
 use Rattle.dart_orbits.specs.Orbits.{AreOrbits}
 use Rattle.dart_orbits.specs.Ways.{no_row, row_in}
 use Rattle.overlay_sweep.specs.EdgesUnder.{AreUnder}
+use Rattle.overlay_sweep.proofs.EdgeCycles.{leads_ascend, cycle_within, upper, lead_face}
 
 module _ (g : Skeleton) (plane : IsPlaneSkeleton g) where
-  leads_ascend : IsAscending dart_cmp (lead_list g)
-  leads_ascend = subst (IsAscending dart_cmp) (least_listed g plane) (IsAscending-filter dart_cmp (is_least g) (dart_list g) (list_ascends g plane))
-
-  -- the least dart of a dart's cycle is listed among the least ones
-  listed_lead : (d : Dart) → Contains g.edges d.edge → Member (least_dart_of g d) (lead_list g)
-  listed_lead d D =
-      let l = least_dart_of g d in
-      let m = lead_there g plane d (from_member (dart_list g) d (in_list g plane d D)) in
-      subst (Member l) (least_listed g plane) (in_filter (is_least g) l (dart_list g) (to_member (dart_list g) l m) (subst (λ x. same_dart l x ≡ true) (sym (lead_lead g d)) (darts_exact.itself l)))
-
   module _ (o : Orbits) (h : AreOrbits g o) (c : ℕ) (inside : c < length o.cycles.items) where
     pub listed : c < length (lead_list g)
     listed = let n = length-map (lead_list g) (dart_place g) in let m = ap length h.cycles in omega arith
@@ -76,6 +66,9 @@ module _ (g : Skeleton) (plane : IsPlaneSkeleton g) where
     -- it leads itself
     own : least_dart_of g (lead_at g c) ≡ lead_at g c
     own = sym (darts_exact.path (lead_at g c) (least_dart_of g (lead_at g c)) (of_filter (is_least g) (lead_at g c) (dart_list g) (subst (Member (lead_at g c)) (sym (least_listed g plane)) in_leads)).1)
+
+    pub lead_forward : (lead_at g c).forward ≡ true
+    lead_forward = subst (λ (x : Dart). x.forward ≡ true) own (ranks_by_roots.forward g (lead_at g c) plane there)
 
     pub leads_itself : get_or o.leads.items (get_or o.cycles.items c 0) 0 ≡ get_or o.cycles.items c 0
     unfolding lead_places lead
@@ -124,33 +117,16 @@ module _ (g : Skeleton) (plane : IsPlaneSkeleton g) where
             taken : {p : Point} → IsHighestBelow (Contains g.edges) p (Some (edge_between g.vertices e)) → Contains g.edges (edge_between g.vertices e)
             taken (highest x E s t f) = E
 
-        above : Dart
-        above = ahead (edge_between g.vertices e)
-
-        upper : least_dart_of g above ≡ lead_at g (cycle_place g above)
-        unfolding above
-        upper = sym (at_place same_dart darts_exact (lead_list g) (least_dart_of g above) no_dart (listed_lead above edge_in))
-
         pub earlier_cycle : cycle_place g (ahead (edge_between g.vertices e)) < c
-        unfolding above
         earlier_cycle =
-            lower dart_cmp dart_cmp_total (lead_list g) leads_ascend (cycle_place g above) c no_dart (place_within same_dart darts_exact (lead_list g) (least_dart_of g above) (listed_lead above edge_in)) listed
-            (is_less _ (subst (λ x. dart_below x (lead_at g c) ≡ true) upper (subst (λ x. dart_below (least_dart_of g above) x ≡ true) own (ranks_by_roots.lesser g (lead_at g c) (edge_between g.vertices e) plane there (is_under (Some e) (sym q))))))
+            let d = ahead (edge_between g.vertices e) in
+            lower dart_cmp dart_cmp_total (lead_list g) (leads_ascend g plane) (cycle_place g d) c no_dart (cycle_within g plane (edge_between g.vertices e) edge_in) listed
+            (is_less _ (subst (λ x. dart_below x (lead_at g c) ≡ true) (upper g plane (edge_between g.vertices e) edge_in) (subst (λ x. dart_below (least_dart_of g d) x ≡ true) own (ranks_by_roots.lesser g (lead_at g c) (edge_between g.vertices e) plane there (is_under (Some e) (sym q))))))
 
         pub above_root : is_outer g (lead_at g c) ≡ false → SameFace g (left_of_dart g (lead_at g c)) (left_of_dart g (lead_at g (cycle_place g (ahead (edge_between g.vertices e)))))
-        unfolding above
         above_root inner =
             face_trans g _ _ _ (ranks_by_roots.face g (lead_at g c) (Some (edge_between g.vertices e)) plane there inner (is_under (Some e) (sym q)))
-            (subst (λ d. SameFace g (left_of_dart g above) (left_of_dart g d)) upper (one_kind_each.face g above (least_dart_of g above) plane (sym (lead_lead g above))))
-
-        pub cycle_told : get_or o.in_cycles.items (dart_place g (ahead (edge_between g.vertices e))) 0 ≡ cycle_place g (ahead (edge_between g.vertices e))
-        unfolding cycle_places above
-        cycle_told =
-            ap (λ xs. get_or xs (dart_place g above) 0) h.in_cycles ∙ get_or-map (cycle_place g) (dart_list g) (dart_place g above) no_dart 0 (dart_within g plane above edge_in) ∙ ap (cycle_place g) (dart_at_place g plane above edge_in)
-
-        pub above_within : dart_place g (ahead (edge_between g.vertices e)) < length o.in_cycles.items
-        unfolding cycle_places above
-        above_within = let a = dart_within g plane above edge_in in let n = length-map (dart_list g) (cycle_place g) in let m = ap length h.in_cycles in omega arith
+            (lead_face g plane (edge_between g.vertices e) edge_in)
 
     -- ---- by what the code has at hand
     pub kind_of : (l : ℕ) (b : Bool) → l ≡ get_or o.cycles.items c 0 → b ≡ not (is_outer g (dart_at g l)) → is_outer g (lead_at g c) ≡ not b

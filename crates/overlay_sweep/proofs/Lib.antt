@@ -5,6 +5,12 @@ pub mod EdgeLabels
 pub mod EdgePlaces
 pub mod FirstDarts
 pub mod ForwardDarts
+pub mod EdgeCycles
 pub mod CycleRoots
+pub mod BareVertices
 pub mod RootLists
 pub mod UnderTraces
+pub mod LabelRounds
+pub mod KnownLabels
+pub mod FaceLabels
+pub mod PiecesAlong

@@ -7,19 +7,28 @@
 //! made. What holds of the two layers are laws: their contracts state them, and their bodies, being empty, compute nothing.
 #![tactic(auto)]
 
+mod bare;
 mod darts;
 mod edges;
+mod faces;
 mod kinds;
 mod labels;
+mod layers;
+mod pieces;
 mod roots;
 
 ghost use Rattle.overlay_sweep.specs.EdgeLabels.{LabelsBySources};
+ghost use Rattle.overlay_sweep.specs.KnownLabels.{LabelsByKnownEdges};
 ghost use Rattle.overlay_sweep.specs.LayerLabels.{LabelsByOwnEdges};
 
+pub use bare::{bare_ranks, rank_above};
 pub use darts::forward_dart;
 pub use edges::place_of_edge;
+pub use faces::labels_of_faces;
 pub use kinds::is_inner;
 pub use labels::{Source, labels_of};
+pub use layers::labels_above;
+pub use pieces::piece_along;
 pub use roots::{cycle_ranks, roots_of};
 
 /// The labels of an overlay's faces are told by the edges of each layer.
@@ -30,4 +39,9 @@ pub fn labels_by_own_edges()
 /// The labels of the faces above the edges of an overlay are told one after the other.
 pub fn labels_by_sources()
     ensures { LabelsBySources }
+{}
+
+/// The labels of an overlay's faces are told by those known along the edges of each layer.
+pub fn labels_by_known_edges()
+    ensures { LabelsByKnownEdges }
 {}

@@ -18,14 +18,14 @@ use no_memory::NoMemory;
 use std::alloc::Global;
 use sweep_graphs::EdgeEnds;
 
-fn edge_under(below: &[Option<EdgeEnds>], vertex: usize) -> Option<EdgeEnds>
+pub(crate) fn edge_under(below: &[Option<EdgeEnds>], vertex: usize) -> Option<EdgeEnds>
     requires { vertex < length below.now }
     ensures { result ≡ slice_index_or below.now vertex None }
 {
     below[vertex]
 }
 
-fn lead_of(orbits: &Orbits, cycle: usize) -> usize
+pub(crate) fn lead_of(orbits: &Orbits, cycle: usize) -> usize
     requires { cycle < length orbits.now.cycles.items }
     ensures { result ≡ slice_index_or orbits.now.cycles.items cycle 0 }
 {
@@ -39,7 +39,7 @@ fn source_of(orbits: &Orbits, dart: usize) -> usize
     orbits.darts[dart].source
 }
 
-fn cycle_of(orbits: &Orbits, dart: usize) -> usize
+pub(crate) fn cycle_of(orbits: &Orbits, dart: usize) -> usize
     requires { dart < length orbits.now.in_cycles.items }
     ensures { result ≡ slice_index_or orbits.now.in_cycles.items dart 0 }
 {

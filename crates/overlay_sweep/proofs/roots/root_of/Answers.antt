@@ -3,8 +3,10 @@ use Rattle.slab_laws.specs.declared.rows.ListedDart.{ListedDart}
 use Rattle.slab_laws.specs.SpansDrawn.{drawn}
 use Rattle.face_roots.specs.declared.ranks.Root.TheVariants.{Above}
 use Rattle.face_roots.specs.CycleRanks.{IsRootOf}
+use Rattle.sweep_graphs.specs.Edges.{edge_between}
 use Rattle.dart_orbits.specs.Ways.{row_in}
-use Rattle.overlay_sweep.proofs.CycleRoots.{lead_within, leads_itself, kind_of, under_read, under_within, outside_root, edge_in, earlier_cycle, above_root, cycle_told, above_within}
+use Rattle.overlay_sweep.proofs.CycleRoots.{lead_within, leads_itself, kind_of, under_read, under_within, outside_root, edge_in, earlier_cycle, above_root}
+use Rattle.overlay_sweep.proofs.EdgeCycles.{cycle_told, above_within}
 use Rattle.overlay_sweep.proofs.roots.root_of.Goals as goal
 
 pub is_inner-requires-clause-lead : goal.is_inner-requires-clause-lead
@@ -44,7 +46,7 @@ cycle_of-requires c =
     let o = c.args.orbits.now in
     let es = c.args.below.now in
     let q = under_read g c.requires.plane o c.requires.orbits c.args.cycle c.requires.cycle es c.lead_of-lead.result c.source_of.result c.edge_under.result c.lead_of-lead.ensures c.source_of.ensures c.edge_under.ensures in
-    subst (λ (k : ℕ). k < length o.in_cycles.items) (sym c.forward_dart-dart.ensures) (above_within g c.requires.plane o c.requires.orbits c.args.cycle c.requires.cycle es c.requires.below c.in-Some.edge (q ∙ c.in-Some.is))
+    subst (λ (k : ℕ). k < length o.in_cycles.items) (sym c.forward_dart-dart.ensures) (above_within g c.requires.plane (edge_between g.vertices c.in-Some.edge) (edge_in g c.requires.plane o c.requires.orbits c.args.cycle c.requires.cycle es c.requires.below c.in-Some.edge (q ∙ c.in-Some.is)) o c.requires.orbits)
 
 pub returns-in-Some : goal.returns-in-Some
 returns-in-Some c =
@@ -53,7 +55,7 @@ returns-in-Some c =
     let es = c.args.below.now in
     let q = under_read g c.requires.plane o c.requires.orbits c.args.cycle c.requires.cycle es c.lead_of-lead.result c.source_of.result c.edge_under.result c.lead_of-lead.ensures c.source_of.ensures c.edge_under.ensures ∙ c.in-Some.is in
     let k = kind_of g c.requires.plane o c.requires.orbits c.args.cycle c.requires.cycle c.lead_of-lead.result c.is_inner.result c.lead_of-lead.ensures c.is_inner.ensures ∙ ap not c.if-not-is_inner.false in
-    let r = c.cycle_of.ensures ∙ ap (λ (d : ℕ). get_or o.in_cycles.items d 0) c.forward_dart-dart.ensures ∙ cycle_told g c.requires.plane o c.requires.orbits c.args.cycle c.requires.cycle es c.requires.below c.in-Some.edge q in
+    let r = c.cycle_of.ensures ∙ ap (λ (d : ℕ). get_or o.in_cycles.items d 0) c.forward_dart-dart.ensures ∙ cycle_told g c.requires.plane (edge_between g.vertices c.in-Some.edge) (edge_in g c.requires.plane o c.requires.orbits c.args.cycle c.requires.cycle es c.requires.below c.in-Some.edge q) o c.requires.orbits in
     subst (IsRootOf g c.args.cycle) (ap Above (sym r))
     (k, earlier_cycle g c.requires.plane o c.requires.orbits c.args.cycle c.requires.cycle es c.requires.below c.in-Some.edge q, above_root g c.requires.plane o c.requires.orbits c.args.cycle c.requires.cycle es c.requires.below c.in-Some.edge q k)
 
