@@ -1,8 +1,7 @@
 -- Where a link may be made, its edge fits, and the view with it is sound.
 use Rattle.std.proofs.Common.{◌≡◌, ◌≢◌, Option, Some, None, option_map, refl, sym, subst, ◌∙◌}
 use Rattle.exact_plane.specs.Line.{Line, IsLine}
-use Rattle.exact_plane.proofs.Meetings.{runs}
-use Rattle.plane_graphs.specs.Line.{IsProperLine}
+use Rattle.plane_graphs.proofs.Lines.{line_is_proper}
 use Rattle.slab_laws.specs.declared.names.DartId.{DartId}
 use Rattle.slab_laws.specs.declared.names.VertexId.{VertexId}
 use Rattle.slab_laws.specs.Darts.{Dart}
@@ -15,11 +14,6 @@ use Rattle.sound_changes.proofs.EdgeAdded.{more, added}
 use Rattle.sound_changes.proofs.EdgeDrawn.{drawn_more}
 use Rattle.sound_changes.proofs.FreshNames.{fresh}
 use Rattle.edge_link.specs.Links.{CanLink, AreKnown, with_edge_between}
-
--- ---- lines
-
-pub line_is_proper : (l : Line) → IsLine l → IsProperLine l
-line_is_proper l k = record { lowest = k.lowest; runs = runs l.a l.b k.runs }
 
 -- ---- places
 

@@ -15,7 +15,8 @@ use Rattle.exact_plane.specs.Point.{Point, IsPoint, reduced}
 use Rattle.exact_plane.specs.PointOrder.{by_x, by_y}
 use Rattle.exact_plane.proofs.Places.{ratio_cmp-is}
 use Rattle.plane_graphs.specs.Line.{IsWhole, IsProper, IsProperLine, homogeneous_point, crossing, are_parallel}
-use Rattle.exact_plane.specs.Line.{Line, side_of, reduced_line}
+use Rattle.exact_plane.specs.Line.{Line, IsLine, side_of, reduced_line}
+use Rattle.exact_plane.proofs.Meetings.{runs as runs_on}
 use Rattle.exact_plane.specs.Segment.{Segment, line_of_segment}
 use Rattle.plane_graphs.specs.Piece.{Piece, along}
 use Rattle.plane_graphs.specs.Graph.{det, collinear}
@@ -178,6 +179,9 @@ segment_runs k h = line_of_segment-runs k.segment h.lower h.upper h.ahead
 
 pub segment_line : (k : Piece) → IsProperPiece k → IsProperLine (line_of_segment k.segment)
 segment_line k h = record { lowest = line_of_segment-lowest k.segment h.lower h.upper h.ahead; runs = segment_runs k h }
+
+pub line_is_proper : (l : Line) → IsLine l → IsProperLine l
+line_is_proper l k = record { lowest = k.lowest; runs = runs_on l.a l.b k.runs }
 
 pub along_out : (k : Piece) (t : Point) → along k t ≡ true → side_of (line_of_segment k.segment) t ≡ pos 0
 unfolding along

@@ -4,7 +4,7 @@ use Rattle.plane_graphs.specs.Ascending.{Member}
 use Rattle.plane_graphs.specs.Line.{IsProperLine}
 use Rattle.dcel_records.specs.SoundMaps.{map_of}
 use Rattle.curve_history.specs.Past.{curves_on}
-use Rattle.edge_link.proofs.Placed.{line_is_proper}
+use Rattle.plane_graphs.proofs.Lines.{line_is_proper}
 use Rattle.segment_insert.specs.Parts.{IsOpenPart}
 use Rattle.segment_insert.proofs.Going.{AreMet, AreNext, vertex_here, open_part, chain_here, part_stays, part_sound, begins, goes_on, ends}
 use Rattle.segment_insert.proofs.edges.make_edges.Goals as goal

@@ -14,7 +14,7 @@ use Rattle.dcel_records.specs.SoundMaps.{map_of}
 use Rattle.dcel_records.specs.Spots.{met_of}
 use Rattle.dcel_records.proofs.Spared.{spare_then}
 use Rattle.curve_history.specs.Past.{curves_on}
-use Rattle.edge_link.proofs.Placed.{line_is_proper}
+use Rattle.plane_graphs.proofs.Lines.{line_is_proper}
 use Rattle.zone_walk.specs.Zone.{vertices_needed, splits_needed, points_of_meetings}
 use Rattle.zone_walk.specs.declared.plan.Meeting.{Meeting}
 use Rattle.told_steps.specs.VertexMade.{pairs_at}

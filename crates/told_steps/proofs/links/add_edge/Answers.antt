@@ -6,7 +6,7 @@ use Rattle.arr_notes.specs.FacesTold.{linked_faces}
 use Rattle.arr_notes.specs.declared.change.Change.{Change}
 use Rattle.arr_notes.specs.declared.change.Change.TheVariants.{AddEdge}
 use Rattle.arr_notes.specs.declared.intent.Intent.TheVariants.{AddEdge as WillAddEdge}
-use Rattle.edge_link.proofs.Placed.{line_is_proper}
+use Rattle.plane_graphs.proofs.Lines.{line_is_proper}
 use Rattle.face_steps.specs.LinkLaws.{FitsLinked}
 use Rattle.curve_history.specs.Past.{curves_on}
 use Rattle.dcel_records.specs.RecordsView.{tables_of}
