@@ -1,8 +1,9 @@
 -- Names of cycles and of vertices in lists.
-use Rattle.std.proofs.Common.{◌≡◌, ◌≢◌, ◌↔◌, ◌==◌, Bool, true, false, List, refl, sym, ap, ◌∙◌, subst}
+use Rattle.std.proofs.Common.{◌≡◌, ◌≢◌, ◌↔◌, ◌==◌, Bool, true, List, sym, ap, ◌∙◌, subst}
 use Rattle.std.specs.Prelude.{not, ◌&&◌}
 use Rattle.std.specs.List.{filter}
 use Rattle.std.proofs.lemmas.Bool.{eqb-true}
+use Rattle.integers.proofs.Decisions.{both}
 use Rattle.integers.proofs.Tests.{other_number, same_number}
 use Rattle.plane_graphs.specs.Ascending.{Member}
 use Rattle.plane_graphs.proofs.Lists.{any_in, any_out, in_filter, of_filter}
@@ -25,16 +26,12 @@ lists_bare us u = (
 pub filter_member : {X : Type 0} (p : X → Bool) (x : X) (xs : List X) → Member x (filter p xs) ↔ (Member x xs × (p x ≡ true))
 filter_member p x xs = (λ m. of_filter p x xs m, λ m. in_filter p x xs m.0 m.1)
 
-both_true : (a b : Bool) → (a && b) ≡ true → (a ≡ true) × (b ≡ true)
-both_true true b e = (refl, e)
-both_true false b e = absurd (cc)
-
 pub another : (c but : CycleId) → not (c.0 == but.0) ≡ true → c ≢ but
 another c but n e = let z = sym (ap not (ap (λ (z : CycleId). z.0 == but.0) e ∙ same_number but.0)) ∙ n in absurd (cc)
 
 -- a cycle of another name that passes
 pub but_true : (c but : CycleId) (b : Bool) → (not (c.0 == but.0) && b) ≡ true ↔ ((c ≢ but) × (b ≡ true))
 but_true c but b = (
-  λ h. let r = both_true (not (c.0 == but.0)) b h in (another c but r.0, r.1),
+  λ h. let r = both (not (c.0 == but.0)) b h in (another c but r.0, r.1),
   λ h. ap (λ z. not z && b) (other_number c.0 but.0 (λ e. h.0 (λ i. record { 0 = e i }))) ∙ h.1,
 )

@@ -2,8 +2,7 @@
 use Rattle.std.proofs.Common.{◌≡◌, ℕ, ◌+◌, ◌<◌, ◌≤◌, Bool, true, false, cond, arith, refl, sym, ap, ◌∙◌, ◌⊎◌, inl, inr, subst, zero, suc}
 use Rattle.std.specs.Prelude.{not, ◌&&◌, ◌||◌, Some, None}
 use Rattle.std.specs.List.{Contains}
-use Rattle.std.proofs.lemmas.Bool.{false≢true, and_parts, and_from, not-true, false_from_ne_true, cases_Bool, le-leb, lt-leb, le-ltb, lt-ltb}
-use lib.Dec.{leb, ltb}
+use Rattle.std.proofs.lemmas.Bool.{false≢true, and_parts, and_from, not-true, false_from_ne_true, cases_Bool}
 use Rattle.exact_plane.specs.Point.{Point}
 use Rattle.plane_graphs.specs.Graph.{Edge}
 use Rattle.slab_laws.specs.declared.slab_cell.SlabCell.{SlabCell}
@@ -18,7 +17,7 @@ use Rattle.slab_faces.specs.PointLaws.{IsApart}
 use Rattle.slab_faces.proofs.Sums.{each, sum_by-same, sum_by-plus, fewer}
 use Rattle.slab_faces.proofs.Walls.{left_of-irrefl, left_of-asym, left_of-before, left_of-after, run_positive, over-lower}
 use Rattle.slab_faces.proofs.Order.{below_from, below_asym, gap_positive}
-use Rattle.slab_faces.proofs.Cells.{both, right_few, right_many, IsSideOf, not_right_trans}
+use Rattle.slab_faces.proofs.Cells.{both, leb_not, ltb_yes, right_few, right_many, IsSideOf, not_right_trans}
 use Rattle.slab_faces.proofs.Slabs.{same_edge_is, same_edge_refl}
 use Rattle.slab_faces.proofs.Along.{below_self}
 use Rattle.slab_faces.proofs.Turns.{face_trans, face_sym, le_antisym, one_more, wall_before, greatest}
@@ -36,14 +35,6 @@ use Rattle.slab_faces.proofs.Points.{before_left, before_lower, before_weak}
 use Rattle.edges_below.proofs.Seen.{reaches}
 
 -- ---- the edges in the slab on the right of q, whether q is on a wall or not
-leb_not : (m n : ℕ) (b : Bool) → (b ≡ false → m ≤ n) → (b ≡ true → n < m) → leb m n ≡ not b
-leb_not m n true h k = lt-leb m n (k refl)
-leb_not m n false h k = le-leb m n (h refl)
-
-ltb_yes : (m n : ℕ) (b : Bool) → (b ≡ false → n ≤ m) → (b ≡ true → m < n) → ltb m n ≡ b
-ltb_yes m n true h k = lt-ltb m n (k refl)
-ltb_yes m n false h k = le-ltb m n (h refl)
-
 pub side_right : (g : Skeleton) (q : Point) → IsPlaneSkeleton g → HasWeight q → IsSideOf g q (slab_right g q) (λ e. reaches_right e q)
 side_right g q plane T = record {
   spanned = λ e E.

@@ -14,7 +14,7 @@ use Rattle.slab_laws.specs.Darts.{Dart}
 use Rattle.slab_laws.specs.Meets.{SameFace}
 use Rattle.slab_laws.specs.Cycles.{left_of_dart}
 use Rattle.slab_laws.specs.Faces.{face_labels, face_of, cells}
-use Rattle.slab_laws.specs.FacesSound.{IsFaced, IsCycled, IsComplete, IsOuterOf}
+use Rattle.slab_laws.specs.FacesSound.{IsSound, IsFaced, IsCycled, IsComplete, IsOuterOf}
 use Rattle.slab_laws.specs.Sound.{skeleton_of, dart_in, IsGraphSound}
 use Rattle.slab_laws.specs.Subdivision.{first_cell}
 use Rattle.slab_laws.specs.Tables.{NamesAscend}
@@ -32,7 +32,7 @@ use Rattle.slab_faces.proofs.ListedCells.{dart_cell, first_listed}
 use Rattle.face_changes.proofs.OuterCycles.{outer_there}
 use Rattle.face_changes.proofs.OneMoreEdge.{one_kind_each, one_outer_cycle}
 
-by_number : (a b : FaceId) → a.0 ≡ b.0 → a ≡ b
+pub by_number : (a b : FaceId) → a.0 ≡ b.0 → a ≡ b
 by_number a b q = λ i. record { 0 = q i }
 
 has_or_not : (ns : List ℕ) (n : ℕ) → Contains ns n ⊎ ¬ Contains ns n
@@ -238,3 +238,7 @@ faces_told_by_pairs = record {
   cells = λ v f sound full cycled t. (least v f sound full cycled t, outer_cycles v f sound full cycled (least v f sound full cycled t) (by_cells v f sound full cycled t));
   pairs = λ v f cell sound full cycled t. faced_told v f cell sound full cycled t;
 }
+
+-- sound records of faces tell them by pairs
+pub told_by_pairs : (v : View) (f : Faces) → IsSound v f → AreFacesTold v f
+told_by_pairs v f s = faces_told_by_pairs.pairs v f s.faced.0 s.graph s.complete s.cycled s.faced.1

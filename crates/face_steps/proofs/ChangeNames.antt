@@ -24,11 +24,14 @@ use Rattle.arr_notes.specs.declared.faces.Unlinked.TheVariants.{Vanishes, Shrink
 use Rattle.arr_notes.proofs.RowLaws.{row_at-put, row_at-del, row_at-each, ascend-each}
 use Rattle.sound_changes.specs.StepOfChange.{FitsChange}
 use Rattle.face_changes.specs.FacesByPairs.{first_or}
+use Rattle.face_changes.proofs.FaceNames.{face_cases as two_faces}
+use Rattle.face_changes.proofs.FacesByPairs.{by_number}
 use Rattle.face_steps.specs.ChangeLaws.{FitsNoted}
 use Rattle.face_steps.specs.LinkLaws.{FitsLinked, FitsUnlinked}
 use Rattle.face_steps.specs.NameLaws.{IsToldOf, LinkedComes, LinkedSplitsOff, CycleComes, CycleGoes, FaceComes, FaceGoes, ChangesKeepFirst, ChangesKeepNames}
 use Rattle.face_steps.specs.Tabled.{AreTabled}
 use Rattle.face_steps.proofs.Choices.{tables_are_sound}
+use Rattle.face_steps.proofs.CyclesApart.{cycle_by_number, cycle_cases as two_cycles}
 use Rattle.face_steps.proofs.FaceRows.{map_some, put_name_has, del_name_has, first_before}
 use Rattle.face_steps.proofs.StepUnites.{unite_keeps_first}
 use Rattle.face_steps.proofs.UnlinkedFaces.{place_first, place_second, between, no_follow}
@@ -60,18 +63,6 @@ module _ {X : Type 0} (f : ℕ → X → X) (rs : List (ℕ × X)) (n : ℕ) whe
       let m = map_some (f n) (row_at rs n) in
       (λ h. m.1 (subst IsSome q h), λ h. subst IsSome (sym q) (m.0 h))
 
-cycle_is : (a b : CycleId) → a.0 ≡ b.0 → a ≡ b
-cycle_is a b e = λ i. record { 0 = e i }
-
-face_is : (a b : FaceId) → a.0 ≡ b.0 → a ≡ b
-face_is a b e = λ i. record { 0 = e i }
-
-two_cycles : (a b : CycleId) → (a ≡ b) ⊎ (a ≢ b)
-two_cycles a b = elim (cases_eq a.0 b.0) [ inl e ↦ inl (cycle_is a b e) | inr n ↦ inr (λ e. n (ap (λ (z : CycleId). z.0) e)) ]
-
-two_faces : (a b : FaceId) → (a ≡ b) ⊎ (a ≢ b)
-two_faces a b = elim (cases_eq a.0 b.0) [ inl e ↦ inl (face_is a b e) | inr n ↦ inr (λ e. n (ap (λ (z : FaceId). z.0) e)) ]
-
 -- ---- what is there afterwards: what was and doesn't go, and what comes
 abbrev IsAfter : Type 0 → Type 0 → Type 0 → Type 0 → Type 0
 IsAfter now was goes comes = now ↔ ((was × (¬ goes)) ⊎ comes)
@@ -94,7 +85,7 @@ module _ (rs : List (ℕ × CycleRecord)) (a c : CycleId) where
   cycle_more : (r : CycleRecord) → IsSome (row_at (put c.0 r rs) a.0) ↔ (IsSome (row_at rs a.0) ⊎ (a ≡ c))
   cycle_more r =
       let h = put_has c.0 a.0 rs r in (
-        λ o. elim (h.0 o) [ inl i ↦ inl i | inr e ↦ inr (cycle_is a c e) ],
+        λ o. elim (h.0 o) [ inl i ↦ inl i | inr e ↦ inr (cycle_by_number a c e) ],
         λ o. h.1 (elim o [ inl i ↦ inl i | inr e ↦ inr (ap (λ (z : CycleId). z.0) e) ]),
       )
 
@@ -102,7 +93,7 @@ module _ (rs : List (ℕ × CycleRecord)) (a c : CycleId) where
   cycle_fewer up =
       let h = del_has c.0 a.0 rs up in (
         λ o. ((h.0 o).0, λ e. (h.0 o).1 (ap (λ (z : CycleId). z.0) e)),
-        λ o. h.1 (o.0, λ e. o.1 (cycle_is a c e)),
+        λ o. h.1 (o.0, λ e. o.1 (cycle_by_number a c e)),
       )
 
 none_there : (a : CycleId) → IsSome (row_at {X = CycleRecord} [] a.0) → ⊥
@@ -177,7 +168,7 @@ cycle_one_way (Clear face) a g o = o
 
 -- ---- faces
 the_one : (face a : FaceId) → Contains (face.0 ∷ []) a.0 → a ≡ face
-the_one face a o = elim (in_member (face.0 ∷ []) a.0 o) [ inl e ↦ face_is a face (sym e) | inr r ↦ absurd r ]
+the_one face a o = elim (in_member (face.0 ∷ []) a.0 o) [ inl e ↦ by_number a face (sym e) | inr r ↦ absurd r ]
 
 one_there : (face a : FaceId) → a ≡ face → Contains (face.0 ∷ []) a.0
 one_there face a e = member_in (face.0 ∷ []) a.0 (inl (ap (λ (z : FaceId). z.0) (sym e)))
@@ -193,13 +184,13 @@ module _ (v : View) (f : Faces) (a : FaceId) (up : NamesAscend f.faces) (there :
   faces_at (AddEdge d m p q at_p at_q l k (Joins kept gone)) t = as_was same (λ g. g) (λ g. g)
   faces_at (AddEdge d m p q at_p at_q l k (Splits kept fresh x face moved)) t =
       let h = put_name_has face.0 f.faces a.0 in
-      one_more (λ o. elim (h.0 o) [ inl i ↦ inl i | inr e ↦ inr (face_is a face e) ], λ o. h.1 (elim o [ inl i ↦ inl i | inr e ↦ inr (ap (λ (z : FaceId). z.0) e) ])) (λ g. g)
+      one_more (λ o. elim (h.0 o) [ inl i ↦ inl i | inr e ↦ inr (by_number a face e) ], λ o. h.1 (elim o [ inl i ↦ inl i | inr e ↦ inr (ap (λ (z : FaceId). z.0) e) ])) (λ g. g)
   faces_at (RemoveEdge d m (Vanishes cycle face)) t = as_was same (λ g. g) (λ g. g)
   faces_at (RemoveEdge d m (Shrinks cycle face)) t = as_was same (λ g. g) (λ g. g)
   faces_at (RemoveEdge d m (Breaks kept fresh x)) t = as_was same (λ g. g) (λ g. g)
   faces_at (RemoveEdge d m (Unites kept gone face moved)) t =
       let h = del_name_has face.0 f.faces a.0 up in
-      one_fewer (λ o. ((h.0 o).0, λ e. (h.0 o).1 (ap (λ (z : FaceId). z.0) e)), λ o. h.1 (o.0, λ e. o.1 (face_is a face e))) (λ g. g)
+      one_fewer (λ o. ((h.0 o).0, λ e. (h.0 o).1 (ap (λ (z : FaceId). z.0) e)), λ o. h.1 (o.0, λ e. o.1 (by_number a face e))) (λ g. g)
   faces_at (AddCurve d k) t = as_was same (λ g. g) (λ g. g)
   faces_at (RemoveCurve d k) t = as_was same (λ g. g) (λ g. g)
   faces_at (SetPin u) t = as_was same (λ g. g) (λ g. g)

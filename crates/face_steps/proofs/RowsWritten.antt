@@ -25,7 +25,7 @@ use Rattle.face_steps.proofs.CyclesApart.{cycle_cases}
 use Rattle.face_steps.proofs.FaceRows.{swap_hit, swap_miss, orbit_hit, orbit_miss}
 
 -- ---- what a list of writes leaves
-none_of : {X : Type 0} (o : Option X) → ¬ IsSome o → o ≡ None
+pub none_of : {X : Type 0} (o : Option X) → ¬ IsSome o → o ≡ None
 none_of None n = refl
 none_of (Some x) n = absurd (n refl)
 

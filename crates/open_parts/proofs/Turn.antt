@@ -1,24 +1,23 @@
 -- Where a dart that leaves a point inside an edge stands among the two parts of the edge: on the left it comes after the lower part, on the right after the upper one.
 use Rattle.std.proofs.Common.{◌≡◌, ℕ, Bool, true, false, cond, arith, refl, sym, ap, ◌∙◌, subst, ◌⊎◌, inl, inr}
-use Rattle.std.specs.Prelude.{not, ◌&&◌, ◌||◌, ◌==◌, pos, ◌<ℤ◌, ◌*ℤ◌, ◌-ℤ◌}
+use Rattle.std.specs.Prelude.{not, ◌&&◌, ◌||◌, ◌==◌, pos, ◌<ℤ◌}
 use Rattle.std.proofs.lemmas.Int.{ints}
 use Rattle.std.proofs.lemmas.Bool.{false≢true, cases_Bool, false_from_ne_true, and_parts}
 use lib.Dec.{ltb}
-use lib.IntN.{*ℤ-zero}
 use Rattle.exact_plane.specs.Point.{Point}
 use Rattle.plane_graphs.specs.Graph.{Edge}
 use Rattle.rotation_order.specs.EdgeParts.{lower_part, upper_part}
 use Rattle.rotation_order.specs.RingOrder.{sooner_by}
 use Rattle.rotation_order.proofs.EdgeCuts.{parted}
+use Rattle.slab_faces.proofs.Upright.{upright_on}
 use Rattle.slab_faces.proofs.Points.{before_weak, before_on_wall}
 use Rattle.rotation_order.proofs.Fans.{from_low, from_low_too, from_high, from_high_too}
 use Rattle.integers.proofs.Tests.{lt_yes}
 use Rattle.slab_laws.specs.Darts.{Dart, ahead, back, kind}
 use Rattle.slab_laws.specs.Rotation.{turn, earlier}
 use Rattle.slab_laws.specs.Skeleton.{HasWeight, left_of, lower_than, on_wall, side, below, precedes, inside}
-use Rattle.slab_faces.proofs.Ints.{zero_back}
-use Rattle.slab_faces.proofs.Walls.{left_of-before, left_of-after, same_abscissa, run_positive}
-use Rattle.slab_faces.proofs.Along.{side_above, side_below, upright_side, upright_left, upright_right}
+use Rattle.slab_faces.proofs.Walls.{left_of-before, left_of-after, run_positive}
+use Rattle.slab_faces.proofs.Along.{side_above, side_below, upright_left, upright_right}
 use Rattle.sound_changes.proofs.PointInside.{MeanOf, lower_left, lower_right, upper_left, upper_right}
 
 -- ---- which of two darts is met earlier
@@ -56,13 +55,6 @@ round_last a true c p q = absurd (false≢true (sym p))
 round_last a false false p q = absurd (false≢true q)
 
 -- t lies off a vertical edge to the left, or to the right
-off_wall : (f : Edge) (t : Point) → HasWeight f.low → left_of f.low f.high ≡ false → left_of f.high f.low ≡ false → left_of f.low t ≡ false → left_of t f.low ≡ false → side f t ≡ pos 0
-off_wall f t L a b c d =
-    let i = upright_side f t a b in
-    let z : t.x *ℤ f.low.w -ℤ f.low.x *ℤ t.w ≡ pos 0 = same_abscissa f.low t c d in
-    let j = rw (z, *ℤ-zero) at i in
-    zero_back f.low.w (side f t) L j
-
 module _ (f : Edge) (p t : Point) (L : HasWeight f.low) (H : HasWeight f.high) (P : HasWeight p) (T : HasWeight t) (fwd : left_of f.high f.low ≡ false) (upr : on_wall f.low f.high ≡ true → lower_than f.low f.high ≡ true) (i : inside f p ≡ true) (on : side f p ≡ pos 0) (mean : MeanOf f p) where
   low_before : precedes f.low p ≡ true
   low_before = (and_parts (precedes f.low p) (precedes p f.high) (and_parts (precedes f.low p && precedes p f.high) _ i).0).0
@@ -109,7 +101,7 @@ module _ (f : Edge) (p t : Point) (L : HasWeight f.low) (H : HasWeight f.high) (
         | inl k ↦ k
         | inr k ↦ elim (cases_Bool (left_of f.low t)) [
           | inl n ↦ let r = upright_right f t L v fwd (upr (rw (v, fwd) refl)) n in absurd (omega (arith, ints))
-          | inr n ↦ let r = off_wall f t L v fwd n k in absurd (omega (arith, ints))
+          | inr n ↦ let r = upright_on f t L v fwd n k in absurd (omega (arith, ints))
         ]
       ] in
       left_of-before t f.low p T L P a (before_weak f.low p low_before)
@@ -120,7 +112,7 @@ module _ (f : Edge) (p t : Point) (L : HasWeight f.low) (H : HasWeight f.high) (
         | inl k ↦ k
         | inr k ↦ elim (cases_Bool (left_of t f.low)) [
           | inl n ↦ let r = upright_left f t L v fwd (upr (rw (v, fwd) refl)) n in absurd (omega (arith, ints))
-          | inr n ↦ let r = off_wall f t L v fwd k n in absurd (omega (arith, ints))
+          | inr n ↦ let r = upright_on f t L v fwd k n in absurd (omega (arith, ints))
         ]
       ] in
       let b : left_of f.low p ≡ false = false_from_ne_true _ (λ k. false≢true (sym v ∙ left_of-before f.low p f.high L P H k (before_weak p f.high before_high))) in

@@ -18,12 +18,11 @@ use Rattle.slab_laws.specs.Skeleton.{Skeleton}
 use Rattle.slab_laws.specs.Meets.{SameFace}
 use Rattle.slab_laws.specs.Slabs.{slab_right, spans, place}
 use Rattle.slab_laws.specs.Faces.{face_labels, face_of, same_cell, cells}
-use Rattle.slab_laws.specs.Listed.{distinct}
-use Rattle.slab_laws.specs.Subdivision.{subdivision, rank, ranked, first_cell}
+use Rattle.slab_laws.specs.Subdivision.{subdivision, rank, first_cell}
 use Rattle.slab_faces.proofs.Member.{member_in, in_member}
 use lib.Dec.{ltb, leb}
 use Rattle.slab_faces.proofs.Sums.{each, sum_by-same, sum_by-none}
-use Rattle.slab_faces.proofs.FacesLemmas.{cells_exact, in_its_face, one_label}
+use Rattle.slab_faces.proofs.FacesLemmas.{cells_exact, in_its_face, one_label, first_rank}
 use Rattle.slab_faces.proofs.LocationLemmas.{cells_have_faces}
 use Rattle.slab_laws.specs.Overlay.{renamed, red_name, blue_name, both, plane_of, runs_along, has_curve_along, cell_in, label}
 use Rattle.overlay_laws.specs.OverlayLaws.{empty, IsAlone, EmptyLayerAddsNothing}
@@ -107,10 +106,6 @@ in_first g f =
     never : (b : Bool) → cond {A = ℕ} (b && false) 1 0 ≡ 0
     never true = refl
     never false = refl
-
-first_rank : (g : Skeleton) → rank (subdivision g) (face_of (face_labels g) first_cell) ≡ 0
-unfolding rank subdivision ranked distinct
-first_rank g = rw (cells_exact.itself (face_of (face_labels g) first_cell)) refl
 
 other_label : (g : Skeleton) (f : SlabCell) → label empty g f ≡ 0
 other_label g f = label_is empty g f ∙ ap (λ c. rank (subdivision (plane_of empty)) (face_of (face_labels (plane_of empty)) c)) (in_first g f) ∙ first_rank (plane_of empty)

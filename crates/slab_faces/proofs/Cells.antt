@@ -56,11 +56,11 @@ pub ltb_by : (m n : ℕ) (b : Bool) → (b ≡ true → n ≤ m) → (b ≡ fals
 ltb_by m n true h k = le-ltb m n (h refl)
 ltb_by m n false h k = lt-ltb m n (k refl)
 
-leb_not : (m n : ℕ) (b : Bool) → (b ≡ false → m ≤ n) → (b ≡ true → n < m) → leb m n ≡ not b
+pub leb_not : (m n : ℕ) (b : Bool) → (b ≡ false → m ≤ n) → (b ≡ true → n < m) → leb m n ≡ not b
 leb_not m n true h k = lt-leb m n (k refl)
 leb_not m n false h k = le-leb m n (h refl)
 
-ltb_yes : (m n : ℕ) (b : Bool) → (b ≡ false → n ≤ m) → (b ≡ true → m < n) → ltb m n ≡ b
+pub ltb_yes : (m n : ℕ) (b : Bool) → (b ≡ false → n ≤ m) → (b ≡ true → m < n) → ltb m n ≡ b
 ltb_yes m n true h k = lt-ltb m n (k refl)
 ltb_yes m n false h k = le-ltb m n (h refl)
 

@@ -37,7 +37,7 @@ use Rattle.slab_faces.proofs.Searches.{range_below}
 pub passing : {X : Type 0} (p : X → Bool) (xs : List X) (x : X) → Contains xs x → p x ≡ true → 0 < count_by p xs
 passing p xs x in' h = let k = fewer_than (λ x. false) p xs x in' refl h (λ z _ n. absurd (false≢true n)) in omega arith
 
-some_or_none : {X : Type 0} (p : X → Bool) (xs : List X) → ((x : X) × Contains xs x × (p x ≡ true)) ⊎ ((x : X) → Contains xs x → p x ≡ false)
+pub some_or_none : {X : Type 0} (p : X → Bool) (xs : List X) → ((x : X) × Contains xs x × (p x ≡ true)) ⊎ ((x : X) → Contains xs x → p x ≡ false)
 some_or_none p xs =
     elim (cases_lt 0 (count_by p xs)) [
       | inl l ↦ inl (found p xs l)

@@ -22,6 +22,8 @@ use Rattle.slab_faces.proofs.Outside.{at_least}
 use Rattle.slab_faces.proofs.Turns.{face_trans, face_sym, on_own_wall, foot_is_on}
 use Rattle.slab_laws.specs.declared.classes.Link.{Link}
 use Rattle.slab_laws.specs.Faces.{is_lowest, walls, passes, is_open, link_at, corner_links, foot_links, wall_links, links, face_labels, face_of, same_cell, cell_below}
+use Rattle.slab_laws.specs.Listed.{distinct}
+use Rattle.slab_laws.specs.Subdivision.{subdivision, rank, ranked, first_cell}
 use Rattle.slab_faces.proofs.OverUnder.{over_in}
 use Rattle.slab_faces.proofs.Member.{Member, member_in, map_out, filter_out, flat_out, append_cases}
 use Rattle.slab_faces.proofs.ClassesLemmas.{IsExact, IsEquivalence, IsOrder, along_link, connected, not_above}
@@ -172,3 +174,8 @@ least_label g c d plane h = subst (λ x. cell_below d x ≡ false) (sym (one_lab
   where
     lowest : (g : Skeleton) (d : SlabCell) → cell_below d (face_of (face_labels g) d) ≡ false
     lowest g d = unfold face_labels in not_above same_cell cell_below cells_exact cells_order (links g) d
+
+-- the unbounded face has the first rank
+pub first_rank : (g : Skeleton) → rank (subdivision g) (face_of (face_labels g) first_cell) ≡ 0
+unfolding rank subdivision ranked distinct
+first_rank g = rw (cells_exact.itself (face_of (face_labels g) first_cell)) refl

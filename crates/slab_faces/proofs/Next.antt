@@ -22,7 +22,7 @@ use Rattle.slab_faces.proofs.AddedUpright.{one_slab_left, one_slab_right}
 use Rattle.slab_faces.proofs.Round.{left_empty, right_empty, top_open, bottom_open}
 
 -- an edge that leaves the wall to the right at v's height begins at v
-level_at_lower : (g : Skeleton) (f : Edge) (v : Point) → IsPlaneSkeleton g → Contains g.edges f → Contains g.vertices v → reaches_right f v ≡ true → side f v ≡ pos 0 → f.low ≡ v
+pub level_at_lower : (g : Skeleton) (f : Edge) (v : Point) → IsPlaneSkeleton g → Contains g.edges f → Contains g.vertices v → reaches_right f v ≡ true → side f v ≡ pos 0 → f.low ≡ v
 level_at_lower g f v plane F in' r z =
     let a = and_parts (not (left_of v f.low)) (left_of v f.high) r in
     let a' = not-true _ a.0 in

@@ -272,7 +272,7 @@ to_first g e w plane in' E h =
       chain g e (below_e g e) plane E (λ t wall th. under_wall g e t plane wall E th) (slab_right g w) w in' (not-true _ a.0) a.1 (omega arith),
     )
 
-place_in : (g : Skeleton) (i : ℕ) (e : Edge) → IsPlaneSkeleton g → Contains g.edges e → spans g i e ≡ true → place g i e < width g i
+pub place_in : (g : Skeleton) (i : ℕ) (e : Edge) → IsPlaneSkeleton g → Contains g.edges e → spans g i e ≡ true → place g i e < width g i
 unfolding width
 place_in g i e plane E se =
     fewer_than (λ f. spans g i f && below f e) (spans g i) g.edges e E

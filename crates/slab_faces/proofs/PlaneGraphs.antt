@@ -88,6 +88,15 @@ comes_runs p q h =
     flat : lt_z (q.x *ℤ p.w) (p.x *ℤ q.w) ≡ false → lt_z (p.x *ℤ q.w) (q.x *ℤ p.w) ≡ false → span_b p q ≡ pos 0
     flat e f = omega (arith, ints)
 
+-- two points of which none comes before the other are one
+pub one_point : (p q : Point) → IsProper p → IsProper q → counted.precedes p q ≡ false → counted.precedes q p ≡ false → p ≡ q
+one_point p q P Q a b = by (tri p q)
+  where
+    by : Tri p q → p ≡ q
+    by (less l) = clash (comes_before p q (span_runs p q P Q l)) a
+    by (same e) = e
+    by (more l) = clash (comes_before q p (span_runs q p Q P l)) b
+
 module _ (g : Graph) (pl : IsPlane g) where
   -- an edge there comes from a mark
   origin : (e : Edge) → Contains (edges g) e → (m : Mark) × Member m g.marks × (e ≡ edge_of m)
@@ -133,11 +142,6 @@ module _ (g : Graph) (pl : IsPlane g) where
       by (inl k) e = absurd (against (m.low.x *ℤ m.high.w) (m.high.x *ℤ m.low.w) (omega (arith, ints)) e)
       by (inr k) e = lt_yes (m.low.y *ℤ m.high.w) (m.high.y *ℤ m.low.w) (let l : span_a m.low m.high <ℤ pos 0 = k.1 in omega (arith, ints))
 
-  one_point : (p q : Point) → IsProper p → IsProper q → counted.precedes p q ≡ false → counted.precedes q p ≡ false → Tri p q → p ≡ q
-  one_point p q pp pq a b (less l) = clash (comes_before p q (span_runs p q pp pq l)) a
-  one_point p q pp pq a b (same e) = e
-  one_point p q pp pq a b (more l) = clash (comes_before q p (span_runs q p pq pp l)) b
-
   zero_by : (z : ℤ) → lt_z z (pos 0) ≡ false → lt_z (pos 0) z ≡ false → z ≡ pos 0
   zero_by z a b = omega (arith, ints)
 
@@ -179,7 +183,7 @@ module _ (g : Graph) (pl : IsPlane g) where
     forward = λ e c. let a = origin e c in subst (λ z. counted.left_of z.high z.low ≡ false) (sym a.2) (not_left a.0 a.1);
     upright = λ e c. let a = origin e c in subst (λ z. counted.on_wall z.low z.high ≡ true → counted.lower_than z.low z.high ≡ true) (sym a.2) (mark_upright a.0 a.1);
     edge_once = λ e c. let a = origin e c in subst (λ z. count_by (counted.same_edge z) (edges g) ≡ 1) (sym a.2) (mark_edge_once a.0 a.1);
-    distinct = λ v w c d h k. one_point v w (pl.proper v (vertex_of v c)) (pl.proper w (vertex_of w d)) h k (tri v w);
+    distinct = λ v w c d h k. one_point v w (pl.proper v (vertex_of v c)) (pl.proper w (vertex_of w d)) h k;
     clear = λ e v c d.
         let a = origin e c in
         subst (λ z. counted.inside z v ≡ false) (sym a.2)

@@ -1,11 +1,9 @@
 -- A point off all vertices and edges has one face, looked at from its left or from its right.
-use Rattle.std.proofs.Common.{◌≡◌, ℕ, Bool, true, false, cond, arith, refl, sym, ap, ap₂, ◌∙◌, subst, ◌⊎◌, inl, inr, List, [], ◌∷◌}
-use Rattle.std.specs.Prelude.{ℤ, pos, ◌-ℤ◌, ◌*ℤ◌, ◌<ℤ◌, not, ◌&&◌, ◌||◌}
+use Rattle.std.proofs.Common.{◌≡◌, ℕ, Bool, true, false, cond, refl, sym, ap, ap₂, ◌∙◌, subst, inl, inr}
+use Rattle.std.specs.Prelude.{pos, not, ◌&&◌, ◌||◌}
 use Rattle.std.specs.List.{Contains}
-use Rattle.std.proofs.lemmas.Int.{ints}
 use Rattle.std.proofs.lemmas.Bool.{false≢true, cases_Bool, false_from_ne_true, and_from}
 use lib.Signed.{lt_z}
-use lib.IntN.{*ℤ-zero}
 use Rattle.exact_plane.specs.Point.{Point}
 use Rattle.plane_graphs.specs.Graph.{Edge}
 use Rattle.slab_laws.specs.Skeleton.{Skeleton, HasWeight, left_of, lower_than, on_wall, side, over, precedes, inside, IsPlaneSkeleton}
@@ -13,51 +11,20 @@ use Rattle.slab_laws.specs.Meets.{covers_above, SameFace, across, here, right}
 use Rattle.slab_laws.specs.Slabs.{slab_left, slab_right, reaches_left, reaches_right, left_count, right_count, left_cell, right_cell}
 use Rattle.slab_faces.specs.PointLaws.{IsApart, PointsHaveOneFace}
 use Rattle.slab_faces.proofs.Sums.{each, sum_by-same}
-use Rattle.slab_faces.proofs.Walls.{same_abscissa, left_of-asym}
-use Rattle.slab_faces.proofs.Along.{upright_side, covers_parts, IsUpright}
-use Rattle.slab_faces.proofs.Member.{Member, member_in, in_member}
+use Rattle.slab_faces.proofs.Walls.{left_of-asym}
+use Rattle.slab_faces.proofs.Along.{covers_parts, IsUpright}
 use Rattle.slab_faces.proofs.Cells.{not_right_trans}
-use Rattle.integers.proofs.Signs.{cancel_zero}
-
--- ---- some element passes, or none does
-some_or_none : {X : Type 0} (p : X → Bool) (xs : List X) → ((x : X) × Member xs x × (p x ≡ true)) ⊎ ((x : X) → Member xs x → p x ≡ false)
-some_or_none p [] = inr (λ x h. absurd h)
-some_or_none p (x ∷ xs) =
-    elim (cases_Bool (p x)) [
-      | inl a ↦ inl (x, inl refl, a)
-      | inr a ↦ elim (some_or_none p xs) [
-        | inl w ↦ inl (w.0, inr w.1, w.2)
-        | inr f ↦ inr (λ z h. elim h [ inl e ↦ subst (λ y. p y ≡ false) e a | inr k ↦ f z k ])
-      ]
-    ]
+use Rattle.slab_faces.proofs.Upright.{upright_on}
+use Rattle.slab_faces.proofs.Points.{before_lower}
+use Rattle.slab_faces.proofs.EveryFace.{some_or_none}
+use Rattle.slab_faces.proofs.InnerPoints.{no_sign}
 
 -- ---- on a wall
-level : (f : Edge) (q : Point) → pos 0 <ℤ f.low.w → IsUpright f q → left_of f.low f.high ≡ false → left_of f.high f.low ≡ false → side f q ≡ pos 0
-level f q P u a b =
-    let k = upright_side f q a b in
-    let z : q.x *ℤ f.low.w -ℤ f.low.x *ℤ q.w ≡ pos 0 = same_abscissa f.low q u.lower_1 u.lower_2 in
-    let w : f.low.w *ℤ side f q ≡ pos 0 = k ∙ ap (λ y. (f.low.y *ℤ f.high.w -ℤ f.high.y *ℤ f.low.w) *ℤ y) z ∙ *ℤ-zero (f.low.y *ℤ f.high.w -ℤ f.high.y *ℤ f.low.w) in
-    zero_of f.low.w (side f q) P w
-  where
-    turn : (a b : ℤ) → a *ℤ b ≡ b *ℤ a
-    turn a b = omega (arith, ints)
-
-    zero_of : (w s : ℤ) → pos 0 <ℤ w → w *ℤ s ≡ pos 0 → s ≡ pos 0
-    zero_of w s h e = cancel_zero h (turn s w ∙ e)
-
-not_negative : (s : ℤ) → s ≡ pos 0 → (not (lt_z s (pos 0)) && not (lt_z (pos 0) s)) ≡ true
-not_negative s e = rw e refl
-
-first_false : (a b : Bool) → a ≡ false → b ≡ true → (a || b) ≡ true
-first_false a b h k = rw (h, k) refl
-
 is_inside : (g : Skeleton) (f : Edge) (q : Point) → IsPlaneSkeleton g → Contains g.edges f → IsUpright f q → left_of f.low f.high ≡ false → left_of f.high f.low ≡ false → lower_than f.low q ≡ true → lower_than q f.high ≡ true → inside f q ≡ true
 is_inside g f q plane F u a b h k =
     and_from (precedes f.low q && precedes q f.high) (not (lt_z (side f q) (pos 0)) && not (lt_z (pos 0) (side f q)))
-    (and_from (precedes f.low q) (precedes q f.high)
-    (first_false (left_of f.low q) (not (left_of q f.low) && lower_than f.low q) u.lower_1 (and_from (not (left_of q f.low)) (lower_than f.low q) (ap not u.lower_2) h))
-    (first_false (left_of q f.high) (not (left_of f.high q) && lower_than q f.high) u.upper_2 (and_from (not (left_of f.high q)) (lower_than q f.high) (ap not u.upper_1) k)))
-    (not_negative (side f q) (level f q (plane.proper_edge f F).0 u a b))
+    (and_from (precedes f.low q) (precedes q f.high) (before_lower f.low q u.lower_2 h) (before_lower q f.high u.upper_1 k))
+    (no_sign (side f q) (upright_on f q (plane.proper_edge f F).0 a b u.lower_1 u.lower_2))
 
 or_none : (a b : Bool) → a ≡ false → b ≡ false → (a || b) ≡ false
 or_none a b h k = rw (h, k) refl
@@ -87,13 +54,13 @@ turned_round v q h = by (left_of v q) (left_of q v) h (λ e. left_of-asym v q e)
     by false true h f = refl
     by false false h f = sym h
 
-one_slab : (g : Skeleton) (q : Point) → ((v : Point) → Member g.vertices v → on_wall v q ≡ false) → slab_left g q ≡ slab_right g q
+one_slab : (g : Skeleton) (q : Point) → ((v : Point) → Contains g.vertices v → on_wall v q ≡ false) → slab_left g q ≡ slab_right g q
 one_slab g q f =
     let l : Point → ℕ = λ v. cond (left_of v q) 1 0 in
     let r : Point → ℕ = λ v. cond (not (left_of q v)) 1 0 in
-    sum_by-same l r g.vertices (each (λ v. l v ≡ r v) g.vertices (λ v V. ap (λ b. cond b 1 0) (turned_round v q (f v (in_member g.vertices v V)))))
+    sum_by-same l r g.vertices (each (λ v. l v ≡ r v) g.vertices (λ v V. ap (λ b. cond b 1 0) (turned_round v q (f v V))))
 
-one_count : (g : Skeleton) (q : Point) → IsPlaneSkeleton g → ((v : Point) → Member g.vertices v → on_wall v q ≡ false) → left_count g q ≡ right_count g q
+one_count : (g : Skeleton) (q : Point) → IsPlaneSkeleton g → ((v : Point) → Contains g.vertices v → on_wall v q ≡ false) → left_count g q ≡ right_count g q
 one_count g q plane f =
     let l : Edge → ℕ = λ e. cond (reaches_left e q && not (over e q)) 1 0 in
     let r : Edge → ℕ = λ e. cond (reaches_right e q && not (over e q)) 1 0 in
@@ -105,12 +72,12 @@ one_count g q plane f =
 
     same_reach : (e : Edge) → Contains g.edges e → reaches_left e q ≡ reaches_right e q
     same_reach e E =
-        ap₂ ◌&&◌ (turned_round e.low q (f e.low (in_member g.vertices e.low (plane.lower_in e E))))
-        (ap not (turned_round e.high q (f e.high (in_member g.vertices e.high (plane.upper_in e E)))) ∙ twice (left_of q e.high))
+        ap₂ ◌&&◌ (turned_round e.low q (f e.low (plane.lower_in e E)))
+        (ap not (turned_round e.high q (f e.high (plane.upper_in e E))) ∙ twice (left_of q e.high))
 
 pub points_have_one_face : PointsHaveOneFace
 points_have_one_face g q plane Q a =
     elim (some_or_none (λ v. on_wall v q) g.vertices) [
-      | inl w ↦ right (left_cell g q) (left_cell g q) (right_cell g q) (here (left_cell g q)) (across q (record { proper = Q; vertex = w.0; is_vertex = member_in g.vertices w.0 w.1; same = w.2 }) (record { open_at = open_at g q plane Q a }))
+      | inl w ↦ right (left_cell g q) (left_cell g q) (right_cell g q) (here (left_cell g q)) (across q (record { proper = Q; vertex = w.0; is_vertex = w.1; same = w.2 }) (record { open_at = open_at g q plane Q a }))
       | inr f ↦ subst (λ c. SameFace g (left_cell g q) c) (λ i. record { slab = one_slab g q f i; place = one_count g q plane f i }) (here (left_cell g q))
     ]

@@ -2,12 +2,12 @@
 use Rattle.std.proofs.Common.{◌≡◌, ℕ, ◌+◌, true, false, cond, arith, refl, sym, ap, ◌∙◌, subst, inl, inr}
 use Rattle.std.specs.Prelude.{pos, not, ◌&&◌}
 use Rattle.std.specs.List.{sum_by, Contains}
-use Rattle.std.proofs.lemmas.Bool.{false≢true, and_from, or_right, false_from_ne_true, cases_Bool}
+use Rattle.std.proofs.lemmas.Bool.{false≢true, and_from, false_from_ne_true, cases_Bool}
 use lib.IntN.{*ℤ-zero}
 use lib.Signed.{lt_z}
 use Rattle.exact_plane.specs.Point.{Point}
 use Rattle.plane_graphs.specs.Graph.{Edge}
-use Rattle.slab_laws.specs.Skeleton.{Skeleton, HasWeight, left_of, lower_than, on_wall, side, same_edge, IsPlaneSkeleton, precedes}
+use Rattle.slab_laws.specs.Skeleton.{Skeleton, HasWeight, left_of, lower_than, on_wall, side, same_edge, IsPlaneSkeleton}
 use Rattle.slab_laws.specs.Meets.{covers_above}
 use Rattle.slab_laws.specs.Weights.{Even, IsEvenAtVertices, weight_above, left_weight, right_weight, cover_weight}
 use Rattle.slab_laws.specs.Slabs.{slab_left, slab_right, left_count, right_count, reaches_left, reaches_right}
@@ -19,6 +19,7 @@ use Rattle.slab_faces.proofs.Cells.{cell_weight, left_side, right_side, not_righ
 use Rattle.slab_faces.proofs.Along.{IsUpright, covers_parts, upright_side}
 use Rattle.slab_faces.proofs.Slabs.{same_edge_is, same_edge_refl, no_order}
 use Rattle.slab_faces.proofs.Turns.{on_own_wall}
+use Rattle.slab_faces.proofs.Points.{before_lower}
 
 -- no vertex lies strictly inside a vertical edge
 pub upright_on : (f : Edge) (v : Point) → HasWeight f.low → left_of f.low f.high ≡ false → left_of f.high f.low ≡ false → left_of f.low v ≡ false → left_of v f.low ≡ false → side f v ≡ pos 0
@@ -26,9 +27,6 @@ upright_on f v P a b c d =
     let i = upright_side f v a b in
     let i' = rw (same_abscissa f.low v c d, *ℤ-zero) at i in
     zero_back f.low.w (side f v) P i'
-
-higher : (p q : Point) → left_of q p ≡ false → lower_than p q ≡ true → precedes p q ≡ true
-higher p q a b = or_right (left_of p q) _ (and_from _ _ (ap not a) b)
 
 pub not_inside : (g : Skeleton) (f : Edge) (v : Point) → IsPlaneSkeleton g → Contains g.edges f → Contains g.vertices v → IsUpright f v → lower_than f.low v ≡ true → lower_than v f.high ≡ true → ⊥
 not_inside g f v plane F in' u h k =
@@ -38,7 +36,7 @@ not_inside g f v plane F in' u h k =
     let a2 = not_right_trans f.low v f.high p.0 V p.1 u.lower_2 u.upper_1 in
     let z = upright_on f v p.0 a1 a2 u.lower_1 u.lower_2 in
     let line : (not (lt_z (side f v) (pos 0)) && not (lt_z (pos 0) (side f v))) ≡ true = rw z refl in
-    false≢true (sym (plane.clear f v F in') ∙ and_from _ _ (and_from _ _ (higher f.low v u.lower_2 h) (higher v f.high u.upper_1 k)) line)
+    false≢true (sym (plane.clear f v F in') ∙ and_from _ _ (and_from _ _ (before_lower f.low v u.lower_2 h) (before_lower v f.high u.upper_1 k)) line)
 
 pub covers_self : (g : Skeleton) (e : Edge) → IsPlaneSkeleton g → Contains g.edges e → on_wall e.low e.high ≡ true → covers_above e e.low ≡ true
 covers_self g e plane E h =

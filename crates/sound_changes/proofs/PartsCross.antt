@@ -100,7 +100,7 @@ unfolding side
 flat_turned p q r = ring (p.x ∷ p.y ∷ p.w ∷ q.x ∷ q.y ∷ q.w ∷ r.x ∷ r.y ∷ r.w ∷ []) (search sides depth 40 fits 20000) tt
 
 -- a mean of a number and of nothing has the number's sign
-second_only : (g d u a v b : ℤ) → g *ℤ d ≡ u *ℤ a +ℤ v *ℤ b → u ≡ pos 0 → d *ℤ g ≡ b *ℤ v
+pub second_only : (g d u a v b : ℤ) → g *ℤ d ≡ u *ℤ a +ℤ v *ℤ b → u ≡ pos 0 → d *ℤ g ≡ b *ℤ v
 second_only g d u a v b e z = ring (d ∷ g ∷ []) (search sides depth 40 fits 20000) tt ∙ e ∙ (λ i. z i *ℤ a +ℤ v *ℤ b) ∙ ring (a ∷ v ∷ b ∷ []) (search sides depth 40 fits 20000) tt
 
 -- a point where f meets the line of o lies inside f, if the ends of f lie on two sides of that line

@@ -1,5 +1,5 @@
 -- A plane graph with an edge that is split at a point inside it is plane, and so is one with two edges of one line in one.
-use Rattle.std.proofs.Common.{◌≡◌, ◌≢◌, ◌⊎◌, ◌↔◌, inl, inr, arith, true, false, refl, sym, ap, ◌∙◌, subst}
+use Rattle.std.proofs.Common.{◌≡◌, ◌≢◌, ◌⊎◌, ◌↔◌, inl, inr, arith, true, refl, sym, ap, ◌∙◌, subst}
 use Rattle.std.specs.Prelude.{ℤ, pos, ◌*ℤ◌, ◌<ℤ◌}
 use Rattle.std.specs.List.{Contains}
 use Rattle.std.proofs.lemmas.Int.{ints, by_lt_z}
@@ -16,9 +16,9 @@ use Rattle.plane_graphs.proofs.Lines.{span_runs}
 use Rattle.plane_graphs.proofs.Lists.{clash}
 use Rattle.plane_graphs.proofs.Order.{Lt, lt_trans, lt_never, Tri, tri}
 use Rattle.plane_graphs.proofs.Order.Tri.{less, same, more}
-use Rattle.slab_laws.specs.Skeleton.{Skeleton, side, crosses, inside, precedes, same_point, IsPlaneSkeleton}
+use Rattle.slab_laws.specs.Skeleton.{Skeleton, side, crosses, inside, same_point, IsPlaneSkeleton}
 use Rattle.slab_faces.proofs.Ints.{zero_back}
-use Rattle.slab_faces.proofs.PlaneGraphs.{once, comes_before}
+use Rattle.slab_faces.proofs.PlaneGraphs.{once, comes_before, one_point}
 use Rattle.slab_faces.proofs.Walls.{side-lower}
 use Rattle.slab_faces.proofs.Parity.{same_point_is, same_point_refl}
 use Rattle.rotation_order.specs.EdgeParts.{lower_part, upper_part, IsForwardEdge}
@@ -48,11 +48,6 @@ module _ (g : Skeleton) (up_points : IsAscending point_cmp g.vertices) (up_edges
       let H = fine e.high n.high in
       edge_before e.low e.high L.positive H.positive (comes_before e.low e.high (span_runs e.low e.high L H n.ordered))
 
-  one_point : (p q : Point) → IsProper p → IsProper q → precedes p q ≡ false → precedes q p ≡ false → Tri p q → p ≡ q
-  one_point p q P Q a b (less l) = clash (comes_before p q (span_runs p q P Q l)) a
-  one_point p q P Q a b (same e) = e
-  one_point p q P Q a b (more l) = clash (comes_before q p (span_runs q p Q P l)) b
-
   pub plane_by : IsPlaneSkeleton g
   plane_by = record {
     proper = λ q c. (fine q c).positive;
@@ -64,7 +59,7 @@ module _ (g : Skeleton) (up_points : IsAscending point_cmp g.vertices) (up_edges
     forward = λ e E. (forward_edge e E).forward;
     upright = λ e E. (forward_edge e E).upright;
     edge_once = λ e E. edge_once e g.edges up_edges E;
-    distinct = λ p q c k a b. one_point p q (fine p c) (fine q k) a b (tri p q);
+    distinct = λ p q c k a b. one_point p q (fine p c) (fine q k) a b;
     clear = λ e q E k. not_true (inside e q) (λ i. clear e q E k (inside_out e q (fine e.low (ends e E).low) (fine e.high (ends e E).high) (fine q k) i));
     uncrossed = λ e f E F. not_true (crosses e f) (λ c. uncrossed e f E F (crossing_out e f c));
   }
