@@ -1,5 +1,5 @@
 -- What is true of the faces of all records: what each lists, that what is listed has a face, and how long a list can be.
-use Rattle.std.proofs.Common.{◌≡◌, ℕ, zero, suc, ◌≤◌, List, [], ◌∷◌, map, length, Option, Some, None, IsSome, option_map, refl, sym, ap, subst, ◌∙◌, arith, Contains}
+use Rattle.std.proofs.Common.{◌≡◌, ℕ, ◌≤◌, List, [], ◌∷◌, map, length, Option, Some, None, IsSome, option_map, refl, sym, ap, subst, ◌∙◌, arith, Contains}
 use Rattle.std.proofs.lemmas.Bool.{false≢true}
 use Rattle.std.proofs.Math.ListN.{length-map}
 use Rattle.plane_graphs.specs.Ascending.{Member}
@@ -14,6 +14,7 @@ use Rattle.slab_laws.specs.FaceLists.{Lists, MovedView, AreOnce, AreFacesListed}
 use Rattle.slab_laws.specs.Tables.{names, NamesAscend}
 use Rattle.slab_laws.specs.View.{HasCycle, HasFace, HasBareFace, face_in, face_or, bare_face_in, bare_or, cycle_id, vertex_id, face_id}
 use Rattle.chain_laws.specs.Links.{Node, trail, after_at, first_or, key_at}
+use Rattle.chain_laws.proofs.Linked.{trail_within}
 use Rattle.chain_laws.proofs.Distinct.{IsOnce, once_from_distinct}
 use Rattle.chain_laws.proofs.Tabled.{row-tabled, ascend-tabled, length-tabled, key_named}
 use Rattle.dcel_records.specs.declared.ranks.RankKey.{RankKey}
@@ -38,17 +39,10 @@ module _ {X : Type 0} (name : ℕ → X) (number : X → ℕ) (same : (n : ℕ) 
   once_named (n ∷ ns) h = (λ m. h.0 (subst (λ z. Contains ns z) (same n) (of_names (name n) ns m)), once_named ns h.1)
 
 -- ---- chains
--- no more nodes are met than steps are gone
-trail_short : (after : ℕ → Option ℕ) (steps : ℕ) (o : Option ℕ) → length (trail after steps o) ≤ steps
-unfolding trail
-trail_short after steps None = omega arith
-trail_short after zero (Some n) = omega arith
-trail_short after (suc steps) (Some n) = omega (arith, trail_short after steps (after n))
-
 module _ {R : Type 0} (g : Placing R) (rs : Slab R) (fs : Slab StoredFace) where
   own_short : (k : ℕ) → length (own g rs fs k) ≤ slab_len rs
   unfolding own
-  own_short k = subst (λ n. length (trail (after_at (nodes g rs)) (length (entries rs)) (first_or (heads g fs k))) ≤ n) (length-entries rs) (trail_short (after_at (nodes g rs)) (length (entries rs)) (first_or (heads g fs k)))
+  own_short k = subst (λ n. length (trail (after_at (nodes g rs)) (length (entries rs)) (first_or (heads g fs k))) ≤ n) (length-entries rs) (trail_within (after_at (nodes g rs)) (length (entries rs)) (first_or (heads g fs k)))
 
   named_short : {X : Type 0} (name : ℕ → X) (room : ℕ) (k : ℕ) → IsRoom room rs → length (map name (own g rs fs k)) ≤ room
   named_short name room k i = let a = length-map (own g rs fs k) name in let b = own_short k in let c = i.holds in omega arith

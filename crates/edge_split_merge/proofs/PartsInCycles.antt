@@ -1,5 +1,5 @@
 -- An edge in two, and two edges in one, with their cycles: the records are a sound map again.
-use Rattle.std.proofs.Common.{◌≡◌, ◌≢◌, Option, Some, None, IsSome, Bool, true, false, cond, ◌==◌, refl, sym, ap, subst, ◌∙◌}
+use Rattle.std.proofs.Common.{◌≡◌, ◌≢◌, None, Bool, true, false, cond, ◌==◌, refl, sym, ap, subst, ◌∙◌}
 use Rattle.std.proofs.lemmas.Bool.{eqb-true, eq-eqb, false≢true}
 use Rattle.exact_plane.specs.Point.{Point}
 use Rattle.slab_laws.specs.declared.names.CycleId.{CycleId}
@@ -23,6 +23,7 @@ use Rattle.face_steps.specs.SplitSteps.{IsSplitApart}
 use Rattle.face_steps.specs.Tabled.{AreTabled}
 use Rattle.face_steps.proofs.Choices.{tables_are_sound}
 use Rattle.face_steps.proofs.MergesApart.{records_apart}
+use Rattle.face_steps.proofs.RowsWritten.{none_of}
 use Rattle.face_steps.proofs.StepLaws.{steps_keep_tables}
 use Rattle.face_steps.proofs.StepHalves.{left_reads, cycle_n, cycle_m}
 
@@ -41,10 +42,6 @@ module _ (v w : View) (f : Faces) (l : Lists) (kept : AreDartsOn v f l) (n m : D
 
 same_cycle : (a c : CycleId) → (c.0 == a.0) ≡ true → a ≡ c
 same_cycle a c e = let q = sym (eqb-true c.0 a.0 e) in λ i. record { 0 = q i }
-
-none_of : {X : Type 0} (o : Option X) → ¬ IsSome o → o ≡ None
-none_of None h = refl
-none_of (Some x) h = absurd (h refl)
 
 -- ---- two edges in one: g is the view without the parts, v the one with them, which f stands beside
 module _ (g v : View) (d t n m : DartId) (u : VertexId) (p : Point) (apart : IsSplitApart g v d t n m u p) (f : Faces) (h : AreTabled v f) (l : Lists) (kept : AreDartsOn v f l) where

@@ -2,22 +2,20 @@
 use Rattle.std.proofs.Common.{◌≡◌, ℕ, ◌<◌, false, arith, refl, sym, ap, ◌∙◌, inl, inr, subst, List, [], ◌∷◌}
 use Rattle.std.specs.Prelude.{Option, Some, None}
 use Rattle.std.specs.List.{AllByRecursion, Contains}
-use Rattle.std.proofs.lemmas.Bool.{false≢true}
 use Rattle.exact_plane.specs.Point.{Point}
 use Rattle.plane_graphs.specs.Graph.{Edge}
 use Rattle.plane_graphs.specs.Line.{IsProper}
-use Rattle.plane_graphs.proofs.Order.{Tri, less, same, more, tri}
 use Rattle.slab_laws.specs.declared.names.DartId.{DartId}
 use Rattle.slab_laws.specs.Cycles.{left_of_dart}
 use Rattle.slab_laws.specs.Darts.{Dart, ahead}
 use Rattle.slab_laws.specs.Meets.{SameFace}
-use Rattle.slab_laws.specs.Skeleton.{precedes, inside}
+use Rattle.slab_laws.specs.Skeleton.{inside}
 use Rattle.slab_laws.specs.Slabs.{left_cell}
 use Rattle.slab_laws.specs.Sound.{skeleton_of, edge_in, dart_in, IsGraphSound}
 use Rattle.slab_laws.specs.Tables.{NamesAscend}
 use Rattle.slab_laws.specs.View.{View, Faces, face_id, cycle_in, face_in}
 use Rattle.slab_faces.specs.PointLaws.{IsApart}
-use Rattle.slab_faces.proofs.InnerPoints.{before_in}
+use Rattle.slab_faces.proofs.PlaneGraphs.{one_point}
 use Rattle.slab_faces.proofs.Member.{Member, in_member}
 use Rattle.sound_changes.proofs.KnownNames.{known_point, known_edge, points_proper}
 use Rattle.face_changes.specs.FacesByPairs.{first_or, outside, beside}
@@ -26,15 +24,6 @@ use Rattle.dcel_records.specs.Spots.{IsInFace}
 use Rattle.edges_below.specs.FaceLaws.{cell_over}
 use Rattle.edges_below.proofs.FaceBelow.{face_is_over_highest}
 use Rattle.face_location.specs.Below.{edge_along, IsHighestDart}
-
--- two points of which none comes before the other are one
-one_point : (p q : Point) → IsProper p → IsProper q → precedes p q ≡ false → precedes q p ≡ false → p ≡ q
-one_point p q P Q a b = by (tri p q)
-  where
-    by : Tri p q → p ≡ q
-    by (less l) = absurd (false≢true (sym a ∙ before_in p q P Q l))
-    by (same e) = e
-    by (more l) = absurd (false≢true (sym b ∙ before_in q p Q P l))
 
 -- where names ascend and 0 is one of them, it is the first
 pub first_is_least : (ns : List ℕ) → NamesAscend ns → Contains ns 0 → first_or ns ≡ face_id 0

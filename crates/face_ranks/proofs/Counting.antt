@@ -16,7 +16,7 @@ use Rattle.slab_laws.specs.Tables.{is_after, name_after, NamesAscend}
 use Rattle.slab_laws.specs.View.{View, Faces, HasFace, face_id, face_after_in}
 use Rattle.arr_notes.proofs.After.{left, left-next, all_left, later, later-none, fewer}
 use Rattle.face_ranks.specs.Ranks.{rank_in}
-use Rattle.face_ranks.proofs.RankedOuter.{by_number}
+use Rattle.face_changes.proofs.FacesByPairs.{by_number}
 use Rattle.face_ranks.proofs.RankOrder.{ranks_below}
 
 -- the faces that come after the last one

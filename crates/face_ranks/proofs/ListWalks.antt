@@ -7,9 +7,7 @@ use Rattle.plane_graphs.specs.Ascending.{Member}
 use Rattle.plane_graphs.proofs.Lists.{clash}
 use Rattle.slab_laws.specs.declared.names.CycleId.{CycleId}
 use Rattle.slab_laws.specs.FaceLists.{first_of, cycle_follower, follower, AreOnce}
-
-pub cycle_by_number : (c e : CycleId) → c.0 ≡ e.0 → c ≡ e
-cycle_by_number c e h = λ i. record { 0 = h i }
+use Rattle.face_steps.proofs.CyclesApart.{cycle_by_number}
 
 -- the cycles from the next one on
 unfoldable pub cycles_from : Option CycleId → List CycleId → List CycleId

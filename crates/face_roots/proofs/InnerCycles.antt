@@ -50,7 +50,7 @@ use Rattle.face_changes.proofs.CycleParities.{on_edge, same_is}
 use Rattle.face_changes.proofs.OneMoreEdge.{odd_yes, one_kind_each}
 use Rattle.face_roots.specs.CycleLinks.{IsStart, IsFirstOut}
 use Rattle.face_roots.proofs.PointOrder.{before}
-use Rattle.face_roots.proofs.StartFaces.{begins_at, goes_forward}
+use Rattle.face_roots.proofs.StartFaces.{goes_forward}
 
 nothing : (b : Bool) (n : ℕ) → (b ≡ true → n ≡ 0) → cond {A = ℕ} b n 0 ≡ 0
 nothing true n h = h refl
@@ -202,7 +202,7 @@ module _ (g : Skeleton) (plane : IsPlaneSkeleton g) where
           let n = place_less g (slab_right g v) (right_inside g v) f e plane slab F E sf spans_e b in
           lt-leb _ _ (omega arith) ∙ sym (positive_not_over f v k'))
           (λ k'. let o : side f v ≡ pos 0 = omega (arith, ints) in
-          let a = begins_at g f v plane F vertex r o in
+          let a = level_at_lower g f v plane F vertex r o in
           let M = right_inside g v in
           let tf = through g (slab_right g v) M f slab F sf in
           let te = through g (slab_right g v) M e slab E spans_e in

@@ -15,12 +15,11 @@ use Rattle.slab_faces.proofs.Turns.{face_trans, face_sym, face_at, on_own_wall}
 use Rattle.slab_faces.proofs.Corners.{IsAt, right_fan, bottom_place}
 use Rattle.slab_faces.proofs.Round.{right_empty}
 use Rattle.slab_faces.proofs.RotationLemmas.{earlier_in, earlier_out}
-use Rattle.slab_faces.proofs.Next.{turn_keeps}
+use Rattle.slab_faces.proofs.Next.{level_at_lower, turn_keeps}
 use Rattle.edges_below.specs.FaceLaws.{cell_over}
 use Rattle.edges_below.specs.Highest.{IsHighestBelow}
 use Rattle.face_roots.specs.LowestDarts.{IsLowestFrom, IsNextLower, LowestIsAboveBelow}
 use Rattle.face_roots.proofs.BelowVertices.{corner_face}
-use Rattle.face_roots.proofs.StartFaces.{begins_at}
 
 module _ (g : Skeleton) (plane : IsPlaneSkeleton g) (e : Edge) (E : Contains g.edges e) (lowest : (f : Edge) → IsOut g e.low f true → earlier (ahead e) (ahead f) ≢ true) where
   v : Point
@@ -28,7 +27,7 @@ module _ (g : Skeleton) (plane : IsPlaneSkeleton g) (e : Edge) (E : Contains g.e
 
   slanted_at : (f : Edge) → IsAt g e.low (λ x. reaches_right x e.low) f → IsOut g e.low f true × (class f true ≡ 2)
   slanted_at f t =
-      let a = begins_at g f e.low plane t.in' (plane.lower_in e E) t.reaches t.on in
+      let a = level_at_lower g f e.low plane t.in' (plane.lower_in e E) t.reaches t.on in
       let r = and_parts (not (left_of e.low f.low)) (left_of e.low f.high) t.reaches in
       (record { in' = t.in'; at = a }, ap (λ l. kind l true) (subst (λ z. left_of z f.high ≡ true) (sym a) r.1))
 

@@ -21,9 +21,10 @@ use Rattle.slab_laws.specs.Faces.{face_labels, face_of, same_cell}
 use Rattle.slab_laws.specs.Listed.{distinct}
 use Rattle.slab_laws.specs.Rotation.{same_dart, dart_cmp, dart_below}
 use Rattle.slab_laws.specs.Rows.{least_dart_of, lead_list, no_dart}
-use Rattle.slab_laws.specs.Subdivision.{cycle, cycles, subdivision, rank, ranked, first_cell}
+use Rattle.slab_laws.specs.Subdivision.{cycle, cycles, subdivision, rank, first_cell}
 use Rattle.slab_faces.proofs.Member.{in_member, member_in, filter_out}
 use Rattle.slab_faces.proofs.FacesLemmas.{cells_exact, one_label, one_face}
+pub use Rattle.slab_faces.proofs.FacesLemmas.{first_rank}
 use Rattle.slab_faces.proofs.NextLemmas.{darts_exact}
 use Rattle.slab_faces.proofs.DartOrder.{dart_cmp_total}
 use Rattle.slab_faces.proofs.Turns.{face_trans, face_sym}
@@ -41,10 +42,6 @@ use Rattle.face_roots.proofs.FaceLinks.{lead_before}
 use Rattle.face_roots.proofs.InnerCycles.{lead_vertex, lead_forward, starts_there}
 use Rattle.face_roots.proofs.PointOrder.{before}
 use Rattle.face_roots.proofs.StartFaces.{start_face}
-
-pub first_rank : (g : Skeleton) → rank (subdivision g) (face_of (face_labels g) first_cell) ≡ 0
-unfolding rank subdivision ranked distinct
-first_rank g = rw (cells_exact.itself (face_of (face_labels g) first_cell)) refl
 
 -- ---- lists
 module _ {X : Type 0} (same : X → X → Bool) where

@@ -1,23 +1,19 @@
 -- Where something starts at a vertex, its first dart, or the vertex alone, is in the face of what is below.
-use Rattle.std.proofs.Common.{◌≡◌, ◌+◌, Bool, true, false, arith, refl, sym, ap, ◌∙◌, subst}
-use Rattle.std.specs.Prelude.{pos, ◌<ℤ◌, not, ◌&&◌, ◌≢◌, Option}
+use Rattle.std.proofs.Common.{◌≡◌, ◌+◌, Bool, true, false, arith, refl, sym, ap, subst}
+use Rattle.std.specs.Prelude.{not, ◌≢◌, Option}
 use Rattle.std.specs.List.{Contains}
-use Rattle.std.proofs.lemmas.Int.{ints}
-use Rattle.std.proofs.lemmas.Bool.{false≢true, and_parts, and_from, not-true, or_left, false_from_ne_true}
-use lib.Signed.{lt_z}
+use Rattle.std.proofs.lemmas.Bool.{and_parts, and_from}
 use Rattle.exact_plane.specs.Point.{Point}
 use Rattle.plane_graphs.specs.Graph.{Edge}
-use Rattle.slab_laws.specs.Skeleton.{Skeleton, HasWeight, IsPlaneSkeleton, left_of, lower_than, run, side}
+use Rattle.slab_laws.specs.Skeleton.{Skeleton, IsPlaneSkeleton, left_of}
 use Rattle.slab_laws.specs.Slabs.{reaches_right, place, slab_right, right_count, left_top, right_bottom, left_cell}
 use Rattle.slab_laws.specs.Darts.{Dart, IsOut, ahead, start, class, kind, cell_of, cell_by, by_class, on_right}
 use Rattle.slab_laws.specs.Meets.{SameFace, here}
 use Rattle.slab_laws.specs.Cycles.{left_of_dart}
 use Rattle.slab_laws.specs.Rotation.{earlier}
-use Rattle.slab_faces.proofs.Walls.{left_of-after, left_of-irrefl, run_positive, over-lower, side-lower}
-use Rattle.slab_faces.proofs.OverUnder.{zero_not_over}
-use Rattle.slab_faces.proofs.Slabs.{no_order}
-use Rattle.slab_faces.proofs.Along.{side_below}
+use Rattle.slab_faces.proofs.Walls.{left_of-irrefl, side-lower}
 use Rattle.slab_faces.proofs.Turns.{face_trans, face_sym, on_own_wall, level_at}
+use Rattle.slab_faces.proofs.Next.{level_at_lower}
 use Rattle.slab_faces.proofs.Corners.{IsAt, right_fan, top_place}
 use Rattle.slab_faces.proofs.Round.{left_empty, top_open, bottom_open}
 use Rattle.slab_faces.proofs.RotationLemmas.{earlier_in}
@@ -25,27 +21,6 @@ use Rattle.edges_below.specs.FaceLaws.{cell_over}
 use Rattle.edges_below.specs.Highest.{IsHighestBelow}
 use Rattle.face_roots.specs.CycleLinks.{IsStart, IsBare, IsFirstOut}
 use Rattle.face_roots.proofs.BelowVertices.{corner_face}
-
--- an edge that leaves the wall to the right at v's height begins at v
-pub begins_at : (g : Skeleton) (f : Edge) (v : Point) → IsPlaneSkeleton g → Contains g.edges f → Contains g.vertices v → reaches_right f v ≡ true → side f v ≡ pos 0 → f.low ≡ v
-begins_at g f v plane F in' r z =
-    let a = and_parts (not (left_of v f.low)) (left_of v f.high) r in
-    let a' = not-true _ a.0 in
-    let V = plane.proper v in' in
-    let p = plane.proper_edge f F in
-    let long = left_of-after f.low v f.high p.0 V p.1 a' a.1 in
-    let line : (not (lt_z (side f v) (pos 0)) && not (lt_z (pos 0) (side f v))) ≡ true = rw z refl in
-    let b : left_of f.low v ≡ false = false_from_ne_true _ (λ h. false≢true (sym (plane.clear f v F in') ∙ and_from _ _ (and_from _ _ (or_left _ _ h) (or_left _ _ a.1)) line)) in
-    let c = over-lower f v p.0 long b a' in
-    let d : lower_than v f.low ≡ false = sym c ∙ zero_not_over f v z in
-    let k : lower_than f.low v ≡ false = lower_back f v V (run_positive f long) b a' z in
-    plane.distinct f.low v (plane.lower_in f F) in' (no_order f.low v b a' k) (no_order v f.low a' b d)
-  where
-    lower_back : (f : Edge) (v : Point) → HasWeight v → pos 0 <ℤ run f → left_of f.low v ≡ false → left_of v f.low ≡ false → side f v ≡ pos 0 → lower_than f.low v ≡ false
-    lower_back f v V R a b z = false_from_ne_true _ (λ h.
-        let k = side_below f v f.low V R z a b h in
-        let s = side-lower f in
-        absurd (omega (arith, ints)))
 
 module _ (g : Skeleton) (plane : IsPlaneSkeleton g) where
   -- the cell on the left of the first edge out of its lower end is the one at the upper left of that end
@@ -64,7 +39,7 @@ module _ (g : Skeleton) (plane : IsPlaneSkeleton g) where
           first (ahead f) (record { in' = F; at = a }) (earlier_in (ahead f) (ahead e) (by_class (omega arith)))) in
           let at : IsAt g e.low (λ x. reaches_right x e.low) e = record { in' = E; reaches = and_from _ _ (ap not (left_of-irrefl e.low)) q; on = side-lower e } in
           let p : right_count g e.low ≡ place g (slab_right g e.low) e + 1 = top_place g e.low (slab_right g e.low) _ (λ x. reaches_right x e.low) e (right_fan g e.low plane (on_own_wall g e.low plane in_vertices)) at (λ f t b.
-          let a = begins_at g f e.low plane t.in' in_vertices t.reaches t.on in
+          let a = level_at_lower g f e.low plane t.in' in_vertices t.reaches t.on in
           let r = and_parts (not (left_of e.low f.low)) (left_of e.low f.high) t.reaches in
           let k : class f true ≡ 2 = ap (λ l. kind l true) (subst (λ z. left_of z f.high ≡ true) (sym a) r.1) in
           let n : class e true ≡ 2 = ap (λ l. kind l true) q in

@@ -16,13 +16,14 @@ use Rattle.plane_graphs.proofs.Order.{Lt, lt_in, lt_out, lt_both, lt_never, lt_t
 use Rattle.slab_laws.specs.Darts.{ahead, back}
 use Rattle.slab_laws.specs.Skeleton.{inside, side}
 use Rattle.slab_laws.specs.Sound.{edge_between}
-use Rattle.slab_faces.proofs.Ints.{zero_back, same_sign}
+use Rattle.slab_faces.proofs.Ints.{swapped, zero_back, same_sign}
 use Rattle.slab_faces.proofs.Walls.{side-lower, side-upper}
 use Rattle.rotation_order.specs.EdgeParts.{lower_part, upper_part, IsTurningAs, IsParted}
 use Rattle.rotation_order.proofs.EdgeCuts.{parted}
 use Rattle.rotation_order.proofs.Factors.{same_above}
 use Rattle.sound_changes.specs.EdgePlaces.{dart_between}
 use Rattle.sound_changes.proofs.Collinear.{flat_on_line, on_line_of_ends}
+use Rattle.sound_changes.proofs.PartsCross.{second_only}
 use Rattle.sound_changes.proofs.PlaneParts.{on_whole}
 use Rattle.sound_changes.proofs.PointInside.{IsInside, inside_out, inside_in, MeanOf, mean_of, from_low, from_high, lower_side, upper_side}
 
@@ -50,10 +51,6 @@ both_ways p q n = by (tri p q)
     by (same e) = absurd (n e)
     by (more l) = down_edge p q l ∙ sym (up_edge q p l)
 
--- ---- a mean of two sides, one of which is nothing
-one_term : (x k a s b t : ℤ) → x *ℤ k ≡ a *ℤ s +ℤ b *ℤ t → a ≡ pos 0 → k *ℤ x ≡ t *ℤ b
-one_term x k a s b t e z = ring (x ∷ k ∷ []) (search sides depth 40 fits 20000) tt ∙ e ∙ (λ i. z i *ℤ s +ℤ b *ℤ t) ∙ ring (s ∷ t ∷ b ∷ []) (search sides depth 40 fits 20000) tt
-
 -- ---- a point inside an edge, and the parts there
 module _ (e : Edge) (t : Point) (L : IsProper e.low) (H : IsProper e.high) (T : IsProper t) (h : inside e t ≡ true) where
   pub within : IsInside e t
@@ -77,10 +74,10 @@ module _ (e : Edge) (t : Point) (L : IsProper e.low) (H : IsProper e.high) (T : 
 
   module _ (f : Edge) where
     from_lower : side f e.low ≡ pos 0 → mean.k *ℤ side f t ≡ mean.t *ℤ side f e.high
-    from_lower z = one_term (side f t) mean.k (side f e.low) mean.s (side f e.high) mean.t (from_low e t mean f) z
+    from_lower z = second_only (side f t) mean.k (side f e.low) mean.s (side f e.high) mean.t (from_low e t mean f) z
 
     from_upper : side f e.high ≡ pos 0 → mean.k *ℤ side f t ≡ mean.s *ℤ side f e.low
-    from_upper z = one_term (side f t) mean.k (side f e.high) mean.t (side f e.low) mean.s (from_high e t mean f) z
+    from_upper z = second_only (side f t) mean.k (side f e.high) mean.t (side f e.low) mean.s (from_high e t mean f) z
 
     pub on_one_line : side f e.low ≡ pos 0 → side f e.high ≡ pos 0 → side f t ≡ pos 0
     on_one_line a b = zero_back mean.k (side f t) mean.k_pos (from_lower a ∙ (λ i. mean.t *ℤ b i) ∙ *ℤ-zero mean.t)
@@ -166,9 +163,6 @@ scaled k a b A B K e f (inr h) = inr (zero_back k b K (f ∙ h.0), lt_is _ _ (sa
 no_terms : (s t : ℤ) → pos 0 *ℤ s +ℤ pos 0 *ℤ t ≡ pos 0
 no_terms s t = ring (s ∷ t ∷ []) (search sides depth 40 fits 20000) tt
 
-other_factor : (k s : ℤ) → k *ℤ s ≡ s *ℤ k
-other_factor k s = ring (k ∷ s ∷ []) (search sides depth 40 fits 20000) tt
-
 as_weighed : (a c : ℤ) → a +ℤ c ≡ a *ℤ pos 1 +ℤ c *ℤ pos 1
 as_weighed a c = ring (a ∷ c ∷ []) (search sides depth 40 fits 20000) tt
 
@@ -191,7 +185,7 @@ module _ (p q : Point) (P : IsProper p) (Q : IsProper q) where
   on_line : side whole middle ≡ pos 0
   on_line =
       zero_back mean_there.k (side whole middle) mean_there.k_pos
-      (other_factor mean_there.k (side whole middle) ∙ from_low whole middle mean_there whole ∙ (λ i. side-lower whole i *ℤ mean_there.s +ℤ side-upper whole i *ℤ mean_there.t) ∙ no_terms mean_there.s mean_there.t)
+      (swapped mean_there.k (side whole middle) ∙ from_low whole middle mean_there whole ∙ (λ i. side-lower whole i *ℤ mean_there.s +ℤ side-upper whole i *ℤ mean_there.t) ∙ no_terms mean_there.s mean_there.t)
 
   in_order : Lt p q → (t : Point) × IsProper t × (inside (record { low = p; high = q }) t ≡ true)
   in_order l =

@@ -1,7 +1,6 @@
 -- A plane graph, and a point that is none of its vertices as one more.
 use Rattle.std.proofs.Common.{◌≡◌, ◌≢◌, ◌↔◌, ◌⊎◌, ◌+◌, Bool, false, cond, List, ◌∷◌, sym, ◌∙◌, subst, inl, inr}
 use Rattle.std.specs.List.{Contains, count_by}
-use Rattle.std.proofs.lemmas.Bool.{false≢true}
 use Rattle.std.proofs.lemmas.List.Sums.{sum_by-cons}
 use Rattle.exact_plane.specs.Point.{Point}
 use Rattle.exact_plane.specs.PointOrder.{point_cmp}
@@ -11,10 +10,9 @@ use Rattle.plane_graphs.specs.Graph.{Edge, edge_cmp}
 use Rattle.plane_graphs.specs.Line.{IsProper}
 use Rattle.plane_graphs.proofs.Ascending.{IsAscending-place, to_member, from_member}
 use Rattle.plane_graphs.proofs.Lists.{in_place, of_place}
-use Rattle.plane_graphs.proofs.Order.{Tri, less, same, more, tri}
-use Rattle.slab_laws.specs.Skeleton.{Skeleton, IsPlaneSkeleton, same_point, precedes, inside}
+use Rattle.slab_laws.specs.Skeleton.{Skeleton, IsPlaneSkeleton, same_point, inside}
 use Rattle.slab_faces.specs.PointLaws.{IsApart}
-use Rattle.slab_faces.proofs.InnerPoints.{before_in}
+use Rattle.slab_faces.proofs.PlaneGraphs.{one_point}
 use Rattle.slab_faces.proofs.Sets.{set_cons}
 use Rattle.slab_faces.proofs.Shift.{same_sum}
 use Rattle.slab_faces.proofs.Turns.{member_cases}
@@ -28,15 +26,6 @@ pub record IsListedPlane (g : Skeleton) : Type 0 where
   pub edges : IsAscending edge_cmp g.edges
   pub proper : (x : Point) → Contains g.vertices x → IsProper x
   pub plane : IsPlaneSkeleton g
-
--- two points of which none comes before the other are one
-pub one_point : (p q : Point) → IsProper p → IsProper q → precedes p q ≡ false → precedes q p ≡ false → p ≡ q
-one_point p q P Q a b = by (tri p q)
-  where
-    by : Tri p q → p ≡ q
-    by (less l) = absurd (false≢true (sym a ∙ before_in p q P Q l))
-    by (same e) = e
-    by (more l) = absurd (false≢true (sym b ∙ before_in q p Q P l))
 
 module _ (g : Skeleton) (o : IsListedPlane g) (p : Point) (P : IsProper p) (new : ¬ Contains g.vertices p) where
   abbrev pub points : List Point

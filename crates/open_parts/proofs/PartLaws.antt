@@ -26,6 +26,7 @@ use Rattle.slab_laws.specs.Faces.{cells, face_labels, face_of}
 use Rattle.slab_faces.specs.PointLaws.{IsApart}
 use Rattle.slab_faces.proofs.FacesLemmas.{one_face}
 use Rattle.slab_faces.proofs.Member.{member_in}
+use Rattle.slab_faces.proofs.PlaneGraphs.{one_point}
 use Rattle.slab_faces.proofs.Parity.{same_point_is, same_point_refl}
 use Rattle.slab_faces.proofs.WallsLemmas.{cell_there}
 use Rattle.std.proofs.lemmas.Bool.{cases_Bool, false≢true}
@@ -44,13 +45,13 @@ use Rattle.dcel_records.specs.Spots.{IsInFace}
 use Rattle.open_parts.specs.Parts.{IsClearBetween, IsFaceBetween, IsOnSide, TellsFace, at_vertex, in_edge, in_face, HasDartInto, IsOnBoundary}
 use Rattle.open_parts.specs.PartLaws.{FacesAreTold, PartsHaveAFace, PartsHaveOneFace, PartsNameOneFace, FirstReachedIsOnBoundary}
 use Rattle.open_parts.proofs.Between.{IsNearer, nearer, up_edge, down_edge, both_ways, some_between, on_one_line, both_within}
-use Rattle.open_parts.proofs.MorePoints.{IsListedPlane, one_point}
+use Rattle.open_parts.proofs.MorePoints.{IsListedPlane}
 use Rattle.open_parts.proofs.OnTheWay.{told_there}
 use Rattle.open_parts.proofs.FromFaces.{from_face}
 use Rattle.open_parts.proofs.FromEdges.{from_edge}
 use Rattle.open_parts.proofs.FromVertices.{before_it}
-use Rattle.face_changes.specs.FacesByPairs.{Item, outside, beside, round, HasItem, cell_at, name_at, first_or, AreFacesTold}
-use Rattle.face_changes.proofs.FacesByPairs.{first_least, has_name, faces_told_by_pairs}
+use Rattle.face_changes.specs.FacesByPairs.{Item, outside, beside, round, HasItem, cell_at, name_at, first_or}
+use Rattle.face_changes.proofs.FacesByPairs.{first_least, has_name, told_by_pairs}
 use Rattle.face_changes.proofs.LinkedCycles.{dart_there}
 
 module _ (v : View) (s : IsGraphSound v) where
@@ -81,9 +82,6 @@ module _ (v : View) (s : IsGraphSound v) where
 
 pub parts_have_one_face : PartsHaveOneFace
 parts_have_one_face v f p q face s P Q clear k t T i = told v s f p q P Q clear t T i face k
-
-told_by_pairs : (v : View) (f : Faces) → IsSound v f → AreFacesTold v f
-told_by_pairs v f s = faces_told_by_pairs.pairs v f s.faced.0 s.graph s.complete s.cycled s.faced.1
 
 told_is_there : (v : View) (f : Faces) (p q : Point) (face : FaceId) → IsSound v f → TellsFace v f p q face → HasFace f face
 told_is_there v f p q _ s (at_vertex u None has e k) = s.complete.bare_has u ((s.complete.bare u has).1 k)

@@ -10,13 +10,14 @@ use Rattle.exact_plane.specs.Line.{side_of}
 use Rattle.exact_plane.specs.Point.{Point, IsPoint}
 use Rattle.exact_plane.specs.PointOrder.{point_cmp}
 use Rattle.exact_plane.specs.PointOrderLaws.{point_cmp_total}
+use Rattle.exact_plane.proofs.Orders.{at_most_itself, less_at_most, at_most_both}
 use Rattle.slab_faces.proofs.OverUnder.{under_in, under_out}
 use Rattle.edges_below.specs.Highest.{IsSpanning, IsHighestBelow, none_below, highest}
 use Rattle.edges_below.specs.Levels.{IsSeen}
 use Rattle.face_roots.proofs.BelowVertices.{reaching}
 use Rattle.face_roots.proofs.PointOrder.{before}
 use Rattle.exact_plane.specs.Span.{Span, IsSpan, LiesOn, IsAtMost}
-use Rattle.plane_graphs.specs.Ascending.{Member, IsAscending, ascending}
+use Rattle.plane_graphs.specs.Ascending.{Member, ascending}
 use Rattle.plane_graphs.specs.Fit.{IsFit}
 use Rattle.plane_graphs.specs.Graph.{Edge, Mark, graph, edges, edge_cmp, mark_cmp, vertices}
 use Rattle.plane_graphs.specs.Line.{IsProper, precedes as comes_first}
@@ -24,12 +25,13 @@ use Rattle.plane_graphs.specs.Piece.{Piece, Present, on}
 use Rattle.plane_graphs.proofs.Ascending.{ascending_unique, ascending_is, Member-ascending, ascending-Member, IsAscending-ascending, IsAscending-map, to_member, from_member}
 use Rattle.plane_graphs.proofs.Laws.{graph_is_plane}
 use Rattle.plane_graphs.proofs.Lists.{clash, in_map, of_map}
-use Rattle.plane_graphs.proofs.Marks.{On, on_in, on_out, on_between, le_lt, mark_in, mark_out, marks_ascend}
+use Rattle.plane_graphs.proofs.Marks.{On, on_in, on_out, on_between, le_lt, mark_in, mark_out}
 use Rattle.plane_graphs.proofs.Meaning.{edges_are, edges_ascend, edge_cmp_total, vertices_are}
 use Rattle.plane_graphs.proofs.Order.{lt_in, lt_out, lt_trans, lt_never, mark_cmp_total, mark_cmp_exact}
 use Rattle.plane_graphs.proofs.Sorting.{rises, member_at}
 use Rattle.plane_graphs.proofs.Vertices.{vertices_ascend}
 use Rattle.present_graphs.specs.Spans.{span_of_piece, lies_on}
+use Rattle.present_graphs.proofs.HoldingSpan.{graph_ascends}
 use Rattle.present_graphs.proofs.OnSpans.{on_lies, lies_on_piece, lies_on_in, lies_on_out}
 use Rattle.slab_laws.specs.Skeleton.{HasWeight, IsPlaneSkeleton, side, under}
 use Rattle.slab_laws.specs.Text.{skeleton}
@@ -53,7 +55,6 @@ use Rattle.sweep_graphs.specs.Edges.{ends_of, ends_cmp, edge_between, curve_at, 
 use Rattle.sweep_graphs.proofs.EdgeOrders.{ends_cmp_total, ends_cmp_exact, edges_rise}
 use Rattle.sweep_graphs.specs.TraceLaws.{IsTraceOf, TracesAreGraphs, EdgesBelowAreHighest}
 use Rattle.sweep_graphs.proofs.FrontEdges.{in_order_below}
-use Rattle.sweep_graphs.proofs.Tracing.{at_most_less, antisym, same_at_most}
 
 -- ---- pieces by place, with their curves
 curved_piece : (ks : List Piece) (i : ℕ) → i < length (map span_of_piece ks) → (k : Piece) × Member k ks × (piece_at (map span_of_piece ks) i ≡ span_of_piece k) × (slice_index_or (map (λ x. x.curve) ks) i 0 ≡ k.curve)
@@ -65,10 +66,6 @@ curved_place : (ks : List Piece) (k : Piece) → Member k ks → (i : ℕ) × (i
 curved_place [] k m = elim m [ ]
 curved_place (x ∷ ks) k (inl e) = (0, omega arith, ap span_of_piece (sym e), ap (λ y. y.curve) (sym e))
 curved_place (x ∷ ks) k (inr m) = let w = curved_place ks k m in (suc w.0, (let l = w.1 in omega arith), w.2, w.3)
-
-marks_up : (p : Present) → IsAscending mark_cmp (graph p).marks
-unfolding graph
-marks_up p = marks_ascend (vertices p) p.pieces
 
 module _ (p : Present) (fit : IsFit p) (spans : AreSpans (map span_of_piece p.pieces)) (pinned : (r : Point) → Member r p.pins → IsPoint r) where
   abbrev piece : ℕ → Span
@@ -218,7 +215,7 @@ module _ (p : Present) (fit : IsFit p) (spans : AreSpans (map span_of_piece p.pi
           s.0,
           record {
             step = s.1;
-            below = (s.1.within, record { begun = at_most_less (piece s.0).lower q (chain_less (piece s.0).lower f.low q s.1.first.1.from l); unended = less_chain q f.high (piece s.0).upper k s.1.second.1.upto }, up_out s.0 f.low f.high q s.1 (under_out f q h.lies_under));
+            below = (s.1.within, record { begun = less_at_most (piece s.0).lower q (chain_less (piece s.0).lower f.low q s.1.first.1.from l); unended = less_chain q f.high (piece s.0).upper k s.1.second.1.upto }, up_out s.0 f.low f.high q s.1 (under_out f q h.lies_under));
             low = l;
             high = k;
           },
@@ -227,8 +224,8 @@ module _ (p : Present) (fit : IsFit p) (spans : AreSpans (map span_of_piece p.pi
     -- two steps of one piece that go past q are one
     one_step : (i : ℕ) (a b c d : Point) → Step i a b → Step i c d → point_cmp a q ≡ Less → point_cmp q b ≡ Less → point_cmp c q ≡ Less → point_cmp q d ≡ Less → (a ≡ c) × (b ≡ d)
     one_step i a b c d s t aq qb cq qd = (
-      antisym a c (elim (in_order a c) [ inl h ↦ h | inr h ↦ absurd (t.none a s.first h (less_chain a q d aq (at_most_less q d qd))) ]) (elim (in_order c a) [ inl h ↦ h | inr h ↦ absurd (s.none c t.first h (less_chain c q b cq (at_most_less q b qb))) ]),
-      antisym b d (elim (in_order b d) [ inl h ↦ h | inr h ↦ absurd (s.none d t.second (less_chain a q d aq (at_most_less q d qd)) h) ]) (elim (in_order d b) [ inl h ↦ h | inr h ↦ absurd (t.none b s.second (less_chain c q b cq (at_most_less q b qb)) h) ]),
+      at_most_both a c (elim (in_order a c) [ inl h ↦ h | inr h ↦ absurd (t.none a s.first h (less_chain a q d aq (less_at_most q d qd))) ]) (elim (in_order c a) [ inl h ↦ h | inr h ↦ absurd (s.none c t.first h (less_chain c q b cq (less_at_most q b qb))) ]),
+      at_most_both b d (elim (in_order b d) [ inl h ↦ h | inr h ↦ absurd (s.none d t.second (less_chain a q d aq (less_at_most q d qd)) h) ]) (elim (in_order d b) [ inl h ↦ h | inr h ↦ absurd (t.none b s.second (less_chain c q b cq (less_at_most q b qb)) h) ]),
     )
 
     seen_of : (f : Edge) → Contains (skeleton (graph p)).edges f → IsSpanning f q → under f q ≡ true → IsSeen (skeleton (graph p)) q f
@@ -268,8 +265,8 @@ module _ (p : Present) (fit : IsFit p) (spans : AreSpans (map span_of_piece p.pi
       own_ends : LiesOn (piece j) (piece j).lower × LiesOn (piece j) (piece j).upper
       own_ends =
           let s = spans j h.0 in
-          let l = at_most_less (piece j).lower (piece j).upper s.way.ascending in
-          (record { on = s.way.lower_on; from = same_at_most (piece j).lower; upto = l }, record { on = s.way.upper_on; from = l; upto = same_at_most (piece j).upper })
+          let l = less_at_most (piece j).lower (piece j).upper s.way.ascending in
+          (record { on = s.way.lower_on; from = at_most_itself (piece j).lower; upto = l }, record { on = s.way.upper_on; from = l; upto = at_most_itself (piece j).upper })
 
       listed : (r : Point) → Event r → Among (vertices p) r
       listed r e = in_member (vertices p) r (from_member (vertices p) r (vertex_of r e))
@@ -307,7 +304,7 @@ module _ (p : Present) (fit : IsFit p) (spans : AreSpans (map span_of_piece p.pi
           let xl = lies_on_out (piece j) x.0 u.0 in
           let yl = lies_on_out (piece j) y.0 w.0 in
           let ev : (r : Point) → Among (vertices p) r → Event r = λ r m. event_of r (to_member (vertices p) r (member_in (vertices p) r m)) in
-          let low : point_cmp x.0 q ≡ Less = elim (in_order q x.0) [ inl k ↦ absurd (off x.0 xl (antisym x.0 q (at_most_of x.0 u.1) k)) | inr k ↦ k ] in
+          let low : point_cmp x.0 q ≡ Less = elim (in_order q x.0) [ inl k ↦ absurd (off x.0 xl (at_most_both x.0 q (at_most_of x.0 u.1) k)) | inr k ↦ k ] in
           let high : point_cmp q y.0 ≡ Less = (lt_out q y.0 w.1).is in (
             x.0,
             y.0,
@@ -315,7 +312,7 @@ module _ (p : Present) (fit : IsFit p) (spans : AreSpans (map span_of_piece p.pi
               within = h.0;
               first = (ev x.0 x.1.in', xl);
               second = (ev y.0 y.1.in', yl);
-              ahead = less_chain x.0 q y.0 low (at_most_less q y.0 high);
+              ahead = less_chain x.0 q y.0 low (less_at_most q y.0 high);
               none = λ r R c d. elim (in_order r q) [
                 | inl k ↦ false≢true (sym (x.1.best r (listed r R.0) (and_from (lies_on (piece j) r) (not (comes_first q r)) (lies_on_in (piece j) r R.1) (not_first r k))) ∙ ap is_lt c)
                 | inr k ↦ false≢true (sym (y.1.best r (listed r R.0) (and_from (lies_on (piece j) r) (comes_first q r) (lies_on_in (piece j) r R.1) (ap is_lt k))) ∙ ap is_lt d)
@@ -328,7 +325,7 @@ module _ (p : Present) (fit : IsFit p) (spans : AreSpans (map span_of_piece p.pi
     -- ---- from the last event on it that isn't beyond q
     module _ (j : ℕ) (h : PassesBelow (piece_at (map span_of_piece p.pieces)) (length (map span_of_piece p.pieces)) q j) (x : Point) (l : IsLastOn (piece_at (map span_of_piece p.pieces)) (length (map span_of_piece p.pieces)) p.pins (Some q) j x) where
       last_before : point_cmp x q ≡ Less
-      last_before = elim (in_order q x) [ inl k ↦ absurd (off j h x l.on.1 (antisym x q l.upto k)) | inr k ↦ k ]
+      last_before = elim (in_order q x) [ inl k ↦ absurd (off j h x l.on.1 (at_most_both x q l.upto k)) | inr k ↦ k ]
 
       -- the step from there goes past q
       ends_past : (b : Point) → Step j x b → point_cmp q b ≡ Less
@@ -336,7 +333,7 @@ module _ (p : Present) (fit : IsFit p) (spans : AreSpans (map span_of_piece p.pi
 
       -- and a step that goes past q is from there
       starts_there : (a b : Point) → Step j a b → point_cmp a q ≡ Less → point_cmp q b ≡ Less → a ≡ x
-      starts_there a b s low high = antisym a x (l.best a s.first (at_most_less a q low)) (elim (in_order x a) [ inl k ↦ k | inr k ↦ absurd (s.none x l.on k (less_chain x q b last_before (at_most_less q b high))) ])
+      starts_there a b s low high = at_most_both a x (l.best a s.first (less_at_most a q low)) (elim (in_order x a) [ inl k ↦ k | inr k ↦ absurd (s.none x l.on k (less_chain x q b last_before (less_at_most q b high))) ])
 
   -- ---- the whole
   module _ (t : Trace) (h : IsTrace (map span_of_piece p.pieces) p.pins t) where
@@ -357,7 +354,7 @@ module _ (p : Present) (fit : IsFit p) (spans : AreSpans (map span_of_piece p.pi
     ]
       where
         never_less : (x : Point) → point_cmp x x ≡ Less → ⊥
-        never_less x c = not_both x x c (same_at_most x)
+        never_less x c = not_both x x c (at_most_itself x)
 
     below_at : (k : ℕ) (o : Option OpenStretch) → k < length t.points → slice_index_or t.below k None ≡ o → IsOpenBelow (piece_at (map span_of_piece p.pieces)) (length (map span_of_piece p.pieces)) p.pins t.points (point_at t.points k) o
     below_at k o l z = subst (IsOpenBelow (piece_at (map span_of_piece p.pieces)) (length (map span_of_piece p.pieces)) p.pins t.points (point_at t.points k)) z (h.below_are k l)
@@ -392,7 +389,7 @@ module _ (p : Present) (fit : IsFit p) (spans : AreSpans (map span_of_piece p.pi
 
     marks_told : ascending mark_cmp (map (mark_along p t.points) t.stretches) ≡ (graph p).marks
     marks_told =
-        sym (ascending_is mark_cmp mark_cmp_total (map (mark_along p t.points) t.stretches) (graph p).marks (λ x y _ _ q. mark_cmp_exact x y q) (marks_up p)
+        sym (ascending_is mark_cmp mark_cmp_total (map (mark_along p t.points) t.stretches) (graph p).marks (λ x y _ _ q. mark_cmp_exact x y q) (graph_ascends p)
         (λ m k.
         let w = mark_step m k in
         let s = h.complete w.0 m.low m.high w.1 in

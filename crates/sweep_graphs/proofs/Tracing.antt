@@ -12,6 +12,7 @@ use Rattle.exact_plane.specs.Point.{Point}
 use Rattle.exact_plane.specs.PointOrder.{point_cmp}
 use Rattle.exact_plane.specs.PointOrderLaws.{same_point}
 use Rattle.exact_plane.specs.Span.{Span, IsSpan, LiesOn, IsAtMost}
+use Rattle.exact_plane.proofs.Orders.{at_most_itself, less_at_most, at_most_both}
 use Rattle.plane_graphs.specs.Ascending.{Member, IsAscending}
 use Rattle.plane_graphs.proofs.Lists.{in_left, in_right, in_either, in_map, of_map}
 use Rattle.sweep_events.specs.declared.event.Event.{Event}
@@ -28,23 +29,6 @@ use Rattle.sweep_graphs.specs.Traces.{stretch_to, open_at, Traced, no_point, poi
 -- ---- points in order
 on_or_not : (z : ℤ) → (z ≡ pos 0) ⊎ (z ≡ pos 0 → ⊥)
 on_or_not z = by_lt_z z (pos 0) (λ h. inr (λ e. absurd (omega (arith, ints)))) (λ h. by_lt_z (pos 0) z (λ k. inr (λ e. absurd (omega (arith, ints)))) (λ k. inl (omega (arith, ints))))
-
-pub antisym : (p q : Point) → IsAtMost p q → IsAtMost q p → p ≡ q
-antisym p q h k = at (point_cmp p q) refl
-  where
-    at : (o : Ordering) → point_cmp p q ≡ o → p ≡ q
-    at Less e = absurd (not_both p q e k)
-    at Equal e = same_point p q e
-    at Greater e = absurd (clash (subst (λ x. is_le x ≡ true) e h))
-      where
-        clash : is_le Greater ≡ true → ⊥
-        clash f = cc
-
-pub same_at_most : (p : Point) → IsAtMost p p
-same_at_most p = elim (in_order p p) [ inl h ↦ h | inr l ↦ ap is_le l ]
-
-pub at_most_less : (p q : Point) → point_cmp p q ≡ Less → IsAtMost p q
-at_most_less p q h = ap is_le h
 
 module _ (pieces : List Span) (pins : List Point) (spans : AreSpans pieces) (last : Option Point) (old new : Traced) (e : Event) (under : Option ℕ) where
   abbrev piece : ℕ → Span
@@ -77,7 +61,7 @@ module _ (pieces : List Span) (pins : List Point) (spans : AreSpans pieces) (las
     before_old r E h = elim (upto_or last r) [ inl k ↦ k | inr k ↦ absurd (not_both r q h (next.first r E k)) ]
 
     upto_old : (r : Point) → IsEvent (piece_at pieces) (length pieces) pins r → IsAtMost r q → IsUpto (piece_at pieces) (length pieces) pins last r ⊎ (r ≡ q)
-    upto_old r E h = elim (upto_or last r) [ inl k ↦ inl k | inr k ↦ inr (antisym r q h (next.first r E k)) ]
+    upto_old r E h = elim (upto_or last r) [ inl k ↦ inl k | inr k ↦ inr (at_most_both r q h (next.first r E k)) ]
 
     before : (r : Point) → IsUpto (piece_at pieces) (length pieces) pins last r → point_cmp r q ≡ Less
     before r h = old_before last r h next.beyond
@@ -93,8 +77,8 @@ module _ (pieces : List Span) (pins : List Point) (spans : AreSpans pieces) (las
 
     points_out : (r : Point) → Member r new.points → IsEvent (piece_at pieces) (length pieces) pins r × IsAtMost r q
     points_out r m = elim (in_either r old.points (e.point ∷ []) (subst (Member r) noted.points m)) [
-      | inl a ↦ (let k = (t.points_are r).0 a in (k.0, at_most_less r q (before r k.1)))
-      | inr a ↦ elim a [ inl k ↦ subst (λ z. IsEvent (piece_at pieces) (length pieces) pins z × IsAtMost z q) (sym k) (next.event, same_at_most q) | inr k ↦ absurd k ]
+      | inl a ↦ (let k = (t.points_are r).0 a in (k.0, less_at_most r q (before r k.1)))
+      | inr a ↦ elim a [ inl k ↦ subst (λ z. IsEvent (piece_at pieces) (length pieces) pins z × IsAtMost z q) (sym k) (next.event, at_most_itself q) | inr k ↦ absurd k ]
     ]
 
     points_in : (r : Point) → IsEvent (piece_at pieces) (length pieces) pins r → IsAtMost r q → Member r new.points
@@ -132,7 +116,7 @@ module _ (pieces : List Span) (pins : List Point) (spans : AreSpans pieces) (las
         let a = (event.ending.member i).0 m in
         let s = span i a.0 in
         let l : point_cmp (piece i).lower q ≡ Less = subst (λ z. point_cmp (piece i).lower z ≡ Less) a.1 s.way.ascending in
-        (a.0, l, subst (LiesOn (piece i)) a.1 (record { on = s.way.upper_on; from = at_most_less (piece i).lower (piece i).upper s.way.ascending; upto = same_at_most (piece i).upper }))
+        (a.0, l, subst (LiesOn (piece i)) a.1 (record { on = s.way.upper_on; from = less_at_most (piece i).lower (piece i).upper s.way.ascending; upto = at_most_itself (piece i).upper }))
     coming i (inr m) = let a = (event.passing.member i).0 m in (a.0, a.1.after, a.1.on)
 
     came : (i : ℕ) → i < n → point_cmp (piece i).lower q ≡ Less → LiesOn (piece i) q → Member i e.ends ⊎ Member i e.passes
@@ -211,7 +195,7 @@ module _ (pieces : List Span) (pins : List Point) (spans : AreSpans pieces) (las
           let x = point_at old.points (slice_index_or old.lasts i 0) in
           let best : IsAtMost a x = l.0.best a s.first (before_old a s.first.0 ahead) in
           let worse : IsAtMost x a = elim (in_order x a) [ inl w ↦ w | inr w ↦ absurd (s.none x l.0.on w (subst (λ z. point_cmp x z ≡ Less) (sym k) (before x l.0.upto))) ] in
-          (stretch_to old.lasts (length old.points) i, there i m, refl, still_at (slice_index_or old.lasts i 0) l.1 ∙ antisym x a worse best, now_at ∙ sym k)
+          (stretch_to old.lasts (length old.points) i, there i m, refl, still_at (slice_index_or old.lasts i 0) l.1 ∙ at_most_both x a worse best, now_at ∙ sym k)
     ]
 
     -- ---- the last events on pieces
@@ -224,31 +208,31 @@ module _ (pieces : List Span) (pins : List Point) (spans : AreSpans pieces) (las
     lasts_are : (i : ℕ) → i < n → IsMet q (piece i) → IsLastOn (piece_at pieces) (length pieces) pins (Some q) i (point_at new.points (slice_index_or new.lasts i 0)) × (slice_index_or new.lasts i 0 < length new.points)
     lasts_are i h m = elim (on_or_not (side_of (piece i).line q)) [
       | inl on ↦
-          let o : LiesOn (piece i) q = record { on = on; from = m.begun; upto = at_most_less q (piece i).upper m.unended } in
+          let o : LiesOn (piece i) q = record { on = on; from = m.begun; upto = less_at_most q (piece i).upper m.unended } in
           let place : Member i e.passes ⊎ Member i e.starts = elim (in_order q (piece i).lower) [
-            | inl k ↦ inr ((event.starting.member i).1 (h, antisym (piece i).lower q m.begun k))
+            | inl k ↦ inr ((event.starting.member i).1 (h, at_most_both (piece i).lower q m.begun k))
             | inr k ↦ elim (came i h k o) [
-              | inl a ↦ absurd (not_both q (piece i).upper m.unended (subst (λ z. IsAtMost z q) (sym ((event.ending.member i).0 a).1) (same_at_most q)))
+              | inl a ↦ absurd (not_both q (piece i).upper m.unended (subst (λ z. IsAtMost z q) (sym ((event.ending.member i).0 a).1) (at_most_itself q)))
               | inr a ↦ inl a
             ]
           ] in
           let s = noted.set i place in
-          let l : IsLastOn (piece_at pieces) (length pieces) pins (Some q) i q = record { on = (next.event, o); upto = same_at_most q; best = λ r R u. u } in
+          let l : IsLastOn (piece_at pieces) (length pieces) pins (Some q) i q = record { on = (next.event, o); upto = at_most_itself q; best = λ r R u. u } in
           let u = longer in
           (subst (λ z. IsLastOn (piece_at pieces) (length pieces) pins (Some q) i z) (sym (ap (point_at new.points) s ∙ now_at)) l, omega arith)
       | inr off ↦
           let none = no_place i off in
           let s = noted.kept i none.0 none.1 in
           let a : point_cmp (piece i).lower q ≡ Less = elim (in_order q (piece i).lower) [
-            | inl k ↦ absurd (off (subst (λ z. side_of (piece i).line z ≡ pos 0) (antisym (piece i).lower q m.begun k) (span i h).way.lower_on))
+            | inl k ↦ absurd (off (subst (λ z. side_of (piece i).line z ≡ pos 0) (at_most_both (piece i).lower q m.begun k) (span i h).way.lower_on))
             | inr k ↦ k
           ] in
-          let l = t.lasts_are i h (was_met i h a (at_most_less q (piece i).upper m.unended)) in
+          let l = t.lasts_are i h (was_met i h a (less_at_most q (piece i).upper m.unended)) in
           let u = longer in
           let x = point_at old.points (slice_index_or old.lasts i 0) in
           let k : IsLastOn (piece_at pieces) (length pieces) pins (Some q) i x = record {
             on = l.0.on;
-            upto = at_most_less x q (before x l.0.upto);
+            upto = less_at_most x q (before x l.0.upto);
             best = λ r R w. elim (upto_old r R.0 w) [ inl y ↦ l.0.best r R y | inr y ↦ absurd (off (subst (λ z. side_of (piece i).line z ≡ pos 0) y R.1.on)) ];
           } in
           let b = l.1 in

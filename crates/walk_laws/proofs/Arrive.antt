@@ -1,9 +1,9 @@
 -- The face directly below a point that isn't apart borders what is at the point.
-use Rattle.std.proofs.Common.{◌≡◌, ℕ, ◌≤◌, Bool, true, false, cond, arith, refl, sym, ap, ◌∙◌, ◌⊎◌, inl, inr, subst, List}
+use Rattle.std.proofs.Common.{◌≡◌, ℕ, ◌≤◌, Bool, true, false, cond, arith, refl, sym, ap, ◌∙◌, ◌⊎◌, inl, inr, subst}
 use Rattle.std.specs.Prelude.{ℤ, pos, not, ◌&&◌, ◌||◌}
-use Rattle.std.specs.List.{count_by, Contains}
+use Rattle.std.specs.List.{Contains}
 use Rattle.std.proofs.lemmas.Int.{ints}
-use Rattle.std.proofs.lemmas.Bool.{false≢true, and_parts, and_from, not-true, false_from_ne_true, cases_Bool, cases_lt}
+use Rattle.std.proofs.lemmas.Bool.{false≢true, and_parts, and_from, not-true, false_from_ne_true, cases_Bool}
 use lib.Signed.{lt_z}
 use Rattle.exact_plane.specs.Point.{Point}
 use Rattle.plane_graphs.specs.Graph.{Edge}
@@ -13,14 +13,14 @@ use Rattle.slab_laws.specs.Meets.{SameFace, IsOnWall}
 use Rattle.slab_laws.specs.Skeleton.{Skeleton, HasWeight, left_of, lower_than, side, over, under, precedes, inside, same_point, IsPlaneSkeleton}
 use Rattle.slab_laws.specs.Slabs.{place, slab_left, slab_right, left_count, right_count, left_below, right_below, left_bottom, right_bottom, left_cell, right_cell, reaches_left, reaches_right, backward_cell}
 use Rattle.slab_faces.proofs.Sums.{each, sum_by-same, fewer}
-use Rattle.slab_faces.proofs.Found.{found}
 use Rattle.slab_faces.proofs.Parity.{same_point_is, same_point_refl}
 use Rattle.slab_faces.proofs.Walls.{left_of-irrefl, lower_than-irrefl, left_of-after, run_positive, over-lower, over-upper, side-lower, side-upper, side_rises}
 use Rattle.slab_faces.proofs.Cells.{not_right_trans, right_few, left_side}
 use Rattle.slab_faces.proofs.Upright.{not_inside}
 use Rattle.slab_faces.proofs.Turns.{face_trans, face_sym, face_at, le_antisym, on_own_wall, below_to_last, level_at}
 use Rattle.slab_faces.proofs.Nudge.{right_inside, left_inside, is_slab_left}
-use Rattle.slab_faces.proofs.EveryFace.{passing}
+use Rattle.slab_faces.proofs.InnerPoints.{no_sign}
+use Rattle.slab_faces.proofs.EveryFace.{some_or_none}
 use Rattle.slab_faces.proofs.Corners.{IsAlong, along_right, meets_below, alike, same_after}
 use Rattle.slab_faces.proofs.Points.{before_left, before_lower, before_weak, before_on_wall, not_before_left, not_before_lower, before_asym, before_irrefl}
 use Rattle.slab_faces.proofs.OverUnder.{under_in, under_out, not_over, on_neither, zero_not_over, under_not_over}
@@ -43,22 +43,12 @@ pub data IsMet (g : Skeleton) (q : Point) : Type 0 where
   along : (h : Edge) → Contains g.edges h → IsAtEdge h q → SameFace g (right_bottom g q) (left_of_dart g (back h)) → IsMet g q
   alone : Contains g.vertices q → ((e : Edge) → Contains g.edges e → (e.low ≡ q) ⊎ (e.high ≡ q) → ⊥) → SameFace g (right_bottom g q) (left_cell g q) → IsMet g q
 
-some_or_none : {X : Type 0} (p : X → Bool) (xs : List X) → ((x : X) × Contains xs x × (p x ≡ true)) ⊎ ((x : X) → Contains xs x → p x ≡ false)
-some_or_none p xs =
-    elim (cases_lt 0 (count_by p xs)) [
-      | inl l ↦ inl (found p xs l)
-      | inr l ↦ inr (λ x in'. false_from_ne_true _ (λ h. let k = passing p xs x in' h in absurd (omega arith)))
-    ]
-
 zero_of : (z : ℤ) → (not (lt_z z (pos 0)) && not (lt_z (pos 0) z)) ≡ true → z ≡ pos 0
 zero_of z h =
     let a = and_parts (not (lt_z z (pos 0))) (not (lt_z (pos 0) z)) h in
     let b = not-true _ a.0 in
     let c = not-true _ a.1 in
     omega (arith, ints)
-
-zero_in : (z : ℤ) → z ≡ pos 0 → (not (lt_z z (pos 0)) && not (lt_z (pos 0) z)) ≡ true
-zero_in z e = rw e refl
 
 same_place : (p q : Point) → p ≡ q → IsSamePlace p q
 same_place p q e = record { not_before = subst (λ z. precedes p z ≡ false) e (before_irrefl p); not_after = subst (λ z. precedes z p ≡ false) e (before_irrefl p) }
@@ -88,7 +78,7 @@ module _ (g : Skeleton) (q : Point) (plane : IsPlaneSkeleton g) (T : HasWeight q
           let long = ((S g q plane T).passes h h H H r r).e_long in
           let to = before_left q h.high a.1 in
           elim (cases_Bool (precedes h.low q)) [
-            | inl k ↦ within (and_from _ _ (and_from _ _ k to) (zero_in (side h q) z))
+            | inl k ↦ within (and_from _ _ (and_from _ _ k to) (no_sign (side h q) z))
             | inr k ↦
                 let l = not_before_left h.low q k in
                 let lo : lower_than q h.low ≡ false = sym (over-lower h q p.0 long l n) ∙ zero_not_over h q z in
@@ -238,7 +228,7 @@ module _ (g : Skeleton) (q : Point) (plane : IsPlaneSkeleton g) (T : HasWeight q
                     let p = plane.proper_edge f F in
                     let long = left_of-after f.low q f.high p.0 T p.1 n a.1 in
                     elim (cases_Bool (precedes f.low q)) [
-                      | inl k ↦ false≢true (sym (plane.clear f q F V) ∙ and_from _ _ (and_from _ _ k (before_left q f.high a.1)) (zero_in (side f q) z))
+                      | inl k ↦ false≢true (sym (plane.clear f q F V) ∙ and_from _ _ (and_from _ _ k (before_left q f.high a.1)) (no_sign (side f q) z))
                       | inr k ↦
                           let l = not_before_left f.low q k in
                           let lo : lower_than q f.low ≡ false = sym (over-lower f q p.0 long l n) ∙ zero_not_over f q z in

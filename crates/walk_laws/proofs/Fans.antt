@@ -16,6 +16,7 @@ use Rattle.slab_faces.proofs.Order.{below_from, below_asym, gap_positive}
 use Rattle.slab_faces.proofs.Cells.{IsSideOf}
 use Rattle.slab_faces.proofs.Slabs.{IsSlab, place_less}
 use Rattle.slab_faces.proofs.Along.{below_self}
+use Rattle.slab_faces.proofs.Outside.{place_in}
 use Rattle.slab_faces.proofs.EveryFace.{edge_at}
 use Rattle.slab_faces.proofs.OverUnder.{under_out, not_under, zero_not_under, zero_not_over, on_neither}
 
@@ -31,10 +32,6 @@ gap_wide f e q F E x y =
 both_false : (b : Bool) → (b && false) ≡ false
 both_false true = refl
 both_false false = refl
-
-pub place_in : (g : Skeleton) (i : ℕ) (e : Edge) → IsPlaneSkeleton g → Contains g.edges e → spans g i e ≡ true → place g i e < width g i
-unfolding width
-place_in g i e plane E h = fewer_than (λ f. spans g i f && below f e) (spans g i) g.edges e E (rw (below_self g e plane E) (both_false (spans g i e))) h (λ f F k. (and_parts (spans g i f) (below f e) k).0)
 
 module _ (g : Skeleton) (t : Point) (i : ℕ) (M : Point) (reach : Edge → Bool) (plane : IsPlaneSkeleton g) (s : IsSideOf g t i reach) (slab : IsSlab g i M) where
   -- how many are strictly below t

@@ -6,7 +6,6 @@ use Rattle.std.proofs.lemmas.Bool.{false≢true, false_from_ne_true}
 use Rattle.exact_plane.specs.Point.{Point}
 use Rattle.plane_graphs.specs.Graph.{Edge}
 use Rattle.plane_graphs.specs.Line.{IsProper}
-use Rattle.plane_graphs.proofs.Order.{Tri, less, same, more, tri}
 use Rattle.slab_laws.specs.declared.names.DartId.{DartId}
 use Rattle.slab_laws.specs.Cycles.{left_of_dart}
 use Rattle.slab_laws.specs.Darts.{Dart, ahead, back, source, target}
@@ -16,12 +15,12 @@ use Rattle.slab_laws.specs.Skeleton.{inside}
 use Rattle.slab_laws.specs.Slabs.{left_cell, right_below, right_bottom}
 use Rattle.slab_laws.specs.Sound.{skeleton_of, edge_in, dart_in}
 use Rattle.slab_laws.specs.View.{View, Faces, HasDart, HasBareFace, IsOutOf, point_in, source_in, target_in, twin_in, cycle_in, face_in}
-use Rattle.slab_faces.proofs.InnerPoints.{before_in}
+use Rattle.slab_faces.proofs.PlaneGraphs.{one_point}
 use Rattle.slab_faces.proofs.Turns.{face_trans, face_sym}
 use Rattle.sound_changes.proofs.KnownNames.{point_known, known_point, known_edge}
 use Rattle.sound_views.proofs.NamedDarts.{names_are_darts, edge_known}
-use Rattle.face_changes.specs.FacesByPairs.{Item, outside, beside, round, HasItem, cell_at, name_at, AreFacesTold}
-use Rattle.face_changes.proofs.FacesByPairs.{faces_told_by_pairs}
+use Rattle.face_changes.specs.FacesByPairs.{Item, outside, beside, round, HasItem, cell_at, name_at}
+use Rattle.face_changes.proofs.FacesByPairs.{told_by_pairs}
 use Rattle.face_changes.proofs.LinkedCycles.{dart_there}
 use Rattle.dcel_records.specs.declared.spot.Spot.TheVariants.{Face}
 use Rattle.dcel_records.specs.Spots.{IsInFace}
@@ -36,15 +35,6 @@ use Rattle.walk_laws.specs.Laws.{WalkEndsInFace, HighestTellsFace}
 use Rattle.walk_laws.specs.Walks.{face_above, height, IsBoundaryPassed}
 use Rattle.walk_laws.proofs.Arrive.{IsSamePlace, IsAtEdge, at_low, at_high, within, IsMet, along, alone, met_within, met_vertex}
 use Rattle.walk_laws.proofs.Stack.{IsNoneAhead, complete, at_bottom, in_level}
-
--- two points in one place are one
-one_point : (p q : Point) → IsProper p → IsProper q → IsSamePlace p q → p ≡ q
-one_point p q P Q s = by (tri p q)
-  where
-    by : Tri p q → p ≡ q
-    by (less l) = absurd (false≢true (sym s.not_before ∙ before_in p q P Q l))
-    by (same e) = e
-    by (more l) = absurd (false≢true (sym s.not_after ∙ before_in q p Q P l))
 
 -- an end of a dart is an end of its edge
 ends : (y : Edge) (b : Bool) (q : Point) → source (record { edge = y; forward = b }) ≡ q → (y.low ≡ q) ⊎ (y.high ≡ q)
@@ -77,14 +67,11 @@ pub seen_at_most : (v : View) (q : Point) (o : Option DartId) → IsSeenOrNone v
 seen_at_most v q None p = tt
 seen_at_most v q (Some d) p = p.1
 
-pub told : (v : View) (f : Faces) → IsSound v f → AreFacesTold v f
-told v f s = faces_told_by_pairs.pairs v f s.faced.0 s.graph s.complete s.cycled s.faced.1
-
 module _ (v : View) (f : Faces) (q : Point) (o : Option DartId) (s : IsSound v f) (Q : IsProper q) (p : IsSeenOrNone v q o) where
   -- what is in the face over the edge has its name
   named_so : (i : Item) → HasItem v i → SameFace (skeleton_of v) (cell_over (skeleton_of v) (edge_along v o)) (cell_at v i) → name_at f i ≡ face_above f o
   named_so i has m =
-      ((told v f s).same i (item_over o) has (item_there v q o p)).1 (face_trans (skeleton_of v) _ _ _ (face_sym (skeleton_of v) _ _ m) (item_cell v q o p)) ∙ item_name f o
+      ((told_by_pairs v f s).same i (item_over o) has (item_there v q o p)).1 (face_trans (skeleton_of v) _ _ _ (face_sym (skeleton_of v) _ _ m) (item_cell v q o p)) ∙ item_name f o
 
   -- the dart from the upper to the lower end of an edge, where the face is on its left
   record IsBack (h : Edge) : Type 0 where
@@ -127,8 +114,8 @@ module _ (v : View) (f : Faces) (q : Point) (o : Option DartId) (s : IsSound v f
         let u : point_in v (source_in v d.dart) ≡ h.high = sym (names_are_darts.source v d.dart s.graph d.has) ∙ ap source d.is in
         let w : point_in v (target_in v d.dart) ≡ h.low = sym (names_are_darts.target v d.dart s.graph d.has) ∙ ap target d.is in
         by x
-        (λ z. t.off_target (w ∙ one_point h.low q (subst IsProper w (s.graph.drawn.proper _ W)) Q z))
-        (λ z. t.off_source (u ∙ one_point h.high q (subst IsProper u (s.graph.drawn.proper _ S)) Q z))
+        (λ z. t.off_target (w ∙ one_point h.low q (subst IsProper w (s.graph.drawn.proper _ W)) Q z.not_before z.not_after))
+        (λ z. t.off_source (u ∙ one_point h.high q (subst IsProper u (s.graph.drawn.proper _ S)) Q z.not_before z.not_after))
         (λ z. false≢true (sym t.off_edge ∙ subst (λ y. inside y q ≡ true) (sym e) z))
       where
         by : {h : Edge} → IsAtEdge h q → (IsSamePlace h.low q → ⊥) → (IsSamePlace h.high q → ⊥) → (inside h q ≡ true → ⊥) → ⊥

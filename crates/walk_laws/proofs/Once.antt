@@ -19,10 +19,10 @@ use Rattle.slab_laws.specs.View.{View, Faces, DartRecord, HasDart, HasFace, dart
 use Rattle.sound_views.proofs.NamedDarts.{edge_known}
 use Rattle.sound_views.proofs.NameTables.{has_name, name_has}
 use Rattle.edges_below.specs.Levels.{level}
+use Rattle.face_changes.proofs.FacesByPairs.{told_by_pairs}
 use Rattle.face_location.specs.Below.{IsSeenDart, IsSeenOrNone}
 use Rattle.walk_laws.specs.Laws.{FacesAreVisitedOnce}
 use Rattle.walk_laws.specs.Walks.{face_above, height, IsBoundaryPassed, is_seen, leads_to, is_ahead, size_ahead}
-use Rattle.walk_laws.proofs.Named.{told}
 use Rattle.walk_laws.proofs.Stack.{in_level}
 
 -- a sum that is less at one element by some number
@@ -91,7 +91,7 @@ module _ (v : View) (f : Faces) (q : Point) (s : IsSound v f) where
   ]
 
   has_face : (o : Option DartId) → IsSeenOrNone v q o → HasFace f (face_above f o)
-  has_face None p = (told v f s).there
+  has_face None p = (told_by_pairs v f s).there
   has_face (Some d) p = s.complete.face_has (cycle_in f d) (s.complete.cycle_has d p.0.0)
 
   last : (size : FaceId → ℕ) (o : Option DartId) → IsSeenOrNone v q o → size (face_above f o) ≤ size_ahead size v f q o

@@ -28,6 +28,7 @@ use Rattle.arr_notes.specs.Curves.{IsForward, is_forward}
 use Rattle.arr_notes.specs.CycleNames.{dart_names}
 use Rattle.exact_plane.proofs.Meetings.{same_line-is}
 use Rattle.locate_naive.proofs.Within.{dart_in_out}
+use Rattle.slab_faces.proofs.Sums.{sum_by-plus}
 use Rattle.plane_graphs.proofs.Lists.{of_map}
 use Rattle.sound_views.proofs.NameTables.{name_has}
 use Rattle.zone_walk.specs.Walk.{goes_on, stop_looks}
@@ -70,15 +71,6 @@ module _ {X Y : Type 0} (R : X → Y → Bool) (T : Y → Bool) where
       let c = f y (inl refl) in
       let d = count_step T y ys in
       omega arith
-
-sum_both : {X : Type 0} (p q : X → ℕ) (xs : List X) → sum_by (λ x. p x + q x) xs ≡ sum_by p xs + sum_by q xs
-sum_both p q [] = refl
-sum_both p q (x ∷ xs) =
-    let a = sum_by-cons (λ z. p z + q z) x xs in
-    let b = sum_by-cons p x xs in
-    let c = sum_by-cons q x xs in
-    let d = sum_both p q xs in
-    omega arith
 
 -- ---- in an ascending list, those that are one of two points count two at most
 module _ (q : Point → Bool) where
@@ -269,6 +261,6 @@ module _ (v : View) (s : IsGraphSound v) (g : Segment) (c : IsCourse g) where
 
   pub looks_fit : sum_by (stop_looks v g) (meeting_points v g) ≤ sum_by (degree_at v) (meeting_points v g) + 2 * edges_met v g
   looks_fit =
-      let a = sum_both (degree_at v) (λ p. count_by (goes_on v g p) (dart_names v)) (meeting_points v g) in
+      let a = sum_by-plus (degree_at v) (λ p. count_by (goes_on v g p) (dart_names v)) (meeting_points v g) in
       let b = by_columns (goes_on v g) (has_point v g) (meeting_points v g) (dart_names v) fits in
       omega arith

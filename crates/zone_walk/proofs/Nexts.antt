@@ -16,10 +16,9 @@ use Rattle.plane_graphs.specs.Line.{IsProper, precedes}
 use Rattle.plane_graphs.proofs.Ascending.{All-member, to_member, from_std}
 use Rattle.plane_graphs.proofs.Lists.{clash, in_filter}
 use Rattle.plane_graphs.proofs.Marks.{le_lt_lt}
-use Rattle.plane_graphs.proofs.Order.{Lt, lt_out, lt_in, lt_trans, lt_never, Tri, tri}
+use Rattle.plane_graphs.proofs.Order.{Lt, lt_out, lt_in, lt_trans, lt_never, Tri, tri, curve_out as same_number}
 use Rattle.plane_graphs.proofs.Order.Tri.{less, same, more}
-use Rattle.integers.proofs.Tests.{not_true, is_equal, number_ties}
-use Rattle.std.proofs.lemmas.Bool.{eqb-true}
+use Rattle.integers.proofs.Tests.{not_true, is_equal}
 use Rattle.exact_plane.specs.PointOrderLaws.{same_point}
 use Rattle.slab_laws.specs.declared.names.DartId.{DartId}
 use Rattle.slab_laws.specs.declared.names.FaceId.{FaceId}
@@ -52,9 +51,6 @@ use Rattle.zone_walk.proofs.MeetingPoints.{upper}
 use Rattle.zone_walk.proofs.Searched.{part_kept}
 use Rattle.zone_walk.proofs.Stretches.{along_edge, stretch_to, told, listed, meets_lies}
 use Rattle.zone_walk.proofs.Walked.{next_is}
-
-same_number : (x y : ℕ) → is_eq (nat_cmp x y) ≡ true → x ≡ y
-same_number x y h = eqb-true x y (number_ties x y ∙ h)
 
 abbrev Entries : Type 0
 Entries = List (Point × Spot)
