@@ -27,10 +27,9 @@ use Rattle.record_orders.specs.CycleKeys.{same_face}
 use Rattle.dcel_records.specs.declared.ranks.RankKey.{RankKey}
 use Rattle.dcel_records.specs.RankOrders.{key_cmp, AreInKeyOrder, AreRanked}
 use Rattle.face_ranks.specs.OuterKeys.{cycle_rank_key, is_outer_in, outer_keys, outer_keys_of}
-use Rattle.face_ranks.specs.OuterLeads.{IsLeadOf}
 use Rattle.face_ranks.specs.Ranks.{rank_in}
 use Rattle.face_ranks.proofs.AscendingPlaces.{place_here, place_later, place_of_map}
-use Rattle.face_ranks.proofs.RankedOuter.{by_number, by_ends, ends_total, outer_out, outer_in, Compared, compared, face_beside, outers, outers_ascend, outer_lead, lead_listed, one_outer, first, no_outer_first}
+use Rattle.face_ranks.proofs.RankedOuter.{by_number, IsLeadOf, by_ends, ends_total, outer_out, outer_in, Compared, compared, face_beside, outers, outers_ascend, outer_lead, lead_listed, one_outer, first, no_outer_first}
 use Rattle.face_ranks.proofs.RankedOuter.Compared.{same, less, more}
 use Rattle.face_ranks.proofs.RankOrder.{faces_exact, lead_on, rank_bounded}
 

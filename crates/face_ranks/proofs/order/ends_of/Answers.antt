@@ -1,4 +1,4 @@
-use Rattle.face_ranks.proofs.leads.ends_of.Goals as goal
+use Rattle.face_ranks.proofs.order.ends_of.Goals as goal
 
 pub point-requires : goal.point-requires
 point-requires c = rw c.source.ensures (c.requires.sound.linked.source c.args.d c.requires.dart)
