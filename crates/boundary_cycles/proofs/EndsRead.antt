@@ -1,5 +1,5 @@
 -- The ends of a dart as they were read: which of two darts comes first, and what cells ask of its edge.
-use Rattle.std.proofs.Common.{◌≡◌, Bool, true, false, sym, ap, ◌∙◌, subst, Less, Equal, Greater, is_lt}
+use Rattle.std.proofs.Common.{◌≡◌, Bool, true, false, sym, ap, ◌∙◌, subst, Ordering, Less, Equal, Greater, is_lt}
 use Rattle.std.specs.Ordering.{ordering_then}
 use Rattle.exact_plane.specs.Point.{Point}
 use Rattle.exact_plane.specs.PointOrder.{point_cmp}
@@ -12,21 +12,24 @@ use Rattle.slab_laws.specs.View.{View, HasDart, point_in, source_in, target_in}
 use Rattle.sound_views.proofs.NamedDarts.{edge_known, source_by, target_by, by_points}
 
 -- ---- two darts
-module _ (v : View) (d e : DartId) (a b : Point × Point) (A : a.0 ≡ point_in v (source_in v d)) (A' : a.1 ≡ point_in v (target_in v d)) (B : b.0 ≡ point_in v (source_in v e)) (B' : b.1 ≡ point_in v (target_in v e)) where
+module _ (v : View) (d e : DartId) (a b : Point) (A : a ≡ point_in v (source_in v d)) (B : b ≡ point_in v (source_in v e)) where
   order_is : (p q x y : Point) → is_lt (ordering_then (point_cmp p x) (point_cmp q y)) ≡ dart_below (by_points p q) (by_points x y)
   order_is p q x y = λ i. is_lt (ordering_then (point_cmp (sym (source_by p q) i) (sym (source_by x y) i)) (point_cmp (sym (target_by p q) i) (sym (target_by x y) i)))
 
-  order_read : is_lt (ordering_then (point_cmp a.0 b.0) (point_cmp a.1 b.1)) ≡ dart_below (dart_in v d) (dart_in v e)
-  order_read = (λ i. is_lt (ordering_then (point_cmp (A i) (B i)) (point_cmp (A' i) (B' i)))) ∙ order_is (point_in v (source_in v d)) (point_in v (target_in v d)) (point_in v (source_in v e)) (point_in v (target_in v e))
+  abbrev targets : Ordering
+  targets = point_cmp (point_in v (target_in v d)) (point_in v (target_in v e))
 
-  pub less_read : point_cmp a.0 b.0 ≡ Less → true ≡ dart_below (dart_in v d) (dart_in v e)
-  less_read h = sym (ap (λ o. is_lt (ordering_then o (point_cmp a.1 b.1))) h) ∙ order_read
+  order_read : is_lt (ordering_then (point_cmp a b) targets) ≡ dart_below (dart_in v d) (dart_in v e)
+  order_read = (λ i. is_lt (ordering_then (point_cmp (A i) (B i)) targets)) ∙ order_is (point_in v (source_in v d)) (point_in v (target_in v d)) (point_in v (source_in v e)) (point_in v (target_in v e))
 
-  pub greater_read : point_cmp a.0 b.0 ≡ Greater → false ≡ dart_below (dart_in v d) (dart_in v e)
-  greater_read h = sym (ap (λ o. is_lt (ordering_then o (point_cmp a.1 b.1))) h) ∙ order_read
+  pub less_read : point_cmp a b ≡ Less → true ≡ dart_below (dart_in v d) (dart_in v e)
+  less_read h = sym (ap (λ o. is_lt (ordering_then o targets)) h) ∙ order_read
 
-  pub equal_read : point_cmp a.0 b.0 ≡ Equal → (r : Bool) → r ≡ is_lt (point_cmp a.1 b.1) → r ≡ dart_below (dart_in v d) (dart_in v e)
-  equal_read h r t = t ∙ sym (ap (λ o. is_lt (ordering_then o (point_cmp a.1 b.1))) h) ∙ order_read
+  pub greater_read : point_cmp a b ≡ Greater → false ≡ dart_below (dart_in v d) (dart_in v e)
+  greater_read h = sym (ap (λ o. is_lt (ordering_then o targets)) h) ∙ order_read
+
+  pub equal_read : point_cmp a b ≡ Equal → (p q : Point) → p ≡ point_in v (target_in v d) → q ≡ point_in v (target_in v e) → (r : Bool) → r ≡ is_lt (point_cmp p q) → r ≡ dart_below (dart_in v d) (dart_in v e)
+  equal_read h p q P Q r t = t ∙ (λ i. is_lt (point_cmp (P i) (Q i))) ∙ sym (ap (λ o. is_lt (ordering_then o targets)) h) ∙ order_read
 
 -- ---- one dart
 module _ (v : View) (s : IsGraphSound v) (d : DartId) (has : HasDart v d) where

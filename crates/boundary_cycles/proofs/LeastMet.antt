@@ -1,7 +1,7 @@
 -- The least of the darts that a walk has met, and at its end the least of the cycle.
 use Rattle.std.proofs.Common.{◌≡◌, ◌≢◌, Bool, true, false, refl, sym, ap, ◌∙◌, subst, inl, inr, Ordering, Less, Equal, Greater, is_lt}
 use Rattle.std.specs.Ordering.{ordering_reverse}
-use Rattle.std.proofs.lemmas.Bool.{false≢true, true≢false, or_cases}
+use Rattle.std.proofs.lemmas.Bool.{true≢false, or_cases}
 use Rattle.plane_graphs.proofs.Ascending.{to_member}
 use Rattle.slab_laws.specs.declared.names.DartId.{DartId}
 use Rattle.slab_laws.specs.FacesSound.{lead_in}
@@ -19,15 +19,16 @@ use Rattle.sound_views.proofs.NameTables.{names_exact}
 use Rattle.boundary_cycles.specs.Counted.{is_on_cycle}
 use Rattle.boundary_cycles.proofs.NamedWalks.{IsWalked, more}
 
--- it is on the cycle of d, and none of those met comes before it; before the walk it is d
+-- it is on the cycle of d, and none of those met comes before it
 pub record IsLeastMet (v : View) (d least : DartId) (seen : DartId → Bool) : Type 0 where
   pub there : HasDart v least
   pub on : lead_in v least ≡ lead_in v d
   pub none : (x : DartId) → seen x ≡ true → dart_below (dart_in v x) (dart_in v least) ≡ false
 
 module _ (v : View) (s : IsGraphSound v) (d : DartId) (D : HasDart v d) where
-  pub first_least : IsLeastMet v d d (λ x. false)
-  first_least = record { there = D; on = refl; none = λ x h. absurd (false≢true h) }
+  -- of d alone
+  pub first_least : IsLeastMet v d d (more d (λ x. false))
+  first_least = record { there = D; on = refl; none = λ x h. subst (λ y. dart_below (dart_in v y) (dart_in v d) ≡ false) (names_exact.path d x h) (dart_below_order.itself (dart_in v d)) }
 
   module _ (at least : DartId) (seen : DartId → Bool) (w : IsWalked v d at seen) (m : IsLeastMet v d least seen) where
     -- the dart is less than all

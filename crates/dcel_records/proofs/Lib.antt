@@ -28,3 +28,4 @@ pub mod Grown
 pub mod FaceLaws
 pub mod Spared
 pub mod Maps
+pub mod AtPoint

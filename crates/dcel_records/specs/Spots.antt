@@ -1,13 +1,18 @@
 -- What of a graph a point meets.
-use Rattle.std.specs.Prelude.{◌≡◌, ◌≢◌, true, false}
+use Rattle.std.specs.Prelude.{◌≡◌, ◌≢◌, true, false, Option, MatchOption}
 use Rattle.exact_plane.specs.Point.{Point}
 use Rattle.slab_laws.specs.Skeleton.{inside}
 use Rattle.slab_laws.specs.Sound.{edge_in, dart_in}
+use Rattle.slab_laws.specs.declared.names.VertexId.{VertexId}
 use Rattle.slab_laws.specs.View.{View, HasVertex, HasDart, point_in}
 use Rattle.dcel_records.specs.declared.spot.Met.{Met}
 use Rattle.dcel_records.specs.declared.spot.Met.TheVariants.{Vertex, Edge, Nothing}
 use Rattle.dcel_records.specs.declared.spot.Spot.{Spot}
 use Rattle.dcel_records.specs.declared.spot.Spot.TheVariants as spot
+
+-- the vertex at the point, or none where no vertex is there (CGAL manual, point location)
+abbrev pub IsVertexAt : View → Point → Option VertexId → Type 0
+IsVertexAt v p found = MatchOption found ((w : VertexId) → HasVertex v w → point_in v w ≢ p) (λ w. HasVertex v w × (point_in v w ≡ p))
 
 -- no vertex is at the point, and no edge has it inside
 pub record IsInFace (v : View) (p : Point) : Type 0 where

@@ -5,7 +5,7 @@ ghost use Rattle.slab_laws.specs.Tables.{name_after, names};
 ghost use Rattle.dcel_records.specs.KeyLimits.{HasNoKeyFrom};
 
 use crate::keys::key_after;
-use slab::Slab;
+use slab::{Iter, Slab};
 use std::alloc::{AllocError, Global};
 use std::marker::Model;
 use std::ops::{Index, IndexMut};
@@ -102,6 +102,13 @@ impl<T: Drop> Table<T> {
         ensures { option_copied result ≡ get self.now key }
     {
         self.slab.get(key)
+    }
+
+    /// The rows with their keys, by rising key.
+    pub(crate) fn iter(&self) -> Iter<'_, T>
+        ensures { result ≡ entries self.now }
+    {
+        self.slab.iter()
     }
 
     /// The next greater key that has a row, or the least; `None` after the last.

@@ -5,6 +5,7 @@ ghost use Rattle.arr_notes.specs.ViewChanges.{with_vertex, without_vertex, with_
 ghost use Rattle.arr_notes.specs.FaceWriters.{not_bare};
 ghost use Rattle.dcel_records.specs.ListChanges.{vertex_unlisted};
 ghost use Rattle.dcel_records.specs.RecordsView.{point_found, lists_of, IsSpare, IsSpareFaces};
+ghost use Rattle.dcel_records.specs.Spots.{IsVertexAt};
 
 use crate::bare::leave_face;
 use crate::records::Records;
@@ -21,6 +22,18 @@ impl Records {
             None => None,
             Some(vertex) => Some(vertex.point),
         }
+    }
+
+    /// The vertex at a point, by a look at all vertices. It takes no memory.
+    pub fn vertex_at(&self, point: &Point) -> Option<VertexId>
+        ensures { IsVertexAt self.now.graph point.now result }
+    {
+        for (key, vertex) in self.vertices.iter() {
+            if vertex.point == *point {
+                return Some(VertexId(key));
+            }
+        }
+        None
     }
 
     /// A new vertex, not pinned, without a dart, in room that is there.

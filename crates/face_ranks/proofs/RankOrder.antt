@@ -32,8 +32,7 @@ use Rattle.face_ranks.specs.OuterLeads.{IsLeadOf}
 use Rattle.face_ranks.specs.Ranks.{rank_in}
 use Rattle.face_ranks.proofs.AscendingPlaces.{place_here, place_later, place_of_map, distinct_all, lesser_first}
 use Rattle.face_ranks.proofs.LeadsRead.{lead_read}
-use Rattle.face_changes.proofs.FacesByPairs.{by_number}
-use Rattle.face_ranks.proofs.RankedOuter.{by_ends, ends_total, Compared, compared, face_beside, outers, outers_ascend, first, Bound, bound, outer_lead, lead_listed, one_lead, ranked_are, ranked_rises, ranked_has, no_outer_first}
+use Rattle.face_ranks.proofs.RankedOuter.{by_number, by_ends, ends_total, Compared, compared, face_beside, outers, outers_ascend, first, Bound, bound, outer_lead, lead_listed, one_lead, ranked_are, ranked_rises, ranked_has, no_outer_first}
 use Rattle.face_ranks.proofs.RankedOuter.Compared.{same, less, more}
 use Rattle.face_ranks.proofs.RankedOuter.Bound.{unbounded, bounded}
 

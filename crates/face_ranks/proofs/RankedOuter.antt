@@ -26,7 +26,6 @@ use Rattle.slab_laws.specs.Tables.{name_after, names, NamesAscend}
 use Rattle.slab_laws.specs.View.{View, Faces, HasDart, HasFace, cycle_in, kind_in, face_in, dart_id, face_id}
 use Rattle.slab_faces.proofs.DartOrder.{dart_cmp_total, tied_darts, lead_lead}
 use Rattle.face_changes.specs.FacesByPairs.{first_or}
-use Rattle.face_changes.proofs.FacesByPairs.{by_number}
 use Rattle.sound_views.specs.Orders.{dart_order}
 use Rattle.sound_views.proofs.CycleDartOrder.{lead_not_after}
 use Rattle.sound_views.proofs.CycleDartOrder.{lead_in as lead_there}
@@ -37,7 +36,7 @@ use Rattle.sound_views.proofs.NamedDarts.{names_are_darts}
 use Rattle.sound_views.proofs.NamesOrdered.{darts_are_ordered}
 use Rattle.record_orders.specs.CycleKeys.{same_cycle, cycle_key, same_face, first_faces, ranked_faces, cycle_keys}
 use Rattle.face_ranks.specs.OuterLeads.{IsLeadOf}
-use Rattle.face_steps.proofs.CyclesApart.{cycle_by_number}
+use Rattle.face_ranks.proofs.ListWalks.{cycle_by_number}
 use Rattle.face_ranks.proofs.AscendingPlaces.{distinct_all, map_filter_map}
 
 pub outer_out : (k : CycleKind) → is_outer k ≡ true → k ≡ Outer
@@ -46,6 +45,9 @@ outer_out Inner e = absurd (false≢true e)
 
 pub outer_in : (k : CycleKind) → k ≡ Outer → is_outer k ≡ true
 outer_in k e = ap is_outer e
+
+pub by_number : (a b : FaceId) → a.0 ≡ b.0 → a ≡ b
+by_number a b h = λ i. record { 0 = h i }
 
 -- ---- the first of ascending names is the least
 pub first_least : (ns : List ℕ) → NamesAscend ns → (m : ℕ) → Member m ns → Member (first_or ns).0 ns × ((m ≡ (first_or ns).0) ⊎ ((first_or ns).0 < m))

@@ -1,7 +1,6 @@
 ghost use Rattle.slab_laws.specs.Sound.{IsGraphSound, edge_between};
 ghost use Rattle.locate_naive.specs.Found.{IsDartBetween, IsDartOfEdge};
 
-use crate::naive::vertex_at;
 use dcel_records::Records;
 use exact_plane::Point;
 use rotation_order::dart_to;
@@ -12,7 +11,7 @@ fn dart_between(records: &Records, from: &Point, to: &Point) -> Option<DartId>
     requires { IsGraphSound records.now.graph }
     ensures { IsDartBetween records.now.graph from.now to.now result }
 {
-    let from = vertex_at(records, from)?;
+    let from = records.vertex_at(from)?;
     dart_to(records, from, to)
 }
 

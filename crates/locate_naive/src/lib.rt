@@ -6,4 +6,4 @@ mod edges;
 mod naive;
 
 pub use edges::edge_dart;
-pub use naive::{locate, vertex_at};
+pub use naive::locate;

@@ -1,26 +1,10 @@
 ghost use Rattle.dcel_records.specs.RecordsView.{tables_of};
 ghost use Rattle.dcel_records.specs.SoundMaps.{IsSoundMap};
 ghost use Rattle.face_location.specs.Spots.{IsSpotOf};
-ghost use Rattle.locate_naive.specs.Found.{IsVertexAt};
 
 use dcel_records::{Records, Spot};
 use exact_plane::Point;
 use face_location::{EdgeFound, edge_at_or_below, face_over};
-use slab_laws::{Darts, VertexId};
-
-/// The vertex at a point, by a look at all vertices. It takes no memory.
-pub fn vertex_at(records: &Records, point: &Point) -> Option<VertexId>
-    ensures { IsVertexAt records.now.graph point.now result }
-{
-    let mut last = None;
-    while let Some(vertex) = records.vertex_after(last) {
-        if records.point(vertex) == *point {
-            return Some(vertex);
-        }
-        last = Some(vertex);
-    }
-    None
-}
 
 /// Where a point lies: the vertex at it, else the edge that has it inside, else the face that it lies in (CGAL manual,
 /// `Arr_naive_point_location`).
@@ -32,7 +16,7 @@ pub fn locate(records: &Records, point: &Point) -> Spot
     ensures { IsSpotOf records.now.graph (tables_of records.now) point.now result }
 {
     point.laws();
-    if let Some(vertex) = vertex_at(records, point) {
+    if let Some(vertex) = records.vertex_at(point) {
         return Spot::Vertex(vertex);
     }
     match edge_at_or_below(records, point) {

@@ -13,7 +13,6 @@ ghost use Rattle.told_steps.specs.LayerEdits.{layer_at, IsAfter};
 use curve_history::History;
 use dcel_records::Records;
 use exact_plane::Point;
-use locate_naive::vertex_at;
 use observer_bus::Bus;
 use redundant_vertices::{is_mergeable, remove_if_redundant};
 use slab_laws::Darts;
@@ -58,7 +57,7 @@ pub fn merge_edge(
     ensures history_capacity { SameHistoryCapacity history.old history.new }
     ensures untold { OnErr result (bus_row Observer-dyn bus.new ≡ bus_row Observer-dyn bus.old) }
 {
-    let Some(vertex) = vertex_at(&*records, r) else {
+    let Some(vertex) = records.vertex_at(r) else {
         return Err(MergeError::NoVertex);
     };
     if !records.pinned(vertex) {

@@ -16,7 +16,6 @@ ghost use Rattle.told_steps.specs.LayerEdits.{layer_at, IsAfter};
 use curve_history::History;
 use dcel_records::{Met, Records, Room, Spot};
 use exact_plane::Point;
-use locate_naive::vertex_at;
 use no_memory::NoMemory;
 use observer_bus::Bus;
 use redundant_vertices::remove_if_redundant;
@@ -175,7 +174,7 @@ pub fn unpin(
     ensures history_capacity { SameHistoryCapacity history.old history.new }
     ensures untold { OnErr result (bus_row Observer-dyn bus.new ≡ bus_row Observer-dyn bus.old) }
 {
-    let Some(vertex) = vertex_at(&*records, p) else {
+    let Some(vertex) = records.vertex_at(p) else {
         return Err(NotPinned);
     };
     if !records.pinned(vertex) {

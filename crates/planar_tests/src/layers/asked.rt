@@ -2,7 +2,6 @@ use crate::layers::edits::at;
 use arrangement::{Arrangement, EdgeError, HistoryError};
 use dcel_records::Records;
 use exact_plane::Point;
-use locate_naive::vertex_at;
 use slab_laws::{CurveId, DartId, VertexId};
 use std::test::Fail;
 
@@ -27,12 +26,12 @@ fn dart(records: &Records, from: VertexId, to: VertexId) -> Option<DartId> {
 }
 
 fn names_at(records: &Records, left: &Point, middle: &Point, right: &Point) -> Option<Names> {
-    let left = vertex_at(records, left)?;
-    let middle = vertex_at(records, middle)?;
+    let left = records.vertex_at(left)?;
+    let middle = records.vertex_at(middle)?;
     Some(Names {
         left,
         middle,
-        right: vertex_at(records, right)?,
+        right: records.vertex_at(right)?,
         there: dart(records, left, middle)?,
         back: dart(records, middle, left)?,
     })
