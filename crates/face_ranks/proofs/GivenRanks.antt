@@ -15,7 +15,8 @@ use Rattle.face_ranks.specs.OuterKeys.{outer_keys}
 use Rattle.face_ranks.specs.Ranks.{rank_in}
 use Rattle.face_ranks.proofs.KeysRanked.{same_key_face, keys_apart, keys_have, ranks_given, no_key_first}
 use Rattle.face_ranks.proofs.RankOrder.{rank_unbounded, lead_on}
-use Rattle.face_ranks.proofs.RankedOuter.{by_number, first, first_least, Bound, bound}
+use Rattle.face_changes.proofs.FacesByPairs.{by_number}
+use Rattle.face_ranks.proofs.RankedOuter.{first, first_least, Bound, bound}
 use Rattle.face_ranks.proofs.RankedOuter.Bound.{unbounded, bounded}
 
 -- ---- records with one graph and the same faces

@@ -13,6 +13,7 @@ use Rattle.exact_plane.specs.PointOrderLaws.{point_cmp_total}
 use Rattle.plane_graphs.specs.Ascending.{Member, IsAscending}
 use Rattle.plane_graphs.proofs.Ascending.{to_member, from_member, All-member, IsAscending-map, ascending_unique}
 use Rattle.plane_graphs.proofs.Lists.{clash, of_map, in_map, of_filter, in_filter}
+use Rattle.plane_graphs.proofs.Sorting.{all_members}
 use Rattle.slab_laws.specs.declared.names.CycleId.{CycleId}
 use Rattle.slab_laws.specs.declared.names.DartId.{DartId}
 use Rattle.slab_laws.specs.declared.names.FaceId.{FaceId}
@@ -27,10 +28,10 @@ use Rattle.record_orders.specs.CycleKeys.{same_face}
 use Rattle.dcel_records.specs.declared.ranks.RankKey.{RankKey}
 use Rattle.dcel_records.specs.RankOrders.{key_cmp, AreInKeyOrder, AreRanked}
 use Rattle.face_ranks.specs.OuterKeys.{cycle_rank_key, is_outer_in, outer_keys, outer_keys_of}
-use Rattle.face_ranks.specs.OuterLeads.{IsLeadOf}
 use Rattle.face_ranks.specs.Ranks.{rank_in}
 use Rattle.face_ranks.proofs.AscendingPlaces.{place_here, place_later, place_of_map}
-use Rattle.face_ranks.proofs.RankedOuter.{by_number, by_ends, ends_total, outer_out, outer_in, Compared, compared, face_beside, outers, outers_ascend, outer_lead, lead_listed, one_outer, first, no_outer_first}
+use Rattle.face_changes.proofs.FacesByPairs.{by_number}
+use Rattle.face_ranks.proofs.RankedOuter.{IsLeadOf, by_ends, ends_total, outer_out, outer_in, Compared, compared, face_beside, outers, outers_ascend, outer_lead, lead_listed, one_outer, first, no_outer_first}
 use Rattle.face_ranks.proofs.RankedOuter.Compared.{same, less, more}
 use Rattle.face_ranks.proofs.RankOrder.{faces_exact, lead_on, rank_bounded}
 
@@ -43,10 +44,6 @@ not_both c i j = cc
 -- the keys have one face
 abbrev pub same_key_face : RankKey → RankKey → Bool
 same_key_face a b = a.face.0 == b.face.0
-
-all_of : {X : Type 0} (P : X → Type 0) (xs : List X) → ((x : X) → Member x xs → P x) → AllByRecursion P xs
-all_of P [] h = tt
-all_of P (x ∷ xs) h = (h x (inl refl), all_of P xs (λ y m. h y (inr m)))
 
 -- the rank of a face is the place of its key
 ranked_place : (rank : FaceId → ℕ) (n : ℕ) (ks : List RankKey) (a : FaceId) → AreRanked rank n ks → Member a (map (λ k. k.face) ks) → rank a ≡ n + position_or_len (λ k. same_face a k.face) ks
@@ -131,14 +128,14 @@ module _ (v : View) (f : Faces) (l : Lists) (s : IsSound v f) (on : AreDartsOn v
           absurd (omega arith))
 
       step : (b : Bool) → is_outer_in f (cycle_id n) ≡ b → IsDistinct same_key_face (outer_keys_of v f l (map cycle_id ns)) → IsDistinct same_key_face (map (cycle_rank_key v f l) (cond b (cycle_id n ∷ filter (is_outer_in f) (map cycle_id ns)) (filter (is_outer_in f) (map cycle_id ns))))
-      step true t d = (all_of _ (outer_keys_of v f l (map cycle_id ns)) (other t), d)
+      step true t d = (all_members _ (outer_keys_of v f l (map cycle_id ns)) (other t), d)
       step false t d = d
 
   pub keys_apart : IsDistinct same_key_face (outer_keys v f l)
   keys_apart = apart_from (names f.cycles) s.complete.cycles_ascend (λ n i. i)
 
   pub keys_have : AllByRecursion (λ k. HasFace f k.face) (outer_keys v f l)
-  keys_have = all_of _ (outer_keys v f l) (λ k m. let d = of_map dart_key k (outers v f s) (into k m) in subst (λ (x : RankKey). HasFace f x.face) (sym d.2) (s.complete.face_has (cycle_in f d.0) (outer_lead v f s d.0 d.1).outer.0))
+  keys_have = all_members _ (outer_keys v f l) (λ k m. let d = of_map dart_key k (outers v f s) (into k m) in subst (λ (x : RankKey). HasFace f x.face) (sym d.2) (s.complete.face_has (cycle_in f d.0) (outer_lead v f s d.0 d.1).outer.0))
 
   -- ---- in order
   ranked_ascend : IsAscending key_cmp ranked_keys
@@ -161,7 +158,7 @@ module _ (v : View) (f : Faces) (l : Lists) (s : IsSound v f) (on : AreDartsOn v
   unfolding AreInKeyOrder IsDistinct
   ascend [] o d h = tt
   ascend (k ∷ ks) o d h = (
-    all_of _ ks (λ m i. step m (key_cmp k m) refl (All-member (λ x. is_lt (key_cmp x k) ≡ false) m ks o.0 i) (All-member (λ x. same_key_face k x ≡ false) m ks d.0 i) (tied_face k m (h k (inl refl)) (h m (inr i)))),
+    all_members _ ks (λ m i. step m (key_cmp k m) refl (All-member (λ x. is_lt (key_cmp x k) ≡ false) m ks o.0 i) (All-member (λ x. same_key_face k x ≡ false) m ks d.0 i) (tied_face k m (h k (inl refl)) (h m (inr i)))),
     ascend ks o.1 d.1 (λ m i. h m (inr i)),
   )
     where
@@ -192,7 +189,7 @@ module _ (v : View) (f : Faces) (l : Lists) (s : IsSound v f) (on : AreDartsOn v
   -- none of them is of the first face
   pub no_key_first : (a : FaceId) → a ≡ first v f s → AllByRecursion (λ k. k.face ≡ a → ⊥) (outer_keys v f l)
   no_key_first a is =
-      all_of _ (outer_keys v f l) (λ k m e.
+      all_members _ (outer_keys v f l) (λ k m e.
       let d = of_map dart_key k (outers v f s) (into k m) in
       let L = (outer_lead v f s d.0 d.1).outer in
       no_outer_first v f s (cycle_in f d.0) (subst (λ x. IsOuterOf f x (cycle_in f d.0)) (sym (ap (λ (x : RankKey). x.face) d.2) ∙ e ∙ is) L))

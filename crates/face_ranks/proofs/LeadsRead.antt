@@ -13,7 +13,7 @@ use Rattle.slab_laws.specs.Rows.{least_dart_of}
 use Rattle.slab_laws.specs.Sound.{skeleton_of, dart_in}
 use Rattle.slab_laws.specs.View.{View, Faces, HasDart, cycle_in}
 use Rattle.slab_faces.proofs.DartOrder.{lead_lead}
-use Rattle.face_ranks.specs.OuterLeads.{IsLeadOf}
+use Rattle.face_ranks.proofs.RankedOuter.{IsLeadOf}
 
 pub outer_told : (k : CycleKind) → sameb the_type k Outer ≡ is_outer k
 outer_told Outer = refl

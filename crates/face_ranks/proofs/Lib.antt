@@ -1,11 +1,8 @@
 pub mod AscendingPlaces
 pub mod RankedOuter
 pub mod Located
-pub mod EndOrder
 pub mod RankOrder
-pub mod ListWalks
 pub mod LeadsRead
-pub mod Counting
 pub mod KeysRanked
 pub mod KeysPushed
 pub mod GivenRanks

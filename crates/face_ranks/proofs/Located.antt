@@ -31,7 +31,8 @@ use Rattle.record_orders.specs.CycleKeys.{same_face, cycle_keys, ranked_faces}
 use Rattle.arr_text.proofs.FaceNames.{faces_named, first_face}
 use Rattle.face_ranks.specs.Ranks.{rank_in, FaceIsLocated}
 use Rattle.face_ranks.proofs.AscendingPlaces.{place_of_map}
-use Rattle.face_ranks.proofs.RankedOuter.{by_number, ranked_are, ranked_has}
+use Rattle.face_changes.proofs.FacesByPairs.{by_number}
+use Rattle.face_ranks.proofs.RankedOuter.{ranked_are, ranked_has}
 
 -- tests that agree on the elements find one place
 place_same : {X : Type 0} (p q : X → Bool) (xs : List X) → ((x : X) → Member x xs → p x ≡ q x) → position_or_len p xs ≡ position_or_len q xs

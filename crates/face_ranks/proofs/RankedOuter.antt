@@ -35,8 +35,8 @@ use Rattle.sound_views.proofs.ListedPlaces.{Rising, rising_map, rising_ascending
 use Rattle.sound_views.proofs.NamedDarts.{names_are_darts}
 use Rattle.sound_views.proofs.NamesOrdered.{darts_are_ordered}
 use Rattle.record_orders.specs.CycleKeys.{same_cycle, cycle_key, same_face, first_faces, ranked_faces, cycle_keys}
-use Rattle.face_ranks.specs.OuterLeads.{IsLeadOf}
-use Rattle.face_ranks.proofs.ListWalks.{cycle_by_number}
+use Rattle.face_changes.proofs.FacesByPairs.{by_number}
+use Rattle.face_steps.proofs.CyclesApart.{cycle_by_number}
 use Rattle.face_ranks.proofs.AscendingPlaces.{distinct_all, map_filter_map}
 
 pub outer_out : (k : CycleKind) → is_outer k ≡ true → k ≡ Outer
@@ -46,8 +46,11 @@ outer_out Inner e = absurd (false≢true e)
 pub outer_in : (k : CycleKind) → k ≡ Outer → is_outer k ≡ true
 outer_in k e = ap is_outer e
 
-pub by_number : (a b : FaceId) → a.0 ≡ b.0 → a ≡ b
-by_number a b h = λ i. record { 0 = h i }
+-- the dart is the least of a cycle, which bounds the face from outside (CGAL manual, outer boundary of a face)
+pub record IsLeadOf (v : View) (f : Faces) (a : FaceId) (d : DartId) : Type 0 where
+  pub has : HasDart v d
+  pub outer : IsOuterOf f a (cycle_in f d)
+  pub least : dart_in v d ≡ lead_in v d
 
 -- ---- the first of ascending names is the least
 pub first_least : (ns : List ℕ) → NamesAscend ns → (m : ℕ) → Member m ns → Member (first_or ns).0 ns × ((m ≡ (first_or ns).0) ⊎ ((first_or ns).0 < m))
@@ -188,19 +191,6 @@ module _ (v : View) (f : Faces) (s : IsSound v f) where
 
   pub lead_listed : (a : FaceId) (d : DartId) → IsLeadOf v f a d → Member d outers
   lead_listed a d l = in_filter is_of_outer d firsts (first_least_dart d l.has l.least) (outer_in (kind_in f (cycle_in f d)) l.outer.2)
-
-  -- a face has one alone
-  pub one_lead : (a : FaceId) (d e : DartId) → IsLeadOf v f a d → IsLeadOf v f a e → d ≡ e
-  one_lead a d e l k =
-      let c = one_outer a (cycle_in f d) (cycle_in f e) l.outer k.outer in
-      let M = first_least_dart d l.has l.least in
-      let N = first_least_dart e k.has k.least in
-      by c M N (compared (by_ends v) firsts firsts_ascend d e M N)
-    where
-      by : cycle_in f d ≡ cycle_in f e → Member d firsts → Member e firsts → Compared (by_ends v) d e → d ≡ e
-      by c M N (same h) = h
-      by c M N (less h) = absurd (none_before (by_ends v) (ends_total v) (same_cycle f) (dart_order v) (order_ascends v) e d N (ordered d l.has) (on_one d e c) h)
-      by c M N (more h) = absurd (none_before (by_ends v) (ends_total v) (same_cycle f) (dart_order v) (order_ascends v) d e M (ordered e k.has) (on_one e d (sym c)) h)
 
   -- ---- the ranked faces
   after_first : (b : FaceId) → ((d : DartId) × Member d outers × (b ≡ face_beside d)) → same_face first b ≡ false

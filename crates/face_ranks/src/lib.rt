@@ -1,18 +1,14 @@
 //! The rank of a face that is told by its name: how many faces come before it, where the unbounded one is the first, and the
 //! others stand in the order of their outer cycles, each told by its least dart.
 //!
-//! The rank of one face is counted, or all faces are given theirs, which the records keep; neither takes memory. That a point
-//! lies in the face of the rank that its face's name has is a law: its contract states it, and its body, being empty, computes
-//! nothing.
+//! All faces are given their ranks, which the records keep; it takes no memory. That a point lies in the face of the rank that
+//! its face's name has is a law: its contract states it, and its body, being empty, computes nothing.
 #![tactic(auto)]
 
-mod count;
-mod leads;
 mod order;
 
 ghost use Rattle.face_ranks.specs.Ranks.{FaceIsLocated};
 
-pub use count::rank_by_count;
 pub use order::rank_faces;
 
 /// A point on no vertex and no edge lies in the face of the rank that the name of its face has.

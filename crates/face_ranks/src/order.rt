@@ -1,14 +1,28 @@
 ghost use Rattle.std.specs.Prelude.{◌≡◌, []};
-ghost use Rattle.slab_laws.specs.View.{HasCycle, HasFace};
+ghost use Rattle.slab_laws.specs.Sound.{IsGraphSound};
+ghost use Rattle.slab_laws.specs.View.{HasCycle, HasDart, HasFace, point_in, source_in, target_in};
 ghost use Rattle.dcel_records.specs.RecordsView.{graph_part, lists_of, rank_given, tables_of};
 ghost use Rattle.dcel_records.specs.SoundMaps.{IsSoundMap};
 ghost use Rattle.face_ranks.specs.OuterKeys.{cycle_rank_key, outer_keys};
 ghost use Rattle.face_ranks.specs.Ranks.{rank_in};
 
-use crate::leads::ends_of;
 use boundary_cycles::least_dart;
 use dcel_records::{RankKey, Records};
-use slab_laws::{CycleId, CycleKind, FaceLists, Faced};
+use exact_plane::Point;
+use slab_laws::{CycleId, CycleKind, DartId, Darts, FaceLists, Faced};
+
+// The points that a dart leaves and reaches.
+fn ends_of(records: &Records, d: DartId) -> (Point, Point)
+    requires sound { IsGraphSound records.now.graph }
+    requires dart { HasDart records.now.graph d }
+    ensures source { result.0 ≡ point_in records.now.graph (source_in records.now.graph d) }
+    ensures target { result.1 ≡ point_in records.now.graph (target_in records.now.graph d) }
+{
+    (
+        records.point(records.source(d)),
+        records.point(records.target(d)),
+    )
+}
 
 // The ends of the least dart of a cycle, and its face.
 fn key_of(records: &Records, cycle: CycleId) -> RankKey
