@@ -16,5 +16,6 @@ mod vertices;
 
 pub use edges::edges_of;
 pub use marks::{Mark, marks_of};
+pub use pieces::spans_of;
 pub use united::unite;
 pub use vertices::vertices_of;
