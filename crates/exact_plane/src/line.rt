@@ -6,6 +6,7 @@ ghost use Rattle.exact_plane.specs.Line.{side_of, turn_at, reduced_line, IsOn, I
 ghost use Rattle.exact_plane.specs.Point.{Point};
 ghost use Rattle.exact_plane.specs.Segment.{line_of_segment, IsCoordinate, AreCoordinates};
 
+use crate::point::narrow;
 use crate::segment::Segment;
 use integers::{greatest_common_divisor, quotient};
 use std::marker::Model;
@@ -77,12 +78,13 @@ fn lowest(a: i128, b: i128, c: i128) -> Line
     requires { AreLineNumbers a b c }
     ensures value { result ≡ reduced_line a b c }
 {
+    let (a, b, c) = (narrow(a), narrow(b), narrow(c));
     let of_both = greatest_common_divisor(a.unsigned_abs(), b.unsigned_abs());
     let divisor = greatest_common_divisor(of_both, c.unsigned_abs());
     Line {
-        a: quotient(a, divisor),
-        b: quotient(b, divisor),
-        c: quotient(c, divisor),
+        a: quotient(a, divisor) as i128,
+        b: quotient(b, divisor) as i128,
+        c: quotient(c, divisor) as i128,
     }
 }
 

@@ -64,12 +64,13 @@ pub(crate) fn lowest(x: i128, y: i128, w: i128) -> Point
     requires { IsTrue (in_range x y w) }
     ensures { result ≡ reduced x y w }
 {
+    let (x, y, w) = (narrow(x), narrow(y), narrow(w));
     let of_both = greatest_common_divisor(x.unsigned_abs(), y.unsigned_abs());
     let divisor = greatest_common_divisor(of_both, w.unsigned_abs());
     Point {
-        x: quotient(x, divisor),
-        y: quotient(y, divisor),
-        w: quotient(w, divisor),
+        x: quotient(x, divisor) as i128,
+        y: quotient(y, divisor) as i128,
+        w: quotient(w, divisor) as i128,
     }
 }
 
@@ -156,6 +157,21 @@ impl Point {
     }
 }
 
+// A number of a point or of a line in 64 bits, which the processor multiplies and divides at once.
+pub(crate) fn narrow(number: i128) -> i64
+    requires { unsigned_abs number < NUMERATOR_LIMIT }
+    ensures { result ≡ number }
+{
+    number as i64
+}
+
+// A product by one multiplication.
+fn wide_product(a: i64, b: i64) -> i128
+    ensures { result ≡ a *ℤ b }
+{
+    a as i128 * b as i128
+}
+
 // A number of a point times a weight.
 fn product(number: i128, weight: i128) -> i128
     requires number { unsigned_abs number < NUMERATOR_LIMIT }
@@ -163,7 +179,7 @@ fn product(number: i128, weight: i128) -> i128
     ensures value { result ≡ number *ℤ weight }
     ensures small { unsigned_abs result < PRODUCT_LIMIT }
 {
-    number * weight
+    wide_product(narrow(number), narrow(weight))
 }
 
 // The order of a/v and b/w.

@@ -3,7 +3,7 @@ ghost use Rattle.std.specs.Int.{IsGcd};
 ghost use Rattle.integers.specs.Divisor.{gcd};
 
 /// The greatest common divisor, by Euclid's steps; 0 of two zeros.
-pub fn greatest_common_divisor(a: u128, b: u128) -> u128
+pub fn greatest_common_divisor(a: u64, b: u64) -> u64
     ensures value { result ≡ gcd a b }
     ensures greatest { IsGcd a b result }
     ensures positive { 0 < a + b → 0 < result }
@@ -21,10 +21,10 @@ pub fn greatest_common_divisor(a: u128, b: u128) -> u128
 }
 
 /// The number divided by another, rounded towards 0.
-pub fn quotient(number: i128, by: u128) -> i128
+pub fn quotient(number: i64, by: u64) -> i64
     requires some { 0 < by }
-    requires small { by < 2 ^ 127 }
+    requires small { by < 2 ^ 63 }
     ensures { result ≡ int_div number (pos by) }
 {
-    number / by as i128
+    number / by as i64
 }
