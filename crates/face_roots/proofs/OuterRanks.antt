@@ -1,10 +1,11 @@
 -- The faces of a plane graph are the unbounded one and those of its outer cycles, in their order; so ranks by roots are the ranks.
-use Rattle.std.proofs.Common.{◌≡◌, ℕ, zero, suc, ◌<◌, Bool, true, false, cond, arith, refl, sym, ap, ◌∙◌, subst, inl, inr, List, [], ◌∷◌, ◌++◌, length, take, drop, get_or, map, Less}
+use Rattle.std.proofs.Common.{◌≡◌, ◌⊎◌, ℕ, zero, suc, ◌+◌, ◌<◌, Bool, true, false, cond, arith, refl, sym, ap, ◌∙◌, subst, inl, inr, List, [], ◌∷◌, ◌++◌, length, take, drop, get_or, map, Less}
 use Rattle.std.specs.Prelude.{not, filter, slice_index_or, Option, Some}
 use Rattle.std.specs.Cmp.{tied_itself}
 use Rattle.std.specs.List.{count_by, position_or_len, Contains}
 use Rattle.std.specs.Ordering.{is_lt, ordering_then}
 use Rattle.std.proofs.lemmas.Bool.{false≢true, cases_Bool, false_from_ne_true}
+use Rattle.std.proofs.lemmas.List.{get_or-map, length-map}
 use Rattle.std.proofs.lemmas.List.Sums.{sum_by-cons}
 use Rattle.exact_plane.specs.PointOrder.{point_cmp}
 use Rattle.plane_graphs.specs.Graph.{Edge}
@@ -110,6 +111,38 @@ taken_place [] (suc k) x d m = elim m [ ]
 taken_place (y ∷ ys) zero x d m = elim m [ ]
 taken_place (y ∷ ys) (suc k) x d (inl e) = (0, omega arith, omega arith, sym e)
 taken_place (y ∷ ys) (suc k) x d (inr m) = let r = taken_place ys k x d m in (suc r.0, (let a = r.1 in omega arith), (let a = r.2 in omega arith), r.3)
+
+take_all : {X : Type 0} (xs : List X) → take (length xs) xs ≡ xs
+take_all [] = refl
+take_all (x ∷ xs) = ap (λ zs. x ∷ zs) (take_all xs)
+
+-- the place in the list of what stands at k among those that pass
+filtered_place : {X : Type 0} (p : X → Bool) (xs : List X) (d : X) (k : ℕ) → k < length (filter p xs) → (c : ℕ) × (c < length xs) × (p (get_or xs c d) ≡ true) × (count_by p (take c xs) ≡ k) × (get_or (filter p xs) k d ≡ get_or xs c d)
+filtered_place p [] d k h = absurd (omega arith)
+filtered_place {X = X} p (x ∷ xs) d k h =
+    let later : (j : ℕ) → j < length (filter p xs) → cond {A = ℕ} (p x) 1 0 + j ≡ k → get_or (filter p (x ∷ xs)) k d ≡ get_or (filter p xs) j d → (c : ℕ) × (c < length (x ∷ xs)) × (p (get_or (x ∷ xs) c d) ≡ true) × (count_by p (take c (x ∷ xs)) ≡ k) × (get_or (filter p (x ∷ xs)) k d ≡ get_or (x ∷ xs) c d) = λ j l n e.
+      let r = filtered_place p xs d j l in
+      let s = sum_by-cons (λ z. cond {A = ℕ} (p z) 1 0) x (take r.0 xs) in
+      (suc r.0, (let a = r.1 in omega arith), r.2, (let a = r.3 in omega arith), e ∙ r.4)
+    in
+    elim (cases_Bool (p x)) [
+      | inl a ↦ elim (cases_zero k) [
+        | inl z ↦ (0, omega arith, a, sym z, subst (λ n. get_or (filter p (x ∷ xs)) n d ≡ x) (sym z) (ap (λ b. get_or (cond b (x ∷ filter p xs) (filter p xs)) 0 d) a))
+        | inr j ↦
+            let e : k ≡ suc j.0 = j.1 in
+            later j.0 (let q : length (filter p (x ∷ xs)) ≡ suc (length (filter p xs)) = ap (λ b. length (cond b (x ∷ filter p xs) (filter p xs))) a in omega arith) (let o : cond {A = ℕ} (p x) 1 0 ≡ 1 = ap (λ b. cond {A = ℕ} b 1 0) a in omega arith) (ap (λ n. get_or (filter p (x ∷ xs)) n d) e ∙ ap (λ b. get_or (cond b (x ∷ filter p xs) (filter p xs)) (suc j.0) d) a)
+      ]
+      | inr a ↦ later k (let q : length (filter p (x ∷ xs)) ≡ length (filter p xs) = ap (λ b. length (cond b (x ∷ filter p xs) (filter p xs))) a in omega arith) (let o : cond {A = ℕ} (p x) 1 0 ≡ 0 = ap (λ b. cond {A = ℕ} b 1 0) a in omega arith) (ap (λ b. get_or (cond b (x ∷ filter p xs) (filter p xs)) k d) a)
+    ]
+  where
+    cases_zero : (n : ℕ) → (n ≡ 0) ⊎ ((j : ℕ) × (n ≡ suc j))
+    cases_zero zero = inl refl
+    cases_zero (suc j) = inr (j, refl)
+
+-- what stands at k among the faces: the unbounded one, or that of an outer cycle of this rank
+pub data IsFaceAtRank (g : Skeleton) (roots : List Root) (ranks : List ℕ) (k : ℕ) : Type 0 where
+  first : k ≡ 0 → get_or (subdivision g).faces k first_cell ≡ face_of (face_labels g) first_cell → IsFaceAtRank g roots ranks k
+  outer : (c : ℕ) → c < length roots → slice_index_or ranks c 0 ≡ k → get_or (subdivision g).faces k first_cell ≡ face_of (face_labels g) (left_of_dart g (lead_at g c)) → IsFaceAtRank g roots ranks k
 
 same_counts : {X Y : Type 0} (p : X → Bool) (q : Y → Bool) (xs : List X) (ys : List Y) (d : X) (e : Y) (k : ℕ) → length xs ≡ length ys → ((j : ℕ) → j < length xs → p (get_or xs j d) ≡ q (get_or ys j e)) → count_by p (take k xs) ≡ count_by q (take k ys)
 same_counts p q [] [] d e zero l h = refl
@@ -243,6 +276,25 @@ module _ (g : Skeleton) (plane : IsPlaneSkeleton g) where
     pub ranks_are : (c : ℕ) → c < length roots → slice_index_or ranks c 0 ≡ rank (subdivision g) (face_of (face_labels g) (left_of_dart g (lead_at g c)))
     unfolding face
     ranks_are c h = all_upto (suc c) c (omega arith) h
+
+    -- ---- the faces in their order
+    pub faces_counted : length (subdivision g).faces ≡ faces_before roots (length roots)
+    faces_counted =
+        ap length plain_faces
+        ∙ ap suc (filtered_count out face (lead_list g) ∙ sym (ap (count_by out) (take_all (lead_list g))) ∙ ap (λ n. count_by out (take n (lead_list g))) (sym are.counted) ∙ sym (counts (length roots)))
+
+    -- the face at k is the unbounded one, or that of an outer cycle of rank k
+    pub face_at_rank : (k : ℕ) → k < length (subdivision g).faces → IsFaceAtRank g roots ranks k
+    unfolding face
+    face_at_rank zero h = first refl (ap (λ fs. get_or fs 0 first_cell) plain_faces)
+    face_at_rank (suc k) h =
+        let few : k < length (filter out (lead_list g)) = (let a = ap length plain_faces in let b = length-map (filter out (lead_list g)) face in omega arith) in
+        let x = filtered_place out (lead_list g) no_dart k few in
+        let c = x.0 in
+        let inside : c < length roots = (let a = x.1 in let b = are.counted in omega arith) in
+        outer c inside
+        (ranks_are c inside ∙ outer_rank c x.1 x.2 ∙ ap suc x.3)
+        (ap (λ fs. get_or fs (suc k) first_cell) plain_faces ∙ get_or-map face (filter out (lead_list g)) k no_dart first_cell few ∙ ap face x.4)
 
   -- ---- what is below an inner cycle
   inner_face : (d : Dart) (o : Option Edge) → IsDartOf g d → is_outer g d ≡ false → IsHighestBelow (Contains g.edges) (source (least_dart_of g d)) o → SameFace g (left_of_dart g d) (cell_over g o)
