@@ -6,3 +6,4 @@ pub mod CycleFaces
 pub mod LabelsAbove
 pub mod KnownLabels
 pub mod PiecesAlong
+pub mod LayerGraphs
