@@ -13,3 +13,4 @@ pub mod OwnCells
 pub mod Pairs
 pub mod Parts
 pub mod Points
+pub mod UnitedGraph

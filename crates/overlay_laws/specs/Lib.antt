@@ -1,1 +1,2 @@
 pub mod OverlayLaws
+pub mod United

@@ -23,8 +23,6 @@ pub mod FlatLists
 pub mod NamedEdges
 pub mod NamedMarks
 pub mod NamedGraph
-mod Numbering
-mod UnitedGraph
 mod LayerPieces
 mod LayerCells
 mod LayerLabels

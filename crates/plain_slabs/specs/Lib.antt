@@ -6,7 +6,6 @@ pub mod SubdivisionInMemory
 pub mod Faces
 pub mod Orbits
 pub mod ByName
-pub mod United
 pub mod LayerTables
 pub mod OverlayInMemory
 pub mod BothInMemory

@@ -24,7 +24,6 @@ mod plain;
 mod ranks;
 mod records;
 mod regions;
-mod united;
 
 pub use both::Both;
 pub use build::subdivide;

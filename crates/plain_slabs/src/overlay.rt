@@ -12,8 +12,8 @@ use crate::build::subdivide;
 use crate::labels::table_of;
 use crate::layer_table::LayerTable;
 use crate::plain::Plain;
-use crate::united::unite;
 use no_memory::NoMemory;
+use present_graphs::unite;
 use slab_laws::Present;
 use std::alloc::Global;
 

@@ -9,3 +9,4 @@ pub mod LastEdge
 pub mod Meets
 pub mod OnSpans
 pub mod Ties
+pub mod Numbering

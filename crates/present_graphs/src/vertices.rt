@@ -60,8 +60,8 @@ fn add_all_crossings(points: &mut Vec<Point>, spans: &[Span]) -> Result<(), NoMe
     Ok(())
 }
 
-/// Brings points into their order, each once.
-pub fn arrange_points(points: &mut Vec<Point>)
+// Brings points into their order, each once.
+pub(crate) fn arrange_points(points: &mut Vec<Point>)
     ensures { points.new.items ≡ ascending point_cmp points.old.items }
 {
     points.sort_unstable();

@@ -7,7 +7,7 @@ use Rattle.plane_graphs.proofs.Laws.{graph_is_plane}
 use Rattle.slab_laws.specs.Pieces.{present_of}
 use Rattle.slab_laws.specs.Subdivision.{subdivision}
 use Rattle.slab_laws.specs.Text.{skeleton}
-use Rattle.plain_slabs.proofs.UnitedGraph.{united_plane, united_fit, united_pins}
+use Rattle.overlay_laws.proofs.UnitedGraph.{united_plane, united_fit, united_pins}
 use Rattle.plain_slabs.proofs.overlay.subdivide_united.Goals as goal
 
 pub subdivide-requires : goal.subdivide-requires

@@ -14,7 +14,7 @@ use Rattle.plane_graphs.proofs.Lists.{in_map, of_map, in_either}
 use Rattle.plane_graphs.proofs.Meaning.{edges_are, edges_ascend, edge_cmp_total}
 use Rattle.slab_laws.specs.Overlay.{renamed, red_name, blue_name, both, plane_of}
 use Rattle.overlay_laws.proofs.Both.{same_on, fit_piece, both_fit}
-use Rattle.plain_slabs.specs.United.{numbered_from, united}
+use Rattle.overlay_laws.specs.United.{numbered_from, united}
 
 -- ---- vertices and edges don't depend on numbers
 -- the piece without its number

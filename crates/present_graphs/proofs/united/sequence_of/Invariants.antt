@@ -1,5 +1,5 @@
 use Rattle.std.proofs.Common.{◌≡◌, take}
-use Rattle.plain_slabs.proofs.united.sequence_of.Given as goal
+use Rattle.present_graphs.proofs.united.sequence_of.Given as goal
 
 abbrev pub invariant-loop-point : goal.invariant-loop-point
 invariant-loop-point l = l.sequence ≡ take l.point-index l.points

@@ -2,11 +2,11 @@ ghost use Rattle.std.specs.Prelude.{◌≡◌, ◌++◌, length, map, IfOk};
 ghost use Rattle.exact_plane.specs.PointOrder.{point_cmp};
 ghost use Rattle.plane_graphs.specs.Ascending.{ascending};
 ghost use Rattle.slab_laws.specs.Pieces.{piece_of, present_of};
-ghost use Rattle.plain_slabs.specs.United.{numbered_from, united};
+ghost use Rattle.overlay_laws.specs.United.{numbered_from, united};
 
+use crate::vertices::arrange_points;
 use exact_plane::Point;
 use no_memory::NoMemory;
-use present_graphs::arrange_points;
 use slab_laws::{CurveId, Piece, Present, Sequence};
 use std::alloc::Global;
 
@@ -58,8 +58,13 @@ fn sequence_of(alloc: Global, points: &[Point]) -> Result<Sequence<Point>, NoMem
     Ok(sequence)
 }
 
-// Both layers as one, each piece a curve of its own.
-pub(crate) fn unite(alloc: Global, red: &Present, blue: &Present) -> Result<Present, NoMemory>
+/// Both layers as one present, each piece a curve of its own: its number is the place of the piece, first those of red, then those
+/// of blue. So the vertices and edges are those of the overlay, and fit layers are fit together (CGAL manual, `overlay`).
+///
+/// # Errors
+///
+/// There was no memory for the lists; for more than 2^32 pieces there is none.
+pub fn unite(alloc: Global, red: &Present, blue: &Present) -> Result<Present, NoMemory>
     ensures { IfOk result (λ p. present_of p ≡ united (present_of red.now) (present_of blue.now)) }
 {
     let mut pieces = Sequence::new(alloc);

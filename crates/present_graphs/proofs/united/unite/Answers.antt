@@ -1,9 +1,9 @@
 use Rattle.std.proofs.Common.{ap₂, ◌∙◌, ◌++◌}
 use Rattle.exact_plane.specs.PointOrder.{point_cmp}
 use Rattle.plane_graphs.specs.Ascending.{ascending}
-use Rattle.plain_slabs.specs.United.{united}
-use Rattle.plain_slabs.proofs.Numbering.{both_numbered}
-use Rattle.plain_slabs.proofs.united.unite.Goals as goal
+use Rattle.overlay_laws.specs.United.{united}
+use Rattle.present_graphs.proofs.Numbering.{both_numbered}
+use Rattle.present_graphs.proofs.united.unite.Goals as goal
 
 pub returns : goal.returns
 unfolding united

@@ -6,7 +6,7 @@ use Rattle.slab_laws.specs.declared.names.CurveId.{CurveId}
 use Rattle.slab_laws.specs.declared.present.Piece.{Piece as PieceInMemory}
 use Rattle.slab_laws.specs.Pieces.{piece_of}
 use Rattle.slab_laws.specs.Overlay.{renamed}
-use Rattle.plain_slabs.specs.United.{numbered_from}
+use Rattle.overlay_laws.specs.United.{numbered_from}
 
 -- lists one after the other
 pub numbered_append : (n : ℕ) (ks ms : List Piece) → numbered_from n (ks ++ ms) ≡ numbered_from n ks ++ numbered_from (n + length ks) ms

@@ -1,8 +1,8 @@
 use Rattle.std.proofs.Common.{ap, ◌∙◌, map, length}
 use Rattle.slab_laws.specs.Pieces.{piece_of}
 use Rattle.plane_graphs.proofs.Loops.{read_map, below_map, past_map}
-use Rattle.plain_slabs.proofs.Numbering.{begun, numbered_more, all_numbered}
-use Rattle.plain_slabs.proofs.united.add_pieces.Goals as goal
+use Rattle.present_graphs.proofs.Numbering.{begun, numbered_more, all_numbered}
+use Rattle.present_graphs.proofs.united.add_pieces.Goals as goal
 
 pub loop-piece-init : goal.loop-piece-init
 loop-piece-init c = begun c.args.all.now (map piece_of c.args.pieces.now)
