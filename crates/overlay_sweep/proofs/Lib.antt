@@ -14,3 +14,5 @@ pub mod LabelRounds
 pub mod KnownLabels
 pub mod FaceLabels
 pub mod PiecesAlong
+pub mod RunsAlong
+pub mod CurveRows
