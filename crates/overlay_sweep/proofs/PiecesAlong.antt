@@ -14,7 +14,7 @@ use Rattle.sweep_graphs.proofs.EdgeOrders.{then_less, ends_cmp_total}
 use Rattle.overlay_sweep.specs.PiecesAlong.{IsAlongSome, IsPieceAlong}
 
 -- what comes earlier among stretches has lesser ends or the same
-ends_rise : (x y : Stretch) → stretch_cmp x y ≡ Less → (ends_cmp (ends_of x) (ends_of y) ≡ Less) ⊎ (ends_of x ≡ ends_of y)
+pub ends_rise : (x y : Stretch) → stretch_cmp x y ≡ Less → (ends_cmp (ends_of x) (ends_of y) ≡ Less) ⊎ (ends_of x ≡ ends_of y)
 ends_rise x y h =
     let rest = nat_cmp x.piece y.piece in
     elim (then_less (nat_cmp x.low y.low) (ordering_then (nat_cmp x.high y.high) rest) h) [

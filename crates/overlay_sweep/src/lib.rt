@@ -8,6 +8,7 @@
 #![tactic(auto)]
 
 mod bare;
+mod curves;
 mod darts;
 mod edges;
 mod faces;
@@ -23,6 +24,7 @@ ghost use Rattle.overlay_sweep.specs.KnownLabels.{LabelsByKnownEdges};
 ghost use Rattle.overlay_sweep.specs.LayerLabels.{LabelsByOwnEdges};
 
 pub use bare::{bare_ranks, rank_above};
+pub use curves::curves_of_edges;
 pub use darts::forward_dart;
 pub use edges::place_of_edge;
 pub use faces::labels_of_faces;

@@ -1,0 +1,10 @@
+use Rattle.std.specs.Ordering.{nat_cmp}
+use Rattle.std.proofs.lemmas.Cmp.{nat_cmp_total}
+use Rattle.plane_graphs.proofs.Arranged.{arranged}
+use Rattle.integers.proofs.Tests.{nat_exact, number_ties}
+use Rattle.slab_laws.specs.declared.names.CurveId.{CurveId}
+use Rattle.overlay_sweep.proofs.curves.arrange.Goals as goal
+
+pub returns : goal.returns
+returns c =
+    arranged (λ (n : CurveId). n.0) nat_cmp nat_cmp_total nat_exact c.args.curves.now.items c.sort_unstable.new.self.items c.sort_unstable.ensures.permutation _ c.dedup.new.self.items (λ x y. number_ties x.0 y.0) c.sort_unstable.ensures.sorted c.dedup.ensures.filtered
