@@ -6,4 +6,5 @@ pub mod CycleFaces
 pub mod LabelsAbove
 pub mod KnownLabels
 pub mod PiecesAlong
+pub mod EdgeSpans
 pub mod LayerGraphs

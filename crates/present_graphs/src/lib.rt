@@ -13,4 +13,5 @@ mod vertices;
 
 pub use edges::edges_of;
 pub use marks::{Mark, marks_of};
+pub use pieces::spans_of;
 pub use vertices::{arrange_points, vertices_of};

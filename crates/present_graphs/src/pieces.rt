@@ -20,8 +20,12 @@ pub(crate) fn span_of(piece: &Piece) -> Span
     span
 }
 
-// The spans of pieces, in their order.
-pub(crate) fn spans_of(alloc: Global, pieces: &[Piece]) -> Result<Vec<Span>, NoMemory>
+/// The spans of pieces, in their order: of each the part of its segment's line from its lower end to its upper end.
+///
+/// # Errors
+///
+/// There was no memory.
+pub fn spans_of(alloc: Global, pieces: &[Piece]) -> Result<Vec<Span>, NoMemory>
     requires { AreFit (map piece_of pieces.now) }
     ensures items { IfOk result (λ spans. spans.items ≡ map span_of_piece (map piece_of pieces.now)) }
     ensures spans { IfOk result (λ spans. AreSpans spans.items) }
