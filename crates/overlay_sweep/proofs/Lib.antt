@@ -14,3 +14,4 @@ pub mod LabelRounds
 pub mod KnownLabels
 pub mod FaceLabels
 pub mod PiecesAlong
+pub mod TracedEdges

@@ -62,7 +62,7 @@ fn trace_of_present(alloc: Global, present: &Present, pieces: &[Span]) -> Result
     requires pieces { pieces.now ≡ map span_of_piece (present_of present.now).pieces }
     requires spans { AreSpans pieces.now }
     ensures trace { IfOk result (IsTrace (map span_of_piece (present_of present.now).pieces) (present_of present.now).pins) }
-    ensures present { IfOk result (IsTraceOf (present_of present.now)) }
+    ensures graph { IfOk result (IsTraceOf (present_of present.now)) }
 {
     let pins = present.pins.as_slice();
     laws_of_each(pins);
