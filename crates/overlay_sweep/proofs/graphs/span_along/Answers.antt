@@ -28,8 +28,8 @@ unwrap-requires c =
     let s = c.piece_along.ensures in
     let e = c.args.edge.now in
     let way =
-        subst (λ (i : ℕ). AreOnWay (point_at c.args.points.now e.low) (point_at c.args.points.now e.high) (piece_at c.args.pieces.now i).line) s.3
-        (subst (λ (f : EdgeEnds). AreOnWay (point_at c.args.points.now f.low) (point_at c.args.points.now f.high) (piece_at c.args.pieces.now s.0.piece).line) s.2 (c.requires.lines s.0 s.1).way) in
+    subst (λ (i : ℕ). AreOnWay (point_at c.args.points.now e.low) (point_at c.args.points.now e.high) (piece_at c.args.pieces.now i).line) s.3
+    (subst (λ (f : EdgeEnds). AreOnWay (point_at c.args.points.now f.low) (point_at c.args.points.now f.high) (piece_at c.args.pieces.now s.0.piece).line) s.2 (c.requires.lines s.0 s.1).way) in
     some_by c.new.result _ c.new.ensures.none
     (subst (λ (l : Line). AreOnWay c.vertex_at-low.result c.vertex_at-high.result l) (sym c.line_at-line.ensures)
     (subst (λ (a : Point). AreOnWay a c.vertex_at-high.result (piece_at c.args.pieces.now c.piece_along.result).line) (sym c.vertex_at-low.ensures)

@@ -7,7 +7,7 @@ use Rattle.sweep_graphs.specs.Edges.{edge_between}
 use Rattle.overlay_sweep.proofs.TracedEdges.{one_more}
 use Rattle.overlay_sweep.proofs.graphs.spans_along.Goals as goal
 
-no_edge : EdgeEnds
+abbrev no_edge : EdgeEnds
 no_edge = record { low = 0; high = 0 }
 
 pub loop-edge-init : goal.loop-edge-init

@@ -1,8 +1,7 @@
-use Rattle.std.proofs.Common.{List, map, sym, ap, ◌∙◌, subst}
-use Rattle.exact_plane.specs.Point.{Point, IsPoint}
+use Rattle.std.proofs.Common.{List, sym, subst}
+use Rattle.exact_plane.specs.Point.{Point}
 use Rattle.exact_plane.specs.Span.{Span}
 use Rattle.plane_graphs.specs.Ascending.{Member}
-use Rattle.present_graphs.specs.Spans.{span_of_piece}
 use Rattle.slab_laws.specs.Pieces.{present_of}
 use Rattle.sweep_events.specs.Places.{AreSpans}
 use Rattle.sweep_graphs.specs.Traces.{IsTrace}
