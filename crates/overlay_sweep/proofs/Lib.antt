@@ -17,3 +17,4 @@ pub mod PiecesAlong
 pub mod FaceRows
 pub mod RunsAlong
 pub mod CurveRows
+pub mod TracedEdges

@@ -6,5 +6,6 @@ pub mod CycleFaces
 pub mod LabelsAbove
 pub mod KnownLabels
 pub mod PiecesAlong
+pub mod EdgeSpans
 pub mod LayerGraphs
 pub mod EdgeCurves

@@ -28,7 +28,7 @@ pub use curves::curves_of_edges;
 pub use darts::forward_dart;
 pub use edges::place_of_edge;
 pub use faces::labels_of_faces;
-pub use graphs::LayerGraph;
+pub use graphs::{LayerGraph, graph_of};
 pub use kinds::is_inner;
 pub use labels::{Source, labels_of};
 pub use layers::labels_above;

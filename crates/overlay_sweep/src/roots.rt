@@ -110,8 +110,8 @@ pub fn roots_of(
     Ok(roots)
 }
 
-/// The ranks of the faces of all cycles, in the order of these: the unbounded face has rank 0, and the others follow by the least
-/// darts of their outer cycles.
+/// The ranks of the faces of all cycles, in the order of these, by their roots: the unbounded face has rank 0, and the others follow by
+/// the least darts of their outer cycles. Of the points and edges only the contract speaks; the roots are those of `roots_of`.
 ///
 /// # Errors
 ///
@@ -120,16 +120,12 @@ pub fn cycle_ranks(
     alloc: Global,
     points: &[Point],
     edges: &[Span],
-    orbits: &Orbits,
-    below: &[Option<EdgeEnds>],
+    roots: &[Root],
 ) -> Result<Vec<usize>, NoMemory>
     requires plane { IsPlaneSkeleton (drawn points.now edges.now) }
-    requires ascend { IsAscending point_cmp points.now }
-    requires orbits { AreOrbits (drawn points.now edges.now) orbits.now }
-    requires below { AreUnder (drawn points.now edges.now) below.now }
+    requires roots { AreRootsOf (drawn points.now edges.now) roots.now }
     ensures { IfOk result (λ v. AreCycleRanks (drawn points.now edges.now) v.items) }
 {
-    let roots = roots_of(alloc, points, edges, orbits, below)?;
-    let ranks = ranks_of(alloc, &roots)?;
+    let ranks = ranks_of(alloc, roots)?;
     Ok(ranks)
 }
