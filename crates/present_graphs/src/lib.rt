@@ -19,4 +19,3 @@ pub use marks::{Mark, marks_of};
 pub use pieces::spans_of;
 pub use united::unite;
 pub use vertices::vertices_of;
-pub use vertices::{arrange_points, vertices_of};
