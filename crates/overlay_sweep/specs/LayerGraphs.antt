@@ -6,7 +6,7 @@ use Rattle.plane_graphs.specs.Piece.{Present}
 use Rattle.present_graphs.specs.Spans.{span_of_piece}
 use Rattle.slab_laws.specs.Overlay.{plane_of}
 use Rattle.slab_laws.specs.SpansDrawn.{drawn}
-use Rattle.face_roots.specs.CycleRanks.{AreRootsOf}
+use Rattle.face_roots.specs.CycleRanks.{AreRankedBy, AreRootsOf}
 use Rattle.sweep_events.specs.Places.{piece_at}
 use Rattle.sweep_graphs.specs.Edges.{ends_of, ends_cmp, stretch_cmp}
 use Rattle.sweep_graphs.specs.TraceLaws.{IsTraceOf}
@@ -27,6 +27,7 @@ pub record IsLayerGraph (p : Present) (g : LayerGraph) : Type 0 where
   pub orbits : AreOrbits (plane_of p) g.orbits
   pub roots : AreRootsOf (plane_of p) g.roots.items
   pub ranks : AreCycleRanks (plane_of p) g.ranks.items
+  pub ranked : AreRankedBy g.roots.items g.ranks.items
 
 -- the layer's pieces stand among those of the whole from `first` on, whatever their curves, and its pins among the pins (CGAL manual, `overlay`)
 pub record ArePiecesFrom (first : ℕ) (layer whole : Present) : Type 0 where

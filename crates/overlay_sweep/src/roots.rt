@@ -3,7 +3,7 @@ ghost use Rattle.exact_plane.specs.PointOrder.{point_cmp};
 ghost use Rattle.plane_graphs.specs.Ascending.{IsAscending};
 ghost use Rattle.slab_laws.specs.Skeleton.{IsPlaneSkeleton};
 ghost use Rattle.slab_laws.specs.SpansDrawn.{drawn};
-ghost use Rattle.face_roots.specs.CycleRanks.{IsRootOf, AreRootsOf};
+ghost use Rattle.face_roots.specs.CycleRanks.{IsRootOf, AreRankedBy, AreRootsOf};
 ghost use Rattle.dart_orbits.specs.Orbits.{AreOrbits};
 ghost use Rattle.dart_orbits.specs.Ways.{row_in};
 ghost use Rattle.overlay_sweep.specs.CycleFaces.{AreCycleRanks};
@@ -124,7 +124,8 @@ pub fn cycle_ranks(
 ) -> Result<Vec<usize>, NoMemory>
     requires plane { IsPlaneSkeleton (drawn points.now edges.now) }
     requires roots { AreRootsOf (drawn points.now edges.now) roots.now }
-    ensures { IfOk result (λ v. AreCycleRanks (drawn points.now edges.now) v.items) }
+    ensures ranks { IfOk result (λ v. AreCycleRanks (drawn points.now edges.now) v.items) }
+    ensures ranked { IfOk result (λ v. AreRankedBy roots.now v.items) }
 {
     let ranks = ranks_of(alloc, roots)?;
     Ok(ranks)

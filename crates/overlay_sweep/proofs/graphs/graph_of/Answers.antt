@@ -7,7 +7,7 @@ use Rattle.slab_laws.specs.Pieces.{piece_of, present_of}
 use Rattle.slab_laws.specs.Skeleton.{Skeleton, IsPlaneSkeleton}
 use Rattle.slab_laws.specs.SpansDrawn.{drawn, edge_of}
 use Rattle.overlay_laws.proofs.Labels.{plane_by}
-use Rattle.face_roots.specs.CycleRanks.{AreRootsOf}
+use Rattle.face_roots.specs.CycleRanks.{AreRankedBy, AreRootsOf}
 use Rattle.sweep_graphs.specs.declared.trace.Stretch.{Stretch}
 use Rattle.sweep_graphs.specs.Edges.{ends_of, ends_cmp, stretch_cmp}
 use Rattle.sweep_graphs.proofs.EdgeOrders.{stretch_cmp_total}
@@ -114,5 +114,6 @@ returns c =
       below = subst (λ (s : Skeleton). AreUnder s c.in_ok-below.below.items) is (under_traces p t c.in_ok-below.below.items points spans g c.in_ok-below.ensures c.as_slice-points.ensures are);
       orbits = subst (λ (s : Skeleton). AreOrbits s c.in_ok-orbits.orbits) (ap (drawn points) c.deref-5.ensures.value ∙ is) c.in_ok-orbits.ensures;
       roots = subst (λ (s : Skeleton). AreRootsOf s c.in_ok-roots.roots.items) (ap (drawn points) c.deref-6.ensures.value ∙ is) c.in_ok-roots.ensures;
-      ranks = subst (λ (s : Skeleton). AreCycleRanks s c.in_ok-ranks.ranks.items) (ap (drawn points) c.deref-8.ensures.value ∙ is) c.in_ok-ranks.ensures;
+      ranks = subst (λ (s : Skeleton). AreCycleRanks s c.in_ok-ranks.ranks.items) (ap (drawn points) c.deref-8.ensures.value ∙ is) c.in_ok-ranks.ensures.ranks;
+      ranked = subst (λ rs. AreRankedBy rs c.in_ok-ranks.ranks.items) c.deref-9.ensures.value c.in_ok-ranks.ensures.ranked;
     }
