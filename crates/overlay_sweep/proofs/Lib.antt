@@ -16,3 +16,4 @@ pub mod FaceLabels
 pub mod PiecesAlong
 pub mod RunsAlong
 pub mod CurveRows
+pub mod UnitedPieces
