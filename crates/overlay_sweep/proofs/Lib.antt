@@ -18,3 +18,4 @@ pub mod FaceRows
 pub mod RunsAlong
 pub mod CurveRows
 pub mod TracedEdges
+pub mod UnitedPieces

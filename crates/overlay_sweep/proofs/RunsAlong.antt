@@ -1,14 +1,14 @@
 -- A piece has a stretch along an edge of the whole where it holds both ends of the edge.
-use Rattle.std.proofs.Common.{◌≡◌, ℕ, ◌+◌, ◌<◌, true, ◌&&◌, arith, refl, sym, ap, ◌∙◌, subst, inl, inr, List, length, map, Less}
+use Rattle.std.proofs.Common.{◌≡◌, ℕ, ◌+◌, ◌<◌, true, arith, sym, ◌∙◌, subst, inl, inr, length, map, Less}
 use Rattle.std.proofs.lemmas.Bool.{cases_lt, and_parts}
 use Rattle.std.proofs.lemmas.List.{length-map}
 use Rattle.exact_plane.specs.Point.{Point}
 use Rattle.exact_plane.specs.PointOrder.{point_cmp}
 use Rattle.exact_plane.specs.Span.{Span, LiesOn}
-use Rattle.plane_graphs.specs.Ascending.{Member, ascending}
+use Rattle.plane_graphs.specs.Ascending.{Member}
 use Rattle.plane_graphs.specs.Fit.{IsFit}
-use Rattle.plane_graphs.specs.Graph.{Mark, graph, mark_cmp, vertices}
-use Rattle.plane_graphs.specs.Piece.{Piece, Present, along, on}
+use Rattle.plane_graphs.specs.Graph.{graph, mark_cmp, vertices}
+use Rattle.plane_graphs.specs.Piece.{Piece, Present, on}
 use Rattle.plane_graphs.proofs.Ascending.{ascending-Member}
 use Rattle.plane_graphs.proofs.Edges.{mark_of_piece}
 use Rattle.plane_graphs.proofs.Lines.{geometry}
