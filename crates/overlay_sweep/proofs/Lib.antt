@@ -14,3 +14,9 @@ pub mod LabelRounds
 pub mod KnownLabels
 pub mod FaceLabels
 pub mod PiecesAlong
+pub mod OwnSteps
+pub mod OwnStretches
+pub mod OwnEdges
+pub mod OwnCounts
+pub mod OwnAlong
+pub mod KnownEdges

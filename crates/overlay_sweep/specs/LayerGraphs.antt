@@ -1,6 +1,7 @@
 -- The plane graph of a present by one sweep, and a layer's pieces among those of both.
 use Rattle.std.specs.Prelude.{◌≡◌, ◌+◌, ◌<◌, ◌≤◌, ℕ, length, map}
-use Rattle.plane_graphs.specs.Ascending.{ascending}
+use Rattle.exact_plane.specs.Point.{Point}
+use Rattle.plane_graphs.specs.Ascending.{ascending, Member}
 use Rattle.plane_graphs.specs.Piece.{Present}
 use Rattle.present_graphs.specs.Spans.{span_of_piece}
 use Rattle.slab_laws.specs.Overlay.{plane_of}
@@ -27,7 +28,8 @@ pub record IsLayerGraph (p : Present) (g : LayerGraph) : Type 0 where
   pub roots : AreRootsOf (plane_of p) g.roots.items
   pub ranks : AreCycleRanks (plane_of p) g.ranks.items
 
--- the layer's pieces stand among those of the whole from `first` on, whatever their curves (CGAL manual, `overlay`)
+-- the layer's pieces stand among those of the whole from `first` on, whatever their curves, and its pins among the pins (CGAL manual, `overlay`)
 pub record ArePiecesFrom (first : ℕ) (layer whole : Present) : Type 0 where
   pub within : first + length layer.pieces ≤ length whole.pieces
   pub same : (i : ℕ) → i < length layer.pieces → piece_at (map span_of_piece whole.pieces) (first + i) ≡ piece_at (map span_of_piece layer.pieces) i
+  pub pins : (r : Point) → Member r layer.pins → Member r whole.pins

@@ -7,3 +7,5 @@ pub mod LabelsAbove
 pub mod KnownLabels
 pub mod PiecesAlong
 pub mod LayerGraphs
+pub mod OwnStretches
+pub mod KnownEdges
