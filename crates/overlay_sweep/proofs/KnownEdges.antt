@@ -1,5 +1,5 @@
 -- The labels that are told along a layer's own edges are those known of the whole.
-use Rattle.std.proofs.Common.{◌≡◌, ℕ, ◌+◌, ◌<◌, ◌≤◌, Bool, true, arith, sym, ap, subst, ◌∙◌, inl, inr, List, [], ◌∷◌, ◌++◌, length, map, get_or, Contains}
+use Rattle.std.proofs.Common.{◌≡◌, ℕ, ◌+◌, ◌<◌, ◌≤◌, true, arith, sym, ap, subst, ◌∙◌, inl, inr, List, [], ◌∷◌, ◌++◌, length, map, get_or, Contains}
 use Rattle.std.specs.Prelude.{slice_index_or, Option, Some, None}
 use Rattle.std.proofs.lemmas.Bool.{cases_lt}
 use Rattle.std.proofs.lemmas.List.{get_or_append_left, get_or_push, length-append}
@@ -17,13 +17,17 @@ use Rattle.sweep_graphs.specs.declared.trace.Stretch.{Stretch}
 use Rattle.sweep_graphs.specs.Edges.{edge_between}
 use Rattle.overlay_sweep.specs.declared.graphs.LayerGraph.{LayerGraph}
 use Rattle.overlay_sweep.specs.declared.own.PieceStretch.{PieceStretch}
-use Rattle.overlay_sweep.specs.KnownEdges.{IsOwnAlong, IsRankOn, IsKnownOf}
+use Rattle.overlay_sweep.specs.KnownEdges.{IsOwnAlong, IsRankOn}
 use Rattle.overlay_sweep.specs.KnownLabels.{AreKnown}
 use Rattle.overlay_sweep.specs.LabelsAbove.{known_at, label_over}
 use Rattle.overlay_sweep.specs.LayerGraphs.{IsLayerGraph, ArePiecesFrom}
 use Rattle.overlay_sweep.specs.LayerLabels.{is_held, rank_beside}
 use Rattle.overlay_sweep.specs.OwnStretches.{piece_first, piece_cmp, ends_of_own, IsBegun, AreCountsUpto}
 use Rattle.overlay_sweep.proofs.OwnEdges.{no_ends, edge_at, own_edge, owned, begun, held, run_along}
+
+-- what is told of an edge: the rank on one of the layer's pieces that run along it
+abbrev pub IsKnownOf : LayerGraph → List PieceStretch → List ℕ → ℕ → ℕ → List Stretch → EdgeEnds → Option ℕ → Type 0
+IsKnownOf own ts counts first count stretches e r = (piece : Option ℕ) × IsOwnAlong first count stretches e piece × IsRankOn own ts (slice_index_or counts e.low 0) piece r
 
 -- ---- of the first edges
 module _ (own : LayerGraph) (ts : List PieceStretch) (counts : List ℕ) (first count : ℕ) (stretches : List Stretch) (es : List EdgeEnds) where

@@ -1,5 +1,5 @@
 -- Of the pieces from one place on the first that runs along an edge is found by the order of stretches.
-use Rattle.std.proofs.Common.{◌≡◌, ◌⊎◌, ℕ, ◌+◌, ◌<◌, ◌≤◌, ◌-◌, Bool, true, false, arith, refl, sym, ap, ap₂, subst, ◌∙◌, inl, inr, nat_cmp, Ordering, Less, Equal, List, length, get_or}
+use Rattle.std.proofs.Common.{◌≡◌, ◌⊎◌, ℕ, ◌<◌, ◌≤◌, ◌-◌, Bool, true, false, arith, sym, ap, ap₂, subst, ◌∙◌, inl, inr, nat_cmp, Less, Equal, List, length, get_or}
 use Rattle.std.specs.Prelude.{Option, Some, None, nat_lt}
 use Rattle.std.specs.Ordering.{is_lt, ordering_then}
 use Rattle.std.specs.Cmp.{nat_cmp_total, tied_itself}
@@ -14,6 +14,7 @@ use Rattle.sweep_graphs.specs.declared.trace.Stretch.{Stretch}
 use Rattle.sweep_graphs.specs.Edges.{ends_of, stretch_cmp}
 use Rattle.sweep_graphs.proofs.EdgeOrders.{then_less, stretch_cmp_total}
 use Rattle.overlay_sweep.specs.KnownEdges.{IsPlaceOfOwn, IsOwnAlong}
+use Rattle.overlay_sweep.proofs.PiecesAlong.{no_stretch}
 
 -- the ends of x come before those of y, or are the same, and then its piece comes before
 abbrev IsLesser : Stretch → Stretch → Type 0
@@ -47,9 +48,6 @@ bar_at e first = record { low = e.low; high = e.high; piece = first }
 
 abbrev pub is_before : Stretch → Stretch → Bool
 is_before w s = is_lt (stretch_cmp s w)
-
-no_stretch : Stretch
-no_stretch = record { low = 0; high = 0; piece = 0 }
 
 module _ (xs : List Stretch) (up : IsAscending stretch_cmp xs) (e : EdgeEnds) (first : ℕ) where
   pub parted_along : IsPartitionedBy (is_before (bar_at e first)) xs

@@ -1,5 +1,5 @@
 -- Of an edge of the whole that lies on a piece of a layer: the layer's own edge that it lies on, and the pieces that run along it.
-use Rattle.std.proofs.Common.{◌≡◌, ℕ, ◌+◌, ◌<◌, ◌≤◌, true, arith, refl, ap, ◌∙◌, subst, sym, inl, inr, List, length, map, get_or, Less, Contains, is_lt}
+use Rattle.std.proofs.Common.{◌≡◌, ℕ, ◌+◌, ◌<◌, ◌≤◌, true, arith, ap, ◌∙◌, subst, sym, inl, inr, List, length, map, get_or, Less, Contains, is_lt}
 use Rattle.std.specs.Prelude.{◌⊎◌, slice_index_or}
 use Rattle.std.proofs.lemmas.Bool.{cases_lt}
 use Rattle.std.proofs.lemmas.List.{get_or-map, length-map}
@@ -11,15 +11,14 @@ use Rattle.exact_plane.proofs.Orders.{less_at_most, at_most_chain}
 use Rattle.plane_graphs.specs.Ascending.{Member, ascending, IsAscending}
 use Rattle.plane_graphs.specs.Fit.{IsFit}
 use Rattle.plane_graphs.specs.Graph.{Edge, graph, edges, vertices, collinear}
-use Rattle.plane_graphs.specs.Line.{IsProper, precedes}
-use Rattle.plane_graphs.specs.Meaning.{IsEdgeOf}
+use Rattle.plane_graphs.specs.Line.{IsProper}
 use Rattle.plane_graphs.specs.Piece.{Piece, Present, along, on}
 use Rattle.plane_graphs.proofs.Ascending.{IsAscending-ascending, Member-ascending, ascending-Member, to_member, from_member}
 use Rattle.plane_graphs.proofs.Closed.{IsClosed}
 use Rattle.plane_graphs.proofs.Laws.{graph_is_plane}
 use Rattle.plane_graphs.proofs.Lines.{geometry}
 use Rattle.plane_graphs.proofs.Lists.{and_in, any_in, any_out, in_map, of_map, clash}
-use Rattle.plane_graphs.proofs.Marks.{On, on_in, on_out, on_between, le_same, le_lt}
+use Rattle.plane_graphs.proofs.Marks.{on_in, on_out, on_between, le_same, le_lt}
 use Rattle.plane_graphs.proofs.Meaning.{edges_are}
 use Rattle.plane_graphs.proofs.Order.{Lt, lt_out}
 use Rattle.plane_graphs.proofs.Sorting.{member_at}

@@ -5,7 +5,7 @@ use Rattle.exact_plane.specs.Point.{Point}
 use Rattle.exact_plane.specs.PointOrder.{point_cmp}
 use Rattle.exact_plane.specs.PointOrderLaws.{and_true}
 use Rattle.exact_plane.specs.Span.{Span, LiesOn, IsAtMost}
-use Rattle.exact_plane.proofs.Orders.{at_most_itself, at_most_chain, less_at_most}
+use Rattle.exact_plane.proofs.Orders.{at_most_itself, less_at_most}
 use Rattle.plane_graphs.specs.Ascending.{Member}
 use Rattle.plane_graphs.specs.Line.{precedes}
 use Rattle.plane_graphs.proofs.Closed.{IsLast, IsFirst, last_passing, first_passing}
@@ -15,7 +15,6 @@ use Rattle.plane_graphs.proofs.Sorting.{rises}
 use Rattle.present_graphs.specs.Spans.{lies_on}
 use Rattle.present_graphs.proofs.OnSpans.{lies_on_in, lies_on_out}
 use Rattle.std.proofs.lemmas.Bool.{cases_lt}
-use Rattle.sweep_events.specs.Events.{IsEvent}
 use Rattle.sweep_events.specs.Places.{piece_at}
 use Rattle.sweep_events.proofs.EventSteps.{in_order, not_both, less_chain, chain_less}
 use Rattle.sweep_graphs.specs.declared.trace.Stretch.{Stretch}

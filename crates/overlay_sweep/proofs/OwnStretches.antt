@@ -6,7 +6,7 @@ use Rattle.std.specs.List.Sorted.{IsPartitionedBy, IsPartitionPoint}
 use Rattle.std.proofs.lemmas.Bool.{false≢true, cases_lt}
 use Rattle.integers.proofs.Classes.{then_equal}
 use Rattle.integers.proofs.Tests.{nat_exact, nat_less, less_nat, number_ties, both_equal, is_less}
-use Rattle.plane_graphs.specs.Ascending.{Member, IsAscending}
+use Rattle.plane_graphs.specs.Ascending.{IsAscending}
 use Rattle.plane_graphs.proofs.Ascending.{from_member}
 use Rattle.plane_graphs.proofs.Sorting.{parted, rises, member_at, any_default}
 use Rattle.sweep_graphs.proofs.EdgeOrders.{then_less}

@@ -1,5 +1,5 @@
 -- The rank of the face above a layer's own edge, of each edge of the whole that lies on one.
-use Rattle.std.specs.Prelude.{◌≡◌, ◌+◌, ◌<◌, ℕ, List, slice_index_or, Option, None, Some}
+use Rattle.std.specs.Prelude.{◌≡◌, ◌+◌, ◌<◌, ℕ, List, Option, None, Some}
 use Rattle.slab_laws.specs.Darts.{ahead}
 use Rattle.slab_laws.specs.SpansDrawn.{drawn}
 use Rattle.sweep_graphs.specs.declared.edges.EdgeEnds.{EdgeEnds}
@@ -29,7 +29,3 @@ IsOwnAlong first count stretches e (Some i) = (i < count) × IsPieceAlong stretc
 abbrev pub IsRankOn : LayerGraph → List PieceStretch → ℕ → Option ℕ → Option ℕ → Type 0
 IsRankOn own ts bound None r = r ≡ None
 IsRankOn own ts bound (Some i) r = (t : PieceStretch) × IsLastBegun ts i bound t × (r ≡ Some (rank_over own (ends_of_own t)))
-
--- what is told of an edge: the rank on one of the layer's pieces that run along it
-abbrev pub IsKnownOf : LayerGraph → List PieceStretch → List ℕ → ℕ → ℕ → List Stretch → EdgeEnds → Option ℕ → Type 0
-IsKnownOf own ts counts first count stretches e r = (piece : Option ℕ) × IsOwnAlong first count stretches e piece × IsRankOn own ts (slice_index_or counts e.low 0) piece r

@@ -1,11 +1,11 @@
-ghost use Rattle.std.specs.Prelude.{◌≡◌, ◌<◌, ℕ, length, map, slice_index_or, Some, Contains, IfOk};
+ghost use Rattle.std.specs.Prelude.{◌≡◌, ◌<◌, ℕ, map, slice_index_or, Some, Contains, IfOk};
 ghost use Rattle.std.specs.Ordering.{is_lt};
 ghost use Rattle.plane_graphs.specs.Ascending.{ascending, IsAscending};
 ghost use Rattle.plane_graphs.specs.Fit.{IsFit};
 ghost use Rattle.slab_laws.specs.Pieces.{present_of};
 ghost use Rattle.slab_laws.specs.SpansDrawn.{drawn};
 ghost use Rattle.sweep_graphs.specs.Edges.{stretch_cmp, edge_between};
-ghost use Rattle.overlay_sweep.specs.KnownEdges.{rank_over, IsPlaceOfOwn, IsOwnAlong, IsRankOn, IsKnownOf};
+ghost use Rattle.overlay_sweep.specs.KnownEdges.{rank_over, IsPlaceOfOwn, IsOwnAlong, IsRankOn};
 ghost use Rattle.overlay_sweep.specs.KnownLabels.{AreKnown};
 ghost use Rattle.overlay_sweep.specs.LayerGraphs.{IsLayerGraph, ArePiecesFrom};
 ghost use Rattle.overlay_sweep.specs.OwnStretches.{piece_first, piece_cmp, ends_of_own, IsBegun};
@@ -108,7 +108,7 @@ fn count_at(counts: &[usize], vertex: usize) -> usize
 /// Halperin and Wein: an edge of the overlay lies on an edge of each layer whose curve it has); of any other edge, none.
 ///
 /// Both graphs are those of `graph_of`, that of the layer's pieces and that of a present that has these from the place `first` on.
-/// Three searches for each edge, none of them by points.
+/// Three searches for each edge at most, none of them by points.
 ///
 /// # Errors
 ///

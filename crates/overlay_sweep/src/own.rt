@@ -1,8 +1,8 @@
-ghost use Rattle.std.specs.Prelude.{◌≡◌, ◌+◌, ◌≤◌, ℕ, cond, length, map, slice_index_or, IfOk};
+ghost use Rattle.std.specs.Prelude.{◌≡◌, ◌+◌, ◌≤◌, cond, length, map, IfOk};
 ghost use Rattle.std.specs.Ordering.{is_lt};
 ghost use Rattle.exact_plane.specs.PointOrder.{point_cmp};
 ghost use Rattle.plane_graphs.specs.Ascending.{ascending, IsAscending, Member};
-ghost use Rattle.overlay_sweep.specs.OwnStretches.{piece_first, piece_cmp, ends_of_own, counts_one, IsBegun, IsLastBegun, AreCountsUpto};
+ghost use Rattle.overlay_sweep.specs.OwnStretches.{piece_first, piece_cmp, counts_one, IsBegun, IsLastBegun, AreCountsUpto};
 
 use exact_plane::Point;
 use no_memory::NoMemory;

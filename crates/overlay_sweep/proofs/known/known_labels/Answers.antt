@@ -1,4 +1,4 @@
-use Rattle.std.proofs.Common.{◌≡◌, ℕ, ◌<◌, ◌≤◌, List, length, map, sym, ap, ◌∙◌, subst}
+use Rattle.std.proofs.Common.{◌≡◌, ℕ, ◌≤◌, List, length, map, sym, ap, ◌∙◌, subst}
 use Rattle.std.proofs.lemmas.List.{length-map}
 use Rattle.exact_plane.specs.Point.{Point}
 use Rattle.plane_graphs.specs.Ascending.{Member, IsAscending, ascending}
@@ -7,7 +7,7 @@ use Rattle.sweep_graphs.specs.declared.edges.EdgeEnds.{EdgeEnds}
 use Rattle.sweep_graphs.specs.declared.trace.Stretch.{Stretch}
 use Rattle.sweep_graphs.specs.Edges.{stretch_cmp}
 use Rattle.overlay_sweep.specs.OwnStretches.{piece_first, piece_cmp, AreCountsUpto}
-use Rattle.overlay_sweep.proofs.KnownEdges.{AreKnownUpto, none_known, told_by, known_more, some_begun, are_known}
+use Rattle.overlay_sweep.proofs.KnownEdges.{AreKnownUpto, told_by, known_more, some_begun, are_known}
 use Rattle.overlay_sweep.proofs.OwnEdges.{among, stretches_up}
 use Rattle.overlay_sweep.proofs.known.known_labels.Goals as goal
 
