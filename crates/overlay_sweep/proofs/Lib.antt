@@ -19,3 +19,9 @@ pub mod RunsAlong
 pub mod CurveRows
 pub mod TracedEdges
 pub mod UnitedPieces
+pub mod OwnSteps
+pub mod OwnStretches
+pub mod OwnEdges
+pub mod OwnCounts
+pub mod OwnAlong
+pub mod KnownEdges

@@ -29,7 +29,7 @@ ends_rise x y h =
 abbrev pub is_before : EdgeEnds → Stretch → Bool
 is_before e s = is_lt (ends_cmp (ends_of s) e)
 
-no_stretch : Stretch
+pub no_stretch : Stretch
 no_stretch = record { low = 0; high = 0; piece = 0 }
 
 -- a member stands at some place

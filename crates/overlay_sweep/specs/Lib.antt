@@ -9,3 +9,5 @@ pub mod PiecesAlong
 pub mod EdgeSpans
 pub mod LayerGraphs
 pub mod EdgeCurves
+pub mod OwnStretches
+pub mod KnownEdges

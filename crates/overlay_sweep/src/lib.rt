@@ -14,8 +14,10 @@ mod edges;
 mod faces;
 mod graphs;
 mod kinds;
+mod known;
 mod labels;
 mod layers;
+mod own;
 mod pieces;
 mod roots;
 
@@ -30,6 +32,7 @@ pub use edges::place_of_edge;
 pub use faces::labels_of_faces;
 pub use graphs::{LayerGraph, graph_of};
 pub use kinds::is_inner;
+pub use known::known_labels;
 pub use labels::{Source, labels_of};
 pub use layers::labels_above;
 pub use pieces::piece_along;
