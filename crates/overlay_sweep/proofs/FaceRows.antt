@@ -26,5 +26,5 @@ module _ (g : Skeleton) (plane : IsPlaneSkeleton g) (roots : List Root) (ranks :
       let n : length faces ≡ length (subdivision g).faces = of.counted ∙ sym (faces_counted g plane roots ranks are by) in
       let m = length-map (subdivision g).faces label in
       ext_get_or 0 faces (map label (subdivision g).faces) (omega arith) (λ k h.
-        let l : k < length (subdivision g).faces = omega arith in
-        at_rank k (face_at_rank g plane roots ranks are by k l) ∙ sym (get_or-map label (subdivision g).faces k first_cell 0 l))
+      let l : k < length (subdivision g).faces = omega arith in
+      at_rank k (face_at_rank g plane roots ranks are by k l) ∙ sym (get_or-map label (subdivision g).faces k first_cell 0 l))

@@ -15,3 +15,5 @@ pub mod KnownLabels
 pub mod FaceLabels
 pub mod PiecesAlong
 pub mod FaceRows
+pub mod GraphRows
+pub mod CountedFaces

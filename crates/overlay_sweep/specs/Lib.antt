@@ -7,3 +7,4 @@ pub mod LabelsAbove
 pub mod KnownLabels
 pub mod PiecesAlong
 pub mod LayerGraphs
+pub mod GraphRows

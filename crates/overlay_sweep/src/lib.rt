@@ -17,6 +17,7 @@ mod labels;
 mod layers;
 mod pieces;
 mod roots;
+mod rows;
 
 ghost use Rattle.overlay_sweep.specs.EdgeLabels.{LabelsBySources};
 ghost use Rattle.overlay_sweep.specs.KnownLabels.{LabelsByKnownEdges};
