@@ -21,7 +21,7 @@ use Rattle.plane_graphs.specs.Piece.{Present}
 use Rattle.plane_graphs.specs.Plane.{IsPlane}
 use Rattle.plane_graphs.proofs.Ascending.{ascending_is, Member-ascending, ascending-Member, IsAscending-ascending, IsAscending-map, from_member}
 use Rattle.plane_graphs.proofs.Laws.{graph_is_plane}
-use Rattle.plane_graphs.proofs.Lists.{in_map, of_map, of_filter, map_map, any_in, any_out}
+use Rattle.plane_graphs.proofs.Lists.{in_map, of_map, map_map, any_in, any_out}
 use Rattle.plane_graphs.proofs.Order.{mark_cmp_total, mark_cmp_exact}
 use Rattle.plane_graphs.proofs.Sorting.{rises, member_at}
 use Rattle.present_graphs.specs.Spans.{span_of_piece, AreSpans}
@@ -31,15 +31,13 @@ use Rattle.slab_laws.specs.Cycles.{dart_labels, odd, left_of_dart}
 use Rattle.slab_laws.specs.Darts.{Dart, darts}
 use Rattle.slab_laws.specs.Kinds.{kind_by}
 use Rattle.slab_laws.specs.Overlay.{plane_of}
-use Rattle.slab_laws.specs.Rows.{dart_list, no_dart, lead_list, least_dart_of, dart_rows, twin_places, next_places, cycle_places, cycle_row, cycle_rows}
+use Rattle.slab_laws.specs.Rows.{no_dart, lead_list, dart_rows, twin_places, next_places, cycle_places, cycle_row, cycle_rows}
 use Rattle.slab_laws.specs.Skeleton.{Skeleton, IsPlaneSkeleton, same_point}
 use Rattle.slab_laws.specs.SpansDrawn.{edge_of}
 use Rattle.slab_laws.specs.Subdivision.{Cycle, subdivision, rank}
 use Rattle.slab_laws.specs.Text.{skeleton}
 use Rattle.slab_cells.proofs.CellOrder.{absent}
-use Rattle.slab_faces.proofs.NextLemmas.{darts_exact}
 use Rattle.slab_faces.proofs.Places.{points_exact}
-use Rattle.slab_cycles.proofs.LeastDarts.{is_least, least_listed}
 use Rattle.sound_views.proofs.RankedFaces.{cycle_of, cycles_are, outer_is, face_is}
 use Rattle.face_changes.specs.Kinds.{is_outer}
 use Rattle.face_roots.specs.declared.ranks.Root.{Root}
@@ -56,6 +54,7 @@ use Rattle.overlay_sweep.specs.CycleFaces.{AreCycleRanks, rank_round}
 use Rattle.overlay_sweep.specs.GraphRows.{kind_of_root, AreNumberedByPlace, IsWithin, AreWithin}
 use Rattle.overlay_sweep.specs.LayerGraphs.{IsLayerGraph}
 use Rattle.overlay_sweep.specs.declared.graphs.LayerGraph.{LayerGraph}
+use Rattle.overlay_sweep.proofs.EdgeCycles.{own_lead}
 
 -- ---- marks
 -- along points that ascend, and pieces that are numbered by their places, marks keep the order of stretches
@@ -128,12 +127,8 @@ module _ (g : Skeleton) where
       ∙ sym (ap (map (λ (c : Cycle). rank s c.face)) (cycles_are g) ∙ map_map (cycle_of g) (λ (c : Cycle). rank s c.face) ls)
 
   module _ (plane : IsPlaneSkeleton g) where
-    -- a least dart leads its own cycle
-    leads_itself : (l : Dart) → Member l (lead_list g) → least_dart_of g l ≡ l
-    leads_itself l m = sym (darts_exact.path l (least_dart_of g l) (of_filter (is_least g) l (dart_list g) (subst (Member l) (sym (least_listed g plane)) m)).1)
-
     lead_kind : (l : Dart) → Member l (lead_list g) → (cycle_of g l).outer ≡ is_outer g l
-    lead_kind l m = outer_is g l ∙ sym (ap (λ z. odd g (dart_labels (darts g)) z (left_of_dart g l)) (leads_itself l m))
+    lead_kind l m = outer_is g l ∙ sym (ap (λ z. odd g (dart_labels (darts g)) z (left_of_dart g l)) (own_lead g plane l m))
 
     root_kind : (c : ℕ) → Member (lead_at g c) (lead_list g) → (r : Root) → IsRootOf g c r → is_outer_root r ≡ (cycle_of g (lead_at g c)).outer
     root_kind c m Outer h = sym (lead_kind (lead_at g c) m ∙ h)

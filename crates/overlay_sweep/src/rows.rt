@@ -182,7 +182,7 @@ fn rows_with(present: Present, graph: LayerGraph, more: More) -> Rows
 }
 
 /// The rows of the subdivision by a present (CGAL manual, `Arrangement_2`), from its graph by a sweep. Each piece is of a curve of its
-/// own, whose number is the place of the piece. One search for each vertex and two for each without darts.
+/// own, whose number is the place of the piece. Two searches for each vertex, and one more for each without darts.
 ///
 /// # Errors
 ///
