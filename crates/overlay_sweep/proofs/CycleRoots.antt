@@ -7,7 +7,6 @@ use Rattle.integers.proofs.Tests.{is_less, not_not}
 use Rattle.exact_plane.specs.Point.{Point}
 use Rattle.plane_graphs.specs.Ascending.{Member}
 use Rattle.plane_graphs.proofs.Ascending.{to_member}
-use Rattle.plane_graphs.proofs.Lists.{of_filter}
 use Rattle.plane_graphs.proofs.Sorting.{member_at}
 use Rattle.slab_laws.specs.Cycles.{left_of_dart}
 use Rattle.slab_laws.specs.Darts.{Dart, source, ahead}
@@ -17,11 +16,10 @@ use Rattle.slab_laws.specs.Rows.{dart_list, no_dart, dart_at, dart_place, lead_p
 use Rattle.slab_laws.specs.Skeleton.{Skeleton, IsPlaneSkeleton, same_point}
 use Rattle.slab_laws.specs.Subdivision.{first_cell}
 use Rattle.slab_faces.proofs.DartOrder.{dart_cmp_total}
-use Rattle.slab_faces.proofs.NextLemmas.{darts_exact}
 use Rattle.slab_faces.proofs.Places.{points_exact}
 use Rattle.slab_faces.proofs.Turns.{face_trans}
 use Rattle.slab_cycles.proofs.DartCells.{edge_there}
-use Rattle.slab_cycles.proofs.LeastDarts.{is_least, least_listed, least_there}
+use Rattle.slab_cycles.proofs.LeastDarts.{least_there}
 use Rattle.slab_cycles.proofs.Listed.{dart_within, dart_at_place, rows_length, row_at, source_in}
 use Rattle.slab_cycles.proofs.Placed.{at_place, place_within, lower}
 use Rattle.edges_below.specs.Highest.{IsHighestBelow, highest}
@@ -35,7 +33,7 @@ use Rattle.dart_orbits.specs.declared.orbits.Orbits.{Orbits}
 use Rattle.dart_orbits.specs.Orbits.{AreOrbits}
 use Rattle.dart_orbits.specs.Ways.{no_row, row_in}
 use Rattle.overlay_sweep.specs.EdgesUnder.{AreUnder}
-use Rattle.overlay_sweep.proofs.EdgeCycles.{leads_ascend, cycle_within, upper, lead_face}
+use Rattle.overlay_sweep.proofs.EdgeCycles.{leads_ascend, own_lead, cycle_within, upper, lead_face}
 
 module _ (g : Skeleton) (plane : IsPlaneSkeleton g) where
   module _ (o : Orbits) (h : AreOrbits g o) (c : ℕ) (inside : c < length o.cycles.items) where
@@ -65,7 +63,7 @@ module _ (g : Skeleton) (plane : IsPlaneSkeleton g) where
 
     -- it leads itself
     own : least_dart_of g (lead_at g c) ≡ lead_at g c
-    own = sym (darts_exact.path (lead_at g c) (least_dart_of g (lead_at g c)) (of_filter (is_least g) (lead_at g c) (dart_list g) (subst (Member (lead_at g c)) (sym (least_listed g plane)) in_leads)).1)
+    own = own_lead g plane (lead_at g c) in_leads
 
     pub lead_forward : (lead_at g c).forward ≡ true
     lead_forward = subst (λ (x : Dart). x.forward ≡ true) own (ranks_by_roots.forward g (lead_at g c) plane there)

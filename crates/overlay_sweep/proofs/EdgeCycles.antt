@@ -4,9 +4,9 @@ use Rattle.std.proofs.lemmas.List.{get_or-map, length-map}
 use Rattle.plane_graphs.specs.Ascending.{IsAscending, Member}
 use Rattle.plane_graphs.specs.Graph.{Edge}
 use Rattle.plane_graphs.proofs.Ascending.{to_member, from_member}
-use Rattle.plane_graphs.proofs.Lists.{in_filter, IsAscending-filter}
+use Rattle.plane_graphs.proofs.Lists.{in_filter, of_filter, IsAscending-filter}
 use Rattle.slab_laws.specs.Cycles.{left_of_dart}
-use Rattle.slab_laws.specs.Darts.{ahead}
+use Rattle.slab_laws.specs.Darts.{Dart, ahead}
 use Rattle.slab_laws.specs.Meets.{SameFace}
 use Rattle.slab_laws.specs.Rotation.{dart_cmp, same_dart}
 use Rattle.slab_laws.specs.Rows.{dart_list, no_dart, dart_place, cycle_places, cycle_place, lead_list, least_dart_of}
@@ -29,6 +29,10 @@ use Rattle.overlay_sweep.specs.LayerLabels.{rank_beside}
 module _ (g : Skeleton) (plane : IsPlaneSkeleton g) where
   pub leads_ascend : IsAscending dart_cmp (lead_list g)
   leads_ascend = subst (IsAscending dart_cmp) (least_listed g plane) (IsAscending-filter dart_cmp (is_least g) (dart_list g) (list_ascends g plane))
+
+  -- a least dart leads its own cycle
+  pub own_lead : (l : Dart) → Member l (lead_list g) → least_dart_of g l ≡ l
+  own_lead l m = sym (darts_exact.path l (least_dart_of g l) (of_filter (is_least g) l (dart_list g) (subst (Member l) (sym (least_listed g plane)) m)).1)
 
   module _ (e : Edge) (E : Contains g.edges e) where
     -- the least dart of the cycle is listed among the least ones

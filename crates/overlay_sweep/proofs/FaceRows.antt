@@ -1,5 +1,5 @@
 -- The labels that stand at ranks are those of the faces in their order.
-use Rattle.std.proofs.Common.{◌≡◌, ℕ, ◌<◌, arith, refl, sym, ap, ◌∙◌, List, length, map, get_or}
+use Rattle.std.proofs.Common.{◌≡◌, ℕ, ◌<◌, arith, sym, ap, ◌∙◌, List, length, map, get_or}
 use Rattle.std.proofs.lemmas.List.{ext_get_or, get_or-map, length-map}
 use Rattle.slab_laws.specs.declared.slab_cell.SlabCell.{SlabCell}
 use Rattle.slab_laws.specs.Cycles.{left_of_dart}
@@ -26,5 +26,5 @@ module _ (g : Skeleton) (plane : IsPlaneSkeleton g) (roots : List Root) (ranks :
       let n : length faces ≡ length (subdivision g).faces = of.counted ∙ sym (faces_counted g plane roots ranks are by) in
       let m = length-map (subdivision g).faces label in
       ext_get_or 0 faces (map label (subdivision g).faces) (omega arith) (λ k h.
-        let l : k < length (subdivision g).faces = omega arith in
-        at_rank k (face_at_rank g plane roots ranks are by k l) ∙ sym (get_or-map label (subdivision g).faces k first_cell 0 l))
+      let l : k < length (subdivision g).faces = omega arith in
+      at_rank k (face_at_rank g plane roots ranks are by k l) ∙ sym (get_or-map label (subdivision g).faces k first_cell 0 l))

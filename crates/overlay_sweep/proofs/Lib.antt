@@ -25,3 +25,5 @@ pub mod OwnEdges
 pub mod OwnCounts
 pub mod OwnAlong
 pub mod KnownEdges
+pub mod GraphRows
+pub mod CountedFaces

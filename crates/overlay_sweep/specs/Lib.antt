@@ -11,3 +11,4 @@ pub mod LayerGraphs
 pub mod EdgeCurves
 pub mod OwnStretches
 pub mod KnownEdges
+pub mod GraphRows

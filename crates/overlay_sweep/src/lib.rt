@@ -20,6 +20,7 @@ mod layers;
 mod own;
 mod pieces;
 mod roots;
+mod rows;
 
 ghost use Rattle.overlay_sweep.specs.EdgeLabels.{LabelsBySources};
 ghost use Rattle.overlay_sweep.specs.KnownLabels.{LabelsByKnownEdges};
