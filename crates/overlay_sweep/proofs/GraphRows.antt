@@ -8,15 +8,13 @@ use Rattle.std.specs.Result.{is_ok}
 use Rattle.std.proofs.lemmas.Bool.{false_from_ne_true}
 use Rattle.std.proofs.lemmas.List.{ext_get_or, get_or-map, length-map}
 use Rattle.integers.proofs.Tests.{nat_exact, less_nat}
-use Rattle.exact_plane.specs.Line.{Line, IsLine}
 use Rattle.exact_plane.specs.Point.{Point}
 use Rattle.exact_plane.specs.PointOrder.{point_cmp}
 use Rattle.exact_plane.specs.PointOrderLaws.{point_cmp_total, same_point as point_cmp_exact}
-use Rattle.exact_plane.proofs.Meetings.{runs}
 use Rattle.plane_graphs.specs.Ascending.{Member, IsAscending, ascending}
 use Rattle.plane_graphs.specs.Fit.{IsFit}
 use Rattle.plane_graphs.specs.Graph.{Graph, graph, edges, mark_cmp}
-use Rattle.plane_graphs.specs.Line.{IsProperLine}
+use Rattle.plane_graphs.proofs.Lines.{line_is_proper}
 use Rattle.plane_graphs.specs.Piece.{Present}
 use Rattle.plane_graphs.specs.Plane.{IsPlane}
 use Rattle.plane_graphs.proofs.Ascending.{ascending_is, Member-ascending, ascending-Member, IsAscending-ascending, IsAscending-map, from_member}
@@ -151,9 +149,6 @@ module _ (g : Skeleton) where
         ∙ sym (map_map (cycle_row g) (λ (c : CycleRow). c.kind) (subdivision g).cycles ∙ ap (map (λ (c : Cycle). kind_by c.outer)) (cycles_are g) ∙ map_map (cycle_of g) (λ (c : Cycle). kind_by c.outer) ls)
 
 -- ---- the whole
-line_is_proper : (l : Line) → IsLine l → IsProperLine l
-line_is_proper l k = record { lowest = k.lowest; runs = runs l.a l.b k.runs }
-
 -- the lists are those of the present's graph
 pub record AreRowsBy (p : Present) (a : RowLists) : Type 0 where
   pub graph_is : (drawing_of a).graph ≡ graph p

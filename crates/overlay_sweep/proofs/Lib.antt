@@ -26,4 +26,4 @@ pub mod OwnCounts
 pub mod OwnAlong
 pub mod KnownEdges
 pub mod GraphRows
-pub mod CountedFaces
+pub mod Joined

@@ -13,10 +13,10 @@ use Rattle.face_roots.specs.CycleRanks.{faces_before}
 use Rattle.sweep_graphs.specs.declared.trace.Stretch.{Stretch}
 use Rattle.sweep_graphs.specs.Edges.{mark_along}
 use Rattle.dart_orbits.specs.Orbits.{AreOrbits}
+use Rattle.face_roots.proofs.OuterRanks.{faces_counted}
 use Rattle.overlay_sweep.specs.CycleFaces.{AreCycleRanks, rank_round}
 use Rattle.overlay_sweep.specs.EdgesUnder.{AreUnder}
 use Rattle.overlay_sweep.specs.GraphRows.{kind_of_root, IsWithin}
-use Rattle.overlay_sweep.proofs.CountedFaces.{faces_are}
 use Rattle.overlay_sweep.proofs.GraphRows.{stretches_within, marks_are, points_are, kinds_are}
 use Rattle.overlay_sweep.proofs.rows.more_of.Goals as goal
 
@@ -67,5 +67,5 @@ returns c =
           c.in_ok-pinned.ensures ∙ (λ i. map (λ (r : Point). list_any (same_point r) (c.as_slice.ensures i)) (c.as_slice-points.ensures i)) ∙ ap (map (λ (r : Point). list_any (same_point r) p.pins)) (points_are p g h);
       kinds = c.in_ok-kinds.ensures ∙ ap (map kind_of_root) c.deref-2.ensures.value ∙ kinds_are (plane_of p) plane g.roots.items h.roots;
       bare_ranks = c.in_ok-ranks.ensures ∙ (λ i. map (rank_round (is i)) (c.as_slice-points.ensures i)) ∙ ap (map (rank_round (plane_of p))) (points_are p g h);
-      faces = c.count_faces.ensures ∙ ap (λ (rs : List Root). faces_before rs (length rs)) c.deref-6.ensures.value ∙ sym (faces_are (plane_of p) g.roots.items h.roots plane);
+      faces = c.count_faces.ensures ∙ ap (λ (rs : List Root). faces_before rs (length rs)) c.deref-6.ensures.value ∙ sym (faces_counted (plane_of p) plane g.roots.items g.ranks.items h.roots h.ranked);
     }
