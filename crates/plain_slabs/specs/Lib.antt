@@ -1,12 +1,6 @@
-pub mod Listed
-pub mod ListedLaws
-pub mod GraphInMemory
-pub mod Curves
 pub mod SubdivisionInMemory
 pub mod Faces
 pub mod Orbits
 pub mod ByName
 pub mod United
-pub mod LayerTables
-pub mod OverlayInMemory
-pub mod BothInMemory
+pub mod LayerEdges

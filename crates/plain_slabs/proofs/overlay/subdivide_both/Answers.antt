@@ -1,11 +1,11 @@
 use Rattle.std.proofs.Common.{ap, ◌∙◌}
 use Rattle.slab_laws.specs.Pieces.{present_of}
 use Rattle.slab_laws.specs.Layers.{rows_of}
-use Rattle.plain_slabs.proofs.OverlaidRows.{rows_sound}
+use Rattle.subdivision_rows.proofs.OverlaidRows.{rows_sound}
 use Rattle.plain_slabs.proofs.overlay.subdivide_both.Goals as goal
 
-pub invariant_of-result : goal.invariant_of-result
-invariant_of-result c = record {
+pub of-requires : goal.of-requires
+of-requires c = record {
   red = rows_sound (present_of c.args.red.now) c.in_ok-plain.plain c.in-Ok.red c.in-Ok.ensures.red;
   blue = rows_sound (present_of c.args.blue.now) c.in_ok-plain.plain c.in-Ok.blue c.in-Ok.ensures.blue;
 }
