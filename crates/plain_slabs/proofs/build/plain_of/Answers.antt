@@ -1,4 +1,4 @@
-use Rattle.std.proofs.Common.{sym, ap, subst, ◌∙◌, map}
+use Rattle.std.proofs.Common.{arith, sym, ap, subst, ◌∙◌, map}
 use Rattle.std.specs.List.{list_any}
 use Rattle.slab_laws.specs.SpansDrawn.{drawn}
 use Rattle.slab_laws.specs.Skeleton.{IsPlaneSkeleton, same_point}
@@ -24,7 +24,7 @@ of-rows-requires c =
     c.requires.edges
     (subst (λ g. AreOrbits g c.in_ok-orbits.orbits) ((λ i. drawn (c.deref-3.ensures.value i) (c.deref-4.ensures.value i)) ∙ are) c.in_ok-orbits.ensures)
     (subst (λ g. AreRegions g c.in_ok-regions.regions) ((λ i. drawn (c.deref-5.ensures.value i) (c.deref-6.ensures.value i)) ∙ are) c.in_ok-regions.ensures)
-    ?many
+    (let n = c.in_ok-regions.regions.faces.ok.0 in let m = c.len-faces.ensures in omega arith)
 
 pub invariant_of-result : goal.invariant_of-result
 invariant_of-result c =

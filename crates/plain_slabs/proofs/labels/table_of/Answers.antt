@@ -11,5 +11,5 @@ pub returns : goal.returns
 returns c =
     let l = present_of c.args.layer.now in
     rows_are l (skeleton_in c.args.plain.now) _
-    (c.in_ok-curves.ensures ∙ ap (λ ss. map (curves_along l) (map edge_of ss)) c.deref.ensures.value ∙ ap (map (curves_along l)) (edges_here c.lists.result.now c.args.plain.now c.lists.ensures.sound (c.lists.ensures.drawing ∙ c.plain.view_is)))
-    c.in_ok-labels.ensures
+    (c.of.ensures.curves ∙ c.in_ok-curves.ensures ∙ ap (λ ss. map (curves_along l) (map edge_of ss)) c.deref.ensures.value ∙ ap (map (curves_along l)) (edges_here c.lists.result.now c.args.plain.now c.lists.ensures.sound (c.lists.ensures.drawing ∙ c.plain.view_is)))
+    (c.of.ensures.labels ∙ c.in_ok-labels.ensures)
