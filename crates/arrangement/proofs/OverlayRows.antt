@@ -21,13 +21,13 @@ use Rattle.slab_faces.proofs.Places.{edges_exact}
 use Rattle.sound_views.proofs.ListedPlaces.{at_place}
 use Rattle.arr_notes.proofs.Names.{numbers_of}
 use Rattle.face_changes.proofs.FacesByPairs.{outer_cycles_follow}
-use Rattle.plain_slabs.specs.Listed.{Drawing, skeleton_in, subdivision_in, view_of, faces_of}
-use Rattle.plain_slabs.specs.OverlayInMemory.{Overlaid, layer_view, graph_of, faces_in}
-use Rattle.plain_slabs.proofs.ListedFaces.{face_within}
-use Rattle.plain_slabs.proofs.ListedRecords.{dart_of, dart_is, of_edges, vertex_of, point_of}
-use Rattle.plain_slabs.proofs.ListsDrawn.{view_draws}
-use Rattle.plain_slabs.proofs.ListsFaced.{cell, faced}
-use Rattle.plain_slabs.proofs.VertexLists.{pin_of}
+use Rattle.subdivision_rows.specs.Listed.{Drawing, skeleton_in, subdivision_in, view_of, faces_of}
+use Rattle.subdivision_rows.specs.OverlayInMemory.{Overlaid, layer_view, graph_of, faces_in}
+use Rattle.subdivision_rows.proofs.ListedFaces.{face_within}
+use Rattle.subdivision_rows.proofs.ListedRecords.{dart_of, dart_is, of_edges, vertex_of, point_of}
+use Rattle.subdivision_rows.proofs.ListsDrawn.{view_draws}
+use Rattle.subdivision_rows.proofs.ListsFaced.{cell, faced}
+use Rattle.subdivision_rows.proofs.VertexLists.{pin_of}
 use Rattle.arr_text.specs.LayerTexts.{ArePinsOf, TellsLayer}
 use Rattle.arr_text.specs.Reading.{overlay_text_in}
 use Rattle.arr_text.proofs.LayerTexts.{overlay_text_is_the_layers}

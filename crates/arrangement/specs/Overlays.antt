@@ -2,7 +2,7 @@
 use Rattle.std.specs.Prelude.{ℕ, List}
 use Rattle.slab_laws.specs.Subdivision.{Subdivision}
 use Rattle.slab_laws.specs.Overlay.{overlay}
-use Rattle.plain_slabs.specs.OverlayInMemory.{Overlaid, graph_of, faces_in, red_of, blue_of}
+use Rattle.subdivision_rows.specs.OverlayInMemory.{Overlaid, graph_of, faces_in, red_of, blue_of}
 use Rattle.arr_text.specs.Reading.{overlay_text_in}
 use Rattle.arrangement.specs.Arranged.{Arranged, layer_in}
 

@@ -4,7 +4,7 @@ ghost use Rattle.arrangement.specs.Overlays.{text_of};
 use arr_text::overlay_text;
 use exact_plane::{Line, Point};
 use no_memory::NoMemory;
-use plain_slabs::Both;
+use subdivision_rows::Both;
 use slab_laws::{CurveId, CycleId, CycleKind, DartId, Darts, FaceId, Faced, Layered, VertexId};
 use std::alloc::Global;
 use std::marker::Model;
@@ -18,9 +18,9 @@ pub struct Overlay {
 }
 
 impl Model for Overlay {
-    ghost use Rattle.plain_slabs.specs.OverlayInMemory.{Overlaid};
+    ghost use Rattle.subdivision_rows.specs.OverlayInMemory.{Overlaid};
     ghost use Rattle.slab_laws.specs.FacesSound.{IsSound};
-    ghost use Rattle.plain_slabs.specs.Listed.{view_of, faces_of};
+    ghost use Rattle.subdivision_rows.specs.Listed.{view_of, faces_of};
 
     ghost Value = { Overlaid };
 
@@ -43,7 +43,7 @@ impl Overlay {
 }
 
 impl Darts for Overlay {
-    ghost use Rattle.plain_slabs.specs.OverlayInMemory.{graph_of};
+    ghost use Rattle.subdivision_rows.specs.OverlayInMemory.{graph_of};
 
     ghost graph = { graph_of };
 
@@ -89,7 +89,7 @@ impl Darts for Overlay {
 }
 
 impl Faced for Overlay {
-    ghost use Rattle.plain_slabs.specs.OverlayInMemory.{faces_in};
+    ghost use Rattle.subdivision_rows.specs.OverlayInMemory.{faces_in};
 
     ghost faces = { faces_in };
 
@@ -119,7 +119,7 @@ impl Faced for Overlay {
 }
 
 impl Layered for Overlay {
-    ghost use Rattle.plain_slabs.specs.OverlayInMemory.{red_of, blue_of};
+    ghost use Rattle.subdivision_rows.specs.OverlayInMemory.{red_of, blue_of};
 
     ghost red = { red_of };
 

@@ -3,7 +3,7 @@ ghost use Rattle.slab_laws.specs.Layers.{rows_of};
 ghost use Rattle.slab_laws.specs.Overlay.{both};
 ghost use Rattle.slab_laws.specs.OverlayText.{presents_text};
 ghost use Rattle.slab_laws.specs.FacesSound.{IsSound};
-ghost use Rattle.plain_slabs.specs.Listed.{subdivision_in, view_of, faces_of};
+ghost use Rattle.subdivision_rows.specs.Listed.{subdivision_in, view_of, faces_of};
 ghost use Rattle.arrangement.specs.Arranged.{arranged, layer_in};
 ghost use Rattle.arrangement.specs.Overlays.{text_of, overlay_of};
 

@@ -6,8 +6,8 @@ use Rattle.slab_laws.specs.FacesSound.{IsSound}
 use Rattle.slab_laws.specs.Layers.{rows_of}
 use Rattle.slab_laws.specs.Overlay.{both, overlay}
 use Rattle.slab_laws.specs.OverlayText.{presents_text}
-use Rattle.plain_slabs.specs.Listed.{subdivision_in, view_of, faces_of}
-use Rattle.plain_slabs.specs.OverlayInMemory.{Overlaid}
+use Rattle.subdivision_rows.specs.Listed.{subdivision_in, view_of, faces_of}
+use Rattle.subdivision_rows.specs.OverlayInMemory.{Overlaid}
 use Rattle.arrangement.specs.Overlays.{text_of}
 use Rattle.headline.specs.Maps.{IsOverlayOf}
 

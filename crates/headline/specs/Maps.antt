@@ -5,8 +5,8 @@ use Rattle.slab_laws.specs.Layers.{LayerView, rows_of}
 use Rattle.slab_laws.specs.Overlay.{both, overlay}
 use Rattle.slab_laws.specs.OverlayText.{presents_text}
 use Rattle.plane_graphs.specs.Piece.{Present}
-use Rattle.plain_slabs.specs.Listed.{subdivision_in, view_of, faces_of}
-use Rattle.plain_slabs.specs.OverlayInMemory.{Overlaid, layer_view}
+use Rattle.subdivision_rows.specs.Listed.{subdivision_in, view_of, faces_of}
+use Rattle.subdivision_rows.specs.OverlayInMemory.{Overlaid, layer_view}
 use Rattle.arrangement.specs.Overlays.{text_of}
 
 -- what is told of the red layer, and of the blue one

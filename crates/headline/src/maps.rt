@@ -6,7 +6,7 @@ ghost use Rattle.curve_history.specs.Past.{curves_on};
 ghost use Rattle.told_steps.specs.RecordLayers.{IsLayer};
 ghost use Rattle.told_steps.specs.LayerNames.{IsNamedBy};
 ghost use Rattle.observer_bus.specs.RoundLaws.{HaveNamesApart};
-ghost use Rattle.plain_slabs.specs.OverlayInMemory.{graph_of, faces_in};
+ghost use Rattle.subdivision_rows.specs.OverlayInMemory.{graph_of, faces_in};
 ghost use Rattle.arrangement.specs.Arranged.{arranged, layer_in};
 ghost use Rattle.headline.specs.Maps.{red_in, blue_in, IsOverlayOf};
 

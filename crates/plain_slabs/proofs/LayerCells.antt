@@ -18,7 +18,7 @@ use Rattle.slab_cells.proofs.Reached.{none_vertical}
 use Rattle.slab_cells.proofs.Counts.{count_filtered}
 use Rattle.slab_laws.specs.Overlay.{plane_of, has_curve_along, cell_in}
 use Rattle.plain_slabs.specs.declared.layer_cells.LayerEdge.{LayerEdge}
-use Rattle.plain_slabs.specs.LayerTables.{slab_beside, layer_edge, is_across, AreSlanted, AreSlantedAcross, count_below, count_layer, cell_among}
+use Rattle.plain_slabs.specs.LayerEdges.{slab_beside, layer_edge, is_across, AreSlanted, AreSlantedAcross, count_below, count_layer, cell_among}
 
 -- ---- no vertical edges
 pub none_among : (es : List LayerEdge) (i : ℕ) (qs : List LayerEdge) → AreSlantedAcross es → qs ≡ filter (is_across i) es → AreSlanted qs

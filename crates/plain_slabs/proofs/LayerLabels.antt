@@ -8,35 +8,21 @@ use Rattle.plane_graphs.specs.Piece.{Present}
 use Rattle.slab_laws.specs.declared.slab_cell.SlabCell.{SlabCell}
 use Rattle.slab_laws.specs.Classes.{class_of}
 use Rattle.slab_laws.specs.SpansDrawn.{edge_of, drawn}
-use Rattle.slab_laws.specs.Skeleton.{Skeleton, IsPlaneSkeleton}
+use Rattle.slab_laws.specs.Skeleton.{Skeleton}
 use Rattle.slab_laws.specs.Faces.{same_cell}
 use Rattle.slab_laws.specs.Subdivision.{Subdivision, subdivision, rank}
 use Rattle.slab_laws.specs.Overlay.{plane_of, label, curves_along}
 use Rattle.slab_laws.specs.Layers.{LayerRows, rows_of}
 use Rattle.plain_slabs.specs.declared.layer_cells.LayerEdge.{LayerEdge}
 use Rattle.plain_slabs.specs.declared.plain.Plain.TheInside.{Inside}
-use Rattle.plain_slabs.specs.LayerTables.{slab_beside, layer_edge, cell_among, rank_in}
-use Rattle.plain_slabs.specs.Listed.{Drawing, skeleton_in, subdivision_in}
-use Rattle.plain_slabs.specs.SubdivisionInMemory.{drawing_of, IsSoundSubdivision}
-use Rattle.plain_slabs.proofs.Building.{drawn_is, plane_is}
+use Rattle.plain_slabs.specs.LayerEdges.{slab_beside, layer_edge, cell_among, rank_in}
+use Rattle.subdivision_rows.specs.Listed.{Drawing, skeleton_in, subdivision_in}
+use Rattle.plain_slabs.specs.SubdivisionInMemory.{IsSoundSubdivision}
 use Rattle.plain_slabs.proofs.LayerCells.{cell_is}
 
-module _ (a : Inside) (d : Drawing) (k : IsSoundSubdivision a) (is : drawing_of a ≡ d) where
-  -- what the lists draw
-  pub drawn_here : drawn a.points.items a.edges.items ≡ skeleton_in d
-  drawn_here = drawn_is a.points.items a.marks.items a.pins.items a.edges.items k.edges_are ∙ ap skeleton_in is
-
-  pub plane_here : IsPlaneSkeleton (drawn a.points.items a.edges.items)
-  plane_here = plane_is a.points.items a.marks.items a.pins.items a.edges.items k.plane k.edges_are
-
+module _ (a : Inside) (d : Drawing) (k : IsSoundSubdivision a) (is : a.rows ≡ d) where
   pub faces_here : a.faces.items ≡ (subdivision_in d).faces
   faces_here = k.faces ∙ ap (λ (d : Drawing). (subdivision_in d).faces) is
-
-  pub points_here : a.points.items ≡ d.graph.points
-  points_here = ap (λ (d : Drawing). d.graph.points) is
-
-  pub edges_here : map edge_of a.edges.items ≡ (skeleton_in d).edges
-  edges_here = ap (λ (g : Skeleton). g.edges) drawn_here
 
   -- the rank of a cell's face
   pub rank_is : (c least : SlabCell) (fs : List SlabCell) (n : ℕ) → least ≡ class_of same_cell a.labels c → fs ≡ a.faces.items → n ≡ position_or_len (same_cell least) fs → n ≡ rank_in (subdivision_in d) c

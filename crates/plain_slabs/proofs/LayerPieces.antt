@@ -16,7 +16,8 @@ use Rattle.slab_laws.specs.declared.present.Piece.{Piece as PieceInMemory}
 use Rattle.slab_laws.specs.declared.present.Present.{Present as PresentInMemory}
 use Rattle.slab_laws.specs.Pieces.{piece_of, present_of}
 use Rattle.slab_laws.specs.Overlay.{runs_along, curves_along, has_curve_along}
-use Rattle.plain_slabs.specs.LayerTables.{numbers_in, numbers_along}
+use Rattle.subdivision_rows.specs.LayerTables.{numbers_in}
+use Rattle.plain_slabs.specs.LayerEdges.{numbers_along}
 
 -- ---- to run along an edge is to hold both its ends
 pub both_held : (k : Piece) (low p q : Point) (a b : Bool) → p ≡ low → a ≡ lies_on (span_of_piece k) p → a ≡ true → b ≡ lies_on (span_of_piece k) q → (high : Point) → q ≡ high → b ≡ (on k low && on k high)

@@ -17,7 +17,7 @@ use Rattle.record_orders.specs.declared.darts.DartKey.{DartKey}
 use Rattle.record_orders.specs.Keys.{dart_key}
 use Rattle.plain_slabs.specs.ByName.{goes_forward, forward_keys, span_along}
 use Rattle.plain_slabs.proofs.ReadKeys.{IsForwardKey}
-use Rattle.plain_slabs.proofs.SpanLines.{IsAlongLine}
+use Rattle.subdivision_rows.proofs.SpanLines.{IsAlongLine}
 
 module _ (v : View) (k : DartKey) (s : IsGraphSound v) (f : IsForwardKey v k) where
   source_on : IsOn (line_in v k.name) k.source

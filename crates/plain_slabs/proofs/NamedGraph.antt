@@ -36,11 +36,11 @@ use Rattle.record_orders.specs.Keys.{vertex_key, vertex_keys, dart_key, dart_key
 use Rattle.present_graphs.specs.Marks.{mark_of}
 use Rattle.plain_slabs.specs.ByName.{numbers_of, points_at, pinned_among, goes_forward, forward_keys, span_along, key_marks, AreParts}
 use Rattle.plain_slabs.specs.declared.names.Parts.{Parts}
-use Rattle.plain_slabs.specs.GraphInMemory.{graph_in}
+use Rattle.subdivision_rows.specs.GraphInMemory.{graph_in}
 use Rattle.plain_slabs.proofs.NamedEdges.{key_line, spans_are}
 use Rattle.plain_slabs.proofs.NamedMarks.{graph_marks_ascend, marks_are}
 use Rattle.plain_slabs.proofs.ReadKeys.{forward_member}
-use Rattle.plain_slabs.proofs.SpanLines.{IsAlongLine, lines_by_spans}
+use Rattle.subdivision_rows.proofs.SpanLines.{IsAlongLine, lines_by_spans}
 use Rattle.integers.proofs.Tests.{not_true}
 
 -- ---- points and pins

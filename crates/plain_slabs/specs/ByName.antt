@@ -13,11 +13,11 @@ use Rattle.slab_laws.specs.SpansDrawn.{edge_of}
 use Rattle.slab_laws.specs.View.{View, pinned_in, line_in}
 use Rattle.arr_notes.specs.Curves.{Curves}
 use Rattle.arr_notes.specs.RecordGraph.{drawn_graph}
-use Rattle.plain_slabs.specs.Listed.{AreLinesOf}
+use Rattle.subdivision_rows.specs.Listed.{AreLinesOf}
 use Rattle.record_orders.specs.declared.vertices.VertexKey.{VertexKey}
 use Rattle.record_orders.specs.declared.darts.DartKey.{DartKey}
 use Rattle.record_orders.specs.Keys.{dart_keys}
-use Rattle.plain_slabs.specs.GraphInMemory.{graph_in, drawing_in}
+use Rattle.subdivision_rows.specs.GraphInMemory.{graph_in, drawing_in}
 use Rattle.plain_slabs.specs.declared.names.Parts.{Parts}
 
 -- the numbers of the curves along each dart's edge

@@ -1,7 +1,3 @@
-pub mod Listed
-pub mod ListedLaws
-pub mod GraphInMemory
-pub mod Curves
 pub mod SubdivisionInMemory
 pub mod Faces
 pub mod Orbits
@@ -9,3 +5,5 @@ pub mod ByName
 pub mod LayerTables
 pub mod OverlayInMemory
 pub mod BothInMemory
+pub mod United
+pub mod LayerEdges

@@ -4,6 +4,7 @@ use Rattle.std.specs.List.{position_or_len}
 use Rattle.slab_laws.specs.Faces.{same_cell}
 use Rattle.slab_laws.specs.Rows.{dart_rows, twin_places, next_places, lead_places, cycle_places, cycle_rows}
 use Rattle.slab_laws.specs.Skeleton.{Skeleton}
+use Rattle.slab_laws.specs.declared.rows.CycleRow.{CycleRow}
 use Rattle.slab_laws.specs.Subdivision.{subdivision}
 use Rattle.slab_cycles.specs.Orbits.{cycle_leads}
 use Rattle.plain_slabs.specs.declared.orbits.Orbits.{Orbits}
@@ -22,7 +23,7 @@ pub record AreOrbits (g : Skeleton) (o : Orbits) : Type 0 where
 -- the faces of the graph by rank, of what cycles and bare vertices they are
 pub record AreRegions (g : Skeleton) (r : Regions) : Type 0 where
   pub labels : AreLabelsOf g r.labels
-  pub cycles : r.cycles.items ≡ cycle_rows g
   pub faces : r.faces.items ≡ (subdivision g).faces
-  pub cycle_ranks : r.cycle_ranks.items ≡ map (λ c. position_or_len (same_cell c.face) r.faces.items) r.cycles.items
+  pub kinds : r.kinds.items ≡ map (λ (c : CycleRow). c.kind) (cycle_rows g)
+  pub cycle_ranks : r.cycle_ranks.items ≡ map (λ (c : CycleRow). position_or_len (same_cell c.face) r.faces.items) (cycle_rows g)
   pub bare_ranks : r.bare_ranks.items ≡ map (rank_round g r.faces.items) g.vertices

@@ -6,9 +6,9 @@ ghost use Rattle.plane_graphs.specs.Plane.{IsPlane};
 ghost use Rattle.slab_laws.specs.SpansDrawn.{edge_of};
 ghost use Rattle.slab_laws.specs.Pieces.{present_of};
 ghost use Rattle.slab_laws.specs.Skeleton.{same_point};
-ghost use Rattle.plain_slabs.specs.Listed.{subdivision_by, subdivision_in, view_of, faces_of, AreLinesOf};
+ghost use Rattle.subdivision_rows.specs.Listed.{subdivision_by, subdivision_in, view_of, faces_of, AreLinesOf};
 ghost use Rattle.slab_laws.specs.FacesSound.{IsSound};
-ghost use Rattle.plain_slabs.specs.GraphInMemory.{graph_in, drawing_in};
+ghost use Rattle.subdivision_rows.specs.GraphInMemory.{graph_in, drawing_in};
 
 use crate::orbits::orbits_of;
 use crate::plain::Plain;
@@ -19,6 +19,7 @@ use no_memory::NoMemory;
 use present_graphs::{Mark, edges_of, marks_of, vertices_of};
 use slab_laws::Present;
 use std::alloc::{AllocError, Global};
+use subdivision_rows::{RowLists, Rows};
 
 fn is_among(pins: &[Point], point: &Point) -> bool
     ensures { result ≡ list_any (same_point point.now) pins.now }
@@ -58,7 +59,8 @@ pub(crate) fn plain_of(
     let pinned = pinned_among(alloc, &points, &pins)?;
     let orbits = orbits_of(alloc, &points, &edges)?;
     let regions = regions_of(alloc, &points, &edges, &orbits)?;
-    Ok(Plain {
+    let faces = regions.faces.len();
+    let rows = Rows::of(RowLists {
         points,
         pins,
         pinned,
@@ -68,9 +70,13 @@ pub(crate) fn plain_of(
         twins: orbits.twins,
         nexts: orbits.nexts,
         in_cycles: orbits.in_cycles,
-        cycles: regions.cycles,
+        kinds: regions.kinds,
         cycle_ranks: regions.cycle_ranks,
         bare_ranks: regions.bare_ranks,
+        faces,
+    });
+    Ok(Plain {
+        rows,
         labels: regions.labels,
         faces: regions.faces,
     })

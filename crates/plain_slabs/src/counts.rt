@@ -2,12 +2,12 @@ ghost use Rattle.std.specs.Prelude.{◌≡◌, not, length};
 ghost use Rattle.std.specs.List.{count_by};
 ghost use Rattle.slab_laws.specs.Kinds.{is_outer};
 ghost use Rattle.plain_slabs.specs.Faces.{is_end};
-ghost use Rattle.plain_slabs.specs.Listed.{subdivision_in};
+ghost use Rattle.subdivision_rows.specs.Listed.{subdivision_in};
 
 use crate::faces::has_dart;
 use crate::plain::Plain;
 use exact_plane::{Point, Span};
-use slab_laws::CycleRow;
+use slab_laws::CycleKind;
 
 /// How many cells of each kind a subdivision has.
 #[derive(Clone, Copy, Debug, PartialEq, Eq)]
@@ -21,10 +21,10 @@ pub struct Counts {
     pub isolated: usize,
 }
 
-fn count_inner(cycles: &[CycleRow]) -> usize
-    ensures { result ≡ count_by (λ c. not (is_outer c.kind)) cycles.now }
+fn count_inner(kinds: &[CycleKind]) -> usize
+    ensures { result ≡ count_by (λ k. not (is_outer k)) kinds.now }
 {
-    cycles.iter().filter(|cycle| !cycle.kind.is_outer()).count()
+    kinds.iter().filter(|kind| !kind.is_outer()).count()
 }
 
 fn count_isolated(points: &[Point], edges: &[Span]) -> usize
@@ -46,11 +46,12 @@ pub fn count(plain: &Plain) -> Counts
     ensures inner { result.inner ≡ count_by (λ c. not c.outer) (subdivision_in plain.now).cycles }
     ensures isolated { result.isolated ≡ length (subdivision_in plain.now).bare }
 {
+    let lists = plain.rows.lists();
     Counts {
-        vertices: plain.points.len(),
-        edges: plain.edges.len(),
+        vertices: lists.points.len(),
+        edges: lists.edges.len(),
         faces: plain.faces.len(),
-        inner: count_inner(&plain.cycles),
-        isolated: count_isolated(&plain.points, &plain.edges),
+        inner: count_inner(&lists.kinds),
+        isolated: count_isolated(&lists.points, &lists.edges),
     }
 }

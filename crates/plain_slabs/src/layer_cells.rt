@@ -5,7 +5,7 @@ ghost use Rattle.plane_graphs.specs.Fit.{IsFit};
 ghost use Rattle.slab_laws.specs.Pieces.{present_of};
 ghost use Rattle.slab_laws.specs.Skeleton.{left_of};
 ghost use Rattle.slab_laws.specs.SpansDrawn.{edge_of};
-ghost use Rattle.plain_slabs.specs.LayerTables.{slab_beside, layer_edge, is_across, AreSlanted, AreSlantedAcross, count_below, count_layer, cell_among};
+ghost use Rattle.plain_slabs.specs.LayerEdges.{slab_beside, layer_edge, is_across, AreSlanted, AreSlantedAcross, count_below, count_layer, cell_among};
 
 use crate::layer_table::have_along;
 use edge_predicates::{is_below, slab_after};

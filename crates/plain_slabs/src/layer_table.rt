@@ -1,63 +1,18 @@
-ghost use Rattle.std.specs.Prelude.{◌≡◌, ◌<◌, [], length, map, filter, IfOk};
-ghost use Rattle.std.specs.List.{list_any, slice_index_or};
+ghost use Rattle.std.specs.Prelude.{◌≡◌, map, filter, IfOk};
+ghost use Rattle.std.specs.List.{list_any};
 ghost use Rattle.std.specs.Ordering.{nat_cmp};
 ghost use Rattle.plane_graphs.specs.Ascending.{ascending};
 ghost use Rattle.slab_laws.specs.Pieces.{piece_of, present_of};
 ghost use Rattle.slab_laws.specs.SpansDrawn.{edge_of};
-ghost use Rattle.slab_laws.specs.View.{curve_id};
 ghost use Rattle.present_graphs.specs.Spans.{span_of_piece, lies_on};
 ghost use Rattle.slab_laws.specs.Overlay.{runs_along, curves_along};
-ghost use Rattle.plain_slabs.specs.LayerTables.{numbers_in, numbers_along};
+ghost use Rattle.subdivision_rows.specs.LayerTables.{numbers_in};
+ghost use Rattle.plain_slabs.specs.LayerEdges.{numbers_along};
 
 use exact_plane::{Point, Span, line_of};
 use no_memory::NoMemory;
 use slab_laws::{CurveId, Piece, Present};
-use std::alloc::{AllocError, Global};
-use std::marker::Model;
-
-/// What an overlay keeps of one layer.
-#[derive(Drop)]
-pub(crate) struct LayerTable {
-    /// Of each edge the curves of the layer along it, ascending.
-    pub(crate) curves: Vec<Vec<CurveId>>,
-    /// Of each face the rank of the layer's face that holds it.
-    pub(crate) labels: Vec<usize>,
-}
-
-impl Model for LayerTable {
-    ghost use Rattle.slab_laws.specs.Layers.{LayerRows};
-
-    ghost Value = { LayerRows };
-
-    ghost use Rattle.plain_slabs.specs.LayerTables.{table_rows};
-
-    ghost view = { table_rows };
-}
-
-fn copied(alloc: Global, curves: &[CurveId]) -> Result<Vec<CurveId>, AllocError>
-    ensures { IfOk result (λ v. v.items ≡ curves.now) }
-{
-    curves.iter().copied().collect(alloc)
-}
-
-impl LayerTable {
-    // The curves of the layer along the edge at a place.
-    pub(crate) fn curves_at(&self, alloc: Global, edge: usize) -> Result<Vec<CurveId>, AllocError>
-        requires { edge < length self.now.curves }
-        ensures { IfOk result (λ v. v.items ≡ map curve_id (slice_index_or self.now.curves edge [])) }
-    {
-        let curves = copied(alloc, &self.curves[edge])?;
-        Ok(curves)
-    }
-
-    // The rank of the layer's face that holds the face of a rank.
-    pub(crate) fn label_at(&self, face: usize) -> usize
-        requires { face < length self.now.labels }
-        ensures { result ≡ slice_index_or self.now.labels face 0 }
-    {
-        self.labels[face]
-    }
-}
+use std::alloc::Global;
 
 // Whether a point lies on a piece.
 fn holds(piece: &Piece, point: &Point) -> bool

@@ -5,11 +5,9 @@
 //!
 //! It is slow and plain: every part of the answer is computed by the definition. Slabs, cells and faces are those of the
 //! slab model; what is answered is proved to be the model's subdivision and the model's location, and its lists, read by name,
-//! to be a sound view of it (`specs/Listed.antt`). It is the yardstick of every faster engine.
+//! to be a sound view of it (crate `subdivision_rows`). It is the yardstick of every faster engine.
 #![tactic(auto)]
 
-mod both;
-mod both_records;
 mod build;
 mod counts;
 mod faces;
@@ -25,7 +23,6 @@ mod ranks;
 mod records;
 mod regions;
 
-pub use both::Both;
 pub use build::subdivide;
 pub use counts::{Counts, count};
 pub use locate::hold;

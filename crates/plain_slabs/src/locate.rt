@@ -1,5 +1,5 @@
 ghost use Rattle.std.specs.Prelude.{◌≡◌, find};
-ghost use Rattle.plain_slabs.specs.Listed.{subdivision_in};
+ghost use Rattle.subdivision_rows.specs.Listed.{subdivision_in};
 ghost use Rattle.slab_laws.specs.SpansDrawn.{edge_of};
 ghost use Rattle.slab_laws.specs.Skeleton.{same_point, inside};
 ghost use Rattle.slab_laws.specs.Subdivision.{holds};
@@ -31,12 +31,13 @@ fn edge_at(edges: &[Span], point: &Point) -> Option<Span>
 pub fn hold(plain: &Plain, point: &Point) -> Cell
     ensures { result ≡ holds (subdivision_in plain.now) point.now }
 {
-    if let Some(vertex) = vertex_at(&plain.points, point) {
+    let lists = plain.rows.lists();
+    if let Some(vertex) = vertex_at(&lists.points, point) {
         return Cell::Vertex(vertex);
     }
-    if let Some(edge) = edge_at(&plain.edges, point) {
+    if let Some(edge) = edge_at(&lists.edges, point) {
         return Cell::Edge(edge.lower(), edge.upper());
     }
-    let cell = cell_before(&plain.points, &plain.edges, point);
+    let cell = cell_before(&lists.points, &lists.edges, point);
     Cell::Face(rank_of(&plain.faces, plain.labels.least_of(cell)))
 }

@@ -4,7 +4,7 @@ ghost use Rattle.slab_laws.specs.Sound.{IsGraphSound};
 ghost use Rattle.slab_laws.specs.View.{HasDart};
 ghost use Rattle.arr_notes.specs.Curves.{IsForward};
 ghost use Rattle.record_orders.specs.Keys.{vertex_keys, dart_key};
-ghost use Rattle.plain_slabs.specs.Listed.{subdivision_by, subdivision_in, view_of, faces_of, AreLinesOf};
+ghost use Rattle.subdivision_rows.specs.Listed.{subdivision_by, subdivision_in, view_of, faces_of, AreLinesOf};
 ghost use Rattle.slab_laws.specs.FacesSound.{IsSound};
 ghost use Rattle.present_graphs.specs.Marks.{mark_of, HaveCome};
 ghost use Rattle.plain_slabs.specs.ByName.{numbers_of, graph_by, points_at, pinned_among, goes_forward, forward_keys, span_along, key_marks, DoCurvesAscend, AreParts};

@@ -5,17 +5,16 @@ ghost use Rattle.slab_laws.specs.FacesSound.{IsSound};
 ghost use Rattle.slab_laws.specs.Pieces.{present_of};
 ghost use Rattle.slab_laws.specs.Overlay.{both, overlay};
 ghost use Rattle.slab_laws.specs.Layers.{rows_of};
-ghost use Rattle.plain_slabs.specs.Listed.{subdivision_in, view_of, faces_of, AreLinesOf};
+ghost use Rattle.subdivision_rows.specs.Listed.{subdivision_in, view_of, faces_of, AreLinesOf};
 
-use crate::both::Both;
 use crate::build::subdivide;
 use crate::labels::table_of;
-use crate::layer_table::LayerTable;
 use crate::plain::Plain;
 use no_memory::NoMemory;
 use present_graphs::unite;
 use slab_laws::Present;
 use std::alloc::Global;
+use subdivision_rows::{Both, LayerTable};
 
 // The subdivision by both layers. Each piece stands for a curve in it.
 fn subdivide_united(alloc: Global, red: &Present, blue: &Present) -> Result<Plain, NoMemory>
@@ -74,7 +73,7 @@ pub fn subdivide_both(alloc: Global, red: &Present, blue: &Present) -> Result<Bo
 {
     let plain = subdivide_united(alloc, red, blue)?;
     match tables_of(alloc, &plain, red, blue) {
-        Ok((red, blue)) => Ok(Both { plain, red, blue }),
+        Ok((red, blue)) => Ok(Both::of(plain.rows, red, blue)),
         Err(no_memory) => {
             // By a call, which is proved once for the type; what a scope drops at its end is proved there anew.
             drop(plain);

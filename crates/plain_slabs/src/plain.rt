@@ -1,37 +1,27 @@
-use exact_plane::{Point, Span};
-use present_graphs::Mark;
 use slab_cells::CellLabels;
-use slab_laws::{CycleRow, ListedDart, SlabCell};
+use slab_laws::SlabCell;
 use std::marker::Model;
+use subdivision_rows::Rows;
 
 /// The subdivision of the plane by a graph, in ascending lists: anything's name is its place in its list, a face's is its
-/// rank.
+/// rank. With it the cells of its faces, by which points are located.
 #[derive(Drop)]
 pub struct Plain {
-    pub(crate) points: Vec<Point>,
-    pub(crate) pins: Vec<Point>,
-    pub(crate) pinned: Vec<bool>,
-    pub(crate) marks: Vec<Mark>,
-    pub(crate) edges: Vec<Span>,
-    pub(crate) darts: Vec<ListedDart>,
-    pub(crate) twins: Vec<usize>,
-    pub(crate) nexts: Vec<usize>,
-    pub(crate) in_cycles: Vec<usize>,
-    pub(crate) cycles: Vec<CycleRow>,
-    pub(crate) cycle_ranks: Vec<usize>,
-    pub(crate) bare_ranks: Vec<usize>,
+    pub(crate) rows: Rows,
+    // Of each cell the least cell of its face.
     pub(crate) labels: CellLabels,
+    // Of each face its least cell.
     pub(crate) faces: Vec<SlabCell>,
 }
 
 impl Model for Plain {
-    ghost use Rattle.plain_slabs.specs.Listed.{Drawing};
+    ghost use Rattle.subdivision_rows.specs.Listed.{Drawing};
 
     ghost Value = { Drawing };
 
-    ghost use Rattle.plain_slabs.specs.SubdivisionInMemory.{drawing_of, IsSoundSubdivision};
+    ghost use Rattle.plain_slabs.specs.SubdivisionInMemory.{IsSoundSubdivision};
 
-    ghost view = { drawing_of };
+    ghost view = { λ a. a.rows };
 
     ghost invariant = { IsSoundSubdivision };
 }

@@ -1,171 +1,91 @@
-ghost use Rattle.std.specs.Prelude.{◌≡◌, ◌&&◌, IfOk};
-ghost use Rattle.std.specs.List.{range_with_len};
-ghost use Rattle.std.specs.Option.{option_map};
-ghost use Rattle.slab_laws.specs.Skeleton.{same_point};
-ghost use Rattle.slab_laws.specs.Tables.{name_after};
-ghost use Rattle.slab_laws.specs.View.{vertex_id, dart_id, cycle_id, face_id};
-ghost use Rattle.plain_slabs.specs.Curves.{curves_along};
-
 use crate::plain::Plain;
-use edge_predicates::is_same;
 use exact_plane::{Line, Point};
 use no_memory::NoMemory;
-use present_graphs::Mark;
 use slab_laws::{CurveId, Curved, CycleId, CycleKind, DartId, Darts, FaceId, Faced, VertexId};
 use std::alloc::Global;
 
-// The first number of those below a count, or the one after a number.
-fn number_after(count: usize, number: Option<usize>) -> Option<usize>
-    ensures { result ≡ name_after (range_with_len 0 count) number }
-{
-    let next = match number {
-        None => 0,
-        Some(n) if n < count => n + 1,
-        Some(_) => count,
-    };
-    if next < count { Some(next) } else { None }
-}
-
-fn vertex_name_after(count: usize, name: Option<VertexId>) -> Option<VertexId>
-    ensures { result ≡ option_map vertex_id (name_after (range_with_len 0 count) (option_map (λ n. n.0) name)) }
-{
-    number_after(count, name.map(|n| n.0)).map(VertexId)
-}
-
-fn dart_name_after(count: usize, name: Option<DartId>) -> Option<DartId>
-    ensures { result ≡ option_map dart_id (name_after (range_with_len 0 count) (option_map (λ n. n.0) name)) }
-{
-    number_after(count, name.map(|n| n.0)).map(DartId)
-}
-
-fn cycle_name_after(count: usize, name: Option<CycleId>) -> Option<CycleId>
-    ensures { result ≡ option_map cycle_id (name_after (range_with_len 0 count) (option_map (λ n. n.0) name)) }
-{
-    number_after(count, name.map(|n| n.0)).map(CycleId)
-}
-
-fn face_name_after(count: usize, name: Option<FaceId>) -> Option<FaceId>
-    ensures { result ≡ option_map face_id (name_after (range_with_len 0 count) (option_map (λ n. n.0) name)) }
-{
-    number_after(count, name.map(|n| n.0)).map(FaceId)
-}
-
-// Whether a mark is of the edge between two points.
-fn is_between(mark: &Mark, low: &Point, high: &Point) -> bool
-    ensures { result ≡ (same_point mark.now.low low.now && same_point mark.now.high high.now) }
-{
-    is_same(&mark.low, low) && is_same(&mark.high, high)
-}
-
-// The curves of the marks along an edge, in their order.
-fn curves_along(
-    alloc: Global,
-    marks: &[Mark],
-    low: &Point,
-    high: &Point,
-) -> Result<Vec<CurveId>, NoMemory>
-    ensures { IfOk result (λ v. v.items ≡ curves_along marks.now low.now high.now) }
-{
-    // A loop, since the proof of two adaptors with a closure each takes twice as long.
-    let mut curves = Vec::new(alloc);
-    for mark in marks {
-        if is_between(mark, low, high) {
-            curves.push(mark.curve)?;
-        }
-    }
-    Ok(curves)
-}
-
 impl Darts for Plain {
-    ghost use Rattle.plain_slabs.specs.Listed.{view_of};
+    ghost use Rattle.subdivision_rows.specs.Listed.{view_of};
 
     ghost graph = { view_of };
 
     fn source(&self, d: DartId) -> VertexId {
-        VertexId(self.darts[d.0].source)
+        self.rows.source(d)
     }
 
     fn target(&self, d: DartId) -> VertexId {
-        VertexId(self.darts[d.0].target)
+        self.rows.target(d)
     }
 
     fn twin(&self, d: DartId) -> DartId {
-        DartId(self.twins[d.0])
+        self.rows.twin(d)
     }
 
     fn next(&self, d: DartId) -> DartId {
-        DartId(self.nexts[d.0])
+        self.rows.next(d)
     }
 
     fn point(&self, v: VertexId) -> Point {
-        self.points[v.0]
+        self.rows.point(v)
     }
 
     fn line(&self, d: DartId) -> Line {
-        let edge = self.darts[d.0].edge;
-        self.edges[edge].line()
+        self.rows.line(d)
     }
 
     fn pinned(&self, v: VertexId) -> bool {
-        self.pinned[v.0]
+        self.rows.pinned(v)
     }
 
     fn out_of(&self, v: VertexId) -> Option<DartId> {
-        for i in 0..self.darts.len() {
-            if self.darts[i].source == v.0 {
-                return Some(DartId(i));
-            }
-        }
-        None
+        self.rows.out_of(v)
     }
 
     fn vertex_after(&self, v: Option<VertexId>) -> Option<VertexId> {
-        vertex_name_after(self.points.len(), v)
+        self.rows.vertex_after(v)
     }
 
     fn dart_after(&self, d: Option<DartId>) -> Option<DartId> {
-        dart_name_after(self.darts.len(), d)
+        self.rows.dart_after(d)
     }
 }
 
 impl Curved for Plain {
-    ghost use Rattle.plain_slabs.specs.Curves.{curves_at};
+    ghost use Rattle.subdivision_rows.specs.Curves.{curves_at};
 
     ghost curve_list = { curves_at };
 
     fn curves(&self, alloc: Global, d: DartId) -> Result<Vec<CurveId>, NoMemory> {
-        let edge = &self.edges[self.darts[d.0].edge];
-        let curves = curves_along(alloc, &self.marks, &edge.lower(), &edge.upper())?;
-        Ok(curves)
+        self.rows.curves(alloc, d)
     }
 }
 
 impl Faced for Plain {
-    ghost use Rattle.plain_slabs.specs.Listed.{faces_of};
+    ghost use Rattle.subdivision_rows.specs.Listed.{faces_of};
 
     ghost faces = { faces_of };
 
     fn cycle(&self, d: DartId) -> CycleId {
-        CycleId(self.in_cycles[d.0])
+        self.rows.cycle(d)
     }
 
     fn face(&self, c: CycleId) -> FaceId {
-        FaceId(self.cycle_ranks[c.0])
+        self.rows.face(c)
     }
 
     fn kind(&self, c: CycleId) -> CycleKind {
-        self.cycles[c.0].kind
+        self.rows.kind(c)
     }
 
     fn bare_face(&self, v: VertexId) -> FaceId {
-        FaceId(self.bare_ranks[v.0])
+        self.rows.bare_face(v)
     }
 
     fn cycle_after(&self, c: Option<CycleId>) -> Option<CycleId> {
-        cycle_name_after(self.cycles.len(), c)
+        self.rows.cycle_after(c)
     }
 
     fn face_after(&self, f: Option<FaceId>) -> Option<FaceId> {
-        face_name_after(self.faces.len(), f)
+        self.rows.face_after(f)
     }
 }

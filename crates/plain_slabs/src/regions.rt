@@ -1,4 +1,4 @@
-ghost use Rattle.std.specs.Prelude.{◌≡◌, IfOk};
+ghost use Rattle.std.specs.Prelude.{◌≡◌, map, IfOk};
 ghost use Rattle.slab_laws.specs.SpansDrawn.{drawn};
 ghost use Rattle.slab_laws.specs.Skeleton.{IsPlaneSkeleton};
 ghost use Rattle.plain_slabs.specs.Faces.{AreLabelsOf};
@@ -10,15 +10,15 @@ use crate::ranks::cycle_ranks;
 use exact_plane::{Point, Span};
 use no_memory::NoMemory;
 use slab_cells::{CellLabels, link_cells, list_cells};
-use slab_laws::{CycleRow, SlabCell};
-use std::alloc::Global;
+use slab_laws::{CycleKind, CycleRow, SlabCell};
+use std::alloc::{AllocError, Global};
 
 /// The faces of a graph by rank, and of which cycles and bare vertices they are.
 #[derive(Drop)]
 pub(crate) struct Regions {
     pub(crate) labels: CellLabels,
-    pub(crate) cycles: Vec<CycleRow>,
     pub(crate) faces: Vec<SlabCell>,
+    pub(crate) kinds: Vec<CycleKind>,
     pub(crate) cycle_ranks: Vec<usize>,
     pub(crate) bare_ranks: Vec<usize>,
 }
@@ -31,6 +31,13 @@ fn labels_of(alloc: Global, points: &[Point], edges: &[Span]) -> Result<CellLabe
     let links = link_cells(alloc, points, edges)?;
     let labels = CellLabels::of_links(alloc, &links)?;
     Ok(labels)
+}
+
+// Of each cycle whether it bounds its face from outside.
+fn kinds_of(alloc: Global, cycles: &[CycleRow]) -> Result<Vec<CycleKind>, AllocError>
+    ensures { IfOk result (λ v. v.items ≡ map (λ c. c.kind) cycles.now) }
+{
+    cycles.iter().map(|cycle| cycle.kind).collect(alloc)
 }
 
 // The faces, their cycles and bare vertices.
@@ -56,12 +63,13 @@ pub(crate) fn regions_of(
     )?;
     let cells = list_cells(alloc, points, edges)?;
     let faces = faces_of(alloc, points, edges, &cells, &cycles, &labels)?;
+    let kinds = kinds_of(alloc, &cycles)?;
     let cycle_ranks = cycle_ranks(alloc, &faces, &cycles)?;
     let bare_ranks = bare_ranks(alloc, points, edges, &labels, &faces)?;
     Ok(Regions {
         labels,
-        cycles,
         faces,
+        kinds,
         cycle_ranks,
         bare_ranks,
     })

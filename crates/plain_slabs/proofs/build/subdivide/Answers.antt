@@ -5,11 +5,11 @@ use Rattle.plane_graphs.proofs.Laws.{graph_is_plane}
 use Rattle.slab_laws.specs.Pieces.{present_of}
 use Rattle.slab_laws.specs.Subdivision.{subdivision}
 use Rattle.slab_laws.specs.Text.{skeleton}
-use Rattle.plain_slabs.specs.Listed.{Drawing, view_of, faces_of, AreLinesOf}
+use Rattle.subdivision_rows.specs.Listed.{Drawing, view_of, faces_of, AreLinesOf}
 use Rattle.slab_laws.specs.FacesSound.{IsSound}
-use Rattle.plain_slabs.proofs.ListsSound.{lists_are_sound}
-use Rattle.plain_slabs.proofs.Building.{graph_is, lines_are}
-use Rattle.plain_slabs.specs.GraphInMemory.{drawing_in}
+use Rattle.subdivision_rows.proofs.ListsSound.{lists_are_sound}
+use Rattle.subdivision_rows.proofs.RowsDrawn.{graph_is, lines_are}
+use Rattle.subdivision_rows.specs.GraphInMemory.{drawing_in}
 use Rattle.plain_slabs.proofs.build.subdivide.Goals as goal
 
 pub plain_of-requires-clause-plane : goal.plain_of-requires-clause-plane

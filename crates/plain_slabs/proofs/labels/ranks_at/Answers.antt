@@ -1,8 +1,8 @@
 use Rattle.std.proofs.Common.{sym, ap, ap₂, ◌∙◌, ◌++◌, ◌∷◌, [], ℕ, List}
 use Rattle.std.proofs.lemmas.List.{map_more}
 use Rattle.plane_graphs.proofs.Loops.{all_mapped}
-use Rattle.plain_slabs.specs.Listed.{subdivision_in}
-use Rattle.plain_slabs.specs.LayerTables.{cell_among, rank_in}
+use Rattle.subdivision_rows.specs.Listed.{subdivision_in}
+use Rattle.plain_slabs.specs.LayerEdges.{cell_among, rank_in}
 use Rattle.plain_slabs.proofs.labels.ranks_at.Goals as goal
 
 pub returns : goal.returns

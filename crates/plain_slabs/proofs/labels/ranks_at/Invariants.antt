@@ -1,6 +1,6 @@
 use Rattle.std.proofs.Common.{◌≡◌, map, take}
-use Rattle.plain_slabs.specs.Listed.{subdivision_in}
-use Rattle.plain_slabs.specs.LayerTables.{cell_among, rank_in}
+use Rattle.subdivision_rows.specs.Listed.{subdivision_in}
+use Rattle.plain_slabs.specs.LayerEdges.{cell_among, rank_in}
 use Rattle.plain_slabs.proofs.labels.ranks_at.Given as goal
 
 abbrev pub invariant-loop-cell : goal.invariant-loop-cell

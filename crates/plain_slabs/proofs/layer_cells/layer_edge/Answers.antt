@@ -4,7 +4,7 @@ use Rattle.slab_laws.specs.declared.present.Piece.{Piece}
 use Rattle.slab_laws.specs.Pieces.{piece_of}
 use Rattle.slab_laws.specs.SpansDrawn.{edge_of}
 use Rattle.slab_laws.specs.Overlay.{runs_along}
-use Rattle.plain_slabs.specs.LayerTables.{slab_beside}
+use Rattle.plain_slabs.specs.LayerEdges.{slab_beside}
 use Rattle.plain_slabs.proofs.LayerPieces.{has_along_is}
 use Rattle.plain_slabs.proofs.layer_cells.layer_edge.Goals as goal
 

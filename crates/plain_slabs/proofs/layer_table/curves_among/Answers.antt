@@ -3,7 +3,7 @@ use Rattle.slab_laws.specs.declared.present.Piece.{Piece}
 use Rattle.slab_laws.specs.Overlay.{runs_along}
 use Rattle.slab_laws.specs.Pieces.{piece_of}
 use Rattle.slab_laws.specs.SpansDrawn.{edge_of}
-use Rattle.plain_slabs.proofs.Items.{kept, passed, all_passing}
+use Rattle.subdivision_rows.proofs.Items.{kept, passed, all_passing}
 use Rattle.plain_slabs.proofs.layer_table.curves_among.Goals.{then-runs_along+in_ok-push, else-runs_along}
 use Rattle.plain_slabs.proofs.layer_table.curves_among.Goals as goal
 

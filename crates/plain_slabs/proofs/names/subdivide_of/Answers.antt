@@ -2,9 +2,9 @@ use Rattle.std.proofs.Common.{sym, ap, subst, ◌∙◌}
 use Rattle.plane_graphs.specs.Graph.{Graph}
 use Rattle.slab_laws.specs.Subdivision.{subdivision}
 use Rattle.slab_laws.specs.Text.{skeleton}
-use Rattle.plain_slabs.specs.Listed.{Drawing, view_of, faces_of, AreLinesOf}
+use Rattle.subdivision_rows.specs.Listed.{Drawing, view_of, faces_of, AreLinesOf}
 use Rattle.slab_laws.specs.FacesSound.{IsSound}
-use Rattle.plain_slabs.proofs.ListsSound.{lists_are_sound}
+use Rattle.subdivision_rows.proofs.ListsSound.{lists_are_sound}
 use Rattle.plain_slabs.proofs.names.subdivide_of.Goals as goal
 
 pub plain_of-requires : goal.plain_of-requires

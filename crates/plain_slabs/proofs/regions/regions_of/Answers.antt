@@ -25,8 +25,8 @@ faces_of-requires c = record {
 pub returns : goal.returns
 returns c = record {
   labels = c.in_ok-labels.ensures;
-  cycles = c.in_ok-cycles.ensures;
   faces = c.in_ok-faces.ensures;
-  cycle_ranks = c.in_ok-cycle_ranks.ensures ∙ ap₂ (λ fs cs. map (λ (r : CycleRow). position_or_len (same_cell r.face) fs) cs) c.deref-6.ensures.value c.deref-7.ensures.value;
-  bare_ranks = c.in_ok-bare_ranks.ensures ∙ ap (λ fs. map (rank_round (drawn c.args.points.now c.args.edges.now) fs) c.args.points.now) c.deref-8.ensures.value;
+  kinds = c.in_ok-kinds.ensures ∙ ap (map (λ (r : CycleRow). r.kind)) (c.deref-6.ensures.value ∙ c.in_ok-cycles.ensures);
+  cycle_ranks = c.in_ok-cycle_ranks.ensures ∙ ap₂ (λ fs cs. map (λ (r : CycleRow). position_or_len (same_cell r.face) fs) cs) c.deref-7.ensures.value (c.deref-8.ensures.value ∙ c.in_ok-cycles.ensures);
+  bare_ranks = c.in_ok-bare_ranks.ensures ∙ ap (λ fs. map (rank_round (drawn c.args.points.now c.args.edges.now) fs) c.args.points.now) c.deref-9.ensures.value;
 }

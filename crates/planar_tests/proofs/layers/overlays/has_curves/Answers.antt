@@ -1,6 +1,6 @@
 use Rattle.std.proofs.Common.{Some}
 use Rattle.sound_views.proofs.NamesMet.{dart_has}
-use Rattle.plain_slabs.specs.OverlayInMemory.{graph_of}
+use Rattle.subdivision_rows.specs.OverlayInMemory.{graph_of}
 use Rattle.planar_tests.proofs.layers.overlays.has_curves.Goals as goal
 
 pub red_curves-requires : goal.red_curves-requires

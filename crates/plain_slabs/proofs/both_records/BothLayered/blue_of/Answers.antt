@@ -1,5 +1,0 @@
-use Rattle.plain_slabs.proofs.OverlaidRows.{blue_within}
-use Rattle.plain_slabs.proofs.both_records.BothLayered.blue_of.Goals as goal
-
-pub label_at-requires : goal.label_at-requires
-label_at-requires c = blue_within c.self.inside c.args.self.now c.self.invariant c.self.view_is c.args.f c.requires

@@ -1,9 +1,0 @@
-use Rattle.plain_slabs.proofs.DartLists.{next_within, next_reads}
-use Rattle.plain_slabs.proofs.Items.{place}
-use Rattle.plain_slabs.proofs.records.PlainDarts.next.Goals as goal
-
-pub index-requires : goal.index-requires
-index-requires c = place c.self.inside.nexts c.args.d.0 (next_within c.self.inside c.args.self.now c.self.invariant c.self.view_is c.args.d c.requires)
-
-pub returns : goal.returns
-returns c = next_reads c.self.inside c.args.self.now c.self.invariant c.self.view_is c.args.d c.index.result.now c.requires c.index.ensures

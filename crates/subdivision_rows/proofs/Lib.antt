@@ -1,0 +1,17 @@
+pub mod SpanLines
+pub mod RowsDrawn
+pub mod ListedRecords
+pub mod ListsDrawn
+pub mod ListsGraphSound
+pub mod ListedFaces
+pub mod ListsComplete
+pub mod ListsCycled
+pub mod ListsFaced
+pub mod ListsSound
+pub mod Items
+pub mod DartLists
+pub mod VertexLists
+pub mod CycleLists
+pub mod Numbers
+pub mod CurveLists
+pub mod OverlaidRows

@@ -1,0 +1,9 @@
+use Rattle.subdivision_rows.proofs.DartLists.{next_within, next_reads}
+use Rattle.subdivision_rows.proofs.Items.{place}
+use Rattle.subdivision_rows.proofs.records.RowsDarts.next.Goals as goal
+
+pub index-requires : goal.index-requires
+index-requires c = place c.self.inside.lists.nexts c.args.d.0 (next_within c.self.inside.lists c.args.self.now c.self.invariant c.self.view_is c.args.d c.requires)
+
+pub returns : goal.returns
+returns c = next_reads c.self.inside.lists c.args.self.now c.self.invariant c.self.view_is c.args.d c.index.result.now c.requires c.index.ensures
