@@ -20,7 +20,7 @@ use Rattle.curve_history.specs.Past.{Past, curves_on, SameLayer, SameCurves}
 use Rattle.curve_history.specs.DrawnRecords.{curves_in, forward_of}
 use Rattle.told_steps.specs.RecordLayers.{IsLayer, layer_of}
 use Rattle.told_steps.proofs.Layers.{nothing_is_a_layer}
-use Rattle.plain_slabs.specs.ByName.{numbers_of}
+use Rattle.subdivision_rows.specs.ByName.{numbers_of}
 use Rattle.arr_text.specs.Reading.{text_in}
 use Rattle.arr_text.proofs.RecordTexts.{records_tell_their_graph}
 

@@ -12,8 +12,8 @@ use Rattle.arr_notes.specs.RecordGraph.{drawn_graph}
 use Rattle.curve_history.specs.Past.{Past, curves_on}
 use Rattle.record_orders.specs.Keys.{vertex_keys}
 use Rattle.told_steps.specs.RecordLayers.{IsLayer, layer_of}
-use Rattle.plain_slabs.specs.ByName.{points_at, pinned_among}
-use Rattle.plain_slabs.proofs.NamedGraph.{pins_are}
+use Rattle.subdivision_rows.specs.ByName.{points_at, pinned_among}
+use Rattle.subdivision_rows.proofs.PinsByName.{pins_are}
 
 -- one more piece is read
 pub one_more : (all : List Piece) (some next : List PieceInMemory) (i : ℕ) (k : PieceInMemory) → map piece_of some ≡ take i all → Some (piece_of k) ≡ slice_get all i → next ≡ some ++ (k ∷ []) → map piece_of next ≡ take (i + 1) all

@@ -11,10 +11,9 @@ use crate::arrangement::Arrangement;
 use crate::overlaid::Overlay;
 use crate::presents::present_of;
 use no_memory::NoMemory;
-use plain_slabs::subdivide_both;
 use std::alloc::Global;
 
-/// The overlay of two layers, built afresh from what each has at this moment.
+/// The overlay of two layers, by plane sweeps over what each has at this moment.
 ///
 /// # Errors
 ///
@@ -36,7 +35,7 @@ pub fn overlay(alloc: Global, red: &Arrangement, blue: &Arrangement) -> Result<O
 {
     let of_red = present_of(alloc, &red.layer)?;
     let of_blue = present_of(alloc, &blue.layer)?;
-    let both = subdivide_both(alloc, &of_red, &of_blue);
+    let both = overlay_sweep::overlay(alloc, &of_red, &of_blue);
     // What a scope drops at its end is proved there anew, in all its parts.
     drop(of_red);
     drop(of_blue);

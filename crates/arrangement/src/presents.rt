@@ -4,7 +4,7 @@ ghost use Rattle.slab_laws.specs.Pieces.{piece_of, present_of};
 ghost use Rattle.slab_laws.specs.Sound.{IsGraphSound};
 ghost use Rattle.told_steps.specs.RecordLayers.{layer_of};
 ghost use Rattle.record_orders.specs.Keys.{vertex_keys};
-ghost use Rattle.plain_slabs.specs.ByName.{points_at, pinned_among};
+ghost use Rattle.subdivision_rows.specs.ByName.{points_at, pinned_among};
 
 use crate::layer_records::LayerRecords;
 use curve_history::History;

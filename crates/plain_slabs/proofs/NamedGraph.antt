@@ -1,40 +1,37 @@
 -- What is read of records by name is the graph that they draw: it is plane, and has the records' lines.
 use Rattle.std.proofs.Common.{◌≡◌, ◌≢◌, Bool, true, false, cond, ◌&&◌, refl, sym, ap, ◌∙◌, subst, List, [], ◌∷◌, map}
-use Rattle.std.specs.Cmp.{on_total}
 use Rattle.std.specs.List.{AllByRecursion, flat_map}
 use Rattle.std.specs.List.Sorted.{IsStrictlyIncreasing}
 use Rattle.std.specs.Option.{is_some}
 use Rattle.std.specs.Ordering.{nat_cmp}
 use Rattle.std.proofs.lemmas.Map.Keys.{sorted_from_strictly_increasing}
-use Rattle.exact_plane.specs.Point.{Point}
-use Rattle.exact_plane.specs.PointOrder.{point_cmp}
-use Rattle.exact_plane.specs.PointOrderLaws.{point_cmp_total, and_true}
+use Rattle.exact_plane.specs.PointOrderLaws.{and_true}
 use Rattle.exact_plane.specs.Span.{Span}
 use Rattle.plane_graphs.specs.Ascending.{Member, IsAscending}
 use Rattle.plane_graphs.specs.Graph.{Graph, Mark, edges, mark_cmp}
 use Rattle.plane_graphs.specs.Plane.{IsPlane}
-use Rattle.plane_graphs.proofs.Ascending.{All-member, IsAscending-ascending, ascending_unique, from_std}
-use Rattle.plane_graphs.proofs.Lists.{and_in, in_map, of_map, in_filter, of_filter, clash, IsAscending-filter, map_map}
+use Rattle.plane_graphs.proofs.Ascending.{All-member, ascending_unique, from_std}
+use Rattle.plane_graphs.proofs.Lists.{and_in, in_map, of_map, in_filter, clash}
 use Rattle.plane_graphs.proofs.Order.{mark_cmp_total}
 use Rattle.slab_laws.specs.declared.names.CurveId.{CurveId}
 use Rattle.slab_laws.specs.declared.names.DartId.{DartId}
 use Rattle.slab_laws.specs.SpansDrawn.{edge_of}
 use Rattle.slab_laws.specs.Skeleton.{Skeleton}
-use Rattle.slab_laws.specs.Sound.{IsGraphSound, points_of}
-use Rattle.slab_laws.specs.Tables.{row_at, names}
-use Rattle.slab_laws.specs.View.{View, vertex_id, point_in, pinned_in}
-use Rattle.sound_views.specs.Orders.{vertex_order, dart_order}
-use Rattle.sound_views.proofs.NamesOrdered.{points_in_order, vertex_ordered, ordered_vertex, dart_ordered}
-use Rattle.sound_views.proofs.PulledOrders.{IsAscending-map}
+use Rattle.slab_laws.specs.Sound.{IsGraphSound}
+use Rattle.slab_laws.specs.Tables.{row_at}
+use Rattle.slab_laws.specs.View.{View}
+use Rattle.sound_views.specs.Orders.{dart_order}
+use Rattle.sound_views.proofs.NamesOrdered.{dart_ordered}
 use Rattle.arr_notes.specs.Curves.{Curves, is_forward, IsForward, AreCurvesOf}
 use Rattle.arr_notes.specs.RecordGraph.{drawn_graph}
 use Rattle.sound_views.specs.RecordGraphLaws.{IsMarkOf}
 use Rattle.sound_views.proofs.GraphHolds.{graphs_hold}
 use Rattle.sound_views.proofs.GraphDrawn.{graphs_are_drawn, graphs_are_plane}
-use Rattle.record_orders.specs.declared.vertices.VertexKey.{VertexKey}
-use Rattle.record_orders.specs.Keys.{vertex_key, vertex_keys, dart_key, dart_keys}
+use Rattle.record_orders.specs.Keys.{vertex_keys, dart_key, dart_keys}
 use Rattle.present_graphs.specs.Marks.{mark_of}
-use Rattle.plain_slabs.specs.ByName.{numbers_of, points_at, pinned_among, goes_forward, forward_keys, span_along, key_marks, AreParts}
+use Rattle.plain_slabs.specs.ByName.{goes_forward, forward_keys, span_along, key_marks, AreParts}
+use Rattle.subdivision_rows.specs.ByName.{numbers_of, points_at, pinned_among}
+use Rattle.subdivision_rows.proofs.PinsByName.{graph_points, points_are, pins_are}
 use Rattle.plain_slabs.specs.declared.names.Parts.{Parts}
 use Rattle.subdivision_rows.specs.GraphInMemory.{graph_in}
 use Rattle.plain_slabs.proofs.NamedEdges.{key_line, spans_are}
@@ -42,48 +39,6 @@ use Rattle.plain_slabs.proofs.NamedMarks.{graph_marks_ascend, marks_are}
 use Rattle.plain_slabs.proofs.ReadKeys.{forward_member}
 use Rattle.subdivision_rows.proofs.SpanLines.{IsAlongLine, lines_by_spans}
 use Rattle.integers.proofs.Tests.{not_true}
-
--- ---- points and pins
-graph_pins_ascend : (v : View) (h : Curves) → IsAscending point_cmp (drawn_graph v h).pins
-unfolding drawn_graph
-graph_pins_ascend v h = IsAscending-ascending point_cmp point_cmp_total _
-
-graph_points : (v : View) (h : Curves) → (drawn_graph v h).points ≡ points_of v
-unfolding drawn_graph
-graph_points v h = refl
-
-module _ (v : View) (s : IsGraphSound v) where
-  points_are : points_at (vertex_keys v) ≡ points_of v
-  points_are = map_map (vertex_key v) (λ k. k.point) (vertex_order v) ∙ points_in_order v s
-
-  abbrev pins : List Point
-  pins = points_at (pinned_among v (vertex_keys v))
-
-  pins_ascend : IsAscending point_cmp pins
-  unfolding vertex_order
-  pins_ascend =
-      IsAscending-map (λ (k m : VertexKey). point_cmp k.point m.point) point_cmp (λ k. k.point) (pinned_among v (vertex_keys v)) (λ k m i j l. l)
-      (IsAscending-filter (λ (k m : VertexKey). point_cmp k.point m.point) (λ k. pinned_in v k.name) (vertex_keys v)
-      (IsAscending-map (λ u w. point_cmp (point_in v u) (point_in v w)) (λ (k m : VertexKey). point_cmp k.point m.point) (vertex_key v) (vertex_order v) (λ u w i j l. l)
-      (IsAscending-ascending (λ u w. point_cmp (point_in v u) (point_in v w)) (on_total (point_in v) point_cmp_total) (map vertex_id (names v.vertices)))))
-
-  pin_there : (h : Curves) (p : Point) → Member p pins → Member p (drawn_graph v h).pins
-  pin_there h p i =
-      let k = of_map (λ (k : VertexKey). k.point) p (pinned_among v (vertex_keys v)) i in
-      let f = of_filter (λ (k : VertexKey). pinned_in v k.name) k.0 (vertex_keys v) k.1 in
-      let w = of_map (vertex_key v) k.0 (vertex_order v) f.0 in
-      ((graphs_hold v h s).pins p).1
-      (w.0, record { has = ordered_vertex v s w.0 w.1; at = ap (λ (m : VertexKey). m.point) (sym w.2) ∙ sym k.2 }, ap (λ (m : VertexKey). pinned_in v m.name) (sym w.2) ∙ f.1)
-
-  pin_back : (h : Curves) (p : Point) → Member p (drawn_graph v h).pins → Member p pins
-  pin_back h p i =
-      let w = ((graphs_hold v h s).pins p).0 i in
-      subst (λ q. Member q pins) w.1.at
-      (in_map (λ (k : VertexKey). k.point) (vertex_key v w.0) (pinned_among v (vertex_keys v))
-      (in_filter (λ (k : VertexKey). pinned_in v k.name) (vertex_key v w.0) (vertex_keys v) (in_map (vertex_key v) w.0 (vertex_order v) (vertex_ordered v s w.0 w.1.has)) w.2))
-
-  pub pins_are : (h : Curves) → pins ≡ (drawn_graph v h).pins
-  pins_are h = ascending_unique point_cmp point_cmp_total pins (drawn_graph v h).pins pins_ascend (graph_pins_ascend v h) (pin_there h) (pin_back h)
 
 -- ---- the curves of forward darts alone, which make the same graph
 abbrev has_dart : View → DartId → Bool

@@ -31,7 +31,8 @@ use Rattle.sound_views.specs.RecordGraphLaws.{IsMarkOf}
 use Rattle.sound_views.proofs.GraphHolds.{graphs_hold}
 use Rattle.record_orders.specs.declared.darts.DartKey.{DartKey}
 use Rattle.record_orders.specs.Keys.{dart_key, dart_keys}
-use Rattle.plain_slabs.specs.ByName.{numbers_of, goes_forward, forward_keys, key_marks}
+use Rattle.subdivision_rows.specs.ByName.{numbers_of}
+use Rattle.plain_slabs.specs.ByName.{goes_forward, forward_keys, key_marks}
 use Rattle.plain_slabs.proofs.FlatLists.{flat_ascends}
 use Rattle.plain_slabs.proofs.ReadKeys.{forward_member}
 use Rattle.integers.proofs.Tests.{less_then}

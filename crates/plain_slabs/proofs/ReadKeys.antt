@@ -1,14 +1,13 @@
--- What loops over vertices and forward darts in order read.
+-- What loops over forward darts in order read.
 use Rattle.std.proofs.Common.{◌≡◌, ℕ, ◌<◌, true, List, length, get_or, sym, ap, ◌∙◌, subst}
 use Rattle.plane_graphs.specs.Ascending.{Member}
 use Rattle.plane_graphs.proofs.Lists.{of_map, of_filter}
 use Rattle.slab_laws.specs.Sound.{IsGraphSound}
-use Rattle.slab_laws.specs.View.{View, HasVertex, HasDart}
-use Rattle.sound_views.specs.Orders.{vertex_order, dart_order}
-use Rattle.sound_views.proofs.NamesOrdered.{ordered_vertex, ordered_dart}
-use Rattle.record_orders.specs.declared.vertices.VertexKey.{VertexKey}
+use Rattle.slab_laws.specs.View.{View, HasDart}
+use Rattle.sound_views.specs.Orders.{dart_order}
+use Rattle.sound_views.proofs.NamesOrdered.{ordered_dart}
 use Rattle.record_orders.specs.declared.darts.DartKey.{DartKey}
-use Rattle.record_orders.specs.Keys.{vertex_key, vertex_keys, dart_key, dart_keys}
+use Rattle.record_orders.specs.Keys.{dart_key, dart_keys}
 use Rattle.plane_graphs.proofs.Loops.{read_in}
 use Rattle.plain_slabs.specs.ByName.{goes_forward, forward_keys}
 
@@ -19,11 +18,6 @@ pub record IsForwardKey (v : View) (k : DartKey) : Type 0 where
   pub forward : goes_forward k ≡ true
 
 module _ (v : View) (s : IsGraphSound v) where
-  pub vertex_there : (ks : List VertexKey) (i : ℕ) (k : VertexKey) → ks ≡ vertex_keys v → i < length ks → k ≡ get_or ks i k → HasVertex v k.name
-  vertex_there ks i k is h e =
-      let w = of_map (vertex_key v) k (vertex_order v) (subst (λ ls. Member k ls) is (read_in ks i k h e)) in
-      subst (HasVertex v) (sym (ap (λ (x : VertexKey). x.name) w.2)) (ordered_vertex v s w.0 w.1)
-
   pub forward_member : (k : DartKey) → Member k (forward_keys v) → IsForwardKey v k
   forward_member k m =
       let f = of_filter goes_forward k (dart_keys v) m in

@@ -2,7 +2,6 @@
 use Rattle.std.specs.Prelude.{◌≡◌, List, map, filter, Bool}
 use Rattle.std.specs.List.{AllByRecursion}
 use Rattle.std.specs.List.Sorted.{IsStrictlyIncreasing}
-use Rattle.exact_plane.specs.Point.{Point}
 use Rattle.exact_plane.specs.Span.{Span}
 use Rattle.plane_graphs.specs.Graph.{Graph, Mark, mark, edges}
 use Rattle.plane_graphs.specs.Line.{precedes}
@@ -10,19 +9,15 @@ use Rattle.plane_graphs.specs.Plane.{IsPlane}
 use Rattle.slab_laws.specs.declared.names.CurveId.{CurveId}
 use Rattle.slab_laws.specs.declared.names.DartId.{DartId}
 use Rattle.slab_laws.specs.SpansDrawn.{edge_of}
-use Rattle.slab_laws.specs.View.{View, pinned_in, line_in}
+use Rattle.slab_laws.specs.View.{View, line_in}
 use Rattle.arr_notes.specs.Curves.{Curves}
 use Rattle.arr_notes.specs.RecordGraph.{drawn_graph}
+use Rattle.subdivision_rows.specs.ByName.{numbers_of}
 use Rattle.subdivision_rows.specs.Listed.{AreLinesOf}
-use Rattle.record_orders.specs.declared.vertices.VertexKey.{VertexKey}
 use Rattle.record_orders.specs.declared.darts.DartKey.{DartKey}
 use Rattle.record_orders.specs.Keys.{dart_keys}
 use Rattle.subdivision_rows.specs.GraphInMemory.{graph_in, drawing_in}
 use Rattle.plain_slabs.specs.declared.names.Parts.{Parts}
-
--- the numbers of the curves along each dart's edge
-abbrev pub numbers_of : (DartId → List CurveId) → Curves
-numbers_of c d = map (λ x. x.0) (c d)
 
 -- the graph that the records draw, with the curves that they name
 abbrev pub graph_by : View → (DartId → List CurveId) → Graph
@@ -31,14 +26,6 @@ graph_by v c = drawn_graph v (numbers_of c)
 -- the curves of each dart ascend, each once
 abbrev pub DoCurvesAscend : (DartId → List CurveId) → List DartKey → Type 0
 DoCurvesAscend c ks = AllByRecursion (λ k. IsStrictlyIncreasing (numbers_of c k.name)) ks
-
--- the points of vertices
-abbrev pub points_at : List VertexKey → List Point
-points_at ks = map (λ k. k.point) ks
-
--- the pinned ones among vertices
-abbrev pub pinned_among : View → List VertexKey → List VertexKey
-pinned_among v ks = filter (λ k. pinned_in v k.name) ks
 
 -- the dart goes from the lower to the upper end of its edge
 abbrev pub goes_forward : DartKey → Bool

@@ -7,7 +7,8 @@ ghost use Rattle.record_orders.specs.Keys.{vertex_keys, dart_key};
 ghost use Rattle.subdivision_rows.specs.Listed.{subdivision_by, subdivision_in, view_of, faces_of, AreLinesOf};
 ghost use Rattle.slab_laws.specs.FacesSound.{IsSound};
 ghost use Rattle.present_graphs.specs.Marks.{mark_of, HaveCome};
-ghost use Rattle.plain_slabs.specs.ByName.{numbers_of, graph_by, points_at, pinned_among, goes_forward, forward_keys, span_along, key_marks, DoCurvesAscend, AreParts};
+ghost use Rattle.subdivision_rows.specs.ByName.{numbers_of, points_at, pinned_among};
+ghost use Rattle.plain_slabs.specs.ByName.{graph_by, goes_forward, forward_keys, span_along, key_marks, DoCurvesAscend, AreParts};
 
 use crate::build::plain_of;
 use crate::plain::Plain;

@@ -6,3 +6,4 @@ pub mod RowsInMemory
 pub mod LayerTables
 pub mod OverlayInMemory
 pub mod BothInMemory
+pub mod ByName

@@ -1,6 +1,6 @@
 use Rattle.std.proofs.Common.{sym, ap, subst, ◌∙◌, rules}
 use Rattle.plane_graphs.specs.Fit.{IsFit}
-use Rattle.plain_slabs.specs.ByName.{points_at, pinned_among}
+use Rattle.subdivision_rows.specs.ByName.{points_at, pinned_among}
 use Rattle.arrangement.proofs.PresentsRead.{read}
 use Rattle.arrangement.proofs.presents.present_of.Goals as goal
 

@@ -6,7 +6,8 @@ use Rattle.std.proofs.lemmas.List.Elements.{All-more, All-from_recursion, recurs
 use Rattle.plane_graphs.proofs.Loops.{gathered, all_gathered}
 use Rattle.present_graphs.specs.Marks.{mark_of}
 use Rattle.record_orders.specs.declared.darts.DartKey.{DartKey}
-use Rattle.plain_slabs.specs.ByName.{key_marks, numbers_of}
+use Rattle.subdivision_rows.specs.ByName.{numbers_of}
+use Rattle.plain_slabs.specs.ByName.{key_marks}
 use Rattle.plain_slabs.proofs.ReadKeys.{forward_there}
 use Rattle.plain_slabs.proofs.names.marks_of.Goals as goal
 

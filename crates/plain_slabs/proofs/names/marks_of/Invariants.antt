@@ -2,7 +2,8 @@ use Rattle.std.proofs.Common.{◌≡◌, map, take}
 use Rattle.std.specs.List.{flat_map, AllByRecursion}
 use Rattle.std.specs.List.Sorted.{IsStrictlyIncreasing}
 use Rattle.present_graphs.specs.Marks.{mark_of}
-use Rattle.plain_slabs.specs.ByName.{key_marks, numbers_of}
+use Rattle.subdivision_rows.specs.ByName.{numbers_of}
+use Rattle.plain_slabs.specs.ByName.{key_marks}
 use Rattle.plain_slabs.proofs.names.marks_of.Given as goal
 
 abbrev pub invariant-loop-dart : goal.invariant-loop-dart

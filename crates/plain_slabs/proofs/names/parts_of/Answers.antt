@@ -2,7 +2,8 @@ use Rattle.std.proofs.Common.{ap, ◌∙◌, subst, map}
 use Rattle.std.specs.Prelude.{filter}
 use Rattle.std.specs.List.{AllByRecursion, flat_map}
 use Rattle.std.specs.List.Sorted.{IsStrictlyIncreasing}
-use Rattle.plain_slabs.specs.ByName.{numbers_of, points_at, pinned_among, goes_forward, span_along, key_marks}
+use Rattle.subdivision_rows.specs.ByName.{numbers_of, points_at, pinned_among}
+use Rattle.plain_slabs.specs.ByName.{goes_forward, span_along, key_marks}
 use Rattle.plain_slabs.proofs.NamedGraph.{are_parts}
 use Rattle.plain_slabs.proofs.names.parts_of.Goals as goal
 

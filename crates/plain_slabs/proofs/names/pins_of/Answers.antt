@@ -1,6 +1,6 @@
 use Rattle.std.proofs.Common.{rules, arith}
 use Rattle.std.proofs.lemmas.Grind.{common_steps}
-use Rattle.plain_slabs.proofs.ReadKeys.{vertex_there}
+use Rattle.subdivision_rows.proofs.PinsByName.{vertex_there}
 use Rattle.plain_slabs.proofs.names.pins_of.Goals as goal
 
 pub pinned-requires : goal.pinned-requires

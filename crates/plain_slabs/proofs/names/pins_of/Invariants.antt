@@ -1,5 +1,5 @@
 use Rattle.std.proofs.Common.{◌≡◌, take}
-use Rattle.plain_slabs.specs.ByName.{points_at, pinned_among}
+use Rattle.subdivision_rows.specs.ByName.{points_at, pinned_among}
 use Rattle.plain_slabs.proofs.names.pins_of.Given as goal
 
 abbrev pub invariant-loop-vertex : goal.invariant-loop-vertex
