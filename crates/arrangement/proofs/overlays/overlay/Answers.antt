@@ -6,8 +6,8 @@ use Rattle.slab_laws.specs.Pieces.{present_of}
 use Rattle.arrangement.proofs.OverlayRows.{told}
 use Rattle.arrangement.proofs.overlays.overlay.Goals as goal
 
-pub subdivide_both-both-requires : goal.subdivide_both-both-requires
-subdivide_both-both-requires g c = record { red = c.in_ok-of_red.ensures.fit; blue = c.in_ok-of_blue.ensures.fit }
+pub overlay-both-requires : goal.overlay-both-requires
+overlay-both-requires g c = record { red = c.in_ok-of_red.ensures.fit; blue = c.in_ok-of_blue.ensures.fit }
 
 pub invariant_of-result : goal.invariant_of-result
 invariant_of-result g c = c.in_ok-both.ensures.stands
