@@ -15,3 +15,4 @@ pub mod CycleLists
 pub mod Numbers
 pub mod CurveLists
 pub mod OverlaidRows
+pub mod SourcePlaces
