@@ -16,3 +16,4 @@ pub mod Numbers
 pub mod CurveLists
 pub mod OverlaidRows
 pub mod PinsByName
+pub mod SourcePlaces

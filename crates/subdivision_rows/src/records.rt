@@ -1,6 +1,7 @@
 ghost use Rattle.std.specs.Prelude.{◌≡◌, ◌&&◌, IfOk};
 ghost use Rattle.std.specs.List.{range_with_len};
 ghost use Rattle.std.specs.Option.{option_map};
+ghost use lib.Dec.{ltb};
 ghost use Rattle.slab_laws.specs.Skeleton.{same_point};
 ghost use Rattle.slab_laws.specs.Tables.{name_after};
 ghost use Rattle.slab_laws.specs.View.{vertex_id, dart_id, cycle_id, face_id};
@@ -11,7 +12,9 @@ use edge_predicates::is_same;
 use exact_plane::{Line, Point};
 use no_memory::NoMemory;
 use present_graphs::Mark;
-use slab_laws::{CurveId, Curved, CycleId, CycleKind, DartId, Darts, FaceId, Faced, VertexId};
+use slab_laws::{
+    CurveId, Curved, CycleId, CycleKind, DartId, Darts, FaceId, Faced, ListedDart, VertexId,
+};
 use std::alloc::Global;
 
 // The first number of those below a count, or the one after a number.
@@ -48,6 +51,13 @@ fn face_name_after(count: usize, name: Option<FaceId>) -> Option<FaceId>
     ensures { result ≡ option_map face_id (name_after (range_with_len 0 count) (option_map (λ n. n.0) name)) }
 {
     number_after(count, name.map(|n| n.0)).map(FaceId)
+}
+
+// Whether a dart goes out of a vertex that comes before another one.
+fn is_before(dart: &ListedDart, vertex: usize) -> bool
+    ensures { result ≡ ltb dart.now.source vertex }
+{
+    dart.source < vertex
 }
 
 // Whether a mark is of the edge between two points.
@@ -111,10 +121,11 @@ impl Darts for Rows {
     }
 
     fn out_of(&self, v: VertexId) -> Option<DartId> {
-        for i in 0..self.lists.darts.len() {
-            if self.lists.darts[i].source == v.0 {
-                return Some(DartId(i));
-            }
+        // The darts of one source stand side by side, so one search tells.
+        let darts = &self.lists.darts;
+        let place = darts.partition_point(|dart| is_before(dart, v.0));
+        if place < darts.len() && darts[place].source == v.0 {
+            return Some(DartId(place));
         }
         None
     }
