@@ -21,6 +21,7 @@ use Rattle.slab_laws.specs.Darts.{Dart, darts, IsOut, IsTurn, on, round, ahead, 
 use Rattle.slab_laws.specs.Cycles.{dart_labels, darts_on, left_of_dart, odd}
 use Rattle.slab_laws.specs.Rotation.{twin, next, earlier, same_dart, OutOf}
 use Rattle.slab_laws.specs.Rows.{least_dart_of}
+use Rattle.slab_faces.proofs.Next.{level_at_lower}
 use Rattle.slab_faces.proofs.Ints.{times_less}
 use Rattle.slab_faces.proofs.Sums.{each, sum_by-same, sum_by-none, fewer_than}
 use Rattle.slab_faces.proofs.Found.{found}
