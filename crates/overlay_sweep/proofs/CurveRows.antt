@@ -35,7 +35,8 @@ use Rattle.sweep_graphs.specs.Edges.{ends_of, ends_cmp, stretch_cmp, edge_betwee
 use Rattle.sweep_graphs.specs.TraceLaws.{IsTraceOf}
 use Rattle.sweep_graphs.specs.Traces.{IsTrace}
 use Rattle.sweep_graphs.proofs.EdgeOrders.{ends_cmp_total, ends_cmp_exact, ends_ties, stretch_cmp_total, stretch_cmp_exact}
-use Rattle.overlay_sweep.specs.EdgeCurves.{is_along, own_curve, own_numbers, own_rows, numbers_of_rows}
+use Rattle.subdivision_rows.specs.LayerTables.{numbers_in}
+use Rattle.overlay_sweep.specs.EdgeCurves.{is_along, own_curve, own_numbers, own_rows}
 use Rattle.overlay_sweep.specs.declared.graphs.LayerGraph.{LayerGraph}
 use Rattle.overlay_sweep.specs.LayerGraphs.{IsLayerGraph, ArePiecesFrom}
 use Rattle.overlay_sweep.specs.PiecesAlong.{IsAlongSome}
@@ -117,7 +118,7 @@ rows_are ks first (e ∷ es) xs up ascends each =
     (rows_are ks first es others up.1 rest listed ∙ map_same (λ d. own_numbers ks first (filter (is_along d) others)) (λ d. own_numbers ks first (filter (is_along d) xs)) es (λ d m. ap (own_numbers ks first) (others_are e xs own others c d (later d m))))
 
 -- one row more
-pub row_added : (ks : List PieceInMemory) (first : ℕ) (es items : List EdgeEnds) (i : ℕ) (d : EdgeEnds) (rest along others : List Stretch) (rows new : List (Vec CurveId Global)) (row : Vec CurveId Global) (all : List (List ℕ)) (n : ℕ) → items ≡ es → i < length items → n ≡ prefix_len (is_along (get_or items i d)) rest → along ≡ take n rest → others ≡ drop n rest → map (λ (c : CurveId). c.0) row.items ≡ own_numbers ks first along → new ≡ rows ++ row ∷ [] → numbers_of_rows rows ++ own_rows ks first (drop i es) rest ≡ all → numbers_of_rows new ++ own_rows ks first (drop (i + 1) es) others ≡ all
+pub row_added : (ks : List PieceInMemory) (first : ℕ) (es items : List EdgeEnds) (i : ℕ) (d : EdgeEnds) (rest along others : List Stretch) (rows new : List (Vec CurveId Global)) (row : Vec CurveId Global) (all : List (List ℕ)) (n : ℕ) → items ≡ es → i < length items → n ≡ prefix_len (is_along (get_or items i d)) rest → along ≡ take n rest → others ≡ drop n rest → map (λ (c : CurveId). c.0) row.items ≡ own_numbers ks first along → new ≡ rows ++ row ∷ [] → numbers_in rows ++ own_rows ks first (drop i es) rest ≡ all → numbers_in new ++ own_rows ks first (drop (i + 1) es) others ≡ all
 unfolding own_rows
 row_added ks first es items i d rest along others rows new row all n same l count a o r pushed before =
     let numbers : Vec CurveId Global → List ℕ = λ (v : Vec CurveId Global). map (λ (c : CurveId). c.0) v.items in
@@ -125,18 +126,18 @@ row_added ks first es items i d rest along others rows new row all n same l coun
     let next : drop i es ≡ e ∷ drop (i + 1) es = ap (drop i) (sym same) ∙ drop_more items i d l ∙ ap (λ zs. e ∷ drop (i + 1) zs) same in
     let front : along ≡ take (prefix_len (is_along e) rest) rest = a ∙ ap (λ k. take k rest) count in
     let back : others ≡ drop (prefix_len (is_along e) rest) rest = o ∙ ap (λ k. drop k rest) count in
-    ap (λ zs. numbers_of_rows zs ++ own_rows ks first (drop (i + 1) es) others) pushed
+    ap (λ zs. numbers_in zs ++ own_rows ks first (drop (i + 1) es) others) pushed
     ∙ ap (λ zs. zs ++ own_rows ks first (drop (i + 1) es) others) (map-append numbers rows (row ∷ []))
-    ∙ append_assoc (numbers_of_rows rows) (numbers row ∷ []) (own_rows ks first (drop (i + 1) es) others)
-    ∙ ap₂ (λ r rs. numbers_of_rows rows ++ r ∷ rs) (r ∙ ap (own_numbers ks first) front) (ap (own_rows ks first (drop (i + 1) es)) back)
-    ∙ sym (ap (λ zs. numbers_of_rows rows ++ own_rows ks first zs rest) next)
+    ∙ append_assoc (numbers_in rows) (numbers row ∷ []) (own_rows ks first (drop (i + 1) es) others)
+    ∙ ap₂ (λ r rs. numbers_in rows ++ r ∷ rs) (r ∙ ap (own_numbers ks first) front) (ap (own_rows ks first (drop (i + 1) es)) back)
+    ∙ sym (ap (λ zs. numbers_in rows ++ own_rows ks first zs rest) next)
     ∙ before
 
 -- no row is left
-pub rows_end : (ks : List PieceInMemory) (first : ℕ) (es items : List EdgeEnds) (i : ℕ) (rest : List Stretch) (rows : List (Vec CurveId Global)) (all : List (List ℕ)) → items ≡ es → length items ≤ i → numbers_of_rows rows ++ own_rows ks first (drop i es) rest ≡ all → numbers_of_rows rows ≡ all
+pub rows_end : (ks : List PieceInMemory) (first : ℕ) (es items : List EdgeEnds) (i : ℕ) (rest : List Stretch) (rows : List (Vec CurveId Global)) (all : List (List ℕ)) → items ≡ es → length items ≤ i → numbers_in rows ++ own_rows ks first (drop i es) rest ≡ all → numbers_in rows ≡ all
 unfolding own_rows
 rows_end ks first es items i rest rows all same l before =
-    sym (append-nil (numbers_of_rows rows)) ∙ sym (ap (λ zs. numbers_of_rows rows ++ own_rows ks first zs rest) (ap (drop i) (sym same) ∙ drop_all i items l)) ∙ before
+    sym (append-nil (numbers_in rows)) ∙ sym (ap (λ zs. numbers_in rows ++ own_rows ks first zs rest) (ap (drop i) (sym same) ∙ drop_all i items l)) ∙ before
 
 -- ---- what a partial map lists
 module _ {X Y : Type 0} (f : X → Option Y) where

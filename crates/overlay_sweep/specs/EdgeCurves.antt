@@ -1,6 +1,5 @@
 -- The curves of a layer along each edge of the whole, by the stretches along it.
-use Rattle.std.specs.Prelude.{ℕ, ◌-◌, Bool, cond, ◌&&◌, List, [], ◌∷◌, map, take, drop, Option, None, Vec}
-use Rattle.std.specs.Global.{Global}
+use Rattle.std.specs.Prelude.{ℕ, ◌-◌, Bool, cond, ◌&&◌, List, [], ◌∷◌, map, take, drop, Option, None}
 use Rattle.std.specs.List.{filter_map, prefix_len, slice_get}
 use Rattle.std.specs.Option.{option_map}
 use Rattle.std.specs.Ordering.{nat_cmp}
@@ -22,10 +21,6 @@ own_curve ks first s = cond (leb first s.piece) (option_map (λ (k : Piece). k.c
 -- the numbers of these curves, ascending (CGAL manual, originating curves)
 abbrev pub own_numbers : List Piece → ℕ → List Stretch → List ℕ
 own_numbers ks first ss = ascending nat_cmp (map (λ (c : CurveId). c.0) (filter_map (own_curve ks first) ss))
-
--- the numbers of the curves in each row
-abbrev pub numbers_of_rows : List (Vec CurveId Global) → List (List ℕ)
-numbers_of_rows rows = map (λ (v : Vec CurveId Global). map (λ (c : CurveId). c.0) v.items) rows
 
 -- of each edge the numbers of the curves, those stretches being taken that stand first and run along it
 unfoldable pub own_rows : List Piece → ℕ → List EdgeEnds → List Stretch → List (List ℕ)

@@ -1,5 +1,4 @@
 pub mod LayerLabels
-pub mod EdgeLabels
 pub mod DartEnds
 pub mod EdgesUnder
 pub mod CycleFaces

@@ -5,8 +5,9 @@ ghost use Rattle.plane_graphs.specs.Ascending.{ascending};
 ghost use Rattle.plane_graphs.specs.Fit.{IsFit};
 ghost use Rattle.slab_laws.specs.Pieces.{present_of};
 ghost use Rattle.slab_laws.specs.Overlay.{curves_along, plane_of};
-ghost use Rattle.overlay_sweep.specs.EdgeCurves.{is_along, own_curve, own_numbers, numbers_of_rows};
+ghost use Rattle.overlay_sweep.specs.EdgeCurves.{is_along, own_curve, own_numbers};
 ghost use Rattle.overlay_sweep.specs.LayerGraphs.{IsLayerGraph, ArePiecesFrom};
+ghost use Rattle.subdivision_rows.specs.LayerTables.{numbers_in};
 
 use crate::graphs::LayerGraph;
 use no_memory::NoMemory;
@@ -91,7 +92,7 @@ pub fn curves_of_edges(
     first: usize,
 ) -> Result<Vec<Vec<CurveId>>, NoMemory>
     ensures { (w : _) → IsFit w → IsLayerGraph w whole.now → ArePiecesFrom first (present_of layer.now) w
-        → IfOk result (λ v. numbers_of_rows v.items ≡ map (curves_along (present_of layer.now)) (plane_of w).edges) }
+        → IfOk result (λ v. numbers_in v.items ≡ map (curves_along (present_of layer.now)) (plane_of w).edges) }
 {
     let mut rows = Vec::with_capacity(alloc, whole.edges.len())?;
     let mut rest = whole.stretches.as_slice();

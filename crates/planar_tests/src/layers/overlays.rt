@@ -4,19 +4,20 @@ use crate::layers::calls::{Call, all_right};
 use crate::layers::edits::{Answer, Edit, Under, layer_under};
 use arrangement::{Arrangement, Overlay, overlay};
 use no_memory::NoMemory;
-use slab_laws::{CurveId, DartId, Darts, Faced, Layered};
+use slab_laws::{CurveId, DartId, Darts, Faced, Layered, VertexId};
 use std::alloc::Global;
 use std::test::Fail;
 
-// A red square, and a blue one whose left side is part of the red one's right side.
+// A red rectangle, and a blue square whose left side is part of the red one's right side, with a blue pin within the red one.
 const RED: [Call; 4] = [
-    Call::Makes(Edit::Insert(0, 0, 4, 0), Answer::Drawn(1)),
-    Call::Makes(Edit::Insert(4, 0, 4, 4), Answer::Drawn(2)),
+    Call::Makes(Edit::Insert(0, -1, 4, -1), Answer::Drawn(1)),
+    Call::Makes(Edit::Insert(4, -1, 4, 4), Answer::Drawn(2)),
     Call::Makes(Edit::Insert(4, 4, 0, 4), Answer::Drawn(3)),
-    Call::Makes(Edit::Insert(0, 4, 0, 0), Answer::Drawn(4)),
+    Call::Makes(Edit::Insert(0, 4, 0, -1), Answer::Drawn(4)),
 ];
 
-const BLUE: [Call; 4] = [
+const BLUE: [Call; 5] = [
+    Call::Makes(Edit::Pin(2), Answer::Done),
     Call::Makes(Edit::Insert(4, 1, 7, 1), Answer::Drawn(1)),
     Call::Makes(Edit::Insert(7, 1, 7, 3), Answer::Drawn(2)),
     Call::Makes(Edit::Insert(7, 3, 4, 3), Answer::Drawn(3)),
@@ -28,6 +29,9 @@ const BLUE: [Call; 4] = [
 const BEFORE_UPWARD: DartId = DartId(6);
 
 const BEFORE_DOWNWARD: DartId = DartId(8);
+
+// Its vertices go by their points, and the pin is the third.
+const BEFORE_PIN: VertexId = VertexId(1);
 
 // Whether this red curve and this blue one, and no others, run along the edge of the dart behind another.
 fn has_curves(
@@ -58,8 +62,16 @@ fn faces(both: &Overlay, before: DartId) -> Option<(usize, usize)> {
     }
 }
 
+// Whether the vertex behind another is a pin.
+fn is_pin(both: &Overlay, before: VertexId) -> bool {
+    match both.vertex_after(Some(before)) {
+        None => false,
+        Some(vertex) => both.pinned(vertex),
+    }
+}
+
 // Whether the overlay tells of the shared edge what it has to: the second red curve and the fourth blue one; on its left, going
-// up, the red square outside the blue one, on its right the blue square outside the red one.
+// up, the red face outside the blue one, on its right the blue face outside the red one.
 fn tells_shared_edge(alloc: Global, both: &Overlay) -> Result<bool, NoMemory> {
     let upward = has_curves(alloc, both, BEFORE_UPWARD, CurveId(2), CurveId(4))?;
     let downward = has_curves(alloc, both, BEFORE_DOWNWARD, CurveId(2), CurveId(4))?;
@@ -83,8 +95,9 @@ fn draw(alloc: Global, layer: &mut Arrangement, calls: &[Call]) -> Result<bool, 
 fn is_told(alloc: Global, red: &Arrangement, blue: &Arrangement) -> Result<bool, NoMemory> {
     let both = overlay(alloc, red, blue)?;
     let told = tells_shared_edge(alloc, &both);
+    let pinned = is_pin(&both, BEFORE_PIN);
     drop(both);
-    told
+    Ok(told? && pinned)
 }
 
 // The same over a blue layer of its own.
