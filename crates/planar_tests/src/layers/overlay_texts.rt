@@ -46,7 +46,11 @@ fn text_by_slabs(alloc: Global, red: &Present, blue: &Present) -> Result<Vec<u8>
     text
 }
 
-fn text_of_slabs(alloc: Global, red: &Arrangement, blue: &Arrangement) -> Result<Vec<u8>, NoMemory> {
+fn text_of_slabs(
+    alloc: Global,
+    red: &Arrangement,
+    blue: &Arrangement,
+) -> Result<Vec<u8>, NoMemory> {
     let of_red = present_of(alloc, red)?;
     let of_blue = present_of(alloc, blue)?;
     let text = text_by_slabs(alloc, &of_red, &of_blue);
@@ -55,7 +59,11 @@ fn text_of_slabs(alloc: Global, red: &Arrangement, blue: &Arrangement) -> Result
     text
 }
 
-fn text_of_overlay(alloc: Global, red: &Arrangement, blue: &Arrangement) -> Result<Vec<u8>, NoMemory> {
+fn text_of_overlay(
+    alloc: Global,
+    red: &Arrangement,
+    blue: &Arrangement,
+) -> Result<Vec<u8>, NoMemory> {
     let both = overlay(alloc, red, blue)?;
     let text = both.text();
     drop(both);
