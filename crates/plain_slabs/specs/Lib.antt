@@ -2,8 +2,4 @@ pub mod SubdivisionInMemory
 pub mod Faces
 pub mod Orbits
 pub mod ByName
-pub mod LayerTables
-pub mod OverlayInMemory
-pub mod BothInMemory
-pub mod United
 pub mod LayerEdges
