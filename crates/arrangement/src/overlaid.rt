@@ -4,10 +4,10 @@ ghost use Rattle.arrangement.specs.Overlays.{text_of};
 use arr_text::overlay_text;
 use exact_plane::{Line, Point};
 use no_memory::NoMemory;
-use subdivision_rows::Both;
 use slab_laws::{CurveId, CycleId, CycleKind, DartId, Darts, FaceId, Faced, Layered, VertexId};
 use std::alloc::Global;
 use std::marker::Model;
+use subdivision_rows::Both;
 
 /// The overlay of two layers, red and blue: the subdivision of the plane by the segments and points of both, whose edges know
 /// their curves of each layer and whose faces know the faces of each layer that hold them (CGAL manual, `overlay`).

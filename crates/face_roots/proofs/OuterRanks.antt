@@ -118,9 +118,9 @@ filtered_place : {X : Type 0} (p : X → Bool) (xs : List X) (d : X) (k : ℕ) �
 filtered_place p [] d k h = absurd (omega arith)
 filtered_place {X = X} p (x ∷ xs) d k h =
     let later : (j : ℕ) → j < length (filter p xs) → cond {A = ℕ} (p x) 1 0 + j ≡ k → get_or (filter p (x ∷ xs)) k d ≡ get_or (filter p xs) j d → (c : ℕ) × (c < length (x ∷ xs)) × (p (get_or (x ∷ xs) c d) ≡ true) × (count_by p (take c (x ∷ xs)) ≡ k) × (get_or (filter p (x ∷ xs)) k d ≡ get_or (x ∷ xs) c d) = λ j l n e.
-      let r = filtered_place p xs d j l in
-      let s = sum_by-cons (λ z. cond {A = ℕ} (p z) 1 0) x (take r.0 xs) in
-      (suc r.0, (let a = r.1 in omega arith), r.2, (let a = r.3 in omega arith), e ∙ r.4)
+    let r = filtered_place p xs d j l in
+    let s = sum_by-cons (λ z. cond {A = ℕ} (p z) 1 0) x (take r.0 xs) in
+    (suc r.0, (let a = r.1 in omega arith), r.2, (let a = r.3 in omega arith), e ∙ r.4)
     in
     elim (cases_Bool (p x)) [
       | inl a ↦ elim (cases_zero k) [

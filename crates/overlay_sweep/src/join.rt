@@ -40,8 +40,22 @@ fn labels_of_layer(
 {
     let known = known_labels(alloc, layer, own, whole, first)?;
     let points = whole.trace.points.as_slice();
-    let above = labels_above(alloc, points, &whole.spans, &whole.orbits, &whole.below, &known)?;
-    let labels = labels_of_faces(alloc, points, &whole.spans, &whole.orbits, &whole.roots, &above)?;
+    let above = labels_above(
+        alloc,
+        points,
+        &whole.spans,
+        &whole.orbits,
+        &whole.below,
+        &known,
+    )?;
+    let labels = labels_of_faces(
+        alloc,
+        points,
+        &whole.spans,
+        &whole.orbits,
+        &whole.roots,
+        &above,
+    )?;
     Ok(labels)
 }
 

@@ -20,7 +20,11 @@ fn text_of_presents(alloc: Global, red: &Present, blue: &Present) -> Result<Vec<
 }
 
 // The text of the overlay by slabs.
-fn text_by_slabs(alloc: Global, red: &Arrangement, blue: &Arrangement) -> Result<Vec<u8>, NoMemory> {
+fn text_by_slabs(
+    alloc: Global,
+    red: &Arrangement,
+    blue: &Arrangement,
+) -> Result<Vec<u8>, NoMemory> {
     let of_red = present_of(alloc, red)?;
     let of_blue = present_of(alloc, blue)?;
     let text = text_of_presents(alloc, &of_red, &of_blue);
@@ -46,7 +50,11 @@ fn text_by_sweeps(
 /// # Errors
 ///
 /// There was no memory for them.
-pub fn are_alike(alloc: Global, red: &Arrangement, blue: &Arrangement) -> Result<bool, NoMemory> {
+pub fn overlays_are_alike(
+    alloc: Global,
+    red: &Arrangement,
+    blue: &Arrangement,
+) -> Result<bool, NoMemory> {
     let by_sweeps = text_by_sweeps(alloc, red, blue)?;
     let by_slabs = text_by_slabs(alloc, red, blue)?;
     Ok(by_sweeps == by_slabs)

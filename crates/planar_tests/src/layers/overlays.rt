@@ -2,7 +2,7 @@ ghost use Rattle.arrangement.specs.Arranged.{arranged, IsWatched};
 
 use crate::layers::calls::{Call, all_right};
 use crate::layers::edits::{Answer, Edit, Under, layer_under};
-use crate::layers::overlay_texts::are_alike;
+use crate::layers::overlay_texts::overlays_are_alike;
 use crate::layers::script_edits::apply;
 use arrangement::{Arrangement, Overlay, overlay};
 use no_memory::NoMemory;
@@ -155,7 +155,7 @@ fn make_forty(layer: &mut Arrangement, seed: u32)
 fn is_as_by_slabs(alloc: Global, red: &Arrangement) -> Result<bool, NoMemory> {
     let mut blue = layer_under(alloc, Under::Script)?;
     make_forty(&mut blue, 2);
-    let alike = are_alike(alloc, red, &blue);
+    let alike = overlays_are_alike(alloc, red, &blue);
     drop(blue);
     alike
 }

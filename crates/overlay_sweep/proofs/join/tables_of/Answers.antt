@@ -22,9 +22,12 @@ table_by_sweep-requires-clause-whole c =
 pub table_by_sweep-requires-2-clause-whole : goal.table_by_sweep-requires-2-clause-whole
 table_by_sweep-requires-2-clause-whole c =
     let red = present_of c.args.red.now in
-    let blue = present_of c.args.blue.now in
-    (united red blue, united_fit red blue c.requires.red c.requires.blue, c.requires.whole,
-    subst (λ n. ArePiecesFrom n blue (united red blue)) (length-map c.args.red.now.pieces piece_of ∙ sym (ap (λ (ks : List Piece). length ks) c.as_slice.ensures)) (blue_pieces red blue))
+    let blue = present_of c.args.blue.now in (
+      united red blue,
+      united_fit red blue c.requires.red c.requires.blue,
+      c.requires.whole,
+      subst (λ n. ArePiecesFrom n blue (united red blue)) (length-map c.args.red.now.pieces piece_of ∙ sym (ap (λ (ks : List Piece). length ks) c.as_slice.ensures)) (blue_pieces red blue),
+    )
 
 pub returns-clause-red : goal.returns-clause-red
 returns-clause-red c =
