@@ -2,8 +2,12 @@ ghost use Rattle.arrangement.specs.Arranged.{arranged, IsWatched};
 
 use crate::layers::calls::{Call, all_right};
 use crate::layers::edits::{Answer, Edit, Under, layer_under};
+use crate::layers::overlay_texts::overlays_are_alike;
+use crate::layers::script_edits::apply;
 use arrangement::{Arrangement, Overlay, overlay};
 use no_memory::NoMemory;
+use script_lines::{Command, read_line};
+use script_maker::{LINE_ROOM, Maker};
 use slab_laws::{CurveId, DartId, Darts, Faced, Layered, VertexId};
 use std::alloc::Global;
 use std::test::Fail;
@@ -123,5 +127,45 @@ fn an_overlay_tells_of_each_layer(rt: HostRuntime) -> Result<(), Fail> {
     let told = is_told_of_squares(rt.alloc(), &mut red);
     drop(red);
     assert!(rt; told?);
+    Ok(())
+}
+
+// The next line of a made script.
+fn next_command(maker: &mut Maker) -> Command {
+    let mut buffer = [0; LINE_ROOM];
+    match maker.next_line(&mut buffer) {
+        Some(length) => read_line(&buffer[..length]).unwrap_or(Command::Nothing),
+        None => Command::Nothing,
+    }
+}
+
+// Makes the edits of a script of forty segments, after every eighth of which a curve is dropped.
+fn make_forty(layer: &mut Arrangement, seed: u32)
+    requires watched { IsWatched (arranged Observer-dyn layer.old) }
+    ensures watched { IsWatched (arranged Observer-dyn layer.new) }
+{
+    let mut maker = Maker::new(40, seed);
+    'lines: for _ in 0..45 {
+        let command = next_command(&mut maker);
+        apply(layer, &command);
+    }
+}
+
+// Whether the overlay of a layer and of another made one is that by slabs.
+fn is_as_by_slabs(alloc: Global, red: &Arrangement) -> Result<bool, NoMemory> {
+    let mut blue = layer_under(alloc, Under::Script)?;
+    make_forty(&mut blue, 2);
+    let alike = overlays_are_alike(alloc, red, &blue);
+    drop(blue);
+    alike
+}
+
+#[test]
+fn an_overlay_of_made_layers_is_that_by_slabs(rt: HostRuntime) -> Result<(), Fail> {
+    let mut red = layer_under(rt.alloc(), Under::Script)?;
+    make_forty(&mut red, 1);
+    let alike = is_as_by_slabs(rt.alloc(), &red);
+    drop(red);
+    assert!(rt; alike?);
     Ok(())
 }
