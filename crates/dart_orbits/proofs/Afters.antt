@@ -6,8 +6,8 @@ use Rattle.std.proofs.lemmas.List.{get_or-set_same, get_or-set_other}
 use Rattle.slab_laws.specs.declared.rows.ListedDart.{ListedDart}
 use Rattle.slab_laws.specs.Rows.{dart_list, dart_rows}
 use Rattle.slab_laws.specs.Skeleton.{Skeleton}
-use Rattle.slab_cycles.specs.DartRows.{place_after}
-use Rattle.slab_cycles.proofs.Listed.{rows_length}
+use Rattle.dart_orbits.specs.DartRows.{place_after}
+use Rattle.dart_orbits.proofs.Listed.{rows_length}
 use Rattle.dart_orbits.specs.Around.{AreAround, AreAfters}
 
 -- one more of the values that places have

@@ -1,3 +1,16 @@
+pub mod SearchedLists
+pub mod LeastTransport
+pub mod Placed
+pub mod RowOrder
+pub mod Listed
+pub mod Pushed
+pub mod TwinPlaces
+pub mod Rounds
+pub mod NextPlaces
+pub mod LeadPlaces
+pub mod DartCells
+pub mod LeadsRead
+pub mod LeastDarts
 pub mod Ranges
 pub mod WayOrders
 pub mod Neighbours

@@ -12,10 +12,10 @@ use Rattle.slab_laws.specs.Rows.{dart_list, dart_at, vertex_place, dart_rows}
 use Rattle.slab_laws.specs.Skeleton.{Skeleton, IsPlaneSkeleton}
 use Rattle.slab_laws.specs.SpansDrawn.{drawn, edge_of}
 use Rattle.slab_faces.proofs.RotationLemmas.{round_at}
-use Rattle.slab_cycles.specs.DartRows.{place_after}
-use Rattle.slab_cycles.specs.Turns.{comes_first}
-use Rattle.slab_cycles.proofs.Listed.{dart_there, rows_length, row_at, source_in, one_vertex}
-use Rattle.slab_cycles.proofs.NextPlaces.{first_is}
+use Rattle.dart_orbits.specs.DartRows.{place_after}
+use Rattle.dart_orbits.specs.Turns.{comes_first}
+use Rattle.dart_orbits.proofs.Listed.{dart_there, rows_length, row_at, source_in, one_vertex}
+use Rattle.dart_orbits.proofs.NextPlaces.{first_is}
 use Rattle.dart_orbits.specs.Around.{source_placed, AreAround, AreBySource, IsFirstPlaced, IsFirstAround}
 use Rattle.dart_orbits.specs.Ways.{no_row, row_in}
 

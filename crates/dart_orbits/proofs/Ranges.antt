@@ -7,7 +7,7 @@ use Rattle.plane_graphs.specs.Ascending.{Member}
 use Rattle.plane_graphs.proofs.Ascending.{to_member}
 use Rattle.slab_faces.proofs.Member.{Member as Listed, member_in}
 use Rattle.slab_faces.proofs.Searches.{in_range as in_numbers}
-use Rattle.slab_cycles.proofs.Pushed.{pushed, all_pushed}
+use Rattle.dart_orbits.proofs.Pushed.{pushed, all_pushed}
 
 from : (a n k : ℕ) → Member k (range_with_len a n) → (a ≤ k) × (k < a + n)
 from a zero k h = absurd h

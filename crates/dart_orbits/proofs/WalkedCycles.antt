@@ -11,11 +11,11 @@ use Rattle.slab_laws.specs.Skeleton.{Skeleton, IsPlaneSkeleton}
 use Rattle.slab_faces.proofs.ClassesLemmas.{IsEquivalence, along_link, connected}
 use Rattle.slab_faces.proofs.Member.{Member, map_in, map_out}
 use Rattle.slab_faces.proofs.NextLemmas.{next_from, next_one}
-use Rattle.slab_cells.specs.LeastNumbers.{same_number, is_less}
-use Rattle.slab_cells.proofs.LeastTransport.{numbers_exact, least_number, least_number-le}
-use Rattle.slab_cycles.specs.Orbits.{link_at, place_links}
-use Rattle.slab_cycles.proofs.LeadPlaces.{leads_are}
-use Rattle.slab_cycles.proofs.Listed.{dart_there, dart_within, dart_at_place, place_of_dart}
+use Rattle.dart_orbits.specs.LeastNumbers.{same_number, is_less}
+use Rattle.dart_orbits.proofs.LeastTransport.{numbers_exact, least_number, least_number-le}
+use Rattle.dart_orbits.specs.CycleLinks.{link_at, place_links}
+use Rattle.dart_orbits.proofs.LeadPlaces.{leads_are}
+use Rattle.dart_orbits.proofs.Listed.{dart_there, dart_within, dart_at_place, place_of_dart}
 use Rattle.dart_orbits.specs.Walks.{ArePermuted, IsMet, AreWhole, IsMarked}
 use Rattle.dart_orbits.proofs.Ranges.{numbers_in, numbers_out}
 

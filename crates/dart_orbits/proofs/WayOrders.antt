@@ -31,9 +31,9 @@ use Rattle.slab_laws.specs.Skeleton.{Skeleton, IsPlaneSkeleton, left_of}
 use Rattle.slab_laws.specs.SpansDrawn.{drawn, edge_of}
 use Rattle.slab_faces.proofs.Next.{kind_zero, kind_two}
 use Rattle.slab_faces.proofs.RotationLemmas.{Early, earlier_out, round_at}
-use Rattle.slab_cycles.specs.DartRows.{row_dart}
-use Rattle.slab_cycles.proofs.NextPlaces.{edge_there}
-use Rattle.slab_cycles.proofs.Listed.{dart_there, place_of_dart, rows_length, row_at, row_dart_is, source_in}
+use Rattle.dart_orbits.specs.DartRows.{row_dart}
+use Rattle.dart_orbits.proofs.NextPlaces.{edge_there}
+use Rattle.dart_orbits.proofs.Listed.{dart_there, place_of_dart, rows_length, row_at, row_dart_is, source_in}
 use Rattle.rotation_order.specs.Directions.{dart_direction, IsAlong}
 use Rattle.rotation_order.proofs.ClockwiseEdges.{by_directions}
 use Rattle.rotation_order.proofs.EdgeCourses.{quarter_is, turn_of_ways}

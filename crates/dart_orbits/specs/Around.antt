@@ -5,7 +5,7 @@ use Rattle.slab_laws.specs.Rotation.{earlier}
 use Rattle.slab_laws.specs.Rows.{dart_list, dart_at, vertex_place}
 use Rattle.slab_laws.specs.Skeleton.{Skeleton}
 use Rattle.slab_laws.specs.declared.rows.ListedDart.{ListedDart}
-use Rattle.slab_cycles.specs.DartRows.{place_after}
+use Rattle.dart_orbits.specs.DartRows.{place_after}
 use Rattle.dart_orbits.specs.Ways.{row_in}
 
 -- the dart whose place stands at i

@@ -1,3 +1,7 @@
+pub mod LeastNumbers
+pub mod Turns
+pub mod DartRows
+pub mod CycleLinks
 pub mod Ways
 pub mod Around
 pub mod Walks

@@ -2,7 +2,7 @@
 use Rattle.std.specs.Prelude.{◌≡◌}
 use Rattle.slab_laws.specs.Rows.{dart_rows, twin_places, next_places, lead_places, cycle_places}
 use Rattle.slab_laws.specs.Skeleton.{Skeleton}
-use Rattle.slab_cycles.specs.Orbits.{cycle_leads}
+use Rattle.dart_orbits.specs.CycleLinks.{cycle_leads}
 use Rattle.dart_orbits.specs.Around.{AreAround}
 use Rattle.dart_orbits.specs.declared.orbits.Orbits.{Orbits}
 

@@ -2,7 +2,7 @@ ghost use Rattle.std.specs.Prelude.{◌≡◌, ◌<◌, ℕ, length, slice_index
 ghost use Rattle.slab_laws.specs.Rows.{dart_rows, twin_places, next_places};
 ghost use Rattle.slab_laws.specs.Skeleton.{IsPlaneSkeleton};
 ghost use Rattle.slab_laws.specs.SpansDrawn.{drawn};
-ghost use Rattle.slab_cycles.specs.DartRows.{place_after};
+ghost use Rattle.dart_orbits.specs.DartRows.{place_after};
 ghost use Rattle.dart_orbits.specs.Ways.{row_in};
 ghost use Rattle.dart_orbits.specs.Around.{source_placed, AreAround, AreBySource, IsNextBeside, IsFirstPlaced, IsFirstAround, AreAfters};
 

@@ -5,12 +5,14 @@ ghost use Rattle.slab_laws.specs.Skeleton.{IsPlaneSkeleton};
 ghost use Rattle.slab_laws.specs.SpansDrawn.{drawn};
 ghost use Rattle.dart_orbits.specs.Orbits.{AreOrbits};
 
+use crate::cycles::{cycles_at, least_darts_among};
 use crate::leads::least_darts_by_walks;
 use crate::nexts::nexts_around;
+use crate::rows::darts_of;
+use crate::twins::twins_of;
 use crate::ways::darts_around;
 use exact_plane::{Point, Span};
 use no_memory::NoMemory;
-use slab_cycles::{cycles_at, darts_of, least_darts_among, twins_of};
 use slab_laws::ListedDart;
 use std::alloc::Global;
 

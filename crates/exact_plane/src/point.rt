@@ -166,7 +166,7 @@ pub(crate) fn narrow(number: i128) -> i64
 }
 
 // A product by one multiplication.
-fn wide_product(a: i64, b: i64) -> i128
+pub(crate) fn wide_product(a: i64, b: i64) -> i128
     ensures { result ≡ a *ℤ b }
 {
     a as i128 * b as i128

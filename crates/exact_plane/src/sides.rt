@@ -9,7 +9,7 @@ ghost use Rattle.exact_plane.specs.Segment.{line_of_segment};
 ghost use Rattle.exact_plane.specs.Sign.{sign_of};
 
 use crate::line::{Line, difference, offset};
-use crate::point::Point;
+use crate::point::{Point, narrow, wide_product};
 use crate::segment::Segment;
 use std::cmp::Ordering;
 
@@ -44,7 +44,10 @@ fn side_value(a: i128, b: i128, c: i128, x: i128, y: i128, w: i128) -> i128
     ensures value { result ≡ side_number a b c x y w }
     ensures small { unsigned_abs result < SIDE_LIMIT }
 {
-    a * x + b * y + c * w
+    let across = wide_product(narrow(a), narrow(x));
+    let along = wide_product(narrow(b), narrow(y));
+    let beyond = wide_product(narrow(c), narrow(w));
+    across + along + beyond
 }
 
 /// The side of a line on which a point is.
@@ -91,7 +94,9 @@ fn depth(a: i128, c: i128, x: i128, w: i128, by: i128) -> i128
     ensures value { result ≡ (a *ℤ x +ℤ c *ℤ w) *ℤ by }
     ensures small { unsigned_abs result < HEIGHT_LIMIT }
 {
-    (a * x + c * w) * by
+    let slope = wide_product(narrow(a), narrow(x));
+    let beyond = wide_product(narrow(c), narrow(w));
+    (slope + beyond) * by
 }
 
 /// Compares the heights of two lines at the abscissa of a point: `Greater` where the first is above the second.

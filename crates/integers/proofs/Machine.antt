@@ -11,6 +11,10 @@ pub record Sized (x : ℤ) : Type 0 where
   pub bound : ℕ
   pub small : unsigned_abs x ≤ bound
 
+-- a number that is a product of two others
+abbrev pub sized_product : (r a b : ℤ) (m n : ℕ) → r ≡ a *ℤ b → unsigned_abs a ≤ m → unsigned_abs b ≤ n → Sized r
+sized_product r a b m n e p q = record { bound = m * n; small = subst (λ z. unsigned_abs z ≤ m * n) (sym e) (size_product a b m n p q) }
+
 -- the expression r of words of width w is `value`, of at most `size`, if its steps fit
 pub record Computes (w : Width) (r : ℤ) : Type 0 where
   pub value : ℤ

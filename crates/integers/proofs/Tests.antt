@@ -9,6 +9,12 @@ use lib.Signed.{lt_z}
 pub nat_exact : (m n : ℕ) → nat_cmp m n ≡ Equal → m ≡ n
 nat_exact m n e = grind (arith, nat_tests)
 
+pub nat_tied : (m n : ℕ) → m ≡ n → nat_cmp m n ≡ Equal
+nat_tied m n e = grind (arith, nat_tests)
+
+pub nat_more : (m n : ℕ) → n < m → nat_cmp m n ≡ Greater
+nat_more m n l = grind (arith, nat_tests)
+
 pub less_then : (r s t : Ordering) → ordering_then r s ≡ Less → ordering_then r (ordering_then s t) ≡ Less
 less_then Less s t e = refl
 less_then Equal Less t e = refl
@@ -89,3 +95,7 @@ other_number m n h = grind (arith, nat_tests)
 
 pub same_number : (n : ℕ) → (n == n) ≡ true
 same_number n = grind (arith, nat_tests)
+
+-- a number told from another one either way round
+pub turned_test : (m n : ℕ) → (m == n) ≡ (n == m)
+turned_test m n = grind (arith, nat_tests)

@@ -23,9 +23,9 @@ use Rattle.slab_laws.specs.Slabs.{left_cell}
 use Rattle.slab_laws.specs.Subdivision.{subdivision, rank, has_dart}
 use Rattle.slab_faces.proofs.FacesLemmas.{one_label}
 use Rattle.slab_faces.proofs.Places.{points_exact}
-use Rattle.slab_cycles.proofs.Listed.{dart_there, dart_within, dart_at_place, row_at, rows_ascend, rows_length, source_in}
-use Rattle.slab_cycles.proofs.Placed.{at_place, place_at, ascending_apart}
-use Rattle.slab_cycles.proofs.RowOrder.{row_cmp}
+use Rattle.dart_orbits.proofs.Listed.{dart_there, dart_within, dart_at_place, row_at, rows_ascend, rows_length, source_in}
+use Rattle.dart_orbits.proofs.Placed.{at_place, place_at, ascending_apart}
+use Rattle.dart_orbits.proofs.RowOrder.{row_cmp}
 use Rattle.exact_plane.specs.PointOrderLaws.{point_cmp_total}
 use Rattle.edges_below.specs.Highest.{IsHighestBelow, highest}
 use Rattle.face_roots.specs.CycleLinks.{IsBare}

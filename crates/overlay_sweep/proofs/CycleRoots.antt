@@ -18,10 +18,10 @@ use Rattle.slab_laws.specs.Subdivision.{first_cell}
 use Rattle.slab_faces.proofs.DartOrder.{dart_cmp_total}
 use Rattle.slab_faces.proofs.Places.{points_exact}
 use Rattle.slab_faces.proofs.Turns.{face_trans}
-use Rattle.slab_cycles.proofs.DartCells.{edge_there}
-use Rattle.slab_cycles.proofs.LeastDarts.{least_there}
-use Rattle.slab_cycles.proofs.Listed.{dart_within, dart_at_place, rows_length, row_at, source_in}
-use Rattle.slab_cycles.proofs.Placed.{at_place, place_within, lower}
+use Rattle.dart_orbits.proofs.DartCells.{edge_there}
+use Rattle.dart_orbits.proofs.LeastDarts.{least_there}
+use Rattle.dart_orbits.proofs.Listed.{dart_within, dart_at_place, rows_length, row_at, source_in}
+use Rattle.dart_orbits.proofs.Placed.{at_place, place_within, lower}
 use Rattle.edges_below.specs.Highest.{IsHighestBelow, highest}
 use Rattle.face_changes.specs.Kinds.{is_outer}
 use Rattle.face_roots.specs.CycleRanks.{lead_at}

@@ -15,10 +15,10 @@ use Rattle.slab_laws.specs.Subdivision.{subdivision, rank}
 use Rattle.slab_faces.proofs.DartOrder.{list_ascends, lead_lead}
 use Rattle.slab_faces.proofs.FacesLemmas.{one_label}
 use Rattle.slab_faces.proofs.NextLemmas.{darts_exact}
-use Rattle.slab_cycles.proofs.DartCells.{lead_there}
-use Rattle.slab_cycles.proofs.LeastDarts.{is_least, least_listed}
-use Rattle.slab_cycles.proofs.Listed.{dart_within, dart_at_place, in_list}
-use Rattle.slab_cycles.proofs.Placed.{at_place, place_within}
+use Rattle.dart_orbits.proofs.DartCells.{lead_there}
+use Rattle.dart_orbits.proofs.LeastDarts.{is_least, least_listed}
+use Rattle.dart_orbits.proofs.Listed.{dart_within, dart_at_place, in_list}
+use Rattle.dart_orbits.proofs.Placed.{at_place, place_within}
 use Rattle.face_changes.proofs.OneMoreEdge.{one_kind_each}
 use Rattle.face_roots.specs.CycleRanks.{lead_at}
 use Rattle.dart_orbits.specs.declared.orbits.Orbits.{Orbits}

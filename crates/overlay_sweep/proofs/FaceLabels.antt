@@ -6,7 +6,7 @@ use Rattle.slab_laws.specs.declared.slab_cell.SlabCell.{SlabCell}
 use Rattle.slab_laws.specs.Cycles.{left_of_dart}
 use Rattle.slab_laws.specs.Darts.{Dart}
 use Rattle.slab_laws.specs.Skeleton.{Skeleton, IsPlaneSkeleton}
-use Rattle.slab_cycles.proofs.Listed.{rows_length}
+use Rattle.dart_orbits.proofs.Listed.{rows_length}
 use Rattle.face_roots.specs.declared.ranks.Root.{Root}
 use Rattle.face_roots.specs.declared.ranks.Root.TheVariants.{Outer, Outside, Above}
 use Rattle.face_roots.specs.CycleRanks.{root_at, is_outer_root, rank_of_root, lead_at, faces_before, IsRootOf, AreRootsOf, AreRankedBy}

@@ -15,10 +15,10 @@ use Rattle.slab_faces.proofs.Next.{kind_few}
 use Rattle.slab_faces.proofs.RotationLemmas.{Early, earlier_out, earlier_in, round_at}
 use Rattle.slab_faces.proofs.NextLemmas.{dart_in, next_follows, start_in, next_from}
 use Rattle.slab_faces.proofs.CyclesLemmas.{one_cycle}
-use Rattle.slab_cycles.specs.Turns.{comes_first}
-use Rattle.slab_cycles.proofs.Listed.{dart_there, dart_within, dart_at_place, source_in}
-use Rattle.slab_cycles.proofs.DartCells.{edge_there, lead_there, dart_there as listed_there}
-use Rattle.slab_cycles.proofs.Rounds.{first_follows}
+use Rattle.dart_orbits.specs.Turns.{comes_first}
+use Rattle.dart_orbits.proofs.Listed.{dart_there, dart_within, dart_at_place, source_in}
+use Rattle.dart_orbits.proofs.DartCells.{edge_there, lead_there, dart_there as listed_there}
+use Rattle.dart_orbits.proofs.Rounds.{first_follows}
 use Rattle.face_changes.specs.Kinds.{is_outer}
 use Rattle.face_roots.specs.CycleLinks.{IsStart, IsFirstOut, StartsAtLeast}
 use Rattle.face_roots.proofs.FaceLinks.{links_tell_faces, lead_before}

@@ -18,9 +18,9 @@ use Rattle.slab_laws.specs.Rows.{dart_list, dart_at, dart_place, dart_row, dart_
 use Rattle.slab_laws.specs.Skeleton.{Skeleton, IsPlaneSkeleton, HasWeight, same_point}
 use Rattle.slab_faces.proofs.Places.{points_exact}
 use Rattle.slab_faces.proofs.DartOrder.{one_dart}
-use Rattle.slab_cycles.proofs.Listed.{dart_there, dart_within, dart_at_place, place_of_dart, row_at, rows_ascend, rows_length, source_in, one_vertex}
-use Rattle.slab_cycles.proofs.Placed.{place_at, ascending_apart}
-use Rattle.slab_cycles.proofs.RowOrder.{row_cmp}
+use Rattle.dart_orbits.proofs.Listed.{dart_there, dart_within, dart_at_place, place_of_dart, row_at, rows_ascend, rows_length, source_in, one_vertex}
+use Rattle.dart_orbits.proofs.Placed.{place_at, ascending_apart}
+use Rattle.dart_orbits.proofs.RowOrder.{row_cmp}
 use Rattle.sweep_graphs.specs.declared.edges.EdgeEnds.{EdgeEnds}
 use Rattle.sweep_graphs.specs.Edges.{ends_cmp, edge_between}
 use Rattle.sweep_graphs.specs.Traces.{point_at, no_point}

@@ -34,7 +34,7 @@ use Rattle.slab_laws.specs.Skeleton.{Skeleton, IsPlaneSkeleton, same_point}
 use Rattle.slab_laws.specs.SpansDrawn.{edge_of}
 use Rattle.slab_laws.specs.Subdivision.{Cycle, subdivision, rank}
 use Rattle.slab_laws.specs.Text.{skeleton}
-use Rattle.slab_cells.proofs.CellOrder.{absent}
+use Rattle.dart_orbits.proofs.SearchedLists.{absent}
 use Rattle.slab_faces.proofs.Places.{points_exact}
 use Rattle.sound_views.proofs.RankedFaces.{cycle_of, cycles_are, outer_is, face_is}
 use Rattle.face_changes.specs.Kinds.{is_outer}

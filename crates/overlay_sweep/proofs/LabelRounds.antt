@@ -21,8 +21,8 @@ use Rattle.slab_laws.specs.Rows.{dart_list, dart_at, dart_place, dart_row, dart_
 use Rattle.slab_laws.specs.Skeleton.{Skeleton, IsPlaneSkeleton, same_point}
 use Rattle.slab_faces.proofs.Places.{points_exact, place_before}
 use Rattle.slab_faces.proofs.RotationLemmas.{round_at}
-use Rattle.slab_cycles.proofs.Listed.{dart_there, dart_within, dart_at_place, row_at, rows_length, source_in}
-use Rattle.slab_cycles.proofs.Placed.{at_place, place_at, place_within, ascending_apart}
+use Rattle.dart_orbits.proofs.Listed.{dart_there, dart_within, dart_at_place, row_at, rows_length, source_in}
+use Rattle.dart_orbits.proofs.Placed.{at_place, place_at, place_within, ascending_apart}
 use Rattle.edges_below.specs.FaceLaws.{cell_over}
 use Rattle.edges_below.specs.Highest.{IsHighestBelow, highest}
 use Rattle.face_roots.specs.LowestDarts.{IsLowestFrom, IsNextLower}

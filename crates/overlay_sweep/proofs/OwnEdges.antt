@@ -31,7 +31,7 @@ use Rattle.slab_laws.specs.Skeleton.{Skeleton, IsPlaneSkeleton, same_edge}
 use Rattle.slab_laws.specs.SpansDrawn.{drawn}
 use Rattle.slab_faces.proofs.PlaneGraphs.{graph_is_plane_skeleton}
 use Rattle.slab_faces.proofs.Places.{edges_exact}
-use Rattle.slab_cycles.proofs.Placed.{place_within, at_place, one_place, ascending_apart}
+use Rattle.dart_orbits.proofs.Placed.{place_within, at_place, one_place, ascending_apart}
 use Rattle.sweep_events.specs.Events.{IsEvent, AreMeeting}
 use Rattle.sweep_events.specs.Places.{piece_at}
 use Rattle.sweep_events.proofs.EventSteps.{in_order, not_both}

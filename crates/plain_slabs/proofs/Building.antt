@@ -1,5 +1,5 @@
 -- What is built from a graph: its tables are the rows of its subdivision.
-use Rattle.std.proofs.Common.{◌≡◌, ℕ, Bool, Vec, Global, refl, sym, ap, subst, ◌∙◌, List, [], ◌∷◌, map, length}
+use Rattle.std.proofs.Common.{◌≡◌, ℕ, Bool, Vec, Global, refl, ap, ◌∙◌, List, [], ◌∷◌, map, length}
 use Rattle.std.specs.List.{list_any, position_or_len}
 use Rattle.exact_plane.specs.Point.{Point}
 use Rattle.exact_plane.specs.Span.{Span}
@@ -13,11 +13,10 @@ use Rattle.slab_laws.specs.Subdivision.{Cycle, subdivision, rank}
 use Rattle.slab_laws.specs.declared.rows.CycleRow.{CycleRow}
 use Rattle.slab_laws.specs.declared.slab_cell.SlabCell.{SlabCell}
 use Rattle.present_graphs.specs.declared.marks.Mark.{Mark}
-use Rattle.subdivision_rows.specs.Listed.{Drawing, skeleton_in, AreLinesOf}
+use Rattle.subdivision_rows.specs.Listed.{skeleton_in, AreLinesOf}
 use Rattle.subdivision_rows.specs.RowsInMemory.{drawing_of, bare_rank, AreSoundRows}
 use Rattle.subdivision_rows.specs.declared.lists.RowLists.{RowLists}
 use Rattle.plain_slabs.specs.Faces.{rank_round}
-use Rattle.plain_slabs.specs.SubdivisionInMemory.{IsSoundSubdivision}
 use Rattle.plain_slabs.specs.Orbits.{AreOrbits, AreRegions}
 use Rattle.plain_slabs.specs.declared.orbits.Orbits.{Orbits}
 use Rattle.plain_slabs.specs.declared.regions.Regions.{Regions}

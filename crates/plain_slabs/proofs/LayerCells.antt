@@ -13,9 +13,9 @@ use Rattle.slab_laws.specs.Skeleton.{Skeleton, IsPlaneSkeleton, left_of, below}
 use Rattle.slab_laws.specs.Slabs.{spans, place}
 use Rattle.slab_faces.proofs.Member.{member_in, in_member, map_in, map_out, filter_out}
 use Rattle.slab_faces.proofs.Shift.{sum_by-map}
-use Rattle.slab_cells.specs.PlaceTables.{reach_in, table}
-use Rattle.slab_cells.proofs.Reached.{none_vertical}
-use Rattle.slab_cells.proofs.Counts.{count_filtered}
+use Rattle.plain_slabs.specs.PlaceTables.{reach_in, table}
+use Rattle.plain_slabs.proofs.Reached.{none_vertical}
+use Rattle.plain_slabs.proofs.ChosenCounts.{count_filtered}
 use Rattle.slab_laws.specs.Overlay.{plane_of, has_curve_along, cell_in}
 use Rattle.plain_slabs.specs.declared.layer_cells.LayerEdge.{LayerEdge}
 use Rattle.plain_slabs.specs.LayerEdges.{slab_beside, layer_edge, is_across, AreSlanted, AreSlantedAcross, count_below, count_layer, cell_among}

@@ -7,7 +7,7 @@ use Rattle.plane_graphs.specs.Graph.{Graph, graph}
 use Rattle.plane_graphs.specs.Piece.{Present}
 use Rattle.slab_laws.specs.declared.slab_cell.SlabCell.{SlabCell}
 use Rattle.slab_laws.specs.Classes.{class_of}
-use Rattle.slab_laws.specs.SpansDrawn.{edge_of, drawn}
+use Rattle.slab_laws.specs.SpansDrawn.{drawn}
 use Rattle.slab_laws.specs.Skeleton.{Skeleton}
 use Rattle.slab_laws.specs.Faces.{same_cell}
 use Rattle.slab_laws.specs.Subdivision.{Subdivision, subdivision, rank}
@@ -16,7 +16,7 @@ use Rattle.slab_laws.specs.Layers.{LayerRows, rows_of}
 use Rattle.plain_slabs.specs.declared.layer_cells.LayerEdge.{LayerEdge}
 use Rattle.plain_slabs.specs.declared.plain.Plain.TheInside.{Inside}
 use Rattle.plain_slabs.specs.LayerEdges.{slab_beside, layer_edge, cell_among, rank_in}
-use Rattle.subdivision_rows.specs.Listed.{Drawing, skeleton_in, subdivision_in}
+use Rattle.subdivision_rows.specs.Listed.{Drawing, subdivision_in}
 use Rattle.plain_slabs.specs.SubdivisionInMemory.{IsSoundSubdivision}
 use Rattle.plain_slabs.proofs.LayerCells.{cell_is}
 

@@ -1,3 +1,17 @@
+mod ChosenCounts
+mod Feet
+mod Gathered
+mod Loops
+mod Reached
+mod Unlinked
+mod LabelTables
+mod CellOrder
+mod LabelledCells
+mod TurnCases
+mod NearerDarts
+mod LeadLinks
+mod EdgeRows
+mod Oddness
 pub mod Finds
 pub mod FaceLists
 pub mod LeadRows

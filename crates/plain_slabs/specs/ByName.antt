@@ -10,7 +10,6 @@ use Rattle.slab_laws.specs.declared.names.CurveId.{CurveId}
 use Rattle.slab_laws.specs.declared.names.DartId.{DartId}
 use Rattle.slab_laws.specs.SpansDrawn.{edge_of}
 use Rattle.slab_laws.specs.View.{View, line_in}
-use Rattle.arr_notes.specs.Curves.{Curves}
 use Rattle.arr_notes.specs.RecordGraph.{drawn_graph}
 use Rattle.subdivision_rows.specs.ByName.{numbers_of}
 use Rattle.subdivision_rows.specs.Listed.{AreLinesOf}

@@ -4,7 +4,7 @@ use Rattle.std.specs.List.{list_any, position_or_len}
 use Rattle.exact_plane.specs.Point.{Point}
 use Rattle.exact_plane.specs.Span.{Span}
 use Rattle.std.specs.BTreeSet.{BTreeSet, contains}
-use Rattle.slab_cells.specs.CellLabels.{cell_cmp}
+use Rattle.plain_slabs.specs.CellLabels.{cell_cmp}
 use Rattle.slab_laws.specs.declared.slab_cell.SlabCell.{SlabCell}
 use Rattle.slab_laws.specs.declared.classes.Label.{Label}
 use Rattle.slab_laws.specs.declared.rows.CycleRow.{CycleRow}

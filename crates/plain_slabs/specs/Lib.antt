@@ -1,3 +1,8 @@
+pub mod PlaceTables
+pub mod MetNumbers
+pub mod CellLabels
+pub mod Walls
+pub mod RowTurns
 pub mod SubdivisionInMemory
 pub mod Faces
 pub mod Orbits

@@ -6,7 +6,7 @@ use Rattle.slab_laws.specs.Rows.{dart_rows, twin_places, next_places, lead_place
 use Rattle.slab_laws.specs.Skeleton.{Skeleton}
 use Rattle.slab_laws.specs.declared.rows.CycleRow.{CycleRow}
 use Rattle.slab_laws.specs.Subdivision.{subdivision}
-use Rattle.slab_cycles.specs.Orbits.{cycle_leads}
+use Rattle.dart_orbits.specs.CycleLinks.{cycle_leads}
 use Rattle.plain_slabs.specs.declared.orbits.Orbits.{Orbits}
 use Rattle.plain_slabs.specs.declared.regions.Regions.{Regions}
 use Rattle.plain_slabs.specs.Faces.{rank_round, AreLabelsOf}

@@ -6,14 +6,15 @@ ghost use Rattle.slab_laws.specs.Rows.{dart_rows, lead_places, cycle_rows};
 ghost use Rattle.slab_laws.specs.Skeleton.{IsPlaneSkeleton};
 ghost use Rattle.slab_laws.specs.Subdivision.{subdivision};
 ghost use Rattle.plain_slabs.specs.Faces.{lead_row, is_end, rank_round, added, AreLabelsOf, AreSeen};
-ghost use Rattle.slab_cycles.specs.Orbits.{cycle_leads};
+ghost use Rattle.dart_orbits.specs.CycleLinks.{cycle_leads};
 
+use crate::cell_labels::CellLabels;
+use crate::left_cells::left_cell_at;
+use crate::outer::is_outer;
 use crate::ranks::rank_of;
 use edge_predicates::{cell_before, is_same};
 use exact_plane::{Point, Span};
 use no_memory::NoMemory;
-use slab_cells::CellLabels;
-use slab_cycles::{is_outer, left_cell_at};
 use slab_laws::{CycleKind, CycleRow, ListedDart, SlabCell};
 use std::alloc::{AllocError, Global};
 use std::collections::BTreeSet;

@@ -5,9 +5,11 @@ ghost use Rattle.slab_laws.specs.SpansDrawn.{drawn};
 ghost use Rattle.slab_laws.specs.Skeleton.{IsPlaneSkeleton};
 ghost use Rattle.plain_slabs.specs.Orbits.{AreOrbits};
 
+use crate::leads::least_darts;
+use crate::nexts::nexts_of;
+use dart_orbits::{cycles_at, darts_of, least_darts_among, twins_of};
 use exact_plane::{Point, Span};
 use no_memory::NoMemory;
-use slab_cycles::{cycles_at, darts_of, least_darts, least_darts_among, nexts_of, twins_of};
 use slab_laws::ListedDart;
 use std::alloc::Global;
 

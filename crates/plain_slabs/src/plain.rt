@@ -1,4 +1,4 @@
-use slab_cells::CellLabels;
+use crate::cell_labels::CellLabels;
 use slab_laws::SlabCell;
 use std::marker::Model;
 use subdivision_rows::Rows;

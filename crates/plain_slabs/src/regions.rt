@@ -4,12 +4,14 @@ ghost use Rattle.slab_laws.specs.Skeleton.{IsPlaneSkeleton};
 ghost use Rattle.plain_slabs.specs.Faces.{AreLabelsOf};
 ghost use Rattle.plain_slabs.specs.Orbits.{AreOrbits, AreRegions};
 
+use crate::cell_labels::CellLabels;
+use crate::cells::list_cells;
 use crate::faces::{bare_ranks, cycles_of, faces_of};
+use crate::links::link_cells;
 use crate::orbits::Orbits;
 use crate::ranks::cycle_ranks;
 use exact_plane::{Point, Span};
 use no_memory::NoMemory;
-use slab_cells::{CellLabels, link_cells, list_cells};
 use slab_laws::{CycleKind, CycleRow, SlabCell};
 use std::alloc::{AllocError, Global};
 

@@ -22,10 +22,10 @@ use Rattle.plane_graphs.proofs.Order.{Lt, lt_out, lt_never}
 use Rattle.plane_graphs.proofs.Marks.{le_lt, le_in}
 
 -- ---- the order by the numbers of the line
-less_by : (s t u : Ordering) → s ≡ Less → ordering_then s (ordering_then t u) ≡ Less
+pub less_by : (s t u : Ordering) → s ≡ Less → ordering_then s (ordering_then t u) ≡ Less
 less_by s t u e = ap (λ o. ordering_then o (ordering_then t u)) e
 
-less_then : (s t u : Ordering) → s ≡ Equal → t ≡ Less → ordering_then s (ordering_then t u) ≡ Less
+pub less_then : (s t u : Ordering) → s ≡ Equal → t ≡ Less → ordering_then s (ordering_then t u) ≡ Less
 less_then s t u e f = ap₂ (λ o r. ordering_then o (ordering_then r u)) e f
 
 by_runs : (p q : Point) → IsProper p → IsProper q → RunsForward (span_a p q) (span_b p q) → point_cmp p q ≡ Less

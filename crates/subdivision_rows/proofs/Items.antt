@@ -7,7 +7,7 @@ use Rattle.plane_graphs.proofs.Loops.{take_next}
 use Rattle.std.proofs.lemmas.List.{append-nil, map-append, take_all}
 use Rattle.std.proofs.lemmas.List.Elements.{filter-append}
 use Rattle.std.proofs.lemmas.Option.{slice_get-map, slice_get_within, get_or_from_slice_get, slice_get-get_or}
-pub use Rattle.slab_cycles.proofs.TwinPlaces.{no_row}
+pub use Rattle.dart_orbits.specs.Ways.{no_row}
 
 -- the list of the values of the elements of another
 module _ {X Y : Type 0} (f : X → Y) (xs : List X) (items : List Y) (are : items ≡ map f xs) (k : ℕ) (x : X) (at : slice_get xs k ≡ Some x) where

@@ -1,5 +1,5 @@
 -- The darts out of a vertex stand side by side in the list.
-use Rattle.std.proofs.Common.{◌≡◌, ℕ, ◌<◌, ◌≤◌, true, false, arith, sym, ap, subst, ◌∙◌, inl, inr, List, length, get_or, Less}
+use Rattle.std.proofs.Common.{◌≡◌, ℕ, ◌<◌, ◌≤◌, true, false, arith, sym, subst, inl, inr, length, get_or, Less}
 use Rattle.std.specs.List.Sorted.{IsPartitionedBy, IsPartitionPoint}
 use Rattle.std.specs.Ordering.{nat_cmp, bool_cmp, ordering_then}
 use Rattle.std.proofs.lemmas.Bool.{cases_lt, ltb-true, ltb-false, lt-ltb}
@@ -9,8 +9,8 @@ use Rattle.plane_graphs.specs.Ascending.{IsAscending}
 use Rattle.plane_graphs.proofs.Sorting.{parted, rises}
 use Rattle.slab_laws.specs.declared.rows.ListedDart.{ListedDart}
 use Rattle.slab_faces.proofs.PlaneGraphs.{counts}
-use Rattle.slab_cycles.proofs.Listed.{rows_ascend}
-use Rattle.slab_cycles.proofs.RowOrder.{row_cmp}
+use Rattle.dart_orbits.proofs.Listed.{rows_ascend}
+use Rattle.dart_orbits.proofs.RowOrder.{row_cmp}
 use Rattle.subdivision_rows.specs.Listed.{skeleton_in}
 use Rattle.subdivision_rows.specs.RowsInMemory.{drawing_of, AreSoundRows}
 use Rattle.subdivision_rows.specs.declared.lists.RowLists.{RowLists}

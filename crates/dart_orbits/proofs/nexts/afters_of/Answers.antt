@@ -1,7 +1,7 @@
 use Rattle.std.proofs.Common.{rules, ◌∙◌, ap, length, get_or, arith}
 use Rattle.std.proofs.lemmas.List.{length-set}
 use Rattle.slab_laws.specs.SpansDrawn.{drawn}
-use Rattle.slab_cycles.specs.DartRows.{place_after}
+use Rattle.dart_orbits.specs.DartRows.{place_after}
 use Rattle.dart_orbits.proofs.Afters.{placed_more, inside, all_placed}
 use Rattle.dart_orbits.proofs.nexts.afters_of.Goals as goal
 

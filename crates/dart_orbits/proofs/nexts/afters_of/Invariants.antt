@@ -1,6 +1,6 @@
 use Rattle.std.proofs.Common.{◌≡◌, ◌<◌, ℕ, length, get_or}
 use Rattle.slab_laws.specs.SpansDrawn.{drawn}
-use Rattle.slab_cycles.specs.DartRows.{place_after}
+use Rattle.dart_orbits.specs.DartRows.{place_after}
 use Rattle.dart_orbits.proofs.nexts.afters_of.Given as goal
 
 abbrev pub invariant-loop-index : goal.invariant-loop-index

@@ -1,5 +1,5 @@
 use Rattle.std.proofs.Common.{ℕ, ◌<◌, ◌∙◌, sym, ap, subst, List, length, get_or}
-use Rattle.slab_cycles.proofs.NextPlaces.{twin_within, next_pushed, nexts_done, within}
+use Rattle.dart_orbits.proofs.NextPlaces.{twin_within, next_pushed, nexts_done, within}
 use Rattle.dart_orbits.proofs.nexts.nexts_around.Goals as goal
 
 pub number_at-requires : goal.number_at-requires

@@ -4,7 +4,7 @@ use Rattle.std.proofs.lemmas.Fn.{always_returns_same}
 use Rattle.std.proofs.lemmas.List.MinMax.{ranks_by}
 use Rattle.dart_orbits.specs.declared.ways.Way.{Way}
 use Rattle.dart_orbits.specs.Ways.{way_cmp, dart_of_way}
-use Rattle.slab_cycles.proofs.NextPlaces.{edge_there}
+use Rattle.dart_orbits.proofs.NextPlaces.{edge_there}
 use Rattle.dart_orbits.proofs.WayOrders.{way_cmp_total, around}
 use Rattle.dart_orbits.proofs.ways.darts_around.Goals as goal
 

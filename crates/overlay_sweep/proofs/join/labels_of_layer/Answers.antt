@@ -1,5 +1,5 @@
 use Rattle.std.proofs.Common.{◌≡◌, List, length, map, arith, sym, ap, ◌∙◌, subst}
-use Rattle.slab_cycles.proofs.Listed.{rows_length}
+use Rattle.dart_orbits.proofs.Listed.{rows_length}
 use Rattle.slab_laws.specs.Overlay.{label, plane_of}
 use Rattle.slab_laws.specs.Pieces.{present_of}
 use Rattle.slab_laws.specs.Rows.{dart_list}

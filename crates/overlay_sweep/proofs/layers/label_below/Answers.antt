@@ -1,7 +1,7 @@
 use Rattle.std.proofs.Common.{ℕ, get_or, ap, ◌∙◌, arith}
 use Rattle.slab_laws.specs.SpansDrawn.{drawn}
 use Rattle.slab_laws.specs.Darts.{ahead}
-use Rattle.slab_cycles.proofs.Listed.{dart_within}
+use Rattle.dart_orbits.proofs.Listed.{dart_within}
 use Rattle.sweep_graphs.specs.Edges.{edge_between}
 use Rattle.overlay_sweep.proofs.BareVertices.{under_there, under_in}
 use Rattle.overlay_sweep.proofs.LabelRounds.{nothing_under, edge_under}

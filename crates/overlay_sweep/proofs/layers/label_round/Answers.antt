@@ -2,7 +2,7 @@ use Rattle.std.proofs.Common.{◌≡◌, ◌+◌, ◌-◌, ℕ, List, length, ge
 use Rattle.std.specs.Prelude.{slice_set}
 use Rattle.slab_laws.specs.declared.rows.ListedDart.{ListedDart}
 use Rattle.slab_laws.specs.SpansDrawn.{drawn}
-use Rattle.slab_cycles.proofs.Listed.{rows_length}
+use Rattle.dart_orbits.proofs.Listed.{rows_length}
 use Rattle.dart_orbits.specs.Ways.{row_in}
 use Rattle.overlay_sweep.specs.LabelsAbove.{known_at, label_over}
 use Rattle.overlay_sweep.proofs.LabelRounds.{IsTurning, begin, step, finish, placed_within}

@@ -2,7 +2,7 @@ use Rattle.std.proofs.Common.{◌≡◌, List, sym, ap, ◌∙◌}
 use Rattle.std.specs.BTreeSet.{BTreeSet, contains}
 use Rattle.std.specs.List.{list_any}
 use Rattle.std.proofs.lemmas.List.{take_all}
-use Rattle.slab_cells.specs.CellLabels.{cell_cmp}
+use Rattle.plain_slabs.specs.CellLabels.{cell_cmp}
 use Rattle.slab_laws.specs.declared.slab_cell.SlabCell.{SlabCell}
 use Rattle.slab_laws.specs.Faces.{same_cell}
 use Rattle.slab_laws.specs.SpansDrawn.{drawn}

@@ -1,9 +1,0 @@
-pub mod Counts
-pub mod Feet
-pub mod Gathered
-pub mod Loops
-pub mod Reached
-pub mod LeastTransport
-pub mod LabelTables
-pub mod CellOrder
-pub mod LabelledCells

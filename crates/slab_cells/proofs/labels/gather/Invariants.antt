@@ -1,7 +1,0 @@
-use Rattle.std.proofs.Common.{◌≡◌, take}
-use Rattle.std.specs.Prelude.{flat_map}
-use Rattle.slab_cells.specs.CellLabels.{ends}
-use Rattle.slab_cells.proofs.labels.gather.Given as goal
-
-abbrev pub invariant-loop-link : goal.invariant-loop-link
-invariant-loop-link l = l.cells.items ≡ flat_map ends (take l.link-index l.links)

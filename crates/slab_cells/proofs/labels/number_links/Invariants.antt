@@ -1,7 +1,0 @@
-use Rattle.std.proofs.Common.{◌≡◌, take, length, map}
-use Rattle.slab_cells.specs.LeastNumbers.{AreBelow}
-use Rattle.slab_cells.specs.CellLabels.{link_at}
-use Rattle.slab_cells.proofs.labels.number_links.Given as goal
-
-abbrev pub invariant-loop-link : goal.invariant-loop-link
-invariant-loop-link l = AreBelow (length l.cells) l.numbered.items × (map (link_at l.cells) l.numbered.items ≡ take l.link-index l.links)

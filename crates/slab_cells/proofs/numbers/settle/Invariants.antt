@@ -1,9 +1,0 @@
-use Rattle.std.proofs.Common.{sum}
-use Rattle.slab_cells.proofs.LabelTables.{Sound}
-use Rattle.slab_cells.proofs.numbers.settle.Given as goal
-
-abbrev pub invariant-loop-table : goal.invariant-loop-table
-invariant-loop-table l = Sound l.links l.table
-
-abbrev pub decreases-loop-table : goal.decreases-loop-table
-decreases-loop-table l = sum l.table

@@ -1,6 +1,0 @@
-use Rattle.std.proofs.Common.{◌≡◌, map, take}
-use Rattle.slab_cells.specs.PlaceTables.{place_in}
-use Rattle.slab_cells.proofs.places.move_to.Given as goal
-
-abbrev pub invariant-loop-k : goal.invariant-loop-k
-invariant-loop-k l = l.below.items ≡ map (place_in l.reaches l.slab) (take l.k l.reaches)

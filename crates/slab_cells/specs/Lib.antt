@@ -1,4 +1,0 @@
-pub mod PlaceTables
-pub mod LeastNumbers
-pub mod CellLabels
-pub mod Walls

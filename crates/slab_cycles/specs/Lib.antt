@@ -1,3 +1,0 @@
-pub mod DartRows
-pub mod Turns
-pub mod Orbits
