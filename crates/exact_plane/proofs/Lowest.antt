@@ -1,12 +1,14 @@
 -- Three numbers in range, brought to lowest terms, are a point's.
-use Rattle.std.proofs.Common.{◌≡◌, ℕ, ◌*◌, ◌<◌, ◌≤◌, true, ◌&&◌, ltb, leb, ℤ, pos, negsuc, ◌*ℤ◌, refl, sym, subst, arith}
+use Rattle.std.proofs.Common.{◌≡◌, ℕ, ◌*◌, ◌<◌, ◌≤◌, true, ◌&&◌, ltb, leb, ℤ, pos, negsuc, ◌*ℤ◌, refl, sym, ◌∙◌, subst, arith}
 use Rattle.std.specs.Prelude.{unsigned_abs, int_div}
+use Rattle.std.proofs.Math.IntN.{*ℤ-one}
 use Rattle.std.specs.Int.{◌∣◌}
 use Rattle.std.proofs.lemmas.Bool.{leb-true, le-leb, lt-ltb, ltb-true}
 use Rattle.std.proofs.lemmas.Int.{ints}
+use Rattle.std.proofs.lemmas.Nat.Gcd.{le_of_dvd}
 use Rattle.integers.specs.Lowest.{common_divisor}
 use Rattle.integers.proofs.Decisions.{both}
-use Rattle.integers.proofs.Gcd.{common_divisor-first, common_divisor-second, common_divisor-third, common_divisor-positive}
+use Rattle.integers.proofs.Gcd.{positive_divisor, lowest_by_divisors, common_divisor-first, common_divisor-second, common_divisor-third, common_divisor-positive}
 use Rattle.integers.proofs.Reduce.{divided, divided_pos, divided_le, divided_within, same_ratio, reduced_lowest}
 use Rattle.exact_plane.specs.declared.bounds.TheConstants.{MAX_COORDINATE, WEIGHT_LIMIT}
 use Rattle.exact_plane.specs.Point.{Point, in_range, reduced, IsInRange, IsPoint}
@@ -63,3 +65,24 @@ module _ (x y w : ℤ) (r : IsInRange x y w) where
     where
       same : (z : ℤ) → common_divisor x y w ∣ unsigned_abs z → int_div z (pos (common_divisor x y w)) *ℤ w ≡ z *ℤ int_div w (pos (common_divisor x y w))
       same z divides = same_ratio z w _ _ (pos (common_divisor x y w)) (divided z (common_divisor x y w) divides) (divided w (common_divisor x y w) (common_divisor-third x y w))
+
+-- a whole point's numbers are in lowest terms as they are
+module _ (x y : ℤ) where
+  pub whole_lowest : common_divisor x y (pos 1) ≡ 1
+  whole_lowest = lowest_by_divisors x y (pos 1) (λ d p q r. let some = positive_divisor d 1 r (omega arith) in let few = le_of_dvd (omega arith) r in omega arith)
+
+  undivided : (z : ℤ) → common_divisor x y (pos 1) ∣ unsigned_abs z → int_div z (pos (common_divisor x y (pos 1))) ≡ z
+  unfolding lib.IntN.one
+  undivided z divides =
+      let by_one : int_div z (pos 1) *ℤ pos 1 ≡ z = subst (λ g. int_div z (pos g) *ℤ pos g ≡ z) whole_lowest (divided z (common_divisor x y (pos 1)) divides) in
+      subst (λ g. int_div z (pos g) ≡ z) (sym whole_lowest) (sym (*ℤ-one (int_div z (pos 1))) ∙ by_one)
+
+  whole_reduced : record { x = x; y = y; w = pos 1 } ≡ reduced x y (pos 1)
+  whole_reduced =
+      let ex = undivided x (common_divisor-first x y (pos 1)) in
+      let ey = undivided y (common_divisor-second x y (pos 1)) in
+      let ew = undivided (pos 1) (common_divisor-third x y (pos 1)) in
+      λ i. record { x = sym ex i; y = sym ey i; w = sym ew i }
+
+pub whole_is_reduced : (x y w : ℤ) → w ≡ pos 1 → record { x = x; y = y; w = w } ≡ reduced x y w
+whole_is_reduced x y w e = subst (λ z. record { x = x; y = y; w = z } ≡ reduced x y z) (sym e) (whole_reduced x y)

@@ -5,11 +5,10 @@ use Rattle.std.specs.Int.{w64, w128}
 use Rattle.std.specs.Ordering.{int_cmp, int_eq, ordering_then}
 use Rattle.std.proofs.lemmas.Bool.{leb-true}
 use Rattle.std.proofs.lemmas.Int.{ints, to_z-of_z, fits_signed_from_abs}
-use Rattle.std.proofs.lemmas.Nat.Gcd.{le_of_dvd}
 use Rattle.integers.proofs.Decisions.{both, clash, eq_in, eq_out, ge_in, lt_in, lt_out}
 use Rattle.integers.proofs.Compare.{less_out, less_in, equal_out, equal_in, greater_out}
-use Rattle.integers.proofs.Gcd.{positive_divisor, lowest_by_divisors}
 use Rattle.exact_plane.specs.Point.{IsPoint}
+use Rattle.exact_plane.proofs.Lowest.{whole_lowest}
 use Rattle.exact_plane.specs.PointOrder.{point_cmp}
 use Rattle.exact_plane.specs.Segment.{whole_point, is_before, is_coordinate, are_coordinates, IsCoordinate, AreCoordinates, IsSegment}
 
@@ -20,7 +19,7 @@ widened z f h = ap (λ y. to_z w128 (of_z w128 y)) (to_z-of_z w64 z f) ∙ to_z-
 pub whole_is : (x y : ℤ) → IsCoordinate x → IsCoordinate y → IsPoint (whole_point x y)
 whole_is x y h k = record {
   range = record { positive = omega (arith, ints); small = omega arith; x_within = omega arith; y_within = omega arith };
-  lowest = lowest_by_divisors x y (pos 1) (λ d p q r. let some = positive_divisor d 1 r (omega arith) in let few = le_of_dvd (omega arith) r in omega arith);
+  lowest = whole_lowest x y;
 }
 
 then_last : (o : Ordering) → ordering_then o Equal ≡ o

@@ -64,6 +64,9 @@ pub(crate) fn lowest(x: i128, y: i128, w: i128) -> Point
     requires { IsTrue (in_range x y w) }
     ensures { result ≡ reduced x y w }
 {
+    if w == 1 {
+        return Point { x, y, w };
+    }
     let (x, y, w) = (narrow(x), narrow(y), narrow(w));
     let of_both = greatest_common_divisor(x.unsigned_abs(), y.unsigned_abs());
     let divisor = greatest_common_divisor(of_both, w.unsigned_abs());
