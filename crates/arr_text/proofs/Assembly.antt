@@ -35,9 +35,9 @@ title_put r word n m k s a b c d z e f g h i =
     turned w x y t = simp append_assoc
 
 -- a subdivision is of its graph
-pub graph_of : (g : Skeleton) → (subdivision g).graph ≡ g
+pub graph_is : (g : Skeleton) → (subdivision g).graph ≡ g
 unfolding subdivision
-graph_of g = refl
+graph_is g = refl
 
 module _ (v : View) (s : IsGraphSound v) where
   names_of_keys : (ds : List DartId) → map (λ (k : NumberedDart). k.name) (map (numbered_dart v) ds) ≡ ds
@@ -94,7 +94,7 @@ module _ (v : View) (s : IsGraphSound v) where
     in_all =
         let S : Subdivision = subdivision (skeleton_of v) in
         turned (title word (length (skeleton_of v).vertices) (length (skeleton_of v).edges) (length S.faces)) (x_of (skeleton_of v) (darts (skeleton_of v))) (y_of (skeleton_of v)) (flat_map (face_lines S more) (numbered 0 S.faces)) (codes "end\n")
-        ∙ ap (λ (h : Skeleton). by_parts S h (darts (skeleton_of v))) (sym (graph_of (skeleton_of v)))
+        ∙ ap (λ (h : Skeleton). by_parts S h (darts (skeleton_of v))) (sym (graph_is (skeleton_of v)))
         ∙ ap (λ (ds : List Dart). by_parts S S.graph ds) (sym (darts_of (skeleton_of v)))
         ∙ sym (text_by_parts S)
 

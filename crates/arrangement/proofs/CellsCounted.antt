@@ -48,6 +48,7 @@ use Rattle.plane_graphs.specs.Graph.{graph}
 use Rattle.sound_views.proofs.GraphDrawn.{graphs_are_drawn}
 use Rattle.curve_history.specs.Past.{Past, curves_on}
 use Rattle.told_steps.specs.RecordLayers.{IsLayer, layer_of}
+use Rattle.arr_text.proofs.Assembly.{graph_is}
 use Rattle.arrangement.proofs.OneToOne.{ascending_differ, names_differ, apart_differ, as_many}
 
 -- ---- names that ascend: the first one, and the rest
@@ -422,17 +423,13 @@ module _ (v : View) (f : Faces) (h : Past) (l : IsLayer v h) (s : IsSound v f) w
   drawn : skeleton_of v ≡ present_skeleton
   drawn = sym (ap skeleton (sym l.stands) ∙ graphs_are_drawn v (curves_on h) l.sound l.curves)
 
-  graph_is : (k : Skeleton) → k ≡ (subdivision k).graph
-  unfolding subdivision
-  graph_is k = refl
-
   pub layer_vertices : length v.vertices ≡ length (subdivision present_skeleton).graph.vertices
-  layer_vertices = vertices_counted v s.graph ∙ ap (λ (k : Skeleton). length k.vertices) (drawn ∙ graph_is present_skeleton)
+  layer_vertices = vertices_counted v s.graph ∙ ap (λ (k : Skeleton). length k.vertices) (drawn ∙ sym (graph_is present_skeleton))
 
   pub layer_edges : (n : ℕ) → n ≡ length v.darts → n / 2 ≡ length (subdivision present_skeleton).graph.edges
   layer_edges n e =
       let a = edges_counted v s.graph in
-      let b = ap (λ (k : Skeleton). length k.edges) (drawn ∙ graph_is present_skeleton) in
+      let b = ap (λ (k : Skeleton). length k.edges) (drawn ∙ sym (graph_is present_skeleton)) in
       omega arith
 
   pub layer_faces : length f.faces ≡ length (subdivision present_skeleton).faces

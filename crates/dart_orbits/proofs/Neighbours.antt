@@ -66,7 +66,7 @@ by_next true false z e f = absurd (false≢true e)
 by_next false true z e f = refl
 by_next false false z e f = absurd (false≢true e)
 
-by_first : (x y z : Bool) → x ≡ false → y ≡ false → z ≡ false → cond x (cond y z true) (cond y false z) ≡ false
+pub by_first : (x y z : Bool) → x ≡ false → y ≡ false → z ≡ false → cond x (cond y z true) (cond y false z) ≡ false
 by_first true y z e f h = absurd (false≢true (sym e))
 by_first false true z e f h = absurd (false≢true (sym f))
 by_first false false z e f h = h

@@ -1,19 +1,17 @@
 -- Vertices without darts: no row has such a vertex for its source, and its face is that of what is directly below.
-use Rattle.std.proofs.Common.{◌≡◌, ℕ, ◌<◌, ◌≤◌, Bool, true, false, cond, ◌&&◌, ◌||◌, arith, sym, ap, ◌∙◌, subst, inl, inr, List, length, get_or, Contains, Less}
+use Rattle.std.proofs.Common.{◌≡◌, ℕ, ◌<◌, Bool, true, false, cond, ◌&&◌, ◌||◌, arith, sym, ap, ◌∙◌, subst, inl, inr, List, length, get_or, Contains}
 use Rattle.std.specs.Prelude.{Option, Some, None, ◌==◌}
 use Rattle.std.specs.List.Sorted.{IsPartitionedBy, IsPartitionPoint}
 use Rattle.std.specs.Option.{option_map}
-use Rattle.std.specs.Ordering.{nat_cmp, bool_cmp, ordering_then}
 use Rattle.std.proofs.lemmas.Bool.{false≢true, cases_lt, and_parts, and_from, eqb-true, eq-eqb, ltb-true, ltb-false, lt-ltb}
 use lib.Dec.{ltb}
-use Rattle.integers.proofs.Tests.{nat_exact, less_nat}
 use Rattle.exact_plane.specs.Point.{Point}
 use Rattle.exact_plane.specs.PointOrder.{point_cmp}
 use Rattle.plane_graphs.specs.Ascending.{IsAscending}
 use Rattle.plane_graphs.specs.Graph.{Edge}
 use Rattle.plane_graphs.proofs.Ascending.{to_member, from_member}
 use Rattle.plane_graphs.proofs.Lists.{any_in, any_out, both_ways, or_left, or_right, or_out}
-use Rattle.plane_graphs.proofs.Sorting.{member_at, parted, rises}
+use Rattle.plane_graphs.proofs.Sorting.{member_at, rises}
 use Rattle.slab_laws.specs.declared.rows.ListedDart.{ListedDart}
 use Rattle.slab_laws.specs.Darts.{Dart, source, start, ahead, back}
 use Rattle.slab_laws.specs.Faces.{face_labels, face_of}
@@ -34,18 +32,11 @@ use Rattle.face_roots.proofs.OuterRanks.{first_rank}
 use Rattle.sweep_graphs.specs.declared.edges.EdgeEnds.{EdgeEnds}
 use Rattle.sweep_graphs.specs.Edges.{edge_between}
 use Rattle.sweep_graphs.specs.Traces.{point_at, no_point}
-use Rattle.sweep_graphs.proofs.EdgeOrders.{then_less}
 use Rattle.dart_orbits.specs.Ways.{no_row, row_in}
+use Rattle.subdivision_rows.proofs.SourcePlaces.{sources_rise, sources_parted}
 use Rattle.overlay_sweep.specs.CycleFaces.{rank_round}
 use Rattle.overlay_sweep.specs.EdgesUnder.{AreUnder}
 use Rattle.overlay_sweep.specs.LayerLabels.{rank_beside}
-
--- sources don't fall along rows
-sources_rise : (x y : ListedDart) → row_cmp x y ≡ Less → x.source ≤ y.source
-sources_rise x y h = elim (then_less (nat_cmp x.source y.source) (ordering_then (nat_cmp x.target y.target) (ordering_then (nat_cmp x.edge y.edge) (bool_cmp x.forward y.forward))) h) [
-  | inl a ↦ (let k = less_nat x.source y.source a in omega arith)
-  | inr b ↦ (let k = nat_exact x.source y.source b.0 in omega arith)
-]
 
 module _ (g : Skeleton) (p : Point) where
   starts : (e : Edge) (f : Bool) → start e f ≡ p → same_point e.low p || same_point e.high p ≡ true
@@ -77,7 +68,7 @@ module _ (g : Skeleton) (plane : IsPlaneSkeleton g) (ascend : IsAscending point_
   up = subst (IsAscending row_cmp) (sym told) (rows_ascend g plane ascend)
 
   pub parted_sources : (v : ℕ) → IsPartitionedBy (λ r. ltb r.source v) rows
-  parted_sources v = parted row_cmp (λ r. ltb r.source v) rows up (λ x y _ _ h t. let l = ltb-true y.source v t in let k = sources_rise x y h in lt-ltb x.source v (omega arith))
+  parted_sources = sources_parted rows up
 
   counted : length rows ≡ length (dart_list g)
   counted = ap length told ∙ rows_length g

@@ -1,5 +1,5 @@
 -- A cycle is inner exactly where it has the first dart clockwise out of its least vertex.
-use Rattle.std.proofs.Common.{◌≡◌, ◌≢◌, ℕ, ◌<◌, Bool, true, false, cond, not, arith, refl, sym, ap, ◌∙◌, subst, inl, inr, List, length, get_or, Contains}
+use Rattle.std.proofs.Common.{◌≡◌, ◌≢◌, ℕ, ◌<◌, Bool, true, false, not, arith, refl, sym, ap, ◌∙◌, subst, inl, inr, List, length, get_or, Contains}
 use Rattle.std.specs.Prelude.{◌==◌}
 use Rattle.std.proofs.lemmas.Bool.{false≢true, false_from_ne_true, cases_Bool, eqb-true, eq-eqb}
 use Rattle.std.proofs.lemmas.List.{get_or-map, length-map}
@@ -18,17 +18,13 @@ use Rattle.slab_faces.proofs.CyclesLemmas.{one_cycle}
 use Rattle.dart_orbits.specs.Turns.{comes_first}
 use Rattle.dart_orbits.proofs.Listed.{dart_there, dart_within, dart_at_place, source_in}
 use Rattle.dart_orbits.proofs.DartCells.{edge_there, lead_there, dart_there as listed_there}
+use Rattle.dart_orbits.proofs.Neighbours.{by_first}
 use Rattle.dart_orbits.proofs.Rounds.{first_follows}
 use Rattle.face_changes.specs.Kinds.{is_outer}
 use Rattle.face_roots.specs.CycleLinks.{IsStart, IsFirstOut, StartsAtLeast}
 use Rattle.face_roots.proofs.FaceLinks.{links_tell_faces, lead_before}
 use Rattle.face_roots.proofs.PointOrder.{before}
 use Rattle.dart_orbits.specs.Around.{IsFirstAround}
-
-by_first : (x y z : Bool) → x ≡ false → y ≡ false → z ≡ false → cond x (cond y z true) (cond y false z) ≡ false
-by_first true y z e f h = absurd (false≢true (sym e))
-by_first false true z e f h = absurd (false≢true (sym f))
-by_first false false z e f h = h
 
 pub leads_length : (g : Skeleton) (leads : List ℕ) → leads ≡ lead_places g → length leads ≡ length (dart_list g)
 unfolding lead_places

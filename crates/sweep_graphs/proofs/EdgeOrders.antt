@@ -53,14 +53,15 @@ stretch_ties s t =
     ap₂ ◌&&◌ (number_ties s.low t.low) (ap₂ ◌&&◌ (number_ties s.high t.high) (number_ties s.piece t.piece) ∙ both_equal (nat_cmp s.high t.high) (nat_cmp s.piece t.piece))
     ∙ both_equal (nat_cmp s.low t.low) (ordering_then (nat_cmp s.high t.high) (nat_cmp s.piece t.piece))
 
+-- what stands at one place is one point
+pub one_point : (points : List Point) (j k : ℕ) → nat_cmp j k ≡ Equal → point_cmp (point_at points j) (point_at points k) ≡ Equal
+one_point points j k e = subst (λ i. point_cmp (point_at points j) (point_at points i) ≡ Equal) (nat_exact j k e) (tied_itself point_cmp_total (point_at points j))
+
 -- places of points that ascend keep the order of edges
 module _ (points : List Point) (up : IsAscending point_cmp points) where
-  one_point : (j k : ℕ) → nat_cmp j k ≡ Equal → point_cmp (point_at points j) (point_at points k) ≡ Equal
-  one_point j k e = subst (λ i. point_cmp (point_at points j) (point_at points i) ≡ Equal) (nat_exact j k e) (tied_itself point_cmp_total (point_at points j))
-
   pub edges_rise : (e f : EdgeEnds) → f.low < length points → f.high < length points → ends_cmp e f ≡ Less → edge_cmp (edge_between points e) (edge_between points f) ≡ Less
   unfolding edge_cmp
   edges_rise e f low high h = elim (then_less (nat_cmp e.low f.low) (nat_cmp e.high f.high) h) [
     | inl a ↦ ap (λ o. ordering_then o (point_cmp (point_at points e.high) (point_at points f.high))) (rises point_cmp points up e.low f.low no_point (less_nat e.low f.low a) low)
-    | inr b ↦ ap₂ ordering_then (one_point e.low f.low b.0) (rises point_cmp points up e.high f.high no_point (less_nat e.high f.high b.1) high)
+    | inr b ↦ ap₂ ordering_then (one_point points e.low f.low b.0) (rises point_cmp points up e.high f.high no_point (less_nat e.high f.high b.1) high)
   ]
