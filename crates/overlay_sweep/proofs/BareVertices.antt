@@ -22,9 +22,8 @@ use Rattle.slab_laws.specs.Subdivision.{subdivision, rank, has_dart}
 use Rattle.slab_faces.proofs.FacesLemmas.{one_label}
 use Rattle.slab_faces.proofs.Places.{points_exact}
 use Rattle.dart_orbits.proofs.Listed.{dart_there, dart_within, dart_at_place, row_at, rows_ascend, rows_length, source_in}
-use Rattle.dart_orbits.proofs.Placed.{at_place, place_at, ascending_apart}
+use Rattle.dart_orbits.proofs.Placed.{at_place}
 use Rattle.dart_orbits.proofs.RowOrder.{row_cmp}
-use Rattle.exact_plane.specs.PointOrderLaws.{point_cmp_total}
 use Rattle.edges_below.specs.Highest.{IsHighestBelow, highest}
 use Rattle.face_roots.specs.CycleLinks.{IsBare}
 use Rattle.face_roots.proofs.FaceLinks.{links_tell_faces}
@@ -37,6 +36,11 @@ use Rattle.subdivision_rows.proofs.SourcePlaces.{sources_rise, sources_parted}
 use Rattle.overlay_sweep.specs.CycleFaces.{rank_round}
 use Rattle.overlay_sweep.specs.EdgesUnder.{AreUnder}
 use Rattle.overlay_sweep.specs.LayerLabels.{rank_beside}
+use Rattle.overlay_sweep.proofs.LabelRounds.{own_place}
+
+-- what is highest below a point is one of the edges
+pub highest_there : (g : Skeleton) (e : Edge) {p : Point} → IsHighestBelow (Contains g.edges) p (Some e) → Contains g.edges e
+highest_there g e (highest x E s t f) = E
 
 module _ (g : Skeleton) (p : Point) where
   starts : (e : Edge) (f : Bool) → start e f ≡ p → same_point e.low p || same_point e.high p ≡ true
@@ -77,9 +81,6 @@ module _ (g : Skeleton) (plane : IsPlaneSkeleton g) (ascend : IsAscending point_
   source_is k l = ap (λ rs. (get_or rs k no_row).source) told ∙ ap (λ r. r.source) (row_at g plane k no_row l)
 
   module _ (v : ℕ) (inside : v < length g.vertices) (n : ℕ) (cut : IsPartitionPoint (λ r. ltb r.source v ≡ true) (λ r. ltb r.source v ≡ false) rows n) where
-    own_place : vertex_place g (point_at g.vertices v) ≡ v
-    own_place = place_at same_point points_exact g.vertices (ascending_apart point_cmp point_cmp_total g.vertices ascend) v no_point inside
-
     -- a row with the source v is that of a dart out of its point
     goes_out : n < length rows → (row_in rows n).source ≡ v → has_dart g (point_at g.vertices v) ≡ true
     goes_out l e =
@@ -95,7 +96,7 @@ module _ (g : Skeleton) (plane : IsPlaneSkeleton g) (ascend : IsAscending point_
         let k = dart_place g d.0 in
         let K : dart_place g d.0 < length (dart_list g) = dart_within g plane d.0 d.1 in
         let q = counted in
-        let s : (row_in rows (dart_place g d.0)).source ≡ v = source_is (dart_place g d.0) K ∙ ap (λ x. vertex_place g (source x)) (dart_at_place g plane d.0 d.1) ∙ ap (vertex_place g) d.2 ∙ own_place in
+        let s : (row_in rows (dart_place g d.0)).source ≡ v = source_is (dart_place g d.0) K ∙ ap (λ x. vertex_place g (source x)) (dart_at_place g plane d.0 d.1) ∙ ap (vertex_place g) d.2 ∙ own_place g plane ascend v inside in
         elim (cases_lt (dart_place g d.0) n) [
           | inl a ↦ absurd (let t = ltb-true (row_in rows (dart_place g d.0)).source v (cut.0 (dart_place g d.0) no_row (omega arith) a) in omega arith)
           | inr a ↦
@@ -123,10 +124,7 @@ module _ (g : Skeleton) (plane : IsPlaneSkeleton g) (es : List (Option EdgeEnds)
   under_there = let c = u.counted in omega arith
 
   pub under_in : (e : EdgeEnds) (x : Option EdgeEnds) → x ≡ get_or es v None → x ≡ Some e → Contains g.edges (edge_between g.vertices e)
-  under_in e x q s = taken (is_under (Some e) (sym s ∙ q))
-    where
-      taken : {r : Point} → IsHighestBelow (Contains g.edges) r (Some (edge_between g.vertices e)) → Contains g.edges (edge_between g.vertices e)
-      taken (highest x E s t f) = E
+  under_in e x q s = highest_there g (edge_between g.vertices e) (is_under (Some e) (sym s ∙ q))
 
   here : Contains g.vertices (point_at g.vertices v)
   here = from_member g.vertices (point_at g.vertices v) (member_at g.vertices v no_point inside)
