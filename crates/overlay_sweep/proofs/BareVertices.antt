@@ -21,7 +21,7 @@ use Rattle.slab_laws.specs.Slabs.{left_cell}
 use Rattle.slab_laws.specs.Subdivision.{subdivision, rank, has_dart}
 use Rattle.slab_faces.proofs.FacesLemmas.{one_label}
 use Rattle.slab_faces.proofs.Places.{points_exact}
-use Rattle.dart_orbits.proofs.Listed.{dart_there, dart_within, dart_at_place, row_at, rows_ascend, rows_length, source_in}
+use Rattle.dart_orbits.proofs.Listed.{dart_there, dart_within, dart_at_place, source_of_row, rows_ascend, rows_length, source_in}
 use Rattle.dart_orbits.proofs.Placed.{at_place}
 use Rattle.dart_orbits.proofs.RowOrder.{row_cmp}
 use Rattle.edges_below.specs.Highest.{IsHighestBelow, highest}
@@ -77,9 +77,6 @@ module _ (g : Skeleton) (plane : IsPlaneSkeleton g) (ascend : IsAscending point_
   counted : length rows ≡ length (dart_list g)
   counted = ap length told ∙ rows_length g
 
-  source_is : (k : ℕ) → k < length (dart_list g) → (row_in rows k).source ≡ vertex_place g (source (dart_at g k))
-  source_is k l = ap (λ rs. (get_or rs k no_row).source) told ∙ ap (λ r. r.source) (row_at g plane k no_row l)
-
   module _ (v : ℕ) (inside : v < length g.vertices) (n : ℕ) (cut : IsPartitionPoint (λ r. ltb r.source v ≡ true) (λ r. ltb r.source v ≡ false) rows n) where
     -- a row with the source v is that of a dart out of its point
     goes_out : n < length rows → (row_in rows n).source ≡ v → has_dart g (point_at g.vertices v) ≡ true
@@ -88,7 +85,7 @@ module _ (g : Skeleton) (plane : IsPlaneSkeleton g) (ascend : IsAscending point_
         let L : n < length (dart_list g) = omega arith in
         let D = dart_there g plane n L in
         let s = at_place same_point points_exact g.vertices (source (dart_at g n)) no_point (to_member g.vertices (source (dart_at g n)) (source_in g plane (dart_at g n) D)) in
-        dart_has g (point_at g.vertices v) (dart_at g n) D (sym s ∙ ap (point_at g.vertices) (sym (source_is n L) ∙ e))
+        dart_has g (point_at g.vertices v) (dart_at g n) D (sym s ∙ ap (point_at g.vertices) (sym (source_of_row g plane rows told n L) ∙ e))
 
     found : has_dart g (point_at g.vertices v) ≡ true → (n < length rows) × ((row_in rows n).source ≡ v)
     found h =
@@ -96,7 +93,7 @@ module _ (g : Skeleton) (plane : IsPlaneSkeleton g) (ascend : IsAscending point_
         let k = dart_place g d.0 in
         let K : dart_place g d.0 < length (dart_list g) = dart_within g plane d.0 d.1 in
         let q = counted in
-        let s : (row_in rows (dart_place g d.0)).source ≡ v = source_is (dart_place g d.0) K ∙ ap (λ x. vertex_place g (source x)) (dart_at_place g plane d.0 d.1) ∙ ap (vertex_place g) d.2 ∙ own_place g plane ascend v inside in
+        let s : (row_in rows (dart_place g d.0)).source ≡ v = source_of_row g plane rows told (dart_place g d.0) K ∙ ap (λ x. vertex_place g (source x)) (dart_at_place g plane d.0 d.1) ∙ ap (vertex_place g) d.2 ∙ own_place g plane ascend v inside in
         elim (cases_lt (dart_place g d.0) n) [
           | inl a ↦ absurd (let t = ltb-true (row_in rows (dart_place g d.0)).source v (cut.0 (dart_place g d.0) no_row (omega arith) a) in omega arith)
           | inr a ↦
