@@ -46,6 +46,7 @@ use Rattle.sound_views.proofs.RankedFaces.{cycle_of, cycles_are, outer_is, faces
 use Rattle.slab_laws.specs.Text.{skeleton}
 use Rattle.plane_graphs.specs.Graph.{graph}
 use Rattle.sound_views.proofs.GraphDrawn.{graphs_are_drawn}
+use Rattle.face_steps.proofs.CyclesApart.{cycle_by_number}
 use Rattle.curve_history.specs.Past.{Past, curves_on}
 use Rattle.told_steps.specs.RecordLayers.{IsLayer, layer_of}
 use Rattle.arr_text.proofs.Assembly.{graph_is}
@@ -232,9 +233,6 @@ module _ (v : View) (f : Faces) (s : IsSound v f) where
   abbrev Leads : ℕ → Dart → Type 0
   Leads n l = (e : DartId) × IsLead e l × ((cycle_in f e).0 ≡ n)
 
-  cycle_by_number : (c d : CycleId) → c.0 ≡ d.0 → c ≡ d
-  cycle_by_number c d e = λ i. record { 0 = e i }
-
   pub cycles_counted : length f.cycles ≡ length (lead_list (skeleton_of v))
   cycles_counted =
       sym (length-map f.cycles (λ r. r.0))
@@ -269,9 +267,6 @@ module _ (v : View) (f : Faces) (s : IsSound v f) where
     name : DartId
     lead : IsLead name l
     bounds : IsOuterOf f (face_id n) (cycle_in f name)
-
-  face_by_number : (a b : FaceId) → a.0 ≡ b.0 → a ≡ b
-  face_by_number a b e = λ i. record { 0 = e i }
 
   same_bound : (n k : ℕ) (l : Dart) → Bounds n l → Bounds k l → n ≡ k
   same_bound n k l a b =
