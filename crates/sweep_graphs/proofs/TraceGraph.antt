@@ -28,7 +28,7 @@ use Rattle.plane_graphs.proofs.Lists.{clash, in_map, of_map}
 use Rattle.plane_graphs.proofs.Marks.{On, on_in, on_out, on_between, le_lt, mark_in, mark_out}
 use Rattle.plane_graphs.proofs.Meaning.{edges_are, edges_ascend, edge_cmp_total, vertices_are}
 use Rattle.plane_graphs.proofs.Order.{lt_in, lt_out, lt_trans, lt_never, mark_cmp_total, mark_cmp_exact}
-use Rattle.plane_graphs.proofs.Sorting.{rises, member_at}
+use Rattle.plane_graphs.proofs.Sorting.{member_at}
 use Rattle.plane_graphs.proofs.Vertices.{vertices_ascend}
 use Rattle.present_graphs.specs.Spans.{span_of_piece, lies_on}
 use Rattle.present_graphs.proofs.HoldingSpan.{graph_ascends}
@@ -339,9 +339,6 @@ module _ (p : Present) (fit : IsFit p) (spans : AreSpans (map span_of_piece p.pi
   module _ (t : Trace) (h : IsTrace (map span_of_piece p.pieces) p.pins t) where
     event_at : (k : ℕ) → k < length t.points → Event (point_at t.points k)
     event_at k l = (h.points_are (point_at t.points k)).0 (member_at t.points k no_point l)
-
-    less_at : (j k : ℕ) → j < k → k < length t.points → point_cmp (point_at t.points j) (point_at t.points k) ≡ Less
-    less_at j k l b = rises point_cmp t.points h.ascends j k no_point l b
 
     below_at : (k : ℕ) (o : Option OpenStretch) → k < length t.points → slice_index_or t.below k None ≡ o → IsOpenBelow (piece_at (map span_of_piece p.pieces)) (length (map span_of_piece p.pieces)) p.pins t.points (point_at t.points k) o
     below_at k o l z = subst (IsOpenBelow (piece_at (map span_of_piece p.pieces)) (length (map span_of_piece p.pieces)) p.pins t.points (point_at t.points k)) z (h.below_are k l)
