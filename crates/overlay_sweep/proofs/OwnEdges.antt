@@ -11,7 +11,7 @@ use Rattle.plane_graphs.specs.Ascending.{Member, ascending, IsAscending}
 use Rattle.plane_graphs.specs.Fit.{IsFit}
 use Rattle.plane_graphs.specs.Graph.{Edge, graph, edges, vertices, collinear}
 use Rattle.plane_graphs.specs.Line.{IsProper}
-use Rattle.plane_graphs.specs.Piece.{Piece, Present, along, on}
+use Rattle.plane_graphs.specs.Piece.{Piece, Present, on}
 use Rattle.plane_graphs.proofs.Ascending.{IsAscending-ascending, Member-ascending, ascending-Member, to_member, from_member}
 use Rattle.plane_graphs.proofs.Closed.{IsClosed}
 use Rattle.plane_graphs.proofs.Laws.{graph_is_plane}
