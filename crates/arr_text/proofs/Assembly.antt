@@ -20,7 +20,7 @@ use Rattle.arr_text.specs.Numbers.{numbered_dart, numbered_darts}
 use Rattle.record_orders.proofs.Sorting.{all_members}
 use Rattle.arr_text.specs.Reading.{pins_in, forward_darts, title}
 use Rattle.arr_text.proofs.FaceNames.{darts_counted}
-use Rattle.arr_text.proofs.Joined.{joined}
+use Rattle.arr_text.proofs.Joined.{four_appended, joined}
 use Rattle.plane_graphs.proofs.Lists.{then_appended}
 
 pub title_put : {T E : Type 0} (r : Result T E) (word : List ℕ) (n m k : ℕ) (s a b c d z : List ℕ) → a ≡ s ++ word → b ≡ a ++ number n → c ≡ b ++ number m → d ≡ c ++ number k → OnOk r (z ≡ d ++ 10 ∷ []) → OnOk r (z ≡ s ++ title word n m k)
@@ -29,15 +29,12 @@ title_put r word n m k s a b c d z e f g h i =
     let two = then_appended s a b (word) (number n) e f in
     let three = then_appended s b c (word ++ number n) (number m) two g in
     let four = then_appended s c d ((word ++ number n) ++ number m) (number k) three h in
-    joined r s d z (((word ++ number n) ++ number m) ++ number k) (10 ∷ []) ((word ++ (number n ++ (number m ++ number k))) ++ 10 ∷ []) four i (ap (λ (t : List ℕ). t ++ 10 ∷ []) (turned (word) (number n) (number m) (number k)))
-  where
-    turned : (w x y t : List ℕ) → ((w ++ x) ++ y) ++ t ≡ w ++ (x ++ (y ++ t))
-    turned w x y t = simp append_assoc
+    joined r s d z (((word ++ number n) ++ number m) ++ number k) (10 ∷ []) ((word ++ (number n ++ (number m ++ number k))) ++ 10 ∷ []) four i (ap (λ (t : List ℕ). t ++ 10 ∷ []) (four_appended word (number n) (number m) (number k)))
 
 -- a subdivision is of its graph
-pub graph_of : (g : Skeleton) → (subdivision g).graph ≡ g
+pub graph_is : (g : Skeleton) → (subdivision g).graph ≡ g
 unfolding subdivision
-graph_of g = refl
+graph_is g = refl
 
 module _ (v : View) (s : IsGraphSound v) where
   names_of_keys : (ds : List DartId) → map (λ (k : NumberedDart). k.name) (map (numbered_dart v) ds) ≡ ds
@@ -94,7 +91,7 @@ module _ (v : View) (s : IsGraphSound v) where
     in_all =
         let S : Subdivision = subdivision (skeleton_of v) in
         turned (title word (length (skeleton_of v).vertices) (length (skeleton_of v).edges) (length S.faces)) (x_of (skeleton_of v) (darts (skeleton_of v))) (y_of (skeleton_of v)) (flat_map (face_lines S more) (numbered 0 S.faces)) (codes "end\n")
-        ∙ ap (λ (h : Skeleton). by_parts S h (darts (skeleton_of v))) (sym (graph_of (skeleton_of v)))
+        ∙ ap (λ (h : Skeleton). by_parts S h (darts (skeleton_of v))) (sym (graph_is (skeleton_of v)))
         ∙ ap (λ (ds : List Dart). by_parts S S.graph ds) (sym (darts_of (skeleton_of v)))
         ∙ sym (text_by_parts S)
 

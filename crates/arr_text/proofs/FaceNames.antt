@@ -40,7 +40,7 @@ use Rattle.sound_views.proofs.RankedFaces.{cycle_of, cycles_are, outer_is, face_
 use Rattle.sound_views.specs.Orders.{vertex_order, dart_order}
 use Rattle.sound_views.proofs.IsolatedVertices.{bare_is_bare}
 use Rattle.sound_views.proofs.NamedDarts.{names_are_darts}
-use Rattle.sound_views.proofs.NamesOrdered.{vertices_in_order, vertices_are_ordered, darts_in_order, darts_are_ordered}
+use Rattle.sound_views.proofs.NamesOrdered.{vertices_in_order, vertices_are_ordered, darts_in_order, ordered_dart}
 use Rattle.sound_views.specs.FaceOrderLaws.{same_cycle as on_one_cycle}
 use Rattle.sound_views.proofs.CycleDartOrder.{all_are_listed}
 use Rattle.sound_views.proofs.FirstDarts.{of_distinct}
@@ -118,9 +118,6 @@ module _ (v : View) (f : Faces) (s : IsSound v f) where
   abbrev pub keys : List CycleKey
   keys = cycle_keys f (dart_order v)
 
-  named : (d : DartId) → Member d (dart_order v) → HasDart v d
-  named d m = (darts_are_ordered v d s.graph).1 (from_member (dart_order v) d m)
-
   by_number : (d e : DartId) → (cycle_in f d).0 ≡ (cycle_in f e).0 → cycle_in f d ≡ cycle_in f e
   by_number d e h = λ i. record { 0 = h i }
 
@@ -136,7 +133,7 @@ module _ (v : View) (f : Faces) (s : IsSound v f) where
 
   leads_named : map (dart_in v) first_darts ≡ lead_list (skeleton_of v)
   leads_named =
-      mapped_distinct (dart_in v) (same_cycle f) (on_one_cycle (skeleton_of v)) (dart_order v) (λ d e m n. same_cycles d e (named d m) (named e n))
+      mapped_distinct (dart_in v) (same_cycle f) (on_one_cycle (skeleton_of v)) (dart_order v) (λ d e m n. same_cycles d e (ordered_dart v s.graph d m) (ordered_dart v s.graph e n))
       ∙ ap (distinct (on_one_cycle (skeleton_of v))) (darts_in_order v s.graph)
       ∙ leads_are_first (skeleton_of v) plane
 
@@ -152,7 +149,7 @@ module _ (v : View) (f : Faces) (s : IsSound v f) where
   key_of c m =
       let r = of_map (cycle_key f) c first_darts m in
       let l = subst (λ hs. Member (dart_in v r.0) hs) leads_named (in_map (dart_in v) r.0 first_darts r.1) in
-      (r.0, named r.0 (of_distinct (same_cycle f) r.0 (dart_order v) r.1), (listed_lead (skeleton_of v) plane (dart_in v r.0) (from_in (lead_list (skeleton_of v)) (dart_in v r.0) l)).1, r.2)
+      (r.0, ordered_dart v s.graph r.0 (of_distinct (same_cycle f) r.0 (dart_order v) r.1), (listed_lead (skeleton_of v) plane (dart_in v r.0) (from_in (lead_list (skeleton_of v)) (dart_in v r.0) l)).1, r.2)
 
   pub key_has : (c : CycleKey) → Member c keys → HasDart v c.lead
   key_has c m = let k = key_of c m in subst (λ (x : CycleKey). HasDart v x.lead) (sym k.3) k.1
@@ -225,7 +222,7 @@ module _ (v : View) (f : Faces) (s : IsSound v f) where
     face_by_number a b h = λ i. record { 0 = h i }
 
     -- names are one face's exactly where their cells are
-    same_faces : (a b : FaceId) → HasFace f a → HasFace f b → same_face a b ≡ same_cell (cell a) (cell b)
+    pub same_faces : (a b : FaceId) → HasFace f a → HasFace f b → same_face a b ≡ same_cell (cell a) (cell b)
     same_faces a b ha hb =
         both_ways (same_face a b) (same_cell (cell a) (cell b))
         (λ t. subst (λ x. same_cell (cell a) (cell x) ≡ true) (face_by_number a b (eqb-true a.0 b.0 t)) (cells_exact.itself (cell a)))

@@ -8,6 +8,9 @@ use Rattle.exact_plane.specs.Point.{Point}
 use Rattle.slab_laws.specs.Text.{word, triple}
 use Rattle.plane_graphs.proofs.Lists.{then_appended}
 
+pub four_appended : (w x y z : List ℕ) → ((w ++ x) ++ y) ++ z ≡ w ++ (x ++ (y ++ z))
+four_appended w x y z = simp append_assoc
+
 -- and of the last one, which may find no memory
 pub joined : {T E : Type 0} (r : Result T E) (x y z a b c : List ℕ) → y ≡ x ++ a → OnOk r (z ≡ y ++ b) → a ++ b ≡ c → OnOk r (z ≡ x ++ c)
 joined (Ok t) x y z a b c e f g = then_appended x y z a b e f ∙ ap (λ (s : List ℕ). x ++ s) g

@@ -22,7 +22,7 @@ use Rattle.sound_views.specs.Orders.{vertex_order}
 use Rattle.sound_views.proofs.NamesOrdered.{ordered_vertex, points_in_order, edges_in_order}
 use Rattle.arr_text.specs.LayerTexts.{ArePinsOf, TellsLayer, OverlayTextIsTheLayers}
 use Rattle.arr_text.specs.Reading.{pins_in, forward_darts, face_order, numbers_in, rows_in, overlay_text_in}
-use Rattle.arr_text.proofs.Assembly.{graph_of}
+use Rattle.arr_text.proofs.Assembly.{graph_is}
 use Rattle.arr_text.proofs.FaceNames.{faces_named, ranked_face}
 use Rattle.arr_text.proofs.Lines.{pin_told}
 use Rattle.arr_text.proofs.RecordTexts.{there}
@@ -72,7 +72,7 @@ module _ (v : View) (s : IsGraphSound v) (pins : List Point) (p : ArePinsOf v pi
   pins_told red blue =
       let sub = subdivision (skeleton_of v) in
       by_marks sub (pins_in v) red blue
-      ∙ text_alike (codes "overlay") (face_labels sub red blue) sub (pins_in v) pins (map edge_words (zip red.curves blue.curves)) (λ q m. pins_alike q (subst (λ g. Member q g.vertices) (graph_of (skeleton_of v)) m))
+      ∙ text_alike (codes "overlay") (face_labels sub red blue) sub (pins_in v) pins (map edge_words (zip red.curves blue.curves)) (λ q m. pins_alike q (subst (λ g. Member q g.vertices) (graph_is (skeleton_of v)) m))
       ∙ sym (by_marks sub pins red blue)
 
 -- ---- rows
@@ -92,7 +92,7 @@ module _ (v : View) (f : Faces) (cell : FaceId → SlabCell) (s : IsSound v f) (
   rows_are : rows_in v f l ≡ rows_of layer (subdivision (skeleton_of v))
   unfolding rows_in rows_of
   rows_are =
-      let g = graph_of (skeleton_of v) in
+      let g = graph_is (skeleton_of v) in
       λ i. record { curves = (curves_are ∙ ap (λ h. map (curves_along layer) h.edges) (sym g)) i; labels = (labels_are ∙ ap (λ h. map (label layer h) (subdivision (skeleton_of v)).faces) (sym g)) i }
 
 -- ---- the two texts

@@ -27,7 +27,7 @@ use Rattle.record_orders.specs.Keys.{vertex_key, vertex_keys}
 use Rattle.arr_text.specs.declared.darts.NumberedDart.{NumberedDart}
 use Rattle.arr_text.specs.Numbers.{numbered_dart, numbered_darts}
 use Rattle.arr_text.proofs.NumberedDarts.{goes_forward}
-use Rattle.arr_text.proofs.Joined.{joined}
+use Rattle.arr_text.proofs.Joined.{four_appended, joined}
 use Rattle.slab_faces.proofs.Parity.{same_point_is, same_point_refl}
 
 -- a vertex is pinned exactly where its point is one of the pins
@@ -139,10 +139,7 @@ ends_put r n m s a b c z e f g h =
     let j : List ℕ = number m in
     let two = then_appended s a b (codes "e") i e f in
     let three = then_appended s b c (codes "e" ++ i) j two g in
-    joined r s c z ((codes "e" ++ i) ++ j) (codes " :") (codes "e" ++ (i ++ (j ++ codes " :"))) three h (four (codes "e") i j (codes " :"))
-  where
-    four : (k n x y : List ℕ) → ((k ++ n) ++ x) ++ y ≡ k ++ (n ++ (x ++ y))
-    four k n x y = simp append_assoc
+    joined r s c z ((codes "e" ++ i) ++ j) (codes " :") (codes "e" ++ (i ++ (j ++ codes " :"))) three h (four_appended (codes "e") i j (codes " :"))
 
 abbrev from_to : Point → Point → Edge
 from_to p q = record { low = p; high = q }

@@ -16,9 +16,10 @@ use Rattle.slab_laws.specs.Tables.{names, NamesAscend}
 use Rattle.slab_laws.specs.declared.names.DartId.{DartId}
 use Rattle.slab_laws.specs.declared.names.VertexId.{VertexId}
 use Rattle.slab_laws.specs.Skeleton.{same_point}
-use Rattle.slab_laws.specs.View.{View, HasVertex, HasDart, dart_id, point_in, source_in, target_in}
+use Rattle.slab_laws.specs.View.{View, HasVertex, HasDart, dart_id, point_in, source_in}
 use Rattle.slab_laws.specs.Sound.{dart_in, IsGraphSound}
 use Rattle.sound_views.specs.Orders.{dart_order}
+use Rattle.sound_views.proofs.ForwardDarts.{target_has}
 use Rattle.sound_views.proofs.PulledOrders.{IsAscending-map}
 use Rattle.sound_views.proofs.NamedDarts.{dart_name, named_dart}
 use Rattle.sound_views.proofs.NamesOrdered.{dart_ordered, ordered_dart}
@@ -78,16 +79,10 @@ module _ (v : View) where
   distinct (n ∷ ns) a = (differs n ns a.0, distinct ns a.1)
 
   module _ (s : IsGraphSound v) where
-    pub source_has : (d : DartId) → HasDart v d → HasVertex v (source_in v d)
-    source_has d has = s.linked.source d has
-
-    pub target_has : (d : DartId) → HasDart v d → HasVertex v (target_in v d)
-    target_has d has = s.linked.source _ (s.twinned.has d has)
-
     -- darts compare by numbers as by points
     same_order : (d e : DartId) → HasDart v d → HasDart v e → key_cmp (numbered_dart v d) (numbered_dart v e) ≡ point_key_cmp (dart_key v d) (dart_key v e)
     same_order d e hd he =
-        ap₂ (λ (a b : Ordering). ordering_then a (ordering_then b (nat_cmp d.0 e.0))) (numbers_compare v s _ _ (source_has d hd) (source_has e he)) (numbers_compare v s _ _ (target_has d hd) (target_has e he))
+        ap₂ (λ (a b : Ordering). ordering_then a (ordering_then b (nat_cmp d.0 e.0))) (numbers_compare v s _ _ (s.linked.source d hd) (s.linked.source e he)) (numbers_compare v s _ _ (target_has v s d hd) (target_has v s e he))
 
     ascends : IsAscending key_cmp (numbered_darts v)
     ascends =
@@ -114,10 +109,10 @@ module _ (v : View) where
     -- ---- tests
     -- a dart goes up by its numbers where it does by its points
     pub goes_forward : (d : DartId) → HasDart v d → nat_lt (numbered_dart v d).source (numbered_dart v d).target ≡ (dart_in v d).forward
-    goes_forward d has = less_told _ _ ∙ ap is_lt (numbers_compare v s _ _ (source_has d has) (target_has d has))
+    goes_forward d has = less_told _ _ ∙ ap is_lt (numbers_compare v s _ _ (s.linked.source d has) (target_has v s d has))
 
     leaves_alike : (d : DartId) (w : VertexId) → HasDart v d → HasVertex v w → ((numbered_dart v d).source == number_in v w) ≡ same_point (dart_key v d).source (point_in v w)
-    leaves_alike d w hd hw = same_told _ _ ∙ ap is_eq (numbers_compare v s _ _ (source_has d hd) hw) ∙ tied (point_in v (source_in v d)) (point_in v w)
+    leaves_alike d w hd hw = same_told _ _ ∙ ap is_eq (numbers_compare v s _ _ (s.linked.source d hd) hw) ∙ tied (point_in v (source_in v d)) (point_in v w)
 
     one_found : (d : DartId) (a b : Bool) (x : Option NumberedDart) (y : Option DartKey) → a ≡ b → option_map (λ (k : NumberedDart). k.name) x ≡ option_map (λ (k : DartKey). k.name) y
         → option_map (λ (k : NumberedDart). k.name) (cond a (Some (numbered_dart v d)) x) ≡ option_map (λ (k : DartKey). k.name) (cond b (Some (dart_key v d)) y)

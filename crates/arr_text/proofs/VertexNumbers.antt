@@ -26,7 +26,7 @@ use Rattle.record_orders.specs.declared.vertices.VertexKey.{VertexKey}
 use Rattle.record_orders.specs.Keys.{vertex_key, vertex_keys}
 use Rattle.std.proofs.lemmas.Bool.{cases_lt}
 use Rattle.std.proofs.lemmas.Bool.Decides.{nat_tests}
-use Rattle.integers.proofs.Tests.{nat_less, other_number, same_number}
+use Rattle.integers.proofs.Tests.{nat_less, nat_more, other_number, same_number}
 use Rattle.std.proofs.Math.ListN.{get_or-eq_default}
 use Rattle.arr_text.specs.Numbers.{AreApart, TellPlaces, AreNumbers, number_in}
 
@@ -36,9 +36,6 @@ less_told m n = grind (arith, nat_tests)
 
 pub same_told : (m n : ℕ) → (m == n) ≡ is_eq (nat_cmp m n)
 same_told m n = grind (arith, nat_tests)
-
-greater : (m n : ℕ) → n < m → nat_cmp m n ≡ Greater
-greater m n l = grind (arith, nat_tests)
 
 -- ---- places
 -- an element stands at some place
@@ -139,7 +136,7 @@ module _ (v : View) (s : IsGraphSound v) where
       by : (o : Ordering) → point_cmp (point_in v u) (point_in v w) ≡ o → nat_cmp (number_in v u) (number_in v w) ≡ o
       by Less e = nat_less _ _ (sooner u w hu hw e)
       by Equal e = ap (λ p. nat_cmp (index (skeleton_of v) p) (number_in v w)) (one_point (point_in v u) (point_in v w) e) ∙ tied_itself nat_cmp_total (number_in v w)
-      by Greater e = greater _ _ (sooner w u hw hu (point_cmp_total.antisymm (point_in v w) (point_in v u) ∙ ap ordering_reverse e))
+      by Greater e = nat_more _ _ (sooner w u hw hu (point_cmp_total.antisymm (point_in v w) (point_in v u) ∙ ap ordering_reverse e))
 
 -- ---- a table by names
 module _ (v : View) (ns : List ℕ) (a : AreNumbers v ns) (w : VertexId) (has : HasVertex v w) where

@@ -46,8 +46,10 @@ use Rattle.sound_views.proofs.RankedFaces.{cycle_of, cycles_are, outer_is, faces
 use Rattle.slab_laws.specs.Text.{skeleton}
 use Rattle.plane_graphs.specs.Graph.{graph}
 use Rattle.sound_views.proofs.GraphDrawn.{graphs_are_drawn}
+use Rattle.face_steps.proofs.CyclesApart.{cycle_by_number}
 use Rattle.curve_history.specs.Past.{Past, curves_on}
 use Rattle.told_steps.specs.RecordLayers.{IsLayer, layer_of}
+use Rattle.arr_text.proofs.Assembly.{graph_is}
 use Rattle.arrangement.proofs.OneToOne.{ascending_differ, names_differ, apart_differ, as_many}
 
 -- ---- names that ascend: the first one, and the rest
@@ -231,9 +233,6 @@ module _ (v : View) (f : Faces) (s : IsSound v f) where
   abbrev Leads : ℕ → Dart → Type 0
   Leads n l = (e : DartId) × IsLead e l × ((cycle_in f e).0 ≡ n)
 
-  cycle_by_number : (c d : CycleId) → c.0 ≡ d.0 → c ≡ d
-  cycle_by_number c d e = λ i. record { 0 = e i }
-
   pub cycles_counted : length f.cycles ≡ length (lead_list (skeleton_of v))
   cycles_counted =
       sym (length-map f.cycles (λ r. r.0))
@@ -268,9 +267,6 @@ module _ (v : View) (f : Faces) (s : IsSound v f) where
     name : DartId
     lead : IsLead name l
     bounds : IsOuterOf f (face_id n) (cycle_in f name)
-
-  face_by_number : (a b : FaceId) → a.0 ≡ b.0 → a ≡ b
-  face_by_number a b e = λ i. record { 0 = e i }
 
   same_bound : (n k : ℕ) (l : Dart) → Bounds n l → Bounds k l → n ≡ k
   same_bound n k l a b =
@@ -422,17 +418,13 @@ module _ (v : View) (f : Faces) (h : Past) (l : IsLayer v h) (s : IsSound v f) w
   drawn : skeleton_of v ≡ present_skeleton
   drawn = sym (ap skeleton (sym l.stands) ∙ graphs_are_drawn v (curves_on h) l.sound l.curves)
 
-  graph_is : (k : Skeleton) → k ≡ (subdivision k).graph
-  unfolding subdivision
-  graph_is k = refl
-
   pub layer_vertices : length v.vertices ≡ length (subdivision present_skeleton).graph.vertices
-  layer_vertices = vertices_counted v s.graph ∙ ap (λ (k : Skeleton). length k.vertices) (drawn ∙ graph_is present_skeleton)
+  layer_vertices = vertices_counted v s.graph ∙ ap (λ (k : Skeleton). length k.vertices) (drawn ∙ sym (graph_is present_skeleton))
 
   pub layer_edges : (n : ℕ) → n ≡ length v.darts → n / 2 ≡ length (subdivision present_skeleton).graph.edges
   layer_edges n e =
       let a = edges_counted v s.graph in
-      let b = ap (λ (k : Skeleton). length k.edges) (drawn ∙ graph_is present_skeleton) in
+      let b = ap (λ (k : Skeleton). length k.edges) (drawn ∙ sym (graph_is present_skeleton)) in
       omega arith
 
   pub layer_faces : length f.faces ≡ length (subdivision present_skeleton).faces

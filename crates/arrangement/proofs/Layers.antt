@@ -13,11 +13,11 @@ use Rattle.slab_laws.specs.Text.{graph_text, present_text}
 use Rattle.slab_laws.specs.View.{View, dart_id, point_in, source_in, target_in, twin_in, curve_id}
 use Rattle.arr_notes.specs.ViewChanges.{no_rows}
 use Rattle.arr_notes.specs.Curves.{Curves, is_forward, IsForward}
-use Rattle.arr_notes.specs.CurvedView.{AreListsOf}
 use Rattle.arr_notes.proofs.Names.{numbers_of as numbers}
 use Rattle.arr_notes.specs.RecordGraph.{drawn_graph, marks_along}
 use Rattle.curve_history.specs.Past.{Past, curves_on, SameLayer, SameCurves}
 use Rattle.curve_history.specs.DrawnRecords.{curves_in, forward_of}
+use Rattle.curve_history.proofs.Facing.{lists_read}
 use Rattle.told_steps.specs.RecordLayers.{IsLayer, layer_of}
 use Rattle.told_steps.proofs.Layers.{nothing_is_a_layer}
 use Rattle.subdivision_rows.specs.ByName.{numbers_of}
@@ -73,13 +73,9 @@ module _ (v : View) (p : Past) (w : View) (q : Past) (e : w ≡ v) (f : q ≡ p)
   drawn_present = ap₂ (λ z y. drawn_graph z (numbers_of (curves_in z y))) e f ∙ present_drawn v p l
 
 -- ---- the text that both tell
--- the curves along each edge, as they are read
-read_lists : (v : View) (p : Past) → AreListsOf v (curves_on p) (curves_in v p)
-read_lists v p d f = numbers (curves_on p (forward_of v d)) ∙ ap (λ b. curves_on p (if b then d else twin_in v d)) f.1
-
 pub told_text : (v : View) (p : Past) → IsLayer v p → text_in v (curves_in v p) ≡ present_text (layer_of v p).present
 unfolding present_text
-told_text v p l = records_tell_their_graph v (curves_on p) (curves_in v p) l.sound l.curves (read_lists v p) ∙ ap graph_text l.stands
+told_text v p l = records_tell_their_graph v (curves_on p) (curves_in v p) l.sound l.curves (lists_read v p) ∙ ap graph_text l.stands
 
 no_numbers : (ns : List ℕ) → map curve_id ns ≡ [] → ns ≡ []
 no_numbers [] e = refl

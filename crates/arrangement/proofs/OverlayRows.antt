@@ -1,5 +1,5 @@
 -- What the overlay's records tell of each layer, by name, and the text that they are.
-use Rattle.std.proofs.Common.{◌≡◌, [], map, get_or, refl, sym, ap, ap₂, ◌∙◌, subst}
+use Rattle.std.proofs.Common.{◌≡◌, [], map, get_or, sym, ap, ap₂, ◌∙◌, subst}
 use Rattle.std.specs.Prelude.{Some, slice_get}
 use Rattle.std.specs.Option.{option_map}
 use Rattle.std.specs.List.{list_any}
@@ -30,12 +30,9 @@ use Rattle.subdivision_rows.proofs.ListsFaced.{cell, faced}
 use Rattle.subdivision_rows.proofs.VertexLists.{pin_of}
 use Rattle.arr_text.specs.LayerTexts.{ArePinsOf, TellsLayer}
 use Rattle.arr_text.specs.Reading.{overlay_text_in}
+use Rattle.arr_text.proofs.Assembly.{graph_is}
 use Rattle.arr_text.proofs.LayerTexts.{overlay_text_is_the_layers}
 use Rattle.arrangement.specs.Overlays.{text_of}
-
-graph_is : (g : Skeleton) → (subdivision g).graph ≡ g
-unfolding subdivision
-graph_is g = refl
 
 module _ (d : Drawing) (pl : IsPlane d.graph) where
   pins_told : ArePinsOf (view_of d) d.graph.pins

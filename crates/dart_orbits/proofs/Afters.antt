@@ -4,7 +4,7 @@ use Rattle.std.specs.Prelude.{slice_set}
 use Rattle.std.proofs.lemmas.Bool.{cases_lt, cases_order}
 use Rattle.std.proofs.lemmas.List.{get_or-set_same, get_or-set_other}
 use Rattle.slab_laws.specs.declared.rows.ListedDart.{ListedDart}
-use Rattle.slab_laws.specs.Rows.{dart_list, dart_rows}
+use Rattle.slab_laws.specs.Rows.{dart_rows}
 use Rattle.slab_laws.specs.Skeleton.{Skeleton}
 use Rattle.dart_orbits.specs.DartRows.{place_after}
 use Rattle.dart_orbits.proofs.Listed.{rows_length}
@@ -26,10 +26,6 @@ placed_more f ps n a now new b h e s i l =
 
     earlier : (i n : ℕ) → i < n + 1 → (i ≡ n → ⊥) → i < n
     earlier i n l ne = elim (cases_lt i n) [ inl u ↦ u | inr u ↦ absurd (ne (omega arith)) ]
-
--- each row is one of a dart
-pub row_there : (g : Skeleton) (rows : List ListedDart) → rows ≡ dart_rows g → (k : ℕ) → k < length rows → k < length (dart_list g)
-row_there g rows e k l = let n = rows_length g in let m = ap length e in omega arith
 
 module _ (g : Skeleton) (rows : List ListedDart) (e : rows ≡ dart_rows g) (ps : List ℕ) (h : AreAround g ps) where
   -- a place is one of a row

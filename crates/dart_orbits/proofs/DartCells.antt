@@ -5,14 +5,14 @@ use Rattle.std.proofs.lemmas.List.Elements.{Contains-get_or}
 use Rattle.plane_graphs.proofs.Ascending.{to_member, from_member}
 use Rattle.slab_laws.specs.Skeleton.{Skeleton, IsPlaneSkeleton}
 use Rattle.slab_laws.specs.Darts.{Dart, darts}
-use Rattle.slab_laws.specs.Rotation.{dart_cmp, same_dart}
+use Rattle.slab_laws.specs.Rotation.{same_dart}
 use Rattle.slab_laws.specs.Rows.{dart_list, dart_at, no_dart, dart_place, least_dart_of}
 use Rattle.slab_faces.proofs.Member.{member_in, in_member}
 use Rattle.slab_faces.proofs.NextLemmas.{darts_exact, dart_out}
 use Rattle.slab_faces.proofs.CyclesLemmas.{one_to_one}
 use Rattle.slab_faces.proofs.ClassesLemmas.{IsEquivalence}
-use Rattle.slab_faces.proofs.DartOrder.{dart_cmp_total, list_ascends, listed_out as out_of_list, listed_in as into_list, along}
-use Rattle.slab_faces.proofs.Places.{same_place, place_at}
+use Rattle.slab_faces.proofs.DartOrder.{listed_out as out_of_list, listed_in as into_list, along}
+use Rattle.slab_faces.proofs.Places.{same_place}
 
 module _ (g : Skeleton) (plane : IsPlaneSkeleton g) where
   -- ---- the list
@@ -39,9 +39,6 @@ module _ (g : Skeleton) (plane : IsPlaneSkeleton g) where
   -- ---- places
   pub dart_there : (k : ℕ) → k < length (dart_list g) → Contains (dart_list g) (dart_at g k)
   dart_there k h = Contains-get_or (dart_list g) k no_dart h
-
-  pub place_of_dart : (k : ℕ) → k < length (dart_list g) → dart_place g (dart_at g k) ≡ k
-  place_of_dart k h = place_at dart_cmp dart_cmp_total same_dart darts_exact (dart_list g) (list_ascends g plane) k no_dart h
 
   pub same_dart_place : (d e : Dart) → Contains (dart_list g) d → Contains (dart_list g) e → (dart_place g d == dart_place g e) ≡ same_dart d e
   same_dart_place d e D E = same_place same_dart darts_exact (dart_list g) d e D E

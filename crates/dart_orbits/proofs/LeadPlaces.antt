@@ -25,7 +25,7 @@ module _ (g : Skeleton) (plane : IsPlaneSkeleton g) (nexts : List ℕ) (e : next
   unfolding next_places
   nexts_length = ap length e ∙ length-map (dart_list g) (λ d. dart_place g (next (darts g) d))
 
-  next_at : (k : ℕ) → k < length (dart_list g) → get_or nexts k 0 ≡ dart_place g (next (darts g) (dart_at g k))
+  pub next_at : (k : ℕ) → k < length (dart_list g) → get_or nexts k 0 ≡ dart_place g (next (darts g) (dart_at g k))
   unfolding next_places
   next_at k l = ap (λ ns. get_or ns k 0) e ∙ get_or-map (λ d. dart_place g (next (darts g) d)) (dart_list g) k no_dart 0 l
 

@@ -7,7 +7,8 @@ use Rattle.integers.proofs.Tests.{not_true}
 use Rattle.slab_laws.specs.Skeleton.{Skeleton, IsPlaneSkeleton}
 use Rattle.slab_laws.specs.Rows.{dart_list, dart_at, no_dart, dart_place, least_dart_of, lead_places}
 use Rattle.slab_laws.specs.Rotation.{same_dart}
-use Rattle.dart_orbits.proofs.DartCells.{dart_there, lead_there, place_of_dart, same_dart_place}
+use Rattle.dart_orbits.proofs.DartCells.{dart_there, lead_there, same_dart_place}
+use Rattle.dart_orbits.proofs.Listed.{place_of_dart}
 
 module _ (g : Skeleton) where
   pub leads_length : length (lead_places g) ≡ length (dart_list g)

@@ -22,7 +22,8 @@ use Rattle.slab_faces.proofs.NextLemmas.{darts_exact}
 use Rattle.plane_graphs.proofs.Sorting.{rises}
 use Rattle.slab_faces.proofs.Places.{place_before}
 use Rattle.slab_faces.proofs.DartOrder.{dart_cmp_total, tied_darts, list_ascends}
-use Rattle.dart_orbits.proofs.DartCells.{listed_in, listed_out, lead_there, place_of_dart, same_dart_place}
+use Rattle.dart_orbits.proofs.DartCells.{listed_in, listed_out, lead_there, same_dart_place}
+use Rattle.dart_orbits.proofs.Listed.{place_of_dart}
 use Rattle.integers.proofs.Tests.{not_true}
 
 -- ---- lists

@@ -29,6 +29,7 @@ use Rattle.slab_faces.proofs.Places.{points_exact, edges_exact}
 use Rattle.slab_faces.proofs.NextLemmas.{darts_exact, dart_out, dart_in}
 use Rattle.slab_faces.proofs.DartOrder.{dart_cmp_total, list_ascends, listed_out, listed_in}
 use Rattle.dart_orbits.specs.DartRows.{edge_rows, row_dart}
+use Rattle.dart_orbits.specs.Ways.{no_row}
 use Rattle.dart_orbits.proofs.Placed.{AreApart, one_place, place_at, place_within, at_place, counted_apart, ascending_apart, lower}
 use Rattle.dart_orbits.proofs.RowOrder.{row_cmp, row_cmp_total, untied}
 use Rattle.integers.proofs.Tests.{nat_less}
@@ -37,6 +38,10 @@ use Rattle.integers.proofs.Tests.{nat_less}
 pub rows_length : (g : Skeleton) → length (dart_rows g) ≡ length (dart_list g)
 unfolding dart_rows
 rows_length g = length-map (dart_list g) (dart_row g)
+
+-- each row is one of a dart
+pub row_there : (g : Skeleton) (rows : List ListedDart) → rows ≡ dart_rows g → (k : ℕ) → k < length rows → k < length (dart_list g)
+row_there g rows e k l = let n = rows_length g in let m = ap length e in omega arith
 
 module _ (g : Skeleton) (plane : IsPlaneSkeleton g) where
   -- ---- edges
@@ -82,6 +87,9 @@ module _ (g : Skeleton) (plane : IsPlaneSkeleton g) where
   pub row_at : (k : ℕ) (r : ListedDart) → k < length (dart_list g) → get_or (dart_rows g) k r ≡ dart_row g (dart_at g k)
   unfolding dart_rows
   row_at k r l = get_or-map (dart_row g) (dart_list g) k no_dart r l
+
+  pub source_of_row : (rows : List ListedDart) → rows ≡ dart_rows g → (k : ℕ) → k < length (dart_list g) → (get_or rows k no_row).source ≡ vertex_place g (source (dart_at g k))
+  source_of_row rows e k l = ap (λ rs. (get_or rs k no_row).source) e ∙ ap (λ (r : ListedDart). r.source) (row_at k no_row l)
 
   pub source_in : (d : Dart) → Contains g.edges d.edge → Contains g.vertices (source d)
   source_in d E = start_of d.edge d.forward E

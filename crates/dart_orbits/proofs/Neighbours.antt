@@ -14,10 +14,10 @@ use Rattle.slab_laws.specs.SpansDrawn.{drawn, edge_of}
 use Rattle.slab_faces.proofs.RotationLemmas.{round_at}
 use Rattle.dart_orbits.specs.DartRows.{place_after}
 use Rattle.dart_orbits.specs.Turns.{comes_first}
-use Rattle.dart_orbits.proofs.Listed.{dart_there, rows_length, row_at, source_in, one_vertex}
+use Rattle.dart_orbits.proofs.Listed.{dart_there, rows_length, source_of_row, source_in, one_vertex}
 use Rattle.dart_orbits.proofs.NextPlaces.{first_is}
 use Rattle.dart_orbits.specs.Around.{source_placed, AreAround, AreBySource, IsFirstPlaced, IsFirstAround}
-use Rattle.dart_orbits.specs.Ways.{no_row, row_in}
+use Rattle.dart_orbits.specs.Ways.{row_in}
 
 -- ---- the first of a source
 module _ (rows : List ListedDart) (ps : List ℕ) (up : AreBySource rows ps) (v i : ℕ) (l : i < length ps) (own : source_placed rows ps i ≡ v) where
@@ -66,7 +66,7 @@ by_next true false z e f = absurd (false≢true e)
 by_next false true z e f = refl
 by_next false false z e f = absurd (false≢true e)
 
-by_first : (x y z : Bool) → x ≡ false → y ≡ false → z ≡ false → cond x (cond y z true) (cond y false z) ≡ false
+pub by_first : (x y z : Bool) → x ≡ false → y ≡ false → z ≡ false → cond x (cond y z true) (cond y false z) ≡ false
 by_first true y z e f h = absurd (false≢true (sym e))
 by_first false true z e f h = absurd (false≢true (sym f))
 by_first false false z e f h = h
@@ -82,7 +82,7 @@ module _ (points : List Point) (edges : List Span) (rows : List ListedDart) (pla
   dart i = dart_at G (get_or ps i 0)
 
   from_row : (k : ℕ) → k < length (dart_list (drawn points edges)) → (row_in rows k).source ≡ vertex_place (drawn points edges) (source (dart_at (drawn points edges) k))
-  from_row k l = ap (λ rs. (get_or rs k no_row).source) e ∙ ap (λ (r : ListedDart). r.source) (row_at G plane k no_row l)
+  from_row = source_of_row G plane rows e
 
   pub by_source : AreBySource rows ps
   by_source = λ i k l m. let a = h.sources i k l m in let p = from_row (get_or ps i 0) (h.within i (omega arith)) in let q = from_row (get_or ps k 0) (h.within k m) in omega arith

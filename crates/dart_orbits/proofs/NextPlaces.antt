@@ -15,7 +15,7 @@ use Rattle.dart_orbits.specs.DartRows.{row_dart}
 use Rattle.dart_orbits.specs.Turns.{comes_first}
 use Rattle.dart_orbits.specs.Ways.{no_row}
 use Rattle.dart_orbits.proofs.Pushed.{pushed, all_pushed}
-use Rattle.dart_orbits.proofs.Listed.{edge_within, row_dart_is, dart_there, place_of_dart, dart_within, dart_at_place, rows_length, row_at, source_in, one_vertex}
+use Rattle.dart_orbits.proofs.Listed.{edge_within, row_dart_is, dart_there, place_of_dart, dart_within, dart_at_place, rows_length, row_there, row_at, source_in, one_vertex}
 use Rattle.dart_orbits.proofs.Rounds.{first_follows}
 
 -- of the darts with the source of the one at `from`, and of places below i, none is met before the one at `best`, from just
@@ -33,7 +33,7 @@ module _ (points : List Point) (edges : List Span) (rows : List ListedDart) (pla
   row k = get_or rows k no_row
 
   pub within : (k : ℕ) → k < length rows → k < length (dart_list (drawn points edges))
-  within k l = let n = rows_length (drawn points edges) in let m = ap length e in omega arith
+  within = row_there (drawn points edges) rows e
 
   row_is : (k : ℕ) → k < length rows → get_or rows k no_row ≡ dart_row (drawn points edges) (dart_at (drawn points edges) k)
   row_is k l = ap (λ rs. get_or rs k no_row) e ∙ row_at G plane k no_row (within k l)

@@ -2,6 +2,7 @@
 use Rattle.std.proofs.Common.{◌≡◌, Bool, true, false, cond, refl, sym, ap, ◌∙◌}
 use Rattle.std.specs.List.{Contains}
 use Rattle.std.proofs.lemmas.Bool.{false≢true}
+use Rattle.integers.proofs.Tests.{not_true}
 use Rattle.exact_plane.specs.Point.{Point}
 use Rattle.slab_laws.specs.Skeleton.{Skeleton, IsPlaneSkeleton}
 use Rattle.slab_laws.specs.Darts.{Dart}
@@ -55,10 +56,6 @@ module _ (P : Dart → Type 0) (o : IsRound earlier P) (d : Dart) where
 
 -- ---- what follows a dart
 module _ (g : Skeleton) (v : Point) (plane : IsPlaneSkeleton g) (in' : Contains g.vertices v) where
-  not_true : (b : Bool) → (b ≡ true → ⊥) → b ≡ false
-  not_true true h = absurd (h refl)
-  not_true false h = refl
-
   -- no dart out of the vertex is met before the one that follows
   none_sooner : (d e c : Dart) → Follows g v plane in' d e → OutOf g v c → comes_first d c e ≡ false
   unfolding sooner_by

@@ -2,11 +2,10 @@
 use Rattle.std.proofs.Common.{◌≡◌, ℕ, ◌+◌, ◌<◌, ◌≤◌, arith, sym, ap, ◌∙◌, subst, inl, inr, List, length, get_or}
 use Rattle.std.specs.List.{range_with_len}
 use Rattle.std.proofs.lemmas.Bool.{cases_lt}
-use Rattle.std.proofs.lemmas.List.{get_or-map, length-map}
 use Rattle.slab_laws.specs.declared.classes.Link.{Link}
 use Rattle.slab_laws.specs.Darts.{darts}
 use Rattle.slab_laws.specs.Rotation.{next}
-use Rattle.slab_laws.specs.Rows.{dart_list, no_dart, dart_at, dart_place, next_places, lead_places}
+use Rattle.slab_laws.specs.Rows.{dart_list, dart_at, dart_place, next_places, lead_places}
 use Rattle.slab_laws.specs.Skeleton.{Skeleton, IsPlaneSkeleton}
 use Rattle.slab_faces.proofs.ClassesLemmas.{IsEquivalence, along_link, connected}
 use Rattle.slab_faces.proofs.Member.{Member, map_in, map_out}
@@ -14,8 +13,8 @@ use Rattle.slab_faces.proofs.NextLemmas.{next_from, next_one}
 use Rattle.dart_orbits.specs.LeastNumbers.{same_number, is_less}
 use Rattle.dart_orbits.proofs.LeastTransport.{numbers_exact, least_number, least_number-le}
 use Rattle.dart_orbits.specs.CycleLinks.{link_at, place_links}
-use Rattle.dart_orbits.proofs.LeadPlaces.{leads_are}
-use Rattle.dart_orbits.proofs.Listed.{dart_there, dart_within, dart_at_place, place_of_dart}
+use Rattle.dart_orbits.proofs.LeadPlaces.{nexts_length, next_at, next_within, leads_are}
+use Rattle.dart_orbits.proofs.Listed.{dart_there, dart_at_place, place_of_dart}
 use Rattle.dart_orbits.specs.Walks.{ArePermuted, IsMet, AreWhole, IsMarked}
 use Rattle.dart_orbits.proofs.Ranges.{numbers_in, numbers_out}
 
@@ -87,28 +86,19 @@ module _ (nexts : List ℕ) where
 
 -- ---- darts
 module _ (g : Skeleton) (plane : IsPlaneSkeleton g) (nexts : List ℕ) (e : nexts ≡ next_places g) where
-  counted : length nexts ≡ length (dart_list g)
-  unfolding next_places
-  counted = ap length e ∙ length-map (dart_list g) (λ d. dart_place g (next (darts g) d))
-
-  next_at : (k : ℕ) → k < length (dart_list g) → get_or nexts k 0 ≡ dart_place g (next (darts g) (dart_at g k))
-  unfolding next_places
-  next_at k l = ap (λ ns. get_or ns k 0) e ∙ get_or-map (λ d. dart_place g (next (darts g) d)) (dart_list g) k no_dart 0 l
-
   pub permuted : ArePermuted nexts
   permuted = record {
     within = λ k l.
-        let n = counted in
+        let n = nexts_length g plane nexts e in
         let K : k < length (dart_list g) = omega arith in
-        let a = next_at k K in
-        let b = dart_within g plane (next (darts g) (dart_at g k)) (next_from g (dart_at g k) plane (dart_there g plane k K)).in' in
+        let a = next_within g plane nexts e k K in
         omega arith;
     one = λ j k l m q.
-        let n = counted in
+        let n = nexts_length g plane nexts e in
         let J : j < length (dart_list g) = omega arith in
         let K : k < length (dart_list g) = omega arith in
         let there = λ (i : ℕ) (I : i < length (dart_list g)). dart_at_place g plane (next (darts g) (dart_at g i)) (next_from g (dart_at g i) plane (dart_there g plane i I)).in' in
-        let same = sym (there j J) ∙ ap (dart_at g) (sym (next_at j J) ∙ q ∙ next_at k K) ∙ there k K in
+        let same = sym (there j J) ∙ ap (dart_at g) (sym (next_at g plane nexts e j J) ∙ q ∙ next_at g plane nexts e k K) ∙ there k K in
         sym (place_of_dart g plane j J) ∙ ap (dart_place g) (next_one g (dart_at g j) (dart_at g k) plane (dart_there g plane j J) (dart_there g plane k K) same) ∙ place_of_dart g plane k K;
   }
 

@@ -1,12 +1,11 @@
 -- The order of ways: it tells darts apart, and round one vertex it is the clockwise order.
 use Rattle.std.proofs.Common.{◌≡◌, ℕ, zero, suc, ◌+◌, ◌<◌, ◌≤◌, true, false, arith, refl, sym, ap, ◌∙◌, subst, inl, inr, List, map, length, get_or, Less, Equal, nat_cmp}
-use Rattle.std.specs.Prelude.{ℤ, pos, ◌-ℤ◌, ◌*ℤ◌, ◌<ℤ◌}
+use Rattle.std.specs.Prelude.{pos, ◌<ℤ◌}
 use Rattle.std.specs.List.{AllByRecursion, IsDistinct, range_with_len}
 use Rattle.std.specs.List.Sorted.{IsPermutation, IsSorted}
 use Rattle.std.specs.Ordering.{ordering_then, eq_by_cmp}
 use Rattle.std.specs.Cmp.{IsTotalOrder, then_total, on_total, nat_cmp_total, back_total, tied_itself}
 use Rattle.std.proofs.lemmas.Bool.{false_from_ne_true, cases_Bool, ltb-true}
-use Rattle.std.proofs.lemmas.Int.{ints}
 use Rattle.std.proofs.lemmas.List.{length-map, get_or-map}
 use Rattle.std.proofs.lemmas.List.Sorted.{Contains-permutation, IsPermutation-sym}
 use Rattle.integers.proofs.Compare.{less_in}
@@ -33,12 +32,12 @@ use Rattle.slab_faces.proofs.Next.{kind_zero, kind_two}
 use Rattle.slab_faces.proofs.RotationLemmas.{Early, earlier_out, round_at}
 use Rattle.dart_orbits.specs.DartRows.{row_dart}
 use Rattle.dart_orbits.proofs.NextPlaces.{edge_there}
-use Rattle.dart_orbits.proofs.Listed.{dart_there, place_of_dart, rows_length, row_at, row_dart_is, source_in}
+use Rattle.dart_orbits.proofs.Listed.{dart_there, place_of_dart, rows_length, row_at, source_of_row, row_dart_is, source_in}
 use Rattle.rotation_order.specs.Directions.{dart_direction, IsAlong}
 use Rattle.rotation_order.proofs.ClockwiseEdges.{by_directions}
 use Rattle.rotation_order.proofs.EdgeCourses.{quarter_is, turn_of_ways}
 use Rattle.rotation_order.proofs.LineDirections.{quarters}
-use Rattle.exact_plane.proofs.Meetings.{runs}
+use Rattle.exact_plane.proofs.Meetings.{runs, weight_turned}
 use Rattle.dart_orbits.specs.Around.{dart_placed, AreAround}
 use Rattle.dart_orbits.proofs.Ranges.{in_range, range_in}
 use Rattle.dart_orbits.specs.declared.ways.Way.{Way}
@@ -73,13 +72,6 @@ by_slope v w e f h =
     ∙ rw (tied_itself nat_cmp_total w.source, tied_itself nat_cmp_total w.quarter) refl
 
 -- ---- round one point
-less_weight : (l m : Line) → (l.a *ℤ m.b -ℤ m.a *ℤ l.b) <ℤ pos 0 → pos 0 <ℤ weight_of m l
-less_weight l m h =
-    turned (l.a *ℤ m.b) (m.a *ℤ l.b) h
-  where
-    turned : (x y : ℤ) → (x -ℤ y) <ℤ pos 0 → pos 0 <ℤ (y -ℤ x)
-    turned x y h = omega (arith, ints)
-
 module _ (d c : Dart) (l m : Line) (D : IsAlong d l) (C : IsAlong c m) (L : IsForward l.a l.b) (M : IsForward m.a m.b) (s : source d ≡ source c) where
   steeper : turn d ≡ turn c → d.forward ≡ c.forward → earlier d c ≡ true → rise_cmp m l ≡ Less
   steeper t f h =
@@ -88,7 +80,7 @@ module _ (d c : Dart) (l m : Line) (D : IsAlong d l) (C : IsAlong c m) (L : IsFo
         | inr b ↦
             let w : cross (dart_direction l d.forward) (dart_direction m d.forward) <ℤ pos 0 = subst (λ g. cross (dart_direction l d.forward) (dart_direction m g) <ℤ pos 0) (sym f) b.1 in
             let x = subst (λ z. z <ℤ pos 0) (turn_of_ways l m d.forward) w in
-            rise_is m l M L ∙ less_in (pos 0) (weight_of m l) (less_weight l m x)
+            rise_is m l M L ∙ less_in (pos 0) (weight_of m l) (weight_turned l m x)
       ]
 
   pub ways_rise : (v w : Way) → v.source ≡ w.source → v.quarter ≡ turn d → w.quarter ≡ turn c → v.line ≡ l → w.line ≡ m → earlier d c ≡ true → way_cmp v w ≡ Less
@@ -111,9 +103,6 @@ module _ (points : List Point) (edges : List Span) (rows : List ListedDart) (pla
 
   row_is : (k : ℕ) → k < length (dart_list (drawn points edges)) → row_in rows k ≡ dart_row (drawn points edges) (dart_at (drawn points edges) k)
   row_is k l = ap (λ rs. get_or rs k no_row) e ∙ row_at G plane k no_row l
-
-  pub source_of_row : (k : ℕ) → k < length (dart_list (drawn points edges)) → (row_in rows k).source ≡ vertex_place (drawn points edges) (source (dart_at (drawn points edges) k))
-  source_of_row k l = ap (λ (r : ListedDart). r.source) (row_is k l)
 
   way : ℕ → Way
   way k = way_at edges rows k
@@ -152,7 +141,7 @@ module _ (points : List Point) (edges : List Span) (rows : List ListedDart) (pla
   unfolding span way
   rising j k J K s h =
       ways_rise (dart_at G j) (dart_at G k) (span j).line (span k).line (along j J) (along k K) (spans j (within j J)).line.runs (spans k (within k K)).line.runs s (way j) (way k)
-      (source_of_row j J ∙ ap (vertex_place G) s ∙ sym (source_of_row k K)) (quarter_of j J) (quarter_of k K) refl refl h
+      (source_of_row G plane rows e j J ∙ ap (vertex_place G) s ∙ sym (source_of_row G plane rows e k K)) (quarter_of j J) (quarter_of k K) refl refl h
 
   -- so darts of one source that come one after the other by their ways do so clockwise
   clockwise : (j k : ℕ) → j < length (dart_list (drawn points edges)) → k < length (dart_list (drawn points edges)) → source (dart_at (drawn points edges) j) ≡ source (dart_at (drawn points edges) k) → way_cmp (way j) (way k) ≡ Less → earlier (dart_at (drawn points edges) j) (dart_at (drawn points edges) k) ≡ true
@@ -227,8 +216,8 @@ module _ (points : List Point) (edges : List Span) (rows : List ListedDart) (pla
           let I : i < length ws = omega arith in
           subst (λ (a : ℕ). vertex_place G (source (dart_at G a)) ≤ vertex_place G (source (dart_placed G (map dart_of_way ws) k))) (sym (placed i I))
           (subst (λ (b : ℕ). vertex_place G (source (dart_at G (get_or ws i (way 0)).dart)) ≤ vertex_place G (source (dart_at G b))) (sym (placed k K))
-          (let a = source_of_row (get_or ws i (way 0)).dart (inside i I) in
-          let b = source_of_row (get_or ws k (way 0)).dart (inside k K) in
+          (let a = source_of_row G plane rows e (get_or ws i (way 0)).dart (inside i I) in
+          let b = source_of_row G plane rows e (get_or ws k (way 0)).dart (inside k K) in
           let h = by_source (way (get_or ws i (way 0)).dart) (way (get_or ws k (way 0)).dart) (less_at i k l K) in omega arith));
       turns = λ i k l m s.
           let K : k < length ws = short k m in

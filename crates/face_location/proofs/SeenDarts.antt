@@ -34,6 +34,10 @@ pub there : (v : View) (q : Point) (o : Option DartId) → IsSeenOrNone v q o �
 there v q None p = tt
 there v q (Some d) p = p.0.0
 
+pub seen_at_most : (v : View) (q : Point) (o : Option DartId) → IsSeenOrNone v q o → IsSeenAtMost (skeleton_of v) q (edge_along v o)
+seen_at_most v q None p = tt
+seen_at_most v q (Some d) p = p.1
+
 module _ (v : View) (s : IsGraphSound v) (q : Point) (Q : IsProper q) where
   -- ---- the higher of the highest so far and one more
   module _ (d : DartId) (k : IsSeenDart v q d) where
@@ -71,16 +75,12 @@ module _ (v : View) (s : IsGraphSound v) (q : Point) (Q : IsProper q) where
     cleared : (d : DartId) → HasDart v d → IsCleared v q o (edge_in v d)
     cleared d has = by_first v s (λ (e : Edge) (l : Line). IsCleared v q o e) all d has
 
-    at_most : (o : Option DartId) → IsSeenOrNone v q o → IsSeenAtMost (skeleton_of v) q (edge_along v o)
-    at_most None p = tt
-    at_most (Some d) p = p.1
-
     pub off_edges : IsOffEdges v q o
     off_edges = record {
       off = λ d has. (cleared d has).outside;
       highest = record {
         seen = p;
-        highest = levels_tell_highest.highest (skeleton_of v) q (edge_along v o) s.plane Q.positive (at_most o p) (λ f F.
+        highest = levels_tell_highest.highest (skeleton_of v) q (edge_along v o) s.plane Q.positive (seen_at_most v q o p) (λ f F.
             let d = names_are_darts.there v (ahead f) s (dart_there (skeleton_of v) (ahead f) F.in') in
             let e : edge_in v d.0 ≡ f = ap (λ (x : Dart). x.edge) d.2 in
             subst (λ (x : Edge). level (skeleton_of v) q x < levels_to (skeleton_of v) q (edge_along v o)) e ((cleared d.0 d.1).lower (subst (IsSeen (skeleton_of v) q) (sym e) F)));

@@ -9,6 +9,7 @@ use Rattle.std.proofs.lemmas.Bool.{false_from_ne_true, eqb-true, eq-eqb}
 use Rattle.std.proofs.lemmas.Cmp.{on_total, then_total}
 use Rattle.std.proofs.lemmas.List.Sorted.{Contains-permutation, IsPermutation-sym}
 use Rattle.std.proofs.lemmas.Map.Keys.{IsDistinct-IsPermutation}
+use Rattle.integers.proofs.Tests.{turned_test}
 use Rattle.exact_plane.specs.PointOrderLaws.{point_cmp_total}
 use Rattle.plane_graphs.specs.Ascending.{Member, IsAscending}
 use Rattle.plane_graphs.proofs.Ascending.{to_member, from_member, All-member, IsAscending-map, ascending_unique}
@@ -172,12 +173,9 @@ module _ (v : View) (f : Faces) (l : Lists) (s : IsSound v f) (on : AreDartsOn v
   in_order ks p o =
       let there : (k : RankKey) → Member k ks → Member k ranked_keys = λ k m. into k (to_member (outer_keys v f l) k (Contains-permutation ks (outer_keys v f l) k (IsPermutation-sym (outer_keys v f l) ks p) (from_member ks k m))) in
       ascending_unique key_cmp key_total ks ranked_keys
-      (ascend ks o (IsDistinct-IsPermutation same_key_face (λ x y. flip x.face.0 y.face.0) (outer_keys v f l) ks p keys_apart) there)
+      (ascend ks o (IsDistinct-IsPermutation same_key_face (λ x y. turned_test x.face.0 y.face.0) (outer_keys v f l) ks p keys_apart) there)
       ranked_ascend there
       (λ k m. to_member ks k (Contains-permutation (outer_keys v f l) ks k p (from_member (outer_keys v f l) k (back k m))))
-    where
-      flip : (m n : ℕ) → (m == n) ≡ (n == m)
-      flip m n = grind arith
 
   -- so each bounded face has its rank
   pub ranks_given : (rank : FaceId → ℕ) (ks : List RankKey) → IsPermutation (outer_keys v f l) ks → AreInKeyOrder ks → AreRanked rank 1 ks → (a : FaceId) (d : DartId) → IsLeadOf v f a d → rank a ≡ rank_in v f a

@@ -1,12 +1,11 @@
 -- Location answers the rank of the face that is named.
-use Rattle.std.proofs.Common.{◌≡◌, ℕ, ◌+◌, Bool, true, false, cond, refl, sym, ap, ap₂, ◌∙◌, subst, inl, inr, List, [], ◌∷◌}
+use Rattle.std.proofs.Common.{◌≡◌, ℕ, ◌+◌, Bool, false, cond, refl, sym, ap, ap₂, ◌∙◌, subst, inl, inr, List, [], ◌∷◌}
 use Rattle.std.specs.Prelude.{not, Some, None}
 use Rattle.std.specs.List.{position_or_len}
 use Rattle.std.specs.Option.{option_map}
-use Rattle.std.proofs.lemmas.Bool.{false_from_ne_true, eqb-true, eq-eqb}
+use Rattle.std.proofs.lemmas.Bool.{false_from_ne_true}
 use Rattle.plane_graphs.specs.Ascending.{Member}
 use Rattle.plane_graphs.specs.Graph.{Edge}
-use Rattle.plane_graphs.proofs.Lists.{both_ways}
 use Rattle.slab_laws.specs.declared.cell.Cell.TheVariants.{Face}
 use Rattle.slab_laws.specs.declared.names.FaceId.{FaceId}
 use Rattle.slab_laws.specs.declared.slab_cell.SlabCell.{SlabCell}
@@ -20,7 +19,7 @@ use Rattle.slab_laws.specs.Tables.{name_after}
 use Rattle.slab_laws.specs.View.{View, Faces, HasFace, cycle_in, face_id}
 use Rattle.slab_faces.specs.Locations.{IsOnNoEdge}
 use Rattle.slab_faces.specs.LocationLaws.{IsNoVertex}
-use Rattle.slab_faces.proofs.FacesLemmas.{cells_exact, one_label}
+use Rattle.slab_faces.proofs.FacesLemmas.{one_label}
 use Rattle.slab_faces.proofs.LocationLemmas.{location_is}
 use Rattle.slab_faces.proofs.Parity.{same_point_is}
 use Rattle.face_changes.specs.FacesByPairs.{Item, HasItem, name_at, cell_at, first_or}
@@ -28,10 +27,9 @@ use Rattle.face_changes.specs.FacesByPairs.Item.{outside, beside, round}
 use Rattle.sound_views.specs.Orders.{dart_order}
 use Rattle.sound_changes.proofs.KnownNames.{known_point, known_edge}
 use Rattle.record_orders.specs.CycleKeys.{same_face, cycle_keys, ranked_faces}
-use Rattle.arr_text.proofs.FaceNames.{faces_named, first_face}
+use Rattle.arr_text.proofs.FaceNames.{faces_named, first_face, same_faces}
 use Rattle.face_ranks.specs.Ranks.{rank_in, FaceIsLocated}
 use Rattle.face_ranks.proofs.AscendingPlaces.{place_of_map}
-use Rattle.face_changes.proofs.FacesByPairs.{by_number}
 use Rattle.face_ranks.proofs.RankedOuter.{ranked_are, ranked_has}
 
 -- tests that agree on the elements find one place
@@ -48,13 +46,6 @@ module _ (v : View) (f : Faces) (s : IsSound v f) where
   abbrev cell : FaceId → SlabCell
   cell = s.faced.0
 
-  -- names are one exactly where their cells are
-  same_faces : (a b : FaceId) → HasFace f a → HasFace f b → same_face a b ≡ same_cell (cell a) (cell b)
-  same_faces a b A B =
-      both_ways (same_face a b) (same_cell (cell a) (cell b))
-      (λ t. subst (λ x. same_cell (cell a) (cell x) ≡ true) (by_number a b (eqb-true a.0 b.0 t)) (cells_exact.itself (cell a)))
-      (λ t. eq-eqb a.0 b.0 (ap (λ (x : FaceId). x.0) (s.faced.1.differ a b A B (cells_exact.path (cell a) (cell b) t))))
-
   -- the rank of a name is that of its cell
   pub rank_is : (a : FaceId) → HasFace f a → rank (subdivision (skeleton_of v)) (cell a) ≡ rank_in v f a
   unfolding rank rank_in
@@ -62,7 +53,7 @@ module _ (v : View) (f : Faces) (s : IsSound v f) where
       let fs = ranked_faces f (cycle_keys f (dart_order v)) in
       ap (position_or_len (same_cell (cell a))) (sym (faces_named v f s cell s.faced.1))
       ∙ place_of_map cell (same_cell (cell a)) fs
-      ∙ sym (place_same (same_face a) (λ b. same_cell (cell a) (cell b)) fs (λ b m. same_faces a b A (ranked_has v f s a b A (subst (Member b) (ranked_are v f s a A) m))))
+      ∙ sym (place_same (same_face a) (λ b. same_cell (cell a) (cell b)) fs (λ b m. same_faces v f s s.faced.0 s.faced.1 a b A (ranked_has v f s a b A (subst (Member b) (ranked_are v f s a A) m))))
 
   -- ---- what has a face
   item_face : (i : Item) → HasItem v i → HasFace f (name_at f i) × (cell (name_at f i) ≡ face_of (face_labels (skeleton_of v)) (cell_at v i))

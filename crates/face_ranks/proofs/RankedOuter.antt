@@ -33,7 +33,7 @@ use Rattle.sound_views.proofs.FacesAscend.{distinct_ascends, none_before, first_
 use Rattle.sound_views.proofs.FirstDarts.{of_distinct}
 use Rattle.sound_views.proofs.ListedPlaces.{Rising, rising_map, rising_ascending, to_in}
 use Rattle.sound_views.proofs.NamedDarts.{names_are_darts}
-use Rattle.sound_views.proofs.NamesOrdered.{darts_are_ordered}
+use Rattle.sound_views.proofs.NamesOrdered.{dart_ordered, ordered_dart}
 use Rattle.record_orders.specs.CycleKeys.{same_cycle, cycle_key, same_face, first_faces, ranked_faces, cycle_keys}
 use Rattle.face_changes.proofs.FacesByPairs.{by_number}
 use Rattle.face_steps.proofs.CyclesApart.{cycle_by_number}
@@ -107,11 +107,8 @@ module _ (v : View) (f : Faces) (s : IsSound v f) where
   abbrev pub outers : List DartId
   outers = filter is_of_outer firsts
 
-  ordered : (d : DartId) → HasDart v d → Member d (dart_order v)
-  ordered d has = to_member (dart_order v) d ((darts_are_ordered v d s.graph).0 has)
-
   first_has : (d : DartId) → Member d firsts → HasDart v d
-  first_has d m = (darts_are_ordered v d s.graph).1 (from_member (dart_order v) d (of_distinct (same_cycle f) d (dart_order v) m))
+  first_has d m = ordered_dart v s.graph d (of_distinct (same_cycle f) d (dart_order v) m)
 
   firsts_ascend : IsAscending (by_ends v) firsts
   firsts_ascend = distinct_ascends (by_ends v) (ends_total v) (same_cycle f) (dart_order v) (order_ascends v)
@@ -130,7 +127,7 @@ module _ (v : View) (f : Faces) (s : IsSound v f) where
       let L = lead_there g s.graph.plane (dart_in v d) H in
       let k = names_are_darts.there v (lead_in v d) s.graph (from_member _ _ L) in
       let one : lead_in v k.0 ≡ lead_in v d = ap (least_dart_of g) k.2 ∙ lead_lead g (dart_in v d) in
-      let none = none_before (by_ends v) (ends_total v) (same_cycle f) (dart_order v) (order_ascends v) d k.0 m (ordered k.0 k.1) (on_one k.0 d ((s.cycled.orbits k.0 d k.1 D).1 one)) in
+      let none = none_before (by_ends v) (ends_total v) (same_cycle f) (dart_order v) (order_ascends v) d k.0 m (dart_ordered v s.graph k.0 k.1) (on_one k.0 d ((s.cycled.orbits k.0 d k.1 D).1 one)) in
       step (dart_cmp (dart_in v d) (lead_in v d)) refl (λ e. tied_darts g s.graph.plane (dart_in v d) (lead_in v d) H L e) (λ e. none (subst (λ (h : Dart). dart_cmp h (dart_in v d) ≡ Less) (sym k.2) e))
     where
       step : (o : Ordering) → dart_cmp (dart_in v d) (lead_in v d) ≡ o → (dart_cmp (dart_in v d) (lead_in v d) ≡ Equal → dart_in v d ≡ lead_in v d) → (dart_cmp (lead_in v d) (dart_in v d) ≡ Less → ⊥) → dart_in v d ≡ lead_in v d
@@ -140,9 +137,9 @@ module _ (v : View) (f : Faces) (s : IsSound v f) where
 
   first_least_dart : (d : DartId) → HasDart v d → dart_in v d ≡ lead_in v d → Member d firsts
   first_least_dart d D own =
-      first_there (by_ends v) (ends_total v) (same_cycle f) (dart_order v) (order_ascends v) d (ordered d D)
+      first_there (by_ends v) (ends_total v) (same_cycle f) (dart_order v) (order_ascends v) d (dart_ordered v s.graph d D)
       (λ y m same less.
-      let Y = (darts_are_ordered v y s.graph).1 (from_member (dart_order v) y m) in
+      let Y = ordered_dart v s.graph y m in
       let one = (s.cycled.orbits y d Y D).0 (cycle_by_number (cycle_in f y) (cycle_in f d) (eqb-true (cycle_in f y).0 (cycle_in f d).0 same)) in
       clash (ap is_lt less) (subst (λ (h : Dart). dart_below (dart_in v y) h ≡ false) (one ∙ sym own) (lead_not_after g (dart_in v y))))
 
@@ -204,7 +201,7 @@ module _ (v : View) (f : Faces) (s : IsSound v f) where
       let L = outer_lead d M in
       let K = outer_lead e N in
       let h = by_number (face_beside d) (face_beside e) (eqb-true (face_beside d).0 (face_beside e).0 t) in
-      none_before (by_ends v) (ends_total v) (same_cycle f) (dart_order v) (order_ascends v) e d (of_filter is_of_outer e firsts N).0 (ordered d L.has)
+      none_before (by_ends v) (ends_total v) (same_cycle f) (dart_order v) (order_ascends v) e d (of_filter is_of_outer e firsts N).0 (dart_ordered v s.graph d L.has)
       (on_one d e (one_outer (face_beside e) (cycle_in f d) (cycle_in f e) (subst (λ x. IsOuterOf f x (cycle_in f d)) h L.outer) K.outer)) l)
 
   -- no two are one

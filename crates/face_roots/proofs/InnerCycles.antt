@@ -70,7 +70,7 @@ tally_pos b h = ap tally h
 
 module _ (g : Skeleton) (plane : IsPlaneSkeleton g) where
   -- an edge's lower end comes before its upper end
-  rises : (e : Edge) → Contains g.edges e → precedes e.low e.high ≡ true
+  pub rises : (e : Edge) → Contains g.edges e → precedes e.low e.high ≡ true
   rises e E = elim (cases_Bool (left_of e.low e.high)) [
     | inl a ↦ or_left _ _ a
     | inr a ↦ or_right (left_of e.low e.high) _ (and_from _ _ (ap not (plane.forward e E)) (plane.upright e E (rw (a, plane.forward e E) refl)))

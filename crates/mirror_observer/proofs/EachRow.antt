@@ -1,18 +1,10 @@
 -- Every row of a table changed: twice, alike, not at all, and beside one row more or fewer.
-use Rattle.std.proofs.Common.{◌≡◌, ℕ, ◌==◌, Bool, true, false, cond, List, [], ◌∷◌, Option, Some, None, is_some, IsSome, option_map, refl, sym, ap, ap₂, ◌∙◌, inl, inr}
+use Rattle.std.proofs.Common.{◌≡◌, ℕ, ◌==◌, Bool, true, false, cond, List, [], ◌∷◌, Option, Some, None, is_some, IsSome, option_map, refl, sym, ap, ap₂, ◌∙◌}
 use Rattle.std.specs.Prelude.{nat_lt, ◌||◌}
-use Rattle.std.proofs.lemmas.Bool.{cases_eq}
 use Rattle.slab_laws.specs.Tables.{row_at, names, NamesAscend}
 use Rattle.arr_notes.proofs.RowLaws.{row_at-each, ascend-each, one_table}
 use Rattle.arr_notes.specs.NamedRows.{put, del, each, edit}
-use Rattle.integers.proofs.Tests.{other_number, same_number}
-
--- a number told from another one either way round
-pub turned_test : (m n : ℕ) → (m == n) ≡ (n == m)
-turned_test m n = elim (cases_eq m n) [
-  | inl q ↦ ap (λ k. k == n) q ∙ ap (λ k. n == k) (sym q)
-  | inr ne ↦ other_number m n ne ∙ sym (other_number n m (λ e. ne (sym e)))
-]
+use Rattle.integers.proofs.Tests.{same_number, turned_test}
 
 module _ {X : Type 0} where
   further : (b : Bool) (x : X) (rs : List (ℕ × X)) (n : ℕ) → IsSome (row_at rs n) → is_some (cond b (Some x) (row_at rs n)) ≡ true

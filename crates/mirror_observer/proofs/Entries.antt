@@ -1,5 +1,5 @@
 -- A map's entries as a table by name: what is found, inserted, removed and written; and rows read from them.
-use Rattle.std.proofs.Common.{◌≡◌, inl, inr, ℕ, ◌<◌, ◌==◌, Bool, true, false, cond, List, [], ◌∷◌, Option, Some, None, is_some, option_map, refl, sym, ap, ap₂, ◌∙◌, subst, arith, nat_cmp, Ordering, Less, Equal, Greater}
+use Rattle.std.proofs.Common.{◌≡◌, inl, inr, ℕ, ◌<◌, ◌==◌, Bool, true, false, cond, List, [], ◌∷◌, Option, Some, None, is_some, option_map, refl, sym, ap, ap₂, ◌∙◌, subst, arith, nat_cmp, Ordering, Less}
 use Rattle.std.specs.Prelude.{nat_lt}
 use Rattle.std.specs.List.{AllByRecursion}
 use Rattle.std.specs.List.Sorted.{IsStrictlySortedBy}
@@ -13,18 +13,12 @@ use Rattle.slab_laws.specs.Tables.{row_at, names, NamesAscend}
 use Rattle.arr_notes.specs.NamedRows.{put, del, each, edit}
 use Rattle.arr_notes.proofs.RowLaws.{absent, ascend-each, one_table, edit_hit, edit_miss}
 use Rattle.arr_notes.proofs.Reading.{keep}
-use Rattle.integers.proofs.Tests.{other_number, same_number, nat_less, less_nat, nat_lt_yes, nat_lt_no}
+use Rattle.integers.proofs.Tests.{other_number, same_number, nat_tied, nat_more, nat_less, less_nat, nat_lt_yes, nat_lt_no}
 use Rattle.mirror_observer.specs.Tables.{rows}
 
 -- the test by which a map finds a key
 pub key_test : (k n : ℕ) → is_at (nat_cmp k) n ≡ (n == k)
 key_test k n = grind (arith, nat_tests)
-
-pub nat_tied : (m n : ℕ) → m ≡ n → nat_cmp m n ≡ Equal
-nat_tied m n e = grind (arith, nat_tests)
-
-pub nat_more : (m n : ℕ) → n < m → nat_cmp m n ≡ Greater
-nat_more m n l = grind (arith, nat_tests)
 
 all_above : (n : ℕ) (ns : List ℕ) → AllByRecursion (λ m. nat_cmp n m ≡ Less) ns → AllByRecursion (λ m. n < m) ns
 all_above n [] h = tt

@@ -6,8 +6,8 @@ use Rattle.std.specs.BTreeSet.{insert_key}
 use Rattle.std.specs.BTreeMap.{is_at}
 use Rattle.std.proofs.lemmas.Bool.{cases_order, eq-eqb, ne_eqb}
 use Rattle.arr_notes.specs.FaceWriters.{put_name, del_name}
-use Rattle.integers.proofs.Tests.{nat_less, nat_lt_yes, nat_lt_no}
-use Rattle.mirror_observer.proofs.Entries.{key_test, nat_tied, nat_more}
+use Rattle.integers.proofs.Tests.{nat_tied, nat_more, nat_less, nat_lt_yes, nat_lt_no}
+use Rattle.mirror_observer.proofs.Entries.{key_test}
 
 pub name_inserted : (k : ℕ) (ns : List ℕ) → insert_key nat_cmp ns k ≡ put_name k ns
 unfolding put_name

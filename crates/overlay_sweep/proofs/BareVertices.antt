@@ -1,19 +1,17 @@
 -- Vertices without darts: no row has such a vertex for its source, and its face is that of what is directly below.
-use Rattle.std.proofs.Common.{◌≡◌, ℕ, ◌<◌, ◌≤◌, Bool, true, false, cond, ◌&&◌, ◌||◌, arith, sym, ap, ◌∙◌, subst, inl, inr, List, length, get_or, Contains, Less}
+use Rattle.std.proofs.Common.{◌≡◌, ℕ, ◌<◌, Bool, true, false, cond, ◌&&◌, ◌||◌, arith, sym, ap, ◌∙◌, subst, inl, inr, List, length, get_or, Contains}
 use Rattle.std.specs.Prelude.{Option, Some, None, ◌==◌}
 use Rattle.std.specs.List.Sorted.{IsPartitionedBy, IsPartitionPoint}
 use Rattle.std.specs.Option.{option_map}
-use Rattle.std.specs.Ordering.{nat_cmp, bool_cmp, ordering_then}
 use Rattle.std.proofs.lemmas.Bool.{false≢true, cases_lt, and_parts, and_from, eqb-true, eq-eqb, ltb-true, ltb-false, lt-ltb}
 use lib.Dec.{ltb}
-use Rattle.integers.proofs.Tests.{nat_exact, less_nat}
 use Rattle.exact_plane.specs.Point.{Point}
 use Rattle.exact_plane.specs.PointOrder.{point_cmp}
 use Rattle.plane_graphs.specs.Ascending.{IsAscending}
 use Rattle.plane_graphs.specs.Graph.{Edge}
 use Rattle.plane_graphs.proofs.Ascending.{to_member, from_member}
 use Rattle.plane_graphs.proofs.Lists.{any_in, any_out, both_ways, or_left, or_right, or_out}
-use Rattle.plane_graphs.proofs.Sorting.{member_at, parted, rises}
+use Rattle.plane_graphs.proofs.Sorting.{member_at, rises}
 use Rattle.slab_laws.specs.declared.rows.ListedDart.{ListedDart}
 use Rattle.slab_laws.specs.Darts.{Dart, source, start, ahead, back}
 use Rattle.slab_laws.specs.Faces.{face_labels, face_of}
@@ -23,10 +21,9 @@ use Rattle.slab_laws.specs.Slabs.{left_cell}
 use Rattle.slab_laws.specs.Subdivision.{subdivision, rank, has_dart}
 use Rattle.slab_faces.proofs.FacesLemmas.{one_label}
 use Rattle.slab_faces.proofs.Places.{points_exact}
-use Rattle.dart_orbits.proofs.Listed.{dart_there, dart_within, dart_at_place, row_at, rows_ascend, rows_length, source_in}
-use Rattle.dart_orbits.proofs.Placed.{at_place, place_at, ascending_apart}
+use Rattle.dart_orbits.proofs.Listed.{dart_there, dart_within, dart_at_place, source_of_row, rows_ascend, rows_length, source_in}
+use Rattle.dart_orbits.proofs.Placed.{at_place}
 use Rattle.dart_orbits.proofs.RowOrder.{row_cmp}
-use Rattle.exact_plane.specs.PointOrderLaws.{point_cmp_total}
 use Rattle.edges_below.specs.Highest.{IsHighestBelow, highest}
 use Rattle.face_roots.specs.CycleLinks.{IsBare}
 use Rattle.face_roots.proofs.FaceLinks.{links_tell_faces}
@@ -34,18 +31,16 @@ use Rattle.face_roots.proofs.OuterRanks.{first_rank}
 use Rattle.sweep_graphs.specs.declared.edges.EdgeEnds.{EdgeEnds}
 use Rattle.sweep_graphs.specs.Edges.{edge_between}
 use Rattle.sweep_graphs.specs.Traces.{point_at, no_point}
-use Rattle.sweep_graphs.proofs.EdgeOrders.{then_less}
 use Rattle.dart_orbits.specs.Ways.{no_row, row_in}
+use Rattle.subdivision_rows.proofs.SourcePlaces.{sources_rise, sources_parted}
 use Rattle.overlay_sweep.specs.CycleFaces.{rank_round}
 use Rattle.overlay_sweep.specs.EdgesUnder.{AreUnder}
 use Rattle.overlay_sweep.specs.LayerLabels.{rank_beside}
+use Rattle.overlay_sweep.proofs.LabelRounds.{own_place}
 
--- sources don't fall along rows
-sources_rise : (x y : ListedDart) → row_cmp x y ≡ Less → x.source ≤ y.source
-sources_rise x y h = elim (then_less (nat_cmp x.source y.source) (ordering_then (nat_cmp x.target y.target) (ordering_then (nat_cmp x.edge y.edge) (bool_cmp x.forward y.forward))) h) [
-  | inl a ↦ (let k = less_nat x.source y.source a in omega arith)
-  | inr b ↦ (let k = nat_exact x.source y.source b.0 in omega arith)
-]
+-- what is highest below a point is one of the edges
+pub highest_there : (g : Skeleton) (e : Edge) {p : Point} → IsHighestBelow (Contains g.edges) p (Some e) → Contains g.edges e
+highest_there g e (highest x E s t f) = E
 
 module _ (g : Skeleton) (p : Point) where
   starts : (e : Edge) (f : Bool) → start e f ≡ p → same_point e.low p || same_point e.high p ≡ true
@@ -77,18 +72,12 @@ module _ (g : Skeleton) (plane : IsPlaneSkeleton g) (ascend : IsAscending point_
   up = subst (IsAscending row_cmp) (sym told) (rows_ascend g plane ascend)
 
   pub parted_sources : (v : ℕ) → IsPartitionedBy (λ r. ltb r.source v) rows
-  parted_sources v = parted row_cmp (λ r. ltb r.source v) rows up (λ x y _ _ h t. let l = ltb-true y.source v t in let k = sources_rise x y h in lt-ltb x.source v (omega arith))
+  parted_sources = sources_parted rows up
 
   counted : length rows ≡ length (dart_list g)
   counted = ap length told ∙ rows_length g
 
-  source_is : (k : ℕ) → k < length (dart_list g) → (row_in rows k).source ≡ vertex_place g (source (dart_at g k))
-  source_is k l = ap (λ rs. (get_or rs k no_row).source) told ∙ ap (λ r. r.source) (row_at g plane k no_row l)
-
   module _ (v : ℕ) (inside : v < length g.vertices) (n : ℕ) (cut : IsPartitionPoint (λ r. ltb r.source v ≡ true) (λ r. ltb r.source v ≡ false) rows n) where
-    own_place : vertex_place g (point_at g.vertices v) ≡ v
-    own_place = place_at same_point points_exact g.vertices (ascending_apart point_cmp point_cmp_total g.vertices ascend) v no_point inside
-
     -- a row with the source v is that of a dart out of its point
     goes_out : n < length rows → (row_in rows n).source ≡ v → has_dart g (point_at g.vertices v) ≡ true
     goes_out l e =
@@ -96,7 +85,7 @@ module _ (g : Skeleton) (plane : IsPlaneSkeleton g) (ascend : IsAscending point_
         let L : n < length (dart_list g) = omega arith in
         let D = dart_there g plane n L in
         let s = at_place same_point points_exact g.vertices (source (dart_at g n)) no_point (to_member g.vertices (source (dart_at g n)) (source_in g plane (dart_at g n) D)) in
-        dart_has g (point_at g.vertices v) (dart_at g n) D (sym s ∙ ap (point_at g.vertices) (sym (source_is n L) ∙ e))
+        dart_has g (point_at g.vertices v) (dart_at g n) D (sym s ∙ ap (point_at g.vertices) (sym (source_of_row g plane rows told n L) ∙ e))
 
     found : has_dart g (point_at g.vertices v) ≡ true → (n < length rows) × ((row_in rows n).source ≡ v)
     found h =
@@ -104,7 +93,7 @@ module _ (g : Skeleton) (plane : IsPlaneSkeleton g) (ascend : IsAscending point_
         let k = dart_place g d.0 in
         let K : dart_place g d.0 < length (dart_list g) = dart_within g plane d.0 d.1 in
         let q = counted in
-        let s : (row_in rows (dart_place g d.0)).source ≡ v = source_is (dart_place g d.0) K ∙ ap (λ x. vertex_place g (source x)) (dart_at_place g plane d.0 d.1) ∙ ap (vertex_place g) d.2 ∙ own_place in
+        let s : (row_in rows (dart_place g d.0)).source ≡ v = source_of_row g plane rows told (dart_place g d.0) K ∙ ap (λ x. vertex_place g (source x)) (dart_at_place g plane d.0 d.1) ∙ ap (vertex_place g) d.2 ∙ own_place g plane ascend v inside in
         elim (cases_lt (dart_place g d.0) n) [
           | inl a ↦ absurd (let t = ltb-true (row_in rows (dart_place g d.0)).source v (cut.0 (dart_place g d.0) no_row (omega arith) a) in omega arith)
           | inr a ↦
@@ -132,10 +121,7 @@ module _ (g : Skeleton) (plane : IsPlaneSkeleton g) (es : List (Option EdgeEnds)
   under_there = let c = u.counted in omega arith
 
   pub under_in : (e : EdgeEnds) (x : Option EdgeEnds) → x ≡ get_or es v None → x ≡ Some e → Contains g.edges (edge_between g.vertices e)
-  under_in e x q s = taken (is_under (Some e) (sym s ∙ q))
-    where
-      taken : {r : Point} → IsHighestBelow (Contains g.edges) r (Some (edge_between g.vertices e)) → Contains g.edges (edge_between g.vertices e)
-      taken (highest x E s t f) = E
+  under_in e x q s = highest_there g (edge_between g.vertices e) (is_under (Some e) (sym s ∙ q))
 
   here : Contains g.vertices (point_at g.vertices v)
   here = from_member g.vertices (point_at g.vertices v) (member_at g.vertices v no_point inside)

@@ -17,7 +17,7 @@ use Rattle.plane_graphs.specs.Ascending.{Member, IsAscending}
 use Rattle.plane_graphs.specs.Fit.{IsFit}
 use Rattle.plane_graphs.specs.Piece.{Piece, Present}
 use Rattle.plane_graphs.proofs.Ascending.{All-member, IsAscending-ascending, ascending_is, from_member}
-use Rattle.plane_graphs.proofs.Lists.{clash, in_map, of_map, in_filter, of_filter, in_right, map_same, map_map, of_ascending, in_ascending}
+use Rattle.plane_graphs.proofs.Lists.{clash, in_map, of_map, in_filter, of_filter, in_right, map_same, map_map}
 use Rattle.plane_graphs.proofs.Sorting.{member_at}
 use Rattle.present_graphs.specs.Spans.{span_of_piece}
 use Rattle.slab_laws.specs.declared.names.CurveId.{CurveId}
@@ -34,19 +34,17 @@ use Rattle.sweep_graphs.specs.declared.trace.Trace.{Trace}
 use Rattle.sweep_graphs.specs.Edges.{ends_of, ends_cmp, stretch_cmp, edge_between}
 use Rattle.sweep_graphs.specs.TraceLaws.{IsTraceOf}
 use Rattle.sweep_graphs.specs.Traces.{IsTrace}
-use Rattle.sweep_graphs.proofs.EdgeOrders.{ends_cmp_total, ends_cmp_exact, ends_ties, stretch_cmp_total, stretch_cmp_exact}
+use Rattle.sweep_graphs.proofs.EdgeOrders.{ends_cmp_total, ends_never, ends_cmp_exact, ends_ties, stretch_cmp_total}
 use Rattle.subdivision_rows.specs.LayerTables.{numbers_in}
 use Rattle.overlay_sweep.specs.EdgeCurves.{is_along, own_curve, own_numbers, own_rows}
 use Rattle.overlay_sweep.specs.declared.graphs.LayerGraph.{LayerGraph}
 use Rattle.overlay_sweep.specs.LayerGraphs.{IsLayerGraph, ArePiecesFrom}
 use Rattle.overlay_sweep.specs.PiecesAlong.{IsAlongSome}
+use Rattle.overlay_sweep.proofs.OwnEdges.{some_along, ends_in, edges_told, stretch_out, stretch_in}
 use Rattle.overlay_sweep.proofs.PiecesAlong.{ends_rise}
 use Rattle.overlay_sweep.proofs.RunsAlong.{runs_there, own_there}
 
 -- ---- the test
-never_less : (e : EdgeEnds) → ends_cmp e e ≡ Less → ⊥
-never_less e h = let t = tied_itself ends_cmp_total e in cc
-
 along_out : (e : EdgeEnds) (s : Stretch) → is_along e s ≡ true → ends_of s ≡ e
 along_out e s h = ends_cmp_exact (ends_of s) e (is_equal (ends_cmp (ends_of s) e) (sym (ends_ties (ends_of s) e) ∙ h))
 
@@ -94,14 +92,14 @@ module _ (e : EdgeEnds) where
     own_is : own ≡ filter (is_along e) xs
     own_is =
         sym (ap (filter (is_along e)) c.whole ∙ filter-append (is_along e) own others
-        ∙ ap₂ (λ ys zs. ys ++ zs) (all_kept (is_along e) own (λ s m. along_in e s (c.along s m))) (none_kept (is_along e) others (λ s m. false_from_ne_true (is_along e s) (λ t. never_less e (subst (λ d. ends_cmp e d ≡ Less) (along_out e s t) (c.beyond s m)))))
+        ∙ ap₂ (λ ys zs. ys ++ zs) (all_kept (is_along e) own (λ s m. along_in e s (c.along s m))) (none_kept (is_along e) others (λ s m. false_from_ne_true (is_along e s) (λ t. ends_never e (subst (λ d. ends_cmp e d ≡ Less) (along_out e s t) (c.beyond s m)))))
         ∙ append-nil own)
 
     -- along a later edge run others
     others_are : (d : EdgeEnds) → ends_cmp e d ≡ Less → filter (is_along d) others ≡ filter (is_along d) xs
     others_are d l =
         sym (ap (filter (is_along d)) c.whole ∙ filter-append (is_along d) own others
-        ∙ ap (λ ys. ys ++ filter (is_along d) others) (none_kept (is_along d) own (λ s m. false_from_ne_true (is_along d s) (λ t. never_less e (subst (λ z. ends_cmp e z ≡ Less) (sym (along_out d s t) ∙ c.along s m) l)))))
+        ∙ ap (λ ys. ys ++ filter (is_along d) others) (none_kept (is_along d) own (λ s m. false_from_ne_true (is_along d s) (λ t. ends_never e (subst (λ z. ends_cmp e z ≡ Less) (sym (along_out d s t) ∙ c.along s m) l)))))
 
 -- ---- the rows in step are those of all stretches along each edge
 pub rows_are : (ks : List PieceInMemory) (first : ℕ) (es : List EdgeEnds) (xs : List Stretch) → IsAscending ends_cmp es → IsAscending stretch_cmp xs → ((s : Stretch) → Member s xs → Member (ends_of s) es) → own_rows ks first es xs ≡ map (λ e. own_numbers ks first (filter (is_along e) xs)) es
@@ -113,7 +111,7 @@ rows_are ks first (e ∷ es) xs up ascends each =
     let later : (d : EdgeEnds) → Member d es → ends_cmp e d ≡ Less = λ d m. All-member (λ z. ends_cmp e z ≡ Less) d es up.0 m in
     let c = cut e xs ascends (λ s m. ⊎_elim (λ i. inl i) (λ j. inr (later (ends_of s) j)) (each s m)) in
     let rest : IsAscending stretch_cmp others = ascends_right stretch_cmp own others (subst (λ (zs : List Stretch). IsAscending stretch_cmp zs) c.whole ascends) in
-    let listed : (s : Stretch) → Member s others → Member (ends_of s) es = λ s m. ⊎_elim (λ i. absurd (never_less e (subst (λ d. ends_cmp e d ≡ Less) i (c.beyond s m)))) (λ j. j) (each s (subst (Member s) (sym c.whole) (in_right s own others m))) in
+    let listed : (s : Stretch) → Member s others → Member (ends_of s) es = λ s m. ⊎_elim (λ i. absurd (ends_never e (subst (λ d. ends_cmp e d ≡ Less) i (c.beyond s m)))) (λ j. j) (each s (subst (Member s) (sym c.whole) (in_right s own others m))) in
     ap₂ (λ r rs. r ∷ rs) (ap (own_numbers ks first) (own_is e xs own others c))
     (rows_are ks first es others up.1 rest listed ∙ map_same (λ d. own_numbers ks first (filter (is_along d) others)) (λ d. own_numbers ks first (filter (is_along d) xs)) es (λ d m. ap (own_numbers ks first) (others_are e xs own others c d (later d m))))
 
@@ -255,30 +253,13 @@ module _ (w : Present) (fit : IsFit w) (layer : PresentInMemory) (whole : LayerG
   abbrev points : List Point
   points = whole.trace.points
 
-  into : (s : Stretch) → Member s whole.stretches.items → Member s stretches
-  into s m = of_ascending stretch_cmp stretch_cmp_total stretch_cmp_exact s stretches (subst (λ (xs : List Stretch). Member s xs) h.stretches m)
-
-  all : (s : Stretch) → Member s stretches → Member s whole.stretches.items
-  all s m = subst (λ (xs : List Stretch). Member s xs) (sym h.stretches) (in_ascending stretch_cmp stretch_cmp_total stretch_cmp_exact s stretches m)
-
-  edge_in : (s : Stretch) → Member s whole.stretches.items → Member (ends_of s) whole.edges.items
-  edge_in s m = subst (λ (es : List EdgeEnds). Member (ends_of s) es) (sym h.edges) (in_ascending ends_cmp ends_cmp_total ends_cmp_exact (ends_of s) (map ends_of stretches) (in_map ends_of s stretches (into s m)))
-
-  some_along : (e : EdgeEnds) → Member e whole.edges.items → IsAlongSome stretches e
-  some_along e m =
-      let a = of_map ends_of e stretches (of_ascending ends_cmp ends_cmp_total ends_cmp_exact e (map ends_of stretches) (subst (λ (es : List EdgeEnds). Member e es) h.edges m)) in
-      (a.0, a.1, sym a.2)
-
-  edges_are : map (edge_between points) whole.edges.items ≡ (plane_of w).edges
-  edges_are = ap (map (edge_between points)) h.edges ∙ h.graph.edges
-
   pub curves_are : own_rows layer.pieces first whole.edges.items whole.stretches.items ≡ map (curves_along (present_of layer)) (plane_of w).edges
   curves_are =
       rows_are layer.pieces first whole.edges.items whole.stretches.items
       (subst (λ (es : List EdgeEnds). IsAscending ends_cmp es) (sym h.edges) (IsAscending-ascending ends_cmp ends_cmp_total (map ends_of stretches)))
       (subst (λ (xs : List Stretch). IsAscending stretch_cmp xs) (sym h.stretches) (IsAscending-ascending stretch_cmp stretch_cmp_total stretches))
-      edge_in
+      (λ s m. ends_in w whole h s (stretch_out w whole h s m))
       ∙ map_same (λ e. own_numbers layer.pieces first (filter (is_along e) whole.stretches.items)) (λ e. curves_along (present_of layer) (edge_between points e)) whole.edges.items
-      (λ e m. row_is w fit whole.trace h.trace h.graph layer first from whole.stretches.items into all e (some_along e m))
+      (λ e m. row_is w fit whole.trace h.trace h.graph layer first from whole.stretches.items (stretch_out w whole h) (stretch_in w whole h) e (some_along w whole h e m))
       ∙ sym (map_map (edge_between points) (curves_along (present_of layer)) whole.edges.items)
-      ∙ ap (map (curves_along (present_of layer))) edges_are
+      ∙ ap (map (curves_along (present_of layer))) (edges_told w whole h)

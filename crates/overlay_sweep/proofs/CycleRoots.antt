@@ -4,7 +4,6 @@ use Rattle.std.specs.Prelude.{Option, Some, None}
 use Rattle.std.specs.Option.{option_map}
 use Rattle.std.proofs.lemmas.List.{get_or-map, length-map}
 use Rattle.integers.proofs.Tests.{is_less, not_not}
-use Rattle.exact_plane.specs.Point.{Point}
 use Rattle.plane_graphs.specs.Ascending.{Member}
 use Rattle.plane_graphs.proofs.Ascending.{to_member}
 use Rattle.plane_graphs.proofs.Sorting.{member_at}
@@ -22,7 +21,7 @@ use Rattle.dart_orbits.proofs.DartCells.{edge_there}
 use Rattle.dart_orbits.proofs.LeastDarts.{least_there}
 use Rattle.dart_orbits.proofs.Listed.{dart_within, dart_at_place, rows_length, row_at, source_in}
 use Rattle.dart_orbits.proofs.Placed.{at_place, place_within, lower}
-use Rattle.edges_below.specs.Highest.{IsHighestBelow, highest}
+use Rattle.edges_below.specs.Highest.{IsHighestBelow}
 use Rattle.face_changes.specs.Kinds.{is_outer}
 use Rattle.face_roots.specs.CycleRanks.{lead_at}
 use Rattle.face_roots.proofs.OuterRanks.{ranks_by_roots}
@@ -33,6 +32,7 @@ use Rattle.dart_orbits.specs.declared.orbits.Orbits.{Orbits}
 use Rattle.dart_orbits.specs.Orbits.{AreOrbits}
 use Rattle.dart_orbits.specs.Ways.{no_row, row_in}
 use Rattle.overlay_sweep.specs.EdgesUnder.{AreUnder}
+use Rattle.overlay_sweep.proofs.BareVertices.{highest_there}
 use Rattle.overlay_sweep.proofs.EdgeCycles.{leads_ascend, own_lead, cycle_within, upper, lead_face}
 
 module _ (g : Skeleton) (plane : IsPlaneSkeleton g) where
@@ -110,10 +110,7 @@ module _ (g : Skeleton) (plane : IsPlaneSkeleton g) where
 
       module _ (e : EdgeEnds) (q : get_or es (row_in o.darts.items (get_or o.cycles.items c 0)).source None ≡ Some e) where
         pub edge_in : Contains g.edges (edge_between g.vertices e)
-        edge_in = taken (is_under (Some e) (sym q))
-          where
-            taken : {p : Point} → IsHighestBelow (Contains g.edges) p (Some (edge_between g.vertices e)) → Contains g.edges (edge_between g.vertices e)
-            taken (highest x E s t f) = E
+        edge_in = highest_there g (edge_between g.vertices e) (is_under (Some e) (sym q))
 
         pub earlier_cycle : cycle_place g (ahead (edge_between g.vertices e)) < c
         earlier_cycle =

@@ -1,5 +1,5 @@
 -- A cycle is inner exactly where it has the first dart clockwise out of its least vertex.
-use Rattle.std.proofs.Common.{◌≡◌, ◌≢◌, ℕ, ◌<◌, Bool, true, false, cond, not, arith, refl, sym, ap, ◌∙◌, subst, inl, inr, List, length, get_or, Contains}
+use Rattle.std.proofs.Common.{◌≡◌, ◌≢◌, ℕ, ◌<◌, Bool, true, false, not, arith, refl, sym, ap, ◌∙◌, subst, inl, inr, List, length, get_or, Contains}
 use Rattle.std.specs.Prelude.{◌==◌}
 use Rattle.std.proofs.lemmas.Bool.{false≢true, false_from_ne_true, cases_Bool, eqb-true, eq-eqb}
 use Rattle.std.proofs.lemmas.List.{get_or-map, length-map}
@@ -10,7 +10,7 @@ use Rattle.plane_graphs.proofs.Lists.{both_ways, not_out}
 use Rattle.slab_laws.specs.Darts.{Dart, source, darts, start, kind, ahead, back, by_class, on_left, on_right}
 use Rattle.slab_laws.specs.Rotation.{turn, earlier, next, OutOf}
 use Rattle.slab_laws.specs.Rows.{dart_list, no_dart, dart_at, dart_place, least_dart_of, lead_places}
-use Rattle.slab_laws.specs.Skeleton.{Skeleton, IsPlaneSkeleton, left_of, precedes}
+use Rattle.slab_laws.specs.Skeleton.{Skeleton, IsPlaneSkeleton, left_of}
 use Rattle.slab_faces.proofs.Next.{kind_few}
 use Rattle.slab_faces.proofs.RotationLemmas.{Early, earlier_out, earlier_in, round_at}
 use Rattle.slab_faces.proofs.NextLemmas.{dart_in, next_follows, start_in, next_from}
@@ -18,33 +18,22 @@ use Rattle.slab_faces.proofs.CyclesLemmas.{one_cycle}
 use Rattle.dart_orbits.specs.Turns.{comes_first}
 use Rattle.dart_orbits.proofs.Listed.{dart_there, dart_within, dart_at_place, source_in}
 use Rattle.dart_orbits.proofs.DartCells.{edge_there, lead_there, dart_there as listed_there}
+use Rattle.dart_orbits.proofs.Neighbours.{by_first}
 use Rattle.dart_orbits.proofs.Rounds.{first_follows}
 use Rattle.face_changes.specs.Kinds.{is_outer}
 use Rattle.face_roots.specs.CycleLinks.{IsStart, IsFirstOut, StartsAtLeast}
 use Rattle.face_roots.proofs.FaceLinks.{links_tell_faces, lead_before}
+use Rattle.face_roots.proofs.InnerCycles.{rises}
 use Rattle.face_roots.proofs.PointOrder.{before}
 use Rattle.dart_orbits.specs.Around.{IsFirstAround}
-
-by_first : (x y z : Bool) → x ≡ false → y ≡ false → z ≡ false → cond x (cond y z true) (cond y false z) ≡ false
-by_first true y z e f h = absurd (false≢true (sym e))
-by_first false true z e f h = absurd (false≢true (sym f))
-by_first false false z e f h = h
 
 pub leads_length : (g : Skeleton) (leads : List ℕ) → leads ≡ lead_places g → length leads ≡ length (dart_list g)
 unfolding lead_places
 leads_length g leads e = ap length e ∙ length-map (dart_list g) (λ d. dart_place g (least_dart_of g d))
 
 module _ (g : Skeleton) (plane : IsPlaneSkeleton g) where
-  edge_precedes : (e : Edge) → Contains g.edges e → precedes e.low e.high ≡ true
-  edge_precedes e E =
-      let f = plane.forward e E in
-      elim (cases_Bool (left_of e.low e.high)) [
-        | inl t ↦ rw t refl
-        | inr n ↦ (let l = plane.upright e E (rw (n, f) refl) in rw (n, f, l) refl)
-      ]
-
   edge_rises : (e : Edge) → Contains g.edges e → Lt e.low e.high
-  edge_rises e E = let w = plane.proper_edge e E in before e.low e.high w.0 w.1 (edge_precedes e E)
+  edge_rises e E = let w = plane.proper_edge e E in before e.low e.high w.0 w.1 (rises g plane e E)
 
   one_lead : (d : Dart) → Contains g.edges d.edge → least_dart_of g (next (darts g) d) ≡ least_dart_of g d
   one_lead d E = sym (one_cycle g d (dart_in g d.edge d.forward E))

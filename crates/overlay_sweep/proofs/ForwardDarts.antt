@@ -2,7 +2,6 @@
 use Rattle.std.proofs.Common.{◌≡◌, ◌⊎◌, ℕ, ◌<◌, Bool, true, false, arith, sym, ap, ◌∙◌, subst, inl, inr, List, length, get_or, Contains, Less, pos, ◌<ℤ◌}
 use Rattle.std.specs.List.Sorted.{IsPartitionedBy, IsPartitionPoint}
 use Rattle.std.specs.Ordering.{is_lt, nat_cmp, bool_cmp, ordering_then}
-use Rattle.std.specs.Cmp.{tied_itself}
 use Rattle.std.proofs.lemmas.Bool.{false≢true, cases_lt}
 use Rattle.std.proofs.lemmas.Int.{ints}
 use Rattle.std.proofs.lemmas.List.{get_or_past}
@@ -24,7 +23,7 @@ use Rattle.dart_orbits.proofs.RowOrder.{row_cmp}
 use Rattle.sweep_graphs.specs.declared.edges.EdgeEnds.{EdgeEnds}
 use Rattle.sweep_graphs.specs.Edges.{ends_cmp, edge_between}
 use Rattle.sweep_graphs.specs.Traces.{point_at, no_point}
-use Rattle.sweep_graphs.proofs.EdgeOrders.{then_less, ends_cmp_total}
+use Rattle.sweep_graphs.proofs.EdgeOrders.{then_less, ends_cmp_total, ends_never}
 use Rattle.dart_orbits.specs.Ways.{no_row, row_in}
 use Rattle.overlay_sweep.specs.DartEnds.{ends_of_row}
 
@@ -84,9 +83,6 @@ module _ (g : Skeleton) (plane : IsPlaneSkeleton g) (ascend : IsAscending point_
         let r = row_is (dart_place g (ahead (edge_between g.vertices e))) (dart_within g plane (ahead (edge_between g.vertices e)) E) ∙ ap (dart_row g) (dart_at_place g plane (ahead (edge_between g.vertices e)) E) in
         ap ends_of_row r ∙ (λ i. record { low = vertex_at e.low w.0 i; high = vertex_at e.high w.1 i })
 
-    never : (f : EdgeEnds) → ends_cmp f f ≡ Less → ⊥
-    never f h = let t = tied_itself ends_cmp_total f in cc
-
     -- two darts with the same ends are one
     one_place : (j k : ℕ) → j < length rows → k < length rows → ends_of_row (row_in rows j) ≡ ends_of_row (row_in rows k) → j ≡ k
     one_place j k l m q =
@@ -104,7 +100,7 @@ module _ (g : Skeleton) (plane : IsPlaneSkeleton g) (ascend : IsAscending point_
     pub found : (n : ℕ) → IsPartitionPoint (λ r. is_before e r ≡ true) (λ r. is_before e r ≡ false) rows n → n ≡ dart_place g (ahead (edge_between g.vertices e))
     unfolding place
     found n cut = elim (cases_lt place n) [
-      | inl l ↦ absurd (never e (subst (λ f. ends_cmp f e ≡ Less) own_ends (is_less (ends_cmp (ends_of_row (row_in rows place)) e) (cut.0 place no_row (omega arith) l))))
+      | inl l ↦ absurd (ends_never e (subst (λ f. ends_cmp f e ≡ Less) own_ends (is_less (ends_cmp (ends_of_row (row_in rows place)) e) (cut.0 place no_row (omega arith) l))))
       | inr l ↦ elim (cases_lt n place) [
         | inl m ↦
             let w = within in

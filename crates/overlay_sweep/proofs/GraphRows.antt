@@ -1,13 +1,12 @@
 -- The rows of a subdivision by the graph of a present: marks by stretches, kinds and ranks by roots, and the whole.
-use Rattle.std.proofs.Common.{◌≡◌, ℕ, ◌<◌, true, arith, refl, sym, ap, ap₂, ◌∙◌, subst, inl, inr, List, length, map, get_or, nat_cmp, Less, Equal, Result, Ok, Err}
-use Rattle.std.specs.Cmp.{tied_itself}
+use Rattle.std.proofs.Common.{◌≡◌, ℕ, ◌<◌, true, arith, refl, sym, ap, ap₂, ◌∙◌, subst, inl, inr, List, length, map, get_or, nat_cmp, Less, Result, Ok, Err}
 use Rattle.std.specs.List.{list_any}
 use Rattle.std.specs.List.Sorted.{IsBinarySearchResult, IsSearchInRange}
 use Rattle.std.specs.Ordering.{ordering_then}
 use Rattle.std.specs.Result.{is_ok}
 use Rattle.std.proofs.lemmas.Bool.{false_from_ne_true}
 use Rattle.std.proofs.lemmas.List.{ext_get_or, get_or-map, length-map}
-use Rattle.integers.proofs.Tests.{nat_exact, less_nat}
+use Rattle.integers.proofs.Tests.{less_nat}
 use Rattle.exact_plane.specs.Point.{Point}
 use Rattle.exact_plane.specs.PointOrder.{point_cmp}
 use Rattle.exact_plane.specs.PointOrderLaws.{point_cmp_total, same_point as point_cmp_exact}
@@ -44,7 +43,7 @@ use Rattle.face_roots.specs.CycleRanks.{root_at, is_outer_root, lead_at, IsRootO
 use Rattle.sweep_graphs.specs.declared.trace.Stretch.{Stretch}
 use Rattle.sweep_graphs.specs.Edges.{stretch_cmp, curve_at, mark_along}
 use Rattle.sweep_graphs.specs.Traces.{point_at, no_point}
-use Rattle.sweep_graphs.proofs.EdgeOrders.{then_less, stretch_cmp_total, stretch_cmp_exact}
+use Rattle.sweep_graphs.proofs.EdgeOrders.{then_less, one_point, stretch_cmp_total, stretch_cmp_exact}
 use Rattle.subdivision_rows.specs.RowsInMemory.{drawing_of, AreSoundRows}
 use Rattle.subdivision_rows.specs.declared.lists.RowLists.{RowLists}
 use Rattle.subdivision_rows.proofs.SpanLines.{lines_by_spans}
@@ -57,9 +56,6 @@ use Rattle.overlay_sweep.proofs.EdgeCycles.{own_lead}
 -- ---- marks
 -- along points that ascend, and pieces that are numbered by their places, marks keep the order of stretches
 module _ (p : Present) (own : AreNumberedByPlace p) (points : List Point) (up : IsAscending point_cmp points) where
-  one_point : (j k : ℕ) → nat_cmp j k ≡ Equal → point_cmp (point_at points j) (point_at points k) ≡ Equal
-  one_point j k e = subst (λ i. point_cmp (point_at points j) (point_at points i) ≡ Equal) (nat_exact j k e) (tied_itself point_cmp_total (point_at points j))
-
   marks_rise : (s t : Stretch) → IsWithin p points s → IsWithin p points t → stretch_cmp s t ≡ Less → mark_cmp (mark_along p points s) (mark_along p points t) ≡ Less
   unfolding mark_cmp
   marks_rise s t S T h =
@@ -67,9 +63,9 @@ module _ (p : Present) (own : AreNumberedByPlace p) (points : List Point) (up : 
       let by_curves : curves ≡ nat_cmp s.piece t.piece = ap₂ nat_cmp (own s.piece S.piece) (own t.piece T.piece) in
       elim (then_less (nat_cmp s.low t.low) (ordering_then (nat_cmp s.high t.high) (nat_cmp s.piece t.piece)) h) [
         | inl a ↦ ap (λ o. ordering_then o (ordering_then (point_cmp (point_at points s.high) (point_at points t.high)) curves)) (rises point_cmp points up s.low t.low no_point (less_nat s.low t.low a) T.low)
-        | inr a ↦ ap₂ ordering_then (one_point s.low t.low a.0) (elim (then_less (nat_cmp s.high t.high) (nat_cmp s.piece t.piece) a.1) [
+        | inr a ↦ ap₂ ordering_then (one_point points s.low t.low a.0) (elim (then_less (nat_cmp s.high t.high) (nat_cmp s.piece t.piece) a.1) [
           | inl b ↦ ap (λ o. ordering_then o curves) (rises point_cmp points up s.high t.high no_point (less_nat s.high t.high b) T.high)
-          | inr b ↦ ap₂ ordering_then (one_point s.high t.high b.0) (by_curves ∙ b.1)
+          | inr b ↦ ap₂ ordering_then (one_point points s.high t.high b.0) (by_curves ∙ b.1)
         ])
       ]
 

@@ -3,7 +3,7 @@ use Rattle.std.proofs.Common.{◌≡◌, ℕ, ◌+◌, ◌<◌, Bool, true, fals
 use Rattle.std.specs.Prelude.{pos, ◌<ℤ◌, not, ◌&&◌}
 use Rattle.std.specs.List.{count_by, list_any, Contains}
 use Rattle.std.proofs.lemmas.Int.{ints}
-use Rattle.std.proofs.lemmas.Bool.{false≢true, true≢false, or_cases, and_parts, and_from, not-false, or_right, false_from_ne_true, cases_Bool, ltb-true, lt-ltb}
+use Rattle.std.proofs.lemmas.Bool.{false≢true, true≢false, and_from, not-false, or_right, false_from_ne_true, cases_Bool, ltb-true, lt-ltb}
 use lib.Dec.{ltb, leb}
 use Rattle.integers.proofs.Signs.{mul_pos'}
 use Rattle.exact_plane.specs.Point.{Point}
@@ -15,7 +15,7 @@ use Rattle.plane_graphs.proofs.Lines.{zero_out}
 use Rattle.plane_graphs.proofs.Order.{lt_never}
 use Rattle.plane_graphs.proofs.Marks.{Le, le_lt, le_lt_lt, lt_le_lt, le_trans}
 use Rattle.slab_laws.specs.declared.slab_cell.SlabCell.{SlabCell}
-use Rattle.slab_laws.specs.Skeleton.{Skeleton, HasWeight, IsPlaneSkeleton, left_of, lower_than, on_wall, precedes, side, run, foot}
+use Rattle.slab_laws.specs.Skeleton.{Skeleton, HasWeight, IsPlaneSkeleton, left_of, lower_than, on_wall, side, run, foot}
 use Rattle.slab_laws.specs.Slabs.{spans, place, slab_left, slab_right, left_cell, right_cell, left_count, forward_cell, backward_cell}
 use Rattle.slab_laws.specs.Meets.{SameFace, IsOnWall, IsOpenAbove, covers_above, across, here, right}
 use Rattle.slab_laws.specs.Darts.{cell_of, cell_by as beside_edge}
@@ -26,6 +26,7 @@ use Rattle.slab_faces.proofs.Slabs.{IsThrough, place_same}
 use Rattle.slab_faces.proofs.Nudge.{right_inside, is_slab_right}
 use Rattle.slab_faces.proofs.Along.{covers_parts, side_above}
 use Rattle.slab_faces.proofs.Turns.{face_trans, face_sym, face_at, on_own_wall, foot_before, foot_after, foot_on}
+use Rattle.slab_faces.proofs.Points.{before_on_wall}
 use Rattle.slab_faces.proofs.Upright.{one_cover}
 use Rattle.slab_faces.proofs.Corners.{IsAlong, along_left}
 use Rattle.slab_faces.proofs.AddedUpright.{one_slab_left}
@@ -139,15 +140,12 @@ module _ (r g : Skeleton) (own : Edge → Bool) (pr : IsPlaneSkeleton r) (pg : I
           let b1 = not_right_trans f.high f.low e.low fh.positive fl.positive el.positive h a1 in
           let wall : IsOnWall r e.low = record { proper = el.positive; vertex = f.low; is_vertex = pr.lower_in f F; same = rw (a1, a2) refl } in
           let low : lower_than e.low f.low ≡ false = false_from_ne_true _ (λ x. lt_never (le_lt_lt w.first (before e.low f.low el.positive fl.positive (or_right (left_of e.low f.low) (not (left_of f.low e.low) && lower_than e.low f.low) (and_from (not (left_of f.low e.low)) (lower_than e.low f.low) (ap not a2) x))))) in
-          let high : lower_than e.low f.high ≡ true = climbs e.low f.high (before_in e.low f.high el fh (lt_le_lt (laid.forward e E) w.last)) b1 in
+          let high : lower_than e.low f.high ≡ true = before_on_wall e.low f.high (before_in e.low f.high el fh (lt_le_lt (laid.forward e E) w.last)) b1 in
           let A : IsAlong r f e.low = record { plane = pr; S = F; wall = wall; upright = record { lower_1 = a2; lower_2 = a1; upper_1 = b2; upper_2 = b1 }; from = low; to = high } in
           let B : IsAlong r f f.low = record { plane = pr; S = F; wall = on_own_wall r f.low pr (pr.lower_in f F); upright = record { lower_1 = left_of-irrefl f.low; lower_2 = left_of-irrefl f.low; upper_1 = n; upper_2 = h }; from = lower_than-irrefl f.low; to = pr.upright f F (rw (h, n) refl) } in
           let c : left_count r e.low ≡ left_count r f.low = along_left r f e.low A ∙ sym (along_left r f f.low B) in
           let s : slab_left r e.low ≡ slab_left r f.low = one_slab_left r e.low f.low pr.proper el.positive fl.positive a1 a2 in
           λ i. record { slab = s i; place = c i }
-        where
-          climbs : (p q : Point) → precedes p q ≡ true → left_of p q ≡ false → lower_than p q ≡ true
-          climbs p q h k = elim (or_cases (left_of p q) (not (left_of q p) && lower_than p q) h) [ inl a ↦ absurd (false≢true (sym k ∙ a)) | inr b ↦ (and_parts (not (left_of q p)) (lower_than p q) b).1 ]
 
       -- above an own edge
       pub own_above : SameFace r (in_layer (cell_of g e true)) (cell_of r f true)

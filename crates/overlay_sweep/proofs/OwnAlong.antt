@@ -1,11 +1,10 @@
 -- Of the pieces from one place on the first that runs along an edge is found by the order of stretches.
-use Rattle.std.proofs.Common.{◌≡◌, ◌⊎◌, ℕ, ◌<◌, ◌≤◌, ◌-◌, Bool, true, false, arith, sym, ap, ap₂, subst, ◌∙◌, inl, inr, nat_cmp, Less, Equal, List, length, get_or}
+use Rattle.std.proofs.Common.{◌≡◌, ◌⊎◌, ℕ, ◌<◌, ◌≤◌, ◌-◌, Bool, true, false, arith, sym, ap, ap₂, subst, ◌∙◌, inl, inr, nat_cmp, Less, List, length, get_or}
 use Rattle.std.specs.Prelude.{Option, Some, None, nat_lt}
 use Rattle.std.specs.Ordering.{is_lt, ordering_then}
-use Rattle.std.specs.Cmp.{nat_cmp_total, tied_itself}
 use Rattle.std.specs.List.Sorted.{IsPartitionedBy, IsPartitionPoint}
 use Rattle.std.proofs.lemmas.Bool.{false≢true, cases_lt, lt-ltb}
-use Rattle.integers.proofs.Tests.{nat_exact, nat_less, less_nat, is_less}
+use Rattle.integers.proofs.Tests.{nat_exact, nat_tied, nat_less, less_nat, is_less}
 use Rattle.plane_graphs.specs.Ascending.{Member, IsAscending}
 use Rattle.plane_graphs.proofs.Ascending.{from_member}
 use Rattle.plane_graphs.proofs.Sorting.{parted, rises, member_at, any_default}
@@ -20,14 +19,11 @@ use Rattle.overlay_sweep.proofs.PiecesAlong.{no_stretch}
 abbrev IsLesser : Stretch → Stretch → Type 0
 IsLesser x y = (x.low < y.low) ⊎ ((x.low ≡ y.low) × ((x.high < y.high) ⊎ ((x.high ≡ y.high) × (x.piece < y.piece))))
 
-same : (m n : ℕ) → m ≡ n → nat_cmp m n ≡ Equal
-same m n e = subst (λ k. nat_cmp m k ≡ Equal) e (tied_itself nat_cmp_total m)
-
 less_in : (x y : Stretch) → IsLesser x y → stretch_cmp x y ≡ Less
 less_in x y (inl a) = ap (λ o. ordering_then o (ordering_then (nat_cmp x.high y.high) (nat_cmp x.piece y.piece))) (nat_less x.low y.low a)
-less_in x y (inr (e, inl b)) = ap₂ (λ o p. ordering_then o (ordering_then p (nat_cmp x.piece y.piece))) (same x.low y.low e) (nat_less x.high y.high b)
+less_in x y (inr (e, inl b)) = ap₂ (λ o p. ordering_then o (ordering_then p (nat_cmp x.piece y.piece))) (nat_tied x.low y.low e) (nat_less x.high y.high b)
 less_in x y (inr (e, inr (f, c))) =
-    ap₂ (λ o p. ordering_then o (ordering_then p (nat_cmp x.piece y.piece))) (same x.low y.low e) (same x.high y.high f)
+    ap₂ (λ o p. ordering_then o (ordering_then p (nat_cmp x.piece y.piece))) (nat_tied x.low y.low e) (nat_tied x.high y.high f)
     ∙ nat_less x.piece y.piece c
 
 less_out : (x y : Stretch) → stretch_cmp x y ≡ Less → IsLesser x y

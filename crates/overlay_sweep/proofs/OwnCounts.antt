@@ -8,12 +8,13 @@ use lib.Dec.{ltb}
 use Rattle.exact_plane.specs.Point.{Point}
 use Rattle.exact_plane.specs.PointOrder.{point_cmp}
 use Rattle.exact_plane.specs.Span.{IsAtMost}
-use Rattle.exact_plane.proofs.Orders.{at_most_itself, less_at_most}
+use Rattle.exact_plane.proofs.Orders.{less_at_most}
 use Rattle.plane_graphs.specs.Ascending.{Member, IsAscending}
 use Rattle.plane_graphs.proofs.Ascending.{from_member}
 use Rattle.plane_graphs.proofs.Sorting.{member_at, any_default, rises}
 use Rattle.sweep_events.proofs.EventSteps.{in_order, not_both, less_chain}
 use Rattle.sweep_graphs.specs.Traces.{point_at, no_point}
+use Rattle.sweep_graphs.proofs.EdgeOrders.{never_less}
 use Rattle.overlay_sweep.specs.OwnStretches.{IsCountUpto, AreCountsUpto, counts_one}
 
 module _ (own points : List Point) where
@@ -39,9 +40,6 @@ module _ (own points : List Point) where
   pub all_counted : (k count : ℕ) (counts : List ℕ) → length points ≤ k → IsCounting k count counts → AreCountsUpto own points counts
   all_counted k count counts l c = (let p = c.passed in let n = c.counted in record { counted = omega arith; each = λ j h. c.each j (omega arith) })
 
-never : (p : Point) → point_cmp p p ≡ Less → ⊥
-never p h = not_both p p h (at_most_itself p)
-
 module _ (own points : List Point) (up : IsAscending point_cmp own) (rise : IsAscending point_cmp points) (among : (r : Point) → Member r own → Member r points) where
   -- the next of the layer's points, where it comes no later, is this one
   found : (k count : ℕ) (counts : List ℕ) → k < length points → count < length own → IsAtMost (point_at own count) (point_at points k) → IsCounting own points k count counts → point_at own count ≡ point_at points k
@@ -50,7 +48,7 @@ module _ (own points : List Point) (up : IsAscending point_cmp own) (rise : IsAs
       let A = a.1 in
       let e : point_at points a.0 ≡ point_at own count = any_default points a.0 no_point (point_at own count) a.1 ∙ a.2 in
       elim (cases_lt a.0 k) [
-        | inl d ↦ absurd (never (point_at own count) (subst (λ z. point_cmp z (point_at own count) ≡ Less) e (c.after count a.0 (omega arith) b d)))
+        | inl d ↦ absurd (never_less (point_at own count) (subst (λ z. point_cmp z (point_at own count) ≡ Less) e (c.after count a.0 (omega arith) b d)))
         | inr d ↦ elim (cases_lt k a.0) [
           | inl f ↦ absurd (not_both (point_at points k) (point_at points a.0) (rises point_cmp points rise k a.0 no_point f A) (subst (λ z. IsAtMost z (point_at points k)) (sym e) m))
           | inr f ↦ (let i : a.0 ≡ k = omega arith in sym e ∙ ap (point_at points) i)

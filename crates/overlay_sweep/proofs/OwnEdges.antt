@@ -1,26 +1,24 @@
 -- Of an edge of the whole that lies on a piece of a layer: the layer's own edge that it lies on, and the pieces that run along it.
-use Rattle.std.proofs.Common.{◌≡◌, ℕ, ◌+◌, ◌<◌, ◌≤◌, true, arith, ap, ◌∙◌, subst, sym, inl, inr, List, length, map, get_or, Less, Contains, is_lt}
+use Rattle.std.proofs.Common.{◌≡◌, ℕ, ◌+◌, ◌<◌, ◌≤◌, true, arith, ap, ◌∙◌, subst, sym, inl, inr, List, length, map, get_or, Less, Contains}
 use Rattle.std.specs.Prelude.{◌⊎◌, slice_index_or}
 use Rattle.std.proofs.lemmas.Bool.{cases_lt}
 use Rattle.std.proofs.lemmas.List.{get_or-map, length-map}
 use Rattle.exact_plane.specs.Point.{Point}
 use Rattle.exact_plane.specs.PointOrder.{point_cmp}
-use Rattle.exact_plane.specs.PointOrderLaws.{point_cmp_total, and_true}
 use Rattle.exact_plane.specs.Span.{Span, LiesOn, IsAtMost}
 use Rattle.exact_plane.proofs.Orders.{less_at_most, at_most_chain}
 use Rattle.plane_graphs.specs.Ascending.{Member, ascending, IsAscending}
 use Rattle.plane_graphs.specs.Fit.{IsFit}
 use Rattle.plane_graphs.specs.Graph.{Edge, graph, edges, vertices, collinear}
 use Rattle.plane_graphs.specs.Line.{IsProper}
-use Rattle.plane_graphs.specs.Piece.{Piece, Present, along, on}
+use Rattle.plane_graphs.specs.Piece.{Piece, Present, on}
 use Rattle.plane_graphs.proofs.Ascending.{IsAscending-ascending, Member-ascending, ascending-Member, to_member, from_member}
 use Rattle.plane_graphs.proofs.Closed.{IsClosed}
 use Rattle.plane_graphs.proofs.Laws.{graph_is_plane}
 use Rattle.plane_graphs.proofs.Lines.{geometry}
-use Rattle.plane_graphs.proofs.Lists.{and_in, any_in, any_out, in_map, of_map, clash}
-use Rattle.plane_graphs.proofs.Marks.{on_in, on_out, on_between, le_same, le_lt}
-use Rattle.plane_graphs.proofs.Meaning.{edges_are}
-use Rattle.plane_graphs.proofs.Order.{Lt, lt_out}
+use Rattle.plane_graphs.proofs.Lists.{and_in, any_in, any_out, in_map, of_map, of_ascending, in_ascending}
+use Rattle.plane_graphs.proofs.Marks.{on_in, on_out, le_same, le_lt}
+use Rattle.plane_graphs.proofs.Order.{lt_out}
 use Rattle.plane_graphs.proofs.Sorting.{member_at}
 use Rattle.plane_graphs.proofs.Vertices.{vertices_closed}
 use Rattle.present_graphs.specs.Spans.{span_of_piece}
@@ -31,7 +29,7 @@ use Rattle.slab_laws.specs.Skeleton.{Skeleton, IsPlaneSkeleton, same_edge}
 use Rattle.slab_laws.specs.SpansDrawn.{drawn}
 use Rattle.slab_faces.proofs.PlaneGraphs.{graph_is_plane_skeleton}
 use Rattle.slab_faces.proofs.Places.{edges_exact}
-use Rattle.dart_orbits.proofs.Placed.{place_within, at_place, one_place, ascending_apart}
+use Rattle.dart_orbits.proofs.Placed.{place_within, at_place}
 use Rattle.sweep_events.specs.Events.{IsEvent, AreMeeting}
 use Rattle.sweep_events.specs.Places.{piece_at}
 use Rattle.sweep_events.proofs.EventSteps.{in_order, not_both}
@@ -46,9 +44,10 @@ use Rattle.overlay_sweep.specs.declared.own.PieceStretch.{PieceStretch}
 use Rattle.overlay_sweep.specs.LayerGraphs.{IsLayerGraph, ArePiecesFrom}
 use Rattle.overlay_sweep.specs.LayerLabels.{is_held}
 use Rattle.overlay_sweep.specs.OwnStretches.{piece_first, piece_cmp, ends_of_own, IsBegun, IsLastBegun, AreCountsUpto}
-use Rattle.overlay_sweep.specs.PiecesAlong.{IsPieceAlong}
+use Rattle.overlay_sweep.specs.PiecesAlong.{IsAlongSome, IsPieceAlong}
 use Rattle.overlay_sweep.proofs.OwnSteps.{upto_in, stretch_round, last_round}
 use Rattle.overlay_sweep.proofs.OwnStretches.{piece_cmp_total, piece_cmp_exact}
+use Rattle.overlay_sweep.proofs.RunsAlong.{own_there}
 
 -- an edge for the places where there is none
 abbrev pub no_ends : EdgeEnds
@@ -56,33 +55,38 @@ no_ends = record { low = 0; high = 0 }
 
 -- ---- a graph's edges by their places
 module _ (p : Present) (g : LayerGraph) (h : IsLayerGraph p g) where
-  -- the edge that a stretch runs along is one of the edges
-  pub edge_in : (s : Stretch) → Member s g.trace.stretches → Contains (plane_of p).edges (edge_between g.trace.points (ends_of s))
-  edge_in s m =
-      let along : Member (ends_of s) (ascending ends_cmp (map ends_of g.trace.stretches)) = ascending-Member ends_cmp ends_cmp_total (ends_of s) (map ends_of g.trace.stretches) (λ x y _ _ q. ends_cmp_exact x y q) (in_map ends_of s g.trace.stretches m) in
-      from_member (edges (graph p)) (edge_between g.trace.points (ends_of s)) (subst (λ es. Member (edge_between g.trace.points (ends_of s)) es) h.graph.edges (in_map (edge_between g.trace.points) (ends_of s) (ascending ends_cmp (map ends_of g.trace.stretches)) along))
+  pub ends_in : (s : Stretch) → Member s g.trace.stretches → Member (ends_of s) g.edges.items
+  ends_in s m = subst (Member (ends_of s)) (sym h.edges) (in_ascending ends_cmp ends_cmp_total ends_cmp_exact (ends_of s) (map ends_of g.trace.stretches) (in_map ends_of s g.trace.stretches m))
 
-  told : map (edge_between g.trace.points) g.edges.items ≡ edges (graph p)
-  told = ap (map (edge_between g.trace.points)) h.edges ∙ h.graph.edges
+  -- a stretch runs along each of them
+  pub some_along : (e : EdgeEnds) → Member e g.edges.items → IsAlongSome g.trace.stretches e
+  some_along e m =
+      let s = of_map ends_of e g.trace.stretches (of_ascending ends_cmp ends_cmp_total ends_cmp_exact e (map ends_of g.trace.stretches) (subst (Member e) h.edges m)) in
+      (s.0, s.1, sym s.2)
+
+  pub edges_told : map (edge_between g.trace.points) g.edges.items ≡ (plane_of p).edges
+  edges_told = ap (map (edge_between g.trace.points)) h.edges ∙ h.graph.edges
+
+  -- the edge that a stretch runs along is one of the edges
+  edge_in : (s : Stretch) → Member s g.trace.stretches → Contains (plane_of p).edges (edge_between g.trace.points (ends_of s))
+  edge_in s m =
+      from_member (edges (graph p)) (edge_between g.trace.points (ends_of s)) (subst (Member (edge_between g.trace.points (ends_of s))) edges_told (in_map (edge_between g.trace.points) (ends_of s) g.edges.items (ends_in s m)))
 
   pub edge_at : (e : Edge) → Contains (plane_of p).edges e → (edge_place (plane_of p) e < length g.edges.items) × (e ≡ edge_between g.trace.points (get_or g.edges.items (edge_place (plane_of p) e) no_ends))
   edge_at e E =
       let f = edge_between g.trace.points in
       let k = edge_place (plane_of p) e in
       let m = to_member (edges (graph p)) e E in
-      let n : length (edges (graph p)) ≡ length g.edges.items = ap length (sym told) ∙ length-map g.edges.items f in
+      let n : length (edges (graph p)) ≡ length g.edges.items = ap length (sym edges_told) ∙ length-map g.edges.items f in
       let w : k < length g.edges.items = subst (λ z. k < z) n (place_within same_edge edges_exact (edges (graph p)) e m) in
-      (w, sym (at_place same_edge edges_exact (edges (graph p)) e (f no_ends) m) ∙ ap (λ es. get_or es k (f no_ends)) (sym told) ∙ get_or-map f g.edges.items k no_ends (f no_ends) w)
-
-  pub stretch_at : (k : ℕ) → k < length g.edges.items → (s : Stretch) × Member s g.trace.stretches × (get_or g.edges.items k no_ends ≡ ends_of s)
-  stretch_at k l = of_map ends_of (get_or g.edges.items k no_ends) g.trace.stretches (Member-ascending ends_cmp ends_cmp_total (get_or g.edges.items k no_ends) (map ends_of g.trace.stretches) (subst (Member (get_or g.edges.items k no_ends)) h.edges (member_at g.edges.items k no_ends l)))
+      (w, sym (at_place same_edge edges_exact (edges (graph p)) e (f no_ends) m) ∙ ap (λ es. get_or es k (f no_ends)) (sym edges_told) ∙ get_or-map f g.edges.items k no_ends (f no_ends) w)
 
   -- the stretches in their order are those of the trace
   pub stretch_out : (s : Stretch) → Member s g.stretches.items → Member s g.trace.stretches
-  stretch_out s m = Member-ascending stretch_cmp stretch_cmp_total s g.trace.stretches (subst (Member s) h.stretches m)
+  stretch_out s m = of_ascending stretch_cmp stretch_cmp_total stretch_cmp_exact s g.trace.stretches (subst (Member s) h.stretches m)
 
   pub stretch_in : (s : Stretch) → Member s g.trace.stretches → Member s g.stretches.items
-  stretch_in s m = subst (Member s) (sym h.stretches) (ascending-Member stretch_cmp stretch_cmp_total s g.trace.stretches (λ x y _ _ q. stretch_cmp_exact x y q) m)
+  stretch_in s m = subst (Member s) (sym h.stretches) (in_ascending stretch_cmp stretch_cmp_total stretch_cmp_exact s g.trace.stretches m)
 
   pub stretches_up : IsAscending stretch_cmp g.stretches.items
   stretches_up = subst (IsAscending stretch_cmp) (sym h.stretches) (IsAscending-ascending stretch_cmp stretch_cmp_total g.trace.stretches)
@@ -258,47 +262,10 @@ module _ (layer w : Present) (first : ℕ) (fl : IsFit layer) (fw : IsFit w) (ow
   unfolding has_curve_along
   run_along e E own_curve =
       let x = any_out (runs_along e) layer.pieces own_curve in
-      let k = x.0 in
-      let K = x.1 in
-      let at = and_true (on k e.low) (on k e.high) x.2 in
-      let q = place_of layer.pieces k K in
-      let i = q.0 in
-      let I : i < length layer.pieces = below i q.1 in
-      let h = (edges_are w e).0 (to_member (edges (graph w)) e E) in
-      let is : theirs (first + i) ≡ span_of_piece k = part.same i I ∙ q.2 in
-      let on_it : (r : Point) → on k r ≡ true → LiesOn (theirs (first + i)) r = λ r n. subst (λ (s : Span). LiesOn s r) (sym is) (on_lies k r n) in
-      let event : (r : Point) → Member r (vertices w) → IsEvent (piece_at (map span_of_piece w.pieces)) (length (map span_of_piece w.pieces)) w.pins r = λ r n. (g.trace.points_are r).0 (subst (Member r) (sym g.graph.points) n) in
-      let vertex : (r : Point) → IsEvent (piece_at (map span_of_piece w.pieces)) (length (map span_of_piece w.pieces)) w.pins r → Member r (vertices w) = λ r n. subst (Member r) g.graph.points ((g.trace.points_are r).1 n) in
-      let up = lt_out e.low e.high h.forward in
-      let low = cl.proper e.low h.first in
-      let high = cl.proper e.high h.last in
-      let k_low = on_out k e.low at.0 in
-      let k_high = on_out k e.high at.1 in
-      let m_low = on_out h.piece e.low h.on_first in
-      let m_high = on_out h.piece e.high h.on_last in
-      let step : IsStep (piece_at (map span_of_piece w.pieces)) (length (map span_of_piece w.pieces)) w.pins (first + i) e.low e.high = record {
-        within = beyond i I;
-        first = (event e.low h.first, on_it e.low at.0);
-        second = (event e.high h.last, on_it e.high at.1);
-        ahead = up.is;
-        none = λ r R l u.
-            let V = vertex r R.0 in
-            let P = cl.proper r V in
-            let on_k = on_out k r (lies_on_piece k r (subst (λ (s : Span). LiesOn s r) is R.1)) in
-            let line : along h.piece r ≡ true = sym ((cl.straight h.piece h.piece_in).span e.low e.high r low high P up m_low.line m_high.line) ∙ (dl.straight k K).span e.low e.high r low high P up k_low.line k_high.line ∙ on_k.line in
-            let lr : Lt e.low r = record { is = l } in
-            let ru : Lt r e.high = record { is = u } in
-            clash (on_in h.piece r (on_between h.piece e.low r e.high m_low m_high (le_lt lr) (le_lt ru) line)) (h.none_between r V (ap is_lt l) (ap is_lt u));
-      } in
-      let s = g.trace.complete (first + i) e.low e.high step in
-      let S = g.trace.sound s.0 s.1 in
+      let q = place_of layer.pieces x.0 x.1 in
+      let I : q.0 < length layer.pieces = below q.0 q.1 in
       let a = edge_at w whole g e E in
       let f = get_or whole.edges.items (edge_place (plane_of w) e) no_ends in
-      let z = stretch_at w whole g (edge_place (plane_of w) e) a.0 in
-      let Z = g.trace.sound z.0 z.1 in
-      let low_in : f.low < length whole.trace.points = subst (λ (y : EdgeEnds). y.low < length whole.trace.points) (sym z.2) Z.low_in in
-      let high_in : f.high < length whole.trace.points = subst (λ (y : EdgeEnds). y.high < length whole.trace.points) (sym z.2) Z.high_in in
-      let apart = ascending_apart point_cmp point_cmp_total whole.trace.points g.trace.ascends in
-      let p : s.0.low ≡ f.low = one_place whole.trace.points apart s.0.low f.low no_point S.low_in low_in (s.3 ∙ ap (λ (y : Edge). y.low) a.1) in
-      let r : s.0.high ≡ f.high = one_place whole.trace.points apart s.0.high f.high no_point S.high_in high_in (s.4 ∙ ap (λ (y : Edge). y.high) a.1) in
-      (i, I, (s.0, stretch_in w whole g s.0 s.1, (λ j. record { low = p j; high = r j }), s.2))
+      let along = some_along w whole g f (member_at whole.edges.items (edge_place (plane_of w) e) no_ends a.0) in
+      let s = own_there w fw whole.trace g.trace g.graph layer first part f q.0 I x.0 q.2 along (subst (λ (d : Edge). runs_along d x.0 ≡ true) a.1 x.2) in
+      (q.0, I, (s.0, stretch_in w whole g s.0 s.1, s.2, s.3))

@@ -2,7 +2,6 @@
 use Rattle.std.proofs.Common.{◌≡◌, ◌⊎◌, ℕ, suc, ◌<◌, Bool, true, false, arith, sym, ap, ◌∙◌, subst, inl, inr, List, [], ◌∷◌, length, get_or, Less}
 use Rattle.std.specs.List.Sorted.{IsPartitionedBy, IsPartitionPoint}
 use Rattle.std.specs.Ordering.{is_lt, nat_cmp, ordering_then}
-use Rattle.std.specs.Cmp.{tied_itself}
 use Rattle.std.proofs.lemmas.Bool.{false≢true, cases_lt}
 use Rattle.integers.proofs.Tests.{nat_exact, is_less}
 use Rattle.plane_graphs.specs.Ascending.{IsAscending, Member}
@@ -10,7 +9,7 @@ use Rattle.plane_graphs.proofs.Sorting.{member_at, any_default, parted, rises}
 use Rattle.sweep_graphs.specs.declared.edges.EdgeEnds.{EdgeEnds}
 use Rattle.sweep_graphs.specs.declared.trace.Stretch.{Stretch}
 use Rattle.sweep_graphs.specs.Edges.{ends_of, ends_cmp, stretch_cmp}
-use Rattle.sweep_graphs.proofs.EdgeOrders.{then_less, ends_cmp_total}
+use Rattle.sweep_graphs.proofs.EdgeOrders.{then_less, ends_cmp_total, ends_never}
 use Rattle.overlay_sweep.specs.PiecesAlong.{IsAlongSome, IsPieceAlong}
 
 -- what comes earlier among stretches has lesser ends or the same
@@ -48,9 +47,6 @@ module _ (xs : List Stretch) (up : IsAscending stretch_cmp xs) (e : EdgeEnds) wh
   pub parted_stretches : IsPartitionedBy (is_before e) xs
   parted_stretches = parted stretch_cmp (is_before e) xs up (λ x y _ _ h t. carried x y h t)
 
-  never : (f : EdgeEnds) → ends_cmp f f ≡ Less → ⊥
-  never f h = let t = tied_itself ends_cmp_total f in cc
-
   module _ (along : IsAlongSome xs e) (n : ℕ) (cut : IsPartitionPoint (λ s. is_before e s ≡ true) (λ s. is_before e s ≡ false) xs n) where
     first_there : (n < length xs) × (ends_of (get_or xs n no_stretch) ≡ e)
     first_there =
@@ -58,7 +54,7 @@ module _ (xs : List Stretch) (up : IsAscending stretch_cmp xs) (e : EdgeEnds) wh
         let l = a.1 in
         let q : ends_of (get_or xs a.0 no_stretch) ≡ e = ap ends_of a.2 ∙ along.2 in
         elim (cases_lt a.0 n) [
-          | inl k ↦ absurd (never e (subst (λ f. ends_cmp f e ≡ Less) q (is_less (ends_cmp (ends_of (get_or xs a.0 no_stretch)) e) (cut.0 a.0 no_stretch (omega arith) k))))
+          | inl k ↦ absurd (ends_never e (subst (λ f. ends_cmp f e ≡ Less) q (is_less (ends_cmp (ends_of (get_or xs a.0 no_stretch)) e) (cut.0 a.0 no_stretch (omega arith) k))))
           | inr k ↦
               let N : n < length xs = omega arith in
               elim (cases_lt n a.0) [

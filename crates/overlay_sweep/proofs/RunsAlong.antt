@@ -1,6 +1,6 @@
 -- A piece has a stretch along an edge of the whole where it holds both ends of the edge.
-use Rattle.std.proofs.Common.{◌≡◌, ℕ, ◌+◌, ◌<◌, true, arith, sym, ◌∙◌, subst, inl, inr, length, map, Less}
-use Rattle.std.proofs.lemmas.Bool.{cases_lt, and_parts}
+use Rattle.std.proofs.Common.{◌≡◌, ℕ, ◌+◌, ◌<◌, true, arith, sym, ◌∙◌, subst, length, map, Less}
+use Rattle.std.proofs.lemmas.Bool.{and_parts}
 use Rattle.std.proofs.lemmas.List.{length-map}
 use Rattle.exact_plane.specs.Point.{Point}
 use Rattle.exact_plane.specs.PointOrder.{point_cmp}
@@ -14,8 +14,7 @@ use Rattle.plane_graphs.proofs.Edges.{mark_of_piece}
 use Rattle.plane_graphs.proofs.Lines.{geometry}
 use Rattle.plane_graphs.proofs.Lists.{and_in, in_map}
 use Rattle.plane_graphs.proofs.Marks.{on_in, on_out, mark_out}
-use Rattle.plane_graphs.proofs.Order.{lt_never, mark_cmp_total, mark_cmp_exact}
-use Rattle.plane_graphs.proofs.Sorting.{rises}
+use Rattle.plane_graphs.proofs.Order.{mark_cmp_total, mark_cmp_exact}
 use Rattle.plane_graphs.proofs.Vertices.{vertices_closed}
 use Rattle.present_graphs.specs.Spans.{span_of_piece}
 use Rattle.present_graphs.proofs.OnSpans.{on_lies, lies_on_piece}
@@ -28,7 +27,8 @@ use Rattle.sweep_graphs.specs.declared.trace.Stretch.{Stretch}
 use Rattle.sweep_graphs.specs.declared.trace.Trace.{Trace}
 use Rattle.sweep_graphs.specs.Edges.{ends_of, edge_between, mark_along}
 use Rattle.sweep_graphs.specs.TraceLaws.{IsTraceOf}
-use Rattle.sweep_graphs.specs.Traces.{point_at, no_point, IsStep, IsTrace}
+use Rattle.sweep_graphs.specs.Traces.{point_at, IsStep, IsTrace}
+use Rattle.sweep_graphs.proofs.EdgeOrders.{one_place}
 use Rattle.overlay_sweep.specs.LayerGraphs.{ArePiecesFrom}
 use Rattle.overlay_sweep.specs.PiecesAlong.{IsAlongSome, IsPieceAlong}
 
@@ -41,19 +41,6 @@ module _ (w : Present) (fit : IsFit w) (t : Trace) (h : IsTrace (map span_of_pie
 
   vertex_of : (r : Point) → Event r → Member r (vertices w)
   vertex_of r e = subst (Member r) g.points ((h.points_are r).1 e)
-
-  never_less : (x : Point) → point_cmp x x ≡ Less → ⊥
-  never_less x c = lt_never {p = x} (record { is = c })
-
-  -- one vertex has one place
-  one_place : (j k : ℕ) → j < length t.points → k < length t.points → point_at t.points j ≡ point_at t.points k → j ≡ k
-  one_place j k lj lk e = elim (cases_lt j k) [
-    | inl d ↦ absurd (never_less (point_at t.points k) (subst (λ z. point_cmp z (point_at t.points k) ≡ Less) e (rises point_cmp t.points h.ascends j k no_point d lk)))
-    | inr d ↦ elim (cases_lt k j) [
-      | inl f ↦ absurd (never_less (point_at t.points k) (subst (λ z. point_cmp (point_at t.points k) z ≡ Less) e (rises point_cmp t.points h.ascends k j no_point f lj)))
-      | inr f ↦ omega arith
-    ]
-  ]
 
   -- a piece with a stretch along an edge holds its ends
   pub holds_ends : (e : EdgeEnds) (j : ℕ) → IsPieceAlong t.stretches e j → LiesOn (piece j) (point_at t.points e.low) × LiesOn (piece j) (point_at t.points e.high)
@@ -92,8 +79,8 @@ module _ (w : Present) (fit : IsFit w) (t : Trace) (h : IsTrace (map span_of_pie
         let u = h.complete j p q step_there in
         let U = h.sound u.0 u.1 in
         let S = h.sound s m in
-        let a = one_place u.0.low s.low U.low_in S.low_in u.3 in
-        let b = one_place u.0.high s.high U.high_in S.high_in u.4 in
+        let a = one_place t.points h.ascends u.0.low s.low U.low_in S.low_in u.3 in
+        let b = one_place t.points h.ascends u.0.high s.high U.high_in S.high_in u.4 in
         (u.0, u.1, λ i. record { low = a i; high = b i }, u.2)
 
   -- a piece that holds the ends of an edge has a stretch along it

@@ -1,7 +1,5 @@
 ghost use Rattle.std.specs.Prelude.{◌≡◌, map, IfOk};
 ghost use Rattle.std.specs.List.{filter_map, prefix_len};
-ghost use Rattle.std.specs.Ordering.{nat_cmp};
-ghost use Rattle.plane_graphs.specs.Ascending.{ascending};
 ghost use Rattle.plane_graphs.specs.Fit.{IsFit};
 ghost use Rattle.slab_laws.specs.Pieces.{present_of};
 ghost use Rattle.slab_laws.specs.Overlay.{curves_along, plane_of};
@@ -13,6 +11,7 @@ use crate::graphs::LayerGraph;
 use no_memory::NoMemory;
 use slab_laws::{CurveId, Piece, Present};
 use std::alloc::{AllocError, Global};
+use subdivision_rows::arrange_curves;
 use sweep_graphs::{EdgeEnds, Stretch};
 
 fn is_along(stretch: &Stretch, edge: &EdgeEnds) -> bool
@@ -55,14 +54,6 @@ fn curves_among(
         .collect(alloc)
 }
 
-// Brings curves into their order, each once.
-fn arrange(curves: &mut Vec<CurveId>)
-    ensures { map (λ c. c.0) curves.new.items ≡ ascending nat_cmp (map (λ c. c.0) curves.old.items) }
-{
-    curves.sort_unstable();
-    curves.dedup();
-}
-
 // The layer's curves among those of stretches, ascending.
 fn arranged_curves(
     alloc: Global,
@@ -73,7 +64,7 @@ fn arranged_curves(
     ensures { IfOk result (λ v. map (λ c. c.0) v.items ≡ own_numbers pieces.now first stretches.now) }
 {
     let mut curves = curves_among(alloc, pieces, first, stretches)?;
-    arrange(&mut curves);
+    arrange_curves(&mut curves);
     Ok(curves)
 }
 

@@ -16,7 +16,7 @@ use Rattle.slab_laws.specs.declared.names.VertexId.{VertexId}
 use Rattle.slab_laws.specs.Darts.{Dart}
 use Rattle.slab_laws.specs.Skeleton.{inside}
 use Rattle.slab_laws.specs.Sound.{IsGraphSound, edge_in}
-use Rattle.slab_laws.specs.View.{View, HasVertex, HasDart, point_in, pinned_in, source_in, twin_in, target_in}
+use Rattle.slab_laws.specs.View.{View, HasVertex, HasDart, point_in, pinned_in, source_in, target_in}
 use Rattle.sound_changes.proofs.SplitCases.{edge_of_ends, ahead_by}
 use Rattle.sound_changes.proofs.PointInside.{inside_in, inside_out}
 use Rattle.sound_changes.proofs.KnownNames.{point_known, edge_known}
@@ -26,6 +26,7 @@ use Rattle.dcel_records.specs.declared.spot.Met.TheVariants.{Vertex, Edge as InE
 use Rattle.dcel_records.specs.Spots.{IsInFace, IsMet}
 use Rattle.arr_notes.specs.RecordGraph.{drawn_graph}
 use Rattle.sound_views.specs.RecordGraphLaws.{IsMarkOf}
+use Rattle.sound_views.proofs.ForwardDarts.{target_has}
 use Rattle.sound_views.proofs.GraphDrawn.{graphs_are_plane}
 use Rattle.sound_changes.proofs.StepHolds.{held_mark, point_held, held_point, pin_held, held_pin}
 use Rattle.told_steps.specs.VertexMade.{IsPlaneWith, darts_at, steps_at, vertices_at}
@@ -88,9 +89,6 @@ module _ (v : View) (h : Curves) (s : IsGraphSound v) (a : AreCurvesOf v h) (p :
   abbrev g : Graph
   g = drawn_graph v h
 
-  target_has : (d : DartId) → HasDart v d → HasVertex v (target_in v d)
-  target_has d o = s.linked.source (twin_in v d) (s.twinned.has d o)
-
   -- the edge of a forward dart goes from its source to its target
   forward_edge : (d : DartId) → is_forward v d ≡ true → edge_in v d ≡ edge_of_ends (point_in v (source_in v d)) (point_in v (target_in v d))
   forward_edge d f = ap (λ (e : Dart). e.edge) (ahead_by (point_in v (source_in v d)) (point_in v (target_in v d)) f)
@@ -101,7 +99,7 @@ module _ (v : View) (h : Curves) (s : IsGraphSound v) (a : AreCurvesOf v h) (p :
       let o = k.forward.0 in
       let e : edge_in v d ≡ edge_of_ends m.low m.high = forward_edge d k.forward.1 ∙ ap₂ edge_of_ends k.low k.high in
       let low = subst IsProper k.low (s.drawn.proper (source_in v d) (s.linked.source d o)) in
-      let high = subst IsProper k.high (s.drawn.proper (target_in v d) (target_has d o)) in
+      let high = subst IsProper k.high (s.drawn.proper (target_in v d) (target_has v s d o)) in
       let j = inside_out (edge_of_ends m.low m.high) p low high proper (subst (λ z. inside z p ≡ true) e i) in
       inside_mark_in p m j.after j.before (flat_in m.low m.high p j.on)
 
@@ -110,7 +108,7 @@ module _ (v : View) (h : Curves) (s : IsGraphSound v) (a : AreCurvesOf v h) (p :
       let o = k.forward.0 in
       let e : edge_in v d ≡ edge_of_ends m.low m.high = forward_edge d k.forward.1 ∙ ap₂ edge_of_ends k.low k.high in
       let low = subst IsProper k.low (s.drawn.proper (source_in v d) (s.linked.source d o)) in
-      let high = subst IsProper k.high (s.drawn.proper (target_in v d) (target_has d o)) in
+      let high = subst IsProper k.high (s.drawn.proper (target_in v d) (target_has v s d o)) in
       let j = inside_mark_out p m i in
       subst (λ z. inside z p ≡ true) (sym e) (inside_in (edge_of_ends m.low m.high) p low high proper (record { after = j.0; before = j.1; on = flat_out m.low m.high p j.2 }))
 

@@ -38,6 +38,7 @@ use Rattle.told_steps.proofs.Layers.{steps_make_layers}
 use Rattle.told_steps.proofs.ToldTogether.{told_runs_lawful}
 use Rattle.told_steps.specs.ToldRuns.{IsToldRun}
 use Rattle.redundant_vertices.specs.Tidied.{IsTidied}
+use Rattle.redundant_vertices.proofs.Missing.{missing_in, missing_out}
 use Rattle.pin_points.proofs.Spotted.{pinned_vertex}
 
 -- ---- which vertices a present loses with a pin: none but its point
@@ -60,23 +61,9 @@ module _ (o : Present) (fit : IsFit o) (p : Point) (there : Member p o.pins) whe
   is_vertex : Member p vs
   is_vertex = vertex_in o p (pinned there)
 
-  not_member : (x : Point) → (Member x ws → ⊥) → not (list_any (same_point x) ws) ≡ true
-  not_member x none = not_in (list_any (same_point x) ws) (λ t. let y = any_out (same_point x) ws t in none (subst (λ z. Member z ws) (sym (same_out x y.0 y.2)) y.1))
-
-  -- a missing point is no new vertex
-  missing_out : (x : Point) → Member x (missing_points vs ws) → Member x vs × (Member x ws → ⊥)
-  unfolding missing_points
-  missing_out x m =
-      let k = of_filter (λ y. not (list_any (same_point y) ws)) x vs m in
-      (k.0, λ n. any_none (same_point x) x ws (not_out (list_any (same_point x) ws) k.1) n (same_itself x))
-
-  missing_in : (x : Point) → Member x vs → (Member x ws → ⊥) → Member x (missing_points vs ws)
-  unfolding missing_points
-  missing_in x m none = in_filter (λ y. not (list_any (same_point y) ws)) x vs m (not_member x none)
-
   is_it : (x : Point) → Member x (missing_points vs ws) → x ≡ p
   is_it x m =
-      let k = missing_out x m in
+      let k = missing_out vs ws x m in
       elim (decide (same_point x p)) [
         | inl e ↦ same_out x p e
         | inr e ↦ absurd (k.1 (kept_by x (λ i. clash (same_in x p i) e) (vertex_out o x k.0)))
@@ -87,10 +74,10 @@ module _ (o : Present) (fit : IsFit o) (p : Point) (there : Member p o.pins) whe
   one_lost none =
       ascending_unique point_cmp point_cmp_total (missing_points vs ws) (p ∷ []) (IsAscending-filter point_cmp (λ y. not (list_any (same_point y) ws)) vs (vertices_ascend o)) (tt, tt)
       (λ x m. inl (is_it x m))
-      (λ x m. elim m [ inl e ↦ subst (λ z. Member z (missing_points vs ws)) (sym e) (missing_in p is_vertex none) | inr n ↦ absurd n ])
+      (λ x m. elim m [ inl e ↦ subst (λ z. Member z (missing_points vs ws)) (sym e) (missing_in vs ws p is_vertex none) | inr n ↦ absurd n ])
 
   none_lost : Member p ws → missing_points vs ws ≡ []
-  none_lost here = none_is_empty (missing_points vs ws) (λ x m. (missing_out x m).1 (subst (λ z. Member z ws) (sym (is_it x m)) here))
+  none_lost here = none_is_empty (missing_points vs ws) (λ x m. (missing_out vs ws x m).1 (subst (λ z. Member z ws) (sym (is_it x m)) here))
 
   -- ---- that is told by the graph without the pin
   abbrev G : Graph

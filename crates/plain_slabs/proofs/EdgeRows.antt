@@ -8,11 +8,11 @@ use Rattle.exact_plane.specs.Span.{Span}
 use Rattle.plane_graphs.specs.Graph.{Edge}
 use Rattle.slab_laws.specs.SpansDrawn.{edge_of, drawn}
 use Rattle.slab_laws.specs.Skeleton.{IsPlaneSkeleton, same_edge}
-use Rattle.slab_laws.specs.Rows.{dart_list, dart_at, dart_row, dart_rows}
+use Rattle.slab_laws.specs.Rows.{dart_at, dart_row, dart_rows}
 use Rattle.slab_laws.specs.declared.rows.ListedDart.{ListedDart}
 use Rattle.slab_faces.proofs.Slabs.{same_edge_is, same_edge_refl}
 use Rattle.slab_faces.proofs.Searches.{first_there}
-use Rattle.dart_orbits.proofs.Listed.{rows_length, row_at}
+use Rattle.dart_orbits.proofs.Listed.{row_there, row_at}
 use Rattle.dart_orbits.proofs.DartCells.{edge_there, dart_there}
 
 -- ---- the edges of spans
@@ -27,14 +27,11 @@ module _ (ss : List Span) (e : Edge) (there : Contains (map edge_of ss) e) where
 
 -- ---- a row of darts, and the edge that it names
 module _ (vs : List Point) (ss : List Span) (plane : IsPlaneSkeleton (drawn vs ss)) (rows : List ListedDart) (all : rows ≡ dart_rows (drawn vs ss)) where
-  pub listed : (k : ℕ) → k < length rows → k < length (dart_list (drawn vs ss))
-  listed k h = subst (λ n. k < n) (ap length all ∙ rows_length (drawn vs ss)) h
-
   row_is : (k : ℕ) (r : ListedDart) → k < length rows → get_or rows k r ≡ dart_row (drawn vs ss) (dart_at (drawn vs ss) k)
-  row_is k r h = ap (λ (xs : List ListedDart). get_or xs k r) all ∙ row_at (drawn vs ss) plane k r (listed k h)
+  row_is k r h = ap (λ (xs : List ListedDart). get_or xs k r) all ∙ row_at (drawn vs ss) plane k r (row_there (drawn vs ss) rows all k h)
 
   pub on_edge : (k : ℕ) → k < length rows → Contains (map edge_of ss) (dart_at (drawn vs ss) k).edge
-  on_edge k h = edge_there (drawn vs ss) plane (dart_at (drawn vs ss) k) (dart_there (drawn vs ss) plane k (listed k h))
+  on_edge k h = edge_there (drawn vs ss) plane (dart_at (drawn vs ss) k) (dart_there (drawn vs ss) plane k (row_there (drawn vs ss) rows all k h))
 
   pub row_within : (k : ℕ) (r : ListedDart) → k < length rows → (get_or rows k r).edge < length ss
   row_within k r h = subst (λ (q : ListedDart). q.edge < length ss) (sym (row_is k r h)) (edge_within ss (dart_at (drawn vs ss) k).edge (on_edge k h))

@@ -19,6 +19,7 @@ use Rattle.slab_faces.proofs.FacesLemmas.{cells_exact}
 use Rattle.sound_views.proofs.RankedFaces.{cycles_are, outer_faces, all_faces, faces_are}
 use Rattle.sound_views.proofs.FirstDarts.{all_kept, twice}
 use Rattle.plain_slabs.specs.Faces.{added}
+use Rattle.plain_slabs.proofs.CellOrder.{cell_equivalence}
 
 -- the faces have no such one
 abbrev is_new : List SlabCell → SlabCell → Bool
@@ -40,16 +41,6 @@ passed_over fs f g e =
       | inr s ↦ rw s refl
     ]
 
-turned : (f g : SlabCell) → same_cell f g ≡ same_cell g f
-turned f g =
-    elim (cases_Bool (same_cell f g)) [
-      | inl s ↦ s ∙ sym (subst (λ h. same_cell h f ≡ true) (cells_exact.path f g s) (cells_exact.itself f))
-      | inr s ↦ elim (cases_Bool (same_cell g f)) [
-        | inl t ↦ let a : same_cell f g ≡ true = subst (λ h. same_cell h g ≡ true) (cells_exact.path g f t) (cells_exact.itself g) in a ∙ sym t
-        | inr t ↦ s ∙ sym t
-      ]
-    ]
-
 either : (a b : Bool) → not (a || (b || false)) ≡ (not b && not a)
 either true true = refl
 either true false = refl
@@ -60,7 +51,7 @@ new_after : (fs : List SlabCell) (f g : SlabCell) → is_new (fs ++ f ∷ []) g 
 new_after fs f g =
     ap not (list_any-append (same_cell g) fs (f ∷ []))
     ∙ either (list_any (same_cell g) fs) (same_cell g f)
-    ∙ ap (λ b. not b && is_new fs g) (turned g f)
+    ∙ ap (λ b. not b && is_new fs g) (cell_equivalence.symm g f)
 
 folded : (fs xs : List SlabCell) → fold added fs xs ≡ fs ++ filter (is_new fs) (distinct same_cell xs)
 unfolding distinct

@@ -1,5 +1,5 @@
 -- What the loops over points and edges gather, and that it is the model's lists.
-use Rattle.std.proofs.Common.{◌≡◌, ℕ, suc, ◌+◌, ◌≤◌, Bool, true, false, cond, arith, refl, sym, ap, ◌∙◌, List, [], ◌∷◌, ◌++◌, map, length, take}
+use Rattle.std.proofs.Common.{◌≡◌, ℕ, suc, ◌+◌, ◌≤◌, Bool, arith, refl, sym, ap, ◌∙◌, List, [], ◌∷◌, ◌++◌, map, length, take}
 use Rattle.std.specs.Prelude.{◌&&◌, ◌||◌, not, filter}
 use Rattle.std.specs.List.{list_any, count_by, range_with_len}
 use Rattle.std.proofs.lemmas.List.{append_assoc, append-nil}
@@ -8,6 +8,7 @@ use Rattle.std.proofs.lemmas.List.Folds.{flat_map-map}
 use Rattle.std.proofs.lemmas.List.FromFn.{map-range_with_len_more}
 use Rattle.exact_plane.specs.Point.{Point}
 use Rattle.exact_plane.specs.Span.{Span}
+use Rattle.plane_graphs.proofs.Lists.{filter_of_map}
 use Rattle.slab_laws.specs.SpansDrawn.{edge_of, drawn}
 use Rattle.slab_laws.specs.Skeleton.{Skeleton, on_wall, foot}
 use Rattle.slab_laws.specs.Meets.{covers_above}
@@ -23,14 +24,6 @@ use Rattle.plain_slabs.proofs.Reached.{width_is}
 list_any-map : {X Y : Type 0} (p : Y → Bool) (f : X → Y) (xs : List X) → list_any p (map f xs) ≡ list_any (λ x. p (f x)) xs
 list_any-map p f [] = refl
 list_any-map p f (x ∷ xs) = ap (λ b. p (f x) || b) (list_any-map p f xs)
-
-filter-map : {X Y : Type 0} (p : Y → Bool) (f : X → Y) (xs : List X) → filter p (map f xs) ≡ map f (filter (λ x. p (f x)) xs)
-filter-map p f [] = refl
-filter-map p f (x ∷ xs) = step (p (f x)) (filter-map p f xs)
-  where
-    step : (b : Bool) → filter p (map f xs) ≡ map f (filter (λ x. p (f x)) xs) → cond b (f x ∷ filter p (map f xs)) (filter p (map f xs)) ≡ map f (cond b (x ∷ filter (λ x. p (f x)) xs) (filter (λ x. p (f x)) xs))
-    step true e = ap (λ ys. f x ∷ ys) e
-    step false e = e
 
 -- ---- the corners of a wall
 abbrev pub is_corner : List Point → List Span → Point → Point → Bool
@@ -60,7 +53,7 @@ unfolding foot_links
 feet_done vs ss v i base now h e =
     let one : Span → Link SlabCell = λ s. link_at (drawn vs ss) (foot (edge_of s) v) in
     done (is_passing v) (foot_of vs ss v) ss i base now h e
-    ∙ ap (λ zs. base ++ zs) (flat_map_single one (filter (is_passing v) ss) ∙ sym (map-map (λ f. link_at (drawn vs ss) (foot f v)) edge_of (filter (is_passing v) ss)) ∙ ap (map (λ f. link_at (drawn vs ss) (foot f v))) (sym (filter-map (passes v) edge_of ss)))
+    ∙ ap (λ zs. base ++ zs) (flat_map_single one (filter (is_passing v) ss) ∙ sym (map-map (λ f. link_at (drawn vs ss) (foot f v)) edge_of (filter (is_passing v) ss)) ∙ ap (map (λ f. link_at (drawn vs ss) (foot f v))) (sym (filter_of_map edge_of (passes v) ss)))
   where
     map-map : {X Y Z : Type 0} (g : Y → Z) (f : X → Y) (xs : List X) → map g (map f xs) ≡ map (λ x. g (f x)) xs
     map-map g f [] = refl

@@ -13,6 +13,7 @@ use Rattle.slab_laws.specs.SpansDrawn.{edge_of, drawn}
 use Rattle.slab_laws.specs.Skeleton.{Skeleton, IsPlaneSkeleton, left_of, below}
 use Rattle.slab_laws.specs.Slabs.{spans, place, width}
 use Rattle.slab_faces.proofs.Cells.{right_few}
+use Rattle.slab_faces.proofs.PointLemmas.{and_none}
 use Rattle.slab_faces.proofs.Shift.{sum_by-map}
 use Rattle.slab_faces.proofs.Member.{Member, member_in, in_member, map_in, map_out, filter_out}
 use Rattle.plain_slabs.specs.declared.reaches.Reach.{Reach}
@@ -135,11 +136,7 @@ place_is vs ss i s h =
 
 -- ---- before all moves
 zero_at : (rs : List Reach) (n : ℕ) (r : Reach) → r.end ≤ n → 0 ≡ place_in rs n r
-zero_at rs n r h = place_none rs n r (outside (leb r.first n) (ltb n r.end) (le-ltb n r.end h))
-  where
-    outside : (a b : Bool) → b ≡ false → (a && b) ≡ false
-    outside true b e = e
-    outside false b e = refl
+zero_at rs n r h = place_none rs n r (and_none (leb r.first n) (ltb n r.end) (le-ltb n r.end h))
 
 all_zero : (rs qs : List Reach) (n : ℕ) → ((r : Reach) → Member qs r → r.end ≤ n) → replicate (length qs) 0 ≡ map (place_in rs n) qs
 all_zero rs [] n h = refl

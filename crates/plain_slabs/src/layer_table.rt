@@ -1,7 +1,5 @@
 ghost use Rattle.std.specs.Prelude.{◌≡◌, map, filter, IfOk};
 ghost use Rattle.std.specs.List.{list_any};
-ghost use Rattle.std.specs.Ordering.{nat_cmp};
-ghost use Rattle.plane_graphs.specs.Ascending.{ascending};
 ghost use Rattle.slab_laws.specs.Pieces.{piece_of, present_of};
 ghost use Rattle.slab_laws.specs.SpansDrawn.{edge_of};
 ghost use Rattle.present_graphs.specs.Spans.{span_of_piece, lies_on};
@@ -13,6 +11,7 @@ use exact_plane::{Point, Span, line_of};
 use no_memory::NoMemory;
 use slab_laws::{CurveId, Piece, Present};
 use std::alloc::Global;
+use subdivision_rows::arrange_curves;
 
 // Whether a point lies on a piece.
 fn holds(piece: &Piece, point: &Point) -> bool
@@ -51,20 +50,12 @@ fn curves_among(alloc: Global, pieces: &[Piece], edge: &Span) -> Result<Vec<Curv
     Ok(curves)
 }
 
-// Brings curves into their order, each once.
-fn arrange(curves: &mut Vec<CurveId>)
-    ensures { map (λ c. c.0) curves.new.items ≡ ascending nat_cmp (map (λ c. c.0) curves.old.items) }
-{
-    curves.sort_unstable();
-    curves.dedup();
-}
-
 // The curves along an edge, ascending.
 fn curves_along(alloc: Global, pieces: &[Piece], edge: &Span) -> Result<Vec<CurveId>, NoMemory>
     ensures { IfOk result (λ v. map (λ c. c.0) v.items ≡ numbers_along pieces.now (edge_of edge.now)) }
 {
     let mut curves = curves_among(alloc, pieces, edge)?;
-    arrange(&mut curves);
+    arrange_curves(&mut curves);
     Ok(curves)
 }
 

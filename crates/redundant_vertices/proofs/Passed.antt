@@ -28,6 +28,7 @@ use Rattle.sound_changes.proofs.Collinear.{flat_on_line, on_line_of_ends, one_li
 use Rattle.arr_notes.specs.Curves.{Curves, AreCurvesOf, IsForward, is_forward}
 use Rattle.arr_notes.specs.RecordGraph.{drawn_graph}
 use Rattle.sound_views.specs.RecordGraphLaws.{IsMarkOf}
+use Rattle.sound_views.proofs.ForwardDarts.{target_has}
 use Rattle.sound_views.proofs.GraphDrawn.{twins_are_directed}
 use Rattle.sound_changes.proofs.StepHolds.{mark_held, held_mark}
 use Rattle.sound_changes.proofs.StepCases.{one_way}
@@ -63,14 +64,11 @@ module _ (v : View) (h : Curves) (w : VertexId) (s : IsGraphSound v) (a : AreCur
   abbrev marks : List Mark
   marks = (drawn_graph v h).marks
 
-  target_has : (d : DartId) → HasDart v d → HasVertex v (target_in v d)
-  target_has d o = s.linked.source (twin_in v d) (s.twinned.has d o)
-
   source_proper : (d : DartId) → HasDart v d → IsProper (point_in v (source_in v d))
   source_proper d o = s.drawn.proper (source_in v d) (s.linked.source d o)
 
   target_proper : (d : DartId) → HasDart v d → IsProper (point_in v (target_in v d))
-  target_proper d o = s.drawn.proper (target_in v d) (target_has d o)
+  target_proper d o = s.drawn.proper (target_in v d) (target_has v s d o)
 
   -- ---- no edge ends at w
   pub bare_untouched : HasVertex v w → IsBare v w → (m : Mark) → Member m marks → (same_point m.low x || same_point m.high x) ≡ false
@@ -78,7 +76,7 @@ module _ (v : View) (h : Curves) (w : VertexId) (s : IsGraphSound v) (a : AreCur
       let d = held_mark v s.named h m k in
       elim (or_out (same_point m.low x) (same_point m.high x) t) [
         | inl e ↦ bare d.0 (d.1.forward.0, s.drawn.points (source_in v d.0) w (s.linked.source d.0 d.1.forward.0) has (d.1.low ∙ same_out m.low x e))
-        | inr e ↦ bare (twin_in v d.0) (s.twinned.has d.0 d.1.forward.0, s.drawn.points (target_in v d.0) w (target_has d.0 d.1.forward.0) has (d.1.high ∙ same_out m.high x e))
+        | inr e ↦ bare (twin_in v d.0) (s.twinned.has d.0 d.1.forward.0, s.drawn.points (target_in v d.0) w (target_has v s d.0 d.1.forward.0) has (d.1.high ∙ same_out m.high x e))
       ])
 
   -- so that the graph doesn't pass through it
@@ -154,7 +152,7 @@ module _ (v : View) (h : Curves) (w : VertexId) (s : IsGraphSound v) (a : AreCur
               ]
           | inr q ↦
               let u = twin_in v e in
-              let at = s.drawn.points (target_in v e) w (target_has e has_e) has (k.high ∙ same_out m.high x q) in
+              let at = s.drawn.points (target_in v e) w (target_has v s e has_e) has (k.high ∙ same_out m.high x q) in
               elim (f.only u (s.twinned.has e has_e) at) [
                 | inl r ↦ clash f.second_forward (ap (is_forward v) (sym r) ∙ twins_are_directed v s e has_e ∙ ap not k.forward.1)
                 | inr r ↦
@@ -200,7 +198,7 @@ module _ (v : View) (h : Curves) (w : VertexId) (s : IsGraphSound v) (a : AreCur
     has_n = upper.1.forward.0
 
     reaches : target_in v d ≡ w
-    reaches = s.drawn.points (target_in v d) w (target_has d has_d) has lower.1.high
+    reaches = s.drawn.points (target_in v d) w (target_has v s d has_d) has lower.1.high
 
     starts : source_in v n ≡ w
     starts = s.drawn.points (source_in v n) w (s.linked.source n has_n) has upper.1.low

@@ -1,5 +1,7 @@
 ghost use Rattle.std.specs.Prelude.{◌≡◌, ◌<◌, [], length, map, IfOk};
 ghost use Rattle.std.specs.List.{slice_index_or};
+ghost use Rattle.std.specs.Ordering.{nat_cmp};
+ghost use Rattle.plane_graphs.specs.Ascending.{ascending};
 ghost use Rattle.slab_laws.specs.View.{curve_id};
 ghost use Rattle.subdivision_rows.specs.LayerTables.{numbers_in};
 
@@ -24,6 +26,14 @@ impl Model for LayerTable {
     ghost use Rattle.subdivision_rows.specs.LayerTables.{table_rows};
 
     ghost view = { table_rows };
+}
+
+/// Brings the curves of a layer along an edge into their order, each once, as a layer's table has them.
+pub fn arrange_curves(curves: &mut Vec<CurveId>)
+    ensures { map (λ c. c.0) curves.new.items ≡ ascending nat_cmp (map (λ c. c.0) curves.old.items) }
+{
+    curves.sort_unstable();
+    curves.dedup();
 }
 
 fn copied(alloc: Global, curves: &[CurveId]) -> Result<Vec<CurveId>, AllocError>

@@ -13,6 +13,6 @@ mod records;
 mod rows;
 
 pub use both::Both;
-pub use layer_table::LayerTable;
+pub use layer_table::{LayerTable, arrange_curves};
 pub use lists::RowLists;
 pub use rows::Rows;

@@ -4,7 +4,7 @@ use Rattle.std.specs.Prelude.{not, ◌&&◌, slice_index_or, Option, Some, None}
 use Rattle.std.specs.List.{Contains}
 use Rattle.std.specs.Option.{option_map}
 use Rattle.std.proofs.lemmas.Int.{ints}
-use Rattle.std.proofs.lemmas.Bool.{false≢true, and_parts, and_from, not-true, false_from_ne_true, cases_lt}
+use Rattle.std.proofs.lemmas.Bool.{false≢true, and_parts, and_from, not-true, false_from_ne_true}
 use Rattle.integers.proofs.Compare.{greater_out, greater_in}
 use Rattle.exact_plane.specs.Line.{side_of}
 use Rattle.exact_plane.specs.Point.{Point, IsPoint}
@@ -28,7 +28,7 @@ use Rattle.plane_graphs.proofs.Lists.{clash, in_map, of_map}
 use Rattle.plane_graphs.proofs.Marks.{On, on_in, on_out, on_between, le_lt, mark_in, mark_out}
 use Rattle.plane_graphs.proofs.Meaning.{edges_are, edges_ascend, edge_cmp_total, vertices_are}
 use Rattle.plane_graphs.proofs.Order.{lt_in, lt_out, lt_trans, lt_never, mark_cmp_total, mark_cmp_exact}
-use Rattle.plane_graphs.proofs.Sorting.{rises, member_at}
+use Rattle.plane_graphs.proofs.Sorting.{member_at}
 use Rattle.plane_graphs.proofs.Vertices.{vertices_ascend}
 use Rattle.present_graphs.specs.Spans.{span_of_piece, lies_on}
 use Rattle.present_graphs.proofs.HoldingSpan.{graph_ascends}
@@ -52,7 +52,7 @@ use Rattle.sweep_graphs.specs.Traces.{point_at, no_point, IsStep, IsLastOn, IsOp
 use Rattle.sweep_graphs.specs.declared.edges.EdgeEnds.{EdgeEnds}
 use Rattle.sweep_graphs.specs.declared.trace.Stretch.{Stretch}
 use Rattle.sweep_graphs.specs.Edges.{ends_of, ends_cmp, edge_between, curve_at, mark_along}
-use Rattle.sweep_graphs.proofs.EdgeOrders.{ends_cmp_total, ends_cmp_exact, edges_rise}
+use Rattle.sweep_graphs.proofs.EdgeOrders.{ends_cmp_total, ends_cmp_exact, one_place, edges_rise}
 use Rattle.sweep_graphs.specs.TraceLaws.{IsTraceOf, TracesAreGraphs, EdgesBelowAreHighest}
 use Rattle.sweep_graphs.proofs.FrontEdges.{in_order_below}
 
@@ -340,22 +340,6 @@ module _ (p : Present) (fit : IsFit p) (spans : AreSpans (map span_of_piece p.pi
     event_at : (k : ℕ) → k < length t.points → Event (point_at t.points k)
     event_at k l = (h.points_are (point_at t.points k)).0 (member_at t.points k no_point l)
 
-    less_at : (j k : ℕ) → j < k → k < length t.points → point_cmp (point_at t.points j) (point_at t.points k) ≡ Less
-    less_at j k l b = rises point_cmp t.points h.ascends j k no_point l b
-
-    -- one vertex has one place
-    one_place : (j k : ℕ) → j < length t.points → k < length t.points → point_at t.points j ≡ point_at t.points k → j ≡ k
-    one_place j k lj lk e = elim (cases_lt j k) [
-      | inl d ↦ absurd (never_less (point_at t.points k) (subst (λ z. point_cmp z (point_at t.points k) ≡ Less) e (less_at j k d lk)))
-      | inr d ↦ elim (cases_lt k j) [
-        | inl f ↦ absurd (never_less (point_at t.points k) (subst (λ z. point_cmp (point_at t.points k) z ≡ Less) e (less_at k j f lj)))
-        | inr f ↦ omega arith
-      ]
-    ]
-      where
-        never_less : (x : Point) → point_cmp x x ≡ Less → ⊥
-        never_less x c = not_both x x c (at_most_itself x)
-
     below_at : (k : ℕ) (o : Option OpenStretch) → k < length t.points → slice_index_or t.below k None ≡ o → IsOpenBelow (piece_at (map span_of_piece p.pieces)) (length (map span_of_piece p.pieces)) p.pins t.points (point_at t.points k) o
     below_at k o l z = subst (IsOpenBelow (piece_at (map span_of_piece p.pieces)) (length (map span_of_piece p.pieces)) p.pins t.points (point_at t.points k)) z (h.below_are k l)
 
@@ -412,7 +396,7 @@ module _ (p : Present) (fit : IsFit p) (spans : AreSpans (map span_of_piece p.pi
           let c = goes_past (point_at t.points k) (event_at k l) o.piece b.0.0 in
           let s = h.complete o.piece c.0 c.1 c.2 in
           let g = h.sound s.0 s.1 in
-          (s.0, s.1, (one_place s.0.low o.low g.low_in b.2 (s.3 ∙ starts_there (point_at t.points k) (event_at k l) o.piece b.0.0 (point_at t.points o.low) b.1 c.0 c.1 c.2 c.3 c.4), s.2));
+          (s.0, s.1, (one_place t.points h.ascends s.0.low o.low g.low_in b.2 (s.3 ∙ starts_there (point_at t.points k) (event_at k l) o.piece b.0.0 (point_at t.points o.low) b.1 c.0 c.1 c.2 c.3 c.4), s.2));
       something = λ k o s l z m q.
           let b = below_at k (Some o) l z in
           let g = h.sound s m in

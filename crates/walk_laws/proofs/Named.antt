@@ -25,12 +25,13 @@ use Rattle.face_changes.proofs.LinkedCycles.{dart_there}
 use Rattle.dcel_records.specs.declared.spot.Spot.TheVariants.{Face}
 use Rattle.dcel_records.specs.Spots.{IsInFace}
 use Rattle.edges_below.specs.FaceLaws.{cell_over}
-use Rattle.edges_below.specs.Levels.{IsSeen, level, IsSeenAtMost}
+use Rattle.edges_below.specs.Levels.{IsSeen, level}
 use Rattle.edges_below.proofs.FaceBelow.{face_is_over_highest}
 use Rattle.edges_below.proofs.Levels.{levels_tell_highest}
 use Rattle.face_location.specs.Below.{IsSeenOrNone, edge_along}
 use Rattle.face_location.specs.Spots.{IsSpotOf}
 use Rattle.face_location.proofs.PointFaces.{apart}
+use Rattle.face_location.proofs.SeenDarts.{seen_at_most}
 use Rattle.walk_laws.specs.Laws.{WalkEndsInFace, HighestTellsFace}
 use Rattle.walk_laws.specs.Walks.{face_above, height, IsBoundaryPassed}
 use Rattle.walk_laws.proofs.Arrive.{IsSamePlace, IsAtEdge, at_low, at_high, within, IsMet, along, alone, met_within, met_vertex}
@@ -62,10 +63,6 @@ item_cell v q None p = here _
 item_cell v q (Some d) p =
     let up : dart_in v d ≡ ahead (edge_in v d) = λ i. record { edge = edge_in v d; forward = p.0.1 i } in
     subst (λ (x : Dart). SameFace (skeleton_of v) (left_of_dart (skeleton_of v) (ahead (edge_in v d))) (left_of_dart (skeleton_of v) x)) (sym up) (here _)
-
-pub seen_at_most : (v : View) (q : Point) (o : Option DartId) → IsSeenOrNone v q o → IsSeenAtMost (skeleton_of v) q (edge_along v o)
-seen_at_most v q None p = tt
-seen_at_most v q (Some d) p = p.1
 
 module _ (v : View) (f : Faces) (q : Point) (o : Option DartId) (s : IsSound v f) (Q : IsProper q) (p : IsSeenOrNone v q o) where
   -- what is in the face over the edge has its name

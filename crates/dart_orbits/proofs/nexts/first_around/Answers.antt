@@ -1,7 +1,7 @@
 use Rattle.std.proofs.Common.{ℕ, ◌∙◌, sym, subst}
 use Rattle.slab_laws.specs.SpansDrawn.{drawn}
 use Rattle.dart_orbits.specs.Around.{IsFirstPlaced}
-use Rattle.dart_orbits.proofs.Afters.{row_there}
+use Rattle.dart_orbits.proofs.Listed.{row_there}
 use Rattle.dart_orbits.proofs.Neighbours.{by_source, stands, first_around}
 use Rattle.dart_orbits.proofs.nexts.first_around.Goals as goal
 

@@ -1,4 +1,4 @@
-use Rattle.std.proofs.Common.{◌≡◌, List, length, map, arith, sym, ap, ◌∙◌, subst}
+use Rattle.std.proofs.Common.{◌≡◌, length, arith, sym, ap, ◌∙◌, subst}
 use Rattle.dart_orbits.proofs.Listed.{rows_length}
 use Rattle.slab_laws.specs.Overlay.{label, plane_of}
 use Rattle.slab_laws.specs.Pieces.{present_of}

@@ -7,10 +7,10 @@ use Rattle.slab_laws.specs.FacesSound.{IsSound}
 use Rattle.slab_laws.specs.Overlay.{overlay}
 use Rattle.slab_laws.specs.Pieces.{piece_of, present_of}
 use Rattle.slab_laws.specs.Layers.{rows_of}
-use Rattle.slab_laws.specs.Subdivision.{Subdivision, subdivision}
+use Rattle.slab_laws.specs.Subdivision.{subdivision}
 use Rattle.slab_laws.specs.Text.{skeleton}
 use Rattle.overlay_laws.proofs.UnitedGraph.{united_plane, united_fit, united_pins}
-use Rattle.subdivision_rows.specs.Listed.{Drawing, subdivision_in, view_of, faces_of}
+use Rattle.subdivision_rows.specs.Listed.{subdivision_in, view_of, faces_of}
 use Rattle.subdivision_rows.specs.OverlayInMemory.{Overlaid}
 use Rattle.subdivision_rows.proofs.OverlaidRows.{rows_sound}
 use Rattle.sweep_graphs.specs.Edges.{curve_at}

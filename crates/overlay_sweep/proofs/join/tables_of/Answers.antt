@@ -1,7 +1,6 @@
-use Rattle.std.proofs.Common.{List, length, map, sym, ap, ◌∙◌, subst}
+use Rattle.std.proofs.Common.{List, length, sym, ap, ◌∙◌, subst}
 use Rattle.std.proofs.lemmas.List.{length-map}
 use Rattle.slab_laws.specs.Layers.{rows_of}
-use Rattle.slab_laws.specs.Overlay.{plane_of}
 use Rattle.slab_laws.specs.Pieces.{piece_of, present_of}
 use Rattle.slab_laws.specs.Skeleton.{Skeleton}
 use Rattle.slab_laws.specs.Subdivision.{subdivision}

@@ -1,7 +1,7 @@
 use Rattle.std.proofs.Common.{◌<◌, ℕ, sym, ap, subst}
 use Rattle.std.specs.Prelude.{◌==◌}
 use Rattle.slab_laws.specs.SpansDrawn.{drawn}
-use Rattle.dart_orbits.proofs.Afters.{row_there}
+use Rattle.dart_orbits.proofs.Listed.{row_there}
 use Rattle.overlay_sweep.proofs.FirstDarts.{kind_told, leads_length}
 use Rattle.overlay_sweep.proofs.kinds.is_inner.Goals as goal
 

@@ -4,8 +4,8 @@ use Rattle.std.specs.List.{count_by}
 use Rattle.std.proofs.lemmas.List.{take_all}
 use Rattle.slab_laws.specs.SpansDrawn.{drawn}
 use Rattle.slab_laws.specs.Rows.{dart_list, dart_at, no_dart}
-use Rattle.dart_orbits.proofs.Listed.{rows_length}
-use Rattle.plain_slabs.proofs.EdgeRows.{listed, row_within, row_edge, row_forward}
+use Rattle.dart_orbits.proofs.Listed.{rows_length, row_there}
+use Rattle.plain_slabs.proofs.EdgeRows.{row_within, row_edge, row_forward}
 use Rattle.dart_orbits.proofs.LeadsRead.{leads_length, is_on_cycle, not_on_cycle}
 use Rattle.dart_orbits.proofs.DartCells.{dart_there}
 use Rattle.plain_slabs.proofs.Oddness.{counts, counts_by, counts_not, odd_is, one_counts, one_passes}
@@ -20,7 +20,7 @@ offset_bounds-edges-dart c = let b = bounds-edges-dart c in omega arith
 
 pub bounds-leads-place : goal.bounds-leads-place
 bounds-leads-place c =
-    let k = listed c.args.points.now c.args.edges.now c.requires.plane c.args.darts.now c.requires.darts c.loop-place.place c.loop-place-test.true in
+    let k = row_there (drawn c.args.points.now c.args.edges.now) c.args.darts.now c.requires.darts c.loop-place.place c.loop-place-test.true in
     let e = ap length c.requires.leads ∙ leads_length (drawn c.args.points.now c.args.edges.now) in
     subst (λ n. c.loop-place.place < n) (sym e) k
 
@@ -40,8 +40,8 @@ loop-place-preserved c =
     let own = dart_at g c.args.lead in
     let other = dart_at g i in
     let plane = c.requires.plane in
-    let k = listed vs ss plane rows c.requires.darts i c.loop-place-test.true in
-    let l = listed vs ss plane rows c.requires.darts c.args.lead c.requires.lead in
+    let k = row_there (drawn vs ss) rows c.requires.darts i c.loop-place-test.true in
+    let l = row_there (drawn vs ss) rows c.requires.darts c.args.lead c.requires.lead in
     let e = row_edge vs ss plane rows c.requires.darts c.args.lead _ c.requires.lead c.index-edges-dart.result c.index-edges-dart.is in
     elim c.if-leads-place.branch [
       | then-leads-place+then-is_above_dart w ↦
@@ -67,7 +67,7 @@ returns c =
     let vs = c.args.points.now in
     let ss = c.args.edges.now in
     let g = drawn vs ss in
-    let l = listed vs ss c.requires.plane c.args.darts.now c.requires.darts c.args.lead c.requires.lead in
+    let l = row_there (drawn vs ss) c.args.darts.now c.requires.darts c.args.lead c.requires.lead in
     let n = ap length c.requires.darts ∙ rows_length g in
     c.loop-place.invariant
     ∙ ap (λ ds. count_by (counts g (dart_at g c.args.lead)) ds % 2 == 1) (take_all c.loop-place.place (dart_list g) (omega arith))

@@ -3,7 +3,7 @@ use Rattle.std.proofs.lemmas.Cmp.{nat_cmp_total}
 use Rattle.plane_graphs.proofs.Arranged.{arranged}
 use Rattle.integers.proofs.Tests.{nat_exact, number_ties}
 use Rattle.slab_laws.specs.declared.names.CurveId.{CurveId}
-use Rattle.plain_slabs.proofs.layer_table.arrange.Goals as goal
+use Rattle.subdivision_rows.proofs.layer_table.arrange_curves.Goals as goal
 
 pub returns : goal.returns
 returns c =
