@@ -1,5 +1,6 @@
 -- What one look at records tells.
 use Rattle.std.specs.Prelude.{◌≡◌, Some, None}
+use Rattle.slab_laws.specs.declared.names.DartId.{DartId}
 use Rattle.slab_laws.specs.View.{View, HasVertex, HasDart, point_in, source_in, target_in, line_in}
 use Rattle.counted_looks.specs.declared.glance.Looked.{Looked}
 use Rattle.dcel_records.specs.declared.spot.Spot.{Spot}
@@ -16,3 +17,7 @@ abbrev pub IsLookOf : View → Spot → Looked → Type 0
 IsLookOf v (Vertex w) l = (l.source ≡ point_in v w) × (l.target ≡ point_in v w) × (l.line ≡ None)
 IsLookOf v (Edge d) l = (l.source ≡ point_in v (source_in v d)) × (l.target ≡ point_in v (target_in v d)) × (l.line ≡ Some (line_in v d))
 IsLookOf v (Face a) l = ⊥
+
+-- what a look at the dart tells (this project)
+abbrev pub looked_at : View → DartId → Looked
+looked_at v d = record { source = point_in v (source_in v d); target = point_in v (target_in v d); line = Some (line_in v d) }

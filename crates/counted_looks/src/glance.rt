@@ -4,8 +4,10 @@ ghost use Rattle.slab_laws.specs.Sound.{IsTwinned};
 ghost use Rattle.slab_laws.specs.View.{HasVertex, HasDart, HasFace, face_id, source_in};
 ghost use Rattle.dcel_records.specs.RecordsView.{tables_of, lists_of};
 ghost use Rattle.dcel_records.specs.SoundMaps.{IsSoundMap};
+ghost use Rattle.dcel_records.specs.declared.spot.Spot.TheVariants.{Edge};
 ghost use Rattle.counted_looks.specs.Looks.{IsLookable, IsLookOf};
 
+use crate::glimpse::Glimpse;
 use crate::name_calls::NameCalls;
 use dcel_records::{Records, Spot};
 use exact_plane::{Line, Point};
@@ -58,27 +60,32 @@ impl<'a> Glance<'a> {
         self.records.face_laws();
     }
 
+    /// One look at a dart, which is one step; it tells what `look` does, each part where it is asked for.
+    pub fn glimpse<L: Ledger>(&self, dart: DartId, steps: &mut Steps<L>) -> Glimpse<'a>
+        requires { HasDart self.now.graph dart }
+        ensures look { IsLookOf self.now.graph (Edge dart) result }
+        ensures one { steps.new ≡ steps.old + 1 }
+    {
+        Glimpse::at(self.records, dart, steps)
+    }
+
     /// One look, at a dart or a vertex, which is one step.
     pub fn look<L: Ledger>(&self, at: Spot, steps: &mut Steps<L>) -> Looked
         requires { IsLookable self.now.graph at }
         ensures look { IsLookOf self.now.graph at result }
         ensures one { steps.new ≡ steps.old + 1 }
     {
-        // The source of a dart has a record.
-        self.records.laws();
-        steps.tick();
         match at {
             Spot::Edge(dart) => {
-                let source = self.records.point(Darts::source(self.records, dart));
-                let target = self.records.point(Darts::target(self.records, dart));
-                let line = Some(self.records.line(dart));
+                let glimpse = self.glimpse(dart, steps);
                 Looked {
-                    source,
-                    target,
-                    line,
+                    source: glimpse.source(),
+                    target: glimpse.target(),
+                    line: Some(glimpse.line()),
                 }
             }
             Spot::Vertex(vertex) => {
+                steps.tick();
                 let point = self.records.point(vertex);
                 Looked {
                     source: point,

@@ -5,6 +5,7 @@
 mod boundary;
 mod boundary_part;
 mod glance;
+mod glimpse;
 mod looker;
 mod name_calls;
 mod naming;
@@ -12,5 +13,6 @@ mod naming;
 pub use boundary::look_at_boundary;
 pub use boundary_part::BoundaryPart;
 pub use glance::{Glance, Looked};
+pub use glimpse::Glimpse;
 pub use looker::Looker;
 pub use name_calls::NameCalls;

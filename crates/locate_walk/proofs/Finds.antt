@@ -1,6 +1,7 @@
 -- What a look at a dart tells of its edge, by the ends and the line that were read.
 use Rattle.std.proofs.Common.{◌≡◌, inl, inr, sym, ap, ◌∙◌, subst}
 use Rattle.std.specs.Prelude.{Some}
+use Rattle.exact_plane.specs.Line.{Line}
 use Rattle.exact_plane.specs.Point.{Point}
 use Rattle.exact_plane.specs.Sign.{sign_of}
 use Rattle.exact_plane.specs.Span.{Span, AreOnWay}
@@ -53,8 +54,11 @@ module _ (v : View) (f : Faces) (s : IsGraphSound v) (q : Point) (Q : IsProper q
     drawn e x y X Y h = (λ i. record { low = (h.0 ∙ X) i; high = (h.1 ∙ Y) i }) ∙ sym (between_forward (point_in v (source_in v r)) (point_in v (target_in v r)) w.forward.1)
 
     -- and the line that was read goes through them
-    pub way : (x y : Point) → x ≡ point_in v (source_in v r) → y ≡ point_in v (target_in v r) → (m : _) × (l.line ≡ Some m) × AreOnWay x y m
-    way x y X Y = (line_in v d, look.2, way_along v s r w.forward x y (line_in v d) X Y (sym w.line))
+    pub way : (x y : Point) → x ≡ point_in v (source_in v r) → y ≡ point_in v (target_in v r) → (m : Line) → l.line ≡ Some m → AreOnWay x y m
+    way x y X Y m e =
+        let read : Some (line_in v d) ≡ Some m = sym look.2 ∙ e in
+        let same : line_in v d ≡ m = cc in
+        subst (AreOnWay x y) same (way_along v s r w.forward x y (line_in v d) X Y (sym w.line))
 
   -- ---- a dart that starts before the point and ends after it
   module _ (b : IsBetween l.source q l.target) where
@@ -70,7 +74,7 @@ module _ (v : View) (f : Faces) (s : IsGraphSound v) (q : Point) (Q : IsProper q
     ahead_off : IsOffEnds v q d
     ahead_off = off_ends (differ starts) (λ e. differ ends (sym e))
 
-    pub ahead_way : (m : _) × (l.line ≡ Some m) × AreOnWay l.source l.target m
+    pub ahead_way : (m : Line) → l.line ≡ Some m → AreOnWay l.source l.target m
     ahead_way = way d ahead.0 ahead.1 ahead_off l.source l.target look.0 look.1
 
     pub ahead_found : (e : Span) → (e.lower ≡ l.source) × (e.upper ≡ l.target) → (found : Found) → IsSided d e q found → IsFoundAtDart v f q d found
@@ -96,7 +100,7 @@ module _ (v : View) (f : Faces) (s : IsGraphSound v) (q : Point) (Q : IsProper q
     at_target : l.source ≡ point_in v (target_in v r)
     at_target = look.0 ∙ ap (λ x. point_in v (source_in v x)) (sym (ap (twin_in v) e ∙ s.twinned.back d has))
 
-    pub behind_way : (m : _) × (l.line ≡ Some m) × AreOnWay l.target l.source m
+    pub behind_way : (m : Line) → l.line ≡ Some m → AreOnWay l.target l.source m
     behind_way = way r behind.0 behind.1 behind_off l.target l.source at_source at_target
 
     pub behind_found : (g : Span) → (g.lower ≡ l.target) × (g.upper ≡ l.source) → (found : Found) → IsSided r g q found → IsFoundAtDart v f q d found

@@ -1,3 +1,4 @@
+pub mod Floors
 pub mod Compared
 pub mod Finds
 pub mod Takes

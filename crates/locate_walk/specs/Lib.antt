@@ -1,3 +1,4 @@
+pub mod Queries
 pub mod Passages
 pub mod Finds
 pub mod Looks

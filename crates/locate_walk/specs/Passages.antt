@@ -1,5 +1,5 @@
 -- How a dart lies to the leant vertical through a point, by its ends.
-use Rattle.std.specs.Prelude.{◌≡◌, ◌≢◌, ⊤, Option, Some, None}
+use Rattle.std.specs.Prelude.{◌≡◌, ◌≢◌, ⊤, Bool, true, false, Option, Some, None}
 use Rattle.std.specs.declared.cmp.Ordering.TheVariants.{Less}
 use Rattle.exact_plane.specs.Point.{Point}
 use Rattle.exact_plane.specs.PointOrder.{point_cmp}
@@ -26,6 +26,14 @@ IsPassage s p t ToPoint = t ≡ p
 IsPassage s p t Forward = IsBetween s p t
 IsPassage s p t Backward = IsBetween t p s
 IsPassage s p t Apart = IsApart s p t
+
+-- one end is before the point, and one after it
+abbrev pub spans : Passage → Bool
+spans Forward = true
+spans Backward = true
+spans FromPoint = false
+spans ToPoint = false
+spans Apart = false
 
 -- none, or a vertex with the order of its point and the point q (this project)
 abbrev pub IsComparedOrNone : View → Point → Option Compared → Type 0

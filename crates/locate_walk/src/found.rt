@@ -1,6 +1,5 @@
-ghost use Rattle.std.specs.Prelude.{◌≡◌, ◌+◌, Some};
+ghost use Rattle.std.specs.Prelude.{◌≡◌, ◌+◌};
 ghost use Rattle.exact_plane.specs.Span.{AreOnWay};
-ghost use Rattle.exact_plane.specs.Line.{Line as LineRow};
 ghost use Rattle.slab_laws.specs.View.{HasDart};
 ghost use Rattle.counted_looks.specs.Boundaries.{HasPart};
 ghost use Rattle.counted_looks.specs.Looks.{IsLookOf};
@@ -12,7 +11,8 @@ ghost use Rattle.locate_walk.specs.Finds.{IsFound, IsFoundAtDart, IsSided, is_to
 ghost use Rattle.locate_walk.specs.Passages.{IsPassage, IsComparedOrNone};
 
 use crate::passage::{Compared, Passage, passage_of};
-use counted_looks::{BoundaryPart, Glance, Looked, NameCalls};
+use crate::query::Query;
+use counted_looks::{BoundaryPart, Glance, Glimpse, NameCalls};
 use dcel_records::Spot;
 use exact_plane::{Line, Point, Sign, Span, side};
 use slab_laws::{DartId, FaceId};
@@ -38,19 +38,19 @@ pub enum Found {
 }
 
 // The edge between two ends that were read.
-fn span_between(lower: Point, upper: Point, line: Option<Line>) -> Span
-    requires { (l : LineRow) × (line ≡ Some l) × AreOnWay lower upper l }
+fn span_between(lower: Point, upper: Point, line: Line) -> Span
+    requires { AreOnWay lower upper line }
     ensures { (result.lower ≡ lower) × (result.upper ≡ upper) }
 {
-    Span::new(lower, upper, line.unwrap()).unwrap()
+    Span::new(lower, upper, line).unwrap()
 }
 
 // Where a point is that an edge spans: on it, over it, or under it.
-fn side_of(dart: DartId, edge: Span, point: &Point) -> Found
+fn side_of(dart: DartId, edge: Span, point: &Query) -> Found
     ensures { IsSided dart edge point.now result }
 {
     edge.laws();
-    match side(&edge.line(), point) {
+    match side(&edge.line(), &point.point()) {
         Sign::Minus => Found::Past,
         Sign::Zero => Found::At(Spot::Edge(dart)),
         Sign::Plus => Found::Below(EdgeBelow { dart, edge }),
@@ -58,7 +58,8 @@ fn side_of(dart: DartId, edge: Span, point: &Point) -> Found
 }
 
 // Whether the edge of a dart is told at its other dart: that one is on the boundary of the face too, and has the lesser name.
-// In a map of few faces nearly all edges border one face from both sides, and names are cheaper than points.
+// In a map of few faces nearly all edges border one face from both sides. It is asked of edges that span the point alone: all others
+// are ruled out by one comparison, which the next dart needs anyway.
 fn is_told_at_twin(glance: &Glance, face: FaceId, dart: DartId) -> bool
     requires { HasDart glance.now.graph dart }
     ensures { result ≡ is_told_at_twin glance.now.graph (tables_of glance.now) face dart }
@@ -71,8 +72,8 @@ fn is_told_at_twin(glance: &Glance, face: FaceId, dart: DartId) -> bool
 fn found_at_dart(
     glance: &Glance,
     dart: DartId,
-    looked: &Looked,
-    point: &Point,
+    looked: &Glimpse,
+    point: &Query,
     passage: Passage,
 ) -> Found
     requires map { IsSoundMap glance.now }
@@ -87,25 +88,25 @@ fn found_at_dart(
         Passage::ToPoint => Found::At(Spot::Vertex(glance.target(dart))),
         Passage::Forward => side_of(
             dart,
-            span_between(looked.source, looked.target, looked.line),
+            span_between(looked.source(), looked.target(), looked.line()),
             point,
         ),
         Passage::Backward => side_of(
             glance.twin(dart),
-            span_between(looked.target, looked.source, looked.line),
+            span_between(looked.target(), looked.source(), looked.line()),
             point,
         ),
         Passage::Apart => Found::Past,
     }
 }
 
-/// What one look at a part of the boundary of a face finds for a point. An edge of which both darts are there is told at one of
-/// them; the other one only ticks. How the vertex that was compared last lies to the point is kept.
+/// What one look at a part of the boundary of a face finds for a point. An edge that spans it, of which both darts are there, is told
+/// at one of them; at the other one nothing is found. How the vertex that was compared last lies to the point is kept.
 pub fn find<L: Ledger>(
     glance: &Glance,
     face: FaceId,
     at: BoundaryPart,
-    point: &Point,
+    point: &Query,
     last: &mut Option<Compared>,
     steps: &mut Steps<L>,
 ) -> Found
@@ -118,17 +119,16 @@ pub fn find<L: Ledger>(
 {
     match at {
         BoundaryPart::Dart(dart) => {
-            if is_told_at_twin(glance, face, dart) {
-                steps.tick();
+            let looked = glance.glimpse(dart, steps);
+            let passage = passage_of(glance, dart, &looked, point, last);
+            if passage.spans() && is_told_at_twin(glance, face, dart) {
                 return Found::Past;
             }
-            let looked = glance.look(Spot::Edge(dart), steps);
-            let passage = passage_of(glance, dart, &looked, point, last);
             found_at_dart(glance, dart, &looked, point, passage)
         }
         BoundaryPart::Isolated(vertex) => {
             let looked = glance.look(Spot::Vertex(vertex), steps);
-            if looked.source == *point {
+            if looked.source == point.point() {
                 return Found::At(Spot::Vertex(vertex));
             }
             Found::Past

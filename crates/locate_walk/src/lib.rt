@@ -8,6 +8,7 @@
 mod found;
 mod highest;
 mod passage;
+mod query;
 mod round;
 mod walk;
 

@@ -3,10 +3,10 @@ ghost use Rattle.exact_plane.specs.PointOrder.{point_cmp};
 ghost use Rattle.slab_laws.specs.View.{HasDart};
 ghost use Rattle.counted_looks.specs.Looks.{IsLookOf};
 ghost use Rattle.dcel_records.specs.declared.spot.Spot.TheVariants.{Edge};
-ghost use Rattle.locate_walk.specs.Passages.{IsPassage, IsComparedOrNone};
+ghost use Rattle.locate_walk.specs.Passages.{IsPassage, IsComparedOrNone, spans};
 
-use counted_looks::{Glance, Looked, NameCalls};
-use exact_plane::Point;
+use crate::query::Query;
+use counted_looks::{Glance, Glimpse, NameCalls};
 use slab_laws::{DartId, VertexId};
 use std::cmp::Ordering;
 
@@ -25,6 +25,15 @@ pub enum Passage {
     Apart,
 }
 
+impl Passage {
+    /// Whether one end is before the point and one after it.
+    pub fn spans(self) -> bool
+        ensures { result ≡ spans self }
+    {
+        matches!(self, Passage::Forward | Passage::Backward)
+    }
+}
+
 /// How a vertex lies to the point, as it was compared.
 #[derive(Clone, Copy)]
 pub struct Compared {
@@ -32,25 +41,31 @@ pub struct Compared {
     pub order: Ordering,
 }
 
-// How a vertex lies to the point: as was kept of it, or by a comparison.
-fn order_of(vertex: VertexId, at: &Point, point: &Point, last: Option<Compared>) -> Ordering
-    requires { (c : _) → last ≡ Some c → c.vertex ≡ vertex → c.order ≡ point_cmp at.now point.now }
-    ensures { result ≡ point_cmp at.now point.now }
+// How the source of a dart lies to the point: as was kept of it, or by a comparison.
+fn order_of_source(
+    vertex: VertexId,
+    looked: &Glimpse,
+    point: &Query,
+    last: Option<Compared>,
+) -> Ordering
+    requires { (c : _) → last ≡ Some c → c.vertex ≡ vertex → c.order ≡ point_cmp looked.now.source point.now }
+    ensures { result ≡ point_cmp looked.now.source point.now }
 {
     if let Some(compared) = last {
         if compared.vertex == vertex {
             return compared.order;
         }
     }
-    at.cmp(point)
+    point.order_of(&looked.source())
 }
 
-// How the ends of a dart lie to the point. Along a cycle a dart starts where the one before it ended, so only its target is compared.
+// How the ends of a dart lie to the point. Along a cycle a dart starts where the one before it ended, so only its target is read and
+// compared.
 fn orders_of(
     glance: &Glance,
     dart: DartId,
-    looked: &Looked,
-    point: &Point,
+    looked: &Glimpse,
+    point: &Query,
     last: &mut Option<Compared>,
 ) -> (Ordering, Ordering)
     requires dart { HasDart glance.now.graph dart }
@@ -60,8 +75,8 @@ fn orders_of(
     ensures target { result.1 ≡ point_cmp looked.now.target point.now }
     ensures last { IsComparedOrNone glance.now.graph point.now last.new }
 {
-    let of_source = order_of(glance.source(dart), &looked.source, point, *last);
-    let order = looked.target.cmp(point);
+    let of_source = order_of_source(glance.source(dart), looked, point, *last);
+    let order = point.order_of(&looked.target());
     *last = Some(Compared {
         vertex: glance.target(dart),
         order,
@@ -73,8 +88,8 @@ fn orders_of(
 pub fn passage_of(
     glance: &Glance,
     dart: DartId,
-    looked: &Looked,
-    point: &Point,
+    looked: &Glimpse,
+    point: &Query,
     last: &mut Option<Compared>,
 ) -> Passage
     requires dart { HasDart glance.now.graph dart }

@@ -8,6 +8,7 @@ ghost use Rattle.locate_walk.specs.Rounds.{IsRound};
 
 use crate::found::EdgeBelow;
 use crate::highest::Highest;
+use crate::query::Query;
 use counted_looks::{Glance, look_at_boundary};
 use dcel_records::Spot;
 use exact_plane::Point;
@@ -44,7 +45,7 @@ pub fn look_round<L: Ledger>(
     let mut highest = Highest {
         glance,
         face,
-        point: *point,
+        point: Query::of(point),
         hit: None,
         best: last,
         compared: None,

@@ -16,24 +16,28 @@ const MAX_OBSERVER: u32 = 64;
 // The greatest number of rounds from now.
 const MAX_ROUND: u32 = 1_000_000;
 
-// The numbers of a line of so many words, each within the limit of `read_number`.
+// The numbers of a line of so many words, each within the limit of `read_number`. A word that is no number tells only once the
+// count of words is known to be right.
 fn numbers<const N: usize>(line: &[u8]) -> Result<[i128; N], LineError>
     ensures { result ≡ numbers_of N (words line.now) }
 {
-    if count_words(line) != N {
-        return Err(LineError::Count);
-    }
     let mut numbers = [0; N];
+    let mut are_read = true;
     let mut rest = line;
     for slot in &mut numbers {
-        // There is a word for each slot, since they were counted.
         let Some((word, behind)) = next_word(rest) else {
             return Err(LineError::Count);
         };
-        *slot = read_number(word).ok_or(LineError::Number)?;
+        let number = read_number(word);
+        are_read &= number.is_some();
+        *slot = number.unwrap_or(0);
         rest = behind;
     }
-    Ok(numbers)
+    match next_word(rest) {
+        Some(_) => Err(LineError::Count),
+        None if are_read => Ok(numbers),
+        None => Err(LineError::Number),
+    }
 }
 
 // The point of three numbers, where they are in range.

@@ -1,14 +1,14 @@
-use Rattle.std.proofs.Common.{refl, sym, ap, ◌∙◌}
+use Rattle.std.proofs.Common.{refl, sym, ◌∙◌}
 use Rattle.exact_plane.specs.Line.{side_of as side_number}
 use Rattle.exact_plane.specs.Sign.{sign_of}
 use Rattle.edge_predicates.proofs.Sides.{sign_same}
 use Rattle.locate_walk.proofs.found.side_of.Goals as goal
 
 pub returns-in-Minus : goal.returns-in-Minus
-returns-in-Minus c = sym c.in-Minus.is ∙ sign_same c.args.edge c.args.point.now c.side.result c.laws.ensures (c.side.ensures ∙ ap (λ l. sign_of (side_number l c.args.point.now)) c.line.ensures)
+returns-in-Minus c = sym c.in-Minus.is ∙ sign_same c.args.edge c.args.point.now c.side.result c.laws.ensures (c.side.ensures ∙ (λ i. sign_of (side_number (c.line.ensures i) (c.point.ensures i))))
 
 pub returns-in-Zero : goal.returns-in-Zero
-returns-in-Zero c = (sym c.in-Zero.is ∙ sign_same c.args.edge c.args.point.now c.side.result c.laws.ensures (c.side.ensures ∙ ap (λ l. sign_of (side_number l c.args.point.now)) c.line.ensures), refl)
+returns-in-Zero c = (sym c.in-Zero.is ∙ sign_same c.args.edge c.args.point.now c.side.result c.laws.ensures (c.side.ensures ∙ (λ i. sign_of (side_number (c.line.ensures i) (c.point.ensures i)))), refl)
 
 pub returns-in-Plus : goal.returns-in-Plus
-returns-in-Plus c = (sym c.in-Plus.is ∙ sign_same c.args.edge c.args.point.now c.side.result c.laws.ensures (c.side.ensures ∙ ap (λ l. sign_of (side_number l c.args.point.now)) c.line.ensures), refl, refl)
+returns-in-Plus c = (sym c.in-Plus.is ∙ sign_same c.args.edge c.args.point.now c.side.result c.laws.ensures (c.side.ensures ∙ (λ i. sign_of (side_number (c.line.ensures i) (c.point.ensures i)))), refl, refl)
