@@ -13,6 +13,7 @@ pub mod LeadsRead
 pub mod LeastDarts
 pub mod Ranges
 pub mod WayOrders
+pub mod WayTurns
 pub mod Neighbours
 pub mod Afters
 pub mod Walks
