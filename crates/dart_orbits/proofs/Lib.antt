@@ -11,6 +11,7 @@ pub mod LeadPlaces
 pub mod DartCells
 pub mod LeadsRead
 pub mod LeastDarts
+pub mod CyclePlaces
 pub mod Ranges
 pub mod WayOrders
 pub mod WayTurns
