@@ -1,27 +1,27 @@
 -- The places of the least darts of the cycles, and the place of each dart's cycle among them.
-use Rattle.std.proofs.Common.{◌≡◌, ℕ, ◌+◌, ◌<◌, ◌≤◌, Bool, true, false, cond, arith, refl, sym, ap, ap₂, ◌∙◌, subst, inl, inr, List, [], ◌∷◌, ◌++◌, map, filter, take, length, get_or, Contains, Ok, Err}
+use Rattle.std.proofs.Common.{◌≡◌, ℕ, ◌+◌, ◌<◌, Bool, true, false, cond, arith, refl, sym, ap, ap₂, ◌∙◌, subst, inl, inr, List, [], ◌∷◌, ◌++◌, map, filter, take, length, get_or, Contains}
 use Rattle.std.specs.Prelude.{◌==◌, not}
 use Rattle.std.specs.List.{position_or_len}
-use Rattle.std.specs.List.Sorted.{IsStrictlyIncreasing, IsBinarySearchResult}
-use Rattle.std.specs.Ordering.{nat_cmp}
-use Rattle.std.proofs.lemmas.Bool.{eqb-true, eq-eqb, cases_lt}
+use Rattle.std.specs.List.Sorted.{IsStrictlyIncreasing}
+use Rattle.std.proofs.lemmas.Bool.{eqb-true, eq-eqb}
 use Rattle.std.proofs.lemmas.List.{map-append, append-nil, length-map, get_or-map}
 use Rattle.std.proofs.lemmas.List.Elements.{filter_more, Contains-get_or}
 use Rattle.std.proofs.lemmas.List.Kept.{AllPairs-from_increasing}
-use Rattle.std.proofs.lemmas.List.Sorted.{searched}
 use Rattle.std.proofs.lemmas.List.Sums.{position_or_len_is}
 use Rattle.plane_graphs.specs.Ascending.{IsAscending, Member as In}
 use Rattle.plane_graphs.proofs.Ascending.{ascending_is, to_member, from_member}
-use Rattle.plane_graphs.proofs.Lists.{both_ways, of_filter, in_filter, IsAscending-filter}
+use Rattle.plane_graphs.proofs.Lists.{both_ways, of_filter, in_filter, in_map, of_map, IsAscending-filter}
 use Rattle.slab_laws.specs.Skeleton.{Skeleton, IsPlaneSkeleton}
 use Rattle.slab_laws.specs.Darts.{Dart, darts}
 use Rattle.slab_laws.specs.Rotation.{same_dart, dart_cmp}
 use Rattle.slab_laws.specs.Cycles.{leads}
-use Rattle.slab_laws.specs.Rows.{dart_list, dart_at, no_dart, dart_place, least_dart_of, lead_list, cycle_place, cycle_places, lead_places}
+use Rattle.slab_laws.specs.Rows.{dart_list, dart_at, no_dart, dart_place, least_dart_of, lead_list, cycle_place}
 use Rattle.slab_faces.proofs.NextLemmas.{darts_exact}
-use Rattle.plane_graphs.proofs.Sorting.{rises}
+use Rattle.plane_graphs.proofs.Sorting.{rises, any_default}
 use Rattle.slab_faces.proofs.Places.{place_before}
-use Rattle.slab_faces.proofs.DartOrder.{dart_cmp_total, tied_darts, list_ascends}
+use Rattle.slab_faces.proofs.DartOrder.{dart_cmp_total, tied_darts, list_ascends, lead_lead}
+use Rattle.dart_orbits.specs.CycleLinks.{cycle_leads, AreBelow, TellPlaces}
+use Rattle.dart_orbits.proofs.Placed.{place_within}
 use Rattle.dart_orbits.proofs.DartCells.{listed_in, listed_out, lead_there, same_dart_place}
 use Rattle.dart_orbits.proofs.Listed.{place_of_dart}
 use Rattle.integers.proofs.Tests.{not_true}
@@ -32,30 +32,13 @@ module _ {X : Type 0} where
   place_in_map p q f [] h = refl
   place_in_map p q f (x ∷ xs) h = ap₂ (λ b n. cond (not b) (1 + n) 0) (h x (inl refl)) (place_in_map p q f xs (λ y m. h y (inr m)))
 
-  pub map_twice : (h q : X → ℕ) (g : ℕ → ℕ) (xs : List X) → ((x : X) → In x xs → g (h x) ≡ q x) → map g (map h xs) ≡ map q xs
-  map_twice h q g [] k = refl
-  map_twice h q g (x ∷ xs) k = ap₂ (λ y ys. y ∷ ys) (k x (inl refl)) (map_twice h q g xs (λ y m. k y (inr m)))
-
--- ---- a search among numbers that rise
-module _ (xs : List ℕ) (rising : IsStrictlyIncreasing xs) (n : ℕ) where
-  not_falling : (i j : ℕ) → i ≤ j → j < length xs → get_or xs i 0 ≤ get_or xs j 0
-  not_falling i j l m = elim (cases_lt i j) [ inl k ↦ (let a = AllPairs-from_increasing xs rising i j 0 k m in omega arith) | inr k ↦ (let e : i ≡ j = omega arith in omega (arith, ap (λ t. get_or xs t 0) e)) ]
-
-  -- a number that is found stands nowhere else, and one that isn't found stands nowhere
-  pub searched_there : (i : ℕ) → IsBinarySearchResult (λ y. nat_cmp y n) xs (Ok i) → i ≡ position_or_len (λ k. n == k) xs
-  searched_there i h =
-      let s = searched xs n (Ok i) h not_falling in
-      sym (position_or_len_is (λ k. n == k) xs i 0 (let l = s.0 in omega arith)
-      (λ k l. not_true _ (λ e. let a = AllPairs-from_increasing xs rising k i 0 l s.0 in let b = s.1 in let c : n ≡ get_or xs k 0 = eqb-true _ _ e in absurd (omega arith)))
-      (λ _. eq-eqb _ _ (sym s.1)))
-
-  pub searched_absent : (i : ℕ) → IsBinarySearchResult (λ y. nat_cmp y n) xs (Err i) → length xs ≡ position_or_len (λ k. n == k) xs
-  searched_absent i h =
-      let s = searched xs n (Err i) h not_falling in
-      sym (position_or_len_is (λ k. n == k) xs (length xs) 0 (omega arith)
-      (λ k l. not_true _ (λ e. let c : n ≡ get_or xs k 0 = eqb-true _ _ e in
-      elim (cases_lt k i) [ inl a ↦ (let b = s.1 k a in absurd (omega arith)) | inr a ↦ (let b = s.2 k a l in absurd (omega arith)) ]))
-      (λ l. absurd (omega arith)))
+-- ---- numbers that rise
+-- a number stands where it does, and nowhere else
+pub stands_once : (xs : List ℕ) → IsStrictlyIncreasing xs → (i : ℕ) → i < length xs → i ≡ position_or_len (λ k. get_or xs i 0 == k) xs
+stands_once xs rising i h =
+    sym (position_or_len_is (λ k. get_or xs i 0 == k) xs i 0 (omega arith)
+    (λ k l. not_true _ (λ e. let a = AllPairs-from_increasing xs rising k i 0 l h in let c : get_or xs i 0 ≡ get_or xs k 0 = eqb-true _ _ e in absurd (omega arith)))
+    (λ _. eq-eqb _ _ refl))
 
 -- ---- least darts
 -- the dart is the least of its cycle
@@ -108,9 +91,30 @@ module _ (g : Skeleton) (plane : IsPlaneSkeleton g) where
     no_more e = sym (append-nil items) ∙ sym (next_kept false (swapped _ _ ∙ e))
 
   -- ---- cycles by their places
-  pub places_among : map (λ n. position_or_len (λ k. n == k) (map (dart_place g) (lead_list g))) (lead_places g) ≡ cycle_places g
-  unfolding lead_places cycle_places
-  places_among =
-      map_twice (λ d. dart_place g (least_dart_of g d)) (cycle_place g) (λ n. position_or_len (λ k. n == k) (map (dart_place g) (lead_list g))) (dart_list g)
-      (λ d m. place_in_map (λ k. dart_place g (least_dart_of g d) == k) (same_dart (least_dart_of g d)) (dart_place g) (lead_list g)
-      (λ y n. same_dart_place g plane (least_dart_of g d) y (lead_there g plane d (from_member (dart_list g) d m)) (least_there y n)))
+  pub leads_below : (n : ℕ) → n ≡ length (dart_list g) → AreBelow n (cycle_leads g)
+  leads_below n e i h =
+      let w = of_map (dart_place g) (get_or (cycle_leads g) i 0) (lead_list g) (to_member (cycle_leads g) _ (Contains-get_or (cycle_leads g) i 0 h)) in
+      let l = place_within same_dart darts_exact (dart_list g) w.0 (to_member (dart_list g) w.0 (least_there w.0 w.1)) in
+      let is = w.2 in
+      omega arith
+
+  pub least_place : (d : Dart) → Contains (dart_list g) d → dart_place g (least_dart_of g d) < length (dart_list g)
+  least_place d h = place_within same_dart darts_exact (dart_list g) (least_dart_of g d) (to_member (dart_list g) (least_dart_of g d) (lead_there g plane d h))
+
+  lead_listed : (d : Dart) → Contains (dart_list g) d → In (least_dart_of g d) (lead_list g)
+  lead_listed d h =
+      subst (In (least_dart_of g d)) least_listed
+      (in_filter (is_least g) (least_dart_of g d) (dart_list g) (to_member (dart_list g) (least_dart_of g d) (lead_there g plane d h)) (ap (same_dart (least_dart_of g d)) (lead_lead g d) ∙ darts_exact.itself (least_dart_of g d)))
+
+  cycle_told : (d : Dart) → Contains (dart_list g) d → position_or_len (λ k. dart_place g (least_dart_of g d) == k) (cycle_leads g) ≡ cycle_place g d
+  cycle_told d h =
+      place_in_map (λ k. dart_place g (least_dart_of g d) == k) (same_dart (least_dart_of g d)) (dart_place g) (lead_list g)
+      (λ y n. same_dart_place g plane (least_dart_of g d) y (lead_there g plane d h) (least_there y n))
+
+  -- what a table tells at a dart's lead
+  pub told_at : (d : Dart) (places : List ℕ) → Contains (dart_list g) d → TellPlaces (cycle_leads g) (length (cycle_leads g)) places → get_or places (dart_place g (least_dart_of g d)) 0 ≡ cycle_place g d
+  told_at d places h t =
+      let x = dart_place g (least_dart_of g d) in
+      let w = from_member (cycle_leads g) x (in_map (dart_place g) (least_dart_of g d) (lead_list g) (lead_listed d h)) in
+      let is : get_or (cycle_leads g) w.0 0 ≡ x = any_default (cycle_leads g) w.0 0 x w.1 ∙ w.2 in
+      subst (λ y. get_or places y 0 ≡ position_or_len (λ k. y == k) (cycle_leads g)) is (t w.0 w.1) ∙ cycle_told d h

@@ -11,8 +11,10 @@ pub mod LeadPlaces
 pub mod DartCells
 pub mod LeadsRead
 pub mod LeastDarts
+pub mod CyclePlaces
 pub mod Ranges
 pub mod WayOrders
+pub mod WayTurns
 pub mod Neighbours
 pub mod Afters
 pub mod Walks

@@ -1,5 +1,5 @@
 -- The darts of a plane graph in their list, and their rows.
-use Rattle.std.proofs.Common.{◌≡◌, ℕ, suc, ◌+◌, ◌<◌, Bool, true, false, List, [], ◌∷◌, ◌++◌, map, length, get_or, take, Contains, Ordering, Less, Equal, Greater, refl, sym, ap, ◌∙◌, subst, arith, inl, inr}
+use Rattle.std.proofs.Common.{◌≡◌, ℕ, suc, ◌+◌, ◌<◌, Bool, true, false, not, List, [], ◌∷◌, ◌++◌, map, length, get_or, take, Contains, Ordering, Less, Equal, Greater, refl, sym, ap, ◌∙◌, subst, arith, inl, inr}
 use Rattle.std.specs.Prelude.{flat_map}
 use Rattle.std.specs.List.{AllByRecursion, IsDistinct, position_or_len}
 use Rattle.std.specs.List.Sorted.{IsPermutation, IsSorted}
@@ -28,11 +28,12 @@ use Rattle.slab_faces.proofs.Member.{member_in, in_member}
 use Rattle.slab_faces.proofs.Places.{points_exact, edges_exact}
 use Rattle.slab_faces.proofs.NextLemmas.{darts_exact, dart_out, dart_in}
 use Rattle.slab_faces.proofs.DartOrder.{dart_cmp_total, list_ascends, listed_out, listed_in}
-use Rattle.dart_orbits.specs.DartRows.{edge_rows, row_dart}
+use Rattle.dart_orbits.specs.DartRows.{edge_rows, row_dart, twin_row, rows_of_both, ahead_rows}
 use Rattle.dart_orbits.specs.Ways.{no_row}
+use Rattle.dart_orbits.proofs.Pushed.{pushed}
 use Rattle.dart_orbits.proofs.Placed.{AreApart, one_place, place_at, place_within, at_place, counted_apart, ascending_apart, lower}
 use Rattle.dart_orbits.proofs.RowOrder.{row_cmp, row_cmp_total, untied}
-use Rattle.integers.proofs.Tests.{nat_less}
+use Rattle.integers.proofs.Tests.{nat_less, not_not}
 
 -- one row for each dart
 pub rows_length : (g : Skeleton) → length (dart_rows g) ≡ length (dart_list g)
@@ -182,24 +183,40 @@ module _ (g : Skeleton) (plane : IsPlaneSkeleton g) where
         (λ r m. let w = of_flat_map (edge_rows g) r g.edges (subst (Member r) e (to_member us r (Contains-permutation vs us r (IsPermutation-sym us vs p) (from_member vs r m)))) in of_edge w.0 r (from_member g.edges w.0 w.1) w.2)
         (λ r m. to_member vs r (Contains-permutation us vs r p (from_member us r (subst (Member r) (sym e) (from_rows r m)))))
 
--- ---- the rows of one more edge
-pub edge_added : (points : List Point) (edges : List Span) (i : ℕ) (span : Span) (p q : Point) (low high : ℕ) (a b c : List ListedDart) →
+-- ---- rows that go forward, and those of their twins
+-- the row of a twin is that of the dart the other way
+pub turned_is : (g : Skeleton) (d : Dart) → twin_row (dart_row g d) ≡ dart_row g (twin d)
+turned_is g d = λ i. record { source = vertex_place g (target d); target = vertex_place g (start d.edge (sym (not_not d.forward) i)); edge = edge_place g d.edge; forward = not d.forward }
+
+both_rows : (g : Skeleton) (es : List Edge) → flat_map rows_of_both (map (λ e. dart_row g (ahead e)) es) ≡ flat_map (edge_rows g) es
+both_rows g [] = refl
+both_rows g (e ∷ es) = λ i. dart_row g (ahead e) ∷ (turned_is g (ahead e) i ∷ both_rows g es i)
+
+pub rows_are : (g : Skeleton) (ahead us : List ListedDart) → ahead ≡ ahead_rows g → us ≡ flat_map rows_of_both ahead → us ≡ flat_map (edge_rows g) g.edges
+rows_are g ahead us a b = b ∙ ap (flat_map rows_of_both) a ∙ both_rows g g.edges
+
+-- one more of both
+pub both_added : (ahead us vs ws : List ListedDart) (i : ℕ) (r : ListedDart) → i < length ahead → us ≡ flat_map rows_of_both (take i ahead) → vs ≡ us ++ (get_or ahead i r ∷ []) → ws ≡ vs ++ (twin_row (get_or ahead i r) ∷ []) → ws ≡ flat_map rows_of_both (take (i + 1) ahead)
+both_added ahead us vs ws i r l a b c =
+    c ∙ (λ j. b j ++ (twin_row (get_or ahead i r) ∷ [])) ∙ append_assoc us _ _
+    ∙ (λ j. a j ++ sym (append-nil (rows_of_both (get_or ahead i r))) j)
+    ∙ sym (flat_map-append rows_of_both (take i ahead) (get_or ahead i r ∷ []))
+    ∙ ap (flat_map rows_of_both) (sym (take_more ahead i r l))
+
+-- one more that goes forward
+pub row_added : (points : List Point) (edges : List Span) (i : ℕ) (span : Span) (p q : Point) (low high : ℕ) (us vs : List ListedDart) →
     IsPlaneSkeleton (drawn points edges) → i < length edges → span ≡ get_or edges i span → p ≡ span.lower → q ≡ span.upper →
     low ≡ position_or_len (same_point p) points → high ≡ position_or_len (same_point q) points →
-    a ≡ flat_map (edge_rows (drawn points edges)) (take i (map edge_of edges)) →
-    b ≡ a ++ (record { source = low; target = high; edge = i; forward = true } ∷ []) →
-    c ≡ b ++ (record { source = high; target = low; edge = i; forward = false } ∷ []) →
-    c ≡ flat_map (edge_rows (drawn points edges)) (take (i + 1) (map edge_of edges))
-edge_added points edges i span p q low high a b c plane l s P Q L H ea eb ec =
+    us ≡ take i (ahead_rows (drawn points edges)) →
+    vs ≡ us ++ (record { source = low; target = high; edge = i; forward = true } ∷ []) →
+    vs ≡ take (i + 1) (ahead_rows (drawn points edges))
+row_added points edges i span p q low high us vs plane l s P Q L H a b =
     let g : Skeleton = drawn points edges in
     let n : i < length g.edges = (let k = length-map edges edge_of in omega arith) in
     let e : get_or g.edges i (edge_of span) ≡ edge_of span = get_or-map edge_of edges i span (edge_of span) l ∙ ap edge_of (sym s) in
     let k : i ≡ edge_place g (edge_of span) = sym (edge_place_at g plane i (edge_of span) n) ∙ ap (edge_place g) e in
     let lo : low ≡ vertex_place g span.lower = L ∙ ap (vertex_place g) P in
     let hi : high ≡ vertex_place g span.upper = H ∙ ap (vertex_place g) Q in
-    let one : c ≡ (a ++ (dart_row g (ahead (edge_of span)) ∷ [])) ++ (dart_row g (back (edge_of span)) ∷ []) = ec ∙ (λ j. (eb ∙ (λ m. a ++ (record { source = lo m; target = hi m; edge = k m; forward = true } ∷ []))) j ++ (record { source = hi j; target = lo j; edge = k j; forward = false } ∷ [])) in
-    one ∙ append_assoc a _ _
-    ∙ (λ j. ea j ++ edge_rows g (sym e j))
-    ∙ (λ j. flat_map (edge_rows g) (take i g.edges) ++ sym (append-nil (edge_rows g (get_or g.edges i (edge_of span)))) j)
-    ∙ sym (flat_map-append (edge_rows g) (take i g.edges) (get_or g.edges i (edge_of span) ∷ []))
-    ∙ ap (flat_map (edge_rows g)) (sym (take_more g.edges i (edge_of span) n))
+    let is : record { source = low; target = high; edge = i; forward = true } ≡ dart_row g (ahead (get_or g.edges i (edge_of span))) =
+    (λ m. record { source = lo m; target = hi m; edge = k m; forward = true }) ∙ ap (λ (x : Edge). dart_row g (ahead x)) (sym e) in
+    pushed (λ (x : Edge). dart_row g (ahead x)) g.edges i (edge_of span) _ us vs n is a b

@@ -1,5 +1,5 @@
 -- Darts by their rows.
-use Rattle.std.specs.Prelude.{ℕ, List, [], ◌∷◌, not, slice_index_or}
+use Rattle.std.specs.Prelude.{ℕ, List, [], ◌∷◌, not, map, slice_index_or}
 use Rattle.plane_graphs.specs.Graph.{Edge}
 use Rattle.slab_laws.specs.declared.rows.ListedDart.{ListedDart}
 use Rattle.slab_laws.specs.Skeleton.{Skeleton}
@@ -18,6 +18,14 @@ row_dart es r = record { edge = slice_index_or es r.edge no_dart.edge; forward =
 -- the row of the twin: the same edge, the other way (this project)
 abbrev pub twin_row : ListedDart → ListedDart
 twin_row r = record { source = r.target; target = r.source; edge = r.edge; forward = not r.forward }
+
+-- a row with that of the twin
+abbrev pub rows_of_both : ListedDart → List ListedDart
+rows_of_both r = r ∷ twin_row r ∷ []
+
+-- the rows of the darts that go forward, in the order of their edges (this project)
+abbrev pub ahead_rows : Skeleton → List ListedDart
+ahead_rows g = map (λ e. dart_row g (ahead e)) g.edges
 
 -- the place of the dart that is met first on the way clockwise round its source from just after the dart at a place (this project)
 abbrev pub place_after : Skeleton → ℕ → ℕ

@@ -3,6 +3,7 @@ pub mod Turns
 pub mod DartRows
 pub mod CycleLinks
 pub mod Ways
+pub mod Along
 pub mod Around
 pub mod Walks
 pub mod Orbits

@@ -38,9 +38,13 @@ way_at edges rows k =
 abbrev pub ways_by : List Span → List ListedDart → List Way
 ways_by edges rows = map (way_at edges rows) (range_with_len 0 (length rows))
 
--- by source, and round it by quarter, then from steep lines to flat ones (this project)
+-- round one source by quarter, then from steep lines to flat ones (this project)
+abbrev pub turn_cmp : Way → Way → Ordering
+turn_cmp v w = ordering_then (nat_cmp v.quarter w.quarter) (ordering_then (rise_cmp w.line v.line) (nat_cmp v.dart w.dart))
+
+-- by source, and so round it (this project)
 abbrev pub way_cmp : Way → Way → Ordering
-way_cmp v w = ordering_then (nat_cmp v.source w.source) (ordering_then (nat_cmp v.quarter w.quarter) (ordering_then (rise_cmp w.line v.line) (nat_cmp v.dart w.dart)))
+way_cmp v w = ordering_then (nat_cmp v.source w.source) (turn_cmp v w)
 
 -- the dart that goes out in it
 abbrev pub dart_of_way : Way → ℕ

@@ -1,14 +1,14 @@
-ghost use Rattle.std.specs.Prelude.{◌≡◌, ◌==◌, map, IfOk};
-ghost use Rattle.std.specs.List.{position_or_len};
+ghost use Rattle.std.specs.Prelude.{◌≡◌, length, IfOk};
 ghost use Rattle.std.specs.List.Sorted.{IsStrictlyIncreasing};
 ghost use Rattle.slab_laws.specs.SpansDrawn.{drawn};
 ghost use Rattle.slab_laws.specs.Rows.{cycle_places, lead_places};
 ghost use Rattle.slab_laws.specs.Skeleton.{IsPlaneSkeleton};
-ghost use Rattle.dart_orbits.specs.CycleLinks.{cycle_leads};
+ghost use Rattle.dart_orbits.specs.CycleLinks.{cycle_leads, AreBelow, TellPlaces};
 
+use crate::tables::{number_at, set_number};
 use exact_plane::{Point, Span};
 use no_memory::NoMemory;
-use std::alloc::{AllocError, Global};
+use std::alloc::Global;
 
 /// The places of the least darts of all cycles, ascending. Of the points and edges only the contract speaks.
 ///
@@ -35,31 +35,24 @@ pub fn least_darts_among(
     Ok(cycles)
 }
 
-// The place of a number among numbers that rise, or their count where it isn't among them.
-fn place_or_count(numbers: &[usize], number: usize) -> usize
-    requires { IsStrictlyIncreasing numbers.now }
-    ensures { result ≡ position_or_len (λ k. number == k) numbers.now }
+// By the places of the least darts of cycles the places of these cycles, in a table that is so long.
+fn places_by_leads(alloc: Global, cycles: &[usize], count: usize) -> Result<Vec<usize>, NoMemory>
+    requires rise { IsStrictlyIncreasing cycles.now }
+    requires below { AreBelow count cycles.now }
+    ensures counted { IfOk result (λ v. length v.items ≡ count) }
+    ensures each { IfOk result (λ v. TellPlaces cycles.now (length cycles.now) v.items) }
 {
-    match numbers.binary_search(&number) {
-        Ok(place) => place,
-        Err(_) => numbers.len(),
+    let mut places = Vec::new(alloc);
+    places.resize(count, 0)?;
+    for (place, lead) in cycles.iter().enumerate() {
+        set_number(&mut places, *lead, place);
     }
-}
-
-// The places of all the leads among the cycles.
-fn places_among(alloc: Global, leads: &[usize], cycles: &[usize]) -> Result<Vec<usize>, AllocError>
-    requires { IsStrictlyIncreasing cycles.now }
-    ensures { IfOk result (λ v. v.items ≡ map (λ n. position_or_len (λ k. n == k) cycles.now) leads.now) }
-{
-    leads
-        .iter()
-        .map(|lead| place_or_count(cycles, *lead))
-        .collect(alloc)
+    Ok(places)
 }
 
 /// Of each dart the place of its cycle among the cycles. Of the points and edges only the contract speaks.
 ///
-/// It takes time logarithmic in the number of cycles for each dart.
+/// A table by the least darts tells each.
 ///
 /// # Errors
 ///
@@ -76,6 +69,10 @@ pub fn cycles_at(
     requires cycles { cycles.now ≡ cycle_leads (drawn points.now edges.now) }
     ensures { IfOk result (λ v. v.items ≡ cycle_places (drawn points.now edges.now)) }
 {
-    let places = places_among(alloc, leads, cycles)?;
+    let by_leads = places_by_leads(alloc, cycles, leads.len())?;
+    let mut places = Vec::with_capacity(alloc, leads.len())?;
+    for lead in leads {
+        places.push(number_at(&by_leads, *lead))?;
+    }
     Ok(places)
 }

@@ -5,7 +5,7 @@ ghost use Rattle.plane_graphs.specs.Ascending.{IsAscending};
 ghost use Rattle.slab_laws.specs.Skeleton.{IsPlaneSkeleton, same_point};
 ghost use Rattle.slab_laws.specs.SpansDrawn.{drawn};
 ghost use Rattle.slab_laws.specs.Rows.{dart_rows};
-ghost use Rattle.dart_orbits.specs.DartRows.{edge_rows};
+ghost use Rattle.dart_orbits.specs.DartRows.{ahead_rows, rows_of_both, twin_row};
 
 use exact_plane::{Point, Span};
 use no_memory::NoMemory;
@@ -20,33 +20,78 @@ fn place_of(points: &[Point], point: &Point) -> usize
     points.binary_search(point).unwrap_or(points.len())
 }
 
-// Both darts of each edge, in the order of the edges.
-fn rows_of_edges(
+/// The rows of the darts that go forward along the edges, in the order of these, by two searches for each.
+///
+/// The points are in their order, and each edge's ends are among them.
+///
+/// # Errors
+///
+/// `NoMemory` where there is no memory for the list.
+pub fn rows_ahead(
     alloc: Global,
     points: &[Point],
     edges: &[Span],
 ) -> Result<Vec<ListedDart>, NoMemory>
     requires plane { IsPlaneSkeleton (drawn points.now edges.now) }
     requires ascend { IsAscending point_cmp points.now }
-    ensures { IfOk result (λ rs. let g = drawn points.now edges.now in rs.items ≡ flat_map (edge_rows g) g.edges) }
+    ensures { IfOk result (λ rs. rs.items ≡ ahead_rows (drawn points.now edges.now)) }
 {
-    let mut rows = Vec::new(alloc);
+    let mut rows = Vec::with_capacity(alloc, edges.len())?;
     for (edge, span) in edges.iter().enumerate() {
-        let low = place_of(points, &span.lower());
-        let high = place_of(points, &span.upper());
         rows.push(ListedDart {
-            source: low,
-            target: high,
+            source: place_of(points, &span.lower()),
+            target: place_of(points, &span.upper()),
             edge,
             forward: true,
         })?;
-        rows.push(ListedDart {
-            source: high,
-            target: low,
-            edge,
-            forward: false,
-        })?;
     }
+    Ok(rows)
+}
+
+// The row of a dart's twin, the same edge in the other direction.
+fn twin_row(dart: &ListedDart) -> ListedDart
+    ensures { result ≡ twin_row dart.now }
+{
+    ListedDart {
+        source: dart.target,
+        target: dart.source,
+        edge: dart.edge,
+        forward: !dart.forward,
+    }
+}
+
+// Each row with that of the twin.
+fn with_twins(alloc: Global, ahead: &[ListedDart]) -> Result<Vec<ListedDart>, NoMemory>
+    ensures { IfOk result (λ rs. rs.items ≡ flat_map rows_of_both ahead.now) }
+{
+    let mut rows = Vec::new(alloc);
+    for row in ahead {
+        rows.push(*row)?;
+        rows.push(twin_row(row))?;
+    }
+    Ok(rows)
+}
+
+/// The darts of a plane graph, two for each edge, by source, then by target (CGAL manual, halfedge), from the rows of those that go
+/// forward, which are in the order of the edges. Of the points and edges only the contract speaks.
+///
+/// # Errors
+///
+/// `NoMemory` where there is no memory for the list.
+pub fn darts_by_rows(
+    alloc: Global,
+    points: &[Point],
+    edges: &[Span],
+    ahead: &[ListedDart],
+) -> Result<Vec<ListedDart>, NoMemory>
+    requires plane { IsPlaneSkeleton (drawn points.now edges.now) }
+    requires ascend { IsAscending point_cmp points.now }
+    requires ahead { ahead.now ≡ ahead_rows (drawn points.now edges.now) }
+    ensures { IfOk result (λ rs. rs.items ≡ dart_rows (drawn points.now edges.now)) }
+{
+    let mut rows = with_twins(alloc, ahead)?;
+    // No two darts have one source and one target, so that the order is the same whatever the sort does with ties.
+    rows.sort_unstable();
     Ok(rows)
 }
 
@@ -67,8 +112,6 @@ pub fn darts_of(
     requires ascend { IsAscending point_cmp points.now }
     ensures { IfOk result (λ rs. rs.items ≡ dart_rows (drawn points.now edges.now)) }
 {
-    let mut rows = rows_of_edges(alloc, points, edges)?;
-    // No two darts have one source and one target, so that the order is the same whatever the sort does with ties.
-    rows.sort_unstable();
-    Ok(rows)
+    let ahead = rows_ahead(alloc, points, edges)?;
+    darts_by_rows(alloc, points, edges, &ahead)
 }

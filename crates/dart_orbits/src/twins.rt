@@ -1,32 +1,56 @@
-ghost use Rattle.std.specs.Prelude.{◌≡◌, IfOk};
+ghost use Rattle.std.specs.Prelude.{◌≡◌, ◌<◌, cond, length, slice_index_or, IfOk};
 ghost use Rattle.exact_plane.specs.PointOrder.{point_cmp};
 ghost use Rattle.plane_graphs.specs.Ascending.{IsAscending};
 ghost use Rattle.slab_laws.specs.Skeleton.{IsPlaneSkeleton};
 ghost use Rattle.slab_laws.specs.SpansDrawn.{drawn};
 ghost use Rattle.slab_laws.specs.Rows.{dart_rows, twin_places};
-ghost use Rattle.dart_orbits.specs.DartRows.{twin_row};
+ghost use Rattle.dart_orbits.specs.Along.{AreEdgesBelow, AreOnceEach, ArePlacesAlong};
 
+use crate::tables::{number_at, set_number};
 use exact_plane::{Point, Span};
 use no_memory::NoMemory;
 use slab_laws::ListedDart;
 use std::alloc::Global;
 
-// The row of a dart's twin, the same edge in the other direction.
-fn twin_row(dart: &ListedDart) -> ListedDart
-    ensures { result ≡ twin_row dart.now }
+// By the place of each edge, of which there are so many, the place of the dart that goes along it in one direction.
+fn places_along(
+    alloc: Global,
+    darts: &[ListedDart],
+    count: usize,
+    forward: bool,
+) -> Result<Vec<usize>, NoMemory>
+    requires edges { AreEdgesBelow count darts.now }
+    requires once { AreOnceEach darts.now }
+    ensures counted { IfOk result (λ v. length v.items ≡ count) }
+    ensures along { IfOk result (λ v. ArePlacesAlong darts.now forward (length darts.now) v.items) }
 {
-    ListedDart {
-        source: dart.target,
-        target: dart.source,
-        edge: dart.edge,
-        forward: !dart.forward,
+    let mut places = Vec::new(alloc);
+    places.resize(count, 0)?;
+    for (place, dart) in darts.iter().enumerate() {
+        if dart.forward == forward {
+            set_number(&mut places, dart.edge, place);
+        }
+    }
+    Ok(places)
+}
+
+// The place of a dart's twin, by the places of the darts that go forward along the edges and back.
+fn twin_among(ahead: &[usize], back: &[usize], dart: &ListedDart) -> usize
+    requires ahead { dart.now.edge < length ahead.now }
+    requires back { dart.now.edge < length back.now }
+    ensures { result ≡ slice_index_or (cond dart.now.forward back.now ahead.now) dart.now.edge 0 }
+{
+    if dart.forward {
+        number_at(back, dart.edge)
+    } else {
+        number_at(ahead, dart.edge)
     }
 }
 
 /// Of each dart the place of its twin, the dart of the same edge in the other direction (CGAL manual, twin).
 ///
-/// The darts are those of `darts_of` for these points and edges, which say what graph is meant and aren't read. Each twin is
-/// found in logarithmic time.
+/// The darts are those of `darts_of` for these points and edges, which say what graph is meant and aren't read. Two tables by edges
+/// tell each twin.
 ///
 /// # Errors
 ///
@@ -42,10 +66,11 @@ pub fn twins_of(
     requires darts { darts.now ≡ dart_rows (drawn points.now edges.now) }
     ensures { IfOk result (λ ts. ts.items ≡ twin_places (drawn points.now edges.now)) }
 {
+    let ahead = places_along(alloc, darts, edges.len(), true)?;
+    let back = places_along(alloc, darts, edges.len(), false)?;
     let mut twins = Vec::with_capacity(alloc, darts.len())?;
     for dart in darts {
-        let place = darts.binary_search(&twin_row(dart)).unwrap_or(darts.len());
-        twins.push(place)?;
+        twins.push(twin_among(&ahead, &back, dart))?;
     }
     Ok(twins)
 }

@@ -16,6 +16,7 @@ pub mod FaceRows
 pub mod RunsAlong
 pub mod CurveRows
 pub mod TracedEdges
+pub mod RowsAhead
 pub mod UnitedPieces
 pub mod OwnSteps
 pub mod OwnStretches

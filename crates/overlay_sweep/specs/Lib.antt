@@ -5,6 +5,7 @@ pub mod CycleFaces
 pub mod LabelsAbove
 pub mod KnownLabels
 pub mod PiecesAlong
+pub mod EdgeRows
 pub mod EdgeSpans
 pub mod LayerGraphs
 pub mod EdgeCurves

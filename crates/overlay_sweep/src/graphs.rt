@@ -9,6 +9,7 @@ ghost use Rattle.sweep_events.specs.Places.{piece_at};
 ghost use Rattle.sweep_graphs.specs.Edges.{stretch_cmp, edge_between};
 ghost use Rattle.sweep_graphs.specs.TraceLaws.{IsTraceOf};
 ghost use Rattle.sweep_graphs.specs.Traces.{point_at, IsTrace};
+ghost use Rattle.overlay_sweep.specs.EdgeRows.{ends_rows};
 ghost use Rattle.overlay_sweep.specs.EdgeSpans.{AreOnLines, AreAlongSome};
 ghost use Rattle.overlay_sweep.specs.LayerGraphs.{IsLayerGraph};
 ghost use Rattle.overlay_sweep.specs.PiecesAlong.{IsAlongSome};
@@ -20,7 +21,7 @@ use exact_plane::{Line, Point, Span};
 use face_roots::Root;
 use no_memory::NoMemory;
 use present_graphs::spans_of;
-use slab_laws::Present;
+use slab_laws::{ListedDart, Present};
 use std::alloc::Global;
 use sweep_graphs::{
     EdgeEnds, Stretch, Trace, edges_along, edges_below, stretches_by_edges, trace_of,
@@ -118,6 +119,22 @@ fn spans_along(
     Ok(spans)
 }
 
+// The rows of the darts that go forward along edges, in the order of these.
+fn rows_along(alloc: Global, edges: &[EdgeEnds]) -> Result<Vec<ListedDart>, NoMemory>
+    ensures { IfOk result (λ v. v.items ≡ ends_rows 0 edges.now) }
+{
+    let mut rows = Vec::with_capacity(alloc, edges.len())?;
+    for (edge, ends) in edges.iter().enumerate() {
+        rows.push(ListedDart {
+            source: ends.low,
+            target: ends.high,
+            edge,
+            forward: true,
+        })?;
+    }
+    Ok(rows)
+}
+
 /// The plane graph of a fit present, by one sweep over the spans of its pieces (CGAL manual, `Arrangement_2`; Fogel, Halperin and Wein:
 /// a sweep that builds an arrangement), with the cycles of its darts and the ranks of their faces. It takes n log n steps for n events
 /// and stretches, besides those of the sweep's own lists.
@@ -133,10 +150,12 @@ pub fn graph_of(alloc: Global, present: &Present) -> Result<LayerGraph, NoMemory
     let trace = trace_of_present(alloc, present, &pieces)?;
     let points = trace.points.as_slice();
     let stretches = stretches_by_edges(alloc, trace.stretches.as_slice())?;
-    let edges = edges_along(alloc, trace.stretches.as_slice())?;
+    // Their order is that of the edges, which the sort finds in one pass.
+    let edges = edges_along(alloc, &stretches)?;
     let spans = spans_along(alloc, &pieces, points, &stretches, &edges)?;
     let below = edges_below(alloc, &trace)?;
-    let orbits = orbits_of(alloc, points, &spans)?;
+    let ahead = rows_along(alloc, &edges)?;
+    let orbits = orbits_of(alloc, points, &spans, &ahead)?;
     let roots = roots_of(alloc, points, &spans, &orbits, &below)?;
     let ranks = cycle_ranks(alloc, points, &spans, &roots)?;
     Ok(LayerGraph {
