@@ -1,5 +1,5 @@
 ghost use Rattle.std.specs.Prelude.{◌≡◌, ◌≤◌, ◌++◌, ℕ, ◌<◌, length, map, IfOk, OnOk, OnErr};
-ghost use Rattle.std.specs.List.{splice};
+ghost use Rattle.std.specs.List.{prefix_len, splice};
 ghost use Rattle.std.specs.List.Sorted.{IsPartitionedBy};
 ghost use Rattle.std.specs.Ordering.{nat_cmp, is_lt, is_le};
 ghost use Rattle.exact_plane.specs.PointOrder.{point_cmp};
@@ -107,6 +107,16 @@ fn starts_upto(start: &Start, point: &Point) -> bool
     start.lower <= *point
 }
 
+// How many of them stand first and start no later than the point. Few do, so that they are met one by one.
+fn count_starting(starts: &[Start], point: &Point) -> usize
+    ensures { result ≡ prefix_len (λ s. is_le (point_cmp s.lower point.now)) starts.now }
+{
+    starts
+        .iter()
+        .take_while(|start| starts_upto(start, point))
+        .count()
+}
+
 // The places of the pieces that start at the point.
 pub(crate) fn starts_at(
     alloc: Global,
@@ -117,8 +127,7 @@ pub(crate) fn starts_at(
 {
     let from = starts.partition_point(|start| starts_before(start, point));
     let (_, rest) = starts.split_at(from);
-    let count = rest.partition_point(|start| starts_upto(start, point));
-    let (here, _) = rest.split_at(count);
+    let (here, _) = rest.split_at(count_starting(rest, point));
     let mut places = Sequence::new(alloc);
     for start in here {
         places.push(start.place)?;
