@@ -1,5 +1,5 @@
 -- The follower of a dart clockwise round its source is its neighbour in the list, or the first of its source after the last.
-use Rattle.std.proofs.Common.{◌≡◌, ℕ, ◌+◌, ◌<◌, ◌≤◌, Bool, true, false, cond, List, map, length, get_or, Contains, arith, refl, sym, ap, ◌∙◌, subst, inl, inr, ltb}
+use Rattle.std.proofs.Common.{◌≡◌, ℕ, ◌+◌, ◌-◌, ◌<◌, ◌≤◌, Bool, true, false, cond, List, map, length, get_or, Contains, arith, refl, sym, ap, ◌∙◌, subst, inl, inr, ltb}
 use Rattle.std.specs.List.Sorted.{IsPartitionedBy, IsPartitionPoint}
 use Rattle.std.proofs.lemmas.Bool.{false≢true, false_from_ne_true, cases_lt, ltb-true, ltb-false, lt-ltb}
 use Rattle.exact_plane.specs.Point.{Point}
@@ -20,6 +20,25 @@ use Rattle.dart_orbits.specs.Around.{source_placed, AreAround, AreBySource, IsFi
 use Rattle.dart_orbits.specs.Ways.{row_in}
 
 -- ---- the first of a source
+-- it begins where the dart before has another source
+pub begins : (rows : List ListedDart) (ps : List ℕ) → AreBySource rows ps → (i : ℕ) → i < length ps → ((k : ℕ) → i ≡ k + 1 → source_placed rows ps k ≡ source_placed rows ps i → ⊥) → IsFirstPlaced rows ps (source_placed rows ps i) (get_or ps i 0)
+begins rows ps up i l new = record {
+  at = i;
+  within = l;
+  there = refl;
+  same = refl;
+  first = λ j J s. elim (cases_lt j i) [
+    | inl u ↦ (
+        let low : source_placed rows ps j ≤ source_placed rows ps (i - 1) = elim (cases_lt j (i - 1)) [
+          | inl w ↦ up j (i - 1) w (omega arith)
+          | inr w ↦ (let q : j ≡ i - 1 = omega arith in let e = ap (source_placed rows ps) q in omega arith)
+        ] in
+        let high = up (i - 1) i (omega arith) l in
+        absurd (new (i - 1) (omega arith) (omega arith)))
+    | inr u ↦ u
+  ];
+}
+
 module _ (rows : List ListedDart) (ps : List ℕ) (up : AreBySource rows ps) (v i : ℕ) (l : i < length ps) (own : source_placed rows ps i ≡ v) where
   -- whether the source of the dart at a place comes before
   abbrev pub is_before : ℕ → Bool

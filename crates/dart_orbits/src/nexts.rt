@@ -1,4 +1,4 @@
-ghost use Rattle.std.specs.Prelude.{◌≡◌, ◌<◌, ℕ, length, slice_index_or, IfOk};
+ghost use Rattle.std.specs.Prelude.{◌≡◌, ◌+◌, ◌<◌, ℕ, length, slice_index_or, IfOk};
 ghost use Rattle.slab_laws.specs.Rows.{dart_rows, twin_places, next_places};
 ghost use Rattle.slab_laws.specs.Skeleton.{IsPlaneSkeleton};
 ghost use Rattle.slab_laws.specs.SpansDrawn.{drawn};
@@ -62,23 +62,41 @@ pub fn first_around(
     first_of(darts, around, source_at(darts, dart))
 }
 
-// The dart that follows clockwise round its source the one at an index.
+// The first dart out of the source of the dart at an index, where that of the one before it is known.
+fn first_from(darts: &[ListedDart], around: &[usize], index: usize, before: usize) -> usize
+    requires sources { AreBySource darts.now around.now }
+    requires index { index < length around.now }
+    requires before { (i : ℕ) → index ≡ i + 1 → IsFirstPlaced darts.now around.now (source_placed darts.now around.now i) before }
+    ensures { IsFirstPlaced darts.now around.now (source_placed darts.now around.now index) result }
+{
+    if index == 0 {
+        return around[index];
+    }
+    if source_at(darts, around[index - 1]) == source_at(darts, around[index]) {
+        return before;
+    }
+    around[index]
+}
+
+// The dart that follows clockwise round its source the one at an index. The first one out of that source is known.
 fn after_at(
     points: &[Point],
     edges: &[Span],
     darts: &[ListedDart],
     around: &[usize],
     index: usize,
+    first: usize,
 ) -> usize
     requires plane { IsPlaneSkeleton (drawn points.now edges.now) }
     requires darts { darts.now ≡ dart_rows (drawn points.now edges.now) }
     requires around { AreAround (drawn points.now edges.now) around.now }
     requires index { index < length around.now }
+    requires first { IsFirstPlaced darts.now around.now (source_placed darts.now around.now index) first }
     ensures { result ≡ place_after (drawn points.now edges.now) (slice_index_or around.now index 0) }
 {
     match next_beside(darts, around, index) {
         Some(next) => next,
-        None => first_of(darts, around, source_at(darts, around[index])),
+        None => first,
     }
 }
 
@@ -97,8 +115,10 @@ fn afters_of(
 {
     let mut afters = Vec::new(alloc);
     afters.resize(darts.len(), 0)?;
+    let mut first = 0;
     for index in 0..around.len() {
-        let after = after_at(points, edges, darts, around, index);
+        first = first_from(darts, around, index, first);
+        let after = after_at(points, edges, darts, around, index, first);
         set_number(&mut afters, around[index], after);
     }
     Ok(afters)
@@ -109,7 +129,7 @@ fn afters_of(
 ///
 /// The darts and their twins are those of `darts_of` and `twins_of` for these points and edges, and round their sources those of
 /// `darts_around`. In that list the follower is the neighbour, or, for the last one of a source, the first one of it, which is
-/// searched once for each vertex.
+/// known from where its darts began.
 ///
 /// # Errors
 ///
