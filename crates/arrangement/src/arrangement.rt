@@ -27,6 +27,8 @@ use crate::spots::walk_to;
 use curve_history::History;
 use dcel_records::Records;
 use exact_plane::{Point, Segment};
+use locate_landmarks::Landmarks;
+use locate_trapezoid::Trapezoids;
 use no_memory::NoMemory;
 use observer_bus::Bus;
 use pin_points::{
@@ -64,6 +66,10 @@ fn empty_records(alloc: Global, first: u32) -> Result<LayerRecords, NoMemory>
         records,
         history,
         ranked: false,
+        trapezoids: Trapezoids::new(),
+        mapped: false,
+        landmarks: Landmarks::new(alloc),
+        landed: false,
     })
 }
 
@@ -111,6 +117,8 @@ impl Arrangement {
     {
         let start = walk_to(&self.layer.records, &segment.lower());
         self.layer.ranked = false;
+        self.layer.mapped = false;
+        self.layer.landed = false;
         insert_counted::<Brand>(
             Blank::new(1),
             self.alloc,
@@ -139,6 +147,8 @@ impl Arrangement {
         ensures watched { IsWatched (arranged Observer-dyn self.new) }
     {
         self.layer.ranked = false;
+        self.layer.mapped = false;
+        self.layer.landed = false;
         remove_curve(
             self.alloc,
             &mut self.layer.records,
@@ -163,6 +173,8 @@ impl Arrangement {
         ensures watched { IsWatched (arranged Observer-dyn self.new) }
     {
         self.layer.ranked = false;
+        self.layer.mapped = false;
+        self.layer.landed = false;
         remove_edge(
             self.alloc,
             &mut self.layer.records,
@@ -189,6 +201,8 @@ impl Arrangement {
     {
         let at = walk_to(&self.layer.records, p);
         self.layer.ranked = false;
+        self.layer.mapped = false;
+        self.layer.landed = false;
         pin(
             self.alloc,
             &mut self.layer.records,
@@ -214,6 +228,8 @@ impl Arrangement {
         ensures watched { IsWatched (arranged Observer-dyn self.new) }
     {
         self.layer.ranked = false;
+        self.layer.mapped = false;
+        self.layer.landed = false;
         unpin(
             self.alloc,
             &mut self.layer.records,
@@ -238,6 +254,8 @@ impl Arrangement {
         ensures watched { IsWatched (arranged Observer-dyn self.new) }
     {
         self.layer.ranked = false;
+        self.layer.mapped = false;
+        self.layer.landed = false;
         split_edge(
             self.alloc,
             &mut self.layer.records,
@@ -265,6 +283,8 @@ impl Arrangement {
         ensures watched { IsWatched (arranged Observer-dyn self.new) }
     {
         self.layer.ranked = false;
+        self.layer.mapped = false;
+        self.layer.landed = false;
         merge_edge(
             self.alloc,
             &mut self.layer.records,
@@ -283,6 +303,8 @@ impl Arrangement {
         ensures watched { IsWatched (arranged Observer-dyn self.new) }
     {
         self.layer.ranked = false;
+        self.layer.mapped = false;
+        self.layer.landed = false;
         clear(
             self.alloc,
             &mut self.layer.records,

@@ -1,12 +1,33 @@
-ghost use Rattle.std.specs.Prelude.{◌≡◌};
+ghost use Rattle.std.specs.Prelude.{◌≡◌, ◌<◌, IfOk, OnOk, OnErr};
+ghost use Rattle.slab_laws.specs.Sound.{IsGraphSound};
 ghost use Rattle.slab_laws.specs.View.{HasFace};
+ghost use Rattle.dcel_records.specs.RecordsView.{tables_of};
+ghost use Rattle.dcel_records.specs.SoundMaps.{IsSoundMap};
+ghost use Rattle.face_location.specs.Spots.{IsSpotOf};
 ghost use Rattle.face_ranks.specs.Ranks.{rank_in};
+ghost use Rattle.locate_landmarks.specs.Built.{IsBuiltFor as AreLandmarksOf};
+ghost use Rattle.locate_trapezoid.specs.Built.{IsBuiltFor};
+ghost use Rattle.slab_laws.specs.FacesSound.{IsSound};
+ghost use Rattle.slab_laws.specs.Subdivision.{holds};
+ghost use Rattle.told_steps.specs.RecordLayers.{IsLayer as IsLayerOf};
+ghost use Rattle.arrangement.specs.LayerRecords.{IsMappedWhere, AreLandedWhere, subdivision_of};
+ghost use Rattle.arrangement.specs.Questions.{TakesMemory};
 
+use crate::spots::{edge_cell, walk_to};
+use counted_looks::Glance;
 use curve_history::History;
-use dcel_records::Records;
+use dcel_records::{Records, Spot};
+use exact_plane::Point;
 use face_ranks::rank_faces;
-use slab_laws::FaceId;
-use std::marker::Model;
+use locate_landmarks::Landmarks;
+use locate_naive::locate as look_at_all;
+use locate_trapezoid::Trapezoids;
+use no_memory::NoMemory;
+use slab_laws::{Cell, FaceId, Strategy};
+use std::alloc::Global;
+use std::marker::{Brand, Model};
+use std::sync::ledger::{Blank, Ledger};
+use work_steps::Steps;
 
 /// The records of a layer and their history, which stand for it together.
 #[derive(Drop)]
@@ -15,12 +36,18 @@ pub(crate) struct LayerRecords {
     pub(crate) history: History,
     // Whether each face has its rank in the records: an edit may change the rank of every face, so it clears this first.
     pub(crate) ranked: bool,
+    pub(crate) trapezoids: Trapezoids,
+    // Whether the trapezoidal map is of these records: an edit makes it one of others, so it clears this first.
+    pub(crate) mapped: bool,
+    pub(crate) landmarks: Landmarks,
+    // Whether the landmarks lie in these records where they were found: as above.
+    pub(crate) landed: bool,
 }
 
 impl Model for LayerRecords {
     ghost use Rattle.told_steps.specs.RecordLayers.{IsLayer};
     ghost use Rattle.dcel_records.specs.RecordsView.{tables_of};
-    ghost use Rattle.arrangement.specs.LayerRecords.{AreRankedWhere, LayerRecordsView};
+    ghost use Rattle.arrangement.specs.LayerRecords.{AreRankedWhere, IsMappedWhere, AreLandedWhere, LayerRecordsView};
 
     ghost Value = { LayerRecordsView };
 
@@ -28,10 +55,133 @@ impl Model for LayerRecords {
 
     ghost use Rattle.dcel_records.specs.SoundMaps.{IsMapAtRest};
 
-    ghost invariant = { λ l. IsLayer l.records.graph l.history × (IsMapAtRest l.records × AreRankedWhere l.ranked l.records) };
+    ghost invariant = { λ l. IsLayer l.records.graph l.history × (IsMapAtRest l.records × (AreRankedWhere l.ranked l.records × (IsMappedWhere l.mapped l.records l.trapezoids × AreLandedWhere l.landed l.records l.landmarks))) };
+}
+
+// Where a point lies by the trapezoidal map, with a counter of its own.
+fn mapped_counted<L: Ledger>(
+    blank: Blank,
+    trapezoids: &Trapezoids,
+    records: &Records,
+    p: &Point,
+) -> Spot
+    requires name { blank.name ≡ L.name }
+    requires parts { blank.parts ≡ L.parts }
+    requires some { 0 < L.parts }
+    requires map { IsSoundMap records.now }
+    requires built { IsBuiltFor records.now.graph trapezoids.now }
+    ensures { IsSpotOf records.now.graph (tables_of records.now) p.now result }
+{
+    let mut steps = Steps::<L>::new(blank);
+    trapezoids.locate(&Glance::of(records), p, &mut steps)
+}
+
+// Where a point lies by the trapezoidal map. It takes no memory.
+fn mapped_spot(trapezoids: &Trapezoids, records: &Records, p: &Point) -> Spot
+    requires map { IsSoundMap records.now }
+    requires built { IsBuiltFor records.now.graph trapezoids.now }
+    ensures { IsSpotOf records.now.graph (tables_of records.now) p.now result }
+{
+    mapped_counted::<Brand>(Blank::new(1), trapezoids, records, p)
+}
+
+// Where a point lies by the walk from its landmark, with a counter of its own.
+fn landed_counted<L: Ledger>(
+    blank: Blank,
+    landmarks: &Landmarks,
+    records: &Records,
+    p: &Point,
+) -> Spot
+    requires name { blank.name ≡ L.name }
+    requires parts { blank.parts ≡ L.parts }
+    requires some { 0 < L.parts }
+    requires map { IsSoundMap records.now }
+    requires built { AreLandmarksOf landmarks.now records.now.graph (tables_of records.now) }
+    ensures { IsSpotOf records.now.graph (tables_of records.now) p.now result }
+{
+    let mut steps = Steps::<L>::new(blank);
+    landmarks.locate(&Glance::of(records), p, &mut steps)
+}
+
+// Where a point lies by the walk from its landmark. It takes no memory.
+fn landed_spot(landmarks: &Landmarks, records: &Records, p: &Point) -> Spot
+    requires map { IsSoundMap records.now }
+    requires built { AreLandmarksOf landmarks.now records.now.graph (tables_of records.now) }
+    ensures { IsSpotOf records.now.graph (tables_of records.now) p.now result }
+{
+    landed_counted::<Brand>(Blank::new(1), landmarks, records, p)
+}
+
+// The landmarks are found in the records, unless it is known that they were.
+fn land_unless(landed: bool, records: &Records, landmarks: &mut Landmarks) -> Result<(), NoMemory>
+    requires map { IsSoundMap records.now }
+    requires known { AreLandedWhere landed records.now landmarks.old }
+    ensures { OnOk result (AreLandmarksOf landmarks.new records.now.graph (tables_of records.now)) }
+{
+    if landed {
+        return Ok(());
+    }
+    landmarks.build(records)
+}
+
+// The trapezoidal map is built for the records, unless it is known to be.
+fn build_unless(
+    mapped: bool,
+    alloc: Global,
+    records: &Records,
+    trapezoids: &mut Trapezoids,
+) -> Result<(), NoMemory>
+    requires sound { IsGraphSound records.now.graph }
+    requires known { IsMappedWhere mapped records.now trapezoids.old }
+    ensures { OnOk result (IsBuiltFor records.now.graph trapezoids.new) }
+{
+    if mapped {
+        return Ok(());
+    }
+    trapezoids.build(alloc, records)
 }
 
 impl LayerRecords {
+    // Where a point lies by the trapezoidal map, which the first question since the last edit builds.
+    fn map_and_locate(&mut self, alloc: Global, p: &Point) -> Result<Spot, NoMemory>
+        ensures spot { IfOk result (IsSpotOf self.old.graph self.old.faces p.now) }
+        ensures same { self.new ≡ self.old }
+    {
+        let mapped = self.mapped;
+        // Until it is built.
+        self.mapped = false;
+        build_unless(mapped, alloc, &self.records, &mut self.trapezoids)?;
+        self.mapped = true;
+        Ok(mapped_spot(&self.trapezoids, &self.records, p))
+    }
+
+    // Where a point lies by the walk from its landmark; the first question since the last edit finds where the landmarks lie.
+    fn land_and_locate(&mut self, p: &Point) -> Result<Spot, NoMemory>
+        ensures spot { IfOk result (IsSpotOf self.old.graph self.old.faces p.now) }
+        ensures same { self.new ≡ self.old }
+    {
+        let landed = self.landed;
+        // Until they are found.
+        self.landed = false;
+        land_unless(landed, &self.records, &mut self.landmarks)?;
+        self.landed = true;
+        Ok(landed_spot(&self.landmarks, &self.records, p))
+    }
+
+    // Where a point lies, found by the strategy.
+    fn spot_by(&mut self, alloc: Global, strategy: Strategy, p: &Point) -> Result<Spot, NoMemory>
+        ensures spot { IfOk result (IsSpotOf self.old.graph self.old.faces p.now) }
+        ensures no_memory { OnErr result (TakesMemory strategy) }
+        ensures same { self.new ≡ self.old }
+    {
+        match strategy {
+            Strategy::Naive => Ok(look_at_all(&self.records, p)),
+            Strategy::Walk => Ok(walk_to(&self.records, p)),
+            Strategy::Landmarks => self.land_and_locate(p),
+            Strategy::Trapezoid => self.map_and_locate(alloc, p),
+        }
+    }
+
     /// The rank of a face.
     ///
     /// The first question since the last edit ranks all faces: it goes once along each outer cycle and sorts as many keys as there are
@@ -46,5 +196,52 @@ impl LayerRecords {
             self.ranked = true;
         }
         self.records.rank_of(face)
+    }
+
+    // What is true of all: the history goes with the graph, and the map is sound.
+    fn laws(&self)
+        ensures layer { IsLayerOf self.now.graph self.now.past }
+        ensures sound { IsSound self.now.graph self.now.faces }
+    {
+        // Any use of a field tells what is kept.
+        let _ = &self.ranked;
+    }
+
+    // What a point is told to lie in, which lies at a spot.
+    fn cell_at(&mut self, spot: Spot, p: &Point) -> Cell
+        requires { IsSpotOf self.old.graph self.old.faces p.now spot }
+        ensures cell { result ≡ holds (subdivision_of self.old) p.now }
+        ensures same { self.new ≡ self.old }
+    {
+        self.laws();
+        p.laws();
+        match spot {
+            Spot::Vertex(_) => Cell::Vertex(*p),
+            Spot::Edge(dart) => edge_cell(&self.records, dart),
+            Spot::Face(face) => Cell::Face(self.rank_of(face)),
+        }
+    }
+
+    /// Where a point lies, found by the strategy.
+    ///
+    /// By the trapezoidal map: the first question since the last edit builds it, and the next ones go down in it. From landmarks: the
+    /// first one finds where they lie. Of a point in a face, the first question since the last edit ranks all faces, and the next ones
+    /// look the rank up.
+    ///
+    /// # Errors
+    ///
+    /// There was no memory, by the trapezoidal map or from landmarks.
+    pub(crate) fn locate(
+        &mut self,
+        alloc: Global,
+        strategy: Strategy,
+        p: &Point,
+    ) -> Result<Cell, NoMemory>
+        ensures cell { IfOk result (λ c. c ≡ holds (subdivision_of self.old) p.now) }
+        ensures no_memory { OnErr result (TakesMemory strategy) }
+        ensures same { self.new ≡ self.old }
+    {
+        let spot = self.spot_by(alloc, strategy, p)?;
+        Ok(self.cell_at(spot, p))
     }
 }

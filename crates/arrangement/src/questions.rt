@@ -10,10 +10,8 @@ ghost use Rattle.arrangement.specs.Questions.{curves_between, IsNoEdge, AreEdges
 
 use crate::arrangement::Arrangement;
 use crate::edges::ends_in_order;
-use crate::spots::{edge_cell, spot_by};
 use arr_text::text;
 use curve_history::{Drawn, HistoryError};
-use dcel_records::Spot;
 use exact_plane::Point;
 use locate_naive::edge_dart;
 use no_memory::NoMemory;
@@ -58,7 +56,8 @@ impl From<NoMemory> for EdgeError {
 impl Arrangement {
     /// Where a point lies: at a vertex, on an edge, or in a face, told by its rank (CGAL manual, point location).
     ///
-    /// The answer is the same under every strategy. Naive and walking location take no memory; the other two may come to ask for some.
+    /// The answer is the same under every strategy. Naive and walking location take no memory. The first question after an edit builds
+    /// the trapezoidal map, or finds where the landmarks lie, and asks for memory then.
     /// Of a point in a face, the first question after an edit ranks all faces, and the next ones look the rank up.
     ///
     /// # Errors
@@ -71,12 +70,8 @@ impl Arrangement {
         ensures no_memory { OnErr result (TakesMemory strategy) }
         ensures same { self.new ≡ self.old }
     {
-        p.laws();
-        match spot_by(strategy, &self.layer.records, p) {
-            Spot::Vertex(_) => Ok(Cell::Vertex(*p)),
-            Spot::Edge(dart) => Ok(edge_cell(&self.layer.records, dart)),
-            Spot::Face(face) => Ok(Cell::Face(self.layer.rank_of(face))),
-        }
+        let alloc = self.alloc;
+        self.layer.locate(alloc, strategy, p)
     }
 
     /// How many vertices, edges, faces, inner cycles, isolated vertices and named curves there are. Each number is kept, or comes from

@@ -9,9 +9,8 @@ ghost use Rattle.face_location.specs.Spots.{IsSpotOf};
 use counted_looks::Glance;
 use dcel_records::{Records, Spot};
 use exact_plane::Point;
-use locate_naive::locate as look_at_all;
 use locate_walk::locate as walk_up;
-use slab_laws::{Cell, DartId, Darts, Strategy};
+use slab_laws::{Cell, DartId, Darts};
 use std::marker::Brand;
 use std::sync::ledger::{Blank, Ledger};
 use work_steps::Steps;
@@ -34,19 +33,6 @@ pub(crate) fn walk_to(records: &Records, p: &Point) -> Spot
     ensures { IsSpotOf records.now.graph (tables_of records.now) p.now result }
 {
     walk_counted::<Brand>(Blank::new(1), records, p)
-}
-
-/// Where a point lies in the records: the vertex at it, the edge that has it inside, or the face that it lies in, found by the strategy.
-///
-/// Landmarks and the trapezoidal map are served by a look at all vertices and edges.
-pub(crate) fn spot_by(strategy: Strategy, records: &Records, p: &Point) -> Spot
-    requires { IsSoundMap records.now }
-    ensures { IsSpotOf records.now.graph (tables_of records.now) p.now result }
-{
-    match strategy {
-        Strategy::Walk => walk_to(records, p),
-        Strategy::Naive | Strategy::Landmarks | Strategy::Trapezoid => look_at_all(records, p),
-    }
 }
 
 /// The edge of a dart that goes forward, by its lower and its upper end.

@@ -27,7 +27,7 @@ use Rattle.locate_walk.specs.Finds.{IsSided, IsOffEnds, IsFoundAtDart}
 use Rattle.locate_walk.specs.Passages.{IsBetween, IsApart}
 use Rattle.locate_walk.specs.declared.found.Found.{Found}
 use Rattle.locate_walk.specs.declared.found.Found.TheVariants.{At, Below, Past}
-use Rattle.locate_walk.proofs.Compared.{differ}
+use Rattle.locate_walk.proofs.EndsCompared.{differ}
 
 module _ (v : View) (f : Faces) (s : IsGraphSound v) (q : Point) (Q : IsProper q) (d : DartId) (has : HasDart v d) (l : Looked) (look : IsLookOf v (Edge d) l) where
   abbrev low : Point
@@ -68,10 +68,10 @@ module _ (v : View) (f : Faces) (s : IsGraphSound v) (q : Point) (Q : IsProper q
     ends : Lt q high
     ends = subst (Lt q) look.1 (record { is = b.1 })
 
-    ahead : IsForwardOf v d d × IsSpanning (edge_in v d) q
+    pub ahead : IsForwardOf v d d × IsSpanning (edge_in v d) q
     ahead = spans_ahead v s d has q Q starts ends
 
-    ahead_off : IsOffEnds v q d
+    pub ahead_off : IsOffEnds v q d
     ahead_off = off_ends (differ starts) (λ e. differ ends (sym e))
 
     pub ahead_way : (m : Line) → l.line ≡ Some m → AreOnWay l.source l.target m
@@ -88,16 +88,16 @@ module _ (v : View) (f : Faces) (s : IsGraphSound v) (q : Point) (Q : IsProper q
     starts_last : Lt q low
     starts_last = subst (Lt q) look.0 (record { is = b.1 })
 
-    behind : IsForwardOf v d r × IsSpanning (edge_in v d) q
+    pub behind : IsForwardOf v d r × IsSpanning (edge_in v d) q
     behind = spans_behind v s d has q Q ends_first starts_last r e
 
-    behind_off : IsOffEnds v q d
+    pub behind_off : IsOffEnds v q d
     behind_off = off_ends (λ i. differ starts_last (sym i)) (differ ends_first)
 
-    at_source : l.target ≡ point_in v (source_in v r)
+    pub at_source : l.target ≡ point_in v (source_in v r)
     at_source = look.1 ∙ ap (λ x. point_in v (source_in v x)) (sym e)
 
-    at_target : l.source ≡ point_in v (target_in v r)
+    pub at_target : l.source ≡ point_in v (target_in v r)
     at_target = look.0 ∙ ap (λ x. point_in v (source_in v x)) (sym (ap (twin_in v) e ∙ s.twinned.back d has))
 
     pub behind_way : (m : Line) → l.line ≡ Some m → AreOnWay l.target l.source m

@@ -1,5 +1,5 @@
 pub mod Floors
-pub mod Compared
+pub mod EndsCompared
 pub mod Finds
 pub mod Takes
 pub mod Rounds

@@ -30,7 +30,7 @@ use Rattle.walk_laws.proofs.Named.{walk_ends_in_face}
 use Rattle.walk_laws.proofs.Once.{faces_are_visited_once}
 use Rattle.locate_walk.specs.Finds.{is_told_at_twin}
 use Rattle.locate_walk.specs.Looks.{dart_of, IsBelowOrNone, IsRaised, IsPartClear, MayLook, HasSeen}
-use Rattle.locate_walk.specs.Rounds.{IsHighestRound, looks_below}
+use Rattle.locate_walk.specs.Rounds.{IsHighestRound}
 use Rattle.locate_walk.specs.declared.found.EdgeBelow.{EdgeBelow}
 use Rattle.locate_walk.specs.declared.highest.Highest.{Highest}
 
@@ -91,19 +91,19 @@ pub seen_or_none : (v : View) (q : Point) (o : Option EdgeBelow) → IsBelowOrNo
 seen_or_none v q None p = tt
 seen_or_none v q (Some b) p = p.0
 
--- it is in the face over the edge that it passed last, and has looked at no more than what isn't ahead any more
-pub record IsOnWay (v : View) (f : Faces) (q : Point) (last : Option EdgeBelow) (face : FaceId) (before now : ℕ) : Type 0 where
+-- it is in the face over the edge that it passed last, and what it has looked at and what is ahead is at most so much
+pub record IsOnWay (v : View) (f : Faces) (q : Point) (last : Option EdgeBelow) (face : FaceId) (most now : ℕ) : Type 0 where
   pub below : IsBelowOrNone v q last
   pub over : face ≡ face_above f (dart_of last)
   pub has : HasFace f face
-  pub looks : now + size_ahead (boundary_size v f) v f q (dart_of last) ≤ before + looks_below v f q
+  pub looks : now + size_ahead (boundary_size v f) v f q (dart_of last) ≤ most
 
-module _ (v : View) (f : Faces) (q : Point) (last : Option EdgeBelow) (face : FaceId) (before now : ℕ) (s : IsSound v f) (Q : IsProper q) (w : IsOnWay v f q last face before now) where
+module _ (v : View) (f : Faces) (q : Point) (last : Option EdgeBelow) (face : FaceId) (most now : ℕ) (s : IsSound v f) (Q : IsProper q) (w : IsOnWay v f q last face most now) where
   abbrev size : FaceId → ℕ
   size = boundary_size v f
 
   -- one more round is within the count
-  pub way_looks : (then : ℕ) → then ≤ now + size face → then ≤ before + looks_below v f q
+  pub way_looks : (then : ℕ) → then ≤ now + size face → then ≤ most
   way_looks then h =
       let l = subst (λ (x : FaceId). size x ≤ size_ahead size v f q (dart_of last)) (sym w.over) (faces_are_visited_once.last size v f q (dart_of last) s (seen_or_none v q last w.below)) in
       let k = w.looks in
@@ -126,7 +126,7 @@ module _ (v : View) (f : Faces) (q : Point) (last : Option EdgeBelow) (face : Fa
       pub way_smaller : right_below (skeleton_of v) q - height v q (dart_of best) < right_below (skeleton_of v) q - height v q (dart_of last)
       way_smaller = let b = faces_are_visited_once.bounded v f q (dart_of best) s Q (seen_or_none v q best r.below) in let h = higher in omega arith
 
-      pub way_on : HasFace f over → (then : ℕ) → then ≤ now + size face → IsOnWay v f q best over before then
+      pub way_on : HasFace f over → (then : ℕ) → then ≤ now + size face → IsOnWay v f q best over most then
       way_on has then h =
           let n = faces_are_visited_once.next size v f q (dart_of last) (dart_of best) s (seen_or_none v q last w.below) (seen_or_none v q best r.below) higher
           (subst (IsBoundaryPassed v f q (dart_of best)) w.over r.passed) (λ e. other (is ∙ e ∙ sym w.over)) in

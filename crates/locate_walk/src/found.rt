@@ -37,8 +37,8 @@ pub enum Found {
     Past,
 }
 
-// The edge between two ends that were read.
-fn span_between(lower: Point, upper: Point, line: Line) -> Span
+/// The edge between two ends that were read.
+pub fn span_between(lower: Point, upper: Point, line: Line) -> Span
     requires { AreOnWay lower upper line }
     ensures { (result.lower ≡ lower) × (result.upper ≡ upper) }
 {
@@ -57,10 +57,9 @@ fn side_of(dart: DartId, edge: Span, point: &Query) -> Found
     }
 }
 
-// Whether the edge of a dart is told at its other dart: that one is on the boundary of the face too, and has the lesser name.
-// In a map of few faces nearly all edges border one face from both sides. It is asked of edges that span the point alone: all others
-// are ruled out by one comparison, which the next dart needs anyway.
-fn is_told_at_twin(glance: &Glance, face: FaceId, dart: DartId) -> bool
+/// Whether the edge of a dart is told at its other dart: that one is on the boundary of the face too, and has the lesser name.
+// In a map of few faces nearly all edges border one face from both sides.
+pub fn is_told_at_twin(glance: &Glance, face: FaceId, dart: DartId) -> bool
     requires { HasDart glance.now.graph dart }
     ensures { result ≡ is_told_at_twin glance.now.graph (tables_of glance.now) face dart }
 {
@@ -68,8 +67,8 @@ fn is_told_at_twin(glance: &Glance, face: FaceId, dart: DartId) -> bool
     twin.0 < dart.0 && glance.face(glance.cycle(twin)) == face
 }
 
-// What a look at a dart finds, whichever way it goes. Its ends were compared first, which rules out nearly all darts.
-fn found_at_dart(
+/// What a look at a dart finds, whichever way it goes. Its ends were compared first, which rules out nearly all darts.
+pub fn found_at_dart(
     glance: &Glance,
     dart: DartId,
     looked: &Glimpse,
@@ -121,6 +120,8 @@ pub fn find<L: Ledger>(
         BoundaryPart::Dart(dart) => {
             let looked = glance.glimpse(dart, steps);
             let passage = passage_of(glance, dart, &looked, point, last);
+            // The names are asked of edges that span the point alone: all others are ruled out by one comparison, which the next dart
+            // needs anyway.
             if passage.spans() && is_told_at_twin(glance, face, dart) {
                 return Found::Past;
             }

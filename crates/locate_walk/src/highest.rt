@@ -40,7 +40,8 @@ fn higher(best: Option<EdgeBelow>, edge: EdgeBelow) -> EdgeBelow
 }
 
 impl<'a, 'r> Highest<'a, 'r> {
-    fn take(&mut self, found: Found)
+    /// Keeps what was found.
+    pub fn take(&mut self, found: Found)
         ensures { self.new ≡ taken self.old found }
     {
         match found {

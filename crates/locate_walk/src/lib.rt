@@ -2,7 +2,8 @@
 //!
 //! The walk starts in the unbounded face, since this is the one whose name is known, and looks at all of its boundary, the outside
 //! of each component of the arrangement, as CGAL's walk looks at all holes of the unbounded face first. Each look is counted, and
-//! no boundary is looked at twice.
+//! no boundary is looked at twice. A walk that comes from elsewhere, as from a landmark, goes on up from an edge by `climb`, and looks
+//! at darts as this one does.
 #![tactic(auto)]
 
 mod found;
@@ -12,4 +13,8 @@ mod query;
 mod round;
 mod walk;
 
-pub use walk::locate;
+pub use found::{EdgeBelow, Found, found_at_dart, is_told_at_twin, span_between};
+pub use highest::Highest;
+pub use passage::{Compared, Passage, passage_of};
+pub use query::Query;
+pub use walk::{climb, face_over, locate};

@@ -3,7 +3,8 @@ ghost use Rattle.slab_laws.specs.View.{HasFace};
 ghost use Rattle.dcel_records.specs.RecordsView.{tables_of};
 ghost use Rattle.dcel_records.specs.SoundMaps.{IsSoundMap};
 ghost use Rattle.face_location.specs.Spots.{IsSpotOf};
-ghost use Rattle.walk_laws.specs.Walks.{face_above};
+ghost use Rattle.counted_looks.specs.Boundaries.{boundary_size};
+ghost use Rattle.walk_laws.specs.Walks.{face_above, size_ahead};
 ghost use Rattle.locate_walk.specs.Looks.{IsBelowOrNone, dart_of};
 ghost use Rattle.locate_walk.specs.Rounds.{looks_below};
 
@@ -16,8 +17,8 @@ use slab_laws::FaceId;
 use std::sync::ledger::Ledger;
 use work_steps::Steps;
 
-// The face over an edge; with none, the unbounded one, whose name is the first.
-fn face_over(glance: &Glance, edge: &Option<EdgeBelow>) -> FaceId
+/// The face over an edge; with none, the unbounded one, whose name is the first.
+pub fn face_over(glance: &Glance, edge: &Option<EdgeBelow>) -> FaceId
     requires map { IsSoundMap glance.now }
     requires edge { (q : _) × IsBelowOrNone glance.now.graph q edge.now }
     ensures face { result ≡ face_above (tables_of glance.now) (dart_of edge.now) }
@@ -31,32 +32,51 @@ fn face_over(glance: &Glance, edge: &Option<EdgeBelow>) -> FaceId
     }
 }
 
-/// Where a point lies: the vertex at it, else the edge that has it inside, else the face that it lies in (CGAL manual,
-/// `Arr_walk_along_line_point_location`).
+/// Where a point lies, by a walk up to it from the face over an edge that it sees below it, or from the unbounded face; and the edge
+/// that was passed last, from which a walk to a point above goes on.
 ///
-/// It walks from the unbounded face up to the point. In each face it looks once at all that is on the boundary, by the face's own
-/// lists, for what has the point, or else for the highest edge that the point sees below it; from there it goes on into the face
-/// over that edge, until this is the one that it is in. So it looks at each boundary once at most, and only at those of faces that
-/// the vertical below the point, leant by less than any number, passes. It takes no memory.
-pub fn locate<L: Ledger>(glance: &Glance, point: &Point, steps: &mut Steps<L>) -> Spot
-    requires { IsSoundMap glance.now }
-    ensures spot { IsSpotOf glance.now.graph (tables_of glance.now) point.now result }
-    ensures looks { steps.new ≤ steps.old + looks_below glance.now.graph (tables_of glance.now) point.now }
+/// In each face it looks once at all that is on the boundary, by the face's own lists, for what has the point, or else for the
+/// highest edge that the point sees below it; from there it goes on into the face over that edge, until this is the one that it is
+/// in. It takes no memory.
+pub fn climb<L: Ledger>(
+    glance: &Glance,
+    first: Option<EdgeBelow>,
+    point: &Point,
+    steps: &mut Steps<L>,
+) -> (Spot, Option<EdgeBelow>)
+    requires map { IsSoundMap glance.now }
+    requires first { IsBelowOrNone glance.now.graph point.now first }
+    ensures spot { IsSpotOf glance.now.graph (tables_of glance.now) point.now result.0 }
+    ensures last { IsBelowOrNone glance.now.graph point.now result.1 }
+    ensures looks { steps.new ≤ steps.old + size_ahead (boundary_size glance.now.graph (tables_of glance.now)) glance.now.graph (tables_of glance.now) point.now (dart_of first) }
 {
     point.laws();
-    let mut last = None;
+    let mut last = first;
     let mut face = face_over(glance, &last);
     'faces: loop {
         match look_round(glance, face, point, last, steps) {
-            Round::At(spot) => return spot,
+            Round::At(spot) => return (spot, last),
             Round::Over(highest) => {
                 let over = face_over(glance, &highest);
                 if over == face {
-                    return Spot::Face(face);
+                    return (Spot::Face(face), highest);
                 }
                 last = highest;
                 face = over;
             }
         }
     }
+}
+
+/// Where a point lies: the vertex at it, else the edge that has it inside, else the face that it lies in (CGAL manual,
+/// `Arr_walk_along_line_point_location`).
+///
+/// It walks from the unbounded face up to the point. So it looks at each boundary once at most, and only at those of faces that the
+/// vertical below the point, leant by less than any number, passes. It takes no memory.
+pub fn locate<L: Ledger>(glance: &Glance, point: &Point, steps: &mut Steps<L>) -> Spot
+    requires { IsSoundMap glance.now }
+    ensures spot { IsSpotOf glance.now.graph (tables_of glance.now) point.now result }
+    ensures looks { steps.new ≤ steps.old + looks_below glance.now.graph (tables_of glance.now) point.now }
+{
+    climb(glance, None, point, steps).0
 }

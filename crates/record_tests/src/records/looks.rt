@@ -129,7 +129,7 @@ fn are_boundaries(alloc: Global, records: &Records) -> bool
     true
 }
 
-fn pin_between(layer: &mut Arrangement)
+pub(crate) fn pin_between(layer: &mut Arrangement)
     requires watched { IsWatched (arranged Observer-dyn layer.old) }
 {
     if let Some(point) = at(6, 6) {

@@ -8,4 +8,5 @@ mod looks;
 mod ranks;
 mod room;
 mod squares;
+mod trapezoids;
 mod triangles;

@@ -1,6 +1,6 @@
 use Rattle.std.proofs.Common.{sym, ◌∙◌}
 use Rattle.exact_plane.specs.PointOrderLaws.{same_point}
-use Rattle.locate_walk.proofs.Compared.{before_out, after_out, both_before, both_after}
+use Rattle.locate_walk.proofs.EndsCompared.{before_out, after_out, both_before, both_after}
 use Rattle.locate_walk.proofs.passage.passage_of.Goals as goal
 
 pub returns-in-Equal-default-clause-passage : goal.returns-in-Equal-default-clause-passage

@@ -1,0 +1,12 @@
+pub mod Nearest
+pub mod Floors
+pub mod Orders
+pub mod OnLevel
+pub mod Crossed
+pub mod SeenAbove
+pub mod Lowered
+pub mod Surveyed
+pub mod OnWay
+pub mod Filled
+pub mod Rounded
+pub mod Columns

@@ -1,0 +1,34 @@
+-- The lowest edge above a point so far.
+use Rattle.std.specs.Prelude.{◌≡◌, ◌⊎◌, ◌<◌, ⊤, ℕ, cond, Option, Some, None}
+use Rattle.exact_plane.specs.Point.{Point}
+use Rattle.plane_graphs.specs.Graph.{Edge}
+use Rattle.slab_laws.specs.Sound.{skeleton_of, edge_in}
+use Rattle.slab_laws.specs.SpansDrawn.{edge_of}
+use Rattle.slab_laws.specs.View.{View}
+use Rattle.arr_notes.specs.Curves.{IsForward}
+use Rattle.edges_below.specs.Above.{is_above}
+use Rattle.locate_landmarks.specs.Floors.{IsSeenAbove, floor}
+use Rattle.locate_landmarks.specs.declared.above.EdgeAbove.{EdgeAbove}
+
+-- none, or one that the point sees above it, by the forward dart along it (Fogel, Halperin and Wein: vertical ray shooting)
+abbrev pub IsAbove : View → Point → Option EdgeAbove → Type 0
+IsAbove v q None = ⊤
+IsAbove v q (Some a) = IsForward v a.dart × IsSeenAbove (skeleton_of v) q (edge_in v a.dart) × (edge_of a.edge ≡ edge_in v a.dart)
+
+-- the second, if the first is none, or is above it
+abbrev pub lower_edge : Option EdgeAbove → EdgeAbove → EdgeAbove
+lower_edge None e = e
+lower_edge (Some a) e = cond (is_above (edge_of a.edge) (edge_of e.edge)) e a
+
+-- the edge, if there is one
+abbrev pub edge_above : View → Option EdgeAbove → Option Edge
+edge_above v None = None
+edge_above v (Some a) = Some (edge_in v a.dart)
+
+-- how many edges of the slab are below it
+abbrev pub floor_in : View → Point → Option EdgeAbove → ℕ
+floor_in v q o = floor (skeleton_of v) q (edge_above v o)
+
+-- the second is the first, or is lower (this project)
+abbrev pub IsLowered : View → Point → Option EdgeAbove → Option EdgeAbove → Type 0
+IsLowered v q o p = (p ≡ o) ⊎ (floor_in v q p < floor_in v q o)

@@ -1,0 +1,90 @@
+//! The grid of the landmarks.
+ghost use Rattle.std.specs.Prelude.{◌≡◌, ◌<◌, ◌%◌};
+ghost use Rattle.exact_plane.specs.Point.{IsRatio};
+ghost use Rattle.locate_landmarks.specs.Grid.{grid_number, landmark_at, IsNearest};
+
+use exact_plane::{MAX_COORDINATE, Point, Segment, Span, line_of};
+
+/// How many landmarks there are in a row of the grid, and in a column.
+pub(crate) const LANDMARKS_IN_ROW: usize = 7;
+
+/// How many landmarks there are.
+pub(crate) const LANDMARKS: usize = 49;
+
+// The abscissa of a column of the grid, and the ordinate of a row.
+fn grid_number(index: usize) -> i64
+    requires { index < 7 }
+    ensures { result ≡ grid_number index }
+{
+    index as i64 * 262_144 - 786_432
+}
+
+// The column or the row that is nearest to a number, the lesser one of two equally near.
+fn nearest(number: i128, weight: i128) -> usize
+    requires { IsRatio number weight }
+    ensures within { result < 7 }
+    ensures nearest { IsNearest number weight (grid_number result) }
+{
+    if number <= -655_360 * weight {
+        0
+    } else if number <= -393_216 * weight {
+        1
+    } else if number <= -131_072 * weight {
+        2
+    } else if number <= 131_072 * weight {
+        3
+    } else if number <= 393_216 * weight {
+        4
+    } else if number <= 655_360 * weight {
+        5
+    } else {
+        6
+    }
+}
+
+/// The abscissa and the ordinate of the landmark from which a query for the point starts: each is the nearest of -786432, -524288,
+/// -262144, 0, 262144, 524288 and 786432, the lesser one of two equally near. It takes no memory.
+pub fn landmark_of(point: &Point) -> (i64, i64)
+    ensures abscissa { IsNearest point.now.x point.now.w result.0 }
+    ensures ordinate { IsNearest point.now.y point.now.w result.1 }
+{
+    let column = nearest(point.x(), point.w());
+    let row = nearest(point.y(), point.w());
+    (grid_number(column), grid_number(row))
+}
+
+/// The place of that landmark in the list of them all.
+pub(crate) fn landmark_index(point: &Point) -> usize
+    ensures { result < 49 }
+{
+    let column = nearest(point.x(), point.w());
+    let row = nearest(point.y(), point.w());
+    column * LANDMARKS_IN_ROW + row
+}
+
+/// The row of a landmark, by its place in the list of them all, which goes from column to column.
+pub(crate) fn row_of(index: usize) -> usize
+    ensures { result ≡ index % 7 }
+{
+    index % LANDMARKS_IN_ROW
+}
+
+/// The horizontal of a row, from one end of the plane to the other.
+pub(crate) fn level_of_row(row: usize) -> Span
+    requires { row < 7 }
+{
+    let y = grid_number(row);
+    let end = MAX_COORDINATE as i64;
+    let segment = Segment::new(-end, y, end, y).unwrap();
+    Span::new(segment.lower(), segment.upper(), line_of(&segment)).unwrap()
+}
+
+/// A landmark, by its place in the list of them all.
+pub(crate) fn landmark_at(index: usize) -> Point
+    requires { index < 49 }
+    ensures { result ≡ landmark_at index }
+{
+    let x = grid_number(index / LANDMARKS_IN_ROW);
+    let y = grid_number(row_of(index));
+    Point::new(x as i128, y as i128, 1).unwrap()
+}

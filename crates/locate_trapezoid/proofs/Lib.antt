@@ -1,0 +1,14 @@
+mod Paths
+mod Asked
+mod Reached
+mod Grown
+mod SplitLeaf
+mod Linked
+mod Parts
+mod Vertices
+mod Orders
+mod Steps
+mod Puts
+mod Taken
+mod Built
+mod Found

@@ -1,0 +1,15 @@
+use Rattle.std.proofs.Common.{◌≡◌, ◌<◌, ℕ, true, length}
+use Rattle.locate_trapezoid.specs.Scattered.{is_marked, IsTaken}
+use Rattle.locate_trapezoid.proofs.scatter.scattered.Given as goal
+
+abbrev pub invariant-steps : goal.invariant-steps
+invariant-steps l = record {
+  taken : IsTaken l.tests l.marks.items l.order.items;
+  at : 0 < length l.tests → l.at < length l.tests;
+}
+
+abbrev pub invariant-rest : goal.invariant-rest
+invariant-rest l = record {
+  taken : IsTaken l.tests l.marks.items l.order.items;
+  marked : (j : ℕ) → j < l.place → is_marked l.marks.items j ≡ true;
+}
