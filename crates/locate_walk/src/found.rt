@@ -68,6 +68,7 @@ pub fn is_told_at_twin(glance: &Glance, face: FaceId, dart: DartId) -> bool
 }
 
 /// What a look at a dart finds, whichever way it goes. Its ends were compared first, which rules out nearly all darts.
+#[inline(always)]
 pub fn found_at_dart(
     glance: &Glance,
     dart: DartId,
@@ -101,6 +102,7 @@ pub fn found_at_dart(
 
 /// What one look at a part of the boundary of a face finds for a point. An edge that spans it, of which both darts are there, is told
 /// at one of them; at the other one nothing is found. How the vertex that was compared last lies to the point is kept.
+#[inline(always)]
 pub fn find<L: Ledger>(
     glance: &Glance,
     face: FaceId,

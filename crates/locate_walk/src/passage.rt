@@ -42,6 +42,7 @@ pub struct Compared {
 }
 
 // How the source of a dart lies to the point: as was kept of it, or by a comparison.
+#[inline(always)]
 fn order_of_source(
     vertex: VertexId,
     looked: &Glimpse,
@@ -61,6 +62,7 @@ fn order_of_source(
 
 // How the ends of a dart lie to the point. Along a cycle a dart starts where the one before it ended, so only its target is read and
 // compared.
+#[inline(always)]
 fn orders_of(
     glance: &Glance,
     dart: DartId,
@@ -85,6 +87,7 @@ fn orders_of(
 }
 
 /// The passage of a dart that was looked at, by one comparison of points or two. The target is kept for the next look.
+#[inline(always)]
 pub fn passage_of(
     glance: &Glance,
     dart: DartId,
