@@ -1,5 +1,5 @@
 -- Layers of records and history: the first one, one that is as before, and the graph that both draw.
-use Rattle.std.proofs.Common.{◌≡◌, ◌≢◌, ◌≤◌, ℕ, List, [], ◌∷◌, map, Bool, true, false, cond, refl, sym, ap, ap₂, ◌∙◌, subst}
+use Rattle.std.proofs.Common.{◌≡◌, ◌≢◌, ◌≤◌, ℕ, List, [], ◌∷◌, map, Bool, true, false, cond, refl, sym, ap, ◌∙◌, subst}
 use Rattle.std.specs.Prelude.{if◌then◌else◌}
 use Rattle.std.specs.List.{filter, flat_map}
 use Rattle.exact_plane.specs.PointOrder.{point_cmp}
@@ -68,9 +68,6 @@ present_drawn v p l = curves_drawn v p ∙ l.stands
 module _ (v : View) (p : Past) (w : View) (q : Past) (e : w ≡ v) (f : q ≡ p) (l : IsLayer v p) where
   pub drawn_layer : IsLayer w q
   drawn_layer = subst (λ z. IsLayer z q) (sym e) (subst (IsLayer v) (sym f) l)
-
-  pub drawn_present : drawn_graph w (numbers_of (curves_in w q)) ≡ graph (layer_of v p).present
-  drawn_present = ap₂ (λ z y. drawn_graph z (numbers_of (curves_in z y))) e f ∙ present_drawn v p l
 
 -- ---- the text that both tell
 pub told_text : (v : View) (p : Past) → IsLayer v p → text_in v (curves_in v p) ≡ present_text (layer_of v p).present

@@ -1,27 +1,25 @@
 -- Which edges are above the cell that is asked for: told by on which side of its slab their ends are.
-use Rattle.std.proofs.Common.{◌≡◌, ℕ, ◌<◌, Bool, true, false, cond, refl, sym, ap, ◌∙◌, subst}
+use Rattle.std.proofs.Common.{◌≡◌, ℕ, Bool, true, false, cond, refl, sym, ap, ◌∙◌, subst}
 use Rattle.std.specs.Prelude.{not, ◌&&◌, if◌then◌else◌}
 use Rattle.std.proofs.Math.Bool.{beq}
-use Rattle.std.specs.List.{Contains, count_by, sum_by}
-use Rattle.std.proofs.lemmas.Bool.{false≢true, true≢false, and_parts, and_from, not-true}
+use Rattle.std.specs.List.{Contains, sum_by}
+use Rattle.std.proofs.lemmas.Bool.{false≢true, and_parts, not-true}
 use Rattle.integers.proofs.Tests.{not_not}
 use Rattle.exact_plane.specs.Point.{Point}
 use Rattle.exact_plane.specs.Span.{Span}
 use Rattle.plane_graphs.specs.Graph.{Edge}
 use Rattle.plane_graphs.specs.Line.{precedes}
 use Rattle.slab_laws.specs.Skeleton.{Skeleton, HasWeight, left_of, below, over, IsPlaneSkeleton}
-use Rattle.slab_laws.specs.Slabs.{reaches_left, reaches_right, slab_left, slab_right, spans, left_cell}
+use Rattle.slab_laws.specs.Slabs.{reaches_left, slab_left, spans, left_cell}
 use Rattle.slab_laws.specs.Sound.{edge_between}
 use Rattle.slab_laws.specs.SpansDrawn.{edge_of}
 use Rattle.slab_laws.specs.Weights.{weight_above}
-use Rattle.slab_laws.specs.Darts.{Dart}
-use Rattle.slab_faces.proofs.Sums.{fewer_than}
-use Rattle.slab_faces.proofs.Walls.{left_of-irrefl, left_of-asym, left_of-before, left_of-after}
-use Rattle.slab_faces.proofs.Cells.{not_right_trans, left_few, leb_by, ltb_by, both, IsSideOf, cell_weight}
+use Rattle.slab_faces.proofs.Walls.{left_of-asym, left_of-before, left_of-after}
+use Rattle.slab_faces.proofs.Cells.{not_right_trans, left_few, left_more, leb_by, ltb_by, both, IsSideOf, cell_weight}
 use Rattle.edge_predicates.specs.CellsAbove.{above_by, is_above}
 use Rattle.boundary_cycles.specs.declared.asked.Asked.{Asked}
 use Rattle.boundary_cycles.specs.declared.asked.Asked.TheVariants.{Left, Right, Above, Below}
-use Rattle.boundary_cycles.specs.Asked.{is_behind_asked, is_over_asked, is_above_asked, IsAsked, IsAskedBeside}
+use Rattle.boundary_cycles.specs.Asked.{is_behind_asked, is_over_asked, is_above_asked, IsAsked}
 
 -- an edge is behind with its upper end only where it is with its lower one
 falls : (a : Asked) (f : Edge) → IsAsked a → HasWeight f.low → HasWeight f.high → left_of f.high f.low ≡ false → is_behind_asked a f.high ≡ true → is_behind_asked a f.low ≡ true
@@ -92,18 +90,12 @@ module _ (s : Span) (e : Edge) (b : Bool) (S : edge_of s ≡ e) where
 
 -- ---- the cell on the left of any point, on a wall or off all
 module _ (g : Skeleton) (t : Point) (plane : IsPlaneSkeleton g) (T : HasWeight t) where
-  left_more : (p : Point) → Contains g.vertices p → left_of p t ≡ false → slab_left g t < slab_right g p
-  left_more p in' h =
-      let P = plane.proper p in' in
-      fewer_than (λ v. left_of v t) (λ v. not (left_of p v)) g.vertices p in' h (ap not (left_of-irrefl p))
-      (λ v i k. ap not (left_of-asym v p (left_of-before v t p (plane.proper v i) T P k h)))
-
   spans_before : (e : Edge) → Contains g.edges e → spans g (slab_left g t) e ≡ reaches_left e t
   spans_before e E =
       let p = plane.proper_edge e E in
       both _ _ _ _
-      (leb_by _ _ _ (λ h. left_few g e.low t plane p.0 T h) (λ h. left_more e.low (plane.lower_in e E) h))
-      (ltb_by _ _ _ (λ h. left_few g e.high t plane p.1 T h) (λ h. left_more e.high (plane.upper_in e E) h))
+      (leb_by _ _ _ (λ h. left_few g e.low t plane p.0 T h) (λ h. left_more g e.low t plane (plane.lower_in e E) T h))
+      (ltb_by _ _ _ (λ h. left_few g e.high t plane p.1 T h) (λ h. left_more g e.high t plane (plane.upper_in e E) T h))
 
   pub before : IsSideOf g t (slab_left g t) (λ e. reaches_left e t)
   before = record {

@@ -1,10 +1,9 @@
 -- The cell on the left of a point's wall by the edges strictly below the point; for a point off a cycle its parity is that of the cell by the edges at or below it.
-use Rattle.std.proofs.Common.{◌≡◌, ◌≢◌, ◌⊎◌, ℕ, ◌<◌, ◌≤◌, Bool, true, false, cond, arith, refl, sym, ap, ◌∙◌, subst, inl, inr, pos, ◌<ℤ◌}
+use Rattle.std.proofs.Common.{◌≡◌, ◌≢◌, ◌⊎◌, ℕ, ◌<◌, ◌≤◌, Bool, true, false, cond, arith, refl, sym, ap, ◌∙◌, subst, inl, inr}
 use Rattle.std.specs.Prelude.{not, ◌&&◌, ◌==◌, ◌%◌}
 use Rattle.std.specs.List.{Contains, count_by, sum_by}
 use Rattle.std.proofs.lemmas.Int.{ints}
 use Rattle.std.proofs.lemmas.Bool.{false≢true, true≢false, and_parts, and_from, not-true, false_from_ne_true, cases_Bool}
-use lib.IntN.{*ℤ-zero}
 use Rattle.exact_plane.specs.Point.{Point}
 use Rattle.plane_graphs.specs.Graph.{Edge}
 use Rattle.plane_graphs.specs.Line.{IsProper}
@@ -13,20 +12,19 @@ use Rattle.plane_graphs.proofs.Order.{Tri, tri}
 use Rattle.plane_graphs.proofs.Order.Tri.{less, same, more}
 use Rattle.slab_laws.specs.declared.names.DartId.{DartId}
 use Rattle.slab_laws.specs.FacesSound.{lead_in}
-use Rattle.slab_laws.specs.Skeleton.{Skeleton, HasWeight, left_of, lower_than, run, side, gap, over, under, below, inside, precedes, IsPlaneSkeleton}
+use Rattle.slab_laws.specs.Skeleton.{Skeleton, HasWeight, left_of, lower_than, over, under, below, inside, precedes, IsPlaneSkeleton}
 use Rattle.slab_laws.specs.Slabs.{reaches_left, slab_left, spans, place, left_bottom}
 use Rattle.slab_laws.specs.Sound.{IsGraphSound, skeleton_of, dart_in, edge_in, edge_between}
 use Rattle.slab_laws.specs.View.{View, HasDart, point_in, source_in, target_in, next_in}
 use Rattle.slab_laws.specs.Weights.{weight_above}
 use Rattle.rotation_order.proofs.Around.{edge_by}
-use Rattle.slab_faces.proofs.Ints.{times_less, times_at_most}
 use Rattle.slab_faces.proofs.InnerPoints.{before_in}
 use Rattle.slab_faces.proofs.NextLemmas.{darts_exact}
-use Rattle.slab_faces.proofs.Order.{below_from, below_asym}
+use Rattle.slab_faces.proofs.Order.{below_asym}
 use Rattle.slab_faces.proofs.Slabs.{no_order}
 use Rattle.slab_faces.proofs.Sums.{each, sum_by-same, fewer, fewer_than}
 use Rattle.slab_faces.proofs.Walls.{left_of-before, run_positive, side-upper, side_rises, over-upper}
-use Rattle.slab_faces.proofs.Cells.{leb_by, on_side, IsSideOf}
+use Rattle.slab_faces.proofs.Cells.{leb_by, on_side, under_below, IsSideOf}
 use Rattle.sound_views.proofs.NamedDarts.{edge_known}
 use Rattle.arr_notes.specs.CycleNames.{dart_names}
 use Rattle.face_changes.specs.Kinds.{odd_at}
@@ -38,16 +36,6 @@ use Rattle.boundary_cycles.specs.OffCycle.{IsOffCycle}
 use Rattle.boundary_cycles.proofs.Above.{before}
 use Rattle.boundary_cycles.proofs.Counts.{odd_by_names}
 use Rattle.boundary_cycles.proofs.NamedWalks.{of_list, lead_step}
-
--- ---- one edge strictly below the point, another one not
-gap_under : (f e : Edge) (t : Point) → pos 0 <ℤ run f → pos 0 <ℤ run e → under f t ≡ true → under e t ≡ false → pos 0 <ℤ gap f e t
-unfolding gap under
-gap_under f e t F E a b =
-    let k = times_less (run e) (pos 0) (side f t) E (omega (arith, ints)) in
-    let l = times_at_most (run f) (side e t) (pos 0) F (omega (arith, ints)) in
-    let z = *ℤ-zero (run e) in
-    let z' = *ℤ-zero (run f) in
-    omega (arith, ints)
 
 not_both : (e : Edge) (t : Point) → over e t ≡ true → under e t ≡ false
 unfolding over under
@@ -62,16 +50,11 @@ unfolding under
 rises e q Q H k b c r = let y = side-upper e in let z = side_rises e e.high q H Q (run_positive e k) b c r (omega (arith, ints)) in sym (omega (arith, ints))
 
 module _ (g : Skeleton) (t : Point) (i : ℕ) (reach : Edge → Bool) (plane : IsPlaneSkeleton g) (s : IsSideOf g t i reach) where
-  ordered : (f e : Edge) → Contains g.edges f → Contains g.edges e → reach f ≡ true → reach e ≡ true → under f t ≡ true → under e t ≡ false → below f e ≡ true
-  ordered f e F E rf re a b =
-      let p = s.passes f e F E rf re in
-      below_from f e t p (gap_under f e t (run_positive f p.f_long) (run_positive e p.e_long) a b)
-
   at_least : (e : Edge) → Contains g.edges e → reach e ≡ true → under e t ≡ false → count_by (λ f. reach f && under f t) g.edges ≤ place g i e
   at_least e E re o =
       fewer (λ f. reach f && under f t) (λ f. spans g i f && below f e) g.edges (λ f F h.
       let a = and_parts (reach f) (under f t) h in
-      and_from _ _ (s.spanned f F ∙ a.0) (ordered f e F E a.0 re a.1 o))
+      and_from _ _ (s.spanned f F ∙ a.0) (under_below g t i reach f e s F E a.0 re a.1 o))
 
   at_most : (e : Edge) → Contains g.edges e → reach e ≡ true → under e t ≡ true → place g i e < count_by (λ f. reach f && under f t) g.edges
   at_most e E re o =
@@ -81,7 +64,7 @@ module _ (g : Skeleton) (t : Point) (i : ℕ) (reach : Edge → Bool) (plane : I
       (λ f F h.
       let a = and_parts (spans g i f) (below f e) h in
       let rf = sym (s.spanned f F) ∙ a.0 in
-      and_from _ _ rf (by (under f t) (λ k. below_asym g f e plane F E a.1 (ordered e f E F re rf o k))))
+      and_from _ _ rf (by (under f t) (λ k. below_asym g f e plane F E a.1 (under_below g t i reach e f s E F re rf o k))))
     where
       by : (b : Bool) → (b ≡ false → ⊥) → b ≡ true
       by true h = refl

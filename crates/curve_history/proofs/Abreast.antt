@@ -41,7 +41,7 @@ none_next xs ys items i a b e =
     let z : i ∷ a.rest ≡ [] = append_cancel_left items (i ∷ a.rest) [] (a.is ∙ e ∙ sym b ∙ sym (append-nil items)) in
     absurd cc
 
-no_option : (o : Option ℕ) → is_some o ≡ false → o ≡ None
+pub no_option : (o : Option ℕ) → is_some o ≡ false → o ≡ None
 no_option None t = refl
 no_option (Some m) t = absurd (false≢true (sym t))
 

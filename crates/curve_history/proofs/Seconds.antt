@@ -14,6 +14,7 @@ use Rattle.linked_chains.specs.declared.node.Entry.{Entry}
 use Rattle.curve_history.specs.declared.history.History.TheInside.{Inside}
 use Rattle.curve_history.specs.HistoryInMemory.{entry, item_in, Says}
 use Rattle.curve_history.specs.Past.{Past, curves_on}
+use Rattle.curve_history.proofs.Abreast.{no_option}
 use Rattle.curve_history.proofs.Histories.{IsSeen, says_held, held_says}
 use Rattle.curve_history.proofs.Walking.{IsAt, at_head, apart, left, left_head, IsStepped, stepped, item_is, node_at, says_on}
 use Rattle.integers.proofs.Tests.{not_true}
@@ -82,10 +83,6 @@ module _ (c : Chained) (k n : ℕ) (e : Entry) (first : Option ℕ) (w : IsWhole
 
       pub other_second : (i : ℕ) → e.item ≡ i → is_some after ≡ true → (j : ℕ) × Says c k j × (j ≢ i)
       other_second i same t = by_option after i refl t same
-
-    no_option : (o : Option ℕ) → is_some o ≡ false → o ≡ None
-    no_option None t = refl
-    no_option (Some m) t = absurd (false≢true (sym t))
 
     pub none_other : (i : ℕ) → e.item ≡ i → is_some after ≡ false → (j : ℕ) → Says c k j → j ≡ i
     none_other i same t j s =

@@ -1,19 +1,19 @@
 -- Where an edge parts a cycle: which half is outer, what is read of the tables afterwards, and the darts that are kept for cycles. w is the view with the edge and v without it; x is the dart of the fresh half, after a, and y that of the other, after b.
-use Rattle.std.proofs.Common.{◌≡◌, ◌≢◌, ◌<◌, ◌==◌, ℕ, Bool, true, false, cond, List, [], ◌∷◌, IsSome, refl, sym, ap, subst, ◌∙◌, arith, ◌⊎◌, inl, inr}
+use Rattle.std.proofs.Common.{◌≡◌, ◌≢◌, ◌<◌, ◌==◌, ℕ, Bool, true, cond, List, [], ◌∷◌, IsSome, refl, sym, ap, subst, ◌∙◌, arith, ◌⊎◌, inl, inr}
 use Rattle.std.specs.Prelude.{not, ◌&&◌}
 use Rattle.std.specs.List.{AllByRecursion, Contains, filter}
-use Rattle.std.proofs.lemmas.Bool.{false≢true, true≢false, cases_eq}
+use Rattle.std.proofs.lemmas.Bool.{cases_eq}
 use Rattle.integers.proofs.Tests.{other_number, same_number}
 use Rattle.plane_graphs.specs.Ascending.{Member}
 use Rattle.slab_laws.specs.declared.names.CycleId.{CycleId}
-use Rattle.slab_laws.specs.declared.names.CycleKind.{CycleKind}
-use Rattle.slab_laws.specs.declared.names.CycleKind.TheVariants.{Inner, Outer}
+use Rattle.slab_laws.specs.declared.names.CycleKind.TheVariants.{Outer}
 use Rattle.slab_laws.specs.declared.names.DartId.{DartId}
 use Rattle.slab_laws.specs.declared.names.FaceId.{FaceId}
 use Rattle.slab_laws.specs.declared.names.VertexId.{VertexId}
 use Rattle.slab_laws.specs.FaceLists.{Lists, AreDartsOn}
 use Rattle.slab_laws.specs.FacesSound.{lead_in}
 use Rattle.slab_laws.specs.Kinds.{is_outer as bounds_from_outside}
+use Rattle.slab_laws.proofs.KindLemmas.{inner_kind, outer_kind}
 use Rattle.slab_laws.specs.Sound.{skeleton_of, dart_in}
 use Rattle.slab_laws.specs.Tables.{row_at, NamesAscend}
 use Rattle.slab_laws.specs.View.{View, Faces, HasDart, HasCycle, dart_id, cycle_or, cycle_in, kind_in}
@@ -89,14 +89,6 @@ module _ (kept fresh : CycleId) (a b : FaceId) (x y : DartId) (l : Lists) where
     still_taken two n = ap (filter (takes_cycle w which kept parted)) (still_listed two) ∙ tests (l.cycles b) n
 
 -- ---- the kind that the cycle had decides
-outer_kind : (k : CycleKind) → bounds_from_outside k ≡ true → k ≡ Outer
-outer_kind Outer e = refl
-outer_kind Inner e = absurd (false≢true e)
-
-inner_kind : (k : CycleKind) → bounds_from_outside k ≡ false → k ≡ Inner
-inner_kind Outer e = absurd (true≢false e)
-inner_kind Inner e = refl
-
 module _ (v w : View) (f : Faces) (x y : DartId) (p q : VertexId) (a b : DartId) (kept : CycleId) (i : IsBetween v w x y p q a b) (h : AreTabled v f) (at_a : cycle_in f a ≡ kept) (at_b : cycle_in f b ≡ kept) where
   together : cycle_in f a ≡ cycle_in f b
   together = at_a ∙ sym at_b

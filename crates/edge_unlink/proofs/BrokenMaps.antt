@@ -2,15 +2,14 @@
 -- a and b are the darts that d and m come after.
 use Rattle.std.proofs.Common.{◌≡◌, ◌≢◌, ◌==◌, ◌⊎◌, cond, Bool, true, false, IsSome, inl, inr, refl, sym, ap, ◌∙◌, subst}
 use Rattle.std.specs.Prelude.{not}
-use Rattle.std.proofs.lemmas.Bool.{false≢true, true≢false}
 use Rattle.slab_laws.specs.declared.names.CycleId.{CycleId}
 use Rattle.slab_laws.specs.declared.names.CycleKind.{CycleKind}
-use Rattle.slab_laws.specs.declared.names.CycleKind.TheVariants.{Inner, Outer}
 use Rattle.slab_laws.specs.declared.names.DartId.{DartId}
 use Rattle.slab_laws.specs.declared.names.FaceId.{FaceId}
 use Rattle.slab_laws.specs.FaceLists.{Lists, AreDartsOn}
 use Rattle.slab_laws.specs.FacesSound.{lead_in, IsSound}
 use Rattle.slab_laws.specs.Kinds.{is_outer as bounds_from_outside}
+use Rattle.slab_laws.proofs.KindLemmas.{inner_kind, outer_kind}
 use Rattle.slab_laws.specs.Sound.{skeleton_of, dart_in}
 use Rattle.slab_laws.specs.View.{View, Faces, HasDart, HasCycle, source_in, target_in, twin_in, next_in, line_in, cycle_in, kind_in}
 use Rattle.arr_notes.specs.FaceSteps.{step_faces, breaks}
@@ -77,24 +76,15 @@ module _ {v w : View} {f : Faces} {d m a b : DartId} (t : IsBreaking v w f d m a
   rows_left = runs_are_steps.rows_unlinked w v f d m (source_in v d) (target_in v d) (line_in v d) edge (rows_of v f tabled)
 
   -- ---- the kinds of the parts
-  -- no kind but the one that bounds from outside does, and the other doesn't
-  inner_by : (k : CycleKind) → bounds_from_outside k ≡ false → k ≡ Inner
-  inner_by Inner e = refl
-  inner_by Outer e = absurd (true≢false e)
-
-  outer_by : (k : CycleKind) → bounds_from_outside k ≡ true → k ≡ Outer
-  outer_by Outer e = refl
-  outer_by Inner e = absurd (false≢true e)
-
   module _ (was_outer : Bool) (kept : CycleId) (kind : CycleKind) (cycle : kept ≡ cycle_in f d) (its : kind ≡ kind_in f kept) (by : was_outer ≡ bounds_from_outside kind) where
     kind_is : bounds_from_outside (kind_in f (cycle_in f d)) ≡ was_outer
     kind_is = ap (λ z. bounds_from_outside (kind_in f z)) (sym cycle) ∙ ap bounds_from_outside (sym its) ∙ sym by
 
     pub parts_of_inner : was_outer ≡ false → (is_outer (skeleton_of w) (dart_in w a) ≡ false) × (is_outer (skeleton_of w) (dart_in w b) ≡ false)
-    parts_of_inner q = choices_of_kinds.break_inner w v f d m (source_in v d) (target_in v d) a b between tabled one_cycle (inner_by _ (kind_is ∙ q))
+    parts_of_inner q = choices_of_kinds.break_inner w v f d m (source_in v d) (target_in v d) a b between tabled one_cycle (inner_kind _ (kind_is ∙ q))
 
     pub parts_of_outer : was_outer ≡ true → is_outer (skeleton_of w) (dart_in w b) ≡ not (is_outer (skeleton_of w) (dart_in w a))
-    parts_of_outer q = choices_of_kinds.break_outer w v f d m (source_in v d) (target_in v d) a b between tabled one_cycle (outer_by _ (kind_is ∙ q))
+    parts_of_outer q = choices_of_kinds.break_outer w v f d m (source_in v d) (target_in v d) a b between tabled one_cycle (outer_kind _ (kind_is ∙ q))
 
   -- ---- the parts, by the darts x, whose orbit is fresh, and y
   module _ (x y : DartId) (both : AreBoth x y a b) where

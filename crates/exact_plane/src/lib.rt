@@ -20,7 +20,7 @@ pub use bounds::{MAX_COORDINATE, WEIGHT_LIMIT};
 pub use direction::{Direction, turn_order};
 pub use line::{Line, line_of};
 pub use meets::{Meet, meeting, span_meeting};
-pub use point::{Point, PointError};
+pub use point::{Point, PointError, narrow};
 pub use segment::{Segment, SegmentError};
 pub use sides::{Sign, above_at, orientation, side};
 pub use slopes::slope_order;

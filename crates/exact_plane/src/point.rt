@@ -160,8 +160,8 @@ impl Point {
     }
 }
 
-// A number of a point or of a line in 64 bits, which the processor multiplies and divides at once.
-pub(crate) fn narrow(number: i128) -> i64
+/// A number of a point or of a line in 64 bits, which the processor multiplies and divides at once.
+pub fn narrow(number: i128) -> i64
     requires { unsigned_abs number < NUMERATOR_LIMIT }
     ensures { result ≡ number }
 {

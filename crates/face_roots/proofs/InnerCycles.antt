@@ -131,11 +131,6 @@ module _ (g : Skeleton) (plane : IsPlaneSkeleton g) where
         let b = before e.low v (plane.proper_edge e E).0 (plane.proper v vertex) h in
         weighs e ∙ (λ i. tally (off (ahead e) b i) + tally (off_target (back e) E b i))
 
-    light_high : (e : Edge) → Contains g.edges e → precedes e.high v ≡ true → m e ≡ 0
-    light_high e E h =
-        let b = before e.high v (plane.proper_edge e E).1 (plane.proper v vertex) h in
-        weighs e ∙ (λ i. tally (off_target (ahead e) E b i) + tally (off (back e) b i))
-
     even : IsEvenAtVertices g m
     unfolding m
     even = cycle_even g l plane

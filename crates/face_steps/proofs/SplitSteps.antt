@@ -71,15 +71,15 @@ of_other d t n m k a b =
 
 -- ---- darts of the parts as darts of the whole
 module _ (e : Edge) (p : Point) where
-  whole_low : (fw : Bool) → whole_dart e p (record { edge = lower_part e p; forward = fw }) ≡ (record { edge = e; forward = fw })
+  pub whole_low : (fw : Bool) → whole_dart e p (record { edge = lower_part e p; forward = fw }) ≡ (record { edge = e; forward = fw })
   unfolding whole_dart
   whole_low fw = rw (same_edge_refl (lower_part e p)) refl
 
-  whole_high : (fw : Bool) → whole_dart e p (record { edge = upper_part e p; forward = fw }) ≡ (record { edge = e; forward = fw })
+  pub whole_high : (fw : Bool) → whole_dart e p (record { edge = upper_part e p; forward = fw }) ≡ (record { edge = e; forward = fw })
   unfolding whole_dart
   whole_high fw = elim (cases_Bool (same_edge (upper_part e p) (lower_part e p))) [ inl k ↦ rw k refl | inr k ↦ rw (k, same_edge_refl (upper_part e p)) refl ]
 
-  whole_rest : (z : Dart) → z.edge ≢ lower_part e p → z.edge ≢ upper_part e p → whole_dart e p z ≡ z
+  pub whole_rest : (z : Dart) → z.edge ≢ lower_part e p → z.edge ≢ upper_part e p → whole_dart e p z ≡ z
   unfolding whole_dart
   whole_rest z a b = rw (false_from_ne_true _ (λ q. a (same_edge_is z.edge (lower_part e p) q)), false_from_ne_true _ (λ q. b (same_edge_is z.edge (upper_part e p) q))) refl
 

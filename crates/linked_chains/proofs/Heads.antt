@@ -10,18 +10,12 @@ use Rattle.slab_laws.specs.Tables.{row_at}
 use Rattle.chain_laws.specs.Links.{first_or}
 use Rattle.linked_chains.specs.Writes.{IsHeaded}
 use Rattle.linked_chains.proofs.Reading.{row_lookup}
-use Rattle.integers.proofs.Tests.{other_number, same_number}
-
-turned : (m n : ℕ) → (m == n) ≡ (n == m)
-turned m n = elim (cases_eq m n) [
-  | inl q ↦ ap (λ k. k == n) q ∙ ap (λ k. n == k) (sym q)
-  | inr ne ↦ other_number m n ne ∙ sym (other_number n m (λ e. ne (sym e)))
-]
+use Rattle.integers.proofs.Tests.{other_number, same_number, turned_test}
 
 module _ {S : Type 0} (old new : IndexMap ℕ (Option ℕ) S) (key : ℕ) where
   -- what an update finds
   pub updated : (o : Option (Option ℕ)) → Updates nat_eq old new key o → (k : ℕ) → row_at new.entries k ≡ cond (k == key) o (row_at old.entries k)
-  updated o u k = row_lookup new.entries k ∙ u.0 k ∙ ap (λ b. cond b o (lookup (nat_eq k) old.entries)) (turned key k) ∙ ap (λ r. cond (k == key) o r) (sym (row_lookup old.entries k))
+  updated o u k = row_lookup new.entries k ∙ u.0 k ∙ ap (λ b. cond b o (lookup (nat_eq k) old.entries)) (turned_test key k) ∙ ap (λ r. cond (k == key) o r) (sym (row_lookup old.entries k))
 
   found : (o : Option (Option ℕ)) → Updates nat_eq old new key o → row_at new.entries key ≡ o
   found o u = updated o u key ∙ ap (λ b. cond b o (row_at old.entries key)) (same_number key)

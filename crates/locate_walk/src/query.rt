@@ -1,10 +1,10 @@
 ghost use Rattle.std.specs.Prelude.{◌≡◌, ◌+◌, ◌<◌, ◌≤◌, ◌*ℤ◌, ◌+ℤ◌, pos, unsigned_abs};
-ghost use Rattle.exact_plane.specs.declared.bounds.TheConstants.{MAX_COORDINATE, WEIGHT_LIMIT, NUMERATOR_LIMIT};
+ghost use Rattle.exact_plane.specs.declared.bounds.TheConstants.{MAX_COORDINATE, WEIGHT_LIMIT};
 ghost use Rattle.exact_plane.specs.Point.{IsPoint};
 ghost use Rattle.exact_plane.specs.PointOrder.{point_cmp};
 ghost use Rattle.locate_walk.specs.Queries.{IsFloorOf};
 
-use exact_plane::Point;
+use exact_plane::{Point, narrow};
 use std::cmp::Ordering;
 use std::marker::Model;
 
@@ -29,14 +29,6 @@ impl Model for Query {
     ghost view = { λ q. q.point };
 
     ghost invariant = { λ q. IsFloorOf q.floor q.point };
-}
-
-// A number of a point in 64 bits.
-fn narrow(number: i128) -> i64
-    requires { unsigned_abs number < NUMERATOR_LIMIT }
-    ensures { result ≡ number }
-{
-    number as i64
 }
 
 // The greatest whole number that isn't past a point's abscissa.

@@ -2,7 +2,7 @@
 -- g has the edge f, h its two parts at p.
 use Rattle.std.proofs.Common.{◌≡◌, ◌≢◌, ◌↔◌, ◌⊎◌, Bool, true, false, not, arith, List, ◌∷◌, refl, sym, ap, ◌∙◌, subst, inl, inr}
 use Rattle.std.specs.List.{Contains, sum_by, filter}
-use Rattle.std.proofs.lemmas.Bool.{cases_Bool, true≢false, false_from_ne_true}
+use Rattle.std.proofs.lemmas.Bool.{cases_Bool, true≢false}
 use Rattle.std.proofs.lemmas.List.Sums.{sum_by-cons}
 use Rattle.exact_plane.specs.Point.{Point}
 use Rattle.plane_graphs.specs.Ascending.{IsAscending, ascending}
@@ -32,23 +32,12 @@ use Rattle.face_changes.specs.EdgeSplit.{HasEdgeSplit, whole_dart, FollowsSplit}
 use Rattle.face_changes.specs.OneMoreVertex.{widened}
 use Rattle.face_changes.proofs.EdgeSplit.{edge_split_in_two}
 use Rattle.face_steps.proofs.Counted.{in_front, behind, edge_set}
+use Rattle.face_steps.proofs.SplitSteps.{whole_low, whole_high, whole_rest}
 use Rattle.open_parts.proofs.Between.{within}
 use Rattle.open_parts.proofs.MorePoints.{IsListedPlane, points, points_up, points_are, counts}
 
 -- ---- darts of the parts as darts of the whole
 module _ (f : Edge) (p : Point) where
-  whole_low : (fw : Bool) → whole_dart f p (record { edge = lower_part f p; forward = fw }) ≡ (record { edge = f; forward = fw })
-  unfolding whole_dart
-  whole_low fw = rw (same_edge_refl (lower_part f p)) refl
-
-  whole_high : (fw : Bool) → whole_dart f p (record { edge = upper_part f p; forward = fw }) ≡ (record { edge = f; forward = fw })
-  unfolding whole_dart
-  whole_high fw = elim (cases_Bool (same_edge (upper_part f p) (lower_part f p))) [ inl k ↦ rw k refl | inr k ↦ rw (k, same_edge_refl (upper_part f p)) refl ]
-
-  whole_rest : (z : Dart) → z.edge ≢ lower_part f p → z.edge ≢ upper_part f p → whole_dart f p z ≡ z
-  unfolding whole_dart
-  whole_rest z a b = rw (false_from_ne_true _ (λ q. a (same_edge_is z.edge (lower_part f p) q)), false_from_ne_true _ (λ q. b (same_edge_is z.edge (upper_part f p) q))) refl
-
   whole_twin : (z : Dart) → whole_dart f p (twin z) ≡ twin (whole_dart f p z)
   unfolding whole_dart
   whole_twin z = elim (cases_Bool (same_edge z.edge (lower_part f p))) [

@@ -17,7 +17,7 @@ use Rattle.plane_graphs.specs.Ascending.{Member, IsAscending}
 use Rattle.plane_graphs.specs.Fit.{IsFit}
 use Rattle.plane_graphs.specs.Piece.{Piece, Present}
 use Rattle.plane_graphs.proofs.Ascending.{All-member, IsAscending-ascending, ascending_is, from_member}
-use Rattle.plane_graphs.proofs.Lists.{clash, in_map, of_map, in_filter, of_filter, in_right, map_same, map_map}
+use Rattle.plane_graphs.proofs.Lists.{ascends_right, clash, in_map, of_map, in_filter, of_filter, in_right, map_same, map_map}
 use Rattle.plane_graphs.proofs.Sorting.{member_at}
 use Rattle.present_graphs.specs.Spans.{span_of_piece}
 use Rattle.slab_laws.specs.declared.names.CurveId.{CurveId}
@@ -27,7 +27,6 @@ use Rattle.slab_laws.specs.Pieces.{piece_of, present_of}
 use Rattle.slab_laws.specs.Overlay.{curves_along, plane_of}
 use Rattle.overlay_laws.proofs.Curves.{IsCurveAlong, along_in as curve_in, along_out as curve_out}
 use Rattle.sweep_events.specs.Places.{piece_at, nowhere}
-use Rattle.sweep_events.proofs.AfterEvent.{ascends_right}
 use Rattle.sweep_graphs.specs.declared.edges.EdgeEnds.{EdgeEnds}
 use Rattle.sweep_graphs.specs.declared.trace.Stretch.{Stretch}
 use Rattle.sweep_graphs.specs.declared.trace.Trace.{Trace}

@@ -36,9 +36,6 @@ module _ (own : LayerGraph) (ts : List PieceStretch) (counts : List ℕ) (first 
     pub counted : length known ≡ k
     pub each : (j : ℕ) → j < k → IsKnownOf own ts counts first count stretches (get_or es j no_ends) (known_at known j)
 
-  pub none_known : (known : List (Option ℕ)) → known ≡ [] → AreKnownUpto 0 known
-  none_known known e = record { passed = omega arith; counted = ap length e; each = λ j l. absurd (omega arith) }
-
   pub told_by : (xs : List Stretch) (us : List PieceStretch) (cs : List ℕ) (bound : ℕ) (e : EdgeEnds) (piece r : Option ℕ) → xs ≡ stretches → us ≡ ts → cs ≡ counts → bound ≡ slice_index_or cs e.low 0 → IsOwnAlong first count xs e piece → IsRankOn own us bound piece r → IsKnownOf own ts counts first count stretches e r
   told_by xs us cs bound e piece r x u c b a k = (
     piece,

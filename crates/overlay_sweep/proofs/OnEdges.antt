@@ -11,10 +11,10 @@ use Rattle.slab_laws.specs.Skeleton.{Skeleton, HasWeight, IsPlaneSkeleton, left_
 use Rattle.slab_laws.specs.Slabs.{reaches_left, spans, place, slab_left, slab_right, left_cell, left_count, forward_cell}
 use Rattle.slab_laws.specs.Meets.{SameFace}
 use Rattle.slab_faces.proofs.Ints.{times_at_most}
-use Rattle.slab_faces.proofs.Sums.{each, sum_by-same, sum_by-plus, fewer_than}
-use Rattle.slab_faces.proofs.Walls.{left_of-asym, left_of-before, left_of-irrefl}
+use Rattle.slab_faces.proofs.Sums.{each, sum_by-same, sum_by-plus}
+use Rattle.slab_faces.proofs.Walls.{left_of-asym}
 use Rattle.slab_faces.proofs.Order.{below_asym, gap-on_e, gap-swap}
-use Rattle.slab_faces.proofs.Cells.{left_few, leb_by, ltb_by, both}
+use Rattle.slab_faces.proofs.Cells.{left_few, left_more, leb_by, ltb_by, both}
 use Rattle.slab_faces.proofs.Slabs.{IsThrough, IsSlab, through, by_gap, below_at, run_through, same_edge_is, same_edge_refl}
 use Rattle.slab_faces.proofs.Along.{below_self}
 use Rattle.slab_faces.proofs.OverUnder.{over_in, positive_not_over, zero_not_over}
@@ -33,11 +33,6 @@ module _ (s : Skeleton) (plane : IsPlaneSkeleton s) (t : Point) (T : HasWeight t
   other_side : (v : Point) → Contains s.vertices v → left_of t v ≡ not (left_of v t)
   other_side v V = turned (left_of v t) (left_of t v) (off v V) (left_of-asym v t)
 
-  many : (v : Point) → Contains s.vertices v → left_of v t ≡ false → slab_left s t < slab_right s v
-  many v V h =
-      fewer_than (λ u. left_of u t) (λ u. not (left_of v u)) s.vertices v V h (ap not (left_of-irrefl v))
-      (λ u U k. ap not (left_of-asym u v (left_of-before u t v (plane.proper u U) T (plane.proper v V) k h)))
-
   pub clear_slab : IsSlab s (slab_left s t) t
   clear_slab = record {
     proper = T;
@@ -45,8 +40,8 @@ module _ (s : Skeleton) (plane : IsPlaneSkeleton s) (t : Point) (T : HasWeight t
         let p = plane.lower_in e E in
         let q = plane.upper_in e E in
         both _ _ _ _
-        (leb_by _ _ (left_of e.low t) (λ h. left_few s e.low t plane (plane.proper e.low p) T h) (λ h. many e.low p h))
-        (ltb_by _ _ (left_of e.high t) (λ h. left_few s e.high t plane (plane.proper e.high q) T h) (λ h. many e.high q h) ∙ sym (other_side e.high q));
+        (leb_by _ _ (left_of e.low t) (λ h. left_few s e.low t plane (plane.proper e.low p) T h) (λ h. left_more s e.low t plane p T h))
+        (ltb_by _ _ (left_of e.high t) (λ h. left_few s e.high t plane (plane.proper e.high q) T h) (λ h. left_more s e.high t plane q T h) ∙ sym (other_side e.high q));
   }
 
   module _ (e : Edge) (E : Contains s.edges e) (th : IsThrough e t) (on : side e t ≡ pos 0) where

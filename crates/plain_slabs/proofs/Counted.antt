@@ -12,16 +12,12 @@ use Rattle.slab_laws.specs.Skeleton.{Skeleton, same_point}
 use Rattle.slab_laws.specs.Slabs.{left_cell}
 use Rattle.slab_laws.specs.Subdivision.{Cycle, subdivision, has_dart}
 use Rattle.slab_laws.specs.declared.names.CycleKind.{CycleKind}
-use Rattle.subdivision_rows.specs.Listed.{Drawing, skeleton_in, subdivision_in}
+use Rattle.subdivision_rows.specs.Listed.{Drawing, subdivision_in}
 use Rattle.subdivision_rows.specs.declared.lists.RowLists.{RowLists}
 use Rattle.subdivision_rows.specs.RowsInMemory.{drawing_of, AreSoundRows}
 use Rattle.subdivision_rows.proofs.RowsDrawn.{drawn_here}
 use Rattle.subdivision_rows.proofs.CycleLists.{kinds_here}
 use Rattle.plain_slabs.proofs.LeadRows.{dart_told}
-
-pub graph_is : (g : Skeleton) → (subdivision g).graph ≡ g
-unfolding subdivision
-graph_is g = refl
 
 as_it_was : (b : Bool) → is_outer (kind_by b) ≡ b
 as_it_was true = refl
@@ -40,10 +36,12 @@ bare_are g = length-map (filter (λ p. not (has_dart g p)) g.vertices) (λ p. re
 
 module _ (a : RowLists) (d : Drawing) (k : AreSoundRows a) (is : drawing_of a ≡ d) where
   pub vertices_many : (n : ℕ) → n ≡ length a.points.items → n ≡ length (subdivision_in d).graph.vertices
-  vertices_many n e = e ∙ ap (λ g. length g.vertices) (drawn_here a d k is ∙ sym (graph_is (skeleton_in d)))
+  unfolding subdivision
+  vertices_many n e = e ∙ ap (λ g. length g.vertices) (drawn_here a d k is)
 
   pub edges_many : (n : ℕ) → n ≡ length a.edges.items → n ≡ length (subdivision_in d).graph.edges
-  edges_many n e = e ∙ sym (length-map a.edges.items edge_of) ∙ ap (λ g. length g.edges) (drawn_here a d k is ∙ sym (graph_is (skeleton_in d)))
+  unfolding subdivision
+  edges_many n e = e ∙ sym (length-map a.edges.items edge_of) ∙ ap (λ g. length g.edges) (drawn_here a d k is)
 
   pub inner_many : (n : ℕ) → n ≡ count_by (λ (k : CycleKind). not (is_outer k)) a.kinds.items → n ≡ count_by (λ (c : Cycle). not c.outer) (subdivision_in d).cycles
   inner_many n e = e ∙ ap (count_by (λ (k : CycleKind). not (is_outer k))) (kinds_here a d k is) ∙ kinds_from 0 (subdivision_in d).cycles

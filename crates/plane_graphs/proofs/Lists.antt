@@ -153,6 +153,19 @@ module _ {X : Type 0} (cmp : X → X → Ordering) where
       step true ys h k = (h, k)
       step false ys h k = k
 
+  all_first : (P : X → Type 0) (xs ys : List X) → AllByRecursion P (xs ++ ys) → AllByRecursion P xs
+  all_first P [] ys a = tt
+  all_first P (x ∷ xs) ys a = (a.0, all_first P xs ys a.1)
+
+  -- parts of an ascending list
+  pub ascends_left : (xs ys : List X) → IsAscending cmp (xs ++ ys) → IsAscending cmp xs
+  ascends_left [] ys a = tt
+  ascends_left (x ∷ xs) ys a = (all_first (λ y. cmp x y ≡ Less) xs ys a.0, ascends_left xs ys a.1)
+
+  pub ascends_right : (xs ys : List X) → IsAscending cmp (xs ++ ys) → IsAscending cmp ys
+  ascends_right [] ys a = a
+  ascends_right (x ∷ xs) ys a = ascends_right xs ys a.1
+
 module _ {X : Type 0} (cmp : X → X → Ordering) (o : IsTotalOrder cmp) (exact : (x y : X) → cmp x y ≡ Equal → x ≡ y) where
   pub of_ascending : (x : X) (xs : List X) → Member x (ascending cmp xs) → Member x xs
   of_ascending x xs m = Member-ascending cmp o x xs m

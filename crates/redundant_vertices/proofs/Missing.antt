@@ -1,9 +1,8 @@
 -- The points of a list that are no vertices of a present, and the steps that take them away, one more point at a time.
-use Rattle.std.proofs.Common.{◌≡◌, Bool, true, false, not, cond, Less, List, [], ◌∷◌, ◌++◌, refl, sym, ap, ◌∙◌, subst}
+use Rattle.std.proofs.Common.{◌≡◌, Bool, true, false, not, cond, List, [], ◌∷◌, ◌++◌, refl, sym, ap, ◌∙◌, subst}
 use Rattle.std.proofs.lemmas.List.{append-nil}
 use Rattle.std.proofs.lemmas.List.Elements.{filter-append}
-use Rattle.std.specs.List.{AllByRecursion, list_any}
-use Rattle.std.specs.declared.cmp.Ordering.{Ordering}
+use Rattle.std.specs.List.{list_any}
 use Rattle.exact_plane.specs.Point.{Point}
 use Rattle.exact_plane.specs.PointOrder.{point_cmp}
 use Rattle.exact_plane.specs.PointOrderLaws.{point_cmp_total}
@@ -14,20 +13,6 @@ use Rattle.plane_graphs.proofs.Ascending.{ascending_unique}
 use Rattle.plane_graphs.proofs.Lists.{IsAscending-filter, any_in, any_none, any_out, in_filter, not_in, not_out, of_filter}
 use Rattle.plane_graphs.proofs.Order.{same_itself, same_out}
 use Rattle.edit_steps.specs.Steps.{apply, missing_points, run, tidy_step, tidy_steps}
-
--- ---- parts of an ascending list
-module _ {X : Type 0} where
-  all_first : (P : X → Type 0) (xs ys : List X) → AllByRecursion P (xs ++ ys) → AllByRecursion P xs
-  all_first P [] ys a = tt
-  all_first P (x ∷ xs) ys a = (a.0, all_first P xs ys a.1)
-
-  pub first_ascend : (cmp : X → X → Ordering) (xs ys : List X) → IsAscending cmp (xs ++ ys) → IsAscending cmp xs
-  first_ascend cmp [] ys a = tt
-  first_ascend cmp (x ∷ xs) ys a = (all_first (λ y. cmp x y ≡ Less) xs ys a.0, first_ascend cmp xs ys a.1)
-
-  pub last_ascend : (cmp : X → X → Ordering) (xs ys : List X) → IsAscending cmp (xs ++ ys) → IsAscending cmp ys
-  last_ascend cmp [] ys a = a
-  last_ascend cmp (x ∷ xs) ys a = last_ascend cmp xs ys a.1
 
 -- ---- what a test for a point tells
 module _ (qs : List Point) where

@@ -13,7 +13,7 @@ use Rattle.plane_graphs.specs.Piece.{Present}
 use Rattle.plane_graphs.proofs.Ascending.{All-member, IsAscending-ascending}
 use Rattle.plane_graphs.proofs.Closed.{IsClosed}
 use Rattle.plane_graphs.proofs.Lines.{geometry}
-use Rattle.plane_graphs.proofs.Lists.{clash, decide, in_left, in_map, of_map}
+use Rattle.plane_graphs.proofs.Lists.{ascends_left, ascends_right, clash, decide, in_left, in_map, of_map}
 use Rattle.plane_graphs.proofs.Order.{lt_never}
 use Rattle.plane_graphs.proofs.Vertices.{vertex_in, vertices_closed}
 use Rattle.plane_graphs.proofs.Vertices.IsVertex.{pinned}
@@ -39,7 +39,7 @@ use Rattle.told_steps.proofs.ToldTogether.{told_runs_lawful}
 use Rattle.told_steps.specs.ToldRuns.{AreInStep, IsToldRun}
 use Rattle.redundant_vertices.specs.Left.{AreLeft, tidying}
 use Rattle.redundant_vertices.specs.Tidied.{IsTidied}
-use Rattle.redundant_vertices.proofs.Missing.{first_ascend, known, last_ascend, missing_ascend, missing_in, missing_out, none_missing, one_missing, one_step_on, same_missing, unknown}
+use Rattle.redundant_vertices.proofs.Missing.{known, missing_ascend, missing_in, missing_out, none_missing, one_missing, one_step_on, same_missing, unknown}
 use Rattle.redundant_vertices.proofs.Stayed.{other_stays, tidied_in_step}
 
 points_ascend : (v : View) (h : Curves) → IsAscending point_cmp (drawn_graph v h).points
@@ -188,7 +188,7 @@ module _ (v : MapView) (h : Curves) (b : BusRow) (i : AreInStep v h b) (all : Li
     parts_ascend = subst (IsAscending point_cmp) (sym parts) ascend
 
     firsts_ascend : IsAscending point_cmp firsts
-    firsts_ascend = first_ascend point_cmp firsts (point_in v.graph x ∷ map (point_in v.graph) last) parts_ascend
+    firsts_ascend = ascends_left point_cmp firsts (point_in v.graph x ∷ map (point_in v.graph) last) parts_ascend
 
     firsts_there : (q : Point) → Member q firsts → Member q (drawn_graph v.graph h).points
     firsts_there q m = all_there q (subst (Member q) parts (in_left q firsts (point_in v.graph x ∷ map (point_in v.graph) last) m))
@@ -199,7 +199,7 @@ module _ (v : MapView) (h : Curves) (b : BusRow) (i : AreInStep v h b) (all : Li
 
     later : (u : VertexId) → Member u last → point_in w.graph u ≡ point_in v.graph u → point_in w.graph u ≡ point_in w.graph x → ⊥
     later u m at e =
-        let o = All-member (λ q. point_cmp (point_in v.graph x) q ≡ Less) (point_in v.graph u) (map (point_in v.graph) last) (last_ascend point_cmp firsts (point_in v.graph x ∷ map (point_in v.graph) last) parts_ascend).0 (in_map (point_in v.graph) u last m) in
+        let o = All-member (λ q. point_cmp (point_in v.graph x) q ≡ Less) (point_in v.graph u) (map (point_in v.graph) last) (ascends_right point_cmp firsts (point_in v.graph x ∷ map (point_in v.graph) last) parts_ascend).0 (in_map (point_in v.graph) u last m) in
         lt_never {p = point_in v.graph x} (record { is = subst (λ q. point_cmp (point_in v.graph x) q ≡ Less) (sym at ∙ e ∙ t.stay.0.point) o })
 
     named : (w2 : MapView) (k2 : Curves) (c2 : BusRow) (p : Present) → IsToldRun v h b (tidy_steps (missing_points (firsts ++ (point_in w.graph x ∷ [])) (vertices p)) (drawn_graph v.graph h)) w2 k2 c2 → IsToldRun v h b (tidy_steps (missing_points (map (point_in v.graph) (first ++ (x ∷ []))) (vertices p)) (drawn_graph v.graph h)) w2 k2 c2

@@ -1,16 +1,19 @@
 -- Cells against points of a wall: the weight above a cell is that above each point that borders it.
 use Rattle.std.proofs.Common.{◌≡◌, ℕ, ◌+◌, ◌<◌, ◌≤◌, Bool, true, false, cond, arith, refl, sym, ap, ◌∙◌}
-use Rattle.std.specs.Prelude.{not, ◌&&◌}
+use Rattle.std.specs.Prelude.{not, ◌&&◌, pos, ◌<ℤ◌}
 use Rattle.std.specs.List.{sum_by, count_by, Contains}
+use Rattle.std.proofs.lemmas.Int.{ints}
 use Rattle.std.proofs.lemmas.Bool.{false≢true, and_parts, and_from, not-true, false_from_ne_true, le-ltb, lt-ltb, le-leb, lt-leb}
 use lib.Dec.{leb, ltb}
+use lib.IntN.{*ℤ-zero}
 use Rattle.exact_plane.specs.Point.{Point}
 use Rattle.plane_graphs.specs.Graph.{Edge}
-use Rattle.slab_laws.specs.Skeleton.{Skeleton, HasWeight, left_of, over, IsPlaneSkeleton, below}
+use Rattle.slab_laws.specs.Skeleton.{Skeleton, HasWeight, left_of, run, side, gap, over, under, IsPlaneSkeleton, below}
 use Rattle.slab_laws.specs.Slabs.{reaches_left, reaches_right, slab_left, slab_right, spans, place, left_count, right_count}
 use Rattle.slab_laws.specs.Meets.{IsOnWall, Meets, SameFace, across, here, right, left}
 use Rattle.slab_laws.specs.Weights.{Even, IsEvenAtVertices, weight_above, left_weight, right_weight}
 use Rattle.slab_laws.specs.declared.slab_cell.SlabCell.{SlabCell}
+use Rattle.slab_faces.proofs.Ints.{times_less, times_at_most}
 use Rattle.slab_faces.proofs.Parity.{parity_across}
 use Rattle.slab_faces.proofs.Sums.{each, sum_by-same, fewer, fewer_than}
 use Rattle.slab_faces.proofs.Walls.{left_of-irrefl, left_of-asym, left_of-before, left_of-after, on_wall_parts, run_positive}
@@ -33,6 +36,13 @@ left_many g p t plane wall P h =
     fewer_than (λ v. left_of v t) (λ v. not (left_of p v)) g.vertices wall.vertex wall.is_vertex w.0
     (ap not (not_right_trans wall.vertex t p W T P w.1 h))
     (λ v in' k. ap not (left_of-asym v p (left_of-before v t p (plane.proper v in') T P k h)))
+
+-- as left_many, of a vertex
+pub left_more : (g : Skeleton) (p t : Point) → IsPlaneSkeleton g → Contains g.vertices p → HasWeight t → left_of p t ≡ false → slab_left g t < slab_right g p
+left_more g p t plane in' T h =
+    let P = plane.proper p in' in
+    fewer_than (λ v. left_of v t) (λ v. not (left_of p v)) g.vertices p in' h (ap not (left_of-irrefl p))
+    (λ v i k. ap not (left_of-asym v p (left_of-before v t p (plane.proper v i) T P k h)))
 
 pub right_few : (g : Skeleton) (p t : Point) → IsPlaneSkeleton g → HasWeight p → HasWeight t → left_of t p ≡ false → slab_right g p ≤ slab_right g t
 right_few g p t plane P T h =
@@ -129,6 +139,21 @@ right_side g t plane wall = record {
         e_f = left_of-after e.low t f.high q.0 T p.1 b' a.1;
       };
 }
+
+gap_under : (f e : Edge) (t : Point) → pos 0 <ℤ run f → pos 0 <ℤ run e → under f t ≡ true → under e t ≡ false → pos 0 <ℤ gap f e t
+unfolding gap under
+gap_under f e t F E a b =
+    let k = times_less (run e) (pos 0) (side f t) E (omega (arith, ints)) in
+    let l = times_at_most (run f) (side e t) (pos 0) F (omega (arith, ints)) in
+    let z = *ℤ-zero (run e) in
+    let z' = *ℤ-zero (run f) in
+    omega (arith, ints)
+
+-- f below t, and e at or above it
+pub under_below : (g : Skeleton) (t : Point) (i : ℕ) (reach : Edge → Bool) (f e : Edge) → IsSideOf g t i reach → Contains g.edges f → Contains g.edges e → reach f ≡ true → reach e ≡ true → under f t ≡ true → under e t ≡ false → below f e ≡ true
+under_below g t i reach f e s F E rf re a b =
+    let p = s.passes f e F E rf re in
+    below_from f e t p (gap_under f e t (run_positive f p.f_long) (run_positive e p.e_long) a b)
 
 -- f at or below t, and e above it
 ordered : (g : Skeleton) (t : Point) (i : ℕ) (reach : Edge → Bool) (f e : Edge) → IsSideOf g t i reach → Contains g.edges f → Contains g.edges e → reach f ≡ true → reach e ≡ true → over f t ≡ false → over e t ≡ true → below f e ≡ true

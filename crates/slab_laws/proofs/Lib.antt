@@ -1,4 +1,5 @@
 pub mod Examples
+pub mod KindLemmas
 pub mod TriangleLemmas
 pub mod TriangleSound
 pub mod TriangleExample

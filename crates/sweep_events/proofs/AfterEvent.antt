@@ -1,5 +1,5 @@
 -- After an event: the status with the pieces through the event made anew, and the queue with the meetings at its two seams.
-use Rattle.std.proofs.Common.{◌≡◌, ℕ, zero, suc, ◌<◌, ◌-◌, length, get_or, ℤ, pos, ◌<ℤ◌, sym, subst, arith, inl, inr, List, [], ◌∷◌, ◌++◌, Ordering, Less}
+use Rattle.std.proofs.Common.{◌≡◌, ℕ, zero, suc, ◌<◌, ◌-◌, length, get_or, ℤ, pos, ◌<ℤ◌, sym, subst, arith, inl, inr, List, [], ◌∷◌, ◌++◌, Less}
 use Rattle.std.specs.Prelude.{◌⊎◌, Option, None, Some}
 use Rattle.std.proofs.lemmas.Int.{ints}
 use Rattle.exact_plane.specs.Line.{side_of, IsOn}
@@ -10,9 +10,7 @@ use Rattle.exact_plane.specs.Span.{Span, IsAtMost, IsSpan}
 use Rattle.exact_plane.proofs.Orders.{at_most_itself, at_most_both, less_at_most}
 use Rattle.exact_plane.proofs.PlaneLaws.{one_line}
 use Rattle.plane_graphs.specs.Ascending.{Member, IsAscending}
-use Rattle.plane_graphs.proofs.Lists.{in_left, in_right, in_either}
-use Rattle.plane_graphs.proofs.Ascending.{All-member}
-use Rattle.plane_graphs.proofs.Sorting.{all_members}
+use Rattle.plane_graphs.proofs.Lists.{ascends_left, ascends_right, in_left, in_right, in_either}
 use Rattle.sweep_events.specs.Events.{AreNeighbours, AreMeeting, IsEvent, IsBeyond, IsQueue}
 use Rattle.sweep_events.specs.Status.{waiting_cmp, run_cmp, IsMet, IsWaiting, IsStatus}
 use Rattle.sweep_events.specs.Exchange.{IsSplit, IsRun}
@@ -21,14 +19,6 @@ use Rattle.sweep_events.proofs.EventSteps.{in_order, rebuilt}
 
 -- ---- parts of a list
 module _ {X : Type 0} where
-  pub ascends_left : (c : X → X → Ordering) (xs ys : List X) → IsAscending c (xs ++ ys) → IsAscending c xs
-  ascends_left c [] ys a = tt
-  ascends_left c (x ∷ xs) ys a = (all_members (λ y. c x y ≡ Less) xs (λ y m. All-member (λ y. c x y ≡ Less) y (xs ++ ys) a.0 (in_left y xs ys m)), ascends_left c xs ys a.1)
-
-  pub ascends_right : (c : X → X → Ordering) (xs ys : List X) → IsAscending c (xs ++ ys) → IsAscending c ys
-  ascends_right c [] ys a = a
-  ascends_right c (x ∷ xs) ys a = ascends_right c xs ys a.1
-
   -- the first and the last element
   abbrev pub IsFirst : List X → X → Type 0
   IsFirst [] u = ⊥

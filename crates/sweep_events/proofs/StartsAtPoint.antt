@@ -14,12 +14,11 @@ use Rattle.exact_plane.specs.PointOrderLaws.{point_cmp_total, same_point}
 use Rattle.exact_plane.specs.Span.{Span}
 use Rattle.plane_graphs.specs.Ascending.{Member, IsAscending}
 use Rattle.plane_graphs.proofs.Ascending.{All-member}
-use Rattle.plane_graphs.proofs.Lists.{in_left, in_right, in_either, in_map, of_map}
+use Rattle.plane_graphs.proofs.Lists.{ascends_left, ascends_right, in_left, in_right, in_either, in_map, of_map}
 use Rattle.plane_graphs.proofs.Sorting.{parted, all_members}
 use Rattle.sweep_events.specs.declared.places.Start.{Start}
 use Rattle.sweep_events.specs.Places.{piece_at, IsPlacesOf}
 use Rattle.sweep_events.specs.Starts.{start_cmp, AreStarts}
-use Rattle.sweep_events.proofs.AfterEvent.{ascends_left, ascends_right}
 use Rattle.sweep_events.proofs.ExchangeParts.{within_take, within_drop}
 use Rattle.integers.proofs.Tests.{is_less, first_less}
 

@@ -24,7 +24,7 @@ use Rattle.sweep_events.specs.Sweep.{Swept, IsEventAt, IsNextEvent, IsOver}
 use Rattle.sweep_events.proofs.EventSteps.{append_ascends, in_order, not_both, less_chain, chain_less}
 use Rattle.sweep_graphs.specs.declared.trace.OpenStretch.{OpenStretch}
 use Rattle.sweep_graphs.specs.declared.trace.Stretch.{Stretch}
-use Rattle.sweep_graphs.specs.Traces.{stretch_to, open_at, Traced, no_point, point_at, IsEventOn, IsStep, IsUpto, IsLastOn, IsStretch, IsOpenBelow, IsMetAfter, IsTraced, IsNoted, IsUntouched, IsTrace}
+use Rattle.sweep_graphs.specs.Traces.{stretch_to, open_at, Traced, no_point, point_at, IsEventOn, IsStep, IsUpto, IsLastOn, IsStretch, IsOpenBelow, IsMetAfter, IsTraced, IsNoted, IsTrace}
 
 -- ---- points in order
 on_or_not : (z : ℤ) → (z ≡ pos 0) ⊎ (z ≡ pos 0 → ⊥)
@@ -48,10 +48,6 @@ module _ (pieces : List Span) (pins : List Point) (spans : AreSpans pieces) (las
     upto_or : (l : Option Point) (r : Point) → IsUpto (piece_at pieces) (length pieces) pins l r ⊎ IsBeyond l r
     upto_or None r = inr tt
     upto_or (Some p) r = elim (in_order r p) [ inl h ↦ inl h | inr h ↦ inr h ]
-
-    not_twice : (l : Option Point) (r : Point) → IsUpto (piece_at pieces) (length pieces) pins l r → IsBeyond l r → ⊥
-    not_twice None r h k = elim h [ ]
-    not_twice (Some p) r h k = not_both p r k h
 
     old_before : (l : Option Point) (r : Point) → IsUpto (piece_at pieces) (length pieces) pins l r → IsBeyond l q → point_cmp r q ≡ Less
     old_before None r h k = elim h [ ]
@@ -273,19 +269,7 @@ module _ (pieces : List Span) (pins : List Point) (spans : AreSpans pieces) (las
       below_are = below_are;
     }
 
--- ---- at the start, and at the end
-pub first_traced : (pieces : List Span) (pins : List Point) (t : Traced) → IsUntouched (length pieces) t → IsTraced (piece_at pieces) (length pieces) pins None t
-first_traced pieces pins t u = record {
-  ascends = subst (IsAscending point_cmp) (sym u.points) tt;
-  points_are = λ r. (λ m. elim (subst (Member r) u.points m) [ ], λ k. elim k.1 [ ]);
-  counted = u.counted;
-  lasts_are = λ i l m. elim m [ ];
-  sound = λ s m. elim (subst (Member s) u.stretches m) [ ];
-  complete = λ i a b s h. elim h [ ];
-  paired = ap length u.below ∙ sym (ap length u.points);
-  below_are = λ k l. let z = ap length u.points in absurd (omega arith);
-}
-
+-- ---- at the end
 pub all_traced : (pieces : List Span) (pins : List Point) (last : Option Point) (t : Traced) → ((r : Point) → IsEvent (piece_at pieces) (length pieces) pins r → IsBeyond last r → ⊥) → IsTraced (piece_at pieces) (length pieces) pins last t → IsTrace pieces pins (record { points = t.points; stretches = t.stretches; below = t.below })
 all_traced pieces pins last t over h = record {
   ascends = h.ascends;

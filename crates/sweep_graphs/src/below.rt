@@ -45,18 +45,18 @@ fn arrange_closed(stretches: &mut Vec<ClosedStretch>)
     stretches.dedup();
 }
 
-fn opens_before(stretch: &ClosedStretch, open: &OpenStretch) -> bool
-    ensures { result ≡ is_lt (open_cmp stretch.now.start open.now) }
+fn opens_before(stretch: &ClosedStretch, under: &OpenStretch) -> bool
+    ensures { result ≡ is_lt (open_cmp stretch.now.start under.now) }
 {
-    stretch.start < *open
+    stretch.start < *under
 }
 
 // The edge of an open stretch, where it is among the stretches.
-fn edge_of_open(stretches: &[ClosedStretch], open: &OpenStretch) -> Option<EdgeEnds>
+fn edge_of_open(stretches: &[ClosedStretch], under: &OpenStretch) -> Option<EdgeEnds>
     requires { IsAscending closed_cmp stretches.now }
-    ensures { IsEdgeOfOpen stretches.now open.now result }
+    ensures { IsEdgeOfOpen stretches.now under.now result }
 {
-    let place = stretches.partition_point(|stretch| opens_before(stretch, open));
+    let place = stretches.partition_point(|stretch| opens_before(stretch, under));
     let stretch = stretches.get(place)?;
     Some(EdgeEnds {
         low: stretch.start.low,
@@ -70,7 +70,7 @@ fn edge_under(stretches: &[ClosedStretch], below: &Option<OpenStretch>) -> Optio
     ensures { IsEdgeUnder stretches.now below.now result }
 {
     match below {
-        Some(open) => edge_of_open(stretches, open),
+        Some(under) => edge_of_open(stretches, under),
         None => None,
     }
 }

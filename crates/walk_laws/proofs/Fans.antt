@@ -1,33 +1,21 @@
 -- On one side of a wall: the edges strictly below a point have the least places, and one at the point has the next.
 use Rattle.std.proofs.Common.{◌≡◌, ℕ, ◌<◌, ◌≤◌, Bool, true, false, arith, refl, sym, ◌∙◌, inl, inr}
-use Rattle.std.specs.Prelude.{pos, ◌<ℤ◌, ◌≤ℤ◌, ◌&&◌}
+use Rattle.std.specs.Prelude.{pos, ◌&&◌}
 use Rattle.std.specs.List.{count_by, Contains}
-use Rattle.std.proofs.lemmas.Int.{ints}
 use Rattle.std.proofs.lemmas.Bool.{and_parts, and_from, false_from_ne_true, cases_Bool}
-use lib.IntN.{*ℤ-zero}
 use Rattle.exact_plane.specs.Point.{Point}
 use Rattle.plane_graphs.specs.Graph.{Edge}
-use Rattle.slab_laws.specs.Skeleton.{Skeleton, run, side, over, under, below, gap, IsPlaneSkeleton}
+use Rattle.slab_laws.specs.Skeleton.{Skeleton, side, over, under, below, IsPlaneSkeleton}
 use Rattle.slab_laws.specs.Slabs.{spans, place, width}
-use Rattle.slab_faces.proofs.Ints.{times_at_most, times_less}
 use Rattle.slab_faces.proofs.Sums.{fewer, fewer_than}
 use Rattle.slab_faces.proofs.Walls.{run_positive}
 use Rattle.slab_faces.proofs.Order.{below_from, below_asym, gap_positive}
-use Rattle.slab_faces.proofs.Cells.{IsSideOf}
+use Rattle.slab_faces.proofs.Cells.{under_below, IsSideOf}
 use Rattle.slab_faces.proofs.Slabs.{IsSlab, place_less}
 use Rattle.slab_faces.proofs.Along.{below_self}
 use Rattle.slab_faces.proofs.Outside.{place_in}
 use Rattle.slab_faces.proofs.EveryFace.{edge_at}
-use Rattle.slab_faces.proofs.OverUnder.{under_out, not_under, zero_not_under, zero_not_over, on_neither}
-
-gap_wide : (f e : Edge) (q : Point) → pos 0 <ℤ run f → pos 0 <ℤ run e → pos 0 <ℤ side f q → side e q ≤ℤ pos 0 → pos 0 <ℤ gap f e q
-unfolding gap
-gap_wide f e q F E x y =
-    let i = times_less (run e) (pos 0) (side f q) E x in
-    let j = times_at_most (run f) (side e q) (pos 0) F y in
-    let z = *ℤ-zero (run f) in
-    let u = *ℤ-zero (run e) in
-    omega (arith, ints)
+use Rattle.slab_faces.proofs.OverUnder.{zero_not_under, zero_not_over, on_neither}
 
 both_false : (b : Bool) → (b && false) ≡ false
 both_false true = refl
@@ -38,17 +26,11 @@ module _ (g : Skeleton) (t : Point) (i : ℕ) (M : Point) (reach : Edge → Bool
   abbrev pub lowers : ℕ
   lowers = count_by (λ e. reach e && under e t) g.edges
 
-  -- what is below t is below what isn't
-  parts : (f e : Edge) → Contains g.edges f → Contains g.edges e → reach f ≡ true → reach e ≡ true → under f t ≡ true → under e t ≡ false → below f e ≡ true
-  parts f e F E rf re u n =
-      let p = s.passes f e F E rf re in
-      below_from f e t p (gap_wide f e t (run_positive f p.f_long) (run_positive e p.e_long) (under_out f t u) (not_under e t n))
-
   -- with an edge, all edges below it are below t
   pub sinks : (f e : Edge) → Contains g.edges f → Contains g.edges e → reach f ≡ true → reach e ≡ true → below f e ≡ true → under e t ≡ true → under f t ≡ true
   sinks f e F E rf re b u = elim (cases_Bool (under f t)) [
     | inl h ↦ h
-    | inr h ↦ absurd (below_asym g f e plane F E b (parts e f E F re rf u h))
+    | inr h ↦ absurd (below_asym g f e plane F E b (under_below g t i reach e f s E F re rf u h))
   ]
 
   -- so their places are the least
@@ -64,7 +46,7 @@ module _ (g : Skeleton) (t : Point) (i : ℕ) (M : Point) (reach : Edge → Bool
   past_lowers e E re n =
       fewer (λ f. reach f && under f t) (λ f. spans g i f && below f e) g.edges (λ f F h.
       let a = and_parts (reach f) (under f t) h in
-      and_from _ _ (s.spanned f F ∙ a.0) (parts f e F E a.0 re a.1 n))
+      and_from _ _ (s.spanned f F ∙ a.0) (under_below g t i reach f e s F E a.0 re a.1 n))
 
   -- an edge of a lesser place than they are many is one of them
   pub is_lower : (e : Edge) → Contains g.edges e → reach e ≡ true → place g i e < lowers → under e t ≡ true
