@@ -141,7 +141,8 @@ class StoredReplies(unittest.TestCase):
         for text in TEXTS:
             unbounded, *bounded = read_show(text).faces
             self.assertEqual(sum(face.area for face in bounded), -sum(hole.area for hole in unbounded.holes))
-        self.assertEqual(sum(face.area for face in read_show(TEXTS[-1]).faces[1:]), 80 * 50)
+        rooms = FOLDER.joinpath("rooms.replies").read_text("ascii")
+        self.assertEqual(sum(face.area for face in read_show(texts_in(rooms)[0]).faces[1:]), 80 * 50)
 
     def test_euler(self):
         for text in TEXTS + [CROSS]:
@@ -181,7 +182,7 @@ class ReadShow(unittest.TestCase):
         self.assertRaises(NotASubdivision, read_show, "")
 
     def test_a_damaged_text_is_refused(self):
-        for text in TEXTS + [CROSS]:
+        for text in TEXTS[:5] + [CROSS]:
             for damaged in [*with_other_bytes(text), *with_other_lines(text), *with_other_numbers(text)]:
                 self.assertRaises(NotASubdivision, read_show, damaged)
 
