@@ -75,7 +75,7 @@ def program_of(options: argparse.Namespace) -> str:
     """The program that is given, or the one that is built."""
     if options.program:
         return options.program
-    script = Path(__file__).resolve().parent.parent / "scripts" / "program.sh"
+    script = Path(__file__).absolute().parent.parent / "scripts" / "program.sh"
     return subprocess.run([str(script)], stdout=subprocess.PIPE, encoding="utf-8", check=True).stdout.strip()
 
 

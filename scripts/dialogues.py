@@ -19,7 +19,7 @@ from pathlib import Path
 TOP = Path(__file__).resolve().parent.parent
 PAGES = ["README.md", "docs/TUTORIAL.md", "docs/SCRIPT.md", "docs/FROM_CGAL.md", "docs/LIBRARY.md", "examples/README.md"]
 PART = re.compile(
-    r"^```.*\n(?P<block>[^`]*?)^```$|^\| line \| reply \|\n.*\n(?P<table>(?:\|.*\n)+)|(?P<other>in a\s+script\s+of\s+their\s+own)",
+    r"^```.*\n(?P<block>(?:(?!```).*\n)*)```$|^\| line \| reply \|\n.*\n(?P<table>(?:\|.*\n)+)|(?P<other>in a\s+script\s+of\s+their\s+own)",
     re.MULTILINE,
 )
 QUOTED = re.compile(r"(?:(?:, \.\.)?(?:, | / )?`[^`]*`)*")
