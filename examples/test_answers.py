@@ -40,10 +40,16 @@ def ended(program, *words, text=""):
     return ran.returncode, ran.stdout, ran.stderr
 
 
+def listed_in(page, heading):
+    """The items of the first list behind some words of a page, each in one line."""
+    items = re.search(r"\n\n((?:- .*\n(?:  .*\n)*)+)", page[page.index(heading) :])[1]
+    return [" ".join(item.split()) for item in re.split(r"^- ", items, flags=re.MULTILINE)[1:]]
+
+
 def refusals_in(page):
-    """The table of refusals in docs/SCRIPT.md: the words of each number."""
-    table = re.search(r"^\| N \| exactly where \|\n.*\n((?:\|.*\n)+)", page, re.MULTILINE)[1]
-    return {int(number): words for number, words in re.findall(r"^\| (\d+) \| (.*) \|$", table, re.MULTILINE)}
+    """The refusals in docs/SCRIPT.md: the words of each number."""
+    parts = (item.split(": ", 1) for item in listed_in(page, "## Refusals"))
+    return {int(number): words for number, words in parts}
 
 
 def by_command(words):
@@ -67,8 +73,8 @@ class ExplainReplies(unittest.TestCase):
 
     def test_commands_are_those_of_the_page(self):
         page = FOLDER.parent.joinpath("docs", "SCRIPT.md").read_text("utf-8")
-        table = re.search(r"^\| line \| reply when accepted \|\n.*\n((?:\|.*\n)+)", page, re.MULTILINE)[1]
-        named = {form.split()[0] for row in table.splitlines() for form in re.findall(r"`([^`]*)`", row.split(" | ")[0])}
+        forms = [form for item in listed_in(page, "# The script") for form in re.findall(r"`([^`]*)`", item.split("`: ")[0] + "`")]
+        named = {form.split()[0] for form in forms}
         self.assertEqual(named, set(explain_replies.FORMS))
 
     def test_causes(self):
