@@ -5,7 +5,7 @@
     join.py --program PATH --locate trapezoid parcels.geojson addresses.csv
 
 Parcels are polygons and addresses points, each in a form that lines_to_script.py reads. For each address it writes its name, a tab, and the
-names of the parcels that it is in, or `on a border`, or nothing. Standard error tells how many there were, and how long the program took.
+names of the parcels that it is in, or `on a border`, or nothing. Standard error tells how many there were, and the program's processor time.
 
 All is one script: the sides of parcels as segments, each once, a `locate` for each address, and `show`, by which each face is named. The
 program is the one that scripts/program.sh names, if none is given. --script writes the script in place of running it.
@@ -16,9 +16,9 @@ Python 3.8 or later, with its standard library alone.
 from __future__ import annotations
 
 import argparse
+import resource
 import subprocess
 import sys
-import time
 from pathlib import Path
 from typing import Dict, Iterator, List, Tuple
 
@@ -56,10 +56,16 @@ def read_features(name: str, is_parcels: bool) -> List[Feature]:
 
 
 def answer(program: str, way: str, script: str) -> Tuple[str, float]:
-    """The replies, and how many seconds the program took."""
-    begun = time.perf_counter()
+    """The replies, and how many seconds of processor time the program took."""
+    begun = processor_time()
     ran = subprocess.run([program, "--locate", way], input=script, stdout=subprocess.PIPE, encoding="ascii", check=True)
-    return ran.stdout, time.perf_counter() - begun
+    return ran.stdout, processor_time() - begun
+
+
+def processor_time() -> float:
+    """What the programs that were run took so far."""
+    usage = resource.getrusage(resource.RUSAGE_CHILDREN)
+    return usage.ru_utime + usage.ru_stime
 
 
 def joined(parcels: List[Feature], addresses: List[Feature], plan: Plan, replies: str) -> Iterator[Tuple[str, str]]:

@@ -36,7 +36,8 @@ ROOMS = FOLDER.joinpath("rooms.replies").read_text("ascii")
 
 def ended(program, *words, text=""):
     """The exit status of a program of this folder, what it wrote, and what it told."""
-    ran = subprocess.run([sys.executable, "-B", str(FOLDER / program), *map(str, words)], input=text, capture_output=True, encoding="utf-8")
+    command = [sys.executable, "-B", str(FOLDER / program), *map(str, words)]
+    ran = subprocess.run(command, input=text, capture_output=True, encoding="utf-8")
     return ran.returncode, ran.stdout, ran.stderr
 
 
@@ -180,7 +181,8 @@ class Overlays(unittest.TestCase):
             rank, red, blue = map(int, face.split()[1:])
             for other in [f"f {rank} {red}", f"f {rank} {red} {blue} 0", f"f {rank} {blue} {red + 3}", f"f {rank} -1 {blue}", f"f {rank}"]:
                 self.assertRaises(NotASubdivision, read_show, text.replace(face, other + "\n"))
-        for old, new in [("e 1 2 : b4", "e 1 2 : 4"), ("e 1 2 : b4", "e 1 2 : r4"), (": b4", ": b0"), (": b4", ":"), ("overlay ", "arrangement ")]:
+        edges = [("e 1 2 : b4", "e 1 2 : 4"), ("e 1 2 : b4", "e 1 2 : r4"), (": b4", ": b0"), (": b4", ":")]
+        for old, new in edges + [("overlay ", "arrangement ")]:
             self.assertRaises(NotASubdivision, read_show, text.replace(old, new, 1))
         self.assertRaises(NotASubdivision, read_show, MAP_TEXT.replace("arrangement", "overlay"))
 
@@ -219,7 +221,8 @@ class Overlays(unittest.TestCase):
         # A curve that is told twice bounds nothing; one that isn't there is none.
         self.assertEqual(names_of_faces(read, table_in("a\t1 2 3 4 12 12\nb\t99\n")), [[], ["a"], ["a"], []])
         overlay = read_show(texts_in(FLOOD)[0])
-        self.assertEqual([bool(names) for names in names_of_faces(overlay, [("zone", [1, 2, 3, 4])], True)], [b == 1 for _, b in labels(overlay)])
+        flooded_faces = names_of_faces(overlay, [("zone", [1, 2, 3, 4])], True)
+        self.assertEqual([bool(names) for names in flooded_faces], [face.labels[1] == 1 for face in overlay.faces])
         self.assertRaises(NotASubdivision, table_in, "west 1 2 3 4\n")
 
     def test_polygons(self):
@@ -233,19 +236,17 @@ class Overlays(unittest.TestCase):
         # What is written as GeoJSON is read again as the same sides.
         lines = [line for feature in features_of(json.dumps(data), "face") for line in feature.lines]
         self.assertEqual([len(line) for line in lines], [6, 5, 5, 5])
-        self.assertEqual({"red", "blue"} - set(json.loads(geojson(read_show(texts_in(FLOOD)[0]), [[]] * 9, place))["features"][0]["properties"]), set())
+        overlay = json.loads(geojson(read_show(texts_in(FLOOD)[0]), [[]] * 9, place))
+        self.assertTrue({"red", "blue"} <= set(overlay["features"][0]["properties"]))
 
     def test_words(self):
-        for words, text in [(["--replies", "--text", "3"], FLOOD), (["--replies", "--text", "0"], FLOOD), (["--replies"], "ok\n"), ([], FLOOD)]:
+        choices = [(["--replies", "--text", "3"], FLOOD), (["--replies", "--text", "0"], FLOOD)]
+        for words, text in choices + [(["--replies"], "ok\n"), ([], FLOOD)]:
             status, told, why = ended("read_show.py", *words, text=text)
             self.assertEqual((status, told), (1, ""))
             self.assertTrue(why.startswith("read_show.py: "))
         self.assertEqual(ended("read_show.py", "--scale", "0", text=MAP_TEXT)[0], 2)
         self.assertEqual(ended("read_show.py", "--names", FOLDER / "nothing", text=MAP_TEXT)[0], 1)
-
-
-def labels(overlay):
-    return [face.labels for face in overlay.faces]
 
 
 class Flooded(unittest.TestCase):
@@ -317,8 +318,22 @@ class Join(unittest.TestCase):
         self.assertEqual(len(features_of(ended("made_town.py", "addresses")[1], "name")), 1000)
         for words in [["--rows", 0], ["--rows", 31], ["--count", 1]]:
             self.assertEqual(ended("made_town.py", "parcels", *words)[:2], (1, ""))
-        self.assertRaises(CantConvert, join.script_for, features_of(ended("made_town.py", "parcels", "--rows", 30)[1], "name") * 2 + [
-            Feature("far", [[(Fraction(2 * x), Fraction(3**x % 1009)), (Fraction(x), Fraction(-1))] for x in range(200)])])
+        # The largest town has 1,860 sides, and 200 more are too many.
+        large = features_of(ended("made_town.py", "parcels", "--rows", 30)[1], "name")
+        sides = [[(Fraction(2 * x), Fraction(x * x)), (Fraction(x), Fraction(-1))] for x in range(200)]
+        join.script_for(large)
+        self.assertRaises(CantConvert, join.script_for, large + [Feature("far", sides)])
+
+
+class Scripts(unittest.TestCase):
+    def test_what_isnt_there_is_refused(self):
+        scripts = FOLDER.parent / "scripts"
+        with tempfile.TemporaryDirectory() as folder:
+            for command in [["program.sh", folder + "/planar"], ["copy_library.sh", folder], ["dialogues.py", "/bin/false"]]:
+                ran = subprocess.run([str(scripts / command[0]), *command[1:]], capture_output=True, encoding="utf-8")
+                self.assertEqual(ran.returncode, 1)
+                self.assertTrue(ran.stderr.startswith(Path(command[0]).stem if command[0].endswith("py") else command[0]))
+            self.assertEqual(list(Path(folder).iterdir()), [])
 
 
 if __name__ == "__main__":

@@ -68,13 +68,15 @@ def sessions(page: str) -> list[str]:
 def session_differs(program: str, session: str) -> list[str]:
     """What a session wrote, if it isn't what stands there."""
     commands = "".join(line[2:] + "\n" for line in session.splitlines() if line[:2] == "$ ")
-    due = "".join(r"(?:.*\n)*?" if line.strip() == ".." else re.escape(line) + "\n" for line in session.splitlines() if line[:2] != "$ ")
+    told = [line for line in session.splitlines() if line[:2] != "$ "]
+    due = "".join(r"(?:.*\n)*?" if line.strip() == ".." else re.escape(line) + "\n" for line in told)
     with tempfile.TemporaryDirectory() as folder:
         for name in ("examples", "scripts", "docs"):
             Path(folder, name).symlink_to(TOP / name)
         Path(folder, "crates/planar/out").mkdir(parents=True)
         Path(folder, "crates/planar/out/planar").symlink_to(Path(program).resolve())
-        ran = subprocess.run(["bash", "-c", commands], cwd=folder, stdout=subprocess.PIPE, stderr=subprocess.STDOUT, encoding="utf-8", timeout=120)
+        merged = {"stdout": subprocess.PIPE, "stderr": subprocess.STDOUT, "encoding": "utf-8", "timeout": 120}
+        ran = subprocess.run(["bash", "-c", commands], cwd=folder, **merged)
     return [] if re.fullmatch(due, ran.stdout) else [ran.stdout]
 
 
