@@ -1,22 +1,28 @@
 #!/usr/bin/env python3
-"""Makes a script of `segment` lines from lines and polygons in WKT or GeoJSON.
+"""Makes a script of lines, polygons and points in WKT, GeoJSON or CSV.
 
     lines_to_script.py map.geojson > map.script
     planar < map.script > map.replies
     lines_to_script.py --replies map.replies map.geojson
 
-The third command writes a table: of each feature its name, a tab, and the numbers of its curves. The replies must begin with those to
-the script, others may follow; and the options must be those with which the script was made.
+The third command writes a table: of each feature its name, a tab, and the numbers of its curves, or where its points lie. The replies must
+begin with those to the script, others may follow; and the options must be those with which the script was made.
 
-Input: WKT geometries one after the other, or one GeoJSON object: LineString, Polygon, MultiLineString, MultiPolygon and collections of
-these, of X and Y alone. A feature's name is its property `name` (--name takes another one), else its place: `feature 1` and so on. In
-the script each feature is a comment with its name, and a segment for each side.
+Input: WKT geometries one after the other, one GeoJSON object, or CSV. In the first two Point, LineString, Polygon, their Multi kinds and
+collections, of X and Y alone; a feature's name is its property `name` (--name takes another one), else its place: `feature 1` and so on.
+A row of CSV is a side, `x,y,x,y`, or a point, `x,y`, and a name may follow, else the name is `line 1` and so on; a first row without a
+number in front is a heading.
 
-Coordinates of a script are whole and within 2^20 - 1. So script = (map - offset) * scale, rounded. Unless options say otherwise, the
-offset is 0 where that fits, else the centre; the scale is the least that makes all coordinates whole, or, where these don't fit, the
-largest power of two that does. Corners that are equal stay equal; where there was rounding, a corner on another's side may lie beside it.
+In the script each feature is a comment with its name, a `segment` for each side, and a `pin` for each point, or with --points=locate a
+`locate`. With --once a side that several features have is one segment, and the table tells its number for each of them.
+
+Coordinates of a script's segments are whole and within 2^20 - 1. So script = (map - offset) * scale, rounded. Unless options say otherwise,
+the offset is 0 where that fits, else the centre; the scale is the least that makes all ends of sides whole, or, where these don't fit, the
+largest power of two that does. Corners that are equal stay equal, and so does a point that is a corner; where there was rounding, a corner
+on another's side may lie beside it. Other points aren't rounded, since a script says them as fractions.
+
 Standard error tells offset and scale, how much was rounded, and which sides became points and were left out; or what can't be done, and
-then the exit status is 1.
+where it stands, and then the exit status is 1.
 
 Python 3.8 or later, with its standard library alone.
 """
@@ -24,21 +30,31 @@ Python 3.8 or later, with its standard library alone.
 from __future__ import annotations
 
 import argparse
+import csv
 import json
 import re
 import sys
 from dataclasses import dataclass
 from fractions import Fraction
 from math import gcd
+from typing import Any, Callable, Iterator, List, Optional, Tuple
 
 LARGEST_COORDINATE = 2**20 - 1
+# Of the fractions in which points are written, so that the product of two is below 2^43.
+LARGEST_DENOMINATOR = 2**20
 MOST_CURVES = 2000
+MOST_PINS = 10000
 LONGEST_LINE = 200
+
+Point = Tuple[Fraction, Fraction]
+# Positions one after the other; a single one is a point.
+Line = List[Point]
+Side = Tuple[Point, Point]
 
 NUMBER = r"[-+]?(?:[0-9]+\.?[0-9]*|\.[0-9]+)(?:[eE][-+]?[0-9]+)?"
 WKT_TOKEN = re.compile(rf"{NUMBER}|[A-Za-z]+|\S")
 # How deep positions are nested: a line is a list of them, a polygon a list of rings.
-DEPTHS = {"LINESTRING": 1, "POLYGON": 2, "MULTILINESTRING": 2, "MULTIPOLYGON": 3}
+DEPTHS = {"POINT": 0, "MULTIPOINT": 1, "LINESTRING": 1, "POLYGON": 2, "MULTILINESTRING": 2, "MULTIPOLYGON": 3}
 COLLECTION = "GEOMETRYCOLLECTION"
 
 
@@ -51,12 +67,19 @@ class Feature:
     """A name, and lines of it: lists of points, whose coordinates are exact fractions."""
 
     name: str
-    lines: list
+    lines: List[Line]
 
-    def sides(self):
+    def sides(self) -> List[Side]:
         return [side for line in self.lines for side in zip(line, line[1:])]
 
-    def segments(self, frame):
+    def points(self) -> List[Point]:
+        return [line[0] for line in self.lines if len(line) == 1]
+
+    def corners(self) -> List[Point]:
+        """The ends of its sides."""
+        return [point for line in self.lines if len(line) > 1 for point in line]
+
+    def segments(self, frame: Frame) -> List[Tuple[Tuple[int, int], Tuple[int, int]]]:
         """The sides in script coordinates, without those that are points."""
         sides = [(frame.whole(p), frame.whole(q)) for p, q in self.sides()]
         return [side for side in sides if side[0] != side[1]]
@@ -64,25 +87,54 @@ class Feature:
 
 @dataclass(frozen=True)
 class Frame:
-    """What makes script coordinates of a map's."""
+    """What makes script coordinates of a map's. Corners are rounded, and points that are none needn't be."""
 
-    offset: tuple
+    offset: Point
     scale: Fraction
+    corners: frozenset
 
-    def exact(self, point):
-        return [(c - o) * self.scale for c, o in zip(point, self.offset)]
+    def exact(self, point: Point) -> Point:
+        x, y = ((c - o) * self.scale for c, o in zip(point, self.offset))
+        return x, y
 
-    def whole(self, point):
-        return tuple(map(round, self.exact(point)))
+    def whole(self, point: Point) -> Tuple[int, int]:
+        x, y = map(round, self.exact(point))
+        return x, y
 
-    def holds(self, points):
-        return all(abs(c) <= LARGEST_COORDINATE for point in points for c in self.whole(point))
+    def fraction(self, point: Point) -> Point:
+        """A point of the script: whole if it is a corner, else as it is, with denominators that fit."""
+        if point in self.corners:
+            x, y = self.whole(point)
+            return Fraction(x), Fraction(y)
+        x, y = self.exact(point)
+        return x.limit_denominator(LARGEST_DENOMINATOR), y.limit_denominator(LARGEST_DENOMINATOR)
 
-    def __str__(self):
+    def triple(self, point: Point) -> str:
+        """The numbers X Y W of a point of the script."""
+        x, y = self.fraction(point)
+        weight = x.denominator * y.denominator // gcd(x.denominator, y.denominator)
+        return f"{x * weight} {y * weight} {weight}"
+
+    def moved(self, point: Point) -> Fraction:
+        """How far a point is from where it was on the map, in X or Y."""
+        return max(abs(e - f) for e, f in zip(self.exact(point), self.fraction(point))) / self.scale
+
+    def holds(self, points: List[Point]) -> bool:
+        return all(abs(c) <= LARGEST_COORDINATE for point in points for c in self.exact(point))
+
+    def __str__(self) -> str:
         return f"offset {self.offset[0]},{self.offset[1]} scale {self.scale}"
 
 
-def number(text):
+@dataclass(frozen=True)
+class Plan:
+    """The lines of a script that have replies, and for each feature the places of its own among them."""
+
+    lines: List[str]
+    places: List[List[int]]
+
+
+def number(text: str) -> Fraction:
     """A number as an exact fraction."""
     mantissa, _, exponent = text.lower().partition("e")
     if len(mantissa) > 40 or len(exponent) > 3 or abs(int(exponent or 0)) > 40:
@@ -93,54 +145,68 @@ def number(text):
 # Reading
 
 
-def features_of(text, key):
-    """The features of GeoJSON or WKT."""
+def features_of(text: str, key: str) -> List[Feature]:
+    """The features of GeoJSON, CSV or WKT."""
     if text.lstrip().startswith("{"):
-        try:
-            return features_of_json(text, key)
-        except (LookupError, TypeError, AttributeError):
-            raise CantConvert("it isn't GeoJSON: a member is missing or of another kind") from None
-    wkt, features = Wkt(text), []
+        return features_of_json(text, key)
+    # A comma before any parenthesis: the first row of CSV.
+    if re.match(r"\s*[^(\n]*,", text):
+        return list(features_of_csv(text))
+    wkt: Wkt = Wkt(text)
+    features: List[Feature] = []
     while wkt.tokens:
         name = f"feature {len(features) + 1}"
         features.append(Feature(name, wkt.lines(name)))
     return features
 
 
-def lines_of(kind, positions, name):
+def lines_of(kind: str, positions: Any, place: str) -> List[Line]:
     """The lines of a geometry, in the positions of which an empty list is an empty part."""
     if positions and isinstance(positions[0], list):
-        return [line for part in positions for line in lines_of(kind, part, name)]
+        return [line for part in positions for line in lines_of(kind, part, place)]
     is_ring = kind.endswith("POLYGON")
-    if any(len(position) != 2 for position in positions):
-        raise CantConvert(f"{name}: a position has other coordinates than X and Y")
+    for count, position in enumerate(positions, 1):
+        if len(position) != 2:
+            raise CantConvert(f"{place}: position {count} has other coordinates than X and Y")
+    if kind.endswith("POINT"):
+        return [[position] for position in positions]
     if positions and len(positions) < (4 if is_ring else 2):
-        raise CantConvert(f"{name}: a line has fewer than two positions, or a ring fewer than four")
+        raise CantConvert(f"{place}: a line has fewer than two positions, or a ring fewer than four")
     if is_ring and positions and positions[0] != positions[-1]:
-        raise CantConvert(f"{name}: a ring doesn't end where it begins")
-    return [positions]
+        raise CantConvert(f"{place}: a ring doesn't end where it begins")
+    return [positions] if positions else []
 
 
-def depth_of(kind, name):
+def depth_of(kind: str, place: str) -> int:
     if kind not in DEPTHS:
-        raise CantConvert(f"{name}: `{kind or 'end'}` can't be read, only lines and polygons of X and Y")
+        raise CantConvert(f"{place}: `{kind or 'end'}` can't be read, only points, lines and polygons of X and Y")
     return DEPTHS[kind]
 
 
 class Wkt:
-    """WKT text. Its tokens are taken from the end of a list."""
+    """WKT text. Its tokens, each with its place in the text, are taken from the end of a list."""
 
-    def __init__(self, text):
-        self.tokens = WKT_TOKEN.findall(text.upper())[::-1]
+    def __init__(self, text: str):
+        self.text = text.upper()
+        self.tokens = [(found[0], found.start()) for found in WKT_TOKEN.finditer(self.text)][::-1]
 
-    def has(self, token):
+    def next(self) -> str:
+        return self.tokens[-1][0] if self.tokens else "end"
+
+    def place(self) -> str:
+        """Where the next token stands."""
+        start = self.tokens[-1][1] if self.tokens else len(self.text)
+        before = self.text[:start]
+        return f"line {before.count(chr(10)) + 1}, column {start - before.rfind(chr(10))}"
+
+    def has(self, token: str) -> bool:
         """Takes this token, if it is the next one."""
-        found = self.tokens[-1:] == [token]
+        found = self.tokens[-1:] != [] and self.next() == token
         if found:
             self.tokens.pop()
         return found
 
-    def listed(self, read):
+    def listed(self, read: Callable[[], Any]) -> List[Any]:
         """A list in parentheses; none for `EMPTY`."""
         if self.has("EMPTY"):
             return []
@@ -149,91 +215,136 @@ class Wkt:
             items.append(read())
             due = ","
         if not items or not self.has(")"):
-            raise CantConvert(f"WKT: `{(self.tokens or ['end'])[-1]}` can't be read after {len(items)} items of a list")
+            raise CantConvert(f"{self.place()}: `{self.next()}` can't be read after {len(items)} items of a list")
         return items
 
-    def positions(self, depth):
+    def positions(self, depth: int) -> Any:
         return self.listed(lambda: self.positions(depth - 1)) if depth else self.position()
 
-    def position(self):
-        coordinates = []
-        while self.tokens and re.fullmatch(NUMBER, self.tokens[-1]):
-            coordinates.append(number(self.tokens.pop()))
+    def position(self) -> Tuple[Fraction, ...]:
+        place, coordinates = self.place(), []
+        while self.tokens and re.fullmatch(NUMBER, self.next()):
+            try:
+                coordinates.append(number(self.tokens.pop()[0]))
+            except CantConvert as error:
+                raise CantConvert(f"{place}: {error}") from None
         return tuple(coordinates)
 
-    def lines(self, name):
+    def point(self) -> Tuple[Fraction, ...]:
+        """A position of a MULTIPOINT, in parentheses of its own or in none."""
+        if not self.has("("):
+            return self.position()
+        position = self.position()
+        if not self.has(")"):
+            raise CantConvert(f"{self.place()}: `{self.next()}` can't be read after a point")
+        return position
+
+    def lines(self, name: str) -> List[Line]:
         """The lines of the next geometry."""
-        kind = self.tokens.pop() if self.tokens else ""
+        place = f"{name} ({self.place()})"
+        kind = self.tokens.pop()[0] if self.tokens else ""
         if kind == COLLECTION:
             return [line for lines in self.listed(lambda: self.lines(name)) for line in lines]
-        return lines_of(kind, self.positions(depth_of(kind, name)), name)
+        depth = depth_of(kind, place)
+        positions = self.listed(self.point) if kind.endswith("POINT") else self.positions(depth)
+        if kind == "POINT" and len(positions) > 1:
+            raise CantConvert(f"{place}: a point has several positions")
+        return lines_of(kind, positions, place)
 
 
-def features_of_json(text, key):
+def features_of_json(text: str, key: str) -> List[Feature]:
     data = json.loads(text, parse_int=number, parse_float=number, parse_constant=number)
-    items = data["features"] if data["type"] == "FeatureCollection" else [data]
-    return [feature_of_json(item, key, f"feature {place}") for place, item in enumerate(items, 1)]
+    place = "the whole"
+    try:
+        items = data["features"] if data["type"] == "FeatureCollection" else [data]
+        features = []
+        for count, item in enumerate(items, 1):
+            place = f"feature {count}"
+            features.append(feature_of_json(item, key, place))
+        return features
+    except (LookupError, TypeError, AttributeError):
+        raise CantConvert(f"{place}: it isn't GeoJSON, a member is missing or of another kind") from None
 
 
-def feature_of_json(item, key, name):
+def feature_of_json(item: Any, key: str, place: str) -> Feature:
     if item["type"] != "Feature":
-        return Feature(name, json_lines(item, name))
+        return Feature(place, json_lines(item, place))
     given = (item.get("properties") or {}).get(key)
-    name = str(given) if isinstance(given, (str, Fraction)) else name
-    return Feature(name, json_lines(item["geometry"], name) if item["geometry"] else [])
+    name = str(given) if isinstance(given, (str, Fraction)) else place
+    return Feature(name, json_lines(item["geometry"], place) if item["geometry"] else [])
 
 
-def json_lines(geometry, name):
+def json_lines(geometry: Any, place: str) -> List[Line]:
     kind = geometry["type"].upper()
     if kind == COLLECTION:
-        return [line for part in geometry["geometries"] for line in json_lines(part, name)]
-    return lines_of(kind, json_positions(geometry["coordinates"], depth_of(kind, name)), name)
+        return [line for part in geometry["geometries"] for line in json_lines(part, place)]
+    positions = json_positions(geometry["coordinates"], depth_of(kind, place), place)
+    return lines_of(kind, [positions] if kind == "POINT" and positions else positions, place)
 
 
-def json_positions(lists, depth):
+def json_positions(lists: Any, depth: int, place: str) -> Any:
     if depth:
-        return [json_positions(part, depth - 1) for part in lists]
+        return [json_positions(part, depth - 1, place) for part in lists]
     if not all(isinstance(coordinate, Fraction) for coordinate in lists):
-        raise CantConvert("a coordinate isn't a number")
+        raise CantConvert(f"{place}: a coordinate isn't a number")
     return tuple(lists)
+
+
+def features_of_csv(text: str) -> Iterator[Feature]:
+    """A feature for each row: a side or a point, and perhaps its name."""
+    rows = csv.reader(text.splitlines())
+    for count, row in enumerate((row for row in rows if row), 0):
+        place = f"line {rows.line_num}"
+        cells = [cell.strip() for cell in row]
+        if count == 0 and not re.fullmatch(NUMBER, cells[0]):
+            continue
+        if not 2 <= len(cells) <= 5:
+            raise CantConvert(f"{place}: a row has {len(cells)} cells, where x,y,x,y or x,y is due, and perhaps a name")
+        side, name = cells[: len(cells) // 2 * 2], cells[len(cells) // 2 * 2 :]
+        wrong = [cell for cell in side if not re.fullmatch(NUMBER, cell)]
+        if wrong:
+            raise CantConvert(f"{place}: `{wrong[0]}` isn't a number")
+        numbers = list(map(number, side))
+        yield Feature(name[0] if name and name[0] else place, [list(zip(numbers[::2], numbers[1::2]))])
 
 
 # Fitting
 
 
-def frame_for(points, offset, scale):
-    """The frame that the options ask for, or else the one that suits the points."""
-    frame = frame_at(points, offset, scale or common_denominator(points, offset))
+def frame_for(corners: List[Point], points: List[Point], offset: Optional[Point], scale: Optional[Fraction]) -> Frame:
+    """The frame that the options ask for, or else the one that suits the corners, and in which the points lie too."""
+    frame = frame_at(corners, points, offset, scale or common_denominator(corners, offset))
     if not frame and not scale:
-        frame = frame_at(points, offset, largest_power(points, offset))
+        frame = frame_at(corners, points, offset, largest_power(corners + points, offset))
     if not frame:
         raise CantConvert("by this offset and scale some coordinates aren't within 2^20 - 1")
     return frame
 
 
-def frame_at(points, offset, scale):
+def frame_at(corners: List[Point], points: List[Point], offset: Optional[Point], scale: Fraction) -> Optional[Frame]:
     """A frame of this scale that holds all points, if there is one."""
-    centre = tuple(round(c * scale) / scale for c in centre_of(points))
-    frames = (Frame(o, scale) for o in ([offset] if offset else [(Fraction(0), Fraction(0)), centre]))
-    return next((frame for frame in frames if frame.holds(points)), None)
+    x, y = (Fraction(round(c * scale)) / scale for c in centre_of(corners + points))
+    offsets = [offset] if offset else [(Fraction(0), Fraction(0)), (x, y)]
+    frames = (Frame(o, scale, frozenset(corners)) for o in offsets)
+    return next((frame for frame in frames if frame.holds(corners + points)), None)
 
 
-def centre_of(points):
+def centre_of(points: List[Point]) -> List[Fraction]:
     return [(min(values) + max(values)) / 2 for values in zip(*points)] or [Fraction(0)] * 2
 
 
-def distances(points, origin):
+def distances(points: List[Point], origin: Any) -> List[Fraction]:
     return [abs(c - o) for point in points for c, o in zip(point, origin)]
 
 
-def common_denominator(points, offset):
+def common_denominator(points: List[Point], offset: Optional[Point]) -> Fraction:
     common = 1
     for distance in distances(points, offset or (0, 0)):
         common *= distance.denominator // gcd(common, distance.denominator)
     return Fraction(common)
 
 
-def largest_power(points, offset):
+def largest_power(points: List[Point], offset: Optional[Point]) -> Fraction:
     """The largest power of two that keeps all points within range, with a unit to spare for rounding."""
     reach = max(distances(points, offset or centre_of(points)))
     scale = Fraction(1)
@@ -247,64 +358,104 @@ def largest_power(points, offset):
 # Writing
 
 
-def comment(text):
+def comment(text: str) -> str:
     """A comment of printable ASCII that fits a line."""
     return ("# " + text.encode("unicode_escape").decode("ascii"))[:LONGEST_LINE]
 
 
-def script_of(features, frame):
+def commands_of(feature: Feature, frame: Frame, ask: str) -> Iterator[Tuple[str, Any]]:
+    """The lines of a feature, each with what is the same for lines that need stand only once."""
+    for p, q in feature.segments(frame):
+        yield "segment {} {} {} {}".format(*p, *q), ("side", *sorted([p, q]))
+    for point in feature.points():
+        yield f"{ask} {frame.triple(point)}", ("pin", frame.fraction(point))
+
+
+def plan_of(features: List[Feature], frame: Frame, options: argparse.Namespace) -> Plan:
+    """The lines of the script: sides each once if that is asked for, pins always, questions never."""
+    plan, known = Plan([], []), {}
+    once = ["side"] * options.once + ["pin"] * (options.points == "pin")
+    for feature in features:
+        own = []
+        for line, key in commands_of(feature, frame, options.points):
+            place = known.get(key, len(plan.lines)) if key[0] in once else len(plan.lines)
+            known[key] = place
+            own.append(place)
+            plan.lines.extend([line] * (place == len(plan.lines)))
+        plan.places.append(own)
+    return plan
+
+
+def demand_room(plan: Plan) -> None:
+    """A script has limits."""
+    for command, most, what in (("segment", MOST_CURVES, "sides"), ("pin", MOST_PINS, "pins")):
+        count = sum(line.startswith(command) for line in plan.lines)
+        if count > most:
+            raise CantConvert(f"there are {count} {what}, and a script has at most {most} at a time (--once: shared sides once)")
+
+
+def script_of(features: List[Feature], frame: Frame, plan: Plan) -> Iterator[str]:
     yield comment("script = (map - offset) * scale, rounded")
     yield comment(str(frame))
-    for feature in features:
+    written = 0
+    for feature, places in zip(features, plan.places):
         yield comment(feature.name)
-        for p, q in feature.segments(frame):
-            yield "segment {} {} {} {}".format(*p, *q)
+        end = max([written] + [place + 1 for place in places])
+        yield from plan.lines[written:end]
+        written = end
 
 
-def table_of(features, frame, replies):
+def table_of(features: List[Feature], plan: Plan, replies: str) -> Iterator[str]:
     """The lines of the table, by the replies to the script."""
-    replies = iter(replies.split("\n"))
-    for feature in features:
-        curves = [curve_in(next(replies, "")) for _ in feature.segments(frame)]
+    answers = replies.split("\n")
+    cells = [cell_of(line, answers[place] if place < len(answers) else "") for place, line in enumerate(plan.lines)]
+    for feature, places in zip(features, plan.places):
         name = feature.name if feature.name.isprintable() else comment(feature.name)[2:]
-        yield f"{name}\t{' '.join(curves)}"
+        yield f"{name}\t{' '.join(cells[place] for place in places if cells[place])}"
 
 
-def curve_in(reply):
-    found = re.fullmatch(r"ok ([1-9][0-9]*)(?: (?:joined|left|lost) [1-9][0-9]*)*", reply)
+def cell_of(line: str, reply: str) -> str:
+    """What the table tells of a line: the number of a curve, where a point lies, nothing of a pin."""
+    command = line.split()[0]
+    due = {"segment": r"ok ([1-9][0-9]*)(?: .*)?", "pin": r"ok()(?: .*)?", "locate": r"((?:vertex|edge|face) .*)"}[command]
+    found = re.fullmatch(due, reply)
     if not found:
-        raise CantConvert(f"the replies aren't those to this script: {reply!r} stands where `ok` and a number is due")
+        raise CantConvert(f"the replies aren't those to this script: {reply!r} is the reply to `{line}`")
     return found[1]
 
 
-def notes_on(features, points, frame):
+def notes_on(features: List[Feature], frame: Frame, plan: Plan) -> Iterator[str]:
     """What is told of the frame, of rounding, and of what is left out."""
     yield str(frame)
-    moves = [max(abs(e - w) for e, w in zip(frame.exact(p), frame.whole(p))) / frame.scale for p in points]
-    if any(moves):
-        count = sum(move > 0 for move in moves)
-        yield f"{count} of {len(points)} corners were rounded, by at most {float(max(moves)):.3g} in X or Y"
+    points = sorted({point for feature in features for point in feature.points()} - frame.corners)
+    for what, some in (("corners", sorted(frame.corners)), ("points", points)):
+        moves = [move for move in map(frame.moved, some) if move]
+        if moves:
+            yield f"{len(moves)} of {len(some)} {what} were rounded, by at most {float(max(moves)):.3g} in X or Y"
     for feature in features:
         lost = len(feature.sides()) - len(feature.segments(frame))
         if lost:
             yield f"{feature.name}: sides that became points and were left out: {lost}"
+    shared = sum(map(len, plan.places)) - len(plan.lines)
+    if shared:
+        yield f"sides or pins that are there already and were left out: {shared}"
 
 
-def convert(text, options):
+def convert(text: str, options: argparse.Namespace) -> Tuple[List[str], List[str]]:
     """The lines to be written, and the notes."""
     features = features_of(text, options.name)
-    points = sorted({point for feature in features for line in feature.lines for point in line})
-    frame = frame_for(points, options.offset, options.scale)
-    count = sum(len(feature.segments(frame)) for feature in features)
-    if count > MOST_CURVES:
-        raise CantConvert(f"there are {count} sides, and a script has at most {MOST_CURVES} curves at a time")
+    corners = sorted({point for feature in features for point in feature.corners()})
+    points = sorted({point for feature in features for point in feature.points()})
+    frame = frame_for(corners, points, options.offset, options.scale)
+    plan = plan_of(features, frame, options)
+    demand_room(plan)
     if not options.replies:
-        return list(script_of(features, frame)), list(notes_on(features, points, frame))
+        return list(script_of(features, frame, plan)), list(notes_on(features, frame, plan))
     with open(options.replies, encoding="ascii") as file:
-        return list(table_of(features, frame, file.read())), []
+        return list(table_of(features, plan, file.read())), []
 
 
-def fraction(text):
+def fraction(text: str) -> Fraction:
     """A number of the command line: 3, -0.25 or 1/3."""
     above, _, below = text.partition("/")
     divisor = number(below or "1")
@@ -313,29 +464,31 @@ def fraction(text):
     return number(above) / divisor
 
 
-def offset_pair(text):
+def offset_pair(text: str) -> Point:
     x, y = map(fraction, text.split(","))
     return x, y
 
 
-def positive(text):
+def positive(text: str) -> Fraction:
     value = fraction(text)
     if value <= 0:
         raise CantConvert(f"{text} isn't above 0")
     return value
 
 
-def options_of(words):
-    parser = argparse.ArgumentParser(description="Makes a script of WKT or GeoJSON, or a table of names and curve numbers.")
-    parser.add_argument("file", nargs="?", metavar="FILE", help="WKT or GeoJSON; standard input without it")
+def options_of(words: List[str]) -> argparse.Namespace:
+    parser = argparse.ArgumentParser(description="Makes a script of WKT, GeoJSON or CSV, or a table of names and curve numbers.")
+    parser.add_argument("file", nargs="?", metavar="FILE", help="WKT, GeoJSON or CSV; standard input without it")
     parser.add_argument("--offset", type=offset_pair, metavar="X,Y", help="what is subtracted (--offset=X,Y if X is negative)")
     parser.add_argument("--scale", type=positive, metavar="S", help="by what the rest is multiplied")
     parser.add_argument("--name", default="name", metavar="KEY", help="the property of GeoJSON that is a feature's name")
+    parser.add_argument("--points", choices=["pin", "locate"], default="pin", help="what the line of a point is (pin)")
+    parser.add_argument("--once", action="store_true", help="a side that several features have is one segment")
     parser.add_argument("--replies", metavar="REPLIES", help="replies to the script: write the table in place of the script")
     return parser.parse_args(words)
 
 
-def main():
+def main() -> int:
     options = options_of(sys.argv[1:])
     try:
         with open(options.file or 0, encoding="utf-8-sig") as file:

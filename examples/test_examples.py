@@ -115,7 +115,7 @@ def with_other_numbers(text):
 
 class StoredReplies(unittest.TestCase):
     def test_each_line_but_comments_has_a_reply(self):
-        self.assertEqual(len(SCRIPTS), 5)
+        self.assertEqual(len(SCRIPTS), 6)
         for script in SCRIPTS:
             lines = [line for line in script.read_text("ascii").splitlines() if line.strip() and line.split()[0][0] != "#"]
             replies = replies_in(script.with_suffix(".replies").read_text("ascii"))
@@ -141,7 +141,8 @@ class StoredReplies(unittest.TestCase):
         for text in TEXTS:
             unbounded, *bounded = read_show(text).faces
             self.assertEqual(sum(face.area for face in bounded), -sum(hole.area for hole in unbounded.holes))
-        self.assertEqual(sum(face.area for face in read_show(TEXTS[-1]).faces[1:]), 80 * 50)
+        rooms = FOLDER.joinpath("rooms.replies").read_text("ascii")
+        self.assertEqual(sum(face.area for face in read_show(texts_in(rooms)[0]).faces[1:]), 80 * 50)
 
     def test_euler(self):
         for text in TEXTS + [CROSS]:
@@ -181,7 +182,7 @@ class ReadShow(unittest.TestCase):
         self.assertRaises(NotASubdivision, read_show, "")
 
     def test_a_damaged_text_is_refused(self):
-        for text in TEXTS + [CROSS]:
+        for text in TEXTS[:5] + [CROSS]:
             for damaged in [*with_other_bytes(text), *with_other_lines(text), *with_other_numbers(text)]:
                 self.assertRaises(NotASubdivision, read_show, damaged)
 
@@ -275,6 +276,50 @@ class LinesToScript(unittest.TestCase):
         self.assertEqual(notes[1], "1 of 3 corners were rounded, by at most 0.2 in X or Y")
         self.assertEqual(notes[2], "feature 1: sides that became points and were left out: 1")
 
+    def test_points(self):
+        text = "POINT (3 1.5) MULTIPOINT (0 0, (1 2), (0 0)) LINESTRING (0 0, 4 0) MULTIPOINT EMPTY"
+        points = [line for line in script_of(text)[1] if line[0] not in "#s"]
+        self.assertEqual(points, ["pin 6 3 2", "pin 0 0 1", "pin 1 2 1"])
+        asked = [line for line in script_of(text, "--points=locate", "--scale=2")[1] if line[0] not in "#s"]
+        self.assertEqual(asked, ["locate 6 3 1", "locate 0 0 1", "locate 2 4 1", "locate 0 0 1"])
+        # A point that is a corner is rounded with it, another one isn't.
+        rounded = script_of("LINESTRING (0.2 0, 9 0) POINT (0.2 0) POINT (0.2 1)", "--scale", "1")[1]
+        self.assertEqual(rounded[3:], ["segment 0 0 9 0", "# feature 2", "pin 0 0 1", "# feature 3", "pin 1 5 5"])
+        json_points = '{"type": "MultiPoint", "coordinates": [[1, 2], [3, 4]]}'
+        self.assertEqual(script_of(json_points)[1][3:], ["pin 1 2 1", "pin 3 4 1"])
+
+    def test_csv(self):
+        segments, lines = script_of("x1,y1,x2,y2,what\n0,0,4,0.5,Main Street\n\n4, 0.5, 8, 0\n2,2,'well'\n3,3\n")
+        self.assertEqual(segments, [(0, 0, 8, 1), (8, 1, 16, 0)])
+        self.assertEqual([line for line in lines if line[0] == "#"][2:], ["# Main Street", "# line 4", "# 'well'", "# line 6"])
+        for text, place in [("0,0,1,1\n1,1\n2,x,1,1\n", "line 3"), ("0,0,1,1\n1\n", "line 2"), ("1,2,3,4,5,6\n", "line 1")]:
+            self.assertRaisesRegex(CantConvert, place, script_of, text)
+
+    def test_shared_sides_once(self):
+        squares = "POLYGON ((0 0, 2 0, 2 2, 0 2, 0 0)) POLYGON ((2 0, 4 0, 4 2, 2 2, 2 0))"
+        self.assertEqual(len(script_of(squares)[0]), 8)
+        segments, _ = script_of(squares, "--once")
+        self.assertEqual(segments[4:], [(2, 0, 4, 0), (4, 0, 4, 2), (4, 2, 2, 2)])
+        _, notes = convert(squares, options_of(["--once"]))
+        self.assertEqual(notes[1:], ["sides or pins that are there already and were left out: 1"])
+        with tempfile.TemporaryDirectory() as folder:
+            replies = Path(folder, "replies")
+            replies.write_text("".join(f"ok {number}\n" for number in range(1, 8)))
+            lines, _ = convert(squares, options_of(["--once", "--replies", str(replies)]))
+        self.assertEqual(lines, ["feature 1\t1 2 3 4", "feature 2\t5 6 7 2"])
+
+    def test_where_it_cant_be_read(self):
+        for text, place in [
+            ("LINESTRING (0 0, 1 1)\nLINESTRING (0 0, 1 1", r"line 2, column 21"),
+            ("LINESTRING (0 0,\n  1 1; 2 2)", r"line 2, column 6: `;`"),
+            ("LINESTRING (0 0, 1 1)\n POLYGON ((0 0, 1 1, 1 0, 0 1))", r"feature 2 \(line 2, column 2\): a ring"),
+            ("LINESTRING (0 0, 1 1 1)", r"feature 1 \(line 1, column 1\): position 2"),
+            ("LINESTRING (0 0, 1 1e99)", r"line 1, column 18"),
+            (MAP.replace("[6, 0]", "[6]"), r"feature 2: position 2"),
+            (MAP.replace('"geometry": null', '"geometry": 7'), r"feature 3: it isn't GeoJSON"),
+        ]:
+            self.assertRaisesRegex(CantConvert, place, script_of, text)
+
     def test_what_cant_be_done_is_refused(self):
         side = "LINESTRING (0 0, 1 1)\n"
         self.assertEqual(len(script_of(side * 2000)[0]), 2000)
@@ -286,13 +331,16 @@ class LinesToScript(unittest.TestCase):
             "LINESTRING (0 0, 1 1",
             "LINESTRING (0 0, 1 1))",
             "LINESTRING (0 0, 1 1e99)",
-            "POINT (0 0)",
+            "POINT (0 0, 1 1)",
+            "POINT (0)",
+            "MULTIPOINT ((0 0), (1 1)",
             "CIRCULARSTRING (0 0, 1 1, 2 0)",
             "POLYGON ((0 0, 1 1, 1 0))",
             "POLYGON ((0 0, 1 1, 1 0, 0 1))",
             "POLYGON (0 0, 1 1, 1 0, 0 0)",
             "{}",
-            '{"type": "Point", "coordinates": [0, 0]}',
+            '{"type": "Point", "coordinates": [0]}',
+            '{"type": "Point", "coordinates": [[0, 0]]}',
             '{"type": "LineString", "coordinates": [[0, 0], [1, "1"]]}',
             '{"type": "LineString", "coordinates": [[0, 0, 5], [1, 1, 5]]}',
             '{"type": "LineString", "coordinates": 3}',

@@ -1,17 +1,10 @@
 #!/usr/bin/env bash
 # Runs the program `planar` on each script of examples/, and compares what it writes with the replies that stand beside it. It takes the
-# program's path; without one, the program that `rt ci` left, or else what `rt run` builds, is run.
+# program's path; without one it runs that of scripts/program.sh.
 set -u
 cd "$(dirname "$0")/.." || exit 1
 
-program=${1:-crates/planar/out/planar}
-if [ ! -x "$program" ] && [ $# -eq 0 ]; then
-    (cd crates/planar && rt run </dev/null >/dev/null)
-fi
-if [ ! -x "$program" ]; then
-    echo "examples: there is no program $program" >&2
-    exit 1
-fi
+program=$(scripts/program.sh "$@") || exit 1
 
 wrote=$(mktemp)
 trap 'rm -f "$wrote"' EXIT

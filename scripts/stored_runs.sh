@@ -1,18 +1,11 @@
 #!/usr/bin/env bash
 # Runs of the program `planar` beside the one that `rt ci` makes: each script of crates/planar/cases/ under each way of location, lines
-# that are refused, words outside the grammar, and what few lines give. It takes the program's path; without one, the program that
-# `rt ci` left, or else what `rt run` builds, is run.
+# that are refused, words outside the grammar, and what few lines give. It takes the program's path; without one it runs that of
+# scripts/program.sh.
 set -u
 cd "$(dirname "$0")/.." || exit 1
 
-program=${1:-crates/planar/out/planar}
-if [ ! -x "$program" ] && [ $# -eq 0 ]; then
-    (cd crates/planar && rt run </dev/null >/dev/null)
-fi
-if [ ! -x "$program" ]; then
-    echo "stored runs: there is no program $program" >&2
-    exit 1
-fi
+program=$(scripts/program.sh "$@") || exit 1
 
 wrote=$(mktemp)
 wanted=$(mktemp)
