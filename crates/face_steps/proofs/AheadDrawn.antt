@@ -1,6 +1,5 @@
 -- A plane graph with one more vertex that an old one sees, and with the edge between both: both are plane.
 use Rattle.std.proofs.Common.{◌≡◌, ◌⊎◌, List, true, false, refl, sym, ap, ◌∙◌, subst, inl, inr}
-use Rattle.std.specs.List.{Contains}
 use Rattle.std.specs.Prelude.{if◌then◌else◌}
 use Rattle.exact_plane.specs.Point.{Point}
 use Rattle.exact_plane.specs.PointOrder.{point_cmp}
@@ -12,7 +11,7 @@ use Rattle.plane_graphs.specs.Meaning.{IsEndOfEdge, IsStraightLineGraph}
 use Rattle.plane_graphs.proofs.Ascending.{IsAscending-place, from_member}
 use Rattle.plane_graphs.proofs.Lists.{clash, in_place, of_place}
 use Rattle.plane_graphs.proofs.Meaning.{IsDistinct-from_IsAscending, edge_cmp_total, edge_cmp_exact}
-use Rattle.plane_graphs.proofs.Order.{Lt, lt_in, lt_out, lt_never, lt_both, lt_trans, Tri, less, same, more, tri}
+use Rattle.plane_graphs.proofs.Order.{Lt, lt_in, lt_out, lt_never, lt_both, Tri, less, same, more, tri}
 use Rattle.slab_laws.specs.Skeleton as counted
 use Rattle.slab_laws.specs.Skeleton.{Skeleton, IsPlaneSkeleton}
 use Rattle.slab_laws.specs.Sound.{edge_between}

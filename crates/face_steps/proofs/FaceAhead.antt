@@ -1,6 +1,6 @@
 -- A point that a vertex sees is in the face at the place of its direction: with the edge between both, the new edge has one cycle on both sides, and this is that of the dart before the place.
 -- g is the graph, m has the point as a vertex, and h the edge too.
-use Rattle.std.proofs.Common.{◌≡◌, ◌≢◌, ◌↔◌, ◌⊎◌, ℕ, ◌+◌, Bool, true, false, cond, Option, Some, None, refl, sym, ap, ◌∙◌, subst, inl, inr, ◌∷◌}
+use Rattle.std.proofs.Common.{◌≡◌, ◌≢◌, ◌↔◌, ◌⊎◌, ◌+◌, Bool, true, false, cond, Some, None, refl, sym, ap, ◌∙◌, subst, inl, inr, ◌∷◌}
 use Rattle.std.specs.Prelude.{not}
 use Rattle.std.specs.List.{Contains, count_by}
 use Rattle.std.proofs.lemmas.List.Sums.{sum_by-cons}
@@ -19,11 +19,10 @@ use Rattle.slab_laws.specs.Darts.{Dart, darts, source, target, start}
 use Rattle.slab_laws.specs.Faces.{cells}
 use Rattle.slab_laws.specs.Meets.{SameFace}
 use Rattle.slab_laws.specs.Rotation.{twin, next, earlier}
-use Rattle.slab_laws.specs.Rows.{least_dart_of}
 use Rattle.slab_laws.specs.Skeleton.{Skeleton, IsPlaneSkeleton, same_point}
 use Rattle.slab_laws.specs.Slabs.{left_cell}
 use Rattle.slab_laws.specs.Sound.{skeleton_of, dart_in, IsGraphSound}
-use Rattle.slab_laws.specs.View.{View, Faces, HasVertex, HasDart, IsOutOf, point_in, source_in, twin_in}
+use Rattle.slab_laws.specs.View.{View, HasVertex, point_in, source_in, twin_in}
 use Rattle.slab_faces.proofs.ListedCells.{dart_cell}
 use Rattle.slab_faces.proofs.Member.{member_in}
 use Rattle.slab_faces.proofs.Sets.{set_cons}
@@ -34,7 +33,7 @@ use Rattle.sound_views.proofs.NamedDarts.{names_are_darts, source_by, target_by}
 use Rattle.rotation_order.specs.RingOrder.{sooner_by}
 use Rattle.rotation_order.specs.VertexRings.{IsBare}
 use Rattle.sound_changes.specs.EdgePlaces.{dart_between, IsPlaceFor}
-use Rattle.sound_changes.specs.NextLaws.{HasEdgeMore, IsDartOf, IsBareEnd, ComesBetween}
+use Rattle.sound_changes.specs.NextLaws.{IsDartOf, IsBareEnd, ComesBetween}
 use Rattle.sound_changes.proofs.KnownNames.{point_known, edge_known, points_proper, points_ascend, edges_ascend}
 use Rattle.face_changes.specs.FacesByPairs.{beside, round}
 use Rattle.face_changes.specs.OneMoreEdge.{IsOneMoreEdge, LiesIn}
@@ -43,7 +42,6 @@ use Rattle.face_changes.proofs.LinkedCycles.{dart_there}
 use Rattle.face_changes.proofs.OneMoreEdge.{one_kind_each, cells_with_one_more_edge, sides_of_one_more_edge, cycles_with_one_more_edge}
 use Rattle.face_changes.proofs.OneMoreVertex.{one_more_vertex}
 use Rattle.face_steps.specs.FaceAhead.{IsSeenFrom, FacesAhead}
-use Rattle.face_steps.specs.VertexSteps.{IsFaceRound}
 use Rattle.face_steps.proofs.AheadDrawn.{points, edges, new, point_out, point_in as point_there, edge_out, edge_in as edge_there, points_ascend as points_up_still, plane_with_edge, plane_with_point}
 use Rattle.face_steps.proofs.Counted.{in_front, behind, point_set}
 use Rattle.face_steps.proofs.LoneDarts.{lone_dart}

@@ -11,7 +11,6 @@ use Rattle.plane_graphs.specs.Graph.{Edge}
 use Rattle.plane_graphs.specs.Piece.{Present}
 use Rattle.plane_graphs.proofs.Ascending.{IsAscending-ascending, Member-ascending, ascending-Member, ascending_unique}
 use Rattle.plane_graphs.proofs.Lists.{in_map, of_map}
-use Rattle.plane_graphs.proofs.Sorting.{member_at}
 use Rattle.present_graphs.specs.Spans.{span_of_piece}
 use Rattle.slab_laws.specs.declared.rows.ListedDart.{ListedDart}
 use Rattle.slab_laws.specs.Darts.{ahead}

@@ -3,7 +3,6 @@ use Rattle.std.proofs.Common.{◌≡◌, [], ◌∷◌}
 use Rattle.edit_steps.specs.Edits.{ClearAll, IsAccepted, after, steps}
 use Rattle.edit_steps.specs.Layer.{IsAcceptedBy, layer_after}
 use Rattle.edit_steps.specs.Steps.{Clear}
-use Rattle.slab_laws.specs.View.{View}
 use Rattle.curve_history.specs.Past.{Past, curves_on}
 use Rattle.arr_notes.specs.MapView.{MapView}
 use Rattle.observer_bus.specs.Rounds.{BusRow}

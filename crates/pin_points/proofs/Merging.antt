@@ -18,7 +18,7 @@ use Rattle.edit_steps.specs.Refusals.{is_mergeable}
 use Rattle.edit_steps.specs.Steps.{ClearPin, MergeEdge, RemoveVertex, apply, merge_steps, tidy_step, without_pin}
 use Rattle.edit_steps.proofs.Laws.{are_sound}
 use Rattle.slab_laws.specs.declared.names.VertexId.{VertexId}
-use Rattle.slab_laws.specs.View.{View, HasVertex, point_in, pinned_in}
+use Rattle.slab_laws.specs.View.{HasVertex, point_in, pinned_in}
 use Rattle.arr_notes.specs.ViewChanges.{with_pin}
 use Rattle.arr_notes.specs.Curves.{Curves}
 use Rattle.arr_notes.specs.MapView.{MapView}

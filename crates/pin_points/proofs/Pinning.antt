@@ -12,7 +12,7 @@ use Rattle.edit_steps.specs.Steps.{Step, SetPin as SetPinAt, missing_points, pin
 use Rattle.edit_steps.proofs.Laws.{are_sound}
 use Rattle.edit_steps.proofs.Folds.{first_sound}
 use Rattle.slab_laws.specs.declared.names.VertexId.{VertexId}
-use Rattle.slab_laws.specs.View.{View, point_in}
+use Rattle.slab_laws.specs.View.{point_in}
 use Rattle.arr_notes.specs.Curves.{Curves}
 use Rattle.arr_notes.specs.MapView.{MapView}
 use Rattle.curve_history.specs.Past.{Past, curves_on, SameLayer}

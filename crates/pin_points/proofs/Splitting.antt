@@ -16,7 +16,7 @@ use Rattle.slab_laws.specs.declared.names.DartId.{DartId}
 use Rattle.slab_laws.specs.declared.names.VertexId.{VertexId}
 use Rattle.slab_laws.specs.Skeleton.{inside as is_inside_edge}
 use Rattle.slab_laws.specs.Sound.{edge_in}
-use Rattle.slab_laws.specs.View.{View, point_in, source_in, target_in}
+use Rattle.slab_laws.specs.View.{point_in, source_in, target_in}
 use Rattle.arr_notes.specs.Curves.{Curves}
 use Rattle.arr_notes.specs.MapView.{MapView}
 use Rattle.curve_history.specs.Past.{Past, curves_on, SameLayer}

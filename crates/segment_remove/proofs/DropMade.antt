@@ -12,7 +12,7 @@ use Rattle.edit_steps.specs.Layer.{IsAcceptedBy, layer_after}
 use Rattle.edit_steps.specs.Steps.{Step, less_step, without_curve}
 use Rattle.slab_laws.specs.declared.names.DartId.{DartId}
 use Rattle.slab_laws.specs.declared.names.VertexId.{VertexId}
-use Rattle.slab_laws.specs.View.{View, HasDart, point_in, source_in, target_in}
+use Rattle.slab_laws.specs.View.{HasDart, point_in, source_in, target_in}
 use Rattle.arr_notes.specs.Curves.{Curves}
 use Rattle.arr_notes.specs.MapView.{MapView}
 use Rattle.curve_history.specs.Past.{Past, curves_on, SameCurves}

@@ -6,7 +6,6 @@ use Rattle.plane_graphs.specs.Fit.{IsFit}
 use Rattle.plane_graphs.specs.Graph.{graph, graph_over, vertices}
 use Rattle.plane_graphs.specs.Piece.{Present}
 use Rattle.edit_steps.specs.Steps.{Step, missing_points, run, tidy_steps, with_tidying}
-use Rattle.slab_laws.specs.View.{View}
 use Rattle.arr_notes.specs.Curves.{Curves}
 use Rattle.arr_notes.specs.MapView.{MapView}
 use Rattle.curve_history.specs.Past.{Past, curves_on}

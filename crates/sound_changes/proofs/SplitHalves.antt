@@ -4,7 +4,7 @@ use Rattle.exact_plane.specs.Point.{Point}
 use Rattle.slab_laws.specs.declared.names.DartId.{DartId}
 use Rattle.slab_laws.specs.declared.names.VertexId.{VertexId}
 use Rattle.slab_laws.specs.Sound.{dart_in}
-use Rattle.slab_laws.specs.View.{View, HasVertex, HasDart, point_in, source_in, twin_in, line_in}
+use Rattle.slab_laws.specs.View.{View, HasVertex, HasDart, point_in, source_in, twin_in}
 use Rattle.sound_views.proofs.NamedDarts.{by_points}
 use Rattle.arr_notes.proofs.Names.{cases_dart}
 use Rattle.sound_changes.specs.SplitHalves.{IsHalved}

@@ -1,10 +1,10 @@
 use Rattle.std.proofs.Common.{◌≡◌, ◌<◌, false, sym, ap, ◌∙◌, subst}
 use Rattle.std.proofs.lemmas.Bool.{false≢true}
 use Rattle.slab_laws.specs.declared.names.DartId.{DartId}
-use Rattle.slab_laws.specs.View.{HasDart, HasVertex, next_in, point_in, source_in}
+use Rattle.slab_laws.specs.View.{HasVertex, next_in, point_in, source_in}
 use Rattle.boundary_cycles.specs.Extents.{Covers}
 use Rattle.boundary_cycles.proofs.NamedWalks.{ways, IsWalked, begins, goes_on, smaller, more}
-use Rattle.boundary_cycles.proofs.ExtentsMet.{AreCovered, covered_more, covered_all}
+use Rattle.boundary_cycles.proofs.ExtentsMet.{covered_more, covered_all}
 use Rattle.arr_notes.proofs.Names.{same_name as same_read, other_name as other_read}
 use Rattle.boundary_cycles.proofs.extents.extent_of.Goals as goal
 

@@ -1,7 +1,6 @@
 use Rattle.std.proofs.Common.{Bool}
 use Rattle.slab_laws.specs.declared.names.DartId.{DartId}
 use Rattle.slab_laws.specs.View.{next_in}
-use Rattle.boundary_cycles.specs.Extents.{HasWeights}
 use Rattle.boundary_cycles.proofs.NamedWalks.{ways, IsWalked}
 use Rattle.boundary_cycles.proofs.ExtentsMet.{AreCovered}
 use Rattle.boundary_cycles.proofs.extents.extent_of.Given as goal

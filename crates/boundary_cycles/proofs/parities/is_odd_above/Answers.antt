@@ -1,12 +1,12 @@
-use Rattle.std.proofs.Common.{◌≡◌, ◌<◌, Bool, true, false, refl, sym, ap, ◌∙◌, subst}
-use Rattle.std.specs.Prelude.{not, ◌&&◌, ◌==◌, ◌%◌}
+use Rattle.std.proofs.Common.{◌≡◌, ◌<◌, Bool, true, false, sym, ap, ◌∙◌, subst}
+use Rattle.std.specs.Prelude.{◌&&◌, ◌==◌, ◌%◌}
 use Rattle.std.specs.List.{count_by}
 use Rattle.slab_laws.specs.declared.names.DartId.{DartId}
 use Rattle.slab_laws.specs.Sound.{edge_in}
-use Rattle.slab_laws.specs.View.{HasDart, HasVertex, next_in, point_in, source_in, target_in}
+use Rattle.slab_laws.specs.View.{HasDart, HasVertex, next_in, point_in, source_in}
 use Rattle.arr_notes.specs.CycleNames.{dart_names}
 use Rattle.boundary_cycles.specs.Asked.{is_behind_asked, is_above_asked}
-use Rattle.boundary_cycles.proofs.NamedWalks.{ways, IsWalked, begins, goes_on, ends, smaller, more}
+use Rattle.boundary_cycles.proofs.NamedWalks.{ways, IsWalked, begins, goes_on, smaller, more}
 use Rattle.boundary_cycles.proofs.Counts.{odd_more, odd_same, odd_all, none_counted}
 use Rattle.arr_notes.proofs.Names.{same_name as same_read, other_name as other_read}
 use Rattle.boundary_cycles.proofs.parities.is_odd_above.Goals.{then-is_above, else-is_above}

@@ -2,7 +2,7 @@ use Rattle.std.proofs.Common.{sym, ap, subst, ◌∙◌}
 use Rattle.slab_laws.specs.View.{HasCycle, cycle_in}
 use Rattle.slab_laws.specs.Kinds.{is_outer as bounds_from_outside}
 use Rattle.edge_link.proofs.FaceSplit.{IsLinkedOn, IsPartedOff, first_there, second_there, rows_there, kept_there, end_there, two_faces, face_there, fresh_there, darts_there, vertices_there, face_split}
-use Rattle.edge_link.proofs.splitting.split_face.Goals.{After-cycle-kept, After-link_on-names, After-part_off}
+use Rattle.edge_link.proofs.splitting.split_face.Goals.{After-link_on-names, After-part_off}
 use Rattle.edge_link.proofs.splitting.split_face.Goals as goal
 
 pub face-face-requires : goal.face-face-requires

@@ -1,4 +1,4 @@
-use Rattle.std.proofs.Common.{List, map, sym, ap, ◌∙◌, subst}
+use Rattle.std.proofs.Common.{map, sym, ap, ◌∙◌, subst}
 use Rattle.plane_graphs.specs.Ascending.{IsAscending, ascending}
 use Rattle.plane_graphs.proofs.Ascending.{IsAscending-ascending}
 use Rattle.exact_plane.specs.PointOrder.{point_cmp}
