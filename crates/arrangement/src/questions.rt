@@ -58,7 +58,8 @@ impl Arrangement {
     ///
     /// The answer is the same under every strategy. Naive and walking location take no memory. The first question after an edit builds
     /// the trapezoidal map, or finds where the landmarks lie, and asks for memory then.
-    /// Of a point in a face, the first question after an edit ranks all faces, and the next ones look the rank up.
+    /// Of a point in a face, the first question after an edit counts the faces before it, the second one ranks all, and the next ones look
+    /// the rank up.
     ///
     /// # Errors
     ///

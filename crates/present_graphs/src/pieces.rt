@@ -30,7 +30,7 @@ pub fn spans_of(alloc: Global, pieces: &[Piece]) -> Result<Vec<Span>, NoMemory>
     ensures items { IfOk result (λ spans. spans.items ≡ map span_of_piece (map piece_of pieces.now)) }
     ensures spans { IfOk result (λ spans. AreSpans spans.items) }
 {
-    let mut spans = Vec::new(alloc);
+    let mut spans = Vec::with_capacity(alloc, pieces.len())?;
     for piece in pieces {
         spans.push(span_of(piece))?;
     }
