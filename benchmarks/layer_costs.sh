@@ -1,7 +1,7 @@
 #!/usr/bin/env bash
 # What one line costs in a layer of some 100, 1,000 and 10,000 vertices, in instructions by callgrind, reading the line included: grids of 8, 30
 # and 98 lines each way. An insertion that crosses one edge, the drop of such a segment, and a location on an edge: the mean of up to 200; a
-# location in a face, the first one since the edits and another one; `show`. Locations go by the walk. It takes the program's path, and a minute.
+# location in a face, the first one since the edits, the second one and a third; `show`. Locations go by the walk. It takes the program's path, and a minute.
 set -eu
 program=${1:?the path of the program planar}
 folder=$(mktemp -d)
@@ -22,7 +22,7 @@ for lines in 8, 30, 98:
     more = [f'segment {10 * i + 3} {10 * j + 2} {10 * i + 13} {10 * j + 7}' for i, j in cells]
     drops = [f'drop {len(grid) + 1 + k}' for k in range(len(cells))]
     on = [f'locate {10 * i} {10 * j + 5} 1' for i, j in cells]
-    scripts = {'layer': [], 'more': more, 'fewer': more + drops, 'on': on, 'inside': ['locate 15 15 1'], 'again': ['locate 15 15 1'] * 2, 'show': ['show']}
+    scripts = {'layer': [], 'more': more, 'fewer': more + drops, 'on': on, 'inside': ['locate 15 15 1'], 'second': ['locate 15 15 1'] * 2, 'again': ['locate 15 15 1'] * 3, 'show': ['show']}
     with open(f'{folder}/{lines}.times', 'w') as times:
         times.write(str(len(cells)))
     for name, behind in scripts.items():
@@ -42,7 +42,8 @@ for lines in 8 30 98; do
     fewer=$(instructions "$folder/$lines.fewer")
     on=$(instructions "$folder/$lines.on")
     inside=$(instructions "$folder/$lines.inside")
+    second=$(instructions "$folder/$lines.second")
     again=$(instructions "$folder/$lines.again")
     show=$(instructions "$folder/$lines.show")
-    echo "grid of $lines by $lines: insertion $(((more - layer) / times)), drop $(((fewer - more) / times)), location on an edge $(((on - layer) / times)), in a face $((inside - layer)), again $((again - inside)), show $((show - layer))"
+    echo "grid of $lines by $lines: insertion $(((more - layer) / times)), drop $(((fewer - more) / times)), location on an edge $(((on - layer) / times)), in a face $((inside - layer)), second $((second - inside)), again $((again - second)), show $((show - layer))"
 done

@@ -1,15 +1,13 @@
 -- The records of a layer and their history, as contracts see the two together.
 use Rattle.std.specs.Prelude.{◌≡◌, Bool, true, List, Option}
 use Rattle.plane_graphs.specs.Graph.{graph}
-use Rattle.slab_laws.specs.declared.names.FaceId.{FaceId}
 use Rattle.slab_laws.specs.Subdivision.{Subdivision, subdivision}
 use Rattle.slab_laws.specs.Text.{skeleton}
-use Rattle.slab_laws.specs.View.{View, Faces, HasFace}
-use Rattle.dcel_records.specs.RecordsView.{RecordsView, rank_given, tables_of}
+use Rattle.slab_laws.specs.View.{View, Faces}
+use Rattle.dcel_records.specs.RecordsView.{RecordsView, tables_of}
 use Rattle.dcel_records.specs.declared.spot.Spot.{Spot}
 use Rattle.curve_history.specs.Past.{Past}
 use Rattle.told_steps.specs.RecordLayers.{layer_of}
-use Rattle.face_ranks.specs.Ranks.{rank_in}
 use Rattle.locate_landmarks.specs.Built.{IsBuiltFor as AreLandmarksOf}
 use Rattle.locate_trapezoid.specs.Built.{IsBuiltFor}
 use Rattle.locate_trapezoid.specs.declared.graph.SearchGraph.{SearchGraph}
@@ -23,10 +21,6 @@ pub record LayerRecordsView : Type 0 where
 -- the subdivision of the plane by the layer's present segments and points, built afresh
 abbrev pub subdivision_of : LayerRecordsView → Subdivision
 subdivision_of l = subdivision (skeleton (graph (layer_of l.graph l.past).present))
-
--- where the faces are said to be ranked, each was given its rank (this project)
-abbrev pub AreRankedWhere : Bool → RecordsView → Type 0
-AreRankedWhere ranked h = ranked ≡ true → (a : FaceId) → HasFace (tables_of h) a → rank_given h a ≡ rank_in h.graph (tables_of h) a
 
 -- where it is said to be, the trapezoidal map is built for these records (this project)
 abbrev pub IsMappedWhere : Bool → RecordsView → Option SearchGraph → Type 0

@@ -27,6 +27,7 @@ use crate::spots::walk_to;
 use curve_history::History;
 use dcel_records::Records;
 use exact_plane::{Point, Segment};
+use face_ranks::Ranking;
 use locate_landmarks::Landmarks;
 use locate_trapezoid::Trapezoids;
 use no_memory::NoMemory;
@@ -65,7 +66,7 @@ fn empty_records(alloc: Global, first: u32) -> Result<LayerRecords, NoMemory>
     Ok(LayerRecords {
         records,
         history,
-        ranked: false,
+        ranking: Ranking::Unknown,
         trapezoids: Trapezoids::new(),
         mapped: false,
         landmarks: Landmarks::new(alloc),
@@ -116,7 +117,7 @@ impl Arrangement {
         ensures watched { IsWatched (arranged Observer-dyn self.new) }
     {
         let start = walk_to(&self.layer.records, &segment.lower());
-        self.layer.ranked = false;
+        self.layer.ranking = Ranking::Unknown;
         self.layer.mapped = false;
         self.layer.landed = false;
         insert_counted::<Brand>(
@@ -146,7 +147,7 @@ impl Arrangement {
         ensures limits { (arranged Observer-dyn self.new).limits ≡ (arranged Observer-dyn self.old).limits }
         ensures watched { IsWatched (arranged Observer-dyn self.new) }
     {
-        self.layer.ranked = false;
+        self.layer.ranking = Ranking::Unknown;
         self.layer.mapped = false;
         self.layer.landed = false;
         remove_curve(
@@ -172,7 +173,7 @@ impl Arrangement {
         ensures limits { (arranged Observer-dyn self.new).limits ≡ (arranged Observer-dyn self.old).limits }
         ensures watched { IsWatched (arranged Observer-dyn self.new) }
     {
-        self.layer.ranked = false;
+        self.layer.ranking = Ranking::Unknown;
         self.layer.mapped = false;
         self.layer.landed = false;
         remove_edge(
@@ -200,7 +201,7 @@ impl Arrangement {
         ensures watched { IsWatched (arranged Observer-dyn self.new) }
     {
         let at = walk_to(&self.layer.records, p);
-        self.layer.ranked = false;
+        self.layer.ranking = Ranking::Unknown;
         self.layer.mapped = false;
         self.layer.landed = false;
         pin(
@@ -227,7 +228,7 @@ impl Arrangement {
         ensures limits { (arranged Observer-dyn self.new).limits ≡ (arranged Observer-dyn self.old).limits }
         ensures watched { IsWatched (arranged Observer-dyn self.new) }
     {
-        self.layer.ranked = false;
+        self.layer.ranking = Ranking::Unknown;
         self.layer.mapped = false;
         self.layer.landed = false;
         unpin(
@@ -253,7 +254,7 @@ impl Arrangement {
         ensures limits { (arranged Observer-dyn self.new).limits ≡ (arranged Observer-dyn self.old).limits }
         ensures watched { IsWatched (arranged Observer-dyn self.new) }
     {
-        self.layer.ranked = false;
+        self.layer.ranking = Ranking::Unknown;
         self.layer.mapped = false;
         self.layer.landed = false;
         split_edge(
@@ -282,7 +283,7 @@ impl Arrangement {
         ensures limits { (arranged Observer-dyn self.new).limits ≡ (arranged Observer-dyn self.old).limits }
         ensures watched { IsWatched (arranged Observer-dyn self.new) }
     {
-        self.layer.ranked = false;
+        self.layer.ranking = Ranking::Unknown;
         self.layer.mapped = false;
         self.layer.landed = false;
         merge_edge(
@@ -302,7 +303,7 @@ impl Arrangement {
         ensures limits { (arranged Observer-dyn self.new).limits ≡ (arranged Observer-dyn self.old).limits }
         ensures watched { IsWatched (arranged Observer-dyn self.new) }
     {
-        self.layer.ranked = false;
+        self.layer.ranking = Ranking::Unknown;
         self.layer.mapped = false;
         self.layer.landed = false;
         clear(

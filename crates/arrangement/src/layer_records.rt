@@ -18,7 +18,7 @@ use counted_looks::Glance;
 use curve_history::History;
 use dcel_records::{Records, Spot};
 use exact_plane::Point;
-use face_ranks::rank_faces;
+use face_ranks::{Ranking, rank_of};
 use locate_landmarks::Landmarks;
 use locate_naive::locate as look_at_all;
 use locate_trapezoid::Trapezoids;
@@ -34,8 +34,8 @@ use work_steps::Steps;
 pub(crate) struct LayerRecords {
     pub(crate) records: Records,
     pub(crate) history: History,
-    // Whether each face has its rank in the records: an edit may change the rank of every face, so it clears this first.
-    pub(crate) ranked: bool,
+    // What the records keep of the ranks of faces: an edit may change that of every face, so it forgets them first.
+    pub(crate) ranking: Ranking,
     pub(crate) trapezoids: Trapezoids,
     // Whether the trapezoidal map is of these records: an edit makes it one of others, so it clears this first.
     pub(crate) mapped: bool,
@@ -47,7 +47,8 @@ pub(crate) struct LayerRecords {
 impl Model for LayerRecords {
     ghost use Rattle.told_steps.specs.RecordLayers.{IsLayer};
     ghost use Rattle.dcel_records.specs.RecordsView.{tables_of};
-    ghost use Rattle.arrangement.specs.LayerRecords.{AreRankedWhere, IsMappedWhere, AreLandedWhere, LayerRecordsView};
+    ghost use Rattle.face_ranks.specs.Ranks.{AreRankedAs};
+    ghost use Rattle.arrangement.specs.LayerRecords.{IsMappedWhere, AreLandedWhere, LayerRecordsView};
 
     ghost Value = { LayerRecordsView };
 
@@ -55,7 +56,7 @@ impl Model for LayerRecords {
 
     ghost use Rattle.dcel_records.specs.SoundMaps.{IsMapAtRest};
 
-    ghost invariant = { λ l. IsLayer l.records.graph l.history × (IsMapAtRest l.records × (AreRankedWhere l.ranked l.records × (IsMappedWhere l.mapped l.records l.trapezoids × AreLandedWhere l.landed l.records l.landmarks))) };
+    ghost invariant = { λ l. IsLayer l.records.graph l.history × (IsMapAtRest l.records × (AreRankedAs l.ranking l.records × (IsMappedWhere l.mapped l.records l.trapezoids × AreLandedWhere l.landed l.records l.landmarks))) };
 }
 
 // Where a point lies by the trapezoidal map, with a counter of its own.
@@ -184,18 +185,15 @@ impl LayerRecords {
 
     /// The rank of a face.
     ///
-    /// The first question since the last edit ranks all faces: it goes once along each outer cycle and sorts as many keys as there are
-    /// bounded faces, in room that the records have. The next ones look the rank up. It takes no memory.
+    /// The first question since the last edit goes once along each outer cycle and counts the faces that come before this one; the second
+    /// one sorts as many keys as there are bounded faces, in room that the records have; the next ones look the rank up. It takes no
+    /// memory.
     pub(crate) fn rank_of(&mut self, face: FaceId) -> usize
         requires { HasFace self.old.faces face }
         ensures rank { result ≡ rank_in self.old.graph self.old.faces face }
         ensures same { self.new ≡ self.old }
     {
-        if !self.ranked {
-            rank_faces(&mut self.records);
-            self.ranked = true;
-        }
-        self.records.rank_of(face)
+        rank_of(&mut self.records, &mut self.ranking, face)
     }
 
     // What is true of all: the history goes with the graph, and the map is sound.
@@ -204,7 +202,7 @@ impl LayerRecords {
         ensures sound { IsSound self.now.graph self.now.faces }
     {
         // Any use of a field tells what is kept.
-        let _ = &self.ranked;
+        let _ = &self.ranking;
     }
 
     // What a point is told to lie in, which lies at a spot.
@@ -225,8 +223,8 @@ impl LayerRecords {
     /// Where a point lies, found by the strategy.
     ///
     /// By the trapezoidal map: the first question since the last edit builds it, and the next ones go down in it. From landmarks: the
-    /// first one finds where they lie. Of a point in a face, the first question since the last edit ranks all faces, and the next ones
-    /// look the rank up.
+    /// first one finds where they lie. Of a point in a face, the first question since the last edit counts the faces before it, the second
+    /// one ranks all, and the next ones look the rank up.
     ///
     /// # Errors
     ///

@@ -7,7 +7,7 @@ use Rattle.std.specs.Cmp.{IsTotalOrder, then_total, on_total}
 use Rattle.std.proofs.lemmas.Bool.{cases_eq, true≢false}
 use Rattle.std.proofs.lemmas.List.{length-take-le, take_more}
 use Rattle.std.proofs.lemmas.List.Sorted.{ranks_by, sorted_far, Contains-permutation, IsPermutation-sym}
-use Rattle.integers.proofs.Tests.{other_number, same_number}
+use Rattle.integers.proofs.Tests.{same_number, turned_test}
 use Rattle.exact_plane.specs.PointOrder.{point_cmp}
 use Rattle.exact_plane.specs.PointOrderLaws.{point_cmp_total}
 use Rattle.plane_graphs.proofs.Ascending.{All-member, to_member, from_member}
@@ -84,10 +84,7 @@ abbrev pub same_face : RankKey → RankKey → Bool
 same_face a b = a.face.0 == b.face.0
 
 pub face_flips : (a b : RankKey) → same_face a b ≡ same_face b a
-face_flips a b = elim (cases_eq a.face.0 b.face.0) [
-  | inl q ↦ rw q refl
-  | inr ne ↦ other_number a.face.0 b.face.0 ne ∙ sym (other_number b.face.0 a.face.0 (λ e. ne (sym e)))
-]
+face_flips a b = turned_test a.face.0 b.face.0
 
 abbrev pub row_ranked : ℕ → StoredFace → StoredFace
 row_ranked n r = record { first_cycle = r.first_cycle; first_bare = r.first_bare; rank = n }

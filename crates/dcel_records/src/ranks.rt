@@ -57,6 +57,13 @@ impl Records {
         self.order.push_reserved(key);
     }
 
+    /// The keys of the faces that are to be ordered, or were.
+    pub fn rank_keys(&self) -> &[RankKey]
+        ensures { result.now ≡ self.now.ranks.order }
+    {
+        &self.order
+    }
+
     /// Puts the faces in the order of their keys, and gives each the rank that is its place, from 1 on. The unbounded face has the
     /// rank 0 where it has no key. It takes no memory.
     pub fn rank_in_order(&mut self)

@@ -12,7 +12,7 @@ use Rattle.dcel_records.specs.RankOrders.{AreInKeyOrder, AreRanked}
 use Rattle.dcel_records.specs.RecordsView.{RecordsView, FacesView, graph_part, tables_of, lists_of, lists_in_view, rank_given}
 use Rattle.dcel_records.specs.SoundMaps.{IsSoundMap}
 use Rattle.face_ranks.specs.OuterKeys.{outer_keys}
-use Rattle.face_ranks.specs.Ranks.{rank_in}
+use Rattle.face_ranks.specs.Ranks.{rank_in, AreRanksGiven}
 use Rattle.face_ranks.proofs.KeysRanked.{same_key_face, keys_apart, keys_have, ranks_given, no_key_first}
 use Rattle.face_ranks.proofs.RankOrder.{rank_unbounded, lead_on}
 use Rattle.face_changes.proofs.FacesByPairs.{by_number}
@@ -56,3 +56,7 @@ module _ (h : RecordsView) (m : IsSoundMap h) (order : List RankKey) (is : order
             let d = lead_on h.graph (tables_of h) m.sound a c o x.0 x.1 x.2 in
             ranks_given h.graph (tables_of h) (lists_of h) m.sound m.darts (rank_given new) new.ranks.order (subst (λ ks. IsPermutation ks new.ranks.order) is keys) ordered
             (ranked (subst (IsDistinct same_key_face) (sym is) (keys_apart h.graph (tables_of h) (lists_of h) m.sound m.darts))) a d.0 d.1
+
+    -- as the records tell that were written
+    pub ranks_after : graph_part new ≡ graph_part h → new.faces ≡ h.faces → AreRanksGiven new
+    ranks_after graph faces a has = all_given a (subst (λ (f : FacesView). HasFace f.tables a) faces has) ∙ (λ i. rank_in (sym graph i).graph (sym faces i).tables a)

@@ -22,6 +22,7 @@ use Rattle.slab_laws.specs.Darts.{source, target}
 use Rattle.slab_laws.specs.FaceLists.{Lists, AreDartsOn}
 use Rattle.slab_laws.specs.FacesSound.{lead_in, IsSound, IsOuterOf}
 use Rattle.slab_laws.specs.Sound.{dart_in}
+use Rattle.slab_laws.proofs.KindLemmas.{outer_kind}
 use Rattle.slab_laws.specs.Tables.{names, NamesAscend}
 use Rattle.slab_laws.specs.View.{View, Faces, HasFace, cycle_id, cycle_in, kind_in, face_in}
 use Rattle.sound_views.proofs.NameTables.{has_name, name_has}
@@ -32,11 +33,11 @@ use Rattle.face_ranks.specs.OuterKeys.{cycle_rank_key, is_outer_in, outer_keys, 
 use Rattle.face_ranks.specs.Ranks.{rank_in}
 use Rattle.face_ranks.proofs.AscendingPlaces.{place_here, place_later, place_of_map}
 use Rattle.face_changes.proofs.FacesByPairs.{by_number}
-use Rattle.face_ranks.proofs.RankedOuter.{IsLeadOf, by_ends, ends_total, outer_out, outer_in, Compared, compared, face_beside, outers, outers_ascend, outer_lead, lead_listed, one_outer, first, no_outer_first}
+use Rattle.face_ranks.proofs.RankedOuter.{IsLeadOf, by_ends, ends_total, outer_in, Compared, compared, face_beside, outers, outers_ascend, outer_lead, lead_listed, one_outer, first, no_outer_first}
 use Rattle.face_ranks.proofs.RankedOuter.Compared.{same, less, more}
 use Rattle.face_ranks.proofs.RankOrder.{faces_exact, lead_on, rank_bounded}
 
-key_total : IsTotalOrder key_cmp
+pub key_total : IsTotalOrder key_cmp
 key_total = then_total (on_total (λ (k : RankKey). k.source) point_cmp_total) (on_total (λ (k : RankKey). k.target) point_cmp_total)
 
 not_both : (c : Ordering) → c ≡ Less → c ≡ Equal → ⊥
@@ -66,14 +67,14 @@ ranked_place rank n (k ∷ ks) a r m = step (same_face a k.face) refl m (λ i. r
 
 module _ (v : View) (f : Faces) (l : Lists) (s : IsSound v f) (on : AreDartsOn v f l) where
   -- the key of a cycle, by its least dart
-  abbrev dart_key : DartId → RankKey
+  abbrev pub dart_key : DartId → RankKey
   dart_key d = record { source = source (dart_in v d); target = target (dart_in v d); face = face_beside v f s d }
 
   -- those of the ranked faces after the first
   abbrev pub ranked_keys : List RankKey
   ranked_keys = map dart_key (outers v f s)
 
-  key_of : (a : FaceId) (d : DartId) → IsLeadOf v f a d → cycle_rank_key v f l (cycle_in f d) ≡ dart_key d
+  pub key_of : (a : FaceId) (d : DartId) → IsLeadOf v f a d → cycle_rank_key v f l (cycle_in f d) ≡ dart_key d
   key_of a d k =
       let x = on (cycle_in f d) k.outer.0 in
       let e : lead_in v (l.dart_on (cycle_in f d)) ≡ dart_in v d = (s.cycled.orbits (l.dart_on (cycle_in f d)) d x.0 k.has).0 x.1 ∙ sym k.least in
@@ -82,9 +83,9 @@ module _ (v : View) (f : Faces) (l : Lists) (s : IsSound v f) (on : AreDartsOn v
   outer_of : (c : CycleId) → Member c (map cycle_id (names f.cycles)) → is_outer_in f c ≡ true → IsOuterOf f (face_in f c) c
   outer_of c m t =
       let n = of_map cycle_id c (names f.cycles) m in
-      (name_has f.cycles c.0 (subst (λ k. Member k (names f.cycles)) (sym (ap (λ (x : CycleId). x.0) n.2)) n.1), refl, outer_out (kind_in f c) t)
+      (name_has f.cycles c.0 (subst (λ k. Member k (names f.cycles)) (sym (ap (λ (x : CycleId). x.0) n.2)) n.1), refl, outer_kind (kind_in f c) t)
 
-  into : (k : RankKey) → Member k (outer_keys v f l) → Member k ranked_keys
+  pub into : (k : RankKey) → Member k (outer_keys v f l) → Member k ranked_keys
   into k m =
       let c = of_map (cycle_rank_key v f l) k (filter (is_outer_in f) (map cycle_id (names f.cycles))) m in
       let r = of_filter (is_outer_in f) c.0 (map cycle_id (names f.cycles)) c.1 in
@@ -96,7 +97,7 @@ module _ (v : View) (f : Faces) (l : Lists) (s : IsSound v f) (on : AreDartsOn v
       let is : cycle_rank_key v f l (cycle_in f d.0) ≡ k = ap (cycle_rank_key v f l) one ∙ sym c.2 in
       subst (λ y. Member y ranked_keys) (key ∙ is) (in_map dart_key d.0 (outers v f s) (lead_listed v f s (face_in f c.0) d.0 d.1))
 
-  back : (k : RankKey) → Member k ranked_keys → Member k (outer_keys v f l)
+  pub back : (k : RankKey) → Member k ranked_keys → Member k (outer_keys v f l)
   back k m =
       let d = of_map dart_key k (outers v f s) m in
       let L = outer_lead v f s d.0 d.1 in
@@ -139,21 +140,24 @@ module _ (v : View) (f : Faces) (l : Lists) (s : IsSound v f) (on : AreDartsOn v
   keys_have = all_members _ (outer_keys v f l) (λ k m. let d = of_map dart_key k (outers v f s) (into k m) in subst (λ (x : RankKey). HasFace f x.face) (sym d.2) (s.complete.face_has (cycle_in f d.0) (outer_lead v f s d.0 d.1).outer.0))
 
   -- ---- in order
-  ranked_ascend : IsAscending key_cmp ranked_keys
+  pub ranked_ascend : IsAscending key_cmp ranked_keys
   ranked_ascend = IsAscending-map (by_ends v) key_cmp dart_key (outers v f s) (λ d e m n h. h) (outers_ascend v f s)
 
-  -- keys of two darts that the order doesn't tell apart have one face
-  tied_face : (k m : RankKey) → Member k ranked_keys → Member m ranked_keys → key_cmp k m ≡ Equal → same_key_face k m ≡ true
-  tied_face k m K M e =
+  -- keys of two darts that the order doesn't tell apart are one
+  pub tied_same : (k m : RankKey) → Member k ranked_keys → Member m ranked_keys → key_cmp k m ≡ Equal → k ≡ m
+  tied_same k m K M e =
       let x = of_map dart_key k (outers v f s) K in
       let y = of_map dart_key m (outers v f s) M in
       let h : by_ends v x.0 y.0 ≡ Equal = subst (λ z. key_cmp z (dart_key y.0) ≡ Equal) x.2 (subst (λ z. key_cmp k z ≡ Equal) y.2 e) in
       by x.0 y.0 x.2 y.2 h (compared (by_ends v) (outers v f s) (outers_ascend v f s) x.0 y.0 x.1 y.1)
     where
-      by : (x y : DartId) → k ≡ dart_key x → m ≡ dart_key y → by_ends v x y ≡ Equal → Compared (by_ends v) x y → same_key_face k m ≡ true
-      by x y p q h (same i) = subst (λ z. same_key_face k z ≡ true) (p ∙ ap dart_key i ∙ sym q) (eq-eqb k.face.0 k.face.0 refl)
+      by : (x y : DartId) → k ≡ dart_key x → m ≡ dart_key y → by_ends v x y ≡ Equal → Compared (by_ends v) x y → k ≡ m
+      by x y p q h (same i) = p ∙ ap dart_key i ∙ sym q
       by x y p q h (less i) = absurd (not_both (by_ends v x y) i h)
       by x y p q h (more i) = absurd (not_both (by_ends v y x) i ((ends_total v).antisymm y x ∙ ap ordering_reverse h))
+
+  pub tied_face : (k m : RankKey) → Member k ranked_keys → Member m ranked_keys → key_cmp k m ≡ Equal → same_key_face k m ≡ true
+  tied_face k m K M e = eq-eqb k.face.0 m.face.0 (ap (λ (x : RankKey). x.face.0) (tied_same k m K M e))
 
   ascend : (ks : List RankKey) → AreInKeyOrder ks → IsDistinct same_key_face ks → ((k : RankKey) → Member k ks → Member k ranked_keys) → IsAscending key_cmp ks
   unfolding AreInKeyOrder IsDistinct

@@ -4,5 +4,6 @@ pub mod Located
 pub mod RankOrder
 pub mod LeadsRead
 pub mod KeysRanked
+pub mod KeysCounted
 pub mod KeysPushed
 pub mod GivenRanks

@@ -4,19 +4,20 @@ use Rattle.std.specs.Prelude.{filter, None}
 use Rattle.std.specs.Cmp.{IsTotalOrder}
 use Rattle.std.specs.Option.{option_map}
 use Rattle.std.specs.Ordering.{ordering_reverse}
-use Rattle.std.proofs.lemmas.Bool.{false≢true, eqb-true, eq-eqb, false_from_ne_true}
+use Rattle.std.proofs.lemmas.Bool.{eqb-true, eq-eqb, false_from_ne_true}
 use Rattle.std.proofs.lemmas.Cmp.{on_total}
 use Rattle.plane_graphs.specs.Ascending.{Member, IsAscending}
 use Rattle.plane_graphs.proofs.Ascending.{to_member, from_member, All-member, IsAscending-ascending}
 use Rattle.plane_graphs.proofs.Lists.{clash, of_map, of_filter, in_filter, IsAscending-filter}
 use Rattle.slab_laws.specs.declared.names.CycleId.{CycleId}
 use Rattle.slab_laws.specs.declared.names.CycleKind.{CycleKind}
-use Rattle.slab_laws.specs.declared.names.CycleKind.TheVariants.{Outer, Inner}
+use Rattle.slab_laws.specs.declared.names.CycleKind.TheVariants.{Outer}
 use Rattle.slab_laws.specs.declared.names.DartId.{DartId}
 use Rattle.slab_laws.specs.declared.names.FaceId.{FaceId}
 use Rattle.slab_laws.specs.Darts.{Dart}
 use Rattle.slab_laws.specs.FacesSound.{lead_in, IsSound, IsOuterOf}
 use Rattle.slab_laws.specs.Kinds.{is_outer}
+use Rattle.slab_laws.proofs.KindLemmas.{outer_kind}
 use Rattle.slab_laws.specs.Listed.{distinct}
 use Rattle.slab_laws.specs.Rotation.{dart_cmp, dart_below}
 use Rattle.slab_laws.specs.Rows.{least_dart_of}
@@ -38,10 +39,6 @@ use Rattle.record_orders.specs.CycleKeys.{same_cycle, cycle_key, same_face, firs
 use Rattle.face_changes.proofs.FacesByPairs.{by_number}
 use Rattle.face_steps.proofs.CyclesApart.{cycle_by_number}
 use Rattle.face_ranks.proofs.AscendingPlaces.{distinct_all, map_filter_map}
-
-pub outer_out : (k : CycleKind) → is_outer k ≡ true → k ≡ Outer
-outer_out Outer e = refl
-outer_out Inner e = absurd (false≢true e)
 
 pub outer_in : (k : CycleKind) → k ≡ Outer → is_outer k ≡ true
 outer_in k e = ap is_outer e
@@ -184,7 +181,7 @@ module _ (v : View) (f : Faces) (s : IsSound v f) where
   outer_lead d m =
       let r = of_filter is_of_outer d firsts m in
       let D = first_has d r.0 in
-      record { has = D; outer = (s.complete.cycle_has d D, refl, outer_out (kind_in f (cycle_in f d)) r.1); least = least_first d r.0 }
+      record { has = D; outer = (s.complete.cycle_has d D, refl, outer_kind (kind_in f (cycle_in f d)) r.1); least = least_first d r.0 }
 
   pub lead_listed : (a : FaceId) (d : DartId) → IsLeadOf v f a d → Member d outers
   lead_listed a d l = in_filter is_of_outer d firsts (first_least_dart d l.has l.least) (outer_in (kind_in f (cycle_in f d)) l.outer.2)

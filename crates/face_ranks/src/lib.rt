@@ -1,15 +1,16 @@
 //! The rank of a face that is told by its name: how many faces come before it, where the unbounded one is the first, and the
 //! others stand in the order of their outer cycles, each told by its least dart.
 //!
-//! All faces are given their ranks, which the records keep; it takes no memory. That a point lies in the face of the rank that
-//! its face's name has is a law: its contract states it, and its body, being empty, computes nothing.
+//! The key of each bounded face is listed first; by these one face's rank is counted, or all faces are given their ranks, which the
+//! records keep; neither takes memory. That a point lies in the face of the rank that its face's name has is a law: its contract
+//! states it, and its body, being empty, computes nothing.
 #![tactic(auto)]
 
 mod order;
 
 ghost use Rattle.face_ranks.specs.Ranks.{FaceIsLocated};
 
-pub use order::rank_faces;
+pub use order::{Ranking, rank_of};
 
 /// A point on no vertex and no edge lies in the face of the rank that the name of its face has.
 pub fn face_is_located()
