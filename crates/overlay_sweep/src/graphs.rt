@@ -153,6 +153,8 @@ pub fn graph_of(alloc: Global, present: &Present) -> Result<LayerGraph, NoMemory
     // Their order is that of the edges, which the sort finds in one pass.
     let edges = edges_along(alloc, &stretches)?;
     let spans = spans_along(alloc, &pieces, points, &stretches, &edges)?;
+    // They are the largest list, and room for those to come.
+    drop(pieces);
     let below = edges_below(alloc, &trace)?;
     let ahead = rows_along(alloc, &edges)?;
     let orbits = orbits_of(alloc, points, &spans, &ahead)?;

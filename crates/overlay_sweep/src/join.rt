@@ -115,6 +115,18 @@ fn tables_of(
     Ok((of_red, of_blue))
 }
 
+// The graph of the pieces and pins of both layers.
+fn graph_of_both(alloc: Global, red: &Present, blue: &Present) -> Result<LayerGraph, NoMemory>
+    requires red { IsFit (present_of red.now) }
+    requires blue { IsFit (present_of blue.now) }
+    ensures { IfOk result (IsLayerGraph (united (present_of red.now) (present_of blue.now))) }
+{
+    let united = unite(alloc, red, blue)?;
+    let whole = graph_of(alloc, &united);
+    drop(united);
+    whole
+}
+
 /// The overlay of two layers: the subdivision of the plane by the pieces and pins of both, of each of its edges the red and
 /// the blue curves along it, and of each of its faces the red face and the blue face that hold it (CGAL manual, `overlay`).
 ///
@@ -138,9 +150,10 @@ pub fn overlay(alloc: Global, red: &Present, blue: &Present) -> Result<Both, NoM
     ensures lines { IfOk result (λ b. AreLinesOf b.drawing) }
     ensures stands { IfOk result (λ b. IsSound (view_of b.drawing) (faces_of b.drawing)) }
 {
-    let united = unite(alloc, red, blue)?;
-    let whole = graph_of(alloc, &united)?;
+    let whole = graph_of_both(alloc, red, blue)?;
     let (of_red, of_blue) = tables_of(alloc, red, blue, &whole)?;
+    // Made once more, since it would be in the way while each layer's own graph is made.
+    let united = unite(alloc, red, blue)?;
     let rows = rows_of(alloc, united, whole)?;
     rows.laws();
     Ok(Both::of(rows, of_red, of_blue))

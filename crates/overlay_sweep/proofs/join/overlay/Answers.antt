@@ -14,14 +14,15 @@ use Rattle.subdivision_rows.specs.Listed.{subdivision_in, view_of, faces_of}
 use Rattle.subdivision_rows.specs.OverlayInMemory.{Overlaid}
 use Rattle.subdivision_rows.proofs.OverlaidRows.{rows_sound}
 use Rattle.sweep_graphs.specs.Edges.{curve_at}
+use Rattle.overlay_sweep.specs.LayerGraphs.{IsLayerGraph}
 use Rattle.overlay_sweep.proofs.Joined.{curves_by_place}
 use Rattle.overlay_sweep.proofs.join.overlay.Goals as goal
 
-pub graph_of-requires : goal.graph_of-requires
-graph_of-requires c = subst IsFit (sym c.in_ok-united.ensures) (united_fit (present_of c.args.red.now) (present_of c.args.blue.now) c.requires.red c.requires.blue)
-
 pub rows_of-requires-clause-fit : goal.rows_of-requires-clause-fit
 rows_of-requires-clause-fit c = subst IsFit (sym c.in_ok-united.ensures) (united_fit (present_of c.args.red.now) (present_of c.args.blue.now) c.requires.red c.requires.blue)
+
+pub rows_of-requires-clause-graph : goal.rows_of-requires-clause-graph
+rows_of-requires-clause-graph c = subst (λ p. IsLayerGraph p c.in_ok-whole.whole) (sym c.in_ok-united.ensures) c.in_ok-whole.ensures
 
 pub rows_of-requires-clause-curves : goal.rows_of-requires-clause-curves
 rows_of-requires-clause-curves c = λ i l.
