@@ -13,7 +13,7 @@ use Rattle.slab_laws.specs.View.{View}
 use Rattle.arr_notes.specs.CycleNames.{dart_names}
 use Rattle.boundary_cycles.proofs.NamedWalks.{listed}
 use Rattle.locate_landmarks.specs.Crossings.{is_rising, crossing_cmp, is_later, crossing_in, IsCrossing, later_count}
-use Rattle.locate_landmarks.specs.Surveys.{IsFarther}
+use Rattle.locate_landmarks.specs.Horizontals.{IsFarther}
 use Rattle.locate_landmarks.specs.declared.course.Course.{Course}
 use Rattle.locate_landmarks.specs.declared.crossing.Crossing.{Crossing}
 use Rattle.locate_landmarks.proofs.Orders.{turned_total, fewer_later, less_trans}
