@@ -3,7 +3,7 @@ ghost use Rattle.std.specs.Prelude.{◌≡◌, true, Some, IfSome};
 ghost use Rattle.plane_graphs.specs.Line.{crossing};
 ghost use Rattle.slab_laws.specs.Sound.{IsGraphSound};
 ghost use Rattle.slab_laws.specs.View.{HasDart, line_in};
-ghost use Rattle.locate_landmarks.specs.Crossings.{is_rising, crossing_cmp, is_later, IsCrossing, IsDrawnLook};
+ghost use Rattle.locate_landmarks.specs.Crossings.{is_rising, fan_cmp, crossing_cmp, is_later, IsCrossing, IsDrawnLook};
 
 use crate::course::Course;
 use counted_looks::{Glance, Glimpse, NameCalls};
@@ -26,14 +26,24 @@ fn is_rising(level: &Line, line: &Line) -> bool
     slope_order(level, line).is_lt()
 }
 
-// The order in which the horizontal, raised by less than any number, meets two edges from left to right. From one vertex on it the
-// falling edges come first, the flat ones before the steep ones, and then the rising ones, the steep ones first.
+// The order in which the raised horizontal meets two edges out of one vertex on it from left to right: the falling ones come first, the
+// flat ones before the steep ones, and then the rising ones, the steep ones first.
+fn order_in_fan(level: &Line, first: &Line, second: &Line) -> Ordering
+    ensures { result ≡ fan_cmp level.now first.now second.now }
+{
+    is_rising(level, first)
+        .cmp(&is_rising(level, second))
+        .then(slope_order(second, first))
+}
+
+// The order in which the horizontal, raised by less than any number, meets two edges from left to right.
 fn order_along(level: &Line, first: &Crossing, second: &Crossing) -> Ordering
     ensures { result ≡ crossing_cmp level.now first.now second.now }
 {
-    let fan = is_rising(level, &first.line).cmp(&is_rising(level, &second.line));
-    let steep_first = slope_order(&second.line, &first.line);
-    first.at.cmp(&second.at).then(fan.then(steep_first))
+    match first.at.cmp(&second.at) {
+        Ordering::Equal => order_in_fan(level, &first.line, &second.line),
+        order => order,
+    }
 }
 
 // Whether a crossing comes after another one on the way, as each does after none.
