@@ -1,7 +1,6 @@
 -- The crossings with the horizontal are in a total order, so on the way fewer and fewer are met later.
 use Rattle.std.proofs.Common.{◌≡◌, ◌<◌, Bool, true, false, arith, refl, sym, inl, inr, subst}
 use Rattle.std.specs.Prelude.{Option, Some, None}
-use Rattle.std.specs.Ordering.{on}
 use Rattle.std.specs.Cmp.{IsTotalOrder, bool_cmp_total, on_total, then_total}
 use Rattle.exact_plane.specs.Line.{Line}
 use Rattle.exact_plane.specs.PointOrderLaws.{point_cmp_total}
@@ -13,7 +12,7 @@ use Rattle.slab_laws.specs.View.{View}
 use Rattle.arr_notes.specs.CycleNames.{dart_names}
 use Rattle.boundary_cycles.proofs.NamedWalks.{listed}
 use Rattle.locate_landmarks.specs.Crossings.{is_rising, crossing_cmp, is_later, crossing_in, IsCrossing, later_count}
-use Rattle.locate_landmarks.specs.Surveys.{IsFarther}
+use Rattle.locate_landmarks.specs.Horizontals.{IsFarther}
 use Rattle.locate_landmarks.specs.declared.course.Course.{Course}
 use Rattle.locate_landmarks.specs.declared.crossing.Crossing.{Crossing}
 use Rattle.locate_landmarks.proofs.Orders.{turned_total, fewer_later, less_trans}
@@ -21,7 +20,7 @@ use Rattle.locate_landmarks.proofs.Orders.{turned_total, fewer_later, less_trans
 crossing_total : (level : Line) → IsTotalOrder (crossing_cmp level)
 crossing_total level =
     then_total (on_total (λ (c : Crossing). c.at) point_cmp_total)
-    (then_total (on_total (λ (c : Crossing). is_rising level c.line) bool_cmp_total) (turned_total (on (λ (c : Crossing). c.line) rise_cmp) (on_total (λ (c : Crossing). c.line) rise_cmp_total)))
+    (on_total (λ (c : Crossing). c.line) (then_total (on_total (λ (l : Line). is_rising level l) bool_cmp_total) (turned_total rise_cmp rise_cmp_total)))
 
 module _ (v : View) (level : Line) (s : IsGraphSound v) where
   -- what comes after one that comes after another comes after this too

@@ -3,6 +3,7 @@ pub mod Floors
 pub mod Orders
 pub mod OnLevel
 pub mod Crossed
+pub mod Passed
 pub mod SeenAbove
 pub mod Lowered
 pub mod Surveyed

@@ -1,70 +1,49 @@
 -- From face to face on the way: what is left of it gets less.
-use Rattle.std.proofs.Common.{◌≡◌, ◌<◌, true, false, arith, refl, sym, ap, ◌∙◌, inl, inr, subst}
-use Rattle.std.specs.Prelude.{Option, Some, None}
+use Rattle.std.proofs.Common.{◌≡◌, ◌<◌, refl, sym, ap, ◌∙◌, inl, inr, subst}
+use Rattle.std.specs.Prelude.{Option, Some, None, IfSome}
+use Rattle.exact_plane.specs.Line.{Line}
+use Rattle.exact_plane.specs.Point.{Point}
 use Rattle.slab_laws.specs.declared.names.DartId.{DartId}
 use Rattle.slab_laws.specs.declared.names.FaceId.{FaceId}
-use Rattle.slab_laws.specs.View.{View, Faces, HasFace}
-use Rattle.exact_plane.specs.Point.{Point}
 use Rattle.slab_laws.specs.FacesSound.{IsSound}
+use Rattle.slab_laws.specs.View.{View, Faces, HasDart, HasFace}
 use Rattle.dcel_records.specs.declared.spot.Spot.TheVariants.{Face}
 use Rattle.face_changes.proofs.FacesByPairs.{has_name, told_by_pairs}
 use Rattle.face_location.specs.Spots.{IsSpotOf}
-use Rattle.locate_landmarks.specs.Surveys.{IsOnFrom}
-use Rattle.locate_landmarks.specs.Walks.{dart_ahead, dart_above, face_beside, IsAtFace, way_left}
+use Rattle.locate_landmarks.specs.Horizontals.{IsFarther, IsBeyond, darts_ahead}
+use Rattle.locate_landmarks.specs.Lowest.{IsAbove, IsLowered, floor_in}
+use Rattle.locate_landmarks.specs.Crossings.{IsCrossing}
+use Rattle.locate_landmarks.specs.Walks.{dart_ahead, dart_above, face_beside, IsUnder}
+use Rattle.locate_landmarks.specs.declared.above.EdgeAbove.{EdgeAbove}
 use Rattle.locate_landmarks.specs.declared.course.Course.{Course}
-use Rattle.locate_landmarks.specs.declared.survey.WayOut.{WayOut}
+use Rattle.locate_landmarks.specs.declared.crossing.Crossing.{Crossing}
 
--- the face on the right of the dart is that face again
-settled : (v : View) (f : Faces) (a : FaceId) (o : Option DartId) → face_beside v f (face_beside v f a o) o ≡ face_beside v f a o
-settled v f a None = refl
-settled v f a (Some d) = refl
+module _ (v : View) (f : Faces) (a b : FaceId) where
+  -- the face on the right of the dart is that face again
+  pub settled : (o : Option DartId) → b ≡ face_beside v f a o → face_beside v f b o ≡ b
+  settled None e = refl
+  settled (Some d) e = sym e
 
-module _ (v : View) (f : Faces) (c : Course) (a : FaceId) (way out : WayOut) (at : IsAtFace v f c a way) (on : IsOnFrom v c way out) where
   -- ---- along the horizontal
-  module _ (along : way.along ≡ true) (other : face_beside v f a (dart_ahead out.ahead) ≡ a → ⊥) where
-    abbrev beyond : FaceId
-    beyond = face_beside v f a (dart_ahead out.ahead)
+  pub beyond_at : (c : Course) (p : Option Crossing) → b ≡ face_beside v f a (dart_ahead p) → HasFace f b → IsCrossing v c.level.line p → IsBeyond v f c b p
+  beyond_at c p e has k = record { has = has; last = k; beyond = settled (dart_ahead p) e }
 
-    abbrev next : WayOut
-    next = record { along = true; ahead = out.ahead; lowest = way.lowest }
-
-    pub beyond_at : HasFace f beyond → IsAtFace v f c beyond next
-    beyond_at has = record {
-      has = has;
-      way = record { ahead = on.way.ahead; lowest = at.way.lowest };
-      below_none = λ _. at.below_none along;
-      beyond = λ _. settled v f a (dart_ahead out.ahead);
-      under = subst (λ o. face_beside v f beyond (dart_above o) ≡ beyond) (sym (at.below_none along)) refl;
-    }
-
-    pub beyond_less : way_left v c next < way_left v c way
-    beyond_less = elim on.farther [
-      | inl e ↦ absurd (other (ap (λ o. face_beside v f a (dart_ahead o)) e ∙ at.beyond along))
-      | inr l ↦ omega arith
-    ]
+  pub beyond_less : (c : Course) (o p : Option Crossing) → b ≡ face_beside v f a (dart_ahead p) → (b ≡ a → ⊥) → IsBeyond v f c a o → IsFarther v c o p → darts_ahead v c p < darts_ahead v c o
+  beyond_less c o p e other k (inl same) = absurd (other (e ∙ ap (λ x. face_beside v f a (dart_ahead x)) same ∙ k.beyond))
+  beyond_less c o p e other k (inr l) = l
 
   -- ---- down along the vertical
-  module _ (other : face_beside v f a (dart_above out.lowest) ≡ a → ⊥) where
-    abbrev under : FaceId
-    under = face_beside v f a (dart_above out.lowest)
+  pub under_at : (q : Point) (p : Option EdgeAbove) → b ≡ face_beside v f a (dart_above p) → HasFace f b → IsAbove v q p → IsUnder v f q b p
+  under_at q p e has k = record { has = has; lowest = k; under = settled (dart_above p) e }
 
-    abbrev down : WayOut
-    down = record { along = false; ahead = way.ahead; lowest = out.lowest }
+  pub under_less : (q : Point) (o p : Option EdgeAbove) → b ≡ face_beside v f a (dart_above p) → (b ≡ a → ⊥) → IsUnder v f q a o → IsLowered v q o p → floor_in v q p < floor_in v q o
+  under_less q o p e other k (inl same) = absurd (other (e ∙ ap (λ x. face_beside v f a (dart_above x)) same ∙ k.under))
+  under_less q o p e other k (inr l) = l
 
-    pub under_at : HasFace f under → IsAtFace v f c under down
-    under_at has = record {
-      has = has;
-      way = record { ahead = at.way.ahead; lowest = on.way.lowest };
-      below_none = λ h. cc;
-      beyond = λ h. cc;
-      under = settled v f a (dart_above out.lowest);
-    }
-
-    pub under_less : way_left v c down < way_left v c way
-    under_less = elim on.lowered [
-      | inl e ↦ absurd (other (ap (λ o. face_beside v f a (dart_above o)) e ∙ at.under))
-      | inr l ↦ omega arith
-    ]
+-- the dart of a crossing has a record
+pub ahead_has : (v : View) (level : Line) (o : Option Crossing) → IsCrossing v level o → IfSome (dart_ahead o) (HasDart v)
+ahead_has v level None h = tt
+ahead_has v level (Some c) h = h.0
 
 -- ---- where the walk begins
 pub face_has : (v : View) (f : Faces) (p : Point) (a : FaceId) → IsSound v f → IsSpotOf v f p (Face a) → HasFace f a

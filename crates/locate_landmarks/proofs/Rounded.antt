@@ -19,14 +19,13 @@ use Rattle.locate_walk.specs.Rounds.{IsHighestRound}
 use Rattle.locate_walk.specs.declared.found.EdgeBelow.{EdgeBelow}
 use Rattle.locate_walk.specs.declared.passage.Compared.{Compared}
 use Rattle.locate_walk.proofs.Rounds.{seen_or_none}
-use Rattle.locate_landmarks.specs.Surveys.{IsWay, IsOnFrom, MaySurvey}
-use Rattle.locate_landmarks.specs.declared.course.Course.{Course}
+use Rattle.locate_landmarks.specs.Lowest.{IsAbove}
+use Rattle.locate_landmarks.specs.Surveys.{MaySurvey}
 use Rattle.locate_landmarks.specs.declared.survey.Survey.{Survey}
-use Rattle.locate_landmarks.proofs.Surveyed.{on_itself}
 
 -- a survey that has found nothing
-pub begun : (k : Survey) → IsSoundMap k.highest.glance.now → IsProper k.highest.point → k.course.now.point ≡ k.highest.point → k.highest.best ≡ None → k.highest.compared ≡ None → k.highest.hit ≡ None → IsWay k.highest.glance.now.graph k.course.now k.way → MaySurvey k.highest.glance.now.graph k k
-begun k map proper point best compared hit way =
+pub begun : (k : Survey) → IsSoundMap k.highest.glance.now → IsProper k.highest.point → k.highest.best ≡ None → k.highest.compared ≡ None → k.highest.hit ≡ None → IsAbove k.highest.glance.now.graph k.highest.point k.descent.lowest → MaySurvey k.highest.glance.now.graph k k
+begun k map proper best compared hit lowest =
     let v = k.highest.glance.now.graph in
     record {
       highest = record {
@@ -41,9 +40,8 @@ begun k map proper point best compared hit way =
         hit = subst (λ (o : Option Spot). IfSome o (IsSpotOf v (tables_of k.highest.glance.now) k.highest.point)) (sym hit) tt;
         raised = inl refl;
       };
-      course = refl;
-      point = point;
-      way = on_itself v k.course.now k.way way;
+      lowest = lowest;
+      lowered = inl refl;
     }
 
 -- the point is in the face that is the one over the highest edge
@@ -52,6 +50,3 @@ settled_here v f q a over best s Q r is e =
     let there : a ≡ face_above f (dart_of best) = sym e ∙ is in
     subst (λ (x : FaceId). IsSpotOf v f q (Face x)) (sym there)
     (walk_ends_in_face v f q (dart_of best) s Q (seen_or_none v q best r.below) (subst (IsBoundaryPassed v f q (dart_of best)) there r.passed))
-
-pub way_on : (v : View) (k l : Survey) → MaySurvey v k l → IsOnFrom v k.course.now k.way l.way
-way_on v k l m = subst (λ (c : Course). IsOnFrom v c k.way l.way) m.course m.way

@@ -20,13 +20,13 @@ use Rattle.locate_landmarks.specs.declared.crossing.Crossing.{Crossing}
 abbrev pub is_rising : Line → Line → Bool
 is_rising level l = is_lt (rise_cmp level l)
 
--- of two crossings at one point: falling lines before rising ones, and in each class by falling slopes
-abbrev pub fan_cmp : Line → Crossing → Crossing → Ordering
-fan_cmp level = then_cmp (on (λ (c : Crossing). is_rising level c.line) bool_cmp) (λ c d. rise_cmp d.line c.line)
+-- of two lines through one point: falling ones before rising ones, and in each class by falling slopes
+abbrev pub fan_cmp : Line → Line → Line → Ordering
+fan_cmp level = then_cmp (on (λ (l : Line). is_rising level l) bool_cmp) (λ l m. rise_cmp m l)
 
 -- in the order in which the horizontal, raised by less than any number, meets them from left to right (Fogel, Halperin and Wein: order along a curve)
 abbrev pub crossing_cmp : Line → Crossing → Crossing → Ordering
-crossing_cmp level = then_cmp (on (λ (c : Crossing). c.at) point_cmp) (fan_cmp level)
+crossing_cmp level = then_cmp (on (λ (c : Crossing). c.at) point_cmp) (on (λ (c : Crossing). c.line) (fan_cmp level))
 
 -- the second comes after the first on the way to the right, or to the left; each comes after none
 abbrev pub is_later : Line → Bool → Option Crossing → Crossing → Bool

@@ -2,8 +2,8 @@ pub mod Grid
 pub mod Crossings
 pub mod Floors
 pub mod Lowest
-pub mod Sightings
 pub mod Surveys
 pub mod Rounds
 pub mod Walks
+pub mod Horizontals
 pub mod Built

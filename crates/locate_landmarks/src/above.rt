@@ -2,14 +2,16 @@
 ghost use Rattle.std.specs.Prelude.{◌≡◌};
 ghost use Rattle.dcel_records.specs.SoundMaps.{IsSoundMap};
 ghost use Rattle.dcel_records.specs.RecordsView.{tables_of};
+ghost use Rattle.locate_walk.specs.Finds.{IsFoundAtDart};
+ghost use Rattle.locate_walk.specs.Passages.{IsPassage};
+ghost use Rattle.locate_walk.specs.declared.found.Found.TheVariants.{Past};
+ghost use Rattle.locate_landmarks.specs.Crossings.{IsDrawnLook};
 ghost use Rattle.locate_landmarks.specs.Lowest.{IsAbove, lower_edge};
-ghost use Rattle.locate_landmarks.specs.Sightings.{IsSighted};
 
-use crate::sighting::Sighted;
-use counted_looks::{Glance, NameCalls};
+use counted_looks::{Glance, Glimpse, NameCalls};
 use edges_below::is_above;
 use exact_plane::Span;
-use locate_walk::{Found, Passage, Query, span_between};
+use locate_walk::{Passage, Query, span_between};
 use slab_laws::DartId;
 
 /// An edge that a point sees above it, with its dart from the lower to the upper end.
@@ -23,24 +25,25 @@ pub struct EdgeAbove {
 pub fn edge_above(
     glance: &Glance,
     point: &Query,
-    sighted: &Sighted,
-    found: &Found,
+    dart: DartId,
+    looked: &Glimpse,
+    passage: Passage,
 ) -> Option<EdgeAbove>
     requires map { IsSoundMap glance.now }
-    requires sighted { IsSighted glance.now.graph (tables_of glance.now) point.now found.now sighted.now }
+    requires drawn { IsDrawnLook glance.now.graph dart looked.now }
+    requires passage { IsPassage looked.now.source point.now looked.now.target passage }
+    requires past { IsFoundAtDart glance.now.graph (tables_of glance.now) point.now dart Past }
     ensures { IsAbove glance.now.graph point.now result }
 {
     point.laws();
-    let looked = &sighted.looked;
-    let line = looked.line.unwrap();
-    match (found, sighted.passage) {
-        (Found::Past, Passage::Forward) => Some(EdgeAbove {
-            dart: sighted.dart,
-            edge: span_between(looked.source, looked.target, line),
+    match passage {
+        Passage::Forward => Some(EdgeAbove {
+            dart,
+            edge: span_between(looked.source(), looked.target(), looked.line()),
         }),
-        (Found::Past, Passage::Backward) => Some(EdgeAbove {
-            dart: glance.twin(sighted.dart),
-            edge: span_between(looked.target, looked.source, line),
+        Passage::Backward => Some(EdgeAbove {
+            dart: glance.twin(dart),
+            edge: span_between(looked.target(), looked.source(), looked.line()),
         }),
         _ => None,
     }

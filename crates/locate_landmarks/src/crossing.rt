@@ -1,12 +1,12 @@
 //! Where the edges of a face cross the horizontal of a landmark.
-ghost use Rattle.std.specs.Prelude.{◌≡◌, Some, IfSome};
+ghost use Rattle.std.specs.Prelude.{◌≡◌, true, Some, IfSome};
 ghost use Rattle.plane_graphs.specs.Line.{crossing};
 ghost use Rattle.slab_laws.specs.Sound.{IsGraphSound};
 ghost use Rattle.slab_laws.specs.View.{HasDart, line_in};
-ghost use Rattle.locate_landmarks.specs.Crossings.{is_rising, crossing_cmp, is_later, IsCrossing, IsDrawnLook};
+ghost use Rattle.locate_landmarks.specs.Crossings.{is_rising, fan_cmp, crossing_cmp, is_later, IsCrossing, IsDrawnLook};
 
 use crate::course::Course;
-use counted_looks::{Glance, Looked, NameCalls};
+use counted_looks::{Glance, Glimpse, NameCalls};
 use exact_plane::{Line, Meet, Point, Span, slope_order, span_meeting};
 use slab_laws::DartId;
 use std::cmp::Ordering;
@@ -26,18 +26,28 @@ fn is_rising(level: &Line, line: &Line) -> bool
     slope_order(level, line).is_lt()
 }
 
-// The order in which the horizontal, raised by less than any number, meets two edges from left to right. From one vertex on it the
-// falling edges come first, the flat ones before the steep ones, and then the rising ones, the steep ones first.
+// The order in which the raised horizontal meets two edges out of one vertex on it from left to right: the falling ones come first, the
+// flat ones before the steep ones, and then the rising ones, the steep ones first.
+fn order_in_fan(level: &Line, first: &Line, second: &Line) -> Ordering
+    ensures { result ≡ fan_cmp level.now first.now second.now }
+{
+    is_rising(level, first)
+        .cmp(&is_rising(level, second))
+        .then(slope_order(second, first))
+}
+
+// The order in which the horizontal, raised by less than any number, meets two edges from left to right.
 fn order_along(level: &Line, first: &Crossing, second: &Crossing) -> Ordering
     ensures { result ≡ crossing_cmp level.now first.now second.now }
 {
-    let fan = is_rising(level, &first.line).cmp(&is_rising(level, &second.line));
-    let steep_first = slope_order(&second.line, &first.line);
-    first.at.cmp(&second.at).then(fan.then(steep_first))
+    match first.at.cmp(&second.at) {
+        Ordering::Equal => order_in_fan(level, &first.line, &second.line),
+        order => order,
+    }
 }
 
-/// Whether a crossing comes after another one on the way, as each does after none.
-pub fn is_later(course: &Course, last: &Option<Crossing>, crossing: &Crossing) -> bool
+// Whether a crossing comes after another one on the way, as each does after none.
+fn is_later(course: &Course, last: &Option<Crossing>, crossing: &Crossing) -> bool
     ensures { result ≡ is_later course.now.level.line course.now.eastward last.now crossing.now }
 {
     let level = course.level.line();
@@ -54,20 +64,21 @@ pub fn is_later(course: &Course, last: &Option<Crossing>, crossing: &Crossing) -
 }
 
 // The edge of a dart that was looked at.
-fn span_of_look(looked: &Looked, line: &Line) -> Span
+fn span_of_look(looked: &Glimpse, line: &Line) -> Span
     requires look { (v : _) × (d : _) × IsDrawnLook v d looked.now }
     requires line { looked.now.line ≡ Some line.now }
     ensures { result.line ≡ line.now }
 {
-    if looked.source < looked.target {
-        Span::new(looked.source, looked.target, *line).unwrap()
+    let (source, target) = (looked.source(), looked.target());
+    if source < target {
+        Span::new(source, target, *line).unwrap()
     } else {
-        Span::new(looked.target, looked.source, *line).unwrap()
+        Span::new(target, source, *line).unwrap()
     }
 }
 
 // Where the edge of a dart that was looked at meets the horizontal; one that is level crosses it nowhere.
-fn point_on_level(level: &Span, looked: &Looked, line: &Line) -> Option<Point>
+fn point_on_level(level: &Span, looked: &Glimpse, line: &Line) -> Option<Point>
     requires look { (v : _) × (d : _) × IsDrawnLook v d looked.now }
     requires line { looked.now.line ≡ Some line.now }
     ensures { (v : _) (d : _) → IsDrawnLook v d looked.now → IfSome result (λ p. p ≡ crossing level.now.line (line_in v d)) }
@@ -92,27 +103,44 @@ fn dart_towards(glance: &Glance, dart: DartId, itself: bool) -> DartId
     if itself { dart } else { glance.twin(dart) }
 }
 
-/// Where the edge of a dart that was looked at crosses the horizontal, on the way from the landmark to the vertical of the point.
-pub fn crossing_of(
+// Where the edge of a dart that was looked at crosses the horizontal, on the way from the landmark to the vertical of the point. Its
+// ends are on different sides, and `rises` tells whether the target is above.
+fn crossing_of(
     glance: &Glance,
     course: &Course,
     dart: DartId,
-    looked: &Looked,
+    looked: &Glimpse,
+    rises: bool,
 ) -> Option<Crossing>
     requires look { IsDrawnLook glance.now.graph dart looked.now }
     ensures { IsCrossing glance.now.graph course.now.level.line result }
 {
-    let rises = course.is_above(&looked.target);
-    if course.is_above(&looked.source) == rises {
-        return None;
-    }
-    let line = looked.line.unwrap();
+    let line = looked.line();
     match point_on_level(&course.level, looked, &line) {
         Some(at) if course.has(&at) => Some(Crossing {
             dart: dart_towards(glance, dart, rises == course.eastward),
             at,
             line,
         }),
+        _ => None,
+    }
+}
+
+/// The same, where it comes after the last crossing so far.
+pub fn later_crossing(
+    glance: &Glance,
+    course: &Course,
+    dart: DartId,
+    looked: &Glimpse,
+    rises: bool,
+    last: &Option<Crossing>,
+) -> Option<Crossing>
+    requires look { IsDrawnLook glance.now.graph dart looked.now }
+    ensures crossing { IsCrossing glance.now.graph course.now.level.line result }
+    ensures later { IfSome result (λ c. is_later course.now.level.line course.now.eastward last.now c ≡ true) }
+{
+    match crossing_of(glance, course, dart, looked, rises) {
+        Some(crossing) if is_later(course, last, &crossing) => Some(crossing),
         _ => None,
     }
 }

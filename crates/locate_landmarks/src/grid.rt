@@ -11,8 +11,8 @@ pub(crate) const LANDMARKS_IN_ROW: usize = 7;
 /// How many landmarks there are.
 pub(crate) const LANDMARKS: usize = 49;
 
-// The abscissa of a column of the grid, and the ordinate of a row.
-fn grid_number(index: usize) -> i64
+/// The abscissa of a column of the grid, and the ordinate of a row.
+pub(crate) fn grid_number(index: usize) -> i64
     requires { index < 7 }
     ensures { result ≡ grid_number index }
 {

@@ -4,13 +4,15 @@ ghost use Rattle.slab_laws.specs.View.{HasFace};
 ghost use Rattle.counted_looks.specs.Boundaries.{boundary_size};
 ghost use Rattle.dcel_records.specs.RecordsView.{tables_of};
 ghost use Rattle.dcel_records.specs.SoundMaps.{IsSoundMap};
+ghost use Rattle.locate_landmarks.specs.Lowest.{IsAbove};
 ghost use Rattle.locate_landmarks.specs.Rounds.{IsRound};
-ghost use Rattle.locate_landmarks.specs.Surveys.{IsWay};
 
-use crate::course::Course;
-use crate::survey::{Survey, WayOut};
+use crate::above::EdgeAbove;
+use crate::descent::Descent;
+use crate::survey::Survey;
 use counted_looks::{Glance, look_at_boundary};
 use dcel_records::Spot;
+use exact_plane::Point;
 use locate_walk::{EdgeBelow, Highest, Query, face_over};
 use slab_laws::FaceId;
 use std::sync::ledger::Ledger;
@@ -21,41 +23,40 @@ use work_steps::Steps;
 pub enum Round {
     /// Where the point lies: at a vertex, inside an edge, or in this face.
     At(Spot),
-    /// It isn't there; the highest edge below it on the boundary, and the way out.
-    Out(Option<EdgeBelow>, WayOut),
+    /// It isn't there; the highest edge below it on the boundary, and the lowest edge above it so far.
+    Out(Option<EdgeBelow>, Option<EdgeAbove>),
 }
 
 /// Looks at the boundary of a face once round. The point lies in it where the face is that over the highest edge below the point.
 pub fn look_round<L: Ledger>(
     glance: &Glance,
     face: FaceId,
-    course: &Course,
-    way: &WayOut,
+    point: &Point,
+    descent: &Descent,
     steps: &mut Steps<L>,
 ) -> Round
     requires map { IsSoundMap glance.now }
     requires face { HasFace (tables_of glance.now) face }
-    requires way { IsWay glance.now.graph course.now way.now }
-    ensures round { IsRound glance.now.graph (tables_of glance.now) course.now way.now result }
+    requires lowest { IsAbove glance.now.graph point.now descent.now.lowest }
+    ensures round { IsRound glance.now.graph (tables_of glance.now) point.now descent.now.lowest result }
     ensures count { steps.new ≤ steps.old + boundary_size glance.now.graph (tables_of glance.now) face }
 {
-    course.point.laws();
+    point.laws();
     // This tells that each face lists what is on its boundary.
     glance.laws();
     let mut survey = Survey {
         highest: Highest {
             glance,
             face,
-            point: Query::of(&course.point.point()),
+            point: Query::of(point),
             hit: None,
             best: None,
             compared: None,
         },
-        course,
-        way: *way,
+        descent: *descent,
     };
     look_at_boundary(&mut survey, glance, face, steps);
-    let out = survey.way;
+    let lowest = survey.descent.lowest;
     let highest = survey.highest;
     match highest.hit {
         Some(spot) => Round::At(spot),
@@ -63,7 +64,7 @@ pub fn look_round<L: Ledger>(
             if face_over(glance, &highest.best) == face {
                 return Round::At(Spot::Face(face));
             }
-            Round::Out(highest.best, out)
+            Round::Out(highest.best, lowest)
         }
     }
 }

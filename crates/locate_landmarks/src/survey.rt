@@ -1,98 +1,82 @@
 //! The look at a face's boundary for a query.
+ghost use Rattle.std.specs.Prelude.{◌≡◌, ◌+◌};
+ghost use Rattle.slab_laws.specs.View.{HasDart, HasVertex};
+ghost use Rattle.counted_looks.specs.declared.boundary_part.BoundaryPart.TheVariants.{Dart, Isolated};
 ghost use Rattle.dcel_records.specs.RecordsView.{tables_of};
 ghost use Rattle.dcel_records.specs.SoundMaps.{IsSoundMap};
-ghost use Rattle.locate_landmarks.specs.Crossings.{IsCrossing, IsDrawnLook};
+ghost use Rattle.locate_walk.specs.Finds.{IsFound};
+ghost use Rattle.locate_walk.specs.Passages.{IsComparedOrNone};
 ghost use Rattle.locate_landmarks.specs.Lowest.{IsAbove, IsLowered};
-ghost use Rattle.locate_landmarks.specs.Sightings.{IsSighted};
-ghost use Rattle.locate_landmarks.specs.Surveys.{IsFarther, IsWayFrom};
 
-use crate::above::{EdgeAbove, edge_above, lower};
-use crate::course::Course;
-use crate::crossing::{Crossing, crossing_of, is_later};
-use crate::sighting::{Sighted, sight};
+use crate::descent::Descent;
 use counted_looks::{BoundaryPart, Glance, Looker};
-use locate_walk::{Found, Highest};
+use dcel_records::Spot;
+use locate_walk::{Compared, Found, Highest, Query, found_at_dart, is_told_at_twin, passage_of};
+use slab_laws::{DartId, FaceId, VertexId};
 use std::sync::ledger::Ledger;
 use work_steps::Steps;
 
-/// The way out of a face: the last crossing of its boundary with the horizontal before the vertical of the point, which leads out of
-/// the face or back into it, and the lowest edge on the boundary above the point.
-#[derive(Clone, Copy)]
-pub struct WayOut {
-    /// Whether crossings are looked for; on the way along the vertical they aren't.
-    pub along: bool,
-    pub ahead: Option<Crossing>,
-    pub lowest: Option<EdgeAbove>,
-}
-
 /// What looks at the boundary of a face find for a query: where the point is, once it was met, and until then the highest edge below it,
-/// and the way out of the face.
+/// and the lowest one above it.
 #[derive(Drop)]
 pub struct Survey<'a, 'r> {
     pub highest: Highest<'a, 'r>,
-    pub course: &'a Course,
-    pub way: WayOut,
+    pub descent: Descent,
 }
 
-// The last crossing, once a dart was looked at too.
-fn ahead_past(glance: &Glance, course: &Course, way: &WayOut, sighted: &Sighted) -> Option<Crossing>
-    requires { IsDrawnLook glance.now.graph sighted.now.dart sighted.now.looked }
-    ensures { IsCrossing glance.now.graph course.now.level.line way.now.ahead → IsCrossing glance.now.graph course.now.level.line result × IsFarther glance.now.graph course.now way.now.ahead result }
-{
-    if !way.along {
-        return way.ahead;
-    }
-    match crossing_of(glance, course, sighted.dart, &sighted.looked) {
-        Some(crossing) => {
-            if is_later(course, &way.ahead, &crossing) {
-                Some(crossing)
-            } else {
-                way.ahead
-            }
-        }
-        None => way.ahead,
-    }
-}
-
-// The lowest edge above the point, once a dart was looked at too; on the way up none is looked for.
-fn lowest_past(
+// One look at a dart. An edge that spans the point, of which both darts are there, is told at one of them. The lowest edge above the
+// point is kept, and how the vertex that was compared last lies to it.
+#[inline(always)]
+fn find_at_dart<L: Ledger>(
     glance: &Glance,
-    course: &Course,
-    way: &WayOut,
-    sighted: &Sighted,
-    found: &Found,
-) -> Option<EdgeAbove>
+    face: FaceId,
+    dart: DartId,
+    point: &Query,
+    last: &mut Option<Compared>,
+    descent: &mut Descent,
+    steps: &mut Steps<L>,
+) -> Found
     requires map { IsSoundMap glance.now }
-    requires sighted { IsSighted glance.now.graph (tables_of glance.now) course.now.point found.now sighted.now }
-    ensures { IsAbove glance.now.graph course.now.point way.now.lowest → IsAbove glance.now.graph course.now.point result × IsLowered glance.now.graph course.now.point way.now.lowest result }
+    requires dart { HasDart glance.now.graph dart }
+    requires last { IsComparedOrNone glance.now.graph point.now last.old }
+    requires lowest { IsAbove glance.now.graph point.now descent.old.lowest }
+    ensures found { IsFound glance.now.graph (tables_of glance.now) point.now face (Dart dart) result }
+    ensures last { IsComparedOrNone glance.now.graph point.now last.new }
+    ensures lowest { IsAbove glance.now.graph point.now descent.new.lowest }
+    ensures lowered { IsLowered glance.now.graph point.now descent.old.lowest descent.new.lowest }
+    ensures one { steps.new ≡ steps.old + 1 }
 {
-    course.point.laws();
-    if !course.downward {
-        return way.lowest;
+    let looked = glance.glimpse(dart, steps);
+    let passage = passage_of(glance, dart, &looked, point, last);
+    if !passage.spans() {
+        return found_at_dart(glance, dart, &looked, point, passage);
     }
-    match edge_above(glance, &course.point, sighted, found) {
-        Some(edge) => Some(lower(way.lowest, edge)),
-        None => way.lowest,
+    if is_told_at_twin(glance, face, dart) {
+        return Found::Past;
     }
+    let found = found_at_dart(glance, dart, &looked, point, passage);
+    if matches!(found, Found::Past) {
+        descent.pass(glance, point, dart, &looked, passage);
+    }
+    found
 }
 
-// The way out, once a dart was looked at too.
-fn way_past(
+// One look at an isolated vertex.
+fn find_at_vertex<L: Ledger>(
     glance: &Glance,
-    course: &Course,
-    way: &WayOut,
-    sighted: &Sighted,
-    found: &Found,
-) -> WayOut
-    requires map { IsSoundMap glance.now }
-    requires sighted { IsSighted glance.now.graph (tables_of glance.now) course.now.point found.now sighted.now }
-    ensures { IsWayFrom glance.now.graph course.now way.now result }
+    vertex: VertexId,
+    point: &Query,
+    steps: &mut Steps<L>,
+) -> Found
+    requires vertex { HasVertex glance.now.graph vertex }
+    ensures found { (a : _) → IsFound glance.now.graph (tables_of glance.now) point.now a (Isolated vertex) result }
+    ensures one { steps.new ≡ steps.old + 1 }
 {
-    WayOut {
-        along: way.along,
-        ahead: ahead_past(glance, course, way, sighted),
-        lowest: lowest_past(glance, course, way, sighted, found),
+    let looked = glance.look(Spot::Vertex(vertex), steps);
+    if looked.source == point.point() {
+        return Found::At(Spot::Vertex(vertex));
     }
+    Found::Past
 }
 
 impl<'a, 'r> Looker<Glance<'r>> for Survey<'a, 'r> {
@@ -109,17 +93,26 @@ impl<'a, 'r> Looker<Glance<'r>> for Survey<'a, 'r> {
             return;
         }
         let glance = self.highest.glance;
-        let course = self.course;
         let face = self.highest.face;
-        let mut compared = self.highest.compared;
-        let sighting = sight(glance, face, at, course, &mut compared, steps);
-        let found = sighting.found;
-        let dart = sighting.dart;
-        self.highest.compared = compared;
-        self.highest.take(found);
-        if let Some(sighted) = dart {
-            let way = self.way;
-            self.way = way_past(glance, course, &way, &sighted, &found);
+        match at {
+            BoundaryPart::Dart(dart) => {
+                let mut compared = self.highest.compared;
+                let found = find_at_dart(
+                    glance,
+                    face,
+                    dart,
+                    &self.highest.point,
+                    &mut compared,
+                    &mut self.descent,
+                    steps,
+                );
+                self.highest.compared = compared;
+                self.highest.take(found);
+            }
+            BoundaryPart::Isolated(vertex) => {
+                let found = find_at_vertex(glance, vertex, &self.highest.point, steps);
+                self.highest.take(found);
+            }
         }
     }
 }

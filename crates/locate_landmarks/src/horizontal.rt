@@ -1,0 +1,124 @@
+//! The way along the horizontal of a landmark, from face to face.
+ghost use Rattle.std.specs.Prelude.{◌≡◌};
+ghost use Rattle.slab_laws.specs.View.{HasFace};
+ghost use Rattle.dcel_records.specs.RecordsView.{tables_of};
+ghost use Rattle.dcel_records.specs.SoundMaps.{IsSoundMap};
+ghost use Rattle.locate_landmarks.specs.Walks.{dart_ahead};
+
+use crate::course::Course;
+use crate::crossing::{Crossing, later_crossing};
+use crate::faces::{dart_across, face_beside, is_dart};
+use counted_looks::{BoundaryPart, Glance, Glimpse, Looker, NameCalls, look_at_boundary};
+use slab_laws::{DartId, FaceId, VertexId};
+use std::sync::ledger::Ledger;
+use work_steps::Steps;
+
+/// On which side of the horizontal a vertex lies.
+#[derive(Clone, Copy)]
+pub struct Sided {
+    pub vertex: VertexId,
+    pub is_above: bool,
+}
+
+/// What looks at the boundary of a face find along the horizontal: the last crossing with it before the vertical of the point, which
+/// leads out of the face or back into it.
+#[derive(Drop)]
+pub struct Ahead<'a> {
+    pub course: &'a Course,
+    pub last: Option<Crossing>,
+    /// The dart by which the way came into the face. It isn't looked at again, since the way goes on from there.
+    pub entry: Option<DartId>,
+    /// The vertex that was compared with the horizontal last, since the next dart on a cycle starts there.
+    pub sided: Option<Sided>,
+}
+
+// On which side of the horizontal the source of a dart lies, as was kept of it, or by a comparison.
+#[inline(always)]
+fn is_source_above(
+    course: &Course,
+    vertex: VertexId,
+    looked: &Glimpse,
+    sided: Option<Sided>,
+) -> bool {
+    if let Some(kept) = sided {
+        if kept.vertex == vertex {
+            return kept.is_above;
+        }
+    }
+    course.is_above(&looked.source())
+}
+
+impl<'a, 'r> Looker<Glance<'r>> for Ahead<'a> {
+    ghost use Rattle.locate_landmarks.specs.Horizontals.{MayPass, HasPassed};
+
+    ghost may_look = { MayPass };
+
+    ghost has_seen = { HasPassed };
+
+    // Nearly no edge crosses the horizontal, and then no more is read of it than its target.
+    fn look<L: Ledger>(&mut self, sight: &Glance<'r>, at: BoundaryPart, steps: &mut Steps<L>) {
+        let dart = match at {
+            BoundaryPart::Dart(dart) => dart,
+            BoundaryPart::Isolated(_) => {
+                steps.tick();
+                return;
+            }
+        };
+        let course = self.course;
+        let looked = sight.glimpse(dart, steps);
+        let from_above = is_source_above(course, sight.source(dart), &looked, self.sided);
+        let rises = course.is_above(&looked.target());
+        self.sided = Some(Sided {
+            vertex: sight.target(dart),
+            is_above: rises,
+        });
+        if from_above == rises || is_dart(self.entry, dart) {
+            return;
+        }
+        if let Some(crossing) = later_crossing(sight, course, dart, &looked, rises, &self.last) {
+            self.last = Some(crossing);
+        }
+    }
+}
+
+fn dart_ahead(last: &Option<Crossing>) -> Option<DartId>
+    ensures { result ≡ dart_ahead last.now }
+{
+    match last {
+        Some(crossing) => Some(crossing.dart),
+        None => None,
+    }
+}
+
+/// The face in which the way along the horizontal ends, from any face. It leaves each face at the last of its crossings with the
+/// horizontal before the vertical of the point, and ends where that leads into no other face.
+pub fn go_along<L: Ledger>(
+    glance: &Glance,
+    first: FaceId,
+    course: &Course,
+    steps: &mut Steps<L>,
+) -> FaceId
+    requires map { IsSoundMap glance.now }
+    requires first { HasFace (tables_of glance.now) first }
+    ensures { HasFace (tables_of glance.now) result }
+{
+    // This tells that each face lists what is on its boundary.
+    glance.laws();
+    let mut face = first;
+    let mut ahead = Ahead {
+        course,
+        last: None,
+        entry: None,
+        sided: None,
+    };
+    'faces: loop {
+        look_at_boundary(&mut ahead, glance, face, steps);
+        let dart = dart_ahead(&ahead.last);
+        let beyond = face_beside(glance, face, dart);
+        if beyond == face {
+            return face;
+        }
+        face = beyond;
+        ahead.entry = dart_across(glance, dart);
+    }
+}
