@@ -25,20 +25,20 @@ module _ (v : View) (f : Faces) (a b : FaceId) where
   settled (Some d) e = sym e
 
   -- ---- along the horizontal
-  pub beyond_at : (c : Course) (p : Option Crossing) → b ≡ face_beside v f a (dart_ahead p) → HasFace f b → IsCrossing v c.level.line p → IsBeyond v f c b p
-  beyond_at c p e has k = record { has = has; last = k; beyond = settled (dart_ahead p) e }
+  pub beyond_at : (c : Course) (p : Option Crossing) (d : Option DartId) → d ≡ dart_ahead p → b ≡ face_beside v f a d → HasFace f b → IsCrossing v c.level.line p → IsBeyond v f c b p
+  beyond_at c p d i e has k = record { has = has; last = k; beyond = settled (dart_ahead p) (e ∙ ap (face_beside v f a) i) }
 
-  pub beyond_less : (c : Course) (o p : Option Crossing) → b ≡ face_beside v f a (dart_ahead p) → (b ≡ a → ⊥) → IsBeyond v f c a o → IsFarther v c o p → darts_ahead v c p < darts_ahead v c o
-  beyond_less c o p e other k (inl same) = absurd (other (e ∙ ap (λ x. face_beside v f a (dart_ahead x)) same ∙ k.beyond))
-  beyond_less c o p e other k (inr l) = l
+  pub beyond_less : (c : Course) (o p : Option Crossing) (d : Option DartId) → d ≡ dart_ahead p → b ≡ face_beside v f a d → (b ≡ a → ⊥) → IsBeyond v f c a o → IsFarther v c o p → darts_ahead v c p < darts_ahead v c o
+  beyond_less c o p d i e other k (inl same) = absurd (other (e ∙ ap (face_beside v f a) (i ∙ ap dart_ahead same) ∙ k.beyond))
+  beyond_less c o p d i e other k (inr l) = l
 
   -- ---- down along the vertical
-  pub under_at : (q : Point) (p : Option EdgeAbove) → b ≡ face_beside v f a (dart_above p) → HasFace f b → IsAbove v q p → IsUnder v f q b p
-  under_at q p e has k = record { has = has; lowest = k; under = settled (dart_above p) e }
+  pub under_at : (q : Point) (p : Option EdgeAbove) (d : Option DartId) → d ≡ dart_above p → b ≡ face_beside v f a d → HasFace f b → IsAbove v q p → IsUnder v f q b p
+  under_at q p d i e has k = record { has = has; lowest = k; under = settled (dart_above p) (e ∙ ap (face_beside v f a) i) }
 
-  pub under_less : (q : Point) (o p : Option EdgeAbove) → b ≡ face_beside v f a (dart_above p) → (b ≡ a → ⊥) → IsUnder v f q a o → IsLowered v q o p → floor_in v q p < floor_in v q o
-  under_less q o p e other k (inl same) = absurd (other (e ∙ ap (λ x. face_beside v f a (dart_above x)) same ∙ k.under))
-  under_less q o p e other k (inr l) = l
+  pub under_less : (q : Point) (o p : Option EdgeAbove) (d : Option DartId) → d ≡ dart_above p → b ≡ face_beside v f a d → (b ≡ a → ⊥) → IsUnder v f q a o → IsLowered v q o p → floor_in v q p < floor_in v q o
+  under_less q o p d i e other k (inl same) = absurd (other (e ∙ ap (face_beside v f a) (i ∙ ap dart_above same) ∙ k.under))
+  under_less q o p d i e other k (inr l) = l
 
 -- the dart of a crossing has a record
 pub ahead_has : (v : View) (level : Line) (o : Option Crossing) → IsCrossing v level o → IfSome (dart_ahead o) (HasDart v)

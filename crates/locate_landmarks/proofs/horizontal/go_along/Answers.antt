@@ -5,7 +5,6 @@ use Rattle.slab_laws.specs.declared.names.DartId.{DartId}
 use Rattle.slab_laws.specs.declared.names.FaceId.{FaceId}
 use Rattle.slab_laws.specs.View.{HasDart}
 use Rattle.dcel_records.specs.RecordsView.{tables_of}
-use Rattle.locate_landmarks.specs.Walks.{face_beside}
 use Rattle.locate_landmarks.proofs.OnWay.{ahead_has, beyond_at, beyond_less}
 use Rattle.locate_landmarks.proofs.Passed.{begun, passed}
 use Rattle.locate_landmarks.proofs.horizontal.go_along.Goals as goal
@@ -36,7 +35,7 @@ faces-smaller g c =
     let k = c.faces.ahead in
     let l = c.look_at_boundary.new.looker in
     let p = passed v c.args.course.now k l c.faces.invariant.1 (c.look_at_boundary.ensures.ready k (begun v c.args.course.now k c.requires.map.sound.graph c.faces.invariant.0.last c.faces.invariant.1)) in
-    beyond_less v f c.faces.face c.face_beside-beyond.result c.args.course.now k.last l.last (c.face_beside-beyond.ensures.beside ∙ ap (face_beside v f c.faces.face) c.dart_ahead-dart.ensures)
+    beyond_less v f c.faces.face c.face_beside-beyond.result c.args.course.now k.last l.last c.dart_ahead-dart.result c.dart_ahead-dart.ensures c.face_beside-beyond.ensures.beside
     (λ e. false≢true (sym c.if-eq.false ∙ c.eq.ensures ∙ eq-eqb c.face_beside-beyond.result.0 c.faces.face.0 (ap (λ (x : FaceId). x.0) e))) c.faces.invariant.0 p.1
 
 pub faces-preserved : goal.faces-preserved
@@ -46,4 +45,4 @@ faces-preserved g c =
     let k = c.faces.ahead in
     let l = c.look_at_boundary.new.looker in
     let p = passed v c.args.course.now k l c.faces.invariant.1 (c.look_at_boundary.ensures.ready k (begun v c.args.course.now k c.requires.map.sound.graph c.faces.invariant.0.last c.faces.invariant.1)) in
-    (beyond_at v f c.faces.face c.face_beside-beyond.result c.args.course.now l.last (c.face_beside-beyond.ensures.beside ∙ ap (face_beside v f c.faces.face) c.dart_ahead-dart.ensures) c.face_beside-beyond.ensures.has p.0, p.2)
+    (beyond_at v f c.faces.face c.face_beside-beyond.result c.args.course.now l.last c.dart_ahead-dart.result c.dart_ahead-dart.ensures c.face_beside-beyond.ensures.beside c.face_beside-beyond.ensures.has p.0, p.2)
