@@ -7,3 +7,4 @@ pub mod OnWay
 pub mod Filled
 pub mod Rounded
 pub mod Columns
+pub mod Corners

@@ -33,6 +33,13 @@ fn narrow(number: i128) -> i64
     number as i64
 }
 
+// A number of 64 bits in 128.
+fn wide(number: i64) -> i128
+    ensures { result ≡ number }
+{
+    number as i128
+}
+
 // A whole number over a weight.
 fn numerator(number: i64, w: i64) -> i64
     requires number { unsigned_abs number ≤ MAX_COORDINATE }
@@ -52,11 +59,12 @@ impl Ordinate {
         }
     }
 
-    // The point of the horizontal at the abscissa of another point. It is in the plane; nothing rests on that.
+    // The point of the horizontal at the abscissa of another point.
     fn corner(&self, point: &Point) -> Point {
         point.laws();
-        let y = numerator(self.number, narrow(point.w()));
-        Point::new(point.x(), y as i128, point.w()).unwrap_or(*point)
+        let w = point.w();
+        let y = wide(numerator(self.number, narrow(w)));
+        Point::new(point.x(), y, w).unwrap()
     }
 
     // Whether a point is above it: one product in 64 bits tells.
