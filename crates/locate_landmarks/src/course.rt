@@ -1,9 +1,9 @@
 //! The way of a query from its landmark: along the horizontal to its own abscissa, then along the vertical.
 ghost use Rattle.std.specs.Prelude.{◌≡◌, ◌<◌, ◌≤◌, ◌*ℤ◌, unsigned_abs};
-ghost use Rattle.exact_plane.specs.declared.bounds.TheConstants.{MAX_COORDINATE, WEIGHT_LIMIT, NUMERATOR_LIMIT};
+ghost use Rattle.exact_plane.specs.declared.bounds.TheConstants.{MAX_COORDINATE, WEIGHT_LIMIT};
 
 use crate::grid::{grid_number, landmark_at, level_of_row, row_of};
-use exact_plane::{Line, Point};
+use exact_plane::{Line, Point, narrow};
 use locate_walk::Query;
 use std::cmp::Ordering;
 use std::marker::Model;
@@ -23,14 +23,6 @@ impl Model for Ordinate {
     ghost view = { λ o. o.number };
 
     ghost invariant = { λ o. unsigned_abs o.number ≤ MAX_COORDINATE };
-}
-
-// A number of a point in 64 bits.
-fn narrow(number: i128) -> i64
-    requires { unsigned_abs number < NUMERATOR_LIMIT }
-    ensures { result ≡ number }
-{
-    number as i64
 }
 
 // A number of 64 bits in 128.
