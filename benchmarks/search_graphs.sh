@@ -4,8 +4,8 @@
 #   benchmarks/search_graphs.sh [PROGRAM]
 #
 # Builds the program in benchmarks/search_graphs/ over copies of the crates, or takes one that was built before. Each line has the
-# edges of the map, the nodes of its graph, nodes an edge, the depth, thousands of instructions an edge of a build, by callgrind (three
-# builds less one, halved), and the kilobytes that the heap holds more at most with the build than without it, by massif.
+# edges of the map, the nodes of its graph, nodes an edge, the depth, the milliseconds of processor time of a build (eleven builds less
+# one, by ten, the least of five runs), and the kilobytes that the process holds more at most with a build than without one.
 set -eu
 cd "$(dirname "$0")/.."
 folder=$(mktemp -d)
@@ -41,21 +41,40 @@ if [ -z "$program" ]; then
   program=$own/out/search_graphs
 fi
 
-instructions() {
-  valgrind --tool=callgrind --callgrind-out-file=/dev/null "$program" < "$1" 2>&1 > /dev/null | sed -n 's/.*Collected : //p'
-}
-heap() {
-  valgrind --tool=massif --massif-out-file="$folder/heap" "$program" < "$1" > /dev/null 2>&1
-  sed -n 's/^mem_heap_B=//p' "$folder/heap" | sort -n | tail -n 1
-}
-for kind in $(python3 benchmarks/search_graphs.py); do
-  python3 benchmarks/search_graphs.py "$kind" > "$folder/layer"
-  (cat "$folder/layer"; echo 'build 1') > "$folder/once"
-  (cat "$folder/layer"; echo 'build 3') > "$folder/thrice"
-  read -r edges nodes depth <<< "$("$program" < "$folder/once")"
-  once=$(instructions "$folder/once")
-  thrice=$(instructions "$folder/thrice")
-  more=$(($(heap "$folder/once") - $(heap "$folder/layer")))
-  echo "$kind $edges $nodes $depth $(((thrice - once) / 2)) $more" |
-    awk '{ printf "%s: %d edges, %d nodes, %.1f an edge, depth %d, %.1f thousand instructions an edge, %d kB\n", $1, $2, $3, $3 / $2, $4, $5 / $2 / 1000, $6 / 1000 }'
-done
+python3 - "$program" <<'PYTHON'
+import os
+import subprocess
+import sys
+
+sys.dont_write_bytecode = True
+sys.path.insert(0, 'benchmarks')
+from search_graphs import KINDS
+
+program = sys.argv[1]
+
+
+def run(lines, rounds):
+    """What it writes, its processor time in milliseconds, and the most kilobytes that it held."""
+    ran = subprocess.Popen([program], stdin=subprocess.PIPE, stdout=subprocess.PIPE)
+    ran.stdin.write('\n'.join(lines + ['build %d' % rounds, '']).encode())
+    ran.stdin.flush()
+    written = ran.stdout.readline().decode()
+    with open('/proc/%d/status' % ran.pid) as status: # (what wait4 tells counts this script's own memory in)
+        held = next(int(line.split()[1]) for line in status if line.startswith('VmHWM'))
+    ran.stdin.close()
+    _, ended, used = os.wait4(ran.pid, 0)
+    if ended:
+        sys.exit('search_graphs.sh: the program ended with %d' % ended)
+    return written, 1000 * used.ru_utime, held
+
+
+for kind, (make, size) in KINDS.items():
+    lines = ['segment %d %d %d %d' % ends for ends in make(size)]
+    without = min(run(lines, 0)[2] for _ in range(3))
+    ran = [run(lines, 1) for _ in range(5)]
+    more = [run(lines, 11) for _ in range(5)]
+    edges, nodes, depth = map(int, ran[0][0].split())
+    each = (min(time for _, time, _ in more) - min(time for _, time, _ in ran)) / 10
+    held = min(held for _, _, held in ran) - without
+    print('%s: %d edges, %d nodes, %.1f an edge, depth %d, %.1f ms, %d kB' % (kind, edges, nodes, nodes / edges, depth, each, held), flush=True)
+PYTHON
