@@ -12,6 +12,7 @@ mod darts;
 mod face_links;
 mod face_steps;
 mod faces;
+mod fading;
 mod fill;
 mod fill_faces;
 mod links;
@@ -22,4 +23,5 @@ mod reading;
 mod seen;
 mod tables;
 
+pub use fading::Fading;
 pub use mirror::Mirror;
