@@ -19,6 +19,7 @@ mod links;
 mod mirror;
 mod moves;
 mod orbits;
+mod outs;
 mod reading;
 mod seen;
 mod tables;
