@@ -1,9 +1,5 @@
 pub mod Nearest
 pub mod Floors
-pub mod Orders
-pub mod OnLevel
-pub mod Crossed
-pub mod Passed
 pub mod SeenAbove
 pub mod Lowered
 pub mod Surveyed

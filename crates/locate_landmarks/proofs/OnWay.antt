@@ -1,36 +1,23 @@
 -- From face to face on the way: what is left of it gets less.
 use Rattle.std.proofs.Common.{◌≡◌, ◌<◌, refl, sym, ap, ◌∙◌, inl, inr, subst}
-use Rattle.std.specs.Prelude.{Option, Some, None, IfSome}
-use Rattle.exact_plane.specs.Line.{Line}
+use Rattle.std.specs.Prelude.{Option, Some, None}
 use Rattle.exact_plane.specs.Point.{Point}
 use Rattle.slab_laws.specs.declared.names.DartId.{DartId}
 use Rattle.slab_laws.specs.declared.names.FaceId.{FaceId}
 use Rattle.slab_laws.specs.FacesSound.{IsSound}
-use Rattle.slab_laws.specs.View.{View, Faces, HasDart, HasFace}
+use Rattle.slab_laws.specs.View.{View, Faces, HasFace}
 use Rattle.dcel_records.specs.declared.spot.Spot.TheVariants.{Face}
 use Rattle.face_changes.proofs.FacesByPairs.{has_name, told_by_pairs}
 use Rattle.face_location.specs.Spots.{IsSpotOf}
-use Rattle.locate_landmarks.specs.Horizontals.{IsFarther, IsBeyond, darts_ahead}
 use Rattle.locate_landmarks.specs.Lowest.{IsAbove, IsLowered, floor_in}
-use Rattle.locate_landmarks.specs.Crossings.{IsCrossing}
-use Rattle.locate_landmarks.specs.Walks.{dart_ahead, dart_above, face_beside, IsUnder}
+use Rattle.locate_landmarks.specs.Walks.{dart_above, face_beside, IsUnder}
 use Rattle.locate_landmarks.specs.declared.above.EdgeAbove.{EdgeAbove}
-use Rattle.locate_landmarks.specs.declared.course.Course.{Course}
-use Rattle.locate_landmarks.specs.declared.crossing.Crossing.{Crossing}
 
 module _ (v : View) (f : Faces) (a b : FaceId) where
   -- the face on the right of the dart is that face again
   pub settled : (o : Option DartId) → b ≡ face_beside v f a o → face_beside v f b o ≡ b
   settled None e = refl
   settled (Some d) e = sym e
-
-  -- ---- along the horizontal
-  pub beyond_at : (c : Course) (p : Option Crossing) (d : Option DartId) → d ≡ dart_ahead p → b ≡ face_beside v f a d → HasFace f b → IsCrossing v c.level.line p → IsBeyond v f c b p
-  beyond_at c p d i e has k = record { has = has; last = k; beyond = settled (dart_ahead p) (e ∙ ap (face_beside v f a) i) }
-
-  pub beyond_less : (c : Course) (o p : Option Crossing) (d : Option DartId) → d ≡ dart_ahead p → b ≡ face_beside v f a d → (b ≡ a → ⊥) → IsBeyond v f c a o → IsFarther v c o p → darts_ahead v c p < darts_ahead v c o
-  beyond_less c o p d i e other k (inl same) = absurd (other (e ∙ ap (face_beside v f a) (i ∙ ap dart_ahead same) ∙ k.beyond))
-  beyond_less c o p d i e other k (inr l) = l
 
   -- ---- down along the vertical
   pub under_at : (q : Point) (p : Option EdgeAbove) (d : Option DartId) → d ≡ dart_above p → b ≡ face_beside v f a d → HasFace f b → IsAbove v q p → IsUnder v f q b p
@@ -39,11 +26,6 @@ module _ (v : View) (f : Faces) (a b : FaceId) where
   pub under_less : (q : Point) (o p : Option EdgeAbove) (d : Option DartId) → d ≡ dart_above p → b ≡ face_beside v f a d → (b ≡ a → ⊥) → IsUnder v f q a o → IsLowered v q o p → floor_in v q p < floor_in v q o
   under_less q o p d i e other k (inl same) = absurd (other (e ∙ ap (face_beside v f a) (i ∙ ap dart_above same) ∙ k.under))
   under_less q o p d i e other k (inr l) = l
-
--- the dart of a crossing has a record
-pub ahead_has : (v : View) (level : Line) (o : Option Crossing) → IsCrossing v level o → IfSome (dart_ahead o) (HasDart v)
-ahead_has v level None h = tt
-ahead_has v level (Some c) h = h.0
 
 -- ---- where the walk begins
 pub face_has : (v : View) (f : Faces) (p : Point) (a : FaceId) → IsSound v f → IsSpotOf v f p (Face a) → HasFace f a

@@ -1,5 +1,5 @@
 pub mod Grid
-pub mod Crossings
+pub mod Looks
 pub mod Floors
 pub mod Lowest
 pub mod Surveys

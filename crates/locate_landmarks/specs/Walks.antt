@@ -6,11 +6,6 @@ use Rattle.slab_laws.specs.declared.names.FaceId.{FaceId}
 use Rattle.slab_laws.specs.View.{View, Faces, HasFace, twin_in, cycle_in, face_in}
 use Rattle.locate_landmarks.specs.Lowest.{IsAbove}
 use Rattle.locate_landmarks.specs.declared.above.EdgeAbove.{EdgeAbove}
-use Rattle.locate_landmarks.specs.declared.crossing.Crossing.{Crossing}
-
-abbrev pub dart_ahead : Option Crossing → Option DartId
-dart_ahead None = None
-dart_ahead (Some c) = Some c.dart
 
 abbrev pub dart_above : Option EdgeAbove → Option DartId
 dart_above None = None

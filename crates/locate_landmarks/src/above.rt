@@ -5,7 +5,7 @@ ghost use Rattle.dcel_records.specs.RecordsView.{tables_of};
 ghost use Rattle.locate_walk.specs.Finds.{IsFoundAtDart};
 ghost use Rattle.locate_walk.specs.Passages.{IsPassage};
 ghost use Rattle.locate_walk.specs.declared.found.Found.TheVariants.{Past};
-ghost use Rattle.locate_landmarks.specs.Crossings.{IsDrawnLook};
+ghost use Rattle.locate_landmarks.specs.Looks.{IsDrawnLook};
 ghost use Rattle.locate_landmarks.specs.Lowest.{IsAbove, lower_edge};
 
 use counted_looks::{Glance, Glimpse, NameCalls};

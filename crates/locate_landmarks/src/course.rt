@@ -3,8 +3,9 @@ ghost use Rattle.std.specs.Prelude.{◌≡◌, ◌<◌, ◌≤◌, ◌*ℤ◌, u
 ghost use Rattle.exact_plane.specs.declared.bounds.TheConstants.{MAX_COORDINATE, WEIGHT_LIMIT, NUMERATOR_LIMIT};
 
 use crate::grid::{grid_number, landmark_at, level_of_row, row_of};
-use exact_plane::{Point, Span};
+use exact_plane::{Line, Point};
 use locate_walk::Query;
+use std::cmp::Ordering;
 use std::marker::Model;
 
 /// The ordinate of a horizontal, a whole number.
@@ -51,6 +52,13 @@ impl Ordinate {
         }
     }
 
+    // The point of the horizontal at the abscissa of another point. It is in the plane; nothing rests on that.
+    fn corner(&self, point: &Point) -> Point {
+        point.laws();
+        let y = numerator(self.number, narrow(point.w()));
+        Point::new(point.x(), y as i128, point.w()).unwrap_or(*point)
+    }
+
     // Whether a point is above it: one product in 64 bits tells.
     fn is_below(&self, point: &Point) -> bool {
         point.laws();
@@ -63,8 +71,12 @@ impl Ordinate {
 pub struct Course {
     pub landmark: Point,
     pub point: Query,
-    /// The horizontal of the landmark, from one end of the plane to the other.
-    pub level: Span,
+    /// Where the horizontal of the landmark and the vertical of the point meet.
+    pub corner: Point,
+    /// How the corner lies to the point.
+    pub corner_order: Ordering,
+    /// The line of the horizontal.
+    pub level: Line,
     pub ordinate: Ordinate,
     /// Whether it goes to the right along the horizontal, in point order.
     pub eastward: bool,
@@ -80,13 +92,17 @@ impl Course {
     {
         let landmark = landmark_at(index);
         let row = row_of(index);
+        let ordinate = Ordinate::of_row(row);
+        let corner_order = landmark.compare_y(point);
         Course {
             landmark,
             point: Query::of(point),
+            corner: ordinate.corner(point),
+            corner_order,
             level: level_of_row(row),
-            ordinate: Ordinate::of_row(row),
+            ordinate,
             eastward: landmark < *point,
-            downward: point.compare_y(&landmark).is_lt(),
+            downward: corner_order.is_gt(),
         }
     }
 
@@ -94,16 +110,5 @@ impl Course {
     #[inline(always)]
     pub fn is_above(&self, point: &Point) -> bool {
         self.ordinate.is_below(point)
-    }
-
-    /// Whether a point of the horizontal is between the landmark, itself included, and the vertical of the point, which is leant by less
-    /// than any number: so the order of points tells it.
-    pub fn has(&self, at: &Point) -> bool {
-        let order = self.point.order_of(at);
-        if self.eastward {
-            *at >= self.landmark && order.is_lt()
-        } else {
-            *at <= self.landmark && order.is_gt()
-        }
     }
 }

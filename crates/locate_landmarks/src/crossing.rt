@@ -1,13 +1,13 @@
 //! Where the edges of a face cross the horizontal of a landmark.
-ghost use Rattle.std.specs.Prelude.{◌≡◌, true, Some, IfSome};
-ghost use Rattle.plane_graphs.specs.Line.{crossing};
-ghost use Rattle.slab_laws.specs.Sound.{IsGraphSound};
-ghost use Rattle.slab_laws.specs.View.{HasDart, line_in};
-ghost use Rattle.locate_landmarks.specs.Crossings.{is_rising, fan_cmp, crossing_cmp, is_later, IsCrossing, IsDrawnLook};
+//!
+//! A crossing is told by signs alone, and no point of it is made. Nothing rests on what is told here: the way along the horizontal only
+//! shows from which face the way along the vertical starts, and any would do.
+ghost use Rattle.slab_laws.specs.View.{HasDart};
+ghost use Rattle.locate_landmarks.specs.Horizontals.{IsCrossing};
 
 use crate::course::Course;
 use counted_looks::{Glance, Glimpse, NameCalls};
-use exact_plane::{Line, Meet, Point, Span, slope_order, span_meeting};
+use exact_plane::{Line, Point, Sign, side, slope_order};
 use slab_laws::DartId;
 use std::cmp::Ordering;
 
@@ -15,118 +15,84 @@ use std::cmp::Ordering;
 #[derive(Clone, Copy)]
 pub struct Crossing {
     pub dart: DartId,
-    pub at: Point,
     pub line: Line,
+    /// The end of the edge above the horizontal.
+    pub upper: Point,
 }
 
 // Whether a line rises from left to right, as a vertical one does too.
-fn is_rising(level: &Line, line: &Line) -> bool
-    ensures { result ≡ is_rising level.now line.now }
-{
+fn is_rising(level: &Line, line: &Line) -> bool {
     slope_order(level, line).is_lt()
 }
 
-// The order in which the raised horizontal meets two edges out of one vertex on it from left to right: the falling ones come first, the
-// flat ones before the steep ones, and then the rising ones, the steep ones first.
-fn order_in_fan(level: &Line, first: &Line, second: &Line) -> Ordering
-    ensures { result ≡ fan_cmp level.now first.now second.now }
-{
-    is_rising(level, first)
-        .cmp(&is_rising(level, second))
-        .then(slope_order(second, first))
+// How a line that isn't level lies to a point at the point's ordinate, from left to right. Each line runs to the right, so one that rises
+// has on its right what comes after it, and one that falls has it on its left.
+fn order_at(level: &Line, line: &Line, point: &Point) -> Ordering {
+    match (side(line, point), is_rising(level, line)) {
+        (Sign::Zero, _) => Ordering::Equal,
+        (Sign::Minus, true) | (Sign::Plus, false) => Ordering::Less,
+        _ => Ordering::Greater,
+    }
 }
 
-// The order in which the horizontal, raised by less than any number, meets two edges from left to right.
-fn order_along(level: &Line, first: &Crossing, second: &Crossing) -> Ordering
-    ensures { result ≡ crossing_cmp level.now first.now second.now }
-{
-    match first.at.cmp(&second.at) {
+// Whether a line meets the horizontal between the landmark, itself included, and the vertical of the point, which is leant by less than
+// any number: so the order of points tells it.
+fn is_on_way(course: &Course, line: &Line) -> bool {
+    let of_landmark = order_at(&course.level, line, &course.landmark);
+    let of_point = order_at(&course.level, line, &course.corner).then(course.corner_order);
+    if course.eastward {
+        !of_landmark.is_lt() && of_point.is_lt()
+    } else {
+        !of_landmark.is_gt() && of_point.is_gt()
+    }
+}
+
+// The order from left to right of two edges that go down from one vertex: rising ones come first, the flat ones before the steep ones,
+// and then the falling ones, the steep ones first.
+fn order_in_fan(level: &Line, first: &Line, second: &Line) -> Ordering {
+    is_rising(level, second)
+        .cmp(&is_rising(level, first))
+        .then(slope_order(first, second))
+}
+
+// The order in which the horizontal, raised by less than any number, meets two edges from left to right. They cross nowhere, so where one
+// of them ends above the horizontal they are in the same order; and where both end there, they are so below.
+fn order_along(level: &Line, first: &Crossing, second: &Crossing) -> Ordering {
+    let order = if first.upper.compare_y(&second.upper).is_gt() {
+        order_at(level, &first.line, &second.upper)
+    } else {
+        order_at(level, &second.line, &first.upper).reverse()
+    };
+    match order {
         Ordering::Equal => order_in_fan(level, &first.line, &second.line),
-        order => order,
+        other => other,
     }
 }
 
 // Whether a crossing comes after another one on the way, as each does after none.
-fn is_later(course: &Course, last: &Option<Crossing>, crossing: &Crossing) -> bool
-    ensures { result ≡ is_later course.now.level.line course.now.eastward last.now crossing.now }
-{
-    let level = course.level.line();
+fn is_later(course: &Course, last: &Option<Crossing>, crossing: &Crossing) -> bool {
     match last {
         None => true,
         Some(before) => {
             if course.eastward {
-                order_along(&level, before, crossing).is_lt()
+                order_along(&course.level, before, crossing).is_lt()
             } else {
-                order_along(&level, crossing, before).is_lt()
+                order_along(&course.level, crossing, before).is_lt()
             }
         }
     }
 }
 
-// The edge of a dart that was looked at.
-fn span_of_look(looked: &Glimpse, line: &Line) -> Span
-    requires look { (v : _) × (d : _) × IsDrawnLook v d looked.now }
-    requires line { looked.now.line ≡ Some line.now }
-    ensures { result.line ≡ line.now }
-{
-    let (source, target) = (looked.source(), looked.target());
-    if source < target {
-        Span::new(source, target, *line).unwrap()
-    } else {
-        Span::new(target, source, *line).unwrap()
-    }
-}
-
-// Where the edge of a dart that was looked at meets the horizontal; one that is level crosses it nowhere.
-fn point_on_level(level: &Span, looked: &Glimpse, line: &Line) -> Option<Point>
-    requires look { (v : _) × (d : _) × IsDrawnLook v d looked.now }
-    requires line { looked.now.line ≡ Some line.now }
-    ensures { (v : _) (d : _) → IsDrawnLook v d looked.now → IfSome result (λ p. p ≡ crossing level.now.line (line_in v d)) }
-{
-    let edge = span_of_look(looked, line);
-    if slope_order(&level.line(), line).is_eq() {
-        return None;
-    }
-    match span_meeting(level, &edge) {
-        Meet::At(at) => Some(at),
-        Meet::Apart | Meet::Along(_, _) => None,
-    }
-}
-
 // A dart, or its twin.
 fn dart_towards(glance: &Glance, dart: DartId, itself: bool) -> DartId
-    requires sound { IsGraphSound glance.now.graph }
-    requires dart { HasDart glance.now.graph dart }
-    ensures has { HasDart glance.now.graph result }
-    ensures line { line_in glance.now.graph result ≡ line_in glance.now.graph dart }
+    requires { HasDart glance.now.graph dart }
+    ensures { HasDart glance.now.graph result }
 {
     if itself { dart } else { glance.twin(dart) }
 }
 
-// Where the edge of a dart that was looked at crosses the horizontal, on the way from the landmark to the vertical of the point. Its
-// ends are on different sides, and `rises` tells whether the target is above.
-fn crossing_of(
-    glance: &Glance,
-    course: &Course,
-    dart: DartId,
-    looked: &Glimpse,
-    rises: bool,
-) -> Option<Crossing>
-    requires look { IsDrawnLook glance.now.graph dart looked.now }
-    ensures { IsCrossing glance.now.graph course.now.level.line result }
-{
-    let line = looked.line();
-    match point_on_level(&course.level, looked, &line) {
-        Some(at) if course.has(&at) => Some(Crossing {
-            dart: dart_towards(glance, dart, rises == course.eastward),
-            at,
-            line,
-        }),
-        _ => None,
-    }
-}
-
-/// The same, where it comes after the last crossing so far.
+/// Where the edge of a dart that was looked at crosses the horizontal, if that is on the way from the landmark to the vertical of the
+/// point, and after the last crossing so far. Its ends are on different sides, and `rises` tells whether the target is above.
 pub fn later_crossing(
     glance: &Glance,
     course: &Course,
@@ -135,12 +101,25 @@ pub fn later_crossing(
     rises: bool,
     last: &Option<Crossing>,
 ) -> Option<Crossing>
-    requires look { IsDrawnLook glance.now.graph dart looked.now }
-    ensures crossing { IsCrossing glance.now.graph course.now.level.line result }
-    ensures later { IfSome result (λ c. is_later course.now.level.line course.now.eastward last.now c ≡ true) }
+    requires { HasDart glance.now.graph dart }
+    ensures { IsCrossing glance.now.graph result }
 {
-    match crossing_of(glance, course, dart, looked, rises) {
-        Some(crossing) if is_later(course, last, &crossing) => Some(crossing),
-        _ => None,
+    let line = looked.line();
+    if !is_on_way(course, &line) {
+        return None;
+    }
+    let crossing = Crossing {
+        dart: dart_towards(glance, dart, rises == course.eastward),
+        line,
+        upper: if rises {
+            looked.target()
+        } else {
+            looked.source()
+        },
+    };
+    if is_later(course, last, &crossing) {
+        Some(crossing)
+    } else {
+        None
     }
 }

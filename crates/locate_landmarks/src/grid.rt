@@ -3,7 +3,7 @@ ghost use Rattle.std.specs.Prelude.{◌≡◌, ◌<◌, ◌%◌};
 ghost use Rattle.exact_plane.specs.Point.{IsRatio};
 ghost use Rattle.locate_landmarks.specs.Grid.{grid_number, landmark_at, IsNearest};
 
-use exact_plane::{MAX_COORDINATE, Point, Segment, Span, line_of};
+use exact_plane::{Line, Point, Segment, line_of};
 
 /// How many landmarks there are in a row of the grid, and in a column.
 pub(crate) const LANDMARKS_IN_ROW: usize = 7;
@@ -69,14 +69,12 @@ pub(crate) fn row_of(index: usize) -> usize
     index % LANDMARKS_IN_ROW
 }
 
-/// The horizontal of a row, from one end of the plane to the other.
-pub(crate) fn level_of_row(row: usize) -> Span
+/// The line of a row.
+pub(crate) fn level_of_row(row: usize) -> Line
     requires { row < 7 }
 {
     let y = grid_number(row);
-    let end = MAX_COORDINATE as i64;
-    let segment = Segment::new(-end, y, end, y).unwrap();
-    Span::new(segment.lower(), segment.upper(), line_of(&segment)).unwrap()
+    line_of(&Segment::new(0, y, 1, y).unwrap())
 }
 
 /// A landmark, by its place in the list of them all.

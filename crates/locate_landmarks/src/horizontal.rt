@@ -1,9 +1,9 @@
 //! The way along the horizontal of a landmark, from face to face.
-ghost use Rattle.std.specs.Prelude.{◌≡◌};
-ghost use Rattle.slab_laws.specs.View.{HasFace};
+ghost use Rattle.std.specs.Prelude.{IfSome};
+ghost use Rattle.slab_laws.specs.View.{HasDart, HasFace};
 ghost use Rattle.dcel_records.specs.RecordsView.{tables_of};
 ghost use Rattle.dcel_records.specs.SoundMaps.{IsSoundMap};
-ghost use Rattle.locate_landmarks.specs.Walks.{dart_ahead};
+ghost use Rattle.locate_landmarks.specs.Horizontals.{IsCrossing};
 
 use crate::course::Course;
 use crate::crossing::{Crossing, later_crossing};
@@ -12,6 +12,10 @@ use counted_looks::{BoundaryPart, Glance, Glimpse, Looker, NameCalls, look_at_bo
 use slab_laws::{DartId, FaceId, VertexId};
 use std::sync::ledger::Ledger;
 use work_steps::Steps;
+
+// More edges than a way crosses, so that no way ends by it: curves have names of 32 bits, and the raised horizontal crosses each once at
+// most. It is what tells that the loop ends, since the order of crossings has no law here.
+const MOST_CROSSINGS: usize = 1 << 32;
 
 /// On which side of the horizontal a vertex lies.
 #[derive(Clone, Copy)]
@@ -81,8 +85,9 @@ impl<'a, 'r> Looker<Glance<'r>> for Ahead<'a> {
     }
 }
 
-fn dart_ahead(last: &Option<Crossing>) -> Option<DartId>
-    ensures { result ≡ dart_ahead last.now }
+fn dart_ahead(glance: &Glance, last: &Option<Crossing>) -> Option<DartId>
+    requires { IsCrossing glance.now.graph last.now }
+    ensures { IfSome result (HasDart glance.now.graph) }
 {
     match last {
         Some(crossing) => Some(crossing.dart),
@@ -92,6 +97,8 @@ fn dart_ahead(last: &Option<Crossing>) -> Option<DartId>
 
 /// The face in which the way along the horizontal ends, from any face. It leaves each face at the last of its crossings with the
 /// horizontal before the vertical of the point, and ends where that leads into no other face.
+// A function of its own, so that its loop and the one along the vertical don't share the registers.
+#[inline(never)]
 pub fn go_along<L: Ledger>(
     glance: &Glance,
     first: FaceId,
@@ -111,14 +118,15 @@ pub fn go_along<L: Ledger>(
         entry: None,
         sided: None,
     };
-    'faces: loop {
+    'faces: for _ in 0..MOST_CROSSINGS {
         look_at_boundary(&mut ahead, glance, face, steps);
-        let dart = dart_ahead(&ahead.last);
+        let dart = dart_ahead(glance, &ahead.last);
         let beyond = face_beside(glance, face, dart);
         if beyond == face {
-            return face;
+            break;
         }
         face = beyond;
         ahead.entry = dart_across(glance, dart);
     }
+    face
 }
