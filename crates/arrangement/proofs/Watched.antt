@@ -37,10 +37,6 @@ module _ (m : MapView) (p : Past) (l : IsLayer m.graph p) where
   unfolding present_text
   seen_text = ap (λ (h : Curves). graph_text (drawn_graph m.graph h)) same_curves ∙ ap graph_text l.stands
 
--- ---- no observers
-pub alone_is_watched : (a : Arranged) → a.bus.seats ≡ [] → IsWatched a
-alone_is_watched a e = subst (All (Holds (seen (map_in a) (curves_on a.past)))) (sym e) (All-from_recursion (Holds (seen (map_in a) (curves_on a.past))) [] tt)
-
 -- ---- attach
 placed_holds : (j : Option ℕ) (w : CurvedView) (s t : SeatRow) → s.join ≡ j → IsPlaced j w s t → Holds w t
 placed_holds None w s t e h = λ i u. h.held (rw h.tells at u)

@@ -1,5 +1,6 @@
 mod Paths
 mod Asked
+mod Unders
 mod Reached
 mod Grown
 mod SplitLeaf

@@ -1,9 +1,8 @@
 ghost use Rattle.std.specs.Prelude.{◌≡◌, ◌<◌, ◌+◌, ◌||◌, not, length, Some};
 ghost use Rattle.slab_laws.specs.Skeleton.{precedes as comes_before};
-ghost use Rattle.slab_laws.specs.Sound.{IsGraphSound, edge_in};
+ghost use Rattle.slab_laws.specs.Sound.{IsGraphSound};
 ghost use Rattle.slab_laws.specs.SpansDrawn.{edge_of};
 ghost use Rattle.slab_laws.specs.View.{View, point_in};
-ghost use Rattle.edges_below.specs.Above.{is_above as lies_above};
 ghost use Rattle.locate_trapezoid.specs.declared.node.Slot.TheVariants.{Child};
 ghost use Rattle.locate_trapezoid.specs.declared.node.Test.TheVariants.{Vertex};
 ghost use Rattle.locate_trapezoid.specs.Counted.{IsTest};
@@ -11,14 +10,13 @@ ghost use Rattle.locate_trapezoid.specs.Descents.{bound_of, rest_of, IsDescent, 
 ghost use Rattle.locate_trapezoid.specs.Graphs.{AreNamed};
 ghost use Rattle.locate_trapezoid.specs.Nodes.{arena, IsLeaf, IsTree};
 
+use crate::above::is_above_edge;
 use crate::graph::{Leaf, child, node};
 use crate::node::{Node, Slot, Test};
 use dcel_records::Records;
 use edge_predicates::precedes;
-use edges_below::is_above;
 use exact_plane::{Point, Span};
 use slab_laws::Darts;
-use sound_views::span_of;
 
 /// Where an edge's way down has come.
 #[derive(Clone, Copy)]
@@ -100,7 +98,7 @@ fn pass(
     match test {
         Test::Vertex(vertex) => pass_vertex(span, from, records.point(vertex), number, last, level),
         Test::Edge(dart) => {
-            let slot = Slot::Child(number, is_above(span, &span_of(records, dart)));
+            let slot = Slot::Child(number, is_above_edge(records, span, dart));
             Descent {
                 leaf: Leaf { slot, level },
                 ..last

@@ -10,6 +10,7 @@
 //! which is split by it, and so again from the point where it leaves the leaf.
 #![tactic(auto)]
 
+mod above;
 mod arrival;
 mod building;
 mod descent;

@@ -27,26 +27,25 @@ fn take(
     Ok(())
 }
 
-// A step further on, round the end.
-fn stepped(at: usize, step: usize, count: usize) -> usize
-    requires at { at < count }
-    requires step { step ≤ count }
+// The next of a row of numbers that looks as if it were drawn by lot (Knuth, Sorting and Searching; the factor and the summand are his
+// of MMIX).
+fn drawn(number: u64) -> u64 {
+    number
+        .wrapping_mul(6364136223846793005)
+        .wrapping_add(1442695040888963407)
+}
+
+// A place by the upper half of a number.
+fn place_of(number: u64, count: usize) -> usize
+    requires { 0 < count }
     ensures { result < count }
 {
-    let left = count - step;
-    if at < left { at + step } else { at - left }
+    (number >> 32) as usize % count
 }
 
-// Some .618 of the number: its multiples, taken round the end, lie spread out evenly (Knuth, Sorting and Searching: Fibonacci
-// hashing).
-fn scattering(count: usize) -> usize
-    ensures { 0 < count → result ≤ count }
-{
-    count / 1000 * 618 + count % 1000 * 618 / 1000 + 1
-}
-
-/// The same tests, each once for a place, in a scattered order: by steps of some .618 of their number, and then those that the
-/// steps left out. So neighbours come far apart. In their own order a row of edges would make a way as long as the row.
+/// The same tests, each once for a place, in a scattered order: as many places as there are tests are drawn by numbers that look as if by
+/// lot, the same ones each time, and then those come that weren't drawn. So neighbours come far apart. In their own order a row of edges
+/// would make a way as long as the row, and by even steps a grid makes one as long as its rows.
 ///
 /// # Errors
 ///
@@ -56,11 +55,10 @@ pub fn scattered(alloc: Global, tests: &[Test]) -> Result<Vec<Test>, NoMemory>
 {
     let mut order = Vec::new(alloc);
     let mut marks = vec![in alloc; false; tests.len()]?;
-    let step = scattering(tests.len());
-    let mut at = 0;
-    'steps: for _number in 0..tests.len() {
-        take(&mut order, &mut marks, tests, at)?;
-        at = stepped(at, step, tests.len());
+    let mut number = 1;
+    'draws: for _count in 0..tests.len() {
+        number = drawn(number);
+        take(&mut order, &mut marks, tests, place_of(number, tests.len()))?;
     }
     'rest: for place in 0..tests.len() {
         take(&mut order, &mut marks, tests, place)?;

@@ -1,4 +1,4 @@
-ghost use Rattle.std.specs.Prelude.{◌≡◌, ◌+◌, ◌≤◌, None, is_some, OnOk, OnErr};
+ghost use Rattle.std.specs.Prelude.{◌≡◌, ◌+◌, ◌≤◌, None, is_some, length, OnOk, OnErr};
 ghost use Rattle.std.specs.Option.{option_map};
 ghost use Rattle.dcel_records.specs.RecordsView.{tables_of};
 ghost use Rattle.dcel_records.specs.SoundMaps.{IsSoundMap};
@@ -106,6 +106,16 @@ impl Trapezoids {
     {
         match &self.graph {
             Some(graph) => Some(graph.depth),
+            None => None,
+        }
+    }
+
+    /// How many nodes the search graph has. `None` where it isn't built.
+    pub fn node_count(&self) -> Option<usize>
+        ensures { result ≡ option_map (λ g. length g.nodes.items) self.now }
+    {
+        match &self.graph {
+            Some(graph) => Some(graph.nodes.len()),
             None => None,
         }
     }

@@ -20,3 +20,4 @@ pub mod FaceParts
 pub mod CycleFound
 pub mod FacesUnited
 pub mod GraphSeen
+pub mod DartsOut

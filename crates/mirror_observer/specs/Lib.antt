@@ -6,3 +6,4 @@ pub mod Lists
 pub mod Reading
 pub mod SeenCurves
 pub mod MirrorState
+pub mod DartsOut

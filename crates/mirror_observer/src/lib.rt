@@ -12,14 +12,17 @@ mod darts;
 mod face_links;
 mod face_steps;
 mod faces;
+mod fading;
 mod fill;
 mod fill_faces;
 mod links;
 mod mirror;
 mod moves;
 mod orbits;
+mod outs;
 mod reading;
 mod seen;
 mod tables;
 
+pub use fading::Fading;
 pub use mirror::Mirror;

@@ -77,15 +77,6 @@ fn face_beyond(faces: &BTreeSet<usize>, f: Option<FaceId>) -> Option<FaceId>
     key_beyond(faces, f.map(|e| e.0)).map(FaceId)
 }
 
-fn leaves(darts: &BTreeMap<usize, DartEntry>, d: DartId, v: VertexId) -> bool
-    ensures { IsTrue result ↔ IsOutOf (darts_of darts.now.entries) v d }
-{
-    match entry_of(darts, d) {
-        Some(entry) => entry.source == v,
-        None => false,
-    }
-}
-
 impl Tables {
     /// The vertex that the dart leaves; without an entry, the one named 0.
     pub fn source(&self, d: DartId) -> VertexId
@@ -132,20 +123,6 @@ impl Tables {
             Some(entry) => entry.pinned,
             None => false,
         }
-    }
-
-    /// A dart out of the vertex, or `None` where there is none. It looks at all darts.
-    pub fn out_of(&self, v: VertexId) -> Option<DartId>
-        ensures some { IfSome result (IsOutOf (view_in self.now).graph v) }
-        ensures none { IfNone result ((d : _) → ¬ IsOutOf (view_in self.now).graph v d) }
-    {
-        for key in self.darts.keys() {
-            let d = DartId(*key);
-            if leaves(&self.darts, d, v) {
-                return Some(d);
-            }
-        }
-        None
     }
 
     /// The next greater name of a vertex, or the least; `None` after the last.

@@ -1,38 +1,44 @@
 ghost use Rattle.std.specs.Prelude.{◌≡◌, IfOk};
 ghost use Rattle.arr_notes.specs.CurvedView.{IsSoundView, view_text};
+ghost use Rattle.mirror_observer.specs.DartsOut.{AreOuts};
 ghost use Rattle.mirror_observer.specs.Standing.{view_in};
 
+use crate::outs::{out_at, outs_of};
 use crate::tables::Tables;
 use arr_text::text;
 use exact_plane::{Line, Point};
 use no_memory::NoMemory;
 use slab_laws::{CurveId, Curved, CycleId, CycleKind, DartId, Darts, FaceId, Faced, VertexId};
 use std::alloc::Global;
+use std::collections::BTreeMap;
 use std::marker::Model;
 
-/// Maps that stand for a sound view, read by name.
+/// Maps that stand for a sound view, read by name, with one dart out of each vertex that darts leave.
 #[derive(Drop)]
 pub(crate) struct Seen<'a> {
     tables: &'a Tables,
+    outs: BTreeMap<usize, DartId>,
 }
 
 impl<'a> Model for Seen<'a> {
     ghost use Rattle.arr_notes.specs.CurvedView.{CurvedView, IsSoundView};
+    ghost use Rattle.mirror_observer.specs.DartsOut.{AreOuts};
     ghost use Rattle.mirror_observer.specs.Standing.{view_in};
 
     ghost Value = { CurvedView };
 
     ghost view = { λ s. view_in s.tables.now };
 
-    ghost invariant = { λ s. IsSoundView (view_in s.tables.now) };
+    ghost invariant = { λ s. IsSoundView (view_in s.tables.now) × AreOuts s.tables.now.darts.entries s.outs.entries };
 }
 
 impl<'a> Seen<'a> {
-    fn new(tables: &'a Tables) -> Seen<'a>
+    fn new(alloc: Global, tables: &'a Tables) -> Result<Seen<'a>, NoMemory>
         requires { IsSoundView (view_in tables.now) }
-        ensures { result ≡ view_in tables.now }
+        ensures { IfOk result (λ s. s ≡ view_in tables.now) }
     {
-        Seen { tables }
+        let outs = outs_of(alloc, &tables.darts)?;
+        Ok(Seen { tables, outs })
     }
 }
 
@@ -68,7 +74,7 @@ impl<'a> Darts for Seen<'a> {
     }
 
     fn out_of(&self, v: VertexId) -> Option<DartId> {
-        self.tables.out_of(v)
+        out_at(&self.outs, v)
     }
 
     fn vertex_after(&self, v: Option<VertexId>) -> Option<VertexId> {
@@ -128,7 +134,7 @@ pub(crate) fn text_of(alloc: Global, tables: &Tables) -> Result<Vec<u8>, NoMemor
     requires { IsSoundView (view_in tables.now) }
     ensures { IfOk result (λ bytes. bytes.items ≡ view_text (view_in tables.now)) }
 {
-    let seen = Seen::new(tables);
+    let seen = Seen::new(alloc, tables)?;
     let bytes = text(alloc, &seen)?;
     Ok(bytes)
 }

@@ -1,5 +1,5 @@
 -- The words of the top call's clauses.
-use Rattle.std.specs.Prelude.{◌≡◌, ◌≢◌, ◌⊎◌, ℕ, ◌+◌, ◌≤◌, List, [], ◌++◌, length, take, codes, Option, Some, IfSome}
+use Rattle.std.specs.Prelude.{◌≡◌, ◌≢◌, ◌⊎◌, ℕ, ◌+◌, ◌≤◌, List, [], ◌∷◌, ◌++◌, length, take, codes, Option, Some, IfSome}
 use Rattle.outside.specs.Counts.{Rose}
 use Rattle.planar_run.specs.declared.run.TheConstants.{SCRIPT_LIMIT}
 use Rattle.planar_run.specs.declared.status.Status.{Status}

@@ -8,6 +8,7 @@ use arrangement::Arrangement;
 use dcel_records::{Records, Spot};
 use exact_plane::Point;
 use locate_naive::locate;
+use locate_trapezoid::Trapezoids;
 use slab_laws::{Cell, DartId, Darts, FaceId, Faced, Strategy};
 use std::alloc::Global;
 use std::test::Fail;
@@ -113,5 +114,24 @@ fn a_walk_passes_by_what_is_far_away(rt: HostRuntime) -> Result<(), Fail> {
     let short = is_walk_short(&mut layer);
     drop(layer);
     assert!(rt; short?);
+    Ok(())
+}
+
+// A question goes to no more nodes than are on the longest way through the search graph.
+fn is_graph_shallow(alloc: Global, layer: &mut Arrangement) -> Result<bool, Fail>
+    requires watched { IsWatched (arranged Observer-dyn layer.old) }
+{
+    let is_state = draw_state(layer)?;
+    let mut map = Trapezoids::new();
+    map.build(alloc, layer.records())?;
+    Ok(is_state && map.depth().is_some_and(|depth| 0 < depth && depth <= 60))
+}
+
+#[test]
+fn a_search_graph_is_shallow(rt: HostRuntime) -> Result<(), Fail> {
+    let mut layer = layer_under(rt.alloc(), Under::Script)?;
+    let shallow = is_graph_shallow(rt.alloc(), &mut layer);
+    drop(layer);
+    assert!(rt; shallow?);
     Ok(())
 }

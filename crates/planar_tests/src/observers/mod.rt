@@ -3,6 +3,6 @@
 mod calls;
 mod empty;
 mod listener;
-mod recorder;
+pub mod recorder;
 mod rounds;
 mod tests;

@@ -1,8 +1,11 @@
-// The program's run, and what stands beside it: lines, made scripts, sources and sinks.
+// The program's run, with sources and sinks that fail and observers that come and go, and what stands beside it: lines, made scripts.
 
+mod guests;
 mod lines;
 mod makers;
 mod memory;
-mod mirrors;
+mod mute;
+mod observers;
 mod runs;
+mod scripts;
 mod streams;

@@ -4,6 +4,7 @@
 mod chains;
 mod cycles;
 mod holes;
+mod landmarks;
 mod looks;
 mod ranks;
 mod room;

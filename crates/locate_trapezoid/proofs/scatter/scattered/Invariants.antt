@@ -1,12 +1,9 @@
-use Rattle.std.proofs.Common.{◌≡◌, ◌<◌, ℕ, true, length}
+use Rattle.std.proofs.Common.{◌≡◌, ◌<◌, ℕ, true}
 use Rattle.locate_trapezoid.specs.Scattered.{is_marked, IsTaken}
 use Rattle.locate_trapezoid.proofs.scatter.scattered.Given as goal
 
-abbrev pub invariant-steps : goal.invariant-steps
-invariant-steps l = record {
-  taken : IsTaken l.tests l.marks.items l.order.items;
-  at : 0 < length l.tests → l.at < length l.tests;
-}
+abbrev pub invariant-draws : goal.invariant-draws
+invariant-draws l = IsTaken l.tests l.marks.items l.order.items
 
 abbrev pub invariant-rest : goal.invariant-rest
 invariant-rest l = record {

@@ -4,5 +4,5 @@ use Rattle.mirror_observer.proofs.seen.SeenFaced.face_after.Goals as goal
 
 pub returns-clause-ascend : goal.returns-clause-ascend
 returns-clause-ascend c =
-    let s : IsSoundView c.args.self.now = subst (λ w. IsSoundView w) c.self.view_is c.self.invariant in
+    let s : IsSoundView c.args.self.now = subst (λ w. IsSoundView w) c.self.view_is c.self.invariant.0 in
     s.map.complete.faces_ascend
