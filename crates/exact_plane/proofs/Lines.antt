@@ -13,7 +13,7 @@ use Rattle.exact_plane.specs.declared.bounds.TheConstants.{MAX_COORDINATE}
 use Rattle.exact_plane.specs.Line.{side_of, turn_at, reduced_line, IsForward, IsLine, IsOn, AreLineNumbers}
 use Rattle.exact_plane.specs.Plane.{side}
 use Rattle.exact_plane.specs.Point.{Point}
-use Rattle.exact_plane.specs.Segment.{Segment, segment, line_of_segment, IsSegment, AreEnds}
+use Rattle.exact_plane.specs.Segment.{Segment, segment, line_of_segment, IsSegment}
 use Rattle.exact_plane.proofs.Wholes.{runs_on}
 
 -- ---- a line divided by g
@@ -97,18 +97,16 @@ module _ (x1 y1 x2 y2 : ℤ) (s : IsSegment x1 y1 x2 y2) where
       let e : side (y1 -ℤ y2) (x2 -ℤ x1) (x1 *ℤ y2 -ℤ x2 *ℤ y1) t.x t.y t.w ≡ turn_at (segment x1 y1 x2 y2).lower (segment x1 y1 x2 y2).upper t = ring (x1 ∷ y1 ∷ x2 ∷ y2 ∷ t.x ∷ t.y ∷ t.w ∷ []) (search sides depth 40 fits 20000) tt in
       by_ends' t ∙ ap (λ z. int_cmp z (pos 0)) e
 
--- ---- of a segment
-module _ (s : Segment) (h : AreEnds s) where
+-- ---- of a segment, whose numbers these are
+module _ (x1 y1 x2 y2 : ℤ) (i : IsSegment x1 y1 x2 y2) (s : Segment) (e : segment x1 y1 x2 y2 ≡ s) where
   pub lower_on : IsOn (line_of_segment s) s.lower
-  lower_on = subst (λ (e : Segment). IsOn (line_of_segment e) e.lower) (sym h.whole) (lower_on' s.lower.x s.lower.y s.upper.x s.upper.y h.is)
+  lower_on = subst (λ (t : Segment). IsOn (line_of_segment t) t.lower) e (lower_on' x1 y1 x2 y2 i)
 
   pub upper_on : IsOn (line_of_segment s) s.upper
-  upper_on = subst (λ (e : Segment). IsOn (line_of_segment e) e.upper) (sym h.whole) (upper_on' s.lower.x s.lower.y s.upper.x s.upper.y h.is)
+  upper_on = subst (λ (t : Segment). IsOn (line_of_segment t) t.upper) e (upper_on' x1 y1 x2 y2 i)
 
   pub left : (t : Point) → int_cmp (side_of (line_of_segment s) t) (pos 0) ≡ int_cmp (turn_at s.lower s.upper t) (pos 0)
-  left t = subst (λ (e : Segment). int_cmp (side_of (line_of_segment e) t) (pos 0) ≡ int_cmp (turn_at e.lower e.upper t) (pos 0)) (sym h.whole) (left' s.lower.x s.lower.y s.upper.x s.upper.y h.is t)
+  left t = subst (λ (u : Segment). int_cmp (side_of (line_of_segment u) t) (pos 0) ≡ int_cmp (turn_at u.lower u.upper t) (pos 0)) e (left' x1 y1 x2 y2 i t)
 
-  pub by_ends : (t : Point) → int_cmp (side_of (line_of_segment s) t) (pos 0) ≡ int_cmp (side (s.lower.y -ℤ s.upper.y) (s.upper.x -ℤ s.lower.x) (s.lower.x *ℤ s.upper.y -ℤ s.upper.x *ℤ s.lower.y) t.x t.y t.w) (pos 0)
-  by_ends t =
-      subst (λ (e : Segment). int_cmp (side_of (line_of_segment e) t) (pos 0) ≡ int_cmp (side (e.lower.y -ℤ e.upper.y) (e.upper.x -ℤ e.lower.x) (e.lower.x *ℤ e.upper.y -ℤ e.upper.x *ℤ e.lower.y) t.x t.y t.w) (pos 0)) (sym h.whole)
-      (by_ends' s.lower.x s.lower.y s.upper.x s.upper.y h.is t)
+  pub by_ends : (t : Point) → int_cmp (side_of (line_of_segment s) t) (pos 0) ≡ int_cmp (side (y1 -ℤ y2) (x2 -ℤ x1) (x1 *ℤ y2 -ℤ x2 *ℤ y1) t.x t.y t.w) (pos 0)
+  by_ends t = subst (λ (u : Segment). int_cmp (side_of (line_of_segment u) t) (pos 0) ≡ int_cmp (side (y1 -ℤ y2) (x2 -ℤ x1) (x1 *ℤ y2 -ℤ x2 *ℤ y1) t.x t.y t.w) (pos 0)) e (by_ends' x1 y1 x2 y2 i t)

@@ -10,8 +10,8 @@ use std::marker::Model;
 /// A direction in the plane.
 #[derive(Clone, Copy)]
 pub struct Direction {
-    x: i128,
-    y: i128,
+    x: i64,
+    y: i64,
 }
 
 impl Model for Direction {
@@ -27,7 +27,7 @@ impl Model for Direction {
 }
 
 // The number with the opposite sign.
-fn negated(number: i128) -> i128
+fn negated(number: i64) -> i64
     requires { unsigned_abs number ≤ MAX_DIFFERENCE }
     ensures { result ≡ neg_ℤ number }
 {
@@ -56,7 +56,7 @@ impl Direction {
     }
 }
 
-fn turn(x1: i128, y1: i128, x2: i128, y2: i128) -> i128
+fn turn(x1: i64, y1: i64, x2: i64, y2: i64) -> i64
     requires { AreDirections x1 y1 x2 y2 }
     ensures value { result ≡ x1 *ℤ y2 -ℤ y1 *ℤ x2 }
     ensures small { unsigned_abs result < TURN_LIMIT }
@@ -64,7 +64,7 @@ fn turn(x1: i128, y1: i128, x2: i128, y2: i128) -> i128
     x1 * y2 - y1 * x2
 }
 
-fn alignment(x1: i128, y1: i128, x2: i128, y2: i128) -> i128
+fn alignment(x1: i64, y1: i64, x2: i64, y2: i64) -> i64
     requires { AreDirections x1 y1 x2 y2 }
     ensures value { result ≡ x1 *ℤ x2 +ℤ y1 *ℤ y2 }
     ensures small { unsigned_abs result < TURN_LIMIT }

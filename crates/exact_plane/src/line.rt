@@ -6,7 +6,6 @@ ghost use Rattle.exact_plane.specs.Line.{side_of, turn_at, reduced_line, IsOn, I
 ghost use Rattle.exact_plane.specs.Point.{Point};
 ghost use Rattle.exact_plane.specs.Segment.{line_of_segment, IsCoordinate, AreCoordinates};
 
-use crate::point::narrow;
 use crate::segment::Segment;
 use integers::{greatest_common_divisor, quotient};
 use std::marker::Model;
@@ -17,9 +16,9 @@ use std::marker::Model;
 /// left. One line has one triple of numbers.
 #[derive(Clone, Copy, Debug, PartialEq, Eq)]
 pub struct Line {
-    pub(crate) a: i128,
-    pub(crate) b: i128,
-    pub(crate) c: i128,
+    pub(crate) a: i64,
+    pub(crate) b: i64,
+    pub(crate) c: i64,
 }
 
 impl Model for Line {
@@ -55,7 +54,7 @@ impl Line {
 }
 
 // How far one coordinate is beyond another.
-pub(crate) fn difference(first: i128, second: i128) -> i128
+pub(crate) fn difference(first: i64, second: i64) -> i64
     requires first { IsCoordinate first }
     requires second { IsCoordinate second }
     ensures value { result ≡ first -ℤ second }
@@ -65,7 +64,7 @@ pub(crate) fn difference(first: i128, second: i128) -> i128
 }
 
 // The number c of the line through two ends.
-pub(crate) fn offset(x1: i128, y1: i128, x2: i128, y2: i128) -> i128
+pub(crate) fn offset(x1: i64, y1: i64, x2: i64, y2: i64) -> i64
     requires { AreCoordinates x1 y1 x2 y2 }
     ensures value { result ≡ x1 *ℤ y2 -ℤ x2 *ℤ y1 }
     ensures small { unsigned_abs result ≤ MAX_OFFSET }
@@ -74,17 +73,16 @@ pub(crate) fn offset(x1: i128, y1: i128, x2: i128, y2: i128) -> i128
 }
 
 // The same line in lowest terms.
-fn lowest(a: i128, b: i128, c: i128) -> Line
+fn lowest(a: i64, b: i64, c: i64) -> Line
     requires { AreLineNumbers a b c }
     ensures value { result ≡ reduced_line a b c }
 {
-    let (a, b, c) = (narrow(a), narrow(b), narrow(c));
     let of_both = greatest_common_divisor(a.unsigned_abs(), b.unsigned_abs());
     let divisor = greatest_common_divisor(of_both, c.unsigned_abs());
     Line {
-        a: quotient(a, divisor) as i128,
-        b: quotient(b, divisor) as i128,
-        c: quotient(c, divisor) as i128,
+        a: quotient(a, divisor),
+        b: quotient(b, divisor),
+        c: quotient(c, divisor),
     }
 }
 
@@ -99,10 +97,10 @@ pub fn line_of(segment: &Segment) -> Line
     ensures upper_on { IsOn result segment.now.upper }
     ensures left { (t : Point) → int_cmp (side_of result t) (pos 0) ≡ int_cmp (turn_at segment.now.lower segment.now.upper t) (pos 0) }
 {
-    let lower = segment.lower();
-    let upper = segment.upper();
-    let across = difference(upper.x(), lower.x());
-    let down = difference(lower.y(), upper.y());
-    let offset = offset(lower.x(), lower.y(), upper.x(), upper.y());
+    let (x1, y1) = (segment.lower_x, segment.lower_y);
+    let (x2, y2) = (segment.upper_x, segment.upper_y);
+    let across = difference(x2, x1);
+    let down = difference(y1, y2);
+    let offset = offset(x1, y1, x2, y2);
     lowest(down, across, offset)
 }

@@ -7,7 +7,7 @@ ghost use Rattle.exact_plane.specs.Point.{IsRatio};
 ghost use Rattle.exact_plane.specs.Span.{span_of_segment};
 
 use crate::line::Line;
-use crate::point::{Point, compare_places, is_in_range, lowest};
+use crate::point::{Point, compare_places, is_in_range, lowest, wide_product};
 use crate::segment::Segment;
 use crate::spans::Span;
 use std::cmp::Ordering;
@@ -61,7 +61,7 @@ fn is_one_line(first: &Line, second: &Line) -> bool
 }
 
 // The weight of the crossing of two lines: 0 where they are parallel.
-pub(crate) fn cross_weight(a1: i128, b1: i128, a2: i128, b2: i128) -> i128
+pub(crate) fn cross_weight(a1: i64, b1: i64, a2: i64, b2: i64) -> i64
     requires a1 { unsigned_abs a1 ≤ MAX_DIFFERENCE }
     requires b1 { unsigned_abs b1 ≤ MAX_DIFFERENCE }
     requires a2 { unsigned_abs a2 ≤ MAX_DIFFERENCE }
@@ -73,7 +73,7 @@ pub(crate) fn cross_weight(a1: i128, b1: i128, a2: i128, b2: i128) -> i128
 }
 
 // The number x of the crossing.
-fn cross_abscissa(b1: i128, c1: i128, b2: i128, c2: i128) -> i128
+fn cross_abscissa(b1: i64, c1: i64, b2: i64, c2: i64) -> i128
     requires b1 { unsigned_abs b1 ≤ MAX_DIFFERENCE }
     requires c1 { unsigned_abs c1 ≤ MAX_OFFSET }
     requires b2 { unsigned_abs b2 ≤ MAX_DIFFERENCE }
@@ -81,11 +81,13 @@ fn cross_abscissa(b1: i128, c1: i128, b2: i128, c2: i128) -> i128
     ensures value { result ≡ b1 *ℤ c2 -ℤ b2 *ℤ c1 }
     ensures small { unsigned_abs result < NUMERATOR_LIMIT }
 {
-    b1 * c2 - b2 * c1
+    let first = wide_product(b1, c2);
+    let second = wide_product(b2, c1);
+    first - second
 }
 
 // The number y of the crossing.
-fn cross_ordinate(c1: i128, a1: i128, c2: i128, a2: i128) -> i128
+fn cross_ordinate(c1: i64, a1: i64, c2: i64, a2: i64) -> i128
     requires c1 { unsigned_abs c1 ≤ MAX_OFFSET }
     requires a1 { unsigned_abs a1 ≤ MAX_DIFFERENCE }
     requires c2 { unsigned_abs c2 ≤ MAX_OFFSET }
@@ -93,7 +95,9 @@ fn cross_ordinate(c1: i128, a1: i128, c2: i128, a2: i128) -> i128
     ensures value { result ≡ c1 *ℤ a2 -ℤ c2 *ℤ a1 }
     ensures small { unsigned_abs result < NUMERATOR_LIMIT }
 {
-    c1 * a2 - c2 * a1
+    let first = wide_product(c1, a2);
+    let second = wide_product(c2, a1);
+    first - second
 }
 
 // Whether a span's lower end comes before the place (x/w, y/w) or is there.
@@ -141,7 +145,7 @@ fn crossing(first: &Span, second: &Span) -> Meet
     let (l, m) = (first.line, second.line);
     let x = cross_abscissa(l.b, l.c, m.b, m.c);
     let y = cross_ordinate(l.c, l.a, m.c, m.a);
-    let w = cross_weight(l.a, l.b, m.a, m.b);
+    let w = cross_weight(l.a, l.b, m.a, m.b) as i128;
     if is_on_both(first, second, x, y, w) {
         Meet::At(lowest(x, y, w))
     } else {

@@ -27,10 +27,10 @@ pub enum SegmentError {
 /// Its lower end is the lesser of the two in point order.
 #[derive(Clone, Copy, PartialEq, Eq)]
 pub struct Segment {
-    lower_x: i64,
-    lower_y: i64,
-    upper_x: i64,
-    upper_y: i64,
+    pub(crate) lower_x: i64,
+    pub(crate) lower_y: i64,
+    pub(crate) upper_x: i64,
+    pub(crate) upper_y: i64,
 }
 
 impl Model for Segment {

@@ -36,7 +36,7 @@ fn as_sign(value: i128) -> Sign
 }
 
 // The three numbers of the line need not be in lowest terms.
-fn side_value(a: i128, b: i128, c: i128, x: i128, y: i128, w: i128) -> i128
+fn side_value(a: i64, b: i64, c: i64, x: i128, y: i128, w: i128) -> i128
     requires a { unsigned_abs a ≤ MAX_DIFFERENCE }
     requires b { unsigned_abs b ≤ MAX_DIFFERENCE }
     requires c { unsigned_abs c ≤ MAX_OFFSET }
@@ -44,9 +44,9 @@ fn side_value(a: i128, b: i128, c: i128, x: i128, y: i128, w: i128) -> i128
     ensures value { result ≡ side_number a b c x y w }
     ensures small { unsigned_abs result < SIDE_LIMIT }
 {
-    let across = wide_product(narrow(a), narrow(x));
-    let along = wide_product(narrow(b), narrow(y));
-    let beyond = wide_product(narrow(c), narrow(w));
+    let across = wide_product(a, narrow(x));
+    let along = wide_product(b, narrow(y));
+    let beyond = wide_product(c, narrow(w));
     across + along + beyond
 }
 
@@ -66,11 +66,11 @@ pub fn side(line: &Line, point: &Point) -> Sign
 pub fn orientation(segment: &Segment, point: &Point) -> Sign
     ensures { result ≡ sign_of (side_of (line_of_segment segment.now) point.now) }
 {
-    let lower = segment.lower();
-    let upper = segment.upper();
-    let across = difference(upper.x(), lower.x());
-    let down = difference(lower.y(), upper.y());
-    let offset = offset(lower.x(), lower.y(), upper.x(), upper.y());
+    let (x1, y1) = (segment.lower_x, segment.lower_y);
+    let (x2, y2) = (segment.upper_x, segment.upper_y);
+    let across = difference(x2, x1);
+    let down = difference(y1, y2);
+    let offset = offset(x1, y1, x2, y2);
     let value = side_value(down, across, offset, point.x, point.y, point.w);
     as_sign(value)
 }
@@ -86,7 +86,7 @@ impl Line {
 }
 
 // How far a line is below 0, at the abscissa x / w, times its own b, another line's b and the weight.
-fn depth(a: i128, c: i128, x: i128, w: i128, by: i128) -> i128
+fn depth(a: i64, c: i64, x: i128, w: i128, by: i64) -> i128
     requires a { unsigned_abs a ≤ MAX_DIFFERENCE }
     requires c { unsigned_abs c ≤ MAX_OFFSET }
     requires ratio { IsRatio x w }
@@ -94,9 +94,9 @@ fn depth(a: i128, c: i128, x: i128, w: i128, by: i128) -> i128
     ensures value { result ≡ (a *ℤ x +ℤ c *ℤ w) *ℤ by }
     ensures small { unsigned_abs result < HEIGHT_LIMIT }
 {
-    let slope = wide_product(narrow(a), narrow(x));
-    let beyond = wide_product(narrow(c), narrow(w));
-    (slope + beyond) * by
+    let slope = wide_product(a, narrow(x));
+    let beyond = wide_product(c, narrow(w));
+    (slope + beyond) * by as i128
 }
 
 /// Compares the heights of two lines at the abscissa of a point: `Greater` where the first is above the second.

@@ -1,5 +1,5 @@
 use Rattle.std.proofs.Common.{rules, ◌≡◌, pos, ◌<ℤ◌, to_z, of_z, ap, sym, ◌∙◌, subst}
-use Rattle.std.specs.Int.{w128}
+use Rattle.std.specs.Int.{w64, w128}
 use Rattle.exact_plane.specs.declared.meets.Meet.TheVariants.{At}
 use Rattle.exact_plane.specs.MeetOf.{crossing, weight_of}
 use Rattle.exact_plane.specs.Point.{Point, reduced}
@@ -8,17 +8,17 @@ use Rattle.exact_plane.proofs.meets.crossing.Goals as goal
 
 pub is_on_both-requires-clause-x : goal.is_on_both-requires-clause-x
 is_on_both-requires-clause-x c =
-    let w : to_z w128 (of_z w128 c.cross_weight-w.result) ≡ weight_of c.args.first.now.line c.args.second.now.line = search rules in
+    let w : to_z w128 (of_z w128 (to_z w64 (of_z w64 c.cross_weight-w.result))) ≡ weight_of c.args.first.now.line c.args.second.now.line = search rules in
     record { numerator = search rules; positive = subst (λ z. pos 0 <ℤ z) (sym w) c.requires; small = search rules }
 
 pub is_on_both-requires-clause-y : goal.is_on_both-requires-clause-y
 is_on_both-requires-clause-y c =
-    let w : to_z w128 (of_z w128 c.cross_weight-w.result) ≡ weight_of c.args.first.now.line c.args.second.now.line = search rules in
+    let w : to_z w128 (of_z w128 (to_z w64 (of_z w64 c.cross_weight-w.result))) ≡ weight_of c.args.first.now.line c.args.second.now.line = search rules in
     record { numerator = search rules; positive = subst (λ z. pos 0 <ℤ z) (sym w) c.requires; small = search rules }
 
 pub lowest-requires : goal.lowest-requires
 lowest-requires c =
-    common_in_range c.args.first.now c.args.second.now (record { x = to_z w128 (of_z w128 c.cross_abscissa-x.result); y = to_z w128 (of_z w128 c.cross_ordinate-y.result); w = to_z w128 (of_z w128 c.cross_weight-w.result) }) (search rules)
+    common_in_range c.args.first.now c.args.second.now (record { x = to_z w128 (of_z w128 c.cross_abscissa-x.result); y = to_z w128 (of_z w128 c.cross_ordinate-y.result); w = to_z w128 (of_z w128 (to_z w64 (of_z w64 c.cross_weight-w.result))) }) (search rules)
 
 pub returns-then-is_on_both : goal.returns-then-is_on_both
 returns-then-is_on_both c =
@@ -26,8 +26,8 @@ returns-then-is_on_both c =
     let m = c.args.second.now.line in
     let x : to_z w128 (of_z w128 c.cross_abscissa-x.result) ≡ (crossing l m).x = search rules in
     let y : to_z w128 (of_z w128 c.cross_ordinate-y.result) ≡ (crossing l m).y = search rules in
-    let w : to_z w128 (of_z w128 c.cross_weight-w.result) ≡ (crossing l m).w = search rules in
-    let e : c.lowest.result ≡ reduced (to_z w128 (of_z w128 c.cross_abscissa-x.result)) (to_z w128 (of_z w128 c.cross_ordinate-y.result)) (to_z w128 (of_z w128 c.cross_weight-w.result)) = search rules in
+    let w : to_z w128 (of_z w128 (to_z w64 (of_z w64 c.cross_weight-w.result))) ≡ (crossing l m).w = search rules in
+    let e : c.lowest.result ≡ reduced (to_z w128 (of_z w128 c.cross_abscissa-x.result)) (to_z w128 (of_z w128 c.cross_ordinate-y.result)) (to_z w128 (of_z w128 (to_z w64 (of_z w64 c.cross_weight-w.result)))) = search rules in
     ap (λ (p : Point). At p) e ∙ crossing_found c.args.first.now c.args.second.now _ _ _ x y w (search rules)
 
 pub returns-else-is_on_both : goal.returns-else-is_on_both
@@ -36,7 +36,7 @@ returns-else-is_on_both c =
     let m = c.args.second.now.line in
     let x : to_z w128 (of_z w128 c.cross_abscissa-x.result) ≡ (crossing l m).x = search rules in
     let y : to_z w128 (of_z w128 c.cross_ordinate-y.result) ≡ (crossing l m).y = search rules in
-    let w : to_z w128 (of_z w128 c.cross_weight-w.result) ≡ (crossing l m).w = search rules in
+    let w : to_z w128 (of_z w128 (to_z w64 (of_z w64 c.cross_weight-w.result))) ≡ (crossing l m).w = search rules in
     crossing_missed c.args.first.now c.args.second.now _ _ _ x y w (search rules)
 
 pub cross_abscissa-x-requires : goal.cross_abscissa-x-requires
