@@ -3,6 +3,7 @@ pub mod Between
 pub mod Clockwise
 pub mod Crossings
 pub mod Directions
+pub mod Floors
 pub mod Geometry
 pub mod Heights
 pub mod Lines
@@ -10,6 +11,7 @@ pub mod Lowest
 pub mod Meetings
 pub mod Orders
 pub mod Parts
+pub mod PlaceLowest
 pub mod Places
 pub mod PlaneLaws
 pub mod SamePlaces

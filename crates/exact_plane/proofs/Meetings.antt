@@ -151,5 +151,19 @@ module _ (s t : Span) (x y w : ℤ) (ex : x ≡ (crossing s.line t.line).x) (ey 
   pub crossing_missed : is_common_place s t (record { x = x; y = y; w = w }) ≡ false → Apart ≡ crossing_meet s t
   crossing_missed h = left_out (is_common_place s t (record { x = x; y = y; w = w })) (At (reduced x y w)) Apart h ∙ (λ i. place_meet s t (record { x = ex i; y = ey i; w = ew i }))
 
-pub common_in_range : (s t : Span) (c : Point) → is_common_place s t c ≡ true → in_range c.x c.y c.w ≡ true
-common_in_range s t c h = (both (is_between t c) (in_range c.x c.y c.w) (both (is_between s c) (is_between t c && in_range c.x c.y c.w) h).1).1
+-- a place in range is common where it is between the ends of both
+pub common_within : (s t : Span) (c : Point) → in_range c.x c.y c.w ≡ true → (is_between s c && is_between t c) ≡ is_common_place s t c
+common_within s t c h = rw h (at (is_between s c) (is_between t c))
+  where
+    at : (a b : Bool) → (a && b) ≡ (a && (b && true))
+    at true true = refl
+    at true false = refl
+    at false b = refl
+
+pub common_outside : (s t : Span) (c : Point) → in_range c.x c.y c.w ≡ false → is_common_place s t c ≡ false
+common_outside s t c h = rw h (at (is_between s c) (is_between t c))
+  where
+    at : (a b : Bool) → (a && (b && false)) ≡ false
+    at true true = refl
+    at true false = refl
+    at false b = refl

@@ -1,6 +1,7 @@
 -- A point as its three numbers, and which three are a point's.
 use Rattle.std.specs.Prelude.{◌*◌, ◌<◌, ◌≤◌, Bool, ◌&&◌, ℤ, pos, ◌<ℤ◌, unsigned_abs, int_lt, nat_lt, nat_le, int_div}
-use Rattle.exact_plane.specs.declared.bounds.TheConstants.{MAX_COORDINATE, WEIGHT_LIMIT, NUMERATOR_LIMIT}
+use Rattle.exact_plane.specs.declared.bounds.TheConstants.{MAX_COORDINATE, WEIGHT_LIMIT}
+use Rattle.std.specs.Ordering.{int_eq}
 use Rattle.integers.specs.Lowest.{common_divisor, IsLowest}
 
 -- the place (x / w, y / w)
@@ -29,8 +30,6 @@ pub record IsPoint (p : Point) : Type 0 where
   pub range : IsInRange p.x p.y p.w
   pub lowest : IsLowest p.x p.y p.w
 
--- a number of a point, over its weight
-pub record IsRatio (a w : ℤ) : Type 0 where
-  pub numerator : unsigned_abs a < NUMERATOR_LIMIT
-  pub positive : pos 0 <ℤ w
-  pub small : unsigned_abs w < WEIGHT_LIMIT
+-- whether two points have the same numbers
+abbrev pub point_eq : Point → Point → Bool
+point_eq p q = int_eq p.x q.x && (int_eq p.y q.y && int_eq p.w q.w)

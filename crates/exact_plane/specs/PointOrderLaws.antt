@@ -1,15 +1,16 @@
 -- The order of points is total, and points that it does not tell apart are one.
-use Rattle.std.specs.Prelude.{◌≡◌, zero, suc, Bool, true, false, ◌&&◌, [], ◌∷◌, ℤ, pos, negsuc, ◌*ℤ◌, ◌<ℤ◌, refl}
+use Rattle.std.specs.Prelude.{◌≡◌, zero, suc, Bool, true, false, ◌&&◌, [], ◌∷◌, ℤ, pos, negsuc, ◌*ℤ◌, ◌<ℤ◌, refl, ℕ, List, ◌++◌, IsTrue}
 use Rattle.std.proofs.Common.{arith, ap, ap₂, sym, ◌∙◌}
 use Rattle.std.proofs.lemmas.Int.{ints}
 use Rattle.std.specs.declared.cmp.Ordering.TheVariants.{Equal}
 use Rattle.std.specs.Ordering.{ordering_then, int_cmp, int_eq, is_eq, eq_by_cmp}
-use Rattle.std.specs.Cmp.{IsTotalOrder, int_cmp_total, then_total, on_total, both_ways, Equal-is}
+use Rattle.std.specs.Cmp.{IsTotalOrder, IsEquivalence, and_equiv, on_equiv, int_eq_equiv, int_cmp_total, then_total, on_total, both_ways, Equal-is}
 use Rattle.integers.proofs.Classes.{then_equal}
 use Rattle.integers.proofs.Compare.{ratio_total, equal_out, equal_in}
 use Rattle.integers.proofs.Reify.{ring, sides}
 use Rattle.integers.proofs.Signs.{same_by, diff_zero}
-use Rattle.exact_plane.specs.Point.{Point}
+use Rattle.std.specs.Hash.{i128}
+use Rattle.exact_plane.specs.Point.{Point, point_eq}
 use Rattle.exact_plane.specs.PointOrder.{weight, by_x, by_y, point_cmp}
 
 pub weight-positive : (w : ℤ) → pos 0 <ℤ weight w
@@ -55,3 +56,17 @@ point_cmp_ties p q = both_ways _ _ there back
     back e =
         let s = same_triple p q ((Equal-is (point_cmp p q)).0 e) in
         ap₂ ◌&&◌ (ap is_eq (equal_in p.x q.x s.0)) (ap₂ ◌&&◌ (ap is_eq (equal_in p.y q.y s.1)) (ap is_eq (equal_in p.w q.w s.2)))
+
+-- equality by the three numbers
+pub point_eq_equiv : IsEquivalence point_eq
+point_eq_equiv = and_equiv (on_equiv (λ p. p.x) int_eq_equiv) (and_equiv (on_equiv (λ p. p.y) int_eq_equiv) (on_equiv (λ p. p.w) int_eq_equiv))
+
+-- what a point gives a hasher
+abbrev pub hash_input : Point → List (List ℕ)
+hash_input p = i128 p.x ++ (i128 p.y ++ i128 p.w)
+
+pub hash_respects : (p q : Point) → IsTrue (point_eq p q) → hash_input p ≡ hash_input q
+hash_respects p q e =
+    let first = and_true _ _ e in
+    let second = and_true _ _ first.1 in
+    ap₂ ◌++◌ (ap i128 (equal_out p.x q.x ((Equal-is _).0 first.0))) (ap₂ ◌++◌ (ap i128 (equal_out p.y q.y ((Equal-is _).0 second.0))) (ap i128 (equal_out p.w q.w ((Equal-is _).0 second.1))))

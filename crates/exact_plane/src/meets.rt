@@ -1,13 +1,12 @@
-ghost use Rattle.std.specs.Prelude.{◌≡◌, ◌<◌, ◌≤◌, pos, ◌-ℤ◌, ◌*ℤ◌, ◌<ℤ◌, unsigned_abs};
-ghost use Rattle.std.specs.Ordering.{is_le};
+ghost use Rattle.std.specs.Prelude.{◌≡◌, ◌&&◌, ◌<◌, ◌≤◌, pos, ◌-ℤ◌, ◌*ℤ◌, ◌<ℤ◌, unsigned_abs};
 ghost use Rattle.exact_plane.specs.declared.bounds.TheConstants.{MAX_DIFFERENCE, MAX_OFFSET, WEIGHT_LIMIT, NUMERATOR_LIMIT};
 ghost use Rattle.exact_plane.specs.Meet.{IsMeeting};
-ghost use Rattle.exact_plane.specs.MeetOf.{later as later_point, earlier as earlier_point, part_of, same_line, weight_of, place_cmp, is_between as is_place_between, is_common_place, crossing_meet};
-ghost use Rattle.exact_plane.specs.Point.{IsRatio};
+ghost use Rattle.exact_plane.specs.MeetOf.{later as later_point, earlier as earlier_point, part_of, same_line, weight_of, is_between as is_place_between, crossing_meet};
 ghost use Rattle.exact_plane.specs.Span.{span_of_segment};
 
 use crate::line::Line;
-use crate::point::{Point, compare_places, is_in_range, lowest, wide_product};
+use crate::place::{Place, wide_product};
+use crate::point::{Point, is_in_range};
 use crate::segment::Segment;
 use crate::spans::Span;
 use std::cmp::Ordering;
@@ -100,41 +99,18 @@ fn cross_ordinate(c1: i64, a1: i64, c2: i64, a2: i64) -> i128
     first - second
 }
 
-// Whether a span's lower end comes before the place (x/w, y/w) or is there.
-fn starts_by(lower: &Point, x: i128, y: i128, w: i128) -> bool
-    requires x { IsRatio x w }
-    requires y { IsRatio y w }
-    ensures { result ≡ is_le (place_cmp lower.now (record { x = x; y = y; w = w })) }
+// Whether a place of a span's line is between its ends.
+fn is_between(span: &Span, place: &Place) -> bool
+    ensures { result ≡ is_place_between span.now place.now }
 {
-    compare_places(lower.x, lower.y, lower.w, x, y, w).is_le()
+    span.lower.place.compare(place).is_le() && place.compare(&span.upper.place).is_le()
 }
 
-// Whether a span's upper end comes after the place (x/w, y/w) or is there.
-fn ends_from(upper: &Point, x: i128, y: i128, w: i128) -> bool
-    requires x { IsRatio x w }
-    requires y { IsRatio y w }
-    ensures { result ≡ is_le (place_cmp (record { x = x; y = y; w = w }) upper.now) }
+// Whether a place of both lines is between the ends of both spans.
+fn is_between_both(first: &Span, second: &Span, place: &Place) -> bool
+    ensures { result ≡ (is_place_between first.now place.now && is_place_between second.now place.now) }
 {
-    compare_places(x, y, w, upper.x, upper.y, upper.w).is_le()
-}
-
-fn is_between(span: &Span, x: i128, y: i128, w: i128) -> bool
-    requires x { IsRatio x w }
-    requires y { IsRatio y w }
-    ensures { result ≡ is_place_between span.now (record { x = x; y = y; w = w }) }
-{
-    starts_by(&span.lower, x, y, w) && ends_from(&span.upper, x, y, w)
-}
-
-fn is_on_both(first: &Span, second: &Span, x: i128, y: i128, w: i128) -> bool
-    requires x { IsRatio x w }
-    requires y { IsRatio y w }
-    ensures { result ≡ is_common_place first.now second.now (record { x = x; y = y; w = w }) }
-{
-    if !is_between(first, x, y, w) {
-        return false;
-    }
-    is_between(second, x, y, w) && is_in_range(x, y, w)
+    is_between(first, place) && is_between(second, place)
 }
 
 // What two spans have in common, where the weight of their lines' crossing is positive.
@@ -145,9 +121,15 @@ fn crossing(first: &Span, second: &Span) -> Meet
     let (l, m) = (first.line, second.line);
     let x = cross_abscissa(l.b, l.c, m.b, m.c);
     let y = cross_ordinate(l.c, l.a, m.c, m.a);
-    let w = cross_weight(l.a, l.b, m.a, m.b) as i128;
-    if is_on_both(first, second, x, y, w) {
-        Meet::At(lowest(x, y, w))
+    let w = cross_weight(l.a, l.b, m.a, m.b);
+    if !is_in_range(x, y, w as i128) {
+        return Meet::Apart;
+    }
+    let place = Place::of(x, y, w);
+    if is_between_both(first, second, &place) {
+        Meet::At(Point {
+            place: place.lowest(),
+        })
     } else {
         Meet::Apart
     }

@@ -79,7 +79,7 @@ impl Segment {
         ensures equal { IsErrOf result SegmentError.Equal ↔ (AreCoordinates x1 y1 x2 y2 × (x1 ≡ x2) × (y1 ≡ y2)) }
         ensures ends { IfOk result (λ s. (s ≡ segment x1 y1 x2 y2) ⊎ (s ≡ segment x2 y2 x1 y1)) }
         ensures ascending { IfOk result (λ s. point_cmp s.lower s.upper ≡ Less) }
-        ensures limit { MAX_COORDINATE ≡ 2 ^ 20 - 1 }
+        ensures limit { MAX_COORDINATE ≡ 2 ^ 24 - 1 }
     {
         if !all_within(x1, y1, x2, y2) {
             return Err(SegmentError::Range);

@@ -11,15 +11,9 @@ returns-clause-value c =
     let m = c.args.second.now in
     let p = c.args.point.now in
     let h : IsPoint c.args.point.now = search rules in
-    let first : to_z w128 (of_z w128 c.depth-of_first.result) ≡ (l.a *ℤ p.x +ℤ l.c *ℤ p.w) *ℤ m.b = search rules in
-    let second : to_z w128 (of_z w128 c.depth-of_second.result) ≡ (m.a *ℤ p.x +ℤ m.c *ℤ p.w) *ℤ l.b = search rules in
+    let first : to_z w128 (of_z w128 c.by_other-of_first.result) ≡ (l.a *ℤ p.x +ℤ l.c *ℤ p.w) *ℤ m.b = search rules in
+    let second : to_z w128 (of_z w128 c.by_other-of_second.result) ≡ (m.a *ℤ p.x +ℤ m.c *ℤ p.w) *ℤ l.b = search rules in
     c.cmp.ensures ∙ ap₂ int_cmp second first ∙ height_cmp-is l m p h.range.positive
 
 pub returns-clause-limit : goal.returns-clause-limit
 returns-clause-limit c = search rules
-
-pub depth-of_first-requires : goal.depth-of_first-requires
-depth-of_first-requires c = record { a = search rules; c = search rules; ratio = search rules; by = search rules }
-
-pub depth-of_second-requires : goal.depth-of_second-requires
-depth-of_second-requires c = record { a = search rules; c = search rules; ratio = search rules; by = search rules }

@@ -22,4 +22,4 @@ pub difference-down-requires : goal.difference-down-requires
 difference-down-requires c = record { first = search rules; second = search rules }
 
 pub side_value-value-requires : goal.side_value-value-requires
-side_value-value-requires c = record { a = search rules; b = search rules; c = search rules; point = search rules }
+side_value-value-requires c = record { a = search rules; b = search rules; c = search rules }

@@ -10,5 +10,5 @@ returns c =
     let q = c.args.other.now in
     let h : IsPoint c.args.self.now = search rules in
     let k : IsPoint c.args.other.now = search rules in
-    let e : c.compare_places.result ≡ place_cmp p q = search rules in
+    let e : c.compare.result ≡ place_cmp p q = search rules in
     e ∙ two_decide p q h k
