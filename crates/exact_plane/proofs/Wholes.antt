@@ -1,20 +1,15 @@
 -- Points with whole coordinates, and the ends of a segment.
-use Rattle.std.proofs.Common.{◌≡◌, Bool, true, false, ◌&&◌, ℤ, pos, ◌*ℤ◌, ◌-ℤ◌, ◌<ℤ◌, ◌≤ℤ◌, FitsSigned, to_z, of_z, refl, ap, ap₂, sym, ◌∙◌, arith, Ordering, Less, Equal, Greater}
+use Rattle.std.proofs.Common.{◌≡◌, Bool, true, false, ◌&&◌, ℤ, pos, ◌*ℤ◌, ◌-ℤ◌, ◌<ℤ◌, ◌≤ℤ◌, refl, ap, ap₂, sym, ◌∙◌, arith, Ordering, Less, Equal, Greater}
 use Rattle.std.specs.Prelude.{◌||◌, int_lt}
-use Rattle.std.specs.Int.{w64, w128}
 use Rattle.std.specs.Ordering.{int_cmp, int_eq, ordering_then}
 use Rattle.std.proofs.lemmas.Bool.{leb-true}
-use Rattle.std.proofs.lemmas.Int.{ints, to_z-of_z, fits_signed_from_abs}
+use Rattle.std.proofs.lemmas.Int.{ints}
 use Rattle.integers.proofs.Decisions.{both, clash, eq_in, eq_out, ge_in, lt_in, lt_out}
 use Rattle.integers.proofs.Compare.{less_out, less_in, equal_out, equal_in, greater_out}
 use Rattle.exact_plane.specs.Point.{IsPoint}
 use Rattle.exact_plane.proofs.Lowest.{whole_lowest}
 use Rattle.exact_plane.specs.PointOrder.{point_cmp}
 use Rattle.exact_plane.specs.Segment.{whole_point, is_before, is_coordinate, are_coordinates, IsCoordinate, AreCoordinates, IsSegment}
-
--- a coordinate is the same number in 128 bits
-pub widened : (z : ℤ) → FitsSigned w64 z → IsCoordinate z → to_z w128 (of_z w128 (to_z w64 (of_z w64 z))) ≡ z
-widened z f h = ap (λ y. to_z w128 (of_z w128 y)) (to_z-of_z w64 z f) ∙ to_z-of_z w128 z (fits_signed_from_abs w128 z (omega arith))
 
 pub whole_is : (x y : ℤ) → IsCoordinate x → IsCoordinate y → IsPoint (whole_point x y)
 whole_is x y h k = record {
