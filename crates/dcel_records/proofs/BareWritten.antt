@@ -11,7 +11,7 @@ use Rattle.slab_laws.specs.declared.names.FaceId.{FaceId}
 use Rattle.slab_laws.specs.declared.names.VertexId.{VertexId}
 use Rattle.slab_laws.specs.FaceLists.{MovedView}
 use Rattle.slab_laws.specs.Tables.{row_at, names}
-use Rattle.slab_laws.specs.View.{Faces, HasBareFace, cycle_id, vertex_id, face_id}
+use Rattle.slab_laws.specs.View.{Faces, VertexRecord, HasBareFace, cycle_id, vertex_id, face_id}
 use Rattle.arr_notes.specs.FaceWriters.{bare_in, not_bare}
 use Rattle.arr_notes.proofs.RowLaws.{one_table}
 use Rattle.chain_laws.specs.Links.{Node, first_or, key_at, without}
@@ -29,6 +29,8 @@ use Rattle.dcel_records.specs.Outs.{IsOut}
 use Rattle.dcel_records.specs.Placing.{cycle_placing, vertex_placing, place_node, node_or, nodes, heads, own, AreChained, AreOthersChained, all_but, rest_of, rest_of_face, IsRelinked, IsUnlinked, IsLinkedFirst}
 use Rattle.dcel_records.specs.RecordsView.{RecordsView, GraphView, tables_of, graph_part}
 use Rattle.dcel_records.specs.StoredRows.{vertex_of, cycle_record, dart_kept, graph_in, graph_view, tables_in, lists_in, records_view, out_or, out_at, pins_among, AreSoundGraphs, AreSoundFaces, HasLeft}
+use Rattle.dcel_records.specs.declared.vertex_map.VertexMap.{VertexMap}
+use Rattle.dcel_records.specs.VertexMaps.{IsMapOf}
 use Rattle.dcel_records.proofs.Chained.{own_list, own_same, chained_same, others_chained, more_own, fewer_chained, fewer_own, moved_own}
 use Rattle.dcel_records.proofs.FaceTables.{bare_seen, bare_put, bare_del, bare_same, names_same}
 use Rattle.dcel_records.proofs.FacesKept.{nodes_updated}
@@ -59,9 +61,10 @@ module _ (vs ws : Slab StoredVertex) (ds : Slab StoredDart) (rests : (n : ℕ) �
       out_is None = refl
       out_is (Some x) = refl
 
-  pub graph_sound : (pins : ℕ) → AreSoundGraphs vs ds pins → AreSoundGraphs ws ds pins
-  graph_sound pins k = record {
+  pub graph_sound : {at : VertexMap} (pins : ℕ) → AreSoundGraphs vs ds at pins → AreSoundGraphs ws ds at pins
+  graph_sound {at} pins k = record {
     rows = kept_by ws ds (graph_in vs ds) graph_same k.rows.twinned (λ w. subst (λ o. IsOut (graph_in vs ds) w o) (sym (outs_same w)) (k.rows.outs w));
+    mapped = subst (λ (rs : List (ℕ × VertexRecord)). IsMapOf at rs) (sym vertices_same) k.mapped;
     counted = k.counted ∙ sym (ap pins_among vertices_same);
   }
 

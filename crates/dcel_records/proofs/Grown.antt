@@ -2,6 +2,7 @@
 use Rattle.std.proofs.Common.{◌≡◌, ℕ, ◌+◌, ◌≤◌, count_by, max, List, Option, is_some, refl, sym, ap, subst, ◌∙◌, arith}
 use Rattle.slab.specs.Slab.{Slab, slab_len, HasRoomFor}
 use Rattle.slab_laws.specs.FaceLists.{MovedView}
+use Rattle.slab_laws.specs.View.{VertexRecord}
 use Rattle.chain_laws.specs.Rows.{tabled}
 use Rattle.dcel_records.specs.declared.ranks.RankKey.{RankKey}
 use Rattle.dcel_records.specs.declared.rows.StoredVertex.{StoredVertex}
@@ -14,6 +15,9 @@ use Rattle.dcel_records.specs.StoredRows.{graph_in, tables_in, records_view, IsG
 use Rattle.dcel_records.proofs.OnCycles.{on_slots}
 use Rattle.dcel_records.proofs.Isolated.{isolated_slots}
 use Rattle.dcel_records.proofs.Whole.{graph_slots, records_slots}
+use Rattle.dcel_records.specs.declared.vertex_map.VertexMap.{VertexMap}
+use Rattle.dcel_records.specs.VertexMaps.{IsMapOf}
+use Rattle.dcel_records.proofs.VertexMapped.{remapped}
 
 module _ {X : Type 0} (s t : Slab X) (g : IsGrown s t) where
   pub grown_len : slab_len t ≡ slab_len s
@@ -43,9 +47,9 @@ module _ (vs ws : Slab StoredVertex) (ds es : Slab StoredDart) (cs os : Slab Sto
   faces_grown k = subst (λ (s : Slab StoredVertex). AreSoundFaces s os gs) (sym a.rest) (subst (λ (s : Slab StoredCycle). AreSoundFaces (roomy vs ws.capacity) s gs) (sym c.rest) (subst (λ (s : Slab StoredFace). AreSoundFaces (roomy vs ws.capacity) (roomy cs os.capacity) s) (sym d.rest) (record { cycles = k.cycles; bare = k.bare; unbounded = k.unbounded })))
 
   -- the invariant, with the promises given
-  pub sound_grown : (pins isolated : ℕ) (mv nv : Option MovedView) (keys vr cr more wr er : ℕ) → AreSoundRecords vs ds cs fs pins isolated mv keys vr cr → IsRoom wr ws → IsRoom er os → AreReadyWhere nv er wr → er ≤ more → AreSoundRecords ws es os gs pins isolated nv more wr er
-  sound_grown pins isolated mv nv keys vr cr more wr er k v e m l = record {
-    graph = records_slots vs ds ws es (ap (λ s. s.slots) a.rest) (ap (λ s. s.slots) b.rest) pins k.graph;
+  pub sound_grown : {at bt : VertexMap} → ((rows : List (ℕ × VertexRecord)) → IsMapOf at rows → IsMapOf bt rows) → (pins isolated : ℕ) (mv nv : Option MovedView) (keys vr cr more wr er : ℕ) → AreSoundRecords vs ds cs fs at pins isolated mv keys vr cr → IsRoom wr ws → IsRoom er os → AreReadyWhere nv er wr → er ≤ more → AreSoundRecords ws es os gs bt pins isolated nv more wr er
+  sound_grown keeps pins isolated mv nv keys vr cr more wr er k v e m l = record {
+    graph = remapped ws es pins keeps (records_slots vs ds ws es (ap (λ s. s.slots) a.rest) (ap (λ s. s.slots) b.rest) pins k.graph);
     faces = faces_grown k.faces;
     vertex_room = v;
     cycle_room = e;

@@ -3,6 +3,7 @@ pub mod Twins
 pub mod Leaving
 pub mod Holding
 pub mod Writing
+pub mod VertexMapped
 pub mod Pins
 pub mod Isolated
 pub mod Ranked

@@ -1,5 +1,5 @@
 -- How many vertices are pinned, before and after each write.
-use Rattle.std.proofs.Common.{◌≡◌, ◌≢◌, inl, inr, ℕ, ◌+◌, ◌≤◌, ◌==◌, Bool, true, false, cond, List, [], ◌∷◌, length, Option, Some, None, is_some, option_map, refl, sym, ap, ◌∙◌, arith}
+use Rattle.std.proofs.Common.{◌≡◌, ◌≢◌, inl, inr, ℕ, ◌+◌, ◌≤◌, ◌==◌, Bool, true, false, cond, List, [], ◌∷◌, length, Option, Some, None, is_some, option_map, refl, sym, ap, subst, ◌∙◌, arith}
 use Rattle.std.specs.List.{filter}
 use Rattle.std.proofs.lemmas.Bool.{cases_eq, cases_Bool}
 use Rattle.std.proofs.lemmas.List.Sums.{length-filter, count_by-le-length}
@@ -16,6 +16,8 @@ use Rattle.dcel_records.specs.declared.rows.StoredVertex.{StoredVertex}
 use Rattle.dcel_records.specs.declared.rows.StoredDart.{StoredDart}
 use Rattle.dcel_records.specs.RecordsView.{GraphView}
 use Rattle.dcel_records.specs.StoredRows.{vertex_of, graph_in, graph_view, pins_among, AreSoundRows, AreSoundGraphs}
+use Rattle.dcel_records.specs.declared.vertex_map.VertexMap.{VertexMap}
+use Rattle.dcel_records.specs.VertexMaps.{IsMapOf}
 use Rattle.dcel_records.proofs.Holding.{vertices_are}
 use Rattle.dcel_records.proofs.Writing.{row_pinned}
 use Rattle.integers.proofs.Tests.{same_number}
@@ -110,7 +112,8 @@ module _ (s : Slab StoredVertex) (k : ℕ) (r q : StoredVertex) (g : get s k ≡
   pub pin_less : r.pinned ≡ true → pins_among (tabled vertex_of s) ≡ pins_among (tabled vertex_of (with_value s k (row_pinned false q))) + 1
   pin_less e = let m = pins_written false in let o = ap one_if e in omega arith
 
--- what leaves the table of vertices leaves their pins
-pub pins_kept : (vs : Slab StoredVertex) (ds : Slab StoredDart) (h : GraphView) (pins : ℕ) → graph_view vs ds ≡ h → AreSoundGraphs vs ds pins → (xs : Slab StoredVertex) (es : Slab StoredDart) (g : View) → graph_in xs es ≡ g → g.vertices ≡ h.graph.vertices → AreSoundRows xs es → AreSoundGraphs xs es pins
-pins_kept vs ds h pins is k xs es g e same rows =
-    record { rows = rows; counted = k.counted ∙ ap pins_among (vertices_are vs ds h is ∙ sym same ∙ sym (ap (λ (v : View). v.vertices) e)) }
+-- what leaves the table of vertices leaves their map and their pins
+pub pins_kept : {at : VertexMap} (vs : Slab StoredVertex) (ds : Slab StoredDart) (h : GraphView) (pins : ℕ) → graph_view vs ds ≡ h → AreSoundGraphs vs ds at pins → (xs : Slab StoredVertex) (es : Slab StoredDart) (g : View) → graph_in xs es ≡ g → g.vertices ≡ h.graph.vertices → AreSoundRows xs es → AreSoundGraphs xs es at pins
+pins_kept {at} vs ds h pins is k xs es g e same rows =
+    let table : (graph_in vs ds).vertices ≡ (graph_in xs es).vertices = vertices_are vs ds h is ∙ sym same ∙ sym (ap (λ (v : View). v.vertices) e) in
+    record { rows = rows; mapped = subst (λ (rs : List Row). IsMapOf at rs) table k.mapped; counted = k.counted ∙ ap pins_among table }

@@ -2,6 +2,7 @@
 use Rattle.std.proofs.Common.{◌≡◌, ℕ, ◌+◌, ◌-◌, ◌≤◌, [], length, count_by, List, Option, None, is_some, slice_index_or, sym, ap, subst, ◌∙◌, arith}
 use Rattle.slab.specs.Slab.{Slab, slab_len}
 use Rattle.slab_laws.specs.FaceLists.{MovedView}
+use Rattle.slab_laws.specs.View.{VertexRecord}
 use Rattle.arr_notes.specs.ViewChanges.{no_rows}
 use Rattle.chain_laws.proofs.Tabled.{tabled_slots, tabled_empty, length-tabled}
 use Rattle.dcel_records.specs.declared.ranks.RankKey.{RankKey}
@@ -12,6 +13,8 @@ use Rattle.dcel_records.specs.declared.rows.StoredFace.{StoredFace}
 use Rattle.dcel_records.specs.RecordsView.{RecordsView}
 use Rattle.dcel_records.specs.StoredRows.{vertex_of, dart_of, graph_in, records_view, out_or, pins_among, AreSoundRows, AreSoundGraphs}
 use Rattle.dcel_records.specs.Outs.{IsOut}
+use Rattle.dcel_records.specs.declared.vertex_map.VertexMap.{VertexMap}
+use Rattle.dcel_records.specs.VertexMaps.{IsMapOf}
 use Rattle.dcel_records.proofs.Twins.{twinned_empty}
 use Rattle.dcel_records.proofs.Leaving.{out_empty}
 use Rattle.dcel_records.proofs.Writing.{kept_by}
@@ -27,8 +30,10 @@ module _ (vs : Slab StoredVertex) (ds : Slab StoredDart) where
     kept_slots : AreSoundRows vs ds → AreSoundRows xs es
     kept_slots k = kept_by xs es (graph_in vs ds) graph_slots k.twinned (λ w. subst (λ o. IsOut (graph_in vs ds) w o) (sym (ap (λ os. out_or (slice_index_or os w.0 None)) a)) (k.outs w))
 
-    pub records_slots : (pins : ℕ) → AreSoundGraphs vs ds pins → AreSoundGraphs xs es pins
-    records_slots pins k = record { rows = kept_slots k.rows; counted = k.counted ∙ sym (ap pins_among (tabled_slots vertex_of vs xs a)) }
+    pub records_slots : {at : VertexMap} (pins : ℕ) → AreSoundGraphs vs ds at pins → AreSoundGraphs xs es at pins
+    records_slots {at} pins k =
+        let table = sym (tabled_slots vertex_of vs xs a) in
+        record { rows = kept_slots k.rows; mapped = subst (λ (rs : List (ℕ × VertexRecord)). IsMapOf at rs) table k.mapped; counted = k.counted ∙ ap pins_among table }
 
   module _ (a : vs.slots ≡ []) (b : ds.slots ≡ []) where
     pub graph_empty : graph_in vs ds ≡ no_rows
@@ -40,8 +45,10 @@ module _ (vs : Slab StoredVertex) (ds : Slab StoredDart) where
     kept_empty : AreSoundRows vs ds
     kept_empty = kept_by vs ds no_rows graph_empty twinned_empty (λ w. subst (λ o. IsOut no_rows w o) (sym (ap (λ os. out_or (slice_index_or os w.0 None)) a)) (out_empty w))
 
-    pub records_empty : AreSoundGraphs vs ds 0
-    records_empty = record { rows = kept_empty; counted = sym (ap pins_among (tabled_empty vertex_of vs a)) }
+    pub records_empty : {at : VertexMap} → IsMapOf at [] → AreSoundGraphs vs ds at 0
+    records_empty {at} m =
+        let table = sym (tabled_empty vertex_of vs a) in
+        record { rows = kept_empty; mapped = subst (λ (rs : List (ℕ × VertexRecord)). IsMapOf at rs) table m; counted = ap pins_among table }
 
 -- what an emptied slab has room for
 spare_all : {X : Type 0} (s t : Slab X) (room spare many : ℕ) → room - slab_len s ≡ spare → many ≡ slab_len s → slab_len s ≤ room → t.slots ≡ [] → spare + many ≤ room - slab_len t

@@ -10,3 +10,4 @@ pub mod Given
 pub mod Spots
 pub mod KeyLimits
 pub mod TableLends
+pub mod VertexMaps

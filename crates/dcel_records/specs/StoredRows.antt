@@ -19,6 +19,8 @@ use Rattle.dcel_records.specs.Placing.{cycle_placing, vertex_placing, nodes, own
 use Rattle.dcel_records.specs.declared.ranks.RankKey.{RankKey}
 use Rattle.dcel_records.specs.RecordsView.{GraphView, FacesView, RecordsView, RanksView, FaceRow, MovedRoom, rank_or}
 use Rattle.dcel_records.specs.Outs.{IsOut}
+use Rattle.dcel_records.specs.declared.vertex_map.VertexMap.{VertexMap}
+use Rattle.dcel_records.specs.VertexMaps.{IsMapOf}
 
 -- what a row tells of a vertex: all but the dart that it keeps
 abbrev pub vertex_of : StoredVertex → VertexRecord
@@ -112,9 +114,10 @@ pins_among rs = length (filter (λ r. r.1.pinned) rs)
 abbrev pub isolated_among : Slab StoredVertex → ℕ
 isolated_among vs = length (somes (tabled bare_of vs))
 
--- sound rows, and as many pins as are counted (this project)
-pub record AreSoundGraphs (vs : Slab StoredVertex) (ds : Slab StoredDart) (pins : ℕ) : Type 0 where
+-- sound rows, the map from points to vertices, and as many pins as are counted (this project)
+pub record AreSoundGraphs (vs : Slab StoredVertex) (ds : Slab StoredDart) (at : VertexMap) (pins : ℕ) : Type 0 where
   pub rows : AreSoundRows vs ds
+  pub mapped : IsMapOf at (graph_in vs ds).vertices
   pub counted : pins ≡ pins_among (graph_in vs ds).vertices
 
 -- the slab keeps its rows, and has no less room than before
@@ -149,8 +152,8 @@ abbrev pub AreOnCycles : Slab StoredDart → Slab StoredCycle → Type 0
 AreOnCycles ds cs = (n : ℕ) (r : StoredDart) → get ds n ≡ Some r → ContainsKey cs r.cycle.0
 
 -- all that is always true of the records; there is room for a key of each cycle that is promised
-pub record AreSoundRecords (vs : Slab StoredVertex) (ds : Slab StoredDart) (cs : Slab StoredCycle) (fs : Slab StoredFace) (pins lone : ℕ) (lists : Option MovedView) (key_room vertices cycles : ℕ) : Type 0 where
-  pub graph : AreSoundGraphs vs ds pins
+pub record AreSoundRecords (vs : Slab StoredVertex) (ds : Slab StoredDart) (cs : Slab StoredCycle) (fs : Slab StoredFace) (at : VertexMap) (pins lone : ℕ) (lists : Option MovedView) (key_room vertices cycles : ℕ) : Type 0 where
+  pub graph : AreSoundGraphs vs ds at pins
   pub faces : AreSoundFaces vs cs fs
   pub vertex_room : IsRoom vertices vs
   pub cycle_room : IsRoom cycles cs

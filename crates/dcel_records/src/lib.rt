@@ -19,6 +19,7 @@ mod records;
 mod rows;
 mod spot;
 mod table;
+mod vertex_map;
 mod vertices;
 
 pub use counts::RecordCounts;

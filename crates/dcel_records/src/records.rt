@@ -10,6 +10,7 @@ ghost use Rattle.dcel_records.specs.RecordsView.{SameRecordCapacity, graph_part,
 use crate::ranks::RankKey;
 use crate::rows::{StoredCycle, StoredDart, StoredFace, StoredVertex};
 use crate::table::Table;
+use crate::vertex_map::VertexMap;
 use no_memory::NoMemory;
 use slab_laws::Moved;
 use std::alloc::Global;
@@ -35,6 +36,8 @@ pub struct Records {
     // can take.
     pub(crate) vertex_room: usize,
     pub(crate) cycle_room: usize,
+    // The vertex at each point.
+    pub(crate) at: VertexMap,
 }
 
 impl Model for Records {
@@ -47,7 +50,7 @@ impl Model for Records {
 
     ghost view = { λ r. records_view r.vertices r.darts r.cycles r.faces r.moved r.order.items r.vertex_room r.cycle_room };
 
-    ghost invariant = { λ r. AreSoundRecords r.vertices r.darts r.cycles r.faces r.pins r.isolated r.moved (vec_capacity r.order) r.vertex_room r.cycle_room };
+    ghost invariant = { λ r. AreSoundRecords r.vertices r.darts r.cycles r.faces r.at r.pins r.isolated r.moved (vec_capacity r.order) r.vertex_room r.cycle_room };
 }
 
 /// How many vertices, edges, cycles and faces more are to fit.
@@ -160,6 +163,7 @@ impl Records {
             order: Vec::new(alloc),
             vertex_room: 0,
             cycle_room: 0,
+            at: VertexMap::new(alloc),
         })
     }
 
@@ -212,6 +216,7 @@ impl Records {
                 grow_order(&mut self.order, cycles)?;
                 self.cycle_room = cycles;
                 self.vertex_room = vertices;
+                self.at.reserve(room.vertices);
                 Ok(())
             }
         }
@@ -262,6 +267,7 @@ impl Records {
         self.cycles.clear();
         self.faces.clear();
         self.faces.insert_reserved(no_rows_of_face());
+        self.at.clear();
         self.pins = 0;
         self.isolated = 0;
     }

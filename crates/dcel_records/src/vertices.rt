@@ -24,10 +24,15 @@ impl Records {
         }
     }
 
-    /// The vertex at a point, by a look at all vertices. It takes no memory.
+    /// The vertex at a point. It looks at the vertices whose points have the point's hash, so at one or two, unless points were
+    /// chosen to share theirs; and at all vertices, once two of them had one point or their map found no memory, until
+    /// `clear`. It takes no memory.
     pub fn vertex_at(&self, point: &Point) -> Option<VertexId>
         ensures { IsVertexAt self.now.graph point.now result }
     {
+        if self.at.whole {
+            return self.at.vertex(point);
+        }
         for (key, vertex) in self.vertices.iter() {
             if vertex.point == *point {
                 return Some(VertexId(key));
@@ -44,14 +49,16 @@ impl Records {
         ensures spare { IsSpare self.new self.old 1 0 }
         ensures faces { self.new.faces ≡ self.old.faces }
     {
-        VertexId(
+        let v = VertexId(
             self.vertices.insert_reserved(StoredVertex {
                 point,
                 pinned: false,
                 out: None,
                 place: None,
             }),
-        )
+        );
+        self.at.put(point, v);
+        v
     }
 
     /// A vertex that no dart leaves goes, out of the list of its face too, where it is in one.
@@ -67,6 +74,7 @@ impl Records {
     {
         leave_face(&mut self.vertices, &mut self.faces, &mut self.isolated, v);
         let vertex = self.vertices.remove(v.0);
+        self.at.take(&vertex.point);
         if vertex.pinned {
             self.pins -= 1;
         }

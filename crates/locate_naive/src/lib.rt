@@ -1,4 +1,4 @@
-//! Point location that looks at all vertices, then at all edges (CGAL manual, `Arr_naive_point_location`);
+//! Point location that looks for a vertex at the point, then at all edges (CGAL manual, `Arr_naive_point_location`);
 //! and the edge between two points.
 #![tactic(auto)]
 

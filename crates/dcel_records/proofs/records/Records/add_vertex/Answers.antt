@@ -7,6 +7,7 @@ use Rattle.slab_laws.specs.View.{vertex_id}
 use Rattle.dcel_records.proofs.Holding.{vertex_vacant}
 use Rattle.dcel_records.proofs.Writing.{vertex_graph, vertex_kept}
 use Rattle.dcel_records.proofs.Pins.{pins_put}
+use Rattle.dcel_records.proofs.VertexMapped.{one_apart}
 use Rattle.dcel_records.proofs.Isolated.{isolated_same}
 use Rattle.dcel_records.proofs.records.Records.add_vertex.Goals as goal
 
@@ -14,6 +15,7 @@ pub invariant_of-self : goal.invariant_of-self
 invariant_of-self c = record {
   graph = record {
     rows = vertex_kept c.self.inside.vertices c.self.inside.darts _ (graph_seen c.self.inside.vertices c.self.inside.darts c.self.inside.cycles c.self.inside.faces c.self.inside.moved c.self.inside.order.items c.self.inside.vertex_room c.self.inside.cycle_room _ c.self.view_is) c.self.invariant.graph.rows _ (vertex_id c.insert_reserved.result) c.args.point c.insert_reserved.ensures.was_vacant c.insert_reserved.ensures.updates;
+    mapped = c.put.ensures _ _ c.self.invariant.graph.mapped (one_apart c.self.inside.vertices c.insert_reserved.new.self c.insert_reserved.result _ c.insert_reserved.ensures.was_vacant c.insert_reserved.ensures.updates.changed c.insert_reserved.ensures.updates.others);
     counted = pins_put c.self.inside.vertices c.insert_reserved.new.self c.insert_reserved.result c.args.point _ c.insert_reserved.ensures.was_vacant c.insert_reserved.ensures.updates c.self.invariant.graph.counted;
   };
   faces = faces_sound c.self.inside.vertices c.self.inside.darts c.self.inside.cycles c.self.inside.faces c.self.inside.moved c.self.inside.order.items c.self.inside.vertex_room c.self.inside.cycle_room c.args.self.now c.self.view_is c.self.invariant.faces c.insert_reserved.new.self (nodes_updated vertex_placing c.self.inside.vertices c.insert_reserved.new.self c.insert_reserved.result _ c.insert_reserved.ensures.updates (sym (ap (node_or vertex_placing) c.insert_reserved.ensures.was_vacant)));

@@ -9,7 +9,7 @@ use Rattle.dcel_records.proofs.records.Records.clear.Goals as goal
 
 pub invariant_of-self : goal.invariant_of-self
 invariant_of-self c = record {
-  graph = records_empty _ _ c.clear.ensures.empty c.clear-2.ensures.empty;
+  graph = records_empty _ _ c.clear.ensures.empty c.clear-2.ensures.empty c.clear-5.ensures;
   faces = lone_sound c.clear.new.self c.clear-2.new.self c.clear-3.new.self c.clear-4.new.self c.insert_reserved.new.self c.clear.ensures.empty c.clear-2.ensures.empty c.clear-3.ensures.empty c.clear-4.ensures.empty c.insert_reserved.result (c.insert_reserved.ensures.key ∙ c.clear-4.ensures.first_key) c.no_rows_of_face.result c.insert_reserved.ensures.updates c.no_rows_of_face.ensures.cycle c.no_rows_of_face.ensures.bare;
   vertex_room = room_after _ _ _ c.self.invariant.vertex_room c.clear.ensures.empty c.clear.ensures.capacity;
   cycle_room = room_after _ _ _ c.self.invariant.cycle_room c.clear-3.ensures.empty c.clear-3.ensures.capacity;

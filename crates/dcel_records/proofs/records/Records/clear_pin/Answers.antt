@@ -6,6 +6,7 @@ use Rattle.std.proofs.Common.{false, arith, refl, ◌∙◌}
 use Rattle.dcel_records.proofs.Holding.{vertex_key}
 use Rattle.dcel_records.proofs.Writing.{pin_same, pin_graph, pin_kept}
 use Rattle.dcel_records.proofs.Pins.{pin_less}
+use Rattle.dcel_records.proofs.VertexMapped.{pin_mapped}
 use Rattle.dcel_records.proofs.Isolated.{isolated_same}
 use Rattle.dcel_records.proofs.records.Records.clear_pin.Goals as goal
 
@@ -28,6 +29,7 @@ pub invariant_of-self : goal.invariant_of-self
 invariant_of-self c = record {
   graph = record {
     rows = pin_kept c.self.inside.vertices c.self.inside.darts _ (graph_seen c.self.inside.vertices c.self.inside.darts c.self.inside.cycles c.self.inside.faces c.self.inside.moved c.self.inside.order.items c.self.inside.vertex_room c.self.inside.cycle_room _ c.self.view_is) c.self.invariant.graph.rows c.args.v false _ c.index_mut.ensures.value;
+    mapped = pin_mapped _ c.self.inside.vertices c.args.v.0 false _ c.index_mut.ensures.value c.self.invariant.graph.mapped;
     counted = let k = c.self.invariant.graph.counted in let m = pin_less c.self.inside.vertices c.args.v.0 _ _ c.index.ensures c.index_mut.ensures.value c.if-not-index.false in omega arith;
   };
   faces = faces_sound c.self.inside.vertices c.self.inside.darts c.self.inside.cycles c.self.inside.faces c.self.inside.moved c.self.inside.order.items c.self.inside.vertex_room c.self.inside.cycle_room c.args.self.now c.self.view_is c.self.invariant.faces _ (nodes_written c.self.inside.vertices _ _ _ c.index_mut.ensures.value refl);

@@ -1,12 +1,13 @@
 use Rattle.dcel_records.proofs.Rooms.{room_less}
 use Rattle.dcel_records.proofs.Holding.{graph_seen}
-use Rattle.std.proofs.Common.{ap, arith, ◌∙◌}
+use Rattle.std.proofs.Common.{ap, sym, arith, ◌∙◌}
 use Rattle.dcel_records.specs.ListChanges.{vertex_unlisted}
 use Rattle.dcel_records.proofs.Holding.{vertex_key}
 use Rattle.dcel_records.proofs.Writing.{gone_graph, gone_kept}
 use Rattle.dcel_records.proofs.Pins.{one_if, pins_gone}
 use Rattle.dcel_records.proofs.Relinked.{lists_after}
 use Rattle.dcel_records.proofs.BareWritten.{graph_sound, graph_left, vertex_there, gone_sound, gone_tables, gone_lists}
+use Rattle.dcel_records.proofs.VertexMapped.{one_apart}
 use Rattle.dcel_records.proofs.Isolated.{isolated_gone}
 use Rattle.dcel_records.proofs.records.Records.remove_vertex.Goals as goal
 
@@ -33,6 +34,7 @@ pub invariant_of-self : goal.invariant_of-self
 invariant_of-self c = record {
   graph = record {
     rows = gone_kept c.leave_face.new.vertices c.self.inside.darts _ (graph_left c.self.inside.vertices c.leave_face.new.vertices c.self.inside.darts c.leave_face.ensures.left.kept.rests _ (graph_seen c.self.inside.vertices c.self.inside.darts c.self.inside.cycles c.self.inside.faces c.self.inside.moved c.self.inside.order.items c.self.inside.vertex_room c.self.inside.cycle_room _ c.self.view_is)) (graph_sound c.self.inside.vertices c.leave_face.new.vertices c.self.inside.darts c.leave_face.ensures.left.kept.rests _ c.self.invariant.graph).rows _ c.args.v c.requires.bare c.remove-vertex.ensures.updates;
+    mapped = c.take.ensures c.args.v _ _ (graph_sound c.self.inside.vertices c.leave_face.new.vertices c.self.inside.darts c.leave_face.ensures.left.kept.rests _ c.self.invariant.graph).mapped (one_apart c.remove-vertex.new.self c.leave_face.new.vertices c.args.v.0 c.remove-vertex.result c.remove-vertex.ensures.updates.changed c.remove-vertex.ensures.value (λ n ne. sym (c.remove-vertex.ensures.updates.others n ne)));
     counted =
         let k = (graph_sound c.self.inside.vertices c.leave_face.new.vertices c.self.inside.darts c.leave_face.ensures.left.kept.rests _ c.self.invariant.graph).counted in
         let g = pins_gone c.leave_face.new.vertices c.remove-vertex.new.self c.args.v.0 c.remove-vertex.result c.remove-vertex.ensures.value c.remove-vertex.ensures.updates in
@@ -52,6 +54,7 @@ pub invariant_of-self-else-vertex : goal.invariant_of-self-else-vertex
 invariant_of-self-else-vertex c = record {
   graph = record {
     rows = gone_kept c.leave_face.new.vertices c.self.inside.darts _ (graph_left c.self.inside.vertices c.leave_face.new.vertices c.self.inside.darts c.leave_face.ensures.left.kept.rests _ (graph_seen c.self.inside.vertices c.self.inside.darts c.self.inside.cycles c.self.inside.faces c.self.inside.moved c.self.inside.order.items c.self.inside.vertex_room c.self.inside.cycle_room _ c.self.view_is)) (graph_sound c.self.inside.vertices c.leave_face.new.vertices c.self.inside.darts c.leave_face.ensures.left.kept.rests _ c.self.invariant.graph).rows _ c.args.v c.requires.bare c.remove-vertex.ensures.updates;
+    mapped = c.take.ensures c.args.v _ _ (graph_sound c.self.inside.vertices c.leave_face.new.vertices c.self.inside.darts c.leave_face.ensures.left.kept.rests _ c.self.invariant.graph).mapped (one_apart c.remove-vertex.new.self c.leave_face.new.vertices c.args.v.0 c.remove-vertex.result c.remove-vertex.ensures.updates.changed c.remove-vertex.ensures.value (λ n ne. sym (c.remove-vertex.ensures.updates.others n ne)));
     counted =
         let k = (graph_sound c.self.inside.vertices c.leave_face.new.vertices c.self.inside.darts c.leave_face.ensures.left.kept.rests _ c.self.invariant.graph).counted in
         let g = pins_gone c.leave_face.new.vertices c.remove-vertex.new.self c.args.v.0 c.remove-vertex.result c.remove-vertex.ensures.value c.remove-vertex.ensures.updates in

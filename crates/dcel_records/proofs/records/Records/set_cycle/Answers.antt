@@ -13,7 +13,7 @@ index_mut-requires c = dart_key c.self.inside.vertices c.self.inside.darts _ (gr
 
 pub invariant_of-self : goal.invariant_of-self
 invariant_of-self c = record {
-  graph = record { rows = cycle_kept c.self.inside.vertices c.self.inside.darts c.args.d c.args.c c.index_mut.result.now c.index_mut.ensures.value c.self.invariant.graph.rows; counted = c.self.invariant.graph.counted };
+  graph = record { rows = cycle_kept c.self.inside.vertices c.self.inside.darts c.args.d c.args.c c.index_mut.result.now c.index_mut.ensures.value c.self.invariant.graph.rows; mapped = c.self.invariant.graph.mapped; counted = c.self.invariant.graph.counted };
   faces = c.self.invariant.faces;
   vertex_room = c.self.invariant.vertex_room;
   cycle_room = c.self.invariant.cycle_room;
