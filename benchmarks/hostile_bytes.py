@@ -4,7 +4,7 @@
     benchmarks/hostile_bytes.py PROGRAM ORACLE [LINES [SEED]]
 
 PROGRAM is crates/planar/out/planar, ORACLE the folder of the program's executable meaning (planar_oracle.py). It makes scripts of
-100,000 lines in all: bytes of every value, good lines with bytes and words put in, taken out or changed, lines of 199 to 201
+100,000 lines in all: bytes of every value, good lines with bytes and words put in, taken out or changed, lines of 299 to 301
 bytes, byte 13 and byte 0, text in UTF-8 whole and broken, numbers of many digits, and good lines between them. Each reply has to
 be the meaning's, and the program ends by itself with status 0. Then 2^26 bytes of `locate 0 0 1`, and one more: status 6. It
 tells the most memory that the program held in each run. The exit status is 1 where something differs.
@@ -25,7 +25,7 @@ sys.dont_write_bytecode = True
 
 from planar_oracle import STRATEGIES, World
 
-STAGE = 14
+STAGE = 15
 LIMIT = 2 ** 26
 SCRIPTS = 40
 WORDS = ('layer red', 'layer blue', 'segment 0 0 4 3', 'segment 1 0 1 3', 'drop 1', 'cut 0 0 1 4 3 1', 'pin 1 1 1', 'unpin 1 1 1',
@@ -67,7 +67,7 @@ class Maker:
         return bytes(line)
 
     def long(self):
-        r, length = self.random, self.random.choice((199, 200, 201, 202, 255, 256, 4095, 4096, 4097))
+        r, length = self.random, self.random.choice((299, 300, 301, 302, 255, 256, 4095, 4096, 4097))
         fill = r.choice((b' ', b'a', b'9', b'\x00', b'\r', b'\xff'))
         line = self.good()
         return line + r.choice((b'', b' ')) + fill * (length - len(line)) if r.random() < 0.5 else (fill * length)[:length]

@@ -23,18 +23,18 @@ git init -q "$folder"
 program=$folder/crates/plane_calls/out/plane_calls
 
 if [ "$what" != count ]; then
-  for limit in 1 2 5 1000 1048575; do
+  for limit in 1 2 5 1000 16777215; do
     echo "print 4000 $limit 0" | "$program" | python3 benchmarks/plane_answers.py "$limit"
   done
 fi
 
 instructions() {
-  echo "$1 1000 1048575 $2" | valgrind --tool=callgrind --callgrind-out-file=/dev/null "$program" 2>&1 > /dev/null |
+  echo "$1 1000 16777215 $2" | valgrind --tool=callgrind --callgrind-out-file=/dev/null "$program" 2>&1 > /dev/null |
     sed -n 's/.*Collected : //p'
 }
 
 if [ "$what" != compare ]; then
-  cases=$(echo 'nothing 1000 1048575 1' | "$program" | cut -d' ' -f1)
+  cases=$(echo 'nothing 1000 16777215 1' | "$program" | cut -d' ' -f1)
   for mode in nothing compare side above meeting span_meeting turn; do
     once=$(instructions "$mode" 1)
     more=$(instructions "$mode" 11)

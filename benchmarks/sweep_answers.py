@@ -76,7 +76,7 @@ def rows(segments, pins):
 
 def case(dice):
     """Small ends, so that many touch, overlap, are vertical or go through one point; or ends near the limit."""
-    limit = dice.choice([2, 3, 4, 6, 10, 1048575])
+    limit = dice.choice([2, 3, 4, 6, 10, 16777215])
     low = -limit if limit > 10 else 0
     segments = []
     for _ in range(dice.randrange(12)):

@@ -20,7 +20,7 @@ import re
 import sys
 from typing import Iterator, List, NamedTuple, Optional
 
-LONGEST_LINE = 200
+LONGEST_LINE = 300
 # The commands, with the words that follow.
 FORMS = {
     "segment": "x1 y1 x2 y2",
@@ -48,7 +48,7 @@ MEANINGS = {
     2: "the count of words isn't one that the command has",
     3: "a word in a number's place isn't a number",
     4: "a number is out of its range",
-    5: "the line has more than 200 bytes",
+    5: "the line has more than 300 bytes",
     6: "a byte of the line is outside 32 to 126",
     7: {"segment": "the two ends are equal"},
     8: "no curve has this number",

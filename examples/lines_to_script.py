@@ -16,7 +16,7 @@ number in front is a heading.
 In the script each feature is a comment with its name, a `segment` for each side, and a `pin` for each point, or with --points=locate a
 `locate`. With --once a side that several features have is one segment, and the table tells its number for each of them.
 
-Coordinates of a script's segments are whole and within 2^20 - 1. So script = (map - offset) * scale, rounded. Unless options say otherwise,
+Coordinates of a script's segments are whole and within 2^24 - 1. So script = (map - offset) * scale, rounded. Unless options say otherwise,
 the offset is 0 where that fits, else the centre; the scale is the least that makes all ends of sides whole, or, where these don't fit, the
 largest power of two that does. Corners that are equal stay equal, and so does a point that is a corner; where there was rounding, a corner
 on another's side may lie beside it. Other points aren't rounded, since a script says them as fractions.
@@ -39,12 +39,12 @@ from fractions import Fraction
 from math import gcd
 from typing import Any, Callable, Iterator, List, Optional, Tuple
 
-LARGEST_COORDINATE = 2**20 - 1
-# Of the fractions in which points are written, so that the product of two is below 2^43.
-LARGEST_DENOMINATOR = 2**20
+LARGEST_COORDINATE = 2**24 - 1
+# Of the fractions in which points are written, so that the product of two is below 2^51.
+LARGEST_DENOMINATOR = 2**24
 MOST_CURVES = 2000
 MOST_PINS = 10000
-LONGEST_LINE = 200
+LONGEST_LINE = 300
 
 Point = Tuple[Fraction, Fraction]
 # Positions one after the other; a single one is a point.
@@ -317,7 +317,7 @@ def frame_for(corners: List[Point], points: List[Point], offset: Optional[Point]
     if not frame and not scale:
         frame = frame_at(corners, points, offset, largest_power(corners + points, offset))
     if not frame:
-        raise CantConvert("by this offset and scale some coordinates aren't within 2^20 - 1")
+        raise CantConvert("by this offset and scale some coordinates aren't within 2^24 - 1")
     return frame
 
 

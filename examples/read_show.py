@@ -35,8 +35,8 @@ from itertools import zip_longest
 from math import floor, gcd
 from typing import Any, Dict, FrozenSet, Iterable, Iterator, List, Optional, Set, Tuple
 
-LARGEST_COORDINATE = 2**20 - 1
-LARGEST_WEIGHT = 2**43 - 1
+LARGEST_COORDINATE = 2**24 - 1
+LARGEST_WEIGHT = 2**51 - 1
 LARGEST_CURVE = 2**32 - 1
 
 Point = Tuple[Fraction, Fraction]

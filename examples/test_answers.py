@@ -84,7 +84,7 @@ class ExplainReplies(unittest.TestCase):
             (1, "layer green", explain_replies.MISSPELT),
             (2, "cut 1 2", "`cut X Y W X Y W`"),
             (3, " pin 4.0 +1  1", "`4.0`, `+1`"),
-            (5, "#" * 201, "it has 201"),
+            (5, "#" * 301, "it has 301"),
             (6, "show\r", "byte 5 is 13, of a line end by bytes 13 and 10"),
             (7, "segment 1 1 1 1", "the two ends are equal"),
             (17, "attach 3", "eight are seated or planned"),
@@ -104,7 +104,7 @@ class ExplainReplies(unittest.TestCase):
             self.assertRaises(DontPair, pair, text, "")
 
     def test_lines_without_a_reply(self):
-        script = "\n   \n# a comment\n  #\nshow\n#\t\n" + "#" * 201 + "\n \r\ncount"
+        script = "\n   \n# a comment\n  #\nshow\n#\t\n" + "#" * 301 + "\n \r\ncount"
         self.assertEqual([answered.number for answered in pair(script, "refused 1\n" * 5)], [5, 6, 7, 8, 9])
         self.assertEqual(pair("", ""), [])
 

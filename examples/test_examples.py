@@ -199,9 +199,9 @@ class ReadShow(unittest.TestCase):
 
     def test_numbers_out_of_range_are_refused(self):
         vertex = "arrangement 1 0 1\nv 1 {} pin :\nf 0\np 1\nend\n"
-        for good in ["0 0 1", "-1048575 1 1", "1 1 8796093022207", "-1048575 1 2"]:
+        for good in ["0 0 1", "-16777215 1 1", "1 1 2251799813685247", "-16777215 1 2"]:
             read_show(vertex.format(good))
-        for bad in ["0 0 0", "0 0 -1", "1048576 0 1", "1 0 8796093022208", "2 2 2", "0 0 2"]:
+        for bad in ["0 0 0", "0 0 -1", "16777216 0 1", "1 0 2251799813685248", "2 2 2", "0 0 2"]:
             self.assertRaises(NotASubdivision, read_show, vertex.format(bad))
         for bad in ["x 0 1", "+1 0 1", "1_0 0 1", "1.0 0 1", "01 0 1", "-0 0 1", "0 1"]:
             self.assertRaises(NotASubdivision, read_show, vertex.format(bad))
@@ -247,7 +247,7 @@ class LinesToScript(unittest.TestCase):
         self.assertEqual(segments, [(1, 0, 8, 0), (8, 0, 8, 6), (8, 6, 1, 0), (8, 0, 12, 0)])
         self.assertEqual(lines[2], r"# M\xfchle")
         self.assertIn("# 8", script_of(MAP, "--name", "id")[1])
-        self.assertTrue(all(len(line.encode("ascii")) <= 200 for line in script_of(MAP.replace("Mühle", "ü" * 300))[1]))
+        self.assertTrue(all(len(line.encode("ascii")) <= 300 for line in script_of(MAP.replace("Mühle", "ü" * 400))[1]))
 
     def test_table(self):
         with tempfile.TemporaryDirectory() as folder:
@@ -261,13 +261,13 @@ class LinesToScript(unittest.TestCase):
 
     def test_offset_and_scale(self):
         self.assertEqual(script_of("LINESTRING (0.25 0, 1 1.5)")[0], [(1, 0, 4, 6)])
-        self.assertEqual(script_of("LINESTRING (5000000 0, 5000003 2)")[0], [(-2, -1, 1, 1)])
+        self.assertEqual(script_of("LINESTRING (50000000 0, 50000003 2)")[0], [(-2, -1, 1, 1)])
         self.assertEqual(script_of("LINESTRING (1 1, 3 3)", "--offset=1,-1/2", "--scale", "2")[0], [(0, 3, 4, 7)])
-        self.assertEqual(script_of("LINESTRING (-1048575 0, 1048575 0)")[0], [(-1048575, 0, 1048575, 0)])
+        self.assertEqual(script_of("LINESTRING (-16777215 0, 16777215 0)")[0], [(-16777215, 0, 16777215, 0)])
         wide = "LINESTRING (0.123456789 0, 10 7.77777777, 20.5 -1e2)"
         segments, _ = script_of(wide)
-        self.assertTrue(all(abs(c) <= 1048575 for segment in segments for c in segment))
-        self.assertTrue(any(abs(c) > 1048575 // 2 for segment in segments for c in segment))
+        self.assertTrue(all(abs(c) <= 16777215 for segment in segments for c in segment))
+        self.assertTrue(any(abs(c) > 16777215 // 2 for segment in segments for c in segment))
         self.assertRaises(CantConvert, script_of, wide, "--scale", "1e9")
 
     def test_notes(self):

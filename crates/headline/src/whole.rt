@@ -76,7 +76,7 @@ pub fn limits<S: Source, K: Sink>(
     sink: &mut K,
     observers: Vec<Box<dyn Observer>>,
 ) -> Status
-    ensures line { MAX_LINE ≡ 200 }
+    ensures line { MAX_LINE ≡ 300 }
     ensures curves { FULL.curves ≡ 2000 }
     ensures pieces { FULL.pieces ≡ 10000 }
     ensures pins { FULL.pins ≡ 10000 }

@@ -16,10 +16,10 @@ spread : (n c d w : ℤ) → (n *ℤ c -ℤ d) *ℤ w ≡ c *ℤ (w *ℤ n) -ℤ
 spread n c d w = ring (n ∷ c ∷ d ∷ w ∷ []) (search sides depth 40 fits 20000) tt
 
 -- of a column, its abscissa times a weight
-at : (k : ℕ) (d w : ℤ) → (pos (k * 262144) -ℤ d) *ℤ w ≡ pos 262144 *ℤ (w *ℤ pos k) -ℤ d *ℤ w
-at k d w = ap (λ z. (z -ℤ d) *ℤ w) (of_pos k) ∙ spread (pos k) (pos 262144) d w
+at : (k : ℕ) (d w : ℤ) → (pos (k * 4194304) -ℤ d) *ℤ w ≡ pos 4194304 *ℤ (w *ℤ pos k) -ℤ d *ℤ w
+at k d w = ap (λ z. (z -ℤ d) *ℤ w) (of_pos k) ∙ spread (pos k) (pos 4194304) d w
   where
-    of_pos : (k : ℕ) → pos (k * 262144) ≡ pos k *ℤ pos 262144
+    of_pos : (k : ℕ) → pos (k * 4194304) ≡ pos k *ℤ pos 4194304
     of_pos k = omega (arith, ints)
 
 -- one column further on is a weight further on
@@ -32,9 +32,9 @@ further j k w W h =
     by : (w n : ℤ) → w *ℤ (n +ℤ pos 1) ≡ w *ℤ n +ℤ w
     by w n = ring (w ∷ n ∷ []) (search sides depth 40 fits 20000) tt
 
-module _ (x w : ℤ) (k : ℕ) (W : pos 0 <ℤ w) (in' : k < 7) (from : (k ≡ 0) ⊎ (((pos (k * 262144) -ℤ pos 917504) *ℤ w) <ℤ x)) (to : (k ≡ 6) ⊎ (x ≤ℤ ((pos (k * 262144) -ℤ pos 655360) *ℤ w))) where
-  mine : (pos (k * 262144) -ℤ pos 786432) *ℤ w ≡ pos 262144 *ℤ (w *ℤ pos k) -ℤ pos 786432 *ℤ w
-  mine = at k (pos 786432) w
+module _ (x w : ℤ) (k : ℕ) (W : pos 0 <ℤ w) (in' : k < 7) (from : (k ≡ 0) ⊎ (((pos (k * 4194304) -ℤ pos 14680064) *ℤ w) <ℤ x)) (to : (k ≡ 6) ⊎ (x ≤ℤ ((pos (k * 4194304) -ℤ pos 10485760) *ℤ w))) where
+  mine : (pos (k * 4194304) -ℤ pos 12582912) *ℤ w ≡ pos 4194304 *ℤ (w *ℤ pos k) -ℤ pos 12582912 *ℤ w
+  mine = at k (pos 12582912) w
 
   -- those on the right are no nearer, those on the left are farther
   right : (j : ℕ) → j < 7 → k < j → distance x w (grid_number k) ≤ distance x w (grid_number j)
@@ -42,8 +42,8 @@ module _ (x w : ℤ) (k : ℕ) (W : pos 0 <ℤ w) (in' : k < 7) (from : (k ≡ 0
     | inl e ↦ absurd (omega arith)
     | inr u ↦
         let f = further j k w W h in
-        let a = at j (pos 786432) w in
-        let b = at k (pos 655360) w in
+        let a = at j (pos 12582912) w in
+        let b = at k (pos 10485760) w in
         let c = mine in
         omega (arith, ints)
   ]
@@ -53,8 +53,8 @@ module _ (x w : ℤ) (k : ℕ) (W : pos 0 <ℤ w) (in' : k < 7) (from : (k ≡ 0
     | inl e ↦ absurd (omega arith)
     | inr u ↦
         let f = further k j w W h in
-        let a = at j (pos 786432) w in
-        let b = at k (pos 917504) w in
+        let a = at j (pos 12582912) w in
+        let b = at k (pos 14680064) w in
         let c = mine in
         omega (arith, ints)
   ]
@@ -83,5 +83,5 @@ made false r p e = cc
 pub whole_made : (x y : ℤ) (p : Point) → point_of x y (pos 1) ≡ Ok p → p ≡ whole_point x y
 whole_made x y p e = made (in_range x y (pos 1)) (reduced x y (pos 1)) p e ∙ sym (whole_is_reduced x y (pos 1) refl)
 
-pub grid_within : (k : ℕ) → k < 7 → unsigned_abs (grid_number k) ≤ 786432
+pub grid_within : (k : ℕ) → k < 7 → unsigned_abs (grid_number k) ≤ 12582912
 grid_within k h = omega (arith, ints)

@@ -5,7 +5,7 @@ use Rattle.exact_plane.specs.Segment.{whole_point}
 
 -- the abscissa of a column, and the ordinate of a row
 abbrev pub grid_number : ℕ → ℤ
-grid_number k = pos (k * 262144) -ℤ pos 786432
+grid_number k = pos (k * 4194304) -ℤ pos 12582912
 
 -- how far the number x / w is from g, times w
 abbrev pub distance : ℤ → ℤ → ℤ → ℕ

@@ -10,8 +10,8 @@ ghost use Rattle.locate_landmarks.specs.Lowest.{IsAbove, lower_edge};
 
 use counted_looks::{Glance, Glimpse, NameCalls};
 use edges_below::is_above;
-use exact_plane::Span;
-use locate_walk::{Passage, Query, span_between};
+use exact_plane::{Point, Span};
+use locate_walk::{Passage, span_between};
 use slab_laws::DartId;
 
 /// An edge that a point sees above it, with its dart from the lower to the upper end.
@@ -24,7 +24,7 @@ pub struct EdgeAbove {
 /// The edge of a dart that was looked at, where the point sees it above.
 pub fn edge_above(
     glance: &Glance,
-    point: &Query,
+    point: &Point,
     dart: DartId,
     looked: &Glimpse,
     passage: Passage,

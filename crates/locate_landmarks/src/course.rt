@@ -3,81 +3,39 @@ ghost use Rattle.std.specs.Prelude.{◌≡◌, ◌<◌, ◌≤◌, ◌*ℤ◌, u
 ghost use Rattle.exact_plane.specs.declared.bounds.TheConstants.{MAX_COORDINATE, WEIGHT_LIMIT};
 
 use crate::grid::{grid_number, landmark_at, level_of_row, row_of};
-use exact_plane::{Line, Point, narrow};
-use locate_walk::Query;
+use exact_plane::{Line, Point};
 use std::cmp::Ordering;
-use std::marker::Model;
-
-/// The ordinate of a horizontal, a whole number.
-#[derive(Drop)]
-pub struct Ordinate {
-    number: i64,
-}
-
-impl Model for Ordinate {
-    ghost use Rattle.std.specs.Prelude.{ℤ, ◌≤◌, unsigned_abs};
-    ghost use Rattle.exact_plane.specs.declared.bounds.TheConstants.{MAX_COORDINATE};
-
-    ghost Value = { ℤ };
-
-    ghost view = { λ o. o.number };
-
-    ghost invariant = { λ o. unsigned_abs o.number ≤ MAX_COORDINATE };
-}
-
-// A number of 64 bits in 128.
-fn wide(number: i64) -> i128
-    ensures { result ≡ number }
-{
-    number as i128
-}
 
 // A whole number over a weight.
-fn numerator(number: i64, w: i64) -> i64
+fn numerator(number: i64, w: i128) -> i128
     requires number { unsigned_abs number ≤ MAX_COORDINATE }
     requires weight { unsigned_abs w < WEIGHT_LIMIT }
     ensures { result ≡ number *ℤ w }
 {
-    number * w
+    number as i128 * w
 }
 
-impl Ordinate {
-    // That of a row of the grid.
-    fn of_row(row: usize) -> Ordinate
-        requires { row < 7 }
-    {
-        Ordinate {
-            number: grid_number(row),
-        }
-    }
-
-    // The point of the horizontal at the abscissa of another point.
-    fn corner(&self, point: &Point) -> Point {
-        point.laws();
-        let w = point.w();
-        let y = wide(numerator(self.number, narrow(w)));
-        Point::new(point.x(), y, w).unwrap()
-    }
-
-    // Whether a point is above it: one product in 64 bits tells.
-    fn is_below(&self, point: &Point) -> bool {
-        point.laws();
-        narrow(point.y()) > numerator(self.number, narrow(point.w()))
-    }
+// The point of a row's horizontal at the abscissa of another point.
+fn corner_of(point: &Point, row: usize) -> Point
+    requires { row < 7 }
+{
+    point.laws();
+    let w = point.w();
+    let y = numerator(grid_number(row), w);
+    Point::new(point.x(), y, w).unwrap()
 }
 
 /// The way from a landmark to a point.
 #[derive(Drop)]
 pub struct Course {
     pub landmark: Point,
-    pub point: Query,
+    pub point: Point,
     /// Where the horizontal of the landmark and the vertical of the point meet.
     pub corner: Point,
     /// How the corner lies to the point.
     pub corner_order: Ordering,
     /// The line of the horizontal.
     pub level: Line,
-    pub ordinate: Ordinate,
     /// Whether it goes to the right along the horizontal, in point order.
     pub eastward: bool,
     /// Whether it goes down along the vertical.
@@ -92,15 +50,13 @@ impl Course {
     {
         let landmark = landmark_at(index);
         let row = row_of(index);
-        let ordinate = Ordinate::of_row(row);
         let corner_order = landmark.compare_y(point);
         Course {
             landmark,
-            point: Query::of(point),
-            corner: ordinate.corner(point),
+            point: *point,
+            corner: corner_of(point, row),
             corner_order,
             level: level_of_row(row),
-            ordinate,
             eastward: landmark < *point,
             downward: corner_order.is_gt(),
         }
@@ -109,6 +65,6 @@ impl Course {
     /// Whether a point is above the horizontal, which is raised by less than any number.
     #[inline(always)]
     pub fn is_above(&self, point: &Point) -> bool {
-        self.ordinate.is_below(point)
+        point.compare_y(&self.landmark).is_gt()
     }
 }

@@ -11,7 +11,8 @@ ghost use Rattle.locate_landmarks.specs.Lowest.{IsAbove, IsLowered};
 use crate::above::{EdgeAbove, edge_above, lower};
 use crate::faces::is_dart;
 use counted_looks::{Glance, Glimpse};
-use locate_walk::{Passage, Query};
+use exact_plane::Point;
+use locate_walk::Passage;
 use slab_laws::DartId;
 
 /// The way down to a point, as far as it has come.
@@ -29,7 +30,7 @@ impl Descent {
     pub fn pass(
         &mut self,
         glance: &Glance,
-        point: &Query,
+        point: &Point,
         dart: DartId,
         looked: &Glimpse,
         passage: Passage,

@@ -1,6 +1,6 @@
 //! The grid of the landmarks.
-ghost use Rattle.std.specs.Prelude.{◌≡◌, ◌<◌, ◌%◌};
-ghost use Rattle.exact_plane.specs.Point.{IsRatio};
+ghost use Rattle.std.specs.Prelude.{◌≡◌, ◌<◌, ◌%◌, pos, ◌<ℤ◌, unsigned_abs};
+ghost use Rattle.exact_plane.specs.declared.bounds.TheConstants.{WEIGHT_LIMIT};
 ghost use Rattle.locate_landmarks.specs.Grid.{grid_number, landmark_at, IsNearest};
 
 use exact_plane::{Line, Point, Segment, line_of};
@@ -16,34 +16,35 @@ pub(crate) fn grid_number(index: usize) -> i64
     requires { index < 7 }
     ensures { result ≡ grid_number index }
 {
-    index as i64 * 262_144 - 786_432
+    index as i64 * 4_194_304 - 12_582_912
 }
 
 // The column or the row that is nearest to a number, the lesser one of two equally near.
 fn nearest(number: i128, weight: i128) -> usize
-    requires { IsRatio number weight }
+    requires positive { pos 0 <ℤ weight }
+    requires small { unsigned_abs weight < WEIGHT_LIMIT }
     ensures within { result < 7 }
     ensures nearest { IsNearest number weight (grid_number result) }
 {
-    if number <= -655_360 * weight {
+    if number <= -10_485_760 * weight {
         0
-    } else if number <= -393_216 * weight {
+    } else if number <= -6_291_456 * weight {
         1
-    } else if number <= -131_072 * weight {
+    } else if number <= -2_097_152 * weight {
         2
-    } else if number <= 131_072 * weight {
+    } else if number <= 2_097_152 * weight {
         3
-    } else if number <= 393_216 * weight {
+    } else if number <= 6_291_456 * weight {
         4
-    } else if number <= 655_360 * weight {
+    } else if number <= 10_485_760 * weight {
         5
     } else {
         6
     }
 }
 
-/// The abscissa and the ordinate of the landmark from which a query for the point starts: each is the nearest of -786432, -524288,
-/// -262144, 0, 262144, 524288 and 786432, the lesser one of two equally near. It takes no memory.
+/// The abscissa and the ordinate of the landmark from which a query for the point starts: each is the nearest of -12582912,
+/// -8388608, -4194304, 0, 4194304, 8388608 and 12582912, the lesser one of two equally near. It takes no memory.
 pub fn landmark_of(point: &Point) -> (i64, i64)
     ensures abscissa { IsNearest point.now.x point.now.w result.0 }
     ensures ordinate { IsNearest point.now.y point.now.w result.1 }

@@ -13,7 +13,7 @@ use crate::survey::Survey;
 use counted_looks::{Glance, look_at_boundary};
 use dcel_records::Spot;
 use exact_plane::Point;
-use locate_walk::{EdgeBelow, Highest, Query, face_over};
+use locate_walk::{EdgeBelow, Highest, face_over};
 use slab_laws::FaceId;
 use std::sync::ledger::Ledger;
 use work_steps::Steps;
@@ -48,7 +48,7 @@ pub fn look_round<L: Ledger>(
         highest: Highest {
             glance,
             face,
-            point: Query::of(point),
+            point: *point,
             hit: None,
             best: None,
             compared: None,

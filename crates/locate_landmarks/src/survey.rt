@@ -11,7 +11,8 @@ ghost use Rattle.locate_landmarks.specs.Lowest.{IsAbove, IsLowered};
 use crate::descent::Descent;
 use counted_looks::{BoundaryPart, Glance, Looker};
 use dcel_records::Spot;
-use locate_walk::{Compared, Found, Highest, Query, found_at_dart, is_told_at_twin, passage_of};
+use exact_plane::Point;
+use locate_walk::{Compared, Found, Highest, found_at_dart, is_told_at_twin, passage_of};
 use slab_laws::{DartId, FaceId, VertexId};
 use std::sync::ledger::Ledger;
 use work_steps::Steps;
@@ -31,7 +32,7 @@ fn find_at_dart<L: Ledger>(
     glance: &Glance,
     face: FaceId,
     dart: DartId,
-    point: &Query,
+    point: &Point,
     last: &mut Option<Compared>,
     descent: &mut Descent,
     steps: &mut Steps<L>,
@@ -65,7 +66,7 @@ fn find_at_dart<L: Ledger>(
 fn find_at_vertex<L: Ledger>(
     glance: &Glance,
     vertex: VertexId,
-    point: &Query,
+    point: &Point,
     steps: &mut Steps<L>,
 ) -> Found
     requires vertex { HasVertex glance.now.graph vertex }
@@ -73,7 +74,7 @@ fn find_at_vertex<L: Ledger>(
     ensures one { steps.new ≡ steps.old + 1 }
 {
     let looked = glance.look(Spot::Vertex(vertex), steps);
-    if looked.source == point.point() {
+    if looked.source == *point {
         return Found::At(Spot::Vertex(vertex));
     }
     Found::Past

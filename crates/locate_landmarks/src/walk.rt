@@ -83,5 +83,5 @@ pub fn walk_from<L: Ledger>(
     ensures { IsSpotOf glance.now.graph (tables_of glance.now) course.now.point result }
 {
     let face = go_along(glance, first, course, steps);
-    go_upright(glance, face, &course.point.point(), course.downward, steps)
+    go_upright(glance, face, &course.point, course.downward, steps)
 }

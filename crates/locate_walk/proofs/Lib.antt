@@ -1,4 +1,3 @@
-pub mod Floors
 pub mod EndsCompared
 pub mod Finds
 pub mod Takes

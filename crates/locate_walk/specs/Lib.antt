@@ -1,4 +1,3 @@
-pub mod Queries
 pub mod Passages
 pub mod Finds
 pub mod Looks

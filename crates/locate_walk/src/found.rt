@@ -11,7 +11,6 @@ ghost use Rattle.locate_walk.specs.Finds.{IsFound, IsFoundAtDart, IsSided, is_to
 ghost use Rattle.locate_walk.specs.Passages.{IsPassage, IsComparedOrNone};
 
 use crate::passage::{Compared, Passage, passage_of};
-use crate::query::Query;
 use counted_looks::{BoundaryPart, Glance, Glimpse, NameCalls};
 use dcel_records::Spot;
 use exact_plane::{Line, Point, Sign, Span, side};
@@ -46,11 +45,11 @@ pub fn span_between(lower: Point, upper: Point, line: Line) -> Span
 }
 
 // Where a point is that an edge spans: on it, over it, or under it.
-fn side_of(dart: DartId, edge: Span, point: &Query) -> Found
+fn side_of(dart: DartId, edge: Span, point: &Point) -> Found
     ensures { IsSided dart edge point.now result }
 {
     edge.laws();
-    match side(&edge.line(), &point.point()) {
+    match side(&edge.line(), point) {
         Sign::Minus => Found::Past,
         Sign::Zero => Found::At(Spot::Edge(dart)),
         Sign::Plus => Found::Below(EdgeBelow { dart, edge }),
@@ -73,7 +72,7 @@ pub fn found_at_dart(
     glance: &Glance,
     dart: DartId,
     looked: &Glimpse,
-    point: &Query,
+    point: &Point,
     passage: Passage,
 ) -> Found
     requires map { IsSoundMap glance.now }
@@ -107,7 +106,7 @@ pub fn find<L: Ledger>(
     glance: &Glance,
     face: FaceId,
     at: BoundaryPart,
-    point: &Query,
+    point: &Point,
     last: &mut Option<Compared>,
     steps: &mut Steps<L>,
 ) -> Found
@@ -131,7 +130,7 @@ pub fn find<L: Ledger>(
         }
         BoundaryPart::Isolated(vertex) => {
             let looked = glance.look(Spot::Vertex(vertex), steps);
-            if looked.source == point.point() {
+            if looked.source == *point {
                 return Found::At(Spot::Vertex(vertex));
             }
             Found::Past

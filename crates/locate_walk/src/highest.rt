@@ -3,10 +3,10 @@ ghost use Rattle.locate_walk.specs.Looks.{higher_edge, taken};
 
 use crate::found::{EdgeBelow, Found, find};
 use crate::passage::Compared;
-use crate::query::Query;
 use counted_looks::{BoundaryPart, Glance, Looker};
 use dcel_records::Spot;
 use edges_below::is_above;
+use exact_plane::Point;
 use slab_laws::FaceId;
 use std::sync::ledger::Ledger;
 use work_steps::Steps;
@@ -17,7 +17,7 @@ use work_steps::Steps;
 pub struct Highest<'a, 'r> {
     pub glance: &'a Glance<'r>,
     pub face: FaceId,
-    pub point: Query,
+    pub point: Point,
     pub hit: Option<Spot>,
     pub best: Option<EdgeBelow>,
     pub compared: Option<Compared>,

@@ -9,12 +9,10 @@
 mod found;
 mod highest;
 mod passage;
-mod query;
 mod round;
 mod walk;
 
 pub use found::{EdgeBelow, Found, found_at_dart, is_told_at_twin, span_between};
 pub use highest::Highest;
 pub use passage::{Compared, Passage, passage_of};
-pub use query::Query;
 pub use walk::{climb, face_over, locate};

@@ -5,8 +5,8 @@ ghost use Rattle.counted_looks.specs.Looks.{IsLookOf};
 ghost use Rattle.dcel_records.specs.declared.spot.Spot.TheVariants.{Edge};
 ghost use Rattle.locate_walk.specs.Passages.{IsPassage, IsComparedOrNone, spans};
 
-use crate::query::Query;
 use counted_looks::{Glance, Glimpse, NameCalls};
+use exact_plane::Point;
 use slab_laws::{DartId, VertexId};
 use std::cmp::Ordering;
 
@@ -46,7 +46,7 @@ pub struct Compared {
 fn order_of_source(
     vertex: VertexId,
     looked: &Glimpse,
-    point: &Query,
+    point: &Point,
     last: Option<Compared>,
 ) -> Ordering
     requires { (c : _) → last ≡ Some c → c.vertex ≡ vertex → c.order ≡ point_cmp looked.now.source point.now }
@@ -57,7 +57,7 @@ fn order_of_source(
             return compared.order;
         }
     }
-    point.order_of(&looked.source())
+    looked.source().cmp(point)
 }
 
 // How the ends of a dart lie to the point. Along a cycle a dart starts where the one before it ended, so only its target is read and
@@ -67,7 +67,7 @@ fn orders_of(
     glance: &Glance,
     dart: DartId,
     looked: &Glimpse,
-    point: &Query,
+    point: &Point,
     last: &mut Option<Compared>,
 ) -> (Ordering, Ordering)
     requires dart { HasDart glance.now.graph dart }
@@ -78,7 +78,7 @@ fn orders_of(
     ensures last { IsComparedOrNone glance.now.graph point.now last.new }
 {
     let of_source = order_of_source(glance.source(dart), looked, point, *last);
-    let order = point.order_of(&looked.target());
+    let order = looked.target().cmp(point);
     *last = Some(Compared {
         vertex: glance.target(dart),
         order,
@@ -92,7 +92,7 @@ pub fn passage_of(
     glance: &Glance,
     dart: DartId,
     looked: &Glimpse,
-    point: &Query,
+    point: &Point,
     last: &mut Option<Compared>,
 ) -> Passage
     requires dart { HasDart glance.now.graph dart }

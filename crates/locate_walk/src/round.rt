@@ -8,7 +8,6 @@ ghost use Rattle.locate_walk.specs.Rounds.{IsRound};
 
 use crate::found::EdgeBelow;
 use crate::highest::Highest;
-use crate::query::Query;
 use counted_looks::{Glance, look_at_boundary};
 use dcel_records::Spot;
 use exact_plane::Point;
@@ -45,7 +44,7 @@ pub fn look_round<L: Ledger>(
     let mut highest = Highest {
         glance,
         face,
-        point: Query::of(point),
+        point: *point,
         hit: None,
         best: last,
         compared: None,

@@ -232,7 +232,7 @@ pub fn planar<S: Source, K: Sink>(
 
     // The limits themselves: bytes of a script, bytes of a line, and what a layer of a script may hold.
     ensures limit { SCRIPT_LIMIT ≡ 2 ^ 26 }
-    ensures line_limit { MAX_LINE ≡ 200 }
+    ensures line_limit { MAX_LINE ≡ 300 }
     ensures full { (FULL.curves ≡ 2000) × (FULL.pieces ≡ 10000) × (FULL.pins ≡ 10000) }
 {
     match read_words(alloc, words) {

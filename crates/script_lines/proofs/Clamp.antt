@@ -1,5 +1,5 @@
 -- Numbers make the same points, the same curve's or observer's number or the same segment, whether or not they are kept at the limit.
-use Rattle.std.proofs.Common.{◌≡◌, ℕ, zero, suc, ◌^◌, ◌<◌, Bool, true, false, cond, leb, ltb, ℤ, pos, negsuc, List, [], ◌∷◌, None, Ok, Err, refl, sym, ap, ◌∙◌, arith}
+use Rattle.std.proofs.Common.{◌≡◌, ℕ, zero, suc, ◌<◌, Bool, true, false, cond, leb, ltb, ℤ, pos, negsuc, List, [], ◌∷◌, None, Ok, Err, refl, sym, ap, ◌∙◌, arith}
 use Rattle.std.specs.Prelude.{map, take, drop, unsigned_abs, neg_ℤ}
 use Rattle.std.proofs.Math.Bool.{and-false}
 use Rattle.std.proofs.lemmas.Bool.{leb-true, le-leb, leb-false, lt-leb}
@@ -13,6 +13,7 @@ use Rattle.exact_plane.specs.declared.bounds.TheConstants.{MAX_COORDINATE}
 use Rattle.exact_plane.specs.Segment.{AreCoordinates, is_coordinate, are_coordinates}
 use Rattle.exact_plane.proofs.Lowest.{Sizes, sizes, from_sizes}
 use Rattle.exact_plane.proofs.Wholes.{are_coordinates-is}
+use Rattle.script_lines.specs.declared.number.TheConstants.{NUMBER_LIMIT}
 use Rattle.script_lines.specs.Number.{limited_size, limited_number}
 use Rattle.script_lines.specs.Command.{point_from, pair_from, triple_from, number_to, curve_from, observer_from, observer_at_from, segment_from}
 use Rattle.integers.proofs.Tests.{not_true}
@@ -25,7 +26,7 @@ size-limited_number : (z : ℤ) → unsigned_abs (limited_number z) ≡ limited_
 size-limited_number (pos n) = refl
 size-limited_number (negsuc n) = size-neg (limited_size (suc n))
 
-small-limited_number : (z : ℤ) → unsigned_abs z < 2 ^ 64 → limited_number z ≡ z
+small-limited_number : (z : ℤ) → unsigned_abs z < NUMBER_LIMIT → limited_number z ≡ z
 small-limited_number (pos n) h = ap pos (omega arith)
 small-limited_number (negsuc n) h = let e : limited_size (suc n) ≡ suc n = omega arith in rw e refl
 
@@ -82,11 +83,11 @@ pub triple_from-limited_number : (zs : List ℤ) → triple_from (map limited_nu
 triple_from-limited_number zs = rw (take-map limited_number 6 zs, drop-map limited_number 6 zs, pair_from-limited_number (take 6 zs), point_from-limited_number (drop 6 zs)) refl
 
 -- whether a size is within a bound below the limit doesn't change when it is kept at the limit
-bound_by : (n greatest : ℕ) (t : Bool) → greatest < 2 ^ 64 → leb n greatest ≡ t → leb (limited_size n) greatest ≡ t
+bound_by : (n greatest : ℕ) (t : Bool) → greatest < NUMBER_LIMIT → leb n greatest ≡ t → leb (limited_size n) greatest ≡ t
 bound_by n greatest true small e = le-leb (limited_size n) greatest (let h = leb-true n greatest e in omega arith)
 bound_by n greatest false small e = lt-leb (limited_size n) greatest (let h = leb-false n greatest e in omega arith)
 
-same_number : (greatest n : ℕ) (t : Bool) → greatest < 2 ^ 64 → leb n greatest ≡ t → number_to greatest (pos (limited_size n)) ≡ number_to greatest (pos n)
+same_number : (greatest n : ℕ) (t : Bool) → greatest < NUMBER_LIMIT → leb n greatest ≡ t → number_to greatest (pos (limited_size n)) ≡ number_to greatest (pos n)
 same_number greatest n true small e = let k : limited_size n ≡ n = (let h = leb-true n greatest e in omega arith) in rw k refl
 same_number greatest n false small e = rw (bound_by n greatest false small e, e, and-false (ltb 0 (limited_size n)), and-false (ltb 0 n)) refl
 
@@ -95,7 +96,7 @@ no_number greatest zero = refl
 no_number greatest (suc k) = refl
 
 -- a number from 1 to a bound below the limit
-number_to-limited_number : (greatest : ℕ) → greatest < 2 ^ 64 → (z : ℤ) → number_to greatest (limited_number z) ≡ number_to greatest z
+number_to-limited_number : (greatest : ℕ) → greatest < NUMBER_LIMIT → (z : ℤ) → number_to greatest (limited_number z) ≡ number_to greatest z
 number_to-limited_number greatest small (pos n) = same_number greatest n (leb n greatest) small refl
 number_to-limited_number greatest small (negsuc n) = no_number greatest (limited_size (suc n))
 

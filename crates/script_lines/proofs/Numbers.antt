@@ -1,5 +1,5 @@
 -- The numbers of the words of a line, taken one by one.
-use Rattle.std.proofs.Common.{◌≡◌, ℕ, zero, suc, ◌^◌, pos, negsuc, subst, ◌+◌, ◌<◌, ◌≤◌, Bool, true, false, cond, ℤ, List, [], ◌∷◌, length, get_or, take, drop, set, Option, Some, None, Ok, Err, refl, sym, ap, ◌∙◌, add-one, arith, length-drop, drop-cons}
+use Rattle.std.proofs.Common.{◌≡◌, ℕ, zero, suc, pos, negsuc, subst, ◌+◌, ◌<◌, ◌≤◌, Bool, true, false, cond, ℤ, List, [], ◌∷◌, length, get_or, take, drop, set, Option, Some, None, Ok, Err, refl, sym, ap, ◌∙◌, add-one, arith, length-drop, drop-cons}
 use Rattle.std.specs.Prelude.{◌≢◌, ◌&&◌, map, filter_map, is_some, option_map, ok_or, neg_ℤ, FitsSigned}
 use Rattle.std.specs.Option.{unwrap_or}
 use Rattle.std.specs.Int.{w128}
@@ -9,6 +9,7 @@ use Rattle.std.proofs.lemmas.List.{take_more, take_more_set, take_all, map-appen
 use Rattle.std.proofs.lemmas.List.Elements.{filter_map-append}
 use Rattle.std.proofs.lemmas.List.Folds.{list_all_more}
 use Rattle.script_lines.specs.declared.error.LineError.TheVariants.{Count, Number}
+use Rattle.script_lines.specs.declared.number.TheConstants.{NUMBER_LIMIT}
 use Rattle.script_lines.specs.Number.{number_of, is_number, limited_size, limited_number}
 use Rattle.script_lines.specs.Form.{numbers_of}
 
@@ -99,7 +100,7 @@ ok_or-ok None e x is = absurd cc
 ok_or-ok (Some y) e x is = cc
 
 -- a number that is kept at the limit fits
-fits-neg : (n : ℕ) → n ≤ 2 ^ 64 → FitsSigned w128 (neg_ℤ (pos n))
+fits-neg : (n : ℕ) → n ≤ NUMBER_LIMIT → FitsSigned w128 (neg_ℤ (pos n))
 fits-neg zero le = omega arith
 fits-neg (suc n) le = omega arith
 

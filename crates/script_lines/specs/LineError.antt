@@ -18,5 +18,5 @@ error_text Word = codes "the first word isn't a command, or a fixed word isn't s
 error_text Count = codes "the count of words isn't one that the command has"
 error_text Number = codes "a word in a number's place isn't a number"
 error_text Range = codes "a number is out of its range"
-error_text Long = codes "the line has more than 200 bytes"
+error_text Long = codes "the line has more than 300 bytes"
 error_text Byte = codes "a byte of the line is outside 32 to 126"

@@ -14,7 +14,7 @@ use crate::words::next_word;
 use exact_plane::Point;
 
 /// How many bytes a line may have. A longer one is refused whatever it says.
-pub const MAX_LINE: usize = 200;
+pub const MAX_LINE: usize = 300;
 
 /// What a line asks for.
 #[derive(Clone, Copy)]
@@ -145,7 +145,7 @@ pub fn read_line(line: &[u8]) -> Result<Command, LineError>
     ensures nothing { (result ≡ Ok Command.Nothing) ↔ (IsText line.now × IsSilent (words line.now)) }
 
     // The limit itself.
-    ensures limit { MAX_LINE ≡ 200 }
+    ensures limit { MAX_LINE ≡ 300 }
 {
     read(line)
 }

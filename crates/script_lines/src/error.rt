@@ -48,7 +48,7 @@ impl LineError {
             LineError::Count => "the count of words isn't one that the command has",
             LineError::Number => "a word in a number's place isn't a number",
             LineError::Range => "a number is out of its range",
-            LineError::Long => "the line has more than 200 bytes",
+            LineError::Long => "the line has more than 300 bytes",
             LineError::Byte => "a byte of the line is outside 32 to 126",
         }
     }

@@ -2,8 +2,10 @@ ghost use Rattle.std.specs.Prelude.{◌≡◌, ◌≤◌, length, option_map};
 ghost use Rattle.script_lines.specs.declared.number.TheConstants.{FEW};
 ghost use Rattle.script_lines.specs.Number.{digits_number, positive_of, number_of, limited_size, limited_number};
 
+use exact_plane::{MAX_COORDINATE, WEIGHT_LIMIT};
+
 // No number past this limit is in any range, so that one is kept as the limit, however long it is.
-const LIMIT: u128 = 1 << 64;
+const NUMBER_LIMIT: u128 = MAX_COORDINATE * WEIGHT_LIMIT;
 
 // So many digits fit in 64 bits, whatever they are.
 const FEW: usize = 18;
@@ -32,7 +34,7 @@ fn many_digits(digits: &[u8]) -> Option<u128>
         if !digit.is_ascii_digit() {
             return None;
         }
-        number = (10 * number + u128::from(*digit - b'0')).min(LIMIT);
+        number = (10 * number + u128::from(*digit - b'0')).min(NUMBER_LIMIT);
     }
     Some(number)
 }
@@ -53,7 +55,8 @@ fn positive(digits: &[u8]) -> Option<u128>
 /// The number that a word is.
 ///
 /// A number is `0`, or an optional `-`, a digit 1 to 9 and any digits, however many; `None` is for any other word. One whose
-/// size is past 2^64 is given as 2^64 with its sign, so that a range within that is tried on the result as on the number itself.
+/// size is past a limit that no number in any range passes is given as that limit with its sign, so that a range is tried on the
+/// result as on the number itself.
 pub fn read_number(word: &[u8]) -> Option<i128>
     ensures { result ≡ option_map limited_number (number_of word.now) }
 {

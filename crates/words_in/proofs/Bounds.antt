@@ -1,5 +1,5 @@
 -- The numbers of the options: kept at the limit they are within the same bounds, and no word within bounds begins with a hyphen.
-use Rattle.std.proofs.Common.{◌≡◌, ℕ, zero, suc, ◌+◌, ◌*◌, ◌^◌, ◌<◌, ◌≤◌, ◌==◌, ◌&&◌, Bool, true, false, leb, ltb, ℤ, pos, negsuc, List, [], ◌∷◌, Option, Some, None, if◌then◌else◌, refl, sym, ap, ◌∙◌, subst, arith}
+use Rattle.std.proofs.Common.{◌≡◌, ℕ, zero, suc, ◌+◌, ◌*◌, ◌<◌, ◌≤◌, ◌==◌, ◌&&◌, Bool, true, false, leb, ltb, ℤ, pos, negsuc, List, [], ◌∷◌, Option, Some, None, if◌then◌else◌, refl, sym, ap, ◌∙◌, subst, arith}
 use Rattle.std.specs.Prelude.{neg_ℤ, option_and_then, option_map}
 use Rattle.std.proofs.Math.Bool.{and-false}
 use Rattle.std.proofs.lemmas.Bool.{and_parts, leb-true, leb-false, lt-leb}
@@ -8,12 +8,13 @@ use Rattle.std.specs.Char.{digit_value, is_ascii_digit}
 use Rattle.std.specs.Str.{all_ascii_digits}
 use Rattle.std.specs.Str.Parse.{digits_value, digits_value_after}
 use Rattle.clap.specs.Lexer.{strip_byte}
+use Rattle.script_lines.specs.declared.number.TheConstants.{NUMBER_LIMIT}
 use Rattle.script_lines.specs.Number.{limited_number, limited_size, positive_of}
 use Rattle.words_in.specs.Numbers.{number_between, within}
 
 -- ---- the limit
 
-same_within : (least greatest n : ℕ) (t : Bool) → greatest < 2 ^ 64 → leb n greatest ≡ t
+same_within : (least greatest n : ℕ) (t : Bool) → greatest < NUMBER_LIMIT → leb n greatest ≡ t
     → within least greatest (pos (limited_size n)) ≡ within least greatest (pos n)
 same_within least greatest n true small e = let k : limited_size n ≡ n = (let h = leb-true n greatest e in omega arith) in rw k refl
 same_within least greatest n false small e =
@@ -26,12 +27,12 @@ below_zero least greatest zero h = absurd (omega arith)
 below_zero least greatest (suc k) h = refl
 
 -- a number is within bounds below the limit, whether or not it is kept at the limit
-within-limited_number : (least greatest : ℕ) → greatest < 2 ^ 64 → (z : ℤ) → within least greatest (limited_number z) ≡ within least greatest z
+within-limited_number : (least greatest : ℕ) → greatest < NUMBER_LIMIT → (z : ℤ) → within least greatest (limited_number z) ≡ within least greatest z
 within-limited_number least greatest small (pos n) = same_within least greatest n (leb n greatest) small refl
 within-limited_number least greatest small (negsuc n) = below_zero least greatest (limited_size (suc n)) (omega arith)
 
 -- the number that a word is, read with the limit, is within the same bounds
-pub between-limited_number : (least greatest : ℕ) → greatest < 2 ^ 64 → (o : Option ℤ)
+pub between-limited_number : (least greatest : ℕ) → greatest < NUMBER_LIMIT → (o : Option ℤ)
     → option_and_then (within least greatest) (option_map limited_number o) ≡ option_and_then (within least greatest) o
 between-limited_number least greatest small None = refl
 between-limited_number least greatest small (Some z) = within-limited_number least greatest small z

@@ -90,7 +90,7 @@ const SEGMENTS: [Ends; 5] = [
     (0, 5, 0, -3),
     (4, 0, 9, 0),
     (-2, 7, 3, -8),
-    (-1048575, -1048575, 1048575, 1048575),
+    (-16777215, -16777215, 16777215, 16777215),
 ];
 
 // The unbounded face has no dart and no isolated vertex on its boundary, so no zone takes a step.

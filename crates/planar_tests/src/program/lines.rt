@@ -32,7 +32,7 @@ fn errors_have_their_words(rt: HostRuntime) -> Result<(), Fail> {
             "a word in a number's place isn't a number",
         ),
         (LineError::Range, "a number is out of its range"),
-        (LineError::Long, "the line has more than 200 bytes"),
+        (LineError::Long, "the line has more than 300 bytes"),
         (LineError::Byte, "a byte of the line is outside 32 to 126"),
     ];
     for (error, words) in rows {

@@ -201,9 +201,10 @@ fn made_scripts_ask_for_no_source(rt: HostRuntime) -> Result<(), Fail> {
 
 #[test]
 fn limits_are_kept(rt: HostRuntime) -> Result<(), Fail> {
-    let rows: [(u8, u64, Status, &str); 7] = [
-        (b'a', 200, Status::Done, "refused 1\n"),
-        (b'a', 201, Status::Done, "refused 5\n"),
+    let rows: [(u8, u64, Status, &str); 8] = [
+        (b'a', 201, Status::Done, "refused 1\n"),
+        (b'a', 300, Status::Done, "refused 1\n"),
+        (b'a', 301, Status::Done, "refused 5\n"),
         (200, 4, Status::Done, "refused 6\n"),
         (b'a', 1 << 26, Status::Done, "refused 5\n"),
         (b'a', (1 << 26) + 1, Status::TooLong, ""),

@@ -1,4 +1,5 @@
-use exact_plane::{PointError, SegmentError};
+use crate::shapes::Ends;
+use exact_plane::{PointError, Segment, SegmentError};
 use std::test::Fail;
 
 #[test]
@@ -9,5 +10,21 @@ fn errors_say_what_is_wrong(rt: HostRuntime) -> Result<(), Fail> {
     let wanted =
         "the weight is 0, a number is out of its range, a number is out of its range, the two ends are equal";
     assert!(rt; found.as_str() == wanted, "{found}");
+    Ok(())
+}
+
+// Ends that are no segment's: one point twice, and a coordinate out of its range.
+const REFUSED: [(Ends, SegmentError); 3] = [
+    ((1, 1, 1, 1), SegmentError::Equal),
+    ((1_048_576, 0, 1_048_576, 0), SegmentError::Equal),
+    ((16_777_216, 0, 0, 0), SegmentError::Range),
+];
+
+#[test]
+fn ends_are_refused_for_their_reason(rt: HostRuntime) -> Result<(), Fail> {
+    for ((x1, y1, x2, y2), wanted) in REFUSED {
+        let found = Segment::new(x1, y1, x2, y2);
+        assert!(rt; found == Err(wanted));
+    }
     Ok(())
 }

@@ -17,11 +17,11 @@ use work_steps::Steps;
 
 // A point, and its landmark; the first three have two that are equally near.
 const NEAREST: [((i64, i64), (i64, i64)); 5] = [
-    ((131_072, 0), (0, 0)),
-    ((-131_072, 131_073), (-262_144, 262_144)),
-    ((655_360, -655_360), (524_288, -786_432)),
-    ((1_048_575, -1_048_575), (786_432, -786_432)),
-    ((655_361, -655_359), (786_432, -524_288)),
+    ((2_097_152, 0), (0, 0)),
+    ((-2_097_152, 2_097_153), (-4_194_304, 4_194_304)),
+    ((10_485_760, -10_485_760), (8_388_608, -12_582_912)),
+    ((16_777_215, -16_777_215), (12_582_912, -12_582_912)),
+    ((10_485_761, -10_485_759), (12_582_912, -8_388_608)),
 ];
 
 fn has_landmark(place: (i64, i64), wanted: (i64, i64)) -> bool {
@@ -77,7 +77,7 @@ fn are_found(records: &Records, landmarks: &Landmarks) -> Option<bool>
     let within = records.face(records.cycle(inner));
     Some(
         spot_of(records, landmarks, (-1, 5)) == Some(Spot::Face(FaceId(0)))
-            && spot_of(records, landmarks, (700_000, 700_000)) == Some(Spot::Face(FaceId(0)))
+            && spot_of(records, landmarks, (11_200_000, 11_200_000)) == Some(Spot::Face(FaceId(0)))
             && spot_of(records, landmarks, (1, 5)) == Some(Spot::Face(between))
             && spot_of(records, landmarks, (3, 3)) == Some(Spot::Face(within))
             && spot_of(records, landmarks, (3, 0)) == Some(Spot::Edge(outer))

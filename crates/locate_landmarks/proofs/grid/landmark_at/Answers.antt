@@ -1,8 +1,7 @@
 use Rattle.std.proofs.Common.{◌≡◌, ℤ, ℕ, pos, ◌<◌, ◌≤◌, ◌%◌, ◌/◌, to_z, of_z, arith, sym, ap, subst, ◌∙◌}
 use Rattle.std.specs.Prelude.{unsigned_abs}
 use Rattle.std.specs.Int.{w64, w128}
-use Rattle.std.proofs.lemmas.Int.{fits_signed_from_abs}
-use Rattle.exact_plane.proofs.Wholes.{widened}
+use Rattle.std.proofs.lemmas.Int.{to_z-of_z, fits_signed_from_abs}
 use Rattle.locate_landmarks.specs.Grid.{grid_number}
 use Rattle.locate_landmarks.proofs.Nearest.{grid_within, whole_made}
 use Rattle.locate_landmarks.proofs.grid.landmark_at.Goals as goal
@@ -17,4 +16,8 @@ returns c =
     m ∙ (λ i. record { x = as_is c.grid_number-x.result (c.args.index / 7) a x i; y = as_is c.grid_number-y.result (c.args.index % 7) b y i; w = pos 1 })
   where
     as_is : (z : ℤ) (k : ℕ) → k < 7 → z ≡ grid_number k → to_z w128 (of_z w128 (to_z w64 (of_z w64 z))) ≡ grid_number k
-    as_is z k h e = let n = grid_within k h in let m : unsigned_abs z ≤ 786432 = subst (λ y. unsigned_abs y ≤ 786432) (sym e) n in widened z (fits_signed_from_abs w64 z (omega arith)) (omega arith) ∙ e
+    as_is z k h e =
+        let n = grid_within k h in
+        let m : unsigned_abs z ≤ 12582912 = subst (λ y. unsigned_abs y ≤ 12582912) (sym e) n in
+        ap (λ y. to_z w128 (of_z w128 y)) (to_z-of_z w64 z (fits_signed_from_abs w64 z (omega arith)))
+        ∙ to_z-of_z w128 z (fits_signed_from_abs w128 z (omega arith)) ∙ e

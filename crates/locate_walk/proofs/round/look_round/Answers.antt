@@ -1,13 +1,12 @@
 use Rattle.std.proofs.Common.{◌≡◌, refl, sym, subst, inl}
 use Rattle.std.specs.Prelude.{None, IfSome}
-use Rattle.exact_plane.specs.Point.{Point, IsPoint}
+use Rattle.exact_plane.specs.Point.{IsPoint}
 use Rattle.plane_graphs.proofs.Lines.{point_is_proper}
 use Rattle.dcel_records.specs.RecordsView.{graph_of, tables_of}
 use Rattle.dcel_records.specs.SoundMaps.{IsSoundMap}
 use Rattle.face_location.specs.Spots.{IsSpotOf}
 use Rattle.locate_walk.specs.Looks.{IsBelowOrNone, MayLook}
 use Rattle.locate_walk.specs.Passages.{IsComparedOrNone}
-use Rattle.locate_walk.specs.Rounds.{IsHighestRound}
 use Rattle.locate_walk.specs.declared.highest.Highest.{Highest}
 use Rattle.locate_walk.proofs.Rounds.{round_hit, round_highest}
 use Rattle.locate_walk.proofs.round.look_round.Goals as goal
@@ -16,36 +15,33 @@ pub look_at_boundary-requires-clause-lists : goal.look_at_boundary-requires-clau
 look_at_boundary-requires-clause-lists g c = c.laws-2.ensures.lists c.requires.map
 
 -- a looker that has looked at nothing may look
-first_look : (k : Highest) (point : Point) → k.hit ≡ None → k.compared ≡ None → k.point ≡ point → IsSoundMap k.glance.now → IsPoint point → IsBelowOrNone k.glance.now.graph point k.best → MayLook (graph_of k.glance.now) k k
-first_look k point hit compared e map is below = record {
+first_look : (k : Highest) → k.hit ≡ None → k.compared ≡ None → IsSoundMap k.glance.now → IsPoint k.point → IsBelowOrNone k.glance.now.graph k.point k.best → MayLook (graph_of k.glance.now) k k
+first_look k hit compared map is below = record {
   graph = refl;
   map = map;
   glance = refl;
   face = refl;
   point = refl;
-  proper = point_is_proper k.point (subst IsPoint (sym e) is);
-  best = subst (λ p. IsBelowOrNone k.glance.now.graph p k.best) (sym e) below;
+  proper = point_is_proper k.point is;
+  best = below;
   compared = subst (IsComparedOrNone k.glance.now.graph k.point) (sym compared) tt;
   hit = subst (λ o. IfSome o (IsSpotOf k.glance.now.graph (tables_of k.glance.now) k.point)) (sym hit) tt;
   raised = inl refl;
 }
 
 pub look_at_boundary-requires-clause-ready : goal.look_at_boundary-requires-clause-ready
-look_at_boundary-requires-clause-ready g c = (
-  record { glance = c.args.glance; face = c.args.face; point = c.of.result; hit = None; best = c.args.last; compared = None },
-  first_look (record { glance = c.args.glance; face = c.args.face; point = c.of.result; hit = None; best = c.args.last; compared = None }) c.args.point.now refl refl c.of.ensures c.requires.map c.laws.ensures c.requires.last,
-)
+look_at_boundary-requires-clause-ready g c =
+    let k : Highest = record { glance = c.args.glance; face = c.args.face; point = c.args.point.now; hit = None; best = c.args.last; compared = None } in
+    (k, first_look k refl refl c.requires.map c.laws.ensures c.requires.last)
 
 pub returns-in-Some-clause-round : goal.returns-in-Some-clause-round
 returns-in-Some-clause-round g c =
-    let k : Highest = record { glance = c.args.glance; face = c.args.face; point = c.of.result; hit = None; best = c.args.last; compared = None } in
-    let m = first_look k c.args.point.now refl refl c.of.ensures c.requires.map c.laws.ensures c.requires.last in
-    subst (λ q. IsSpotOf c.args.glance.now.graph (tables_of c.args.glance.now) q c.in-Some.spot) c.of.ensures
-    (round_hit (graph_of c.args.glance.now) k c.look_at_boundary.new.looker (c.look_at_boundary.ensures.ready k m) c.in-Some.spot c.in-Some.is)
+    let k : Highest = record { glance = c.args.glance; face = c.args.face; point = c.args.point.now; hit = None; best = c.args.last; compared = None } in
+    let m = first_look k refl refl c.requires.map c.laws.ensures c.requires.last in
+    round_hit (graph_of c.args.glance.now) k c.look_at_boundary.new.looker (c.look_at_boundary.ensures.ready k m) c.in-Some.spot c.in-Some.is
 
 pub returns-in-None-clause-round : goal.returns-in-None-clause-round
 returns-in-None-clause-round g c =
-    let k : Highest = record { glance = c.args.glance; face = c.args.face; point = c.of.result; hit = None; best = c.args.last; compared = None } in
-    let m = first_look k c.args.point.now refl refl c.of.ensures c.requires.map c.laws.ensures c.requires.last in
-    subst (λ q. IsHighestRound c.args.glance.now.graph (tables_of c.args.glance.now) q c.args.face c.args.last c.look_at_boundary.new.looker.best) c.of.ensures
-    (round_highest (graph_of c.args.glance.now) k c.look_at_boundary.new.looker (c.look_at_boundary.ensures.ready k m) c.requires.map.sound.graph c.in-None.is c.look_at_boundary.ensures.seen)
+    let k : Highest = record { glance = c.args.glance; face = c.args.face; point = c.args.point.now; hit = None; best = c.args.last; compared = None } in
+    let m = first_look k refl refl c.requires.map c.laws.ensures c.requires.last in
+    round_highest (graph_of c.args.glance.now) k c.look_at_boundary.new.looker (c.look_at_boundary.ensures.ready k m) c.requires.map.sound.graph c.in-None.is c.look_at_boundary.ensures.seen
