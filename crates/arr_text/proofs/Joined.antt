@@ -22,7 +22,7 @@ said (Err t) x z a b f g = f
 
 -- the three numbers of a point
 pub triple_put : {T E : Type 0} (r : Result T E) (p : Point) (s a b z : List ℕ) → a ≡ s ++ word (signed_decimal p.x) → b ≡ a ++ word (signed_decimal p.y) → OnOk r (z ≡ b ++ word (signed_decimal p.w)) → OnOk r (z ≡ s ++ triple p)
-unfolding triple
+unfolding triple word
 triple_put r p s a b z e f g =
     let x : List ℕ = word (signed_decimal p.x) in
     let y : List ℕ = word (signed_decimal p.y) in

@@ -1,8 +1,8 @@
 -- The text of a subdivision.
 use Rattle.std.specs.Prelude.{ℕ, suc, ◌+◌, List, [], ◌∷◌, ◌++◌, map, cond, not, filter, flat_map, length, codes, decimal, zip}
 use Rattle.std.specs.List.{list_any, position_or_len}
-use Rattle.std.specs.Fmt.{signed_decimal}
 use Rattle.exact_plane.specs.Point.{Point}
+use Rattle.exact_plane.specs.PointText.{point_text}
 use Rattle.plane_graphs.specs.Graph.{Edge, Graph, graph, edges, curves}
 use Rattle.slab_laws.specs.Skeleton.{Skeleton, same_point}
 use Rattle.slab_laws.specs.declared.slab_cell.SlabCell.{SlabCell}
@@ -31,7 +31,7 @@ index g p = position_or_len (same_point p) g.vertices + 1
 
 -- the three numbers of a point
 unfoldable pub triple : Point → List ℕ
-triple p = word (signed_decimal p.x) ++ (word (signed_decimal p.y) ++ word (signed_decimal p.w))
+triple p = word (point_text p)
 
 -- a line, with its end
 unfoldable pub ended : List ℕ → List ℕ
