@@ -8,6 +8,7 @@ pub mod Point
 pub mod PointOf
 pub mod PointOrder
 pub mod PointOrderLaws
+pub mod PointText
 pub mod Segment
 pub mod SegmentOf
 pub mod Sign

@@ -15,6 +15,7 @@ mod segment;
 mod sides;
 mod slopes;
 mod spans;
+mod text;
 
 pub use bounds::{MAX_COORDINATE, WEIGHT_LIMIT};
 pub use direction::{Direction, turn_order};
