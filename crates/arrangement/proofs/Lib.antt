@@ -5,5 +5,8 @@ pub mod Edits
 pub mod Watched
 pub mod Ends
 mod Located
+pub mod FacesRead
+pub mod FaceWalks
+mod FaceNumbers
 pub mod PresentsRead
 pub mod OverlayRows

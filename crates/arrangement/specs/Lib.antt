@@ -4,3 +4,5 @@ pub mod Edited
 pub mod Answers
 pub mod Questions
 pub mod Overlays
+pub mod FacesRead
+pub mod FaceNumbers

@@ -5,6 +5,7 @@
 mod arrangement;
 mod counted;
 mod edges;
+mod faces;
 mod layer_records;
 mod limits;
 mod observers;
