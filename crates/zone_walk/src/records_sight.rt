@@ -1,4 +1,4 @@
-//! Looks at the records: cheap tests by sides and by the order of points rule out nearly all edges, an exact meeting comes last.
+//! Looks at the records: cheap tests by the order of points and by sides rule out nearly all edges, an exact meeting comes last.
 ghost use Rattle.std.specs.Prelude.{◌≡◌, ◌≤◌, ◌+◌, ◌&&◌, ◌||◌, cond};
 ghost use Rattle.exact_plane.specs.Meet.{IsMeeting};
 ghost use Rattle.exact_plane.specs.Point.{Point as Coordinates};
@@ -82,8 +82,8 @@ fn meet_of(records: &Records, dart: DartId, segment: &Segment) -> Meet
     span_meeting(&whole(segment), &span)
 }
 
-// The points that a span has in common with the edge of a dart, its ends included. Nearly all edges have none, and the side of
-// the span's line on which they are tells it.
+// The points that a span has in common with the edge of a dart, its ends included. Nearly all edges have none, which the order of
+// their ends and the span's tells, or the side of the span's line on which they are.
 fn points_on_edge(records: &Records, dart: DartId, whole: &Span) -> Option<CommonPoints>
     requires sound { IsGraphSound records.now.graph }
     requires dart { HasDart records.now.graph dart }
@@ -95,7 +95,8 @@ fn points_on_edge(records: &Records, dart: DartId, whole: &Span) -> Option<Commo
     source.laws();
     target.laws();
     records.line(dart).laws();
-    if are_aside(&whole.line(), &source, &target) || are_away(whole, &source, &target) {
+    // The order goes first: whole parts of points nearly always tell it, and a side takes products.
+    if are_away(whole, &source, &target) || are_aside(&whole.line(), &source, &target) {
         return None;
     }
     let span = span_of(records, dart);
