@@ -18,8 +18,8 @@ use Rattle.slab_laws.specs.FaceLists.{AreOnce, AreDartsOn, AreFacesListed, Lists
 use Rattle.slab_laws.specs.View.{View, Faces, HasDart, HasCycle, HasBareFace, cycle_in, face_in, kind_in, bare_face_in}
 use Rattle.dcel_records.specs.RecordsView.{RecordsView, lists_of, tables_of}
 use Rattle.dcel_records.specs.SoundMaps.{IsSoundMap}
-use Rattle.counted_looks.proofs.ListReads.{IsReading, left_at, reads_first, one_more_read, fewer_left, there, all_read}
-use Rattle.counted_looks.proofs.PartsSeen.{cycle_same, cycle_exact, cycle_itself, vertex_same, vertex_exact, vertex_itself}
+use Rattle.counted_looks.proofs.ListReads.{IsReading, reads_first, one_more_read, fewer_left, there, all_read}
+use Rattle.counted_looks.proofs.PartsSeen.{cycle_same, cycle_exact, cycle_itself, cycles_left, vertex_same, vertex_exact, vertex_itself, isolated_left}
 use Rattle.arrangement.specs.FacesRead.{AreBoundariesOf, AreJust, IsBoundaryOf, IsIsolatedIn, is_kind, kept_darts}
 
 -- ---- one more at the end
@@ -60,9 +60,6 @@ taken {X} {Y} g p done c items e =
 abbrev pub AreCyclesRead : Lists → FaceId → (List CycleId → Type 0) → Option CycleId → Type 0
 AreCyclesRead l a T at = IsReading cycle_same cycle_exact cycle_itself (l.cycles a) at T
 
-abbrev pub cycles_left : Lists → FaceId → Option CycleId → ℕ
-cycles_left l a at = left_at cycle_same cycle_exact cycle_itself (l.cycles a) at
-
 module _ (f : Faces) (l : Lists) (a : FaceId) (ls : AreFacesListed f l) (at : Option CycleId) (T : List CycleId → Type 0) where
   pub cycles_begin : at ≡ first_of (l.cycles a) → T [] → AreCyclesRead l a T at
   cycles_begin e t = subst (λ o. AreCyclesRead l a T o) (sym e) (reads_first cycle_same cycle_exact cycle_itself (l.cycles a) T t)
@@ -95,9 +92,6 @@ module _ (f : Faces) (l : Lists) (a : FaceId) (ls : AreFacesListed f l) (at : Op
 -- ---- its isolated vertices
 abbrev pub AreIsolatedRead : Lists → FaceId → (List VertexId → Type 0) → Option VertexId → Type 0
 AreIsolatedRead l a T at = IsReading vertex_same vertex_exact vertex_itself (l.bare a) at T
-
-abbrev pub isolated_left : Lists → FaceId → Option VertexId → ℕ
-isolated_left l a at = left_at vertex_same vertex_exact vertex_itself (l.bare a) at
 
 module _ (f : Faces) (l : Lists) (a : FaceId) (ls : AreFacesListed f l) (at : Option VertexId) (T : List VertexId → Type 0) where
   pub isolated_begin : at ≡ first_of (l.bare a) → T [] → AreIsolatedRead l a T at

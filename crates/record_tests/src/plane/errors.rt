@@ -1,5 +1,5 @@
 use crate::shapes::Ends;
-use exact_plane::{PointError, Segment, SegmentError};
+use exact_plane::{Point, PointError, Segment, SegmentError};
 use std::test::Fail;
 
 #[test]
@@ -26,5 +26,13 @@ fn ends_are_refused_for_their_reason(rt: HostRuntime) -> Result<(), Fail> {
         let found = Segment::new(x1, y1, x2, y2);
         assert!(rt; found == Err(wanted));
     }
+    Ok(())
+}
+
+#[test]
+fn a_point_prints_its_three_numbers(rt: HostRuntime) -> Result<(), Fail> {
+    let point = Point::new(6, -14, 4)?;
+    let found = format!(in rt.alloc(); "{point}")?;
+    assert!(rt; found.as_str() == "3 -7 2", "{found}");
     Ok(())
 }

@@ -1,6 +1,7 @@
 use Rattle.std.specs.Prelude.{◌≡◌}
 use Rattle.dcel_records.specs.RecordsView.{lists_of}
-use Rattle.arrangement.proofs.FacesRead.{AreIsolatedRead, isolated_left}
+use Rattle.counted_looks.proofs.PartsSeen.{isolated_left}
+use Rattle.arrangement.proofs.FacesRead.{AreIsolatedRead}
 use Rattle.arrangement.proofs.faces.listed_isolated.Given as goal
 
 -- the vertices that were read were taken
