@@ -4,6 +4,7 @@ pub mod Told
 pub mod Printed
 pub mod Losses
 pub mod Script
+pub mod Handed
 pub mod Loop
 pub mod ToldRounds
 pub mod Observed

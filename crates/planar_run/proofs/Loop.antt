@@ -1,7 +1,7 @@
 -- What was used and what was written, where the source and the sink tell their bytes.
 use Rattle.std.proofs.Common.{◌≡◌, ℕ, suc, ◌+◌, ◌≤◌, List, [], ◌∷◌, ◌++◌, length, take, Option, Some, None, refl, sym, ap, subst, ◌∙◌, append_assoc, arith, inl, inr}
 use Rattle.std.specs.Prelude.{◌⊎◌, ◌≢◌, IfSome, IsSomeAnd}
-use Rattle.std.proofs.lemmas.List.{length-append}
+use Rattle.std.proofs.lemmas.List.{append_cancel_left, length-append}
 use Rattle.std.proofs.lemmas.Bool.{cases_eq}
 use Rattle.outside.specs.Bytes.{Loses, Gains, IsSpent}
 use Rattle.outside.specs.Counts.{Rose}
@@ -11,9 +11,10 @@ use Rattle.planar_run.specs.declared.status.Status.TheVariants.{Done, Usage, Rea
 use Rattle.planar_run.specs.Lines.{lines, ended_lines}
 use Rattle.planar_run.specs.World.{World}
 use Rattle.planar_run.specs.Run.{IsRun, BeginsRun}
-use Rattle.planar_run.specs.Engine.{Answers, AnswersPart, Takes, Feeds, FeedsPart}
+use Rattle.planar_run.specs.Gathered.{IsFront}
+use Rattle.planar_run.specs.Engine.{Answers, Takes, Feeds, FeedsPart}
 use Rattle.planar_run.specs.Clauses.{Used, UsedAndWritten, ReadToEnd, Ends, Causes, Finishes}
-use Rattle.planar_run.proofs.Script.{Stands, read, Stands-first, Stands-end, Stands-byte, Stands-ended, Stands-done, Stands-last, Stands-part, lines-last, lines-next}
+use Rattle.planar_run.proofs.Script.{Stands, read, Stands-first, Stands-end, Stands-byte, Stands-ended, Stands-done, Stands-last, Stands-part, Stands-front, lines-last}
 use Rattle.planar_run.proofs.Takes.{take_full}
 
 -- ---- what is told
@@ -53,13 +54,6 @@ Feeds-push [] b old mid new p q r k l m f t =
     let a' : Takes b old new p l r m = subst (λ (w : World). Takes b old new w l r m) f.1 a in
     (new, r, m, subst (λ (xs : List ℕ). Takes b old new p xs r m) f.2 a', (refl, refl, refl))
 Feeds-push (x ∷ bytes) b old mid new p q r k l m f t = (f.0, f.1, f.2, f.3, Feeds-push bytes b f.0 mid new f.1 q r f.2 l m f.4 t)
-
-pub Feeds-break : (bytes : List ℕ) (b : ℕ) (back : List ℕ) (old mid new : Option (List ℕ)) (p q : World) (k l : List ℕ) → Feeds bytes old mid p k q l → b ≡ 10 → AnswersPart mid new q l → FeedsPart (bytes ++ b ∷ back) old new p k
-Feeds-break [] b back old mid new p q k l f e a =
-    let a' : AnswersPart old new q l = subst (λ (o : Option (List ℕ)). AnswersPart o new q l) f.0 a in
-    let a'' : AnswersPart old new p l = subst (λ (w : World). AnswersPart old new w l) f.1 a' in
-    inl (e, subst (λ (xs : List ℕ). AnswersPart old new p xs) f.2 a'')
-Feeds-break (x ∷ bytes) b back old mid new p q k l f e a = inr (f.0, f.1, f.2, f.3, Feeds-break bytes b back f.0 mid new f.1 q f.2 l f.4 e a)
 
 one_more : (count n : ℕ) → count + 1 + n ≡ count + suc n
 one_more count n = omega arith
@@ -151,31 +145,33 @@ module _ (first : World) where
         subst (λ (xs : List ℕ). IsRun first (ended_lines xs) s.out) (sym (take_full limit (read s) (b ∷ []) (s.size ∙ e))) (Stands-ended s),
       )
 
-  -- of the bytes that came last some were fed, and of the reply to the line that they ended a part was written
-  part : (script before : List ℕ) (had had' : Option (List ℕ)) (more bytes : List ℕ) (count : ℕ) (world : World) (line : List ℕ) → HasSaid first (Some script) (Some (bytes ++ more)) (Some before) had count world line → FeedsPart bytes had had' world line
+  -- of the bytes that came last some were fed, and of the replies that the sink was to have taken with them it took a front
+  part : (script before had : List ℕ) (had' whole : Option (List ℕ)) (more front back out rest : List ℕ) (count : ℕ) (world after : World) (line line' : List ℕ) → Stands first count script (front ++ (back ++ more)) before had world line → Feeds front (Some had) whole world line after line' → Gains (Some had) had' out → Gains (Some had) whole (out ++ rest)
       → (used : List ℕ) × (out : List ℕ) × (script ≡ used ++ more) × (had' ≡ Some (before ++ out)) × BeginsRun first (lines used) out
-  part script before had had' more [] count world line h f = absurd f
-  part script before had had' more (b ∷ bytes) count world line h (inl f) =
-      let s = h.4 in
-      let a = f.1 in
-      let same : h.0 ≡ b ∷ (bytes ++ more) = cc (h.2) in
-      let g : had' ≡ Some (h.1 ++ a.3.0) = gained h.1 a.3.0 had' (subst (λ (o : Option (List ℕ)). Gains o had' a.3.0) h.3 a.3.3) in (
-        read s ++ b ∷ bytes,
-        s.out ++ a.3.0,
-        s.split ∙ ap (λ (xs : List ℕ). read s ++ xs) same ∙ sym (append_assoc (read s) (b ∷ bytes) more),
-        written before h.1 s.out a.3.0 had' g s.told,
-        Stands-part s (lines (read s ++ b ∷ bytes)) (lines bytes) a.0 a.3.0 a.3.1 a.1 (ap (λ (x : ℕ). lines (read s ++ x ∷ bytes)) f.0 ∙ lines-next s bytes) a.2 a.3.2,
+  part script before had had' whole more front back out rest count world after line line' s f g w =
+      let h = fed (Some script) (Some before) (Some had) whole (back ++ more) front count world after line line' (front ++ (back ++ more), had, refl, refl, s) f in
+      let s' = h.4 in
+      let same : h.1 ≡ had ++ (out ++ rest) = cc (h.3, gained had (out ++ rest) whole w) in
+      let cut : s'.out ≡ (s.out ++ out) ++ rest = append_cancel_left before s'.out ((s.out ++ out) ++ rest)
+      (sym s'.told ∙ same ∙ ap (λ (xs : List ℕ). xs ++ (out ++ rest)) s.told ∙ append_assoc before s.out (out ++ rest) ∙ ap (λ (xs : List ℕ). before ++ xs) (sym (append_assoc s.out out rest))) in
+      let left : h.0 ≡ back ++ more = cc (h.2) in (
+        read s' ++ back,
+        s.out ++ out,
+        s'.split ∙ ap (λ (xs : List ℕ). read s' ++ xs) left ∙ sym (append_assoc (read s') back more),
+        written before had s.out out had' (gained had out had' g) s.told,
+        Stands-front s' back (s.out ++ out) rest cut,
       )
-  part script before had had' more (b ∷ bytes) count world line h (inr f) =
-      part script before f.0 had' more bytes (count + 1) f.1 f.2 (HasSaid-took (Some script) (Some (b ∷ (bytes ++ more))) (Some (bytes ++ more)) (Some before) had f.0 b count world f.1 line f.2 h refl f.3) f.4
 
   pub said-part : (left now next taken had had' : Option (List ℕ)) (bytes : List ℕ) (count : ℕ) (world : World) (line : List ℕ) → HasSaid first left now taken had count world line → Loses now next bytes → FeedsPart bytes had had' world line → UsedAndWritten left next taken had' (λ used out. BeginsRun first (lines used) out)
   said-part None now next taken had had' bytes count world line h l f = tt
   said-part (Some script) now next None had had' bytes count world line h l f = tt
   said-part (Some script) now next (Some before) had had' bytes count world line h l f =
       let m = lost h.0 bytes next (subst (λ (o : Option (List ℕ)). Loses o next bytes) h.2 l) in
-      let h' : HasSaid first (Some script) (Some (bytes ++ m.0)) (Some before) had count world line = (bytes ++ m.0, h.1, refl, h.3, subst (λ (xs : List ℕ). Stands first count script xs before h.1 world line) m.1 h.4) in
-      let r = part script before had had' m.0 bytes count world line h' f in
+      let rest : h.0 ≡ f.0 ++ (f.1 ++ m.0) = m.1 ∙ ap (λ (xs : List ℕ). xs ++ m.0) f.5 ∙ append_assoc f.0 f.1 m.0 in
+      let s : Stands first count script (f.0 ++ (f.1 ++ m.0)) before h.1 world line = subst (λ (xs : List ℕ). Stands first count script xs before h.1 world line) rest h.4 in
+      let fed = subst (λ (o : Option (List ℕ)). Feeds f.0 o f.2 world line f.3 f.4) h.3 f.6 in
+      let front = subst (λ (o : Option (List ℕ)). IsFront o had' f.2) h.3 f.7 in
+      let r = part script before h.1 had' f.2 m.0 f.0 f.1 front.0 front.1 count world f.3 line f.4 s fed front.2 front.3 in
       (r.0, m.0, r.1, r.2, m.2, r.3, r.4)
 
   -- the script was read to its end

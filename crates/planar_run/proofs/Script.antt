@@ -197,11 +197,6 @@ module _ {first : World} where
   pub lines-last : {count : ℕ} {script rest before taken : List ℕ} {world : World} {line : List ℕ} (s : Stands first count script rest before taken world line) → (line ≡ [] → ⊥) → lines (read s) ≡ s.whole ++ s.begun ∷ []
   lines-last {line = line} s some = lines-joined s.whole s.begun s.each ∙ ap (λ (ls : List (List ℕ)). s.whole ++ ls) (one_begun s.begun line s.kept some s.inside)
 
-  -- the line that was begun ends at once
-  pub lines-next : {count : ℕ} {script rest before taken : List ℕ} {world : World} {line : List ℕ} (s : Stands first count script rest before taken world line) (more : List ℕ) → lines (read s ++ 10 ∷ more) ≡ s.whole ++ s.begun ∷ lines more
-  lines-next s more =
-      ap lines (append_assoc (joined s.whole) s.begun (10 ∷ more)) ∙ lines-joined s.whole (s.begun ++ 10 ∷ more) s.each ∙ ap (λ (ls : List (List ℕ)). s.whole ++ ls) (lines-end s.begun more s.inside)
-
   -- it is answered, and no line comes after it
   pub Stands-last : {count : ℕ} {script rest before taken : List ℕ} {world : World} {line : List ℕ} (s : Stands first count script rest before taken world line) (text : List ℕ) (after : World) → (line ≡ [] → ⊥) → Replies world line text after → IsRun first (lines (read s)) (s.out ++ text)
   Stands-last {world = world} {line = line} s text after some step =
@@ -217,3 +212,12 @@ module _ {first : World} where
       let run : AnswersLines (first) (s.whole ++ s.begun ∷ more) (s.out ++ (text ++ tail.0)) tail.1 = Runs-append (first) s.whole (s.begun ∷ more) s.out (text ++ tail.0) world tail.1 s.run (text, tail.0, after, said, refl, tail.2) in
       let same : s.out ++ (text ++ tail.0) ≡ (s.out ++ part) ++ (back ++ tail.0) = ap (λ (xs : List ℕ). s.out ++ (xs ++ tail.0)) f ∙ ap (λ (xs : List ℕ). s.out ++ xs) (append_assoc part back tail.0) ∙ sym (append_assoc s.out part (back ++ tail.0)) in
       (back ++ tail.0, (tail.1, subst (λ (xs : List ℕ). AnswersLines (first) ls xs tail.1) same (subst (λ (all : List (List ℕ)). AnswersLines (first) all (s.out ++ (text ++ tail.0)) tail.1) (sym e) run)))
+
+  -- a front of what answers the lines so far begins to answer them, whatever bytes come after these
+  pub Stands-front : {count : ℕ} {script rest before taken : List ℕ} {world : World} {line : List ℕ} (s : Stands first count script rest before taken world line) (more out back : List ℕ) → s.out ≡ out ++ back → BeginsRun first (lines (read s ++ more)) out
+  Stands-front {world = world} s more out back e =
+      let all : lines (read s ++ more) ≡ s.whole ++ lines (s.begun ++ more) = ap lines (append_assoc (joined s.whole) s.begun more) ∙ lines-joined s.whole (s.begun ++ more) s.each in
+      let tail = ample world (lines (s.begun ++ more)) in
+      let run : AnswersLines (first) (s.whole ++ lines (s.begun ++ more)) (s.out ++ tail.0) tail.1 = Runs-append (first) s.whole (lines (s.begun ++ more)) s.out tail.0 world tail.1 s.run tail.2 in
+      let same : s.out ++ tail.0 ≡ out ++ (back ++ tail.0) = ap (λ (xs : List ℕ). xs ++ tail.0) e ∙ append_assoc out back tail.0 in
+      (back ++ tail.0, (tail.1, subst (λ (xs : List ℕ). AnswersLines (first) (lines (read s ++ more)) xs tail.1) same (subst (λ (ls : List (List ℕ)). AnswersLines (first) ls (s.out ++ tail.0) tail.1) (sym all) run)))

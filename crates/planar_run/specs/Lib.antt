@@ -9,6 +9,7 @@ pub mod Refusals
 pub mod Answer
 pub mod Run
 pub mod Status
+pub mod Gathered
 pub mod Engine
 pub mod Made
 pub mod Clauses

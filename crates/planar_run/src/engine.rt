@@ -2,12 +2,14 @@ ghost use Rattle.std.specs.Prelude.{◌≡◌, ◌≢◌, [], true, false, IfOk,
 ghost use Rattle.outside.specs.Counts.{HasCause};
 ghost use Rattle.planar_run.specs.World.{first_world};
 ghost use Rattle.planar_run.specs.Rows.{waiting_rows, world_row, IsKeptWorld};
-ghost use Rattle.planar_run.specs.Engine.{Answers, AnswersPart, Takes, Feeds, FeedsPart};
+ghost use Rattle.planar_run.specs.Gathered.{with_gathered, Grows};
+ghost use Rattle.planar_run.specs.Engine.{Takes, TakesPart, Feeds, FeedsPart};
 ghost use Rattle.planar_run.specs.Answer.{Replies};
 ghost use Rattle.planar_run.specs.Clauses.{Causes, Finishes};
 ghost use Rattle.planar_run.specs.Made.{no_memory_reply, AnswersMade, AnswersMadePart, IsLastReply};
 
 use crate::answer::answer;
+use crate::gathered::Gathered;
 use crate::line::Line;
 use crate::reply::Reply;
 use crate::status::Status;
@@ -49,17 +51,14 @@ impl Engine {
     }
 
     // Answers the line that was begun, and begins the next.
-    fn end_line<K: Sink>(&mut self, sink: &mut K) -> Result<(), Failed>
+    fn end_line(&mut self)
         requires kept { IsKeptWorld Observer-dyn self.old.world }
-        ensures answered { OnOk result (Answers (K.taken sink.old) (K.taken sink.new) (world_row Observer-dyn self.old.world) self.old.line (world_row Observer-dyn self.new.world)) }
-        ensures cleared { OnOk result (self.new.line ≡ []) }
-        ensures broken { OnErr result (AnswersPart (K.taken sink.old) (K.taken sink.new) (world_row Observer-dyn self.old.world) self.old.line) }
-        ensures cause { HasCause (K.faults sink.old) (K.faults sink.new) result }
+        ensures replied { Replies (world_row Observer-dyn self.old.world) self.old.line self.new.reply (world_row Observer-dyn self.new.world) }
+        ensures cleared { self.new.line ≡ [] }
         ensures kept { IsKeptWorld Observer-dyn self.new.world }
     {
         answer(&mut self.world, self.line.as_slice(), &mut self.reply);
         self.line.clear();
-        write_all(sink, self.reply.as_slice())
     }
 
     // Answers a line that is there whole, and tells whether it found memory.
@@ -106,22 +105,29 @@ impl Engine {
         write_all(sink, self.reply.as_slice())
     }
 
-    // One more byte of the script.
-    fn take<K: Sink>(&mut self, byte: u8, sink: &mut K) -> Result<(), Failed>
+    // One more byte of the script. A reply is gathered behind those before it.
+    fn take<K: Sink>(
+        &mut self,
+        byte: u8,
+        replies: &mut Gathered,
+        sink: &mut K,
+    ) -> Result<(), Failed>
         requires kept { IsKeptWorld Observer-dyn self.old.world }
-        ensures taken { OnOk result (Takes byte (K.taken sink.old) (K.taken sink.new) (world_row Observer-dyn self.old.world) self.old.line (world_row Observer-dyn self.new.world) self.new.line) }
-        ensures broken { OnErr result ((byte ≡ 10) × AnswersPart (K.taken sink.old) (K.taken sink.new) (world_row Observer-dyn self.old.world) self.old.line) }
+        ensures taken { OnOk result (Takes byte (with_gathered (K.taken sink.old) replies.old) (with_gathered (K.taken sink.new) replies.new) (world_row Observer-dyn self.old.world) self.old.line (world_row Observer-dyn self.new.world) self.new.line) }
+        ensures grows { OnOk result (Grows (K.taken sink.old) (K.taken sink.new)) }
+        ensures broken { OnErr result (TakesPart byte (K.taken sink.old) (K.taken sink.new) replies.old (world_row Observer-dyn self.old.world) self.old.line) }
         ensures cause { HasCause (K.faults sink.old) (K.faults sink.new) result }
         ensures kept { IsKeptWorld Observer-dyn self.new.world }
     {
         if byte == b'\n' {
-            return self.end_line(sink);
+            self.end_line();
+            return replies.put(self.reply.as_slice(), sink);
         }
         self.line.push(byte);
         Ok(())
     }
 
-    /// More bytes of the script. Each line is answered when its end comes.
+    /// More bytes of the script. Each line is answered when its end comes; the replies are gathered, and handed over before it returns.
     pub fn feed<K: Sink>(&mut self, bytes: &[u8], sink: &mut K) -> Result<(), Failed>
         requires kept { IsKeptWorld Observer-dyn self.old.world }
         ensures fed { OnOk result (Feeds bytes.now (K.taken sink.old) (K.taken sink.new) (world_row Observer-dyn self.old.world) self.old.line (world_row Observer-dyn self.new.world) self.new.line) }
@@ -129,10 +135,11 @@ impl Engine {
         ensures cause { HasCause (K.faults sink.old) (K.faults sink.new) result }
         ensures kept { IsKeptWorld Observer-dyn self.new.world }
     {
+        let mut replies = Gathered::new();
         for byte in bytes {
-            self.take(*byte, sink)?;
+            self.take(*byte, &mut replies, sink)?;
         }
-        Ok(())
+        replies.flush(sink)
     }
 
     /// The end of the script.
@@ -145,7 +152,8 @@ impl Engine {
         if self.line.is_empty() {
             return Status::Done;
         }
-        match self.end_line(sink) {
+        self.end_line();
+        match write_all(sink, self.reply.as_slice()) {
             Ok(()) => Status::Done,
             Err(_) => Status::WriteFault,
         }

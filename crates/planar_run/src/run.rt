@@ -151,7 +151,7 @@ fn refuse_words<K: Sink>(sink: &mut K) -> Status
 /// shows in no reply but `no memory`. Where they ask for a made script, the source isn't read, and the reply to the last line of that script
 /// alone is written, or, where a line of it finds no memory, the reply to the first such line. Each line is answered when its
 /// end was read. A line that was begun isn't answered after a failed read, and the first failed read or write ends the run.
-/// Lines and scripts of any length take bounded memory.
+/// Replies are gathered, and handed over before more is read. Lines and scripts of any length take bounded memory.
 pub fn planar<S: Source, K: Sink>(
     alloc: Global,
     words: &[String],
