@@ -15,19 +15,10 @@ Gains-none (Some xs) = sym (append-nil xs)
 pub Passes-kept : (old : Option (List ℕ)) (gathered gathered' reply : List ℕ) → gathered' ≡ gathered ++ reply → Passes old old gathered gathered' reply
 Passes-kept old gathered gathered' reply e = ([], sym e, Gains-none old)
 
--- there was room once those before it were handed over
-pub Passes-after : (old new : Option (List ℕ)) (gathered between gathered' reply : List ℕ) → Gains old new gathered → between ≡ [] → gathered' ≡ between ++ reply → Passes old new gathered gathered' reply
-Passes-after old new gathered between gathered' reply g none e = (gathered, ap (λ (xs : List ℕ). gathered ++ xs) (sym (e ∙ ap (λ (xs : List ℕ). xs ++ reply) none)), g)
-
 -- it was handed over after them
 pub Passes-both : (old mid new : Option (List ℕ)) (gathered gathered' reply : List ℕ) → Gains old mid gathered → gathered' ≡ [] → Gains mid new reply → Passes old new gathered gathered' reply
 Passes-both old mid new gathered gathered' reply g none h =
     (gathered ++ reply, sym (ap (λ (xs : List ℕ). (gathered ++ reply) ++ xs) none ∙ append-nil (gathered ++ reply)), Gains-more old mid new gathered reply g h)
-
--- those before it were taken in part
-pub GainsPrefix-before : (old new : Option (List ℕ)) (gathered reply : List ℕ) → GainsPrefix old new gathered → GainsPrefix old new (gathered ++ reply)
-GainsPrefix-before old new gathered reply g =
-    (g.0, g.1 ++ reply, ap (λ (xs : List ℕ). xs ++ reply) g.2 ∙ append_assoc g.0 g.1 reply, g.3)
 
 -- they were taken, and it was in part
 pub GainsPrefix-after : (old mid new : Option (List ℕ)) (gathered reply : List ℕ) → Gains old mid gathered → GainsPrefix mid new reply → GainsPrefix old new (gathered ++ reply)
@@ -35,10 +26,6 @@ GainsPrefix-after old mid new gathered reply g h =
     (gathered ++ h.0, h.1, ap (λ (xs : List ℕ). gathered ++ xs) h.2 ∙ sym (append_assoc gathered h.0 h.1), Gains-more old mid new gathered h.0 g h.3)
 
 -- ---- what a sink will have taken with it
-
-pub with_gathered-none : (taken : Option (List ℕ)) → with_gathered taken [] ≡ taken
-with_gathered-none None = refl
-with_gathered-none (Some taken) = ap Some (append-nil taken)
 
 -- a reply is gained, whether it is handed over or gathered
 pub Gains-passed : (old new : Option (List ℕ)) (gathered gathered' reply : List ℕ) → Passes old new gathered gathered' reply → Gains (with_gathered old gathered) (with_gathered new gathered') reply
@@ -51,12 +38,6 @@ Gains-passed (Some old) (Some new) gathered gathered' reply p =
 pub Gains-gathered : (old : Option (List ℕ)) (gathered : List ℕ) → Gains old (with_gathered old gathered) gathered
 Gains-gathered None gathered = refl
 Gains-gathered (Some old) gathered = refl
-
--- all that was gathered is handed over
-pub handed : (old new : Option (List ℕ)) (gathered : List ℕ) → Gains old new gathered → new ≡ with_gathered old gathered
-handed None new gathered g = g
-handed (Some old) None gathered g = absurd g
-handed (Some old) (Some new) gathered g = ap Some g
 
 -- ---- fronts
 
