@@ -14,4 +14,4 @@ mod words;
 
 pub use command::{Command, MAX_LINE, read_line};
 pub use error::LineError;
-pub use number::read_number;
+pub use number::{NUMBER_LIMIT, read_number};

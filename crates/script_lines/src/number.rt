@@ -4,8 +4,8 @@ ghost use Rattle.script_lines.specs.Number.{digits_number, positive_of, number_o
 
 use exact_plane::{MAX_COORDINATE, WEIGHT_LIMIT};
 
-// No number past this limit is in any range, so that one is kept as the limit, however long it is.
-const NUMBER_LIMIT: u128 = MAX_COORDINATE * WEIGHT_LIMIT;
+/// No number past this limit is in any range, so that one is read as the limit, however long it is.
+pub const NUMBER_LIMIT: u128 = MAX_COORDINATE * WEIGHT_LIMIT;
 
 // So many digits fit in 64 bits, whatever they are.
 const FEW: usize = 18;
