@@ -27,15 +27,12 @@ fn walk_counted<L: Ledger>(blank: Blank, records: &Records, p: &Point) -> Spot
     walk_up(&Glance::of(records), p, &mut steps)
 }
 
-/// Where a point lies in the records: the vertex at it, by the point's hash, and else by a walk up to it from face to face. It takes
-/// no memory.
+/// Where a point lies in the records: the vertex at it, by the point's hash, and else by a walk up to it from face to face, along which
+/// no isolated vertex is looked at. It takes no memory.
 pub(crate) fn walk_to(records: &Records, p: &Point) -> Spot
     requires { IsSoundMap records.now }
     ensures { IsSpotOf records.now.graph (tables_of records.now) p.now result }
 {
-    if let Some(vertex) = records.vertex_at(p) {
-        return Spot::Vertex(vertex);
-    }
     walk_counted::<Brand>(Blank::new(1), records, p)
 }
 

@@ -41,8 +41,10 @@ fn look_round<S: NameCalls, K: Looker<S>, L: Ledger>(
     }
 }
 
-// Looks at each dart that has the face on its left once.
-fn look_at_cycles<S: NameCalls, K: Looker<S>, L: Ledger>(
+/// Looks at each dart that has the face on its left once, and at no isolated vertex: enough for a point at which no vertex is. What
+/// was seen before stays seen. It goes round the face's own cycles, and takes no memory (de Berg and others, doubly-connected edge
+/// list: traversing the boundary of a face).
+pub fn look_at_cycles<S: NameCalls, K: Looker<S>, L: Ledger>(
     looker: &mut K,
     sight: &S,
     face: FaceId,

@@ -4,6 +4,7 @@ ghost use Rattle.slab_laws.specs.Sound.{IsTwinned};
 ghost use Rattle.slab_laws.specs.View.{HasVertex, HasDart, HasFace, face_id, source_in};
 ghost use Rattle.dcel_records.specs.RecordsView.{tables_of, lists_of};
 ghost use Rattle.dcel_records.specs.SoundMaps.{IsSoundMap};
+ghost use Rattle.dcel_records.specs.Spots.{IsVertexAt};
 ghost use Rattle.dcel_records.specs.declared.spot.Spot.TheVariants.{Edge};
 ghost use Rattle.counted_looks.specs.Looks.{IsLookable, IsLookOf};
 
@@ -58,6 +59,14 @@ impl<'a> Glance<'a> {
     {
         self.records.laws();
         self.records.face_laws();
+    }
+
+    /// The vertex at a point. The records' own map from point to vertex is asked, once, and no part of a boundary is looked at, so no
+    /// step is counted; where that map isn't whole, all vertices are gone through, as `Records::vertex_at` says. It takes no memory.
+    pub fn vertex_at(&self, point: &Point) -> Option<VertexId>
+        ensures { IsVertexAt self.now.graph point.now result }
+    {
+        self.records.vertex_at(point)
     }
 
     /// One look at a dart, which is one step; it tells what `look` does, each part where it is asked for.

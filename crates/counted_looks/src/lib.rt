@@ -10,7 +10,7 @@ mod looker;
 mod name_calls;
 mod naming;
 
-pub use boundary::look_at_boundary;
+pub use boundary::{look_at_boundary, look_at_cycles};
 pub use boundary_part::BoundaryPart;
 pub use glance::{Glance, Looked};
 pub use glimpse::Glimpse;

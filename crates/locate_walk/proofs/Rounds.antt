@@ -1,5 +1,5 @@
 -- What is known after a round of a face's boundary, and how the walk goes on from it.
-use Rattle.std.proofs.Common.{◌≡◌, ◌+◌, ◌<◌, ◌≤◌, ℕ, true, false, arith, sym, ap, ◌∙◌, inl, inr, subst}
+use Rattle.std.proofs.Common.{◌≡◌, ◌+◌, ◌<◌, ◌≤◌, ℕ, true, false, arith, refl, sym, ap, ◌∙◌, inl, inr, subst}
 use Rattle.std.specs.Prelude.{◌≢◌, ◌-◌, ◌&&◌, Option, Some, None, IfSome, nat_lt, ◌==◌}
 use Rattle.std.proofs.lemmas.Bool.{cases_Bool, eqb-true}
 use Rattle.std.proofs.lemmas.Bool.Decides.{nat_tests}
@@ -20,6 +20,7 @@ use Rattle.counted_looks.specs.Boundaries.{IsOnBoundary, boundary_size}
 use Rattle.counted_looks.specs.declared.boundary_part.BoundaryPart.{BoundaryPart}
 use Rattle.counted_looks.specs.declared.boundary_part.BoundaryPart.TheVariants.{Dart, Isolated}
 use Rattle.dcel_records.specs.RecordsView.{tables_of}
+use Rattle.dcel_records.specs.Spots.{IsVertexAt}
 use Rattle.dcel_records.specs.declared.spot.Spot.{Spot}
 use Rattle.dcel_records.specs.declared.spot.Spot.TheVariants.{Face}
 use Rattle.edges_below.specs.Levels.{IsSeen, level}
@@ -29,7 +30,7 @@ use Rattle.walk_laws.specs.Walks.{face_above, height, IsDartPassed, IsBoundaryPa
 use Rattle.walk_laws.proofs.Named.{walk_ends_in_face}
 use Rattle.walk_laws.proofs.Once.{faces_are_visited_once}
 use Rattle.locate_walk.specs.Finds.{is_told_at_twin}
-use Rattle.locate_walk.specs.Looks.{dart_of, IsBelowOrNone, IsRaised, IsPartClear, MayLook, HasSeen}
+use Rattle.locate_walk.specs.Looks.{dart_of, IsBelowOrNone, IsRaised, IsPartClear, MayLook, HasSeen, HasSeenDart}
 use Rattle.locate_walk.specs.Rounds.{IsHighestRound}
 use Rattle.locate_walk.specs.declared.found.EdgeBelow.{EdgeBelow}
 use Rattle.locate_walk.specs.declared.highest.Highest.{Highest}
@@ -75,6 +76,11 @@ module _ (v : View) (k l : Highest) (m : MayLook v k l) where
   round_hit s e =
       let there : IsSpotOf v (tables_of l.glance.now) l.point s = subst (λ (o : Option Spot). IfSome o (IsSpotOf v (tables_of l.glance.now) l.point)) e m.hit in
       subst (λ (x : Point). IsSpotOf v (tables_of k.glance.now) x s) m.point (subst (λ (x : Faces). IsSpotOf v x l.point s) (ap tables_of m.glance) there)
+
+  -- where no vertex is at the point, looks at the darts are enough
+  pub darts_seen : IsSound v (tables_of k.glance.now) → IsVertexAt v k.point None → ((d : DartId) → IsOnBoundary v (tables_of k.glance.now) k.face (Dart d) → HasSeenDart v l (Dart d)) → (t : BoundaryPart) → IsOnBoundary v (tables_of k.glance.now) k.face t → HasSeen v l t
+  darts_seen s free seen (Dart d) on = seen d on d refl
+  darts_seen s free seen (Isolated w) on = λ e. subst (λ (x : Point). point_in v w ≢ x) (sym m.point) (free w (s.complete.bare_vertex w on.0))
 
   pub round_highest : IsGraphSound v → l.hit ≡ None → ((t : BoundaryPart) → IsOnBoundary v (tables_of k.glance.now) k.face t → HasSeen v l t) → IsHighestRound v (tables_of k.glance.now) k.point k.face k.best l.best
   round_highest s none seen = record {

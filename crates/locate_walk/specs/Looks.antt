@@ -67,6 +67,10 @@ pub record MayLook (v : View) (k l : Highest) : Type 0 where
   pub hit : IfSome l.hit (IsSpotOf v (tables_of l.glance.now) l.point)
   pub raised : IsRaised v l.point (dart_of k.best) (dart_of l.best)
 
--- until the point was met, all that was looked at is clear
+-- until the point was met, what was looked at is clear
 abbrev pub HasSeen : View → Highest → BoundaryPart → Type 0
 HasSeen v l t = l.hit ≡ None → IsPartClear v (tables_of l.glance.now) l.point l.face (dart_of l.best) t
+
+-- so it is with each dart, while nothing is known of an isolated vertex (this project)
+abbrev pub HasSeenDart : View → Highest → BoundaryPart → Type 0
+HasSeenDart v l t = (d : DartId) → t ≡ Dart d → HasSeen v l t

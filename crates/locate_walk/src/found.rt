@@ -1,7 +1,6 @@
 ghost use Rattle.std.specs.Prelude.{◌≡◌, ◌+◌};
 ghost use Rattle.exact_plane.specs.Span.{AreOnWay};
 ghost use Rattle.slab_laws.specs.View.{HasDart};
-ghost use Rattle.counted_looks.specs.Boundaries.{HasPart};
 ghost use Rattle.counted_looks.specs.Looks.{IsLookOf};
 ghost use Rattle.counted_looks.specs.declared.boundary_part.BoundaryPart.TheVariants.{Dart};
 ghost use Rattle.dcel_records.specs.RecordsView.{tables_of};
@@ -11,7 +10,7 @@ ghost use Rattle.locate_walk.specs.Finds.{IsFound, IsFoundAtDart, IsSided, is_to
 ghost use Rattle.locate_walk.specs.Passages.{IsPassage, IsComparedOrNone};
 
 use crate::passage::{Compared, Passage, passage_of};
-use counted_looks::{BoundaryPart, Glance, Glimpse, NameCalls};
+use counted_looks::{Glance, Glimpse, NameCalls};
 use dcel_records::Spot;
 use exact_plane::{Line, Point, Sign, Span, side};
 use slab_laws::{DartId, FaceId};
@@ -99,41 +98,30 @@ pub fn found_at_dart(
     }
 }
 
-/// What one look at a part of the boundary of a face finds for a point. An edge that spans it, of which both darts are there, is told
+/// What one look at a dart on the boundary of a face finds for a point. An edge that spans it, of which both darts are there, is told
 /// at one of them; at the other one nothing is found. How the vertex that was compared last lies to the point is kept.
 #[inline(always)]
 pub fn find<L: Ledger>(
     glance: &Glance,
     face: FaceId,
-    at: BoundaryPart,
+    dart: DartId,
     point: &Point,
     last: &mut Option<Compared>,
     steps: &mut Steps<L>,
 ) -> Found
     requires map { IsSoundMap glance.now }
-    requires at { HasPart glance.now.graph at }
+    requires dart { HasDart glance.now.graph dart }
     requires last { IsComparedOrNone glance.now.graph point.now last.old }
-    ensures found { IsFound glance.now.graph (tables_of glance.now) point.now face at result }
+    ensures found { IsFound glance.now.graph (tables_of glance.now) point.now face (Dart dart) result }
     ensures last { IsComparedOrNone glance.now.graph point.now last.new }
     ensures one { steps.new ≡ steps.old + 1 }
 {
-    match at {
-        BoundaryPart::Dart(dart) => {
-            let looked = glance.glimpse(dart, steps);
-            let passage = passage_of(glance, dart, &looked, point, last);
-            // The names are asked of edges that span the point alone: all others are ruled out by one comparison, which the next dart
-            // needs anyway.
-            if passage.spans() && is_told_at_twin(glance, face, dart) {
-                return Found::Past;
-            }
-            found_at_dart(glance, dart, &looked, point, passage)
-        }
-        BoundaryPart::Isolated(vertex) => {
-            let looked = glance.look(Spot::Vertex(vertex), steps);
-            if looked.source == *point {
-                return Found::At(Spot::Vertex(vertex));
-            }
-            Found::Past
-        }
+    let looked = glance.glimpse(dart, steps);
+    let passage = passage_of(glance, dart, &looked, point, last);
+    // The names are asked of edges that span the point alone: all others are ruled out by one comparison, which the next dart needs
+    // anyway.
+    if passage.spans() && is_told_at_twin(glance, face, dart) {
+        return Found::Past;
     }
+    found_at_dart(glance, dart, &looked, point, passage)
 }

@@ -11,7 +11,7 @@ use slab_laws::FaceId;
 use std::sync::ledger::Ledger;
 use work_steps::Steps;
 
-/// What looks at the boundary of a face find for a point: where the point is, once it was met, and until then the highest edge that
+/// What looks at the darts on the boundary of a face find for a point: where the point is, once it was met, and until then the highest edge that
 /// the point sees below it. The vertex that was compared with the point last is kept, since the next dart on a cycle starts there.
 #[derive(Drop)]
 pub struct Highest<'a, 'r> {
@@ -53,29 +53,34 @@ impl<'a, 'r> Highest<'a, 'r> {
 }
 
 impl<'a, 'r> Looker<Glance<'r>> for Highest<'a, 'r> {
-    ghost use Rattle.locate_walk.specs.Looks.{MayLook, HasSeen};
+    ghost use Rattle.locate_walk.specs.Looks.{MayLook, HasSeenDart};
 
     ghost may_look = { MayLook };
 
-    ghost has_seen = { HasSeen };
+    ghost has_seen = { HasSeenDart };
 
     // The looks go to the looker's own records, of which the faces are known too: they have the graph that is walked on. After the
-    // point was met, they only tick.
+    // point was met, they only tick, as at an isolated vertex: the point isn't there.
     fn look<L: Ledger>(&mut self, _sight: &Glance<'r>, at: BoundaryPart, steps: &mut Steps<L>) {
         if self.hit.is_some() {
             steps.tick();
             return;
         }
-        let mut compared = self.compared;
-        let found = find(
-            self.glance,
-            self.face,
-            at,
-            &self.point,
-            &mut compared,
-            steps,
-        );
-        self.compared = compared;
-        self.take(found);
+        match at {
+            BoundaryPart::Dart(dart) => {
+                let mut compared = self.compared;
+                let found = find(
+                    self.glance,
+                    self.face,
+                    dart,
+                    &self.point,
+                    &mut compared,
+                    steps,
+                );
+                self.compared = compared;
+                self.take(found);
+            }
+            BoundaryPart::Isolated(_) => steps.tick(),
+        }
     }
 }

@@ -1,7 +1,8 @@
-ghost use Rattle.std.specs.Prelude.{◌≡◌, ◌+◌, ◌≤◌};
+ghost use Rattle.std.specs.Prelude.{◌≡◌, ◌+◌, ◌≤◌, None};
 ghost use Rattle.slab_laws.specs.View.{HasFace};
 ghost use Rattle.dcel_records.specs.RecordsView.{tables_of};
 ghost use Rattle.dcel_records.specs.SoundMaps.{IsSoundMap};
+ghost use Rattle.dcel_records.specs.Spots.{IsVertexAt};
 ghost use Rattle.face_location.specs.Spots.{IsSpotOf};
 ghost use Rattle.counted_looks.specs.Boundaries.{boundary_size};
 ghost use Rattle.walk_laws.specs.Walks.{face_above, size_ahead};
@@ -32,19 +33,15 @@ pub fn face_over(glance: &Glance, edge: &Option<EdgeBelow>) -> FaceId
     }
 }
 
-/// Where a point lies, by a walk up to it from the face over an edge that it sees below it, or from the unbounded face; and the edge
-/// that was passed last, from which a walk to a point above goes on.
-///
-/// In each face it looks once at all that is on the boundary, by the face's own lists, for what has the point, or else for the
-/// highest edge that the point sees below it; from there it goes on into the face over that edge, until this is the one that it is
-/// in. It takes no memory.
-pub fn climb<L: Ledger>(
+// The walk up to a point at which no vertex is.
+fn climb_free<L: Ledger>(
     glance: &Glance,
     first: Option<EdgeBelow>,
     point: &Point,
     steps: &mut Steps<L>,
 ) -> (Spot, Option<EdgeBelow>)
     requires map { IsSoundMap glance.now }
+    requires free { IsVertexAt glance.now.graph point.now None }
     requires first { IsBelowOrNone glance.now.graph point.now first }
     ensures spot { IsSpotOf glance.now.graph (tables_of glance.now) point.now result.0 }
     ensures last { IsBelowOrNone glance.now.graph point.now result.1 }
@@ -68,11 +65,36 @@ pub fn climb<L: Ledger>(
     }
 }
 
+/// Where a point lies, by a walk up to it from the face over an edge that it sees below it, or from the unbounded face; and the edge
+/// that was passed last, from which a walk to a point above goes on.
+///
+/// The records tell the vertex at the point (`Glance::vertex_at`). Where there is none, it looks in each face once at the darts on the
+/// boundary, by the face's own list, for the edge that has the point inside, or else for the highest edge that the point sees below
+/// it; from there it goes on into the face over that edge, until this is the one that it is in. No isolated vertex is looked at. It
+/// takes no memory.
+pub fn climb<L: Ledger>(
+    glance: &Glance,
+    first: Option<EdgeBelow>,
+    point: &Point,
+    steps: &mut Steps<L>,
+) -> (Spot, Option<EdgeBelow>)
+    requires map { IsSoundMap glance.now }
+    requires first { IsBelowOrNone glance.now.graph point.now first }
+    ensures spot { IsSpotOf glance.now.graph (tables_of glance.now) point.now result.0 }
+    ensures last { IsBelowOrNone glance.now.graph point.now result.1 }
+    ensures looks { steps.new ≤ steps.old + size_ahead (boundary_size glance.now.graph (tables_of glance.now)) glance.now.graph (tables_of glance.now) point.now (dart_of first) }
+{
+    if let Some(vertex) = glance.vertex_at(point) {
+        return (Spot::Vertex(vertex), first);
+    }
+    climb_free(glance, first, point, steps)
+}
+
 /// Where a point lies: the vertex at it, else the edge that has it inside, else the face that it lies in (CGAL manual,
 /// `Arr_walk_along_line_point_location`).
 ///
-/// It walks from the unbounded face up to the point. So it looks at each boundary once at most, and only at those of faces that the
-/// vertical below the point, leant by less than any number, passes. It takes no memory.
+/// Where no vertex is at the point, it walks from the unbounded face up to it. So it looks at each dart once at most, and only at those
+/// on the boundaries of faces that the vertical below the point, leant by less than any number, passes. It takes no memory.
 pub fn locate<L: Ledger>(glance: &Glance, point: &Point, steps: &mut Steps<L>) -> Spot
     requires { IsSoundMap glance.now }
     ensures spot { IsSpotOf glance.now.graph (tables_of glance.now) point.now result }

@@ -6,7 +6,7 @@ use Rattle.dcel_records.specs.RecordsView.{tables_of}
 use Rattle.walk_laws.specs.Walks.{height, size_ahead}
 use Rattle.locate_walk.specs.Looks.{dart_of}
 use Rattle.locate_walk.proofs.Rounds.{IsOnWay}
-use Rattle.locate_walk.proofs.walk.climb.Given as goal
+use Rattle.locate_walk.proofs.walk.climb_free.Given as goal
 
 abbrev pub invariant-faces : goal.invariant-faces
 invariant-faces g l = IsOnWay l.glance.graph (tables_of l.glance) l.point l.last l.face (l.fn.steps + size_ahead (boundary_size l.glance.graph (tables_of l.glance)) l.glance.graph (tables_of l.glance) l.point (dart_of l.fn.first)) l.steps
