@@ -231,6 +231,8 @@ impl Sight for Records {
         }
     }
 
+    // Nearly all looks find nothing: where this isn't inlined, each of them writes an answer of 144 bytes that says so.
+    #[inline(always)]
     fn meet<L: Ledger>(
         &self,
         at: Spot,
