@@ -17,3 +17,4 @@ pub mod Sign
 pub mod Slope
 pub mod Span
 pub mod SpanOf
+pub mod WholeParts

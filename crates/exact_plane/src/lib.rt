@@ -17,6 +17,7 @@ mod sides;
 mod slopes;
 mod spans;
 mod text;
+mod whole_parts;
 
 pub use bounds::{MAX_COORDINATE, WEIGHT_LIMIT};
 pub use direction::{Direction, turn_order};
@@ -27,3 +28,4 @@ pub use segment::{Segment, SegmentError};
 pub use sides::{Sign, above_at, orientation, side};
 pub use slopes::slope_order;
 pub use spans::Span;
+pub use whole_parts::{BoundingBox, WholeParts};

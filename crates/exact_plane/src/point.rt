@@ -10,9 +10,11 @@ ghost use Rattle.exact_plane.specs.PointOf.{point_of};
 ghost use Rattle.exact_plane.specs.PointOrder.{point_cmp};
 ghost use Rattle.exact_plane.specs.PointOrderLaws.{point_cmp_total, point_cmp_ties, point_eq_equiv, hash_input, hash_respects};
 ghost use Rattle.exact_plane.specs.Segment.{whole_point, IsCoordinate};
+ghost use Rattle.exact_plane.specs.WholeParts.{whole_parts};
 
 use crate::bounds::{MAX_COORDINATE, WEIGHT_LIMIT};
 use crate::place::Place;
+use crate::whole_parts::WholeParts;
 use std::cmp::Ordering;
 use std::hash::{Hash, Hasher};
 use std::marker::Model;
@@ -102,6 +104,14 @@ impl Point {
     {
         // Any use of a field tells what is kept.
         let _ = &self.place;
+    }
+
+    /// The greatest whole numbers that aren't past the coordinates.
+    #[inline(always)]
+    pub fn whole_parts(&self) -> WholeParts
+        ensures { result ≡ whole_parts self.now }
+    {
+        self.place.whole_parts()
     }
 
     /// The abscissa times the weight.
