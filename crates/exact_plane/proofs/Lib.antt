@@ -19,4 +19,5 @@ pub mod SlopeLaws
 pub mod TurnLaws
 pub mod Turns
 pub mod Ways
+pub mod WholeOrders
 pub mod Wholes
