@@ -13,6 +13,7 @@ use Rattle.dcel_records.specs.Placing.{own}
 use Rattle.dcel_records.specs.RecordsView.{RecordsView, lists_of, tables_of}
 use Rattle.dcel_records.specs.StoredRows.{graph_in, tables_in, records_view, IsGrown, IsRoom, AreReadyWhere, AreSoundFaces, AreSoundRecords}
 use Rattle.dcel_records.proofs.OnCycles.{on_slots}
+use Rattle.dcel_records.proofs.Marked.{marked_slots}
 use Rattle.dcel_records.proofs.Isolated.{isolated_slots}
 use Rattle.dcel_records.proofs.Whole.{graph_slots, records_slots}
 use Rattle.dcel_records.specs.declared.vertex_map.VertexMap.{VertexMap}
@@ -54,6 +55,7 @@ module _ (vs ws : Slab StoredVertex) (ds es : Slab StoredDart) (cs os : Slab Sto
     vertex_room = v;
     cycle_room = e;
     on_cycles = on_slots ds es cs os (ap (λ s. s.slots) b.rest) (ap (λ s. s.slots) c.rest) k.on_cycles;
+    marked = marked_slots vs ws ds es (ap (λ s. s.slots) a.rest) (ap (λ s. s.slots) b.rest) k.marked;
     moved = m;
     isolated = k.isolated ∙ sym (isolated_slots vs ws (ap (λ s. s.slots) a.rest));
     keys = l;

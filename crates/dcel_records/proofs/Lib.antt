@@ -21,7 +21,9 @@ pub mod Relinked
 pub mod CyclesWritten
 pub mod BareWritten
 pub mod CycleColumn
+pub mod EachRow
 pub mod OnCycles
+pub mod Marked
 pub mod Started
 pub mod ListsRead
 pub mod Rooms

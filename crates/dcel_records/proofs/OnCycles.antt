@@ -18,26 +18,21 @@ use Rattle.dcel_records.specs.declared.rows.StoredVertex.{StoredVertex}
 use Rattle.dcel_records.specs.RecordsView.{RecordsView, tables_of}
 use Rattle.dcel_records.specs.StoredRows.{dart_of, cycle_record, records_view, AreOnCycles}
 use Rattle.dcel_records.proofs.CycleColumn.{cycle_read}
+use Rattle.dcel_records.proofs.EachRow.{each_put, each_less, each_write}
 
 -- ---- darts written
 module _ (ds es : Slab StoredDart) (cs : Slab StoredCycle) (d : ℕ) where
   -- a dart put on a cycle that has a row
   pub on_put : (r : StoredDart) → Updates ds es d (Some r) → ContainsKey cs r.cycle.0 → AreOnCycles ds cs → AreOnCycles es cs
-  on_put r u has k n q e = elim (cases_eq n d) [
-    | inl i ↦ (let z : r ≡ q = cc in subst (λ (x : StoredDart). ContainsKey cs x.cycle.0) z has)
-    | inr ne ↦ k n q (sym (u.others n ne) ∙ e)
-  ]
+  on_put = each_put (λ x. ContainsKey cs x.cycle.0) ds es d
 
   -- a dart that goes
   pub on_less : Updates ds es d None → AreOnCycles ds cs → AreOnCycles es cs
-  on_less u k n q e = elim (cases_eq n d) [
-    | inl i ↦ (let z : None ≡ Some q = sym u.changed ∙ ap (get es) (sym i) ∙ e in absurd (cc))
-    | inr ne ↦ k n q (sym (u.others n ne) ∙ e)
-  ]
+  on_less = each_less (λ x. ContainsKey cs x.cycle.0) ds es d
 
 module _ (ds : Slab StoredDart) (cs : Slab StoredCycle) (d : ℕ) (r q : StoredDart) (g : get ds d ≡ Some r) where
   pub on_write : ContainsKey cs q.cycle.0 → AreOnCycles ds cs → AreOnCycles (with_value ds d q) cs
-  on_write has k = on_put ds (with_value ds d q) cs d q (Updates-with_value ds d q (ap is_some g)) has k
+  on_write = each_write (λ x. ContainsKey cs x.cycle.0) ds d r q g
 
   -- a dart that keeps its cycle
   pub on_same : q.cycle ≡ r.cycle → AreOnCycles ds cs → AreOnCycles (with_value ds d q) cs

@@ -1,6 +1,7 @@
 -- The graph after each writer, and that the invariant is kept.
 use Rattle.std.proofs.Common.{◌≡◌, ◌≢◌, ◌⊎◌, inl, inr, Bool, false, Option, Some, None, is_some, refl, sym, ap, subst, ◌∙◌}
 use Rattle.exact_plane.specs.Point.{Point}
+use Rattle.exact_plane.specs.declared.whole_parts.WholeParts.{WholeParts}
 use Rattle.slab.specs.Slab.{Slab, get, with_value, Updates}
 use Rattle.slab.proofs.SlabLemmas.{Updates-with_value}
 use Rattle.slab_laws.specs.declared.names.DartId.{DartId}
@@ -42,10 +43,10 @@ abbrev pub row_out : Option DartId → StoredVertex → StoredVertex
 row_out o r = record { point = r.point; pinned = r.pinned; out = o; place = r.place }
 
 abbrev pub row_next : (n : DartId) (r : StoredDart) → StoredDart
-row_next n r = record { source = r.source; twin = r.twin; next = n; line = r.line; cycle = r.cycle }
+row_next n r = record { source = r.source; twin = r.twin; next = n; parts = r.parts; line = r.line; cycle = r.cycle }
 
-abbrev pub row_source : VertexId → StoredDart → StoredDart
-row_source w r = record { source = w; twin = r.twin; next = r.next; line = r.line; cycle = r.cycle }
+abbrev pub row_source : VertexId → WholeParts → StoredDart → StoredDart
+row_source w p r = record { source = w; twin = r.twin; next = r.next; parts = p; line = r.line; cycle = r.cycle }
 
 module _ (vs : Slab StoredVertex) (ds : Slab StoredDart) (h : GraphView) (is : graph_view vs ds ≡ h) where
   named : IsNamed h.graph
@@ -81,9 +82,9 @@ module _ (vs : Slab StoredVertex) (ds : Slab StoredDart) (h : GraphView) (is : g
       (λ i. record { vertices = vertices_are vs ds h is i; darts = e i })
 
   -- a dart's source and a vertex's dart out
-  pub source_graph : (d : DartId) (w u : VertexId) (o : Option DartId) (r : StoredDart) (x : StoredVertex) → get ds d.0 ≡ Some r → get vs u.0 ≡ Some x → graph_in (with_value vs u.0 (row_out o x)) (with_value ds d.0 (row_source w r)) ≡ with_source h.graph d w
-  source_graph d w u o r x g f =
-      let e = tabled_edit dart_of ds (with_value ds d.0 (row_source w r)) d.0 r (row_source w r) (leaving w) g refl (Updates-with_value ds d.0 _ (ap is_some g)) ∙ ap (edit d.0 (leaving w)) (darts_are vs ds h is) in
+  pub source_graph : (d : DartId) (w u : VertexId) (p : WholeParts) (o : Option DartId) (r : StoredDart) (x : StoredVertex) → get ds d.0 ≡ Some r → get vs u.0 ≡ Some x → graph_in (with_value vs u.0 (row_out o x)) (with_value ds d.0 (row_source w p r)) ≡ with_source h.graph d w
+  source_graph d w u p o r x g f =
+      let e = tabled_edit dart_of ds (with_value ds d.0 (row_source w p r)) d.0 r (row_source w p r) (leaving w) g refl (Updates-with_value ds d.0 _ (ap is_some g)) ∙ ap (edit d.0 (leaving w)) (darts_are vs ds h is) in
       let a = tabled_same vertex_of vs (with_value vs u.0 (row_out o x)) u.0 x (row_out o x) f refl (Updates-with_value vs u.0 _ (ap is_some f)) ∙ vertices_are vs ds h is in
       (λ i. record { vertices = a i; darts = e i })
 
@@ -138,9 +139,9 @@ module _ (vs : Slab StoredVertex) (ds : Slab StoredDart) (h : GraphView) (is : g
         (twinned_relinked h.graph (with_next h.graph d n) l tw)
         (λ x. out_kept h.graph (with_next h.graph d n) l.has l.had l.source x (out_at vs x) (ou x))
 
-    pub source_kept : (d : DartId) (w u : VertexId) (rest e : DartId) (r : StoredDart) (x : StoredVertex) → HasDart h.graph d → get ds d.0 ≡ Some r → get vs u.0 ≡ Some x → u ≡ source_in h.graph d → IsOutOf h.graph (source_in h.graph d) rest → rest ≢ d → IsOutOf h.graph w e → AreSoundRows (with_value vs u.0 (row_out (Some rest) x)) (with_value ds d.0 (row_source w r))
-    source_kept d w u rest e r x o g f z away ne into =
-        kept_by _ _ (with_source h.graph d w) (source_graph d w u (Some rest) r x g f)
+    pub source_kept : (d : DartId) (w u : VertexId) (p : WholeParts) (rest e : DartId) (r : StoredDart) (x : StoredVertex) → HasDart h.graph d → get ds d.0 ≡ Some r → get vs u.0 ≡ Some x → u ≡ source_in h.graph d → IsOutOf h.graph (source_in h.graph d) rest → rest ≢ d → IsOutOf h.graph w e → AreSoundRows (with_value vs u.0 (row_out (Some rest) x)) (with_value ds d.0 (row_source w p r))
+    source_kept d w u p rest e r x o g f z away ne into =
+        kept_by _ _ (with_source h.graph d w) (source_graph d w u p (Some rest) r x g f)
         (twinned_source h.graph (with_source h.graph d w) d w l tw)
         (λ y. out_write vs _ u _ (with_source h.graph d w) (Updates-with_value vs u.0 (row_out (Some rest) x) (ap is_some f)) y
         (λ q. subst (λ (v : VertexId). IsOut (with_source h.graph d w) v (Some rest)) (sym (q ∙ z)) (moved_from h.graph (with_source h.graph d w) d w l o rest away ne))

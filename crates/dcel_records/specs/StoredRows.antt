@@ -1,6 +1,8 @@
 -- How two slabs of rows are a graph (this project).
 use Rattle.std.specs.Prelude.{◌≡◌, ◌==◌, ℕ, cond, ◌-◌, ◌≤◌, List, [], ◌∷◌, map, length, Option, Some, None, option_map, IsSome}
 use Rattle.std.specs.List.{filter}
+use Rattle.exact_plane.specs.WholeParts.{whole_parts}
+use Rattle.exact_plane.specs.declared.whole_parts.WholeParts.{WholeParts}
 use Rattle.slab.specs.Slab.{Slab, get, entries, slab_len, ContainsKey}
 use Rattle.slab_laws.specs.declared.names.DartId.{DartId}
 use Rattle.slab_laws.specs.declared.names.FaceId.{FaceId}
@@ -151,6 +153,14 @@ pub record AreSoundFaces (vs : Slab StoredVertex) (cs : Slab StoredCycle) (fs : 
 abbrev pub AreOnCycles : Slab StoredDart → Slab StoredCycle → Type 0
 AreOnCycles ds cs = (n : ℕ) (r : StoredDart) → get ds n ≡ Some r → ContainsKey cs r.cycle.0
 
+-- the whole parts of the point of a vertex that has a row
+abbrev pub parts_at : Slab StoredVertex → ℕ → Option WholeParts
+parts_at vs n = option_map (λ r. whole_parts r.point) (get vs n)
+
+-- each dart keeps the whole parts of the point of its source, which has a row
+abbrev pub AreMarked : Slab StoredVertex → Slab StoredDart → Type 0
+AreMarked vs ds = (n : ℕ) (r : StoredDart) → get ds n ≡ Some r → parts_at vs r.source.0 ≡ Some r.parts
+
 -- all that is always true of the records; there is room for a key of each cycle that is promised
 pub record AreSoundRecords (vs : Slab StoredVertex) (ds : Slab StoredDart) (cs : Slab StoredCycle) (fs : Slab StoredFace) (at : VertexMap) (pins lone : ℕ) (lists : Option MovedView) (key_room vertices cycles : ℕ) : Type 0 where
   pub graph : AreSoundGraphs vs ds at pins
@@ -158,6 +168,7 @@ pub record AreSoundRecords (vs : Slab StoredVertex) (ds : Slab StoredDart) (cs :
   pub vertex_room : IsRoom vertices vs
   pub cycle_room : IsRoom cycles cs
   pub on_cycles : AreOnCycles ds cs
+  pub marked : AreMarked vs ds
   pub moved : AreReadyWhere lists cycles vertices
   pub isolated : lone ≡ isolated_among vs
   pub keys : cycles ≤ key_room

@@ -1,6 +1,7 @@
 ghost use Rattle.std.specs.Prelude.{◌≡◌, ◌≢◌, ◌≤◌, option_map};
+ghost use Rattle.exact_plane.specs.WholeParts.{whole_parts};
 ghost use Rattle.slab.specs.Slab.{get, slab_len, ContainsKey, Updates};
-ghost use Rattle.slab_laws.specs.View.{HasVertex, HasDart, HasCycle, IsOutOf, source_in, twin_in, target_in};
+ghost use Rattle.slab_laws.specs.View.{HasVertex, HasDart, HasCycle, IsOutOf, point_in, source_in, twin_in, target_in};
 ghost use Rattle.arr_notes.specs.FaceWriters.{on_cycle, off_cycles};
 ghost use Rattle.arr_notes.specs.ViewChanges.{without_pair, with_next, with_source};
 ghost use Rattle.dcel_records.specs.Edges.{with_edge};
@@ -11,7 +12,7 @@ ghost use Rattle.dcel_records.specs.Given.{given};
 use crate::records::Records;
 use crate::rows::{StoredDart, StoredVertex};
 use crate::table::Table;
-use exact_plane::Line;
+use exact_plane::{Line, WholeParts};
 use slab_laws::{CycleId, DartId, VertexId};
 
 // A vertex that no dart leaves gets a dart out.
@@ -26,6 +27,25 @@ fn give_out(vertices: &mut Table<StoredVertex>, v: VertexId, d: DartId)
 }
 
 impl Records {
+    /// The whole parts of the point that the dart leaves. They are kept with the dart, so no vertex is read.
+    #[inline(always)]
+    pub fn source_parts(&self, d: DartId) -> WholeParts
+        requires { HasDart self.now.graph d }
+        ensures { result ≡ whole_parts (point_in self.now.graph (source_in self.now.graph d)) }
+    {
+        self.darts[d.0].parts
+    }
+
+    /// The whole parts of the point that the dart reaches.
+    #[inline(always)]
+    pub fn target_parts(&self, d: DartId) -> WholeParts
+        requires { HasDart self.now.graph d }
+        ensures { result ≡ whole_parts (point_in self.now.graph (target_in self.now.graph d)) }
+    {
+        let twin = self.darts[d.0].twin;
+        self.darts[twin.0].parts
+    }
+
     /// The source and the target of the dart, or `None` for a name without a record.
     pub fn ends_of(&self, d: DartId) -> Option<(VertexId, VertexId)>
         ensures { result ≡ ends_found self.now.graph d }
@@ -60,6 +80,7 @@ impl Records {
             source: u,
             twin: DartId(0),
             next: DartId(0),
+            parts: self.vertices[u.0].point.whole_parts(),
             line,
             cycle,
         });
@@ -67,6 +88,7 @@ impl Records {
             source: v,
             twin: DartId(d),
             next: DartId(d),
+            parts: self.vertices[v.0].point.whole_parts(),
             line,
             cycle,
         });
@@ -125,7 +147,10 @@ impl Records {
         ensures faces { self.new.faces ≡ self.old.faces }
     {
         let u = self.darts[d.0].source;
-        self.darts[d.0].source = w;
+        let parts = self.vertices[w.0].point.whole_parts();
+        let dart = &mut self.darts[d.0];
+        dart.source = w;
+        dart.parts = parts;
         self.vertices[u.0].out = Some(rest);
     }
 }

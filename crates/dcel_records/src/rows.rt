@@ -1,7 +1,7 @@
 ghost use Rattle.std.specs.Prelude.{◌≡◌, Some, IsSome};
 
 use crate::links::Placed;
-use exact_plane::{Line, Point};
+use exact_plane::{Line, Point, WholeParts};
 use slab_laws::{CycleId, CycleKind, DartId, FaceId, VertexId};
 
 /// A place in a chain of a face: the face, and the neighbours there by their names.
@@ -22,12 +22,13 @@ pub(crate) struct StoredVertex {
     pub(crate) place: Option<Place>,
 }
 
-/// What is kept of a dart.
+/// What is kept of a dart; `parts` are the whole parts of the point that it leaves.
 #[derive(Clone, Copy)]
 pub(crate) struct StoredDart {
     pub(crate) source: VertexId,
     pub(crate) twin: DartId,
     pub(crate) next: DartId,
+    pub(crate) parts: WholeParts,
     pub(crate) line: Line,
     pub(crate) cycle: CycleId,
 }

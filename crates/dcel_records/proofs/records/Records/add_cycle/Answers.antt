@@ -27,6 +27,7 @@ invariant_of-self c = record {
       let r = c.requires.room in
       room_more c.self.inside.cycle_room c.self.inside.cycles c.link_first.new.rows c.self.invariant.cycle_room (omega arith) (c.link_first.ensures.kept.len ∙ c.insert_reserved-cycle.ensures.len) (c.link_first.ensures.kept.capacity ∙ c.insert_reserved-cycle.ensures.capacity);
   on_cycles = on_keys c.self.inside.darts c.self.inside.cycles c.link_first.new.rows (λ n h. cycle_there c.insert_reserved-cycle.new.self c.link_first.new.rows c.self.inside.faces c.link_first.new.faces c.link_first.ensures.kept n (key_put c.self.inside.cycles c.insert_reserved-cycle.new.self c.insert_reserved-cycle.result _ c.insert_reserved-cycle.ensures.updates n h)) c.self.invariant.on_cycles;
+  marked = c.self.invariant.marked;
   moved = c.self.invariant.moved;
   isolated = c.self.invariant.isolated;
   keys = c.self.invariant.keys;

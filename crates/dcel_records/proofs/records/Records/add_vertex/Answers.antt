@@ -9,6 +9,7 @@ use Rattle.dcel_records.proofs.Writing.{vertex_graph, vertex_kept}
 use Rattle.dcel_records.proofs.Pins.{pins_put}
 use Rattle.dcel_records.proofs.VertexMapped.{one_apart}
 use Rattle.dcel_records.proofs.Isolated.{isolated_same}
+use Rattle.dcel_records.proofs.Marked.{marked_more}
 use Rattle.dcel_records.proofs.records.Records.add_vertex.Goals as goal
 
 pub invariant_of-self : goal.invariant_of-self
@@ -25,6 +26,7 @@ invariant_of-self c = record {
       room_more c.self.inside.vertex_room c.self.inside.vertices c.insert_reserved.new.self c.self.invariant.vertex_room (omega arith) c.insert_reserved.ensures.len c.insert_reserved.ensures.capacity;
   cycle_room = c.self.invariant.cycle_room;
   on_cycles = c.self.invariant.on_cycles;
+  marked = marked_more c.self.inside.vertices c.insert_reserved.new.self c.self.inside.darts c.insert_reserved.result _ c.insert_reserved.ensures.was_vacant c.insert_reserved.ensures.updates c.self.invariant.marked;
   moved = c.self.invariant.moved;
   isolated = c.self.invariant.isolated ∙ isolated_same c.self.inside.vertices c.insert_reserved.new.self (nodes_updated vertex_placing c.self.inside.vertices c.insert_reserved.new.self c.insert_reserved.result _ c.insert_reserved.ensures.updates (sym (ap (node_or vertex_placing) c.insert_reserved.ensures.was_vacant)));
   keys = c.self.invariant.keys;

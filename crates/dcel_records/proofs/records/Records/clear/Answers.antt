@@ -5,6 +5,7 @@ use Rattle.dcel_records.proofs.Whole.{graph_empty, records_empty, vertices_spare
 use Rattle.dcel_records.proofs.Started.{lone_sound, lone_tables, lone_lists}
 use Rattle.dcel_records.proofs.OnCycles.{on_none}
 use Rattle.dcel_records.proofs.Isolated.{isolated_none}
+use Rattle.dcel_records.proofs.Marked.{marked_none}
 use Rattle.dcel_records.proofs.records.Records.clear.Goals as goal
 
 pub invariant_of-self : goal.invariant_of-self
@@ -14,6 +15,7 @@ invariant_of-self c = record {
   vertex_room = room_after _ _ _ c.self.invariant.vertex_room c.clear.ensures.empty c.clear.ensures.capacity;
   cycle_room = room_after _ _ _ c.self.invariant.cycle_room c.clear-3.ensures.empty c.clear-3.ensures.capacity;
   on_cycles = on_none c.clear-2.new.self c.clear-3.new.self c.clear-2.ensures.empty;
+  marked = marked_none c.clear.new.self c.clear-2.new.self c.clear-2.ensures.empty;
   moved = c.self.invariant.moved;
   isolated = isolated_none c.clear.new.self c.clear.ensures.empty;
   keys = c.self.invariant.keys;

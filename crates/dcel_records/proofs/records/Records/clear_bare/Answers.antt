@@ -5,6 +5,7 @@ use Rattle.dcel_records.specs.ListChanges.{vertex_unlisted}
 use Rattle.dcel_records.proofs.Holding.{vertex_key}
 use Rattle.dcel_records.proofs.Relinked.{lists_after}
 use Rattle.dcel_records.proofs.BareWritten.{graph_sound, graph_part_same, left_sound, left_tables, left_lists}
+use Rattle.dcel_records.proofs.Marked.{marked_relinked}
 use Rattle.dcel_records.proofs.records.Records.clear_bare.Goals as goal
 
 pub leave_face-requires-clause-chained : goal.leave_face-requires-clause-chained
@@ -23,6 +24,7 @@ invariant_of-self c = record {
   vertex_room = room_same c.self.inside.vertex_room c.self.inside.vertices c.leave_face.new.vertices c.self.invariant.vertex_room c.leave_face.ensures.left.kept.len c.leave_face.ensures.left.kept.capacity;
   cycle_room = c.self.invariant.cycle_room;
   on_cycles = c.self.invariant.on_cycles;
+  marked = marked_relinked c.self.inside.vertices c.leave_face.new.vertices c.self.inside.darts c.leave_face.ensures.left.kept.rests c.self.invariant.marked;
   moved = c.self.invariant.moved;
   isolated = c.leave_face.ensures.counted;
   keys = c.self.invariant.keys;

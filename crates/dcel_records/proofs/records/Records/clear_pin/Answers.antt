@@ -8,6 +8,7 @@ use Rattle.dcel_records.proofs.Writing.{pin_same, pin_graph, pin_kept}
 use Rattle.dcel_records.proofs.Pins.{pin_less}
 use Rattle.dcel_records.proofs.VertexMapped.{pin_mapped}
 use Rattle.dcel_records.proofs.Isolated.{isolated_same}
+use Rattle.dcel_records.proofs.Marked.{marked_written}
 use Rattle.dcel_records.proofs.records.Records.clear_pin.Goals as goal
 
 pub index-requires : goal.index-requires
@@ -36,6 +37,7 @@ invariant_of-self c = record {
   vertex_room = room_same c.self.inside.vertex_room c.self.inside.vertices _ c.self.invariant.vertex_room (len_written c.self.inside.vertices _ _ _ c.index_mut.ensures.value) refl;
   cycle_room = c.self.invariant.cycle_room;
   on_cycles = c.self.invariant.on_cycles;
+  marked = marked_written c.self.inside.vertices c.self.inside.darts _ _ _ c.index_mut.ensures.value refl c.self.invariant.marked;
   moved = c.self.invariant.moved;
   isolated = c.self.invariant.isolated ∙ isolated_same c.self.inside.vertices _ (nodes_written c.self.inside.vertices _ _ _ c.index_mut.ensures.value refl);
   keys = c.self.invariant.keys;

@@ -6,6 +6,7 @@ use Rattle.dcel_records.specs.Placing.{vertex_placing}
 use Rattle.dcel_records.proofs.Relinked.{lists_after, face_key}
 use Rattle.dcel_records.proofs.BareWritten.{graph_sound, graph_part_same, bare_node, vertex_there, bare_face_there, both, moved_sound, moved_tables, moved_lists}
 use Rattle.dcel_records.proofs.Isolated.{isolated_again}
+use Rattle.dcel_records.proofs.Marked.{marked_relinked}
 use Rattle.dcel_records.proofs.records.Records.move_bare.Goals as goal
 
 pub unlink-requires-clause-chained : goal.unlink-requires-clause-chained
@@ -32,6 +33,7 @@ invariant_of-self c =
       vertex_room = room_same c.self.inside.vertex_room c.self.inside.vertices c.link_first.new.rows c.self.invariant.vertex_room b.len b.capacity;
       cycle_room = c.self.invariant.cycle_room;
       on_cycles = c.self.invariant.on_cycles;
+      marked = marked_relinked c.self.inside.vertices c.link_first.new.rows c.self.inside.darts b.rests c.self.invariant.marked;
       moved = c.self.invariant.moved;
       isolated = c.self.invariant.isolated ∙ isolated_again c.unlink.new.rows c.link_first.new.rows c.unlink.new.faces c.link_first.new.faces c.args.v.0 c.args.face c.link_first.ensures c.self.inside.vertices c.self.inside.faces c.unlink.ensures (bare_node c.self.inside.vertices c.self.inside.darts c.self.inside.cycles c.self.inside.faces c.self.inside.moved c.self.inside.order.items c.self.inside.vertex_room c.self.inside.cycle_room _ c.self.view_is c.self.invariant.faces c.args.v c.requires.vertex);
       keys = c.self.invariant.keys;

@@ -30,6 +30,7 @@ invariant_of-self c = record {
   vertex_room = c.self.invariant.vertex_room;
   cycle_room = room_same c.self.inside.cycle_room c.self.inside.cycles c.link_first.new.rows c.self.invariant.cycle_room (c.link_first.ensures.kept.len ∙ c.unlink.ensures.kept.len) (c.link_first.ensures.kept.capacity ∙ c.unlink.ensures.kept.capacity);
   on_cycles = on_keys c.self.inside.darts c.self.inside.cycles c.link_first.new.rows (λ n h. cycle_there c.unlink.new.rows c.link_first.new.rows c.unlink.new.faces c.link_first.new.faces c.link_first.ensures.kept n (cycle_there c.self.inside.cycles c.unlink.new.rows c.self.inside.faces c.unlink.new.faces c.unlink.ensures.kept n h)) c.self.invariant.on_cycles;
+  marked = c.self.invariant.marked;
   moved = c.self.invariant.moved;
   isolated = c.self.invariant.isolated;
   keys = c.self.invariant.keys;

@@ -4,6 +4,7 @@ use Rattle.dcel_records.proofs.Whole.{graph_empty, records_empty}
 use Rattle.dcel_records.proofs.Started.{lone_sound, lone_tables, lone_lists, lists_ready}
 use Rattle.dcel_records.proofs.OnCycles.{on_none}
 use Rattle.dcel_records.proofs.Isolated.{isolated_none}
+use Rattle.dcel_records.proofs.Marked.{marked_none}
 use Rattle.dcel_records.proofs.records.Records.new.Goals as goal
 
 pub invariant_of-result : goal.invariant_of-result
@@ -13,6 +14,7 @@ invariant_of-result c = record {
   vertex_room = room_first c.new.result c.new.ensures.empty;
   cycle_room = room_first c.new-3.result c.new-3.ensures.empty;
   on_cycles = on_none c.new-2.result c.new-3.result c.new-2.ensures.empty;
+  marked = marked_none c.new.result c.new-2.result c.new-2.ensures.empty;
   moved = lists_ready c.new-4.result c.new-4.ensures.cycles c.new-4.ensures.vertices;
   isolated = isolated_none c.new.result c.new.ensures.empty;
   keys = omega arith;

@@ -27,6 +27,7 @@ invariant_of-self c = record {
   vertex_room = c.self.invariant.vertex_room;
   cycle_room = c.self.invariant.cycle_room;
   on_cycles = c.self.invariant.on_cycles;
+  marked = c.self.invariant.marked;
   moved = c.self.invariant.moved;
   isolated = c.self.invariant.isolated;
   keys = let k = c.self.invariant.keys in let e = c.sort_unstable.ensures.capacity in omega arith;

@@ -23,6 +23,7 @@ invariant_of-self c = record {
   vertex_room = c.self.invariant.vertex_room;
   cycle_room = room_less c.self.inside.cycle_room c.self.inside.cycles c.remove.new.self c.self.invariant.cycle_room (c.remove.ensures.len ∙ c.unlink.ensures.kept.len) (c.remove.ensures.capacity ∙ c.unlink.ensures.kept.capacity);
   on_cycles = on_others c.self.inside.darts c.unlink.new.rows c.remove.new.self c.args.c.0 c.remove.ensures.updates (none_on c.self.inside.vertices c.self.inside.darts c.self.inside.cycles c.self.inside.faces c.self.inside.moved c.self.inside.order.items c.self.inside.vertex_room c.self.inside.cycle_room _ c.self.view_is c.args.c c.requires.off) (on_keys c.self.inside.darts c.self.inside.cycles c.unlink.new.rows (cycle_there c.self.inside.cycles c.unlink.new.rows c.self.inside.faces c.unlink.new.faces c.unlink.ensures.kept) c.self.invariant.on_cycles);
+  marked = c.self.invariant.marked;
   moved = c.self.invariant.moved;
   isolated = c.self.invariant.isolated;
   keys = c.self.invariant.keys;

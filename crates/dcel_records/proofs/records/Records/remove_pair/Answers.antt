@@ -11,6 +11,7 @@ use Rattle.dcel_records.proofs.Writing.{less_graph, less_kept}
 use Rattle.dcel_records.proofs.Pins.{pins_kept}
 use Rattle.dcel_records.proofs.OnCycles.{on_less}
 use Rattle.dcel_records.proofs.Isolated.{isolated_same}
+use Rattle.dcel_records.proofs.Marked.{marked_less}
 use Rattle.dcel_records.proofs.records.Records.remove_pair.Goals as goal
 
 pub remove-dart-requires : goal.remove-dart-requires
@@ -44,6 +45,7 @@ invariant_of-self c = record {
   vertex_room = room_same c.self.inside.vertex_room c.self.inside.vertices _ c.self.invariant.vertex_room (len_out_twice c.self.inside.vertices c.remove-dart.result.source.0 c.remove-twin.result.source.0 c.args.rest_u c.args.rest_v _ _ c.index_mut.ensures.value c.index_mut-2.ensures.value) refl;
   cycle_room = c.self.invariant.cycle_room;
   on_cycles = on_less c.remove-dart.new.self c.remove-twin.new.self c.self.inside.cycles _ c.remove-twin.ensures.updates (on_less c.self.inside.darts c.remove-dart.new.self c.self.inside.cycles _ c.remove-dart.ensures.updates c.self.invariant.on_cycles);
+  marked = marked_less c.self.inside.vertices c.self.inside.darts c.remove-dart.new.self c.remove-twin.new.self _ _ c.remove-dart.result.source.0 c.remove-twin.result.source.0 c.args.rest_u c.args.rest_v _ _ c.remove-dart.ensures.updates c.remove-twin.ensures.updates c.index_mut.ensures.value c.index_mut-2.ensures.value c.self.invariant.marked;
   moved = c.self.invariant.moved;
   isolated = c.self.invariant.isolated ∙ isolated_same c.self.inside.vertices _ (nodes_out_twice c.self.inside.vertices c.remove-dart.result.source.0 c.remove-twin.result.source.0 c.args.rest_u c.args.rest_v _ _ c.index_mut.ensures.value c.index_mut-2.ensures.value);
   keys = c.self.invariant.keys;

@@ -9,6 +9,7 @@ use Rattle.dcel_records.proofs.Relinked.{lists_after}
 use Rattle.dcel_records.proofs.BareWritten.{graph_sound, graph_left, vertex_there, gone_sound, gone_tables, gone_lists}
 use Rattle.dcel_records.proofs.VertexMapped.{one_apart}
 use Rattle.dcel_records.proofs.Isolated.{isolated_gone}
+use Rattle.dcel_records.proofs.Marked.{marked_gone, marked_relinked}
 use Rattle.dcel_records.proofs.records.Records.remove_vertex.Goals as goal
 
 pub leave_face-requires-clause-chained : goal.leave_face-requires-clause-chained
@@ -45,6 +46,7 @@ invariant_of-self c = record {
   vertex_room = room_less c.self.inside.vertex_room c.self.inside.vertices c.remove-vertex.new.self c.self.invariant.vertex_room (c.remove-vertex.ensures.len ∙ c.leave_face.ensures.left.kept.len) (c.remove-vertex.ensures.capacity ∙ c.leave_face.ensures.left.kept.capacity);
   cycle_room = c.self.invariant.cycle_room;
   on_cycles = c.self.invariant.on_cycles;
+  marked = marked_gone c.leave_face.new.vertices c.remove-vertex.new.self c.self.inside.darts _ (graph_left c.self.inside.vertices c.leave_face.new.vertices c.self.inside.darts c.leave_face.ensures.left.kept.rests _ (graph_seen c.self.inside.vertices c.self.inside.darts c.self.inside.cycles c.self.inside.faces c.self.inside.moved c.self.inside.order.items c.self.inside.vertex_room c.self.inside.cycle_room _ c.self.view_is)) c.args.v c.requires.bare c.remove-vertex.ensures.updates (marked_relinked c.self.inside.vertices c.leave_face.new.vertices c.self.inside.darts c.leave_face.ensures.left.kept.rests c.self.invariant.marked);
   moved = c.self.invariant.moved;
   isolated = c.leave_face.ensures.counted ∙ isolated_gone c.self.inside.vertices c.leave_face.new.vertices c.self.inside.faces c.leave_face.new.faces c.args.v.0 c.leave_face.ensures.left c.remove-vertex.new.self c.remove-vertex.ensures.updates;
   keys = c.self.invariant.keys;
@@ -65,6 +67,7 @@ invariant_of-self-else-vertex c = record {
   vertex_room = room_less c.self.inside.vertex_room c.self.inside.vertices c.remove-vertex.new.self c.self.invariant.vertex_room (c.remove-vertex.ensures.len ∙ c.leave_face.ensures.left.kept.len) (c.remove-vertex.ensures.capacity ∙ c.leave_face.ensures.left.kept.capacity);
   cycle_room = c.self.invariant.cycle_room;
   on_cycles = c.self.invariant.on_cycles;
+  marked = marked_gone c.leave_face.new.vertices c.remove-vertex.new.self c.self.inside.darts _ (graph_left c.self.inside.vertices c.leave_face.new.vertices c.self.inside.darts c.leave_face.ensures.left.kept.rests _ (graph_seen c.self.inside.vertices c.self.inside.darts c.self.inside.cycles c.self.inside.faces c.self.inside.moved c.self.inside.order.items c.self.inside.vertex_room c.self.inside.cycle_room _ c.self.view_is)) c.args.v c.requires.bare c.remove-vertex.ensures.updates (marked_relinked c.self.inside.vertices c.leave_face.new.vertices c.self.inside.darts c.leave_face.ensures.left.kept.rests c.self.invariant.marked);
   moved = c.self.invariant.moved;
   isolated = c.leave_face.ensures.counted ∙ isolated_gone c.self.inside.vertices c.leave_face.new.vertices c.self.inside.faces c.leave_face.new.faces c.args.v.0 c.leave_face.ensures.left c.remove-vertex.new.self c.remove-vertex.ensures.updates;
   keys = c.self.invariant.keys;

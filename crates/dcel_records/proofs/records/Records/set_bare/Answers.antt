@@ -6,6 +6,7 @@ use Rattle.dcel_records.proofs.Holding.{vertex_key}
 use Rattle.dcel_records.proofs.Relinked.{lists_after, face_key}
 use Rattle.dcel_records.proofs.BareWritten.{graph_sound, graph_part_same, bare_none, vertex_others, set_sound, set_tables, set_lists}
 use Rattle.dcel_records.proofs.Isolated.{isolated_fit, isolated_set}
+use Rattle.dcel_records.proofs.Marked.{marked_relinked}
 use Rattle.dcel_records.proofs.records.Records.set_bare.Goals as goal
 
 pub link_first-requires-clause-chained : goal.link_first-requires-clause-chained
@@ -31,6 +32,7 @@ invariant_of-self c = record {
   vertex_room = room_same c.self.inside.vertex_room c.self.inside.vertices c.link_first.new.rows c.self.invariant.vertex_room c.link_first.ensures.kept.len c.link_first.ensures.kept.capacity;
   cycle_room = c.self.invariant.cycle_room;
   on_cycles = c.self.invariant.on_cycles;
+  marked = marked_relinked c.self.inside.vertices c.link_first.new.rows c.self.inside.darts c.link_first.ensures.kept.rests c.self.invariant.marked;
   moved = c.self.invariant.moved;
   isolated = let k = c.self.invariant.isolated in let m = isolated_set c.self.inside.vertices c.link_first.new.rows c.self.inside.faces c.link_first.new.faces c.args.v.0 c.args.face c.link_first.ensures (bare_none c.self.inside.vertices c.self.inside.darts c.self.inside.cycles c.self.inside.faces c.self.inside.moved c.self.inside.order.items c.self.inside.vertex_room c.self.inside.cycle_room _ c.self.view_is c.self.invariant.faces c.args.v c.requires.elsewhere) in omega arith;
   keys = c.self.invariant.keys;

@@ -6,6 +6,7 @@ use Rattle.dcel_records.proofs.CycleColumn.{cycle_graph_part, cycle_kept}
 use Rattle.dcel_records.proofs.FacesKept.{column_put, faces_column}
 use Rattle.dcel_records.proofs.OnCycles.{on_write}
 use Rattle.dcel_records.proofs.CyclesWritten.{cycle_key}
+use Rattle.dcel_records.proofs.Marked.{marked_kept}
 use Rattle.dcel_records.proofs.records.Records.set_cycle.Goals as goal
 
 pub index_mut-requires : goal.index_mut-requires
@@ -18,6 +19,7 @@ invariant_of-self c = record {
   vertex_room = c.self.invariant.vertex_room;
   cycle_room = c.self.invariant.cycle_room;
   on_cycles = on_write c.self.inside.darts c.self.inside.cycles c.args.d.0 c.index_mut.result.now _ c.index_mut.ensures.value (cycle_key c.self.inside.vertices c.self.inside.darts c.self.inside.cycles c.self.inside.faces c.self.inside.moved c.self.inside.order.items c.self.inside.vertex_room c.self.inside.cycle_room _ c.self.view_is c.self.invariant.faces c.args.c c.requires.cycle) c.self.invariant.on_cycles;
+  marked = marked_kept c.self.inside.vertices c.self.inside.darts c.args.d.0 c.index_mut.result.now _ c.index_mut.ensures.value refl refl c.self.invariant.marked;
   moved = c.self.invariant.moved;
   isolated = c.self.invariant.isolated;
   keys = c.self.invariant.keys;

@@ -18,6 +18,7 @@ invariant_of-self c = record {
   vertex_room = c.self.invariant.vertex_room;
   cycle_room = room_same c.self.inside.cycle_room c.self.inside.cycles _ c.self.invariant.cycle_room (len_written c.self.inside.cycles _ _ _ c.index_mut.ensures.value) refl;
   on_cycles = on_written c.self.inside.darts c.self.inside.cycles c.args.c.0 c.index_mut.result.now _ c.index_mut.ensures.value c.self.invariant.on_cycles;
+  marked = c.self.invariant.marked;
   moved = c.self.invariant.moved;
   isolated = c.self.invariant.isolated;
   keys = c.self.invariant.keys;
