@@ -70,6 +70,7 @@ impl<'a> Glance<'a> {
     }
 
     /// One look at a dart, which is one step; it tells what `look` does, each part where it is asked for.
+    #[inline(always)]
     pub fn glimpse<L: Ledger>(&self, dart: DartId, steps: &mut Steps<L>) -> Glimpse<'a>
         requires { HasDart self.now.graph dart }
         ensures look { IsLookOf self.now.graph (Edge dart) result }

@@ -14,18 +14,16 @@ use Rattle.face_location.specs.Spots.{IsSpotOf}
 use Rattle.walk_laws.specs.Walks.{face_above, IsBoundaryPassed}
 use Rattle.walk_laws.proofs.Named.{walk_ends_in_face}
 use Rattle.locate_walk.specs.Looks.{dart_of, IsBelowOrNone}
-use Rattle.locate_walk.specs.Passages.{IsComparedOrNone}
 use Rattle.locate_walk.specs.Rounds.{IsHighestRound}
 use Rattle.locate_walk.specs.declared.found.EdgeBelow.{EdgeBelow}
-use Rattle.locate_walk.specs.declared.passage.Compared.{Compared}
 use Rattle.locate_walk.proofs.Rounds.{seen_or_none}
 use Rattle.locate_landmarks.specs.Lowest.{IsAbove}
 use Rattle.locate_landmarks.specs.Surveys.{MaySurvey}
 use Rattle.locate_landmarks.specs.declared.survey.Survey.{Survey}
 
 -- a survey that has found nothing
-pub begun : (k : Survey) → IsSoundMap k.highest.glance.now → IsProper k.highest.point → k.highest.best ≡ None → k.highest.compared ≡ None → k.highest.hit ≡ None → IsAbove k.highest.glance.now.graph k.highest.point k.descent.lowest → MaySurvey k.highest.glance.now.graph k k
-begun k map proper best compared hit lowest =
+pub begun : (k : Survey) → IsSoundMap k.highest.glance.now → IsProper k.highest.point → k.highest.best ≡ None → k.highest.hit ≡ None → IsAbove k.highest.glance.now.graph k.highest.point k.descent.lowest → MaySurvey k.highest.glance.now.graph k k
+begun k map proper best hit lowest =
     let v = k.highest.glance.now.graph in
     record {
       highest = record {
@@ -36,7 +34,6 @@ begun k map proper best compared hit lowest =
         point = refl;
         proper = proper;
         best = subst (λ (o : Option EdgeBelow). IsBelowOrNone v k.highest.point o) (sym best) tt;
-        compared = subst (λ (o : Option Compared). IsComparedOrNone v k.highest.point o) (sym compared) tt;
         hit = subst (λ (o : Option Spot). IfSome o (IsSpotOf v (tables_of k.highest.glance.now) k.highest.point)) (sym hit) tt;
         raised = inl refl;
       };

@@ -1,7 +1,7 @@
 -- What is known of the looks at the boundary of a face for a query.
 use Rattle.slab_laws.specs.View.{View}
 use Rattle.counted_looks.specs.declared.boundary_part.BoundaryPart.{BoundaryPart}
-use Rattle.locate_walk.specs.Looks.{MayLook, HasSeen}
+use Rattle.locate_walk.specs.Looks.{MayLook, HasLooked, HasSeen}
 use Rattle.locate_landmarks.specs.Lowest.{IsAbove, IsLowered}
 use Rattle.locate_landmarks.specs.declared.survey.Survey.{Survey}
 
@@ -14,3 +14,9 @@ pub record MaySurvey (v : View) (k l : Survey) : Type 0 where
 -- until the point was met, all that was looked at is clear
 abbrev pub HasSurveyed : View → Survey → BoundaryPart → Type 0
 HasSurveyed v l t = HasSeen v l.highest t
+
+-- the look at the part is that of the walk, and the lowest edge is one that the point sees above it, no higher than before (this project)
+pub record HasSurveyedPart (h : Survey) (t : BoundaryPart) (l : Survey) : Type 0 where
+  pub highest : HasLooked h.highest t l.highest
+  pub lowest : IsAbove h.highest.glance.now.graph h.highest.point l.descent.lowest
+  pub lowered : IsLowered h.highest.glance.now.graph h.highest.point h.descent.lowest l.descent.lowest

@@ -8,21 +8,14 @@ ghost use Rattle.locate_landmarks.specs.Horizontals.{IsCrossing};
 use crate::course::Course;
 use crate::crossing::{Crossing, later_crossing};
 use crate::faces::{dart_across, face_beside, is_dart};
-use counted_looks::{BoundaryPart, Glance, Glimpse, Looker, NameCalls, look_at_boundary};
-use slab_laws::{DartId, FaceId, VertexId};
+use counted_looks::{BoundaryPart, Glance, Glimpse, Looker, look_at_boundary};
+use slab_laws::{DartId, FaceId};
 use std::sync::ledger::Ledger;
 use work_steps::Steps;
 
 // More edges than a way crosses, so that no way ends by it: curves have names of 32 bits, and the raised horizontal crosses each once at
 // most. It is what tells that the loop ends, since the order of crossings has no law here.
 const MOST_CROSSINGS: usize = 1 << 32;
-
-/// On which side of the horizontal a vertex lies.
-#[derive(Clone, Copy)]
-pub struct Sided {
-    pub vertex: VertexId,
-    pub is_above: bool,
-}
 
 /// What looks at the boundary of a face find along the horizontal: the last crossing with it before the vertical of the point, which
 /// leads out of the face or back into it.
@@ -32,24 +25,26 @@ pub struct Ahead<'a> {
     pub last: Option<Crossing>,
     /// The dart by which the way came into the face. It isn't looked at again, since the way goes on from there.
     pub entry: Option<DartId>,
-    /// The vertex that was compared with the horizontal last, since the next dart on a cycle starts there.
-    pub sided: Option<Sided>,
 }
 
-// On which side of the horizontal the source of a dart lies, as was kept of it, or by a comparison.
-#[inline(always)]
-fn is_source_above(
-    course: &Course,
-    vertex: VertexId,
-    looked: &Glimpse,
-    sided: Option<Sided>,
-) -> bool {
-    if let Some(kept) = sided {
-        if kept.vertex == vertex {
-            return kept.is_above;
+impl<'a> Ahead<'a> {
+    // A dart of which whole parts don't tell that both ends are on one side of the horizontal. A function of its own, so that the look,
+    // which is inlined, stays short.
+    #[inline(never)]
+    fn look_closely(&mut self, sight: &Glance, dart: DartId, looked: &Glimpse)
+        requires dart { HasDart sight.now.graph dart }
+        requires last { IsCrossing sight.now.graph self.old.last }
+        ensures { IsCrossing sight.now.graph self.new.last }
+    {
+        let course = self.course;
+        let rises = course.is_above(&looked.target());
+        if course.is_above(&looked.source()) == rises || is_dart(self.entry, dart) {
+            return;
+        }
+        if let Some(crossing) = later_crossing(sight, course, dart, looked, rises, &self.last) {
+            self.last = Some(crossing);
         }
     }
-    course.is_above(&looked.source())
 }
 
 impl<'a, 'r> Looker<Glance<'r>> for Ahead<'a> {
@@ -59,28 +54,18 @@ impl<'a, 'r> Looker<Glance<'r>> for Ahead<'a> {
 
     ghost has_seen = { HasPassed };
 
-    // Nearly no edge crosses the horizontal, and then no more is read of it than its target.
+    // Nearly no edge crosses the horizontal, as whole parts tell.
+    #[inline(always)]
     fn look<L: Ledger>(&mut self, sight: &Glance<'r>, at: BoundaryPart, steps: &mut Steps<L>) {
-        let dart = match at {
-            BoundaryPart::Dart(dart) => dart,
-            BoundaryPart::Isolated(_) => {
-                steps.tick();
-                return;
+        match at {
+            BoundaryPart::Dart(dart) => {
+                let looked = sight.glimpse(dart, steps);
+                if looked.is_above_or_below(self.course.landmark.whole_parts()) {
+                    return;
+                }
+                self.look_closely(sight, dart, &looked);
             }
-        };
-        let course = self.course;
-        let looked = sight.glimpse(dart, steps);
-        let from_above = is_source_above(course, sight.source(dart), &looked, self.sided);
-        let rises = course.is_above(&looked.target());
-        self.sided = Some(Sided {
-            vertex: sight.target(dart),
-            is_above: rises,
-        });
-        if from_above == rises || is_dart(self.entry, dart) {
-            return;
-        }
-        if let Some(crossing) = later_crossing(sight, course, dart, &looked, rises, &self.last) {
-            self.last = Some(crossing);
+            BoundaryPart::Isolated(_) => steps.tick(),
         }
     }
 }
@@ -116,7 +101,6 @@ pub fn go_along<L: Ledger>(
         course,
         last: None,
         entry: None,
-        sided: None,
     };
     'faces: for _ in 0..MOST_CROSSINGS {
         look_at_boundary(&mut ahead, glance, face, steps);

@@ -51,7 +51,6 @@ pub fn look_round<L: Ledger>(
             point: *point,
             hit: None,
             best: None,
-            compared: None,
         },
         descent: *descent,
     };

@@ -1,18 +1,21 @@
 //! The look at a face's boundary for a query.
 ghost use Rattle.std.specs.Prelude.{◌≡◌, ◌+◌};
 ghost use Rattle.slab_laws.specs.View.{HasDart, HasVertex};
+ghost use Rattle.counted_looks.specs.Looks.{IsLookOf};
 ghost use Rattle.counted_looks.specs.declared.boundary_part.BoundaryPart.TheVariants.{Dart, Isolated};
 ghost use Rattle.dcel_records.specs.RecordsView.{tables_of};
 ghost use Rattle.dcel_records.specs.SoundMaps.{IsSoundMap};
+ghost use Rattle.dcel_records.specs.declared.spot.Spot.TheVariants.{Edge};
 ghost use Rattle.locate_walk.specs.Finds.{IsFound};
-ghost use Rattle.locate_walk.specs.Passages.{IsComparedOrNone};
+ghost use Rattle.locate_walk.specs.Looks.{HasLooked};
 ghost use Rattle.locate_landmarks.specs.Lowest.{IsAbove, IsLowered};
+ghost use Rattle.locate_landmarks.specs.Surveys.{HasSurveyedPart};
 
 use crate::descent::Descent;
-use counted_looks::{BoundaryPart, Glance, Looker};
+use counted_looks::{BoundaryPart, Glance, Glimpse, Looker};
 use dcel_records::Spot;
 use exact_plane::Point;
-use locate_walk::{Compared, Found, Highest, found_at_dart, is_told_at_twin, passage_of};
+use locate_walk::{Found, Highest, found_at_dart, is_told_at_twin, passage_of};
 use slab_laws::{DartId, FaceId, VertexId};
 use std::sync::ledger::Ledger;
 use work_steps::Steps;
@@ -25,39 +28,34 @@ pub struct Survey<'a, 'r> {
     pub descent: Descent,
 }
 
-// One look at a dart. An edge that spans the point, of which both darts are there, is told at one of them. The lowest edge above the
-// point is kept, and how the vertex that was compared last lies to it.
-#[inline(always)]
-fn find_at_dart<L: Ledger>(
+// What a dart tells that whole parts don't rule out. An edge that spans the point, of which both darts are there, is told at one of them.
+// The lowest edge above the point is kept.
+fn find_at_dart(
     glance: &Glance,
     face: FaceId,
     dart: DartId,
+    looked: &Glimpse,
     point: &Point,
-    last: &mut Option<Compared>,
     descent: &mut Descent,
-    steps: &mut Steps<L>,
 ) -> Found
     requires map { IsSoundMap glance.now }
     requires dart { HasDart glance.now.graph dart }
-    requires last { IsComparedOrNone glance.now.graph point.now last.old }
+    requires looked { IsLookOf glance.now.graph (Edge dart) looked.now }
     requires lowest { IsAbove glance.now.graph point.now descent.old.lowest }
     ensures found { IsFound glance.now.graph (tables_of glance.now) point.now face (Dart dart) result }
-    ensures last { IsComparedOrNone glance.now.graph point.now last.new }
     ensures lowest { IsAbove glance.now.graph point.now descent.new.lowest }
     ensures lowered { IsLowered glance.now.graph point.now descent.old.lowest descent.new.lowest }
-    ensures one { steps.new ≡ steps.old + 1 }
 {
-    let looked = glance.glimpse(dart, steps);
-    let passage = passage_of(glance, dart, &looked, point, last);
+    let passage = passage_of(looked, point);
     if !passage.spans() {
-        return found_at_dart(glance, dart, &looked, point, passage);
+        return found_at_dart(glance, dart, looked, point, passage);
     }
     if is_told_at_twin(glance, face, dart) {
         return Found::Past;
     }
-    let found = found_at_dart(glance, dart, &looked, point, passage);
+    let found = found_at_dart(glance, dart, looked, point, passage);
     if matches!(found, Found::Past) {
-        descent.pass(glance, point, dart, &looked, passage);
+        descent.pass(glance, point, dart, looked, passage);
     }
     found
 }
@@ -80,6 +78,47 @@ fn find_at_vertex<L: Ledger>(
     Found::Past
 }
 
+impl<'a, 'r> Survey<'a, 'r> {
+    // What a dart tells that whole parts don't rule out. After the point was met, none tells more.
+    #[inline(never)]
+    fn look_closely(&mut self, dart: DartId, looked: &Glimpse)
+        requires map { IsSoundMap self.old.highest.glance.now }
+        requires dart { HasDart self.old.highest.glance.now.graph dart }
+        requires looked { IsLookOf self.old.highest.glance.now.graph (Edge dart) looked.now }
+        requires lowest { IsAbove self.old.highest.glance.now.graph self.old.highest.point self.old.descent.lowest }
+        ensures { HasSurveyedPart self.old (Dart dart) self.new }
+    {
+        if self.highest.hit.is_some() {
+            return;
+        }
+        let found = find_at_dart(
+            self.highest.glance,
+            self.highest.face,
+            dart,
+            looked,
+            &self.highest.point,
+            &mut self.descent,
+        );
+        self.highest.take(found);
+    }
+
+    // After the point was met, this only ticks.
+    #[inline(never)]
+    fn look_at_vertex<L: Ledger>(&mut self, vertex: VertexId, steps: &mut Steps<L>)
+        requires vertex { HasVertex self.old.highest.glance.now.graph vertex }
+        ensures looked { HasLooked self.old.highest (Isolated vertex) self.new.highest }
+        ensures descent { self.new.descent ≡ self.old.descent }
+        ensures one { steps.new ≡ steps.old + 1 }
+    {
+        if self.highest.hit.is_some() {
+            steps.tick();
+            return;
+        }
+        let found = find_at_vertex(self.highest.glance, vertex, &self.highest.point, steps);
+        self.highest.take(found);
+    }
+}
+
 impl<'a, 'r> Looker<Glance<'r>> for Survey<'a, 'r> {
     ghost use Rattle.locate_landmarks.specs.Surveys.{MaySurvey, HasSurveyed};
 
@@ -87,33 +126,18 @@ impl<'a, 'r> Looker<Glance<'r>> for Survey<'a, 'r> {
 
     ghost has_seen = { HasSurveyed };
 
-    // After the point was met, the looks only tick.
-    fn look<L: Ledger>(&mut self, _sight: &Glance<'r>, at: BoundaryPart, steps: &mut Steps<L>) {
-        if self.highest.hit.is_some() {
-            steps.tick();
-            return;
-        }
-        let glance = self.highest.glance;
-        let face = self.highest.face;
+    // The whole parts of its ends rule out nearly each dart.
+    #[inline(always)]
+    fn look<L: Ledger>(&mut self, sight: &Glance<'r>, at: BoundaryPart, steps: &mut Steps<L>) {
         match at {
             BoundaryPart::Dart(dart) => {
-                let mut compared = self.highest.compared;
-                let found = find_at_dart(
-                    glance,
-                    face,
-                    dart,
-                    &self.highest.point,
-                    &mut compared,
-                    &mut self.descent,
-                    steps,
-                );
-                self.highest.compared = compared;
-                self.highest.take(found);
+                let looked = sight.glimpse(dart, steps);
+                if looked.is_left_or_right_of(self.highest.point.whole_parts()) {
+                    return;
+                }
+                self.look_closely(dart, &looked);
             }
-            BoundaryPart::Isolated(vertex) => {
-                let found = find_at_vertex(glance, vertex, &self.highest.point, steps);
-                self.highest.take(found);
-            }
+            BoundaryPart::Isolated(vertex) => self.look_at_vertex(vertex, steps),
         }
     }
 }

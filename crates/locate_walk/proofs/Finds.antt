@@ -1,10 +1,11 @@
 -- What a look at a dart tells of its edge, by the ends and the line that were read.
-use Rattle.std.proofs.Common.{◌≡◌, inl, inr, sym, ap, ◌∙◌, subst}
+use Rattle.std.proofs.Common.{◌≡◌, true, pos, ◌<ℤ◌, inl, inr, sym, ap, ◌∙◌, subst}
 use Rattle.std.specs.Prelude.{Some}
 use Rattle.exact_plane.specs.Line.{Line}
 use Rattle.exact_plane.specs.Point.{Point}
 use Rattle.exact_plane.specs.Sign.{sign_of}
 use Rattle.exact_plane.specs.Span.{Span, AreOnWay}
+use Rattle.exact_plane.specs.WholeParts.{whole_parts, is_left_or_right_of}
 use Rattle.plane_graphs.specs.Graph.{Edge as PlaneEdge}
 use Rattle.plane_graphs.specs.Line.{IsProper}
 use Rattle.plane_graphs.proofs.Order.{Lt}
@@ -14,7 +15,7 @@ use Rattle.slab_laws.specs.Sound.{edge_in, IsGraphSound}
 use Rattle.slab_laws.specs.SpansDrawn.{edge_of}
 use Rattle.slab_laws.specs.View.{View, Faces, HasDart, point_in, source_in, target_in, twin_in, line_in}
 use Rattle.sound_views.specs.ForwardDarts.{IsForwardOf}
-use Rattle.sound_views.proofs.ForwardDarts.{way_along}
+use Rattle.sound_views.proofs.ForwardDarts.{way_along, target_has}
 use Rattle.sound_views.proofs.GraphDrawn.{between_forward}
 use Rattle.counted_looks.specs.Looks.{IsLookOf}
 use Rattle.counted_looks.specs.declared.glance.Looked.{Looked}
@@ -27,7 +28,7 @@ use Rattle.locate_walk.specs.Finds.{IsSided, IsOffEnds, IsFoundAtDart}
 use Rattle.locate_walk.specs.Passages.{IsBetween, IsApart}
 use Rattle.locate_walk.specs.declared.found.Found.{Found}
 use Rattle.locate_walk.specs.declared.found.Found.TheVariants.{At, Below, Past}
-use Rattle.locate_walk.proofs.EndsCompared.{differ}
+use Rattle.locate_walk.proofs.EndsCompared.{differ, beside_apart}
 
 module _ (v : View) (f : Faces) (s : IsGraphSound v) (q : Point) (Q : IsProper q) (d : DartId) (has : HasDart v d) (l : Looked) (look : IsLookOf v (Edge d) l) where
   abbrev low : Point
@@ -115,3 +116,10 @@ module _ (v : View) (f : Faces) (s : IsGraphSound v) (q : Point) (Q : IsProper q
       | inr x ↦ h.not_back ((subst (λ y. Lt y q) (sym look.1) x.0).is, (subst (Lt q) (sym look.0) x.1).is)
     ]),
   )
+
+  -- ---- one that whole parts rule out
+  pub beside_found : is_left_or_right_of (whole_parts q) (whole_parts l.source) (whole_parts l.target) ≡ true → IsFoundAtDart v f q d Past
+  beside_found h =
+      let A = s.drawn.proper (source_in v d) (s.linked.source d has) in
+      let B = s.drawn.proper (target_in v d) (target_has v s d has) in
+      apart_found (beside_apart l.source q l.target (subst (λ (x : Point). pos 0 <ℤ x.w) (sym look.0) A.positive) Q.positive (subst (λ (x : Point). pos 0 <ℤ x.w) (sym look.1) B.positive) h)

@@ -1,30 +1,35 @@
 -- What a look keeps: the highest edge so far rises, and what was clear stays clear.
-use Rattle.std.proofs.Common.{◌≡◌, ◌<◌, ◌≤◌, cond, arith, refl, sym, ap, ◌∙◌, inl, inr, subst}
-use Rattle.std.specs.Prelude.{Option, Some, None}
-use Rattle.std.proofs.lemmas.Bool.{cases_Bool}
+use Rattle.std.proofs.Common.{◌≡◌, ◌<◌, ◌≤◌, true, cond, arith, refl, sym, ap, ◌∙◌, inl, inr, subst}
+use Rattle.std.specs.Prelude.{◌⊎◌, Bool, Option, Some, None, IsSome}
+use Rattle.std.proofs.lemmas.Bool.{cases_Bool, false≢true}
 use Rattle.exact_plane.specs.Point.{Point}
-use Rattle.plane_graphs.specs.Graph.{Edge}
+use Rattle.exact_plane.specs.WholeParts.{whole_parts, is_left_or_right_of}
+use Rattle.exact_plane.specs.declared.whole_parts.WholeParts.{WholeParts}
+use Rattle.plane_graphs.specs.Graph.{Edge as PlaneEdge}
 use Rattle.plane_graphs.specs.Line.{IsProper}
 use Rattle.slab_laws.specs.declared.names.DartId.{DartId}
 use Rattle.slab_laws.specs.declared.names.FaceId.{FaceId}
 use Rattle.slab_laws.specs.Sound.{skeleton_of, edge_in, IsGraphSound}
 use Rattle.slab_laws.specs.SpansDrawn.{edge_of}
-use Rattle.slab_laws.specs.View.{View, Faces}
+use Rattle.slab_laws.specs.View.{View, Faces, HasDart}
+use Rattle.counted_looks.specs.Looks.{IsLookOf}
 use Rattle.counted_looks.specs.declared.boundary_part.BoundaryPart.{BoundaryPart}
 use Rattle.counted_looks.specs.declared.boundary_part.BoundaryPart.TheVariants.{Dart, Isolated}
+use Rattle.counted_looks.specs.declared.glance.Looked.{Looked}
 use Rattle.dcel_records.specs.RecordsView.{tables_of}
+use Rattle.dcel_records.specs.declared.spot.Spot.{Spot}
+use Rattle.dcel_records.specs.declared.spot.Spot.TheVariants.{Edge}
 use Rattle.edges_below.specs.Above.{is_above}
 use Rattle.edges_below.specs.Levels.{level}
 use Rattle.edges_below.proofs.Levels.{levels_tell_highest}
 use Rattle.walk_laws.specs.Walks.{height}
 use Rattle.locate_walk.specs.Finds.{IsFound}
-use Rattle.locate_walk.specs.Passages.{IsComparedOrNone}
-use Rattle.locate_walk.specs.declared.passage.Compared.{Compared}
-use Rattle.locate_walk.specs.Looks.{dart_of, higher_edge, IsBelowOrNone, IsRaised, taken, IsPartClear, MayLook, HasSeen}
+use Rattle.locate_walk.specs.Looks.{dart_of, higher_edge, IsBelowOrNone, IsRaised, taken, HasLooked, IsPartClear, MayLook, HasSeen}
 use Rattle.locate_walk.specs.declared.found.EdgeBelow.{EdgeBelow}
 use Rattle.locate_walk.specs.declared.found.Found.{Found}
 use Rattle.locate_walk.specs.declared.found.Found.TheVariants.{At, Below, Past}
 use Rattle.locate_walk.specs.declared.highest.Highest.{Highest}
+use Rattle.locate_walk.proofs.Finds.{beside_found}
 
 module _ (v : View) (q : Point) where
   pub raised_from : {o p : Option DartId} → IsRaised v q o p → height v q o ≤ height v q p
@@ -73,7 +78,7 @@ module _ (v : View) (q : Point) where
     off_source = c.0.off_source;
     off_target = c.0.off_target;
     off_edge = c.1.outside;
-    no_higher = λ y. subst (λ (e : Edge). level (skeleton_of v) q e < height v q p) c.1.along l;
+    no_higher = λ y. subst (λ (e : PlaneEdge). level (skeleton_of v) q e < height v q p) c.1.along l;
   }
   below_clear f a p (Isolated w) b c l = absurd c
 
@@ -89,7 +94,7 @@ module _ (k h : Highest) (t : BoundaryPart) (m : MayLook h.glance.now.graph k h)
   up b c = is_higher v h.point m.map.sound.graph m.proper h.best b m.best (below_seen v h.point f h.face t b c)
 
   may : (r : Found) → IsFound v f h.point h.face t r → MayLook v k (taken h r)
-  may (At s) c = record { graph = m.graph; map = m.map; glance = m.glance; face = m.face; point = m.point; proper = m.proper; best = m.best; compared = m.compared; hit = c; raised = m.raised }
+  may (At s) c = record { graph = m.graph; map = m.map; glance = m.glance; face = m.face; point = m.point; proper = m.proper; best = m.best; hit = c; raised = m.raised }
   may (Below b) c = record {
     graph = m.graph;
     map = m.map;
@@ -98,7 +103,6 @@ module _ (k h : Highest) (t : BoundaryPart) (m : MayLook h.glance.now.graph k h)
     point = m.point;
     proper = m.proper;
     best = (up b c).below;
-    compared = m.compared;
     hit = m.hit;
     raised = raised_trans v h.point m.raised (up b c).raised;
   }
@@ -114,32 +118,49 @@ module _ (k h : Highest) (t : BoundaryPart) (m : MayLook h.glance.now.graph k h)
   still (Below b) c x y = λ e. clear_still v h.point f h.face (dart_of h.best) (Some (higher_edge h.best b).dart) x (up b c).raised (y e)
   still Past c x y = y
 
--- the same for the graph that is walked on, for what stands after the look, and with the vertex that was compared last
-module _ (v : View) (h l : Highest) (o : Option Compared) (t : BoundaryPart) (r : Found) (kept : IsComparedOrNone h.glance.now.graph h.point o) (found : IsFound h.glance.now.graph (tables_of h.glance.now) h.point h.face t r) (e : l ≡ taken (record h { compared = o }) r) where
-  abbrev held : Highest
-  held = record h { compared = o }
+-- the same for the graph that is walked on, and for what stands after the look
+module _ (v : View) (h l : Highest) (t : BoundaryPart) (r : Found) (found : IsFound h.glance.now.graph (tables_of h.glance.now) h.point h.face t r) (e : l ≡ taken h r) where
+  look_may : (k : Highest) → MayLook v k h → MayLook v k l
+  look_may k m = subst (MayLook v k) (sym e) (subst (λ (w : View). MayLook w k h → MayLook w k (taken h r)) m.graph (λ n. may k h t n r found) m)
 
-  keeps : (k : Highest) → MayLook v k h → MayLook v k held
-  keeps k m = record {
-    graph = m.graph;
-    map = m.map;
-    glance = m.glance;
-    face = m.face;
-    point = m.point;
-    proper = m.proper;
-    best = m.best;
-    compared = subst (λ (w : View). IsComparedOrNone w h.point o) m.graph kept;
-    hit = m.hit;
-    raised = m.raised;
-  }
+  look_seen : (k : Highest) → MayLook v k h → HasSeen v l t
+  look_seen k m = subst (λ (x : Highest). HasSeen v x t) (sym e) (subst (λ (w : View). MayLook w k h → HasSeen w (taken h r) t) m.graph (λ n. seen k h t n r found) m)
 
-  pub look_may : (k : Highest) → MayLook v k h → MayLook v k l
-  look_may k m = subst (MayLook v k) (sym e) (subst (λ (w : View). MayLook w k held → MayLook w k (taken held r)) m.graph (λ n. may k held t n r found) (keeps k m))
-
-  pub look_seen : (k : Highest) → MayLook v k h → HasSeen v l t
-  look_seen k m = subst (λ (x : Highest). HasSeen v x t) (sym e) (subst (λ (w : View). MayLook w k held → HasSeen w (taken held r) t) m.graph (λ n. seen k held t n r found) (keeps k m))
-
-  pub look_still : (k : Highest) → MayLook v k h → (x : BoundaryPart) → HasSeen v h x → HasSeen v l x
+  look_still : (k : Highest) → MayLook v k h → (x : BoundaryPart) → HasSeen v h x → HasSeen v l x
   look_still k m x y =
       subst (λ (z : Highest). HasSeen v z x) (sym e)
-      (subst (λ (w : View). MayLook w k held → HasSeen w held x → HasSeen w (taken held r) x) m.graph (λ n z. still k held t n r found x z) (keeps k m) y)
+      (subst (λ (w : View). MayLook w k h → HasSeen w h x → HasSeen w (taken h r) x) m.graph (λ n z. still k h t n r found x z) m y)
+
+-- ---- a look that is none once the point was met
+met_or_not : (o : Option Spot) → IsSome o ⊎ (o ≡ None)
+met_or_not None = inr refl
+met_or_not (Some s) = inl refl
+
+module _ (v : View) (h l : Highest) (t : BoundaryPart) (c : HasLooked h t l) where
+  pub looked_may : (k : Highest) → MayLook v k h → MayLook v k l
+  looked_may k m = elim (met_or_not h.hit) [
+    | inl s ↦ subst (MayLook v k) (sym (c.met s)) m
+    | inr n ↦ let f = c.found n in look_may v h l t f.0 f.1 f.2 k m
+  ]
+
+  pub looked_seen : (k : Highest) → MayLook v k h → HasSeen v l t
+  looked_seen k m = elim (met_or_not h.hit) [
+    | inl s ↦ λ n. let there = subst IsSome (sym (ap (λ (z : Highest). z.hit) (c.met s)) ∙ n) s in absurd (false≢true there)
+    | inr n ↦ let f = c.found n in look_seen v h l t f.0 f.1 f.2 k m
+  ]
+
+  pub looked_still : (k : Highest) → MayLook v k h → (x : BoundaryPart) → HasSeen v h x → HasSeen v l x
+  looked_still k m x y = elim (met_or_not h.hit) [
+    | inl s ↦ subst (λ (z : Highest). HasSeen v z x) (sym (c.met s)) y
+    | inr n ↦ let f = c.found n in look_still v h l t f.0 f.1 f.2 k m x y
+  ]
+
+-- ---- a dart that the whole parts of its ends rule out
+pub beside_looked : (v : View) (k h : Highest) (d : DartId) (l : Looked) → MayLook v k h → HasDart v d → IsLookOf v (Edge d) l → (at : WholeParts) → at ≡ whole_parts h.point → (told : Bool) → told ≡ is_left_or_right_of at (whole_parts l.source) (whole_parts l.target) → told ≡ true → HasLooked h (Dart d) h
+beside_looked v k h d l m has look at is told e beside =
+    let has' : HasDart h.glance.now.graph d = subst (λ (w : View). HasDart w d) (sym m.graph) has in
+    let look' : IsLookOf h.glance.now.graph (Edge d) l = subst (λ (w : View). IsLookOf w (Edge d) l) (sym m.graph) look in
+    record {
+      met = λ s. refl;
+      found = λ n. (Past, λ own. beside_found h.glance.now.graph (tables_of h.glance.now) m.map.sound.graph h.point m.proper d has' l look' (sym (e ∙ ap (λ (a : WholeParts). is_left_or_right_of a (whole_parts l.source) (whole_parts l.target)) is) ∙ beside), refl);
+    }

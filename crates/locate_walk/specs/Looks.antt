@@ -1,5 +1,5 @@
 -- What is known of the looks at the boundary of a face.
-use Rattle.std.specs.Prelude.{◌≡◌, ◌≢◌, ◌⊎◌, ◌<◌, ⊤, false, cond, Option, Some, None, IfSome}
+use Rattle.std.specs.Prelude.{◌≡◌, ◌≢◌, ◌⊎◌, ◌<◌, ⊤, false, cond, Option, Some, None, IfSome, IsSome}
 use Rattle.exact_plane.specs.Point.{Point}
 use Rattle.plane_graphs.specs.Line.{IsProper}
 use Rattle.slab_laws.specs.declared.names.DartId.{DartId}
@@ -15,8 +15,7 @@ use Rattle.edges_below.specs.Above.{is_above}
 use Rattle.face_location.specs.Below.{IsSeenDart}
 use Rattle.face_location.specs.Spots.{IsSpotOf}
 use Rattle.walk_laws.specs.Walks.{height, IsDartPassed}
-use Rattle.locate_walk.specs.Finds.{is_told_at_twin}
-use Rattle.locate_walk.specs.Passages.{IsComparedOrNone}
+use Rattle.locate_walk.specs.Finds.{is_told_at_twin, IsFound}
 use Rattle.locate_walk.specs.declared.found.EdgeBelow.{EdgeBelow}
 use Rattle.locate_walk.specs.declared.found.Found.{Found}
 use Rattle.locate_walk.specs.declared.found.Found.TheVariants.{At, Below, Past}
@@ -49,12 +48,17 @@ taken h (At s) = record h { hit = Some s }
 taken h (Below e) = record h { best = Some (higher_edge h.best e) }
 taken h Past = h
 
+-- once the point was met, nothing changes; until then, what is found at the part is kept (this project)
+pub record HasLooked (h : Highest) (t : BoundaryPart) (l : Highest) : Type 0 where
+  pub met : IsSome h.hit → l ≡ h
+  pub found : h.hit ≡ None → (r : Found) × IsFound h.glance.now.graph (tables_of h.glance.now) h.point h.face t r × (l ≡ taken h r)
+
 -- the dart is passed, unless it is told at its twin; the point is not at the vertex (this project)
 abbrev pub IsPartClear : View → Faces → Point → FaceId → Option DartId → BoundaryPart → Type 0
 IsPartClear v f q a o (Dart d) = is_told_at_twin v f a d ≡ false → IsDartPassed v q o d
 IsPartClear v f q a o (Isolated w) = point_in v w ≢ q
 
--- the graph looked at is that of the records; the highest so far is one that the point sees, no lower than at first; what was met is where the point lies; and the vertex that was compared last has the order that was kept
+-- the graph looked at is that of the records; the highest so far is one that the point sees, no lower than at first; and what was met is where the point lies
 pub record MayLook (v : View) (k l : Highest) : Type 0 where
   pub graph : l.glance.now.graph ≡ v
   pub map : IsSoundMap l.glance.now
@@ -63,7 +67,6 @@ pub record MayLook (v : View) (k l : Highest) : Type 0 where
   pub point : l.point ≡ k.point
   pub proper : IsProper l.point
   pub best : IsBelowOrNone v l.point l.best
-  pub compared : IsComparedOrNone v l.point l.compared
   pub hit : IfSome l.hit (IsSpotOf v (tables_of l.glance.now) l.point)
   pub raised : IsRaised v l.point (dart_of k.best) (dart_of l.best)
 

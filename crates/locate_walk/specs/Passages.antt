@@ -1,10 +1,8 @@
 -- How a dart lies to the leant vertical through a point, by its ends.
-use Rattle.std.specs.Prelude.{◌≡◌, ◌≢◌, ⊤, Bool, true, false, Option, Some, None}
+use Rattle.std.specs.Prelude.{◌≡◌, ◌≢◌, Bool, true, false}
 use Rattle.std.specs.declared.cmp.Ordering.TheVariants.{Less}
 use Rattle.exact_plane.specs.Point.{Point}
 use Rattle.exact_plane.specs.PointOrder.{point_cmp}
-use Rattle.slab_laws.specs.View.{View, point_in}
-use Rattle.locate_walk.specs.declared.passage.Compared.{Compared}
 use Rattle.locate_walk.specs.declared.passage.Passage.{Passage}
 use Rattle.locate_walk.specs.declared.passage.Passage.TheVariants.{FromPoint, ToPoint, Forward, Backward, Apart}
 
@@ -34,8 +32,3 @@ spans Backward = true
 spans FromPoint = false
 spans ToPoint = false
 spans Apart = false
-
--- none, or a vertex with the order of its point and the point q (this project)
-abbrev pub IsComparedOrNone : View → Point → Option Compared → Type 0
-IsComparedOrNone v q None = ⊤
-IsComparedOrNone v q (Some c) = c.order ≡ point_cmp (point_in v c.vertex) q

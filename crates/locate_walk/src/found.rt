@@ -1,4 +1,4 @@
-ghost use Rattle.std.specs.Prelude.{◌≡◌, ◌+◌};
+ghost use Rattle.std.specs.Prelude.{◌≡◌};
 ghost use Rattle.exact_plane.specs.Span.{AreOnWay};
 ghost use Rattle.slab_laws.specs.View.{HasDart};
 ghost use Rattle.counted_looks.specs.Looks.{IsLookOf};
@@ -7,15 +7,13 @@ ghost use Rattle.dcel_records.specs.RecordsView.{tables_of};
 ghost use Rattle.dcel_records.specs.SoundMaps.{IsSoundMap};
 ghost use Rattle.dcel_records.specs.declared.spot.Spot.TheVariants.{Edge};
 ghost use Rattle.locate_walk.specs.Finds.{IsFound, IsFoundAtDart, IsSided, is_told_at_twin};
-ghost use Rattle.locate_walk.specs.Passages.{IsPassage, IsComparedOrNone};
+ghost use Rattle.locate_walk.specs.Passages.{IsPassage};
 
-use crate::passage::{Compared, Passage, passage_of};
+use crate::passage::{Passage, passage_of};
 use counted_looks::{Glance, Glimpse, NameCalls};
 use dcel_records::Spot;
 use exact_plane::{Line, Point, Sign, Span, side};
 use slab_laws::{DartId, FaceId};
-use std::sync::ledger::Ledger;
-use work_steps::Steps;
 
 /// An edge that a point sees below it, with its dart from the lower to the upper end.
 #[derive(Clone, Copy)]
@@ -65,8 +63,7 @@ pub fn is_told_at_twin(glance: &Glance, face: FaceId, dart: DartId) -> bool
     twin.0 < dart.0 && glance.face(glance.cycle(twin)) == face
 }
 
-/// What a look at a dart finds, whichever way it goes. Its ends were compared first, which rules out nearly all darts.
-#[inline(always)]
+/// What a look at a dart finds, whichever way it goes. Its ends were compared first.
 pub fn found_at_dart(
     glance: &Glance,
     dart: DartId,
@@ -99,29 +96,17 @@ pub fn found_at_dart(
 }
 
 /// What one look at a dart on the boundary of a face finds for a point. An edge that spans it, of which both darts are there, is told
-/// at one of them; at the other one nothing is found. How the vertex that was compared last lies to the point is kept.
-#[inline(always)]
-pub fn find<L: Ledger>(
-    glance: &Glance,
-    face: FaceId,
-    dart: DartId,
-    point: &Point,
-    last: &mut Option<Compared>,
-    steps: &mut Steps<L>,
-) -> Found
+/// at one of them; at the other one nothing is found.
+pub fn find(glance: &Glance, face: FaceId, dart: DartId, looked: &Glimpse, point: &Point) -> Found
     requires map { IsSoundMap glance.now }
     requires dart { HasDart glance.now.graph dart }
-    requires last { IsComparedOrNone glance.now.graph point.now last.old }
-    ensures found { IsFound glance.now.graph (tables_of glance.now) point.now face (Dart dart) result }
-    ensures last { IsComparedOrNone glance.now.graph point.now last.new }
-    ensures one { steps.new ≡ steps.old + 1 }
+    requires looked { IsLookOf glance.now.graph (Edge dart) looked.now }
+    ensures { IsFound glance.now.graph (tables_of glance.now) point.now face (Dart dart) result }
 {
-    let looked = glance.glimpse(dart, steps);
-    let passage = passage_of(glance, dart, &looked, point, last);
-    // The names are asked of edges that span the point alone: all others are ruled out by one comparison, which the next dart needs
-    // anyway.
+    let passage = passage_of(looked, point);
+    // The names are asked of edges that span the point alone.
     if passage.spans() && is_told_at_twin(glance, face, dart) {
         return Found::Past;
     }
-    found_at_dart(glance, dart, &looked, point, passage)
+    found_at_dart(glance, dart, looked, point, passage)
 }

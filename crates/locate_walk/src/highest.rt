@@ -1,18 +1,22 @@
 ghost use Rattle.std.specs.Prelude.{◌≡◌};
-ghost use Rattle.locate_walk.specs.Looks.{higher_edge, taken};
+ghost use Rattle.slab_laws.specs.View.{HasDart};
+ghost use Rattle.counted_looks.specs.Looks.{IsLookOf};
+ghost use Rattle.counted_looks.specs.declared.boundary_part.BoundaryPart.TheVariants.{Dart};
+ghost use Rattle.dcel_records.specs.SoundMaps.{IsSoundMap};
+ghost use Rattle.dcel_records.specs.declared.spot.Spot.TheVariants.{Edge};
+ghost use Rattle.locate_walk.specs.Looks.{higher_edge, taken, HasLooked};
 
 use crate::found::{EdgeBelow, Found, find};
-use crate::passage::Compared;
-use counted_looks::{BoundaryPart, Glance, Looker};
+use counted_looks::{BoundaryPart, Glance, Glimpse, Looker};
 use dcel_records::Spot;
 use edges_below::is_above;
 use exact_plane::Point;
-use slab_laws::FaceId;
+use slab_laws::{DartId, FaceId};
 use std::sync::ledger::Ledger;
 use work_steps::Steps;
 
-/// What looks at the darts on the boundary of a face find for a point: where the point is, once it was met, and until then the highest edge that
-/// the point sees below it. The vertex that was compared with the point last is kept, since the next dart on a cycle starts there.
+/// What looks at the darts on the boundary of a face find for a point: where the point is, once it was met, and until then the
+/// highest edge that the point sees below it.
 #[derive(Drop)]
 pub struct Highest<'a, 'r> {
     pub glance: &'a Glance<'r>,
@@ -20,7 +24,6 @@ pub struct Highest<'a, 'r> {
     pub point: Point,
     pub hit: Option<Spot>,
     pub best: Option<EdgeBelow>,
-    pub compared: Option<Compared>,
 }
 
 // The higher of the highest edge so far and one more.
@@ -40,6 +43,22 @@ fn higher(best: Option<EdgeBelow>, edge: EdgeBelow) -> EdgeBelow
 }
 
 impl<'a, 'r> Highest<'a, 'r> {
+    // What a dart tells that whole parts don't rule out. After the point was met, none tells more. A function of its own, so that the
+    // look, which is inlined, stays short.
+    #[inline(never)]
+    fn look_closely(&mut self, dart: DartId, looked: &Glimpse)
+        requires map { IsSoundMap self.old.glance.now }
+        requires dart { HasDart self.old.glance.now.graph dart }
+        requires looked { IsLookOf self.old.glance.now.graph (Edge dart) looked.now }
+        ensures { HasLooked self.old (Dart dart) self.new }
+    {
+        if self.hit.is_some() {
+            return;
+        }
+        let found = find(self.glance, self.face, dart, looked, &self.point);
+        self.take(found);
+    }
+
     /// Keeps what was found.
     pub fn take(&mut self, found: Found)
         ensures { self.new ≡ taken self.old found }
@@ -59,26 +78,17 @@ impl<'a, 'r> Looker<Glance<'r>> for Highest<'a, 'r> {
 
     ghost has_seen = { HasSeenDart };
 
-    // The looks go to the looker's own records, of which the faces are known too: they have the graph that is walked on. After the
-    // point was met, they only tick, as at an isolated vertex: the point isn't there.
-    fn look<L: Ledger>(&mut self, _sight: &Glance<'r>, at: BoundaryPart, steps: &mut Steps<L>) {
-        if self.hit.is_some() {
-            steps.tick();
-            return;
-        }
+    // The whole parts of its ends rule out nearly each dart. A closer look goes to the looker's own records, of which the faces are known
+    // too: they have the graph that is walked on. An isolated vertex isn't looked at: the point isn't there.
+    #[inline(always)]
+    fn look<L: Ledger>(&mut self, sight: &Glance<'r>, at: BoundaryPart, steps: &mut Steps<L>) {
         match at {
             BoundaryPart::Dart(dart) => {
-                let mut compared = self.compared;
-                let found = find(
-                    self.glance,
-                    self.face,
-                    dart,
-                    &self.point,
-                    &mut compared,
-                    steps,
-                );
-                self.compared = compared;
-                self.take(found);
+                let looked = sight.glimpse(dart, steps);
+                if looked.is_left_or_right_of(self.point.whole_parts()) {
+                    return;
+                }
+                self.look_closely(dart, &looked);
             }
             BoundaryPart::Isolated(_) => steps.tick(),
         }

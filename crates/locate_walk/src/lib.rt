@@ -15,5 +15,5 @@ mod walk;
 
 pub use found::{EdgeBelow, Found, found_at_dart, is_told_at_twin, span_between};
 pub use highest::Highest;
-pub use passage::{Compared, Passage, passage_of};
+pub use passage::{Passage, passage_of};
 pub use walk::{climb, face_over, locate};

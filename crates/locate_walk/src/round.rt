@@ -50,7 +50,6 @@ pub fn look_round<L: Ledger>(
         point: *point,
         hit: None,
         best: last,
-        compared: None,
     };
     look_at_cycles(&mut highest, glance, face, steps);
     match highest.hit {

@@ -14,15 +14,15 @@ use Rattle.locate_landmarks.proofs.round.look_round.Goals as goal
 pub look_at_boundary-requires-clause-ready : goal.look_at_boundary-requires-clause-ready
 look_at_boundary-requires-clause-ready g c =
     let v = graph_of c.args.glance.now in
-    let k : Survey = record { highest = record { glance = c.args.glance; face = c.args.face; point = c.args.point.now; hit = None; best = None; compared = None }; descent = c.args.descent.now } in
-    let first = begun k c.requires.map (point_is_proper c.args.point.now c.laws.ensures) refl refl refl c.requires.lowest in
+    let k : Survey = record { highest = record { glance = c.args.glance; face = c.args.face; point = c.args.point.now; hit = None; best = None }; descent = c.args.descent.now } in
+    let first = begun k c.requires.map (point_is_proper c.args.point.now c.laws.ensures) refl refl c.requires.lowest in
     (k, first)
 
 pub face_over-requires-clause-edge : goal.face_over-requires-clause-edge
 face_over-requires-clause-edge g c =
     let v = graph_of c.args.glance.now in
-    let k : Survey = record { highest = record { glance = c.args.glance; face = c.args.face; point = c.args.point.now; hit = None; best = None; compared = None }; descent = c.args.descent.now } in
-    let first = begun k c.requires.map (point_is_proper c.args.point.now c.laws.ensures) refl refl refl c.requires.lowest in
+    let k : Survey = record { highest = record { glance = c.args.glance; face = c.args.face; point = c.args.point.now; hit = None; best = None }; descent = c.args.descent.now } in
+    let first = begun k c.requires.map (point_is_proper c.args.point.now c.laws.ensures) refl refl c.requires.lowest in
     let l = c.look_at_boundary.new.looker in
     let m = c.look_at_boundary.ensures.ready k first in
     (l.highest.point, m.highest.best)
@@ -30,8 +30,8 @@ face_over-requires-clause-edge g c =
 pub returns-in-Some-clause-round : goal.returns-in-Some-clause-round
 returns-in-Some-clause-round g c =
     let v = graph_of c.args.glance.now in
-    let k : Survey = record { highest = record { glance = c.args.glance; face = c.args.face; point = c.args.point.now; hit = None; best = None; compared = None }; descent = c.args.descent.now } in
-    let first = begun k c.requires.map (point_is_proper c.args.point.now c.laws.ensures) refl refl refl c.requires.lowest in
+    let k : Survey = record { highest = record { glance = c.args.glance; face = c.args.face; point = c.args.point.now; hit = None; best = None }; descent = c.args.descent.now } in
+    let first = begun k c.requires.map (point_is_proper c.args.point.now c.laws.ensures) refl refl c.requires.lowest in
     let l = c.look_at_boundary.new.looker in
     let m = c.look_at_boundary.ensures.ready k first in
     round_hit v k.highest l.highest m.highest c.in-Some.spot c.in-Some.is
@@ -39,8 +39,8 @@ returns-in-Some-clause-round g c =
 pub returns-then-eq-clause-round : goal.returns-then-eq-clause-round
 returns-then-eq-clause-round g c =
     let v = graph_of c.args.glance.now in
-    let k : Survey = record { highest = record { glance = c.args.glance; face = c.args.face; point = c.args.point.now; hit = None; best = None; compared = None }; descent = c.args.descent.now } in
-    let first = begun k c.requires.map (point_is_proper c.args.point.now c.laws.ensures) refl refl refl c.requires.lowest in
+    let k : Survey = record { highest = record { glance = c.args.glance; face = c.args.face; point = c.args.point.now; hit = None; best = None }; descent = c.args.descent.now } in
+    let first = begun k c.requires.map (point_is_proper c.args.point.now c.laws.ensures) refl refl c.requires.lowest in
     let l = c.look_at_boundary.new.looker in
     let m = c.look_at_boundary.ensures.ready k first in
     settled_here v (tables_of c.args.glance.now) c.args.point.now c.args.face c.face_over.result l.highest.best c.requires.map.sound (point_is_proper c.args.point.now c.laws.ensures)
@@ -50,8 +50,8 @@ returns-then-eq-clause-round g c =
 pub returns-else-eq-clause-round : goal.returns-else-eq-clause-round
 returns-else-eq-clause-round g c =
     let v = graph_of c.args.glance.now in
-    let k : Survey = record { highest = record { glance = c.args.glance; face = c.args.face; point = c.args.point.now; hit = None; best = None; compared = None }; descent = c.args.descent.now } in
-    let first = begun k c.requires.map (point_is_proper c.args.point.now c.laws.ensures) refl refl refl c.requires.lowest in
+    let k : Survey = record { highest = record { glance = c.args.glance; face = c.args.face; point = c.args.point.now; hit = None; best = None }; descent = c.args.descent.now } in
+    let first = begun k c.requires.map (point_is_proper c.args.point.now c.laws.ensures) refl refl c.requires.lowest in
     let l = c.look_at_boundary.new.looker in
     let m = c.look_at_boundary.ensures.ready k first in
     let same = m.highest.point in (

@@ -1,53 +1,54 @@
-use Rattle.std.proofs.Common.{sym, inl, refl, subst}
+use Rattle.std.proofs.Common.{sym, ap, inl, subst}
 use Rattle.slab_laws.specs.View.{View}
 use Rattle.counted_looks.specs.declared.boundary_part.BoundaryPart.{BoundaryPart}
-use Rattle.dcel_records.specs.RecordsView.{graph_of, tables_of}
-use Rattle.locate_walk.specs.Finds.{IsFound}
-use Rattle.locate_walk.specs.Passages.{IsComparedOrNone}
-use Rattle.locate_walk.proofs.Takes.{look_seen, look_still}
+use Rattle.counted_looks.specs.declared.boundary_part.BoundaryPart.TheVariants.{Isolated}
+use Rattle.counted_looks.specs.Boundaries.{HasPart}
+use Rattle.dcel_records.specs.RecordsView.{graph_of}
+use Rattle.locate_walk.specs.Looks.{HasSeen}
+use Rattle.locate_walk.proofs.Takes.{looked_seen, looked_still, beside_looked}
 use Rattle.locate_landmarks.specs.Lowest.{IsAbove}
+use Rattle.locate_landmarks.specs.Surveys.{HasSurveyedPart}
+use Rattle.locate_landmarks.specs.declared.descent.Descent.{Descent}
 use Rattle.locate_landmarks.proofs.Surveyed.{survey_may}
 use Rattle.locate_landmarks.proofs.survey.SurveyLookerGlance.look.Goals as goal
 
-pub returns-in-Dart-clause-ready : goal.returns-in-Dart-clause-ready
-returns-in-Dart-clause-ready g c = λ k m.
-    let h = c.args.self.now.highest in
-    let found = subst (λ (t : BoundaryPart). IsFound h.glance.now.graph (tables_of h.glance.now) h.point h.face t c.find_at_dart-found.result) (sym c.in-Dart.is) c.find_at_dart-found.ensures.found in
-    survey_may (graph_of c.args._sight.now) k c.args.self.now m c.take.new.self c.find_at_dart-found.new.last c.args.at c.find_at_dart-found.result c.find_at_dart-found.ensures.last found c.take.ensures
-    c.find_at_dart-found.new.descent c.find_at_dart-found.ensures.lowest c.find_at_dart-found.ensures.lowered
+pub look_closely-requires-clause-lowest : goal.look_closely-requires-clause-lowest
+look_closely-requires-clause-lowest g c =
+    let m = c.requires.ready.1 in
+    subst (λ (w : View). IsAbove w c.args.self.now.highest.point c.args.self.now.descent.lowest) (sym m.highest.graph) m.lowest
 
-pub returns-in-Dart-clause-seen : goal.returns-in-Dart-clause-seen
-returns-in-Dart-clause-seen g c =
+pub returns-then-is_left_or_right_of-clause-seen : goal.returns-then-is_left_or_right_of-clause-seen
+returns-then-is_left_or_right_of-clause-seen g c =
+    let v = graph_of c.args.sight.now in
     let h = c.args.self.now.highest in
-    let found = subst (λ (t : BoundaryPart). IsFound h.glance.now.graph (tables_of h.glance.now) h.point h.face t c.find_at_dart-found.result) (sym c.in-Dart.is) c.find_at_dart-found.ensures.found in
-    look_seen (graph_of c.args._sight.now) h c.take.new.self c.find_at_dart-found.new.last c.args.at c.find_at_dart-found.result c.find_at_dart-found.ensures.last found c.take.ensures c.requires.ready.0.highest c.requires.ready.1.highest
+    let k = c.requires.ready.0.highest in
+    let m = c.requires.ready.1.highest in
+    let has = subst (HasPart v) c.in-Dart.is c.requires.at in
+    let beside = beside_looked v k h c.in-Dart.dart c.glimpse-looked.result m has c.glimpse-looked.ensures.look c.whole_parts.result c.whole_parts.ensures c.is_left_or_right_of.result c.is_left_or_right_of.ensures c.if-is_left_or_right_of.true in
+    subst (λ (t : BoundaryPart). HasSeen v h t) (sym c.in-Dart.is) (looked_seen v h h _ beside k m)
 
-pub returns-in-Dart-clause-still : goal.returns-in-Dart-clause-still
-returns-in-Dart-clause-still g c =
-    let h = c.args.self.now.highest in
-    let found = subst (λ (t : BoundaryPart). IsFound h.glance.now.graph (tables_of h.glance.now) h.point h.face t c.find_at_dart-found.result) (sym c.in-Dart.is) c.find_at_dart-found.ensures.found in
-    look_still (graph_of c.args._sight.now) h c.take.new.self c.find_at_dart-found.new.last c.args.at c.find_at_dart-found.result c.find_at_dart-found.ensures.last found c.take.ensures c.requires.ready.0.highest c.requires.ready.1.highest
+pub returns-else-is_left_or_right_of-clause-ready : goal.returns-else-is_left_or_right_of-clause-ready
+returns-else-is_left_or_right_of-clause-ready g c = survey_may (graph_of c.args.sight.now) c.args.self.now c.look_closely.new.self _ c.look_closely.ensures
+
+pub returns-else-is_left_or_right_of-clause-seen : goal.returns-else-is_left_or_right_of-clause-seen
+returns-else-is_left_or_right_of-clause-seen g c =
+    let v = graph_of c.args.sight.now in
+    let l = c.look_closely.new.self.highest in
+    subst (λ (t : BoundaryPart). HasSeen v l t) (sym c.in-Dart.is)
+    (looked_seen v c.args.self.now.highest l _ c.look_closely.ensures.highest c.requires.ready.0.highest c.requires.ready.1.highest)
+
+pub returns-else-is_left_or_right_of-clause-still : goal.returns-else-is_left_or_right_of-clause-still
+returns-else-is_left_or_right_of-clause-still g c =
+    looked_still (graph_of c.args.sight.now) c.args.self.now.highest c.look_closely.new.self.highest _ c.look_closely.ensures.highest c.requires.ready.0.highest c.requires.ready.1.highest
 
 pub returns-in-Isolated-clause-ready : goal.returns-in-Isolated-clause-ready
 returns-in-Isolated-clause-ready g c = λ k m.
-    let h = c.args.self.now.highest in
-    let found = subst (λ (t : BoundaryPart). IsFound h.glance.now.graph (tables_of h.glance.now) h.point h.face t c.find_at_vertex-found.result) (sym c.in-Isolated.is) (c.find_at_vertex-found.ensures.found h.face) in
-    let kept = subst (λ (w : View). IsComparedOrNone w h.point h.compared) (sym m.highest.graph) m.highest.compared in
-    let above = subst (λ (w : View). IsAbove w h.point c.args.self.now.descent.lowest) (sym m.highest.graph) m.lowest in
-    survey_may (graph_of c.args._sight.now) k c.args.self.now m c.take-in-Isolated.new.self h.compared c.args.at c.find_at_vertex-found.result kept found c.take-in-Isolated.ensures c.args.self.now.descent above (inl refl)
-
-pub returns-in-Isolated-clause-seen : goal.returns-in-Isolated-clause-seen
-returns-in-Isolated-clause-seen g c =
-    let h = c.args.self.now.highest in
-    let m = c.requires.ready.1.highest in
-    let found = subst (λ (t : BoundaryPart). IsFound h.glance.now.graph (tables_of h.glance.now) h.point h.face t c.find_at_vertex-found.result) (sym c.in-Isolated.is) (c.find_at_vertex-found.ensures.found h.face) in
-    let kept = subst (λ (w : View). IsComparedOrNone w h.point h.compared) (sym m.graph) m.compared in
-    look_seen (graph_of c.args._sight.now) h c.take-in-Isolated.new.self h.compared c.args.at c.find_at_vertex-found.result kept found c.take-in-Isolated.ensures c.requires.ready.0.highest m
-
-pub returns-in-Isolated-clause-still : goal.returns-in-Isolated-clause-still
-returns-in-Isolated-clause-still g c =
-    let h = c.args.self.now.highest in
-    let m = c.requires.ready.1.highest in
-    let found = subst (λ (t : BoundaryPart). IsFound h.glance.now.graph (tables_of h.glance.now) h.point h.face t c.find_at_vertex-found.result) (sym c.in-Isolated.is) (c.find_at_vertex-found.ensures.found h.face) in
-    let kept = subst (λ (w : View). IsComparedOrNone w h.point h.compared) (sym m.graph) m.compared in
-    look_still (graph_of c.args._sight.now) h c.take-in-Isolated.new.self h.compared c.args.at c.find_at_vertex-found.result kept found c.take-in-Isolated.ensures c.requires.ready.0.highest m
+    let h = c.args.self.now in
+    let above = subst (λ (w : View). IsAbove w h.highest.point h.descent.lowest) (sym m.highest.graph) m.lowest in
+    let l = c.look_at_vertex.new.self in
+    let part : HasSurveyedPart h (Isolated c.in-Isolated.vertex) l = record {
+      highest = c.look_at_vertex.ensures.looked;
+      lowest = subst (λ (d : Descent). IsAbove h.highest.glance.now.graph h.highest.point d.lowest) (sym c.look_at_vertex.ensures.descent) above;
+      lowered = inl (ap (λ (d : Descent). d.lowest) c.look_at_vertex.ensures.descent);
+    } in
+    survey_may (graph_of c.args.sight.now) h l _ part k m
