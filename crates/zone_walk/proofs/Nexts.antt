@@ -11,6 +11,7 @@ use Rattle.exact_plane.specs.PointOrder.{point_cmp}
 use Rattle.exact_plane.specs.Segment.{Segment, AreEnds, line_of_segment}
 use Rattle.exact_plane.specs.Span.{IsSpan, span_of_segment}
 use Rattle.std.specs.declared.cmp.Ordering.TheVariants.{Less}
+use Rattle.exact_plane.specs.WholeParts.{bounding_box}
 use Rattle.plane_graphs.specs.Ascending.{Member}
 use Rattle.plane_graphs.specs.Line.{IsProper, precedes}
 use Rattle.plane_graphs.proofs.Ascending.{All-member, to_member, from_std}
@@ -106,7 +107,7 @@ module _ (q : Point) (at : Spot) (es : Entries) (ascend : IsStrictlySortedBy poi
   after_first r m = record { is = All-member (λ x. point_cmp q x ≡ Less) r (keys_of es) (from_std point_cmp (keys_of ((q, at) ∷ es)) ascend).0 m }
 
 -- ---- from one meeting point to the next
-module _ (v : View) (f : Faces) (g : Segment) (l m : Search) (p q : Point) (a : IsSearchAt v f g p l) (n : IsNextMeeting v g p q) (segment : m.segment ≡ l.segment) (here : m.here ≡ q) (visited : m.visited ≡ l.visited) (whole : m.whole ≡ l.whole) where
+module _ (v : View) (f : Faces) (g : Segment) (l m : Search) (p q : Point) (a : IsSearchAt v f g p l) (n : IsNextMeeting v g p q) (segment : m.segment ≡ l.segment) (here : m.here ≡ q) (visited : m.visited ≡ l.visited) (whole : m.whole ≡ l.whole) (bounds : m.bounds ≡ l.bounds) where
   module _ (only : (r : Point) (at : Spot) → Member (r, at) m.found.entries → Member (r, at) l.found.entries × (r ≢ q)) (kept : (r : Point) → Member r (keys_of l.found.entries) → r ≢ q → Member r (keys_of m.found.entries)) where
     pub found_before : AreFoundAfter v g p l.found.entries
     found_before = subst (λ (z : Segment). AreFoundAfter v z p l.found.entries) a.segment (subst (λ (z : Point). AreFoundAfter v l.segment z l.found.entries) a.here a.search.found)
@@ -132,11 +133,12 @@ module _ (v : View) (f : Faces) (g : Segment) (l m : Search) (p q : Point) (a : 
     pub moved : IsSearchAt v f g q m
     moved = record {
       search = record {
-        one = record { segment = refl; here = refl; visited = refl; whole = refl; failed = λ e. e };
+        one = record { segment = refl; here = refl; visited = refl; whole = refl; bounds = refl; failed = λ e. e };
         sound = a.search.sound;
         ends = subst AreEnds (sym segment) a.search.ends;
         whole = subst (λ (z : Segment). IsSpan (span_of_segment z)) (sym segment) a.search.whole;
         spanned = whole ∙ a.search.spanned ∙ ap span_of_segment (sym segment);
+        boxed = bounds ∙ a.search.boxed ∙ ap bounding_box (sym whole);
         from = (λ i. precedes (here i) (same_segment i).lower) ∙ not_true (precedes q g.lower) (λ e. lt_never (lt_trans (le_lt_lt (at_most g.lower p (sym (λ i. precedes (a.here i) (a.segment i).lower) ∙ a.search.from)) (lt_out p q n.later)) (lt_out q g.lower e)));
         found = subst (λ (z : Segment). AreFoundAfter v z m.here m.found.entries) (sym same_segment) (subst (λ (z : Point). AreFoundAfter v g z m.found.entries) (sym here) found_after);
         kept = λ r i. i;
@@ -232,7 +234,7 @@ module _ (v : View) (f : Faces) (S : IsSound v f) (g : Segment) (c : IsCourse g)
           (subst (IsNextMeeting v g p) u z.1, subst (λ (x : Point). IsSpotOf v f x (Face a)) u (face_at v f S g c p proper on before a none tells z.0 z.1 h))
 
 -- ---- one more face visited
-module _ (v : View) (f : Faces) (l m n : Search) (a : IsSearchAt v f l.segment l.here l) (face : FaceId) (ready : IsSearchFrom v l m) (seen : (t : BoundaryPart) → IsOnBoundary v f face t → HasSeen v m t) (failed : m.failed ≡ false) (segment : n.segment ≡ m.segment) (here : n.here ≡ m.here) (whole : n.whole ≡ m.whole) (entries : n.found.entries ≡ m.found.entries) (more : (b : ℕ) → contains nat_cmp n.visited b ≡ cond (is_eq (nat_cmp face.0 b)) true (contains nat_cmp m.visited b)) where
+module _ (v : View) (f : Faces) (l m n : Search) (a : IsSearchAt v f l.segment l.here l) (face : FaceId) (ready : IsSearchFrom v l m) (seen : (t : BoundaryPart) → IsOnBoundary v f face t → HasSeen v m t) (failed : m.failed ≡ false) (segment : n.segment ≡ m.segment) (here : n.here ≡ m.here) (whole : n.whole ≡ m.whole) (bounds : n.bounds ≡ m.bounds) (entries : n.found.entries ≡ m.found.entries) (more : (b : ℕ) → contains nat_cmp n.visited b ≡ cond (is_eq (nat_cmp face.0 b)) true (contains nat_cmp m.visited b)) where
   taken_now : (t : BoundaryPart) → IsOnBoundary v f face t → IsPartTaken v l.segment l.here m.found.entries t
   taken_now t o =
       subst (λ (z : Segment). IsPartTaken v z l.here m.found.entries t) ready.one.segment
@@ -245,11 +247,12 @@ module _ (v : View) (f : Faces) (l m n : Search) (a : IsSearchAt v f l.segment l
   pub visited_one : IsSearchAt v f l.segment l.here n
   visited_one = record {
     search = record {
-      one = record { segment = refl; here = refl; visited = refl; whole = refl; failed = λ e. e };
+      one = record { segment = refl; here = refl; visited = refl; whole = refl; bounds = refl; failed = λ e. e };
       sound = ready.sound;
       ends = subst AreEnds (sym segment) ready.ends;
       whole = subst (λ (z : Segment). IsSpan (span_of_segment z)) (sym segment) ready.whole;
       spanned = whole ∙ ready.spanned ∙ ap span_of_segment (sym segment);
+      boxed = bounds ∙ ready.boxed ∙ ap bounding_box (sym whole);
       from = (λ i. precedes (here i) (segment i).lower) ∙ ready.from;
       found = subst (λ (z : Segment). AreFoundAfter v z n.here n.found.entries) (sym segment) (subst (λ (z : Point). AreFoundAfter v m.segment z n.found.entries) (sym here) (subst (AreFoundAfter v m.segment m.here) (sym entries) ready.found));
       kept = λ r i. i;

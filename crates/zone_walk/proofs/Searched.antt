@@ -25,12 +25,14 @@ use Rattle.dcel_records.specs.declared.spot.Spot.TheVariants.{Vertex, Edge}
 use Rattle.sound_views.proofs.ForwardDarts.{is_behind, target_has}
 use Rattle.zone_walk.specs.Searches.{AreKept, IsOnEdge, IsThere, AreFoundAfter, IsPartTaken, IsOneSearch, IsSearchFrom, HasSeen, points_of_meet}
 use Rattle.zone_walk.specs.Sights.{IsDartMet, IsVertexMet, span_in, is_on_span, meet_between}
-use Rattle.zone_walk.specs.declared.sight.CommonPoints.{CommonPoints}
+use Rattle.zone_walk.specs.declared.edge_points.CommonPoints.{CommonPoints}
 use Rattle.zone_walk.specs.Zone.{is_on_segment, meeting_points}
 use Rattle.zone_walk.specs.declared.search.Search.{Search}
 use Rattle.zone_walk.proofs.Aheads.{at_most}
 use Rattle.zone_walk.proofs.Courses.{course, lies_in}
+use Rattle.exact_plane.specs.WholeParts.{bounding_box, excludes, whole_parts}
 use Rattle.zone_walk.proofs.MeetingPoints.{vertex}
+use Rattle.zone_walk.proofs.OutsideBox.{outside_missed}
 use Rattle.zone_walk.proofs.SeenMeetings.{is_told, is_sound}
 use Rattle.zone_walk.proofs.Stretches.{listed, told, meets_lies}
 
@@ -55,7 +57,7 @@ module _ (v : View) (s : IsGraphSound v) (d : DartId) (has : HasDart v d) (p : P
 
 -- ---- searches
 pub one_on : (k l m : Search) → IsOneSearch k l → IsOneSearch l m → IsOneSearch k m
-one_on k l m a b = record { segment = b.segment ∙ a.segment; here = b.here ∙ a.here; visited = b.visited ∙ a.visited; whole = b.whole ∙ a.whole; failed = λ e. a.failed (b.failed e) }
+one_on k l m a b = record { segment = b.segment ∙ a.segment; here = b.here ∙ a.here; visited = b.visited ∙ a.visited; whole = b.whole ∙ a.whole; bounds = b.bounds ∙ a.bounds; failed = λ e. a.failed (b.failed e) }
 
 pub kept_on : (a b c : List (Point × Spot)) → AreKept a b → AreKept b c → AreKept a c
 kept_on a b c f g p m = g p (f p m)
@@ -88,6 +90,7 @@ goes_on v P o k l h one kept sound only = record {
   ends = subst (λ (z : Segment). AreEnds z) (sym one.segment) h.ends;
   whole = subst (λ (z : Segment). IsSpan (span_of_segment z)) (sym one.segment) h.whole;
   spanned = one.whole ∙ h.spanned ∙ ap span_of_segment (sym one.segment);
+  boxed = one.bounds ∙ h.boxed ∙ ap bounding_box (sym one.whole);
   from = (λ i. precedes (one.here i) (one.segment i).lower) ∙ h.from;
   found =
       subst (λ (z : Segment). AreFoundAfter v z l.here l.found.entries) (sym one.segment)
@@ -117,6 +120,14 @@ module _ (v : View) (o k : Search) (h : IsSearchFrom v o k) (d : DartId) (has : 
       no_point : {p : Point} → None ≡ Some p → ⊥
       no_point e = cc
 
+  -- the box of the segment rules the dart out, by its two points as they were told
+  pub outside_taken : (p q : Point) → p ≡ point_in v (source_in v d) → q ≡ point_in v (target_in v d) → excludes k.bounds (whole_parts p) (whole_parts q) ≡ true → (es : List (Point × Spot)) → IsPartTaken v k.segment k.here es (Dart d)
+  outside_taken p q e f out es = λ r on c l.
+      absurd
+      (outside_missed v h.sound d has k.segment (course k.segment h.ends)
+      ((λ i. excludes (sym (h.boxed ∙ ap bounding_box h.spanned) i) (whole_parts (sym e i)) (whole_parts (sym f i))) ∙ out)
+      r (told v h.sound k.segment (course k.segment h.ends) r c) on)
+
   module _ (c : CommonPoints) (met : IsDartMet v k.whole d c) where
     is_meet : IsMeeting (span_of_segment k.segment) (span_in v d) (meet_between c.first c.last)
     is_meet = of_segment (meet_between c.first c.last) met.meet
@@ -138,8 +149,8 @@ module _ (v : View) (o k : Search) (h : IsSearchFrom v o k) (w : VertexId) (has 
   of_whole : is_on_span k.whole (point_in v w) ≡ is_on_segment k.segment (point_in v w)
   of_whole = ap (λ (z : Span). is_on_span z (point_in v w)) h.spanned
 
-  pub vertex_meets : (c : CommonPoints) → IsVertexMet v k.whole w c → Contains (meeting_points v k.segment) c.first
-  vertex_meets c met = listed v h.sound k.segment (course k.segment h.ends) c.first (vertex w has met.first (ap (is_on_segment k.segment) met.first ∙ sym of_whole ∙ met.on))
+  pub vertex_meets : (p : Point) → IsVertexMet v k.whole w (Some p) → Contains (meeting_points v k.segment) p
+  vertex_meets p met = listed v h.sound k.segment (course k.segment h.ends) p (vertex w has met.0 (ap (is_on_segment k.segment) met.0 ∙ sym of_whole ∙ met.1))
 
   pub vertex_missed : is_on_span k.whole (point_in v w) ≡ false → Contains (meeting_points v k.segment) (point_in v w) → ⊥
   vertex_missed e c = clash (lies_in k.segment (point_in v w) (meets_lies v h.sound k.segment (course k.segment h.ends) (point_in v w) (told v h.sound k.segment (course k.segment h.ends) (point_in v w) c))) (sym of_whole ∙ e)

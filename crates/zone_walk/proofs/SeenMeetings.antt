@@ -1,5 +1,5 @@
 -- What a segment and the edge of a dart have in common tells the meeting points on the edge and at its ends.
-use Rattle.std.proofs.Common.{◌≡◌, Some, Bool, true, false, Contains, List, refl, sym, ap, ◌∙◌, subst, inl, inr, ◌⊎◌, ⊎_elim}
+use Rattle.std.proofs.Common.{◌≡◌, Some, true, Contains, List, refl, sym, ap, ◌∙◌, subst, inl, inr, ◌⊎◌, ⊎_elim}
 use Rattle.exact_plane.specs.Line.{Line, IsOn}
 use Rattle.exact_plane.specs.Meet.{IsMeeting, IsCommonPart}
 use Rattle.exact_plane.specs.MeetOf.{later, earlier}
@@ -18,7 +18,7 @@ use Rattle.plane_graphs.proofs.Marks.{le_cases}
 use Rattle.plane_graphs.proofs.Order.{Lt, lt_never}
 use Rattle.slab_laws.specs.declared.names.DartId.{DartId}
 use Rattle.slab_laws.specs.Skeleton.{inside}
-use Rattle.slab_laws.specs.Sound.{edge_in, dart_in, IsGraphSound}
+use Rattle.slab_laws.specs.Sound.{edge_in, IsGraphSound}
 use Rattle.slab_laws.specs.View.{View, HasDart, point_in, source_in, target_in, line_in}
 use Rattle.locate_naive.proofs.Within.{within_inside}
 use Rattle.sound_views.proofs.ForwardDarts.{target_has}
@@ -30,7 +30,7 @@ use Rattle.zone_walk.proofs.Aheads.{no_vertex_inside, one_inside}
 use Rattle.zone_walk.proofs.Courses.{IsCourse, lies_in, parallel_itself}
 use Rattle.zone_walk.proofs.MeetingPoints.{MeetsAt, lower, upper, vertex, passed, IsPassed, passes_out}
 use Rattle.zone_walk.proofs.Passing.{at_most_in, within_out, passed_lies, passed_at}
-use Rattle.zone_walk.proofs.SeenSpans.{at_most_out, edge_ahead, edge_back}
+use Rattle.zone_walk.proofs.SeenSpans.{at_most_out, ends_are}
 use Rattle.zone_walk.proofs.Stretches.{forward_one, meets_lies, meets_proper, told, listed}
 
 module _ (v : View) (s : IsGraphSound v) (g : Segment) (c : IsCourse g) (W : IsSpan (span_of_segment g)) (d : DartId) (has : HasDart v d) (is : IsSpan (span_in v d)) where
@@ -56,27 +56,23 @@ module _ (v : View) (s : IsGraphSound v) (g : Segment) (c : IsCourse g) (W : IsS
   all = record { span = W; line = refl }
 
   -- ---- the ends of the edge are those of the dart
-  ends_by : (b : Bool) → (dart_in v d).forward ≡ b → ((from ≡ low) × (to ≡ high)) ⊎ ((to ≡ low) × (from ≡ high))
-  ends_by true f = inl (ap (λ (z : Edge). z.low) (sym (edge_ahead v s d has f)), ap (λ (z : Edge). z.high) (sym (edge_ahead v s d has f)))
-  ends_by false f = inr (ap (λ (z : Edge). z.low) (sym (edge_back v s d has f)), ap (λ (z : Edge). z.high) (sym (edge_back v s d has f)))
-
-  ends_are : ((from ≡ low) × (to ≡ high)) ⊎ ((to ≡ low) × (from ≡ high))
-  ends_are = ends_by (dart_in v d).forward refl
+  abbrev ends : ((from ≡ low) × (to ≡ high)) ⊎ ((to ≡ low) × (from ≡ high))
+  ends = ends_are v s d has
 
   Placed : Point → Type 0
   Placed p = (p ≡ low) ⊎ ((p ≡ high) ⊎ (inside (edge_in v d) p ≡ true))
 
   placed : (p : Point) → IsOnEdge v d p → Placed p
   unfolding Placed
-  placed p (inl e) = ⊎_elim (λ w. inl (e ∙ w.0)) (λ w. inr (inl (e ∙ w.1))) ends_are
-  placed p (inr (inl e)) = ⊎_elim (λ w. inr (inl (e ∙ w.1))) (λ w. inl (e ∙ w.0)) ends_are
+  placed p (inl e) = ⊎_elim (λ w. inl (e ∙ w.0)) (λ w. inr (inl (e ∙ w.1))) ends
+  placed p (inr (inl e)) = ⊎_elim (λ w. inr (inl (e ∙ w.1))) (λ w. inl (e ∙ w.0)) ends
   placed p (inr (inr i)) = inr (inr i)
 
   at_low : IsOnEdge v d low
-  at_low = ⊎_elim (λ w. inl (sym w.0)) (λ w. inr (inl (sym w.0))) ends_are
+  at_low = ⊎_elim (λ w. inl (sym w.0)) (λ w. inr (inl (sym w.0))) ends
 
   at_high : IsOnEdge v d high
-  at_high = ⊎_elim (λ w. inr (inl (sym w.1))) (λ w. inl (sym w.1)) ends_are
+  at_high = ⊎_elim (λ w. inr (inl (sym w.1))) (λ w. inl (sym w.1)) ends
 
   -- an end on the segment is a meeting point
   at_end : (p : Point) → (p ≡ from) ⊎ (p ≡ to) → is_on_segment g p ≡ true → MeetsAt v g p
@@ -84,10 +80,10 @@ module _ (v : View) (s : IsGraphSound v) (g : Segment) (c : IsCourse g) (W : IsS
   at_end p (inr e) on = vertex (target_in v d) (target_has v s d has) e on
 
   low_end : (p : Point) → p ≡ low → is_on_segment g p ≡ true → MeetsAt v g p
-  low_end p e on = at_end p (⊎_elim (λ w. inl (e ∙ sym w.0)) (λ w. inr (e ∙ sym w.0)) ends_are) on
+  low_end p e on = at_end p (⊎_elim (λ w. inl (e ∙ sym w.0)) (λ w. inr (e ∙ sym w.0)) ends) on
 
   high_end : (p : Point) → p ≡ high → is_on_segment g p ≡ true → MeetsAt v g p
-  high_end p e on = at_end p (⊎_elim (λ w. inr (e ∙ sym w.1)) (λ w. inl (e ∙ sym w.1)) ends_are) on
+  high_end p e on = at_end p (⊎_elim (λ w. inr (e ∙ sym w.1)) (λ w. inl (e ∙ sym w.1)) ends) on
 
   -- ---- a meeting point on the edge is a point of both spans
   same_line : (x : DartId) → HasDart v x → (p : Point) → IsProper p → inside (edge_in v x) p ≡ true → inside (edge_in v d) p ≡ true → line_in v x ≡ line_in v d

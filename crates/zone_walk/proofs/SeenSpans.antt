@@ -1,5 +1,5 @@
 -- The edge of a dart as a span: its ends, the side of a point, and what rules out that a segment meets it.
-use Rattle.std.proofs.Common.{◌≡◌, Bool, true, false, cond, ◌&&◌, ◌||◌, ℤ, pos, neg_ℤ, ◌<ℤ◌, refl, sym, ap, ◌∙◌, subst, inl, inr, arith, Ordering, Less, Equal, Greater}
+use Rattle.std.proofs.Common.{◌≡◌, Option, Some, Bool, true, false, cond, ◌&&◌, ◌||◌, ℤ, pos, neg_ℤ, ◌<ℤ◌, refl, sym, ap, ◌∙◌, ◌⊎◌, subst, inl, inr, arith, Ordering, Less, Equal, Greater}
 use Rattle.std.specs.Prelude.{if◌then◌else◌}
 use Rattle.std.specs.Ordering.{int_cmp}
 use Rattle.std.proofs.lemmas.Int.{ints}
@@ -8,16 +8,17 @@ use Rattle.integers.proofs.Tests.{lt_is}
 use Rattle.exact_plane.specs.Line.{Line, side_of, IsOn, IsLine}
 use Rattle.exact_plane.specs.Meet.{AreApart}
 use Rattle.exact_plane.specs.Point.{Point, IsPoint}
+use Rattle.exact_plane.specs.PointOrder.{point_cmp}
 use Rattle.exact_plane.specs.PointOrderLaws.{and_true}
 use Rattle.exact_plane.specs.Sign.{sign_by, sign_of}
-use Rattle.exact_plane.specs.Span.{Span, IsAtMost, LiesOn, IsSpan}
+use Rattle.exact_plane.specs.Span.{Span, IsAtMost, AreOnWay, LiesOn, IsSpan}
 use Rattle.exact_plane.specs.declared.sides.Sign.{Sign}
 use Rattle.exact_plane.proofs.Orders.{at_most_both, less_at_most}
 use Rattle.plane_graphs.specs.Graph.{Edge}
 use Rattle.plane_graphs.specs.Line.{precedes}
 use Rattle.plane_graphs.proofs.Lines.{point_is_proper}
 use Rattle.plane_graphs.proofs.Lists.{or_out}
-use Rattle.plane_graphs.proofs.Marks.{Le, le_cases, le_lt_lt, lt_le_lt}
+use Rattle.plane_graphs.proofs.Marks.{Le, le_cases}
 use Rattle.plane_graphs.proofs.Order.{Lt, lt_out, lt_never}
 use Rattle.edge_predicates.proofs.Sides.{sign_same}
 use Rattle.slab_laws.specs.declared.names.DartId.{DartId}
@@ -73,6 +74,44 @@ module _ (v : View) (s : IsGraphSound v) (d : DartId) (has : HasDart v d) where
   pub both_ends : (P : Point → Type 0) → P from → P to → P (span_in v d).lower × P (span_in v d).upper
   both_ends P = ends_by P (dart_in v d).forward refl
 
+  pub ascend : Lt (span_in v d).lower (span_in v d).upper
+  ascend = by (dart_in v d).forward refl
+    where
+      by : (b : Bool) → (dart_in v d).forward ≡ b → Lt (span_in v d).lower (span_in v d).upper
+      by true f = subst (λ (z : Edge). Lt z.low z.high) (sym (edge_ahead f)) (lt_out from to f)
+      by false f = subst (λ (z : Edge). Lt z.low z.high) (sym (edge_back f)) (runs_back f)
+
+  -- they are those of the dart
+  pub ends_are : ((from ≡ (span_in v d).lower) × (to ≡ (span_in v d).upper)) ⊎ ((to ≡ (span_in v d).lower) × (from ≡ (span_in v d).upper))
+  ends_are = by (dart_in v d).forward refl
+    where
+      by : (b : Bool) → (dart_in v d).forward ≡ b → ((from ≡ (span_in v d).lower) × (to ≡ (span_in v d).upper)) ⊎ ((to ≡ (span_in v d).lower) × (from ≡ (span_in v d).upper))
+      by true f = inl (ap (λ (z : Edge). z.low) (sym (edge_ahead f)), ap (λ (z : Edge). z.high) (sym (edge_ahead f)))
+      by false f = inr (ap (λ (z : Edge). z.low) (sym (edge_back f)), ap (λ (z : Edge). z.high) (sym (edge_back f)))
+
+  -- p and q are its ends as they were read, and l its line
+  module _ (p q : Point) (l : Line) (e : p ≡ from) (f : q ≡ to) (g : l ≡ line_in v d) where
+    runs : (b : Bool) → precedes p q ≡ b → (dart_in v d).forward ≡ b
+    runs b h = (λ i. precedes (sym e i) (sym f i)) ∙ h
+
+    starts : IsOn l p
+    starts = (λ i. side_of (g i) (e i)) ∙ s.drawn.starts d has
+
+    finishes : IsOn l q
+    finishes = (λ i. side_of (g i) (f i)) ∙ s.drawn.ends d has
+
+    pub way_ahead : precedes p q ≡ true → AreOnWay p q l
+    way_ahead h = record { ascending = (lt_out p q h).is; lower_on = starts; upper_on = finishes }
+
+    pub way_back : precedes p q ≡ false → AreOnWay q p l
+    way_back h = record { ascending = (λ i. point_cmp (f i) (e i)) ∙ (runs_back (runs false h)).is; lower_on = finishes; upper_on = starts }
+
+    pub span_ahead : precedes p q ≡ true → (t : Span) → t ≡ record { lower = p; upper = q; line = l } → t ≡ span_in v d
+    span_ahead h t k = k ∙ (λ i. record { lower = e i; upper = f i; line = g i }) ∙ ap (λ (z : Edge). record { lower = z.low; upper = z.high; line = line_in v d }) (sym (edge_ahead (runs true h)))
+
+    pub span_back : precedes p q ≡ false → (t : Span) → t ≡ record { lower = q; upper = p; line = l } → t ≡ span_in v d
+    span_back h t k = k ∙ (λ i. record { lower = f i; upper = e i; line = g i }) ∙ ap (λ (z : Edge). record { lower = z.low; upper = z.high; line = line_in v d }) (sym (edge_back (runs false h)))
+
   -- ---- sides
   pub side_ahead : IsSpan (span_in v d) → (t : Point) (r : Sign) → (dart_in v d).forward ≡ true → r ≡ sign_of (side_of (line_in v d) t) → r ≡ sign_of (side_from v d t)
   side_ahead is t r f e = sign_same (span_in v d) t r is e ∙ ap (λ (b : Bool). sign_of (cond b (side (edge_in v d) t) (neg_ℤ (side (edge_in v d) t)))) (sym f)
@@ -97,19 +136,6 @@ module _ (v : View) (s : IsGraphSound v) (d : DartId) (has : HasDart v d) where
 
     abbrev high : Point
     high = (span_in v d).upper
-
-    -- both ends before it, or both after it
-    pub away : (p q : Point) → p ≡ from → q ≡ to → cond (precedes p whole.lower) (precedes q whole.lower) (precedes whole.upper p && precedes whole.upper q) ≡ true → AreApart whole (span_in v d)
-    away p q e f h r R a b = by (precedes from whole.lower) refl (sym (λ i. cond (precedes (e i) whole.lower) (precedes (f i) whole.lower) (precedes whole.upper (e i) && precedes whole.upper (f i))) ∙ h)
-      where
-        by : (z : Bool) → precedes from whole.lower ≡ z → cond (precedes from whole.lower) (precedes to whole.lower) (precedes whole.upper from && precedes whole.upper to) ≡ true → ⊥
-        by true z k =
-            let w = both_ends (λ x. Lt x whole.lower) (lt_out from whole.lower z) (lt_out to whole.lower (sym (ap (λ (y : Bool). cond y (precedes to whole.lower) (precedes whole.upper from && precedes whole.upper to)) z) ∙ k)) in
-            lt_never (le_lt_lt (at_most_out whole.lower r a.from) (le_lt_lt (at_most_out r high b.upto) w.1))
-        by false z k =
-            let m = and_true (precedes whole.upper from) (precedes whole.upper to) (sym (ap (λ (y : Bool). cond y (precedes to whole.lower) (precedes whole.upper from && precedes whole.upper to)) z) ∙ k) in
-            let w = both_ends (λ x. Lt whole.upper x) (lt_out whole.upper from m.0) (lt_out whole.upper to m.1) in
-            lt_never (lt_le_lt w.0 (record { never = λ l. (at_most_out low r b.from).never (le_lt_lt (at_most_out r whole.upper a.upto) l) }))
 
     -- both ends on one side of its line
     module _ (r : Point) (R : IsPoint r) (a : LiesOn whole r) (b : LiesOn (span_in v d) r) where
@@ -152,3 +178,10 @@ module _ (v : View) (s : IsGraphSound v) (d : DartId) (has : HasDart v d) where
       where
         n : Line
         n = whole.line
+
+-- ---- the line that a look told
+pub told_line : (k : Option Line) (l m : Line) → k ≡ Some l → k ≡ Some m → l ≡ m
+told_line k l m e f = one l m (sym e ∙ f)
+  where
+    one : (l m : Line) → Some l ≡ Some m → l ≡ m
+    one l m h = cc

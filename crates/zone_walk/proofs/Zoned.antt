@@ -5,6 +5,7 @@ use Rattle.std.specs.Ordering.{is_eq, nat_cmp}
 use Rattle.exact_plane.specs.Point.{Point}
 use Rattle.exact_plane.specs.Segment.{Segment, AreEnds}
 use Rattle.exact_plane.specs.Span.{IsSpan, span_of_segment}
+use Rattle.exact_plane.specs.WholeParts.{bounding_box}
 use Rattle.plane_graphs.specs.Ascending.{Member}
 use Rattle.plane_graphs.specs.Line.{precedes}
 use Rattle.plane_graphs.proofs.Lists.{clash}
@@ -21,14 +22,15 @@ none_found : (v : View) (g : Segment) (p : Point) (es : List (Point × Spot)) �
 none_found v g p es e q at m = absurd (subst (λ (xs : List (Point × Spot)). Member (q, at) xs) e m)
 
 module _ (v : View) (f : Faces) (s : IsGraphSound v) (g : Segment) (l : Search) where
-  pub began : (p : Point) → p ≡ g.lower → l.segment ≡ g → l.here ≡ g.lower → l.found.entries ≡ [] → l.visited.keys ≡ [] → AreEnds g → IsSpan (span_of_segment g) × (l.whole ≡ span_of_segment g) → IsSearchAt v f g p l
-  began p e segment here found visited ends whole = record {
+  pub began : (p : Point) → p ≡ g.lower → l.segment ≡ g → l.here ≡ g.lower → l.found.entries ≡ [] → l.visited.keys ≡ [] → AreEnds g → IsSpan (span_of_segment g) × (l.whole ≡ span_of_segment g) → l.bounds ≡ bounding_box l.whole → IsSearchAt v f g p l
+  began p e segment here found visited ends whole bounds = record {
     search = record {
-      one = record { segment = refl; here = refl; visited = refl; whole = refl; failed = λ z. z };
+      one = record { segment = refl; here = refl; visited = refl; whole = refl; bounds = refl; failed = λ z. z };
       sound = s;
       ends = subst AreEnds (sym segment) ends;
       whole = subst (λ (z : Segment). IsSpan (span_of_segment z)) (sym segment) whole.0;
       spanned = whole.1 ∙ ap span_of_segment (sym segment);
+      boxed = bounds;
       from = (λ i. precedes (here i) (segment i).lower) ∙ not_true (precedes g.lower g.lower) (λ z. lt_never (lt_out g.lower g.lower z));
       found = none_found v l.segment l.here l.found.entries found;
       kept = λ r m. m;

@@ -6,6 +6,7 @@ use Rattle.exact_plane.specs.declared.meets.Meet.{Meet}
 use Rattle.exact_plane.specs.declared.meets.Meet.TheVariants.{Apart, At, Along}
 use Rattle.exact_plane.specs.Segment.{Segment, AreEnds}
 use Rattle.exact_plane.specs.Span.{IsSpan, span_of_segment}
+use Rattle.exact_plane.specs.WholeParts.{bounding_box}
 use Rattle.plane_graphs.specs.Ascending.{Member}
 use Rattle.plane_graphs.specs.Line.{precedes}
 use Rattle.slab_laws.specs.declared.names.DartId.{DartId}
@@ -67,6 +68,7 @@ pub record IsOneSearch (k l : Search) : Type 0 where
   pub here : l.here ≡ k.here
   pub visited : l.visited ≡ k.visited
   pub whole : l.whole ≡ k.whole
+  pub bounds : l.bounds ≡ k.bounds
   pub failed : l.failed ≡ false → k.failed ≡ false
 
 -- the search l has gone on from k in a sound view: it has found what k had, and later meeting points alone (this project)
@@ -76,6 +78,7 @@ pub record IsSearchFrom (v : View) (k l : Search) : Type 0 where
   pub ends : AreEnds l.segment
   pub whole : IsSpan (span_of_segment l.segment)
   pub spanned : l.whole ≡ span_of_segment l.segment
+  pub boxed : l.bounds ≡ bounding_box l.whole
   pub from : precedes l.here l.segment.lower ≡ false
   pub found : AreFoundAfter v l.segment l.here l.found.entries
   pub kept : AreKept k.found.entries l.found.entries

@@ -14,13 +14,15 @@ use Rattle.plane_graphs.specs.Line.{precedes, is_on}
 use Rattle.slab_laws.specs.declared.names.DartId.{DartId}
 use Rattle.slab_laws.specs.declared.names.VertexId.{VertexId}
 use Rattle.slab_laws.specs.Skeleton.{side}
-use Rattle.slab_laws.specs.Sound.{edge_in, dart_in}
-use Rattle.slab_laws.specs.View.{View, point_in, source_in, target_in, line_in}
+use Rattle.slab_laws.specs.Sound.{edge_in, dart_in, IsGraphSound}
+use Rattle.slab_laws.specs.View.{View, HasDart, point_in, source_in, target_in, line_in}
+use Rattle.counted_looks.specs.Looks.{IsLookOf}
+use Rattle.counted_looks.specs.declared.glance.Looked.{Looked}
 use Rattle.arr_notes.specs.CycleNames.{dart_names}
 use Rattle.dcel_records.specs.declared.spot.Spot.{Spot}
 use Rattle.dcel_records.specs.declared.spot.Spot.TheVariants.{Vertex, Edge, Face}
 use Rattle.zone_walk.specs.Zone.{is_on_segment}
-use Rattle.zone_walk.specs.declared.sight.CommonPoints.{CommonPoints}
+use Rattle.zone_walk.specs.declared.edge_points.CommonPoints.{CommonPoints}
 use Rattle.zone_walk.specs.declared.sight.Seen.{Seen}
 
 -- the edge of a dart with its line, its ends included
@@ -73,6 +75,12 @@ abbrev pub meet_between : Point → Option Point → Meet
 meet_between p None = At p
 meet_between p (Some q) = Along p q
 
+-- the look is one at the dart, in a sound view (this project)
+pub record IsSoundLook (v : View) (d : DartId) (l : Looked) : Type 0 where
+  pub sound : IsGraphSound v
+  pub has : HasDart v d
+  pub look : IsLookOf v (Edge d) l
+
 -- what the span and the dart's edge, with its ends, have in common, and the dart's two points (this project)
 pub record IsDartMet (v : View) (s : Span) (d : DartId) (c : CommonPoints) : Type 0 where
   pub source : c.source ≡ point_in v (source_in v d)
@@ -80,21 +88,15 @@ pub record IsDartMet (v : View) (s : Span) (d : DartId) (c : CommonPoints) : Typ
   pub span : IsSpan (span_in v d)
   pub meet : IsMeeting s (span_in v d) (meet_between c.first c.last)
 
--- the vertex lies on the span, and its point is told three times (this project)
-pub record IsVertexMet (v : View) (s : Span) (w : VertexId) (c : CommonPoints) : Type 0 where
-  pub first : c.first ≡ point_in v w
-  pub last : c.last ≡ None
-  pub source : c.source ≡ point_in v w
-  pub target : c.target ≡ point_in v w
-  pub on : is_on_span s (point_in v w) ≡ true
+-- the points that the span has in common with the dart's edge, and nothing exactly where there are none (this project)
+abbrev pub IsMetOf : View → Span → DartId → Option CommonPoints → Type 0
+IsMetOf v s d None = IsSpan (span_in v d) × IsMeeting s (span_in v d) Apart
+IsMetOf v s d (Some c) = IsDartMet v s d c
 
--- the points that the span has in common with the dart's edge or with the vertex, and nothing exactly where there are none (this project)
-abbrev pub IsMetOf : View → Span → Spot → Option CommonPoints → Type 0
-IsMetOf v s (Vertex w) None = is_on_span s (point_in v w) ≡ false
-IsMetOf v s (Vertex w) (Some c) = IsVertexMet v s w c
-IsMetOf v s (Edge d) None = IsSpan (span_in v d) × IsMeeting s (span_in v d) Apart
-IsMetOf v s (Edge d) (Some c) = IsDartMet v s d c
-IsMetOf v s (Face a) r = ⊥
+-- the vertex's point, and nothing exactly where it isn't on the span (this project)
+abbrev pub IsVertexMet : View → Span → VertexId → Option Point → Type 0
+IsVertexMet v s w None = is_on_span s (point_in v w) ≡ false
+IsVertexMet v s w (Some p) = (p ≡ point_in v w) × (is_on_span s (point_in v w) ≡ true)
 
 -- how many darts leave the vertex (CGAL manual, degree)
 abbrev pub degree : View → VertexId → ℕ

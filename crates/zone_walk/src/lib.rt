@@ -6,6 +6,7 @@
 //! boundary, which has all meeting points that the segment reaches through the face. Looks are counted.
 #![tactic(auto)]
 
+mod edge_points;
 mod plan;
 mod records_sight;
 mod search;
@@ -13,5 +14,5 @@ mod sight;
 mod walk;
 
 pub use plan::{Meeting, ZonePlan};
-pub use sight::{CommonPoints, Seen, Sight};
+pub use sight::{Seen, Sight};
 pub use walk::zone;

@@ -1,19 +1,17 @@
-//! Looks at the records: cheap tests by the order of points and by sides rule out nearly all edges, an exact meeting comes last.
-ghost use Rattle.std.specs.Prelude.{◌≡◌, ◌≤◌, ◌+◌, ◌&&◌, ◌||◌, cond};
+//! Looks at the records.
+ghost use Rattle.std.specs.Prelude.{◌≡◌, ◌≤◌, ◌+◌};
 ghost use Rattle.exact_plane.specs.Meet.{IsMeeting};
 ghost use Rattle.exact_plane.specs.Point.{Point as Coordinates};
 ghost use Rattle.exact_plane.specs.Sign.{sign_of};
 ghost use Rattle.exact_plane.specs.Span.{IsSpan, span_of_segment};
-ghost use Rattle.plane_graphs.specs.Line.{precedes};
 ghost use Rattle.slab_laws.specs.Sound.{IsGraphSound};
 ghost use Rattle.slab_laws.specs.View.{HasVertex, HasDart, point_in, source_in, target_in};
-ghost use Rattle.dcel_records.specs.declared.spot.Spot.TheVariants.{Edge as OnEdge, Vertex as AtVertex};
-ghost use Rattle.zone_walk.specs.Found.{is_left, is_right};
-ghost use Rattle.zone_walk.specs.Sights.{IsMetOf, span_in, is_on_span, side_from, other_side, degree};
+ghost use Rattle.zone_walk.specs.Sights.{IsVertexMet, span_in, is_on_span, side_from, other_side, degree};
 
-use crate::sight::{CommonPoints, Seen, Sight};
+use crate::sight::{Seen, Sight};
+use counted_looks::{Glance, Glimpse};
 use dcel_records::{Records, Spot};
-use exact_plane::{Direction, Line, Meet, Point, Segment, Sign, Span, line_of, side, span_meeting};
+use exact_plane::{Direction, Meet, Point, Segment, Sign, Span, line_of, side, span_meeting};
 use rotation_order::{Place, place_at};
 use slab_laws::{DartId, Darts, VertexId};
 use sound_views::span_of;
@@ -30,48 +28,6 @@ pub(crate) fn whole(segment: &Segment) -> Span
     }
 }
 
-// Whether two points both come before the span or both after it.
-fn are_away(whole: &Span, source: &Point, target: &Point) -> bool
-    ensures { result ≡ cond (precedes source.now whole.now.lower) (precedes target.now whole.now.lower) (precedes whole.now.upper source.now && precedes whole.now.upper target.now) }
-{
-    let lower = whole.lower();
-    if *source < lower {
-        *target < lower
-    } else {
-        let upper = whole.upper();
-        upper < *source && upper < *target
-    }
-}
-
-fn is_on_left(line: &Line, point: &Point) -> bool
-    ensures { result ≡ is_left line.now point.now }
-{
-    match side(line, point) {
-        Sign::Plus => true,
-        Sign::Minus | Sign::Zero => false,
-    }
-}
-
-fn is_on_right(line: &Line, point: &Point) -> bool
-    ensures { result ≡ is_right line.now point.now }
-{
-    match side(line, point) {
-        Sign::Minus => true,
-        Sign::Zero | Sign::Plus => false,
-    }
-}
-
-// Whether two points are both on the left of the line or both on its right.
-fn are_aside(line: &Line, source: &Point, target: &Point) -> bool
-    ensures { result ≡ ((is_left line.now source.now && is_left line.now target.now) || (is_right line.now source.now && is_right line.now target.now)) }
-{
-    match side(line, source) {
-        Sign::Plus => is_on_left(line, target),
-        Sign::Minus => is_on_right(line, target),
-        Sign::Zero => false,
-    }
-}
-
 // What the segment has in common with the edge of a dart, its ends included.
 fn meet_of(records: &Records, dart: DartId, segment: &Segment) -> Meet
     requires sound { IsGraphSound records.now.graph }
@@ -82,54 +38,14 @@ fn meet_of(records: &Records, dart: DartId, segment: &Segment) -> Meet
     span_meeting(&whole(segment), &span)
 }
 
-// The points that a span has in common with the edge of a dart, its ends included. Nearly all edges have none, which the order of
-// their ends and the span's tells, or the side of the span's line on which they are.
-fn points_on_edge(records: &Records, dart: DartId, whole: &Span) -> Option<CommonPoints>
-    requires sound { IsGraphSound records.now.graph }
-    requires dart { HasDart records.now.graph dart }
-    ensures { IsMetOf records.now.graph whole.now (OnEdge dart) result }
-{
-    let source = records.point(Darts::source(records, dart));
-    let target = records.point(Darts::target(records, dart));
-    // The laws of points and lines tell that the edge is a span.
-    source.laws();
-    target.laws();
-    records.line(dart).laws();
-    // The order goes first: whole parts of points nearly always tell it, and a side takes products.
-    if are_away(whole, &source, &target) || are_aside(&whole.line(), &source, &target) {
-        return None;
-    }
-    let span = span_of(records, dart);
-    match span_meeting(whole, &span) {
-        Meet::Apart => None,
-        Meet::At(point) => Some(CommonPoints {
-            first: point,
-            last: None,
-            source,
-            target,
-        }),
-        Meet::Along(first, last) => Some(CommonPoints {
-            first,
-            last: Some(last),
-            source,
-            target,
-        }),
-    }
-}
-
 // A vertex's point, where a span has it.
-fn point_at_vertex(records: &Records, vertex: VertexId, whole: &Span) -> Option<CommonPoints>
-    requires vertex { HasVertex records.now.graph vertex }
-    ensures { IsMetOf records.now.graph whole.now (AtVertex vertex) result }
+fn point_at_vertex(records: &Records, vertex: VertexId, whole: &Span) -> Option<Point>
+    requires { HasVertex records.now.graph vertex }
+    ensures { IsVertexMet records.now.graph whole.now vertex result }
 {
     let point = records.point(vertex);
     if lies_on(whole, &point) {
-        Some(CommonPoints {
-            first: point,
-            last: None,
-            source: point,
-            target: point,
-        })
+        Some(point)
     } else {
         None
     }
@@ -231,20 +147,19 @@ impl Sight for Records {
         }
     }
 
-    // Nearly all looks find nothing: where this isn't inlined, each of them writes an answer of 144 bytes that says so.
     #[inline(always)]
-    fn meet<L: Ledger>(
+    fn glimpse<L: Ledger>(&self, dart: DartId, steps: &mut Steps<L>) -> Glimpse<'_> {
+        Glance::of(self).glimpse(dart, steps)
+    }
+
+    fn meet_at_vertex<L: Ledger>(
         &self,
-        at: Spot,
+        vertex: VertexId,
         whole: &Span,
         steps: &mut Steps<L>,
-    ) -> Option<CommonPoints> {
+    ) -> Option<Point> {
         steps.tick();
-        match at {
-            Spot::Edge(dart) => points_on_edge(self, dart, whole),
-            Spot::Vertex(vertex) => point_at_vertex(self, vertex, whole),
-            Spot::Face(_) => unreachable!(),
-        }
+        point_at_vertex(self, vertex, whole)
     }
 
     fn turn<L: Ledger>(&self, vertex: VertexId, segment: &Segment, steps: &mut Steps<L>) -> Place {

@@ -6,13 +6,16 @@ ghost use Rattle.plane_graphs.specs.Ascending.{Member};
 ghost use Rattle.plane_graphs.specs.Line.{precedes};
 ghost use Rattle.slab_laws.specs.Sound.{IsGraphSound};
 ghost use Rattle.slab_laws.specs.View.{HasVertex, HasDart, point_in, source_in, target_in};
+ghost use Rattle.counted_looks.specs.Looks.{IsLookOf};
 ghost use Rattle.counted_looks.specs.declared.boundary_part.BoundaryPart.TheVariants.{Dart, Isolated};
-ghost use Rattle.zone_walk.specs.Searches.{AreKept, IsOnEdge, IsThere, IsOneSearch, IsSearchFrom, IsPassed, HasSeen};
+ghost use Rattle.dcel_records.specs.declared.spot.Spot.TheVariants.{Edge};
+ghost use Rattle.zone_walk.specs.Searches.{AreKept, IsOnEdge, IsThere, IsOneSearch, IsSearchFrom, IsPassed, IsVisitFrom, HasSeen, HasLooked};
 
-use crate::sight::{CommonPoints, Sight};
-use counted_looks::{BoundaryPart, Looker, NameCalls};
+use crate::edge_points::{CommonPoints, points_on_edge};
+use crate::sight::Sight;
+use counted_looks::{BoundaryPart, Glimpse, Looker, NameCalls};
 use dcel_records::Spot;
-use exact_plane::{Point, Segment, Span};
+use exact_plane::{BoundingBox, Point, Segment, Span};
 use slab_laws::{DartId, FaceId, VertexId};
 use std::alloc::Global;
 use std::collections::{BTreeMap, BTreeSet};
@@ -26,6 +29,8 @@ pub(crate) struct Search {
     pub(crate) segment: Segment,
     /// The same, with its line.
     pub(crate) whole: Span,
+    /// Its box.
+    pub(crate) bounds: BoundingBox,
     pub(crate) here: Point,
     /// Those that were found, each with the vertex or edge at which it is.
     pub(crate) found: BTreeMap<Point, Spot>,
@@ -42,6 +47,7 @@ impl Search {
             alloc: self.alloc,
             segment: self.segment,
             whole: self.whole,
+            bounds: self.bounds,
             here: self.here,
             found: BTreeMap::new(self.alloc),
             visited: BTreeSet::new(self.alloc),
@@ -108,21 +114,16 @@ fn take_on<T: Sight>(
     }
 }
 
-// Looks at a dart, and keeps the meeting points on its edge and its ends.
-fn look_at_dart<T: Sight, L: Ledger>(
-    search: &mut Search,
-    sight: &T,
-    dart: DartId,
-    steps: &mut Steps<L>,
-)
+// Keeps the meeting points on the edge of a dart that was looked at, and its ends.
+fn take_on_dart<T: Sight>(search: &mut Search, sight: &T, dart: DartId, looked: &Glimpse)
     requires ready { (k : _) × IsSearchFrom (T.graph sight.now) k search.old }
     requires dart { HasDart (T.graph sight.now) dart }
+    requires looked { IsLookOf (T.graph sight.now) (Edge dart) looked.now }
     ensures ready { (k : _) → IsSearchFrom (T.graph sight.now) k search.old → IsSearchFrom (T.graph sight.now) k search.new }
     ensures seen { HasSeen (T.graph sight.now) search.new (Dart dart) }
     ensures still { (t : _) → HasSeen (T.graph sight.now) search.old t → HasSeen (T.graph sight.now) search.new t }
-    ensures one { steps.new ≡ steps.old + 1 }
 {
-    if let Some(common) = sight.meet(Spot::Edge(dart), &search.whole, steps) {
+    if let Some(common) = points_on_edge(looked, &search.whole) {
         take_on(search, sight, dart, &common, Some(common.first));
         take_on(search, sight, dart, &common, common.last);
     }
@@ -142,8 +143,8 @@ fn look_at_vertex<T: Sight, L: Ledger>(
     ensures still { (t : _) → HasSeen (T.graph sight.now) search.old t → HasSeen (T.graph sight.now) search.new t }
     ensures one { steps.new ≡ steps.old + 1 }
 {
-    if let Some(common) = sight.meet(Spot::Vertex(vertex), &search.whole, steps) {
-        search.take(common.first, Spot::Vertex(vertex));
+    if let Some(point) = sight.meet_at_vertex(vertex, &search.whole, steps) {
+        search.take(point, Spot::Vertex(vertex));
     }
 }
 
@@ -165,6 +166,25 @@ pub(crate) struct Visit<'a, T: Sight> {
     pub(crate) search: Search,
 }
 
+impl<'a, T: Sight> Visit<'a, T> {
+    // Goes on with a look at a dart that the segment's box doesn't rule out. It is a call, since what nearly all looks do is
+    // inlined into the loop round a cycle.
+    #[inline(never)]
+    fn look_closely(&mut self, sight: &T, dart: DartId, looked: Glimpse)
+        requires ready { (k : Visit T) × IsVisitFrom (T.graph sight.now) (T.graph self.old.sight.now) (T.faces k.sight.now) (T.faces self.old.sight.now) k.face self.old.face k.search self.old.search }
+        requires dart { HasDart (T.graph sight.now) dart }
+        requires looked { IsLookOf (T.graph sight.now) (Edge dart) looked }
+        ensures ready { (k : Visit T) → IsVisitFrom (T.graph sight.now) (T.graph self.old.sight.now) (T.faces k.sight.now) (T.faces self.old.sight.now) k.face self.old.face k.search self.old.search → IsVisitFrom (T.graph sight.now) (T.graph self.new.sight.now) (T.faces k.sight.now) (T.faces self.new.sight.now) k.face self.new.face k.search self.new.search }
+        ensures seen { HasLooked (T.graph sight.now) (T.faces self.new.sight.now) self.new.face self.new.search (Dart dart) }
+        ensures still { (t : _) → HasLooked (T.graph sight.now) (T.faces self.old.sight.now) self.old.face self.old.search t → HasLooked (T.graph sight.now) (T.faces self.new.sight.now) self.new.face self.new.search t }
+    {
+        // The faces are known of the visit's own sight, which has the graph that is looked at.
+        if !is_passed(self.sight, self.face, dart) {
+            take_on_dart(&mut self.search, sight, dart, &looked);
+        }
+    }
+}
+
 impl<'a, T: Sight> Looker<T> for Visit<'a, T> {
     ghost use Rattle.zone_walk.specs.Searches.{IsVisitFrom, HasLooked};
 
@@ -172,14 +192,14 @@ impl<'a, T: Sight> Looker<T> for Visit<'a, T> {
 
     ghost has_seen = { λ v l t. HasLooked v (T.faces l.sight.now) l.face l.search t };
 
-    // The faces are known of the visit's own sight, which has the graph that is looked at.
+    // Nearly all darts are beyond one side of the segment's box.
+    #[inline(always)]
     fn look<L: Ledger>(&mut self, sight: &T, at: BoundaryPart, steps: &mut Steps<L>) {
         match at {
             BoundaryPart::Dart(dart) => {
-                if is_passed(self.sight, self.face, dart) {
-                    steps.tick();
-                } else {
-                    look_at_dart(&mut self.search, sight, dart, steps);
+                let looked = sight.glimpse(dart, steps);
+                if !looked.is_outside(&self.search.bounds) {
+                    self.look_closely(sight, dart, looked);
                 }
             }
             BoundaryPart::Isolated(vertex) => {

@@ -3,15 +3,16 @@ ghost use Rattle.exact_plane.specs.Direction.{direction_of};
 ghost use Rattle.exact_plane.specs.Segment.{line_of_segment};
 ghost use Rattle.rotation_order.specs.Place.{IsPlaceOf};
 ghost use Rattle.slab_laws.specs.Sound.{IsGraphSound};
-ghost use Rattle.slab_laws.specs.View.{HasVertex};
-ghost use Rattle.counted_looks.specs.Looks.{IsLookable};
-ghost use Rattle.zone_walk.specs.Sights.{IsSeenOf, IsMetOf, degree};
+ghost use Rattle.slab_laws.specs.View.{HasVertex, HasDart};
+ghost use Rattle.counted_looks.specs.Looks.{IsLookable, IsLookOf};
+ghost use Rattle.dcel_records.specs.declared.spot.Spot.TheVariants.{Edge};
+ghost use Rattle.zone_walk.specs.Sights.{IsSeenOf, IsVertexMet, degree};
 
-use counted_looks::NameCalls;
+use counted_looks::{Glimpse, NameCalls};
 use dcel_records::Spot;
 use exact_plane::{Meet, Point, Segment, Sign, Span};
 use rotation_order::Place;
-use slab_laws::VertexId;
+use slab_laws::{DartId, VertexId};
 use std::sync::ledger::Ledger;
 use work_steps::Steps;
 
@@ -27,18 +28,6 @@ pub struct Seen {
     pub target: Point,
 }
 
-/// The points that a segment has in common with a dart's edge and its ends, or with a vertex.
-#[derive(Clone, Copy)]
-pub struct CommonPoints {
-    /// The only one, or the lesser end of the part that is common.
-    pub first: Point,
-    /// The greater end of that part.
-    pub last: Option<Point>,
-    pub source: Point,
-    /// A vertex is its own target.
-    pub target: Point,
-}
-
 /// A graph with faces that answers names freely, and tells where things lie to counted looks alone.
 pub trait Sight: NameCalls {
     /// One look at a dart or a vertex, which is one step.
@@ -48,12 +37,22 @@ pub trait Sight: NameCalls {
         ensures seen { IsSeenOf (Self.graph self.now) segment.now at result }
         ensures one { steps.new ≡ steps.old + 1 };
 
-    /// One look at a dart or a vertex for the points that it has in common with a segment, given as a span; it is one step, and
-    /// `None` where there are none. It tells less than `see` does, so that a look that finds nothing is cheap.
-    fn meet<L: Ledger>(&self, at: Spot, whole: &Span, steps: &mut Steps<L>) -> Option<CommonPoints>
-        requires sound { IsGraphSound (Self.graph self.now) }
-        requires at { IsLookable (Self.graph self.now) at }
-        ensures met { IsMetOf (Self.graph self.now) whole.now at result }
+    /// One look at a dart, which is one step; it tells the dart's points and line, each where it is asked for.
+    fn glimpse<L: Ledger>(&self, dart: DartId, steps: &mut Steps<L>) -> Glimpse<'_>
+        requires { HasDart (Self.graph self.now) dart }
+        ensures look { IsLookOf (Self.graph self.now) (Edge dart) result }
+        ensures one { steps.new ≡ steps.old + 1 };
+
+    /// One look at a vertex for whether a segment, given as a span, has its point; it is one step. The point, or `None` where
+    /// the segment doesn't have it.
+    fn meet_at_vertex<L: Ledger>(
+        &self,
+        vertex: VertexId,
+        whole: &Span,
+        steps: &mut Steps<L>,
+    ) -> Option<Point>
+        requires { HasVertex (Self.graph self.now) vertex }
+        ensures met { IsVertexMet (Self.graph self.now) whole.now vertex result }
         ensures one { steps.new ≡ steps.old + 1 };
 
     /// The place round a vertex of the direction towards the segment's upper end. It takes a step for each dart out of the

@@ -2,6 +2,7 @@ ghost use Rattle.std.specs.Prelude.{◌≡◌, ◌≤◌, ◌+◌, ◌*◌, ◌+
 ghost use Rattle.std.specs.List.{sum_by};
 ghost use Rattle.exact_plane.specs.Segment.{Segment as Ends, AreEnds};
 ghost use Rattle.exact_plane.specs.Span.{span_of_segment, IsSpan};
+ghost use Rattle.exact_plane.specs.WholeParts.{bounding_box};
 ghost use Rattle.plane_graphs.specs.Line.{precedes};
 ghost use Rattle.slab_laws.specs.FaceLists.{AreLists};
 ghost use Rattle.slab_laws.specs.FacesSound.{IsSound};
@@ -20,7 +21,7 @@ use crate::search::{Search, Visit};
 use crate::sight::Sight;
 use counted_looks::{NameCalls, look_at_boundary};
 use dcel_records::{Room, Spot};
-use exact_plane::{Point, Segment, Sign};
+use exact_plane::{BoundingBox, Point, Segment, Sign};
 use no_memory::NoMemory;
 use rotation_order::Place;
 use slab_laws::{DartId, FaceId, Sequence, VertexId};
@@ -279,6 +280,7 @@ fn begin(alloc: Global, segment: &Segment) -> Search
     ensures visited { result.visited.keys ≡ [] }
     ensures ends { AreEnds segment.now }
     ensures whole { IsSpan (span_of_segment segment.now) × (result.whole ≡ span_of_segment segment.now) }
+    ensures bounds { result.bounds ≡ bounding_box result.whole }
 {
     let lower = segment.lower();
     let whole = whole(segment);
@@ -287,6 +289,7 @@ fn begin(alloc: Global, segment: &Segment) -> Search
         alloc,
         segment: *segment,
         whole,
+        bounds: BoundingBox::of(&whole),
         here: lower,
         found: BTreeMap::new(alloc),
         visited: BTreeSet::new(alloc),

@@ -36,7 +36,7 @@ returns g c =
       stretch = w.0;
       spot = w.1;
       search =
-          moved v f s l (record { alloc = l.alloc; segment = l.segment; whole = l.whole; here = q; found = c.remove.new.self; visited = l.visited; failed = l.failed }) p q c.requires.search w.0.stretch.next refl refl refl refl
+          moved v f s l (record { alloc = l.alloc; segment = l.segment; whole = l.whole; bounds = l.bounds; here = q; found = c.remove.new.self; visited = l.visited; failed = l.failed }) p q c.requires.search w.0.stretch.next refl refl refl refl refl
           (λ r at i. (
             removed_from q l.found.entries r at (subst (λ (es : List (Point × Spot)). Member (r, at) es) c.remove.ensures.entries i),
             λ e. none_there q c.remove.new.self.entries c.remove.ensures.updates.1 (subst (λ (x : Point). Member x (keys_of c.remove.new.self.entries)) e (key_of_entry c.remove.new.self.entries r at i)),

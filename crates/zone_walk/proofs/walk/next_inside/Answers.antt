@@ -35,7 +35,7 @@ returns g c =
     let tells = c.requires.part.1 in
     let found : AreFoundAfter v s p old = c.requires.search.search.found in
     let taken = c.requires.search.visited c.args.face c.requires.visited in
-    let now : Meeting → Search = λ m. record { alloc = l.alloc; segment = s; whole = l.whole; here = m.point; found = c.pop_first.new.self; visited = l.visited; failed = l.failed } in
+    let now : Meeting → Search = λ m. record { alloc = l.alloc; segment = s; whole = l.whole; bounds = l.bounds; here = m.point; found = c.pop_first.new.self; visited = l.visited; failed = l.failed } in
     elim c.match-pop_first.branch [
       | in-Some w ↦
           let q = w.in-Some.first.0 in
@@ -49,7 +49,7 @@ returns g c =
             stretch = face_stretch v f S s k p proper on before c.args.face none tells q n;
             spot = spot_there v f s p q at (found q at (subst (λ (es : List (Point × Spot)). Member (q, at) es) (sym is) (inl refl)));
             search =
-                moved v f s l (now (record { point = q; spot = at })) p q c.requires.search n refl refl refl refl
+                moved v f s l (now (record { point = q; spot = at })) p q c.requires.search n refl refl refl refl refl
                 (λ r z i. (subst (λ (es : List (Point × Spot)). Member (r, z) es) (sym is) (inr i), λ e. lt_never (subst (Lt q) e (first r (key_of_entry rest r z i)))))
                 (λ r i d. kept_rest q at rest r d (subst (λ (es : List (Point × Spot)). Member r (keys_of es)) is i));
           })
@@ -62,7 +62,7 @@ returns g c =
             stretch = face_stretch v f S s k p proper on before c.args.face none tells s.upper u.0;
             spot = u.1;
             search =
-                moved v f s l (now (record { point = s.upper; spot = Face c.args.face })) p s.upper c.requires.search u.0 refl refl refl refl
+                moved v f s l (now (record { point = s.upper; spot = Face c.args.face })) p s.upper c.requires.search u.0 refl refl refl refl refl
                 (λ r z i. absurd (subst (λ (es : List (Point × Spot)). Member (r, z) es) (same ∙ empty) i))
                 (λ r i d. absurd (subst (λ (es : List (Point × Spot)). Member r (keys_of es)) empty i));
           })

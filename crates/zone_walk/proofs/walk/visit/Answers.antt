@@ -26,8 +26,8 @@ returns-clause-search g c =
     (record { graph = refl; faces = refl; face = refl; search = begun }) in
     let from : IsSearchFrom v l m = subst (λ (z : Search). IsSearchFrom v z m) c.replace.ensures.value ready.search in
     visited_one v f l m
-    (record { alloc = m.alloc; segment = m.segment; whole = m.whole; here = m.here; found = m.found; visited = c.insert.new.self; failed = m.failed })
+    (record { alloc = m.alloc; segment = m.segment; whole = m.whole; bounds = m.bounds; here = m.here; found = m.found; visited = c.insert.new.self; failed = m.failed })
     c.requires.search c.args.face from
     (all_seen v c.requires.sound.graph f c.args.face m
     (λ t o. subst (λ (a : FaceId). HasLooked v f a m t) ready.face (subst (λ (z : Faces). HasLooked v z c.look_at_boundary.new.looker.face m t) ready.faces (c.look_at_boundary.ensures.seen t o))))
-    c.if-search.false refl refl refl refl c.in_ok-insert.ensures.updates.0
+    c.if-search.false refl refl refl refl refl c.in_ok-insert.ensures.updates.0

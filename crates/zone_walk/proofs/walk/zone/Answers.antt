@@ -38,7 +38,7 @@ walk-init g c =
     starts v f S s k c.args.start c.requires.start s.lower s.lower refl refl (record { point = s.lower; spot = c.args.start } ∷ []) [] [] refl refl refl in
     record {
       walked = walked;
-      at = began v f S s c.begin-search.result c.lower-point.result c.lower-point.ensures.value c.begin-search.ensures.segment c.begin-search.ensures.here c.begin-search.ensures.found c.begin-search.ensures.visited c.begin-search.ensures.ends c.begin-search.ensures.whole;
+      at = began v f S s c.begin-search.result c.lower-point.result c.lower-point.ensures.value c.begin-search.ensures.segment c.begin-search.ensures.here c.begin-search.ensures.found c.begin-search.ensures.visited c.begin-search.ensures.ends c.begin-search.ensures.whole c.begin-search.ensures.bounds;
       counted = begins v f s c.args.steps.now c.lower-point.result (subst (λ (p : Point). p ∷ later_points v s p ≡ meeting_points v s) (sym c.lower-point.ensures.value) alone.points);
     }
 

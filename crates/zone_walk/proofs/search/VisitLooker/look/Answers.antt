@@ -1,22 +1,23 @@
-use Rattle.std.proofs.Common.{sym, subst, inl}
+use Rattle.std.proofs.Common.{sym, ◌∙◌, subst, inl}
+use Rattle.counted_looks.specs.Boundaries.{HasPart}
+use Rattle.zone_walk.proofs.Searched.{outside_taken}
 use Rattle.zone_walk.specs.Searches.{HasLooked}
 use Rattle.zone_walk.proofs.Visited.{looked_on, visit_on}
 use Rattle.zone_walk.proofs.search.VisitLooker.look.Goals as goal
 
-pub returns-else-is_passed-clause-ready : goal.returns-else-is_passed-clause-ready
-returns-else-is_passed-clause-ready g c = λ k i.
+pub returns-then-not-is_outside-clause-seen : goal.returns-then-not-is_outside-clause-seen
+returns-then-not-is_outside-clause-seen g c =
     let v = g.T.NameCalls.graph c.args.sight.now in
+    subst (HasLooked v (g.T.NameCalls.faces c.look_closely.new.self.sight.now) c.look_closely.new.self.face c.look_closely.new.self.search) (sym c.in-Dart.is) c.look_closely.ensures.seen
+
+pub returns-else-not-is_outside-clause-seen : goal.returns-else-not-is_outside-clause-seen
+returns-else-not-is_outside-clause-seen g c =
+    let v = g.T.NameCalls.graph c.args.sight.now in
+    let h = c.requires.ready in
     let now = c.args.self.now in
-    visit_on v (g.T.NameCalls.graph now.sight.now) (g.T.NameCalls.faces k.sight.now) (g.T.NameCalls.faces now.sight.now) k.face now.face k.search now.search c.look_at_dart.new.search (c.look_at_dart.ensures.ready k.search) i
-
-pub returns-else-is_passed-clause-seen : goal.returns-else-is_passed-clause-seen
-returns-else-is_passed-clause-seen g c =
-    let v = g.T.NameCalls.graph c.args.sight.now in
-    subst (HasLooked v (g.T.NameCalls.faces c.args.self.now.sight.now) c.args.self.now.face c.look_at_dart.new.search) (sym c.in-Dart.is) (inl c.look_at_dart.ensures.seen)
-
-pub returns-else-is_passed-clause-still : goal.returns-else-is_passed-clause-still
-returns-else-is_passed-clause-still g c =
-    looked_on (g.T.NameCalls.graph c.args.sight.now) (g.T.NameCalls.faces c.args.self.now.sight.now) c.args.self.now.face c.args.self.now.search c.look_at_dart.new.search c.look_at_dart.ensures.still
+    let look = c.glimpse-looked.ensures.look in
+    subst (HasLooked v (g.T.NameCalls.faces now.sight.now) now.face now.search) (sym c.in-Dart.is)
+    (inl (λ failed. outside_taken v h.0.search now.search h.1.search c.in-Dart.dart (subst (HasPart v) c.in-Dart.is c.requires.at) c.glimpse-looked.result.source c.glimpse-looked.result.target look.0 look.1 (sym c.is_outside.ensures ∙ c.if-not-is_outside.false) now.search.found.entries))
 
 pub returns-in-Isolated-clause-ready : goal.returns-in-Isolated-clause-ready
 returns-in-Isolated-clause-ready g c = λ k i.
