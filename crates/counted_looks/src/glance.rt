@@ -43,6 +43,7 @@ pub struct Looked {
 
 impl<'a> Glance<'a> {
     /// The records, to be looked at.
+    #[inline(always)]
     pub fn of(records: &'a Records) -> Glance<'a>
         ensures { result ≡ records.now }
     {
