@@ -2,22 +2,22 @@
 use Rattle.std.proofs.Common.{◌≡◌, true, false, ◌||◌, [], ◌∷◌, ℤ, pos, ◌+ℤ◌, ◌-ℤ◌, ◌*ℤ◌, ◌<ℤ◌, ◌≤ℤ◌, neg_ℤ, refl, ap, sym, ◌∙◌, subst, arith, ◌⊎◌, inl, inr, Bool, Ordering, Less, Equal, Greater}
 use Rattle.std.proofs.lemmas.Int.{ints, int_max_is, int_min_is}
 use Rattle.std.specs.Int.{int_min, int_max}
-use Rattle.std.specs.Ordering.{int_cmp, is_le, ordering_then}
+use Rattle.std.specs.Ordering.{int_cmp, is_le, ordering_then, then_cmp, on}
 use Rattle.integers.specs.Ratio.{ratio_cmp}
 use Rattle.integers.proofs.Compare.{less_in, less_out, equal_out, greater_out}
 use Rattle.integers.proofs.Decisions.{lt_out, both}
 use Rattle.integers.proofs.Reify.{ring, sides}
 use Rattle.integers.proofs.Signs.{at_most_by, same_by, mul_nonneg, diff_nonneg, neg_above}
-use Rattle.exact_plane.specs.Meet.{AreApart}
+use Rattle.exact_plane.specs.Line.{Line, IsOn}
 use Rattle.exact_plane.specs.Place.{whole_part, rest_part}
 use Rattle.exact_plane.specs.PlaceParts.{is_rest, parts_are}
-use Rattle.exact_plane.specs.Plane.{side}
-use Rattle.exact_plane.specs.Point.{Point, IsPoint}
-use Rattle.exact_plane.specs.PointOrder.{point_cmp}
-use Rattle.exact_plane.specs.Span.{Span, LiesOn, IsSpan, IsAtMost}
+use Rattle.exact_plane.specs.Plane.{side, RunsForward}
+use Rattle.exact_plane.specs.Point.{Point}
+use Rattle.exact_plane.specs.PointOrder.{by_y, point_cmp}
+use Rattle.exact_plane.specs.Span.{Span, IsAtMost}
 use Rattle.exact_plane.specs.WholeParts.{whole_parts, are_less, are_greater, are_beyond, is_left_or_right_of, excludes_across, excludes_along, excludes, bounding_box}
 use Rattle.exact_plane.proofs.Floors.{less_by_whole}
-use Rattle.exact_plane.proofs.Places.{two_decide}
+use Rattle.exact_plane.proofs.Places.{ratio_cmp-is}
 
 -- ---- whole parts and ratios
 -- the lesser whole part is of the lesser ratio
@@ -48,10 +48,10 @@ whole_at_most y w z v W V le = at (int_cmp (whole_part z v) (whole_part y w)) re
     at Greater e = less_le (whole_part y w) (whole_part z v) (greater_out (whole_part z v) (whole_part y w) e)
 
 -- ---- the order of points
-less_point : (p q : Point) → IsPoint p → IsPoint q → (whole_parts p).x <ℤ (whole_parts q).x → point_cmp p q ≡ Less
-less_point p q hp hq l =
-    sym (two_decide p q hp hq)
-    ∙ ap (λ o. ordering_then o (ratio_cmp p.y p.w q.y q.w)) (less_in _ _ (less_ratio p.x p.w q.x q.w hp.range.positive hq.range.positive l))
+-- the lesser whole part of the abscissa comes first, whatever the ordinates and the weights
+pub before_by_whole : (p q : Point) → pos 0 <ℤ p.w → pos 0 <ℤ q.w → (whole_parts p).x <ℤ (whole_parts q).x → point_cmp p q ≡ Less
+before_by_whole p q P Q l =
+    ap (λ o. ordering_then o (then_cmp by_y (on (λ (r : Point). r.w) int_cmp) p q)) (sym (ratio_cmp-is p.x p.w q.x q.w P Q) ∙ less_in _ _ (less_ratio p.x p.w q.x q.w P Q l))
 
 either : (a b : Bool) → a || b ≡ true → (a ≡ true) ⊎ (b ≡ true)
 either true b h = inl refl
@@ -64,24 +64,27 @@ both_greater : (a b l : ℤ) → are_greater a b l ≡ true → (l <ℤ a) × (l
 both_greater a b l h = let k = both _ _ h in (lt_out _ _ k.0, lt_out _ _ k.1)
 
 -- what is to the left of p by whole parts comes before it, what is to the right comes after it
-pub beside_order : (p s t : Point) → IsPoint p → IsPoint s → IsPoint t → is_left_or_right_of (whole_parts p) (whole_parts s) (whole_parts t) ≡ true →
+pub beside_order : (p s t : Point) → pos 0 <ℤ p.w → pos 0 <ℤ s.w → pos 0 <ℤ t.w → is_left_or_right_of (whole_parts p) (whole_parts s) (whole_parts t) ≡ true →
     ((point_cmp s p ≡ Less) × (point_cmp t p ≡ Less)) ⊎ ((point_cmp p s ≡ Less) × (point_cmp p t ≡ Less))
-beside_order p s t hp hs ht e = at (either _ _ e)
+beside_order p s t P S T e = at (either _ _ e)
   where
     at : (are_less (whole_parts s).x (whole_parts t).x (whole_parts p).x ≡ true) ⊎ (are_greater (whole_parts s).x (whole_parts t).x (whole_parts p).x ≡ true) →
         ((point_cmp s p ≡ Less) × (point_cmp t p ≡ Less)) ⊎ ((point_cmp p s ≡ Less) × (point_cmp p t ≡ Less))
-    at (inl h) = let k = both_less _ _ _ h in inl (less_point s p hs hp k.0, less_point t p ht hp k.1)
-    at (inr h) = let k = both_greater _ _ _ h in inr (less_point p s hp hs k.0, less_point p t hp ht k.1)
+    at (inl h) = let k = both_less _ _ _ h in inl (before_by_whole s p S P k.0, before_by_whole t p T P k.1)
+    at (inr h) = let k = both_greater _ _ _ h in inr (before_by_whole p s P S k.0, before_by_whole p t P T k.1)
 
 -- ---- the points of a span
-module _ (p q : Point) (hp : IsPoint p) (hq : IsPoint q) (le : IsAtMost p q) where
-  decided : is_le (ordering_then (ratio_cmp p.x p.w q.x q.w) (ratio_cmp p.y p.w q.y q.w)) ≡ true
-  decided = ap is_le (two_decide p q hp hq) ∙ le
+module _ (p q : Point) (P : pos 0 <ℤ p.w) (Q : pos 0 <ℤ q.w) (le : IsAtMost p q) where
+  abbrev rest : Ordering
+  rest = int_cmp p.w q.w
+
+  decided : is_le (ordering_then (ratio_cmp p.x p.w q.x q.w) (ordering_then (ratio_cmp p.y p.w q.y q.w) rest)) ≡ true
+  decided = (λ i. is_le (ordering_then (ratio_cmp-is p.x p.w q.x q.w P Q i) (ordering_then (ratio_cmp-is p.y p.w q.y q.w P Q i) rest))) ∙ le
 
   x_at_most : (p.x *ℤ q.w) ≤ℤ (q.x *ℤ p.w)
   x_at_most = at (ratio_cmp p.x p.w q.x q.w) refl decided
     where
-      at : (o : Ordering) → ratio_cmp p.x p.w q.x q.w ≡ o → is_le (ordering_then o (ratio_cmp p.y p.w q.y q.w)) ≡ true → (p.x *ℤ q.w) ≤ℤ (q.x *ℤ p.w)
+      at : (o : Ordering) → ratio_cmp p.x p.w q.x q.w ≡ o → is_le (ordering_then o (ordering_then (ratio_cmp p.y p.w q.y q.w) rest)) ≡ true → (p.x *ℤ q.w) ≤ℤ (q.x *ℤ p.w)
       at Less e h = less_le (p.x *ℤ q.w) (q.x *ℤ p.w) (less_out (p.x *ℤ q.w) (q.x *ℤ p.w) e)
       at Equal e h = same_le (q.x *ℤ p.w) (p.x *ℤ q.w) (sym (equal_out (p.x *ℤ q.w) (q.x *ℤ p.w) e))
       at Greater e h = cc
@@ -89,7 +92,7 @@ module _ (p q : Point) (hp : IsPoint p) (hq : IsPoint q) (le : IsAtMost p q) whe
   y_at_most : p.x *ℤ q.w ≡ q.x *ℤ p.w → (p.y *ℤ q.w) ≤ℤ (q.y *ℤ p.w)
   y_at_most same = at (ratio_cmp p.x p.w q.x q.w) (ratio_cmp p.y p.w q.y q.w) refl refl decided
     where
-      at : (o u : Ordering) → ratio_cmp p.x p.w q.x q.w ≡ o → ratio_cmp p.y p.w q.y q.w ≡ u → is_le (ordering_then o u) ≡ true → (p.y *ℤ q.w) ≤ℤ (q.y *ℤ p.w)
+      at : (o u : Ordering) → ratio_cmp p.x p.w q.x q.w ≡ o → ratio_cmp p.y p.w q.y q.w ≡ u → is_le (ordering_then o (ordering_then u rest)) ≡ true → (p.y *ℤ q.w) ≤ℤ (q.y *ℤ p.w)
       at Less u e f h = absurd (not_less (p.x *ℤ q.w) (q.x *ℤ p.w) same (less_out (p.x *ℤ q.w) (q.x *ℤ p.w) e))
       at Equal Less e f h = less_le (p.y *ℤ q.w) (q.y *ℤ p.w) (less_out (p.y *ℤ q.w) (q.y *ℤ p.w) f)
       at Equal Equal e f h = same_le (q.y *ℤ p.w) (p.y *ℤ q.w) (sym (equal_out (p.y *ℤ q.w) (q.y *ℤ p.w) f))
@@ -152,56 +155,68 @@ mid_beyond l q u least greatest m e = at (either _ _ e) m
     at (inr h) (inl m) = let k = both_greater l u greatest h in inr (high greatest l q k.0 m.0)
     at (inr h) (inr m) = let k = both_greater l u greatest h in inr (high greatest u q k.1 m.0)
 
-module _ (s : Span) (k : IsSpan s) (q : Point) (hq : IsPoint q) (on : LiesOn s q) where
-  before : (s.lower.x *ℤ q.w) ≤ℤ (q.x *ℤ s.lower.w)
-  before = x_at_most s.lower q k.lower hq on.from
+-- a part of a line that runs forward, between two of its points, and a point of it
+pub record IsAlong (l : Line) (low high q : Point) : Type 0 where
+  pub runs : RunsForward l.a l.b
+  pub low_is : pos 0 <ℤ low.w
+  pub high_is : pos 0 <ℤ high.w
+  pub is : pos 0 <ℤ q.w
+  pub low_on : IsOn l low
+  pub high_on : IsOn l high
+  pub on : IsOn l q
+  pub from : IsAtMost low q
+  pub upto : IsAtMost q high
 
-  after : (q.x *ℤ s.upper.w) ≤ℤ (s.upper.x *ℤ q.w)
-  after = x_at_most q s.upper hq k.upper on.upto
+module _ (l : Line) (low high q : Point) (h : IsAlong l low high q) where
+  before : (low.x *ℤ q.w) ≤ℤ (q.x *ℤ low.w)
+  before = x_at_most low q h.low_is h.is h.from
 
-  from_left : (whole_parts s.lower).x ≤ℤ (whole_parts q).x
-  from_left = whole_at_most s.lower.x s.lower.w q.x q.w k.lower.range.positive hq.range.positive before
+  after : (q.x *ℤ high.w) ≤ℤ (high.x *ℤ q.w)
+  after = x_at_most q high h.is h.high_is h.upto
 
-  to_right : (whole_parts q).x ≤ℤ (whole_parts s.upper).x
-  to_right = whole_at_most q.x q.w s.upper.x s.upper.w hq.range.positive k.upper.range.positive after
+  from_left : (whole_parts low).x ≤ℤ (whole_parts q).x
+  from_left = whole_at_most low.x low.w q.x q.w h.low_is h.is before
 
-  up : (p r : Point) → IsPoint p → IsPoint r → (p.y *ℤ r.w) ≤ℤ (r.y *ℤ p.w) → (whole_parts p).y ≤ℤ (whole_parts r).y
-  up p r hp hr = whole_at_most p.y p.w r.y r.w hp.range.positive hr.range.positive
+  to_right : (whole_parts q).x ≤ℤ (whole_parts high).x
+  to_right = whole_at_most q.x q.w high.x high.w h.is h.high_is after
 
-  rising : pos 0 <ℤ s.line.b → s.line.a ≤ℤ pos 0 → IsMid (whole_parts s.lower).y (whole_parts q).y (whole_parts s.upper).y
-  rising h g =
+  up : (p r : Point) → pos 0 <ℤ p.w → pos 0 <ℤ r.w → (p.y *ℤ r.w) ≤ℤ (r.y *ℤ p.w) → (whole_parts p).y ≤ℤ (whole_parts r).y
+  up p r P R = whole_at_most p.y p.w r.y r.w P R
+
+  rising : pos 0 <ℤ l.b → l.a ≤ℤ pos 0 → IsMid (whole_parts low).y (whole_parts q).y (whole_parts high).y
+  rising b a =
       inl (
-        up s.lower q k.lower hq (rises s.line.a s.line.b s.line.c s.lower.x s.lower.y s.lower.w q.x q.y q.w k.way.lower_on on.on h g before),
-        up q s.upper hq k.upper (rises s.line.a s.line.b s.line.c q.x q.y q.w s.upper.x s.upper.y s.upper.w on.on k.way.upper_on h g after),
+        up low q h.low_is h.is (rises l.a l.b l.c low.x low.y low.w q.x q.y q.w h.low_on h.on b a before),
+        up q high h.is h.high_is (rises l.a l.b l.c q.x q.y q.w high.x high.y high.w h.on h.high_on b a after),
       )
 
-  falling : pos 0 <ℤ s.line.b → pos 0 ≤ℤ s.line.a → IsMid (whole_parts s.lower).y (whole_parts q).y (whole_parts s.upper).y
-  falling h g =
+  falling : pos 0 <ℤ l.b → pos 0 ≤ℤ l.a → IsMid (whole_parts low).y (whole_parts q).y (whole_parts high).y
+  falling b a =
       inr (
-        up s.upper q k.upper hq (falls s.line.a s.line.b s.line.c q.x q.y q.w s.upper.x s.upper.y s.upper.w on.on k.way.upper_on h g after),
-        up q s.lower hq k.lower (falls s.line.a s.line.b s.line.c s.lower.x s.lower.y s.lower.w q.x q.y q.w k.way.lower_on on.on h g before),
+        up high q h.high_is h.is (falls l.a l.b l.c q.x q.y q.w high.x high.y high.w h.on h.high_on b a after),
+        up q low h.is h.low_is (falls l.a l.b l.c low.x low.y low.w q.x q.y q.w h.low_on h.on b a before),
       )
 
-  mid_along : IsMid (whole_parts s.lower).y (whole_parts q).y (whole_parts s.upper).y
-  mid_along = at (int_cmp s.line.b (pos 0)) (int_cmp s.line.a (pos 0)) refl refl
+  sloped : pos 0 <ℤ l.b → IsMid (whole_parts low).y (whole_parts q).y (whole_parts high).y
+  sloped b = at (int_cmp l.a (pos 0)) refl
     where
-      at : (o u : Ordering) → int_cmp s.line.b (pos 0) ≡ o → int_cmp s.line.a (pos 0) ≡ u → IsMid (whole_parts s.lower).y (whole_parts q).y (whole_parts s.upper).y
-      at Less u e f = absurd (below (less_out s.line.b (pos 0) e) k.line.runs.forward)
-        where
-          below : {b : ℤ} → b <ℤ pos 0 → pos 0 ≤ℤ b → ⊥
-          below {b} h g = absurd (omega (arith, ints))
-      at Equal u e f =
-          let h = equal_out s.line.b (pos 0) e in
-          let g = k.line.runs.upward h in
-          inl (
-            up s.lower q k.lower hq (y_at_most s.lower q k.lower hq on.from (upright s.line.a s.line.b s.line.c s.lower.x s.lower.y s.lower.w q.x q.y q.w k.way.lower_on on.on h g)),
-            up q s.upper hq k.upper (y_at_most q s.upper hq k.upper on.upto (upright s.line.a s.line.b s.line.c q.x q.y q.w s.upper.x s.upper.y s.upper.w on.on k.way.upper_on h g)),
-          )
-      at Greater Less e f = rising (greater_out s.line.b (pos 0) e) (less_le s.line.a (pos 0) (less_out s.line.a (pos 0) f))
-      at Greater Equal e f = rising (greater_out s.line.b (pos 0) e) (same_le (pos 0) s.line.a (sym (equal_out s.line.a (pos 0) f)))
-      at Greater Greater e f = falling (greater_out s.line.b (pos 0) e) (less_le (pos 0) s.line.a (greater_out s.line.a (pos 0) f))
+      at : (o : Ordering) → int_cmp l.a (pos 0) ≡ o → IsMid (whole_parts low).y (whole_parts q).y (whole_parts high).y
+      at Less e = rising b (less_le l.a (pos 0) (less_out l.a (pos 0) e))
+      at Equal e = rising b (same_le (pos 0) l.a (sym (equal_out l.a (pos 0) e)))
+      at Greater e = falling b (less_le (pos 0) l.a (greater_out l.a (pos 0) e))
 
-  mid_across : IsMid (whole_parts s.lower).x (whole_parts q).x (whole_parts s.upper).x
+  mid_along : IsMid (whole_parts low).y (whole_parts q).y (whole_parts high).y
+  mid_along = by h.runs
+    where
+      by : RunsForward l.a l.b → IsMid (whole_parts low).y (whole_parts q).y (whole_parts high).y
+      by (inl b) = sloped b
+      by (inr v) =
+          inl (
+            up low q h.low_is h.is (y_at_most low q h.low_is h.is h.from (upright l.a l.b l.c low.x low.y low.w q.x q.y q.w h.low_on h.on v.0 v.1)),
+            up q high h.is h.high_is (y_at_most q high h.is h.high_is h.upto (upright l.a l.b l.c q.x q.y q.w high.x high.y high.w h.on h.high_on v.0 v.1)),
+          )
+
+  mid_across : IsMid (whole_parts low).x (whole_parts q).x (whole_parts high).x
   mid_across = inl (from_left, to_right)
 
 least_bound : (l q u : ℤ) → IsMid l q u → int_min l u ≤ℤ q
@@ -216,21 +231,22 @@ no_side : (q least greatest : ℤ) → (q <ℤ least) ⊎ (greatest <ℤ q) → 
 no_side q least greatest (inl h) l g = absurd (omega (arith, ints))
 no_side q least greatest (inr h) l g = absurd (omega (arith, ints))
 
--- a span that has both ends beyond one side of the box of another has no point in common with it
-pub excluded_apart : (s t : Span) (a b : Point) → IsSpan s → IsSpan t → ((a ≡ t.lower) × (b ≡ t.upper)) ⊎ ((a ≡ t.upper) × (b ≡ t.lower)) →
-    excludes (bounding_box s) (whole_parts a) (whole_parts b) ≡ true → AreApart s t
-excluded_apart s t a b k l ends e q hq on_s on_t = at (either _ _ e)
+-- a part of a line that has both ends beyond one side of the box of another has no point in common with it
+pub boxed : (s : Span) (m : Line) (c d q : Point) → IsAlong s.line s.lower s.upper q → IsAlong m c d q → excludes (bounding_box s) (whole_parts c) (whole_parts d) ≡ true → ⊥
+boxed s m c d q h k e = at (either _ _ e)
   where
-    at_ends : (f : Point → ℤ) → IsMid (f t.lower) (f q) (f t.upper) → IsMid (f a) (f q) (f b)
-    at_ends f m = by ends
-      where
-        by : ((a ≡ t.lower) × (b ≡ t.upper)) ⊎ ((a ≡ t.upper) × (b ≡ t.lower)) → IsMid (f a) (f q) (f b)
-        by (inl h) = subst (λ (p : Point). IsMid (f p) (f q) (f b)) (sym h.0) (subst (λ (p : Point). IsMid (f t.lower) (f q) (f p)) (sym h.1) m)
-        by (inr h) = subst (λ (p : Point). IsMid (f p) (f q) (f b)) (sym h.0) (subst (λ (p : Point). IsMid (f t.upper) (f q) (f p)) (sym h.1) (mid_swapped _ _ _ m))
+    at : (excludes_across (bounding_box s) (whole_parts c) (whole_parts d) ≡ true) ⊎ (excludes_along (bounding_box s) (whole_parts c) (whole_parts d) ≡ true) → ⊥
+    at (inl z) = no_side _ _ _ (mid_beyond _ _ _ _ _ (mid_across m c d q k) z) (from_left s.line s.lower s.upper q h) (to_right s.line s.lower s.upper q h)
+    at (inr z) =
+        let y = mid_along s.line s.lower s.upper q h in
+        no_side _ _ _ (mid_beyond _ _ _ _ _ (mid_along m c d q k) z) (least_bound _ _ _ y) (greatest_bound _ _ _ y)
 
-    at : (excludes_across (bounding_box s) (whole_parts a) (whole_parts b) ≡ true) ⊎ (excludes_along (bounding_box s) (whole_parts a) (whole_parts b) ≡ true) → ⊥
-    at (inl h) =
-        no_side _ _ _ (mid_beyond _ _ _ _ _ (at_ends (λ p. (whole_parts p).x) (mid_across t l q hq on_t)) h) (from_left s k q hq on_s) (to_right s k q hq on_s)
-    at (inr h) =
-        let m = mid_along s k q hq on_s in
-        no_side _ _ _ (mid_beyond _ _ _ _ _ (at_ends (λ p. (whole_parts p).y) (mid_along t l q hq on_t)) h) (least_bound _ _ _ m) (greatest_bound _ _ _ m)
+-- the same, the ends told the other way round
+pub boxed_back : (s : Span) (m : Line) (c d q : Point) → IsAlong s.line s.lower s.upper q → IsAlong m c d q → excludes (bounding_box s) (whole_parts d) (whole_parts c) ≡ true → ⊥
+boxed_back s m c d q h k e = at (either _ _ e)
+  where
+    at : (excludes_across (bounding_box s) (whole_parts d) (whole_parts c) ≡ true) ⊎ (excludes_along (bounding_box s) (whole_parts d) (whole_parts c) ≡ true) → ⊥
+    at (inl z) = no_side _ _ _ (mid_beyond _ _ _ _ _ (mid_swapped _ _ _ (mid_across m c d q k)) z) (from_left s.line s.lower s.upper q h) (to_right s.line s.lower s.upper q h)
+    at (inr z) =
+        let y = mid_along s.line s.lower s.upper q h in
+        no_side _ _ _ (mid_beyond _ _ _ _ _ (mid_swapped _ _ _ (mid_along m c d q k)) z) (least_bound _ _ _ y) (greatest_bound _ _ _ y)

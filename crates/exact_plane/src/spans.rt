@@ -51,6 +51,17 @@ impl Span {
         Some(Span { lower, upper, line })
     }
 
+    /// The part of a line between two of its points, which are known to be in order.
+    pub fn between(lower: Point, upper: Point, line: Line) -> Span
+        requires { AreOnWay lower upper line }
+        ensures { result ≡ record { lower = lower; upper = upper; line = line } }
+    {
+        lower.laws();
+        upper.laws();
+        line.laws();
+        Span { lower, upper, line }
+    }
+
     /// What is true of all spans: the ends are two points of the line, in order.
     pub fn laws(&self)
         ensures { IsSpan self.now }

@@ -20,6 +20,4 @@ pub mod Nexts
 pub mod Counted
 pub mod Zoned
 pub mod EdgeLooks
-pub mod Parted
-pub mod Boxed
 pub mod OutsideBox
