@@ -1,6 +1,7 @@
 -- One vertex fewer.
 use Rattle.std.proofs.Common.{◌≡◌, List, Bool, true, false, cond, not, ◌&&◌, ◌||◌, refl, sym, ap, ◌∙◌, subst, inl, inr, ◌⊎◌, ⊎_elim}
 use Rattle.std.specs.List.{list_any, flat_map}
+use Rattle.integers.proofs.Decisions.{or_out}
 use Rattle.exact_plane.specs.Point.{Point}
 use Rattle.exact_plane.specs.PointOrder.{point_cmp}
 use Rattle.exact_plane.specs.PointOrderLaws.{point_cmp_total, and_true}
@@ -10,7 +11,7 @@ use Rattle.plane_graphs.specs.Piece.{Piece}
 use Rattle.plane_graphs.specs.Graph.{Mark, mark_cmp, graph_over, marks, inside, mark, same_curve}
 use Rattle.edit_steps.specs.Steps.{MergeEdge, RemoveVertex, marks_across, merged_marks, points_without, apply, tidy_step}
 use Rattle.plane_graphs.proofs.Ascending.{ascending_unique, IsAscending-ascending, IsAscending-place}
-use Rattle.plane_graphs.proofs.Lists.{and_in, not_out, not_in, clash, decide, of_ascending, in_ascending, of_flat_map, in_flat_map, if_out, if_true, if_false, one_if, if_one, or_right, or_out, any_out, any_none, in_filter, of_filter, IsAscending-filter}
+use Rattle.plane_graphs.proofs.Lists.{and_in, not_out, not_in, clash, decide, of_ascending, in_ascending, of_flat_map, in_flat_map, if_out, if_true, if_false, one_if, if_one, or_right, any_out, any_none, in_filter, of_filter, IsAscending-filter}
 use Rattle.plane_graphs.proofs.Order.{Lt, lt_never, same_out, same_in, curve_in, curve_out, mark_cmp_total, mark_cmp_exact}
 use Rattle.plane_graphs.proofs.Marks.{IsMark, mark_path, mark_out, mark_in, marks_ascend}
 use Rattle.plane_graphs.proofs.Closed.{IsClosed}

@@ -5,7 +5,7 @@ use Rattle.std.specs.Int.{int_min, int_max}
 use Rattle.std.specs.Ordering.{int_cmp, is_le, ordering_then, then_cmp, on}
 use Rattle.integers.specs.Ratio.{ratio_cmp}
 use Rattle.integers.proofs.Compare.{less_in, less_out, equal_out, greater_out}
-use Rattle.integers.proofs.Decisions.{lt_out, both}
+use Rattle.integers.proofs.Decisions.{lt_out, both, or_out}
 use Rattle.integers.proofs.Reify.{ring, sides}
 use Rattle.integers.proofs.Signs.{at_most_by, same_by, mul_nonneg, diff_nonneg, neg_above}
 use Rattle.exact_plane.specs.Line.{Line, IsOn}
@@ -53,10 +53,6 @@ pub before_by_whole : (p q : Point) → pos 0 <ℤ p.w → pos 0 <ℤ q.w → (w
 before_by_whole p q P Q l =
     ap (λ o. ordering_then o (then_cmp by_y (on (λ (r : Point). r.w) int_cmp) p q)) (sym (ratio_cmp-is p.x p.w q.x q.w P Q) ∙ less_in _ _ (less_ratio p.x p.w q.x q.w P Q l))
 
-either : (a b : Bool) → a || b ≡ true → (a ≡ true) ⊎ (b ≡ true)
-either true b h = inl refl
-either false b h = inr h
-
 both_less : (a b l : ℤ) → are_less a b l ≡ true → (a <ℤ l) × (b <ℤ l)
 both_less a b l h = let k = both _ _ h in (lt_out _ _ k.0, lt_out _ _ k.1)
 
@@ -66,7 +62,7 @@ both_greater a b l h = let k = both _ _ h in (lt_out _ _ k.0, lt_out _ _ k.1)
 -- what is to the left of p by whole parts comes before it, what is to the right comes after it
 pub beside_order : (p s t : Point) → pos 0 <ℤ p.w → pos 0 <ℤ s.w → pos 0 <ℤ t.w → is_left_or_right_of (whole_parts p) (whole_parts s) (whole_parts t) ≡ true →
     ((point_cmp s p ≡ Less) × (point_cmp t p ≡ Less)) ⊎ ((point_cmp p s ≡ Less) × (point_cmp p t ≡ Less))
-beside_order p s t P S T e = at (either _ _ e)
+beside_order p s t P S T e = at (or_out _ _ e)
   where
     at : (are_less (whole_parts s).x (whole_parts t).x (whole_parts p).x ≡ true) ⊎ (are_greater (whole_parts s).x (whole_parts t).x (whole_parts p).x ≡ true) →
         ((point_cmp s p ≡ Less) × (point_cmp t p ≡ Less)) ⊎ ((point_cmp p s ≡ Less) × (point_cmp p t ≡ Less))
@@ -147,7 +143,7 @@ high a b c h k = omega (arith, ints)
 
 -- so what is between two numbers beyond one end of a range is beyond it
 mid_beyond : (l q u least greatest : ℤ) → IsMid l q u → are_beyond l u least greatest ≡ true → (q <ℤ least) ⊎ (greatest <ℤ q)
-mid_beyond l q u least greatest m e = at (either _ _ e) m
+mid_beyond l q u least greatest m e = at (or_out _ _ e) m
   where
     at : (are_less l u least ≡ true) ⊎ (are_greater l u greatest ≡ true) → IsMid l q u → (q <ℤ least) ⊎ (greatest <ℤ q)
     at (inl h) (inl m) = let k = both_less l u least h in inl (low q u least m.1 k.1)
@@ -233,7 +229,7 @@ no_side q least greatest (inr h) l g = absurd (omega (arith, ints))
 
 -- a part of a line that has both ends beyond one side of the box of another has no point in common with it
 pub boxed : (s : Span) (m : Line) (c d q : Point) → IsAlong s.line s.lower s.upper q → IsAlong m c d q → excludes (bounding_box s) (whole_parts c) (whole_parts d) ≡ true → ⊥
-boxed s m c d q h k e = at (either _ _ e)
+boxed s m c d q h k e = at (or_out _ _ e)
   where
     at : (excludes_across (bounding_box s) (whole_parts c) (whole_parts d) ≡ true) ⊎ (excludes_along (bounding_box s) (whole_parts c) (whole_parts d) ≡ true) → ⊥
     at (inl z) = no_side _ _ _ (mid_beyond _ _ _ _ _ (mid_across m c d q k) z) (from_left s.line s.lower s.upper q h) (to_right s.line s.lower s.upper q h)
@@ -243,7 +239,7 @@ boxed s m c d q h k e = at (either _ _ e)
 
 -- the same, the ends told the other way round
 pub boxed_back : (s : Span) (m : Line) (c d q : Point) → IsAlong s.line s.lower s.upper q → IsAlong m c d q → excludes (bounding_box s) (whole_parts d) (whole_parts c) ≡ true → ⊥
-boxed_back s m c d q h k e = at (either _ _ e)
+boxed_back s m c d q h k e = at (or_out _ _ e)
   where
     at : (excludes_across (bounding_box s) (whole_parts d) (whole_parts c) ≡ true) ⊎ (excludes_along (bounding_box s) (whole_parts d) (whole_parts c) ≡ true) → ⊥
     at (inl z) = no_side _ _ _ (mid_beyond _ _ _ _ _ (mid_swapped _ _ _ (mid_across m c d q k)) z) (from_left s.line s.lower s.upper q h) (to_right s.line s.lower s.upper q h)

@@ -1,6 +1,7 @@
 -- A point is inside an edge where it is on the edge's line and between its ends; the same of the edge of a forward dart.
 use Rattle.std.proofs.Common.{◌≡◌, Bool, true, false, not, ◌&&◌, ◌||◌, pos, ◌-ℤ◌, ◌*ℤ◌, inl, inr, refl, sym, ap, ◌∙◌}
 use Rattle.std.specs.Prelude.{if◌then◌else◌}
+use Rattle.integers.proofs.Decisions.{or_out}
 use Rattle.integers.proofs.Tests.{not_true}
 use lib.Signed.{lt_z}
 use Rattle.exact_plane.specs.Line.{Line, IsOn}
@@ -10,7 +11,7 @@ use Rattle.plane_graphs.specs.Graph.{Edge, det}
 use Rattle.plane_graphs.specs.Line.{IsProper, IsProperLine, precedes}
 use Rattle.plane_graphs.proofs.Crossings.{zero_too, spans_w, spans_x, spans_y, turned}
 use Rattle.plane_graphs.proofs.Lines.{span_a, span_b, span_c, span_runs, collinear_in}
-use Rattle.plane_graphs.proofs.Lists.{and_in, not_out, both_ways, or_left, or_right, or_out, clash}
+use Rattle.plane_graphs.proofs.Lists.{and_in, not_out, both_ways, or_left, or_right, clash}
 use Rattle.plane_graphs.proofs.Order.{Lt, lt_trans, lt_both, lt_out, lt_in}
 use Rattle.slab_laws.specs.declared.names.DartId.{DartId}
 use Rattle.slab_laws.specs.Skeleton as counted

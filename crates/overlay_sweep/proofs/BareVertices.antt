@@ -5,12 +5,13 @@ use Rattle.std.specs.List.Sorted.{IsPartitionedBy, IsPartitionPoint}
 use Rattle.std.specs.Option.{option_map}
 use Rattle.std.proofs.lemmas.Bool.{false≢true, cases_lt, and_parts, and_from, eqb-true, eq-eqb, ltb-true, ltb-false, lt-ltb}
 use lib.Dec.{ltb}
+use Rattle.integers.proofs.Decisions.{or_out}
 use Rattle.exact_plane.specs.Point.{Point}
 use Rattle.exact_plane.specs.PointOrder.{point_cmp}
 use Rattle.plane_graphs.specs.Ascending.{IsAscending}
 use Rattle.plane_graphs.specs.Graph.{Edge}
 use Rattle.plane_graphs.proofs.Ascending.{to_member, from_member}
-use Rattle.plane_graphs.proofs.Lists.{any_in, any_out, both_ways, or_left, or_right, or_out}
+use Rattle.plane_graphs.proofs.Lists.{any_in, any_out, both_ways, or_left, or_right}
 use Rattle.plane_graphs.proofs.Sorting.{member_at, rises}
 use Rattle.slab_laws.specs.declared.rows.ListedDart.{ListedDart}
 use Rattle.slab_laws.specs.Darts.{Dart, source, start, ahead, back}

@@ -4,6 +4,7 @@ use Rattle.std.specs.Cmp.{IsTotalOrder}
 use Rattle.std.specs.Prelude.{map}
 use Rattle.std.specs.List.{AllByRecursion, filter, list_any, flat_map}
 use Rattle.std.specs.Ordering.{match_ordering}
+use Rattle.integers.proofs.Decisions.{or_out}
 use Rattle.plane_graphs.specs.Ascending.{place, ascending, Member, IsAscending}
 use Rattle.plane_graphs.proofs.Ascending.{Member-place, Member-ascending, ascending-Member}
 use Rattle.exact_plane.specs.Point.{Point}
@@ -38,10 +39,6 @@ or_left false b h = cc
 pub or_right : (a b : Bool) → b ≡ true → a || b ≡ true
 or_right true b h = refl
 or_right false b h = h
-
-pub or_out : (a b : Bool) → a || b ≡ true → (a ≡ true) ⊎ (b ≡ true)
-or_out true b h = inl refl
-or_out false b h = inr h
 
 module _ {X : Type 0} where
   pub in_left : (x : X) (xs ys : List X) → Member x xs → Member x (xs ++ ys)

@@ -3,6 +3,7 @@ use Rattle.std.proofs.Common.{◌≡◌, ◌⊎◌, ℕ, true, false, not, ◌||
 use Rattle.std.specs.Prelude.{◌-ℤ◌}
 use Rattle.std.specs.Ordering.{nat_cmp}
 use Rattle.std.proofs.lemmas.Cmp.{nat_cmp_total}
+use Rattle.integers.proofs.Decisions.{or_out}
 use Rattle.integers.proofs.Tests.{not_true}
 use Rattle.exact_plane.specs.Line.{side_of}
 use Rattle.exact_plane.specs.Point.{Point}
@@ -11,7 +12,7 @@ use Rattle.plane_graphs.specs.Graph.{Mark, mark, collinear, det}
 use Rattle.plane_graphs.specs.Line.{IsProper, precedes, same_point}
 use Rattle.plane_graphs.proofs.Ascending.{ascending_unique}
 use Rattle.plane_graphs.proofs.Lines.{span_runs, zero_in, zero_out}
-use Rattle.plane_graphs.proofs.Lists.{clash, decide, or_left, or_right, or_out, some_of}
+use Rattle.plane_graphs.proofs.Lists.{clash, decide, or_left, or_right, some_of}
 use Rattle.plane_graphs.proofs.Order.{lt_out, lt_never, same_in, same_itself, same_out}
 use Rattle.edit_steps.specs.Allowed.{IsPassed}
 use Rattle.edit_steps.specs.EditLaws.{IsLoose}

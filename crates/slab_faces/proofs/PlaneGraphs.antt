@@ -8,6 +8,7 @@ use Rattle.std.specs.List.{count_by}
 use Rattle.std.proofs.lemmas.Int.{ints}
 use Rattle.std.proofs.lemmas.List.Sums.{sum_by-cons}
 use lib.Signed.{lt_z}
+use Rattle.integers.proofs.Decisions.{or_out}
 use Rattle.integers.proofs.Compare.{less_in}
 use Rattle.integers.proofs.Tests.{not_true, lt_yes, lt_no, lt_is}
 use Rattle.exact_plane.specs.Point.{Point}
@@ -18,7 +19,7 @@ use Rattle.plane_graphs.specs.Line.{IsProper}
 use Rattle.plane_graphs.specs.Graph.{Graph, Mark, Edge, edge_cmp, edge_of, edges, det, collinear, inside, crosses, is_positive, is_negative}
 use Rattle.plane_graphs.specs.Plane.{IsPlane}
 use Rattle.plane_graphs.proofs.Ascending.{All-member, to_member, from_member}
-use Rattle.plane_graphs.proofs.Lists.{and_in, not_out, not_in, clash, decide, or_left, or_right, or_out}
+use Rattle.plane_graphs.proofs.Lists.{and_in, not_out, not_in, clash, decide, or_left, or_right}
 use Rattle.plane_graphs.proofs.Order.{Tri, tri, lt_out}
 use Rattle.plane_graphs.proofs.Order.Tri.{less, same, more}
 use Rattle.plane_graphs.proofs.Closed.{inside_in}

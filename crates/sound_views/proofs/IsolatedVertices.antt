@@ -1,6 +1,7 @@
 -- A vertex without darts, by names and in the graph.
 use Rattle.std.proofs.Common.{◌≡◌, Bool, true, false, ◌||◌, sym, ap, ◌∙◌, subst, ⊎_elim}
-use Rattle.plane_graphs.proofs.Lists.{or_left, or_right, or_out}
+use Rattle.integers.proofs.Decisions.{or_out}
+use Rattle.plane_graphs.proofs.Lists.{or_left, or_right}
 use Rattle.exact_plane.specs.Point.{Point}
 use Rattle.plane_graphs.specs.Graph.{Edge}
 use Rattle.slab_laws.specs.declared.names.DartId.{DartId}

@@ -5,6 +5,7 @@ use Rattle.std.specs.List.{count_by, sum_by}
 use Rattle.std.proofs.lemmas.Bool.{cases_Bool}
 use Rattle.std.proofs.lemmas.List.Sums.{sum_by-cons}
 use Rattle.std.specs.declared.cmp.Ordering.TheVariants.{Less}
+use Rattle.integers.proofs.Decisions.{or_out}
 use Rattle.exact_plane.specs.Line.{Line}
 use Rattle.exact_plane.specs.Point.{Point}
 use Rattle.plane_graphs.specs.Graph.{Edge}
@@ -15,7 +16,7 @@ use Rattle.integers.proofs.Tests.{is_equal, not_true}
 use Rattle.plane_graphs.specs.Ascending.{Member, IsAscending}
 use Rattle.plane_graphs.specs.Line.{IsProper, precedes, are_parallel, crossing}
 use Rattle.plane_graphs.proofs.Ascending.{All-member, from_member}
-use Rattle.plane_graphs.proofs.Lists.{and_in, or_left, or_right, or_out, clash}
+use Rattle.plane_graphs.proofs.Lists.{and_in, or_left, or_right, clash}
 use Rattle.plane_graphs.proofs.Marks.{le_lt_lt, lt_le_lt}
 use Rattle.plane_graphs.proofs.Order.{Lt, lt_out, lt_in, lt_never, lt_trans, Tri, tri}
 use Rattle.plane_graphs.proofs.Order.Tri.{less, same, more}

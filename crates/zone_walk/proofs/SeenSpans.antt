@@ -3,6 +3,7 @@ use Rattle.std.proofs.Common.{◌≡◌, Option, Some, Bool, true, false, cond, 
 use Rattle.std.specs.Prelude.{if◌then◌else◌}
 use Rattle.std.specs.Ordering.{int_cmp}
 use Rattle.std.proofs.lemmas.Int.{ints}
+use Rattle.integers.proofs.Decisions.{or_out}
 use Rattle.integers.proofs.Compare.{less_out, less_in, equal_out, equal_in, greater_out, greater_in}
 use Rattle.integers.proofs.Tests.{lt_is}
 use Rattle.exact_plane.specs.Line.{Line, side_of, IsOn, IsLine}
@@ -17,7 +18,6 @@ use Rattle.exact_plane.proofs.Orders.{at_most_both, less_at_most}
 use Rattle.plane_graphs.specs.Graph.{Edge}
 use Rattle.plane_graphs.specs.Line.{precedes}
 use Rattle.plane_graphs.proofs.Lines.{point_is_proper}
-use Rattle.plane_graphs.proofs.Lists.{or_out}
 use Rattle.plane_graphs.proofs.Marks.{Le, le_cases}
 use Rattle.plane_graphs.proofs.Order.{Lt, lt_out, lt_never}
 use Rattle.edge_predicates.proofs.Sides.{sign_same}
