@@ -1,7 +1,7 @@
 ghost use Rattle.std.specs.Prelude.{◌≡◌, ◌↔◌, ◌<◌, ◌≤◌, ◌+ℤ◌, ◌-ℤ◌, ◌*ℤ◌, neg_ℤ, unsigned_abs};
 ghost use Rattle.std.specs.declared.cmp.Ordering.TheVariants.{Less, Equal};
 ghost use Rattle.exact_plane.specs.declared.bounds.TheConstants.{MAX_DIFFERENCE, TURN_LIMIT};
-ghost use Rattle.exact_plane.specs.Direction.{direction_of, opposite, place, turn_cmp, AreDirections, IsClockwise, IsOneDirection};
+ghost use Rattle.exact_plane.specs.Direction.{direction_of, opposite, place, last_place, turn_cmp, next_cmp, AreDirections, IsClockwise, IsOneDirection};
 
 use crate::line::Line;
 use std::cmp::Ordering;
@@ -103,6 +103,24 @@ pub fn turn_order(first: Direction, a: Direction, b: Direction) -> Ordering
     ensures clockwise { ¬ IsOneDirection first a → ((result ≡ Less) ↔ IsClockwise first a b) }
 {
     let by_place = place_after(first, a).cmp(&place_after(first, b));
+    let turn = turn(a.x, a.y, b.x, b.y);
+    by_place.then(turn.cmp(&0))
+}
+
+// The same as `place_after`, but the first one stands last, at 4.
+fn last_place_after(first: Direction, other: Direction) -> u8
+    ensures { result ≡ last_place first other }
+{
+    let place = place_after(first, other);
+    if place == 0 { 4 } else { place }
+}
+
+/// Which of two directions is met first, going clockwise from just after a first one, which is met after all others, at the end of a
+/// full turn. `Equal` is answered for one direction only.
+pub fn next_order(first: Direction, a: Direction, b: Direction) -> Ordering
+    ensures { result ≡ next_cmp first a b }
+{
+    let by_place = last_place_after(first, a).cmp(&last_place_after(first, b));
     let turn = turn(a.x, a.y, b.x, b.y);
     by_place.then(turn.cmp(&0))
 }

@@ -20,7 +20,7 @@ mod text;
 mod whole_parts;
 
 pub use bounds::{MAX_COORDINATE, WEIGHT_LIMIT};
-pub use direction::{Direction, turn_order};
+pub use direction::{Direction, next_order, turn_order};
 pub use line::{Line, line_of};
 pub use meets::{Meet, meeting, span_meeting};
 pub use point::{Point, PointError};
