@@ -2,7 +2,7 @@ ghost use Rattle.std.specs.Prelude.{◌≡◌};
 ghost use Rattle.rotation_order.specs.Directions.{straight_down, direction_before};
 ghost use Rattle.rotation_order.specs.Place.{sooner_way};
 
-use exact_plane::{Direction, Segment, line_of, turn_order};
+use exact_plane::{Direction, Segment, line_of, next_order};
 
 // The direction straight down.
 pub(crate) fn down() -> Direction
@@ -19,13 +19,7 @@ fn is_before(down: Direction, a: Direction, b: Direction) -> bool
     requires { down ≡ straight_down }
     ensures { result ≡ direction_before a b }
 {
-    if turn_order(down, a, down).is_eq() {
-        return false;
-    }
-    if turn_order(down, b, down).is_eq() {
-        return true;
-    }
-    turn_order(down, a, b).is_lt()
+    next_order(down, a, b).is_lt()
 }
 
 // Whether a is met before b, clockwise from just after first, which is met last.

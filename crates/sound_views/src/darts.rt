@@ -39,5 +39,5 @@ pub fn span_of<R: Darts>(records: &R, dart: DartId) -> Span
     let forward = forward_dart(records, dart);
     let lower = records.point(records.source(forward));
     let upper = records.point(records.target(forward));
-    Span::new(lower, upper, records.line(forward)).unwrap()
+    Span::between(lower, upper, records.line(forward))
 }

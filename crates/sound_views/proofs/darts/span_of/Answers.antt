@@ -14,12 +14,11 @@ point-upper-requires g c =
     let f = c.forward_dart-forward.ensures.forward in
     subst (HasVertex (g.R.Darts.graph c.args.records.now)) (sym c.target.ensures) (target_has (g.R.Darts.graph c.args.records.now) c.requires.sound c.forward_dart-forward.result f.0)
 
-pub unwrap-requires : goal.unwrap-requires
-unwrap-requires g c =
+pub returns-requires : goal.returns-requires
+returns-requires g c =
     let v = g.R.Darts.graph c.args.records.now in
-    made c.new.result c.new.ensures.none
-    (way_along v c.requires.sound c.forward_dart-forward.result c.forward_dart-forward.ensures.forward _ _ _
-    (c.point-lower.ensures ∙ ap (point_in v) c.source.ensures) (c.point-upper.ensures ∙ ap (point_in v) c.target.ensures) c.line.ensures.line)
+    way_along v c.requires.sound c.forward_dart-forward.result c.forward_dart-forward.ensures.forward _ _ _
+    (c.point-lower.ensures ∙ ap (point_in v) c.source.ensures) (c.point-upper.ensures ∙ ap (point_in v) c.target.ensures) c.line.ensures.line
 
 pub returns-clause-edge : goal.returns-clause-edge
 returns-clause-edge g c =
