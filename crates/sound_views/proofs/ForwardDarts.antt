@@ -1,6 +1,6 @@
 -- The forward one of two twins, and the span of an edge.
-use Rattle.std.proofs.Common.{◌≡◌, Bool, true, false, Option, Some, None, refl, sym, ap, ◌∙◌, subst}
-use Rattle.std.specs.Prelude.{◌↔◌, not, if◌then◌else◌, IfSome, IsNone, IsSome}
+use Rattle.std.proofs.Common.{◌≡◌, Bool, true, false, refl, sym, ap, ◌∙◌, subst}
+use Rattle.std.specs.Prelude.{not, if◌then◌else◌}
 use Rattle.exact_plane.specs.Line.{Line}
 use Rattle.exact_plane.specs.Point.{Point}
 use Rattle.exact_plane.specs.Span.{Span, AreOnWay}
@@ -13,16 +13,6 @@ use Rattle.slab_laws.specs.View.{View, HasVertex, HasDart, point_in, source_in, 
 use Rattle.arr_notes.specs.Curves.{IsForward}
 use Rattle.sound_views.specs.ForwardDarts.{IsForwardOf}
 use Rattle.sound_views.proofs.NamedDarts.{twin_dart}
-
--- what is none only where P doesn't hold is there where it does
-pub made : {P : Type 0} (o : Option Span) → IsNone o ↔ (¬ P) → P → IsSome o
-made (Some s) h p = refl
-made None h p = absurd (h.0 refl p)
-
--- what was taken out of it, if it is known
-pub taken : (o : Option Span) (s t : Span) → o ≡ Some s → IfSome o (λ x. x ≡ t) → s ≡ t
-taken None s t e h = absurd cc
-taken (Some x) s t e h = let i : x ≡ s = cc in sym i ∙ h
 
 module _ (v : View) (s : IsGraphSound v) where
   pub target_has : (d : DartId) → HasDart v d → HasVertex v (target_in v d)
