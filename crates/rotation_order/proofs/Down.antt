@@ -1,22 +1,14 @@
 -- What comparisons by the exact order that begins with straight down have told.
-use Rattle.std.proofs.Common.{◌≡◌, ◌≤◌, Bool, true, false, arith, refl, sym, ap, ap₂, ◌∙◌, ◌⊎◌, ◌<◌, inl, inr, [], ◌∷◌, Ordering, Less, Equal, Greater}
-use Rattle.std.specs.Prelude.{◌↔◌, cond, ◌==◌, pos, ◌<ℤ◌}
-use Rattle.std.specs.Ordering.{int_cmp, nat_cmp, is_lt, is_eq, ordering_then}
-use Rattle.std.proofs.lemmas.Bool.{cases_Bool, or_left, false≢true, false_from_ne_true, lt-ltb, ltb-true}
-use Rattle.std.proofs.lemmas.Int.{ints}
+use Rattle.std.proofs.Common.{◌≡◌, Bool, true, false, refl, sym, ap, ap₂, ◌∙◌, inl, inr, Ordering, Less, Equal, Greater}
+use Rattle.std.specs.Prelude.{◌↔◌, cond, ◌==◌, pos}
+use Rattle.std.specs.Ordering.{int_cmp, nat_cmp, is_eq, ordering_then}
+use Rattle.std.proofs.lemmas.Bool.{cases_Bool, false≢true}
 use Rattle.std.specs.Cmp.{nat_cmp_total, tied_itself}
 use Rattle.std.proofs.lemmas.Cmp.{ranked}
-use lib.Dec.{ltb}
-use lib.Signed.{lt_z}
 use Rattle.integers.proofs.Classes.{then_equal}
-use Rattle.integers.proofs.Compare.{equal_out, greater_out}
-use Rattle.integers.proofs.Reify.{ring, sides}
-use Rattle.integers.proofs.Tests.{lt_is}
-use Rattle.integers.proofs.Signs.{opposite_above, opposite_nothing}
 use Rattle.exact_plane.specs.Direction.{Direction, IsOneDirection, turn, along, by_turn, turn_cmp, next_cmp, place, last_place, quarter as first_rank, last_quarter}
-use Rattle.rotation_order.specs.Directions.{quarter_by, quarter, direction_before, straight_down}
-use Rattle.rotation_order.proofs.Quarters.{turn_order, one_quarter, no_width, no_turn}
-use Rattle.rotation_order.proofs.LineDirections.{IsWay, neither, quarters, turned_round}
+use Rattle.rotation_order.specs.Directions.{direction_before, straight_down}
+use Rattle.rotation_order.proofs.LineDirections.{IsWay, neither}
 
 -- ---- what a comparison by the exact order has told
 pub told_one : (o : Ordering) (r : Bool) (a b : Direction) → (o ≡ Equal) ↔ IsOneDirection a b → r ≡ is_eq o → r ≡ true → IsOneDirection a b
