@@ -101,7 +101,7 @@ pub itself : (a : Direction) → direction_before a a ≡ false
 itself a = false_from_ne_true (direction_before a a) (λ h. asym a a h h)
 
 -- ---- one direction stands in one place
-pub turned_round : (a b : Direction) → IsOneDirection a b → IsOneDirection b a
+turned_round : (a b : Direction) → IsOneDirection a b → IsOneDirection b a
 turned_round a b h = record {
   straight = turn_back (turn a b) (turn b a) (ring (a.x ∷ a.y ∷ b.x ∷ b.y ∷ []) (search sides depth 40 fits 20000) tt) h.straight;
   forward = along_back (along a b) (along b a) (ring (a.x ∷ a.y ∷ b.x ∷ b.y ∷ []) (search sides depth 40 fits 20000) tt) h.forward;
