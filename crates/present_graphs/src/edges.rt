@@ -28,7 +28,7 @@ fn edge_along(spans: &[Span], mark: &Mark) -> Span
 {
     for span in spans {
         if holds_edge(span, mark) {
-            return Span::new(mark.low, mark.high, span.line()).unwrap();
+            return Span::between(mark.low, mark.high, span.line());
         }
     }
     unreachable!()

@@ -15,7 +15,7 @@ pub(crate) fn span_of(piece: &Piece) -> Span
     ensures value { result ≡ span_of_piece (piece_of piece.now) }
     ensures span { IsSpan result }
 {
-    let span = Span::new(piece.from, piece.to, line_of(&piece.segment)).unwrap();
+    let span = Span::between(piece.from, piece.to, line_of(&piece.segment));
     span.laws();
     span
 }
