@@ -92,30 +92,30 @@ module _ (ds s t : Slab StoredDart) (d m : ℕ) (r q : StoredDart) (free : get s
       found j (inr n) (inr k) = rw (other_number m j (λ e. k (sym e)), other_number d j (λ e. n (sym e))) (ap (option_map dart_of) (z.others j n ∙ w.others j k ∙ u.others j n) ∙ sym (row-tabled dart_of ds j))
 
 -- a dart as it is put first, and as it is written then
-abbrev pub first_row : VertexId → WholeParts → Line → CycleId → StoredDart
-first_row u p l c = record { source = u; twin = record { 0 = 0 }; next = record { 0 = 0 }; parts = p; line = l; cycle = c }
+abbrev pub first_row : VertexId → WholeParts → WholeParts → Line → CycleId → StoredDart
+first_row u p o l c = record { source = u; twin = record { 0 = 0 }; next = record { 0 = 0 }; parts = p; target_parts = o; line = l; cycle = c }
 
 abbrev pub row_again : DartId → StoredDart → StoredDart
-row_again m r = record { source = r.source; twin = m; next = m; parts = r.parts; line = r.line; cycle = r.cycle }
+row_again m r = record { source = r.source; twin = m; next = m; parts = r.parts; target_parts = r.target_parts; line = r.line; cycle = r.cycle }
 
-abbrev pub lone_row : VertexId → DartId → WholeParts → Line → CycleId → StoredDart
-lone_row u m p l c = record { source = u; twin = m; next = m; parts = p; line = l; cycle = c }
+abbrev pub lone_row : VertexId → DartId → WholeParts → WholeParts → Line → CycleId → StoredDart
+lone_row u m p o l c = record { source = u; twin = m; next = m; parts = p; target_parts = o; line = l; cycle = c }
 
 module _ (vs : Slab StoredVertex) (ds : Slab StoredDart) (h : GraphView) (is : graph_view vs ds ≡ h) (d m : DartId) (u v : VertexId) (parts_u parts_v : WholeParts) (l : Line) (c : CycleId) (s t : Slab StoredDart) (vs1 vs2 : Slab StoredVertex)
-    (free_d : get ds d.0 ≡ None) (free_m : get s m.0 ≡ None) (p : Updates ds s d.0 (Some (first_row u parts_u l c))) (q : Updates s t m.0 (Some (lone_row v d parts_v l c)))
+    (free_d : get ds d.0 ≡ None) (free_m : get s m.0 ≡ None) (p : Updates ds s d.0 (Some (first_row u parts_u parts_v l c))) (q : Updates s t m.0 (Some (lone_row v d parts_v parts_u l c)))
     (g1 : Updates vs vs1 u.0 (option_map (given d) (get vs u.0))) (g2 : Updates vs1 vs2 v.0 (option_map (given m) (get vs1 v.0))) where
   abbrev new_rows : Slab StoredDart
-  new_rows = with_value t d.0 (lone_row u m parts_u l c)
+  new_rows = with_value t d.0 (lone_row u m parts_u parts_v l c)
 
   pub edge_graph : graph_in vs2 new_rows ≡ with_edge h.graph d m u v l
   edge_graph =
       let a = offered_same vs1 vs2 v m g2 ∙ offered_same vs vs1 u d g1 ∙ vertices_are vs ds h is in
-      let e = pair_rows ds s t d.0 m.0 (first_row u parts_u l c) (lone_row v d parts_v l c) free_m p q (lone_row u m parts_u l c) ∙ ap (λ z. put m.0 (lone_dart v d l) (put d.0 (lone_dart u m l) z)) (darts_are vs ds h is) in
+      let e = pair_rows ds s t d.0 m.0 (first_row u parts_u parts_v l c) (lone_row v d parts_v parts_u l c) free_m p q (lone_row u m parts_u parts_v l c) ∙ ap (λ z. put m.0 (lone_dart v d l) (put d.0 (lone_dart u m l) z)) (darts_are vs ds h is) in
       (λ i. record { vertices = a i; darts = e i })
 
   -- what is read before it is written again
-  first_is : (x : StoredDart) → get t d.0 ≡ Some x → first_row u parts_u l c ≡ x
-  first_is x e = let f = first_there ds s t d.0 m.0 (first_row u parts_u l c) (lone_row v d parts_v l c) free_m p q in cc
+  first_is : (x : StoredDart) → get t d.0 ≡ Some x → first_row u parts_u parts_v l c ≡ x
+  first_is x e = let f = first_there ds s t d.0 m.0 (first_row u parts_u parts_v l c) (lone_row v d parts_v parts_u l c) free_m p q in cc
 
   pub edge_written : (x : StoredDart) → get t d.0 ≡ Some x → graph_in vs2 (with_value t d.0 (row_again m x)) ≡ with_edge h.graph d m u v l
   edge_written x e = subst (λ y. graph_in vs2 (with_value t d.0 (row_again m y)) ≡ with_edge h.graph d m u v l) (first_is x e) edge_graph
@@ -124,10 +124,10 @@ module _ (vs : Slab StoredVertex) (ds : Slab StoredDart) (h : GraphView) (is : g
   no_d = dart_vacant vs ds h is d free_d
 
   pub no_m : ¬ HasDart h.graph m
-  no_m = dart_vacant vs ds h is m (second_free ds s t d.0 m.0 (first_row u parts_u l c) (lone_row v d parts_v l c) free_m p q)
+  no_m = dart_vacant vs ds h is m (second_free ds s t d.0 m.0 (first_row u parts_u parts_v l c) (lone_row v d parts_v parts_u l c) free_m p q)
 
   pub apart : d ≢ m
-  apart e = two_names ds s t d.0 m.0 (first_row u parts_u l c) (lone_row v d parts_v l c) free_m p q (ap (λ x. x.0) e)
+  apart e = two_names ds s t d.0 m.0 (first_row u parts_u parts_v l c) (lone_row v d parts_v parts_u l c) free_m p q (ap (λ x. x.0) e)
 
   module _ (k : AreSoundRows vs ds) (key_u : IsSome (get vs u.0)) (key_v : IsSome (get vs v.0)) where
     more : IsPairMore h.graph (with_edge h.graph d m u v l) d m (lone_dart u m l) (lone_dart v d l)

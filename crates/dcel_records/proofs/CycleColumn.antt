@@ -20,7 +20,7 @@ use Rattle.dcel_records.proofs.Removing.{len_written}
 use Rattle.dcel_records.proofs.Tabled.{tabled_same}
 
 abbrev pub row_cycle : CycleId → StoredDart → StoredDart
-row_cycle c r = record { source = r.source; twin = r.twin; next = r.next; parts = r.parts; line = r.line; cycle = c }
+row_cycle c r = record { source = r.source; twin = r.twin; next = r.next; parts = r.parts; target_parts = r.target_parts; line = r.line; cycle = c }
 
 -- the cycle that a row keeps is what a caller sees
 pub cycle_read : (vs : Slab StoredVertex) (ds : Slab StoredDart) (cs : Slab StoredCycle) (fs : Slab StoredFace) (mv : Option MovedView) (od : List RankKey) (vr cr : ℕ) (h : RecordsView) → records_view vs ds cs fs mv od vr cr ≡ h → (d : DartId) (o : Option StoredDart) → get ds d.0 ≡ o → option_map (λ r. r.cycle) o ≡ row_at h.faces.tables.cycle_of d.0

@@ -23,6 +23,8 @@ pub mod BareWritten
 pub mod CycleColumn
 pub mod EachRow
 pub mod OnCycles
+pub mod TargetsKept
+pub mod TwinTold
 pub mod Marked
 pub mod Started
 pub mod ListsRead

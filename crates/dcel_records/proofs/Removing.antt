@@ -36,7 +36,7 @@ module _ (vs : Slab StoredVertex) (ds : Slab StoredDart) (h : GraphView) (is : g
   pub source_key : IsSome (get vs r.source.0)
   source_key = out_key vs ds h is k r.source d (o, sym (source_is vs ds h is d r e))
 
-  twin_other : r.twin.0 ≢ d.0
+  pub twin_other : r.twin.0 ≢ d.0
   twin_other q = (twinned vs ds h is k).other d o (sym (twin_is vs ds h is d r e) ∙ (λ i. record { 0 = q i }))
 
   twin_has : HasDart h.graph r.twin

@@ -43,10 +43,10 @@ abbrev pub row_out : Option DartId → StoredVertex → StoredVertex
 row_out o r = record { point = r.point; pinned = r.pinned; out = o; place = r.place }
 
 abbrev pub row_next : (n : DartId) (r : StoredDart) → StoredDart
-row_next n r = record { source = r.source; twin = r.twin; next = n; parts = r.parts; line = r.line; cycle = r.cycle }
+row_next n r = record { source = r.source; twin = r.twin; next = n; parts = r.parts; target_parts = r.target_parts; line = r.line; cycle = r.cycle }
 
 abbrev pub row_source : VertexId → WholeParts → StoredDart → StoredDart
-row_source w p r = record { source = w; twin = r.twin; next = r.next; parts = p; line = r.line; cycle = r.cycle }
+row_source w p r = record { source = w; twin = r.twin; next = r.next; parts = p; target_parts = r.target_parts; line = r.line; cycle = r.cycle }
 
 module _ (vs : Slab StoredVertex) (ds : Slab StoredDart) (h : GraphView) (is : graph_view vs ds ≡ h) where
   named : IsNamed h.graph

@@ -158,8 +158,17 @@ abbrev pub parts_at : Slab StoredVertex → ℕ → Option WholeParts
 parts_at vs n = option_map (λ r. whole_parts r.point) (get vs n)
 
 -- each dart keeps the whole parts of the point of its source, which has a row
-abbrev pub AreMarked : Slab StoredVertex → Slab StoredDart → Type 0
-AreMarked vs ds = (n : ℕ) (r : StoredDart) → get ds n ≡ Some r → parts_at vs r.source.0 ≡ Some r.parts
+abbrev pub AreSourcesKept : Slab StoredVertex → Slab StoredDart → Type 0
+AreSourcesKept vs ds = (n : ℕ) (r : StoredDart) → get ds n ≡ Some r → parts_at vs r.source.0 ≡ Some r.parts
+
+-- and those that its twin keeps of its own
+abbrev pub AreTargetsKept : Slab StoredDart → Type 0
+AreTargetsKept ds = (n : ℕ) (r q : StoredDart) → get ds n ≡ Some r → get ds r.twin.0 ≡ Some q → q.parts ≡ r.target_parts
+
+-- each dart keeps the whole parts of both its points
+pub record AreMarked (vs : Slab StoredVertex) (ds : Slab StoredDart) : Type 0 where
+  pub sources : AreSourcesKept vs ds
+  pub targets : AreTargetsKept ds
 
 -- all that is always true of the records; there is room for a key of each cycle that is promised
 pub record AreSoundRecords (vs : Slab StoredVertex) (ds : Slab StoredDart) (cs : Slab StoredCycle) (fs : Slab StoredFace) (at : VertexMap) (pins lone : ℕ) (lists : Option MovedView) (key_room vertices cycles : ℕ) : Type 0 where

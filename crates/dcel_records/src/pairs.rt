@@ -7,7 +7,7 @@ ghost use Rattle.arr_notes.specs.ViewChanges.{without_pair, with_next, with_sour
 ghost use Rattle.dcel_records.specs.Edges.{with_edge};
 ghost use Rattle.dcel_records.specs.RecordsView.{ends_found, graph_part, IsSpare};
 ghost use Rattle.dcel_records.specs.Outs.{IsRest};
-ghost use Rattle.dcel_records.specs.Given.{given};
+ghost use Rattle.dcel_records.specs.Given.{given, reaching};
 
 use crate::records::Records;
 use crate::rows::{StoredDart, StoredVertex};
@@ -26,6 +26,16 @@ fn give_out(vertices: &mut Table<StoredVertex>, v: VertexId, d: DartId)
     vertices[v.0].out = out;
 }
 
+// A dart keeps other whole parts of the point that it reaches.
+fn set_target_parts(darts: &mut Table<StoredDart>, d: DartId, parts: WholeParts)
+    requires { ContainsKey darts.old d.0 }
+    ensures row { Updates darts.old darts.new d.0 (option_map (reaching parts) (get darts.old d.0)) }
+    ensures len { slab_len darts.new ≡ slab_len darts.old }
+    ensures capacity { darts.new.capacity ≡ darts.old.capacity }
+{
+    darts[d.0].target_parts = parts;
+}
+
 impl Records {
     /// The whole parts of the point that the dart leaves. They are kept with the dart, so no vertex is read.
     #[inline(always)]
@@ -36,14 +46,13 @@ impl Records {
         self.darts[d.0].parts
     }
 
-    /// The whole parts of the point that the dart reaches.
+    /// The whole parts of the point that the dart reaches. They are kept with the dart too, so its twin isn't read.
     #[inline(always)]
     pub fn target_parts(&self, d: DartId) -> WholeParts
         requires { HasDart self.now.graph d }
         ensures { result ≡ whole_parts (point_in self.now.graph (target_in self.now.graph d)) }
     {
-        let twin = self.darts[d.0].twin;
-        self.darts[twin.0].parts
+        self.darts[d.0].target_parts
     }
 
     /// The source and the target of the dart, or `None` for a name without a record.
@@ -76,11 +85,14 @@ impl Records {
         ensures spare { IsSpare self.new self.old 0 2 }
         ensures faces { self.new.faces ≡ record self.old.faces { tables = on_cycle result.1 cycle (on_cycle result.0 cycle self.old.faces.tables) } }
     {
+        let source_parts = self.vertices[u.0].point.whole_parts();
+        let target_parts = self.vertices[v.0].point.whole_parts();
         let d = self.darts.insert_reserved(StoredDart {
             source: u,
             twin: DartId(0),
             next: DartId(0),
-            parts: self.vertices[u.0].point.whole_parts(),
+            parts: source_parts,
+            target_parts,
             line,
             cycle,
         });
@@ -88,7 +100,8 @@ impl Records {
             source: v,
             twin: DartId(d),
             next: DartId(d),
-            parts: self.vertices[v.0].point.whole_parts(),
+            parts: target_parts,
+            target_parts: source_parts,
             line,
             cycle,
         });
@@ -147,7 +160,9 @@ impl Records {
         ensures faces { self.new.faces ≡ self.old.faces }
     {
         let u = self.darts[d.0].source;
+        let twin = self.darts[d.0].twin;
         let parts = self.vertices[w.0].point.whole_parts();
+        set_target_parts(&mut self.darts, twin, parts);
         let dart = &mut self.darts[d.0];
         dart.source = w;
         dart.parts = parts;

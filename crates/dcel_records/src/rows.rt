@@ -22,13 +22,14 @@ pub(crate) struct StoredVertex {
     pub(crate) place: Option<Place>,
 }
 
-/// What is kept of a dart; `parts` are the whole parts of the point that it leaves.
+/// What is kept of a dart; `parts` are the whole parts of the point that it leaves, `target_parts` of the one that it reaches.
 #[derive(Clone, Copy)]
 pub(crate) struct StoredDart {
     pub(crate) source: VertexId,
     pub(crate) twin: DartId,
     pub(crate) next: DartId,
     pub(crate) parts: WholeParts,
+    pub(crate) target_parts: WholeParts,
     pub(crate) line: Line,
     pub(crate) cycle: CycleId,
 }

@@ -11,6 +11,7 @@ use Rattle.dcel_records.proofs.OnCycles.{on_pair}
 use Rattle.dcel_records.proofs.CyclesWritten.{cycle_key}
 use Rattle.dcel_records.proofs.Isolated.{isolated_same}
 use Rattle.dcel_records.proofs.Marked.{marked_pair}
+use Rattle.dcel_records.proofs.TargetsKept.{targets_more, twins_there}
 use Rattle.dcel_records.proofs.records.Records.add_pair_on.Goals as goal
 
 pub index-requires : goal.index-requires
@@ -28,18 +29,21 @@ give_out-requires-2 c = offered_key c.self.inside.vertices c.give_out.new.vertic
 pub invariant_of-self : goal.invariant_of-self
 invariant_of-self c = record {
   graph = pins_kept c.self.inside.vertices c.self.inside.darts _ _ (graph_seen c.self.inside.vertices c.self.inside.darts c.self.inside.cycles c.self.inside.faces c.self.inside.moved c.self.inside.order.items c.self.inside.vertex_room c.self.inside.cycle_room _ c.self.view_is) c.self.invariant.graph _ _ _
-      (edge_written c.self.inside.vertices c.self.inside.darts _ (graph_seen c.self.inside.vertices c.self.inside.darts c.self.inside.cycles c.self.inside.faces c.self.inside.moved c.self.inside.order.items c.self.inside.vertex_room c.self.inside.cycle_room _ c.self.view_is) (dart_id c.insert_reserved-d.result) (dart_id c.insert_reserved-m.result) c.args.u c.args.v c.whole_parts.result c.whole_parts-2.result c.args.line c.args.cycle c.insert_reserved-d.new.self c.insert_reserved-m.new.self c.give_out.new.vertices c.give_out-2.new.vertices
+      (edge_written c.self.inside.vertices c.self.inside.darts _ (graph_seen c.self.inside.vertices c.self.inside.darts c.self.inside.cycles c.self.inside.faces c.self.inside.moved c.self.inside.order.items c.self.inside.vertex_room c.self.inside.cycle_room _ c.self.view_is) (dart_id c.insert_reserved-d.result) (dart_id c.insert_reserved-m.result) c.args.u c.args.v c.whole_parts-source_parts.result c.whole_parts-target_parts.result c.args.line c.args.cycle c.insert_reserved-d.new.self c.insert_reserved-m.new.self c.give_out.new.vertices c.give_out-2.new.vertices
       c.insert_reserved-d.ensures.was_vacant c.insert_reserved-m.ensures.was_vacant c.insert_reserved-d.ensures.updates c.insert_reserved-m.ensures.updates c.give_out.ensures.row c.give_out-2.ensures.row
       c.index_mut-dart.result.now c.index_mut-dart.ensures.value)
       refl
-      (written_kept c.self.inside.vertices c.self.inside.darts _ (graph_seen c.self.inside.vertices c.self.inside.darts c.self.inside.cycles c.self.inside.faces c.self.inside.moved c.self.inside.order.items c.self.inside.vertex_room c.self.inside.cycle_room _ c.self.view_is) (dart_id c.insert_reserved-d.result) (dart_id c.insert_reserved-m.result) c.args.u c.args.v c.whole_parts.result c.whole_parts-2.result c.args.line c.args.cycle c.insert_reserved-d.new.self c.insert_reserved-m.new.self c.give_out.new.vertices c.give_out-2.new.vertices
+      (written_kept c.self.inside.vertices c.self.inside.darts _ (graph_seen c.self.inside.vertices c.self.inside.darts c.self.inside.cycles c.self.inside.faces c.self.inside.moved c.self.inside.order.items c.self.inside.vertex_room c.self.inside.cycle_room _ c.self.view_is) (dart_id c.insert_reserved-d.result) (dart_id c.insert_reserved-m.result) c.args.u c.args.v c.whole_parts-source_parts.result c.whole_parts-target_parts.result c.args.line c.args.cycle c.insert_reserved-d.new.self c.insert_reserved-m.new.self c.give_out.new.vertices c.give_out-2.new.vertices
       c.insert_reserved-d.ensures.was_vacant c.insert_reserved-m.ensures.was_vacant c.insert_reserved-d.ensures.updates c.insert_reserved-m.ensures.updates c.give_out.ensures.row c.give_out-2.ensures.row
       c.self.invariant.graph.rows (vertex_key c.self.inside.vertices c.self.inside.darts _ (graph_seen c.self.inside.vertices c.self.inside.darts c.self.inside.cycles c.self.inside.faces c.self.inside.moved c.self.inside.order.items c.self.inside.vertex_room c.self.inside.cycle_room _ c.self.view_is) c.args.u c.requires.u) (vertex_key c.self.inside.vertices c.self.inside.darts _ (graph_seen c.self.inside.vertices c.self.inside.darts c.self.inside.cycles c.self.inside.faces c.self.inside.moved c.self.inside.order.items c.self.inside.vertex_room c.self.inside.cycle_room _ c.self.view_is) c.args.v c.requires.v) c.index_mut-dart.result.now c.index_mut-dart.ensures.value);
   faces = faces_sound c.self.inside.vertices c.self.inside.darts c.self.inside.cycles c.self.inside.faces c.self.inside.moved c.self.inside.order.items c.self.inside.vertex_room c.self.inside.cycle_room c.args.self.now c.self.view_is c.self.invariant.faces c.give_out-2.new.vertices (λ n. nodes_given (dart_id c.insert_reserved-m.result) c.give_out.new.vertices c.give_out-2.new.vertices c.args.v.0 c.give_out-2.ensures.row n ∙ nodes_given (dart_id c.insert_reserved-d.result) c.self.inside.vertices c.give_out.new.vertices c.args.u.0 c.give_out.ensures.row n);
   vertex_room = room_same c.self.inside.vertex_room c.self.inside.vertices c.give_out-2.new.vertices c.self.invariant.vertex_room (c.give_out-2.ensures.len ∙ c.give_out.ensures.len) (c.give_out-2.ensures.capacity ∙ c.give_out.ensures.capacity);
   cycle_room = c.self.invariant.cycle_room;
   on_cycles = on_pair c.self.inside.darts c.insert_reserved-d.new.self c.insert_reserved-m.new.self c.self.inside.cycles c.insert_reserved-d.result c.insert_reserved-m.result _ _ c.index_mut-dart.result.now _ c.insert_reserved-d.ensures.updates c.insert_reserved-m.ensures.updates c.index_mut-dart.ensures.value refl refl (cycle_key c.self.inside.vertices c.self.inside.darts c.self.inside.cycles c.self.inside.faces c.self.inside.moved c.self.inside.order.items c.self.inside.vertex_room c.self.inside.cycle_room _ c.self.view_is c.self.invariant.faces c.args.cycle c.requires.cycle) c.self.invariant.on_cycles;
-  marked = marked_pair c.self.inside.vertices c.give_out.new.vertices c.give_out-2.new.vertices c.self.inside.darts c.insert_reserved-d.new.self c.insert_reserved-m.new.self c.insert_reserved-d.result c.insert_reserved-m.result _ _ c.index_mut-dart.result.now _ _ _ c.index.ensures c.whole_parts.ensures c.index-2.ensures c.whole_parts-2.ensures c.insert_reserved-d.ensures.updates c.insert_reserved-m.ensures.updates c.index_mut-dart.ensures.value refl refl (dart_id c.insert_reserved-d.result) (dart_id c.insert_reserved-m.result) c.give_out.ensures.row c.give_out-2.ensures.row c.self.invariant.marked;
+  marked = marked_pair c.self.inside.vertices c.give_out.new.vertices c.give_out-2.new.vertices c.self.inside.darts c.insert_reserved-d.new.self c.insert_reserved-m.new.self c.insert_reserved-d.result c.insert_reserved-m.result _ _ c.index_mut-dart.result.now _ _ _ c.index.ensures c.whole_parts-source_parts.ensures c.index-2.ensures c.whole_parts-target_parts.ensures c.insert_reserved-d.ensures.updates c.insert_reserved-m.ensures.updates c.index_mut-dart.ensures.value refl refl (dart_id c.insert_reserved-d.result) (dart_id c.insert_reserved-m.result) c.give_out.ensures.row c.give_out-2.ensures.row
+      (targets_more c.self.inside.darts c.insert_reserved-d.new.self c.insert_reserved-m.new.self c.insert_reserved-d.result c.insert_reserved-m.result _ _ c.index_mut-dart.result.now _ c.insert_reserved-d.ensures.was_vacant c.insert_reserved-m.ensures.was_vacant c.insert_reserved-d.ensures.updates c.insert_reserved-m.ensures.updates c.index_mut-dart.ensures.value refl refl refl refl refl refl
+      (twins_there c.self.inside.vertices c.self.inside.darts _ (graph_seen c.self.inside.vertices c.self.inside.darts c.self.inside.cycles c.self.inside.faces c.self.inside.moved c.self.inside.order.items c.self.inside.vertex_room c.self.inside.cycle_room _ c.self.view_is) c.self.invariant.graph.rows))
+      c.self.invariant.marked;
   moved = c.self.invariant.moved;
   isolated = c.self.invariant.isolated ∙ isolated_same c.self.inside.vertices c.give_out-2.new.vertices (λ n. nodes_given (dart_id c.insert_reserved-m.result) c.give_out.new.vertices c.give_out-2.new.vertices c.args.v.0 c.give_out-2.ensures.row n ∙ nodes_given (dart_id c.insert_reserved-d.result) c.self.inside.vertices c.give_out.new.vertices c.args.u.0 c.give_out.ensures.row n);
   keys = c.self.invariant.keys;
@@ -47,17 +51,17 @@ invariant_of-self c = record {
 
 pub returns-clause-dart : goal.returns-clause-dart
 returns-clause-dart c =
-    no_d c.self.inside.vertices c.self.inside.darts _ (graph_seen c.self.inside.vertices c.self.inside.darts c.self.inside.cycles c.self.inside.faces c.self.inside.moved c.self.inside.order.items c.self.inside.vertex_room c.self.inside.cycle_room _ c.self.view_is) (dart_id c.insert_reserved-d.result) (dart_id c.insert_reserved-m.result) c.args.u c.args.v c.whole_parts.result c.whole_parts-2.result c.args.line c.args.cycle c.insert_reserved-d.new.self c.insert_reserved-m.new.self c.give_out.new.vertices c.give_out-2.new.vertices
+    no_d c.self.inside.vertices c.self.inside.darts _ (graph_seen c.self.inside.vertices c.self.inside.darts c.self.inside.cycles c.self.inside.faces c.self.inside.moved c.self.inside.order.items c.self.inside.vertex_room c.self.inside.cycle_room _ c.self.view_is) (dart_id c.insert_reserved-d.result) (dart_id c.insert_reserved-m.result) c.args.u c.args.v c.whole_parts-source_parts.result c.whole_parts-target_parts.result c.args.line c.args.cycle c.insert_reserved-d.new.self c.insert_reserved-m.new.self c.give_out.new.vertices c.give_out-2.new.vertices
     c.insert_reserved-d.ensures.was_vacant c.insert_reserved-m.ensures.was_vacant c.insert_reserved-d.ensures.updates c.insert_reserved-m.ensures.updates c.give_out.ensures.row c.give_out-2.ensures.row
 
 pub returns-clause-twin : goal.returns-clause-twin
 returns-clause-twin c =
-    no_m c.self.inside.vertices c.self.inside.darts _ (graph_seen c.self.inside.vertices c.self.inside.darts c.self.inside.cycles c.self.inside.faces c.self.inside.moved c.self.inside.order.items c.self.inside.vertex_room c.self.inside.cycle_room _ c.self.view_is) (dart_id c.insert_reserved-d.result) (dart_id c.insert_reserved-m.result) c.args.u c.args.v c.whole_parts.result c.whole_parts-2.result c.args.line c.args.cycle c.insert_reserved-d.new.self c.insert_reserved-m.new.self c.give_out.new.vertices c.give_out-2.new.vertices
+    no_m c.self.inside.vertices c.self.inside.darts _ (graph_seen c.self.inside.vertices c.self.inside.darts c.self.inside.cycles c.self.inside.faces c.self.inside.moved c.self.inside.order.items c.self.inside.vertex_room c.self.inside.cycle_room _ c.self.view_is) (dart_id c.insert_reserved-d.result) (dart_id c.insert_reserved-m.result) c.args.u c.args.v c.whole_parts-source_parts.result c.whole_parts-target_parts.result c.args.line c.args.cycle c.insert_reserved-d.new.self c.insert_reserved-m.new.self c.give_out.new.vertices c.give_out-2.new.vertices
     c.insert_reserved-d.ensures.was_vacant c.insert_reserved-m.ensures.was_vacant c.insert_reserved-d.ensures.updates c.insert_reserved-m.ensures.updates c.give_out.ensures.row c.give_out-2.ensures.row
 
 pub returns-clause-graph : goal.returns-clause-graph
 returns-clause-graph c =
-    edge_written c.self.inside.vertices c.self.inside.darts _ (graph_seen c.self.inside.vertices c.self.inside.darts c.self.inside.cycles c.self.inside.faces c.self.inside.moved c.self.inside.order.items c.self.inside.vertex_room c.self.inside.cycle_room _ c.self.view_is) (dart_id c.insert_reserved-d.result) (dart_id c.insert_reserved-m.result) c.args.u c.args.v c.whole_parts.result c.whole_parts-2.result c.args.line c.args.cycle c.insert_reserved-d.new.self c.insert_reserved-m.new.self c.give_out.new.vertices c.give_out-2.new.vertices
+    edge_written c.self.inside.vertices c.self.inside.darts _ (graph_seen c.self.inside.vertices c.self.inside.darts c.self.inside.cycles c.self.inside.faces c.self.inside.moved c.self.inside.order.items c.self.inside.vertex_room c.self.inside.cycle_room _ c.self.view_is) (dart_id c.insert_reserved-d.result) (dart_id c.insert_reserved-m.result) c.args.u c.args.v c.whole_parts-source_parts.result c.whole_parts-target_parts.result c.args.line c.args.cycle c.insert_reserved-d.new.self c.insert_reserved-m.new.self c.give_out.new.vertices c.give_out-2.new.vertices
     c.insert_reserved-d.ensures.was_vacant c.insert_reserved-m.ensures.was_vacant c.insert_reserved-d.ensures.updates c.insert_reserved-m.ensures.updates c.give_out.ensures.row c.give_out-2.ensures.row
     c.index_mut-dart.result.now c.index_mut-dart.ensures.value
 

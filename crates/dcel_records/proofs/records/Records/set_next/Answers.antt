@@ -19,7 +19,7 @@ invariant_of-self c = record {
   vertex_room = c.self.invariant.vertex_room;
   cycle_room = c.self.invariant.cycle_room;
   on_cycles = on_same c.self.inside.darts c.self.inside.cycles c.args.d.0 c.index_mut.result.now _ c.index_mut.ensures.value refl c.self.invariant.on_cycles;
-  marked = marked_kept c.self.inside.vertices c.self.inside.darts c.args.d.0 c.index_mut.result.now _ c.index_mut.ensures.value refl refl c.self.invariant.marked;
+  marked = marked_kept c.self.inside.vertices c.self.inside.darts c.args.d.0 c.index_mut.result.now _ c.index_mut.ensures.value refl (record { twin = refl; parts = refl; target_parts = refl }) c.self.invariant.marked;
   moved = c.self.invariant.moved;
   isolated = c.self.invariant.isolated;
   keys = c.self.invariant.keys;

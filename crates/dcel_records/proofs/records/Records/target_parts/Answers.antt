@@ -1,12 +1,9 @@
-use Rattle.dcel_records.proofs.Holding.{graph_seen, dart_key, twin_key}
+use Rattle.dcel_records.proofs.Holding.{graph_seen, dart_key}
 use Rattle.dcel_records.proofs.Marked.{target_marked}
 use Rattle.dcel_records.proofs.records.Records.target_parts.Goals as goal
 
 pub index-requires : goal.index-requires
 index-requires c = dart_key c.self.inside.vertices c.self.inside.darts _ (graph_seen c.self.inside.vertices c.self.inside.darts c.self.inside.cycles c.self.inside.faces c.self.inside.moved c.self.inside.order.items c.self.inside.vertex_room c.self.inside.cycle_room _ c.self.view_is) c.args.d c.requires
 
-pub index-requires-2 : goal.index-requires-2
-index-requires-2 c = twin_key c.self.inside.vertices c.self.inside.darts _ (graph_seen c.self.inside.vertices c.self.inside.darts c.self.inside.cycles c.self.inside.faces c.self.inside.moved c.self.inside.order.items c.self.inside.vertex_room c.self.inside.cycle_room _ c.self.view_is) c.self.invariant.graph.rows c.args.d _ c.requires c.index.ensures
-
 pub returns : goal.returns
-returns c = target_marked c.self.inside.vertices c.self.inside.darts _ (graph_seen c.self.inside.vertices c.self.inside.darts c.self.inside.cycles c.self.inside.faces c.self.inside.moved c.self.inside.order.items c.self.inside.vertex_room c.self.inside.cycle_room _ c.self.view_is) c.self.invariant.marked c.args.d _ _ c.index.ensures c.index-2.ensures
+returns c = target_marked c.self.inside.vertices c.self.inside.darts _ (graph_seen c.self.inside.vertices c.self.inside.darts c.self.inside.cycles c.self.inside.faces c.self.inside.moved c.self.inside.order.items c.self.inside.vertex_room c.self.inside.cycle_room _ c.self.view_is) c.self.invariant.marked c.self.invariant.graph.rows c.args.d _ c.requires c.index.ensures

@@ -1,0 +1,69 @@
+-- A dart that is told other whole parts of the point that it reaches: a caller sees what was there.
+use Rattle.std.proofs.Common.{◌≡◌, inl, inr, ℕ, ◌-◌, List, Option, Some, None, option_map, refl, sym, ap, subst, ◌∙◌}
+use Rattle.std.proofs.lemmas.Bool.{cases_eq}
+use Rattle.exact_plane.specs.declared.whole_parts.WholeParts.{WholeParts}
+use Rattle.slab.specs.Slab.{Slab, get, entries, slab_len, ContainsKey, Updates}
+use Rattle.slab_laws.specs.FaceLists.{MovedView}
+use Rattle.slab_laws.specs.Sound.{IsTwinned}
+use Rattle.slab_laws.specs.Tables.{names}
+use Rattle.arr_notes.proofs.RowLaws.{one_table}
+use Rattle.chain_laws.specs.Rows.{tabled}
+use Rattle.chain_laws.proofs.Tabled.{row-tabled, ascend-tabled}
+use Rattle.dcel_records.specs.declared.ranks.RankKey.{RankKey}
+use Rattle.dcel_records.specs.declared.rows.StoredCycle.{StoredCycle}
+use Rattle.dcel_records.specs.declared.rows.StoredDart.{StoredDart}
+use Rattle.dcel_records.specs.declared.rows.StoredFace.{StoredFace}
+use Rattle.dcel_records.specs.declared.rows.StoredVertex.{StoredVertex}
+use Rattle.dcel_records.specs.declared.vertex_map.VertexMap.{VertexMap}
+use Rattle.dcel_records.specs.Given.{reaching}
+use Rattle.dcel_records.specs.Outs.{IsOut}
+use Rattle.dcel_records.specs.StoredRows.{vertex_of, dart_of, bare_of, somes, cycle_record, face_rows, moved_room, ranks_view, graph_in, records_view, out_at, AreSoundRows, AreSoundGraphs, AreOnCycles}
+use Rattle.dcel_records.proofs.EachRow.{each_mapped}
+
+module _ (vs : Slab StoredVertex) (ds es : Slab StoredDart) (t : ℕ) (p : WholeParts) (u : Updates ds es t (option_map (reaching p) (get ds t))) where
+  column_told : {Y : Type 0} (f : StoredDart → Y) → ((r : StoredDart) → f (reaching p r) ≡ f r) → tabled f es ≡ tabled f ds
+  column_told f same = one_table _ _ (ascend-tabled f es) (ascend-tabled f ds) (λ j. row-tabled f es j ∙ found j ∙ sym (row-tabled f ds j))
+    where
+      of_row : (o : Option StoredDart) → option_map f (option_map (reaching p) o) ≡ option_map f o
+      of_row None = refl
+      of_row (Some r) = ap Some (same r)
+
+      found : (j : ℕ) → option_map f (get es j) ≡ option_map f (get ds j)
+      found j = elim (cases_eq j t) [
+        | inl q ↦ rw q (ap (option_map f) u.changed ∙ of_row (get ds t))
+        | inr ne ↦ ap (option_map f) (u.others j ne)
+      ]
+
+  graph_told : graph_in vs es ≡ graph_in vs ds
+  graph_told = let e = column_told dart_of (λ r. refl) in λ i. record { vertices = tabled vertex_of vs; darts = e i }
+
+  rows_told : AreSoundRows vs ds → AreSoundRows vs es
+  rows_told k = let e = sym graph_told in record { twinned = subst (λ v. IsTwinned v) e k.twinned; outs = λ w. subst (λ v. IsOut v w (out_at vs w)) e (k.outs w) }
+
+  pub graphs_told : (at : VertexMap) (pins : ℕ) → AreSoundGraphs vs ds at pins → AreSoundGraphs vs es at pins
+  graphs_told at pins k = record { rows = rows_told k.rows; mapped = k.mapped; counted = k.counted }
+
+  pub cycles_told : (cs : Slab StoredCycle) → AreOnCycles ds cs → AreOnCycles es cs
+  cycles_told cs = each_mapped (λ r. ContainsKey cs r.cycle.0) (reaching p) (λ r k. k) ds es t u
+
+  pub view_told : (cs : Slab StoredCycle) (fs : Slab StoredFace) (mv : Option MovedView) (od : List RankKey) (vr cr : ℕ) → slab_len es ≡ slab_len ds → es.capacity ≡ ds.capacity → records_view vs es cs fs mv od vr cr ≡ records_view vs ds cs fs mv od vr cr
+  view_told cs fs mv od vr cr len capacity =
+      let e = column_told (λ r. r.cycle) (λ r. refl) in
+      λ i. record {
+        graph = graph_told i;
+        spare_vertices = vr - slab_len vs;
+        spare_darts = capacity i - len i;
+        capacity_of_vertices = vr;
+        capacity_of_darts = capacity i;
+        faces = record {
+          tables = record { cycle_of = e i; bare = somes (tabled bare_of vs); cycles = tabled cycle_record cs; faces = names (entries fs) };
+          rows = face_rows vs cs fs;
+          darts = tabled (λ r. r.dart) cs;
+          spare_cycles = cr - slab_len cs;
+          spare_faces = fs.capacity - slab_len fs;
+          capacity_of_cycles = cr;
+          capacity_of_faces = fs.capacity;
+          moved = option_map moved_room mv;
+        };
+        ranks = ranks_view fs od;
+      }
