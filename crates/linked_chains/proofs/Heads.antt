@@ -35,6 +35,17 @@ module _ {S : Type 0} (old new : IndexMap ℕ (Option ℕ) S) (key : ℕ) where
       none true = sym n
       none false = refl
 
+  -- all keys stay then
+  pub headed_keys : (before first : Option ℕ) → IsHeaded key before first old new → IsSome (row_at old.entries key) → (k : ℕ) → is_some (row_at new.entries k) ≡ is_some (row_at old.entries k)
+  headed_keys before first h there k = elim (cases_eq k key) [
+    | inl q ↦ ap is_some (h.heads k) ∙ either q ((k == key) && is_none before)
+    | inr ne ↦ ap is_some (h.heads k) ∙ ap (λ b. is_some (cond (b && is_none before) (Some first) (row_at old.entries k))) (other_number k key ne)
+  ]
+    where
+      either : k ≡ key → (b : Bool) → is_some (cond b (Some first) (row_at old.entries k)) ≡ is_some (row_at old.entries k)
+      either q true = sym (ap (λ z. is_some (row_at old.entries z)) q ∙ there)
+      either q false = refl
+
   -- an empty chain more
   pub key_more : Updates nat_eq old new key (Some None) → (k : ℕ) → IsSome (row_at new.entries k) ↔ (IsSome (row_at old.entries k) ⊎ (k ≡ key))
   key_more u k = elim (cases_eq k key) [

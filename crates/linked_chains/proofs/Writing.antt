@@ -28,7 +28,7 @@ module _ {S : Type 0} (hs : IndexMap ℕ (Option ℕ) S) (ns : Slab Node) (h : C
   abbrev head : ℕ → Option (Option ℕ)
   head k = row_at hs.entries k
 
-  heads_kept : (gs : IndexMap ℕ (Option ℕ) S) → ((k : ℕ) → is_some (row_at gs.entries k) ≡ is_some (head k)) → (k : ℕ) → HasKey h k ↔ IsSome (row_at gs.entries k)
+  pub heads_kept : (gs : IndexMap ℕ (Option ℕ) S) → ((k : ℕ) → is_some (row_at gs.entries k) ≡ is_some (head k)) → (k : ℕ) → HasKey h k ↔ IsSome (row_at gs.entries k)
   heads_kept gs e k = (λ s. e k ∙ ap (λ c. is_some (row_at c.heads k)) is ∙ s, λ s. ap (λ c. is_some (row_at c.heads k)) (sym is) ∙ sym (e k) ∙ s)
 
   -- ---- a node n more, before the old first

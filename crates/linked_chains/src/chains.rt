@@ -134,14 +134,16 @@ impl Chains {
         ensures spare { IsSpare self.new self.old 0 1 }
         ensures keeps_keys { self.old.spare_keys ≤ self.new.spare_keys }
     {
-        let first = self.first(key);
+        // One question for the head serves both to read it and to write it.
+        let head = self.heads.get_mut(&key).unwrap();
+        let first = *head;
         let node = self.nodes.insert_reserved(Node {
             entry: Entry { key, item, twin },
             before: None,
             after: first,
         });
         set_before(&mut self.nodes, first, Some(node));
-        set_head(&mut self.heads, key, None, Some(node));
+        *head = Some(node);
         node
     }
 
