@@ -1,5 +1,5 @@
 -- What is taken from a face.
-use Rattle.std.specs.Prelude.{Bool, true, ◌==◌, ◌&&◌, not, List, ⊤}
+use Rattle.std.specs.Prelude.{Bool, true, ◌==◌, ◌&&◌, not, List, ⊤, IfSome}
 use Rattle.std.specs.List.{filter}
 use Rattle.slab_laws.specs.declared.names.CycleId.{CycleId}
 use Rattle.slab_laws.specs.declared.names.FaceId.{FaceId}
@@ -18,10 +18,10 @@ abbrev pub takes : View → Which → Item → Bool
 takes v All i = true
 takes v (Inside half extent) i = odd_at (skeleton_of v) (dart_in v half) (cell_at v i)
 
--- the dart has a record, and the extent is that of its cycle
+-- the dart has a record, and the extent, if there is one, is that of its cycle
 abbrev pub IsWhich : View → Which → Type 0
 IsWhich v All = ⊤
-IsWhich v (Inside half extent) = HasDart v half × IsExtent v half extent
+IsWhich v (Inside half extent) = HasDart v half × IfSome extent (IsExtent v half)
 
 -- whether a cycle is taken, which is asked at the dart that is kept for it; one stays
 abbrev pub takes_cycle : View → Which → CycleId → Lists → CycleId → Bool

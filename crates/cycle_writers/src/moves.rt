@@ -7,7 +7,7 @@ ghost use Rattle.dcel_records.specs.RecordsView.{IsSpareFaces, graph_part, lists
 ghost use Rattle.face_changes.specs.FacesByPairs.{beside};
 ghost use Rattle.cycle_writers.specs.Taken.{IsWhich, takes, takes_cycle, takes_vertex, cycles_taken, vertices_taken};
 
-use boundary_cycles::{Extent, is_odd_beside_within, parity_within};
+use boundary_cycles::{Extent, is_odd_beside, is_odd_beside_within, parity, parity_within};
 use dcel_records::Records;
 use slab_laws::{CycleId, DartId, Darts, FaceId, FaceLists, Moved, VertexId};
 
@@ -16,8 +16,12 @@ use slab_laws::{CycleId, DartId, Darts, FaceId, FaceLists, Moved, VertexId};
 pub enum Which {
     /// All of them.
     All,
-    /// Those in whose cells the parity of the cycle of `half` is odd. The extent is that of the cycle.
-    Inside { half: DartId, extent: Extent },
+    /// Those in whose cells the parity of the cycle of `half` is odd. The extent is that of the cycle, where it was worked out: it
+    /// answers for most of what lies elsewhere, and pays where much is asked.
+    Inside {
+        half: DartId,
+        extent: Option<Extent>,
+    },
 }
 
 impl Which {
@@ -30,7 +34,10 @@ impl Which {
     {
         match self {
             Which::All => true,
-            Which::Inside { half, extent } => is_odd_beside_within(records, *half, extent, d),
+            Which::Inside { half, extent } => match extent {
+                Some(extent) => is_odd_beside_within(records, *half, extent, d),
+                None => is_odd_beside(records, *half, d),
+            },
         }
     }
 
@@ -54,9 +61,10 @@ impl Which {
     {
         match self {
             Which::All => true,
-            Which::Inside { half, extent } => {
-                parity_within(records, *half, extent, &records.point(v))
-            }
+            Which::Inside { half, extent } => match extent {
+                Some(extent) => parity_within(records, *half, extent, &records.point(v)),
+                None => parity(records, *half, &records.point(v)),
+            },
         }
     }
 }

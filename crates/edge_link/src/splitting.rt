@@ -1,7 +1,8 @@
-ghost use Rattle.std.specs.Prelude.{◌≡◌, ◌≤◌, Some};
+ghost use Rattle.std.specs.Prelude.{◌≡◌, ◌≤◌, Some, IfSome};
 ghost use Rattle.slab_laws.specs.Sound.{IsGraphSound};
 ghost use Rattle.slab_laws.specs.View.{HasCycle, HasDart, HasFace, cycle_in, twin_in};
 ghost use Rattle.slab_laws.specs.declared.names.CycleKind.TheVariants.{Outer};
+ghost use Rattle.boundary_cycles.specs.Extents.{IsExtent};
 ghost use Rattle.arr_notes.specs.FaceWriters.{orbit_on, with_cycle, with_face};
 ghost use Rattle.dcel_records.specs.ListChanges.{cycle_listed, dart_listed};
 ghost use Rattle.dcel_records.specs.RecordsView.{IsReturned, IsSpareFaces, graph_part, lists_of, tables_of};
@@ -14,11 +15,11 @@ ghost use Rattle.edge_link.specs.Links.{CanLink};
 use crate::faces::FacedLink;
 use crate::links::link_on;
 use arr_notes::Linked;
-use boundary_cycles::{extent_of, is_no_longer, is_odd_beside};
+use boundary_cycles::{Extent, extent_of, is_no_longer, is_odd_beside};
 use cycle_writers::{Which, carry_off, put_orbit};
 use dcel_records::Records;
 use exact_plane::Line;
-use slab_laws::{CycleId, CycleKind, DartId, Darts, FaceId, Faced, VertexId};
+use slab_laws::{CycleId, CycleKind, DartId, Darts, FaceId, FaceLists, Faced, VertexId};
 
 // The halves of a cycle that an edge has parted: the dart of the one that becomes the fresh cycle, that of the other, and how
 // it is told what goes to the fresh face.
@@ -29,16 +30,35 @@ struct Halves {
     which: Which,
 }
 
+// The extent of a dart's cycle, where it will be asked for.
+fn extent_where(records: &Records, d: DartId, asked: bool) -> Option<Extent>
+    requires sound { IsGraphSound records.now.graph }
+    requires dart { HasDart records.now.graph d }
+    ensures { IfSome result (IsExtent records.now.graph d) }
+{
+    if asked {
+        Some(extent_of(records, d))
+    } else {
+        None
+    }
+}
+
 // The halves, by asking one of them: where that is outer it is the fresh one, else the other is. What lies within it is asked
-// of the same half later.
-fn halves_asked(records: &Records, asked: DartId, rest: DartId, both_outer: bool) -> Halves
+// of the same half later; its extent is worked out where there is such.
+fn halves_asked(
+    records: &Records,
+    asked: DartId,
+    rest: DartId,
+    both_outer: bool,
+    crowded: bool,
+) -> Halves
     requires sound { IsGraphSound records.now.graph }
     requires asked { HasDart records.now.graph asked }
     ensures { AreHalves records.now.graph asked rest both_outer result }
 {
     let which = Which::Inside {
         half: asked,
-        extent: extent_of(records, asked),
+        extent: extent_where(records, asked, crowded),
     };
     if both_outer || is_odd_beside(records, asked, asked) {
         Halves {
@@ -56,16 +76,31 @@ fn halves_asked(records: &Records, asked: DartId, rest: DartId, both_outer: bool
 }
 
 // Of an outer cycle both halves are outer, and one of an inner one. It is the shorter half that is asked.
-fn shorter_asked(records: &Records, d: DartId, m: DartId, both_outer: bool) -> Halves
+fn shorter_asked(records: &Records, d: DartId, m: DartId, both_outer: bool, crowded: bool) -> Halves
     requires sound { IsGraphSound records.now.graph }
     requires first { HasDart records.now.graph d }
     requires second { HasDart records.now.graph m }
     ensures { AreHalves records.now.graph d m both_outer result }
 {
     if is_no_longer(records, d, m) {
-        halves_asked(records, d, m, both_outer)
+        halves_asked(records, d, m, both_outer, crowded)
     } else {
-        halves_asked(records, m, d, both_outer)
+        halves_asked(records, m, d, both_outer, crowded)
+    }
+}
+
+// Whether a face has more on its boundary than one of its cycles.
+fn has_more(records: &Records, face: FaceId, cycle: CycleId) -> bool
+    requires face { HasFace (tables_of records.now) face }
+    requires cycle { HasCycle (tables_of records.now) cycle }
+{
+    match records.first_cycle_of(face) {
+        Some(first) => {
+            first != cycle
+                || records.cycle_after_in_face(cycle).is_some()
+                || records.first_isolated_in(face).is_some()
+        }
+        None => true,
     }
 }
 
@@ -122,8 +157,9 @@ pub(crate) fn split_face(
     let kept = records.cycle(records.twin(at_u));
     let face = records.face(kept);
     let both_outer = records.kind(kept).is_outer();
+    let crowded = has_more(records, face, kept);
     let names = link_on(records, u, v, Some(at_u), Some(at_v), line, kept);
-    let halves = shorter_asked(records, names.d, names.m, both_outer);
+    let halves = shorter_asked(records, names.d, names.m, both_outer, crowded);
     let (fresh, fresh_face) = part_off(records, kept, halves.fresh, halves.other);
     let moved = carry_off(records, &halves.which, kept, face, fresh_face);
     FacedLink {
