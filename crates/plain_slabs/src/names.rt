@@ -66,7 +66,7 @@ fn span_of<R: Darts>(records: &R, dart: &DartKey) -> Span
     requires forward { goes_forward dart.now ≡ true }
     ensures { result ≡ span_along (R.graph records.now) dart.now }
 {
-    Span::new(dart.source, dart.target, records.line(dart.name)).unwrap()
+    Span::between(dart.source, dart.target, records.line(dart.name))
 }
 
 fn spans_of<R: Darts>(alloc: Global, records: &R, darts: &[DartKey]) -> Result<Vec<Span>, NoMemory>
