@@ -1,5 +1,5 @@
 -- The course of a segment along its line, and lines that are one.
-use Rattle.std.proofs.Common.{◌≡◌, true, not, ◌&&◌, ◌*ℤ◌, refl, sym, ap, ◌∙◌}
+use Rattle.std.proofs.Common.{◌≡◌, true, not, ◌&&◌, ◌*ℤ◌, refl, sym, ap, ◌∙◌, subst, ⊎_elim}
 use Rattle.integers.proofs.Decisions.{eq_in}
 use Rattle.std.specs.Ordering.{int_eq}
 use Rattle.exact_plane.specs.Line.{Line, side_of, IsOn}
@@ -8,12 +8,13 @@ use Rattle.exact_plane.specs.PointOrder.{point_cmp}
 use Rattle.exact_plane.specs.Segment.{Segment, line_of_segment, AreEnds}
 use Rattle.plane_graphs.specs.Line.{IsProper, IsProperLine, IsWhole, precedes, is_on, are_parallel}
 use Rattle.plane_graphs.proofs.Lines.{whole_is_proper, line_of_segment-runs, line_of_segment-lowest, lower_on, upper_on, zero_out, zero_in, apart_out}
-use Rattle.plane_graphs.proofs.Lists.{and_in}
+use Rattle.plane_graphs.proofs.Lists.{and_in, decide}
 use Rattle.plane_graphs.proofs.Marks.{Le, le_out, le_in, le_same, le_lt}
-use Rattle.plane_graphs.proofs.Order.{Lt}
+use Rattle.plane_graphs.proofs.Order.{Lt, lt_never}
 use Rattle.exact_plane.proofs.Crossings.{parallel_share, same_line}
 use Rattle.exact_plane.specs.PointOrderLaws.{and_true}
 use Rattle.zone_walk.specs.Zone.{is_on_segment}
+use Rattle.zone_walk.proofs.LineCrossings.{is_crossing}
 
 -- ---- a segment's line
 pub record IsCourse (s : Segment) : Type 0 where
@@ -65,6 +66,14 @@ one_line l m t L M T x y e =
     let o = parallel_share l.a l.b l.c m.a m.b m.c t.x t.y t.w T.positive w x y in
     let s = same_line l.a l.b l.c m.a m.b m.c L.lowest M.lowest L.runs M.runs w o.0 o.1 in
     λ i. record { a = s.0 i; b = s.1 i; c = s.2 i }
+
+-- two lines with two common points are one
+pub one_by_two : (l m : Line) (p q : Point) → IsProperLine l → IsProperLine m → IsProper p → IsProper q → Lt p q → IsOn l p → IsOn m p → IsOn l q → IsOn m q → l ≡ m
+one_by_two l m p q L M P Q k a b c d =
+    ⊎_elim
+    (λ z. one_line l m p L M P a b z)
+    (λ z. absurd (lt_never (subst (Lt p) (is_crossing l m z q Q c d ∙ sym (is_crossing l m z p P a b)) k)))
+    (decide (are_parallel l m))
 
 pub parallel_itself : (l m : Line) → l ≡ m → are_parallel l m ≡ true
 parallel_itself l m e = ap (λ (n : Line). are_parallel l n) (sym e) ∙ eq_in (l.a *ℤ l.b) (l.a *ℤ l.b) refl

@@ -13,6 +13,7 @@ pub mod Degrees
 pub mod SeenMeetings
 pub mod Searched
 pub mod Visited
+pub mod LineSides
 pub mod PartsAhead
 pub mod InFaces
 pub mod Looks

@@ -139,7 +139,7 @@ module _ (v : View) (f : Faces) (g : Segment) (l m : Search) (p q : Point) (a : 
         whole = subst (λ (z : Segment). IsSpan (span_of_segment z)) (sym segment) a.search.whole;
         spanned = whole ∙ a.search.spanned ∙ ap span_of_segment (sym segment);
         boxed = bounds ∙ a.search.boxed ∙ ap bounding_box (sym whole);
-        from = (λ i. precedes (here i) (same_segment i).lower) ∙ not_true (precedes q g.lower) (λ e. lt_never (lt_trans (le_lt_lt (at_most g.lower p (sym (λ i. precedes (a.here i) (a.segment i).lower) ∙ a.search.from)) (lt_out p q n.later)) (lt_out q g.lower e)));
+        stands = subst (λ (z : Segment). Contains (meeting_points v z) m.here) (sym same_segment) (subst (Contains (meeting_points v g)) (sym here) n.meets);
         found = subst (λ (z : Segment). AreFoundAfter v z m.here m.found.entries) (sym same_segment) (subst (λ (z : Point). AreFoundAfter v g z m.found.entries) (sym here) found_after);
         kept = λ r i. i;
       };
@@ -253,7 +253,7 @@ module _ (v : View) (f : Faces) (l m n : Search) (a : IsSearchAt v f l.segment l
       whole = subst (λ (z : Segment). IsSpan (span_of_segment z)) (sym segment) ready.whole;
       spanned = whole ∙ ready.spanned ∙ ap span_of_segment (sym segment);
       boxed = bounds ∙ ready.boxed ∙ ap bounding_box (sym whole);
-      from = (λ i. precedes (here i) (segment i).lower) ∙ ready.from;
+      stands = subst (λ (z : Segment). Contains (meeting_points v z) n.here) (sym segment) (subst (Contains (meeting_points v m.segment)) (sym here) ready.stands);
       found = subst (λ (z : Segment). AreFoundAfter v z n.here n.found.entries) (sym segment) (subst (λ (z : Point). AreFoundAfter v m.segment z n.found.entries) (sym here) (subst (AreFoundAfter v m.segment m.here) (sym entries) ready.found));
       kept = λ r i. i;
     };

@@ -1,4 +1,4 @@
--- An edge of which both ends are beyond one side of the box of a segment has no meeting point.
+-- The points of an edge are on its line between its ends; where both ends are beyond one side of the box of a segment, none is a meeting point.
 use Rattle.std.proofs.Common.{◌≡◌, true, sym, ◌∙◌, subst, inl, inr, ⊎_elim}
 use Rattle.exact_plane.specs.Line.{IsOn}
 use Rattle.exact_plane.specs.Point.{Point}
@@ -49,7 +49,7 @@ module _ (v : View) (s : IsGraphSound v) (d : DartId) (has : HasDart v d) where
   at_high : Along high
   at_high = record { runs = (s.drawn.line d has).runs; low_is = proper.0.positive; high_is = proper.1.positive; is = proper.1.positive; low_on = on.0; high_on = on.1; on = on.1; from = less_at_most low high (ascend v s d has).is; upto = at_most_itself high }
 
-  along : (p : Point) → IsProper p → IsOnEdge v d p → Along p
+  pub along : (p : Point) → IsProper p → IsOnEdge v d p → Along p
   along p P (inl e) = ⊎_elim (λ w. subst Along (sym (e ∙ w.0)) at_low) (λ w. subst Along (sym (e ∙ w.1)) at_high) (ends_are v s d has)
   along p P (inr (inl e)) = ⊎_elim (λ w. subst Along (sym (e ∙ w.1)) at_high) (λ w. subst Along (sym (e ∙ w.0)) at_low) (ends_are v s d has)
   along p P (inr (inr i)) =

@@ -1,20 +1,18 @@
 -- What follows a meeting point on the segment: an edge, or the face that what lies at the point tells.
-use Rattle.std.proofs.Common.{◌≡◌, ◌≢◌, Bool, true, false, cond, not, pos, neg_ℤ, ◌<ℤ◌, Some, None, refl, sym, ap, ◌∙◌, subst, ⊎_elim}
-use Rattle.integers.proofs.Compare.{equal_in, equal_out}
+use Rattle.std.proofs.Common.{◌≡◌, ◌≢◌, Bool, true, false, not, pos, ◌<ℤ◌, Some, None, refl, sym, ap, ◌∙◌, subst}
+use Rattle.integers.proofs.Compare.{equal_in}
 use Rattle.integers.proofs.Tests.{lt_is}
 use Rattle.exact_plane.specs.Direction.{direction_of}
 use Rattle.exact_plane.specs.Line.{Line, side_of, IsOn}
 use Rattle.exact_plane.specs.Point.{Point}
 use Rattle.exact_plane.specs.Segment.{Segment, line_of_segment}
 use Rattle.exact_plane.specs.Sign.{sign_by, sign_of}
-use Rattle.exact_plane.specs.Span.{IsSpan}
 use Rattle.exact_plane.specs.declared.sides.Sign.{Sign}
 use Rattle.exact_plane.specs.declared.sides.Sign.TheVariants.{Minus, Zero, Plus}
 use Rattle.plane_graphs.specs.Graph.{Edge}
-use Rattle.plane_graphs.specs.Line.{IsProper, IsProperLine, are_parallel, precedes}
-use Rattle.plane_graphs.proofs.Lists.{decide}
+use Rattle.plane_graphs.specs.Line.{IsProper, precedes}
 use Rattle.plane_graphs.proofs.Order.{Lt, lt_in, lt_never}
-use Rattle.edge_predicates.proofs.Sides.{above_zero, below_zero, at_zero, side_same}
+use Rattle.edge_predicates.proofs.Sides.{above_zero, below_zero, at_zero}
 use Rattle.slab_laws.specs.declared.names.DartId.{DartId}
 use Rattle.slab_laws.specs.declared.names.FaceId.{FaceId}
 use Rattle.slab_laws.specs.declared.names.VertexId.{VertexId}
@@ -35,19 +33,10 @@ use Rattle.open_parts.specs.Parts.{TellsFace, IsOnSide}
 use Rattle.open_parts.specs.Parts.TellsFace.{at_vertex, in_edge, in_face}
 use Rattle.face_steps.specs.VertexSteps.{IsFaceRound}
 use Rattle.dcel_records.specs.Spots.{IsInFace}
-use Rattle.zone_walk.specs.Sights.{span_in, side_from}
 use Rattle.zone_walk.specs.Walk.{IsAhead}
 use Rattle.zone_walk.proofs.Aheads.{ahead_along, along_ahead, ahead_inside, none_inside, none_in_face}
-use Rattle.zone_walk.proofs.Courses.{IsCourse, LiesOn, one_line}
-use Rattle.zone_walk.proofs.LineCrossings.{is_crossing}
-
--- two lines with two common points are one
-one_by_two : (l m : Line) (p q : Point) → IsProperLine l → IsProperLine m → IsProper p → IsProper q → Lt p q → IsOn l p → IsOn m p → IsOn l q → IsOn m q → l ≡ m
-one_by_two l m p q L M P Q k a b c d =
-    ⊎_elim
-    (λ z. one_line l m p L M P a b z)
-    (λ z. absurd (lt_never (subst (Lt p) (is_crossing l m z q Q c d ∙ sym (is_crossing l m z p P a b)) k)))
-    (decide (are_parallel l m))
+use Rattle.zone_walk.proofs.Courses.{IsCourse, LiesOn, one_by_two}
+use Rattle.zone_walk.proofs.LineSides.{side_of_line}
 
 module _ (v : View) (f : Faces) (s : IsGraphSound v) (g : Segment) (c : IsCourse g) where
   abbrev line : Line
@@ -55,21 +44,21 @@ module _ (v : View) (f : Faces) (s : IsGraphSound v) (g : Segment) (c : IsCourse
 
   module _ (p : Point) (proper : IsProper p) (on : LiesOn g p) (before : Lt p g.upper) where
     -- ---- inside an edge
-    module _ (d : DartId) (F : IsForward v d) (inner : inside (edge_in v d) p ≡ true) (is : IsSpan (span_in v d)) (r : Sign) (told : r ≡ sign_of (side_from v d g.upper)) where
+    module _ (d : DartId) (F : IsForward v d) (inner : inside (edge_in v d) p ≡ true) (r : Sign) (told : r ≡ sign_of (side_of (line_in v d) g.upper)) where
       has : HasDart v d
       has = F.0
 
-      side_is : sign_of (side_from v d g.upper) ≡ sign_of (side (edge_in v d) g.upper)
-      side_is = ap (λ (b : Bool). sign_of (cond b (side (edge_in v d) g.upper) (neg_ℤ (side (edge_in v d) g.upper)))) F.1
+      edge_told : sign_of (side (edge_in v d) g.upper) ≡ r
+      edge_told = ap sign_by (side_of_line v s d has g.upper) ∙ sym told
 
       on_line_zero : IsOn (line_in v d) g.upper → r ≡ Zero
-      on_line_zero h = told ∙ side_is ∙ ap sign_by (side_same (span_in v d) is g.upper ∙ equal_in (side_of (line_in v d) g.upper) (pos 0) h)
+      on_line_zero h = told ∙ ap sign_by (equal_in (side_of (line_in v d) g.upper) (pos 0) h)
 
       pub off_line : r ≢ Zero → (e : DartId) → IsAhead v line p e → ⊥
       off_line n = none_inside v s line p proper on.on d F inner (λ e. n (on_line_zero (subst (λ (l : Line). IsOn l g.upper) (sym e) c.upper_on)))
 
       pub on_left : r ≡ Plus → TellsFace v f p g.upper (face_in f (cycle_in f d))
-      on_left e = in_edge d has inner (subst (λ (b : Bool). IsOnSide (edge_in v d) b g.upper) (sym F.1) (lt_is (pos 0) (side (edge_in v d) g.upper) (above_zero (side (edge_in v d) g.upper) (sym (told ∙ side_is) ∙ e))))
+      on_left e = in_edge d has inner (subst (λ (b : Bool). IsOnSide (edge_in v d) b g.upper) (sym F.1) (lt_is (pos 0) (side (edge_in v d) g.upper) (above_zero (side (edge_in v d) g.upper) (edge_told ∙ e))))
 
       pub on_right : r ≡ Minus → TellsFace v f p g.upper (face_in f (cycle_in f (twin_in v d)))
       on_right e =
@@ -78,12 +67,11 @@ module _ (v : View) (f : Faces) (s : IsGraphSound v) (g : Segment) (c : IsCourse
           let back : (dart_in v (twin_in v d)).forward ≡ false = ap (λ (x : Dart). x.forward) t ∙ ap not F.1 in
           in_edge (twin_in v d) (s.twinned.has d has) (ap (λ (z : Edge). inside z p) edge ∙ inner)
           (subst (λ (b : Bool). IsOnSide (edge_in v (twin_in v d)) b g.upper) (sym back)
-          (subst (λ (z : Edge). side z g.upper <ℤ pos 0) (sym edge) (lt_is (side (edge_in v d) g.upper) (pos 0) (below_zero (side (edge_in v d) g.upper) (sym (told ∙ side_is) ∙ e)))))
+          (subst (λ (z : Edge). side z g.upper <ℤ pos 0) (sym edge) (lt_is (side (edge_in v d) g.upper) (pos 0) (below_zero (side (edge_in v d) g.upper) (edge_told ∙ e)))))
 
       pub goes_along : r ≡ Zero → IsAhead v line p d
       goes_along e =
-          let z : side (edge_in v d) g.upper ≡ pos 0 = at_zero (side (edge_in v d) g.upper) (sym (told ∙ side_is) ∙ e) in
-          let o : IsOn (line_in v d) g.upper = equal_out (side_of (line_in v d) g.upper) (pos 0) (sym (side_same (span_in v d) is g.upper) ∙ equal_in (side (edge_in v d) g.upper) (pos 0) z) in
+          let o : IsOn (line_in v d) g.upper = at_zero (side_of (line_in v d) g.upper) (sym told ∙ e) in
           ahead_inside v s line p proper on.on d F inner
           (one_by_two (line_in v d) line p g.upper (s.drawn.line d has) c.line proper c.upper before (dart_in_out v s d p F proper inner).on on.on o c.upper_on)
 

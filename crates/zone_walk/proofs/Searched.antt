@@ -1,40 +1,42 @@
 -- A search goes on as points are taken, and finds what it looks at.
-use Rattle.std.proofs.Common.{◌≡◌, ◌≢◌, true, false, Some, None, Contains, Option, List, refl, sym, ap, ◌∙◌, subst, inl, inr, ◌⊎◌, ⊎_elim}
+use Rattle.std.proofs.Common.{◌≡◌, ◌≢◌, true, false, not, Some, None, Contains, Option, List, refl, sym, ap, ◌∙◌, subst, inl, inr, ◌⊎◌, ⊎_elim}
 use Rattle.std.specs.Map.{keys_of}
+use Rattle.exact_plane.specs.Line.{Line, side_of, IsOn}
 use Rattle.exact_plane.specs.Meet.{IsMeeting}
 use Rattle.exact_plane.specs.Point.{Point}
-use Rattle.exact_plane.specs.Segment.{Segment, AreEnds}
+use Rattle.exact_plane.specs.PointOrderLaws.{and_true}
+use Rattle.exact_plane.specs.Segment.{Segment, AreEnds, line_of_segment}
 use Rattle.exact_plane.specs.Span.{Span, IsSpan, span_of_segment}
 use Rattle.exact_plane.specs.declared.meets.Meet.{Meet}
 use Rattle.exact_plane.specs.declared.meets.Meet.TheVariants.{Apart}
 use Rattle.plane_graphs.specs.Ascending.{Member}
 use Rattle.plane_graphs.specs.Graph.{Edge as PlaneEdge}
-use Rattle.plane_graphs.specs.Line.{precedes}
-use Rattle.plane_graphs.proofs.Lists.{clash}
+use Rattle.plane_graphs.specs.Line.{IsProperLine, precedes, is_on}
+use Rattle.plane_graphs.proofs.Lines.{zero_out}
+use Rattle.plane_graphs.proofs.Lists.{clash, not_out}
 use Rattle.plane_graphs.proofs.Marks.{le_lt_lt}
 use Rattle.plane_graphs.proofs.Order.{Lt, lt_out}
 use Rattle.slab_laws.specs.declared.names.DartId.{DartId}
 use Rattle.slab_laws.specs.declared.names.VertexId.{VertexId}
 use Rattle.slab_laws.specs.Skeleton.{inside}
 use Rattle.slab_laws.specs.Sound.{edge_in, dart_in, IsGraphSound}
-use Rattle.slab_laws.specs.View.{View, HasVertex, HasDart, point_in, source_in, twin_in, target_in}
+use Rattle.slab_laws.specs.View.{View, HasVertex, HasDart, point_in, source_in, twin_in, target_in, line_in}
 use Rattle.counted_looks.specs.declared.boundary_part.BoundaryPart.{BoundaryPart}
 use Rattle.counted_looks.specs.declared.boundary_part.BoundaryPart.TheVariants.{Dart, Isolated}
 use Rattle.dcel_records.specs.declared.spot.Spot.{Spot}
 use Rattle.dcel_records.specs.declared.spot.Spot.TheVariants.{Vertex, Edge}
 use Rattle.sound_views.proofs.ForwardDarts.{is_behind, target_has}
-use Rattle.zone_walk.specs.Searches.{AreKept, IsOnEdge, IsThere, AreFoundAfter, IsPartTaken, IsOneSearch, IsSearchFrom, HasSeen, points_of_meet}
+use Rattle.zone_walk.specs.Searches.{AreKept, IsOnEdge, IsThere, AreFoundAfter, IsPartTaken, IsOneSearch, IsSearchFrom, HasSeen, passes_here, points_of_meet}
 use Rattle.zone_walk.specs.Sights.{IsDartMet, IsVertexMet, span_in, is_on_span, meet_between}
 use Rattle.zone_walk.specs.declared.edge_points.CommonPoints.{CommonPoints}
-use Rattle.zone_walk.specs.Zone.{is_on_segment, meeting_points}
+use Rattle.zone_walk.specs.Zone.{is_on_segment, meeting_points, are_one}
 use Rattle.zone_walk.specs.declared.search.Search.{Search}
-use Rattle.zone_walk.proofs.Aheads.{at_most}
-use Rattle.zone_walk.proofs.Courses.{course, lies_in}
+use Rattle.zone_walk.proofs.Courses.{IsCourse, course, lies_in, one_by_two, line-itself}
 use Rattle.exact_plane.specs.WholeParts.{bounding_box, excludes, whole_parts}
-use Rattle.zone_walk.proofs.MeetingPoints.{vertex}
-use Rattle.zone_walk.proofs.OutsideBox.{outside_missed}
+use Rattle.zone_walk.proofs.MeetingPoints.{MeetsAt, vertex}
+use Rattle.zone_walk.proofs.OutsideBox.{along, outside_missed}
 use Rattle.zone_walk.proofs.SeenMeetings.{is_told, is_sound}
-use Rattle.zone_walk.proofs.Stretches.{listed, told, meets_lies}
+use Rattle.zone_walk.proofs.Stretches.{listed, told, meets_lies, meets_proper}
 
 -- ---- what is at a point of an edge
 module _ (v : View) (s : IsGraphSound v) (d : DartId) (has : HasDart v d) (p : Point) where
@@ -91,7 +93,7 @@ goes_on v P o k l h one kept sound only = record {
   whole = subst (λ (z : Segment). IsSpan (span_of_segment z)) (sym one.segment) h.whole;
   spanned = one.whole ∙ h.spanned ∙ ap span_of_segment (sym one.segment);
   boxed = one.bounds ∙ h.boxed ∙ ap bounding_box (sym one.whole);
-  from = (λ i. precedes (one.here i) (one.segment i).lower) ∙ h.from;
+  stands = subst (λ (z : Segment). Contains (meeting_points v z) l.here) (sym one.segment) (subst (Contains (meeting_points v k.segment)) (sym one.here) h.stands);
   found =
       subst (λ (z : Segment). AreFoundAfter v z l.here l.found.entries) (sym one.segment)
       (subst (λ (z : Point). AreFoundAfter v k.segment z l.found.entries) (sym one.here)
@@ -105,8 +107,15 @@ points_between p None = refl
 points_between p (Some q) = refl
 
 module _ (v : View) (o k : Search) (h : IsSearchFrom v o k) (d : DartId) (has : HasDart v d) where
+  abbrev way : IsCourse k.segment
+  way = course k.segment h.ends
+
+  -- the search stands at a point of the segment
+  stands : MeetsAt v k.segment k.here
+  stands = told v h.sound k.segment way k.here h.stands
+
   after_lower : (p : Point) → precedes k.here p ≡ true → Lt k.segment.lower p
-  after_lower p l = le_lt_lt (at_most k.segment.lower k.here h.from) (lt_out k.here p l)
+  after_lower p l = le_lt_lt (meets_lies v h.sound k.segment way k.here stands).from (lt_out k.here p l)
 
   of_segment : (m : Meet) → IsMeeting k.whole (span_in v d) m → IsMeeting (span_of_segment k.segment) (span_in v d) m
   of_segment m = subst (λ (w : Span). IsMeeting w (span_in v d) m) h.spanned
@@ -115,18 +124,31 @@ module _ (v : View) (o k : Search) (h : IsSearchFrom v o k) (d : DartId) (has : 
   pub none_taken : IsSpan (span_in v d) → IsMeeting k.whole (span_in v d) Apart → (es : List (Point × Spot)) → IsPartTaken v k.segment k.here es (Dart d)
   none_taken is meet es = λ p on c l.
       ⊎_elim (λ e. absurd (no_point e)) (λ e. absurd (no_point e))
-      (is_told v h.sound k.segment (course k.segment h.ends) h.whole d has is Apart (of_segment Apart meet) p (after_lower p l) c on)
+      (is_told v h.sound k.segment way h.whole d has is Apart (of_segment Apart meet) p (after_lower p l) c on)
     where
       no_point : {p : Point} → None ≡ Some p → ⊥
       no_point e = cc
+
+  -- the line of its edge passes through the point where the search stands, and isn't the segment's
+  pub here_taken : (m : Line) → m ≡ line_in v d → passes_here m k ≡ true → (es : List (Point × Spot)) → IsPartTaken v k.segment k.here es (Dart d)
+  here_taken m is passes es = λ p on meets later.
+      let w = and_true (is_on m k.here) (not (are_one m k.whole.line)) passes in
+      let at = told v h.sound k.segment way p meets in
+      let proper = meets_proper v h.sound k.segment way p at in
+      let one =
+      one_by_two m (line_of_segment k.segment) k.here p (subst IsProperLine (sym is) (h.sound.drawn.line d has)) way.line
+      (meets_proper v h.sound k.segment way k.here stands) proper (lt_out k.here p later)
+      (zero_out (side_of m k.here) w.0) (meets_lies v h.sound k.segment way k.here stands).on
+      (subst (λ (l : Line). IsOn l p) (sym is) (along v h.sound d has p proper on).on) (meets_lies v h.sound k.segment way p at).on in
+      clash (line-itself m k.whole.line (one ∙ sym (ap (λ (z : Span). z.line) h.spanned))) (not_out (are_one m k.whole.line) w.1)
 
   -- the box of the segment rules the dart out, by its two points as they were told
   pub outside_taken : (p q : Point) → p ≡ point_in v (source_in v d) → q ≡ point_in v (target_in v d) → excludes k.bounds (whole_parts p) (whole_parts q) ≡ true → (es : List (Point × Spot)) → IsPartTaken v k.segment k.here es (Dart d)
   outside_taken p q e f out es = λ r on c l.
       absurd
-      (outside_missed v h.sound d has k.segment (course k.segment h.ends)
+      (outside_missed v h.sound d has k.segment way
       ((λ i. excludes (sym (h.boxed ∙ ap bounding_box h.spanned) i) (whole_parts (sym e i)) (whole_parts (sym f i))) ∙ out)
-      r (told v h.sound k.segment (course k.segment h.ends) r c) on)
+      r (told v h.sound k.segment way r c) on)
 
   module _ (c : CommonPoints) (met : IsDartMet v k.whole d c) where
     is_meet : IsMeeting (span_of_segment k.segment) (span_in v d) (meet_between c.first c.last)
@@ -134,14 +156,14 @@ module _ (v : View) (o k : Search) (h : IsSearchFrom v o k) (d : DartId) (has : 
 
     pub is_point : (p : Point) → (Some c.first ≡ Some p) ⊎ (c.last ≡ Some p) → Contains (meeting_points v k.segment) p × IsOnEdge v d p
     is_point p e =
-        is_sound v h.sound k.segment (course k.segment h.ends) h.whole d has met.span (meet_between c.first c.last) is_meet p
+        is_sound v h.sound k.segment way h.whole d has met.span (meet_between c.first c.last) is_meet p
         (subst (λ (z : Option Point × Option Point). (z.0 ≡ Some p) ⊎ (z.1 ≡ Some p)) (sym (points_between c.first c.last)) e)
 
     pub dart_taken : (es : List (Point × Spot)) → ((p : Point) → (Some c.first ≡ Some p) ⊎ (c.last ≡ Some p) → precedes k.here p ≡ true → Member p (keys_of es)) → IsPartTaken v k.segment k.here es (Dart d)
     dart_taken es f p on m l =
         f p
         (subst (λ (z : Option Point × Option Point). (z.0 ≡ Some p) ⊎ (z.1 ≡ Some p)) (points_between c.first c.last)
-        (is_told v h.sound k.segment (course k.segment h.ends) h.whole d has met.span (meet_between c.first c.last) is_meet p (after_lower p l) m on))
+        (is_told v h.sound k.segment way h.whole d has met.span (meet_between c.first c.last) is_meet p (after_lower p l) m on))
         l
 
 -- ---- a look at a vertex

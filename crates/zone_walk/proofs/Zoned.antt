@@ -1,5 +1,5 @@
 -- Where the walk begins, and what it asks of the next step.
-use Rattle.std.proofs.Common.{◌≡◌, List, [], refl, sym, ap, ◌∙◌, subst}
+use Rattle.std.proofs.Common.{◌≡◌, Contains, List, [], refl, sym, ap, ◌∙◌, subst}
 use Rattle.std.specs.List.{list_any}
 use Rattle.std.specs.Ordering.{is_eq, nat_cmp}
 use Rattle.exact_plane.specs.Point.{Point}
@@ -7,16 +7,17 @@ use Rattle.exact_plane.specs.Segment.{Segment, AreEnds}
 use Rattle.exact_plane.specs.Span.{IsSpan, span_of_segment}
 use Rattle.exact_plane.specs.WholeParts.{bounding_box}
 use Rattle.plane_graphs.specs.Ascending.{Member}
-use Rattle.plane_graphs.specs.Line.{precedes}
 use Rattle.plane_graphs.proofs.Lists.{clash}
-use Rattle.plane_graphs.proofs.Order.{lt_out, lt_never}
-use Rattle.integers.proofs.Tests.{not_true}
 use Rattle.slab_laws.specs.Sound.{IsGraphSound}
 use Rattle.slab_laws.specs.View.{View, Faces}
 use Rattle.dcel_records.specs.declared.spot.Spot.{Spot}
 use Rattle.zone_walk.specs.Searches.{AreFoundAfter}
 use Rattle.zone_walk.specs.Walk.{IsSearchAt}
+use Rattle.zone_walk.specs.Zone.{meeting_points}
 use Rattle.zone_walk.specs.declared.search.Search.{Search}
+use Rattle.zone_walk.proofs.Courses.{course}
+use Rattle.zone_walk.proofs.MeetingPoints.{lower}
+use Rattle.zone_walk.proofs.Stretches.{listed}
 
 none_found : (v : View) (g : Segment) (p : Point) (es : List (Point × Spot)) → es ≡ [] → AreFoundAfter v g p es
 none_found v g p es e q at m = absurd (subst (λ (xs : List (Point × Spot)). Member (q, at) xs) e m)
@@ -31,7 +32,7 @@ module _ (v : View) (f : Faces) (s : IsGraphSound v) (g : Segment) (l : Search) 
       whole = subst (λ (z : Segment). IsSpan (span_of_segment z)) (sym segment) whole.0;
       spanned = whole.1 ∙ ap span_of_segment (sym segment);
       boxed = bounds;
-      from = (λ i. precedes (here i) (segment i).lower) ∙ not_true (precedes g.lower g.lower) (λ z. lt_never (lt_out g.lower g.lower z));
+      stands = subst (λ (z : Segment). Contains (meeting_points v z) l.here) (sym segment) (subst (Contains (meeting_points v g)) (sym here) (listed v s g (course g ends) g.lower (lower refl)));
       found = none_found v l.segment l.here l.found.entries found;
       kept = λ r m. m;
     };

@@ -1,6 +1,7 @@
 -- What a search of a face's boundary for meeting points has found.
-use Rattle.std.specs.Prelude.{◌≡◌, ◌⊎◌, ◌<◌, true, false, List, Contains, Option, Some, None}
+use Rattle.std.specs.Prelude.{◌≡◌, ◌⊎◌, ◌<◌, ◌&&◌, Bool, not, true, false, List, Contains, Option, Some, None}
 use Rattle.std.specs.Map.{keys_of}
+use Rattle.exact_plane.specs.Line.{Line}
 use Rattle.exact_plane.specs.Point.{Point}
 use Rattle.exact_plane.specs.declared.meets.Meet.{Meet}
 use Rattle.exact_plane.specs.declared.meets.Meet.TheVariants.{Apart, At, Along}
@@ -8,7 +9,7 @@ use Rattle.exact_plane.specs.Segment.{Segment, AreEnds}
 use Rattle.exact_plane.specs.Span.{IsSpan, span_of_segment}
 use Rattle.exact_plane.specs.WholeParts.{bounding_box}
 use Rattle.plane_graphs.specs.Ascending.{Member}
-use Rattle.plane_graphs.specs.Line.{precedes}
+use Rattle.plane_graphs.specs.Line.{precedes, is_on}
 use Rattle.slab_laws.specs.declared.names.DartId.{DartId}
 use Rattle.slab_laws.specs.declared.names.FaceId.{FaceId}
 use Rattle.slab_laws.specs.Skeleton.{inside}
@@ -20,7 +21,7 @@ use Rattle.counted_looks.specs.declared.boundary_part.BoundaryPart.TheVariants.{
 use Rattle.dcel_records.specs.declared.spot.Spot.{Spot}
 use Rattle.dcel_records.specs.declared.spot.Spot.TheVariants.{Vertex, Edge, Face}
 use Rattle.dcel_records.specs.Spots.{IsMet, met_of}
-use Rattle.zone_walk.specs.Zone.{meeting_points}
+use Rattle.zone_walk.specs.Zone.{meeting_points, are_one}
 use Rattle.zone_walk.specs.declared.search.Search.{Search}
 
 -- no point is lost (this project)
@@ -71,7 +72,7 @@ pub record IsOneSearch (k l : Search) : Type 0 where
   pub bounds : l.bounds ≡ k.bounds
   pub failed : l.failed ≡ false → k.failed ≡ false
 
--- the search l has gone on from k in a sound view: it has found what k had, and later meeting points alone (this project)
+-- the search l has gone on from k in a sound view: it stands at a meeting point, and has found what k had, and later meeting points alone (this project)
 pub record IsSearchFrom (v : View) (k l : Search) : Type 0 where
   pub one : IsOneSearch k l
   pub sound : IsGraphSound v
@@ -79,13 +80,17 @@ pub record IsSearchFrom (v : View) (k l : Search) : Type 0 where
   pub whole : IsSpan (span_of_segment l.segment)
   pub spanned : l.whole ≡ span_of_segment l.segment
   pub boxed : l.bounds ≡ bounding_box l.whole
-  pub from : precedes l.here l.segment.lower ≡ false
+  pub stands : Contains (meeting_points v l.segment) l.here
   pub found : AreFoundAfter v l.segment l.here l.found.entries
   pub kept : AreKept k.found.entries l.found.entries
 
 -- unless memory was wanting, the later meeting points on the part of the boundary are found (this project)
 abbrev pub HasSeen : View → Search → BoundaryPart → Type 0
 HasSeen v l t = l.failed ≡ false → IsPartTaken v l.segment l.here l.found.entries t
+
+-- whether the line passes through the point where the search stands, and isn't the segment's own (this project)
+abbrev pub passes_here : Line → Search → Bool
+passes_here l k = is_on l k.here && not (are_one l k.whole.line)
 
 -- ---- visits
 -- the dart's twin is on the boundary of the face too, and has the lesser name of the two (this project)

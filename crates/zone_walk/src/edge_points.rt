@@ -55,9 +55,9 @@ fn edge_seen(looked: &Glimpse, source: &Point, target: &Point) -> Span
 {
     let line = looked.line();
     if *source < *target {
-        Span::new(*source, *target, line).unwrap()
+        Span::between(*source, *target, line)
     } else {
-        Span::new(*target, *source, line).unwrap()
+        Span::between(*target, *source, line)
     }
 }
 

@@ -22,10 +22,7 @@ use work_steps::Steps;
 pub(crate) fn whole(segment: &Segment) -> Span
     ensures { result ≡ span_of_segment segment.now }
 {
-    match Span::new(segment.lower(), segment.upper(), line_of(segment)) {
-        Some(span) => span,
-        None => unreachable!(),
-    }
+    Span::between(segment.lower(), segment.upper(), line_of(segment))
 }
 
 // What the segment has in common with the edge of a dart, its ends included.

@@ -9,13 +9,13 @@ ghost use Rattle.slab_laws.specs.View.{HasVertex, HasDart, point_in, source_in, 
 ghost use Rattle.counted_looks.specs.Looks.{IsLookOf};
 ghost use Rattle.counted_looks.specs.declared.boundary_part.BoundaryPart.TheVariants.{Dart, Isolated};
 ghost use Rattle.dcel_records.specs.declared.spot.Spot.TheVariants.{Edge};
-ghost use Rattle.zone_walk.specs.Searches.{AreKept, IsOnEdge, IsThere, IsOneSearch, IsSearchFrom, IsPassed, IsVisitFrom, HasSeen, HasLooked};
+ghost use Rattle.zone_walk.specs.Searches.{AreKept, IsOnEdge, IsThere, IsOneSearch, IsSearchFrom, IsPassed, IsVisitFrom, HasSeen, HasLooked, passes_here};
 
 use crate::edge_points::{CommonPoints, points_on_edge};
 use crate::sight::Sight;
 use counted_looks::{BoundaryPart, Glimpse, Looker, NameCalls};
 use dcel_records::Spot;
-use exact_plane::{BoundingBox, Point, Segment, Span};
+use exact_plane::{BoundingBox, Line, Point, Segment, Span};
 use slab_laws::{DartId, FaceId, VertexId};
 use std::alloc::Global;
 use std::collections::{BTreeMap, BTreeSet};
@@ -114,6 +114,14 @@ fn take_on<T: Sight>(
     }
 }
 
+// Whether an edge's line passes through the point where the search stands, and isn't the segment's own: then the two lines have
+// no other point in common, so no later one of the segment is on the edge. By such an edge the segment came into the face.
+fn passes_here(line: Line, search: &Search) -> bool
+    ensures { result ≡ passes_here line search.now }
+{
+    line.holds(&search.here) && line != search.whole.line()
+}
+
 // Keeps the meeting points on the edge of a dart that was looked at, and its ends.
 fn take_on_dart<T: Sight>(search: &mut Search, sight: &T, dart: DartId, looked: &Glimpse)
     requires ready { (k : _) × IsSearchFrom (T.graph sight.now) k search.old }
@@ -123,6 +131,9 @@ fn take_on_dart<T: Sight>(search: &mut Search, sight: &T, dart: DartId, looked: 
     ensures seen { HasSeen (T.graph sight.now) search.new (Dart dart) }
     ensures still { (t : _) → HasSeen (T.graph sight.now) search.old t → HasSeen (T.graph sight.now) search.new t }
 {
+    if passes_here(looked.line(), search) {
+        return;
+    }
     if let Some(common) = points_on_edge(looked, &search.whole) {
         take_on(search, sight, dart, &common, Some(common.first));
         take_on(search, sight, dart, &common, common.last);

@@ -1,6 +1,8 @@
-ghost use Rattle.std.specs.Prelude.{◌≡◌, ◌≤◌, ◌+◌, ◌*◌, ◌++◌, ◌∷◌, [], true, false, length, IfOk, OnOk};
+ghost use Rattle.std.specs.Prelude.{◌≡◌, ◌≤◌, ◌+◌, ◌*◌, ◌++◌, ◌∷◌, [], true, false, length, Some, IfOk, OnOk};
 ghost use Rattle.std.specs.List.{sum_by};
+ghost use Rattle.exact_plane.specs.Line.{side_of};
 ghost use Rattle.exact_plane.specs.Segment.{Segment as Ends, AreEnds};
+ghost use Rattle.exact_plane.specs.Sign.{sign_of};
 ghost use Rattle.exact_plane.specs.Span.{span_of_segment, IsSpan};
 ghost use Rattle.exact_plane.specs.WholeParts.{bounding_box};
 ghost use Rattle.plane_graphs.specs.Line.{precedes};
@@ -19,9 +21,9 @@ use crate::plan::{Meeting, ZonePlan};
 use crate::records_sight::whole;
 use crate::search::{Search, Visit};
 use crate::sight::Sight;
-use counted_looks::{NameCalls, look_at_boundary};
+use counted_looks::{Glimpse, NameCalls, look_at_boundary};
 use dcel_records::{Room, Spot};
-use exact_plane::{BoundingBox, Point, Segment, Sign};
+use exact_plane::{BoundingBox, Point, Segment, Sign, side};
 use no_memory::NoMemory;
 use rotation_order::Place;
 use slab_laws::{DartId, FaceId, Sequence, VertexId};
@@ -50,8 +52,8 @@ fn ahead_of_vertex<T: Sight, L: Ledger>(
     let lower = segment.lower();
     match sight.turn(vertex, segment, steps) {
         Place::Along(dart) => {
-            let seen = sight.see(Spot::Edge(dart), segment, steps);
-            (Spot::Edge(dart), seen.target)
+            let looked = sight.glimpse(dart, steps);
+            (Spot::Edge(dart), looked.target())
         }
         Place::Between(dart, _) => {
             let face = sight.face(sight.cycle(sight.twin(dart)));
@@ -61,8 +63,15 @@ fn ahead_of_vertex<T: Sight, L: Ledger>(
     }
 }
 
+// The side of the line that a look told on which the segment's upper end is.
+fn side_of_end(looked: &Glimpse, segment: &Segment) -> Sign
+    ensures { (l : _) → looked.now.line ≡ Some l → result ≡ sign_of (side_of l segment.now.upper) }
+{
+    side(&looked.line(), &segment.upper())
+}
+
 // What follows a point inside an edge on the segment: the edge, where it is along the segment, or the face on the side of it on
-// which the segment's upper end is.
+// which the segment's upper end is. The edge's line runs as its forward dart does.
 fn ahead_of_edge<T: Sight, L: Ledger>(
     sight: &T,
     segment: &Segment,
@@ -79,14 +88,14 @@ fn ahead_of_edge<T: Sight, L: Ledger>(
 {
     let lower = segment.lower();
     here.laws();
-    let seen = sight.see(Spot::Edge(dart), segment, steps);
-    match seen.side {
+    let looked = sight.glimpse(dart, steps);
+    match side_of_end(&looked, segment) {
         Sign::Plus => (Spot::Face(sight.face(sight.cycle(dart))), lower),
         Sign::Minus => {
             let face = sight.face(sight.cycle(sight.twin(dart)));
             (Spot::Face(face), lower)
         }
-        Sign::Zero => (Spot::Edge(dart), seen.target),
+        Sign::Zero => (Spot::Edge(dart), looked.target()),
     }
 }
 

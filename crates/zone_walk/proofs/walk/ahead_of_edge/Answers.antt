@@ -34,10 +34,10 @@ returns-in-Plus-clause-part g c =
     let before = lt_out p s.upper c.requires.before in
     let proper = point_is_proper p c.laws.ensures in
     let m = c.requires.met in
-    let seen = c.see-seen.ensures.seen in (
-      off_line v f c.requires.sound.graph s k p proper on before c.args.dart (m.0, m.1) m.2 seen.span c.see-seen.result.side seen.side (plus_off c.see-seen.result.side c.in-Plus.is),
+    let look = c.glimpse-looked.ensures.look in (
+      off_line v f c.requires.sound.graph s k p proper on before c.args.dart (m.0, m.1) m.2 c.side_of_end.result (c.side_of_end.ensures _ look.2) (plus_off c.side_of_end.result c.in-Plus.is),
       subst (λ (a : FaceId). TellsFace v f p s.upper a) (sym (c.face.ensures.face ∙ ap (face_in f) c.cycle.ensures.cycle))
-          (on_left v f c.requires.sound.graph s k p proper on before c.args.dart (m.0, m.1) m.2 seen.span c.see-seen.result.side seen.side c.in-Plus.is),
+          (on_left v f c.requires.sound.graph s k p proper on before c.args.dart (m.0, m.1) m.2 c.side_of_end.result (c.side_of_end.ensures _ look.2) c.in-Plus.is),
     )
 
 pub returns-in-Minus-clause-part : goal.returns-in-Minus-clause-part
@@ -51,10 +51,10 @@ returns-in-Minus-clause-part g c =
     let before = lt_out p s.upper c.requires.before in
     let proper = point_is_proper p c.laws.ensures in
     let m = c.requires.met in
-    let seen = c.see-seen.ensures.seen in (
-      off_line v f c.requires.sound.graph s k p proper on before c.args.dart (m.0, m.1) m.2 seen.span c.see-seen.result.side seen.side (minus_off c.see-seen.result.side c.in-Minus.is),
+    let look = c.glimpse-looked.ensures.look in (
+      off_line v f c.requires.sound.graph s k p proper on before c.args.dart (m.0, m.1) m.2 c.side_of_end.result (c.side_of_end.ensures _ look.2) (minus_off c.side_of_end.result c.in-Minus.is),
       subst (λ (a : FaceId). TellsFace v f p s.upper a) (sym (c.face-face.ensures.face ∙ ap (face_in f) (c.cycle-in-Minus.ensures.cycle ∙ ap (cycle_in f) c.twin.ensures.twin)))
-          (on_right v f c.requires.sound.graph s k p proper on before c.args.dart (m.0, m.1) m.2 seen.span c.see-seen.result.side seen.side c.in-Minus.is),
+          (on_right v f c.requires.sound.graph s k p proper on before c.args.dart (m.0, m.1) m.2 c.side_of_end.result (c.side_of_end.ensures _ look.2) c.in-Minus.is),
     )
 
 pub returns-in-Zero-clause-part : goal.returns-in-Zero-clause-part
@@ -68,26 +68,26 @@ returns-in-Zero-clause-part g c =
     let before = lt_out p s.upper c.requires.before in
     let proper = point_is_proper p c.laws.ensures in
     let m = c.requires.met in
-    let seen = c.see-seen.ensures.seen in
-    (goes_along v f c.requires.sound.graph s k p proper on before c.args.dart (m.0, m.1) m.2 seen.span c.see-seen.result.side seen.side c.in-Zero.is, seen.target)
+    let look = c.glimpse-looked.ensures.look in
+    (goes_along v f c.requires.sound.graph s k p proper on before c.args.dart (m.0, m.1) m.2 c.side_of_end.result (c.side_of_end.ensures _ look.2) c.in-Zero.is, c.target.ensures ∙ look.1)
 
 pub returns-in-Plus-clause-count : goal.returns-in-Plus-clause-count
 returns-in-Plus-clause-count g c =
     let m = c.requires.met in
     let k = edge_inside (g.T.NameCalls.graph c.args.sight.now) c.args.segment.now c.args.here.now c.args.dart (m.0, m.1) m.2 in
-    let o = c.see-seen.ensures.one in
+    let o = c.glimpse-looked.ensures.one in
     omega arith
 
 pub returns-in-Minus-clause-count : goal.returns-in-Minus-clause-count
 returns-in-Minus-clause-count g c =
     let m = c.requires.met in
     let k = edge_inside (g.T.NameCalls.graph c.args.sight.now) c.args.segment.now c.args.here.now c.args.dart (m.0, m.1) m.2 in
-    let o = c.see-seen.ensures.one in
+    let o = c.glimpse-looked.ensures.one in
     omega arith
 
 pub returns-in-Zero-clause-count : goal.returns-in-Zero-clause-count
 returns-in-Zero-clause-count g c =
     let m = c.requires.met in
     let k = edge_inside (g.T.NameCalls.graph c.args.sight.now) c.args.segment.now c.args.here.now c.args.dart (m.0, m.1) m.2 in
-    let o = c.see-seen.ensures.one in
+    let o = c.glimpse-looked.ensures.one in
     omega arith

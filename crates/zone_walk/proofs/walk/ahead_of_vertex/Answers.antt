@@ -16,7 +16,7 @@ returns-in-Along-clause-part g c =
     let k = course s c.lower-lower.ensures.ends in
     let on = lies_out s (point_in v c.args.vertex) c.requires.on in
     let before = lt_out (point_in v c.args.vertex) s.upper c.requires.before in
-    (leaves_along v f c.requires.sound.graph s k c.args.vertex c.requires.vertex on before c.in-Along.dart c.in-Along.ensures.place, c.see-seen.ensures.seen.target)
+    (leaves_along v f c.requires.sound.graph s k c.args.vertex c.requires.vertex on before c.in-Along.dart c.in-Along.ensures.place, c.target.ensures ∙ c.glimpse-looked.ensures.look.1)
 
 pub returns-in-Along-clause-count : goal.returns-in-Along-clause-count
 returns-in-Along-clause-count g c =
@@ -24,7 +24,7 @@ returns-in-Along-clause-count g c =
     let h = returns-in-Along-clause-part g c in
     let k = vertex_along v c.args.segment.now (point_in v c.args.vertex) c.args.vertex refl c.requires.before c.in-Along.dart c.in-Along.ensures.place.out.1 h.0 in
     let m = c.turn.ensures.count in
-    let o = c.see-seen.ensures.one in
+    let o = c.glimpse-looked.ensures.one in
     omega arith
 
 pub returns-in-Between-clause-part : goal.returns-in-Between-clause-part
