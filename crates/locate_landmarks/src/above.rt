@@ -11,7 +11,7 @@ ghost use Rattle.locate_landmarks.specs.Lowest.{IsAbove, lower_edge};
 use counted_looks::{Glance, Glimpse, NameCalls};
 use edges_below::is_above;
 use exact_plane::{Point, Span};
-use locate_walk::{Passage, span_between};
+use locate_walk::Passage;
 use slab_laws::DartId;
 
 /// An edge that a point sees above it, with its dart from the lower to the upper end.
@@ -39,11 +39,11 @@ pub fn edge_above(
     match passage {
         Passage::Forward => Some(EdgeAbove {
             dart,
-            edge: span_between(looked.source(), looked.target(), looked.line()),
+            edge: Span::between(looked.source(), looked.target(), looked.line()),
         }),
         Passage::Backward => Some(EdgeAbove {
             dart: glance.twin(dart),
-            edge: span_between(looked.target(), looked.source(), looked.line()),
+            edge: Span::between(looked.target(), looked.source(), looked.line()),
         }),
         _ => None,
     }

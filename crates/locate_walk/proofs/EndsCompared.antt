@@ -1,11 +1,9 @@
 -- A point among the ends of a dart, by two comparisons, of points or of whole parts.
 use Rattle.std.proofs.Common.{◌≡◌, true, inl, inr, sym, ap, ◌∙◌, subst, pos, ◌<ℤ◌, Less, Greater}
-use Rattle.std.specs.Prelude.{◌||◌, int_lt}
-use Rattle.std.specs.Ordering.{ordering_reverse, ordering_then, then_cmp, on, int_cmp}
-use Rattle.std.proofs.lemmas.Bool.{cases_Bool}
+use Rattle.std.specs.Ordering.{ordering_reverse}
 use Rattle.exact_plane.specs.WholeParts.{whole_parts, is_left_or_right_of}
 use Rattle.exact_plane.specs.Point.{Point}
-use Rattle.exact_plane.specs.PointOrder.{by_x, by_y, point_cmp}
+use Rattle.exact_plane.specs.PointOrder.{point_cmp}
 use Rattle.exact_plane.specs.PointOrderLaws.{point_cmp_total}
 use Rattle.plane_graphs.proofs.Order.{Lt, lt_never, lt_both}
 use Rattle.locate_walk.specs.Passages.{IsApart}

@@ -1,8 +1,11 @@
 -- What a look at a dart tells of its edge, by the ends and the line that were read.
-use Rattle.std.proofs.Common.{◌≡◌, true, pos, ◌<ℤ◌, inl, inr, sym, ap, ◌∙◌, subst}
-use Rattle.std.specs.Prelude.{Some}
+use Rattle.std.proofs.Common.{◌≡◌, true, false, pos, ◌<ℤ◌, inl, inr, sym, ap, ◌∙◌, subst}
+use Rattle.std.specs.Prelude.{Some, not, ◌&&◌}
+use Rattle.std.proofs.lemmas.Bool.{false_from_ne_true, not-true}
+use lib.Signed.{lt_z}
 use Rattle.exact_plane.specs.Line.{Line}
 use Rattle.exact_plane.specs.Point.{Point}
+use Rattle.exact_plane.specs.PointOrderLaws.{and_true}
 use Rattle.exact_plane.specs.Sign.{sign_of}
 use Rattle.exact_plane.specs.Span.{Span, AreOnWay}
 use Rattle.exact_plane.specs.WholeParts.{whole_parts, is_left_or_right_of}
@@ -10,10 +13,11 @@ use Rattle.plane_graphs.specs.Graph.{Edge as PlaneEdge}
 use Rattle.plane_graphs.specs.Line.{IsProper}
 use Rattle.plane_graphs.proofs.Order.{Lt}
 use Rattle.slab_laws.specs.declared.names.DartId.{DartId}
-use Rattle.slab_laws.specs.Skeleton.{side}
+use Rattle.slab_laws.specs.Skeleton.{side, over, under, precedes, inside}
 use Rattle.slab_laws.specs.Sound.{edge_in, IsGraphSound}
 use Rattle.slab_laws.specs.SpansDrawn.{edge_of}
 use Rattle.slab_laws.specs.View.{View, Faces, HasDart, point_in, source_in, target_in, twin_in, line_in}
+use Rattle.slab_faces.proofs.OverUnder.{on_neither}
 use Rattle.sound_views.specs.ForwardDarts.{IsForwardOf}
 use Rattle.sound_views.proofs.ForwardDarts.{way_along, target_has}
 use Rattle.sound_views.proofs.GraphDrawn.{between_forward}
@@ -123,3 +127,20 @@ module _ (v : View) (f : Faces) (s : IsGraphSound v) (q : Point) (Q : IsProper q
       let A = s.drawn.proper (source_in v d) (s.linked.source d has) in
       let B = s.drawn.proper (target_in v d) (target_has v s d has) in
       apart_found (beside_apart l.source q l.target (subst (λ (x : Point). pos 0 <ℤ x.w) (sym look.0) A.positive) Q.positive (subst (λ (x : Point). pos 0 <ℤ x.w) (sym look.1) B.positive) h)
+
+-- ---- an edge that spans the point and isn't through it
+-- the point is at neither end of its darts
+pub spanning_off : (v : View) (s : IsGraphSound v) (q : Point) (Q : IsProper q) (d : DartId) (has : HasDart v d) → IsSpanning (edge_in v d) q → IsOffEnds v q d
+spanning_off v s q Q d has k = elim (spans_out v s d has q Q k) [
+  | inl x ↦ record { off_source = differ x.0; off_target = λ e. differ x.1 (sym e) }
+  | inr x ↦ record { off_source = λ e. differ x.1 (sym e); off_target = differ x.0 }
+]
+
+-- and isn't inside it
+pub aside_outside : (e : PlaneEdge) (q : Point) → (side e q ≡ pos 0 → ⊥) → inside e q ≡ false
+unfolding over under
+aside_outside e q n =
+    false_from_ne_true (inside e q) (λ h.
+    let a = and_true (precedes e.low q && precedes q e.high) _ h in
+    let b = and_true (not (lt_z (side e q) (pos 0))) (not (lt_z (pos 0) (side e q))) a.1 in
+    n (on_neither e q (not-true _ b.0) (not-true _ b.1)))

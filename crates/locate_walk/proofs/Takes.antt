@@ -1,7 +1,9 @@
 -- What a look keeps: the highest edge so far rises, and what was clear stays clear.
-use Rattle.std.proofs.Common.{◌≡◌, ◌<◌, ◌≤◌, true, cond, arith, refl, sym, ap, ◌∙◌, inl, inr, subst}
-use Rattle.std.specs.Prelude.{◌⊎◌, Bool, Option, Some, None, IsSome}
-use Rattle.std.proofs.lemmas.Bool.{cases_Bool, false≢true}
+use Rattle.std.specs.Option.{is_some}
+use Rattle.std.proofs.Common.{◌≡◌, ◌<◌, ◌≤◌, true, false, cond, arith, refl, sym, ap, ◌∙◌, inl, inr, subst}
+use Rattle.std.specs.Prelude.{◌⊎◌, ◌||◌, Bool, Option, Some, None, IsSome}
+use Rattle.std.proofs.lemmas.Bool.{cases_Bool, eqb-true, false≢true}
+use Rattle.std.proofs.lemmas.Int.{ints}
 use Rattle.exact_plane.specs.Point.{Point}
 use Rattle.exact_plane.specs.WholeParts.{whole_parts, is_left_or_right_of}
 use Rattle.exact_plane.specs.declared.whole_parts.WholeParts.{WholeParts}
@@ -11,7 +13,8 @@ use Rattle.slab_laws.specs.declared.names.DartId.{DartId}
 use Rattle.slab_laws.specs.declared.names.FaceId.{FaceId}
 use Rattle.slab_laws.specs.Sound.{skeleton_of, edge_in, IsGraphSound}
 use Rattle.slab_laws.specs.SpansDrawn.{edge_of}
-use Rattle.slab_laws.specs.View.{View, Faces, HasDart}
+use Rattle.slab_laws.specs.View.{View, Faces, HasDart, dart_id}
+use Rattle.slab_faces.proofs.OverUnder.{under_out}
 use Rattle.counted_looks.specs.Looks.{IsLookOf}
 use Rattle.counted_looks.specs.declared.boundary_part.BoundaryPart.{BoundaryPart}
 use Rattle.counted_looks.specs.declared.boundary_part.BoundaryPart.TheVariants.{Dart, Isolated}
@@ -24,12 +27,12 @@ use Rattle.edges_below.specs.Levels.{level}
 use Rattle.edges_below.proofs.Levels.{levels_tell_highest}
 use Rattle.walk_laws.specs.Walks.{height}
 use Rattle.locate_walk.specs.Finds.{IsFound}
-use Rattle.locate_walk.specs.Looks.{dart_of, higher_edge, IsBelowOrNone, IsRaised, taken, HasLooked, IsPartClear, MayLook, HasSeen}
+use Rattle.locate_walk.specs.Looks.{dart_of, is_best, higher_edge, IsBelowOrNone, IsRaised, is_settled, taken, HasLooked, IsPartClear, MayLook, HasSeen}
 use Rattle.locate_walk.specs.declared.found.EdgeBelow.{EdgeBelow}
 use Rattle.locate_walk.specs.declared.found.Found.{Found}
 use Rattle.locate_walk.specs.declared.found.Found.TheVariants.{At, Below, Past}
 use Rattle.locate_walk.specs.declared.highest.Highest.{Highest}
-use Rattle.locate_walk.proofs.Finds.{beside_found}
+use Rattle.locate_walk.proofs.Finds.{beside_found, spanning_off, aside_outside}
 
 module _ (v : View) (q : Point) where
   pub raised_from : {o p : Option DartId} → IsRaised v q o p → height v q o ≤ height v q p
@@ -164,3 +167,33 @@ beside_looked v k h d l m has look at is told e beside =
       met = λ s. refl;
       found = λ n. (Past, λ own. beside_found h.glance.now.graph (tables_of h.glance.now) m.map.sound.graph h.point m.proper d has' l look' (sym (e ∙ ap (λ (a : WholeParts). is_left_or_right_of a (whole_parts l.source) (whole_parts l.target)) is) ∙ beside), refl);
     }
+
+-- ---- a dart of which nothing more is to be found
+-- the higher of an edge and itself is that edge
+higher_itself : (b : EdgeBelow) → higher_edge (Some b) b ≡ b
+higher_itself b = elim (cases_Bool (is_above (edge_of b.edge) (edge_of b.edge))) [ inl h ↦ ap (λ x. cond x b b) h | inr h ↦ ap (λ x. cond x b b) h ]
+
+-- so the highest edge so far is found again at its dart, and kept
+found_again : (v : View) (f : Faces) (s : IsGraphSound v) (q : Point) (Q : IsProper q) (a : FaceId) (o : Option EdgeBelow) (d : DartId) → IsBelowOrNone v q o → is_best o d ≡ true → (b : EdgeBelow) × IsFound v f q a (Dart d) (Below b) × (o ≡ Some (higher_edge o b))
+found_again v f s q Q a None d p e = absurd (false≢true e)
+found_again v f s q Q a (Some b) d p e =
+    let k = p.0.1 in
+    let off = aside_outside (edge_in v b.dart) q (λ z. let u = under_out (edge_in v b.dart) q k.lies_under in absurd (omega (arith, ints))) in
+    let there : IsFound v f q a (Dart b.dart) (Below b) = (spanning_off v s q Q b.dart p.0.0.0 k.spanning, record { outside = off; along = refl; seen = p.0 }, p.1) in
+    (b, subst (λ (x : DartId). IsFound v f q a (Dart x) (Below b)) (ap dart_id (eqb-true b.dart.0 d.0 e)) there, ap Some (sym (higher_itself b)))
+
+module _ (h : Highest) (d : DartId) where
+  pub settled_looked : IsGraphSound h.glance.now.graph → IsProper h.point → IsBelowOrNone h.glance.now.graph h.point h.best → is_settled h d ≡ true → HasLooked h (Dart d) h
+  settled_looked s Q p e = record {
+    met = λ m. refl;
+    found = λ n.
+        let k = found_again h.glance.now.graph (tables_of h.glance.now) s h.point Q h.face h.best d p (ap (λ (o : Option Spot). is_some o || is_best h.best d) (sym n) ∙ e) in
+        (Below k.0, k.1, ap (λ (o : Option EdgeBelow). record h { best = o }) k.2);
+  }
+
+  -- of another one, what was found is kept
+  pub found_looked : (l : Highest) (r : Found) → is_settled h d ≡ false → IsFound h.glance.now.graph (tables_of h.glance.now) h.point h.face (Dart d) r → l ≡ taken h r → HasLooked h (Dart d) l
+  found_looked l r e c t = record {
+    met = λ s. absurd (false≢true (sym e ∙ ap (λ b. b || is_best h.best d) s));
+    found = λ n. (r, c, t);
+  }

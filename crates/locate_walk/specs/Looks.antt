@@ -1,5 +1,6 @@
 -- What is known of the looks at the boundary of a face.
-use Rattle.std.specs.Prelude.{◌≡◌, ◌≢◌, ◌⊎◌, ◌<◌, ⊤, false, cond, Option, Some, None, IfSome, IsSome}
+use Rattle.std.specs.Option.{is_some}
+use Rattle.std.specs.Prelude.{◌≡◌, ◌≢◌, ◌⊎◌, ◌<◌, ◌==◌, ◌||◌, ⊤, Bool, false, cond, Option, Some, None, IfSome, IsSome}
 use Rattle.exact_plane.specs.Point.{Point}
 use Rattle.plane_graphs.specs.Line.{IsProper}
 use Rattle.slab_laws.specs.declared.names.DartId.{DartId}
@@ -32,6 +33,11 @@ abbrev pub higher_edge : Option EdgeBelow → EdgeBelow → EdgeBelow
 higher_edge None e = e
 higher_edge (Some b) e = cond (is_above (edge_of e.edge) (edge_of b.edge)) e b
 
+-- whether it is its forward dart
+abbrev pub is_best : Option EdgeBelow → DartId → Bool
+is_best None d = false
+is_best (Some b) d = b.dart.0 == d.0
+
 -- none, or one that the point sees, with its edge
 abbrev pub IsBelowOrNone : View → Point → Option EdgeBelow → Type 0
 IsBelowOrNone v q None = ⊤
@@ -47,6 +53,10 @@ abbrev pub taken : Highest → Found → Highest
 taken h (At s) = record h { hit = Some s }
 taken h (Below e) = record h { best = Some (higher_edge h.best e) }
 taken h Past = h
+
+-- whether the point was met, or the dart is that along the highest edge so far: a look at it changes nothing (this project)
+abbrev pub is_settled : Highest → DartId → Bool
+is_settled h d = is_some h.hit || is_best h.best d
 
 -- once the point was met, nothing changes; until then, what is found at the part is kept (this project)
 pub record HasLooked (h : Highest) (t : BoundaryPart) (l : Highest) : Type 0 where

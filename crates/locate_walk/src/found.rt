@@ -33,23 +33,23 @@ pub enum Found {
     Past,
 }
 
-/// The edge between two ends that were read.
-pub fn span_between(lower: Point, upper: Point, line: Line) -> Span
+// Where a point is that an edge spans, by the ends and the line that were read: on it, over it, or under it. Only of an edge below the
+// point a span is made.
+fn side_of(dart: DartId, lower: Point, upper: Point, line: Line, point: &Point) -> Found
     requires { AreOnWay lower upper line }
-    ensures { (result.lower ≡ lower) × (result.upper ≡ upper) }
+    ensures { IsSided dart (record { lower = lower; upper = upper; line = line }) point.now result }
 {
-    Span::new(lower, upper, line).unwrap()
-}
-
-// Where a point is that an edge spans: on it, over it, or under it.
-fn side_of(dart: DartId, edge: Span, point: &Point) -> Found
-    ensures { IsSided dart edge point.now result }
-{
-    edge.laws();
-    match side(&edge.line(), point) {
+    // These tell that the ends and the line are those of a part of a line.
+    lower.laws();
+    upper.laws();
+    line.laws();
+    match side(&line, point) {
         Sign::Minus => Found::Past,
         Sign::Zero => Found::At(Spot::Edge(dart)),
-        Sign::Plus => Found::Below(EdgeBelow { dart, edge }),
+        Sign::Plus => Found::Below(EdgeBelow {
+            dart,
+            edge: Span::between(lower, upper, line),
+        }),
     }
 }
 
@@ -81,14 +81,12 @@ pub fn found_at_dart(
     match passage {
         Passage::FromPoint => Found::At(Spot::Vertex(glance.source(dart))),
         Passage::ToPoint => Found::At(Spot::Vertex(glance.target(dart))),
-        Passage::Forward => side_of(
-            dart,
-            span_between(looked.source(), looked.target(), looked.line()),
-            point,
-        ),
+        Passage::Forward => side_of(dart, looked.source(), looked.target(), looked.line(), point),
         Passage::Backward => side_of(
             glance.twin(dart),
-            span_between(looked.target(), looked.source(), looked.line()),
+            looked.target(),
+            looked.source(),
+            looked.line(),
             point,
         ),
         Passage::Apart => Found::Past,

@@ -4,7 +4,7 @@ ghost use Rattle.counted_looks.specs.Looks.{IsLookOf};
 ghost use Rattle.counted_looks.specs.declared.boundary_part.BoundaryPart.TheVariants.{Dart};
 ghost use Rattle.dcel_records.specs.SoundMaps.{IsSoundMap};
 ghost use Rattle.dcel_records.specs.declared.spot.Spot.TheVariants.{Edge};
-ghost use Rattle.locate_walk.specs.Looks.{higher_edge, taken, HasLooked};
+ghost use Rattle.locate_walk.specs.Looks.{higher_edge, is_best, is_settled, taken, HasLooked, IsBelowOrNone};
 
 use crate::found::{EdgeBelow, Found, find};
 use counted_looks::{BoundaryPart, Glance, Glimpse, Looker};
@@ -42,17 +42,38 @@ fn higher(best: Option<EdgeBelow>, edge: EdgeBelow) -> EdgeBelow
     }
 }
 
+// Whether it is the dart along the highest edge so far.
+#[inline(always)]
+fn is_best(best: &Option<EdgeBelow>, dart: DartId) -> bool
+    ensures { result ≡ is_best best.now dart }
+{
+    match best {
+        Some(edge) => edge.dart == dart,
+        None => false,
+    }
+}
+
 impl<'a, 'r> Highest<'a, 'r> {
-    // What a dart tells that whole parts don't rule out. After the point was met, none tells more. A function of its own, so that the
-    // look, which is inlined, stays short.
+    /// Whether a closer look at a dart would change nothing: the point was met, or the dart is that along the highest edge so far,
+    /// which would be found again.
+    #[inline(always)]
+    pub fn is_settled(&self, dart: DartId) -> bool
+        ensures { result ≡ is_settled self.now dart }
+    {
+        self.hit.is_some() || is_best(&self.best, dart)
+    }
+
+    // What a dart tells that whole parts don't rule out. A function of its own, so that the look, which is inlined, stays short.
     #[inline(never)]
     fn look_closely(&mut self, dart: DartId, looked: &Glimpse)
         requires map { IsSoundMap self.old.glance.now }
         requires dart { HasDart self.old.glance.now.graph dart }
         requires looked { IsLookOf self.old.glance.now.graph (Edge dart) looked.now }
+        requires best { IsBelowOrNone self.old.glance.now.graph self.old.point self.old.best }
         ensures { HasLooked self.old (Dart dart) self.new }
     {
-        if self.hit.is_some() {
+        self.point.laws();
+        if self.is_settled(dart) {
             return;
         }
         let found = find(self.glance, self.face, dart, looked, &self.point);

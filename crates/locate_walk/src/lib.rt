@@ -13,7 +13,7 @@ mod passage;
 mod round;
 mod walk;
 
-pub use found::{EdgeBelow, Found, found_at_dart, is_told_at_twin, span_between};
+pub use found::{EdgeBelow, Found, found_at_dart, is_told_at_twin};
 pub use highest::Highest;
 pub use passage::{Passage, passage_of};
-pub use walk::{climb, face_over, locate};
+pub use walk::{climb, climb_free, face_over, locate};

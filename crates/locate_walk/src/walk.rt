@@ -33,8 +33,8 @@ pub fn face_over(glance: &Glance, edge: &Option<EdgeBelow>) -> FaceId
     }
 }
 
-// The walk up to a point at which no vertex is.
-fn climb_free<L: Ledger>(
+/// The walk of `climb` to a point at which no vertex is, where this is known already.
+pub fn climb_free<L: Ledger>(
     glance: &Glance,
     first: Option<EdgeBelow>,
     point: &Point,

@@ -1,4 +1,5 @@
-use Rattle.std.proofs.Common.{◌∙◌, subst}
+use Rattle.std.proofs.Common.{ap, ◌∙◌, subst}
+use Rattle.exact_plane.specs.Span.{Span}
 use Rattle.plane_graphs.proofs.Lines.{point_is_proper}
 use Rattle.dcel_records.specs.RecordsView.{tables_of}
 use Rattle.locate_walk.specs.Passages.{IsPassage}
@@ -6,8 +7,8 @@ use Rattle.locate_walk.proofs.Finds.{ahead_way, behind_way}
 use Rattle.locate_landmarks.proofs.SeenAbove.{ahead_above, behind_above}
 use Rattle.locate_landmarks.proofs.above.edge_above.Goals as goal
 
-pub span_between-requires : goal.span_between-requires
-span_between-requires c =
+pub between-requires : goal.between-requires
+between-requires c =
     let k = c.requires.drawn in
     rw (c.source.ensures, c.target.ensures)
     (ahead_way c.args.glance.now.graph (tables_of c.args.glance.now) k.sound c.args.point.now (point_is_proper c.args.point.now c.laws.ensures) c.args.dart k.has c.args.looked.now k.look
@@ -18,10 +19,10 @@ returns-in-Forward c =
     let k = c.requires.drawn in
     ahead_above c.args.glance.now.graph (tables_of c.args.glance.now) k.sound c.args.point.now (point_is_proper c.args.point.now c.laws.ensures) c.args.dart k.has c.args.looked.now k.look c.requires.past
     (subst (IsPassage c.args.looked.now.source c.args.point.now c.args.looked.now.target) c.in-Forward.is c.requires.passage)
-    c.span_between.result (c.span_between.ensures.0 ∙ c.source.ensures, c.span_between.ensures.1 ∙ c.target.ensures)
+    c.between.result (ap (λ (s : Span). s.lower) c.between.ensures ∙ c.source.ensures, ap (λ (s : Span). s.upper) c.between.ensures ∙ c.target.ensures)
 
-pub span_between-requires-in-Backward : goal.span_between-requires-in-Backward
-span_between-requires-in-Backward c =
+pub between-requires-in-Backward : goal.between-requires-in-Backward
+between-requires-in-Backward c =
     let k = c.requires.drawn in
     rw (c.source-in-Backward.ensures, c.target-in-Backward.ensures)
     (behind_way c.args.glance.now.graph (tables_of c.args.glance.now) k.sound c.args.point.now (point_is_proper c.args.point.now c.laws.ensures) c.args.dart k.has c.args.looked.now k.look
@@ -33,4 +34,4 @@ returns-in-Backward c =
     let k = c.requires.drawn in
     behind_above c.args.glance.now.graph (tables_of c.args.glance.now) k.sound c.args.point.now (point_is_proper c.args.point.now c.laws.ensures) c.args.dart k.has c.args.looked.now k.look c.requires.past
     (subst (IsPassage c.args.looked.now.source c.args.point.now c.args.looked.now.target) c.in-Backward.is c.requires.passage)
-    c.twin.result c.twin.ensures.twin c.span_between-in-Backward.result (c.span_between-in-Backward.ensures.0 ∙ c.target-in-Backward.ensures, c.span_between-in-Backward.ensures.1 ∙ c.source-in-Backward.ensures)
+    c.twin.result c.twin.ensures.twin c.between-in-Backward.result (ap (λ (s : Span). s.lower) c.between-in-Backward.ensures ∙ c.target-in-Backward.ensures, ap (λ (s : Span). s.upper) c.between-in-Backward.ensures ∙ c.source-in-Backward.ensures)

@@ -7,8 +7,8 @@ use Rattle.locate_walk.specs.Passages.{IsPassage}
 use Rattle.locate_walk.proofs.Finds.{ahead_way, ahead_found, behind_way, behind_found, apart_found}
 use Rattle.locate_walk.proofs.found.found_at_dart.Goals as goal
 
-pub span_between-requires : goal.span_between-requires
-span_between-requires c =
+pub side_of-requires : goal.side_of-requires
+side_of-requires c =
     rw (c.source-in-Forward.ensures, c.target-in-Forward.ensures)
     (ahead_way c.args.glance.now.graph (tables_of c.args.glance.now) c.requires.map.sound.graph c.args.point.now (point_is_proper c.args.point.now c.laws.ensures) c.args.dart c.requires.dart c.args.looked.now c.requires.looked
     (subst (IsPassage c.args.looked.now.source c.args.point.now c.args.looked.now.target) c.in-Forward.is c.requires.passage) c.line.result c.line.ensures)
@@ -17,10 +17,10 @@ pub returns-in-Forward : goal.returns-in-Forward
 returns-in-Forward c =
     ahead_found c.args.glance.now.graph (tables_of c.args.glance.now) c.requires.map.sound.graph c.args.point.now (point_is_proper c.args.point.now c.laws.ensures) c.args.dart c.requires.dart c.args.looked.now c.requires.looked
     (subst (IsPassage c.args.looked.now.source c.args.point.now c.args.looked.now.target) c.in-Forward.is c.requires.passage)
-    c.span_between.result (c.span_between.ensures.0 ∙ c.source-in-Forward.ensures, c.span_between.ensures.1 ∙ c.target-in-Forward.ensures) c.side_of.result c.side_of.ensures
+    (record { lower = c.source-in-Forward.result; upper = c.target-in-Forward.result; line = c.line.result }) (c.source-in-Forward.ensures, c.target-in-Forward.ensures) c.side_of.result c.side_of.ensures
 
-pub span_between-requires-in-Backward : goal.span_between-requires-in-Backward
-span_between-requires-in-Backward c =
+pub side_of-requires-in-Backward : goal.side_of-requires-in-Backward
+side_of-requires-in-Backward c =
     rw (c.source-in-Backward.ensures, c.target-in-Backward.ensures)
     (behind_way c.args.glance.now.graph (tables_of c.args.glance.now) c.requires.map.sound.graph c.args.point.now (point_is_proper c.args.point.now c.laws.ensures) c.args.dart c.requires.dart c.args.looked.now c.requires.looked
     (subst (IsPassage c.args.looked.now.source c.args.point.now c.args.looked.now.target) c.in-Backward.is c.requires.passage)
@@ -30,7 +30,7 @@ pub returns-in-Backward : goal.returns-in-Backward
 returns-in-Backward c =
     behind_found c.args.glance.now.graph (tables_of c.args.glance.now) c.requires.map.sound.graph c.args.point.now (point_is_proper c.args.point.now c.laws.ensures) c.args.dart c.requires.dart c.args.looked.now c.requires.looked
     (subst (IsPassage c.args.looked.now.source c.args.point.now c.args.looked.now.target) c.in-Backward.is c.requires.passage)
-    c.twin.result c.twin.ensures.twin c.span_between-in-Backward.result (c.span_between-in-Backward.ensures.0 ∙ c.target-in-Backward.ensures, c.span_between-in-Backward.ensures.1 ∙ c.source-in-Backward.ensures) c.side_of-in-Backward.result c.side_of-in-Backward.ensures
+    c.twin.result c.twin.ensures.twin (record { lower = c.target-in-Backward.result; upper = c.source-in-Backward.result; line = c.line-in-Backward.result }) (c.target-in-Backward.ensures, c.source-in-Backward.ensures) c.side_of-in-Backward.result c.side_of-in-Backward.ensures
 
 pub returns-in-Apart : goal.returns-in-Apart
 returns-in-Apart c =

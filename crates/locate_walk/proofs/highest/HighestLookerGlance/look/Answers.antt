@@ -1,10 +1,17 @@
 use Rattle.std.proofs.Common.{sym, subst}
+use Rattle.slab_laws.specs.View.{View}
 use Rattle.counted_looks.specs.declared.boundary_part.BoundaryPart.{BoundaryPart}
 use Rattle.counted_looks.specs.Boundaries.{HasPart}
 use Rattle.dcel_records.specs.RecordsView.{graph_of}
-use Rattle.locate_walk.specs.Looks.{HasSeen}
+use Rattle.locate_walk.specs.Looks.{IsBelowOrNone, HasSeen}
 use Rattle.locate_walk.proofs.Takes.{looked_may, looked_seen, looked_still, beside_looked}
 use Rattle.locate_walk.proofs.highest.HighestLookerGlance.look.Goals as goal
+
+pub look_closely-requires-clause-best : goal.look_closely-requires-clause-best
+look_closely-requires-clause-best g c =
+    let h = c.args.self.now in
+    let m = c.requires.ready.1 in
+    subst (λ (w : View). IsBelowOrNone w h.point h.best) (sym m.graph) m.best
 
 pub returns-then-is_left_or_right_of-clause-seen : goal.returns-then-is_left_or_right_of-clause-seen
 returns-then-is_left_or_right_of-clause-seen g c = λ d e.
