@@ -17,13 +17,13 @@ use Rattle.locate_walk.specs.Looks.{dart_of, IsBelowOrNone}
 use Rattle.locate_walk.specs.Rounds.{IsHighestRound}
 use Rattle.locate_walk.specs.declared.found.EdgeBelow.{EdgeBelow}
 use Rattle.locate_walk.proofs.Rounds.{seen_or_none}
-use Rattle.locate_landmarks.specs.Lowest.{IsAbove}
+use Rattle.locate_landmarks.specs.Lowest.{IsAbove, IsEntry}
 use Rattle.locate_landmarks.specs.Surveys.{MaySurvey}
 use Rattle.locate_landmarks.specs.declared.survey.Survey.{Survey}
 
 -- a survey that has found nothing
-pub begun : (k : Survey) → IsSoundMap k.highest.glance.now → IsProper k.highest.point → k.highest.best ≡ None → k.highest.hit ≡ None → IsAbove k.highest.glance.now.graph k.highest.point k.descent.lowest → MaySurvey k.highest.glance.now.graph k k
-begun k map proper best hit lowest =
+pub begun : (k : Survey) → IsSoundMap k.highest.glance.now → IsProper k.highest.point → k.highest.best ≡ None → k.highest.hit ≡ None → IsAbove k.highest.glance.now.graph k.highest.point k.descent.lowest → IsEntry k.highest.glance.now.graph k.highest.point k.descent.entry → MaySurvey k.highest.glance.now.graph k k
+begun k map proper best hit lowest entry =
     let v = k.highest.glance.now.graph in
     record {
       highest = record {
@@ -39,6 +39,7 @@ begun k map proper best hit lowest =
       };
       lowest = lowest;
       lowered = inl refl;
+      entry = entry;
     }
 
 -- the point is in the face that is the one over the highest edge

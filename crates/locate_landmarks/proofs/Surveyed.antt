@@ -5,7 +5,7 @@ use Rattle.slab_laws.specs.Sound.{IsGraphSound}
 use Rattle.slab_laws.specs.View.{View}
 use Rattle.counted_looks.specs.declared.boundary_part.BoundaryPart.{BoundaryPart}
 use Rattle.locate_walk.proofs.Takes.{looked_may}
-use Rattle.locate_landmarks.specs.Lowest.{IsAbove, IsLowered}
+use Rattle.locate_landmarks.specs.Lowest.{IsAbove, IsEntry, IsLowered}
 use Rattle.locate_landmarks.specs.Surveys.{MaySurvey, HasSurveyedPart}
 use Rattle.locate_landmarks.specs.declared.survey.Survey.{Survey}
 use Rattle.locate_landmarks.proofs.Lowered.{lowered_trans}
@@ -20,5 +20,6 @@ survey_may v h l t c k m =
     record {
       highest = n;
       lowest = subst (λ (q : Point). IsAbove v q l.descent.lowest) same a;
+      entry = subst (λ (q : Point). IsEntry v q l.descent.entry) same (subst (IsEntry v h.highest.point) (sym c.entry) m.entry);
       lowered = subst (λ (q : Point). IsLowered v q k.descent.lowest l.descent.lowest) same (lowered_trans v h.highest.point s m.highest.proper k.descent.lowest h.descent.lowest l.descent.lowest m.lowered b);
     }

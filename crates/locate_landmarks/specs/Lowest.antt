@@ -1,10 +1,11 @@
 -- The lowest edge above a point so far.
-use Rattle.std.specs.Prelude.{◌≡◌, ◌⊎◌, ◌<◌, ⊤, ℕ, cond, Option, Some, None}
+use Rattle.std.specs.Prelude.{◌≡◌, ◌⊎◌, ◌<◌, ⊤, ℕ, cond, Option, Some, None, IfSome}
 use Rattle.exact_plane.specs.Point.{Point}
 use Rattle.plane_graphs.specs.Graph.{Edge}
+use Rattle.slab_laws.specs.declared.names.DartId.{DartId}
 use Rattle.slab_laws.specs.Sound.{skeleton_of, edge_in}
 use Rattle.slab_laws.specs.SpansDrawn.{edge_of}
-use Rattle.slab_laws.specs.View.{View}
+use Rattle.slab_laws.specs.View.{View, HasDart}
 use Rattle.arr_notes.specs.Curves.{IsForward}
 use Rattle.edges_below.specs.Above.{is_above}
 use Rattle.locate_landmarks.specs.Floors.{IsSeenAbove, floor}
@@ -14,6 +15,10 @@ use Rattle.locate_landmarks.specs.declared.above.EdgeAbove.{EdgeAbove}
 abbrev pub IsAbove : View → Point → Option EdgeAbove → Type 0
 IsAbove v q None = ⊤
 IsAbove v q (Some a) = IsForward v a.dart × IsSeenAbove (skeleton_of v) q (edge_in v a.dart) × (edge_of a.edge ≡ edge_in v a.dart)
+
+-- none, or a dart along an edge that the point sees above it, whichever way it goes (this project)
+abbrev pub IsEntry : View → Point → Option DartId → Type 0
+IsEntry v q o = IfSome o (λ d. HasDart v d × IsSeenAbove (skeleton_of v) q (edge_in v d))
 
 -- the second, if the first is none, or is above it
 abbrev pub lower_edge : Option EdgeAbove → EdgeAbove → EdgeAbove

@@ -9,7 +9,6 @@ ghost use Rattle.locate_landmarks.specs.Looks.{IsDrawnLook};
 ghost use Rattle.locate_landmarks.specs.Lowest.{IsAbove, IsLowered};
 
 use crate::above::{EdgeAbove, edge_above, lower};
-use crate::faces::is_dart;
 use counted_looks::{Glance, Glimpse};
 use exact_plane::Point;
 use locate_walk::Passage;
@@ -42,9 +41,10 @@ impl Descent {
         requires lowest { IsAbove glance.now.graph point.now self.old.lowest }
         ensures lowest { IsAbove glance.now.graph point.now self.new.lowest }
         ensures lowered { IsLowered glance.now.graph point.now self.old.lowest self.new.lowest }
+        ensures entry { self.new.entry ≡ self.old.entry }
     {
         point.laws();
-        if !self.downward || is_dart(self.entry, dart) {
+        if !self.downward {
             return;
         }
         if let Some(edge) = edge_above(glance, point, dart, looked, passage) {

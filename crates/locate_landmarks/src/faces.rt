@@ -1,8 +1,9 @@
 //! Over an edge from one face into another.
+ghost use Rattle.std.specs.Option.{option_map};
 ghost use Rattle.std.specs.Prelude.{◌≡◌, IfSome};
-ghost use Rattle.slab_laws.specs.View.{HasDart, HasFace};
+ghost use Rattle.slab_laws.specs.View.{HasDart, HasFace, twin_in};
 ghost use Rattle.dcel_records.specs.RecordsView.{tables_of};
-ghost use Rattle.locate_landmarks.specs.Walks.{face_beside};
+ghost use Rattle.locate_landmarks.specs.Walks.{face_beside, is_dart};
 
 use counted_looks::{Glance, NameCalls};
 use slab_laws::{DartId, FaceId};
@@ -10,6 +11,7 @@ use slab_laws::{DartId, FaceId};
 /// The twin of a dart, if there is one.
 pub fn dart_across(glance: &Glance, dart: Option<DartId>) -> Option<DartId>
     requires dart { IfSome dart (HasDart glance.now.graph) }
+    ensures { result ≡ option_map (twin_in glance.now.graph) dart }
 {
     match dart {
         Some(dart) => Some(glance.twin(dart)),
@@ -32,7 +34,9 @@ pub fn face_beside(glance: &Glance, face: FaceId, dart: Option<DartId>) -> FaceI
 
 /// Whether it is this dart.
 #[inline(always)]
-pub fn is_dart(entry: Option<DartId>, dart: DartId) -> bool {
+pub fn is_dart(entry: Option<DartId>, dart: DartId) -> bool
+    ensures { result ≡ is_dart entry dart }
+{
     match entry {
         Some(other) => other == dart,
         None => false,

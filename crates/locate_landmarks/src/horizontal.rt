@@ -8,7 +8,7 @@ ghost use Rattle.locate_landmarks.specs.Horizontals.{IsCrossing};
 use crate::course::Course;
 use crate::crossing::{Crossing, later_crossing};
 use crate::faces::{dart_across, face_beside, is_dart};
-use counted_looks::{BoundaryPart, Glance, Glimpse, Looker, look_at_boundary};
+use counted_looks::{BoundaryPart, Glance, Glimpse, Looker, look_at_cycles};
 use slab_laws::{DartId, FaceId};
 use std::sync::ledger::Ledger;
 use work_steps::Steps;
@@ -17,7 +17,7 @@ use work_steps::Steps;
 // most. It is what tells that the loop ends, since the order of crossings has no law here.
 const MOST_CROSSINGS: usize = 1 << 32;
 
-/// What looks at the boundary of a face find along the horizontal: the last crossing with it before the vertical of the point, which
+/// What looks at the darts on the boundary of a face find along the horizontal: the last crossing with it before the vertical of the point, which
 /// leads out of the face or back into it.
 #[derive(Drop)]
 pub struct Ahead<'a> {
@@ -36,9 +36,12 @@ impl<'a> Ahead<'a> {
         requires last { IsCrossing sight.now.graph self.old.last }
         ensures { IsCrossing sight.now.graph self.new.last }
     {
+        if is_dart(self.entry, dart) {
+            return;
+        }
         let course = self.course;
         let rises = course.is_above(&looked.target());
-        if course.is_above(&looked.source()) == rises || is_dart(self.entry, dart) {
+        if course.is_above(&looked.source()) == rises {
             return;
         }
         if let Some(crossing) = later_crossing(sight, course, dart, looked, rises, &self.last) {
@@ -103,7 +106,7 @@ pub fn go_along<L: Ledger>(
         entry: None,
     };
     'faces: for _ in 0..MOST_CROSSINGS {
-        look_at_boundary(&mut ahead, glance, face, steps);
+        look_at_cycles(&mut ahead, glance, face, steps);
         let dart = dart_ahead(glance, &ahead.last);
         let beyond = face_beside(glance, face, dart);
         if beyond == face {

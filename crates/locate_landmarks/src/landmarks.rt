@@ -129,13 +129,17 @@ impl Landmarks {
     /// Where a point lies in the records for which the landmarks were built: the vertex at it, else the edge that has it inside, else
     /// the face that it lies in (CGAL manual, `Arr_landmarks_point_location`).
     ///
-    /// It walks from the landmark that `landmark_of` tells, along the horizontal to the point's abscissa and then along the vertical,
-    /// over the boundaries of the faces on the way. It takes no memory.
+    /// The records tell the vertex at the point (`Glance::vertex_at`). Where there is none, it walks from the landmark that
+    /// `landmark_of` tells, along the horizontal to the point's abscissa and then along the vertical, by looks at the darts on the
+    /// boundaries of the faces on the way. It takes no memory.
     pub fn locate<L: Ledger>(&self, glance: &Glance, p: &Point, steps: &mut Steps<L>) -> Spot
         requires map { IsSoundMap glance.now }
         requires built { IsBuiltFor self.now glance.now.graph (tables_of glance.now) }
         ensures { IsSpotOf glance.now.graph (tables_of glance.now) p.now result }
     {
+        if let Some(vertex) = glance.vertex_at(p) {
+            return Spot::Vertex(vertex);
+        }
         let index = landmark_index(p);
         let face = face_at(glance, self.spots[index]);
         walk_from(glance, face, &Course::to(p, index), steps)

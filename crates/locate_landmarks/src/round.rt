@@ -1,16 +1,17 @@
 //! One round of a face's boundary for a query.
-ghost use Rattle.std.specs.Prelude.{◌≤◌, ◌+◌};
+ghost use Rattle.std.specs.Prelude.{◌≤◌, ◌+◌, None};
 ghost use Rattle.slab_laws.specs.View.{HasFace};
 ghost use Rattle.counted_looks.specs.Boundaries.{boundary_size};
 ghost use Rattle.dcel_records.specs.RecordsView.{tables_of};
 ghost use Rattle.dcel_records.specs.SoundMaps.{IsSoundMap};
-ghost use Rattle.locate_landmarks.specs.Lowest.{IsAbove};
+ghost use Rattle.dcel_records.specs.Spots.{IsVertexAt};
+ghost use Rattle.locate_landmarks.specs.Lowest.{IsAbove, IsEntry};
 ghost use Rattle.locate_landmarks.specs.Rounds.{IsRound};
 
 use crate::above::EdgeAbove;
 use crate::descent::Descent;
 use crate::survey::Survey;
-use counted_looks::{Glance, look_at_boundary};
+use counted_looks::{Glance, look_at_cycles};
 use dcel_records::Spot;
 use exact_plane::Point;
 use locate_walk::{EdgeBelow, Highest, face_over};
@@ -21,13 +22,14 @@ use work_steps::Steps;
 /// What one round of a face's boundary finds for a query.
 #[derive(Clone, Copy)]
 pub enum Round {
-    /// Where the point lies: at a vertex, inside an edge, or in this face.
+    /// Where the point lies: inside an edge, or in this face.
     At(Spot),
     /// It isn't there; the highest edge below it on the boundary, and the lowest edge above it so far.
     Out(Option<EdgeBelow>, Option<EdgeAbove>),
 }
 
-/// Looks at the boundary of a face once round. The point lies in it where the face is that over the highest edge below the point.
+/// Looks at the darts on the boundary of a face once round, for a point at which no vertex is. It lies in the face where this is that
+/// over the highest edge below the point.
 pub fn look_round<L: Ledger>(
     glance: &Glance,
     face: FaceId,
@@ -37,7 +39,9 @@ pub fn look_round<L: Ledger>(
 ) -> Round
     requires map { IsSoundMap glance.now }
     requires face { HasFace (tables_of glance.now) face }
+    requires free { IsVertexAt glance.now.graph point.now None }
     requires lowest { IsAbove glance.now.graph point.now descent.now.lowest }
+    requires entry { IsEntry glance.now.graph point.now descent.now.entry }
     ensures round { IsRound glance.now.graph (tables_of glance.now) point.now descent.now.lowest result }
     ensures count { steps.new ≤ steps.old + boundary_size glance.now.graph (tables_of glance.now) face }
 {
@@ -54,7 +58,7 @@ pub fn look_round<L: Ledger>(
         },
         descent: *descent,
     };
-    look_at_boundary(&mut survey, glance, face, steps);
+    look_at_cycles(&mut survey, glance, face, steps);
     let lowest = survey.descent.lowest;
     let highest = survey.highest;
     match highest.hit {

@@ -1,27 +1,27 @@
 //! The look at a face's boundary for a query.
-ghost use Rattle.std.specs.Prelude.{◌≡◌, ◌+◌};
-ghost use Rattle.slab_laws.specs.View.{HasDart, HasVertex};
+ghost use Rattle.std.specs.Prelude.{◌≡◌};
+ghost use Rattle.slab_laws.specs.View.{HasDart};
 ghost use Rattle.counted_looks.specs.Looks.{IsLookOf};
-ghost use Rattle.counted_looks.specs.declared.boundary_part.BoundaryPart.TheVariants.{Dart, Isolated};
+ghost use Rattle.counted_looks.specs.declared.boundary_part.BoundaryPart.TheVariants.{Dart};
 ghost use Rattle.dcel_records.specs.RecordsView.{tables_of};
 ghost use Rattle.dcel_records.specs.SoundMaps.{IsSoundMap};
 ghost use Rattle.dcel_records.specs.declared.spot.Spot.TheVariants.{Edge};
 ghost use Rattle.locate_walk.specs.Finds.{IsFound};
-ghost use Rattle.locate_walk.specs.Looks.{HasLooked};
-ghost use Rattle.locate_landmarks.specs.Lowest.{IsAbove, IsLowered};
+ghost use Rattle.locate_walk.specs.Looks.{IsBelowOrNone};
+ghost use Rattle.locate_landmarks.specs.Lowest.{IsAbove, IsEntry, IsLowered};
 ghost use Rattle.locate_landmarks.specs.Surveys.{HasSurveyedPart};
 
 use crate::descent::Descent;
+use crate::faces::is_dart;
 use counted_looks::{BoundaryPart, Glance, Glimpse, Looker};
-use dcel_records::Spot;
 use exact_plane::Point;
 use locate_walk::{Found, Highest, found_at_dart, is_told_at_twin, passage_of};
-use slab_laws::{DartId, FaceId, VertexId};
+use slab_laws::{DartId, FaceId};
 use std::sync::ledger::Ledger;
 use work_steps::Steps;
 
-/// What looks at the boundary of a face find for a query: where the point is, once it was met, and until then the highest edge below it,
-/// and the lowest one above it.
+/// What looks at the darts on the boundary of a face find for a query: where the point is, once it was met, and until then the highest
+/// edge below it, and the lowest one above it.
 #[derive(Drop)]
 pub struct Survey<'a, 'r> {
     pub highest: Highest<'a, 'r>,
@@ -45,6 +45,7 @@ fn find_at_dart(
     ensures found { IsFound glance.now.graph (tables_of glance.now) point.now face (Dart dart) result }
     ensures lowest { IsAbove glance.now.graph point.now descent.new.lowest }
     ensures lowered { IsLowered glance.now.graph point.now descent.old.lowest descent.new.lowest }
+    ensures entry { descent.new.entry ≡ descent.old.entry }
 {
     let passage = passage_of(looked, point);
     if !passage.spans() {
@@ -60,35 +61,24 @@ fn find_at_dart(
     found
 }
 
-// One look at an isolated vertex.
-fn find_at_vertex<L: Ledger>(
-    glance: &Glance,
-    vertex: VertexId,
-    point: &Point,
-    steps: &mut Steps<L>,
-) -> Found
-    requires vertex { HasVertex glance.now.graph vertex }
-    ensures found { (a : _) → IsFound glance.now.graph (tables_of glance.now) point.now a (Isolated vertex) result }
-    ensures one { steps.new ≡ steps.old + 1 }
-{
-    let looked = glance.look(Spot::Vertex(vertex), steps);
-    if looked.source == *point {
-        return Found::At(Spot::Vertex(vertex));
-    }
-    Found::Past
-}
-
 impl<'a, 'r> Survey<'a, 'r> {
-    // What a dart tells that whole parts don't rule out. After the point was met, none tells more.
+    // What a dart tells that whole parts don't rule out.
     #[inline(never)]
     fn look_closely(&mut self, dart: DartId, looked: &Glimpse)
         requires map { IsSoundMap self.old.highest.glance.now }
         requires dart { HasDart self.old.highest.glance.now.graph dart }
         requires looked { IsLookOf self.old.highest.glance.now.graph (Edge dart) looked.now }
+        requires best { IsBelowOrNone self.old.highest.glance.now.graph self.old.highest.point self.old.highest.best }
         requires lowest { IsAbove self.old.highest.glance.now.graph self.old.highest.point self.old.descent.lowest }
+        requires entry { IsEntry self.old.highest.glance.now.graph self.old.highest.point self.old.descent.entry }
         ensures { HasSurveyedPart self.old (Dart dart) self.new }
     {
-        if self.highest.hit.is_some() {
+        self.highest.point.laws();
+        if self.highest.is_settled(dart) {
+            return;
+        }
+        // Its edge is above the point, and no lower than the lowest one so far.
+        if is_dart(self.descent.entry, dart) {
             return;
         }
         let found = find_at_dart(
@@ -101,22 +91,6 @@ impl<'a, 'r> Survey<'a, 'r> {
         );
         self.highest.take(found);
     }
-
-    // After the point was met, this only ticks.
-    #[inline(never)]
-    fn look_at_vertex<L: Ledger>(&mut self, vertex: VertexId, steps: &mut Steps<L>)
-        requires vertex { HasVertex self.old.highest.glance.now.graph vertex }
-        ensures looked { HasLooked self.old.highest (Isolated vertex) self.new.highest }
-        ensures descent { self.new.descent ≡ self.old.descent }
-        ensures one { steps.new ≡ steps.old + 1 }
-    {
-        if self.highest.hit.is_some() {
-            steps.tick();
-            return;
-        }
-        let found = find_at_vertex(self.highest.glance, vertex, &self.highest.point, steps);
-        self.highest.take(found);
-    }
 }
 
 impl<'a, 'r> Looker<Glance<'r>> for Survey<'a, 'r> {
@@ -126,7 +100,7 @@ impl<'a, 'r> Looker<Glance<'r>> for Survey<'a, 'r> {
 
     ghost has_seen = { HasSurveyed };
 
-    // The whole parts of its ends rule out nearly each dart.
+    // The whole parts of its ends rule out nearly each dart. An isolated vertex isn't looked at: the point isn't there.
     #[inline(always)]
     fn look<L: Ledger>(&mut self, sight: &Glance<'r>, at: BoundaryPart, steps: &mut Steps<L>) {
         match at {
@@ -137,7 +111,7 @@ impl<'a, 'r> Looker<Glance<'r>> for Survey<'a, 'r> {
                 }
                 self.look_closely(dart, &looked);
             }
-            BoundaryPart::Isolated(vertex) => self.look_at_vertex(vertex, steps),
+            BoundaryPart::Isolated(_) => steps.tick(),
         }
     }
 }

@@ -1,8 +1,9 @@
 //! The walk from the face of a landmark to a point.
-ghost use Rattle.std.specs.Prelude.{◌≡◌};
+ghost use Rattle.std.specs.Prelude.{◌≡◌, None};
 ghost use Rattle.slab_laws.specs.View.{HasFace};
 ghost use Rattle.dcel_records.specs.RecordsView.{tables_of};
 ghost use Rattle.dcel_records.specs.SoundMaps.{IsSoundMap};
+ghost use Rattle.dcel_records.specs.Spots.{IsVertexAt};
 ghost use Rattle.face_location.specs.Spots.{IsSpotOf};
 ghost use Rattle.locate_landmarks.specs.Walks.{dart_above};
 
@@ -15,7 +16,7 @@ use crate::round::{Round, look_round};
 use counted_looks::Glance;
 use dcel_records::Spot;
 use exact_plane::Point;
-use locate_walk::climb;
+use locate_walk::climb_free;
 use slab_laws::{DartId, FaceId};
 use std::sync::ledger::Ledger;
 use work_steps::Steps;
@@ -29,7 +30,7 @@ fn dart_above(lowest: &Option<EdgeAbove>) -> Option<DartId>
     }
 }
 
-// Where a point lies, by a walk along its vertical from any face.
+// Where a point lies at which no vertex is, by a walk along its vertical from any face.
 fn go_upright<L: Ledger>(
     glance: &Glance,
     first: FaceId,
@@ -39,6 +40,7 @@ fn go_upright<L: Ledger>(
 ) -> Spot
     requires map { IsSoundMap glance.now }
     requires first { HasFace (tables_of glance.now) first }
+    requires free { IsVertexAt glance.now.graph point.now None }
     ensures { IsSpotOf glance.now.graph (tables_of glance.now) point.now result }
 {
     let mut face = first;
@@ -54,7 +56,7 @@ fn go_upright<L: Ledger>(
                 let dart = dart_above(&lowest);
                 let under = face_beside(glance, face, dart);
                 if under == face {
-                    return climb(glance, below, point, steps).0;
+                    return climb_free(glance, below, point, steps).0;
                 }
                 face = under;
                 descent = Descent {
@@ -67,7 +69,7 @@ fn go_upright<L: Ledger>(
     }
 }
 
-/// Where the point of a course lies, by a walk from any face.
+/// Where the point of a course lies, at which no vertex is, by a walk from any face.
 ///
 /// Along the horizontal it leaves each face at the last of its crossings with it before the vertical of the point; down along the
 /// vertical, below the lowest edge above the point; and where no edge leads out of the face so, it goes up from the highest edge below
@@ -80,6 +82,7 @@ pub fn walk_from<L: Ledger>(
 ) -> Spot
     requires map { IsSoundMap glance.now }
     requires first { HasFace (tables_of glance.now) first }
+    requires free { IsVertexAt glance.now.graph course.now.point None }
     ensures { IsSpotOf glance.now.graph (tables_of glance.now) course.now.point result }
 {
     let face = go_along(glance, first, course, steps);

@@ -1,14 +1,11 @@
-use Rattle.std.proofs.Common.{sym, ap, inl, subst}
+use Rattle.std.proofs.Common.{sym, subst}
 use Rattle.slab_laws.specs.View.{View}
 use Rattle.counted_looks.specs.declared.boundary_part.BoundaryPart.{BoundaryPart}
-use Rattle.counted_looks.specs.declared.boundary_part.BoundaryPart.TheVariants.{Isolated}
 use Rattle.counted_looks.specs.Boundaries.{HasPart}
 use Rattle.dcel_records.specs.RecordsView.{graph_of}
-use Rattle.locate_walk.specs.Looks.{HasSeen}
+use Rattle.locate_walk.specs.Looks.{IsBelowOrNone, HasSeen}
 use Rattle.locate_walk.proofs.Takes.{looked_seen, looked_still, beside_looked}
-use Rattle.locate_landmarks.specs.Lowest.{IsAbove}
-use Rattle.locate_landmarks.specs.Surveys.{HasSurveyedPart}
-use Rattle.locate_landmarks.specs.declared.descent.Descent.{Descent}
+use Rattle.locate_landmarks.specs.Lowest.{IsAbove, IsEntry}
 use Rattle.locate_landmarks.proofs.Surveyed.{survey_may}
 use Rattle.locate_landmarks.proofs.survey.SurveyLookerGlance.look.Goals as goal
 
@@ -17,8 +14,19 @@ look_closely-requires-clause-lowest g c =
     let m = c.requires.ready.1 in
     subst (λ (w : View). IsAbove w c.args.self.now.highest.point c.args.self.now.descent.lowest) (sym m.highest.graph) m.lowest
 
+pub look_closely-requires-clause-best : goal.look_closely-requires-clause-best
+look_closely-requires-clause-best g c =
+    let h = c.args.self.now.highest in
+    let m = c.requires.ready.1.highest in
+    subst (λ (w : View). IsBelowOrNone w h.point h.best) (sym m.graph) m.best
+
+pub look_closely-requires-clause-entry : goal.look_closely-requires-clause-entry
+look_closely-requires-clause-entry g c =
+    let m = c.requires.ready.1 in
+    subst (λ (w : View). IsEntry w c.args.self.now.highest.point c.args.self.now.descent.entry) (sym m.highest.graph) m.entry
+
 pub returns-then-is_left_or_right_of-clause-seen : goal.returns-then-is_left_or_right_of-clause-seen
-returns-then-is_left_or_right_of-clause-seen g c =
+returns-then-is_left_or_right_of-clause-seen g c = λ d e.
     let v = graph_of c.args.sight.now in
     let h = c.args.self.now.highest in
     let k = c.requires.ready.0.highest in
@@ -31,24 +39,12 @@ pub returns-else-is_left_or_right_of-clause-ready : goal.returns-else-is_left_or
 returns-else-is_left_or_right_of-clause-ready g c = survey_may (graph_of c.args.sight.now) c.args.self.now c.look_closely.new.self _ c.look_closely.ensures
 
 pub returns-else-is_left_or_right_of-clause-seen : goal.returns-else-is_left_or_right_of-clause-seen
-returns-else-is_left_or_right_of-clause-seen g c =
+returns-else-is_left_or_right_of-clause-seen g c = λ d e.
     let v = graph_of c.args.sight.now in
     let l = c.look_closely.new.self.highest in
     subst (λ (t : BoundaryPart). HasSeen v l t) (sym c.in-Dart.is)
     (looked_seen v c.args.self.now.highest l _ c.look_closely.ensures.highest c.requires.ready.0.highest c.requires.ready.1.highest)
 
 pub returns-else-is_left_or_right_of-clause-still : goal.returns-else-is_left_or_right_of-clause-still
-returns-else-is_left_or_right_of-clause-still g c =
-    looked_still (graph_of c.args.sight.now) c.args.self.now.highest c.look_closely.new.self.highest _ c.look_closely.ensures.highest c.requires.ready.0.highest c.requires.ready.1.highest
-
-pub returns-in-Isolated-clause-ready : goal.returns-in-Isolated-clause-ready
-returns-in-Isolated-clause-ready g c = λ k m.
-    let h = c.args.self.now in
-    let above = subst (λ (w : View). IsAbove w h.highest.point h.descent.lowest) (sym m.highest.graph) m.lowest in
-    let l = c.look_at_vertex.new.self in
-    let part : HasSurveyedPart h (Isolated c.in-Isolated.vertex) l = record {
-      highest = c.look_at_vertex.ensures.looked;
-      lowest = subst (λ (d : Descent). IsAbove h.highest.glance.now.graph h.highest.point d.lowest) (sym c.look_at_vertex.ensures.descent) above;
-      lowered = inl (ap (λ (d : Descent). d.lowest) c.look_at_vertex.ensures.descent);
-    } in
-    survey_may (graph_of c.args.sight.now) h l _ part k m
+returns-else-is_left_or_right_of-clause-still g c = λ t y d e.
+    looked_still (graph_of c.args.sight.now) c.args.self.now.highest c.look_closely.new.self.highest _ c.look_closely.ensures.highest c.requires.ready.0.highest c.requires.ready.1.highest t (y d e)
