@@ -65,6 +65,22 @@ impl<'a> Glimpse<'a> {
         self.records.point(Darts::target(self.records, self.dart))
     }
 
+    /// The whole parts of the point that the dart leaves. No vertex is read.
+    #[inline(always)]
+    pub fn source_parts(&self) -> WholeParts
+        ensures { result ≡ whole_parts self.now.source }
+    {
+        self.records.source_parts(self.dart)
+    }
+
+    /// The whole parts of the point that the dart reaches. No vertex is read.
+    #[inline(always)]
+    pub fn target_parts(&self) -> WholeParts
+        ensures { result ≡ whole_parts self.now.target }
+    {
+        self.records.target_parts(self.dart)
+    }
+
     /// Whether both ends are to the left of a place, or both to its right, by whole parts. No vertex is read.
     #[inline(always)]
     pub fn is_left_or_right_of(&self, at: WholeParts) -> bool

@@ -34,6 +34,13 @@ use Rattle.locate_walk.specs.declared.found.Found.{Found}
 use Rattle.locate_walk.specs.declared.found.Found.TheVariants.{At, Below, Past}
 use Rattle.locate_walk.proofs.EndsCompared.{differ, beside_apart}
 
+-- both ends that a look told have a positive weight
+pub end_weights : (v : View) (s : IsGraphSound v) (d : DartId) (has : HasDart v d) (l : Looked) (look : IsLookOf v (Edge d) l) → (pos 0 <ℤ l.source.w) × (pos 0 <ℤ l.target.w)
+end_weights v s d has l look = (
+  subst (λ (x : Point). pos 0 <ℤ x.w) (sym look.0) (s.drawn.proper (source_in v d) (s.linked.source d has)).positive,
+  subst (λ (x : Point). pos 0 <ℤ x.w) (sym look.1) (s.drawn.proper (target_in v d) (target_has v s d has)).positive,
+)
+
 module _ (v : View) (f : Faces) (s : IsGraphSound v) (q : Point) (Q : IsProper q) (d : DartId) (has : HasDart v d) (l : Looked) (look : IsLookOf v (Edge d) l) where
   abbrev low : Point
   low = point_in v (source_in v d)
@@ -123,10 +130,7 @@ module _ (v : View) (f : Faces) (s : IsGraphSound v) (q : Point) (Q : IsProper q
 
   -- ---- one that whole parts rule out
   pub beside_found : is_left_or_right_of (whole_parts q) (whole_parts l.source) (whole_parts l.target) ≡ true → IsFoundAtDart v f q d Past
-  beside_found h =
-      let A = s.drawn.proper (source_in v d) (s.linked.source d has) in
-      let B = s.drawn.proper (target_in v d) (target_has v s d has) in
-      apart_found (beside_apart l.source q l.target (subst (λ (x : Point). pos 0 <ℤ x.w) (sym look.0) A.positive) Q.positive (subst (λ (x : Point). pos 0 <ℤ x.w) (sym look.1) B.positive) h)
+  beside_found h = let k = end_weights v s d has l look in apart_found (beside_apart l.source q l.target k.0 Q.positive k.1 h)
 
 -- ---- an edge that spans the point and isn't through it
 -- the point is at neither end of its darts

@@ -1,4 +1,4 @@
-ghost use Rattle.std.specs.Prelude.{◌≡◌};
+ghost use Rattle.std.specs.Prelude.{◌≡◌, Some};
 ghost use Rattle.slab_laws.specs.View.{HasDart};
 ghost use Rattle.counted_looks.specs.Looks.{IsLookOf};
 ghost use Rattle.counted_looks.specs.declared.boundary_part.BoundaryPart.TheVariants.{Dart};
@@ -26,20 +26,16 @@ pub struct Highest<'a, 'r> {
     pub best: Option<EdgeBelow>,
 }
 
-// The higher of the highest edge so far and one more.
-fn higher(best: Option<EdgeBelow>, edge: EdgeBelow) -> EdgeBelow
-    ensures { result ≡ higher_edge best edge }
+// The highest edge so far gives way to one that is above it.
+fn raise(best: &mut Option<EdgeBelow>, edge: EdgeBelow)
+    ensures { best.new ≡ Some (higher_edge best.old edge) }
 {
-    match best {
-        Some(other) => {
-            if is_above(&edge.edge, &other.edge) {
-                edge
-            } else {
-                other
-            }
+    if let Some(other) = &*best {
+        if !is_above(&edge.edge, &other.edge) {
+            return;
         }
-        None => edge,
     }
+    *best = Some(edge);
 }
 
 // Whether it is the dart along the highest edge so far.
@@ -86,7 +82,7 @@ impl<'a, 'r> Highest<'a, 'r> {
     {
         match found {
             Found::At(spot) => self.hit = Some(spot),
-            Found::Below(edge) => self.best = Some(higher(self.best, edge)),
+            Found::Below(edge) => raise(&mut self.best, edge),
             Found::Past => {}
         }
     }

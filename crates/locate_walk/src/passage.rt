@@ -1,8 +1,8 @@
-ghost use Rattle.std.specs.Prelude.{◌≡◌};
+ghost use Rattle.std.specs.Prelude.{◌≡◌, ◌&&◌, int_lt, pos, ◌<ℤ◌};
 ghost use Rattle.locate_walk.specs.Passages.{IsPassage, spans};
 
 use counted_looks::Glimpse;
-use exact_plane::Point;
+use exact_plane::{Point, WholeParts};
 use std::cmp::Ordering;
 
 /// How a dart lies to the leant vertical through a point, by its ends.
@@ -29,8 +29,16 @@ impl Passage {
     }
 }
 
-/// The passage of a dart that was looked at, by the comparison of both ends with the point.
-pub fn passage_of(looked: &Glimpse, point: &Point) -> Passage
+// Whether a place is right of one and left of another, by whole parts.
+#[inline(always)]
+fn is_between(left: WholeParts, place: WholeParts, right: WholeParts) -> bool
+    ensures { result ≡ (int_lt left.x place.x && int_lt place.x right.x) }
+{
+    left.x < place.x && place.x < right.x
+}
+
+// The passage of a dart, by the comparison of both ends with the point.
+fn compared(looked: &Glimpse, point: &Point) -> Passage
     ensures { IsPassage looked.now.source point.now looked.now.target result }
 {
     match (looked.source().cmp(point), looked.target().cmp(point)) {
@@ -40,4 +48,23 @@ pub fn passage_of(looked: &Glimpse, point: &Point) -> Passage
         (Ordering::Greater, Ordering::Less) => Passage::Backward,
         _ => Passage::Apart,
     }
+}
+
+/// The passage of a dart that was looked at. Of most that span the point the whole parts of both ends tell it, and no vertex is read;
+/// else both ends are compared with the point.
+pub fn passage_of(looked: &Glimpse, point: &Point) -> Passage
+    requires weights { (pos 0 <ℤ looked.now.source.w) × (pos 0 <ℤ looked.now.target.w) }
+    ensures { IsPassage looked.now.source point.now looked.now.target result }
+{
+    point.laws();
+    let from = looked.source_parts();
+    let at = point.whole_parts();
+    let to = looked.target_parts();
+    if is_between(from, at, to) {
+        return Passage::Forward;
+    }
+    if is_between(to, at, from) {
+        return Passage::Backward;
+    }
+    compared(looked, point)
 }
