@@ -96,7 +96,7 @@ fn span_along(pieces: &[Span], points: &[Point], stretches: &[Stretch], edge: &E
     let line = line_at(pieces, piece_along(stretches, edge));
     let low = vertex_at(points, edge.low);
     let high = vertex_at(points, edge.high);
-    Span::new(low, high, line).unwrap()
+    Span::between(low, high, line)
 }
 
 // Edges with their points and lines.

@@ -1,8 +1,7 @@
-use Rattle.std.proofs.Common.{ℕ, ◌≡◌, ◌<◌, length, sym, ap, ◌∙◌, subst}
+use Rattle.std.proofs.Common.{ℕ, ◌<◌, length, sym, ap, ◌∙◌, subst}
 use Rattle.exact_plane.specs.Line.{Line}
 use Rattle.exact_plane.specs.Point.{Point}
 use Rattle.exact_plane.specs.Span.{Span, AreOnWay}
-use Rattle.present_graphs.proofs.Fit.{some_by, some_is}
 use Rattle.sweep_events.specs.Places.{piece_at}
 use Rattle.sweep_graphs.specs.declared.edges.EdgeEnds.{EdgeEnds}
 use Rattle.sweep_graphs.specs.Traces.{point_at}
@@ -23,21 +22,19 @@ vertex_at-high-requires c =
     let s = c.piece_along.ensures in
     subst (λ (e : EdgeEnds). e.high < length c.args.points.now) s.2 (c.requires.lines s.0 s.1).high_in
 
-pub unwrap-requires : goal.unwrap-requires
-unwrap-requires c =
+pub between-requires : goal.between-requires
+between-requires c =
     let s = c.piece_along.ensures in
     let e = c.args.edge.now in
     let way =
     subst (λ (i : ℕ). AreOnWay (point_at c.args.points.now e.low) (point_at c.args.points.now e.high) (piece_at c.args.pieces.now i).line) s.3
     (subst (λ (f : EdgeEnds). AreOnWay (point_at c.args.points.now f.low) (point_at c.args.points.now f.high) (piece_at c.args.pieces.now s.0.piece).line) s.2 (c.requires.lines s.0 s.1).way) in
-    some_by c.new.result _ c.new.ensures.none
-    (subst (λ (l : Line). AreOnWay c.vertex_at-low.result c.vertex_at-high.result l) (sym c.line_at-line.ensures)
+    subst (λ (l : Line). AreOnWay c.vertex_at-low.result c.vertex_at-high.result l) (sym c.line_at-line.ensures)
     (subst (λ (a : Point). AreOnWay a c.vertex_at-high.result (piece_at c.args.pieces.now c.piece_along.result).line) (sym c.vertex_at-low.ensures)
-    (subst (λ (b : Point). AreOnWay (point_at c.args.points.now e.low) b (piece_at c.args.pieces.now c.piece_along.result).line) (sym c.vertex_at-high.ensures) way)))
+    (subst (λ (b : Point). AreOnWay (point_at c.args.points.now e.low) b (piece_at c.args.pieces.now c.piece_along.result).line) (sym c.vertex_at-high.ensures) way))
 
 pub returns : goal.returns
 returns c =
-    let is : c.unwrap.result ≡ record { lower = c.vertex_at-low.result; upper = c.vertex_at-high.result; line = c.line_at-line.result } = some_is c.new.result c.unwrap.result _ c.unwrap.ensures c.new.ensures.span in
-    let low = ap (λ (t : Span). t.lower) is ∙ c.vertex_at-low.ensures in
-    let high = ap (λ (t : Span). t.upper) is ∙ c.vertex_at-high.ensures in
+    let low = ap (λ (t : Span). t.lower) c.between.ensures ∙ c.vertex_at-low.ensures in
+    let high = ap (λ (t : Span). t.upper) c.between.ensures ∙ c.vertex_at-high.ensures in
     λ i. record { low = low i; high = high i }
