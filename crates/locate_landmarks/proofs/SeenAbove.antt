@@ -62,7 +62,7 @@ module _ (v : View) (f : Faces) (s : IsGraphSound v) (q : Point) (Q : IsProper q
 -- ---- and of an edge above the point a look finds nothing
 above_past : (v : View) (f : Faces) (s : IsGraphSound v) (q : Point) (Q : IsProper q) (d : DartId) → HasDart v d → IsSeenAbove (skeleton_of v) q (edge_in v d) → IsFoundAtDart v f q d Past
 above_past v f s q Q d has a =
-    let off = aside_outside (edge_in v d) q (λ z. let o = over_out (edge_in v d) q a.lies_over in absurd (omega (arith, ints))) in
+    let off = aside_outside (edge_in v d) q (λ y z. let o = over_out (edge_in v d) q a.lies_over in absurd (omega (arith, ints))) in
     (spanning_off v s q Q d has a.spanning, record { outside = off; unseen = λ y. false≢true (sym (under_not_over (edge_in v d) q y.lies_under) ∙ a.lies_over) })
 
 at_entry : (v : View) (f : Faces) (s : IsGraphSound v) (q : Point) (Q : IsProper q) (o : Option DartId) (d : DartId) → IsEntry v q o → is_dart o d ≡ true → IsFoundAtDart v f q d Past

@@ -141,10 +141,11 @@ spanning_off v s q Q d has k = elim (spans_out v s d has q Q k) [
 ]
 
 -- and isn't inside it
-pub aside_outside : (e : PlaneEdge) (q : Point) → (side e q ≡ pos 0 → ⊥) → inside e q ≡ false
+pub aside_outside : (e : PlaneEdge) (q : Point) → (IsSpanning e q → side e q ≡ pos 0 → ⊥) → inside e q ≡ false
 unfolding over under
 aside_outside e q n =
     false_from_ne_true (inside e q) (λ h.
     let a = and_true (precedes e.low q && precedes q e.high) _ h in
+    let k = and_true (precedes e.low q) (precedes q e.high) a.0 in
     let b = and_true (not (lt_z (side e q) (pos 0))) (not (lt_z (pos 0) (side e q))) a.1 in
-    n (on_neither e q (not-true _ b.0) (not-true _ b.1)))
+    n (record { from = k.0; to = k.1 }) (on_neither e q (not-true _ b.0) (not-true _ b.1)))

@@ -1,5 +1,7 @@
 pub mod EndsCompared
 pub mod Finds
+pub mod Heights
 pub mod Takes
+pub mod Beyond
 pub mod Rounds
 pub mod Examples

@@ -178,7 +178,7 @@ found_again : (v : View) (f : Faces) (s : IsGraphSound v) (q : Point) (Q : IsPro
 found_again v f s q Q a None d p e = absurd (false≢true e)
 found_again v f s q Q a (Some b) d p e =
     let k = p.0.1 in
-    let off = aside_outside (edge_in v b.dart) q (λ z. let u = under_out (edge_in v b.dart) q k.lies_under in absurd (omega (arith, ints))) in
+    let off = aside_outside (edge_in v b.dart) q (λ y z. let u = under_out (edge_in v b.dart) q k.lies_under in absurd (omega (arith, ints))) in
     let there : IsFound v f q a (Dart b.dart) (Below b) = (spanning_off v s q Q b.dart p.0.0.0 k.spanning, record { outside = off; along = refl; seen = p.0 }, p.1) in
     (b, subst (λ (x : DartId). IsFound v f q a (Dart x) (Below b)) (ap dart_id (eqb-true b.dart.0 d.0 e)) there, ap Some (sym (higher_itself b)))
 

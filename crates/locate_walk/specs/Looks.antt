@@ -2,6 +2,8 @@
 use Rattle.std.specs.Option.{is_some}
 use Rattle.std.specs.Prelude.{◌≡◌, ◌≢◌, ◌⊎◌, ◌<◌, ◌==◌, ◌||◌, ⊤, Bool, false, cond, Option, Some, None, IfSome, IsSome}
 use Rattle.exact_plane.specs.Point.{Point}
+use Rattle.exact_plane.specs.WholeParts.{whole_parts, bounding_box, excludes}
+use Rattle.exact_plane.specs.declared.whole_parts.WholeParts.{WholeParts}
 use Rattle.plane_graphs.specs.Line.{IsProper}
 use Rattle.slab_laws.specs.declared.names.DartId.{DartId}
 use Rattle.slab_laws.specs.declared.names.FaceId.{FaceId}
@@ -37,6 +39,11 @@ higher_edge (Some b) e = cond (is_above (edge_of e.edge) (edge_of b.edge)) e b
 abbrev pub is_best : Option EdgeBelow → DartId → Bool
 is_best None d = false
 is_best (Some b) d = b.dart.0 == d.0
+
+-- both places are on one side of the point, above it, or below both ends of the edge; with none, no place is told to be so (this project)
+abbrev pub is_beyond : Point → Option EdgeBelow → WholeParts → WholeParts → Bool
+is_beyond q None s t = false
+is_beyond q (Some b) s t = excludes (record { least = record { x = (whole_parts q).x; y = (bounding_box b.edge).least.y }; greatest = whole_parts q }) s t
 
 -- none, or one that the point sees, with its edge
 abbrev pub IsBelowOrNone : View → Point → Option EdgeBelow → Type 0

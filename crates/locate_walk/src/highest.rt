@@ -1,16 +1,17 @@
 ghost use Rattle.std.specs.Prelude.{◌≡◌, Some};
+ghost use Rattle.exact_plane.specs.WholeParts.{whole_parts};
 ghost use Rattle.slab_laws.specs.View.{HasDart};
 ghost use Rattle.counted_looks.specs.Looks.{IsLookOf};
 ghost use Rattle.counted_looks.specs.declared.boundary_part.BoundaryPart.TheVariants.{Dart};
 ghost use Rattle.dcel_records.specs.SoundMaps.{IsSoundMap};
 ghost use Rattle.dcel_records.specs.declared.spot.Spot.TheVariants.{Edge};
-ghost use Rattle.locate_walk.specs.Looks.{higher_edge, is_best, is_settled, taken, HasLooked, IsBelowOrNone};
+ghost use Rattle.locate_walk.specs.Looks.{higher_edge, is_best, is_beyond, is_settled, taken, HasLooked, IsBelowOrNone};
 
 use crate::found::{EdgeBelow, Found, find};
 use counted_looks::{BoundaryPart, Glance, Glimpse, Looker};
 use dcel_records::Spot;
 use edges_below::is_above;
-use exact_plane::Point;
+use exact_plane::{BoundingBox, Point, WholeParts};
 use slab_laws::{DartId, FaceId};
 use std::sync::ledger::Ledger;
 use work_steps::Steps;
@@ -49,6 +50,25 @@ fn is_best(best: &Option<EdgeBelow>, dart: DartId) -> bool
     }
 }
 
+// Whether whole parts tell that an edge is above the point, or below both ends of the highest edge so far: then it is no higher one that
+// the point sees below it. They are asked once there is such an edge.
+#[inline(always)]
+fn is_beyond(point: &Point, best: &Option<EdgeBelow>, looked: &Glimpse) -> bool
+    ensures { result ≡ is_beyond point.now best.now (whole_parts looked.now.source) (whole_parts looked.now.target) }
+{
+    match best {
+        Some(edge) => {
+            let at = point.whole_parts();
+            let lowest = BoundingBox::of(&edge.edge).least.y;
+            looked.is_outside(&BoundingBox {
+                least: WholeParts { x: at.x, y: lowest },
+                greatest: at,
+            })
+        }
+        None => false,
+    }
+}
+
 impl<'a, 'r> Highest<'a, 'r> {
     /// Whether a closer look at a dart would change nothing: the point was met, or the dart is that along the highest edge so far,
     /// which would be found again.
@@ -70,6 +90,9 @@ impl<'a, 'r> Highest<'a, 'r> {
     {
         self.point.laws();
         if self.is_settled(dart) {
+            return;
+        }
+        if is_beyond(&self.point, &self.best, looked) {
             return;
         }
         let found = find(self.glance, self.face, dart, looked, &self.point);
