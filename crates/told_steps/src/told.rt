@@ -18,6 +18,7 @@ use observer_bus::Bus;
 use std::alloc::Global;
 
 // One round of observers, over the records as they stand: they need not be a map at rest, since a change may carry the lists of what moves.
+#[inline(never)]
 fn tell(alloc: Global, records: &Records, history: &History, bus: &mut Bus, note: &Note)
     requires sound { IsSound records.now.graph (tables_of records.now) }
     requires curves { AreCurvesOf records.now.graph (curves_on history.now) }
@@ -35,6 +36,8 @@ fn tell(alloc: Global, records: &Records, history: &History, bus: &mut Bus, note
 }
 
 /// Observers are told what is about to change.
+// Where there are none, which is the most usual, no note is made.
+#[inline(always)]
 pub(crate) fn tell_before(
     alloc: Global,
     records: &Records,
@@ -50,6 +53,9 @@ pub(crate) fn tell_before(
     ensures in_step { AreInStep (map_of records.now) (curves_on history.now)
         (bus_row Observer-dyn bus.new) }
 {
+    if bus.is_empty() {
+        return;
+    }
     tell(alloc, records, history, bus, &Note::Before(intent));
 }
 
@@ -65,6 +71,8 @@ fn change_of(note: Note) -> Change
 }
 
 /// Observers are told what has just changed; the change comes back, since it may have lists that the records wait for.
+// Where there are none no note is made of it.
+#[inline(always)]
 pub(crate) fn tell_after(
     alloc: Global,
     records: &Records,
@@ -81,6 +89,9 @@ pub(crate) fn tell_after(
     ensures in_step { AreInStep (map_of records.now) (curves_on history.now)
         (bus_row Observer-dyn bus.new) }
 {
+    if bus.is_empty() {
+        return change;
+    }
     let note = Note::After(change);
     tell(alloc, records, history, bus, &note);
     change_of(note)
