@@ -11,7 +11,7 @@ use Rattle.observer_bus.proofs.Heard.{not_planned}
 use Rattle.observer_bus.proofs.Holding.{all_hold}
 use Rattle.observer_bus.proofs.Room.{FitsJoin, fits_join}
 use Rattle.observer_bus.specs.RoundLaws.{AreLed, AreRounds, AreRoundsLawful, HaveNamesApart, MayNotesBeHeard, heard_in, seat_names}
-use Rattle.observer_bus.specs.Rounds.{BusRow, IsRound, ended, kept, gone}
+use Rattle.observer_bus.specs.Rounds.{AreInRound, BusRow, IsRound, IsRoundOf, ended, kept, gone}
 use Rattle.observer_bus.specs.Seats.{SeatRow, IsKept, Holds}
 use Rattle.observer_bus.specs.declared.seat.Fate.{Fate}
 use Rattle.observer_bus.specs.declared.seat.Fate.TheVariants.{Told, ToldLast, LeftUntold, Joined, Waits, Lost}
@@ -22,6 +22,11 @@ notes_heard = record {
   before = λ i ss k d lt j t. tt;
   after = λ v c ss h fits sound k d lt j t. subst (λ o. FitsNote o (After c)) (sym (h k d lt j t)) (fits, sound);
 }
+
+-- ---- a bus without seats
+-- a round leaves it as it was
+pub nobody_told : (n : Note) (w : CurvedView) (b : BusRow) → b.seats ≡ [] → AreInRound n w b b
+nobody_told n w b e = (subst (λ ss. IsRoundOf n w ss b.went ss b.went) (sym e) ([], ended, refl), refl)
 
 -- ---- names
 apart_from : (x : ℕ) (ss : List SeatRow) → AllByRecursion (λ y. (x == y) ≡ false) (seat_names ss) → (s : SeatRow) → Member s ss → x ≡ s.name → ⊥

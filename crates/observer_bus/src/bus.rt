@@ -105,6 +105,15 @@ impl Bus {
         round::has_name(&self.seats, name)
     }
 
+    /// Whether nobody is seated and no join is planned: a round would tell nobody.
+    // Looked at before each note is made, which most buses have nobody for.
+    #[inline(always)]
+    pub fn is_empty(&self) -> bool
+        ensures { result ≡ (length (bus_row Observer-dyn self.now).seats == 0) }
+    {
+        self.seats.is_empty()
+    }
+
     /// Lets a seated observer go: without a round at once, and its box is dropped; with one untold at its turn in that round, the next being
     /// 1, in place of an earlier plan. It takes no memory.
     ///
