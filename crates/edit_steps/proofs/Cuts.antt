@@ -8,7 +8,7 @@ use Rattle.exact_plane.specs.Segment.{line_of_segment}
 use Rattle.exact_plane.specs.PointOrderLaws.{and_true}
 use Rattle.plane_graphs.specs.Piece.{Piece, Present, along, on}
 use Rattle.edit_steps.specs.Steps.{cut_piece, with_cut}
-use Rattle.plane_graphs.specs.Fit.{IsFit, IsFitPiece}
+use Rattle.plane_graphs.specs.Fit.{IsFit, IsFitPiece, AreOfOneSide}
 use Rattle.plane_graphs.specs.Ascending.{Member}
 use Rattle.plane_graphs.proofs.Ascending.{ascending_unique}
 use Rattle.plane_graphs.proofs.Lists.{and_in, not_out, not_in, clash, decide, of_flat_map, in_flat_map, in_filter, of_filter, in_left, in_right, in_either, if_out, if_true, if_false, one_if, if_one, IsAscending-filter}
@@ -52,6 +52,7 @@ along_of j k e t = ap (λ s. along (record j { segment = s }) t) e
 -- j is a part of k
 pub record IsPart (j k : Piece) : Type 0 where
   pub curve : j.curve ≡ k.curve
+  pub side : j.side ≡ k.side
   pub segment : j.segment ≡ k.segment
   pub low : Le k.from j.from
   pub high : Le j.to k.to
@@ -60,13 +61,13 @@ pub part_on : (j k : Piece) → IsPart j k → (t : Point) → On j t → On k t
 part_on j k p t o = record { line = sym (along_of j k p.segment t) ∙ o.line; low = le_trans p.low o.low; high = le_trans o.high p.high }
 
 part_itself : (k : Piece) → IsPart k k
-part_itself k = record { curve = refl; segment = refl; low = le_same k.from; high = le_same k.to }
+part_itself k = record { curve = refl; side = refl; segment = refl; low = le_same k.from; high = le_same k.to }
 
 part_under : (j k : Piece) (a : Point) → On k a → j ≡ record k { to = a } → IsPart j k
-part_under j k a o e = subst (λ z. IsPart z k) (sym e) (record { curve = refl; segment = refl; low = le_same k.from; high = o.high })
+part_under j k a o e = subst (λ z. IsPart z k) (sym e) (record { curve = refl; side = refl; segment = refl; low = le_same k.from; high = o.high })
 
 part_over : (j k : Piece) (b : Point) → On k b → j ≡ record k { from = b } → IsPart j k
-part_over j k b o e = subst (λ z. IsPart z k) (sym e) (record { curve = refl; segment = refl; low = o.low; high = le_same k.to })
+part_over j k b o e = subst (λ z. IsPart z k) (sym e) (record { curve = refl; side = refl; segment = refl; low = o.low; high = le_same k.to })
 
 pub record Parent (ks : List Piece) (j : Piece) : Type 0 where
   pub piece : Piece
@@ -226,6 +227,8 @@ module _ (p : Present) (fit : IsFit p) (a b : Point) (pa : IsProper a) (pb : IsP
         to_on = along_of (record k { to = a }) k refl a ∙ x.line;
         from_within = f.from_within;
         to_within = not_before k.segment.upper a (le_trans x.high (within k.segment.upper k.to f.to_within));
+        first_side = f.first_side;
+        last_side = f.last_side;
       })
   fit_source j (over k h x y l e) =
       let f = fit.piece k h in
@@ -240,6 +243,8 @@ module _ (p : Present) (fit : IsFit p) (a b : Point) (pa : IsProper a) (pb : IsP
         to_on = along_of (record k { from = b }) k refl k.to ∙ f.to_on;
         from_within = not_before b k.segment.lower (le_trans (within k.from k.segment.lower f.from_within) y.low);
         to_within = f.to_within;
+        first_side = f.first_side;
+        last_side = f.last_side;
       })
 
   not_both : (t : Point) → Le t a → Le b t → ⊥
@@ -264,6 +269,9 @@ module _ (p : Present) (fit : IsFit p) (a b : Point) (pa : IsProper a) (pb : IsP
   one_by i j t x y (under k g u v l q) (over m h r s n o) e = absurd (not_both t (subst (λ z. Le t z) (ap (λ (z : Piece). z.to) q) x.high) (subst (λ z. Le z t) (ap (λ (z : Piece). z.from) o) y.low))
   one_by i j t x y (over k g u v l q) (under m h r s n o) e = absurd (not_both t (subst (λ z. Le t z) (ap (λ (z : Piece). z.to) o) y.high) (subst (λ z. Le z t) (ap (λ (z : Piece). z.from) q) x.low))
 
+  of_parents : {i j k m : Piece} → IsPart i k → IsPart j m → AreOfOneSide i j → AreOfOneSide k m
+  of_parents x y e = (sym x.curve ∙ e.0 ∙ y.curve, sym x.side ∙ e.1 ∙ y.side)
+
   pub fit_cut : IsFit (with_cut p a b)
   fit_cut = record {
     piece = λ k h. fit_source k (source_out a b p.pieces k h);
@@ -272,11 +280,11 @@ module _ (p : Present) (fit : IsFit p) (a b : Point) (pa : IsProper a) (pb : IsP
     one_segment = λ k m h g e.
         let x = parent a b p.pieces k (source_out a b p.pieces k h) in
         let y = parent a b p.pieces m (source_out a b p.pieces m g) in
-        x.part.segment ∙ fit.one_segment x.piece y.piece x.here y.here (sym x.part.curve ∙ e ∙ y.part.curve) ∙ sym y.part.segment;
+        x.part.segment ∙ fit.one_segment x.piece y.piece x.here y.here (of_parents x.part y.part e) ∙ sym y.part.segment;
     one_piece = λ k m h g e t pt c d.
         let s = source_out a b p.pieces k h in
         let u = source_out a b p.pieces m g in
         let x = parent a b p.pieces k s in
         let y = parent a b p.pieces m u in
-        one_by k m t (on_out k t c) (on_out m t d) s u (fit.one_piece x.piece y.piece x.here y.here (sym x.part.curve ∙ e ∙ y.part.curve) t pt (on_in x.piece t (part_on k x.piece x.part t (on_out k t c))) (on_in y.piece t (part_on m y.piece y.part t (on_out m t d))));
+        one_by k m t (on_out k t c) (on_out m t d) s u (fit.one_piece x.piece y.piece x.here y.here (of_parents x.part y.part e) t pt (on_in x.piece t (part_on k x.piece x.part t (on_out k t c))) (on_in y.piece t (part_on m y.piece y.part t (on_out m t d))));
   }

@@ -9,7 +9,7 @@ use Rattle.plane_graphs.specs.Line.{same_point, IsProper}
 use Rattle.plane_graphs.specs.Ascending.{ascending, place, Member, IsAscending}
 use Rattle.plane_graphs.specs.Piece.{Piece, Present}
 use Rattle.plane_graphs.specs.Graph.{Mark, Graph, graph, graph_over, marks, vertices}
-use Rattle.edit_steps.specs.Steps.{Step, SetPin, ClearPin, Clear, points_without, apply, run, vertex_steps, tidy_steps, missing_points, more_step, with_tidying, with_piece, segment_steps, with_pin, pin_steps, without_pin, unpin_steps}
+use Rattle.edit_steps.specs.Steps.{Step, SetPin, ClearPin, Clear, points_without, apply, run, vertex_steps, tidy_steps, missing_points, more_step, with_tidying, with_piece, with_pieces, path_steps, with_pin, pin_steps, without_pin, unpin_steps}
 use Rattle.plane_graphs.specs.Plane.{IsPlane}
 use Rattle.plane_graphs.specs.Fit.{IsFit}
 use Rattle.edit_steps.specs.Allowed.{IsAllowed, AreSound}
@@ -102,11 +102,11 @@ module _ (geo : Geometry) where
         (of_place point_cmp point_cmp_total point_cmp_exact x r p.pins h)
     pin_either x (crossed c) = inr (vertex_in p x (crossed (crossing_more (with_pin p r) p (λ k h. h) x c)))
 
-    is_r : (x : Point) → Member x (missing_points (r ∷ []) (vertices p)) → x ≡ r
+    pub is_r : (x : Point) → Member x (missing_points (r ∷ []) (vertices p)) → x ≡ r
     unfolding missing_points
     is_r x m = ⊎_elim (λ e. e) (λ z. absurd z) (of_filter (λ q. not (list_any (same_point q) (vertices p))) x (r ∷ []) m).0
 
-    pin_sum : IsSum (vertices (with_pin p r)) (missing_points (r ∷ []) (vertices p)) (vertices p)
+    pub pin_sum : IsSum (vertices (with_pin p r)) (missing_points (r ∷ []) (vertices p)) (vertices p)
     unfolding missing_points
     pin_sum = record {
       whole = vertices_ascend (with_pin p r);
@@ -155,26 +155,27 @@ module _ (geo : Geometry) where
         apart = λ m n h. absurd h;
       }
 
-  -- ---- one more piece
-  pub segment_leads : (p : Present) (k : Piece) → IsFit (with_piece p k) → ((j : Piece) → Member j p.pieces → j.curve ≡ k.curve → ⊥) → Leads (segment_steps p k) (graph p) (graph (with_piece p k))
-  unfolding segment_steps graph
-  segment_leads p k fit fresh =
-      let q : Present = with_piece p k in
+  -- ---- more pieces, all of one curve
+  pub path_leads : (p : Present) (js : List Piece) → IsFit (with_pieces p js) → ((j k : Piece) → Member j p.pieces → Member k js → j.curve ≡ k.curve → ⊥) → ((j k : Piece) → Member j js → Member k js → j.curve ≡ k.curve) →
+      Leads (path_steps p js) (graph p) (graph (with_pieces p js))
+  unfolding path_steps graph
+  path_leads p js fit fresh one =
+      let q : Present = with_pieces p js in
       let ks : List Piece = p.pieces in
-      let more : (m : Piece) → Member m p.pieces → Member m (p.pieces ++ (k ∷ [])) = λ m h. in_left m p.pieces (k ∷ []) h in
-      let vs : List Point = vertices (with_piece p k) in
+      let more : (m : Piece) → Member m p.pieces → Member m (p.pieces ++ js) = λ m h. in_left m p.pieces js h in
+      let vs : List Point = vertices (with_pieces p js) in
       let s = missing_sum vs (vertices p) (vertices_ascend q) (vertices_more p q more (λ r h. h)) in
       let old = vertices_closed geo p (fit_part p q fit more (λ r h. h) fit.pins_ascend) in
       let new = vertices_closed geo q fit in
       let proper : (x : Point) → Member x (missing_points vs (vertices p)) → IsProper x = λ x m. new.proper x (s.from_rs x m) in
       let g = grown ks p.pins (vertex_sound ks p.pins) (missing_points vs (vertices p)) vs (vertices p) s old proper in
-      let t = marks_put (graph_over vs ks p.pins) (graph_over vs ks p.pins) (marks vs ks) (marks vs (k ∷ [])) (marks vs (p.pieces ++ (k ∷ []))) (marks_ascend vs (p.pieces ++ (k ∷ [])))
-      (λ m h. either_piece vs ks k m (mark_out vs (p.pieces ++ (k ∷ [])) m h))
-      (λ m h. mark_in vs (p.pieces ++ (k ∷ [])) m (mark_of vs (k ∷ []) (p.pieces ++ (k ∷ [])) (λ n i. in_right n p.pieces (k ∷ []) i) m (mark_out vs (k ∷ []) m h)))
-      (λ m h. mark_in vs (p.pieces ++ (k ∷ [])) m (mark_of vs ks (p.pieces ++ (k ∷ [])) more m (mark_out vs ks m h)))
-      (λ m xs h. more_sound vs ks k p.pins new fresh m xs h) (marks_ascend vs ks) (marks_ascend vs (k ∷ [])) in
-      leads_on (vertex_steps (missing_points vs (vertices p)) (graph p)) (map (more_step (run (vertex_steps (missing_points vs (vertices p)) (graph p)) (graph p))) (marks vs (k ∷ []))) (graph p) (graph_over vs ks p.pins) (graph q) (record { there = g.0; sound = g.1 })
-      (subst (λ z. Leads (map (more_step z) (marks vs (k ∷ []))) (graph_over vs ks p.pins) (graph q)) (sym g.0) (record { there = t.0; sound = t.1 }))
+      let t = marks_put (graph_over vs ks p.pins) (graph_over vs ks p.pins) (marks vs ks) (marks vs js) (marks vs (p.pieces ++ js)) (marks_ascend vs (p.pieces ++ js))
+      (λ m h. either_piece vs ks js m (mark_out vs (p.pieces ++ js) m h))
+      (λ m h. mark_in vs (p.pieces ++ js) m (mark_of vs js (p.pieces ++ js) (λ n i. in_right n p.pieces js i) m (mark_out vs js m h)))
+      (λ m h. mark_in vs (p.pieces ++ js) m (mark_of vs ks (p.pieces ++ js) more m (mark_out vs ks m h)))
+      (λ m xs h. more_sound vs ks js p.pins new fresh one m xs h) (marks_ascend vs ks) (marks_ascend vs js) in
+      leads_on (vertex_steps (missing_points vs (vertices p)) (graph p)) (map (more_step (run (vertex_steps (missing_points vs (vertices p)) (graph p)) (graph p))) (marks vs js)) (graph p) (graph_over vs ks p.pins) (graph q) (record { there = g.0; sound = g.1 })
+      (subst (λ z. Leads (map (more_step z) (marks vs js)) (graph_over vs ks p.pins) (graph q)) (sym g.0) (record { there = t.0; sound = t.1 }))
     where
       mark_of : (vs : List Point) (ks js : List Piece) → ((k : Piece) → Member k ks → Member k js) → (m : Mark) → IsMark vs ks m → IsMark vs js m
       mark_of vs ks js f m h = record { piece = h.piece; here = f h.piece h.here; curve = h.curve; low_in = h.low_in; high_in = h.high_in; next = h.next }
@@ -182,5 +183,5 @@ module _ (geo : Geometry) where
       with_here : (vs : List Point) (ks js : List Piece) (m : Mark) (h : IsMark vs ks m) → Member h.piece js → IsMark vs js m
       with_here vs ks js m h f = record { piece = h.piece; here = f; curve = h.curve; low_in = h.low_in; high_in = h.high_in; next = h.next }
 
-      either_piece : (vs : List Point) (ks : List Piece) (k : Piece) (m : Mark) → IsMark vs (ks ++ (k ∷ [])) m → Member m (marks vs (k ∷ [])) ⊎ Member m (marks vs ks)
-      either_piece vs ks k m h = ⊎_elim (λ i. inr (mark_in vs ks m (with_here vs (ks ++ (k ∷ [])) ks m h i))) (λ i. inl (mark_in vs (k ∷ []) m (with_here vs (ks ++ (k ∷ [])) (k ∷ []) m h i))) (in_either h.piece ks (k ∷ []) h.here)
+      either_piece : (vs : List Point) (ks js : List Piece) (m : Mark) → IsMark vs (ks ++ js) m → Member m (marks vs js) ⊎ Member m (marks vs ks)
+      either_piece vs ks js m h = ⊎_elim (λ i. inr (mark_in vs ks m (with_here vs (ks ++ js) ks m h i))) (λ i. inl (mark_in vs js m (with_here vs (ks ++ js) js m h i))) (in_either h.piece ks js h.here)

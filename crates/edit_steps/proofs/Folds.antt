@@ -70,7 +70,7 @@ put_back r us a m =
     (λ p n. ⊎_elim (λ e. subst (λ q. Member q us) (sym e) m) (λ k. (of_filter _ p us k).0) (old_or (points_without r us) r p n))
 
 module _ (ks : List Piece) (pins : List Point) where
-  grow_step : (r : Point) (rs us vs : List Point) → IsSum us (r ∷ rs) vs → IsClosed vs ks → IsSum us rs (place point_cmp r vs)
+  pub grow_step : (r : Point) (rs us vs : List Point) → IsSum us (r ∷ rs) vs → IsClosed vs ks → IsSum us rs (place point_cmp r vs)
   grow_step r rs us vs s cl = record {
     whole = s.whole;
     parts = s.parts.1;
@@ -93,7 +93,7 @@ module _ (ks : List Piece) (pins : List Point) where
       )
 
   -- the other way: us, which are vs and rs, lose rs
-  less_sum : (r : Point) (rs us vs : List Point) → IsSum us (r ∷ rs) vs → IsSum (points_without r us) rs vs
+  pub less_sum : (r : Point) (rs us vs : List Point) → IsSum us (r ∷ rs) vs → IsSum (points_without r us) rs vs
   less_sum r rs us vs s = record {
     whole = IsAscending-filter point_cmp _ us s.whole;
     parts = s.parts.1;

@@ -12,12 +12,12 @@ use Rattle.plane_graphs.specs.Line.{precedes}
 use Rattle.plane_graphs.specs.Piece.{Piece, on}
 use Rattle.plane_graphs.specs.Fit.{IsFit}
 use Rattle.edit_steps.specs.Steps.{cut_piece}
-use Rattle.edit_steps.specs.Edits.{Edit, Insert, Drop, Cut, Pin, Unpin, Split, Merge, ClearAll, whole_piece, after, IsAccepted}
+use Rattle.edit_steps.specs.Edits.{Edit, Insert, Drop, Cut, Pin, Unpin, Split, Merge, ClearAll, path_pieces, after, IsAccepted}
 use Rattle.edit_steps.specs.Layer.{Layer, layer_after, IsAcceptedBy, IsLawful, empty_layer, names_after, next_after}
 use Rattle.edit_steps.specs.EditLaws.{LayersAreLawful}
 use Rattle.plane_graphs.proofs.Lists.{any_out, in_either, in_left, in_right, in_filter, of_filter, of_flat_map, if_out, one_if, IsAscending-filter}
 use Rattle.plane_graphs.proofs.Order.{curve_out}
-use Rattle.edit_steps.proofs.Laws.{keeps_fit, fit_empty}
+use Rattle.edit_steps.proofs.Laws.{keeps_fit, fit_empty, of_curve}
 use Rattle.integers.proofs.Tests.{not_true}
 
 -- ---- names
@@ -56,7 +56,7 @@ module _ (l : Layer) (w : IsLawful l) where
 
   accepts : (e : Edit) → IsAcceptedBy e l → IsAccepted e l.present
   unfolding IsAccepted
-  accepts (Insert c s) h = record { lower = h.1; upper = h.2; forward = h.3; fresh = fresh c h.0 }
+  accepts (Insert c ss) h = record { sides = h.1; fresh = fresh c h.0 }
   accepts (Drop c) h = h
   accepts (Cut a b) h = h
   accepts (Pin r) h = h
@@ -80,11 +80,11 @@ module _ (l : Layer) (w : IsLawful l) where
   }
 
   -- one more name
-  inserted : (c : ℕ) (s : Segment) → IsAcceptedBy (Insert c s) l → IsLawful (layer_after (Insert c s) l)
+  inserted : (c : ℕ) (ss : List Segment) → IsAcceptedBy (Insert c ss) l → IsLawful (layer_after (Insert c ss) l)
   unfolding after
-  inserted c s h = record {
-    fit = is_fit (Insert c s) h;
-    named = λ k m. ⊎_elim (λ i. in_left k.curve l.names (c ∷ []) (w.named k i)) (λ i. ⊎_elim (λ e. in_right k.curve l.names (c ∷ []) (inl (ap (λ (z : Piece). z.curve) e))) (λ z. absurd z) i) (in_either k l.present.pieces (whole_piece c s ∷ []) m);
+  inserted c ss h = record {
+    fit = is_fit (Insert c ss) h;
+    named = λ k m. ⊎_elim (λ i. in_left k.curve l.names (c ∷ []) (w.named k i)) (λ i. in_right k.curve l.names (c ∷ []) (inl (of_curve c ss k i))) (in_either k l.present.pieces (path_pieces c ss) m);
     ascend = ascend_last c l.names (λ n m. let d = w.drawn n m in let e = h.0 in omega arith) w.ascend;
     least = λ n m. ⊎_elim (λ i. w.least n i) (λ i. ⊎_elim (λ e. let f = w.first in let g = h.0 in omega arith) (λ z. absurd z) i) (in_either n l.names (c ∷ []) m);
     drawn = λ n m. ⊎_elim (λ i. let d = w.drawn n i in omega arith) (λ i. ⊎_elim (λ e. let g = h.0 in omega arith) (λ z. absurd z) i) (in_either n l.names (c ∷ []) m);
@@ -105,7 +105,7 @@ module _ (l : Layer) (w : IsLawful l) where
 
   stays : (e : Edit) → IsAcceptedBy e l → IsLawful (layer_after e l)
   unfolding after
-  stays (Insert c s) h = inserted c s h
+  stays (Insert c ss) h = inserted c ss h
   stays (Drop c) h = dropped c h
   stays (Cut a b) h = same_names (Cut a b) h (λ k m. let o = of_flat_map (cut_piece a b) k l.present.pieces m in subst (λ n. Member n l.names) (sym (cut_curve a b o.0 k o.2)) (w.named o.0 o.1)) refl refl
   stays (Pin r) h = same_names (Pin r) h w.named refl refl

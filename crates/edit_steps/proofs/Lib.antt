@@ -2,6 +2,7 @@ pub mod Changes
 pub mod Cuts
 pub mod Edits
 mod Examples
+pub mod FirstSides
 pub mod Folds
 pub mod Laws
 pub mod Layers
@@ -10,5 +11,9 @@ pub mod Removals
 pub mod Seen
 pub mod Sound
 pub mod Split
+pub mod StrandDrops
+pub mod StrandPaths
+pub mod StrandSteps
 pub mod Tidy
+pub mod Together
 pub mod Vertices

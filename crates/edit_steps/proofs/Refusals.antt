@@ -1,5 +1,5 @@
 -- What a refusal is by the tests that it makes, and what a call answers for want of memory.
-use Rattle.std.proofs.Common.{◌≡◌, ℕ, ◌<◌, ◌≤◌, Bool, true, false, ◌&&◌, arith, length, refl, sym, ap, ◌∙◌}
+use Rattle.std.proofs.Common.{◌≡◌, ℕ, ◌+◌, ◌<◌, ◌≤◌, Bool, true, false, ◌&&◌, arith, length, refl, sym, ap, ◌∙◌}
 use Rattle.std.specs.Prelude.{nat_le, nat_lt, Option, Some, None, if◌then◌else◌, Result, Ok, Err, IsErrAnd}
 use Rattle.std.specs.List.{list_any}
 use Rattle.std.proofs.lemmas.Bool.{le-leb, lt-leb, lt-ltb, le-ltb}
@@ -17,13 +17,13 @@ no_memory said x o (Err e) m n f = ap said m ∙ n ∙ sym f
 no_memory said x o (Ok a) m n f = absurd m
 
 -- ---- one more curve
-room : (n limit : ℕ) → nat_le limit n ≡ false → n < limit
+room : (n limit : ℕ) → nat_lt limit n ≡ false → n ≤ limit
 room n limit e = grind (arith, nat_tests)
 
 unspent : (next last : ℕ) → nat_lt last next ≡ false → next ≤ last
 unspent next last e = grind (arith, nat_tests)
 
-module _ (curves pieces last : ℕ) (l : Layer) where
+module _ (sides curves pieces last : ℕ) (l : Layer) where
   allowed_by : (a b c : Bool) → (if a then Some (Full curves) else (if b then Some (Full pieces) else (if c then Some Spent else None))) ≡ None → (b ≡ false) × (c ≡ false)
   allowed_by false false false e = (refl, refl)
   allowed_by false false true e = absurd cc
@@ -31,10 +31,10 @@ module _ (curves pieces last : ℕ) (l : Layer) where
   allowed_by true b c e = absurd cc
 
   -- what is told of an insertion that isn't refused
-  pub insertion_allowed : insertion_refusal curves pieces last l ≡ None → (length l.present.pieces < pieces) × (l.next ≤ last)
+  pub insertion_allowed : insertion_refusal sides curves pieces last l ≡ None → (length l.present.pieces + sides ≤ pieces) × (l.next ≤ last)
   insertion_allowed e =
-      let k = allowed_by (nat_le curves (length l.names)) (nat_le pieces (length l.present.pieces)) (nat_lt last l.next) e in
-      (room (length l.present.pieces) pieces k.0, unspent l.next last k.1)
+      let k = allowed_by (nat_le curves (length l.names)) (nat_lt pieces (length l.present.pieces + sides)) (nat_lt last l.next) e in
+      (room (length l.present.pieces + sides) pieces k.0, unspent l.next last k.1)
 
 -- ---- a drop
 module _ (l : Layer) (c : ℕ) where

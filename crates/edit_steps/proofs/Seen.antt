@@ -13,6 +13,8 @@ use Rattle.plane_graphs.specs.Piece.{Piece, Present, along, on}
 use Rattle.plane_graphs.specs.Graph.{Mark, graph, graph_over, marks, vertices, mark}
 use Rattle.edit_steps.specs.Steps.{points_without, with_piece}
 use Rattle.plane_graphs.specs.Fit.{IsFit, IsFitPiece}
+use Rattle.plane_graphs.specs.Strands.{strands, HasOneSide}
+use Rattle.plane_graphs.proofs.Strands.{strands_fit, strands_one_side, strand_vertices}
 use Rattle.edit_steps.specs.Allowed.{IsPassed}
 use Rattle.edit_steps.specs.EditLaws.{IsLoose, LooseIsNoVertex, PassesThrough, MeetingPoints}
 use Rattle.plane_graphs.proofs.Lists.{and_in, not_out, not_in, clash, decide, any_none, any_out, of_filter, or_left, or_right, in_either, in_left, in_right, IsAscending-filter, in_filter}
@@ -45,7 +47,7 @@ shares_two k m hk hm e u v pu pv l a b c d =
     let same : u ≡ v = crossing_is k m hk hm e u pu a c ∙ sym (crossing_is k m hk hm e v pv b d) in
     lt_never (subst (λ z. Lt z v) same l)
 
-module _ (p : Present) (fit : IsFit p) (vs : List Point) (cl : IsClosed vs p.pieces) (x : Point) (here : Member x vs) where
+module _ (p : Present) (fit : IsFit p) (one_side : HasOneSide p.pieces) (vs : List Point) (cl : IsClosed vs p.pieces) (x : Point) (here : Member x vs) where
   -- a piece through x goes on above it, or below it
   upwards : (k : Piece) → Member k p.pieces → On k x → Lt x k.to → (m : Mark) × IsMark vs p.pieces m × (m.low ≡ x) × (m.curve ≡ k.curve)
   upwards k h o l =
@@ -98,7 +100,7 @@ module _ (p : Present) (fit : IsFit p) (vs : List Point) (cl : IsClosed vs p.pie
   module _ (s : IsPassed (graph_over vs p.pieces p.pins) x) where
     -- a piece that has a mark of the curve of k at x is k
     same_piece : (k : Piece) → Member k p.pieces → On k x → (m : Mark) (h : IsMark vs p.pieces m) → On h.piece x → m.curve ≡ k.curve → h.piece ≡ k
-    same_piece k h o m i u e = fit.one_piece h_piece k i.here h (sym i.curve ∙ e) x (cl.proper x here) (on_in i.piece x u) (on_in k x o)
+    same_piece k h o m i u e = fit.one_piece h_piece k i.here h (sym i.curve ∙ e, one_side h_piece k i.here h (sym i.curve ∙ e)) x (cl.proper x here) (on_in i.piece x u) (on_in k x o)
       where
         h_piece : Piece
         h_piece = i.piece
@@ -162,12 +164,27 @@ loose_stays p vs x fit asc proper sub here f =
       λ n. f (vertex_in p x (pinned n)),
     )
 
+-- where a curve has one side, what the curves of the edges tell
+pub loose_goes : (p : Present) (vs : List Point) (x : Point) → IsFit p → HasOneSide p.pieces → IsAscending point_cmp vs → ((q : Point) → Member q vs → IsProper q) → ((q : Point) → Member q (vertices p) → Member q vs) → Member x vs → (Member x p.pins → ⊥) → IsLoose (graph_over vs p.pieces p.pins) x → Member x (vertices p) → ⊥
+loose_goes p vs x fit one asc proper sub here n loose m =
+    let cl = closed_more (vertices p) vs p.pieces (vertices_closed geometry p fit) asc sub proper in
+    ⊎_elim (λ f. not_bare p fit one vs cl x here f (vertex_out p x m) n) (λ s. not_passed p fit one vs cl x here s (vertex_out p x m) n) loose
+
+-- the sides told apart, the present has the same vertices
+module _ (p : Present) (x : Point) where
+  to_strands : Member x (vertices p) → Member x (vertices (strands p))
+  to_strands = subst (Member x) (sym (strand_vertices p))
+
+  from_strands : Member x (vertices (strands p)) → Member x (vertices p)
+  from_strands = subst (Member x) (strand_vertices p)
+
 pub loose_is_no_vertex : LooseIsNoVertex
 loose_is_no_vertex = record {
-  go = λ p vs x fit asc proper sub here n loose m.
-      let cl = closed_more (vertices p) vs p.pieces (vertices_closed geometry p fit) asc sub proper in
-      ⊎_elim (λ f. not_bare p fit vs cl x here f (vertex_out p x m) n) (λ s. not_passed p fit vs cl x here s (vertex_out p x m) n) loose;
-  stay = loose_stays;
+  go = λ p vs x fit asc proper sub here n loose m. loose_goes (strands p) vs x (strands_fit p fit) (strands_one_side p fit) asc proper (λ q i. sub q (from_strands p q i)) here n loose (to_strands p x m);
+  stay = λ p vs x fit asc proper sub here f.
+      let a = loose_stays p vs x fit asc proper sub here f in
+      let b = loose_stays (strands p) vs x (strands_fit p fit) asc proper (λ q i. sub q (from_strands p q i)) here (λ i. f (from_strands p x i)) in
+      (a.0, b.0, a.1);
 }
 
 -- ---- along a new piece

@@ -1,5 +1,5 @@
 -- Each step fits the graph that it meets.
-use Rattle.std.proofs.Common.{◌≡◌, ℕ, List, [], ◌∷◌, ◌++◌, Bool, true, false, cond, not, ◌&&◌, refl, sym, ap, ◌∙◌, subst, ⊎_elim}
+use Rattle.std.proofs.Common.{◌≡◌, ℕ, List, ◌++◌, Bool, true, false, cond, not, ◌&&◌, refl, sym, ap, ◌∙◌, subst, ⊎_elim}
 use Rattle.std.specs.List.{list_any, filter}
 use Rattle.exact_plane.specs.Point.{Point}
 use Rattle.exact_plane.specs.PointOrder.{point_cmp}
@@ -72,22 +72,25 @@ module _ (ks : List Piece) (pins : List Point) (vs : List Point) (cl : IsClosed 
   pub tidy_sound : IsSound (tidy_step r (graph_over (place point_cmp r vs) ks pins)) (graph_over (place point_cmp r vs) ks pins)
   tidy_sound = record { allowed = tidy_allowed; plane = subst IsPlane (sym (vertex_less vs ks pins cl r pr new)) (plane_over vs ks cl pins) }
 
--- ---- a mark of a new piece
-module _ (vs : List Point) (ks : List Piece) (k : Piece) (pins : List Point) (cl : IsClosed vs (ks ++ (k ∷ []))) (fresh : (j : Piece) → Member j ks → j.curve ≡ k.curve → ⊥) where
-  of_new : (n : Mark) → Member n (marks vs (k ∷ [])) → n.curve ≡ k.curve
-  of_new n h = let i = mark_out vs (k ∷ []) n h in i.curve ∙ ⊎_elim (λ e. ap (λ (z : Piece). z.curve) e) (λ z. absurd z) i.here
+-- ---- a mark of new pieces, which are all of one curve
+module _ (vs : List Point) (ks js : List Piece) (pins : List Point) (cl : IsClosed vs (ks ++ js)) (fresh : (j k : Piece) → Member j ks → Member k js → j.curve ≡ k.curve → ⊥) (one : (j k : Piece) → Member j js → Member k js → j.curve ≡ k.curve) where
+  of_new : (m n : Mark) → Member m (marks vs js) → Member n (marks vs js) → n.curve ≡ m.curve
+  of_new m n g h =
+      let i = mark_out vs js n h in
+      let k = mark_out vs js m g in
+      i.curve ∙ one i.piece k.piece i.here k.here ∙ sym k.curve
 
-  whole : (m : Mark) → Member m (marks vs (k ∷ [])) → Member m (marks vs (ks ++ (k ∷ [])))
-  whole m h = let i = mark_out vs (k ∷ []) m h in mark_in vs (ks ++ (k ∷ [])) m (record { piece = i.piece; here = in_right i.piece ks (k ∷ []) i.here; curve = i.curve; low_in = i.low_in; high_in = i.high_in; next = i.next })
+  whole : (m : Mark) → Member m (marks vs js) → Member m (marks vs (ks ++ js))
+  whole m h = let i = mark_out vs js m h in mark_in vs (ks ++ js) m (record { piece = i.piece; here = in_right i.piece ks js i.here; curve = i.curve; low_in = i.low_in; high_in = i.high_in; next = i.next })
 
-  module _ (m : Mark) (xs : List Mark) (h : IsMidway (marks vs ks) (marks vs (k ∷ [])) (marks vs (ks ++ (k ∷ []))) m xs) where
+  module _ (m : Mark) (xs : List Mark) (h : IsMidway (marks vs ks) (marks vs js) (marks vs (ks ++ js)) m xs) where
     never : Member m xs → ⊥
-    never i = ⊎_elim (λ j. let o = mark_out vs ks m j in fresh o.piece o.here (sym o.curve ∙ of_new m h.here)) (λ j. j.1 refl) (h.origin m i)
+    never i = ⊎_elim (λ j. let o = mark_out vs ks m j in let k = mark_out vs js m h.here in fresh o.piece k.piece o.here k.here (sym o.curve ∙ k.curve)) (λ j. j.1 refl) (h.origin m i)
 
     no_edge : list_any (is_at m.low m.high) (marks vs ks) ≡ false → (n : Mark) → Member n xs → is_at m.low m.high n ≡ true → ⊥
     no_edge e n i at =
         ⊎_elim (λ j. any_none (is_at m.low m.high) n (marks vs ks) e j at)
-        (λ j. let w = and_true (same_point n.low m.low) (same_point n.high m.high) at in j.1 (mark_path n m.low m.high m.curve (same_out n.low m.low w.0) (same_out n.high m.high w.1) (of_new n j.0 ∙ sym (of_new m h.here)))) (h.origin n i)
+        (λ j. let w = and_true (same_point n.low m.low) (same_point n.high m.high) at in j.1 (mark_path n m.low m.high m.curve (same_out n.low m.low w.0) (same_out n.high m.high w.1) (of_new m n h.here j.0))) (h.origin n i)
 
     more_allowed : IsAllowed (more_step (graph_over vs ks pins) m) (with_marks (graph_over vs ks pins) xs)
     unfolding IsAllowed more_step
@@ -96,15 +99,15 @@ module _ (vs : List Point) (ks : List Piece) (k : Piece) (pins : List Point) (cl
         by : (b : Bool) → list_any (is_at m.low m.high) (marks vs ks) ≡ b → IsAllowed (cond b (AddCurve m.low m.high m.curve) (AddEdge m.low m.high m.curve)) (with_marks (graph_over vs ks pins) xs)
         by true e = let w = any_out (is_at m.low m.high) (marks vs ks) e in (any_in (is_at m.low m.high) w.0 xs (h.kept w.0 w.1) w.2, never)
         by false e =
-            let i = mark_out vs (k ∷ []) m h.here in
+            let i = mark_out vs js m h.here in
             (i.low_in, i.high_in, lt_in i.next.lt, not_true (list_any (is_at m.low m.high) xs) (λ f. let w = any_out (is_at m.low m.high) xs f in no_edge e w.0 w.1 w.2))
 
     pub more_sound : IsSound (more_step (graph_over vs ks pins) m) (with_marks (graph_over vs ks pins) xs)
     more_sound = record {
       allowed = more_allowed;
       plane = subst IsPlane (sym (more_is (graph_over vs ks pins) (with_marks (graph_over vs ks pins) xs) m))
-          (plane_part (graph_over vs (ks ++ (k ∷ [])) pins) (plane_over vs (ks ++ (k ∷ [])) cl pins) (place mark_cmp m xs) pins (IsAscending-place mark_cmp mark_cmp_total m xs h.ascend)
-          (λ n i. ⊎_elim (λ e. subst (λ z. Member z (marks vs (ks ++ (k ∷ [])))) (sym e) (whole m h.here)) (λ j. h.part n j) (of_place mark_cmp mark_cmp_total mark_cmp_exact n m xs i)));
+          (plane_part (graph_over vs (ks ++ js) pins) (plane_over vs (ks ++ js) cl pins) (place mark_cmp m xs) pins (IsAscending-place mark_cmp mark_cmp_total m xs h.ascend)
+          (λ n i. ⊎_elim (λ e. subst (λ z. Member z (marks vs (ks ++ js))) (sym e) (whole m h.here)) (λ j. h.part n j) (of_place mark_cmp mark_cmp_total mark_cmp_exact n m xs i)));
     }
 
 -- ---- a mark of a curve that goes

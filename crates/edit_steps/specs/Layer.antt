@@ -1,13 +1,12 @@
 -- A layer: what its edits have made so far, the names of its curves, and the number that the next one gets.
-use Rattle.std.specs.Prelude.{◌≡◌, ℕ, ◌+◌, ◌<◌, ◌≤◌, true, not, List, [], ◌∷◌, ◌++◌}
+use Rattle.std.specs.Prelude.{◌≡◌, ℕ, ◌+◌, ◌<◌, ◌≤◌, not, List, [], ◌∷◌, ◌++◌}
 use Rattle.std.specs.List.{filter}
 use Rattle.std.specs.Ordering.{nat_cmp}
 use Rattle.plane_graphs.specs.Ascending.{Member, IsAscending}
-use Rattle.plane_graphs.specs.Line.{IsWhole, precedes}
 use Rattle.plane_graphs.specs.Piece.{Piece, Present}
 use Rattle.plane_graphs.specs.Graph.{same_curve}
 use Rattle.plane_graphs.specs.Fit.{IsFit}
-use Rattle.edit_steps.specs.Edits.{Edit, Insert, Drop, ClearAll, after, IsAccepted}
+use Rattle.edit_steps.specs.Edits.{Edit, Insert, Drop, ClearAll, after, AreSides, IsAccepted}
 
 -- the present, the curves that have a name, ascending, and the next number (this project; curves with history: CGAL manual)
 pub record Layer : Type 0 where
@@ -21,14 +20,14 @@ empty_layer first = record { present = record { pieces = []; pins = [] }; names 
 
 -- the names after an edit: an insertion gives one, a removal of a curve takes one
 abbrev pub names_after : Edit → List ℕ → List ℕ
-names_after (Insert c s) ns = ns ++ (c ∷ [])
+names_after (Insert c ss) ns = ns ++ (c ∷ [])
 names_after (Drop c) ns = filter (λ n. not (same_curve n c)) ns
 names_after ClearAll ns = []
 names_after other ns = ns
 
 -- the next number after an edit: none is used again
 abbrev pub next_after : Edit → ℕ → ℕ
-next_after (Insert c s) n = n + 1
+next_after (Insert c ss) n = n + 1
 next_after other n = n
 
 -- the layer after an edit
@@ -37,7 +36,7 @@ layer_after e l = record { present = after e l.present; names = names_after e l.
 
 -- no refusal that speaks of the graph holds; an insertion takes the next number
 abbrev pub IsAcceptedBy : Edit → Layer → Type 0
-IsAcceptedBy (Insert c s) l = (c ≡ l.next) × IsWhole s.lower × IsWhole s.upper × (precedes s.lower s.upper ≡ true)
+IsAcceptedBy (Insert c ss) l = (c ≡ l.next) × AreSides ss
 IsAcceptedBy other l = IsAccepted other l.present
 
 -- what holds of every layer that edits have made: a fit present whose curves are named, and names from 1 to below the next number

@@ -1,5 +1,5 @@
 -- When an edit of a layer is refused: the first reason that holds, and what a call answers by it.
-use Rattle.std.specs.Prelude.{◌≡◌, ℕ, length, nat_le, nat_lt, not, ◌&&◌, Bool, Option, Some, None, if◌then◌else◌, Result, Ok, Err}
+use Rattle.std.specs.Prelude.{◌≡◌, ℕ, ◌+◌, length, nat_le, nat_lt, not, ◌&&◌, Bool, Option, Some, None, if◌then◌else◌, Result, Ok, Err}
 use Rattle.std.specs.List.{list_any}
 use Rattle.exact_plane.specs.Point.{Point}
 use Rattle.plane_graphs.specs.Line.{same_point}
@@ -37,11 +37,11 @@ pub data Refusal : Type 0 where
   NoVertex : Refusal
   NotMergeable : Refusal
 
--- why one more curve is refused, first reason first: the names are as many as may be, the pieces are, the last number was drawn (this project)
-abbrev pub insertion_refusal : ℕ → ℕ → ℕ → Layer → Option Refusal
-insertion_refusal curves pieces last l =
+-- why one more curve is refused, first reason first: the names are as many as may be, a piece for each side would be too many, the last number was drawn (this project)
+abbrev pub insertion_refusal : ℕ → ℕ → ℕ → ℕ → Layer → Option Refusal
+insertion_refusal sides curves pieces last l =
     if nat_le curves (length l.names) then Some (Full curves)
-    else (if nat_le pieces (length l.present.pieces) then Some (Full pieces)
+    else (if nat_lt pieces (length l.present.pieces + sides) then Some (Full pieces)
     else (if nat_lt last l.next then Some Spent else None))
 
 -- why a drop is refused: no curve has the number (this project)
@@ -87,7 +87,7 @@ merge_refusal l r =
 
 -- why an edit of a layer is refused within these bounds, if it is (this project)
 abbrev pub refusal : Bounds → Layer → Edit → Option Refusal
-refusal b l (Insert c s) = insertion_refusal b.curves b.pieces b.last l
+refusal b l (Insert c ss) = insertion_refusal (length ss) b.curves b.pieces b.last l
 refusal b l (Drop c) = drop_refusal l c
 refusal b l (Cut p q) = cut_refusal b.pieces l p q
 refusal b l (Pin r) = pin_refusal b.pins l r

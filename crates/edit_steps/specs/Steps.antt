@@ -90,16 +90,20 @@ unfoldable pub less_step : Graph → Mark → Step
 less_step g m = cond (list_any (λ n. is_at m.low m.high n && not (same_curve n.curve m.curve)) g.marks) (RemoveCurve m.low m.high m.curve) (RemoveEdge m.low m.high)
 
 -- ---- the edits
+-- pieces come
+abbrev pub with_pieces : Present → List Piece → Present
+with_pieces p js = record p { pieces = p.pieces ++ js }
+
 -- a piece comes
 abbrev pub with_piece : Present → Piece → Present
-with_piece p k = record p { pieces = p.pieces ++ (k ∷ []) }
+with_piece p k = with_pieces p (k ∷ [])
 
--- the new vertices, ascending, and then the edges of the new piece, in order
-unfoldable pub segment_steps : Present → Piece → List Step
-segment_steps p k =
-    let vs : List Point = vertices (with_piece p k) in
+-- the new vertices, ascending, and then the edges of the new pieces, each once, in order
+unfoldable pub path_steps : Present → List Piece → List Step
+path_steps p js =
+    let vs : List Point = vertices (with_pieces p js) in
     let firsts : List Step = vertex_steps (missing_points vs (vertices p)) (graph p) in
-    firsts ++ map (more_step (run firsts (graph p))) (marks vs (k ∷ []))
+    firsts ++ map (more_step (run firsts (graph p))) (marks vs js)
 
 -- the pieces of a curve go
 abbrev pub without_curve : Present → ℕ → Present

@@ -5,6 +5,7 @@
 #![tactic(auto)]
 
 ghost use Rattle.edit_steps.specs.EditLaws.{EditsKeepFit, StepsMakeGraph, StepsAreSound, VerticesChange, LooseIsNoVertex, MeetingPoints, LayersAreLawful};
+ghost use Rattle.edit_steps.specs.EditLaws.{VerticesTogether, PathPointsTell, CurvesOfStrands, StrandsFollow, PathOfStrands, DropOfStrands};
 
 /// An accepted edit keeps a present fit.
 pub fn edits_keep_fit()
@@ -28,7 +29,7 @@ pub fn vertices_change()
 {}
 
 /// Over any points that contain the vertices, a point is no vertex exactly where it has no pin and either no
-/// edge, or two along one line with the same curves.
+/// edge, or two along one line with the same sides of curves; these have the same curves then.
 pub fn loose_is_no_vertex()
     ensures { LooseIsNoVertex }
 {}
@@ -42,4 +43,34 @@ pub fn meeting_points()
 /// The layer before the first edit is lawful, and an accepted edit keeps it so.
 pub fn layers_are_lawful()
     ensures { LayersAreLawful }
+{}
+
+/// With several new pieces the vertices are those with each alone, and where the new ones meet one another.
+pub fn vertices_together()
+    ensures { VerticesTogether }
+{}
+
+/// Points found side by side, with those where the sides meet one another, tell the new vertices and the edges of the sides.
+pub fn path_points_tell()
+    ensures { PathPointsTell }
+{}
+
+/// The curves of an edge are those of the sides along it.
+pub fn curves_of_strands()
+    ensures { CurvesOfStrands }
+{}
+
+/// An edit that sees no curve has the same steps where the sides of curves are told apart.
+pub fn strands_follow()
+    ensures { StrandsFollow }
+{}
+
+/// The new vertices of an insertion, and then each side along each edge, make the graph of the new present, its sides told apart.
+pub fn path_of_strands()
+    ensures { PathOfStrands }
+{}
+
+/// Each side of a curve from each of its edges, and then the tidying, make the graph of the new present, its sides told apart.
+pub fn drop_of_strands()
+    ensures { DropOfStrands }
 {}

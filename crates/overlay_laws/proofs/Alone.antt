@@ -123,7 +123,7 @@ unfolding half
 half_blue c = omega arith
 
 named_back : (name : ℕ → ℕ) → ((c : ℕ) → half (name c) ≡ c) → (k m : Piece) → k ≡ renamed name m → renamed half k ≡ m
-named_back name h k m e = ap (renamed half) e ∙ (λ i. record { curve = h m.curve i; segment = m.segment; from = m.from; to = m.to })
+named_back name h k m e = ap (renamed half) e ∙ (λ i. record { curve = h m.curve i; side = m.side; segment = m.segment; from = m.from; to = m.to })
 
 piece_back_red : (layer : Present) (k : Piece) → Origin layer empty k → Member (renamed half k) layer.pieces
 piece_back_red layer k (from_red m h e) = subst (λ z. Member z layer.pieces) (sym (named_back red_name half_red k m e)) h

@@ -5,7 +5,7 @@ use Rattle.exact_plane.specs.PointOrder.{point_cmp}
 use Rattle.exact_plane.specs.PointOrderLaws.{point_cmp_total, same_point as point_cmp_exact}
 use Rattle.plane_graphs.specs.Line.{IsProper}
 use Rattle.plane_graphs.specs.Piece.{Piece, Present, along, on}
-use Rattle.plane_graphs.specs.Fit.{IsFit, IsFitPiece}
+use Rattle.plane_graphs.specs.Fit.{IsFit, IsFitPiece, AreOfOneSide}
 use Rattle.plane_graphs.specs.Ascending.{Member}
 use Rattle.plane_graphs.proofs.Ascending.{IsAscending-ascending}
 use Rattle.plane_graphs.proofs.Lists.{of_ascending, in_ascending, in_left, in_right, in_either, in_map, of_map}
@@ -34,6 +34,8 @@ module _ (name : ℕ → ℕ) (k : Piece) where
     to_on = same_along k.to ∙ f.to_on;
     from_within = f.from_within;
     to_within = f.to_within;
+    first_side = f.first_side;
+    last_side = f.last_side;
   }
 
 -- ---- a piece of both is one of a layer, with another number
@@ -77,25 +79,28 @@ red_once a b c d h k e = omega arith
 blue_once : (a b c d : ℕ) → a ≡ blue_name c → b ≡ blue_name d → a ≡ b → c ≡ d
 blue_once a b c d h k e = omega arith
 
+same_side : (name : ℕ → ℕ) → ((x y c d : ℕ) → x ≡ name c → y ≡ name d → x ≡ y → c ≡ d) → (k m a b : Piece) → k ≡ renamed name a → m ≡ renamed name b → AreOfOneSide k m → AreOfOneSide a b
+same_side name once k m a b e f s = (once k.curve m.curve a.curve b.curve (curve_path k _ e) (curve_path m _ f) s.0, sym (ap (λ (z : Piece). z.side) e) ∙ s.1 ∙ ap (λ (z : Piece). z.side) f)
+
 module _ (red blue : Present) (fr : IsFit red) (fb : IsFit blue) where
   piece_fit : (k : Piece) → Origin red blue k → IsFitPiece k
   piece_fit k (from_red m h e) = subst IsFitPiece (sym e) (fit_piece red_name m (fr.piece m h))
   piece_fit k (from_blue m h e) = subst IsFitPiece (sym e) (fit_piece blue_name m (fb.piece m h))
 
-  one_segment : (k m : Piece) → Origin red blue k → Origin red blue m → k.curve ≡ m.curve → k.segment ≡ m.segment
-  one_segment k m (from_red a h e) (from_red b i f) s = segment_path k _ e ∙ fr.one_segment a b h i (red_once _ _ a.curve b.curve (curve_path k _ e) (curve_path m _ f) s) ∙ sym (segment_path m _ f)
-  one_segment k m (from_red a h e) (from_blue b i f) s = absurd (even_apart _ _ a.curve b.curve (curve_path k _ e) (curve_path m _ f) s)
-  one_segment k m (from_blue a h e) (from_red b i f) s = absurd (even_apart _ _ b.curve a.curve (curve_path m _ f) (curve_path k _ e) (sym s))
-  one_segment k m (from_blue a h e) (from_blue b i f) s = segment_path k _ e ∙ fb.one_segment a b h i (blue_once _ _ a.curve b.curve (curve_path k _ e) (curve_path m _ f) s) ∙ sym (segment_path m _ f)
+  one_segment : (k m : Piece) → Origin red blue k → Origin red blue m → AreOfOneSide k m → k.segment ≡ m.segment
+  one_segment k m (from_red a h e) (from_red b i f) s = segment_path k _ e ∙ fr.one_segment a b h i (same_side red_name red_once k m a b e f s) ∙ sym (segment_path m _ f)
+  one_segment k m (from_red a h e) (from_blue b i f) s = absurd (even_apart _ _ a.curve b.curve (curve_path k _ e) (curve_path m _ f) s.0)
+  one_segment k m (from_blue a h e) (from_red b i f) s = absurd (even_apart _ _ b.curve a.curve (curve_path m _ f) (curve_path k _ e) (sym s.0))
+  one_segment k m (from_blue a h e) (from_blue b i f) s = segment_path k _ e ∙ fb.one_segment a b h i (same_side blue_name blue_once k m a b e f s) ∙ sym (segment_path m _ f)
 
   on_origin : (name : ℕ → ℕ) (k m : Piece) (t : Point) → k ≡ renamed name m → on k t ≡ true → on m t ≡ true
   on_origin name k m t e h = sym (same_on name m t) ∙ ap (λ z. on z t) (sym e) ∙ h
 
-  one_piece : (k m : Piece) → Origin red blue k → Origin red blue m → k.curve ≡ m.curve → (t : Point) → IsProper t → on k t ≡ true → on m t ≡ true → k ≡ m
-  one_piece k m (from_red a h e) (from_red b i f) s t pt x y = e ∙ ap (renamed red_name) (fr.one_piece a b h i (red_once _ _ a.curve b.curve (curve_path k _ e) (curve_path m _ f) s) t pt (on_origin red_name k a t e x) (on_origin red_name m b t f y)) ∙ sym f
-  one_piece k m (from_red a h e) (from_blue b i f) s t pt x y = absurd (even_apart _ _ a.curve b.curve (curve_path k _ e) (curve_path m _ f) s)
-  one_piece k m (from_blue a h e) (from_red b i f) s t pt x y = absurd (even_apart _ _ b.curve a.curve (curve_path m _ f) (curve_path k _ e) (sym s))
-  one_piece k m (from_blue a h e) (from_blue b i f) s t pt x y = e ∙ ap (renamed blue_name) (fb.one_piece a b h i (blue_once _ _ a.curve b.curve (curve_path k _ e) (curve_path m _ f) s) t pt (on_origin blue_name k a t e x) (on_origin blue_name m b t f y)) ∙ sym f
+  one_piece : (k m : Piece) → Origin red blue k → Origin red blue m → AreOfOneSide k m → (t : Point) → IsProper t → on k t ≡ true → on m t ≡ true → k ≡ m
+  one_piece k m (from_red a h e) (from_red b i f) s t pt x y = e ∙ ap (renamed red_name) (fr.one_piece a b h i (same_side red_name red_once k m a b e f s) t pt (on_origin red_name k a t e x) (on_origin red_name m b t f y)) ∙ sym f
+  one_piece k m (from_red a h e) (from_blue b i f) s t pt x y = absurd (even_apart _ _ a.curve b.curve (curve_path k _ e) (curve_path m _ f) s.0)
+  one_piece k m (from_blue a h e) (from_red b i f) s t pt x y = absurd (even_apart _ _ b.curve a.curve (curve_path m _ f) (curve_path k _ e) (sym s.0))
+  one_piece k m (from_blue a h e) (from_blue b i f) s t pt x y = e ∙ ap (renamed blue_name) (fb.one_piece a b h i (same_side blue_name blue_once k m a b e f s) t pt (on_origin blue_name k a t e x) (on_origin blue_name m b t f y)) ∙ sym f
 
   pub both_fit : IsFit (both red blue)
   both_fit = record {

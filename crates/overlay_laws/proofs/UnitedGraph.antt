@@ -135,8 +135,8 @@ united_fit red blue fr fb =
           subst IsFitPiece (sym w.is) (fit_piece (λ c. w.name) w.origin at);
       pin = f.pin;
       pins_ascend = f.pins_ascend;
-      one_segment = λ k m h i s. ap (λ (z : Piece). z.segment) (numbered_once 0 ks k m h i s);
-      one_piece = λ k m h i s t pt x y. numbered_once 0 ks k m h i s;
+      one_segment = λ k m h i s. ap (λ (z : Piece). z.segment) (numbered_once 0 ks k m h i s.0);
+      one_piece = λ k m h i s t pt x y. numbered_once 0 ks k m h i s.0;
     }
 
 pub united_pins : (red blue : Present) → (graph (united red blue)).pins ≡ (both red blue).pins

@@ -10,10 +10,10 @@ use Rattle.plane_graphs.specs.Fit.{IsFit}
 use Rattle.plane_graphs.specs.Graph.{graph, mark_cmp, vertices}
 use Rattle.plane_graphs.specs.Piece.{Piece, Present, on}
 use Rattle.plane_graphs.proofs.Ascending.{ascending-Member}
-use Rattle.plane_graphs.proofs.Edges.{mark_of_piece}
+use Rattle.plane_graphs.proofs.Edges.{next_on_piece}
 use Rattle.plane_graphs.proofs.Lines.{geometry}
 use Rattle.plane_graphs.proofs.Lists.{and_in, in_map}
-use Rattle.plane_graphs.proofs.Marks.{on_in, on_out, mark_out}
+use Rattle.plane_graphs.proofs.Marks.{on_out, mark_out}
 use Rattle.plane_graphs.proofs.Order.{mark_cmp_total, mark_cmp_exact}
 use Rattle.plane_graphs.proofs.Vertices.{vertices_closed}
 use Rattle.present_graphs.specs.Spans.{span_of_piece}
@@ -66,9 +66,8 @@ module _ (w : Present) (fit : IsFit w) (t : Trace) (h : IsTrace (map span_of_pie
         let k = piece_of w.pieces j within in
         let holds : (v : Point) → LiesOn (piece j) v → on k.0 v ≡ true = λ v l. lies_on_piece k.0 v (subst (λ (z : Span). LiesOn z v) k.2 l) in
         let cl = vertices_closed geometry w fit in
-        let made = mark_of_piece (vertices w) w.pieces cl (mark_along w t.points s) (mark_out (vertices w) w.pieces (mark_along w t.points s) mark_there) k.0 k.1 (on_out k.0 p (holds p low)) (on_out k.0 q (holds q high)) in
-        let same : k.0 ≡ made.piece = fit.one_piece k.0 made.piece k.1 made.here made.curve p (cl.proper p made.low_in) (holds p low) (on_in made.piece p made.next.at_p) in
-        made.next.none r (vertex_of r R) (record { is = x }) (record { is = y }) (on_out made.piece r (subst (λ (z : Piece). on z r ≡ true) same (holds r on_r))).line
+        let next = next_on_piece (vertices w) w.pieces cl (mark_along w t.points s) (mark_out (vertices w) w.pieces (mark_along w t.points s) mark_there) k.0 k.1 (on_out k.0 p (holds p low)) (on_out k.0 q (holds q high)) in
+        next.none r (vertex_of r R) (record { is = x }) (record { is = y }) (on_out k.0 r (holds r on_r)).line
 
     step_there : IsStep (piece_at (map span_of_piece w.pieces)) (length (map span_of_piece w.pieces)) w.pins j p q
     step_there = let S = (h.sound s m).step in record { within = within; first = (S.first.0, low); second = (S.second.0, high); ahead = S.ahead; none = λ r R x y. none r R.0 R.1 x y }

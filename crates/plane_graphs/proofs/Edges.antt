@@ -33,8 +33,11 @@ module _ (vs : List Point) (ks : List Piece) (cl : IsClosed vs ks) (m : Mark) (h
   same_along : (t : Point) → IsProper t → along h.piece t ≡ along k t
   same_along t pt = sym (mark_line vs ks cl m h t pt) ∙ (cl.straight k here).span m.low m.high t (cl.proper m.low h.low_in) (cl.proper m.high h.high_in) pt h.next.lt x.line y.line
 
+  pub next_on_piece : Next vs k m.low m.high
+  next_on_piece = record { lt = h.next.lt; at_p = x; at_q = y; none = λ r n a b e. h.next.none r n a b (same_along r (cl.proper r n) ∙ e) }
+
   pub mark_of_piece : IsMark vs ks (mark m.low m.high k.curve)
-  mark_of_piece = record { piece = k; here = here; curve = refl; low_in = h.low_in; high_in = h.high_in; next = record { lt = h.next.lt; at_p = x; at_q = y; none = λ r n a b e. h.next.none r n a b (same_along r (cl.proper r n) ∙ e) } }
+  mark_of_piece = record { piece = k; here = here; curve = refl; low_in = h.low_in; high_in = h.high_in; next = next_on_piece }
 
 pub curves_of_edge : CurvesOfEdge
 unfolding graph curves

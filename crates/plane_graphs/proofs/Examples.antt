@@ -21,7 +21,7 @@ over x y w = record { x = x; y = y; w = pos w }
 
 -- a whole segment, of the curve c
 abbrev pub piece : ℕ → Point → Point → Piece
-piece c p q = record { curve = c; segment = record { lower = p; upper = q }; from = p; to = q }
+piece c p q = record { curve = c; side = 1; segment = record { lower = p; upper = q }; from = p; to = q }
 
 -- an empty present
 empty : graph (record { pieces = []; pins = [] })

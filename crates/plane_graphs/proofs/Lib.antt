@@ -15,4 +15,5 @@ pub mod Meaning
 pub mod Order
 pub mod Plane
 pub mod Sorting
+pub mod Strands
 pub mod Vertices

@@ -44,7 +44,7 @@ pub data IsVertex (p : Present) (x : Point) : Type 0 where
   pinned : Member x p.pins → IsVertex p x
   crossed : IsCrossing p x → IsVertex p x
 
-common_out : (p : Present) (x : Point) (k m : Piece) → Member k p.pieces → Member m p.pieces → Member x (common_points k m) → IsVertex p x
+pub common_out : (p : Present) (x : Point) (k m : Piece) → Member k p.pieces → Member m p.pieces → Member x (common_points k m) → IsVertex p x
 unfolding common_points
 common_out p x k m a b h =
     let l = line_of_segment k.segment in
@@ -59,7 +59,7 @@ common_out p x k m a b h =
     (if_out (on k (crossing l n) && on m (crossing l n)) x (crossing l n ∷ []) [] w.1))
     (if_out (are_parallel l n) x [] (cond (on k (crossing l n) && on m (crossing l n)) (crossing l n ∷ []) []) h)
 
-common_in : (p : Present) (x : Point) (c : IsCrossing p x) → Member x (common_points c.one c.other)
+pub common_in : (p : Present) (x : Point) (c : IsCrossing p x) → Member x (common_points c.one c.other)
 unfolding common_points
 common_in p x c =
     let k = c.one in

@@ -6,3 +6,4 @@ pub mod Line
 pub mod Meaning
 pub mod Piece
 pub mod Plane
+pub mod Strands

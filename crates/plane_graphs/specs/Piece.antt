@@ -4,9 +4,10 @@ use Rattle.exact_plane.specs.Point.{Point}
 use Rattle.plane_graphs.specs.Line.{is_on, precedes}
 use Rattle.exact_plane.specs.Segment.{Segment, line_of_segment}
 
--- the part of a segment from one of its points to a later one, of the curve with this number (this project; curves with history: CGAL manual)
+-- the part of a segment from one of its points to a later one; the segment is this side, from 1 to 8, of the curve with this number (this project; curves with history: CGAL manual)
 pub record Piece : Type 0 where
   pub curve : ℕ
+  pub side : ℕ
   pub segment : Segment
   pub from : Point
   pub to : Point

@@ -7,6 +7,7 @@
 #![tactic(auto)]
 
 ghost use Rattle.plane_graphs.specs.GraphLaws.{StandOnce, VerticesAre, EdgesAre, GraphIsPlane, PlaneIsDrawn, NoneCross, CurvesOfEdge, EdgesOfPiece};
+ghost use Rattle.plane_graphs.specs.Strands.{StrandsAreApart};
 
 /// Vertices, edges and the curves of an edge ascend, and each stands once.
 pub fn stand_once()
@@ -49,4 +50,9 @@ pub fn curves_of_edge()
 /// The edges of a piece join neighbouring vertices on it.
 pub fn edges_of_piece()
     ensures { EdgesOfPiece }
+{}
+
+/// Sides told apart by numbers of their own keep a present fit and its vertices the same (this project).
+pub fn strands_are_apart()
+    ensures { StrandsAreApart }
 {}

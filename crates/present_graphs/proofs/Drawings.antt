@@ -18,8 +18,8 @@ never_before : (p q : Point) → p ≡ q → precedes p q ≡ false
 never_before p q e = not_true (precedes p q) (λ h. lt_never (subst (λ r. Lt r q) e (lt_out p q h)))
 
 -- a whole segment as a piece
-pub whole_fit : (k : Piece) → AreEnds k.segment → k.from ≡ k.segment.lower → k.to ≡ k.segment.upper → IsFitPiece k
-whole_fit k h f t =
+pub whole_fit : (k : Piece) → AreEnds k.segment → k.from ≡ k.segment.lower → k.to ≡ k.segment.upper → k.side ≡ 1 → IsFitPiece k
+whole_fit k h f t d =
     let s : Segment = k.segment in
     let lower : IsWhole k.segment.lower = ap (λ (r : Segment). r.lower.w) h.whole in
     let upper : IsWhole k.segment.upper = ap (λ (r : Segment). r.upper.w) h.whole in
@@ -35,6 +35,8 @@ whole_fit k h f t =
       to_on = along_in k k.to (subst (λ p. side_of (line_of_segment k.segment) p ≡ pos 0) (sym t) (upper_on s lower upper ahead));
       from_within = never_before k.from s.lower f;
       to_within = never_before s.upper k.to (sym t);
+      first_side = omega arith;
+      last_side = omega arith;
     }
 
 -- the pieces are fit, and their curves' numbers are at most n and tell them apart
@@ -73,6 +75,6 @@ drawing_fit p n pin d h e = record {
   piece = d.fit;
   pin = λ r m. ⊎_elim (λ i. subst IsProper (sym i) h) (λ z. absurd z) (subst (λ rs. Member r rs) e m);
   pins_ascend = subst (IsAscending point_cmp) (sym e) (tt, tt);
-  one_segment = λ k m a b i. ap (λ (z : Piece). z.segment) (d.one k m a b i);
-  one_piece = λ k m a b i t pt u v. d.one k m a b i;
+  one_segment = λ k m a b i. ap (λ (z : Piece). z.segment) (d.one k m a b i.0);
+  one_piece = λ k m a b i t pt u v. d.one k m a b i.0;
 }

@@ -23,12 +23,12 @@ begun old ks = sym (append-nil (map piece_of old))
 pub all_numbered : (old now : List PieceInMemory) (ks : List Piece) (i : ℕ) → length ks ≤ i → map piece_of now ≡ map piece_of old ++ numbered_from (length old) (take i ks) → map piece_of now ≡ map piece_of old ++ numbered_from (length old) ks
 all_numbered old now ks i h e = e ∙ ap (λ xs. map piece_of old ++ numbered_from (length old) xs) (take_all i ks h)
 
-pub numbered_more : (old now new : List PieceInMemory) (ks : List Piece) (i : ℕ) (k : PieceInMemory) (q : CurveId) → i < length ks → piece_of k ≡ get_or ks i (piece_of k) → map piece_of now ≡ map piece_of old ++ numbered_from (length old) (take i ks) → q.0 ≡ length now → new ≡ now ++ record { curve = q; segment = k.segment; from = k.from; to = k.to } ∷ [] → map piece_of new ≡ map piece_of old ++ numbered_from (length old) (take (i + 1) ks)
+pub numbered_more : (old now new : List PieceInMemory) (ks : List Piece) (i : ℕ) (k : PieceInMemory) (q : CurveId) → i < length ks → piece_of k ≡ get_or ks i (piece_of k) → map piece_of now ≡ map piece_of old ++ numbered_from (length old) (take i ks) → q.0 ≡ length now → new ≡ now ++ record { curve = q; side = k.side; segment = k.segment; from = k.from; to = k.to } ∷ [] → map piece_of new ≡ map piece_of old ++ numbered_from (length old) (take (i + 1) ks)
 numbered_more old now new ks i k q h r e m f =
     let t : List Piece = take i ks in
     let o : List Piece = map piece_of old in
     let n : ℕ = length old in
-    let x : PieceInMemory = record { curve = q; segment = k.segment; from = k.from; to = k.to } in
+    let x : PieceInMemory = record { curve = q; side = k.side; segment = k.segment; from = k.from; to = k.to } in
     let a : take (i + 1) ks ≡ t ++ piece_of k ∷ [] = take_more ks i (piece_of k) h ∙ ap (λ y. t ++ y ∷ []) (sym r) in
     let c1 : length (map piece_of now) ≡ length now = length-map now piece_of in
     let c2 : length (map piece_of now) ≡ length (o ++ numbered_from n t) = ap length e in

@@ -29,6 +29,7 @@ fn add_pieces(all: &mut Sequence<Piece>, pieces: &[Piece]) -> Result<(), NoMemor
         let curve = number_at(all.as_slice().len())?;
         all.push(Piece {
             curve,
+            side: piece.side,
             segment: piece.segment,
             from: piece.from,
             to: piece.to,

@@ -17,7 +17,7 @@ use Rattle.slab_laws.specs.Text.{skeleton}
 -- ---- both layers together
 -- the piece, its curve numbered anew
 abbrev pub renamed : (ℕ → ℕ) → Piece → Piece
-renamed name k = record { curve = name k.curve; segment = k.segment; from = k.from; to = k.to }
+renamed name k = record { curve = name k.curve; side = k.side; segment = k.segment; from = k.from; to = k.to }
 
 -- the numbers that keep the curves of both layers apart: even ones for red, odd ones for blue
 abbrev pub red_name : ℕ → ℕ

@@ -6,7 +6,7 @@ use Rattle.slab_laws.specs.declared.present.Present.{Present as PresentInMemory}
 
 -- a piece, with its curve's number
 abbrev pub piece_of : PieceInMemory → Piece
-piece_of k = record { curve = k.curve.0; segment = k.segment; from = k.from; to = k.to }
+piece_of k = record { curve = k.curve.0; side = k.side; segment = k.segment; from = k.from; to = k.to }
 
 -- the pieces in their order, and the pins
 abbrev pub present_of : PresentInMemory → Present
