@@ -22,6 +22,7 @@ pub mod RecordsApart
 pub mod HalvesApart
 pub mod MergesApart
 pub mod Choices
+pub mod FacesStay
 pub mod RowsWritten
 pub mod MapInSteps
 pub mod TriangleOpened

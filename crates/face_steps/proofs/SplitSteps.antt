@@ -14,6 +14,7 @@ use Rattle.plane_graphs.proofs.Ascending.{to_member, from_member, IsAscending-as
 use Rattle.plane_graphs.proofs.Lists.{in_ascending, of_ascending}
 use Rattle.plane_graphs.proofs.Meaning.{edge_cmp_total, edge_cmp_exact}
 use Rattle.slab_laws.specs.declared.names.DartId.{DartId}
+use Rattle.slab_laws.specs.declared.names.FaceId.{FaceId}
 use Rattle.slab_laws.specs.declared.names.VertexId.{VertexId}
 use Rattle.slab_laws.specs.declared.slab_cell.SlabCell.{SlabCell}
 use Rattle.slab_laws.specs.Cycles.{left_of_dart}
@@ -23,7 +24,7 @@ use Rattle.slab_laws.specs.FacesSound.{lead_in, IsCycled}
 use Rattle.slab_laws.specs.Meets.{SameFace}
 use Rattle.slab_laws.specs.Rotation.{next}
 use Rattle.slab_laws.specs.Rows.{least_dart_of}
-use Rattle.slab_laws.specs.Skeleton.{same_point, same_edge, inside}
+use Rattle.slab_laws.specs.Skeleton.{HasWeight, same_point, same_edge, inside}
 use Rattle.slab_laws.specs.Slabs.{slab_left, left_cell}
 use Rattle.slab_laws.specs.Sound.{skeleton_of, dart_in}
 use Rattle.slab_laws.specs.Subdivision.{first_cell}
@@ -32,7 +33,8 @@ use Rattle.slab_faces.proofs.Member.{member_in, in_member, filter_in, filter_out
 use Rattle.slab_faces.proofs.Slabs.{same_edge_is, same_edge_refl}
 use Rattle.slab_faces.proofs.Sets.{set_cons}
 use Rattle.slab_faces.proofs.Shift.{same_sum}
-use Rattle.slab_faces.proofs.Turns.{face_at, face_sym, member_cases}
+use Rattle.slab_faces.proofs.WallsLemmas.{cell_there}
+use Rattle.slab_faces.proofs.Turns.{face_at, face_trans, face_sym, member_cases}
 use Rattle.arr_notes.proofs.Names.{cases_dart}
 use Rattle.arr_notes.proofs.Reading.{dart_number}
 use Rattle.sound_views.proofs.NamedDarts.{names_are_darts}
@@ -46,11 +48,12 @@ use Rattle.sound_changes.proofs.SplitDirections as ways
 use Rattle.sound_changes.proofs.SplitHalves.{three, where_is, not_w}
 use Rattle.face_changes.specs.EdgeSplit.{HasEdgeSplit, whole_dart, FollowsSplit}
 use Rattle.face_changes.specs.Kinds.{is_outer}
-use Rattle.face_changes.specs.FacesByPairs.{Item, outside, beside, round, HasItem, first_or, AreFacesTold}
+use Rattle.face_changes.specs.FacesByPairs.{Item, outside, beside, round, HasItem, cell_at, first_or, AreFacesTold}
 use Rattle.face_changes.specs.OneMoreVertex.{widened}
 use Rattle.face_changes.proofs.EdgeSplit.{edge_split_in_two}
 use Rattle.face_changes.proofs.LinkedCycles.{dart_there, there_dart}
 use Rattle.face_steps.specs.SplitSteps.{whole_name, IsSplitApart, AreHalvesTabled, SplitSteps}
+use Rattle.face_steps.specs.VertexSteps.{IsFaceRound}
 use Rattle.face_steps.proofs.Alike.{cycles_follow, cycles_followed, IsLike, faces_follow, faces_followed}
 use Rattle.face_steps.proofs.Counted.{in_front, behind, point_set, edge_set}
 use Rattle.face_steps.proofs.VertexSteps.{item_listed}
@@ -383,6 +386,15 @@ module _ (v w : View) (d t n m : DartId) (u : VertexId) (p : Point) (c : IsSplit
     from (beside k) h = (beside k, subst (λ x. Like (beside x) (beside k)) (old_name k h) (like_dart k (c.halves.has_old k h)))
     from (round z) h = (round z, like_vertex z h.0 h.1 (bare_up z h.0 h.1))
 
+    -- the face named for a point
+    stays : (a : FaceId) (q : Point) → HasWeight q → IsFaceRound v f a q → IsFaceRound w s a q
+    stays a q positive r =
+        let j = from r.0 r.1 in
+        let here : SlabCell = left_cell (skeleton_of w) q in
+        let real : Contains (cells (skeleton_of w)) (left_cell (skeleton_of w) q) = member_in (cells (skeleton_of w)) _ (cell_there (skeleton_of w) q c.sound_more.plane positive) in
+        let back : widened (skeleton_of v) p (left_cell (skeleton_of w) q) ≡ left_cell (skeleton_of v) q = edge_split_in_two.left (skeleton_of v) (skeleton_of w) e p rest q split positive in
+        (j.0, j.1.has_more, sym j.1.name ∙ r.2, (law (cell_at w j.0) here j.1.real real).1 (face_trans _ _ _ _ (face_sym _ _ _ j.1.same) (face_trans _ _ _ _ r.3 (face_at _ _ _ (sym back)))))
+
     told : AreFacesTold v f ↔ AreFacesTold w s
     told = (
       faces_follow v w f s (widened (skeleton_of v) p) (Contains (cells (skeleton_of w))) law b.faces to from,
@@ -393,4 +405,5 @@ pub split_steps : SplitSteps
 split_steps = record {
   cycled = λ v w f s d t n m u p c b. cycled v w d t n m u p c f s b;
   told = λ v w f s d t n m u p c b. told v w d t n m u p c f s b;
+  stays = λ v w f s d t n m u p c b a q positive r. stays v w d t n m u p c f s b a q positive r;
 }

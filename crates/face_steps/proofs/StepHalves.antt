@@ -2,7 +2,9 @@
 use Rattle.std.proofs.Common.{◌≡◌, ◌≢◌, Some, None, IsSome, refl, sym, ap, ◌∙◌, subst, inl, inr}
 use Rattle.exact_plane.specs.Point.{Point}
 use Rattle.slab_laws.specs.declared.names.DartId.{DartId}
+use Rattle.slab_laws.specs.declared.names.FaceId.{FaceId}
 use Rattle.slab_laws.specs.declared.names.VertexId.{VertexId}
+use Rattle.slab_laws.specs.Skeleton.{HasWeight}
 use Rattle.slab_laws.specs.FacesSound.{lead_in, IsComplete}
 use Rattle.slab_laws.specs.Tables.{row_at}
 use Rattle.slab_laws.specs.View.{View, Faces, HasVertex, HasDart, HasCycle, source_in, cycle_or, cycle_in}
@@ -15,6 +17,7 @@ use Rattle.sound_views.proofs.ListedRows.{is_some_by}
 use Rattle.rotation_order.specs.VertexRings.{IsBare}
 use Rattle.face_changes.proofs.CycleNames.{lead_step}
 use Rattle.face_steps.specs.SplitSteps.{IsSplitApart, AreHalvesTabled}
+use Rattle.face_steps.specs.VertexSteps.{IsFaceRound}
 use Rattle.face_steps.specs.Tabled.{AreTabled}
 use Rattle.face_steps.proofs.SplitSteps.{split_steps}
 
@@ -101,6 +104,9 @@ module _ (v w : View) (d t n m : DartId) (u : VertexId) (p : Point) (c : IsSplit
       bare_vertex = λ z o. c.halves.vertex_has z (h.complete.bare_vertex z o);
       bare_has = h.complete.bare_has;
     }
+
+    pub split_leaves : (a : FaceId) (q : Point) → HasWeight q → IsFaceRound v f a q → IsFaceRound w (step_faces w f (in_two d t n m)) a q
+    split_leaves a q positive r = split_steps.stays v w f s d t n m u p c halves a q positive r
 
     pub edge_split : AreTabled w (step_faces w f (in_two d t n m))
     edge_split = record { complete = complete; cycled = (split_steps.cycled v w f s d t n m u p c halves).0 h.cycled; told = (split_steps.told v w f s d t n m u p c halves).0 h.told }

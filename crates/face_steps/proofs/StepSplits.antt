@@ -280,9 +280,19 @@ module _ (v w : View) (x y : DartId) (p q : VertexId) (l : Line) (m : IsEdgeApar
   }
 
 -- ---- the rows that the step makes: c is x or y
+module _ (w : View) (f : Faces) (x y : DartId) (kept fresh : CycleId) (c : DartId) (face : FaceId) (cs : List CycleId) (us : List VertexId) where
+  abbrev written : Faces
+  written = step_faces w f (splits x y kept fresh c face cs us)
+
+  pub cycle_row_new : row_at written.cycles fresh.0 ≡ Some (in_face cs fresh.0 face (record { kind = Outer; face = face }))
+  cycle_row_new = row_at-each (λ n r. in_face cs n face r) _ fresh.0 ∙ ap (option_map (in_face cs fresh.0 face)) (put_hit fresh.0 _ f.cycles)
+
+  pub cycle_row_old : (e : CycleId) → e ≢ fresh → row_at written.cycles e.0 ≡ option_map (in_face cs e.0 face) (row_at f.cycles e.0)
+  cycle_row_old e n = row_at-each (λ n r. in_face cs n face r) _ e.0 ∙ ap (option_map (in_face cs e.0 face)) (put_miss fresh.0 _ f.cycles e.0 (cycle_number e fresh n))
+
 module _ (w : View) (f : Faces) (x y : DartId) (two : x ≢ y) (kept fresh : CycleId) (c : DartId) (face : FaceId) (cs : List CycleId) (us : List VertexId) (full : NamesAscend (names f.cycle_of)) (full_cycles : NamesAscend (names f.cycles)) (full_bare : NamesAscend (names f.bare)) where
   abbrev S : Faces
-  S = step_faces w f (splits x y kept fresh c face cs us)
+  S = written w f x y kept fresh c face cs us
 
   abbrev label : ℕ → CycleId → CycleId
   label n b = cond ((cycle_label w (dart_id n)).0 == (cycle_label w c).0) fresh b
@@ -295,12 +305,6 @@ module _ (w : View) (f : Faces) (x y : DartId) (two : x ≢ y) (kept fresh : Cyc
 
   at_second : row_at S.cycle_of y.0 ≡ Some (label y.0 kept)
   at_second = row_at-each label _ y.0 ∙ ap (option_map (label y.0)) (put_hit y.0 kept _)
-
-  at_new : row_at S.cycles fresh.0 ≡ Some (in_face cs fresh.0 face (record { kind = Outer; face = face }))
-  at_new = row_at-each (λ n r. in_face cs n face r) _ fresh.0 ∙ ap (option_map (in_face cs fresh.0 face)) (put_hit fresh.0 _ f.cycles)
-
-  at_cycle : (e : CycleId) → e ≢ fresh → row_at S.cycles e.0 ≡ option_map (in_face cs e.0 face) (row_at f.cycles e.0)
-  at_cycle e n = row_at-each (λ n r. in_face cs n face r) _ e.0 ∙ ap (option_map (in_face cs e.0 face)) (put_miss fresh.0 _ f.cycles e.0 (cycle_number e fresh n))
 
   at_bare : (u : VertexId) → row_at S.bare u.0 ≡ option_map (λ b. cond (lists_vertex us u.0) face b) (row_at f.bare u.0)
   at_bare u = row_at-each (λ n b. cond (lists_vertex us n) face b) f.bare u.0
@@ -321,8 +325,8 @@ split_first v w x y p q l m a b A B na nb f kept fresh face cs us t h =
       old = at_old w f x y m.more.two_names kept fresh x face cs us h.complete.cycle_of_ascend h.complete.cycles_ascend h.complete.bare_ascend;
       first = at_first w f x y m.more.two_names kept fresh x face cs us h.complete.cycle_of_ascend h.complete.cycles_ascend h.complete.bare_ascend;
       second = at_second w f x y m.more.two_names kept fresh x face cs us h.complete.cycle_of_ascend h.complete.cycles_ascend h.complete.bare_ascend;
-      cycle_new = at_new w f x y m.more.two_names kept fresh x face cs us h.complete.cycle_of_ascend h.complete.cycles_ascend h.complete.bare_ascend;
-      cycle_old = at_cycle w f x y m.more.two_names kept fresh x face cs us h.complete.cycle_of_ascend h.complete.cycles_ascend h.complete.bare_ascend;
+      cycle_new = cycle_row_new w f x y kept fresh x face cs us;
+      cycle_old = cycle_row_old w f x y kept fresh x face cs us;
       bare = at_bare w f x y m.more.two_names kept fresh x face cs us h.complete.cycle_of_ascend h.complete.cycles_ascend h.complete.bare_ascend;
       faces = refl;
       cycles_ascend = cycles_up w f x y m.more.two_names kept fresh x face cs us h.complete.cycle_of_ascend h.complete.cycles_ascend h.complete.bare_ascend;
@@ -336,8 +340,8 @@ split_second v w x y p q l m a b A B na nb f kept fresh face cs us t h =
       old = λ k i j. at_old w f x y m.more.two_names kept fresh y face cs us h.complete.cycle_of_ascend h.complete.cycles_ascend h.complete.bare_ascend k j i;
       first = at_second w f x y m.more.two_names kept fresh y face cs us h.complete.cycle_of_ascend h.complete.cycles_ascend h.complete.bare_ascend;
       second = at_first w f x y m.more.two_names kept fresh y face cs us h.complete.cycle_of_ascend h.complete.cycles_ascend h.complete.bare_ascend;
-      cycle_new = at_new w f x y m.more.two_names kept fresh y face cs us h.complete.cycle_of_ascend h.complete.cycles_ascend h.complete.bare_ascend;
-      cycle_old = at_cycle w f x y m.more.two_names kept fresh y face cs us h.complete.cycle_of_ascend h.complete.cycles_ascend h.complete.bare_ascend;
+      cycle_new = cycle_row_new w f x y kept fresh y face cs us;
+      cycle_old = cycle_row_old w f x y kept fresh y face cs us;
       bare = at_bare w f x y m.more.two_names kept fresh y face cs us h.complete.cycle_of_ascend h.complete.cycles_ascend h.complete.bare_ascend;
       faces = refl;
       cycles_ascend = cycles_up w f x y m.more.two_names kept fresh y face cs us h.complete.cycle_of_ascend h.complete.cycles_ascend h.complete.bare_ascend;

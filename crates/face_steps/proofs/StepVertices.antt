@@ -8,6 +8,7 @@ use Rattle.slab_laws.specs.declared.names.FaceId.{FaceId}
 use Rattle.slab_laws.specs.declared.names.VertexId.{VertexId}
 use Rattle.slab_laws.specs.FacesSound.{IsComplete}
 use Rattle.slab_laws.specs.Meets.{SameFace, here}
+use Rattle.slab_laws.specs.Skeleton.{HasWeight}
 use Rattle.slab_laws.specs.Sound.{skeleton_of}
 use Rattle.slab_laws.specs.Tables.{row_at}
 use Rattle.slab_laws.specs.View.{View, Faces, HasVertex, HasCycle, HasFace, HasBareFace, bare_or, bare_face_in}
@@ -81,6 +82,9 @@ module _ (v w : View) (u : VertexId) (p : Point) (m : IsVertexApart v w u p) whe
         | inr n ↦ subst (HasFace f) (sym (ap bare_or (row_old z n))) (h.complete.bare_has z (subst IsSome (row_old z n) o))
       ];
     }
+
+    pub vertex_leaves : (a : FaceId) (q : Point) → HasWeight q → IsFaceRound v f a q → IsFaceRound w (step_faces w f (comes_bare u face)) a q
+    vertex_leaves a q positive r = vertex_steps.stays v w f s u p face m tabled a q positive r
 
     pub vertex_made : AreTabled w (step_faces w f (comes_bare u face))
     vertex_made = record { complete = complete; cycled = (vertex_steps.cycled v w f s u p face m tabled).0 h.cycled; told = vertex_steps.comes v w f s u p face m tabled there h.told }

@@ -197,6 +197,15 @@ module _ (v w : View) (u : VertexId) (p : Point) (m : IsVertexApart v w u p) whe
     from (beside k) h = (beside k, like_dart k h)
     from (round z) h = (round z, like_vertex z h.0 h.1)
 
+    -- the face named for a point
+    stays : (a : FaceId) (q : Point) → HasWeight q → IsFaceRound v f a q → IsFaceRound w s a q
+    stays a q positive r =
+        let j = from r.0 r.1 in
+        let here : SlabCell = left_cell (skeleton_of w) q in
+        let real : Contains (cells (skeleton_of w)) (left_cell (skeleton_of w) q) = member_in (cells (skeleton_of w)) _ (cell_there (skeleton_of w) q m.sound_more.plane positive) in
+        let back : widened (skeleton_of v) p (left_cell (skeleton_of w) q) ≡ left_cell (skeleton_of v) q = one_more_vertex.left (skeleton_of v) (skeleton_of w) p q more positive in
+        (j.0, j.1.has_more, sym j.1.name ∙ r.2, (law (cell_at w j.0) here j.1.real real).1 (face_trans _ _ _ _ (face_sym _ _ _ j.1.same) (face_trans _ _ _ _ r.3 (face_at _ _ _ (sym back)))))
+
     comes : IsFaceRound v f face p → AreFacesTold v f → AreFacesTold w s
     comes r told =
         let h : HasItem w (round u) = (m.has, bare_new) in
@@ -226,4 +235,5 @@ vertex_steps = record {
   cycled = λ v w f s u p face m t. cycled v w u p m f s face t;
   comes = λ v w f s u p face m t. comes v w u p m f s face t;
   goes = λ v w f s u p face m t. goes v w u p m f s face t;
+  stays = λ v w f s u p face m t a q positive r. stays v w u p m f s face t a q positive r;
 }

@@ -6,6 +6,7 @@ pub mod VertexSteps
 pub mod SplitSteps
 pub mod SameGraph
 pub mod StepPremises
+pub mod MovedLists
 pub mod StepLaws
 pub mod RecordsApart
 pub mod LinkLaws

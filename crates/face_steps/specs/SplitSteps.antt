@@ -4,13 +4,15 @@ use Rattle.std.specs.Prelude.{◌≡◌, ◌≢◌, ◌↔◌, ◌==◌, cond, t
 use Rattle.exact_plane.specs.Point.{Point}
 use Rattle.plane_graphs.specs.Line.{precedes}
 use Rattle.slab_laws.specs.declared.names.DartId.{DartId}
+use Rattle.slab_laws.specs.declared.names.FaceId.{FaceId}
 use Rattle.slab_laws.specs.declared.names.VertexId.{VertexId}
 use Rattle.slab_laws.specs.FacesSound.{IsCycled}
-use Rattle.slab_laws.specs.Skeleton.{inside}
+use Rattle.slab_laws.specs.Skeleton.{HasWeight, inside}
 use Rattle.slab_laws.specs.Sound.{edge_in, IsGraphSound}
 use Rattle.slab_laws.specs.View.{View, Faces, HasVertex, HasDart, point_in, source_in, next_in, cycle_in, kind_in, face_in, bare_face_in}
 use Rattle.sound_changes.specs.SplitHalves.{IsHalved}
 use Rattle.face_changes.specs.FacesByPairs.{AreFacesTold}
+use Rattle.face_steps.specs.VertexSteps.{IsFaceRound}
 
 -- the dart of the whole edge that a dart of a part goes along; any other is itself (this project)
 abbrev pub whole_name : DartId → DartId → DartId → DartId → DartId → DartId
@@ -39,7 +41,8 @@ pub record AreHalvesTabled (v : View) (f s : Faces) (d t n m : DartId) : Type 0 
   pub beside : (k : DartId) → HasDart v k → face_in s (cycle_in f k) ≡ face_in f (cycle_in f k)
   pub round : (z : VertexId) → HasVertex v z → bare_face_in s z ≡ bare_face_in f z
 
--- cycles and faces are told of an edge in two exactly where they are of the whole edge (this project)
+-- cycles and faces are told of an edge in two exactly where they are of the whole edge, and the face named for a point stays that of the point (this project)
 pub record SplitSteps : Type 0 where
   pub cycled : (v w : View) (f s : Faces) (d t n m : DartId) (u : VertexId) (p : Point) → IsSplitApart v w d t n m u p → AreHalvesTabled v f s d t n m → IsCycled v f ↔ IsCycled w s
   pub told : (v w : View) (f s : Faces) (d t n m : DartId) (u : VertexId) (p : Point) → IsSplitApart v w d t n m u p → AreHalvesTabled v f s d t n m → AreFacesTold v f ↔ AreFacesTold w s
+  pub stays : (v w : View) (f s : Faces) (d t n m : DartId) (u : VertexId) (p : Point) → IsSplitApart v w d t n m u p → AreHalvesTabled v f s d t n m → (a : FaceId) (q : Point) → HasWeight q → IsFaceRound v f a q → IsFaceRound w s a q

@@ -7,6 +7,7 @@ use Rattle.slab_laws.specs.declared.names.FaceId.{FaceId}
 use Rattle.slab_laws.specs.declared.names.VertexId.{VertexId}
 use Rattle.slab_laws.specs.FacesSound.{IsCycled}
 use Rattle.slab_laws.specs.Meets.{SameFace}
+use Rattle.slab_laws.specs.Skeleton.{HasWeight}
 use Rattle.slab_laws.specs.Slabs.{left_cell}
 use Rattle.slab_laws.specs.Sound.{skeleton_of, IsGraphSound}
 use Rattle.slab_laws.specs.View.{View, Faces, HasVertex, HasDart, point_in, cycle_in, kind_in, face_in, bare_face_in}
@@ -37,8 +38,9 @@ pub record IsBareApart (v : View) (f s : Faces) (u : VertexId) (face : FaceId) :
 abbrev pub IsFaceRound : View → Faces → FaceId → Point → Type 0
 IsFaceRound v f face p = (i : Item) × HasItem v i × (name_at f i ≡ face) × SameFace (skeleton_of v) (cell_at v i) (left_cell (skeleton_of v) p)
 
--- cycles and faces are told with the vertex exactly where they are without it; where it comes, its face has to be known (this project)
+-- cycles and faces are told with the vertex exactly where they are without it; where it comes, its face has to be known; and the face named for a point stays that of the point (this project)
 pub record VertexSteps : Type 0 where
   pub cycled : (v w : View) (f s : Faces) (u : VertexId) (p : Point) (face : FaceId) → IsVertexApart v w u p → IsBareApart v f s u face → IsCycled v f ↔ IsCycled w s
   pub comes : (v w : View) (f s : Faces) (u : VertexId) (p : Point) (face : FaceId) → IsVertexApart v w u p → IsBareApart v f s u face → IsFaceRound v f face p → AreFacesTold v f → AreFacesTold w s
   pub goes : (v w : View) (f s : Faces) (u : VertexId) (p : Point) (face : FaceId) → IsVertexApart v w u p → IsBareApart v f s u face → AreFacesTold w s → AreFacesTold v f
+  pub stays : (v w : View) (f s : Faces) (u : VertexId) (p : Point) (face : FaceId) → IsVertexApart v w u p → IsBareApart v f s u face → (a : FaceId) (q : Point) → HasWeight q → IsFaceRound v f a q → IsFaceRound w s a q

@@ -9,7 +9,7 @@
 //! Each function is a law: its contract states it, and its body, being empty, computes nothing.
 #![tactic(auto)]
 
-ghost use Rattle.face_steps.specs.ChangeLaws.{ChangesKeepFacesSound};
+ghost use Rattle.face_steps.specs.ChangeLaws.{ChangesKeepFacesSound, FacesStayNamed};
 ghost use Rattle.face_steps.specs.Choices.{ChoicesOfKinds};
 ghost use Rattle.face_steps.specs.FaceAhead.{FacesAhead};
 ghost use Rattle.face_steps.specs.LinkLaws.{LinksKeepTables, UnlinksKeepTables};
@@ -29,6 +29,11 @@ ghost use Rattle.face_steps.specs.Within.{WithinByEither};
 /// A sound view with its tables of cycles and faces is one again after any change that says of faces what it has to.
 pub fn changes_keep_faces_sound()
     ensures { ChangesKeepFacesSound }
+{}
+
+/// Where a vertex comes, the face that was named for a point stays that of the point: what was told of points before stays true.
+pub fn faces_stay_named()
+    ensures { FacesStayNamed }
 {}
 
 /// The first face name, the unbounded face's, stays first after any such change.

@@ -37,6 +37,7 @@ pub mod StepPins
 pub mod StepClear
 pub mod StepAddCurve
 pub mod StepRemoveCurve
+pub mod StepCurvesGo
 pub mod StepAddEdge
 pub mod StepRemoveEdge
 pub mod StepSplitEdge

@@ -8,7 +8,7 @@
 #![tactic(auto)]
 
 ghost use Rattle.sound_changes.specs.EdgeLaws.{NextWithOneMoreEdge, NextWithOneEdgeFewer};
-ghost use Rattle.sound_changes.specs.StepLaws.{ChangesAreSteps, ChangesKeepViewsSound};
+ghost use Rattle.sound_changes.specs.StepLaws.{ChangesAreSteps, ChangesKeepViewsSound, CurvesGo};
 ghost use Rattle.sound_changes.specs.ViewLaws.{ChangesMakeViews, ChangesFitViews, ChangesMayBeTold};
 
 /// In a plane graph with one more edge, what follows a dart is what followed it before, or the new dart that comes directly
@@ -26,6 +26,11 @@ pub fn next_with_one_edge_fewer()
 /// After a change that fits, the records draw the graph after its step.
 pub fn changes_are_steps()
     ensures { ChangesAreSteps }
+{}
+
+/// Where some curves go from an edge at once, the records draw the graph without their marks there.
+pub fn curves_go()
+    ensures { CurvesGo }
 {}
 
 /// A change whose step leaves the graph plane leaves the records sound.
