@@ -71,8 +71,8 @@ module _ (vs ws : Slab StoredVertex) (ds : Slab StoredDart) (rests : (n : ℕ) �
   pub graph_left : (h : GraphView) → graph_view vs ds ≡ h → graph_view ws ds ≡ graph_moved ws ds h
   graph_left h is = λ i. record { graph = (graph_same ∙ ap (λ v. v.graph) is) i; spare_vertices = ws.capacity - slab_len ws; spare_darts = ds.capacity - slab_len ds; capacity_of_vertices = ws.capacity; capacity_of_darts = ds.capacity }
 
-  pub graph_part_same : (cs es : Slab StoredCycle) (fs gs : Slab StoredFace) (mv mv' : Option MovedView) (od : List RankKey) (vr cr cr' : ℕ) (h : RecordsView) → records_view vs ds cs fs mv od vr cr ≡ h → slab_len ws ≡ slab_len vs → graph_part (records_view ws ds es gs mv' od vr cr') ≡ graph_part h
-  graph_part_same cs es fs gs mv mv' od vr cr cr' h is l = (λ i. record { graph = graph_same i; spare_vertices = vr - l i; spare_darts = ds.capacity - slab_len ds; capacity_of_vertices = vr; capacity_of_darts = ds.capacity }) ∙ ap graph_part is
+  pub graph_part_same : (cs es : Slab StoredCycle) (fs gs : Slab StoredFace) (mv mv' : Option MovedView) (od : List RankKey) (vr cr cr' : ℕ) (mp : Bool) (h : RecordsView) → records_view vs ds cs fs mv od vr cr mp ≡ h → slab_len ws ≡ slab_len vs → graph_part (records_view ws ds es gs mv' od vr cr' mp) ≡ graph_part h
+  graph_part_same cs es fs gs mv mv' od vr cr cr' mp h is l = (λ i. record { graph = graph_same i; spare_vertices = vr - l i; spare_darts = ds.capacity - slab_len ds; capacity_of_vertices = vr; capacity_of_darts = ds.capacity }) ∙ ap graph_part is
 
 -- ---- what links of vertices leave
 module _ (vs ws : Slab StoredVertex) (fs gs : Slab StoredFace) (r : IsRelinked vertex_placing vs ws fs gs) where
@@ -94,7 +94,7 @@ module _ (vs ws : Slab StoredVertex) (fs gs : Slab StoredFace) (r : IsRelinked v
 pub relinked_both : (vs us ws : Slab StoredVertex) (fs gs hs : Slab StoredFace) → IsRelinked vertex_placing vs us fs gs → IsRelinked vertex_placing us ws gs hs → IsRelinked vertex_placing vs ws fs hs
 relinked_both vs us ws fs gs hs a b = record { rests = λ n. b.rests n ∙ a.rests n; face_rests = λ k. b.face_rests k ∙ a.face_rests k; len = b.len ∙ a.len; capacity = b.capacity ∙ a.capacity; faces_len = b.faces_len ∙ a.faces_len; faces_capacity = b.faces_capacity ∙ a.faces_capacity }
 
-module _ (vs : Slab StoredVertex) (ds : Slab StoredDart) (cs : Slab StoredCycle) (fs : Slab StoredFace) (mv : Option MovedView) (od : List RankKey) (vr cr : ℕ) (h : RecordsView) (is : records_view vs ds cs fs mv od vr cr ≡ h) (k : AreSoundFaces vs cs fs) where
+module _ (vs : Slab StoredVertex) (ds : Slab StoredDart) (cs : Slab StoredCycle) (fs : Slab StoredFace) (mv : Option MovedView) (od : List RankKey) (vr cr : ℕ) (mp : Bool) (h : RecordsView) (is : records_view vs ds cs fs mv od vr cr mp ≡ h) (k : AreSoundFaces vs cs fs) where
   -- the cycles' chains stay where faces keep their first cycles
   module _ (gs : Slab StoredFace) (firsts : (a : ℕ) → heads cycle_placing gs a ≡ heads cycle_placing fs a) where
     pub cycles_chained : AreChained cycle_placing cs gs
@@ -126,7 +126,7 @@ module _ (vs : Slab StoredVertex) (ds : Slab StoredDart) (cs : Slab StoredCycle)
       set_sound = record { cycles = cycles_chained gs (cycle_firsts vs ws fs gs l.kept); bare = l.chained; unbounded = bare_face_there vs ws fs gs l.kept 0 k.unbounded }
 
       pub set_tables : tables_in ws ds cs gs ≡ bare_in v face h.faces.tables
-      set_tables = tables_after vs ds cs fs mv od vr cr h is ws ds cs gs (bare_in v face) (λ i. record { cycle_of = tabled (λ r. r.cycle) ds; bare = bare_put vs ws v.0 face l.keys i; cycles = tabled cycle_record cs; faces = face_names vs ws fs gs l.kept i })
+      set_tables = tables_after vs ds cs fs mv od vr cr mp h is ws ds cs gs (bare_in v face) (λ i. record { cycle_of = tabled (λ r. r.cycle) ds; bare = bare_put vs ws v.0 face l.keys i; cycles = tabled cycle_record cs; faces = face_names vs ws fs gs l.kept i })
 
       pub set_lists : lists_in ws cs gs ≡ vertex_listed v face (lists_in vs cs fs)
       set_lists = λ i. record { cycles = λ a. map cycle_id (cycles_own gs (cycle_firsts vs ws fs gs l.kept) a.0 i); bare = λ a. bare_at a.0 i; dart_on = λ c. dart_kept (get cs c.0) }
@@ -145,7 +145,7 @@ module _ (vs : Slab StoredVertex) (ds : Slab StoredDart) (cs : Slab StoredCycle)
       moved_sound = record { cycles = cycles_chained hs (cycle_firsts vs ws fs hs both); bare = l.chained; unbounded = bare_face_there vs ws fs hs both 0 k.unbounded }
 
       pub moved_tables : tables_in ws ds cs hs ≡ bare_in v face h.faces.tables
-      moved_tables = tables_after vs ds cs fs mv od vr cr h is ws ds cs hs (bare_in v face) (λ i. record { cycle_of = tabled (λ r. r.cycle) ds; bare = bare_put vs ws v.0 face (λ n. l.keys n ∙ ap (cond (n == v.0) (Some face.0)) (u.keys n)) i; cycles = tabled cycle_record cs; faces = face_names vs ws fs hs both i })
+      moved_tables = tables_after vs ds cs fs mv od vr cr mp h is ws ds cs hs (bare_in v face) (λ i. record { cycle_of = tabled (λ r. r.cycle) ds; bare = bare_put vs ws v.0 face (λ n. l.keys n ∙ ap (cond (n == v.0) (Some face.0)) (u.keys n)) i; cycles = tabled cycle_record cs; faces = face_names vs ws fs hs both i })
 
       pub moved_lists : lists_in ws cs hs ≡ vertex_relisted v face (lists_in vs cs fs)
       moved_lists = λ i. record { cycles = λ a. map cycle_id (cycles_own hs (cycle_firsts vs ws fs hs both) a.0 i); bare = λ a. bare_at a.0 i; dart_on = λ c. dart_kept (get cs c.0) }
@@ -165,7 +165,7 @@ module _ (vs : Slab StoredVertex) (ds : Slab StoredDart) (cs : Slab StoredCycle)
     left_rows = λ i. record { cycle_of = tabled (λ r. r.cycle) ds; bare = bare_del vs ws v.0 l.keys i; cycles = tabled cycle_record cs; faces = face_names vs ws fs gs l.kept i }
 
     pub left_tables : tables_in ws ds cs gs ≡ not_bare v h.faces.tables
-    left_tables = tables_after vs ds cs fs mv od vr cr h is ws ds cs gs (not_bare v) left_rows
+    left_tables = tables_after vs ds cs fs mv od vr cr mp h is ws ds cs gs (not_bare v) left_rows
 
     bare_at : (a : ℕ) → map vertex_id (own vertex_placing ws gs a) ≡ filter (λ x. not (x.0 == v.0)) (map vertex_id (own vertex_placing vs fs a))
     bare_at a = ap (map vertex_id) (l.owns a) ∙ map_without vertex_id (λ x. x.0) (λ n. refl) v.0 (own vertex_placing vs fs a)

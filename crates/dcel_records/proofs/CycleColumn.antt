@@ -1,5 +1,5 @@
 -- The column of cycles, read and written.
-use Rattle.std.proofs.Common.{◌≡◌, ℕ, ◌-◌, List, Option, Some, is_some, option_map, refl, sym, ap, subst, ◌∙◌}
+use Rattle.std.proofs.Common.{Bool, ◌≡◌, ℕ, ◌-◌, List, Option, Some, is_some, option_map, refl, sym, ap, subst, ◌∙◌}
 use Rattle.slab.specs.Slab.{Slab, get, slab_len, with_value}
 use Rattle.slab.proofs.SlabLemmas.{Updates-with_value}
 use Rattle.slab_laws.specs.declared.names.CycleId.{CycleId}
@@ -23,8 +23,8 @@ abbrev pub row_cycle : CycleId → StoredDart → StoredDart
 row_cycle c r = record { source = r.source; twin = r.twin; next = r.next; parts = r.parts; target_parts = r.target_parts; line = r.line; cycle = c }
 
 -- the cycle that a row keeps is what a caller sees
-pub cycle_read : (vs : Slab StoredVertex) (ds : Slab StoredDart) (cs : Slab StoredCycle) (fs : Slab StoredFace) (mv : Option MovedView) (od : List RankKey) (vr cr : ℕ) (h : RecordsView) → records_view vs ds cs fs mv od vr cr ≡ h → (d : DartId) (o : Option StoredDart) → get ds d.0 ≡ o → option_map (λ r. r.cycle) o ≡ row_at h.faces.tables.cycle_of d.0
-cycle_read vs ds cs fs mv od vr cr h is d o e = sym (ap (option_map (λ r. r.cycle)) e) ∙ sym (row-tabled (λ r. r.cycle) ds d.0) ∙ ap (λ v. row_at v.faces.tables.cycle_of d.0) is
+pub cycle_read : (vs : Slab StoredVertex) (ds : Slab StoredDart) (cs : Slab StoredCycle) (fs : Slab StoredFace) (mv : Option MovedView) (od : List RankKey) (vr cr : ℕ) (mp : Bool) (h : RecordsView) → records_view vs ds cs fs mv od vr cr mp ≡ h → (d : DartId) (o : Option StoredDart) → get ds d.0 ≡ o → option_map (λ r. r.cycle) o ≡ row_at h.faces.tables.cycle_of d.0
+cycle_read vs ds cs fs mv od vr cr mp h is d o e = sym (ap (option_map (λ r. r.cycle)) e) ∙ sym (row-tabled (λ r. r.cycle) ds d.0) ∙ ap (λ v. row_at v.faces.tables.cycle_of d.0) is
 
 module _ (vs : Slab StoredVertex) (ds : Slab StoredDart) (d : DartId) (c : CycleId) (r : StoredDart) (g : get ds d.0 ≡ Some r) where
   abbrev written : Slab StoredDart
@@ -33,8 +33,8 @@ module _ (vs : Slab StoredVertex) (ds : Slab StoredDart) (d : DartId) (c : Cycle
   cycle_graph : graph_in vs written ≡ graph_in vs ds
   cycle_graph = let e = tabled_same dart_of ds written d.0 r (row_cycle c r) g refl (Updates-with_value ds d.0 _ (ap is_some g)) in λ i. record { vertices = (graph_in vs ds).vertices; darts = e i }
 
-  pub cycle_graph_part : (cs : Slab StoredCycle) (fs : Slab StoredFace) (mv : Option MovedView) (od : List RankKey) (vr cr : ℕ) (h : RecordsView) → records_view vs ds cs fs mv od vr cr ≡ h → graph_part (records_view vs written cs fs mv od vr cr) ≡ graph_part h
-  cycle_graph_part cs fs mv od vr cr h is = let l = len_written ds d.0 r (row_cycle c r) g in (λ i. record { graph = cycle_graph i; spare_vertices = vr - slab_len vs; spare_darts = ds.capacity - l i; capacity_of_vertices = vr; capacity_of_darts = ds.capacity }) ∙ ap graph_part is
+  pub cycle_graph_part : (cs : Slab StoredCycle) (fs : Slab StoredFace) (mv : Option MovedView) (od : List RankKey) (vr cr : ℕ) (mp : Bool) (h : RecordsView) → records_view vs ds cs fs mv od vr cr mp ≡ h → graph_part (records_view vs written cs fs mv od vr cr mp) ≡ graph_part h
+  cycle_graph_part cs fs mv od vr cr mp h is = let l = len_written ds d.0 r (row_cycle c r) g in (λ i. record { graph = cycle_graph i; spare_vertices = vr - slab_len vs; spare_darts = ds.capacity - l i; capacity_of_vertices = vr; capacity_of_darts = ds.capacity }) ∙ ap graph_part is
 
   pub cycle_kept : AreSoundRows vs ds → AreSoundRows vs written
   cycle_kept k = let e = sym cycle_graph in record { twinned = subst (λ v. IsTwinned v) e k.twinned; outs = λ w. subst (λ v. IsOut v w (out_at vs w)) e (k.outs w) }

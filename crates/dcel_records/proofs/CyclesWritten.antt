@@ -74,7 +74,7 @@ module _ (cs es : Slab StoredCycle) (fs gs : Slab StoredFace) (r : IsRelinked cy
 pub relinked_twice : (cs ds es : Slab StoredCycle) (fs gs hs : Slab StoredFace) → IsRelinked cycle_placing cs ds fs gs → IsRelinked cycle_placing ds es gs hs → IsRelinked cycle_placing cs es fs hs
 relinked_twice cs ds es fs gs hs a b = record { rests = λ n. b.rests n ∙ a.rests n; face_rests = λ k. b.face_rests k ∙ a.face_rests k; len = b.len ∙ a.len; capacity = b.capacity ∙ a.capacity; faces_len = b.faces_len ∙ a.faces_len; faces_capacity = b.faces_capacity ∙ a.faces_capacity }
 
-module _ (vs : Slab StoredVertex) (ds : Slab StoredDart) (cs : Slab StoredCycle) (fs : Slab StoredFace) (mv : Option MovedView) (od : List RankKey) (vr cr : ℕ) (h : RecordsView) (is : records_view vs ds cs fs mv od vr cr ≡ h) (k : AreSoundFaces vs cs fs) where
+module _ (vs : Slab StoredVertex) (ds : Slab StoredDart) (cs : Slab StoredCycle) (fs : Slab StoredFace) (mv : Option MovedView) (od : List RankKey) (vr cr : ℕ) (mp : Bool) (h : RecordsView) (is : records_view vs ds cs fs mv od vr cr mp ≡ h) (k : AreSoundFaces vs cs fs) where
   pub cycle_key : (c : CycleId) → HasCycle h.faces.tables c → ContainsKey cs c.0
   cycle_key c s = by (get cs c.0) (subst (λ (t : Faces). HasCycle t c) (sym (ap tables_of is)) s)
     where
@@ -121,7 +121,7 @@ module _ (vs : Slab StoredVertex) (ds : Slab StoredDart) (cs : Slab StoredCycle)
       more_sound = record { cycles = l.chained; bare = bare_chained gs (bare_firsts s es fs gs l.kept); unbounded = face_there s es fs gs l.kept 0 k.unbounded }
 
       pub more_tables : tables_in vs ds es gs ≡ with_cycle (cycle_id c) kind face h.faces.tables
-      more_tables = tables_after vs ds cs fs mv od vr cr h is vs ds es gs (with_cycle (cycle_id c) kind face) (λ i. record { cycle_of = tabled (λ r. r.cycle) ds; bare = somes (tabled bare_of vs); cycles = rows i; faces = face_names s es fs gs l.kept i })
+      more_tables = tables_after vs ds cs fs mv od vr cr mp h is vs ds es gs (with_cycle (cycle_id c) kind face) (λ i. record { cycle_of = tabled (λ r. r.cycle) ds; bare = somes (tabled bare_of vs); cycles = rows i; faces = face_names s es fs gs l.kept i })
         where
           rows : tabled cycle_record es ≡ put c (record { kind = kind; face = face }) (tabled cycle_record cs)
           rows = cycles_same s es (kinds_stay s es fs gs l.kept) keys ∙ tabled_put cycle_record cs s c row put' ∙ (λ i. put c (record { kind = rk i; face = rf i }) (tabled cycle_record cs))
@@ -150,7 +150,7 @@ module _ (vs : Slab StoredVertex) (ds : Slab StoredDart) (cs : Slab StoredCycle)
       fewer_sound = record { cycles = fewer_chained cycle_placing cs fs k.cycles c s gs u es left; bare = bare_chained gs (bare_firsts cs s fs gs u.kept); unbounded = face_there cs s fs gs u.kept 0 k.unbounded }
 
       pub fewer_tables : tables_in vs ds es gs ≡ without_cycle (cycle_id c) h.faces.tables
-      fewer_tables = tables_after vs ds cs fs mv od vr cr h is vs ds es gs (without_cycle (cycle_id c)) (λ i. record { cycle_of = tabled (λ r. r.cycle) ds; bare = somes (tabled bare_of vs); cycles = rows i; faces = face_names cs s fs gs u.kept i })
+      fewer_tables = tables_after vs ds cs fs mv od vr cr mp h is vs ds es gs (without_cycle (cycle_id c)) (λ i. record { cycle_of = tabled (λ r. r.cycle) ds; bare = somes (tabled bare_of vs); cycles = rows i; faces = face_names cs s fs gs u.kept i })
         where
           rows : tabled cycle_record es ≡ del c (tabled cycle_record cs)
           rows = tabled_del cycle_record s es c gone ∙ ap (del c) (cycles_same cs s (kinds_stay cs s fs gs u.kept) u.keys)
@@ -177,7 +177,7 @@ module _ (vs : Slab StoredVertex) (ds : Slab StoredDart) (cs : Slab StoredCycle)
       moved_sound = record { cycles = l.chained; bare = bare_chained hs (bare_firsts cs es fs hs both); unbounded = face_there cs es fs hs both 0 k.unbounded }
 
       pub moved_tables : (kind : CycleKind) → kinds cs c ≡ Some kind → tables_in vs ds es hs ≡ with_cycle (cycle_id c) kind face h.faces.tables
-      moved_tables kind e = tables_after vs ds cs fs mv od vr cr h is vs ds es hs (with_cycle (cycle_id c) kind face) (λ i. record { cycle_of = tabled (λ r. r.cycle) ds; bare = somes (tabled bare_of vs); cycles = rows i; faces = face_names cs es fs hs both i })
+      moved_tables kind e = tables_after vs ds cs fs mv od vr cr mp h is vs ds es hs (with_cycle (cycle_id c) kind face) (λ i. record { cycle_of = tabled (λ r. r.cycle) ds; bare = somes (tabled bare_of vs); cycles = rows i; faces = face_names cs es fs hs both i })
         where
           rows : tabled cycle_record es ≡ put c (record { kind = kind; face = face }) (tabled cycle_record cs)
           rows = cycle_put cs es c kind face (kinds_stay cs es fs hs both) e (λ n. l.keys n ∙ ap (cond (n == c) (Some face.0)) (u.keys n))
@@ -214,7 +214,7 @@ module _ (vs : Slab StoredVertex) (ds : Slab StoredDart) (cs : Slab StoredCycle)
     dart_sound = record { cycles = chained_same cycle_placing cs fs k.cycles (with_value cs c q) fs (λ i n. same_nodes n i) (λ a. refl) (λ n a e s. s); bare = k.bare; unbounded = k.unbounded }
 
     pub dart_tables : tables_in vs ds (with_value cs c q) fs ≡ h.faces.tables
-    dart_tables = tables_after vs ds cs fs mv od vr cr h is vs ds (with_value cs c q) fs (λ t. t) (λ i. record { cycle_of = tabled (λ r. r.cycle) ds; bare = somes (tabled bare_of vs); cycles = rows i; faces = names (entries fs) })
+    dart_tables = tables_after vs ds cs fs mv od vr cr mp h is vs ds (with_value cs c q) fs (λ t. t) (λ i. record { cycle_of = tabled (λ r. r.cycle) ds; bare = somes (tabled bare_of vs); cycles = rows i; faces = names (entries fs) })
       where
         rows : tabled cycle_record (with_value cs c q) ≡ tabled cycle_record cs
         rows = tabled_same cycle_record cs (with_value cs c q) c r q g (λ i. record { kind = qk i; face = (qp i).face }) w
@@ -236,8 +236,8 @@ told r = (r.kind, r.face)
 abbrev told_by : StoredCycle → CycleKind × FaceId
 told_by r = (r.kind, r.place.face)
 
-pub cycle_found : (vs : Slab StoredVertex) (ds : Slab StoredDart) (cs : Slab StoredCycle) (fs : Slab StoredFace) (mv : Option MovedView) (od : List RankKey) (vr cr : ℕ) (h : RecordsView) → records_view vs ds cs fs mv od vr cr ≡ h → (c : CycleId) (o : Option StoredCycle) → get cs c.0 ≡ o → option_map told_by o ≡ option_map told (row_at h.faces.tables.cycles c.0)
-cycle_found vs ds cs fs mv od vr cr h is c o e = by o ∙ ap (λ p. option_map told (option_map cycle_record p)) (sym e) ∙ ap (option_map told) (sym (row-tabled cycle_record cs c.0)) ∙ ap (λ (t : Faces). option_map told (row_at t.cycles c.0)) (ap tables_of is)
+pub cycle_found : (vs : Slab StoredVertex) (ds : Slab StoredDart) (cs : Slab StoredCycle) (fs : Slab StoredFace) (mv : Option MovedView) (od : List RankKey) (vr cr : ℕ) (mp : Bool) (h : RecordsView) → records_view vs ds cs fs mv od vr cr mp ≡ h → (c : CycleId) (o : Option StoredCycle) → get cs c.0 ≡ o → option_map told_by o ≡ option_map told (row_at h.faces.tables.cycles c.0)
+cycle_found vs ds cs fs mv od vr cr mp h is c o e = by o ∙ ap (λ p. option_map told (option_map cycle_record p)) (sym e) ∙ ap (option_map told) (sym (row-tabled cycle_record cs c.0)) ∙ ap (λ (t : Faces). option_map told (row_at t.cycles c.0)) (ap tables_of is)
   where
     by : (o : Option StoredCycle) → option_map told_by o ≡ option_map told (option_map cycle_record o)
     by None = refl

@@ -1,5 +1,5 @@
 -- What is true of the faces of all records: what each lists, that what is listed has a face, and how long a list can be.
-use Rattle.std.proofs.Common.{◌≡◌, ℕ, ◌≤◌, List, [], ◌∷◌, map, length, Option, Some, None, IsSome, option_map, refl, sym, ap, subst, ◌∙◌, arith, Contains}
+use Rattle.std.proofs.Common.{Bool, ◌≡◌, ℕ, ◌≤◌, List, [], ◌∷◌, map, length, Option, Some, None, is_some, IsSome, option_map, refl, sym, ap, subst, ◌∙◌, arith, Contains}
 use Rattle.std.proofs.lemmas.Bool.{false≢true}
 use Rattle.std.proofs.Math.ListN.{length-map}
 use Rattle.plane_graphs.specs.Ascending.{Member}
@@ -12,7 +12,7 @@ use Rattle.slab_laws.specs.declared.names.FaceId.{FaceId}
 use Rattle.slab_laws.specs.declared.names.VertexId.{VertexId}
 use Rattle.slab_laws.specs.FaceLists.{Lists, MovedView, AreOnce, AreFacesListed}
 use Rattle.slab_laws.specs.Tables.{names, NamesAscend}
-use Rattle.slab_laws.specs.View.{HasCycle, HasFace, HasBareFace, face_in, face_or, bare_face_in, bare_or, cycle_id, vertex_id, face_id}
+use Rattle.slab_laws.specs.View.{HasVertex, HasCycle, HasFace, HasBareFace, face_in, face_or, bare_face_in, bare_or, cycle_id, vertex_id, face_id}
 use Rattle.chain_laws.specs.Links.{Node, trail, after_at, first_or, key_at}
 use Rattle.chain_laws.proofs.Linked.{trail_within}
 use Rattle.chain_laws.proofs.Distinct.{IsOnce, once_from_distinct}
@@ -24,7 +24,7 @@ use Rattle.dcel_records.specs.declared.rows.StoredFace.{StoredFace}
 use Rattle.dcel_records.specs.declared.rows.StoredVertex.{StoredVertex}
 use Rattle.dcel_records.specs.Placing.{Placing, node_or, nodes, heads, own, AreChained, cycle_placing, vertex_placing}
 use Rattle.dcel_records.specs.RecordsView.{RecordsView, lists_of}
-use Rattle.dcel_records.specs.StoredRows.{cycle_record, tables_in, lists_in, records_view, AreSoundFaces, IsRoom}
+use Rattle.dcel_records.specs.StoredRows.{vertex_of, graph_in, cycle_record, tables_in, lists_in, records_view, AreSoundFaces, IsRoom}
 use Rattle.dcel_records.proofs.After.{names_tabled}
 use Rattle.dcel_records.proofs.Chained.{own_list}
 use Rattle.dcel_records.proofs.FaceTables.{lists_seen, bare_seen, bare_ascend}
@@ -97,6 +97,14 @@ module _ (vs : Slab StoredVertex) (ds : Slab StoredDart) (cs : Slab StoredCycle)
   place_of_bare : (v : VertexId) → HasBareFace (tables_in vs ds cs fs) v → key_at (nodes vertex_placing vs) v.0 ≡ Some (bare_face_in (tables_in vs ds cs fs) v).0
   place_of_bare v h = bare_face_key (key_at (nodes vertex_placing vs) v.0) (subst (λ o. IsSome o) (bare_seen vs v.0) h) ∙ ap (λ o. Some (bare_or o).0) (sym (bare_seen vs v.0))
 
+  -- who has a place has a row
+  bare_vertex : (v : VertexId) → HasBareFace (tables_in vs ds cs fs) v → HasVertex (graph_in vs ds) v
+  bare_vertex v b = ap is_some (row-tabled vertex_of vs v.0) ∙ by (get vs v.0) (place_of_bare v b)
+    where
+      by : {k : ℕ} (o : Option StoredVertex) → option_map (λ (x : Node). x.key) (node_or vertex_placing o) ≡ Some k → IsSome (option_map vertex_of o)
+      by None e = absurd (cc)
+      by (Some r) e = refl
+
   rows_listed : AreSoundFaces vs cs fs → AreFacesListed (tables_in vs ds cs fs) (lists_in vs cs fs)
   rows_listed k = record {
     cycles = λ a c. (
@@ -111,7 +119,7 @@ module _ (vs : Slab StoredVertex) (ds : Slab StoredDart) (cs : Slab StoredCycle)
     bare_once = λ a. own_once vertex_placing vs fs k.bare vertex_id (λ x. x.0) (λ n. refl) a.0;
   }
 
-  module _ (mv : Option MovedView) (od : List RankKey) (vr cr : ℕ) (h : RecordsView) (is : records_view vs ds cs fs mv od vr cr ≡ h) where
+  module _ (mv : Option MovedView) (od : List RankKey) (vr cr : ℕ) (mp : Bool) (h : RecordsView) (is : records_view vs ds cs fs mv od vr cr mp ≡ h) where
     lists_are : lists_in vs cs fs ≡ lists_of h
     lists_are = sym (lists_seen vs cs fs ds mv cr) ∙ ap lists_of is
 
@@ -127,6 +135,9 @@ module _ (vs : Slab StoredVertex) (ds : Slab StoredDart) (cs : Slab StoredCycle)
 
       pub bare_face_there : (v : VertexId) → HasBareFace h.faces.tables v → HasFace h.faces.tables (bare_face_in h.faces.tables v)
       bare_face_there = subst (λ (v : RecordsView). (w : VertexId) → HasBareFace v.faces.tables w → HasFace v.faces.tables (bare_face_in v.faces.tables w)) is (λ w i. key_faced vertex_placing vs fs k.bare w.0 _ (place_of_bare w i))
+
+    pub isolated_there : (v : VertexId) → HasBareFace h.faces.tables v → HasVertex h.graph v
+    isolated_there = subst (λ (w : RecordsView). (v : VertexId) → HasBareFace w.faces.tables v → HasVertex w.graph v) is bare_vertex
 
     pub cycles_within : IsRoom cr cs → (a : FaceId) → length ((lists_of h).cycles a) ≤ h.faces.capacity_of_cycles
     cycles_within i a = subst (λ (l : Lists). length (l.cycles a) ≤ h.faces.capacity_of_cycles) lists_are (subst (λ (v : RecordsView). length ((lists_in vs cs fs).cycles a) ≤ v.faces.capacity_of_cycles) is (named_short cycle_placing cs fs cycle_id cr a.0 i))

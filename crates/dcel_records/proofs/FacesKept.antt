@@ -1,5 +1,5 @@
 -- What writers of vertices and darts leave of cycles and faces.
-use Rattle.std.proofs.Common.{◌≡◌, inl, inr, ℕ, ◌-◌, List, map, Option, Some, None, is_some, option_map, refl, sym, ap, ◌∙◌}
+use Rattle.std.proofs.Common.{Bool, ◌≡◌, inl, inr, ℕ, ◌-◌, List, map, Option, Some, None, is_some, option_map, refl, sym, ap, ◌∙◌}
 use Rattle.std.proofs.lemmas.Bool.{cases_eq}
 use Rattle.slab.specs.Slab.{Slab, get, entries, slab_len, with_value, Updates}
 use Rattle.slab.proofs.SlabLemmas.{Updates-with_value}
@@ -65,7 +65,7 @@ column_more ds s t d m r q x y u w g e = column_written t d x y g e ∙ tabled_p
 pub column_less : (ds s t : Slab StoredDart) (d m : ℕ) (twin : DartId) → Updates ds s d None → Updates s t m None → m ≡ twin.0 → column t ≡ del twin.0 (del d (column ds))
 column_less ds s t d m twin u w e = tabled_del (λ z. z.cycle) s t m w ∙ ap (del m) (tabled_del (λ z. z.cycle) ds s d u) ∙ ap (λ n. del n (del d (column ds))) e
 
-module _ (vs : Slab StoredVertex) (ds : Slab StoredDart) (cs : Slab StoredCycle) (fs : Slab StoredFace) (mv : Option MovedView) (od : List RankKey) (vr cr : ℕ) (h : RecordsView) (is : records_view vs ds cs fs mv od vr cr ≡ h) (k : AreSoundFaces vs cs fs)
+module _ (vs : Slab StoredVertex) (ds : Slab StoredDart) (cs : Slab StoredCycle) (fs : Slab StoredFace) (mv : Option MovedView) (od : List RankKey) (vr cr : ℕ) (mp : Bool) (h : RecordsView) (is : records_view vs ds cs fs mv od vr cr mp ≡ h) (k : AreSoundFaces vs cs fs)
     (ws : Slab StoredVertex) (same : (n : ℕ) → nodes vertex_placing ws n ≡ nodes vertex_placing vs n) where
   pub faces_sound : AreSoundFaces ws cs fs
   faces_sound = record { cycles = k.cycles; bare = chained_same vertex_placing vs fs k.bare ws fs (λ i n. same n i) (λ a. refl) (λ n a e s. s); unbounded = k.unbounded }

@@ -1,5 +1,5 @@
 -- Faces after one more, and after one fewer.
-use Rattle.std.proofs.Common.{◌≡◌, ◌≢◌, inl, inr, ℕ, List, [], ◌∷◌, map, Option, Some, None, is_some, IsSome, option_map, refl, sym, ap, subst, ◌∙◌, Contains}
+use Rattle.std.proofs.Common.{Bool, ◌≡◌, ◌≢◌, inl, inr, ℕ, List, [], ◌∷◌, map, Option, Some, None, is_some, IsSome, option_map, refl, sym, ap, subst, ◌∙◌, Contains}
 use Rattle.std.proofs.lemmas.Bool.{cases_eq, false≢true}
 use Rattle.slab.specs.Slab.{Slab, get, Updates}
 use Rattle.slab_laws.specs.declared.names.FaceId.{FaceId}
@@ -45,9 +45,9 @@ module _ {R : Type 0} (g : Placing R) (rs : Slab R) (fs gs : Slab StoredFace) (k
   own_still : (j : ℕ) → own g rs gs j ≡ own g rs fs j
   own_still = own_same g rs fs kept rs gs refl firsts
 
-module _ (vs : Slab StoredVertex) (ds : Slab StoredDart) (cs : Slab StoredCycle) (fs : Slab StoredFace) (mv : Option MovedView) (od : List RankKey) (vr cr : ℕ) (h : RecordsView) (is : records_view vs ds cs fs mv od vr cr ≡ h) (k : AreSoundFaces vs cs fs) where
+module _ (vs : Slab StoredVertex) (ds : Slab StoredDart) (cs : Slab StoredCycle) (fs : Slab StoredFace) (mv : Option MovedView) (od : List RankKey) (vr cr : ℕ) (mp : Bool) (h : RecordsView) (is : records_view vs ds cs fs mv od vr cr mp ≡ h) (k : AreSoundFaces vs cs fs) where
   pub face_new : (a : FaceId) → get fs a.0 ≡ None → ¬ HasFace h.faces.tables a
-  face_new a e s = false≢true (sym (ap is_some e) ∙ face_key vs ds cs fs mv od vr cr h is a s)
+  face_new a e s = false≢true (sym (ap is_some e) ∙ face_key vs ds cs fs mv od vr cr mp h is a s)
 
   -- ---- a face more
   module _ (gs : Slab StoredFace) (a : ℕ) (r : StoredFace) (vacant : get fs a ≡ None) (u : Updates fs gs a (Some r)) (no_cycle : r.first_cycle ≡ None) (no_bare : r.first_bare ≡ None) where
@@ -62,7 +62,7 @@ module _ (vs : Slab StoredVertex) (ds : Slab StoredDart) (cs : Slab StoredCycle)
     }
 
     pub face_more_tables : tables_in vs ds cs gs ≡ with_face (face_id a) h.faces.tables
-    face_more_tables = tables_after vs ds cs fs mv od vr cr h is vs ds cs gs (with_face (face_id a)) (λ i. record { cycle_of = tabled (λ r. r.cycle) ds; bare = somes (tabled bare_of vs); cycles = tabled cycle_record cs; faces = names_put fs gs a r u i })
+    face_more_tables = tables_after vs ds cs fs mv od vr cr mp h is vs ds cs gs (with_face (face_id a)) (λ i. record { cycle_of = tabled (λ r. r.cycle) ds; bare = somes (tabled bare_of vs); cycles = tabled cycle_record cs; faces = names_put fs gs a r u i })
 
     pub face_more_lists : lists_in vs cs gs ≡ lists_in vs cs fs
     face_more_lists = λ i. record {
@@ -90,7 +90,7 @@ module _ (vs : Slab StoredVertex) (ds : Slab StoredDart) (cs : Slab StoredCycle)
     }
 
     pub face_less_tables : tables_in vs ds cs gs ≡ without_face a h.faces.tables
-    face_less_tables = tables_after vs ds cs fs mv od vr cr h is vs ds cs gs (without_face a) (λ i. record { cycle_of = tabled (λ r. r.cycle) ds; bare = somes (tabled bare_of vs); cycles = tabled cycle_record cs; faces = names_del fs gs a.0 u i })
+    face_less_tables = tables_after vs ds cs fs mv od vr cr mp h is vs ds cs gs (without_face a) (λ i. record { cycle_of = tabled (λ r. r.cycle) ds; bare = somes (tabled bare_of vs); cycles = tabled cycle_record cs; faces = names_del fs gs a.0 u i })
 
     pub face_less_lists : lists_in vs cs gs ≡ lists_in vs cs fs
     face_less_lists = λ i. record {

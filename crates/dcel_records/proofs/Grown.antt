@@ -1,5 +1,5 @@
 -- Slabs that have grown keep all that they hold.
-use Rattle.std.proofs.Common.{◌≡◌, ℕ, ◌+◌, ◌≤◌, count_by, max, List, Option, is_some, refl, sym, ap, subst, ◌∙◌, arith}
+use Rattle.std.proofs.Common.{Bool, ◌≡◌, ℕ, ◌+◌, ◌≤◌, count_by, max, List, Option, is_some, refl, sym, ap, subst, ◌∙◌, arith}
 use Rattle.slab.specs.Slab.{Slab, slab_len, HasRoomFor}
 use Rattle.slab_laws.specs.FaceLists.{MovedView}
 use Rattle.slab_laws.specs.View.{VertexRecord}
@@ -35,9 +35,9 @@ abbrev roomy : {X : Type 0} → Slab X → ℕ → Slab X
 roomy s n = record s { capacity = n }
 
 module _ (vs : Slab StoredVertex) (ds : Slab StoredDart) (cs : Slab StoredCycle) (fs : Slab StoredFace) where
-  lists_roomy : (mv nv : Option MovedView) (od oe : List RankKey) (vr cr wr er a b c d : ℕ) → lists_of (records_view (roomy vs a) (roomy ds b) (roomy cs c) (roomy fs d) nv oe wr er) ≡ lists_of (records_view vs ds cs fs mv od vr cr)
+  lists_roomy : (mv nv : Option MovedView) (od oe : List RankKey) (vr cr wr er a b c d : ℕ) (mp : Bool) → lists_of (records_view (roomy vs a) (roomy ds b) (roomy cs c) (roomy fs d) nv oe wr er mp) ≡ lists_of (records_view vs ds cs fs mv od vr cr mp)
   unfolding own tabled
-  lists_roomy mv nv od oe vr cr wr er a b c d = refl
+  lists_roomy mv nv od oe vr cr wr er a b c d mp = refl
 
   tables_roomy : (a b c d : ℕ) → tables_in (roomy vs a) (roomy ds b) (roomy cs c) (roomy fs d) ≡ tables_in vs ds cs fs
   unfolding tabled
@@ -61,12 +61,12 @@ module _ (vs ws : Slab StoredVertex) (ds es : Slab StoredDart) (cs os : Slab Sto
     keys = l;
   }
 
-  module _ (mv : Option MovedView) (od : List RankKey) (vr cr : ℕ) (h : RecordsView) (is : records_view vs ds cs fs mv od vr cr ≡ h) where
+  module _ (mv : Option MovedView) (od : List RankKey) (vr cr : ℕ) (mp : Bool) (h : RecordsView) (is : records_view vs ds cs fs mv od vr cr mp ≡ h) where
     pub graph_grown : graph_in ws es ≡ h.graph
     graph_grown = graph_slots vs ds ws es (ap (λ s. s.slots) a.rest) (ap (λ s. s.slots) b.rest) ∙ ap (λ v. v.graph) is
 
     pub tables_grown : tables_in ws es os gs ≡ h.faces.tables
     tables_grown = (λ i. tables_in (a.rest i) (b.rest i) (c.rest i) (d.rest i)) ∙ tables_roomy vs ds cs fs ws.capacity es.capacity os.capacity gs.capacity ∙ ap tables_of is
 
-    pub lists_grown : (nv : Option MovedView) (oe : List RankKey) (wr er : ℕ) → lists_of (records_view ws es os gs nv oe wr er) ≡ lists_of h
-    lists_grown nv oe wr er = (λ i. lists_of (records_view (a.rest i) (b.rest i) (c.rest i) (d.rest i) nv oe wr er)) ∙ lists_roomy vs ds cs fs mv nv od oe vr cr wr er ws.capacity es.capacity os.capacity gs.capacity ∙ ap lists_of is
+    pub lists_grown : (nv : Option MovedView) (oe : List RankKey) (wr er : ℕ) → lists_of (records_view ws es os gs nv oe wr er mp) ≡ lists_of h
+    lists_grown nv oe wr er = (λ i. lists_of (records_view (a.rest i) (b.rest i) (c.rest i) (d.rest i) nv oe wr er mp)) ∙ lists_roomy vs ds cs fs mv nv od oe vr cr wr er ws.capacity es.capacity os.capacity gs.capacity mp ∙ ap lists_of is

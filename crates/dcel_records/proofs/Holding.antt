@@ -1,5 +1,5 @@
 -- From the two slabs to what a caller sees of them.
-use Rattle.std.proofs.Common.{◌≡◌, ℕ, ◌-◌, Option, Some, None, is_some, IsSome, option_map, refl, sym, ap, subst, ◌∙◌, List}
+use Rattle.std.proofs.Common.{Bool, ◌≡◌, ℕ, ◌-◌, Option, Some, None, is_some, IsSome, option_map, refl, sym, ap, subst, ◌∙◌, List}
 use Rattle.std.proofs.lemmas.Bool.{false≢true}
 use Rattle.slab.specs.Slab.{Slab, get, slab_len}
 use Rattle.slab_laws.specs.FaceLists.{MovedView}
@@ -124,5 +124,5 @@ module _ (vs : Slab StoredVertex) (ds : Slab StoredDart) (h : GraphView) (is : g
   dart_names = subst (λ (rs : List (ℕ × DartRecord)). NamesAscend (names rs)) darts_are (ascend-tabled dart_of ds)
 
 -- the graph of the records, from all their slabs
-pub graph_seen : (vs : Slab StoredVertex) (ds : Slab StoredDart) (cs : Slab StoredCycle) (fs : Slab StoredFace) (mv : Option MovedView) (od : List RankKey) (vr cr : ℕ) (h : RecordsView) → records_view vs ds cs fs mv od vr cr ≡ h → graph_view vs ds ≡ graph_of_slabs vs ds h
-graph_seen vs ds cs fs mv od vr cr h is = λ i. record { graph = (is i).graph; spare_vertices = vs.capacity - slab_len vs; spare_darts = ds.capacity - slab_len ds; capacity_of_vertices = vs.capacity; capacity_of_darts = ds.capacity }
+pub graph_seen : (vs : Slab StoredVertex) (ds : Slab StoredDart) (cs : Slab StoredCycle) (fs : Slab StoredFace) (mv : Option MovedView) (od : List RankKey) (vr cr : ℕ) (mp : Bool) (h : RecordsView) → records_view vs ds cs fs mv od vr cr mp ≡ h → graph_view vs ds ≡ graph_of_slabs vs ds h
+graph_seen vs ds cs fs mv od vr cr mp h is = λ i. record { graph = (is i).graph; spare_vertices = vs.capacity - slab_len vs; spare_darts = ds.capacity - slab_len ds; capacity_of_vertices = vs.capacity; capacity_of_darts = ds.capacity }

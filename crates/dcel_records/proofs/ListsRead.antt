@@ -37,7 +37,7 @@ module _ {X : Type 0} (f : ℕ → X) where
       by true e = first_mapped xs
       by false e = e
 
-module _ (vs : Slab StoredVertex) (ds : Slab StoredDart) (cs : Slab StoredCycle) (fs : Slab StoredFace) (mv : Option MovedView) (od : List RankKey) (vr cr : ℕ) (h : RecordsView) (is : records_view vs ds cs fs mv od vr cr ≡ h) (k : AreSoundFaces vs cs fs) where
+module _ (vs : Slab StoredVertex) (ds : Slab StoredDart) (cs : Slab StoredCycle) (fs : Slab StoredFace) (mv : Option MovedView) (od : List RankKey) (vr cr : ℕ) (mp : Bool) (h : RecordsView) (is : records_view vs ds cs fs mv od vr cr mp ≡ h) (k : AreSoundFaces vs cs fs) where
   lists_are : lists_of h ≡ record { cycles = λ a. map cycle_id (own cycle_placing cs fs a.0); bare = λ a. map vertex_id (own vertex_placing vs fs a.0); dart_on = λ c. dart_kept (get cs c.0) }
   lists_are = ap lists_of (sym is) ∙ lists_seen vs cs fs ds mv cr
 
@@ -72,10 +72,10 @@ module _ (vs : Slab StoredVertex) (ds : Slab StoredDart) (cs : Slab StoredCycle)
   dart_read c r e = ap dart_kept (sym e) ∙ ap (λ (l : Lists). l.dart_on c) (sym lists_are)
 
   pub bare_key : (v : VertexId) → HasBareFace h.faces.tables v → ContainsKey vs v.0
-  bare_key v s = node_row vertex_placing vs v.0 (bare_node vs ds cs fs mv od vr cr h is k v s)
+  bare_key v s = node_row vertex_placing vs v.0 (bare_node vs ds cs fs mv od vr cr mp h is k v s)
 
   pub bare_place : (v : VertexId) (r : StoredVertex) → HasBareFace h.faces.tables v → get vs v.0 ≡ Some r → IsSome r.place
-  bare_place v r s e = row_has_place vertex_placing vs v.0 r e (bare_node vs ds cs fs mv od vr cr h is k v s)
+  bare_place v r s e = row_has_place vertex_placing vs v.0 r e (bare_node vs ds cs fs mv od vr cr mp h is k v s)
 
   module _ (v : VertexId) (r : StoredVertex) (p : Place) (e : get vs v.0 ≡ Some r) (q : r.place ≡ Some p) where
     bare_node_read : nodes vertex_placing vs v.0 ≡ Some (place_node p)

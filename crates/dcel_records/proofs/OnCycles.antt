@@ -1,5 +1,5 @@
 -- The cycle of each dart has a row: what keeps it, and what it tells a caller.
-use Rattle.std.proofs.Common.{◌≡◌, ◌≢◌, inl, inr, ℕ, [], slice_index_or, List, Option, Some, None, is_some, option_map, sym, ap, subst, ◌∙◌}
+use Rattle.std.proofs.Common.{Bool, ◌≡◌, ◌≢◌, inl, inr, ℕ, [], slice_index_or, List, Option, Some, None, is_some, option_map, sym, ap, subst, ◌∙◌}
 use Rattle.std.proofs.lemmas.Bool.{cases_eq}
 use Rattle.plane_graphs.proofs.Lists.{some_mapped}
 use Rattle.slab.specs.Slab.{Slab, get, with_value, ContainsKey, Updates}
@@ -67,7 +67,7 @@ pub on_none : (ds : Slab StoredDart) (cs : Slab StoredCycle) → ds.slots ≡ []
 on_none ds cs a n r e = let z : None ≡ Some r = ap (λ s. slice_index_or s n None) (sym a) ∙ e in absurd (cc)
 
 -- ---- what a caller sees
-module _ (vs : Slab StoredVertex) (ds : Slab StoredDart) (cs : Slab StoredCycle) (fs : Slab StoredFace) (mv : Option MovedView) (od : List RankKey) (vr cr : ℕ) (h : RecordsView) (is : records_view vs ds cs fs mv od vr cr ≡ h) where
+module _ (vs : Slab StoredVertex) (ds : Slab StoredDart) (cs : Slab StoredCycle) (fs : Slab StoredFace) (mv : Option MovedView) (od : List RankKey) (vr cr : ℕ) (mp : Bool) (h : RecordsView) (is : records_view vs ds cs fs mv od vr cr mp ≡ h) where
   cycle_has : (c : CycleId) → ContainsKey cs c.0 → HasCycle h.faces.tables c
   cycle_has c k = subst (λ (t : Faces). HasCycle t c) (ap tables_of is) (ap is_some (row-tabled cycle_record cs c.0) ∙ some_mapped cycle_record (get cs c.0) ∙ k)
 
@@ -76,7 +76,7 @@ module _ (vs : Slab StoredVertex) (ds : Slab StoredDart) (cs : Slab StoredCycle)
 
   -- no dart is on a cycle, if no row is
   pub none_on : (c : CycleId) → ((d : DartId) → HasDart h.graph d → cycle_in h.faces.tables d ≢ c) → (n : ℕ) (r : StoredDart) → get ds n ≡ Some r → r.cycle.0 ≢ c.0
-  none_on c off n r e q = off (record { 0 = n }) has (sym (ap cycle_or (cycle_read vs ds cs fs mv od vr cr h is (record { 0 = n }) (Some r) e)) ∙ (λ i. record { 0 = q i }))
+  none_on c off n r e q = off (record { 0 = n }) has (sym (ap cycle_or (cycle_read vs ds cs fs mv od vr cr mp h is (record { 0 = n }) (Some r) e)) ∙ (λ i. record { 0 = q i }))
     where
       has : HasDart h.graph (record { 0 = n })
       has = sym (ap (λ v. is_some (row_at v.graph.darts n)) is) ∙ ap is_some (row-tabled dart_of ds n) ∙ ap (λ o. is_some (option_map dart_of o)) e

@@ -78,11 +78,11 @@ nodes_left g ds es c o none u = λ i n. at n i
     ]
 
 -- ---- from slabs to what a caller sees
-module _ (vs : Slab StoredVertex) (ds : Slab StoredDart) (cs : Slab StoredCycle) (fs : Slab StoredFace) (mv : Option MovedView) (od : List RankKey) (vr cr : ℕ) (h : RecordsView) (is : records_view vs ds cs fs mv od vr cr ≡ h) where
+module _ (vs : Slab StoredVertex) (ds : Slab StoredDart) (cs : Slab StoredCycle) (fs : Slab StoredFace) (mv : Option MovedView) (od : List RankKey) (vr cr : ℕ) (mp : Bool) (h : RecordsView) (is : records_view vs ds cs fs mv od vr cr mp ≡ h) where
   pub tables_after : (ws : Slab StoredVertex) (bs : Slab StoredDart) (es : Slab StoredCycle) (gs : Slab StoredFace) (T : Faces → Faces) → tables_in ws bs es gs ≡ T (tables_in vs ds cs fs) → tables_in ws bs es gs ≡ T h.faces.tables
   tables_after ws bs es gs T e = e ∙ ap T (ap tables_of is)
 
-  pub lists_after : (ws : Slab StoredVertex) (bs : Slab StoredDart) (es : Slab StoredCycle) (gs : Slab StoredFace) (mv' : Option MovedView) (od' : List RankKey) (vr' cr' : ℕ) (L : Lists → Lists) → lists_in ws es gs ≡ L (lists_in vs cs fs) → lists_of (records_view ws bs es gs mv' od' vr' cr') ≡ L (lists_of h)
+  pub lists_after : (ws : Slab StoredVertex) (bs : Slab StoredDart) (es : Slab StoredCycle) (gs : Slab StoredFace) (mv' : Option MovedView) (od' : List RankKey) (vr' cr' : ℕ) (L : Lists → Lists) → lists_in ws es gs ≡ L (lists_in vs cs fs) → lists_of (records_view ws bs es gs mv' od' vr' cr' mp) ≡ L (lists_of h)
   lists_after ws bs es gs mv' od' vr' cr' L e = lists_seen ws es gs bs mv' cr' ∙ e ∙ ap L (sym (lists_seen vs cs fs ds mv cr) ∙ ap lists_of is)
 
   pub face_key : (a : FaceId) → HasFace h.faces.tables a → ContainsKey fs a.0

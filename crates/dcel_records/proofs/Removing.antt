@@ -1,5 +1,5 @@
 -- What is there for the writers that take a dart away or move it.
-use Rattle.std.proofs.Common.{◌≡◌, ◌≢◌, ℕ, ◌+◌, ◌≤◌, arith, length, List, Option, Some, None, is_some, IsSome, inl, inr, refl, sym, ap, subst, ◌∙◌}
+use Rattle.std.proofs.Common.{Bool, ◌≡◌, ◌≢◌, ℕ, ◌+◌, ◌≤◌, arith, length, List, Option, Some, None, is_some, IsSome, inl, inr, refl, sym, ap, subst, ◌∙◌}
 use Rattle.std.proofs.lemmas.Bool.{cases_eq}
 use Rattle.slab.specs.Slab.{Slab, get, slab_len, with_value, Updates}
 use Rattle.slab.proofs.SlabLemmas.{Updates-with_value}
@@ -63,8 +63,8 @@ pub len_out_twice : (s : Slab StoredVertex) (u v : ℕ) (a b : Option DartId) (x
 len_out_twice s u v a b x y f g = len_written (with_value s u (row_out a x)) v y (row_out b y) g ∙ len_written s u x (row_out a x) f
 
 -- two darts away, and two vertices written
-module _ (vs : Slab StoredVertex) (ds : Slab StoredDart) (cs : Slab StoredCycle) (fs : Slab StoredFace) (mv : Option MovedView) (od : List RankKey) (vr cr : ℕ) (h : RecordsView) (is : records_view vs ds cs fs mv od vr cr ≡ h) where
-  pub less_spare : (s t : Slab StoredDart) (u v : ℕ) (a b : Option DartId) (x y : StoredVertex) → get vs u ≡ Some x → get (with_value vs u (row_out a x)) v ≡ Some y → slab_len s + 1 ≡ slab_len ds → slab_len s + 1 ≤ s.capacity → s.capacity ≡ ds.capacity → slab_len t + 1 ≡ slab_len s → t.capacity ≡ s.capacity → IsSpare h (records_view (with_value (with_value vs u (row_out a x)) v (row_out b y)) t cs fs mv od vr cr) 0 2
+module _ (vs : Slab StoredVertex) (ds : Slab StoredDart) (cs : Slab StoredCycle) (fs : Slab StoredFace) (mv : Option MovedView) (od : List RankKey) (vr cr : ℕ) (mp : Bool) (h : RecordsView) (is : records_view vs ds cs fs mv od vr cr mp ≡ h) where
+  pub less_spare : (s t : Slab StoredDart) (u v : ℕ) (a b : Option DartId) (x y : StoredVertex) → get vs u ≡ Some x → get (with_value vs u (row_out a x)) v ≡ Some y → slab_len s + 1 ≡ slab_len ds → slab_len s + 1 ≤ s.capacity → s.capacity ≡ ds.capacity → slab_len t + 1 ≡ slab_len s → t.capacity ≡ s.capacity → IsSpare h (records_view (with_value (with_value vs u (row_out a x)) v (row_out b y)) t cs fs mv od vr cr mp) 0 2
   less_spare s t u v a b x y f g l room sm m tm =
       let e = len_out_twice vs u v a b x y f g in
       let z = ap (λ k. k.spare_vertices) is in

@@ -1,5 +1,5 @@
 -- What stays where faces have other ranks.
-use Rattle.std.proofs.Common.{◌≡◌, ℕ, ◌-◌, List, map, Option, is_some, option_map, refl, ap, ◌∙◌}
+use Rattle.std.proofs.Common.{Bool, ◌≡◌, ℕ, ◌-◌, List, map, Option, is_some, option_map, refl, ap, ◌∙◌}
 use Rattle.slab.specs.Slab.{Slab, get, entries, slab_len}
 use Rattle.slab_laws.specs.FaceLists.{MovedView}
 use Rattle.slab_laws.specs.Tables.{names}
@@ -28,7 +28,7 @@ module _ (fs gs : Slab StoredFace) (r : IsReranked fs gs) where
   still : (a : ℕ) → is_some (get gs a) ≡ is_some (get fs a)
   still a = some_same unranked (get gs a) (get fs a) (r.rests a)
 
-  module _ (vs : Slab StoredVertex) (ds : Slab StoredDart) (cs : Slab StoredCycle) (mv : Option MovedView) (od : List RankKey) (vr cr : ℕ) (h : RecordsView) (is : records_view vs ds cs fs mv od vr cr ≡ h) (k : AreSoundFaces vs cs fs) where
+  module _ (vs : Slab StoredVertex) (ds : Slab StoredDart) (cs : Slab StoredCycle) (mv : Option MovedView) (od : List RankKey) (vr cr : ℕ) (mp : Bool) (h : RecordsView) (is : records_view vs ds cs fs mv od vr cr mp ≡ h) (k : AreSoundFaces vs cs fs) where
     pub reranked_sound : AreSoundFaces vs cs gs
     reranked_sound = record {
       cycles = chained_same cycle_placing cs fs k.cycles cs gs refl (λ a. ap first_or (cycle_heads a)) (λ n a e s. ap is_some (cycle_heads a) ∙ s);

@@ -1,5 +1,5 @@
 -- The records of nothing but the unbounded face, and slabs that keep all that they hold.
-use Rattle.std.proofs.Common.{◌≡◌, inl, inr, ℕ, [], ◌∷◌, map, slice_index_or, List, Option, Some, None, is_some, option_map, refl, sym, ap, subst, ◌∙◌, arith}
+use Rattle.std.proofs.Common.{◌≡◌, true, inl, inr, ℕ, [], ◌∷◌, map, slice_index_or, List, Option, Some, None, is_some, option_map, refl, sym, ap, subst, ◌∙◌, arith}
 use Rattle.std.proofs.lemmas.Bool.{cases_eq}
 use Rattle.slab.specs.Slab.{Slab, get, entries, Updates}
 use Rattle.slab_laws.specs.FaceLists.{MovedView}
@@ -55,7 +55,7 @@ module _ (vs : Slab StoredVertex) (ds : Slab StoredDart) (cs : Slab StoredCycle)
       faces : names (entries gs) ≡ 0 ∷ []
       faces = names_put fs gs k r put ∙ ap (put_name k) (no_names fs e) ∙ ap (λ n. put_name n []) z ∙ first_name
 
-  pub lone_lists : (mv : Option MovedView) (od : List RankKey) (vr cr : ℕ) → lists_of (records_view vs ds cs gs mv od vr cr) ≡ nothing_listed
+  pub lone_lists : (mv : Option MovedView) (od : List RankKey) (vr cr : ℕ) → lists_of (records_view vs ds cs gs mv od vr cr true) ≡ nothing_listed
   lone_lists mv od vr cr = lists_seen vs cs gs ds mv cr ∙ (λ i. record { cycles = λ x. map cycle_id (own_first cycle_placing cs gs x.0 (firsts (λ y. y.first_cycle) no_cycle x.0) i); bare = λ x. map vertex_id (own_first vertex_placing vs gs x.0 (firsts (λ y. y.first_bare) no_bare x.0) i); dart_on = λ c. dart_kept (vacant_by cs d c.0 i) })
 
 -- lists of what moves, just made

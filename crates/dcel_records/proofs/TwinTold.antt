@@ -1,5 +1,5 @@
 -- A dart that is told other whole parts of the point that it reaches: a caller sees what was there.
-use Rattle.std.proofs.Common.{◌≡◌, inl, inr, ℕ, ◌-◌, List, Option, Some, None, option_map, refl, sym, ap, subst, ◌∙◌}
+use Rattle.std.proofs.Common.{Bool, ◌≡◌, inl, inr, ℕ, ◌-◌, List, Option, Some, None, option_map, refl, sym, ap, subst, ◌∙◌}
 use Rattle.std.proofs.lemmas.Bool.{cases_eq}
 use Rattle.exact_plane.specs.declared.whole_parts.WholeParts.{WholeParts}
 use Rattle.slab.specs.Slab.{Slab, get, entries, slab_len, ContainsKey, Updates}
@@ -46,8 +46,8 @@ module _ (vs : Slab StoredVertex) (ds es : Slab StoredDart) (t : ℕ) (p : Whole
   pub cycles_told : (cs : Slab StoredCycle) → AreOnCycles ds cs → AreOnCycles es cs
   cycles_told cs = each_mapped (λ r. ContainsKey cs r.cycle.0) (reaching p) (λ r k. k) ds es t u
 
-  pub view_told : (cs : Slab StoredCycle) (fs : Slab StoredFace) (mv : Option MovedView) (od : List RankKey) (vr cr : ℕ) → slab_len es ≡ slab_len ds → es.capacity ≡ ds.capacity → records_view vs es cs fs mv od vr cr ≡ records_view vs ds cs fs mv od vr cr
-  view_told cs fs mv od vr cr len capacity =
+  pub view_told : (cs : Slab StoredCycle) (fs : Slab StoredFace) (mv : Option MovedView) (od : List RankKey) (vr cr : ℕ) (mp : Bool) → slab_len es ≡ slab_len ds → es.capacity ≡ ds.capacity → records_view vs es cs fs mv od vr cr mp ≡ records_view vs ds cs fs mv od vr cr mp
+  view_told cs fs mv od vr cr mp len capacity =
       let e = column_told (λ r. r.cycle) (λ r. refl) in
       λ i. record {
         graph = graph_told i;
@@ -66,4 +66,5 @@ module _ (vs : Slab StoredVertex) (ds es : Slab StoredDart) (t : ℕ) (p : Whole
           moved = option_map moved_room mv;
         };
         ranks = ranks_view fs od;
+        mapped = mp;
       }

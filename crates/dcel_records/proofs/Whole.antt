@@ -1,5 +1,5 @@
 -- Slabs that keep all that they hold, and slabs that hold nothing.
-use Rattle.std.proofs.Common.{◌≡◌, ℕ, ◌+◌, ◌-◌, ◌≤◌, [], length, count_by, List, Option, None, is_some, slice_index_or, sym, ap, subst, ◌∙◌, arith}
+use Rattle.std.proofs.Common.{Bool, ◌≡◌, ℕ, ◌+◌, ◌-◌, ◌≤◌, [], length, count_by, List, Option, None, is_some, slice_index_or, sym, ap, subst, ◌∙◌, arith}
 use Rattle.slab.specs.Slab.{Slab, slab_len}
 use Rattle.slab_laws.specs.FaceLists.{MovedView}
 use Rattle.slab_laws.specs.View.{VertexRecord}
@@ -54,7 +54,7 @@ module _ (vs : Slab StoredVertex) (ds : Slab StoredDart) where
 spare_all : {X : Type 0} (s t : Slab X) (room spare many : ℕ) → room - slab_len s ≡ spare → many ≡ slab_len s → slab_len s ≤ room → t.slots ≡ [] → spare + many ≤ room - slab_len t
 spare_all s t room spare many e m l z = let n : slab_len t ≡ 0 = ap (λ os. count_by is_some os) z in omega arith
 
-module _ (vs : Slab StoredVertex) (ds : Slab StoredDart) (cs : Slab StoredCycle) (fs : Slab StoredFace) (mv : Option MovedView) (od : List RankKey) (vr cr : ℕ) (h : RecordsView) (is : records_view vs ds cs fs mv od vr cr ≡ h) where
+module _ (vs : Slab StoredVertex) (ds : Slab StoredDart) (cs : Slab StoredCycle) (fs : Slab StoredFace) (mv : Option MovedView) (od : List RankKey) (vr cr : ℕ) (mp : Bool) (h : RecordsView) (is : records_view vs ds cs fs mv od vr cr mp ≡ h) where
   pub vertices_spare : (t : Slab StoredVertex) → slab_len vs ≤ vr → t.slots ≡ [] → h.spare_vertices + length h.graph.vertices ≤ vr - slab_len t
   vertices_spare t l z = spare_all vs t vr h.spare_vertices (length h.graph.vertices) (ap (λ x. x.spare_vertices) is) (sym (ap (λ x. length x.graph.vertices) is) ∙ length-tabled vertex_of vs) l z
 

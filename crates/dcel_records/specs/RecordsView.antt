@@ -1,5 +1,5 @@
 -- What a caller sees of the records: the graph by name, and how many more rows fit.
-use Rattle.std.specs.Prelude.{◌≡◌, ℕ, ◌+◌, ◌≤◌, List, [], Option, None, Some, option_map, IsSome}
+use Rattle.std.specs.Prelude.{◌≡◌, Bool, ℕ, ◌+◌, ◌≤◌, List, [], Option, None, Some, option_map, IsSome}
 use Rattle.exact_plane.specs.Point.{Point}
 use Rattle.slab_laws.specs.declared.names.CycleId.{CycleId}
 use Rattle.slab_laws.specs.declared.names.DartId.{DartId}
@@ -44,7 +44,7 @@ pub record RanksView : Type 0 where
   pub order : List RankKey
   pub ranks : List (ℕ × ℕ)
 
--- the graph, and beside it the faces, with the ranks that they were given
+-- the graph, and beside it the faces, with the ranks that they were given; and whether the map from points to vertices is whole (this project)
 pub record RecordsView : Type 0 where
   pub graph : View
   pub spare_vertices : ℕ
@@ -53,6 +53,7 @@ pub record RecordsView : Type 0 where
   pub capacity_of_darts : ℕ
   pub faces : FacesView
   pub ranks : RanksView
+  pub mapped : Bool
 
 -- the part of vertices and darts
 abbrev pub graph_part : RecordsView → GraphView

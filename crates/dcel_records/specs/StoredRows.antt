@@ -1,5 +1,5 @@
 -- How two slabs of rows are a graph (this project).
-use Rattle.std.specs.Prelude.{◌≡◌, ◌==◌, ℕ, cond, ◌-◌, ◌≤◌, List, [], ◌∷◌, map, length, Option, Some, None, option_map, IsSome}
+use Rattle.std.specs.Prelude.{◌≡◌, ◌==◌, Bool, ℕ, cond, ◌-◌, ◌≤◌, List, [], ◌∷◌, map, length, Option, Some, None, option_map, IsSome}
 use Rattle.std.specs.List.{filter}
 use Rattle.exact_plane.specs.WholeParts.{whole_parts}
 use Rattle.exact_plane.specs.declared.whole_parts.WholeParts.{WholeParts}
@@ -86,9 +86,9 @@ faces_view vs ds cs fs moved cycle_room = record { tables = tables_in vs ds cs f
 abbrev pub ranks_view : Slab StoredFace → List RankKey → RanksView
 ranks_view fs order = record { order = order; ranks = tabled (λ r. r.rank) fs }
 
--- all that the slabs are; of what the slabs of vertices and cycles have room for, so much is promised
-abbrev pub records_view : Slab StoredVertex → Slab StoredDart → Slab StoredCycle → Slab StoredFace → Option MovedView → List RankKey → ℕ → ℕ → RecordsView
-records_view vs ds cs fs moved order vertex_room cycle_room = record { graph = graph_in vs ds; spare_vertices = vertex_room - slab_len vs; spare_darts = ds.capacity - slab_len ds; capacity_of_vertices = vertex_room; capacity_of_darts = ds.capacity; faces = faces_view vs ds cs fs moved cycle_room; ranks = ranks_view fs order }
+-- all that the slabs are; of what the slabs of vertices and cycles have room for, so much is promised; and whether the map is whole
+abbrev pub records_view : Slab StoredVertex → Slab StoredDart → Slab StoredCycle → Slab StoredFace → Option MovedView → List RankKey → ℕ → ℕ → Bool → RecordsView
+records_view vs ds cs fs moved order vertex_room cycle_room mapped = record { graph = graph_in vs ds; spare_vertices = vertex_room - slab_len vs; spare_darts = ds.capacity - slab_len ds; capacity_of_vertices = vertex_room; capacity_of_darts = ds.capacity; faces = faces_view vs ds cs fs moved cycle_room; ranks = ranks_view fs order; mapped = mapped }
 
 -- the graph of the records, and what the two slabs have room for
 abbrev pub graph_of_slabs : Slab StoredVertex → Slab StoredDart → RecordsView → GraphView

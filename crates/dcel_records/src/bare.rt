@@ -35,7 +35,8 @@ pub(crate) fn leave_face(
 }
 
 impl Records {
-    /// The vertex is isolated in the face, and the first in its list.
+    /// The vertex is isolated in the face, and the first in its list. This writes one field of a row: a writer of the edge
+    /// crates, for a vertex that loses its last dart; a vertex that comes gets its face with its record (`add_vertex`).
     pub fn set_bare(&mut self, v: VertexId, face: FaceId)
         requires vertex { HasVertex self.old.graph v }
         requires elsewhere { ¬ HasBareFace self.old.faces.tables v }

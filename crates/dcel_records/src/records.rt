@@ -1,4 +1,4 @@
-ghost use Rattle.std.specs.Prelude.{◌≡◌, ℕ, ◌*◌, ◌+◌, ◌≤◌, [], length, max, is_some, None, Some, IsOk, IfOk, OnOk, vec_capacity};
+ghost use Rattle.std.specs.Prelude.{◌≡◌, ℕ, ◌*◌, ◌+◌, ◌≤◌, [], length, max, is_some, true, None, Some, IsOk, IfOk, OnOk, vec_capacity};
 ghost use Rattle.slab.specs.Slab.{slab_len, HasRoomFor};
 ghost use Rattle.slab_laws.specs.Sound.{IsNamed, IsTwinned};
 ghost use Rattle.slab_laws.specs.View.{HasVertex, HasDart, source_in};
@@ -48,7 +48,7 @@ impl Model for Records {
     ghost use Rattle.std.specs.Prelude.{vec_capacity};
     ghost use Rattle.dcel_records.specs.StoredRows.{records_view, AreSoundRecords};
 
-    ghost view = { λ r. records_view r.vertices r.darts r.cycles r.faces r.moved r.order.items r.vertex_room r.cycle_room };
+    ghost view = { λ r. records_view r.vertices r.darts r.cycles r.faces r.moved r.order.items r.vertex_room r.cycle_room r.at.whole };
 
     ghost invariant = { λ r. AreSoundRecords r.vertices r.darts r.cycles r.faces r.at r.pins r.isolated r.moved (vec_capacity r.order) r.vertex_room r.cycle_room };
 }
@@ -148,6 +148,7 @@ impl Records {
         ensures tables { IfOk result (λ r. r.faces.tables ≡ lone_face) }
         ensures lists { IfOk result (λ r. lists_of r ≡ nothing_listed) }
         ensures returned { IfOk result (λ r. IsReturned r) }
+        ensures mapped { IfOk result (λ r. r.mapped ≡ true) }
     {
         let mut faces = Table::new(alloc);
         faces.reserve(1)?;
@@ -257,6 +258,7 @@ impl Records {
         ensures capacity { SameRecordCapacity self.old self.new }
         ensures capacity_of_cycles { self.new.faces.capacity_of_cycles ≡ self.old.faces.capacity_of_cycles }
         ensures capacity_of_faces { self.new.faces.capacity_of_faces ≡ self.old.faces.capacity_of_faces }
+        ensures mapped { self.new.mapped ≡ true }
     {
         // What is spare then is all that the slabs can hold, which is no less than what they held; so there is room for a face.
         let _vertices = self.vertices.capacity();

@@ -1,4 +1,4 @@
-ghost use Rattle.std.specs.Prelude.{◌≡◌, ℕ, List, []};
+ghost use Rattle.std.specs.Prelude.{◌≡◌, ℕ, true, List, []};
 ghost use Rattle.slab_laws.specs.View.{VertexRecord};
 ghost use Rattle.slab_laws.specs.declared.names.VertexId as names;
 ghost use Rattle.dcel_records.specs.VertexMaps.{vertex_mapped, IsMapOf, IsOneMore};
@@ -21,7 +21,8 @@ pub(crate) struct VertexMap {
 impl VertexMap {
     /// No vertices.
     pub(crate) fn new(alloc: Global) -> VertexMap
-        ensures { IsMapOf result [] }
+        ensures map { IsMapOf result [] }
+        ensures whole { result.whole ≡ true }
     {
         VertexMap {
             vertices: HashMap::new(alloc),
@@ -68,7 +69,8 @@ impl VertexMap {
 
     /// All vertices go; their room stays.
     pub(crate) fn clear(&mut self)
-        ensures { IsMapOf self.new [] }
+        ensures map { IsMapOf self.new [] }
+        ensures whole { self.new.whole ≡ true }
     {
         self.vertices.clear();
         self.whole = true;

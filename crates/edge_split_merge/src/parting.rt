@@ -50,7 +50,7 @@ pub(crate) fn split_at(records: &mut Records, d: DartId, p: Point) -> SplitNames
     // Both parts are on the cycles on their sides.
     let cycle = records.cycle(d);
     let twin_cycle = records.cycle(t);
-    let v = records.add_vertex(p);
+    let v = records.add_vertex_on_edge(p);
     let (n, m) = records.add_pair_on(v, end, line, cycle);
     let beyond = onward(follower, t, m);
     records.set_next(into_t, m);

@@ -9,18 +9,18 @@ use Rattle.dcel_records.proofs.OnCycles.{on_keys, key_put}
 use Rattle.dcel_records.proofs.records.Records.add_cycle.Goals as goal
 
 pub link_first-requires-clause-chained : goal.link_first-requires-clause-chained
-link_first-requires-clause-chained c = more_others c.self.inside.vertices c.self.inside.darts c.self.inside.cycles c.self.inside.faces c.self.inside.moved c.self.inside.order.items c.self.inside.vertex_room c.self.inside.cycle_room _ c.self.view_is c.self.invariant.faces c.insert_reserved-cycle.result c.args.kind c.args.dart c.args.face _ refl refl refl c.insert_reserved-cycle.new.self c.insert_reserved-cycle.ensures.was_vacant c.insert_reserved-cycle.ensures.updates
+link_first-requires-clause-chained c = more_others c.self.inside.vertices c.self.inside.darts c.self.inside.cycles c.self.inside.faces c.self.inside.moved c.self.inside.order.items c.self.inside.vertex_room c.self.inside.cycle_room c.self.inside.at.whole _ c.self.view_is c.self.invariant.faces c.insert_reserved-cycle.result c.args.kind c.args.dart c.args.face _ refl refl refl c.insert_reserved-cycle.new.self c.insert_reserved-cycle.ensures.was_vacant c.insert_reserved-cycle.ensures.updates
 
 pub link_first-requires-clause-has : goal.link_first-requires-clause-has
 link_first-requires-clause-has c = ap is_some c.insert_reserved-cycle.ensures.updates.changed
 
 pub link_first-requires-clause-face : goal.link_first-requires-clause-face
-link_first-requires-clause-face c = face_key c.self.inside.vertices c.self.inside.darts c.self.inside.cycles c.self.inside.faces c.self.inside.moved c.self.inside.order.items c.self.inside.vertex_room c.self.inside.cycle_room _ c.self.view_is c.args.face c.requires.face
+link_first-requires-clause-face c = face_key c.self.inside.vertices c.self.inside.darts c.self.inside.cycles c.self.inside.faces c.self.inside.moved c.self.inside.order.items c.self.inside.vertex_room c.self.inside.cycle_room c.self.inside.at.whole _ c.self.view_is c.args.face c.requires.face
 
 pub invariant_of-self : goal.invariant_of-self
 invariant_of-self c = record {
   graph = c.self.invariant.graph;
-  faces = more_sound c.self.inside.vertices c.self.inside.darts c.self.inside.cycles c.self.inside.faces c.self.inside.moved c.self.inside.order.items c.self.inside.vertex_room c.self.inside.cycle_room _ c.self.view_is c.self.invariant.faces c.insert_reserved-cycle.result c.args.kind c.args.dart c.args.face _ refl refl refl c.insert_reserved-cycle.new.self c.insert_reserved-cycle.ensures.was_vacant c.insert_reserved-cycle.ensures.updates c.link_first.new.rows c.link_first.new.faces c.link_first.ensures;
+  faces = more_sound c.self.inside.vertices c.self.inside.darts c.self.inside.cycles c.self.inside.faces c.self.inside.moved c.self.inside.order.items c.self.inside.vertex_room c.self.inside.cycle_room c.self.inside.at.whole _ c.self.view_is c.self.invariant.faces c.insert_reserved-cycle.result c.args.kind c.args.dart c.args.face _ refl refl refl c.insert_reserved-cycle.new.self c.insert_reserved-cycle.ensures.was_vacant c.insert_reserved-cycle.ensures.updates c.link_first.new.rows c.link_first.new.faces c.link_first.ensures;
   vertex_room = c.self.invariant.vertex_room;
   cycle_room =
       let z = ap (λ v. v.faces.spare_cycles) c.self.view_is in
@@ -34,13 +34,13 @@ invariant_of-self c = record {
 }
 
 pub returns-clause-name : goal.returns-clause-name
-returns-clause-name c = cycle_new c.self.inside.vertices c.self.inside.darts c.self.inside.cycles c.self.inside.faces c.self.inside.moved c.self.inside.order.items c.self.inside.vertex_room c.self.inside.cycle_room _ c.self.view_is c.self.invariant.faces (cycle_id c.insert_reserved-cycle.result) c.insert_reserved-cycle.ensures.was_vacant
+returns-clause-name c = cycle_new c.self.inside.vertices c.self.inside.darts c.self.inside.cycles c.self.inside.faces c.self.inside.moved c.self.inside.order.items c.self.inside.vertex_room c.self.inside.cycle_room c.self.inside.at.whole _ c.self.view_is c.self.invariant.faces (cycle_id c.insert_reserved-cycle.result) c.insert_reserved-cycle.ensures.was_vacant
 
 pub returns-clause-tables : goal.returns-clause-tables
-returns-clause-tables c = more_tables c.self.inside.vertices c.self.inside.darts c.self.inside.cycles c.self.inside.faces c.self.inside.moved c.self.inside.order.items c.self.inside.vertex_room c.self.inside.cycle_room _ c.self.view_is c.self.invariant.faces c.insert_reserved-cycle.result c.args.kind c.args.dart c.args.face _ refl refl refl c.insert_reserved-cycle.new.self c.insert_reserved-cycle.ensures.was_vacant c.insert_reserved-cycle.ensures.updates c.link_first.new.rows c.link_first.new.faces c.link_first.ensures
+returns-clause-tables c = more_tables c.self.inside.vertices c.self.inside.darts c.self.inside.cycles c.self.inside.faces c.self.inside.moved c.self.inside.order.items c.self.inside.vertex_room c.self.inside.cycle_room c.self.inside.at.whole _ c.self.view_is c.self.invariant.faces c.insert_reserved-cycle.result c.args.kind c.args.dart c.args.face _ refl refl refl c.insert_reserved-cycle.new.self c.insert_reserved-cycle.ensures.was_vacant c.insert_reserved-cycle.ensures.updates c.link_first.new.rows c.link_first.new.faces c.link_first.ensures
 
 pub returns-clause-lists : goal.returns-clause-lists
-returns-clause-lists c = lists_after c.self.inside.vertices c.self.inside.darts c.self.inside.cycles c.self.inside.faces c.self.inside.moved c.self.inside.order.items c.self.inside.vertex_room c.self.inside.cycle_room _ c.self.view_is c.self.inside.vertices c.self.inside.darts c.link_first.new.rows c.link_first.new.faces c.self.inside.moved c.self.inside.order.items c.self.inside.vertex_room c.self.inside.cycle_room (cycle_listed (cycle_id c.insert_reserved-cycle.result) c.args.face c.args.dart) (more_lists c.self.inside.vertices c.self.inside.darts c.self.inside.cycles c.self.inside.faces c.self.inside.moved c.self.inside.order.items c.self.inside.vertex_room c.self.inside.cycle_room _ c.self.view_is c.self.invariant.faces c.insert_reserved-cycle.result c.args.kind c.args.dart c.args.face _ refl refl refl c.insert_reserved-cycle.new.self c.insert_reserved-cycle.ensures.was_vacant c.insert_reserved-cycle.ensures.updates c.link_first.new.rows c.link_first.new.faces c.link_first.ensures)
+returns-clause-lists c = lists_after c.self.inside.vertices c.self.inside.darts c.self.inside.cycles c.self.inside.faces c.self.inside.moved c.self.inside.order.items c.self.inside.vertex_room c.self.inside.cycle_room c.self.inside.at.whole _ c.self.view_is c.self.inside.vertices c.self.inside.darts c.link_first.new.rows c.link_first.new.faces c.self.inside.moved c.self.inside.order.items c.self.inside.vertex_room c.self.inside.cycle_room (cycle_listed (cycle_id c.insert_reserved-cycle.result) c.args.face c.args.dart) (more_lists c.self.inside.vertices c.self.inside.darts c.self.inside.cycles c.self.inside.faces c.self.inside.moved c.self.inside.order.items c.self.inside.vertex_room c.self.inside.cycle_room c.self.inside.at.whole _ c.self.view_is c.self.invariant.faces c.insert_reserved-cycle.result c.args.kind c.args.dart c.args.face _ refl refl refl c.insert_reserved-cycle.new.self c.insert_reserved-cycle.ensures.was_vacant c.insert_reserved-cycle.ensures.updates c.link_first.new.rows c.link_first.new.faces c.link_first.ensures)
 
 pub returns-clause-spare : goal.returns-clause-spare
 returns-clause-spare c =

@@ -1,45 +1,41 @@
-use Rattle.dcel_records.proofs.Rooms.{room_more, room_fits}
-use Rattle.dcel_records.proofs.Holding.{graph_seen}
-use Rattle.dcel_records.specs.Placing.{vertex_placing, node_or}
-use Rattle.dcel_records.proofs.FacesKept.{faces_sound, faces_column, nodes_updated}
-use Rattle.std.proofs.Common.{refl, sym, ap, arith, ◌∙◌}
-use Rattle.slab_laws.specs.View.{vertex_id}
-use Rattle.dcel_records.proofs.Holding.{vertex_vacant}
-use Rattle.dcel_records.proofs.Writing.{vertex_graph, vertex_kept}
-use Rattle.dcel_records.proofs.Pins.{pins_put}
-use Rattle.dcel_records.proofs.VertexMapped.{one_apart}
-use Rattle.dcel_records.proofs.Isolated.{isolated_same}
-use Rattle.dcel_records.proofs.Marked.{marked_more}
+use Rattle.std.proofs.Common.{sym, ap, subst, ◌∙◌}
+use Rattle.slab_laws.specs.View.{View, HasBareFace, HasFace, HasVertex}
+use Rattle.arr_notes.specs.FaceWriters.{bare_in}
+use Rattle.arr_notes.proofs.VertexReads.{vertex_is_added}
+use Rattle.dcel_records.specs.ListChanges.{vertex_listed}
+use Rattle.dcel_records.specs.RecordsView.{FacesView, GraphView, IsSpare, IsSpareFaces, lists_in_view}
 use Rattle.dcel_records.proofs.records.Records.add_vertex.Goals as goal
 
-pub invariant_of-self : goal.invariant_of-self
-invariant_of-self c = record {
-  graph = record {
-    rows = vertex_kept c.self.inside.vertices c.self.inside.darts _ (graph_seen c.self.inside.vertices c.self.inside.darts c.self.inside.cycles c.self.inside.faces c.self.inside.moved c.self.inside.order.items c.self.inside.vertex_room c.self.inside.cycle_room _ c.self.view_is) c.self.invariant.graph.rows _ (vertex_id c.insert_reserved.result) c.args.point c.insert_reserved.ensures.was_vacant c.insert_reserved.ensures.updates;
-    mapped = c.put.ensures _ _ c.self.invariant.graph.mapped (one_apart c.self.inside.vertices c.insert_reserved.new.self c.insert_reserved.result _ c.insert_reserved.ensures.was_vacant c.insert_reserved.ensures.updates.changed c.insert_reserved.ensures.updates.others);
-    counted = pins_put c.self.inside.vertices c.insert_reserved.new.self c.insert_reserved.result c.args.point _ c.insert_reserved.ensures.was_vacant c.insert_reserved.ensures.updates c.self.invariant.graph.counted;
-  };
-  faces = faces_sound c.self.inside.vertices c.self.inside.darts c.self.inside.cycles c.self.inside.faces c.self.inside.moved c.self.inside.order.items c.self.inside.vertex_room c.self.inside.cycle_room c.args.self.now c.self.view_is c.self.invariant.faces c.insert_reserved.new.self (nodes_updated vertex_placing c.self.inside.vertices c.insert_reserved.new.self c.insert_reserved.result _ c.insert_reserved.ensures.updates (sym (ap (node_or vertex_placing) c.insert_reserved.ensures.was_vacant)));
-  vertex_room =
-      let z = ap (λ v. v.spare_vertices) c.self.view_is in
-      let r = c.requires in
-      room_more c.self.inside.vertex_room c.self.inside.vertices c.insert_reserved.new.self c.self.invariant.vertex_room (omega arith) c.insert_reserved.ensures.len c.insert_reserved.ensures.capacity;
-  cycle_room = c.self.invariant.cycle_room;
-  on_cycles = c.self.invariant.on_cycles;
-  marked = marked_more c.self.inside.vertices c.insert_reserved.new.self c.self.inside.darts c.insert_reserved.result _ c.insert_reserved.ensures.was_vacant c.insert_reserved.ensures.updates c.self.invariant.marked;
-  moved = c.self.invariant.moved;
-  isolated = c.self.invariant.isolated ∙ isolated_same c.self.inside.vertices c.insert_reserved.new.self (nodes_updated vertex_placing c.self.inside.vertices c.insert_reserved.new.self c.insert_reserved.result _ c.insert_reserved.ensures.updates (sym (ap (node_or vertex_placing) c.insert_reserved.ensures.was_vacant)));
-  keys = c.self.invariant.keys;
-}
+pub set_bare-requires-clause-vertex : goal.set_bare-requires-clause-vertex
+set_bare-requires-clause-vertex c =
+    let e = c.add_vertex_on_edge-v.ensures in
+    subst (λ (g : View). HasVertex g c.add_vertex_on_edge-v.result) (sym e.graph) (vertex_is_added c.args.self.now.graph c.add_vertex_on_edge-v.result c.args.point).has
 
-pub returns-clause-name : goal.returns-clause-name
-returns-clause-name c = vertex_vacant c.self.inside.vertices c.self.inside.darts _ (graph_seen c.self.inside.vertices c.self.inside.darts c.self.inside.cycles c.self.inside.faces c.self.inside.moved c.self.inside.order.items c.self.inside.vertex_room c.self.inside.cycle_room _ c.self.view_is) (vertex_id c.insert_reserved.result) c.insert_reserved.ensures.was_vacant
+pub set_bare-requires-clause-elsewhere : goal.set_bare-requires-clause-elsewhere
+set_bare-requires-clause-elsewhere c =
+    let e = c.add_vertex_on_edge-v.ensures in
+    subst (λ (f : FacesView). ¬ HasBareFace f.tables c.add_vertex_on_edge-v.result) (sym e.faces) (λ b. e.name (c.face_laws.ensures.isolated c.add_vertex_on_edge-v.result b))
+
+pub set_bare-requires-clause-face : goal.set_bare-requires-clause-face
+set_bare-requires-clause-face c = subst (λ (f : FacesView). HasFace f.tables c.args.face) (sym c.add_vertex_on_edge-v.ensures.faces) c.requires.face
 
 pub returns-clause-graph : goal.returns-clause-graph
-returns-clause-graph c = vertex_graph c.self.inside.vertices c.self.inside.darts _ (graph_seen c.self.inside.vertices c.self.inside.darts c.self.inside.cycles c.self.inside.faces c.self.inside.moved c.self.inside.order.items c.self.inside.vertex_room c.self.inside.cycle_room _ c.self.view_is) _ (vertex_id c.insert_reserved.result) c.args.point c.insert_reserved.ensures.updates
+returns-clause-graph c = ap (λ (h : GraphView). h.graph) c.set_bare.ensures.graph ∙ c.add_vertex_on_edge-v.ensures.graph
 
-pub returns-clause-faces : goal.returns-clause-faces
-returns-clause-faces c = faces_column c.self.inside.vertices c.self.inside.darts c.self.inside.cycles c.self.inside.faces c.self.inside.moved c.self.inside.order.items c.self.inside.vertex_room c.self.inside.cycle_room c.args.self.now c.self.view_is c.self.invariant.faces c.insert_reserved.new.self (nodes_updated vertex_placing c.self.inside.vertices c.insert_reserved.new.self c.insert_reserved.result _ c.insert_reserved.ensures.updates (sym (ap (node_or vertex_placing) c.insert_reserved.ensures.was_vacant))) (λ xs. xs) c.self.inside.darts refl
+pub returns-clause-spare : goal.returns-clause-spare
+returns-clause-spare c =
+    let new = c.set_bare.new.self in
+    let e = c.add_vertex_on_edge-v.ensures.spare in
+    subst (λ (h : GraphView). IsSpare (record new { graph = h.graph; spare_vertices = h.spare_vertices; spare_darts = h.spare_darts; capacity_of_vertices = h.capacity_of_vertices; capacity_of_darts = h.capacity_of_darts }) c.args.self.now 1 0) (sym c.set_bare.ensures.graph) (record { of_vertices = e.of_vertices; of_darts = e.of_darts; capacity_of_vertices = e.capacity_of_vertices; capacity_of_darts = e.capacity_of_darts })
 
-pub insert_reserved-requires : goal.insert_reserved-requires
-insert_reserved-requires c = room_fits c.self.inside.vertex_room _ c.self.inside.vertices c.self.invariant.vertex_room (ap (λ v. v.spare_vertices) c.self.view_is) c.requires
+pub returns-clause-tables : goal.returns-clause-tables
+returns-clause-tables c = c.set_bare.ensures.tables ∙ ap (λ (f : FacesView). bare_in c.add_vertex_on_edge-v.result c.args.face f.tables) c.add_vertex_on_edge-v.ensures.faces
+
+pub returns-clause-lists : goal.returns-clause-lists
+returns-clause-lists c = c.set_bare.ensures.lists ∙ ap (λ (f : FacesView). vertex_listed c.add_vertex_on_edge-v.result c.args.face (lists_in_view f)) c.add_vertex_on_edge-v.ensures.faces
+
+pub returns-clause-spare_faces : goal.returns-clause-spare_faces
+returns-clause-spare_faces c = subst (λ (f : FacesView). IsSpareFaces f c.set_bare.new.self.faces 0 0) c.add_vertex_on_edge-v.ensures.faces c.set_bare.ensures.spare
+
+pub returns-clause-moved : goal.returns-clause-moved
+returns-clause-moved c = c.set_bare.ensures.moved ∙ ap (λ (f : FacesView). f.moved) c.add_vertex_on_edge-v.ensures.faces

@@ -14,36 +14,36 @@ use Rattle.dcel_records.proofs.TwinTold.{graphs_told, cycles_told, view_told}
 use Rattle.dcel_records.proofs.records.Records.move_source.Goals as goal
 
 pub index-requires : goal.index-requires
-index-requires c = dart_key c.self.inside.vertices c.self.inside.darts _ (graph_seen c.self.inside.vertices c.self.inside.darts c.self.inside.cycles c.self.inside.faces c.self.inside.moved c.self.inside.order.items c.self.inside.vertex_room c.self.inside.cycle_room _ c.self.view_is) c.args.d c.requires.dart
+index-requires c = dart_key c.self.inside.vertices c.self.inside.darts _ (graph_seen c.self.inside.vertices c.self.inside.darts c.self.inside.cycles c.self.inside.faces c.self.inside.moved c.self.inside.order.items c.self.inside.vertex_room c.self.inside.cycle_room c.self.inside.at.whole _ c.self.view_is) c.args.d c.requires.dart
 
 pub index-requires-2 : goal.index-requires-2
-index-requires-2 c = dart_key c.self.inside.vertices c.self.inside.darts _ (graph_seen c.self.inside.vertices c.self.inside.darts c.self.inside.cycles c.self.inside.faces c.self.inside.moved c.self.inside.order.items c.self.inside.vertex_room c.self.inside.cycle_room _ c.self.view_is) c.args.d c.requires.dart
+index-requires-2 c = dart_key c.self.inside.vertices c.self.inside.darts _ (graph_seen c.self.inside.vertices c.self.inside.darts c.self.inside.cycles c.self.inside.faces c.self.inside.moved c.self.inside.order.items c.self.inside.vertex_room c.self.inside.cycle_room c.self.inside.at.whole _ c.self.view_is) c.args.d c.requires.dart
 
 pub index-requires-3 : goal.index-requires-3
-index-requires-3 c = vertex_key c.self.inside.vertices c.self.inside.darts _ (graph_seen c.self.inside.vertices c.self.inside.darts c.self.inside.cycles c.self.inside.faces c.self.inside.moved c.self.inside.order.items c.self.inside.vertex_room c.self.inside.cycle_room _ c.self.view_is) c.args.w c.requires.vertex
+index-requires-3 c = vertex_key c.self.inside.vertices c.self.inside.darts _ (graph_seen c.self.inside.vertices c.self.inside.darts c.self.inside.cycles c.self.inside.faces c.self.inside.moved c.self.inside.order.items c.self.inside.vertex_room c.self.inside.cycle_room c.self.inside.at.whole _ c.self.view_is) c.args.w c.requires.vertex
 
 pub set_target_parts-requires : goal.set_target_parts-requires
-set_target_parts-requires c = twin_key c.self.inside.vertices c.self.inside.darts _ (graph_seen c.self.inside.vertices c.self.inside.darts c.self.inside.cycles c.self.inside.faces c.self.inside.moved c.self.inside.order.items c.self.inside.vertex_room c.self.inside.cycle_room _ c.self.view_is) c.self.invariant.graph.rows c.args.d _ c.requires.dart c.index-2.ensures
+set_target_parts-requires c = twin_key c.self.inside.vertices c.self.inside.darts _ (graph_seen c.self.inside.vertices c.self.inside.darts c.self.inside.cycles c.self.inside.faces c.self.inside.moved c.self.inside.order.items c.self.inside.vertex_room c.self.inside.cycle_room c.self.inside.at.whole _ c.self.view_is) c.self.invariant.graph.rows c.args.d _ c.requires.dart c.index-2.ensures
 
 pub index_mut-requires : goal.index_mut-requires
-index_mut-requires c = source_key c.self.inside.vertices c.self.inside.darts _ (graph_seen c.self.inside.vertices c.self.inside.darts c.self.inside.cycles c.self.inside.faces c.self.inside.moved c.self.inside.order.items c.self.inside.vertex_room c.self.inside.cycle_room _ c.self.view_is) c.self.invariant.graph.rows c.args.d _ c.requires.dart c.index.ensures
+index_mut-requires c = source_key c.self.inside.vertices c.self.inside.darts _ (graph_seen c.self.inside.vertices c.self.inside.darts c.self.inside.cycles c.self.inside.faces c.self.inside.moved c.self.inside.order.items c.self.inside.vertex_room c.self.inside.cycle_room c.self.inside.at.whole _ c.self.view_is) c.self.invariant.graph.rows c.args.d _ c.requires.dart c.index.ensures
 
 pub invariant_of-self : goal.invariant_of-self
 invariant_of-self c =
     let vs = c.self.inside.vertices in
     let es = c.set_target_parts.new.darts in
-    let is = view_told c.self.inside.vertices c.self.inside.darts c.set_target_parts.new.darts c.index-2.result.now.twin.0 c.whole_parts-parts.result c.set_target_parts.ensures.row c.self.inside.cycles c.self.inside.faces c.self.inside.moved c.self.inside.order.items c.self.inside.vertex_room c.self.inside.cycle_room c.set_target_parts.ensures.len c.set_target_parts.ensures.capacity ∙ c.self.view_is in
-    let seen = graph_seen vs es c.self.inside.cycles c.self.inside.faces c.self.inside.moved c.self.inside.order.items c.self.inside.vertex_room c.self.inside.cycle_room _ is in
+    let is = view_told c.self.inside.vertices c.self.inside.darts c.set_target_parts.new.darts c.index-2.result.now.twin.0 c.whole_parts-parts.result c.set_target_parts.ensures.row c.self.inside.cycles c.self.inside.faces c.self.inside.moved c.self.inside.order.items c.self.inside.vertex_room c.self.inside.cycle_room c.self.inside.at.whole c.set_target_parts.ensures.len c.set_target_parts.ensures.capacity ∙ c.self.view_is in
+    let seen = graph_seen vs es c.self.inside.cycles c.self.inside.faces c.self.inside.moved c.self.inside.order.items c.self.inside.vertex_room c.self.inside.cycle_room c.self.inside.at.whole _ is in
     let told = graphs_told vs c.self.inside.darts es c.index-2.result.now.twin.0 c.whole_parts-parts.result c.set_target_parts.ensures.row _ _ c.self.invariant.graph in
-    let left = source_is vs c.self.inside.darts _ (graph_seen c.self.inside.vertices c.self.inside.darts c.self.inside.cycles c.self.inside.faces c.self.inside.moved c.self.inside.order.items c.self.inside.vertex_room c.self.inside.cycle_room _ c.self.view_is) c.args.d _ c.index.ensures in
+    let left = source_is vs c.self.inside.darts _ (graph_seen c.self.inside.vertices c.self.inside.darts c.self.inside.cycles c.self.inside.faces c.self.inside.moved c.self.inside.order.items c.self.inside.vertex_room c.self.inside.cycle_room c.self.inside.at.whole _ c.self.view_is) c.args.d _ c.index.ensures in
     record {
       graph = pins_kept vs es _ _ seen told _ _ _ (source_graph vs es _ seen c.args.d c.args.w _ _ _ _ _ c.index_mut-dart.ensures.value c.index_mut.ensures.value) refl
           (source_kept vs es _ seen told.rows c.args.d c.args.w _ _ c.args.rest c.requires.out.0 _ _ c.requires.dart c.index_mut-dart.ensures.value c.index_mut.ensures.value left c.requires.rest.0 c.requires.rest.1 c.requires.out.1);
-      faces = faces_sound vs es c.self.inside.cycles c.self.inside.faces c.self.inside.moved c.self.inside.order.items c.self.inside.vertex_room c.self.inside.cycle_room c.args.self.now is c.self.invariant.faces _ (nodes_written vs _ _ _ c.index_mut.ensures.value refl);
+      faces = faces_sound vs es c.self.inside.cycles c.self.inside.faces c.self.inside.moved c.self.inside.order.items c.self.inside.vertex_room c.self.inside.cycle_room c.self.inside.at.whole c.args.self.now is c.self.invariant.faces _ (nodes_written vs _ _ _ c.index_mut.ensures.value refl);
       vertex_room = room_same c.self.inside.vertex_room vs _ c.self.invariant.vertex_room (len_written vs _ _ _ c.index_mut.ensures.value) refl;
       cycle_room = c.self.invariant.cycle_room;
       on_cycles = on_same es c.self.inside.cycles c.args.d.0 c.index_mut-dart.result.now _ c.index_mut-dart.ensures.value refl (cycles_told vs c.self.inside.darts es c.index-2.result.now.twin.0 c.whole_parts-parts.result c.set_target_parts.ensures.row c.self.inside.cycles c.self.invariant.on_cycles);
-      marked = marked_moved vs c.self.inside.darts es _ (graph_seen c.self.inside.vertices c.self.inside.darts c.self.inside.cycles c.self.inside.faces c.self.inside.moved c.self.inside.order.items c.self.inside.vertex_room c.self.inside.cycle_room _ c.self.view_is) c.self.invariant.graph.rows c.args.d _ _ c.index-2.result.now c.index_mut-dart.result.now _ _ _ c.index-2.ensures c.set_target_parts.ensures.row c.index_mut-dart.ensures.value refl refl c.index-3.ensures c.whole_parts-parts.ensures c.index_mut.ensures.value c.self.invariant.marked;
+      marked = marked_moved vs c.self.inside.darts es _ (graph_seen c.self.inside.vertices c.self.inside.darts c.self.inside.cycles c.self.inside.faces c.self.inside.moved c.self.inside.order.items c.self.inside.vertex_room c.self.inside.cycle_room c.self.inside.at.whole _ c.self.view_is) c.self.invariant.graph.rows c.args.d _ _ c.index-2.result.now c.index_mut-dart.result.now _ _ _ c.index-2.ensures c.set_target_parts.ensures.row c.index_mut-dart.ensures.value refl refl c.index-3.ensures c.whole_parts-parts.ensures c.index_mut.ensures.value c.self.invariant.marked;
       moved = c.self.invariant.moved;
       isolated = c.self.invariant.isolated ∙ isolated_same vs _ (nodes_written vs _ _ _ c.index_mut.ensures.value refl);
       keys = c.self.invariant.keys;
@@ -53,13 +53,13 @@ pub returns-clause-graph : goal.returns-clause-graph
 returns-clause-graph c =
     let vs = c.self.inside.vertices in
     let es = c.set_target_parts.new.darts in
-    let is = view_told c.self.inside.vertices c.self.inside.darts c.set_target_parts.new.darts c.index-2.result.now.twin.0 c.whole_parts-parts.result c.set_target_parts.ensures.row c.self.inside.cycles c.self.inside.faces c.self.inside.moved c.self.inside.order.items c.self.inside.vertex_room c.self.inside.cycle_room c.set_target_parts.ensures.len c.set_target_parts.ensures.capacity ∙ c.self.view_is in
-    let seen = graph_seen vs es c.self.inside.cycles c.self.inside.faces c.self.inside.moved c.self.inside.order.items c.self.inside.vertex_room c.self.inside.cycle_room _ is in
+    let is = view_told c.self.inside.vertices c.self.inside.darts c.set_target_parts.new.darts c.index-2.result.now.twin.0 c.whole_parts-parts.result c.set_target_parts.ensures.row c.self.inside.cycles c.self.inside.faces c.self.inside.moved c.self.inside.order.items c.self.inside.vertex_room c.self.inside.cycle_room c.self.inside.at.whole c.set_target_parts.ensures.len c.set_target_parts.ensures.capacity ∙ c.self.view_is in
+    let seen = graph_seen vs es c.self.inside.cycles c.self.inside.faces c.self.inside.moved c.self.inside.order.items c.self.inside.vertex_room c.self.inside.cycle_room c.self.inside.at.whole _ is in
     source_graph vs es _ seen c.args.d c.args.w _ _ _ _ _ c.index_mut-dart.ensures.value c.index_mut.ensures.value
 
 pub returns-clause-faces : goal.returns-clause-faces
 returns-clause-faces c =
     let vs = c.self.inside.vertices in
     let es = c.set_target_parts.new.darts in
-    let is = view_told c.self.inside.vertices c.self.inside.darts c.set_target_parts.new.darts c.index-2.result.now.twin.0 c.whole_parts-parts.result c.set_target_parts.ensures.row c.self.inside.cycles c.self.inside.faces c.self.inside.moved c.self.inside.order.items c.self.inside.vertex_room c.self.inside.cycle_room c.set_target_parts.ensures.len c.set_target_parts.ensures.capacity ∙ c.self.view_is in
-    faces_column vs es c.self.inside.cycles c.self.inside.faces c.self.inside.moved c.self.inside.order.items c.self.inside.vertex_room c.self.inside.cycle_room c.args.self.now is c.self.invariant.faces _ (nodes_written vs _ _ _ c.index_mut.ensures.value refl) (λ xs. xs) _ (column_written es c.args.d.0 _ _ c.index_mut-dart.ensures.value refl)
+    let is = view_told c.self.inside.vertices c.self.inside.darts c.set_target_parts.new.darts c.index-2.result.now.twin.0 c.whole_parts-parts.result c.set_target_parts.ensures.row c.self.inside.cycles c.self.inside.faces c.self.inside.moved c.self.inside.order.items c.self.inside.vertex_room c.self.inside.cycle_room c.self.inside.at.whole c.set_target_parts.ensures.len c.set_target_parts.ensures.capacity ∙ c.self.view_is in
+    faces_column vs es c.self.inside.cycles c.self.inside.faces c.self.inside.moved c.self.inside.order.items c.self.inside.vertex_room c.self.inside.cycle_room c.self.inside.at.whole c.args.self.now is c.self.invariant.faces _ (nodes_written vs _ _ _ c.index_mut.ensures.value refl) (λ xs. xs) _ (column_written es c.args.d.0 _ _ c.index_mut-dart.ensures.value refl)
