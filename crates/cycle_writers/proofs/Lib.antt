@@ -8,6 +8,7 @@ pub mod RunSteps
 pub mod Listed
 pub mod MovedBoth
 pub mod TakenWithin
+pub mod TakenLists
 pub mod Taken
 pub mod Moving
 pub mod MovedRows

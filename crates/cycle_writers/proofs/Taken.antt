@@ -1,6 +1,5 @@
 -- What is taken from a face is what a split or a union of faces asks for.
 use Rattle.std.proofs.Common.{◌≡◌, ◌≢◌, ◌↔◌, ◌<◌, true, refl, sym, ap, ◌∙◌}
-use Rattle.plane_graphs.specs.Ascending.{Member}
 use Rattle.slab_laws.specs.declared.names.CycleId.{CycleId}
 use Rattle.slab_laws.specs.declared.names.DartId.{DartId}
 use Rattle.slab_laws.specs.declared.names.FaceId.{FaceId}
@@ -19,25 +18,10 @@ use Rattle.cycle_writers.specs.declared.moves.Which.{Which}
 use Rattle.cycle_writers.specs.declared.moves.Which.TheVariants.{All}
 use Rattle.cycle_writers.specs.Taken.{takes, cycles_taken, vertices_taken}
 use Rattle.cycle_writers.specs.TakenLaws.{IsSideOf, TakenFits}
-use Rattle.cycle_writers.proofs.Listed.{lists_member, lists_bare, filter_member, but_true}
+use Rattle.cycle_writers.proofs.Listed.{listed_taken, listed_bare}
 use Rattle.cycle_writers.proofs.MovedBoth.{moved_both}
+use Rattle.cycle_writers.proofs.TakenLists.{taken_rest_listed, taken_within_listed}
 use Rattle.cycle_writers.proofs.TakenWithin.{taken_within, within_together}
-
--- ---- what stands in the lists
-pub listed_taken : (v : View) (which : Which) (but : CycleId) (l : Lists) (a : FaceId) (e : CycleId) → (lists_cycle (cycles_taken v which but l a) e.0 ≡ true) ↔ (Member e (l.cycles a) × (e ≢ but) × (takes v which (beside (l.dart_on e)) ≡ true))
-listed_taken v which but l a e =
-    let m = lists_member (cycles_taken v which but l a) e in
-    let t = filter_member _ e (l.cycles a) in
-    let b = but_true e but (takes v which (beside (l.dart_on e))) in (
-      λ h. let r = t.0 (m.0 h) in let s = b.0 r.1 in (r.0, s.0, s.1),
-      λ h. m.1 (t.1 (h.0, b.1 (h.1, h.2))),
-    )
-
-pub listed_bare : (v : View) (which : Which) (l : Lists) (a : FaceId) (u : VertexId) → (lists_vertex (vertices_taken v which l a) u.0 ≡ true) ↔ (Member u (l.bare a) × (takes v which (round u) ≡ true))
-listed_bare v which l a u =
-    let m = lists_bare (vertices_taken v which l a) u in
-    let t = filter_member _ u (l.bare a) in
-    (λ h. t.0 (m.0 h), λ h. m.1 (t.1 h))
 
 -- ---- a split
 module _ (v w : View) (f : Faces) (l : Lists) (x y : DartId) (p q : VertexId) (a b : DartId) (which : Which) (kept : CycleId) (i : IsBetween v w x y p q a b) (h : AreTabled v f) (ls : AreLists v f l) (at_a : cycle_in f a ≡ kept) (at_b : cycle_in f b ≡ kept) (out : is_outer (skeleton_of w) (dart_in w x) ≡ true) (side : IsSideOf w x y which) where
@@ -93,5 +77,7 @@ taken_is_fit = record {
     cycles = λ e E n. let t = listed_taken w All gone l (face_in s gone) e in let m = ls.cycles (face_in s gone) e in (λ z. (m.0 (t.0 z).0).1, λ z. t.1 (m.1 (E, z), n, refl));
     vertices = λ u U. let t = listed_bare w All l (face_in s gone) u in let m = ls.bare (face_in s gone) u in (λ z. (m.0 (t.0 z).0).1, λ z. t.1 (m.1 (U, z), refl));
   };
+  split_lists = λ v w f l x a b d m which kept fresh face h ls t s. taken_within_listed v w f l x a b d m which kept fresh face h ls t s;
+  unite_lists = λ w s l kept gone h ls has outer two. taken_rest_listed w s l kept gone h ls has outer two;
   both = λ cs us a f. moved_both cs us a f;
 }

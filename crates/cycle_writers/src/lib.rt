@@ -28,7 +28,8 @@ pub fn runs_are_steps()
     ensures { RunsAreSteps }
 {}
 
-/// What is taken from a face is what a split or a union of faces asks for. This is a law: the body, being empty, computes
+/// What is taken from a face is what a split or a union of faces asks for, and is listed so: nothing else, each name once. This
+/// is a law: the body, being empty, computes
 /// nothing.
 pub fn taken_fits()
     ensures { TakenFits }

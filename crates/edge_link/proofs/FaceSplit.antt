@@ -1,5 +1,5 @@
 -- A face that is split: the edge is linked on the cycle that both its places are on, a half of that cycle is parted off, and what lies within it is carried off.
-use Rattle.std.proofs.Common.{◌≡◌, ◌≢◌, Bool, Some, refl, sym, ap, subst, ◌∙◌, arith, ◌⊎◌, inl, inr}
+use Rattle.std.proofs.Common.{◌≡◌, ◌≢◌, Bool, List, Some, refl, sym, ap, subst, ◌∙◌, arith, ◌⊎◌, inl, inr}
 use Rattle.exact_plane.specs.Line.{Line}
 use Rattle.plane_graphs.specs.Ascending.{Member}
 use Rattle.slab_laws.specs.declared.names.CycleId.{CycleId}
@@ -8,10 +8,11 @@ use Rattle.slab_laws.specs.declared.names.DartId.{DartId}
 use Rattle.slab_laws.specs.declared.names.FaceId.{FaceId}
 use Rattle.slab_laws.specs.declared.names.VertexId.{VertexId}
 use Rattle.slab_laws.specs.FaceLists.{Lists, MovedView, AreFacesListed, AreDartsOn}
+use Rattle.slab_laws.specs.FacesSound.{IsSound}
 use Rattle.slab_laws.specs.Kinds.{is_outer as bounds_from_outside}
 use Rattle.slab_laws.specs.Sound.{IsGraphSound}
 use Rattle.slab_laws.specs.View.{View, Faces, HasVertex, HasDart, HasCycle, HasFace, face_id, twin_in, cycle_or, cycle_in, kind_in, face_in}
-use Rattle.arr_notes.specs.FaceSteps.{step_faces}
+use Rattle.arr_notes.specs.FaceSteps.{step_faces, splits}
 use Rattle.arr_notes.specs.FaceWriters.{on_cycle, orbit_on, with_cycle, with_face, moved_to}
 use Rattle.arr_notes.specs.FacesTold.{linked_faces}
 use Rattle.arr_notes.specs.Step.{add_edge}
@@ -22,6 +23,7 @@ use Rattle.dcel_records.specs.RecordsView.{RecordsView, IsSpare, IsSpareFaces, g
 use Rattle.dcel_records.specs.SoundMaps.{IsSoundMap, IsCarriedOff}
 use Rattle.face_steps.specs.EdgePairs.{IsEdgeApart}
 use Rattle.face_steps.specs.LinkLaws.{FitsLinked}
+use Rattle.face_steps.specs.MovedLists.{ListsWithin}
 use Rattle.face_steps.specs.RowsWritten.{AreDartRows}
 use Rattle.face_steps.specs.StepPremises.{IsBetween, FitsSplitting}
 use Rattle.face_steps.specs.Tabled.{AreTabled}
@@ -208,14 +210,20 @@ module _ (old linked : RecordsView) (n : LinkNames) (u w : VertexId) (at_u at_w 
         | inr e ↦ ap (cycle_in s) e.1 ∙ ap cycle_or (first_row v G n.d n.m u w l apart f kept)
       ]
 
+      -- where the tables after the split are those of a sound view, listed is just what lies within the half of x
+      abbrev IsListed : List CycleId → List VertexId → Type 0
+      IsListed cs us = IsSound G (step_faces G f (splits n.d n.m kept fresh x fresh_face cs us)) → ListsWithin v G f x kept cs us
+
       -- x comes after a, and y after b
-      halves : (p q : VertexId) (a b : DartId) → IsBetween v G x y p q a b → cycle_in f a ≡ kept → cycle_in f b ≡ kept → FitsSplitting v G f x a b kept fresh fresh_face moved.cycles moved.vertices × AreDartsOn G S L
+      halves : (p q : VertexId) (a b : DartId) → IsBetween v G x y p q a b → cycle_in f a ≡ kept → cycle_in f b ≡ kept → FitsSplitting v G f x a b kept fresh fresh_face moved.cycles moved.vertices × AreDartsOn G S L × IsListed moved.cycles moved.vertices
       halves p q a b i at_a at_b =
           let side = half_told v G f x y p q a b kept i tabled at_a at_b both is_kind which asked in
           let later = fresh_comes_later f fresh_face tabled.complete.faces_ascend t.unbounded new_face in
-          let fits = taken_is_fit.split v G f (lists_of old) x y p q a b which kept fresh fresh_face i tabled (record { listed = t.listed; darts = t.map.darts }) at_a at_b new_cycle new_face later side.0 side.1 in (
+          let fits = taken_is_fit.split v G f (lists_of old) x y p q a b which kept fresh fresh_face i tabled (record { listed = t.listed; darts = t.map.darts }) at_a at_b new_cycle new_face later side.0 side.1 in
+          let listed : IsListed (cycles_taken G which kept (lists_of old) (face_in f kept)) (vertices_taken G which (lists_of old) (face_in f kept)) = taken_is_fit.split_lists v G f (lists_of old) x a b n.d n.m which kept fresh fresh_face tabled t.listed fits in (
             subst (λ cs. FitsSplitting v G f x a b kept fresh fresh_face cs moved.vertices) cycles_moved (subst (FitsSplitting v G f x a b kept fresh fresh_face (cycles_taken G which kept (lists_of old) (face_in f kept))) vertices_moved fits),
             darts_parted v G f x y p q a b kept i tabled at_a at_b n.d n.m fresh fresh_face moved.cycles moved.vertices rows at_y (old_cycle v G n.d n.m u w l apart f kept) (lists_of old) t.map.darts,
+            subst (λ cs. IsListed cs moved.vertices) cycles_moved (subst (IsListed (cycles_taken G which kept (lists_of old) (face_in f kept))) vertices_moved listed),
           )
 
       named : (d m : DartId) (p q : VertexId) (a b : DartId) → x ≡ d → y ≡ m → IsBetween v G d m p q a b → IsBetween v G x y p q a b
@@ -224,10 +232,10 @@ module _ (old linked : RecordsView) (n : LinkNames) (u w : VertexId) (at_u at_w 
       turned : IsBetween v G n.m n.d w u B A
       turned = within_by_either.turned v G n.d n.m u w A B between
 
-      both_halves : FitsLinked v G f n.d n.m u (Some at_u) (Some at_w) told × AreDartsOn G S L
+      both_halves : FitsLinked v G f n.d n.m u (Some at_u) (Some at_w) told × AreDartsOn G S L × IsListed moved.cycles moved.vertices
       both_halves = elim ends [
-        | inl e ↦ let z = halves u w A B (named n.d n.m u w A B e.0 e.1 between) first_on second_on in (inl (e.0, subst (λ k. FitsSplitting v G f k A B kept fresh fresh_face moved.cycles moved.vertices) e.0 z.0), z.1)
-        | inr e ↦ let z = halves w u B A (named n.m n.d w u B A e.0 e.1 turned) second_on first_on in (inr (e.0, subst (λ k. FitsSplitting v G f k B A kept fresh fresh_face moved.cycles moved.vertices) e.0 z.0), z.1)
+        | inl e ↦ let z = halves u w A B (named n.d n.m u w A B e.0 e.1 between) first_on second_on in (inl (e.0, subst (λ k. FitsSplitting v G f k A B kept fresh fresh_face moved.cycles moved.vertices) e.0 z.0), z.1, z.2)
+        | inr e ↦ let z = halves w u B A (named n.m n.d w u B A e.0 e.1 turned) second_on first_on in (inr (e.0, subst (λ k. FitsSplitting v G f k B A kept fresh fresh_face moved.cycles moved.vertices) e.0 z.0), z.1, z.2)
       ]
 
       last_graph : graph_part new ≡ graph_part linked
@@ -270,6 +278,7 @@ module _ (old linked : RecordsView) (n : LinkNames) (u w : VertexId) (at_u at_w 
             graph = made;
             tables = stepped;
             fits = fits;
+            lists = subst (λ g. ListsWithin v g f x kept moved.cycles moved.vertices) back (both_halves.2 (subst (IsSound G) is_S (subst (λ g. IsSound g new.faces.tables) (sym back) sound)));
             map = record { sound = sound; darts = darts };
             spare = same_spare old old linked new n.d n.m u w (Some at_u) (Some at_w) l refl last_graph t.spare;
             spare_cycles = omega (arith, c0, c1, c2);

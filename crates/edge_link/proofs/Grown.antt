@@ -59,6 +59,7 @@ module _ (old cleared new : RecordsView) (names : LinkNames) (u w z : VertexId) 
           graph = made;
           tables = stepped;
           fits = fits;
+          lists = tt;
           map = record { sound = linked_map old.graph new.graph names.d names.m u w at_u at_w l map.sound.graph can nd made sound (tables_of old) (tables_of new) (Grows cycle) map.sound stepped fits; darts = darts };
           spare = same_spare old cleared new new names.d names.m u w at_u at_w l graph (λ _. graph_part new) spare;
           spare_cycles = omega (arith, cycles, a);

@@ -192,6 +192,7 @@ module _ (old linked : RecordsView) (names : LinkNames) (u w : VertexId) (a b : 
             graph = made;
             tables = stepped;
             fits = fits;
+            lists = tt;
             map = record { sound = linked_map old.graph new.graph names.d names.m u w (Some a) (Some b) l map.sound.graph can fresh made more (tables_of old) (tables_of new) (Joins kept gone) map.sound stepped fits; darts = darts };
             spare = same_spare old old linked new names.d names.m u w (Some a) (Some b) l (λ _. graph_part old) last spare;
             spare_cycles = omega (arith, cycles, more_cycles);

@@ -111,6 +111,7 @@ module _ (old one two held linked new : RecordsView) (names : LinkNames) (u w : 
                   graph = made;
                   tables = written;
                   fits = (new_name, is_face);
+                  lists = tt;
                   map = record { sound = linked_map old.graph new.graph names.d names.m u w None None l map.sound.graph can nd made stays (tables_of old) (tables_of new) (NewHole c face) map.sound written (new_name, is_face); darts = darts };
                   spare = same_spare old held linked new names.d names.m u w None None l before graph-5 spare;
                   spare_cycles = omega (arith, c1, c2, c3, cycles-4, c5);

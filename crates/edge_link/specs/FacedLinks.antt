@@ -13,6 +13,7 @@ use Rattle.arr_notes.specs.declared.faces.Linked.TheVariants.{Splits}
 use Rattle.dcel_records.specs.RecordsView.{RecordsView, IsReturned, IsSpare, tables_of}
 use Rattle.dcel_records.specs.SoundMaps.{IsSoundMap, IsCarriedOff}
 use Rattle.face_steps.specs.LinkLaws.{FitsLinked}
+use Rattle.face_steps.specs.MovedLists.{LinkListsMoved}
 use Rattle.edge_link.specs.declared.links.LinkNames.{LinkNames}
 use Rattle.edge_link.specs.Links.{AreNewDarts}
 
@@ -21,12 +22,13 @@ abbrev pub IsCarried : RecordsView → Linked → Type 0
 IsCarried h (Splits kept fresh x face moved) = IsCarriedOff h moved
 IsCarried h told = IsReturned h
 
--- one more edge: its darts are new, the graph and the tables are those after it, which are a sound map again, and what is told of it fits (CGAL manual, `insert_at_vertices`)
+-- one more edge: its darts are new, the graph and the tables are those after it, which are a sound map again, and what is told of it fits and lists just what moves (CGAL manual, `insert_at_vertices`)
 pub record IsLinkMade (old new : RecordsView) (names : LinkNames) (u w : VertexId) (at_u at_w : Option DartId) (l : Line) (told : Linked) : Type 0 where
   pub new_darts : AreNewDarts old.graph names.d names.m
   pub graph : new.graph ≡ add_edge old.graph names.d names.m u w at_u at_w l
   pub tables : tables_of new ≡ step_faces new.graph (tables_of old) (linked_faces names.d names.m u w at_u told)
   pub fits : FitsLinked old.graph new.graph (tables_of old) names.d names.m u at_u at_w told
+  pub lists : LinkListsMoved old.graph new.graph (tables_of old) told
   pub map : IsSoundMap new
   pub spare : IsSpare new old 0 2
   pub spare_cycles : old.faces.spare_cycles ≤ new.faces.spare_cycles + 1

@@ -18,7 +18,7 @@ use Rattle.face_steps.proofs.StepSplits.{in_face, map_face, map_bare}
 use Rattle.cycle_writers.specs.declared.moves.Which.TheVariants.{All}
 use Rattle.cycle_writers.specs.Taken.{cycles_taken, vertices_taken}
 use Rattle.cycle_writers.proofs.MovedBoth.{moved_both}
-use Rattle.cycle_writers.proofs.Taken.{listed_taken, listed_bare}
+use Rattle.cycle_writers.proofs.Listed.{listed_taken, listed_bare}
 
 no_member : {X : Type 0} (xs : List X) → ((x : X) → Member x xs → ⊥) → xs ≡ []
 no_member [] n = refl

@@ -16,6 +16,7 @@ use Rattle.arr_notes.proofs.RowLaws.{row_at-each}
 use Rattle.dcel_records.specs.ListChanges.{dart_listed, cycle_unlisted}
 use Rattle.integers.proofs.Tests.{other_number, same_number}
 use Rattle.face_steps.specs.LinkLaws.{FitsUnlinked}
+use Rattle.face_steps.specs.MovedLists.{ListsRest}
 use Rattle.face_steps.specs.RowsWritten.{AreDartRows, all_on}
 use Rattle.face_steps.specs.StepPremises.{IsBetween, FitsUnite}
 use Rattle.face_steps.specs.Tabled.{AreTabled}
@@ -178,3 +179,10 @@ module _ (v : View) (f : Faces) (d x y : DartId) (gone kept : CycleId) (h : IsSo
       let here : FitsUnite f x y kept gone b (cycles_taken v All gone l b) (vertices_taken v All l b) = subst (λ a. FitsUnite f x y kept gone a (cycles_taken v All gone l a) (vertices_taken v All l a)) (sym at) u in
       by_sides v d x y (λ a c. FitsUnite f a c kept gone b moved.cycles moved.vertices → FitsUnlinked v f d (Unites kept gone b moved)) sides (λ z. inl z) (λ z. inr z)
       (subst (λ (z : List CycleId × List VertexId). FitsUnite f x y kept gone b z.0 z.1) (λ i. (sym cycles i, sym vertices i)) here)
+
+  -- and lists just what moves
+  pub lists_rest : (l : Lists) (b : FaceId) (moved : MovedView) → AreFacesListed f l → kind_in f gone ≡ Outer → b ≡ face_in f gone → moved.cycles ≡ cycles_taken v All gone l b → moved.vertices ≡ vertices_taken v All l b → ListsRest f kept gone b moved.cycles moved.vertices
+  lists_rest l b moved listed outer at cycles vertices =
+      subst (λ (z : List CycleId × List VertexId). ListsRest f kept gone b z.0 z.1) (λ i. (sym cycles i, sym vertices i))
+      (subst (λ a. ListsRest f kept gone a (cycles_taken v All gone l a) (vertices_taken v All l a)) (sym at)
+      (taken_is_fit.unite_lists v f l kept gone h listed cycle_gone outer (λ e. two_faces (sym e))))

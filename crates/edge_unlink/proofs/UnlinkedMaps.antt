@@ -25,6 +25,7 @@ use Rattle.dcel_records.specs.SoundMaps.{IsSoundMap}
 use Rattle.face_changes.proofs.CycleNames.{lead_step}
 use Rattle.face_steps.specs.EdgePairs.{IsEdgeApart}
 use Rattle.face_steps.specs.LinkLaws.{FitsUnlinked}
+use Rattle.face_steps.specs.MovedLists.{UnlinkListsMoved}
 use Rattle.face_steps.specs.Tabled.{AreTabled}
 use Rattle.face_steps.proofs.Choices.{tables_are_sound}
 use Rattle.face_steps.proofs.CyclesApart.{cycle_cases}
@@ -147,8 +148,8 @@ pub record IsRoomLeft (old new : FacesView) : Type 0 where
   pub capacity_of_faces : new.capacity_of_faces ≡ old.capacity_of_faces
 
 -- ---- all of it: mid are the records once the edge is gone, new those once cycles and faces are written too
-pub unlink_made : (old mid new : RecordsView) (d m : DartId) (told : Unlinked) (s : Faces) (l : Lists) → IsSoundMap old → HasDart old.graph d → m ≡ twin_in old.graph d → mid.graph ≡ remove_edge old.graph d m → IsGraphSound mid.graph → IsSpare old mid 0 2 → graph_part new ≡ graph_part mid → tables_of new ≡ s → s ≡ step_faces new.graph (tables_of old) (unlinked_faces old.graph d told) → FitsUnlinked old.graph (tables_of old) d told → lists_of new ≡ l → (new.graph ≡ remove_edge old.graph d m → AreDartsOn new.graph s l) → IsRoomLeft old.faces new.faces → IsCarried new told → IsUnlinkMade old new d m told
-unlink_made old mid new d m told s l map has is_twin gone sound spare part written tables fits lists on room carried =
+pub unlink_made : (old mid new : RecordsView) (d m : DartId) (told : Unlinked) (s : Faces) (l : Lists) → IsSoundMap old → HasDart old.graph d → m ≡ twin_in old.graph d → mid.graph ≡ remove_edge old.graph d m → IsGraphSound mid.graph → IsSpare old mid 0 2 → graph_part new ≡ graph_part mid → tables_of new ≡ s → s ≡ step_faces new.graph (tables_of old) (unlinked_faces old.graph d told) → FitsUnlinked old.graph (tables_of old) d told → lists_of new ≡ l → (new.graph ≡ remove_edge old.graph d m → AreDartsOn new.graph s l) → IsRoomLeft old.faces new.faces → IsCarried new told → UnlinkListsMoved (tables_of old) told → IsUnlinkMade old new d m told
+unlink_made old mid new d m told s l map has is_twin gone sound spare part written tables fits lists on room carried listed =
     let to_mid : new.graph ≡ mid.graph = ap (λ (g : GraphView). g.graph) part in
     let graph : new.graph ≡ remove_edge old.graph d m = to_mid ∙ gone in
     let sound_new : IsGraphSound new.graph = subst IsGraphSound (sym to_mid) sound in
@@ -157,6 +158,7 @@ unlink_made old mid new d m told s l map has is_twin gone sound spare part writt
       graph = graph;
       tables = written ∙ tables;
       fits = fits;
+      lists = listed;
       map = record {
         sound = unlinked_is_sound old.graph new.graph (tables_of old) (tables_of new) d m told map.sound has is_twin graph sound_new (written ∙ tables) fits;
         darts = subst (λ z. AreDartsOn new.graph z (lists_of new)) (sym written) (subst (AreDartsOn new.graph s) (sym lists) (on graph));

@@ -12,18 +12,20 @@ use Rattle.arr_notes.specs.declared.faces.Unlinked.TheVariants.{Unites}
 use Rattle.dcel_records.specs.RecordsView.{RecordsView, IsReturned, IsSpare, tables_of}
 use Rattle.dcel_records.specs.SoundMaps.{IsSoundMap, IsCarriedOff}
 use Rattle.face_steps.specs.LinkLaws.{FitsUnlinked}
+use Rattle.face_steps.specs.MovedLists.{UnlinkListsMoved}
 
 -- where two faces were united, the lists of what moves are on their way, else they are there (this project)
 abbrev pub IsCarried : RecordsView → Unlinked → Type 0
 IsCarried h (Unites kept gone face moved) = IsCarriedOff h moved
 IsCarried h told = IsReturned h
 
--- one edge fewer: the graph and the tables are those after it, which are a sound map again, and what is told of it fits (CGAL manual, `remove_edge`)
+-- one edge fewer: the graph and the tables are those after it, which are a sound map again, and what is told of it fits and lists just what moves (CGAL manual, `remove_edge`)
 pub record IsUnlinkMade (old new : RecordsView) (d m : DartId) (told : Unlinked) : Type 0 where
   pub twin : m ≡ twin_in old.graph d
   pub graph : new.graph ≡ remove_edge old.graph d m
   pub tables : tables_of new ≡ step_faces new.graph (tables_of old) (unlinked_faces old.graph d told)
   pub fits : FitsUnlinked old.graph (tables_of old) d told
+  pub lists : UnlinkListsMoved (tables_of old) told
   pub map : IsSoundMap new
   pub spare : IsSpare old new 0 2
   pub spare_cycles : old.faces.spare_cycles ≤ new.faces.spare_cycles + 1

@@ -117,3 +117,4 @@ returns c =
       capacity_of_faces = faces.capacity_of_faces ∙ ap (λ (z : FacesView). z.capacity_of_faces) c.put_orbit.ensures.faces ∙ sym faces'.capacity_of_faces ∙ ap (λ (z : FacesView). z.capacity_of_faces) closed.faces;
     })
     (subst IsSome (sym (c.set_dart.ensures.moved ∙ ap (λ (z : FacesView). z.moved) c.put_orbit.ensures.faces ∙ c.add_cycle-fresh.ensures.moved ∙ ap (λ (z : FacesView). z.moved) closed.faces)) c.requires.returned)
+    tt

@@ -53,3 +53,4 @@ returns c =
       capacity_of_faces = faces.capacity_of_faces ∙ faces'.capacity_of_faces ∙ ap (λ (z : FacesView). z.capacity_of_faces) closed.faces;
     })
     (subst IsSome (sym (c.set_bare.ensures.moved ∙ c.set_dart.ensures.moved ∙ ap (λ (z : FacesView). z.moved) closed.faces)) c.requires.returned)
+    tt

@@ -83,3 +83,4 @@ returns c =
       capacity_of_faces = faces.capacity_of_faces ∙ faces'.capacity_of_faces ∙ faces''.capacity_of_faces ∙ ap (λ (z : FacesView). z.capacity_of_faces) closed.faces;
     })
     (subst IsSome (sym (c.set_bare-2.ensures.moved ∙ c.set_bare.ensures.moved ∙ c.remove_cycle.ensures.moved ∙ ap (λ (z : FacesView). z.moved) closed.faces)) c.requires.returned)
+    tt

@@ -8,7 +8,7 @@ use Rattle.dcel_records.specs.ListChanges.{cycle_unlisted, dart_listed}
 use Rattle.dcel_records.specs.RecordsView.{lists_of}
 use Rattle.cycle_writers.specs.declared.moves.Which.TheVariants.{All}
 use Rattle.cycle_writers.specs.Taken.{cycles_taken, vertices_taken}
-use Rattle.edge_unlink.proofs.UnitedMaps.{not_unbounded, two_faces, cycle_gone, cycle_kept, none_on, darts_stay, darts_on, fits}
+use Rattle.edge_unlink.proofs.UnitedMaps.{not_unbounded, two_faces, cycle_gone, cycle_kept, none_on, darts_stay, darts_on, fits, lists_rest}
 use Rattle.edge_unlink.proofs.UnlinkedMaps.{unlink_made}
 use Rattle.edge_unlink.proofs.uniting.unite_into.Goals as goal
 
@@ -91,3 +91,5 @@ returns c =
       capacity_of_faces = done.spare.capacity_of_faces ∙ made.spare_faces.capacity_of_faces;
     })
     done.carried
+    (lists_rest v f d x y gone kept c.requires.map.sound c.requires.dart c.requires.sides c.requires.two c.cycle-gone.ensures.cycle c.cycle-kept.ensures.cycle (lists_of old) gone_face moved c.face_laws.ensures.listed (ap (kind_in f) c.cycle-gone.ensures.cycle ∙ c.requires.outer) c.face-gone_face.ensures.face
+    (done.cycles ∙ ap (λ (l : Lists). cycles_taken v All gone l gone_face) lists) (done.vertices ∙ ap (λ (l : Lists). vertices_taken v All l gone_face) lists))
