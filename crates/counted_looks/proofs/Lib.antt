@@ -1,3 +1,4 @@
 pub mod Tallies
 pub mod ListReads
 pub mod PartsSeen
+pub mod VerticesRead

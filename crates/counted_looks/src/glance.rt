@@ -6,10 +6,11 @@ ghost use Rattle.dcel_records.specs.RecordsView.{tables_of, lists_of};
 ghost use Rattle.dcel_records.specs.SoundMaps.{IsSoundMap};
 ghost use Rattle.dcel_records.specs.Spots.{IsVertexAt};
 ghost use Rattle.dcel_records.specs.declared.spot.Spot.TheVariants.{Edge};
-ghost use Rattle.counted_looks.specs.Looks.{IsLookable, IsLookOf};
+ghost use Rattle.counted_looks.specs.Looks.{IsLookable, IsLookOf, vertex_looks};
 
 use crate::glimpse::Glimpse;
 use crate::name_calls::NameCalls;
+use crate::vertices::look_at_vertices;
 use dcel_records::{Records, Spot};
 use exact_plane::{Line, Point};
 use slab_laws::{CycleId, DartId, Darts, FaceId, FaceLists, Faced, VertexId};
@@ -62,12 +63,18 @@ impl<'a> Glance<'a> {
         self.records.face_laws();
     }
 
-    /// The vertex at a point. The records' own map from point to vertex is asked, once, and no part of a boundary is looked at, so no
-    /// step is counted; where that map isn't whole, all vertices are gone through, as `Records::vertex_at` says. It takes no memory.
-    pub fn vertex_at(&self, point: &Point) -> Option<VertexId>
-        ensures { IsVertexAt self.now.graph point.now result }
+    /// The vertex at a point. Where the records' map from points to vertices is whole, it is asked, which is one step; where it isn't,
+    /// each vertex is looked at once, which is one step each (`Records::is_mapped`). It takes no memory.
+    #[inline]
+    pub fn vertex_at<L: Ledger>(&self, point: &Point, steps: &mut Steps<L>) -> Option<VertexId>
+        ensures vertex { IsVertexAt self.now.graph point.now result }
+        ensures looks { steps.new ≡ steps.old + vertex_looks self.now }
     {
-        self.records.vertex_at(point)
+        if self.records.is_mapped() {
+            steps.tick();
+            return self.records.vertex_at(point);
+        }
+        look_at_vertices(self.records, point, steps)
     }
 
     /// One look at a dart, which is one step; it tells what `look` does, each part where it is asked for.

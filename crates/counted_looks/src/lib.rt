@@ -9,6 +9,7 @@ mod glimpse;
 mod looker;
 mod name_calls;
 mod naming;
+mod vertices;
 
 pub use boundary::{look_at_boundary, look_at_cycles};
 pub use boundary_part::BoundaryPart;

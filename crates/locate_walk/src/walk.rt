@@ -4,10 +4,10 @@ ghost use Rattle.dcel_records.specs.RecordsView.{tables_of};
 ghost use Rattle.dcel_records.specs.SoundMaps.{IsSoundMap};
 ghost use Rattle.dcel_records.specs.Spots.{IsVertexAt};
 ghost use Rattle.face_location.specs.Spots.{IsSpotOf};
-ghost use Rattle.counted_looks.specs.Boundaries.{boundary_size};
-ghost use Rattle.walk_laws.specs.Walks.{face_above, size_ahead};
+ghost use Rattle.counted_looks.specs.Looks.{vertex_looks};
+ghost use Rattle.walk_laws.specs.Walks.{face_above};
 ghost use Rattle.locate_walk.specs.Looks.{IsBelowOrNone, dart_of};
-ghost use Rattle.locate_walk.specs.Rounds.{looks_below};
+ghost use Rattle.locate_walk.specs.Rounds.{looks_ahead, looks_below};
 
 use crate::found::EdgeBelow;
 use crate::round::{Round, look_round};
@@ -45,7 +45,7 @@ pub fn climb_free<L: Ledger>(
     requires first { IsBelowOrNone glance.now.graph point.now first }
     ensures spot { IsSpotOf glance.now.graph (tables_of glance.now) point.now result.0 }
     ensures last { IsBelowOrNone glance.now.graph point.now result.1 }
-    ensures looks { steps.new ≤ steps.old + size_ahead (boundary_size glance.now.graph (tables_of glance.now)) glance.now.graph (tables_of glance.now) point.now (dart_of first) }
+    ensures looks { steps.new ≤ steps.old + looks_ahead glance.now point.now first }
 {
     point.laws();
     let mut last = first;
@@ -68,10 +68,10 @@ pub fn climb_free<L: Ledger>(
 /// Where a point lies, by a walk up to it from the face over an edge that it sees below it, or from the unbounded face; and the edge
 /// that was passed last, from which a walk to a point above goes on.
 ///
-/// The records tell the vertex at the point (`Glance::vertex_at`). Where there is none, it looks in each face once at the darts on the
-/// boundary, by the face's own list, for the edge that has the point inside, or else for the highest edge that the point sees below
-/// it; from there it goes on into the face over that edge, until this is the one that it is in. No isolated vertex is looked at. It
-/// takes no memory.
+/// The records tell the vertex at the point, in one step where they map points to vertices (`Glance::vertex_at`). Where there is none, it
+/// looks in each face once at the darts on the boundary, by the face's own list, for the edge that has the point inside, or else for the
+/// highest edge that the point sees below it; from there it goes on into the face over that edge, until this is the one that it is in.
+/// No isolated vertex is looked at. It takes no memory.
 pub fn climb<L: Ledger>(
     glance: &Glance,
     first: Option<EdgeBelow>,
@@ -82,9 +82,9 @@ pub fn climb<L: Ledger>(
     requires first { IsBelowOrNone glance.now.graph point.now first }
     ensures spot { IsSpotOf glance.now.graph (tables_of glance.now) point.now result.0 }
     ensures last { IsBelowOrNone glance.now.graph point.now result.1 }
-    ensures looks { steps.new ≤ steps.old + size_ahead (boundary_size glance.now.graph (tables_of glance.now)) glance.now.graph (tables_of glance.now) point.now (dart_of first) }
+    ensures looks { steps.new ≤ steps.old + (vertex_looks glance.now + looks_ahead glance.now point.now first) }
 {
-    if let Some(vertex) = glance.vertex_at(point) {
+    if let Some(vertex) = glance.vertex_at(point, steps) {
         return (Spot::Vertex(vertex), first);
     }
     climb_free(glance, first, point, steps)
@@ -93,12 +93,13 @@ pub fn climb<L: Ledger>(
 /// Where a point lies: the vertex at it, else the edge that has it inside, else the face that it lies in (CGAL manual,
 /// `Arr_walk_along_line_point_location`).
 ///
-/// Where no vertex is at the point, it walks from the unbounded face up to it. So it looks at each dart once at most, and only at those
-/// on the boundaries of faces that the vertical below the point, leant by less than any number, passes. It takes no memory.
+/// It asks for the vertex at the point (`climb`). Where there is none, it walks from the unbounded face up to the point. So it looks at
+/// each dart once at most, and only at those on the boundaries of faces that the vertical below the point, leant by less than any number,
+/// passes. It takes no memory.
 pub fn locate<L: Ledger>(glance: &Glance, point: &Point, steps: &mut Steps<L>) -> Spot
     requires { IsSoundMap glance.now }
     ensures spot { IsSpotOf glance.now.graph (tables_of glance.now) point.now result }
-    ensures looks { steps.new ≤ steps.old + looks_below glance.now.graph (tables_of glance.now) point.now }
+    ensures looks { steps.new ≤ steps.old + (vertex_looks glance.now + looks_below glance.now.graph (tables_of glance.now) point.now) }
 {
     climb(glance, None, point, steps).0
 }
