@@ -1,5 +1,5 @@
 //! Looks at the records.
-ghost use Rattle.std.specs.Prelude.{◌≡◌, ◌≤◌, ◌+◌};
+ghost use Rattle.std.specs.Prelude.{◌≡◌, ◌+◌};
 ghost use Rattle.exact_plane.specs.Meet.{IsMeeting};
 ghost use Rattle.exact_plane.specs.Point.{Point as Coordinates};
 ghost use Rattle.exact_plane.specs.Sign.{sign_of};
@@ -96,7 +96,7 @@ fn lies_on(whole: &Span, point: &Point) -> bool
 fn count_round<L: Ledger>(records: &Records, vertex: VertexId, steps: &mut Steps<L>)
     requires sound { IsGraphSound records.now.graph }
     requires vertex { HasVertex records.now.graph vertex }
-    ensures { steps.new ≤ steps.old + degree records.now.graph vertex }
+    ensures { steps.new ≡ steps.old + degree records.now.graph vertex }
 {
     let Some(first) = records.out_of(vertex) else {
         return;

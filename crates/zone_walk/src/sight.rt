@@ -1,4 +1,4 @@
-ghost use Rattle.std.specs.Prelude.{◌≡◌, ◌≤◌, ◌+◌};
+ghost use Rattle.std.specs.Prelude.{◌≡◌, ◌+◌};
 ghost use Rattle.exact_plane.specs.Direction.{direction_of};
 ghost use Rattle.exact_plane.specs.Segment.{line_of_segment};
 ghost use Rattle.rotation_order.specs.Place.{IsPlaceOf};
@@ -61,5 +61,5 @@ pub trait Sight: NameCalls {
         requires sound { IsGraphSound (Self.graph self.now) }
         requires vertex { HasVertex (Self.graph self.now) vertex }
         ensures place { IsPlaceOf (Self.graph self.now) vertex (direction_of (line_of_segment segment.now)) result }
-        ensures count { steps.new ≤ steps.old + degree (Self.graph self.now) vertex };
+        ensures count { steps.new ≡ steps.old + degree (Self.graph self.now) vertex };
 }

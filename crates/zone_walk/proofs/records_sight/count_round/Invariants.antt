@@ -1,4 +1,4 @@
-use Rattle.std.proofs.Common.{◌≤◌, ◌+◌}
+use Rattle.std.proofs.Common.{◌≡◌, ◌+◌}
 use Rattle.slab_laws.specs.View.{IsOutOf, source_in}
 use Rattle.rotation_order.proofs.Circuits.{left}
 use Rattle.zone_walk.specs.Sights.{degree}
@@ -9,7 +9,7 @@ invariant-ring g l =
     let v = l.records.graph in
     record {
       out : IsOutOf v (source_in v l.first) l.dart;
-      count : l.steps + left v l.first l.dart ≤ l.fn.steps + degree v (source_in v l.first);
+      count : l.steps + left v l.first l.dart ≡ l.fn.steps + degree v (source_in v l.first);
     }
 
 abbrev pub decreases-ring : goal.decreases-ring
