@@ -10,6 +10,9 @@ use Rattle.exact_plane.specs.declared.bounds.TheConstants.{MAX_COORDINATE}
 use Rattle.exact_plane.specs.declared.point.PointError.TheVariants.{ZeroWeight, Range}
 use Rattle.exact_plane.specs.Point.{Point, in_range, reduced, IsInRange}
 use Rattle.exact_plane.specs.PointOf.{point_of}
+use Rattle.exact_plane.specs.Segment.{Segment, segment, are_coordinates}
+use Rattle.exact_plane.specs.SegmentOf.{segment_of}
+use Rattle.exact_plane.specs.declared.segment.SegmentError.TheVariants.{Range as RangeError}
 use Rattle.exact_plane.proofs.Lowest.{in_range-is}
 
 -- a weight times an ordinate of the plane
@@ -36,3 +39,20 @@ pub point_ok : (x y w : ℤ) → IsInRange x y w → IsOk (point_of x y w)
 point_ok x y w r =
     let some : int_eq w (pos 0) ≡ false = false_from_ne_true _ (λ h. let e = eq_out w (pos 0) h in let k = r.positive in absurd (omega (arith, ints))) in
     given (int_eq w (pos 0)) (in_range x y w) (reduced x y w) some (in_range-is x y w r)
+
+-- what the point is
+made : (a b : Bool) (r p : Point) → (if a then Err ZeroWeight else (if b then Ok r else Err Range)) ≡ Ok p → p ≡ r
+made true b r p e = cc
+made false true r p e = cc
+made false false r p e = cc
+
+pub point_made : (x y w : ℤ) (p : Point) → point_of x y w ≡ Ok p → p ≡ reduced x y w
+point_made x y w p e = made (int_eq w (pos 0)) (in_range x y w) (reduced x y w) p e
+
+-- ---- the line of a row
+whole : (a : Bool) (r p : Segment) → (if a then Ok r else Err RangeError) ≡ Ok p → p ≡ r
+whole true r p e = cc
+whole false r p e = cc
+
+pub level_made : (y : ℤ) (p : Segment) → segment_of (pos 0) y (pos 1) y ≡ Ok p → p ≡ segment (pos 0) y (pos 1) y
+level_made y p e = whole (are_coordinates (pos 0) y (pos 1) y) (segment (pos 0) y (pos 1) y) p e

@@ -8,3 +8,6 @@ pub mod Filled
 pub mod Rounded
 pub mod Columns
 pub mod Corners
+pub mod Crossed
+pub mod Along
+pub mod Downward

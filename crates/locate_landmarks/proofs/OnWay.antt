@@ -1,6 +1,6 @@
 -- From face to face on the way: what is left of it gets less.
 use Rattle.std.specs.Option.{option_map}
-use Rattle.std.proofs.Common.{◌≡◌, ◌<◌, refl, sym, ap, ◌∙◌, inl, inr, subst}
+use Rattle.std.proofs.Common.{◌≡◌, ◌<◌, Bool, true, refl, sym, ap, ◌∙◌, inl, inr, subst}
 use Rattle.std.specs.Prelude.{Option, Some, None}
 use Rattle.exact_plane.specs.Point.{Point}
 use Rattle.slab_laws.specs.declared.names.DartId.{DartId}
@@ -40,9 +40,9 @@ module _ (v : View) (f : Faces) (a b : FaceId) where
     entry = subst (IsEntry v q) (sym (t ∙ ap (option_map (twin_in v)) i)) (entered q s p k);
   }
 
-  pub under_less : (q : Point) (o p : Option EdgeAbove) (d r : Option DartId) → d ≡ dart_above p → b ≡ face_beside v f a d → (b ≡ a → ⊥) → IsUnder v f q a o r → IsLowered v q o p → floor_in v q p < floor_in v q o
-  under_less q o p d r i e other k (inl same) = absurd (other (e ∙ ap (face_beside v f a) (i ∙ ap dart_above same) ∙ k.under))
-  under_less q o p d r i e other k (inr l) = l
+  pub under_lowered : (q : Point) (y : Bool) (o p : Option EdgeAbove) (d r : Option DartId) → d ≡ dart_above p → b ≡ face_beside v f a d → (b ≡ a → ⊥) → IsUnder v f q a o r → IsLowered v q y o p → (y ≡ true) × (floor_in v q p < floor_in v q o)
+  under_lowered q y o p d r i e other k (inl same) = absurd (other (e ∙ ap (face_beside v f a) (i ∙ ap dart_above same) ∙ k.under))
+  under_lowered q y o p d r i e other k (inr l) = l
 
 -- ---- where the walk begins
 pub face_has : (v : View) (f : Faces) (p : Point) (a : FaceId) → IsSound v f → IsSpotOf v f p (Face a) → HasFace f a

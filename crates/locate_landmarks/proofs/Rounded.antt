@@ -40,6 +40,7 @@ begun k map proper best hit lowest entry =
       lowest = lowest;
       lowered = inl refl;
       entry = entry;
+      downward = refl;
     }
 
 -- the point is in the face that is the one over the highest edge

@@ -1,4 +1,6 @@
 pub mod Grid
+pub mod Courses
+pub mod Crossings
 pub mod Looks
 pub mod Floors
 pub mod Lowest
@@ -6,4 +8,5 @@ pub mod Surveys
 pub mod Rounds
 pub mod Walks
 pub mod Horizontals
+pub mod Ways
 pub mod Built

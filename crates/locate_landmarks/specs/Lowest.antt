@@ -1,5 +1,5 @@
 -- The lowest edge above a point so far.
-use Rattle.std.specs.Prelude.{◌≡◌, ◌⊎◌, ◌<◌, ⊤, ℕ, cond, Option, Some, None, IfSome}
+use Rattle.std.specs.Prelude.{◌≡◌, ◌⊎◌, ◌<◌, ⊤, ℕ, Bool, true, cond, Option, Some, None, IfSome}
 use Rattle.exact_plane.specs.Point.{Point}
 use Rattle.plane_graphs.specs.Graph.{Edge}
 use Rattle.slab_laws.specs.declared.names.DartId.{DartId}
@@ -34,6 +34,6 @@ edge_above v (Some a) = Some (edge_in v a.dart)
 abbrev pub floor_in : View → Point → Option EdgeAbove → ℕ
 floor_in v q o = floor (skeleton_of v) q (edge_above v o)
 
--- the second is the first, or is lower (this project)
-abbrev pub IsLowered : View → Point → Option EdgeAbove → Option EdgeAbove → Type 0
-IsLowered v q o p = (p ≡ o) ⊎ (floor_in v q p < floor_in v q o)
+-- the second is the first, or, on the way down, is lower (this project)
+abbrev pub IsLowered : View → Point → Bool → Option EdgeAbove → Option EdgeAbove → Type 0
+IsLowered v q b o p = (p ≡ o) ⊎ ((b ≡ true) × (floor_in v q p < floor_in v q o))

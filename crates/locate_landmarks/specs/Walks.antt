@@ -1,5 +1,5 @@
 -- The walk from the face of a landmark to a point.
-use Rattle.std.specs.Prelude.{◌≡◌, ◌==◌, Bool, false, Option, Some, None}
+use Rattle.std.specs.Prelude.{◌≡◌, ◌==◌, Bool, false, cond, Option, Some, None}
 use Rattle.exact_plane.specs.Point.{Point}
 use Rattle.slab_laws.specs.declared.names.DartId.{DartId}
 use Rattle.slab_laws.specs.declared.names.FaceId.{FaceId}
@@ -15,6 +15,10 @@ dart_above (Some a) = Some a.dart
 abbrev pub face_beside : View → Faces → FaceId → Option DartId → FaceId
 face_beside v f a None = a
 face_beside v f a (Some d) = face_in f (cycle_in f (twin_in v d))
+
+-- a dart, or its twin
+abbrev pub dart_towards : View → DartId → Bool → DartId
+dart_towards v d b = cond b d (twin_in v d)
 
 -- whether it is that dart
 abbrev pub is_dart : Option DartId → DartId → Bool

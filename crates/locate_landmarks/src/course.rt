@@ -1,6 +1,7 @@
 //! The way of a query from its landmark: along the horizontal to its own abscissa, then along the vertical.
 ghost use Rattle.std.specs.Prelude.{◌≡◌, ◌<◌, ◌≤◌, ◌*ℤ◌, unsigned_abs};
 ghost use Rattle.exact_plane.specs.declared.bounds.TheConstants.{MAX_COORDINATE, WEIGHT_LIMIT};
+ghost use Rattle.locate_landmarks.specs.Courses.{corner_of, course_to, is_above_level};
 
 use crate::grid::{grid_number, landmark_at, level_of_row, row_of};
 use exact_plane::{Line, Point};
@@ -18,6 +19,7 @@ fn numerator(number: i64, w: i128) -> i128
 // The point of a row's horizontal at the abscissa of another point.
 fn corner_of(point: &Point, row: usize) -> Point
     requires { row < 7 }
+    ensures { result ≡ corner_of point.now row }
 {
     point.laws();
     let w = point.w();
@@ -46,7 +48,7 @@ impl Course {
     /// The way from a landmark, by its place in the list of them all.
     pub fn to(point: &Point, index: usize) -> Course
         requires { index < 49 }
-        ensures { result.point ≡ point.now }
+        ensures { result ≡ course_to point.now index }
     {
         let landmark = landmark_at(index);
         let row = row_of(index);
@@ -64,7 +66,9 @@ impl Course {
 
     /// Whether a point is above the horizontal, which is raised by less than any number.
     #[inline(always)]
-    pub fn is_above(&self, point: &Point) -> bool {
+    pub fn is_above(&self, point: &Point) -> bool
+        ensures { result ≡ is_above_level self.now point.now }
+    {
         point.compare_y(&self.landmark).is_gt()
     }
 }

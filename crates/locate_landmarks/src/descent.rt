@@ -40,8 +40,9 @@ impl Descent {
         requires past { IsFoundAtDart glance.now.graph (tables_of glance.now) point.now dart Past }
         requires lowest { IsAbove glance.now.graph point.now self.old.lowest }
         ensures lowest { IsAbove glance.now.graph point.now self.new.lowest }
-        ensures lowered { IsLowered glance.now.graph point.now self.old.lowest self.new.lowest }
+        ensures lowered { IsLowered glance.now.graph point.now self.old.downward self.old.lowest self.new.lowest }
         ensures entry { self.new.entry ≡ self.old.entry }
+        ensures downward { self.new.downward ≡ self.old.downward }
     {
         point.laws();
         if !self.downward {

@@ -1,6 +1,7 @@
 //! The grid of the landmarks.
 ghost use Rattle.std.specs.Prelude.{◌≡◌, ◌<◌, ◌%◌, pos, ◌<ℤ◌, unsigned_abs};
 ghost use Rattle.exact_plane.specs.declared.bounds.TheConstants.{WEIGHT_LIMIT};
+ghost use Rattle.locate_landmarks.specs.Courses.{level_of_row, IsLandmarkOf};
 ghost use Rattle.locate_landmarks.specs.Grid.{grid_number, landmark_at, IsNearest};
 
 use exact_plane::{Line, Point, Segment, line_of};
@@ -56,7 +57,8 @@ pub fn landmark_of(point: &Point) -> (i64, i64)
 
 /// The place of that landmark in the list of them all.
 pub(crate) fn landmark_index(point: &Point) -> usize
-    ensures { result < 49 }
+    ensures within { result < 49 }
+    ensures nearest { IsLandmarkOf point.now result }
 {
     let column = nearest(point.x(), point.w());
     let row = nearest(point.y(), point.w());
@@ -73,6 +75,7 @@ pub(crate) fn row_of(index: usize) -> usize
 /// The line of a row.
 pub(crate) fn level_of_row(row: usize) -> Line
     requires { row < 7 }
+    ensures { result ≡ level_of_row row }
 {
     let y = grid_number(row);
     line_of(&Segment::new(0, y, 1, y).unwrap())

@@ -1,9 +1,11 @@
 //! The way along the horizontal of a landmark, from face to face.
-ghost use Rattle.std.specs.Prelude.{IfSome};
-ghost use Rattle.slab_laws.specs.View.{HasDart, HasFace};
+ghost use Rattle.std.specs.Prelude.{◌≡◌, ◌+◌, ◌≤◌};
+ghost use Rattle.slab_laws.specs.View.{HasFace};
 ghost use Rattle.dcel_records.specs.RecordsView.{tables_of};
 ghost use Rattle.dcel_records.specs.SoundMaps.{IsSoundMap};
-ghost use Rattle.locate_landmarks.specs.Horizontals.{IsCrossing};
+ghost use Rattle.locate_landmarks.specs.Horizontals.{dart_of_crossing, IsCrossing, IsLaterOrSame};
+ghost use Rattle.locate_landmarks.specs.Looks.{IsDrawnLook};
+ghost use Rattle.locate_landmarks.specs.Ways.{face_after, size_along, LeadsAlong};
 
 use crate::course::Course;
 use crate::crossing::{Crossing, later_crossing};
@@ -32,9 +34,11 @@ impl<'a> Ahead<'a> {
     // which is inlined, stays short.
     #[inline(never)]
     fn look_closely(&mut self, sight: &Glance, dart: DartId, looked: &Glimpse)
-        requires dart { HasDart sight.now.graph dart }
-        requires last { IsCrossing sight.now.graph self.old.last }
-        ensures { IsCrossing sight.now.graph self.new.last }
+        requires drawn { IsDrawnLook sight.now.graph dart looked.now }
+        requires last { IsCrossing sight.now.graph self.old.course.now self.old.last }
+        ensures course { self.new.course.now ≡ self.old.course.now }
+        ensures last { IsCrossing sight.now.graph self.new.course.now self.new.last }
+        ensures later { IsLaterOrSame sight.now.graph self.new.course.now self.old.last self.new.last }
     {
         if is_dart(self.entry, dart) {
             return;
@@ -73,9 +77,8 @@ impl<'a, 'r> Looker<Glance<'r>> for Ahead<'a> {
     }
 }
 
-fn dart_ahead(glance: &Glance, last: &Option<Crossing>) -> Option<DartId>
-    requires { IsCrossing glance.now.graph last.now }
-    ensures { IfSome result (HasDart glance.now.graph) }
+fn dart_ahead(last: &Option<Crossing>) -> Option<DartId>
+    ensures { result ≡ dart_of_crossing last.now }
 {
     match last {
         Some(crossing) => Some(crossing.dart),
@@ -95,7 +98,8 @@ pub fn go_along<L: Ledger>(
 ) -> FaceId
     requires map { IsSoundMap glance.now }
     requires first { HasFace (tables_of glance.now) first }
-    ensures { HasFace (tables_of glance.now) result }
+    ensures has { HasFace (tables_of glance.now) result }
+    ensures looks { (ds : _) × LeadsAlong glance.now course.now first ds × (result ≡ face_after glance.now first ds) × (steps.new ≤ steps.old + size_along glance.now first ds) }
 {
     // This tells that each face lists what is on its boundary.
     glance.laws();
@@ -107,7 +111,7 @@ pub fn go_along<L: Ledger>(
     };
     'faces: for _ in 0..MOST_CROSSINGS {
         look_at_cycles(&mut ahead, glance, face, steps);
-        let dart = dart_ahead(glance, &ahead.last);
+        let dart = dart_ahead(&ahead.last);
         let beyond = face_beside(glance, face, dart);
         if beyond == face {
             break;

@@ -1,12 +1,15 @@
 //! The landmarks of records.
-ghost use Rattle.std.specs.Prelude.{◌≡◌, ◌<◌, [], OnOk, OnErr};
+ghost use Rattle.std.specs.Prelude.{◌≡◌, ℕ, ◌+◌, ◌<◌, ◌≤◌, [], None, OnOk, OnErr};
 ghost use Rattle.slab_laws.specs.View.{HasFace};
 ghost use Rattle.dcel_records.specs.RecordsView.{tables_of};
 ghost use Rattle.dcel_records.specs.SoundMaps.{IsSoundMap};
+ghost use Rattle.dcel_records.specs.Spots.{IsVertexAt};
+ghost use Rattle.counted_looks.specs.Looks.{vertex_looks};
 ghost use Rattle.face_location.specs.Spots.{IsSpotOf};
 ghost use Rattle.locate_walk.specs.Looks.{IsBelowOrNone};
 ghost use Rattle.locate_landmarks.specs.Built.{IsBuiltFor, IsColumnBelow};
 ghost use Rattle.locate_landmarks.specs.Grid.{landmark_at};
+ghost use Rattle.locate_landmarks.specs.Ways.{IsFaceAt, IsSizeOfWay};
 
 use crate::course::Course;
 use crate::grid::{LANDMARKS, landmark_at, landmark_index, row_of};
@@ -80,7 +83,8 @@ fn first_below(glance: &Glance, index: usize, last: Option<EdgeBelow>) -> Option
 fn face_at(glance: &Glance, spot: Spot) -> FaceId
     requires map { IsSoundMap glance.now }
     requires spot { (p : _) × IsSpotOf glance.now.graph (tables_of glance.now) p spot }
-    ensures { HasFace (tables_of glance.now) result }
+    ensures has { HasFace (tables_of glance.now) result }
+    ensures at { IsFaceAt glance.now.graph (tables_of glance.now) spot result }
 {
     match spot {
         Spot::Face(face) => face,
@@ -131,13 +135,16 @@ impl Landmarks {
     ///
     /// The records tell the vertex at the point (`Glance::vertex_at`). Where there is none, it walks from the landmark that
     /// `landmark_of` tells, along the horizontal to the point's abscissa and then along the vertical, by looks at the darts on the
-    /// boundaries of the faces on the way. It takes no memory.
+    /// boundaries of the faces on the way: at most as many as these boundaries are long together, beside the question for the vertex. It
+    /// takes no memory.
     pub fn locate<L: Ledger>(&self, glance: &Glance, p: &Point, steps: &mut Steps<L>) -> Spot
         requires map { IsSoundMap glance.now }
         requires built { IsBuiltFor self.now glance.now.graph (tables_of glance.now) }
-        ensures { IsSpotOf glance.now.graph (tables_of glance.now) p.now result }
+        ensures spot { IsSpotOf glance.now.graph (tables_of glance.now) p.now result }
+        ensures asked { (v : _) → result ≡ Spot.Vertex v → steps.new ≤ steps.old + vertex_looks glance.now }
+        ensures looks { IsVertexAt glance.now.graph p.now None → (n : ℕ) × IsSizeOfWay glance.now p.now n × (steps.new ≤ steps.old + (vertex_looks glance.now + n)) }
     {
-        if let Some(vertex) = glance.vertex_at(p) {
+        if let Some(vertex) = glance.vertex_at(p, steps) {
             return Spot::Vertex(vertex);
         }
         let index = landmark_index(p);

@@ -42,7 +42,7 @@ pub fn look_round<L: Ledger>(
     requires free { IsVertexAt glance.now.graph point.now None }
     requires lowest { IsAbove glance.now.graph point.now descent.now.lowest }
     requires entry { IsEntry glance.now.graph point.now descent.now.entry }
-    ensures round { IsRound glance.now.graph (tables_of glance.now) point.now descent.now.lowest result }
+    ensures round { IsRound glance.now.graph (tables_of glance.now) point.now face descent.now result }
     ensures count { steps.new ≤ steps.old + boundary_size glance.now.graph (tables_of glance.now) face }
 {
     point.laws();

@@ -44,8 +44,9 @@ fn find_at_dart(
     requires lowest { IsAbove glance.now.graph point.now descent.old.lowest }
     ensures found { IsFound glance.now.graph (tables_of glance.now) point.now face (Dart dart) result }
     ensures lowest { IsAbove glance.now.graph point.now descent.new.lowest }
-    ensures lowered { IsLowered glance.now.graph point.now descent.old.lowest descent.new.lowest }
+    ensures lowered { IsLowered glance.now.graph point.now descent.old.downward descent.old.lowest descent.new.lowest }
     ensures entry { descent.new.entry ≡ descent.old.entry }
+    ensures downward { descent.new.downward ≡ descent.old.downward }
 {
     let passage = passage_of(looked, point);
     if !passage.spans() {

@@ -1,11 +1,12 @@
 //! The walk from the face of a landmark to a point.
-ghost use Rattle.std.specs.Prelude.{◌≡◌, None};
+ghost use Rattle.std.specs.Prelude.{◌≡◌, ◌+◌, ◌≤◌, None};
 ghost use Rattle.slab_laws.specs.View.{HasFace};
 ghost use Rattle.dcel_records.specs.RecordsView.{tables_of};
 ghost use Rattle.dcel_records.specs.SoundMaps.{IsSoundMap};
 ghost use Rattle.dcel_records.specs.Spots.{IsVertexAt};
 ghost use Rattle.face_location.specs.Spots.{IsSpotOf};
 ghost use Rattle.locate_landmarks.specs.Walks.{dart_above};
+ghost use Rattle.locate_landmarks.specs.Ways.{upright_size, way_size, IsUpright, IsWay};
 
 use crate::above::EdgeAbove;
 use crate::course::Course;
@@ -41,7 +42,8 @@ fn go_upright<L: Ledger>(
     requires map { IsSoundMap glance.now }
     requires first { HasFace (tables_of glance.now) first }
     requires free { IsVertexAt glance.now.graph point.now None }
-    ensures { IsSpotOf glance.now.graph (tables_of glance.now) point.now result }
+    ensures spot { IsSpotOf glance.now.graph (tables_of glance.now) point.now result }
+    ensures looks { (u : _) × IsUpright glance.now point.now downward first u × (steps.new ≤ steps.old + upright_size glance.now point.now first u) }
 {
     let mut face = first;
     let mut descent = Descent {
@@ -83,7 +85,8 @@ pub fn walk_from<L: Ledger>(
     requires map { IsSoundMap glance.now }
     requires first { HasFace (tables_of glance.now) first }
     requires free { IsVertexAt glance.now.graph course.now.point None }
-    ensures { IsSpotOf glance.now.graph (tables_of glance.now) course.now.point result }
+    ensures spot { IsSpotOf glance.now.graph (tables_of glance.now) course.now.point result }
+    ensures looks { (w : _) × (w.start ≡ first) × IsWay glance.now course.now w × (steps.new ≤ steps.old + way_size glance.now course.now.point w) }
 {
     let face = go_along(glance, first, course, steps);
     go_upright(glance, face, &course.point, course.downward, steps)

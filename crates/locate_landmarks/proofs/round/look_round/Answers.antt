@@ -55,7 +55,7 @@ returns-else-eq-clause-round g c =
     let l = c.look_at_cycles.new.looker in
     let m = c.look_at_cycles.ensures.ready k first in
     let same = m.highest.point in (
-      (round_highest v k.highest l.highest m.highest c.requires.map.sound.graph c.in-None.is (darts_seen v k.highest l.highest m.highest c.requires.map.sound c.requires.free c.look_at_cycles.ensures.seen)).below,
+      round_highest v k.highest l.highest m.highest c.requires.map.sound.graph c.in-None.is (darts_seen v k.highest l.highest m.highest c.requires.map.sound c.requires.free c.look_at_cycles.ensures.seen),
       subst (λ (q : Point). IsAbove v q l.descent.lowest) same m.lowest,
-      subst (λ (q : Point). IsLowered v q c.args.descent.now.lowest l.descent.lowest) same m.lowered,
+      subst (λ (q : Point). IsLowered v q c.args.descent.now.downward c.args.descent.now.lowest l.descent.lowest) same m.lowered,
     )

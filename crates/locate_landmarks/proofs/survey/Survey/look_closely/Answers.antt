@@ -10,6 +10,7 @@ returns-then-is_settled c = record {
   lowest = c.requires.lowest;
   lowered = inl refl;
   entry = refl;
+  downward = refl;
 }
 
 pub returns-then-is_dart : goal.returns-then-is_dart
@@ -18,6 +19,7 @@ returns-then-is_dart c = record {
   lowest = c.requires.lowest;
   lowered = inl refl;
   entry = refl;
+  downward = refl;
 }
 
 pub returns : goal.returns
@@ -26,4 +28,5 @@ returns c = record {
   lowest = c.find_at_dart-found.ensures.lowest;
   lowered = c.find_at_dart-found.ensures.lowered;
   entry = c.find_at_dart-found.ensures.entry;
+  downward = c.find_at_dart-found.ensures.downward;
 }
