@@ -1,6 +1,6 @@
 -- What becomes of a seated observer that was told a note, by what it answered.
 use Rattle.std.proofs.Common.{◌≡◌, ℕ, ◌-◌, ◌==◌, Bool, true, false, cond, Option, Some, None, Result, Ok, Err, refl, sym, ap, ◌∙◌, subst, inl, inr, IsSome, IsTrue}
-use Rattle.std.specs.Prelude.{◌↔◌, IsErrAnd, OnOk}
+use Rattle.std.specs.Prelude.{◌↔◌, IsErrAnd, OnErr, OnOk}
 use Rattle.std.specs.Option.{option_eq}
 use Rattle.std.proofs.lemmas.Bool.{false≢true}
 use Rattle.arr_notes.specs.CurvedView.{CurvedView}
@@ -13,6 +13,11 @@ use Rattle.integers.proofs.Tests.{not_true}
 use Rattle.observer_bus.specs.Seats.{SeatRow, IsFateOf, IsGone, IsKept, IsLost, IsRoundNote, IsTold, IsToldLast, fate, fate_by, stays, waiting}
 use Rattle.observer_bus.specs.declared.seat.Fate.{Fate}
 use Rattle.observer_bus.specs.declared.seat.Fate.TheVariants.{Told, ToldLast, LeftUntold, Joined, Waits, Lost}
+
+-- what holds holds where a call fails
+pub on_err : {T E : Type 0} (r : Result T E) (P : Type 0) → P → OnErr r P
+on_err (Ok x) P p = tt
+on_err (Err e) P p = p
 
 -- an error has no clauses of a value
 pub not_ok : {T E : Type 0} (r : Result T E) (Q : E → Type 0) (P : Type 0) → IsErrAnd r Q → OnOk r P

@@ -1,5 +1,5 @@
 -- Seats in memory as rows: what their boxed observers mean is handed in by one word, `Observer-dyn`.
-use Rattle.std.specs.Prelude.{Option, None, ℕ, List, map}
+use Rattle.std.specs.Prelude.{◌≡◌, ◌⊎◌, Option, None, ℕ, List, map}
 use Rattle.std.specs.declared.alloc.Global.{Global}
 use Rattle.std.specs.declared.dyn_box.DynBox.{DynBox}
 use Rattle.arr_notes.specs.declared.observer.Observer.{Ghosts}
@@ -16,6 +16,16 @@ module _ {X : Type 0} {F : X → Type 0} (m : Meanings X F) where
   -- what the observer in a box means
   abbrev pub meaning : (b : DynBox X Global F) → Ghosts (F b.vtable)
   meaning b = m (b.vtable, b.value)
+
+  -- what was given is, in its box, the observer that came back, once it was told a snapshot and found no memory: one of the same type, that tells a view or not as before and counts no snapshot; what it holds and has heard then isn't known (this project)
+  pub record HasRefusedSnapshot (given back : DynBox X Global F) : Type 0 where
+    pub kind : back.vtable ≡ given.vtable
+    pub tells : (meaning back).tells back.value ≡ (meaning given).tells given.value
+    pub left : (meaning back).left back.value ≡ (meaning given).left given.value
+
+  -- the box comes back as it was given, or once its observer was told a snapshot and found no memory (this project)
+  abbrev pub IsHandedBack : DynBox X Global F → DynBox X Global F → Type 0
+  IsHandedBack given back = (back ≡ given) ⊎ HasRefusedSnapshot given back
 
   -- an observer with a name and a plan to join, that has no plan to leave
   abbrev pub newcomer : ℕ → Option ℕ → DynBox X Global F → SeatRow

@@ -32,7 +32,7 @@ pub struct Bus {
 
 impl Bus {
     ghost use Rattle.observer_bus.specs.RoundLaws.{HaveNamesApart};
-    ghost use Rattle.observer_bus.specs.Rows.{bus_row, newcomer, rows};
+    ghost use Rattle.observer_bus.specs.Rows.{bus_row, newcomer, rows, IsHandedBack};
 
     /// A bus without observers over the seats that it is given, which are none yet: `Vec::with_capacity(alloc, SEATS)?` makes room for them.
     ///
@@ -63,9 +63,9 @@ impl Bus {
     ///
     /// # Errors
     ///
-    /// The observer is handed back, with as many notes left as it had, and no seat or plan changes: `Taken` where a seated observer, or one
-    /// whose join is planned, has the name; then `Full(8)` where eight are there; `NoMemory` where there was none for the snapshot, or the
-    /// observer found none.
+    /// The observer is handed back, and no seat or plan changes: `Taken` where a seated observer, or one whose join is planned, has the name;
+    /// then `Full(8)` where eight are there; `NoMemory` where there was none for the snapshot, or the observer found none. It is as it was,
+    /// unless it was told the snapshot and found no memory itself; even then it has as many notes left.
     pub fn attach<R: Curved + Faced>(
         &mut self,
         alloc: Global,
@@ -78,7 +78,7 @@ impl Bus {
         requires sound { IsSoundView (view_by (R.graph records.now) (R.faces records.now) (R.curve_list records.now)) }
         ensures refused { IsAttachAnswer (attach_refusal name (bus_row Observer-dyn self.old).seats) result }
         ensures same { IfErr result (λ e. e.1 ≢ AttachError.NoMemory → e.0 ≡ observer) }
-        ensures back { IfErr result (λ e. (tells e.0 ≡ tells observer) × (left e.0 ≡ left observer)) }
+        ensures back { IfErr result (λ e. IsHandedBack Observer-dyn observer e.0) }
         ensures err { OnErr result (bus_row Observer-dyn self.new ≡ bus_row Observer-dyn self.old) }
         ensures attached { OnOk result (IsAttached (view_by (R.graph records.now) (R.faces records.now) (R.curve_list records.now)) (newcomer Observer-dyn name when observer)
             (bus_row Observer-dyn self.old) (bus_row Observer-dyn self.new)) }

@@ -68,7 +68,7 @@ impl Seat {
     ghost use Rattle.arr_notes.specs.declared.note.Note.TheVariants.{Snapshot};
     ghost use Rattle.arr_notes.specs.CurvedView.{view_text};
     ghost use Rattle.observer_bus.specs.Seats.{stays, fate_seated, IsFateOf, IsGone, IsKept, IsLost, IsTold, IsToldLast, IsRoundNote, HasJoined, MayHear};
-    ghost use Rattle.observer_bus.specs.Rows.{newcomer, row};
+    ghost use Rattle.observer_bus.specs.Rows.{newcomer, row, IsHandedBack};
     ghost use Rattle.observer_bus.specs.Calls.{is_seated_as, leaving, IsHeldSound, IsPlaced};
 
     pub(crate) fn name(&self) -> u32
@@ -139,6 +139,7 @@ impl Seat {
         ensures leave { self.new.leave ≡ self.old.leave }
         ensures tells { tells self.new.observer ≡ tells self.old.observer }
         ensures left { left self.new.observer ≡ left self.old.observer }
+        ensures back { OnErr result (IsHandedBack Observer-dyn self.old.observer self.new.observer) }
         ensures heard { OnOk result (heard self.new.observer ≡ heard_after (heard self.old.observer) (Snapshot (view_by (R.graph records.now) (R.faces records.now) (R.curve_list records.now)))) }
         ensures held { OnOk result (IsTrue (tells self.old.observer) → held self.new.observer ≡ Some (view_by (R.graph records.now) (R.faces records.now) (R.curve_list records.now))) }
     {
@@ -154,6 +155,7 @@ impl Seat {
     /// A seat whose join may be planned, and whose observer has heard nothing here.
     pub(crate) fn planned(name: u32, observer: Box<dyn Observer>, when: Option<u32>) -> Seat
         requires { when ≢ Some 0 }
+        ensures observer { result.observer ≡ observer }
         ensures row { row Observer-dyn result ≡ newcomer Observer-dyn name when observer }
     {
         Seat {
@@ -176,7 +178,7 @@ impl Seat {
         requires sound { IsSoundView (view_by (R.graph records.now) (R.faces records.now) (R.curve_list records.now)) }
         ensures placed { IfOk result (λ s. IsPlaced when (view_by (R.graph records.now) (R.faces records.now) (R.curve_list records.now))
             (newcomer Observer-dyn name when observer) (row Observer-dyn s)) }
-        ensures back { IfErr result (λ b. (tells b ≡ tells observer) × (left b ≡ left observer)) }
+        ensures back { IfErr result (λ b. IsHandedBack Observer-dyn observer b) }
     {
         let mut seat = Seat::planned(name, observer, when);
         match when {

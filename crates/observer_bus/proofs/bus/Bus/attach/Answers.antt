@@ -1,4 +1,4 @@
-use Rattle.std.proofs.Common.{◌∷◌, [], refl, sym, ap, map, subst, ◌∙◌, ◌==◌, ◌≤◌}
+use Rattle.std.proofs.Common.{◌∷◌, inl, [], refl, sym, ap, map, subst, ◌∙◌, ◌==◌, ◌≤◌}
 use Rattle.std.specs.List.{IsDistinct}
 use Rattle.std.proofs.lemmas.Bool.{false≢true}
 use Rattle.std.proofs.lemmas.List.{map-append}
@@ -12,7 +12,7 @@ returns-then-has_name g c =
     let n = rw c.deref.ensures.value at c.has_name.ensures in record {
       refused = taken_by (row (goal.Observer-dyn g)) c.args.name c.args.self.now.seats.items _ n c.if-has_name.true;
       same = λ e. refl;
-      back = (refl, refl);
+      back = inl refl;
       err = refl;
       attached = tt;
     }
@@ -22,7 +22,7 @@ returns-then-len-eq-SEATS g c =
     let n = rw c.deref.ensures.value at c.has_name.ensures in record {
       refused = full_by (row (goal.Observer-dyn g)) c.args.name c.args.self.now.seats.items _ n c.if-has_name.false (sym c.args.self.now.seats.ok.0 ∙ sym c.len.ensures ∙ c.if-len-eq-SEATS.true);
       same = λ e. refl;
-      back = (refl, refl);
+      back = inl refl;
       err = refl;
       attached = tt;
     }

@@ -1,9 +1,9 @@
-use Rattle.std.proofs.Common.{refl, sym, ap, subst, ◌∙◌}
+use Rattle.std.proofs.Common.{inl, inr, refl, sym, ap, subst, ◌∙◌}
 use mathlib.Core.List.{mem-append_right}
 use Rattle.arr_notes.specs.CurvedView.{IsSoundView}
 use Rattle.arr_notes.specs.Notes.{heard_after}
 use Rattle.arr_notes.specs.declared.note.Note.TheVariants.{Snapshot}
-use Rattle.observer_bus.proofs.Heard.{not_ok, stay_lost}
+use Rattle.observer_bus.proofs.Heard.{not_ok, on_err, stay_lost}
 use Rattle.observer_bus.proofs.seat.Seat.welcome.Goals as goal
 
 -- `same`: what the observer's box was before the note, read through `&mut`, is the box that the seat had
@@ -14,6 +14,7 @@ returns-in_err-snapshot g c = record {
   leave = refl;
   tells = refl;
   left = refl;
+  back = on_err c.from_residual.result _ (inl refl);
   heard = not_ok c.from_residual.result _ _ c.from_residual.ensures.1;
   held = not_ok c.from_residual.result _ _ c.from_residual.ensures.1;
 }
@@ -47,12 +48,16 @@ returns-in-Stay-clause-heard g c =
 pub returns-in_default : goal.returns-in_default
 returns-in_default g c =
     let same = c.deref_box_mut-1.ensures.value.1 in
-    let h = c.heed-answer.ensures in record {
+    let h = c.heed-answer.ensures in
+    let tells = h.0 ∙ ap (λ b. (goal.Observer-dyn g b).tells b.1) same in
+    let left = h.1.1.1.1.0 _ refl ∙ ap (λ b. (goal.Observer-dyn g b).left b.1) same in
+    record {
       name = refl;
       join = refl;
       leave = refl;
-      tells = h.0 ∙ ap (λ b. (goal.Observer-dyn g b).tells b.1) same;
-      left = h.1.1.1.1.0 _ refl ∙ ap (λ b. (goal.Observer-dyn g b).left b.1) same;
+      tells = tells;
+      left = left;
+      back = inr (record { kind = ap (λ b. b.0) same; tells = tells; left = left });
       heard = tt;
       held = tt;
     }
