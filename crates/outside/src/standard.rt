@@ -1,14 +1,53 @@
-ghost use Rattle.std.specs.Prelude.{◌≡◌, [], None, OnErr};
+ghost use Rattle.std.specs.Prelude.{◌≡◌, ◌≢◌, [], length, None, IfErr, OnErr};
+ghost use Rattle.std.specs.Io.{ReadsAtMost, WritesAtMost};
 ghost use Rattle.std.specs.Io.KnownBytes.{ReadConsumes, WriteAppends};
+ghost use Rattle.std.specs.IoError.{error_kind};
 ghost use Rattle.outside.specs.Bytes.{Gives, Takes};
 ghost use Rattle.outside.specs.Counts.{next, HasCause};
 
 use crate::traits::{Failed, Sink, Source};
-use std::io::{Read, Write};
+use std::io;
+use std::io::{ErrorKind, Read, Write};
 use std::marker::Model;
 
+// How often a read or a write that signals interrupt is tried: as often as std's own loops try.
+const TRIES: u64 = u64::MAX;
+
+// One read, tried again where a signal interrupts it.
+fn read_past_signals<R: Read>(reader: &mut R, buf: &mut [u8]) -> io::Result<usize>
+    ensures bound { ReadsAtMost result buf.new }
+    ensures stream { ReadConsumes (R.remaining reader.old) (R.remaining reader.new)
+        result buf.new }
+    ensures retried { IfErr result (λ e. error_kind e ≢ ErrorKind.Interrupted) }
+{
+    'tries: for _ in 0..TRIES {
+        match reader.read(buf) {
+            Err(e) if e.kind() == ErrorKind::Interrupted => {}
+            result => return result,
+        }
+    }
+    Err(io::Error::from(ErrorKind::TimedOut))
+}
+
+// One write, tried again where a signal interrupts it.
+fn write_past_signals<W: Write>(writer: &mut W, piece: &[u8]) -> io::Result<usize>
+    ensures bound { WritesAtMost result piece.now }
+    ensures stream { WriteAppends (W.contents writer.old) (W.contents writer.new)
+        result piece.now }
+    ensures retried { IfErr result (λ e. error_kind e ≢ ErrorKind.Interrupted) }
+{
+    'tries: for _ in 0..TRIES {
+        match writer.write(piece) {
+            Err(e) if e.kind() == ErrorKind::Interrupted => {}
+            result => return result,
+        }
+    }
+    Err(io::Error::from(ErrorKind::TimedOut))
+}
+
 /// A source over a reader, as standard input. It tells nothing of its bytes as a source; what it
-/// hands over is what the reader gave, where the reader tells that.
+/// hands over is what the reader gave, where the reader tells that. A read that a signal interrupts
+/// is tried again, as std's own loops do, and is no failure.
 #[derive(Drop)]
 pub struct StdSource<R> {
     inner: R,
@@ -58,7 +97,7 @@ impl<R: Read> Source for StdSource<R> {
         ensures fault { OnErr result (self.new.faults ≡ next self.old.faults) }
     {
         self.calls = self.calls.saturating_add(1);
-        match self.inner.read(buf) {
+        match read_past_signals(&mut self.inner, buf) {
             Ok(count) => Ok(count),
             Err(_) => {
                 self.faults = self.faults.saturating_add(1);
@@ -69,7 +108,8 @@ impl<R: Read> Source for StdSource<R> {
 }
 
 /// A sink over a writer, as standard output. It tells nothing of its bytes as a sink; what it takes
-/// went to the writer, where the writer tells that.
+/// went to the writer, where the writer tells that. A write that a signal interrupts is tried again,
+/// as std's own loops do, and is no failure.
 #[derive(Drop)]
 pub struct StdSink<W> {
     inner: W,
@@ -113,7 +153,7 @@ impl<W: Write> Sink for StdSink<W> {
         if piece.is_empty() {
             return Ok(0);
         }
-        match self.inner.write(piece) {
+        match write_past_signals(&mut self.inner, piece) {
             Ok(count) if count > 0 => Ok(count),
             _ => {
                 self.faults = self.faults.saturating_add(1);
