@@ -1,13 +1,14 @@
 -- All curves taken from an edge, or one.
-use Rattle.std.proofs.Common.{◌≡◌, ⊎_elim, ℕ, ◌<◌, ◌==◌, not, List, [], ◌∷◌, length, Option, Some, None, sym, subst, ◌∙◌}
+use Rattle.std.proofs.Common.{◌≡◌, ⊎_elim, inl, inr, ℕ, ◌<◌, ◌==◌, not, List, [], ◌∷◌, length, Option, Some, None, refl, sym, ap, subst, ◌∙◌}
 use Rattle.std.specs.List.{filter}
 use Rattle.plane_graphs.specs.Ascending.{Member}
 use Rattle.plane_graphs.proofs.Ascending.{from_member}
 use Rattle.slab_laws.specs.FaceLists.{first_of}
 use Rattle.chain_laws.proofs.Distinct.{shorter}
 use Rattle.linked_chains.specs.Chains.{Chained, IsWhole, HasNode, entry_at, chain}
-use Rattle.curve_history.specs.Changed.{IsPairLess, IsOneLess, IsEmptied}
+use Rattle.curve_history.specs.Changed.{IsPairLess, IsOneLess, AreSidesLess, IsEmptied}
 use Rattle.curve_history.specs.HistoryInMemory.{entry, item_in, Says}
+use Rattle.edit_steps.specs.EditLaws.{curve_of}
 use Rattle.curve_history.proofs.Walking.{at_head, IsAt, at_node, node_at, says_on}
 
 pub empty : (c : Chained) (edge : ℕ) → IsEmptied c c edge
@@ -42,6 +43,20 @@ none_left c k o w e f i s =
     no_member [] n h m = m
     no_member (x ∷ xs) n h m = absurd cc
 
--- ---- one curve
-pub one_less : (old new : Chained) (node edge curve : ℕ) → IsPairLess old new node edge curve → IsOneLess old new edge curve
-one_less old new node edge curve m = record { gone = m.gone; stays = m.stays; others = m.others; keys = m.keys }
+-- ---- the sides of a curve
+pub no_side_less : (c : Chained) (edge curve : ℕ) → AreSidesLess c c edge curve
+no_side_less c edge curve = record { stays = λ k i s. s; others = λ k i s. inl s; keys = λ k h. h }
+
+pub side_less : (old mid new : Chained) (edge curve node i : ℕ) → AreSidesLess old mid edge curve → IsPairLess mid new node edge i → curve_of i ≡ curve → AreSidesLess old new edge curve
+side_less old mid new edge curve node i p m h = record {
+  stays = λ k j s. p.stays k j (m.stays k j s);
+  others = λ k j s. ⊎_elim (λ x. ⊎_elim (λ y. inl y) (λ e. inr (e.0, ap curve_of e.1 ∙ h)) (m.others k j x)) (λ x. inr x) (p.others k j s);
+  keys = λ k g. p.keys k (m.keys k g);
+}
+
+pub fewer_at : (c c' : Chained) (k n i t : ℕ) → IsWhole c k → entry_at c n ≡ Some (entry k i t) → chain c' k ≡ filter (λ m. not (m == n)) (chain c k) → length (chain c' k) < length (chain c k)
+fewer_at c c' k n i t w e h = rw h (shorter n (chain c k) ((w.members n).1 (entry k i t, e, refl)))
+
+-- ---- one side
+pub one_less : (old new : Chained) (node edge strand : ℕ) → IsPairLess old new node edge strand → IsOneLess old new edge strand
+one_less old new node edge strand m = record { gone = m.gone; stays = m.stays; others = m.others; keys = m.keys }

@@ -11,5 +11,6 @@ pub mod Numbers
 pub mod Placing
 pub mod Reading
 pub mod Seconds
+pub mod Sides
 pub mod Twins
 pub mod Walking

@@ -1,13 +1,15 @@
 -- Names of curves, their pieces, and what is read of a history.
 use Rattle.std.proofs.Common.{◌≡◌, ◌≢◌, ◌⊎◌, ◌↔◌, ⊎_elim, inl, inr, ℕ, suc, ◌+◌, ◌≤◌, ◌<◌, ◌^◌, ◌==◌, cond, not, Bool, true, false, List, [], ◌∷◌, ◌++◌, length, map, reverse, Option, Some, None, option_map, IfSome, IsSome, is_some, Contains, refl, sym, ap, subst, ◌∙◌, Less, arith, Fits, w32}
 use Rattle.std.specs.List.{filter, AllByRecursion, IsDistinct}
+use Rattle.std.specs.List.Retain.{IsFiltered, DiffersFromLast}
 use Rattle.std.specs.Ordering.{nat_cmp}
 use Rattle.std.proofs.lemmas.Bool.{false≢true}
+use Rattle.std.proofs.lemmas.Cmp.{nat_cmp_total}
 use Rattle.std.proofs.lemmas.List.{length-map}
 use Rattle.plane_graphs.specs.Ascending.{ascending, Member, IsAscending}
 use Rattle.plane_graphs.specs.Graph.{same_curve}
-use Rattle.plane_graphs.proofs.Ascending.{All-member, to_member, from_member}
-use Rattle.plane_graphs.proofs.Lists.{in_filter, of_filter, in_map, of_map, in_left, in_right, in_either, IsAscending-filter, not_in, not_out, clash, some_of}
+use Rattle.plane_graphs.proofs.Ascending.{IsAscending-ascending, All-member, to_member, from_member}
+use Rattle.plane_graphs.proofs.Lists.{in_filter, of_filter, in_map, of_map, in_ascending, of_ascending, in_left, in_right, in_either, IsAscending-filter, not_in, not_out, clash, some_of}
 use Rattle.plane_graphs.proofs.Order.{curve_out, curve_in}
 use Rattle.std.specs.declared.vec.Vec.{Vec}
 use Rattle.slab_laws.specs.declared.present.Piece.{Piece as PieceInMemory}
@@ -23,15 +25,17 @@ use Rattle.chain_laws.specs.Links.{trail}
 use Rattle.linked_chains.specs.Chains.{Chained, Link, IsWhole, HasKey, entry_at, first_in, after_in, chain}
 use Rattle.linked_chains.specs.declared.node.Entry.{Entry}
 use Rattle.curve_history.specs.declared.history.History.TheInside.{Inside}
-use Rattle.curve_history.specs.Past.{Past, curves_on}
+use Rattle.curve_history.specs.Past.{Past, curves_on, strands_on, curves_of}
+use Rattle.edit_steps.specs.EditLaws.{curve_of}
 use Rattle.curve_history.specs.HistoryInMemory.{entry, item_in, items_along, IsDescending, Says, ArePairs, AreFilled, number_of, named_in, pairs_in, IsSoundHistory}
 use Rattle.curve_history.proofs.Reading.{listed_from, held_is}
-use Rattle.curve_history.proofs.Histories.{IsSeen, has_name, has_of_named, named_of_has, named_from, named_ascend, says_held, held_says, same_length, items_differ, listed_is}
+use Rattle.curve_history.proofs.Histories.{IsSeen, has_name, has_of_named, named_of_has, named_from, named_ascend, says_runs, runs_says, same_length, listed_is}
 use Rattle.curve_history.specs.Changed.{IsRoomier}
 use Rattle.curve_history.proofs.Placing.{ordered_roomier}
-use Rattle.curve_history.proofs.Twins.{one_entry, twins_with_key, says_there}
+use Rattle.curve_history.proofs.Sides.{IsUp, curves_up, kept_once, strands_ascend}
+use Rattle.curve_history.proofs.Twins.{beside, beside_back, twins_with_key, twins_with_curve, says_there}
 use Rattle.curve_history.proofs.Walking.{apart, node_at, item_is, none_there}
-use Rattle.integers.proofs.Tests.{less_nat, other_number}
+use Rattle.integers.proofs.Tests.{less_nat, nat_exact, nat_tied, not_tied, other_number}
 
 -- ---- lists of numbers
 
@@ -93,8 +97,9 @@ chain_free i old k v t w f = none_there (chain i.by_curve k) each
     each : (n : ℕ) → Member n (chain i.by_curve k) → ⊥
     each n m =
         let u = node_at i.by_curve k n w m in
-        let s : Says i.by_edge (item_in i.by_curve n) k = record { node = u.0; twin = n; is = t.back.twin n k (item_in i.by_curve n) u.0 u.1 } in
-        f (dart_id (item_in i.by_curve n)) (says_held i old v (dart_id (item_in i.by_curve n)) k s)
+        let b = beside_back i.by_edge i.by_curve n k (item_in i.by_curve n) u.0 t u.1 in
+        let r : Member (curve_of b.0) (curves_on old (dart_id (item_in i.by_curve n))) = says_runs i old v (dart_id (item_in i.by_curve n)) b.0 (record { node = u.0; twin = n; is = b.2 }) in
+        f (dart_id (item_in i.by_curve n)) (subst (λ c. Member c (curves_on old (dart_id (item_in i.by_curve n)))) (sym b.1) r)
 
 -- what a filter leaves of what is read
 pub filter_map : {X Y : Type 0} (f : X → Y) (p : Y → Bool) (xs : List X) → map f (filter (λ x. p (f x)) xs) ≡ filter p (map f xs)
@@ -129,8 +134,8 @@ no_chain c k h = ap (λ s. trail (after_in c) s (first_in c k)) (ap length h) �
 pub kept_none : {Z : Type 0} (e c : Chained) (p : Vec PieceInMemory Z) (n : Option ℕ) → e.nodes ≡ [] → c.nodes ≡ [] → e.heads ≡ [] → c.heads ≡ [] → p.items ≡ [] → IfSome n (λ n. (1 ≤ n) × (n < 2 ^ 32)) → IsSoundHistory e c p n
 kept_none e c p n en cn eh ch pe l = record {
   pairs = record {
-    forth = record { twin = λ x k i s h. absurd (none_at e x (entry k i s) en h) };
-    back = record { twin = λ x k i s h. absurd (none_at c x (entry k i s) cn h) };
+    forth = record { twin = λ x f h. absurd (none_at e x f en h) };
+    back = record { twin = λ x f h. absurd (none_at c x f cn h) };
     once = λ x y k i s t h g. absurd (none_at e x (entry k i s) en h);
   };
   filled = record { key = λ k h. absurd (no_key e k eh h) };
@@ -140,24 +145,13 @@ kept_none e c p n en cn eh ch pe l = record {
   few = let q : length p.items ≡ 0 = ap length pe in omega arith;
 }
 
-pub held_nothing : (new : Past) (e : Chained) → new.pairs ≡ pairs_in e → e.nodes ≡ [] → (d : DartId) → curves_on new d ≡ []
+pub held_nothing : (new : Past) (e : Chained) → new.pairs ≡ pairs_in e → e.nodes ≡ [] → (d : DartId) → strands_on new d ≡ []
 held_nothing new e h n d = held_is new e d h ∙ listed_from e d.0 [] tt (λ k m. absurd m) (λ k s. absurd (none_at e s.node (entry d.0 k s.twin) n s.is))
-
--- ---- read from both sides
-pub flip_pairs : (e c : Chained) → ArePairs e c → ArePairs c e
-flip_pairs e c t = record { forth = t.back; back = t.forth; once = one }
-  where
-    one : (m n k i s r : ℕ) → entry_at c m ≡ Some (entry k i s) → entry_at c n ≡ Some (entry k i r) → m ≡ n
-    one m n k i s r h g =
-        let a : entry_at e s ≡ Some (entry i k m) = t.back.twin m k i s h in
-        let b : entry_at e r ≡ Some (entry i k n) = t.back.twin n k i r g in
-        let q : s ≡ r = t.once s r i k m n a b in
-        (one_entry (entry_at e r) i k m i k n (ap (entry_at e) (sym q) ∙ a) b).twin
 
 -- more room leaves a history as it is
 pub kept_roomier : {Z : Type 0} (e c e' c' : Chained) (p q : Vec PieceInMemory Z) (n : Option ℕ) → IsSoundHistory e c p n → IsRoomier e e' → IsRoomier c c' → length q.items < 2 ^ 32 → IsSoundHistory e' c' q n
 kept_roomier e c e' c' p q n k a b f = record {
-  pairs = flip_pairs c' e' (twins_with_key c c' e' b.nodes (flip_pairs e' c (twins_with_key e e' c a.nodes k.pairs)));
+  pairs = twins_with_curve e' c c' b.nodes (twins_with_key e e' c a.nodes k.pairs);
   filled = record { key = λ x h. let s = k.filled.key x (subst (λ (hs : List (ℕ × Option ℕ)). IsSome (row_at hs x)) a.heads h) in (s.0, says_there e e' x s.0 a.nodes s.1) };
   ordered = ordered_roomier e e' a k.ordered;
   numbers = λ x h. k.numbers x (subst (λ (hs : List (ℕ × Option ℕ)). IsSome (row_at hs x)) b.heads h);
@@ -166,8 +160,8 @@ kept_roomier e c e' c' p q n k a b f = record {
 }
 
 -- a curve along an edge fits
-pub curve_fits : (i : Inside) → ArePairs i.by_edge i.by_curve → ((n : ℕ) (x : Entry) → entry_at i.by_curve n ≡ Some x → HasKey i.by_curve x.key) → ((k : ℕ) → HasKey i.by_curve k → (1 ≤ k) × (k < number_of i.next)) → IfSome i.next (λ n. (1 ≤ n) × (n < 2 ^ 32)) → (d k : ℕ) → Says i.by_edge d k → k < 2 ^ 32
-curve_fits i t keys numbers l d k s = number_fits i.next k l (numbers k (keys s.twin (entry k d s.node) (t.forth.twin s.node d k s.twin s.is))).1
+pub curve_fits : (i : Inside) → ArePairs i.by_edge i.by_curve → ((n : ℕ) (x : Entry) → entry_at i.by_curve n ≡ Some x → HasKey i.by_curve x.key) → ((k : ℕ) → HasKey i.by_curve k → (1 ≤ k) × (k < number_of i.next)) → IfSome i.next (λ n. (1 ≤ n) × (n < 2 ^ 32)) → (d z : ℕ) → Says i.by_edge d z → curve_of z < 2 ^ 32
+curve_fits i t keys numbers l d z s = number_fits i.next (curve_of z) l (numbers (curve_of z) (keys s.twin (entry (curve_of z) d s.node) (beside i.by_edge i.by_curve s.node d z s.twin t s.is))).1
 
 same_number : {X : Type 0} (f : X → ℕ) (x : X) (ys : List X) → (Member (f x) (map f ys) → ⊥) → AllByRecursion (λ y. (f x == f y) ≡ false) ys
 same_number f x [] g = tt
@@ -178,31 +172,51 @@ unfolding IsDistinct
 differ_by f [] a = tt
 differ_by f (x ∷ xs) a = (same_number f x xs a.0, differ_by f xs a.1)
 
+-- the edges of a list, each once
+module _ (old new : List DartId) (h : map (λ (d : DartId). d.0) new ≡ ascending nat_cmp (map (λ (d : DartId). d.0) old)) where
+  ascends_once : (xs : List ℕ) → IsAscending nat_cmp xs → AreOnce xs
+  ascends_once [] a = tt
+  ascends_once (x ∷ xs) a = (λ m. not_tied x x (less_nat x x (All-member (λ y. nat_cmp x y ≡ Less) x xs a.0 m)) (nat_tied x x refl), ascends_once xs a.1)
+
+  pub darts_once : IsDistinct (λ a b. a.0 == b.0) new
+  darts_once = differ_by (λ (d : DartId). d.0) new (subst AreOnce (sym h) (ascends_once (ascending nat_cmp (map (λ (d : DartId). d.0) old)) (IsAscending-ascending nat_cmp nat_cmp_total (map (λ (d : DartId). d.0) old))))
+
+  named_dart : (d : DartId) (ds : List DartId) → Member d.0 (map (λ (d : DartId). d.0) ds) → Contains ds d
+  named_dart d ds m = let x = of_map (λ (d : DartId). d.0) d.0 ds m in from_member ds d (subst (λ (y : DartId). Member y ds) (sym (ap dart_id x.2)) x.1)
+
+  dart_named : (d : DartId) (ds : List DartId) → Contains ds d → Member d.0 (map (λ (d : DartId). d.0) ds)
+  dart_named d ds c = in_map (λ (d : DartId). d.0) d ds (to_member ds d c)
+
+  pub darts_same : (d : DartId) → Contains new d ↔ Contains old d
+  darts_same d = (
+    λ c. named_dart d old (of_ascending nat_cmp nat_cmp_total nat_exact d.0 (map (λ (d : DartId). d.0) old) (subst (λ ns. Member d.0 ns) h (dart_named d new c))),
+    λ c. named_dart d new (subst (λ ns. Member d.0 ns) (sym h) (in_ascending nat_cmp nat_cmp_total nat_exact d.0 (map (λ (d : DartId). d.0) old) (dart_named d old c))),
+  )
+
 -- the edges that a curve's nodes say
 module _ (i : Inside) (old : Past) (v : IsSeen i old) (t : ArePairs i.by_edge i.by_curve) (k : ℕ) (w : IsWhole i.by_curve k) (ds : List DartId) (h : map (λ (d : DartId). d.0) ds ≡ map (item_in i.by_curve) (chain i.by_curve k)) where
-  pub edges_once : IsDistinct (λ a b. a.0 == b.0) ds
-  edges_once = differ_by (λ (d : DartId). d.0) ds (subst AreOnce (sym h) (items_differ i.by_curve i.by_edge (flip_pairs i.by_edge i.by_curve t) k w))
-
   runs : (d : DartId) → Contains ds d → Member k (curves_on old d)
   runs d m =
       let a : Member d.0 (map (item_in i.by_curve) (chain i.by_curve k)) = subst (λ ns. Member d.0 ns) h (in_map (λ (d : DartId). d.0) d ds (to_member ds d m)) in
       let n = of_map (item_in i.by_curve) d.0 (chain i.by_curve k) a in
       let u = node_at i.by_curve k n.0 w n.1 in
       let s : entry_at i.by_curve n.0 ≡ Some (entry k d.0 u.0) = subst (λ j. entry_at i.by_curve n.0 ≡ Some (entry k j u.0)) (sym n.2) u.1 in
-      says_held i old v d k (record { node = u.0; twin = n.0; is = t.back.twin n.0 k d.0 u.0 s })
+      let b = beside_back i.by_edge i.by_curve n.0 k d.0 u.0 t s in
+      subst (λ c. Member c (curves_on old d)) (sym b.1) (says_runs i old v d b.0 (record { node = u.0; twin = n.0; is = b.2 }))
 
   along : (d : DartId) → Member k (curves_on old d) → Contains ds d
   along d m =
-      let s = held_says i old v d k m in
-      let g : entry_at i.by_curve s.twin ≡ Some (entry k d.0 s.node) = t.forth.twin s.node d.0 k s.twin s.is in
+      let z = runs_says i old v d k m in
+      let s = z.2 in
+      let g : entry_at i.by_curve s.twin ≡ Some (entry k d.0 s.node) = subst (λ c. entry_at i.by_curve s.twin ≡ Some (entry c d.0 s.node)) (sym z.1) (beside i.by_edge i.by_curve s.node d.0 z.0 s.twin t s.is) in
       let c : Contains (chain i.by_curve k) s.twin = (w.members s.twin).1 (entry k d.0 s.node, g, refl) in
       let a : Member (item_in i.by_curve s.twin) (map (item_in i.by_curve) (chain i.by_curve k)) = in_map (item_in i.by_curve) s.twin (chain i.by_curve k) (to_member (chain i.by_curve k) s.twin c) in
       let b : Member d.0 (map (λ (d : DartId). d.0) ds) = subst (λ ns. Member d.0 ns) (sym h) (subst (λ j. Member j (map (item_in i.by_curve) (chain i.by_curve k))) (item_is i.by_curve s.twin (entry k d.0 s.node) g) a) in
       let x = of_map (λ (d : DartId). d.0) d.0 ds b in
       from_member ds d (subst (λ (y : DartId). Member y ds) (sym (ap dart_id x.2)) x.1)
 
-  pub edges_are : (d : DartId) → Contains ds d ↔ Member k (curves_on old d)
-  edges_are d = (runs d, along d)
+  pub edges_are : (es : List DartId) → ((d : DartId) → Contains es d ↔ Contains ds d) → (d : DartId) → Contains es d ↔ Member k (curves_on old d)
+  edges_are es same d = (λ c. runs d ((same d).0 c), λ m. (same d).1 (along d m))
 
 -- ---- in the history's words
 module _ (i : Inside) (old : Past) (v : IsSeen i old) where
@@ -220,9 +234,12 @@ module _ (i : Inside) (old : Past) (v : IsSeen i old) where
   pub counted : (count : ℕ) → IsDistinct ◌==◌ (names i.by_curve.heads) → count ≡ length i.by_curve.heads → count ≡ length old.names
   counted count d e = e ∙ sym (named_length i.by_curve d) ∙ ap length (sym v.names)
 
-  -- turned round, an edge's curves are those of its nodes
-  pub curves_are : (d : DartId) → IsWhole i.by_edge d.0 → IsDescending (items_along i.by_edge d.0) → (us vs : List CurveId) → map (λ (c : CurveId). c.0) us ≡ items_along i.by_edge d.0 → vs ≡ reverse us → map (λ (c : CurveId). c.0) vs ≡ curves_on old d
-  curves_are d w o us vs h r = ap (map (λ (c : CurveId). c.0)) r ∙ map_reverse (λ (c : CurveId). c.0) us ∙ ap reverse h ∙ sym (listed_is i.by_edge d.0 w o) ∙ sym (held_is old i.by_edge d v.pairs)
+  -- turned round, and each once, an edge's curves are those of its nodes
+  pub curves_are : (d : DartId) → IsWhole i.by_edge d.0 → IsDescending (items_along i.by_edge d.0) → (us vs ws : List CurveId) → map (λ (c : CurveId). c.0) us ≡ map curve_of (items_along i.by_edge d.0) → vs ≡ reverse us → IsFiltered (DiffersFromLast (λ (a b : CurveId). a.0 == b.0)) [] vs ws → map (λ (c : CurveId). c.0) ws ≡ curves_on old d
+  unfolding curves_on curves_of
+  curves_are d w o us vs ws h r f =
+      let turned : map (λ (c : CurveId). c.0) vs ≡ map curve_of (strands_on old d) = ap (map (λ (c : CurveId). c.0)) r ∙ map_reverse (λ (c : CurveId). c.0) us ∙ ap reverse h ∙ sym (map_reverse curve_of (items_along i.by_edge d.0)) ∙ ap (map curve_of) (sym (listed_is i.by_edge d.0 w o) ∙ sym (held_is old i.by_edge d v.pairs)) in
+      kept_once vs ws (subst (λ xs. IsUp xs) (sym turned) (curves_up (strands_on old d) (strands_ascend old d))) f ∙ ap (ascending nat_cmp) turned
 
 pub count_fits : (c : Chained) (n : Option ℕ) (count : ℕ) → IsDistinct ◌==◌ (names c.heads) → count ≡ length c.heads → IfSome n (λ n. (1 ≤ n) × (n < 2 ^ 32)) → ((k : ℕ) → HasKey c k → (1 ≤ k) × (k < number_of n)) → Fits w32 count
 count_fits c n count d e l f = fits count (subst (λ m. m < 2 ^ 32) (named_length c d ∙ sym e) (few_named c n l f))
@@ -240,16 +257,17 @@ module _ (i : Inside) (old : Past) (v : IsSeen i old) (k : ℕ) (b : Bool) (h : 
 module _ (i : Inside) (old : Past) (v : IsSeen i old) (d : DartId) (b : Bool) (h : b ≡ is_some (row_at i.by_edge.heads d.0)) where
   pub told_by_key : AreFilled i.by_edge → ((n : ℕ) (x : Entry) → entry_at i.by_edge n ≡ Some x → HasKey i.by_edge x.key) → (b ≡ true) ↔ (curves_on old d ≢ [])
   told_by_key f keys = (
-    λ t e. let s = f.key d.0 (sym h ∙ t) in subst (Member s.0) e (says_held i old v d s.0 s.1),
-    λ g. let m = some_of (curves_on old d) g in let s = held_says i old v d m.0 m.1 in h ∙ keys s.node (entry d.0 m.0 s.twin) s.is,
+    λ t e. let s = f.key d.0 (sym h ∙ t) in subst (Member (curve_of s.0)) e (says_runs i old v d s.0 s.1),
+    λ g. let m = some_of (curves_on old d) g in let z = runs_says i old v d m.0 m.1 in h ∙ keys z.2.node (entry d.0 z.0 z.2.twin) z.2.is,
   )
 
 -- ---- what is true of all histories
 module _ (i : Inside) (old : Past) (v : IsSeen i old) where
   pub held_named : ArePairs i.by_edge i.by_curve → ((n : ℕ) (x : Entry) → entry_at i.by_curve n ≡ Some x → HasKey i.by_curve x.key) → (d : DartId) (k : ℕ) → Member k (curves_on old d) → Member k old.names
   held_named t keys d k m =
-      let s = held_says i old v d k m in
-      subst (Member k) (sym v.names) (named_of_has i.by_curve k (keys s.twin (entry k d.0 s.node) (t.forth.twin s.node d.0 k s.twin s.is)))
+      let z = runs_says i old v d k m in
+      let s = z.2 in
+      subst (Member k) (sym v.names) (named_of_has i.by_curve k (subst (HasKey i.by_curve) (sym z.1) (keys s.twin (entry (curve_of z.0) d.0 s.node) (beside i.by_edge i.by_curve s.node d.0 z.0 s.twin t s.is))))
 
   pub names_ascend : IsAscending nat_cmp old.names
   names_ascend = subst (IsAscending nat_cmp) (sym v.names) (named_ascend i.by_curve)

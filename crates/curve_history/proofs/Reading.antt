@@ -1,4 +1,4 @@
--- What is read of chains, and the curves that their nodes say along an edge.
+-- What is read of chains, and what their nodes say along an edge.
 use Rattle.std.proofs.Common.{◌≡◌, ◌≢◌, ◌⊎◌, inl, inr, ℕ, ◌==◌, true, List, [], ◌∷◌, map, Option, Some, None, option_map, IsSome, is_some, refl, sym, ap, ap₂, subst, ◌∙◌}
 use Rattle.std.specs.List.{filter}
 use Rattle.std.specs.Ordering.{nat_cmp}
@@ -12,7 +12,7 @@ use Rattle.slab_laws.specs.declared.names.DartId.{DartId}
 use Rattle.slab_laws.specs.Tables.{row_at, names}
 use Rattle.linked_chains.specs.Chains.{Chained, Link, HasNode, entry_at}
 use Rattle.linked_chains.specs.declared.node.Entry.{Entry}
-use Rattle.curve_history.specs.Past.{Past, curves_on}
+use Rattle.curve_history.specs.Past.{Past, strands_on}
 use Rattle.curve_history.specs.HistoryInMemory.{entry, Says, pair_or, pairs_in}
 use Rattle.integers.proofs.Tests.{nat_exact, other_number, same_number}
 
@@ -53,7 +53,7 @@ some_link (Some l) e h = refl
 pub node_of : (c : Chained) (n : ℕ) (e : Entry) → entry_at c n ≡ Some e → HasNode c n
 node_of c n e h = some_link (row_at c.nodes n) e h
 
--- ---- the curves that nodes say
+-- ---- what nodes say
 -- what is said along a key
 pub along : Chained → ℕ → List ℕ
 along c k = map (λ e. e.1) (filter (λ e. e.0 == k) (pairs_in c))
@@ -81,7 +81,7 @@ of_along c k i m =
     let n = of_map (λ n. pair_or (entry_at c n)) p.0 (names c.nodes) f.0 in
     says_at c n.0 k i (entry_at c n.0) refl (is_entry c n.0 (row_of c.nodes n.0 n.1)) (sym (ap (λ (e : ℕ × ℕ). e.0) n.2) ∙ eqb-true p.0.0 k f.1) (sym (ap (λ (e : ℕ × ℕ). e.1) n.2) ∙ sym p.2)
 
--- ---- curves along an edge
+-- ---- the sides along an edge
 
 pub listed : Chained → ℕ → List ℕ
 listed c k = ascending nat_cmp (along c k)
@@ -99,8 +99,8 @@ unfolding listed
 listed_ascends c k = IsAscending-ascending nat_cmp nat_cmp_total (along c k)
 
 -- the history's words
-pub held_is : (p : Past) (c : Chained) (d : DartId) → p.pairs ≡ pairs_in c → curves_on p d ≡ listed c d.0
-unfolding curves_on listed along
+pub held_is : (p : Past) (c : Chained) (d : DartId) → p.pairs ≡ pairs_in c → strands_on p d ≡ listed c d.0
+unfolding strands_on listed along
 held_is p c d e = ap (λ (ps : List (ℕ × ℕ)). ascending nat_cmp (map (λ e. e.1) (filter (λ e. e.0 == d.0) ps))) e
 
 -- an ascending list of all that is said along a key

@@ -6,7 +6,8 @@ use Rattle.slab_laws.specs.Tables.{row_at}
 use Rattle.curve_history.specs.Changed.{IsPairMore, IsPairLess}
 use Rattle.linked_chains.specs.Chains.{Chained, Link, HasKey, HasNode, entry_at, chain}
 use Rattle.linked_chains.specs.declared.node.Entry.{Entry}
-use Rattle.curve_history.specs.HistoryInMemory.{entry, Says, AreTwins, ArePairs}
+use Rattle.curve_history.specs.HistoryInMemory.{entry, Says, IsBeside, AreTwins, ArePairs}
+use Rattle.edit_steps.specs.EditLaws.{curve_of}
 use Rattle.curve_history.proofs.Reading.{node_of}
 use Rattle.integers.proofs.Tests.{other_number, same_number}
 
@@ -26,15 +27,32 @@ one_entry o k i t l j s p q =
 pub never_none : {P : Type 0} (o : Option Entry) (e : Entry) → o ≡ Some e → o ≡ None → P
 never_none o e p q = absurd cc
 
--- ---- what a twin tells
-pub says_beside : (e c : Chained) (edge curve : ℕ) → ArePairs e c → Says e edge curve → Says c curve edge
-says_beside e c edge curve p s = record { node = s.twin; twin = s.node; is = p.forth.twin s.node edge curve s.twin s.is }
+pub same_entry : (o : Option Entry) (e f : Entry) → o ≡ Some e → o ≡ Some f → e ≡ f
+same_entry o e f p q = cc
 
--- the twin of a curve's node that says the edge is a node of the edge that says the curve
-pub found_beside : (e c : Chained) (edge curve near t : ℕ) (said : Entry) → ArePairs e c → entry_at c near ≡ Some said → entry_at c near ≡ Some (entry curve edge t) → (s : ℕ) × (entry_at e said.twin ≡ Some (entry edge curve s))
+-- ---- what a twin tells
+pub beside : (e c : Chained) (n edge i t : ℕ) → ArePairs e c → entry_at e n ≡ Some (entry edge i t) → entry_at c t ≡ Some (entry (curve_of i) edge n)
+beside e c n edge i t p h =
+    let f = p.forth.twin n (entry edge i t) h in
+    f.1 ∙ ap Some (entry_path f.3.curve f.3.edge f.2)
+
+pub beside_back : (e c : Chained) (n k edge t : ℕ) → ArePairs e c → entry_at c n ≡ Some (entry k edge t) → (i : ℕ) × (k ≡ curve_of i) × (entry_at e t ≡ Some (entry edge i n))
+beside_back e c n k edge t p h =
+    let f = p.back.twin n (entry k edge t) h in
+    (f.0.item, f.3.curve, f.1 ∙ ap Some (entry_path (sym f.3.edge) refl f.2))
+
+pub says_beside : (e c : Chained) (edge i : ℕ) → ArePairs e c → Says e edge i → Says c (curve_of i) edge
+says_beside e c edge i p s = record { node = s.twin; twin = s.node; is = beside e c s.node edge i s.twin p s.is }
+
+pub says_back : (e c : Chained) (k edge : ℕ) → ArePairs e c → Says c k edge → (i : ℕ) × (k ≡ curve_of i) × Says e edge i
+says_back e c k edge p s = let b = beside_back e c s.node k edge s.twin p s.is in (b.0, b.1, record { node = s.twin; twin = s.node; is = b.2 })
+
+-- the twin of a curve's node that says the edge is a node of the edge that says a side of the curve
+pub found_beside : (e c : Chained) (edge curve near t : ℕ) (said : Entry) → ArePairs e c → entry_at c near ≡ Some said → entry_at c near ≡ Some (entry curve edge t) → (i : ℕ) × (s : ℕ) × (curve_of i ≡ curve) × (entry_at e said.twin ≡ Some (entry edge i s))
 found_beside e c edge curve near t said p h q =
-    let same : said ≡ entry curve edge t = cc in
-    (near, subst (λ (x : Entry). entry_at e x.twin ≡ Some (entry edge curve near)) (sym same) (p.back.twin near curve edge t q))
+    let b = beside_back e c near curve edge t p q in
+    let same : said ≡ entry curve edge t = same_entry (entry_at c near) said (entry curve edge t) h q in
+    (b.0, near, sym b.1, subst (λ (x : Entry). entry_at e x.twin ≡ Some (entry edge b.0 near)) (sym same) b.2)
 
 -- ---- a node more
 pub record IsNodeMore (old new : Chained) (node : ℕ) (e : Entry) : Type 0 where
@@ -57,25 +75,19 @@ twin_set old mid new node key item s twin m h = record {
   others = λ n ne. let a = rw (other_number n node ne) at (h n) in a ∙ m.others n ne;
 }
 
-module _ (a b a' b' : Chained) (m n key item : ℕ) (p : IsNodeMore a a' m (entry key item n)) (q : IsNodeMore b b' n (entry item key m)) where
-  twins_more : AreTwins a b → AreTwins a' b'
+module _ (Beside : Entry → Entry → Type 0) (a b a' b' : Chained) (m n : ℕ) (x y : Entry) (p : IsNodeMore a a' m x) (q : IsNodeMore b b' n y) (to : x.twin ≡ n) (back : y.twin ≡ m) (r : Beside x y) where
+  twins_more : AreTwins Beside a b → AreTwins Beside a' b'
   twins_more t = record { twin = each }
     where
-      each : (x k i s : ℕ) → entry_at a' x ≡ Some (entry k i s) → entry_at b' s ≡ Some (entry i k x)
-      each x k i s h = elim (cases_eq x m) [
-        | inl e ↦ at_new e
-        | inr ne ↦ at_old ne
+      each : (z : ℕ) (e : Entry) → entry_at a' z ≡ Some e → (f : Entry) × (entry_at b' e.twin ≡ Some f) × (f.twin ≡ z) × Beside e f
+      each z e h = elim (cases_eq z m) [
+        | inl s ↦
+            let o : e ≡ x = same_entry (entry_at a' z) e x h (ap (entry_at a') s ∙ p.here) in
+            (y, ap (entry_at b') (ap (λ (w : Entry). w.twin) o ∙ to) ∙ q.here, back ∙ sym s, subst (λ w. Beside w y) (sym o) r)
+        | inr ne ↦
+            let w = t.twin z e (sym (p.others z ne) ∙ h) in
+            (w.0, q.others e.twin (λ s. q.fresh (subst (λ v. HasNode b v) s (node_of b e.twin w.0 w.1))) ∙ w.1, w.2, w.3)
       ]
-        where
-          at_new : x ≡ m → entry_at b' s ≡ Some (entry i k x)
-          at_new e =
-              let f : IsSameEntry k i s key item n = one_entry (entry_at a' x) k i s key item n h (ap (entry_at a') e ∙ p.here) in
-              ap (entry_at b') f.twin ∙ q.here ∙ ap Some (entry_path (sym f.item) (sym f.key) (sym e))
-
-          at_old : x ≢ m → entry_at b' s ≡ Some (entry i k x)
-          at_old ne =
-              let w : entry_at b s ≡ Some (entry i k x) = t.twin x k i s (sym (p.others x ne) ∙ h) in
-              q.others s (λ e. q.fresh (subst (λ z. HasNode b z) e (node_of b s (entry i k x) w))) ∙ w
 
 -- one side
 module _ (a a' : Chained) (m n key item : ℕ) (p : IsNodeMore a a' m (entry key item n)) where
@@ -115,12 +127,16 @@ pair_more a a' m n edge curve p chains keys = record {
 }
 
 -- both sides at once
-pub pairs_more : (a b a' b' : Chained) (m n edge curve : ℕ) → IsNodeMore a a' m (entry edge curve n) → IsNodeMore b b' n (entry curve edge m) → ¬ Says a edge curve → ArePairs a b → ArePairs a' b'
-pairs_more a b a' b' m n edge curve p q new t = record {
-  forth = twins_more a b a' b' m n edge curve p q t.forth;
-  back = twins_more b a b' a' n m curve edge q p t.back;
-  once = once_more a a' m n edge curve p new t.once;
-}
+pub pairs_more : (a b a' b' : Chained) (m n edge strand : ℕ) → IsNodeMore a a' m (entry edge strand n) → IsNodeMore b b' n (entry (curve_of strand) edge m) → ¬ Says a edge strand → ArePairs a b → ArePairs a' b'
+pairs_more a b a' b' m n edge strand p q new t =
+    let x : Entry = entry edge strand n in
+    let y : Entry = entry (curve_of strand) edge m in
+    let r : IsBeside (entry edge strand n) (entry (curve_of strand) edge m) = record { edge = refl; curve = refl } in
+    record {
+      forth = twins_more IsBeside a b a' b' m n x y p q refl refl r t.forth;
+      back = twins_more (λ f e. IsBeside e f) b a b' a' n m y x q p refl refl r t.back;
+      once = once_more a a' m n edge strand p new t.once;
+    }
 
 -- ---- a node fewer
 pub record IsNodeLess (old new : Chained) (node : ℕ) (e : Entry) : Type 0 where
@@ -157,21 +173,22 @@ module _ (a a' : Chained) (m n key item : ℕ) (p : IsNodeLess a a' m (entry key
       let ne : s.node ≢ m = not_gone s.node key item s.twin s.is in
       ne (o s.node m key item s.twin n (sym (p.others s.node ne) ∙ s.is) p.was)
 
-module _ (a b a' b' : Chained) (m n key item : ℕ) (p : IsNodeLess a a' m (entry key item n)) (q : IsNodeLess b b' n (entry item key m)) where
-  twins_less : AreTwins a b → AreTwins a' b'
+module _ (Beside : Entry → Entry → Type 0) (a b a' b' : Chained) (m n : ℕ) (x y : Entry) (p : IsNodeLess a a' m x) (q : IsNodeLess b b' n y) (back : y.twin ≡ m) where
+  twins_less : AreTwins Beside a b → AreTwins Beside a' b'
   twins_less t = record { twin = each }
     where
-      each : (x k i s : ℕ) → entry_at a' x ≡ Some (entry k i s) → entry_at b' s ≡ Some (entry i k x)
-      each x k i s h =
-          let ne : x ≢ m = not_gone a a' m n key item p x k i s h in
-          let w : entry_at b s ≡ Some (entry i k x) = t.twin x k i s (sym (p.others x ne) ∙ h) in
-          q.others s (λ e. ne (one_entry (entry_at b s) i k x item key m w (ap (entry_at b) e ∙ q.was)).twin) ∙ w
+      each : (z : ℕ) (e : Entry) → entry_at a' z ≡ Some e → (f : Entry) × (entry_at b' e.twin ≡ Some f) × (f.twin ≡ z) × Beside e f
+      each z e h =
+          let ne : z ≢ m = λ s. never_none (entry_at a' z) e h (ap (entry_at a') s ∙ p.gone) in
+          let w = t.twin z e (sym (p.others z ne) ∙ h) in
+          let stays : e.twin ≢ n = λ s. ne (sym w.2 ∙ ap (λ (v : Entry). v.twin) (same_entry (entry_at b e.twin) w.0 y w.1 (ap (entry_at b) s ∙ q.was)) ∙ back) in
+          (w.0, q.others e.twin stays ∙ w.1, w.2, w.3)
 
-pub pairs_less : (a b a' b' : Chained) (m n edge curve : ℕ) → IsNodeLess a a' m (entry edge curve n) → IsNodeLess b b' n (entry curve edge m) → ArePairs a b → ArePairs a' b'
-pairs_less a b a' b' m n edge curve p q t = record {
-  forth = twins_less a b a' b' m n edge curve p q t.forth;
-  back = twins_less b a b' a' n m curve edge q p t.back;
-  once = once_less a a' m n edge curve p t.once;
+pub pairs_less : (a b a' b' : Chained) (m n edge strand : ℕ) → IsNodeLess a a' m (entry edge strand n) → IsNodeLess b b' n (entry (curve_of strand) edge m) → ArePairs a b → ArePairs a' b'
+pairs_less a b a' b' m n edge strand p q t = record {
+  forth = twins_less IsBeside a b a' b' m n (entry edge strand n) (entry (curve_of strand) edge m) p q refl t.forth;
+  back = twins_less (λ f e. IsBeside e f) b a b' a' n m (entry (curve_of strand) edge m) (entry edge strand n) q p refl t.back;
+  once = once_less a a' m n edge strand p t.once;
 }
 
 pub pair_less : (a a' : Chained) (m n edge curve : ℕ) → IsNodeLess a a' m (entry edge curve n) → ((m n key item s t : ℕ) → entry_at a m ≡ Some (entry key item s) → entry_at a n ≡ Some (entry key item t) → m ≡ n) → ((k : ℕ) → chain a' k ≡ filter (λ n. not (n == m)) (chain a k)) → ((k : ℕ) → HasKey a' k → HasKey a k) → IsPairLess a a' m edge curve
@@ -202,10 +219,17 @@ more_with_key a mid a' edge curve e chains keys m = record {
 }
 
 pub twins_with_key : (a a' b : Chained) → a'.nodes ≡ a.nodes → ArePairs a b → ArePairs a' b
-twins_with_key a a' b e t = record {
-  forth = record { twin = λ n k i s h. t.forth.twin n k i s (sym (same_entries a a' e n) ∙ h) };
-  back = record { twin = λ n k i s h. same_entries a a' e s ∙ t.back.twin n k i s h };
-  once = λ m n k i s r h g. t.once m n k i s r (sym (same_entries a a' e m) ∙ h) (sym (same_entries a a' e n) ∙ g);
+twins_with_key a a' b q t = record {
+  forth = record { twin = λ n e h. t.forth.twin n e (sym (same_entries a a' q n) ∙ h) };
+  back = record { twin = λ n e h. let w = t.back.twin n e h in (w.0, same_entries a a' q e.twin ∙ w.1, w.2, w.3) };
+  once = λ m n k i s r h g. t.once m n k i s r (sym (same_entries a a' q m) ∙ h) (sym (same_entries a a' q n) ∙ g);
+}
+
+pub twins_with_curve : (a b b' : Chained) → b'.nodes ≡ b.nodes → ArePairs a b → ArePairs a b'
+twins_with_curve a b b' q t = record {
+  forth = record { twin = λ n e h. let w = t.forth.twin n e h in (w.0, same_entries b b' q e.twin ∙ w.1, w.2, w.3) };
+  back = record { twin = λ n e h. t.back.twin n e (sym (same_entries b b' q n) ∙ h) };
+  once = t.once;
 }
 
 -- the pair that is gone, by what the node said

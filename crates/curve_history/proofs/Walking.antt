@@ -1,5 +1,5 @@
 -- What the nodes of a chain say, and walks along it.
-use Rattle.std.proofs.Common.{◌≡◌, ◌≢◌, ◌⊎◌, ⊎_elim, inl, inr, ℕ, suc, ◌+◌, ◌<◌, ◌==◌, cond, not, Bool, true, false, List, [], ◌∷◌, ◌++◌, length, map, Option, Some, None, is_some, Contains, refl, sym, ap, subst, ◌∙◌, arith, append_assoc}
+use Rattle.std.proofs.Common.{◌≡◌, ◌≢◌, ◌⊎◌, ⊎_elim, inl, inr, ℕ, suc, ◌+◌, ◌<◌, ◌==◌, cond, not, Bool, true, false, List, [], ◌∷◌, ◌++◌, length, map, Option, Some, None, is_some, Contains, refl, sym, ap, ap₂, subst, ◌∙◌, arith, append_assoc}
 use Rattle.std.proofs.lemmas.Bool.{cases_eq, eq-eqb, false≢true}
 use Rattle.std.proofs.lemmas.List.{append-nil, map-append}
 use Rattle.std.specs.List.{IsDistinct}
@@ -10,7 +10,9 @@ use Rattle.chain_laws.specs.Links.{comes_after}
 use Rattle.chain_laws.proofs.Distinct.{IsOnce, once_from_distinct}
 use Rattle.linked_chains.specs.Chains.{Chained, IsWhole, HasKey, HasNode, entry_at, chain}
 use Rattle.linked_chains.specs.declared.node.Entry.{Entry}
+use Rattle.slab_laws.specs.declared.names.CurveId.{CurveId}
 use Rattle.curve_history.specs.HistoryInMemory.{entry, item_in, item_or, Says, AreFilled}
+use Rattle.edit_steps.specs.EditLaws.{curve_of}
 use Rattle.curve_history.proofs.Reading.{node_of}
 use Rattle.curve_history.proofs.Twins.{says_there}
 use Rattle.integers.proofs.Tests.{other_number, same_number}
@@ -154,25 +156,26 @@ node_at c k n w m =
 pub says_on : (c : Chained) (k i : ℕ) → IsWhole c k → Says c k i → (n : ℕ) × Member n (chain c k) × (item_in c n ≡ i)
 says_on c k i w s = (s.node, to_member (chain c k) s.node ((w.members s.node).1 (entry k i s.twin, s.is, refl)), item_is c s.node (entry k i s.twin) s.is)
 
--- ---- the walk that looks for an item
-pub record IsSought (c : Chained) (k i : ℕ) (at : Option ℕ) : Type 0 where
+-- ---- the walk that looks for an item of a kind
+pub record IsSought (c : Chained) (k : ℕ) (P : ℕ → Type 0) (at : Option ℕ) : Type 0 where
   pub here : IsAt (chain c k) at
-  pub rest : (n : ℕ) → Member n (chain c k) → item_in c n ≡ i → Member n (left (chain c k) at)
+  pub rest : (n : ℕ) → Member n (chain c k) → P (item_in c n) → Member n (left (chain c k) at)
 
-pub seek : (c : Chained) (k i : ℕ) (at : Option ℕ) → at ≡ first_of (chain c k) → IsSought c k i at
-seek c k i at e = subst (IsSought c k i) (sym e) (record {
+pub seek : (c : Chained) (k : ℕ) (P : ℕ → Type 0) (at : Option ℕ) → at ≡ first_of (chain c k) → IsSought c k P at
+seek c k P at e = subst (IsSought c k P) (sym e) (record {
   here = at_head (chain c k);
   rest = λ n m q. subst (λ xs. Member n xs) (sym (left_head (chain c k))) m;
 })
 
--- goes on from a node that says another item
-pub seek_on : (c : Chained) (k i n : ℕ) (e : Entry) (at : Option ℕ) → IsWhole c k → IsSought c k i (Some n) → entry_at c n ≡ Some e → e.item ≢ i → ((e : Entry) → entry_at c n ≡ Some e → at ≡ comes_after (chain c e.key) n) → IsSought c k i at
-seek_on c k i n e at w s h ne f =
+-- goes on from a node that says an item of another kind
+pub seek_on : (c : Chained) (k n : ℕ) (P : ℕ → Type 0) (e : Entry) (before at : Option ℕ) → IsWhole c k → before ≡ Some n → IsSought c k P before → entry_at c n ≡ Some e → (P e.item → ⊥) → ((e : Entry) → entry_at c n ≡ Some e → at ≡ comes_after (chain c e.key) n) → IsSought c k P at
+seek_on c k n P e before at w b s' h ne f =
+    let s : IsSought c k P (Some n) = subst (IsSought c k P) b s' in
     let t = node_at c k n w s.here in
     let g : IsStepped (chain c k) n = stepped (chain c k) n (apart (chain c k) w.once) s.here in
-    subst (IsSought c k i) (sym (f (entry k (item_in c n) t.0) t.1)) (record {
+    subst (IsSought c k P) (sym (f (entry k (item_in c n) t.0) t.1)) (record {
       here = g.at;
-      rest = λ m q r. ⊎_elim (λ x. absurd (ne (sym (item_is c n e h) ∙ ap (item_in c) (sym x) ∙ r))) (λ x. x) (subst (λ xs. Member m xs) g.left_is (s.rest m q r));
+      rest = λ m q r. ⊎_elim (λ x. absurd (ne (subst P (ap (item_in c) x ∙ item_is c n e h) r))) (λ x. x) (subst (λ xs. Member m xs) g.left_is (s.rest m q r));
     })
 
 -- what is left gets less
@@ -187,16 +190,16 @@ less_left c k n at w m f =
 pub less_on : (c : Chained) (k n : ℕ) (before at : Option ℕ) → IsWhole c k → before ≡ Some n → IsAt (chain c k) before → ((e : Entry) → entry_at c n ≡ Some e → at ≡ comes_after (chain c e.key) n) → length (left (chain c k) at) < length (left (chain c k) before)
 less_on c k n before at w e m f = subst (λ o. length (left (chain c k) at) < length (left (chain c k) o)) (sym e) (less_left c k n at w (subst (IsAt (chain c k)) e m) f)
 
-pub not_found : (c : Chained) (k i : ℕ) (at : Option ℕ) → IsWhole c k → IsSought c k i at → at ≡ None → ¬ Says c k i
+pub not_found : (c : Chained) (k : ℕ) (P : ℕ → Type 0) (at : Option ℕ) → IsWhole c k → IsSought c k P at → at ≡ None → (i : ℕ) → P i → ¬ Says c k i
 unfolding left
-not_found c k i at w s e h =
+not_found c k P at w s e i p h =
     let n = says_on c k i w h in
-    subst (λ (o : Option ℕ). Member n.0 (left (chain c k) o) → ⊥) (sym e) (λ m. m) (s.rest n.0 n.1 n.2)
+    subst (λ (o : Option ℕ). Member n.0 (left (chain c k) o) → ⊥) (sym e) (λ m. m) (s.rest n.0 n.1 (subst P (sym n.2) p))
 
-pub found : (c : Chained) (k i n : ℕ) (e : Entry) → IsWhole c k → IsSought c k i (Some n) → entry_at c n ≡ Some e → e.item ≡ i → (t : ℕ) × (entry_at c n ≡ Some (entry k i t))
-found c k i n e w s h q =
-    let t = node_at c k n w s.here in
-    (t.0, subst (λ x. entry_at c n ≡ Some (entry k x t.0)) (item_is c n e h ∙ q) t.1)
+pub found : (c : Chained) (k n : ℕ) (e : Entry) (at : Option ℕ) → IsWhole c k → at ≡ Some n → IsAt (chain c k) at → entry_at c n ≡ Some e → (t : ℕ) × (entry_at c n ≡ Some (entry k e.item t))
+found c k n e at w b s h =
+    let t = node_at c k n w (subst (IsAt (chain c k)) b s) in
+    (t.0, subst (λ x. entry_at c n ≡ Some (entry k x t.0)) (item_is c n e h) t.1)
 
 -- a walk is at a node
 pub at_node : (c : Chained) (k n : ℕ) → IsWhole c k → Member n (chain c k) → HasNode c n
@@ -236,6 +239,25 @@ unfolding left
 collected c k items at e s =
     let s' : IsCollected c k items None = subst (IsCollected c k items) e s in
     sym (append-nil items) ∙ s'.rest
+
+-- where the curves of the items are kept
+pub record AreCurvesCollected (c : Chained) (k : ℕ) (ids : List ℕ) (at : Option ℕ) : Type 0 where
+  pub items : List ℕ
+  pub collected : IsCollected c k items at
+  pub curves : ids ≡ map curve_of items
+
+pub collect_curves : (c : Chained) (k : ℕ) (ids : List ℕ) (at : Option ℕ) → ids ≡ [] → at ≡ first_of (chain c k) → AreCurvesCollected c k ids at
+collect_curves c k ids at i e = record { items = []; collected = collect c k [] at refl e; curves = i }
+
+pub collect_curves_on : (c : Chained) (k n : ℕ) (e : Entry) (vs vs' : List CurveId) (x : CurveId) (before at : Option ℕ) → IsWhole c k → before ≡ Some n → AreCurvesCollected c k (map (λ (x : CurveId). x.0) vs) before → entry_at c n ≡ Some e → vs' ≡ vs ++ x ∷ [] → x.0 ≡ curve_of e.item → ((e : Entry) → entry_at c n ≡ Some e → at ≡ comes_after (chain c e.key) n) → AreCurvesCollected c k (map (λ (x : CurveId). x.0) vs') at
+collect_curves_on c k n e vs vs' x before at w b s h v q g = record {
+  items = s.items ++ e.item ∷ [];
+  collected = collect_on c k n e s.items before at w b s.collected h g;
+  curves = ap (map (λ (x : CurveId). x.0)) v ∙ map-append (λ (x : CurveId). x.0) vs (x ∷ []) ∙ ap₂ (λ is i. is ++ i ∷ []) s.curves q ∙ sym (map-append curve_of s.items (e.item ∷ []));
+}
+
+pub curves_collected : (c : Chained) (k : ℕ) (ids : List ℕ) (at : Option ℕ) → at ≡ None → AreCurvesCollected c k ids at → ids ≡ map curve_of (map (item_in c) (chain c k))
+curves_collected c k ids at e s = s.curves ∙ ap (map curve_of) (collected c k s.items at e s.collected)
 
 -- the item that a walk is at is said along the key
 pub says_here : (c : Chained) (k n : ℕ) (e : Entry) (at : Option ℕ) → IsWhole c k → at ≡ Some n → IsAt (chain c k) at → entry_at c n ≡ Some e → Says c k e.item

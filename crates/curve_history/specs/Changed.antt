@@ -7,6 +7,7 @@ use Rattle.chain_laws.specs.Links.{comes_after}
 use Rattle.linked_chains.specs.Chains.{Chained, HasKey, entry_at, chain, put_after}
 use Rattle.linked_chains.specs.declared.node.Entry.{Entry}
 use Rattle.curve_history.specs.HistoryInMemory.{Says, entry, item_in}
+use Rattle.edit_steps.specs.EditLaws.{curve_of}
 
 -- both have the same keys, and the new ones no less room for more; as many nodes fit in all
 pub record AreSameKeys (old new : Chained) : Type 0 where
@@ -66,6 +67,12 @@ pub record IsOneLess (old new : Chained) (edge curve : ℕ) : Type 0 where
   pub gone : ¬ Says new edge curve
   pub stays : (k i : ℕ) → Says new k i → Says old k i
   pub others : (k i : ℕ) → Says old k i → Says new k i ⊎ ((k ≡ edge) × (i ≡ curve))
+  pub keys : (k : ℕ) → HasKey new k → HasKey old k
+
+-- at most pairs of an edge and sides of a curve are gone; keys stay (this project)
+pub record AreSidesLess (old new : Chained) (edge curve : ℕ) : Type 0 where
+  pub stays : (k i : ℕ) → Says new k i → Says old k i
+  pub others : (k i : ℕ) → Says old k i → Says new k i ⊎ ((k ≡ edge) × (curve_of i ≡ curve))
   pub keys : (k : ℕ) → HasKey new k → HasKey old k
 
 -- at most pairs of an edge are gone; keys stay

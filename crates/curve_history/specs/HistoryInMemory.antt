@@ -10,6 +10,7 @@ use Rattle.slab_laws.specs.declared.present.Piece.{Piece as PieceInMemory}
 use Rattle.linked_chains.specs.Chains.{Chained, HasKey, entry_at, chain}
 use Rattle.linked_chains.specs.declared.node.Entry.{Entry}
 use Rattle.curve_history.specs.Past.{Past}
+use Rattle.edit_steps.specs.EditLaws.{curve_of}
 
 -- what a node says: the key of its chain, its item and its twin
 abbrev pub entry : ℕ → ℕ → ℕ → Entry
@@ -29,19 +30,20 @@ pub record Says (c : Chained) (key item : ℕ) : Type 0 where
   pub twin : ℕ
   pub is : entry_at c node ≡ Some (entry key item twin)
 
--- each node's twin is a node of the other side, which says the same turned round and names it back
-pub record AreTwins (one other : Chained) : Type 0 where
-  pub twin : (n key item twin : ℕ) → entry_at one n ≡ Some (entry key item twin) → entry_at other twin ≡ Some (entry item key n)
+-- a node of an edge, which says a side of a curve, and a node of that curve, which says the edge (this project)
+pub record IsBeside (of_edge of_curve : Entry) : Type 0 where
+  pub edge : of_curve.item ≡ of_edge.key
+  pub curve : of_curve.key ≡ curve_of of_edge.item
 
--- the nodes of both sides are twins, and each pair of an edge and a curve is said once
+-- each node's twin is a node beside it, which names it back
+pub record AreTwins (Beside : Entry → Entry → Type 0) (one other : Chained) : Type 0 where
+  pub twin : (n : ℕ) (e : Entry) → entry_at one n ≡ Some e → (f : Entry) × (entry_at other e.twin ≡ Some f) × (f.twin ≡ n) × Beside e f
+
+-- the nodes of edges and those of curves are twins, and each pair of an edge and a side of a curve is said once
 pub record ArePairs (edges curves : Chained) : Type 0 where
-  pub forth : AreTwins edges curves
-  pub back : AreTwins curves edges
+  pub forth : AreTwins IsBeside edges curves
+  pub back : AreTwins (λ f e. IsBeside e f) curves edges
   pub once : (m n key item s t : ℕ) → entry_at edges m ≡ Some (entry key item s) → entry_at edges n ≡ Some (entry key item t) → m ≡ n
-
--- no two nodes of an edge say one curve (this project)
-abbrev pub SaysEachOnce : Chained → ℕ → Type 0
-SaysEachOnce edges edge = (m n i s t : ℕ) → entry_at edges m ≡ Some (entry edge i s) → entry_at edges n ≡ Some (entry edge i t) → m ≡ n
 
 -- what the nodes of a key say, in the order of its chain
 abbrev pub items_along : Chained → ℕ → List ℕ
@@ -52,7 +54,7 @@ abbrev pub IsDescending : List ℕ → Type 0
 IsDescending [] = ⊤
 IsDescending (x ∷ xs) = AllByRecursion (λ y. y < x) xs × IsDescending xs
 
--- the curves of each edge stand in its chain from the greatest number to the least (this project)
+-- the sides of curves along each edge stand in its chain from the greatest number to the least (this project)
 abbrev pub AreOrdered : Chained → Type 0
 AreOrdered edges = (k : ℕ) → IsDescending (items_along edges k)
 

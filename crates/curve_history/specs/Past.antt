@@ -6,8 +6,9 @@ use Rattle.plane_graphs.specs.Ascending.{ascending, place}
 use Rattle.plane_graphs.specs.Graph.{same_curve}
 use Rattle.plane_graphs.specs.Piece.{Piece}
 use Rattle.slab_laws.specs.declared.names.DartId.{DartId}
+use Rattle.edit_steps.specs.EditLaws.{curve_of}
 
--- pairs of an edge, by the name of its dart from the lower to the upper end, and a curve along it; the numbers of the named curves, ascending; the pieces, in the order in which they came; the number that the next curve gets; how many more of each fit with no memory; and how many pairs, by edge and by curve, and how many pieces fit in all (CGAL manual, arrangements with history)
+-- pairs of an edge, by the name of its dart from the lower to the upper end, and a side of a curve along it, by its number among all sides; the numbers of the named curves, ascending; the pieces, in the order in which they came; the number that the next curve gets; how many more of each fit with no memory; and how many pairs, by edge and by curve, and how many pieces fit in all (CGAL manual, arrangements with history)
 pub record Past : Type 0 where
   pub pairs : List (ℕ × ℕ)
   pub names : List ℕ
@@ -20,9 +21,17 @@ pub record Past : Type 0 where
   pub capacity_by_curve : ℕ
   pub capacity_of_pieces : ℕ
 
--- the curves along the edge of a dart, ascending; none for other names
+-- the sides of curves along the edge of a dart, by their numbers among all sides, ascending; none for other names (this project)
+unfoldable pub strands_on : Past → DartId → List ℕ
+strands_on p d = ascending nat_cmp (map (λ e. e.1) (filter (λ e. e.0 == d.0) p.pairs))
+
+-- the curves of sides, ascending, each once (this project)
+unfoldable pub curves_of : List ℕ → List ℕ
+curves_of zs = ascending nat_cmp (map curve_of zs)
+
+-- the curves along the edge of a dart, ascending, each once; none for other names (CGAL manual, originating curves)
 unfoldable pub curves_on : Past → DartId → List ℕ
-curves_on p d = ascending nat_cmp (map (λ e. e.1) (filter (λ e. e.0 == d.0) p.pairs))
+curves_on p d = curves_of (strands_on p d)
 
 -- both have the same names, pieces and next number
 pub record SameLayer (old new : Past) : Type 0 where
@@ -33,6 +42,34 @@ pub record SameLayer (old new : Past) : Type 0 where
 -- both have the same curves along every edge
 abbrev pub SameCurves : Past → Past → Type 0
 SameCurves old new = (d : DartId) → curves_on new d ≡ curves_on old d
+
+-- both have the same sides of curves along every edge (this project)
+abbrev pub SameStrands : Past → Past → Type 0
+SameStrands old new = (d : DartId) → strands_on new d ≡ strands_on old d
+
+-- along the edge of a dart the sides of curves are changed so, and along every other edge they stay (this project)
+abbrev pub StrandsChangeOn : Past → Past → DartId → (List ℕ → List ℕ) → Type 0
+StrandsChangeOn old new d change = (x : DartId) → strands_on new x ≡ cond (x.0 == d.0) (change (strands_on old x)) (strands_on old x)
+
+-- one more side runs along the edge of a dart, and along every other edge the same ones (this project)
+abbrev pub GainsStrand : Past → Past → DartId → ℕ → Type 0
+GainsStrand old new d strand = StrandsChangeOn old new d (place nat_cmp strand)
+
+-- the side runs along the edge of a dart no more, and along every other edge the same ones do (this project)
+abbrev pub LosesStrand : Past → Past → DartId → ℕ → Type 0
+LosesStrand old new d strand = StrandsChangeOn old new d (filter (λ z. not (same_curve z strand)))
+
+-- no side of the curve runs along the edge of a dart any more, and along every other edge the same ones do (this project)
+abbrev pub LosesSides : Past → Past → DartId → ℕ → Type 0
+LosesSides old new d curve = StrandsChangeOn old new d (filter (λ z. not (same_curve (curve_of z) curve)))
+
+-- no side runs along the edge of a dart any more, and along every other edge the same ones do (this project)
+abbrev pub LosesStrands : Past → Past → DartId → Type 0
+LosesStrands old new d = StrandsChangeOn old new d (λ zs. [])
+
+-- along the edge of n run the sides that ran along that of d, and along every other edge the same ones (this project)
+abbrev pub CopiesStrands : Past → Past → DartId → DartId → Type 0
+CopiesStrands old new d n = StrandsChangeOn old new n (λ zs. strands_on old d)
 
 -- along the edge of a dart the curves are changed so, and along every other edge they stay (this project)
 abbrev pub AreChangedOn : Past → Past → DartId → (List ℕ → List ℕ) → Type 0

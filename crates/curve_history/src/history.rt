@@ -8,8 +8,9 @@ pub const LAST_CURVE: u32 = u32::MAX;
 
 /// Which curves run along which edges, the named curves, their pieces, and the number of the next curve.
 ///
-/// Each pair of an edge and a curve along it is two nodes that know each other, one in the chain of its edge and one in the
-/// chain of its curve. The chain of an edge goes from its greatest curve to its least.
+/// Each pair of an edge and a side of a curve along it is two nodes that know each other, one in the chain of its edge, which
+/// says the side by its number among all sides, and one in the chain of its curve, which says the edge. The chain of an edge goes
+/// from its greatest side to its least, so that the sides of a curve stand together.
 #[derive(Drop)]
 pub struct History {
     pub(crate) by_edge: Chains,

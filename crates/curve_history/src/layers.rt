@@ -7,7 +7,7 @@ ghost use Rattle.slab_laws.specs.Pieces.{piece_of};
 ghost use Rattle.curve_history.specs.Changed.{IsRoomier};
 ghost use Rattle.curve_history.specs.Cuts.{rests_of, IsPlanOfCut};
 ghost use Rattle.curve_history.specs.HistoryInMemory.{number_of, pair_room};
-ghost use Rattle.curve_history.specs.Past.{curves_on, HasRoom, SameCurves, SameLayer, SameHistoryCapacity, IsSpare};
+ghost use Rattle.curve_history.specs.Past.{curves_on, strands_on, HasRoom, SameCurves, SameStrands, SameLayer, SameHistoryCapacity, IsSpare};
 
 use crate::cuts::{CutPlan, cut_all, plan_of_cut};
 use crate::history::{History, HistoryError, LAST_CURVE};
@@ -44,6 +44,17 @@ fn number_after(number: u32) -> Option<u32>
     number.checked_add(1)
 }
 
+// Several sides of a curve may run along an edge, which then stands in its chain several times.
+fn each_once(edges: Vec<DartId>) -> Vec<DartId>
+    ensures edges { (d : _) → Contains result.items d ↔ Contains edges.items d }
+    ensures once { IsDistinct (λ a b. a.0 == b.0) result.items }
+{
+    let mut edges = edges;
+    edges.sort_unstable();
+    edges.dedup();
+    edges
+}
+
 fn is_of_another(piece: &Piece, curve: CurveId) -> bool
     ensures { result ≡ not (same_curve piece.now.curve.0 curve.0) }
 {
@@ -55,7 +66,8 @@ impl History {
     pub fn new(alloc: Global, first: u32) -> Result<History, NoMemory>
         requires { 1 ≤ first }
         ensures succeeds { IsOk result }
-        ensures nothing { IfOk result (λ h. (d : _) → curves_on h d ≡ []) }
+        ensures nothing { IfOk result (λ h. (d : _) → strands_on h d ≡ []) }
+        ensures curves { IfOk result (λ h. (d : _) → curves_on h d ≡ []) }
         ensures names { IfOk result (λ h. h.names ≡ []) }
         ensures pieces { IfOk result (λ h. h.pieces ≡ []) }
         ensures next { IfOk result (λ h. h.next ≡ first) }
@@ -79,6 +91,7 @@ impl History {
         ensures nodes { OnOk result (nodes ≤ self.new.spare_pairs) }
         ensures succeeds { HasRoom self.old names pieces nodes → IsOk result }
         ensures layer { SameLayer self.old self.new }
+        ensures strands { SameStrands self.old self.new }
         ensures curves { SameCurves self.old self.new }
         ensures keeps { IsSpare self.old self.new 0 0 0 }
     {
@@ -87,13 +100,14 @@ impl History {
         Ok(())
     }
 
-    /// What is true of all histories: curves along edges have names, which ascend and are below the next number, and a `usize`
-    /// counts the room for more pairs.
+    /// What is true of all histories: curves along edges have names, which ascend and are below the next number, which is 2^32
+    /// once the last one was drawn; and a `usize` counts the room for more pairs.
     pub fn laws(&self)
         ensures named { (d : _) (k : _) → Member k (curves_on self.now d) → Member k self.now.names }
         ensures ascend { IsAscending nat_cmp self.now.names }
         ensures numbers { (k : _) → Member k self.now.names → (1 ≤ k) × (k < self.now.next) }
         ensures next { self.now.next ≤ LAST_CURVE + 1 }
+        ensures last { LAST_CURVE ≡ 4294967295 }
         ensures few { length self.now.pieces < 2 ^ 32 }
         ensures spare { self.now.spare_pairs < 2 ^ 64 }
     {
@@ -115,6 +129,7 @@ impl History {
         ensures names { self.new.names ≡ self.old.names ++ self.old.next ∷ [] }
         ensures next { self.new.next ≡ self.old.next + 1 }
         ensures pieces { self.new.pieces ≡ self.old.pieces }
+        ensures strands { SameStrands self.old self.new }
         ensures curves { SameCurves self.old self.new }
         ensures spare_pieces { self.old.spare_pieces ≤ self.new.spare_pieces }
         ensures spare_pairs { self.old.spare_pairs ≤ self.new.spare_pairs }
@@ -132,6 +147,7 @@ impl History {
         ensures pieces { self.new.pieces ≡ self.old.pieces ++ piece_of piece ∷ [] }
         ensures names { self.new.names ≡ self.old.names }
         ensures next { self.new.next ≡ self.old.next }
+        ensures strands { SameStrands self.old self.new }
         ensures curves { SameCurves self.old self.new }
         ensures spare_names { self.old.spare_names ≤ self.new.spare_names }
         ensures spare_pairs { self.old.spare_pairs ≤ self.new.spare_pairs }
@@ -156,6 +172,7 @@ impl History {
         ensures pieces { self.new.pieces ≡ rests_of p.now q.now self.old.pieces }
         ensures names { self.new.names ≡ self.old.names }
         ensures next { self.new.next ≡ self.old.next }
+        ensures strands { SameStrands self.old self.new }
         ensures curves { SameCurves self.old self.new }
     {
         cut_all(&mut self.pieces, p, q, plan);
@@ -168,6 +185,7 @@ impl History {
         ensures names { self.new.names ≡ filter (λ n. not (same_curve n curve.0)) self.old.names }
         ensures pieces { self.new.pieces ≡ filter (λ k. not (same_curve k.curve curve.0)) self.old.pieces }
         ensures next { self.new.next ≡ self.old.next }
+        ensures strands { SameStrands self.old self.new }
         ensures curves { SameCurves self.old self.new }
         ensures keeps { IsSpare self.old self.new 0 0 0 }
         ensures capacity { SameHistoryCapacity self.old self.new }
@@ -186,11 +204,12 @@ impl History {
     pub fn curves_of(&self, alloc: Global, d: DartId) -> Result<Vec<CurveId>, NoMemory>
         ensures { IfOk result (λ v. map (λ c. c.0) v.items ≡ curves_on self.now d) }
     {
-        // The numbers fit, and stand in the edge's chain from the greatest to the least.
+        // The numbers fit, and stand in the edge's chain from the greatest to the least, those of one curve together.
         self.by_edge.laws();
         self.by_curve.laws();
         let mut curves = curves_along(&self.by_edge, alloc, d.0)?;
         curves.reverse();
+        curves.dedup();
         Ok(curves)
     }
 
@@ -202,19 +221,19 @@ impl History {
         self.by_edge.has_key(d.0)
     }
 
-    /// How many curves run along an edge. It takes no memory.
+    /// How many sides of curves run along an edge, which are as many pieces. It takes no memory.
     pub fn count_on(&self, d: DartId) -> usize
-        ensures { result ≡ length (curves_on self.now d) }
+        ensures { result ≡ length (strands_on self.now d) }
     {
-        // Each curve is one node.
+        // Each side is one node.
         self.by_edge.laws();
         count_along(&self.by_edge, d.0)
     }
 
-    /// Whether the same curves run along both edges. It takes no memory.
-    pub fn same_curves(&self, d: DartId, n: DartId) -> bool
-        ensures same { result ≡ true → curves_on self.now d ≡ curves_on self.now n }
-        ensures differ { result ≡ false → curves_on self.now d ≢ curves_on self.now n }
+    /// Whether the same sides of curves run along both edges. It takes no memory.
+    pub fn same_strands(&self, d: DartId, n: DartId) -> bool
+        ensures same { result ≡ true → strands_on self.now d ≡ strands_on self.now n }
+        ensures differ { result ≡ false → strands_on self.now d ≢ strands_on self.now n }
     {
         // Both chains are in order.
         self.by_edge.laws();
@@ -234,10 +253,9 @@ impl History {
         if !self.by_curve.has_key(curve.0 as usize) {
             return Err(HistoryError::Unknown);
         }
-        // Each edge stands once.
         self.by_curve.laws();
         match edges_along(&self.by_curve, alloc, curve.0 as usize) {
-            Ok(edges) => Ok(edges),
+            Ok(edges) => Ok(each_once(edges)),
             Err(NoMemory) => Err(HistoryError::NoMemory),
         }
     }
@@ -267,6 +285,7 @@ impl History {
 
     /// No curve has a name, and no piece is left; the next number stays.
     pub fn clear(&mut self)
+        ensures strands { (d : _) → strands_on self.new d ≡ [] }
         ensures curves { (d : _) → curves_on self.new d ≡ [] }
         ensures names { self.new.names ≡ [] }
         ensures pieces { self.new.pieces ≡ [] }

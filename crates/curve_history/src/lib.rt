@@ -11,6 +11,7 @@ mod history;
 mod layers;
 mod others;
 mod pairs;
+mod strands;
 mod walks;
 
 pub use cuts::CutPlan;

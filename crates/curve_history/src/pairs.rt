@@ -2,7 +2,9 @@ ghost use Rattle.std.specs.Prelude.{◌≡◌, ◌≢◌, ◌⊎◌, ◌↔◌, 
 ghost use Rattle.linked_chains.specs.Chains.{chain, HasKey, HasNode, IsSpare, SetsEntry};
 ghost use Rattle.curve_history.specs.Changed.{put_at, AreSameKeys, IsOfEdge, IsPairMore, IsPutAt, LosesPairOf};
 ghost use Rattle.curve_history.specs.HistoryInMemory.{entry, pair_room, AreOrdered, ArePairs, AreFilled, Says};
+ghost use Rattle.edit_steps.specs.EditLaws.{curve_of as curve_number};
 
+use crate::strands::curve_of;
 use linked_chains::Chains;
 
 // A chain for an edge, which may be there.
@@ -21,12 +23,12 @@ fn make_key(edges: &mut Chains, edge: usize)
 }
 
 // A node more in the chain of an edge, first or directly after another one, in room that is there.
-fn push_at(edges: &mut Chains, edge: usize, curve: usize, last: Option<usize>) -> usize
+fn push_at(edges: &mut Chains, edge: usize, strand: usize, last: Option<usize>) -> usize
     requires edge { HasKey edges.old edge }
     requires place { IsOfEdge edges.old edge last }
     requires room { 1 ≤ edges.old.spare_nodes }
     ensures name { ¬ HasNode edges.old result }
-    ensures entries { SetsEntry edges.old edges.new result (Some (entry edge curve 0)) }
+    ensures entries { SetsEntry edges.old edges.new result (Some (entry edge strand 0)) }
     ensures here { chain edges.new edge ≡ put_at last result (chain edges.old edge) }
     ensures others { (k : _) → k ≢ edge → chain edges.new k ≡ chain edges.old k }
     ensures keys { (k : _) → HasKey edges.old k ↔ HasKey edges.new k }
@@ -36,29 +38,30 @@ fn push_at(edges: &mut Chains, edge: usize, curve: usize, last: Option<usize>) -
     // The nodes of the edge's chain have its key.
     edges.laws();
     match last {
-        Some(last) => edges.push_after(last, curve, 0),
-        None => edges.push(edge, curve, 0),
+        Some(last) => edges.push_after(last, strand, 0),
+        None => edges.push(edge, strand, 0),
     }
 }
 
-// Two nodes that are each other's twin, in the chain of an edge, first or directly after another one, and in that of a curve.
+// Two nodes that are each other's twin, in the chain of an edge, first or directly after another one, and in that of the curve
+// whose side the first one says.
 fn push_twins(
     edges: &mut Chains,
     curves: &mut Chains,
     edge: usize,
-    curve: usize,
+    strand: usize,
     last: Option<usize>,
 ) -> usize
     requires pairs { ArePairs edges.old curves.old }
     requires edge { HasKey edges.old edge }
-    requires named { HasKey curves.old curve }
-    requires new { ¬ Says edges.old edge curve }
+    requires named { HasKey curves.old (curve_number strand) }
+    requires new { ¬ Says edges.old edge strand }
     requires place { IsOfEdge edges.old edge last }
     requires room_by_edge { 1 ≤ edges.old.spare_nodes }
     requires room_by_curve { 1 ≤ curves.old.spare_nodes }
     ensures pairs { ArePairs edges.new curves.new }
-    ensures more { IsPairMore edges.old edges.new edge curve }
-    ensures put { IsPutAt edges.old edges.new edge curve last result }
+    ensures more { IsPairMore edges.old edges.new edge strand }
+    ensures put { IsPutAt edges.old edges.new edge strand last result }
     ensures named { AreSameKeys curves.old curves.new }
     ensures spare_keys { edges.old.spare_keys ≤ edges.new.spare_keys }
     ensures nodes_by_edge { edges.old.spare_nodes ≡ edges.new.spare_nodes + 1 }
@@ -66,8 +69,8 @@ fn push_twins(
 {
     // The nodes of the edge's chain are old ones.
     edges.laws();
-    let node = push_at(edges, edge, curve, last);
-    let twin = curves.push(curve, edge, node);
+    let node = push_at(edges, edge, strand, last);
+    let twin = curves.push(curve_of(strand), edge, node);
     edges.set_twin(node, twin);
     node
 }
@@ -77,22 +80,22 @@ pub(crate) fn hold_after(
     edges: &mut Chains,
     curves: &mut Chains,
     edge: usize,
-    curve: usize,
+    strand: usize,
     last: Option<usize>,
 ) -> usize
     requires pairs { ArePairs edges.old curves.old }
-    requires named { HasKey curves.old curve }
-    requires new { ¬ Says edges.old edge curve }
+    requires named { HasKey curves.old (curve_number strand) }
+    requires new { ¬ Says edges.old edge strand }
     requires place { IsOfEdge edges.old edge last }
     requires room { 1 ≤ pair_room edges.old curves.old }
     ensures pairs { ArePairs edges.new curves.new }
-    ensures more { IsPairMore edges.old edges.new edge curve }
-    ensures put { IsPutAt edges.old edges.new edge curve last result }
+    ensures more { IsPairMore edges.old edges.new edge strand }
+    ensures put { IsPutAt edges.old edges.new edge strand last result }
     ensures named { AreSameKeys curves.old curves.new }
     ensures room { pair_room edges.old curves.old ≤ pair_room edges.new curves.new + 1 }
 {
     make_key(edges, edge);
-    push_twins(edges, curves, edge, curve, last)
+    push_twins(edges, curves, edge, strand, last)
 }
 
 /// A pair fewer, that of a node.

@@ -1,17 +1,18 @@
 use Rattle.curve_history.specs.HistoryInMemory.{entry}
+use Rattle.edit_steps.specs.EditLaws.{curve_of}
 use Rattle.curve_history.proofs.Placing.{ordered_less}
 use Rattle.curve_history.proofs.Reading.{node_of}
-use Rattle.curve_history.proofs.Twins.{IsNodeLess, node_less, pair_less, pairs_less, less_at}
+use Rattle.curve_history.proofs.Twins.{beside, IsNodeLess, node_less, pair_less, pairs_less, less_at}
 use Rattle.curve_history.proofs.pairs.release_pair.Goals as goal
 
 pub remove-requires-2 : goal.remove-requires-2
-remove-requires-2 c = node_of c.args.curves.now c.entry-twin.result.twin (entry c.entry-twin.result.item c.entry-twin.result.key c.args.node) (c.requires.pairs.forth.twin _ _ _ _ c.entry-twin.ensures)
+remove-requires-2 c = node_of c.args.curves.now c.entry-twin.result.twin (entry (curve_of c.entry-twin.result.item) c.entry-twin.result.key c.args.node) (beside _ _ _ _ _ _ c.requires.pairs c.entry-twin.ensures)
 
 of_edge : (c : goal.After-remove-2) → IsNodeLess c.args.edges.now c.remove.new.self c.args.node (entry c.entry-twin.result.key c.entry-twin.result.item c.entry-twin.result.twin)
 of_edge c = node_less _ _ _ _ c.entry-twin.ensures c.remove.ensures.entries
 
-of_curve : (c : goal.After-remove-2) → IsNodeLess c.args.curves.now c.remove-2.new.self c.entry-twin.result.twin (entry c.entry-twin.result.item c.entry-twin.result.key c.args.node)
-of_curve c = node_less _ _ _ _ (c.requires.pairs.forth.twin _ _ _ _ c.entry-twin.ensures) c.remove-2.ensures.entries
+of_curve : (c : goal.After-remove-2) → IsNodeLess c.args.curves.now c.remove-2.new.self c.entry-twin.result.twin (entry (curve_of c.entry-twin.result.item) c.entry-twin.result.key c.args.node)
+of_curve c = node_less _ _ _ _ (beside _ _ _ _ _ _ c.requires.pairs c.entry-twin.ensures) c.remove-2.ensures.entries
 
 pub returns-clause-pairs : goal.returns-clause-pairs
 returns-clause-pairs c = pairs_less _ _ _ _ _ _ _ _ (of_edge c) (of_curve c) c.requires.pairs

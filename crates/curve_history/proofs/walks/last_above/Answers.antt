@@ -9,8 +9,8 @@ walk-init c = climb _ _ _ _ c.first-at.ensures
 pub entry-requires : goal.entry-requires
 entry-requires c = at_node_on _ _ _ _ (c.laws.ensures.whole _) c.in-Some.is (climbed_at _ _ _ _ _ (c.laws.ensures.whole _) c.walk.invariant)
 
-pub returns-then-entry-curve : goal.returns-then-entry-curve
-returns-then-entry-curve c = climbed_to _ _ _ _ _ (c.laws.ensures.whole _) c.walk.invariant _ _ c.in-Some.is c.entry.ensures c.if-entry-curve.true
+pub returns-then-entry-strand : goal.returns-then-entry-strand
+returns-then-entry-strand c = climbed_to _ _ _ _ _ (c.laws.ensures.whole _) c.walk.invariant _ _ c.in-Some.is c.entry.ensures c.if-entry-strand.true
 
 pub walk-smaller : goal.walk-smaller
 walk-smaller c = less_on _ _ _ _ _ (c.laws.ensures.whole _) c.in-Some.is (climbed_at _ _ _ _ _ (c.laws.ensures.whole _) c.walk.invariant) c.after-at.ensures

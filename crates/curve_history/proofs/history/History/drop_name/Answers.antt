@@ -4,6 +4,7 @@ use Rattle.plane_graphs.specs.Graph.{same_curve}
 use Rattle.slab_laws.specs.declared.present.Piece.{Piece}
 use Rattle.curve_history.proofs.Histories.{sees, has_name, held_same}
 use Rattle.curve_history.proofs.Naming.{chain_free, less_names, less_pieces}
+use Rattle.curve_history.proofs.Sides.{same_strands_curves}
 use Rattle.curve_history.proofs.history.History.drop_name.Goals as goal
 
 pub remove_key-requires-clause-has : goal.remove_key-requires-clause-has
@@ -18,5 +19,8 @@ returns-clause-names c = less_names _ _ (sees c.self.inside _ c.self.view_is) c.
 pub returns-clause-pieces : goal.returns-clause-pieces
 returns-clause-pieces c = less_pieces _ _ (sees c.self.inside _ c.self.view_is) _ _ (filter_same _ (λ (k : Piece). not (same_curve k.curve.0 c.args.curve.0)) _ (λ x b f h. search rules) _ _ c.retain.ensures.filtered)
 
+pub returns-clause-strands : goal.returns-clause-strands
+returns-clause-strands c = held_same _ _ (sees c.self.inside _ c.self.view_is) _ c.self.inside.by_edge refl refl
+
 pub returns-clause-curves : goal.returns-clause-curves
-returns-clause-curves c = held_same _ _ (sees c.self.inside _ c.self.view_is) _ c.self.inside.by_edge refl refl
+returns-clause-curves c = same_strands_curves _ _ (held_same _ _ (sees c.self.inside _ c.self.view_is) _ c.self.inside.by_edge refl refl)
