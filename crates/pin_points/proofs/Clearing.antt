@@ -9,10 +9,10 @@ use Rattle.observer_bus.specs.Rounds.{BusRow}
 use Rattle.told_steps.specs.RecordLayers.{IsLayer, layer_of}
 use Rattle.told_steps.proofs.Layers.{steps_make_layers}
 use Rattle.told_steps.proofs.ToldTogether.{told_runs_lawful}
-use Rattle.told_steps.specs.ToldRuns.{IsToldRun}
+use Rattle.told_steps.specs.SidedRuns.{IsSidedRun}
 
-module _ (v : MapView) (p : Past) (b : BusRow) (w : MapView) (q : Past) (c : BusRow) (told : IsToldRun v (curves_on p) b (Clear ∷ []) w (curves_on q) c) where
-  pub clear_told : IsToldRun v (curves_on p) b (steps ClearAll (layer_of v.graph p).present) w (curves_on q) c
+module _ (v : MapView) (p : Past) (b : BusRow) (w : MapView) (q : Past) (c : BusRow) (told : IsSidedRun v p b (Clear ∷ []) w q c) where
+  pub clear_told : IsSidedRun v p b (steps ClearAll (layer_of v.graph p).present) w q c
   unfolding steps
   clear_told = told
 
@@ -23,4 +23,4 @@ module _ (v : MapView) (p : Past) (b : BusRow) (w : MapView) (q : Past) (c : Bus
 
     pub clear_layer : IsLayer w.graph q × (layer_of w.graph q ≡ layer_after ClearAll (layer_of v.graph p))
     unfolding after
-    clear_layer = steps_make_layers ClearAll v.graph p w.graph q l accepted (told_runs_lawful.steps v (curves_on p) b (steps ClearAll (layer_of v.graph p).present) w (curves_on q) c clear_told) pieces names next
+    clear_layer = steps_make_layers ClearAll v.graph p w.graph q l accepted (told_runs_lawful.steps v (curves_on p) b (steps ClearAll (layer_of v.graph p).present) w (curves_on q) c clear_told.told) clear_told.strands pieces names next

@@ -22,15 +22,16 @@ use Rattle.sound_views.specs.RecordGraphLaws.{IsVertexAt}
 use Rattle.told_steps.specs.RecordLayers.{IsLayer, layer_of}
 use Rattle.told_steps.proofs.Layers.{steps_make_layers}
 use Rattle.told_steps.proofs.ToldTogether.{told_runs_lawful}
-use Rattle.told_steps.specs.ToldRuns.{IsToldRun}
+use Rattle.told_steps.specs.SidedRuns.{IsSidedRun}
+use Rattle.told_steps.proofs.SidedRuns.{sided_as, sided_then}
 use Rattle.pin_points.specs.Pins.{HasBecomeVertex, new_vertex_steps}
 use Rattle.pin_points.proofs.Counted.{pins_counted}
 
 -- ---- a vertex at the point is pinned, after other steps
-pub pinned_on : (v : MapView) (h : Curves) (b : BusRow) (ss : List Step) (x : MapView) (k : Curves) (c : BusRow) → IsToldRun v h b ss x k c → (p : Point) (w : VertexId) → IsVertexAt x.graph p w → (y : MapView) (l : Curves) (d : BusRow) → IsToldRun x k c (SetPinAt (point_in x.graph w) ∷ []) y l d → IsToldRun v h b (ss ++ (SetPinAt p ∷ [])) y l d
+pub pinned_on : (v : MapView) (h : Past) (b : BusRow) (ss : List Step) (x : MapView) (k : Past) (c : BusRow) → IsSidedRun v h b ss x k c → (p : Point) (w : VertexId) → IsVertexAt x.graph p w → (y : MapView) (l : Past) (d : BusRow) → IsSidedRun x k c (SetPinAt (point_in x.graph w) ∷ []) y l d → IsSidedRun v h b (ss ++ (SetPinAt p ∷ [])) y l d
 pinned_on v h b ss x k c told p w at y l d set =
-    told_runs_lawful.follow v h b ss (SetPinAt p ∷ []) x k c y l d told
-    (told_runs_lawful.same_steps x k c (SetPinAt (point_in x.graph w) ∷ []) (SetPinAt p ∷ []) y l d (ap (λ z. SetPinAt z ∷ []) at.at) set)
+    sided_then v h b ss (SetPinAt p ∷ []) x k c told y l d
+    (sided_as x k c (SetPinAt (point_in x.graph w) ∷ []) (SetPinAt p ∷ []) y l d set (ap (λ z. SetPinAt z ∷ []) at.at))
 
 -- ---- its steps
 
@@ -64,15 +65,15 @@ module _ (v : MapView) (q : Past) (l : IsLayer v.graph q) (p : Point) (proper : 
         let k = are_sound (Pin p) o.present l.lawful.fit accepted in
         subst (λ g. AreSound (new_vertex_steps p g) g) (sym l.stands) (first_sound (new_vertex_steps p (graph o.present)) (SetPinAt p ∷ []) (graph o.present) (subst (λ ss. AreSound ss (graph o.present)) (pin_steps_are o.present p) k))
 
-    module _ (b : BusRow) (x : MapView) (k : Curves) (c : BusRow) (told : HasBecomeVertex v h b p x k c) (w : VertexId) (at : IsVertexAt x.graph p w) (y : MapView) (r : Past) (d : BusRow) (set : IsToldRun x k c (SetPinAt (point_in x.graph w) ∷ []) y (curves_on r) d) where
-      pub pin_told : IsToldRun v h b (steps (Pin p) o.present) y (curves_on r) d
+    module _ (b : BusRow) (x : MapView) (k : Past) (c : BusRow) (told : HasBecomeVertex v q b p x k c) (w : VertexId) (at : IsVertexAt x.graph p w) (y : MapView) (r : Past) (d : BusRow) (set : IsSidedRun x k c (SetPinAt (point_in x.graph w) ∷ []) y r d) where
+      pub pin_told : IsSidedRun v q b (steps (Pin p) o.present) y r d
       pin_told =
-          told_runs_lawful.same_steps v h b (new_vertex_steps p (drawn_graph v.graph h) ++ (SetPinAt p ∷ [])) (steps (Pin p) o.present) y (curves_on r) d (sym steps_are)
-          (pinned_on v h b (new_vertex_steps p (drawn_graph v.graph h)) x k c told p w at y (curves_on r) d set)
+          sided_as v q b (new_vertex_steps p (drawn_graph v.graph h) ++ (SetPinAt p ∷ [])) (steps (Pin p) o.present) y r d
+          (pinned_on v q b (new_vertex_steps p (drawn_graph v.graph h)) x k c told p w at y r d set) (sym steps_are)
 
       pub pin_layer : SameLayer q r → IsLayer y.graph r × (layer_of y.graph r ≡ layer_after (Pin p) o)
       unfolding after
-      pin_layer n = steps_make_layers (Pin p) v.graph q y.graph r l accepted (told_runs_lawful.steps v h b (steps (Pin p) o.present) y (curves_on r) d pin_told) n.pieces n.names n.next
+      pin_layer n = steps_make_layers (Pin p) v.graph q y.graph r l accepted (told_runs_lawful.steps v h b (steps (Pin p) o.present) y (curves_on r) d pin_told.told) pin_told.strands n.pieces n.names n.next
 
   -- ---- how many pins there are
   pub counted : length o.present.pins ≡ length (filter (λ r. r.1.pinned) v.graph.vertices)

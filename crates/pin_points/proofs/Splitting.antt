@@ -30,7 +30,8 @@ use Rattle.record_orders.specs.Edges.{IsDartAlong, RunsBetween}
 use Rattle.record_orders.proofs.EdgeEnds.{ahead, along_runs, edge_of_ends}
 use Rattle.redundant_vertices.proofs.Passed.{mark_there}
 use Rattle.told_steps.proofs.ToldTogether.{told_runs_lawful}
-use Rattle.told_steps.specs.ToldRuns.{IsToldRun}
+use Rattle.told_steps.specs.SidedRuns.{IsSidedRun}
+use Rattle.told_steps.proofs.SidedRuns.{sided_as}
 use Rattle.pin_points.proofs.Pinning.{counted, pinned_on}
 use Rattle.pin_points.proofs.Spotted.{mark_inside, inside_edge}
 use Rattle.integers.proofs.Tests.{not_true}
@@ -94,16 +95,16 @@ module _ (v : MapView) (q : Past) (l : IsLayer v.graph q) (e : Edge) where
         unfolding IsAccepted
         accepted = (proper, is_inside i)
 
-        module _ (b : BusRow) (x : MapView) (k : Curves) (c : BusRow) (told : IsToldRun v h b (SplitEdge (point_in v.graph (source_in v.graph d)) (point_in v.graph (target_in v.graph d)) r ∷ []) x k c) (w : VertexId) (at : IsVertexAt x.graph r w) (y : MapView) (t : Past) (f : BusRow) (set : IsToldRun x k c (SetPin (point_in x.graph w) ∷ []) y (curves_on t) f) where
-          pub split_told : IsToldRun v h b (steps (Split e.low e.high r) o.present) y (curves_on t) f
+        module _ (b : BusRow) (x : MapView) (k : Past) (c : BusRow) (told : IsSidedRun v q b (SplitEdge (point_in v.graph (source_in v.graph d)) (point_in v.graph (target_in v.graph d)) r ∷ []) x k c) (w : VertexId) (at : IsVertexAt x.graph r w) (y : MapView) (t : Past) (f : BusRow) (set : IsSidedRun x k c (SetPin (point_in x.graph w) ∷ []) y t f) where
+          pub split_told : IsSidedRun v q b (steps (Split e.low e.high r) o.present) y t f
           unfolding steps split_steps
           split_told =
-              pinned_on v h b (SplitEdge e.low e.high r ∷ []) x k c
-              (told_runs_lawful.same_steps v h b _ _ x k c (λ j. SplitEdge (runs.starts j) (runs.ends j) r ∷ []) told) r w at y (curves_on t) f set
+              pinned_on v q b (SplitEdge e.low e.high r ∷ []) x k c
+              (sided_as v q b _ _ x k c told (λ j. SplitEdge (runs.starts j) (runs.ends j) r ∷ [])) r w at y t f set
 
           pub split_layer : SameLayer q t → IsLayer y.graph t × (layer_of y.graph t ≡ layer_after (Split e.low e.high r) o)
           unfolding after
-          split_layer n = steps_make_layers (Split e.low e.high r) v.graph q y.graph t l accepted (told_runs_lawful.steps v h b (steps (Split e.low e.high r) o.present) y (curves_on t) f split_told) n.pieces n.names n.next
+          split_layer n = steps_make_layers (Split e.low e.high r) v.graph q y.graph t l accepted (told_runs_lawful.steps v h b (steps (Split e.low e.high r) o.present) y (curves_on t) f split_told.told) split_told.strands n.pieces n.names n.next
 
   -- ---- whether one more pin passes the limit
   pub limit_met : (limit : ℕ) (r : Point) → IsProper r → (b : Bool) → nat_le limit (length (filter (λ u. u.1.pinned) v.graph.vertices)) ≡ b → nat_le limit (length o.present.pins) ≡ b

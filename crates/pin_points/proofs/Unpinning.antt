@@ -9,10 +9,12 @@ use Rattle.plane_graphs.specs.Fit.{IsFit}
 use Rattle.plane_graphs.specs.Graph.{Graph, graph, graph_over, vertices}
 use Rattle.plane_graphs.specs.Line.{IsProper, same_point}
 use Rattle.plane_graphs.specs.Piece.{Present}
+use Rattle.plane_graphs.specs.Strands.{strand_pieces, strands}
 use Rattle.plane_graphs.proofs.Ascending.{ascending_unique}
 use Rattle.plane_graphs.proofs.Lists.{IsAscending-filter, any_out, any_none, clash, decide, in_filter, of_filter, not_in, not_out, none_is_empty}
 use Rattle.plane_graphs.proofs.Lines.{geometry}
 use Rattle.plane_graphs.proofs.Order.{same_in, same_out, same_itself}
+use Rattle.plane_graphs.proofs.Strands.{strand_vertices}
 use Rattle.plane_graphs.proofs.Vertices.{IsVertex, vertex_in, vertex_out, vertices_ascend, vertices_closed}
 use Rattle.plane_graphs.proofs.Vertices.IsVertex.{begins, finishes, pinned, crossed}
 use Rattle.edit_steps.specs.Edits.{Unpin, IsAccepted, after, steps}
@@ -36,7 +38,9 @@ use Rattle.sound_changes.proofs.ChangesAreSteps.{changes_are_steps}
 use Rattle.told_steps.specs.RecordLayers.{IsLayer, layer_of}
 use Rattle.told_steps.proofs.Layers.{steps_make_layers}
 use Rattle.told_steps.proofs.ToldTogether.{told_runs_lawful}
-use Rattle.told_steps.specs.ToldRuns.{IsToldRun}
+use Rattle.told_steps.specs.SidedRuns.{IsSidedRun}
+use Rattle.told_steps.specs.StrandRuns.{strand_graph}
+use Rattle.told_steps.proofs.SidedRuns.{sided_as, sided_then}
 use Rattle.redundant_vertices.specs.Tidied.{IsTidied}
 use Rattle.redundant_vertices.proofs.Missing.{missing_in, missing_out}
 use Rattle.pin_points.proofs.Spotted.{pinned_vertex}
@@ -79,9 +83,12 @@ module _ (o : Present) (fit : IsFit o) (p : Point) (there : Member p o.pins) whe
   none_lost : Member p ws → missing_points vs ws ≡ []
   none_lost here = none_is_empty (missing_points vs ws) (λ x m. (missing_out vs ws x m).1 (subst (λ z. Member z ws) (sym (is_it x m)) here))
 
-  -- ---- that is told by the graph without the pin
+  -- ---- that is told by the graph without the pin, its sides told apart
   abbrev G : Graph
   G = graph_over vs o.pieces q.pins
+
+  abbrev S : Graph
+  S = graph_over vs (strand_pieces o.pieces) q.pins
 
   unpinned : Member p q.pins → ⊥
   unpinned m = clash (same_itself p) (not_out (same_point p p) (of_filter (λ z. not (same_point z p)) p o.pins m).1)
@@ -89,21 +96,21 @@ module _ (o : Present) (fit : IsFit o) (p : Point) (there : Member p o.pins) whe
   vertices_proper : (x : Point) → Member x vs → IsProper x
   vertices_proper x m = (vertices_closed geometry o fit).proper x m
 
-  pub goes : IsLoose G p → Member p ws → ⊥
+  pub goes : IsLoose S p → Member p ws → ⊥
   goes l m = loose_is_no_vertex.go q vs p (fit_unpin geometry o p fit) (vertices_ascend o) vertices_proper (λ x n. unpin_sub geometry o p x n) is_vertex unpinned l m
 
-  stays : (IsLoose G p → ⊥) → Member p ws
+  stays : (IsLoose S p → ⊥) → Member p ws
   stays n = elim (decide (list_any (same_point p) ws)) [
     | inl e ↦ let y = any_out (same_point p) ws e in subst (λ z. Member z ws) (sym (same_out p y.0 y.2)) y.1
-    | inr e ↦ absurd (n (loose_is_no_vertex.stay q vs p (fit_unpin geometry o p fit) (vertices_ascend o) vertices_proper (λ x n. unpin_sub geometry o p x n) is_vertex (λ m. any_none (same_point p) p ws e m (same_itself p))).0)
+    | inr e ↦ absurd (n (loose_is_no_vertex.stay q vs p (fit_unpin geometry o p fit) (vertices_ascend o) vertices_proper (λ x n. unpin_sub geometry o p x n) is_vertex (λ m. any_none (same_point p) p ws e m (same_itself p))).1)
   ]
 
   -- the steps: none, or the one that takes the vertex away
-  pub loose_steps : IsLoose G p → tidy_steps (missing_points vs ws) G ≡ tidy_step p G ∷ []
+  pub loose_steps : IsLoose S p → tidy_steps (missing_points vs ws) G ≡ tidy_step p G ∷ []
   unfolding tidy_steps
   loose_steps l = ap (λ ps. tidy_steps ps G) (one_lost (goes l))
 
-  pub held_steps : (IsLoose G p → ⊥) → tidy_steps (missing_points vs ws) G ≡ []
+  pub held_steps : (IsLoose S p → ⊥) → tidy_steps (missing_points vs ws) G ≡ []
   unfolding tidy_steps
   held_steps n = ap (λ ps. tidy_steps ps G) (none_lost (stays n))
 
@@ -114,6 +121,9 @@ module _ (o : Present) (fit : IsFit o) (p : Point) (there : Member p o.pins) whe
 cleared_graph : (o : Present) (p : Point) → apply (ClearPinAt p) (graph o) ≡ graph_over (vertices o) o.pieces (without_pin o p).pins
 unfolding apply graph
 cleared_graph o p = refl
+
+cleared_apart : (o : Present) (p : Point) → apply (ClearPinAt p) (graph (strands o)) ≡ graph_over (vertices o) (strand_pieces o.pieces) (without_pin o p).pins
+cleared_apart o p = cleared_graph (strands o) p ∙ ap (λ vs. graph_over vs (strand_pieces o.pieces) (without_pin o p).pins) (strand_vertices o)
 
 module _ (v : MapView) (r : Past) (l : IsLayer v.graph r) (w : VertexId) (has : HasVertex v.graph w) (pin : pinned_in v.graph w ≡ true) where
   abbrev h : Curves
@@ -145,6 +155,9 @@ module _ (v : MapView) (r : Past) (l : IsLayer v.graph r) (w : VertexId) (has : 
   abbrev rest : Graph
   rest = graph_over (vertices o.present) o.present.pieces (without_pin o.present p).pins
 
+  abbrev rest_apart : Graph
+  rest_apart = graph_over (vertices o.present) (strand_pieces o.present.pieces) (without_pin o.present p).pins
+
   drawn : drawn_graph v1 h ≡ rest
   drawn = (changes_are_steps v.graph h (ClearPin w) l.sound l.curves has).graph ∙ ap (apply (ClearPinAt p)) l.stands ∙ cleared_graph o.present p
 
@@ -156,29 +169,33 @@ module _ (v : MapView) (r : Past) (l : IsLayer v.graph r) (w : VertexId) (has : 
     clear_unpinned = subst (λ y. pinned_in y w ≡ false) (sym is) (set.pinned has)
 
     -- ---- and tidied
-    module _ (b c : BusRow) (told : IsToldRun v h b (ClearPinAt p ∷ []) z h c) (x : MapView) (q : Past) (d : BusRow) (t : IsTidied z h c (point_in z.graph w) x (curves_on q) d) where
+    module _ (b c : BusRow) (told : IsSidedRun v r b (ClearPinAt p ∷ []) z r c) (x : MapView) (q : Past) (d : BusRow) (t : IsTidied z r c (point_in z.graph w) x q d) where
       abbrev k : Curves
       k = curves_on q
 
-      tidied : IsTidied z h c p x k d
-      tidied = subst (λ y. IsTidied z h c y x k d) (ap (λ y. point_in y w) is ∙ set.point w) t
+      tidied : IsTidied z r c p x q d
+      tidied = subst (λ y. IsTidied z r c y x q d) (ap (λ y. point_in y w) is ∙ set.point w) t
 
       drawn_now : drawn_graph z.graph h ≡ rest
       drawn_now = ap (λ y. drawn_graph y h) is ∙ drawn
 
-      tidy_told : IsToldRun z h c (tidy_steps (missing_points (vertices o.present) (vertices (without_pin o.present p))) rest) x k d
+      apart_now : strand_graph z.graph r ≡ rest_apart
+      unfolding run
+      apart_now = told.strands ∙ ap (apply (ClearPinAt p)) l.strands ∙ cleared_apart o.present p
+
+      tidy_told : IsSidedRun z r c (tidy_steps (missing_points (vertices o.present) (vertices (without_pin o.present p))) rest) x q d
       tidy_told = elim tidied [
         | inl e ↦
-            told_runs_lawful.same_steps z h c (tidy_step p (drawn_graph z.graph h) ∷ []) _ x k d
-            (ap (λ g. tidy_step p g ∷ []) drawn_now ∙ sym (loose_steps o.present l.lawful.fit p there (subst (λ g. IsLoose g p) drawn_now e.0))) e.1
-        | inr e ↦ told_runs_lawful.same_steps z h c [] _ x k d (sym (held_steps o.present l.lawful.fit p there (λ i. e.0 (subst (λ g. IsLoose g p) (sym drawn_now) i)))) e.1
+            sided_as z r c (tidy_step p (drawn_graph z.graph h) ∷ []) _ x q d e.1
+            (ap (λ g. tidy_step p g ∷ []) drawn_now ∙ sym (loose_steps o.present l.lawful.fit p there (subst (λ g. IsLoose g p) apart_now e.0)))
+        | inr e ↦ sided_as z r c [] _ x q d e.1 (sym (held_steps o.present l.lawful.fit p there (λ i. e.0 (subst (λ g. IsLoose g p) (sym apart_now) i))))
       ]
 
-      pub unpin_told : IsToldRun v h b (steps (Unpin p) o.present) x k d
+      pub unpin_told : IsSidedRun v r b (steps (Unpin p) o.present) x q d
       unpin_told =
-          told_runs_lawful.same_steps v h b (ClearPinAt p ∷ tidy_steps (missing_points (vertices o.present) (vertices (without_pin o.present p))) rest) _ x k d (sym (all_steps o.present l.lawful.fit p there))
-          (told_runs_lawful.follow v h b (ClearPinAt p ∷ []) (tidy_steps (missing_points (vertices o.present) (vertices (without_pin o.present p))) rest) z h c x k d told tidy_told)
+          sided_as v r b (ClearPinAt p ∷ tidy_steps (missing_points (vertices o.present) (vertices (without_pin o.present p))) rest) _ x q d
+          (sided_then v r b (ClearPinAt p ∷ []) (tidy_steps (missing_points (vertices o.present) (vertices (without_pin o.present p))) rest) z r c told x q d tidy_told) (sym (all_steps o.present l.lawful.fit p there))
 
       pub unpin_layer : SameLayer r q → IsLayer x.graph q × (layer_of x.graph q ≡ layer_after (Unpin p) o)
       unfolding after
-      unpin_layer n = steps_make_layers (Unpin p) v.graph r x.graph q l accepted (told_runs_lawful.steps v h b (steps (Unpin p) o.present) x k d unpin_told) n.pieces n.names n.next
+      unpin_layer n = steps_make_layers (Unpin p) v.graph r x.graph q l accepted (told_runs_lawful.steps v h b (steps (Unpin p) o.present) x k d unpin_told.told) unpin_told.strands n.pieces n.names n.next

@@ -6,15 +6,14 @@ use Rattle.edit_steps.specs.Refusals.{Refusal, Full as Passed, Pinned as Again, 
 use Rattle.edit_steps.specs.Allowed.{AreSound}
 use Rattle.edit_steps.specs.Steps.{Step, missing_points, vertex_steps}
 use Rattle.slab_laws.specs.View.{View, pinned_in}
-use Rattle.arr_notes.specs.Curves.{Curves}
 use Rattle.arr_notes.specs.MapView.{MapView}
 use Rattle.dcel_records.specs.RecordsView.{RecordsView}
 use Rattle.dcel_records.specs.declared.spot.Met.{Met}
 use Rattle.dcel_records.specs.declared.spot.Met.TheVariants.{Vertex}
-use Rattle.curve_history.specs.Past.{Past, curves_on}
+use Rattle.curve_history.specs.Past.{Past, curves_on, strands_on}
 use Rattle.arr_notes.specs.RecordGraph.{drawn_graph}
 use Rattle.observer_bus.specs.Rounds.{BusRow}
-use Rattle.told_steps.specs.ToldRuns.{IsToldRun}
+use Rattle.told_steps.specs.SidedRuns.{IsSidedRun}
 use Rattle.told_steps.specs.VertexMade.{pairs_at}
 use Rattle.pin_points.specs.declared.pins.PinError.{PinError}
 use Rattle.pin_points.specs.declared.pins.PinError.TheVariants.{Pinned, Full, NoMemory}
@@ -35,9 +34,9 @@ abbrev pub is_pinned_met : View → Met → Bool
 is_pinned_met v (Vertex w) = pinned_in v w
 is_pinned_met v other = false
 
--- how many curves run along the edge that is met (this project)
+-- how many sides of curves run along the edge that is met (this project)
 abbrev pub pairs_parted : Past → Met → ℕ
-pairs_parted p at = pairs_at (curves_on p) at
+pairs_parted p at = pairs_at (strands_on p) at
 
 -- without memory there is room for a vertex there, and for the edge that it parts (this project)
 pub record HasRoomFor (at : Met) (r : RecordsView) (p : Past) : Type 0 where
@@ -54,5 +53,5 @@ abbrev pub MayBecomeVertex : Point → Graph → Type 0
 MayBecomeVertex p g = AreSound (new_vertex_steps p g) g
 
 -- the point has become a vertex, by just these steps, each told
-abbrev pub HasBecomeVertex : MapView → Curves → BusRow → Point → MapView → Curves → BusRow → Type 0
-HasBecomeVertex m h b p w k c = IsToldRun m h b (new_vertex_steps p (drawn_graph m.graph h)) w k c
+abbrev pub HasBecomeVertex : MapView → Past → BusRow → Point → MapView → Past → BusRow → Type 0
+HasBecomeVertex m q b p w r c = IsSidedRun m q b (new_vertex_steps p (drawn_graph m.graph (curves_on q))) w r c

@@ -6,7 +6,7 @@ ghost use Rattle.dcel_records.specs.RecordsView.{SameRecordCapacity, tables_of};
 ghost use Rattle.dcel_records.specs.Spots.{IsMet, met_of};
 ghost use Rattle.dcel_records.specs.SoundMaps.{IsMapAtRest};
 ghost use Rattle.face_location.specs.Spots.{IsSpotOf};
-ghost use Rattle.curve_history.specs.Past.{SameLayer, SameCurves, SameHistoryCapacity};
+ghost use Rattle.curve_history.specs.Past.{SameLayer, SameCurves, SameStrands, SameHistoryCapacity};
 ghost use Rattle.told_steps.specs.RecordLayers.{IsLayer};
 ghost use Rattle.pin_points.specs.Pins.{pin_said, unpin_said, is_pinned_met, pairs_parted, HasRoomFor};
 ghost use Rattle.observer_bus.specs.Rows.{bus_row};
@@ -71,7 +71,7 @@ pub(crate) fn is_full(records: &Records, limit: u32) -> bool
     limit as usize <= records.pins()
 }
 
-// How many curves run along the edge that is met.
+// How many sides of curves run along the edge that is met.
 fn count_parted(history: &History, at: Met) -> usize
     ensures { result ≡ pairs_parted history.now at }
 {
@@ -93,6 +93,7 @@ pub(crate) fn make_room(
     ensures tables { tables_of records.new ≡ tables_of records.old }
     ensures map { IsMapAtRest records.old → IsMapAtRest records.new }
     ensures layer { SameLayer history.old history.new }
+    ensures strands { SameStrands history.old history.new }
     ensures curves { SameCurves history.old history.new }
 {
     records.reserve(Room {

@@ -15,11 +15,14 @@ use Rattle.slab_laws.specs.View.{View, HasVertex, IsOutOf, point_in}
 use Rattle.arr_notes.specs.Curves.{Curves, AreCurvesOf}
 use Rattle.arr_notes.specs.MapView.{MapView}
 use Rattle.arr_notes.specs.RecordGraph.{drawn_graph}
+use Rattle.curve_history.specs.Past.{Past, curves_on}
 use Rattle.observer_bus.specs.Rounds.{BusRow}
 use Rattle.rotation_order.specs.VertexRings.{IsBare}
 use Rattle.sound_changes.specs.ChangeFits.{FitsMerge}
-use Rattle.told_steps.proofs.Begun.{none_told}
+use Rattle.told_steps.specs.SidedRuns.{IsSidedRun}
+use Rattle.told_steps.specs.StrandRuns.{IsStrandRun, strand_graph}
 use Rattle.told_steps.specs.ToldRuns.{IsToldRun}
+use Rattle.told_steps.proofs.SidedRuns.{none_sided, sided}
 use Rattle.redundant_vertices.specs.Tidied.{CanJoin, IsTidied}
 use Rattle.redundant_vertices.proofs.Passed.{bare_untouched, loose_fits, passed, touched}
 use Rattle.redundant_vertices.proofs.Straight.{one_first, one_second}
@@ -52,14 +55,18 @@ module _ (v : View) (h : Curves) (w : VertexId) (s : IsGraphSound v) (a : AreCur
   untouched bare m k t = clash t (bare_untouched v h w s a has bare m k)
 
   -- a vertex without darts goes
-  pub bare_goes : IsBare v w → IsLoose g p × (tidy_step p g ≡ RemoveVertexAt p)
-  bare_goes bare = (inl (bare_untouched v h w s a has bare), remove_step p g (untouched bare))
+  pub bare_goes : IsBare v w → IsLoose g p
+  bare_goes bare = inl (bare_untouched v h w s a has bare)
+
+  pub bare_step : IsBare v w → tidy_step p g ≡ RemoveVertexAt p
+  bare_step bare = remove_step p g (untouched bare)
 
   -- two edges that go straight through with the same curves become one
-  pub joined_go : (k : DartId) → IsOutOf v w k → (d n : DartId) → CanJoin v h w d n → IsLoose g p × (tidy_step p g ≡ MergeEdgeAt p)
-  joined_go k o d n j =
-      let m = touched v h w s a k o in
-      (inr (passed v h w s a d n j.0 j.1 has), merge_step p g m.0 m.1 m.2)
+  pub joined_go : (d n : DartId) → CanJoin v h w d n → IsLoose g p
+  joined_go d n j = inr (passed v h w s a d n j.0 j.1 has)
+
+  pub joined_step : (k : DartId) → IsOutOf v w k → tidy_step p g ≡ MergeEdgeAt p
+  joined_step k o = let m = touched v h w s a k o in merge_step p g m.0 m.1 m.2
 
   -- so do all that go straight through
   pub joined_alike : (d n : DartId) → CanJoin v h w d n → (x y : DartId) → FitsMerge v w x y → h x ≡ h y
@@ -70,8 +77,9 @@ module _ (v : View) (h : Curves) (w : VertexId) (s : IsGraphSound v) (a : AreCur
   not_joinable k o none l = let r = loose_fits v h w s a k has o l in none r.0 r.1 (r.2, r.3)
 
 -- the step that is told is the one that takes the vertex away
-pub goes_told : (v : MapView) (h : Curves) (b : BusRow) (p : Point) (s : Step) (x : MapView) (k : Curves) (c : BusRow) → IsLoose (drawn_graph v.graph h) p × (tidy_step p (drawn_graph v.graph h) ≡ s) → IsToldRun v h b (s ∷ []) x k c → IsTidied v h b p x k c
-goes_told v h b p s x k c l t = inl (l.0, subst (λ z. IsToldRun v h b (z ∷ []) x k c) (sym l.1) t)
+pub goes_told : (v : MapView) (h : Past) (b : BusRow) (p : Point) (s : Step) (x : MapView) (k : Past) (c : BusRow) → IsLoose (strand_graph v.graph h) p → tidy_step p (drawn_graph v.graph (curves_on h)) ≡ s →
+    IsToldRun v (curves_on h) b (s ∷ []) x (curves_on k) c → IsStrandRun v.graph h (s ∷ []) x.graph k → IsTidied v h b p x k c
+goes_told v h b p s x k c l e t r = inl (l, subst (λ z. IsSidedRun v h b (z ∷ []) x k c) (sym e) (sided t r))
 
-pub stays_told : (v : MapView) (h : Curves) (b : BusRow) (p : Point) → (IsLoose (drawn_graph v.graph h) p → ⊥) → IsTidied v h b p v h b
-stays_told v h b p n = inr (n, none_told v h b)
+pub stays_told : (v : MapView) (h : Past) (b : BusRow) (p : Point) → (IsLoose (strand_graph v.graph h) p → ⊥) → IsTidied v h b p v h b
+stays_told v h b p n = inr (n, none_sided v h b)

@@ -19,7 +19,7 @@ use slab_laws::{Darts, VertexId};
 use std::alloc::Global;
 use told_steps::{merge_edge, remove_vertex};
 
-/// An unpinned vertex that is redundant goes: it has no edge, or two on one line with the same curves, which become one
+/// An unpinned vertex that is redundant goes: it has no edge, or two on one line with the same sides of curves, which become one
 /// (CGAL manual, removing a curve: vertices that become redundant).
 ///
 /// It looks at the vertex's darts and at the curves of two edges, and where no observer joins takes no memory of its own.

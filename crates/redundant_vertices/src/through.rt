@@ -37,8 +37,8 @@ fn straight_through(records: &Records, w: VertexId, first: DartId) -> Option<(Da
     }
 }
 
-// The darts of two edges that may become one at the vertex: they go straight through it, have the same curves, and no other edge
-// ends there.
+// The darts of two edges that may become one at the vertex: they go straight through it, have the same sides of curves, and no
+// other edge ends there.
 pub(crate) fn joinable(
     records: &Records,
     history: &History,
@@ -50,15 +50,15 @@ pub(crate) fn joinable(
     ensures { AreJoinable records.now.graph history.now w result }
 {
     let (d, n) = straight_through(records, w, first)?;
-    if history.same_curves(d, n) {
+    if history.same_strands(d, n) {
         Some((d, n))
     } else {
         None
     }
 }
 
-/// Whether two edges go straight through the vertex with the same curves, and no other edge ends there: but for a pin, nothing
-/// calls for such a vertex (CGAL manual, the premise of `merge_edge`).
+/// Whether two edges go straight through the vertex with the same sides of curves, and no other edge ends there: but for a pin,
+/// nothing calls for such a vertex (CGAL manual, the premise of `merge_edge`).
 ///
 /// It looks at the vertex's darts and at the curves of two edges, and takes no memory.
 pub fn is_mergeable(records: &Records, history: &History, w: VertexId) -> bool

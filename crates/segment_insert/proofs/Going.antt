@@ -12,7 +12,8 @@ use Rattle.plane_graphs.proofs.Lists.{and_in}
 use Rattle.plane_graphs.proofs.Order.{Lt, lt_out, lt_in}
 use Rattle.plane_graphs.proofs.Marks.{le_out, le_in, le_lt_lt, lt_le_lt, le_lt}
 use Rattle.edit_steps.specs.Allowed.{IsSound, AreSound}
-use Rattle.edit_steps.specs.Steps.{Step, more_step, run}
+use Rattle.edit_steps.specs.EditLaws.{hold_step}
+use Rattle.edit_steps.specs.Steps.{Step, apply, more_step, run}
 use Rattle.slab_laws.specs.declared.names.VertexId.{VertexId}
 use Rattle.slab_laws.specs.View.{View, HasVertex, point_in}
 use Rattle.arr_notes.specs.Curves.{Curves}
@@ -20,10 +21,12 @@ use Rattle.dcel_records.specs.declared.spot.Met.TheVariants.{Vertex}
 use Rattle.dcel_records.specs.Spots.{met_of}
 use Rattle.arr_notes.specs.MapView.{MapView}
 use Rattle.arr_notes.specs.RecordGraph.{drawn_graph}
+use Rattle.curve_history.specs.Past.{Past}
 use Rattle.observer_bus.specs.Rounds.{BusRow}
 use Rattle.told_steps.proofs.Runs.{made_is_run}
 use Rattle.told_steps.proofs.Begun.{none_told}
 use Rattle.told_steps.proofs.ToldTogether.{told_runs_lawful}
+use Rattle.told_steps.specs.StrandRuns.{IsStrandRun, strand_graph}
 use Rattle.told_steps.specs.ToldRuns.{AreInStep, IsToldRun}
 use Rattle.zone_walk.specs.declared.plan.Meeting.{Meeting}
 use Rattle.zone_walk.specs.Zone.{is_on_segment, is_vertex, points_of_meetings}
@@ -189,3 +192,24 @@ module _ (v : MapView) (h : Curves) {old : BusRow} (c : ℕ) (ms : List Meeting)
         rest = subst (AreSound (steps_from first c ms (suc k))) (sym r.graph) rest.1;
         told = λ y d f n. i.told y d f (told_runs_lawful.same_steps g b now _ (steps_from first c ms k) y d f (sym (ap (map (more_step first)) next)) (told_runs_lawful.follow g b now (more_step first m ∷ []) (steps_from first c ms (suc k)) x z new y d f one n));
       })
+
+-- ---- where sides of curves are told apart: the sides that are still to come make all that is to come
+abbrev pub holds_from : ℕ → List Meeting → ℕ → List Step
+holds_from z ms k = map hold_step (chain z (points_of_meetings (drop k ms)))
+
+abbrev pub AreHeld : View → Past → ℕ → List Meeting → ℕ → View → Past → Type 0
+AreHeld v p z ms k g q = run (holds_from z ms k) (strand_graph g q) ≡ run (map hold_step (chain z (points_of_meetings ms))) (strand_graph v p)
+
+module _ (v : View) (p : Past) (z : ℕ) (ms : List Meeting) (k : ℕ) (g : View) (q : Past) (i : AreHeld v p z ms k g q) where
+  pub all_held : length ms ≤ suc k → IsStrandRun v p (map hold_step (chain z (points_of_meetings ms))) g q
+  unfolding run
+  all_held e = sym (ap (λ ns. run (map hold_step ns) (strand_graph g q)) (chain_ends z ms k e)) ∙ i
+
+  pub next_held : (u w : VertexId) → g.vertices ≡ v.vertices → chain z (points_of_meetings (drop k ms)) ≡ mark (point_in v u) (point_in v w) z ∷ chain z (points_of_meetings (drop (suc k) ms)) →
+      (j : ℕ) → suc k ≡ j → (x : View) (r : Past) → IsStrandRun g q (hold_step (mark (point_in g u) (point_in g w) z) ∷ []) x r → AreHeld v p z ms j x r
+  unfolding run
+  next_held u w e next j more x r t =
+      let m = mark (point_in v u) (point_in v w) z in
+      let same : mark (point_in g u) (point_in g w) z ≡ m = ap (λ (vs : _). mark (point_in (record { vertices = vs; darts = g.darts }) u) (point_in (record { vertices = vs; darts = g.darts }) w) z) e in
+      subst (λ n. AreHeld v p z ms n x r) more
+      (ap (run (holds_from z ms (suc k))) (t ∙ ap (λ n. apply (hold_step n) (strand_graph g q)) same) ∙ sym (ap (λ ns. run (map hold_step ns) (strand_graph g q)) next) ∙ i)

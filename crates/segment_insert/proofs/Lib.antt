@@ -7,6 +7,7 @@ pub mod Makes
 pub mod Parts
 pub mod Passing
 pub mod Planned
+pub mod SidesFollow
 pub mod Whole
 pub mod VerticesAdded
 pub mod VerticesFollow

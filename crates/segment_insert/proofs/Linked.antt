@@ -1,5 +1,5 @@
 -- One more curve along an open part: on the edge that runs there, or on a new one.
-use Rattle.std.proofs.Common.{◌≡◌, ◌≢◌, List, [], ◌∷◌, true, false, Option, Some, None, refl, sym, ap, ap₂, ◌∙◌, subst, inl, inr}
+use Rattle.std.proofs.Common.{◌≡◌, ◌≢◌, ℕ, List, [], ◌∷◌, true, false, Option, Some, None, refl, sym, ap, ap₂, ◌∙◌, subst, inl, inr}
 use Rattle.std.specs.List.{list_any}
 use Rattle.exact_plane.specs.Line.{Line}
 use Rattle.exact_plane.specs.Point.{Point}
@@ -12,6 +12,7 @@ use Rattle.plane_graphs.proofs.Lists.{and_in, any_in, any_out, in_ascending, of_
 use Rattle.plane_graphs.proofs.Meaning.{edge_cmp_total, edge_cmp_exact, edges_ascend, edge_out, edge_in as edge_there}
 use Rattle.plane_graphs.proofs.Order.{same_out, same_in}
 use Rattle.edit_steps.specs.Allowed.{IsAllowed, IsSound}
+use Rattle.edit_steps.specs.EditLaws.{hold_step}
 use Rattle.edit_steps.specs.Steps.{AddCurve as AddCurveAt, AddEdge as AddEdgeAt, more_step, apply}
 use Rattle.slab_laws.specs.declared.names.CurveId.{CurveId}
 use Rattle.slab_laws.specs.declared.names.DartId.{DartId}
@@ -31,8 +32,10 @@ use Rattle.sound_changes.proofs.StepHolds.{mark_held, held_mark}
 use Rattle.sound_changes.specs.EdgePlaces.{dart_between, IsPlaceFor}
 use Rattle.sound_changes.proofs.SplitCases.{ahead_by}
 use Rattle.edge_link.specs.Links.{CanLink, with_edge_between}
+use Rattle.curve_history.specs.Past.{Past}
 use Rattle.observer_bus.specs.Rounds.{BusRow}
 use Rattle.told_steps.proofs.ToldTogether.{told_runs_lawful}
+use Rattle.told_steps.specs.StrandRuns.{IsStrandRun}
 use Rattle.told_steps.specs.ToldRuns.{IsToldRun}
 use Rattle.segment_insert.specs.Parts.{IsOpenPart}
 use Rattle.segment_insert.proofs.Makes.{some_curve, on_edge_there, on_new_edge}
@@ -79,6 +82,10 @@ module _ (v : View) (h : Curves) (s : IsGraphSound v) (a : AreCurvesOf v h) (l :
     pub not_held : IsSound (more_step here new_mark) here → ¬ Member c.0 (h d)
     unfolding IsAllowed
     not_held k m = (subst (λ t. IsAllowed t here) more_is_curve k.allowed).1 (mark_held v s.named h new_mark d (record { forward = f; low = starts; high = ends; curve = m }))
+
+    -- a side of it comes from u to w
+    pub side_there : (p : Past) (z : ℕ) (g : View) (q : Past) → IsStrandRun v p (AddCurveAt (point_in v (source_in v d)) (point_in v (target_in v d)) z ∷ []) g q → IsStrandRun v p (hold_step (mark (point_in v u) (point_in v w) z) ∷ []) g q
+    side_there p z g q t = subst (λ s. IsStrandRun v p (s ∷ []) g q) (ap₂ (λ x y. AddCurveAt x y z) starts ends) t
 
     pub curve_told : (o : MapView) (b e : BusRow) (k : Curves) → IsToldRun o h b (AddCurveAt (point_in v (source_in v d)) (point_in v (target_in v d)) c.0 ∷ []) o k e → IsToldRun o h b (more_step here new_mark ∷ []) o k e
     curve_told o b e k t = told_runs_lawful.same_steps o h b _ (more_step here new_mark ∷ []) o k e (ap₂ (λ x y. AddCurveAt x y c.0 ∷ []) starts ends ∙ ap (λ z. z ∷ []) (sym more_is_curve)) t

@@ -43,9 +43,9 @@ use Rattle.sound_changes.proofs.Collinear.{one_line}
 use Rattle.segment_insert.proofs.Makes.{some_curve}
 use Rattle.integers.proofs.Tests.{not_true}
 
-module _ (v : View) (h : Curves) (s : IsGraphSound v) (a : AreCurvesOf v h) (p : Present) (g : Segment) (c : ℕ) (stands : drawn_graph v h ≡ graph p) (fit : IsFit (with_piece p (whole_piece c g))) where
+module _ (v : View) (h : Curves) (s : IsGraphSound v) (a : AreCurvesOf v h) (p : Present) (g : Segment) (c : ℕ) (stands : drawn_graph v h ≡ graph p) (fit : IsFit (with_piece p (whole_piece c 1 g))) where
   abbrev k : Piece
-  k = whole_piece c g
+  k = whole_piece c 1 g
 
   abbrev q : Present
   q = with_piece p k

@@ -1,5 +1,5 @@
 -- What the plan of an insertion gives to each of its parts.
-use Rattle.std.proofs.Common.{◌≡◌, ℕ, ◌+◌, ◌*◌, ◌≤◌, List, [], ◌∷◌, ◌++◌, true, map, length, Contains, is_lt, sym, ap, ap₂, ◌∙◌, subst, arith}
+use Rattle.std.proofs.Common.{◌≡◌, ℕ, ◌+◌, ◌*◌, ◌≤◌, List, [], ◌∷◌, ◌++◌, true, map, length, Contains, is_lt, refl, sym, ap, ap₂, ◌∙◌, subst, ⊎_elim, arith}
 use Rattle.std.proofs.lemmas.List.{length-map}
 use Rattle.exact_plane.specs.Point.{Point}
 use Rattle.exact_plane.specs.PointOrder.{point_cmp}
@@ -9,31 +9,40 @@ use Rattle.plane_graphs.specs.Fit.{IsFit}
 use Rattle.plane_graphs.specs.Graph.{chain}
 use Rattle.plane_graphs.specs.Line.{precedes}
 use Rattle.plane_graphs.specs.Piece.{Piece, Present}
+use Rattle.plane_graphs.specs.Strands.{strand}
 use Rattle.plane_graphs.proofs.Ascending.{to_member, from_member}
 use Rattle.plane_graphs.proofs.Lists.{in_map}
 use Rattle.edit_steps.specs.Allowed.{AreSound}
-use Rattle.edit_steps.specs.Edits.{Insert, after, steps, whole_piece, IsAccepted}
+use Rattle.edit_steps.specs.EditLaws.{hold_step}
+use Rattle.edit_steps.specs.Edits.{Insert, after, steps, whole_piece, IsSide, IsAccepted}
 use Rattle.edit_steps.specs.Layer.{Layer, layer_after, IsAcceptedBy}
-use Rattle.edit_steps.specs.Steps.{Step, with_piece, more_step}
+use Rattle.edit_steps.specs.Steps.{Step, run, with_piece, more_step}
 use Rattle.edit_steps.proofs.Laws.{keeps_fit}
 use Rattle.edit_steps.proofs.Layers.{layers_lawful}
 use Rattle.slab_laws.specs.View.{View, Faces}
 use Rattle.dcel_records.specs.declared.spot.Spot.{Spot}
 use Rattle.face_location.specs.Spots.{IsSpotOf}
 use Rattle.arr_notes.specs.Curves.{Curves}
-use Rattle.curve_history.specs.Past.{Past, curves_on}
+use Rattle.curve_history.specs.Past.{Past, SameStrands, curves_on}
+use Rattle.curve_history.proofs.Sides.{same_strands_curves}
 use Rattle.arr_notes.specs.MapView.{MapView}
 use Rattle.arr_notes.specs.RecordGraph.{drawn_graph}
 use Rattle.observer_bus.specs.Rounds.{BusRow}
 use Rattle.told_steps.specs.RecordLayers.{IsLayer, layer_of, IsRunOfSteps}
 use Rattle.told_steps.proofs.ToldTogether.{told_runs_lawful}
+use Rattle.told_steps.specs.SidedRuns.{IsSidedRun}
+use Rattle.told_steps.specs.StrandRuns.{IsStrandRun, strand_graph, strand_steps}
 use Rattle.told_steps.specs.ToldRuns.{IsToldRun}
+use Rattle.told_steps.proofs.Moved.{one_curves}
+use Rattle.told_steps.proofs.SidedRuns.{sided_as}
+use Rattle.told_steps.proofs.StrandRuns.{strands_then}
 use Rattle.zone_walk.specs.declared.plan.Meeting.{Meeting}
 use Rattle.zone_walk.specs.declared.plan.ZonePlan.{ZonePlan}
 use Rattle.zone_walk.specs.Zone.{IsZoneOf, AreSpotsBetween, is_on_segment, meeting_points, splits_needed, points_of_meetings}
 use Rattle.zone_walk.proofs.Courses.{course}
 use Rattle.segment_insert.specs.Insertion.{AreMeetings, AreAllOn, AreClear, IsStart}
 use Rattle.told_steps.proofs.Layers.{steps_make_layers}
+use Rattle.segment_insert.proofs.Layers.{one_sides}
 use Rattle.segment_insert.proofs.Passing.{points_ascend}
 use Rattle.segment_insert.proofs.VerticesClear.{zone_clear, zone_on, zone_start}
 use Rattle.segment_insert.proofs.Whole as whole
@@ -54,15 +63,21 @@ same_length : (ms ns : List Meeting) → points_of_meetings ns ≡ points_of_mee
 same_length ms ns e = sym (length-map ns (λ (m : Meeting). m.point)) ∙ ap length e ∙ length-map ms (λ (m : Meeting). m.point)
 
 -- the pieces and names of a history with one more of each
-pub one_piece : (old ps : List Piece) (c : ℕ) (g : Segment) (a b : Point) → ps ≡ old → a ≡ g.lower → b ≡ g.upper → ps ++ (record { curve = c; segment = g; from = a; to = b } ∷ []) ≡ old ++ (whole_piece c g ∷ [])
-one_piece old ps c g a b q e f = λ i. q i ++ (record { curve = c; segment = g; from = e i; to = f i } ∷ [])
+pub one_piece : (old ps : List Piece) (c : ℕ) (g : Segment) (a b : Point) → ps ≡ old → a ≡ g.lower → b ≡ g.upper → ps ++ (record { curve = c; side = 1; segment = g; from = a; to = b } ∷ []) ≡ old ++ (whole_piece c 1 g ∷ [])
+one_piece old ps c g a b q e f = λ i. q i ++ (record { curve = c; side = 1; segment = g; from = e i; to = f i } ∷ [])
 
 pub one_name : (old : List ℕ) (c n : ℕ) → c ≡ n → old ++ (n ∷ []) ≡ old ++ (c ∷ [])
 one_name old c n e = ap (λ k. old ++ (k ∷ [])) (sym e)
 
--- the steps for the meetings of a list are those for an equal one
-pub told_of_plan : (v : MapView) (b : Curves) (old : BusRow) (w : MapView) (d : Curves) (now : BusRow) {ms ns : List Meeting} → ms ≡ ns → IsToldRun v b old (steps_at v.graph b (points_of_meetings ms)) w d now → IsToldRun v b old (steps_at v.graph b (points_of_meetings ns)) w d now
-told_of_plan v b old w d now e m = subst (λ ms. IsToldRun v b old (steps_at v.graph b (points_of_meetings ms)) w d now) e m
+-- the steps for the meetings of a list are those for an equal one, by a history of the same sides of curves
+pub told_of_plan : (v : MapView) (past mid : Past) (old : BusRow) (w : MapView) (d : Past) (now : BusRow) {ms ns : List Meeting} → SameStrands past mid → ms ≡ ns →
+    IsSidedRun v mid old (steps_at v.graph (curves_on mid) (points_of_meetings ms)) w d now → IsSidedRun v past old (steps_at v.graph (curves_on past) (points_of_meetings ns)) w d now
+told_of_plan v past mid old w d now {ms} {ns} s e m =
+    let curves = one_curves past mid (same_strands_curves past mid s) in
+    record {
+      told = subst (λ h. IsToldRun v h old (steps_at v.graph h (points_of_meetings ns)) w (curves_on d) now) curves (subst (λ os. IsToldRun v (curves_on mid) old (steps_at v.graph (curves_on mid) (points_of_meetings os)) w (curves_on d) now) e m.told);
+      strands = m.strands ∙ (λ i. run (steps_at v.graph (curves i) (points_of_meetings (e i))) (drawn_graph v.graph (one_sides past mid s i)));
+    }
 
 -- records and history that are a layer, and the plan of a segment that gets the next number
 pub record IsPlanned (v : MapView) (past : Past) (g : Segment) (plan : ZonePlan) (c : ℕ) : Type 0 where
@@ -71,10 +86,9 @@ pub record IsPlanned (v : MapView) (past : Past) (g : Segment) (plan : ZonePlan)
   pub zone : IsZoneOf v.graph v.faces g plan
   pub number : c ≡ past.next
 
--- the meetings are vertices now; b are the history's curves before that
-pub record IsHalfMade (v : MapView) (past : Past) (plan : ZonePlan) (b : Curves) (old : BusRow) (w : MapView) (d : Curves) (now : BusRow) (ns : List Meeting) : Type 0 where
-  pub same : b ≡ curves_on past
-  pub told : IsToldRun v b old (steps_at v.graph b (points_of_meetings plan.vertices)) w d now
+-- the meetings are vertices now
+pub record IsHalfMade (v : MapView) (past : Past) (plan : ZonePlan) (old : BusRow) (w : MapView) (d : Past) (now : BusRow) (ns : List Meeting) : Type 0 where
+  pub told : IsSidedRun v past old (steps_at v.graph (curves_on past) (points_of_meetings plan.vertices)) w d now
   pub kept : points_of_meetings ns ≡ points_of_meetings plan.vertices
 
 module _ {v : MapView} {past : Past} {g : Segment} {plan : ZonePlan} {c : ℕ} (planned : IsPlanned v past g plan c) where
@@ -87,15 +101,29 @@ module _ {v : MapView} {past : Past} {g : Segment} {plan : ZonePlan} {c : ℕ} (
   abbrev ms : List Meeting
   ms = plan.vertices
 
-  pub accepted_by : IsAcceptedBy (Insert c g) l
-  accepted_by = (planned.number, ap (λ z. z.lower.w) planned.ends.whole, ap (λ z. z.upper.w) planned.ends.whole, (λ i. precedes (planned.ends.whole i).lower (planned.ends.whole i).upper) ∙ ap is_lt planned.ends.is.ascending)
+  pub accepted_by : IsAcceptedBy (Insert c (g ∷ [])) l
+  accepted_by = (
+    planned.number,
+    record {
+      each = λ s m. ⊎_elim (λ e. subst IsSide (sym e) is_side) (λ z. absurd z) m;
+      some = let e : length (g ∷ []) ≡ 1 = refl in omega arith;
+      few = let e : length (g ∷ []) ≡ 1 = refl in omega arith;
+    },
+  )
+    where
+      is_side : IsSide g
+      is_side = record {
+        lower = ap (λ z. z.lower.w) planned.ends.whole;
+        upper = ap (λ z. z.upper.w) planned.ends.whole;
+        forward = (λ i. precedes (planned.ends.whole i).lower (planned.ends.whole i).upper) ∙ ap is_lt planned.ends.is.ascending;
+      }
 
-  accepted : IsAccepted (Insert c g) p
-  accepted = layers_lawful.accepted (Insert c g) l planned.layer.lawful accepted_by
+  accepted : IsAccepted (Insert c (g ∷ [])) p
+  accepted = layers_lawful.accepted (Insert c (g ∷ [])) l planned.layer.lawful accepted_by
 
-  fit : IsFit (with_piece p (whole_piece c g))
+  fit : IsFit (with_piece p (whole_piece c 1 g))
   unfolding after
-  fit = keeps_fit (Insert c g) p planned.layer.lawful.fit accepted
+  fit = keeps_fit (Insert c (g ∷ [])) p planned.layer.lawful.fit accepted
 
   pub meetings : AreMeetings v.graph ms
   meetings = record {
@@ -141,31 +169,42 @@ module _ {v : MapView} {past : Past} {g : Segment} {plan : ZonePlan} {c : ℕ} (
     pub sound_first : AreSound (steps_at v.graph b (points_of_meetings ms)) (drawn_graph v.graph b)
     sound_first = subst (λ z. AreSound z (drawn_graph v.graph b)) (sym first_is) (subst (λ z. AreSound (steps_at v.graph (curves_on past) (meeting_points v.graph g)) (drawn_graph v.graph z)) (sym same) (whole.first_sound v.graph (curves_on past) planned.layer.sound planned.layer.curves p g c planned.layer.stands fit accepted))
 
-  module _ {b : Curves} {old : BusRow} {w : MapView} {d : Curves} {now : BusRow} {ns : List Meeting} (half : IsHalfMade v past plan b old w d now ns) where
-    told_here : IsToldRun v (curves_on past) old (steps_at v.graph (curves_on past) (meeting_points v.graph g)) w d now
-    told_here = subst (λ z. IsToldRun v z old (steps_at v.graph (curves_on past) (meeting_points v.graph g)) w d now) half.same (subst (λ z. IsToldRun v b old z w d now) (first_is b half.same) half.told)
+  module _ {old : BusRow} {w : MapView} {d : Past} {now : BusRow} {ns : List Meeting} (half : IsHalfMade v past plan old w d now ns) where
+    abbrev first : List Step
+    first = steps_at v.graph (curves_on past) (meeting_points v.graph g)
 
-    made_here : IsRunOfSteps v.graph (curves_on past) (steps_at v.graph (curves_on past) (meeting_points v.graph g)) w.graph d
-    made_here = told_runs_lawful.steps v (curves_on past) old (steps_at v.graph (curves_on past) (meeting_points v.graph g)) w d now told_here
+    sided_here : IsSidedRun v past old first w d now
+    sided_here = sided_as v past old (steps_at v.graph (curves_on past) (points_of_meetings ms)) first w d now half.told (first_is (curves_on past) refl)
+
+    made_here : IsRunOfSteps v.graph (curves_on past) first w.graph (curves_on d)
+    made_here = told_runs_lawful.steps v (curves_on past) old first w (curves_on d) now sided_here.told
 
     points : points_of_meetings ns ≡ meeting_points v.graph g
     points = half.kept ∙ planned.zone.points
 
     pub all_on : AreAllOn w.graph g (points_of_meetings ns)
-    all_on = subst (AreAllOn w.graph g) (sym points) (whole.all_on v.graph (curves_on past) planned.layer.sound planned.layer.curves p g c planned.layer.stands fit accepted w.graph d made_here)
+    all_on = subst (AreAllOn w.graph g) (sym points) (whole.all_on v.graph (curves_on past) planned.layer.sound planned.layer.curves p g c planned.layer.stands fit accepted w.graph (curves_on d) made_here)
 
     pub each_on : (m : Meeting) → Contains ns m → is_on_segment g m.point ≡ true
     each_on m k = whole.on_segment v.graph (curves_on past) planned.layer.sound planned.layer.curves p g c planned.layer.stands fit accepted m.point (subst (Member m.point) points (in_map (λ m. m.point) m ns (to_member ns m k)))
 
-    pub plane_then : AreSound (edges_then w.graph d c (points_of_meetings ns)) (drawn_graph w.graph d)
-    plane_then = subst (λ z. AreSound (edges_then w.graph d c z) (drawn_graph w.graph d)) (sym points) (whole.last_sound v.graph (curves_on past) planned.layer.sound planned.layer.curves p g c planned.layer.stands fit accepted w.graph d made_here)
+    pub plane_then : AreSound (edges_then w.graph (curves_on d) c (points_of_meetings ns)) (drawn_graph w.graph (curves_on d))
+    plane_then = subst (λ z. AreSound (edges_then w.graph (curves_on d) c z) (drawn_graph w.graph (curves_on d))) (sym points) (whole.last_sound v.graph (curves_on past) planned.layer.sound planned.layer.curves p g c planned.layer.stands fit accepted w.graph (curves_on d) made_here)
 
-    module _ (x : MapView) (q : Past) (new : BusRow) (then : IsToldRun w d now (edges_then w.graph d c (points_of_meetings ns)) x (curves_on q) new) where
-      pub all_told : IsToldRun v (curves_on past) old (steps (Insert c g) p) x (curves_on q) new
+    module _ (x : MapView) (q : Past) (new : BusRow) (then : IsToldRun w (curves_on d) now (edges_then w.graph (curves_on d) c (points_of_meetings ns)) x (curves_on q) new) where
+      pub all_told : IsToldRun v (curves_on past) old (steps (Insert c (g ∷ [])) p) x (curves_on q) new
       all_told =
-          whole.told_whole v.graph (curves_on past) planned.layer.sound planned.layer.curves p g c planned.layer.stands fit accepted w.graph d made_here v w x old now new (curves_on q) told_here
-          (subst (λ z. IsToldRun w d now (edges_then w.graph d c z) x (curves_on q) new) points then)
+          whole.told_whole v.graph (curves_on past) planned.layer.sound planned.layer.curves p g c planned.layer.stands fit accepted w.graph (curves_on d) made_here v w x old now new (curves_on q) sided_here.told
+          (subst (λ z. IsToldRun w (curves_on d) now (edges_then w.graph (curves_on d) c z) x (curves_on q) new) points then)
 
-      pub layer_made : q.pieces ≡ past.pieces ++ (whole_piece c g ∷ []) → q.names ≡ past.names ++ (c ∷ []) → q.next ≡ past.next + 1 → IsLayer x.graph q × (layer_of x.graph q ≡ layer_after (Insert c g) l)
-      unfolding after
-      layer_made pieces names next = steps_make_layers (Insert c g) v.graph past x.graph q planned.layer accepted_by (told_runs_lawful.steps v (curves_on past) old (steps (Insert c g) p) x (curves_on q) new all_told) pieces names next
+      -- the sides of curves told apart
+      module _ (sides : IsStrandRun w.graph d (map hold_step (chain (strand c 1) (points_of_meetings ns))) x.graph q) where
+        all_apart : IsStrandRun v.graph past (strand_steps (Insert c (g ∷ [])) p) x.graph q
+        all_apart =
+            let holds = map hold_step (chain (strand c 1) (meeting_points v.graph g)) in
+            strands_then v.graph past first holds w.graph d x.graph q sided_here.strands (subst (λ z. IsStrandRun w.graph d (map hold_step (chain (strand c 1) z)) x.graph q) points sides)
+            ∙ ap (λ ss. run ss (strand_graph v.graph past)) (sym (whole.sides_held v.graph (curves_on past) planned.layer.sound planned.layer.curves p g c planned.layer.stands fit accepted))
+
+        pub layer_made : q.pieces ≡ past.pieces ++ (whole_piece c 1 g ∷ []) → q.names ≡ past.names ++ (c ∷ []) → q.next ≡ past.next + 1 → IsLayer x.graph q × (layer_of x.graph q ≡ layer_after (Insert c (g ∷ [])) l)
+        unfolding after
+        layer_made pieces names next = steps_make_layers (Insert c (g ∷ [])) v.graph past x.graph q planned.layer accepted_by (told_runs_lawful.steps v (curves_on past) old (steps (Insert c (g ∷ [])) p) x (curves_on q) new all_told) all_apart pieces names next

@@ -15,6 +15,7 @@ use Rattle.slab_laws.specs.Skeleton.{inside}
 use Rattle.slab_laws.specs.Sound.{IsGraphSound, edge_in}
 use Rattle.slab_laws.specs.View.{View, Faces, HasVertex, point_in}
 use Rattle.arr_notes.specs.Curves.{Curves}
+use Rattle.curve_history.specs.Past.{Past}
 use Rattle.arr_notes.specs.MapView.{MapView}
 use Rattle.dcel_records.specs.declared.spot.Met.{Met}
 use Rattle.dcel_records.specs.declared.spot.Met.TheVariants.{Vertex, Edge, Nothing}
@@ -133,7 +134,7 @@ module _ (v : View) (h : Curves) (g : Segment) (u : VertexId) (m : Meeting) (ms 
         none_between = λ t T on k l. f.clear.0 e t T (lies_in g t (record { on = on; from = le_lt (le_lt_lt a.from (lt_out (point_in v u) t k)); upto = le_lt (lt_le_lt (lt_out t m.point l) b.upto) })) k l;
       }
 
-module _ (v : MapView) (h : Curves) {b : BusRow} (w : MapView) (k : Curves) {d : BusRow} (m : Meeting) (x : VertexId) (y : IsMadeAt v h b w k d m x) (g : Segment) where
+module _ (v : MapView) (h : Past) {b : BusRow} (w : MapView) (k : Past) {d : BusRow} (m : Meeting) (x : VertexId) (y : IsMadeAt v h b w k d m x) (g : Segment) where
   clear_still : (p : Point) → Le m.point p → (ms : List Meeting) → IsAscending point_cmp (p ∷ points_of_meetings ms) → AreClearAfter v.graph g p ms → AreClearAfter w.graph g p ms
   clear_still p l [] a c = tt
   clear_still p l (n ∷ ms) a c = (

@@ -3,17 +3,17 @@ use Rattle.std.proofs.Common.{arith, ◌≡◌, ◌*◌, ℕ, cond, not, [], ◌
 use Rattle.std.proofs.lemmas.List.Sums.{sum_by-cons}
 use Rattle.exact_plane.specs.Point.{Point}
 use Rattle.plane_graphs.specs.Ascending.{Member}
+use Rattle.plane_graphs.specs.Graph.{Graph}
 use Rattle.plane_graphs.specs.Line.{IsProper, precedes}
 use Rattle.plane_graphs.specs.Plane.{IsPlane}
 use Rattle.plane_graphs.proofs.Order.{lt_out, lt_never, Lt}
-use Rattle.edit_steps.specs.Allowed.{IsSound, AreSound}
-use Rattle.edit_steps.specs.Steps.{AddVertex as AddVertexAt, SplitEdge as SplitEdgeAt, apply, vertex_step_by}
+use Rattle.edit_steps.specs.Allowed.{AreSound}
+use Rattle.edit_steps.specs.Steps.{Step, AddVertex as AddVertexAt, SplitEdge as SplitEdgeAt, apply}
 use Rattle.slab_laws.specs.declared.names.DartId.{DartId}
 use Rattle.slab_laws.specs.declared.names.VertexId.{VertexId}
 use Rattle.slab_laws.specs.Sound.{IsGraphSound}
 use Rattle.slab_laws.specs.View.{View, HasVertex, HasDart, point_in, source_in, target_in, twin_in}
 use Rattle.arr_notes.specs.ViewChanges.{with_vertex}
-use Rattle.arr_notes.proofs.VertexReads.{vertex_is_added}
 use Rattle.sound_changes.specs.ChangeFits.{FitsSplit}
 use Rattle.sound_changes.specs.SplitHalves.{IsHalved}
 use Rattle.sound_changes.proofs.SplitHalves.{not_n}
@@ -25,7 +25,6 @@ use Rattle.arr_notes.specs.Step.{split_edge, step}
 use Rattle.dcel_records.specs.declared.spot.Met.{Met}
 use Rattle.dcel_records.specs.declared.spot.Met.TheVariants.{Vertex, Edge, Nothing}
 use Rattle.dcel_records.specs.Spots.{IsMet, IsInFace, met_of}
-use Rattle.edge_split_merge.specs.Splits.{CanSplit}
 use Rattle.arr_notes.specs.MapView.{MapView}
 use Rattle.arr_notes.specs.RecordGraph.{drawn_graph}
 use Rattle.observer_bus.specs.Rounds.{BusRow}
@@ -33,23 +32,22 @@ use Rattle.sound_changes.specs.StepOfChange.{step_of_change, FitsChange}
 use Rattle.sound_changes.proofs.StepHolds.{point_held}
 use Rattle.sound_changes.proofs.StepCases.{at_other}
 use Rattle.sound_views.specs.RecordGraphLaws.{IsVertexAt}
+use Rattle.curve_history.specs.Past.{Past, curves_on, strands_on}
 use Rattle.told_steps.specs.RecordLayers.{IsRunOfSteps}
+use Rattle.told_steps.specs.SidedRuns.{IsSidedRun}
+use Rattle.told_steps.specs.StrandRuns.{IsStrandRun}
+use Rattle.told_steps.proofs.SidedRuns.{sided_as}
 use Rattle.told_steps.proofs.ToldTogether.{told_runs_lawful}
-use Rattle.told_steps.specs.ToldRuns.{IsToldRun}
 use Rattle.zone_walk.specs.declared.plan.Meeting.{Meeting}
-use Rattle.segment_insert.specs.Coming.{steps_at, LeadsTo, IsMetNow, IsMetStill, IsMadeAt}
-use Rattle.segment_insert.specs.Coming.LeadsTo.{here}
-use Rattle.told_steps.specs.VertexMade.{IsPlaneWith, IsVertexMade, darts_at, pairs_at, steps_at as steps_here, vertices_at}
+use Rattle.segment_insert.specs.Coming.{steps_at, IsMetNow, IsMetStill, IsMadeAt}
+use Rattle.told_steps.specs.VertexMade.{IsPlaneWith, darts_at, pairs_at, steps_at as steps_here, vertices_at}
 use Rattle.zone_walk.specs.Zone.{is_edge, is_vertex, splits_needed, vertices_needed}
 use Rattle.segment_insert.proofs.VerticesAdded.{old_vertex, leads_too, face_too}
 use Rattle.segment_insert.proofs.VerticesFound.{proper_by_step, face_step, edge_step, face_new, edge_new}
 use Rattle.segment_insert.proofs.VerticesSplit.{old_curves, leads_still, face_still}
-use Rattle.segment_insert.proofs.VerticesTurns.{nothing_told, one_told, one_sound}
+use Rattle.segment_insert.proofs.SidesFollow.{none_apart, one_apart}
+use Rattle.segment_insert.proofs.VerticesTurns.{none_there, one_there, one_sound}
 use Rattle.segment_insert.proofs.VerticesWalk.{leads_forward, leads_inside, leads_once}
-
--- a part that has the point inside may be split there
-part_fits : (v : View) (p : Point) (e d : DartId) → LeadsTo v p e d → CanSplit v e p
-part_fits v p e d k = let i = leads_inside v p e d k in record { dart = i.0.0; forward = i.0.1; inside_edge = i.1 }
 
 -- names of vertices, the curves of old edges, and what was told of points after p, stay
 record IsKept (v : View) (h : Curves) (w : View) (k : Curves) (p : Point) : Type 0 where
@@ -57,8 +55,35 @@ record IsKept (v : View) (h : Curves) (w : View) (k : Curves) (p : Point) : Type
   curves : (d : DartId) → HasDart v d → k d ≡ h d
   later : (q : Point) (o : Met) → IsProper q → precedes p q ≡ true → IsMetStill v h q o → IsMetStill w k q o
 
--- ---- an edge is split
+-- ---- no step
+kept_same : (v : View) (h : Curves) (w : View) (k : Curves) (p : Point) → IsRunOfSteps v h [] w k → IsKept v h w k p
+kept_same v h w k p m =
+    let e : k ≡ h = λ i d. m.1 d i in
+    subst (λ z. IsKept v h z k p) (sym m.0) (subst (λ z. IsKept v h v z p) (sym e) (record { vertices = λ u o. (o, refl); curves = λ d o. refl; later = λ q o proper l y. y }))
+
+-- ---- a vertex comes
+-- the step by which the point becomes a vertex where it is none
+abbrev IsStepFor : Point → Step → Type 0
+IsStepFor p (AddVertexAt o) = o ≡ p
+IsStepFor p (SplitEdgeAt q r o) = o ≡ p
+IsStepFor p other = ⊥
+
 module _ (v : View) (h : Curves) (s : IsGraphSound v) where
+  -- inside a face
+  module _ (p : Point) (x : VertexId) (new : ¬ HasVertex v x) where
+    added_later : (q : Point) (o : Met) → IsProper q → precedes p q ≡ true → IsMetStill v h q o → IsMetStill (with_vertex v x p) h q o
+    added_later q (Vertex u) proper l k = let r = old_vertex v x p s new u k.0 in (r.has k.0, r.point ∙ k.1)
+    added_later q (Edge d) proper l k = (k.0, leads_too v x p s new q k.0 d k.1, k.2)
+    added_later q Nothing proper l k = face_too v x p s new q (λ e. lt_never (subst (λ z. Lt p z) (sym e) (lt_out p q l))) k
+
+    kept_beside : IsKept v h (with_vertex v x p) h p
+    kept_beside = record {
+      vertices = λ u o. let r = old_vertex v x p s new u o in (r.has o, r.point);
+      curves = λ d o. refl;
+      later = added_later;
+    }
+
+  -- an edge goes in two
   module _ (p : Point) (b : DartId) (x : VertexId) (n t : DartId) (c : FitsSplit v b x p n t) where
     abbrev g : View
     g = split_edge v b x p n t
@@ -84,91 +109,23 @@ module _ (v : View) (h : Curves) (s : IsGraphSound v) where
     }
 
   -- by the step alone
-  kept_by : (x : Change) (q r p : Point) → FitsChange v h x → step_of_change v x ≡ SplitEdgeAt q r p → IsKept v h (step v x) (step_curves h x) p
-  kept_by (SplitEdge d x o n t) q r p f e = let k : o ≡ p = cc in subst (IsKept v h (split_edge v d x o n t) (step_curves h (SplitEdge d x o n t))) k (kept_by_split o d x n t f)
-  kept_by (AddVertex x o a) q r p f e = absurd cc
-  kept_by (RemoveVertex x) q r p f e = absurd cc
-  kept_by (MergeEdge x d n) q r p f e = absurd cc
-  kept_by (AddEdge d m u x at_u at_x l c n) q r p f e = absurd cc
-  kept_by (RemoveEdge d m n) q r p f e = absurd cc
-  kept_by (AddCurve d c) q r p f e = absurd cc
-  kept_by (RemoveCurve d c) q r p f e = absurd cc
-  kept_by (SetPin x) q r p f e = absurd cc
-  kept_by (ClearPin x) q r p f e = absurd cc
-  kept_by (Clear a) q r p f e = absurd cc
+  kept_by : (x : Change) (p : Point) → FitsChange v h x → IsStepFor p (step_of_change v x) → IsKept v h (step v x) (step_curves h x) p
+  kept_by (AddVertex x o a) p f e = subst (IsKept v h (with_vertex v x o) h) e (kept_beside o x f.name)
+  kept_by (SplitEdge d x o n t) p f e = subst (IsKept v h (split_edge v d x o n t) (step_curves h (SplitEdge d x o n t))) e (kept_by_split o d x n t f)
+  kept_by (RemoveVertex x) p f e = absurd e
+  kept_by (MergeEdge x d n) p f e = absurd e
+  kept_by (AddEdge d m u x at_u at_x l c n) p f e = absurd e
+  kept_by (RemoveEdge d m n) p f e = absurd e
+  kept_by (AddCurve d c) p f e = absurd e
+  kept_by (RemoveCurve d c) p f e = absurd e
+  kept_by (SetPin x) p f e = absurd e
+  kept_by (ClearPin x) p f e = absurd e
+  kept_by (Clear a) p f e = absurd e
 
-  kept_by_run : (q r p : Point) (w : View) (k : Curves) → IsRunOfSteps v h (SplitEdgeAt q r p ∷ []) w k → IsKept v h w k p
-  kept_by_run q r p w k m =
+  kept_by_run : (p : Point) (t : Step) (w : View) (k : Curves) → IsStepFor p t → IsRunOfSteps v h (t ∷ []) w k → IsKept v h w k p
+  kept_by_run p t w k b m =
       let e : k ≡ step_curves h m.0 = λ i d. m.2.1 d i in
-      subst (λ z. IsKept v h z k p) (sym m.2.0) (subst (λ z. IsKept v h (step v m.0) z p) (sym e) (kept_by m.0 q r p m.1.fits m.1.tells))
-
-module _ (v : MapView) (h : Curves) (s : IsGraphSound v.graph) (a : AreCurvesOf v.graph h) (m : Meeting) where
-  abbrev p : Point
-  p = m.point
-
-  -- ---- a vertex
-  stays : {b : BusRow} (w : VertexId) → IsMet v.graph m.point (Vertex w) → IsMadeAt v h b v h b m w
-  stays {b} w k = record {
-    told = nothing_told v.graph h s a m.point [] tt (subst (λ q. Member q (drawn_graph v.graph h).points) k.1 (point_held v.graph s.named h w k.0)) v b;
-    has = k.0;
-    point = k.1;
-    vertices = λ u o. (o, refl);
-    curves = λ d o. refl;
-    later = λ q t proper l y. y;
-  }
-
-  -- ---- a part of an edge
-  part_proper : (e d : DartId) → LeadsTo v.graph m.point e d → AreSound (steps_at v.graph h (m.point ∷ [])) (drawn_graph v.graph h) → IsProper m.point
-  part_proper e d k y =
-      let i = leads_inside v.graph m.point e d k in
-      proper_by_step m.point (drawn_graph v.graph h) (one_sound v.graph h s a m.point [] tt (edge_new v.graph h s m.point e i.0.0 i.1) y)
-
-  -- the part is split
-  splits : {b c : BusRow} (w : MapView) (k : Curves) (e d : DartId) (x : VertexId) → LeadsTo v.graph m.point e d → IsProper m.point → IsToldRun v h b (SplitEdgeAt (point_in v.graph (source_in v.graph e)) (point_in v.graph (target_in v.graph e)) m.point ∷ []) w k c → IsVertexAt w.graph m.point x → IsMadeAt v h b w k c m x
-  splits {b} {c} w k e d x y proper t at =
-      let f = part_fits v.graph m.point e d y in
-      let q = point_in v.graph (source_in v.graph e) in
-      let r = point_in v.graph (target_in v.graph e) in
-      let z = kept_by_run v.graph h s q r m.point w.graph k (told_runs_lawful.steps v h b (SplitEdgeAt q r m.point ∷ []) w k c t) in
-      record {
-        told = one_told v.graph h s a m.point [] tt (edge_new v.graph h s m.point e f.dart f.inside_edge) (SplitEdgeAt q r m.point) (sym (edge_step v.graph h s m.point proper a e (f.dart, f.forward) f.inside_edge)) v b w k c t;
-        has = at.has;
-        point = at.at;
-        vertices = z.vertices;
-        curves = z.curves;
-        later = z.later;
-      }
-
-  -- ---- inside a face
-  module _ (o : IsInFace v.graph m.point) (y : AreSound (steps_at v.graph h (m.point ∷ [])) (drawn_graph v.graph h)) where
-    one : IsSound (vertex_step_by m.point (drawn_graph v.graph h).marks) (drawn_graph v.graph h)
-    one = one_sound v.graph h s a m.point [] tt (face_new v.graph h s m.point o) y
-
-    proper_here : IsProper m.point
-    proper_here = proper_by_step m.point (drawn_graph v.graph h) one
-
-    added_by : vertex_step_by m.point (drawn_graph v.graph h).marks ≡ AddVertexAt m.point
-    added_by = face_step v.graph h s m.point proper_here o
-
-    added_plane : IsPlane (apply (AddVertexAt m.point) (drawn_graph v.graph h))
-    added_plane = subst (λ z. IsPlane (apply z (drawn_graph v.graph h))) added_by one.plane
-
-    module _ (x : VertexId) (new : ¬ HasVertex v.graph x) where
-      added_later : (q : Point) (z : Met) → IsProper q → precedes m.point q ≡ true → IsMetStill v.graph h q z → IsMetStill (with_vertex v.graph x m.point) h q z
-      added_later q (Vertex u) proper l k = let r = old_vertex v.graph x m.point s new u k.0 in (r.has k.0, r.point ∙ k.1)
-      added_later q (Edge d) proper l k = (k.0, leads_too v.graph x m.point s new q k.0 d k.1, k.2)
-      added_later q Nothing proper l k = face_too v.graph x m.point s new q (λ e. lt_never (subst (λ z. Lt m.point z) (sym e) (lt_out m.point q l))) k
-
-      comes : {b c : BusRow} (w : MapView) → w.graph ≡ with_vertex v.graph x m.point → IsToldRun v h b (AddVertexAt m.point ∷ []) w h c → IsMadeAt v h b w h c m x
-      comes {b} {c} w e t =
-          record {
-            told = one_told v.graph h s a m.point [] tt (face_new v.graph h s m.point o) (AddVertexAt m.point) (sym added_by) v b w h c t;
-            has = subst (λ g. HasVertex g x) (sym e) (vertex_is_added v.graph x m.point).has;
-            point = subst (λ g. point_in g x ≡ m.point) (sym e) (vertex_is_added v.graph x m.point).point;
-            vertices = λ u k. let r = old_vertex v.graph x m.point s new u k in subst (λ g. HasVertex g u × (point_in g u ≡ point_in v.graph u)) (sym e) (r.has k, r.point);
-            curves = λ d k. refl;
-            later = λ q z proper l k. subst (λ g. IsMetStill g h q z) (sym e) (added_later q z proper l k);
-          }
+      subst (λ z. IsKept v h z k p) (sym m.2.0) (subst (λ z. IsKept v h (step v m.0) z p) (sym e) (kept_by m.0 p m.1.fits (subst (IsStepFor p) (sym m.1.tells) b)))
 
 -- ---- where the point lies now
 pub lies_now : (v : View) (p : Point) (told now : Met) → IsMetNow v p told now → IsMet v p now
@@ -204,19 +161,50 @@ module _ (v : View) (m : Meeting) (now : Met) (k : IsMetNow v m.point (met_of m.
       omega (arith, sum_by-cons f m [], darts_now v m.point (met_of m.spot) now k)
 
 -- ---- the vertex is made there
-module _ (v : MapView) (h : Curves) (s : IsGraphSound v.graph) (a : AreCurvesOf v.graph h) (m : Meeting) (y : AreSound (steps_at v.graph h (m.point ∷ [])) (drawn_graph v.graph h)) where
-  pub plane_there : (now : Met) → IsMet v.graph m.point now → IsPlaneWith v.graph h m.point now
-  plane_there (Vertex u) o = tt
-  plane_there (Edge e) o = tt
-  plane_there Nothing o = added_plane v h s a m o y
+module _ (v : MapView) (p : Past) (s : IsGraphSound v.graph) (a : AreCurvesOf v.graph (curves_on p)) (m : Meeting) where
+  abbrev here : Graph
+  here = drawn_graph v.graph (curves_on p)
 
-  pub made_there : {b c : BusRow} (now : Met) → IsMet v.graph m.point now → IsProper m.point → (w : MapView) (k : Curves) (x : VertexId) →
-      IsToldRun v h b (steps_here v.graph m.point now) w k c → IsVertexAt w.graph m.point x → IsVertexMade v.graph h m.point now w.graph k x → IsMadeAt v h b w k c m x
-  unfolding IsToldRun
-  made_there {b} {c} (Vertex u) o proper w k x t at made =
-      subst (λ z. IsMadeAt v h b z k c m x) (sym t.0) (subst (λ q. IsMadeAt v h b v q c m x) (sym (λ i d. t.1 d i))
-      (subst (λ q. IsMadeAt v h b v h q m x) (sym t.2) (subst (IsMadeAt v h b v h b m) (sym made.0) (stays v h s a m u o))))
-  made_there {b} {c} (Edge e) o proper w k x t at made = splits v h s a m w k e e x (here o) proper t at
-  made_there {b} {c} Nothing o proper w k x t at made =
-      let q : k ≡ h = λ i d. made.2 d i in
-      subst (λ z. IsMadeAt v h b w z c m x) (sym q) (comes v h s a m o y x made.0 w made.1 (subst (λ z. IsToldRun v h b (AddVertexAt m.point ∷ []) w z c) q t))
+  steps_are : (now : Met) → IsMet v.graph m.point now → IsProper m.point → steps_here v.graph m.point now ≡ steps_at v.graph (curves_on p) (m.point ∷ [])
+  steps_are (Vertex u) o proper = none_there v.graph (curves_on p) s a m.point [] tt (subst (λ r. Member r here.points) o.1 (point_held v.graph s.named (curves_on p) u o.0))
+  steps_are (Edge e) o proper =
+      one_there v.graph (curves_on p) s a m.point [] tt (edge_new v.graph (curves_on p) s m.point e o.0 o.2) (SplitEdgeAt (point_in v.graph (source_in v.graph e)) (point_in v.graph (target_in v.graph e)) m.point)
+      (edge_step v.graph (curves_on p) s m.point proper a e (o.0, o.1) o.2)
+  steps_are Nothing o proper = one_there v.graph (curves_on p) s a m.point [] tt (face_new v.graph (curves_on p) s m.point o) (AddVertexAt m.point) (face_step v.graph (curves_on p) s m.point proper o)
+
+  module _ (y : AreSound (steps_at v.graph (curves_on p) (m.point ∷ [])) here) where
+    added_plane : IsInFace v.graph m.point → IsPlane (apply (AddVertexAt m.point) here)
+    added_plane o =
+        let one = one_sound v.graph (curves_on p) s a m.point [] tt (face_new v.graph (curves_on p) s m.point o) y in
+        subst (λ z. IsPlane (apply z here)) (face_step v.graph (curves_on p) s m.point (proper_by_step m.point here one) o) one.plane
+
+    pub plane_there : (now : Met) → IsMet v.graph m.point now → IsPlaneWith v.graph (curves_on p) m.point now
+    plane_there (Vertex u) o = tt
+    plane_there (Edge e) o = tt
+    plane_there Nothing o = added_plane o
+
+  -- ---- the sides of curves
+  module _ (w : MapView) (q : Past) where
+    apart_there : (now : Met) → IsRunOfSteps v.graph (curves_on p) (steps_here v.graph m.point now) w.graph (curves_on q) → IsStrandRun v.graph p (steps_here v.graph m.point now) w.graph q →
+        IsRunOfSteps v.graph (strands_on p) (steps_here v.graph m.point now) w.graph (strands_on q)
+    apart_there (Vertex u) r t = none_apart v.graph p w.graph q s a r t
+    apart_there (Edge e) r t = one_apart v.graph p w.graph q s a (SplitEdgeAt (point_in v.graph (source_in v.graph e)) (point_in v.graph (target_in v.graph e)) m.point) tt r t
+    apart_there Nothing r t = one_apart v.graph p w.graph q s a (AddVertexAt m.point) tt r t
+
+    kept_there : (now : Met) → IsRunOfSteps v.graph (strands_on p) (steps_here v.graph m.point now) w.graph (strands_on q) → IsKept v.graph (strands_on p) w.graph (strands_on q) m.point
+    kept_there (Vertex u) r = kept_same v.graph (strands_on p) w.graph (strands_on q) m.point r
+    kept_there (Edge e) r = kept_by_run v.graph (strands_on p) s m.point (SplitEdgeAt (point_in v.graph (source_in v.graph e)) (point_in v.graph (target_in v.graph e)) m.point) w.graph (strands_on q) refl r
+    kept_there Nothing r = kept_by_run v.graph (strands_on p) s m.point (AddVertexAt m.point) w.graph (strands_on q) refl r
+
+    pub made_there : {b c : BusRow} (now : Met) → IsMet v.graph m.point now → IsProper m.point → (x : VertexId) → IsSidedRun v p b (steps_here v.graph m.point now) w q c → IsVertexAt w.graph m.point x → IsMadeAt v p b w q c m x
+    made_there {b} {c} now o proper x t at =
+        let ss = steps_here v.graph m.point now in
+        let k = kept_there now (apart_there now (told_runs_lawful.steps v (curves_on p) b ss w (curves_on q) c t.told) t.strands) in
+        record {
+          told = sided_as v p b ss (steps_at v.graph (curves_on p) (m.point ∷ [])) w q c t (steps_are now o proper);
+          has = at.has;
+          point = at.at;
+          vertices = k.vertices;
+          sides = k.curves;
+          later = k.later;
+        }

@@ -16,15 +16,10 @@ use Rattle.slab_laws.specs.Sound.{IsGraphSound}
 use Rattle.slab_laws.specs.View.{View}
 use Rattle.arr_notes.specs.Curves.{Curves, AreCurvesOf, step_curves}
 use Rattle.arr_notes.specs.Step.{step}
-use Rattle.arr_notes.specs.MapView.{MapView}
 use Rattle.arr_notes.specs.RecordGraph.{drawn_graph}
 use Rattle.sound_changes.specs.StepLaws.{IsApplied}
 use Rattle.sound_changes.proofs.ChangesAreSteps.{changes_are_steps}
-use Rattle.observer_bus.specs.Rounds.{BusRow}
 use Rattle.told_steps.specs.RecordLayers.{IsRunOfSteps}
-use Rattle.told_steps.proofs.Begun.{none_told}
-use Rattle.told_steps.proofs.ToldTogether.{told_runs_lawful}
-use Rattle.told_steps.specs.ToldRuns.{IsToldRun}
 use Rattle.segment_insert.specs.Coming.{steps_at}
 use Rattle.segment_insert.proofs.VerticesFound.{proper_by_step}
 use Rattle.integers.proofs.Tests.{not_true}
@@ -168,12 +163,12 @@ module _ (v : View) (h : Curves) (s : IsGraphSound v) (a : AreCurvesOf v h) (p :
             subst (λ ss. AreSound ss g) (sym (one_first new)) ((subst (λ ss. AreSound ss g) (first_step p ps g new) y).0, tt)
       ]
 
-  -- ---- what a vertex and a new point ask of the first steps
-  pub nothing_told : Member p g.points → (o : MapView) (b : BusRow) → IsToldRun o h b (steps_at v h (p ∷ [])) o h b
-  nothing_told there o b = subst (λ ss. IsToldRun o h b ss o h b) (sym (none_first there)) (none_told o h b)
+  -- ---- the first steps of a vertex and of a new point
+  pub none_there : Member p g.points → [] ≡ steps_at v h (p ∷ [])
+  none_there there = sym (none_first there)
 
-  pub one_told : (new : Member p g.points → ⊥) (t : Step) → t ≡ vertex_step_by p g.marks → (o : MapView) (b : BusRow) (w : MapView) (k : Curves) (c : BusRow) → IsToldRun o h b (t ∷ []) w k c → IsToldRun o h b (steps_at v h (p ∷ [])) w k c
-  one_told new t e o b w k c m = told_runs_lawful.same_steps o h b (t ∷ []) (steps_at v h (p ∷ [])) w k c (ap (λ z. z ∷ []) e ∙ sym (one_first new)) m
+  pub one_there : (new : Member p g.points → ⊥) (t : Step) → vertex_step_by p g.marks ≡ t → t ∷ [] ≡ steps_at v h (p ∷ [])
+  one_there new t e = ap (λ z. z ∷ []) (sym e) ∙ sym (one_first new)
 
   pub one_sound : (new : Member p g.points → ⊥) → AreSound (steps_at v h (p ∷ [])) g → IsSound (vertex_step_by p g.marks) g
   one_sound new y = (subst (λ ss. AreSound ss g) (one_first new) y).0

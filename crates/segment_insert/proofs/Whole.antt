@@ -10,14 +10,17 @@ use Rattle.plane_graphs.specs.Fit.{IsFit}
 use Rattle.plane_graphs.specs.Graph.{Graph, Mark, marks, chain, graph, vertices, inside}
 use Rattle.plane_graphs.specs.Line.{same_point}
 use Rattle.plane_graphs.specs.Piece.{Piece, Present, on, along}
+use Rattle.plane_graphs.specs.Strands.{strand, strand_piece, strands}
 use Rattle.plane_graphs.proofs.Ascending.{ascending_unique}
 use Rattle.plane_graphs.proofs.Edges.{edges_of_piece}
-use Rattle.plane_graphs.proofs.Lists.{in_right, any_in, not_out, clash, decide, in_filter, of_filter, of_place, IsAscending-filter}
+use Rattle.plane_graphs.proofs.Lists.{in_map, in_right, any_in, not_out, clash, decide, in_filter, of_filter, of_place, IsAscending-filter}
 use Rattle.plane_graphs.proofs.Order.{same_itself}
+use Rattle.plane_graphs.proofs.Strands.{strand_on, strand_vertices, strands_fit}
 use Rattle.plane_graphs.proofs.Vertices.{vertices_ascend}
 use Rattle.edit_steps.specs.Allowed.{AreSound}
-use Rattle.edit_steps.specs.Edits.{Insert, steps, whole_piece, IsAccepted}
-use Rattle.edit_steps.specs.Steps.{Step, apply, run, with_piece, segment_steps, vertex_step_by, vertex_steps, missing_points, more_step}
+use Rattle.edit_steps.specs.EditLaws.{hold_step}
+use Rattle.edit_steps.specs.Edits.{Insert, path_pieces, steps, whole_piece, IsAccepted}
+use Rattle.edit_steps.specs.Steps.{Step, apply, run, with_piece, path_steps, vertex_step_by, vertex_steps, missing_points, more_step}
 use Rattle.edit_steps.proofs.Edits.{fit_before}
 use Rattle.edit_steps.proofs.Laws.{are_sound}
 use Rattle.edit_steps.proofs.Vertices.{vertices_change}
@@ -32,6 +35,7 @@ use Rattle.observer_bus.specs.Rounds.{BusRow}
 use Rattle.told_steps.specs.RecordLayers.{IsRunOfSteps}
 use Rattle.told_steps.proofs.Runs.{made_is_run}
 use Rattle.told_steps.proofs.ToldTogether.{told_runs_lawful}
+use Rattle.told_steps.specs.StrandRuns.{held_steps}
 use Rattle.told_steps.specs.ToldRuns.{IsToldRun}
 use Rattle.zone_walk.specs.Zone.{is_on_segment, meeting_points}
 use Rattle.segment_insert.specs.Insertion.{AreAllOn}
@@ -61,9 +65,9 @@ run_points (r ∷ rs) g x m = elim (run_points rs (apply (vertex_step_by r g.mar
   | inr n ↦ elim (of_place point_cmp point_cmp_total point_cmp_exact x r g.points (subst (Member x) (step_points r g.marks g) n)) [ inl e ↦ inl (inl e) | inr k ↦ inr k ]
 ]
 
-module _ (v : View) (h : Curves) (s : IsGraphSound v) (a : AreCurvesOf v h) (p : Present) (g : Segment) (c : ℕ) (stands : drawn_graph v h ≡ graph p) (fit : IsFit (with_piece p (whole_piece c g))) (accepted : IsAccepted (Insert c g) p) where
+module _ (v : View) (h : Curves) (s : IsGraphSound v) (a : AreCurvesOf v h) (p : Present) (g : Segment) (c : ℕ) (stands : drawn_graph v h ≡ graph p) (fit : IsFit (with_piece p (whole_piece c 1 g))) (accepted : IsAccepted (Insert c (g ∷ [])) p) where
   abbrev k : Piece
-  k = whole_piece c g
+  k = whole_piece c 1 g
 
   abbrev q : Present
   q = with_piece p k
@@ -117,14 +121,23 @@ module _ (v : View) (h : Curves) (s : IsGraphSound v) (a : AreCurvesOf v h) (p :
   chain_is : marks (vertices q) (k ∷ []) ≡ chain c (meeting_points v g)
   chain_is = edges_of_piece q k fit k_here ∙ ap (chain c) (sym (met v h s a p g c stands fit))
 
-  pub halves : steps (Insert c g) p ≡ first_half ++ last_half (run first_half here)
-  unfolding steps segment_steps
+  pub halves : steps (Insert c (g ∷ [])) p ≡ first_half ++ last_half (run first_half here)
+  unfolding steps path_steps
   halves =
       ap₂ (λ (fs : List Step) (ms : List Mark). fs ++ map (more_step (run fs (graph p))) ms) first_is chain_is
       ∙ ap (λ z. first_half ++ map (more_step (run first_half z)) (chain c (meeting_points v g))) (sym stands)
 
+  -- the sides of curves told apart: the same vertices, and then the piece's own side along each edge
+  side_chain : marks (vertices q) (strand_piece k ∷ []) ≡ chain (strand c 1) (meeting_points v g)
+  side_chain =
+      ap (λ vs. marks vs (strand_piece k ∷ [])) (sym (strand_vertices q)) ∙ edges_of_piece (strands q) (strand_piece k) (strands_fit q fit) (in_map strand_piece k q.pieces k_here)
+      ∙ ap₂ (λ (on_it : Point → Bool) vs. chain (strand c 1) (filter on_it vs)) (λ i x. strand_on k x i) (strand_vertices q) ∙ ap (chain (strand c 1)) (sym (met v h s a p g c stands fit))
+
+  pub sides_held : held_steps p (path_pieces c (g ∷ [])) ≡ first_half ++ map hold_step (chain (strand c 1) (meeting_points v g))
+  sides_held = ap₂ (λ (fs : List Step) (ms : List Mark). fs ++ map hold_step ms) first_is side_chain
+
   all_sound : AreSound (first_half ++ last_half (run first_half here)) here
-  all_sound = subst (AreSound (first_half ++ last_half (run first_half here))) (sym stands) (subst (λ z. AreSound z (graph p)) halves (are_sound (Insert c g) p old_fit accepted))
+  all_sound = subst (AreSound (first_half ++ last_half (run first_half here))) (sym stands) (subst (λ z. AreSound z (graph p)) halves (are_sound (Insert c (g ∷ [])) p old_fit accepted))
 
   pub first_sound : AreSound first_half here
   first_sound = sound_first first_half (last_half (run first_half here)) here all_sound
@@ -150,10 +163,10 @@ module _ (v : View) (h : Curves) (s : IsGraphSound v) (a : AreCurvesOf v h) (p :
           | inr n ↦ new_on x (vertices_change.stay p k x (subst (Member x) drawn_points n)) o
         ]
 
-    pub told_whole : (o y x : MapView) (old now new : BusRow) (z : Curves) → IsToldRun o h old first_half y b now → IsToldRun y b now (last_half (drawn_graph w b)) x z new → IsToldRun o h old (steps (Insert c g) p) x z new
+    pub told_whole : (o y x : MapView) (old now new : BusRow) (z : Curves) → IsToldRun o h old first_half y b now → IsToldRun y b now (last_half (drawn_graph w b)) x z new → IsToldRun o h old (steps (Insert c (g ∷ [])) p) x z new
     told_whole o y x old now new z m n =
         let ts = last_half (run first_half here) in
-        told_runs_lawful.same_steps o h old (first_half ++ ts) (steps (Insert c g) p) x z new (sym halves) (told_runs_lawful.follow o h old first_half ts y b now x z new m (told_runs_lawful.same_steps y b now _ ts x z new (ap last_half run_here) n))
+        told_runs_lawful.same_steps o h old (first_half ++ ts) (steps (Insert c (g ∷ [])) p) x z new (sym halves) (told_runs_lawful.follow o h old first_half ts y b now x z new m (told_runs_lawful.same_steps y b now _ ts x z new (ap last_half run_here) n))
 
   pub on_segment : (x : Point) → Member x (meeting_points v g) → is_on_segment g x ≡ true
   unfolding on along

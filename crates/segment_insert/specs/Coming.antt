@@ -14,7 +14,8 @@ use Rattle.dcel_records.specs.Spots.{IsInFace, IsMet}
 use Rattle.arr_notes.specs.MapView.{MapView}
 use Rattle.arr_notes.specs.RecordGraph.{drawn_graph}
 use Rattle.observer_bus.specs.Rounds.{BusRow}
-use Rattle.told_steps.specs.ToldRuns.{IsToldRun}
+use Rattle.curve_history.specs.Past.{Past, curves_on, strands_on}
+use Rattle.told_steps.specs.SidedRuns.{IsSidedRun}
 use Rattle.zone_walk.specs.declared.plan.Meeting.{Meeting}
 
 -- the steps that make vertices of those points that are none
@@ -41,7 +42,7 @@ pub data LeadsTo (v : View) (p : Point) (e : DartId) : DartId → Type 0 where
 abbrev pub HasPart : View → Point → DartId → Type 0
 HasPart v p d = (e : DartId) × LeadsTo v p e d
 
--- the point still meets this, where edges went in several since it was told: the part that has the point inside has the curves of the edge (this project)
+-- the point still meets this, where edges went in several since it was told: the part that has the point inside has the curves, or the sides of curves, of the edge (this project)
 abbrev pub IsMetStill : View → Curves → Point → Met → Type 0
 IsMetStill v h p (Vertex w) = IsMet v p (Vertex w)
 IsMetStill v h p (Edge d) = (e : DartId) × LeadsTo v p e d × (h e ≡ h d)
@@ -53,11 +54,11 @@ IsMetNow v p (Vertex w) now = (now ≡ Vertex w) × IsMet v p (Vertex w)
 IsMetNow v p (Edge d) now = (e : DartId) × (now ≡ Edge e) × LeadsTo v p e d
 IsMetNow v p Nothing now = (now ≡ Nothing) × IsMet v p Nothing
 
--- the meeting's point is the vertex x after its step, which observers are told, if it was none before; names of vertices stay, the curves of the old edges stay, and what was told of later points still says where they lie (this project)
-pub record IsMadeAt (v : MapView) (h : Curves) (b : BusRow) (w : MapView) (k : Curves) (c : BusRow) (m : Meeting) (x : VertexId) : Type 0 where
-  pub told : IsToldRun v h b (steps_at v.graph h (m.point ∷ [])) w k c
+-- the meeting's point is the vertex x after its step, which observers are told, if it was none before; names of vertices stay, the sides of curves along the old edges stay, and what was told of later points still says where they lie (this project)
+pub record IsMadeAt (v : MapView) (p : Past) (b : BusRow) (w : MapView) (q : Past) (c : BusRow) (m : Meeting) (x : VertexId) : Type 0 where
+  pub told : IsSidedRun v p b (steps_at v.graph (curves_on p) (m.point ∷ [])) w q c
   pub has : HasVertex w.graph x
   pub point : point_in w.graph x ≡ m.point
   pub vertices : (u : VertexId) → HasVertex v.graph u → HasVertex w.graph u × (point_in w.graph u ≡ point_in v.graph u)
-  pub curves : (d : DartId) → HasDart v.graph d → k d ≡ h d
-  pub later : (p : Point) (s : Met) → IsProper p → precedes m.point p ≡ true → IsMetStill v.graph h p s → IsMetStill w.graph k p s
+  pub sides : (d : DartId) → HasDart v.graph d → strands_on q d ≡ strands_on p d
+  pub later : (r : Point) (s : Met) → IsProper r → precedes m.point r ≡ true → IsMetStill v.graph (strands_on p) r s → IsMetStill w.graph (strands_on q) r s

@@ -30,7 +30,7 @@ insert_said NoMemory = None
 
 -- why the layer of records and history refuses one more curve (this project)
 abbrev pub refusal_at : ℕ → ℕ → RecordsView → Past → Option Refusal
-refusal_at curves pieces r p = insertion_refusal curves pieces LAST_CURVE (layer_at r p)
+refusal_at curves pieces r p = insertion_refusal 1 curves pieces LAST_CURVE (layer_at r p)
 
 -- the meetings ascend, each with what it meets (this project)
 pub record AreMeetings (v : View) (ms : List Meeting) : Type 0 where
@@ -63,16 +63,16 @@ pub record AreVertices (v : View) (ms : List Meeting) : Type 0 where
 abbrev pub AreAllOn : View → Segment → List Point → Type 0
 AreAllOn v s ps = (w : _) → HasVertex v w → is_on_segment s (point_in v w) ≡ true → Member (point_in v w) ps
 
--- how many pairs of an edge and a curve come with the splits: the curves of each edge that is split, on its new part
+-- how many pairs of an edge and a side of a curve come with the splits: the sides along each edge that is split, on its new part
 abbrev pub pairs_to_part : Curves → List Meeting → ℕ
 pairs_to_part h [] = 0
 pairs_to_part h (m ∷ ms) = pairs_at h (met_of m.spot) + pairs_to_part h ms
 
--- how many pairs of an edge and a curve come: the curves of each edge that is split, and the new one on each open part
+-- how many pairs of an edge and a side of a curve come: the sides along each edge that is split, and the new one on each open part
 abbrev pub pairs_needed : Curves → List Meeting → ℕ
 pairs_needed h ms = length ms + pairs_to_part h ms
 
--- without memory there is room for what the plan makes where the edges have these curves, for one more name and for one more piece (this project)
+-- without memory there is room for what the plan makes where edges have these sides of curves, for one more name and for one more piece (this project)
 pub record HasRoomFor (z : ZonePlan) (h : Curves) (r : RecordsView) (p : Past) : Type 0 where
   pub vertices : z.room.vertices ≤ r.spare_vertices
   pub darts : 2 * z.room.edges ≤ r.spare_darts

@@ -1,15 +1,19 @@
 -- The steps by which an insertion makes vertices and edges of records and their history: what they ask, and what they make.
 use Rattle.std.specs.Prelude.{ℕ, List, [], ◌∷◌, map, Option}
-use Rattle.plane_graphs.specs.Graph.{chain}
+use Rattle.plane_graphs.specs.Graph.{chain, mark}
+use Rattle.plane_graphs.specs.Strands.{strand}
 use Rattle.edit_steps.specs.Allowed.{IsSound, AreSound}
+use Rattle.edit_steps.specs.EditLaws.{hold_step}
 use Rattle.edit_steps.specs.Steps.{Step, more_step}
 use Rattle.slab_laws.specs.declared.names.DartId.{DartId}
 use Rattle.slab_laws.specs.declared.names.VertexId.{VertexId}
 use Rattle.slab_laws.specs.View.{View, point_in}
-use Rattle.curve_history.specs.Past.{Past, curves_on}
+use Rattle.curve_history.specs.Past.{Past, curves_on, strands_on}
 use Rattle.arr_notes.specs.MapView.{MapView}
 use Rattle.arr_notes.specs.RecordGraph.{drawn_graph}
 use Rattle.observer_bus.specs.Rounds.{BusRow}
+use Rattle.told_steps.specs.SidedRuns.{IsSidedRun}
+use Rattle.told_steps.specs.StrandRuns.{IsStrandRun}
 use Rattle.told_steps.specs.ToldRuns.{IsToldRun}
 use Rattle.sound_changes.specs.EdgePlaces.{dart_between, IsPlaceFor}
 use Rattle.zone_walk.specs.declared.plan.Meeting.{Meeting}
@@ -25,15 +29,15 @@ MayBeVertices v p ms = AreSound (steps_at v (curves_on p) (points_of_meetings ms
 
 -- those meeting points that were no vertices have become some, one after the other, which observers are told, and nothing else has changed (this project)
 abbrev pub BecomeVertices : MapView → Past → BusRow → List Meeting → MapView → Past → BusRow → Type 0
-BecomeVertices v p b ms w q c = IsToldRun v (curves_on p) b (steps_at v.graph (curves_on p) (points_of_meetings ms)) w (curves_on q) c
+BecomeVertices v p b ms w q c = IsSidedRun v p b (steps_at v.graph (curves_on p) (points_of_meetings ms)) w q c
 
 -- the meeting's point is the vertex x, which came, and observers are told, if there was none; what was told of other vertices, edges and later points still holds (this project)
 abbrev pub BecomesVertex : MapView → Past → BusRow → Meeting → MapView → Past → BusRow → VertexId → Type 0
-BecomesVertex v p b m w q c x = IsMadeAt v (curves_on p) b w (curves_on q) c m x
+BecomesVertex v p b m w q c x = IsMadeAt v p b w q c m x
 
--- how many new pairs of an edge and a curve come of the edges that are split at the meetings (this project)
+-- how many new pairs of an edge and a side of a curve come of the edges that are split at the meetings (this project)
 abbrev pub new_pairs : Past → List Meeting → ℕ
-new_pairs p ms = pairs_to_part (curves_on p) ms
+new_pairs p ms = pairs_to_part (strands_on p) ms
 
 -- ---- edges
 -- the place round w of a new edge to u (CGAL manual, `insert_at_vertices`)
@@ -63,3 +67,11 @@ MayBeAlongAll v p c ms = AreSound (steps_along v p c ms) (drawn_graph v (curves_
 -- the curve has come along each of these parts, one after the other, which observers are told, and nothing else has changed (this project)
 abbrev pub ComesAlongAll : MapView → Past → BusRow → ℕ → List Meeting → MapView → Past → BusRow → Type 0
 ComesAlongAll v p b c ms w q d = IsToldRun v (curves_on p) b (steps_along v.graph p c ms) w (curves_on q) d
+
+-- where sides of curves are told apart, the curve's first side has come along the part, and nothing else has changed (this project)
+abbrev pub SideComesAlong : View → Past → VertexId → VertexId → ℕ → View → Past → Type 0
+SideComesAlong v p u w c x q = IsStrandRun v p (hold_step (mark (point_in v u) (point_in v w) (strand c 1)) ∷ []) x q
+
+-- and so along each open part between two neighbouring meeting points, one after the other (this project)
+abbrev pub SideComesAlongAll : View → Past → ℕ → List Meeting → View → Past → Type 0
+SideComesAlongAll v p c ms w q = IsStrandRun v p (map hold_step (chain (strand c 1) (points_of_meetings ms))) w q

@@ -11,7 +11,7 @@ ghost use Rattle.told_steps.specs.ToldRuns.{AreInStep};
 ghost use Rattle.zone_walk.specs.Zone.{is_on_segment, is_vertex, points_of_meetings};
 ghost use Rattle.segment_insert.specs.Parts.{IsOpenPart};
 ghost use Rattle.segment_insert.specs.Insertion.{AreVertices, AreAllOn};
-ghost use Rattle.segment_insert.specs.StepsMade.{IsPlaceTo, MayBeAlong, ComesAlong, MayBeAlongAll, ComesAlongAll};
+ghost use Rattle.segment_insert.specs.StepsMade.{IsPlaceTo, MayBeAlong, ComesAlong, SideComesAlong, MayBeAlongAll, ComesAlongAll, SideComesAlongAll};
 
 use curve_history::History;
 use dcel_records::{Records, Spot};
@@ -74,6 +74,7 @@ fn new_edge(
     requires pairs { 1 ≤ history.old.spare_pairs }
     ensures told { ComesAlong (map_of records.old) history.old (bus_row Observer-dyn bus.old) u w curve.0
         (map_of records.new) history.new (bus_row Observer-dyn bus.new) }
+    ensures strands { SideComesAlong records.old.graph history.old u w curve.0 records.new.graph history.new }
     ensures in_step { AreInStep (map_of records.new) (curves_on history.new)
         (bus_row Observer-dyn bus.new) }
     ensures map { IsMapAtRest records.new }
@@ -85,7 +86,9 @@ fn new_edge(
     ensures spare_pairs { history.old.spare_pairs ≤ history.new.spare_pairs + 1 }
 {
     let at_w = place_back(&*records, line, u, w);
-    add_edge(alloc, records, history, bus, u, w, at_u, at_w, *line, curve);
+    add_edge(
+        alloc, records, history, bus, u, w, at_u, at_w, *line, curve, 1,
+    );
 }
 
 // The open part from `u` to `w` becomes an edge of the curve: an edge that runs there gets it, or else a new one comes.
@@ -111,6 +114,7 @@ fn make_edge(
     requires pairs { 1 ≤ history.old.spare_pairs }
     ensures told { ComesAlong (map_of records.old) history.old (bus_row Observer-dyn bus.old) u w curve.0
         (map_of records.new) history.new (bus_row Observer-dyn bus.new) }
+    ensures strands { SideComesAlong records.old.graph history.old u w curve.0 records.new.graph history.new }
     ensures in_step { AreInStep (map_of records.new) (curves_on history.new)
         (bus_row Observer-dyn bus.new) }
     ensures map { IsMapAtRest records.new }
@@ -122,7 +126,7 @@ fn make_edge(
     ensures spare_pairs { history.old.spare_pairs ≤ history.new.spare_pairs + 1 }
 {
     match place_at(&*records, u, Direction::along(line)) {
-        Place::Along(d) => add_curve(alloc, &*records, history, bus, d, curve),
+        Place::Along(d) => add_curve(alloc, &*records, history, bus, d, curve, 1),
         Place::Bare => new_edge(alloc, records, history, bus, line, curve, u, w, None),
         Place::Between(a, _) => new_edge(alloc, records, history, bus, line, curve, u, w, Some(a)),
     }
@@ -153,6 +157,7 @@ pub(crate) fn make_edges(
     requires pairs { length meetings.now ≤ history.old.spare_pairs }
     ensures told { ComesAlongAll (map_of records.old) history.old (bus_row Observer-dyn bus.old) curve.0 meetings.now
         (map_of records.new) history.new (bus_row Observer-dyn bus.new) }
+    ensures strands { SideComesAlongAll records.old.graph history.old curve.0 meetings.now records.new.graph history.new }
     ensures in_step { AreInStep (map_of records.new) (curves_on history.new)
         (bus_row Observer-dyn bus.new) }
     ensures map { IsMapAtRest records.new }

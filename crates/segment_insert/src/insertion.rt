@@ -1,10 +1,10 @@
-ghost use Rattle.std.specs.Prelude.{◌≡◌, ◌≤◌, ◌<◌, ◌+◌, ◌^◌, length, option_and_then, IsOk, IfOk, OnOk, OnErr};
+ghost use Rattle.std.specs.Prelude.{◌≡◌, ◌≤◌, ◌<◌, ◌+◌, ◌^◌, ◌∷◌, [], length, option_and_then, IsOk, IfOk, OnOk, OnErr};
 ghost use Rattle.edit_steps.specs.Edits.{Insert, steps};
 ghost use Rattle.edit_steps.specs.Refusals.{IsAnswerFor};
 ghost use Rattle.dcel_records.specs.RecordsView.{RecordsView, tables_of};
 ghost use Rattle.face_location.specs.Spots.{IsSpotOf};
 ghost use Rattle.dcel_records.specs.SoundMaps.{IsMapAtRest, IsSoundMap, map_of};
-ghost use Rattle.curve_history.specs.Past.{curves_on, SameLayer, SameCurves};
+ghost use Rattle.curve_history.specs.Past.{curves_on, strands_on, SameLayer, SameCurves, SameStrands};
 ghost use Rattle.curve_history.specs.declared.history.TheConstants.{LAST_CURVE};
 ghost use Rattle.told_steps.specs.RecordLayers.{IsLayer};
 ghost use Rattle.zone_walk.specs.Zone.{IsZoneOf};
@@ -68,11 +68,11 @@ fn refusal_of(history: &History, curves: u32, pieces: u32) -> Option<InsertError
     }
 }
 
-// How many pairs of an edge and a curve come: the curves of each edge that is parted, and the new one on each open part. It
-// takes no memory; the error stands for a number past `usize`.
+// How many pairs of an edge and a side of a curve come: the sides along each edge that is parted, and the new one on each open
+// part. It takes no memory; the error stands for a number past `usize`.
 fn count_pairs(history: &History, meetings: &[Meeting]) -> Result<usize, NoMemory>
-    ensures count { IfOk result (λ n. n ≡ pairs_needed (curves_on history.now) meetings.now) }
-    ensures past_usize { OnErr result (2 ^ 64 ≤ pairs_needed (curves_on history.now) meetings.now) }
+    ensures count { IfOk result (λ n. n ≡ pairs_needed (strands_on history.now) meetings.now) }
+    ensures past_usize { OnErr result (2 ^ 64 ≤ pairs_needed (strands_on history.now) meetings.now) }
 {
     let mut pairs = meetings.len();
     for meeting in meetings {
@@ -89,12 +89,13 @@ fn count_pairs(history: &History, meetings: &[Meeting]) -> Result<usize, NoMemor
 // Room for all that the plan makes, for one more name and for one more piece; only the room changes. Where it is there, no
 // memory is taken.
 fn make_room(records: &mut Records, history: &mut History, plan: &ZonePlan) -> Result<(), NoMemory>
-    ensures room { OnOk result (HasRoomFor plan.now (curves_on history.old) records.new history.new) }
-    ensures succeeds { HasRoomFor plan.now (curves_on history.old) records.old history.old → IsOk result }
+    ensures room { OnOk result (HasRoomFor plan.now (strands_on history.old) records.new history.new) }
+    ensures succeeds { HasRoomFor plan.now (strands_on history.old) records.old history.old → IsOk result }
     ensures graph { records.new.graph ≡ records.old.graph }
     ensures tables { tables_of records.new ≡ tables_of records.old }
     ensures map { IsMapAtRest records.old → IsMapAtRest records.new }
     ensures same_layer { SameLayer history.old history.new }
+    ensures same_strands { SameStrands history.old history.new }
     ensures same_curves { SameCurves history.old history.new }
 {
     // A `usize` counts the pairs for which there is room.
@@ -116,11 +117,12 @@ fn prepare<L: Ledger>(
     requires map { IsSoundMap records.old }
     requires start { IsSpotOf records.old.graph (tables_of records.old) segment.now.lower start }
     ensures zone { IfOk result (IsZoneOf records.old.graph (tables_of records.old) segment.now) }
-    ensures room { IfOk result (λ z. HasRoomFor z (curves_on history.old) records.new history.new) }
+    ensures room { IfOk result (λ z. HasRoomFor z (strands_on history.old) records.new history.new) }
     ensures graph { records.new.graph ≡ records.old.graph }
     ensures tables { tables_of records.new ≡ tables_of records.old }
     ensures map { IsMapAtRest records.old → IsMapAtRest records.new }
     ensures same_layer { SameLayer history.old history.new }
+    ensures same_strands { SameStrands history.old history.new }
     ensures same_curves { SameCurves history.old history.new }
 {
     // Each face lists its own cycles and isolated vertices.
@@ -148,13 +150,13 @@ fn insert_by_plan(
     requires start { IsSpotOf records.old.graph (tables_of records.old) segment.now.lower start }
     requires unspent { history.old.next ≤ LAST_CURVE }
     requires few { length history.old.pieces + 1 < 2 ^ 32 }
-    requires room { HasRoomFor plan (curves_on history.old) records.old history.old }
+    requires room { HasRoomFor plan (strands_on history.old) records.old history.old }
     ensures layer { IsLayer records.new.graph history.new }
     ensures number { result.0 ≡ history.old.next }
-    ensures edit { IsAfter (Insert result.0 segment.now) records.old history.old records.new history.new }
+    ensures edit { IsAfter (Insert result.0 (segment.now ∷ [])) records.old history.old records.new history.new }
     ensures told { IsToldRun (map_of records.old) (curves_on history.old)
         (bus_row Observer-dyn bus.old)
-        (steps (Insert result.0 segment.now) (layer_at records.old history.old).present) (map_of records.new) (curves_on history.new)
+        (steps (Insert result.0 (segment.now ∷ [])) (layer_at records.old history.old).present) (map_of records.new) (curves_on history.new)
         (bus_row Observer-dyn bus.new) }
     ensures in_step { AreInStep (map_of records.new) (curves_on history.new)
         (bus_row Observer-dyn bus.new) }
@@ -165,6 +167,7 @@ fn insert_by_plan(
     let curve = history.draw();
     history.add_piece(Piece {
         curve,
+        side: 1,
         segment: *segment,
         from: lower,
         to: upper,
@@ -201,8 +204,8 @@ pub fn insert<L: Ledger>(
     ensures map { IsMapAtRest records.new }
     ensures watched { AreWatched records.new history.new (bus_row Observer-dyn bus.new) }
     ensures number { IfOk result (λ c. c.0 ≡ history.old.next) }
-    ensures edit { IfOk result (λ c. IsAfter (Insert c.0 segment.now) records.old history.old records.new history.new) }
-    ensures told { IfOk result (λ c. IsToldEdit (Insert c.0 segment.now) records.old history.old (bus_row Observer-dyn bus.old) records.new history.new (bus_row Observer-dyn bus.new)) }
+    ensures edit { IfOk result (λ c. IsAfter (Insert c.0 (segment.now ∷ [])) records.old history.old records.new history.new) }
+    ensures told { IfOk result (λ c. IsToldEdit (Insert c.0 (segment.now ∷ [])) records.old history.old (bus_row Observer-dyn bus.old) records.new history.new (bus_row Observer-dyn bus.new)) }
     ensures refused { IsAnswerFor insert_said (refusal_at curves pieces records.old history.old) result }
     ensures graph { OnErr result (records.new.graph ≡ records.old.graph) }
     ensures tables { OnErr result (tables_of records.new ≡ tables_of records.old) }

@@ -6,7 +6,7 @@ ghost use Rattle.dcel_records.specs.RecordsView.{IsSpareFaces, tables_of};
 ghost use Rattle.dcel_records.specs.SoundMaps.{IsMapAtRest, IsSoundMap, map_of};
 ghost use Rattle.dcel_records.specs.Spots.{met_of};
 ghost use Rattle.face_location.specs.Spots.{IsFaceNamed};
-ghost use Rattle.curve_history.specs.Past.{curves_on, SameLayer};
+ghost use Rattle.curve_history.specs.Past.{curves_on, strands_on, SameLayer};
 ghost use Rattle.observer_bus.specs.Rows.{bus_row};
 ghost use Rattle.told_steps.specs.ToldRuns.{AreInStep};
 ghost use Rattle.told_steps.specs.VertexMade.{pairs_at};
@@ -88,13 +88,13 @@ fn vertex_of(
     requires in_step { AreInStep (map_of records.old) (curves_on history.old)
         (bus_row Observer-dyn bus.old) }
     requires map { IsMapAtRest records.old }
-    requires met { IsMetStill records.old.graph (curves_on history.old) meeting.point (met_of meeting.spot) }
+    requires met { IsMetStill records.old.graph (strands_on history.old) meeting.point (met_of meeting.spot) }
     requires now { IsMetNow records.old.graph meeting.point (met_of meeting.spot) (met_of at) }
     requires face { IsFaceNamed records.old.graph (tables_of records.old) meeting.point at }
     requires plane { MayBeVertices records.old.graph history.old (meeting ∷ []) }
     requires vertices { vertices_needed (meeting ∷ []) ≤ records.old.spare_vertices }
     requires darts { 2 * splits_needed (meeting ∷ []) ≤ records.old.spare_darts }
-    requires pairs { pairs_at (curves_on history.old) (met_of meeting.spot) ≤ history.old.spare_pairs }
+    requires pairs { pairs_at (strands_on history.old) (met_of meeting.spot) ≤ history.old.spare_pairs }
     ensures told { BecomesVertex (map_of records.old) history.old (bus_row Observer-dyn bus.old) meeting
         (map_of records.new) history.new (bus_row Observer-dyn bus.new) result }
     ensures in_step { AreInStep (map_of records.new) (curves_on history.new)
@@ -104,7 +104,7 @@ fn vertex_of(
     ensures vertices { records.old.spare_vertices ≤ records.new.spare_vertices + vertices_needed (meeting ∷ []) }
     ensures darts { records.old.spare_darts ≤ records.new.spare_darts + 2 * splits_needed (meeting ∷ []) }
     ensures spare_faces { IsSpareFaces records.old.faces records.new.faces 0 0 }
-    ensures pairs { history.old.spare_pairs ≤ history.new.spare_pairs + pairs_at (curves_on history.old) (met_of meeting.spot) }
+    ensures pairs { history.old.spare_pairs ≤ history.new.spare_pairs + pairs_at (strands_on history.old) (met_of meeting.spot) }
 {
     make_vertex(alloc, records, history, bus, at, meeting.point)
 }

@@ -1,5 +1,5 @@
 -- A cut by points: what its first step leaves, and which vertices may go.
-use Rattle.std.proofs.Common.{◌≡◌, ◌⊎◌, true, [], ◌∷◌, refl, subst}
+use Rattle.std.proofs.Common.{◌≡◌, ◌⊎◌, true, [], ◌∷◌, refl, ◌∙◌, subst}
 use Rattle.std.specs.List.{list_any}
 use Rattle.exact_plane.specs.Point.{Point}
 use Rattle.exact_plane.specs.PointOrderLaws.{and_true}
@@ -8,15 +8,18 @@ use Rattle.plane_graphs.specs.Fit.{IsFit}
 use Rattle.plane_graphs.specs.Graph.{Mark, graph, graph_over, is_at, marks, vertices}
 use Rattle.plane_graphs.specs.Line.{same_point}
 use Rattle.plane_graphs.specs.Piece.{Present}
+use Rattle.plane_graphs.specs.Strands.{strand_pieces, strands}
 use Rattle.plane_graphs.proofs.Lines.{geometry}
 use Rattle.plane_graphs.proofs.Lists.{any_out}
 use Rattle.plane_graphs.proofs.Marks.{IsMark, mark_out}
 use Rattle.plane_graphs.proofs.Order.{same_out}
+use Rattle.plane_graphs.proofs.Strands.{strand_vertices, strands_fit}
 use Rattle.plane_graphs.proofs.Vertices.{vertices_closed}
 use Rattle.edit_steps.specs.Edits.{Cut, steps}
 use Rattle.edit_steps.specs.Steps.{RemoveEdge, apply, cut_steps, run, with_cut, with_tidying}
 use Rattle.edit_steps.proofs.Cuts.{cut_marks, cut_sub}
 use Rattle.edit_steps.proofs.Removals.{cut_leads}
+use Rattle.segment_remove.proofs.CutStrands.{cut_after}
 use Rattle.edit_steps.proofs.Vertices.{vertices_change}
 
 pub cut_is_tidied : (o : Present) (a b : Point) → steps (Cut a b) o ≡ with_tidying o (with_cut o a b) (RemoveEdge a b ∷ [])
@@ -46,3 +49,7 @@ module _ (o : Present) (fit : IsFit o) (a b : Point) (there : list_any (is_at a 
 
   pub cut_gone : (x : Point) → Member x (vertices o) → (Member x (vertices (with_cut o a b)) → ⊥) → (x ≡ a) ⊎ (x ≡ b)
   cut_gone x m gone = vertices_change.cut o a b x fit there m gone
+
+-- without the edge of sides that are told apart, it is that of the sides that are left
+pub cut_apart : (o : Present) (a b : Point) → IsFit o → list_any (is_at a b) (graph (strands o)).marks ≡ true → run (RemoveEdge a b ∷ []) (graph (strands o)) ≡ graph_over (vertices o) (strand_pieces (with_cut o a b).pieces) o.pins
+cut_apart o a b fit there = cut_run (strands o) (strands_fit o fit) a b there ∙ (λ i. graph_over (strand_vertices o i) (cut_after o a b i).pieces o.pins)

@@ -2,7 +2,8 @@
 use Rattle.std.specs.Prelude.{◌≡◌, ◌==◌, ℕ, Bool, not, cond, map, [], ◌∷◌}
 use Rattle.std.specs.List.{list_any, filter}
 use Rattle.exact_plane.specs.Point.{Point}
-use Rattle.plane_graphs.specs.Graph.{same_curve}
+use Rattle.plane_graphs.specs.Graph.{Graph, same_curve}
+use Rattle.edit_steps.specs.EditLaws.{curve_of}
 use Rattle.edit_steps.specs.Steps.{Step, RemoveEdge as EdgeGoes, RemoveCurve as CurveGoes, less_step}
 use Rattle.slab_laws.specs.declared.names.CurveId.{CurveId}
 use Rattle.slab_laws.specs.declared.names.DartId.{DartId}
@@ -11,7 +12,9 @@ use Rattle.arr_notes.specs.Curves.{Curves}
 use Rattle.arr_notes.specs.MapView.{MapView}
 use Rattle.arr_notes.specs.Step.{remove_edge}
 use Rattle.arr_notes.specs.RecordGraph.{drawn_graph}
+use Rattle.curve_history.specs.Past.{Past}
 use Rattle.observer_bus.specs.Rounds.{BusRow}
+use Rattle.told_steps.specs.StrandRuns.{strand_graph}
 use Rattle.told_steps.specs.ToldRuns.{IsToldRun}
 
 -- another curve than c runs along the edge of d
@@ -50,3 +53,11 @@ IsLossTold m h b d c w k e = IsToldRun m h b (loss_step m.graph h d c ∷ []) w 
 abbrev pub IsCurveGone : MapView → Curves → BusRow → CurveId → MapView → Curves → BusRow → Type 0
 IsCurveGone m h b c w k e =
     IsToldRun m h b (map (less_step (drawn_graph m.graph h)) (filter (λ n. same_curve n.curve c.0) (drawn_graph m.graph h).marks)) w k e
+
+-- the graph without all sides of a curve, where sides are told apart (this project)
+abbrev pub without_sides : ℕ → Graph → Graph
+without_sides c g = record g { marks = filter (λ m. not (same_curve (curve_of m.curve) c)) g.marks }
+
+-- all sides of the curve are gone from all edges, and nothing else is (this project)
+abbrev pub AreSidesGone : View → Past → ℕ → View → Past → Type 0
+AreSidesGone v p c w q = strand_graph w q ≡ without_sides c (strand_graph v p)

@@ -2,7 +2,7 @@ ghost use Rattle.std.specs.Prelude.{◌≡◌, ◌≢◌, ◌≤◌, ◌+◌, le
 ghost use Rattle.edit_steps.specs.Refusals.{IsAnswerFor};
 ghost use Rattle.dcel_records.specs.RecordsView.{tables_of};
 ghost use Rattle.dcel_records.specs.SoundMaps.{IsMapAtRest};
-ghost use Rattle.curve_history.specs.Past.{SameLayer, SameCurves};
+ghost use Rattle.curve_history.specs.Past.{SameLayer, SameCurves, SameStrands};
 ghost use Rattle.told_steps.specs.RecordLayers.{IsLayer};
 ghost use Rattle.segment_remove.specs.Refused.{cut_between, cut_refusal_at, cut_said, HasRoomToCut};
 ghost use Rattle.observer_bus.specs.Rows.{bus_row};
@@ -54,6 +54,7 @@ fn make_room(records: &mut Records, history: &mut History, pieces: u32) -> Resul
     ensures tables { tables_of records.new ≡ tables_of records.old }
     ensures map { IsMapAtRest records.old → IsMapAtRest records.new }
     ensures layer { SameLayer history.old history.new }
+    ensures strands { SameStrands history.old history.new }
     ensures curves { SameCurves history.old history.new }
 {
     make_room_of_cycles(records, 1)?;

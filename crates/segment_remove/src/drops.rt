@@ -73,8 +73,8 @@ fn edges_of_curve(
     Ok(edges)
 }
 
-/// A curve goes: from its edges, which go where no other curve runs along them; then each vertex that is redundant
-/// afterwards (CGAL manual, `remove_curve`).
+/// A curve goes, with all its sides: from its edges, which go where no other curve runs along them; then each vertex that is
+/// redundant afterwards (CGAL manual, `remove_curve`).
 ///
 /// It looks at the curve's edges and at what ends there, not at other edges. All memory of its own is taken before the first
 /// change, and each step is told to observers before and after it (CGAL manual, `Arr_observer`).

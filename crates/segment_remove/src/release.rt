@@ -7,8 +7,9 @@ ghost use Rattle.curve_history.specs.Past.{curves_on, SameLayer};
 ghost use Rattle.observer_bus.specs.Rows.{bus_row};
 ghost use Rattle.record_orders.specs.Keys.{dart_key};
 ghost use Rattle.record_orders.specs.Edges.{edge_of_key};
+ghost use Rattle.told_steps.specs.StrandRuns.{SidesGo};
 ghost use Rattle.told_steps.specs.ToldRuns.{AreInStep};
-ghost use Rattle.segment_remove.specs.CurveLosses.{HasLost, HaveLost, IsLossTold, IsCurveGone};
+ghost use Rattle.segment_remove.specs.CurveLosses.{AreSidesGone, HasLost, HaveLost, IsLossTold, IsCurveGone};
 
 use curve_history::History;
 use dcel_records::Records;
@@ -18,7 +19,7 @@ use slab_laws::{CurveId, DartId};
 use std::alloc::Global;
 use told_steps::{remove_curve, remove_edge};
 
-// The curve goes from the edge of a dart, and the edge goes with it where no other curve runs there.
+// The curve goes from the edge of a dart, with all its sides, and the edge goes with it where no other curve runs there.
 fn release_at(
     alloc: Global,
     records: &mut Records,
@@ -42,6 +43,7 @@ fn release_at(
     ensures spare_cycles { records.old.faces.spare_cycles ≤ records.new.faces.spare_cycles + 1 }
     ensures graph { HasLost records.old.graph (curves_on history.old) d curve records.new.graph }
     ensures curves { HaveLost (curves_on history.old) d curve (curves_on history.new) }
+    ensures sides { SidesGo records.old.graph history.old d curve.0 records.new.graph history.new }
     ensures layer { SameLayer history.old history.new }
 {
     if history.has_other(d, curve) {
@@ -51,7 +53,8 @@ fn release_at(
     }
 }
 
-/// A curve goes from its edges, in their order: an edge along which no other curve runs goes, another one loses the curve.
+/// A curve goes from its edges, in their order, with all its sides: an edge along which no other curve runs goes, another one loses
+/// the curve.
 /// Where no observer joins it takes no memory of its own (CGAL manual, `remove_curve`).
 pub fn release_curve(
     alloc: Global,
@@ -76,6 +79,7 @@ pub fn release_curve(
         (bus_row Observer-dyn bus.new) }
     ensures map { IsMapAtRest records.new }
     ensures gone { (d : DartId) → ¬ Member curve.0 (curves_on history.new d) }
+    ensures sides { AreSidesGone records.old.graph history.old curve.0 records.new.graph history.new }
     ensures vertices { records.new.graph.vertices ≡ records.old.graph.vertices }
     ensures layer { SameLayer history.old history.new }
 {

@@ -1,15 +1,17 @@
 -- An edit begins: the bus is in step with its records and history, also where these have only more room or other pieces, and what is told from then on is told of the edit.
-use Rattle.std.proofs.Common.{◌≡◌, true, All, List, [], refl, sym, ap, ap₂, subst}
-use Rattle.edit_steps.specs.Steps.{Step}
+use Rattle.std.proofs.Common.{◌≡◌, true, All, List, [], refl, sym, ap, ap₂, subst, ◌∙◌}
+use Rattle.edit_steps.specs.Steps.{Step, run}
 use Rattle.slab_laws.specs.FacesSound.{IsSound}
 use Rattle.arr_notes.specs.Curves.{Curves}
 use Rattle.arr_notes.specs.MapView.{MapView}
 use Rattle.arr_notes.specs.RecordGraph.{drawn_graph}
-use Rattle.curve_history.specs.Past.{Past, SameCurves, curves_on}
+use Rattle.curve_history.specs.Past.{Past, SameCurves, SameStrands, curves_on}
+use Rattle.curve_history.proofs.Sides.{same_strands_curves}
 use Rattle.observer_bus.specs.Rounds.{BusRow}
 use Rattle.observer_bus.specs.Seats.{Holds, SeatRow}
 use Rattle.told_steps.proofs.Moved.{one_curves}
 use Rattle.told_steps.specs.RecordLayers.{IsLayer}
+use Rattle.told_steps.specs.SidedRuns.{IsSidedRun}
 use Rattle.told_steps.specs.ToldRuns.{AreInStep, IsToldRun, seen}
 
 -- the bus with these seats, when an edit begins
@@ -52,3 +54,11 @@ module _ (m : MapView) (p : Past) (w : MapView) (q : Past) (view : w ≡ m) (cur
     pub told_of_edit : (ts : List Step) (x : MapView) (k : Curves) (d : BusRow) → IsToldRun w (curves_on q) c ts x k d → IsToldRun m (curves_on p) (opened ss) ts x k d
     told_of_edit ts x k d t =
         subst (λ o. IsToldRun m (curves_on p) o ts x k d) e (subst (λ h. IsToldRun m h c ts x k d) (one_curves p q curves) (subst (λ z. IsToldRun z (curves_on q) c ts x k d) view t))
+
+-- and so with the sides of curves told apart
+module _ (m : MapView) (p : Past) (w : MapView) (q : Past) (view : w ≡ m) (strands : SameStrands p q) {ss : List SeatRow} {c : BusRow} (e : c ≡ opened ss) where
+  pub sided_of_edit : (ts : List Step) (x : MapView) (k : Past) (d : BusRow) → IsSidedRun w q c ts x k d → IsSidedRun m p (opened ss) ts x k d
+  sided_of_edit ts x k d t = record {
+    told = told_of_edit m p w q view (same_strands_curves p q strands) e ts x (curves_on k) d t.told;
+    strands = t.strands ∙ ap (run ts) (λ i. drawn_graph (view i).graph (λ y. strands y i));
+  }

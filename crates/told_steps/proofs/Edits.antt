@@ -6,7 +6,7 @@ use Rattle.plane_graphs.specs.Graph.{Graph, Mark, is_at, inside, same_curve}
 use Rattle.plane_graphs.specs.Line.{same_point}
 use Rattle.plane_graphs.specs.Piece.{Present}
 use Rattle.edit_steps.specs.Edits.{Insert, Drop, Cut, Pin, Unpin, Split, Merge, ClearAll, steps}
-use Rattle.edit_steps.specs.Steps.{Step, RemoveVertex, SplitEdge, MergeEdge, AddEdge, RemoveEdge, AddCurve, RemoveCurve, apply, vertex_step_by, vertex_steps, tidy_step, tidy_steps, more_step, less_step, segment_steps, with_tidying, drop_steps, cut_steps, pin_steps, unpin_steps, split_steps, merge_steps}
+use Rattle.edit_steps.specs.Steps.{Step, RemoveVertex, SplitEdge, MergeEdge, AddEdge, RemoveEdge, AddCurve, RemoveCurve, apply, vertex_step_by, vertex_steps, tidy_step, tidy_steps, more_step, less_step, path_steps, with_tidying, drop_steps, cut_steps, pin_steps, unpin_steps, split_steps, merge_steps}
 use Rattle.told_steps.specs.LayerSteps.{Grows, AllGrow, Shrinks, AllShrink, EditsGrowOrShrink}
 
 pub one_of : (P : Step → Type 0) (b : Bool) (s t : Step) → P s → P t → P (cond b s t)
@@ -53,7 +53,7 @@ unfolding with_tidying
 tidied_shrinks p q ss x = shrink_on ss _ x (tidying_shrinks _ _)
 
 pub edits_grow_or_shrink : EditsGrowOrShrink
-unfolding steps segment_steps drop_steps cut_steps pin_steps unpin_steps split_steps merge_steps
+unfolding steps path_steps drop_steps cut_steps pin_steps unpin_steps split_steps merge_steps
 edits_grow_or_shrink (Insert c s) p = inl (grow_on _ _ (vertices_grow _ _) (marks_grow _ _))
 edits_grow_or_shrink (Drop c) p = inr (tidied_shrinks p _ _ (marks_shrink _ _))
 edits_grow_or_shrink (Cut a b) p = inr (tidied_shrinks p _ _ (tt, tt))

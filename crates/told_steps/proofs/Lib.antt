@@ -1,4 +1,5 @@
 pub mod Runs
+pub mod StrandRuns
 pub mod Layers
 pub mod Edits
 pub mod Stays
@@ -12,6 +13,7 @@ pub mod Seen
 pub mod Changed
 pub mod ToldOnce
 pub mod ToldTogether
+pub mod SidedRuns
 pub mod Steps
 pub mod Parts
 pub mod Linked

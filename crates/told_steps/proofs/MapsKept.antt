@@ -9,7 +9,7 @@ use Rattle.slab_laws.specs.FaceLists.{Lists, AreDartsOn}
 use Rattle.slab_laws.specs.FacesSound.{IsSound}
 use Rattle.slab_laws.specs.Sound.{IsGraphSound}
 use Rattle.slab_laws.specs.Tables.{row_at, NamesAscend}
-use Rattle.slab_laws.specs.View.{View, Faces, HasBareFace, HasDart, HasFace, HasVertex, cycle_or, face_id}
+use Rattle.slab_laws.specs.View.{View, Faces, HasDart, HasFace, HasVertex, cycle_or, face_id}
 use Rattle.arr_notes.specs.FaceSteps.{FaceChange, as_it_was, cleared, comes_bare, goes_bare, step_faces}
 use Rattle.arr_notes.specs.FaceWriters.{bare_in, not_bare}
 use Rattle.arr_notes.specs.ViewChanges.{no_rows, with_pin, with_vertex, without_vertex}
@@ -108,6 +108,3 @@ pub face_is_there : (h : RecordsView) (a : FaceId) (p : Point) → IsMapAtRest h
 face_is_there h a p rest face =
     let t = (tables_are_sound h.graph h.faces.tables rest.map.sound.graph).1 rest.map.sound in
     subst (HasFace h.faces.tables) face.2 (has_name h.graph h.faces.tables t.complete t.told.there face.0 face.1)
-
-pub not_isolated : (h : RecordsView) (u : VertexId) → IsMapAtRest h → ¬ HasVertex h.graph u → ¬ HasBareFace h.faces.tables u
-not_isolated h u rest fresh bare = fresh (rest.map.sound.complete.bare_vertex u bare)

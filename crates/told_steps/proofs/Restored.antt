@@ -4,7 +4,7 @@ use Rattle.dcel_records.specs.RecordsView.{MovedRoom, RecordsView, graph_part}
 use Rattle.dcel_records.specs.SoundMaps.{IsMapAtRest, IsSoundMap}
 
 module _ (mid new : RecordsView) (room : MovedRoom) (graph : graph_part new ≡ graph_part mid) (faces : new.faces ≡ record mid.faces { moved = Some room }) where
-  as_given : new ≡ record mid { faces = record mid.faces { moved = Some room }; ranks = new.ranks }
+  as_given : new ≡ record mid { faces = record mid.faces { moved = Some room }; ranks = new.ranks; mapped = new.mapped }
   as_given i = record {
     graph = (graph i).graph;
     spare_vertices = (graph i).spare_vertices;
@@ -13,6 +13,7 @@ module _ (mid new : RecordsView) (room : MovedRoom) (graph : graph_part new ≡ 
     capacity_of_darts = (graph i).capacity_of_darts;
     faces = faces i;
     ranks = new.ranks;
+    mapped = new.mapped;
   }
 
   pub map_restored : IsSoundMap mid → IsMapAtRest new

@@ -13,6 +13,7 @@ use Rattle.arr_notes.specs.Curves.{Curves, AreCurvesOf}
 use Rattle.curve_history.specs.Past.{Past, curves_on}
 use Rattle.arr_notes.specs.RecordGraph.{drawn_graph}
 use Rattle.told_steps.specs.RecordLayers.{layer_of, IsLayer, IsRunOfSteps}
+use Rattle.told_steps.specs.StrandRuns.{IsStrandRun, strand_steps}
 
 -- after steps the records draw the graph after the steps, are sound, and have the curves of their edges
 pub record IsRun (v : View) (h : Curves) (ss : List Step) (w : View) (k : Curves) : Type 0 where
@@ -27,9 +28,9 @@ MadeIsRun = (v : View) (h : Curves) (ss : List Step) (w : View) (k : Curves) →
 abbrev pub MadeInTurn : Type 0
 MadeInTurn = (v : View) (h : Curves) (ss ts : List Step) (w : View) (k : Curves) (x : View) (l : Curves) → IsRunOfSteps v h ss w k → IsRunOfSteps w k ts x l → IsRunOfSteps v h (ss ++ ts) x l
 
--- records that stand for a layer stand, after the steps of an accepted edit, for the layer after it, where the history says so
+-- records that stand for a layer stand, after the steps of an accepted edit, with the sides of curves told apart or not, for the layer after it, where the history says so
 abbrev pub StepsMakeLayers : Type 0
-StepsMakeLayers = (e : Edit) (v : View) (p : Past) (w : View) (q : Past) → IsLayer v p → IsAcceptedBy e (layer_of v p) → IsRunOfSteps v (curves_on p) (steps e (layer_of v p).present) w (curves_on q) → q.pieces ≡ (after e (layer_of v p).present).pieces → q.names ≡ (layer_after e (layer_of v p)).names → q.next ≡ (layer_after e (layer_of v p)).next → IsLayer w q × (layer_of w q ≡ layer_after e (layer_of v p))
+StepsMakeLayers = (e : Edit) (v : View) (p : Past) (w : View) (q : Past) → IsLayer v p → IsAcceptedBy e (layer_of v p) → IsRunOfSteps v (curves_on p) (steps e (layer_of v p).present) w (curves_on q) → IsStrandRun v p (strand_steps e (layer_of v p).present) w q → q.pieces ≡ (after e (layer_of v p).present).pieces → q.names ≡ (layer_after e (layer_of v p)).names → q.next ≡ (layer_after e (layer_of v p)).next → IsLayer w q × (layer_of w q ≡ layer_after e (layer_of v p))
 
 -- ---- names
 -- vertices and edges that are there before and after keep their names: w has each vertex of v whose point is still drawn, by its name, and each dart of v whose edge is still drawn (this project)

@@ -1,8 +1,10 @@
+pub mod StrandRuns
 pub mod RecordLayers
 pub mod LayerSteps
 pub mod LayerNames
 pub mod LayerEdits
 pub mod ToldRuns
+pub mod SidedRuns
 pub mod ToldLaws
 pub mod StepsMade
 pub mod ToldEdits

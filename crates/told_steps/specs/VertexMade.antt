@@ -25,7 +25,7 @@ IsPlaneWith v h p (Vertex w) = ⊤
 IsPlaneWith v h p (Edge d) = ⊤
 IsPlaneWith v h p Nothing = IsPlane (apply (AddVertex p) (drawn_graph v h))
 
--- how many vertices, darts, and pairs of an edge and a curve come (this project)
+-- how many vertices, darts, and pairs of an edge and a side of a curve come (this project)
 abbrev pub vertices_at : Met → ℕ
 vertices_at (Vertex w) = 0
 vertices_at (Edge d) = 1

@@ -5,6 +5,7 @@ ghost use Rattle.curve_history.specs.Past.{curves_on, IsSpare, SameHistoryCapaci
 ghost use Rattle.dcel_records.specs.RecordsView.{SameRecordCapacity};
 ghost use Rattle.dcel_records.specs.SoundMaps.{IsMapAtRest, map_of};
 ghost use Rattle.observer_bus.specs.Rows.{bus_row};
+ghost use Rattle.told_steps.specs.StrandRuns.{IsStrandRun};
 ghost use Rattle.told_steps.specs.ToldRuns.{AreInStep, IsToldRun};
 
 use crate::told::{tell_after, tell_before};
@@ -24,6 +25,7 @@ pub fn clear(alloc: Global, records: &mut Records, history: &mut History, bus: &
         (bus_row Observer-dyn bus.old)
         (Clear ∷ []) (map_of records.new) (curves_on history.new)
         (bus_row Observer-dyn bus.new) }
+    ensures strands { IsStrandRun records.old.graph history.old (Clear ∷ []) records.new.graph history.new }
     ensures in_step { AreInStep (map_of records.new) (curves_on history.new)
         (bus_row Observer-dyn bus.new) }
     ensures map { IsMapAtRest records.new }

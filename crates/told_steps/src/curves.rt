@@ -3,11 +3,13 @@ ghost use Rattle.std.specs.List.{list_any};
 ghost use Rattle.edit_steps.specs.Steps.{AddCurve, RemoveCurve};
 ghost use Rattle.plane_graphs.specs.Ascending.{Member};
 ghost use Rattle.plane_graphs.specs.Graph.{same_curve};
+ghost use Rattle.plane_graphs.specs.Strands.{strand};
 ghost use Rattle.slab_laws.specs.View.{point_in, source_in, target_in};
 ghost use Rattle.arr_notes.specs.Curves.{IsForward};
 ghost use Rattle.curve_history.specs.Past.{curves_on, GainsCurve, IsSpare, LosesCurve, SameHistoryCapacity, SameLayer, SpendsPairs};
 ghost use Rattle.dcel_records.specs.SoundMaps.{map_of};
 ghost use Rattle.observer_bus.specs.Rows.{bus_row};
+ghost use Rattle.told_steps.specs.StrandRuns.{IsStrandRun, SidesGo};
 ghost use Rattle.told_steps.specs.ToldRuns.{AreInStep, IsToldRun};
 
 use crate::ends::ends;
@@ -19,8 +21,8 @@ use observer_bus::Bus;
 use slab_laws::{CurveId, DartId};
 use std::alloc::Global;
 
-/// One more curve runs along the edge of a dart from its lower to its upper end, in room that is there. It takes no memory where no
-/// observer joins.
+/// One more curve runs along the edge of a dart from its lower to its upper end, by one of its sides, from 1 to 8, in room that is
+/// there. It takes no memory where no observer joins.
 pub fn add_curve(
     alloc: Global,
     records: &Records,
@@ -28,10 +30,12 @@ pub fn add_curve(
     bus: &mut Bus,
     d: DartId,
     curve: CurveId,
+    side: u32,
 )
     requires in_step { AreInStep (map_of records.now) (curves_on history.old)
         (bus_row Observer-dyn bus.old) }
     requires forward { IsForward records.now.graph d }
+    requires side { side ≤ 8 }
     requires named { Member curve.0 history.old.names }
     requires new { ¬ Member curve.0 (curves_on history.old d) }
     requires room { 1 ≤ history.old.spare_pairs }
@@ -39,6 +43,8 @@ pub fn add_curve(
         (bus_row Observer-dyn bus.old)
         (AddCurve (point_in records.now.graph (source_in records.now.graph d)) (point_in records.now.graph (target_in records.now.graph d)) curve.0 ∷ []) (map_of records.now) (curves_on history.new)
         (bus_row Observer-dyn bus.new) }
+    ensures strands { IsStrandRun records.now.graph history.old
+        (AddCurve (point_in records.now.graph (source_in records.now.graph d)) (point_in records.now.graph (target_in records.now.graph d)) (strand curve.0 side) ∷ []) records.now.graph history.new }
     ensures in_step { AreInStep (map_of records.now) (curves_on history.new)
         (bus_row Observer-dyn bus.new) }
     ensures curves { GainsCurve history.old history.new d curve.0 }
@@ -53,7 +59,7 @@ pub fn add_curve(
         bus,
         Intent::AddCurve(low, high, curve),
     );
-    history.hold(d, curve);
+    history.hold(d, curve, side);
     tell_after(
         alloc,
         records,
@@ -63,8 +69,8 @@ pub fn add_curve(
     );
 }
 
-/// One curve fewer runs along the edge of a dart from its lower to its upper end, where another does too. It takes no memory where no
-/// observer joins.
+/// One curve fewer, with all its sides, runs along the edge of a dart from its lower to its upper end, where another does too. It takes
+/// no memory where no observer joins.
 pub fn remove_curve(
     alloc: Global,
     records: &Records,
@@ -82,6 +88,7 @@ pub fn remove_curve(
         (bus_row Observer-dyn bus.old)
         (RemoveCurve (point_in records.now.graph (source_in records.now.graph d)) (point_in records.now.graph (target_in records.now.graph d)) curve.0 ∷ []) (map_of records.now) (curves_on history.new)
         (bus_row Observer-dyn bus.new) }
+    ensures strands { SidesGo records.now.graph history.old d curve.0 records.now.graph history.new }
     ensures in_step { AreInStep (map_of records.now) (curves_on history.new)
         (bus_row Observer-dyn bus.new) }
     ensures curves { LosesCurve history.old history.new d curve.0 }
@@ -97,7 +104,7 @@ pub fn remove_curve(
         bus,
         Intent::RemoveCurve(low, high, curve),
     );
-    history.release(d, curve);
+    history.release_sides(d, curve);
     tell_after(
         alloc,
         records,

@@ -3,7 +3,7 @@ ghost use Rattle.edit_steps.specs.Steps.{MergeEdge, RemoveEdge, SplitEdge};
 ghost use Rattle.slab_laws.specs.View.{pinned_in, point_in, source_in, target_in, twin_in};
 ghost use Rattle.arr_notes.specs.Curves.{IsForward};
 ghost use Rattle.arr_notes.specs.Step.{remove_edge as edge_gone};
-ghost use Rattle.curve_history.specs.Past.{curves_on, IsSpare, LosesCurves, SameHistoryCapacity, SameLayer, SpendsPairs};
+ghost use Rattle.curve_history.specs.Past.{curves_on, strands_on, IsSpare, LosesCurves, SameHistoryCapacity, SameLayer, SpendsPairs};
 ghost use Rattle.dcel_records.specs.RecordsView.{IsSpare as IsSpareRecords, IsSpareFaces};
 ghost use Rattle.dcel_records.specs.SoundMaps.{IsMapAtRest, map_of};
 ghost use Rattle.edge_split_merge.specs.Merges.{CanMerge};
@@ -12,6 +12,7 @@ ghost use Rattle.observer_bus.specs.Rows.{bus_row};
 ghost use Rattle.sound_changes.specs.ChangeFits.{FitsMerge};
 ghost use Rattle.sound_views.specs.RecordGraphLaws.{IsVertexAt};
 ghost use Rattle.told_steps.specs.StepsMade.{AreMergedAt, IsSplitAt};
+ghost use Rattle.told_steps.specs.StrandRuns.{IsStrandRun};
 ghost use Rattle.told_steps.specs.ToldRuns.{AreInStep, IsToldRun};
 
 use crate::carried::settle;
@@ -45,6 +46,8 @@ pub fn remove_edge(
         (bus_row Observer-dyn bus.old)
         (RemoveEdge (point_in records.old.graph (source_in records.old.graph d)) (point_in records.old.graph (target_in records.old.graph d)) ∷ []) (map_of records.new) (curves_on history.new)
         (bus_row Observer-dyn bus.new) }
+    ensures strands { IsStrandRun records.old.graph history.old
+        (RemoveEdge (point_in records.old.graph (source_in records.old.graph d)) (point_in records.old.graph (target_in records.old.graph d)) ∷ []) records.new.graph history.new }
     ensures in_step { AreInStep (map_of records.new) (curves_on history.new)
         (bus_row Observer-dyn bus.new) }
     ensures map { IsMapAtRest records.new }
@@ -88,11 +91,13 @@ pub fn split_edge(
     requires fits { CanSplit records.old.graph d p }
     requires vertices { 1 ≤ records.old.spare_vertices }
     requires darts { 2 ≤ records.old.spare_darts }
-    requires pairs { length (curves_on history.old d) ≤ history.old.spare_pairs }
+    requires pairs { length (strands_on history.old d) ≤ history.old.spare_pairs }
     ensures told { IsToldRun (map_of records.old) (curves_on history.old)
         (bus_row Observer-dyn bus.old)
         (SplitEdge (point_in records.old.graph (source_in records.old.graph d)) (point_in records.old.graph (target_in records.old.graph d)) p ∷ []) (map_of records.new) (curves_on history.new)
         (bus_row Observer-dyn bus.new) }
+    ensures strands { IsStrandRun records.old.graph history.old
+        (SplitEdge (point_in records.old.graph (source_in records.old.graph d)) (point_in records.old.graph (target_in records.old.graph d)) p ∷ []) records.new.graph history.new }
     ensures in_step { AreInStep (map_of records.new) (curves_on history.new)
         (bus_row Observer-dyn bus.new) }
     ensures map { IsMapAtRest records.new }
@@ -101,7 +106,7 @@ pub fn split_edge(
     ensures layer { SameLayer history.old history.new }
     ensures spare { IsSpareRecords records.new records.old 1 2 }
     ensures spare_faces { IsSpareFaces records.old.faces records.new.faces 0 0 }
-    ensures spare_history { SpendsPairs history.old history.new (length (curves_on history.old d)) }
+    ensures spare_history { SpendsPairs history.old history.new (length (strands_on history.old d)) }
 {
     p.laws();
     let (low, high) = ends(&*records, d);
@@ -125,8 +130,8 @@ pub fn split_edge(
     new.v
 }
 
-/// The two edges that meet at a vertex that is not pinned, and go straight on there with the same curves, become one, and the vertex
-/// goes. Where no observer joins it takes no memory of its own (CGAL manual, `merge_edge`).
+/// The two edges that meet at a vertex that is not pinned, and go straight on there with the same sides of curves, become one, and the
+/// vertex goes. Where no observer joins it takes no memory of its own (CGAL manual, `merge_edge`).
 pub fn merge_edge(
     alloc: Global,
     records: &mut Records,
@@ -139,11 +144,12 @@ pub fn merge_edge(
     requires map { IsMapAtRest records.old }
     requires fits { CanMerge records.old.graph v }
     requires unpinned { pinned_in records.old.graph v ≡ false }
-    requires alike { (d n : DartId) → FitsMerge records.old.graph v d n → curves_on history.old d ≡ curves_on history.old n }
+    requires alike { (d n : DartId) → FitsMerge records.old.graph v d n → strands_on history.old d ≡ strands_on history.old n }
     ensures told { IsToldRun (map_of records.old) (curves_on history.old)
         (bus_row Observer-dyn bus.old)
         (MergeEdge (point_in records.old.graph v) ∷ []) (map_of records.new) (curves_on history.new)
         (bus_row Observer-dyn bus.new) }
+    ensures strands { IsStrandRun records.old.graph history.old (MergeEdge (point_in records.old.graph v) ∷ []) records.new.graph history.new }
     ensures in_step { AreInStep (map_of records.new) (curves_on history.new)
         (bus_row Observer-dyn bus.new) }
     ensures map { IsMapAtRest records.new }

@@ -2,7 +2,7 @@ ghost use Rattle.told_steps.specs.LayerSteps.{StepsMakeLayers};
 ghost use Rattle.told_steps.specs.LayerNames.{LayersAreNamed};
 ghost use Rattle.told_steps.specs.ToldLaws.{AreToldRunsLawful};
 
-/// Records that stand for a layer stand, after the steps of an accepted edit, for the layer after it.
+/// Records that stand for a layer stand, after the steps of an accepted edit, with the sides of curves told apart or not, for the layer after it.
 pub fn steps_make_layers()
     ensures { StepsMakeLayers }
 {}

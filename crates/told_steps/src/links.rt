@@ -1,7 +1,8 @@
 ghost use Rattle.std.specs.Prelude.{◌≡◌, ◌≤◌, ◌+◌, true, [], ◌∷◌};
-ghost use Rattle.edit_steps.specs.Steps.{AddEdge};
+ghost use Rattle.edit_steps.specs.Steps.{AddCurve, AddEdge};
 ghost use Rattle.plane_graphs.specs.Ascending.{Member};
 ghost use Rattle.plane_graphs.specs.Line.{precedes};
+ghost use Rattle.plane_graphs.specs.Strands.{strand};
 ghost use Rattle.slab_laws.specs.View.{point_in};
 ghost use Rattle.arr_notes.specs.Step.{add_edge as edge_more};
 ghost use Rattle.curve_history.specs.Past.{curves_on, GainsCurve, SameLayer, SpendsPairs};
@@ -9,6 +10,7 @@ ghost use Rattle.dcel_records.specs.RecordsView.{IsSpare};
 ghost use Rattle.dcel_records.specs.SoundMaps.{IsMapAtRest, map_of};
 ghost use Rattle.edge_link.specs.Links.{AreNewDarts, CanLink};
 ghost use Rattle.observer_bus.specs.Rows.{bus_row};
+ghost use Rattle.told_steps.specs.StrandRuns.{IsStrandRun};
 ghost use Rattle.told_steps.specs.ToldRuns.{AreInStep, IsToldRun};
 
 use crate::carried::settle;
@@ -22,7 +24,7 @@ use observer_bus::Bus;
 use slab_laws::{CurveId, DartId, Darts, VertexId};
 use std::alloc::Global;
 
-/// An edge of one curve comes from a vertex to a greater one, directly after the darts at both places clockwise, in room that is there; the names
+/// An edge of one side of a curve, from 1 to 8, comes from a vertex to a greater one, directly after the darts at both places clockwise, in room that is there; the names
 /// of its darts, that from the lower end first. Where no observer joins it takes no memory of its own (CGAL manual, `insert_at_vertices`).
 pub fn add_edge(
     alloc: Global,
@@ -35,12 +37,14 @@ pub fn add_edge(
     at_w: Option<DartId>,
     line: Line,
     curve: CurveId,
+    side: u32,
 ) -> (DartId, DartId)
     requires in_step { AreInStep (map_of records.old) (curves_on history.old)
         (bus_row Observer-dyn bus.old) }
     requires map { IsMapAtRest records.old }
     requires fits { CanLink records.old.graph u w at_u at_w line }
     requires forward { precedes (point_in records.old.graph u) (point_in records.old.graph w) ≡ true }
+    requires side { side ≤ 8 }
     requires named { Member curve.0 history.old.names }
     requires darts { 2 ≤ records.old.spare_darts }
     requires cycles { 1 ≤ records.old.faces.spare_cycles }
@@ -50,6 +54,8 @@ pub fn add_edge(
         (bus_row Observer-dyn bus.old)
         (AddEdge (point_in records.old.graph u) (point_in records.old.graph w) curve.0 ∷ []) (map_of records.new) (curves_on history.new)
         (bus_row Observer-dyn bus.new) }
+    ensures strands { IsStrandRun records.old.graph history.old
+        (AddCurve (point_in records.old.graph u) (point_in records.old.graph w) (strand curve.0 side) ∷ []) records.new.graph history.new }
     ensures in_step { AreInStep (map_of records.new) (curves_on history.new)
         (bus_row Observer-dyn bus.new) }
     ensures map { IsMapAtRest records.new }
@@ -78,7 +84,7 @@ pub fn add_edge(
         curve,
         faces,
     };
-    history.hold(names.d, curve);
+    history.hold(names.d, curve, side);
     let told = tell_after(alloc, &*records, &*history, bus, change);
     settle(records, told);
     (names.d, names.m)

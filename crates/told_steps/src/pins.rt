@@ -6,6 +6,7 @@ ghost use Rattle.curve_history.specs.Past.{curves_on};
 ghost use Rattle.dcel_records.specs.RecordsView.{IsSpare, IsSpareFaces};
 ghost use Rattle.dcel_records.specs.SoundMaps.{IsMapAtRest, map_of};
 ghost use Rattle.observer_bus.specs.Rows.{bus_row};
+ghost use Rattle.told_steps.specs.StrandRuns.{IsStrandRun};
 ghost use Rattle.told_steps.specs.ToldRuns.{AreInStep, IsToldRun};
 
 use crate::told::{tell_after, tell_before};
@@ -26,6 +27,7 @@ pub fn set_pin(alloc: Global, records: &mut Records, history: &History, bus: &mu
         (bus_row Observer-dyn bus.old)
         (SetPin (point_in records.old.graph v) ∷ []) (map_of records.new) (curves_on history.now)
         (bus_row Observer-dyn bus.new) }
+    ensures strands { IsStrandRun records.old.graph history.now (SetPin (point_in records.old.graph v) ∷ []) records.new.graph history.now }
     ensures in_step { AreInStep (map_of records.new) (curves_on history.now)
         (bus_row Observer-dyn bus.new) }
     ensures map { IsMapAtRest records.new }
@@ -55,6 +57,7 @@ pub fn clear_pin(
         (bus_row Observer-dyn bus.old)
         (ClearPin (point_in records.old.graph v) ∷ []) (map_of records.new) (curves_on history.now)
         (bus_row Observer-dyn bus.new) }
+    ensures strands { IsStrandRun records.old.graph history.now (ClearPin (point_in records.old.graph v) ∷ []) records.new.graph history.now }
     ensures in_step { AreInStep (map_of records.new) (curves_on history.now)
         (bus_row Observer-dyn bus.new) }
     ensures map { IsMapAtRest records.new }

@@ -1,11 +1,12 @@
 ghost use Rattle.std.specs.Prelude.{◌≤◌};
-ghost use Rattle.curve_history.specs.Past.{curves_on, SameLayer, SpendsPairs};
+ghost use Rattle.curve_history.specs.Past.{curves_on, strands_on, SameLayer, SpendsPairs};
 ghost use Rattle.dcel_records.specs.RecordsView.{IsSpare, IsSpareFaces};
 ghost use Rattle.dcel_records.specs.SoundMaps.{IsMapAtRest, map_of};
 ghost use Rattle.dcel_records.specs.Spots.{met_of};
 ghost use Rattle.face_location.specs.Spots.{IsSpotOf};
 ghost use Rattle.observer_bus.specs.Rows.{bus_row};
 ghost use Rattle.sound_views.specs.RecordGraphLaws.{IsVertexAt};
+ghost use Rattle.told_steps.specs.StrandRuns.{IsStrandRun};
 ghost use Rattle.told_steps.specs.ToldRuns.{AreInStep, IsToldRun};
 ghost use Rattle.told_steps.specs.VertexMade.{darts_at, IsPlaneWith, IsVertexMade, pairs_at, steps_at, vertices_at};
 
@@ -35,11 +36,12 @@ pub fn make_vertex(
     requires plane { IsPlaneWith records.old.graph (curves_on history.old) p (met_of at) }
     requires vertices { vertices_at (met_of at) ≤ records.old.spare_vertices }
     requires darts { darts_at (met_of at) ≤ records.old.spare_darts }
-    requires pairs { pairs_at (curves_on history.old) (met_of at) ≤ history.old.spare_pairs }
+    requires pairs { pairs_at (strands_on history.old) (met_of at) ≤ history.old.spare_pairs }
     ensures told { IsToldRun (map_of records.old) (curves_on history.old)
         (bus_row Observer-dyn bus.old)
         (steps_at records.old.graph p (met_of at)) (map_of records.new) (curves_on history.new)
         (bus_row Observer-dyn bus.new) }
+    ensures strands { IsStrandRun records.old.graph history.old (steps_at records.old.graph p (met_of at)) records.new.graph history.new }
     ensures in_step { AreInStep (map_of records.new) (curves_on history.new)
         (bus_row Observer-dyn bus.new) }
     ensures map { IsMapAtRest records.new }
@@ -48,7 +50,7 @@ pub fn make_vertex(
     ensures layer { SameLayer history.old history.new }
     ensures spare { IsSpare records.new records.old (vertices_at (met_of at)) (darts_at (met_of at)) }
     ensures spare_faces { IsSpareFaces records.old.faces records.new.faces 0 0 }
-    ensures spare_history { SpendsPairs history.old history.new (pairs_at (curves_on history.old) (met_of at)) }
+    ensures spare_history { SpendsPairs history.old history.new (pairs_at (strands_on history.old) (met_of at)) }
 {
     match at {
         Spot::Vertex(vertex) => vertex,

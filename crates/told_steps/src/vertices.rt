@@ -11,6 +11,7 @@ ghost use Rattle.face_steps.specs.VertexSteps.{IsFaceRound};
 ghost use Rattle.observer_bus.specs.Rows.{bus_row};
 ghost use Rattle.rotation_order.specs.VertexRings.{IsBare};
 ghost use Rattle.sound_views.specs.RecordGraphLaws.{IsVertexAt};
+ghost use Rattle.told_steps.specs.StrandRuns.{IsStrandRun};
 ghost use Rattle.told_steps.specs.ToldRuns.{AreInStep, IsToldRun};
 
 use crate::told::{tell_after, tell_before};
@@ -42,6 +43,7 @@ pub fn add_vertex(
         (bus_row Observer-dyn bus.old)
         (AddVertex p ∷ []) (map_of records.new) (curves_on history.now)
         (bus_row Observer-dyn bus.new) }
+    ensures strands { IsStrandRun records.old.graph history.now (AddVertex p ∷ []) records.new.graph history.now }
     ensures in_step { AreInStep (map_of records.new) (curves_on history.now)
         (bus_row Observer-dyn bus.new) }
     ensures map { IsMapAtRest records.new }
@@ -53,8 +55,7 @@ pub fn add_vertex(
 {
     p.laws();
     tell_before(alloc, &*records, history, bus, Intent::AddVertex(p));
-    let v = records.add_vertex(p);
-    records.set_bare(v, face);
+    let v = records.add_vertex(p, face);
     tell_after(
         alloc,
         &*records,
@@ -83,6 +84,7 @@ pub fn remove_vertex(
         (bus_row Observer-dyn bus.old)
         (RemoveVertex (point_in records.old.graph v) ∷ []) (map_of records.new) (curves_on history.now)
         (bus_row Observer-dyn bus.new) }
+    ensures strands { IsStrandRun records.old.graph history.now (RemoveVertex (point_in records.old.graph v) ∷ []) records.new.graph history.now }
     ensures in_step { AreInStep (map_of records.new) (curves_on history.now)
         (bus_row Observer-dyn bus.new) }
     ensures map { IsMapAtRest records.new }

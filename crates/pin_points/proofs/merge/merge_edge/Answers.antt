@@ -4,6 +4,7 @@ use Rattle.dcel_records.specs.SoundMaps.{map_of}
 use Rattle.curve_history.specs.Past.{curves_on}
 use Rattle.told_steps.specs.RecordLayers.{layer_of}
 use Rattle.told_steps.proofs.Begun.{begun_in_step, told_of_edit}
+use Rattle.told_steps.proofs.SidedRuns.{sided}
 use Rattle.pin_points.proofs.Merging.{no_vertex, is_vertex, not_pinned, not_passed, can_merge, merge_told, merge_layer}
 use Rattle.pin_points.proofs.Unpinning.{clear_has, clear_unpinned}
 use Rattle.pin_points.proofs.Outcomes.{history_kept, layer_kept, records_fit, records_kept}
@@ -91,13 +92,13 @@ returns g c =
     let r = c.args.history.now in
     let x = map_of c.remove_if_redundant.new.records in
     let q = c.remove_if_redundant.new.history in
-    let after = merge_layer v r c.requires.layer c.args.r.now c.in-Some.vertex c.in-Some.ensures.0 c.in-Some.ensures.1 (sym c.pinned.ensures ∙ c.if-not-pinned.false) (c.is_mergeable.ensures.passed c.if-not-is_mergeable.false) (map_of c.clear_pin.new.records) c.clear_pin.ensures.graph _ _ c.clear_pin.ensures.told x q _ c.remove_if_redundant.ensures.tidied c.remove_if_redundant.ensures.layer in record {
+    let after = merge_layer v r c.requires.layer c.args.r.now c.in-Some.vertex c.in-Some.ensures.0 c.in-Some.ensures.1 (sym c.pinned.ensures ∙ c.if-not-pinned.false) (c.is_mergeable.ensures.passed c.if-not-is_mergeable.false) (map_of c.clear_pin.new.records) c.clear_pin.ensures.graph _ _ (sided c.clear_pin.ensures.told c.clear_pin.ensures.strands) x q _ c.remove_if_redundant.ensures.tidied c.remove_if_redundant.ensures.layer in record {
       layer = after.0;
       map = c.remove_if_redundant.ensures.map;
       watched = c.remove_if_redundant.ensures.in_step.holds;
       edit = after.1;
       told = told_of_edit v r v r refl (λ d. refl) c.begin.ensures.begun _ x (curves_on q) _
-          (merge_told v r c.requires.layer c.args.r.now c.in-Some.vertex c.in-Some.ensures.0 c.in-Some.ensures.1 (sym c.pinned.ensures ∙ c.if-not-pinned.false) (c.is_mergeable.ensures.passed c.if-not-is_mergeable.false) (map_of c.clear_pin.new.records) c.clear_pin.ensures.graph _ _ c.clear_pin.ensures.told x q _ c.remove_if_redundant.ensures.tidied);
+          (merge_told v r c.requires.layer c.args.r.now c.in-Some.vertex c.in-Some.ensures.0 c.in-Some.ensures.1 (sym c.pinned.ensures ∙ c.if-not-pinned.false) (c.is_mergeable.ensures.passed c.if-not-is_mergeable.false) (map_of c.clear_pin.new.records) c.clear_pin.ensures.graph _ _ (sided c.clear_pin.ensures.told c.clear_pin.ensures.strands) x q _ c.remove_if_redundant.ensures.tidied).told;
       refused = merge_allowed (layer_of c.args.records.now.graph c.args.history.now) c.args.r.now (is_vertex (map_of c.args.records.now) c.args.history.now c.requires.layer c.args.r.now c.in-Some.vertex c.in-Some.ensures.0 c.in-Some.ensures.1) (can_merge (map_of c.args.records.now) c.args.history.now c.requires.layer c.args.r.now c.in-Some.vertex c.in-Some.ensures.0 c.in-Some.ensures.1 (sym c.pinned.ensures ∙ c.if-not-pinned.false) (c.is_mergeable.ensures.passed c.if-not-is_mergeable.false));
       graph = tt;
       tables = tt;

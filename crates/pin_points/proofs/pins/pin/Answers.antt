@@ -8,8 +8,8 @@ use Rattle.face_location.specs.Spots.{IsSpotOf}
 use Rattle.told_steps.specs.RecordLayers.{layer_of}
 use Rattle.told_steps.proofs.Moved.{same_layers, layer_stays}
 use Rattle.dcel_records.proofs.Maps.{one_map}
-use Rattle.told_steps.proofs.Begun.{begun_in_step, moved, still_watched, told_of_edit}
-use Rattle.told_steps.proofs.ToldTogether.{told_runs_lawful}
+use Rattle.told_steps.proofs.Begun.{begun_in_step, moved, sided_of_edit, still_watched}
+use Rattle.told_steps.proofs.SidedRuns.{sided, sided_as}
 use Rattle.told_steps.specs.VertexMade.{IsPlaneWith, steps_at}
 use Rattle.pin_points.specs.Pins.{HasRoomFor, is_pinned_met, pin_said}
 use Rattle.pin_points.specs.declared.pins.PinError.{PinError}
@@ -77,7 +77,7 @@ returns-in_err-make_room g c =
     let l = c.requires.layer in
     let e = pinned_met c.args.records.now.graph (curves_on c.args.history.now) l.sound c.args.p.now (met_of c.args.at) c.requires.spot.met in
     let n = counted (map_of c.args.records.now) c.args.history.now l c.args.p.now (point_is_proper c.args.p.now c.laws.ensures) in record {
-      layer = layer_stays c.args.records.now.graph c.make_room.new.records.graph c.args.history.now c.make_room.new.history m.graph m.layer m.curves c.requires.layer;
+      layer = layer_stays c.args.records.now.graph c.make_room.new.records.graph c.args.history.now c.make_room.new.history m.graph m.layer m.strands c.requires.layer;
       map = c.make_room.ensures.map c.requires.map;
       watched = still_watched (map_of c.args.records.now) c.args.history.now (map_of c.make_room.new.records) c.make_room.new.history (one_map c.make_room.new.records c.args.records.now c.make_room.ensures.graph c.make_room.ensures.tables) c.make_room.ensures.curves _ c.requires.watched;
       edit = not_ok back _ _ c.from_residual.ensures.1;
@@ -123,17 +123,19 @@ returns g c =
     let p = c.args.p.now in
     let m = c.make_room.ensures in
     let x = map_of c.make_vertex-vertex.new.records in
-    let k = curves_on c.make_vertex-vertex.new.history in
+    let k = c.make_vertex-vertex.new.history in
     let e = pinned_met v.graph (curves_on r) l.sound p (met_of c.args.at) c.requires.spot.met in
-    let here = told_of_edit v r (map_of c.make_room.new.records) c.make_room.new.history (one_map c.make_room.new.records c.args.records.now c.make_room.ensures.graph c.make_room.ensures.tables) m.curves c.begin.ensures.begun _ x k _ c.make_vertex-vertex.ensures.told in
-    let there = told_runs_lawful.same_steps v (curves_on r) _ _ _ x k _ (ap (λ z. steps_at z p (met_of c.args.at)) m.graph ∙ sym (at_met v.graph (curves_on r) l.sound l.curves p (point_is_proper p c.laws.ensures) (met_of c.args.at) c.requires.spot.met)) here in
+    let o = c.make_vertex-vertex.ensures in
+    let here = sided_of_edit v r (map_of c.make_room.new.records) c.make_room.new.history (one_map c.make_room.new.records c.args.records.now c.make_room.ensures.graph c.make_room.ensures.tables) m.strands c.begin.ensures.begun _ x k _ (sided o.told o.strands) in
+    let there = sided_as v r _ _ _ x k _ here (ap (λ z. steps_at z p (met_of c.args.at)) m.graph ∙ sym (at_met v.graph (curves_on r) l.sound l.curves p (point_is_proper p c.laws.ensures) (met_of c.args.at) c.requires.spot.met)) in
+    let set = sided c.set_pin.ensures.told c.set_pin.ensures.strands in
     let n = counted (map_of c.args.records.now) c.args.history.now l c.args.p.now (point_is_proper c.args.p.now c.laws.ensures) in
-    let after = pin_layer v r l p (point_is_proper p c.laws.ensures) (e ∙ ap (is_pinned_met c.args.records.now.graph) (sym c.met-met.ensures) ∙ sym c.is_pinned.ensures ∙ c.if-is_pinned.false) _ x k _ there c.make_vertex-vertex.result c.make_vertex-vertex.ensures.vertex (map_of c.set_pin.new.records) c.make_vertex-vertex.new.history _ c.set_pin.ensures.told (same_layers r c.make_room.new.history c.make_vertex-vertex.new.history m.layer c.make_vertex-vertex.ensures.layer) in record {
+    let after = pin_layer v r l p (point_is_proper p c.laws.ensures) (e ∙ ap (is_pinned_met c.args.records.now.graph) (sym c.met-met.ensures) ∙ sym c.is_pinned.ensures ∙ c.if-is_pinned.false) _ x k _ there c.make_vertex-vertex.result c.make_vertex-vertex.ensures.vertex (map_of c.set_pin.new.records) k _ set (same_layers r c.make_room.new.history c.make_vertex-vertex.new.history m.layer c.make_vertex-vertex.ensures.layer) in record {
       layer = after.0;
       map = c.set_pin.ensures.map;
       watched = c.set_pin.ensures.in_step.holds;
       edit = after.1;
-      told = pin_told v r l p (point_is_proper p c.laws.ensures) (e ∙ ap (is_pinned_met c.args.records.now.graph) (sym c.met-met.ensures) ∙ sym c.is_pinned.ensures ∙ c.if-is_pinned.false) _ x k _ there c.make_vertex-vertex.result c.make_vertex-vertex.ensures.vertex (map_of c.set_pin.new.records) c.make_vertex-vertex.new.history _ c.set_pin.ensures.told;
+      told = (pin_told v r l p (point_is_proper p c.laws.ensures) (e ∙ ap (is_pinned_met c.args.records.now.graph) (sym c.met-met.ensures) ∙ sym c.is_pinned.ensures ∙ c.if-is_pinned.false) _ x k _ there c.make_vertex-vertex.result c.make_vertex-vertex.ensures.vertex (map_of c.set_pin.new.records) k _ set).told;
       refused = pin_allowed c.args.pins (layer_of c.args.records.now.graph c.args.history.now) c.args.p.now (e ∙ ap (is_pinned_met c.args.records.now.graph) (sym c.met-met.ensures) ∙ sym c.is_pinned.ensures ∙ c.if-is_pinned.false) (not_full_out _ _ _ (sym c.is_full.ensures ∙ c.if-is_full.false) n);
       room = λ room is. other _ tt is;
       graph = tt;

@@ -7,6 +7,7 @@ use Rattle.curve_history.specs.Past.{curves_on}
 use Rattle.told_steps.specs.RecordLayers.{layer_of}
 use Rattle.told_steps.proofs.Begun.{begun_in_step, told_of_edit}
 use Rattle.told_steps.proofs.ToldTogether.{told_runs_lawful}
+use Rattle.told_steps.proofs.SidedRuns.{sided}
 use Rattle.pin_points.proofs.Spotted.{none_pinned, pinned_vertex}
 use Rattle.pin_points.proofs.Unpinning.{clear_has, clear_unpinned, unpin_told, unpin_layer}
 use Rattle.pin_points.proofs.Outcomes.{history_kept, layer_kept, records_fit, records_kept}
@@ -74,14 +75,14 @@ returns g c =
     let x = map_of c.remove_if_redundant.new.records in
     let q = c.remove_if_redundant.new.history in
     let e = c.in-Some.ensures in
-    let after = unpin_layer v r c.requires.layer c.in-Some.vertex c.in-Some.ensures.0 (sym c.pinned.ensures ∙ c.if-not-pinned.false) (map_of c.clear_pin.new.records) c.clear_pin.ensures.graph _ _ c.clear_pin.ensures.told x q _ c.remove_if_redundant.ensures.tidied c.remove_if_redundant.ensures.layer in record {
+    let after = unpin_layer v r c.requires.layer c.in-Some.vertex c.in-Some.ensures.0 (sym c.pinned.ensures ∙ c.if-not-pinned.false) (map_of c.clear_pin.new.records) c.clear_pin.ensures.graph _ _ (sided c.clear_pin.ensures.told c.clear_pin.ensures.strands) x q _ c.remove_if_redundant.ensures.tidied c.remove_if_redundant.ensures.layer in record {
       layer = after.0;
       map = c.remove_if_redundant.ensures.map;
       watched = c.remove_if_redundant.ensures.in_step.holds;
       edit = after.1 ∙ ap (λ z. layer_after (Unpin z) (layer_of v.graph r)) c.in-Some.ensures.1;
       told = told_of_edit v r v r refl (λ d. refl) c.begin.ensures.begun _ x (curves_on q) _
           (told_runs_lawful.same_steps v (curves_on r) _ _ _ x (curves_on q) _ (ap (λ z. steps (Unpin z) (layer_of v.graph r).present) c.in-Some.ensures.1)
-          (unpin_told v r c.requires.layer c.in-Some.vertex c.in-Some.ensures.0 (sym c.pinned.ensures ∙ c.if-not-pinned.false) (map_of c.clear_pin.new.records) c.clear_pin.ensures.graph _ _ c.clear_pin.ensures.told x q _ c.remove_if_redundant.ensures.tidied));
+          (unpin_told v r c.requires.layer c.in-Some.vertex c.in-Some.ensures.0 (sym c.pinned.ensures ∙ c.if-not-pinned.false) (map_of c.clear_pin.new.records) c.clear_pin.ensures.graph _ _ (sided c.clear_pin.ensures.told c.clear_pin.ensures.strands) x q _ c.remove_if_redundant.ensures.tidied).told);
       refused = unpin_allowed (layer_of c.args.records.now.graph c.args.history.now) c.args.p.now (pinned_vertex c.args.records.now.graph (curves_on c.args.history.now) c.requires.layer.sound c.args.p.now c.in-Some.vertex e.0 e.1 ∙ sym c.pinned.ensures ∙ c.if-not-pinned.false);
       graph = tt;
       tables = tt;

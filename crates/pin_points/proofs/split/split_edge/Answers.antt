@@ -5,7 +5,6 @@ use Rattle.edit_steps.proofs.Refusals.{no_memory, split_without, split_outside, 
 use Rattle.slab_laws.specs.Sound.{edge_between}
 use Rattle.slab_laws.specs.View.{point_in, source_in, target_in}
 use Rattle.dcel_records.specs.SoundMaps.{map_of}
-use Rattle.curve_history.specs.Past.{curves_on}
 use Rattle.edge_split_merge.specs.Splits.{CanSplit}
 use Rattle.told_steps.specs.RecordLayers.{layer_of}
 use Rattle.told_steps.proofs.Moved.{same_layers, layer_stays}
@@ -15,8 +14,8 @@ use Rattle.pin_points.specs.declared.split.SplitError.TheVariants.{NoEdge, NotIn
 use Rattle.observer_bus.proofs.Heard.{not_ok}
 use Rattle.pin_points.proofs.Outcomes.{layer_kept, not_both, on_err}
 use Rattle.dcel_records.proofs.Maps.{one_map}
-use Rattle.told_steps.proofs.Begun.{begun_in_step, still_watched, told_of_edit}
-use Rattle.told_steps.proofs.ToldTogether.{told_runs_lawful}
+use Rattle.told_steps.proofs.Begun.{begun_in_step, sided_of_edit, still_watched}
+use Rattle.told_steps.proofs.SidedRuns.{sided, sided_as}
 use Rattle.pin_points.proofs.Splitting.{no_edge, is_edge, is_inside, not_inside, limit_met, split_told, split_layer}
 use Rattle.pin_points.proofs.split.split_edge.Goals as goal
 
@@ -91,7 +90,7 @@ pub returns-in_err-make_room : goal.returns-in_err-make_room
 returns-in_err-make_room g c =
     let m = c.make_room.ensures in
     let back = c.from_residual.result in record {
-      layer = layer_stays c.args.records.now.graph c.make_room.new.records.graph c.args.history.now c.make_room.new.history m.graph m.layer m.curves c.requires.layer;
+      layer = layer_stays c.args.records.now.graph c.make_room.new.records.graph c.args.history.now c.make_room.new.history m.graph m.layer m.strands c.requires.layer;
       map = c.make_room.ensures.map c.requires.map;
       watched = still_watched (map_of c.args.records.now) c.args.history.now (map_of c.make_room.new.records) c.make_room.new.history (one_map c.make_room.new.records c.args.records.now c.make_room.ensures.graph c.make_room.ensures.tables) c.make_room.ensures.curves _ c.requires.watched;
       edit = not_ok back _ _ c.from_residual.ensures.1;
@@ -128,15 +127,17 @@ returns g c =
     let p = c.args.r.now in
     let m = c.make_room.ensures in
     let x = map_of c.split_edge-vertex.new.records in
-    let k = curves_on c.split_edge-vertex.new.history in
-    let here = told_of_edit v r (map_of c.make_room.new.records) c.make_room.new.history (one_map c.make_room.new.records c.args.records.now c.make_room.ensures.graph c.make_room.ensures.tables) m.curves c.begin.ensures.begun _ x k _ c.split_edge-vertex.ensures.told in
-    let there = told_runs_lawful.same_steps v (curves_on r) _ _ _ x k _ (ap (λ z. SplitEdge (point_in z (source_in z c.in-Some.dart)) (point_in z (target_in z c.in-Some.dart)) p ∷ []) m.graph) here in
-    let after = split_layer v r c.requires.layer (edge_between c.args.p.now c.args.q.now) c.in-Some.dart c.in-Some.ensures p (point_is_proper p c.laws.ensures) (sym c.is_inside.ensures ∙ c.if-not-is_inside.false) _ x k _ there c.split_edge-vertex.result c.split_edge-vertex.ensures.vertex (map_of c.set_pin.new.records) c.split_edge-vertex.new.history _ c.set_pin.ensures.told (same_layers r c.make_room.new.history c.split_edge-vertex.new.history m.layer c.split_edge-vertex.ensures.layer) in record {
+    let k = c.split_edge-vertex.new.history in
+    let o = c.split_edge-vertex.ensures in
+    let here = sided_of_edit v r (map_of c.make_room.new.records) c.make_room.new.history (one_map c.make_room.new.records c.args.records.now c.make_room.ensures.graph c.make_room.ensures.tables) m.strands c.begin.ensures.begun _ x k _ (sided o.told o.strands) in
+    let there = sided_as v r _ _ _ x k _ here (ap (λ z. SplitEdge (point_in z (source_in z c.in-Some.dart)) (point_in z (target_in z c.in-Some.dart)) p ∷ []) m.graph) in
+    let set = sided c.set_pin.ensures.told c.set_pin.ensures.strands in
+    let after = split_layer v r c.requires.layer (edge_between c.args.p.now c.args.q.now) c.in-Some.dart c.in-Some.ensures p (point_is_proper p c.laws.ensures) (sym c.is_inside.ensures ∙ c.if-not-is_inside.false) _ x k _ there c.split_edge-vertex.result c.split_edge-vertex.ensures.vertex (map_of c.set_pin.new.records) k _ set (same_layers r c.make_room.new.history c.split_edge-vertex.new.history m.layer c.split_edge-vertex.ensures.layer) in record {
       layer = after.0;
       map = c.set_pin.ensures.map;
       watched = c.set_pin.ensures.in_step.holds;
       edit = after.1;
-      told = split_told v r c.requires.layer (edge_between c.args.p.now c.args.q.now) c.in-Some.dart c.in-Some.ensures p (point_is_proper p c.laws.ensures) (sym c.is_inside.ensures ∙ c.if-not-is_inside.false) _ x k _ there c.split_edge-vertex.result c.split_edge-vertex.ensures.vertex (map_of c.set_pin.new.records) c.split_edge-vertex.new.history _ c.set_pin.ensures.told;
+      told = (split_told v r c.requires.layer (edge_between c.args.p.now c.args.q.now) c.in-Some.dart c.in-Some.ensures p (point_is_proper p c.laws.ensures) (sym c.is_inside.ensures ∙ c.if-not-is_inside.false) _ x k _ there c.split_edge-vertex.result c.split_edge-vertex.ensures.vertex (map_of c.set_pin.new.records) k _ set).told;
       refused = split_allowed c.args.pins (layer_of c.args.records.now.graph c.args.history.now) (edge_between c.args.p.now c.args.q.now).low (edge_between c.args.p.now c.args.q.now).high c.args.r.now (is_edge (map_of c.args.records.now) c.args.history.now c.requires.layer (edge_between c.args.p.now c.args.q.now) c.in-Some.dart c.in-Some.ensures)
           (is_inside (map_of c.args.records.now) c.args.history.now c.requires.layer (edge_between c.args.p.now c.args.q.now) c.in-Some.dart c.in-Some.ensures c.args.r.now (point_is_proper c.args.r.now c.laws.ensures) (sym c.is_inside.ensures ∙ c.if-not-is_inside.false)) (limit_met (map_of c.args.records.now) c.args.history.now c.requires.layer (edge_between c.args.p.now c.args.q.now) c.args.pins c.args.r.now (point_is_proper c.args.r.now c.laws.ensures) _ (sym c.is_full.ensures ∙ c.if-is_full.false));
       room = λ room is. other _ tt is;

@@ -2,11 +2,12 @@ use Rattle.std.proofs.Common.{◌≡◌, ℕ, suc, ◌+◌, ◌-◌, arith, refl
 use Rattle.exact_plane.specs.Segment.{line_of_segment}
 use Rattle.plane_graphs.specs.Ascending.{Member}
 use Rattle.plane_graphs.specs.Line.{IsProperLine}
+use Rattle.plane_graphs.specs.Strands.{strand}
 use Rattle.dcel_records.specs.SoundMaps.{map_of}
 use Rattle.curve_history.specs.Past.{curves_on}
 use Rattle.plane_graphs.proofs.Lines.{line_is_proper}
 use Rattle.segment_insert.specs.Parts.{IsOpenPart}
-use Rattle.segment_insert.proofs.Going.{AreMet, AreNext, vertex_here, open_part, chain_here, part_stays, part_sound, begins, goes_on, ends}
+use Rattle.segment_insert.proofs.Going.{AreMet, AreNext, vertex_here, open_part, chain_here, part_stays, part_sound, begins, goes_on, ends, all_held, next_held}
 use Rattle.segment_insert.proofs.edges.make_edges.Goals as goal
 
 pub vertex_of-u-requires : goal.vertex_of-u-requires
@@ -22,6 +23,7 @@ vertex_of-w-requires g c =
 pub loop-i-init : goal.loop-i-init
 loop-i-init g c = record {
   going = begins (map_of c.args.records.now) (curves_on c.args.history.now) c.args.curve.0 c.args.meetings.now c.requires.in_step c.requires.plane;
+  held = refl;
   map = c.requires.map;
   layer = record { names = refl; pieces = refl; next = refl };
   named = c.requires.curve_named;
@@ -67,9 +69,11 @@ loop-i-preserved g c =
     let chain = chain_here v c.args.segment.now c.args.meetings.now met k c.loop-i.i u w next c.args.curve.0 in
     let i = c.loop-i.invariant in
     let e = c.make_edge.ensures in
+    let z : ℕ = strand c.args.curve.0 1 in
     let more : suc k ≡ c.loop-i.i + 1 - 1 = omega arith in
     record {
       going = goes_on (map_of c.args.records.now) (curves_on c.args.history.now) c.args.curve.0 c.args.meetings.now k (map_of c.loop-i.records) (curves_on c.loop-i.history) i.going u w chain (map_of c.make_edge.new.records) (curves_on c.make_edge.new.history) _ more e.told e.in_step e.vertices;
+      held = next_held v c.args.history.now z c.args.meetings.now k c.loop-i.records.graph c.loop-i.history i.held u w i.going.vertices (chain_here v c.args.segment.now c.args.meetings.now met k c.loop-i.i u w next z) (c.loop-i.i + 1 - 1) more c.make_edge.new.records.graph c.make_edge.new.history e.strands;
       map = e.map;
       layer = record { names = e.layer.names ∙ i.layer.names; pieces = e.layer.pieces ∙ i.layer.pieces; next = e.layer.next ∙ i.layer.next };
       named = subst (Member c.args.curve.0) (sym e.layer.names) i.named;
@@ -82,6 +86,10 @@ loop-i-preserved g c =
 pub returns-clause-told : goal.returns-clause-told
 returns-clause-told g c =
     ends (map_of c.args.records.now) (curves_on c.args.history.now) c.args.curve.0 c.args.meetings.now (c.loop-i.i - 1) (map_of c.loop-i.records) (curves_on c.loop-i.history) c.loop-i.invariant.going (omega arith)
+
+pub returns-clause-strands : goal.returns-clause-strands
+returns-clause-strands g c =
+    all_held c.args.records.now.graph c.args.history.now (strand c.args.curve.0 1) c.args.meetings.now (c.loop-i.i - 1) c.loop-i.records.graph c.loop-i.history c.loop-i.invariant.held (omega arith)
 
 pub returns-clause-in_step : goal.returns-clause-in_step
 returns-clause-in_step g c = c.loop-i.invariant.going.in_step

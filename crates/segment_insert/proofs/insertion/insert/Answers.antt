@@ -1,4 +1,4 @@
-use Rattle.std.proofs.Common.{◌≡◌, ◌<◌, None, length, refl, subst, sym, arith}
+use Rattle.std.proofs.Common.{◌≡◌, ◌+◌, ◌≤◌, None, length, refl, subst, sym, arith}
 use Rattle.dcel_records.specs.RecordsView.{tables_of}
 use Rattle.face_location.specs.Spots.{IsSpotOf}
 use Rattle.edit_steps.proofs.Refusals.{insertion_allowed, no_memory}
@@ -16,17 +16,17 @@ use Rattle.told_steps.specs.LayerEdits.{layer_at}
 pub returns-in_err-plan-clause-layer : goal.returns-in_err-plan-clause-layer
 returns-in_err-plan-clause-layer g c =
     let e = c.prepare.ensures in
-    layer_stays c.args.records.now.graph c.prepare.new.records.graph c.args.history.now c.prepare.new.history e.graph e.same_layer e.same_curves c.requires.layer
+    layer_stays c.args.records.now.graph c.prepare.new.records.graph c.args.history.now c.prepare.new.history e.graph e.same_layer e.same_strands c.requires.layer
 
 pub insert_by_plan-requires-clause-layer : goal.insert_by_plan-requires-clause-layer
 insert_by_plan-requires-clause-layer g c =
     let e = c.prepare.ensures in
-    layer_stays c.args.records.now.graph c.prepare.new.records.graph c.args.history.now c.prepare.new.history e.graph e.same_layer e.same_curves c.requires.layer
+    layer_stays c.args.records.now.graph c.prepare.new.records.graph c.args.history.now c.prepare.new.history e.graph e.same_layer e.same_strands c.requires.layer
 
 pub insert_by_plan-requires-clause-room : goal.insert_by_plan-requires-clause-room
 insert_by_plan-requires-clause-room g c =
     let e = c.prepare.ensures in
-    room_stays c.in_ok-plan.plan c.prepare.new.records c.args.history.now c.prepare.new.history e.same_curves c.in_ok-plan.ensures.room
+    room_stays c.in_ok-plan.plan c.prepare.new.records c.args.history.now c.prepare.new.history e.same_strands c.in_ok-plan.ensures.room
 
 pub returns-in-Some-clause-refused : goal.returns-in-Some-clause-refused
 returns-in-Some-clause-refused g c = sym (c.in-Some.ensures c.args.records.now)
@@ -37,15 +37,15 @@ returns-in_err-plan-clause-refused g c = no_memory insert_said NoMemory _ c.from
 pub insert_by_plan-requires-clause-unspent : goal.insert_by_plan-requires-clause-unspent
 insert_by_plan-requires-clause-unspent g c =
     let none : refusal_at c.args.curves c.args.pieces c.args.records.now c.args.history.now ≡ None = c.in_default.ensures c.args.records.now in
-    let k = insertion_allowed c.args.curves c.args.pieces LAST_CURVE (layer_at c.args.records.now c.args.history.now) none in
+    let k = insertion_allowed 1 c.args.curves c.args.pieces LAST_CURVE (layer_at c.args.records.now c.args.history.now) none in
     let n = c.prepare.ensures.same_layer.next in
     rw n k.1
 
 pub insert_by_plan-requires-clause-few : goal.insert_by_plan-requires-clause-few
 insert_by_plan-requires-clause-few g c =
     let none : refusal_at c.args.curves c.args.pieces c.args.records.now c.args.history.now ≡ None = c.in_default.ensures c.args.records.now in
-    let k = insertion_allowed c.args.curves c.args.pieces LAST_CURVE (layer_at c.args.records.now c.args.history.now) none in
-    let few : length c.args.history.now.pieces < c.args.pieces = k.0 in
+    let k = insertion_allowed 1 c.args.curves c.args.pieces LAST_CURVE (layer_at c.args.records.now c.args.history.now) none in
+    let few : length c.args.history.now.pieces + 1 ≤ c.args.pieces = k.0 in
     rw c.prepare.ensures.same_layer.pieces (omega arith)
 
 pub returns-in_err-plan-clause-watched : goal.returns-in_err-plan-clause-watched

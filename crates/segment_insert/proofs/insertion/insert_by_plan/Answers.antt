@@ -2,7 +2,7 @@ use Rattle.std.proofs.Common.{◌≡◌, true, Contains, refl, sym, ap, ◌∙�
 use Rattle.plane_graphs.specs.Ascending.{Member}
 use Rattle.plane_graphs.proofs.Lists.{in_right}
 use Rattle.dcel_records.specs.SoundMaps.{map_of}
-use Rattle.curve_history.specs.Past.{curves_on}
+use Rattle.curve_history.specs.Past.{SameStrands, curves_on, strands_on}
 use Rattle.segment_insert.specs.Insertion.{pairs_to_part, AreClear, AreMeetings, IsStart}
 use Rattle.told_steps.proofs.Begun.{still_in_step}
 use Rattle.told_steps.proofs.Moved.{one_curves}
@@ -11,6 +11,7 @@ use Rattle.arr_notes.specs.RecordGraph.{drawn_graph}
 use Rattle.dcel_records.specs.RecordsView.{tables_of}
 use Rattle.zone_walk.specs.declared.plan.Meeting.{Meeting}
 use Rattle.zone_walk.specs.Zone.{is_on_segment, splits_needed, points_of_meetings}
+use Rattle.segment_insert.proofs.Layers.{one_sides}
 use Rattle.segment_insert.proofs.Planned.{IsPlanned, told_of_plan, IsHalfMade, clear_here, meetings, on_here, start_here, room_left, one_for_each, pairs_left, sound_first, all_on, each_on, plane_then, all_told, layer_made, one_piece, one_name}
 use Rattle.segment_insert.proofs.insertion.insert_by_plan.Goals as goal
 use Rattle.segment_insert.specs.Coming.{steps_at}
@@ -49,26 +50,26 @@ make_vertices-requires-clause-plane g c =
 
 pub make_vertices-requires-clause-pairs : goal.make_vertices-requires-clause-pairs
 make_vertices-requires-clause-pairs g c =
-    let same = one_curves c.args.history.now c.add_piece.new.self (λ d. c.add_piece.ensures.curves d ∙ c.draw-curve.ensures.curves d) in
-    let e : pairs_to_part (curves_on c.add_piece.new.self) c.into_vec-meetings.result.items ≡ pairs_to_part (curves_on c.args.history.now) c.args.plan.vertices = ap (pairs_to_part (curves_on c.add_piece.new.self)) c.into_vec-meetings.ensures ∙ ap (λ h. pairs_to_part h c.args.plan.vertices) same in
+    let same : SameStrands c.args.history.now c.add_piece.new.self = λ d. c.add_piece.ensures.strands d ∙ c.draw-curve.ensures.strands d in
+    let e : pairs_to_part (strands_on c.add_piece.new.self) c.into_vec-meetings.result.items ≡ pairs_to_part (strands_on c.args.history.now) c.args.plan.vertices = ap (pairs_to_part (strands_on c.add_piece.new.self)) c.into_vec-meetings.ensures ∙ ap (λ h. pairs_to_part h c.args.plan.vertices) (one_sides c.args.history.now c.add_piece.new.self same) in
     omega arith
 
 pub make_edges-requires-clause-on : goal.make_edges-requires-clause-on
 make_edges-requires-clause-on g c =
     let planned : IsPlanned (map_of c.args.records.now) c.args.history.now c.args.segment.now c.args.plan c.draw-curve.result.0 = record { layer = c.requires.layer; ends = c.lower-lower.ensures.ends; zone = c.requires.zone; number = c.draw-curve.ensures.number } in
-    let same = one_curves c.args.history.now c.add_piece.new.self (λ d. c.add_piece.ensures.curves d ∙ c.draw-curve.ensures.curves d) in
+    let same : SameStrands c.args.history.now c.add_piece.new.self = λ d. c.add_piece.ensures.strands d ∙ c.draw-curve.ensures.strands d in
     let are = c.into_vec-meetings.ensures in
     let kept = ap points_of_meetings c.deref.ensures.value ∙ c.make_vertices.ensures.points ∙ ap points_of_meetings are in
-    let half : IsHalfMade (map_of c.args.records.now) c.args.history.now c.args.plan (curves_on c.add_piece.new.self) _ (map_of c.make_vertices.new.records) (curves_on c.make_vertices.new.history) _ c.deref.result.now = record { same = same; told = told_of_plan _ _ _ _ _ _ are c.make_vertices.ensures.told; kept = kept } in
+    let half : IsHalfMade (map_of c.args.records.now) c.args.history.now c.args.plan _ (map_of c.make_vertices.new.records) c.make_vertices.new.history _ c.deref.result.now = record { told = told_of_plan _ c.args.history.now c.add_piece.new.self _ _ c.make_vertices.new.history _ same are c.make_vertices.ensures.told; kept = kept } in
     each_on planned half
 
 pub make_edges-requires-clause-all_on : goal.make_edges-requires-clause-all_on
 make_edges-requires-clause-all_on g c =
     let planned : IsPlanned (map_of c.args.records.now) c.args.history.now c.args.segment.now c.args.plan c.draw-curve.result.0 = record { layer = c.requires.layer; ends = c.lower-lower.ensures.ends; zone = c.requires.zone; number = c.draw-curve.ensures.number } in
-    let same = one_curves c.args.history.now c.add_piece.new.self (λ d. c.add_piece.ensures.curves d ∙ c.draw-curve.ensures.curves d) in
+    let same : SameStrands c.args.history.now c.add_piece.new.self = λ d. c.add_piece.ensures.strands d ∙ c.draw-curve.ensures.strands d in
     let are = c.into_vec-meetings.ensures in
     let kept = ap points_of_meetings c.deref.ensures.value ∙ c.make_vertices.ensures.points ∙ ap points_of_meetings are in
-    let half : IsHalfMade (map_of c.args.records.now) c.args.history.now c.args.plan (curves_on c.add_piece.new.self) _ (map_of c.make_vertices.new.records) (curves_on c.make_vertices.new.history) _ c.deref.result.now = record { same = same; told = told_of_plan _ _ _ _ _ _ are c.make_vertices.ensures.told; kept = kept } in
+    let half : IsHalfMade (map_of c.args.records.now) c.args.history.now c.args.plan _ (map_of c.make_vertices.new.records) c.make_vertices.new.history _ c.deref.result.now = record { told = told_of_plan _ c.args.history.now c.add_piece.new.self _ _ c.make_vertices.new.history _ same are c.make_vertices.ensures.told; kept = kept } in
     all_on planned half
 
 pub make_edges-requires-clause-curve_named : goal.make_edges-requires-clause-curve_named
@@ -79,10 +80,10 @@ make_edges-requires-clause-curve_named g c =
 pub make_edges-requires-clause-plane : goal.make_edges-requires-clause-plane
 make_edges-requires-clause-plane g c =
     let planned : IsPlanned (map_of c.args.records.now) c.args.history.now c.args.segment.now c.args.plan c.draw-curve.result.0 = record { layer = c.requires.layer; ends = c.lower-lower.ensures.ends; zone = c.requires.zone; number = c.draw-curve.ensures.number } in
-    let same = one_curves c.args.history.now c.add_piece.new.self (λ d. c.add_piece.ensures.curves d ∙ c.draw-curve.ensures.curves d) in
+    let same : SameStrands c.args.history.now c.add_piece.new.self = λ d. c.add_piece.ensures.strands d ∙ c.draw-curve.ensures.strands d in
     let are = c.into_vec-meetings.ensures in
     let kept = ap points_of_meetings c.deref.ensures.value ∙ c.make_vertices.ensures.points ∙ ap points_of_meetings are in
-    let half : IsHalfMade (map_of c.args.records.now) c.args.history.now c.args.plan (curves_on c.add_piece.new.self) _ (map_of c.make_vertices.new.records) (curves_on c.make_vertices.new.history) _ c.deref.result.now = record { same = same; told = told_of_plan _ _ _ _ _ _ are c.make_vertices.ensures.told; kept = kept } in
+    let half : IsHalfMade (map_of c.args.records.now) c.args.history.now c.args.plan _ (map_of c.make_vertices.new.records) c.make_vertices.new.history _ c.deref.result.now = record { told = told_of_plan _ c.args.history.now c.add_piece.new.self _ _ c.make_vertices.new.history _ same are c.make_vertices.ensures.told; kept = kept } in
     plane_then planned half
 
 pub make_edges-requires-clause-darts : goal.make_edges-requires-clause-darts
@@ -108,19 +109,19 @@ make_edges-requires-clause-faces g c =
 pub make_edges-requires-clause-pairs : goal.make_edges-requires-clause-pairs
 make_edges-requires-clause-pairs g c =
     let planned : IsPlanned (map_of c.args.records.now) c.args.history.now c.args.segment.now c.args.plan c.draw-curve.result.0 = record { layer = c.requires.layer; ends = c.lower-lower.ensures.ends; zone = c.requires.zone; number = c.draw-curve.ensures.number } in
-    let same = one_curves c.args.history.now c.add_piece.new.self (λ d. c.add_piece.ensures.curves d ∙ c.draw-curve.ensures.curves d) in
+    let same : SameStrands c.args.history.now c.add_piece.new.self = λ d. c.add_piece.ensures.strands d ∙ c.draw-curve.ensures.strands d in
     let are = c.into_vec-meetings.ensures in
     let kept = ap points_of_meetings c.deref.ensures.value ∙ c.make_vertices.ensures.points ∙ ap points_of_meetings are in
-    let e : pairs_to_part (curves_on c.add_piece.new.self) c.into_vec-meetings.result.items ≡ pairs_to_part (curves_on c.args.history.now) c.args.plan.vertices = ap (pairs_to_part (curves_on c.add_piece.new.self)) are ∙ ap (λ h. pairs_to_part h c.args.plan.vertices) same in
-    pairs_left planned c.deref.result.now c.add_piece.new.self.spare_pairs c.make_vertices.new.history.spare_pairs (pairs_to_part (curves_on c.args.history.now) c.args.plan.vertices) kept (omega arith) (omega arith)
+    let e : pairs_to_part (strands_on c.add_piece.new.self) c.into_vec-meetings.result.items ≡ pairs_to_part (strands_on c.args.history.now) c.args.plan.vertices = ap (pairs_to_part (strands_on c.add_piece.new.self)) are ∙ ap (λ h. pairs_to_part h c.args.plan.vertices) (one_sides c.args.history.now c.add_piece.new.self same) in
+    pairs_left planned c.deref.result.now c.add_piece.new.self.spare_pairs c.make_vertices.new.history.spare_pairs (pairs_to_part (strands_on c.args.history.now) c.args.plan.vertices) kept (omega arith) (omega arith)
 
 pub returns-clause-layer : goal.returns-clause-layer
 returns-clause-layer g c =
     let planned : IsPlanned (map_of c.args.records.now) c.args.history.now c.args.segment.now c.args.plan c.draw-curve.result.0 = record { layer = c.requires.layer; ends = c.lower-lower.ensures.ends; zone = c.requires.zone; number = c.draw-curve.ensures.number } in
-    let same = one_curves c.args.history.now c.add_piece.new.self (λ d. c.add_piece.ensures.curves d ∙ c.draw-curve.ensures.curves d) in
+    let same : SameStrands c.args.history.now c.add_piece.new.self = λ d. c.add_piece.ensures.strands d ∙ c.draw-curve.ensures.strands d in
     let are = c.into_vec-meetings.ensures in
     let kept = ap points_of_meetings c.deref.ensures.value ∙ c.make_vertices.ensures.points ∙ ap points_of_meetings are in
-    let half : IsHalfMade (map_of c.args.records.now) c.args.history.now c.args.plan (curves_on c.add_piece.new.self) _ (map_of c.make_vertices.new.records) (curves_on c.make_vertices.new.history) _ c.deref.result.now = record { same = same; told = told_of_plan _ _ _ _ _ _ are c.make_vertices.ensures.told; kept = kept } in
+    let half : IsHalfMade (map_of c.args.records.now) c.args.history.now c.args.plan _ (map_of c.make_vertices.new.records) c.make_vertices.new.history _ c.deref.result.now = record { told = told_of_plan _ c.args.history.now c.add_piece.new.self _ _ c.make_vertices.new.history _ same are c.make_vertices.ensures.told; kept = kept } in
     let layer = c.make_edges.ensures.layer in
     let before = c.make_vertices.ensures.layer in
     let piece = one_piece c.args.history.now.pieces c.draw-curve.new.self.pieces c.draw-curve.result.0 c.args.segment.now c.lower-lower.result c.upper-upper.result c.draw-curve.ensures.pieces c.lower-lower.ensures.value c.upper-upper.ensures in
@@ -128,15 +129,15 @@ returns-clause-layer g c =
     let pieces = layer.pieces ∙ before.pieces ∙ c.add_piece.ensures.pieces ∙ piece in
     let names = layer.names ∙ before.names ∙ c.add_piece.ensures.names ∙ c.draw-curve.ensures.names ∙ name in
     let next = layer.next ∙ before.next ∙ c.add_piece.ensures.next ∙ c.draw-curve.ensures.next in
-    (layer_made planned half (map_of c.make_edges.new.records) c.make_edges.new.history _ c.make_edges.ensures.told pieces names next).0
+    (layer_made planned half (map_of c.make_edges.new.records) c.make_edges.new.history _ c.make_edges.ensures.told c.make_edges.ensures.strands pieces names next).0
 
 pub returns-clause-edit : goal.returns-clause-edit
 returns-clause-edit g c =
     let planned : IsPlanned (map_of c.args.records.now) c.args.history.now c.args.segment.now c.args.plan c.draw-curve.result.0 = record { layer = c.requires.layer; ends = c.lower-lower.ensures.ends; zone = c.requires.zone; number = c.draw-curve.ensures.number } in
-    let same = one_curves c.args.history.now c.add_piece.new.self (λ d. c.add_piece.ensures.curves d ∙ c.draw-curve.ensures.curves d) in
+    let same : SameStrands c.args.history.now c.add_piece.new.self = λ d. c.add_piece.ensures.strands d ∙ c.draw-curve.ensures.strands d in
     let are = c.into_vec-meetings.ensures in
     let kept = ap points_of_meetings c.deref.ensures.value ∙ c.make_vertices.ensures.points ∙ ap points_of_meetings are in
-    let half : IsHalfMade (map_of c.args.records.now) c.args.history.now c.args.plan (curves_on c.add_piece.new.self) _ (map_of c.make_vertices.new.records) (curves_on c.make_vertices.new.history) _ c.deref.result.now = record { same = same; told = told_of_plan _ _ _ _ _ _ are c.make_vertices.ensures.told; kept = kept } in
+    let half : IsHalfMade (map_of c.args.records.now) c.args.history.now c.args.plan _ (map_of c.make_vertices.new.records) c.make_vertices.new.history _ c.deref.result.now = record { told = told_of_plan _ c.args.history.now c.add_piece.new.self _ _ c.make_vertices.new.history _ same are c.make_vertices.ensures.told; kept = kept } in
     let layer = c.make_edges.ensures.layer in
     let before = c.make_vertices.ensures.layer in
     let piece = one_piece c.args.history.now.pieces c.draw-curve.new.self.pieces c.draw-curve.result.0 c.args.segment.now c.lower-lower.result c.upper-upper.result c.draw-curve.ensures.pieces c.lower-lower.ensures.value c.upper-upper.ensures in
@@ -144,13 +145,13 @@ returns-clause-edit g c =
     let pieces = layer.pieces ∙ before.pieces ∙ c.add_piece.ensures.pieces ∙ piece in
     let names = layer.names ∙ before.names ∙ c.add_piece.ensures.names ∙ c.draw-curve.ensures.names ∙ name in
     let next = layer.next ∙ before.next ∙ c.add_piece.ensures.next ∙ c.draw-curve.ensures.next in
-    (layer_made planned half (map_of c.make_edges.new.records) c.make_edges.new.history _ c.make_edges.ensures.told pieces names next).1
+    (layer_made planned half (map_of c.make_edges.new.records) c.make_edges.new.history _ c.make_edges.ensures.told c.make_edges.ensures.strands pieces names next).1
 
 pub returns-clause-told : goal.returns-clause-told
 returns-clause-told g c =
     let planned : IsPlanned (map_of c.args.records.now) c.args.history.now c.args.segment.now c.args.plan c.draw-curve.result.0 = record { layer = c.requires.layer; ends = c.lower-lower.ensures.ends; zone = c.requires.zone; number = c.draw-curve.ensures.number } in
-    let same = one_curves c.args.history.now c.add_piece.new.self (λ d. c.add_piece.ensures.curves d ∙ c.draw-curve.ensures.curves d) in
+    let same : SameStrands c.args.history.now c.add_piece.new.self = λ d. c.add_piece.ensures.strands d ∙ c.draw-curve.ensures.strands d in
     let are = c.into_vec-meetings.ensures in
     let kept = ap points_of_meetings c.deref.ensures.value ∙ c.make_vertices.ensures.points ∙ ap points_of_meetings are in
-    let half : IsHalfMade (map_of c.args.records.now) c.args.history.now c.args.plan (curves_on c.add_piece.new.self) _ (map_of c.make_vertices.new.records) (curves_on c.make_vertices.new.history) _ c.deref.result.now = record { same = same; told = told_of_plan _ _ _ _ _ _ are c.make_vertices.ensures.told; kept = kept } in
+    let half : IsHalfMade (map_of c.args.records.now) c.args.history.now c.args.plan _ (map_of c.make_vertices.new.records) c.make_vertices.new.history _ c.deref.result.now = record { told = told_of_plan _ c.args.history.now c.add_piece.new.self _ _ c.make_vertices.new.history _ same are c.make_vertices.ensures.told; kept = kept } in
     all_told planned half (map_of c.make_edges.new.records) c.make_edges.new.history _ c.make_edges.ensures.told

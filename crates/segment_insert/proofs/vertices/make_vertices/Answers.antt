@@ -7,13 +7,12 @@ use Rattle.plane_graphs.specs.Ascending.{Member, IsAscending}
 use Rattle.plane_graphs.specs.Line.{IsProperLine}
 use Rattle.plane_graphs.proofs.Ascending.{from_member}
 use Rattle.slab_laws.specs.View.{point_in}
-use Rattle.arr_notes.specs.Curves.{Curves}
 use Rattle.arr_notes.specs.MapView.{MapView}
 use Rattle.dcel_records.specs.RecordsView.{tables_of}
 use Rattle.dcel_records.specs.SoundMaps.{map_of}
 use Rattle.dcel_records.specs.Spots.{met_of}
 use Rattle.dcel_records.proofs.Spared.{spare_then}
-use Rattle.curve_history.specs.Past.{curves_on}
+use Rattle.curve_history.specs.Past.{Past, strands_on}
 use Rattle.plane_graphs.proofs.Lines.{line_is_proper}
 use Rattle.zone_walk.specs.Zone.{vertices_needed, splits_needed, points_of_meetings}
 use Rattle.zone_walk.specs.declared.plan.Meeting.{Meeting}
@@ -31,7 +30,7 @@ room_left start before after all one rest left e f g = omega arith
 pub vertex_of-before-requires-clause-met : goal.vertex_of-before-requires-clause-met
 vertex_of-before-requires-clause-met g c =
     let v : MapView = map_of c.args.records.now in
-    let h : Curves = curves_on c.args.history.now in
+    let h : Past = c.args.history.now in
     let ms : List Meeting = c.args.meetings.now.items in
     let m : Meeting = c.index.result.now in
     let l : 0 < length c.args.meetings.now.items = some_first v.graph (tables_of c.args.records.now) c.args.start ms c.requires.start in
@@ -41,7 +40,7 @@ vertex_of-before-requires-clause-met g c =
 pub vertex_of-before-requires-clause-now : goal.vertex_of-before-requires-clause-now
 vertex_of-before-requires-clause-now g c =
     let v : MapView = map_of c.args.records.now in
-    let h : Curves = curves_on c.args.history.now in
+    let h : Past = c.args.history.now in
     let ms : List Meeting = c.args.meetings.now.items in
     let m : Meeting = c.index.result.now in
     let l : 0 < length c.args.meetings.now.items = some_first v.graph (tables_of c.args.records.now) c.args.start ms c.requires.start in
@@ -53,7 +52,7 @@ vertex_of-before-requires-clause-now g c =
 pub vertex_of-before-requires-clause-face : goal.vertex_of-before-requires-clause-face
 vertex_of-before-requires-clause-face g c =
     let v : MapView = map_of c.args.records.now in
-    let h : Curves = curves_on c.args.history.now in
+    let h : Past = c.args.history.now in
     let ms : List Meeting = c.args.meetings.now.items in
     let m : Meeting = c.index.result.now in
     let l : 0 < length c.args.meetings.now.items = some_first v.graph (tables_of c.args.records.now) c.args.start ms c.requires.start in
@@ -63,7 +62,7 @@ vertex_of-before-requires-clause-face g c =
 pub vertex_of-before-requires-clause-plane : goal.vertex_of-before-requires-clause-plane
 vertex_of-before-requires-clause-plane g c =
     let v : MapView = map_of c.args.records.now in
-    let h : Curves = curves_on c.args.history.now in
+    let h : Past = c.args.history.now in
     let ms : List Meeting = c.args.meetings.now.items in
     let m : Meeting = c.index.result.now in
     let l : 0 < length c.args.meetings.now.items = some_first v.graph (tables_of c.args.records.now) c.args.start ms c.requires.start in
@@ -73,7 +72,7 @@ vertex_of-before-requires-clause-plane g c =
 pub vertex_of-before-requires-clause-vertices : goal.vertex_of-before-requires-clause-vertices
 vertex_of-before-requires-clause-vertices g c =
     let v : MapView = map_of c.args.records.now in
-    let h : Curves = curves_on c.args.history.now in
+    let h : Past = c.args.history.now in
     let ms : List Meeting = c.args.meetings.now.items in
     let m : Meeting = c.index.result.now in
     let l : 0 < length c.args.meetings.now.items = some_first v.graph (tables_of c.args.records.now) c.args.start ms c.requires.start in
@@ -84,7 +83,7 @@ vertex_of-before-requires-clause-vertices g c =
 pub vertex_of-before-requires-clause-darts : goal.vertex_of-before-requires-clause-darts
 vertex_of-before-requires-clause-darts g c =
     let v : MapView = map_of c.args.records.now in
-    let h : Curves = curves_on c.args.history.now in
+    let h : Past = c.args.history.now in
     let ms : List Meeting = c.args.meetings.now.items in
     let m : Meeting = c.index.result.now in
     let l : 0 < length c.args.meetings.now.items = some_first v.graph (tables_of c.args.records.now) c.args.start ms c.requires.start in
@@ -95,18 +94,18 @@ vertex_of-before-requires-clause-darts g c =
 pub vertex_of-before-requires-clause-pairs : goal.vertex_of-before-requires-clause-pairs
 vertex_of-before-requires-clause-pairs g c =
     let v : MapView = map_of c.args.records.now in
-    let h : Curves = curves_on c.args.history.now in
+    let h : Past = c.args.history.now in
     let ms : List Meeting = c.args.meetings.now.items in
     let m : Meeting = c.index.result.now in
     let l : 0 < length c.args.meetings.now.items = some_first v.graph (tables_of c.args.records.now) c.args.start ms c.requires.start in
     let begun = at_start v h ms c.requires.in_step c.requires.meetings c.requires.plane in
     let first : c.args.meetings.now.items ≡ c.index.result.now ∷ drop 1 c.args.meetings.now.items = next_first v h ms v h ms 0 begun m l c.index.ensures in
-    omega (arith, ap (pairs_to_part h) first, c.requires.pairs)
+    omega (arith, ap (pairs_to_part (strands_on h)) first, c.requires.pairs)
 
 pub loop-i-init : goal.loop-i-init
 loop-i-init g c =
     let v : MapView = map_of c.args.records.now in
-    let h : Curves = curves_on c.args.history.now in
+    let h : Past = c.args.history.now in
     let ms : List Meeting = c.args.meetings.now.items in
     let m : Meeting = c.index.result.now in
     let l : 0 < length c.args.meetings.now.items = some_first v.graph (tables_of c.args.records.now) c.args.start ms c.requires.start in
@@ -115,7 +114,7 @@ loop-i-init g c =
     let same : c.index_mut.result.now ≡ c.index.result.now = c.index_mut.ensures.value ∙ get_or_default ms 0 c.index_mut.result.now m l ∙ sym c.index.ensures in
     let k = c.vertex_of-before.ensures in
     let w : MapView = map_of c.vertex_of-before.new.records in
-    let u : Curves = curves_on c.vertex_of-before.new.history in
+    let u : Past = c.vertex_of-before.new.history in
     let x = c.vertex_of-before.result in
     let s : Segment = c.args.segment.now in
     record {
@@ -129,17 +128,17 @@ loop-i-init g c =
       darts = room_left c.args.records.now.spare_darts c.args.records.now.spare_darts c.vertex_of-before.new.records.spare_darts (2 * splits_needed ms) (2 * splits_needed (m ∷ [])) (2 * splits_needed (drop 1 ms)) (2 * splits_needed ms)
           (ap (λ (xs : List Meeting). 2 * splits_needed xs) first ∙ darts_first m (drop 1 ms)) (omega arith) k.darts;
       faces = k.spare_faces;
-      pairs = room_left c.args.history.now.spare_pairs c.args.history.now.spare_pairs c.vertex_of-before.new.history.spare_pairs (pairs_to_part h ms) (pairs_at h (met_of m.spot)) (pairs_to_part u (drop 1 ms)) (pairs_to_part h ms)
-          (ap (pairs_to_part h) first ∙ ap (λ (n : ℕ). pairs_at h (met_of m.spot) + n) (sym (same_pairs_left v h ms v h ms 0 begun m l c.index.ensures w u x k.told))) (omega arith) k.pairs;
+      pairs = room_left c.args.history.now.spare_pairs c.args.history.now.spare_pairs c.vertex_of-before.new.history.spare_pairs (pairs_to_part (strands_on h) ms) (pairs_at (strands_on h) (met_of m.spot)) (pairs_to_part (strands_on u) (drop 1 ms)) (pairs_to_part (strands_on h) ms)
+          (ap (pairs_to_part (strands_on h)) first ∙ ap (λ (n : ℕ). pairs_at (strands_on h) (met_of m.spot) + n) (sym (same_pairs_left v h ms v h ms 0 begun m l c.index.ensures w u x k.told))) (omega arith) k.pairs;
     }
 
 pub spot_now-at-requires-clause-proper : goal.spot_now-at-requires-clause-proper
 spot_now-at-requires-clause-proper g c =
     let v : MapView = map_of c.args.records.now in
-    let h : Curves = curves_on c.args.history.now in
+    let h : Past = c.args.history.now in
     let ms : List Meeting = c.args.meetings.now.items in
     let w : MapView = map_of c.loop-i.records in
-    let k : Curves = curves_on c.loop-i.history in
+    let k : Past = c.loop-i.history in
     let ns : List Meeting = c.loop-i.meetings.items in
     let i : ℕ = c.loop-i.i in
     let m : Meeting = c.index-in-loop-i.result.now in
@@ -156,10 +155,10 @@ spot_now-at-requires-clause-map g c =
 pub spot_now-at-requires-clause-met : goal.spot_now-at-requires-clause-met
 spot_now-at-requires-clause-met g c =
     let v : MapView = map_of c.args.records.now in
-    let h : Curves = curves_on c.args.history.now in
+    let h : Past = c.args.history.now in
     let ms : List Meeting = c.args.meetings.now.items in
     let w : MapView = map_of c.loop-i.records in
-    let k : Curves = curves_on c.loop-i.history in
+    let k : Past = c.loop-i.history in
     let ns : List Meeting = c.loop-i.meetings.items in
     let i : ℕ = c.loop-i.i in
     let m : Meeting = c.index-in-loop-i.result.now in
@@ -167,15 +166,15 @@ spot_now-at-requires-clause-met g c =
     let l : c.loop-i.i < length c.loop-i.meetings.items = omega (arith, c.loop-i-test.true, c.len-i-end.ensures, length-set c.args.meetings.now.items 0 (told_at c.index_mut.result.now c.vertex_of-before.result), same_length v h ms w k ns i now.midway) in
     let still = spot_now v h ms w k ns i now.midway m l c.index-in-loop-i.ensures in
     let sound = sound_now v h ms w k ns i now.midway m l c.index-in-loop-i.ensures in
-    (k, still)
+    (strands_on k, still)
 
 pub spot_now-at-requires-clause-ahead : goal.spot_now-at-requires-clause-ahead
 spot_now-at-requires-clause-ahead g c =
     let v : MapView = map_of c.args.records.now in
-    let h : Curves = curves_on c.args.history.now in
+    let h : Past = c.args.history.now in
     let ms : List Meeting = c.args.meetings.now.items in
     let w : MapView = map_of c.loop-i.records in
-    let k : Curves = curves_on c.loop-i.history in
+    let k : Past = c.loop-i.history in
     let ns : List Meeting = c.loop-i.meetings.items in
     let i : ℕ = c.loop-i.i in
     let m : Meeting = c.index-in-loop-i.result.now in
@@ -188,7 +187,7 @@ spot_now-at-requires-clause-ahead g c =
     let u = c.loop-i.before in
     let proper = proper_by_met w.graph k (m.point ∷ []) m.point (met_of m.spot) now.midway.coming.sound sound (inl refl) still in
     let line : IsProperLine (line_of_segment c.args.segment.now) = subst IsProperLine c.line_of-line.ensures.value (line_is_proper c.line_of-line.result c.line_of-line.ensures.line) in
-    λ e. subst (λ n. IsClearAhead w.graph n u m.point) (sym c.line_of-line.ensures.value) (next_ahead w.graph k s u m (drop (i + 1) ms) (subst (IsFollowed w.graph s u) first now.followed) line proper still e)
+    λ e. subst (λ n. IsClearAhead w.graph n u m.point) (sym c.line_of-line.ensures.value) (next_ahead w.graph (strands_on k) s u m (drop (i + 1) ms) (subst (IsFollowed w.graph s u) first now.followed) line proper still e)
 
 pub vertex_of-before-requires-in-loop-i-clause-in_step : goal.vertex_of-before-requires-in-loop-i-clause-in_step
 vertex_of-before-requires-in-loop-i-clause-in_step g c =
@@ -201,10 +200,10 @@ vertex_of-before-requires-in-loop-i-clause-map g c =
 pub vertex_of-before-requires-in-loop-i-clause-met : goal.vertex_of-before-requires-in-loop-i-clause-met
 vertex_of-before-requires-in-loop-i-clause-met g c =
     let v : MapView = map_of c.args.records.now in
-    let h : Curves = curves_on c.args.history.now in
+    let h : Past = c.args.history.now in
     let ms : List Meeting = c.args.meetings.now.items in
     let w : MapView = map_of c.loop-i.records in
-    let k : Curves = curves_on c.loop-i.history in
+    let k : Past = c.loop-i.history in
     let ns : List Meeting = c.loop-i.meetings.items in
     let i : ℕ = c.loop-i.i in
     let m : Meeting = c.index-in-loop-i.result.now in
@@ -215,10 +214,10 @@ vertex_of-before-requires-in-loop-i-clause-met g c =
 pub vertex_of-before-requires-in-loop-i-clause-plane : goal.vertex_of-before-requires-in-loop-i-clause-plane
 vertex_of-before-requires-in-loop-i-clause-plane g c =
     let v : MapView = map_of c.args.records.now in
-    let h : Curves = curves_on c.args.history.now in
+    let h : Past = c.args.history.now in
     let ms : List Meeting = c.args.meetings.now.items in
     let w : MapView = map_of c.loop-i.records in
-    let k : Curves = curves_on c.loop-i.history in
+    let k : Past = c.loop-i.history in
     let ns : List Meeting = c.loop-i.meetings.items in
     let i : ℕ = c.loop-i.i in
     let m : Meeting = c.index-in-loop-i.result.now in
@@ -229,10 +228,10 @@ vertex_of-before-requires-in-loop-i-clause-plane g c =
 pub loop-i-preserved : goal.loop-i-preserved
 loop-i-preserved g c =
     let v : MapView = map_of c.args.records.now in
-    let h : Curves = curves_on c.args.history.now in
+    let h : Past = c.args.history.now in
     let ms : List Meeting = c.args.meetings.now.items in
     let w : MapView = map_of c.loop-i.records in
-    let k : Curves = curves_on c.loop-i.history in
+    let k : Past = c.loop-i.history in
     let ns : List Meeting = c.loop-i.meetings.items in
     let i : ℕ = c.loop-i.i in
     let m : Meeting = c.index-in-loop-i.result.now in
@@ -241,7 +240,7 @@ loop-i-preserved g c =
     let first : drop c.loop-i.i c.args.meetings.now.items ≡ c.index-in-loop-i.result.now ∷ drop (c.loop-i.i + 1) c.args.meetings.now.items = next_first v h ms w k ns i now.midway m l c.index-in-loop-i.ensures in
     let same : c.index_mut-in-loop-i.result.now ≡ c.index-in-loop-i.result.now = c.index_mut-in-loop-i.ensures.value ∙ get_or_default ns i c.index_mut-in-loop-i.result.now m l ∙ sym c.index-in-loop-i.ensures in
     let e = c.vertex_of-before-in-loop-i.ensures in
-    let q : Curves = curves_on c.vertex_of-before-in-loop-i.new.history in
+    let q : Past = c.vertex_of-before-in-loop-i.new.history in
     let x = c.vertex_of-before-in-loop-i.result in
     let s : Segment = c.args.segment.now in
     record {
@@ -255,17 +254,17 @@ loop-i-preserved g c =
       darts = room_left c.args.records.now.spare_darts c.loop-i.records.spare_darts c.vertex_of-before-in-loop-i.new.records.spare_darts (2 * splits_needed ms) (2 * splits_needed (m ∷ [])) (2 * splits_needed (drop (i + 1) ms)) (2 * splits_needed (drop i ms))
           (ap (λ (xs : List Meeting). 2 * splits_needed xs) first ∙ darts_first m (drop (i + 1) ms)) now.darts e.darts;
       faces = spare_then now.faces e.spare_faces;
-      pairs = room_left c.args.history.now.spare_pairs c.loop-i.history.spare_pairs c.vertex_of-before-in-loop-i.new.history.spare_pairs (pairs_to_part h ms) (pairs_at k (met_of m.spot)) (pairs_to_part q (drop (i + 1) ms)) (pairs_to_part k (drop i ms))
-          (ap (pairs_to_part k) first ∙ ap (λ (n : ℕ). pairs_at k (met_of m.spot) + n) (sym (same_pairs_left v h ms w k ns i now.midway m l c.index-in-loop-i.ensures (map_of c.vertex_of-before-in-loop-i.new.records) q x e.told))) now.pairs e.pairs;
+      pairs = room_left c.args.history.now.spare_pairs c.loop-i.history.spare_pairs c.vertex_of-before-in-loop-i.new.history.spare_pairs (pairs_to_part (strands_on h) ms) (pairs_at (strands_on k) (met_of m.spot)) (pairs_to_part (strands_on q) (drop (i + 1) ms)) (pairs_to_part (strands_on k) (drop i ms))
+          (ap (pairs_to_part (strands_on k)) first ∙ ap (λ (n : ℕ). pairs_at (strands_on k) (met_of m.spot) + n) (sym (same_pairs_left v h ms w k ns i now.midway m l c.index-in-loop-i.ensures (map_of c.vertex_of-before-in-loop-i.new.records) q x e.told))) now.pairs e.pairs;
     }
 
 pub returns-clause-told : goal.returns-clause-told
 returns-clause-told g c =
     let v : MapView = map_of c.args.records.now in
-    let h : Curves = curves_on c.args.history.now in
+    let h : Past = c.args.history.now in
     let ms : List Meeting = c.args.meetings.now.items in
     let w : MapView = map_of c.loop-i.records in
-    let k : Curves = curves_on c.loop-i.history in
+    let k : Past = c.loop-i.history in
     let ns : List Meeting = c.loop-i.meetings.items in
     let i : ℕ = c.loop-i.i in
     let now = c.loop-i.invariant in
@@ -275,10 +274,10 @@ returns-clause-told g c =
 pub returns-clause-named : goal.returns-clause-named
 returns-clause-named g c =
     let v : MapView = map_of c.args.records.now in
-    let h : Curves = curves_on c.args.history.now in
+    let h : Past = c.args.history.now in
     let ms : List Meeting = c.args.meetings.now.items in
     let w : MapView = map_of c.loop-i.records in
-    let k : Curves = curves_on c.loop-i.history in
+    let k : Past = c.loop-i.history in
     let ns : List Meeting = c.loop-i.meetings.items in
     let i : ℕ = c.loop-i.i in
     let now = c.loop-i.invariant in

@@ -1,7 +1,7 @@
 use Rattle.std.proofs.Common.{◌≤◌, ◌+◌, ◌*◌, drop}
 use Rattle.dcel_records.specs.RecordsView.{IsSpareFaces}
 use Rattle.dcel_records.specs.SoundMaps.{IsMapAtRest, map_of}
-use Rattle.curve_history.specs.Past.{curves_on, SameLayer}
+use Rattle.curve_history.specs.Past.{strands_on, SameLayer}
 use Rattle.observer_bus.specs.Rows.{bus_row}
 use Rattle.zone_walk.specs.Zone.{vertices_needed, splits_needed}
 use Rattle.segment_insert.specs.Insertion.{pairs_to_part}
@@ -11,8 +11,8 @@ use Rattle.segment_insert.proofs.vertices.make_vertices.Given as goal
 
 abbrev pub invariant-loop-i : goal.invariant-loop-i
 invariant-loop-i g l = record {
-  midway : IsMidway (map_of l.fn.records) (curves_on l.fn.history)
-      (bus_row (goal.Observer-dyn g) l.fn.bus) l.fn.meetings.items (map_of l.records) (curves_on l.history)
+  midway : IsMidway (map_of l.fn.records) l.fn.history
+      (bus_row (goal.Observer-dyn g) l.fn.bus) l.fn.meetings.items (map_of l.records) l.history
       (bus_row (goal.Observer-dyn g) l.bus) l.meetings.items l.i;
   followed : IsFollowed l.records.graph l.segment l.before (drop l.i l.fn.meetings.items);
   map : IsMapAtRest l.records;
@@ -20,5 +20,5 @@ invariant-loop-i g l = record {
   vertices : l.fn.records.spare_vertices + vertices_needed (drop l.i l.fn.meetings.items) ≤ l.records.spare_vertices + vertices_needed l.fn.meetings.items;
   darts : l.fn.records.spare_darts + 2 * splits_needed (drop l.i l.fn.meetings.items) ≤ l.records.spare_darts + 2 * splits_needed l.fn.meetings.items;
   faces : IsSpareFaces l.fn.records.faces l.records.faces 0 0;
-  pairs : l.fn.history.spare_pairs + pairs_to_part (curves_on l.history) (drop l.i l.fn.meetings.items) ≤ l.history.spare_pairs + pairs_to_part (curves_on l.fn.history) l.fn.meetings.items;
+  pairs : l.fn.history.spare_pairs + pairs_to_part (strands_on l.history) (drop l.i l.fn.meetings.items) ≤ l.history.spare_pairs + pairs_to_part (strands_on l.fn.history) l.fn.meetings.items;
 }

@@ -34,7 +34,7 @@ returns-then-plan-from-clause-refused g c =
     (passes c.args.pieces c.from.result c.plan_cut-plan.result.left (length (with_cut (layer_of c.args.records.now.graph c.args.history.now).present (edge_between c.args.p.now c.args.q.now).low (edge_between c.args.p.now c.args.q.now).high).pieces) c.from.ensures (counted (map_of c.args.records.now) c.args.history.now c.requires.layer (edge_between c.args.p.now c.args.q.now) c.in-Some.d c.in-Some.ensures c.source-source.result c.target-target.result c.source-source.ensures c.target-target.ensures c.point-low.result c.point-high.result c.point-low.ensures c.point-high.ensures c.plan_cut-plan.result.left c.plan_cut-plan.ensures.left) c.if-plan-from.true)
 
 pub returns-in_err-make_room-clause-layer : goal.returns-in_err-make_room-clause-layer
-returns-in_err-make_room-clause-layer g c = layer_stays c.args.records.now.graph c.make_room.new.records.graph c.args.history.now c.make_room.new.history c.make_room.ensures.graph c.make_room.ensures.layer c.make_room.ensures.curves c.requires.layer
+returns-in_err-make_room-clause-layer g c = layer_stays c.args.records.now.graph c.make_room.new.records.graph c.args.history.now c.make_room.new.history c.make_room.ensures.graph c.make_room.ensures.layer c.make_room.ensures.strands c.requires.layer
 
 pub returns-in_err-make_room-clause-watched : goal.returns-in_err-make_room-clause-watched
 returns-in_err-make_room-clause-watched g c = still_watched (map_of c.args.records.now) c.args.history.now (map_of c.make_room.new.records) c.make_room.new.history (one_map c.make_room.new.records c.args.records.now c.make_room.ensures.graph c.make_room.ensures.tables) c.make_room.ensures.curves _ c.requires.watched
@@ -59,7 +59,7 @@ remove_redundant-requires-clause-ascend g c = both_ascend (map_of c.args.records
 pub returns-clause-told : goal.returns-clause-told
 returns-clause-told g c =
     told_of_edit (map_of c.args.records.now) c.args.history.now (map_of c.args.records.now) c.args.history.now refl (λ d. refl) c.begin.ensures.begun _ (map_of c.remove_redundant.new.records) (curves_on c.remove_redundant.new.history) _
-    (cut_told (map_of c.args.records.now) c.args.history.now c.requires.layer (edge_between c.args.p.now c.args.q.now) c.in-Some.d c.in-Some.ensures c.source-source.result c.target-target.result c.source-source.ensures c.target-target.ensures (map_of c.make_room.new.records) (one_map c.make_room.new.records c.args.records.now c.make_room.ensures.graph c.make_room.ensures.tables) (map_of c.remove_edge.new.records) c.remove_edge.ensures.graph c.cut_pieces.new.self (λ d. c.cut_pieces.ensures.curves d ∙ c.make_room.ensures.curves d) _ (curves_on c.remove_edge.new.history) _ c.remove_edge.ensures.told (map_of c.remove_redundant.new.records) c.remove_redundant.new.history _ c.remove_redundant.ensures.tidied)
+    (cut_told (map_of c.args.records.now) c.args.history.now c.requires.layer (edge_between c.args.p.now c.args.q.now) c.in-Some.d c.in-Some.ensures c.source-source.result c.target-target.result c.source-source.ensures c.target-target.ensures (map_of c.make_room.new.records) (one_map c.make_room.new.records c.args.records.now c.make_room.ensures.graph c.make_room.ensures.tables) (map_of c.remove_edge.new.records) c.remove_edge.ensures.graph c.cut_pieces.new.self (λ d. c.cut_pieces.ensures.strands d ∙ c.make_room.ensures.strands d) _ c.remove_edge.new.history _ c.remove_edge.ensures.told c.remove_edge.ensures.strands (map_of c.remove_redundant.new.records) c.remove_redundant.new.history _ c.remove_redundant.ensures.tidied)
 
 after : (g : given.Over) (c : goal.After-remove_redundant g) → IsLayer c.remove_redundant.new.records.graph c.remove_redundant.new.history × (layer_of c.remove_redundant.new.records.graph c.remove_redundant.new.history ≡ layer_after (cut_between c.args.p.now c.args.q.now) (layer_of c.args.records.now.graph c.args.history.now))
 after g c =
@@ -69,7 +69,7 @@ after g c =
     let tidied = c.remove_redundant.ensures.layer in
     let low = c.point-low.ensures ∙ at_s (map_of c.args.records.now) c.args.history.now c.requires.layer (edge_between c.args.p.now c.args.q.now) c.in-Some.d c.in-Some.ensures c.source-source.result c.target-target.result c.source-source.ensures c.target-target.ensures in
     let high = c.point-high.ensures ∙ at_t (map_of c.args.records.now) c.args.history.now c.requires.layer (edge_between c.args.p.now c.args.q.now) c.in-Some.d c.in-Some.ensures c.source-source.result c.target-target.result c.source-source.ensures c.target-target.ensures in
-    cut_layer (map_of c.args.records.now) c.args.history.now c.requires.layer (edge_between c.args.p.now c.args.q.now) c.in-Some.d c.in-Some.ensures c.source-source.result c.target-target.result c.source-source.ensures c.target-target.ensures _ (map_of c.remove_redundant.new.records) c.remove_redundant.new.history _ (returns-clause-told g c)
+    cut_layer (map_of c.args.records.now) c.args.history.now c.requires.layer (edge_between c.args.p.now c.args.q.now) c.in-Some.d c.in-Some.ensures c.source-source.result c.target-target.result c.source-source.ensures c.target-target.ensures (map_of c.make_room.new.records) (one_map c.make_room.new.records c.args.records.now c.make_room.ensures.graph c.make_room.ensures.tables) (map_of c.remove_edge.new.records) c.remove_edge.ensures.graph c.cut_pieces.new.self (λ d. c.cut_pieces.ensures.strands d ∙ c.make_room.ensures.strands d) _ c.remove_edge.new.history _ c.remove_edge.ensures.told c.remove_edge.ensures.strands (map_of c.remove_redundant.new.records) c.remove_redundant.new.history _ c.remove_redundant.ensures.tidied
     (tidied.pieces ∙ released.pieces ∙ cut.pieces ∙ ap (flat_map (cut_piece c.point-low.result c.point-high.result)) room.pieces ∙ ap₂ (λ p q. flat_map (cut_piece p q) c.args.history.now.pieces) low high)
     (tidied.names ∙ released.names ∙ cut.names ∙ room.names)
     (tidied.next ∙ released.next ∙ cut.next ∙ room.next)

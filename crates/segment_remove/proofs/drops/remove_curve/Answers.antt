@@ -27,7 +27,7 @@ release_curve-requires-clause-all g c = rw c.deref-2.ensures.value c.in_ok-edges
 pub returns-clause-told : goal.returns-clause-told
 returns-clause-told g c =
     told_of_edit (map_of c.args.records.now) c.args.history.now (map_of c.args.records.now) c.args.history.now refl (λ d. refl) c.begin.ensures.begun _ (map_of c.remove_redundant.new.records) (curves_on c.remove_redundant.new.history) _
-    (drop_told (map_of c.args.records.now) c.args.history.now c.requires.layer c.args.curve.0 _ (map_of c.make_room_of_cycles.new.records) (map_of c.release_curve.new.records) (one_map c.make_room_of_cycles.new.records c.args.records.now c.make_room_of_cycles.ensures.graph c.make_room_of_cycles.ensures.tables) c.release_curve.new.history c.drop_name.new.self c.drop_name.ensures.curves _ c.release_curve.ensures.told c.release_curve.ensures.vertices c.in_ok-edges.edges.items c.in_ok-edges.ensures.all c.deref-3.result.now (one_ends c.args.records.now.graph c.in_ok-edges.edges.items _ c.in_ok-vertices.vertices.items c.deref-3.result.now c.deref.ensures.value c.deref-3.ensures.value c.in_ok-vertices.ensures) (map_of c.remove_redundant.new.records) c.remove_redundant.new.history _ c.remove_redundant.ensures.tidied)
+    (drop_told (map_of c.args.records.now) c.args.history.now c.requires.layer c.args.curve.0 _ (map_of c.make_room_of_cycles.new.records) (map_of c.release_curve.new.records) (one_map c.make_room_of_cycles.new.records c.args.records.now c.make_room_of_cycles.ensures.graph c.make_room_of_cycles.ensures.tables) c.release_curve.new.history c.drop_name.new.self c.drop_name.ensures.strands _ c.release_curve.ensures.told c.release_curve.ensures.sides c.release_curve.ensures.vertices c.in_ok-edges.edges.items c.in_ok-edges.ensures.all c.deref-3.result.now (one_ends c.args.records.now.graph c.in_ok-edges.edges.items _ c.in_ok-vertices.vertices.items c.deref-3.result.now c.deref.ensures.value c.deref-3.ensures.value c.in_ok-vertices.ensures) (map_of c.remove_redundant.new.records) c.remove_redundant.new.history _ c.remove_redundant.ensures.tidied)
 
 pub remove_redundant-requires-clause-in_step : goal.remove_redundant-requires-clause-in_step
 remove_redundant-requires-clause-in_step g c = still_in_step (map_of c.release_curve.new.records) c.release_curve.new.history (map_of c.release_curve.new.records) c.drop_name.new.self refl c.drop_name.ensures.curves c.release_curve.ensures.in_step
@@ -43,7 +43,7 @@ after g c =
     let released = c.release_curve.ensures.layer in
     let dropped = c.drop_name.ensures in
     let tidied = c.remove_redundant.ensures.layer in
-    drop_layer (map_of c.args.records.now) c.args.history.now c.requires.layer c.args.curve.0 _ (map_of c.remove_redundant.new.records) c.remove_redundant.new.history _ (returns-clause-told g c)
+    drop_layer (map_of c.args.records.now) c.args.history.now c.requires.layer c.args.curve.0 _ (map_of c.make_room_of_cycles.new.records) (map_of c.release_curve.new.records) (one_map c.make_room_of_cycles.new.records c.args.records.now c.make_room_of_cycles.ensures.graph c.make_room_of_cycles.ensures.tables) c.release_curve.new.history c.drop_name.new.self c.drop_name.ensures.strands _ c.release_curve.ensures.told c.release_curve.ensures.sides c.release_curve.ensures.vertices c.in_ok-edges.edges.items c.in_ok-edges.ensures.all c.deref-3.result.now (one_ends c.args.records.now.graph c.in_ok-edges.edges.items _ c.in_ok-vertices.vertices.items c.deref-3.result.now c.deref.ensures.value c.deref-3.ensures.value c.in_ok-vertices.ensures) (map_of c.remove_redundant.new.records) c.remove_redundant.new.history _ c.remove_redundant.ensures.tidied
     (tidied.pieces ∙ dropped.pieces ∙ ap (filter (λ k. not (same_curve k.curve c.args.curve.0))) released.pieces)
     (tidied.names ∙ dropped.names ∙ ap (filter (λ n. not (same_curve n c.args.curve.0))) released.names)
     (tidied.next ∙ dropped.next ∙ released.next)

@@ -3,6 +3,7 @@ use Rattle.dcel_records.specs.SoundMaps.{IsMapAtRest, map_of}
 use Rattle.curve_history.specs.Past.{curves_on, SameLayer}
 use Rattle.observer_bus.specs.Rows.{bus_row}
 use Rattle.segment_remove.proofs.EdgesReleased.{IsGoing}
+use Rattle.segment_remove.proofs.SidesReleased.{SameOthers}
 use Rattle.segment_remove.proofs.release.release_curve.Given as goal
 
 abbrev pub invariant-loop-edge : goal.invariant-loop-edge
@@ -11,6 +12,7 @@ invariant-loop-edge g l = record {
       (bus_row (goal.Observer-dyn g) l.initial.bus)
       l.edges (drop l.edge-index l.edges) (map_of l.records) (curves_on l.history)
       (bus_row (goal.Observer-dyn g) l.bus);
+  others : SameOthers l.initial.records.graph l.initial.history l.curve.0 l.records.graph l.history;
   map : IsMapAtRest l.records;
   spare : length l.edges ≤ l.records.faces.spare_cycles + l.edge-index;
   layer : SameLayer l.initial.history l.history;

@@ -6,7 +6,7 @@ use Rattle.sound_changes.proofs.VertexAdded.{no_rows_sound}
 use Rattle.curve_history.specs.Past.{curves_on}
 use Rattle.dcel_records.specs.SoundMaps.{map_of}
 use Rattle.told_steps.proofs.MapsKept.{all_cleared, unbounded_first}
-use Rattle.told_steps.proofs.ToldOnce.{HasMade, changed_by, told_by}
+use Rattle.told_steps.proofs.ToldOnce.{HasMade, changed_by, strands_by, told_by}
 use Rattle.told_steps.proofs.clears.clear.Given as given
 use Rattle.told_steps.proofs.clears.clear.Goals.{After-clear-2}
 use Rattle.told_steps.proofs.clears.clear.Goals as goal
@@ -19,6 +19,7 @@ made g c =
       curves = c.clear-2.ensures.curves;
       fits = tt;
       noted = unbounded_first c.args.records.now.faces.tables c.face_laws.ensures.faces_ascend c.face_laws.ensures.unbounded;
+      listed = tt;
       sound = subst IsGraphSound (sym e.graph) no_rows_sound;
     }
 
@@ -33,3 +34,6 @@ returns-clause-map g c =
     let a = (goal.at.returns-clause-map g c).After-clear-2 in
     let e = c.clear.ensures in
     all_cleared c.args.records.now c.clear.new.self c.requires.map (made g a).sound e.moved (made g a).noted e.graph e.tables e.lists
+
+pub returns-clause-strands : goal.returns-clause-strands
+returns-clause-strands g c = let o = made g (goal.at.returns-clause-strands g c).After-clear-2 in strands_by c.args.history.now o c.requires.in_step c.clear-2.new.self tt c.clear-2.ensures.strands

@@ -7,7 +7,7 @@ use Rattle.arr_notes.specs.declared.intent.Intent.TheVariants.{SplitEdge as Will
 use Rattle.curve_history.specs.Past.{curves_on}
 use Rattle.dcel_records.specs.SoundMaps.{map_of}
 use Rattle.told_steps.proofs.Parts.{fits_split, new_dart, split_vertex}
-use Rattle.told_steps.proofs.ToldOnce.{HasMade, changed_by, told_by}
+use Rattle.told_steps.proofs.ToldOnce.{HasMade, changed_by, strands_by, told_by}
 use Rattle.told_steps.proofs.edges.split_edge.Given as given
 use Rattle.told_steps.proofs.edges.split_edge.Goals.{After-part}
 use Rattle.told_steps.proofs.edges.split_edge.Goals as goal
@@ -27,7 +27,7 @@ change g c = SplitEdge c.args.d c.split_in_cycles-new.result.v c.args.p c.split_
 made : (g : given.Over) (c : After-part g) → HasMade (map_of c.args.records.now) (curves_on c.args.history.now) (change g c) (map_of c.split_in_cycles-new.new.records) (curves_on c.part.new.self)
 made g c =
     let e = c.split_in_cycles-new.ensures in
-    record { view = λ i. record { graph = e.graph i; faces = e.tables i }; curves = c.part.ensures.curves; fits = fits g c; noted = tt; sound = e.map.sound.graph }
+    record { view = λ i. record { graph = e.graph i; faces = e.tables i }; curves = c.part.ensures.curves; fits = fits g c; noted = tt; listed = tt; sound = e.map.sound.graph }
 
 pub tell_after-requires : goal.tell_after-requires
 tell_after-requires g c = record { changed = changed_by (made g (goal.at.tell_after-requires g c).After-part) c.tell_before.ensures.in_step }
@@ -43,3 +43,6 @@ returns-clause-told g c = told_by (made g (goal.at.returns-clause-told g c).Afte
 
 pub returns-clause-map : goal.returns-clause-map
 returns-clause-map g c = let e = c.split_in_cycles-new.ensures in record { map = e.map; returned = subst IsSome (sym e.moved) c.requires.map.returned }
+
+pub returns-clause-strands : goal.returns-clause-strands
+returns-clause-strands g c = let o = made g (goal.at.returns-clause-strands g c).After-part in strands_by c.args.history.now o c.requires.in_step c.part.new.self o.fits c.part.ensures.strands

@@ -6,7 +6,7 @@ use Rattle.dcel_records.specs.RecordsView.{FacesView}
 use Rattle.dcel_records.specs.SoundMaps.{map_of}
 use Rattle.told_steps.proofs.MapsKept.{pin_is_set}
 use Rattle.told_steps.proofs.Steps.{pinned_now}
-use Rattle.told_steps.proofs.ToldOnce.{HasMade, changed_by, told_by}
+use Rattle.told_steps.proofs.ToldOnce.{HasMade, changed_by, strands_by, told_by}
 use Rattle.told_steps.proofs.pins.set_pin.Given as given
 use Rattle.told_steps.proofs.pins.set_pin.Goals.{After-set_pin}
 use Rattle.told_steps.proofs.pins.set_pin.Goals as goal
@@ -19,6 +19,7 @@ made g c =
       curves = λ d. refl;
       fits = c.requires.vertex;
       noted = tt;
+      listed = tt;
       sound = pinned_now c.args.records.now.graph c.args.v true c.requires.in_step.sound.graph c.set_pin.new.self.graph e.graph;
     }
 
@@ -33,3 +34,6 @@ returns-clause-map g c =
     let a = (goal.at.returns-clause-map g c).After-set_pin in
     let e = c.set_pin.ensures in
     pin_is_set c.args.records.now c.set_pin.new.self c.requires.map (made g a).sound (ap (λ (f : FacesView). f.moved) e.faces) c.args.v true e.graph e.faces
+
+pub returns-clause-strands : goal.returns-clause-strands
+returns-clause-strands g c = let o = made g (goal.at.returns-clause-strands g c).After-set_pin in strands_by c.args.history.now o c.requires.in_step c.args.history.now o.fits (λ d. refl)

@@ -5,7 +5,7 @@ use Rattle.told_steps.proofs.Steps.{vertex_gone}
 use Rattle.curve_history.specs.Past.{curves_on}
 use Rattle.dcel_records.specs.SoundMaps.{map_of}
 use Rattle.told_steps.proofs.MapsKept.{vertex_goes}
-use Rattle.told_steps.proofs.ToldOnce.{HasMade, changed_by, told_by}
+use Rattle.told_steps.proofs.ToldOnce.{HasMade, changed_by, strands_by, told_by}
 use Rattle.told_steps.proofs.vertices.remove_vertex.Given as given
 use Rattle.told_steps.proofs.vertices.remove_vertex.Goals.{After-remove_vertex}
 use Rattle.told_steps.proofs.vertices.remove_vertex.Goals as goal
@@ -18,6 +18,7 @@ made g c =
       curves = λ d. refl;
       fits = (c.requires.vertex, c.requires.bare, c.requires.unpinned);
       noted = tt;
+      listed = tt;
       sound = vertex_gone c.args.records.now.graph c.args.v c.requires.in_step.sound.graph c.requires.bare c.remove_vertex.new.self.graph e.graph;
     }
 
@@ -32,3 +33,6 @@ returns-clause-map g c =
     let a = (goal.at.returns-clause-map g c).After-remove_vertex in
     let e = c.remove_vertex.ensures in
     vertex_goes c.args.records.now c.remove_vertex.new.self c.requires.map (made g a).sound e.moved c.args.v c.requires.vertex c.requires.bare e.graph e.tables e.lists
+
+pub returns-clause-strands : goal.returns-clause-strands
+returns-clause-strands g c = let o = made g (goal.at.returns-clause-strands g c).After-remove_vertex in strands_by c.args.history.now o c.requires.in_step c.args.history.now o.fits (λ d. refl)
