@@ -1,4 +1,4 @@
-ghost use Rattle.std.specs.Prelude.{◌≡◌, ◌≤◌, [], IfOk, OnOk, OnErr};
+ghost use Rattle.std.specs.Prelude.{◌≡◌, ◌≤◌, ◌∷◌, [], IfOk, OnOk, OnErr};
 ghost use Rattle.plane_graphs.specs.Graph.{graph};
 ghost use Rattle.edit_steps.specs.Edits.{Insert, Drop, Pin, Unpin, Merge, ClearAll};
 ghost use Rattle.edit_steps.specs.Layer.{empty_layer};
@@ -15,13 +15,14 @@ ghost use Rattle.dcel_records.specs.SoundMaps.{IsSoundMap};
 ghost use Rattle.told_steps.specs.RecordLayers.{layer_of, IsLayer};
 ghost use Rattle.told_steps.specs.LayerNames.{IsNamedBy};
 ghost use Rattle.arrangement.specs.declared.limits.TheConstants.{MAX_CURVES, MAX_PIECES, MAX_PINS};
+ghost use Rattle.curve_history.specs.declared.history.TheConstants.{LAST_CURVE};
 ghost use Rattle.observer_bus.specs.RoundLaws.{HaveNamesApart};
 ghost use Rattle.observer_bus.specs.Rows.{bus_row};
 ghost use Rattle.arrangement.specs.Arranged.{arranged, layer_in, AreLimits, IsWatched, refusal_in};
 ghost use Rattle.arrangement.specs.Edited.{IsEdited, IsAsBefore};
 
 use crate::counted::insert_counted;
-use crate::layer_records::LayerRecords;
+use crate::layer_records::{Findings, LayerRecords};
 use crate::limits::Limits;
 use crate::spots::walk_to;
 use curve_history::History;
@@ -66,18 +67,21 @@ fn empty_records(alloc: Global, first: u32) -> Result<LayerRecords, NoMemory>
     Ok(LayerRecords {
         records,
         history,
-        ranking: Ranking::Unknown,
-        trapezoids: Trapezoids::new(),
-        mapped: false,
-        landmarks: Landmarks::new(alloc),
-        landed: false,
+        findings: Findings {
+            ranking: Ranking::Unknown,
+            trapezoids: Trapezoids::new(),
+            mapped: false,
+            landmarks: Landmarks::new(alloc),
+            landed: false,
+        },
     })
 }
 
 impl Arrangement {
     /// A layer of nothing, whose first curve gets the number `limits.first`, over a bus that has no observers yet.
     ///
-    /// At most 2,000 curves, 10,000 pieces and 10,000 pins can be asked for.
+    /// At most 2,000 curves, 10,000 pieces and 10,000 pins can be asked for, and the last number that a curve can get is
+    /// 4,294,967,295, whatever the limits are.
     ///
     /// # Errors
     ///
@@ -88,6 +92,7 @@ impl Arrangement {
         ensures curves { MAX_CURVES ≡ 2000 }
         ensures pieces { MAX_PIECES ≡ 10000 }
         ensures pins { MAX_PINS ≡ 10000 }
+        ensures last { LAST_CURVE ≡ 4294967295 }
         ensures empty { IfOk result (λ a. layer_in (arranged Observer-dyn a) ≡ empty_layer limits.first) }
         ensures limits { IfOk result (λ a. (arranged Observer-dyn a).limits ≡ limits) }
         ensures bus { IfOk result (λ a. (arranged Observer-dyn a).bus ≡ bus_row Observer-dyn bus) }
@@ -110,16 +115,14 @@ impl Arrangement {
     pub fn insert(&mut self, segment: Segment) -> Result<CurveId, InsertError>
         requires watched { IsWatched (arranged Observer-dyn self.old) }
         ensures number { IfOk result (λ c. c.0 ≡ (arranged Observer-dyn self.old).past.next) }
-        ensures edit { OnOk result (IsEdited (arranged Observer-dyn self.old) (arranged Observer-dyn self.new) (Insert (arranged Observer-dyn self.old).past.next segment)) }
-        ensures refused { IsAnswerFor insert_said (refusal_in (arranged Observer-dyn self.old) (Insert (arranged Observer-dyn self.old).past.next segment)) result }
+        ensures edit { OnOk result (IsEdited (arranged Observer-dyn self.old) (arranged Observer-dyn self.new) (Insert (arranged Observer-dyn self.old).past.next (segment ∷ []))) }
+        ensures refused { IsAnswerFor insert_said (refusal_in (arranged Observer-dyn self.old) (Insert (arranged Observer-dyn self.old).past.next (segment ∷ []))) result }
         ensures as_before { OnErr result (IsAsBefore (arranged Observer-dyn self.old) (arranged Observer-dyn self.new)) }
         ensures limits { (arranged Observer-dyn self.new).limits ≡ (arranged Observer-dyn self.old).limits }
         ensures watched { IsWatched (arranged Observer-dyn self.new) }
     {
         let start = walk_to(&self.layer.records, &segment.lower());
-        self.layer.ranking = Ranking::Unknown;
-        self.layer.mapped = false;
-        self.layer.landed = false;
+        self.layer.findings.forget();
         insert_counted::<Brand>(
             Blank::new(1),
             self.alloc,
@@ -147,9 +150,7 @@ impl Arrangement {
         ensures limits { (arranged Observer-dyn self.new).limits ≡ (arranged Observer-dyn self.old).limits }
         ensures watched { IsWatched (arranged Observer-dyn self.new) }
     {
-        self.layer.ranking = Ranking::Unknown;
-        self.layer.mapped = false;
-        self.layer.landed = false;
+        self.layer.findings.forget();
         remove_curve(
             self.alloc,
             &mut self.layer.records,
@@ -173,9 +174,7 @@ impl Arrangement {
         ensures limits { (arranged Observer-dyn self.new).limits ≡ (arranged Observer-dyn self.old).limits }
         ensures watched { IsWatched (arranged Observer-dyn self.new) }
     {
-        self.layer.ranking = Ranking::Unknown;
-        self.layer.mapped = false;
-        self.layer.landed = false;
+        self.layer.findings.forget();
         remove_edge(
             self.alloc,
             &mut self.layer.records,
@@ -201,9 +200,7 @@ impl Arrangement {
         ensures watched { IsWatched (arranged Observer-dyn self.new) }
     {
         let at = walk_to(&self.layer.records, p);
-        self.layer.ranking = Ranking::Unknown;
-        self.layer.mapped = false;
-        self.layer.landed = false;
+        self.layer.findings.forget();
         pin(
             self.alloc,
             &mut self.layer.records,
@@ -228,9 +225,7 @@ impl Arrangement {
         ensures limits { (arranged Observer-dyn self.new).limits ≡ (arranged Observer-dyn self.old).limits }
         ensures watched { IsWatched (arranged Observer-dyn self.new) }
     {
-        self.layer.ranking = Ranking::Unknown;
-        self.layer.mapped = false;
-        self.layer.landed = false;
+        self.layer.findings.forget();
         unpin(
             self.alloc,
             &mut self.layer.records,
@@ -254,9 +249,7 @@ impl Arrangement {
         ensures limits { (arranged Observer-dyn self.new).limits ≡ (arranged Observer-dyn self.old).limits }
         ensures watched { IsWatched (arranged Observer-dyn self.new) }
     {
-        self.layer.ranking = Ranking::Unknown;
-        self.layer.mapped = false;
-        self.layer.landed = false;
+        self.layer.findings.forget();
         split_edge(
             self.alloc,
             &mut self.layer.records,
@@ -283,9 +276,7 @@ impl Arrangement {
         ensures limits { (arranged Observer-dyn self.new).limits ≡ (arranged Observer-dyn self.old).limits }
         ensures watched { IsWatched (arranged Observer-dyn self.new) }
     {
-        self.layer.ranking = Ranking::Unknown;
-        self.layer.mapped = false;
-        self.layer.landed = false;
+        self.layer.findings.forget();
         merge_edge(
             self.alloc,
             &mut self.layer.records,
@@ -303,9 +294,7 @@ impl Arrangement {
         ensures limits { (arranged Observer-dyn self.new).limits ≡ (arranged Observer-dyn self.old).limits }
         ensures watched { IsWatched (arranged Observer-dyn self.new) }
     {
-        self.layer.ranking = Ranking::Unknown;
-        self.layer.mapped = false;
-        self.layer.landed = false;
+        self.layer.findings.forget();
         clear(
             self.alloc,
             &mut self.layer.records,

@@ -1,4 +1,4 @@
-ghost use Rattle.std.specs.Prelude.{◌≡◌, ◌<◌, IfOk, OnErr};
+ghost use Rattle.std.specs.Prelude.{◌≡◌, ◌<◌, ◌∷◌, [], IfOk, OnErr};
 ghost use Rattle.edit_steps.specs.Edits.{Insert};
 ghost use Rattle.edit_steps.specs.Refusals.{IsAnswerFor};
 ghost use Rattle.dcel_records.specs.RecordsView.{tables_of};
@@ -44,8 +44,8 @@ pub(crate) fn insert_counted<L: Ledger>(
     ensures map { IsMapAtRest records.new }
     ensures watched { AreWatched records.new history.new (bus_row Observer-dyn bus.new) }
     ensures number { IfOk result (λ c. c.0 ≡ history.old.next) }
-    ensures edit { IfOk result (λ c. IsAfter (Insert c.0 segment.now) records.old history.old records.new history.new) }
-    ensures told { IfOk result (λ c. IsToldEdit (Insert c.0 segment.now) records.old history.old (bus_row Observer-dyn bus.old) records.new history.new (bus_row Observer-dyn bus.new)) }
+    ensures edit { IfOk result (λ c. IsAfter (Insert c.0 (segment.now ∷ [])) records.old history.old records.new history.new) }
+    ensures told { IfOk result (λ c. IsToldEdit (Insert c.0 (segment.now ∷ [])) records.old history.old (bus_row Observer-dyn bus.old) records.new history.new (bus_row Observer-dyn bus.new)) }
     ensures refused { IsAnswerFor insert_said (refusal_at curves pieces records.old history.old) result }
     ensures graph { OnErr result (records.new.graph ≡ records.old.graph) }
     ensures tables { OnErr result (tables_of records.new ≡ tables_of records.old) }

@@ -1,4 +1,4 @@
-ghost use Rattle.std.specs.Prelude.{◌≡◌, ◌<◌, IfOk, OnOk, OnErr};
+ghost use Rattle.std.specs.Prelude.{◌≡◌, ◌<◌, false, IfOk, OnOk, OnErr};
 ghost use Rattle.slab_laws.specs.Sound.{IsGraphSound};
 ghost use Rattle.slab_laws.specs.View.{HasFace};
 ghost use Rattle.dcel_records.specs.RecordsView.{tables_of};
@@ -29,19 +29,43 @@ use std::marker::{Brand, Model};
 use std::sync::ledger::{Blank, Ledger};
 use work_steps::Steps;
 
+/// What questions found in the records of a layer, for those that follow. An edit makes them other records, so it forgets this first.
+#[derive(Drop)]
+pub(crate) struct Findings {
+    // What the records keep of the ranks of faces, of which an edit may change every one.
+    pub(crate) ranking: Ranking,
+    pub(crate) trapezoids: Trapezoids,
+    // Whether the trapezoidal map is of these records.
+    pub(crate) mapped: bool,
+    pub(crate) landmarks: Landmarks,
+    // Whether the landmarks lie in these records where they were found.
+    pub(crate) landed: bool,
+}
+
+impl Findings {
+    ghost use Rattle.face_ranks.specs.declared.order.Ranking.TheVariants.{Unknown};
+
+    /// Nothing is said of any records from here on. The room for it stays.
+    pub(crate) fn forget(&mut self)
+        ensures ranking { self.new.ranking ≡ Unknown }
+        ensures mapped { self.new.mapped ≡ false }
+        ensures landed { self.new.landed ≡ false }
+        ensures same { (self.new.trapezoids ≡ self.old.trapezoids) × (self.new.landmarks ≡ self.old.landmarks) }
+    {
+        self.ranking = Ranking::Unknown;
+        self.mapped = false;
+        self.landed = false;
+    }
+}
+
 /// The records of a layer and their history, which stand for it together.
+// The findings are a struct of their own, since contracts see its fields: of this type they see the records and the history alone, and
+// an edit has to know that nothing is found.
 #[derive(Drop)]
 pub(crate) struct LayerRecords {
     pub(crate) records: Records,
     pub(crate) history: History,
-    // What the records keep of the ranks of faces: an edit may change that of every face, so it forgets them first.
-    pub(crate) ranking: Ranking,
-    pub(crate) trapezoids: Trapezoids,
-    // Whether the trapezoidal map is of these records: an edit makes it one of others, so it clears this first.
-    pub(crate) mapped: bool,
-    pub(crate) landmarks: Landmarks,
-    // Whether the landmarks lie in these records where they were found: as above.
-    pub(crate) landed: bool,
+    pub(crate) findings: Findings,
 }
 
 impl Model for LayerRecords {
@@ -56,7 +80,7 @@ impl Model for LayerRecords {
 
     ghost use Rattle.dcel_records.specs.SoundMaps.{IsMapAtRest};
 
-    ghost invariant = { λ l. IsLayer l.records.graph l.history × (IsMapAtRest l.records × (AreRankedAs l.ranking l.records × (IsMappedWhere l.mapped l.records l.trapezoids × AreLandedWhere l.landed l.records l.landmarks))) };
+    ghost invariant = { λ l. IsLayer l.records.graph l.history × (IsMapAtRest l.records × (AreRankedAs l.findings.ranking l.records × (IsMappedWhere l.findings.mapped l.records l.findings.trapezoids × AreLandedWhere l.findings.landed l.records l.findings.landmarks))) };
 }
 
 // Where a point lies by the trapezoidal map, with a counter of its own.
@@ -148,12 +172,12 @@ impl LayerRecords {
         ensures spot { IfOk result (IsSpotOf self.old.graph self.old.faces p.now) }
         ensures same { self.new ≡ self.old }
     {
-        let mapped = self.mapped;
+        let mapped = self.findings.mapped;
         // Until it is built.
-        self.mapped = false;
-        build_unless(mapped, alloc, &self.records, &mut self.trapezoids)?;
-        self.mapped = true;
-        Ok(mapped_spot(&self.trapezoids, &self.records, p))
+        self.findings.mapped = false;
+        build_unless(mapped, alloc, &self.records, &mut self.findings.trapezoids)?;
+        self.findings.mapped = true;
+        Ok(mapped_spot(&self.findings.trapezoids, &self.records, p))
     }
 
     // Where a point lies by the walk from its landmark; the first question since the last edit finds where the landmarks lie.
@@ -161,12 +185,12 @@ impl LayerRecords {
         ensures spot { IfOk result (IsSpotOf self.old.graph self.old.faces p.now) }
         ensures same { self.new ≡ self.old }
     {
-        let landed = self.landed;
+        let landed = self.findings.landed;
         // Until they are found.
-        self.landed = false;
-        land_unless(landed, &self.records, &mut self.landmarks)?;
-        self.landed = true;
-        Ok(landed_spot(&self.landmarks, &self.records, p))
+        self.findings.landed = false;
+        land_unless(landed, &self.records, &mut self.findings.landmarks)?;
+        self.findings.landed = true;
+        Ok(landed_spot(&self.findings.landmarks, &self.records, p))
     }
 
     // Where a point lies, found by the strategy.
@@ -193,7 +217,7 @@ impl LayerRecords {
         ensures rank { result ≡ rank_in self.old.graph self.old.faces face }
         ensures same { self.new ≡ self.old }
     {
-        rank_of(&mut self.records, &mut self.ranking, face)
+        rank_of(&mut self.records, &mut self.findings.ranking, face)
     }
 
     // What is true of all: the history goes with the graph, and the map is sound.
@@ -202,7 +226,7 @@ impl LayerRecords {
         ensures sound { IsSound self.now.graph self.now.faces }
     {
         // Any use of a field tells what is kept.
-        let _ = &self.ranking;
+        let _ = &self.findings;
     }
 
     // What a point is told to lie in, which lies at a spot.

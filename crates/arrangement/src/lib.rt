@@ -15,11 +15,11 @@ mod presents;
 mod questions;
 mod spots;
 
-pub use arr_notes::{Answer, Change, Intent, Note, Observer, View};
+pub use arr_notes::{Answer, Change, Intent, Linked, Note, Observer, Unlinked, View};
 pub use arrangement::Arrangement;
 pub use curve_history::{History, HistoryError};
 pub use dcel_records::Records;
-pub use exact_plane::{Point, Segment};
+pub use exact_plane::{Line, Point, PointError, Segment, SegmentError};
 pub use limits::{Limits, MAX_CURVES, MAX_PIECES, MAX_PINS};
 pub use locate_naive::edge_dart;
 pub use no_memory::NoMemory;
@@ -31,5 +31,6 @@ pub use questions::{Counts, EdgeError};
 pub use segment_insert::InsertError;
 pub use segment_remove::{CutError, DropError};
 pub use slab_laws::{
-    Cell, CurveId, CycleId, CycleKind, DartId, Darts, FaceId, Faced, Layered, Strategy, VertexId,
+    Cell, CurveId, CycleId, CycleKind, DartId, Darts, FaceId, FaceLists, Faced, Layered, Piece,
+    Strategy, VertexId,
 };

@@ -1,7 +1,7 @@
 ghost use Rattle.std.specs.Prelude.{◌≡◌, ◌≢◌, ◌↔◌, Err, IfErr, IfOk, OnErr, OnOk, Some, false, is_ok};
 ghost use Rattle.curve_history.specs.Past.{curves_on};
 ghost use Rattle.observer_bus.specs.Calls.{attach_refusal, has_name, has_seat, seat_of, seats_left, with_seats, IsAttachAnswer, IsAttached};
-ghost use Rattle.observer_bus.specs.Rows.{newcomer};
+ghost use Rattle.observer_bus.specs.Rows.{newcomer, IsHandedBack};
 ghost use Rattle.told_steps.specs.ToldRuns.{seen};
 ghost use Rattle.arrangement.specs.Arranged.{arranged, map_in, IsWatched};
 ghost use Rattle.arrangement.specs.Edited.{IsSameLayer};
@@ -18,9 +18,9 @@ impl Arrangement {
     ///
     /// # Errors
     ///
-    /// The observer is handed back, with as many notes left as it had, and no seat or plan changes: `Taken` where a seated observer, or one
-    /// whose join is planned, has the name; then `Full(8)` where eight are there; `NoMemory` where there was none for the snapshot, or the
-    /// observer found none.
+    /// The observer is handed back, and no seat or plan changes: `Taken` where a seated observer, or one whose join is planned, has the name;
+    /// then `Full(8)` where eight are there; `NoMemory` where there was none for the snapshot, or the observer found none. It is as it was,
+    /// unless it was told the snapshot and found no memory itself; even then it has as many notes left.
     pub fn attach(
         &mut self,
         name: u32,
@@ -30,7 +30,7 @@ impl Arrangement {
         requires when { when ≢ Some 0 }
         ensures refused { IsAttachAnswer (attach_refusal name (arranged Observer-dyn self.old).bus.seats) result }
         ensures same { IfErr result (λ e. e.1 ≢ AttachError.NoMemory → e.0 ≡ observer) }
-        ensures back { IfErr result (λ e. (tells e.0 ≡ tells observer) × (left e.0 ≡ left observer)) }
+        ensures back { IfErr result (λ e. IsHandedBack Observer-dyn observer e.0) }
         ensures err { OnErr result ((arranged Observer-dyn self.new).bus ≡ (arranged Observer-dyn self.old).bus) }
         ensures attached { OnOk result (IsAttached (seen (map_in (arranged Observer-dyn self.old)) (curves_on (arranged Observer-dyn self.old).past))
             (newcomer Observer-dyn name when observer) (arranged Observer-dyn self.old).bus (arranged Observer-dyn self.new).bus) }

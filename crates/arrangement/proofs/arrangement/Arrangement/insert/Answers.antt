@@ -1,4 +1,4 @@
-use Rattle.std.proofs.Common.{◌≡◌, refl, arith}
+use Rattle.std.proofs.Common.{◌≡◌, ◌∷◌, [], refl, arith}
 use Rattle.edit_steps.specs.Edits.{Insert}
 use Rattle.arrangement.proofs.Edits.{edited_by, as_before}
 use Rattle.arrangement.proofs.arrangement.Arrangement.insert.Goals as goal
@@ -20,7 +20,7 @@ insert_counted-requires g c = record {
 pub returns : goal.returns
 returns g c = rw (← c.self.view_is) (record {
   number = c.insert_counted.ensures.number;
-  edit = edited_by _ _ c.insert_counted.result _ (λ n. Insert n c.args.segment) c.self.invariant.0 c.insert_counted.ensures.number c.insert_counted.ensures.edit c.insert_counted.ensures.told;
+  edit = edited_by _ _ c.insert_counted.result _ (λ n. Insert n (c.args.segment ∷ [])) c.self.invariant.0 c.insert_counted.ensures.number c.insert_counted.ensures.edit c.insert_counted.ensures.told;
   refused = c.insert_counted.ensures.refused;
   as_before = as_before _ _ c.insert_counted.result c.insert_counted.ensures.graph c.insert_counted.ensures.tables c.insert_counted.ensures.same_layer c.insert_counted.ensures.same_curves c.insert_counted.ensures.untold;
   limits = refl;

@@ -22,8 +22,8 @@ invariant_of-self c =
         (
           e.known,
           (
-            λ m. subst (λ (v : View). IsBuiltFor v c.self.inside.trapezoids) (sym graph) (kept.1.1.1.0 m),
-            λ l. subst (λ (v : View). AreLandmarksOf c.self.inside.landmarks v (tables_of new)) (sym graph) (subst (λ (f : Faces). AreLandmarksOf c.self.inside.landmarks old.graph f) (sym tables) (kept.1.1.1.1 l)),
+            λ m. subst (λ (v : View). IsBuiltFor v c.self.inside.findings.trapezoids) (sym graph) (kept.1.1.1.0 m),
+            λ l. subst (λ (v : View). AreLandmarksOf c.self.inside.findings.landmarks v (tables_of new)) (sym graph) (subst (λ (f : Faces). AreLandmarksOf c.self.inside.findings.landmarks old.graph f) (sym tables) (kept.1.1.1.1 l)),
           ),
         ),
       ),
