@@ -1,2 +1,4 @@
 pub mod Statuses
 pub mod Overlays
+pub mod Intervals
+pub mod IntervalCells

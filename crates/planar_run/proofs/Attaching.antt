@@ -1,11 +1,14 @@
 -- What attaching an observer makes of a world, and when it is refused.
-use Rattle.std.proofs.Common.{◌≡◌, ◌≢◌, ◌<◌, ◌≤◌, ℕ, ◌-◌, ◌==◌, ◌||◌, ◌&&◌, Bool, true, false, not, nat_lt, suc, zero, List, [], ◌∷◌, ◌++◌, Option, Some, None, length, map, option_map, get_or, set, refl, sym, ap, ◌∙◌, arith}
+use Rattle.std.proofs.Common.{◌≡◌, ◌≢◌, ◌<◌, ◌≤◌, ℕ, ◌-◌, ◌==◌, ◌||◌, ◌&&◌, Bool, true, false, not, nat_lt, suc, zero, List, [], ◌∷◌, ◌++◌, Option, Some, None, length, map, option_map, get_or, set, refl, sym, ap, ◌∙◌, inl, inr, arith}
 use Rattle.std.specs.Prelude.{is_some, if◌then◌else◌}
+use Rattle.std.specs.declared.alloc.Global.{Global}
+use Rattle.std.specs.declared.dyn_box.DynBox.{DynBox}
 use Rattle.std.proofs.lemmas.Bool.Decides.{nat_tests}
 use Rattle.std.proofs.lemmas.List.{get_or-map, length-map, length-set, map-set, set-get_or}
 use Rattle.arr_notes.specs.CurvedView.{CurvedView}
 use Rattle.slab_laws.specs.declared.names.Strategy.{Strategy}
 use Rattle.observer_bus.specs.Calls.{attach_refusal as bus_refusal, attach_said, has_name, IsAttached}
+use Rattle.observer_bus.specs.Rows.{Meanings, meaning, IsHandedBack}
 use Rattle.observer_bus.specs.Seats.{SeatRow}
 use Rattle.observer_bus.specs.declared.errors.AttachError.{AttachError}
 use Rattle.observer_bus.specs.declared.errors.AttachError.TheVariants.{Taken, Full, NoMemory}
@@ -70,6 +73,11 @@ within_places n l one f = grind (arith, nat_tests)
 not_above : (h b : Bool) → h ≡ not b → h ≡ true → b ≡ false
 not_above h true e t = cc
 not_above h false e t = refl
+
+-- one that comes back tells a view or not, and counts, as it did
+pub handed_alike : {X : Type 0} {F : X → Type 0} (m : Meanings X F) (given back : DynBox X Global F) → IsHandedBack m given back → ((meaning m back).tells back.value ≡ (meaning m given).tells given.value) × ((meaning m back).left back.value ≡ (meaning m given).left given.value)
+handed_alike {X} {F} m given back (inl q) = (ap (λ (b : DynBox X Global F). (meaning m b).tells b.value) q, ap (λ (b : DynBox X Global F). (meaning m b).left b.value) q)
+handed_alike m given back (inr r) = (r.tells, r.left)
 
 -- what a script knows of one that waits
 pub same_waiting : (v w : Waiting) → (v.tells ≡ w.tells) × (v.left ≡ w.left) → v ≡ w

@@ -1,5 +1,5 @@
 -- Rounds of a line's edit in which nobody is lost.
-use Rattle.std.proofs.Common.{ℕ, ◌*◌, List, [], length, Result, Ok, Err}
+use Rattle.std.proofs.Common.{ℕ, ◌*◌, List, [], ◌∷◌, length, Result, Ok, Err}
 use Rattle.std.proofs.Math.ListN.{replicate}
 use Rattle.std.proofs.lemmas.List.{length-replicate}
 use Rattle.exact_plane.specs.Segment.{Segment}
@@ -20,7 +20,7 @@ of_edit edit world =
 
 of_segment : (s : Result Segment SegmentError) (world : World) → (losses : List (List ℕ)) × AreLossesOfSegment losses s world
 of_segment (Err error) world = ([], tt)
-of_segment (Ok s) world = of_edit (Insert world.layer.next s) world
+of_segment (Ok s) world = of_edit (Insert world.layer.next (s ∷ [])) world
 
 -- whatever the line says
 pub no_losses : (world : World) (said : Result Command LineError) → (losses : List (List ℕ)) × AreLosses world losses said

@@ -35,8 +35,8 @@ not_edited ok e r {w = w} {after = after} {text = text} h t s =
     ([], λ none. cc, g.0, g.1)
 
 -- a segment that is refused
-pub not_inserted : (s : Segment) (r : Refusal) {w after : World} {text : List ℕ} → Some r ≡ refusal_of w (Insert w.layer.next s) → text ≡ line_of (codes "refused " ++ decimal (refusal_number r)) → after ≡ w → IsDrawn (Ok s) w text after
-not_inserted s r {w = w} h t e = not_edited (codes "ok " ++ decimal w.layer.next) (Insert w.layer.next s) r h t e
+pub not_inserted : (s : Segment) (r : Refusal) {w after : World} {text : List ℕ} → Some r ≡ refusal_of w (Insert w.layer.next (s ∷ [])) → text ≡ line_of (codes "refused " ++ decimal (refusal_number r)) → after ≡ w → IsDrawn (Ok s) w text after
+not_inserted s r {w = w} h t e = not_edited (codes "ok " ++ decimal w.layer.next) (Insert w.layer.next (s ∷ [])) r h t e
 
 -- what is no segment
 pub not_drawn : (e : SegmentError) {r : Result Segment SegmentError} {text : List ℕ} (w : World) → Err e ≡ r → text ≡ line_of (codes "refused " ++ decimal (segment_refusal e)) → IsDrawn r w text w

@@ -96,7 +96,7 @@ segment_refusal Equal = 7
 -- a segment becomes the curve of the next number
 abbrev pub drawing : Result Segment SegmentError → List (List ℕ) → World → Answer
 drawing (Err error) losses world = refused (segment_refusal error) world
-drawing (Ok s) losses world = edited (codes "ok " ++ decimal world.layer.next) (Insert world.layer.next s) losses world
+drawing (Ok s) losses world = edited (codes "ok " ++ decimal world.layer.next) (Insert world.layer.next (s ∷ [])) losses world
 
 -- vertices, edges, faces, inner cycles, isolated vertices, and the curves that have a name
 abbrev pub counted : Subdivision → ℕ → List ℕ
@@ -133,7 +133,7 @@ AreLossesOfEdit losses edit world = refusal_of world edit ≡ None → AreRounds
 
 abbrev pub AreLossesOfSegment : List (List ℕ) → Result Segment SegmentError → World → Type 0
 AreLossesOfSegment losses (Err error) world = ⊤
-AreLossesOfSegment losses (Ok s) world = AreLossesOfEdit losses (Insert world.layer.next s) world
+AreLossesOfSegment losses (Ok s) world = AreLossesOfEdit losses (Insert world.layer.next (s ∷ [])) world
 
 -- the losses are of just the rounds that the line's edit has, where it isn't refused (this project)
 abbrev pub AreLosses : World → List (List ℕ) → Result Command LineError → Type 0
@@ -155,7 +155,7 @@ IsDrawn s world text after =
 -- a segment may need memory where it isn't refused
 abbrev pub MayDraw : Result Segment SegmentError → World → Type 0
 MayDraw (Err error) world = ⊥
-MayDraw (Ok s) world = refusal_of world (Insert world.layer.next s) ≡ None
+MayDraw (Ok s) world = refusal_of world (Insert world.layer.next (s ∷ [])) ≡ None
 
 -- the line may need memory: it isn't refused, and what it says needs some
 abbrev pub MayTake : World → Result Command LineError → Type 0

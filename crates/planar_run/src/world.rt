@@ -76,8 +76,8 @@ impl World {
     pub fn insert(&mut self, segment: Segment) -> Result<CurveId, InsertError>
         requires kept { IsKeptWorld Observer-dyn self.old }
         ensures number { IfOk result (λ c. c.0 ≡ (world_row Observer-dyn self.old).layer.next) }
-        ensures done { OnOk result (IsDone (Insert (world_row Observer-dyn self.old).layer.next segment) (world_row Observer-dyn self.old) (world_row Observer-dyn self.new) (arranged_row Observer-dyn self.new).bus.went) }
-        ensures refused { IsAnswerFor insert_said (refusal_of (world_row Observer-dyn self.old) (Insert (world_row Observer-dyn self.old).layer.next segment)) result }
+        ensures done { OnOk result (IsDone (Insert (world_row Observer-dyn self.old).layer.next (segment ∷ [])) (world_row Observer-dyn self.old) (world_row Observer-dyn self.new) (arranged_row Observer-dyn self.new).bus.went) }
+        ensures refused { IsAnswerFor insert_said (refusal_of (world_row Observer-dyn self.old) (Insert (world_row Observer-dyn self.old).layer.next (segment ∷ []))) result }
         ensures err { OnErr result (world_row Observer-dyn self.new ≡ world_row Observer-dyn self.old) }
         ensures kept { IsKeptWorld Observer-dyn self.new }
     {

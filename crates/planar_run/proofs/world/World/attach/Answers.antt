@@ -1,5 +1,5 @@
 use Rattle.std.proofs.Common.{sym, refl, ◌∙◌}
-use Rattle.planar_run.proofs.Attaching.{back_kept, error_refused, gone_refused, handed_back, newcomer_kept, newly_attached, nobody_taken, not_refused, other_refused, placed_refused, same_waiting, still_within, unknown_refused, within}
+use Rattle.planar_run.proofs.Attaching.{back_kept, error_refused, gone_refused, handed_alike, handed_back, newcomer_kept, newly_attached, nobody_taken, not_refused, other_refused, placed_refused, same_waiting, still_within, unknown_refused, within}
 use Rattle.planar_run.proofs.world.World.attach.Goals as goal
 
 pub returns-then-not-has : goal.returns-then-not-has
@@ -55,6 +55,6 @@ pub returns-in-Err : goal.returns-in-Err
 returns-in-Err g c = record {
   refused = c.refusal_of.ensures ∙ error_refused _ _ _ _ c.args.self.now.strategy c.args.self.now.is_blue _ c.requires.kept c.requires.number _ c.has.ensures c.if-not-has.false (sym c.is_attached.ensures ∙ c.if-is_attached.false) _ (sym c.take_waiting.ensures.value ∙ c.in-Some.is) c.in-Err.error c.in-Err.ensures.refused;
   attached = tt;
-  err = handed_back _ _ _ _ c.args.self.now.strategy c.args.self.now.is_blue _ c.requires.kept c.requires.number _ c.has.ensures c.if-not-has.false (sym c.is_attached.ensures ∙ c.if-is_attached.false) _ (sym c.take_waiting.ensures.value ∙ c.in-Some.is) c.in-Err.observer _ _ _ (same_waiting _ _ c.in-Err.ensures.back) c.in-Err.ensures.err c.attach.ensures.layer c.take_waiting.ensures.after c.put_waiting.ensures;
+  err = handed_back _ _ _ _ c.args.self.now.strategy c.args.self.now.is_blue _ c.requires.kept c.requires.number _ c.has.ensures c.if-not-has.false (sym c.is_attached.ensures ∙ c.if-is_attached.false) _ (sym c.take_waiting.ensures.value ∙ c.in-Some.is) c.in-Err.observer _ _ _ (same_waiting _ _ (handed_alike (goal.Observer-dyn g) _ _ c.in-Err.ensures.back)) c.in-Err.ensures.err c.attach.ensures.layer c.take_waiting.ensures.after c.put_waiting.ensures;
   kept = back_kept _ _ _ _ c.args.self.now.strategy c.args.self.now.is_blue _ c.requires.kept c.requires.number _ c.has.ensures c.if-not-has.false (sym c.is_attached.ensures ∙ c.if-is_attached.false) _ (sym c.take_waiting.ensures.value ∙ c.in-Some.is) _ c.in-Err.ensures.err c.attach.ensures.layer c.attach.ensures.watched;
 }
