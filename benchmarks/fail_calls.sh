@@ -13,7 +13,7 @@
 #   line that takes none, and under no refused one; an allocation that is refused alone is missed at one line at most. (The program
 #   runs once. At each allocation it is split: one copy goes on with that one refused, one with all from there on);
 # - the worked rows with the Nth read, and the Nth write, failing: status 3 and 4, and the replies are a front of the right ones;
-#   and with every read, and every write, moving one byte: nothing changes.
+#   and with every read, and every write, moving one byte, or interrupted twice by a signal before it moves any: nothing changes.
 # The exit status is 1 where a run ends otherwise.
 set -eu
 cd "$(dirname "$0")/.."

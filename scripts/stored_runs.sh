@@ -103,7 +103,10 @@ for case in crates/planar/cases/*.script; do
     done
 done
 
-check 'an empty script' 0 '' ''
+for words in '' --locate=naive --locate=walk --locate=landmarks --locate=trapezoid; do
+    # shellcheck disable=SC2086
+    check "an empty script $words" 0 '' '' $words
+done
 check 'one line' 0 $'show\n' $'arrangement 0 0 1\nf 0\nend\n'
 check 'a last line without byte 10' 0 $'pin 0 0 1\nlocate 0 0 2' $'ok\nvertex 0 0 1\n'
 check 'a byte that no line has' 0 $'pin\xc8\npin\t0 0 1\n# a\tb\ncount\r\n' $'refused 6\nrefused 6\nrefused 6\nrefused 6\n'
@@ -112,9 +115,10 @@ check 'a byte that no line has' 0 $'pin\xc8\npin\t0 0 1\n# a\tb\ncount\r\n' $'re
 check 'one made segment' 0 $'show\n' $'counts 2 1 1 1 0 1\n' --make 1
 check 'two made segments' 0 $'show\n' $'counts 4 2 1 2 0 2\n' --make=2
 check 'sixteen made segments' 0 '' $'counts 28 14 1 14 0 14\n' --make 16 --seed=7
-for words in '--make 120 --locate=naive' '--locate walk --make=120' '--make=120 --seed 1 --locate=landmarks' '--seed=1 --make=120 --locate=trapezoid'; do
+check 'a hundred and twenty made segments' 0 '' $'counts 210 105 1 105 0 105\n' --make 120
+for words in '--make 1200' '--make 1200 --locate=naive' '--locate walk --make=1200' '--make=1200 --seed 1 --locate=landmarks' '--seed=1 --make=1200 --locate=trapezoid'; do
     # shellcheck disable=SC2086
-    check "a script made by $words" 0 '' $'counts 210 105 1 105 0 105\n' $words
+    check "a script made by $words" 0 '' $'counts 2318 1486 15 846 0 1050\n' $words
 done
 check 'seven made segments of the largest seed' 0 '' $'counts 14 7 1 7 0 7\n' --make=7 --seed=4294967295
 check 'thirty made segments' 0 '' $'counts 54 27 1 27 0 27\n' --make=30 --seed 3

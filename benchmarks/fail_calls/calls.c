@@ -1,6 +1,7 @@
 /* A library that stands before the C library, so that calls of the system fail or do less than asked.
  *
  * FAIL_READ, FAIL_WRITE: the number of the call that fails. SHORT_READS, SHORT_WRITES: every call moves one byte.
+ * INTERRUPTED_READS, INTERRUPTED_WRITES: of three calls a signal interrupts the first two.
  * EACH_ALLOCATION: the path of a script, which the program is given. At each allocation two copies of the process are made: in
  * one this allocation is refused, in the other it and all that follow. How each ends, and what it writes, is told on file 9, once
  * for each outcome: a line `KIND NUMBER STATUS LENGTH`, then the bytes; at last `runs RUNS ALLOCATIONS`. With TELL_CALLS file 9 is
@@ -122,6 +123,10 @@ ssize_t read(int file, void *bytes, size_t count)
         errno = EIO;
         return -1;
     }
+    if (told("INTERRUPTED_READS") && reads % 3) {
+        errno = EINTR;
+        return -1;
+    }
     if (state != PLAIN && file == 0) {
         if (count > script_length - script_read)
             count = script_length - script_read;
@@ -136,6 +141,10 @@ ssize_t write(int file, const void *bytes, size_t count)
 {
     if (++writes == told("FAIL_WRITE")) {
         errno = EIO;
+        return -1;
+    }
+    if (told("INTERRUPTED_WRITES") && writes % 3) {
+        errno = EINTR;
         return -1;
     }
     if (state != PLAIN && file == 1) {

@@ -131,7 +131,7 @@ def judge_made(count, tally):
 
 
 def judge_faults(name, script):
-    """Each read, and each write, failing; and every one moving one byte."""
+    """Each read, and each write, failing; and every one moving one byte, or interrupted twice before it moves any."""
     right, status, record = run(script, [])
     expect(status == 0, name, 'ends with', status)
     _, reads, writes = map(int, record.split())
@@ -139,7 +139,7 @@ def judge_faults(name, script):
         for call in range(1, calls + 1):
             output, status, _ = run(script, [], **{kind: call})
             expect(status == fault and right.startswith(output), name, kind, call, 'ends with', status)
-    for kind in 'SHORT_READS', 'SHORT_WRITES':
+    for kind in 'SHORT_READS', 'SHORT_WRITES', 'INTERRUPTED_READS', 'INTERRUPTED_WRITES':
         expect(run(script, [], **{kind: 1})[:2] == (right, 0), name, kind)
     return reads + writes
 

@@ -1,14 +1,13 @@
 -- Faces and isolated vertices that are there after single writes.
 use Rattle.std.proofs.Common.{◌≡◌, ◌≢◌, ℕ, ◌⊎◌, inl, inr, false, [], ◌∷◌, is_some, IsSome, Contains, arith, refl, sym, ap, subst, ◌∙◌}
 use Rattle.std.proofs.lemmas.Bool.{cases_eq, false≢true}
-use Rattle.exact_plane.specs.Point.{Point}
 use Rattle.slab_laws.specs.declared.names.DartId.{DartId}
 use Rattle.slab_laws.specs.declared.names.FaceId.{FaceId}
 use Rattle.slab_laws.specs.declared.names.VertexId.{VertexId}
 use Rattle.slab_laws.specs.Tables.{row_at, names, NamesAscend}
 use Rattle.slab_laws.specs.View.{View, Faces, HasVertex, HasDart, HasFace, HasBareFace, IsOutOf, vertex_id, face_id}
 use Rattle.arr_notes.specs.FaceWriters.{put_name, bare_in, not_bare, with_face}
-use Rattle.arr_notes.specs.ViewChanges.{no_rows, with_vertex}
+use Rattle.arr_notes.specs.ViewChanges.{no_rows}
 use Rattle.arr_notes.proofs.RowLaws.{ascend-put, ascend-del}
 use Rattle.arr_notes.proofs.VertexReads.{put_hit, put_miss, del_hit, del_miss}
 use Rattle.face_steps.proofs.FaceRows.{put_name_has}
@@ -53,20 +52,6 @@ module _ (h k : RecordsView) where
     ascend = subst (λ (f : Faces). NamesAscend (names f.bare)) (sym t) l.ascend;
     darts = ap (λ (x : View). x.darts) g ∙ l.darts;
   }
-
-  module _ (v : VertexId) (p : Point) (g : k.graph ≡ with_vertex h.graph v p) where
-    pub vertex_there : HasVertex k.graph v
-    vertex_there = subst (λ (w : View). HasVertex w v) (sym g) (ap is_some (put_hit v.0 (record { point = p; pinned = false }) h.graph.vertices))
-
-    pub lone_added : k.faces ≡ h.faces → IsLone h → IsLone k
-    lone_added f l = record {
-      bare = λ w b. elim (cases_eq w.0 v.0) [
-        | inl q ↦ subst (HasVertex k.graph) (ap vertex_id (sym q)) vertex_there
-        | inr ne ↦ subst (λ (x : View). HasVertex x w) (sym g) (ap is_some (put_miss v.0 (record { point = p; pinned = false }) h.graph.vertices w.0 ne) ∙ l.bare w (subst (λ (x : Faces). HasBareFace x w) (λ i. (f i).tables) b))
-      ];
-      ascend = subst (λ (x : Faces). NamesAscend (names x.bare)) (sym (λ i. (f i).tables)) l.ascend;
-      darts = ap (λ (x : View). x.darts) g ∙ l.darts;
-    }
 
   module _ (v : VertexId) (a : FaceId) (t : k.faces.tables ≡ bare_in v a h.faces.tables) where
     pub bare_there : HasBareFace k.faces.tables v

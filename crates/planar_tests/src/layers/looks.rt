@@ -25,7 +25,8 @@ const OUTLINES: [Ends; 8] = [
     (100, 400, 100, 0),
 ];
 
-fn draw(layer: &mut Arrangement, ends: Ends) -> Result<(), Fail>
+/// Inserts a segment.
+pub fn draw(layer: &mut Arrangement, ends: Ends) -> Result<(), Fail>
     requires watched { IsWatched (arranged Observer-dyn layer.old) }
     ensures watched { IsWatched (arranged Observer-dyn layer.new) }
 {

@@ -1,5 +1,5 @@
-// The looks of a zone. Counters can't be read, so a test shows by what the clause on looks bounds them: the boundary of each visited
-// face, the degrees of the vertices that are met, and the edges that are met.
+// What a zone meets, and its looks. Counters can't be read, so a test shows by what the clause on looks bounds them: the boundary of each
+// visited face, the degrees of the vertices that are met, and the edges that are met.
 
 ghost use Rattle.std.specs.Prelude.{◌≡◌, ◌<◌};
 ghost use Rattle.arrangement.specs.Arranged.{arranged, IsWatched};
@@ -7,21 +7,21 @@ ghost use Rattle.dcel_records.specs.RecordsView.{tables_of};
 ghost use Rattle.dcel_records.specs.SoundMaps.{IsSoundMap};
 ghost use Rattle.face_location.specs.Spots.{IsSpotOf};
 
-use crate::layers::edits::{Under, layer_under};
-use crate::layers::looks::{darts_beside, draw_state};
+use crate::layers::edits::{Under, at, layer_under};
+use crate::layers::looks::{darts_beside, draw, draw_state};
 use crate::shapes::{Ends, segment};
 use arrangement::Arrangement;
 use dcel_records::{Records, Spot};
 use exact_plane::Segment;
 use locate_naive::locate;
 use no_memory::NoMemory;
-use slab_laws::{FaceId, FaceLists};
+use slab_laws::{DartId, FaceId, FaceLists};
 use std::alloc::Global;
 use std::marker::Brand;
 use std::sync::ledger::{Blank, Ledger};
 use std::test::Fail;
 use work_steps::Steps;
-use zone_walk::{ZonePlan, zone};
+use zone_walk::{Meeting, ZonePlan, zone};
 
 // The zone, with a counter of the test's own.
 fn zone_counted<L: Ledger>(
@@ -103,6 +103,76 @@ fn are_zones_free(alloc: Global, records: &Records) -> Result<bool, Fail>
         }
     }
     Ok(is_plane_bare(records))
+}
+
+// One segment lies along a part of the other, so the abscissa has three edges.
+fn draw_overlapping(layer: &mut Arrangement) -> Result<(), Fail>
+    requires watched { IsWatched (arranged Observer-dyn layer.old) }
+    ensures watched { IsWatched (arranged Observer-dyn layer.new) }
+{
+    draw(layer, (2, 0, 4, 0))?;
+    draw(layer, (0, 0, 6, 0))
+}
+
+// Whether the meetings are at these places of the abscissa.
+fn are_met_at(meetings: &[Meeting], wanted: [i128; 4]) -> Result<bool, Fail> {
+    let [first, second, third, last] = wanted;
+    let points = [at(first, 0)?, at(second, 0)?, at(third, 0)?, at(last, 0)?];
+    Ok(
+        meetings.len() == 4
+            && meetings
+                .iter()
+                .zip(points.iter())
+                .all(|(meeting, point)| meeting.point == *point),
+    )
+}
+
+// Whether the dart goes from one place of the abscissa to another.
+fn is_dart_between(records: &Records, dart: DartId, from: i128, to: i128) -> Result<bool, Fail> {
+    let ends = (
+        records.vertex_at(&at(from, 0)?),
+        records.vertex_at(&at(to, 0)?),
+    );
+    match (records.ends_of(dart), ends) {
+        (Some(found), (Some(from), Some(to))) => Ok(found == (from, to)),
+        _ => Ok(false),
+    }
+}
+
+const EDGES: [(i128, i128); 3] = [(0, 2), (2, 4), (4, 6)];
+
+// Whether the darts are those of the three edges, each from its lower end.
+fn are_edges(records: &Records, darts: &[DartId]) -> Result<bool, Fail> {
+    for (dart, (from, to)) in darts.iter().zip(EDGES.iter()) {
+        if !is_dart_between(records, *dart, *from, *to)? {
+            return Ok(false);
+        }
+    }
+    Ok(darts.len() == EDGES.len())
+}
+
+// The zone begins and ends inside edges, and passes two vertices.
+fn is_overlap_told(alloc: Global, layer: &mut Arrangement) -> Result<bool, Fail>
+    requires watched { IsWatched (arranged Observer-dyn layer.old) }
+{
+    draw_overlapping(layer)?;
+    let records = layer.records();
+    let segment = segment((1, 0, 5, 0))?;
+    let start = locate(records, &segment.lower());
+    let plan = zone_counted::<Brand>(Blank::new(1), alloc, records, &segment, start)?;
+    Ok(
+        are_met_at(plan.vertices.as_slice(), [1, 2, 4, 5])?
+            && are_edges(records, plan.overlapped.as_slice())?,
+    )
+}
+
+#[test]
+fn a_zone_tells_the_edges_that_it_overlaps(rt: HostRuntime) -> Result<(), Fail> {
+    let mut layer = layer_under(rt.alloc(), Under::Script)?;
+    let told = is_overlap_told(rt.alloc(), &mut layer);
+    drop(layer);
+    assert!(rt; told?);
+    Ok(())
 }
 
 #[test]

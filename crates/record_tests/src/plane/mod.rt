@@ -2,6 +2,7 @@
 
 mod cases;
 mod errors;
+mod meetings;
 mod slopes;
 mod spans;
 mod sweeps;

@@ -213,8 +213,8 @@ pub(crate) fn vertex_more(
         vertices: 1,
         ..NO_ROOM
     })?;
-    let vertex = records.add_vertex(at);
-    records.set_bare(vertex, face);
+    let vertex = records.add_vertex(at, face);
+    records.face_laws();
     Ok(vertex)
 }
 
