@@ -2,4 +2,4 @@
 use Rattle.planar_tests.proofs.layers.zones.is_overlap_told.Given as goal
 
 abbrev pub ghosts-zone_counted : goal.ghosts-zone_counted
-ghosts-zone_counted a = record { name = a.blank.name; parts = a.blank.parts }
+ghosts-zone_counted g a = record { name = a.blank.name; parts = a.blank.parts }
