@@ -11,6 +11,7 @@ pub mod Lowest
 pub mod Meetings
 pub mod Orders
 pub mod Parts
+pub mod PathLaws
 pub mod PlaceLowest
 pub mod Places
 pub mod PlaneLaws

@@ -3,6 +3,8 @@ pub mod Height
 pub mod Line
 pub mod Meet
 pub mod MeetOf
+pub mod Path
+pub mod PathSides
 pub mod Place
 pub mod PlaceParts
 pub mod Plane

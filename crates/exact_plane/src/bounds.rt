@@ -26,3 +26,6 @@ pub const HEIGHT_LIMIT: u128 = 1 << 127;
 
 /// The turn of two directions stays below it in size.
 pub const TURN_LIMIT: u128 = 1 << 51;
+
+/// A path has at most so many sides.
+pub const MAX_SIDES: usize = 8;

@@ -45,7 +45,7 @@ impl Model for Segment {
     ghost inverse = { λ e. record { lower_x = e.lower.x; lower_y = e.lower.y; upper_x = e.upper.x; upper_y = e.upper.y } };
 }
 
-fn within(number: i64) -> bool
+pub(crate) fn within(number: i64) -> bool
     ensures { result ≡ is_coordinate number }
 {
     number.unsigned_abs() as u128 <= MAX_COORDINATE

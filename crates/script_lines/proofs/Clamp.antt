@@ -1,8 +1,9 @@
--- Numbers make the same points, the same curve's or observer's number or the same segment, whether or not they are kept at the limit.
-use Rattle.std.proofs.Common.{◌≡◌, ℕ, zero, suc, ◌<◌, Bool, true, false, cond, leb, ltb, ℤ, pos, negsuc, List, [], ◌∷◌, None, Ok, Err, refl, sym, ap, ◌∙◌, arith}
-use Rattle.std.specs.Prelude.{map, take, drop, unsigned_abs, neg_ℤ}
+-- Numbers make the same points, the same curve's or observer's number or the same segment or path, whether or not they are kept at the limit.
+use Rattle.std.proofs.Common.{◌≡◌, ℕ, zero, suc, ◌<◌, Bool, true, false, cond, leb, ltb, ℤ, pos, negsuc, List, [], ◌∷◌, None, Ok, Err, refl, sym, ap, ap₂, ◌∙◌, arith}
+use Rattle.std.specs.Prelude.{◌&&◌, map, take, drop, unsigned_abs, neg_ℤ}
+use Rattle.std.specs.List.{list_all}
 use Rattle.std.proofs.Math.Bool.{and-false}
-use Rattle.std.proofs.lemmas.Bool.{leb-true, le-leb, leb-false, lt-leb}
+use Rattle.std.proofs.lemmas.Bool.{and_parts, leb-true, le-leb, leb-false, lt-leb}
 use Rattle.std.proofs.lemmas.List.{take-map, drop-map}
 use Rattle.std.specs.Ordering.{int_eq}
 use Rattle.std.specs.Result.{result_ok}
@@ -15,7 +16,7 @@ use Rattle.exact_plane.proofs.Lowest.{Sizes, sizes, from_sizes}
 use Rattle.exact_plane.proofs.Wholes.{are_coordinates-is}
 use Rattle.script_lines.specs.declared.number.TheConstants.{NUMBER_LIMIT}
 use Rattle.script_lines.specs.Number.{limited_size, limited_number}
-use Rattle.script_lines.specs.Command.{point_from, pair_from, triple_from, number_to, curve_from, observer_from, observer_at_from, segment_from}
+use Rattle.script_lines.specs.Command.{point_from, pair_from, triple_from, number_to, curve_from, observer_from, observer_at_from, segment_from, path_from}
 use Rattle.integers.proofs.Tests.{not_true}
 
 size-neg : (n : ℕ) → unsigned_abs (neg_ℤ (pos n)) ≡ n
@@ -140,3 +141,22 @@ same_segment x1 y1 x2 y2 false e =
 pub segment_from-limited_number : (zs : List ℤ) → segment_from (map limited_number zs) ≡ segment_from zs
 segment_from-limited_number (x1 ∷ y1 ∷ x2 ∷ y2 ∷ []) = same_segment x1 y1 x2 y2 (are_coordinates x1 y1 x2 y2) refl
 segment_from-limited_number other = refl
+
+all-limited_number : (zs : List ℤ) → list_all is_coordinate (map limited_number zs) ≡ list_all is_coordinate zs
+all-limited_number [] = refl
+all-limited_number (z ∷ zs) = ap₂ ◌&&◌ (is_coordinate-limited_number z) (all-limited_number zs)
+
+same-limited_number : (zs : List ℤ) → list_all is_coordinate zs ≡ true → map limited_number zs ≡ zs
+same-limited_number [] e = refl
+same-limited_number (z ∷ zs) e =
+    let parts = and_parts (is_coordinate z) (list_all is_coordinate zs) e in
+    let within = leb-true (unsigned_abs z) MAX_COORDINATE parts.0 in
+    ap₂ (λ (y : ℤ) (ys : List ℤ). y ∷ ys) (small-limited_number z (omega (arith, within))) (same-limited_number zs parts.1)
+
+-- the path of numbers that were kept at the limit
+pub path_from-limited_number : (zs : List ℤ) → path_from (map limited_number zs) ≡ path_from zs
+path_from-limited_number zs = by (list_all is_coordinate zs) refl
+  where
+    by : (t : Bool) → list_all is_coordinate zs ≡ t → path_from (map limited_number zs) ≡ path_from zs
+    by true e = ap path_from (same-limited_number zs e)
+    by false e = rw (all-limited_number zs, e) refl

@@ -1,19 +1,21 @@
 -- The table of commands: its names, and what its forms make.
 use Rattle.std.proofs.Common.{◌≡◌, ℕ, Bool, true, false, ℤ, cond, List, [], ◌∷◌, Option, Some, None, refl, sym, subst}
 use Rattle.std.specs.Prelude.{◌≢◌, map, option_map, bytes_eq, find}
+use Rattle.std.specs.List.{list_all}
 use Rattle.std.proofs.lemmas.Slice.Eq.{bytes_eq-Decides}
-use Rattle.exact_plane.specs.Segment.{are_coordinates}
+use Rattle.exact_plane.specs.Segment.{is_coordinate, are_coordinates}
 use Rattle.script_lines.specs.declared.command.Command.{Command}
-use Rattle.script_lines.specs.declared.command.Command.TheVariants.{Nothing, Segment, Drop, Cut, Pin, Unpin, Split, Merge, Locate, Edge, Curve, Attach, Leave, Mirror}
+use Rattle.script_lines.specs.declared.command.Command.TheVariants.{Nothing, Segment, Path, Drop, Cut, Pin, Unpin, Split, Merge, Locate, Edge, Curve, Attach, Leave, Mirror}
 use Rattle.script_lines.specs.declared.name.Name.{Name}
 use Rattle.script_lines.specs.declared.name.Name.TheVariants as name
 use Rattle.script_lines.specs.Form.{Form, form_map}
-use Rattle.script_lines.specs.Command.{segment_from, point_form, pair_form, triple_form, curve_form, observer_form, observer_when_forms, row_of, names, name_of, is_comment}
+use Rattle.script_lines.specs.Command.{segment_from, pairs, path_form, point_form, pair_form, triple_form, curve_form, observer_form, observer_when_forms, row_of, names, name_of, is_comment}
 use Rattle.script_lines.proofs.ListTests.{find-passes}
 
 -- each name is found by how it is spelt
 pub name_of-name : (n : Name) → name_of (row_of n).name ≡ Some n
 name_of-name name.Segment = refl
+name_of-name name.Path = refl
 name_of-name name.Drop = refl
 name_of-name name.Cut = refl
 name_of-name name.Pin = refl
@@ -35,6 +37,7 @@ name_of-name name.Layer = refl
 -- none begins a comment
 pub no_comment : (n : Name) → is_comment (row_of n).name ≡ false
 no_comment name.Segment = refl
+no_comment name.Path = refl
 no_comment name.Drop = refl
 no_comment name.Cut = refl
 no_comment name.Pin = refl
@@ -70,12 +73,21 @@ segment_asks : (numbers : List ℤ) → segment_from numbers ≡ Some Nothing �
 segment_asks (x1 ∷ y1 ∷ x2 ∷ y2 ∷ []) e = segment_by (are_coordinates x1 y1 x2 y2) x1 y1 x2 y2 e
 segment_asks other e = cc
 
+path_by : (within : Bool) (points : List (ℤ × ℤ)) → cond within (Some (Path points)) None ≡ Some Nothing → ⊥
+path_by true points e = cc
+path_by false points e = cc
+
+path_asks : (counts : List ℕ) → AskFor (map path_form counts)
+path_asks [] = tt
+path_asks (count ∷ counts) = (λ numbers e. path_by (list_all is_coordinate numbers) (pairs numbers) e, path_asks counts)
+
 mapped_asks : {A : Type 0} (f : A → Command) (forms : List (Form A)) → ((x : A) → f x ≡ Nothing → ⊥) → AskFor (map (form_map f) forms)
 mapped_asks f [] other = tt
 mapped_asks f (form ∷ forms) other = (λ numbers e. mapped f other (form.made numbers) e, mapped_asks f forms other)
 
 pub ask_for : (n : Name) → AskFor (row_of n).forms
 ask_for name.Segment = (segment_asks, tt)
+ask_for name.Path = path_asks (4 ∷ 6 ∷ 8 ∷ 10 ∷ 12 ∷ 14 ∷ 16 ∷ 18 ∷ [])
 ask_for name.Drop = mapped_asks Drop (curve_form ∷ []) (λ c h. cc)
 ask_for name.Cut = mapped_asks (λ points. Cut points.0 points.1) (pair_form ∷ []) (λ points h. cc)
 ask_for name.Pin = mapped_asks Pin (point_form ∷ []) (λ p h. cc)

@@ -8,5 +8,6 @@ pub mod FormMaps
 pub mod LongLine
 pub mod ListTests
 pub mod FormAnswers
+pub mod PathNumbers
 pub mod CommandTable
 pub mod LineAnswers

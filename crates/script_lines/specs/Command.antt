@@ -5,12 +5,12 @@ use Rattle.std.specs.Option.{option_zip}
 use Rattle.std.specs.Result.{result_ok}
 use Rattle.exact_plane.specs.Point.{Point}
 use Rattle.exact_plane.specs.PointOf.{point_of}
-use Rattle.exact_plane.specs.Segment.{are_coordinates}
+use Rattle.exact_plane.specs.Segment.{is_coordinate, are_coordinates}
 use Rattle.script_lines.specs.declared.command.TheConstants.{MAX_LINE}
 use Rattle.script_lines.specs.declared.error.LineError.{LineError}
 use Rattle.script_lines.specs.declared.error.LineError.TheVariants.{Word, Long, Byte}
 use Rattle.script_lines.specs.declared.command.Command.{Command}
-use Rattle.script_lines.specs.declared.command.Command.TheVariants.{Nothing, Segment, Drop, Cut, Pin, Unpin, Split, Merge, Clear, Locate, Edge, Curve, Count, Show, Overlay, Attach, Leave, Mirror, LayerRed, LayerBlue}
+use Rattle.script_lines.specs.declared.command.Command.TheVariants.{Nothing, Segment, Path, Drop, Cut, Pin, Unpin, Split, Merge, Clear, Locate, Edge, Curve, Count, Show, Overlay, Attach, Leave, Mirror, LayerRed, LayerBlue}
 use Rattle.script_lines.specs.declared.name.Name.{Name}
 use Rattle.script_lines.specs.declared.name.Name.TheVariants as name
 use Rattle.script_lines.specs.Words.{words}
@@ -68,6 +68,23 @@ segment_from other = None
 abbrev pub segment_form : Form Command
 segment_form = record { places = replicate 4 Numeral; made = segment_from }
 
+-- points, by two numbers each
+abbrev pub pairs : List ℤ → List (ℤ × ℤ)
+pairs (x ∷ y ∷ numbers) = (x, y) ∷ pairs numbers
+pairs other = []
+
+-- the points of a path, where all numbers are in range
+abbrev pub path_from : List ℤ → Option Command
+path_from numbers = if list_all is_coordinate numbers then Some (Path (pairs numbers)) else None
+
+-- a path of so many numbers
+abbrev pub path_form : ℕ → Form Command
+path_form count = record { places = replicate count Numeral; made = path_from }
+
+-- two to nine points, `x0 y0 x1 y1 .. xk yk`
+abbrev pub path_forms : List (Form Command)
+path_forms = map path_form (4 ∷ 6 ∷ 8 ∷ 10 ∷ 12 ∷ 14 ∷ 16 ∷ 18 ∷ [])
+
 -- an observer's number
 abbrev pub observer_from : List ℤ → Option ℕ
 observer_from (i ∷ []) = number_to 64 i
@@ -109,6 +126,7 @@ row text forms = record { name = text; forms = forms }
 -- the table of commands
 abbrev pub row_of : Name → Row
 row_of name.Segment = row (codes "segment") (segment_form ∷ [])
+row_of name.Path = row (codes "path") path_forms
 row_of name.Drop = row (codes "drop") (form_map Drop curve_form ∷ [])
 row_of name.Cut = row (codes "cut") (form_map (λ points. Cut points.0 points.1) pair_form ∷ [])
 row_of name.Pin = row (codes "pin") (form_map Pin point_form ∷ [])
@@ -128,7 +146,7 @@ row_of name.Mirror = row (codes "mirror") (form_map Mirror observer_form ∷ [])
 row_of name.Layer = row (codes "layer") layer_forms
 
 abbrev pub names : List Name
-names = name.Segment ∷ name.Drop ∷ name.Cut ∷ name.Pin ∷ name.Unpin ∷ name.Split ∷ name.Merge ∷ name.Clear ∷ name.Locate ∷ name.Edge ∷ name.Curve ∷ name.Count ∷ name.Show ∷ name.Overlay ∷ name.Attach ∷ name.Leave ∷ name.Mirror ∷ name.Layer ∷ []
+names = name.Segment ∷ name.Path ∷ name.Drop ∷ name.Cut ∷ name.Pin ∷ name.Unpin ∷ name.Split ∷ name.Merge ∷ name.Clear ∷ name.Locate ∷ name.Edge ∷ name.Curve ∷ name.Count ∷ name.Show ∷ name.Overlay ∷ name.Attach ∷ name.Leave ∷ name.Mirror ∷ name.Layer ∷ []
 
 -- the name that a word spells
 abbrev pub name_of : List ℕ → Option Name

@@ -4,3 +4,4 @@ pub mod Number
 pub mod Form
 pub mod Command
 pub mod Refusals
+pub mod PathPoints

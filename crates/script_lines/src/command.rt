@@ -7,9 +7,10 @@ ghost use Rattle.script_lines.specs.Refusals.{IsOtherByte, IsText, IsSilent, IsN
 
 use crate::error::LineError;
 use crate::form::{
-    bare_command, curve, layer, observer, observer_when, pair, point, segment, triple,
+    bare_command, curve, layer, observer, observer_when, pair, path, point, segment, triple,
 };
 use crate::name::Name;
+use crate::points::PathPoints;
 use crate::words::next_word;
 use exact_plane::Point;
 
@@ -23,6 +24,8 @@ pub enum Command {
     Nothing,
     /// `segment x1 y1 x2 y2`: the segment between two points with whole coordinates becomes a curve.
     Segment(i64, i64, i64, i64),
+    /// `path x0 y0 x1 y1 .. xk yk`: the polyline along two to nine points with whole coordinates becomes a curve.
+    Path(PathPoints),
     /// `drop c`: the curve of this number goes.
     Drop(u32),
     /// `cut X Y W X Y W`: the edge between two points goes from each curve that it lies on.
@@ -67,6 +70,7 @@ fn read_named(name: Name, rest: &[u8]) -> Result<Command, LineError>
 {
     match name {
         Name::Segment => segment(rest),
+        Name::Path => path(rest),
         Name::Drop => curve(rest).map(Command::Drop),
         Name::Cut => pair(rest).map(|(p, q)| Command::Cut(p, q)),
         Name::Pin => point(rest).map(Command::Pin),
@@ -125,7 +129,8 @@ fn read(line: &[u8]) -> Result<Command, LineError>
 /// Words are parted by one or more spaces, and spaces at either end don't matter. A number is `0`,
 /// or an optional `-`, a digit 1 to 9 and any digits, however many. A point is three numbers
 /// `X Y W`, which needn't be in lowest terms; where a command has several points, any of them may
-/// be equal. A segment is four numbers `x1 y1 x2 y2`, and its two ends may be one point. A curve's
+/// be equal. A segment is four numbers `x1 y1 x2 y2`, and its two ends may be one point. A path is
+/// 4, 6, .. or 18 numbers `x0 y0 x1 y1 .. xk yk`, and any of its points may be equal. A curve's
 /// number is from 1 to 4294967295, an observer's from 1 to 64 and a round's from 1 to 1000000. A
 /// line without words, or whose first word begins with `#`, is [`Command::Nothing`]. Where a line
 /// is refused for several reasons, [`LineError`] says which one is given.

@@ -1,12 +1,14 @@
-ghost use Rattle.std.specs.Prelude.{◌≡◌, [], ◌∷◌, length};
+ghost use Rattle.std.specs.Prelude.{◌≡◌, ◌≤◌, true, [], ◌∷◌, length};
+ghost use Rattle.std.specs.List.{list_all};
 ghost use Rattle.exact_plane.specs.Segment.{is_coordinate, are_coordinates};
 ghost use Rattle.script_lines.specs.Words.{words};
 ghost use Rattle.script_lines.specs.Form.{forms_reading, numbers_reading, numbers_of};
-ghost use Rattle.script_lines.specs.Command.{empty_form, point_form, point_from, pair_form, pair_from, triple_form, triple_from, number_to, curve_form, curve_from, observer_form, observer_from, observer_at_form, observer_at_from, observer_when_forms, segment_form, segment_from, layer_forms};
+ghost use Rattle.script_lines.specs.Command.{empty_form, point_form, point_from, pair_form, pair_from, triple_form, triple_from, number_to, curve_form, curve_from, observer_form, observer_from, observer_at_form, observer_at_from, observer_when_forms, segment_form, segment_from, pairs, path_form, path_forms, path_from, layer_forms};
 
 use crate::command::Command;
 use crate::error::LineError;
 use crate::number::read_number;
+use crate::points::PathPoints;
 use crate::words::{count_words, next_word, only_word, three_words};
 use exact_plane::{MAX_COORDINATE, Point};
 
@@ -202,6 +204,64 @@ pub fn segment(line: &[u8]) -> Result<Command, LineError>
 {
     let numbers = numbers(line)?;
     segment_from(numbers).ok_or(LineError::Range)
+}
+
+// The points of the numbers of a path, two each.
+fn points_of(numbers: &[i128]) -> PathPoints
+    requires few { length numbers.now ≤ 18 }
+    requires range { list_all is_coordinate numbers.now ≡ true }
+    ensures { result ≡ pairs numbers.now }
+{
+    let mut points = PathPoints::new();
+    let mut rest = numbers;
+    while let [x, y, behind @ ..] = rest {
+        points.push(*x as i64, *y as i64);
+        rest = behind;
+    }
+    points
+}
+
+fn all_coordinates(numbers: &[i128]) -> bool
+    ensures { result ≡ list_all is_coordinate numbers.now }
+{
+    numbers.iter().all(|number| is_coordinate(*number))
+}
+
+// The path command of the numbers of its points, where they are in range.
+fn path_from(numbers: &[i128]) -> Option<Command>
+    requires { length numbers.now ≤ 18 }
+    ensures { result ≡ path_from numbers.now }
+{
+    if !all_coordinates(numbers) {
+        return None;
+    }
+    Some(Command::Path(points_of(numbers)))
+}
+
+// The path command of a line of so many numbers.
+fn path_of<const N: usize>(line: &[u8]) -> Result<Command, LineError>
+    requires { N ≤ 18 }
+    ensures { result ≡ forms_reading (path_form N ∷ []) (words line.now) }
+{
+    let numbers = numbers::<N>(line)?;
+    path_from(&numbers).ok_or(LineError::Range)
+}
+
+/// The command of a line `x0 y0 x1 y1 .. xk yk` of two to nine points, of which some may be equal.
+pub fn path(line: &[u8]) -> Result<Command, LineError>
+    ensures { result ≡ forms_reading path_forms (words line.now) }
+{
+    match count_words(line) {
+        4 => path_of::<4>(line),
+        6 => path_of::<6>(line),
+        8 => path_of::<8>(line),
+        10 => path_of::<10>(line),
+        12 => path_of::<12>(line),
+        14 => path_of::<14>(line),
+        16 => path_of::<16>(line),
+        18 => path_of::<18>(line),
+        _ => Err(LineError::Count),
+    }
 }
 
 /// The command of a line `red` or `blue`.

@@ -10,8 +10,10 @@ mod error;
 mod form;
 mod name;
 mod number;
+mod points;
 mod words;
 
 pub use command::{Command, MAX_LINE, read_line};
 pub use error::LineError;
 pub use number::{NUMBER_LIMIT, read_number};
+pub use points::PathPoints;

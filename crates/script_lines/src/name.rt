@@ -5,6 +5,7 @@ ghost use Rattle.script_lines.specs.Command.{row_of, name_of};
 #[derive(Clone, Copy)]
 pub enum Name {
     Segment,
+    Path,
     Drop,
     Cut,
     Pin,
@@ -25,8 +26,9 @@ pub enum Name {
 }
 
 // Every name.
-const NAMES: [Name; 18] = [
+const NAMES: [Name; 19] = [
     Name::Segment,
+    Name::Path,
     Name::Drop,
     Name::Cut,
     Name::Pin,
@@ -53,6 +55,7 @@ impl Name {
     {
         match self {
             Name::Segment => "segment",
+            Name::Path => "path",
             Name::Drop => "drop",
             Name::Cut => "cut",
             Name::Pin => "pin",
