@@ -9,7 +9,7 @@ use Rattle.plane_graphs.specs.Graph.{Mark, Graph, mark_cmp, is_at, same_curve}
 use Rattle.edit_steps.specs.Steps.{AddCurve, AddEdge, RemoveCurve, RemoveEdge, apply, run, more_step, less_step}
 use Rattle.edit_steps.specs.Allowed.{IsSound, AreSound}
 use Rattle.plane_graphs.proofs.Ascending.{ascending_unique, IsAscending-place, All-member}
-use Rattle.plane_graphs.proofs.Lists.{and_in, not_out, not_in, clash, of_place, in_place, any_none, in_filter, of_filter, IsAscending-filter}
+use Rattle.plane_graphs.proofs.Lists.{and_in, not_out, not_in, clash, of_place, in_place, any_none, in_filter, of_filter, filter_same, IsAscending-filter}
 use Rattle.plane_graphs.proofs.Order.{same_out, same_in, curve_in, curve_out, mark_cmp_total, mark_cmp_exact}
 use Rattle.plane_graphs.proofs.Marks.{mark_path}
 use Rattle.exact_plane.specs.PointOrderLaws.{and_true}
@@ -75,10 +75,6 @@ module _ (g G : Graph) (firsts news ends : List Mark) (whole : IsAscending mark_
   marks_put a b = put_from news firsts (record { order = b; news_of = λ n k. k; ascend = a; origin = λ n k. inl k; kept = λ n k. k; cover = λ n k. inl k })
 
 -- ---- marks taken out
-filter_same : (p q : Mark → Bool) (xs : List Mark) → ((m : Mark) → Member m xs → p m ≡ q m) → filter p xs ≡ filter q xs
-filter_same p q [] h = refl
-filter_same p q (x ∷ xs) h = ap₂ (λ b ys. cond b (x ∷ ys) ys) (h x (inl refl)) (filter_same p q xs (λ m n. h m (inr n)))
-
 abbrev pub this : Mark → Mark → Bool
 this m n = is_at m.low m.high n && same_curve n.curve m.curve
 

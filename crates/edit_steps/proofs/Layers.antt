@@ -13,11 +13,12 @@ use Rattle.plane_graphs.specs.Piece.{Piece, on}
 use Rattle.plane_graphs.specs.Fit.{IsFit}
 use Rattle.edit_steps.specs.Steps.{cut_piece}
 use Rattle.edit_steps.specs.Edits.{Edit, Insert, Drop, Cut, Pin, Unpin, Split, Merge, ClearAll, path_pieces, after, IsAccepted}
-use Rattle.edit_steps.specs.Layer.{Layer, layer_after, IsAcceptedBy, IsLawful, empty_layer, names_after, next_after}
+use Rattle.edit_steps.specs.Layer.{Layer, layer_after, IsAcceptedBy, IsLawful, ArePiecesOnce, empty_layer, names_after, next_after}
 use Rattle.edit_steps.specs.EditLaws.{LayersAreLawful}
 use Rattle.plane_graphs.proofs.Lists.{any_out, in_either, in_left, in_right, in_filter, of_filter, of_flat_map, if_out, one_if, IsAscending-filter}
 use Rattle.plane_graphs.proofs.Order.{curve_out}
 use Rattle.edit_steps.proofs.Laws.{keeps_fit, fit_empty, of_curve}
+use Rattle.edit_steps.proofs.Once.{pieces_stay_once}
 use Rattle.integers.proofs.Tests.{not_true}
 
 -- ---- names
@@ -44,7 +45,7 @@ cut_curve a b k j m =
 
 -- ---- layers
 empty_lawful : (first : ℕ) → 1 ≤ first → IsLawful (empty_layer first)
-empty_lawful first h = record { fit = fit_empty; named = λ k m. absurd m; ascend = tt; least = λ n m. absurd m; drawn = λ n m. absurd m; first = h }
+empty_lawful first h = record { fit = fit_empty; once = tt; named = λ k m. absurd m; ascend = tt; least = λ n m. absurd m; drawn = λ n m. absurd m; first = h }
 
 module _ (l : Layer) (w : IsLawful l) where
   -- no piece has a number that was not drawn
@@ -68,10 +69,14 @@ module _ (l : Layer) (w : IsLawful l) where
   is_fit : (e : Edit) → IsAcceptedBy e l → IsFit (after e l.present)
   is_fit e h = keeps_fit e l.present w.fit (accepts e h)
 
+  is_once : (e : Edit) → IsAcceptedBy e l → ArePiecesOnce (after e l.present).pieces
+  is_once e h = pieces_stay_once e l.present w.fit (accepts e h) w.once
+
   -- an edit that takes no name and gives none
   same_names : (e : Edit) → IsAcceptedBy e l → ((k : Piece) → Member k (after e l.present).pieces → Member k.curve l.names) → names_after e l.names ≡ l.names → next_after e l.next ≡ l.next → IsLawful (layer_after e l)
   same_names e h f n m = record {
     fit = is_fit e h;
+    once = is_once e h;
     named = λ k i. subst (Member k.curve) (sym n) (f k i);
     ascend = subst (IsAscending nat_cmp) (sym n) w.ascend;
     least = λ c i. w.least c (subst (Member c) n i);
@@ -84,6 +89,7 @@ module _ (l : Layer) (w : IsLawful l) where
   unfolding after
   inserted c ss h = record {
     fit = is_fit (Insert c ss) h;
+    once = is_once (Insert c ss) h;
     named = λ k m. ⊎_elim (λ i. in_left k.curve l.names (c ∷ []) (w.named k i)) (λ i. in_right k.curve l.names (c ∷ []) (inl (of_curve c ss k i))) (in_either k l.present.pieces (path_pieces c ss) m);
     ascend = ascend_last c l.names (λ n m. let d = w.drawn n m in let e = h.0 in omega arith) w.ascend;
     least = λ n m. ⊎_elim (λ i. w.least n i) (λ i. ⊎_elim (λ e. let f = w.first in let g = h.0 in omega arith) (λ z. absurd z) i) (in_either n l.names (c ∷ []) m);
@@ -96,6 +102,7 @@ module _ (l : Layer) (w : IsLawful l) where
   unfolding after
   dropped c h = record {
     fit = is_fit (Drop c) h;
+    once = is_once (Drop c) h;
     named = λ k m. let o = of_filter (λ k. not (same_curve k.curve c)) k l.present.pieces m in in_filter (λ n. not (same_curve n c)) k.curve l.names (w.named k o.0) o.1;
     ascend = IsAscending-filter nat_cmp (λ n. not (same_curve n c)) l.names w.ascend;
     least = λ n m. w.least n (of_filter (λ n. not (same_curve n c)) n l.names m).0;
@@ -112,7 +119,7 @@ module _ (l : Layer) (w : IsLawful l) where
   stays (Unpin r) h = same_names (Unpin r) h w.named refl refl
   stays (Split a b r) h = same_names (Split a b r) h w.named refl refl
   stays (Merge r) h = same_names (Merge r) h w.named refl refl
-  stays ClearAll h = record { fit = is_fit ClearAll h; named = λ k m. absurd m; ascend = tt; least = λ n m. absurd m; drawn = λ n m. absurd m; first = w.first }
+  stays ClearAll h = record { fit = is_fit ClearAll h; once = tt; named = λ k m. absurd m; ascend = tt; least = λ n m. absurd m; drawn = λ n m. absurd m; first = w.first }
 
 pub layers_lawful : LayersAreLawful
 layers_lawful = record { empty = empty_lawful; accepted = λ e l w h. accepts l w e h; stay = λ e l w h. stays l w e h }

@@ -2,10 +2,10 @@ pub mod Changes
 pub mod Cuts
 pub mod Edits
 mod Examples
-pub mod FirstSides
 pub mod Folds
 pub mod Laws
 pub mod Layers
+pub mod Once
 pub mod Refusals
 pub mod Removals
 pub mod Seen

@@ -165,7 +165,7 @@ loose_stays p vs x fit asc proper sub here f =
     )
 
 -- where a curve has one side, what the curves of the edges tell
-pub loose_goes : (p : Present) (vs : List Point) (x : Point) → IsFit p → HasOneSide p.pieces → IsAscending point_cmp vs → ((q : Point) → Member q vs → IsProper q) → ((q : Point) → Member q (vertices p) → Member q vs) → Member x vs → (Member x p.pins → ⊥) → IsLoose (graph_over vs p.pieces p.pins) x → Member x (vertices p) → ⊥
+loose_goes : (p : Present) (vs : List Point) (x : Point) → IsFit p → HasOneSide p.pieces → IsAscending point_cmp vs → ((q : Point) → Member q vs → IsProper q) → ((q : Point) → Member q (vertices p) → Member q vs) → Member x vs → (Member x p.pins → ⊥) → IsLoose (graph_over vs p.pieces p.pins) x → Member x (vertices p) → ⊥
 loose_goes p vs x fit one asc proper sub here n loose m =
     let cl = closed_more (vertices p) vs p.pieces (vertices_closed geometry p fit) asc sub proper in
     ⊎_elim (λ f. not_bare p fit one vs cl x here f (vertex_out p x m) n) (λ s. not_passed p fit one vs cl x here s (vertex_out p x m) n) loose

@@ -183,7 +183,7 @@ cut_all : (a b : Point) (ks : List Piece) → flat_map (cut_piece a b) (strand_p
 cut_all a b [] = refl
 cut_all a b (k ∷ ks) = ap₂ (λ x y. x ++ y) (cut_one a b k) (cut_all a b ks) ∙ sym (gather_append (cut_piece a b k) (flat_map (cut_piece a b) ks))
 
-cut_after : (p : Present) (a b : Point) → with_cut (strands p) a b ≡ strands (with_cut p a b)
+pub cut_after : (p : Present) (a b : Point) → with_cut (strands p) a b ≡ strands (with_cut p a b)
 cut_after p a b = λ i. record { pieces = cut_all a b p.pieces i; pins = p.pins }
 
 -- a test that sees no curves passes on an edge of strands too

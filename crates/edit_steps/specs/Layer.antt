@@ -1,5 +1,5 @@
 -- A layer: what its edits have made so far, the names of its curves, and the number that the next one gets.
-use Rattle.std.specs.Prelude.{◌≡◌, ℕ, ◌+◌, ◌<◌, ◌≤◌, not, List, [], ◌∷◌, ◌++◌}
+use Rattle.std.specs.Prelude.{◌≡◌, ⊤, ℕ, ◌+◌, ◌<◌, ◌≤◌, not, List, [], ◌∷◌, ◌++◌}
 use Rattle.std.specs.List.{filter}
 use Rattle.std.specs.Ordering.{nat_cmp}
 use Rattle.plane_graphs.specs.Ascending.{Member, IsAscending}
@@ -39,9 +39,15 @@ abbrev pub IsAcceptedBy : Edit → Layer → Type 0
 IsAcceptedBy (Insert c ss) l = (c ≡ l.next) × AreSides ss
 IsAcceptedBy other l = IsAccepted other l.present
 
--- what holds of every layer that edits have made: a fit present whose curves are named, and names from 1 to below the next number
+-- no piece stands twice in the list
+abbrev pub ArePiecesOnce : List Piece → Type 0
+ArePiecesOnce [] = ⊤
+ArePiecesOnce (k ∷ ks) = (Member k ks → ⊥) × ArePiecesOnce ks
+
+-- what holds of every layer that edits have made: a fit present whose pieces stand once and whose curves are named, and names from 1 to below the next number
 pub record IsLawful (l : Layer) : Type 0 where
   pub fit : IsFit l.present
+  pub once : ArePiecesOnce l.present.pieces
   pub named : (k : Piece) → Member k l.present.pieces → Member k.curve l.names
   pub ascend : IsAscending nat_cmp l.names
   pub least : (n : ℕ) → Member n l.names → 1 ≤ n

@@ -2,6 +2,5 @@ pub mod Allowed
 pub mod Edits
 pub mod Layer
 pub mod EditLaws
-pub mod FirstSides
 pub mod Steps
 pub mod Refusals

@@ -1,5 +1,5 @@
 -- Membership in the lists that the definitions make.
-use Rattle.std.proofs.Common.{◌≡◌, List, [], ◌∷◌, ◌++◌, Bool, true, false, cond, not, ◌&&◌, ◌||◌, refl, sym, ap, ◌∙◌, subst, inl, inr, ◌⊎◌, ⊎_elim, Ordering, Less, Equal, Greater, ◌≢◌, Option, Some, None, is_some, option_map, ℕ, append_assoc}
+use Rattle.std.proofs.Common.{◌≡◌, List, [], ◌∷◌, ◌++◌, Bool, true, false, cond, not, ◌&&◌, ◌||◌, refl, sym, ap, ap₂, ◌∙◌, subst, inl, inr, ◌⊎◌, ⊎_elim, Ordering, Less, Equal, Greater, ◌≢◌, Option, Some, None, is_some, option_map, ℕ, append_assoc}
 use Rattle.std.specs.Cmp.{IsTotalOrder}
 use Rattle.std.specs.Prelude.{map}
 use Rattle.std.specs.List.{AllByRecursion, filter, list_any, flat_map}
@@ -76,6 +76,11 @@ module _ {X : Type 0} where
   pub of_filter : (p : X → Bool) (x : X) (xs : List X) → Member x (filter p xs) → Member x xs × (p x ≡ true)
   of_filter p x [] m = absurd m
   of_filter p x (z ∷ xs) m = ⊎_elim (λ h. (inl h.0, ap p h.0 ∙ h.1)) (λ n. let r = of_filter p x xs n in (inr r.0, r.1)) (filtered_out (p z) x z (filter p xs) m)
+
+  -- two tests that agree on what a list has keep the same of it
+  pub filter_same : (p q : X → Bool) (xs : List X) → ((x : X) → Member x xs → p x ≡ q x) → filter p xs ≡ filter q xs
+  filter_same p q [] h = refl
+  filter_same p q (x ∷ xs) h = ap₂ (λ b ys. cond b (x ∷ ys) ys) (h x (inl refl)) (filter_same p q xs (λ m n. h m (inr n)))
 
   pub any_in : (p : X → Bool) (x : X) (xs : List X) → Member x xs → p x ≡ true → list_any p xs ≡ true
   any_in p x [] m h = absurd m
