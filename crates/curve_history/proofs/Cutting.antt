@@ -1,9 +1,8 @@
 -- What a cut leaves of pieces: planned, and put in place of them.
-use Rattle.std.proofs.Common.{◌≡◌, ◌≢◌, inl, inr, ℕ, zero, suc, ◌+◌, ◌≤◌, ◌<◌, ◌^◌, cond, not, Bool, true, false, ◌&&◌, ◌||◌, List, [], ◌∷◌, ◌++◌, length, map, take, drop, get_or, take_all, refl, sym, ap, subst, ◌∙◌, arith}
+use Rattle.std.proofs.Common.{◌≡◌, ◌≢◌, inl, inr, ℕ, zero, suc, ◌+◌, ◌≤◌, ◌<◌, ◌^◌, cond, not, Bool, true, false, ◌&&◌, ◌||◌, List, [], ◌∷◌, ◌++◌, length, map, take, drop, take_all, refl, sym, ap, subst, ◌∙◌, arith}
 use Rattle.std.specs.List.{filter, flat_map, list_any, AllByRecursion}
 use Rattle.std.proofs.lemmas.Bool.{cases_eq}
-use Rattle.std.proofs.lemmas.List.{length-append, length-map, length-take, length-take-le, append_assoc, flat_map_more, get_or-map, take_at, take_more, take-append-le, drop-append-le, take-append-drop, drop_all}
-use Rattle.std.proofs.lemmas.List.Concat.{flat_map-append}
+use Rattle.std.proofs.lemmas.List.{length-append, length-map, length-take, length-take-le, flat_map_more, take_at, take-append-le, drop-append-le, map-append, take-append-drop, drop_all}
 use Rattle.std.proofs.lemmas.List.Elements.{filter-append}
 use Rattle.exact_plane.specs.Point.{Point}
 use Rattle.exact_plane.specs.Segment.{line_of_segment}
@@ -13,7 +12,6 @@ use Rattle.edit_steps.specs.Steps.{cut_piece}
 use Rattle.slab_laws.specs.Pieces.{piece_of}
 use Rattle.slab_laws.specs.declared.present.Piece.{Piece as PieceInMemory}
 use Rattle.curve_history.specs.declared.cuts.CutPlan.{CutPlan}
-use Rattle.curve_history.proofs.Naming.{filter_map}
 use Rattle.curve_history.specs.Cuts.{leaves_some, rests_of, spans, AllLeaveSome, AreWhole, IsPlanOfCut, IsPlanWithNext}
 
 -- ---- what holds of all elements of a list
@@ -21,11 +19,6 @@ module _ {X : Type 0} (P : X → Type 0) where
   pub all_push : (xs : List X) (x : X) → AllByRecursion P xs → P x → AllByRecursion P (xs ++ x ∷ [])
   all_push [] x a h = (h, tt)
   all_push (y ∷ xs) x a h = (a.0, all_push xs x a.1 h)
-
-  pub all_take : (n : ℕ) (xs : List X) → AllByRecursion P xs → AllByRecursion P (take n xs)
-  all_take zero xs a = tt
-  all_take (suc n) [] a = tt
-  all_take (suc n) (x ∷ xs) a = (a.0, all_take n xs a.1)
 
 -- ---- those of which something is left
 module _ {X Y : Type 0} (f : X → List Y) where
@@ -58,10 +51,6 @@ module _ {X Y : Type 0} (f : X → List Y) where
   pub no_fewer : (xs : List X) → AllByRecursion (λ x. 1 ≤ length (f x)) xs → length xs ≤ length (flat_map f xs)
   no_fewer [] a = omega arith
   no_fewer (x ∷ xs) a = omega (arith, length-append (f x) (flat_map f xs), a.0, no_fewer xs a.1)
-
-  -- no more than from the longer list
-  pub front_fewer : (i : ℕ) (xs : List X) → length (flat_map f (take i xs)) ≤ length (flat_map f xs)
-  front_fewer i xs = omega (arith, ap length (ap (flat_map f) (sym (take-append-drop i xs)) ∙ flat_map-append f (take i xs) (drop i xs)), length-append (flat_map f (take i xs)) (flat_map f (drop i xs)))
 
   -- one element more
   pub length_more : (xs : List X) (x : X) → length (flat_map f (xs ++ x ∷ [])) ≡ length (flat_map f xs) + length (f x)
@@ -172,30 +161,6 @@ module _ (k : Piece) (a b : Point) where
     pub parts_count : cond {A = ℕ} s 1 0 + cond {A = ℕ} u 1 0 ≡ length (cut_piece a b k)
     parts_count = both_counts (record k { to = a }) (record k { from = b }) s u ∙ ap length (sym are_parts)
 
-    pub last_fits : (n : ℕ) → length (cut_piece a b k) ≤ n → cond {A = ℕ} u 1 0 ≤ n
-    last_fits n g = less (cond {A = ℕ} s 1 0) (cond {A = ℕ} u 1 0) parts_count
-      where
-        less : (x y : ℕ) → x + y ≡ length (cut_piece a b k) → y ≤ n
-        less x y e = omega (arith, e, g)
-
-    pub first_fits : (n m : ℕ) → length (cut_piece a b k) ≤ n → m + cond {A = ℕ} u 1 0 ≡ n → cond {A = ℕ} s 1 0 ≤ m
-    first_fits n m g q = less (cond {A = ℕ} s 1 0) (cond {A = ℕ} u 1 0) parts_count q
-      where
-        less : (x y : ℕ) → x + y ≡ length (cut_piece a b k) → m + y ≡ n → x ≤ m
-        less x y e w = omega (arith, e, g, w)
-
-    pub parts_place : (n m i : ℕ) → m + cond {A = ℕ} u 1 0 ≡ n → i + cond {A = ℕ} s 1 0 ≡ m → i + length (cut_piece a b k) ≡ n
-    parts_place n m i q w = both (cond {A = ℕ} s 1 0) (cond {A = ℕ} u 1 0) parts_count q w
-      where
-        both : (x y : ℕ) → x + y ≡ length (cut_piece a b k) → m + y ≡ n → i + x ≡ m → i + length (cut_piece a b k) ≡ n
-        both x y e q w = omega (arith, e, q, w)
-
-    pub parts_put : (ks js is : List Piece) → js ≡ cond u (record k { from = b } ∷ []) [] ++ ks → is ≡ cond s (record k { to = a } ∷ []) [] ++ js → is ≡ cut_piece a b k ++ ks
-    parts_put ks js is e q =
-        q ∙ ap (λ l. cond s (record k { to = a } ∷ []) [] ++ l) e
-        ∙ sym (append_assoc (cond s (record k { to = a } ∷ []) []) (cond u (record k { from = b } ∷ []) []) ks)
-        ∙ ap (λ l. l ++ ks) (sym are_parts)
-
 -- ---- how many are left of all
 pub two_at_most : (a b : Point) (k : Piece) → length (cut_piece a b k) ≤ 2
 unfolding cut_piece
@@ -278,53 +243,40 @@ module _ (a b : Point) where
         stay : next.some_go ≡ false → AllLeaveSome a b (ks ++ k ∷ [])
         stay h = all_push (λ k. 1 ≤ length (cut_piece a b k)) ks k (p.stay (sym g ∙ h)) (omega (arith, ap length w))
 
-  -- along pieces in memory
-  module _ (js : List PieceInMemory) (i : ℕ) (plan : CutPlan) (p : IsPlanOfCut a b (take i (map piece_of js)) plan) where
-    pub plan_fits : i < length js → length js < 2 ^ 32 → plan.left < 2 ^ 34
-    plan_fits h f = omega (arith, p.left, h, f, twice_at_most a b i (map piece_of js))
+  -- along pieces in memory, of which so many came
+  module _ (js is : List PieceInMemory) (i : ℕ) (came : i ≡ length js) (plan : CutPlan) (p : IsPlanOfCut a b (map piece_of js) plan) where
+    pub plan_fits : length (js ++ is) < 2 ^ 32 → plan.left < 2 ^ 34
+    plan_fits f = omega (arith, p.left, f, length-append js is, length-map js piece_of, all_twice a b (map piece_of js))
 
-    pub plan_more : (j : PieceInMemory) → i < length js → j ≡ get_or js i j → (next : CutPlan) → IsPlanWithNext a b plan i (piece_of j) next → IsPlanOfCut a b (take (i + 1) (map piece_of js)) next
-    plan_more j h g next w =
-        let ks = map piece_of js in
-        let k = piece_of j in
-        let below : i < length ks = omega (arith, h, length-map js piece_of) in
-        let here : get_or ks i k ≡ k = get_or-map piece_of js i j k h ∙ sym (ap piece_of g) in
-        let more : take (i + 1) ks ≡ take i ks ++ k ∷ [] = take_more ks i k below ∙ ap (λ y. take i ks ++ y ∷ []) here in
-        subst (λ l. IsPlanOfCut a b l next) (sym more) (w (take i ks) (omega (arith, below, length-take i ks)) p)
-
-    pub plan_all : length js ≤ i → IsPlanOfCut a b (map piece_of js) plan
-    plan_all h = subst (λ l. IsPlanOfCut a b l plan) (take_all i (map piece_of js) (omega (arith, h, length-map js piece_of))) p
+    pub plan_more : (j : PieceInMemory) (next : CutPlan) → IsPlanWithNext a b plan i (piece_of j) next → IsPlanOfCut a b (map piece_of (js ++ j ∷ [])) next
+    plan_more j next w = subst (λ l. IsPlanOfCut a b l next) (sym (map-append piece_of js (j ∷ []))) (w (map piece_of js) (length-map js piece_of ∙ sym came) p)
 
 -- ---- without the pieces of which nothing is left
-module _ (a b : Point) (js is : List PieceInMemory) (e : is ≡ filter (λ j. leaves_some a b (piece_of j)) js) where
-  kept : map piece_of is ≡ filter (leaves_some a b) (map piece_of js)
-  kept = ap (map piece_of) e ∙ filter_map piece_of (leaves_some a b) js
+module _ (a b : Point) (ks ls : List Piece) (kept : ls ≡ filter (leaves_some a b) ks) where
+  pub same_rests : rests_of a b ls ≡ rests_of a b ks
+  same_rests = ap (rests_of a b) kept ∙ flat_kept (cut_piece a b) ks
 
-  pub same_rests : rests_of a b (map piece_of is) ≡ rests_of a b (map piece_of js)
-  same_rests = ap (rests_of a b) kept ∙ flat_kept (cut_piece a b) (map piece_of js)
-
-  pub all_leave : AllLeaveSome a b (map piece_of is)
-  all_leave = subst (AllLeaveSome a b) (sym kept) (kept_some (cut_piece a b) (map piece_of js))
+  pub all_leave : AllLeaveSome a b ls
+  all_leave = subst (AllLeaveSome a b) (sym kept) (kept_some (cut_piece a b) ks)
 
   -- up to the first of the run all are kept
-  module _ (plan next : CutPlan) (p : IsPlanOfCut a b (map piece_of js) plan) where
-    front : take plan.first (map piece_of is) ≡ take plan.first (map piece_of js)
+  module _ (plan next : CutPlan) (p : IsPlanOfCut a b ks plan) where
+    front : take plan.first ls ≡ take plan.first ks
     front =
-        let ks = map piece_of js in
         let f = filter (leaves_some a b) in
-        let parts : map piece_of is ≡ take plan.first ks ++ f (drop plan.first ks) = kept ∙ ap f (sym (take-append-drop plan.first ks)) ∙ filter-append (leaves_some a b) (take plan.first ks) (drop plan.first ks) ∙ ap (λ l. l ++ f (drop plan.first ks)) (whole_kept a b (take plan.first ks) p.before) in
+        let parts : ls ≡ take plan.first ks ++ f (drop plan.first ks) = kept ∙ ap f (sym (take-append-drop plan.first ks)) ∙ filter-append (leaves_some a b) (take plan.first ks) (drop plan.first ks) ∙ ap (λ l. l ++ f (drop plan.first ks)) (whole_kept a b (take plan.first ks) p.before) in
         ap (take plan.first) parts ∙ take_at (take plan.first ks) (f (drop plan.first ks)) plan.first (length-take-le plan.first ks (omega (arith, p.run, p.within)))
 
-    front_in : plan.first ≤ length is
+    front_in : plan.first ≤ length ls
     front_in =
-        omega (arith, ap length front, length-take plan.first (map piece_of is), length-take-le plan.first (map piece_of js) (omega (arith, p.run, p.within)), length-map is piece_of)
+        omega (arith, ap length front, length-take plan.first ls, length-take-le plan.first ks (omega (arith, p.run, p.within)))
 
-    pub kept_plan : next.left ≡ plan.left → next.first ≡ plan.first → next.end ≡ length is → IsPlanOfCut a b (map piece_of is) next
+    pub kept_plan : next.left ≡ plan.left → next.first ≡ plan.first → next.end ≡ length ls → IsPlanOfCut a b ls next
     kept_plan l f e = record {
       left = l ∙ p.left ∙ ap length (sym same_rests);
       run = omega (arith, f, e, front_in);
-      within = omega (arith, e, length-map is piece_of);
-      before = subst (λ n. AreWhole a b (take n (map piece_of is))) (sym f) (subst (AreWhole a b) (sym front) p.before);
-      behind = subst (AreWhole a b) (sym (drop_all next.end (map piece_of is) (omega (arith, e, length-map is piece_of)))) tt;
+      within = omega (arith, e);
+      before = subst (λ n. AreWhole a b (take n ls)) (sym f) (subst (AreWhole a b) (sym front) p.before);
+      behind = subst (AreWhole a b) (sym (drop_all next.end ls (omega (arith, e)))) tt;
       stay = λ h. all_leave;
     }

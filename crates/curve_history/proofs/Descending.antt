@@ -9,9 +9,9 @@ use Rattle.plane_graphs.proofs.Ascending.{All-member}
 use Rattle.plane_graphs.proofs.Lists.{in_map, in_left, in_right, in_either}
 use Rattle.slab_laws.specs.FaceLists.{first_of, follower}
 use Rattle.chain_laws.specs.Links.{comes_after}
-use Rattle.linked_chains.specs.Chains.{put_after}
+use Rattle.linked_chains.specs.Chains.{put_after, put_at}
 use Rattle.linked_chains.proofs.PutAfter.{put_hit, put_miss, put_nowhere, hit_is}
-use Rattle.curve_history.specs.Changed.{next_in, put_at}
+use Rattle.curve_history.specs.Changed.{next_in}
 use Rattle.curve_history.specs.HistoryInMemory.{IsDescending}
 use Rattle.integers.proofs.Tests.{nat_less, other_number}
 

@@ -1,6 +1,5 @@
 -- What the changes of pairs make of a history.
-use Rattle.std.proofs.Common.{◌≡◌, ◌≢◌, ⊎_elim, inl, inr, ℕ, suc, ◌+◌, ◌-◌, ◌≤◌, ◌==◌, vec_capacity, vec_len, cond, not, List, [], ◌∷◌, length, map, reverse, Option, Some, refl, sym, ap, subst, ◌∙◌, Ordering, Less, Equal, Greater, arith}
-use Rattle.std.specs.declared.vec.Vec.{Vec}
+use Rattle.std.proofs.Common.{◌≡◌, ◌≢◌, ⊎_elim, inl, inr, ℕ, suc, ◌+◌, ◌≤◌, ◌==◌, cond, not, List, [], ◌∷◌, length, map, reverse, Option, Some, refl, sym, ap, subst, ◌∙◌, Ordering, Less, Equal, Greater, arith}
 use Rattle.std.specs.List.{filter}
 use Rattle.std.specs.Ordering.{nat_cmp, match_ordering}
 use Rattle.std.proofs.lemmas.Bool.{cases_eq, eq-eqb}
@@ -14,7 +13,7 @@ use Rattle.plane_graphs.proofs.Lists as lists
 use Rattle.plane_graphs.proofs.Order.{curve_out, curve_in}
 use Rattle.slab_laws.specs.declared.names.DartId.{DartId}
 use Rattle.slab_laws.specs.FaceLists.{AreOnce}
-use Rattle.slab_laws.specs.declared.present.Piece.{Piece as PieceInMemory}
+use Rattle.curve_pieces.specs.PieceRows.{Rowed, items}
 use Rattle.curve_history.specs.declared.history.History.TheInside.{Inside}
 use Rattle.slab_laws.specs.Pieces.{piece_of}
 use Rattle.slab_laws.specs.Tables.{names}
@@ -49,7 +48,7 @@ pub same_named : (c c' : Chained) → AreSameKeys c c' → named_in c' ≡ named
 same_named c c' s = named_from c' (named_in c) (named_ascend c) (λ k m. (s.keys k).0 (has_of_named c k m)) (λ k h. named_of_has c k ((s.keys k).1 h))
 
 -- ---- the history stays one
-pub kept_on : {Z : Type 0} (e c e' c' : Chained) (p : Vec PieceInMemory Z) (n : Option ℕ) → IsSoundHistory e c p n → ArePairs e' c' → AreFilled e' → AreOrdered e' → AreSameKeys c c' → IsSoundHistory e' c' p n
+pub kept_on : (e c e' c' : Chained) (p : Rowed) (n : Option ℕ) → IsSoundHistory e c p n → ArePairs e' c' → AreFilled e' → AreOrdered e' → AreSameKeys c c' → IsSoundHistory e' c' p n
 kept_on e c e' c' p n k t f o s = record {
   pairs = t;
   filled = f;
@@ -148,14 +147,14 @@ module _ (e e' : Chained) (edge part : ℕ) (m : IsCopied e e' edge part) (none 
 pub record IsSeen (i : Inside) (seen : Past) : Type 0 where
   pub pairs : seen.pairs ≡ pairs_in i.by_edge
   pub names : seen.names ≡ named_in i.by_curve
-  pub pieces : seen.pieces ≡ map piece_of i.pieces.items
+  pub pieces : seen.pieces ≡ map piece_of (items i.pieces)
   pub next : seen.next ≡ number_of i.next
   pub spare_names : seen.spare_names ≡ i.by_curve.spare_keys
-  pub spare_pieces : seen.spare_pieces ≡ vec_capacity i.pieces - vec_len i.pieces
+  pub spare_pieces : seen.spare_pieces ≡ i.pieces.spare
   pub spare_pairs : seen.spare_pairs ≡ pair_room i.by_edge i.by_curve
   pub capacity_by_edge : seen.capacity_by_edge ≡ i.by_edge.capacity_of_nodes
   pub capacity_by_curve : seen.capacity_by_curve ≡ i.by_curve.capacity_of_nodes
-  pub capacity_of_pieces : seen.capacity_of_pieces ≡ vec_capacity i.pieces
+  pub capacity_of_pieces : seen.capacity_of_pieces ≡ i.pieces.capacity
 
 pub sees : (i : Inside) (seen : Past) → past i.by_edge i.by_curve i.pieces i.next ≡ seen → IsSeen i seen
 sees i seen h = subst (IsSeen i) h (record { pairs = refl; names = refl; pieces = refl; next = refl; spare_names = refl; spare_pieces = refl; spare_pairs = refl; capacity_by_edge = refl; capacity_by_curve = refl; capacity_of_pieces = refl })
@@ -208,7 +207,7 @@ module _ (i : Inside) (old : Past) (v : IsSeen i old) where
     held_same h x = rw (held_old x, held_new x) (listed_nodes i.by_edge e' x.0 h)
 
   -- names, pieces and the next number stay
-  pub layer_on : (new : Past) (c' : Chained) → AreSameKeys i.by_curve c' → new.names ≡ named_in c' → new.pieces ≡ map piece_of i.pieces.items → new.next ≡ number_of i.next → SameLayer old new
+  pub layer_on : (new : Past) (c' : Chained) → AreSameKeys i.by_curve c' → new.names ≡ named_in c' → new.pieces ≡ map piece_of (items i.pieces) → new.next ≡ number_of i.next → SameLayer old new
   layer_on new c' s a b d = record { names = a ∙ same_named i.by_curve c' s ∙ sym v.names; pieces = b ∙ sym v.pieces; next = d ∙ sym v.next }
 
 -- ---- how many sides there are along an edge
@@ -245,7 +244,7 @@ module _ (i : Inside) (old : Past) (v : IsSeen i old) where
   pub room_in : AreOrdered i.by_edge → (d : DartId) → IsWhole i.by_edge d.0 → length (strands_on old d) ≤ old.spare_pairs → length (chain i.by_edge d.0) ≤ pair_room i.by_edge i.by_curve
   room_in o d w h = subst (λ n. n ≤ pair_room i.by_edge i.by_curve) (held_length i old v o d w) (subst (λ n. length (strands_on old d) ≤ n) v.spare_pairs h)
 
-  pub spare_on : (new : Past) (c' : Chained) → AreSameKeys i.by_curve c' → new.spare_names ≡ c'.spare_keys → new.spare_pieces ≡ vec_capacity i.pieces - vec_len i.pieces → pair_room i.by_edge i.by_curve ≤ new.spare_pairs → IsSpare old new 0 0 0
+  pub spare_on : (new : Past) (c' : Chained) → AreSameKeys i.by_curve c' → new.spare_names ≡ c'.spare_keys → new.spare_pieces ≡ i.pieces.spare → pair_room i.by_edge i.by_curve ≤ new.spare_pairs → IsSpare old new 0 0 0
   spare_on new c' s a b h = record {
     of_names = let r = s.room in let q = v.spare_names in omega arith;
     of_pieces = let q = v.spare_pieces in omega arith;

@@ -4,13 +4,14 @@ pub mod Cutting
 pub mod Descending
 pub mod Emptying
 pub mod Facing
-pub mod Filling
 pub mod Histories
 pub mod Naming
 pub mod Numbers
 pub mod Placing
 pub mod Reading
+pub mod Replaced
 pub mod Seconds
 pub mod Sides
 pub mod Twins
+pub mod Walked
 pub mod Walking

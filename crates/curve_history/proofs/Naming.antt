@@ -3,15 +3,15 @@ use Rattle.std.proofs.Common.{◌≡◌, ◌≢◌, ◌⊎◌, ◌↔◌, ⊎_el
 use Rattle.std.specs.List.{filter, AllByRecursion, IsDistinct}
 use Rattle.std.specs.List.Retain.{IsFiltered, DiffersFromLast}
 use Rattle.std.specs.Ordering.{nat_cmp}
-use Rattle.std.proofs.lemmas.Bool.{false≢true}
+use Rattle.std.proofs.lemmas.Bool.{cases_eq, eq-eqb, false≢true}
 use Rattle.std.proofs.lemmas.Cmp.{nat_cmp_total}
 use Rattle.std.proofs.lemmas.List.{length-map}
 use Rattle.plane_graphs.specs.Ascending.{ascending, Member, IsAscending}
+use Rattle.plane_graphs.specs.Piece.{Piece as PieceModel}
 use Rattle.plane_graphs.specs.Graph.{same_curve}
 use Rattle.plane_graphs.proofs.Ascending.{IsAscending-ascending, All-member, to_member, from_member}
 use Rattle.plane_graphs.proofs.Lists.{in_filter, of_filter, in_map, of_map, in_ascending, of_ascending, in_left, in_right, in_either, IsAscending-filter, not_in, not_out, clash, some_of}
 use Rattle.plane_graphs.proofs.Order.{curve_out, curve_in}
-use Rattle.std.specs.declared.vec.Vec.{Vec}
 use Rattle.slab_laws.specs.declared.present.Piece.{Piece as PieceInMemory}
 use Rattle.slab_laws.specs.declared.names.DartId.{DartId}
 use Rattle.slab_laws.specs.Tables.{row_at, names}
@@ -25,6 +25,7 @@ use Rattle.chain_laws.specs.Links.{trail}
 use Rattle.linked_chains.specs.Chains.{Chained, Link, IsWhole, HasKey, entry_at, first_in, after_in, chain}
 use Rattle.linked_chains.specs.declared.node.Entry.{Entry}
 use Rattle.curve_history.specs.declared.history.History.TheInside.{Inside}
+use Rattle.curve_pieces.specs.PieceRows.{Rowed, items, LosesCurve as LosesRowsOf}
 use Rattle.curve_history.specs.Past.{Past, curves_on, strands_on, curves_of}
 use Rattle.edit_steps.specs.EditLaws.{curve_of}
 use Rattle.curve_history.specs.HistoryInMemory.{entry, item_in, items_along, IsDescending, Says, ArePairs, AreFilled, number_of, named_in, pairs_in, IsSoundHistory}
@@ -101,6 +102,17 @@ chain_free i old k v t w f = none_there (chain i.by_curve k) each
         let r : Member (curve_of b.0) (curves_on old (dart_id (item_in i.by_curve n))) = says_runs i old v (dart_id (item_in i.by_curve n)) b.0 (record { node = u.0; twin = n; is = b.2 }) in
         f (dart_id (item_in i.by_curve n)) (subst (λ c. Member c (curves_on old (dart_id (item_in i.by_curve n)))) (sym b.1) r)
 
+-- two tests that agree leave the same
+filter_alike : {X : Type 0} (p q : X → Bool) → ((x : X) → p x ≡ q x) → (xs : List X) → filter p xs ≡ filter q xs
+filter_alike p q h [] = refl
+filter_alike p q h (x ∷ xs) = ap (λ b. cond b (x ∷ filter p xs) (filter p xs)) (h x) ∙ ap (λ ys. cond (q x) (x ∷ ys) ys) (filter_alike p q h xs)
+
+alike : (m n : ℕ) → (m == n) ≡ same_curve m n
+alike m n = elim (cases_eq m n) [
+  | inl q ↦ eq-eqb m n q ∙ sym (curve_in m n q)
+  | inr ne ↦ other_number m n ne ∙ sym (not_out (same_curve m n) (not_in (same_curve m n) (λ e. ne (curve_out m n e))))
+]
+
 -- what a filter leaves of what is read
 pub filter_map : {X Y : Type 0} (f : X → Y) (p : Y → Bool) (xs : List X) → map f (filter (λ x. p (f x)) xs) ≡ filter p (map f xs)
 filter_map f p [] = refl
@@ -131,7 +143,7 @@ no_chain : (c : Chained) (k : ℕ) → c.nodes ≡ [] → chain c k ≡ []
 unfolding chain
 no_chain c k h = ap (λ s. trail (after_in c) s (first_in c k)) (ap length h) ∙ no_steps (after_in c) (first_in c k)
 
-pub kept_none : {Z : Type 0} (e c : Chained) (p : Vec PieceInMemory Z) (n : Option ℕ) → e.nodes ≡ [] → c.nodes ≡ [] → e.heads ≡ [] → c.heads ≡ [] → p.items ≡ [] → IfSome n (λ n. (1 ≤ n) × (n < 2 ^ 32)) → IsSoundHistory e c p n
+pub kept_none : (e c : Chained) (p : Rowed) (n : Option ℕ) → e.nodes ≡ [] → c.nodes ≡ [] → e.heads ≡ [] → c.heads ≡ [] → p.rows ≡ [] → IfSome n (λ n. (1 ≤ n) × (n < 2 ^ 32)) → IsSoundHistory e c p n
 kept_none e c p n en cn eh ch pe l = record {
   pairs = record {
     forth = record { twin = λ x f h. absurd (none_at e x f en h) };
@@ -142,14 +154,34 @@ kept_none e c p n en cn eh ch pe l = record {
   ordered = λ k. subst (λ xs. IsDescending (map (item_in e) xs)) (sym (no_chain e k en)) tt;
   numbers = λ k h. absurd (no_key c k ch h);
   last = l;
-  few = let q : length p.items ≡ 0 = ap length pe in omega arith;
+  few = let q : length p.rows ≡ 0 = ap length pe in omega arith;
 }
 
 pub held_nothing : (new : Past) (e : Chained) → new.pairs ≡ pairs_in e → e.nodes ≡ [] → (d : DartId) → strands_on new d ≡ []
 held_nothing new e h n d = held_is new e d h ∙ listed_from e d.0 [] tt (λ k m. absurd m) (λ k s. absurd (none_at e s.node (entry d.0 k s.twin) n s.is))
 
+-- a filter leaves no more than there was
+no_more_left : {X : Type 0} (p : X → Bool) (xs : List X) → length (filter p xs) ≤ length xs
+no_more_left p [] = omega arith
+no_more_left p (x ∷ xs) = by (p x) (no_more_left p xs)
+  where
+    by : (b : Bool) → length (filter p xs) ≤ length xs → length (cond b (x ∷ filter p xs) (filter p xs)) ≤ length (x ∷ xs)
+    by true h = omega (arith, h)
+    by false h = omega (arith, h)
+
+-- a name less, with its pieces, leaves a history
+pub kept_less : (e c c' : Chained) (p q : Rowed) (m : ℕ) (n : Option ℕ) → IsSoundHistory e c p n → ((k : ℕ) → HasKey c' k → HasKey c k) → c'.nodes ≡ c.nodes → LosesRowsOf p q m → IsSoundHistory e c' q n
+kept_less e c c' p q m n k has nodes lost = record {
+  pairs = twins_with_curve e c c' nodes k.pairs;
+  filled = k.filled;
+  ordered = k.ordered;
+  numbers = λ x h. k.numbers x (has x h);
+  last = k.last;
+  few = let a = ap length lost in let b = no_more_left (λ (r : ℕ × PieceInMemory). not (r.1.curve.0 == m)) p.rows in omega (arith, a, b, k.few);
+}
+
 -- more room leaves a history as it is
-pub kept_roomier : {Z : Type 0} (e c e' c' : Chained) (p q : Vec PieceInMemory Z) (n : Option ℕ) → IsSoundHistory e c p n → IsRoomier e e' → IsRoomier c c' → length q.items < 2 ^ 32 → IsSoundHistory e' c' q n
+pub kept_roomier : (e c e' c' : Chained) (p q : Rowed) (n : Option ℕ) → IsSoundHistory e c p n → IsRoomier e e' → IsRoomier c c' → length q.rows < 2 ^ 32 → IsSoundHistory e' c' q n
 kept_roomier e c e' c' p q n k a b f = record {
   pairs = twins_with_curve e' c c' b.nodes (twins_with_key e e' c a.nodes k.pairs);
   filled = record { key = λ x h. let s = k.filled.key x (subst (λ (hs : List (ℕ × Option ℕ)). IsSome (row_at hs x)) a.heads h) in (s.0, says_there e e' x s.0 a.nodes s.1) };
@@ -228,8 +260,13 @@ module _ (i : Inside) (old : Past) (v : IsSeen i old) where
   pub less_names : (c' : Chained) (n : ℕ) → ((k : ℕ) → HasKey c' k ↔ (HasKey i.by_curve k × (k ≢ n))) → named_in c' ≡ filter (λ k. not (same_curve k n)) old.names
   less_names c' n h = rw v.names (named_less i.by_curve c' n h)
 
-  pub less_pieces : (n : ℕ) (ks : List PieceInMemory) → ks ≡ filter (λ k. not (same_curve k.curve.0 n)) i.pieces.items → map piece_of ks ≡ filter (λ k. not (same_curve k.curve n)) old.pieces
-  less_pieces n ks e = rw v.pieces (ap (map piece_of) e ∙ filter_map piece_of (λ k. not (same_curve k.curve n)) i.pieces.items)
+  pub less_pieces : (p : Rowed) (n : ℕ) → LosesRowsOf i.pieces p n → map piece_of (items p) ≡ filter (λ k. not (same_curve k.curve n)) old.pieces
+  less_pieces p n e =
+      rw v.pieces
+      (ap (λ rs. map piece_of (map (λ (r : ℕ × PieceInMemory). r.1) rs)) e
+      ∙ ap (map piece_of) (filter_map (λ (r : ℕ × PieceInMemory). r.1) (λ k. not (k.curve.0 == n)) i.pieces.rows)
+      ∙ filter_map piece_of (λ k. not (k.curve == n)) (items i.pieces)
+      ∙ filter_alike (λ (k : PieceModel). not (k.curve == n)) (λ k. not (same_curve k.curve n)) (λ k. ap not (alike k.curve n)) (map piece_of (items i.pieces)))
 
   pub counted : (count : ℕ) → IsDistinct ◌==◌ (names i.by_curve.heads) → count ≡ length i.by_curve.heads → count ≡ length old.names
   counted count d e = e ∙ sym (named_length i.by_curve d) ∙ ap length (sym v.names)
@@ -282,5 +319,5 @@ module _ (i : Inside) (old : Past) (v : IsSeen i old) where
       most None l = omega arith
       most (Some n) l = omega (arith, l.1)
 
-  pub pieces_few : length i.pieces.items < 2 ^ 32 → length old.pieces < 2 ^ 32
-  pieces_few h = subst (λ n. n < 2 ^ 32) (sym (ap length v.pieces ∙ length-map i.pieces.items piece_of)) h
+  pub pieces_few : length i.pieces.rows < 2 ^ 32 → length old.pieces < 2 ^ 32
+  pieces_few h = subst (λ n. n < 2 ^ 32) (sym (ap length v.pieces ∙ length-map (items i.pieces) piece_of ∙ length-map i.pieces.rows (λ (r : ℕ × PieceInMemory). r.1))) h

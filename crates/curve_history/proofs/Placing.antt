@@ -8,10 +8,10 @@ use Rattle.plane_graphs.proofs.Lists.{of_filter, map_same, not_out, clash}
 use Rattle.slab_laws.specs.Tables.{row_at}
 use Rattle.slab_laws.specs.FaceLists.{first_of, AreOnce}
 use Rattle.chain_laws.specs.Links.{trail, first_or, comes_after}
-use Rattle.linked_chains.specs.Chains.{Chained, Link, IsWhole, HasNode, entry_at, chain, put_after}
+use Rattle.linked_chains.specs.Chains.{Chained, Link, IsWhole, HasNode, entry_at, chain, put_after, put_at}
 use Rattle.linked_chains.specs.declared.node.Entry.{Entry}
 use Rattle.linked_chains.proofs.PutAfter.{put_absent}
-use Rattle.curve_history.specs.Changed.{IsPairMore, IsOfEdge, IsLastAbove, IsPutAt, IsRoomier, next_in, put_at}
+use Rattle.curve_history.specs.Changed.{IsPairMore, IsOfEdge, IsLastAbove, IsPutAt, IsRoomier, next_in}
 use Rattle.curve_history.specs.HistoryInMemory.{entry, item_in, item_or, items_along, IsDescending, AreOrdered, Says}
 use Rattle.curve_history.proofs.Descending.{descends_filter, descends_at}
 use Rattle.curve_history.proofs.Twins.{IsNodeMore, IsNodeLess, same_entries}

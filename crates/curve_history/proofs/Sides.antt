@@ -50,7 +50,7 @@ curves_from zs ks a f g = ascending_unique nat_cmp nat_cmp_total (curves_of zs) 
 pub none_of_none : (zs : List ℕ) → curves_of zs ≡ [] → zs ≡ []
 none_of_none zs e = none_there zs (λ z m. subst (Member (curve_of z)) e (in_curves z zs m))
 
-none_curves : curves_of [] ≡ []
+pub none_curves : curves_of [] ≡ []
 unfolding curves_of ascending
 none_curves = refl
 

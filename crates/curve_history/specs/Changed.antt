@@ -1,10 +1,10 @@
 -- What one pair of an edge and one more curve, or fewer, changes in chains by edge and by curve (this project).
-use Rattle.std.specs.Prelude.{◌≡◌, ◌≢◌, ◌⊎◌, ◌↔◌, ◌<◌, ◌≤◌, ◌==◌, ℕ, List, ◌∷◌, not, Option, Some, None}
+use Rattle.std.specs.Prelude.{◌≡◌, ◌≢◌, ◌⊎◌, ◌↔◌, ◌<◌, ◌≤◌, ◌==◌, ℕ, List, not, Option, Some, None}
 use Rattle.std.specs.List.{filter}
 use Rattle.plane_graphs.specs.Ascending.{Member}
 use Rattle.slab_laws.specs.FaceLists.{first_of}
 use Rattle.chain_laws.specs.Links.{comes_after}
-use Rattle.linked_chains.specs.Chains.{Chained, HasKey, entry_at, chain, put_after}
+use Rattle.linked_chains.specs.Chains.{Chained, HasKey, entry_at, chain, put_at}
 use Rattle.linked_chains.specs.declared.node.Entry.{Entry}
 use Rattle.curve_history.specs.HistoryInMemory.{Says, entry, item_in}
 use Rattle.edit_steps.specs.EditLaws.{curve_of}
@@ -31,11 +31,6 @@ IsOfEdge c edge last = (n : ℕ) → last ≡ Some n → Member n (chain c edge)
 abbrev pub next_in : List ℕ → Option ℕ → Option ℕ
 next_in xs None = first_of xs
 next_in xs (Some m) = comes_after xs m
-
--- the list with n put first, or directly after another one
-abbrev pub put_at : Option ℕ → ℕ → List ℕ → List ℕ
-put_at None n xs = n ∷ xs
-put_at (Some m) n xs = put_after m n xs
 
 -- the node that there may be says a greater number than this, and the one after it, or the first one, says no greater one
 pub record IsLastAbove (c : Chained) (edge curve : ℕ) (last : Option ℕ) : Type 0 where

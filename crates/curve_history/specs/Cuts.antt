@@ -1,5 +1,5 @@
 -- What a cut leaves of pieces (this project).
-use Rattle.std.specs.Prelude.{◌≡◌, ◌≤◌, ◌++◌, ◌∷◌, [], ◌&&◌, not, ℕ, Bool, true, false, List, length, map, take, drop}
+use Rattle.std.specs.Prelude.{◌≡◌, ◌≤◌, ◌++◌, ◌∷◌, [], ◌&&◌, not, ℕ, Bool, true, false, cond, List, length, map, take, drop}
 use Rattle.std.specs.List.{flat_map, list_any, AllByRecursion}
 use Rattle.exact_plane.specs.Point.{Point}
 use Rattle.plane_graphs.specs.Line.{precedes}
@@ -7,6 +7,7 @@ use Rattle.plane_graphs.specs.Piece.{Piece}
 use Rattle.edit_steps.specs.Steps.{cut_piece}
 use Rattle.slab_laws.specs.Pieces.{piece_of}
 use Rattle.slab_laws.specs.declared.present.Piece.{Piece as PieceInMemory}
+use Rattle.curve_pieces.specs.PieceRows.{Rowed}
 use Rattle.curve_history.specs.declared.cuts.CutPlan.{CutPlan}
 
 -- something is left of the piece without the part from a to b
@@ -29,9 +30,21 @@ spans k a b = not (precedes a k.from) && not (precedes k.to b)
 abbrev pub rests_of : Point → Point → List Piece → List Piece
 rests_of a b ks = flat_map (cut_piece a b) ks
 
--- the pieces in memory are these, and then those before (this project)
-abbrev pub ArePrepended : List PieceInMemory → List PieceInMemory → List Piece → Type 0
-ArePrepended old new ks = map piece_of new ≡ ks ++ map piece_of old
+-- the piece, where something is left of it (this project)
+abbrev pub kept_whole : Point → Point → Piece → List Piece
+kept_whole a b k = cond (leaves_some a b k) (k ∷ []) []
+
+-- the pieces of rows, as the model has them
+abbrev pub modelled : List (ℕ × PieceInMemory) → List Piece
+modelled rs = map piece_of (map (λ r. r.1) rs)
+
+-- in place of the piece of a name stands what f gives for it, and all others stay (this project)
+abbrev pub IsReplaced : (Piece → List Piece) → Rowed → Rowed → ℕ → Type 0
+IsReplaced f old new name = (before after : List (ℕ × PieceInMemory)) (k : PieceInMemory) → old.rows ≡ before ++ (name, k) ∷ after → (rows : List (ℕ × PieceInMemory)) × (new.rows ≡ before ++ (rows ++ after)) × (modelled rows ≡ f (piece_of k))
+
+-- in place of the piece of a name stand these, and all others stay (this project)
+abbrev pub ArePut : Rowed → Rowed → ℕ → List PieceInMemory → Type 0
+ArePut old new name ks = (before after : List (ℕ × PieceInMemory)) (k : PieceInMemory) → old.rows ≡ before ++ (name, k) ∷ after → (rows : List (ℕ × PieceInMemory)) × (new.rows ≡ before ++ (rows ++ after)) × (map (λ r. r.1) rows ≡ ks)
 
 -- the plan says how many pieces the cut from a to b leaves; the run from `first` up to `end` has all that it changes; and where it says that none goes, each leaves some (this project)
 pub record IsPlanOfCut (a b : Point) (ks : List Piece) (plan : CutPlan) : Type 0 where

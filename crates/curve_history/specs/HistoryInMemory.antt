@@ -1,13 +1,12 @@
 -- How chains by edge and by curve, pieces and a number are a history (this project).
-use Rattle.std.specs.Prelude.{◌≡◌, ◌-◌, ◌^◌, ◌≤◌, ◌<◌, ℕ, List, [], ◌∷◌, map, min, Option, Some, None, IfSome, length, vec_capacity, vec_len, ⊤}
+use Rattle.std.specs.Prelude.{◌≡◌, ◌^◌, ◌≤◌, ◌<◌, ℕ, List, [], ◌∷◌, map, min, Option, Some, None, IfSome, length, ⊤}
 use Rattle.std.specs.List.{AllByRecursion}
-use Rattle.std.specs.declared.vec.Vec.{Vec}
 use Rattle.std.specs.Ordering.{nat_cmp}
 use Rattle.plane_graphs.specs.Ascending.{ascending}
 use Rattle.slab_laws.specs.Pieces.{piece_of}
 use Rattle.slab_laws.specs.Tables.{names}
-use Rattle.slab_laws.specs.declared.present.Piece.{Piece as PieceInMemory}
 use Rattle.linked_chains.specs.Chains.{Chained, HasKey, entry_at, chain}
+use Rattle.curve_pieces.specs.PieceRows.{Rowed, items}
 use Rattle.linked_chains.specs.declared.node.Entry.{Entry}
 use Rattle.curve_history.specs.Past.{Past}
 use Rattle.edit_steps.specs.EditLaws.{curve_of}
@@ -84,25 +83,25 @@ pairs_in c = map (λ n. pair_or (entry_at c n)) (names c.nodes)
 abbrev pub pair_room : Chained → Chained → ℕ
 pair_room edges curves = min (min edges.spare_nodes curves.spare_nodes) edges.spare_keys
 
-abbrev pub past : {Z : Type 0} → Chained → Chained → Vec PieceInMemory Z → Option ℕ → Past
+abbrev pub past : Chained → Chained → Rowed → Option ℕ → Past
 past edges curves pieces next = record {
   pairs = pairs_in edges;
   names = named_in curves;
-  pieces = map piece_of pieces.items;
+  pieces = map piece_of (items pieces);
   next = number_of next;
   spare_names = curves.spare_keys;
-  spare_pieces = vec_capacity pieces - vec_len pieces;
+  spare_pieces = pieces.spare;
   spare_pairs = pair_room edges curves;
   capacity_by_edge = edges.capacity_of_nodes;
   capacity_by_curve = curves.capacity_of_nodes;
-  capacity_of_pieces = vec_capacity pieces;
+  capacity_of_pieces = pieces.capacity;
 }
 
 -- the pairs are twins, said once; the edges with a key are those with curves; their chains are in order; the numbers of curves are below the next one; and there are fewer than 2^32 pieces (this project)
-pub record IsSoundHistory {Z : Type 0} (edges curves : Chained) (pieces : Vec PieceInMemory Z) (next : Option ℕ) : Type 0 where
+pub record IsSoundHistory (edges curves : Chained) (pieces : Rowed) (next : Option ℕ) : Type 0 where
   pub pairs : ArePairs edges curves
   pub filled : AreFilled edges
   pub ordered : AreOrdered edges
   pub numbers : (k : ℕ) → HasKey curves k → (1 ≤ k) × (k < number_of next)
   pub last : IfSome next (λ n. (1 ≤ n) × (n < 2 ^ 32))
-  pub few : length pieces.items < 2 ^ 32
+  pub few : length pieces.rows < 2 ^ 32

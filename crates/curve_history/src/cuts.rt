@@ -1,12 +1,17 @@
-ghost use Rattle.std.specs.Prelude.{◌≡◌, ◌≤◌, ◌+◌, ◌∷◌, ◌++◌, [], ◌^◌, ◌<◌, ◌&&◌, ◌||◌, ◌≢◌, not, true, false, cond, length, map, take, drop, vec_capacity, vec_len};
+ghost use Rattle.std.specs.Prelude.{◌≡◌, ◌≤◌, ◌+◌, ◌∷◌, ◌++◌, [], ◌^◌, ◌<◌, ◌&&◌, ◌||◌, ◌≢◌, not, true, false, cond, length, map, drop};
 ghost use Rattle.std.specs.List.{filter};
 ghost use Rattle.exact_plane.specs.Segment.{line_of_segment};
 ghost use Rattle.edit_steps.specs.Steps.{cut_piece};
+ghost use Rattle.plane_graphs.specs.Ascending.{Member};
 ghost use Rattle.plane_graphs.specs.Line.{is_on as is_on_line, precedes};
 ghost use Rattle.plane_graphs.specs.Piece.{along, on};
+ghost use Rattle.slab_laws.specs.FaceLists.{first_of};
 ghost use Rattle.slab_laws.specs.Pieces.{piece_of};
-ghost use Rattle.curve_history.specs.Cuts.{leaves_some, rests_of, spans, AllLeaveSome, ArePrepended, AreWhole, IsPlanOfCut, IsPlanWithNext};
+ghost use Rattle.slab_laws.specs.Tables.{names};
+ghost use Rattle.curve_pieces.specs.PieceRows.{items, HasPiece};
+ghost use Rattle.curve_history.specs.Cuts.{kept_whole, leaves_some, rests_of, spans, AllLeaveSome, ArePut, IsPlanOfCut, IsPlanWithNext, IsReplaced};
 
+use curve_pieces::Pieces;
 use exact_plane::{Point, Segment, Sign, orientation};
 use slab_laws::Piece;
 
@@ -154,9 +159,9 @@ fn with_next(plan: CutPlan, place: usize, piece: &Piece, p: &Point, q: &Point) -
 }
 
 /// What the cut between two points will leave of pieces.
-pub(crate) fn plan_of_cut(pieces: &[Piece], p: &Point, q: &Point) -> CutPlan
-    requires { length pieces.now < 2 ^ 32 }
-    ensures { IsPlanOfCut p.now q.now (map piece_of pieces.now) result }
+pub(crate) fn plan_of_cut(pieces: &Pieces, p: &Point, q: &Point) -> CutPlan
+    requires { length pieces.now.rows < 2 ^ 32 }
+    ensures { IsPlanOfCut p.now q.now (map piece_of (items pieces.now)) result }
 {
     let mut plan = CutPlan {
         left: 0,
@@ -170,119 +175,109 @@ pub(crate) fn plan_of_cut(pieces: &[Piece], p: &Point, q: &Point) -> CutPlan
     plan
 }
 
+// The piece of a name goes where nothing is left of it.
+fn drop_spent(pieces: &mut Pieces, name: usize, p: &Point, q: &Point)
+    requires { HasPiece pieces.old name }
+    ensures rows { IsReplaced (kept_whole p.now q.now) pieces.old pieces.new name }
+    ensures capacity { pieces.new.capacity ≡ pieces.old.capacity }
+{
+    pieces.laws();
+    if !leaves_rest(pieces.piece(name), p, q) {
+        pieces.remove(name);
+    }
+}
+
 // The pieces of which nothing is left go.
-fn remove_spent(pieces: &mut Vec<Piece>, p: &Point, q: &Point)
-    ensures items { pieces.new.items ≡ filter (λ j. leaves_some p.now q.now (piece_of j)) pieces.old.items }
-    ensures capacity { vec_capacity pieces.new ≡ vec_capacity pieces.old }
+fn remove_spent(pieces: &mut Pieces, p: &Point, q: &Point)
+    ensures items { map piece_of (items pieces.new) ≡ filter (leaves_some p.now q.now) (map piece_of (items pieces.old)) }
+    ensures capacity { pieces.new.capacity ≡ pieces.old.capacity }
 {
-    pieces.retain(|piece| leaves_rest(piece, p, q));
-}
-
-// The pieces from one place up to another move up by so many places, the last one first.
-fn move_up(pieces: &mut [Piece], from: usize, to: usize, gap: usize)
-    requires run { from ≤ to }
-    requires within { to + gap ≡ length pieces.old }
-    ensures before { take from pieces.new ≡ take from pieces.old }
-    ensures behind { drop (from + gap) pieces.new ≡ drop from (take to pieces.old) }
-{
-    let mut at = to;
-    'up: while from < at {
-        at -= 1;
-        let piece = pieces[at];
-        pieces[at + gap] = piece;
+    let mut at = pieces.first();
+    'each: for _ in 0..pieces.len() {
+        let Some(name) = at else {
+            return;
+        };
+        at = pieces.after(name);
+        drop_spent(pieces, name, p, q);
     }
 }
 
-// The pieces from a place on leave a gap of so many places before them; what stands there doesn't matter.
-fn open_gap(pieces: &mut Vec<Piece>, end: usize, gap: usize)
-    requires end { end ≤ vec_len pieces.old }
-    requires gap { gap ≤ vec_len pieces.old }
-    requires room { vec_len pieces.old + gap ≤ vec_capacity pieces.old }
-    ensures before { take end pieces.new.items ≡ take end pieces.old.items }
-    ensures behind { drop (end + gap) pieces.new.items ≡ drop end pieces.old.items }
-    ensures len { vec_len pieces.new ≡ vec_len pieces.old + gap }
+// In place of the piece of a name stand the part below and the part above, each if a test says so; they are of its curve.
+fn put_parts(pieces: &mut Pieces, name: usize, begins: bool, below: Piece, ends: bool, above: Piece)
+    requires has { HasPiece pieces.old name }
+    requires below { (k : _) → Member (name, k) pieces.old.rows → k.curve ≡ below.curve }
+    requires above { below.curve ≡ above.curve }
+    requires room { begins ≡ true → ends ≡ true → length pieces.old.rows + 1 ≤ pieces.old.capacity }
+    ensures rows { ArePut pieces.old pieces.new name (cond begins (below ∷ []) [] ++ cond ends (above ∷ []) []) }
+    ensures capacity { pieces.new.capacity ≡ pieces.old.capacity }
 {
-    if gap == 0 {
-        return;
-    }
-    let len = pieces.len();
-    let any = pieces[0];
-    pieces.resize(len + gap, any).unwrap();
-    move_up(pieces, end, len, gap);
-}
-
-// Puts a piece before a place, if a test says so; the place where it stands then.
-fn put_if(pieces: &mut [Piece], to: usize, test: bool, piece: Piece) -> usize
-    requires before { cond test 1 0 ≤ to }
-    requires within { to ≤ length pieces.old }
-    ensures place { result + cond test 1 0 ≡ to }
-    ensures before { take result pieces.new ≡ take result pieces.old }
-    ensures items { ArePrepended (drop to pieces.old) (drop result pieces.new) (cond test (piece_of piece ∷ []) []) }
-{
-    if test {
-        pieces[to - 1] = piece;
-        to - 1
+    if begins {
+        pieces.set(name, below);
+        if ends {
+            pieces.put_after(name, above);
+        }
+    } else if ends {
+        pieces.set(name, above);
     } else {
-        to
+        pieces.remove(name);
     }
 }
 
-// Puts what is left of a piece without the part between two points before a place; the place where it begins then.
-fn put_rests(pieces: &mut [Piece], to: usize, piece: Piece, p: &Point, q: &Point) -> usize
-    requires before { length (cut_piece p.now q.now (piece_of piece)) ≤ to }
-    requires within { to ≤ length pieces.old }
-    ensures place { result + length (cut_piece p.now q.now (piece_of piece)) ≡ to }
-    ensures before { take result pieces.new ≡ take result pieces.old }
-    ensures items { ArePrepended (drop to pieces.old) (drop result pieces.new) (cut_piece p.now q.now (piece_of piece)) }
+// What is left of the piece of a name stands in its place, in room that is there.
+fn cut_one(pieces: &mut Pieces, name: usize, p: &Point, q: &Point)
+    requires has { HasPiece pieces.old name }
+    requires room { (k : _) → Member (name, k) pieces.old.rows → length pieces.old.rows + length (cut_piece p.now q.now (piece_of k)) ≤ pieces.old.capacity + 1 }
+    ensures rows { IsReplaced (cut_piece p.now q.now) pieces.old pieces.new name }
+    ensures capacity { pieces.new.capacity ≡ pieces.old.capacity }
 {
+    pieces.laws();
+    let piece = *pieces.piece(name);
     if holds_both(&piece, p, q) {
-        let below = Piece { to: *p, ..piece };
-        let above = Piece { from: *q, ..piece };
         let begins = comes_before(&piece.from, p);
         let ends = comes_before(q, &piece.to);
-        let middle = put_if(pieces, to, ends, above);
-        put_if(pieces, middle, begins, below)
-    } else {
-        put_if(pieces, to, true, piece)
+        let below = Piece { to: *p, ..piece };
+        let above = Piece { from: *q, ..piece };
+        put_parts(pieces, name, begins, below, ends, above);
     }
 }
 
-// What is left of the pieces from one place up to another, of which each leaves some, in place of them and of a gap behind them.
-fn fill_run(pieces: &mut [Piece], first: usize, end: usize, gap: usize, p: &Point, q: &Point)
-    requires run { first ≤ end }
-    requires within { end + gap ≤ length pieces.old }
-    requires gap { length (rests_of p.now q.now (map piece_of (take end pieces.old))) ≡ end + gap }
-    requires before { AreWhole p.now q.now (map piece_of (take first pieces.old)) }
-    requires some { AllLeaveSome p.now q.now (map piece_of (take end pieces.old)) }
-    ensures { map piece_of pieces.new ≡ rests_of p.now q.now (map piece_of (take end pieces.old)) ++ map piece_of (drop (end + gap) pieces.old) }
+// The name of the piece at a place.
+fn name_at(pieces: &Pieces, place: usize) -> Option<usize>
+    ensures { result ≡ first_of (names (drop place pieces.now.rows)) }
 {
-    let mut to = end + gap;
-    let mut at = end;
-    'down: while first < at {
-        at -= 1;
-        let piece = pieces[at];
-        to = put_rests(pieces, to, piece, p, q);
+    let mut at = pieces.first();
+    'each: for _ in 0..place {
+        let Some(name) = at else {
+            return None;
+        };
+        at = pieces.after(name);
     }
+    at
 }
 
 // What is left of pieces, of which each leaves some.
-fn cut_run(pieces: &mut Vec<Piece>, p: &Point, q: &Point, plan: CutPlan)
-    requires plan { IsPlanOfCut p.now q.now (map piece_of pieces.old.items) plan }
-    requires some { AllLeaveSome p.now q.now (map piece_of pieces.old.items) }
-    requires room { plan.left ≤ vec_capacity pieces.old }
-    ensures { map piece_of pieces.new.items ≡ rests_of p.now q.now (map piece_of pieces.old.items) }
+fn cut_run(pieces: &mut Pieces, p: &Point, q: &Point, plan: CutPlan)
+    requires plan { IsPlanOfCut p.now q.now (map piece_of (items pieces.old)) plan }
+    requires some { AllLeaveSome p.now q.now (map piece_of (items pieces.old)) }
+    requires room { plan.left ≤ pieces.old.capacity }
+    ensures { map piece_of (items pieces.new) ≡ rests_of p.now q.now (map piece_of (items pieces.old)) }
 {
-    let gap = plan.left as usize - pieces.len();
-    open_gap(pieces, plan.end, gap);
-    fill_run(pieces, plan.first, plan.end, gap, p, q);
+    let mut at = name_at(pieces, plan.first);
+    'each: for _ in plan.first..plan.end {
+        pieces.laws();
+        let Some(name) = at else {
+            return;
+        };
+        at = pieces.after(name);
+        cut_one(pieces, name, p, q);
+    }
 }
 
-/// What is left of pieces without the part between two points, in their memory. Only pieces that hold both, and those behind
-/// the first of them, move.
-pub(crate) fn cut_all(pieces: &mut Vec<Piece>, p: &Point, q: &Point, plan: CutPlan)
-    requires plan { IsPlanOfCut p.now q.now (map piece_of pieces.old.items) plan }
-    requires room { plan.left ≤ vec_capacity pieces.old }
-    ensures { map piece_of pieces.new.items ≡ rests_of p.now q.now (map piece_of pieces.old.items) }
+/// What is left of pieces without the part between two points, in their memory. Only pieces that hold both change.
+pub(crate) fn cut_all(pieces: &mut Pieces, p: &Point, q: &Point, plan: CutPlan)
+    requires plan { IsPlanOfCut p.now q.now (map piece_of (items pieces.old)) plan }
+    requires room { plan.left ≤ pieces.old.capacity }
+    ensures { map piece_of (items pieces.new) ≡ rests_of p.now q.now (map piece_of (items pieces.old)) }
 {
     if plan.some_go {
         // Without the pieces that go, their number only grows, so that it is at most the last one all along.

@@ -1,5 +1,5 @@
+use curve_pieces::Pieces;
 use linked_chains::Chains;
-use slab_laws::Piece;
 use std::marker::Model;
 use thiserror::Error;
 
@@ -15,7 +15,7 @@ pub const LAST_CURVE: u32 = u32::MAX;
 pub struct History {
     pub(crate) by_edge: Chains,
     pub(crate) by_curve: Chains,
-    pub(crate) pieces: Vec<Piece>,
+    pub(crate) pieces: Pieces,
     // The number of the next curve, or `None` after the last one.
     pub(crate) next: Option<u32>,
 }

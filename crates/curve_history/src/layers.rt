@@ -1,4 +1,4 @@
-ghost use Rattle.std.specs.Prelude.{◌≡◌, ◌≢◌, ◌<◌, ◌≤◌, ◌+◌, ◌^◌, ◌↔◌, ◌==◌, ◌∷◌, ◌++◌, [], not, true, false, map, length, nat_lt, IsOk, IfOk, IfSome, IsErrOf, OnOk, Contains, option_copied, option_map, slice_get};
+ghost use Rattle.std.specs.Prelude.{◌≡◌, ◌≢◌, ◌<◌, ◌≤◌, ◌+◌, ◌^◌, ◌↔◌, ◌==◌, ◌∷◌, ◌++◌, [], not, true, false, map, length, nat_lt, IsOk, IfOk, IfSome, IsErrOf, OnOk, Contains};
 ghost use Rattle.std.specs.List.{filter, IsDistinct};
 ghost use Rattle.std.specs.Ordering.{nat_cmp};
 ghost use Rattle.plane_graphs.specs.Ascending.{Member, IsAscending};
@@ -12,6 +12,7 @@ ghost use Rattle.curve_history.specs.Past.{curves_on, strands_on, HasRoom, SameC
 use crate::cuts::{CutPlan, cut_all, plan_of_cut};
 use crate::history::{History, HistoryError, LAST_CURVE};
 use crate::walks::{count_along, curves_along, edges_along, says_same};
+use curve_pieces::{Iter, Pieces};
 use exact_plane::Point;
 use linked_chains::Chains;
 use no_memory::NoMemory;
@@ -55,12 +56,6 @@ fn each_once(edges: Vec<DartId>) -> Vec<DartId>
     edges
 }
 
-fn is_of_another(piece: &Piece, curve: CurveId) -> bool
-    ensures { result ≡ not (same_curve piece.now.curve.0 curve.0) }
-{
-    piece.curve.0 != curve.0
-}
-
 impl History {
     /// No curves, of which the first gets this number.
     pub fn new(alloc: Global, first: u32) -> Result<History, NoMemory>
@@ -75,7 +70,7 @@ impl History {
         Ok(History {
             by_edge: Chains::new(alloc),
             by_curve: Chains::new(alloc),
-            pieces: Vec::new(alloc),
+            pieces: Pieces::new(alloc),
             next: Some(first),
         })
     }
@@ -150,9 +145,10 @@ impl History {
         ensures strands { SameStrands self.old self.new }
         ensures curves { SameCurves self.old self.new }
         ensures spare_names { self.old.spare_names ≤ self.new.spare_names }
+        ensures spare_pieces { self.old.spare_pieces ≤ self.new.spare_pieces + 1 }
         ensures spare_pairs { self.old.spare_pairs ≤ self.new.spare_pairs }
     {
-        self.pieces.push_reserved(piece);
+        self.pieces.add(piece);
     }
 
     /// What the cut of the edge between two points will leave of the pieces that hold both. It takes no memory.
@@ -175,10 +171,12 @@ impl History {
         ensures strands { SameStrands self.old self.new }
         ensures curves { SameCurves self.old self.new }
     {
+        // All pieces and the room for more are within what fits.
+        self.pieces.laws();
         cut_all(&mut self.pieces, p, q, plan);
     }
 
-    /// The name of a curve that runs along no edge goes, and its pieces.
+    /// The name of a curve that runs along no edge goes, and its pieces, at the cost of their number alone.
     pub fn drop_name(&mut self, curve: CurveId)
         requires named { Member curve.0 self.old.names }
         requires free { (d : _) → ¬ Member curve.0 (curves_on self.old d) }
@@ -193,7 +191,7 @@ impl History {
         // No node is left in its chain.
         self.by_curve.laws();
         self.by_curve.remove_key(curve.0 as usize);
-        self.pieces.retain(|piece| is_of_another(piece, curve));
+        self.pieces.remove_curve(curve);
     }
 
     /// The curves along an edge, ascending.
@@ -276,11 +274,11 @@ impl History {
         self.by_curve.count_keys() as u32
     }
 
-    /// The piece at a place; `None` exactly from `pieces()` on.
-    pub fn piece(&self, i: u32) -> Option<&Piece>
-        ensures { option_map piece_of (option_copied result) ≡ slice_get self.now.pieces i }
+    /// All pieces, in their order, each at the same cost. It takes no memory.
+    pub fn pieces_in_order(&self) -> Iter<'_>
+        ensures { map piece_of result ≡ self.now.pieces }
     {
-        self.pieces.get(i as usize)
+        self.pieces.iter()
     }
 
     /// No curve has a name, and no piece is left; the next number stays.

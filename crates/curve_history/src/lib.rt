@@ -14,6 +14,7 @@ mod pairs;
 mod strands;
 mod walks;
 
+pub use curve_pieces::Iter as PieceIter;
 pub use cuts::CutPlan;
 pub use drawn::Drawn;
 pub use history::{History, HistoryError, LAST_CURVE};

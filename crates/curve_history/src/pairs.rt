@@ -1,6 +1,6 @@
 ghost use Rattle.std.specs.Prelude.{◌≡◌, ◌≢◌, ◌⊎◌, ◌↔◌, ◌≤◌, ◌+◌, [], Some};
-ghost use Rattle.linked_chains.specs.Chains.{chain, HasKey, HasNode, IsSpare, SetsEntry};
-ghost use Rattle.curve_history.specs.Changed.{put_at, AreSameKeys, IsOfEdge, IsPairMore, IsPutAt, LosesPairOf};
+ghost use Rattle.linked_chains.specs.Chains.{chain, put_at, HasKey, HasNode, IsSpare, SetsEntry};
+ghost use Rattle.curve_history.specs.Changed.{AreSameKeys, IsOfEdge, IsPairMore, IsPutAt, LosesPairOf};
 ghost use Rattle.curve_history.specs.HistoryInMemory.{entry, pair_room, AreOrdered, ArePairs, AreFilled, Says};
 ghost use Rattle.edit_steps.specs.EditLaws.{curve_of as curve_number};
 

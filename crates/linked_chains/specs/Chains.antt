@@ -1,5 +1,5 @@
 -- What a caller sees of chains: keys, nodes by name, and the order of each chain.
-use Rattle.std.specs.Prelude.{◌≡◌, ◌↔◌, ◌==◌, ℕ, ◌+◌, List, [], ◌∷◌, cond, Option, Some, option_map, IsSome, Contains, length, ◌≤◌}
+use Rattle.std.specs.Prelude.{◌≡◌, ◌↔◌, ◌==◌, ℕ, ◌+◌, List, [], ◌∷◌, cond, Option, Some, None, option_map, IsSome, Contains, length, ◌≤◌}
 use Rattle.std.specs.List.{IsDistinct}
 use Rattle.slab_laws.specs.Tables.{row_at}
 use Rattle.chain_laws.specs.Links.{first_or, trail}
@@ -67,6 +67,11 @@ SetsTwin old new node twin = (n : ℕ) → entry_at new n ≡ cond (n == node) (
 unfoldable pub put_after : ℕ → ℕ → List ℕ → List ℕ
 put_after m n [] = []
 put_after m n (x ∷ xs) = cond (x == m) (x ∷ n ∷ xs) (x ∷ put_after m n xs)
+
+-- the list with n put first, or directly after another one
+abbrev pub put_at : Option ℕ → ℕ → List ℕ → List ℕ
+put_at None n xs = n ∷ xs
+put_at (Some m) n xs = put_after m n xs
 
 -- chain by chain both have the same nodes, and both have the same keys
 pub record SameChains (old new : Chained) : Type 0 where

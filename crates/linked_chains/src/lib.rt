@@ -9,4 +9,5 @@ mod links;
 mod node;
 
 pub use chains::Chains;
+pub use links::set_head;
 pub use node::Entry;

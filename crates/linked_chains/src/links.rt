@@ -29,8 +29,8 @@ pub(crate) fn set_before(nodes: &mut Slab<Node>, node: Option<usize>, before: Op
     }
 }
 
-// The chain of the key has this first node, unless a node is before it.
-pub(crate) fn set_head(
+/// The chain of the key has this first node, unless a node is before it.
+pub fn set_head(
     heads: &mut IndexMap<usize, Option<usize>>,
     key: usize,
     before: Option<usize>,

@@ -19,7 +19,7 @@ use Rattle.edit_steps.specs.Edits.{Cut, steps}
 use Rattle.edit_steps.specs.Steps.{RemoveEdge, apply, cut_steps, run, with_cut, with_tidying}
 use Rattle.edit_steps.proofs.Cuts.{cut_marks, cut_sub}
 use Rattle.edit_steps.proofs.Removals.{cut_leads}
-use Rattle.segment_remove.proofs.CutStrands.{cut_after}
+use Rattle.edit_steps.proofs.StrandSteps.{cut_after}
 use Rattle.edit_steps.proofs.Vertices.{vertices_change}
 
 pub cut_is_tidied : (o : Present) (a b : Point) → steps (Cut a b) o ≡ with_tidying o (with_cut o a b) (RemoveEdge a b ∷ [])

@@ -2,7 +2,6 @@ pub mod SameVertices
 pub mod CurveLost
 pub mod EdgesReleased
 pub mod SidesReleased
-pub mod CutStrands
 pub mod Cutting
 pub mod Touched
 pub mod Dropping

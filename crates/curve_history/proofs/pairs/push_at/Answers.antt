@@ -1,8 +1,7 @@
 use Rattle.std.proofs.Common.{sym, ap, ◌∙◌}
-use Rattle.curve_history.specs.Changed.{put_at}
 use Rattle.curve_history.proofs.Placing.{put_elsewhere}
 use Rattle.curve_history.proofs.Walking.{at_node, node_at}
-use Rattle.linked_chains.specs.Chains.{chain}
+use Rattle.linked_chains.specs.Chains.{chain, put_at}
 use Rattle.curve_history.proofs.pairs.push_at.Goals as goal
 
 pub push_after-requires-clause-has : goal.push_after-requires-clause-has

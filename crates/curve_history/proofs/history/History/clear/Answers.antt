@@ -4,7 +4,7 @@ use Rattle.curve_history.proofs.Sides.{nothing_runs}
 use Rattle.curve_history.proofs.history.History.clear.Goals as goal
 
 pub invariant_of-self : goal.invariant_of-self
-invariant_of-self c = kept_none _ _ _ _ c.clear.ensures.nodes c.clear-2.ensures.nodes c.clear.ensures.heads c.clear-2.ensures.heads c.clear-3.ensures.items c.self.invariant.last
+invariant_of-self c = kept_none _ _ _ _ c.clear.ensures.nodes c.clear-2.ensures.nodes c.clear.ensures.heads c.clear-2.ensures.heads c.clear-3.ensures.rows c.self.invariant.last
 
 pub returns-clause-strands : goal.returns-clause-strands
 returns-clause-strands c = held_nothing _ c.clear.new.self refl c.clear.ensures.nodes

@@ -1,9 +1,6 @@
-use Rattle.std.proofs.Common.{not, refl, rules}
-use Rattle.std.proofs.lemmas.Fn.{filter_same}
-use Rattle.plane_graphs.specs.Graph.{same_curve}
-use Rattle.slab_laws.specs.declared.present.Piece.{Piece}
+use Rattle.std.proofs.Common.{refl}
 use Rattle.curve_history.proofs.Histories.{sees, has_name, held_same}
-use Rattle.curve_history.proofs.Naming.{chain_free, less_names, less_pieces}
+use Rattle.curve_history.proofs.Naming.{chain_free, kept_less, less_names, less_pieces}
 use Rattle.curve_history.proofs.Sides.{same_strands_curves}
 use Rattle.curve_history.proofs.history.History.drop_name.Goals as goal
 
@@ -17,10 +14,13 @@ pub returns-clause-names : goal.returns-clause-names
 returns-clause-names c = less_names _ _ (sees c.self.inside _ c.self.view_is) c.remove_key.new.self _ c.remove_key.ensures.keys
 
 pub returns-clause-pieces : goal.returns-clause-pieces
-returns-clause-pieces c = less_pieces _ _ (sees c.self.inside _ c.self.view_is) _ _ (filter_same _ (λ (k : Piece). not (same_curve k.curve.0 c.args.curve.0)) _ (λ x b f h. search rules) _ _ c.retain.ensures.filtered)
+returns-clause-pieces c = less_pieces _ _ (sees c.self.inside _ c.self.view_is) c.remove_curve.new.self c.args.curve.0 c.remove_curve.ensures.rows
 
 pub returns-clause-strands : goal.returns-clause-strands
 returns-clause-strands c = held_same _ _ (sees c.self.inside _ c.self.view_is) _ c.self.inside.by_edge refl refl
 
 pub returns-clause-curves : goal.returns-clause-curves
 returns-clause-curves c = same_strands_curves _ _ (held_same _ _ (sees c.self.inside _ c.self.view_is) _ c.self.inside.by_edge refl refl)
+
+pub invariant_of-self : goal.invariant_of-self
+invariant_of-self c = kept_less _ _ _ _ c.remove_curve.new.self c.args.curve.0 _ c.self.invariant (λ k h. ((c.remove_key.ensures.keys k).0 h).0) c.remove_key.ensures.nodes c.remove_curve.ensures.rows

@@ -4,7 +4,7 @@ use Rattle.curve_history.proofs.Sides.{nothing_runs}
 use Rattle.curve_history.proofs.history.History.new.Goals as goal
 
 pub invariant_of-result : goal.invariant_of-result
-invariant_of-result c = kept_none _ _ _ _ c.new.ensures.nodes c.new-2.ensures.nodes c.new.ensures.heads c.new-2.ensures.heads c.new-3.ensures.items (c.requires, c.ranges.first.fits)
+invariant_of-result c = kept_none _ _ _ _ c.new.ensures.nodes c.new-2.ensures.nodes c.new.ensures.heads c.new-2.ensures.heads c.new-3.ensures.rows (c.requires, c.ranges.first.fits)
 
 pub returns-clause-nothing : goal.returns-clause-nothing
 returns-clause-nothing c = held_nothing _ c.new.result refl c.new.ensures.nodes

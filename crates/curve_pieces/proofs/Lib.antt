@@ -1,0 +1,10 @@
+pub mod Changed
+pub mod Emptied
+pub mod Ends
+pub mod Heads
+pub mod Named
+pub mod Ordered
+pub mod Put
+pub mod Read
+pub mod Split
+pub mod Taken

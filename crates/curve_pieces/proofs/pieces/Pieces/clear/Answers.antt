@@ -1,0 +1,8 @@
+use Rattle.curve_pieces.proofs.Changed.{kept_nothing, nothing_seen}
+use Rattle.curve_pieces.proofs.pieces.Pieces.clear.Goals as goal
+
+pub invariant_of-self : goal.invariant_of-self
+invariant_of-self c = kept_nothing c.clear.new.self c.clear-2.new.self c.clear.ensures.empty c.clear-2.ensures.empty
+
+pub returns-clause-rows : goal.returns-clause-rows
+returns-clause-rows c = nothing_seen c.clear.new.self c.clear.ensures.empty

@@ -1,0 +1,3 @@
+pub mod PieceRows
+pub mod PiecesInMemory
+pub mod Writes
