@@ -1,16 +1,20 @@
 -- Runs of steps where the sides of curves are told apart.
-use Rattle.std.proofs.Common.{◌≡◌, ℕ, ◌≤◌, Bool, true, false, cond, not, ◌&&◌, ◌||◌, List, [], ◌∷◌, ◌++◌, map, refl, sym, ap, ap₂, ◌∙◌, subst, inl, inr}
+use Rattle.std.proofs.Common.{◌≡◌, ⊎_elim, ℕ, ◌≤◌, ◌==◌, Bool, true, false, cond, not, ◌&&◌, ◌||◌, List, [], ◌∷◌, ◌++◌, map, refl, sym, ap, ap₂, ◌∙◌, subst, inl, inr, Equal, is_eq}
 use Rattle.std.specs.List.{filter, list_any}
+use Rattle.std.specs.Ordering.{nat_cmp}
+use Rattle.std.proofs.lemmas.Bool.{eqb-true}
+use Rattle.std.proofs.lemmas.Cmp.{nat_cmp_total}
 use Rattle.exact_plane.specs.Point.{Point}
 use Rattle.exact_plane.specs.PointOrderLaws.{and_true}
-use Rattle.plane_graphs.specs.Ascending.{Member}
+use Rattle.plane_graphs.specs.Ascending.{Member, place}
 use Rattle.plane_graphs.specs.Fit.{IsFit}
 use Rattle.plane_graphs.specs.Graph.{Graph, Mark, graph, is_at, same_curve}
 use Rattle.plane_graphs.specs.Line.{same_point}
 use Rattle.plane_graphs.specs.Piece.{Present}
 use Rattle.plane_graphs.specs.Strands.{strand, strands}
-use Rattle.plane_graphs.proofs.Lists.{any_in, any_none, any_out, decide, in_filter, of_filter}
-use Rattle.plane_graphs.proofs.Order.{same_out}
+use Rattle.plane_graphs.proofs.Ascending.{IsAscending-ascending, IsAscending-place, ascending_unique}
+use Rattle.plane_graphs.proofs.Lists.{any_in, any_none, any_out, decide, in_filter, in_place, of_filter, of_place, filter_same}
+use Rattle.plane_graphs.proofs.Order.{curve_out, same_out}
 use Rattle.edit_steps.specs.EditLaws.{curve_of, release_step}
 use Rattle.edit_steps.specs.Edits.{Edit, Insert, Drop, Cut, Pin, Unpin, Split, Merge, ClearAll, IsAccepted, after, path_pieces}
 use Rattle.edit_steps.specs.Steps.{AddCurve, AddEdge, RemoveEdge, Step, apply, run}
@@ -22,7 +26,7 @@ use Rattle.edit_steps.proofs.StrandPaths.{path_of_strands}
 use Rattle.edit_steps.proofs.StrandSteps.{strands_follow}
 use Rattle.slab_laws.specs.declared.names.DartId.{DartId}
 use Rattle.slab_laws.specs.Sound.{IsGraphSound}
-use Rattle.slab_laws.specs.View.{View, HasDart, point_in, source_in, target_in}
+use Rattle.slab_laws.specs.View.{View, HasDart, dart_id, point_in, source_in, target_in}
 use Rattle.arr_notes.specs.declared.change.Change.{Change}
 use Rattle.arr_notes.specs.Curves.{AreCurvesOf, IsForward, step_curves}
 use Rattle.arr_notes.specs.RecordGraph.{drawn_graph}
@@ -32,7 +36,7 @@ use Rattle.sound_changes.proofs.ChangesAreSteps.{changes_are_steps}
 use Rattle.sound_changes.proofs.StepCases.{one_way}
 use Rattle.sound_changes.proofs.StepCurvesGo.{curves_go}
 use Rattle.sound_changes.proofs.StepHolds.{held_mark}
-use Rattle.curve_history.specs.Past.{Past, LosesSides, SameStrands, curves_on, strands_on}
+use Rattle.curve_history.specs.Past.{Past, GainsCurve, LosesSides, SameCurves, SameStrands, curves_of, curves_on, strands_on}
 use Rattle.curve_history.proofs.Sides.{in_curves, strand_curve, strands_of_edges}
 use Rattle.told_steps.specs.StrandRuns.{IsStrandRun, SidesGo, strand_graph, strand_steps}
 
@@ -66,6 +70,25 @@ pub curve_along : (p : Past) (d : DartId) (c side : ℕ) → side ≤ 8 → Memb
 unfolding curves_on
 curve_along p d c side l m = subst (λ k. Member k (curves_on p d)) (strand_curve c side l) (in_curves (strand c side) (strands_on p d) m)
 
+-- ---- a curve that runs along an edge already
+module _ (p q : Past) (d : DartId) (c : ℕ) (there : Member c (curves_on p d)) (gains : GainsCurve p q d c) where
+  nat_exact : (m n : ℕ) → nat_cmp m n ≡ Equal → m ≡ n
+  nat_exact m n e = curve_out m n (ap is_eq e)
+
+  placed_there : place nat_cmp c (curves_on p d) ≡ curves_on p d
+  unfolding curves_on curves_of
+  placed_there =
+      let a = IsAscending-ascending nat_cmp nat_cmp_total (map curve_of (strands_on p d)) in
+      ascending_unique nat_cmp nat_cmp_total (place nat_cmp c (curves_on p d)) (curves_on p d) (IsAscending-place nat_cmp nat_cmp_total c (curves_on p d) a) a
+      (λ x m. ⊎_elim (λ e. subst (λ y. Member y (curves_on p d)) (sym e) there) (λ k. k) (of_place nat_cmp nat_cmp_total nat_exact x c (curves_on p d) m))
+      (λ x m. in_place nat_cmp nat_cmp_total nat_exact x c (curves_on p d) (inr m))
+
+  pub curves_stay : SameCurves p q
+  curves_stay x = gains x ∙ elim (decide (x.0 == d.0)) [
+    | inl e ↦ ap (λ b. cond b (place nat_cmp c (curves_on p x)) (curves_on p x)) e ∙ subst (λ (y : DartId). place nat_cmp c (curves_on p y) ≡ curves_on p y) (λ i. dart_id (sym (eqb-true x.0 d.0 e) i)) placed_there
+    | inr e ↦ ap (λ b. cond b (place nat_cmp c (curves_on p x)) (curves_on p x)) e
+  ]
+
 -- ---- all steps of an edit
 pub strands_made : (e : Edit) (p : Present) → IsFit p → IsAccepted e p → run (strand_steps e p) (graph (strands p)) ≡ graph (strands (after e p))
 unfolding after
@@ -81,10 +104,6 @@ strands_made ClearAll p fit a = strands_follow.there ClearAll p tt fit a
 -- ---- sides of a curve that go
 pub sides_go : (v : View) (p q : Past) (d : DartId) (c : ℕ) → IsGraphSound v → IsForward v d → LosesSides p q d c → SidesGo v p d c v q
 sides_go v p q d c s f e = curves_go v (strands_on p) (strands_on q) d (λ z. same_curve (curve_of z) c) s f e
-
-filter_same : {X : Type 0} (p q : X → Bool) (xs : List X) → ((x : X) → Member x xs → p x ≡ q x) → filter p xs ≡ filter q xs
-filter_same p q [] h = refl
-filter_same p q (x ∷ xs) h = ap₂ (λ b ys. cond b (x ∷ ys) ys) (h x (inl refl)) (filter_same p q xs (λ m n. h m (inr n)))
 
 -- the edge goes with all its curves where it has just that one
 pub edge_released : (v : View) (p : Past) (d : DartId) (c : ℕ) (w : View) (q : Past) → IsGraphSound v → AreCurvesOf v (curves_on p) → IsForward v d → list_any (λ k. not (same_curve k c)) (curves_on p d) ≡ false →

@@ -4,10 +4,13 @@ ghost use Rattle.edit_steps.specs.Steps.{AddCurve, RemoveCurve};
 ghost use Rattle.plane_graphs.specs.Ascending.{Member};
 ghost use Rattle.plane_graphs.specs.Graph.{same_curve};
 ghost use Rattle.plane_graphs.specs.Strands.{strand};
-ghost use Rattle.slab_laws.specs.View.{point_in, source_in, target_in};
-ghost use Rattle.arr_notes.specs.Curves.{IsForward};
-ghost use Rattle.curve_history.specs.Past.{curves_on, GainsCurve, IsSpare, LosesCurve, SameHistoryCapacity, SameLayer, SpendsPairs};
+ghost use Rattle.slab_laws.specs.Sound.{IsGraphSound};
+ghost use Rattle.slab_laws.specs.View.{View, point_in, source_in, target_in};
+ghost use Rattle.arr_notes.specs.Curves.{AreCurvesOf, IsForward};
+ghost use Rattle.arr_notes.specs.MapView.{MapView};
+ghost use Rattle.curve_history.specs.Past.{curves_on, strands_on, GainsCurve, IsSpare, LosesCurve, SameCurves, SameHistoryCapacity, SameLayer, SpendsPairs};
 ghost use Rattle.dcel_records.specs.SoundMaps.{map_of};
+ghost use Rattle.observer_bus.specs.Rounds.{BusRow};
 ghost use Rattle.observer_bus.specs.Rows.{bus_row};
 ghost use Rattle.told_steps.specs.StrandRuns.{IsStrandRun, SidesGo};
 ghost use Rattle.told_steps.specs.ToldRuns.{AreInStep, IsToldRun};
@@ -67,6 +70,24 @@ pub fn add_curve(
         bus,
         Change::AddCurve { d, curve },
     );
+}
+
+/// One more side, from 1 to 8, of a curve that runs along the edge of a dart from its lower to its upper end already, in room that is
+/// there. The edge keeps its curves, so observers are told nothing.
+pub fn add_side(history: &mut History, dart: DartId, curve: CurveId, side: u32)
+    requires side { side ≤ 8 }
+    requires named { Member curve.0 history.old.names }
+    requires there { Member curve.0 (curves_on history.old dart) }
+    requires new { ¬ Member (strand curve.0 side) (strands_on history.old dart) }
+    requires room { 1 ≤ history.old.spare_pairs }
+    ensures strands { (v : View) → IsGraphSound v → AreCurvesOf v (curves_on history.old) → IsForward v dart → IsStrandRun v history.old
+        (AddCurve (point_in v (source_in v dart)) (point_in v (target_in v dart)) (strand curve.0 side) ∷ []) v history.new }
+    ensures curves { SameCurves history.old history.new }
+    ensures in_step { (m : MapView) (b : BusRow) → AreInStep m (curves_on history.old) b → AreInStep m (curves_on history.new) b }
+    ensures layer { SameLayer history.old history.new }
+    ensures spare { SpendsPairs history.old history.new 1 }
+{
+    history.hold(dart, curve, side)
 }
 
 /// One curve fewer, with all its sides, runs along the edge of a dart from its lower to its upper end, where another does too. It takes

@@ -22,7 +22,7 @@ mod told;
 mod vertices;
 
 pub use clears::clear;
-pub use curves::{add_curve, remove_curve};
+pub use curves::{add_curve, add_side, remove_curve};
 pub use edges::{merge_edge, remove_edge, split_edge};
 pub use laws::{layers_are_named, steps_make_layers, told_runs_are_lawful};
 pub use links::add_edge;

@@ -1,0 +1,2 @@
+pub mod PathZone
+pub mod Gathered

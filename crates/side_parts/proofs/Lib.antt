@@ -1,0 +1,3 @@
+pub mod Chained
+pub mod Ordered
+pub mod Walked
