@@ -39,7 +39,7 @@ use Rattle.told_steps.specs.StrandRuns.{IsStrandRun}
 use Rattle.told_steps.specs.ToldRuns.{IsToldRun}
 use Rattle.segment_insert.specs.Parts.{IsOpenPart}
 use Rattle.segment_insert.proofs.Makes.{some_curve, on_edge_there, on_new_edge}
-use Rattle.segment_insert.proofs.Parts.{two_ends}
+use Rattle.segment_insert.proofs.PartDarts.{two_ends}
 use Rattle.integers.proofs.Tests.{not_true}
 
 -- one more edge leaves the vertices

@@ -9,7 +9,7 @@ use Rattle.exact_plane.specs.PointOrderLaws.{point_cmp_total, same_point as poin
 use Rattle.exact_plane.specs.Segment.{Segment, line_of_segment}
 use Rattle.plane_graphs.specs.Ascending.{Member, IsAscending, ascending}
 use Rattle.plane_graphs.specs.Fit.{IsFit, IsFitPiece}
-use Rattle.plane_graphs.specs.Graph.{Mark, Edge, mark, marks, graph, vertices, det, collinear, inside as inside_mark}
+use Rattle.plane_graphs.specs.Graph.{Mark, Edge, mark, marks, graph, vertices, common_points, det, collinear, inside as inside_mark}
 use Rattle.plane_graphs.specs.Line.{IsProper, IsProperLine, are_parallel, crossing}
 use Rattle.plane_graphs.specs.Piece.{Piece, Present, along, on}
 use Rattle.plane_graphs.proofs.Ascending.{ascending_unique, IsAscending-ascending}
@@ -43,9 +43,28 @@ use Rattle.sound_changes.proofs.Collinear.{one_line}
 use Rattle.segment_insert.proofs.Makes.{some_curve}
 use Rattle.integers.proofs.Tests.{not_true}
 
-module _ (v : View) (h : Curves) (s : IsGraphSound v) (a : AreCurvesOf v h) (p : Present) (g : Segment) (c : ℕ) (stands : drawn_graph v h ≡ graph p) (fit : IsFit (with_piece p (whole_piece c 1 g))) where
+-- what is common to two pieces is where their lines cross, on both
+pub record IsCommon (k m : Piece) (x : Point) : Type 0 where
+  pub apart : are_parallel (line_of_segment k.segment) (line_of_segment m.segment) ≡ false
+  pub is : x ≡ crossing (line_of_segment k.segment) (line_of_segment m.segment)
+  pub on_one : on k x ≡ true
+  pub on_other : on m x ≡ true
+
+pub common_on : (k m : Piece) (x : Point) → Member x (common_points k m) → IsCommon k m x
+unfolding common_points
+common_on k m x i =
+    let l = line_of_segment k.segment in
+    let n = line_of_segment m.segment in
+    let r = crossing l n in
+    let found : Type 0 = (are_parallel l n ≡ false) × Member x (cond (on k r && on m r) (r ∷ []) []) in
+    let o : found = elim (if_out (are_parallel l n) x [] (cond (on k r && on m r) (r ∷ []) []) i) [ inl z ↦ absurd z.1 | inr z ↦ z ] in
+    let w = one_if (on k r && on m r) x r o.1 in
+    let b = and_true (on k r) (on m r) w.0 in
+    record { apart = o.0; is = w.1; on_one = subst (λ z. on k z ≡ true) (sym w.1) b.0; on_other = subst (λ z. on m z ≡ true) (sym w.1) b.1 }
+
+module _ (v : View) (h : Curves) (s : IsGraphSound v) (a : AreCurvesOf v h) (p : Present) (g : Segment) (c number : ℕ) (stands : drawn_graph v h ≡ graph p) (fit : IsFit (with_piece p (whole_piece c number g))) where
   abbrev k : Piece
-  k = whole_piece c 1 g
+  k = whole_piece c number g
 
   abbrev q : Present
   q = with_piece p k

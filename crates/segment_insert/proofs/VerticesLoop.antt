@@ -19,6 +19,7 @@ use Rattle.curve_history.specs.Past.{Past, curves_on, strands_on}
 use Rattle.dcel_records.specs.declared.spot.Met.{Met}
 use Rattle.dcel_records.specs.declared.spot.Met.TheVariants.{Vertex, Edge, Nothing}
 use Rattle.dcel_records.specs.Spots.{IsMet, met_of}
+use Rattle.face_location.specs.Spots.{IsFaceNamed}
 use Rattle.dcel_records.specs.declared.spot.Spot.TheVariants as spot
 use Rattle.arr_notes.specs.MapView.{MapView}
 use Rattle.arr_notes.specs.RecordGraph.{drawn_graph}
@@ -38,12 +39,13 @@ use Rattle.segment_insert.proofs.VerticesTurns.{IsTurn, turn, none_left, first_s
 use Rattle.segment_insert.proofs.VerticesWalk.{leads_forward, leads_inside}
 
 -- the meetings that are still to come
-pub record IsComing (v : View) (h : Past) (ms : List Meeting) : Type 0 where
-  pub sound : IsGraphSound v
-  pub curves : AreCurvesOf v (curves_on h)
+pub record IsComing (v : MapView) (h : Past) (ms : List Meeting) : Type 0 where
+  pub sound : IsGraphSound v.graph
+  pub curves : AreCurvesOf v.graph (curves_on h)
   pub ascend : IsAscending point_cmp (points_of_meetings ms)
-  pub met : (m : Meeting) → Member m ms → IsMetStill v (strands_on h) m.point (met_of m.spot)
-  pub plane : AreSound (steps_at v (curves_on h) (points_of_meetings ms)) (drawn_graph v (curves_on h))
+  pub met : (m : Meeting) → Member m ms → IsMetStill v.graph (strands_on h) m.point (met_of m.spot)
+  pub faces : (m : Meeting) → Member m ms → IsFaceNamed v.graph v.faces m.point m.spot
+  pub plane : AreSound (steps_at v.graph (curves_on h) (points_of_meetings ms)) (drawn_graph v.graph (curves_on h))
 
 -- a spot that is right says where the point lies
 met_still : (v : View) (h : Curves) (p : Point) (s : Met) → IsMet v p s → IsMetStill v h p s
@@ -52,8 +54,15 @@ met_still v h p (Edge d) k = (d, here k, refl)
 met_still v h p Nothing k = k
 
 -- all are to come before the first
-all_coming : (v : View) (h : Past) (ms : List Meeting) → IsGraphSound v → AreCurvesOf v (curves_on h) → AreMeetings v ms → AreSound (steps_at v (curves_on h) (points_of_meetings ms)) (drawn_graph v (curves_on h)) → IsComing v h ms
-all_coming v h ms s a k y = record { sound = s; curves = a; ascend = k.ascend; met = λ m n. met_still v (strands_on h) m.point (met_of m.spot) (k.met m (from_member ms m n)); plane = y }
+all_coming : (v : MapView) (h : Past) (ms : List Meeting) → IsGraphSound v.graph → AreCurvesOf v.graph (curves_on h) → AreMeetings v.graph v.faces ms → AreSound (steps_at v.graph (curves_on h) (points_of_meetings ms)) (drawn_graph v.graph (curves_on h)) → IsComing v h ms
+all_coming v h ms s a k y = record {
+  sound = s;
+  curves = a;
+  ascend = k.ascend;
+  met = λ m n. met_still v.graph (strands_on h) m.point (met_of m.spot) (k.spots m (from_member ms m n)).met;
+  faces = λ m n. (k.spots m (from_member ms m n)).face;
+  plane = y;
+}
 
 -- a point with a spot is a point of the plane: it is a vertex, or its step is sound
 pub proper_by_met : (v : View) (h : Past) (ps : List Point) (p : Point) (s : Met) → IsGraphSound v → AreSound (steps_at v (curves_on h) ps) (drawn_graph v (curves_on h)) → Member p ps → IsMetStill v (strands_on h) p s → IsProper p
@@ -64,9 +73,12 @@ proper_by_met v h ps p (Edge d) s y m k =
 proper_by_met v h ps p Nothing s y m k = proper_by_steps p _ (drawn_graph v (curves_on h)) y (missing_in p ps (drawn_graph v (curves_on h)).points m (face_new v (curves_on h) s p k))
 
 -- ---- the next one
-module _ (v : MapView) (h : Past) (m : Meeting) (ms : List Meeting) (c : IsComing v.graph h (m ∷ ms)) where
+module _ (v : MapView) (h : Past) (m : Meeting) (ms : List Meeting) (c : IsComing v h (m ∷ ms)) where
   pub next_met : IsMetStill v.graph (strands_on h) m.point (met_of m.spot)
   next_met = c.met m (inl refl)
+
+  pub next_face : IsFaceNamed v.graph v.faces m.point m.spot
+  next_face = c.faces m (inl refl)
 
   pub next_sound : AreSound (steps_at v.graph (curves_on h) (m.point ∷ [])) (drawn_graph v.graph (curves_on h))
   next_sound = first_sound v.graph (curves_on h) c.sound c.curves m.point (points_of_meetings ms) c.ascend.0 c.plane
@@ -77,14 +89,26 @@ module _ (v : MapView) (h : Past) (m : Meeting) (ms : List Meeting) (c : IsComin
         turn v.graph (curves_on h) c.sound c.curves m.point (points_of_meetings ms) c.ascend.0 w.graph (curves_on k)
         (told_runs_lawful.steps v (curves_on h) b (steps_at v.graph (curves_on h) (m.point ∷ [])) w (curves_on k) d y.told.told)
 
+    among : (n : Meeting) → Member n ms → Member n.point (points_of_meetings ms)
+    among n i = in_map (λ o. o.point) n ms i
+
+    proper : (n : Meeting) → Member n ms → IsProper n.point
+    proper n i = proper_by_met v.graph h (points_of_meetings (m ∷ ms)) n.point (met_of n.spot) c.sound c.plane (inr (among n i)) (c.met n (inr i))
+
     met_after : (n : Meeting) → Member n ms → IsMetStill w.graph (strands_on k) n.point (met_of n.spot)
     met_after n i =
-        let j : Member n.point (points_of_meetings ms) = in_map (λ o. o.point) n ms i in
-        let l : point_cmp m.point n.point ≡ Less = All-member (λ q. point_cmp m.point q ≡ Less) n.point (points_of_meetings ms) c.ascend.0 j in
-        y.later n.point (met_of n.spot) (proper_by_met v.graph h (points_of_meetings (m ∷ ms)) n.point (met_of n.spot) c.sound c.plane (inr j) (c.met n (inr i))) (ap is_lt l) (c.met n (inr i))
+        let l : point_cmp m.point n.point ≡ Less = All-member (λ q. point_cmp m.point q ≡ Less) n.point (points_of_meetings ms) c.ascend.0 (among n i) in
+        y.later n.point (met_of n.spot) (proper n i) (ap is_lt l) (c.met n (inr i))
 
-    pub rest_coming : IsComing w.graph k ms
-    rest_coming = record { sound = after.sound; curves = after.curves; ascend = c.ascend.1; met = met_after; plane = after.plane c.plane }
+    pub rest_coming : IsComing w k ms
+    rest_coming = record {
+      sound = after.sound;
+      curves = after.curves;
+      ascend = c.ascend.1;
+      met = met_after;
+      faces = λ n i. y.faces n.point n.spot (proper n i) (c.faces n (inr i));
+      plane = after.plane c.plane;
+    }
 
     rest_told : (u : MapView) (l : Past) (e : BusRow) → IsSidedRun w k d (steps_at w.graph (curves_on k) (points_of_meetings ms)) u l e → IsSidedRun v h b (steps_at v.graph (curves_on h) (points_of_meetings (m ∷ ms))) u l e
     rest_told u l e z =
@@ -150,17 +174,17 @@ module _ {X : Type 0} where
 
 -- ---- midway: the first i meetings are named vertices, the others are to come, and what is told of the records so far leaves the steps of these
 pub record IsMidway (v : MapView) (h : Past) (b : BusRow) (ms : List Meeting) (w : MapView) (k : Past) (c : BusRow) (ns : List Meeting) (i : ℕ) : Type 0 where
-  pub coming : IsComing w.graph k (drop i ms)
+  pub coming : IsComing w k (drop i ms)
   pub in_step : AreInStep w (curves_on k) c
   pub then_told : (u : MapView) (l : Past) (d : BusRow) → IsSidedRun w k c (steps_at w.graph (curves_on k) (points_of_meetings (drop i ms))) u l d → IsSidedRun v h b (steps_at v.graph (curves_on h) (points_of_meetings ms)) u l d
   pub points : points_of_meetings ns ≡ points_of_meetings ms
   pub rest : drop i ns ≡ drop i ms
   pub named : AreNamed w.graph (take i ns)
 
-pub at_start : (v : MapView) (h : Past) {b : BusRow} (ms : List Meeting) → AreInStep v (curves_on h) b → AreMeetings v.graph ms → AreSound (steps_at v.graph (curves_on h) (points_of_meetings ms)) (drawn_graph v.graph (curves_on h)) → IsMidway v h b ms v h b ms 0
-at_start v h ms t k y = record { coming = all_coming v.graph h ms t.sound.graph t.curves k y; in_step = t; then_told = λ u l d y. y; points = refl; rest = refl; named = record { each = λ m i. absurd i } }
+pub at_start : (v : MapView) (h : Past) {b : BusRow} (ms : List Meeting) → AreInStep v (curves_on h) b → AreMeetings v.graph v.faces ms → AreSound (steps_at v.graph (curves_on h) (points_of_meetings ms)) (drawn_graph v.graph (curves_on h)) → IsMidway v h b ms v h b ms 0
+at_start v h ms t k y = record { coming = all_coming v h ms t.sound.graph t.curves k y; in_step = t; then_told = λ u l d y. y; points = refl; rest = refl; named = record { each = λ m i. absurd i } }
 
-module _ (v : MapView) (h : Past) {b : BusRow} (ms : List Meeting) (w : MapView) (k : Past) {d : BusRow} (ns : List Meeting) (i : ℕ) (c : IsMidway v h b ms w k d ns i) where
+module _ {v : MapView} {h : Past} {b : BusRow} {ms : List Meeting} {w : MapView} {k : Past} {d : BusRow} {ns : List Meeting} {i : ℕ} (c : IsMidway v h b ms w k d ns i) where
   pub same_length : length ns ≡ length ms
   same_length = sym (length-map ns (λ m. m.point)) ∙ ap length c.points ∙ length-map ms (λ m. m.point)
 
@@ -169,14 +193,20 @@ module _ (v : MapView) (h : Past) {b : BusRow} (ms : List Meeting) (w : MapView)
     pub next_first : drop i ms ≡ m ∷ drop (i + 1) ms
     next_first = sym c.rest ∙ first_left ns i m l e ∙ ap (λ ys. m ∷ ys) (left_after ns ms i m l (subst (λ n. i < n) same_length l) c.rest)
 
-    now_coming : IsComing w.graph k (m ∷ drop (i + 1) ms)
-    now_coming = subst (IsComing w.graph k) next_first c.coming
+    now_coming : IsComing w k (m ∷ drop (i + 1) ms)
+    now_coming = subst (IsComing w k) next_first c.coming
 
     pub spot_now : IsMetStill w.graph (strands_on k) m.point (met_of m.spot)
     spot_now = next_met w k m (drop (i + 1) ms) now_coming
 
+    pub face_now : IsFaceNamed w.graph w.faces m.point m.spot
+    face_now = next_face w k m (drop (i + 1) ms) now_coming
+
     pub sound_now : AreSound (steps_at w.graph (curves_on k) (m.point ∷ [])) (drawn_graph w.graph (curves_on k))
     sound_now = next_sound w k m (drop (i + 1) ms) now_coming
+
+    pub proper_now : IsProper m.point
+    proper_now = proper_by_met w.graph k (m.point ∷ []) m.point (met_of m.spot) c.coming.sound sound_now (inl refl) spot_now
 
     -- once it is a vertex, and is told so
     module _ (u : MapView) (q : Past) {f : BusRow} (x : VertexId) (y : IsMadeAt w k d u q f m x) where

@@ -11,6 +11,7 @@ use Rattle.edit_steps.specs.Allowed.{AreSound}
 use Rattle.edit_steps.specs.Steps.{Step, AddVertex as AddVertexAt, SplitEdge as SplitEdgeAt, apply}
 use Rattle.slab_laws.specs.declared.names.DartId.{DartId}
 use Rattle.slab_laws.specs.declared.names.VertexId.{VertexId}
+use Rattle.slab_laws.specs.FacesSound.{IsSound}
 use Rattle.slab_laws.specs.Sound.{IsGraphSound}
 use Rattle.slab_laws.specs.View.{View, HasVertex, HasDart, point_in, source_in, target_in, twin_in}
 use Rattle.arr_notes.specs.ViewChanges.{with_vertex}
@@ -35,6 +36,7 @@ use Rattle.sound_views.specs.RecordGraphLaws.{IsVertexAt}
 use Rattle.curve_history.specs.Past.{Past, curves_on, strands_on}
 use Rattle.told_steps.specs.RecordLayers.{IsRunOfSteps}
 use Rattle.told_steps.specs.SidedRuns.{IsSidedRun}
+use Rattle.told_steps.specs.ToldRuns.{IsToldRun}
 use Rattle.told_steps.specs.StrandRuns.{IsStrandRun}
 use Rattle.told_steps.proofs.SidedRuns.{sided_as}
 use Rattle.told_steps.proofs.ToldTogether.{told_runs_lawful}
@@ -44,6 +46,7 @@ use Rattle.told_steps.specs.VertexMade.{IsPlaneWith, darts_at, pairs_at, steps_a
 use Rattle.zone_walk.specs.Zone.{is_edge, is_vertex, splits_needed, vertices_needed}
 use Rattle.segment_insert.proofs.VerticesAdded.{old_vertex, leads_too, face_too}
 use Rattle.segment_insert.proofs.VerticesFound.{proper_by_step, face_step, edge_step, face_new, edge_new}
+use Rattle.segment_insert.proofs.VerticesNamed.{FacesStay, IsStepFor, named_after, named_same}
 use Rattle.segment_insert.proofs.VerticesSplit.{old_curves, leads_still, face_still}
 use Rattle.segment_insert.proofs.SidesFollow.{none_apart, one_apart}
 use Rattle.segment_insert.proofs.VerticesTurns.{none_there, one_there, one_sound}
@@ -62,12 +65,6 @@ kept_same v h w k p m =
     subst (λ z. IsKept v h z k p) (sym m.0) (subst (λ z. IsKept v h v z p) (sym e) (record { vertices = λ u o. (o, refl); curves = λ d o. refl; later = λ q o proper l y. y }))
 
 -- ---- a vertex comes
--- the step by which the point becomes a vertex where it is none
-abbrev IsStepFor : Point → Step → Type 0
-IsStepFor p (AddVertexAt o) = o ≡ p
-IsStepFor p (SplitEdgeAt q r o) = o ≡ p
-IsStepFor p other = ⊥
-
 module _ (v : View) (h : Curves) (s : IsGraphSound v) where
   -- inside a face
   module _ (p : Point) (x : VertexId) (new : ¬ HasVertex v x) where
@@ -196,8 +193,13 @@ module _ (v : MapView) (p : Past) (s : IsGraphSound v.graph) (a : AreCurvesOf v.
     kept_there (Edge e) r = kept_by_run v.graph (strands_on p) s m.point (SplitEdgeAt (point_in v.graph (source_in v.graph e)) (point_in v.graph (target_in v.graph e)) m.point) w.graph (strands_on q) refl r
     kept_there Nothing r = kept_by_run v.graph (strands_on p) s m.point (AddVertexAt m.point) w.graph (strands_on q) refl r
 
-    pub made_there : {b c : BusRow} (now : Met) → IsMet v.graph m.point now → IsProper m.point → (x : VertexId) → IsSidedRun v p b (steps_here v.graph m.point now) w q c → IsVertexAt w.graph m.point x → IsMadeAt v p b w q c m x
-    made_there {b} {c} now o proper x t at =
+    faces_there : (f : IsSound v.graph v.faces) (b c : BusRow) (now : Met) → IsToldRun v (curves_on p) b (steps_here v.graph m.point now) w (curves_on q) c → FacesStay v w
+    faces_there f b c (Vertex u) r = named_same v (curves_on p) b w (curves_on q) c r
+    faces_there f b c (Edge e) r = named_after v (curves_on p) b w (curves_on q) c f m.point (SplitEdgeAt (point_in v.graph (source_in v.graph e)) (point_in v.graph (target_in v.graph e)) m.point) refl r
+    faces_there f b c Nothing r = named_after v (curves_on p) b w (curves_on q) c f m.point (AddVertexAt m.point) refl r
+
+    pub made_there : {b c : BusRow} (f : IsSound v.graph v.faces) (now : Met) → IsMet v.graph m.point now → IsProper m.point → (x : VertexId) → IsSidedRun v p b (steps_here v.graph m.point now) w q c → IsVertexAt w.graph m.point x → IsMadeAt v p b w q c m x
+    made_there {b} {c} f now o proper x t at =
         let ss = steps_here v.graph m.point now in
         let k = kept_there now (apart_there now (told_runs_lawful.steps v (curves_on p) b ss w (curves_on q) c t.told) t.strands) in
         record {
@@ -207,4 +209,5 @@ module _ (v : MapView) (p : Past) (s : IsGraphSound v.graph) (a : AreCurvesOf v.
           vertices = k.vertices;
           sides = k.curves;
           later = k.later;
+          faces = faces_there f b c now t.told;
         }

@@ -1,4 +1,5 @@
 pub mod Insertion
 pub mod Coming
 pub mod Parts
+pub mod Paths
 pub mod StepsMade

@@ -24,7 +24,7 @@ use told_steps::{add_curve, add_edge};
 use zone_walk::Meeting;
 
 // The vertex that a meeting point is.
-fn vertex_of(meeting: &Meeting) -> VertexId
+pub(crate) fn vertex_of(meeting: &Meeting) -> VertexId
     requires { is_vertex (met_of meeting.now.spot) ≡ true }
     ensures { (met_of meeting.now.spot) ≡ Vertex result }
 {
@@ -48,7 +48,7 @@ fn place_back(records: &Records, line: &Line, u: VertexId, w: VertexId) -> Optio
     }
 }
 
-// A new edge of the curve from `u` to `w`, where none runs between them, in its places round both.
+// A new edge of this side of the curve from `u` to `w`, where none runs between them, in its places round both.
 fn new_edge(
     alloc: Global,
     records: &mut Records,
@@ -56,6 +56,7 @@ fn new_edge(
     bus: &mut Bus,
     line: &Line,
     curve: CurveId,
+    side: u32,
     u: VertexId,
     w: VertexId,
     at_u: Option<DartId>,
@@ -67,6 +68,7 @@ fn new_edge(
     requires place { IsPlaceTo records.old.graph u w at_u }
     requires no_edge { (d : _) → IsOutOf records.old.graph u d → target_in records.old.graph d ≢ w }
     requires curve_named { Member curve.0 history.old.names }
+    requires side { side ≤ 8 }
     requires plane { MayBeAlong records.old.graph history.old u w curve.0 }
     requires darts { 2 ≤ records.old.spare_darts }
     requires cycles { 1 ≤ records.old.faces.spare_cycles }
@@ -74,7 +76,7 @@ fn new_edge(
     requires pairs { 1 ≤ history.old.spare_pairs }
     ensures told { ComesAlong (map_of records.old) history.old (bus_row Observer-dyn bus.old) u w curve.0
         (map_of records.new) history.new (bus_row Observer-dyn bus.new) }
-    ensures strands { SideComesAlong records.old.graph history.old u w curve.0 records.new.graph history.new }
+    ensures strands { SideComesAlong records.old.graph history.old u w curve.0 side records.new.graph history.new }
     ensures in_step { AreInStep (map_of records.new) (curves_on history.new)
         (bus_row Observer-dyn bus.new) }
     ensures map { IsMapAtRest records.new }
@@ -87,18 +89,19 @@ fn new_edge(
 {
     let at_w = place_back(&*records, line, u, w);
     add_edge(
-        alloc, records, history, bus, u, w, at_u, at_w, *line, curve, 1,
+        alloc, records, history, bus, u, w, at_u, at_w, *line, curve, side,
     );
 }
 
-// The open part from `u` to `w` becomes an edge of the curve: an edge that runs there gets it, or else a new one comes.
-fn make_edge(
+// The open part from `u` to `w` becomes an edge of this side of the curve: an edge that runs there gets it, or else a new one comes.
+pub(crate) fn make_edge(
     alloc: Global,
     records: &mut Records,
     history: &mut History,
     bus: &mut Bus,
     line: &Line,
     curve: CurveId,
+    side: u32,
     u: VertexId,
     w: VertexId,
 )
@@ -107,6 +110,7 @@ fn make_edge(
     requires map { IsMapAtRest records.old }
     requires part { IsOpenPart records.old.graph line.now u w }
     requires curve_named { Member curve.0 history.old.names }
+    requires side { side ≤ 8 }
     requires plane { MayBeAlong records.old.graph history.old u w curve.0 }
     requires darts { 2 ≤ records.old.spare_darts }
     requires cycles { 1 ≤ records.old.faces.spare_cycles }
@@ -114,7 +118,7 @@ fn make_edge(
     requires pairs { 1 ≤ history.old.spare_pairs }
     ensures told { ComesAlong (map_of records.old) history.old (bus_row Observer-dyn bus.old) u w curve.0
         (map_of records.new) history.new (bus_row Observer-dyn bus.new) }
-    ensures strands { SideComesAlong records.old.graph history.old u w curve.0 records.new.graph history.new }
+    ensures strands { SideComesAlong records.old.graph history.old u w curve.0 side records.new.graph history.new }
     ensures in_step { AreInStep (map_of records.new) (curves_on history.new)
         (bus_row Observer-dyn bus.new) }
     ensures map { IsMapAtRest records.new }
@@ -126,14 +130,25 @@ fn make_edge(
     ensures spare_pairs { history.old.spare_pairs ≤ history.new.spare_pairs + 1 }
 {
     match place_at(&*records, u, Direction::along(line)) {
-        Place::Along(d) => add_curve(alloc, &*records, history, bus, d, curve, 1),
-        Place::Bare => new_edge(alloc, records, history, bus, line, curve, u, w, None),
-        Place::Between(a, _) => new_edge(alloc, records, history, bus, line, curve, u, w, Some(a)),
+        Place::Along(d) => add_curve(alloc, &*records, history, bus, d, curve, side),
+        Place::Bare => new_edge(alloc, records, history, bus, line, curve, side, u, w, None),
+        Place::Between(a, _) => new_edge(
+            alloc,
+            records,
+            history,
+            bus,
+            line,
+            curve,
+            side,
+            u,
+            w,
+            Some(a),
+        ),
     }
 }
 
-/// Makes every open part between two neighbouring meeting points an edge of the curve, in room that is there: an edge that
-/// runs there gets the curve, or else a new one comes.
+/// Makes every open part between two neighbouring meeting points an edge of this side of the curve, in room that is there: an edge
+/// that runs there gets the curve, or else a new one comes.
 pub(crate) fn make_edges(
     alloc: Global,
     records: &mut Records,
@@ -141,6 +156,7 @@ pub(crate) fn make_edges(
     bus: &mut Bus,
     segment: &Segment,
     curve: CurveId,
+    side: u32,
     meetings: &[Meeting],
 )
     requires in_step { AreInStep (map_of records.old) (curves_on history.old)
@@ -150,6 +166,7 @@ pub(crate) fn make_edges(
     requires on { (m : _) → Contains meetings.now m → is_on_segment segment.now m.point ≡ true }
     requires all_on { AreAllOn records.old.graph segment.now (points_of_meetings meetings.now) }
     requires curve_named { Member curve.0 history.old.names }
+    requires side { side ≤ 8 }
     requires plane { MayBeAlongAll records.old.graph history.old curve.0 meetings.now }
     requires darts { 2 * length meetings.now ≤ records.old.spare_darts + 2 }
     requires cycles { length meetings.now ≤ records.old.faces.spare_cycles + 1 }
@@ -157,7 +174,7 @@ pub(crate) fn make_edges(
     requires pairs { length meetings.now ≤ history.old.spare_pairs }
     ensures told { ComesAlongAll (map_of records.old) history.old (bus_row Observer-dyn bus.old) curve.0 meetings.now
         (map_of records.new) history.new (bus_row Observer-dyn bus.new) }
-    ensures strands { SideComesAlongAll records.old.graph history.old curve.0 meetings.now records.new.graph history.new }
+    ensures strands { SideComesAlongAll records.old.graph history.old curve.0 side meetings.now records.new.graph history.new }
     ensures in_step { AreInStep (map_of records.new) (curves_on history.new)
         (bus_row Observer-dyn bus.new) }
     ensures map { IsMapAtRest records.new }
@@ -167,6 +184,6 @@ pub(crate) fn make_edges(
     for i in 1..meetings.len() {
         let u = vertex_of(&meetings[i - 1]);
         let w = vertex_of(&meetings[i]);
-        make_edge(alloc, records, history, bus, &line, curve, u, w);
+        make_edge(alloc, records, history, bus, &line, curve, side, u, w);
     }
 }

@@ -8,7 +8,7 @@ ghost use Rattle.curve_history.specs.Past.{curves_on, strands_on, SameLayer, Sam
 ghost use Rattle.curve_history.specs.declared.history.TheConstants.{LAST_CURVE};
 ghost use Rattle.told_steps.specs.RecordLayers.{IsLayer};
 ghost use Rattle.zone_walk.specs.Zone.{IsZoneOf};
-ghost use Rattle.segment_insert.specs.Insertion.{insert_said, refusal_at, pairs_needed, HasRoomFor};
+ghost use Rattle.segment_insert.specs.Insertion.{insert_said, pairs_to_part, refusal_at, refusal_of_sides, HasRoomFor, HasRoomForPlan};
 ghost use Rattle.observer_bus.specs.Rows.{bus_row};
 ghost use Rattle.told_steps.specs.ToldEdits.{AreWatched, IsToldEdit};
 ghost use Rattle.told_steps.specs.ToldRuns.{AreInStep, IsToldRun};
@@ -17,7 +17,7 @@ ghost use Rattle.told_steps.specs.LayerEdits.{IsAfter, layer_at};
 use crate::edges::make_edges;
 use crate::vertices::make_vertices;
 use curve_history::History;
-use dcel_records::{Records, Spot};
+use dcel_records::{Records, Room, Spot};
 use exact_plane::Segment;
 use no_memory::NoMemory;
 use observer_bus::Bus;
@@ -53,13 +53,18 @@ impl From<NoMemory> for InsertError {
     }
 }
 
-// Why one more curve is refused, the first reason first, whatever the records are.
-fn refusal_of(history: &History, curves: u32, pieces: u32) -> Option<InsertError>
-    ensures { (r : RecordsView) → refusal_at curves pieces r history.now ≡ option_and_then insert_said result }
+// Why one more curve of so many sides is refused, the first reason first, whatever the records are.
+pub(crate) fn refusal_of(
+    history: &History,
+    sides: u32,
+    curves: u32,
+    pieces: u32,
+) -> Option<InsertError>
+    ensures { (r : RecordsView) → refusal_of_sides sides curves pieces r history.now ≡ option_and_then insert_said result }
 {
     if curves <= history.named() {
         Some(InsertError::Full(curves))
-    } else if pieces <= history.pieces() {
+    } else if u64::from(pieces) < u64::from(history.pieces()) + u64::from(sides) {
         Some(InsertError::Full(pieces))
     } else if history.spent() {
         Some(InsertError::Spent)
@@ -68,17 +73,17 @@ fn refusal_of(history: &History, curves: u32, pieces: u32) -> Option<InsertError
     }
 }
 
-// How many pairs of an edge and a side of a curve come: the sides along each edge that is parted, and the new one on each open
-// part. It takes no memory; the error stands for a number past `usize`.
-fn count_pairs(history: &History, meetings: &[Meeting]) -> Result<usize, NoMemory>
-    ensures count { IfOk result (λ n. n ≡ pairs_needed (strands_on history.now) meetings.now) }
-    ensures past_usize { OnErr result (2 ^ 64 ≤ pairs_needed (strands_on history.now) meetings.now) }
+// How many pairs of an edge and a side of a curve come: the sides along each edge that is parted, and so many more. It takes
+// no memory; the error stands for a number past `usize`.
+fn count_pairs(history: &History, meetings: &[Meeting], more: usize) -> Result<usize, NoMemory>
+    ensures count { IfOk result (λ n. n ≡ more + pairs_to_part (strands_on history.now) meetings.now) }
+    ensures past_usize { OnErr result (2 ^ 64 ≤ more + pairs_to_part (strands_on history.now) meetings.now) }
 {
-    let mut pairs = meetings.len();
+    let mut pairs = more;
     for meeting in meetings {
         if let Spot::Edge(dart) = meeting.spot {
             match pairs.checked_add(history.count_on(dart)) {
-                Some(more) => pairs = more,
+                Some(all) => pairs = all,
                 None => return Err(NoMemory),
             }
         }
@@ -86,11 +91,18 @@ fn count_pairs(history: &History, meetings: &[Meeting]) -> Result<usize, NoMemor
     Ok(pairs)
 }
 
-// Room for all that the plan makes, for one more name and for one more piece; only the room changes. Where it is there, no
-// memory is taken.
-fn make_room(records: &mut Records, history: &mut History, plan: &ZonePlan) -> Result<(), NoMemory>
-    ensures room { OnOk result (HasRoomFor plan.now (strands_on history.old) records.new history.new) }
-    ensures succeeds { HasRoomFor plan.now (strands_on history.old) records.old history.old → IsOk result }
+// This room, and room for one more name, for a piece of each of so many sides, and for the pairs that come: those of the edges
+// that are parted at the meetings, and so many more. Only the room changes. Where it is there, no memory is taken.
+pub(crate) fn make_room(
+    records: &mut Records,
+    history: &mut History,
+    room: Room,
+    meetings: &[Meeting],
+    sides: u32,
+    more: usize,
+) -> Result<(), NoMemory>
+    ensures room { OnOk result (HasRoomFor room meetings.now sides more (strands_on history.old) records.new history.new) }
+    ensures succeeds { HasRoomFor room meetings.now sides more (strands_on history.old) records.old history.old → IsOk result }
     ensures graph { records.new.graph ≡ records.old.graph }
     ensures tables { tables_of records.new ≡ tables_of records.old }
     ensures map { IsMapAtRest records.old → IsMapAtRest records.new }
@@ -100,9 +112,9 @@ fn make_room(records: &mut Records, history: &mut History, plan: &ZonePlan) -> R
 {
     // A `usize` counts the pairs for which there is room.
     history.laws();
-    records.reserve(plan.room)?;
-    let pairs = count_pairs(&*history, plan.vertices.as_slice())?;
-    history.reserve(1, 1, pairs)
+    records.reserve(room)?;
+    let pairs = count_pairs(&*history, meetings, more)?;
+    history.reserve(1, sides, pairs)
 }
 
 // The plan of the insertion, and room for all that it makes; only the room changes.
@@ -117,7 +129,7 @@ fn prepare<L: Ledger>(
     requires map { IsSoundMap records.old }
     requires start { IsSpotOf records.old.graph (tables_of records.old) segment.now.lower start }
     ensures zone { IfOk result (IsZoneOf records.old.graph (tables_of records.old) segment.now) }
-    ensures room { IfOk result (λ z. HasRoomFor z (strands_on history.old) records.new history.new) }
+    ensures room { IfOk result (λ z. HasRoomForPlan z (strands_on history.old) records.new history.new) }
     ensures graph { records.new.graph ≡ records.old.graph }
     ensures tables { tables_of records.new ≡ tables_of records.old }
     ensures map { IsMapAtRest records.old → IsMapAtRest records.new }
@@ -128,7 +140,9 @@ fn prepare<L: Ledger>(
     // Each face lists its own cycles and isolated vertices.
     records.face_laws();
     let plan = zone(alloc, &*records, segment, start, steps)?;
-    make_room(records, history, &plan)?;
+    let vertices = plan.vertices.as_slice();
+    // One pair more than open parts, and than the new side needs.
+    make_room(records, history, plan.room, vertices, 1, vertices.len())?;
     Ok(plan)
 }
 
@@ -139,7 +153,6 @@ fn insert_by_plan(
     history: &mut History,
     bus: &mut Bus,
     segment: &Segment,
-    start: Spot,
     plan: ZonePlan,
 ) -> CurveId
     requires layer { IsLayer records.old.graph history.old }
@@ -147,10 +160,9 @@ fn insert_by_plan(
         (bus_row Observer-dyn bus.old) }
     requires map { IsMapAtRest records.old }
     requires zone { IsZoneOf records.old.graph (tables_of records.old) segment.now plan }
-    requires start { IsSpotOf records.old.graph (tables_of records.old) segment.now.lower start }
     requires unspent { history.old.next ≤ LAST_CURVE }
     requires few { length history.old.pieces + 1 < 2 ^ 32 }
-    requires room { HasRoomFor plan (strands_on history.old) records.old history.old }
+    requires room { HasRoomForPlan plan (strands_on history.old) records.old history.old }
     ensures layer { IsLayer records.new.graph history.new }
     ensures number { result.0 ≡ history.old.next }
     ensures edit { IsAfter (Insert result.0 (segment.now ∷ [])) records.old history.old records.new history.new }
@@ -173,8 +185,8 @@ fn insert_by_plan(
         to: upper,
     });
     let mut meetings = plan.vertices.into_vec();
-    make_vertices(alloc, records, history, bus, segment, start, &mut meetings);
-    make_edges(alloc, records, history, bus, segment, curve, &meetings);
+    make_vertices(alloc, records, history, bus, &mut meetings);
+    make_edges(alloc, records, history, bus, segment, curve, 1, &meetings);
     curve
 }
 
@@ -213,10 +225,10 @@ pub fn insert<L: Ledger>(
     ensures same_curves { OnErr result (SameCurves history.old history.new) }
     ensures untold { OnErr result (bus_row Observer-dyn bus.new ≡ bus_row Observer-dyn bus.old) }
 {
-    if let Some(error) = refusal_of(&*history, curves, pieces) {
+    if let Some(error) = refusal_of(&*history, 1, curves, pieces) {
         return Err(error);
     }
     let plan = prepare(alloc, records, history, segment, start, steps)?;
     bus.begin();
-    Ok(insert_by_plan(alloc, records, history, bus, segment, start, plan))
+    Ok(insert_by_plan(alloc, records, history, bus, segment, plan))
 }

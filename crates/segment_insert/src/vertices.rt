@@ -1,28 +1,23 @@
-ghost use Rattle.std.specs.Prelude.{◌≡◌, ◌≤◌, ◌+◌, ◌*◌, true, [], ◌∷◌, Contains};
-ghost use Rattle.dcel_records.specs.declared.spot.Met.TheVariants.{Nothing};
+ghost use Rattle.std.specs.Prelude.{◌≡◌, ◌≤◌, ◌+◌, ◌*◌, [], ◌∷◌};
 ghost use Rattle.plane_graphs.specs.Line.{IsProper};
 ghost use Rattle.slab_laws.specs.Sound.{IsGraphSound};
 ghost use Rattle.dcel_records.specs.RecordsView.{IsSpareFaces, tables_of};
-ghost use Rattle.dcel_records.specs.SoundMaps.{IsMapAtRest, IsSoundMap, map_of};
+ghost use Rattle.dcel_records.specs.SoundMaps.{IsMapAtRest, map_of};
 ghost use Rattle.dcel_records.specs.Spots.{met_of};
 ghost use Rattle.face_location.specs.Spots.{IsFaceNamed};
 ghost use Rattle.curve_history.specs.Past.{curves_on, strands_on, SameLayer};
 ghost use Rattle.observer_bus.specs.Rows.{bus_row};
 ghost use Rattle.told_steps.specs.ToldRuns.{AreInStep};
 ghost use Rattle.told_steps.specs.VertexMade.{pairs_at};
-ghost use Rattle.sound_changes.specs.EdgePlaces.{IsPlaceFor, dart_between};
-ghost use Rattle.slab_laws.specs.View.{point_in};
-ghost use Rattle.zone_walk.specs.Zone.{is_on_segment, vertices_needed, splits_needed, points_of_meetings};
-ghost use Rattle.segment_insert.specs.Coming.{HasPart, IsClearAhead, LeadsTo, IsMetNow, IsMetStill};
-ghost use Rattle.segment_insert.specs.Insertion.{AreClear, AreMeetings, AreVertices, IsStart};
+ghost use Rattle.zone_walk.specs.Zone.{vertices_needed, splits_needed, points_of_meetings};
+ghost use Rattle.segment_insert.specs.Coming.{HasPart, LeadsTo, IsMetNow, IsMetStill};
+ghost use Rattle.segment_insert.specs.Insertion.{AreMeetings, AreVertices};
 ghost use Rattle.segment_insert.specs.StepsMade.{new_pairs, MayBeVertices, BecomeVertices, BecomesVertex};
 
 use curve_history::History;
 use dcel_records::{Records, Spot};
-use exact_plane::{Direction, Line, Point, Segment, line_of};
-use face_location::face_ahead;
+use exact_plane::Point;
 use observer_bus::Bus;
-use rotation_order::{Place, place_at};
 use slab_laws::{DartId, Darts, VertexId};
 use std::alloc::Global;
 use told_steps::make_vertex;
@@ -43,36 +38,20 @@ fn part_at(records: &Records, dart: DartId, point: Point) -> DartId
     part
 }
 
-// The place round a vertex of the direction along the line, to a point that the vertex sees there: no edge runs that way.
-fn place_ahead(records: &Records, line: &Line, before: VertexId, point: &Point) -> Option<DartId>
-    requires sound { IsGraphSound records.now.graph }
-    requires ahead { IsClearAhead records.now.graph line.now before point.now }
-    ensures { IsPlaceFor records.now.graph before result (dart_between (point_in records.now.graph before) point.now) }
-{
-    match place_at(records, before, Direction::along(line)) {
-        Place::Bare => None,
-        Place::Between(dart, _) => Some(dart),
-        Place::Along(_) => unreachable!(),
-    }
-}
-
-// Where a meeting's point lies now, after the vertex at the meeting before it: in a part of its edge, where that went in several
-// since the meeting was told, and inside a face in the one that lies ahead of that vertex.
-fn spot_now(records: &Records, line: &Line, before: VertexId, meeting: &Meeting) -> Spot
+// Where a meeting's point lies now: in a part of its edge, where that went in several since the meeting was told, and else where it
+// was told to lie.
+fn spot_now(records: &Records, meeting: &Meeting) -> Spot
     requires proper { IsProper meeting.now.point }
-    requires map { IsSoundMap records.now }
+    requires sound { IsGraphSound records.now.graph }
     requires met { (h : _) × IsMetStill records.now.graph h meeting.now.point (met_of meeting.now.spot) }
-    requires ahead { (met_of meeting.now.spot) ≡ Nothing → IsClearAhead records.now.graph line.now before meeting.now.point }
+    requires face { IsFaceNamed records.now.graph (tables_of records.now) meeting.now.point meeting.now.spot }
     ensures met { IsMetNow records.now.graph meeting.now.point (met_of meeting.now.spot) (met_of result) }
     ensures face { IsFaceNamed records.now.graph (tables_of records.now) meeting.now.point result }
 {
     match meeting.spot {
-        Spot::Vertex(v) => Spot::Vertex(v),
+        Spot::Vertex(vertex) => Spot::Vertex(vertex),
         Spot::Edge(dart) => Spot::Edge(part_at(records, dart, meeting.point)),
-        Spot::Face(_) => {
-            let place = place_ahead(records, line, before, &meeting.point);
-            Spot::Face(face_ahead(records, before, place))
-        }
+        Spot::Face(face) => Spot::Face(face),
     }
 }
 
@@ -110,24 +89,18 @@ fn vertex_of(
 }
 
 /// Makes every meeting point a vertex, in room that is there: an edge that has it inside goes in two, and inside a face a
-/// vertex comes. Each meeting is told its vertex. The first lies at `start`; where a later one lies inside a face, this is the one
-/// ahead of the vertex before it.
+/// vertex comes. Each meeting is told its vertex. The faces that meetings name stay theirs while vertices come.
 pub(crate) fn make_vertices(
     alloc: Global,
     records: &mut Records,
     history: &mut History,
     bus: &mut Bus,
-    segment: &Segment,
-    start: Spot,
     meetings: &mut Vec<Meeting>,
 )
     requires in_step { AreInStep (map_of records.old) (curves_on history.old)
         (bus_row Observer-dyn bus.old) }
     requires map { IsMapAtRest records.old }
-    requires meetings { AreMeetings records.old.graph meetings.old.items }
-    requires on { (m : _) → Contains meetings.old.items m → is_on_segment segment.now m.point ≡ true }
-    requires start { IsStart records.old.graph (tables_of records.old) start meetings.old.items }
-    requires clear { AreClear records.old.graph segment.now meetings.old.items }
+    requires meetings { AreMeetings records.old.graph (tables_of records.old) meetings.old.items }
     requires plane { MayBeVertices records.old.graph history.old meetings.old.items }
     requires vertices { vertices_needed meetings.old.items ≤ records.old.spare_vertices }
     requires darts { 2 * splits_needed meetings.old.items ≤ records.old.spare_darts }
@@ -144,13 +117,10 @@ pub(crate) fn make_vertices(
     ensures spare_faces { IsSpareFaces records.old.faces records.new.faces 0 0 }
     ensures spare_pairs { history.old.spare_pairs ≤ history.new.spare_pairs + new_pairs history.old meetings.old.items }
 {
-    let line = line_of(segment);
-    let mut before = vertex_of(alloc, records, history, bus, start, meetings[0]);
-    meetings[0].spot = Spot::Vertex(before);
-    for i in 1..meetings.len() {
+    for i in 0..meetings.len() {
         let meeting = meetings[i];
-        let at = spot_now(&*records, &line, before, &meeting);
-        before = vertex_of(alloc, records, history, bus, at, meeting);
-        meetings[i].spot = Spot::Vertex(before);
+        let at = spot_now(&*records, &meeting);
+        let vertex = vertex_of(alloc, records, history, bus, at, meeting);
+        meetings[i].spot = Spot::Vertex(vertex);
     }
 }

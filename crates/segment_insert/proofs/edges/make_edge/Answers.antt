@@ -5,7 +5,7 @@ use Rattle.curve_history.specs.Past.{curves_on}
 use Rattle.rotation_order.specs.Place.{IsPlaceOf}
 use Rattle.rotation_order.specs.declared.places.Place.TheVariants.{Between, Along}
 use Rattle.segment_insert.proofs.Linked.{not_held, curve_told, side_there}
-use Rattle.segment_insert.proofs.Parts.{placed_on, none_between_darts, along_forward, along_ends}
+use Rattle.segment_insert.proofs.PartDarts.{placed_on, none_between_darts, along_forward, along_ends}
 use Rattle.segment_insert.proofs.edges.make_edge.Goals as goal
 
 pub add_curve-requires-clause-forward : goal.add_curve-requires-clause-forward
@@ -58,5 +58,5 @@ returns-in-Along-clause-strands g c =
     let o = c.requires.part in
     let d = c.in-Along.d in
     let k = placed_on v s l c.args.u c.args.w o (Along d) (subst (λ x. IsPlaceOf v c.args.u x (Along d)) c.along.ensures c.in-Along.ensures) in
-    side_there v (curves_on c.args.history.now) s c.requires.in_step.curves l c.args.u c.args.w o c.args.curve d (k.out.0, along_forward v s l c.args.u c.args.w o d k) k.out.1 (along_ends v s l c.args.u c.args.w o d k) c.args.history.now (strand c.args.curve.0 1) v
+    side_there v (curves_on c.args.history.now) s c.requires.in_step.curves l c.args.u c.args.w o c.args.curve d (k.out.0, along_forward v s l c.args.u c.args.w o d k) k.out.1 (along_ends v s l c.args.u c.args.w o d k) c.args.history.now (strand c.args.curve.0 c.args.side) v
     c.add_curve.new.history c.add_curve.ensures.strands

@@ -2,7 +2,7 @@ use Rattle.std.proofs.Common.{◌∙◌, ap, subst}
 use Rattle.exact_plane.specs.Direction.{opposite}
 use Rattle.rotation_order.specs.Place.{IsPlaceOf}
 use Rattle.rotation_order.specs.declared.places.Place.TheVariants.{Between, Along}
-use Rattle.segment_insert.proofs.Parts.{back_between, never_back}
+use Rattle.segment_insert.proofs.PartDarts.{back_between, never_back}
 use Rattle.segment_insert.proofs.edges.place_back.Goals as goal
 
 pub unreachable-requires : goal.unreachable-requires

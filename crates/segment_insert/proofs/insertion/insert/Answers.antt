@@ -1,14 +1,12 @@
-use Rattle.std.proofs.Common.{◌≡◌, ◌+◌, ◌≤◌, None, length, refl, subst, sym, arith}
-use Rattle.dcel_records.specs.RecordsView.{tables_of}
-use Rattle.face_location.specs.Spots.{IsSpotOf}
+use Rattle.std.proofs.Common.{◌≡◌, ◌+◌, ◌≤◌, None, length, refl, sym, arith}
 use Rattle.edit_steps.proofs.Refusals.{insertion_allowed, no_memory}
 use Rattle.dcel_records.specs.SoundMaps.{map_of}
 use Rattle.curve_history.specs.declared.history.TheConstants.{LAST_CURVE}
-use Rattle.segment_insert.specs.Insertion.{insert_said, refusal_at}
+use Rattle.segment_insert.specs.Insertion.{insert_said, refusal_at, HasRoomForPlan}
 use Rattle.segment_insert.specs.declared.insertion.InsertError.TheVariants.{NoMemory}
 use Rattle.dcel_records.proofs.Maps.{one_map}
 use Rattle.told_steps.proofs.Begun.{begun_in_step, still_watched}
-use Rattle.segment_insert.proofs.Layers.{room_stays}
+use Rattle.segment_insert.proofs.Layers.{by_same_sides}
 use Rattle.told_steps.proofs.Moved.{layer_stays}
 use Rattle.segment_insert.proofs.insertion.insert.Goals as goal
 use Rattle.told_steps.specs.LayerEdits.{layer_at}
@@ -26,7 +24,7 @@ insert_by_plan-requires-clause-layer g c =
 pub insert_by_plan-requires-clause-room : goal.insert_by_plan-requires-clause-room
 insert_by_plan-requires-clause-room g c =
     let e = c.prepare.ensures in
-    room_stays c.in_ok-plan.plan c.prepare.new.records c.args.history.now c.prepare.new.history e.same_strands c.in_ok-plan.ensures.room
+    by_same_sides (λ h. HasRoomForPlan c.in_ok-plan.plan h c.prepare.new.records c.prepare.new.history) c.args.history.now c.prepare.new.history e.same_strands c.in_ok-plan.ensures.room
 
 pub returns-in-Some-clause-refused : goal.returns-in-Some-clause-refused
 returns-in-Some-clause-refused g c = sym (c.in-Some.ensures c.args.records.now)
@@ -60,9 +58,3 @@ insert_by_plan-requires-clause-in_step g c =
 
 pub prepare-requires-clause-start : goal.prepare-requires-clause-start
 prepare-requires-clause-start g c = c.requires.start
-
-pub insert_by_plan-requires-clause-start : goal.insert_by_plan-requires-clause-start
-insert_by_plan-requires-clause-start g c =
-    let e = c.prepare.ensures in
-    let p = c.args.segment.now.lower in
-    subst (λ v. IsSpotOf v (tables_of c.prepare.new.records) p c.args.start) (sym e.graph) (subst (λ f. IsSpotOf c.args.records.now.graph f p c.args.start) (sym e.tables) c.requires.start)

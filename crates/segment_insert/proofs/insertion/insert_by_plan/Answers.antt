@@ -1,18 +1,18 @@
-use Rattle.std.proofs.Common.{◌≡◌, true, Contains, refl, sym, ap, ◌∙◌, subst, arith, inl}
+use Rattle.std.proofs.Common.{◌≡◌, refl, sym, ap, ◌∙◌, subst, arith, inl}
 use Rattle.plane_graphs.specs.Ascending.{Member}
 use Rattle.plane_graphs.proofs.Lists.{in_right}
 use Rattle.dcel_records.specs.SoundMaps.{map_of}
 use Rattle.curve_history.specs.Past.{SameStrands, curves_on, strands_on}
-use Rattle.segment_insert.specs.Insertion.{pairs_to_part, AreClear, AreMeetings, IsStart}
+use Rattle.segment_insert.specs.Insertion.{pairs_to_part, AreMeetings}
 use Rattle.told_steps.proofs.Begun.{still_in_step}
 use Rattle.told_steps.proofs.Moved.{one_curves}
 use Rattle.edit_steps.specs.Allowed.{AreSound}
 use Rattle.arr_notes.specs.RecordGraph.{drawn_graph}
 use Rattle.dcel_records.specs.RecordsView.{tables_of}
-use Rattle.zone_walk.specs.declared.plan.Meeting.{Meeting}
-use Rattle.zone_walk.specs.Zone.{is_on_segment, splits_needed, points_of_meetings}
+use Rattle.zone_walk.specs.Zone.{splits_needed, points_of_meetings}
 use Rattle.segment_insert.proofs.Layers.{one_sides}
-use Rattle.segment_insert.proofs.Planned.{IsPlanned, told_of_plan, IsHalfMade, clear_here, meetings, on_here, start_here, room_left, one_for_each, pairs_left, sound_first, all_on, each_on, plane_then, all_told, layer_made, one_piece, one_name}
+use Rattle.segment_insert.proofs.CurvePlanned.{IsHalfMade, told_of_plan, sound_first, all_on, plane_then, all_told, layer_made, one_name}
+use Rattle.segment_insert.proofs.Planned.{IsPlanned, curve, meetings, each_on, room_left, one_for_each, pairs_left, one_piece}
 use Rattle.segment_insert.proofs.insertion.insert_by_plan.Goals as goal
 use Rattle.segment_insert.specs.Coming.{steps_at}
 
@@ -23,30 +23,14 @@ make_vertices-requires-clause-in_step g c =
 pub make_vertices-requires-clause-meetings : goal.make_vertices-requires-clause-meetings
 make_vertices-requires-clause-meetings g c =
     let planned : IsPlanned (map_of c.args.records.now) c.args.history.now c.args.segment.now c.args.plan c.draw-curve.result.0 = record { layer = c.requires.layer; ends = c.lower-lower.ensures.ends; zone = c.requires.zone; number = c.draw-curve.ensures.number } in
-    subst (AreMeetings c.args.records.now.graph) (sym c.into_vec-meetings.ensures) (meetings planned)
-
-pub make_vertices-requires-clause-on : goal.make_vertices-requires-clause-on
-make_vertices-requires-clause-on g c =
-    let planned : IsPlanned (map_of c.args.records.now) c.args.history.now c.args.segment.now c.args.plan c.draw-curve.result.0 = record { layer = c.requires.layer; ends = c.lower-lower.ensures.ends; zone = c.requires.zone; number = c.draw-curve.ensures.number } in
-    subst (λ ms. (m : Meeting) → Contains ms m → is_on_segment c.args.segment.now m.point ≡ true) (sym c.into_vec-meetings.ensures) (on_here planned)
-
-pub make_vertices-requires-clause-start : goal.make_vertices-requires-clause-start
-make_vertices-requires-clause-start g c =
-    let planned : IsPlanned (map_of c.args.records.now) c.args.history.now c.args.segment.now c.args.plan c.draw-curve.result.0 = record { layer = c.requires.layer; ends = c.lower-lower.ensures.ends; zone = c.requires.zone; number = c.draw-curve.ensures.number } in
-    let f = tables_of c.args.records.now in
-    subst (IsStart c.args.records.now.graph f c.args.start) (sym c.into_vec-meetings.ensures) (start_here planned f c.args.start c.requires.start)
-
-pub make_vertices-requires-clause-clear : goal.make_vertices-requires-clause-clear
-make_vertices-requires-clause-clear g c =
-    let planned : IsPlanned (map_of c.args.records.now) c.args.history.now c.args.segment.now c.args.plan c.draw-curve.result.0 = record { layer = c.requires.layer; ends = c.lower-lower.ensures.ends; zone = c.requires.zone; number = c.draw-curve.ensures.number } in
-    subst (AreClear c.args.records.now.graph c.args.segment.now) (sym c.into_vec-meetings.ensures) (clear_here planned)
+    subst (AreMeetings c.args.records.now.graph (tables_of c.args.records.now)) (sym c.into_vec-meetings.ensures) (meetings planned)
 
 pub make_vertices-requires-clause-plane : goal.make_vertices-requires-clause-plane
 make_vertices-requires-clause-plane g c =
     let planned : IsPlanned (map_of c.args.records.now) c.args.history.now c.args.segment.now c.args.plan c.draw-curve.result.0 = record { layer = c.requires.layer; ends = c.lower-lower.ensures.ends; zone = c.requires.zone; number = c.draw-curve.ensures.number } in
     let same = one_curves c.args.history.now c.add_piece.new.self (λ d. c.add_piece.ensures.curves d ∙ c.draw-curve.ensures.curves d) in
     let g = drawn_graph c.args.records.now.graph (curves_on c.add_piece.new.self) in
-    subst (λ ms. AreSound (steps_at c.args.records.now.graph (curves_on c.add_piece.new.self) (points_of_meetings ms)) g) (sym c.into_vec-meetings.ensures) (sound_first planned (curves_on c.add_piece.new.self) same)
+    subst (λ ms. AreSound (steps_at c.args.records.now.graph (curves_on c.add_piece.new.self) (points_of_meetings ms)) g) (sym c.into_vec-meetings.ensures) (sound_first (curve planned) (curves_on c.add_piece.new.self) same)
 
 pub make_vertices-requires-clause-pairs : goal.make_vertices-requires-clause-pairs
 make_vertices-requires-clause-pairs g c =
@@ -57,11 +41,9 @@ make_vertices-requires-clause-pairs g c =
 pub make_edges-requires-clause-on : goal.make_edges-requires-clause-on
 make_edges-requires-clause-on g c =
     let planned : IsPlanned (map_of c.args.records.now) c.args.history.now c.args.segment.now c.args.plan c.draw-curve.result.0 = record { layer = c.requires.layer; ends = c.lower-lower.ensures.ends; zone = c.requires.zone; number = c.draw-curve.ensures.number } in
-    let same : SameStrands c.args.history.now c.add_piece.new.self = λ d. c.add_piece.ensures.strands d ∙ c.draw-curve.ensures.strands d in
     let are = c.into_vec-meetings.ensures in
     let kept = ap points_of_meetings c.deref.ensures.value ∙ c.make_vertices.ensures.points ∙ ap points_of_meetings are in
-    let half : IsHalfMade (map_of c.args.records.now) c.args.history.now c.args.plan _ (map_of c.make_vertices.new.records) c.make_vertices.new.history _ c.deref.result.now = record { told = told_of_plan _ c.args.history.now c.add_piece.new.self _ _ c.make_vertices.new.history _ same are c.make_vertices.ensures.told; kept = kept } in
-    each_on planned half
+    each_on planned c.deref.result.now kept
 
 pub make_edges-requires-clause-all_on : goal.make_edges-requires-clause-all_on
 make_edges-requires-clause-all_on g c =
@@ -69,8 +51,8 @@ make_edges-requires-clause-all_on g c =
     let same : SameStrands c.args.history.now c.add_piece.new.self = λ d. c.add_piece.ensures.strands d ∙ c.draw-curve.ensures.strands d in
     let are = c.into_vec-meetings.ensures in
     let kept = ap points_of_meetings c.deref.ensures.value ∙ c.make_vertices.ensures.points ∙ ap points_of_meetings are in
-    let half : IsHalfMade (map_of c.args.records.now) c.args.history.now c.args.plan _ (map_of c.make_vertices.new.records) c.make_vertices.new.history _ c.deref.result.now = record { told = told_of_plan _ c.args.history.now c.add_piece.new.self _ _ c.make_vertices.new.history _ same are c.make_vertices.ensures.told; kept = kept } in
-    all_on planned half
+    let half : IsHalfMade (map_of c.args.records.now) c.args.history.now c.args.plan.vertices _ (map_of c.make_vertices.new.records) c.make_vertices.new.history _ c.deref.result.now = record { told = told_of_plan _ c.args.history.now c.add_piece.new.self _ _ c.make_vertices.new.history _ same are c.make_vertices.ensures.told; kept = kept } in
+    all_on (curve planned) half c.args.segment.now (inl refl)
 
 pub make_edges-requires-clause-curve_named : goal.make_edges-requires-clause-curve_named
 make_edges-requires-clause-curve_named g c =
@@ -83,8 +65,8 @@ make_edges-requires-clause-plane g c =
     let same : SameStrands c.args.history.now c.add_piece.new.self = λ d. c.add_piece.ensures.strands d ∙ c.draw-curve.ensures.strands d in
     let are = c.into_vec-meetings.ensures in
     let kept = ap points_of_meetings c.deref.ensures.value ∙ c.make_vertices.ensures.points ∙ ap points_of_meetings are in
-    let half : IsHalfMade (map_of c.args.records.now) c.args.history.now c.args.plan _ (map_of c.make_vertices.new.records) c.make_vertices.new.history _ c.deref.result.now = record { told = told_of_plan _ c.args.history.now c.add_piece.new.self _ _ c.make_vertices.new.history _ same are c.make_vertices.ensures.told; kept = kept } in
-    plane_then planned half
+    let half : IsHalfMade (map_of c.args.records.now) c.args.history.now c.args.plan.vertices _ (map_of c.make_vertices.new.records) c.make_vertices.new.history _ c.deref.result.now = record { told = told_of_plan _ c.args.history.now c.add_piece.new.self _ _ c.make_vertices.new.history _ same are c.make_vertices.ensures.told; kept = kept } in
+    plane_then (curve planned) half
 
 pub make_edges-requires-clause-darts : goal.make_edges-requires-clause-darts
 make_edges-requires-clause-darts g c =
@@ -121,7 +103,7 @@ returns-clause-layer g c =
     let same : SameStrands c.args.history.now c.add_piece.new.self = λ d. c.add_piece.ensures.strands d ∙ c.draw-curve.ensures.strands d in
     let are = c.into_vec-meetings.ensures in
     let kept = ap points_of_meetings c.deref.ensures.value ∙ c.make_vertices.ensures.points ∙ ap points_of_meetings are in
-    let half : IsHalfMade (map_of c.args.records.now) c.args.history.now c.args.plan _ (map_of c.make_vertices.new.records) c.make_vertices.new.history _ c.deref.result.now = record { told = told_of_plan _ c.args.history.now c.add_piece.new.self _ _ c.make_vertices.new.history _ same are c.make_vertices.ensures.told; kept = kept } in
+    let half : IsHalfMade (map_of c.args.records.now) c.args.history.now c.args.plan.vertices _ (map_of c.make_vertices.new.records) c.make_vertices.new.history _ c.deref.result.now = record { told = told_of_plan _ c.args.history.now c.add_piece.new.self _ _ c.make_vertices.new.history _ same are c.make_vertices.ensures.told; kept = kept } in
     let layer = c.make_edges.ensures.layer in
     let before = c.make_vertices.ensures.layer in
     let piece = one_piece c.args.history.now.pieces c.draw-curve.new.self.pieces c.draw-curve.result.0 c.args.segment.now c.lower-lower.result c.upper-upper.result c.draw-curve.ensures.pieces c.lower-lower.ensures.value c.upper-upper.ensures in
@@ -129,7 +111,7 @@ returns-clause-layer g c =
     let pieces = layer.pieces ∙ before.pieces ∙ c.add_piece.ensures.pieces ∙ piece in
     let names = layer.names ∙ before.names ∙ c.add_piece.ensures.names ∙ c.draw-curve.ensures.names ∙ name in
     let next = layer.next ∙ before.next ∙ c.add_piece.ensures.next ∙ c.draw-curve.ensures.next in
-    (layer_made planned half (map_of c.make_edges.new.records) c.make_edges.new.history _ c.make_edges.ensures.told c.make_edges.ensures.strands pieces names next).0
+    (layer_made (curve planned) half (map_of c.make_edges.new.records) c.make_edges.new.history _ c.make_edges.ensures.told c.make_edges.ensures.strands pieces names next).0
 
 pub returns-clause-edit : goal.returns-clause-edit
 returns-clause-edit g c =
@@ -137,7 +119,7 @@ returns-clause-edit g c =
     let same : SameStrands c.args.history.now c.add_piece.new.self = λ d. c.add_piece.ensures.strands d ∙ c.draw-curve.ensures.strands d in
     let are = c.into_vec-meetings.ensures in
     let kept = ap points_of_meetings c.deref.ensures.value ∙ c.make_vertices.ensures.points ∙ ap points_of_meetings are in
-    let half : IsHalfMade (map_of c.args.records.now) c.args.history.now c.args.plan _ (map_of c.make_vertices.new.records) c.make_vertices.new.history _ c.deref.result.now = record { told = told_of_plan _ c.args.history.now c.add_piece.new.self _ _ c.make_vertices.new.history _ same are c.make_vertices.ensures.told; kept = kept } in
+    let half : IsHalfMade (map_of c.args.records.now) c.args.history.now c.args.plan.vertices _ (map_of c.make_vertices.new.records) c.make_vertices.new.history _ c.deref.result.now = record { told = told_of_plan _ c.args.history.now c.add_piece.new.self _ _ c.make_vertices.new.history _ same are c.make_vertices.ensures.told; kept = kept } in
     let layer = c.make_edges.ensures.layer in
     let before = c.make_vertices.ensures.layer in
     let piece = one_piece c.args.history.now.pieces c.draw-curve.new.self.pieces c.draw-curve.result.0 c.args.segment.now c.lower-lower.result c.upper-upper.result c.draw-curve.ensures.pieces c.lower-lower.ensures.value c.upper-upper.ensures in
@@ -145,7 +127,7 @@ returns-clause-edit g c =
     let pieces = layer.pieces ∙ before.pieces ∙ c.add_piece.ensures.pieces ∙ piece in
     let names = layer.names ∙ before.names ∙ c.add_piece.ensures.names ∙ c.draw-curve.ensures.names ∙ name in
     let next = layer.next ∙ before.next ∙ c.add_piece.ensures.next ∙ c.draw-curve.ensures.next in
-    (layer_made planned half (map_of c.make_edges.new.records) c.make_edges.new.history _ c.make_edges.ensures.told c.make_edges.ensures.strands pieces names next).1
+    (layer_made (curve planned) half (map_of c.make_edges.new.records) c.make_edges.new.history _ c.make_edges.ensures.told c.make_edges.ensures.strands pieces names next).1
 
 pub returns-clause-told : goal.returns-clause-told
 returns-clause-told g c =
@@ -153,5 +135,5 @@ returns-clause-told g c =
     let same : SameStrands c.args.history.now c.add_piece.new.self = λ d. c.add_piece.ensures.strands d ∙ c.draw-curve.ensures.strands d in
     let are = c.into_vec-meetings.ensures in
     let kept = ap points_of_meetings c.deref.ensures.value ∙ c.make_vertices.ensures.points ∙ ap points_of_meetings are in
-    let half : IsHalfMade (map_of c.args.records.now) c.args.history.now c.args.plan _ (map_of c.make_vertices.new.records) c.make_vertices.new.history _ c.deref.result.now = record { told = told_of_plan _ c.args.history.now c.add_piece.new.self _ _ c.make_vertices.new.history _ same are c.make_vertices.ensures.told; kept = kept } in
-    all_told planned half (map_of c.make_edges.new.records) c.make_edges.new.history _ c.make_edges.ensures.told
+    let half : IsHalfMade (map_of c.args.records.now) c.args.history.now c.args.plan.vertices _ (map_of c.make_vertices.new.records) c.make_vertices.new.history _ c.deref.result.now = record { told = told_of_plan _ c.args.history.now c.add_piece.new.self _ _ c.make_vertices.new.history _ same are c.make_vertices.ensures.told; kept = kept } in
+    all_told (curve planned) half (map_of c.make_edges.new.records) c.make_edges.new.history _ c.make_edges.ensures.told

@@ -5,7 +5,6 @@ use Rattle.curve_history.specs.Past.{strands_on, SameLayer}
 use Rattle.observer_bus.specs.Rows.{bus_row}
 use Rattle.zone_walk.specs.Zone.{vertices_needed, splits_needed}
 use Rattle.segment_insert.specs.Insertion.{pairs_to_part}
-use Rattle.segment_insert.proofs.VerticesClear.{IsFollowed}
 use Rattle.segment_insert.proofs.VerticesLoop.{IsMidway}
 use Rattle.segment_insert.proofs.vertices.make_vertices.Given as goal
 
@@ -14,7 +13,6 @@ invariant-loop-i g l = record {
   midway : IsMidway (map_of l.fn.records) l.fn.history
       (bus_row (goal.Observer-dyn g) l.fn.bus) l.fn.meetings.items (map_of l.records) l.history
       (bus_row (goal.Observer-dyn g) l.bus) l.meetings.items l.i;
-  followed : IsFollowed l.records.graph l.segment l.before (drop l.i l.fn.meetings.items);
   map : IsMapAtRest l.records;
   layer : SameLayer l.fn.history l.history;
   vertices : l.fn.records.spare_vertices + vertices_needed (drop l.i l.fn.meetings.items) ≤ l.records.spare_vertices + vertices_needed l.fn.meetings.items;

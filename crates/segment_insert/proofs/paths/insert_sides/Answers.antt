@@ -1,0 +1,61 @@
+use Rattle.std.proofs.Common.{◌≡◌, ◌+◌, ◌≤◌, None, length, refl, sym, arith}
+use Rattle.edit_steps.proofs.Refusals.{insertion_allowed, no_memory}
+use Rattle.dcel_records.specs.SoundMaps.{map_of}
+use Rattle.curve_history.specs.declared.history.TheConstants.{LAST_CURVE}
+use Rattle.segment_insert.specs.Insertion.{insert_said, refusal_of_sides}
+use Rattle.segment_insert.specs.Paths.{HasRoomForPath}
+use Rattle.segment_insert.specs.declared.insertion.InsertError.TheVariants.{NoMemory}
+use Rattle.dcel_records.proofs.Maps.{one_map}
+use Rattle.told_steps.proofs.Begun.{begun_in_step, still_watched}
+use Rattle.segment_insert.proofs.Layers.{by_same_sides}
+use Rattle.told_steps.proofs.Moved.{layer_stays}
+use Rattle.segment_insert.proofs.paths.insert_sides.Goals as goal
+use Rattle.told_steps.specs.LayerEdits.{layer_at}
+
+pub returns-in_err-planned-clause-layer : goal.returns-in_err-planned-clause-layer
+returns-in_err-planned-clause-layer g c =
+    let e = c.prepare_path.ensures in
+    layer_stays c.args.records.now.graph c.prepare_path.new.records.graph c.args.history.now c.prepare_path.new.history e.graph e.same_layer e.same_strands c.requires.layer
+
+pub insert_by_parts-requires-clause-layer : goal.insert_by_parts-requires-clause-layer
+insert_by_parts-requires-clause-layer g c =
+    let e = c.prepare_path.ensures in
+    layer_stays c.args.records.now.graph c.prepare_path.new.records.graph c.args.history.now c.prepare_path.new.history e.graph e.same_layer e.same_strands c.requires.layer
+
+pub insert_by_parts-requires-clause-room : goal.insert_by_parts-requires-clause-room
+insert_by_parts-requires-clause-room g c =
+    let e = c.prepare_path.ensures in
+    by_same_sides (λ h. HasRoomForPath c.in_ok-planned.planned.plan.vertices c.in_ok-planned.planned.parts.items (length c.args.sides.now) h c.prepare_path.new.records c.prepare_path.new.history) c.args.history.now c.prepare_path.new.history e.same_strands c.in_ok-planned.ensures.room
+
+pub returns-in-Some-clause-refused : goal.returns-in-Some-clause-refused
+returns-in-Some-clause-refused g c = sym (c.in-Some.ensures c.args.records.now)
+
+pub returns-in_err-planned-clause-refused : goal.returns-in_err-planned-clause-refused
+returns-in_err-planned-clause-refused g c = no_memory insert_said NoMemory _ c.from_residual.result c.from_residual.ensures.1 refl (c.in_default.ensures c.args.records.now)
+
+pub insert_by_parts-requires-clause-unspent : goal.insert_by_parts-requires-clause-unspent
+insert_by_parts-requires-clause-unspent g c =
+    let none : refusal_of_sides (length c.args.sides.now) c.args.curves c.args.pieces c.args.records.now c.args.history.now ≡ None = c.in_default.ensures c.args.records.now in
+    let k = insertion_allowed (length c.args.sides.now) c.args.curves c.args.pieces LAST_CURVE (layer_at c.args.records.now c.args.history.now) none in
+    let n = c.prepare_path.ensures.same_layer.next in
+    rw n k.1
+
+pub insert_by_parts-requires-clause-few : goal.insert_by_parts-requires-clause-few
+insert_by_parts-requires-clause-few g c =
+    let none : refusal_of_sides (length c.args.sides.now) c.args.curves c.args.pieces c.args.records.now c.args.history.now ≡ None = c.in_default.ensures c.args.records.now in
+    let k = insertion_allowed (length c.args.sides.now) c.args.curves c.args.pieces LAST_CURVE (layer_at c.args.records.now c.args.history.now) none in
+    let few : length c.args.history.now.pieces + length c.args.sides.now ≤ c.args.pieces = k.0 in
+    rw c.prepare_path.ensures.same_layer.pieces (omega arith)
+
+pub returns-in_err-planned-clause-watched : goal.returns-in_err-planned-clause-watched
+returns-in_err-planned-clause-watched g c =
+    let e = c.prepare_path.ensures in
+    still_watched (map_of c.args.records.now) c.args.history.now (map_of c.prepare_path.new.records) c.prepare_path.new.history (one_map c.prepare_path.new.records c.args.records.now e.graph e.tables) e.same_curves _ c.requires.watched
+
+pub insert_by_parts-requires-clause-in_step : goal.insert_by_parts-requires-clause-in_step
+insert_by_parts-requires-clause-in_step g c =
+    let e = c.prepare_path.ensures in
+    begun_in_step (map_of c.args.records.now) c.args.history.now (map_of c.prepare_path.new.records) c.prepare_path.new.history (one_map c.prepare_path.new.records c.args.records.now e.graph e.tables) e.same_curves c.begin.ensures.begun c.requires.map.map.sound c.requires.layer c.requires.watched
+
+pub prepare_path-requires-clause-starts : goal.prepare_path-requires-clause-starts
+prepare_path-requires-clause-starts g c = c.requires.starts
