@@ -44,10 +44,10 @@ use Rattle.overlay_sweep.proofs.PiecesAlong.{ends_rise}
 use Rattle.overlay_sweep.proofs.RunsAlong.{runs_there, own_there}
 
 -- ---- the test
-along_out : (e : EdgeEnds) (s : Stretch) → is_along e s ≡ true → ends_of s ≡ e
+pub along_out : (e : EdgeEnds) (s : Stretch) → is_along e s ≡ true → ends_of s ≡ e
 along_out e s h = ends_cmp_exact (ends_of s) e (is_equal (ends_cmp (ends_of s) e) (sym (ends_ties (ends_of s) e) ∙ h))
 
-along_in : (e : EdgeEnds) (s : Stretch) → ends_of s ≡ e → is_along e s ≡ true
+pub along_in : (e : EdgeEnds) (s : Stretch) → ends_of s ≡ e → is_along e s ≡ true
 along_in e s q = subst (λ d. is_along d s ≡ true) q (ends_ties (ends_of s) (ends_of s) ∙ ap is_eq (tied_itself ends_cmp_total (ends_of s)))
 
 -- ---- what a filter keeps
@@ -61,12 +61,12 @@ none_kept p (x ∷ xs) h = ap (λ b. cond b (x ∷ filter p xs) (filter p xs)) (
 
 -- ---- those that stand first and run along the edge, and the others
 module _ (e : EdgeEnds) where
-  record IsCut (xs own others : List Stretch) : Type 0 where
-    whole : xs ≡ own ++ others
-    along : (s : Stretch) → Member s own → ends_of s ≡ e
-    beyond : (s : Stretch) → Member s others → ends_cmp e (ends_of s) ≡ Less
+  pub record IsCut (xs own others : List Stretch) : Type 0 where
+    pub whole : xs ≡ own ++ others
+    pub along : (s : Stretch) → Member s own → ends_of s ≡ e
+    pub beyond : (s : Stretch) → Member s others → ends_cmp e (ends_of s) ≡ Less
 
-  abbrev AreFromOn : List Stretch → Type 0
+  abbrev pub AreFromOn : List Stretch → Type 0
   AreFromOn xs = (s : Stretch) → Member s xs → (ends_of s ≡ e) ⊎ (ends_cmp e (ends_of s) ≡ Less)
 
   one_cut : (x : Stretch) (xs : List Stretch) (n : ℕ) (b : Bool) → is_along e x ≡ b → IsAscending stretch_cmp (x ∷ xs) → AreFromOn (x ∷ xs) → IsCut xs (take n xs) (drop n xs) → IsCut (x ∷ xs) (take (cond b (1 + n) 0) (x ∷ xs)) (drop (cond b (1 + n) 0) (x ∷ xs))
@@ -82,20 +82,20 @@ module _ (e : EdgeEnds) where
       ] in
       record { whole = refl; along = λ s m. absurd m; beyond = λ s m. ⊎_elim (λ i. subst (λ z. ends_cmp e (ends_of z) ≡ Less) (sym i) head) (λ j. tail s j) m }
 
-  cut : (xs : List Stretch) → IsAscending stretch_cmp xs → AreFromOn xs → IsCut xs (take (prefix_len (is_along e) xs) xs) (drop (prefix_len (is_along e) xs) xs)
+  pub cut : (xs : List Stretch) → IsAscending stretch_cmp xs → AreFromOn xs → IsCut xs (take (prefix_len (is_along e) xs) xs) (drop (prefix_len (is_along e) xs) xs)
   cut [] up each = record { whole = refl; along = λ s m. absurd m; beyond = λ s m. absurd m }
   cut (x ∷ xs) up each = one_cut x xs (prefix_len (is_along e) xs) (is_along e x) refl up each (cut xs up.1 (λ s m. each s (inr m)))
 
   module _ (xs own others : List Stretch) (c : IsCut xs own others) where
     -- those first ones are all
-    own_is : own ≡ filter (is_along e) xs
+    pub own_is : own ≡ filter (is_along e) xs
     own_is =
         sym (ap (filter (is_along e)) c.whole ∙ filter-append (is_along e) own others
         ∙ ap₂ (λ ys zs. ys ++ zs) (all_kept (is_along e) own (λ s m. along_in e s (c.along s m))) (none_kept (is_along e) others (λ s m. false_from_ne_true (is_along e s) (λ t. ends_never e (subst (λ d. ends_cmp e d ≡ Less) (along_out e s t) (c.beyond s m)))))
         ∙ append-nil own)
 
     -- along a later edge run others
-    others_are : (d : EdgeEnds) → ends_cmp e d ≡ Less → filter (is_along d) others ≡ filter (is_along d) xs
+    pub others_are : (d : EdgeEnds) → ends_cmp e d ≡ Less → filter (is_along d) others ≡ filter (is_along d) xs
     others_are d l =
         sym (ap (filter (is_along d)) c.whole ∙ filter-append (is_along d) own others
         ∙ ap (λ ys. ys ++ filter (is_along d) others) (none_kept (is_along d) own (λ s m. false_from_ne_true (is_along d s) (λ t. ends_never e (subst (λ z. ends_cmp e z ≡ Less) (sym (along_out d s t) ∙ c.along s m) l)))))
@@ -196,7 +196,7 @@ module _ (w : Present) (fit : IsFit w) (t : Trace) (h : IsTrace (map span_of_pie
   abbrev ks : List PieceInMemory
   ks = layer.pieces
 
-  span_at : (i : ℕ) (k : PieceInMemory) → i < length ks → get_or ks i k ≡ k → piece_at (map span_of_piece (map piece_of ks)) i ≡ span_of_piece (piece_of k)
+  pub span_at : (i : ℕ) (k : PieceInMemory) → i < length ks → get_or ks i k ≡ k → piece_at (map span_of_piece (map piece_of ks)) i ≡ span_of_piece (piece_of k)
   span_at i k within stands =
       let n = length-map ks piece_of in
       let l : i < length (map piece_of ks) = omega arith in

@@ -26,3 +26,4 @@ pub mod OwnAlong
 pub mod KnownEdges
 pub mod GraphRows
 pub mod Joined
+mod PieceCounts

@@ -12,3 +12,4 @@ pub mod EdgeCurves
 pub mod OwnStretches
 pub mod KnownEdges
 pub mod GraphRows
+pub mod EdgePieces

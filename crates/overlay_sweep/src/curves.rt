@@ -21,7 +21,7 @@ fn is_along(stretch: &Stretch, edge: &EdgeEnds) -> bool
 }
 
 // How many of the stretches that stand first run along an edge.
-fn count_along(stretches: &[Stretch], edge: &EdgeEnds) -> usize
+pub(crate) fn count_along(stretches: &[Stretch], edge: &EdgeEnds) -> usize
     ensures { result ≡ prefix_len (is_along edge.now) stretches.now }
 {
     stretches

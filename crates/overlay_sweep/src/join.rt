@@ -2,9 +2,10 @@ ghost use Rattle.std.specs.Prelude.{◌≡◌, map, IfOk};
 ghost use Rattle.plane_graphs.specs.Fit.{IsFit};
 ghost use Rattle.plane_graphs.specs.Piece.{Present as Pieces};
 ghost use Rattle.plane_graphs.specs.Plane.{IsPlane};
+ghost use Rattle.set_laws.specs.PolygonSets.{pieces_along};
 ghost use Rattle.slab_laws.specs.FacesSound.{IsSound};
 ghost use Rattle.slab_laws.specs.Layers.{rows_of as layer_rows};
-ghost use Rattle.slab_laws.specs.Overlay.{both, label, overlay, plane_of};
+ghost use Rattle.slab_laws.specs.Overlay.{both, label, overlay, overlay_skeleton, plane_of};
 ghost use Rattle.slab_laws.specs.Pieces.{present_of};
 ghost use Rattle.slab_laws.specs.Subdivision.{subdivision};
 ghost use Rattle.overlay_laws.specs.United.{united};
@@ -12,6 +13,7 @@ ghost use Rattle.overlay_sweep.specs.KnownLabels.{AreLabelled};
 ghost use Rattle.overlay_sweep.specs.LayerGraphs.{IsLayerGraph, ArePiecesFrom};
 ghost use Rattle.subdivision_rows.specs.Listed.{subdivision_in, view_of, faces_of, AreLinesOf};
 
+use crate::counts::pieces_of_edges;
 use crate::curves::curves_of_edges;
 use crate::faces::labels_of_faces;
 use crate::graphs::{LayerGraph, graph_of};
@@ -115,6 +117,24 @@ fn tables_of(
     Ok((of_red, of_blue))
 }
 
+// How many red pieces hold each edge, and how many blue ones.
+fn pieces_of(
+    alloc: Global,
+    red: &Present,
+    blue: &Present,
+    whole: &LayerGraph,
+) -> Result<(Vec<usize>, Vec<usize>), NoMemory>
+    requires red { IsFit (present_of red.now) }
+    requires blue { IsFit (present_of blue.now) }
+    requires whole { IsLayerGraph (united (present_of red.now) (present_of blue.now)) whole.now }
+    ensures red { IfOk result (λ t. t.0.items ≡ map (pieces_along (present_of red.now)) (overlay_skeleton (present_of red.now) (present_of blue.now)).edges) }
+    ensures blue { IfOk result (λ t. t.1.items ≡ map (pieces_along (present_of blue.now)) (overlay_skeleton (present_of red.now) (present_of blue.now)).edges) }
+{
+    let of_red = pieces_of_edges(alloc, red, whole, 0)?;
+    let of_blue = pieces_of_edges(alloc, blue, whole, red.pieces.as_slice().len())?;
+    Ok((of_red, of_blue))
+}
+
 // The graph of the pieces and pins of both layers.
 fn graph_of_both(alloc: Global, red: &Present, blue: &Present) -> Result<LayerGraph, NoMemory>
     requires red { IsFit (present_of red.now) }
@@ -146,15 +166,20 @@ pub fn overlay(alloc: Global, red: &Present, blue: &Present) -> Result<Both, NoM
         b.red ≡ layer_rows (present_of red.now) (overlay (present_of red.now) (present_of blue.now))) }
     ensures blue { IfOk result (λ b.
         b.blue ≡ layer_rows (present_of blue.now) (overlay (present_of red.now) (present_of blue.now))) }
+    ensures red_pieces { IfOk result (λ b.
+        b.red_pieces ≡ map (pieces_along (present_of red.now)) (overlay_skeleton (present_of red.now) (present_of blue.now)).edges) }
+    ensures blue_pieces { IfOk result (λ b.
+        b.blue_pieces ≡ map (pieces_along (present_of blue.now)) (overlay_skeleton (present_of red.now) (present_of blue.now)).edges) }
     ensures plane { IfOk result (λ b. IsPlane b.drawing.graph) }
     ensures lines { IfOk result (λ b. AreLinesOf b.drawing) }
     ensures stands { IfOk result (λ b. IsSound (view_of b.drawing) (faces_of b.drawing)) }
 {
     let whole = graph_of_both(alloc, red, blue)?;
     let (of_red, of_blue) = tables_of(alloc, red, blue, &whole)?;
+    let (red_pieces, blue_pieces) = pieces_of(alloc, red, blue, &whole)?;
     // Made once more, since it would be in the way while each layer's own graph is made.
     let united = unite(alloc, red, blue)?;
     let rows = rows_of(alloc, united, whole)?;
     rows.laws();
-    Ok(Both::of(rows, of_red, of_blue))
+    Ok(Both::of(rows, of_red, of_blue, red_pieces, blue_pieces))
 }

@@ -25,3 +25,4 @@ pub mod NamedGraph
 mod LayerPieces
 mod LayerCells
 mod LayerLabels
+mod PieceCounts

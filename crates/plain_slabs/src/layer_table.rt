@@ -1,5 +1,6 @@
 ghost use Rattle.std.specs.Prelude.{◌≡◌, map, filter, IfOk};
-ghost use Rattle.std.specs.List.{list_any};
+ghost use Rattle.std.specs.List.{count_by, list_any};
+ghost use Rattle.set_laws.specs.PolygonSets.{pieces_along};
 ghost use Rattle.slab_laws.specs.Pieces.{piece_of, present_of};
 ghost use Rattle.slab_laws.specs.SpansDrawn.{edge_of};
 ghost use Rattle.present_graphs.specs.Spans.{span_of_piece, lies_on};
@@ -73,4 +74,29 @@ pub(crate) fn curves_of_edges(
         rows.push(curves_along(alloc, layer.pieces.as_slice(), edge)?)?;
     }
     Ok(rows)
+}
+
+// How many of the pieces run along an edge.
+fn count_along(pieces: &[Piece], edge: &Span) -> usize
+    ensures { result ≡ count_by (λ k. runs_along (edge_of edge.now) (piece_of k)) pieces.now }
+{
+    pieces
+        .iter()
+        .filter(|piece| runs_along(edge, piece))
+        .count()
+}
+
+// How many pieces of the layer hold each of the edges.
+pub(crate) fn pieces_of_edges(
+    alloc: Global,
+    layer: &Present,
+    edges: &[Span],
+) -> Result<Vec<usize>, NoMemory>
+    ensures { IfOk result (λ v. v.items ≡ map (pieces_along (present_of layer.now)) (map edge_of edges.now)) }
+{
+    let mut counts = Vec::new(alloc);
+    for edge in edges {
+        counts.push(count_along(layer.pieces.as_slice(), edge))?;
+    }
+    Ok(counts)
 }

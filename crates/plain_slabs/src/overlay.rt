@@ -1,4 +1,6 @@
-ghost use Rattle.std.specs.Prelude.{◌≡◌, IfOk};
+ghost use Rattle.std.specs.Prelude.{◌≡◌, map, IfOk};
+ghost use Rattle.plane_graphs.specs.Graph.{edges};
+ghost use Rattle.set_laws.specs.PolygonSets.{pieces_along};
 ghost use Rattle.plane_graphs.specs.Fit.{IsFit};
 ghost use Rattle.plane_graphs.specs.Plane.{IsPlane};
 ghost use Rattle.slab_laws.specs.FacesSound.{IsSound};
@@ -9,6 +11,7 @@ ghost use Rattle.subdivision_rows.specs.Listed.{subdivision_in, view_of, faces_o
 
 use crate::build::subdivide;
 use crate::labels::table_of;
+use crate::layer_table::pieces_of_edges;
 use crate::plain::Plain;
 use no_memory::NoMemory;
 use present_graphs::unite;
@@ -49,6 +52,40 @@ fn tables_of(
     Ok((of_red, of_blue))
 }
 
+// How many red pieces hold each edge of the subdivision, and how many blue ones.
+fn pieces_of(
+    alloc: Global,
+    plain: &Plain,
+    red: &Present,
+    blue: &Present,
+) -> Result<(Vec<usize>, Vec<usize>), NoMemory>
+    ensures red { IfOk result (λ t. t.0.items ≡ map (pieces_along (present_of red.now)) (edges plain.now.graph)) }
+    ensures blue { IfOk result (λ t. t.1.items ≡ map (pieces_along (present_of blue.now)) (edges plain.now.graph)) }
+{
+    let of_red = pieces_of_edges(alloc, red, &plain.rows.lists().edges)?;
+    let of_blue = pieces_of_edges(alloc, blue, &plain.rows.lists().edges)?;
+    Ok((of_red, of_blue))
+}
+
+// What the overlay tells of each layer: its table, and of each edge how many of its pieces hold it.
+fn parts_of(
+    alloc: Global,
+    plain: &Plain,
+    red: &Present,
+    blue: &Present,
+) -> Result<(LayerTable, LayerTable, Vec<usize>, Vec<usize>), NoMemory>
+    requires red { IsFit (present_of red.now) }
+    requires blue { IsFit (present_of blue.now) }
+    ensures red { IfOk result (λ t. t.0 ≡ rows_of (present_of red.now) (subdivision_in plain.now)) }
+    ensures blue { IfOk result (λ t. t.1 ≡ rows_of (present_of blue.now) (subdivision_in plain.now)) }
+    ensures red_pieces { IfOk result (λ t. t.2.items ≡ map (pieces_along (present_of red.now)) (edges plain.now.graph)) }
+    ensures blue_pieces { IfOk result (λ t. t.3.items ≡ map (pieces_along (present_of blue.now)) (edges plain.now.graph)) }
+{
+    let (of_red, of_blue) = tables_of(alloc, plain, red, blue)?;
+    let (red_pieces, blue_pieces) = pieces_of(alloc, plain, red, blue)?;
+    Ok((of_red, of_blue, red_pieces, blue_pieces))
+}
+
 /// The overlay of two layers: the subdivision of the plane by the pieces and pins of both, of each of its edges the red and
 /// the blue curves along it, and of each of its faces the red face and the blue face that hold it (CGAL manual, `overlay`).
 ///
@@ -72,8 +109,10 @@ pub fn subdivide_both(alloc: Global, red: &Present, blue: &Present) -> Result<Bo
     ensures stands { IfOk result (λ b. IsSound (view_of b.drawing) (faces_of b.drawing)) }
 {
     let plain = subdivide_united(alloc, red, blue)?;
-    match tables_of(alloc, &plain, red, blue) {
-        Ok((red, blue)) => Ok(Both::of(plain.rows, red, blue)),
+    match parts_of(alloc, &plain, red, blue) {
+        Ok((red, blue, red_pieces, blue_pieces)) => {
+            Ok(Both::of(plain.rows, red, blue, red_pieces, blue_pieces))
+        }
         Err(no_memory) => {
             // By a call, which is proved once for the type; what a scope drops at its end is proved there anew.
             drop(plain);

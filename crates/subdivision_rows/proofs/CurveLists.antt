@@ -7,6 +7,7 @@ use Rattle.std.specs.Ordering.{nat_cmp, int_eq, ordering_then}
 use Rattle.std.specs.Cmp.{tied_itself}
 use Rattle.std.specs.declared.cmp.Ordering.TheVariants.{Less, Equal}
 use Rattle.std.proofs.lemmas.Cmp.{nat_cmp_total}
+use Rattle.std.proofs.lemmas.List.Elements.{filter_agree}
 use Rattle.std.proofs.lemmas.Map.Keys.{IsStrictlyIncreasing-from_sorted}
 use Rattle.std.proofs.lemmas.Option.{get_or_from_slice_get}
 use Rattle.std.proofs.lemmas.Bool.{and_parts}
@@ -53,10 +54,6 @@ at_test p q m = λ i. one_test m.low p i && one_test m.high q i
 
 -- ---- marks of one edge ascend by their curves
 
-filter_same : {X : Type 0} (p q : X → Bool) (xs : List X) → ((x : X) → p x ≡ q x) → filter p xs ≡ filter q xs
-filter_same p q [] f = refl
-filter_same p q (x ∷ xs) f = λ i. cond (f x i) (x ∷ filter_same p q xs f i) (filter_same p q xs f i)
-
 -- what all marks of the list are at
 abbrev AllAt : Point → Point → List Mark → Type 0
 AllAt p q ms = AllByRecursion (λ (m : Mark). (m.low ≡ p) × (m.high ≡ q)) ms
@@ -98,7 +95,7 @@ curves_are g p q a =
 pub curves_in_memory : (ms : List MarkInMemory) (g : Graph) (p q : Point) → g.marks ≡ map mark_of ms → IsAscending mark_cmp g.marks → map (λ (m : MarkInMemory). m.curve) (filter (λ m. same_point m.low p && same_point m.high q) ms) ≡ map curve_id (curves g p q)
 curves_in_memory ms g p q e a =
     let here : List MarkInMemory = filter (λ m. same_point m.low p && same_point m.high q) ms in
-    let f : filter (is_at p q) g.marks ≡ map mark_of here = ap (filter (is_at p q)) e ∙ filter_of_map mark_of (is_at p q) ms ∙ ap (map mark_of) (filter_same (λ m. is_at p q (mark_of m)) (λ m. same_point m.low p && same_point m.high q) ms (λ m. sym (at_test p q m))) in
+    let f : filter (is_at p q) g.marks ≡ map mark_of here = ap (filter (is_at p q)) e ∙ filter_of_map mark_of (is_at p q) ms ∙ ap (map mark_of) (filter_agree (λ m. is_at p q (mark_of m)) (λ m. same_point m.low p && same_point m.high q) (λ m. sym (at_test p q m)) ms) in
     sym (ap (map curve_id) (sym (curves_are g p q a) ∙ ap (map (λ (m : Mark). m.curve)) f ∙ map_map mark_of (λ (m : Mark). m.curve) here) ∙ map_map (λ (m : MarkInMemory). (mark_of m).curve) curve_id here)
 
 -- ---- the clauses of every moment

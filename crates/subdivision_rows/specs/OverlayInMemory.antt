@@ -9,11 +9,13 @@ use Rattle.slab_laws.specs.Layers.{LayerRows, LayerView}
 use Rattle.subdivision_rows.specs.Listed.{Drawing, skeleton_in, subdivision_in, view_of, faces_of}
 use Rattle.subdivision_rows.specs.Curves.{edge_at}
 
--- a graph with the lines of its edges, and what it tells of both layers (this project)
+-- a graph with the lines of its edges, and what it tells of both layers: their rows, and of each edge how many pieces hold it (this project)
 pub record Overlaid : Type 0 where
   pub drawing : Drawing
   pub red : LayerRows
   pub blue : LayerRows
+  pub red_pieces : List ℕ
+  pub blue_pieces : List ℕ
 
 -- there is a list of curves, ascending, for each edge, and a label for each face
 pub record AreRowsOf (d : Drawing) (r : LayerRows) : Type 0 where

@@ -1,17 +1,25 @@
-ghost use Rattle.std.specs.Prelude.{◌≡◌};
-ghost use Rattle.subdivision_rows.specs.OverlayInMemory.{AreRowsOf};
+ghost use Rattle.std.specs.Prelude.{◌≡◌, ◌<◌, length, slice_index_or};
+ghost use Rattle.plane_graphs.specs.Graph.{edges};
+ghost use Rattle.slab_laws.specs.View.{HasDart};
+ghost use Rattle.subdivision_rows.specs.Listed.{view_of};
+ghost use Rattle.subdivision_rows.specs.OverlayInMemory.{AreRowsOf, edge_place_at};
 
+use crate::both_records::edge_of;
 use crate::layer_table::LayerTable;
 use crate::rows::Rows;
+use slab_laws::DartId;
 use std::marker::Model;
 
 /// The overlay of two layers, red and blue, in ascending lists: the subdivision of the plane by both, and of each layer the
-/// curves along each edge and the rank of the layer's face that holds each face.
+/// curves along each edge, how many of its pieces hold each edge, and the rank of the layer's face that holds each face.
 #[derive(Drop)]
 pub struct Both {
     pub(crate) rows: Rows,
     pub(crate) red: LayerTable,
     pub(crate) blue: LayerTable,
+    // Of each edge how many red pieces hold it, and how many blue ones.
+    pub(crate) red_pieces: Vec<usize>,
+    pub(crate) blue_pieces: Vec<usize>,
 }
 
 impl Model for Both {
@@ -26,13 +34,75 @@ impl Model for Both {
     ghost invariant = { IsSoundOverlay };
 }
 
+// The number at a place.
+fn number_at(numbers: &[usize], place: usize) -> usize
+    requires { place < length numbers.now }
+    ensures { result ≡ slice_index_or numbers.now place 0 }
+{
+    numbers[place]
+}
+
 impl Both {
-    /// The overlay of the subdivision by both layers and what this tells of each.
-    pub fn of(rows: Rows, red: LayerTable, blue: LayerTable) -> Both
+    /// The overlay of the subdivision by both layers and what this tells of each: its table, and of each edge how many of its pieces
+    /// hold it.
+    pub fn of(
+        rows: Rows,
+        red: LayerTable,
+        blue: LayerTable,
+        red_pieces: Vec<usize>,
+        blue_pieces: Vec<usize>,
+    ) -> Both
         requires red { AreRowsOf rows red }
         requires blue { AreRowsOf rows blue }
-        ensures { result ≡ record { drawing = rows; red = red; blue = blue } }
+        requires red_pieces { length red_pieces.items ≡ length (edges rows.graph) }
+        requires blue_pieces { length blue_pieces.items ≡ length (edges rows.graph) }
+        ensures { result ≡ record { drawing = rows; red = red; blue = blue; red_pieces = red_pieces.items; blue_pieces = blue_pieces.items } }
     {
-        Both { rows, red, blue }
+        Both {
+            rows,
+            red,
+            blue,
+            red_pieces,
+            blue_pieces,
+        }
+    }
+
+    /// The subdivision by both layers.
+    pub fn rows(&self) -> &Rows
+        ensures { result.now ≡ self.now.drawing }
+    {
+        &self.rows
+    }
+
+    /// Of each edge how many red pieces hold it.
+    pub fn red_counts(&self) -> &[usize]
+        ensures counts { result.now ≡ self.now.red_pieces }
+        ensures counted { length self.now.red_pieces ≡ length (edges self.now.drawing.graph) }
+    {
+        &self.red_pieces
+    }
+
+    /// Of each edge how many blue pieces hold it.
+    pub fn blue_counts(&self) -> &[usize]
+        ensures counts { result.now ≡ self.now.blue_pieces }
+        ensures counted { length self.now.blue_pieces ≡ length (edges self.now.drawing.graph) }
+    {
+        &self.blue_pieces
+    }
+
+    /// How many red pieces hold the dart's edge.
+    pub fn red_pieces(&self, d: DartId) -> usize
+        requires { HasDart (view_of self.now.drawing) d }
+        ensures { result ≡ slice_index_or self.now.red_pieces (edge_place_at self.now.drawing d.0) 0 }
+    {
+        number_at(&self.red_pieces, edge_of(&self.rows, d))
+    }
+
+    /// How many blue pieces hold the dart's edge.
+    pub fn blue_pieces(&self, d: DartId) -> usize
+        requires { HasDart (view_of self.now.drawing) d }
+        ensures { result ≡ slice_index_or self.now.blue_pieces (edge_place_at self.now.drawing d.0) 0 }
+    {
+        number_at(&self.blue_pieces, edge_of(&self.rows, d))
     }
 }

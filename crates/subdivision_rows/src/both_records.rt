@@ -12,7 +12,7 @@ use slab_laws::{CurveId, CycleId, CycleKind, DartId, Darts, FaceId, Faced, Layer
 use std::alloc::Global;
 
 // The place of the edge that a dart goes along.
-fn edge_of(rows: &Rows, d: DartId) -> usize
+pub(crate) fn edge_of(rows: &Rows, d: DartId) -> usize
     requires { HasDart (view_of rows.now) d }
     ensures place { result ≡ edge_place_at rows.now d.0 }
     ensures below { result < length (edges rows.now.graph) }

@@ -4,7 +4,9 @@ use Rattle.plane_graphs.specs.Fit.{IsFit}
 use Rattle.plane_graphs.specs.Graph.{Graph, graph}
 use Rattle.plane_graphs.specs.Piece.{Present}
 use Rattle.slab_laws.specs.FacesSound.{IsSound}
-use Rattle.slab_laws.specs.Overlay.{overlay}
+use Rattle.set_laws.specs.PolygonSets.{pieces_along}
+use Rattle.slab_laws.specs.Overlay.{overlay, overlay_skeleton}
+use Rattle.slab_laws.specs.Skeleton.{Skeleton}
 use Rattle.slab_laws.specs.Pieces.{piece_of, present_of}
 use Rattle.slab_laws.specs.Layers.{rows_of}
 use Rattle.slab_laws.specs.Subdivision.{subdivision}
@@ -41,6 +43,20 @@ of-requires-clause-blue c =
     let whole = c.in_ok-rows.ensures.graph ∙ ap (λ (p : Present). graph p) c.in_ok-united.ensures in
     let same : subdivision_in c.in_ok-rows.rows ≡ overlay (present_of c.args.red.now) (present_of c.args.blue.now) = ap (λ (g : Graph). subdivision (skeleton g)) whole ∙ ap subdivision (united_plane (present_of c.args.red.now) (present_of c.args.blue.now)) in
     rows_sound (present_of c.args.blue.now) c.in_ok-rows.rows c.in_ok-of_red.of_blue (c.in_ok-of_red.ensures.blue ∙ ap (rows_of (present_of c.args.blue.now)) (sym same))
+
+pub of-requires-clause-red_pieces : goal.of-requires-clause-red_pieces
+of-requires-clause-red_pieces c =
+    let red = present_of c.args.red.now in
+    let blue = present_of c.args.blue.now in
+    let whole = c.in_ok-rows.ensures.graph ∙ ap (λ (p : Present). graph p) c.in_ok-united.ensures in
+    ap length c.in_ok-red_pieces.ensures.red ∙ length-map (overlay_skeleton red blue).edges (pieces_along red) ∙ sym (ap (λ (g : Graph). length (skeleton g).edges) whole ∙ ap (λ (g : Skeleton). length g.edges) (united_plane red blue))
+
+pub of-requires-clause-blue_pieces : goal.of-requires-clause-blue_pieces
+of-requires-clause-blue_pieces c =
+    let red = present_of c.args.red.now in
+    let blue = present_of c.args.blue.now in
+    let whole = c.in_ok-rows.ensures.graph ∙ ap (λ (p : Present). graph p) c.in_ok-united.ensures in
+    ap length c.in_ok-red_pieces.ensures.blue ∙ length-map (overlay_skeleton red blue).edges (pieces_along blue) ∙ sym (ap (λ (g : Graph). length (skeleton g).edges) whole ∙ ap (λ (g : Skeleton). length g.edges) (united_plane red blue))
 
 pub returns-clause-subdivision : goal.returns-clause-subdivision
 returns-clause-subdivision c =

@@ -1,4 +1,7 @@
-use Rattle.std.proofs.Common.{sym, ap, subst, ◌∙◌}
+use Rattle.std.proofs.Common.{length, sym, ap, subst, ◌∙◌}
+use Rattle.std.proofs.lemmas.List.{length-map}
+use Rattle.plane_graphs.specs.Graph.{edges}
+use Rattle.set_laws.specs.PolygonSets.{pieces_along}
 use Rattle.plane_graphs.specs.Plane.{IsPlane}
 use Rattle.slab_laws.specs.FacesSound.{IsSound}
 use Rattle.slab_laws.specs.Pieces.{present_of}
@@ -14,6 +17,8 @@ of-requires c =
     record {
       red = rows_sound (present_of c.args.red.now) c.plain.inside.rows c.in-Ok.red (c.in-Ok.ensures.red ∙ ap (λ (d : Drawing). rows_of (present_of c.args.red.now) (subdivision_in d)) back);
       blue = rows_sound (present_of c.args.blue.now) c.plain.inside.rows c.in-Ok.blue (c.in-Ok.ensures.blue ∙ ap (λ (d : Drawing). rows_of (present_of c.args.blue.now) (subdivision_in d)) back);
+      red_pieces = ap length c.in-Ok.ensures.red_pieces ∙ length-map _ (pieces_along (present_of c.args.red.now)) ∙ ap (λ (d : Drawing). length (edges d.graph)) back;
+      blue_pieces = ap length c.in-Ok.ensures.blue_pieces ∙ length-map _ (pieces_along (present_of c.args.blue.now)) ∙ ap (λ (d : Drawing). length (edges d.graph)) back;
     }
 
 pub returns-in-Ok : goal.returns-in-Ok

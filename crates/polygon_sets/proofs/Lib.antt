@@ -1,0 +1,12 @@
+mod Chaining
+mod Spreading
+pub mod OddRows
+mod BorderRows
+mod FaceSides
+pub mod SumsByDarts
+mod Turning
+mod RegionRows
+mod CrossedRows
+mod RegionLayers
+pub mod OnceSummed
+pub mod NamesSummed

@@ -1,0 +1,126 @@
+ghost use Rattle.std.specs.Prelude.{◌≡◌, length, map, None, IfOk, IfErr};
+ghost use Rattle.plane_graphs.specs.Fit.{IsFit};
+ghost use Rattle.plane_graphs.specs.Graph.{edges};
+ghost use Rattle.plane_graphs.specs.Piece.{Present as Pieces};
+ghost use Rattle.set_laws.specs.EvenOdd.{border};
+ghost use Rattle.subdivision_rows.specs.Listed.{skeleton_in};
+ghost use Rattle.polygon_sets.specs.Regions.{dart_ends, IsRegionIn, IsErrorOf, TellsPiecesOf, IsRegionOfLayers, IsErrorOfLayers};
+ghost use Rattle.polygon_sets.specs.Weighted.{weight_by, odd_vertex};
+
+use crate::border::{border_of, point_at};
+use crate::crossed_darts::crossings_of;
+use crate::odd::first_odd;
+use crate::spread::sets_of;
+use exact_plane::Point;
+use no_memory::NoMemory;
+use set_laws::Op;
+use std::alloc::Global;
+use std::marker::Model;
+use subdivision_rows::{Both, Rows};
+
+/// One of the two layers.
+#[derive(Clone, Copy, Debug, PartialEq, Eq)]
+pub enum Colour {
+    /// The red one.
+    Red,
+    /// The blue one.
+    Blue,
+}
+
+/// Why there is no region.
+#[derive(Clone, Copy)]
+pub enum RegionError {
+    /// The layer isn't closed, and this is the least point that is an end of an odd number of its pieces.
+    Open(Colour, Point),
+    /// There was no memory.
+    NoMemory,
+}
+
+/// What two even-odd sets make, by the darts on its border.
+#[derive(Drop)]
+pub struct Region {
+    darts: Vec<(Point, Point)>,
+}
+
+impl Model for Region {
+    ghost use Rattle.std.specs.Prelude.{List};
+    ghost use Rattle.exact_plane.specs.Point.{Point};
+
+    ghost Value = { List (Point × Point) };
+
+    ghost view = { λ r. r.darts.items };
+}
+
+impl Region {
+    /// The darts on the border, by source, then by target: what is made is on their left, and isn't on their right.
+    pub fn darts(&self) -> &[(Point, Point)]
+        ensures { result.now ≡ self.now }
+    {
+        &self.darts
+    }
+}
+
+// The least vertex on whose edges the pieces are odd in number, if there is one. It takes no memory.
+fn open_end(rows: &Rows, counts: &[usize]) -> Option<Point>
+    requires { length counts.now ≡ length (edges rows.now.graph) }
+    ensures { result ≡ odd_vertex (skeleton_in rows.now) (weight_by (skeleton_in rows.now) counts.now) }
+{
+    rows.laws();
+    let lists = rows.lists();
+    match first_odd(&lists.darts, counts) {
+        Some(vertex) => Some(point_at(&lists.points, vertex)),
+        None => None,
+    }
+}
+
+// The ends of the darts on the border of what two closed sets make.
+fn border_between(
+    alloc: Global,
+    rows: &Rows,
+    red: &[usize],
+    blue: &[usize],
+    op: Op,
+) -> Result<Vec<(Point, Point)>, NoMemory>
+    requires red { length red.now ≡ length (edges rows.now.graph) }
+    requires blue { length blue.now ≡ length (edges rows.now.graph) }
+    requires red_closed { odd_vertex (skeleton_in rows.now) (weight_by (skeleton_in rows.now) red.now) ≡ None }
+    requires blue_closed { odd_vertex (skeleton_in rows.now) (weight_by (skeleton_in rows.now) blue.now) ≡ None }
+    ensures { IfOk result (λ v. v.items ≡ map dart_ends (border op (skeleton_in rows.now) (weight_by (skeleton_in rows.now) red.now) (weight_by (skeleton_in rows.now) blue.now))) }
+{
+    rows.laws();
+    let lists = rows.lists();
+    let crossings = crossings_of(alloc, rows, red, blue, &lists.darts)?;
+    let sets = sets_of(alloc, lists.faces, &crossings)?;
+    let found = border_of(alloc, op, &lists.points, &sets, &crossings)?;
+    Ok(found)
+}
+
+/// The border of what both layers of an overlay make as even-odd sets (CGAL manual, Boolean set operations): the darts on whose left
+/// the operation holds and on whose right it doesn't. It takes as many steps as the overlay has darts.
+///
+/// # Errors
+///
+/// A layer isn't closed; red is asked first. Where both are closed there was no memory.
+pub fn region_of(alloc: Global, overlay: &Both, op: Op) -> Result<Region, RegionError>
+    ensures region { IfOk result (λ r. IsRegionIn op overlay.now r) }
+    ensures error { IfErr result (λ e. IsErrorOf overlay.now e) }
+
+    // The same, of the layers.
+    ensures region_of_layers { (red blue : Pieces) → IsFit red → IsFit blue → TellsPiecesOf red blue overlay.now → IfOk result (λ r. IsRegionOfLayers op red blue r) }
+    ensures error_of_layers { (red blue : Pieces) → IsFit red → IsFit blue → TellsPiecesOf red blue overlay.now → IfErr result (λ e. IsErrorOfLayers red blue e) }
+{
+    let rows = overlay.rows();
+    rows.laws();
+    let red = overlay.red_counts();
+    let blue = overlay.blue_counts();
+    if let Some(end) = open_end(rows, red) {
+        return Err(RegionError::Open(Colour::Red, end));
+    }
+    if let Some(end) = open_end(rows, blue) {
+        return Err(RegionError::Open(Colour::Blue, end));
+    }
+    match border_between(alloc, rows, red, blue, op) {
+        Ok(darts) => Ok(Region { darts }),
+        Err(NoMemory) => Err(RegionError::NoMemory),
+    }
+}
