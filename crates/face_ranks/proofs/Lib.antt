@@ -7,3 +7,4 @@ pub mod KeysRanked
 pub mod KeysCounted
 pub mod KeysPushed
 pub mod GivenRanks
+pub mod KeysWalked

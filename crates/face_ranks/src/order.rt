@@ -29,7 +29,7 @@ fn ends_of(records: &Records, d: DartId) -> (Point, Point)
 }
 
 // The ends of the least dart of a cycle, and its face.
-fn key_of(records: &Records, cycle: CycleId) -> RankKey
+pub(crate) fn key_of(records: &Records, cycle: CycleId) -> RankKey
     requires map { IsSoundMap records.now }
     requires cycle { HasCycle (tables_of records.now) cycle }
     ensures { result ≡ cycle_rank_key records.now.graph (tables_of records.now) (lists_of records.now) cycle }
@@ -74,7 +74,7 @@ fn list_keys(records: &mut Records)
 }
 
 // Whether a key comes before another one, by source and then by target.
-fn comes_before(key: &RankKey, other: &RankKey) -> bool
+pub(crate) fn comes_before(key: &RankKey, other: &RankKey) -> bool
     ensures { result ≡ is_lt (key_cmp key.now other.now) }
 {
     match key.source.cmp(&other.source) {
@@ -85,7 +85,7 @@ fn comes_before(key: &RankKey, other: &RankKey) -> bool
 }
 
 // Whether a key is of a face.
-fn is_of(key: &RankKey, face: FaceId) -> bool
+pub(crate) fn is_of(key: &RankKey, face: FaceId) -> bool
     ensures { result ≡ (face.0 == key.now.face.0) }
 {
     face.0 == key.face.0
@@ -117,7 +117,7 @@ fn rank_among(keys: &[RankKey], face: FaceId) -> usize
 }
 
 // The rank of a face, where the keys are listed. It looks at each key once or twice.
-fn count_rank(records: &Records, face: FaceId) -> usize
+pub(crate) fn count_rank(records: &Records, face: FaceId) -> usize
     requires map { IsSoundMap records.now }
     requires listed { AreKeysListed records.now }
     requires face { HasFace (tables_of records.now) face }

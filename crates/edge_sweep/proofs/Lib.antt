@@ -1,0 +1,11 @@
+pub mod Parts
+pub mod Stacks
+pub mod Passed
+pub mod Fans
+pub mod Ordered
+pub mod Places
+pub mod Told
+pub mod Exchanged
+pub mod ReadFronts
+pub mod AroundVertex
+pub mod RoundTold

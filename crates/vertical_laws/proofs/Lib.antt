@@ -1,0 +1,4 @@
+pub mod WallStops
+pub mod LowerNeighbour
+pub mod UpperNeighbour
+mod Examples
