@@ -1,0 +1,12 @@
+pub mod Outward
+pub mod Searching
+pub mod Steps
+pub mod Ends
+pub mod Between
+pub mod Outer
+pub mod Extreme
+pub mod Outlines
+pub mod Covered
+pub mod Unbounded
+pub mod Examples
+pub mod TextExamples

@@ -1,0 +1,4 @@
+pub mod Envelopes
+pub mod Outermost
+pub mod EnvelopeLaws
+pub mod EnvelopeText

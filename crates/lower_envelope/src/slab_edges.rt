@@ -1,0 +1,64 @@
+ghost use Rattle.std.specs.Prelude.{◌≡◌, IfOk};
+ghost use Rattle.slab_laws.specs.FacesSound.{IsSound};
+ghost use Rattle.slab_laws.specs.Skeleton.{HasWeight};
+ghost use Rattle.slab_laws.specs.Sound.{skeleton_of};
+ghost use Rattle.lower_envelope.specs.Edges.{IsInOrder};
+ghost use Rattle.lower_envelope.specs.Corners.{AreSlabEdgesOf, stands_right};
+
+use crate::edges::{darts_of, slab_of, spans_of, stretches_of};
+use crate::slabs::{outermost_of, stands_at};
+use envelope_laws::Which;
+use exact_plane::{Point, Span};
+use no_memory::NoMemory;
+use slab_laws::{DartId, Faced};
+use std::alloc::Global;
+
+/// The outermost edge of each slab.
+#[derive(Drop)]
+pub(crate) struct SlabEdges {
+    /// All vertices, in their order, which tell the slabs.
+    pub(crate) points: Vec<Point>,
+    /// The edges on offer, by their darts.
+    pub(crate) darts: Vec<DartId>,
+    /// The same edges, in the same order.
+    pub(crate) edges: Vec<Span>,
+    /// By the number of a slab the place of its outermost edge.
+    pub(crate) outermost: Vec<Option<usize>>,
+}
+
+/// The outermost edge of each slab, from the vertices in their order: of the edges that have the unbounded face on their outer
+/// side, since no others are outermost anywhere.
+///
+/// # Errors
+///
+/// There was no memory.
+pub(crate) fn slab_edges_of<R: Faced>(
+    alloc: Global,
+    records: &R,
+    which: Which,
+    points: Vec<Point>,
+) -> Result<SlabEdges, NoMemory>
+    requires sound { IsSound (R.graph records.now) (R.faces records.now) }
+    requires points { points.items ≡ (skeleton_of (R.graph records.now)).vertices }
+    ensures { IfOk result (AreSlabEdgesOf which (R.graph records.now) (R.faces records.now)) }
+{
+    let darts = darts_of(alloc, records, which)?;
+    let edges = spans_of(alloc, records, &darts)?;
+    let stretches = stretches_of(alloc, &points, &edges)?;
+    let outermost = outermost_of(alloc, which, &edges, &stretches, points.len())?;
+    Ok(SlabEdges {
+        points,
+        darts,
+        edges,
+        outermost,
+    })
+}
+
+/// The place of the outermost edge of the slab on the right of a point's wall.
+pub(crate) fn place_right(slabs: &SlabEdges, at: &Point) -> Option<usize>
+    requires order { IsInOrder slabs.now.points.items }
+    requires at { HasWeight at.now }
+    ensures { result ≡ stands_right slabs.now.points.items slabs.now.outermost.items at.now }
+{
+    stands_at(&slabs.outermost, slab_of(&slabs.points, at))
+}
