@@ -15,7 +15,7 @@ use Rattle.arr_notes.specs.ViewChanges.{no_rows}
 use Rattle.arr_notes.specs.Curves.{Curves, is_forward, IsForward}
 use Rattle.arr_notes.proofs.Names.{numbers_of as numbers}
 use Rattle.arr_notes.specs.RecordGraph.{drawn_graph, marks_along}
-use Rattle.curve_history.specs.Past.{Past, curves_of, curves_on, strands_on, SameLayer, SameCurves}
+use Rattle.curve_history.specs.Past.{Past, curves_on, SameLayer, SameCurves}
 use Rattle.curve_history.specs.DrawnRecords.{curves_in, forward_of}
 use Rattle.curve_history.proofs.Facing.{lists_read}
 use Rattle.told_steps.specs.RecordLayers.{IsLayer, layer_of}
@@ -28,15 +28,6 @@ use Rattle.arr_text.proofs.RecordTexts.{records_tell_their_graph}
 nothing_pinned : (h : Curves) → (drawn_graph no_rows h).pins ≡ []
 unfolding drawn_graph ascending
 nothing_pinned h = refl
-
--- where no side of a curve runs, no curve does
-no_curves : curves_of [] ≡ []
-unfolding curves_of ascending
-no_curves = refl
-
-pub none_along : (p : Past) → ((d : DartId) → strands_on p d ≡ []) → (d : DartId) → curves_on p d ≡ []
-unfolding curves_on
-none_along p none d = ap curves_of (none d) ∙ no_curves
 
 pub first_layer : (v : View) (p : Past) → v ≡ no_rows → ((d : DartId) → curves_on p d ≡ []) → p.names ≡ [] → p.pieces ≡ [] → 1 ≤ p.next → IsLayer v p
 first_layer v p rows none names pieces first = nothing_is_a_layer v p (ap (λ z. z.vertices) rows) (ap (λ z. z.darts) rows) none names pieces first

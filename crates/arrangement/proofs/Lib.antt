@@ -5,8 +5,11 @@ pub mod Edits
 pub mod Watched
 pub mod Ends
 mod Located
+mod Started
 pub mod FacesRead
 pub mod FaceWalks
 mod FaceNumbers
 pub mod PresentsRead
 pub mod OverlayRows
+mod PiecesCounted
+mod OddEnds

@@ -6,3 +6,5 @@ pub mod Questions
 pub mod Overlays
 pub mod FacesRead
 pub mod FaceNumbers
+pub mod SpotCells
+pub mod OddEnds

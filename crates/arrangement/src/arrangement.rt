@@ -1,4 +1,5 @@
 ghost use Rattle.std.specs.Prelude.{◌≡◌, ◌≤◌, ◌∷◌, [], IfOk, OnOk, OnErr};
+ghost use Rattle.exact_plane.specs.Point.{IsPoint};
 ghost use Rattle.plane_graphs.specs.Graph.{graph};
 ghost use Rattle.edit_steps.specs.Edits.{Insert, Drop, Pin, Unpin, Merge, ClearAll};
 ghost use Rattle.edit_steps.specs.Layer.{empty_layer};
@@ -11,23 +12,27 @@ ghost use Rattle.pin_points.specs.Splits.{split_at, split_said};
 ghost use Rattle.pin_points.specs.Merges.{merge_said};
 ghost use Rattle.slab_laws.specs.FacesSound.{IsSound};
 ghost use Rattle.slab_laws.specs.Sound.{IsGraphSound};
+ghost use Rattle.slab_laws.specs.Subdivision.{holds};
+ghost use Rattle.dcel_records.specs.RecordsView.{tables_of};
 ghost use Rattle.dcel_records.specs.SoundMaps.{IsSoundMap};
+ghost use Rattle.face_location.specs.Spots.{IsSpotOf};
 ghost use Rattle.told_steps.specs.RecordLayers.{layer_of, IsLayer};
 ghost use Rattle.told_steps.specs.LayerNames.{IsNamedBy};
 ghost use Rattle.arrangement.specs.declared.limits.TheConstants.{MAX_CURVES, MAX_PIECES, MAX_PINS};
 ghost use Rattle.curve_history.specs.declared.history.TheConstants.{LAST_CURVE};
 ghost use Rattle.observer_bus.specs.RoundLaws.{HaveNamesApart};
 ghost use Rattle.observer_bus.specs.Rows.{bus_row};
-ghost use Rattle.arrangement.specs.Arranged.{arranged, layer_in, AreLimits, IsWatched, refusal_in};
+ghost use Rattle.arrangement.specs.Arranged.{arranged, layer_in, subdivision_by, AreLimits, IsWatched, refusal_in};
 ghost use Rattle.arrangement.specs.Edited.{IsEdited, IsAsBefore};
+ghost use Rattle.arrangement.specs.SpotCells.{HasSpot, cell_named};
 
-use crate::counted::insert_counted;
+use crate::counted::{insert_counted, insert_path_counted};
 use crate::layer_records::{Findings, LayerRecords};
 use crate::limits::Limits;
-use crate::spots::walk_to;
+use crate::spots::{starts_of, walk_to};
 use curve_history::History;
-use dcel_records::Records;
-use exact_plane::{Point, Segment};
+use dcel_records::{Records, Spot};
+use exact_plane::{Path, Point, Segment};
 use face_ranks::Ranking;
 use locate_landmarks::Landmarks;
 use locate_trapezoid::Trapezoids;
@@ -38,7 +43,7 @@ use pin_points::{
 };
 use segment_insert::InsertError;
 use segment_remove::{CutError, DropError, remove_curve, remove_edge};
-use slab_laws::CurveId;
+use slab_laws::{Cell, CurveId};
 use std::alloc::Global;
 use std::marker::Brand;
 use std::sync::ledger::Blank;
@@ -133,6 +138,38 @@ impl Arrangement {
             self.limits.pieces,
             start,
             &segment,
+        )
+    }
+
+    /// The path becomes a new curve of its sides, whose number is answered; all of it, or, at a refusal or for want of memory, nothing
+    /// (CGAL manual, `insert` of a polyline). A path of one side is inserted as the segment that it is.
+    ///
+    /// # Errors
+    ///
+    /// One more curve or a piece more for each side would pass its limit, the last number was drawn, or there was no memory.
+    pub fn insert_path(&mut self, path: &Path) -> Result<CurveId, InsertError>
+        requires watched { IsWatched (arranged Observer-dyn self.old) }
+        ensures number { IfOk result (λ c. c.0 ≡ (arranged Observer-dyn self.old).past.next) }
+        ensures edit { OnOk result (IsEdited (arranged Observer-dyn self.old) (arranged Observer-dyn self.new) (Insert (arranged Observer-dyn self.old).past.next path.now)) }
+        ensures refused { IsAnswerFor insert_said (refusal_in (arranged Observer-dyn self.old) (Insert (arranged Observer-dyn self.old).past.next path.now)) result }
+        ensures as_before { OnErr result (IsAsBefore (arranged Observer-dyn self.old) (arranged Observer-dyn self.new)) }
+        ensures limits { (arranged Observer-dyn self.new).limits ≡ (arranged Observer-dyn self.old).limits }
+        ensures watched { IsWatched (arranged Observer-dyn self.new) }
+    {
+        let sides = path.sides();
+        let starts = starts_of(&self.layer.records, sides);
+        let (starts, _) = starts.split_at(sides.len());
+        self.layer.findings.forget();
+        insert_path_counted::<Brand>(
+            Blank::new(1),
+            self.alloc,
+            &mut self.layer.records,
+            &mut self.layer.history,
+            &mut self.bus,
+            self.limits.curves,
+            self.limits.pieces,
+            starts,
+            path,
         )
     }
 
@@ -321,9 +358,26 @@ impl Arrangement {
     /// The records of vertices and darts, to be read by name.
     pub fn records(&self) -> &Records
         ensures graph { result.now.graph ≡ (arranged Observer-dyn self.now).graph }
+        ensures faces { tables_of result.now ≡ (arranged Observer-dyn self.now).faces }
         ensures map { IsSoundMap result.now }
     {
         &self.layer.records
+    }
+
+    /// What [`locate`](Arrangement::locate) answers of the points at a spot, which names a vertex, an edge or a face of the records: the
+    /// point of the vertex, the lower and the upper end of the edge, whichever of its darts is named, or the number of the face (this
+    /// project).
+    ///
+    /// It keeps nothing, so that it takes the arrangement as `&self`, and no memory. A vertex and an edge are looked up. The number of a face
+    /// is looked up where two locations in faces have been answered since the last edit; after one of them each outer boundary is looked at
+    /// once, and before that each outer boundary is gone along twice. For many faces call [`number_of`](Arrangement::number_of) first.
+    pub fn cell_of(&self, spot: Spot) -> Cell
+        requires spot { HasSpot (arranged Observer-dyn self.now).graph (arranged Observer-dyn self.now).faces spot }
+        ensures cell { result ≡ cell_named (arranged Observer-dyn self.now).graph (arranged Observer-dyn self.now).faces spot }
+        ensures located { (p : _) → IsPoint p → IsSpotOf (arranged Observer-dyn self.now).graph (arranged Observer-dyn self.now).faces p spot → result ≡ holds (subdivision_by (arranged Observer-dyn self.now)) p }
+    {
+        self.laws();
+        self.layer.cell_of(spot)
     }
 
     /// The history of the curves, to be read beside the records.

@@ -12,18 +12,20 @@ ghost use Rattle.slab_laws.specs.Subdivision.{holds};
 ghost use Rattle.told_steps.specs.RecordLayers.{IsLayer as IsLayerOf};
 ghost use Rattle.arrangement.specs.LayerRecords.{IsMappedWhere, AreLandedWhere, subdivision_of};
 ghost use Rattle.arrangement.specs.Questions.{TakesMemory};
+ghost use Rattle.arrangement.specs.SpotCells.{HasSpot, cell_named};
 
 use crate::spots::{edge_cell, walk_to};
 use counted_looks::Glance;
 use curve_history::History;
 use dcel_records::{Records, Spot};
 use exact_plane::Point;
-use face_ranks::{Ranking, rank_of};
+use face_ranks::{Ranking, rank_of, rank_told};
 use locate_landmarks::Landmarks;
 use locate_naive::locate as look_at_all;
 use locate_trapezoid::Trapezoids;
 use no_memory::NoMemory;
-use slab_laws::{Cell, FaceId, Strategy};
+use slab_laws::{Cell, Darts, FaceId, Strategy};
+use sound_views::forward_dart;
 use std::alloc::Global;
 use std::marker::{Brand, Model};
 use std::sync::ledger::{Blank, Ledger};
@@ -241,6 +243,21 @@ impl LayerRecords {
             Spot::Vertex(_) => Cell::Vertex(*p),
             Spot::Edge(dart) => edge_cell(&self.records, dart),
             Spot::Face(face) => Cell::Face(self.rank_of(face)),
+        }
+    }
+
+    /// What location says of a spot that the records name: a face by its rank, told by what is kept of ranks, or by two walks along each
+    /// outer cycle where nothing is. It takes no memory and keeps nothing.
+    pub(crate) fn cell_of(&self, spot: Spot) -> Cell
+        requires spot { HasSpot self.now.graph self.now.faces spot }
+        ensures cell { result ≡ cell_named self.now.graph self.now.faces spot }
+    {
+        match spot {
+            Spot::Vertex(vertex) => Cell::Vertex(self.records.point(vertex)),
+            Spot::Edge(dart) => edge_cell(&self.records, forward_dart(&self.records, dart)),
+            Spot::Face(face) => {
+                Cell::Face(rank_told(&self.records, self.findings.ranking, face))
+            }
         }
     }
 

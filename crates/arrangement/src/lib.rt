@@ -9,17 +9,19 @@ mod faces;
 mod layer_records;
 mod limits;
 mod observers;
+mod odd_ends;
 mod overlaid;
 mod overlays;
 mod presents;
 mod questions;
+mod regions;
 mod spots;
 
 pub use arr_notes::{Answer, Change, Intent, Linked, Note, Observer, Unlinked, View};
 pub use arrangement::Arrangement;
 pub use curve_history::{History, HistoryError};
-pub use dcel_records::Records;
-pub use exact_plane::{Line, Point, PointError, Segment, SegmentError};
+pub use dcel_records::{Records, Spot};
+pub use exact_plane::{Line, MAX_SIDES, Path, PathError, Point, PointError, Segment, SegmentError};
 pub use limits::{Limits, MAX_CURVES, MAX_PIECES, MAX_PINS};
 pub use locate_naive::edge_dart;
 pub use no_memory::NoMemory;
@@ -27,7 +29,9 @@ pub use observer_bus::{AttachError, Bus, NoSeat, ReportError, SEATS, Seat, Went}
 pub use overlaid::Overlay;
 pub use overlays::overlay;
 pub use pin_points::{MergeError, NotPinned, PinError, SplitError};
+pub use polygon_sets::{Colour, Op, Region, RegionError};
 pub use questions::{Counts, EdgeError};
+pub use regions::region_of;
 pub use segment_insert::InsertError;
 pub use segment_remove::{CutError, DropError};
 pub use slab_laws::{

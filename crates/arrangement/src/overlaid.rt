@@ -1,4 +1,6 @@
-ghost use Rattle.std.specs.Prelude.{◌≡◌, IfOk};
+ghost use Rattle.std.specs.Prelude.{◌≡◌, slice_index_or, IfOk};
+ghost use Rattle.slab_laws.specs.View.{HasDart};
+ghost use Rattle.subdivision_rows.specs.OverlayInMemory.{graph_of as overlay_graph, edge_place_at};
 ghost use Rattle.arrangement.specs.Overlays.{text_of};
 
 use arr_text::overlay_text;
@@ -39,6 +41,22 @@ impl Overlay {
         ensures { IfOk result (λ bytes. bytes.items ≡ text_of self.now) }
     {
         overlay_text(self.alloc, &self.both)
+    }
+
+    /// How many red pieces hold the edge of a dart. A curve several of whose sides run along it counts several times.
+    pub fn red_pieces(&self, d: DartId) -> usize
+        requires { HasDart (overlay_graph self.now) d }
+        ensures { result ≡ slice_index_or self.now.red_pieces (edge_place_at self.now.drawing d.0) 0 }
+    {
+        self.both.red_pieces(d)
+    }
+
+    /// How many blue pieces hold the edge of a dart.
+    pub fn blue_pieces(&self, d: DartId) -> usize
+        requires { HasDart (overlay_graph self.now) d }
+        ensures { result ≡ slice_index_or self.now.blue_pieces (edge_place_at self.now.drawing d.0) 0 }
+    {
+        self.both.blue_pieces(d)
     }
 }
 

@@ -1,4 +1,5 @@
 ghost use Rattle.std.specs.Prelude.{◌≡◌, IfOk};
+ghost use Rattle.polygon_sets.specs.Regions.{TellsPiecesOf};
 ghost use Rattle.slab_laws.specs.Layers.{rows_of};
 ghost use Rattle.slab_laws.specs.Overlay.{both};
 ghost use Rattle.slab_laws.specs.OverlayText.{presents_text};
@@ -29,6 +30,9 @@ pub fn overlay(alloc: Global, red: &Arrangement, blue: &Arrangement) -> Result<O
         (overlay_of (arranged Observer-dyn red.now) (arranged Observer-dyn blue.now))) }
     ensures blue { IfOk result (λ o. o.blue ≡ rows_of (layer_in (arranged Observer-dyn blue.now)).present
         (overlay_of (arranged Observer-dyn red.now) (arranged Observer-dyn blue.now))) }
+
+    // How many of its pieces hold each edge, so that `region_of` speaks of these layers.
+    ensures pieces { IfOk result (λ o. TellsPiecesOf (layer_in (arranged Observer-dyn red.now)).present (layer_in (arranged Observer-dyn blue.now)).present o) }
     ensures stands { IfOk result (λ o. IsSound (view_of o.drawing) (faces_of o.drawing)) }
     ensures text { IfOk result (λ o. text_of o
         ≡ presents_text (layer_in (arranged Observer-dyn red.now)).present (layer_in (arranged Observer-dyn blue.now)).present) }

@@ -1,16 +1,18 @@
-ghost use Rattle.std.specs.Prelude.{◌≡◌, ◌<◌};
+ghost use Rattle.std.specs.Prelude.{◌≡◌, ◌<◌, ◌≤◌, length, take};
+ghost use Rattle.exact_plane.specs.declared.bounds.TheConstants.{MAX_SIDES};
 ghost use Rattle.slab_laws.specs.declared.cell.Cell.TheVariants.{Edge as OnEdge};
 ghost use Rattle.slab_laws.specs.Sound.{IsGraphSound};
 ghost use Rattle.slab_laws.specs.View.{HasDart, point_in, source_in, target_in};
 ghost use Rattle.dcel_records.specs.RecordsView.{tables_of};
 ghost use Rattle.dcel_records.specs.SoundMaps.{IsSoundMap};
 ghost use Rattle.face_location.specs.Spots.{IsSpotOf};
+ghost use Rattle.path_zone.specs.PathZone.{AreStarts};
 
 use counted_looks::Glance;
 use dcel_records::{Records, Spot};
-use exact_plane::Point;
+use exact_plane::{MAX_SIDES, Point, Segment};
 use locate_walk::locate as walk_up;
-use slab_laws::{Cell, DartId, Darts};
+use slab_laws::{Cell, DartId, Darts, FaceId};
 use std::marker::Brand;
 use std::sync::ledger::{Blank, Ledger};
 use work_steps::Steps;
@@ -34,6 +36,19 @@ pub(crate) fn walk_to(records: &Records, p: &Point) -> Spot
     ensures { IsSpotOf records.now.graph (tables_of records.now) p.now result }
 {
     walk_counted::<Brand>(Blank::new(1), records, p)
+}
+
+/// Where the lower ends of a path's sides lie in the records, each at the place of its side. It takes no memory.
+pub(crate) fn starts_of(records: &Records, sides: &[Segment]) -> [Spot; MAX_SIDES]
+    requires map { IsSoundMap records.now }
+    requires few { length sides.now ≤ MAX_SIDES }
+    ensures { AreStarts records.now.graph (tables_of records.now) sides.now (take (length sides.now) result) }
+{
+    let mut starts = [Spot::Face(FaceId(0)); MAX_SIDES];
+    'sides: for (place, side) in sides.iter().enumerate() {
+        starts[place] = walk_to(records, &side.lower());
+    }
+    starts
 }
 
 /// The edge of a dart that goes forward, by its lower and its upper end.
