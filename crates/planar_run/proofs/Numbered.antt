@@ -1,10 +1,10 @@
 -- The observers and the rounds of a line that was read are counted from 1.
-use Rattle.std.proofs.Common.{◌≡◌, ◌≤◌, ℕ, Bool, true, false, cond, List, [], ◌∷◌, length, Option, Some, None, Result, Ok, Err, refl, sym, subst, arith}
+use Rattle.std.proofs.Common.{◌≡◌, ◌≤◌, ℕ, Bool, true, false, cond, List, [], ◌∷◌, length, map, Option, Some, None, Result, Ok, Err, refl, sym, subst, arith}
 use Rattle.std.specs.Prelude.{◌≢◌, ◌&&◌, ℤ, pos, negsuc, filter_map, find, nat_lt, nat_le, ok_or, option_map, if◌then◌else◌, IfOk, IfSome}
 use Rattle.std.specs.List.{list_all, list_any}
 use Rattle.std.specs.Option.{option_zip}
 use Rattle.std.proofs.lemmas.Bool.{ltb-true}
-use Rattle.exact_plane.specs.Segment.{are_coordinates}
+use Rattle.exact_plane.specs.Segment.{are_coordinates, is_coordinate}
 use Rattle.script_lines.specs.declared.command.TheConstants.{MAX_LINE}
 use Rattle.script_lines.specs.declared.error.LineError.{LineError}
 use Rattle.script_lines.specs.declared.error.LineError.TheVariants.{Byte, Count, Long, Number, Range}
@@ -15,7 +15,7 @@ use Rattle.script_lines.specs.declared.name.Name.TheVariants as name
 use Rattle.script_lines.specs.Number.{is_number, number_of}
 use Rattle.script_lines.specs.Form.{Form, form_reading, has_count, has_fixed, number_words}
 use Rattle.script_lines.specs.Words.{words as words_of}
-use Rattle.script_lines.specs.Command.{command_of, curve_from, is_comment, is_printable, name_of, name_reading, number_to, observer_at_from, observer_from, pair_from, point_from, row_of, segment_from, triple_from, words_reading}
+use Rattle.script_lines.specs.Command.{command_of, curve_from, is_comment, is_printable, name_of, name_reading, number_to, observer_at_from, observer_from, pair_from, pairs, path_form, path_from, point_from, row_of, segment_from, triple_from, words_reading}
 use Rattle.planar_run.specs.Answer.{IsNumbered}
 
 -- ---- numbers
@@ -73,12 +73,20 @@ segment_numbered (a ∷ b ∷ c ∷ []) = tt
 segment_numbered (a ∷ b ∷ c ∷ d ∷ []) = segment_by (are_coordinates a b c d) (command.Segment a b c d) tt
 segment_numbered (a ∷ b ∷ c ∷ d ∷ e ∷ ns) = tt
 
+path_numbered : (ns : List ℤ) → IfSome (path_from ns) IsNumbered
+path_numbered ns = segment_by (list_all is_coordinate ns) (command.Path (pairs ns)) tt
+
 abbrev AreNumbered : List (Form Command) → Type 0
 AreNumbered [] = Unit {0}
 AreNumbered (form ∷ forms) = ((ns : List ℤ) → IfSome (form.made ns) IsNumbered) × AreNumbered forms
 
+paths_numbered : (counts : List ℕ) → AreNumbered (map path_form counts)
+paths_numbered [] = tt
+paths_numbered (count ∷ counts) = (path_numbered, paths_numbered counts)
+
 forms_numbered : (n : Name) → AreNumbered (row_of n).forms
 forms_numbered name.Segment = (segment_numbered, tt)
+forms_numbered name.Path = paths_numbered (4 ∷ 6 ∷ 8 ∷ 10 ∷ 12 ∷ 14 ∷ 16 ∷ 18 ∷ [])
 forms_numbered name.Drop = (λ ns. always command.Drop (curve_from ns) (λ c. tt), tt)
 forms_numbered name.Cut = (λ ns. always (λ points. command.Cut points.0 points.1) (pair_from ns) (λ points. tt), tt)
 forms_numbered name.Pin = (λ ns. always command.Pin (point_from ns) (λ p. tt), tt)

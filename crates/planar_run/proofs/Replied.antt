@@ -4,7 +4,6 @@ use Rattle.std.specs.Prelude.{OnErr, OnOk, not, ℤ, codes, decimal, if◌then�
 use Rattle.std.specs.Fmt.{digits}
 use Rattle.exact_plane.specs.Segment.{Segment}
 use Rattle.exact_plane.specs.SegmentOf.{segment_of}
-use Rattle.exact_plane.specs.declared.segment.SegmentError.{SegmentError}
 use Rattle.plane_graphs.specs.Graph.{Edge, curves}
 use Rattle.edit_steps.specs.Edits.{Edit, Insert}
 use Rattle.edit_steps.specs.Refusals.{Refusal}
@@ -17,7 +16,7 @@ use Rattle.planar_run.specs.World.{World}
 use Rattle.planar_run.specs.Premises.{graph_of, is_named, is_edge}
 use Rattle.planar_run.specs.Refusals.{refusal_of, refusal_number}
 use Rattle.planar_run.specs.Observers.{report_of, seat_refusal, is_above, is_seated, IsReportIn}
-use Rattle.planar_run.specs.Answer.{Answer, AreLossesOfEdit, refused, said, edited, edited_unless, edges_along, curves_told, curve_told, segment_refusal, unless, IsAnswered, IsDrawn, IsObeyed, MayDraw, MayTake, Obeys}
+use Rattle.planar_run.specs.Answer.{Answer, AreLossesOfEdit, refused, said, edited, edited_unless, edges_along, curves_told, curve_told, unless, IsAnswered, IsDrawn, IsObeyed, MayDraw, MayTake, Obeys}
 
 -- the bytes and the world of an answer
 abbrev Gives : Answer → List ℕ → World → Type 0
@@ -34,13 +33,13 @@ not_edited ok e r {w = w} {after = after} {text = text} h t s =
     let g : Gives (edited ok e [] w) text after = refusal_given (refusal_number r) w after text (edited ok e [] w) (ap (λ o. edited_unless o ok e [] w) (sym h)) t s in
     ([], λ none. cc, g.0, g.1)
 
--- a segment that is refused
-pub not_inserted : (s : Segment) (r : Refusal) {w after : World} {text : List ℕ} → Some r ≡ refusal_of w (Insert w.layer.next (s ∷ [])) → text ≡ line_of (codes "refused " ++ decimal (refusal_number r)) → after ≡ w → IsDrawn (Ok s) w text after
-not_inserted s r {w = w} h t e = not_edited (codes "ok " ++ decimal w.layer.next) (Insert w.layer.next (s ∷ [])) r h t e
+-- sides that are refused
+pub not_inserted : (sides : List Segment) (r : Refusal) {w after : World} {text : List ℕ} → Some r ≡ refusal_of w (Insert w.layer.next sides) → text ≡ line_of (codes "refused " ++ decimal (refusal_number r)) → after ≡ w → IsDrawn (Ok sides) w text after
+not_inserted sides r {w = w} h t e = not_edited (codes "ok " ++ decimal w.layer.next) (Insert w.layer.next sides) r h t e
 
--- what is no segment
-pub not_drawn : (e : SegmentError) {r : Result Segment SegmentError} {text : List ℕ} (w : World) → Err e ≡ r → text ≡ line_of (codes "refused " ++ decimal (segment_refusal e)) → IsDrawn r w text w
-not_drawn e {text = text} w is t = subst (λ r. IsDrawn r w text w) is ([], tt, t, refl)
+-- what is no segment, and no path
+pub not_drawn : (n : ℕ) {r : Result (List Segment) ℕ} {text : List ℕ} (w : World) → Err n ≡ r → text ≡ line_of (codes "refused " ++ decimal n) → IsDrawn r w text w
+not_drawn n {text = text} w is t = subst (λ r. IsDrawn r w text w) is ([], tt, t, refl)
 
 -- ---- questions
 told_by : (b c : Bool) (x y : Answer) → b ≡ c → (if b then x else y) ≡ (if c then x else y)
@@ -102,6 +101,10 @@ report_told i w text bytes none (inr told) e =
     inl ([], tt, e ∙ told ∙ ap (λ o. (unless o (said (report_of i w) w) w).text) (sym none), ap (λ o. (unless o (said (report_of i w) w) w).world) (sym none))
 
 -- ---- numbers in decimal
+pub two : codes "refused 2" ++ 10 ∷ [] ≡ line_of (codes "refused " ++ decimal 2)
+unfolding digits
+two = refl
+
 pub four : codes "refused 4" ++ 10 ∷ [] ≡ line_of (codes "refused " ++ decimal 4)
 unfolding digits
 four = refl
@@ -159,11 +162,11 @@ eighteen = refl
 pub same_segment : (a b c d x y z w : ℤ) → a ≡ x → b ≡ y → c ≡ z → d ≡ w → segment_of a b c d ≡ segment_of x y z w
 same_segment a b c d x y z w e f g h = λ i. segment_of (e i) (f i) (g i) (h i)
 
--- what is said of a segment's result is said of one that is the same
-pub drawn_by : {T E : Type 0} (o : Result T E) (r s : Result Segment SegmentError) (w : World) (text : List ℕ) (after : World) → r ≡ s → OnOk o (IsDrawn r w text after) → OnOk o (IsDrawn s w text after)
+-- what is said of the sides of a curve is said of those that are the same
+pub drawn_by : {T E : Type 0} (o : Result T E) (r s : Result (List Segment) ℕ) (w : World) (text : List ℕ) (after : World) → r ≡ s → OnOk o (IsDrawn r w text after) → OnOk o (IsDrawn s w text after)
 drawn_by o r s w text after is h = subst (λ r. OnOk o (IsDrawn r w text after)) is h
 
-pub undrawn_by : {T E : Type 0} (o : Result T E) (r s : Result Segment SegmentError) (w after : World) → r ≡ s → OnErr o (MayDraw r w × (after ≡ w)) → OnErr o (MayDraw s w × (after ≡ w))
+pub undrawn_by : {T E : Type 0} (o : Result T E) (r s : Result (List Segment) ℕ) (w after : World) → r ≡ s → OnErr o (MayDraw r w × (after ≡ w)) → OnErr o (MayDraw s w × (after ≡ w))
 undrawn_by o r s w after is h = subst (λ r. OnErr o (MayDraw r w × (after ≡ w))) is h
 
 -- ---- all lines

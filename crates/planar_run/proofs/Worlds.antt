@@ -54,9 +54,9 @@ first_built how f places bs h o e g p =
 pub if_answered : {T E : Type 0} (said : E → Option Refusal) (r : Result T E) (e : Edit) (a : Arranged) → IsKept a → IsAnswerFor said (refusal_in a e) r → IsAnswerFor said (refusal (bounds_of FULL) (layer_in a) e) r
 if_answered said r e a k h = subst (λ (l : Limits). IsAnswerFor said (refusal (bounds_of l) (layer_in a) e) r) k.limits h
 
-pub if_insert_answered : {T E : Type 0} (said : E → Option Refusal) (r : Result T E) (s : Segment) (a : Arranged) → IsKept a → IsAnswerFor said (refusal_in a (Insert (layer_in a).next (s ∷ []))) r →
-    IsAnswerFor said (refusal (bounds_of FULL) (layer_in a) (Insert (layer_in a).next (s ∷ []))) r
-if_insert_answered said r s a k h = if_answered said r (Insert (layer_in a).next (s ∷ [])) a k h
+pub if_insert_answered : {T E : Type 0} (said : E → Option Refusal) (r : Result T E) (sides : List Segment) (a : Arranged) → IsKept a → IsAnswerFor said (refusal_in a (Insert (layer_in a).next sides)) r →
+    IsAnswerFor said (refusal (bounds_of FULL) (layer_in a) (Insert (layer_in a).next sides)) r
+if_insert_answered said r sides a k h = if_answered said r (Insert (layer_in a).next sides) a k h
 
 -- an edit that is done, and who came and went in it
 pub done_so : (e : Edit) (a b : Arranged) (o : Half) (how : Strategy) (blue : Bool) (ws : List (Option Waiting)) → IsKept a → HaveNamesApart a.bus.seats → IsEdited a b e → IsDone e (built a o how blue ws) (built b o how blue ws) b.bus.went

@@ -2,8 +2,11 @@
 use Rattle.std.specs.Prelude.{◌≡◌, ◌≢◌, ◌≤◌, ℕ, true, false, not, ◌⊎◌, List, [], ◌∷◌, ◌++◌, length, Option, Some, None, Result, Ok, Err, codes, decimal, if◌then◌else◌, ⊤}
 use Rattle.std.specs.List.{count_by, filter, list_any}
 use Rattle.observer_bus.specs.declared.went.Went.{Went}
+use Rattle.exact_plane.specs.Path.{path_of}
 use Rattle.exact_plane.specs.Segment.{Segment}
 use Rattle.exact_plane.specs.SegmentOf.{segment_of}
+use Rattle.exact_plane.specs.declared.path.PathError.{PathError}
+use Rattle.exact_plane.specs.declared.path.PathError.TheVariants as path_error
 use Rattle.exact_plane.specs.declared.segment.SegmentError.{SegmentError}
 use Rattle.exact_plane.specs.declared.segment.SegmentError.TheVariants.{Range, Equal}
 use Rattle.plane_graphs.specs.Graph.{Graph, Edge, edges, curves, same_curve}
@@ -15,7 +18,7 @@ use Rattle.slab_laws.specs.Subdivision.{Subdivision, subdivision, holds}
 use Rattle.slab_laws.specs.Text.{skeleton, present_text}
 use Rattle.slab_laws.specs.OverlayText.{presents_text}
 use Rattle.script_lines.specs.declared.command.Command.{Command}
-use Rattle.script_lines.specs.declared.command.Command.TheVariants.{Nothing, Segment as AddSegment, Drop, Cut, Pin, Unpin, Split, Merge, Clear, Locate, Edge as CurvesOf, Curve, Count, Show, Overlay, Attach, Leave, Mirror, LayerRed, LayerBlue}
+use Rattle.script_lines.specs.declared.command.Command.TheVariants.{Nothing, Segment as AddSegment, Path as AddPath, Drop, Cut, Pin, Unpin, Split, Merge, Clear, Locate, Edge as CurvesOf, Curve, Count, Show, Overlay, Attach, Leave, Mirror, LayerRed, LayerBlue}
 use Rattle.script_lines.specs.declared.error.LineError.{LineError}
 use Rattle.script_lines.specs.LineError.{refusal_number as line_number}
 use Rattle.script_lines.specs.Command.{command_of}
@@ -93,10 +96,25 @@ abbrev pub segment_refusal : SegmentError → ℕ
 segment_refusal Range = 4
 segment_refusal Equal = 7
 
--- a segment becomes the curve of the next number
-abbrev pub drawing : Result Segment SegmentError → List (List ℕ) → World → Answer
-drawing (Err error) losses world = refused (segment_refusal error) world
-drawing (Ok s) losses world = edited (codes "ok " ++ decimal world.layer.next) (Insert world.layer.next (s ∷ [])) losses world
+-- 7, two neighbouring points are equal; 2, there aren't two to nine points, and 4, a coordinate is out of its range, which no line that was read has
+abbrev pub path_refusal : PathError → ℕ
+path_refusal path_error.Count = 2
+path_refusal path_error.Range = 4
+path_refusal path_error.Equal = 7
+
+-- the sides of a curve that is a segment or a path, or the number of the refusal
+abbrev pub one_side : Result Segment SegmentError → Result (List Segment) ℕ
+one_side (Err error) = Err (segment_refusal error)
+one_side (Ok s) = Ok (s ∷ [])
+
+abbrev pub path_sides : Result (List Segment) PathError → Result (List Segment) ℕ
+path_sides (Err error) = Err (path_refusal error)
+path_sides (Ok sides) = Ok sides
+
+-- sides become the curve of the next number
+abbrev pub drawing : Result (List Segment) ℕ → List (List ℕ) → World → Answer
+drawing (Err number) losses world = refused number world
+drawing (Ok sides) losses world = edited (codes "ok " ++ decimal world.layer.next) (Insert world.layer.next sides) losses world
 
 -- vertices, edges, faces, inner cycles, isolated vertices, and the curves that have a name
 abbrev pub counted : Subdivision → ℕ → List ℕ
@@ -107,7 +125,8 @@ counted s curves =
 abbrev pub answer_to : World → List (List ℕ) → Result Command LineError → Answer
 answer_to world losses (Err error) = refused (line_number error) world
 answer_to world losses (Ok Nothing) = said [] world
-answer_to world losses (Ok (AddSegment x1 y1 x2 y2)) = drawing (segment_of x1 y1 x2 y2) losses world
+answer_to world losses (Ok (AddSegment x1 y1 x2 y2)) = drawing (one_side (segment_of x1 y1 x2 y2)) losses world
+answer_to world losses (Ok (AddPath points)) = drawing (path_sides (path_of points)) losses world
 answer_to world losses (Ok (Drop c)) = edited (codes "ok") (DropCurve c) losses world
 answer_to world losses (Ok (Cut p q)) = edited (codes "ok") (cut_between p q) losses world
 answer_to world losses (Ok (Pin p)) = edited (codes "ok") (PinPoint p) losses world
@@ -131,13 +150,14 @@ answer_to world losses (Ok LayerBlue) = record { text = line_of (codes "ok"); wo
 abbrev pub AreLossesOfEdit : List (List ℕ) → Edit → World → Type 0
 AreLossesOfEdit losses edit world = refusal_of world edit ≡ None → AreRoundsOf losses edit world
 
-abbrev pub AreLossesOfSegment : List (List ℕ) → Result Segment SegmentError → World → Type 0
-AreLossesOfSegment losses (Err error) world = ⊤
-AreLossesOfSegment losses (Ok s) world = AreLossesOfEdit losses (Insert world.layer.next (s ∷ [])) world
+abbrev pub AreLossesOfCurve : List (List ℕ) → Result (List Segment) ℕ → World → Type 0
+AreLossesOfCurve losses (Err number) world = ⊤
+AreLossesOfCurve losses (Ok sides) world = AreLossesOfEdit losses (Insert world.layer.next sides) world
 
 -- the losses are of just the rounds that the line's edit has, where it isn't refused (this project)
 abbrev pub AreLosses : World → List (List ℕ) → Result Command LineError → Type 0
-AreLosses world losses (Ok (AddSegment x1 y1 x2 y2)) = AreLossesOfSegment losses (segment_of x1 y1 x2 y2) world
+AreLosses world losses (Ok (AddSegment x1 y1 x2 y2)) = AreLossesOfCurve losses (one_side (segment_of x1 y1 x2 y2)) world
+AreLosses world losses (Ok (AddPath points)) = AreLossesOfCurve losses (path_sides (path_of points)) world
 AreLosses world losses (Ok (Drop c)) = AreLossesOfEdit losses (DropCurve c) world
 AreLosses world losses (Ok (Cut p q)) = AreLossesOfEdit losses (cut_between p q) world
 AreLosses world losses (Ok (Pin p)) = AreLossesOfEdit losses (PinPoint p) world
@@ -147,21 +167,22 @@ AreLosses world losses (Ok (Merge r)) = AreLossesOfEdit losses (MergeEdges r) wo
 AreLosses world losses (Ok Clear) = AreLossesOfEdit losses ClearAll world
 AreLosses world losses other = ⊤
 
--- a segment is answered, and leaves this world, whoever is lost in its rounds (this project)
-abbrev pub IsDrawn : Result Segment SegmentError → World → List ℕ → World → Type 0
-IsDrawn s world text after =
-    (losses : List (List ℕ)) × AreLossesOfSegment losses s world × (text ≡ (drawing s losses world).text) × (after ≡ (drawing s losses world).world)
+-- a segment or a path is answered, and leaves this world, whoever is lost in its rounds (this project)
+abbrev pub IsDrawn : Result (List Segment) ℕ → World → List ℕ → World → Type 0
+IsDrawn sides world text after =
+    (losses : List (List ℕ)) × AreLossesOfCurve losses sides world × (text ≡ (drawing sides losses world).text) × (after ≡ (drawing sides losses world).world)
 
--- a segment may need memory where it isn't refused
-abbrev pub MayDraw : Result Segment SegmentError → World → Type 0
-MayDraw (Err error) world = ⊥
-MayDraw (Ok s) world = refusal_of world (Insert world.layer.next (s ∷ [])) ≡ None
+-- a segment or a path may need memory where it isn't refused
+abbrev pub MayDraw : Result (List Segment) ℕ → World → Type 0
+MayDraw (Err number) world = ⊥
+MayDraw (Ok sides) world = refusal_of world (Insert world.layer.next sides) ≡ None
 
 -- the line may need memory: it isn't refused, and what it says needs some
 abbrev pub MayTake : World → Result Command LineError → Type 0
 MayTake world (Err error) = ⊥
 MayTake world (Ok Nothing) = ⊥
-MayTake world (Ok (AddSegment x1 y1 x2 y2)) = MayDraw (segment_of x1 y1 x2 y2) world
+MayTake world (Ok (AddSegment x1 y1 x2 y2)) = MayDraw (one_side (segment_of x1 y1 x2 y2)) world
+MayTake world (Ok (AddPath points)) = MayDraw (path_sides (path_of points)) world
 MayTake world (Ok (Drop c)) = refusal_of world (DropCurve c) ≡ None
 MayTake world (Ok (Cut p q)) = refusal_of world (cut_between p q) ≡ None
 MayTake world (Ok (Pin p)) = refusal_of world (PinPoint p) ≡ None

@@ -4,7 +4,7 @@ ghost use Rattle.planar_run.specs.Text.{line_of};
 ghost use Rattle.planar_run.specs.Answer.{IsNumbered, IsObeyed, MayTake, Replies};
 ghost use Rattle.planar_run.specs.Rows.{world_row, IsKeptWorld};
 
-use crate::edits::{clear, cut, drop_curve, merge, pin, segment, split, unpin};
+use crate::edits::{clear, cut, drop_curve, merge, path, pin, segment, split, unpin};
 use crate::layers::layer;
 use crate::observers::{attach, leave, mirror};
 use crate::questions::{count, curve, edge, locate, overlay, show};
@@ -25,6 +25,7 @@ fn obey(world: &mut World, command: Command, reply: &mut Reply) -> Result<(), No
     match command {
         Command::Nothing => Ok(()),
         Command::Segment(x1, y1, x2, y2) => segment(world, x1, y1, x2, y2, reply),
+        Command::Path(points) => path(world, &points, reply),
         Command::Drop(number) => drop_curve(world, number, reply),
         Command::Cut(p, q) => cut(world, &p, &q, reply),
         Command::Pin(point) => pin(world, &point, reply),

@@ -1,5 +1,5 @@
-ghost use Rattle.std.specs.Prelude.{◌≡◌, ◌++◌, Ok, codes, decimal, OnOk, OnErr};
-ghost use Rattle.script_lines.specs.declared.command.Command.TheVariants.{Segment as AddSegment, Drop, Cut, Pin, Unpin, Split, Merge, Clear};
+ghost use Rattle.std.specs.Prelude.{◌≡◌, [], ◌∷◌, ◌++◌, Ok, codes, decimal, OnOk, OnErr};
+ghost use Rattle.script_lines.specs.declared.command.Command.TheVariants.{Segment as AddSegment, Path as AddPath, Drop, Cut, Pin, Unpin, Split, Merge, Clear};
 ghost use Rattle.planar_run.specs.Answer.{IsAnswered, IsDrawn, MayDraw, MayTake};
 ghost use Rattle.planar_run.specs.Rounds.{AreFew};
 ghost use Rattle.planar_run.specs.Rows.{arranged_row, world_row, IsKeptWorld};
@@ -9,8 +9,9 @@ use crate::reply::Reply;
 use crate::went::tell_went;
 use crate::world::World;
 use arrangement::{CutError, DropError, InsertError, MergeError, PinError, SplitError};
-use exact_plane::{Point, Segment, SegmentError};
+use exact_plane::{Path, PathError, Point, Segment, SegmentError};
 use no_memory::NoMemory;
+use script_lines::PathPoints;
 use slab_laws::CurveId;
 
 // The reply to an edit that is done. It takes no memory.
@@ -35,8 +36,8 @@ fn tell_curve(world: &World, curve: CurveId, reply: &mut Reply)
 // Makes a segment a new curve where there is room for one more and a number left.
 fn insert(world: &mut World, segment: Segment, reply: &mut Reply) -> Result<(), NoMemory>
     requires kept { IsKeptWorld Observer-dyn world.old }
-    ensures answered { OnOk result (IsDrawn (Ok segment) (world_row Observer-dyn world.old) reply.new (world_row Observer-dyn world.new)) }
-    ensures err { OnErr result (MayDraw (Ok segment) (world_row Observer-dyn world.old) × (world_row Observer-dyn world.new ≡ world_row Observer-dyn world.old)) }
+    ensures answered { OnOk result (IsDrawn (Ok (segment ∷ [])) (world_row Observer-dyn world.old) reply.new (world_row Observer-dyn world.new)) }
+    ensures err { OnErr result (MayDraw (Ok (segment ∷ [])) (world_row Observer-dyn world.old) × (world_row Observer-dyn world.new ≡ world_row Observer-dyn world.old)) }
     ensures kept { IsKeptWorld Observer-dyn world.new }
 {
     match world.insert(segment) {
@@ -66,6 +67,38 @@ pub fn segment(
         Ok(segment) => return insert(world, segment, reply),
         Err(SegmentError::Range) => reply.set("refused 4\n"),
         Err(SegmentError::Equal) => reply.set("refused 7\n"),
+    }
+    Ok(())
+}
+
+// Makes a path a new curve where there is room for its sides and a number left.
+fn insert_path(world: &mut World, path: &Path, reply: &mut Reply) -> Result<(), NoMemory>
+    requires kept { IsKeptWorld Observer-dyn world.old }
+    ensures answered { OnOk result (IsDrawn (Ok path.now) (world_row Observer-dyn world.old) reply.new (world_row Observer-dyn world.new)) }
+    ensures err { OnErr result (MayDraw (Ok path.now) (world_row Observer-dyn world.old) × (world_row Observer-dyn world.new ≡ world_row Observer-dyn world.old)) }
+    ensures kept { IsKeptWorld Observer-dyn world.new }
+{
+    match world.insert_path(path) {
+        Ok(number) => tell_curve(world, number, reply),
+        Err(InsertError::Full(_)) => reply.set("refused 17\n"),
+        Err(InsertError::Spent) => reply.set("refused 18\n"),
+        Err(InsertError::NoMemory) => return Err(NoMemory),
+    }
+    Ok(())
+}
+
+/// Makes the polyline along points a new curve.
+pub fn path(world: &mut World, points: &PathPoints, reply: &mut Reply) -> Result<(), NoMemory>
+    requires kept { IsKeptWorld Observer-dyn world.old }
+    ensures answered { OnOk result (IsAnswered (world_row Observer-dyn world.old) (Ok (AddPath points.now)) reply.new (world_row Observer-dyn world.new)) }
+    ensures err { OnErr result (MayTake (world_row Observer-dyn world.old) (Ok (AddPath points.now)) × (world_row Observer-dyn world.new ≡ world_row Observer-dyn world.old)) }
+    ensures kept { IsKeptWorld Observer-dyn world.new }
+{
+    match Path::new(points.as_slice()) {
+        Ok(path) => return insert_path(world, &path, reply),
+        Err(PathError::Count) => reply.set("refused 2\n"),
+        Err(PathError::Range) => reply.set("refused 4\n"),
+        Err(PathError::Equal) => reply.set("refused 7\n"),
     }
     Ok(())
 }

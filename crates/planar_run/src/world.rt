@@ -20,7 +20,7 @@ use arrangement::{
     Arrangement, Bus, Counts, CutError, DropError, EdgeError, HistoryError, InsertError, Limits,
     MergeError, NotPinned, PinError, SEATS, SplitError, Went,
 };
-use exact_plane::{Point, Segment};
+use exact_plane::{Path, Point, Segment};
 use no_memory::NoMemory;
 use slab_laws::{Cell, CurveId, Strategy};
 use std::alloc::Global;
@@ -83,6 +83,19 @@ impl World {
     {
         self.arrangement.laws();
         self.arrangement.insert(segment)
+    }
+
+    /// Makes a path a new curve, under the next number, which is answered.
+    pub fn insert_path(&mut self, path: &Path) -> Result<CurveId, InsertError>
+        requires kept { IsKeptWorld Observer-dyn self.old }
+        ensures number { IfOk result (λ c. c.0 ≡ (world_row Observer-dyn self.old).layer.next) }
+        ensures done { OnOk result (IsDone (Insert (world_row Observer-dyn self.old).layer.next path.now) (world_row Observer-dyn self.old) (world_row Observer-dyn self.new) (arranged_row Observer-dyn self.new).bus.went) }
+        ensures refused { IsAnswerFor insert_said (refusal_of (world_row Observer-dyn self.old) (Insert (world_row Observer-dyn self.old).layer.next path.now)) result }
+        ensures err { OnErr result (world_row Observer-dyn self.new ≡ world_row Observer-dyn self.old) }
+        ensures kept { IsKeptWorld Observer-dyn self.new }
+    {
+        self.arrangement.laws();
+        self.arrangement.insert_path(path)
     }
 
     /// Takes a curve away.

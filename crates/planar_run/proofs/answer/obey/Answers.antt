@@ -8,6 +8,13 @@ returns-in-Nothing g c = record { obeyed = answered_as c.args.command _ _ _ _ c.
 pub returns-in-Segment : goal.returns-in-Segment
 returns-in-Segment g c = search rules
 
+pub returns-in-Path : goal.returns-in-Path
+returns-in-Path g c = record {
+  obeyed = obeyed_by c.path.result c.args.command _ _ _ _ c.in-Path.is c.path.ensures.answered;
+  err = taken_by c.path.result c.args.command _ _ _ c.in-Path.is c.path.ensures.err;
+  kept = c.path.ensures.kept;
+}
+
 pub returns-in-Drop : goal.returns-in-Drop
 returns-in-Drop g c = record {
   obeyed = obeyed_by c.drop_curve.result c.args.command _ _ _ _ c.in-Drop.is c.drop_curve.ensures.answered;

@@ -1,3 +1,4 @@
+use Rattle.std.proofs.Common.{[], ◌∷◌}
 use Rattle.arrangement.specs.Answers.{insert_said}
 use Rattle.planar_run.proofs.Worlds.{if_done, if_insert_answered, if_kept, if_refused}
 use Rattle.planar_run.proofs.world.World.insert.Goals as goal
@@ -6,7 +7,7 @@ pub returns-clause-done : goal.returns-clause-done
 returns-clause-done g c = if_done c.insert.result _ _ _ _ _ _ _ c.requires.kept.current c.laws.ensures.apart c.insert.ensures.edit
 
 pub returns-clause-refused : goal.returns-clause-refused
-returns-clause-refused g c = if_insert_answered insert_said c.insert.result c.args.segment _ c.requires.kept.current c.insert.ensures.refused
+returns-clause-refused g c = if_insert_answered insert_said c.insert.result (c.args.segment ∷ []) _ c.requires.kept.current c.insert.ensures.refused
 
 pub returns-clause-err : goal.returns-clause-err
 returns-clause-err g c = if_refused c.insert.result _ _ _ _ _ _ c.insert.ensures.as_before
