@@ -1,6 +1,8 @@
-// Points, segments and lines, by their numbers.
+// Points, segments and lines, by their numbers; and numbers and points as they are written.
 
 use exact_plane::{Line, Point, Segment, line_of};
+use itoa::{Buffer, Integer};
+use no_memory::NoMemory;
 use std::test::Fail;
 
 /// A point by its three numbers.
@@ -19,4 +21,19 @@ pub fn segment((x1, y1, x2, y2): Ends) -> Result<Segment, Fail> {
 
 pub fn line(ends: Ends) -> Result<Line, Fail> {
     Ok(line_of(&segment(ends)?))
+}
+
+/// A number, with a space behind it.
+pub fn write_number<I: Integer>(text: &mut Vec<u8>, number: I) -> Result<(), NoMemory> {
+    let mut buffer = Buffer::new();
+    text.extend_from_slice(buffer.format(number).as_bytes())?;
+    text.push(b' ')?;
+    Ok(())
+}
+
+/// The three numbers of a point.
+pub fn write_point(text: &mut Vec<u8>, point: &Point) -> Result<(), NoMemory> {
+    write_number(text, point.x())?;
+    write_number(text, point.y())?;
+    write_number(text, point.w())
 }

@@ -3,6 +3,7 @@ ghost use Rattle.arrangement.specs.Arranged.{arranged, IsWatched};
 use crate::layers::asked::{counted, has_curves, has_edge, is_unknown};
 use crate::layers::edits::{Answer, Edit, Under, apply, layer_under};
 use crate::layers::kept::keeps_names;
+use crate::layers::pieces::{Part, has_pieces};
 use crate::layers::places::lies_in;
 use crate::layers::seats::{is_met, leaves, reports};
 use arrangement::{Arrangement, AttachError, Observer};
@@ -27,6 +28,8 @@ pub enum Call {
     /// The curve runs along just the edge between two points.
     HasEdge(u32, i128, i128),
     IsUnknown(u32),
+    /// These are the layer's pieces, in their order.
+    HasPieces(&'static [Part]),
     Counts([usize; 6]),
     /// The point lies inside the edge between two others, under each strategy.
     LiesIn(i128, i128, i128),
@@ -43,6 +46,7 @@ fn is_told(layer: &mut Arrangement, call: &Call) -> Result<bool, Fail>
         Call::HasCurves(x, z, wanted) => has_curves(layer, *x, *z, wanted),
         Call::HasEdge(curve, x, z) => has_edge(layer, *curve, *x, *z),
         Call::IsUnknown(curve) => Ok(is_unknown(layer, *curve)),
+        Call::HasPieces(wanted) => has_pieces(layer, wanted),
         Call::Counts(wanted) => Ok(counted(layer)? == *wanted),
         Call::LiesIn(y, x, z) => lies_in(layer, *y, *x, *z),
         Call::Reports(name, wanted) => Ok(reports(layer, *name, *wanted)),

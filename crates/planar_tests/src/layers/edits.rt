@@ -3,7 +3,7 @@ ghost use Rattle.arrangement.specs.Arranged.{arranged, AreLimits, IsWatched};
 
 use crate::shapes::{Ends, point, segment};
 use arrangement::{
-    Arrangement, Bus, CutError, DropError, InsertError, Limits, MergeError, PinError, SEATS,
+    Arrangement, Bus, CutError, DropError, InsertError, Limits, MergeError, Path, PinError, SEATS,
     SplitError,
 };
 use exact_plane::Point;
@@ -12,10 +12,12 @@ use slab_laws::CurveId;
 use std::alloc::Global;
 use std::test::Fail;
 
-/// An edit, by whole numbers of plane units; but for the ends of a segment, points are on the abscissa, told by their `x`.
+/// An edit, by whole numbers of plane units; but for the ends of segments, points are on the abscissa, told by their `x`.
 #[derive(Clone, Copy)]
 pub enum Edit {
     Insert(i64, i64, i64, i64),
+    /// The polyline along these points.
+    InsertPath(&'static [(i64, i64)]),
     Pin(i128),
     Unpin(i128),
     RemoveCurve(u32),
@@ -92,16 +94,27 @@ pub fn layer_under(alloc: Global, under: Under) -> Result<Arrangement, NoMemory>
     Arrangement::new(alloc, limits_of(under), bus)
 }
 
+fn answer_of(inserted: Result<CurveId, InsertError>) -> Answer {
+    match inserted {
+        Ok(curve) => Answer::Drawn(curve.0),
+        Err(InsertError::Full(limit)) => Answer::Full(limit),
+        Err(InsertError::Spent) => Answer::Spent,
+        Err(InsertError::NoMemory) => Answer::OutOfMemory,
+    }
+}
+
 fn insert(layer: &mut Arrangement, ends: Ends) -> Result<Answer, Fail>
     requires watched { IsWatched (arranged Observer-dyn layer.old) }
     ensures watched { IsWatched (arranged Observer-dyn layer.new) }
 {
-    match layer.insert(segment(ends)?) {
-        Ok(curve) => Ok(Answer::Drawn(curve.0)),
-        Err(InsertError::Full(limit)) => Ok(Answer::Full(limit)),
-        Err(InsertError::Spent) => Ok(Answer::Spent),
-        Err(InsertError::NoMemory) => Ok(Answer::OutOfMemory),
-    }
+    Ok(answer_of(layer.insert(segment(ends)?)))
+}
+
+fn insert_path(layer: &mut Arrangement, points: &[(i64, i64)]) -> Result<Answer, Fail>
+    requires watched { IsWatched (arranged Observer-dyn layer.old) }
+    ensures watched { IsWatched (arranged Observer-dyn layer.new) }
+{
+    Ok(answer_of(layer.insert_path(&Path::new(points)?)))
 }
 
 fn pin(layer: &mut Arrangement, x: i128) -> Result<Answer, Fail>
@@ -190,6 +203,7 @@ pub fn apply(layer: &mut Arrangement, edit: Edit) -> Result<Answer, Fail>
 {
     match edit {
         Edit::Insert(x1, y1, x2, y2) => insert(layer, (x1, y1, x2, y2)),
+        Edit::InsertPath(points) => insert_path(layer, points),
         Edit::Pin(x) => pin(layer, x),
         Edit::Unpin(x) => unpin(layer, x),
         Edit::RemoveCurve(curve) => Ok(remove_curve(layer, curve)),

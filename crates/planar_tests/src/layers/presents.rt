@@ -16,10 +16,8 @@ fn pieces_of(alloc: Global, history: &History) -> Result<Sequence<Piece>, NoMemo
     ensures { IfOk result (λ s. map piece_of s ≡ history.now.pieces) }
 {
     let mut pieces = Sequence::new(alloc);
-    for place in 0..history.pieces() {
-        if let Some(piece) = history.piece(place) {
-            pieces.push(*piece)?;
-        }
+    for piece in history.pieces_in_order() {
+        pieces.push(*piece)?;
     }
     Ok(pieces)
 }

@@ -1,5 +1,6 @@
 use crate::layers::calls::{Call, are_right};
 use crate::layers::edits::{Answer, Edit, Under};
+use crate::layers::pieces::Part;
 use crate::layers::scribe::Scribe;
 use arrangement::{AttachError, Observer};
 use mirror_observer::Mirror;
@@ -71,8 +72,91 @@ const OVERLAPS: [Call; 20] = [
     Call::Counts([0, 0, 1, 0, 0, 0]),
 ];
 
+// The second side goes back over the first one, so its edge has two sides of the curve, and the point where it ends is a vertex.
+const FOLD: [Call; 8] = [
+    Call::Makes(
+        Edit::InsertPath(&[(0, 0), (4, 0), (1, 0)]),
+        Answer::Drawn(1),
+    ),
+    Call::Counts([3, 2, 1, 1, 0, 1]),
+    Call::HasCurves(0, 1, &[CurveId(1)]),
+    Call::HasCurves(1, 4, &[CurveId(1)]),
+    Call::Makes(Edit::MergeEdge(1), Answer::NotMergeable),
+    Call::Makes(Edit::RemoveEdge(1, 4), Answer::Done),
+    Call::HasEdge(1, 0, 1),
+    Call::Counts([2, 1, 1, 1, 0, 1]),
+];
+
+// The first and the last side cross, and there a vertex is.
+const BOW_TIE: [Call; 6] = [
+    Call::Makes(
+        Edit::InsertPath(&[(0, 0), (2, 2), (2, 0), (0, 2)]),
+        Answer::Drawn(1),
+    ),
+    Call::Counts([5, 5, 2, 1, 0, 1]),
+    Call::Makes(Edit::InsertPath(&[(0, 0), (2, 2)]), Answer::Drawn(2)),
+    Call::Counts([5, 5, 2, 1, 0, 2]),
+    Call::Makes(Edit::RemoveCurve(1), Answer::Done),
+    Call::Counts([2, 1, 1, 1, 0, 1]),
+];
+
+// Each side is a piece, and the pieces are no more than three.
+const SIDES: [Call; 6] = [
+    Call::Makes(
+        Edit::InsertPath(&[(0, 0), (1, 0), (2, 0), (3, 0), (4, 0)]),
+        Answer::Full(3),
+    ),
+    Call::Makes(
+        Edit::InsertPath(&[(0, 0), (1, 0), (2, 0), (3, 0)]),
+        Answer::Drawn(4294967294),
+    ),
+    Call::Makes(Edit::Insert(0, 0, 1, 0), Answer::Full(3)),
+    Call::Makes(Edit::RemoveCurve(4294967294), Answer::Done),
+    Call::Makes(
+        Edit::InsertPath(&[(0, 0), (1, 0), (2, 0)]),
+        Answer::Drawn(4294967295),
+    ),
+    Call::Makes(Edit::InsertPath(&[(0, 0), (1, 0)]), Answer::Spent),
+];
+
+// A cut leaves two pieces of the long curve, or takes one of them, in place of what was there; a curve that is dropped takes its own.
+const PIECES: [Call; 15] = [
+    Call::Makes(Edit::Insert(0, 0, 6, 0), Answer::Drawn(1)),
+    Call::Makes(Edit::Insert(2, -2, 2, 2), Answer::Drawn(2)),
+    Call::Makes(Edit::Insert(4, -2, 4, 2), Answer::Drawn(3)),
+    Call::HasPieces(&[
+        Part(1, (0, 0), (6, 0)),
+        Part(2, (2, -2), (2, 2)),
+        Part(3, (4, -2), (4, 2)),
+    ]),
+    Call::Makes(Edit::RemoveEdge(4, 2), Answer::Done),
+    Call::HasPieces(&[
+        Part(1, (0, 0), (2, 0)),
+        Part(1, (4, 0), (6, 0)),
+        Part(2, (2, -2), (2, 2)),
+        Part(3, (4, -2), (4, 2)),
+    ]),
+    Call::Makes(Edit::RemoveCurve(2), Answer::Done),
+    Call::HasPieces(&[
+        Part(1, (0, 0), (2, 0)),
+        Part(1, (4, 0), (6, 0)),
+        Part(3, (4, -2), (4, 2)),
+    ]),
+    Call::Makes(Edit::Insert(1, 1, 3, 1), Answer::Drawn(4)),
+    Call::Makes(Edit::RemoveEdge(0, 2), Answer::Done),
+    Call::HasPieces(&[
+        Part(1, (4, 0), (6, 0)),
+        Part(3, (4, -2), (4, 2)),
+        Part(4, (1, 1), (3, 1)),
+    ]),
+    Call::Makes(Edit::RemoveCurve(1), Answer::Done),
+    Call::HasPieces(&[Part(3, (4, -2), (4, 2)), Part(4, (1, 1), (3, 1))]),
+    Call::Makes(Edit::Clear, Answer::Done),
+    Call::HasPieces(&[]),
+];
+
 // Each with its limits and with what it shows.
-const TABLES: [(&str, Under, &[Call]); 5] = [
+const TABLES: [(&str, Under, &[Call]); 9] = [
     (
         "the last number is drawn once",
         Under::LastNumber,
@@ -89,6 +173,14 @@ const TABLES: [(&str, Under, &[Call]); 5] = [
         "overlapping segments have both curves",
         Under::Script,
         &OVERLAPS,
+    ),
+    ("a path folds back", Under::Script, &FOLD),
+    ("a path crosses itself", Under::Script, &BOW_TIE),
+    ("sides are pieces", Under::TwoCurves, &SIDES),
+    (
+        "pieces keep their order under cuts and drops",
+        Under::Script,
+        &PIECES,
     ),
 ];
 

@@ -1,7 +1,7 @@
 ghost use Rattle.arrangement.specs.Arranged.{arranged, IsWatched};
 
-use arrangement::{Arrangement, CurveId, Point, Segment};
-use script_lines::Command;
+use arrangement::{Arrangement, CurveId, Path, Point, Segment};
+use script_lines::{Command, PathPoints};
 
 fn draw(layer: &mut Arrangement, x1: i64, y1: i64, x2: i64, y2: i64)
     requires watched { IsWatched (arranged Observer-dyn layer.old) }
@@ -10,6 +10,18 @@ fn draw(layer: &mut Arrangement, x1: i64, y1: i64, x2: i64, y2: i64)
     match Segment::new(x1, y1, x2, y2) {
         Ok(segment) => {
             let _curve = layer.insert(segment);
+        }
+        Err(_) => {}
+    }
+}
+
+fn draw_path(layer: &mut Arrangement, points: &PathPoints)
+    requires watched { IsWatched (arranged Observer-dyn layer.old) }
+    ensures watched { IsWatched (arranged Observer-dyn layer.new) }
+{
+    match Path::new(points.as_slice()) {
+        Ok(path) => {
+            let _curve = layer.insert_path(&path);
         }
         Err(_) => {}
     }
@@ -51,6 +63,7 @@ pub fn apply(layer: &mut Arrangement, command: &Command)
 {
     match command {
         Command::Segment(x1, y1, x2, y2) => draw(layer, *x1, *y1, *x2, *y2),
+        Command::Path(points) => draw_path(layer, points),
         Command::Drop(curve) => {
             let _gone = layer.remove_curve(CurveId(*curve));
         }

@@ -2,7 +2,8 @@ ghost use Rattle.std.specs.Prelude.{◌<◌};
 
 use crate::program::guests::{FOUR, status_with};
 use crate::program::scripts::{
-    CUTS, DIAGONALS, EQUAL, ISLANDS, JOINS, PARTING, PINS, SQUARES, Told, are_replies, script_of,
+    CUTS, DIAGONALS, EQUAL, ISLANDS, JOINS, PARTING, PATHS, PINS, SQUARES, Told, are_replies,
+    script_of,
 };
 use outside::{MemorySink, MemorySource, RepeatSource, Source};
 use planar_run::Status;
@@ -80,7 +81,7 @@ fn a_script_comes_in_pieces(rt: HostRuntime) -> Result<(), Fail> {
 }
 
 // Scripts and the lengths of pieces in which they come.
-const PIECES: [(&str, &[Told], &[Told], &[usize]); 6] = [
+const PIECES: [(&str, &[Told], &[Told], &[usize]); 7] = [
     ("two points", &PINS, &[], &[10]),
     ("curves along one edge", &EQUAL, &[], &[1, 2, 7, 4096]),
     (
@@ -90,6 +91,7 @@ const PIECES: [(&str, &[Told], &[Told], &[usize]); 6] = [
         &[1, 2, 7, 4096],
     ),
     ("edges cut from two curves", &CUTS, &[], &[1, 2, 7, 4096]),
+    ("paths", &PATHS, &[], &[1, 2, 7, 4096]),
     ("plans of observers", &JOINS, &[], &[1, 2, 7, 4096]),
     ("two layers", &SQUARES, &[], &[1, 2, 7, 4096]),
 ];

@@ -69,6 +69,26 @@ pub const CUTS: [Told; 14] = [
     ("count", "counts 1 0 1 0 1 2\n"),
 ];
 
+/// A square in one line, a path that folds back, and one that crosses itself.
+pub const PATHS: [Told; 13] = [
+    ("path 0 0 4 0 4 4 0 4 0 0", "ok 1\n"),
+    (
+        "show",
+        "arrangement 4 4 2\nv 1 0 0 1 : 2 3\nv 2 0 4 1 : 1 4\nv 3 4 0 1 : 1 4\nv 4 4 4 1 : 2 3\ne 1 2 : 1\ne 1 3 : 1\ne 2 4 : 1\ne 3 4 : 1\nf 0\nh 1 2 4 3\nf 1\no 1 3 4 2\nend\n",
+    ),
+    ("clear", "ok\n"),
+    ("path 0 0 4 0 1 0", "ok 2\n"),
+    ("count", "counts 3 2 1 1 0 1\n"),
+    ("merge 1 0 1", "refused 12\n"),
+    ("cut 1 0 1 4 0 1", "ok\n"),
+    ("count", "counts 2 1 1 1 0 1\n"),
+    ("clear", "ok\n"),
+    ("path 0 0 2 2 2 0 0 2", "ok 3\n"),
+    ("count", "counts 5 5 2 1 0 1\n"),
+    ("path 0 0 0 0 1 1", "refused 7\n"),
+    ("path 0 0 1", "refused 2\n"),
+];
+
 /// Observers that join and leave by plan.
 pub const JOINS: [Told; 12] = [
     ("segment 1 0 1 2", "ok 1\n"),

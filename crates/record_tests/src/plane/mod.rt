@@ -3,6 +3,7 @@
 mod cases;
 mod errors;
 mod meetings;
+mod parts;
 mod slopes;
 mod spans;
 mod sweeps;

@@ -1,7 +1,6 @@
 use crate::plane::cases::{Case, SLANTED, UPRIGHT};
-use crate::shapes::{At, Ends, point, segment};
+use crate::shapes::{At, Ends, point, segment, write_number, write_point};
 use exact_plane::{Point, Segment, Span, line_of};
-use itoa::{Buffer, Integer};
 use no_memory::NoMemory;
 use std::alloc::Global;
 use std::test::Fail;
@@ -34,19 +33,6 @@ fn sweep_of(alloc: Global, case: &Case) -> Result<Sweep, Fail> {
     let pieces = spans_of(alloc, case.segments)?;
     let pins = points_of(alloc, case.pins)?;
     Ok(Sweep::new(alloc, &pieces, &pins)?)
-}
-
-fn write_number<I: Integer>(text: &mut Vec<u8>, number: I) -> Result<(), NoMemory> {
-    let mut buffer = Buffer::new();
-    text.extend_from_slice(buffer.format(number).as_bytes())?;
-    text.push(b' ')?;
-    Ok(())
-}
-
-fn write_point(text: &mut Vec<u8>, point: &Point) -> Result<(), NoMemory> {
-    write_number(text, point.x())?;
-    write_number(text, point.y())?;
-    write_number(text, point.w())
 }
 
 fn write_pieces(text: &mut Vec<u8>, mark: &[u8], pieces: &[usize]) -> Result<(), NoMemory> {

@@ -22,7 +22,7 @@ pub(crate) fn nothing(alloc: Global) -> Result<Arrangement, NoMemory>
     Arrangement::new(alloc, Limits::FULL, bus)
 }
 
-fn draw(layer: &mut Arrangement, ends: Ends)
+pub(crate) fn draw(layer: &mut Arrangement, ends: Ends)
     requires watched { IsWatched (arranged Observer-dyn layer.old) }
     ensures watched { IsWatched (arranged Observer-dyn layer.new) }
 {
