@@ -24,6 +24,7 @@ LONGEST_LINE = 300
 # The commands, with the words that follow.
 FORMS = {
     "segment": "x1 y1 x2 y2",
+    "path": "x0 y0 x1 y1 .. xk yk",
     "drop": "c",
     "cut": "X Y W X Y W",
     "pin": "X Y W",
@@ -50,7 +51,7 @@ MEANINGS = {
     4: "a number is out of its range",
     5: "the line has more than 300 bytes",
     6: "a byte of the line is outside 32 to 126",
-    7: {"segment": "the two ends are equal"},
+    7: {"segment": "the two ends are equal", "path": "two neighbouring points are equal"},
     8: "no curve has this number",
     9: "no edge has these two ends",
     10: {"merge": "no vertex is at the point", "unpin": "it isn't pinned"},
@@ -62,12 +63,13 @@ MEANINGS = {
     16: {"leave": "the observer isn't seated", "mirror": "the observer isn't seated"},
     17: {
         "segment": "there are 2,000 curves, or 10,000 pieces of curves",
+        "path": "there are 2,000 curves, or the pieces afterwards would be more than 10,000",
         "cut": "the pieces afterwards would be more than 10,000",
         "pin": "10,000 points are pinned",
         "split": "10,000 points are pinned",
         "attach": "eight are seated or planned",
     },
-    18: {"segment": "the number 4294967295 was drawn"},
+    18: {"segment": "the number 4294967295 was drawn", "path": "the number 4294967295 was drawn"},
 }
 MISSPELT = "after the count of words was right, the word `at`, `red` or `blue` isn't spelt so"
 NO_MEMORY = "there was no memory for it; nothing was changed"

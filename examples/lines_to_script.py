@@ -13,8 +13,10 @@ collections, of X and Y alone; a feature's name is its property `name` (--name t
 A row of CSV is a side, `x,y,x,y`, or a point, `x,y`, and a name may follow, else the name is `line 1` and so on; a first row without a
 number in front is a heading.
 
-In the script each feature is a comment with its name, a `segment` for each side, and a `pin` for each point, or with --points=locate a
-`locate`. With --once a side that several features have is one segment, and the table tells its number for each of them.
+In the script each feature is a comment with its name, a curve for each line and ring, and a `pin` for each point, or with --points=locate
+a `locate`. A curve of several sides is a `path`, one of a single side a `segment`. A path has at most eight sides, so a longer line is
+several curves: a ring of nine corners is two. With --once each side is a segment, one that several features have is there once, and the
+table tells its number for each of them.
 
 Coordinates of a script's segments are whole and within 2^24 - 1. So script = (map - offset) * scale, rounded. Unless options say otherwise,
 the offset is 0 where that fits, else the centre; the scale is the least that makes all ends of sides whole, or, where these don't fit, the
@@ -36,6 +38,7 @@ import re
 import sys
 from dataclasses import dataclass
 from fractions import Fraction
+from itertools import groupby
 from math import gcd
 from typing import Any, Callable, Iterator, List, Optional, Tuple
 
@@ -43,6 +46,9 @@ LARGEST_COORDINATE = 2**24 - 1
 # Of the fractions in which points are written, so that the product of two is below 2^51.
 LARGEST_DENOMINATOR = 2**24
 MOST_CURVES = 2000
+# A side of a curve is a piece.
+MOST_PIECES = 10000
+MOST_SIDES = 8
 MOST_PINS = 10000
 LONGEST_LINE = 300
 
@@ -50,6 +56,8 @@ Point = Tuple[Fraction, Fraction]
 # Positions one after the other; a single one is a point.
 Line = List[Point]
 Side = Tuple[Point, Point]
+# A corner in script coordinates.
+Corner = Tuple[int, int]
 
 NUMBER = r"[-+]?(?:[0-9]+\.?[0-9]*|\.[0-9]+)(?:[eE][-+]?[0-9]+)?"
 WKT_TOKEN = re.compile(rf"{NUMBER}|[A-Za-z]+|\S")
@@ -79,10 +87,13 @@ class Feature:
         """The ends of its sides."""
         return [point for line in self.lines if len(line) > 1 for point in line]
 
-    def segments(self, frame: Frame) -> List[Tuple[Tuple[int, int], Tuple[int, int]]]:
-        """The sides in script coordinates, without those that are points."""
-        sides = [(frame.whole(p), frame.whole(q)) for p, q in self.sides()]
-        return [side for side in sides if side[0] != side[1]]
+    def curves(self, frame: Frame, most_sides: int) -> List[List[Corner]]:
+        """The corners of its curves in script coordinates, of so many sides at most, without sides that are points."""
+        curves = []
+        for line in self.lines:
+            corners = [corner for corner, _ in groupby(map(frame.whole, line))]
+            curves.extend(corners[start : start + most_sides + 1] for start in range(0, len(corners) - 1, most_sides))
+        return curves
 
 
 @dataclass(frozen=True)
@@ -363,21 +374,22 @@ def comment(text: str) -> str:
     return ("# " + text.encode("unicode_escape").decode("ascii"))[:LONGEST_LINE]
 
 
-def commands_of(feature: Feature, frame: Frame, ask: str) -> Iterator[Tuple[str, Any]]:
+def commands_of(feature: Feature, frame: Frame, options: argparse.Namespace) -> Iterator[Tuple[str, Any]]:
     """The lines of a feature, each with what is the same for lines that need stand only once."""
-    for p, q in feature.segments(frame):
-        yield "segment {} {} {} {}".format(*p, *q), ("side", *sorted([p, q]))
+    for corners in feature.curves(frame, 1 if options.once else MOST_SIDES):
+        numbers = " ".join(str(number) for corner in corners for number in corner)
+        yield f"{'segment' if len(corners) == 2 else 'path'} {numbers}", ("curve", *sorted(corners))
     for point in feature.points():
-        yield f"{ask} {frame.triple(point)}", ("pin", frame.fraction(point))
+        yield f"{options.points} {frame.triple(point)}", ("pin", frame.fraction(point))
 
 
 def plan_of(features: List[Feature], frame: Frame, options: argparse.Namespace) -> Plan:
     """The lines of the script: sides each once if that is asked for, pins always, questions never."""
     plan, known = Plan([], []), {}
-    once = ["side"] * options.once + ["pin"] * (options.points == "pin")
+    once = ["curve"] * options.once + ["pin"] * (options.points == "pin")
     for feature in features:
         own = []
-        for line, key in commands_of(feature, frame, options.points):
+        for line, key in commands_of(feature, frame, options):
             place = known.get(key, len(plan.lines)) if key[0] in once else len(plan.lines)
             known[key] = place
             own.append(place)
@@ -388,8 +400,10 @@ def plan_of(features: List[Feature], frame: Frame, options: argparse.Namespace) 
 
 def demand_room(plan: Plan) -> None:
     """A script has limits."""
-    for command, most, what in (("segment", MOST_CURVES, "sides"), ("pin", MOST_PINS, "pins")):
-        count = sum(line.startswith(command) for line in plan.lines)
+    curves = [line.split() for line in plan.lines if line.startswith(("segment", "path"))]
+    sides = sum(len(words) // 2 - 1 for words in curves)
+    pins = sum(line.startswith("pin") for line in plan.lines)
+    for count, most, what in ((len(curves), MOST_CURVES, "curves"), (sides, MOST_PIECES, "sides"), (pins, MOST_PINS, "pins")):
         if count > most:
             raise CantConvert(f"there are {count} {what}, and a script has at most {most} at a time (--once: shared sides once)")
 
@@ -417,7 +431,8 @@ def table_of(features: List[Feature], plan: Plan, replies: str) -> Iterator[str]
 def cell_of(line: str, reply: str) -> str:
     """What the table tells of a line: the number of a curve, where a point lies, nothing of a pin."""
     command = line.split()[0]
-    due = {"segment": r"ok ([1-9][0-9]*)(?: .*)?", "pin": r"ok()(?: .*)?", "locate": r"((?:vertex|edge|face) .*)"}[command]
+    curve = r"ok ([1-9][0-9]*)(?: .*)?"
+    due = {"segment": curve, "path": curve, "pin": r"ok()(?: .*)?", "locate": r"((?:vertex|edge|face) .*)"}[command]
     found = re.fullmatch(due, reply)
     if not found:
         raise CantConvert(f"the replies aren't those to this script: {reply!r} is the reply to `{line}`")
@@ -433,7 +448,7 @@ def notes_on(features: List[Feature], frame: Frame, plan: Plan) -> Iterator[str]
         if moves:
             yield f"{len(moves)} of {len(some)} {what} were rounded, by at most {float(max(moves)):.3g} in X or Y"
     for feature in features:
-        lost = len(feature.sides()) - len(feature.segments(frame))
+        lost = len(feature.sides()) - len(feature.curves(frame, 1))
         if lost:
             yield f"{feature.name}: sides that became points and were left out: {lost}"
     shared = sum(map(len, plan.places)) - len(plan.lines)
@@ -483,7 +498,7 @@ def options_of(words: List[str]) -> argparse.Namespace:
     parser.add_argument("--scale", type=positive, metavar="S", help="by what the rest is multiplied")
     parser.add_argument("--name", default="name", metavar="KEY", help="the property of GeoJSON that is a feature's name")
     parser.add_argument("--points", choices=["pin", "locate"], default="pin", help="what the line of a point is (pin)")
-    parser.add_argument("--once", action="store_true", help="a side that several features have is one segment")
+    parser.add_argument("--once", action="store_true", help="each side is a segment, and one that several features have is there once")
     parser.add_argument("--replies", metavar="REPLIES", help="replies to the script: write the table in place of the script")
     return parser.parse_args(words)
 

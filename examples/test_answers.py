@@ -83,10 +83,12 @@ class ExplainReplies(unittest.TestCase):
             (1, "SEGMENT 0 0 1 1", "`SEGMENT`, and commands are written small"),
             (1, "layer green", explain_replies.MISSPELT),
             (2, "cut 1 2", "`cut X Y W X Y W`"),
+            (2, "path 0 0 1 1 2", "`path x0 y0 x1 y1 .. xk yk`"),
             (3, " pin 4.0 +1  1", "`4.0`, `+1`"),
             (5, "#" * 301, "it has 301"),
             (6, "show\r", "byte 5 is 13, of a line end by bytes 13 and 10"),
             (7, "segment 1 1 1 1", "the two ends are equal"),
+            (7, "path 0 0 1 1 1 1 2 2", "two neighbouring points are equal"),
             (17, "attach 3", "eight are seated or planned"),
         ]:
             self.assertTrue(meaning_of(refusal, line).endswith(due), meaning_of(refusal, line))

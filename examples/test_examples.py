@@ -220,9 +220,9 @@ class ReadShow(unittest.TestCase):
 
 
 def script_of(text, *words):
-    """The segments of the script, as numbers, and all of its lines."""
+    """The curves of the script, as numbers, and all of its lines."""
     lines, _ = convert(text, options_of(words))
-    return [tuple(map(int, line.split()[1:])) for line in lines if line.startswith("segment ")], lines
+    return [tuple(map(int, line.split()[1:])) for line in lines if line.startswith(("segment ", "path "))], lines
 
 
 MAP = """{"type": "FeatureCollection", "features": [
@@ -236,15 +236,14 @@ MAP = """{"type": "FeatureCollection", "features": [
 class LinesToScript(unittest.TestCase):
     def test_wkt(self):
         polygons = "multipolygon(((0 0, 1 0, 1 1, 0 0), (9 9, 8 9, 8 8, 9 9)), EMPTY)"
-        segments, lines = script_of(f"LINESTRING (0 0, 4 1, 1e1 -3)\n{polygons} GEOMETRYCOLLECTION EMPTY")
-        self.assertEqual(segments[:3], [(0, 0, 4, 1), (4, 1, 10, -3), (0, 0, 1, 0)])
-        self.assertEqual(len(segments), 8)
+        curves, lines = script_of(f"LINESTRING (0 0, 4 1, 1e1 -3)\n{polygons} GEOMETRYCOLLECTION EMPTY")
+        self.assertEqual(curves, [(0, 0, 4, 1, 10, -3), (0, 0, 1, 0, 1, 1, 0, 0), (9, 9, 8, 9, 8, 8, 9, 9)])
         comments = [line for line in lines if line[0] == "#"]
         self.assertEqual(comments[1:], ["# offset 0,0 scale 1", "# feature 1", "# feature 2", "# feature 3"])
 
     def test_geojson_and_names(self):
-        segments, lines = script_of(MAP)
-        self.assertEqual(segments, [(1, 0, 8, 0), (8, 0, 8, 6), (8, 6, 1, 0), (8, 0, 12, 0)])
+        curves, lines = script_of(MAP)
+        self.assertEqual(curves, [(1, 0, 8, 0, 8, 6, 1, 0), (8, 0, 12, 0)])
         self.assertEqual(lines[2], r"# M\xfchle")
         self.assertIn("# 8", script_of(MAP, "--name", "id")[1])
         self.assertTrue(all(len(line.encode("ascii")) <= 300 for line in script_of(MAP.replace("Mühle", "ü" * 400))[1]))
@@ -252,10 +251,10 @@ class LinesToScript(unittest.TestCase):
     def test_table(self):
         with tempfile.TemporaryDirectory() as folder:
             replies = Path(folder, "replies")
-            replies.write_text("ok 1\nok 2 joined 1 left 2 left 3\nok 3\nok 9\ncounts 1 1 1 1 1 1\n")
+            replies.write_text("ok 2 joined 1 left 2 left 3\nok 9\ncounts 1 1 1 1 1 1\n")
             lines, _ = convert(MAP, options_of(["--replies", str(replies)]))
-            self.assertEqual(lines, ["Mühle\t1 2 3", "feature 2\t9", "feature 3\t"])
-            for other in ["", "ok 1", "ok 1\nok 2\nok 3\n", "ok 1\nok 2\nno memory\nok 3\n", "ok\n" * 4, "refused 17\n" * 4]:
+            self.assertEqual(lines, ["Mühle\t2", "feature 2\t9", "feature 3\t"])
+            for other in ["", "ok 1", "ok 1\n", "no memory\nok 1\n", "ok\n" * 2, "refused 17\n" * 2]:
                 replies.write_text(other)
                 self.assertRaises(CantConvert, convert, MAP, options_of(["--replies", str(replies)]))
 
@@ -265,9 +264,9 @@ class LinesToScript(unittest.TestCase):
         self.assertEqual(script_of("LINESTRING (1 1, 3 3)", "--offset=1,-1/2", "--scale", "2")[0], [(0, 3, 4, 7)])
         self.assertEqual(script_of("LINESTRING (-16777215 0, 16777215 0)")[0], [(-16777215, 0, 16777215, 0)])
         wide = "LINESTRING (0.123456789 0, 10 7.77777777, 20.5 -1e2)"
-        segments, _ = script_of(wide)
-        self.assertTrue(all(abs(c) <= 16777215 for segment in segments for c in segment))
-        self.assertTrue(any(abs(c) > 16777215 // 2 for segment in segments for c in segment))
+        curves, _ = script_of(wide)
+        self.assertTrue(all(abs(c) <= 16777215 for curve in curves for c in curve))
+        self.assertTrue(any(abs(c) > 16777215 // 2 for curve in curves for c in curve))
         self.assertRaises(CantConvert, script_of, wide, "--scale", "1e9")
 
     def test_notes(self):
@@ -275,6 +274,23 @@ class LinesToScript(unittest.TestCase):
         self.assertEqual(notes[0], "offset 0,0 scale 1")
         self.assertEqual(notes[1], "1 of 3 corners were rounded, by at most 0.2 in X or Y")
         self.assertEqual(notes[2], "feature 1: sides that became points and were left out: 1")
+
+    def test_a_curve_has_eight_sides_at_most(self):
+        corners = [(0, 0), (9, 0), (9, 9), (8, 9), (7, 8), (6, 9), (5, 8), (4, 9), (3, 9)]
+        for count, due in [(2, [1]), (3, [2]), (9, [8])]:
+            line = ", ".join(f"{x} {y}" for x, y in corners[:count])
+            curves, lines = script_of(f"LINESTRING ({line})")
+            self.assertEqual([len(curve) // 2 - 1 for curve in curves], due)
+            self.assertEqual(lines[-1].split()[0], "segment" if count == 2 else "path")
+        ring = ", ".join(f"{x} {y}" for x, y in corners + corners[:1])
+        curves, lines = script_of(f"POLYGON (({ring}))")
+        self.assertEqual(curves, [tuple(c for corner in corners for c in corner), (3, 9, 0, 0)])
+        self.assertEqual([line.split()[0] for line in lines[3:]], ["path", "segment"])
+        self.assertEqual(len(script_of(f"POLYGON (({ring}))", "--once")[0]), 9)
+        # A side that became a point is in no curve.
+        curves, _ = script_of("LINESTRING (0 0, 0.2 0, 4 0, 4 0.1, 4 4, 4 4)", "--scale", "1")
+        self.assertEqual(curves, [(0, 0, 4, 0, 4, 4)])
+        self.assertEqual(script_of("LINESTRING (0 0, 0.2 0.1)", "--scale", "1")[0], [])
 
     def test_points(self):
         text = "POINT (3 1.5) MULTIPOINT (0 0, (1 2), (0 0)) LINESTRING (0 0, 4 0) MULTIPOINT EMPTY"
@@ -289,15 +305,15 @@ class LinesToScript(unittest.TestCase):
         self.assertEqual(script_of(json_points)[1][3:], ["pin 1 2 1", "pin 3 4 1"])
 
     def test_csv(self):
-        segments, lines = script_of("x1,y1,x2,y2,what\n0,0,4,0.5,Main Street\n\n4, 0.5, 8, 0\n2,2,'well'\n3,3\n")
-        self.assertEqual(segments, [(0, 0, 8, 1), (8, 1, 16, 0)])
+        curves, lines = script_of("x1,y1,x2,y2,what\n0,0,4,0.5,Main Street\n\n4, 0.5, 8, 0\n2,2,'well'\n3,3\n")
+        self.assertEqual(curves, [(0, 0, 8, 1), (8, 1, 16, 0)])
         self.assertEqual([line for line in lines if line[0] == "#"][2:], ["# Main Street", "# line 4", "# 'well'", "# line 6"])
         for text, place in [("0,0,1,1\n1,1\n2,x,1,1\n", "line 3"), ("0,0,1,1\n1\n", "line 2"), ("1,2,3,4,5,6\n", "line 1")]:
             self.assertRaisesRegex(CantConvert, place, script_of, text)
 
     def test_shared_sides_once(self):
         squares = "POLYGON ((0 0, 2 0, 2 2, 0 2, 0 0)) POLYGON ((2 0, 4 0, 4 2, 2 2, 2 0))"
-        self.assertEqual(len(script_of(squares)[0]), 8)
+        self.assertEqual(script_of(squares)[0], [(0, 0, 2, 0, 2, 2, 0, 2, 0, 0), (2, 0, 4, 0, 4, 2, 2, 2, 2, 0)])
         segments, _ = script_of(squares, "--once")
         self.assertEqual(segments[4:], [(2, 0, 4, 0), (4, 0, 4, 2), (4, 2, 2, 2)])
         _, notes = convert(squares, options_of(["--once"]))
@@ -323,8 +339,11 @@ class LinesToScript(unittest.TestCase):
     def test_what_cant_be_done_is_refused(self):
         side = "LINESTRING (0 0, 1 1)\n"
         self.assertEqual(len(script_of(side * 2000)[0]), 2000)
+        corners = "LINESTRING (0 0, 1 1, 2 0, 3 1, 4 0, 5 1, 6 0, 7 1, 8 0)\n"
+        self.assertEqual(len(script_of(corners * 1250)[0]), 1250)
         for text in [
             side * 2001,
+            corners * 1250 + side,
             "LINESTRING Z (0 0 0, 1 1 1)",
             "LINESTRING (0 0 0, 1 1 1)",
             "LINESTRING (0 0)",

@@ -23,7 +23,7 @@ PAGE = "docs/PREMISES.md"
 WITHOUT = "Crates without a premise"
 TABLE_HEAD = ["| call | premise | met by |", "|---|---|---|"]
 
-EXPORT = re.compile(r"^pub use (\w+)::(?:(\w+)|\{([\w\s,]*)\});", re.M)
+EXPORT = re.compile(r"^pub use (\w+)::(?:(\w+)(?: as \w+)?|\{([\w\s,]*)\});", re.M)
 OWN_ITEM = re.compile(r"^pub (?:fn|struct|enum|trait) (\w+)", re.M)
 OWNER = re.compile(r"(?:pub )?(?:unsafe )?(?:(trait)|impl) (?:.*( for ))?(?:& ?(?:mut )?)?(\w+)")
 FUNCTION = re.compile(r"( *)(pub(?:\([\w ]+\))? )?(?:(?:const|unsafe) )*fn (\w+)")
@@ -52,7 +52,7 @@ def public_items(library):
     """The items that lib.rt makes public, as pairs of a module and a name."""
     exports = EXPORT.findall(library)
     if len(exports) != len(re.findall(r"^ *pub (?:use|mod)\b", library, re.M)):
-        sys.exit("premises.py reads only exports of the form `pub use module::{Name, other_name};`")
+        sys.exit("premises.py reads only exports of the form `pub use module::{Name, other_name};` or `pub use module::Name as Other;`")
     items = {(module, name) for module, one, many in exports for name in re.findall(r"\w+", one + many)}
     return items | {("lib", name) for name in OWN_ITEM.findall(library)}
 
