@@ -18,4 +18,5 @@ mod whole;
 mod words;
 
 pub use laws::{overlay_text_is_the_layers, records_tell_their_graph};
+pub use put::{put_number, put_point, put_text};
 pub use whole::{overlay_text, text};

@@ -8,16 +8,24 @@ use itoa::{Buffer, Integer};
 use no_memory::NoMemory;
 use slab_laws::VertexId;
 
-// Appends a text.
-pub(crate) fn put_text(out: &mut Vec<u8>, text: &str) -> Result<(), NoMemory>
+/// Appends a text.
+///
+/// # Errors
+///
+/// There was no memory.
+pub fn put_text(out: &mut Vec<u8>, text: &str) -> Result<(), NoMemory>
     ensures { OnOk result (out.new.items ≡ out.old.items ++ text.now) }
 {
     out.extend_from_slice(text.as_bytes())?;
     Ok(())
 }
 
-// Puts a space and a number.
-pub(crate) fn put_number<I: Integer>(out: &mut Vec<u8>, number: I) -> Result<(), NoMemory>
+/// Appends a space and a number in decimal.
+///
+/// # Errors
+///
+/// There was no memory.
+pub fn put_number<I: Integer>(out: &mut Vec<u8>, number: I) -> Result<(), NoMemory>
     ensures { OnOk result (out.new.items ≡ out.old.items ++ word (I.text number)) }
 {
     let mut digits = Buffer::new();
@@ -39,8 +47,12 @@ pub(crate) fn put_lettered<I: Integer>(
     put_text(out, digits.format(number))
 }
 
-// Puts the three numbers of a point.
-pub(crate) fn put_point(out: &mut Vec<u8>, point: &Point) -> Result<(), NoMemory>
+/// Appends the three numbers of a point, each after a space.
+///
+/// # Errors
+///
+/// There was no memory.
+pub fn put_point(out: &mut Vec<u8>, point: &Point) -> Result<(), NoMemory>
     ensures { OnOk result (out.new.items ≡ out.old.items ++ triple point.now) }
 {
     put_number(out, point.x())?;

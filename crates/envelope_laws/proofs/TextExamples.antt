@@ -4,10 +4,10 @@ use Rattle.plane_graphs.specs.Piece.{Present}
 use Rattle.slab_laws.proofs.Examples.{piece, opened, at}
 use Rattle.envelope_laws.specs.declared.which.Which.TheVariants.{Lower, Upper}
 use Rattle.envelope_laws.specs.Envelopes.{is_extreme, is_outermost, outermost, between_all, outline}
-use Rattle.envelope_laws.specs.EnvelopeText.{curves_at, corner_line, stretch_line, outline_lines, envelope_text}
+use Rattle.envelope_laws.specs.EnvelopeText.{curves_at, corner_line, stretch_line, outline_lines, outline_text, envelope_text}
 
 unfoldable pub all : Unit {0}
-unfolding opened is_extreme is_outermost outermost between_all outline curves_at corner_line stretch_line outline_lines envelope_text
+unfolding opened is_extreme is_outermost outermost between_all outline curves_at corner_line stretch_line outline_lines outline_text envelope_text
 all = tt
 
 -- nothing at all

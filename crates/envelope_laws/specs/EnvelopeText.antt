@@ -29,9 +29,12 @@ outline_lines g [] os = []
 outline_lines g (v ∷ vs) [] = corner_line g v ++ outline_lines g vs []
 outline_lines g (v ∷ vs) (o ∷ os) = corner_line g v ++ (stretch_line g o ++ outline_lines g vs os)
 
--- the text of an envelope of a present: how many vertices it has, these with what is between them, the end (this project)
-unfoldable pub envelope_text : Which → Present → List ℕ
-envelope_text w p =
-    let g : Graph = graph p in
+-- the text of an envelope of a graph: how many vertices it has, these with what is between them, the end (this project)
+unfoldable pub outline_text : Which → Graph → List ℕ
+outline_text w g =
     let o : Outline = outline w (skeleton g) in
     ended (codes "envelope" ++ number (length o.vertices)) ++ (outline_lines g o.vertices o.between ++ ended (codes "end"))
+
+-- that of a present
+unfoldable pub envelope_text : Which → Present → List ℕ
+envelope_text w p = outline_text w (graph p)

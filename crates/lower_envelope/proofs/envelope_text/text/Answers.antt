@@ -1,0 +1,12 @@
+use Rattle.std.proofs.Common.{List, ℕ, ◌++◌, ap, ◌∙◌}
+use Rattle.arr_notes.specs.RecordGraph.{drawn_graph}
+use Rattle.envelope_laws.specs.EnvelopeText.{outline_text}
+use Rattle.lower_envelope.proofs.envelope_text.text.Goals as goal
+
+pub put_envelope-requires-clause-sound : goal.put_envelope-requires-clause-sound
+put_envelope-requires-clause-sound g c = c.requires.graph
+
+pub returns : goal.returns
+returns g c = λ h a lists.
+    c.in_ok-put_envelope.ensures h a lists
+    ∙ ap (λ (t : List ℕ). t ++ outline_text c.args.which (drawn_graph (g.R.Darts.graph c.args.records.now) h)) c.new-out.ensures.items
