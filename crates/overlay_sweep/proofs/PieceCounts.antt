@@ -1,11 +1,11 @@
 -- The pieces of a layer that hold an edge are as many as their stretches along it.
 use Rattle.std.proofs.Common.{◌≡◌, ℕ, zero, suc, ◌+◌, ◌-◌, ◌<◌, ◌≤◌, Bool, true, false, cond, ◌&&◌, ◌||◌, arith, refl, sym, ap, ap₂, ◌∙◌, subst, inl, inr, ⊎_elim, List, [], ◌∷◌, ◌++◌, length, map, take, drop, get_or, append_assoc, Less}
 use Rattle.std.specs.Prelude.{◌==◌, filter}
-use Rattle.std.specs.List.{count_by, sum_by, list_any, prefix_len}
+use Rattle.std.specs.List.{count_by, list_any, prefix_len}
 use lib.Dec.{leb, ltb}
-use Rattle.std.proofs.lemmas.Bool.{leb-true, le-leb, ltb-true, lt-ltb, eqb-true, eq-eqb, ne_eqb, and_parts, and_from, false_from_ne_true, cases_lt, cases_eq, lt-leb}
+use Rattle.std.proofs.lemmas.Bool.{leb-true, le-leb, ltb-true, eqb-true, eq-eqb, and_parts, and_from, false_from_ne_true}
 use Rattle.std.proofs.lemmas.Cmp.{tied_itself}
-use Rattle.std.proofs.lemmas.List.{append-nil, get_or-map, length-map, drop_more, drop_all, take_all}
+use Rattle.std.proofs.lemmas.List.{append-nil, get_or-map, drop_more, drop_all, take_all}
 use Rattle.std.proofs.lemmas.List.Sums.{sum_by-cons, sum_by_more}
 use Rattle.exact_plane.specs.Point.{Point}
 use Rattle.plane_graphs.specs.Ascending.{Member, IsAscending}

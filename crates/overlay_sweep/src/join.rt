@@ -13,15 +13,13 @@ ghost use Rattle.overlay_sweep.specs.KnownLabels.{AreLabelled};
 ghost use Rattle.overlay_sweep.specs.LayerGraphs.{IsLayerGraph, ArePiecesFrom};
 ghost use Rattle.subdivision_rows.specs.Listed.{subdivision_in, view_of, faces_of, AreLinesOf};
 
-use crate::counts::pieces_of_edges;
+use crate::counted::{counted_by, graph_of_both};
 use crate::curves::curves_of_edges;
 use crate::faces::labels_of_faces;
 use crate::graphs::{LayerGraph, graph_of};
 use crate::known::known_labels;
 use crate::layers::labels_above;
-use crate::rows::rows_of;
 use no_memory::NoMemory;
-use present_graphs::unite;
 use slab_laws::Present;
 use std::alloc::Global;
 use subdivision_rows::{Both, LayerTable};
@@ -117,36 +115,6 @@ fn tables_of(
     Ok((of_red, of_blue))
 }
 
-// How many red pieces hold each edge, and how many blue ones.
-fn pieces_of(
-    alloc: Global,
-    red: &Present,
-    blue: &Present,
-    whole: &LayerGraph,
-) -> Result<(Vec<usize>, Vec<usize>), NoMemory>
-    requires red { IsFit (present_of red.now) }
-    requires blue { IsFit (present_of blue.now) }
-    requires whole { IsLayerGraph (united (present_of red.now) (present_of blue.now)) whole.now }
-    ensures red { IfOk result (λ t. t.0.items ≡ map (pieces_along (present_of red.now)) (overlay_skeleton (present_of red.now) (present_of blue.now)).edges) }
-    ensures blue { IfOk result (λ t. t.1.items ≡ map (pieces_along (present_of blue.now)) (overlay_skeleton (present_of red.now) (present_of blue.now)).edges) }
-{
-    let of_red = pieces_of_edges(alloc, red, whole, 0)?;
-    let of_blue = pieces_of_edges(alloc, blue, whole, red.pieces.as_slice().len())?;
-    Ok((of_red, of_blue))
-}
-
-// The graph of the pieces and pins of both layers.
-fn graph_of_both(alloc: Global, red: &Present, blue: &Present) -> Result<LayerGraph, NoMemory>
-    requires red { IsFit (present_of red.now) }
-    requires blue { IsFit (present_of blue.now) }
-    ensures { IfOk result (IsLayerGraph (united (present_of red.now) (present_of blue.now))) }
-{
-    let united = unite(alloc, red, blue)?;
-    let whole = graph_of(alloc, &united);
-    drop(united);
-    whole
-}
-
 /// The overlay of two layers: the subdivision of the plane by the pieces and pins of both, of each of its edges the red and
 /// the blue curves along it, and of each of its faces the red face and the blue face that hold it (CGAL manual, `overlay`).
 ///
@@ -174,12 +142,9 @@ pub fn overlay(alloc: Global, red: &Present, blue: &Present) -> Result<Both, NoM
     ensures lines { IfOk result (λ b. AreLinesOf b.drawing) }
     ensures stands { IfOk result (λ b. IsSound (view_of b.drawing) (faces_of b.drawing)) }
 {
-    let whole = graph_of_both(alloc, red, blue)?;
+    let (united, whole) = graph_of_both(alloc, red, blue)?;
     let (of_red, of_blue) = tables_of(alloc, red, blue, &whole)?;
-    let (red_pieces, blue_pieces) = pieces_of(alloc, red, blue, &whole)?;
-    // Made once more, since it would be in the way while each layer's own graph is made.
-    let united = unite(alloc, red, blue)?;
-    let rows = rows_of(alloc, united, whole)?;
-    rows.laws();
-    Ok(Both::of(rows, of_red, of_blue, red_pieces, blue_pieces))
+    let counted = counted_by(alloc, red, blue, united, whole)?;
+    counted.rows.laws();
+    Ok(Both::of(counted.rows, of_red, of_blue, counted.red, counted.blue))
 }

@@ -8,6 +8,7 @@
 #![tactic(auto)]
 
 mod bare;
+mod counted;
 mod counts;
 mod curves;
 mod darts;
@@ -26,6 +27,7 @@ ghost use Rattle.overlay_sweep.specs.KnownLabels.{LabelsByKnownEdges};
 ghost use Rattle.overlay_sweep.specs.LayerLabels.{LabelsByOwnEdges};
 
 pub use bare::{bare_ranks, rank_above};
+pub use counted::{CountedRows, counted_rows};
 pub use counts::pieces_of_edges;
 pub use curves::curves_of_edges;
 pub use darts::forward_dart;

@@ -7,6 +7,6 @@ pub mod SumsByDarts
 mod Turning
 mod RegionRows
 mod CrossedRows
-mod RegionLayers
+pub mod RegionLayers
 pub mod OnceSummed
 pub mod NamesSummed

@@ -4,8 +4,8 @@ ghost use Rattle.plane_graphs.specs.Graph.{edges};
 ghost use Rattle.plane_graphs.specs.Piece.{Present as Pieces};
 ghost use Rattle.set_laws.specs.EvenOdd.{border};
 ghost use Rattle.subdivision_rows.specs.Listed.{skeleton_in};
-ghost use Rattle.polygon_sets.specs.Regions.{dart_ends, IsRegionIn, IsErrorOf, TellsPiecesOf, IsRegionOfLayers, IsErrorOfLayers};
-ghost use Rattle.polygon_sets.specs.Weighted.{weight_by, odd_vertex};
+ghost use Rattle.polygon_sets.specs.Regions.{dart_ends, pieces_on, IsRegionBy, IsErrorBy, AreCountsOf, IsRegionIn, IsErrorOf, TellsPiecesOf, IsRegionOfLayers, IsErrorOfLayers};
+ghost use Rattle.polygon_sets.specs.Weighted.{odd_vertex};
 
 use crate::border::{border_of, point_at};
 use crate::crossed_darts::crossings_of;
@@ -63,7 +63,7 @@ impl Region {
 // The least vertex on whose edges the pieces are odd in number, if there is one. It takes no memory.
 fn open_end(rows: &Rows, counts: &[usize]) -> Option<Point>
     requires { length counts.now ≡ length (edges rows.now.graph) }
-    ensures { result ≡ odd_vertex (skeleton_in rows.now) (weight_by (skeleton_in rows.now) counts.now) }
+    ensures { result ≡ odd_vertex (skeleton_in rows.now) (pieces_on rows.now counts.now) }
 {
     rows.laws();
     let lists = rows.lists();
@@ -83,9 +83,9 @@ fn border_between(
 ) -> Result<Vec<(Point, Point)>, NoMemory>
     requires red { length red.now ≡ length (edges rows.now.graph) }
     requires blue { length blue.now ≡ length (edges rows.now.graph) }
-    requires red_closed { odd_vertex (skeleton_in rows.now) (weight_by (skeleton_in rows.now) red.now) ≡ None }
-    requires blue_closed { odd_vertex (skeleton_in rows.now) (weight_by (skeleton_in rows.now) blue.now) ≡ None }
-    ensures { IfOk result (λ v. v.items ≡ map dart_ends (border op (skeleton_in rows.now) (weight_by (skeleton_in rows.now) red.now) (weight_by (skeleton_in rows.now) blue.now))) }
+    requires red_closed { odd_vertex (skeleton_in rows.now) (pieces_on rows.now red.now) ≡ None }
+    requires blue_closed { odd_vertex (skeleton_in rows.now) (pieces_on rows.now blue.now) ≡ None }
+    ensures { IfOk result (λ v. v.items ≡ map dart_ends (border op (skeleton_in rows.now) (pieces_on rows.now red.now) (pieces_on rows.now blue.now))) }
 {
     rows.laws();
     let lists = rows.lists();
@@ -93,6 +93,46 @@ fn border_between(
     let sets = sets_of(alloc, lists.faces, &crossings)?;
     let found = border_of(alloc, op, &lists.points, &sets, &crossings)?;
     Ok(found)
+}
+
+/// The border of what two layers make as even-odd sets (CGAL manual, Boolean set operations): the darts on whose left the operation
+/// holds and on whose right it doesn't. It reads the subdivision by both layers, and of each of its edges, by its place, how many red
+/// and how many blue pieces hold it.
+///
+/// Six passes over the n darts, with no search and a fixed number of steps for each dart: one for each layer, to see that it is closed;
+/// one that tells what each dart crosses; one that chains the darts of each face; one that crosses each dart once at most, from face to
+/// face, of which there are n + 1 at most; and one that finds the border.
+///
+/// # Errors
+///
+/// A layer isn't closed; red is asked first. Where both are closed there was no memory.
+pub fn region_by(
+    alloc: Global,
+    rows: &Rows,
+    red: &[usize],
+    blue: &[usize],
+    op: Op,
+) -> Result<Region, RegionError>
+    requires red { length red.now ≡ length (edges rows.now.graph) }
+    requires blue { length blue.now ≡ length (edges rows.now.graph) }
+    ensures region { IfOk result (λ r. IsRegionBy op rows.now red.now blue.now r) }
+    ensures error { IfErr result (λ e. IsErrorBy rows.now red.now blue.now e) }
+
+    // The same, of the layers.
+    ensures region_of_layers { (r b : Pieces) → IsFit r → IsFit b → AreCountsOf r b rows.now red.now blue.now → IfOk result (λ x. IsRegionOfLayers op r b x) }
+    ensures error_of_layers { (r b : Pieces) → IsFit r → IsFit b → AreCountsOf r b rows.now red.now blue.now → IfErr result (λ e. IsErrorOfLayers r b e) }
+{
+    rows.laws();
+    if let Some(end) = open_end(rows, red) {
+        return Err(RegionError::Open(Colour::Red, end));
+    }
+    if let Some(end) = open_end(rows, blue) {
+        return Err(RegionError::Open(Colour::Blue, end));
+    }
+    match border_between(alloc, rows, red, blue, op) {
+        Ok(darts) => Ok(Region { darts }),
+        Err(NoMemory) => Err(RegionError::NoMemory),
+    }
 }
 
 /// The border of what both layers of an overlay make as even-odd sets (CGAL manual, Boolean set operations): the darts on whose left
@@ -109,18 +149,7 @@ pub fn region_of(alloc: Global, overlay: &Both, op: Op) -> Result<Region, Region
     ensures region_of_layers { (red blue : Pieces) → IsFit red → IsFit blue → TellsPiecesOf red blue overlay.now → IfOk result (λ r. IsRegionOfLayers op red blue r) }
     ensures error_of_layers { (red blue : Pieces) → IsFit red → IsFit blue → TellsPiecesOf red blue overlay.now → IfErr result (λ e. IsErrorOfLayers red blue e) }
 {
-    let rows = overlay.rows();
-    rows.laws();
     let red = overlay.red_counts();
     let blue = overlay.blue_counts();
-    if let Some(end) = open_end(rows, red) {
-        return Err(RegionError::Open(Colour::Red, end));
-    }
-    if let Some(end) = open_end(rows, blue) {
-        return Err(RegionError::Open(Colour::Blue, end));
-    }
-    match border_between(alloc, rows, red, blue, op) {
-        Ok(darts) => Ok(Region { darts }),
-        Err(NoMemory) => Err(RegionError::NoMemory),
-    }
+    region_by(alloc, overlay.rows(), red, blue, op)
 }

@@ -1,4 +1,4 @@
-use Rattle.std.proofs.Common.{◌≡◌, ◌++◌, drop, length}
+use Rattle.std.proofs.Common.{◌≡◌, ◌++◌, drop}
 use Rattle.overlay_sweep.specs.EdgePieces.{own_counts}
 use Rattle.overlay_sweep.proofs.counts.pieces_of_edges.Given as goal
 

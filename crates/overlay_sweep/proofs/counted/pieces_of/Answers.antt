@@ -8,7 +8,7 @@ use Rattle.overlay_laws.specs.United.{united}
 use Rattle.overlay_laws.proofs.UnitedGraph.{united_plane, united_fit}
 use Rattle.overlay_sweep.specs.LayerGraphs.{ArePiecesFrom}
 use Rattle.overlay_sweep.proofs.UnitedPieces.{red_pieces, blue_pieces}
-use Rattle.overlay_sweep.proofs.join.pieces_of.Goals as goal
+use Rattle.overlay_sweep.proofs.counted.pieces_of.Goals as goal
 
 pub returns-clause-red : goal.returns-clause-red
 returns-clause-red c =
