@@ -1,0 +1,12 @@
+pub mod Digits
+pub mod SpokeLists
+pub mod SpokeOrder
+pub mod KeyOrder
+pub mod Links
+pub mod Rounds
+pub mod RingWalks
+pub mod RingsCut
+pub mod HoleTells
+pub mod RingSides
+pub mod Blocked
+pub mod Ties

@@ -1,0 +1,9 @@
+pub mod Wide
+pub mod Ends
+pub mod Borders
+pub mod Spokes
+pub mod Nexts
+pub mod Cycles
+pub mod Holes
+pub mod Rings
+pub mod Closed

@@ -1,0 +1,40 @@
+-- The rings of a region's boundary.
+use Rattle.std.specs.Prelude.{◌≡◌, ◌<◌, ℕ, Bool, List, length, slice_index_or}
+use Rattle.exact_plane.specs.Point.{Point}
+use Rattle.region_rings.specs.Borders.{IsNextSide}
+use Rattle.region_rings.specs.Cycles.{AreCut, IsAfter}
+use Rattle.region_rings.specs.Holes.{corner_in, AreHoles}
+use Rattle.region_rings.specs.Spokes.{dart_at}
+
+-- the corners of all rings, one ring after another, where each ring ends among them, and which of them are holes
+pub record RingTable : Type 0 where
+  pub points : List Point
+  pub ends : List ℕ
+  pub holes : List Bool
+
+-- each ring has a corner at least and is told to be a hole or not
+pub record IsRingTable (t : RingTable) : Type 0 where
+  pub cut : AreCut (length t.points) t.ends
+  pub told : length t.holes ≡ length t.ends
+
+-- the side from one corner to another
+abbrev pub side : RingTable → ℕ → ℕ → Point × Point
+side t i j = (corner_in t.points i, corner_in t.points j)
+
+-- where a dart begins
+abbrev pub source_at : List (Point × Point) → ℕ → Point
+source_at ds k = (dart_at ds k).0
+
+-- numbers below another
+abbrev pub AreWithin : ℕ → List ℕ → Type 0
+AreWithin n ks = (i : ℕ) → i < length ks → slice_index_or ks i 0 < n
+
+-- the sides of the closed rings are the darts, each once; each side is followed by the next one of the boundary; and holes are told (CGAL manual, polygons with holes)
+pub record AreRingsOf (ds : List (Point × Point)) (t : RingTable) : Type 0 where
+  pub counted : length t.points ≡ length ds
+  pub cut : AreCut (length t.points) t.ends
+  pub sides : (r i j : ℕ) → IsAfter t.ends r i j → (k : ℕ) × (k < length ds) × (dart_at ds k ≡ side t i j)
+  pub all : (k : ℕ) → k < length ds → (r : ℕ) × (i : ℕ) × (j : ℕ) × IsAfter t.ends r i j × (side t i j ≡ dart_at ds k)
+  pub once : (q r i j k l : ℕ) → IsAfter t.ends q i j → IsAfter t.ends r k l → side t i j ≡ side t k l → i ≡ k
+  pub rule : (r i j k : ℕ) → IsAfter t.ends r i j → IsAfter t.ends r j k → IsNextSide ds (side t i j) (side t j k)
+  pub holes : AreHoles t.points t.ends t.holes

@@ -1,0 +1,55 @@
+//! The boundary of a region as closed rings, which is what users of Boolean operations take home (CGAL manual, polygons with holes).
+//!
+//! A region is told by the darts of its border: what is made is on the left of each, and isn't on its right. A ring goes along such
+//! darts. Where one ends, the boundary goes on with the dart that is met first, of all border darts at that vertex, whether they go
+//! out of it or come in, clockwise from the way back:
+//!
+//! ```text
+//!             e   .'                 d comes in from the left, what is made is above it.
+//!             |  f                   The way back points to the left; clockwise from it
+//!    inside   |.'    outside         e is met first, then f. So e follows d: between them
+//!    ---d---> v                      is nothing but the inside, and no part of it is cut off.
+//! ```
+//!
+//! That is the sharpest turn to the left that there is, and what `next` is of the face on the left where the darts within a face are
+//! left out. Where parts of the inside touch at a vertex alone, each is gone round by itself: a ring touches itself or another ring
+//! there, and crosses none. So outer rings go round counterclockwise and holes clockwise. A ring is a hole where it turns wide at its
+//! least corner: the way on from there is met before the way back, clockwise from straight down. Where it passes its least corner
+//! several times, as a hole made of two that touch does, it does so once.
+//!
+//! # What is proved
+//!
+//! `rings_of`, and `rings_along` for any list of darts, say:
+//!
+//! - `sides`, `all`, `once`, `counted`: the sides of the rings, from each corner to the next and from the last to the first, are the
+//!   darts, each in one place of one ring (`cut`: no ring is empty);
+//! - `rule`: each side is followed by the one of which the rule speaks (`IsNextSide`);
+//! - `holes`: a ring is told to be a hole exactly where it turns wide at its least corner (`IsHole`);
+//! - `error`: `RingsError::NotClosed` is answered only of a list that is no closed border (`IsClosedBorder`): two ends of darts at one
+//!   vertex lead in one direction, or a dart isn't followed by any, by the rule. So of a closed border there are rings, or there was
+//!   no memory.
+//!
+//! # What isn't
+//!
+//! It isn't proved that the border of a region is a closed border, which is why `NotClosed` is there. It is one, since going once round
+//! a vertex of a plane graph one comes as often into what is made as out of it. No hole is told its outer ring. That a ring which turns
+//! wide at its least corner is clockwise is the definition here, and isn't compared with an area.
+//!
+//! # How
+//!
+//! Both ends of all darts are sorted by vertex, and round each vertex clockwise from straight down, by quarters and slopes; slopes are
+//! compared by products of 256 bits, since only the points are known. What follows an end is its neighbour in that list, or, after the
+//! last one of a vertex, the first. Then each cycle is walked once. It takes n log n steps for n darts, and no recursion.
+#![tactic(auto)]
+
+mod cycles;
+mod errors;
+mod holes;
+mod nexts;
+mod ratios;
+mod rings;
+mod spokes;
+mod tables;
+
+pub use errors::RingsError;
+pub use rings::{Rings, rings_along, rings_of};

@@ -1,0 +1,137 @@
+ghost use Rattle.std.specs.Prelude.{◌≡◌, ◌<◌, ◌==◌, length, map, slice_index_or, IfOk, IfErr, false};
+ghost use Rattle.region_rings.specs.Closed.{IsErrorOf};
+ghost use Rattle.region_rings.specs.Cycles.{ring_start};
+ghost use Rattle.region_rings.specs.Holes.{ring_of};
+ghost use Rattle.region_rings.specs.Rings.{source_at, AreWithin, AreRingsOf};
+
+use crate::cycles::cycles_of;
+use crate::errors::RingsError;
+use crate::holes::{holes_of, part_of};
+use crate::nexts::nexts_of;
+use crate::spokes::sorted_spokes;
+use crate::tables::number_at;
+use exact_plane::Point;
+use no_memory::NoMemory;
+use polygon_sets::Region;
+use std::alloc::Global;
+use std::marker::Model;
+
+/// The boundary of a region as closed rings (CGAL manual, polygons with holes): what is made is on the left of each ring, so that outer
+/// rings go round counterclockwise, and holes clockwise.
+#[derive(Drop)]
+pub struct Rings {
+    points: Vec<Point>,
+    ends: Vec<usize>,
+    holes: Vec<bool>,
+}
+
+impl Model for Rings {
+    ghost use Rattle.region_rings.specs.Rings.{RingTable, IsRingTable};
+
+    ghost Value = { RingTable };
+
+    ghost view = { λ r. record { points = r.points.items; ends = r.ends.items; holes = r.holes.items } };
+
+    ghost invariant = { λ r. IsRingTable (record { points = r.points.items; ends = r.ends.items; holes = r.holes.items }) };
+}
+
+// Where a ring begins.
+fn start_at(ends: &[usize], ring: usize) -> usize
+    requires { ring < length ends.now }
+    ensures { result ≡ ring_start ends.now ring }
+{
+    if ring == 0 {
+        return 0;
+    }
+    ends[ring - 1]
+}
+
+impl Rings {
+    /// How many rings there are.
+    pub fn len(&self) -> usize
+        ensures { result ≡ length self.now.ends }
+    {
+        self.ends.len()
+    }
+
+    /// Whether there is none, the region being empty.
+    pub fn is_empty(&self) -> bool
+        ensures { result ≡ length self.now.ends == 0 }
+    {
+        self.ends.is_empty()
+    }
+
+    /// The corners of a ring in their order; after the last one comes the first.
+    pub fn ring(&self, ring: usize) -> &[Point]
+        requires { ring < length self.now.ends }
+        ensures { result.now ≡ ring_of self.now.points self.now.ends ring }
+    {
+        let start = start_at(&self.ends, ring);
+        let end = number_at(&self.ends, ring);
+        part_of(&self.points, start, end)
+    }
+
+    /// Whether a ring bounds a hole.
+    pub fn is_hole(&self, ring: usize) -> bool
+        requires { ring < length self.now.ends }
+        ensures { result ≡ slice_index_or self.now.holes ring false }
+    {
+        self.holes[ring]
+    }
+}
+
+fn source_of(darts: &[(Point, Point)], dart: usize) -> Point
+    requires { dart < length darts.now }
+    ensures { result ≡ source_at darts.now dart }
+{
+    darts[dart].0
+}
+
+// The sources of darts.
+fn sources_of(
+    alloc: Global,
+    darts: &[(Point, Point)],
+    order: &[usize],
+) -> Result<Vec<Point>, NoMemory>
+    requires { AreWithin (length darts.now) order.now }
+    ensures { IfOk result (λ v. v.items ≡ map (source_at darts.now) order.now) }
+{
+    let mut points = Vec::with_capacity(alloc, order.len())?;
+    for place in 0..order.len() {
+        points.push(source_of(darts, number_at(order, place)))?;
+    }
+    Ok(points)
+}
+
+/// The rings that the darts of a border make. It takes n log n steps for n darts.
+///
+/// # Errors
+///
+/// The darts aren't a closed border, or there was no memory.
+pub fn rings_along(alloc: Global, darts: &[(Point, Point)]) -> Result<Rings, RingsError>
+    ensures rings { IfOk result (AreRingsOf darts.now) }
+    ensures error { IfErr result (IsErrorOf darts.now) }
+{
+    let spokes = sorted_spokes(alloc, darts)?;
+    let nexts = nexts_of(alloc, darts, &spokes)?;
+    let cycles = cycles_of(alloc, &nexts)?;
+    let points = sources_of(alloc, darts, &cycles.order)?;
+    let holes = holes_of(alloc, &points, &cycles.ends)?;
+    Ok(Rings {
+        points,
+        ends: cycles.ends,
+        holes,
+    })
+}
+
+/// The rings of a region (CGAL manual, Boolean set operations: polygons with holes).
+///
+/// # Errors
+///
+/// The darts aren't a closed border, which isn't proved never to come of a region, or there was no memory.
+pub fn rings_of(alloc: Global, region: &Region) -> Result<Rings, RingsError>
+    ensures rings { IfOk result (AreRingsOf region.now) }
+    ensures error { IfErr result (IsErrorOf region.now) }
+{
+    rings_along(alloc, region.darts())
+}
