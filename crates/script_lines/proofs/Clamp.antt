@@ -1,6 +1,6 @@
 -- Numbers make the same points, the same curve's or observer's number or the same segment or path, whether or not they are kept at the limit.
 use Rattle.std.proofs.Common.{◌≡◌, ℕ, zero, suc, ◌<◌, Bool, true, false, cond, leb, ltb, ℤ, pos, negsuc, List, [], ◌∷◌, None, Ok, Err, refl, sym, ap, ap₂, ◌∙◌, arith}
-use Rattle.std.specs.Prelude.{◌&&◌, map, take, drop, unsigned_abs, neg_ℤ}
+use Rattle.std.specs.Prelude.{◌&&◌, map, take, drop, unsigned_abs, neg_ℤ, option_map}
 use Rattle.std.specs.List.{list_all}
 use Rattle.std.proofs.Math.Bool.{and-false}
 use Rattle.std.proofs.lemmas.Bool.{and_parts, leb-true, le-leb, leb-false, lt-leb}
@@ -14,9 +14,10 @@ use Rattle.exact_plane.specs.declared.bounds.TheConstants.{MAX_COORDINATE}
 use Rattle.exact_plane.specs.Segment.{AreCoordinates, is_coordinate, are_coordinates}
 use Rattle.exact_plane.proofs.Lowest.{Sizes, sizes, from_sizes}
 use Rattle.exact_plane.proofs.Wholes.{are_coordinates-is}
+use Rattle.script_lines.specs.declared.command.Command.TheVariants.{Batch}
 use Rattle.script_lines.specs.declared.number.TheConstants.{NUMBER_LIMIT}
 use Rattle.script_lines.specs.Number.{limited_size, limited_number}
-use Rattle.script_lines.specs.Command.{point_from, pair_from, triple_from, number_to, curve_from, observer_from, observer_at_from, segment_from, path_from}
+use Rattle.script_lines.specs.Command.{point_from, pair_from, triple_from, number_to, curve_from, observer_from, observer_at_from, segment_from, path_from, batch_from, batch_made}
 use Rattle.integers.proofs.Tests.{not_true}
 
 size-neg : (n : ℕ) → unsigned_abs (neg_ℤ (pos n)) ≡ n
@@ -82,6 +83,16 @@ pair_from-limited_number zs = rw (take-map limited_number 3 zs, drop-map limited
 
 pub triple_from-limited_number : (zs : List ℤ) → triple_from (map limited_number zs) ≡ triple_from zs
 triple_from-limited_number zs = rw (take-map limited_number 6 zs, drop-map limited_number 6 zs, pair_from-limited_number (take 6 zs), point_from-limited_number (drop 6 zs)) refl
+
+-- a batch of them
+batch_from-limited_number : (zs : List ℤ) → batch_from (map limited_number zs) ≡ batch_from zs
+batch_from-limited_number [] = refl
+batch_from-limited_number (x ∷ []) = refl
+batch_from-limited_number (x ∷ y ∷ []) = refl
+batch_from-limited_number (x ∷ y ∷ w ∷ zs) = rw (same_point x y w, batch_from-limited_number zs) refl
+
+pub batch_made-limited_number : (zs : List ℤ) → batch_made (map limited_number zs) ≡ batch_made zs
+batch_made-limited_number zs = ap (option_map Batch) (batch_from-limited_number zs)
 
 -- whether a size is within a bound below the limit doesn't change when it is kept at the limit
 bound_by : (n greatest : ℕ) (t : Bool) → greatest < NUMBER_LIMIT → leb n greatest ≡ t → leb (limited_size n) greatest ≡ t

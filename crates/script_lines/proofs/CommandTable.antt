@@ -5,11 +5,11 @@ use Rattle.std.specs.List.{list_all}
 use Rattle.std.proofs.lemmas.Slice.Eq.{bytes_eq-Decides}
 use Rattle.exact_plane.specs.Segment.{is_coordinate, are_coordinates}
 use Rattle.script_lines.specs.declared.command.Command.{Command}
-use Rattle.script_lines.specs.declared.command.Command.TheVariants.{Nothing, Segment, Path, Drop, Cut, Pin, Unpin, Split, Merge, Locate, Edge, Curve, Attach, Leave, Mirror}
+use Rattle.script_lines.specs.declared.command.Command.TheVariants.{Nothing, Segment, Path, Drop, Cut, Pin, Unpin, Split, Merge, Locate, Edge, Curve, Batch, Attach, Leave, Mirror}
 use Rattle.script_lines.specs.declared.name.Name.{Name}
 use Rattle.script_lines.specs.declared.name.Name.TheVariants as name
 use Rattle.script_lines.specs.Form.{Form, form_map}
-use Rattle.script_lines.specs.Command.{segment_from, pairs, path_form, point_form, pair_form, triple_form, curve_form, observer_form, observer_when_forms, row_of, names, name_of, is_comment}
+use Rattle.script_lines.specs.Command.{segment_from, pairs, path_form, batch_form, batch_from, point_form, pair_form, triple_form, curve_form, observer_form, observer_when_forms, row_of, names, name_of, is_comment}
 use Rattle.script_lines.proofs.ListTests.{find-passes}
 
 -- each name is found by how it is spelt
@@ -29,6 +29,10 @@ name_of-name name.Curve = refl
 name_of-name name.Count = refl
 name_of-name name.Show = refl
 name_of-name name.Overlay = refl
+name_of-name name.Region = refl
+name_of-name name.Vertical = refl
+name_of-name name.Batch = refl
+name_of-name name.Envelope = refl
 name_of-name name.Attach = refl
 name_of-name name.Leave = refl
 name_of-name name.Mirror = refl
@@ -51,6 +55,10 @@ no_comment name.Curve = refl
 no_comment name.Count = refl
 no_comment name.Show = refl
 no_comment name.Overlay = refl
+no_comment name.Region = refl
+no_comment name.Vertical = refl
+no_comment name.Batch = refl
+no_comment name.Envelope = refl
 no_comment name.Attach = refl
 no_comment name.Leave = refl
 no_comment name.Mirror = refl
@@ -81,6 +89,10 @@ path_asks : (counts : List ℕ) → AskFor (map path_form counts)
 path_asks [] = tt
 path_asks (count ∷ counts) = (λ numbers e. path_by (list_all is_coordinate numbers) (pairs numbers) e, path_asks counts)
 
+batch_asks : (counts : List ℕ) → AskFor (map batch_form counts)
+batch_asks [] = tt
+batch_asks (count ∷ counts) = (λ numbers e. mapped Batch (λ points h. cc) (batch_from numbers) e, batch_asks counts)
+
 mapped_asks : {A : Type 0} (f : A → Command) (forms : List (Form A)) → ((x : A) → f x ≡ Nothing → ⊥) → AskFor (map (form_map f) forms)
 mapped_asks f [] other = tt
 mapped_asks f (form ∷ forms) other = (λ numbers e. mapped f other (form.made numbers) e, mapped_asks f forms other)
@@ -101,6 +113,10 @@ ask_for name.Curve = mapped_asks Curve (curve_form ∷ []) (λ c h. cc)
 ask_for name.Count = (λ numbers e. cc, tt)
 ask_for name.Show = (λ numbers e. cc, tt)
 ask_for name.Overlay = (λ numbers e. cc, tt)
+ask_for name.Region = (λ numbers e. cc, (λ numbers e. cc, (λ numbers e. cc, (λ numbers e. cc, tt))))
+ask_for name.Vertical = (λ numbers e. cc, tt)
+ask_for name.Batch = batch_asks (3 ∷ 6 ∷ 9 ∷ 12 ∷ 15 ∷ 18 ∷ 21 ∷ 24 ∷ [])
+ask_for name.Envelope = (λ numbers e. cc, (λ numbers e. cc, tt))
 ask_for name.Attach = mapped_asks (λ entry. Attach entry.0 entry.1) observer_when_forms (λ entry h. cc)
 ask_for name.Leave = mapped_asks (λ entry. Leave entry.0 entry.1) observer_when_forms (λ entry h. cc)
 ask_for name.Mirror = mapped_asks Mirror (observer_form ∷ []) (λ i h. cc)

@@ -1,16 +1,17 @@
 -- What a form of so many numbers makes of words, by their numbers.
-use Rattle.std.proofs.Common.{◌≡◌, ℕ, zero, suc, Bool, true, false, cond, eqb, ℤ, List, [], ◌∷◌, length, Option, Some, None, Result, Ok, Err, refl, sym, ap, ◌∙◌}
+use Rattle.std.proofs.Common.{◌≡◌, ℕ, zero, suc, Bool, true, false, cond, eqb, ℤ, List, [], ◌∷◌, ◌++◌, length, Option, Some, None, Result, Ok, Err, refl, sym, ap, ◌∙◌}
 use Rattle.std.specs.Prelude.{map, filter_map, ok_or, replicate}
-use Rattle.std.specs.List.{list_all}
+use Rattle.std.specs.List.{list_all, list_any}
 use Rattle.std.specs.Cmp.Lexicographic.{pointwise}
 use Rattle.std.proofs.Math.Bool.{and-false, or-false}
 use Rattle.std.proofs.Math.Dec.{eqb-zero-suc, eqb-suc-zero, eqb-suc-suc}
-use Rattle.std.proofs.lemmas.Bool.{eqb-true}
+use Rattle.std.proofs.lemmas.Bool.{eqb-true, or_parts}
 use Rattle.std.proofs.lemmas.List.{length-replicate}
 use Rattle.script_lines.specs.declared.error.LineError.{LineError}
 use Rattle.script_lines.specs.declared.error.LineError.TheVariants.{Count, Number, Range}
 use Rattle.script_lines.specs.Number.{number_of, is_number, limited_number}
-use Rattle.script_lines.specs.Form.{Numeral, Form, is_at, number_words, numbers_reading, form_reading, forms_reading, numbers_of}
+use Rattle.script_lines.specs.Form.{Numeral, Form, is_at, has_count, number_words, numbers_reading, form_reading, forms_reading, numbers_of}
+use Rattle.script_lines.proofs.FormAnswers.{forms_reading-without}
 
 -- so many words fit so many places of numbers
 pointwise-numerals : (n : ℕ) (ws : List (List ℕ)) → pointwise is_at (replicate n Numeral) ws ≡ eqb (length ws) n
@@ -59,6 +60,32 @@ module _ {A : Type 0} (n : ℕ) (made : List ℤ → Option A) (ws : List (List 
   forms_reading-ok blind zs is =
       forms_reading-numbers ∙ by_ok (eqb (length ws) n) (list_all is_number ws) (ok_or (made (filter_map number_of ws)) Range) (ok_or (made zs) Range) (map limited_number (filter_map number_of ws)) zs is
       (λ (same : map limited_number (filter_map number_of ws) ≡ zs). ap (λ (o : Option A). ok_or o Range) (sym (blind (filter_map number_of ws)) ∙ ap made same))
+
+-- of forms of several counts only the one counts that has as many numbers as there are words
+module _ {A : Type 0} (made : List ℤ → Option A) (ws : List (List ℕ)) where
+  abbrev form : ℕ → Form A
+  form n = record { places = replicate n Numeral; made = made }
+
+  apart : (n : ℕ) → eqb (length ws) n ≡ false → has_count ws (form n) ≡ false
+  apart n e = rw (length-replicate n Numeral) e
+
+  before-apart : (counts : List ℕ) (rest : List (Form A)) → list_any (eqb (length ws)) counts ≡ false → forms_reading (map form counts ++ rest) ws ≡ forms_reading rest ws
+  before-apart [] rest e = refl
+  before-apart (n ∷ counts) rest e =
+      let parts = or_parts (eqb (length ws) n) (list_any (eqb (length ws)) counts) e in
+      forms_reading-without ws (form n) (apart n parts.0) [] (map form counts ++ rest) ∙ before-apart counts rest parts.1
+
+  after-apart : (first : Form A) (counts : List ℕ) → list_any (eqb (length ws)) counts ≡ false → forms_reading (first ∷ map form counts) ws ≡ forms_reading (first ∷ []) ws
+  after-apart first [] e = refl
+  after-apart first (n ∷ counts) e =
+      let parts = or_parts (eqb (length ws) n) (list_any (eqb (length ws)) counts) e in
+      forms_reading-without ws (form n) (apart n parts.0) (first ∷ []) (map form counts) ∙ after-apart first counts parts.1
+
+  pub forms_reading-chosen : (before : List ℕ) (n : ℕ) (after : List ℕ) → length ws ≡ n → list_any (eqb n) before ≡ false → list_any (eqb n) after ≡ false
+      → forms_reading (map form before ++ form n ∷ map form after) ws ≡ forms_reading (form n ∷ []) ws
+  forms_reading-chosen before n after count e f =
+      before-apart before (form n ∷ map form after) (ap (λ (m : ℕ). list_any (eqb m) before) count ∙ e)
+      ∙ after-apart (form n) after (ap (λ (m : ℕ). list_any (eqb m) after) count ∙ f)
 
 -- what two words make as numbers
 module _ {A : Type 0} (made : List ℤ → Option A) (first second : List ℕ) where

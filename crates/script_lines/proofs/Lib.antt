@@ -8,6 +8,9 @@ pub mod FormMaps
 pub mod LongLine
 pub mod ListTests
 pub mod FormAnswers
+pub mod FilledMore
 pub mod PathNumbers
+pub mod BatchNumbers
+pub mod RegionWords
 pub mod CommandTable
 pub mod LineAnswers

@@ -3,14 +3,16 @@ use Rattle.std.specs.Prelude.{ℕ, ℤ, pos, negsuc, ◌&&◌, Bool, false, List
 use Rattle.std.specs.List.{list_all}
 use Rattle.std.specs.Option.{option_zip}
 use Rattle.std.specs.Result.{result_ok}
+use Rattle.envelope_laws.specs.declared.which.Which.TheVariants.{Lower, Upper}
 use Rattle.exact_plane.specs.Point.{Point}
 use Rattle.exact_plane.specs.PointOf.{point_of}
 use Rattle.exact_plane.specs.Segment.{is_coordinate, are_coordinates}
+use Rattle.set_laws.specs.declared.op.Op.TheVariants.{Union, Intersection, Difference, Symmetric}
 use Rattle.script_lines.specs.declared.command.TheConstants.{MAX_LINE}
 use Rattle.script_lines.specs.declared.error.LineError.{LineError}
 use Rattle.script_lines.specs.declared.error.LineError.TheVariants.{Word, Long, Byte}
 use Rattle.script_lines.specs.declared.command.Command.{Command}
-use Rattle.script_lines.specs.declared.command.Command.TheVariants.{Nothing, Segment, Path, Drop, Cut, Pin, Unpin, Split, Merge, Clear, Locate, Edge, Curve, Count, Show, Overlay, Attach, Leave, Mirror, LayerRed, LayerBlue}
+use Rattle.script_lines.specs.declared.command.Command.TheVariants.{Nothing, Segment, Path, Drop, Cut, Pin, Unpin, Split, Merge, Clear, Locate, Edge, Curve, Count, Show, Overlay, Region, Vertical, Batch, Envelope, Attach, Leave, Mirror, LayerRed, LayerBlue}
 use Rattle.script_lines.specs.declared.name.Name.{Name}
 use Rattle.script_lines.specs.declared.name.Name.TheVariants as name
 use Rattle.script_lines.specs.Words.{words}
@@ -85,6 +87,23 @@ path_form count = record { places = replicate count Numeral; made = path_from }
 abbrev pub path_forms : List (Form Command)
 path_forms = map path_form (4 ∷ 6 ∷ 8 ∷ 10 ∷ 12 ∷ 14 ∷ 16 ∷ 18 ∷ [])
 
+-- points, by three numbers each, where all are in range
+abbrev pub batch_from : List ℤ → Option (List Point)
+batch_from (x ∷ y ∷ w ∷ numbers) = option_map (λ both. both.0 ∷ both.1) (option_zip (point_from (x ∷ y ∷ w ∷ [])) (batch_from numbers))
+batch_from other = Some []
+
+-- a batch of them
+abbrev pub batch_made : List ℤ → Option Command
+batch_made numbers = option_map Batch (batch_from numbers)
+
+-- a batch of so many numbers
+abbrev pub batch_form : ℕ → Form Command
+batch_form count = record { places = replicate count Numeral; made = batch_made }
+
+-- one to eight points, `X Y W .. X Y W`
+abbrev pub batch_forms : List (Form Command)
+batch_forms = map batch_form (3 ∷ 6 ∷ 9 ∷ 12 ∷ 15 ∷ 18 ∷ 21 ∷ 24 ∷ [])
+
 -- an observer's number
 abbrev pub observer_from : List ℤ → Option ℕ
 observer_from (i ∷ []) = number_to 64 i
@@ -115,6 +134,14 @@ word_form text x = record { places = Fixed text ∷ []; made = λ numbers. Some 
 abbrev pub layer_forms : List (Form Command)
 layer_forms = word_form (codes "red") LayerRed ∷ word_form (codes "blue") LayerBlue ∷ []
 
+-- how the sets of the layers make one, `union`, `intersection`, `difference` or `symmetric`
+abbrev pub region_forms : List (Form Command)
+region_forms = word_form (codes "union") (Region Union) ∷ word_form (codes "intersection") (Region Intersection) ∷ word_form (codes "difference") (Region Difference) ∷ word_form (codes "symmetric") (Region Symmetric) ∷ []
+
+-- an envelope, `lower` or `upper`
+abbrev pub envelope_forms : List (Form Command)
+envelope_forms = word_form (codes "lower") (Envelope Lower) ∷ word_form (codes "upper") (Envelope Upper) ∷ []
+
 -- a row of the table of commands: a name, and the forms of the words after it
 pub record Row : Type 0 where
   pub name : List ℕ
@@ -140,13 +167,17 @@ row_of name.Curve = row (codes "curve") (form_map Curve curve_form ∷ [])
 row_of name.Count = row (codes "count") (empty_form Count ∷ [])
 row_of name.Show = row (codes "show") (empty_form Show ∷ [])
 row_of name.Overlay = row (codes "overlay") (empty_form Overlay ∷ [])
+row_of name.Region = row (codes "region") region_forms
+row_of name.Vertical = row (codes "vertical") (empty_form Vertical ∷ [])
+row_of name.Batch = row (codes "batch") batch_forms
+row_of name.Envelope = row (codes "envelope") envelope_forms
 row_of name.Attach = row (codes "attach") (map (form_map (λ entry. Attach entry.0 entry.1)) observer_when_forms)
 row_of name.Leave = row (codes "leave") (map (form_map (λ entry. Leave entry.0 entry.1)) observer_when_forms)
 row_of name.Mirror = row (codes "mirror") (form_map Mirror observer_form ∷ [])
 row_of name.Layer = row (codes "layer") layer_forms
 
 abbrev pub names : List Name
-names = name.Segment ∷ name.Path ∷ name.Drop ∷ name.Cut ∷ name.Pin ∷ name.Unpin ∷ name.Split ∷ name.Merge ∷ name.Clear ∷ name.Locate ∷ name.Edge ∷ name.Curve ∷ name.Count ∷ name.Show ∷ name.Overlay ∷ name.Attach ∷ name.Leave ∷ name.Mirror ∷ name.Layer ∷ []
+names = name.Segment ∷ name.Path ∷ name.Drop ∷ name.Cut ∷ name.Pin ∷ name.Unpin ∷ name.Split ∷ name.Merge ∷ name.Clear ∷ name.Locate ∷ name.Edge ∷ name.Curve ∷ name.Count ∷ name.Show ∷ name.Overlay ∷ name.Region ∷ name.Vertical ∷ name.Batch ∷ name.Envelope ∷ name.Attach ∷ name.Leave ∷ name.Mirror ∷ name.Layer ∷ []
 
 -- the name that a word spells
 abbrev pub name_of : List ℕ → Option Name

@@ -4,4 +4,6 @@ pub mod Number
 pub mod Form
 pub mod Command
 pub mod Refusals
+pub mod Filled
 pub mod PathPoints
+pub mod BatchPoints

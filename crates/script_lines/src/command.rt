@@ -7,12 +7,15 @@ ghost use Rattle.script_lines.specs.Refusals.{IsOtherByte, IsText, IsSilent, IsN
 
 use crate::error::LineError;
 use crate::form::{
-    bare_command, curve, layer, observer, observer_when, pair, path, point, segment, triple,
+    bare_command, batch, curve, envelope, layer, observer, observer_when, pair, path, point,
+    region, segment, triple,
 };
 use crate::name::Name;
-use crate::points::PathPoints;
+use crate::points::{BatchPoints, PathPoints};
 use crate::words::next_word;
+use envelope_laws::Which;
 use exact_plane::Point;
+use set_laws::Op;
 
 /// How many bytes a line may have. A longer one is refused whatever it says.
 pub const MAX_LINE: usize = 300;
@@ -52,6 +55,14 @@ pub enum Command {
     Show,
     /// `overlay`: the text of the overlay of both layers.
     Overlay,
+    /// `region union`, `region intersection`, `region difference` or `region symmetric`: the border of what the layers' sets make.
+    Region(Op),
+    /// `vertical`: what is directly above and below each vertex.
+    Vertical,
+    /// `batch X Y W .. X Y W`: which cells hold one to eight points.
+    Batch(BatchPoints),
+    /// `envelope lower` or `envelope upper`: the envelope of the edges.
+    Envelope(Which),
     /// `attach i`: observer i joins now; `attach i at n`: in the n-th round from now.
     Attach(u32, Option<u32>),
     /// `leave i`: observer i leaves now; `leave i at n`: in the n-th round from now.
@@ -84,6 +95,10 @@ fn read_named(name: Name, rest: &[u8]) -> Result<Command, LineError>
         Name::Count => bare_command(rest, Command::Count),
         Name::Show => bare_command(rest, Command::Show),
         Name::Overlay => bare_command(rest, Command::Overlay),
+        Name::Region => region(rest),
+        Name::Vertical => bare_command(rest, Command::Vertical),
+        Name::Batch => batch(rest),
+        Name::Envelope => envelope(rest),
         Name::Attach => observer_when(rest).map(|(i, n)| Command::Attach(i, n)),
         Name::Leave => observer_when(rest).map(|(i, n)| Command::Leave(i, n)),
         Name::Mirror => observer(rest).map(Command::Mirror),
@@ -130,7 +145,9 @@ fn read(line: &[u8]) -> Result<Command, LineError>
 /// or an optional `-`, a digit 1 to 9 and any digits, however many. A point is three numbers
 /// `X Y W`, which needn't be in lowest terms; where a command has several points, any of them may
 /// be equal. A segment is four numbers `x1 y1 x2 y2`, and its two ends may be one point. A path is
-/// 4, 6, .. or 18 numbers `x0 y0 x1 y1 .. xk yk`, and any of its points may be equal. A curve's
+/// 4, 6, .. or 18 numbers `x0 y0 x1 y1 .. xk yk`, and any of its points may be equal. A batch is
+/// 3, 6, .. or 24 numbers `X Y W .. X Y W`, one to eight points. Behind `region` stands `union`,
+/// `intersection`, `difference` or `symmetric`, and behind `envelope` `lower` or `upper`. A curve's
 /// number is from 1 to 4294967295, an observer's from 1 to 64 and a round's from 1 to 1000000. A
 /// line without words, or whose first word begins with `#`, is [`Command::Nothing`]. Where a line
 /// is refused for several reasons, [`LineError`] says which one is given.

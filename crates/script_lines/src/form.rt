@@ -3,14 +3,16 @@ ghost use Rattle.std.specs.List.{list_all};
 ghost use Rattle.exact_plane.specs.Segment.{is_coordinate, are_coordinates};
 ghost use Rattle.script_lines.specs.Words.{words};
 ghost use Rattle.script_lines.specs.Form.{forms_reading, numbers_reading, numbers_of};
-ghost use Rattle.script_lines.specs.Command.{empty_form, point_form, point_from, pair_form, pair_from, triple_form, triple_from, number_to, curve_form, curve_from, observer_form, observer_from, observer_at_form, observer_at_from, observer_when_forms, segment_form, segment_from, pairs, path_form, path_forms, path_from, layer_forms};
+ghost use Rattle.script_lines.specs.Command.{empty_form, point_form, point_from, pair_form, pair_from, triple_form, triple_from, number_to, curve_form, curve_from, observer_form, observer_from, observer_at_form, observer_at_from, observer_when_forms, segment_form, segment_from, pairs, path_form, path_forms, path_from, batch_from, batch_made, batch_form, batch_forms, layer_forms, region_forms, envelope_forms};
 
 use crate::command::Command;
 use crate::error::LineError;
 use crate::number::read_number;
-use crate::points::PathPoints;
+use crate::points::{BatchPoints, PathPoints};
 use crate::words::{count_words, next_word, only_word, three_words};
+use envelope_laws::Which;
 use exact_plane::{MAX_COORDINATE, Point};
+use set_laws::Op;
 
 // The greatest number of an observer.
 const MAX_OBSERVER: u32 = 64;
@@ -264,6 +266,55 @@ pub fn path(line: &[u8]) -> Result<Command, LineError>
     }
 }
 
+// The points of the numbers of a batch, three each, where all are in range.
+fn batch_from(numbers: &[i128]) -> Option<BatchPoints>
+    requires { length numbers.now ≤ 24 }
+    ensures { result ≡ batch_from numbers.now }
+{
+    let mut points = BatchPoints::new();
+    let mut rest = numbers;
+    while rest.len() >= 3 {
+        let (front, behind) = rest.split_at(3);
+        points.push(point_from(front)?);
+        rest = behind;
+    }
+    Some(points)
+}
+
+// The batch command of the numbers of its points, where they are in range.
+fn batch_command(numbers: &[i128]) -> Option<Command>
+    requires { length numbers.now ≤ 24 }
+    ensures { result ≡ batch_made numbers.now }
+{
+    batch_from(numbers).map(Command::Batch)
+}
+
+// The batch command of a line of so many numbers.
+fn batch_of<const N: usize>(line: &[u8]) -> Result<Command, LineError>
+    requires { N ≤ 24 }
+    ensures { result ≡ forms_reading (batch_form N ∷ []) (words line.now) }
+{
+    let numbers = numbers::<N>(line)?;
+    batch_command(&numbers).ok_or(LineError::Range)
+}
+
+/// The command of a line `X Y W .. X Y W` of one to eight points, of which some may be equal.
+pub fn batch(line: &[u8]) -> Result<Command, LineError>
+    ensures { result ≡ forms_reading batch_forms (words line.now) }
+{
+    match count_words(line) {
+        3 => batch_of::<3>(line),
+        6 => batch_of::<6>(line),
+        9 => batch_of::<9>(line),
+        12 => batch_of::<12>(line),
+        15 => batch_of::<15>(line),
+        18 => batch_of::<18>(line),
+        21 => batch_of::<21>(line),
+        24 => batch_of::<24>(line),
+        _ => Err(LineError::Count),
+    }
+}
+
 /// The command of a line `red` or `blue`.
 pub fn layer(line: &[u8]) -> Result<Command, LineError>
     ensures { result ≡ forms_reading layer_forms (words line.now) }
@@ -272,6 +323,48 @@ pub fn layer(line: &[u8]) -> Result<Command, LineError>
         None => Err(LineError::Count),
         Some(b"red") => Ok(Command::LayerRed),
         Some(b"blue") => Ok(Command::LayerBlue),
+        Some(_) => Err(LineError::Word),
+    }
+}
+
+// The command of the one word behind `region`. Whole words are compared: by a `match`, each byte of each word would be a case of
+// the refusal.
+fn region_of(word: &[u8]) -> Result<Command, LineError>
+    ensures { result ≡ forms_reading region_forms (word.now ∷ []) }
+{
+    if "union".as_bytes() == word {
+        return Ok(Command::Region(Op::Union));
+    }
+    if "intersection".as_bytes() == word {
+        return Ok(Command::Region(Op::Intersection));
+    }
+    if "difference".as_bytes() == word {
+        return Ok(Command::Region(Op::Difference));
+    }
+    if "symmetric".as_bytes() == word {
+        return Ok(Command::Region(Op::Symmetric));
+    }
+    Err(LineError::Word)
+}
+
+/// The command of a line `union`, `intersection`, `difference` or `symmetric`.
+pub fn region(line: &[u8]) -> Result<Command, LineError>
+    ensures { result ≡ forms_reading region_forms (words line.now) }
+{
+    match only_word(line) {
+        None => Err(LineError::Count),
+        Some(word) => region_of(word),
+    }
+}
+
+/// The command of a line `lower` or `upper`.
+pub fn envelope(line: &[u8]) -> Result<Command, LineError>
+    ensures { result ≡ forms_reading envelope_forms (words line.now) }
+{
+    match only_word(line) {
+        None => Err(LineError::Count),
+        Some(b"lower") => Ok(Command::Envelope(Which::Lower)),
+        Some(b"upper") => Ok(Command::Envelope(Which::Upper)),
         Some(_) => Err(LineError::Word),
     }
 }

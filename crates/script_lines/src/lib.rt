@@ -16,4 +16,4 @@ mod words;
 pub use command::{Command, MAX_LINE, read_line};
 pub use error::LineError;
 pub use number::{NUMBER_LIMIT, read_number};
-pub use points::PathPoints;
+pub use points::{BatchPoints, PathPoints};

@@ -19,6 +19,10 @@ pub enum Name {
     Count,
     Show,
     Overlay,
+    Region,
+    Vertical,
+    Batch,
+    Envelope,
     Attach,
     Leave,
     Mirror,
@@ -26,7 +30,7 @@ pub enum Name {
 }
 
 // Every name.
-const NAMES: [Name; 19] = [
+const NAMES: [Name; 23] = [
     Name::Segment,
     Name::Path,
     Name::Drop,
@@ -42,6 +46,10 @@ const NAMES: [Name; 19] = [
     Name::Count,
     Name::Show,
     Name::Overlay,
+    Name::Region,
+    Name::Vertical,
+    Name::Batch,
+    Name::Envelope,
     Name::Attach,
     Name::Leave,
     Name::Mirror,
@@ -69,6 +77,10 @@ impl Name {
             Name::Count => "count",
             Name::Show => "show",
             Name::Overlay => "overlay",
+            Name::Region => "region",
+            Name::Vertical => "vertical",
+            Name::Batch => "batch",
+            Name::Envelope => "envelope",
             Name::Attach => "attach",
             Name::Leave => "leave",
             Name::Mirror => "mirror",
