@@ -8,13 +8,17 @@ use Rattle.plane_graphs.specs.Graph.{Mark, graph, mark, mark_cmp}
 use Rattle.edit_steps.specs.Layer.{empty_layer}
 use Rattle.slab_laws.specs.declared.names.CurveId.{CurveId}
 use Rattle.slab_laws.specs.declared.names.DartId.{DartId}
-use Rattle.slab_laws.specs.Sound.{points_of}
-use Rattle.slab_laws.specs.Text.{graph_text, present_text}
+use Rattle.slab_laws.specs.Sound.{points_of, skeleton_of}
+use Rattle.slab_laws.specs.Text.{graph_text, present_text, skeleton}
 use Rattle.slab_laws.specs.View.{View, dart_id, point_in, source_in, target_in, twin_in, curve_id}
+use Rattle.vertical_laws.specs.VerticalText.{vertical_text}
+use Rattle.envelope_laws.specs.EnvelopeText.{envelope_text, outline_text}
+use Rattle.envelope_laws.specs.declared.which.Which.{Which}
 use Rattle.arr_notes.specs.ViewChanges.{no_rows}
 use Rattle.arr_notes.specs.Curves.{Curves, is_forward, IsForward}
 use Rattle.arr_notes.proofs.Names.{numbers_of as numbers}
 use Rattle.arr_notes.specs.RecordGraph.{drawn_graph, marks_along}
+use Rattle.sound_views.proofs.GraphDrawn.{graphs_are_drawn}
 use Rattle.curve_history.specs.Past.{Past, curves_on, SameLayer, SameCurves}
 use Rattle.curve_history.specs.DrawnRecords.{curves_in, forward_of}
 use Rattle.curve_history.proofs.Facing.{lists_read}
@@ -69,10 +73,23 @@ module _ (v : View) (p : Past) (w : View) (q : Past) (e : w ≡ v) (f : q ≡ p)
   pub drawn_layer : IsLayer w q
   drawn_layer = subst (λ z. IsLayer z q) (sym e) (subst (IsLayer v) (sym f) l)
 
--- ---- the text that both tell
+-- the plane graph that the records draw is that of the present
+pub skeleton_told : (v : View) (p : Past) → IsLayer v p → skeleton_of v ≡ skeleton (graph (layer_of v p).present)
+skeleton_told v p l = sym (graphs_are_drawn v (curves_on p) l.sound l.curves) ∙ ap skeleton l.stands
+
+-- ---- the texts that both tell
 pub told_text : (v : View) (p : Past) → IsLayer v p → text_in v (curves_in v p) ≡ present_text (layer_of v p).present
 unfolding present_text
 told_text v p l = records_tell_their_graph v (curves_on p) (curves_in v p) l.sound l.curves (lists_read v p) ∙ ap graph_text l.stands
+
+-- that of what is directly above and below each vertex
+pub told_vertical : (v : View) (p : Past) → IsLayer v p → vertical_text (skeleton_of v) ≡ vertical_text (skeleton (graph (layer_of v p).present))
+told_vertical v p l = ap vertical_text (skeleton_told v p l)
+
+-- that of an envelope
+pub told_envelope : (w : Which) (v : View) (p : Past) → IsLayer v p → outline_text w (drawn_graph v (curves_on p)) ≡ envelope_text w (layer_of v p).present
+unfolding envelope_text
+told_envelope w v p l = ap (outline_text w) l.stands
 
 no_numbers : (ns : List ℕ) → map curve_id ns ≡ [] → ns ≡ []
 no_numbers [] e = refl

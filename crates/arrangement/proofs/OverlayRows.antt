@@ -11,12 +11,11 @@ use Rattle.plane_graphs.specs.Plane.{IsPlane}
 use Rattle.slab_laws.specs.Darts.{Dart}
 use Rattle.slab_laws.specs.FacesSound.{IsSound}
 use Rattle.slab_laws.specs.Layers.{rows_of}
-use Rattle.set_laws.specs.PolygonSets.{pieces_along}
-use Rattle.slab_laws.specs.Overlay.{both, overlay, overlay_skeleton, curves_along, label}
+use Rattle.slab_laws.specs.Overlay.{both, overlay, curves_along, label}
 use Rattle.slab_laws.specs.OverlayText.{presents_text}
 use Rattle.slab_laws.specs.Rows.{dart_list, no_dart, dart_at, edge_place}
 use Rattle.slab_laws.specs.Skeleton.{Skeleton, same_point, same_edge}
-use Rattle.slab_laws.specs.Subdivision.{Subdivision, subdivision, first_cell}
+use Rattle.slab_laws.specs.Subdivision.{subdivision, first_cell}
 use Rattle.slab_faces.proofs.Member.{in_member}
 use Rattle.slab_faces.proofs.Places.{edges_exact}
 use Rattle.sound_views.proofs.ListedPlaces.{at_place}
@@ -33,7 +32,6 @@ use Rattle.arr_text.specs.LayerTexts.{ArePinsOf, TellsLayer}
 use Rattle.arr_text.specs.Reading.{overlay_text_in}
 use Rattle.arr_text.proofs.Assembly.{graph_is}
 use Rattle.arr_text.proofs.LayerTexts.{overlay_text_is_the_layers}
-use Rattle.polygon_sets.specs.Regions.{TellsPiecesOf}
 use Rattle.arrangement.specs.Overlays.{text_of}
 
 module _ (d : Drawing) (pl : IsPlane d.graph) where
@@ -60,16 +58,6 @@ module _ (d : Drawing) (pl : IsPlane d.graph) where
             get_or-map (label layer (subdivision_in d).graph) (subdivision_in d).faces a.0 first_cell 0 (face_within d a has)
             ∙ ap (λ (z : Skeleton). label layer z (cell d a)) (graph_is g ∙ sym (view_draws d pl));
       }
-
--- of which graph it is, and how many pieces of each present hold its edges
-pub pieces_told : (o : Overlaid) (r b red blue : Present) → subdivision_in o.drawing ≡ overlay r b → o.red_pieces ≡ map (pieces_along r) (overlay_skeleton r b).edges → o.blue_pieces ≡ map (pieces_along b) (overlay_skeleton r b).edges → r ≡ red → b ≡ blue → TellsPiecesOf red blue o
-pieces_told o r b red blue whole of_r of_b e f =
-    let g : skeleton_in o.drawing ≡ overlay_skeleton r b = sym (graph_is (skeleton_in o.drawing)) ∙ ap (λ (s : Subdivision). s.graph) whole ∙ graph_is (overlay_skeleton r b) in
-    record {
-      graph = g ∙ ap₂ overlay_skeleton e f;
-      of_red = of_r ∙ ap (λ (h : Skeleton). map (pieces_along r) h.edges) (sym g) ∙ ap (λ (z : Present). map (pieces_along z) (skeleton_in o.drawing).edges) e;
-      of_blue = of_b ∙ ap (λ (h : Skeleton). map (pieces_along b) h.edges) (sym g) ∙ ap (λ (z : Present). map (pieces_along z) (skeleton_in o.drawing).edges) f;
-    }
 
 -- the text of the overlay of two presents
 pub told : (o : Overlaid) (r b red blue : Present) → subdivision_in o.drawing ≡ overlay r b → o.drawing.graph.pins ≡ (both r b).pins → o.red ≡ rows_of r (overlay r b) → o.blue ≡ rows_of b (overlay r b) → IsPlane o.drawing.graph → IsSound (view_of o.drawing) (faces_of o.drawing) → r ≡ red → b ≡ blue

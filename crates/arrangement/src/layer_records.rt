@@ -231,8 +231,8 @@ impl LayerRecords {
         let _ = &self.findings;
     }
 
-    // What a point is told to lie in, which lies at a spot.
-    fn cell_at(&mut self, spot: Spot, p: &Point) -> Cell
+    /// What a point is told to lie in, which lies at a spot.
+    pub(crate) fn cell_at(&mut self, spot: Spot, p: &Point) -> Cell
         requires { IsSpotOf self.old.graph self.old.faces p.now spot }
         ensures cell { result ≡ holds (subdivision_of self.old) p.now }
         ensures same { self.new ≡ self.old }

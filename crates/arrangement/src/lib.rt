@@ -3,8 +3,10 @@
 #![tactic(auto)]
 
 mod arrangement;
+mod batches;
 mod counted;
 mod edges;
+mod envelopes;
 mod faces;
 mod layer_records;
 mod limits;
@@ -15,7 +17,9 @@ mod overlays;
 mod presents;
 mod questions;
 mod regions;
+mod regions_between;
 mod spots;
+mod verticals;
 
 pub use arr_notes::{Answer, Change, Intent, Linked, Note, Observer, Unlinked, View};
 pub use arrangement::Arrangement;
@@ -24,6 +28,7 @@ pub use dcel_records::{Records, Spot};
 pub use exact_plane::{Line, MAX_SIDES, Path, PathError, Point, PointError, Segment, SegmentError};
 pub use limits::{Limits, MAX_CURVES, MAX_PIECES, MAX_PINS};
 pub use locate_naive::edge_dart;
+pub use lower_envelope::{Envelope, Which};
 pub use no_memory::NoMemory;
 pub use observer_bus::{AttachError, Bus, NoSeat, ReportError, SEATS, Seat, Went};
 pub use overlaid::Overlay;
@@ -32,9 +37,11 @@ pub use pin_points::{MergeError, NotPinned, PinError, SplitError};
 pub use polygon_sets::{Colour, Op, Region, RegionError};
 pub use questions::{Counts, EdgeError};
 pub use regions::region_of;
+pub use regions_between::region;
 pub use segment_insert::InsertError;
 pub use segment_remove::{CutError, DropError};
 pub use slab_laws::{
     Cell, CurveId, CycleId, CycleKind, DartId, Darts, FaceId, FaceLists, Faced, Layered, Piece,
     Strategy, VertexId,
 };
+pub use vertical_parts::{Next, Part};

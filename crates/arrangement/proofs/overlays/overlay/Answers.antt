@@ -3,7 +3,8 @@ use Rattle.plane_graphs.specs.Piece.{Present}
 use Rattle.slab_laws.specs.Layers.{rows_of}
 use Rattle.slab_laws.specs.Overlay.{both, overlay}
 use Rattle.slab_laws.specs.Pieces.{present_of}
-use Rattle.arrangement.proofs.OverlayRows.{pieces_told, told}
+use Rattle.polygon_sets.proofs.RegionLayers.{counts_told}
+use Rattle.arrangement.proofs.OverlayRows.{told}
 use Rattle.arrangement.proofs.overlays.overlay.Goals as goal
 
 pub overlay-both-requires : goal.overlay-both-requires
@@ -21,7 +22,7 @@ returns g c =
       pins = e.pins ∙ ap₂ (λ (r b : Present). (both r b).pins) red blue;
       red = e.red ∙ ap₂ (λ (r b : Present). rows_of r (overlay r b)) red blue;
       blue = e.blue ∙ ap₂ (λ (r b : Present). rows_of b (overlay r b)) red blue;
-      pieces = pieces_told c.in_ok-both.both (present_of c.in_ok-of_red.of_red) (present_of c.in_ok-of_blue.of_blue) _ _ e.subdivision e.red_pieces e.blue_pieces red blue;
+      pieces = counts_told c.in_ok-both.both.drawing c.in_ok-both.both.red_pieces c.in_ok-both.both.blue_pieces (present_of c.in_ok-of_red.of_red) (present_of c.in_ok-of_blue.of_blue) _ _ e.subdivision e.red_pieces e.blue_pieces red blue;
       stands = e.stands;
       text = told c.in_ok-both.both (present_of c.in_ok-of_red.of_red) (present_of c.in_ok-of_blue.of_blue) _ _ e.subdivision e.pins e.red e.blue e.plane e.stands red blue;
     }
