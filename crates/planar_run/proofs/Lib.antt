@@ -1,6 +1,7 @@
 pub mod Takes
 pub mod Worlds
 pub mod Told
+pub mod Regions
 pub mod Printed
 pub mod Losses
 pub mod Script

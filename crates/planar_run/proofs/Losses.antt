@@ -7,7 +7,7 @@ use Rattle.exact_plane.specs.Segment.{Segment}
 use Rattle.exact_plane.specs.SegmentOf.{segment_of}
 use Rattle.edit_steps.specs.Edits.{Edit, Insert, Drop as DropCurve, Pin as PinPoint, Unpin as UnpinPoint, Merge as MergeEdges, ClearAll, steps}
 use Rattle.script_lines.specs.declared.command.Command.{Command}
-use Rattle.script_lines.specs.declared.command.Command.TheVariants.{Nothing, Segment as AddSegment, Path as AddPath, Drop, Cut, Pin, Unpin, Split, Merge, Clear, Locate, Edge as CurvesOf, Curve, Count, Show, Overlay, Attach, Leave, Mirror, LayerRed, LayerBlue}
+use Rattle.script_lines.specs.declared.command.Command.TheVariants.{Nothing, Segment as AddSegment, Path as AddPath, Drop, Cut, Pin, Unpin, Split, Merge, Clear, Locate, Edge as CurvesOf, Curve, Count, Show, Overlay, Region, Vertical, Batch, Envelope, Attach, Leave, Mirror, LayerRed, LayerBlue}
 use Rattle.script_lines.specs.declared.error.LineError.{LineError}
 use Rattle.arrangement.specs.Answers.{cut_between, split_at}
 use Rattle.planar_run.specs.World.{World}
@@ -41,6 +41,10 @@ no_losses world (Ok (Curve c)) = ([], tt)
 no_losses world (Ok Count) = ([], tt)
 no_losses world (Ok Show) = ([], tt)
 no_losses world (Ok Overlay) = ([], tt)
+no_losses world (Ok (Region op)) = ([], tt)
+no_losses world (Ok Vertical) = ([], tt)
+no_losses world (Ok (Batch points)) = ([], tt)
+no_losses world (Ok (Envelope which)) = ([], tt)
 no_losses world (Ok (Attach i when)) = ([], tt)
 no_losses world (Ok (Leave i when)) = ([], tt)
 no_losses world (Ok (Mirror i)) = ([], tt)

@@ -15,7 +15,7 @@ use Rattle.script_lines.specs.declared.name.Name.TheVariants as name
 use Rattle.script_lines.specs.Number.{is_number, number_of}
 use Rattle.script_lines.specs.Form.{Form, form_reading, has_count, has_fixed, number_words}
 use Rattle.script_lines.specs.Words.{words as words_of}
-use Rattle.script_lines.specs.Command.{command_of, curve_from, is_comment, is_printable, name_of, name_reading, number_to, observer_at_from, observer_from, pair_from, pairs, path_form, path_from, point_from, row_of, segment_from, triple_from, words_reading}
+use Rattle.script_lines.specs.Command.{batch_form, batch_from, command_of, curve_from, is_comment, is_printable, name_of, name_reading, number_to, observer_at_from, observer_from, pair_from, pairs, path_form, path_from, point_from, row_of, segment_from, triple_from, words_reading}
 use Rattle.planar_run.specs.Answer.{IsNumbered}
 
 -- ---- numbers
@@ -76,6 +76,9 @@ segment_numbered (a ∷ b ∷ c ∷ d ∷ e ∷ ns) = tt
 path_numbered : (ns : List ℤ) → IfSome (path_from ns) IsNumbered
 path_numbered ns = segment_by (list_all is_coordinate ns) (command.Path (pairs ns)) tt
 
+batch_numbered : (ns : List ℤ) → IfSome (option_map command.Batch (batch_from ns)) IsNumbered
+batch_numbered ns = always command.Batch (batch_from ns) (λ points. tt)
+
 abbrev AreNumbered : List (Form Command) → Type 0
 AreNumbered [] = Unit {0}
 AreNumbered (form ∷ forms) = ((ns : List ℤ) → IfSome (form.made ns) IsNumbered) × AreNumbered forms
@@ -83,6 +86,10 @@ AreNumbered (form ∷ forms) = ((ns : List ℤ) → IfSome (form.made ns) IsNumb
 paths_numbered : (counts : List ℕ) → AreNumbered (map path_form counts)
 paths_numbered [] = tt
 paths_numbered (count ∷ counts) = (path_numbered, paths_numbered counts)
+
+batches_numbered : (counts : List ℕ) → AreNumbered (map batch_form counts)
+batches_numbered [] = tt
+batches_numbered (count ∷ counts) = (batch_numbered, batches_numbered counts)
 
 forms_numbered : (n : Name) → AreNumbered (row_of n).forms
 forms_numbered name.Segment = (segment_numbered, tt)
@@ -100,6 +107,10 @@ forms_numbered name.Curve = (λ ns. always command.Curve (curve_from ns) (λ c. 
 forms_numbered name.Count = (λ ns. tt, tt)
 forms_numbered name.Show = (λ ns. tt, tt)
 forms_numbered name.Overlay = (λ ns. tt, tt)
+forms_numbered name.Region = (λ ns. tt, (λ ns. tt, (λ ns. tt, (λ ns. tt, tt))))
+forms_numbered name.Vertical = (λ ns. tt, tt)
+forms_numbered name.Batch = batches_numbered (3 ∷ 6 ∷ 9 ∷ 12 ∷ 15 ∷ 18 ∷ 21 ∷ 24 ∷ [])
+forms_numbered name.Envelope = (λ ns. tt, (λ ns. tt, tt))
 forms_numbered name.Attach = (
   λ ns. mapped (λ entry. command.Attach entry.0 entry.1) IsEntry (option_map (λ i. (i, None)) (observer_from ns)) (entry_now (observer_from ns) (observer_least ns)) (λ entry h. h),
   (λ ns. mapped (λ entry. command.Attach entry.0 entry.1) IsEntry (observer_at_from ns) (at_least ns) (λ entry h. h), tt),

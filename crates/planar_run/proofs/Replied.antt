@@ -1,22 +1,29 @@
 -- What a line is answered that is refused, and what of a line is obeyed.
-use Rattle.std.proofs.Common.{◌≡◌, ℕ, Bool, true, false, List, [], ◌∷◌, ◌++◌, Option, Some, None, Result, Ok, Err, refl, sym, ap, subst, ◌∙◌, inl, inr}
+use Rattle.std.proofs.Common.{◌≡◌, ℕ, Bool, true, false, List, [], ◌∷◌, ◌++◌, map, Option, Some, None, Result, Ok, Err, refl, sym, ap, ap₂, subst, ◌∙◌, inl, inr}
 use Rattle.std.specs.Prelude.{OnErr, OnOk, not, ℤ, codes, decimal, if◌then◌else◌}
 use Rattle.std.specs.Fmt.{digits}
+use Rattle.std.proofs.lemmas.List.{length-map}
+use Rattle.std.proofs.lemmas.List.Folds.{flat_map-map}
+use Rattle.exact_plane.specs.Point.{Point}
 use Rattle.exact_plane.specs.Segment.{Segment}
 use Rattle.exact_plane.specs.SegmentOf.{segment_of}
 use Rattle.plane_graphs.specs.Graph.{Edge, curves}
 use Rattle.edit_steps.specs.Edits.{Edit, Insert}
 use Rattle.edit_steps.specs.Refusals.{Refusal}
+use Rattle.slab_laws.specs.Darts.{Dart}
+use Rattle.set_laws.specs.declared.op.Op.{Op}
+use Rattle.set_laws.specs.PolygonSets.{region}
+use Rattle.polygon_sets.specs.Regions.{dart_ends}
 use Rattle.script_lines.specs.LineError.{refusal_number as line_number}
 use Rattle.script_lines.specs.declared.error.LineError.{LineError}
 use Rattle.script_lines.specs.declared.command.Command.{Command}
-use Rattle.script_lines.specs.declared.command.Command.TheVariants.{Mirror}
-use Rattle.planar_run.specs.Text.{line_of, spaced, curve_text}
-use Rattle.planar_run.specs.World.{World}
-use Rattle.planar_run.specs.Premises.{graph_of, is_named, is_edge}
+use Rattle.script_lines.specs.declared.command.Command.TheVariants.{Mirror, Region}
+use Rattle.planar_run.specs.Text.{line_of, spaced, ends_line, curve_text, region_text, border_text}
+use Rattle.planar_run.specs.World.{blue_of, red_of, World}
+use Rattle.planar_run.specs.Premises.{graph_of, is_named, is_edge, are_closed}
 use Rattle.planar_run.specs.Refusals.{refusal_of, refusal_number}
 use Rattle.planar_run.specs.Observers.{report_of, seat_refusal, is_above, is_seated, IsReportIn}
-use Rattle.planar_run.specs.Answer.{Answer, AreLossesOfEdit, refused, said, edited, edited_unless, edges_along, curves_told, curve_told, unless, IsAnswered, IsDrawn, IsObeyed, MayDraw, MayTake, Obeys}
+use Rattle.planar_run.specs.Answer.{Answer, AreLossesOfEdit, refused, said, edited, edited_unless, edges_along, curves_told, curve_told, region_told, unless, IsAnswered, IsDrawn, IsObeyed, MayDraw, MayTake, Obeys}
 
 -- the bytes and the world of an answer
 abbrev Gives : Answer → List ℕ → World → Type 0
@@ -56,6 +63,25 @@ pub no_curve_told : (c : ℕ) (w : World) {text : List ℕ} → is_named c w ≡
 no_curve_told c w {text = text} h t =
     let g : Gives (curve_told c w) text w = refusal_given 8 w w text (curve_told c w) (told_by (is_named c w) false (said (curve_text c (edges_along c (graph_of w))) w) (refused 8 w) h) t refl in
     ([], tt, g.0, g.1)
+
+-- layers that aren't both closed
+abbrev region_of : Op → World → List Dart
+region_of op w = region op (red_of w).layer.present (blue_of w).layer.present
+
+pub no_region_told : (op : Op) (w : World) {text : List ℕ} → are_closed w ≡ false → text ≡ line_of (codes "refused " ++ decimal 19) → List (List ℕ) × Unit {0} × (text ≡ (region_told op w).text) × (w ≡ (region_told op w).world)
+no_region_told op w {text = text} h t =
+    let g : Gives (region_told op w) text w = refusal_given 19 w w text (region_told op w) (told_by (are_closed w) false (said (region_text (region_of op w)) w) (refused 19 w) h) t refl in
+    ([], tt, g.0, g.1)
+
+-- layers that are: the border by the ends of its darts
+border_told : (ds : List Dart) → border_text (map dart_ends ds) ≡ region_text ds
+border_told ds = ap₂ (λ (n : ℕ) (lines : List ℕ). line_of (codes "region " ++ decimal n) ++ (lines ++ line_of (codes "end"))) (length-map ds dart_ends) (flat_map-map (ends_line (codes "b ")) dart_ends ds)
+
+pub border_answered : {T E : Type 0} (o : Result T E) (op : Op) (w : World) (start text : List ℕ) (darts : List (Point × Point)) → start ≡ [] → are_closed w ≡ true → darts ≡ map dart_ends (region_of op w) → OnOk o (text ≡ start ++ border_text darts) → OnOk o (IsAnswered w (Ok (Region op)) text w)
+border_answered (Ok x) op w start text darts empty closed are h =
+    let told : region_told op w ≡ said (region_text (region_of op w)) w = told_by (are_closed w) true (said (region_text (region_of op w)) w) (refused 19 w) closed in
+    ([], tt, h ∙ ap₂ (λ (s : List ℕ) (ds : List (Point × Point)). s ++ border_text ds) empty are ∙ border_told (region_of op w) ∙ ap (λ (a : Answer). a.text) (sym told), ap (λ (a : Answer). a.world) (sym told))
+border_answered (Err e) op w start text darts empty closed are h = tt
 
 -- ---- lines on observers
 -- a line that there is a reason to refuse
@@ -156,6 +182,10 @@ seventeen = refl
 pub eighteen : codes "refused 18" ++ 10 ∷ [] ≡ line_of (codes "refused " ++ decimal 18)
 unfolding digits
 eighteen = refl
+
+pub nineteen : codes "refused 19" ++ 10 ∷ [] ≡ line_of (codes "refused " ++ decimal 19)
+unfolding digits
+nineteen = refl
 
 -- ---- segments
 -- four numbers that are four others

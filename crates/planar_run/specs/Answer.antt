@@ -1,5 +1,5 @@
 -- What a line is answered, and the world that the next line meets.
-use Rattle.std.specs.Prelude.{◌≡◌, ◌≢◌, ◌≤◌, ℕ, true, false, not, ◌⊎◌, List, [], ◌∷◌, ◌++◌, length, Option, Some, None, Result, Ok, Err, codes, decimal, if◌then◌else◌, ⊤}
+use Rattle.std.specs.Prelude.{◌≡◌, ◌≢◌, ◌≤◌, ℕ, true, false, not, ◌⊎◌, List, [], ◌∷◌, ◌++◌, length, map, Option, Some, None, Result, Ok, Err, codes, decimal, if◌then◌else◌, ⊤}
 use Rattle.std.specs.List.{count_by, filter, list_any}
 use Rattle.observer_bus.specs.declared.went.Went.{Went}
 use Rattle.exact_plane.specs.Path.{path_of}
@@ -17,8 +17,12 @@ use Rattle.slab_laws.specs.Sound.{edge_between}
 use Rattle.slab_laws.specs.Subdivision.{Subdivision, subdivision, holds}
 use Rattle.slab_laws.specs.Text.{skeleton, present_text}
 use Rattle.slab_laws.specs.OverlayText.{presents_text}
+use Rattle.set_laws.specs.declared.op.Op.{Op}
+use Rattle.set_laws.specs.PolygonSets.{region}
+use Rattle.vertical_laws.specs.VerticalText.{vertical_text}
+use Rattle.envelope_laws.specs.EnvelopeText.{envelope_text}
 use Rattle.script_lines.specs.declared.command.Command.{Command}
-use Rattle.script_lines.specs.declared.command.Command.TheVariants.{Nothing, Segment as AddSegment, Path as AddPath, Drop, Cut, Pin, Unpin, Split, Merge, Clear, Locate, Edge as CurvesOf, Curve, Count, Show, Overlay, Attach, Leave, Mirror, LayerRed, LayerBlue}
+use Rattle.script_lines.specs.declared.command.Command.TheVariants.{Nothing, Segment as AddSegment, Path as AddPath, Drop, Cut, Pin, Unpin, Split, Merge, Clear, Locate, Edge as CurvesOf, Curve, Count, Show, Overlay, Region, Vertical, Batch, Envelope, Attach, Leave, Mirror, LayerRed, LayerBlue}
 use Rattle.script_lines.specs.declared.error.LineError.{LineError}
 use Rattle.script_lines.specs.LineError.{refusal_number as line_number}
 use Rattle.script_lines.specs.Command.{command_of}
@@ -27,9 +31,9 @@ use Rattle.arrangement.specs.Questions.{TakesMemory}
 use Rattle.planar_run.specs.World.{blue_of, red_of, turned, World}
 use Rattle.planar_run.specs.Observers.{attach_refusal, attached, leaving, report_of, seat_refusal, IsUntold}
 use Rattle.planar_run.specs.Rounds.{seated_after, AreFew, AreRoundsOf, Seated}
-use Rattle.planar_run.specs.Premises.{graph_of, is_named, is_edge}
+use Rattle.planar_run.specs.Premises.{graph_of, is_named, is_edge, are_closed}
 use Rattle.planar_run.specs.Refusals.{refusal_of, refusal_number}
-use Rattle.planar_run.specs.Text.{line_of, cell_text, spaced, curve_text, went_text}
+use Rattle.planar_run.specs.Text.{line_of, cell_text, cells_text, spaced, curve_text, region_text, went_text}
 
 pub record Answer : Type 0 where
   -- the bytes of the reply
@@ -91,6 +95,12 @@ curve_told c world =
     if is_named c world then said (curve_text c (edges_along c (graph_of world))) world
     else refused 8 world
 
+-- 19, a layer isn't closed
+abbrev pub region_told : Op → World → Answer
+region_told op world =
+    if are_closed world then said (region_text (region op (red_of world).layer.present (blue_of world).layer.present)) world
+    else refused 19 world
+
 -- 7, the ends are equal; 4, a coordinate is out of its range, which no line that was read has
 abbrev pub segment_refusal : SegmentError → ℕ
 segment_refusal Range = 4
@@ -140,6 +150,10 @@ answer_to world losses (Ok (Curve c)) = curve_told c world
 answer_to world losses (Ok Count) = said (line_of (codes "counts" ++ spaced (counted (subdivision_of world) (length world.layer.names)))) world
 answer_to world losses (Ok Show) = said (present_text world.layer.present) world
 answer_to world losses (Ok Overlay) = said (presents_text (red_of world).layer.present (blue_of world).layer.present) world
+answer_to world losses (Ok (Region op)) = region_told op world
+answer_to world losses (Ok Vertical) = said (vertical_text (skeleton (graph_of world))) world
+answer_to world losses (Ok (Batch points)) = said (cells_text (map (holds (subdivision_of world)) points)) world
+answer_to world losses (Ok (Envelope which)) = said (envelope_text which world.layer.present) world
 answer_to world losses (Ok (Attach i when)) = unless (attach_refusal i world) (record { text = line_of (codes "ok"); world = attached i when world }) world
 answer_to world losses (Ok (Leave i when)) = unless (seat_refusal i world) (record { text = line_of (codes "ok"); world = leaving i when world }) world
 answer_to world losses (Ok (Mirror i)) = unless (seat_refusal i world) (said (report_of i world) world) world
@@ -196,6 +210,10 @@ MayTake world (Ok (Curve c)) = is_named c world ≡ true
 MayTake world (Ok Count) = ⊥
 MayTake world (Ok Show) = ⊤
 MayTake world (Ok Overlay) = ⊤
+MayTake world (Ok (Region op)) = are_closed world ≡ true
+MayTake world (Ok Vertical) = ⊤
+MayTake world (Ok (Batch points)) = ⊤
+MayTake world (Ok (Envelope which)) = ⊤
 MayTake world (Ok (Attach i when)) = attach_refusal i world ≡ None
 MayTake world (Ok (Leave i when)) = ⊥
 MayTake world (Ok (Mirror i)) = seat_refusal i world ≡ None

@@ -8,8 +8,10 @@ use Rattle.arrangement.specs.Arranged.{bounds_of}
 use Rattle.arrangement.specs.declared.limits.TheConstants.Limits.{FULL}
 use Rattle.arrangement.specs.declared.questions.EdgeError.{EdgeError}
 use Rattle.arrangement.specs.declared.questions.EdgeError.TheVariants.{NoEdge as NoEdgeToTell, NoMemory as NoMemoryForCurves}
+use Rattle.polygon_sets.specs.declared.region.RegionError.{RegionError}
+use Rattle.polygon_sets.specs.declared.region.RegionError.TheVariants.{Open, NoMemory as NoMemoryForRegion}
 use Rattle.planar_run.specs.World.{World}
-use Rattle.planar_run.specs.Premises.{is_named, is_edge}
+use Rattle.planar_run.specs.Premises.{is_named, is_edge, are_closed}
 
 -- why an edit of the world is refused, under the limits of a script (this project)
 abbrev pub refusal_of : World → Edit → Option Refusal
@@ -36,3 +38,8 @@ BarsEdge NoMemoryForCurves e world = is_edge e world ≡ true
 abbrev pub BarsEdges : HistoryError → ℕ → World → Type 0
 BarsEdges NoCurve c world = is_named c world ≡ false
 BarsEdges NoMemoryForEdges c world = is_named c world ≡ true
+
+-- the region isn't told: a layer isn't closed, or both are, and there is no memory
+abbrev pub BarsRegion : RegionError → World → Type 0
+BarsRegion (Open colour p) world = are_closed world ≡ false
+BarsRegion NoMemoryForRegion world = are_closed world ≡ true

@@ -1,5 +1,5 @@
 -- The bytes of replies.
-use Rattle.std.specs.Prelude.{ℕ, List, [], ◌∷◌, ◌++◌, codes, decimal}
+use Rattle.std.specs.Prelude.{ℕ, List, [], ◌∷◌, ◌++◌, codes, decimal, length}
 use Rattle.std.specs.List.{flat_map}
 use Rattle.std.specs.Fmt.{signed_decimal}
 use Rattle.exact_plane.specs.Point.{Point}
@@ -7,6 +7,7 @@ use Rattle.plane_graphs.specs.Graph.{Edge as GraphEdge}
 use Rattle.observer_bus.specs.declared.went.Went.{Went}
 use Rattle.slab_laws.specs.declared.cell.Cell.{Cell}
 use Rattle.slab_laws.specs.declared.cell.Cell.TheVariants.{Vertex, Edge, Face}
+use Rattle.slab_laws.specs.Darts.{Dart, source, target}
 
 abbrev pub line_of : List ℕ → List ℕ
 line_of text = text ++ 10 ∷ []
@@ -23,6 +24,10 @@ cell_text (Face k) = codes "face " ++ decimal k
 abbrev pub spaced : List ℕ → List ℕ
 spaced ns = flat_map (λ n. 32 ∷ decimal n) ns
 
+-- a line of a word and two points
+abbrev pub ends_line : List ℕ → Point × Point → List ℕ
+ends_line word ends = line_of (word ++ (point_text ends.0 ++ 32 ∷ point_text ends.1))
+
 -- the line of an edge: its lower end, then its upper one
 abbrev pub edge_line : GraphEdge → List ℕ
 edge_line e = line_of (codes "e " ++ (point_text e.low ++ 32 ∷ point_text e.high))
@@ -30,6 +35,22 @@ edge_line e = line_of (codes "e " ++ (point_text e.low ++ 32 ∷ point_text e.hi
 -- a curve's text: its number, then a line for each of its edges, in their order
 abbrev pub curve_text : ℕ → List GraphEdge → List ℕ
 curve_text c es = line_of (codes "curve " ++ decimal c) ++ (flat_map edge_line es ++ line_of (codes "end"))
+
+-- the text of where points lie: how many there are, then a line for each, in their order
+abbrev pub cells_text : List Cell → List ℕ
+cells_text cells = line_of (codes "batch " ++ decimal (length cells)) ++ (flat_map (λ c. line_of (cell_text c)) cells ++ line_of (codes "end"))
+
+-- the line of a dart: its source, then its target
+abbrev pub border_line : Dart → List ℕ
+border_line d = line_of (codes "b " ++ (point_text (source d) ++ 32 ∷ point_text (target d)))
+
+-- a region's text: how many darts are on its border, then a line for each, in their order
+abbrev pub region_text : List Dart → List ℕ
+region_text ds = line_of (codes "region " ++ decimal (length ds)) ++ (flat_map border_line ds ++ line_of (codes "end"))
+
+-- the same text, of darts by their ends
+abbrev pub border_text : List (Point × Point) → List ℕ
+border_text darts = line_of (codes "region " ++ decimal (length darts)) ++ (flat_map (ends_line (codes "b ")) darts ++ line_of (codes "end"))
 
 -- a word and a number for each of these names
 abbrev pub names_text : List ℕ → List ℕ → List ℕ

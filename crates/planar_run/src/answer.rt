@@ -7,7 +7,9 @@ ghost use Rattle.planar_run.specs.Rows.{world_row, IsKeptWorld};
 use crate::edits::{clear, cut, drop_curve, merge, path, pin, segment, split, unpin};
 use crate::layers::layer;
 use crate::observers::{attach, leave, mirror};
-use crate::questions::{count, curve, edge, locate, overlay, show};
+use crate::questions::{
+    batch, count, curve, edge, envelope, locate, overlay, region, show, vertical,
+};
 use crate::reply::{REPLY_ROOM, Reply};
 use crate::world::World;
 use no_memory::NoMemory;
@@ -51,6 +53,10 @@ fn obey(world: &mut World, command: Command, reply: &mut Reply) -> Result<(), No
         }
         Command::Show => show(world, reply),
         Command::Overlay => overlay(world, reply),
+        Command::Region(op) => region(world, op, reply),
+        Command::Vertical => vertical(world, reply),
+        Command::Batch(points) => batch(world, &points, reply),
+        Command::Envelope(which) => envelope(world, which, reply),
         Command::Attach(number, when) => attach(world, number, when, reply),
         Command::Leave(number, when) => {
             leave(world, number, when, reply);

@@ -1,13 +1,17 @@
-ghost use Rattle.std.specs.Prelude.{◌≡◌, codes, IfOk};
+ghost use Rattle.std.specs.Prelude.{◌≡◌, true, codes, map, IfErr, IfOk, OnOk};
 ghost use Rattle.arrangement.specs.Arranged.{arranged, layer_in};
+ghost use Rattle.polygon_sets.specs.Regions.{dart_ends};
+ghost use Rattle.set_laws.specs.PolygonSets.{region};
 ghost use Rattle.slab_laws.specs.OverlayText.{presents_text};
+ghost use Rattle.planar_run.specs.Premises.{are_closed};
+ghost use Rattle.planar_run.specs.Refusals.{BarsRegion};
 ghost use Rattle.planar_run.specs.Rows.{world_row, IsKeptWorld};
 ghost use Rattle.planar_run.specs.Text.{line_of};
 ghost use Rattle.planar_run.specs.World.{blue_of, red_of, turned};
 
 use crate::reply::Reply;
 use crate::world::World;
-use arrangement::{Arrangement, overlay};
+use arrangement::{Arrangement, Op, Region, RegionError, overlay, region};
 use no_memory::NoMemory;
 use std::alloc::Global;
 use std::mem::swap;
@@ -33,6 +37,19 @@ impl World {
             text_of_both(self.alloc, &self.other, &self.arrangement)
         } else {
             text_of_both(self.alloc, &self.arrangement, &self.other)
+        }
+    }
+
+    /// What an operation makes of the red and the blue set, by the darts on its border.
+    pub fn region(&self, op: Op) -> Result<Region, RegionError>
+        ensures darts { IfOk result (λ r. r ≡ map dart_ends (region op (red_of (world_row Observer-dyn self.now)).layer.present (blue_of (world_row Observer-dyn self.now)).layer.present)) }
+        ensures allowed { OnOk result (are_closed (world_row Observer-dyn self.now) ≡ true) }
+        ensures barred { IfErr result (λ e. BarsRegion e (world_row Observer-dyn self.now)) }
+    {
+        if self.is_blue {
+            region(self.alloc, &self.other, &self.arrangement, op)
+        } else {
+            region(self.alloc, &self.arrangement, &self.other, op)
         }
     }
 }

@@ -1,6 +1,6 @@
 ghost use Rattle.std.specs.Prelude.{◌≡◌, ◌≤◌, ◌+◌, ◌++◌, ◌∷◌, [], codes, length, map, OnOk};
 ghost use Rattle.std.specs.List.{flat_map};
-ghost use Rattle.planar_run.specs.Text.{line_of, point_text, cell_text, spaced, edge_line, curve_text};
+ghost use Rattle.planar_run.specs.Text.{line_of, point_text, cell_text, spaced, ends_line, curve_text, border_text};
 ghost use Rattle.arrangement.specs.Answers.{edge_of};
 
 use crate::reply::Reply;
@@ -101,22 +101,42 @@ pub fn put_curves(reply: &mut Reply, curves: &[CurveId]) -> Result<(), NoMemory>
     reply.put_text("\n")
 }
 
-// Appends a line for each of the edges, which is made in the room of another reply.
-fn put_edge_lines(
+/// Appends the line of a cell, which is made in the room of another reply.
+pub fn put_cell(reply: &mut Reply, line: &mut Reply, cell: Cell) -> Result<(), NoMemory>
+    ensures { OnOk result (reply.new ≡ reply.old ++ line_of (cell_text cell)) }
+{
+    line.clear();
+    add_cell(line, cell);
+    line.add_text("\n");
+    reply.put_bytes(line.as_slice())
+}
+
+// Appends for each pair of points a line of a word and both, which is made in the room of another reply.
+fn put_ends_lines(
     reply: &mut Reply,
     line: &mut Reply,
-    edges: &[(Point, Point)],
+    word: &str,
+    pairs: &[(Point, Point)],
 ) -> Result<(), NoMemory>
-    ensures { OnOk result (reply.new ≡ reply.old ++ flat_map edge_line (map edge_of edges.now)) }
+    requires { length word.now ≤ 8 }
+    ensures { OnOk result (reply.new ≡ reply.old ++ flat_map (ends_line word.now) pairs.now) }
 {
-    for ends in edges {
-        let (low, high) = ends;
+    for ends in pairs {
+        let (first, second) = ends;
         line.clear();
-        add_ends(line, "e ", low, high);
+        add_ends(line, word, first, second);
         line.add_text("\n");
         reply.put_bytes(line.as_slice())?;
     }
     Ok(())
+}
+
+/// Appends the first line of a text: a word and a number.
+pub fn put_head<I: Integer>(reply: &mut Reply, word: &str, number: I) -> Result<(), NoMemory>
+    ensures { OnOk result (reply.new ≡ reply.old ++ line_of (word.now ++ I.text number)) }
+{
+    put_labelled(reply, word, number)?;
+    reply.put_text("\n")
 }
 
 /// Appends the text of a curve: its number, then its edges, each by its lower and its upper end.
@@ -129,8 +149,21 @@ pub fn put_curve(
     ensures { OnOk result (reply.new ≡ reply.old ++ curve_text curve (map edge_of edges.now)) }
 {
     let mut line = Reply::new(alloc)?;
-    put_labelled(reply, "curve ", curve)?;
-    reply.put_text("\n")?;
-    put_edge_lines(reply, &mut line, edges)?;
+    put_head(reply, "curve ", curve)?;
+    put_ends_lines(reply, &mut line, "e ", edges)?;
+    reply.put_text("end\n")
+}
+
+/// Appends the text of a region: how many darts are on its border, then each by its source and its target.
+pub fn put_region(
+    alloc: Global,
+    reply: &mut Reply,
+    darts: &[(Point, Point)],
+) -> Result<(), NoMemory>
+    ensures { OnOk result (reply.new ≡ reply.old ++ border_text darts.now) }
+{
+    let mut line = Reply::new(alloc)?;
+    put_head(reply, "region ", darts.len())?;
+    put_ends_lines(reply, &mut line, "b ", darts)?;
     reply.put_text("end\n")
 }

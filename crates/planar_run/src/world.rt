@@ -7,7 +7,9 @@ ghost use Rattle.edit_steps.specs.Edits.{Insert, Drop, Pin, Unpin, Merge, ClearA
 ghost use Rattle.edit_steps.specs.Refusals.{IsAnswerFor};
 ghost use Rattle.slab_laws.specs.Sound.{edge_between};
 ghost use Rattle.slab_laws.specs.Subdivision.{holds};
-ghost use Rattle.slab_laws.specs.Text.{present_text};
+ghost use Rattle.slab_laws.specs.Text.{skeleton, present_text};
+ghost use Rattle.vertical_laws.specs.VerticalText.{vertical_text};
+ghost use Rattle.envelope_laws.specs.EnvelopeText.{envelope_text};
 ghost use Rattle.planar_run.specs.World.{first_half, first_world};
 ghost use Rattle.planar_run.specs.Premises.{graph_of, is_named, is_edge};
 ghost use Rattle.planar_run.specs.Answer.{counted, edges_along, subdivision_of, IsDone};
@@ -18,7 +20,7 @@ use crate::places::all_waiting;
 use arr_notes::Observer;
 use arrangement::{
     Arrangement, Bus, Counts, CutError, DropError, EdgeError, HistoryError, InsertError, Limits,
-    MergeError, NotPinned, PinError, SEATS, SplitError, Went,
+    MergeError, NotPinned, PinError, SEATS, SplitError, Went, Which,
 };
 use exact_plane::{Path, Point, Segment};
 use no_memory::NoMemory;
@@ -219,6 +221,20 @@ impl World {
         ensures { IfOk result (λ bytes. bytes.items ≡ present_text (world_row Observer-dyn self.now).layer.present) }
     {
         self.arrangement.text()
+    }
+
+    /// The text of what is directly above and below each vertex.
+    pub fn vertical_text(&self) -> Result<Vec<u8>, NoMemory>
+        ensures { IfOk result (λ bytes. bytes.items ≡ vertical_text (skeleton (graph_of (world_row Observer-dyn self.now)))) }
+    {
+        self.arrangement.vertical_text()
+    }
+
+    /// The text of the lower or the upper envelope.
+    pub fn envelope_text(&self, which: Which) -> Result<Vec<u8>, NoMemory>
+        ensures { IfOk result (λ bytes. bytes.items ≡ envelope_text which (world_row Observer-dyn self.now).layer.present) }
+    {
+        self.arrangement.envelope_text(which)
     }
 
     /// The names of the observers that joined, left and were lost in the last edit.

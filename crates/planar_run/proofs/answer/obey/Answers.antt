@@ -83,6 +83,34 @@ returns-in-Overlay g c = record {
   kept = c.requires.kept;
 }
 
+pub returns-in-Region : goal.returns-in-Region
+returns-in-Region g c = record {
+  obeyed = obeyed_by c.region.result c.args.command _ _ _ _ c.in-Region.is c.region.ensures.answered;
+  err = wanted_by c.region.result c.args.command _ _ c.in-Region.is c.region.ensures.err;
+  kept = c.requires.kept;
+}
+
+pub returns-in-Vertical : goal.returns-in-Vertical
+returns-in-Vertical g c = record {
+  obeyed = obeyed_by c.vertical.result c.args.command _ _ _ _ c.in-Vertical.is c.vertical.ensures;
+  err = always_wanted c.vertical.result c.args.command _ _ c.in-Vertical.is tt;
+  kept = c.requires.kept;
+}
+
+pub returns-in-Batch : goal.returns-in-Batch
+returns-in-Batch g c = rw c.batch.ensures.same (record {
+  obeyed = obeyed_by c.batch.result c.args.command _ _ _ _ c.in-Batch.is c.batch.ensures.answered;
+  err = always_wanted c.batch.result c.args.command _ _ c.in-Batch.is tt;
+  kept = c.requires.kept;
+})
+
+pub returns-in-Envelope : goal.returns-in-Envelope
+returns-in-Envelope g c = record {
+  obeyed = obeyed_by c.envelope.result c.args.command _ _ _ _ c.in-Envelope.is c.envelope.ensures;
+  err = always_wanted c.envelope.result c.args.command _ _ c.in-Envelope.is tt;
+  kept = c.requires.kept;
+}
+
 pub returns-in-Attach : goal.returns-in-Attach
 returns-in-Attach g c = record {
   obeyed = obeyed_by c.attach.result c.args.command _ _ _ _ c.in-Attach.is c.attach.ensures.answered;
