@@ -288,8 +288,8 @@ fn replies_with(alloc: Global, guests: &[Guest], script: Vec<u8>) -> Result<Vec<
     Ok(Vec::from_slice(alloc, sink.taken())?)
 }
 
-// Whether each line is answered by its reply, with these observers.
-fn is_answered(
+/// Whether each line is answered by its reply, with these observers.
+pub fn is_answered(
     alloc: Global,
     guests: &[Guest],
     before: &[Told],

@@ -1,7 +1,7 @@
 // Where many points lie, beside a look at all edges for each, and what is said of the places.
 
 ghost use Rattle.slab_laws.specs.View.{HasDart, HasFace, HasVertex};
-ghost use Rattle.arrangement.specs.Arranged.{arranged};
+ghost use Rattle.arrangement.specs.Arranged.{arranged, IsWatched};
 ghost use Rattle.dcel_records.specs.SoundMaps.{IsSoundMap};
 
 use crate::records::looks::pin_between;
@@ -68,6 +68,42 @@ fn a_batch_is_located_as_each_point_is(rt: HostRuntime) -> Result<(), Fail> {
     drop(layer);
     assert!(rt; empty?);
     assert!(rt; right?);
+    Ok(())
+}
+
+// Upright segments beside one another, each an edge: so many that three points are walked to.
+fn draw_fence(layer: &mut Arrangement)
+    requires watched { IsWatched (arranged Observer-dyn layer.old) }
+    ensures watched { IsWatched (arranged Observer-dyn layer.new) }
+{
+    'posts: for x in 0..60 {
+        draw(layer, (x, 0, x, 4));
+    }
+}
+
+// Whether a batch says of each point what its own location says.
+fn is_answered(layer: &mut Arrangement, points: &[Point]) -> Result<bool, NoMemory> {
+    let cells = layer.locate_all(points)?;
+    for (point, cell) in points.iter().zip(&cells) {
+        if layer.locate(Strategy::Naive, point)? != *cell {
+            return Ok(false);
+        }
+    }
+    Ok(points.len() == cells.len())
+}
+
+// Few points beside many edges are walked to, and many are swept over.
+#[test]
+fn a_batch_is_answered_as_each_point_is(rt: HostRuntime) -> Result<(), Fail> {
+    let few = points_of(rt.alloc(), &[(2, 1, 1), (31, 2, 3), (200, 0, 1)])?;
+    let many = points_round(rt.alloc())?;
+    let mut layer = nothing(rt.alloc())?;
+    draw_fence(&mut layer);
+    let by_walks = is_answered(&mut layer, &few);
+    let by_sweep = is_answered(&mut layer, &many);
+    drop(layer);
+    assert!(rt; by_walks?);
+    assert!(rt; by_sweep?);
     Ok(())
 }
 
