@@ -25,7 +25,7 @@ sys.dont_write_bytecode = True
 
 from planar_oracle import STRATEGIES, World
 
-STAGE = 15
+STAGE = 20
 LIMIT = 2 ** 26
 SCRIPTS = 40
 WORDS = ('layer red', 'layer blue', 'segment 0 0 4 3', 'segment 1 0 1 3', 'drop 1', 'cut 0 0 1 4 3 1', 'pin 1 1 1', 'unpin 1 1 1',

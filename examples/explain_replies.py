@@ -39,6 +39,10 @@ FORMS = {
     "show": "",
     "layer": "red|blue",
     "overlay": "",
+    "region": "union|intersection|difference|symmetric",
+    "vertical": "",
+    "batch": "X1 Y1 W1 .. Xk Yk Wk",
+    "envelope": "lower|upper",
     "attach": "i [at n]",
     "leave": "i [at n]",
     "mirror": "i",
@@ -70,17 +74,18 @@ MEANINGS = {
         "attach": "eight are seated or planned",
     },
     18: {"segment": "the number 4294967295 was drawn", "path": "the number 4294967295 was drawn"},
+    19: {"region": "a layer isn't closed, red or blue: some point is an end of an odd number of its pieces"},
 }
-MISSPELT = "after the count of words was right, the word `at`, `red` or `blue` isn't spelt so"
+MISSPELT = "after the count of words was right, a fixed word of the command isn't spelt so"
 NO_MEMORY = "there was no memory for it; nothing was changed"
 KNOWN_BYTES = {9: ", a tab", 13: ", of a line end by bytes 13 and 10", 239: ", of a byte order mark or a letter beyond ASCII"}
 NUMBER = re.compile(r"0|-?[1-9][0-9]*")
 REPLY = re.compile(
     r"ok(?: [0-9]+)?(?: (?:joined|left|lost) [0-9]+)*|refused [0-9]+|no memory|vertex .*|edge .*|face [0-9]+|curves .*|counts .*"
-    r"|(?:arrangement|overlay|curve) [0-9 ]+"
+    r"|(?:arrangement|overlay|curve|region|vertical|batch|envelope) [0-9 ]+"
 )
 # The first word of a reply that goes on to a line `end`.
-LONG_REPLY = re.compile(r"(?:arrangement|overlay|curve) ")
+LONG_REPLY = re.compile(r"(?:arrangement|overlay|curve|region|vertical|batch|envelope) ")
 
 
 class DontPair(ValueError):
@@ -133,7 +138,7 @@ def cause_in(refusal: int, line: str, words: List[str]) -> str:
     """The words or the place that a refusal of a line's form is about."""
     if refusal == 1 and words and words[0] not in FORMS:
         return f"`{words[0]}`" + (", and commands are written small" if words[0].lower() in FORMS else "")
-    if refusal == 2 and words[0] in FORMS:
+    if refusal in (1, 2) and words and words[0] in FORMS:
         return f"`{' '.join([words[0], FORMS[words[0]]]).strip()}`"
     if refusal == 3:
         return ", ".join(f"`{word}`" for word in words[1:] if word != "at" and not NUMBER.fullmatch(word))

@@ -1,23 +1,29 @@
 #!/usr/bin/env python3
-"""Reads the text of a subdivision or of an overlay, as `show`, `mirror` and `overlay` write it, into vertices, darts, cycles and faces.
+"""Reads the text of a subdivision or of an overlay, as `show`, `mirror` and `overlay` write it, into vertices, darts, cycles and faces, and
+the text of a region, as `region` writes it, into polygons.
 
     planar < map.script | read_show.py --replies
     read_show.py FILE
     read_show.py --replies --geojson --names map.names map.replies
+    read_show.py --region --replies --wkt map.replies
 
 For each face it prints its rank, in an overlay the red and the blue face that hold it, its area (None for the unbounded face) and a point
 inside, then its outer boundary cycle, its holes, its isolated vertices and the ranks of its neighbours, those across its edges. Points are
 exact fractions. With --wkt it writes a table instead, parted by tabs, and with --geojson a collection of features: each bounded face as a
 polygon with holes, without the edges that have the face on both sides, in decimals. --names takes a table that lines_to_script.py made: a
-face has the names of the features that go round it. --offset and --scale lead back to the map's own coordinates.
+face has the names of the features that go round it. --offset and --scale lead back to the map's own coordinates. With --region it reads a
+region, and tells or writes its polygons: the inside of each is connected, rings share points at most and no sides, and each vertex of the
+border stands in them, also where the border goes straight on.
 
 As a module: `read_show(text)` gives a `Subdivision`, `texts_in(replies)` the texts that stand among the replies of a run,
-`names_of_faces` the features round each face; `neighbours` of a face, with the darts between, serves for routes.
+`names_of_faces` the features round each face; `neighbours` of a face, with the darts between, serves for routes. `read_region(text)` gives
+a `Region`, and `regions_in(replies)` the texts of regions.
 
 Reading is strict: neighbours and cycles are made from the points and edges, the whole is written again, and must be the text byte for
 byte; points must be in order, and numbers in their ranges; the labels of an overlay are each there, and change across an edge only where it
-has a curve of the layer. All else is refused (`NotASubdivision`). Two things aren't looked at, since they take more than reading: whether
-edges meet elsewhere than at their ends, and whether a hole lies in its face.
+has a curve of the layer; the border of a region has the inside on its left all along, and each hole of it lies in an outer ring. All else
+is refused (`NotASubdivision`). Two things aren't looked at, since they take more than reading: whether edges meet elsewhere than at their
+ends, and whether the hole of a face lies in it.
 
 docs/SCRIPT.md describes the text. Python 3.8 or later, with its standard library alone.
 """
@@ -40,13 +46,14 @@ LARGEST_WEIGHT = 2**51 - 1
 LARGEST_CURVE = 2**32 - 1
 
 Point = Tuple[Fraction, Fraction]
+Ring = List[Point]
 Key = Tuple[int, int]
 # Names with numbers of curves, as a table of lines_to_script.py has them.
 Table = List[Tuple[str, List[int]]]
 
 
 class NotASubdivision(ValueError):
-    """The text isn't one of a subdivision."""
+    """The text isn't one of a subdivision or of a region."""
 
 
 @dataclass(frozen=True)
@@ -174,7 +181,7 @@ class Subdivision:
                 found.setdefault(self.across(dart).rank, []).append(dart)
         return dict(sorted(found.items()))
 
-    def rings(self, face: Face) -> List[List[Point]]:
+    def rings(self, face: Face) -> List[Ring]:
         """The rings of a bounded face as a polygon, the outer one first: no edge with the face on both sides, no point twice in a ring."""
         left = {dart.key: dart for dart in face.darts if self.across(dart).rank != face.rank}
         found = []
@@ -204,7 +211,7 @@ class Subdivision:
         edges = [dart for dart in self.darts if dart.source.number < dart.target.number]
         lines = [f"{'overlay' if self.is_overlay else 'arrangement'} {len(self.vertices)} {len(edges)} {len(self.faces)}"]
         for v in self.vertices:
-            lines.append(f"v {v.number} {triple(v)}{' pin' if v.is_pinned else ''} :{spaced(v.neighbours)}")
+            lines.append(f"v {v.number} {triple(v.point)}{' pin' if v.is_pinned else ''} :{spaced(v.neighbours)}")
         lines += (f"e{spaced(edge.key)} :{self.curves_told(edge)}" for edge in edges)
         for face in self.faces:
             lines.append(f"f {face.rank}{spaced(face.labels or ())}")
@@ -219,7 +226,7 @@ class Subdivision:
         return spaced([f"r{curve}" for curve in edge.curves] + [f"b{curve}" for curve in edge.blue])
 
 
-def simple_rings(points: List[Point]) -> List[List[Point]]:
+def simple_rings(points: List[Point]) -> List[Ring]:
     """The rings of a walk, which parts where it comes to a point again."""
     found, walk = [], []
     for point in points:
@@ -231,16 +238,38 @@ def simple_rings(points: List[Point]) -> List[List[Point]]:
     return found + [walk]
 
 
-def area_within(ring: List[Point]) -> Fraction:
+def sides_of(ring: Ring) -> Iterator[Tuple[Point, Point]]:
+    """The sides of a ring, the last of which leads back to its first point."""
+    return zip(ring, ring[1:] + ring[:1])
+
+
+def area_within(ring: Ring) -> Fraction:
     """The area that a ring goes round, positive counterclockwise."""
-    return sum((x1 * y2 - x2 * y1 for (x1, y1), (x2, y2) in zip(ring, ring[1:] + ring[:1])), Fraction(0)) / 2
+    return sum((x1 * y2 - x2 * y1 for (x1, y1), (x2, y2) in sides_of(ring)), Fraction(0)) / 2
 
 
-def triple(vertex: Vertex) -> str:
+def goes_round(ring: Ring, point: Point) -> bool:
+    """The even-odd rule, for a point on no side: whether a ray to the right crosses the ring an odd number of times."""
+    (x, y), inside = point, False
+    for (x1, y1), (x2, y2) in sides_of(ring):
+        if (y1 > y) != (y2 > y):
+            inside ^= x1 + (y - y1) * (x2 - x1) / (y2 - y1) > x
+    return inside
+
+
+def triple(point: Point) -> str:
     """The numbers X Y W of a point, in lowest terms."""
-    b, d = vertex.x.denominator, vertex.y.denominator
-    weight = b * d // gcd(b, d)
-    return f"{vertex.x * weight} {vertex.y * weight} {weight}"
+    x, y = point
+    weight = x.denominator * y.denominator // gcd(x.denominator, y.denominator)
+    return f"{x * weight} {y * weight} {weight}"
+
+
+def point_in(words: Iterable[str]) -> Point:
+    """The point of numbers X Y W in their ranges."""
+    x, y, weight = map(int, words)
+    if weight > LARGEST_WEIGHT or max(abs(x), abs(y)) > LARGEST_COORDINATE * weight:
+        raise ValueError
+    return Fraction(x, weight), Fraction(y, weight)
 
 
 def spaced(numbers: Iterable[Any]) -> str:
@@ -265,12 +294,16 @@ def texts_in(replies: str) -> List[str]:
 def read_show(text: str) -> Subdivision:
     """The subdivision or the overlay of which this is the text."""
     subdivision = Rows(text).subdivision()
-    pairs = zip_longest(text.split("\n"), subdivision.text().split("\n"))
-    for place, (line, due) in enumerate(pairs, 1):
-        demand(line == due, f"line {place} is {line!r}, where {due!r} is due")
+    demand_text(text, subdivision.text())
     if subdivision.is_overlay:
         demand_labels(subdivision)
     return subdivision
+
+
+def demand_text(text: str, due: str) -> None:
+    """The text is the one that is due, byte for byte."""
+    for place, (line, other) in enumerate(zip_longest(text.split("\n"), due.split("\n")), 1):
+        demand(line == other, f"line {place} is {line!r}, where {other!r} is due")
 
 
 def demand_labels(overlay: Subdivision) -> None:
@@ -311,10 +344,8 @@ class Rows:
     def read(self, kind: str, *words: str) -> None:
         """Takes what one line says. Lines of other kinds are left to the comparison with what is due."""
         if kind == "v":
-            number, x, y, weight = map(int, words[:4])
-            if weight > LARGEST_WEIGHT or max(abs(x), abs(y)) > LARGEST_COORDINATE * weight:
-                raise ValueError
-            self.points[number] = Fraction(x, weight), Fraction(y, weight)
+            number = int(words[0])
+            self.points[number] = point_in(words[1:4])
             self.pins.update([number] if "pin" in words else [])
         elif kind == "e":
             low, high, _, *curves = words
@@ -379,12 +410,16 @@ def cycles_of(darts: Dict[Key, Dart], around: Dict[int, Tuple[int, ...]]) -> Ite
         cycle, key = [], first
         while key in left:
             cycle.append(left.pop(key))
-            # The next dart leaves first clockwise after the twin.
-            source, target = key
-            place = around[target].index(source) + 1
-            key = target, around[target][place % len(around[target])]
+            key = key_after(key, around)
         if cycle:
             yield Cycle(tuple(cycle))
+
+
+def key_after(key: Key, around: Dict[int, Tuple[int, ...]]) -> Key:
+    """The dart that leaves a dart's target first clockwise after the twin."""
+    source, target = key
+    place = around[target].index(source) + 1
+    return target, around[target][place % len(around[target])]
 
 
 def clockwise(points: Dict[int, Point], source: int, targets: List[int]) -> Tuple[int, ...]:
@@ -404,6 +439,115 @@ def clockwise(points: Dict[int, Point], source: int, targets: List[int]) -> Tupl
     turned = sorted(targets, key=cmp_to_key(compare))
     first = turned.index(targets[0]) if targets else 0
     return tuple(turned[first:] + turned[:first])
+
+
+# Regions
+
+
+@dataclass(frozen=True)
+class Region:
+    """What two layers make as even-odd sets: polygons, each as its rings, the outer one first, counterclockwise, then its holes, clockwise.
+
+    A ring begins at its least point; polygons and holes stand in the order of these points.
+    """
+
+    polygons: Tuple[Tuple[Ring, ...], ...]
+
+    @property
+    def area(self) -> Fraction:
+        return sum(map(polygon_area, self.polygons), Fraction(0))
+
+
+def polygon_area(rings: Iterable[Ring]) -> Fraction:
+    """The area of a polygon without its holes, which go clockwise."""
+    return sum(map(area_within, rings), Fraction(0))
+
+
+def regions_in(replies: str) -> List[str]:
+    """The texts of regions among the replies of a run, in their order."""
+    return re.findall(r"^region .*?^end\n", replies, re.MULTILINE | re.DOTALL)
+
+
+def read_region(text: str) -> Region:
+    """The region of which this is the text."""
+    rings = [ring for cycle in border_cycles(border_in(text)) for ring in simple_rings(cycle.points)]
+    return Region(polygons_of(list(map(from_least, rings))))
+
+
+def from_least(ring: Ring) -> Ring:
+    """The ring from its least point on."""
+    place = ring.index(min(ring))
+    return ring[place:] + ring[:place]
+
+
+def border_in(text: str) -> List[Tuple[Point, Point]]:
+    """The darts on the border, as the text tells them: from point to point, in their order."""
+    border = []
+    for place, line in enumerate(text.split("\n"), 1):
+        kind, *words = line.split(" ")
+        # Lines of other kinds are left to the comparison with what is due.
+        if kind != "b":
+            continue
+        try:
+            border.append((point_in(words[:3]), point_in(words[3:])))
+        except (ValueError, ZeroDivisionError):
+            raise NotASubdivision(f"line {place} can't be read: {line!r}") from None
+    rows = [f"b {triple(source)} {triple(target)}" for source, target in border]
+    demand_text(text, "\n".join([f"region {len(border)}", *rows, "end", ""]))
+    demand(all(d < e for d, e in zip(border, border[1:])), "the darts aren't in their order")
+    ways = set(border)
+    for source, target in border:
+        demand(source != target and (target, source) not in ways, f"{told(source)} to {told(target)} isn't between inside and outside")
+    return border
+
+
+def border_cycles(border: List[Tuple[Point, Point]]) -> Iterator[Cycle]:
+    """The walks along the border, each with one connected part of the inside on its left: at each point on to the first dart clockwise."""
+    numbers = {point: number for number, point in enumerate(sorted({point for dart in border for point in dart}), 1)}
+    points = {number: point for point, number in numbers.items()}
+    keys = [(numbers[source], numbers[target]) for source, target in border]
+    around: Dict[int, List[int]] = {number: [] for number in points}
+    for source, target in keys:
+        around[source].append(target)
+        around[target].append(source)
+    turned = {number: clockwise(points, number, others) for number, others in around.items()}
+    vertices = {number: Vertex(number, *point, False, turned[number]) for number, point in points.items()}
+    darts = {(source, target): Dart(vertices[source], vertices[target], ()) for source, target in keys}
+    for key in keys:
+        demand(key_after(key, turned) in darts, f"at {told(points[key[1]])} the inside isn't on the left")
+    return cycles_of(darts, turned)
+
+
+class Loop:
+    """A ring of a region, its area (negative of a hole), a point on one of its sides and the box that it fills."""
+
+    def __init__(self, ring: Ring):
+        (x1, y1), (x2, y2) = ring[:2]
+        self.ring, self.area = ring, area_within(ring)
+        self.middle = (x1 + x2) / 2, (y1 + y2) / 2
+        xs, ys = zip(*ring)
+        self.west, self.east, self.south, self.north = min(xs), max(xs), min(ys), max(ys)
+
+    def holds(self, other: "Loop") -> bool:
+        """Whether it goes round another ring, with which it may share points, but no sides."""
+        x, y = other.middle
+        return self.west < x < self.east and self.south < y < self.north and goes_round(self.ring, other.middle)
+
+
+def polygons_of(rings: List[Ring]) -> Tuple[Tuple[Ring, ...], ...]:
+    """The polygons of the rings: each hole goes to the outer ring next round it; an outer ring lies in another one only within a hole."""
+    loops = [Loop(ring) for ring in rings]
+    holes: Dict[Loop, List[Ring]] = {loop: [] for loop in loops if loop.area > 0}
+    for loop in loops:
+        demand(loop.area, f"the ring from {told(loop.ring[0])} goes round nothing")
+        around = (other for other in loops if other is not loop and other.holds(loop))
+        within = min(around, key=lambda other: abs(other.area), default=None)
+        if loop in holes:
+            demand(within not in holes, f"the ring from {told(loop.ring[0])} lies in what is inside")
+        else:
+            demand(within in holes, f"the hole from {told(loop.ring[0])} lies in nothing that is inside")
+            holes[within].append(loop.ring)
+    return tuple(sorted((loop.ring, *sorted(some)) for loop, some in holes.items()))
 
 
 # Names
@@ -476,12 +620,17 @@ class Place:
     def position(self, point: Point) -> List[float]:
         return [float(c / self.scale + o) for c, o in zip(point, self.offset)]
 
-    def area(self, face: Face) -> float:
-        return float((face.area or 0) / self.scale**2)
+    def area(self, area: Fraction) -> float:
+        return float(area / self.scale**2)
 
-    def polygon(self, read: Subdivision, face: Face) -> List[List[List[float]]]:
-        """The rings of a face, each ending where it begins."""
-        return [[self.position(point) for point in ring + ring[:1]] for ring in read.rings(face)]
+    def polygon(self, rings: Iterable[Ring]) -> List[List[List[float]]]:
+        """The rings of a polygon, each ending where it begins."""
+        return [[self.position(point) for point in ring + ring[:1]] for ring in rings]
+
+    def wkt(self, rings: Iterable[Ring]) -> str:
+        """The polygon in WKT."""
+        told_rings = (", ".join("{!r} {!r}".format(*position) for position in ring) for ring in self.polygon(rings))
+        return "POLYGON (" + ", ".join(f"({ring})" for ring in told_rings) + ")"
 
 
 def told(point: Point) -> str:
@@ -504,22 +653,53 @@ def wkt_rows(read: Subdivision, names: List[List[str]], place: Place) -> Iterato
     """A heading, and a row for each bounded face."""
     yield "\t".join(["face", *["red", "blue"] * read.is_overlay, "names", "area", "polygon"])
     for face in read.faces[1:]:
-        rings = (", ".join("{!r} {!r}".format(*position) for position in ring) for ring in place.polygon(read, face))
-        polygon = "POLYGON (" + ", ".join(f"({ring})" for ring in rings) + ")"
-        yield "\t".join(map(str, [face.rank, *(face.labels or ()), "; ".join(names[face.rank]), place.area(face), polygon]))
+        cells = [face.rank, *(face.labels or ()), "; ".join(names[face.rank]), place.area(face.area), place.wkt(read.rings(face))]
+        yield "\t".join(map(str, cells))
 
 
 def geojson(read: Subdivision, names: List[List[str]], place: Place) -> str:
     """A collection with a feature for each bounded face."""
     features = []
     for face in read.faces[1:]:
-        properties: Dict[str, Any] = {"face": face.rank, "names": names[face.rank], "area": place.area(face)}
+        properties: Dict[str, Any] = {"face": face.rank, "names": names[face.rank], "area": place.area(face.area)}
         if face.labels:
             properties["red"], properties["blue"] = face.labels
         properties["neighbours"] = list(read.neighbours(face))
-        geometry = {"type": "Polygon", "coordinates": place.polygon(read, face)}
-        features.append({"type": "Feature", "properties": properties, "geometry": geometry})
+        features.append(feature_of(properties, place.polygon(read.rings(face))))
+    return collection_of(features)
+
+
+def feature_of(properties: Dict[str, Any], polygon: List[List[List[float]]]) -> Dict[str, Any]:
+    return {"type": "Feature", "properties": properties, "geometry": {"type": "Polygon", "coordinates": polygon}}
+
+
+def collection_of(features: List[Dict[str, Any]]) -> str:
     return json.dumps({"type": "FeatureCollection", "features": features}, ensure_ascii=False)
+
+
+def describe_region(region: Region) -> Iterator[str]:
+    """The lines that are printed of a region."""
+    for number, (outer, *holes) in enumerate(region.polygons, 1):
+        yield f"polygon {number}: area {polygon_area([outer, *holes])}"
+        yield "  outer " + " ".join(map(told, outer))
+        yield from ("  hole " + " ".join(map(told, hole)) for hole in holes)
+
+
+def region_wkt_rows(region: Region, place: Place) -> Iterator[str]:
+    """A heading, and a row for each polygon."""
+    yield "number\tarea\tpolygon"
+    for number, rings in enumerate(region.polygons, 1):
+        yield f"{number}\t{place.area(polygon_area(rings))}\t{place.wkt(rings)}"
+
+
+def region_geojson(region: Region, place: Place) -> str:
+    """A collection with a feature for each polygon."""
+    return collection_of(
+        [
+            feature_of({"number": number, "area": place.area(polygon_area(rings))}, place.polygon(rings))
+            for number, rings in enumerate(region.polygons, 1)
+        ]
+    )
 
 
 def offset_pair(text: str) -> Point:
@@ -534,10 +714,11 @@ def scale_of(text: str) -> Fraction:
 
 
 def options_of(words: List[str]) -> argparse.Namespace:
-    parser = argparse.ArgumentParser(description="Prints the faces of a subdivision or an overlay, read from its text.")
+    parser = argparse.ArgumentParser(description="Prints the faces of a subdivision or of an overlay, or the polygons of a region.")
     parser.add_argument("file", nargs="?", metavar="FILE", help="the text; standard input without it")
     parser.add_argument("--replies", action="store_true", help="FILE holds replies of a run: read the last text in them")
     parser.add_argument("--text", type=int, metavar="N", help="with --replies: read the N-th text in them, from 1 on")
+    parser.add_argument("--region", action="store_true", help="read the text of a region")
     parser.add_argument("--wkt", action="store_true", help="write a table of polygons in WKT, parted by tabs")
     parser.add_argument("--geojson", action="store_true", help="write polygons in GeoJSON")
     parser.add_argument("--names", metavar="TABLE", help="names of the features, in an overlay of the red ones")
@@ -551,9 +732,10 @@ def text_in(text: str, options: argparse.Namespace) -> str:
     """The text that the options choose."""
     if not options.replies:
         return text
-    texts = texts_in(text)
+    texts = regions_in(text) if options.region else texts_in(text)
     number = len(texts) if options.text is None else options.text
-    demand(1 <= number <= len(texts), f"the replies have {len(texts)} texts of subdivisions, and no text {number}")
+    kind = "regions" if options.region else "subdivisions"
+    demand(1 <= number <= len(texts), f"the replies have {len(texts)} texts of {kind}, and no text {number}")
     return texts[number - 1]
 
 
@@ -570,9 +752,13 @@ def all_names(read: Subdivision, options: argparse.Namespace) -> List[List[str]]
     return names
 
 
-def lines_for(read: Subdivision, options: argparse.Namespace) -> Iterable[str]:
+def lines_for(text: str, options: argparse.Namespace) -> Iterable[str]:
     """What is written."""
-    names, place = all_names(read, options), Place(options.offset, options.scale)
+    place = Place(options.offset, options.scale)
+    if options.region:
+        return region_lines(read_region(text), options, place)
+    read = read_show(text)
+    names = all_names(read, options)
     if options.geojson:
         return [geojson(read, names, place)]
     if options.wkt:
@@ -580,17 +766,24 @@ def lines_for(read: Subdivision, options: argparse.Namespace) -> Iterable[str]:
     return (line for face in read.faces for line in describe(read, face, names[face.rank]))
 
 
+def region_lines(region: Region, options: argparse.Namespace, place: Place) -> Iterable[str]:
+    """What is written of a region."""
+    demand(not (options.names or options.blue_names), "a region has no faces that could be named")
+    if options.geojson:
+        return [region_geojson(region, place)]
+    return region_wkt_rows(region, place) if options.wkt else describe_region(region)
+
+
 def main() -> int:
     options = options_of(sys.argv[1:])
     try:
         with open(options.file or 0, encoding="ascii", newline="") as file:
-            read = read_show(text_in(file.read(), options))
-        lines = list(lines_for(read, options))
+            lines = list(lines_for(text_in(file.read(), options), options))
     except (OSError, ValueError) as error:
         print(f"read_show.py: {error}", file=sys.stderr)
         return 1
     sys.stdout.reconfigure(encoding="utf-8")
-    print(*lines, sep="\n")
+    print("".join(line + "\n" for line in lines), end="")
     return 0
 
 

@@ -81,18 +81,22 @@ class ExplainReplies(unittest.TestCase):
     def test_causes(self):
         for refusal, line, due in [
             (1, "SEGMENT 0 0 1 1", "`SEGMENT`, and commands are written small"),
-            (1, "layer green", explain_replies.MISSPELT),
+            (1, "layer green", explain_replies.MISSPELT + ": `layer red|blue`"),
+            (1, "envelope middle", "`envelope lower|upper`"),
             (2, "cut 1 2", "`cut X Y W X Y W`"),
             (2, "path 0 0 1 1 2", "`path x0 y0 x1 y1 .. xk yk`"),
+            (2, "batch 1 1", "`batch X1 Y1 W1 .. Xk Yk Wk`"),
+            (2, "vertical 1", "`vertical`"),
             (3, " pin 4.0 +1  1", "`4.0`, `+1`"),
             (5, "#" * 301, "it has 301"),
             (6, "show\r", "byte 5 is 13, of a line end by bytes 13 and 10"),
             (7, "segment 1 1 1 1", "the two ends are equal"),
             (7, "path 0 0 1 1 1 1 2 2", "two neighbouring points are equal"),
             (17, "attach 3", "eight are seated or planned"),
+            (19, "region union", "some point is an end of an odd number of its pieces"),
         ]:
             self.assertTrue(meaning_of(refusal, line).endswith(due), meaning_of(refusal, line))
-        for refusal, line in [(7, "show"), (19, "show"), (0, "show"), (13, "cut 0 0 1 1 0 1")]:
+        for refusal, line in [(7, "show"), (19, "show"), (20, "show"), (0, "show"), (13, "cut 0 0 1 1 0 1")]:
             self.assertRaises(DontPair, meaning_of, refusal, line)
 
     def test_stored_scripts_pair(self):
@@ -318,9 +322,9 @@ class Join(unittest.TestCase):
         plan, _ = join.script_for(features)
         self.assertEqual(len(plan.lines), 840)
         self.assertEqual(len(features_of(ended("made_town.py", "addresses")[1], "name")), 1000)
-        for words in [["--rows", 0], ["--rows", 31], ["--count", 1]]:
+        for words in [["--rows", 0], ["--rows", 1001], ["--count", 1]]:
             self.assertEqual(ended("made_town.py", "parcels", *words)[:2], (1, ""))
-        # The largest town has 1,860 sides, and 200 more are too many.
+        # A town of 30 rows has 1,860 sides, and 200 more are too many for a layer.
         large = features_of(ended("made_town.py", "parcels", "--rows", 30)[1], "name")
         sides = [[(Fraction(2 * x), Fraction(x * x)), (Fraction(x), Fraction(-1))] for x in range(200)]
         join.script_for(large)

@@ -23,7 +23,7 @@ PART = re.compile(
     re.MULTILINE,
 )
 QUOTED = re.compile(r"(?:(?:, \.\.)?(?:, | / )?`[^`]*`)*")
-REPLY = re.compile(r"(?:arrangement |overlay |curve ).*?^end\n|.*?\n", re.M | re.S)
+REPLY = re.compile(r"(?:arrangement|overlay|curve|region|vertical|batch|envelope) .*?^end\n|.*?\n", re.M | re.S)
 
 
 def pattern(told: str) -> str:

@@ -4,7 +4,7 @@ import copy
 from planar_oracle import BLUE, EDITS, RED, Graph, Layer, Overlay, Refused, Subdivision, World, overlay_text, read_line, show_text
 
 # Of the meaning's stages, the one of this program.
-STAGE = 15
+STAGE = 20
 WITHOUT_MEMORY = ('layer', 'unpin', 'merge', 'clear', 'leave', 'count')
 WITHOUT_TABLES = ('naive', 'walk')
 
