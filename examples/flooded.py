@@ -25,11 +25,16 @@ from read_show import NotASubdivision, Subdivision, demand, names_of_faces, read
 Areas = Tuple[Fraction, Fraction]
 
 
-def overlay_in(replies: str, number: int) -> Subdivision:
-    """The N-th text among the replies, or for 0 the last one, which has to be that of an overlay."""
+def text_of_number(replies: str, number: int) -> Subdivision:
+    """What the N-th text among the replies says, or for 0 the last one."""
     texts = texts_in(replies)
     demand(0 <= number <= len(texts) and texts, f"the replies have {len(texts)} texts, and no text {number}")
-    read = read_show(texts[number - 1])
+    return read_show(texts[number - 1])
+
+
+def overlay_in(replies: str, number: int) -> Subdivision:
+    """The N-th text among the replies, or for 0 the last one, which has to be that of an overlay."""
+    read = text_of_number(replies, number)
     demand(read.is_overlay, "the text is that of one layer, not of an overlay")
     return read
 

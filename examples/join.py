@@ -48,11 +48,16 @@ def read_features(name: str, is_parcels: bool) -> List[Feature]:
     """The features of a file: parcels are polygons, addresses points."""
     features = features_of(Path(name).read_text("utf-8-sig"), "name")
     for feature in features:
-        if is_parcels and (feature.points() or any(line[0] != line[-1] for line in feature.lines)):
-            raise CantConvert(f"{name}: {feature.name} isn't a polygon")
-        if not is_parcels and (feature.sides() or len(feature.points()) != 1):
-            raise CantConvert(f"{name}: {feature.name} isn't a point")
+        demand_kind(name, feature, is_parcels)
     return features
+
+
+def demand_kind(name: str, feature: Feature, is_parcel: bool) -> None:
+    """A parcel is a polygon, and an address a point."""
+    if is_parcel and (feature.points() or any(line[0] != line[-1] for line in feature.lines)):
+        raise CantConvert(f"{name}: {feature.name} isn't a polygon")
+    if not is_parcel and (feature.sides() or len(feature.points()) != 1):
+        raise CantConvert(f"{name}: {feature.name} isn't a point")
 
 
 def answer(program: str, way: str, script: str) -> Tuple[str, float]:
@@ -77,11 +82,9 @@ def joined(parcels: List[Feature], addresses: List[Feature], plan: Plan, replies
         yield address.name, ", ".join(names[int(rest[0])]) if kind == "face" else "on a border"
 
 
-def program_of(options: argparse.Namespace) -> str:
-    """The program that is given, or the one that is built."""
-    if options.program:
-        return options.program
-    script = Path(__file__).absolute().parent.parent / "scripts" / "program.sh"
+def built_program(beside: str = __file__) -> str:
+    """The path of the program that is built in the repository of a file of this folder."""
+    script = Path(beside).absolute().parent.parent / "scripts" / "program.sh"
     return subprocess.run([str(script)], stdout=subprocess.PIPE, encoding="utf-8", check=True).stdout.strip()
 
 
@@ -111,7 +114,7 @@ def main() -> int:
         if options.script:
             print(script, end="")
             return 0
-        replies, seconds = answer(program_of(options), options.locate, script)
+        replies, seconds = answer(options.program or built_program(), options.locate, script)
         found = list(joined(parcels, addresses, plan, replies))
     except (OSError, ValueError, subprocess.SubprocessError) as error:
         print(f"join.py: {error}", file=sys.stderr)

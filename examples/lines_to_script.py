@@ -18,13 +18,17 @@ a `locate`. A curve of several sides is a `path`, one of a single side a `segmen
 several curves: a ring of nine corners is two. With --once each side is a segment, one that several features have is there once, and the
 table tells its number for each of them.
 
+With --snap D corners that lie within D of another corner or side, in the map's coordinates, are put on it before all else, and a side gets
+the corners that lie on it: so walls reach the sides that they end at, and borders meet, after rounding too. Give it a distance below all
+that is meant to be apart.
+
 Coordinates of a script's segments are whole and within 2^24 - 1. So script = (map - offset) * scale, rounded. Unless options say otherwise,
 the offset is 0 where that fits, else the centre; the scale is the least that makes all ends of sides whole, or, where these don't fit, the
 largest power of two that does. Corners that are equal stay equal, and so does a point that is a corner; where there was rounding, a corner
 on another's side may lie beside it. Other points aren't rounded, since a script says them as fractions.
 
-Standard error tells offset and scale, how much was rounded, and which sides became points and were left out; or what can't be done, and
-where it stands, and then the exit status is 1.
+Standard error tells offset and scale, what was moved and how much was rounded, and which sides became points and were left out; or what
+can't be done, and where it stands, and then the exit status is 1.
 
 Python 3.8 or later, with its standard library alone.
 """
@@ -41,6 +45,8 @@ from fractions import Fraction
 from itertools import groupby
 from math import gcd
 from typing import Any, Callable, Iterator, List, Optional, Tuple
+
+from snap_corners import snapped
 
 LARGEST_COORDINATE = 2**24 - 1
 # Of the fractions in which points are written, so that the product of two is below 2^51.
@@ -158,17 +164,21 @@ def number(text: str) -> Fraction:
 
 def features_of(text: str, key: str) -> List[Feature]:
     """The features of GeoJSON, CSV or WKT."""
+    if is_csv(text):
+        return list(features_of_csv(text))
     if text.lstrip().startswith("{"):
         return features_of_json(text, key)
-    # A comma before any parenthesis: the first row of CSV.
-    if re.match(r"\s*[^(\n]*,", text):
-        return list(features_of_csv(text))
     wkt: Wkt = Wkt(text)
     features: List[Feature] = []
     while wkt.tokens:
         name = f"feature {len(features) + 1}"
         features.append(Feature(name, wkt.lines(name)))
     return features
+
+
+def is_csv(text: str) -> bool:
+    """Whether a comma stands before any parenthesis: then the first row of CSV does."""
+    return not text.lstrip().startswith("{") and bool(re.match(r"\s*[^(\n]*,", text))
 
 
 def lines_of(kind: str, positions: Any, place: str) -> List[Line]:
@@ -319,6 +329,19 @@ def features_of_csv(text: str) -> Iterator[Feature]:
         yield Feature(name[0] if name and name[0] else place, [list(zip(numbers[::2], numbers[1::2]))])
 
 
+def snapped_features(features: List[Feature], distance: Fraction) -> Tuple[List[Feature], List[str]]:
+    """The features with their corners put on others and on sides, and what is told of that."""
+    lines, moves, given = snapped([line for feature in features for line in feature.lines], distance)
+    left = iter(lines)
+    moved = [Feature(feature.name, [next(left) for _ in feature.lines]) for feature in features]
+    notes = [f"corner {place_told(corner)} was put on {what} at {place_told(place)}" for corner, what, place in moves]
+    return moved, [*notes, f"corners that were put on others or on sides: {len(moves)}; corners that sides got: {given}"]
+
+
+def place_told(point: Point) -> str:
+    return "({:.12g}, {:.12g})".format(*map(float, point))
+
+
 # Fitting
 
 
@@ -458,14 +481,16 @@ def notes_on(features: List[Feature], frame: Frame, plan: Plan) -> Iterator[str]
 
 def convert(text: str, options: argparse.Namespace) -> Tuple[List[str], List[str]]:
     """The lines to be written, and the notes."""
-    features = features_of(text, options.name)
+    features, moves = features_of(text, options.name), []
+    if options.snap:
+        features, moves = snapped_features(features, options.snap)
     corners = sorted({point for feature in features for point in feature.corners()})
     points = sorted({point for feature in features for point in feature.points()})
     frame = frame_for(corners, points, options.offset, options.scale)
     plan = plan_of(features, frame, options)
     demand_room(plan)
     if not options.replies:
-        return list(script_of(features, frame, plan)), list(notes_on(features, frame, plan))
+        return list(script_of(features, frame, plan)), [*moves, *notes_on(features, frame, plan)]
     with open(options.replies, encoding="ascii") as file:
         return list(table_of(features, plan, file.read())), []
 
@@ -496,6 +521,7 @@ def options_of(words: List[str]) -> argparse.Namespace:
     parser.add_argument("file", nargs="?", metavar="FILE", help="WKT, GeoJSON or CSV; standard input without it")
     parser.add_argument("--offset", type=offset_pair, metavar="X,Y", help="what is subtracted (--offset=X,Y if X is negative)")
     parser.add_argument("--scale", type=positive, metavar="S", help="by what the rest is multiplied")
+    parser.add_argument("--snap", type=positive, metavar="D", help="put corners within D of another corner or side on it")
     parser.add_argument("--name", default="name", metavar="KEY", help="the property of GeoJSON that is a feature's name")
     parser.add_argument("--points", choices=["pin", "locate"], default="pin", help="what the line of a point is (pin)")
     parser.add_argument("--once", action="store_true", help="each side is a segment, and one that several features have is there once")

@@ -1,5 +1,6 @@
 #!/usr/bin/env python3
-"""Makes a town to try join.py on: parcels in rows, whose corners lie a little beside a grid's, and addresses in and around them.
+"""Makes a town to try join.py and tiles.py on: parcels in rows, whose corners lie a little beside a grid's, and addresses in and round
+them.
 
     made_town.py parcels > parcels.geojson
     made_town.py addresses > addresses.csv
@@ -18,6 +19,7 @@ from typing import Iterator, List, Tuple
 # How far grid lines are apart, in metres, and how far a corner lies beside them at most.
 STEP = 40
 BESIDE = 12
+MOST_ROWS = 1000
 
 
 def scattered(seed: int) -> Iterator[int]:
@@ -64,11 +66,11 @@ def addresses(rows: int, count: int) -> Iterator[str]:
 def main() -> int:
     parser = argparse.ArgumentParser(description="Makes parcels in GeoJSON, or addresses in CSV.")
     parser.add_argument("what", choices=["parcels", "addresses"])
-    parser.add_argument("--rows", type=int, default=20, metavar="N", help="rows and columns of parcels, from 1 to 30 (20)")
+    parser.add_argument("--rows", type=int, default=20, metavar="N", help=f"rows and columns of parcels, from 1 to {MOST_ROWS} (20)")
     parser.add_argument("--count", type=int, default=1000, metavar="N", help="how many addresses, from 2 on (1000)")
     options = parser.parse_args()
-    if not 1 <= options.rows <= 30 or options.count < 2:
-        print("made_town.py: rows are from 1 to 30, and addresses two at least", file=sys.stderr)
+    if not 1 <= options.rows <= MOST_ROWS or options.count < 2:
+        print(f"made_town.py: rows are from 1 to {MOST_ROWS}, and addresses two at least", file=sys.stderr)
         return 1
     if options.what == "parcels":
         print(json.dumps({"type": "FeatureCollection", "features": list(parcels(options.rows))}))

@@ -34,9 +34,38 @@ end
 """
 
 
+# The commands whose replies go on to a line `end`, where they aren't refused.
+LONG = ("show", "overlay", "mirror", "curve", "region", "vertical", "batch", "envelope")
+
+
+QUESTIONS = [
+    "region 0\nend\n",
+    "region 3\nb 0 0 1 1 0 1\nb 0 1 1 0 0 1\nb 1 0 1 0 1 1\nend\n",
+    "vertical 0\nend\n",
+    "vertical 2\nv 3 -1 2 above edge 0 0 1 4 0 1 below vertex 3 -9 2\nv 2 0 1 above none below none\nend\n",
+    "batch 3\nvertex 1 0 2\nedge 0 0 1 4 0 1\nface 12\nend\n",
+    "envelope 0\nend\n",
+    "envelope 1\nv 1 2 1 : 1\nend\n",
+    "envelope 3\nv 0 0 1 : 1\ne 0 0 1 4 0 1 : 1 3\nv 4 0 1 : 1 2 3\ngap\nv 6 0 1 : 5\nend\n",
+]
+NO_REPLIES = [
+    "region\nend\n",
+    "region 1\nb 0 0 1\nend\n",
+    "region 0\n",
+    "vertical 1\nv 0 0 1 above none\nend\n",
+    "vertical 1\nv 0 0 1 above face 0 below none\nend\n",
+    "batch 0\nend\n",
+    "batch 1\nvertex 0 0\nend\n",
+    "envelope 1\ngap\nend\n",
+    "envelope 2\nv 0 0 1 : 1\nv 4 0 1 : 1\nend\n",
+    "envelope 2\nv 0 0 1 : 1\ne 0 0 1 4 0 1 : 1\nend\n",
+]
+
+
 def replies_in(text):
-    """The replies of a run, one after the other. `show`, `overlay`, `mirror` and `curve` may have several lines, up to `end`."""
-    return re.findall(r"^(?:(?:arrangement|overlay|curve) .*?^end|.*?)\n", text, re.MULTILINE | re.DOTALL)
+    """The replies of a run, one after the other. Some have several lines, up to `end`."""
+    several = "arrangement|overlay|curve|region|vertical|batch|envelope"
+    return re.findall(rf"^(?:(?:{several}) .*?^end|.*?)\n", text, re.MULTILINE | re.DOTALL)
 
 
 def reply_pattern():
@@ -115,13 +144,13 @@ def with_other_numbers(text):
 
 class StoredReplies(unittest.TestCase):
     def test_each_line_but_comments_has_a_reply(self):
-        self.assertEqual(len(SCRIPTS), 6)
+        self.assertEqual(len(SCRIPTS), 7)
         for script in SCRIPTS:
             lines = [line for line in script.read_text("ascii").splitlines() if line.strip() and line.split()[0][0] != "#"]
             replies = replies_in(script.with_suffix(".replies").read_text("ascii"))
             self.assertEqual(len(lines), len(replies), script)
             for line, reply in zip(lines, replies):
-                several = line.split()[0] in ("show", "overlay", "mirror", "curve") and not reply.startswith("refused ")
+                several = line.split()[0] in LONG and not reply.startswith("refused ")
                 self.assertEqual(several, reply.endswith("end\n"), line)
 
     def test_replies_are_as_the_grammar_says(self):
@@ -129,7 +158,10 @@ class StoredReplies(unittest.TestCase):
         for script in SCRIPTS:
             for reply in replies_in(script.with_suffix(".replies").read_text("ascii")):
                 self.assertTrue(pattern.fullmatch(reply), reply)
-        for other in ["ok\n\n", "ok joined\n", "curves\n", "curve 1\n", "face\n", "end\n", "counts 1 2 3\n", "no memory"]:
+        for reply in QUESTIONS:
+            self.assertEqual(replies_in(reply), [reply])
+            self.assertTrue(pattern.fullmatch(reply), reply)
+        for other in ["ok\n\n", "ok joined\n", "curves\n", "curve 1\n", "face\n", "end\n", "counts 1 2 3\n", "no memory", *NO_REPLIES]:
             self.assertFalse(pattern.fullmatch(other), other)
 
     def test_texts_are_read_and_written_again(self):
