@@ -8,9 +8,9 @@ a random order, since most random lines draw.
 import random
 import sys
 
-EDITS = {b'segment', b'drop', b'cut', b'pin', b'unpin', b'split', b'merge', b'clear', b'layer'}
+EDITS = {b'segment', b'path', b'drop', b'cut', b'pin', b'unpin', b'split', b'merge', b'clear', b'layer'}
 KINDS = ('grid', 'cross', 'extreme', 'holes', 'layers', 'mixed')
-STAGE = 10
+STAGE = 16
 # A row with more lines shows limits, and would be compared too often.
 LONGEST_ROW = 300
 
