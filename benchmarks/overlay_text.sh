@@ -35,10 +35,10 @@ own=$folder/crates/overlay_text
   cp "benchmarks/overlay_text/$file" "$own/${file%.txt}"
 done
 # The edits of a line, and both texts of an overlay, are those of the crates' tests.
-(cd crates/planar_tests && find . -path '*/layers/script_edits*' -o -path '*/layers/presents*' -o -path '*/layers/overlay_texts*') | while read -r file; do
-  [ -d "crates/planar_tests/$file" ] && continue
+(cd crates/layer_tests && find . -path '*/layers/script_edits*' -o -path '*/layers/presents*' -o -path '*/layers/overlay_texts*') | while read -r file; do
+  [ -d "crates/layer_tests/$file" ] && continue
   mkdir -p "$own/$(dirname "$file")"
-  sed 's/planar_tests/overlay_text/g' "crates/planar_tests/$file" > "$own/$file"
+  sed 's/layer_tests/overlay_text/g' "crates/layer_tests/$file" > "$own/$file"
 done
 mkdir -p "$own/specs" "$own/proofs"
 touch "$own/specs/Lib.antt" "$own/proofs/Lib.antt"

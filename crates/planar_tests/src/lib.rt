@@ -1,12 +1,8 @@
-//! Tests of what no script shows: calls that the program doesn't reach, errors of the libraries' own, limits and observers of
-//! one's own, and how a run ends.
+//! Tests of what no script shows: how a run ends, sources and sinks that fail, limits and observers of one's own, and the bus of
+//! observers.
 #![tactic(auto)]
 
-#[cfg(test)]
-mod layers;
 #[cfg(test)]
 mod observers;
 #[cfg(test)]
 mod program;
-#[cfg(test)]
-mod shapes;

@@ -1,4 +1,4 @@
-// The program's run, with sources and sinks that fail, observers that come and go and questions about layers, and what stands beside it:
+// The program's run, with sources and sinks that fail and observers that come and go, and what stands beside it:
 // lines, made scripts.
 
 mod guests;
@@ -7,7 +7,6 @@ mod makers;
 mod memory;
 mod mute;
 mod observers;
-mod questions;
 mod runs;
 mod scripts;
 mod streams;

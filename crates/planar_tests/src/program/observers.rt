@@ -289,7 +289,7 @@ fn replies_with(alloc: Global, guests: &[Guest], script: Vec<u8>) -> Result<Vec<
 }
 
 /// Whether each line is answered by its reply, with these observers.
-pub fn is_answered(
+fn is_answered(
     alloc: Global,
     guests: &[Guest],
     before: &[Told],

@@ -1,7 +1,0 @@
-use Rattle.std.proofs.Common.{Some}
-use Rattle.sound_views.proofs.NamesMet.{dart_has}
-use Rattle.subdivision_rows.specs.OverlayInMemory.{graph_of}
-use Rattle.planar_tests.proofs.layers.overlays.faces.Goals as goal
-
-pub cycle-requires : goal.cycle-requires
-cycle-requires c = dart_has (graph_of c.args.both.now) (Some c.args.before) c.in-Some.dart c.in-Some.ensures.ascend c.in-Some.ensures.after

@@ -1,5 +1,0 @@
--- The counter is over the ledger that its blank was made for.
-use Rattle.planar_tests.proofs.layers.zones.face_of_zone.Given as goal
-
-abbrev pub ghosts-zone_counted : goal.ghosts-zone_counted
-ghosts-zone_counted a = record { name = a.blank.name; parts = a.blank.parts }
