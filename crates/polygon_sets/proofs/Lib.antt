@@ -10,3 +10,6 @@ mod CrossedRows
 pub mod RegionLayers
 pub mod OnceSummed
 pub mod NamesSummed
+pub mod WaysRound
+pub mod Onward
+pub mod ClosedRegions

@@ -4,6 +4,7 @@ ghost use Rattle.plane_graphs.specs.Graph.{edges};
 ghost use Rattle.plane_graphs.specs.Piece.{Present as Pieces};
 ghost use Rattle.set_laws.specs.EvenOdd.{border};
 ghost use Rattle.subdivision_rows.specs.Listed.{skeleton_in};
+ghost use Rattle.polygon_sets.specs.ClosedBorders.{IsClosedBorder};
 ghost use Rattle.polygon_sets.specs.Regions.{dart_ends, pieces_on, IsRegionBy, IsErrorBy, AreCountsOf, IsRegionIn, IsErrorOf, TellsPiecesOf, IsRegionOfLayers, IsErrorOfLayers};
 ghost use Rattle.polygon_sets.specs.Weighted.{odd_vertex};
 
@@ -49,6 +50,10 @@ impl Model for Region {
     ghost Value = { List (Point × Point) };
 
     ghost view = { λ r. r.darts.items };
+
+    ghost use Rattle.polygon_sets.specs.ClosedBorders.{IsClosedBorder};
+
+    ghost invariant = { λ r. IsClosedBorder r.darts.items };
 }
 
 impl Region {
@@ -57,6 +62,15 @@ impl Region {
         ensures { result.now ≡ self.now }
     {
         &self.darts
+    }
+
+    /// What is true of the darts of every region: their border is closed. No two ends of darts at one vertex lead in one direction, and
+    /// each dart is followed by the one that is met first where it ends, clockwise from the way back.
+    pub fn laws(&self)
+        ensures closed { IsClosedBorder self.now }
+    {
+        // Any use of a field tells what is kept.
+        let _darts = &self.darts;
     }
 }
 

@@ -9,12 +9,11 @@ use Rattle.exact_plane.specs.PointOrderLaws.{point_cmp_total, point_cmp_ties}
 use Rattle.plane_graphs.proofs.Sorting.{any_default}
 use Rattle.rotation_order.proofs.LineDirections.{asym}
 use Rattle.region_rings.specs.declared.spokes.Spoke.{Spoke}
-use Rattle.region_rings.specs.Ends.{way}
-use Rattle.region_rings.specs.Borders.{way_before, is_sooner}
-use Rattle.region_rings.specs.Closed.{IsClosedBorder, IsErrorOf}
+use Rattle.polygon_sets.specs.ClosedBorders.{way, way_before, is_sooner, IsClosedBorder, no_dart, dart_at}
+use Rattle.region_rings.specs.Closed.{IsErrorOf}
 use Rattle.region_rings.specs.declared.errors.RingsError.{RingsError}
 use Rattle.region_rings.specs.declared.errors.RingsError.TheVariants.{NotClosed, NoMemory}
-use Rattle.region_rings.specs.Spokes.{no_dart, dart_at, spoke, spoke_cmp, spoke_in, AreSpokes}
+use Rattle.region_rings.specs.Spokes.{spoke, spoke_cmp, spoke_in, AreSpokes}
 use Rattle.region_rings.specs.Nexts.{IsBlocked}
 use Rattle.region_rings.proofs.Links.{out_there, in_at, of_vertex, met_first, true_or_false}
 use Rattle.region_rings.proofs.Rounds.{same_vertex}

@@ -14,9 +14,8 @@ use Rattle.plane_graphs.proofs.Lists.{in_map, of_map}
 use Rattle.plane_graphs.proofs.Sorting.{any_default}
 use Rattle.dart_orbits.proofs.Ranges.{in_range, range_in}
 use Rattle.region_rings.specs.declared.spokes.Spoke.{Spoke}
-use Rattle.region_rings.specs.Ends.{way}
-use Rattle.region_rings.specs.Borders.{way_before, is_sooner, IsNextSide}
-use Rattle.region_rings.specs.Spokes.{no_dart, dart_at, spoke, out_spoke, in_spoke, spokes_by, turn_cmp, spoke_cmp, no_spoke, spoke_in, AreSpokes}
+use Rattle.polygon_sets.specs.ClosedBorders.{way, way_before, is_sooner, IsNextSide, no_dart, dart_at}
+use Rattle.region_rings.specs.Spokes.{spoke, out_spoke, in_spoke, spokes_by, turn_cmp, spoke_cmp, no_spoke, spoke_in, AreSpokes}
 use Rattle.region_rings.specs.Nexts.{vertex_at, IsFirstAt, IsFollower, beside, round, AreLinked, AreNexts}
 use Rattle.region_rings.proofs.KeyOrder.{before_is}
 use Rattle.region_rings.proofs.SpokeOrder.{spoke_cmp_total, between, order_is, one_place, same_place}

@@ -4,12 +4,11 @@ use Rattle.std.specs.Prelude.{◌↔◌, IsTrue}
 use Rattle.std.proofs.lemmas.Bool.{cases_lt}
 use Rattle.std.proofs.lemmas.List.{get_or-map, length-map, length-drop, length-take-le, get_or_append_left, get_or_push}
 use Rattle.exact_plane.specs.Point.{Point}
-use Rattle.region_rings.specs.Borders.{IsNextSide}
+use Rattle.polygon_sets.specs.ClosedBorders.{IsNextSide, no_point, dart_at}
 use Rattle.region_rings.specs.Cycles.{ring_start, ring_end, AreCut, IsAfter, along, back, AreCycles}
 use Rattle.region_rings.specs.Holes.{corner_in, IsHole, ring_of, AreHoles}
 use Rattle.region_rings.specs.Nexts.{AreNexts}
 use Rattle.region_rings.specs.Rings.{RingTable, side, source_at, AreRingsOf}
-use Rattle.region_rings.specs.Spokes.{no_point, dart_at}
 use Rattle.region_rings.proofs.RingsCut.{ends_within, inside_ring}
 
 -- ---- each place is of a ring

@@ -5,7 +5,8 @@ use Rattle.exact_plane.specs.Point.{Point}
 use Rattle.plane_graphs.proofs.Sorting.{any_default}
 use Rattle.dart_orbits.proofs.Ranges.{pushed_at}
 use Rattle.region_rings.specs.declared.spokes.Spoke.{Spoke}
-use Rattle.region_rings.specs.Spokes.{no_dart, dart_at, spoke, out_spoke, in_spoke}
+use Rattle.polygon_sets.specs.ClosedBorders.{no_dart, dart_at}
+use Rattle.region_rings.specs.Spokes.{spoke, out_spoke, in_spoke}
 
 module _ (ds : List (Point × Point)) (i : ℕ) (l : i < length ds) (d : Point × Point) (e : d ≡ get_or ds i d) where
   read : d ≡ dart_at ds i

@@ -14,10 +14,9 @@ use Rattle.exact_plane.specs.Point.{Point}
 use Rattle.exact_plane.specs.PointOrder.{point_cmp}
 use Rattle.exact_plane.specs.PointOrderLaws.{same_point}
 use Rattle.region_rings.specs.declared.spokes.Spoke.{Spoke}
-use Rattle.region_rings.specs.Ends.{way}
-use Rattle.region_rings.specs.Closed.{end_of, IsClosedBorder}
+use Rattle.polygon_sets.specs.ClosedBorders.{way, end_of, IsClosedBorder, dart_at}
 use Rattle.region_rings.specs.Nexts.{vertex_at}
-use Rattle.region_rings.specs.Spokes.{dart_at, spoke, out_spoke, in_spoke, spokes_by, turn_cmp, spoke_cmp, no_spoke, spoke_in}
+use Rattle.region_rings.specs.Spokes.{spoke, out_spoke, in_spoke, spokes_by, turn_cmp, spoke_cmp, no_spoke, spoke_in}
 use Rattle.region_rings.proofs.KeyOrder.{before_is}
 use Rattle.region_rings.proofs.Links.{IsOf, goes_out, comes_in, known}
 use Rattle.region_rings.proofs.SpokeOrder.{turn_cmp_total, spoke_cmp_total}

@@ -4,9 +4,8 @@ use Rattle.std.specs.declared.cmp.Ordering.TheVariants.{Less}
 use Rattle.std.specs.Ordering.{is_lt}
 use Rattle.exact_plane.specs.Point.{Point, point_eq}
 use Rattle.exact_plane.specs.PointOrder.{point_cmp}
-use Rattle.region_rings.specs.Borders.{way_before}
+use Rattle.polygon_sets.specs.ClosedBorders.{way_before, no_point}
 use Rattle.region_rings.specs.Cycles.{ring_start, ring_end}
-use Rattle.region_rings.specs.Spokes.{no_point}
 
 -- the corner at a place
 abbrev pub corner_in : List Point → ℕ → Point

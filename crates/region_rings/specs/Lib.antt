@@ -1,6 +1,4 @@
 pub mod Wide
-pub mod Ends
-pub mod Borders
 pub mod Spokes
 pub mod Nexts
 pub mod Cycles

@@ -3,8 +3,8 @@ use Rattle.std.specs.Prelude.{◌≡◌, ◌≢◌, ◌+◌, ◌<◌, ◌≤◌,
 use Rattle.dart_orbits.specs.Walks.{ArePermuted}
 use Rattle.exact_plane.specs.Point.{Point}
 use Rattle.region_rings.specs.declared.spokes.Spoke.{Spoke}
-use Rattle.region_rings.specs.Borders.{IsNextSide}
-use Rattle.region_rings.specs.Spokes.{dart_at, spoke_in}
+use Rattle.polygon_sets.specs.ClosedBorders.{IsNextSide, dart_at}
+use Rattle.region_rings.specs.Spokes.{spoke_in}
 
 -- the vertex of the end at a place
 abbrev pub vertex_at : List Spoke → ℕ → Point

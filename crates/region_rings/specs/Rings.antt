@@ -1,10 +1,9 @@
 -- The rings of a region's boundary.
 use Rattle.std.specs.Prelude.{◌≡◌, ◌<◌, ℕ, Bool, List, length, slice_index_or}
 use Rattle.exact_plane.specs.Point.{Point}
-use Rattle.region_rings.specs.Borders.{IsNextSide}
+use Rattle.polygon_sets.specs.ClosedBorders.{IsNextSide, dart_at}
 use Rattle.region_rings.specs.Cycles.{AreCut, IsAfter}
 use Rattle.region_rings.specs.Holes.{corner_in, AreHoles}
-use Rattle.region_rings.specs.Spokes.{dart_at}
 
 -- the corners of all rings, one ring after another, where each ring ends among them, and which of them are holes
 pub record RingTable : Type 0 where

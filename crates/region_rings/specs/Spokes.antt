@@ -11,18 +11,7 @@ use Rattle.exact_plane.specs.Point.{Point}
 use Rattle.exact_plane.specs.PointOrder.{point_cmp, weight}
 use Rattle.region_rings.specs.declared.spokes.Spoke.{Spoke}
 use Rattle.rotation_order.specs.Directions.{quarter}
-use Rattle.region_rings.specs.Ends.{way}
-
--- what stands where there is no dart
-abbrev pub no_point : Point
-no_point = record { x = pos 0; y = pos 0; w = pos 1 }
-
-abbrev pub no_dart : Point × Point
-no_dart = (no_point, no_point)
-
--- the dart at a place
-abbrev pub dart_at : List (Point × Point) → ℕ → Point × Point
-dart_at ds k = slice_index_or ds k no_dart
+use Rattle.polygon_sets.specs.ClosedBorders.{no_point, dart_at, way}
 
 -- how far a direction rises over its run, to the left or to the right (this project)
 abbrev pub rise : Direction → ℤ

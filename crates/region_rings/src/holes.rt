@@ -1,6 +1,6 @@
 //! Which rings are holes.
 ghost use Rattle.std.specs.Prelude.{◌≡◌, ◌<◌, ◌≤◌, ◌-◌, ◌↔◌, length, take, drop, slice_index_or, IsTrue, IfOk};
-ghost use Rattle.region_rings.specs.Borders.{way_before};
+ghost use Rattle.polygon_sets.specs.ClosedBorders.{way_before};
 ghost use Rattle.region_rings.specs.Cycles.{AreCut};
 ghost use Rattle.region_rings.specs.Holes.{corner_in, place_before, place_after, turns_wide, lesser_place, is_wide_at, IsLeastAt, IsHole, AreHoles};
 

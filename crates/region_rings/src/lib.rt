@@ -26,14 +26,16 @@
 //! - `rule`: each side is followed by the one of which the rule speaks (`IsNextSide`);
 //! - `holes`: a ring is told to be a hole exactly where it turns wide at its least corner (`IsHole`);
 //! - `error`: `RingsError::NotClosed` is answered only of a list that is no closed border (`IsClosedBorder`): two ends of darts at one
-//!   vertex lead in one direction, or a dart isn't followed by any, by the rule. So of a closed border there are rings, or there was
-//!   no memory.
+//!   vertex lead in one direction, or a dart isn't followed by any, by the rule.
+//!
+//! The border of a region is closed (`Region::laws`), so `rings_of` refuses none: there are rings, or there was no memory. For going
+//! clockwise round a vertex from a dart that comes in, what is on its left stays inside up to the first dart that has the inside on one
+//! side alone. That one goes out with the inside on its left.
 //!
 //! # What isn't
 //!
-//! It isn't proved that the border of a region is a closed border, which is why `NotClosed` is there. It is one, since going once round
-//! a vertex of a plane graph one comes as often into what is made as out of it. No hole is told its outer ring. That a ring which turns
-//! wide at its least corner is clockwise is the definition here, and isn't compared with an area.
+//! No hole is told its outer ring. That a ring which turns wide at its least corner is clockwise is the definition here, and isn't
+//! compared with an area. Nor is there an area: as a fraction it has a denominator that passes every fixed width.
 //!
 //! # How
 //!
@@ -50,6 +52,8 @@ mod ratios;
 mod rings;
 mod spokes;
 mod tables;
+#[cfg(test)]
+mod tests;
 
 pub use errors::RingsError;
 pub use rings::{Rings, rings_along, rings_of};

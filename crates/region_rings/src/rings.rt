@@ -124,14 +124,19 @@ pub fn rings_along(alloc: Global, darts: &[(Point, Point)]) -> Result<Rings, Rin
     })
 }
 
-/// The rings of a region (CGAL manual, Boolean set operations: polygons with holes).
+/// The rings of a region (CGAL manual, Boolean set operations: polygons with holes). Its border is closed, so that there are rings. It
+/// takes n log n steps for n darts.
 ///
 /// # Errors
 ///
-/// The darts aren't a closed border, which isn't proved never to come of a region, or there was no memory.
-pub fn rings_of(alloc: Global, region: &Region) -> Result<Rings, RingsError>
+/// There was no memory.
+pub fn rings_of(alloc: Global, region: &Region) -> Result<Rings, NoMemory>
     ensures rings { IfOk result (AreRingsOf region.now) }
-    ensures error { IfErr result (IsErrorOf region.now) }
 {
-    rings_along(alloc, region.darts())
+    region.laws();
+    match rings_along(alloc, region.darts()) {
+        Ok(rings) => Ok(rings),
+        Err(RingsError::NoMemory) => Err(NoMemory),
+        Err(RingsError::NotClosed) => unreachable!(),
+    }
 }

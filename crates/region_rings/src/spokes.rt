@@ -3,7 +3,7 @@ ghost use Rattle.std.specs.Prelude.{◌≡◌, ◌≤◌, ◌<◌, ◌*◌, ◌^
 ghost use Rattle.exact_plane.specs.declared.bounds.TheConstants.{MAX_COORDINATE, WEIGHT_LIMIT};
 ghost use Rattle.exact_plane.specs.PointOrder.{weight};
 ghost use Rattle.rotation_order.specs.Directions.{quarter};
-ghost use Rattle.region_rings.specs.Ends.{way};
+ghost use Rattle.polygon_sets.specs.ClosedBorders.{way};
 ghost use Rattle.region_rings.specs.Closed.{IsErrorOf};
 ghost use Rattle.region_rings.specs.Spokes.{rise, spoke, spokes_by, turn_cmp, spoke_cmp, AreSpokes};
 

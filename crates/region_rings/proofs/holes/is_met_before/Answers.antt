@@ -1,5 +1,5 @@
 use Rattle.std.proofs.Common.{rules, ◌≡◌, ◌∙◌, true, false, is_lt}
-use Rattle.region_rings.specs.Ends.{way}
+use Rattle.polygon_sets.specs.ClosedBorders.{way}
 use Rattle.region_rings.specs.Spokes.{spoke, turn_cmp}
 use Rattle.region_rings.proofs.KeyOrder.{before_is}
 use Rattle.region_rings.proofs.holes.is_met_before.Goals as goal
