@@ -1,10 +1,11 @@
 -- The vertices of an envelope, told by the ends of edges in their order and by the outermost edge of each slab.
-use Rattle.std.specs.Prelude.{◌≡◌, ◌+◌, ◌-◌, ◌<◌, ◌==◌, ◌||◌, ◌&&◌, ℕ, zero, suc, pos, Bool, not, cond, List, [], ◌∷◌, ◌++◌, map, length, slice_index_or, Option, Some, None}
+use Rattle.std.specs.Prelude.{◌≡◌, ◌↔◌, ◌+◌, ◌-◌, ◌<◌, ◌==◌, ◌||◌, ◌&&◌, ℕ, zero, suc, pos, Bool, not, cond, List, [], ◌∷◌, ◌++◌, map, length, slice_index_or, Option, Some, None}
 use Rattle.std.specs.List.{Contains, count_by}
 use Rattle.std.specs.Option.{option_map}
 use Rattle.exact_plane.specs.Point.{Point}
+use Rattle.exact_plane.specs.PointOrder.{point_cmp}
 use Rattle.exact_plane.specs.Span.{Span}
-use Rattle.plane_graphs.specs.Ascending.{Member}
+use Rattle.plane_graphs.specs.Ascending.{Member, IsAscending}
 use Rattle.plane_graphs.specs.Graph.{Edge}
 use Rattle.slab_laws.specs.declared.names.DartId.{DartId}
 use Rattle.slab_laws.specs.declared.names.VertexId.{VertexId}
@@ -12,19 +13,19 @@ use Rattle.slab_laws.specs.Skeleton.{Skeleton, left_of, on_wall}
 use Rattle.slab_laws.specs.Slabs.{slab_right}
 use Rattle.slab_laws.specs.Sound.{skeleton_of, edge_in}
 use Rattle.slab_laws.specs.SpansDrawn.{edge_of}
-use Rattle.slab_laws.specs.Subdivision.{has_dart}
-use Rattle.slab_laws.specs.View.{View, Faces, dart_id, vertex_id, HasVertex, point_in}
+use Rattle.slab_laws.specs.View.{View, Faces, dart_id, vertex_id, HasVertex, point_in, source_in}
 use Rattle.arr_notes.specs.Curves.{IsForward}
 use Rattle.envelope_laws.specs.declared.which.Which.{Which}
 use Rattle.envelope_laws.specs.declared.which.Which.TheVariants.{Lower, Upper}
 use Rattle.envelope_laws.specs.Envelopes.{outline}
 use Rattle.envelope_laws.specs.Outermost.{IsOutermostOf, hides}
 use Rattle.record_orders.specs.declared.vertices.VertexKey.{VertexKey}
+use Rattle.record_orders.specs.Keys.{vertex_key}
 use Rattle.lower_envelope.specs.declared.corner.Corner.{Corner}
 use Rattle.lower_envelope.specs.declared.corner.Envelope.{Envelope}
 use Rattle.lower_envelope.specs.declared.slab_edges.SlabEdges.{SlabEdges}
 use Rattle.lower_envelope.specs.Slabs.{span_at, ArePlaces}
-use Rattle.lower_envelope.specs.Edges.{outer_darts, IsInOrder}
+use Rattle.lower_envelope.specs.Edges.{AreOffered, IsInOrder, IsOuterDart}
 
 -- the edge at a place, if there is one
 abbrev pub edge_at : List Span → Option ℕ → Option Edge
@@ -35,9 +36,14 @@ abbrev pub dart_at : List DartId → Option ℕ → Option DartId
 dart_at darts None = None
 dart_at darts (Some k) = Some (slice_index_or darts k (dart_id 0))
 
--- an edge ends at the vertex
-abbrev pub has_edge_at : View → VertexKey → Bool
-has_edge_at v k = has_dart (skeleton_of v) k.point
+-- the source of a dart, with its point
+abbrev pub source_key : View → DartId → VertexKey
+source_key v d = vertex_key v (source_in v d)
+
+-- the vertices on the boundaries of the unbounded face, in the order of their points, each once
+pub record AreOuterEnds (v : View) (f : Faces) (ks : List VertexKey) : Type 0 where
+  pub ascend : IsAscending point_cmp (map (λ k. k.point) ks)
+  pub just : (k : VertexKey) → Member k ks ↔ ((d : DartId) × IsOuterDart v f d × (k ≡ source_key v d))
 
 abbrev pub key_at : List VertexKey → ℕ → VertexKey
 key_at ends k = slice_index_or ends k (record { point = record { x = pos 0; y = pos 0; w = pos 0 }; name = vertex_id 0 })
@@ -60,9 +66,9 @@ all_but_last [] = []
 all_but_last (x ∷ []) = []
 all_but_last (x ∷ y ∷ ys) = x ∷ all_but_last (y ∷ ys)
 
--- the slab on the right of each vertex has its outermost edge
-pub record AreSlabsOf (w : Which) (g : Skeleton) (edges : List Span) (slabs : List (Option ℕ)) : Type 0 where
-  pub outermost : (v : Point) → Contains g.vertices v → IsOutermostOf w g (slab_right g v) (edge_at edges (slice_index_or slabs (slab_right g v) None))
+-- on the right of each vertex stands the outermost edge there
+pub record AreSlabsOf (w : Which) (g : Skeleton) (points : List Point) (edges : List Span) (slabs : List (Option ℕ)) : Type 0 where
+  pub outermost : (v : Point) → Contains g.vertices v → IsOutermostOf w g (slab_right g v) (edge_at edges (stands_right points slabs v))
   pub places : (i a : ℕ) → slice_index_or slabs i None ≡ Some a → a < length edges
 
 -- ---- the edges of slabs, as they are kept
@@ -72,12 +78,12 @@ pub record AreFitted (s : SlabEdges) : Type 0 where
   pub paired : length s.darts.items ≡ length s.edges.items
   pub places : ArePlaces s.edges.items s.outermost.items
 
--- those of a view: its vertices, the edges on offer, and of each slab the outermost
-pub record AreSlabEdgesOf (w : Which) (v : View) (f : Faces) (s : SlabEdges) : Type 0 where
-  pub points : s.points.items ≡ (skeleton_of v).vertices
-  pub darts : s.darts.items ≡ outer_darts w v f
+-- those of a view, by some of its vertices: their points, the edges on offer, and of each slab the outermost
+pub record AreSlabEdgesOf (w : Which) (v : View) (f : Faces) (ks : List VertexKey) (s : SlabEdges) : Type 0 where
+  pub points : s.points.items ≡ map (λ k. k.point) ks
+  pub darts : AreOffered w v f s.darts.items
   pub edges : map edge_of s.edges.items ≡ map (edge_in v) s.darts.items
-  pub slabs : AreSlabsOf w (skeleton_of v) s.edges.items s.outermost.items
+  pub slabs : AreSlabsOf w (skeleton_of v) s.points.items s.edges.items s.outermost.items
 
 -- the end at a place is the outermost of its wall, and what stands on its right doesn't pass further out
 abbrev pub is_seen : Which → List VertexKey → List Point → List Span → List (Option ℕ) → ℕ → Bool

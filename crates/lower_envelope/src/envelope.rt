@@ -1,54 +1,23 @@
-ghost use Rattle.std.specs.Prelude.{◌≡◌, ◌<◌, ℕ, map, filter, length, Some, IfOk};
+ghost use Rattle.std.specs.Prelude.{◌≡◌, ◌<◌, ℕ, map, length, Some, IfOk};
+ghost use Rattle.slab_laws.specs.FaceLists.{AreDartsOn, AreFacesListed};
 ghost use Rattle.slab_laws.specs.FacesSound.{IsSound};
 ghost use Rattle.slab_laws.specs.Skeleton.{HasWeight};
-ghost use Rattle.slab_laws.specs.Sound.{IsGraphSound, skeleton_of};
 ghost use Rattle.slab_laws.specs.SpansDrawn.{edge_of};
-ghost use Rattle.slab_laws.specs.Subdivision.{has_dart};
-ghost use Rattle.slab_laws.specs.View.{HasVertex, point_in};
 ghost use Rattle.envelope_laws.specs.Envelopes.{edge_beyond};
 ghost use Rattle.envelope_laws.specs.Outermost.{hides};
-ghost use Rattle.record_orders.specs.Keys.{vertex_keys};
-ghost use Rattle.lower_envelope.specs.Corners.{edge_at, key_at, is_outer, has_edge_at, dart_at, corner_at, corners_upto};
+ghost use Rattle.lower_envelope.specs.Corners.{edge_at, key_at, is_outer, dart_at, corner_at, corners_upto};
 ghost use Rattle.lower_envelope.specs.Corners.{all_but_last, AreFitted, IsEnvelopeOf};
 
+use crate::boundary::{ends_of, outer_boundary};
 use crate::corner::{Corner, Envelope};
 use crate::slab_edges::{SlabEdges, place_right, slab_edges_of};
 use edge_predicates::{is_on_wall, is_over, is_under};
 use envelope_laws::Which;
 use exact_plane::{Point, Span};
 use no_memory::NoMemory;
-use record_orders::{VertexKey, points_of, vertices_in_order};
-use slab_laws::{DartId, Darts, Faced, Sequence, VertexId};
+use record_orders::VertexKey;
+use slab_laws::{DartId, FaceLists, Sequence, VertexId};
 use std::alloc::Global;
-
-// Whether an edge ends at the vertex.
-fn has_edge<R: Darts>(records: &R, vertex: &VertexKey) -> bool
-    requires sound { IsGraphSound (R.graph records.now) }
-    requires has { HasVertex (R.graph records.now) vertex.now.name }
-    requires point { vertex.now.point ≡ point_in (R.graph records.now) vertex.now.name }
-    ensures { result ≡ has_dart (skeleton_of (R.graph records.now)) vertex.now.point }
-{
-    records.out_of(vertex.name).is_some()
-}
-
-// The vertices at which edges end.
-fn ends_of<R: Darts>(
-    alloc: Global,
-    records: &R,
-    vertices: &[VertexKey],
-) -> Result<Vec<VertexKey>, NoMemory>
-    requires sound { IsGraphSound (R.graph records.now) }
-    requires vertices { vertices.now ≡ vertex_keys (R.graph records.now) }
-    ensures { IfOk result (λ v. v.items ≡ filter (has_edge_at (R.graph records.now)) vertices.now) }
-{
-    let mut ends = Vec::new(alloc);
-    for vertex in vertices {
-        if has_edge(records, vertex) {
-            ends.push(*vertex)?;
-        }
-    }
-    Ok(ends)
-}
 
 // Whether it is the outermost one of its wall. Those of one wall stand together, from the lowest to the highest.
 fn is_outermost(which: Which, ends: &[VertexKey], place: usize) -> bool
@@ -158,20 +127,26 @@ fn between_of(alloc: Global, corners: &[Corner]) -> Result<Sequence<Option<DartI
 /// The lower or the upper envelope of what records draw: its vertices and what stands between them, from left to right (CGAL
 /// manual, envelopes). Isolated vertices don't count.
 ///
-/// It sorts the vertices by their points, finds the outermost edge of each slab, and looks on each wall at the outermost end of an
-/// edge: it is on the envelope where the outermost edge on its right doesn't pass further out.
+/// It goes once along the boundaries of the unbounded face, sorts the vertices there by their points, finds the outermost edge of each
+/// slab between their walls, and looks on each wall at the outermost of them: it is on the envelope where the outermost edge on its
+/// right doesn't pass further out. No other edge and no other vertex is looked at.
 ///
 /// # Errors
 ///
 /// There was no memory.
-pub fn envelope_of<R: Faced>(alloc: Global, records: &R, which: Which) -> Result<Envelope, NoMemory>
-    requires { IsSound (R.graph records.now) (R.faces records.now) }
+pub fn envelope_of<R: FaceLists>(
+    alloc: Global,
+    records: &R,
+    which: Which,
+) -> Result<Envelope, NoMemory>
+    requires sound { IsSound (R.graph records.now) (R.faces records.now) }
+    requires listed { AreFacesListed (R.faces records.now) (R.lists records.now) }
+    requires darts { AreDartsOn (R.graph records.now) (R.faces records.now) (R.lists records.now) }
     ensures { IfOk result (IsEnvelopeOf which (R.graph records.now)) }
 {
-    let vertices = vertices_in_order(alloc, records)?;
-    let points = points_of(alloc, &vertices)?;
-    let slabs = slab_edges_of(alloc, records, which, points)?;
-    let ends = ends_of(alloc, records, &vertices)?;
+    let boundary = outer_boundary(alloc, records)?;
+    let ends = ends_of(alloc, records, &boundary)?;
+    let slabs = slab_edges_of(alloc, records, which, &boundary, &ends)?;
     let corners = corners_of(alloc, which, &ends, &slabs)?;
     Ok(Envelope {
         vertices: vertices_of(alloc, &corners)?,

@@ -1,7 +1,6 @@
 ghost use Rattle.std.specs.Prelude.{◌≡◌, ◌++◌, codes, flat_map, map, IfOk, IfSome, OnOk};
 ghost use Rattle.std.specs.Option.{option_map};
 ghost use Rattle.plane_graphs.specs.Ascending.{Member};
-ghost use Rattle.slab_laws.specs.FacesSound.{IsSound};
 ghost use Rattle.slab_laws.specs.Sound.{IsGraphSound, edge_in};
 ghost use Rattle.slab_laws.specs.Text.{ended, number};
 ghost use Rattle.slab_laws.specs.View.{HasVertex, point_in};
@@ -13,11 +12,10 @@ ghost use Rattle.lower_envelope.specs.Corners.{IsEnvelopeOf};
 ghost use Rattle.lower_envelope.specs.Texts.{AreCurvesRound, HoldsOfGraph};
 
 use crate::corner::Envelope;
-use crate::envelope::envelope_of;
 use arr_text::{put_number, put_point, put_text};
 use envelope_laws::Which;
 use no_memory::NoMemory;
-use slab_laws::{CurveId, Curved, DartId, Faced, VertexId};
+use slab_laws::{CurveId, Curved, DartId, VertexId};
 use std::alloc::Global;
 
 // The curves of the edges that end at a vertex, once round it; one that runs along several of them is there several times.
@@ -176,29 +174,30 @@ fn put_envelope<R: Curved>(
 }
 
 /// The text of the lower or the upper envelope of what records draw, with the curves that run there (CGAL manual, envelopes; the
-/// format is this project's).
+/// format is this project's), from the envelope as [`envelope_of`](crate::envelope_of) finds it.
 ///
 /// Its lines, each with byte 10 at its end: `envelope n`, where n is the number of its vertices; for each vertex, from left to right,
 /// `v X Y W :` and the curves of all edges that end at it, and between each two neighbours `e X Y W X Y W :` with the lower end, the
 /// upper end and the curves of the edge there, or `gap` where there is none; `end`. Curves are their numbers, ascending, each once.
 ///
-/// The envelope is found once, as [`envelope_of`] finds it; then it goes once round each vertex of the envelope, and sorts the curves
-/// that it meets there. All else takes time in proportion to the text.
+/// It goes once round each vertex of the envelope, and sorts the curves that it meets there. All else takes time in proportion to the
+/// text.
 ///
 /// # Errors
 ///
-/// There was no memory for the text, for the envelope or for the curves of one vertex or edge.
-pub fn text<R: Curved + Faced>(
+/// There was no memory for the text, or for the curves of one vertex or edge.
+pub fn text_of<R: Curved>(
     alloc: Global,
     records: &R,
     which: Which,
+    envelope: &Envelope,
 ) -> Result<Vec<u8>, NoMemory>
-    requires { IsSound (R.graph records.now) (R.faces records.now) }
+    requires sound { IsGraphSound (R.graph records.now) }
+    requires envelope { IsEnvelopeOf which (R.graph records.now) envelope.now }
     ensures { (h : Curves) → AreCurvesOf (R.graph records.now) h → AreListsOf (R.graph records.now) h (R.curve_list records.now)
         → IfOk result (λ bytes. bytes.items ≡ outline_text which (drawn_graph (R.graph records.now) h)) }
 {
-    let envelope = envelope_of(alloc, records, which)?;
     let mut out = Vec::new(alloc);
-    put_envelope(alloc, &mut out, records, which, &envelope)?;
+    put_envelope(alloc, &mut out, records, which, envelope)?;
     Ok(out)
 }

@@ -88,6 +88,7 @@ fn write_envelope(
 fn text_of(alloc: Global, records: &Records, which: Which) -> Result<Vec<u8>, NoMemory>
     requires map { IsSoundMap records.now }
 {
+    records.face_laws();
     let envelope = envelope_of(alloc, records, which)?;
     let mut text = Vec::new(alloc);
     write_envelope(&mut text, records, &envelope)?;

@@ -1,23 +1,38 @@
-use Rattle.std.proofs.Common.{◌∙◌, ap, map}
-use Rattle.std.specs.Prelude.{filter}
-use Rattle.lower_envelope.specs.Corners.{has_edge_at, all_but_last}
-use Rattle.lower_envelope.proofs.Told.{points_are, are_fitted, end_weight, all_told}
+use Rattle.std.proofs.Common.{◌∙◌, ap, map, sym, subst, length}
+use Rattle.lower_envelope.specs.Edges.{AreOuterDarts}
+use Rattle.lower_envelope.specs.Corners.{AreOuterEnds, AreSlabEdgesOf, all_but_last, corner_at, corners_upto}
+use Rattle.lower_envelope.proofs.Told.{are_fitted, end_weight, all_told}
 use Rattle.lower_envelope.proofs.envelope.envelope_of.Goals as goal
 
-pub slab_edges_of-requires-clause-points : goal.slab_edges_of-requires-clause-points
-slab_edges_of-requires-clause-points g c = points_are (g.R.Darts.graph c.args.records.now) c.requires.graph c.deref.result.now c.in_ok-points.points.items (c.deref.ensures.value ∙ c.in_ok-vertices.ensures) c.in_ok-points.ensures
+pub ends_of-requires-clause-boundary : goal.ends_of-requires-clause-boundary
+ends_of-requires-clause-boundary g c = subst (AreOuterDarts (g.R.Darts.graph c.args.records.now) (g.R.Faced.faces c.args.records.now)) (sym c.deref.ensures.value) c.in_ok-boundary.ensures
+
+pub slab_edges_of-requires-clause-boundary : goal.slab_edges_of-requires-clause-boundary
+slab_edges_of-requires-clause-boundary g c = subst (AreOuterDarts (g.R.Darts.graph c.args.records.now) (g.R.Faced.faces c.args.records.now)) (sym c.deref-2.ensures.value) c.in_ok-boundary.ensures
+
+pub slab_edges_of-requires-clause-ends : goal.slab_edges_of-requires-clause-ends
+slab_edges_of-requires-clause-ends g c = subst (AreOuterEnds (g.R.Darts.graph c.args.records.now) (g.R.Faced.faces c.args.records.now)) (sym c.deref-3.ensures.value) c.in_ok-ends.ensures
 
 pub corners_of-requires-clause-fitted : goal.corners_of-requires-clause-fitted
-corners_of-requires-clause-fitted g c = are_fitted c.args.which (g.R.Darts.graph c.args.records.now) (g.R.Faced.faces c.args.records.now) c.requires c.in_ok-slabs.slabs c.in_ok-slabs.ensures
+corners_of-requires-clause-fitted g c =
+    let v = g.R.Darts.graph c.args.records.now in
+    let f = g.R.Faced.faces c.args.records.now in
+    let ends = subst (AreOuterEnds v f) (sym c.deref-3.ensures.value) c.in_ok-ends.ensures in
+    are_fitted c.args.which v f c.requires.sound c.deref-3.result.now ends c.in_ok-slabs.slabs c.in_ok-slabs.ensures
 
 pub corners_of-requires-clause-weights : goal.corners_of-requires-clause-weights
 corners_of-requires-clause-weights g c =
     let v = g.R.Darts.graph c.args.records.now in
-    end_weight v c.requires.graph c.deref-3.result.now (c.deref-3.ensures.value ∙ c.in_ok-ends.ensures ∙ ap (filter (has_edge_at v)) (c.deref-2.ensures.value ∙ c.in_ok-vertices.ensures))
+    let f = g.R.Faced.faces c.args.records.now in
+    end_weight v f c.requires.sound c.deref-4.result.now (subst (AreOuterEnds v f) (sym c.deref-4.ensures.value) c.in_ok-ends.ensures)
 
 pub returns : goal.returns
 returns g c =
+    let w = c.args.which in
     let v = g.R.Darts.graph c.args.records.now in
-    let ends = c.deref-3.ensures.value ∙ c.in_ok-ends.ensures ∙ ap (filter (has_edge_at v)) (c.deref-2.ensures.value ∙ c.in_ok-vertices.ensures) in
-    all_told c.args.which v (g.R.Faced.faces c.args.records.now) c.requires c.in_ok-slabs.slabs c.deref-3.result.now c.in_ok-corners.corners.items _ c.in_ok-slabs.ensures ends c.in_ok-corners.ensures
-    (c.in_ok-vertices_of.ensures ∙ ap (map (λ x. x.vertex)) c.deref-4.ensures.value) (c.in_ok-between_of.ensures ∙ ap (λ x. map (λ y. y.edge) (all_but_last x)) c.deref-5.ensures.value)
+    let f = g.R.Faced.faces c.args.records.now in
+    let slabs = c.in_ok-slabs.slabs in
+    all_told w v f c.requires.sound c.in_ok-ends.ends.items c.in_ok-ends.ensures slabs c.in_ok-corners.corners.items _
+    (subst (λ ks. AreSlabEdgesOf w v f ks slabs) c.deref-3.ensures.value c.in_ok-slabs.ensures)
+    (c.in_ok-corners.ensures ∙ ap (λ ks. corners_upto (corner_at w ks slabs) (length ks)) c.deref-4.ensures.value)
+    (c.in_ok-vertices_of.ensures ∙ ap (map (λ x. x.vertex)) c.deref-5.ensures.value) (c.in_ok-between_of.ensures ∙ ap (λ x. map (λ y. y.edge) (all_but_last x)) c.deref-6.ensures.value)

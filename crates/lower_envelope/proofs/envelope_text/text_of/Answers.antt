@@ -1,10 +1,7 @@
 use Rattle.std.proofs.Common.{List, ℕ, ◌++◌, ap, ◌∙◌}
 use Rattle.arr_notes.specs.RecordGraph.{drawn_graph}
 use Rattle.envelope_laws.specs.EnvelopeText.{outline_text}
-use Rattle.lower_envelope.proofs.envelope_text.text.Goals as goal
-
-pub put_envelope-requires-clause-sound : goal.put_envelope-requires-clause-sound
-put_envelope-requires-clause-sound g c = c.requires.graph
+use Rattle.lower_envelope.proofs.envelope_text.text_of.Goals as goal
 
 pub returns : goal.returns
 returns g c = λ h a lists.
