@@ -1,4 +1,4 @@
-ghost use Rattle.std.specs.Prelude.{◌≡◌, ◌<◌, ◌≤◌, length, take};
+ghost use Rattle.std.specs.Prelude.{◌≡◌, ◌<◌, ◌≤◌, false, length, take, IfSome};
 ghost use Rattle.exact_plane.specs.declared.bounds.TheConstants.{MAX_SIDES};
 ghost use Rattle.slab_laws.specs.declared.cell.Cell.TheVariants.{Edge as OnEdge};
 ghost use Rattle.slab_laws.specs.Sound.{IsGraphSound};
@@ -6,12 +6,14 @@ ghost use Rattle.slab_laws.specs.View.{HasDart, point_in, source_in, target_in};
 ghost use Rattle.dcel_records.specs.RecordsView.{tables_of};
 ghost use Rattle.dcel_records.specs.SoundMaps.{IsSoundMap};
 ghost use Rattle.face_location.specs.Spots.{IsSpotOf};
-ghost use Rattle.path_zone.specs.PathZone.{AreStarts};
+ghost use Rattle.path_zone.specs.PathZone.{is_begun as is_begun_by, AreStarts, AreStartsAmong};
+ghost use Rattle.arrangement.specs.PathStarts.{IsStartAmong};
 
 use counted_looks::Glance;
 use dcel_records::{Records, Spot};
 use exact_plane::{MAX_SIDES, Point, Segment};
 use locate_walk::locate as walk_up;
+use path_zone::is_begun;
 use slab_laws::{Cell, DartId, Darts, FaceId};
 use std::marker::Brand;
 use std::sync::ledger::{Blank, Ledger};
@@ -38,7 +40,45 @@ pub(crate) fn walk_to(records: &Records, p: &Point) -> Spot
     walk_counted::<Brand>(Blank::new(1), records, p)
 }
 
-/// Where the lower ends of a path's sides lie in the records, each at the place of its side. It takes no memory.
+// The start of one of the sides that begins at the point.
+fn start_among(sides: &[Segment], starts: &[Spot], p: &Point) -> Option<Spot>
+    requires { length sides.now ≤ length starts.now }
+    ensures { IfSome result (IsStartAmong sides.now starts.now p.now) }
+{
+    'sides: for (place, side) in sides.iter().enumerate() {
+        if side.lower() == *p {
+            return Some(starts[place]);
+        }
+    }
+    None
+}
+
+// Where a side begins, by the start of an earlier one that begins there, or else by a walk; any spot, where its zone begins on another
+// one's.
+fn start_of(
+    records: &Records,
+    sides: &[Segment],
+    before: &[Segment],
+    starts: &[Spot],
+    side: &Segment,
+) -> Spot
+    requires map { IsSoundMap records.now }
+    requires few { length before.now ≤ length starts.now }
+    requires known { AreStartsAmong records.now.graph (tables_of records.now) sides.now before.now (take (length before.now) starts.now) }
+    ensures { is_begun_by sides.now side.now ≡ false → IsSpotOf records.now.graph (tables_of records.now) side.now.lower result }
+{
+    if is_begun(sides, side) {
+        return Spot::Face(FaceId(0));
+    }
+    let lower = side.lower();
+    match start_among(before, starts, &lower) {
+        Some(spot) => spot,
+        None => walk_to(records, &lower),
+    }
+}
+
+/// Where the lower ends of a path's sides lie in the records, each at the place of its side; where a side begins on another one behind
+/// that one's lower end, any spot. No point is walked to twice. It takes no memory.
 pub(crate) fn starts_of(records: &Records, sides: &[Segment]) -> [Spot; MAX_SIDES]
     requires map { IsSoundMap records.now }
     requires few { length sides.now ≤ MAX_SIDES }
@@ -46,7 +86,8 @@ pub(crate) fn starts_of(records: &Records, sides: &[Segment]) -> [Spot; MAX_SIDE
 {
     let mut starts = [Spot::Face(FaceId(0)); MAX_SIDES];
     'sides: for (place, side) in sides.iter().enumerate() {
-        starts[place] = walk_to(records, &side.lower());
+        let (before, _) = sides.split_at(place);
+        starts[place] = start_of(records, sides, before, &starts, side);
     }
     starts
 }

@@ -68,6 +68,9 @@ module _ (s t : Segment) (P : IsSpan (span_of_segment s)) (Q : IsSpan (span_of_s
   pub crossed_by : (p q : Span) (c : Meet) → p ≡ span_of_segment s → q ≡ span_of_segment t → IsMeeting p q c → (x : Point) → IsCrossing s t x → c ≡ At x
   crossed_by p q c e d k = crossed c (subst (λ (a : Span). IsMeeting a (span_of_segment t) c) e (subst (λ (b : Span). IsMeeting p b c) d k))
 
+  pub only_by : (p q : Span) (c : Meet) (x : Point) → p ≡ span_of_segment s → q ≡ span_of_segment t → IsMeeting p q c → c ≡ At x → IsOnlyCommon (span_of_segment s) (span_of_segment t) x
+  only_by p q c x e d k a = subst (IsMeeting (span_of_segment s) (span_of_segment t)) a (subst (λ (u : Span). IsMeeting u (span_of_segment t) c) e (subst (λ (u : Span). IsMeeting p u c) d k))
+
   module _ (S : AreEnds s) (T : AreEnds t) (x : Point) (k : IsOnlyCommon (span_of_segment s) (span_of_segment t) x) (low : Lt s.lower x) (high : Lt x s.upper) where
     proper : IsProper x
     proper = point_is_proper x k.point

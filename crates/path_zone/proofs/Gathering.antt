@@ -1,20 +1,21 @@
--- Meetings that come side by side.
-use Rattle.std.proofs.Common.{◌≡◌, ◌⊎◌, ℕ, ◌+◌, ◌<◌, ◌≤◌, List, [], ◌∷◌, ◌++◌, length, drop, get_or, refl, sym, ◌∙◌, subst, inl, inr, ⊎_elim, add-one}
+-- Meetings that come.
+use Rattle.std.proofs.Common.{◌≡◌, ◌⊎◌, ℕ, ◌+◌, ◌<◌, ◌≤◌, List, [], ◌∷◌, ◌++◌, length, drop, get_or, refl, sym, ap, ◌∙◌, subst, inl, inr, ⊎_elim, add-one, arith}
 use Rattle.std.proofs.Math.Seq.{drop-cons}
-use Rattle.std.proofs.lemmas.List.{drop_all}
+use Rattle.std.proofs.lemmas.List.{drop_all, get_or-map, length-map}
 use Rattle.exact_plane.specs.Point.{Point}
 use Rattle.exact_plane.specs.Segment.{Segment}
 use Rattle.plane_graphs.specs.Ascending.{Member}
 use Rattle.plane_graphs.proofs.Ascending.{from_member}
-use Rattle.plane_graphs.proofs.Lists.{in_left, in_right, in_either, in_map, of_map}
+use Rattle.plane_graphs.proofs.Lists.{in_left, in_either, in_map, of_map}
 use Rattle.plane_graphs.proofs.Sorting.{member_at}
 use Rattle.slab_laws.specs.View.{View, Faces}
 use Rattle.zone_walk.specs.declared.plan.Meeting.{Meeting}
 use Rattle.zone_walk.specs.declared.plan.ZonePlan.{ZonePlan}
-use Rattle.zone_walk.specs.Zone.{meeting_points, IsZoneOf}
+use Rattle.zone_walk.specs.Zone.{IsZoneOf}
 use Rattle.path_zone.specs.Gathered.{HasMore, HasPoint, IsPathMeeting}
-use Rattle.path_zone.specs.PathZone.{IsCrossing, IsWhereSidesMeet}
-use Rattle.path_zone.proofs.Crossings.{crossing_back, crosses_other}
+use Rattle.path_zone.specs.PathZone.{IsCrossing}
+use Rattle.path_zone.specs.Zoned.{sides_zoned}
+use Rattle.path_zone.specs.declared.zoned.ZonedSide.{ZonedSide}
 
 -- ---- one point among meetings
 pub has_more : (ms : List Meeting) (ns : List Meeting) (x : Point) → ((m : Meeting) → Member m ms → Member m ns) → HasPoint ms x → HasPoint ns x
@@ -22,9 +23,18 @@ has_more ms ns x f i =
     let r = of_map (λ (m : Meeting). m.point) x ms i in
     subst (λ (p : Point). HasPoint ns p) (sym r.2) (in_map (λ (m : Meeting). m.point) r.0 ns (f r.0 r.1))
 
+-- ---- the sides of zones, by their places
+pub side_at : (zs : List ZonedSide) (i : ℕ) (z : ZonedSide) → i < length zs → z ≡ get_or zs i z → (i < length (sides_zoned zs)) × (z.side ≡ get_or (sides_zoned zs) i z.side)
+side_at zs i z l e =
+    let n = length-map zs (λ (y : ZonedSide). y.side) in
+    (omega (arith, l, n), ap (λ (y : ZonedSide). y.side) e ∙ sym (get_or-map (λ (y : ZonedSide). y.side) zs i z z.side l))
+
+pub no_more_sides : (zs : List ZonedSide) (i : ℕ) → length zs ≤ i → length (sides_zoned zs) ≤ i
+no_more_sides zs i l = let n = length-map zs (λ (y : ZonedSide). y.side) in omega (arith, l, n)
+
 -- ---- of more sides
 module _ (v : View) (f : Faces) (ss rs : List Segment) (all : (t : Segment) → Member t ss → Member t rs) where
-  of_more : (m : Meeting) → IsPathMeeting v f ss m → IsPathMeeting v f rs m
+  pub of_more : (m : Meeting) → IsPathMeeting v f ss m → IsPathMeeting v f rs m
   of_more m h = record {
     spot = h.spot;
     place = ⊎_elim
@@ -93,53 +103,3 @@ module _ (s : Segment) (ts : List Segment) (z : ZonePlan) (old : List Meeting) w
 
   pub crossed_all : (ms : List Meeting) (i : ℕ) → AreCrossed s ts z old ms i → length ts ≤ i → (t : Segment) (x : Point) → Member t ts → IsCrossing s t x → HasPoint ms x ⊎ HasPoint z.vertices x
   crossed_all ms i a l t x n c = ⊎_elim (λ w. w) (λ w. absurd (subst (Member t) (drop_all i ts l) w)) (a.there t x n c)
-
--- all of them
-module _ (v : View) (f : Faces) (s : Segment) (ts : List Segment) (z : ZonePlan) (h : IsZoneOf v f s z) (old mid ms new : List Meeting) (is : ms ≡ z.vertices) (items : new ≡ mid ++ ms) where
-  pub side_more : HasMore v f (s ∷ ts) old mid → HasMore v f (s ∷ ts) old new
-  side_more a = more_then v f (s ∷ ts) old mid new a (more_many v f (s ∷ ts) mid ms new items (λ m i. zone_meetings v f s ts z h m (subst (Member m) is i)))
-
-  of_zone : (x : Point) → HasPoint z.vertices x → HasPoint new x
-  of_zone x i = has_more z.vertices new x (λ m n. subst (Member m) (sym items) (in_right m mid ms (subst (Member m) (sym is) n))) i
-
-  pub side_each : (x : Point) → Member x (meeting_points v s) → HasPoint new x
-  side_each x i = of_zone x (subst (Member x) (sym h.points) i)
-
-  pub side_own : ((t : Segment) (x : Point) → Member t ts → IsCrossing s t x → HasPoint mid x ⊎ HasPoint z.vertices x) → (t : Segment) (x : Point) → Member t ts → IsCrossing s t x → HasPoint new x
-  side_own a t x n c = ⊎_elim (λ i. has_more mid new x (λ m k. subst (Member m) (sym items) (in_left m mid ms k)) i) (of_zone x) (a t x n c)
-
--- ---- all sides, as far as these were taken
-pub record AreGathered (v : View) (f : Faces) (ss rest : List Segment) (ms : List Meeting) : Type 0 where
-  pub more : HasMore v f ss [] ms
-  pub each : (s : Segment) (x : Point) → Member s ss → Member x (meeting_points v s) → HasPoint ms x ⊎ Member s rest
-  pub own : (x : Point) → IsWhereSidesMeet ss x → HasPoint ms x ⊎ IsWhereSidesMeet rest x
-
-module _ (v : View) (f : Faces) (ss : List Segment) where
-  pub gathered_first : (ms : List Meeting) → ms ≡ [] → AreGathered v f ss ss ms
-  gathered_first ms e = record { more = more_none v f ss [] ms e; each = λ s x i n. inr i; own = λ x w. inr w }
-
-  module _ (s : Segment) (rest : List Segment) (all : (t : Segment) → Member t (s ∷ rest) → Member t ss) (ms new : List Meeting) (a : AreGathered v f ss (s ∷ rest) ms)
-      (more : HasMore v f (s ∷ rest) ms new)
-      (each : (x : Point) → Member x (meeting_points v s) → HasPoint new x)
-      (own : (t : Segment) (x : Point) → Member t rest → IsCrossing s t x → HasPoint new x) where
-    still : (x : Point) → HasPoint ms x → HasPoint new x
-    still x i = has_more ms new x more.kept i
-
-    meet : (x : Point) (one other : Segment) → Member one (s ∷ rest) → Member other (s ∷ rest) → IsCrossing one other x → HasPoint new x ⊎ IsWhereSidesMeet rest x
-    meet x one other (inl e) (inl d) c = absurd (crosses_other s x (subst (λ (t : Segment). IsCrossing t s x) e (subst (λ (t : Segment). IsCrossing one t x) d c)))
-    meet x one other (inl e) (inr n) c = inl (own other x n (subst (λ (t : Segment). IsCrossing t other x) e c))
-    meet x one other (inr n) (inl e) c = inl (own one x n (crossing_back one s x (subst (λ (t : Segment). IsCrossing one t x) e c)))
-    meet x one other (inr m) (inr n) c = inr (record { one = one; other = other; one_in = m; other_in = n; crossing = c })
-
-    pub gathered_next : AreGathered v f ss rest new
-    gathered_next = record {
-      more = more_then v f ss [] ms new a.more (more_sides v f (s ∷ rest) ss all ms new more);
-      each = λ t x i n. ⊎_elim (λ k. inl (still x k)) (λ k. ⊎_elim (λ e. inl (each x (subst (λ (u : Segment). Member x (meeting_points v u)) e n))) (λ q. inr q) k) (a.each t x i n);
-      own = λ x w. ⊎_elim (λ k. inl (still x k)) (λ k. meet x k.one k.other k.one_in k.other_in k.crossing) (a.own x w);
-    }
-
-  pub gathered_each : (ms : List Meeting) → AreGathered v f ss [] ms → (s : Segment) (x : Point) → Member s ss → Member x (meeting_points v s) → HasPoint ms x
-  gathered_each ms a s x i n = ⊎_elim (λ k. k) (λ k. absurd k) (a.each s x i n)
-
-  pub gathered_own : (ms : List Meeting) → AreGathered v f ss [] ms → (x : Point) → IsWhereSidesMeet ss x → HasPoint ms x
-  gathered_own ms a x w = ⊎_elim (λ k. k) (λ k. absurd k.one_in) (a.own x w)

@@ -2,7 +2,11 @@ pub mod Crossings
 pub mod Within
 pub mod Gathering
 pub mod Added
-pub mod Looking
+pub mod Along
+pub mod Ends
+pub mod Starts
+pub mod SweepOrder
+pub mod Budgets
 pub mod OnTheWay
 pub mod Ordered
 pub mod Planned

@@ -107,6 +107,10 @@ module _ (v : View) (f : Faces) (s : Segment) (z : ZonePlan) (x : Point) (h : Is
       let d = lower_at.meeting in
       subst (λ (p : Point). Member p ps) (point_cmp_exact (get_or ms k d).point x (same d)) (in_map (λ (m : Meeting). m.point) (get_or ms k d) ms (member_at ms k d l))
 
+  pub spot_found : (k : ℕ) → k < length ms → (d : Meeting) → point_cmp (get_or ms k d).point x ≡ Equal → IsSpotOf v f x (get_or ms k d).spot
+  spot_found k l d same =
+      subst (λ (p : Point). IsSpotOf v f p (get_or ms k d).spot) (point_cmp_exact (get_or ms k d).point x same) (h.zone.spots (get_or ms k d) (from_member ms (get_or ms k d) (member_at ms k d l)))
+
   -- ---- the search found none
   searchable : IsNonDecreasingBy (λ (m : Meeting). ordering_index (point_cmp m.point x)) ms
   searchable = searchable_from_sorted point_cmp_total (λ (m : Meeting). m.point) ms x sorted

@@ -1,2 +1,4 @@
 pub mod PathZone
 pub mod Gathered
+pub mod Begun
+pub mod Zoned

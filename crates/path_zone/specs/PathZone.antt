@@ -1,11 +1,11 @@
 -- What the sides of a path meet of a graph, and where they meet one another.
-use Rattle.std.specs.Prelude.{◌≡◌, ◌⊎◌, ◌≤◌, ◌+◌, ◌*◌, ⊤, ℕ, true, false, List, [], ◌∷◌, Contains}
-use Rattle.std.specs.List.{sum_by}
+use Rattle.std.specs.Prelude.{◌≡◌, ◌⊎◌, ◌≤◌, ◌+◌, ◌*◌, ◌&&◌, ⊤, ℕ, Bool, true, false, List, [], ◌∷◌, Contains}
+use Rattle.std.specs.List.{list_any, sum_by}
 use Rattle.exact_plane.specs.Point.{Point}
 use Rattle.exact_plane.specs.PointOrder.{point_cmp}
 use Rattle.exact_plane.specs.Segment.{Segment, line_of_segment}
 use Rattle.plane_graphs.specs.Ascending.{Member, IsAscending}
-use Rattle.plane_graphs.specs.Line.{are_parallel, crossing}
+use Rattle.plane_graphs.specs.Line.{are_parallel, crossing, precedes}
 use Rattle.slab_laws.specs.View.{View, Faces}
 use Rattle.dcel_records.specs.declared.spot.Spot.{Spot}
 use Rattle.face_location.specs.Spots.{IsSpotOf}
@@ -13,11 +13,23 @@ use Rattle.zone_walk.specs.declared.plan.Meeting.{Meeting}
 use Rattle.zone_walk.specs.Zone.{is_on_segment, meeting_points, points_of_meetings, degree_at, edges_met, CoversVisits}
 use Rattle.path_zone.specs.declared.plan.PathPlan.{PathPlan}
 
--- there are as many spots as sides, and each is where its side's lower end lies (this project)
+-- the segment has the point behind its lower end
+abbrev pub has_behind : Segment → Point → Bool
+has_behind s p = precedes s.lower p && is_on_segment s p
+
+-- the side begins on one of the sides behind that one's lower end (this project)
+abbrev pub is_begun : List Segment → Segment → Bool
+is_begun ss s = list_any (λ t. has_behind t s.lower) ss
+
+-- there are as many spots as sides, and each is where its side's lower end lies, unless the side begins on one of all behind that one's lower end (this project)
+abbrev pub AreStartsAmong : View → Faces → List Segment → List Segment → List Spot → Type 0
+AreStartsAmong v f all [] [] = ⊤
+AreStartsAmong v f all (s ∷ ss) (spot ∷ spots) = (is_begun all s ≡ false → IsSpotOf v f s.lower spot) × AreStartsAmong v f all ss spots
+AreStartsAmong v f all ss spots = ⊥
+
+-- there are as many spots as sides, and each is where its side's lower end lies, where no other side begins before it and has that point (this project)
 abbrev pub AreStarts : View → Faces → List Segment → List Spot → Type 0
-AreStarts v f [] [] = ⊤
-AreStarts v f (s ∷ ss) (spot ∷ spots) = IsSpotOf v f s.lower spot × AreStarts v f ss spots
-AreStarts v f ss spots = ⊥
+AreStarts v f ss starts = AreStartsAmong v f ss ss starts
 
 -- two sides whose lines aren't parallel, and the point on both (CGAL manual, intersections of x-monotone curves)
 pub record IsCrossing (s t : Segment) (x : Point) : Type 0 where

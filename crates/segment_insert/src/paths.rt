@@ -239,8 +239,8 @@ fn insert_sides<L: Ledger>(
 ///
 /// Sides may cross, touch and overlap: an edge along which several of them run gets the curve once, and holds each side.
 /// `curves` and `pieces` are the limits of named curves and of pieces; `starts` are the spots of the sides' lower ends, one for
-/// each side, with the name of the face where one is inside a face; `steps` counts the looks of the zones. All memory of its own
-/// is taken before the first note.
+/// each side, with the name of the face where one is inside a face, and any spot where a side begins on another one behind that one's
+/// lower end; `steps` counts the looks of the zones. All memory of its own is taken before the first note.
 pub fn insert_path<L: Ledger>(
     alloc: Global,
     records: &mut Records,

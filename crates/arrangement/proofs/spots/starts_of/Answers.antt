@@ -1,6 +1,4 @@
-use Rattle.std.proofs.Common.{subst}
 use Rattle.dcel_records.specs.RecordsView.{tables_of}
-use Rattle.face_location.specs.Spots.{IsSpotOf}
 use Rattle.arrangement.proofs.Started.{started_next}
 use Rattle.arrangement.proofs.spots.starts_of.Goals as goal
 
@@ -8,4 +6,4 @@ pub sides-preserved : goal.sides-preserved
 sides-preserved c =
     let v = c.args.records.now.graph in
     let f = tables_of c.args.records.now in
-    started_next v f c.args.sides.now c.requires.few c.sides.starts c.sides.place c.sides.invariant c.index-sides-place.result c.walk_to.result c.sides-test.true c.index-sides-place.is (subst (λ p. IsSpotOf v f p c.walk_to.result) c.lower.ensures.value c.walk_to.ensures)
+    started_next v f c.args.sides.now c.args.sides.now c.requires.few c.sides.starts c.sides.place c.sides.invariant c.index-sides-place.result c.start_of.result c.sides-test.true c.index-sides-place.is c.start_of.ensures

@@ -3,4 +3,4 @@ use Rattle.arrangement.proofs.Started.{AreStarted}
 use Rattle.arrangement.proofs.spots.starts_of.Given as goal
 
 abbrev pub invariant-sides : goal.invariant-sides
-invariant-sides l = AreStarted l.records.graph (tables_of l.records) l.sides l.starts l.place
+invariant-sides l = AreStarted l.records.graph (tables_of l.records) l.sides l.sides l.starts l.place

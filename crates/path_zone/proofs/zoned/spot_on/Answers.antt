@@ -1,8 +1,8 @@
 use Rattle.std.proofs.Common.{rules}
 use Rattle.std.proofs.lemmas.Fn.{always_returns_same}
 use Rattle.exact_plane.specs.PointOrder.{point_cmp}
-use Rattle.path_zone.proofs.Within.{found, within_by}
-use Rattle.path_zone.proofs.path.spot_within.Goals as goal
+use Rattle.path_zone.proofs.Within.{spot_found, within_by}
+use Rattle.path_zone.proofs.zoned.spot_on.Goals as goal
 
 pub overflow_sub-result : goal.overflow_sub-result
 overflow_sub-result c =
@@ -18,10 +18,10 @@ bounds-as_slice-after c =
 pub returns-in-Ok : goal.returns-in-Ok
 returns-in-Ok c v f s h =
     let vertices = c.as_slice-vertices.ensures in
-    found v f s c.args.plan.now c.args.point.now h c.in-Ok.field-0 (rw vertices at c.in-Ok.ensures.bound)
-    (rw vertices at (c.in-Ok.ensures.position (λ m. point_cmp m.point c.args.point.now) (always_returns_same _ _ _ (λ a r f' k. (search rules, search rules)))))
+    rw vertices (spot_found v f s c.args.plan.now c.args.point.now h c.in-Ok.at (rw vertices at c.in-Ok.ensures.bound) _
+    (rw vertices at (c.in-Ok.ensures.position (λ m. point_cmp m.point c.args.point.now) (always_returns_same _ _ _ (λ a r f' k. (search rules, search rules)))) _))
 
 pub returns-in-Err : goal.returns-in-Err
 returns-in-Err c v f s h =
     let w = within_by v f s c.args.plan.now c.args.point.now h c.as_slice-vertices.result.now c.in-Err.after c.as_slice-vertices.ensures (c.in-Err.ensures.position (λ m. point_cmp m.point c.args.point.now) (always_returns_same _ _ _ (λ a r f' k. (search rules, search rules)))) in
-    (rw c.as_slice.ensures (w.2 _), w.3)
+    rw c.as_slice.ensures (w.2 _)
