@@ -11,5 +11,6 @@ mod Orders
 mod Steps
 mod Puts
 mod Taken
+mod Bounds
 mod Built
 mod Found

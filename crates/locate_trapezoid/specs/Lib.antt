@@ -6,3 +6,5 @@ pub mod Arrivals
 pub mod Scattered
 pub mod Graphs
 pub mod Built
+pub mod Bounds
+pub mod Seeds

@@ -12,6 +12,7 @@
 
 mod above;
 mod arrival;
+mod bound;
 mod building;
 mod descent;
 mod graph;
@@ -19,6 +20,7 @@ mod insertion;
 mod node;
 mod order;
 mod scatter;
+mod seed;
 mod split;
 mod trapezoids;
 

@@ -44,18 +44,18 @@ fn place_of(number: u64, count: usize) -> usize
 }
 
 /// The same tests, each once for a place, in a scattered order: as many places as there are tests are drawn by numbers that look as if by
-/// lot, the same ones each time, and then those come that weren't drawn. So neighbours come far apart. In their own order a row of edges
-/// would make a way as long as the row, and by even steps a grid makes one as long as its rows.
+/// lot, the same ones each time that they begin with the same seed, and then those come that weren't drawn. So neighbours come far apart.
+/// In their own order a row of edges would make a way as long as the row, and by even steps a grid makes one as long as its rows.
 ///
 /// # Errors
 ///
 /// There was no memory.
-pub fn scattered(alloc: Global, tests: &[Test]) -> Result<Vec<Test>, NoMemory>
+pub fn scattered(alloc: Global, tests: &[Test], seed: u64) -> Result<Vec<Test>, NoMemory>
     ensures { IfOk result (λ v. (t : _) → Contains v.items t ↔ Contains tests.now t) }
 {
     let mut order = Vec::new(alloc);
     let mut marks = vec![in alloc; false; tests.len()]?;
-    let mut number = 1;
+    let mut number = seed;
     'draws: for _count in 0..tests.len() {
         number = drawn(number);
         take(&mut order, &mut marks, tests, place_of(number, tests.len()))?;

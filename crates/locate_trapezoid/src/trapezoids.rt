@@ -123,7 +123,9 @@ impl Trapezoids {
     /// Builds it for these records, whatever it was before.
     ///
     /// All edges, and all vertices without edges, are put into the search graph one after another, in a scattered order, so that
-    /// no row of neighbours makes a way as long as the row.
+    /// no row of neighbours makes a way as long as the row. The order comes of where they all are, so that none is known before
+    /// they are there. A graph that becomes larger or deeper than nearly all orders make one of so many edges is given up, and begun
+    /// anew in another order, a few times at most.
     ///
     /// # Errors
     ///
