@@ -7,8 +7,9 @@
 Parcels are polygons and addresses points, each in a form that lines_to_script.py reads. For each address it writes its name, a tab, and the
 names of the parcels that it is in, or `on a border`, or nothing. Standard error tells how many there were, and the program's processor time.
 
-All is one script: the sides of parcels as segments, each once, a `locate` for each address, and `show`, by which each face is named. The
-program is the one that scripts/program.sh names, if none is given. --script writes the script in place of running it.
+All is one script: the sides of parcels as segments, each once, a `locate` for the first address, `batch` lines of up to eight for the
+others, and `show`, by which each face is named. The program is the one that scripts/program.sh names, if none is given. --script writes
+the script in place of running it.
 
 Python 3.8 or later, with its standard library alone.
 """
@@ -16,16 +17,20 @@ Python 3.8 or later, with its standard library alone.
 from __future__ import annotations
 
 import argparse
+import re
 import resource
 import subprocess
 import sys
 from pathlib import Path
 from typing import Dict, Iterator, List, Tuple
 
-from lines_to_script import CantConvert, Feature, Frame, Plan, demand_room, features_of, frame_for, options_of, plan_of, script_of, table_of
+from lines_to_script import LONGEST_LINE, CantConvert, Feature, Frame, Plan, demand_room, features_of, frame_for, options_of, plan_of
+from lines_to_script import script_of, table_of
 from read_show import names_of_faces, read_show, table_in, texts_in
 
 WAYS = ["naive", "walk", "landmarks", "trapezoid"]
+MOST_IN_BATCH = 8
+BATCH = re.compile(r"^batch [1-8]\n((?:(?:vertex|edge|face) .*\n)+)end\n", re.MULTILINE)
 
 
 def frame_and_plan(features: List[Feature]) -> Tuple[Frame, Plan]:
@@ -41,7 +46,31 @@ def frame_and_plan(features: List[Feature]) -> Tuple[Frame, Plan]:
 def script_for(features: List[Feature]) -> Tuple[Plan, str]:
     """The whole script, with its plan."""
     frame, plan = frame_and_plan(features)
-    return plan, "".join(line + "\n" for line in [*script_of(features, frame, plan), "show"])
+    return plan, "".join(line + "\n" for line in [*in_batches(list(script_of(features, frame, plan))), "show"])
+
+
+def in_batches(lines: List[str]) -> Iterator[str]:
+    """The lines, in which the points of the addresses but the first one stand together, behind the comments with their names.
+
+    By the first one the program builds what a way of location wants, and a batch takes what is built.
+    """
+    first = next((place for place, line in enumerate(lines, 1) if line.startswith("locate")), len(lines))
+    yield from lines[:first]
+    notes, batch = [], "batch"
+    for note, line in zip(lines[first::2], lines[first + 1 :: 2]):
+        point = line[len("locate") :]
+        if len(notes) == MOST_IN_BATCH or len(batch + point) > LONGEST_LINE:
+            yield from [*notes, batch]
+            notes, batch = [], "batch"
+        notes.append(note)
+        batch += point
+    if notes:
+        yield from [*notes, batch]
+
+
+def one_by_one(replies: str) -> str:
+    """The replies as if each point had been located by a line of its own."""
+    return BATCH.sub(r"\1", replies)
 
 
 def read_features(name: str, is_parcels: bool) -> List[Feature]:
@@ -75,6 +104,7 @@ def processor_time() -> float:
 
 def joined(parcels: List[Feature], addresses: List[Feature], plan: Plan, replies: str) -> Iterator[Tuple[str, str]]:
     """Each address with what is told of it."""
+    replies = one_by_one(replies)
     rows = list(table_of(parcels + addresses, plan, replies))
     names = names_of_faces(read_show(texts_in(replies)[-1]), table_in("\n".join(rows[: len(parcels)])))
     for address, row in zip(addresses, rows[len(parcels) :]):

@@ -3,7 +3,7 @@
 
     stand_in.py --locate walk < map.script
 
-It knows `segment`, `path`, `drop`, `pin`, `locate`, `edge`, `count` and `show`, refuses equal ends (7), an unknown curve (8) or edge (9),
+It knows `segment`, `path`, `drop`, `pin`, `locate`, `batch`, `edge`, `count` and `show`, refuses equal ends (7), an unknown curve (8) or edge (9),
 and all else as no command (1). After an edit it makes the subdivision anew from all pairs of sides. The words of the command line are left
 unread, but for --help. Python 3.8 or later, with its standard library alone.
 """
@@ -20,7 +20,7 @@ import os
 from fractions import Fraction
 from typing import Dict, Iterator, List, Optional, Set, Tuple
 
-from read_replies import Counts, Done, Edge, Face, Place, Vertex, written
+from read_replies import Batch, Counts, Done, Edge, Face, Place, Vertex, written
 from read_show import Dart, Key, Point, Rows, Subdivision, cycles_of, goes_round, point_in, spaced
 from read_show import Vertex as NumberedVertex
 
@@ -113,6 +113,9 @@ class Map:
         round_it = [face for face in read.faces[1:] if goes_round(face.outer.points, point)]
         return Face(min(round_it, key=lambda face: face.outer.area, default=read.faces[0]).rank)
 
+    def batch(self, *points: Point) -> Batch:
+        return Batch(tuple(map(self.locate, points)))
+
     def curves_of(self, p: Point, q: Point) -> str:
         for dart in self.subdivision().darts:
             if (dart.source.point, dart.target.point) == (p, q):
@@ -127,11 +130,11 @@ class Map:
 
     def reply(self, command: str, words: List[str]) -> str:
         """The reply to a line, without its last line end."""
-        questions = {"locate": self.locate, "edge": self.curves_of, "count": self.counts, "show": self.subdivision}
+        questions = {"locate": self.locate, "batch": self.batch, "edge": self.curves_of, "count": self.counts, "show": self.subdivision}
         if command in questions:
             points = [point_in(words[place : place + 3]) for place in range(0, len(words), 3)]
             answer = questions[command](*points)
-            return answer if isinstance(answer, str) else answer.text()[:-1] if command == "show" else written(answer)[0]
+            return answer if isinstance(answer, str) else answer.text()[:-1] if command == "show" else "\n".join(written(answer))
         self.made = None
         if command == "drop" and int(words[0]) not in self.curves:
             raise Refused(8)

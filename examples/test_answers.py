@@ -301,6 +301,22 @@ class Join(unittest.TestCase):
             with self.assertRaises(ValueError):
                 list(join.joined(self.parcels, self.addresses, plan, other))
 
+    def test_batches(self):
+        asked = [line for place in range(20) for line in (f"# {place}", f"locate {place} 0 1")]
+        found = list(join.in_batches(["segment 0 0 1 1", *asked]))
+        self.assertEqual(found[:4], ["segment 0 0 1 1", "# 0", "locate 0 0 1", "# 1"])
+        batches = [line.split() for line in found if line.startswith("batch")]
+        self.assertEqual([words[1::3] for words in batches], [[str(k) for k in range(1, 9)], [str(k) for k in range(9, 17)], ["17", "18", "19"]])
+        # With a fourth point of 74 bytes a line would have 301.
+        far = [line for _ in range(10) for line in ("# far", "locate" + " " + "1" * 35 + " " + "1" * 35 + " 1")]
+        found = list(join.in_batches(far))
+        self.assertEqual([line.count(" ") // 3 for line in found if line.startswith("batch")], [3, 3, 3])
+        self.assertEqual(found[1:6], [far[1], "# far", "# far", "# far", "batch" + far[1][6:] * 3])
+        self.assertEqual(list(join.in_batches(["show"])), ["show"])
+        replies = "ok 1\nface 0\nbatch 2\nvertex 0 0 1\nface 1\nend\nbatch 1\nface 2\nend\n"
+        self.assertEqual(join.one_by_one(replies), "ok 1\nface 0\nvertex 0 0 1\nface 1\nface 2\n")
+        self.assertEqual(join.one_by_one("batch 1\nno memory\nend\n"), "batch 1\nno memory\nend\n")
+
     def test_wrong_files_are_refused(self):
         with tempfile.TemporaryDirectory() as folder:
             lines, points = Path(folder, "lines.wkt"), Path(folder, "points.wkt")

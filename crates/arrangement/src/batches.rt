@@ -14,8 +14,9 @@ use slab_laws::{Cell, Strategy};
 use std::alloc::Global;
 use vertical_parts::locate_all as sweep_to_all;
 
-// With one point for so many edges a sweep over all edges costs what the walks cost (benchmarks/README.md).
-const EDGES_A_WALK: usize = 13;
+// With so many times the square root of the edges' number of points a sweep over all edges costs what the walks cost
+// (benchmarks/README.md): it costs what all edges cost, and a walk passes some square root of them where most are inside.
+const POINTS_A_ROOT: usize = 4;
 
 impl LayerRecords {
     // Where each of many points lies, by a walk to each. It takes no memory but for the answer.
@@ -65,7 +66,7 @@ impl LayerRecords {
         ensures same { self.new ≡ self.old }
     {
         let edges = self.records.counts().darts / 2;
-        if points.len() < edges / EDGES_A_WALK {
+        if points.len() / POINTS_A_ROOT < edges.isqrt() {
             self.walk_to_each(alloc, points)
         } else {
             self.sweep_to_each(alloc, points)
