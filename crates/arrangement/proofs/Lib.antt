@@ -13,3 +13,5 @@ pub mod PresentsRead
 pub mod OverlayRows
 mod PiecesCounted
 mod OddEnds
+pub mod Listing
+pub mod ZonesMet

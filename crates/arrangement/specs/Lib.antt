@@ -8,3 +8,6 @@ pub mod FacesRead
 pub mod FaceNumbers
 pub mod SpotCells
 pub mod OddEnds
+pub mod PathStarts
+pub mod Zones
+pub mod Listed

@@ -10,6 +10,7 @@ mod envelopes;
 mod faces;
 mod layer_records;
 mod limits;
+mod lists;
 mod observers;
 mod odd_ends;
 mod overlaid;
@@ -20,17 +21,24 @@ mod regions;
 mod regions_between;
 mod spots;
 mod verticals;
+mod zones;
 
-pub use arr_notes::{Answer, Change, Intent, Linked, Note, Observer, Unlinked, View};
+pub use arr_notes::{
+    Answer, Change, CycleRow, DartRow, EdgeRow, Intent, Linked, Note, Observer, Unlinked,
+    VertexRow, View,
+};
 pub use arrangement::Arrangement;
-pub use curve_history::{History, HistoryError};
-pub use dcel_records::{Records, Spot};
-pub use exact_plane::{Line, MAX_SIDES, Path, PathError, Point, PointError, Segment, SegmentError};
+pub use curve_history::{CutPlan, Drawn, History, HistoryError, LAST_CURVE, PieceIter};
+pub use dcel_records::{Met, RankKey, RecordCounts, Records, Room, Spot};
+pub use exact_plane::{
+    Line, MAX_COORDINATE, MAX_SIDES, Path, PathError, Point, PointError, Segment, SegmentError,
+    WEIGHT_LIMIT, WholeParts,
+};
 pub use limits::{Limits, MAX_CURVES, MAX_PIECES, MAX_PINS};
 pub use locate_naive::edge_dart;
 pub use lower_envelope::{Envelope, Which};
 pub use no_memory::NoMemory;
-pub use observer_bus::{AttachError, Bus, NoSeat, ReportError, SEATS, Seat, Went};
+pub use observer_bus::{AttachError, Bus, Names, NoSeat, ReportError, SEATS, Seat, Went};
 pub use overlaid::Overlay;
 pub use overlays::overlay;
 pub use pin_points::{MergeError, NotPinned, PinError, SplitError};
@@ -41,7 +49,9 @@ pub use regions_between::region;
 pub use segment_insert::InsertError;
 pub use segment_remove::{CutError, DropError};
 pub use slab_laws::{
-    Cell, CurveId, CycleId, CycleKind, DartId, Darts, FaceId, FaceLists, Faced, Layered, Piece,
-    Strategy, VertexId,
+    Cell, CurveId, Curved, CycleId, CycleKind, DartId, Darts, FaceId, FaceLists, Faced, Layered,
+    Moved, Piece, Sequence, Strategy, VertexId,
 };
 pub use vertical_parts::{Next, Part};
+pub use zone_walk::Meeting;
+pub use zones::Zone;

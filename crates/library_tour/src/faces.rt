@@ -3,11 +3,12 @@ ghost use Rattle.arrangement.specs.Arranged.{arranged, IsWatched};
 use crate::maps::{draw_all, new_map};
 use crate::walk::walk;
 use crate::words::put_corners;
+use anyhow::Context;
 use arrangement::{Arrangement, Darts, NoMemory, Segment, edge_dart};
 use std::alloc::Global;
 
 // Two parcels, side by side, and a road across both.
-fn draw_map(map: &mut Arrangement)
+fn draw_map(map: &mut Arrangement) -> anyhow::Result<()>
     requires watched { IsWatched (arranged Observer-dyn map.old) }
     ensures watched { IsWatched (arranged Observer-dyn map.new) }
 {
@@ -19,7 +20,7 @@ fn draw_map(map: &mut Arrangement)
         (3, 0, 3, 4),
         (-2, 1, 8, 3),
     ];
-    draw_all(map, &segments);
+    draw_all(map, &segments)
 }
 
 // The corners of the faces on both sides of an edge: the one on its left, going from its lower to its upper end, then the other.
@@ -42,20 +43,20 @@ fn put_sides(
 }
 
 // The corners of the faces on both sides of the lower part of the fence between the parcels.
-fn sides_of_fence(alloc: Global, map: &Arrangement) -> Result<Vec<u8>, NoMemory> {
+fn sides_of_fence(alloc: Global, map: &mut Arrangement) -> anyhow::Result<Vec<u8>>
+    requires watched { IsWatched (arranged Observer-dyn map.old) }
+{
+    draw_map(map)?;
     let mut out = Vec::new(alloc);
-    match Segment::new(3, 0, 3, 2) {
-        Ok(fence) => put_sides(alloc, &mut out, map, &fence)?,
-        Err(_) => {}
-    }
+    let fence = Segment::new(3, 0, 3, 2).context("the fence is no segment")?;
+    put_sides(alloc, &mut out, map, &fence)?;
     Ok(out)
 }
 
 /// The corners of the two faces at a fence.
-pub fn corners_at_fence(alloc: Global) -> Result<Vec<u8>, NoMemory> {
+pub fn corners_at_fence(alloc: Global) -> anyhow::Result<Vec<u8>> {
     let mut map = new_map(alloc)?;
-    draw_map(&mut map);
-    let lines = sides_of_fence(alloc, &map);
+    let lines = sides_of_fence(alloc, &mut map);
     drop(map);
     lines
 }

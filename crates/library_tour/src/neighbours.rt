@@ -3,14 +3,15 @@ ghost use Rattle.plane_graphs.specs.Ascending.{Member};
 ghost use Rattle.slab_laws.specs.View.{HasDart, HasFace, HasVertex};
 ghost use Rattle.arrangement.specs.Arranged.{arranged, IsWatched};
 
-use crate::maps::{draw_all, new_map};
+use crate::maps::{dig, draw_all, new_map};
+use anyhow::Context;
 use arrangement::{
     Arrangement, CycleKind, DartId, Darts, FaceId, NoMemory, Point, Segment, VertexId, edge_dart,
 };
 use std::alloc::Global;
 
 // Two parcels, side by side, a road across both, a pond in the left one above the road, and a well beside the pond.
-fn draw_map(map: &mut Arrangement)
+fn draw_map(map: &mut Arrangement) -> anyhow::Result<()>
     requires watched { IsWatched (arranged Observer-dyn map.old) }
     ensures watched { IsWatched (arranged Observer-dyn map.new) }
 {
@@ -25,13 +26,8 @@ fn draw_map(map: &mut Arrangement)
         (2, 2, 2, 3),
         (2, 3, 1, 2),
     ];
-    draw_all(map, &segments);
-    match Point::new(1, 3, 1) {
-        Ok(well) => {
-            let _pinned = map.pin(&well);
-        }
-        Err(_) => {}
-    }
+    draw_all(map, &segments)?;
+    dig(map, 1, 3, 1)
 }
 
 // How many edges each of the boundaries has that these darts are on.
@@ -203,22 +199,21 @@ fn put_face(
     put_isolated(alloc, out, map, face)
 }
 
-fn put_all(alloc: Global, out: &mut String, map: &mut Arrangement) -> Result<(), NoMemory> {
-    match Point::new(1, 7, 2) {
-        Ok(p) => put_face(alloc, out, map, &p)?,
-        Err(_) => {}
-    }
-    match Segment::new(3, 2, 3, 4) {
-        Ok(fence) => put_fence(alloc, out, map, &fence),
-        Err(_) => Ok(()),
-    }
+fn put_all(alloc: Global, out: &mut String, map: &mut Arrangement) -> anyhow::Result<()>
+    requires watched { IsWatched (arranged Observer-dyn map.old) }
+{
+    draw_map(map)?;
+    let inside = Point::new(1, 7, 2).context("there is no such point")?;
+    put_face(alloc, out, map, &inside)?;
+    let fence = Segment::new(3, 2, 3, 4).context("the fence is no segment")?;
+    put_fence(alloc, out, map, &fence)?;
+    Ok(())
 }
 
 /// What a face has on its boundaries and in it, which faces are across its edges, and which are round one of its corners.
-pub fn told_neighbours(alloc: Global) -> Result<String, NoMemory> {
+pub fn told_neighbours(alloc: Global) -> anyhow::Result<String> {
     let mut out = String::new(alloc);
     let mut map = new_map(alloc)?;
-    draw_map(&mut map);
     let put = put_all(alloc, &mut out, &mut map);
     drop(map);
     put?;

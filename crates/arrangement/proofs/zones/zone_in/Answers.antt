@@ -1,0 +1,11 @@
+use Rattle.std.proofs.Common.{◌≡◌, refl, arith}
+use Rattle.arrangement.proofs.zones.zone_in.Goals as goal
+
+pub zone_counted-requires : goal.zone_counted-requires
+zone_counted-requires c = record {
+  name = refl;
+  parts = refl;
+  some = omega arith;
+  map = c.requires.map;
+  start = let at : c.lower.result ≡ c.args.segment.now.lower = c.lower.ensures.value in rw (← at) c.walk_to-start.ensures;
+}
