@@ -4,8 +4,9 @@
 #   cd crates/planar && rt run < /dev/null && cd ../.. && benchmarks/fail_calls.sh PROGRAM ORACLE [SCRIPT..]
 #
 # PROGRAM is crates/planar/out/planar, ORACLE the folder of the program's executable meaning (planar_oracle.py, rows.py,
-# generate.py). With no SCRIPT it takes five worked rows, the scripts of crates/planar/cases/ and examples/, 200 random ones of
-# each kind by turns, with two mirrors in each layer, and --make 40. It makes a small library (with `cc`) that stands before the
+# generate.py). With no SCRIPT it takes fourteen worked rows, the scripts of crates/planar/cases/ and examples/ but those of more than
+# 300 lines, 20 random ones aimed at each of `path`, `region`, `vertical`, `batch` and `envelope`, 200 random ones of each kind by
+# turns, the random ones with two mirrors in each layer, and --make 40. It makes a small library (with `cc`) that stands before the
 # C library, and runs each script
 # - under each way of location, with each allocation refused, alone and with all that follow: each run ends with status 5 and
 #   nothing written, or with status 0. There the first reply that differs from the right ones is `no memory`, or names only

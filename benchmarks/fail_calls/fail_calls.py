@@ -8,12 +8,17 @@ import time
 program, library, oracle, scripts = sys.argv[1], sys.argv[2], sys.argv[3], sys.argv[4:]
 sys.path.insert(0, oracle)
 
+from aimed import COMMANDS, aimed_script
 from generate import KINDS, make_script
 from judge import STAGE, Kept, Wrong, missed
 from planar_oracle import STRATEGIES, made_script, script_lines
 from rows import ROWS
 
-NAMED = ('one edge of two curves', 'islands', 'cuts', 'planned observers', 'overlay of squares')
+NAMED = ('one edge of two curves', 'islands', 'cuts', 'planned observers', 'overlay of squares', 'path folded back', 'path across itself',
+         'regions', 'doubled region', 'vertical neighbours', 'vertical edge', 'batch', 'envelopes', 'empty envelope')
+# A script with more lines shows limits, and has too many allocations.
+MOST_LINES = 300
+AIMED = 20
 SECONDS = 600
 wrong = 0
 
@@ -160,7 +165,11 @@ def groups():
     yield 'worked rows', [(row.name, b''.join(line.encode() + b'\n' for line, _ in row.steps)) for row in rows]
     for folder in 'crates/planar/cases', 'examples':
         paths = sorted(os.path.join(folder, file) for file in os.listdir(folder) if file.endswith('.script'))
-        yield folder, [(path, open(path, 'rb').read()) for path in paths]
+        read = [(path, open(path, 'rb').read()) for path in paths]
+        yield folder, [(path, script) for path, script in read if script.count(b'\n') <= MOST_LINES]
+    for command in COMMANDS:
+        yield f'random scripts aimed at {command}', [(f'{command} {seed}', with_observers(aimed_script(15000 + seed, command, STAGE)))
+                                                     for seed in range(AIMED)]
     for kind in KINDS:
         made = []
         for seed in range(200 // len(KINDS)):
@@ -177,7 +186,7 @@ if not scripts:
     tally = Tally()
     judge_made(40, tally)
     tally.tell('--make 40')
-    named = list(groups())[0][1]
+    named = next(groups())[1]
     calls = sum(judge_faults(name, script) for name, script in named)
     print('worked rows: %d reads and writes failing' % calls)
 print('%d wrong' % wrong)

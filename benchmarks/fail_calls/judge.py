@@ -1,7 +1,8 @@
 """What a script may be answered where memory is refused, by the program's executable meaning (planar_oracle.py)."""
 import copy
 
-from planar_oracle import BLUE, EDITS, RED, Graph, Layer, Overlay, Refused, Subdivision, World, overlay_text, read_line, show_text
+from planar_oracle import (BLUE, EDITS, RED, Graph, Layer, Overlay, Refused, Subdivision, World, envelope_text, overlay_text, read_line,
+                           region_text, show_text, vertical_text)
 
 # Of the meaning's stages, the one of this program.
 STAGE = 20
@@ -63,10 +64,27 @@ class KeptWorld(World):
     def answer_mirror(self, command):
         return self.layers[self._seated(command.numbers[0]).layer].text()
 
+    def both(self):
+        return tuple(layer.key() for layer in self.layers)
+
+    def kept_overlay(self):
+        return self.kept.get_or(('overlay', self.both()), lambda: Overlay(*map(copy.copy, self.layers)))
+
     def answer_overlay(self, command):
-        layers = [copy.copy(layer) for layer in self.layers]
-        key = 'overlay', layers[0].key(), layers[1].key()
-        return self.kept.get_or(key, lambda: overlay_text(Overlay(*layers)))
+        return self.kept.get_or(('overlay text', self.both()), lambda: overlay_text(self.kept_overlay()))
+
+    def answer_region(self, command):
+        operation = command.fixed[0]
+        if any(layer.least_odd_point() is not None for layer in self.layers):
+            raise Refused(19)
+        return self.kept.get_or(('region', operation, self.both()), lambda: region_text(self.kept_overlay(), operation))
+
+    def answer_vertical(self, command):
+        return self.kept.get_or(('vertical', self.layer().key()), lambda: vertical_text(copy.copy(self.layer())))
+
+    def answer_envelope(self, command):
+        which = command.fixed[0]
+        return self.kept.get_or(('envelope', which, self.layer().key()), lambda: envelope_text(copy.copy(self.layer()), which))
 
     def lose(self, name):
         """An observer of the current layer is lost in an edit."""
