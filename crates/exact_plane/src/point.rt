@@ -34,7 +34,7 @@ pub enum PointError {
 /// The point (x/w, y/w), in lowest terms: no number but 1 divides all three.
 ///
 /// Points are ordered by x, then by y, and equal points have equal numbers.
-#[derive(Clone, Copy, Debug)]
+#[derive(Clone, Copy)]
 pub struct Point {
     pub(crate) place: Place,
 }

@@ -25,7 +25,7 @@ pub enum SegmentError {
 /// A segment between two points with whole coordinates, in plane units.
 ///
 /// Its lower end is the lesser of the two in point order.
-#[derive(Clone, Copy, PartialEq, Eq)]
+#[derive(Clone, Copy, Debug, PartialEq, Eq)]
 pub struct Segment {
     pub(crate) lower_x: i64,
     pub(crate) lower_y: i64,

@@ -13,3 +13,12 @@ impl fmt::Display for Point {
         write!(f, "{x} {y} {w}")
     }
 }
+
+/// As its `Display`.
+impl fmt::Debug for Point {
+    ghost debug_output = { λ point. Some (point_text point) };
+
+    fn fmt<W: fmt::Write>(&self, f: &mut fmt::Formatter<W>) -> fmt::Result {
+        write!(f, "{self}")
+    }
+}

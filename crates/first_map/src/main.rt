@@ -5,7 +5,7 @@ mod map;
 
 use crate::map::{draw_all, new_map};
 use anyhow::Context;
-use arrangement::{Arrangement, Cell, Point, Strategy};
+use arrangement::{Arrangement, Point, Strategy};
 
 // Tells how large the map is, and where a point lies.
 fn tell(rt: &impl Print, map: &mut Arrangement) -> anyhow::Result<()> {
@@ -15,11 +15,8 @@ fn tell(rt: &impl Print, map: &mut Arrangement) -> anyhow::Result<()> {
         counts.vertices, counts.edges, counts.faces
     )?;
     let well = Point::new(1, 3, 1).context("the well is no point")?;
-    match map.locate(Strategy::Walk, &well)? {
-        Cell::Face(rank) => println!(rt; "the well is in face {rank}")?,
-        Cell::Edge(_, _) => println!(rt; "the well is on an edge")?,
-        Cell::Vertex(_) => println!(rt; "the well is a vertex")?,
-    }
+    let cell = map.locate(Strategy::Walk, &well)?;
+    println!(rt; "the well: {cell}")?;
     Ok(())
 }
 

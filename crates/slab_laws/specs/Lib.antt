@@ -11,6 +11,7 @@ pub mod Rotation
 pub mod Cycles
 pub mod Subdivision
 pub mod Text
+pub mod CellText
 pub mod Overlay
 pub mod Pieces
 pub mod SpansDrawn
