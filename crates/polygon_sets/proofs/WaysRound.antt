@@ -20,7 +20,7 @@ use Rattle.slab_faces.proofs.Next.{kind_zero, kind_two, kind_few}
 use Rattle.slab_faces.proofs.RotationLemmas.{Early, earlier_in, earlier_out}
 use Rattle.rotation_order.specs.Directions.{quarter, direction_before, dart_direction}
 use Rattle.rotation_order.specs.EdgeParts.{IsForwardEdge}
-use Rattle.rotation_order.proofs.EdgeCourses.{way_right, way_up, turn_of_ways, low_product, high_product}
+use Rattle.rotation_order.proofs.EdgeCourses.{way_right, way_up, turn_of_ways, low_product, high_product, run_zero, steep_falls, level}
 use Rattle.rotation_order.proofs.Fans.{edge_from, from_low, from_high}
 use Rattle.rotation_order.proofs.Quarters.{no_width, no_turn}
 use Rattle.polygon_sets.specs.ClosedBorders.{way, way_before}
@@ -44,21 +44,10 @@ way_along : Dart → Direction
 way_along d = way (source d) (target d)
 
 -- ---- its quarter
-falls : (e : Edge) → lower_than e.low e.high ≡ true → steep e <ℤ pos 0
-unfolding steep lower_than
-falls e h = omega (arith, ints)
-
-upright_run : (e : Edge) → left_of e.low e.high ≡ false → left_of e.high e.low ≡ false → run e ≡ pos 0
-unfolding run
-upright_run e a b = same_abscissa e.low e.high a b
-
-level : (p q : Point) → left_of p q ≡ false → left_of q p ≡ false → on_wall p q ≡ true
-level p q a b = rw (a, b) refl
-
 quarter_by_way : (e : Edge) (f b : Bool) → IsForwardEdge e → left_of e.low e.high ≡ b → quarter (dart_direction (course e) f) ≡ kind b f
 unfolding course
 quarter_by_way e f true E h = way_right (course e) f (run_positive e h)
-quarter_by_way e f false E h = way_up (course e) f (upright_run e h E.forward) (falls e (E.upright (level e.low e.high h E.forward)))
+quarter_by_way e f false E h = way_up (course e) f (run_zero e h E.forward) (steep_falls e (E.upright (level e.low e.high h E.forward)))
 
 quarter_is : (d : Dart) → IsForwardEdge d.edge → quarter (way_along d) ≡ turn d
 unfolding way_along

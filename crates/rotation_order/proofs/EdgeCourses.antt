@@ -46,15 +46,15 @@ way_up l false z h =
     λ i. quarter_by (zero_below (neg_ℤ l.b) n i) (zero_above (neg_ℤ l.b) n i) (lt_yes (neg_ℤ (neg_ℤ l.a)) (pos 0) (twice_negative l.a h) i)
 
 -- ---- which way an edge runs, and its line
-run_zero : (e : Edge) → left_of e.low e.high ≡ false → left_of e.high e.low ≡ false → run e ≡ pos 0
+pub run_zero : (e : Edge) → left_of e.low e.high ≡ false → left_of e.high e.low ≡ false → run e ≡ pos 0
 unfolding run
 run_zero e a b = same_abscissa e.low e.high a b
 
-steep_falls : (e : Edge) → lower_than e.low e.high ≡ true → steep e <ℤ pos 0
+pub steep_falls : (e : Edge) → lower_than e.low e.high ≡ true → steep e <ℤ pos 0
 unfolding steep lower_than
 steep_falls e h = omega (arith, ints)
 
-level : (p q : Point) → left_of p q ≡ false → left_of q p ≡ false → on_wall p q ≡ true
+pub level : (p q : Point) → left_of p q ≡ false → left_of q p ≡ false → on_wall p q ≡ true
 level p q a b = rw (a, b) refl
 
 edge_runs : (e : Edge) → IsForwardEdge e → RunsForward (steep e) (run e)
