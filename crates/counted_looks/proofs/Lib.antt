@@ -1,4 +1,5 @@
 pub mod Tallies
 pub mod ListReads
 pub mod PartsSeen
+pub mod Covered
 pub mod VerticesRead

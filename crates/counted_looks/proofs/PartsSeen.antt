@@ -9,7 +9,7 @@ use Rattle.slab_laws.specs.declared.names.CycleId.{CycleId}
 use Rattle.slab_laws.specs.declared.names.DartId.{DartId}
 use Rattle.slab_laws.specs.declared.names.FaceId.{FaceId}
 use Rattle.slab_laws.specs.declared.names.VertexId.{VertexId}
-use Rattle.slab_laws.specs.FaceLists.{Lists, AreLists, first_of, cycle_follower, vertex_follower}
+use Rattle.slab_laws.specs.FaceLists.{Lists, AreDartsOn, AreLists, first_of, cycle_follower, vertex_follower}
 use Rattle.slab_laws.specs.FacesSound.{IsSound, lead_in}
 use Rattle.slab_laws.specs.Rotation.{same_dart}
 use Rattle.slab_laws.specs.Tables.{row_at}
@@ -18,10 +18,11 @@ use Rattle.slab_faces.proofs.NextLemmas.{darts_exact}
 use Rattle.slab_faces.proofs.Sums.{each, sum_by-same}
 use Rattle.arr_notes.specs.CycleNames.{dart_names}
 use Rattle.boundary_cycles.specs.Counted.{is_on_cycle, cycle_length}
-use Rattle.boundary_cycles.proofs.NamedWalks.{of_list}
+use Rattle.boundary_cycles.proofs.LengthsMet.{fewer_met}
+use Rattle.boundary_cycles.proofs.NamedWalks.{begins, of_list}
 use Rattle.counted_looks.specs.declared.boundary_part.BoundaryPart.{BoundaryPart}
 use Rattle.counted_looks.specs.declared.boundary_part.BoundaryPart.TheVariants.{Dart, Isolated}
-use Rattle.counted_looks.specs.Boundaries.{IsOnBoundary, dart_size, isolated_size}
+use Rattle.counted_looks.specs.Boundaries.{IsOnBoundary, cycle_size, dart_size, isolated_size}
 use Rattle.counted_looks.proofs.ListReads.{IsReading, left_at, reads_first, one_more_read, fewer_left, there, all_read}
 use Rattle.counted_looks.proofs.Tallies.{matched, at_least, once_at_most}
 
@@ -58,10 +59,6 @@ sum_one g (y ∷ ys) c =
     omega arith
 
 -- ---- cycles
--- how many darts a cycle has, by the table
-abbrev pub cycle_size : View → Faces → CycleId → ℕ
-cycle_size v f c = count_by (λ d. cycle_same (cycle_in f d) c) (dart_names v)
-
 -- the orbit of a dart is its cycle
 size_is : (v : View) (f : Faces) → IsSound v f → (e : DartId) → HasDart v e → cycle_length v e ≡ cycle_size v f (cycle_in f e)
 size_is v f s e E =
@@ -80,17 +77,38 @@ pub record AreCyclesSeen (v : View) (f : Faces) (P : BoundaryPart → Type 0) (s
   pub seen : (c : CycleId) → Member c done → (d : DartId) → HasDart v d → cycle_in f d ≡ c → P (Dart d)
   pub count : now ≤ start + sum_by (cycle_size v f) done
 
--- one more, of which the dart e was known
-one_cycle_seen : (v : View) (f : Faces) (s : IsSound v f) (P Q : BoundaryPart → Type 0) (start now later : ℕ) (c : CycleId) (e : DartId) → HasDart v e × (cycle_in f e ≡ c) → ((t : BoundaryPart) → P t → Q t) → ((d : DartId) → HasDart v d → lead_in v d ≡ lead_in v e → Q (Dart d)) → later ≡ now + cycle_length v e → (done : List CycleId) → AreCyclesSeen v f P start now done → AreCyclesSeen v f Q start later (done ++ (c ∷ []))
-one_cycle_seen v f s P Q start now later c e on still all n done k = record {
-  seen = λ x m d D q. elim (member_cases x c done m) [ inl l ↦ still (Dart d) (k.seen x l d D q) | inr r ↦ all d D ((s.cycled.orbits d e D on.0).0 (q ∙ sym r ∙ sym on.1)) ];
+-- one more
+one_cycle_seen : (v : View) (f : Faces) (P Q : BoundaryPart → Type 0) (start now later : ℕ) (c : CycleId) → ((t : BoundaryPart) → P t → Q t) → ((d : DartId) → HasDart v d → cycle_in f d ≡ c → Q (Dart d)) → later ≤ now + cycle_size v f c → (done : List CycleId) → AreCyclesSeen v f P start now done → AreCyclesSeen v f Q start later (done ++ (c ∷ []))
+one_cycle_seen v f P Q start now later c still all n done k = record {
+  seen = λ x m d D q. elim (member_cases x c done m) [ inl l ↦ still (Dart d) (k.seen x l d D q) | inr r ↦ all d D (q ∙ sym r) ];
   count = (
       let a = sum_one (cycle_size v f) done c in
       let b = k.count in
-      let l : cycle_length v e ≡ cycle_size v f c = size_is v f s e on.0 ∙ ap (cycle_size v f) on.1 in
       omega arith
       );
 }
+
+-- ---- one cycle
+module _ (v : View) (f : Faces) (l : Lists) (s : IsSound v f) (on : AreDartsOn v f l) (c : CycleId) (has : HasCycle f c) where
+  length_is : cycle_length v (l.dart_on c) ≡ cycle_size v f c
+  length_is = size_is v f s (l.dart_on c) (on c has).0 ∙ ap (cycle_size v f) (on c has).1
+
+  -- a look at its first dart is one of as many as it has darts
+  pub one_look : (start now : ℕ) → now ≡ start + 1 → now ≤ start + cycle_size v f c
+  one_look start now n =
+      let a = fewer_met v s.graph (l.dart_on c) (on c has).0 (l.dart_on c) (λ x. false) (begins v s.graph (l.dart_on c) (on c has).0) in
+      let b = length_is in
+      omega arith
+
+  -- a round from there goes on with the others
+  module _ (d : DartId) (e : d ≡ l.dart_on c) where
+    pub round_count : (start one now : ℕ) → one ≡ start + 1 → now + 1 ≡ one + cycle_length v d → now ≤ start + cycle_size v f c
+    round_count start one now n m =
+        let a : cycle_length v d ≡ cycle_size v f c = ap (cycle_length v) e ∙ length_is in
+        omega arith
+
+    pub round_seen : (P : BoundaryPart → Type 0) → ((x : DartId) → HasDart v x → lead_in v x ≡ lead_in v d → P (Dart x)) → (x : DartId) → HasDart v x → cycle_in f x ≡ c → P (Dart x)
+    round_seen P all x X q = all x X ((s.cycled.orbits x (l.dart_on c) X (on c has).0).0 (q ∙ sym (on c has).1) ∙ ap (lead_in v) (sym e))
 
 -- all cycles of a face
 face_cycles_seen : (v : View) (f : Faces) (l : Lists) (a : FaceId) (P : BoundaryPart → Type 0) (start now : ℕ) → IsSound v f → AreLists v f l → AreCyclesSeen v f P start now (l.cycles a) → ((d : DartId) → IsOnBoundary v f a (Dart d) → P (Dart d)) × (now ≤ start + dart_size v f a)
@@ -130,9 +148,6 @@ module _ (v : View) (f : Faces) (l : Lists) (a : FaceId) (s : IsSound v f) (ls :
       pub cycle_listed : HasCycle f c × (face_in f c ≡ a)
       cycle_listed = (ls.listed.cycles a c).0 (there cycle_same cycle_exact cycle_itself (l.cycles a) c (AreCyclesSeen v f P start now) here)
 
-      pub dart_kept : (d : DartId) → d ≡ l.dart_on c → HasDart v d × (cycle_in f d ≡ c)
-      dart_kept d q = subst (λ (z : DartId). HasDart v z × (cycle_in f z ≡ c)) (sym q) (ls.darts c cycle_listed.0)
-
       module _ (next : Option CycleId) (n : next ≡ cycle_follower c (l.cycles (face_in f c))) where
         next_is : cycle_follower c (l.cycles a) ≡ next
         next_is = sym (n ∙ ap (λ b. cycle_follower c (l.cycles b)) cycle_listed.1)
@@ -142,11 +157,11 @@ module _ (v : View) (f : Faces) (l : Lists) (a : FaceId) (s : IsSound v f) (ls :
             subst (λ (z : Option CycleId × Option CycleId). cycles_left l a z.0 < cycles_left l a z.1) (λ i. (next_is i, sym e i))
             (fewer_left cycle_same cycle_exact cycle_itself (l.cycles a) c (AreCyclesSeen v f P start now) (ls.listed.cycles_once a) here)
 
-        pub cycles_go_on : (Q : BoundaryPart → Type 0) (later : ℕ) (d : DartId) → d ≡ l.dart_on c → ((t : BoundaryPart) → P t → Q t) → ((x : DartId) → HasDart v x → lead_in v x ≡ lead_in v d → Q (Dart x)) → later ≡ now + cycle_length v d → AreCyclesRead v f l a Q start later next
-        cycles_go_on Q later d q still all count =
+        pub cycles_go_on : (Q : BoundaryPart → Type 0) (later : ℕ) → ((t : BoundaryPart) → P t → Q t) → ((x : DartId) → HasDart v x → cycle_in f x ≡ c → Q (Dart x)) → later ≤ now + cycle_size v f c → AreCyclesRead v f l a Q start later next
+        cycles_go_on Q later still all count =
             subst (λ o. AreCyclesRead v f l a Q start later o) next_is
             (one_more_read cycle_same cycle_exact cycle_itself (l.cycles a) c (AreCyclesSeen v f P start now) (AreCyclesSeen v f Q start later) (ls.listed.cycles_once a) here
-            (one_cycle_seen v f s P Q start now later c d (dart_kept d q) still all count))
+            (one_cycle_seen v f P Q start now later c still all count))
 
 -- ---- isolated vertices
 -- these were seen

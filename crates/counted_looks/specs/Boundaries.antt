@@ -1,6 +1,7 @@
 -- What is on the boundary of a face, and how much that is.
 use Rattle.std.specs.Prelude.{◌≡◌, ℕ, ◌+◌, ◌==◌}
 use Rattle.std.specs.List.{count_by}
+use Rattle.slab_laws.specs.declared.names.CycleId.{CycleId}
 use Rattle.slab_laws.specs.declared.names.FaceId.{FaceId}
 use Rattle.slab_laws.specs.View.{View, Faces, HasVertex, HasDart, HasBareFace, cycle_in, face_in, bare_face_in}
 use Rattle.arr_notes.specs.CycleNames.{dart_names}
@@ -23,6 +24,10 @@ spot_of (Isolated w) = Vertex w
 abbrev pub IsOnBoundary : View → Faces → FaceId → BoundaryPart → Type 0
 IsOnBoundary v f a (Dart d) = HasDart v d × (face_in f (cycle_in f d) ≡ a)
 IsOnBoundary v f a (Isolated w) = HasBareFace f w × (bare_face_in f w ≡ a)
+
+-- how many darts a cycle has, by the table
+abbrev pub cycle_size : View → Faces → CycleId → ℕ
+cycle_size v f c = count_by (λ d. (cycle_in f d).0 == c.0) (dart_names v)
 
 -- how many darts have the face on their left
 abbrev pub dart_size : View → Faces → FaceId → ℕ

@@ -1,2 +1,4 @@
 pub mod Looks
 pub mod Boundaries
+pub mod Boxes
+pub mod CycleLooks

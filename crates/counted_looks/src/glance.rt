@@ -1,13 +1,16 @@
 ghost use Rattle.std.specs.Prelude.{◌≡◌, ◌+◌};
-ghost use Rattle.slab_laws.specs.FaceLists.{AreLists};
+ghost use Rattle.slab_laws.specs.FaceLists.{AreDartsOn, AreLists};
+ghost use Rattle.slab_laws.specs.FacesSound.{IsSound};
 ghost use Rattle.slab_laws.specs.Sound.{IsTwinned};
-ghost use Rattle.slab_laws.specs.View.{HasVertex, HasDart, HasFace, face_id, source_in};
+ghost use Rattle.slab_laws.specs.View.{HasVertex, HasDart, HasCycle, HasFace, face_id, source_in};
 ghost use Rattle.dcel_records.specs.RecordsView.{tables_of, lists_of};
 ghost use Rattle.dcel_records.specs.SoundMaps.{IsSoundMap};
 ghost use Rattle.dcel_records.specs.Spots.{IsVertexAt};
 ghost use Rattle.dcel_records.specs.declared.spot.Spot.TheVariants.{Edge};
+ghost use Rattle.counted_looks.specs.CycleLooks.{IsCycleLookOf};
 ghost use Rattle.counted_looks.specs.Looks.{IsLookable, IsLookOf, vertex_looks};
 
+use crate::cycle_glimpse::CycleGlimpse;
 use crate::glimpse::Glimpse;
 use crate::name_calls::NameCalls;
 use crate::vertices::look_at_vertices;
@@ -85,6 +88,23 @@ impl<'a> Glance<'a> {
         ensures one { steps.new ≡ steps.old + 1 }
     {
         Glimpse::at(self.records, dart, steps)
+    }
+
+    /// One look at a cycle, which is one step: at the dart that is kept for it, and at a box of the whole cycle.
+    #[inline(always)]
+    pub fn glimpse_cycle<L: Ledger>(&self, cycle: CycleId, steps: &mut Steps<L>) -> CycleGlimpse<'a>
+        requires sound { IsSound self.now.graph (tables_of self.now) }
+        requires darts { AreDartsOn self.now.graph (tables_of self.now) (lists_of self.now) }
+        requires cycle { HasCycle (tables_of self.now) cycle }
+        ensures look { IsCycleLookOf self.now.graph (tables_of self.now) (lists_of self.now) cycle result }
+        ensures one { steps.new ≡ steps.old + 1 }
+    {
+        let dart = FaceLists::dart_on(self.records, cycle);
+        CycleGlimpse {
+            dart,
+            first: self.glimpse(dart, steps),
+            area: self.records.area(cycle),
+        }
     }
 
     /// One look, at a dart or a vertex, which is one step.

@@ -4,6 +4,7 @@
 
 mod boundary;
 mod boundary_part;
+mod cycle_glimpse;
 mod glance;
 mod glimpse;
 mod looker;
@@ -13,6 +14,7 @@ mod vertices;
 
 pub use boundary::{look_at_boundary, look_at_cycles};
 pub use boundary_part::BoundaryPart;
+pub use cycle_glimpse::CycleGlimpse;
 pub use glance::{Glance, Looked};
 pub use glimpse::Glimpse;
 pub use looker::Looker;

@@ -1,8 +1,13 @@
-ghost use Rattle.std.specs.Prelude.{◌≡◌, ◌+◌};
+ghost use Rattle.std.specs.Prelude.{◌≡◌, ◌+◌, true};
+ghost use Rattle.slab_laws.specs.FaceLists.{AreDartsOn};
+ghost use Rattle.slab_laws.specs.FacesSound.{IsSound};
+ghost use Rattle.slab_laws.specs.View.{HasDart, HasCycle, cycle_in};
 ghost use Rattle.counted_looks.specs.Boundaries.{HasPart};
+ghost use Rattle.counted_looks.specs.declared.boundary_part.BoundaryPart.TheVariants.{Dart};
 
 use crate::boundary_part::BoundaryPart;
 use crate::name_calls::NameCalls;
+use slab_laws::CycleId;
 use std::sync::ledger::Ledger;
 use work_steps::Steps;
 
@@ -29,4 +34,21 @@ pub trait Looker<S: NameCalls> {
         ensures seen { has_seen (S.graph sight.now) self.new at }
         ensures still { (t : BoundaryPart) → has_seen (S.graph sight.now) self.old t → has_seen (S.graph sight.now) self.new t }
         ensures one { steps.new ≡ steps.old + 1 };
+
+    /// One look at a cycle, by the dart that is kept for it, and whether that is enough. It is where the look tells as much of each dart
+    /// on the cycle as a look at that dart would: so a box of the whole cycle may tell that none of them is what is looked for.
+    fn look_at_cycle<L: Ledger>(&mut self, sight: &S, cycle: CycleId, steps: &mut Steps<L>) -> bool
+        requires sound { IsSound (S.graph sight.now) (S.faces sight.now) }
+        requires darts { AreDartsOn (S.graph sight.now) (S.faces sight.now) (S.lists sight.now) }
+        requires ready { (k : _) × may_look (S.graph sight.now) k self.old }
+        requires cycle { HasCycle (S.faces sight.now) cycle }
+        ensures ready { (k : _) → may_look (S.graph sight.now) k self.old → may_look (S.graph sight.now) k self.new }
+        ensures first { has_seen (S.graph sight.now) self.new (Dart ((S.lists sight.now).dart_on cycle)) }
+        ensures whole { result ≡ true → (d : _) → HasDart (S.graph sight.now) d → cycle_in (S.faces sight.now) d ≡ cycle → has_seen (S.graph sight.now) self.new (Dart d) }
+        ensures still { (t : BoundaryPart) → has_seen (S.graph sight.now) self.old t → has_seen (S.graph sight.now) self.new t }
+        ensures one { steps.new ≡ steps.old + 1 }
+    {
+        self.look(sight, BoundaryPart::Dart(sight.dart_on(cycle)), steps);
+        false
+    }
 }

@@ -59,6 +59,9 @@ module _ (cs es : Slab StoredCycle) (fs gs : Slab StoredFace) (r : IsRelinked cy
   pub cycle_there : (n : ℕ) → ContainsKey cs n → ContainsKey es n
   cycle_there n s = some_same (rest_of cycle_placing) (get es n) (get cs n) (r.rests n) ∙ s
 
+  pub areas_stay : (n : ℕ) → option_map (λ r. r.area) (get es n) ≡ option_map (λ r. r.area) (get cs n)
+  areas_stay n = through (rest_of cycle_placing) (λ x. x.area) (λ x. refl) (get es n) (get cs n) (r.rests n)
+
   pub face_still : (k : ℕ) → is_some (get gs k) ≡ is_some (get fs k)
   face_still k = some_same (rest_of_face cycle_placing) (get gs k) (get fs k) (r.face_rests k)
 

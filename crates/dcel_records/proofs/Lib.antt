@@ -23,6 +23,7 @@ pub mod BareWritten
 pub mod CycleColumn
 pub mod EachRow
 pub mod OnCycles
+pub mod Widened
 pub mod TargetsKept
 pub mod TwinTold
 pub mod Marked

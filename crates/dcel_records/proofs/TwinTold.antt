@@ -2,7 +2,7 @@
 use Rattle.std.proofs.Common.{Bool, ◌≡◌, inl, inr, ℕ, ◌-◌, List, Option, Some, None, option_map, refl, sym, ap, subst, ◌∙◌}
 use Rattle.std.proofs.lemmas.Bool.{cases_eq}
 use Rattle.exact_plane.specs.declared.whole_parts.WholeParts.{WholeParts}
-use Rattle.slab.specs.Slab.{Slab, get, entries, slab_len, ContainsKey, Updates}
+use Rattle.slab.specs.Slab.{Slab, get, entries, slab_len, Updates}
 use Rattle.slab_laws.specs.FaceLists.{MovedView}
 use Rattle.slab_laws.specs.Sound.{IsTwinned}
 use Rattle.slab_laws.specs.Tables.{names}
@@ -15,6 +15,7 @@ use Rattle.dcel_records.specs.declared.rows.StoredDart.{StoredDart}
 use Rattle.dcel_records.specs.declared.rows.StoredFace.{StoredFace}
 use Rattle.dcel_records.specs.declared.rows.StoredVertex.{StoredVertex}
 use Rattle.dcel_records.specs.declared.vertex_map.VertexMap.{VertexMap}
+use Rattle.dcel_records.specs.Areas.{HasParts}
 use Rattle.dcel_records.specs.Given.{reaching}
 use Rattle.dcel_records.specs.Outs.{IsOut}
 use Rattle.dcel_records.specs.StoredRows.{vertex_of, dart_of, bare_of, somes, cycle_record, face_rows, moved_room, ranks_view, graph_in, records_view, out_at, AreSoundRows, AreSoundGraphs, AreOnCycles}
@@ -44,7 +45,14 @@ module _ (vs : Slab StoredVertex) (ds es : Slab StoredDart) (t : ℕ) (p : Whole
   graphs_told at pins k = record { rows = rows_told k.rows; mapped = k.mapped; counted = k.counted }
 
   pub cycles_told : (cs : Slab StoredCycle) → AreOnCycles ds cs → AreOnCycles es cs
-  cycles_told cs = each_mapped (λ r. ContainsKey cs r.cycle.0) (reaching p) (λ r k. k) ds es t u
+  cycles_told cs = each_mapped (λ r. HasParts (get cs r.cycle.0) r.parts) (reaching p) (λ r k. k) ds es t u
+
+  -- a dart keeps its cycle
+  pub cycle_told : (j : ℕ) (r q : StoredDart) → get ds j ≡ Some r → get es j ≡ Some q → r.cycle ≡ q.cycle
+  cycle_told j r q e f = elim (cases_eq j t) [
+    | inl i ↦ (let z : Some q ≡ Some (reaching p r) = sym f ∙ ap (get es) i ∙ u.changed ∙ ap (option_map (reaching p)) (ap (get ds) (sym i) ∙ e) in let y : q.cycle ≡ r.cycle = cc in sym y)
+    | inr ne ↦ (let z : Some q ≡ Some r = sym f ∙ u.others j ne ∙ e in let y : q.cycle ≡ r.cycle = cc in sym y)
+  ]
 
   pub view_told : (cs : Slab StoredCycle) (fs : Slab StoredFace) (mv : Option MovedView) (od : List RankKey) (vr cr : ℕ) (mp : Bool) → slab_len es ≡ slab_len ds → es.capacity ≡ ds.capacity → records_view vs es cs fs mv od vr cr mp ≡ records_view vs ds cs fs mv od vr cr mp
   view_told cs fs mv od vr cr mp len capacity =

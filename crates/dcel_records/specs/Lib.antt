@@ -11,3 +11,4 @@ pub mod Spots
 pub mod KeyLimits
 pub mod TableLends
 pub mod VertexMaps
+pub mod Areas

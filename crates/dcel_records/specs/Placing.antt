@@ -24,7 +24,7 @@ pub record Placing (R : Type 0) : Type 0 where
 abbrev pub cycle_placing : Placing StoredCycle
 cycle_placing = record {
   place = λ r. Some r.place;
-  with_place = λ p r. record { kind = r.kind; dart = r.dart; place = p };
+  with_place = λ p r. record { kind = r.kind; dart = r.dart; place = p; area = r.area };
   first = λ f. f.first_cycle;
   with_first = λ o f. record { first_cycle = o; first_bare = f.first_bare; rank = f.rank };
   placed = λ p r. refl;

@@ -3,7 +3,7 @@ use Rattle.std.specs.Prelude.{◌≡◌, ◌==◌, Bool, ℕ, cond, ◌-◌, ◌
 use Rattle.std.specs.List.{filter}
 use Rattle.exact_plane.specs.WholeParts.{whole_parts}
 use Rattle.exact_plane.specs.declared.whole_parts.WholeParts.{WholeParts}
-use Rattle.slab.specs.Slab.{Slab, get, entries, slab_len, ContainsKey}
+use Rattle.slab.specs.Slab.{Slab, get, entries, slab_len}
 use Rattle.slab_laws.specs.declared.names.DartId.{DartId}
 use Rattle.slab_laws.specs.declared.names.FaceId.{FaceId}
 use Rattle.slab_laws.specs.declared.names.VertexId.{VertexId}
@@ -20,6 +20,7 @@ use Rattle.dcel_records.specs.declared.rows.StoredFace.{StoredFace}
 use Rattle.dcel_records.specs.Placing.{cycle_placing, vertex_placing, nodes, own, AreChained, IsRelinked}
 use Rattle.dcel_records.specs.declared.ranks.RankKey.{RankKey}
 use Rattle.dcel_records.specs.RecordsView.{GraphView, FacesView, RecordsView, RanksView, FaceRow, MovedRoom, rank_or}
+use Rattle.dcel_records.specs.Areas.{HasParts}
 use Rattle.dcel_records.specs.Outs.{IsOut}
 use Rattle.dcel_records.specs.declared.vertex_map.VertexMap.{VertexMap}
 use Rattle.dcel_records.specs.VertexMaps.{IsMapOf}
@@ -149,9 +150,9 @@ pub record AreSoundFaces (vs : Slab StoredVertex) (cs : Slab StoredCycle) (fs : 
   pub bare : AreChained vertex_placing vs fs
   pub unbounded : IsSome (get fs 0)
 
--- the cycle of each dart has a row
+-- the cycle of each dart has a row, with the whole parts of the point that the dart leaves in its box
 abbrev pub AreOnCycles : Slab StoredDart → Slab StoredCycle → Type 0
-AreOnCycles ds cs = (n : ℕ) (r : StoredDart) → get ds n ≡ Some r → ContainsKey cs r.cycle.0
+AreOnCycles ds cs = (n : ℕ) (r : StoredDart) → get ds n ≡ Some r → HasParts (get cs r.cycle.0) r.parts
 
 -- the whole parts of the point of a vertex that has a row
 abbrev pub parts_at : Slab StoredVertex → ℕ → Option WholeParts

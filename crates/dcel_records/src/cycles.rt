@@ -5,6 +5,7 @@ ghost use Rattle.arr_notes.specs.FaceWriters.{with_cycle, without_cycle, with_fa
 ghost use Rattle.dcel_records.specs.ListChanges.{cycle_listed, cycle_unlisted, cycle_relisted, dart_listed};
 ghost use Rattle.dcel_records.specs.RecordsView.{graph_part, lists_of, IsSpareFaces};
 
+use crate::areas::nothing;
 use crate::links::{link_first, unlink};
 use crate::records::{Records, no_rows_of_face};
 use crate::rows::{Place, StoredCycle};
@@ -65,9 +66,12 @@ impl Records {
             before: None,
             after: None,
         };
-        let cycle = self
-            .cycles
-            .insert_reserved(StoredCycle { kind, dart, place });
+        let cycle = self.cycles.insert_reserved(StoredCycle {
+            kind,
+            dart,
+            place,
+            area: nothing(),
+        });
         link_first(&mut self.cycles, &mut self.faces, cycle, face);
         CycleId(cycle)
     }

@@ -9,6 +9,7 @@ ghost use Rattle.dcel_records.specs.RecordsView.{ends_found, graph_part, IsSpare
 ghost use Rattle.dcel_records.specs.Outs.{IsRest};
 ghost use Rattle.dcel_records.specs.Given.{given, reaching};
 
+use crate::areas::widen;
 use crate::records::Records;
 use crate::rows::{StoredDart, StoredVertex};
 use crate::table::Table;
@@ -87,6 +88,8 @@ impl Records {
     {
         let source_parts = self.vertices[u.0].point.whole_parts();
         let target_parts = self.vertices[v.0].point.whole_parts();
+        widen(&mut self.cycles, cycle, source_parts);
+        widen(&mut self.cycles, cycle, target_parts);
         let d = self.darts.insert_reserved(StoredDart {
             source: u,
             twin: DartId(0),
@@ -146,6 +149,8 @@ impl Records {
         ensures graph { graph_part self.new ≡ graph_part self.old }
         ensures faces { self.new.faces ≡ record self.old.faces { tables = on_cycle d c self.old.faces.tables } }
     {
+        let parts = self.darts[d.0].parts;
+        widen(&mut self.cycles, c, parts);
         self.darts[d.0].cycle = c;
     }
 
@@ -161,7 +166,9 @@ impl Records {
     {
         let u = self.darts[d.0].source;
         let twin = self.darts[d.0].twin;
+        let cycle = self.darts[d.0].cycle;
         let parts = self.vertices[w.0].point.whole_parts();
+        widen(&mut self.cycles, cycle, parts);
         set_target_parts(&mut self.darts, twin, parts);
         let dart = &mut self.darts[d.0];
         dart.source = w;

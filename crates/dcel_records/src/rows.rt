@@ -1,7 +1,7 @@
 ghost use Rattle.std.specs.Prelude.{◌≡◌, Some, IsSome};
 
 use crate::links::Placed;
-use exact_plane::{Line, Point, WholeParts};
+use exact_plane::{BoundingBox, Line, Point, WholeParts};
 use slab_laws::{CycleId, CycleKind, DartId, FaceId, VertexId};
 
 /// A place in a chain of a face: the face, and the neighbours there by their names.
@@ -34,12 +34,14 @@ pub(crate) struct StoredDart {
     pub(crate) cycle: CycleId,
 }
 
-/// What is kept of a cycle: whether it is outer, a dart on it, and its place in its face.
+/// What is kept of a cycle: whether it is outer, a dart on it, its place in its face, and a box of whole parts that no point on it is
+/// beyond.
 #[derive(Clone, Copy)]
 pub(crate) struct StoredCycle {
     pub(crate) kind: CycleKind,
     pub(crate) dart: DartId,
     pub(crate) place: Place,
+    pub(crate) area: BoundingBox,
 }
 
 /// What is kept of a face: the first of its cycles, the first of its isolated vertices, and the rank that it was given last.
@@ -64,6 +66,7 @@ impl Placed for StoredCycle {
             kind: self.kind,
             dart: self.dart,
             place,
+            area: self.area,
         }
     }
 

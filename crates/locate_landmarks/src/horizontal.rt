@@ -11,7 +11,7 @@ use crate::course::Course;
 use crate::crossing::{Crossing, later_crossing};
 use crate::faces::{dart_across, face_beside, is_dart};
 use counted_looks::{BoundaryPart, Glance, Glimpse, Looker, look_at_cycles};
-use slab_laws::{DartId, FaceId};
+use slab_laws::{CycleId, DartId, FaceId};
 use std::sync::ledger::Ledger;
 use work_steps::Steps;
 
@@ -52,6 +52,21 @@ impl<'a> Ahead<'a> {
             self.last = Some(crossing);
         }
     }
+
+    // What a look at a dart told. Nearly no edge crosses the horizontal, as whole parts tell.
+    #[inline(always)]
+    fn see(&mut self, sight: &Glance, dart: DartId, looked: &Glimpse)
+        requires drawn { IsDrawnLook sight.now.graph dart looked.now }
+        requires last { IsCrossing sight.now.graph self.old.course.now self.old.last }
+        ensures course { self.new.course.now ≡ self.old.course.now }
+        ensures last { IsCrossing sight.now.graph self.new.course.now self.new.last }
+        ensures later { IsLaterOrSame sight.now.graph self.new.course.now self.old.last self.new.last }
+    {
+        if looked.is_above_or_below(self.course.landmark.whole_parts()) {
+            return;
+        }
+        self.look_closely(sight, dart, looked);
+    }
 }
 
 impl<'a, 'r> Looker<Glance<'r>> for Ahead<'a> {
@@ -61,19 +76,31 @@ impl<'a, 'r> Looker<Glance<'r>> for Ahead<'a> {
 
     ghost has_seen = { HasPassed };
 
-    // Nearly no edge crosses the horizontal, as whole parts tell.
     #[inline(always)]
     fn look<L: Ledger>(&mut self, sight: &Glance<'r>, at: BoundaryPart, steps: &mut Steps<L>) {
         match at {
             BoundaryPart::Dart(dart) => {
                 let looked = sight.glimpse(dart, steps);
-                if looked.is_above_or_below(self.course.landmark.whole_parts()) {
-                    return;
-                }
-                self.look_closely(sight, dart, &looked);
+                self.see(sight, dart, &looked);
             }
             BoundaryPart::Isolated(_) => steps.tick(),
         }
+    }
+
+    // Nor does an edge of a cycle whose box is above the horizontal or below it.
+    #[inline(always)]
+    fn look_at_cycle<L: Ledger>(
+        &mut self,
+        sight: &Glance<'r>,
+        cycle: CycleId,
+        steps: &mut Steps<L>,
+    ) -> bool {
+        let looked = sight.glimpse_cycle(cycle, steps);
+        if looked.is_above_or_below(self.course.landmark.whole_parts()) {
+            return true;
+        }
+        self.see(sight, looked.dart, &looked.first);
+        false
     }
 }
 

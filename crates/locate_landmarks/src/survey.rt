@@ -16,7 +16,7 @@ use crate::faces::is_dart;
 use counted_looks::{BoundaryPart, Glance, Glimpse, Looker};
 use exact_plane::Point;
 use locate_walk::{Found, Highest, found_at_dart, is_told_at_twin, passage_of};
-use slab_laws::{DartId, FaceId};
+use slab_laws::{CycleId, DartId, FaceId};
 use std::sync::ledger::Ledger;
 use work_steps::Steps;
 
@@ -114,5 +114,24 @@ impl<'a, 'r> Looker<Glance<'r>> for Survey<'a, 'r> {
             }
             BoundaryPart::Isolated(_) => steps.tick(),
         }
+    }
+
+    // A cycle whose box is to the left or right of the point has no dart that the point is on, or sees above or below it.
+    #[inline(always)]
+    fn look_at_cycle<L: Ledger>(
+        &mut self,
+        sight: &Glance<'r>,
+        cycle: CycleId,
+        steps: &mut Steps<L>,
+    ) -> bool {
+        let looked = sight.glimpse_cycle(cycle, steps);
+        let at = self.highest.point.whole_parts();
+        if looked.is_left_or_right_of(at) {
+            return true;
+        }
+        if !looked.first.is_left_or_right_of(at) {
+            self.look_closely(looked.dart, &looked.first);
+        }
+        false
     }
 }

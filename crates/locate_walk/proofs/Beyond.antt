@@ -1,4 +1,4 @@
--- A look at an edge that whole parts tell to be above the point, or below the highest edge so far.
+-- A look at an edge that whole parts tell to be beside the point, above it, or below the highest edge so far.
 use Rattle.std.proofs.Common.{◌≡◌, true, false, pos, ◌<ℤ◌, arith, cond, refl, sym, ap, ◌∙◌, inl, inr, subst}
 use Rattle.std.specs.Prelude.{ℤ, Bool, Option, Some, None, if◌then◌else◌}
 use Rattle.std.specs.Int.{int_min}
@@ -6,7 +6,7 @@ use Rattle.std.proofs.lemmas.Bool.{cases_Bool, false≢true}
 use Rattle.std.proofs.lemmas.Int.{ints, int_min_is}
 use Rattle.integers.proofs.Decisions.{both, lt_out, or_out}
 use Rattle.exact_plane.specs.Point.{Point}
-use Rattle.exact_plane.specs.WholeParts.{whole_parts, are_less, are_greater, excludes_across, excludes_along, bounding_box}
+use Rattle.exact_plane.specs.WholeParts.{whole_parts, are_less, are_greater, excludes_across, excludes_along, is_left_or_right_of, bounding_box}
 use Rattle.exact_plane.specs.declared.whole_parts.BoundingBox.{BoundingBox}
 use Rattle.plane_graphs.specs.Graph.{Edge as PlaneEdge}
 use Rattle.plane_graphs.specs.Line.{IsProper, precedes as forward_to}
@@ -177,20 +177,27 @@ module _ (h : Highest) (d : DartId) (l : Looked) (s : IsGraphSound h.glance.now.
   past_looked : IsFoundAtDart v f h.point d Past → HasLooked h (Dart d) h
   past_looked c = record { met = λ m. refl; found = λ n. (Past, λ own. c, refl) }
 
+  -- both ends are to the left of the point, or both to its right
+  pub beside_looked : is_left_or_right_of (whole_parts h.point) (whole_parts l.source) (whole_parts l.target) ≡ true → HasLooked h (Dart d) h
+  beside_looked k = past_looked (beside_found v f s h.point Q d has l look k)
+
+  -- both are above it
+  pub above_looked : (whole_parts h.point).y <ℤ (whole_parts l.source).y → (whole_parts h.point).y <ℤ (whole_parts l.target).y → HasLooked h (Dart d) h
+  above_looked a b =
+      past_looked
+      (above_past v f s h.point Q d has (subst (λ x. lower_than h.point x ≡ true) look.0 (lower_by_whole h.point l.source Q.positive source_is.positive a))
+      (subst (λ x. lower_than h.point x ≡ true) look.1 (lower_by_whole h.point l.target Q.positive target_is.positive b)))
+
   beyond_at : (o : Option EdgeBelow) → h.best ≡ o → IsBelowOrNone v h.point o → is_beyond h.point o (whole_parts l.source) (whole_parts l.target) ≡ true → HasLooked h (Dart d) h
   beyond_at None i p e = absurd (false≢true e)
   beyond_at (Some b) i p e = elim (or_out (excludes_across box (whole_parts l.source) (whole_parts l.target)) (excludes_along box (whole_parts l.source) (whole_parts l.target)) e) [
-    | inl k ↦ past_looked (beside_found v f s h.point Q d has l look k)
+    | inl k ↦ beside_looked k
     | inr k ↦ elim (or_out (are_less (whole_parts l.source).y (whole_parts l.target).y box.least.y) (are_greater (whole_parts l.source).y (whole_parts l.target).y box.greatest.y) k) [
       | inl m ↦
           let c = both _ _ m in
           let r = lower_kept v f s h.point Q d has b p (at_end l.source source_is _ look.0 (lt_out _ _ c.0)) (at_end l.target target_is _ look.1 (lt_out _ _ c.1)) h.face in
           record { met = λ n. refl; found = λ n. (r.0, r.1, r.2 h i) }
-      | inr m ↦
-          let c = both _ _ m in
-          past_looked
-          (above_past v f s h.point Q d has (subst (λ x. lower_than h.point x ≡ true) look.0 (lower_by_whole h.point l.source Q.positive source_is.positive (lt_out _ _ c.0)))
-          (subst (λ x. lower_than h.point x ≡ true) look.1 (lower_by_whole h.point l.target Q.positive target_is.positive (lt_out _ _ c.1))))
+      | inr m ↦ let c = both _ _ m in above_looked (lt_out _ _ c.0) (lt_out _ _ c.1)
     ]
   ]
     where

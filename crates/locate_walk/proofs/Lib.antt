@@ -3,5 +3,6 @@ pub mod Finds
 pub mod Heights
 pub mod Takes
 pub mod Beyond
+pub mod BesidePoint
 pub mod Rounds
 pub mod Examples

@@ -1,27 +1,22 @@
 -- What a look keeps: the highest edge so far rises, and what was clear stays clear.
 use Rattle.std.specs.Option.{is_some}
 use Rattle.std.proofs.Common.{◌≡◌, ◌<◌, ◌≤◌, true, false, cond, arith, refl, sym, ap, ◌∙◌, inl, inr, subst}
-use Rattle.std.specs.Prelude.{◌⊎◌, ◌||◌, Bool, Option, Some, None, IsSome}
+use Rattle.std.specs.Prelude.{◌⊎◌, ◌||◌, Option, Some, None, IsSome}
 use Rattle.std.proofs.lemmas.Bool.{cases_Bool, eqb-true, false≢true}
 use Rattle.std.proofs.lemmas.Int.{ints}
 use Rattle.exact_plane.specs.Point.{Point}
-use Rattle.exact_plane.specs.WholeParts.{whole_parts, is_left_or_right_of}
-use Rattle.exact_plane.specs.declared.whole_parts.WholeParts.{WholeParts}
 use Rattle.plane_graphs.specs.Graph.{Edge as PlaneEdge}
 use Rattle.plane_graphs.specs.Line.{IsProper}
 use Rattle.slab_laws.specs.declared.names.DartId.{DartId}
 use Rattle.slab_laws.specs.declared.names.FaceId.{FaceId}
 use Rattle.slab_laws.specs.Sound.{skeleton_of, edge_in, IsGraphSound}
 use Rattle.slab_laws.specs.SpansDrawn.{edge_of}
-use Rattle.slab_laws.specs.View.{View, Faces, HasDart, dart_id}
+use Rattle.slab_laws.specs.View.{View, Faces, dart_id}
 use Rattle.slab_faces.proofs.OverUnder.{under_out}
-use Rattle.counted_looks.specs.Looks.{IsLookOf}
 use Rattle.counted_looks.specs.declared.boundary_part.BoundaryPart.{BoundaryPart}
 use Rattle.counted_looks.specs.declared.boundary_part.BoundaryPart.TheVariants.{Dart, Isolated}
-use Rattle.counted_looks.specs.declared.glance.Looked.{Looked}
 use Rattle.dcel_records.specs.RecordsView.{tables_of}
 use Rattle.dcel_records.specs.declared.spot.Spot.{Spot}
-use Rattle.dcel_records.specs.declared.spot.Spot.TheVariants.{Edge}
 use Rattle.edges_below.specs.Above.{is_above}
 use Rattle.edges_below.specs.Levels.{level}
 use Rattle.edges_below.proofs.Levels.{levels_tell_highest}
@@ -32,7 +27,7 @@ use Rattle.locate_walk.specs.declared.found.EdgeBelow.{EdgeBelow}
 use Rattle.locate_walk.specs.declared.found.Found.{Found}
 use Rattle.locate_walk.specs.declared.found.Found.TheVariants.{At, Below, Past}
 use Rattle.locate_walk.specs.declared.highest.Highest.{Highest}
-use Rattle.locate_walk.proofs.Finds.{beside_found, spanning_off, aside_outside}
+use Rattle.locate_walk.proofs.Finds.{spanning_off, aside_outside}
 
 module _ (v : View) (q : Point) where
   pub raised_from : {o p : Option DartId} → IsRaised v q o p → height v q o ≤ height v q p
@@ -157,16 +152,6 @@ module _ (v : View) (h l : Highest) (t : BoundaryPart) (c : HasLooked h t l) whe
     | inl s ↦ subst (λ (z : Highest). HasSeen v z x) (sym (c.met s)) y
     | inr n ↦ let f = c.found n in look_still v h l t f.0 f.1 f.2 k m x y
   ]
-
--- ---- a dart that the whole parts of its ends rule out
-pub beside_looked : (v : View) (k h : Highest) (d : DartId) (l : Looked) → MayLook v k h → HasDart v d → IsLookOf v (Edge d) l → (at : WholeParts) → at ≡ whole_parts h.point → (told : Bool) → told ≡ is_left_or_right_of at (whole_parts l.source) (whole_parts l.target) → told ≡ true → HasLooked h (Dart d) h
-beside_looked v k h d l m has look at is told e beside =
-    let has' : HasDart h.glance.now.graph d = subst (λ (w : View). HasDart w d) (sym m.graph) has in
-    let look' : IsLookOf h.glance.now.graph (Edge d) l = subst (λ (w : View). IsLookOf w (Edge d) l) (sym m.graph) look in
-    record {
-      met = λ s. refl;
-      found = λ n. (Past, λ own. beside_found h.glance.now.graph (tables_of h.glance.now) m.map.sound.graph h.point m.proper d has' l look' (sym (e ∙ ap (λ (a : WholeParts). is_left_or_right_of a (whole_parts l.source) (whole_parts l.target)) is) ∙ beside), refl);
-    }
 
 -- ---- a dart of which nothing more is to be found
 -- the higher of an edge and itself is that edge

@@ -12,7 +12,7 @@ use counted_looks::{BoundaryPart, Glance, Glimpse, Looker};
 use dcel_records::Spot;
 use edges_below::is_above;
 use exact_plane::{BoundingBox, Point, WholeParts};
-use slab_laws::{DartId, FaceId};
+use slab_laws::{CycleId, DartId, FaceId};
 use std::sync::ledger::Ledger;
 use work_steps::Steps;
 
@@ -132,5 +132,24 @@ impl<'a, 'r> Looker<Glance<'r>> for Highest<'a, 'r> {
             }
             BoundaryPart::Isolated(_) => steps.tick(),
         }
+    }
+
+    // A cycle whose box is to the left or right of the point, or above it, has no dart that the point is on or sees below it.
+    #[inline(always)]
+    fn look_at_cycle<L: Ledger>(
+        &mut self,
+        sight: &Glance<'r>,
+        cycle: CycleId,
+        steps: &mut Steps<L>,
+    ) -> bool {
+        let looked = sight.glimpse_cycle(cycle, steps);
+        let at = self.point.whole_parts();
+        if looked.is_beside_or_above(at) {
+            return true;
+        }
+        if !looked.first.is_left_or_right_of(at) {
+            self.look_closely(looked.dart, &looked.first);
+        }
+        false
     }
 }

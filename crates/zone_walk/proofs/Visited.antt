@@ -1,18 +1,25 @@
 -- A visit looks at a face's boundary, where it passes a dart whose twin it looks at.
-use Rattle.std.proofs.Common.{◌<◌, arith, sym, ap, ◌∙◌, subst, inl, inr}
+use Rattle.std.proofs.Common.{◌≡◌, true, ◌<◌, arith, refl, sym, ap, ◌∙◌, subst, inl, inr}
 use Rattle.exact_plane.specs.Point.{Point}
 use Rattle.slab_laws.specs.Darts.{Dart as PlaneDart}
 use Rattle.slab_laws.specs.Skeleton.{inside}
 use Rattle.slab_laws.specs.Sound.{IsGraphSound}
-use Rattle.slab_laws.specs.View.{View, Faces, HasDart, point_in, source_in, twin_in}
+use Rattle.slab_laws.specs.View.{View, Faces, HasDart, cycle_in, point_in, source_in, target_in, twin_in}
+use Rattle.slab_laws.specs.FaceLists.{Lists}
+use Rattle.slab_laws.specs.declared.names.CycleId.{CycleId}
 use Rattle.slab_laws.specs.declared.names.DartId.{DartId}
 use Rattle.slab_laws.specs.declared.names.FaceId.{FaceId}
 use Rattle.sound_views.proofs.NamedDarts.{twin_dart}
 use Rattle.counted_looks.specs.Boundaries.{IsOnBoundary}
+use Rattle.counted_looks.specs.Boxes.{are_apart}
+use Rattle.counted_looks.specs.CycleLooks.{IsCycleLookOf}
+use Rattle.counted_looks.specs.declared.cycle_glimpse.CycleGlimpse.{CycleGlimpse}
+use Rattle.counted_looks.proofs.Covered.{apart_ends}
 use Rattle.counted_looks.specs.declared.boundary_part.BoundaryPart.{BoundaryPart}
 use Rattle.counted_looks.specs.declared.boundary_part.BoundaryPart.TheVariants.{Dart, Isolated}
 use Rattle.zone_walk.specs.Searches.{IsOnEdge, IsSearchFrom, IsPassed, IsVisitFrom, HasSeen, HasLooked}
 use Rattle.zone_walk.specs.declared.search.Search.{Search}
+use Rattle.zone_walk.proofs.Searched.{outside_taken}
 
 -- ---- one look more
 pub looked_on : (v : View) (f : Faces) (a : FaceId) (k l : Search) → ((t : BoundaryPart) → HasSeen v k t → HasSeen v l t) → (t : BoundaryPart) → HasLooked v f a k t → HasLooked v f a l t
@@ -22,6 +29,11 @@ looked_on v f a k l h (Isolated w) s = h (Isolated w) s
 
 pub visit_on : (v w : View) (g f : Faces) (b a : FaceId) (k l m : Search) → (IsSearchFrom v k l → IsSearchFrom v k m) → IsVisitFrom v w g f b a k l → IsVisitFrom v w g f b a k m
 visit_on v w g f b a k l m h i = record { graph = i.graph; faces = i.faces; face = i.face; search = h i.search }
+
+-- ---- a cycle whose box is apart from the segment's
+pub cycle_looked : (v : View) (o k : Search) → IsSearchFrom v o k → (known f : Faces) (a : FaceId) (l : Lists) (c : CycleId) (g : CycleGlimpse) → IsCycleLookOf v f l c g → are_apart k.bounds g.area ≡ true → (d : DartId) → HasDart v d → cycle_in f d ≡ c → HasLooked v known a k (Dart d)
+cycle_looked v o k h known f a l c g look e d has on =
+    inl (λ failed. outside_taken v o k h d has (point_in v (source_in v d)) (point_in v (target_in v d)) refl refl (apart_ends v g.area d (look.area d has on) k.bounds e) k.found.entries)
 
 -- ---- all of the boundary
 module _ (v : View) (s : IsGraphSound v) (f : Faces) (a : FaceId) (l : Search) where

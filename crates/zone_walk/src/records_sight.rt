@@ -9,11 +9,11 @@ ghost use Rattle.slab_laws.specs.View.{HasVertex, HasDart, point_in, source_in, 
 ghost use Rattle.zone_walk.specs.Sights.{IsVertexMet, span_in, is_on_span, side_from, other_side, degree};
 
 use crate::sight::{Seen, Sight};
-use counted_looks::{Glance, Glimpse};
+use counted_looks::{CycleGlimpse, Glance, Glimpse};
 use dcel_records::{Records, Spot};
 use exact_plane::{Direction, Meet, Point, Segment, Sign, Span, line_of, side, span_meeting};
 use rotation_order::{Place, place_at};
-use slab_laws::{DartId, Darts, VertexId};
+use slab_laws::{CycleId, DartId, Darts, VertexId};
 use sound_views::span_of;
 use std::sync::ledger::Ledger;
 use work_steps::Steps;
@@ -149,6 +149,11 @@ impl Sight for Records {
         Glance::of(self).glimpse(dart, steps)
     }
 
+    #[inline(always)]
+    fn glimpse_cycle<L: Ledger>(&self, cycle: CycleId, steps: &mut Steps<L>) -> CycleGlimpse<'_> {
+        Glance::of(self).glimpse_cycle(cycle, steps)
+    }
+
     fn meet_at_vertex<L: Ledger>(
         &self,
         vertex: VertexId,
@@ -159,8 +164,17 @@ impl Sight for Records {
         point_at_vertex(self, vertex, whole)
     }
 
-    fn turn<L: Ledger>(&self, vertex: VertexId, segment: &Segment, steps: &mut Steps<L>) -> Place {
+    fn turn_to<L: Ledger>(
+        &self,
+        vertex: VertexId,
+        direction: Direction,
+        steps: &mut Steps<L>,
+    ) -> Place {
         count_round(self, vertex, steps);
-        place_at(self, vertex, Direction::along(&line_of(segment)))
+        place_at(self, vertex, direction)
+    }
+
+    fn turn<L: Ledger>(&self, vertex: VertexId, segment: &Segment, steps: &mut Steps<L>) -> Place {
+        self.turn_to(vertex, Direction::along(&line_of(segment)), steps)
     }
 }

@@ -16,7 +16,7 @@ use crate::sight::Sight;
 use counted_looks::{BoundaryPart, Glimpse, Looker, NameCalls};
 use dcel_records::Spot;
 use exact_plane::{BoundingBox, Line, Point, Segment, Span};
-use slab_laws::{DartId, FaceId, VertexId};
+use slab_laws::{CycleId, DartId, FaceId, VertexId};
 use std::alloc::Global;
 use std::collections::{BTreeMap, BTreeSet};
 use std::sync::ledger::Ledger;
@@ -194,6 +194,21 @@ impl<'a, T: Sight> Visit<'a, T> {
             take_on_dart(&mut self.search, sight, dart, &looked);
         }
     }
+
+    // What a look at a dart told. Nearly all darts of a cycle that comes near the segment are beyond one side of its box.
+    #[inline(always)]
+    fn see(&mut self, sight: &T, dart: DartId, looked: Glimpse)
+        requires ready { (k : Visit T) × IsVisitFrom (T.graph sight.now) (T.graph self.old.sight.now) (T.faces k.sight.now) (T.faces self.old.sight.now) k.face self.old.face k.search self.old.search }
+        requires dart { HasDart (T.graph sight.now) dart }
+        requires looked { IsLookOf (T.graph sight.now) (Edge dart) looked }
+        ensures ready { (k : Visit T) → IsVisitFrom (T.graph sight.now) (T.graph self.old.sight.now) (T.faces k.sight.now) (T.faces self.old.sight.now) k.face self.old.face k.search self.old.search → IsVisitFrom (T.graph sight.now) (T.graph self.new.sight.now) (T.faces k.sight.now) (T.faces self.new.sight.now) k.face self.new.face k.search self.new.search }
+        ensures seen { HasLooked (T.graph sight.now) (T.faces self.new.sight.now) self.new.face self.new.search (Dart dart) }
+        ensures still { (t : _) → HasLooked (T.graph sight.now) (T.faces self.old.sight.now) self.old.face self.old.search t → HasLooked (T.graph sight.now) (T.faces self.new.sight.now) self.new.face self.new.search t }
+    {
+        if !looked.is_outside(&self.search.bounds) {
+            self.look_closely(sight, dart, looked);
+        }
+    }
 }
 
 impl<'a, T: Sight> Looker<T> for Visit<'a, T> {
@@ -203,19 +218,32 @@ impl<'a, T: Sight> Looker<T> for Visit<'a, T> {
 
     ghost has_seen = { λ v l t. HasLooked v (T.faces l.sight.now) l.face l.search t };
 
-    // Nearly all darts are beyond one side of the segment's box.
     #[inline(always)]
     fn look<L: Ledger>(&mut self, sight: &T, at: BoundaryPart, steps: &mut Steps<L>) {
         match at {
             BoundaryPart::Dart(dart) => {
                 let looked = sight.glimpse(dart, steps);
-                if !looked.is_outside(&self.search.bounds) {
-                    self.look_closely(sight, dart, looked);
-                }
+                self.see(sight, dart, looked);
             }
             BoundaryPart::Isolated(vertex) => {
                 look_at_vertex(&mut self.search, sight, vertex, steps);
             }
         }
+    }
+
+    // A cycle whose box is beyond one side of the segment's has no dart that meets the segment.
+    #[inline(always)]
+    fn look_at_cycle<L: Ledger>(
+        &mut self,
+        sight: &T,
+        cycle: CycleId,
+        steps: &mut Steps<L>,
+    ) -> bool {
+        let looked = sight.glimpse_cycle(cycle, steps);
+        if looked.is_outside(&self.search.bounds) {
+            return true;
+        }
+        self.see(sight, looked.dart, looked.first);
+        false
     }
 }

@@ -2,17 +2,20 @@ ghost use Rattle.std.specs.Prelude.{◌≡◌, ◌+◌};
 ghost use Rattle.exact_plane.specs.Direction.{direction_of};
 ghost use Rattle.exact_plane.specs.Segment.{line_of_segment};
 ghost use Rattle.rotation_order.specs.Place.{IsPlaceOf};
+ghost use Rattle.slab_laws.specs.FaceLists.{AreDartsOn};
+ghost use Rattle.slab_laws.specs.FacesSound.{IsSound};
 ghost use Rattle.slab_laws.specs.Sound.{IsGraphSound};
-ghost use Rattle.slab_laws.specs.View.{HasVertex, HasDart};
+ghost use Rattle.slab_laws.specs.View.{HasVertex, HasDart, HasCycle};
+ghost use Rattle.counted_looks.specs.CycleLooks.{IsCycleLookOf};
 ghost use Rattle.counted_looks.specs.Looks.{IsLookable, IsLookOf};
 ghost use Rattle.dcel_records.specs.declared.spot.Spot.TheVariants.{Edge};
 ghost use Rattle.zone_walk.specs.Sights.{IsSeenOf, IsVertexMet, degree};
 
-use counted_looks::{Glimpse, NameCalls};
+use counted_looks::{CycleGlimpse, Glimpse, NameCalls};
 use dcel_records::Spot;
-use exact_plane::{Meet, Point, Segment, Sign, Span};
+use exact_plane::{Direction, Meet, Point, Segment, Sign, Span};
 use rotation_order::Place;
-use slab_laws::{DartId, VertexId};
+use slab_laws::{CycleId, DartId, VertexId};
 use std::sync::ledger::Ledger;
 use work_steps::Steps;
 
@@ -43,6 +46,14 @@ pub trait Sight: NameCalls {
         ensures look { IsLookOf (Self.graph self.now) (Edge dart) result }
         ensures one { steps.new ≡ steps.old + 1 };
 
+    /// One look at a cycle, which is one step: at the dart that is kept for it, and at a box of the whole cycle.
+    fn glimpse_cycle<L: Ledger>(&self, cycle: CycleId, steps: &mut Steps<L>) -> CycleGlimpse<'_>
+        requires sound { IsSound (Self.graph self.now) (Self.faces self.now) }
+        requires darts { AreDartsOn (Self.graph self.now) (Self.faces self.now) (Self.lists self.now) }
+        requires cycle { HasCycle (Self.faces self.now) cycle }
+        ensures look { IsCycleLookOf (Self.graph self.now) (Self.faces self.now) (Self.lists self.now) cycle result }
+        ensures one { steps.new ≡ steps.old + 1 };
+
     /// One look at a vertex for whether a segment, given as a span, has its point; it is one step. The point, or `None` where
     /// the segment doesn't have it.
     fn meet_at_vertex<L: Ledger>(
@@ -55,8 +66,20 @@ pub trait Sight: NameCalls {
         ensures met { IsVertexMet (Self.graph self.now) whole.now vertex result }
         ensures one { steps.new ≡ steps.old + 1 };
 
+    /// The place round a vertex of a direction. It takes a step for each dart out of the vertex.
+    fn turn_to<L: Ledger>(
+        &self,
+        vertex: VertexId,
+        direction: Direction,
+        steps: &mut Steps<L>,
+    ) -> Place
+        requires sound { IsGraphSound (Self.graph self.now) }
+        requires vertex { HasVertex (Self.graph self.now) vertex }
+        ensures place { IsPlaceOf (Self.graph self.now) vertex direction result }
+        ensures count { steps.new ≡ steps.old + degree (Self.graph self.now) vertex };
+
     /// The place round a vertex of the direction towards the segment's upper end. It takes a step for each dart out of the
-    /// vertex.
+    /// vertex. It makes the segment's line; `turn_to` is for who has it.
     fn turn<L: Ledger>(&self, vertex: VertexId, segment: &Segment, steps: &mut Steps<L>) -> Place
         requires sound { IsGraphSound (Self.graph self.now) }
         requires vertex { HasVertex (Self.graph self.now) vertex }

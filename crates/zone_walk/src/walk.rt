@@ -23,7 +23,7 @@ use crate::search::{Search, Visit};
 use crate::sight::Sight;
 use counted_looks::{Glimpse, NameCalls, look_at_boundary};
 use dcel_records::{Room, Spot};
-use exact_plane::{BoundingBox, Point, Segment, Sign, side};
+use exact_plane::{BoundingBox, Direction, Point, Segment, Sign, Span, side};
 use no_memory::NoMemory;
 use rotation_order::Place;
 use slab_laws::{DartId, FaceId, Sequence, VertexId};
@@ -33,15 +33,17 @@ use std::mem::replace;
 use std::sync::ledger::Ledger;
 use work_steps::Steps;
 
-// What follows a vertex on the segment: the edge that leaves towards the segment's upper end, with its upper end, or the face at
+// What follows a vertex on the segment, which is given as a span too: the edge that leaves towards the segment's upper end, with its upper end, or the face at
 // the place of this direction round the vertex.
 fn ahead_of_vertex<T: Sight, L: Ledger>(
     sight: &T,
     segment: &Segment,
+    whole: &Span,
     vertex: VertexId,
     steps: &mut Steps<L>,
 ) -> (Spot, Point)
     requires sound { IsSound (T.graph sight.now) (T.faces sight.now) }
+    requires whole { whole.now ≡ span_of_segment segment.now }
     requires vertex { HasVertex (T.graph sight.now) vertex }
     requires on { is_on_segment segment.now (point_in (T.graph sight.now) vertex) ≡ true }
     requires before { precedes (point_in (T.graph sight.now) vertex) segment.now.upper ≡ true }
@@ -50,7 +52,7 @@ fn ahead_of_vertex<T: Sight, L: Ledger>(
 {
     // The ends of a segment are two points, in order.
     let lower = segment.lower();
-    match sight.turn(vertex, segment, steps) {
+    match sight.turn_to(vertex, Direction::along(&whole.line()), steps) {
         Place::Along(dart) => {
             let looked = sight.glimpse(dart, steps);
             (Spot::Edge(dart), looked.target())
@@ -99,14 +101,16 @@ fn ahead_of_edge<T: Sight, L: Ledger>(
     }
 }
 
-// What follows a meeting point on the segment.
+// What follows a meeting point on the segment, which is given as a span too.
 fn part_ahead<T: Sight, L: Ledger>(
     sight: &T,
     segment: &Segment,
+    whole: &Span,
     here: &Meeting,
     steps: &mut Steps<L>,
 ) -> (Spot, Point)
     requires sound { IsSound (T.graph sight.now) (T.faces sight.now) }
+    requires whole { whole.now ≡ span_of_segment segment.now }
     requires spot { IsSpotOf (T.graph sight.now) (T.faces sight.now) here.now.point here.now.spot }
     requires on { is_on_segment segment.now here.now.point ≡ true }
     requires before { precedes here.now.point segment.now.upper ≡ true }
@@ -114,7 +118,7 @@ fn part_ahead<T: Sight, L: Ledger>(
     ensures count { steps.new ≤ steps.old + stop_looks (T.graph sight.now) segment.now here.now.point }
 {
     match here.spot {
-        Spot::Vertex(vertex) => ahead_of_vertex(sight, segment, vertex, steps),
+        Spot::Vertex(vertex) => ahead_of_vertex(sight, segment, whole, vertex, steps),
         Spot::Edge(dart) => ahead_of_edge(sight, segment, &here.point, dart, steps),
         Spot::Face(face) => {
             here.point.laws();
@@ -228,7 +232,7 @@ fn onward<T: Sight, L: Ledger>(
     ensures looks { (n : _) → ((q : _) (a : _) → IsNextMeeting (T.graph sight.now) search.old.segment here.now.point q → IsSpotBetween (T.graph sight.now) (T.faces sight.now) search.old.segment here.now.point q (InFace a) → boundary_size (T.graph sight.now) (T.faces sight.now) a ≤ n) → steps.new ≤ steps.old + (stop_looks (T.graph sight.now) search.old.segment here.now.point + n) }
 {
     here.point.laws();
-    let (part, end) = part_ahead(sight, &search.segment, here, steps);
+    let (part, end) = part_ahead(sight, &search.segment, &search.whole, here, steps);
     match part {
         Spot::Edge(dart) => {
             let next = next_along(search, sight, dart, end);

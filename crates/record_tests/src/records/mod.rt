@@ -2,6 +2,7 @@
 // boundaries; envelopes; what is above and below vertices, where many points lie; and zones of paths.
 
 mod batches;
+mod boxes;
 mod chains;
 mod cycles;
 mod envelope_cases;

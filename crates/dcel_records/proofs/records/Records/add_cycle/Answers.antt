@@ -1,11 +1,12 @@
+use Rattle.slab.specs.Slab.{get}
 use Rattle.dcel_records.proofs.Rooms.{room_more, room_fits}
 use Rattle.std.proofs.Common.{ap, refl, arith, is_some, ◌∙◌}
 use Rattle.slab_laws.specs.View.{cycle_id}
 use Rattle.dcel_records.specs.RecordsView.{graph_part}
 use Rattle.dcel_records.specs.ListChanges.{cycle_listed}
 use Rattle.dcel_records.proofs.Relinked.{lists_after, face_key}
-use Rattle.dcel_records.proofs.CyclesWritten.{cycle_there, cycle_new, more_others, more_sound, more_tables, more_lists}
-use Rattle.dcel_records.proofs.OnCycles.{on_keys, key_put}
+use Rattle.dcel_records.proofs.CyclesWritten.{areas_stay, cycle_new, more_others, more_sound, more_tables, more_lists}
+use Rattle.dcel_records.proofs.OnCycles.{on_kept, kept_put, parts_same}
 use Rattle.dcel_records.proofs.records.Records.add_cycle.Goals as goal
 
 pub link_first-requires-clause-chained : goal.link_first-requires-clause-chained
@@ -26,7 +27,9 @@ invariant_of-self c = record {
       let z = ap (λ v. v.faces.spare_cycles) c.self.view_is in
       let r = c.requires.room in
       room_more c.self.inside.cycle_room c.self.inside.cycles c.link_first.new.rows c.self.invariant.cycle_room (omega arith) (c.link_first.ensures.kept.len ∙ c.insert_reserved-cycle.ensures.len) (c.link_first.ensures.kept.capacity ∙ c.insert_reserved-cycle.ensures.capacity);
-  on_cycles = on_keys c.self.inside.darts c.self.inside.cycles c.link_first.new.rows (λ n h. cycle_there c.insert_reserved-cycle.new.self c.link_first.new.rows c.self.inside.faces c.link_first.new.faces c.link_first.ensures.kept n (key_put c.self.inside.cycles c.insert_reserved-cycle.new.self c.insert_reserved-cycle.result _ c.insert_reserved-cycle.ensures.updates n h)) c.self.invariant.on_cycles;
+  on_cycles =
+      let kept = kept_put c.self.inside.cycles c.insert_reserved-cycle.new.self c.insert_reserved-cycle.result _ c.insert_reserved-cycle.ensures.was_vacant c.insert_reserved-cycle.ensures.updates in
+      on_kept c.self.inside.darts c.self.inside.cycles c.link_first.new.rows (λ n p h. parts_same (get c.insert_reserved-cycle.new.self n) (get c.link_first.new.rows n) (areas_stay c.insert_reserved-cycle.new.self c.link_first.new.rows c.self.inside.faces c.link_first.new.faces c.link_first.ensures.kept n) p (kept n p h)) c.self.invariant.on_cycles;
   marked = c.self.invariant.marked;
   moved = c.self.invariant.moved;
   isolated = c.self.invariant.isolated;

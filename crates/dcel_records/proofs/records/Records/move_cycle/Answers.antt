@@ -4,8 +4,9 @@ use Rattle.dcel_records.specs.RecordsView.{graph_part}
 use Rattle.slab_laws.specs.View.{kind_in}
 use Rattle.dcel_records.specs.ListChanges.{cycle_relisted}
 use Rattle.dcel_records.proofs.Relinked.{lists_after, face_key}
-use Rattle.dcel_records.proofs.CyclesWritten.{cycle_key, cycle_node, cycle_there, face_there, kind_found, moved_sound, moved_tables, moved_lists}
-use Rattle.dcel_records.proofs.OnCycles.{on_keys}
+use Rattle.dcel_records.proofs.CyclesWritten.{areas_stay, cycle_key, cycle_node, cycle_there, face_there, kind_found, moved_sound, moved_tables, moved_lists}
+use Rattle.slab.specs.Slab.{get}
+use Rattle.dcel_records.proofs.OnCycles.{on_kept, parts_same}
 use Rattle.dcel_records.proofs.records.Records.move_cycle.Goals as goal
 
 pub unlink-requires-clause-chained : goal.unlink-requires-clause-chained
@@ -29,7 +30,7 @@ invariant_of-self c = record {
   faces = moved_sound c.self.inside.vertices c.self.inside.darts c.self.inside.cycles c.self.inside.faces c.self.inside.moved c.self.inside.order.items c.self.inside.vertex_room c.self.inside.cycle_room c.self.inside.at.whole _ c.self.view_is c.self.invariant.faces c.args.c.0 c.unlink.new.rows c.unlink.new.faces c.unlink.ensures c.args.face c.link_first.new.rows c.link_first.new.faces c.link_first.ensures;
   vertex_room = c.self.invariant.vertex_room;
   cycle_room = room_same c.self.inside.cycle_room c.self.inside.cycles c.link_first.new.rows c.self.invariant.cycle_room (c.link_first.ensures.kept.len ∙ c.unlink.ensures.kept.len) (c.link_first.ensures.kept.capacity ∙ c.unlink.ensures.kept.capacity);
-  on_cycles = on_keys c.self.inside.darts c.self.inside.cycles c.link_first.new.rows (λ n h. cycle_there c.unlink.new.rows c.link_first.new.rows c.unlink.new.faces c.link_first.new.faces c.link_first.ensures.kept n (cycle_there c.self.inside.cycles c.unlink.new.rows c.self.inside.faces c.unlink.new.faces c.unlink.ensures.kept n h)) c.self.invariant.on_cycles;
+  on_cycles = on_kept c.self.inside.darts c.self.inside.cycles c.link_first.new.rows (λ n p. parts_same (get c.self.inside.cycles n) (get c.link_first.new.rows n) (areas_stay c.unlink.new.rows c.link_first.new.rows c.unlink.new.faces c.link_first.new.faces c.link_first.ensures.kept n ∙ areas_stay c.self.inside.cycles c.unlink.new.rows c.self.inside.faces c.unlink.new.faces c.unlink.ensures.kept n) p) c.self.invariant.on_cycles;
   marked = c.self.invariant.marked;
   moved = c.self.invariant.moved;
   isolated = c.self.invariant.isolated;

@@ -1,10 +1,11 @@
+use Rattle.slab.specs.Slab.{get}
 use Rattle.dcel_records.proofs.Rooms.{room_less}
 use Rattle.std.proofs.Common.{ap, arith, ◌∙◌}
 use Rattle.dcel_records.specs.RecordsView.{graph_part}
 use Rattle.dcel_records.specs.ListChanges.{cycle_unlisted}
 use Rattle.dcel_records.proofs.Relinked.{lists_after}
-use Rattle.dcel_records.proofs.CyclesWritten.{cycle_key, cycle_node, cycle_there, fewer_sound, fewer_tables, fewer_lists}
-use Rattle.dcel_records.proofs.OnCycles.{on_others, on_keys, none_on}
+use Rattle.dcel_records.proofs.CyclesWritten.{areas_stay, cycle_key, cycle_node, cycle_there, fewer_sound, fewer_tables, fewer_lists}
+use Rattle.dcel_records.proofs.OnCycles.{on_others, on_kept, none_on, parts_same}
 use Rattle.dcel_records.proofs.records.Records.remove_cycle.Goals as goal
 
 pub unlink-requires-clause-chained : goal.unlink-requires-clause-chained
@@ -22,7 +23,7 @@ invariant_of-self c = record {
   faces = fewer_sound c.self.inside.vertices c.self.inside.darts c.self.inside.cycles c.self.inside.faces c.self.inside.moved c.self.inside.order.items c.self.inside.vertex_room c.self.inside.cycle_room c.self.inside.at.whole _ c.self.view_is c.self.invariant.faces c.args.c.0 c.unlink.new.rows c.unlink.new.faces c.unlink.ensures c.remove.new.self c.remove.ensures.updates;
   vertex_room = c.self.invariant.vertex_room;
   cycle_room = room_less c.self.inside.cycle_room c.self.inside.cycles c.remove.new.self c.self.invariant.cycle_room (c.remove.ensures.len ∙ c.unlink.ensures.kept.len) (c.remove.ensures.capacity ∙ c.unlink.ensures.kept.capacity);
-  on_cycles = on_others c.self.inside.darts c.unlink.new.rows c.remove.new.self c.args.c.0 c.remove.ensures.updates (none_on c.self.inside.vertices c.self.inside.darts c.self.inside.cycles c.self.inside.faces c.self.inside.moved c.self.inside.order.items c.self.inside.vertex_room c.self.inside.cycle_room c.self.inside.at.whole _ c.self.view_is c.args.c c.requires.off) (on_keys c.self.inside.darts c.self.inside.cycles c.unlink.new.rows (cycle_there c.self.inside.cycles c.unlink.new.rows c.self.inside.faces c.unlink.new.faces c.unlink.ensures.kept) c.self.invariant.on_cycles);
+  on_cycles = on_others c.self.inside.darts c.unlink.new.rows c.remove.new.self c.args.c.0 c.remove.ensures.updates (none_on c.self.inside.vertices c.self.inside.darts c.self.inside.cycles c.self.inside.faces c.self.inside.moved c.self.inside.order.items c.self.inside.vertex_room c.self.inside.cycle_room c.self.inside.at.whole _ c.self.view_is c.args.c c.requires.off) (on_kept c.self.inside.darts c.self.inside.cycles c.unlink.new.rows (λ n p. parts_same (get c.self.inside.cycles n) (get c.unlink.new.rows n) (areas_stay c.self.inside.cycles c.unlink.new.rows c.self.inside.faces c.unlink.new.faces c.unlink.ensures.kept n) p) c.self.invariant.on_cycles);
   marked = c.self.invariant.marked;
   moved = c.self.invariant.moved;
   isolated = c.self.invariant.isolated;

@@ -17,7 +17,7 @@ invariant_of-self c = record {
   faces = dart_sound c.self.inside.vertices c.self.inside.darts c.self.inside.cycles c.self.inside.faces c.self.inside.moved c.self.inside.order.items c.self.inside.vertex_room c.self.inside.cycle_room c.self.inside.at.whole _ c.self.view_is c.self.invariant.faces c.args.c.0 c.index_mut.result.now _ c.index_mut.ensures.value refl refl;
   vertex_room = c.self.invariant.vertex_room;
   cycle_room = room_same c.self.inside.cycle_room c.self.inside.cycles _ c.self.invariant.cycle_room (len_written c.self.inside.cycles _ _ _ c.index_mut.ensures.value) refl;
-  on_cycles = on_written c.self.inside.darts c.self.inside.cycles c.args.c.0 c.index_mut.result.now _ c.index_mut.ensures.value c.self.invariant.on_cycles;
+  on_cycles = on_written c.self.inside.darts c.self.inside.cycles c.args.c.0 c.index_mut.result.now _ c.index_mut.ensures.value refl c.self.invariant.on_cycles;
   marked = c.self.invariant.marked;
   moved = c.self.invariant.moved;
   isolated = c.self.invariant.isolated;
@@ -36,7 +36,7 @@ returns-clause-spare c =
     let t = ap (λ v. v.faces.spare_faces) c.self.view_is in
     let p = ap (λ v. v.faces.capacity_of_cycles) c.self.view_is in
     let q = ap (λ v. v.faces.capacity_of_faces) c.self.view_is in
-    let a = len_written c.self.inside.cycles c.args.c.0 c.index_mut.result.now (record { kind = c.index_mut.result.now.kind; dart = c.args.dart; place = c.index_mut.result.now.place }) c.index_mut.ensures.value in
+    let a = len_written c.self.inside.cycles c.args.c.0 c.index_mut.result.now (record { kind = c.index_mut.result.now.kind; dart = c.args.dart; place = c.index_mut.result.now.place; area = c.index_mut.result.now.area }) c.index_mut.ensures.value in
     record { of_cycles = omega arith; of_faces = omega arith; capacity_of_cycles = omega arith; capacity_of_faces = omega arith }
 
 pub returns-clause-graph : goal.returns-clause-graph

@@ -18,7 +18,7 @@ invariant_of-self c = record {
   faces = faces_sound c.self.inside.vertices c.self.inside.darts c.self.inside.cycles c.self.inside.faces c.self.inside.moved c.self.inside.order.items c.self.inside.vertex_room c.self.inside.cycle_room c.self.inside.at.whole c.args.self.now c.self.view_is c.self.invariant.faces c.self.inside.vertices (λ n. refl);
   vertex_room = c.self.invariant.vertex_room;
   cycle_room = c.self.invariant.cycle_room;
-  on_cycles = on_same c.self.inside.darts c.self.inside.cycles c.args.d.0 c.index_mut.result.now _ c.index_mut.ensures.value refl c.self.invariant.on_cycles;
+  on_cycles = on_same c.self.inside.darts c.self.inside.cycles c.args.d.0 c.index_mut.result.now _ c.index_mut.ensures.value refl refl c.self.invariant.on_cycles;
   marked = marked_kept c.self.inside.vertices c.self.inside.darts c.args.d.0 c.index_mut.result.now _ c.index_mut.ensures.value refl (record { twin = refl; parts = refl; target_parts = refl }) c.self.invariant.marked;
   moved = c.self.invariant.moved;
   isolated = c.self.invariant.isolated;

@@ -1,10 +1,12 @@
 use Rattle.std.proofs.Common.{sym, subst}
+use Rattle.exact_plane.specs.WholeParts.{whole_parts}
 use Rattle.slab_laws.specs.View.{View}
 use Rattle.counted_looks.specs.declared.boundary_part.BoundaryPart.{BoundaryPart}
 use Rattle.counted_looks.specs.Boundaries.{HasPart}
 use Rattle.dcel_records.specs.RecordsView.{graph_of}
 use Rattle.locate_walk.specs.Looks.{IsBelowOrNone, HasSeen}
-use Rattle.locate_walk.proofs.Takes.{looked_seen, looked_still, beside_looked}
+use Rattle.locate_walk.proofs.BesidePoint.{told_beside, dart_beside}
+use Rattle.locate_walk.proofs.Takes.{looked_seen, looked_still}
 use Rattle.locate_landmarks.specs.Lowest.{IsAbove, IsEntry}
 use Rattle.locate_landmarks.proofs.Surveyed.{survey_may}
 use Rattle.locate_landmarks.proofs.survey.SurveyLookerGlance.look.Goals as goal
@@ -31,9 +33,10 @@ returns-then-is_left_or_right_of-clause-seen g c = λ d e.
     let h = c.args.self.now.highest in
     let k = c.requires.ready.0.highest in
     let m = c.requires.ready.1.highest in
+    let l = c.glimpse-looked.result in
     let has = subst (HasPart v) c.in-Dart.is c.requires.at in
-    let beside = beside_looked v k h c.in-Dart.dart c.glimpse-looked.result m has c.glimpse-looked.ensures.look c.whole_parts.result c.whole_parts.ensures c.is_left_or_right_of.result c.is_left_or_right_of.ensures c.if-is_left_or_right_of.true in
-    subst (λ (t : BoundaryPart). HasSeen v h t) (sym c.in-Dart.is) (looked_seen v h h _ beside k m)
+    let told = told_beside c.whole_parts.result (whole_parts h.point) (whole_parts l.source) (whole_parts l.target) c.is_left_or_right_of.result c.whole_parts.ensures c.is_left_or_right_of.ensures c.if-is_left_or_right_of.true in
+    subst (λ (t : BoundaryPart). HasSeen v h t) (sym c.in-Dart.is) (dart_beside v k h m c.in-Dart.dart has l c.glimpse-looked.ensures.look told)
 
 pub returns-else-is_left_or_right_of-clause-ready : goal.returns-else-is_left_or_right_of-clause-ready
 returns-else-is_left_or_right_of-clause-ready g c = survey_may (graph_of c.args.sight.now) c.args.self.now c.look_closely.new.self _ c.look_closely.ensures

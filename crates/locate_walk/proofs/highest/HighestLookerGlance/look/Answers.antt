@@ -1,10 +1,12 @@
 use Rattle.std.proofs.Common.{sym, subst}
+use Rattle.exact_plane.specs.WholeParts.{whole_parts}
 use Rattle.slab_laws.specs.View.{View}
 use Rattle.counted_looks.specs.declared.boundary_part.BoundaryPart.{BoundaryPart}
 use Rattle.counted_looks.specs.Boundaries.{HasPart}
 use Rattle.dcel_records.specs.RecordsView.{graph_of}
 use Rattle.locate_walk.specs.Looks.{IsBelowOrNone, HasSeen}
-use Rattle.locate_walk.proofs.Takes.{looked_may, looked_seen, looked_still, beside_looked}
+use Rattle.locate_walk.proofs.BesidePoint.{told_beside, dart_beside}
+use Rattle.locate_walk.proofs.Takes.{looked_may, looked_seen, looked_still}
 use Rattle.locate_walk.proofs.highest.HighestLookerGlance.look.Goals as goal
 
 pub look_closely-requires-clause-best : goal.look_closely-requires-clause-best
@@ -17,11 +19,10 @@ pub returns-then-is_left_or_right_of-clause-seen : goal.returns-then-is_left_or_
 returns-then-is_left_or_right_of-clause-seen g c = λ d e.
     let v = graph_of c.args.sight.now in
     let h = c.args.self.now in
-    let k = c.requires.ready.0 in
-    let m = c.requires.ready.1 in
+    let l = c.glimpse-looked.result in
     let has = subst (HasPart v) c.in-Dart.is c.requires.at in
-    let beside = beside_looked v k h c.in-Dart.dart c.glimpse-looked.result m has c.glimpse-looked.ensures.look c.whole_parts.result c.whole_parts.ensures c.is_left_or_right_of.result c.is_left_or_right_of.ensures c.if-is_left_or_right_of.true in
-    subst (λ (t : BoundaryPart). HasSeen v h t) (sym c.in-Dart.is) (looked_seen v h h _ beside k m)
+    let told = told_beside c.whole_parts.result (whole_parts h.point) (whole_parts l.source) (whole_parts l.target) c.is_left_or_right_of.result c.whole_parts.ensures c.is_left_or_right_of.ensures c.if-is_left_or_right_of.true in
+    subst (λ (t : BoundaryPart). HasSeen v h t) (sym c.in-Dart.is) (dart_beside v c.requires.ready.0 h c.requires.ready.1 c.in-Dart.dart has l c.glimpse-looked.ensures.look told)
 
 pub returns-else-is_left_or_right_of-clause-ready : goal.returns-else-is_left_or_right_of-clause-ready
 returns-else-is_left_or_right_of-clause-ready g c = looked_may (graph_of c.args.sight.now) c.args.self.now c.look_closely.new.self _ c.look_closely.ensures
