@@ -10,13 +10,11 @@ use Rattle.chain_laws.specs.Links.{comes_after}
 use Rattle.linked_chains.specs.Chains.{Chained, IsWhole, HasKey, HasNode, entry_at, chain}
 use Rattle.linked_chains.specs.declared.node.Entry.{Entry}
 use Rattle.curve_history.specs.HistoryInMemory.{entry, item_in, items_along, IsDescending, AreOrdered, Says, ArePairs}
-use Rattle.edit_steps.specs.EditLaws.{curve_of}
 use Rattle.curve_history.proofs.Descending.{EndsIn, end_member, put_end}
 use Rattle.curve_history.proofs.Placing.{still_ordered}
 use Rattle.curve_history.proofs.Reading.{node_of}
-use Rattle.curve_history.proofs.Twins.{beside, one_entry}
+use Rattle.curve_history.proofs.Twins.{one_entry}
 use Rattle.curve_history.proofs.Walking.{IsAt, at_head, left, left_head, left_apart, left_member, apart, IsStepped, stepped, node_at, says_on, item_is, none_there}
-use Rattle.integers.proofs.Tests.{same_number}
 
 -- a walk on which all nodes passed have a copy at the part
 pub record IsCopying (old new : Chained) (edge part : ℕ) (at : Option ℕ) : Type 0 where
@@ -142,12 +140,6 @@ module _ (old mid curves now : Chained) (edge part n : ℕ) (before : Option ℕ
   module _ (e : Entry) (h : entry_at mid n ≡ Some e) where
     pub item_same : e.item ≡ item_in old n
     item_same = let t = mid_node in (one_entry (entry_at mid n) e.key e.item e.twin edge (item_in old n) t.0 h t.1).item
-
-    pub is_named : ArePairs old curves → ((m : ℕ) (x : Entry) → entry_at curves m ≡ Some x → HasKey curves x.key) → AreSameKeys curves now → HasKey now (curve_of e.item)
-    is_named t keys same_number =
-        let v = node_at old edge n w at_n.here in
-        let k : HasKey curves (curve_of (item_in old n)) = keys v.0 (entry (curve_of (item_in old n)) edge n) (beside old curves n edge (item_in old n) v.0 t v.1) in
-        (same_number.keys (curve_of e.item)).0 (subst (λ i. HasKey curves (curve_of i)) (sym item_same) k)
 
     pub is_new : ArePairs old curves → ((i : ℕ) → ¬ Says old part i) → ¬ Says mid part e.item
     is_new t none s = not_yet_at t none (subst (Says mid part) item_same s)

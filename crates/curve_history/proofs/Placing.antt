@@ -82,24 +82,13 @@ put_node a a' m n edge curve last w p h = record {
   items = λ x g. let t = node_at a edge x w g in item_is a' x (entry edge (item_in a x) t.0) (p.others x (λ e. p.fresh (subst (HasNode a) e (at_node a edge x w g))) ∙ t.1);
 }
 
--- where the key of the edge came first
+-- where the nodes stay
 same_said : (a a' : Chained) (n : ℕ) → entry_at a' n ≡ entry_at a n → item_in a' n ≡ item_in a n
 unfolding item_in
 same_said a a' n e = ap item_or e
 
 same_item : (a a' : Chained) → a'.nodes ≡ a.nodes → (n : ℕ) → item_in a' n ≡ item_in a n
 same_item a a' e n = same_said a a' n (same_entries a a' e n)
-
-pub of_edge_with_key : (a mid : Chained) (edge : ℕ) (last : Option ℕ) → ((k : ℕ) → chain mid k ≡ chain a k) → IsOfEdge a edge last → IsOfEdge mid edge last
-of_edge_with_key a mid edge last h p n e = subst (Member n) (sym (h edge)) (p n e)
-
-pub put_with_key : (a mid a' : Chained) (edge curve n : ℕ) (last : Option ℕ) → mid.nodes ≡ a.nodes → ((k : ℕ) → chain mid k ≡ chain a k) → IsPutAt mid a' edge curve last n → IsPutAt a a' edge curve last n
-put_with_key a mid a' edge curve n last e h p = record {
-  fresh = λ g. p.fresh (subst (Member n) (sym (h edge)) g);
-  item = p.item;
-  chain_is = p.chain_is ∙ ap (put_at last n) (h edge);
-  items = λ x g. p.items x (subst (Member x) (sym (h edge)) g) ∙ same_item a mid e x;
-}
 
 pub above_of_edge : (c : Chained) (edge curve : ℕ) (last : Option ℕ) → IsLastAbove c edge curve last → IsOfEdge c edge last
 above_of_edge c edge curve last p n e = (p.above n e).0

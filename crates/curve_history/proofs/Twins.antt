@@ -1,9 +1,9 @@
 -- The nodes of both sides stay twins where a pair comes or goes.
-use Rattle.std.proofs.Common.{◌≡◌, ◌≢◌, ◌⊎◌, ⊎_elim, inl, inr, ℕ, List, ◌==◌, cond, not, Option, Some, None, option_map, refl, sym, ap, subst, ◌∙◌}
+use Rattle.std.proofs.Common.{◌≡◌, ◌≢◌, ◌⊎◌, inl, inr, ℕ, List, ◌==◌, cond, not, Option, Some, None, option_map, refl, sym, ap, subst, ◌∙◌}
 use Rattle.std.specs.List.{filter}
 use Rattle.std.proofs.lemmas.Bool.{cases_eq}
 use Rattle.slab_laws.specs.Tables.{row_at}
-use Rattle.curve_history.specs.Changed.{IsPairMore, IsPairLess}
+use Rattle.curve_history.specs.Changed.{IsOfCurve, IsPairMore, IsPairLess}
 use Rattle.linked_chains.specs.Chains.{Chained, Link, HasKey, HasNode, entry_at, chain}
 use Rattle.linked_chains.specs.declared.node.Entry.{Entry}
 use Rattle.curve_history.specs.HistoryInMemory.{entry, Says, IsBeside, AreTwins, ArePairs}
@@ -35,6 +35,9 @@ pub beside : (e c : Chained) (n edge i t : ℕ) → ArePairs e c → entry_at e 
 beside e c n edge i t p h =
     let f = p.forth.twin n (entry edge i t) h in
     f.1 ∙ ap Some (entry_path f.3.curve f.3.edge f.2)
+
+pub beside_node : (e c : Chained) (n : ℕ) (said : Entry) → ArePairs e c → entry_at e n ≡ Some said → IsOfCurve c (curve_of said.item) said.twin
+beside_node e c n said p h = let f = p.forth.twin n said h in (f.0, f.1, f.3.curve)
 
 pub beside_back : (e c : Chained) (n k edge t : ℕ) → ArePairs e c → entry_at c n ≡ Some (entry k edge t) → (i : ℕ) × (k ≡ curve_of i) × (entry_at e t ≡ Some (entry edge i n))
 beside_back e c n k edge t p h =
@@ -117,13 +120,13 @@ module _ (a a' : Chained) (m n key item : ℕ) (p : IsNodeMore a a' m (entry key
           let f : IsSameEntry k i s key item n = one_entry (entry_at a' x) k i s key item n h (ap (entry_at a') e ∙ p.here) in
           new (record { node = y; twin = t; is = sym (p.others y nf) ∙ g ∙ ap Some (entry_path f.key f.item refl) })
 
-pub pair_more : (a a' : Chained) (m n edge curve : ℕ) → IsNodeMore a a' m (entry edge curve n) → ((k : ℕ) → k ≢ edge → chain a' k ≡ chain a k) → ((k : ℕ) → HasKey a' k → HasKey a k) → IsPairMore a a' edge curve
+pub pair_more : (a a' : Chained) (m n edge curve : ℕ) → IsNodeMore a a' m (entry edge curve n) → ((k : ℕ) → k ≢ edge → chain a' k ≡ chain a k) → ((k : ℕ) → HasKey a' k → HasKey a k ⊎ (k ≡ edge)) → IsPairMore a a' edge curve
 pair_more a a' m n edge curve p chains keys = record {
   said = record { node = m; twin = n; is = p.here };
   stays = stays_more a a' m n edge curve p;
   others = says_more a a' m n edge curve p;
   chains = chains;
-  keys = λ k h. inl (keys k h);
+  keys = keys;
 }
 
 -- both sides at once
@@ -207,16 +210,6 @@ same_entries a a' e n = ap (λ (rs : List (ℕ × Link)). option_map (λ (l : Li
 
 pub says_there : (a a' : Chained) (k i : ℕ) → a'.nodes ≡ a.nodes → Says a k i → Says a' k i
 says_there a a' k i e s = record { node = s.node; twin = s.twin; is = same_entries a a' e s.node ∙ s.is }
-
--- a pair more where its edge's key came first
-pub more_with_key : (a mid a' : Chained) (edge curve : ℕ) → mid.nodes ≡ a.nodes → ((k : ℕ) → chain mid k ≡ chain a k) → ((k : ℕ) → HasKey mid k → HasKey a k ⊎ (k ≡ edge)) → IsPairMore mid a' edge curve → IsPairMore a a' edge curve
-more_with_key a mid a' edge curve e chains keys m = record {
-  said = m.said;
-  stays = λ n x h. m.stays n x (same_entries a mid e n ∙ h);
-  others = λ k i s. ⊎_elim (λ t. inl (says_there mid a k i (sym e) t)) (λ t. inr t) (m.others k i s);
-  chains = λ k ne. m.chains k ne ∙ chains k;
-  keys = λ k h. ⊎_elim (keys k) (λ t. inr t) (m.keys k h);
-}
 
 pub twins_with_key : (a a' b : Chained) → a'.nodes ≡ a.nodes → ArePairs a b → ArePairs a' b
 twins_with_key a a' b q t = record {

@@ -27,6 +27,10 @@ pub record IsPairMore (old new : Chained) (edge curve : ℕ) : Type 0 where
 abbrev pub IsOfEdge : Chained → ℕ → Option ℕ → Type 0
 IsOfEdge c edge last = (n : ℕ) → last ≡ Some n → Member n (chain c edge)
 
+-- the node is one of the curve
+abbrev pub IsOfCurve : Chained → ℕ → ℕ → Type 0
+IsOfCurve c curve node = (e : Entry) × (entry_at c node ≡ Some e) × (e.key ≡ curve)
+
 -- the first of the list, or the one directly after another one
 abbrev pub next_in : List ℕ → Option ℕ → Option ℕ
 next_in xs None = first_of xs

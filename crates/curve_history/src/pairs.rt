@@ -1,78 +1,71 @@
-ghost use Rattle.std.specs.Prelude.{◌≡◌, ◌≢◌, ◌⊎◌, ◌↔◌, ◌≤◌, ◌+◌, [], Some};
-ghost use Rattle.linked_chains.specs.Chains.{chain, put_at, HasKey, HasNode, IsSpare, SetsEntry};
-ghost use Rattle.curve_history.specs.Changed.{AreSameKeys, IsOfEdge, IsPairMore, IsPutAt, LosesPairOf};
+ghost use Rattle.std.specs.Prelude.{◌≡◌, ◌≢◌, ◌⊎◌, ◌≤◌, ◌+◌, ◌∷◌, [], Some, None};
+ghost use Rattle.linked_chains.specs.Chains.{chain, put_at, HasKey, HasNode, SetsEntry};
+ghost use Rattle.curve_history.specs.Changed.{AreSameKeys, IsOfCurve, IsOfEdge, IsPairMore, IsPutAt, LosesPairOf};
 ghost use Rattle.curve_history.specs.HistoryInMemory.{entry, pair_room, AreOrdered, ArePairs, AreFilled, Says};
 ghost use Rattle.edit_steps.specs.EditLaws.{curve_of as curve_number};
 
 use crate::strands::curve_of;
 use linked_chains::Chains;
 
-// A chain for an edge, which may be there.
-fn make_key(edges: &mut Chains, edge: usize)
-    requires { 1 ≤ edges.old.spare_keys }
-    ensures has { HasKey edges.new edge }
+// A node more, the first in the chain of an edge, which may have none yet, in room that is there.
+fn push_first(edges: &mut Chains, edge: usize, strand: usize) -> usize
+    requires room_for_key { 1 ≤ edges.old.spare_keys }
+    requires room { 1 ≤ edges.old.spare_nodes }
+    ensures name { ¬ HasNode edges.old result }
+    ensures entries { SetsEntry edges.old edges.new result (Some (entry edge strand 0)) }
+    ensures here { chain edges.new edge ≡ result ∷ chain edges.old edge }
+    ensures others { (k : _) → k ≢ edge → chain edges.new k ≡ chain edges.old k }
     ensures keys { (k : _) → HasKey edges.new k → HasKey edges.old k ⊎ (k ≡ edge) }
-    ensures nodes { edges.new.nodes ≡ edges.old.nodes }
-    ensures chains { (k : _) → chain edges.new k ≡ chain edges.old k }
     ensures spare_keys { edges.old.spare_keys ≤ edges.new.spare_keys + 1 }
-    ensures spare_nodes { edges.new.spare_nodes ≡ edges.old.spare_nodes }
+    ensures spare_nodes { edges.old.spare_nodes ≡ edges.new.spare_nodes + 1 }
 {
-    if !edges.has_key(edge) {
-        edges.add_key(edge);
+    if edges.has_key(edge) {
+        edges.push(edge, strand, 0)
+    } else {
+        edges.start(edge, strand, 0)
     }
 }
 
-// A node more in the chain of an edge, first or directly after another one, in room that is there.
-fn push_at(edges: &mut Chains, edge: usize, strand: usize, last: Option<usize>) -> usize
-    requires edge { HasKey edges.old edge }
+// A node more in the chain of an edge, directly after another one, or the first of an edge that has no chain, in room that is
+// there.
+fn push_next(edges: &mut Chains, edge: usize, strand: usize, last: Option<usize>) -> usize
     requires place { IsOfEdge edges.old edge last }
+    requires first { last ≡ None → ¬ HasKey edges.old edge }
+    requires room_for_key { 1 ≤ edges.old.spare_keys }
     requires room { 1 ≤ edges.old.spare_nodes }
     ensures name { ¬ HasNode edges.old result }
     ensures entries { SetsEntry edges.old edges.new result (Some (entry edge strand 0)) }
     ensures here { chain edges.new edge ≡ put_at last result (chain edges.old edge) }
     ensures others { (k : _) → k ≢ edge → chain edges.new k ≡ chain edges.old k }
-    ensures keys { (k : _) → HasKey edges.old k ↔ HasKey edges.new k }
-    ensures spare { IsSpare edges.new edges.old 0 1 }
-    ensures keeps_keys { edges.old.spare_keys ≤ edges.new.spare_keys }
+    ensures keys { (k : _) → HasKey edges.new k → HasKey edges.old k ⊎ (k ≡ edge) }
+    ensures spare_keys { edges.old.spare_keys ≤ edges.new.spare_keys + 1 }
+    ensures spare_nodes { edges.old.spare_nodes ≡ edges.new.spare_nodes + 1 }
 {
     // The nodes of the edge's chain have its key.
     edges.laws();
     match last {
         Some(last) => edges.push_after(last, strand, 0),
-        None => edges.push(edge, strand, 0),
+        None => edges.start(edge, strand, 0),
     }
 }
 
-// Two nodes that are each other's twin, in the chain of an edge, first or directly after another one, and in that of the curve
-// whose side the first one says.
-fn push_twins(
-    edges: &mut Chains,
-    curves: &mut Chains,
-    edge: usize,
-    strand: usize,
-    last: Option<usize>,
-) -> usize
-    requires pairs { ArePairs edges.old curves.old }
-    requires edge { HasKey edges.old edge }
-    requires named { HasKey curves.old (curve_number strand) }
-    requires new { ¬ Says edges.old edge strand }
+// A node more in the chain of an edge, first or directly after another one, in room that is there.
+fn push_at(edges: &mut Chains, edge: usize, strand: usize, last: Option<usize>) -> usize
     requires place { IsOfEdge edges.old edge last }
-    requires room_by_edge { 1 ≤ edges.old.spare_nodes }
-    requires room_by_curve { 1 ≤ curves.old.spare_nodes }
-    ensures pairs { ArePairs edges.new curves.new }
-    ensures more { IsPairMore edges.old edges.new edge strand }
-    ensures put { IsPutAt edges.old edges.new edge strand last result }
-    ensures named { AreSameKeys curves.old curves.new }
-    ensures spare_keys { edges.old.spare_keys ≤ edges.new.spare_keys }
-    ensures nodes_by_edge { edges.old.spare_nodes ≡ edges.new.spare_nodes + 1 }
-    ensures nodes_by_curve { curves.old.spare_nodes ≡ curves.new.spare_nodes + 1 }
+    requires room_for_key { 1 ≤ edges.old.spare_keys }
+    requires room { 1 ≤ edges.old.spare_nodes }
+    ensures name { ¬ HasNode edges.old result }
+    ensures entries { SetsEntry edges.old edges.new result (Some (entry edge strand 0)) }
+    ensures here { chain edges.new edge ≡ put_at last result (chain edges.old edge) }
+    ensures others { (k : _) → k ≢ edge → chain edges.new k ≡ chain edges.old k }
+    ensures keys { (k : _) → HasKey edges.new k → HasKey edges.old k ⊎ (k ≡ edge) }
+    ensures spare_keys { edges.old.spare_keys ≤ edges.new.spare_keys + 1 }
+    ensures spare_nodes { edges.old.spare_nodes ≡ edges.new.spare_nodes + 1 }
 {
-    // The nodes of the edge's chain are old ones.
-    edges.laws();
-    let node = push_at(edges, edge, strand, last);
-    let twin = curves.push(curve_of(strand), edge, node);
-    edges.set_twin(node, twin);
-    node
+    match last {
+        Some(_) => push_next(edges, edge, strand, last),
+        None => push_first(edges, edge, strand),
+    }
 }
 
 /// A pair more, in room that is there; its node is the first in the chain of the edge, or comes directly after another one.
@@ -94,8 +87,42 @@ pub(crate) fn hold_after(
     ensures named { AreSameKeys curves.old curves.new }
     ensures room { pair_room edges.old curves.old ≤ pair_room edges.new curves.new + 1 }
 {
-    make_key(edges, edge);
-    push_twins(edges, curves, edge, strand, last)
+    // The nodes of the edge's chain are old ones.
+    edges.laws();
+    let node = push_at(edges, edge, strand, last);
+    let twin = curves.push(curve_of(strand), edge, node);
+    edges.set_twin(node, twin);
+    node
+}
+
+/// A pair more, in room that is there; its node comes directly after another one in the chain of its edge, or is the first of an
+/// edge that has no chain, and its twin comes directly after a node of its curve. So no curve is looked for, and an edge once.
+pub(crate) fn hold_beside(
+    edges: &mut Chains,
+    curves: &mut Chains,
+    edge: usize,
+    strand: usize,
+    last: Option<usize>,
+    near: usize,
+) -> usize
+    requires pairs { ArePairs edges.old curves.old }
+    requires near { IsOfCurve curves.old (curve_number strand) near }
+    requires new { ¬ Says edges.old edge strand }
+    requires place { IsOfEdge edges.old edge last }
+    requires first { last ≡ None → ¬ HasKey edges.old edge }
+    requires room { 1 ≤ pair_room edges.old curves.old }
+    ensures pairs { ArePairs edges.new curves.new }
+    ensures more { IsPairMore edges.old edges.new edge strand }
+    ensures put { IsPutAt edges.old edges.new edge strand last result }
+    ensures named { AreSameKeys curves.old curves.new }
+    ensures room { pair_room edges.old curves.old ≤ pair_room edges.new curves.new + 1 }
+{
+    // The nodes of the edge's chain are old ones.
+    edges.laws();
+    let node = push_next(edges, edge, strand, last);
+    let twin = curves.push_after(near, edge, node);
+    edges.set_twin(node, twin);
+    node
 }
 
 /// A pair fewer, that of a node.

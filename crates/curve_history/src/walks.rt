@@ -4,7 +4,7 @@ ghost use Rattle.curve_history.specs.Changed.{AreSameKeys, IsCopied, IsEmptied, 
 ghost use Rattle.curve_history.specs.HistoryInMemory.{entry, items_along, pair_room, AreOrdered, ArePairs, Says};
 ghost use Rattle.edit_steps.specs.EditLaws.{curve_of as curve_number};
 
-use crate::pairs::{hold_after, release_pair};
+use crate::pairs::{hold_after, hold_beside, release_pair};
 use crate::strands::curve_of;
 use linked_chains::Chains;
 use no_memory::NoMemory;
@@ -186,6 +186,7 @@ pub(crate) fn copy_pairs(edges: &mut Chains, curves: &mut Chains, edge: usize, p
     requires ordered { AreOrdered edges.old }
     requires two { edge ≢ part }
     requires new { (i : _) → ¬ Says edges.old part i }
+    requires bare { ¬ HasKey edges.old part }
     requires room { length (chain edges.old edge) ≤ pair_room edges.old curves.old }
     ensures pairs { ArePairs edges.new curves.new }
     ensures ordered { AreOrdered edges.new }
@@ -194,13 +195,12 @@ pub(crate) fn copy_pairs(edges: &mut Chains, curves: &mut Chains, edge: usize, p
     ensures room { pair_room edges.old curves.old ≤ pair_room edges.new curves.new + length (chain edges.old edge) }
 {
     edges.laws();
-    curves.laws();
-    // The last node that was put: the copies stand as the nodes do.
+    // The last node that was put: the copies stand as the nodes do, and their twins beside those of the nodes.
     let mut last = None;
     let mut at = edges.first(edge);
     'walk: while let Some(node) = at {
-        let strand = edges.entry(node).item;
-        last = Some(hold_after(edges, curves, part, strand, last));
+        let said = edges.entry(node);
+        last = Some(hold_beside(edges, curves, part, said.item, last, said.twin));
         at = edges.after(node);
     }
 }

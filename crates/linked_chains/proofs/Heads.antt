@@ -12,19 +12,13 @@ use Rattle.linked_chains.specs.Writes.{IsHeaded}
 use Rattle.linked_chains.proofs.Reading.{row_lookup}
 use Rattle.integers.proofs.Tests.{other_number, same_number, turned_test}
 
-module _ {S : Type 0} (old new : IndexMap ℕ (Option ℕ) S) (key : ℕ) where
+module _ {S V : Type 0} (old new : IndexMap ℕ V S) (key : ℕ) where
   -- what an update finds
-  pub updated : (o : Option (Option ℕ)) → Updates nat_eq old new key o → (k : ℕ) → row_at new.entries k ≡ cond (k == key) o (row_at old.entries k)
+  pub updated : (o : Option V) → Updates nat_eq old new key o → (k : ℕ) → row_at new.entries k ≡ cond (k == key) o (row_at old.entries k)
   updated o u k = row_lookup new.entries k ∙ u.0 k ∙ ap (λ b. cond b o (lookup (nat_eq k) old.entries)) (turned_test key k) ∙ ap (λ r. cond (k == key) o r) (sym (row_lookup old.entries k))
 
-  found : (o : Option (Option ℕ)) → Updates nat_eq old new key o → row_at new.entries key ≡ o
-  found o u = updated o u key ∙ ap (λ b. cond b o (row_at old.entries key)) (same_number key)
-
-  beside : (o : Option (Option ℕ)) → Updates nat_eq old new key o → (k : ℕ) → k ≢ key → row_at new.entries k ≡ row_at old.entries k
-  beside o u k h = updated o u k ∙ ap (λ b. cond b o (row_at old.entries k)) (other_number k key h)
-
   -- a new head, where no node is before
-  pub head_written : (before first : Option ℕ) → is_none before ≡ true → IsSome (row_at old.entries key) → WritesThrough nat_eq (nat_eq key) old first new → IsHeaded key before first old new
+  pub head_written : (before : Option ℕ) (first : V) → is_none before ≡ true → IsSome (row_at old.entries key) → WritesThrough nat_eq (nat_eq key) old first new → IsHeaded key before first old new
   head_written before first n there w = record {
     heads = λ k. updated (Some first) (w.3 (ap is_some (sym (row_lookup old.entries key)) ∙ there)) k ∙ ap (λ b. cond b (Some first) (row_at old.entries k)) (none (k == key));
     len = w.2;
@@ -34,6 +28,13 @@ module _ {S : Type 0} (old new : IndexMap ℕ (Option ℕ) S) (key : ℕ) where
       none : (b : Bool) → b ≡ b && is_none before
       none true = sym n
       none false = refl
+
+module _ {S : Type 0} (old new : IndexMap ℕ (Option ℕ) S) (key : ℕ) where
+  found : (o : Option (Option ℕ)) → Updates nat_eq old new key o → row_at new.entries key ≡ o
+  found o u = updated old new key o u key ∙ ap (λ b. cond b o (row_at old.entries key)) (same_number key)
+
+  beside : (o : Option (Option ℕ)) → Updates nat_eq old new key o → (k : ℕ) → k ≢ key → row_at new.entries k ≡ row_at old.entries k
+  beside o u k h = updated old new key o u k ∙ ap (λ b. cond b o (row_at old.entries k)) (other_number k key h)
 
   -- all keys stay then
   pub headed_keys : (before first : Option ℕ) → IsHeaded key before first old new → IsSome (row_at old.entries key) → (k : ℕ) → is_some (row_at new.entries k) ≡ is_some (row_at old.entries k)

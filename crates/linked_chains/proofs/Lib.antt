@@ -5,3 +5,4 @@ pub mod Inserted
 pub mod Heads
 pub mod Seen
 pub mod Writing
+pub mod Started

@@ -1,5 +1,5 @@
 -- From the map of heads and the slab of nodes to what a caller sees of them.
-use Rattle.std.proofs.Common.{◌≡◌, ◌↔◌, inl, inr, ℕ, ◌≤◌, nat_eq, List, [], ◌∷◌, length, Option, Some, None, is_some, option_map, refl, sym, ap, subst, ◌∙◌}
+use Rattle.std.proofs.Common.{◌≡◌, ◌↔◌, inl, inr, ℕ, zero, suc, ◌<◌, ◌≤◌, nat_eq, List, [], ◌∷◌, length, slice_index_or, Option, Some, None, is_some, IsSome, option_map, refl, sym, ap, subst, ◌∙◌, arith}
 use Rattle.std.specs.Map.{lookup}
 use Rattle.std.proofs.lemmas.Bool.{cases_eq}
 use Rattle.slab.specs.Slab.{Slab, get, slab_len}
@@ -21,6 +21,12 @@ use Rattle.integers.proofs.Tests.{other_number, same_number}
 
 pub has_node : (s : Slab Node) (n : ℕ) → is_some (row_at (tabled link_of s) n) ≡ is_some (get s n)
 has_node s n = ap is_some (row-tabled link_of s n) ∙ some_mapped link_of (get s n)
+
+-- a name is below the number of slots
+pub name_below : (os : List (Option Node)) (n : ℕ) → IsSome (slice_index_or os n None) → n < length os
+name_below [] n s = absurd (cc)
+name_below (o ∷ os) zero s = omega arith
+name_below (o ∷ os) (suc n) s = let l = name_below os n s in omega (arith, l)
 
 after_seen : (o : Option Node) → first_or (option_map (λ l. l.after) (option_map link_of o)) ≡ first_or (option_map (λ x. x.after) (option_map node_of o))
 after_seen None = refl

@@ -32,7 +32,10 @@ module _ {S : Type 0} (hs : IndexMap ℕ (Option ℕ) S) (ns : Slab Node) (h : C
   heads_kept gs e k = (λ s. e k ∙ ap (λ c. is_some (row_at c.heads k)) is ∙ s, λ s. ap (λ c. is_some (row_at c.heads k)) (sym is) ∙ sym (e k) ∙ s)
 
   -- ---- a node n more, before the old first
-  module _ (n : ℕ) (entry : Entry) (first : Option ℕ) (t : Slab Node) (vacant : get ns n ≡ None) (is_first : first ≡ first_of (chain h entry.key)) (put : Updates ns t n (Some (record { entry = entry; before = None; after = first }))) where
+  module _ (n : ℕ) (entry : Entry) (first : Option ℕ) (t : Slab Node) (vacant : get ns n ≡ None) (is_first : first ≡ first_of (chain h entry.key)) (nobody : Option ℕ) (is_nobody : nobody ≡ None) (put_so : Updates ns t n (Some (record { entry = entry; before = nobody; after = first }))) where
+    put_first : Updates ns t n (Some (record { entry = entry; before = None; after = first }))
+    put_first = subst (λ (b : Option ℕ). Updates ns t n (Some (record { entry = entry; before = b; after = first }))) is_nobody put_so
+
     old_first : first ≡ first_or (head entry.key)
     old_first = is_first ∙ ap (λ c. first_of (chain c entry.key)) (sym is) ∙ sym (first_is hs ns kept entry.key)
 
@@ -41,28 +44,31 @@ module _ {S : Type 0} (hs : IndexMap ℕ (Option ℕ) S) (ns : Slab Node) (h : C
 
     added : (m : ℕ) → nodes_of t m ≡ cond (m == n) (Some (record { key = entry.key; before = None; after = first_or (head entry.key) })) (nodes_of ns m)
     added m =
-        ap (option_map node_of) (updated ns t n _ put m)
+        ap (option_map node_of) (updated ns t n _ put_first m)
         ∙ cond_map node_of (m == n) (Some (record { entry = entry; before = None; after = first })) (get ns m)
         ∙ ap (λ f. cond (m == n) (Some (record { key = entry.key; before = None; after = f })) (nodes_of ns m)) old_first
 
     pub old_first_there : (m : ℕ) → first ≡ Some m → IsSome (get t m)
     old_first_there m e = row_there t m (first_there head (nodes_of ns) (nodes_of t) n entry.key kept no_node added m (sym old_first ∙ e))
 
-    module _ (u : Slab Node) (told : IsChanged (row_led (Some n)) first t u) where
+    module _ (u : Slab Node) (here : Option ℕ) (is_here : here ≡ Some n) (told_so : IsChanged (row_led here) first t u) where
+      told_first : IsChanged (row_led (Some n)) first t u
+      told_first = subst (λ b. IsChanged (row_led b) first t u) is_here told_so
+
       led : AreChanged (led_by (Some n)) (first_or (head entry.key)) (nodes_of t) (nodes_of u)
-      led = subst (λ f. AreChanged (led_by (Some n)) f (nodes_of t) (nodes_of u)) old_first (node_changed (row_led (Some n)) (led_by (Some n)) (λ x. refl) first t u told)
+      led = subst (λ f. AreChanged (led_by (Some n)) f (nodes_of t) (nodes_of u)) old_first (node_changed (row_led (Some n)) (led_by (Some n)) (λ x. refl) first t u told_first)
 
       pub push_entries : (gs : IndexMap ℕ (Option ℕ) S) (m : ℕ) → entry_at (chained gs u) m ≡ cond (m == n) (Some entry) (entry_at h m)
       push_entries gs m =
           entry_is gs u m
-          ∙ unwritten_row (λ x. x.entry) (row_led (Some n)) (λ x. refl) first t u told m
-          ∙ ap (option_map (λ x. x.entry)) (updated ns t n _ put m)
+          ∙ unwritten_row (λ x. x.entry) (row_led (Some n)) (λ x. refl) first t u told_first m
+          ∙ ap (option_map (λ x. x.entry)) (updated ns t n _ put_first m)
           ∙ cond_map (λ x. x.entry) (m == n) (Some (record { entry = entry; before = None; after = first })) (get ns m)
           ∙ ap (λ o. cond (m == n) (Some entry) o) (sym (entry_seen hs ns h is m))
 
-      module _ (gs : IndexMap ℕ (Option ℕ) S) (newly : IsHeaded entry.key None (Some n) hs gs) where
+      module _ (gs : IndexMap ℕ (Option ℕ) S) (newly : (k : ℕ) → row_at gs.entries k ≡ cond ((k == entry.key) && true) (Some here) (head k)) where
         headed : (k : ℕ) → row_at gs.entries k ≡ cond (k == entry.key) (Some (Some n)) (head k)
-        headed k = newly.heads k ∙ ap (λ b. cond b (Some (Some n)) (head k)) (by (k == entry.key))
+        headed k = newly k ∙ ap (λ b. cond b (Some here) (head k)) (by (k == entry.key)) ∙ ap (λ o. cond (k == entry.key) (Some o) (head k)) is_here
           where
             by : (b : Bool) → (b && true) ≡ b
             by true = refl
@@ -82,9 +88,12 @@ module _ {S : Type 0} (hs : IndexMap ℕ (Option ℕ) S) (ns : Slab Node) (h : C
             chain_is gs u k l.0 (list_beside head (nodes_of ns) (nodes_of t) n entry.key kept no_node added (nodes_of u) led (row_at gs.entries) headed k l.0 ne l.1) ∙ sym (chain_seen hs ns h is k l.0 l.1)
 
   -- ---- a node n more, directly after the node x of the name m
-  module _ (m : ℕ) (x : Node) (was : get ns m ≡ Some x) (n item twin : ℕ) (t : Slab Node) (vacant : get ns n ≡ None) (put : Updates ns t n (Some (record { entry = record { key = x.entry.key; item = item; twin = twin }; before = Some m; after = x.after }))) where
+  module _ (m : ℕ) (x : Node) (was : get ns m ≡ Some x) (n item twin : ℕ) (t : Slab Node) (vacant : get ns n ≡ None) (place : Option ℕ) (is_place : place ≡ Some m) (put_so : Updates ns t n (Some (record { entry = record { key = x.entry.key; item = item; twin = twin }; before = place; after = x.after }))) where
     abbrev said : Entry
     said = record { key = x.entry.key; item = item; twin = twin }
+
+    put_between : Updates ns t n (Some (record { entry = said; before = Some m; after = x.after }))
+    put_between = subst (λ (b : Option ℕ). Updates ns t n (Some (record { entry = said; before = b; after = x.after }))) is_place put_so
 
     node_m : nodes_of ns m ≡ Some (node_of x)
     node_m = ap (option_map node_of) was
@@ -93,19 +102,25 @@ module _ {S : Type 0} (hs : IndexMap ℕ (Option ℕ) S) (ns : Slab Node) (h : C
     none_n = ap (option_map node_of) vacant
 
     between : (y : ℕ) → nodes_of t y ≡ cond (y == n) (Some (record { key = x.entry.key; before = Some m; after = x.after })) (nodes_of ns y)
-    between y = ap (option_map node_of) (updated ns t n _ put y) ∙ cond_map node_of (y == n) (Some (record { entry = said; before = Some m; after = x.after })) (get ns y)
+    between y = ap (option_map node_of) (updated ns t n _ put_between y) ∙ cond_map node_of (y == n) (Some (record { entry = said; before = Some m; after = x.after })) (get ns y)
 
     pub follower_still : (y : ℕ) → x.after ≡ Some y → IsSome (get t y)
     follower_still y e = row_there t y (follower_there head (nodes_of ns) m (node_of x) kept node_m n none_n (nodes_of t) between y e)
 
-    module _ (u : Slab Node) (led : IsChanged (row_led (Some n)) x.after t u) where
+    module _ (u : Slab Node) (here : Option ℕ) (is_here : here ≡ Some n) (led_so : IsChanged (row_led here) x.after t u) where
+      led_new : IsChanged (row_led (Some n)) x.after t u
+      led_new = subst (λ b. IsChanged (row_led b) x.after t u) is_here led_so
+
       led_nodes : AreChanged (led_by (Some n)) x.after (nodes_of t) (nodes_of u)
-      led_nodes = node_changed (row_led (Some n)) (led_by (Some n)) (λ z. refl) x.after t u led
+      led_nodes = node_changed (row_led (Some n)) (led_by (Some n)) (λ z. refl) x.after t u led_new
 
-      pub place_still : (y : ℕ) → Some m ≡ Some y → IsSome (get u y)
-      place_still y e = row_there u y (place_there head (nodes_of ns) m (node_of x) kept node_m n none_n (nodes_of t) between (nodes_of u) led_nodes y e)
+      pub place_still : (y : ℕ) → place ≡ Some y → IsSome (get u y)
+      place_still y e = row_there u y (place_there head (nodes_of ns) m (node_of x) kept node_m n none_n (nodes_of t) between (nodes_of u) led_nodes y (sym is_place ∙ e))
 
-      module _ (w : Slab Node) (followed : IsChanged (row_followed (Some n)) (Some m) u w) where
+      module _ (w : Slab Node) (followed_so : IsChanged (row_followed here) place u w) where
+        followed : IsChanged (row_followed (Some n)) (Some m) u w
+        followed = subst (λ p. IsChanged (row_followed (Some n)) p u w) is_place (subst (λ b. IsChanged (row_followed b) place u w) is_here followed_so)
+
         followed_nodes : AreChanged (followed_by (Some n)) (Some m) (nodes_of u) (nodes_of w)
         followed_nodes = node_changed (row_followed (Some n)) (followed_by (Some n)) (λ z. refl) (Some m) u w followed
 
@@ -115,8 +130,8 @@ module _ {S : Type 0} (hs : IndexMap ℕ (Option ℕ) S) (ns : Slab Node) (h : C
             let same : x.entry ≡ e = cc in
             entry_is hs w y
             ∙ unwritten_row (λ k. k.entry) (row_followed (Some n)) (λ k. refl) (Some m) u w followed y
-            ∙ unwritten_row (λ k. k.entry) (row_led (Some n)) (λ k. refl) x.after t u led y
-            ∙ ap (option_map (λ k. k.entry)) (updated ns t n _ put y)
+            ∙ unwritten_row (λ k. k.entry) (row_led (Some n)) (λ k. refl) x.after t u led_new y
+            ∙ ap (option_map (λ k. k.entry)) (updated ns t n _ put_between y)
             ∙ cond_map (λ k. k.entry) (y == n) (Some (record { entry = said; before = Some m; after = x.after })) (get ns y)
             ∙ ap (λ o. cond (y == n) (Some said) o) (sym (entry_seen hs ns h is y))
             ∙ ap (λ (b : Entry). cond (y == n) (Some (record { key = b.key; item = item; twin = twin })) (entry_at h y)) same
@@ -163,7 +178,10 @@ module _ {S : Type 0} (hs : IndexMap ℕ (Option ℕ) S) (ns : Slab Node) (h : C
             ∙ cond_map (λ z. z.entry) (m == n) None (get ns m)
             ∙ ap (λ o. cond (m == n) None o) (sym (entry_seen hs ns h is m))
 
-        module _ (gs : IndexMap ℕ (Option ℕ) S) (moved : IsHeaded x.entry.key x.before x.after hs gs) where
+        module _ (gs : IndexMap ℕ (Option ℕ) S) (before : Option ℕ) (is_before : before ≡ x.before) (moved_so : IsHeaded x.entry.key before x.after hs gs) where
+          moved : IsHeaded x.entry.key x.before x.after hs gs
+          moved = subst (λ b. IsHeaded x.entry.key b x.after hs gs) is_before moved_so
+
           pub remove_kept : AreSoundChains gs w
           remove_kept = listed_removed head (nodes_of ns) n (node_of x) kept node_n (nodes_of t) cut (nodes_of u) followed_cut (nodes_of w) led_cut (row_at gs.entries) moved.heads
 

@@ -1,3 +1,4 @@
 pub mod Chains
 pub mod ChainsInMemory
+pub mod Neighbours
 pub mod Writes

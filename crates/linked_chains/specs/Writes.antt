@@ -15,7 +15,7 @@ abbrev pub twinned_with : ℕ → Node → Node
 twinned_with twin x = record { entry = record { key = x.entry.key; item = x.entry.item; twin = twin }; before = x.before; after = x.after }
 
 -- the key has another head, unless a node is before it
-pub record IsHeaded {S : Type 0} (key : ℕ) (before first : Option ℕ) (old new : IndexMap ℕ (Option ℕ) S) : Type 0 where
+pub record IsHeaded {S V : Type 0} (key : ℕ) (before : Option ℕ) (first : V) (old new : IndexMap ℕ V S) : Type 0 where
   pub heads : (k : ℕ) → row_at new.entries k ≡ cond ((k == key) && is_none before) (Some first) (row_at old.entries k)
   pub len : length new.entries ≡ length old.entries
   pub spare : spare new ≡ spare old

@@ -6,6 +6,7 @@ ghost use Rattle.chain_laws.specs.Links.{comes_after};
 ghost use Rattle.linked_chains.specs.Chains.{chain, entry_at, HasNode, HasKey, IsWhole, SetsEntry, SetsBeside, SetsTwin, SameChains, IsSpare, put_after};
 
 use crate::links::{set_after, set_before, set_head};
+use crate::neighbour::Neighbour;
 use crate::node::{Entry, Node};
 use indexmap::IndexMap;
 use no_memory::NoMemory;
@@ -17,7 +18,7 @@ use std::marker::Model;
 /// linear lists).
 #[derive(Drop)]
 pub struct Chains {
-    heads: IndexMap<usize, Option<usize>>,
+    heads: IndexMap<usize, Neighbour>,
     nodes: Slab<Node>,
 }
 
@@ -105,7 +106,7 @@ impl Chains {
         ensures spare_nodes { self.new.spare_nodes ≡ self.old.spare_nodes }
         ensures capacity { self.new.capacity_of_nodes ≡ self.old.capacity_of_nodes }
     {
-        self.heads.insert(key, None).unwrap();
+        self.heads.insert(key, Neighbour::none()).unwrap();
     }
 
     /// An empty chain goes. The map may keep its place taken, so this promises no more room than before.
@@ -121,6 +122,32 @@ impl Chains {
         self.heads.swap_remove(&key);
     }
 
+    /// A chain for a new key, with its first node, in room that is there.
+    pub fn start(&mut self, key: usize, item: usize, twin: usize) -> usize
+        requires new { ¬ HasKey self.old key }
+        requires room_for_key { 1 ≤ self.old.spare_keys }
+        requires room { 1 ≤ self.old.spare_nodes }
+        ensures name { ¬ HasNode self.old result }
+        ensures entries { SetsEntry self.old self.new result (Some (record { key = key; item = item; twin = twin })) }
+        ensures here { chain self.new key ≡ result ∷ chain self.old key }
+        ensures others { (k : _) → k ≢ key → chain self.new k ≡ chain self.old k }
+        ensures keys { (k : _) → HasKey self.new k → HasKey self.old k ⊎ (k ≡ key) }
+        ensures spare_keys { self.old.spare_keys ≤ self.new.spare_keys + 1 }
+        ensures spare_nodes { self.old.spare_nodes ≡ self.new.spare_nodes + 1 }
+        ensures capacity { self.new.capacity_of_nodes ≡ self.old.capacity_of_nodes }
+    {
+        // A name is below what fits, which is a number.
+        let _capacity = self.nodes.capacity();
+        let nobody = Neighbour::none();
+        let node = self.nodes.insert_reserved(Node {
+            entry: Entry { key, item, twin },
+            before: nobody,
+            after: nobody,
+        });
+        self.heads.insert(key, Neighbour::some(node)).unwrap();
+        node
+    }
+
     /// A node more, the first in the chain of the key, in room that is there.
     pub fn push(&mut self, key: usize, item: usize, twin: usize) -> usize
         requires has { HasKey self.old key }
@@ -134,16 +161,19 @@ impl Chains {
         ensures spare { IsSpare self.new self.old 0 1 }
         ensures keeps_keys { self.old.spare_keys ≤ self.new.spare_keys }
     {
+        // A name is below what fits, which is a number.
+        let _capacity = self.nodes.capacity();
         // One question for the head serves both to read it and to write it.
         let head = self.heads.get_mut(&key).unwrap();
         let first = *head;
         let node = self.nodes.insert_reserved(Node {
             entry: Entry { key, item, twin },
-            before: None,
+            before: Neighbour::none(),
             after: first,
         });
-        set_before(&mut self.nodes, first, Some(node));
-        *head = Some(node);
+        let here = Neighbour::some(node);
+        set_before(&mut self.nodes, first, here);
+        *head = here;
         node
     }
 
@@ -159,18 +189,22 @@ impl Chains {
         ensures spare { IsSpare self.new self.old 0 1 }
         ensures keeps_keys { self.old.spare_keys ≤ self.new.spare_keys }
     {
+        // A name is below what fits, which is a number.
+        let _capacity = self.nodes.capacity();
         let place = self.nodes[node];
+        let before = Neighbour::some(node);
         let added = self.nodes.insert_reserved(Node {
             entry: Entry {
                 key: place.entry.key,
                 item,
                 twin,
             },
-            before: Some(node),
+            before,
             after: place.after,
         });
-        set_before(&mut self.nodes, place.after, Some(added));
-        set_after(&mut self.nodes, Some(node), Some(added));
+        let here = Neighbour::some(added);
+        set_before(&mut self.nodes, place.after, here);
+        set_after(&mut self.nodes, before, here);
         added
     }
 
@@ -186,7 +220,12 @@ impl Chains {
         let gone = self.nodes.remove(node);
         set_after(&mut self.nodes, gone.before, gone.after);
         set_before(&mut self.nodes, gone.after, gone.before);
-        set_head(&mut self.heads, gone.entry.key, gone.before, gone.after);
+        set_head(
+            &mut self.heads,
+            gone.entry.key,
+            gone.before.name(),
+            gone.after,
+        );
     }
 
     /// The node has another twin.
@@ -213,7 +252,7 @@ impl Chains {
         ensures { result ≡ first_of (chain self.now key) }
     {
         match self.heads.get(&key) {
-            Some(first) => *first,
+            Some(first) => first.name(),
             None => None,
         }
     }
@@ -223,7 +262,7 @@ impl Chains {
         requires { HasNode self.now node }
         ensures { (e : _) → entry_at self.now node ≡ Some e → result ≡ comes_after (chain self.now e.key) node }
     {
-        self.nodes[node].after
+        self.nodes[node].after.name()
     }
 
     /// All chains go; their room stays.

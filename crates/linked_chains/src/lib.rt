@@ -6,6 +6,7 @@
 
 mod chains;
 mod links;
+mod neighbour;
 mod node;
 
 pub use chains::Chains;

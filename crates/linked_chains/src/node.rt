@@ -1,3 +1,5 @@
+use crate::neighbour::Neighbour;
+
 /// What a node says: the key of its chain, what is kept for it, and the name of its twin, of which the chains know nothing.
 #[derive(Clone, Copy)]
 pub struct Entry {
@@ -10,6 +12,6 @@ pub struct Entry {
 #[derive(Clone, Copy)]
 pub(crate) struct Node {
     pub(crate) entry: Entry,
-    pub(crate) before: Option<usize>,
-    pub(crate) after: Option<usize>,
+    pub(crate) before: Neighbour,
+    pub(crate) after: Neighbour,
 }

@@ -9,6 +9,9 @@ invariant_of-self c = kept_on _ _ _ _ _ _ c.self.invariant c.copy_pairs.ensures.
 pub copy_pairs-requires-clause-new : goal.copy_pairs-requires-clause-new
 copy_pairs-requires-clause-new c = none_held _ _ (sees c.self.inside _ c.self.view_is) c.args.n c.requires.new
 
+pub copy_pairs-requires-clause-bare : goal.copy_pairs-requires-clause-bare
+copy_pairs-requires-clause-bare c = λ h. let f = c.self.invariant.filled.key c.args.n.0 h in none_held _ _ (sees c.self.inside _ c.self.view_is) c.args.n c.requires.new f.0 f.1
+
 pub returns-clause-strands : goal.returns-clause-strands
 returns-clause-strands c = held_copied _ _ (sees c.self.inside _ c.self.view_is) _ _ refl c.args.d c.args.n c.copy_pairs.ensures.copied (none_held _ _ (sees c.self.inside _ c.self.view_is) c.args.n c.requires.new)
 

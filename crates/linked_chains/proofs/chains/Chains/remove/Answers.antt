@@ -15,13 +15,13 @@ pub set_head-requires : goal.set_head-requires
 set_head-requires c = own_head c.self.inside.heads c.self.inside.nodes _ c.self.view_is c.self.invariant c.args.node c.remove-gone.result c.remove-gone.ensures.value c.remove-gone.new.self c.remove-gone.ensures.updates
 
 pub invariant_of-self : goal.invariant_of-self
-invariant_of-self c = remove_kept c.self.inside.heads c.self.inside.nodes _ c.self.view_is c.self.invariant c.args.node c.remove-gone.result c.remove-gone.ensures.value c.remove-gone.new.self c.remove-gone.ensures.updates c.set_after.new.nodes c.set_after.ensures c.set_before.new.nodes c.set_before.ensures c.set_head.new.heads c.set_head.ensures
+invariant_of-self c = remove_kept c.self.inside.heads c.self.inside.nodes _ c.self.view_is c.self.invariant c.args.node c.remove-gone.result c.remove-gone.ensures.value c.remove-gone.new.self c.remove-gone.ensures.updates c.set_after.new.nodes c.set_after.ensures c.set_before.new.nodes c.set_before.ensures c.set_head.new.heads c.name.result c.name.ensures c.set_head.ensures
 
 pub returns-clause-entries : goal.returns-clause-entries
 returns-clause-entries c = remove_entries c.self.inside.heads c.self.inside.nodes _ c.self.view_is c.self.invariant c.args.node c.remove-gone.result c.remove-gone.ensures.value c.remove-gone.new.self c.remove-gone.ensures.updates c.set_after.new.nodes c.set_after.ensures c.set_before.new.nodes c.set_before.ensures c.set_head.new.heads
 
 pub returns-clause-chains : goal.returns-clause-chains
-returns-clause-chains c = remove_chains c.self.inside.heads c.self.inside.nodes _ c.self.view_is c.self.invariant c.args.node c.remove-gone.result c.remove-gone.ensures.value c.remove-gone.new.self c.remove-gone.ensures.updates c.set_after.new.nodes c.set_after.ensures c.set_before.new.nodes c.set_before.ensures c.set_head.new.heads c.set_head.ensures
+returns-clause-chains c = remove_chains c.self.inside.heads c.self.inside.nodes _ c.self.view_is c.self.invariant c.args.node c.remove-gone.result c.remove-gone.ensures.value c.remove-gone.new.self c.remove-gone.ensures.updates c.set_after.new.nodes c.set_after.ensures c.set_before.new.nodes c.set_before.ensures c.set_head.new.heads c.name.result c.name.ensures c.set_head.ensures
 
 pub returns-clause-keys : goal.returns-clause-keys
-returns-clause-keys c = remove_keys c.self.inside.heads c.self.inside.nodes _ c.self.view_is c.self.invariant c.args.node c.remove-gone.result c.remove-gone.ensures.value c.remove-gone.new.self c.remove-gone.ensures.updates c.set_after.new.nodes c.set_after.ensures c.set_before.new.nodes c.set_before.ensures c.set_head.new.heads c.set_head.ensures
+returns-clause-keys c = remove_keys c.self.inside.heads c.self.inside.nodes _ c.self.view_is c.self.invariant c.args.node c.remove-gone.result c.remove-gone.ensures.value c.remove-gone.new.self c.remove-gone.ensures.updates c.set_after.new.nodes c.set_after.ensures c.set_before.new.nodes c.set_before.ensures c.set_head.new.heads c.name.result c.name.ensures c.set_head.ensures
