@@ -21,8 +21,7 @@ use Rattle.edges_below.specs.Highest.{IsSpanning}
 use Rattle.edges_below.proofs.Seen.{slanted}
 use Rattle.edges_below.proofs.Sides.{above_below}
 use Rattle.edges_below.proofs.Uprights.{above_later, above_fan}
-use Rattle.sweep_events.proofs.ExchangeParts.{within_take, within_drop}
-use Rattle.sweep_events.proofs.StartsAtPoint.{first_parted}
+use Rattle.sweep_status.proofs.Parts.{within_take, within_drop, first_parted}
 use Rattle.edge_sweep.specs.Around.{IsLowestAbove, none_above, lowest}
 use Rattle.edge_sweep.specs.Fronts.{stack_cmp, AreOrdered, IsStackAt, IsProperGraph}
 use Rattle.edge_sweep.proofs.Parts.{in_drop, in_take, in_parts, ascends_dropped}

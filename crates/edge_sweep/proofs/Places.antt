@@ -14,7 +14,7 @@ use Rattle.plane_graphs.proofs.Sorting.{any_default}
 use Rattle.slab_laws.specs.Skeleton.{side, under}
 use Rattle.slab_laws.specs.SpansDrawn.{edge_of}
 use Rattle.slab_faces.proofs.OverUnder.{weak_under}
-use Rattle.sweep_events.proofs.EventSteps.{append_ascends}
+use Rattle.sweep_status.proofs.Parts.{append_ascends}
 use Rattle.edge_sweep.specs.declared.edges.SweptEdge.{SweptEdge}
 use Rattle.edge_sweep.specs.Swept.{no_edge, is_below, ends_at}
 

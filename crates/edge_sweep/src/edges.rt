@@ -1,5 +1,5 @@
-ghost use Rattle.std.specs.Prelude.{◌≡◌, ℕ, length, slice_get, IfOk, ◌↔◌, ◌<◌, ◌≤◌, ◌-◌, OnOk, OnErr};
-ghost use Rattle.std.specs.List.{prefix_len, splice};
+ghost use Rattle.std.specs.Prelude.{◌≡◌, ℕ, length, slice_get, ◌↔◌, ◌<◌, ◌≤◌, ◌-◌, OnOk};
+ghost use Rattle.std.specs.List.{prefix_len};
 ghost use Rattle.std.specs.List.Sorted.{IsPartitionedBy, IsPermutation, IsSorted};
 ghost use Rattle.std.specs.Ordering.{nat_cmp};
 ghost use Rattle.plane_graphs.specs.Ascending.{Member, IsAscending};
@@ -11,7 +11,6 @@ use edge_predicates::{is_slanted, is_under};
 use exact_plane::{Point, Span, slope_order};
 use no_memory::NoMemory;
 use slab_laws::DartId;
-use std::alloc::Global;
 use std::cmp::Ordering;
 
 /// An edge, by the name of its dart from the lower to the upper end.
@@ -162,31 +161,15 @@ pub(crate) fn upright_starting(edges: &[SweptEdge], point: &Point) -> Option<Swe
     }
 }
 
-// The places from one up to another.
-pub(crate) fn places_between(alloc: Global, from: usize, to: usize) -> Result<Vec<usize>, NoMemory>
+// Makes a list that of the places from one up to another.
+pub(crate) fn fill_between(places: &mut Vec<usize>, from: usize, to: usize) -> Result<(), NoMemory>
     requires { from ≤ to }
-    ensures places { IfOk result (λ v. (i : ℕ) → Member i v.items ↔ ((from ≤ i) × (i < to))) }
-    ensures ascend { IfOk result (λ v. IsAscending nat_cmp v.items) }
+    ensures places { OnOk result ((i : ℕ) → Member i places.new.items ↔ ((from ≤ i) × (i < to))) }
+    ensures ascend { OnOk result (IsAscending nat_cmp places.new.items) }
 {
-    let mut places = Vec::new(alloc);
+    places.clear();
     for place in from..to {
         places.push(place)?;
     }
-    Ok(places)
-}
-
-// Puts a run of places where those from `low` to `high` stand: what is above is shifted, once.
-pub(crate) fn replace(
-    status: &mut Vec<usize>,
-    low: usize,
-    high: usize,
-    run: Vec<usize>,
-) -> Result<(), NoMemory>
-    requires in_turn { low ≤ high }
-    requires in_bounds { high ≤ length status.old.items }
-    ensures ok { OnOk result (status.new.items ≡ splice status.old.items low high run.items) }
-    ensures err { OnErr result (status.new.items ≡ status.old.items) }
-{
-    status.splice(low..high, run)?;
     Ok(())
 }

@@ -5,18 +5,16 @@ ghost use Rattle.slab_laws.specs.Skeleton.{Skeleton};
 ghost use Rattle.edge_sweep.specs.Fronts.{IsFrontOf, IsCutAt};
 ghost use Rattle.edge_sweep.specs.Exchanges.{fronted, exchanged};
 
-use crate::edges::{SweptEdge, count_below, count_ending, count_starting, places_between};
+use crate::edges::{SweptEdge, count_below, count_ending, count_starting, fill_between};
 use exact_plane::Point;
 use no_memory::NoMemory;
-use std::alloc::Global;
 
-// What a vertex makes of the front: the edges that end there, which stand from `low` up to `high`, go, and those of the run come, with
+// What a vertex makes of the front: the edges that end there, which stand from `low` up to `high`, go, and those of a run come, with
 // which so many have begun.
-#[derive(Drop)]
+#[derive(Clone, Copy)]
 pub(crate) struct Exchange {
     pub(crate) low: usize,
     pub(crate) high: usize,
-    pub(crate) run: Vec<usize>,
     pub(crate) begun: usize,
 }
 
@@ -37,9 +35,9 @@ pub(crate) fn ended_upto(edges: &[SweptEdge], status: &[usize], low: usize, vert
     sum_within(low, count_ending(edges, rest, vertex), status.len())
 }
 
-// What the next vertex makes of a front of which so many edges have begun.
+// What the next vertex makes of a front of which so many edges have begun. The run is written over what a list had.
 pub(crate) fn exchange_at(
-    alloc: Global,
+    run: &mut Vec<usize>,
     edges: &[SweptEdge],
     status: &[usize],
     begun: usize,
@@ -49,7 +47,7 @@ pub(crate) fn exchange_at(
     ensures in_turn { IfOk result (λ t. t.low ≤ t.high) }
     ensures in_bounds { IfOk result (λ t. t.high ≤ length status.now) }
     ensures begun { IfOk result (λ t. t.begun ≤ length edges.now) }
-    ensures exchange { IfOk result (λ t. (g : Skeleton) (passed : _) → IsFrontOf g passed (fronted edges.now begun status.now) → Contains g.vertices vertex.now → IsCutAt g passed vertex.now → IsFrontOf g (passed ++ vertex.now ∷ []) (exchanged edges.now status.now t)) }
+    ensures exchange { IfOk result (λ t. (g : Skeleton) (passed : _) → IsFrontOf g passed (fronted edges.now begun status.now) → Contains g.vertices vertex.now → IsCutAt g passed vertex.now → IsFrontOf g (passed ++ vertex.now ∷ []) (exchanged edges.now status.now t run.new.items)) }
 {
     let low = count_below(edges, status, vertex);
     let (_, rest) = status.split_at(low);
@@ -58,11 +56,10 @@ pub(crate) fn exchange_at(
     let started = count_starting(others, vertex);
     let high = sum_within(low, ended, status.len());
     let upto = sum_within(begun, started, edges.len());
-    let run = places_between(alloc, begun, upto)?;
+    fill_between(run, begun, upto)?;
     Ok(Exchange {
         low,
         high,
-        run,
         begun: upto,
     })
 }

@@ -1,5 +1,5 @@
 -- From one event to the next: the status stays in order up to the event, the pieces through the event stand side by side, and with these in order of slope it is in order after the event.
-use Rattle.std.proofs.Common.{◌≡◌, ℕ, ℤ, pos, ◌<ℤ◌, ◌≤ℤ◌, refl, ap, sym, ◌∙◌, subst, arith, inl, inr, List, [], ◌∷◌, ◌++◌, Ordering, Less, Equal, Greater}
+use Rattle.std.proofs.Common.{◌≡◌, ℕ, ℤ, pos, ◌<ℤ◌, ◌≤ℤ◌, refl, ap, sym, ◌∙◌, subst, arith, inl, inr, List, ◌++◌, Ordering, Less, Equal, Greater}
 use Rattle.std.specs.Prelude.{◌⊎◌, ◌<◌, Bool, true, false}
 use Rattle.std.specs.Ordering.{nat_cmp, int_cmp, int_eq, ordering_then, ordering_reverse, is_le}
 use Rattle.integers.proofs.Decisions.{eq_out, ne_out}
@@ -13,26 +13,11 @@ use Rattle.exact_plane.specs.PointOrder.{point_cmp}
 use Rattle.exact_plane.specs.Span.{Span, LiesOn, IsAtMost, IsSpan}
 use Rattle.plane_graphs.specs.Ascending.{Member, IsAscending}
 use Rattle.plane_graphs.proofs.Lists.{in_either}
-use Rattle.plane_graphs.proofs.Ascending.{All-member}
-use Rattle.plane_graphs.proofs.Sorting.{all_members}
+pub use Rattle.sweep_status.proofs.Parts.{ascends_by, append_ascends}
 use Rattle.sweep_events.specs.Front.{lean, before_cmp, after_cmp, level_cmp}
 use Rattle.sweep_events.specs.Status.{status_cmp, waiting_cmp, run_cmp, IsMet, IsWaiting, IsStatus}
 use Rattle.sweep_events.proofs.FrontOrder.{then_assoc, keeps, tied_one_line, itself_before, upper_side, lower_side, not_meeting, opposite_after, through_after}
 use Rattle.sweep_events.proofs.Neighbours.{NeighboursMeet, neighbours_meet}
-
--- ---- ascending lists
-module _ {X : Type 0} where
-  -- the same list by another order that agrees on its pairs
-  pub ascends_by : (c d : X → X → Ordering) (xs : List X) → ((x y : X) → Member x xs → Member y xs → c x y ≡ Less → d x y ≡ Less) → IsAscending c xs → IsAscending d xs
-  ascends_by c d [] f a = tt
-  ascends_by c d (x ∷ xs) f a = (all_members (λ y. d x y ≡ Less) xs (λ y m. f x y (inl refl) (inr m) (All-member (λ y. c x y ≡ Less) y xs a.0 m)), ascends_by c d xs (λ y z m n. f y z (inr m) (inr n)) a.1)
-
-  pub append_ascends : (c : X → X → Ordering) (xs ys : List X) → IsAscending c xs → IsAscending c ys → ((x y : X) → Member x xs → Member y ys → c x y ≡ Less) → IsAscending c (xs ++ ys)
-  append_ascends c [] ys a b f = b
-  append_ascends c (x ∷ xs) ys a b f = (
-    all_members (λ y. c x y ≡ Less) (xs ++ ys) (λ y m. elim (in_either y xs ys m) [ inl n ↦ All-member (λ y. c x y ≡ Less) y xs a.0 n | inr n ↦ f x y (inl refl) n ]),
-    append_ascends c xs ys a.1 b (λ y z m n. f y z (inr m) n),
-  )
 
 -- ---- points in order
 pub in_order : (p q : Point) → IsAtMost p q ⊎ (point_cmp q p ≡ Less)

@@ -1,5 +1,5 @@
 -- What the parts of an exchange tell of it.
-use Rattle.std.proofs.Common.{◌≡◌, ℕ, zero, suc, ◌<◌, ◌≤◌, ◌+◌, ◌-◌, ℤ, pos, ◌<ℤ◌, ◌≤ℤ◌, refl, ap, sym, ◌∙◌, subst, arith, inl, inr, Bool, true, false, ◌&&◌, List, [], ◌∷◌, ◌++◌, length, get_or, take, drop, Less, nat_cmp, min}
+use Rattle.std.proofs.Common.{◌≡◌, ℕ, ◌<◌, ◌≤◌, ◌+◌, ◌-◌, ℤ, pos, ◌<ℤ◌, ◌≤ℤ◌, refl, ap, sym, ◌∙◌, subst, arith, inl, inr, Bool, true, false, ◌&&◌, List, ◌++◌, length, get_or, take, drop, Less, nat_cmp, min}
 use Rattle.std.specs.Prelude.{not, int_lt, nat_lt, filter, ◌⊎◌, ◌↔◌}
 use Rattle.std.specs.List.Sorted.{IsPartitionPoint}
 use Rattle.std.proofs.lemmas.Int.{ints}
@@ -24,21 +24,8 @@ use Rattle.sweep_events.specs.Runs.{ends_there}
 use Rattle.sweep_events.specs.Status.{IsWaiting, run_cmp}
 use Rattle.sweep_events.specs.Sweep.{IsEventAt}
 use Rattle.sweep_events.specs.Exchange.{IsSplit, IsExchange}
+use Rattle.sweep_status.proofs.Parts.{within_take, within_drop}
 use Rattle.sweep_events.proofs.EventSteps.{in_order, not_both}
-
-pub within_take : {X : Type 0} (P : X → Type 0) (xs : List X) (k : ℕ) → ((j : ℕ) (d : X) → 0 ≤ j → j < k → P (get_or xs j d)) → (x : X) → Member x (take k xs) → P x
-within_take P [] zero f x m = absurd m
-within_take P [] (suc k) f x m = absurd m
-within_take P (y ∷ ys) zero f x m = absurd m
-within_take P (y ∷ ys) (suc k) f x (inl e) = subst P (sym e) (f 0 x (omega arith) (omega arith))
-within_take P (y ∷ ys) (suc k) f x (inr m) = within_take P ys k (λ j d a b. f (suc j) d (omega arith) (omega (arith, b))) x m
-
-pub within_drop : {X : Type 0} (P : X → Type 0) (xs : List X) (k : ℕ) → ((j : ℕ) (d : X) → k ≤ j → j < length xs → P (get_or xs j d)) → (x : X) → Member x (drop k xs) → P x
-within_drop P [] zero f x m = absurd m
-within_drop P [] (suc k) f x m = absurd m
-within_drop P (y ∷ ys) zero f x (inl e) = subst P (sym e) (f 0 x (omega arith) (omega arith))
-within_drop P (y ∷ ys) zero f x (inr m) = within_drop P ys zero (λ j d a b. f (suc j) d (omega arith) (omega (arith, b))) x m
-within_drop P (y ∷ ys) (suc k) f x m = within_drop P ys k (λ j d a b. f (suc j) d (omega (arith, a)) (omega (arith, b))) x m
 
 module _ (pieces : List Span) (q : Point) (xs : List ℕ) (spans : AreSpans pieces) (waiting : IsWaiting (piece_at pieces) (length pieces) q xs)
     (lo hi : ℕ) (lo_in : lo ≤ length xs) (hi_in : hi ≤ length xs)

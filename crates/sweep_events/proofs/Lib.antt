@@ -1,5 +1,4 @@
 pub mod AfterEvent
-pub mod Drained
 pub mod EventSteps
 pub mod EventsAndVertices
 pub mod EventsListed

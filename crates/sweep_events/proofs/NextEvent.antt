@@ -65,8 +65,10 @@ waits_at s keys h q next ps xs e f =
     subst (λ (ys : List ℕ). IsWaiting (piece_at ps) (length ps) q ys) (sym f) (subst (λ (qs : List Span). IsWaiting (piece_at qs) (length qs) q s.status) (sym e) (waiting_of s keys h q next))
 
 -- the exchange, of what the sweep holds
-pub exchange_of : (s : Swept) (q : Point) (ps : List Span) (xs : List ℕ) (lo hi top : ℕ) (run : List ℕ) → ps ≡ s.pieces → xs ≡ s.status → IsExchange ps q xs (splice xs lo hi run) lo top → IsExchange s.pieces q s.status (splice s.status lo hi run) lo top
-exchange_of s q ps xs lo hi top run e f t = subst (λ (ys : List ℕ). IsExchange s.pieces q ys (splice ys lo hi run) lo top) f (subst (λ (qs : List Span). IsExchange qs q xs (splice xs lo hi run) lo top) e t)
+pub exchange_of : (s : Swept) (q : Point) (ps : List Span) (xs : List ℕ) (lo hi top : ℕ) (came run : List ℕ) → ps ≡ s.pieces → xs ≡ s.status → run ≡ came → IsExchange ps q xs (splice xs lo hi came) lo top → IsExchange s.pieces q s.status (splice s.status lo hi run) lo top
+exchange_of s q ps xs lo hi top came run e f g t =
+    subst (λ (rs : List ℕ). IsExchange s.pieces q s.status (splice s.status lo hi rs) lo top) (sym g)
+    (subst (λ (ys : List ℕ). IsExchange s.pieces q ys (splice ys lo hi came) lo top) f (subst (λ (qs : List Span). IsExchange qs q xs (splice xs lo hi came) lo top) e t))
 
 module _ (s : Swept) (keys : List Point) (h : IsSweep s keys) (q : Point) (next : IsNextOf s q) (after : List ℕ) (first second : ℕ) (exchange : IsExchange s.pieces q s.status after first second) where
   status_is : IsStatus (piece_at s.pieces) (length s.pieces) q after

@@ -1,13 +1,10 @@
 -- The pieces that start at a point, among all by their lower ends.
-use Rattle.std.proofs.Common.{◌≡◌, ℕ, ◌<◌, ◌≤◌, arith, refl, ap, sym, ◌∙◌, subst, inl, inr, Bool, true, false, List, [], ◌∷◌, length, take, drop, map, Ordering, Less, Equal, Greater, nat_cmp}
+use Rattle.std.proofs.Common.{◌≡◌, ℕ, ◌<◌, refl, ap, sym, ◌∙◌, subst, inl, inr, Bool, true, false, List, [], ◌∷◌, length, take, drop, map, Ordering, Less, Equal, Greater, nat_cmp}
 use Rattle.std.specs.Prelude.{◌⊎◌}
-use Rattle.std.specs.List.{prefix_len}
 use Rattle.std.specs.List.Sorted.{IsPartitionPoint, IsPartitionedBy}
 use Rattle.std.specs.Ordering.{is_lt, is_le, ordering_then}
 use Rattle.std.specs.Cmp.{tied_itself}
-use Rattle.std.proofs.lemmas.Bool.{false_from_ne_true}
 use Rattle.std.proofs.lemmas.List.{take-append-drop}
-use Rattle.std.proofs.lemmas.List.Sums.{prefix_len_passes, prefix_len_stops}
 use Rattle.exact_plane.specs.Point.{Point}
 use Rattle.exact_plane.specs.PointOrder.{point_cmp}
 use Rattle.exact_plane.specs.PointOrderLaws.{point_cmp_total, same_point}
@@ -19,7 +16,7 @@ use Rattle.plane_graphs.proofs.Sorting.{parted, all_members}
 use Rattle.sweep_events.specs.declared.places.Start.{Start}
 use Rattle.sweep_events.specs.Places.{piece_at, IsPlacesOf}
 use Rattle.sweep_events.specs.Starts.{start_cmp, AreStarts}
-use Rattle.sweep_events.proofs.ExchangeParts.{within_take, within_drop}
+use Rattle.sweep_status.proofs.Parts.{within_take, within_drop}
 use Rattle.integers.proofs.Tests.{is_less, first_less}
 
 abbrev pub before : Point → Start → Bool
@@ -27,16 +24,6 @@ before q s = is_lt (point_cmp s.lower q)
 
 abbrev pub upto : Point → Start → Bool
 upto q s = is_le (point_cmp s.lower q)
-
--- where the first that fails stands, a list is parted
-pub first_parted : {X : Type 0} (p : X → Bool) (xs : List X) (n : ℕ) → n ≡ prefix_len p xs → IsPartitionedBy p xs → IsPartitionPoint (λ x. p x ≡ true) (λ x. p x ≡ false) xs n
-first_parted p xs n e h = (
-  λ j d a l. prefix_len_passes p xs j d (omega arith),
-  λ j d a l.
-      let m : prefix_len p xs < length xs = omega arith in
-      let k : prefix_len p xs ≤ j = omega arith in
-      false_from_ne_true _ (λ t. let u = h (prefix_len p xs) j d k l t in let v = prefix_len_stops p xs d m in absurd cc),
-)
 
 neither : (o : Ordering) → is_lt o ≡ false → is_le o ≡ true → o ≡ Equal
 neither Less h k = cc

@@ -35,10 +35,10 @@ pub record IsExchange (pieces : List Span) (q : Point) (before after : List ℕ)
   pub run : IsRun (piece_at pieces) (length pieces) q old mid
   pub sloped : IsAscending (run_cmp (piece_at pieces)) mid
 
--- the status with an exchange made
-abbrev pub exchanged : List ℕ → Exchange → List ℕ
-exchanged places t = splice places t.low t.high t.run.items
+-- the status with an exchange made, and a run brought by it
+abbrev pub exchanged : List ℕ → Exchange → List ℕ → List ℕ
+exchanged places t run = splice places t.low t.high run
 
--- the exchange is what the event at q makes of the status
-abbrev pub IsExchangeAt : List Span → Point → List ℕ → Exchange → Type 0
-IsExchangeAt pieces q places t = IsExchange pieces q places (exchanged places t) t.low t.top
+-- the exchange is what the event at q makes of the status, and the run what comes
+abbrev pub IsExchangeAt : List Span → Point → List ℕ → Exchange → List ℕ → Type 0
+IsExchangeAt pieces q places t run = IsExchange pieces q places (exchanged places t run) t.low t.top

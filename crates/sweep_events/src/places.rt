@@ -1,5 +1,5 @@
-ghost use Rattle.std.specs.Prelude.{◌≡◌, ◌≤◌, ◌++◌, ℕ, ◌<◌, length, map, IfOk, OnOk, OnErr};
-ghost use Rattle.std.specs.List.{prefix_len, splice};
+ghost use Rattle.std.specs.Prelude.{◌≡◌, ◌≤◌, ◌++◌, ℕ, ◌<◌, length, map, filter, not, IfOk, OnOk};
+ghost use Rattle.std.specs.List.{prefix_len};
 ghost use Rattle.std.specs.List.Sorted.{IsPartitionedBy};
 ghost use Rattle.std.specs.Ordering.{nat_cmp, is_lt, is_le};
 ghost use Rattle.exact_plane.specs.PointOrder.{point_cmp};
@@ -153,9 +153,32 @@ fn is_ended(pieces: &[Span], place: usize, point: &Point) -> bool
     }
 }
 
-// Those of the pieces that end at the point, and those that don't.
+// Those of the places whose pieces end at the point, and those whose pieces don't.
+fn part(
+    alloc: Global,
+    pieces: &[Span],
+    places: &[usize],
+    point: &Point,
+) -> Result<(Sequence<usize>, Sequence<usize>), NoMemory>
+    requires { IsPoint point.now }
+    ensures ends { IfOk result (λ both. both.0 ≡ filter (ends_there pieces.now point.now) places.now) }
+    ensures others { IfOk result (λ both. both.1 ≡ filter (λ i. not (ends_there pieces.now point.now i)) places.now) }
+{
+    let (mut ends, mut others) = (Sequence::new(alloc), Sequence::new(alloc));
+    for place in places {
+        if is_ended(pieces, *place, point) {
+            ends.push(*place)?;
+        } else {
+            others.push(*place)?;
+        }
+    }
+    Ok((ends, others))
+}
+
+// The same in ascending order, each once. A list has room for them.
 pub(crate) fn parted_at(
     alloc: Global,
+    room: &mut Vec<usize>,
     pieces: &[Span],
     through: &[usize],
     point: &Point,
@@ -164,17 +187,10 @@ pub(crate) fn parted_at(
     ensures ends { IfOk result (λ both. both.0 ≡ ending_of pieces.now point.now through.now) }
     ensures others { IfOk result (λ both. both.1 ≡ others_of pieces.now point.now through.now) }
 {
-    let mut places = Vec::from_slice(alloc, through)?;
-    arrange(&mut places);
-    let (mut ends, mut others) = (Sequence::new(alloc), Sequence::new(alloc));
-    for place in &places {
-        if is_ended(pieces, *place, point) {
-            ends.push(*place)?;
-        } else {
-            others.push(*place)?;
-        }
-    }
-    Ok((ends, others))
+    room.clear();
+    room.extend_from_slice(through)?;
+    arrange(room);
+    part(alloc, pieces, room, point)
 }
 
 fn add_lines(lines: &mut Vec<PlacedLine>, pieces: &[Span], places: &[usize]) -> Result<(), NoMemory>
@@ -196,52 +212,36 @@ fn line_order(first: &PlacedLine, second: &PlacedLine) -> Ordering
     slope_order(&first.line, &second.line).then(first.place.cmp(&second.place))
 }
 
-// The pieces by their slopes, those of one slope by place.
-pub(crate) fn by_slope(
-    alloc: Global,
+// Makes a list that of the pieces by their slopes, those of one slope by place.
+pub(crate) fn sort_by_slope(
+    lines: &mut Vec<PlacedLine>,
     pieces: &[Span],
     passes: &[usize],
     starts: &[usize],
-) -> Result<Vec<PlacedLine>, NoMemory>
+) -> Result<(), NoMemory>
     requires passes { ArePlaces pieces.now passes.now }
     requires starts { ArePlaces pieces.now starts.now }
     requires spans { AreSpans pieces.now }
     requires passes_ascend { IsAscending nat_cmp passes.now }
     requires starts_ascend { IsAscending nat_cmp starts.now }
     requires apart { (i : ℕ) → Member i passes.now → Member i starts.now → ⊥ }
-    ensures places { IfOk result (λ v. ArePlacesOfBoth passes.now starts.now (line_places v.items)) }
-    ensures sloped { IfOk result (λ v. IsAscending (run_cmp (piece_at pieces.now)) (line_places v.items)) }
+    ensures places { OnOk result (ArePlacesOfBoth passes.now starts.now (line_places lines.new.items)) }
+    ensures sloped { OnOk result (IsAscending (run_cmp (piece_at pieces.now)) (line_places lines.new.items)) }
 {
-    let mut lines = Vec::new(alloc);
-    add_lines(&mut lines, pieces, passes)?;
-    add_lines(&mut lines, pieces, starts)?;
+    lines.clear();
+    add_lines(lines, pieces, passes)?;
+    add_lines(lines, pieces, starts)?;
     lines.sort_unstable_by(|first, second| line_order(first, second));
-    Ok(lines)
+    Ok(())
 }
 
-// The places of these.
-pub(crate) fn places_of(alloc: Global, lines: &[PlacedLine]) -> Result<Vec<usize>, NoMemory>
-    ensures { IfOk result (λ v. v.items ≡ line_places lines.now) }
+// Makes a list that of their places.
+pub(crate) fn fill_places(places: &mut Vec<usize>, lines: &[PlacedLine]) -> Result<(), NoMemory>
+    ensures { OnOk result (places.new.items ≡ line_places lines.now) }
 {
-    let mut places = Vec::new(alloc);
+    places.clear();
     for line in lines {
         places.push(line.place)?;
     }
-    Ok(places)
-}
-
-// Puts a run of places where those from `low` to `high` stand: what is above is shifted, once.
-pub(crate) fn replace(
-    status: &mut Vec<usize>,
-    low: usize,
-    high: usize,
-    run: Vec<usize>,
-) -> Result<(), NoMemory>
-    requires in_turn { low ≤ high }
-    requires in_bounds { high ≤ length status.old.items }
-    ensures ok { OnOk result (status.new.items ≡ splice status.old.items low high run.items) }
-    ensures err { OnErr result (status.new.items ≡ status.old.items) }
-{
-    status.splice(low..high, run)?;
     Ok(())
 }

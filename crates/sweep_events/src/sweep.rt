@@ -12,12 +12,13 @@ ghost use Rattle.sweep_events.specs.FirstQueue.{HasEnds, HasPins};
 
 use crate::event::Event;
 use crate::exchange::{Exchange, exchange_at, place_after};
-use crate::places::{Start, at_place, count_below, replace, starts_of};
+use crate::places::{PlacedLine, Start, at_place, count_below, starts_of};
 use exact_plane::{Meet, Point, Span, span_meeting};
 use no_memory::NoMemory;
 use std::alloc::Global;
 use std::collections::BTreeSet;
 use std::marker::Model;
+use sweep_status::replace;
 
 /// A sweep over pieces and pins, from left to right and, on one abscissa, from below.
 ///
@@ -32,6 +33,9 @@ pub struct Sweep {
     queue: BTreeSet<Point>,
     status: Vec<usize>,
     last: Option<Point>,
+    // Room for the run that an event brings, and for its lines, kept from one event to the next.
+    run: Vec<usize>,
+    lines: Vec<PlacedLine>,
 }
 
 impl Model for Sweep {
@@ -82,22 +86,23 @@ fn await_seam(
     pieces: &[Span],
     status: &[usize],
     exchange: &Exchange,
+    run: &[usize],
     seam: usize,
     point: &Point,
 ) -> Result<(), NoMemory>
     requires in_turn { exchange.now.low ≤ exchange.now.high }
     requires in_bounds { exchange.now.high ≤ length status.now }
-    requires places { ArePlaces pieces.now (exchanged status.now exchange.now) }
-    ensures grown { IsGrown (MeetAt pieces.now status.now exchange.now seam) point.now queue.old.keys queue.new.keys }
-    ensures there { OnOk result (AreThere (MeetAt pieces.now status.now exchange.now seam) point.now queue.new.keys) }
+    requires places { ArePlaces pieces.now (exchanged status.now exchange.now run.now) }
+    ensures grown { IsGrown (MeetAt pieces.now status.now exchange.now run.now seam) point.now queue.old.keys queue.new.keys }
+    ensures there { OnOk result (AreThere (MeetAt pieces.now status.now exchange.now run.now seam) point.now queue.new.keys) }
 {
     if seam == 0 {
         return Ok(());
     }
-    let Some(below) = place_after(status, exchange, seam - 1) else {
+    let Some(below) = place_after(status, exchange, run, seam - 1) else {
         return Ok(());
     };
-    let Some(above) = place_after(status, exchange, seam) else {
+    let Some(above) = place_after(status, exchange, run, seam) else {
         return Ok(());
     };
     await_meeting(
@@ -114,17 +119,18 @@ fn await_seams(
     pieces: &[Span],
     status: &[usize],
     exchange: &Exchange,
+    run: &[usize],
     point: &Point,
 ) -> Result<(), NoMemory>
     requires in_turn { exchange.now.low ≤ exchange.now.high }
     requires in_bounds { exchange.now.high ≤ length status.now }
-    requires places { ArePlaces pieces.now (exchanged status.now exchange.now) }
-    ensures grown { IsGrown (MeetAtRun pieces.now status.now exchange.now) point.now queue.old.keys queue.new.keys }
-    ensures first { OnOk result (AreThere (MeetBelowRun pieces.now status.now exchange.now) point.now queue.new.keys) }
-    ensures second { OnOk result (AreThere (MeetAboveRun pieces.now status.now exchange.now) point.now queue.new.keys) }
+    requires places { ArePlaces pieces.now (exchanged status.now exchange.now run.now) }
+    ensures grown { IsGrown (MeetAtRun pieces.now status.now exchange.now run.now) point.now queue.old.keys queue.new.keys }
+    ensures first { OnOk result (AreThere (MeetBelowRun pieces.now status.now exchange.now run.now) point.now queue.new.keys) }
+    ensures second { OnOk result (AreThere (MeetAboveRun pieces.now status.now exchange.now run.now) point.now queue.new.keys) }
 {
-    await_seam(queue, pieces, status, exchange, exchange.low, point)?;
-    await_seam(queue, pieces, status, exchange, exchange.top, point)
+    await_seam(queue, pieces, status, exchange, run, exchange.low, point)?;
+    await_seam(queue, pieces, status, exchange, run, exchange.top, point)
 }
 
 // Puts both ends of each piece into the queue.
@@ -175,6 +181,8 @@ impl Sweep {
             queue,
             status: Vec::new(alloc),
             last: None,
+            run: Vec::new(alloc),
+            lines: Vec::new(alloc),
         })
     }
 
@@ -196,15 +204,24 @@ impl Sweep {
             return Ok(None);
         };
         let point = *first;
-        let exchange = exchange_at(self.alloc, &self.pieces, &self.starts, &self.status, &point)?;
+        let exchange = exchange_at(
+            self.alloc,
+            &mut self.run,
+            &mut self.lines,
+            &self.pieces,
+            &self.starts,
+            &self.status,
+            &point,
+        )?;
         await_seams(
             &mut self.queue,
             &self.pieces,
             &self.status,
             &exchange,
+            &self.run,
             &point,
         )?;
-        replace(&mut self.status, exchange.low, exchange.high, exchange.run)?;
+        replace(&mut self.status, exchange.low, exchange.high, &self.run)?;
         let _ = self.queue.pop_first();
         self.last = Some(point);
         Ok(Some(Event {

@@ -27,8 +27,8 @@ overflow_sub-high c =
     let b = c.count_upto-high.ensures in
     in_turn ps q xs c.requires.spans c.requires.waits lo hi a.bound b.bound a.cut b.cut
 
-pub by_slope-requires-clause-passes : goal.by_slope-requires-clause-passes
-by_slope-requires-clause-passes c =
+pub sort_by_slope-requires-clause-passes : goal.sort_by_slope-requires-clause-passes
+sort_by_slope-requires-clause-passes c =
     let ps = c.args.pieces.now in
     let q = c.args.point.now in
     let xs = c.args.status.now in
@@ -40,8 +40,8 @@ by_slope-requires-clause-passes c =
     let others : c.in_ok-ends.passes ≡ filter (λ i. not (ends_there ps q i)) (ascending nat_cmp (take (hi - lo) (drop lo xs))) = c.in_ok-ends.ensures.others ∙ ap (λ (r : List ℕ). filter (λ i. not (ends_there ps q i)) (ascending nat_cmp r)) run in
     subst (λ (zs : List ℕ). ArePlaces ps zs) (sym (c.as_slice.ensures ∙ others)) (passes_places ps q xs c.requires.spans c.requires.waits lo hi a.bound b.bound a.cut b.cut)
 
-pub by_slope-requires-clause-starts : goal.by_slope-requires-clause-starts
-by_slope-requires-clause-starts c =
+pub sort_by_slope-requires-clause-starts : goal.sort_by_slope-requires-clause-starts
+sort_by_slope-requires-clause-starts c =
     let ps = c.args.pieces.now in
     let q = c.args.point.now in
     let xs = c.args.status.now in
@@ -52,8 +52,8 @@ by_slope-requires-clause-starts c =
     let starting = c.in_ok-begun.ensures ps c.requires.starts in
     subst (λ (zs : List ℕ). ArePlaces ps zs) (sym c.as_slice-2.ensures) (starts_places ps q xs c.requires.spans c.requires.waits lo hi a.bound b.bound a.cut b.cut c.in_ok-begun.begun starting)
 
-pub by_slope-requires-clause-passes_ascend : goal.by_slope-requires-clause-passes_ascend
-by_slope-requires-clause-passes_ascend c =
+pub sort_by_slope-requires-clause-passes_ascend : goal.sort_by_slope-requires-clause-passes_ascend
+sort_by_slope-requires-clause-passes_ascend c =
     let ps = c.args.pieces.now in
     let q = c.args.point.now in
     let xs = c.args.status.now in
@@ -65,12 +65,12 @@ by_slope-requires-clause-passes_ascend c =
     let others : c.in_ok-ends.passes ≡ filter (λ i. not (ends_there ps q i)) (ascending nat_cmp (take (hi - lo) (drop lo xs))) = c.in_ok-ends.ensures.others ∙ ap (λ (r : List ℕ). filter (λ i. not (ends_there ps q i)) (ascending nat_cmp r)) run in
     subst (λ (zs : List ℕ). IsAscending nat_cmp zs) (sym (c.as_slice.ensures ∙ others)) (passes_ascend ps q xs c.requires.spans c.requires.waits lo hi a.bound b.bound a.cut b.cut)
 
-pub by_slope-requires-clause-starts_ascend : goal.by_slope-requires-clause-starts_ascend
-by_slope-requires-clause-starts_ascend c =
+pub sort_by_slope-requires-clause-starts_ascend : goal.sort_by_slope-requires-clause-starts_ascend
+sort_by_slope-requires-clause-starts_ascend c =
     subst (λ (zs : List ℕ). IsAscending nat_cmp zs) (sym c.as_slice-2.ensures) (c.in_ok-begun.ensures c.args.pieces.now c.requires.starts).ascends
 
-pub by_slope-requires-clause-apart : goal.by_slope-requires-clause-apart
-by_slope-requires-clause-apart c =
+pub sort_by_slope-requires-clause-apart : goal.sort_by_slope-requires-clause-apart
+sort_by_slope-requires-clause-apart c =
     let ps = c.args.pieces.now in
     let q = c.args.point.now in
     let xs = c.args.status.now in
@@ -106,14 +106,15 @@ returns-clause-exchange c =
     let run : c.split_at-2.result.0.now ≡ take (hi - lo) (drop lo xs) = c.split_at-2.ensures.front ∙ ap (take (hi - lo)) c.split_at.ensures.back in
     let others : c.in_ok-ends.passes ≡ filter (λ i. not (ends_there ps q i)) (ascending nat_cmp (take (hi - lo) (drop lo xs))) = c.in_ok-ends.ensures.others ∙ ap (λ (r : List ℕ). filter (λ i. not (ends_there ps q i)) (ascending nat_cmp r)) run in
     let starting = c.in_ok-begun.ensures ps c.requires.starts in
-    let vs = c.in_ok-lines.lines.items in
+    let vs = c.sort_by_slope.new.lines.items in
+    let run' = c.fill_places.new.places.items in
     let mid = map (λ (s : PlacedLine). s.place) vs in
-    let run_is : c.in_ok-run.run'.items ≡ mid = c.in_ok-run.ensures ∙ ap (map (λ (s : PlacedLine). s.place)) c.deref.ensures.value in
-    let count : c.len.result ≡ length c.in_ok-run.run'.items = omega (arith, c.len.ensures, c.in_ok-run.run'.ok.0) in
+    let run_is : run' ≡ mid = c.in_ok-fill_places.ensures ∙ ap (map (λ (s : PlacedLine). s.place)) c.deref.ensures.value in
+    let count : c.len.result ≡ length run' = omega (arith, c.len.ensures, c.fill_places.new.places.ok.0) in
     exchange_is ps q xs c.requires.spans c.requires.waits lo hi a.bound b.bound a.cut b.cut c.in_ok-begun.begun starting mid _ c.len.result
     (subst (λ (zs : List ℕ). (i : ℕ) → Member i (map (λ (s : PlacedLine). s.place) vs) ↔ (Member i zs ⊎ Member i c.in_ok-begun.begun)) (c.as_slice.ensures ∙ others)
-    (subst (λ (ys : List ℕ). (i : ℕ) → Member i (map (λ (s : PlacedLine). s.place) vs) ↔ (Member i c.as_slice.result.now ⊎ Member i ys)) c.as_slice-2.ensures c.in_ok-lines.ensures.places))
-    c.in_ok-lines.ensures.sloped
+    (subst (λ (ys : List ℕ). (i : ℕ) → Member i (map (λ (s : PlacedLine). s.place) vs) ↔ (Member i c.as_slice.result.now ⊎ Member i ys)) c.as_slice-2.ensures c.in_ok-sort_by_slope.ensures.places))
+    c.in_ok-sort_by_slope.ensures.sloped
     (ap (λ (ms : List ℕ). splice xs lo hi ms) run_is)
     (count ∙ ap (λ (ms : List ℕ). length ms) run_is)
 

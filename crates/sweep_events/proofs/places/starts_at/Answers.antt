@@ -6,7 +6,8 @@ use Rattle.std.proofs.lemmas.List.Sums.{prefix_len-le-length}
 use Rattle.exact_plane.specs.Span.{Span}
 use Rattle.sweep_events.specs.declared.places.Start.{Start}
 use Rattle.sweep_events.specs.Places.{IsPlacesOf}
-use Rattle.sweep_events.proofs.StartsAtPoint.{before, upto, first_parted, parted_before, parted_read, starting}
+use Rattle.sweep_status.proofs.Parts.{first_parted}
+use Rattle.sweep_events.proofs.StartsAtPoint.{before, upto, parted_before, parted_read, starting}
 use Rattle.sweep_events.proofs.places.starts_at.Goals as goal
 
 pub split_at-requires-2 : goal.split_at-requires-2

@@ -10,20 +10,20 @@ use Rattle.sweep_events.proofs.sweep.await_seam.Goals as goal
 
 pub at_place-requires : goal.at_place-requires
 at_place-requires c =
-    let after = splice c.args.status.now c.args.exchange.now.low c.args.exchange.now.high c.args.exchange.now.run.items in
+    let after = splice c.args.status.now c.args.exchange.now.low c.args.exchange.now.high c.args.run.now in
     let w = got after (c.args.seam - 1) c.in-Some.below (sym c.place_after.ensures ∙ c.in-Some.is) in
     c.requires.places c.in-Some.below (subst (λ (k : ℕ). Member k after) (sym w.1) (member_at after (c.args.seam - 1) 0 w.0))
 
 pub at_place-requires-2 : goal.at_place-requires-2
 at_place-requires-2 c =
-    let after = splice c.args.status.now c.args.exchange.now.low c.args.exchange.now.high c.args.exchange.now.run.items in
+    let after = splice c.args.status.now c.args.exchange.now.low c.args.exchange.now.high c.args.run.now in
     let w = got after c.args.seam c.in-Some-place_after.above (sym c.place_after-2.ensures ∙ c.in-Some-place_after.is) in
     c.requires.places c.in-Some-place_after.above (subst (λ (k : ℕ). Member k after) (sym w.1) (member_at after c.args.seam 0 w.0))
 
 pub returns-clause-grown : goal.returns-clause-grown
 returns-clause-grown c =
     let ps = c.args.pieces.now in
-    let after = splice c.args.status.now c.args.exchange.now.low c.args.exchange.now.high c.args.exchange.now.run.items in
+    let after = splice c.args.status.now c.args.exchange.now.low c.args.exchange.now.high c.args.run.now in
     let v = got after (c.args.seam - 1) c.in-Some.below (sym c.place_after.ensures ∙ c.in-Some.is) in
     let w = got after c.args.seam c.in-Some-place_after.above (sym c.place_after-2.ensures ∙ c.in-Some-place_after.is) in
     let first : 0 < c.args.seam = (let a = c.if-seam-eq0.false in omega (arith, a)) in
@@ -33,7 +33,7 @@ pub returns-clause-there : goal.returns-clause-there
 returns-clause-there c =
     let ps = c.args.pieces.now in
     let q = c.args.point.now in
-    let after = splice c.args.status.now c.args.exchange.now.low c.args.exchange.now.high c.args.exchange.now.run.items in
+    let after = splice c.args.status.now c.args.exchange.now.low c.args.exchange.now.high c.args.run.now in
     let new = c.await_meeting.new.queue.keys in
     let v = got after (c.args.seam - 1) c.in-Some.below (sym c.place_after.ensures ∙ c.in-Some.is) in
     let w = got after c.args.seam c.in-Some-place_after.above (sym c.place_after-2.ensures ∙ c.in-Some-place_after.is) in

@@ -1,4 +1,4 @@
-use Rattle.std.proofs.Common.{List, refl, ap, ◌∙◌, subst}
+use Rattle.std.proofs.Common.{ℕ, List, refl, sym, ap, ◌∙◌, subst}
 use Rattle.std.specs.List.{splice}
 use Rattle.exact_plane.specs.Span.{Span}
 use Rattle.sweep_events.specs.Sweep.{Swept, IsNextOf, IsEventAt}
@@ -38,12 +38,16 @@ await_seams-requires-clause-places c =
     let e = c.in-Some.ensures in
     let next = first_is_next s keys h q e.first (e.variant.0 refl) e.all_from in
     let x = c.in_ok-exchange.exchange in
-    let after = splice s.status x.low x.high x.run.items in
-    let t = exchange_of s q c.deref.result.now c.deref-3.result.now x.low x.high x.top x.run.items c.deref.ensures.value c.deref-3.ensures.value c.in_ok-exchange.ensures.exchange in
-    places_of s after c.deref-4.result.now c.deref-5.result.now x.low x.high x.run.items c.deref-4.ensures.value c.deref-5.ensures.value refl (within s keys h q next after x.low x.top t)
+    let run = c.deref-6.result.now in
+    let after = splice s.status x.low x.high run in
+    let t = exchange_of s q c.deref.result.now c.deref-3.result.now x.low x.high x.top c.exchange_at.new.run.items run c.deref.ensures.value c.deref-3.ensures.value c.deref-6.ensures.value c.in_ok-exchange.ensures.exchange in
+    places_of s after c.deref-4.result.now c.deref-5.result.now x.low x.high run c.deref-4.ensures.value c.deref-5.ensures.value refl (within s keys h q next after x.low x.top t)
 
 pub invariant_of-self : goal.invariant_of-self
-invariant_of-self c =
+invariant_of-self c = c.self.invariant
+
+pub invariant_of-self-in_err-await_seams : goal.invariant_of-self-in_err-await_seams
+invariant_of-self-in_err-await_seams c =
     let s : Swept = record { pieces = c.self.inside.pieces.items; pins = c.self.inside.pins.items; last = c.self.inside.last; status = c.self.inside.status.items } in
     let q = c.in-Some.first.now in
     let keys = c.self.inside.queue.keys in
@@ -51,10 +55,11 @@ invariant_of-self c =
     let e = c.in-Some.ensures in
     let next = first_is_next s keys h q e.first (e.variant.0 refl) e.all_from in
     let x = c.in_ok-exchange.exchange in
-    let after = splice s.status x.low x.high x.run.items in
-    let t = exchange_of s q c.deref.result.now c.deref-3.result.now x.low x.high x.top x.run.items c.deref.ensures.value c.deref-3.ensures.value c.in_ok-exchange.ensures.exchange in
+    let run = c.deref-6.result.now in
+    let after = splice s.status x.low x.high run in
+    let t = exchange_of s q c.deref.result.now c.deref-3.result.now x.low x.high x.top c.exchange_at.new.run.items run c.deref.ensures.value c.deref-3.ensures.value c.deref-6.ensures.value c.in_ok-exchange.ensures.exchange in
     let later = c.await_seams.new.queue.keys in
-    let grown = grown_of s c.deref-4.result.now c.deref-5.result.now x.low x.high x.run.items c.deref-4.ensures.value c.deref-5.ensures.value q x.low x.top keys later c.await_seams.ensures.grown in
+    let grown = grown_of s c.deref-4.result.now c.deref-5.result.now x.low x.high run c.deref-4.ensures.value c.deref-5.ensures.value q x.low x.top keys later c.await_seams.ensures.grown in
     (c.self.invariant.0, grown_sweep s keys h q next after x.low x.top t later grown)
 
 pub invariant_of-self-in_err-replace : goal.invariant_of-self-in_err-replace
@@ -66,10 +71,11 @@ invariant_of-self-in_err-replace c =
     let e = c.in-Some.ensures in
     let next = first_is_next s keys h q e.first (e.variant.0 refl) e.all_from in
     let x = c.in_ok-exchange.exchange in
-    let after = splice s.status x.low x.high x.run.items in
-    let t = exchange_of s q c.deref.result.now c.deref-3.result.now x.low x.high x.top x.run.items c.deref.ensures.value c.deref-3.ensures.value c.in_ok-exchange.ensures.exchange in
+    let run = c.deref-6.result.now in
+    let after = splice s.status x.low x.high run in
+    let t = exchange_of s q c.deref.result.now c.deref-3.result.now x.low x.high x.top c.exchange_at.new.run.items run c.deref.ensures.value c.deref-3.ensures.value c.deref-6.ensures.value c.in_ok-exchange.ensures.exchange in
     let later = c.await_seams.new.queue.keys in
-    let grown = grown_of s c.deref-4.result.now c.deref-5.result.now x.low x.high x.run.items c.deref-4.ensures.value c.deref-5.ensures.value q x.low x.top keys later c.await_seams.ensures.grown in
+    let grown = grown_of s c.deref-4.result.now c.deref-5.result.now x.low x.high run c.deref-4.ensures.value c.deref-5.ensures.value q x.low x.top keys later c.await_seams.ensures.grown in
     (c.self.invariant.0, same_status s later c.replace.new.status.items c.in_err-replace.ensures.err (grown_sweep s keys h q next after x.low x.top t later grown))
 
 pub invariant_of-self-2 : goal.invariant_of-self-2
@@ -81,14 +87,15 @@ invariant_of-self-2 c =
     let e = c.in-Some.ensures in
     let next = first_is_next s keys h q e.first (e.variant.0 refl) e.all_from in
     let x = c.in_ok-exchange.exchange in
-    let after = splice s.status x.low x.high x.run.items in
-    let t = exchange_of s q c.deref.result.now c.deref-3.result.now x.low x.high x.top x.run.items c.deref.ensures.value c.deref-3.ensures.value c.in_ok-exchange.ensures.exchange in
+    let run = c.deref-6.result.now in
+    let after = splice s.status x.low x.high run in
+    let t = exchange_of s q c.deref.result.now c.deref-3.result.now x.low x.high x.top c.exchange_at.new.run.items run c.deref.ensures.value c.deref-3.ensures.value c.deref-6.ensures.value c.in_ok-exchange.ensures.exchange in
     let later = c.await_seams.new.queue.keys in
-    let grown = grown_of s c.deref-4.result.now c.deref-5.result.now x.low x.high x.run.items c.deref-4.ensures.value c.deref-5.ensures.value q x.low x.top keys later c.await_seams.ensures.grown in
-    let there = there_of s c.deref-4.result.now c.deref-5.result.now x.low x.high x.run.items c.deref-4.ensures.value c.deref-5.ensures.value q in
+    let grown = grown_of s c.deref-4.result.now c.deref-5.result.now x.low x.high run c.deref-4.ensures.value c.deref-5.ensures.value q x.low x.top keys later c.await_seams.ensures.grown in
+    let there = there_of s c.deref-4.result.now c.deref-5.result.now x.low x.high run c.deref-4.ensures.value c.deref-5.ensures.value q in
     let pop = c.pop_first-self-inside.ensures in (
       c.self.invariant.0,
-      same_status (moved s q after) c.pop_first-self-inside.new.self.keys c.replace.new.status.items c.in_ok-replace.ensures.ok
+      same_status (moved s q after) c.pop_first-self-inside.new.self.keys c.replace.new.status.items (c.in_ok-replace.ensures.ok ∙ ap (λ (rs : List ℕ). splice s.status x.low x.high rs) (c.deref-7.ensures.value ∙ sym c.deref-6.ensures.value))
           (popped_on s keys h q next after x.low x.top t later grown (head_member keys q e.first (e.variant.0 refl)) (there x.low later c.in_ok-await_seams.ensures.first) (there x.top later c.in_ok-await_seams.ensures.second)
           c.pop_first-self-inside.result c.pop_first-self-inside.new.self.keys pop.variant.1 pop.removal pop.all_above),
     )
