@@ -3,6 +3,7 @@ pub mod Within
 pub mod Gathering
 pub mod Added
 pub mod Along
+pub mod Plain
 pub mod Ends
 pub mod Starts
 pub mod SweepOrder

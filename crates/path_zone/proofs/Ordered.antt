@@ -20,10 +20,10 @@ use Rattle.path_zone.specs.Gathered.{HasPoint}
 abbrev pub same_place : Meeting → Meeting → Bool
 same_place m n = point_eq m.point n.point
 
-abbrev by_point : Meeting → Meeting → Ordering
+abbrev pub by_point : Meeting → Meeting → Ordering
 by_point m n = point_cmp m.point n.point
 
-total : IsTotalOrder by_point
+pub total : IsTotalOrder by_point
 total = on_total (λ (m : Meeting). m.point) point_cmp_total
 
 equivalence : IsEquivalence same_place

@@ -1,5 +1,5 @@
 -- The plan has the meetings that were gathered.
-use Rattle.std.proofs.Common.{◌≡◌, ◌⊎◌, List, [], sym, subst, ⊎_elim}
+use Rattle.std.proofs.Common.{◌⊎◌, List, [], sym, subst, ⊎_elim}
 use Rattle.exact_plane.specs.Point.{Point}
 use Rattle.exact_plane.specs.PointOrder.{point_cmp}
 use Rattle.exact_plane.specs.Segment.{Segment}
@@ -22,14 +22,11 @@ module _ (v : View) (f : Faces) (ss : List Segment) (ms : List Meeting) (more : 
         let r = of_map (λ (m : Meeting). m.point) x ns i in
         subst (λ (p : Point). IsWhereSideMeets v ss p ⊎ IsWhereSidesMeet ss p) (sym r.2) (of_path r.0 (from r.0 r.1)).place
 
-    planned_as : IsPathZone v f ss (record { vertices = ns })
-    planned_as = record {
+    pub planned : IsPathZone v f ss (record { vertices = ns })
+    planned = record {
       ascend = ascend;
       spots = λ m c. (of_path m (from m (to_member ns m c))).spot;
       only = placed;
       each = λ s x i n. points x (each s x i n);
       own = λ x w. points x (own x w);
     }
-
-    pub planned : (vs : List Meeting) → vs ≡ ns → IsPathZone v f ss (record { vertices = vs })
-    planned vs e = subst (λ (ks : List Meeting). IsPathZone v f ss (record { vertices = ks })) (sym e) planned_as

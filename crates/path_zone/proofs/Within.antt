@@ -1,5 +1,5 @@
 -- A point of a side that isn't one of the zone's vertices lies within an open part, whose spot the zone tells.
-use Rattle.std.proofs.Common.{◌≡◌, ℕ, zero, suc, ◌+◌, ◌-◌, ◌<◌, ◌≤◌, List, [], ◌∷◌, length, get_or, true, is_lt, refl, sym, ap, ◌∙◌, subst, add-one, arith, inl, inr, ⊎_elim, Ordering, Less, Equal, Greater}
+use Rattle.std.proofs.Common.{◌≡◌, ℕ, zero, suc, ◌+◌, ◌-◌, ◌<◌, ◌≤◌, List, [], ◌∷◌, length, get_or, true, is_lt, sym, ap, ◌∙◌, subst, add-one, arith, ⊎_elim, Ordering, Less, Equal, Greater}
 use Rattle.std.specs.List.Sorted.{IsSortedBy, IsNonDecreasingBy, IsPartitionPoint}
 use Rattle.std.specs.Ordering.{ordering_reverse, ordering_index}
 use Rattle.std.proofs.lemmas.Bool.{cases_lt}
@@ -14,7 +14,7 @@ use Rattle.exact_plane.specs.Segment.{Segment}
 use Rattle.plane_graphs.specs.Ascending.{Member, IsAscending}
 use Rattle.plane_graphs.specs.Line.{precedes}
 use Rattle.plane_graphs.proofs.Ascending.{from_member}
-use Rattle.plane_graphs.proofs.Lists.{in_ascending, in_map, of_map}
+use Rattle.plane_graphs.proofs.Lists.{in_map, of_map}
 use Rattle.plane_graphs.proofs.Marks.{le_cases}
 use Rattle.plane_graphs.proofs.Order.{Lt, lt_in, lt_out, lt_both}
 use Rattle.plane_graphs.proofs.Sorting.{member_at, rises}
@@ -23,10 +23,11 @@ use Rattle.dcel_records.specs.declared.spot.Spot.{Spot}
 use Rattle.face_location.specs.Spots.{IsSpotOf}
 use Rattle.zone_walk.specs.declared.plan.Meeting.{Meeting}
 use Rattle.zone_walk.specs.declared.plan.ZonePlan.{ZonePlan}
-use Rattle.zone_walk.specs.Zone.{meeting_points, points_of_meetings, IsSpotBetween, AreSpotsBetween}
+use Rattle.zone_walk.specs.Zone.{points_of_meetings, IsSpotBetween, AreSpotsBetween}
 use Rattle.zone_walk.proofs.Courses.{lies_out}
 use Rattle.zone_walk.proofs.MeetingPoints.{meetings_ascend}
 use Rattle.path_zone.specs.Gathered.{IsOnZoned}
+use Rattle.path_zone.proofs.Along.{ends_meet}
 
 -- ---- the open part at a place
 module _ (v : View) (f : Faces) (s : Segment) where
@@ -65,10 +66,6 @@ module _ (v : View) (f : Faces) (s : Segment) (z : ZonePlan) (x : Point) (h : Is
             ∙ rises point_cmp ps ascend k (k + 1) d.point (omega arith) (omega (arith, l, as_many));
       }
 
-  ends_in : Member s.lower (meeting_points v s) × Member s.upper (meeting_points v s)
-  unfolding meeting_points
-  ends_in = (in_ascending point_cmp point_cmp_total point_cmp_exact s.lower _ (inl refl), in_ascending point_cmp point_cmp_total point_cmp_exact s.upper _ (inr (inl refl)))
-
   -- a vertex of the zone stands at a place
   record StandsAt (p : Point) : Type 0 where
     place : ℕ
@@ -88,17 +85,17 @@ module _ (v : View) (f : Faces) (s : Segment) (z : ZonePlan) (x : Point) (h : Is
   shown p a o e = ap (λ (q : Point). point_cmp q x) (a.point ∙ ap (λ (m : Meeting). m.point) (sym a.there)) ∙ e
 
   lower_at : StandsAt s.lower
-  lower_at = placed s.lower (subst (Member s.lower) (sym h.zone.points) ends_in.0)
+  lower_at = placed s.lower (subst (Member s.lower) (sym h.zone.points) (ends_meet v s).0)
 
   upper_at : StandsAt s.upper
-  upper_at = placed s.upper (subst (Member s.upper) (sym h.zone.points) ends_in.1)
+  upper_at = placed s.upper (subst (Member s.upper) (sym h.zone.points) (ends_meet v s).1)
 
   -- what isn't a vertex lies strictly between the ends
   pub strictly : (Member x ps → ⊥) → Lt s.lower x × Lt x s.upper
   strictly none =
       let o = lies_out s x h.on in (
-        ⊎_elim (λ e. absurd (none (subst (λ (p : Point). Member p ps) e (subst (Member s.lower) (sym h.zone.points) ends_in.0)))) (λ l. l) (le_cases s.lower x o.from),
-        ⊎_elim (λ e. absurd (none (subst (λ (p : Point). Member p ps) (sym e) (subst (Member s.upper) (sym h.zone.points) ends_in.1)))) (λ l. l) (le_cases x s.upper o.upto),
+        ⊎_elim (λ e. absurd (none (subst (λ (p : Point). Member p ps) e (subst (Member s.lower) (sym h.zone.points) (ends_meet v s).0)))) (λ l. l) (le_cases s.lower x o.from),
+        ⊎_elim (λ e. absurd (none (subst (λ (p : Point). Member p ps) (sym e) (subst (Member s.upper) (sym h.zone.points) (ends_meet v s).1)))) (λ l. l) (le_cases x s.upper o.upto),
       )
 
   -- ---- the search found one

@@ -1,3 +1,4 @@
+pub mod Plan
 pub mod PathZone
 pub mod Gathered
 pub mod Begun

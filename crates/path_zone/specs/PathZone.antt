@@ -11,7 +11,7 @@ use Rattle.dcel_records.specs.declared.spot.Spot.{Spot}
 use Rattle.face_location.specs.Spots.{IsSpotOf}
 use Rattle.zone_walk.specs.declared.plan.Meeting.{Meeting}
 use Rattle.zone_walk.specs.Zone.{is_on_segment, meeting_points, points_of_meetings, degree_at, edges_met, CoversVisits}
-use Rattle.path_zone.specs.declared.plan.PathPlan.{PathPlan}
+use Rattle.path_zone.specs.Plan.{PathPlan}
 
 -- the segment has the point behind its lower end
 abbrev pub has_behind : Segment → Point → Bool

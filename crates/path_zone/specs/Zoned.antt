@@ -1,9 +1,10 @@
 -- Sides with their zones, and what one more side adds to them.
-use Rattle.std.specs.Prelude.{◌≡◌, ◌⊎◌, ◌<◌, ◌&&◌, ◌++◌, ℕ, Bool, true, false, List, [], ◌∷◌, length, map, Option, Some, None}
+use Rattle.std.specs.Prelude.{◌≡◌, ◌⊎◌, ◌<◌, ◌&&◌, ◌||◌, ◌++◌, ℕ, Bool, true, false, List, [], ◌∷◌, length, map, Option, Some, None}
 use Rattle.std.specs.List.{flat_map, slice_index_or}
-use Rattle.exact_plane.specs.Point.{Point}
+use Rattle.exact_plane.specs.Point.{Point, point_eq}
 use Rattle.exact_plane.specs.Segment.{Segment, AreEnds}
 use Rattle.exact_plane.specs.Span.{span_of_segment, IsSpan}
+use Rattle.exact_plane.specs.WholeParts.{bounding_box}
 use Rattle.plane_graphs.specs.Ascending.{Member}
 use Rattle.slab_laws.specs.View.{View, Faces}
 use Rattle.dcel_records.specs.declared.spot.Spot.{Spot}
@@ -20,6 +21,7 @@ pub record IsZonedSide (v : View) (f : Faces) (z : ZonedSide) : Type 0 where
   pub ends : AreEnds z.side
   pub span : IsSpan (span_of_segment z.side)
   pub whole : z.whole ≡ span_of_segment z.side
+  pub bounds : z.bounds ≡ bounding_box (span_of_segment z.side)
   pub zone : IsZoneOf v f z.side z.plan
 
 abbrev pub AreZonedSides : View → Faces → List ZonedSide → Type 0
@@ -31,6 +33,10 @@ sides_zoned zs = map (λ z. z.side) zs
 -- the vertices of all zones
 abbrev pub vertices_zoned : List ZonedSide → List Meeting
 vertices_zoned zs = flat_map (λ z. z.plan.vertices) zs
+
+-- an end of the one is an end of the other
+abbrev pub has_common_end : Segment → Segment → Bool
+has_common_end s t = (point_eq s.lower t.lower || point_eq s.upper t.lower) || (point_eq s.lower t.upper || point_eq s.upper t.upper)
 
 -- both ends of a side are on another one
 abbrev pub is_over : ZonedSide → Segment → Bool

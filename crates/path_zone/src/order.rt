@@ -33,20 +33,19 @@ fn comes_before(p: &Point, q: &Point) -> bool
     *p < *q
 }
 
-// Whether a point is neither before the lower nor behind the upper one.
-fn is_within(lower: &Point, upper: &Point, point: &Point) -> bool
-    ensures { result ≡ (not (precedes point.now lower.now) && not (precedes upper.now point.now)) }
+// Whether a point is neither before the lower nor behind the upper end.
+fn is_within(side: &Segment, point: &Point) -> bool
+    ensures { result ≡ (not (precedes point.now side.now.lower) && not (precedes side.now.upper point.now)) }
 {
-    !comes_before(point, lower) && !comes_before(upper, point)
+    !comes_before(point, &side.lower()) && !comes_before(&side.upper(), point)
 }
 
 /// Whether a point is on a side.
 pub(crate) fn holds(side: &Segment, point: &Point) -> bool
     ensures { result ≡ is_on_segment side.now point.now }
 {
-    let lower = side.lower();
-    let upper = side.upper();
-    is_on(side, point) && is_within(&lower, &upper, point)
+    // Whole parts tell most orders, so this comes first.
+    is_within(side, point) && is_on(side, point)
 }
 
 // Whether a point is on a side behind its lower end.
@@ -85,7 +84,7 @@ fn begun_sides(
     requires { (v : _) × (f : _) × AreStarts v f sides.now starts.now }
     ensures { IfOk result (λ bs. (v : _) (f : _) → AreStarts v f sides.now starts.now → AreBegun v f sides.now bs.items) }
 {
-    let mut begun = Vec::new(alloc);
+    let mut begun = Vec::with_capacity(alloc, sides.len())?;
     'sides: for (place, side) in sides.iter().enumerate() {
         begun.push(BegunSide {
             side: *side,

@@ -1,5 +1,6 @@
 ghost use Rattle.std.specs.Prelude.{◌≡◌, ◌⊎◌, ◌≤◌, ◌+◌, ◌++◌, [], IfOk, OnOk};
 ghost use Rattle.std.specs.List.{sum_by};
+ghost use Rattle.exact_plane.specs.Point.{point_eq};
 ghost use Rattle.exact_plane.specs.PointOrder.{point_cmp};
 ghost use Rattle.plane_graphs.specs.Ascending.{Member, IsAscending};
 ghost use Rattle.dcel_records.specs.RecordsView.{tables_of};
@@ -16,8 +17,8 @@ use crate::zoned::{ZonedSide, add_crossings, add_ends, place_over, spot_told};
 use dcel_records::{Records, Spot};
 use exact_plane::Segment;
 use no_memory::NoMemory;
-use slab_laws::Sequence;
 use std::alloc::Global;
+use std::cmp::Ordering;
 use std::sync::ledger::Ledger;
 use work_steps::Steps;
 use zone_walk::{Meeting, ZonePlan, zone};
@@ -104,7 +105,7 @@ fn all_meetings<L: Ledger>(
     ensures looks { (n : _) → CoverAllVisits records.now.graph (tables_of records.now) sides.now n → steps.new ≤ steps.old + (n + sum_by (looks_along records.now.graph) sides.now) }
 {
     let begun = in_sweep_order(alloc, sides, starts)?;
-    let mut zones = Vec::new(alloc);
+    let mut zones = Vec::with_capacity(alloc, begun.len())?;
     let mut meetings = Vec::new(alloc);
     'sides: for one in &begun {
         add_side(alloc, &mut zones, &mut meetings, records, one, steps)?;
@@ -113,25 +114,26 @@ fn all_meetings<L: Ledger>(
     Ok(meetings)
 }
 
+fn point_order(first: &Meeting, second: &Meeting) -> Ordering
+    ensures { result ≡ point_cmp first.now.point second.now.point }
+{
+    first.point.cmp(&second.point)
+}
+
+fn share_point(first: &Meeting, second: &Meeting) -> bool
+    ensures { result ≡ point_eq first.now.point second.now.point }
+{
+    first.point == second.point
+}
+
 // The meetings, ascending, and each point once; which of those at one point stays makes no difference.
 fn in_order(meetings: &mut Vec<Meeting>)
     ensures ascend { IsAscending point_cmp (points_of_meetings meetings.new.items) }
     ensures from { (m : _) → Member m meetings.new.items → Member m meetings.old.items }
     ensures points { (x : _) → HasPoint meetings.old.items x → HasPoint meetings.new.items x }
 {
-    meetings.sort_unstable_by_key(|meeting| meeting.point);
-    meetings.dedup_by_key(|meeting| meeting.point);
-}
-
-// The same meetings, as the plan has them.
-fn in_sequence(alloc: Global, meetings: &[Meeting]) -> Result<Sequence<Meeting>, NoMemory>
-    ensures { IfOk result (λ z. z ≡ meetings.now) }
-{
-    let mut vertices = Sequence::new(alloc);
-    'each: for meeting in meetings {
-        vertices.push(*meeting)?;
-    }
-    Ok(vertices)
+    meetings.sort_unstable_by(|first, second| point_order(first, second));
+    meetings.dedup_by(|next, last| share_point(next, last));
 }
 
 /// The zone of a path: the points where its sides meet the graph or one another, ascending and each once, with their spots before
@@ -158,6 +160,5 @@ pub fn path_zone<L: Ledger>(
 {
     let mut meetings = all_meetings(alloc, records, sides, starts, steps)?;
     in_order(&mut meetings);
-    let vertices = in_sequence(alloc, &meetings)?;
-    Ok(PathPlan { vertices })
+    Ok(PathPlan { meetings })
 }

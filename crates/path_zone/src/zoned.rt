@@ -1,17 +1,19 @@
-ghost use Rattle.std.specs.Prelude.{◌≡◌, ◌⊎◌, ◌∷◌, [], true, Some, IfSome, OnOk};
+ghost use Rattle.std.specs.Prelude.{◌≡◌, ◌⊎◌, ◌||◌, ◌∷◌, [], true, Some, IfSome, OnOk};
 ghost use Rattle.exact_plane.specs.Meet.{IsOnlyCommon};
+ghost use Rattle.exact_plane.specs.Point.{point_eq};
 ghost use Rattle.exact_plane.specs.Segment.{AreEnds};
 ghost use Rattle.exact_plane.specs.Span.{span_of_segment, IsSpan};
+ghost use Rattle.exact_plane.specs.WholeParts.{excludes};
 ghost use Rattle.plane_graphs.specs.Ascending.{Member};
 ghost use Rattle.face_location.specs.Spots.{IsSpotOf};
 ghost use Rattle.zone_walk.specs.Zone.{IsZoneOf};
 ghost use Rattle.path_zone.specs.Gathered.{HasMore, HasPoint, IsOnZoned, IsSpotWithin};
 ghost use Rattle.path_zone.specs.PathZone.{IsCrossing};
-ghost use Rattle.path_zone.specs.Zoned.{is_over as is_over_side, sides_zoned, AreZonedSides, HasAdded, HasEnds, IsPlaceOver, IsToldOf, IsZonedSide};
+ghost use Rattle.path_zone.specs.Zoned.{has_common_end, is_over as is_over_side, sides_zoned, AreZonedSides, HasAdded, HasEnds, IsPlaceOver, IsToldOf, IsZonedSide};
 
 use crate::order::holds;
 use dcel_records::Spot;
-use exact_plane::{Meet, Point, Segment, Span, line_of, span_meeting};
+use exact_plane::{BoundingBox, Meet, Point, Segment, Span, line_of, span_meeting};
 use no_memory::NoMemory;
 use zone_walk::{Meeting, ZonePlan};
 
@@ -21,6 +23,7 @@ pub(crate) struct ZonedSide {
     pub(crate) side: Segment,
     /// The same, with its line.
     pub(crate) whole: Span,
+    pub(crate) bounds: BoundingBox,
     pub(crate) plan: ZonePlan,
 }
 
@@ -42,12 +45,44 @@ impl ZonedSide {
         ensures plan { result.plan ≡ plan }
         ensures zoned { (v : _) (f : _) → IsZoneOf v f side.now plan → IsZonedSide v f result }
     {
+        let whole = whole(side);
         ZonedSide {
             side: *side,
-            whole: whole(side),
+            whole,
+            bounds: BoundingBox::of(&whole),
             plan,
         }
     }
+}
+
+// Whether a point is one of the ends of a side.
+fn has_end(side: &Segment, point: &Point) -> bool
+    ensures { result ≡ (point_eq side.now.lower point.now || point_eq side.now.upper point.now) }
+{
+    side.lower() == *point || side.upper() == *point
+}
+
+// Whether two sides have an end in common.
+fn share_end(side: &Segment, other: &Segment) -> bool
+    ensures { result ≡ has_common_end side.now other.now }
+{
+    has_end(side, &other.lower()) || has_end(side, &other.upper())
+}
+
+// Whether the box of a side is beyond one side of the box of another one.
+fn are_apart(side: &ZonedSide, other: &ZonedSide) -> bool
+    ensures { result ≡ excludes side.now.bounds other.now.bounds.least other.now.bounds.greatest }
+{
+    side.bounds
+        .excludes(other.bounds.least, other.bounds.greatest)
+}
+
+// Whether it is plain that a side crosses another one nowhere but at a vertex of its own zone: neighbours on a path cross at their
+// common end, if at all.
+fn is_plain(side: &ZonedSide, other: &ZonedSide) -> bool
+    ensures { result ≡ true → (v : _) (f : _) → IsZonedSide v f side.now → IsZonedSide v f other.now → (x : _) → IsCrossing side.now.side other.now.side x → HasPoint side.now.plan.vertices x }
+{
+    are_apart(side, other) || share_end(&side.side, &other.side)
 }
 
 // The one point that two sides have in common. `None` where they have none, or more.
@@ -110,6 +145,9 @@ fn add_crossing(
     ensures more { OnOk result ((v : _) (f : _) → IsZoneOf v f side.now.side side.now.plan → HasMore v f (side.now.side ∷ other.now.side ∷ []) meetings.old.items meetings.new.items) }
     ensures there { OnOk result ((x : _) → IsCrossing side.now.side other.now.side x → HasPoint meetings.new.items x ⊎ HasPoint side.now.plan.vertices x) }
 {
+    if is_plain(side, other) {
+        return Ok(());
+    }
     let Some(point) = common_point(side, other) else {
         return Ok(());
     };

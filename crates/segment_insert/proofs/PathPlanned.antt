@@ -14,7 +14,7 @@ use Rattle.arr_notes.specs.MapView.{MapView}
 use Rattle.curve_history.specs.Past.{Past, curves_on}
 use Rattle.told_steps.specs.RecordLayers.{IsLayer, layer_of}
 use Rattle.path_zone.specs.PathZone.{IsPathZone}
-use Rattle.path_zone.specs.declared.plan.PathPlan.{PathPlan}
+use Rattle.path_zone.specs.Plan.{PathPlan}
 use Rattle.side_parts.specs.declared.part.Part.{Part}
 use Rattle.side_parts.specs.SideParts.{edge_marks, strand_mark}
 use Rattle.zone_walk.specs.Zone.{points_of_meetings}

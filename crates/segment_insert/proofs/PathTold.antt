@@ -23,7 +23,7 @@ use Rattle.arr_notes.specs.Curves.{Curves, AreCurvesOf}
 use Rattle.arr_notes.specs.RecordGraph.{drawn_graph}
 use Rattle.zone_walk.specs.Zone.{meeting_points, points_of_meetings}
 use Rattle.path_zone.specs.PathZone.{IsCrossing, IsPathZone, IsWhereSideMeets, IsWhereSidesMeet}
-use Rattle.path_zone.specs.declared.plan.PathPlan.{PathPlan}
+use Rattle.path_zone.specs.Plan.{PathPlan}
 use Rattle.segment_insert.proofs.Halves.{side_piece, AreTold}
 use Rattle.segment_insert.proofs.Passing.{common_on, met}
 

@@ -15,10 +15,10 @@ ghost use Rattle.segment_insert.specs.StepsMade.{goes_along, AreAllOnSides, AreP
 use crate::edges::{make_edge, vertex_of};
 use curve_history::History;
 use dcel_records::Records;
-use exact_plane::{Direction, Line, Segment, line_of};
+use exact_plane::{Direction, Line};
 use observer_bus::Bus;
 use rotation_order::{Place, place_at};
-use side_parts::Part;
+use side_parts::{Part, Side};
 use slab_laws::{CurveId, VertexId};
 use std::alloc::Global;
 use told_steps::add_side;
@@ -79,7 +79,7 @@ pub(crate) fn make_parts(
     records: &mut Records,
     history: &mut History,
     bus: &mut Bus,
-    sides: &[Segment],
+    sides: &[Side],
     curve: CurveId,
     meetings: &[Meeting],
     parts: &[Part],
@@ -107,7 +107,7 @@ pub(crate) fn make_parts(
 {
     let mut before: Option<Part> = None;
     'each: for part in parts {
-        let line = line_of(&sides[part.side]);
+        let line = sides[part.side].line();
         let side = side_number(part);
         let u = vertex_of(&meetings[part.low]);
         let w = vertex_of(&meetings[part.high]);

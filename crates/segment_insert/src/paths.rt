@@ -28,17 +28,18 @@ use exact_plane::{Path, Point, Segment};
 use no_memory::NoMemory;
 use observer_bus::Bus;
 use path_zone::{PathPlan, path_zone};
-use side_parts::{Part, parts_in_order};
+use side_parts::{Part, Side, parts_in_order, sides_of};
 use slab_laws::{CurveId, Piece};
 use std::alloc::Global;
 use std::sync::ledger::Ledger;
 use work_steps::Steps;
 use zone_walk::Meeting;
 
-// The plan of a path's insertion: its vertices, and the parts of its sides between them.
+// The plan of a path's insertion: its vertices, its sides with their lines, and the parts of these between them.
 #[derive(Drop)]
 struct PathParts {
     plan: PathPlan,
+    sides: Vec<Side>,
     parts: Vec<Part>,
 }
 
@@ -46,7 +47,7 @@ struct PathParts {
 fn points_of(alloc: Global, meetings: &[Meeting]) -> Result<Vec<Point>, NoMemory>
     ensures { IfOk result (λ ps. ps.items ≡ points_of_meetings meetings.now) }
 {
-    let mut points = Vec::new(alloc);
+    let mut points = Vec::with_capacity(alloc, meetings.len())?;
     'each: for meeting in meetings {
         points.push(meeting.point)?;
     }
@@ -54,11 +55,7 @@ fn points_of(alloc: Global, meetings: &[Meeting]) -> Result<Vec<Point>, NoMemory
 }
 
 // The parts of the sides between the points of meetings, in edge order.
-fn parts_between(
-    alloc: Global,
-    meetings: &[Meeting],
-    sides: &[Segment],
-) -> Result<Vec<Part>, NoMemory>
+fn parts_between(alloc: Global, meetings: &[Meeting], sides: &[Side]) -> Result<Vec<Part>, NoMemory>
     requires { IsAscending point_cmp (points_of_meetings meetings.now) }
     ensures { IfOk result (λ ts. AreAllParts (points_of_meetings meetings.now) sides.now ts.items) }
 {
@@ -99,6 +96,7 @@ fn prepare_path<L: Ledger>(
     requires starts { AreStarts records.old.graph (tables_of records.old) sides.now starts.now }
     requires few { length sides.now ≤ 8 }
     ensures zone { IfOk result (λ z. IsPathZone records.old.graph (tables_of records.old) sides.now z.plan) }
+    ensures sides { IfOk result (λ z. z.sides.items ≡ sides.now) }
     ensures parts { IfOk result (λ z. AreAllParts (points_of_meetings z.plan.vertices) sides.now z.parts.items) }
     ensures room { IfOk result (λ z. HasRoomForPath z.plan.vertices z.parts.items (length sides.now) (strands_on history.old) records.new history.new) }
     ensures graph { records.new.graph ≡ records.old.graph }
@@ -109,8 +107,9 @@ fn prepare_path<L: Ledger>(
     ensures same_curves { SameCurves history.old history.new }
 {
     let plan = path_zone(alloc, &*records, sides, starts, steps)?;
-    let vertices = plan.vertices.as_slice();
-    let parts = parts_between(alloc, vertices, sides)?;
+    let vertices = plan.vertices();
+    let lined = sides_of(alloc, sides)?;
+    let parts = parts_between(alloc, vertices, &lined)?;
     let room = room_for(vertices, &parts);
     make_room(
         records,
@@ -120,7 +119,11 @@ fn prepare_path<L: Ledger>(
         sides.len() as u32,
         parts.len(),
     )?;
-    Ok(PathParts { plan, parts })
+    Ok(PathParts {
+        plan,
+        sides: lined,
+        parts,
+    })
 }
 
 // The sides become pieces of the curve, numbered from 1, in room that is there.
@@ -163,6 +166,7 @@ fn insert_by_parts(
     requires map { IsMapAtRest records.old }
     requires sides { ArePathSides sides.now }
     requires zone { IsPathZone records.old.graph (tables_of records.old) sides.now planned.plan }
+    requires lined { planned.sides.items ≡ sides.now }
     requires parts { AreAllParts (points_of_meetings planned.plan.vertices) sides.now planned.parts.items }
     requires unspent { history.old.next ≤ LAST_CURVE }
     requires few { length history.old.pieces + length sides.now < 2 ^ 32 }
@@ -180,14 +184,15 @@ fn insert_by_parts(
 {
     let curve = history.draw();
     add_sides(history, curve, sides);
-    let mut meetings = planned.plan.vertices.into_vec();
+    let mut meetings = planned.plan.into_vertices();
     make_vertices(alloc, records, history, bus, &mut meetings);
+    let lined = planned.sides.as_slice();
     make_parts(
         alloc,
         records,
         history,
         bus,
-        sides,
+        lined,
         curve,
         &meetings,
         &planned.parts,

@@ -1,3 +1,4 @@
+pub mod Boxed
 pub mod Chained
 pub mod Ordered
 pub mod Walked

@@ -5,6 +5,8 @@
 
 mod part;
 mod parts;
+mod side;
 
 pub use part::Part;
-pub use parts::parts_in_order;
+pub use parts::{parts_in_order, sides_of};
+pub use side::Side;

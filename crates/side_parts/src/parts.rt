@@ -1,61 +1,31 @@
-ghost use Rattle.std.specs.Prelude.{◌≡◌, ◌&&◌, ◌++◌, ℕ, map, not, None, IfOk, OnOk};
+ghost use Rattle.std.specs.Prelude.{◌≡◌, ◌++◌, ℕ, map, None, IfOk, OnOk};
 ghost use Rattle.std.specs.List.{AllByRecursion, filter, flat_map};
 ghost use Rattle.exact_plane.specs.PointOrder.{point_cmp};
-ghost use Rattle.exact_plane.specs.Segment.{line_of_segment};
 ghost use Rattle.plane_graphs.specs.Ascending.{ascending, IsAscending};
 ghost use Rattle.plane_graphs.specs.Graph.{chain, mark_cmp};
-ghost use Rattle.plane_graphs.specs.Line.{is_on as is_on_line, precedes};
 ghost use Rattle.plane_graphs.specs.Piece.{on};
 ghost use Rattle.plane_graphs.specs.Strands.{strand_pieces};
 ghost use Rattle.edit_steps.specs.Edits.{path_pieces};
 ghost use Rattle.side_parts.specs.SideParts.{edge_marks, holds as holds_point, part_cmp, parts_from, parts_of_sides, strand_mark, IsPartIn, IsPartOf};
 
 use crate::part::Part;
-use exact_plane::{Point, Segment, Sign, orientation};
+use crate::side::Side;
+use exact_plane::{Point, Segment};
 use no_memory::NoMemory;
 use std::alloc::Global;
-
-// Whether a point is on the line through the ends of a side.
-fn is_on(side: &Segment, point: &Point) -> bool
-    ensures { result ≡ is_on_line (line_of_segment side.now) point.now }
-{
-    orientation(side, point) == Sign::Zero
-}
-
-fn comes_before(p: &Point, q: &Point) -> bool
-    ensures { result ≡ precedes p.now q.now }
-{
-    *p < *q
-}
-
-// Whether a point is neither before the lower nor behind the upper one.
-fn is_within(lower: &Point, upper: &Point, point: &Point) -> bool
-    ensures { result ≡ (not (precedes point.now lower.now) && not (precedes upper.now point.now)) }
-{
-    !comes_before(point, lower) && !comes_before(upper, point)
-}
-
-// Whether a point is on a side.
-fn holds(side: &Segment, point: &Point) -> bool
-    ensures { result ≡ holds_point side.now point.now }
-{
-    let lower = side.lower();
-    let upper = side.upper();
-    is_on(side, point) && is_within(&lower, &upper, point)
-}
 
 // The parts of one side, behind others.
 fn add_parts(
     parts: &mut Vec<Part>,
     points: &[Point],
-    side: &Segment,
+    side: &Side,
     place: usize,
 ) -> Result<(), NoMemory>
     ensures { OnOk result (parts.new.items ≡ parts.old.items ++ parts_from (holds_point side.now) place None 0 points.now) }
 {
     let mut last = None;
     'each: for (at, point) in points.iter().enumerate() {
-        if holds(side, point) {
+        if side.holds(point) {
             if let Some(low) = last {
                 parts.push(Part {
                     low,
@@ -70,14 +40,30 @@ fn add_parts(
 }
 
 // The parts of all sides, one side after the other.
-fn all_parts(alloc: Global, points: &[Point], sides: &[Segment]) -> Result<Vec<Part>, NoMemory>
+fn all_parts(alloc: Global, points: &[Point], sides: &[Side]) -> Result<Vec<Part>, NoMemory>
     ensures { IfOk result (λ ts. ts.items ≡ parts_of_sides points.now 0 sides.now) }
 {
-    let mut parts = Vec::new(alloc);
+    // As many parts as points, and some more where sides cross.
+    let mut parts = Vec::with_capacity(alloc, points.len() + sides.len())?;
     'each: for (place, side) in sides.iter().enumerate() {
         add_parts(&mut parts, points, side, place)?;
     }
     Ok(parts)
+}
+
+/// The sides between the ends of segments.
+///
+/// # Errors
+///
+/// There was no memory for the list.
+pub fn sides_of(alloc: Global, segments: &[Segment]) -> Result<Vec<Side>, NoMemory>
+    ensures { IfOk result (λ ss. ss.items ≡ segments.now) }
+{
+    let mut sides = Vec::with_capacity(alloc, segments.len())?;
+    'each: for segment in segments {
+        sides.push(Side::of(segment))?;
+    }
+    Ok(sides)
 }
 
 /// The parts of sides between neighbours among the points on them: of all sides in edge order, those between the same two points
@@ -92,7 +78,7 @@ fn all_parts(alloc: Global, points: &[Point], sides: &[Segment]) -> Result<Vec<P
 pub fn parts_in_order(
     alloc: Global,
     points: &[Point],
-    sides: &[Segment],
+    sides: &[Side],
 ) -> Result<Vec<Part>, NoMemory>
     ensures within { IfOk result (λ ts. AllByRecursion (IsPartIn points.now) ts.items) }
     ensures sides { IfOk result (λ ts. AllByRecursion (IsPartOf points.now sides.now) ts.items) }

@@ -1,6 +1,6 @@
 use crate::shapes::{Ends, point, segment};
-use exact_plane::{Point, Segment};
-use side_parts::{Part, parts_in_order};
+use exact_plane::Point;
+use side_parts::{Part, Side, parts_in_order};
 use std::alloc::Global;
 use std::test::Fail;
 
@@ -13,10 +13,10 @@ fn points_of(alloc: Global, numbers: &[(i128, i128)]) -> Result<Vec<Point>, Fail
     Ok(points)
 }
 
-fn sides_of(alloc: Global, numbers: &[Ends]) -> Result<Vec<Segment>, Fail> {
+fn sides_of(alloc: Global, numbers: &[Ends]) -> Result<Vec<Side>, Fail> {
     let mut sides = Vec::new(alloc);
     for ends in numbers {
-        sides.push(segment(*ends)?)?;
+        sides.push(Side::of(&segment(*ends)?))?;
     }
     Ok(sides)
 }

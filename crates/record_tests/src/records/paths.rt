@@ -81,7 +81,7 @@ fn has_zone(
     };
     let face = locate(records, &inside);
     let plan = zone_counted::<Brand>(Blank::new(1), alloc, records, &sides)?;
-    let meetings = plan.vertices.as_slice();
+    let meetings = plan.vertices();
     Ok(
         meetings.len() == wanted.len()
             && meetings

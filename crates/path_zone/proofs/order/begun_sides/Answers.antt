@@ -4,7 +4,7 @@ use Rattle.path_zone.proofs.Starts.{start_there, started_all, started_first, sta
 use Rattle.path_zone.proofs.order.begun_sides.Goals as goal
 
 pub sides-init : goal.sides-init
-sides-init c = started_first c.args.sides.now c.args.starts.now c.new-begun.result.items c.new-begun.ensures.items
+sides-init c = started_first c.args.sides.now c.args.starts.now c.in_ok-begun.begun.items c.in_ok-begun.ensures.items
 
 pub bounds-starts-place : goal.bounds-starts-place
 bounds-starts-place c = start_there c.args.sides.now c.args.starts.now c.sides.begun.items c.sides.place c.sides.invariant c.index-sides-place.result c.sides-test.true c.index-sides-place.is c.requires

@@ -10,7 +10,7 @@ in_sweep_order-requires g c = (c.args.records.now.graph, tables_of c.args.record
 
 pub sides-init : goal.sides-init
 sides-init g c =
-    way_first c.args.records.now.graph (tables_of c.args.records.now) c.args.sides.now c.deref-one-items.result.now c.args.steps.now c.new-zones.result.items c.new-meetings.result.items _ c.new-zones.ensures.items c.new-meetings.ensures.items refl
+    way_first c.args.records.now.graph (tables_of c.args.records.now) c.args.sides.now c.deref-one-items.result.now c.args.steps.now c.in_ok-zones.zones.items c.new-meetings.result.items _ c.in_ok-zones.ensures.items c.new-meetings.ensures.items refl
 
 pub add_side-requires-clause-zones : goal.add_side-requires-clause-zones
 add_side-requires-clause-zones g c = c.sides.invariant.zoned

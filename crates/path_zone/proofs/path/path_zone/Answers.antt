@@ -1,4 +1,3 @@
-use Rattle.std.proofs.Common.{◌∙◌}
 use Rattle.dcel_records.specs.RecordsView.{tables_of}
 use Rattle.path_zone.proofs.Planned.{planned}
 use Rattle.path_zone.proofs.path.path_zone.Goals as goal
@@ -8,4 +7,3 @@ returns-clause-zone g c =
     let a = c.in_ok-meetings.ensures in
     let e = c.in_order.ensures in
     planned c.args.records.now.graph (tables_of c.args.records.now) c.args.sides.now c.in_ok-meetings.meetings.items a.more a.each a.own c.in_order.new.meetings.items e.ascend e.from e.points
-    c.in_ok-vertices.vertices (c.in_ok-vertices.ensures ∙ c.deref.ensures.value)

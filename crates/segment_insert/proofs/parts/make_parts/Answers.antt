@@ -80,11 +80,11 @@ next : (g : given.Over) (c : After-vertex_of-w g) → drop c.each.part-index c.a
 next g c = drop_more c.args.parts.now c.each.part-index (part g c) c.each-test.true ∙ ap (λ t. t ∷ drop (c.each.part-index + 1) c.args.parts.now) (sym (is_part g c))
 
 -- it is open, on its side's line
-open_now : (g : given.Over) (c : After-vertex_of-w g) → IsOpenPart c.each.records.graph c.line_of-line.result c.vertex_of-u.result c.vertex_of-w.result
+open_now : (g : given.Over) (c : After-vertex_of-w g) → IsOpenPart c.each.records.graph c.line-line.result c.vertex_of-u.result c.vertex_of-w.result
 open_now g c =
-    let line = subst IsProperLine c.line_of-line.ensures.value (line_is_proper c.line_of-line.result c.line_of-line.ensures.line) in
+    let line = subst IsProperLine c.line-line.ensures.value (line_is_proper c.line-line.result c.line-line.ensures.line) in
     let there = side_open c.args.records.now.graph c.args.meetings.now c.args.sides.now c.args.parts.now (are_given g c) c.each.part-index (part g c) c.index-sides-part.result c.vertex_of-u.result c.vertex_of-w.result (part_at g c) line in
-    subst (λ l. IsOpenPart c.each.records.graph l c.vertex_of-u.result c.vertex_of-w.result) (sym c.line_of-line.ensures.value)
+    subst (λ l. IsOpenPart c.each.records.graph l c.vertex_of-u.result c.vertex_of-w.result) (sym c.line-line.ensures.value)
     (part_stays c.args.records.now.graph c.each.records.graph (line_of_segment c.index-sides-part.result) c.vertex_of-u.result c.vertex_of-w.result c.each.invariant.coming.going.vertices there)
 
 pub vertex_of-u-requires : goal.vertex_of-u-requires

@@ -2,7 +2,7 @@ use Rattle.side_parts.proofs.Walked.{gathered_all, gathered_first, gathered_on}
 use Rattle.side_parts.proofs.parts.all_parts.Goals as goal
 
 pub each-init : goal.each-init
-each-init c = gathered_first _ _ _ c.new-parts.ensures.items
+each-init c = gathered_first _ _ _ c.in_ok-parts.ensures.items
 
 pub each-preserved : goal.each-preserved
 each-preserved c = gathered_on _ _ _ _ c.each.invariant c.index-sides-place.result c.each-test.true c.index-sides-place.is _ c.in_ok-add_parts.ensures
