@@ -11,10 +11,10 @@ use Rattle.std.specs.Ordering.{is_eq}
 use Rattle.region_rings.specs.Holes.{corner_in, turns_wide, lesser_place, is_wide_at, IsLeastAt, IsHole}
 use Rattle.region_rings.proofs.Rounds.{same_vertex}
 
-never : (p : Point) → point_cmp p p ≡ Less → ⊥
+pub never : (p : Point) → point_cmp p p ≡ Less → ⊥
 never p h = let t = tied_itself point_cmp_total p in cc
 
-not_less : (o : Ordering) → is_lt o ≡ false → o ≢ Less
+pub not_less : (o : Ordering) → is_lt o ≡ false → o ≢ Less
 not_less o h e = let f : true ≡ false = ap is_lt (sym e) ∙ h in cc
 
 -- the least corner of the first ones, one more of them

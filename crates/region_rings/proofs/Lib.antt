@@ -7,6 +7,7 @@ pub mod Rounds
 pub mod RingWalks
 pub mod RingsCut
 pub mod HoleTells
+pub mod Nests
 pub mod RingSides
 pub mod Blocked
 pub mod Ties

@@ -1,20 +1,26 @@
 -- The rings of a region's boundary.
-use Rattle.std.specs.Prelude.{◌≡◌, ◌<◌, ℕ, Bool, List, length, slice_index_or}
+use Rattle.std.specs.Prelude.{◌≡◌, ◌<◌, ℕ, Bool, List, length, slice_index_or, Option, None, IfSome}
 use Rattle.exact_plane.specs.Point.{Point}
 use Rattle.polygon_sets.specs.ClosedBorders.{IsNextSide, dart_at}
 use Rattle.region_rings.specs.Cycles.{AreCut, IsAfter}
 use Rattle.region_rings.specs.Holes.{corner_in, AreHoles}
+use Rattle.region_rings.specs.Nesting.{AreLeasts, AreOuters}
 
--- the corners of all rings, one ring after another, where each ring ends among them, and which of them are holes
+-- the corners of all rings, one ring after another, where each ring ends among them, which of them are holes, and of each its least corner and, of a hole, its outer ring
 pub record RingTable : Type 0 where
   pub points : List Point
   pub ends : List ℕ
   pub holes : List Bool
+  pub leasts : List Point
+  pub outers : List (Option ℕ)
 
--- each ring has a corner at least and is told to be a hole or not
+-- each ring has a corner at least, and is told of
 pub record IsRingTable (t : RingTable) : Type 0 where
   pub cut : AreCut (length t.points) t.ends
   pub told : length t.holes ≡ length t.ends
+  pub least : length t.leasts ≡ length t.ends
+  pub nested : length t.outers ≡ length t.ends
+  pub within : (r : ℕ) → r < length t.ends → IfSome (slice_index_or t.outers r None) (λ q. q < length t.ends)
 
 -- the side from one corner to another
 abbrev pub side : RingTable → ℕ → ℕ → Point × Point
@@ -28,7 +34,7 @@ source_at ds k = (dart_at ds k).0
 abbrev pub AreWithin : ℕ → List ℕ → Type 0
 AreWithin n ks = (i : ℕ) → i < length ks → slice_index_or ks i 0 < n
 
--- the sides of the closed rings are the darts, each once; each side is followed by the next one of the boundary; and holes are told (CGAL manual, polygons with holes)
+-- the sides of the closed rings are the darts, each once; each side is followed by the next one of the boundary; and holes are told, with their outer rings (CGAL manual, polygons with holes)
 pub record AreRingsOf (ds : List (Point × Point)) (t : RingTable) : Type 0 where
   pub counted : length t.points ≡ length ds
   pub cut : AreCut (length t.points) t.ends
@@ -37,3 +43,5 @@ pub record AreRingsOf (ds : List (Point × Point)) (t : RingTable) : Type 0 wher
   pub once : (q r i j k l : ℕ) → IsAfter t.ends q i j → IsAfter t.ends r k l → side t i j ≡ side t k l → i ≡ k
   pub rule : (r i j k : ℕ) → IsAfter t.ends r i j → IsAfter t.ends r j k → IsNextSide ds (side t i j) (side t j k)
   pub holes : AreHoles t.points t.ends t.holes
+  pub leasts : AreLeasts t.points t.ends t.leasts
+  pub outers : AreOuters t.points t.ends t.holes t.leasts t.outers

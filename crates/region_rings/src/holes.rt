@@ -1,8 +1,8 @@
 //! Which rings are holes.
 ghost use Rattle.std.specs.Prelude.{◌≡◌, ◌<◌, ◌≤◌, ◌-◌, ◌↔◌, length, take, drop, slice_index_or, IsTrue, IfOk};
 ghost use Rattle.polygon_sets.specs.ClosedBorders.{way_before};
-ghost use Rattle.region_rings.specs.Cycles.{AreCut};
-ghost use Rattle.region_rings.specs.Holes.{corner_in, place_before, place_after, turns_wide, lesser_place, is_wide_at, IsLeastAt, IsHole, AreHoles};
+ghost use Rattle.region_rings.specs.Cycles.{ring_start, AreCut};
+ghost use Rattle.region_rings.specs.Holes.{corner_in, place_before, place_after, turns_wide, lesser_place, is_wide_at, IsLeastAt, IsHole, ring_of, AreHoles};
 
 use crate::spokes::{spoke_to, turn_order};
 use crate::tables::number_at;
@@ -22,7 +22,7 @@ fn place_before(ring: &[Point], place: usize) -> usize
     }
 }
 
-fn place_after(ring: &[Point], place: usize) -> usize
+pub(crate) fn place_after(ring: &[Point], place: usize) -> usize
     requires { place < length ring.now }
     ensures value { result ≡ place_after ring.now place }
     ensures within { result < length ring.now }
@@ -34,7 +34,7 @@ fn place_after(ring: &[Point], place: usize) -> usize
     }
 }
 
-fn corner_at(ring: &[Point], place: usize) -> Point
+pub(crate) fn corner_at(ring: &[Point], place: usize) -> Point
     requires { place < length ring.now }
     ensures { result ≡ corner_in ring.now place }
 {
@@ -74,7 +74,7 @@ fn lesser_place(ring: &[Point], place: usize, other: usize) -> usize
     }
 }
 
-fn least_place(ring: &[Point]) -> usize
+pub(crate) fn least_place(ring: &[Point]) -> usize
     requires { 0 < length ring.now }
     ensures within { result < length ring.now }
     ensures least { IsLeastAt ring.now result }
@@ -108,13 +108,36 @@ fn is_hole(ring: &[Point]) -> bool
     false
 }
 
-/// The corners from one place on up to another.
-pub(crate) fn part_of(points: &[Point], start: usize, end: usize) -> &[Point]
+// The corners from one place on up to another.
+fn part_of(points: &[Point], start: usize, end: usize) -> &[Point]
     requires start { start ≤ end }
     requires end { end ≤ length points.now }
     ensures { result.now ≡ take (end - start) (drop start points.now) }
 {
     &points[start..end]
+}
+
+// Where a ring begins.
+fn start_at(ends: &[usize], ring: usize) -> usize
+    requires { ring < length ends.now }
+    ensures { result ≡ ring_start ends.now ring }
+{
+    if ring == 0 {
+        return 0;
+    }
+    ends[ring - 1]
+}
+
+/// The corners of a ring, of those of all rings.
+pub(crate) fn ring_in<'a>(points: &'a [Point], ends: &[usize], ring: usize) -> &'a [Point]
+    requires cut { AreCut (length points.now) ends.now }
+    requires ring { ring < length ends.now }
+    ensures value { result.now ≡ ring_of points.now ends.now ring }
+    ensures some { 0 < length result.now }
+{
+    let start = start_at(ends, ring);
+    let end = number_at(ends, ring);
+    part_of(points, start, end)
 }
 
 /// Of each ring whether it is a hole.
@@ -131,11 +154,8 @@ pub(crate) fn holes_of(
     ensures { IfOk result (λ v. AreHoles points.now ends.now v.items) }
 {
     let mut holes = Vec::with_capacity(alloc, ends.len())?;
-    let mut start = 0;
     for ring in 0..ends.len() {
-        let end = number_at(ends, ring);
-        holes.push(is_hole(part_of(points, start, end)))?;
-        start = end;
+        holes.push(is_hole(ring_in(points, ends, ring)))?;
     }
     Ok(holes)
 }

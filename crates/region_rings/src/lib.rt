@@ -17,6 +17,11 @@
 //! least corner: the way on from there is met before the way back, clockwise from straight down. Where it passes its least corner
 //! several times, as a hole made of two that touch does, it does so once.
 //!
+//! A polygon is an outer ring and its holes (Open Geospatial Consortium, simple features; CGAL manual, polygons with holes). A hole's
+//! outer ring is the innermost one that goes round it: of the outer rings round its least corner the one whose own least corner is
+//! the greatest. A ring goes round a point where an odd number of its sides pass below it, of those that have just one end on the
+//! right of the point's vertical.
+//!
 //! # What is proved
 //!
 //! `rings_of`, and `rings_along` for any list of darts, say:
@@ -25,6 +30,9 @@
 //!   darts, each in one place of one ring (`cut`: no ring is empty);
 //! - `rule`: each side is followed by the one of which the rule speaks (`IsNextSide`);
 //! - `holes`: a ring is told to be a hole exactly where it turns wide at its least corner (`IsHole`);
+//! - `leasts`: of each ring its least corner is told;
+//! - `outers`: each hole is told an outer ring that goes round its least corner, and no outer ring round that has a greater least
+//!   corner; it is told none only where no outer ring goes round (`IsInnermost`);
 //! - `error`: `RingsError::NotClosed` is answered only of a list that is no closed border (`IsClosedBorder`): two ends of darts at one
 //!   vertex lead in one direction, or a dart isn't followed by any, by the rule.
 //!
@@ -34,19 +42,23 @@
 //!
 //! # What isn't
 //!
-//! No hole is told its outer ring. That a ring which turns wide at its least corner is clockwise is the definition here, and isn't
-//! compared with an area. Nor is there an area: as a fraction it has a denominator that passes every fixed width.
+//! That each hole of a region has an outer ring round it, and that the innermost one bounds the same part of the inside. That a ring
+//! which turns wide at its least corner is clockwise is the definition here, and isn't compared with an area. Nor is there an area:
+//! as a fraction it has a denominator that passes every fixed width.
 //!
 //! # How
 //!
 //! Both ends of all darts are sorted by vertex, and round each vertex clockwise from straight down, by quarters and slopes; slopes are
 //! compared by products of 256 bits, since only the points are known. What follows an end is its neighbour in that list, or, after the
-//! last one of a vertex, the first. Then each cycle is walked once. It takes n log n steps for n darts, and no recursion.
+//! last one of a vertex, the first. Then each cycle is walked once. It takes n log n steps for n darts, and no recursion. For each
+//! hole all sides of the outer ones are looked at, to see which pass below its least corner: so many steps more as there are holes,
+//! times darts.
 #![tactic(auto)]
 
 mod cycles;
 mod errors;
 mod holes;
+mod nesting;
 mod nexts;
 mod ratios;
 mod rings;

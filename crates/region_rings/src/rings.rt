@@ -1,12 +1,12 @@
-ghost use Rattle.std.specs.Prelude.{◌≡◌, ◌<◌, ◌==◌, length, map, slice_index_or, IfOk, IfErr, false};
+ghost use Rattle.std.specs.Prelude.{◌≡◌, ◌<◌, ◌==◌, length, map, slice_index_or, IfOk, IfErr, IfSome, false, None};
 ghost use Rattle.region_rings.specs.Closed.{IsErrorOf};
-ghost use Rattle.region_rings.specs.Cycles.{ring_start};
-ghost use Rattle.region_rings.specs.Holes.{ring_of};
+ghost use Rattle.region_rings.specs.Holes.{corner_in, ring_of};
 ghost use Rattle.region_rings.specs.Rings.{source_at, AreWithin, AreRingsOf};
 
 use crate::cycles::cycles_of;
 use crate::errors::RingsError;
-use crate::holes::{holes_of, part_of};
+use crate::holes::{holes_of, ring_in};
+use crate::nesting::{leasts_of, outers_of};
 use crate::nexts::nexts_of;
 use crate::spokes::sorted_spokes;
 use crate::tables::number_at;
@@ -23,6 +23,8 @@ pub struct Rings {
     points: Vec<Point>,
     ends: Vec<usize>,
     holes: Vec<bool>,
+    leasts: Vec<Point>,
+    outers: Vec<Option<usize>>,
 }
 
 impl Model for Rings {
@@ -30,20 +32,9 @@ impl Model for Rings {
 
     ghost Value = { RingTable };
 
-    ghost view = { λ r. record { points = r.points.items; ends = r.ends.items; holes = r.holes.items } };
+    ghost view = { λ r. record { points = r.points.items; ends = r.ends.items; holes = r.holes.items; leasts = r.leasts.items; outers = r.outers.items } };
 
-    ghost invariant = { λ r. IsRingTable (record { points = r.points.items; ends = r.ends.items; holes = r.holes.items }) };
-}
-
-// Where a ring begins.
-fn start_at(ends: &[usize], ring: usize) -> usize
-    requires { ring < length ends.now }
-    ensures { result ≡ ring_start ends.now ring }
-{
-    if ring == 0 {
-        return 0;
-    }
-    ends[ring - 1]
+    ghost invariant = { λ r. IsRingTable (record { points = r.points.items; ends = r.ends.items; holes = r.holes.items; leasts = r.leasts.items; outers = r.outers.items }) };
 }
 
 impl Rings {
@@ -66,9 +57,15 @@ impl Rings {
         requires { ring < length self.now.ends }
         ensures { result.now ≡ ring_of self.now.points self.now.ends ring }
     {
-        let start = start_at(&self.ends, ring);
-        let end = number_at(&self.ends, ring);
-        part_of(&self.points, start, end)
+        ring_in(&self.points, &self.ends, ring)
+    }
+
+    /// The least corner of a ring, by x, then by y.
+    pub fn least_corner(&self, ring: usize) -> Point
+        requires { ring < length self.now.ends }
+        ensures { result ≡ corner_in self.now.leasts ring }
+    {
+        self.leasts[ring]
     }
 
     /// Whether a ring bounds a hole.
@@ -77,6 +74,16 @@ impl Rings {
         ensures { result ≡ slice_index_or self.now.holes ring false }
     {
         self.holes[ring]
+    }
+
+    /// The outer ring of a hole: of the outer rings that go round its least corner, by the even-odd rule, the innermost one, whose own
+    /// least corner is the greatest. A polygon is an outer ring with the holes that have it here. An outer ring has none.
+    pub fn outer_of(&self, ring: usize) -> Option<usize>
+        requires { ring < length self.now.ends }
+        ensures value { result ≡ slice_index_or self.now.outers ring None }
+        ensures within { IfSome result (λ r. r < length self.now.ends) }
+    {
+        self.outers[ring]
     }
 }
 
@@ -103,7 +110,7 @@ fn sources_of(
     Ok(points)
 }
 
-/// The rings that the darts of a border make. It takes n log n steps for n darts.
+/// The rings that the darts of a border make. It takes n log n steps for n darts, and n for each hole.
 ///
 /// # Errors
 ///
@@ -117,15 +124,19 @@ pub fn rings_along(alloc: Global, darts: &[(Point, Point)]) -> Result<Rings, Rin
     let cycles = cycles_of(alloc, &nexts)?;
     let points = sources_of(alloc, darts, &cycles.order)?;
     let holes = holes_of(alloc, &points, &cycles.ends)?;
+    let leasts = leasts_of(alloc, &points, &cycles.ends)?;
+    let outers = outers_of(alloc, &points, &cycles.ends, &holes, &leasts)?;
     Ok(Rings {
         points,
         ends: cycles.ends,
         holes,
+        leasts,
+        outers,
     })
 }
 
 /// The rings of a region (CGAL manual, Boolean set operations: polygons with holes). Its border is closed, so that there are rings. It
-/// takes n log n steps for n darts.
+/// takes n log n steps for n darts, and n for each hole.
 ///
 /// # Errors
 ///

@@ -62,14 +62,25 @@ fn rise(x: i128, y: i128) -> i128
     }
 }
 
+/// The way from one point to another: how far it runs to the right, and how far it rises, times both weights.
+pub(crate) fn way_to(at: &Point, to: &Point) -> (i128, i128)
+    ensures run { result.0 ≡ (way at.now to.now).x }
+    ensures rise { result.1 ≡ (way at.now to.now).y }
+    ensures small { unsigned_abs result.1 < 2 ^ 127 }
+{
+    at.laws();
+    to.laws();
+    (
+        beyond(to.x(), at.w(), at.x(), to.w()),
+        beyond(to.y(), at.w(), at.y(), to.w()),
+    )
+}
+
 /// The end of a dart at a point, from which it leads to another, or comes.
 pub(crate) fn spoke_to(at: &Point, to: &Point, is_out: bool, dart: usize) -> Spoke
     ensures { result ≡ spoke at.now to.now is_out dart }
 {
-    at.laws();
-    to.laws();
-    let x = beyond(to.x(), at.w(), at.x(), to.w());
-    let y = beyond(to.y(), at.w(), at.y(), to.w());
+    let (x, y) = way_to(at, to);
     Spoke {
         at: *at,
         quarter: quarter(x, y),

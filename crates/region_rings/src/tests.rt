@@ -49,6 +49,26 @@ const FANNED: [(At, At); 10] = [
     ((4, 4), (0, 4)),
 ];
 
+// Two squares, each without a smaller one, the second within what the first is without.
+const NESTED: [(At, At); 16] = [
+    ((0, 0), (8, 0)),
+    ((0, 8), (0, 0)),
+    ((1, 1), (1, 7)),
+    ((1, 7), (7, 7)),
+    ((2, 2), (6, 2)),
+    ((2, 6), (2, 2)),
+    ((3, 3), (3, 5)),
+    ((3, 5), (5, 5)),
+    ((5, 3), (3, 3)),
+    ((5, 5), (5, 3)),
+    ((6, 2), (6, 6)),
+    ((6, 6), (2, 6)),
+    ((7, 1), (1, 1)),
+    ((7, 7), (7, 1)),
+    ((8, 0), (8, 8)),
+    ((8, 8), (0, 8)),
+];
+
 fn point(at: At) -> Result<Point, Fail> {
     let (x, y) = at;
     Ok(Point::new(x, y, 1)?)
@@ -89,6 +109,20 @@ fn is_ring(rings: &Rings, ring: usize, corners: &[At], is_hole: bool) -> Result<
     Ok(found.len() == corners.len())
 }
 
+// Whether the ring has this least corner, and is a hole in an outer ring with that one, or an outer ring where none is wanted.
+fn lies_in(rings: &Rings, ring: usize, least: At, outer: Option<At>) -> Result<bool, Fail> {
+    if rings.len() <= ring || rings.least_corner(ring) != point(least)? {
+        return Ok(false);
+    }
+    match (rings.outer_of(ring), outer) {
+        (Some(found), Some(corner)) => {
+            Ok(rings.is_hole(ring) && rings.least_corner(found) == point(corner)?)
+        }
+        (None, None) => Ok(!rings.is_hole(ring)),
+        _ => Ok(false),
+    }
+}
+
 #[test]
 fn squares_that_touch_are_two_rings(rt: HostRuntime) -> Result<(), Fail> {
     let rings = rings_by(rt.alloc(), &TOUCHING)?;
@@ -125,6 +159,20 @@ fn a_hole_may_touch_itself_at_its_least_corner(rt: HostRuntime) -> Result<(), Fa
     let hole = [(1, 1), (1, 3), (2, 3), (1, 1), (2, 2), (2, 1)];
     assert_eq!(rt; rings.len(), 2);
     assert!(rt; is_ring(&rings, 1, &hole, true)?);
+    Ok(())
+}
+
+#[test]
+fn holes_are_told_their_outer_rings(rt: HostRuntime) -> Result<(), Fail> {
+    let rings = rings_by(rt.alloc(), &NESTED)?;
+    assert_eq!(rt; rings.len(), 4);
+    assert!(rt; lies_in(&rings, 0, (0, 0), None)?);
+    assert!(rt; lies_in(&rings, 1, (1, 1), Some((0, 0)))?);
+    assert!(rt; lies_in(&rings, 2, (2, 2), None)?);
+    assert!(rt; lies_in(&rings, 3, (3, 3), Some((2, 2)))?);
+
+    let holed = rings_by(rt.alloc(), &HOLED)?;
+    assert!(rt; lies_in(&holed, 1, (1, 1), Some((0, 0)))?);
     Ok(())
 }
 

@@ -4,6 +4,7 @@ use crate::layers::edits::{Answer, Edit, Under, apply, at, layer_under};
 use crate::shapes::Ends;
 use arrangement::{Arrangement, Colour, Op, Region, RegionError, overlay, region_of};
 use exact_plane::Point;
+use region_rings::{Rings, rings_of};
 use std::alloc::Global;
 use std::test::Fail;
 
@@ -28,6 +29,29 @@ const HANGING: [Ends; 1] = [(0, 0, 1, 0)];
 
 const NOTHING: [Ends; 0] = [];
 
+// Four squares within one another: two polygons, each with a hole, the second one within the hole of the first.
+const NESTED: [Ends; 16] = [
+    (0, 0, 8, 0),
+    (8, 0, 8, 8),
+    (8, 8, 0, 8),
+    (0, 8, 0, 0),
+    (1, 1, 7, 1),
+    (7, 1, 7, 7),
+    (7, 7, 1, 7),
+    (1, 7, 1, 1),
+    (2, 2, 6, 2),
+    (6, 2, 6, 6),
+    (6, 6, 2, 6),
+    (2, 6, 2, 2),
+    (3, 3, 5, 3),
+    (5, 3, 5, 5),
+    (5, 5, 3, 5),
+    (3, 5, 3, 3),
+];
+
+// The least corners of their rings, both coordinates being one, and of each hole that of its outer ring.
+const OUTERS: [(i128, Option<i128>); 4] = [(0, None), (1, Some(0)), (2, None), (3, Some(2))];
+
 /// What is asked of a region.
 #[derive(Clone, Copy)]
 enum Wanted {
@@ -35,6 +59,8 @@ enum Wanted {
     Darts(&'static [(i128, i128, i128, i128)]),
     /// So many darts.
     Count(usize),
+    /// These rings, by the one whole coordinate of their least corners, and of each hole that of its outer ring.
+    Rings(&'static [(i128, Option<i128>)]),
     /// The layer isn't closed, and this is its least odd end.
     Open(Colour, i128, i128),
 }
@@ -76,11 +102,50 @@ fn are_darts(region: &Region, wanted: &[(i128, i128, i128, i128)]) -> Result<boo
     Ok(darts.len() == wanted.len())
 }
 
+// Whether the ring has this least corner, and is a hole in an outer ring with that one, or an outer ring where none is wanted.
+fn is_nested(rings: &Rings, ring: usize, wanted: &(i128, Option<i128>)) -> Result<bool, Fail> {
+    let (least, within) = *wanted;
+    if rings.len() <= ring || rings.least_corner(ring) != at(least, least)? {
+        return Ok(false);
+    }
+    match (rings.outer_of(ring), within) {
+        (Some(outer), Some(corner)) => {
+            Ok(rings.is_hole(ring) && rings.least_corner(outer) == at(corner, corner)?)
+        }
+        (None, None) => Ok(!rings.is_hole(ring)),
+        _ => Ok(false),
+    }
+}
+
+// No contract tells which ring comes first: here they come by their least corners.
+fn are_nested(rings: &Rings, wanted: &[(i128, Option<i128>)]) -> Result<bool, Fail> {
+    'rings: for (ring, corners) in wanted.iter().enumerate() {
+        if !is_nested(rings, ring, corners)? {
+            return Ok(false);
+        }
+    }
+    Ok(rings.len() == wanted.len())
+}
+
+fn has_rings(
+    alloc: Global,
+    region: &Region,
+    wanted: &[(i128, Option<i128>)],
+) -> Result<bool, Fail> {
+    let rings = rings_of(alloc, region)?;
+    are_nested(&rings, wanted)
+}
+
 // Whether the answer is the one that is wanted.
-fn is_wanted(answer: &Result<Region, RegionError>, wanted: Wanted) -> Result<bool, Fail> {
+fn is_wanted(
+    alloc: Global,
+    answer: &Result<Region, RegionError>,
+    wanted: Wanted,
+) -> Result<bool, Fail> {
     match (answer, wanted) {
         (Ok(region), Wanted::Darts(darts)) => are_darts(region, darts),
         (Ok(region), Wanted::Count(count)) => Ok(region.darts().len() == count),
+        (Ok(region), Wanted::Rings(rings)) => has_rings(alloc, region, rings),
         (Err(RegionError::Open(colour, end)), Wanted::Open(which, x, y)) => {
             Ok(*colour == which && *end == at(x, y)?)
         }
@@ -99,7 +164,7 @@ fn makes(
     let both = overlay(alloc, red, blue)?;
     let answer = region_of(&both, op);
     drop(both);
-    let right = is_wanted(&answer, wanted);
+    let right = is_wanted(alloc, &answer, wanted);
     drop(answer);
     right
 }
@@ -164,6 +229,13 @@ fn two_squares_make_regions(rt: HostRuntime) -> Result<(), Fail> {
 fn a_square_given_twice_makes_nothing(rt: HostRuntime) -> Result<(), Fail> {
     let cases = [(Op::Union, Wanted::Darts(&[]))];
     assert!(rt; are_made(rt.alloc(), &TWICE, &NOTHING, &cases)?);
+    Ok(())
+}
+
+#[test]
+fn holes_are_told_their_outer_rings(rt: HostRuntime) -> Result<(), Fail> {
+    let cases = [(Op::Union, Wanted::Rings(&OUTERS))];
+    assert!(rt; are_made(rt.alloc(), &NESTED, &NOTHING, &cases)?);
     Ok(())
 }
 
