@@ -14,12 +14,13 @@ use Rattle.slab_laws.specs.declared.names.CycleKind.TheVariants.{Outer, Inner}
 use Rattle.slab_laws.specs.declared.names.DartId.{DartId}
 use Rattle.slab_laws.specs.declared.names.FaceId.{FaceId}
 use Rattle.slab_laws.specs.declared.names.VertexId.{VertexId}
-use Rattle.slab_laws.specs.FaceLists.{AreOnce, AreDartsOn, AreFacesListed, Lists, first_of, cycle_follower, vertex_follower}
+use Rattle.slab_laws.specs.FaceLists.{AreOnce, AreDartsOn, AreFacesListed, Lists, first_of, vertex_follower}
 use Rattle.slab_laws.specs.View.{View, Faces, HasDart, HasCycle, HasBareFace, cycle_in, face_in, kind_in, bare_face_in}
 use Rattle.dcel_records.specs.RecordsView.{RecordsView, lists_of, tables_of}
 use Rattle.dcel_records.specs.SoundMaps.{IsSoundMap}
 use Rattle.counted_looks.proofs.ListReads.{IsReading, reads_first, one_more_read, fewer_left, there, all_read}
-use Rattle.counted_looks.proofs.PartsSeen.{cycle_same, cycle_exact, cycle_itself, cycles_left, vertex_same, vertex_exact, vertex_itself, isolated_left}
+use Rattle.counted_looks.proofs.PartsSeen.{vertex_same, vertex_exact, vertex_itself, isolated_left}
+pub use Rattle.lower_envelope.proofs.Boundaries.{AreCyclesRead, cycles_begin, cycles_end, cycle_listed, cycles_nearer, cycles_go_on}
 use Rattle.arrangement.specs.FacesRead.{AreBoundariesOf, AreJust, IsBoundaryOf, IsIsolatedIn, is_kind, kept_darts}
 
 -- ---- one more at the end
@@ -55,39 +56,6 @@ taken {X} {Y} g p done c items e =
     alone : (b : Bool) → map g (cond b (c ∷ []) []) ≡ cond b (g c ∷ []) []
     alone true = refl
     alone false = refl
-
--- ---- the cycles of a face
-abbrev pub AreCyclesRead : Lists → FaceId → (List CycleId → Type 0) → Option CycleId → Type 0
-AreCyclesRead l a T at = IsReading cycle_same cycle_exact cycle_itself (l.cycles a) at T
-
-module _ (f : Faces) (l : Lists) (a : FaceId) (ls : AreFacesListed f l) (at : Option CycleId) (T : List CycleId → Type 0) where
-  pub cycles_begin : at ≡ first_of (l.cycles a) → T [] → AreCyclesRead l a T at
-  cycles_begin e t = subst (λ o. AreCyclesRead l a T o) (sym e) (reads_first cycle_same cycle_exact cycle_itself (l.cycles a) T t)
-
-  module _ (r : AreCyclesRead l a T at) where
-    pub cycles_end : at ≡ None → T (l.cycles a)
-    cycles_end e = all_read cycle_same cycle_exact cycle_itself (l.cycles a) T (subst (λ o. AreCyclesRead l a T o) e r)
-
-    module _ (c : CycleId) (e : at ≡ Some c) where
-      reached : AreCyclesRead l a T (Some c)
-      reached = subst (λ o. AreCyclesRead l a T o) e r
-
-      pub cycle_listed : HasCycle f c × (face_in f c ≡ a)
-      cycle_listed = (ls.cycles a c).0 (there cycle_same cycle_exact cycle_itself (l.cycles a) c T reached)
-
-      module _ (next : Option CycleId) (n : next ≡ cycle_follower c (l.cycles (face_in f c))) where
-        next_is : cycle_follower c (l.cycles a) ≡ next
-        next_is = sym (n ∙ ap (λ b. cycle_follower c (l.cycles b)) cycle_listed.1)
-
-        pub cycles_nearer : cycles_left l a next < cycles_left l a at
-        cycles_nearer =
-            subst (λ (z : Option CycleId × Option CycleId). cycles_left l a z.0 < cycles_left l a z.1) (λ i. (next_is i, sym e i))
-            (fewer_left cycle_same cycle_exact cycle_itself (l.cycles a) c T (ls.cycles_once a) reached)
-
-        pub cycles_go_on : (S : List CycleId → Type 0) → ((done : List CycleId) → T done → S (done ++ (c ∷ []))) → AreCyclesRead l a S next
-        cycles_go_on S k =
-            subst (λ o. AreCyclesRead l a S o) next_is
-            (one_more_read cycle_same cycle_exact cycle_itself (l.cycles a) c T S (ls.cycles_once a) reached k)
 
 -- ---- its isolated vertices
 abbrev pub AreIsolatedRead : Lists → FaceId → (List VertexId → Type 0) → Option VertexId → Type 0

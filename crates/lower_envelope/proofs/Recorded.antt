@@ -1,7 +1,7 @@
 -- What is taken of sound records: the vertices on the boundaries of the unbounded face, among them all that are on an envelope; and edges that aren't vertical, all those that are outermost in a slab.
 use Rattle.std.proofs.Common.{◌≡◌, ℕ, ◌<◌, Bool, true, false, arith, refl, sym, ap, subst, ◌∙◌, inl, inr, List, [], ◌∷◌, length, map, get_or, Ordering, Less, Equal, Greater}
 use Rattle.std.specs.Prelude.{◌*ℤ◌, Some, None}
-use Rattle.std.specs.List.{Contains}
+use Rattle.std.specs.List.{Contains, AllByRecursion}
 use Rattle.std.specs.Option.{option_map}
 use Rattle.std.proofs.lemmas.Bool.{and_parts, and_from, eq-eqb}
 use Rattle.std.proofs.lemmas.Int.{ints}
@@ -16,7 +16,7 @@ use Rattle.plane_graphs.specs.Graph.{Edge}
 use Rattle.plane_graphs.specs.Line.{precedes}
 use Rattle.plane_graphs.proofs.Ascending.{All-member, from_member, to_member}
 use Rattle.plane_graphs.proofs.Lists.{in_map, of_map}
-use Rattle.plane_graphs.proofs.Sorting.{member_at}
+use Rattle.plane_graphs.proofs.Sorting.{all_members, member_at}
 use Rattle.slab_laws.specs.declared.names.DartId.{DartId}
 use Rattle.slab_laws.specs.declared.names.FaceId.{FaceId}
 use Rattle.slab_laws.specs.Cycles.{left_of_dart}
@@ -83,6 +83,12 @@ module _ (v : View) (s : IsGraphSound v) where
   -- a dart that goes to the right goes forward along its edge
   pub right_forward : (d : DartId) → HasDart v d → is_rightward v d ≡ true → IsForward v d
   right_forward d has r = (has, left_precedes (point_in v (source_in v d)) (point_in v (target_in v d)) (source_weight d has) (target_weight d has) r)
+
+  -- so do those on offer
+  pub offered_forward : (w : Which) (f : Faces) (ds : List DartId) → AreOffered w v f ds → AllByRecursion (λ d. IsForward v d) ds
+  offered_forward w f ds on =
+      all_members (λ d. IsForward v d) ds
+      (λ d m. let r = on.are d m in right_forward d r.0 (and_parts (is_rightward v d) (is_named (face_after_in f None) (face_in f (cycle_in f (outward_in w v d)))) r.1).0)
 
   right_edge : (d : DartId) → HasDart v d → is_rightward v d ≡ true → edge_in v d ≡ record { low = point_in v (source_in v d); high = point_in v (target_in v d) }
   right_edge d has r = between_forward (point_in v (source_in v d)) (point_in v (target_in v d)) (right_forward d has r).1

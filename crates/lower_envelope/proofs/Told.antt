@@ -9,17 +9,18 @@ use Rattle.exact_plane.specs.Point.{Point}
 use Rattle.exact_plane.specs.PointOrder.{point_cmp}
 use Rattle.exact_plane.specs.PointOrderLaws.{point_cmp_total}
 use Rattle.exact_plane.specs.Span.{Span}
-use Rattle.plane_graphs.specs.Ascending.{Member, IsAscending}
-use Rattle.plane_graphs.proofs.Ascending.{to_member, from_member, ascending_unique, IsAscending-ascending}
+use Rattle.plane_graphs.specs.Ascending.{Member}
+use Rattle.plane_graphs.proofs.Ascending.{to_member, from_member, ascending_unique}
 use Rattle.plane_graphs.proofs.Lists.{map_map, map_same, filter_of_map, in_map, of_map, in_filter, of_filter, IsAscending-filter}
 use Rattle.plane_graphs.proofs.Sorting.{member_at, any_default}
 use Rattle.slab_laws.specs.declared.names.DartId.{DartId}
-use Rattle.slab_laws.specs.Skeleton.{HasWeight, left_of, on_wall}
+use Rattle.slab_laws.specs.Skeleton.{left_of, on_wall}
 use Rattle.slab_laws.specs.FacesSound.{IsSound}
 use Rattle.slab_laws.specs.Sound.{skeleton_of, edge_in}
 use Rattle.slab_laws.specs.SpansDrawn.{edge_of}
 use Rattle.slab_laws.specs.View.{View, Faces, HasVertex, dart_id, vertex_id, point_in}
 use Rattle.arr_notes.specs.Curves.{IsForward}
+use Rattle.sound_changes.proofs.KnownNames.{points_ascend}
 use Rattle.record_orders.specs.declared.vertices.VertexKey.{VertexKey}
 use Rattle.envelope_laws.specs.declared.which.Which.{Which}
 use Rattle.envelope_laws.specs.declared.which.Which.TheVariants.{Lower, Upper}
@@ -31,7 +32,7 @@ use Rattle.lower_envelope.specs.declared.corner.Envelope.{Envelope}
 use Rattle.lower_envelope.specs.declared.slab_edges.SlabEdges.{SlabEdges}
 use Rattle.lower_envelope.specs.declared.slabs.Stretch.{Stretch}
 use Rattle.lower_envelope.specs.Slabs.{further_at, covers, AreSlanted, AreWithin, AreInTurn, IsBest, ArePlaces}
-use Rattle.lower_envelope.specs.Edges.{AreOffered, IsInOrder, stretch_at, stretches_upto}
+use Rattle.lower_envelope.specs.Edges.{point_at, AreOffered, IsInOrder, stretch_at, stretches_upto}
 use Rattle.lower_envelope.specs.Corners.{AreOuterEnds, edge_at, dart_at, key_at, is_outer, stands_right, corner_of, all_but_last, AreSlabsOf, AreFitted, AreSlabEdgesOf, is_seen, corner_at, one_or_none, corners_upto, IsEnvelopeOf}
 use Rattle.lower_envelope.proofs.Recorded.{key_out, are_ends, ends_in_order, extreme_listed, along, forward_at, counted, edges_recorded}
 use Rattle.lower_envelope.proofs.Tied.{AreEdgesOf, within, turns, slabs_told}
@@ -96,9 +97,6 @@ outer_same : (w : Which) (ks : List VertexKey) (k : ℕ) → k < length ks → i
 outer_same Lower ks k l = ap₂ (λ p q. (k == 0) || not (on_wall p q)) (point_same ks (k - 1)) (point_same ks k)
 outer_same Upper ks k l = ap₂ (λ a b. a || b) (ap (λ n. k + 1 == n) (sym (length-map ks (λ x. x.point)))) (ap₂ (λ p q. not (on_wall p q)) (point_same ks k) (point_same ks (k + 1)))
 
-vertices_ascend : (v : View) → IsAscending point_cmp (skeleton_of v).vertices
-vertices_ascend v = IsAscending-ascending point_cmp point_cmp_total (map (λ r. r.1.point) v.vertices)
-
 -- ---- names in the order of their points, those that pass, each with the edge on its right
 module _ (w : Which) (v : View) (f : Faces) (S : IsSound v f) (ks : List VertexKey) (h : AreOuterEnds v f ks) where
   -- the points of those that are on the envelope are the outline's vertices
@@ -110,7 +108,7 @@ module _ (w : Which) (v : View) (f : Faces) (S : IsSound v f) (ks : List VertexK
       let ends = are_ends v S.graph f S ks h in
       ascending_unique point_cmp point_cmp_total (filter p ps) (filter p g.vertices)
       (IsAscending-filter point_cmp p ps ends.ascends)
-      (IsAscending-filter point_cmp p g.vertices (vertices_ascend v))
+      (IsAscending-filter point_cmp p g.vertices (points_ascend v))
       (λ q m. let r = of_filter p q ps m in in_filter p q g.vertices (to_member g.vertices q (ends.are q r.0).0) r.1)
       (λ q m. let r = of_filter p q g.vertices m in in_filter p q ps (extreme_listed v S.graph f S ks h w q (from_member g.vertices q r.0) r.1) r.1)
 
@@ -233,10 +231,12 @@ corners_are w v f S ks k_is e h =
     ap (λ b. cond b (Some (g (key_at ks k))) None) (listed_is w v f S ks k_is e.darts.items e.edges.items h.darts h.edges e.points.items e.outermost.items h.slabs h.points k l)) (length ks) (omega arith)
     ∙ ap (λ xs. map g (filter p xs)) (take_all (length ks) ks (omega arith))
 
-pub end_weight : (v : View) (f : Faces) (S : IsSound v f) (ks : List VertexKey) → AreOuterEnds v f ks → (k : ℕ) → k < length ks → HasWeight (key_at ks k).point
-end_weight v f S ks h k l =
-    let m = member_at ks k (record { point = record { x = pos 0; y = pos 0; w = pos 0 }; name = vertex_id 0 }) l in
-    (ends_in_order v S.graph f S ks h).proper (key_at ks k).point (in_map (λ k. k.point) (key_at ks k) ks m)
+-- the point of an end, as the slabs are told by it
+pub point_is : (ps : List Point) (ks : List VertexKey) (k : ℕ) → ps ≡ map (λ x. x.point) ks → point_at ps k ≡ (key_at ks k).point
+point_is ps ks k e = ap (λ qs. point_at qs k) e ∙ sym (point_same ks k)
+
+pub place_fits : (ps : List Point) (ks : List VertexKey) (k : ℕ) → ps ≡ map (λ x. x.point) ks → k < length ks → k < length ps
+place_fits ps ks k e l = subst (λ n. k < n) (sym (ap length e ∙ length-map ks (λ x. x.point))) l
 
 -- the vertex that is looked at
 pub at_key : (ks : List VertexKey) (k : ℕ) (u : VertexKey) → k < length ks → u ≡ get_or ks k u → u ≡ key_at ks k

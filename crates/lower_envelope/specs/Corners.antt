@@ -1,15 +1,16 @@
 -- The vertices of an envelope, told by the ends of edges in their order and by the outermost edge of each slab.
 use Rattle.std.specs.Prelude.{◌≡◌, ◌↔◌, ◌+◌, ◌-◌, ◌<◌, ◌==◌, ◌||◌, ◌&&◌, ℕ, zero, suc, pos, Bool, not, cond, List, [], ◌∷◌, ◌++◌, map, length, slice_index_or, Option, Some, None}
-use Rattle.std.specs.List.{Contains, count_by}
+use Rattle.std.specs.List.{Contains}
 use Rattle.std.specs.Option.{option_map}
 use Rattle.exact_plane.specs.Point.{Point}
 use Rattle.exact_plane.specs.PointOrder.{point_cmp}
 use Rattle.exact_plane.specs.Span.{Span}
+use Rattle.exact_plane.specs.WholeParts.{whole_parts}
 use Rattle.plane_graphs.specs.Ascending.{Member, IsAscending}
 use Rattle.plane_graphs.specs.Graph.{Edge}
 use Rattle.slab_laws.specs.declared.names.DartId.{DartId}
 use Rattle.slab_laws.specs.declared.names.VertexId.{VertexId}
-use Rattle.slab_laws.specs.Skeleton.{Skeleton, left_of, on_wall}
+use Rattle.slab_laws.specs.Skeleton.{Skeleton, on_wall}
 use Rattle.slab_laws.specs.Slabs.{slab_right}
 use Rattle.slab_laws.specs.Sound.{skeleton_of, edge_in}
 use Rattle.slab_laws.specs.SpansDrawn.{edge_of}
@@ -21,11 +22,12 @@ use Rattle.envelope_laws.specs.Envelopes.{outline}
 use Rattle.envelope_laws.specs.Outermost.{IsOutermostOf, hides}
 use Rattle.record_orders.specs.declared.vertices.VertexKey.{VertexKey}
 use Rattle.record_orders.specs.Keys.{vertex_key}
+use Rattle.lower_envelope.specs.declared.boundary.EndKey.{EndKey}
 use Rattle.lower_envelope.specs.declared.corner.Corner.{Corner}
 use Rattle.lower_envelope.specs.declared.corner.Envelope.{Envelope}
 use Rattle.lower_envelope.specs.declared.slab_edges.SlabEdges.{SlabEdges}
 use Rattle.lower_envelope.specs.Slabs.{span_at, ArePlaces}
-use Rattle.lower_envelope.specs.Edges.{AreOffered, IsInOrder, IsOuterDart}
+use Rattle.lower_envelope.specs.Edges.{slab_right_of, AreOffered, IsInOrder, IsOuterDart}
 
 -- the edge at a place, if there is one
 abbrev pub edge_at : List Span → Option ℕ → Option Edge
@@ -39,6 +41,10 @@ dart_at darts (Some k) = Some (slice_index_or darts k (dart_id 0))
 -- the source of a dart, with its point
 abbrev pub source_key : View → DartId → VertexKey
 source_key v d = vertex_key v (source_in v d)
+
+-- it, and before it the whole part of its abscissa
+abbrev pub end_key : View → DartId → EndKey
+end_key v d = record { whole = (whole_parts (source_key v d).point).x; vertex = source_key v d }
 
 -- the vertices on the boundaries of the unbounded face, in the order of their points, each once
 pub record AreOuterEnds (v : View) (f : Faces) (ks : List VertexKey) : Type 0 where
@@ -55,7 +61,7 @@ is_outer Upper ends k = (k + 1 == length ends) || not (on_wall (key_at ends k).p
 
 -- what the slab on the right of the point's wall has
 abbrev pub stands_right : List Point → List (Option ℕ) → Point → Option ℕ
-stands_right points slabs p = slice_index_or slabs (count_by (λ v. not (left_of p v)) points) None
+stands_right points slabs p = slice_index_or slabs (slab_right_of points p) None
 
 abbrev pub corner_of : List Point → List DartId → List (Option ℕ) → VertexKey → Corner
 corner_of points darts slabs k = record { vertex = k.name; edge = dart_at darts (stands_right points slabs k.point) }

@@ -5,12 +5,12 @@ ghost use Rattle.slab_laws.specs.FacesSound.{IsSound};
 ghost use Rattle.slab_laws.specs.Sound.{IsGraphSound};
 ghost use Rattle.slab_laws.specs.View.{HasDart, HasFace};
 ghost use Rattle.lower_envelope.specs.Edges.{AreDartsOfFace, AreOuterDarts, AreWithCycle};
-ghost use Rattle.lower_envelope.specs.Corners.{AreOuterEnds, source_key};
+ghost use Rattle.lower_envelope.specs.Corners.{AreOuterEnds, end_key};
 
 use no_memory::NoMemory;
 use record_orders::VertexKey;
 use slab_laws::{DartId, Darts, FaceId, FaceLists, Faced};
-use std::alloc::Global;
+use std::alloc::{AllocError, Global};
 
 // Appends the darts of a cycle, from one of them on.
 fn push_cycle<R: Faced>(found: &mut Vec<DartId>, records: &R, first: DartId) -> Result<(), NoMemory>
@@ -69,15 +69,25 @@ pub(crate) fn outer_boundary<R: FaceLists>(
     }
 }
 
-// The source of a dart, with its point.
-fn source_of<R: Darts>(records: &R, dart: DartId) -> VertexKey
+// A vertex with its point, and before them the whole part of its abscissa, which mostly tells the order alone.
+#[derive(Clone, Copy, PartialEq, Eq, PartialOrd, Ord)]
+pub(crate) struct EndKey {
+    pub(crate) whole: i32,
+    pub(crate) vertex: VertexKey,
+}
+
+// The source of a dart.
+fn source_of<R: Darts>(records: &R, dart: DartId) -> EndKey
     requires sound { IsGraphSound (R.graph records.now) }
     requires has { HasDart (R.graph records.now) dart }
-    ensures { result ≡ source_key (R.graph records.now) dart }
+    ensures { result ≡ end_key (R.graph records.now) dart }
 {
     let name = records.source(dart);
     let point = records.point(name);
-    VertexKey { point, name }
+    EndKey {
+        whole: point.whole_parts().x,
+        vertex: VertexKey { point, name },
+    }
 }
 
 // The sources of darts.
@@ -85,16 +95,22 @@ fn sources_of<R: Darts>(
     alloc: Global,
     records: &R,
     darts: &[DartId],
-) -> Result<Vec<VertexKey>, NoMemory>
+) -> Result<Vec<EndKey>, NoMemory>
     requires sound { IsGraphSound (R.graph records.now) }
     requires have { AllByRecursion (λ d. HasDart (R.graph records.now) d) darts.now }
-    ensures { IfOk result (λ v. v.items ≡ map (source_key (R.graph records.now)) darts.now) }
+    ensures { IfOk result (λ v. v.items ≡ map (end_key (R.graph records.now)) darts.now) }
 {
     let mut sources = Vec::new(alloc);
     for dart in darts {
         sources.push(source_of(records, *dart))?;
     }
     Ok(sources)
+}
+
+fn vertices_in(alloc: Global, keys: &[EndKey]) -> Result<Vec<VertexKey>, AllocError>
+    ensures { IfOk result (λ v. v.items ≡ map (λ k. k.vertex) keys.now) }
+{
+    keys.iter().map(|key| key.vertex).collect(alloc)
 }
 
 /// The vertices on the boundaries of the unbounded face, from the darts there: in the order of their points, each once.
@@ -111,8 +127,9 @@ pub(crate) fn ends_of<R: Faced>(
     requires boundary { AreOuterDarts (R.graph records.now) (R.faces records.now) boundary.now }
     ensures { IfOk result (λ v. AreOuterEnds (R.graph records.now) (R.faces records.now) v.items) }
 {
-    let mut ends = sources_of(alloc, records, boundary)?;
-    ends.sort_unstable();
-    ends.dedup();
+    let mut keys = sources_of(alloc, records, boundary)?;
+    keys.sort_unstable();
+    keys.dedup();
+    let ends = vertices_in(alloc, &keys)?;
     Ok(ends)
 }

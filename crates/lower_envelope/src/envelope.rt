@@ -1,16 +1,17 @@
 ghost use Rattle.std.specs.Prelude.{◌≡◌, ◌<◌, ℕ, map, length, Some, IfOk};
 ghost use Rattle.slab_laws.specs.FaceLists.{AreDartsOn, AreFacesListed};
 ghost use Rattle.slab_laws.specs.FacesSound.{IsSound};
-ghost use Rattle.slab_laws.specs.Skeleton.{HasWeight};
 ghost use Rattle.slab_laws.specs.SpansDrawn.{edge_of};
 ghost use Rattle.envelope_laws.specs.Envelopes.{edge_beyond};
 ghost use Rattle.envelope_laws.specs.Outermost.{hides};
-ghost use Rattle.lower_envelope.specs.Corners.{edge_at, key_at, is_outer, dart_at, corner_at, corners_upto};
+ghost use Rattle.lower_envelope.specs.Corners.{edge_at, key_at, is_outer, dart_at, stands_right, corner_at, corners_upto};
 ghost use Rattle.lower_envelope.specs.Corners.{all_but_last, AreFitted, IsEnvelopeOf};
 
 use crate::boundary::{ends_of, outer_boundary};
 use crate::corner::{Corner, Envelope};
-use crate::slab_edges::{SlabEdges, place_right, slab_edges_of};
+use crate::edges::slab_beyond;
+use crate::slab_edges::{SlabEdges, slab_edges_of};
+use crate::slabs::stands_at;
 use edge_predicates::{is_on_wall, is_over, is_under};
 use envelope_laws::Which;
 use exact_plane::{Point, Span};
@@ -53,6 +54,16 @@ fn is_hidden(which: Which, slabs: &SlabEdges, stands: Option<usize>, point: &Poi
     }
 }
 
+// The place of the outermost edge of the slab on the right of an end.
+fn place_right(ends: &[VertexKey], slabs: &SlabEdges, place: usize) -> Option<usize>
+    requires fitted { AreFitted slabs.now }
+    requires points { slabs.now.points.items ≡ map (λ k. k.point) ends.now }
+    requires place { place < length ends.now }
+    ensures { result ≡ stands_right slabs.now.points.items slabs.now.outermost.items (key_at ends.now place).point }
+{
+    stands_at(&slabs.outermost, slab_beyond(&slabs.points, place))
+}
+
 // Its dart.
 fn dart_of(slabs: &SlabEdges, stands: Option<usize>) -> Option<DartId>
     requires { (a : ℕ) → stands ≡ Some a → a < length slabs.now.darts.items }
@@ -67,12 +78,12 @@ fn dart_of(slabs: &SlabEdges, stands: Option<usize>) -> Option<DartId>
 // The end at a place, if it is on the envelope, with the edge on its right.
 fn corner_of(which: Which, ends: &[VertexKey], slabs: &SlabEdges, place: usize) -> Option<Corner>
     requires fitted { AreFitted slabs.now }
+    requires points { slabs.now.points.items ≡ map (λ k. k.point) ends.now }
     requires place { place < length ends.now }
-    requires weight { HasWeight (key_at ends.now place).point }
     ensures { result ≡ corner_at which ends.now slabs.now place }
 {
     let end = ends[place];
-    let stands = place_right(slabs, &end.point);
+    let stands = place_right(ends, slabs, place);
     if is_outermost(which, ends, place) && !is_hidden(which, slabs, stands, &end.point) {
         Some(Corner {
             vertex: end.name,
@@ -91,7 +102,7 @@ fn corners_of(
     slabs: &SlabEdges,
 ) -> Result<Vec<Corner>, NoMemory>
     requires fitted { AreFitted slabs.now }
-    requires weights { (k : ℕ) → k < length ends.now → HasWeight (key_at ends.now k).point }
+    requires points { slabs.now.points.items ≡ map (λ k. k.point) ends.now }
     ensures { IfOk result (λ v. v.items ≡ corners_upto (corner_at which ends.now slabs.now) (length ends.now)) }
 {
     let mut corners = Vec::new(alloc);

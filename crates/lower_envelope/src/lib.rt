@@ -12,6 +12,7 @@ mod corner;
 mod edges;
 mod envelope;
 mod envelope_text;
+mod order;
 mod slab_edges;
 mod slabs;
 

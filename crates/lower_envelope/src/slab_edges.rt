@@ -1,11 +1,10 @@
-ghost use Rattle.std.specs.Prelude.{◌≡◌, IfOk};
+ghost use Rattle.std.specs.Prelude.{IfOk};
 ghost use Rattle.slab_laws.specs.FacesSound.{IsSound};
-ghost use Rattle.slab_laws.specs.Skeleton.{HasWeight};
-ghost use Rattle.lower_envelope.specs.Edges.{AreOuterDarts, IsInOrder};
-ghost use Rattle.lower_envelope.specs.Corners.{AreOuterEnds, AreSlabEdgesOf, stands_right};
+ghost use Rattle.lower_envelope.specs.Edges.{AreOuterDarts};
+ghost use Rattle.lower_envelope.specs.Corners.{AreOuterEnds, AreSlabEdgesOf};
 
-use crate::edges::{darts_of, slab_of, spans_of, stretches_of};
-use crate::slabs::{outermost_of, stands_at};
+use crate::edges::{darts_of, spans_of, stretches_of};
+use crate::slabs::outermost_of;
 use envelope_laws::Which;
 use exact_plane::{Point, Span};
 use no_memory::NoMemory;
@@ -55,13 +54,4 @@ pub(crate) fn slab_edges_of<R: Faced>(
         edges,
         outermost,
     })
-}
-
-/// The place of the outermost edge of the slab on the right of a point's wall.
-pub(crate) fn place_right(slabs: &SlabEdges, at: &Point) -> Option<usize>
-    requires order { IsInOrder slabs.now.points.items }
-    requires at { HasWeight at.now }
-    ensures { result ≡ stands_right slabs.now.points.items slabs.now.outermost.items at.now }
-{
-    stands_at(&slabs.outermost, slab_of(&slabs.points, at))
 }

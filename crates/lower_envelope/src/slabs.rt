@@ -2,7 +2,7 @@ ghost use Rattle.std.specs.Prelude.{◌≡◌, ◌<◌, ◌==◌, ℕ, map, filt
 ghost use Rattle.lower_envelope.specs.Slabs.{further_at, is_new, ends_at, inner, is_proper, covers};
 ghost use Rattle.lower_envelope.specs.Slabs.{AreSlanted, ArePlaces, IsOffered, AreJoined, IsWithin, AreWithin, AreInTurn, AreBest};
 
-use edge_predicates::is_below;
+use crate::order::is_lower;
 use envelope_laws::Which;
 use exact_plane::Span;
 use no_memory::NoMemory;
@@ -24,8 +24,8 @@ fn is_further(which: Which, edges: &[Span], first: usize, second: usize) -> bool
     ensures { result ≡ further_at which edges.now first second }
 {
     match which {
-        Which::Lower => is_below(&edges[first], &edges[second]),
-        Which::Upper => is_below(&edges[second], &edges[first]),
+        Which::Lower => is_lower(&edges[first], &edges[second]),
+        Which::Upper => is_lower(&edges[second], &edges[first]),
     }
 }
 

@@ -4,9 +4,6 @@ use Rattle.lower_envelope.proofs.Told.{none_upto, corner_more, corner_missing}
 use Rattle.lower_envelope.proofs.envelope.corners_of.Goals as goal
 use Rattle.lower_envelope.proofs.envelope.corners_of.Goals.{in-Some+in_ok-push, in_default}
 
-pub corner_of-requires-clause-weight : goal.corner_of-requires-clause-weight
-corner_of-requires-clause-weight c = c.requires.weights c.loop-place.place c.loop-place-test.true
-
 pub loop-place-init : goal.loop-place-init
 loop-place-init c = c.new-corners.ensures.items ∙ sym (none_upto (corner_at c.args.which c.args.ends.now c.args.slabs.now))
 

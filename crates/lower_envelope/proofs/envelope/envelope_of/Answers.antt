@@ -1,7 +1,7 @@
 use Rattle.std.proofs.Common.{◌∙◌, ap, map, sym, subst, length}
 use Rattle.lower_envelope.specs.Edges.{AreOuterDarts}
 use Rattle.lower_envelope.specs.Corners.{AreOuterEnds, AreSlabEdgesOf, all_but_last, corner_at, corners_upto}
-use Rattle.lower_envelope.proofs.Told.{are_fitted, end_weight, all_told}
+use Rattle.lower_envelope.proofs.Told.{are_fitted, all_told}
 use Rattle.lower_envelope.proofs.envelope.envelope_of.Goals as goal
 
 pub ends_of-requires-clause-boundary : goal.ends_of-requires-clause-boundary
@@ -20,11 +20,8 @@ corners_of-requires-clause-fitted g c =
     let ends = subst (AreOuterEnds v f) (sym c.deref-3.ensures.value) c.in_ok-ends.ensures in
     are_fitted c.args.which v f c.requires.sound c.deref-3.result.now ends c.in_ok-slabs.slabs c.in_ok-slabs.ensures
 
-pub corners_of-requires-clause-weights : goal.corners_of-requires-clause-weights
-corners_of-requires-clause-weights g c =
-    let v = g.R.Darts.graph c.args.records.now in
-    let f = g.R.Faced.faces c.args.records.now in
-    end_weight v f c.requires.sound c.deref-4.result.now (subst (AreOuterEnds v f) (sym c.deref-4.ensures.value) c.in_ok-ends.ensures)
+pub corners_of-requires-clause-points : goal.corners_of-requires-clause-points
+corners_of-requires-clause-points g c = c.in_ok-slabs.ensures.points ∙ ap (map (λ k. k.point)) (c.deref-3.ensures.value ∙ sym c.deref-4.ensures.value)
 
 pub returns : goal.returns
 returns g c =

@@ -1,20 +1,20 @@
 use Rattle.std.proofs.Common.{◌∙◌, ap, ap₂, sym, subst, length, map}
 use Rattle.slab_laws.specs.Sound.{edge_in}
 use Rattle.lower_envelope.specs.Edges.{AreOffered, IsInOrder, stretch_at, stretches_upto}
-use Rattle.lower_envelope.proofs.Numbers.{outer_have, offered_have, are_offered}
-use Rattle.lower_envelope.proofs.Recorded.{ends_in_order}
+use Rattle.lower_envelope.proofs.Numbers.{outer_have, are_offered}
+use Rattle.lower_envelope.proofs.Recorded.{ends_in_order, offered_forward}
 use Rattle.lower_envelope.proofs.Told.{slanted_at, within_at, turns_at, slab_edges_at}
 use Rattle.lower_envelope.proofs.slab_edges.slab_edges_of.Goals as goal
 
 pub darts_of-requires-clause-have : goal.darts_of-requires-clause-have
 darts_of-requires-clause-have g c = outer_have (g.R.Darts.graph c.args.records.now) (g.R.Faced.faces c.args.records.now) c.args.boundary.now c.requires.boundary
 
-pub spans_of-requires-clause-have : goal.spans_of-requires-clause-have
-spans_of-requires-clause-have g c =
+pub spans_of-requires-clause-forward : goal.spans_of-requires-clause-forward
+spans_of-requires-clause-forward g c =
     let v = g.R.Darts.graph c.args.records.now in
     let f = g.R.Faced.faces c.args.records.now in
     let on = subst (AreOffered c.args.which v f) (sym c.in_ok-darts.ensures) (are_offered c.args.which v c.requires.sound.graph f c.args.boundary.now c.requires.boundary) in
-    offered_have c.args.which v f c.deref.result.now (subst (AreOffered c.args.which v f) (sym c.deref.ensures.value) on)
+    offered_forward v c.requires.sound.graph c.args.which f c.deref.result.now (subst (AreOffered c.args.which v f) (sym c.deref.ensures.value) on)
 
 pub stretches_of-requires : goal.stretches_of-requires
 stretches_of-requires g c =
