@@ -1,0 +1,5 @@
+pub mod Entries
+pub mod Grown
+pub mod Indexed
+pub mod Nodes
+pub mod NodesFall
