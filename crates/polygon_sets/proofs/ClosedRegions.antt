@@ -1,14 +1,14 @@
--- The border of what two sets of faces make is closed.
+-- The border of a set of faces is closed.
 use Rattle.std.proofs.Common.{◌≡◌, ◌≢◌, ℕ, ◌<◌, Bool, true, false, cond, not, ◌&&◌, arith, refl, sym, ap, ◌∙◌, subst, inl, inr, List, length, map, get_or}
 use Rattle.std.specs.List.{Contains, filter}
-use Rattle.std.proofs.lemmas.Bool.{false≢true, and_parts}
+use Rattle.std.proofs.lemmas.Bool.{false≢true, and_parts, cases_Bool}
 use Rattle.std.proofs.lemmas.List.{length-map, get_or-map}
 use Rattle.std.proofs.lemmas.List.Elements.{Contains-get_or}
 use Rattle.exact_plane.specs.Point.{Point}
 use Rattle.plane_graphs.specs.Ascending.{Member, IsAscending}
 use Rattle.plane_graphs.specs.Graph.{Edge}
 use Rattle.plane_graphs.proofs.Ascending.{to_member, from_member}
-use Rattle.plane_graphs.proofs.Lists.{not_out, in_filter, of_filter, of_map, IsAscending-filter}
+use Rattle.plane_graphs.proofs.Lists.{not_out, in_filter, of_filter, in_map, of_map, IsAscending-filter}
 use Rattle.plane_graphs.proofs.Sorting.{any_default}
 use Rattle.slab_laws.specs.declared.slab_cell.SlabCell.{SlabCell}
 use Rattle.slab_laws.specs.Cycles.{left_of_dart}
@@ -16,21 +16,21 @@ use Rattle.slab_laws.specs.Darts.{Dart, source, target, darts}
 use Rattle.slab_laws.specs.Meets.{SameFace}
 use Rattle.slab_laws.specs.Rotation.{dart_cmp, twin, earlier, OutOf}
 use Rattle.slab_laws.specs.Rows.{dart_list, no_dart}
-use Rattle.slab_laws.specs.Skeleton.{Skeleton, IsPlaneSkeleton}
-use Rattle.slab_faces.proofs.DartOrder.{dart_cmp_total, list_ascends, listed_in, listed_out}
+use Rattle.slab_laws.specs.Skeleton.{Skeleton, same_point, IsPlaneSkeleton}
+use Rattle.slab_faces.proofs.DartOrder.{dart_cmp_total, list_ascends, listed_in, listed_out, one_dart as one_end_dart}
 use Rattle.slab_faces.proofs.Member.{in_member, member_in}
 use Rattle.slab_faces.proofs.NextLemmas.{dart_in, dart_out}
+use Rattle.slab_faces.proofs.Parity.{same_point_is, same_point_refl}
 use Rattle.rotation_order.specs.EdgeParts.{IsForwardEdge}
+use Rattle.rotation_order.specs.RingOrder.{sooner_by}
+use Rattle.rotation_order.proofs.RingOrders.{round_by}
 use Rattle.rotation_order.proofs.RingTurned.{strict_at}
 use Rattle.rotation_order.proofs.Turning.{soon}
 use Rattle.sound_views.proofs.RoundTurned.{twin_twice}
 use Rattle.dart_orbits.proofs.Placed.{AreApart, one_place, ascending_apart}
-use Rattle.set_laws.specs.declared.op.Op.{Op}
-use Rattle.set_laws.specs.EvenOdd.{by_op, op_in, turns_at, border}
-use Rattle.set_laws.specs.EvenOddLaws.{IsOfFaces}
-use Rattle.set_laws.proofs.OpRegions.{border_is_listed}
 use Rattle.polygon_sets.specs.ClosedBorders.{no_dart as no_ends, dart_at, way_before, is_sooner, IsNextSide, end_of, IsOneWay, IsClosedBorder}
 use Rattle.polygon_sets.specs.Regions.{dart_ends}
+use Rattle.polygon_sets.proofs.BorderSets.{is_side}
 use Rattle.polygon_sets.proofs.WaysRound.{way_order}
 use Rattle.polygon_sets.proofs.Onward.{Differs, IsOnward, first_onward}
 
@@ -38,44 +38,29 @@ use Rattle.polygon_sets.proofs.Onward.{Differs, IsOnward, first_onward}
 turned_by : Dart → Bool → Dart
 turned_by d o = cond o d (twin d)
 
-module _ (op : Op) (g : Skeleton) (red blue : Edge → ℕ) (plane : IsPlaneSkeleton g) (r : IsOfFaces g red) (b : IsOfFaces g blue) where
-  abbrev inn : SlabCell → Bool
-  inn = op_in op g red blue
-
-  one_face : (c d : SlabCell) → SameFace g c d → inn c ≡ inn d
-  unfolding op_in
-  one_face c d h = λ i. by_op op (r.one_face c d h i) (b.one_face c d h i)
-
+module _ (g : Skeleton) (inn : SlabCell → Bool) (plane : IsPlaneSkeleton g) (one_face : (c d : SlabCell) → SameFace g c d → inn c ≡ inn d) where
   abbrev bounds : List Dart
-  bounds = border op g red blue
+  bounds = filter (is_side inn g) (dart_list g)
 
   -- ---- the darts of the border
   -- it is within on the left alone
-  abbrev IsBound : Dart → Type 0
+  abbrev pub IsBound : Dart → Type 0
   IsBound d = Contains g.edges d.edge × (inn (left_of_dart g d) ≡ true) × (inn (left_of_dart g (twin d)) ≡ false)
 
-  turns_is : (d : Dart) → turns_at op g red blue d ≡ (inn (left_of_dart g d) && not (inn (left_of_dart g (twin d))))
-  unfolding turns_at
-  turns_is d = refl
-
-  is_listed : bounds ≡ filter (turns_at op g red blue) (dart_list g)
-  unfolding dart_list
-  is_listed = border_is_listed op g red blue plane
-
-  bound_out : (d : Dart) → Member d bounds → IsBound d
+  pub bound_out : (d : Dart) → Member d (filter (is_side inn g) (dart_list g)) → IsBound d
   bound_out d m =
-      let a = of_filter (turns_at op g red blue) d (dart_list g) (subst (Member d) is_listed m) in
+      let a = of_filter (is_side inn g) d (dart_list g) m in
       let E = dart_out g d (in_member (darts g) d (from_member (darts g) d (listed_out g plane d a.0))) in
-      let p = and_parts (inn (left_of_dart g d)) (not (inn (left_of_dart g (twin d)))) (sym (turns_is d) ∙ a.1) in
+      let p = and_parts (inn (left_of_dart g d)) (not (inn (left_of_dart g (twin d)))) a.1 in
       (E, p.0, not_out (inn (left_of_dart g (twin d))) p.1)
 
-  bound_in : (d : Dart) → IsBound d → Member d bounds
+  pub bound_in : (d : Dart) → IsBound d → Member d (filter (is_side inn g) (dart_list g))
   bound_in d (E, h, k) =
       let L = listed_in g plane d (to_member (darts g) d (member_in (darts g) d (dart_in g d.edge d.forward E))) in
-      subst (Member d) (sym is_listed) (in_filter (turns_at op g red blue) d (dart_list g) L (turns_is d ∙ (λ i. h i && not (k i))))
+      in_filter (is_side inn g) d (dart_list g) L (λ i. h i && not (k i))
 
   ascends : IsAscending dart_cmp bounds
-  ascends = subst (IsAscending dart_cmp) (sym is_listed) (IsAscending-filter dart_cmp (turns_at op g red blue) (dart_list g) (list_ascends g plane))
+  ascends = IsAscending-filter dart_cmp (is_side inn g) (dart_list g) (list_ascends g plane)
 
   apart : AreApart bounds
   apart = ascending_apart dart_cmp dart_cmp_total bounds ascends
@@ -136,7 +121,7 @@ module _ (op : Op) (g : Skeleton) (red blue : Edge → ℕ) (plane : IsPlaneSkel
         let z = order_at v e c o.out C (target e) p refl t in
         (λ i. soon (sym x i) (sym y i) (sym z i)) ∙ o.first c C h (λ q. ne (sym t ∙ ap target q))
 
-    next_side : IsNextSide ends (dart_ends d) (dart_ends e)
+    pub next_side : IsNextSide (map dart_ends (filter (is_side inn g) (dart_list g))) (dart_ends d) (dart_ends e)
     next_side = record {
       joined = sym o.out.at;
       first = λ p end ne. elim end [
@@ -152,6 +137,31 @@ module _ (op : Op) (g : Skeleton) (red blue : Edge → ℕ) (plane : IsPlaneSkel
             met_first (twin c) (record { in' = B.0; at = sym (ap (λ (z : Point × Point). z.1) w.2) }) (inr (B.2, within_again c B)) p (from_back c ∙ sym (ap (λ (z : Point × Point). z.0) w.2)) ne)
       ];
     }
+
+  -- and it is the only next side
+  module _ (d e f : Dart) (D : IsBound d) (o : IsOnward g inn (target d) (twin d) f) (E : IsBound e) (h : IsNextSide (map dart_ends (filter (is_side inn g) (dart_list g))) (dart_ends d) (dart_ends e)) where
+    e_out : OutOf g (target d) e
+    e_out = record { in' = E.0; at = sym h.joined }
+
+    f_member : Contains (map dart_ends (filter (is_side inn g) (dart_list g))) (target d, target f)
+    f_member = subst (λ (z : Point). Contains (map dart_ends (filter (is_side inn g) (dart_list g))) (z, target f)) o.out.at (from_member ends (dart_ends f) (in_map dart_ends f bounds (bound_in f (o.out.in', o.left, o.right))))
+
+    other_target : target f ≢ target e → ⊥
+    other_target ne =
+        let v = target d in
+        let D' : OutOf g v (twin d) = record { in' = D.0; at = refl } in
+        let x = order_at v (twin d) e D' e_out (source d) (target e) (from_back d) refl in
+        let y = order_at v (twin d) f D' o.out (source d) (target f) (from_back d) refl in
+        let z = order_at v e f e_out o.out (target e) (target f) refl refl in
+        let first : sooner_by earlier (twin d) e f ≡ true = (λ i. soon (x i) (y i) (z i)) ∙ h.first (target f) (inl f_member) ne in
+        let last : sooner_by earlier (twin d) f e ≡ true = o.first e e_out (inl (E.1, E.2)) (λ q. ne (sym (ap target q))) in
+        (round_by earlier (OutOf g v) (strict_at g v (twin d) plane D')).apart (twin d) e f D' e_out o.out first last
+
+    pub only_next : e ≡ f
+    only_next = elim (cases_Bool (same_point (target f) (target e))) [
+      | inl t ↦ one_end_dart g plane e f E.0 o.out.in' (sym h.joined ∙ sym o.out.at) (sym (same_point_is (target f) (target e) t))
+      | inr t ↦ absurd (other_target (λ q. false≢true (sym t ∙ ap (λ (z : Point). same_point z (target e)) q ∙ same_point_refl (target e))))
+    ]
 
   followed : (k : ℕ) → k < length bounds → (j : ℕ) × (j < length ends) × IsNextSide ends (dart_at ends k) (dart_at ends j)
   followed k l =
@@ -199,7 +209,7 @@ module _ (op : Op) (g : Skeleton) (red blue : Edge → ℕ) (plane : IsPlaneSkel
       ((λ i. way_before (end_of (f i) p).0 (end_of (e i) o).1 (end_of (f i) p).1) ∙ h.0, (λ i. way_before (end_of (f i) p).0 (end_of (f i) p).1 (end_of (e i) o).1) ∙ h.1) in
       (one_place bounds apart j k no_dart l m t.0, t.1)
 
-  pub closed_border : IsClosedBorder (map dart_ends (border op g red blue))
+  pub closed_border : IsClosedBorder (map dart_ends (filter (is_side inn g) (dart_list g)))
   closed_border = record {
     apart = λ j k o p l m s h. (let n = counted in ends_apart j k o p (omega arith) (omega arith) s h);
     follows = λ k l. (let n = counted in followed k (omega arith));

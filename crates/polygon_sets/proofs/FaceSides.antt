@@ -27,11 +27,11 @@ use Rattle.slab_faces.proofs.NextLemmas.{dart_in as dart_there}
 use Rattle.sound_views.proofs.NamedDarts.{edge_known, twin_dart, there}
 use Rattle.set_laws.specs.EvenOdd.{odd_above}
 use Rattle.set_laws.specs.EvenOddLaws.{IsOfFaces}
-use Rattle.set_laws.proofs.Insides.{rest_is}
 use Rattle.set_laws.proofs.Reached.{GoesOver, reached}
 use Rattle.polygon_sets.specs.declared.crossings.Inside.{Inside}
 use Rattle.polygon_sets.specs.declared.crossings.Crossing.{Crossing}
 use Rattle.polygon_sets.specs.Crossings.{neither, turned, crossed}
+use Rattle.slab_faces.proofs.OddSums.{rest_is}
 
 -- ---- over an edge
 stepped : (n : ℕ) (o : Bool) → (n % 2 == 1) ≡ o → (u d : Bool) → (Even n → u ≡ d) → (u ≡ d → Even n) → turned o d ≡ u

@@ -13,3 +13,7 @@ pub mod NamesSummed
 pub mod WaysRound
 pub mod Onward
 pub mod ClosedRegions
+pub mod BorderGraphs
+pub mod BorderSets
+pub mod RegionBoundaries
+pub mod BoundaryNext

@@ -29,7 +29,8 @@ use Rattle.sound_views.proofs.NameTables.{has_name}
 use Rattle.sound_views.proofs.NamedDarts.{edge_known, same_dart_of, dart_name, named_dart, names_are_darts, there}
 use Rattle.dart_orbits.proofs.Listed.{of_list, in_list}
 use Rattle.polygon_sets.proofs.OnceSummed.{numbers_once, once_filter, once_names, sum_filtered, sums_alike}
-use Rattle.polygon_sets.proofs.SumsByDarts.{AreUntied, ascending_summed, sum_mapped, sum_of_darts}
+use Rattle.polygon_sets.proofs.SumsByDarts.{AreUntied, ascending_summed, sum_of_darts}
+use Rattle.slab_faces.proofs.Shift.{sum_by-map}
 
 module _ (v : View) (s : IsGraphSound v) where
   abbrev dart_of : ℕ → Dart
@@ -74,7 +75,7 @@ module _ (v : View) (s : IsGraphSound v) where
 
   pub names_summed : (f : Dart → ℕ) → sum_by (λ c. f (dart_in v (dart_id c))) (names v.darts) ≡ sum_by (λ e. f (ahead e) + f (back e)) (skeleton_of v).edges
   names_summed f =
-      sym (sum_mapped f dart_of (names v.darts))
+      sym (sum_by-map f dart_of (names v.darts))
       ∙ sym (ascending_summed dart_cmp dart_cmp_total f (map dart_of (names v.darts)) (untied (names v.darts) s.named.darts has))
       ∙ ap (sum_by f) (sym listed)
       ∙ sum_of_darts (skeleton_of v) s.plane f
@@ -109,7 +110,7 @@ module _ (v : View) (s : IsGraphSound v) where
     -- the weights of the darts out of the vertex are those round it
     pub round_summed : (ds : List DartId) → AreOnce ds → ((d : DartId) → Member d ds ↔ IsOutOf v w d) → sum_by (λ d. m (edge_in v d)) ds ≡ sum_by (at_end m p) (skeleton_of v).edges
     round_summed ds once just =
-        sym (sum_mapped weight (λ (d : DartId). d.0) ds)
+        sym (sum_by-map weight (λ (d : DartId). d.0) ds)
         ∙ sums_alike weight (map (λ (d : DartId). d.0) ds) (filter leaves (names v.darts)) (numbers_once ds once) (once_filter leaves (names v.darts) (once_names (names v.darts) s.named.darts)) into back
         ∙ sum_filtered weight leaves (names v.darts)
         ∙ leaving_summed

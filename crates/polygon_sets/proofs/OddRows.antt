@@ -6,8 +6,8 @@ use Rattle.std.proofs.lemmas.Bool.{cases_lt, cases_eq, eq-eqb, ne_eqb}
 use Rattle.std.proofs.lemmas.List.{take_all}
 use Rattle.std.proofs.lemmas.List.Sums.{sum_by_more}
 use Rattle.slab_laws.specs.declared.rows.ListedDart.{ListedDart}
-use Rattle.set_laws.proofs.Insides.{rest_is}
 use Rattle.polygon_sets.specs.OddVertices.{no_row, row_at, out_pieces, IsFirstOdd}
+use Rattle.slab_faces.proofs.OddSums.{rest_is}
 
 odd_by : (n : ℕ) (b : Bool) → n % 2 ≡ cond b 1 0 → (n % 2 == 1) ≡ b
 odd_by n true h = ap (λ r. r == 1) h

@@ -63,6 +63,11 @@ module _ (g : Skeleton) (plane : IsPlaneSkeleton g) (v : Point) (x : Dart) (X : 
   unfolding follower
   follows c C = after_follows g v plane V c (ring_in g v plane V c.edge c.forward C)
 
+  -- what follows x is met before all others
+  pub follower_first : (b : Dart) → OutOf g v b → b ≢ after x (ring (darts g) v) → sooner_by earlier x (after x (ring (darts g) v)) b ≡ true
+  unfolding follower
+  follower_first b B ne = met_first x (after x (ring (darts g) v)) (follows x X) b B ne
+
   goes_out : (c : Dart) → OutOf g v c → OutOf g v (follower c)
   goes_out c C = follower_out g v plane V c (follower c) (follows c C)
 

@@ -34,10 +34,10 @@ use Rattle.set_laws.proofs.SameBorder.{same_border}
 use Rattle.polygon_sets.specs.declared.region.Colour.TheVariants.{Red, Blue}
 use Rattle.polygon_sets.specs.declared.region.RegionError.{RegionError}
 use Rattle.polygon_sets.specs.declared.region.RegionError.TheVariants.{Open, NoMemory}
-use Rattle.polygon_sets.specs.ClosedBorders.{IsClosedBorder}
+use Rattle.polygon_sets.specs.Boundaries.{IsBoundary}
 use Rattle.polygon_sets.specs.Regions.{dart_ends, pieces_on, IsRegionBy, IsErrorBy, AreCountsOf, IsRegionOfLayers, IsErrorOfLayers}
 use Rattle.subdivision_rows.proofs.ListedRecords.{plane as plane_skeleton}
-use Rattle.polygon_sets.proofs.ClosedRegions.{closed_border}
+use Rattle.polygon_sets.proofs.RegionBoundaries.{boundary}
 use Rattle.polygon_sets.proofs.RegionRows.{even_by}
 use Rattle.polygon_sets.specs.Weighted.{weight_by, is_odd_vertex, odd_vertex}
 
@@ -80,9 +80,9 @@ region_here d pl red blue op ends cr cb e =
       darts = e;
     }
 
--- and its border is closed
-pub closed_here : (d : Drawing) → IsPlane d.graph → (red blue : List ℕ) (op : Op) (ends : List (Point × Point)) → IsRegionBy op d red blue ends → IsClosedBorder ends
-closed_here d pl red blue op ends r = subst IsClosedBorder (sym r.darts) (closed_border op (skeleton_in d) (pieces_on d red) (pieces_on d blue) (plane_skeleton d pl) r.red_of_faces r.blue_of_faces)
+-- and it is the border of a plane graph of its own
+pub boundary_here : (d : Drawing) → IsPlane d.graph → (red blue : List ℕ) (op : Op) (ends : List (Point × Point)) → IsRegionBy op d red blue ends → IsBoundary ends
+boundary_here d pl red blue op ends r = subst IsBoundary (sym r.darts) (boundary op (skeleton_in d) (pieces_on d red) (pieces_on d blue) (plane_skeleton d pl) r.red_of_faces r.blue_of_faces)
 
 module _ (red blue : Present) (fr : IsFit red) (fb : IsFit blue) (d : Drawing) (red_counts blue_counts : List ℕ) (of : AreCountsOf red blue d red_counts blue_counts) where
   plane : IsPlaneSkeleton (skeleton_in d)

@@ -42,7 +42,7 @@ use Rattle.subdivision_rows.proofs.SourcePlaces.{sources_rise}
 use Rattle.set_laws.specs.declared.op.Op.{Op}
 use Rattle.set_laws.specs.EvenOdd.{turns_at, border}
 use Rattle.set_laws.specs.EvenOddLaws.{IsOfFaces}
-use Rattle.set_laws.proofs.Insides.{of_faces, rest_is}
+use Rattle.set_laws.proofs.Insides.{of_faces}
 use Rattle.set_laws.proofs.OpRegions.{border_is_listed}
 use Rattle.polygon_sets.specs.declared.crossings.Inside.{Inside}
 use Rattle.polygon_sets.specs.declared.crossings.Crossing.{Crossing}
@@ -54,6 +54,7 @@ use Rattle.polygon_sets.specs.Regions.{dart_ends}
 use Rattle.polygon_sets.specs.Spread.{AreSpread}
 use Rattle.polygon_sets.specs.Weighted.{weight_by, is_odd_vertex, odd_vertex}
 use Rattle.polygon_sets.proofs.Turning.{IsCrossingOf, turn_is}
+use Rattle.slab_faces.proofs.OddSums.{rest_is}
 
 -- ---- even round each vertex
 pub even_by : (g : Skeleton) (m : Edge → ℕ) → odd_vertex g m ≡ None → IsEvenAtVertices g m

@@ -28,6 +28,7 @@ use Rattle.dart_orbits.proofs.Placed.{at_place, place_at, place_within, ascendin
 use Rattle.polygon_sets.specs.Borders.{no_point, point_at}
 use Rattle.polygon_sets.specs.OddVertices.{out_pieces, is_odd_at, IsFirstOdd}
 use Rattle.polygon_sets.specs.Weighted.{weight_by, is_odd_vertex, odd_vertex}
+use Rattle.slab_faces.proofs.Shift.{sum_by-map}
 
 -- ---- a sum over an ascending list
 module _ {X : Type 0} (cmp : X → X → Ordering) (o : IsTotalOrder cmp) where
@@ -62,10 +63,6 @@ module _ {X : Type 0} (cmp : X → X → Ordering) (o : IsTotalOrder cmp) where
         place_summed x (ascending cmp xs) (λ y m e. a.0 y (Member-ascending cmp o y xs m) e)
         ∙ ap (λ n. f x + n) (ascending_summed xs a.1)
         ∙ sym (sum_by-cons f x xs)
-
-pub sum_mapped : {X Y : Type 0} (f : Y → ℕ) (h : X → Y) (xs : List X) → sum_by f (map h xs) ≡ sum_by (λ x. f (h x)) xs
-sum_mapped f h [] = refl
-sum_mapped f h (x ∷ xs) = sum_by-cons f (h x) (map h xs) ∙ ap (λ n. f (h x) + n) (sum_mapped f h xs) ∙ sym (sum_by-cons (λ x. f (h x)) x xs)
 
 -- ---- the first that passes, by places
 module _ {X : Type 0} (p : X → Bool) where
@@ -127,7 +124,7 @@ module _ (g : Skeleton) (plane : IsPlaneSkeleton g) where
   sum_of_darts f =
       ascending_summed dart_cmp dart_cmp_total f (darts g) untied_darts
       ∙ sum_by-append f (map ahead g.edges) (map back g.edges)
-      ∙ ap₂ (λ a b. a + b) (sum_mapped f ahead g.edges) (sum_mapped f back g.edges)
+      ∙ ap₂ (λ a b. a + b) (sum_by-map f ahead g.edges) (sum_by-map f back g.edges)
       ∙ sym (sum_by-plus (λ e. f (ahead e)) (λ e. f (back e)) g.edges)
 
   module _ (ascend : IsAscending point_cmp g.vertices) (counts : List ℕ) where
@@ -136,7 +133,7 @@ module _ (g : Skeleton) (plane : IsPlaneSkeleton g) where
 
     by_rows : (v : ℕ) → sum_by (out_pieces counts v) (dart_rows g) ≡ sum_by (λ d. out_pieces counts v (dart_row g d)) (dart_list g)
     unfolding dart_rows
-    by_rows v = sum_mapped (out_pieces counts v) (dart_row g) (dart_list g)
+    by_rows v = sum_by-map (out_pieces counts v) (dart_row g) (dart_list g)
 
     out_of : (d : Dart) → Contains (dart_list g) d → Contains g.vertices (source d)
     out_of d h = source_in g plane d (of_list g plane d (to_member (dart_list g) d h))

@@ -11,11 +11,11 @@ use Rattle.exact_plane.specs.Line.{Line}
 use Rattle.exact_plane.specs.Direction.{Direction, turn as cross}
 use Rattle.plane_graphs.specs.Graph.{Edge}
 use Rattle.plane_graphs.proofs.Lists.{both_ways}
-use Rattle.slab_laws.specs.Skeleton.{left_of, lower_than, on_wall, run, side, steep, shift, below}
+use Rattle.slab_laws.specs.Skeleton.{left_of, run, side, steep, shift, below}
 use Rattle.slab_laws.specs.Darts.{Dart, start, source, target, kind, by_class, on_left, on_right}
 use Rattle.slab_laws.specs.Rotation.{turn, earlier}
 use Rattle.slab_faces.proofs.Ints.{same_sign}
-use Rattle.slab_faces.proofs.Walls.{run_positive, same_abscissa}
+use Rattle.slab_faces.proofs.Walls.{run_positive}
 use Rattle.slab_faces.proofs.Next.{kind_zero, kind_two, kind_few}
 use Rattle.slab_faces.proofs.RotationLemmas.{Early, earlier_in, earlier_out}
 use Rattle.rotation_order.specs.Directions.{quarter, direction_before, dart_direction}

@@ -59,7 +59,7 @@ fn ends_of(points: &[Point], crossing: &Crossing) -> (Point, Point)
 /// # Errors
 ///
 /// There was no memory.
-pub fn border_of(
+pub(crate) fn border_of(
     alloc: Global,
     op: Op,
     points: &[Point],

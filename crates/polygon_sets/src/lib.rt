@@ -10,10 +10,5 @@ mod odd;
 mod region;
 mod spread;
 
-pub use border::border_of;
-pub use chains::{Chains, chains_of};
-pub use crossings::{Crossing, Inside};
-pub use odd::first_odd;
 pub use region::{Colour, Region, RegionError, region_by, region_of};
 pub use set_laws::Op;
-pub use spread::sets_of;

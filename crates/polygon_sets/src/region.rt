@@ -4,6 +4,7 @@ ghost use Rattle.plane_graphs.specs.Graph.{edges};
 ghost use Rattle.plane_graphs.specs.Piece.{Present as Pieces};
 ghost use Rattle.set_laws.specs.EvenOdd.{border};
 ghost use Rattle.subdivision_rows.specs.Listed.{skeleton_in};
+ghost use Rattle.polygon_sets.specs.Boundaries.{IsBoundary};
 ghost use Rattle.polygon_sets.specs.ClosedBorders.{IsClosedBorder};
 ghost use Rattle.polygon_sets.specs.Regions.{dart_ends, pieces_on, IsRegionBy, IsErrorBy, AreCountsOf, IsRegionIn, IsErrorOf, TellsPiecesOf, IsRegionOfLayers, IsErrorOfLayers};
 ghost use Rattle.polygon_sets.specs.Weighted.{odd_vertex};
@@ -51,9 +52,9 @@ impl Model for Region {
 
     ghost view = { λ r. r.darts.items };
 
-    ghost use Rattle.polygon_sets.specs.ClosedBorders.{IsClosedBorder};
+    ghost use Rattle.polygon_sets.specs.Boundaries.{IsBoundary};
 
-    ghost invariant = { λ r. IsClosedBorder r.darts.items };
+    ghost invariant = { λ r. IsBoundary r.darts.items };
 }
 
 impl Region {
@@ -64,9 +65,11 @@ impl Region {
         &self.darts
     }
 
-    /// What is true of the darts of every region: their border is closed. No two ends of darts at one vertex lead in one direction, and
-    /// each dart is followed by the one that is met first where it ends, clockwise from the way back.
+    /// What is true of the darts of every region: they are the border of a plane graph of its own, whose edges alone tell what is inside,
+    /// and it is closed. No two ends of darts at one vertex lead in one direction, and each dart is followed by the one that is met first
+    /// where it ends, clockwise from the way back.
     pub fn laws(&self)
+        ensures boundary { IsBoundary self.now }
         ensures closed { IsClosedBorder self.now }
     {
         // Any use of a field tells what is kept.
@@ -149,13 +152,14 @@ pub fn region_by(
     }
 }
 
-/// The border of what both layers of an overlay make as even-odd sets (CGAL manual, Boolean set operations): the darts on whose left
-/// the operation holds and on whose right it doesn't. It takes as many steps as the overlay has darts.
+/// The border of what both layers of an overlay make as even-odd sets: the darts on whose left the operation holds and on whose right it
+/// doesn't (CGAL manual, Boolean set operations). It takes as many steps as the overlay has darts.
 ///
 /// # Errors
 ///
-/// A layer isn't closed; red is asked first. Where both are closed there was no memory.
-pub fn region_of(alloc: Global, overlay: &Both, op: Op) -> Result<Region, RegionError>
+/// A layer isn't closed, whatever memory there is; red is asked first, and its least odd end is told. Where both are closed there was
+/// no memory.
+pub fn region_of(overlay: &Both, op: Op) -> Result<Region, RegionError>
     ensures region { IfOk result (λ r. IsRegionIn op overlay.now r) }
     ensures error { IfErr result (λ e. IsErrorOf overlay.now e) }
 
@@ -165,5 +169,5 @@ pub fn region_of(alloc: Global, overlay: &Both, op: Op) -> Result<Region, Region
 {
     let red = overlay.red_counts();
     let blue = overlay.blue_counts();
-    region_by(alloc, overlay.rows(), red, blue, op)
+    region_by(overlay.allocator(), overlay.rows(), red, blue, op)
 }

@@ -123,7 +123,7 @@ fn begin(alloc: Global, faces: usize) -> Result<Spread, NoMemory>
 /// # Errors
 ///
 /// There was no memory.
-pub fn sets_of(
+pub(crate) fn sets_of(
     alloc: Global,
     faces: usize,
     crossings: &[Crossing],

@@ -5,7 +5,7 @@ use Rattle.std.specs.Cmp.{tied_itself}
 use Rattle.std.proofs.lemmas.Bool.{cases_Bool}
 use Rattle.std.specs.Ordering.{is_eq}
 use Rattle.exact_plane.specs.Point.{Point, point_eq}
-use Rattle.exact_plane.specs.PointOrderLaws.{point_cmp_total, point_cmp_ties}
+use Rattle.exact_plane.specs.PointOrderLaws.{point_cmp_total, point_cmp_ties, one_point}
 use Rattle.plane_graphs.proofs.Sorting.{any_default}
 use Rattle.rotation_order.proofs.LineDirections.{asym}
 use Rattle.region_rings.specs.declared.spokes.Spoke.{Spoke}
@@ -16,7 +16,6 @@ use Rattle.region_rings.specs.declared.errors.RingsError.TheVariants.{NotClosed,
 use Rattle.region_rings.specs.Spokes.{spoke, spoke_cmp, spoke_in, AreSpokes}
 use Rattle.region_rings.specs.Nexts.{IsBlocked}
 use Rattle.region_rings.proofs.Links.{out_there, in_at, of_vertex, met_first, true_or_false}
-use Rattle.region_rings.proofs.Rounds.{same_vertex}
 use Rattle.region_rings.proofs.SpokeOrder.{spoke_cmp_total, one_place}
 
 not_both : (x y p q : Bool) → (p ≡ true → q ≡ true → ⊥) → cond x (not y || p) (not y && p) ≡ true → cond y (not x || q) (not x && q) ≡ true → ⊥
@@ -54,7 +53,7 @@ module _ (ds : List (Point × Point)) (ss : List Spoke) (h : AreSpokes ds ss) (i
       let ne : c.0 ≢ b.at = λ q. true_or_false ds ss h (sym (ap (λ (s : Spoke). s.is_out) goes) ∙ ap (λ t. (spoke_in ss t).is_out) q ∙ ap (λ (s : Spoke). s.is_out) comes) in
       let first = met_first ds ss h i b.at c.0 d.1 d.0 p e.1 false false true k n j l b.within c.1 b.follows ne a.1 comes goes in
       elim (cases_Bool (point_eq p e.1)) [
-        | inl y ↦ ne (sym (one_place ss h.ascending b.at c.0 b.within c.1 ((λ t. spoke_cmp (comes t) (goes t)) ∙ tied d.1 p e.1 n j (same_vertex p e.1 y))))
+        | inl y ↦ ne (sym (one_place ss h.ascending b.at c.0 b.within c.1 ((λ t. spoke_cmp (comes t) (goes t)) ∙ tied d.1 p e.1 n j (one_point p e.1 y))))
         | inr z ↦ (
             let there : get_or ds n (p, d.1) ≡ (p, d.1) = any_default ds n (p, d.1) no_dart m.0 ∙ (λ t. (p, one t)) in
             let other : p ≢ e.1 = λ q. true_or_false ds ss h (sym (eq_itself e.1) ∙ ap (λ (x : Point). point_eq x e.1) (sym q) ∙ z) in

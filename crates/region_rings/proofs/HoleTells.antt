@@ -6,10 +6,9 @@ use Rattle.std.proofs.lemmas.Bool.{cases_lt}
 use Rattle.integers.proofs.Tests.{is_less}
 use Rattle.exact_plane.specs.Point.{Point, point_eq}
 use Rattle.exact_plane.specs.PointOrder.{point_cmp}
-use Rattle.exact_plane.specs.PointOrderLaws.{point_cmp_total, same_point, point_cmp_ties, and_true}
+use Rattle.exact_plane.specs.PointOrderLaws.{point_cmp_total, same_point, point_cmp_ties, and_true, one_point}
 use Rattle.std.specs.Ordering.{is_eq}
 use Rattle.region_rings.specs.Holes.{corner_in, turns_wide, lesser_place, is_wide_at, IsLeastAt, IsHole}
-use Rattle.region_rings.proofs.Rounds.{same_vertex}
 
 pub never : (p : Point) → point_cmp p p ≡ Less → ⊥
 never p h = let t = tied_itself point_cmp_total p in cc
@@ -34,7 +33,7 @@ module _ (ps : List Point) (n m : ℕ) (least : (j : ℕ) → j < n → point_cm
 
 -- ---- a corner that is least
 module _ (ps : List Point) (m : ℕ) (within : m < length ps) (least : IsLeastAt ps m) where
-  both_least : (i : ℕ) → i < length ps → IsLeastAt ps i → (o : Ordering) → point_cmp (corner_in ps i) (corner_in ps m) ≡ o → corner_in ps i ≡ corner_in ps m
+  pub both_least : (i : ℕ) → i < length ps → IsLeastAt ps i → (o : Ordering) → point_cmp (corner_in ps i) (corner_in ps m) ≡ o → corner_in ps i ≡ corner_in ps m
   both_least i l h Less e = absurd (least i l e)
   both_least i l h Equal e = same_point (corner_in ps i) (corner_in ps m) e
   both_least i l h Greater e = absurd (h m within (point_cmp_total.antisymm (corner_in ps m) (corner_in ps i) ∙ ap ordering_reverse e))
@@ -45,7 +44,7 @@ module _ (ps : List Point) (m : ℕ) (within : m < length ps) (least : IsLeastAt
   pub found : (i : ℕ) → i < length ps → is_wide_at ps (corner_in ps m) i ≡ true → IsHole ps
   found i l h =
       let p = and_true (point_eq (corner_in ps i) (corner_in ps m)) (turns_wide ps i) h in
-      let e = same_vertex (corner_in ps i) (corner_in ps m) p.0 in
+      let e = one_point (corner_in ps i) (corner_in ps m) p.0 in
       record {
         at = i;
         within = l;

@@ -11,3 +11,16 @@ pub mod Nests
 pub mod RingSides
 pub mod Blocked
 pub mod Ties
+pub mod BelowVertices
+pub mod SidesBelow
+pub mod WideCorners
+pub mod CycleWalks
+pub mod RingDarts
+pub mod LeastCorners
+pub mod RoundCells
+pub mod WideRings
+pub mod HolesNested
+pub mod NarrowCorners
+pub mod CornerWeights
+pub mod LaterRings
+pub mod OneParts

@@ -30,7 +30,7 @@ to_right : (x : ℤ) → lt_z (pos 0) x ≡ true → pos (unsigned_abs x) ≡ x
 to_right (pos n) h = refl
 to_right (negsuc n) h = absurd (let k = lt_is (pos 0) (negsuc n) h in omega (arith, ints))
 
-by_difference : (s t u : ℤ) → t -ℤ s ≡ u → lt_z s t ≡ lt_z (pos 0) u
+pub by_difference : (s t u : ℤ) → t -ℤ s ≡ u → lt_z s t ≡ lt_z (pos 0) u
 by_difference s t u e = by (lt_z s t) refl
   where
     by : (b : Bool) → lt_z s t ≡ b → lt_z s t ≡ lt_z (pos 0) u

@@ -3,17 +3,13 @@ use Rattle.std.proofs.Common.{◌≡◌, ◌≢◌, ℕ, ◌+◌, ◌-◌, ◌<�
 use Rattle.std.specs.Prelude.{slice_set}
 use Rattle.std.proofs.lemmas.Bool.{cases_lt}
 use Rattle.std.proofs.lemmas.List.{get_or-set_same, get_or-set_other}
-use Rattle.integers.proofs.Tests.{is_equal}
 use Rattle.exact_plane.specs.Point.{Point, point_eq}
 use Rattle.exact_plane.specs.PointOrder.{point_cmp}
-use Rattle.exact_plane.specs.PointOrderLaws.{point_cmp_ties, same_point}
+use Rattle.exact_plane.specs.PointOrderLaws.{one_point}
 use Rattle.region_rings.specs.declared.spokes.Spoke.{Spoke}
 use Rattle.region_rings.specs.Spokes.{spoke_in, AreSpokes}
 use Rattle.region_rings.specs.Nexts.{vertex_at, IsFirstAt, IsLinkFrom}
 use Rattle.region_rings.proofs.Links.{in_at, one_in}
-
-pub same_vertex : (p q : Point) → point_eq p q ≡ true → p ≡ q
-same_vertex p q h = same_point p q (is_equal (point_cmp p q) (sym (point_cmp_ties p q) ∙ h))
 
 pub not_no : (a : Bool) → not a ≡ false → a ≡ true
 not_no true h = refl

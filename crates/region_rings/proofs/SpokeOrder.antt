@@ -13,17 +13,13 @@ use Rattle.exact_plane.specs.PointOrderLaws.{point_cmp_total, same_point, weight
 use Rattle.region_rings.specs.declared.spokes.Spoke.{Spoke}
 use Rattle.region_rings.specs.Nexts.{vertex_at}
 use Rattle.region_rings.specs.Spokes.{turn_cmp, spoke_cmp, spoke_in}
+use Rattle.integers.proofs.Classes.{then_less}
 
 pub turn_cmp_total : IsTotalOrder turn_cmp
 turn_cmp_total = then_total (on_total (λ (w : Spoke). w.quarter) nat_cmp_total) (back_total (ratio_total (λ (w : Spoke). w.rise) (λ (w : Spoke). weight (pos w.run)) (λ (w : Spoke). weight-positive (pos w.run))))
 
 pub spoke_cmp_total : IsTotalOrder spoke_cmp
 spoke_cmp_total = then_total (on_total (λ (w : Spoke). w.at) point_cmp_total) turn_cmp_total
-
-first_of : (o p : Ordering) → ordering_then o p ≡ Less → (o ≡ Less) ⊎ ((o ≡ Equal) × (p ≡ Less))
-first_of Less p h = inl refl
-first_of Equal p h = inr (refl, h)
-first_of Greater p h = cc
 
 -- neighbours ascend, so all do
 pub all_ascend : (ss : List Spoke) → ((k : ℕ) → k + 1 < length ss → spoke_cmp (spoke_in ss k) (spoke_in ss (k + 1)) ≡ Less) → (i k : ℕ) → i < k → k < length ss → spoke_cmp (spoke_in ss i) (spoke_in ss k) ≡ Less
@@ -36,7 +32,7 @@ all_ascend ss f i (suc k) h l = elim (cases_lt i k) [
 module _ (ss : List Spoke) (up : (i k : ℕ) → i < k → k < length ss → spoke_cmp (spoke_in ss i) (spoke_in ss k) ≡ Less) where
   -- what stands earlier has an earlier vertex, or the same
   by_vertex : (i k : ℕ) → i < k → k < length ss → (point_cmp (vertex_at ss i) (vertex_at ss k) ≡ Less) ⊎ ((vertex_at ss i ≡ vertex_at ss k) × (turn_cmp (spoke_in ss i) (spoke_in ss k) ≡ Less))
-  by_vertex i k h l = elim (first_of (point_cmp (vertex_at ss i) (vertex_at ss k)) (turn_cmp (spoke_in ss i) (spoke_in ss k)) (up i k h l)) [
+  by_vertex i k h l = elim (then_less (point_cmp (vertex_at ss i) (vertex_at ss k)) (turn_cmp (spoke_in ss i) (spoke_in ss k)) (up i k h l)) [
     | inl a ↦ inl a
     | inr b ↦ inr (same_point (vertex_at ss i) (vertex_at ss k) b.0, b.1)
   ]

@@ -1,7 +1,13 @@
 -- The rings of a region's boundary.
-use Rattle.std.specs.Prelude.{◌≡◌, ◌<◌, ℕ, Bool, List, length, slice_index_or, Option, None, IfSome}
+use Rattle.std.specs.Prelude.{◌≡◌, ◌<◌, ℕ, Bool, true, false, List, length, slice_index_or, Option, Some, None, IfSome}
+use Rattle.std.specs.List.{Contains}
 use Rattle.exact_plane.specs.Point.{Point}
+use Rattle.slab_laws.specs.Cycles.{left_of_dart}
+use Rattle.slab_laws.specs.Darts.{Dart}
+use Rattle.slab_laws.specs.Meets.{SameFace}
+use Rattle.polygon_sets.specs.Boundaries.{IsBoundary, bounds_of}
 use Rattle.polygon_sets.specs.ClosedBorders.{IsNextSide, dart_at}
+use Rattle.polygon_sets.specs.Regions.{dart_ends}
 use Rattle.region_rings.specs.Cycles.{AreCut, IsAfter}
 use Rattle.region_rings.specs.Holes.{corner_in, AreHoles}
 use Rattle.region_rings.specs.Nesting.{AreLeasts, AreOuters}
@@ -45,3 +51,18 @@ pub record AreRingsOf (ds : List (Point × Point)) (t : RingTable) : Type 0 wher
   pub holes : AreHoles t.points t.ends t.holes
   pub leasts : AreLeasts t.points t.ends t.leasts
   pub outers : AreOuters t.points t.ends t.holes t.leasts t.outers
+
+-- each hole has an outer ring: one goes round its least corner (Open Geospatial Consortium, simple features: a polygon is an exterior ring and its interior rings)
+abbrev pub AreAllNested : RingTable → Type 0
+AreAllNested t = (r : ℕ) → r < length t.ends → slice_index_or t.holes r false ≡ true → (q : ℕ) × (slice_index_or t.outers r None ≡ Some q)
+
+-- these are the ends of a side of the ring
+pub record IsSideOf (t : RingTable) (r : ℕ) (x : Point × Point) : Type 0 where
+  pub from : ℕ
+  pub to : ℕ
+  pub after : IsAfter t.ends r from to
+  pub is : side t from to ≡ x
+
+-- each hole and its outer ring bound one face of the border's own plane graph: what is inside between them is connected
+abbrev pub AreOfOneFace : List (Point × Point) → RingTable → Type 0
+AreOfOneFace ds t = (b : IsBoundary ds) (r q : ℕ) (d e : Dart) → slice_index_or t.holes r false ≡ true → slice_index_or t.outers r None ≡ Some q → Contains (bounds_of b.graph) d → Contains (bounds_of b.graph) e → IsSideOf t r (dart_ends d) → IsSideOf t q (dart_ends e) → SameFace b.graph (left_of_dart b.graph d) (left_of_dart b.graph e)

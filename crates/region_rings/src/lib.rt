@@ -40,11 +40,16 @@
 //! clockwise round a vertex from a dart that comes in, what is on its left stays inside up to the first dart that has the inside on one
 //! side alone. That one goes out with the inside on its left.
 //!
+//! Its edges alone are a plane graph, whose even-odd set is the inside (`Region::laws`). So of a region `rings_of` tells more:
+//!
+//! - `nested`: no hole is told none (`AreAllNested`);
+//! - `one_face`: a hole and its outer ring bound one face of that graph, so that what is inside between them is connected
+//!   (`AreOfOneFace`). A bounded face has one outer cycle, which of the outer rings round the hole has the greatest least corner.
+//!
 //! # What isn't
 //!
-//! That each hole of a region has an outer ring round it, and that the innermost one bounds the same part of the inside. That a ring
-//! which turns wide at its least corner is clockwise is the definition here, and isn't compared with an area. Nor is there an area:
-//! as a fraction it has a denominator that passes every fixed width.
+//! That a ring which turns wide at its least corner is clockwise is the definition here, and isn't compared with an area. Nor is there
+//! an area: as a fraction it has a denominator that passes every fixed width.
 //!
 //! # How
 //!

@@ -1,7 +1,7 @@
 ghost use Rattle.std.specs.Prelude.{◌≡◌, ◌<◌, ◌==◌, length, map, slice_index_or, IfOk, IfErr, IfSome, false, None};
 ghost use Rattle.region_rings.specs.Closed.{IsErrorOf};
 ghost use Rattle.region_rings.specs.Holes.{corner_in, ring_of};
-ghost use Rattle.region_rings.specs.Rings.{source_at, AreWithin, AreRingsOf};
+ghost use Rattle.region_rings.specs.Rings.{source_at, AreWithin, AreRingsOf, AreAllNested, AreOfOneFace};
 
 use crate::cycles::cycles_of;
 use crate::errors::RingsError;
@@ -77,7 +77,8 @@ impl Rings {
     }
 
     /// The outer ring of a hole: of the outer rings that go round its least corner, by the even-odd rule, the innermost one, whose own
-    /// least corner is the greatest. A polygon is an outer ring with the holes that have it here. An outer ring has none.
+    /// least corner is the greatest. A polygon is an outer ring with the holes that have it here. An outer ring has none; each hole of a
+    /// region has one.
     pub fn outer_of(&self, ring: usize) -> Option<usize>
         requires { ring < length self.now.ends }
         ensures value { result ≡ slice_index_or self.now.outers ring None }
@@ -135,14 +136,17 @@ pub fn rings_along(alloc: Global, darts: &[(Point, Point)]) -> Result<Rings, Rin
     })
 }
 
-/// The rings of a region (CGAL manual, Boolean set operations: polygons with holes). Its border is closed, so that there are rings. It
-/// takes n log n steps for n darts, and n for each hole.
+/// The rings of a region (CGAL manual, Boolean set operations: polygons with holes). Its border is closed, so that there are rings, and
+/// bounds a set of faces, so that each hole has an outer ring, with which it bounds one face: what is inside between them is connected.
+/// It takes n log n steps for n darts, and n for each hole.
 ///
 /// # Errors
 ///
 /// There was no memory.
 pub fn rings_of(alloc: Global, region: &Region) -> Result<Rings, NoMemory>
     ensures rings { IfOk result (AreRingsOf region.now) }
+    ensures nested { IfOk result AreAllNested }
+    ensures one_face { IfOk result (AreOfOneFace region.now) }
 {
     region.laws();
     match rings_along(alloc, region.darts()) {

@@ -1,7 +1,7 @@
 use Rattle.std.proofs.Common.{rules}
 use Rattle.polygon_sets.specs.declared.region.Colour.TheVariants.{Red, Blue}
 use Rattle.polygon_sets.specs.declared.region.RegionError.TheVariants.{Open, NoMemory}
-use Rattle.polygon_sets.proofs.RegionLayers.{region_here, region_there, error_there, closed_here}
+use Rattle.polygon_sets.proofs.RegionLayers.{region_here, region_there, error_there, boundary_here}
 use Rattle.polygon_sets.proofs.region.region_by.Goals as goal
 
 pub returns-in-Some-clause-error_of_layers : goal.returns-in-Some-clause-error_of_layers
@@ -24,4 +24,4 @@ invariant_of-result c =
     let d = c.args.rows.now in
     let red = c.args.red.now in
     let blue = c.args.blue.now in
-    closed_here d c.laws.ensures.plane red blue c.args.op c.in-Ok.darts.items (region_here d c.laws.ensures.plane red blue c.args.op c.in-Ok.darts.items (search rules) (search rules) (search rules))
+    boundary_here d c.laws.ensures.plane red blue c.args.op c.in-Ok.darts.items (region_here d c.laws.ensures.plane red blue c.args.op c.in-Ok.darts.items (search rules) (search rules) (search rules))
